@@ -1,0 +1,10 @@
+-- The widths of an access.
+use Rattle.std.specs.Prelude.{ℕ}
+use Rattle.words.specs.declared.memory.Width.{Width}
+use Rattle.words.specs.declared.memory.Width.TheVariants.{Byte, Half, Word}
+
+-- how many bytes
+abbrev pub byte_count : Width → ℕ
+byte_count Byte = 1
+byte_count Half = 2
+byte_count Word = 4
