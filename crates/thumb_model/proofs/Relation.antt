@@ -1,0 +1,73 @@
+-- `decoded` is the relation between halfwords and an instruction.
+use Rattle.std.proofs.Common.{◌≡◌, ℕ, ◌^◌, ◌<◌, ◌≤◌, refl, sym, ◌∙◌, subst, inl, inr, Option, Some, None}
+use Rattle.std.specs.Option.{IfSome, IfNone}
+use Rattle.std.proofs.lemmas.Bool.Decides.{leb_tells}
+use Rattle.std.proofs.lemmas.Option.{same_Some}
+use Rattle.thumb_model.proofs.Offsets.{lt_true, lt_false}
+use Rattle.thumb_model.proofs.Sound.{Encodes-decoded}
+use Rattle.thumb_model.proofs.Round.{decoded_code-encode}
+use Rattle.thumb_model.specs.Table.{InTable, Encodes, encode, read_code}
+use Rattle.thumb_model.specs.Decoded.{decoded, decoded_code, narrow_of, wide_of}
+use Rattle.thumb_model.specs.Laws.{IsUnambiguous, IsRoundTrip, IsUndefined}
+use Rattle.thumb_model.specs.declared.table.Code.{Code}
+use Rattle.thumb_model.specs.declared.table.Code.TheVariants.{Half, Pair}
+use Rattle.thumb_model.specs.declared.table.Instr.{Instr}
+
+-- what is related is decoded
+pub decoded_code-related : (code : Code) (next : ℕ) (i : Instr) → Encodes code i → decoded_code code next ≡ Some i
+decoded_code-related code next i e =
+    subst (λ (c : Code). decoded_code c next ≡ Some i) e.halfwords (decoded_code-encode i next e.in_table)
+
+-- the same for halfwords as they are read
+pub decoded-related : (h k : ℕ) (i : Instr) → Encodes (read_code h k) i → decoded h k ≡ Some i
+decoded-related h k i e = elim (leb_tells 0xE800 h) [
+  | inl t ↦
+      let r : read_code h k ≡ Pair h k = rw (lt_false h 0xE800 t.1) in
+      decoded_code-related (Pair h k) k i (subst (λ (c : Code). Encodes c i) r e)
+  | inr t ↦
+      let r : read_code h k ≡ Half h = rw (lt_true h 0xE800 t.1) in
+      decoded_code-related (Half h) k i (subst (λ (c : Code). Encodes c i) r e)
+]
+
+-- an instruction of the table is decoded from its one halfword with any behind it, and from its two
+pub decoded_encode_half : (i : Instr) (h k : ℕ) → InTable i → encode i ≡ Half h → decoded h k ≡ Some i
+decoded_encode_half i h k v e = decoded_code-related (Half h) k i (record { in_table = v; halfwords = e })
+
+pub decoded_encode_pair : (i : Instr) (h k : ℕ) → InTable i → encode i ≡ Pair h k → decoded h k ≡ Some i
+decoded_encode_pair i h k v e = decoded_code-related (Pair h k) 0 i (record { in_table = v; halfwords = e })
+
+-- what is decoded is related
+pub related-decoded : (h k : ℕ) (i : Instr) → h < 2 ^ 16 → k < 2 ^ 16 → decoded h k ≡ Some i → Encodes (read_code h k) i
+related-decoded h k i a b e =
+    subst (λ (o : Option Instr). IfSome o (Encodes (read_code h k))) e (Encodes-decoded h k a b)
+
+-- nothing is decoded exactly where nothing is related
+pub undefined-decoded : (h k : ℕ) → decoded h k ≡ None → IsUndefined (read_code h k)
+undefined-decoded h k n i e = let s = decoded-related h k i e in cc
+
+pub decoded-undefined : (h k : ℕ) → h < 2 ^ 16 → k < 2 ^ 16 → IsUndefined (read_code h k) → decoded h k ≡ None
+decoded-undefined h k a b n = none_from (decoded h k) refl
+  where
+    none_from : (o : Option Instr) → decoded h k ≡ o → o ≡ None
+    none_from None e = refl
+    none_from (Some i) e = absurd (n i (related-decoded h k i a b e))
+
+pub unambiguous : IsUnambiguous
+unambiguous code i j e f =
+    same_Some i j (sym (decoded_code-related code 0 i e) ∙ decoded_code-related code 0 j f)
+
+pub round_trip : IsRoundTrip
+round_trip i next v = decoded_code-encode i next v
+
+-- `decoded` at a first halfword of either kind
+pub decoded_narrow : (h k : ℕ) (x : Option Instr) → h < 0xE800 → narrow_of h ≡ x → decoded h k ≡ x
+unfolding decoded
+decoded_narrow h k x below e = rw (lt_true h 0xE800 below) e
+
+pub decoded_wide : (h k : ℕ) (x : Option Instr) → 0xE800 ≤ h → wide_of h k ≡ x → decoded h k ≡ x
+unfolding decoded
+decoded_wide h k x above e = rw (lt_false h 0xE800 above) e
+
+pub IfNone-of : {A : Type 0} (o : Option A) (P : Type 0) → P → IfNone o P
+IfNone-of None P p = p
+IfNone-of (Some x) P p = tt
