@@ -1,0 +1,90 @@
+-- The step of an instruction by what it asks for.
+use Rattle.std.proofs.Common.{◌≡◌, ℕ, ◌+◌, ◌%◌, ◌<◌, true, false, List, [], ◌∷◌, nat_eq, refl, ap, ◌∙◌, arith}
+use Rattle.std.proofs.Math.ListN.{get_or, set}
+use Rattle.std.proofs.lemmas.Bool.Decides.{nat_tests}
+use Rattle.words.specs.Bytes.{read, write, cut}
+use Rattle.thumb_model.specs.declared.table.Instr.{Instr}
+use Rattle.mpu_model.specs.declared.region.Access.{Access}
+use Rattle.mpu_model.specs.declared.region.Access.TheVariants.{Read, Write}
+use Rattle.mem_bus.specs.declared.image.Image.{Image}
+use Rattle.mem_bus.specs.Places.{InRam, InFlash, InWindow, place}
+use Rattle.armv7m.specs.declared.state.CoreRegisters.{CoreRegisters}
+use Rattle.armv7m.specs.declared.state.ProtectionState.{ProtectionState}
+use Rattle.armv7m.specs.declared.state.FaultStatus.{FaultStatus}
+use Rattle.armv7m.specs.declared.state.End.TheVariants.{Halt, InputEnd}
+use Rattle.armv7m.specs.State.{Judge, is_unprivileged, with_register}
+use Rattle.armv7m.specs.Act.{Act, Changes, Loads, Stores, GetsSpecial, SetsSpecial, Halts}
+use Rattle.armv7m.specs.Instructions.{act}
+use Rattle.armv7m.specs.System.{in_system, read_special, write_special}
+use Rattle.armv7m.specs.Tests.{ToBus, verdict}
+use Rattle.armv7m.specs.Perform.{perform}
+use Rattle.armv7m.specs.Step.{turn}
+use Rattle.armv7m.specs.Code.{size, Stands, live, Steps}
+use Rattle.armv7m.specs.Events.{StepsWith, input_event, output_event, ended}
+use Rattle.armv7m.proofs.Exec.{stepped, steps_from, steps_with_from}
+
+-- an access outside the system's part of the memory map goes to the bus
+pub to_bus : (j : Judge) (p : ProtectionState) (kind : Access) (w a : ℕ) → a % w ≡ 0 → a < 0xE0000000 → j p kind a ≡ true → verdict j p kind w a ≡ ToBus
+unfolding verdict
+to_bus j p kind w a aligned low may =
+    let e : nat_eq (a % w) 0 ≡ true = search (nat_tests, arith) in
+    let s : in_system a ≡ false = search (nat_tests, arith) in
+    rw (e, s, may)
+
+module _ (j : Judge) (i : Image) (c : CoreRegisters) (p : ProtectionState) (t : FaultStatus) (ram : List ℕ) (queues : List (List ℕ)) (x : Instr) where
+  pub turns : (a : Act) → Stands j i p c.pc x → act x (c.pc + size x) c ≡ a → turn j i (live c p t ram queues) ≡ perform j i a (live c p t ram queues)
+  turns a h e = stepped j i c p t ram queues x h ∙ ap (λ y. perform j i y (live c p t ram queues)) e
+
+  pub changes : (d : CoreRegisters) → Stands j i p c.pc x → act x (c.pc + size x) c ≡ Changes d → Steps j i (live c p t ram queues) (live d p t ram queues)
+  unfolding perform
+  changes d h e = steps_from (turns (Changes d) h e) refl refl
+
+  pub loads_ram : (w a o : ℕ) (go : ℕ → CoreRegisters) → Stands j i p c.pc x → act x (c.pc + size x) c ≡ Loads w a go → verdict j p Read w a ≡ ToBus → place i a ≡ InRam o →
+      Steps j i (live c p t ram queues) (live (go (read w o ram)) p t ram queues)
+  unfolding perform
+  loads_ram w a o go h e v l = steps_from (turns (Loads w a go) h e) (rw (v, l) refl) (rw (v, l) refl)
+
+  pub loads_flash : (w a o : ℕ) (go : ℕ → CoreRegisters) → Stands j i p c.pc x → act x (c.pc + size x) c ≡ Loads w a go → verdict j p Read w a ≡ ToBus → place i a ≡ InFlash o →
+      Steps j i (live c p t ram queues) (live (go (read w o i.flash)) p t ram queues)
+  unfolding perform
+  loads_flash w a o go h e v l = steps_from (turns (Loads w a go) h e) (rw (v, l) refl) (rw (v, l) refl)
+
+  -- a window gives its next word
+  pub loads_window : (w a k o u : ℕ) (us : List ℕ) (go : ℕ → CoreRegisters) → Stands j i p c.pc x → act x (c.pc + size x) c ≡ Loads w a go → verdict j p Read w a ≡ ToBus → place i a ≡ InWindow k o →
+      get_or queues k [] ≡ u ∷ us →
+      StepsWith j i (live c p t ram queues) (live (go (cut w u)) p t ram (set queues k us)) (input_event i ram k o w u)
+  unfolding perform
+  loads_window w a k o u us go h e v l q = steps_with_from (turns (Loads w a go) h e) (rw (v, l, q, q) refl) (rw (v, l, q) refl)
+
+  -- and has none left
+  pub loads_nothing : (w a k o : ℕ) (go : ℕ → CoreRegisters) → Stands j i p c.pc x → act x (c.pc + size x) c ≡ Loads w a go → verdict j p Read w a ≡ ToBus → place i a ≡ InWindow k o →
+      get_or queues k [] ≡ [] →
+      Steps j i (live c p t ram queues) (ended InputEnd (live c p t ram queues))
+  unfolding perform
+  loads_nothing w a k o go h e v l q = steps_from (turns (Loads w a go) h e) (rw (v, l, q) refl) (rw (v, l, q) refl)
+
+  pub stores_ram : (w a o u : ℕ) (d : CoreRegisters) → Stands j i p c.pc x → act x (c.pc + size x) c ≡ Stores w a u d → verdict j p Write w a ≡ ToBus → place i a ≡ InRam o →
+      Steps j i (live c p t ram queues) (live d p t (write w o u ram) queues)
+  unfolding perform
+  stores_ram w a o u d h e v l = steps_from (turns (Stores w a u d) h e) (rw (v, l, l) refl) (rw (v, l) refl)
+
+  pub stores_window : (w a k o u : ℕ) (d : CoreRegisters) → Stands j i p c.pc x → act x (c.pc + size x) c ≡ Stores w a u d → verdict j p Write w a ≡ ToBus → place i a ≡ InWindow k o →
+      StepsWith j i (live c p t ram queues) (live d p t ram queues) (output_event i ram k o w u)
+  unfolding perform
+  stores_window w a k o u d h e v l = steps_with_from (turns (Stores w a u d) h e) (rw (v, l) refl) (rw (v, l) refl)
+
+  -- MSR and MRS
+  pub gets_special : (n r : ℕ) (d : CoreRegisters) → Stands j i p c.pc x → act x (c.pc + size x) c ≡ GetsSpecial n r d →
+      Steps j i (live c p t ram queues) (live (with_register d r (read_special (is_unprivileged p) n (live c p t ram queues))) p t ram queues)
+  unfolding perform
+  gets_special n r d h e = steps_from (turns (GetsSpecial n r d) h e) refl refl
+
+  pub sets_special : (n v : ℕ) (d : CoreRegisters) → Stands j i p c.pc x → act x (c.pc + size x) c ≡ SetsSpecial n v d →
+      Steps j i (live c p t ram queues) (write_special (is_unprivileged p) n v (live c p t ram queues) d)
+  unfolding perform
+  sets_special n v d h e = steps_from (turns (SetsSpecial n v d) h e) refl refl
+
+  -- BKPT
+  pub halts : (n : ℕ) → Stands j i p c.pc x → act x (c.pc + size x) c ≡ Halts n → Steps j i (live c p t ram queues) (ended (Halt n) (live c p t ram queues))
+  unfolding perform
+  halts n h e = steps_from (turns (Halts n) h e) refl refl

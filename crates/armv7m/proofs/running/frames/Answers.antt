@@ -1,0 +1,15 @@
+use Rattle.armv7m.proofs.Stack.{words_written}
+use Rattle.armv7m.proofs.Frames.{unstacked_frame, status_tells, frame_read}
+use Rattle.armv7m.proofs.running.frames.Goals as goal
+
+pub returns-clause-pushed : goal.returns-clause-pushed
+returns-clause-pushed c = words_written
+
+pub returns-clause-taken_back : goal.returns-clause-taken_back
+returns-clause-taken_back c = unstacked_frame
+
+pub returns-clause-of_thread : goal.returns-clause-of_thread
+returns-clause-of_thread c = status_tells
+
+pub returns-clause-read_back : goal.returns-clause-read_back
+returns-clause-read_back c = frame_read

@@ -1,0 +1,25 @@
+use Rattle.armv7m.proofs.Exec.{code_may_run, code_has_parts}
+use Rattle.armv7m.proofs.Gathered.{steps_are_acts, act_steps, exception_steps, runs_go_on}
+use Rattle.armv7m.proofs.CodeBytes.{bytes_are_code}
+use Rattle.armv7m.proofs.running.instructions.Goals as goal
+
+pub returns-clause-performed : goal.returns-clause-performed
+returns-clause-performed c = steps_are_acts
+
+pub returns-clause-by_act : goal.returns-clause-by_act
+returns-clause-by_act c = act_steps
+
+pub returns-clause-of_exceptions : goal.returns-clause-of_exceptions
+returns-clause-of_exceptions c = exception_steps
+
+pub returns-clause-in_runs : goal.returns-clause-in_runs
+returns-clause-in_runs c = runs_go_on
+
+pub returns-clause-may_run : goal.returns-clause-may_run
+returns-clause-may_run c = code_may_run
+
+pub returns-clause-has_parts : goal.returns-clause-has_parts
+returns-clause-has_parts c = code_has_parts
+
+pub returns-clause-from_bytes : goal.returns-clause-from_bytes
+returns-clause-from_bytes c = bytes_are_code

@@ -1,0 +1,67 @@
+-- What one step may do to memory and protection.
+use Rattle.std.specs.Prelude.{◌≡◌, ◌≢◌, ℕ, ◌+◌, ◌<◌, ◌≤◌, ◌⊎◌, List, [], ◌∷◌, true, false, Some, None, nat_lt}
+use Rattle.std.proofs.Math.ListN.{get_or}
+use Rattle.mpu_model.specs.declared.region.Access.TheVariants.{Read, Write, Fetch}
+use Rattle.mpu_model.specs.Protection.{permits}
+use Rattle.mem_bus.specs.declared.image.Image.{Image}
+use Rattle.mem_bus.specs.declared.event.Event.{Event}
+use Rattle.mem_bus.specs.Places.{InRam, InFlash, InWindow, choose, place}
+use Rattle.mem_bus.specs.Bus.{fetch_at}
+use Rattle.mem_bus.specs.Rules.{ObeysRules}
+use Rattle.armv7m.specs.State.{State, Touched, Turn, Judge, by_mpu, is_unprivileged}
+use Rattle.armv7m.specs.Exceptions.{vector, vector_offset, mem_manage, supervisor_call, fetch_fault}
+use Rattle.armv7m.specs.Step.{turn}
+
+-- each element
+abbrev pub Each : {A : Type 0} → (A → Type 0) → List A → Type 0
+Each P [] = Unit {0}
+Each P (x ∷ xs) = P x × Each P xs
+
+-- byte k of RAM lies outside an access
+abbrev pub Misses : Image → ℕ → Touched → Type 0
+Misses i k x = (o : ℕ) → place i x.address ≡ InRam o → (k < o) ⊎ (o + x.width ≤ k)
+
+-- the read of a vector at an exception entry
+abbrev pub IsVectorRead : Image → Touched → Type 0
+IsVectorRead i x =
+    (x ≡ record { width = 4; address = i.flash_base + vector_offset mem_manage }) ⊎ (x ≡ record { width = 4; address = i.flash_base + vector_offset supervisor_call })
+
+-- the step entered an exception
+abbrev pub HasEntered : State → Turn → Type 0
+HasEntered s t = t.to.protection ≡ record s.protection { handler = true }
+
+-- a step that begins unprivileged: what it stores and loads is permitted, and it changes nothing else that protects
+pub record IsConfined (i : Image) (s : State) (t : Turn) : Type 0 where
+  pub stores_permitted : Each (λ x. permits s.protection.mpu true Write x.address ≡ true) t.stores
+  pub loads_permitted : Each (λ x. (permits s.protection.mpu true Read x.address ≡ true) ⊎ IsVectorRead i x) t.loads
+  pub protection_stays : (t.to.protection ≡ s.protection) ⊎ HasEntered s t
+  -- the fault status changes by a MemManage fault alone
+  pub status_stays : (t.to.status ≡ s.status) ⊎ (HasEntered s t × (t.to.core.pc ≡ vector i mem_manage) × (t.to.status.shcsr ≡ s.status.shcsr))
+  pub ram_stays : (k : ℕ) → Each (Misses i k) t.stores → get_or t.to.ram k 0 ≡ get_or s.ram k 0
+
+abbrev pub StepsAreConfined : Type 0
+StepsAreConfined = (i : Image) (s : State) → is_unprivileged s.protection ≡ true → IsConfined i s (turn by_mpu i s)
+
+-- some element
+abbrev pub AnyOf : {A : Type 0} → (A → Type 0) → List A → Type 0
+AnyOf P [] = ⊥
+AnyOf P (x ∷ xs) = P x ⊎ AnyOf P xs
+
+-- an event of what a step answers is one of its stores or of its loads, at a place of a window
+abbrev pub ListsEvent : Image → Turn → Type 0
+ListsEvent i t = (e : Event) → t.event ≡ Some e → AnyOf (λ (x : Touched). (x.width ≡ e.width) × (place i x.address ≡ InWindow e.periph e.offset)) (choose e.write t.stores t.loads)
+
+abbrev pub EventsAreListed : Type 0
+EventsAreListed = (j : Judge) (i : Image) (s : State) → ListsEvent i (turn j i s)
+
+-- a machine that has not ended faults where a halfword that it fetches is not permitted
+pub record FetchesArePermitted (j : Judge) (i : Image) (s : State) : Type 0 where
+  pub first : j s.protection Fetch s.core.pc ≡ false → turn j i s ≡ fetch_fault j i s
+  pub second : (h : ℕ) → j s.protection Fetch s.core.pc ≡ true → fetch_at (place i s.core.pc) i s.ram ≡ Some h → nat_lt h 0xE800 ≡ false → j s.protection Fetch (s.core.pc + 2) ≡ false → turn j i s ≡ fetch_fault j i s
+
+abbrev pub FetchesArePermittedAlways : Type 0
+FetchesArePermittedAlways = (j : Judge) (i : Image) (s : State) → s.ending ≡ None → FetchesArePermitted j i s
+
+-- no store of any step leads to flash, which is no part of the state
+abbrev pub FlashIsNeverWritten : Type 0
+FlashIsNeverWritten = (j : Judge) (i : Image) (s : State) → ObeysRules i → Each (λ x. (o : ℕ) → place i x.address ≢ InFlash o) (turn j i s).stores

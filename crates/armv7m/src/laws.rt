@@ -1,0 +1,64 @@
+//! Laws of the machine: functions without a body, whose contract is the law.
+
+ghost use Rattle.std.specs.Prelude.{ℕ, ◌≡◌, ◌+◌, List, [], ◌++◌, Some};
+ghost use Rattle.words.specs.Runs.{run, events};
+ghost use Rattle.mem_bus.specs.declared.image.Image.{Image};
+ghost use Rattle.armv7m.specs.declared.state.End.{End};
+ghost use Rattle.armv7m.specs.State.{State, Judge, calm};
+ghost use Rattle.armv7m.specs.Step.{turn, step, event};
+ghost use Rattle.armv7m.specs.Run.{after, events_after};
+ghost use Rattle.armv7m.specs.Code.{next, told};
+ghost use Rattle.armv7m.specs.AccessLaw.{AllowedStepsAreFree};
+ghost use Rattle.armv7m.specs.Confinement.{StepsAreConfined, EventsAreListed, FetchesArePermittedAlways, FlashIsNeverWritten};
+
+/// A machine that has ended stays as it is: its steps change nothing, store and load nothing and have no event,
+/// and so do runs of them.
+pub fn ended_machines()
+    ensures step { (j : Judge) (i : Image) (s : State) (e : End) →
+        s.ending ≡ Some e → turn j i s ≡ calm s }
+    ensures run { (j : Judge) (i : Image) (n : ℕ) (s : State) (e : End) →
+        s.ending ≡ Some e → run (next j i) n s ≡ s }
+    ensures events { (j : Judge) (i : Image) (n : ℕ) (s : State) (e : End) →
+        s.ending ≡ Some e → events (next j i) (told j i) n s ≡ [] }
+{}
+
+/// The machine after `m + n` steps is the one `n` steps after the one after `m`, and the events of these steps are
+/// those of the first `m` and then those of the other `n`. Once ended, it stays as it is and has no further events.
+pub fn runs_from_start()
+    ensures state { (i : Image) (queues : List (List ℕ)) (fill m n : ℕ) →
+        after i queues fill (m + n) ≡ run (step i) n (after i queues fill m) }
+    ensures events { (i : Image) (queues : List (List ℕ)) (fill m n : ℕ) →
+        events_after i queues fill (m + n) ≡
+        events_after i queues fill m ++ events (step i) (event i) n (after i queues fill m) }
+    ensures state_after_end { (i : Image) (queues : List (List ℕ)) (fill m n : ℕ) (e : End) →
+        (after i queues fill m).ending ≡ Some e →
+        after i queues fill (m + n) ≡ after i queues fill m }
+    ensures events_after_end { (i : Image) (queues : List (List ℕ)) (fill m n : ℕ) (e : End) →
+        (after i queues fill m).ending ≡ Some e →
+        events_after i queues fill (m + n) ≡ events_after i queues fill m }
+{}
+
+/// The access law: a step whose every access is permitted is the step of a machine without protection.
+pub fn access_law()
+    ensures { AllowedStepsAreFree }
+{}
+
+/// Confinement: a step that begins unprivileged stores and loads only where the protection unit permits it, but for
+/// the vector that an exception entry reads; it changes no byte of RAM outside its stores, and neither the
+/// protection nor the fault status but by entering an exception.
+pub fn confinement()
+    ensures { StepsAreConfined }
+{}
+
+/// The event of a step is one of the accesses that the step lists, at a place of a window; so an unprivileged step
+/// makes events only where it may store or load. And a fetch that is not permitted is a fault.
+pub fn listed_accesses()
+    ensures events { EventsAreListed }
+    ensures fetches { FetchesArePermittedAlways }
+{}
+
+/// On an image that obeys the rules no store of any step leads to flash, whatever is permitted; flash is no part of
+/// the state, so it stays.
+pub fn flash_stays()
+    ensures { FlashIsNeverWritten }
+{}

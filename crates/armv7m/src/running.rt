@@ -1,0 +1,101 @@
+//! Running code: what the instructions do that stand in memory. Each function is a law and does nothing.
+
+ghost use Rattle.std.specs.Prelude.{◌≡◌, ℕ, ◌+◌, ◌*◌, ◌%◌, ◌^◌, ◌<◌, ◌≤◌, List, length, Bool};
+ghost use Rattle.words.specs.declared.conditions.Flags.{Flags};
+ghost use Rattle.words.specs.Bytes.{write_all};
+ghost use Rattle.mem_bus.specs.declared.image.Image.{Image};
+ghost use Rattle.armv7m.specs.declared.state.CoreRegisters.{CoreRegisters as Core};
+ghost use Rattle.armv7m.specs.State.{Judge};
+ghost use Rattle.armv7m.specs.Exceptions.{frame_at, frame_of, unstacked};
+ghost use Rattle.armv7m.specs.ComputedSteps.{ComputesData, ComputesBranches, ComputesTransfers};
+ghost use Rattle.armv7m.specs.ComputedFaults.{
+  ComputesProtection,
+  ComputesExceptions,
+  ComputesTests,
+  ComputesWindows,
+  ComputesStops,
+  ComputesSystem,
+  ComputesRun,
+};
+ghost use Rattle.armv7m.specs.Stack.{words_at, cut_words, AreWords};
+ghost use Rattle.armv7m.specs.Resumed.{resumed, TellsThread, saved_of};
+ghost use Rattle.armv7m.specs.Shape.{StepsKeepShape, RunsKeepShape};
+ghost use Rattle.armv7m.specs.CodeBytes.{BytesAreCode};
+ghost use Rattle.armv7m.specs.Running.{
+  StepsAreActs,
+  CodeMayRun,
+  CodeHasParts,
+  RunsGoOn,
+  EachLive,
+  ActSteps,
+  ExceptionSteps,
+};
+ghost use Rattle.armv7m.specs.Templates.{
+  EachWorks,
+  RegisterSteps,
+  BranchSteps,
+  StackSteps,
+  TransferSteps,
+  SpecialSteps,
+  ThreadSteps,
+};
+
+/// Single steps of a small machine, whose outcomes were worked out by hand from the manual: instructions that
+/// compute (A7.7), branch, load and store.
+pub fn computed_steps()
+    ensures of_data { ComputesData }
+    ensures of_branches { ComputesBranches }
+    ensures of_transfers { ComputesTransfers }
+{}
+
+/// And of protection (B3.5), exceptions (B1.5), windows, every reason to stop, the system's registers, and a run.
+pub fn computed_faults()
+    ensures of_protection { ComputesProtection }
+    ensures of_exceptions { ComputesExceptions }
+    ensures of_tests { ComputesTests }
+    ensures of_windows { ComputesWindows }
+    ensures of_stops { ComputesStops }
+    ensures of_system { ComputesSystem }
+    ensures of_run { ComputesRun }
+{}
+
+/// An instruction that stands at the program counter is performed, steps make up runs, and flash that holds the
+/// bytes of instructions is code.
+pub fn instructions()
+    ensures performed { StepsAreActs }
+    ensures by_act { EachLive ActSteps }
+    ensures of_exceptions { EachLive ExceptionSteps }
+    ensures in_runs { (j : Judge) (i : Image) → RunsGoOn j i }
+    ensures may_run { CodeMayRun }
+    ensures has_parts { CodeHasParts }
+    ensures from_bytes { BytesAreCode }
+{}
+
+/// The steps of the instructions that generated code and the monitor are made of.
+pub fn templates()
+    ensures of_registers { EachWorks RegisterSteps }
+    ensures of_branches { EachWorks BranchSteps }
+    ensures of_stack { EachWorks StackSteps }
+    ensures of_transfers { EachWorks TransferSteps }
+    ensures of_special { EachWorks SpecialSteps }
+    ensures of_threads { EachWorks ThreadSteps }
+{}
+
+/// What an exception entry pushes (PushStack, B1.5.6) is read as it was, and taken back by the return (PopStack,
+/// B1.5.8) it is the thread again.
+pub fn frames()
+    ensures pushed { (vs : List ℕ) (o : ℕ) (ram : List ℕ) → o + 4 * length vs ≤ length ram →
+        words_at (length vs) o (write_all 4 o vs ram) ≡ cut_words vs }
+    ensures read_back { (c : Core) (ret o : ℕ) (ram : List ℕ) → AreWords (saved_of c) → ret < 2 ^ 32 → o + 32 ≤ length ram →
+        words_at 8 o (write_all 4 o (frame_of c ret) ram) ≡ frame_of c ret }
+    ensures taken_back { (c h : Core) (ret : ℕ) → c.sp % 4 ≡ 0 → 36 ≤ c.sp → c.sp < 2 ^ 32 →
+        unstacked c.on_psp h (frame_at c.sp) (frame_of c ret) ≡ resumed c h ret }
+    ensures of_thread { (f : Flags) (pad : Bool) → TellsThread f pad }
+{}
+
+/// Every step keeps the number of registers, regions and bytes, the stack pointers multiples of 4, and numbers words;
+/// so they are in every run from reset.
+pub fn shapes()
+    ensures of_steps { StepsKeepShape }
+    ensures of_runs { RunsKeepShape }
+{}

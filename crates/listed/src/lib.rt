@@ -1,0 +1,76 @@
+//! Vectors that contracts see as lists.
+#![tactic(auto)]
+
+ghost use Rattle.std.specs.Prelude.{◌≡◌, ◌==◌, List, length};
+
+use std::marker::Model;
+
+/// A vector that contracts see, and compare, as the list of its items.
+///
+/// A `Vec` in a field would be compared with its capacity; a field of this type is the list alone.
+#[derive(Drop)]
+pub struct Listed<T: Drop> {
+    items: Vec<T>,
+}
+
+impl<T: Drop> Model for Listed<T> {
+    ghost Value = { List T };
+
+    ghost view = { λ s. s.items.items };
+}
+
+impl<T: Drop> Listed<T> {
+    /// The list of a vector's items. Takes no memory.
+    pub fn new(items: Vec<T>) -> Self
+        ensures { result ≡ items.items }
+    {
+        Listed { items }
+    }
+
+    /// The items, lent as a slice.
+    pub fn as_slice(&self) -> &[T]
+        ensures { result.now ≡ self.now }
+    {
+        self.items.as_slice()
+    }
+
+    /// The number of items.
+    pub fn len(&self) -> usize
+        ensures { result ≡ length self.now }
+    {
+        self.items.len()
+    }
+
+    /// Whether there is no item.
+    pub fn is_empty(&self) -> bool
+        ensures { result ≡ (length self.now == 0) }
+    {
+        self.items.is_empty()
+    }
+
+    /// The vector of the items. Takes no memory.
+    pub fn into_vec(self) -> Vec<T>
+        ensures { result.items ≡ self }
+    {
+        let Listed { items } = self;
+        items
+    }
+}
+
+#[cfg(test)]
+mod tests {
+    use super::*;
+    use std::test::Fail;
+
+    #[test]
+    fn keeps_the_items(rt: HostRuntime) -> Result<(), Fail> {
+        let empty: Listed<u16> = Listed::new(Vec::new(rt.alloc()));
+        assert!(rt; empty.is_empty());
+        let list = Listed::new(vec![in rt.alloc(); 3u16, 1, 2]?);
+        assert!(rt; !list.is_empty());
+        assert_eq!(rt; list.len(), 3);
+        assert_eq!(rt; list.as_slice(), [3, 1, 2].as_slice());
+        assert_eq!(rt; list.into_vec().as_slice(), [3, 1, 2].as_slice());
+        Ok(())
+    }
+}

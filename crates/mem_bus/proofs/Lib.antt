@@ -1,0 +1,6 @@
+pub mod Fields
+pub mod LineEnds
+pub mod Rows
+pub mod Reading
+pub mod Placed
+pub mod Lengths

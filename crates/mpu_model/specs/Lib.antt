@@ -1,0 +1,5 @@
+pub mod Regions
+pub mod Protection
+pub mod Registers
+pub mod RegionWords
+pub mod Laws

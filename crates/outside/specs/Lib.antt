@@ -1,0 +1,4 @@
+pub mod Reading
+pub mod Counts
+pub mod Contents
+pub mod Memory
