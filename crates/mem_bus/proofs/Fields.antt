@@ -1,5 +1,5 @@
 -- Fields between blanks, and the end of a line.
-use Rattle.std.proofs.Common.{◌≡◌, ◌<◌, ◌≤◌, ℕ, ◌+◌, ◌-◌, List, [], ◌∷◌, ◌++◌, refl, ap, sym, ◌∙◌, Bool, true, false, not, cond, length, take, drop, suc, arith, nat_eq, if◌then◌else◌}
+use Rattle.std.proofs.Common.{◌≡◌, ℕ, ◌+◌, List, [], ◌∷◌, ◌++◌, refl, ap, ◌∙◌, Bool, true, false, not, cond, length, take, drop, suc, arith, nat_eq, if◌then◌else◌}
 use Rattle.std.specs.List.{prefix_len}
 use Rattle.mem_bus.specs.Tape.{fields_of, is_blank, joined, begins_apart}
 use Rattle.mem_bus.specs.Lines.{with_field, without_return}
@@ -24,7 +24,7 @@ skipped-is [] = refl
 skipped-is (b ∷ bs) = by_test (is_blank b) (skipped-is bs)
   where
     by_test : (t : Bool) → drop (prefix_len is_blank bs) bs ≡ skipped bs
-      → drop (cond t (1 + prefix_len is_blank bs) 0) (b ∷ bs) ≡ (if t then skipped bs else (b ∷ bs))
+        → drop (cond t (1 + prefix_len is_blank bs) 0) (b ∷ bs) ≡ (if t then skipped bs else (b ∷ bs))
     by_test true e = (let n : 1 + prefix_len is_blank bs ≡ suc (prefix_len is_blank bs) = omega arith in rw n e)
     by_test false e = refl
 
@@ -33,18 +33,18 @@ front-is [] = refl
 front-is (b ∷ bs) = by_test (is_blank b) (front-is bs)
   where
     by_test : (t : Bool) → take (prefix_len (λ b. not (is_blank b)) bs) bs ≡ front bs
-      → take (cond (not t) (1 + prefix_len (λ b. not (is_blank b)) bs) 0) (b ∷ bs) ≡ (if t then [] else (b ∷ front bs))
+        → take (cond (not t) (1 + prefix_len (λ b. not (is_blank b)) bs) 0) (b ∷ bs) ≡ (if t then [] else (b ∷ front bs))
     by_test true e = refl
     by_test false e =
         (let n : 1 + prefix_len (λ b. not (is_blank b)) bs ≡ suc (prefix_len (λ b. not (is_blank b)) bs) = omega arith in
-         rw n (ap (λ xs. b ∷ xs) e))
+        rw n (ap (λ xs. b ∷ xs) e))
 
 behind-is : (bs : List ℕ) → drop (prefix_len (λ b. not (is_blank b)) bs) bs ≡ behind bs
 behind-is [] = refl
 behind-is (b ∷ bs) = by_test (is_blank b) (behind-is bs)
   where
     by_test : (t : Bool) → drop (prefix_len (λ b. not (is_blank b)) bs) bs ≡ behind bs
-      → drop (cond (not t) (1 + prefix_len (λ b. not (is_blank b)) bs) 0) (b ∷ bs) ≡ (if t then b ∷ bs else behind bs)
+        → drop (cond (not t) (1 + prefix_len (λ b. not (is_blank b)) bs) 0) (b ∷ bs) ≡ (if t then b ∷ bs else behind bs)
     by_test true e = refl
     by_test false e =
         (let n : 1 + prefix_len (λ b. not (is_blank b)) bs ≡ suc (prefix_len (λ b. not (is_blank b)) bs) = omega arith in rw n e)
@@ -67,7 +67,7 @@ fields_of-cons b [] h = fields_of-other b [] h ∙ rw fields_of-nil refl
 fields_of-cons b (c ∷ cs) h = fields_of-other b (c ∷ cs) h ∙ by_test (is_blank c) refl (λ e. fields_of-cons c cs e)
   where
     by_test : (t : Bool) → is_blank c ≡ t → (is_blank c ≡ false → fields_of (c ∷ cs) ≡ (c ∷ front cs) ∷ fields_of (behind cs))
-      → joined (is_blank c) b (fields_of (c ∷ cs)) ≡ (b ∷ front (c ∷ cs)) ∷ fields_of (behind (c ∷ cs))
+        → joined (is_blank c) b (fields_of (c ∷ cs)) ≡ (b ∷ front (c ∷ cs)) ∷ fields_of (behind (c ∷ cs))
     by_test true e ih = rw e refl
     by_test false e ih = ap (joined (is_blank c) b) (ih e) ∙ rw e refl
 
@@ -76,13 +76,13 @@ fields_of-skipped [] = fields_of-nil
 fields_of-skipped (b ∷ bs) = by_test (is_blank b) refl (fields_of-skipped bs)
   where
     by_test : (t : Bool) → is_blank b ≡ t → fields_of bs ≡ with_field (front (skipped bs)) (fields_of (behind (skipped bs)))
-      → fields_of (b ∷ bs) ≡ with_field (front (skipped (b ∷ bs))) (fields_of (behind (skipped (b ∷ bs))))
+        → fields_of (b ∷ bs) ≡ with_field (front (skipped (b ∷ bs))) (fields_of (behind (skipped (b ∷ bs))))
     by_test true e ih = fields_of-blank b bs e ∙ (ih ∙ rw e refl)
     by_test false e ih = fields_of-cons b bs e ∙ rw (e, e) refl
 
 -- a text is its first field and the fields of the rest, by the numbers of bytes that are passed
 pub fields_of-split : (text rest : List ℕ) → rest ≡ drop (prefix_len is_blank text) text
-  → fields_of text ≡ with_field (take (prefix_len (λ b. not (is_blank b)) rest) rest) (fields_of (drop (prefix_len (λ b. not (is_blank b)) rest) rest))
+    → fields_of text ≡ with_field (take (prefix_len (λ b. not (is_blank b)) rest) rest) (fields_of (drop (prefix_len (λ b. not (is_blank b)) rest) rest))
 fields_of-split text rest h =
     fields_of-skipped text ∙ rw (front-is rest, behind-is rest, h, skipped-is text) refl
 
@@ -105,4 +105,5 @@ without_return-nil [] h = refl
 without_return-nil (b ∷ bs) h = absurd (omega arith)
 
 pub ruleset split_rules = (fields_of-split)
+
 pub ruleset return_rules = (without_return-push, without_return-nil)

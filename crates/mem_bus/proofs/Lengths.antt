@@ -8,7 +8,7 @@ pub length-taken : (queues : List (List ℕ)) (k : ℕ) → length (taken queues
 length-taken queues k = length-set queues k (without_first (queue queues k))
 
 pub length-put_at : (long : (w a v : ℕ) (mem : List ℕ) → length (write w a v mem) ≡ length mem)
-  (p : Place) (w v : ℕ) (ram : List ℕ) → length (put_at p w v ram) ≡ length ram
+    (p : Place) (w v : ℕ) (ram : List ℕ) → length (put_at p w v ram) ≡ length ram
 length-put_at long (InRam o) w v ram = long w o v ram
 length-put_at long (InFlash o) w v ram = refl
 length-put_at long (InWindow k o) w v ram = refl

@@ -1,5 +1,5 @@
 -- The lines of a text: the first one, and those of what follows it.
-use Rattle.std.proofs.Common.{◌≡◌, ◌<◌, ◌≤◌, ℕ, ◌+◌, ◌-◌, List, [], ◌∷◌, ◌++◌, refl, ap, sym, ◌∙◌, Bool, true, false, not, ◌&&◌, cond, length, take, drop, suc, arith, nat_eq, nat_lt, if◌then◌else◌, Option, Some, None, position, map, length-drop}
+use Rattle.std.proofs.Common.{◌≡◌, ◌<◌, ◌≤◌, ℕ, ◌+◌, List, [], ◌∷◌, refl, ap, sym, ◌∙◌, Bool, true, false, not, ◌&&◌, cond, length, take, drop, suc, arith, nat_eq, nat_lt, if◌then◌else◌, Some, None, position, map, length-drop}
 use Rattle.std.specs.List.{prefix_len}
 use Rattle.std.proofs.lemmas.Bool.Decides.{nat_tests}
 use Rattle.mem_bus.specs.Tape.{lines_of, ends_line, before_first, rows_of, row_of}
@@ -23,7 +23,7 @@ front-is [] = refl
 front-is (b ∷ bs) = by_test (nat_eq b 10) (front-is bs)
   where
     by_test : (t : Bool) → take (line_len bs) bs ≡ front bs
-      → take (cond (not t) (1 + line_len bs) 0) (b ∷ bs) ≡ (if t then [] else (b ∷ front bs))
+        → take (cond (not t) (1 + line_len bs) 0) (b ∷ bs) ≡ (if t then [] else (b ∷ front bs))
     by_test true e = refl
     by_test false e = (let n : 1 + line_len bs ≡ suc (line_len bs) = omega arith in rw n (ap (λ xs. b ∷ xs) e))
 
@@ -32,7 +32,7 @@ rest-is [] = refl
 rest-is (b ∷ bs) = by_test (nat_eq b 10) (rest-is bs)
   where
     by_test : (t : Bool) → drop (line_len bs) bs ≡ rest bs
-      → drop (cond (not t) (1 + line_len bs) 0) (b ∷ bs) ≡ (if t then b ∷ bs else rest bs)
+        → drop (cond (not t) (1 + line_len bs) 0) (b ∷ bs) ≡ (if t then b ∷ bs else rest bs)
     by_test true e = refl
     by_test false e = (let n : 1 + line_len bs ≡ suc (line_len bs) = omega arith in rw n e)
 
@@ -45,7 +45,7 @@ unfolding lines_of
 lines_of-feed b bs h = rw h refl
 
 lines_of-other : (b : ℕ) (bs : List ℕ) → nat_eq b 10 ≡ false
-  → lines_of (b ∷ bs) ≡ (if ends_line b bs then lines_of bs else before_first b (lines_of bs))
+    → lines_of (b ∷ bs) ≡ (if ends_line b bs then lines_of bs else before_first b (lines_of bs))
 unfolding lines_of
 lines_of-other b bs h = rw h refl
 
@@ -58,19 +58,21 @@ no_end b c h = rw h (by_test (nat_eq b 13))
 
 -- a byte before a line whose end is known
 before_line : (b c : ℕ) (cs : List ℕ) (lines : List (List ℕ))
-  → (if ends_line b (c ∷ cs) then without_return (front (c ∷ cs)) ∷ lines else before_first b (without_return (front (c ∷ cs)) ∷ lines))
+    → (if ends_line b (c ∷ cs) then without_return (front (c ∷ cs)) ∷ lines else before_first b (without_return (front (c ∷ cs)) ∷ lines))
     ≡ without_return (b ∷ front (c ∷ cs)) ∷ lines
 before_line b c cs lines = by_feed (nat_eq c 10) refl
   where
     by_return : (t : Bool)
-      → (if t then [] ∷ lines else (b ∷ []) ∷ lines) ≡ (if t then [] else (b ∷ [])) ∷ lines
+        → (if t then [] ∷ lines else (b ∷ []) ∷ lines) ≡ (if t then [] else (b ∷ [])) ∷ lines
     by_return true = refl
     by_return false = refl
+
     and_true : (t : Bool) → (t && true) ≡ t
     and_true true = refl
     and_true false = refl
+
     by_feed : (t : Bool) → nat_eq c 10 ≡ t
-      → (if (nat_eq b 13 && nat_eq c 10) then without_return (front (c ∷ cs)) ∷ lines else before_first b (without_return (front (c ∷ cs)) ∷ lines))
+        → (if (nat_eq b 13 && nat_eq c 10) then without_return (front (c ∷ cs)) ∷ lines else before_first b (without_return (front (c ∷ cs)) ∷ lines))
         ≡ without_return (b ∷ front (c ∷ cs)) ∷ lines
     by_feed true h = rw (h, and_true (nat_eq b 13)) (by_return (nat_eq b 13))
     by_feed false h = rw (no_end b c h, h) refl
@@ -83,23 +85,23 @@ lines_of-front (b ∷ []) c cs h = by_test (nat_eq b 10) refl
     by_test : (t : Bool) → nat_eq b 10 ≡ t → lines_of (b ∷ []) ≡ without_return (front (b ∷ [])) ∷ lines_of cs
     by_test true e =
         (let here : b ∷ [] ≡ c ∷ cs = rw e at h in
-         let same : [] ≡ cs = cc in
-         lines_of-feed b [] e ∙ rw (e, same) refl)
+        let same : [] ≡ cs = cc in
+        lines_of-feed b [] e ∙ rw (e, same) refl)
     by_test false e = (let none : [] ≡ c ∷ cs = rw e at h in cc)
 lines_of-front (b ∷ d ∷ ds) c cs h = by_test (nat_eq b 10) refl (λ later. lines_of-front (d ∷ ds) c cs later)
   where
     by_test : (t : Bool) → nat_eq b 10 ≡ t
-      → (rest (d ∷ ds) ≡ c ∷ cs → lines_of (d ∷ ds) ≡ without_return (front (d ∷ ds)) ∷ lines_of cs)
-      → lines_of (b ∷ d ∷ ds) ≡ without_return (front (b ∷ d ∷ ds)) ∷ lines_of cs
+        → (rest (d ∷ ds) ≡ c ∷ cs → lines_of (d ∷ ds) ≡ without_return (front (d ∷ ds)) ∷ lines_of cs)
+        → lines_of (b ∷ d ∷ ds) ≡ without_return (front (b ∷ d ∷ ds)) ∷ lines_of cs
     by_test true e ih =
         (let here : b ∷ d ∷ ds ≡ c ∷ cs = rw e at h in
-         let same : d ∷ ds ≡ cs = cc in
-         lines_of-feed b (d ∷ ds) e ∙ rw (e, ← same) refl)
+        let same : d ∷ ds ≡ cs = cc in
+        lines_of-feed b (d ∷ ds) e ∙ rw (e, ← same) refl)
     by_test false e ih =
         (let later : rest (d ∷ ds) ≡ c ∷ cs = rw e at h in
-         lines_of-other b (d ∷ ds) e
-         ∙ (ap (λ lines. if ends_line b (d ∷ ds) then lines else before_first b lines) (ih later)
-         ∙ (before_line b d ds (lines_of cs) ∙ rw e refl)))
+        lines_of-other b (d ∷ ds) e
+        ∙ (ap (λ lines. if ends_line b (d ∷ ds) then lines else before_first b lines) (ih later)
+        ∙ (before_line b d ds (lines_of cs) ∙ rw e refl)))
 
 -- a text without one
 lines_of-last : (bs : List ℕ) → rest bs ≡ [] → lines_of bs ≡ bs ∷ []
@@ -113,11 +115,12 @@ lines_of-last (b ∷ bs) h = by_test (nat_eq b 10) refl (λ later. lines_of-last
         by_feed : (t : Bool) → nat_eq c 10 ≡ t → (nat_eq b 13 && nat_eq c 10) ≡ false
         by_feed true e = (let here : c ∷ cs ≡ [] = rw e at r in cc)
         by_feed false e = no_end b c e
+
     by_test : (t : Bool) → nat_eq b 10 ≡ t → (rest bs ≡ [] → lines_of bs ≡ bs ∷ []) → lines_of (b ∷ bs) ≡ (b ∷ bs) ∷ []
     by_test true e ih = (let here : b ∷ bs ≡ [] = rw e at h in cc)
     by_test false e ih =
         (let later : rest bs ≡ [] = rw e at h in
-         lines_of-other b bs e ∙ rw (no_feed bs later, ih later) refl)
+        lines_of-other b bs e ∙ rw (no_feed bs later, ih later) refl)
 
 -- what a search for the first line feed tells
 found_at : (bs : List ℕ) (k : ℕ) → position (λ b. nat_eq b 10) bs ≡ Some k → (line_len bs ≡ k) × (k < length bs)
@@ -144,14 +147,14 @@ is_empty (x ∷ xs) h = absurd (omega arith)
 
 -- the first row of a text with a line feed, and the rows behind it
 pub rows_of-more : (bs : List ℕ) (k : ℕ) → position (λ b. nat_eq b 10) bs ≡ Some k
-  → rows_of bs ≡ row_of (without_return (take k bs)) ∷ rows_of (drop 1 (drop k bs))
+    → rows_of bs ≡ row_of (without_return (take k bs)) ∷ rows_of (drop 1 (drop k bs))
 rows_of-more bs k h =
     let f = found_at bs k h in
     let r : rest bs ≡ drop k bs = sym (rest-is bs) ∙ ap (λ n. drop n bs) f.0 in
     let g : front bs ≡ take k bs = sym (front-is bs) ∙ ap (λ n. take n bs) f.0 in
     ap (map row_of)
-      (lines_of-more bs (drop k bs) r (omega (arith, length-drop k bs))
-      ∙ ap (λ xs. without_return xs ∷ lines_of (drop 1 (drop k bs))) g)
+    (lines_of-more bs (drop k bs) r (omega (arith, length-drop k bs))
+    ∙ ap (λ xs. without_return xs ∷ lines_of (drop 1 (drop k bs))) g)
 
 pub found_within : (bs : List ℕ) (k : ℕ) → position (λ b. nat_eq b 10) bs ≡ Some k → k < length bs
 found_within bs k h = (found_at bs k h).1

@@ -1,5 +1,5 @@
 -- The place of an aligned access.
-use Rattle.std.proofs.Common.{◌≡◌, ◌<◌, ◌≤◌, ◌⊎◌, inl, inr, ℕ, zero, ◌+◌, ◌-◌, ◌*◌, ◌/◌, ◌%◌, ◌^◌, List, [], ◌∷◌, refl, ap, sym, ◌∙◌, subst, Bool, true, false, not, ◌&&◌, length, suc, arith, nat_lt, Option, Some, None, get_or, drop, drop-cons, add-one}
+use Rattle.std.proofs.Common.{◌≡◌, ◌<◌, ◌≤◌, ◌⊎◌, inl, inr, ℕ, zero, ◌+◌, ◌-◌, ◌*◌, ◌/◌, ◌%◌, ◌^◌, List, [], ◌∷◌, refl, ap, sym, ◌∙◌, subst, Bool, true, false, length, suc, arith, Some, get_or, drop, drop-cons, add-one}
 use Rattle.std.specs.Prelude.{slice_get, ◌↔◌}
 use Rattle.std.proofs.lemmas.Bool.Decides.{nat_tests}
 use Rattle.std.proofs.lemmas.Nat.{pow-add}
@@ -8,7 +8,7 @@ use Rattle.mpu_model.specs.Protection.{IsAccessWidth}
 use Rattle.mem_bus.specs.declared.image.Image.{Image}
 use Rattle.mem_bus.specs.declared.image.Window.{Window}
 use Rattle.mem_bus.specs.Places.{Place, InRam, InFlash, InWindow, Nowhere, inside, choose, find_window, place}
-use Rattle.mem_bus.specs.Rules.{ObeysRules, IsInside, IsWindow, IsApart, AreApart, AreWindows, IsMonitor}
+use Rattle.mem_bus.specs.Rules.{ObeysRules, IsWindow, IsApart, AreApart, AreWindows, IsMonitor}
 use Rattle.mem_bus.specs.Access.{further, HasBytes, Fits, AnyHolds, Holds}
 
 -- a range that begins and ends at multiples of 4
@@ -47,8 +47,8 @@ same_tests false false h k = refl
 inside_further : (b s a w j : ℕ) → IsAligned b s → IsAccessWidth w → a % w ≡ 0 → j < w → inside b s (a + j) ≡ inside b s a
 inside_further b s a w j r v m l =
     same_tests (inside b s (a + j)) (inside b s a)
-      (λ h. (let t = inside_true b s (a + j) h in inside_yes b s a (inside_begins b s a w j r v m l t.0) (omega arith)))
-      (λ h. (let t = inside_true b s a h in inside_yes b s (a + j) (omega arith) (omega (arith, inside_ends b s a w r v m t.1))))
+    (λ h. (let t = inside_true b s (a + j) h in inside_yes b s a (inside_begins b s a w j r v m l t.0) (omega arith)))
+    (λ h. (let t = inside_true b s a h in inside_yes b s (a + j) (omega arith) (omega (arith, inside_ends b s a w r v m t.1))))
 
 -- a power of two from 32 on is a multiple of 4
 power_aligned : (n k : ℕ) → n ≡ 2 ^ k → 5 ≤ k → n ≡ 4 * 2 ^ (k - 2)
@@ -70,40 +70,40 @@ window_aligned w h =
     }
 
 ram_aligned : (i : Image) → ObeysRules i → IsAligned i.ram_base i.ram_size
-ram_aligned i r = record { base = omega (arith, r.ram_aligned); size = omega (arith, r.ram_blocks); }
+ram_aligned i r = record { base = omega (arith, r.ram_aligned); size = omega (arith, r.ram_blocks) }
 
 flash_aligned : (i : Image) → ObeysRules i → IsAligned i.flash_base (length i.flash)
-flash_aligned i r = record { base = omega (arith, r.flash_aligned); size = r.flash_words; }
+flash_aligned i r = record { base = omega (arith, r.flash_aligned); size = r.flash_words }
 
 -- ---- further bytes
 
 further-choose : (t u : Bool) (p q r s : Place) (j : ℕ) → t ≡ u → (u ≡ true → p ≡ further j r) → q ≡ further j s
-  → choose t p q ≡ further j (choose u r s)
+    → choose t p q ≡ further j (choose u r s)
 further-choose true true p q r s j e h k = h refl
 further-choose true false p q r s j e h k = cc
 further-choose false true p q r s j e h k = cc
 further-choose false false p q r s j e h k = k
 
 window_further : (ws : List Window) (k a w j : ℕ) → AreWindows ws → IsAccessWidth w → a % w ≡ 0 → j < w
-  → find_window ws k (a + j) ≡ further j (find_window ws k a)
+    → find_window ws k (a + j) ≡ further j (find_window ws k a)
 unfolding find_window
 window_further [] k a w j h v m l = refl
 window_further (x ∷ xs) k a w j h v m l =
     further-choose (inside x.base x.size (a + j)) (inside x.base x.size a) (InWindow k (a + j - x.base)) _ (InWindow k (a - x.base)) _ j
-      (inside_further x.base x.size a w j (window_aligned x h.0) v m l)
-      (λ t. (let b = inside_true x.base x.size a t in let e : a + j - x.base ≡ a - x.base + j = omega arith in ap (InWindow k) e))
-      (window_further xs (suc k) a w j h.2 v m l)
+    (inside_further x.base x.size a w j (window_aligned x h.0) v m l)
+    (λ t. (let b = inside_true x.base x.size a t in let e : a + j - x.base ≡ a - x.base + j = omega arith in ap (InWindow k) e))
+    (window_further xs (suc k) a w j h.2 v m l)
 
 pub place_further : (i : Image) (a w j : ℕ) → ObeysRules i → IsAccessWidth w → a % w ≡ 0 → j < w → place i (a + j) ≡ further j (place i a)
 unfolding place
 place_further i a w j r v m l =
     further-choose (inside i.ram_base i.ram_size (a + j)) (inside i.ram_base i.ram_size a) (InRam (a + j - i.ram_base)) _ (InRam (a - i.ram_base)) _ j
-      (inside_further i.ram_base i.ram_size a w j (ram_aligned i r) v m l)
-      (λ t. (let b = inside_true i.ram_base i.ram_size a t in let e : a + j - i.ram_base ≡ a - i.ram_base + j = omega arith in ap InRam e))
-      (further-choose (inside i.flash_base (length i.flash) (a + j)) (inside i.flash_base (length i.flash) a) (InFlash (a + j - i.flash_base)) _ (InFlash (a - i.flash_base)) _ j
-        (inside_further i.flash_base (length i.flash) a w j (flash_aligned i r) v m l)
-        (λ t. (let b = inside_true i.flash_base (length i.flash) a t in let e : a + j - i.flash_base ≡ a - i.flash_base + j = omega arith in ap InFlash e))
-        (window_further i.windows 0 a w j r.windows v m l))
+    (inside_further i.ram_base i.ram_size a w j (ram_aligned i r) v m l)
+    (λ t. (let b = inside_true i.ram_base i.ram_size a t in let e : a + j - i.ram_base ≡ a - i.ram_base + j = omega arith in ap InRam e))
+    (further-choose (inside i.flash_base (length i.flash) (a + j)) (inside i.flash_base (length i.flash) a) (InFlash (a + j - i.flash_base)) _ (InFlash (a - i.flash_base)) _ j
+    (inside_further i.flash_base (length i.flash) a w j (flash_aligned i r) v m l)
+    (λ t. (let b = inside_true i.flash_base (length i.flash) a t in let e : a + j - i.flash_base ≡ a - i.flash_base + j = omega arith in ap InFlash e))
+    (window_further i.windows 0 a w j r.windows v m l))
 
 -- ---- all bytes fit
 
@@ -127,11 +127,11 @@ window_fits [] k a w h v m = tt
 window_fits (x ∷ xs) k a w h v m = by_test (inside x.base x.size a) refl (fits-later x xs k (find_window xs (suc k) a) w (window_fits xs (suc k) a w h.2 v m))
   where
     by_test : (t : Bool) → inside x.base x.size a ≡ t → FitsWindow (x ∷ xs) k (find_window xs (suc k) a) w
-      → FitsWindow (x ∷ xs) k (choose t (InWindow k (a - x.base)) (find_window xs (suc k) a)) w
+        → FitsWindow (x ∷ xs) k (choose t (InWindow k (a - x.base)) (find_window xs (suc k) a)) w
     by_test true e ih =
         (let b = inside_true x.base x.size a e in
-         let zero_less : k - k ≡ 0 = omega arith in
-         (omega arith, rw zero_less (x, refl, omega (arith, inside_ends x.base x.size a w (window_aligned x h.0) v m b.1))))
+        let zero_less : k - k ≡ 0 = omega arith in
+        (omega arith, rw zero_less (x, refl, omega (arith, inside_ends x.base x.size a w (window_aligned x h.0) v m b.1))))
     by_test false e ih = ih
 
 fits_window : (i : Image) (p : Place) (w : ℕ) → FitsWindow i.windows 0 p w → Fits p w i
@@ -145,17 +145,18 @@ unfolding place
 place_fits i a w r v m = by_ram (inside i.ram_base i.ram_size a) refl (by_flash (inside i.flash_base (length i.flash) a) refl)
   where
     by_flash : (t : Bool) → inside i.flash_base (length i.flash) a ≡ t
-      → Fits (choose t (InFlash (a - i.flash_base)) (find_window i.windows 0 a)) w i
+        → Fits (choose t (InFlash (a - i.flash_base)) (find_window i.windows 0 a)) w i
     by_flash true e =
         (let b = inside_true i.flash_base (length i.flash) a e in
-         omega (arith, inside_ends i.flash_base (length i.flash) a w (flash_aligned i r) v m b.1))
+        omega (arith, inside_ends i.flash_base (length i.flash) a w (flash_aligned i r) v m b.1))
     by_flash false e = fits_window i (find_window i.windows 0 a) w (window_fits i.windows 0 a w r.windows v m)
+
     by_ram : (t : Bool) → inside i.ram_base i.ram_size a ≡ t
-      → Fits (choose (inside i.flash_base (length i.flash) a) (InFlash (a - i.flash_base)) (find_window i.windows 0 a)) w i
-      → Fits (choose t (InRam (a - i.ram_base)) (choose (inside i.flash_base (length i.flash) a) (InFlash (a - i.flash_base)) (find_window i.windows 0 a))) w i
+        → Fits (choose (inside i.flash_base (length i.flash) a) (InFlash (a - i.flash_base)) (find_window i.windows 0 a)) w i
+        → Fits (choose t (InRam (a - i.ram_base)) (choose (inside i.flash_base (length i.flash) a) (InFlash (a - i.flash_base)) (find_window i.windows 0 a))) w i
     by_ram true e h =
         (let b = inside_true i.ram_base i.ram_size a e in
-         omega (arith, inside_ends i.ram_base i.ram_size a w (ram_aligned i r) v m b.1))
+        omega (arith, inside_ends i.ram_base i.ram_size a w (ram_aligned i r) v m b.1))
     by_ram false e h = h
 
 -- ---- nowhere
@@ -181,10 +182,10 @@ misses_windows [] k a w h v m n = refl
 misses_windows (x ∷ xs) k a w h v m n = by_test (inside x.base x.size a) refl (misses_windows xs (suc k) a w h.2 v m (λ g. n (inr g)))
   where
     by_test : (t : Bool) → inside x.base x.size a ≡ t → find_window xs (suc k) a ≡ Nowhere
-      → choose t (InWindow k (a - x.base)) (find_window xs (suc k) a) ≡ Nowhere
+        → choose t (InWindow k (a - x.base)) (find_window xs (suc k) a) ≡ Nowhere
     by_test true e ih =
         (let b = inside_true x.base x.size a e in
-         absurd (n (inl (b.0, inside_ends x.base x.size a w (window_aligned x h.0) v m b.1))))
+        absurd (n (inl (b.0, inside_ends x.base x.size a w (window_aligned x h.0) v m b.1))))
     by_test false e ih = ih
 
 pub place-ram : (i : Image) (a : ℕ) → i.ram_base ≤ a → a < i.ram_base + i.ram_size → place i a ≡ InRam (a - i.ram_base)
@@ -204,11 +205,11 @@ pub nowhere_holds : (i : Image) (a w : ℕ) → IsAccessWidth w → place i a �
 unfolding place
 nowhere_holds i a w v e (inl h) =
     (let n = positive w v in
-     let t = inside_yes i.ram_base i.ram_size a h.0 (omega (arith, h.1)) in let f : InRam (a - i.ram_base) ≡ Nowhere = rw t at e in cc)
+    let t = inside_yes i.ram_base i.ram_size a h.0 (omega (arith, h.1)) in let f : InRam (a - i.ram_base) ≡ Nowhere = rw t at e in cc)
 nowhere_holds i a w v e (inr (inl h)) =
     (let n = positive w v in
-     let t = inside_yes i.flash_base (length i.flash) a h.0 (omega (arith, h.1)) in
-     let f = rw t at e in by_test (inside i.ram_base i.ram_size a) f)
+    let t = inside_yes i.flash_base (length i.flash) a h.0 (omega (arith, h.1)) in
+    let f = rw t at e in by_test (inside i.ram_base i.ram_size a) f)
   where
     by_test : (t : Bool) → choose t (InRam (a - i.ram_base)) (InFlash (a - i.flash_base)) ≡ Nowhere → ⊥
     by_test true g = cc
@@ -217,7 +218,7 @@ nowhere_holds i a w v e (inr (inr h)) =
     by_tests (inside i.ram_base i.ram_size a) (inside i.flash_base (length i.flash) a) e (λ g. windows_miss i.windows 0 a w (positive w v) g h)
   where
     by_tests : (t u : Bool) → choose t (InRam (a - i.ram_base)) (choose u (InFlash (a - i.flash_base)) (find_window i.windows 0 a)) ≡ Nowhere
-      → (find_window i.windows 0 a ≡ Nowhere → ⊥) → ⊥
+        → (find_window i.windows 0 a ≡ Nowhere → ⊥) → ⊥
     by_tests true u g ih = cc
     by_tests false true g ih = cc
     by_tests false false g ih = ih g
@@ -227,24 +228,24 @@ unfolding place
 holds_nowhere i a w r v m n = by_tests (inside i.ram_base i.ram_size a) (inside i.flash_base (length i.flash) a) refl refl
   where
     by_tests : (t u : Bool) → inside i.ram_base i.ram_size a ≡ t → inside i.flash_base (length i.flash) a ≡ u
-      → choose t (InRam (a - i.ram_base)) (choose u (InFlash (a - i.flash_base)) (find_window i.windows 0 a)) ≡ Nowhere
+        → choose t (InRam (a - i.ram_base)) (choose u (InFlash (a - i.flash_base)) (find_window i.windows 0 a)) ≡ Nowhere
     by_tests true u e f =
         (let b = inside_true i.ram_base i.ram_size a e in
-         absurd (n (inl (b.0, inside_ends i.ram_base i.ram_size a w (ram_aligned i r) v m b.1))))
+        absurd (n (inl (b.0, inside_ends i.ram_base i.ram_size a w (ram_aligned i r) v m b.1))))
     by_tests false true e f =
         (let b = inside_true i.flash_base (length i.flash) a f in
-         absurd (n (inr (inl (b.0, inside_ends i.flash_base (length i.flash) a w (flash_aligned i r) v m b.1)))))
+        absurd (n (inr (inl (b.0, inside_ends i.flash_base (length i.flash) a w (flash_aligned i r) v m b.1)))))
     by_tests false false e f = misses_windows i.windows 0 a w r.windows v m (λ g. n (inr (inr g)))
 
 -- ---- the search for a window
 
 pub find_window-at : (ws : List Window) (n k a : ℕ) (w : Window) → n < length ws → w ≡ get_or ws n w → inside w.base w.size a ≡ true
-  → find_window (drop n ws) k a ≡ InWindow k (a - w.base)
+    → find_window (drop n ws) k a ≡ InWindow k (a - w.base)
 unfolding find_window
 find_window-at ws n k a w l e t = rw (drop-cons ws n w l, ← e, t) refl
 
 pub find_window-next : (ws : List Window) (n k a : ℕ) (w : Window) → n < length ws → w ≡ get_or ws n w → inside w.base w.size a ≡ false
-  → find_window (drop n ws) k a ≡ find_window (drop (n + 1) ws) (k + 1) a
+    → find_window (drop n ws) k a ≡ find_window (drop (n + 1) ws) (k + 1) a
 unfolding find_window
 find_window-next ws n k a w l e t = rw (drop-cons ws n w l, ← e, t, add-one n, add-one k) refl
 
@@ -273,24 +274,24 @@ window_at (x ∷ xs) zero w h e = (let same : x ≡ w = cc in subst IsWindow sam
 window_at (x ∷ xs) (suc k) w h e = window_at xs k w h.2 e
 
 find_window-window : (ws : List Window) (first k a : ℕ) (w : Window) → AreWindows ws → slice_get ws k ≡ Some w → w.base ≤ a → a < w.base + w.size
-  → find_window ws first a ≡ InWindow (first + k) (a - w.base)
+    → find_window ws first a ≡ InWindow (first + k) (a - w.base)
 unfolding find_window
 find_window-window [] first k a w h e l g = cc
 find_window-window (x ∷ xs) first zero a w h e l g =
     (let same : x ≡ w = cc in
-     let none : first + 0 ≡ first = omega arith in
-     rw (same, inside_yes w.base w.size a l g, none) refl)
+    let none : first + 0 ≡ first = omega arith in
+    rw (same, inside_yes w.base w.size a l g, none) refl)
 find_window-window (x ∷ xs) first (suc k) a w h e l g =
     (let apart = apart_at x xs k w h.1 e in
-     let past : suc first + k ≡ first + suc k = omega arith in
-     rw (inside_no x.base x.size a (outside apart)) (find_window-window xs (suc first) k a w h.2 e l g ∙ ap (λ n. InWindow n (a - w.base)) past))
+    let past : suc first + k ≡ first + suc k = omega arith in
+    rw (inside_no x.base x.size a (outside apart)) (find_window-window xs (suc first) k a w h.2 e l g ∙ ap (λ n. InWindow n (a - w.base)) past))
   where
     outside : AreApart x.base x.size w.base w.size → (a < x.base) ⊎ (x.base + x.size ≤ a)
     outside (inl p) = inr (omega arith)
     outside (inr p) = inl (omega arith)
 
 pub place-window : (i : Image) (a k : ℕ) (w : Window) → ObeysRules i → slice_get i.windows k ≡ Some w → w.base ≤ a → a < w.base + w.size
-  → place i a ≡ InWindow k (a - w.base)
+    → place i a ≡ InWindow k (a - w.base)
 unfolding place
 place-window i a k w r e l g =
     let p = (window_at i.windows k w r.windows e).place in
@@ -310,4 +311,14 @@ pub place-nowhere : (i : Image) (a w : ℕ) → ObeysRules i → IsAccessWidth w
 place-nowhere i a w r v m = (nowhere_holds i a w v, holds_nowhere i a w r v m)
 
 pub ruleset access_rules = (place_fits)
+
 pub ruleset place_rules = (place-ram, place-flash, place-window, place-monitor)
+
+pub monitor_aligned : (i : Image) → ObeysRules i → i.monitor % 4 ≡ 0
+monitor_aligned i r = by_case r.monitor
+  where
+    by_case : IsMonitor i → i.monitor % 4 ≡ 0
+    by_case (inl e) = omega arith
+    by_case (inr m) = omega (arith, m.0)
+
+pub ruleset monitor_rules = (place-monitor, monitor_aligned)

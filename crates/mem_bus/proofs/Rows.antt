@@ -1,5 +1,5 @@
 -- What rows put into the queues of windows.
-use Rattle.std.proofs.Common.{◌≡◌, ◌<◌, ◌≤◌, ℕ, ◌+◌, ◌-◌, List, [], ◌∷◌, ◌++◌, refl, ap, sym, ◌∙◌, Bool, true, false, length, zero, suc, arith, if◌then◌else◌, map, set, get_or, append_assoc, add-one, Option, Some, None, Result, Ok, Err}
+use Rattle.std.proofs.Common.{◌≡◌, ◌<◌, ℕ, ◌+◌, List, [], ◌∷◌, ◌++◌, refl, ap, sym, ◌∙◌, Bool, true, false, length, zero, suc, arith, if◌then◌else◌, map, set, get_or, append_assoc, add-one}
 use Rattle.std.specs.Str.{bytes_eq}
 use Rattle.mem_bus.specs.declared.image.Window.{Window}
 use Rattle.mem_bus.specs.Tape.{Row, Blank, Entry, Bad, words_named}
@@ -21,7 +21,7 @@ so_far-all r (w ∷ ws) [] (suc k) h = refl
 so_far-all r (w ∷ ws) (q ∷ qs) (suc k) h = ap (λ l. (q ++ words_named w.name (r ∷ [])) ∷ l) (so_far-all r ws qs k (omega arith))
 
 so_far-suc : (r : Row) (k : ℕ) (ws : List Window) (qs : List (List ℕ)) (w : Window) → k < length ws → length qs ≡ length ws
-  → so_far r (suc k) ws qs ≡ set (so_far r k ws qs) k (get_or (so_far r k ws qs) k [] ++ words_named (get_or ws k w).name (r ∷ []))
+    → so_far r (suc k) ws qs ≡ set (so_far r k ws qs) k (get_or (so_far r k ws qs) k [] ++ words_named (get_or ws k w).name (r ∷ []))
 so_far-suc r k [] qs v h e = absurd (omega arith)
 so_far-suc r k (w ∷ ws) [] v h e = absurd (omega arith)
 so_far-suc r zero (w ∷ ws) (q ∷ qs) v h e = refl
@@ -39,8 +39,8 @@ set-same (q ∷ qs) (suc k) = ap (λ l. q ∷ l) (set-same qs k)
 
 -- the next window has the name
 pub so_far-named : (name : List ℕ) (v k : ℕ) (ws : List Window) (old qs new : List (List ℕ)) (w : Window) → k < length ws → length old ≡ length ws
-  → w ≡ get_or ws k w → bytes_eq name w.name ≡ true → qs ≡ so_far (Entry name v) k ws old → new ≡ set qs k (get_or qs k [] ++ v ∷ [])
-  → new ≡ so_far (Entry name v) (k + 1) ws old
+    → w ≡ get_or ws k w → bytes_eq name w.name ≡ true → qs ≡ so_far (Entry name v) k ws old → new ≡ set qs k (get_or qs k [] ++ v ∷ [])
+    → new ≡ so_far (Entry name v) (k + 1) ws old
 so_far-named name v k ws old qs new w h e i t s n =
     let r = Entry name v in
     let put : words_named (get_or ws k w).name (r ∷ []) ≡ v ∷ [] = ap (λ x. words_named x.name (r ∷ [])) (sym i) ∙ rw t refl in
@@ -51,8 +51,8 @@ so_far-named name v k ws old qs new w h e i t s n =
 
 -- or not
 pub so_far-other : (name : List ℕ) (v k : ℕ) (ws : List Window) (old qs : List (List ℕ)) (w : Window) → k < length ws → length old ≡ length ws
-  → w ≡ get_or ws k w → bytes_eq name w.name ≡ false → qs ≡ so_far (Entry name v) k ws old
-  → qs ≡ so_far (Entry name v) (k + 1) ws old
+    → w ≡ get_or ws k w → bytes_eq name w.name ≡ false → qs ≡ so_far (Entry name v) k ws old
+    → qs ≡ so_far (Entry name v) (k + 1) ws old
 so_far-other name v k ws old qs w h e i t s =
     let r = Entry name v in
     let none : words_named (get_or ws k w).name (r ∷ []) ≡ [] = ap (λ x. words_named x.name (r ∷ [])) (sym i) ∙ rw t refl in
@@ -82,7 +82,7 @@ words_named-cons name (Entry other v) rows = by_test (bytes_eq other name)
     by_test false = refl
 
 pub before-row : (r : Row) (rows : List Row) (ws : List Window) (qs : List (List ℕ)) → length qs ≡ length ws
-  → before qs (queues_from ws (r ∷ rows)) ≡ before (with_row r ws qs) (queues_from ws rows)
+    → before qs (queues_from ws (r ∷ rows)) ≡ before (with_row r ws qs) (queues_from ws rows)
 before-row r rows [] [] h = refl
 before-row r rows [] (q ∷ qs) h = absurd (omega arith)
 before-row r rows (w ∷ ws) [] h = refl
@@ -113,4 +113,5 @@ with_row-blank (w ∷ ws) [] h = absurd (omega arith)
 with_row-blank (w ∷ ws) (q ∷ qs) h = ap (λ l. l ∷ with_row Blank ws qs) (append_nil q) ∙ ap (λ l. q ∷ l) (with_row-blank ws qs (omega arith))
 
 pub ruleset blank_rules = (with_row-blank)
+
 pub ruleset put_rules = (so_far-named, so_far-other, so_far-all)

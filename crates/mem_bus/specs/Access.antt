@@ -1,5 +1,5 @@
 -- What the place of an access's first byte says of all its bytes.
-use Rattle.std.specs.Prelude.{◌≡◌, ℕ, suc, ◌+◌, ◌<◌, ◌≤◌, ◌⊎◌, List, [], ◌∷◌, length, slice_get, Option, Some}
+use Rattle.std.specs.Prelude.{◌≡◌, ℕ, ◌+◌, ◌≤◌, ◌⊎◌, List, [], ◌∷◌, length, slice_get, Some}
 use Rattle.mem_bus.specs.declared.image.Image.{Image}
 use Rattle.mem_bus.specs.declared.image.Window.{Window}
 use Rattle.mem_bus.specs.Places.{Place, InRam, InFlash, InWindow, Nowhere}

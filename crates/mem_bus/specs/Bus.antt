@@ -1,6 +1,6 @@
 -- What a load, a store and a fetch at a place give, and what they change. Widths are 1, 2 or 4 bytes; values are
 -- little-endian. The queues are the recorded words that each window has left, in the order of the windows.
-use Rattle.std.specs.Prelude.{ℕ, ◌-◌, List, [], ◌∷◌, Option, Some, None}
+use Rattle.std.specs.Prelude.{ℕ, List, [], ◌∷◌, Option, Some, None}
 use Rattle.std.proofs.Math.ListN.{get_or, set}
 use Rattle.words.specs.Bytes.{read, write, cut}
 use Rattle.mem_bus.specs.declared.image.Image.{Image}

@@ -1,5 +1,5 @@
 -- Lines of a tape as the code reads them, tied to the definitions of Tape.
-use Rattle.std.specs.Prelude.{ℕ, List, [], ◌∷◌, Option, Some, None, nat_eq, if◌then◌else◌}
+use Rattle.std.specs.Prelude.{ℕ, List, [], ◌∷◌, nat_eq, if◌then◌else◌}
 use Rattle.mem_bus.specs.Tape.{Row, Blank as Nothing, Entry as Word, Bad as Malformed}
 use Rattle.mem_bus.specs.declared.line.Line.{Line}
 use Rattle.mem_bus.specs.declared.line.Line.TheVariants.{Blank, Entry, Bad}

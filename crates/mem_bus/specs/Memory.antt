@@ -1,5 +1,5 @@
 -- A bus as callers see it, and what its calls do to it.
-use Rattle.std.specs.Prelude.{◌≡◌, ℕ, List, [], ◌∷◌, length, Option, Some, None, replicate}
+use Rattle.std.specs.Prelude.{◌≡◌, ℕ, List, length, Option, Some, None, replicate, ◌-◌, nat_eq, if◌then◌else◌}
 use Rattle.words.specs.Bytes.{read}
 use Rattle.mem_bus.specs.declared.image.Image.{Image}
 use Rattle.mem_bus.specs.declared.event.Loaded.{Loaded}
@@ -43,3 +43,7 @@ byte_at (InRam o) i ram = Some (read 1 o ram)
 byte_at (InFlash o) i ram = Some (read 1 o i.flash)
 byte_at (InWindow k o) i ram = None
 byte_at Nowhere i ram = None
+
+-- the number of the running compartment: the first word of the monitor's block, or 0 without a monitor
+abbrev pub compartment_of : Memory → ℕ
+compartment_of m = if nat_eq m.image.monitor 0 then 0 else read 4 (m.image.monitor - m.image.ram_base) m.ram

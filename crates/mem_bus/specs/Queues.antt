@@ -1,11 +1,11 @@
 -- The queues of a tape, and what a row puts into them.
-use Rattle.std.specs.Prelude.{◌≡◌, ℕ, map, List, [], ◌∷◌, ◌++◌, Option, Some, None, Result, Ok, Err}
+use Rattle.std.specs.Prelude.{◌≡◌, ℕ, map, List, [], ◌∷◌, ◌++◌, Some, None, Result, Ok, Err}
 use Rattle.std.proofs.Math.ListN.{set}
 use Rattle.mem_bus.specs.declared.image.Window.{Window}
 use Rattle.mem_bus.specs.declared.tape.TapeFault.{TapeFault}
 use Rattle.mem_bus.specs.declared.tape.TapeFault.TheVariants.{NoMemory}
 use Rattle.mem_bus.specs.Bus.{queue}
-use Rattle.mem_bus.specs.Tape.{Row, Entry, words_named, row_fault}
+use Rattle.mem_bus.specs.Tape.{Row, words_named, row_fault}
 
 -- the queues after a word was put last in one of them
 abbrev pub pushed : List (List ℕ) → (number word : ℕ) → List (List ℕ)

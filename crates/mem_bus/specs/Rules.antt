@@ -1,5 +1,5 @@
 -- The rules that every image obeys. Sizes are in bytes.
-use Rattle.std.specs.Prelude.{◌≡◌, ◌≢◌, ℕ, zero, suc, ◌+◌, ◌*◌, ◌%◌, ◌^◌, ◌<◌, ◌≤◌, ◌⊎◌, List, [], ◌∷◌, length, IsTrue}
+use Rattle.std.specs.Prelude.{◌≡◌, ◌≢◌, ℕ, ◌+◌, ◌%◌, ◌^◌, ◌≤◌, ◌⊎◌, List, [], ◌∷◌, length, IsTrue}
 use Rattle.names.specs.Names.{is_name}
 use Rattle.mem_bus.specs.declared.image.Image.{Image}
 use Rattle.mem_bus.specs.declared.image.Window.{Window}

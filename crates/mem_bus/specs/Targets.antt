@@ -1,5 +1,4 @@
 -- Places as the code names them.
-use Rattle.std.specs.Prelude.{ℕ}
 use Rattle.mem_bus.specs.Places.{Place, InRam, InFlash, InWindow, Nowhere as Nothing}
 use Rattle.mem_bus.specs.declared.target.Target.{Target}
 use Rattle.mem_bus.specs.declared.target.Target.TheVariants.{Ram, Flash, Window, Nowhere}

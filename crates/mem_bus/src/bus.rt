@@ -9,15 +9,14 @@ ghost use Rattle.mem_bus.specs.Memory as memory;
 ghost use Rattle.mem_bus.specs.Places as places;
 ghost use Rattle.mem_bus.specs.Rules.{ObeysRules};
 
-use mpu_model::region::Access;
-use std::alloc::{AllocError, Global};
-use std::marker::Model;
-use words::memory::{Width, read_value, write_value};
-
 use crate::event::{Loaded, Stored};
 use crate::image::Image;
 use crate::tape::Tape;
 use crate::target::{Target, find, find_access};
+use mpu_model::region::Access;
+use std::alloc::{AllocError, Global};
+use std::marker::Model;
+use words::memory::{Width, read_value, write_value};
 
 /// A machine's memories and windows: flash and RAM hold bytes, and a window gives recorded words.
 /// No call but `new` takes memory.
@@ -166,6 +165,18 @@ impl Bus {
             }
             Target::Window { .. } | Target::Nowhere => None,
         }
+    }
+
+    /// The number of the running compartment: the first word of the monitor's block, and 0 where
+    /// the image has no monitor.
+    #[tactic(auto, using(crate::proofs::Placed::monitor_rules))]
+    pub fn compartment(&self) -> u32
+        ensures { result ≡ memory.compartment_of self.now }
+    {
+        if self.image.monitor == 0 {
+            return 0;
+        }
+        self.word(self.image.monitor)
     }
 
     /// Whether memory lies at an address that takes this kind of access; flash takes no stores.

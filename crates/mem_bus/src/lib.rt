@@ -8,3 +8,5 @@ pub mod laws;
 mod line;
 pub mod tape;
 mod target;
+#[cfg(test)]
+mod tests;

@@ -8,16 +8,15 @@ ghost use Rattle.mem_bus.specs.Queues as queues;
 ghost use Rattle.mem_bus.specs.Tape as tapes;
 ghost use Rattle.mem_bus.specs.declared.tape.TapeFault.TheVariants.{NoMemory};
 
+use crate::image::Window;
+use crate::line::{Line, read_line, without_return};
 use std::alloc::{AllocError, Global};
 use std::collections::VecDeque;
 use std::marker::Model;
 use thiserror::Error;
 
-use crate::image::Window;
-use crate::line::{Line, read_line, without_return};
-
 /// The first line of a tape that fails. Lines count from 1.
-#[derive(Debug, Drop, Error)]
+#[derive(Debug, PartialEq, Eq, Drop, Error)]
 pub enum TapeFault {
     /// Memory ran out.
     #[error("out of memory")]
@@ -109,6 +108,13 @@ impl Tape {
         Ok(Tape { queues: list })
     }
 
+    /// The number of queues.
+    pub fn queue_count(&self) -> usize
+        ensures { result ≡ length self.now }
+    {
+        self.queues.len()
+    }
+
     /// Puts a word last in a queue. After an error the tape is as before.
     pub fn push(&mut self, queue: u32, word: u32) -> Result<(), AllocError>
         requires { queue < length self.old }
@@ -131,13 +137,13 @@ impl Tape {
         queue.take()
     }
 
-    #[tactic(auto, using(crate::proofs::Reading::reading_rules))]
     /// The tape of a text: one queue of words for each window, by its name. A line is blank, or a
     /// window's name and a number; a comment runs from `#` to the end of its line.
     ///
     /// # Errors
     ///
     /// The first line that is neither, or whose name no window has.
+    #[tactic(auto, using(crate::proofs::Reading::reading_rules))]
     pub fn read(alloc: Global, text: &[u8], names: &[Window]) -> Result<Tape, TapeFault>
         requires { length text.now < 2 ^ 32 - 1 }
         ensures { tapes.Reads text.now names.now result }
@@ -178,7 +184,13 @@ impl Tape {
         }
     }
 
-    fn put(&mut self, name: &[u8], word: u32, number: u32, names: &[Window]) -> Result<(), TapeFault>
+    fn put(
+        &mut self,
+        name: &[u8],
+        word: u32,
+        number: u32,
+        names: &[Window],
+    ) -> Result<(), TapeFault>
         requires { length self.old ≡ length names.now }
         ensures { queues.Puts (tapes.Entry name.now word) number names.now self.old self.new result }
     {

@@ -1,4 +1,4 @@
-use Rattle.std.proofs.Common.{◌≡◌, [], take}
+use Rattle.std.proofs.Common.{◌≡◌, take}
 use Rattle.mem_bus.specs.Queues.{all_empty}
 use Rattle.mem_bus.proofs.tape.Tape.for_windows.Given as goal
 
