@@ -1,0 +1,222 @@
+//! Reading an image file, field by field.
+
+ghost use Rattle.std.specs.Prelude.{◌≡◌, ◌+◌, ◌*◌, ◌<◌, ◌≤◌, ◌^◌, [], length, IfOk, IfErr, OnOk, Some, None, slice_range, ◌⊎◌};
+ghost use Rattle.std.specs.Result.{result_err};
+ghost use Rattle.image.specs.Faults as faults;
+ghost use Rattle.image.specs.Parts.{number, window_at, windows_from, behind_windows, spelled_image};
+ghost use Rattle.image.specs.declared.fault.ImageFault.TheVariants.{NoMemory};
+
+use crate::fault::ImageFault;
+use crate::fields::{MAGIC, VERSION, read_number, require, require_end, require_whole};
+use crate::rules;
+use listed::Listed;
+use mem_bus::image::{Image, Window};
+use std::alloc::Global;
+
+/// The memories of an image.
+#[derive(Clone, Copy)]
+struct Memories {
+    flash_base: u32,
+    flash_length: u32,
+    ram_base: u32,
+    ram_size: u32,
+}
+
+/// The places in RAM that an image names.
+#[derive(Clone, Copy)]
+struct Places {
+    monitor: u32,
+    stack_base: u32,
+    stack_size: u32,
+}
+
+#[tactic(auto, using(crate::proofs::Steps::steps), unfolding(crate::specs::Faults::start_checks, crate::specs::Faults::magic_check, crate::specs::Faults::version_check))]
+fn read_start(bytes: &[u8]) -> Result<(), ImageFault>
+    ensures { result_err result ≡ faults.first_of (faults.start_checks bytes.now) }
+{
+    require_whole(bytes, 0, 4)?;
+    if !rules::is_text(&bytes[0..4], MAGIC) {
+        return Err(ImageFault::Magic);
+    }
+    let found = read_number(bytes, 4)?;
+    if found != VERSION {
+        return Err(ImageFault::Version { found });
+    }
+    Ok(())
+}
+
+#[tactic(auto, using(crate::proofs::Steps::steps), unfolding(crate::specs::Faults::memory_checks))]
+fn read_memories(bytes: &[u8]) -> Result<Memories, ImageFault>
+    ensures faults { result_err result ≡ faults.first_of (faults.memory_checks bytes.now) }
+    ensures values { IfOk result (λ m. (m.flash_base ≡ number bytes.now 8)
+        × (m.flash_length ≡ number bytes.now 12) × (m.ram_base ≡ number bytes.now 16)
+        × (m.ram_size ≡ number bytes.now 20)) }
+    ensures most { IfOk result (λ m. m.flash_length ≤ 0x100000) }
+{
+    let flash_base = read_number(bytes, 8)?;
+    require(rules::is_flash_base(flash_base), 8)?;
+    let flash_length = read_number(bytes, 12)?;
+    require(rules::is_flash_length(flash_length), 12)?;
+    let ram_base = read_number(bytes, 16)?;
+    require(rules::is_ram_base(ram_base), 16)?;
+    let ram_size = read_number(bytes, 20)?;
+    require(rules::is_ram_size(ram_size), 20)?;
+    Ok(Memories {
+        flash_base,
+        flash_length,
+        ram_base,
+        ram_size,
+    })
+}
+
+#[tactic(auto, using(crate::proofs::Steps::steps), unfolding(crate::specs::Faults::place_checks))]
+fn read_places(bytes: &[u8], memories: &Memories) -> Result<Places, ImageFault>
+    requires base { memories.now.ram_base ≡ number bytes.now 16 }
+    requires size { memories.now.ram_size ≡ number bytes.now 20 }
+    ensures faults { result_err result ≡ faults.first_of (faults.place_checks bytes.now) }
+    ensures values { IfOk result (λ p. (p.monitor ≡ number bytes.now 24)
+        × (p.stack_base ≡ number bytes.now 28) × (p.stack_size ≡ number bytes.now 32)) }
+{
+    let (ram_base, ram_size) = (memories.ram_base, memories.ram_size);
+    let monitor = read_number(bytes, 24)?;
+    require(rules::is_monitor(monitor, ram_base, ram_size), 24)?;
+    let stack_base = read_number(bytes, 28)?;
+    let stack_size = read_number(bytes, 32)?;
+    require(rules::is_stack_size(stack_size), 32)?;
+    require(
+        rules::is_stack_base(stack_base, stack_size, ram_base, ram_size),
+        28,
+    )?;
+    Ok(Places {
+        monitor,
+        stack_base,
+        stack_size,
+    })
+}
+
+#[tactic(auto, using(crate::proofs::Steps::steps), unfolding(crate::specs::Faults::count_checks))]
+fn read_count(bytes: &[u8]) -> Result<u32, ImageFault>
+    ensures faults { result_err result ≡ faults.first_of (faults.count_checks bytes.now) }
+    ensures value { IfOk result (λ n. n ≡ number bytes.now 36) }
+    ensures most { IfOk result (λ n. n ≤ 64) }
+{
+    let count = read_number(bytes, 36)?;
+    require(count <= 64, 36)?;
+    Ok(count)
+}
+
+#[tactic(auto, using(crate::proofs::Steps::steps), unfolding(crate::specs::Faults::range_checks))]
+fn read_range(bytes: &[u8], at: u32, seen: &[Window]) -> Result<(u32, u32), ImageFault>
+    requires { at < 2 ^ 31 }
+    ensures faults { result_err result ≡ faults.first_of (faults.range_checks bytes.now at seen.now) }
+    ensures values { IfOk result (λ r. (r.0 ≡ number bytes.now at) × (r.1 ≡ number bytes.now (at + 4))) }
+{
+    let base = read_number(bytes, at)?;
+    let size = read_number(bytes, at + 4)?;
+    require(rules::is_window_size(size), at + 4)?;
+    require(rules::is_window_base(base, size, seen), at)?;
+    Ok((base, size))
+}
+
+#[tactic(auto, using(crate::proofs::Steps::steps), unfolding(crate::specs::Faults::name_checks))]
+fn read_name<'a>(bytes: &'a [u8], at: u32, seen: &[Window]) -> Result<&'a [u8], ImageFault>
+    requires { at < 2 ^ 31 }
+    ensures faults { result_err result ≡ faults.first_of (faults.name_checks bytes.now at seen.now) }
+    ensures value { IfOk result (λ name. name.now ≡ (window_at bytes.now at).name) }
+    ensures count { IfOk result (λ name. length name.now ≡ number bytes.now (at + 8)) }
+    ensures most { OnOk result (number bytes.now (at + 8) ≤ 64) }
+{
+    let length = read_number(bytes, at + 8)?;
+    require(rules::is_name_length(length), at + 8)?;
+    require_whole(bytes, at + 12, length)?;
+    let start = at as usize + 12;
+    let name = &bytes[start..start + length as usize];
+    require(rules::is_new_name(name, seen), at + 12)?;
+    Ok(name)
+}
+
+#[tactic(auto, using(crate::proofs::Steps::steps), unfolding(crate::specs::Faults::window_checks))]
+fn read_window(alloc: Global, bytes: &[u8], at: u32, seen: &[Window]) -> Result<Window, ImageFault>
+    requires { at < 2 ^ 31 }
+    ensures passed { OnOk result (faults.first_of (faults.window_checks bytes.now at seen.now) ≡ None) }
+    ensures fault { IfErr result (faults.IsFirst (faults.window_checks bytes.now at seen.now)) }
+    ensures value { IfOk result (λ w. w ≡ window_at bytes.now at) }
+    ensures count { IfOk result (λ w. length w.name ≡ number bytes.now (at + 8)) }
+    ensures most { OnOk result (number bytes.now (at + 8) ≤ 64) }
+{
+    let (base, size) = read_range(bytes, at, seen)?;
+    let name = read_name(bytes, at, seen)?.to_vec(alloc)?;
+    Ok(Window {
+        name: Listed::new(name),
+        base,
+        size,
+    })
+}
+
+fn read_windows(alloc: Global, bytes: &[u8], count: u32) -> Result<(Vec<Window>, u32), ImageFault>
+    requires { count ≤ 64 }
+    ensures passed { OnOk result (faults.first_of (faults.windows_checks bytes.now 40 [] count) ≡ None) }
+    ensures fault { IfErr result (faults.IsFirst (faults.windows_checks bytes.now 40 [] count)) }
+    ensures windows { IfOk result (λ r. r.0.items ≡ windows_from bytes.now 40 count) }
+    ensures place { IfOk result (λ r. r.1 ≡ behind_windows bytes.now 40 count) }
+    ensures most { IfOk result (λ r. r.1 ≤ 40 + 76 * 64) }
+{
+    let mut windows = Vec::new(alloc);
+    let mut at = 40;
+    for number in 0..count {
+        let window = read_window(alloc, bytes, at, windows.as_slice())?;
+        at += 12 + window.name.len() as u32;
+        windows.push(window)?;
+    }
+    Ok((windows, at))
+}
+
+#[tactic(auto, using(crate::proofs::Steps::steps), unfolding(crate::specs::Faults::flash_checks))]
+fn read_flash(alloc: Global, bytes: &[u8], at: u32, length: u32) -> Result<Vec<u8>, ImageFault>
+    requires place { at < 2 ^ 31 }
+    requires count { length ≡ number bytes.now 12 }
+    requires most { length ≤ 0x100000 }
+    ensures passed { OnOk result (faults.first_of (faults.flash_checks bytes.now at) ≡ None) }
+    ensures fault { IfErr result (faults.IsFirst (faults.flash_checks bytes.now at)) }
+    ensures value { IfOk result (λ flash. flash.items ≡ slice_range bytes.now at (at + number bytes.now 12)) }
+{
+    require_whole(bytes, at, length)?;
+    require_end(bytes, at + length)?;
+    let start = at as usize;
+    Ok(bytes[start..start + length as usize].to_vec(alloc)?)
+}
+
+#[tactic(auto, using(crate::proofs::Steps::steps), unfolding(crate::specs::Faults::first_fault, crate::specs::Parts::spelled_image))]
+fn read_image(alloc: Global, bytes: &[u8]) -> Result<Image, ImageFault>
+    ensures passed { OnOk result (faults.first_fault bytes.now ≡ None) }
+    ensures fault { IfErr result (λ e. (e ≡ NoMemory) ⊎ (faults.first_fault bytes.now ≡ Some e)) }
+    ensures value { IfOk result (λ i. i ≡ spelled_image bytes.now) }
+{
+    read_start(bytes)?;
+    let memories = read_memories(bytes)?;
+    let places = read_places(bytes, &memories)?;
+    let count = read_count(bytes)?;
+    let (windows, flash_at) = read_windows(alloc, bytes, count)?;
+    let flash = read_flash(alloc, bytes, flash_at, memories.flash_length)?;
+    Ok(Image {
+        flash_base: memories.flash_base,
+        flash: Listed::new(flash),
+        ram_base: memories.ram_base,
+        ram_size: memories.ram_size,
+        monitor: places.monitor,
+        stack_base: places.stack_base,
+        stack_size: places.stack_size,
+        windows: Listed::new(windows),
+    })
+}
+
+/// Reads an image file: the image whose text the bytes are.
+///
+/// # Errors
+///
+/// The first fault in order of the bytes, or want of memory.
+pub fn read(alloc: Global, bytes: &[u8]) -> Result<Image, ImageFault>
+    ensures { faults.Reads bytes.now result }
+{
+    read_image(alloc, bytes)
+}
