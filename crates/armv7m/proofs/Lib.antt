@@ -19,3 +19,9 @@ pub mod ShapeActs
 pub mod Shape
 pub mod ShapeSteps
 pub mod CodeBytes
+pub mod Loaded
+pub mod Lists
+pub mod Fetches
+pub mod Ends
+pub mod Machines
+pub mod MachineRuns

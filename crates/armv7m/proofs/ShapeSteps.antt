@@ -42,7 +42,7 @@ use Rattle.mpu_model.specs.Registers.{blank}
 use Rattle.armv7m.specs.Run.{start}
 use Rattle.armv7m.specs.Step.{step, turn, fetch, Fetched, Took, NotAllowed, NotMapped, first_half, second_half, by_size, performed, fetched, running}
 use Rattle.armv7m.specs.Shape.{EachWord, CoreFits, StatusFits, StateFits, StepsKeepShape, RunsKeepShape}
-use Rattle.armv7m.proofs.ShapeActs.{ActFits, MaybeFits, act_fits, if_below, set_words, at_fits, stack_fits, with_register_fits}
+use Rattle.armv7m.proofs.ShapeActs.{ActFits, MaybeFits, act_fits, if_below, set_words, at_fits, stack_fits, with_register_fits, odd_before}
 use Rattle.armv7m.proofs.Shape.{choose_below, choose_core, read_system_fits, word_fits, put_length, with_core_fits, with_ram_fits, write_system_fits}
 
 -- ---- values
@@ -134,6 +134,7 @@ module _ (i : Image) (count : ℕ) where
         other_aligned = choose_aligned c.on_psp (frame_at c.sp) c.other_sp a h.other_aligned;
         lr_word = choose_below c.on_psp 0xFFFFFFFD 0xFFFFFFF9 (2 ^ 32) (omega arith) (omega arith);
         pc_word = vector_fits n;
+        pc_even = omega arith;
       }
 
   entered_fits : (b : Bool) (n ret : ℕ) (t : FaultStatus) (s : State) → StateFits i count s → StatusFits t → StateFits i count (entered b i n ret t s).to
@@ -188,6 +189,7 @@ module _ (i : Image) (count : ℕ) where
         other_aligned = choose_aligned psp c.sp c.other_sp h.sp_aligned h.other_aligned;
         lr_word = w 5;
         pc_word = omega arith;
+        pc_even = omega arith;
       }
 
   leaves_fits : (o t psp : Bool) (a : ℕ) (ws : List ℕ) (s : State) → StateFits i count s → a % 4 ≡ 0 → EachWord ws → StateFits i count (leaves o t psp a ws s).to
@@ -303,6 +305,7 @@ module _ (i : Image) (count : ℕ) where
       other_aligned = h.sp_aligned;
       lr_word = h.lr_word;
       pc_word = h.pc_word;
+      pc_even = h.pc_even;
     }
 
     with_stack_fits : (b : Bool) (c : CoreRegisters) → CoreFits c → CoreFits (with_stack b c)
@@ -326,6 +329,7 @@ module _ (i : Image) (count : ℕ) where
       other_aligned = omega arith;
       lr_word = h.lr_word;
       pc_word = h.pc_word;
+      pc_even = h.pc_even;
     }
 
     if_state : (b : Bool) (x y : State) → StateFits i count x → StateFits i count y → StateFits i count (if b then x else y)
@@ -341,14 +345,14 @@ module _ (i : Image) (count : ℕ) where
 
     -- branches and exception returns
 
-    jumped_fits : (b : Bool) (v : ℕ) (s : State) → StateFits i count s → v < 2 ^ 32 → StateFits i count (jumped b v s).to
-    jumped_fits true v s h f = with_core_fits i count s (record s.core { pc = v - 1 }) h (at_fits s.core (v - 1) h.core (omega arith))
-    jumped_fits false v s h f = ended_fits _ s h
+    jumped_fits : (b : Bool) (v : ℕ) (s : State) → StateFits i count s → v < 2 ^ 32 → (b ≡ true → (v - 1) % 2 ≡ 0) → StateFits i count (jumped b v s).to
+    jumped_fits true v s h f e = with_core_fits i count s (record s.core { pc = v - 1 }) h (at_fits s.core (v - 1) h.core (omega arith, e refl))
+    jumped_fits false v s h f e = ended_fits _ s h
 
     exchanged_fits : (p m : Bool) (j : Judge) (v : ℕ) (s : State) → StateFits i count s → v < 2 ^ 32 → StateFits i count (exchanged p m j i v s).to
     exchanged_fits true m j v s h f = returns_fits j true s h
     exchanged_fits false true j v s h f = returns_fits j false s h
-    exchanged_fits false false j v s h f = jumped_fits (nat_eq (v % 2) 1) v s h f
+    exchanged_fits false false j v s h f = jumped_fits (nat_eq (v % 2) 1) v s h f (odd_before v)
 
     perform_fits : (j : Judge) (a : Act) (s : State) → StateFits i count s → ActFits a → StateFits i count (perform j i a s).to
     unfolding perform
@@ -367,22 +371,22 @@ module _ (i : Image) (count : ℕ) where
 
     -- ---- the fetch
 
-    abbrev HalfFits : (pc : ℕ) → Option ℕ → Type 0
+    abbrev pub HalfFits : (pc : ℕ) → Option ℕ → Type 0
     HalfFits pc None = Unit {0}
     HalfFits pc (Some h) = (h < 2 ^ 16) × (pc < 2 ^ 31)
 
     abbrev FetchedFits : (pc : ℕ) → Fetched → Type 0
-    FetchedFits pc (Took h k n) = (h < 2 ^ 16) × (k < 2 ^ 16) × (pc < 2 ^ 31) × (n ≤ 4)
+    FetchedFits pc (Took h k n) = (h < 2 ^ 16) × (k < 2 ^ 16) × (pc < 2 ^ 31) × (n ≤ 4) × (n % 2 ≡ 0)
     FetchedFits pc NotAllowed = Unit {0}
     FetchedFits pc NotMapped = Unit {0}
 
     second_fits : (al : Bool) (o : Option ℕ) (h pc q : ℕ) → h < 2 ^ 16 → pc < 2 ^ 31 → HalfFits q o → FetchedFits pc (second_half al o h)
     second_fits false o h pc q a b f = tt
     second_fits true None h pc q a b f = tt
-    second_fits true (Some k) h pc q a b f = (a, f.0, b, omega arith)
+    second_fits true (Some k) h pc q a b f = (a, f.0, b, omega arith, refl)
 
     by_size_fits : (b al : Bool) (o : Option ℕ) (h pc q : ℕ) → h < 2 ^ 16 → pc < 2 ^ 31 → HalfFits q o → FetchedFits pc (by_size b al o h)
-    by_size_fits true al o h pc q a b f = (a, omega arith, b, omega arith)
+    by_size_fits true al o h pc q a b f = (a, omega arith, b, omega arith, refl)
     by_size_fits false al o h pc q a b f = second_fits al o h pc q a b f
 
     first_fits : (al : Bool) (o : Option ℕ) (al2 : Bool) (o2 : Option ℕ) (pc q : ℕ) → HalfFits pc o → HalfFits q o2 → FetchedFits pc (first_half al o al2 o2)
@@ -390,13 +394,13 @@ module _ (i : Image) (count : ℕ) where
     first_fits true None al2 o2 pc q f g = tt
     first_fits true (Some h) al2 o2 pc q f g = by_size_fits (nat_lt h 0xE800) al2 o2 h pc q f.0 f.1 g
 
-    abbrev PlaceFits : (pc : ℕ) → Place → Type 0
+    abbrev pub PlaceFits : (pc : ℕ) → Place → Type 0
     PlaceFits pc (InRam o) = pc < 2 ^ 31
     PlaceFits pc (InFlash o) = pc < 2 ^ 31
     PlaceFits pc (InWindow k o) = Unit {0}
     PlaceFits pc Nowhere = Unit {0}
 
-    fetch_at_fits : (p : Place) (pc : ℕ) (ram : List ℕ) → PlaceFits pc p → HalfFits pc (fetch_at p i ram)
+    pub fetch_at_fits : (p : Place) (pc : ℕ) (ram : List ℕ) → PlaceFits pc p → HalfFits pc (fetch_at p i ram)
     fetch_at_fits (InRam o) pc ram f = let h = read_fits 2 o ram in (h, f)
     fetch_at_fits (InFlash o) pc ram f = let h = read_fits 2 o i.flash in (h, f)
     fetch_at_fits (InWindow k o) pc ram f = tt
@@ -411,7 +415,7 @@ module _ (i : Image) (count : ℕ) where
     window_place [] k pc = tt
     window_place (w ∷ ws) k pc = choose_place (inside w.base w.size pc) (InWindow k (pc - w.base)) (find_window ws (suc k) pc) pc (λ e. tt) (window_place ws (suc k) pc)
 
-    place_fits : (pc : ℕ) → ObeysRules i → PlaceFits pc (place i pc)
+    pub place_fits : (pc : ℕ) → ObeysRules i → PlaceFits pc (place i pc)
     unfolding place
     place_fits pc r =
         choose_place (inside i.ram_base i.ram_size pc) (InRam (pc - i.ram_base)) _ pc
@@ -428,12 +432,12 @@ module _ (i : Image) (count : ℕ) where
 
     -- ---- the step
 
-    performed_fits : (o : Option Instr) (h k : ℕ) (j : Judge) (next : ℕ) (s : State) → IfSome o (Encodes (read_code h k)) → StateFits i count s → next + 1 < 2 ^ 32 → StateFits i count (performed o j i next s).to
-    performed_fits None h k j next s e f n = ended_fits _ s f
-    performed_fits (Some x) h k j next s e f n = perform_fits j (act x next s.core) s f (act_fits x next s.core e.in_table f.core n)
+    performed_fits : (o : Option Instr) (h k : ℕ) (j : Judge) (next : ℕ) (s : State) → IfSome o (Encodes (read_code h k)) → StateFits i count s → next + 1 < 2 ^ 32 → next % 2 ≡ 0 → StateFits i count (performed o j i next s).to
+    performed_fits None h k j next s e f n v = ended_fits _ s f
+    performed_fits (Some x) h k j next s e f n v = perform_fits j (act x next s.core) s f (act_fits x next s.core e.in_table f.core n v)
 
     fetched_fits : (t : Fetched) (j : Judge) (s : State) → FetchedFits s.core.pc t → StateFits i count s → StateFits i count (fetched t j i s).to
-    fetched_fits (Took h k n) j s f g = performed_fits (decoded h k) h k j (s.core.pc + n) s (Encodes-decoded h k f.0 f.1) g (omega (arith, f.2, f.3))
+    fetched_fits (Took h k n) j s f g = performed_fits (decoded h k) h k j (s.core.pc + n) s (Encodes-decoded h k f.0 f.1) g (omega (arith, f.2, f.3)) (omega (arith, f.4, g.core.pc_even))
     fetched_fits NotAllowed j s f g = fetch_fault_fits j s g
     fetched_fits NotMapped j s f g = ended_fits _ s g
 
@@ -478,6 +482,7 @@ start_fits i queues fill q =
         other_aligned = refl;
         lr_word = omega arith;
         pc_word = v;
+        pc_even = omega arith;
       };
       status = record { shcsr_word = omega arith; cfsr_word = omega arith; mmfar_word = omega arith };
       unit = record {

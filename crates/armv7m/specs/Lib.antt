@@ -22,3 +22,9 @@ pub mod Running
 pub mod Templates
 pub mod Shape
 pub mod CodeBytes
+pub mod Outcomes
+pub mod Parts
+pub mod Accesses
+pub mod Several
+pub mod Fetches
+pub mod Machine

@@ -1,5 +1,5 @@
--- What every step keeps of a state: how many registers, regions and bytes there are, that numbers are words, and that
--- stack pointers are multiples of 4.
+-- What every step keeps of a state: how many registers, regions and bytes there are, that numbers are words, that
+-- stack pointers are multiples of 4, and that the program counter is even.
 use Rattle.std.specs.Prelude.{◌≡◌, ℕ, ◌%◌, ◌^◌, ◌<◌, ◌≤◌, List, length}
 use Rattle.std.proofs.Math.ListN.{get_or}
 use Rattle.mpu_model.specs.Registers.{Registers, blank}
@@ -25,6 +25,7 @@ pub record CoreFits (c : CoreRegisters) : Type 0 where
   pub other_aligned : c.other_sp % 4 ≡ 0
   pub lr_word : c.lr < 2 ^ 32
   pub pc_word : c.pc < 2 ^ 32
+  pub pc_even : c.pc % 2 ≡ 0
 
 pub record StatusFits (t : FaultStatus) : Type 0 where
   pub shcsr_word : t.shcsr < 2 ^ 32

@@ -8,6 +8,7 @@ ghost use Rattle.armv7m.specs.State.{State, Judge, calm};
 ghost use Rattle.armv7m.specs.Step.{turn, step, event};
 ghost use Rattle.armv7m.specs.Run.{after, events_after};
 ghost use Rattle.armv7m.specs.Code.{next, told};
+ghost use Rattle.armv7m.specs.Machine.{StepsEndOrGoOn};
 ghost use Rattle.armv7m.specs.AccessLaw.{AllowedStepsAreFree};
 ghost use Rattle.armv7m.specs.Confinement.{StepsAreConfined, EventsAreListed, FetchesArePermittedAlways, FlashIsNeverWritten};
 
@@ -20,6 +21,12 @@ pub fn ended_machines()
         s.ending ≡ Some e → run (next j i) n s ≡ s }
     ensures events { (j : Judge) (i : Image) (n : ℕ) (s : State) (e : End) →
         s.ending ≡ Some e → events (next j i) (told j i) n s ≡ [] }
+{}
+
+/// A step that ends the machine does nothing else: the state is the same but for the end, which is the machine's own,
+/// and the step has no event, store or load.
+pub fn steps_end_or_go_on()
+    ensures { StepsEndOrGoOn }
 {}
 
 /// The machine after `m + n` steps is the one `n` steps after the one after `m`, and the events of these steps are

@@ -1,8 +1,20 @@
 //! The machine: a profile of Armv7-M, one instruction a step.
 #![tactic(auto)]
 
+mod accesses;
+mod branches;
+mod data;
+mod exceptions;
+mod fetching;
 pub mod laws;
+pub mod machine;
+mod memory_instructions;
+mod parts;
+mod register_instructions;
+mod registers;
 pub mod running;
+mod several;
+mod special_registers;
 pub mod state;
 
 /// CCR, the address of the configuration and control register (Armv7-M ARM, B3.2.8).
@@ -13,3 +25,6 @@ pub const SHCSR: u32 = 0xE000ED24;
 pub const CFSR: u32 = 0xE000ED28;
 /// MMFAR, the address of the MemManage fault address register (B3.2.17).
 pub const MMFAR: u32 = 0xE000ED34;
+
+#[cfg(test)]
+mod tests;

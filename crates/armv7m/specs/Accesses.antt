@@ -1,0 +1,45 @@
+-- Verdicts on accesses as the code has them, and loads as an instruction names them.
+use Rattle.std.specs.Prelude.{◌≡◌, ℕ, ◌%◌, Bool, true, false, nat_eq, if◌then◌else◌}
+use Rattle.std.proofs.Common.{to_z, of_z, w8, w16, w32}
+use Rattle.armv7m.specs.declared.accesses.Verdict.{Verdict as Found}
+use Rattle.armv7m.specs.declared.accesses.Verdict.TheVariants.{ToBus as FoundBus, ToSystem as FoundSystem, Refused as FoundRefused, Bad as FoundBad}
+use Rattle.armv7m.specs.declared.state.CoreRegisters.{CoreRegisters}
+use Rattle.mem_bus.specs.declared.image.Image.{Image}
+use Rattle.mem_bus.specs.Bus.{load_at, store_at}
+use Rattle.mem_bus.specs.Places.{place}
+use Rattle.armv7m.specs.Perform.{loaded, stored}
+use Rattle.armv7m.specs.State.{State, Turn, at, low_at}
+use Rattle.armv7m.specs.Act.{Act, Loads}
+use Rattle.armv7m.specs.Tests.{Verdict, ToBus, ToSystem, Refused, Bad}
+
+abbrev pub verdict_of : Found → Verdict
+verdict_of FoundBus = ToBus
+verdict_of FoundSystem = ToSystem
+verdict_of FoundRefused = Refused
+verdict_of (FoundBad r) = Bad r
+
+-- what such a verdict says of the access
+abbrev pub IsFit : Found → (width address : ℕ) → Type 0
+IsFit FoundBus w a = a % w ≡ 0
+IsFit FoundSystem w a = (w ≡ 4) × (a % w ≡ 0)
+IsFit FoundRefused w a = Unit {0}
+IsFit (FoundBad r) w a = Unit {0}
+
+-- a loaded value as a register holds it: zeros before it, or its sign (ZeroExtend, SignExtend)
+abbrev pub extended : (signed : Bool) → (width value : ℕ) → ℕ
+extended false w v = v
+extended true w v =
+    if nat_eq w 1 then of_z w32 (to_z w8 v)
+    else if nat_eq w 2 then of_z w32 (to_z w16 v)
+    else v
+
+abbrev pub load_extended : (register : ℕ) → (signed : Bool) → (width address : ℕ) → (next : ℕ) → CoreRegisters → Act
+load_extended t signed w a next c = Loads w a (λ v. low_at c next t (extended signed w v))
+
+-- the load and the store themselves, once the tests have led to the bus
+abbrev pub loaded_extended : Image → (register : ℕ) → (signed : Bool) → (width address : ℕ) → (next : ℕ) → State → Turn
+loaded_extended i t signed w a next s =
+    loaded (load_at (place i a) i s.ram s.queues w) i w a s (λ v. low_at s.core next t (extended signed w v))
+
+abbrev pub stored_at : Image → (width address value : ℕ) → (next : ℕ) → State → Turn
+stored_at i w a v next s = stored (store_at (place i a)) i w a v s (at s.core next)

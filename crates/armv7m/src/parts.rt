@@ -1,0 +1,62 @@
+//! The parts of a running machine, and how a run ends.
+
+ghost use Rattle.std.specs.Prelude.{◌≡◌};
+ghost use Rattle.armv7m.specs.Parts.{state_of, left, left_by};
+ghost use Rattle.armv7m.specs.State as state;
+
+use crate::state::{CoreRegisters, End, FaultStatus, ProtectionState, StopReason};
+use mem_bus::bus::Bus;
+use mem_bus::event::Event;
+use mpu_model::region::Access;
+
+/// What a machine is made of. Each function that acts on it answers the event that it makes, if it makes one.
+#[derive(Drop)]
+pub struct Parts {
+    /// Memory and windows.
+    pub bus: Bus,
+    /// The core registers.
+    pub core: CoreRegisters,
+    /// What decides which accesses are allowed.
+    pub protection: ProtectionState,
+    /// The system registers that tell of faults.
+    pub status: FaultStatus,
+    /// How the machine ended, if it has.
+    pub ending: Option<End>,
+}
+
+impl Parts {
+    /// The machine ends, and nothing else changes.
+    pub fn end(&mut self, end: End) -> Option<Event>
+        ensures { left self.new result ≡ left_by self.old.bus.image (state.ends end (state_of self.old)) }
+    {
+        self.ending = Some(end);
+        None
+    }
+
+    /// The machine stops at this instruction.
+    pub fn stop(&mut self, reason: StopReason) -> Option<Event>
+        ensures { left self.new result ≡ left_by self.old.bus.image (state.stops reason (state_of self.old)) }
+    {
+        self.end(End::Stop {
+            reason,
+            pc: self.core.pc,
+        })
+    }
+}
+
+impl ProtectionState {
+    /// Whether instructions are unprivileged (B1.3.1).
+    pub fn is_unprivileged(&self) -> bool
+        ensures { result ≡ state.is_unprivileged self.now }
+    {
+        !self.handler && self.unprivileged
+    }
+
+    /// Whether the protection unit permits such an access of the byte at an address.
+    #[tactic(auto, unfolding(crate::specs::State::by_mpu))]
+    pub fn permits(&self, kind: Access, address: u32) -> bool
+        ensures { result ≡ state.by_mpu self.now kind address }
+    {
+        self.mpu.allows(address, 1, kind, !self.is_unprivileged())
+    }
+}

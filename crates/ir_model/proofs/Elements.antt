@@ -1,0 +1,71 @@
+-- In a firmware within the limits every array has an element.
+use Rattle.std.proofs.Common.{◌≡◌, ℕ, zero, suc, ◌+◌, ◌<◌, List, [], ◌∷◌, ◌++◌, map, take, Option, None, subst, arith}
+use Rattle.ir_model.specs.declared.firmware.StructDecl.{StructDecl}
+use Rattle.ir_model.specs.declared.token.Keyword.TheVariants.{Struct}
+use Rattle.ir_model.specs.declared.token.Mark.TheVariants.{OpenBrace, CloseBrace, Comma}
+use Rattle.ir_model.specs.declared.token.TextLimit.{TextLimit}
+use Rattle.ir_model.specs.declared.token.TextLimit.TheVariants as limit
+use Rattle.ir_model.specs.Types.{PlainType, U8, U16, U32, Pointer, Array, Named, Callee}
+use Rattle.ir_model.specs.Plain.{PlainSlot, PlainStruct, PlainFirmware, struct_of}
+use Rattle.ir_model.specs.declared.token.Excess.{Excess}
+use Rattle.ir_model.specs.Tokens.{Key, Sign}
+use Rattle.ir_model.specs.Lines.{Line, marked, plain, name, counted, length_excess, type_tokens, slot_tokens, more_slots, slots_tokens, struct_lines, periph_lines, global_lines, file_lines, lines_of}
+use Rattle.ir_model.specs.Canonical.{Each, PassesNothing, IsWithinLimits}
+use Rattle.ir_model.specs.Extents.{HasElements, EachHasElements, AllHaveElements}
+
+each_left : {A : Type 0} (P : A → Type 0) (xs ys : List A) → Each P (xs ++ ys) → Each P xs
+each_left P [] ys h = tt
+each_left P (x ∷ xs) ys h = (h.0, each_left P xs ys h.1)
+
+each_right : {A : Type 0} (P : A → Type 0) (xs ys : List A) → Each P (xs ++ ys) → Each P ys
+each_right P [] ys h = h
+each_right P (x ∷ xs) ys h = each_right P xs ys h.1
+
+length_passes : (n : ℕ) → length_excess n ≡ None → 0 < n
+length_passes zero h = cc
+length_passes (suc n) h = omega arith
+
+pub type_elements : (x : Option Excess) (d : ℕ) (t : PlainType) → Each PassesNothing (type_tokens x d t) → HasElements t
+type_elements x d U8 h = tt
+type_elements x d U16 h = tt
+type_elements x d U32 h = tt
+type_elements x d (Pointer t) h = tt
+type_elements x d (Array n t) h = (length_passes n h.1.0, type_elements None (d + 1) t h.1.1.1)
+type_elements x d (Named n) h = tt
+type_elements x d (Callee a r) h = tt
+
+more_elements : (l : TextLimit) (k most : ℕ) (ss : List PlainSlot) → Each PassesNothing (more_slots l k most ss) → EachHasElements ss
+more_elements l k most [] h = tt
+more_elements l k most (s ∷ ss) h =
+    let slot : Line = plain (Sign Comma) ∷ slot_tokens (counted k most l None) s in
+    let first = each_left PassesNothing slot (more_slots l (k + 1) most ss) h in
+    (type_elements None 0 s.ty first.1.1.1, more_elements l (k + 1) most ss (each_right PassesNothing slot (more_slots l (k + 1) most ss) h))
+
+slots_elements : (l : TextLimit) (most : ℕ) (ss : List PlainSlot) → Each PassesNothing (slots_tokens l most ss) → EachHasElements ss
+slots_elements l most [] h = tt
+slots_elements l most (s ∷ ss) h =
+    let first = each_left PassesNothing (slot_tokens None s) (more_slots l 1 most ss) h in
+    (type_elements None 0 s.ty first.1.1, more_elements l 1 most ss (each_right PassesNothing (slot_tokens None s) (more_slots l 1 most ss) h))
+
+structs_elements : (k : ℕ) (ss : List PlainStruct) → Each (Each PassesNothing) (struct_lines k ss) → AllHaveElements ss
+structs_elements k [] h = tt
+structs_elements k (s ∷ ss) h =
+    let front : Line = marked (Key Struct) (counted k 256 limit.Struct None) ∷ name s.name ∷ plain (Sign OpenBrace) ∷ slots_tokens limit.Field 64 s.fields in
+    let line = each_left PassesNothing front (plain (Sign CloseBrace) ∷ []) h.0 in
+    (slots_elements limit.Field 64 s.fields line.1.1.1, structs_elements (k + 1) ss h.1)
+
+firmware_elements : (w : PlainFirmware) → IsWithinLimits w → AllHaveElements w.structs
+unfolding lines_of
+firmware_elements w h =
+    structs_elements 0 w.structs
+    (each_left (Each PassesNothing) (struct_lines 0 w.structs) (periph_lines 0 w.periphs)
+    (each_left (Each PassesNothing) (struct_lines 0 w.structs ++ periph_lines 0 w.periphs) (global_lines 0 w.globals)
+    (each_left (Each PassesNothing) (struct_lines 0 w.structs ++ periph_lines 0 w.periphs ++ global_lines 0 w.globals) (file_lines 0 0 w.files) h.tokens)))
+
+elements_before : (xs : List StructDecl) (n : ℕ) → AllHaveElements (map struct_of xs) → AllHaveElements (map struct_of (take n xs))
+elements_before xs zero h = tt
+elements_before [] (suc n) h = tt
+elements_before (x ∷ xs) (suc n) h = (h.0, elements_before xs n h.1)
+
+pub first_elements : (xs : List StructDecl) (w : PlainFirmware) (n : ℕ) → w.structs ≡ map struct_of xs → IsWithinLimits w → AllHaveElements (map struct_of (take n xs))
+first_elements xs w n e h = elements_before xs n (subst AllHaveElements e (firmware_elements w h))

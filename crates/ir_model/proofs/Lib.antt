@@ -1,0 +1,15 @@
+pub mod Written
+pub mod Control
+pub mod Lending
+pub mod Calls
+pub mod Table
+pub mod Small
+pub mod Refused
+pub mod Spelling
+pub mod SameTypes
+pub mod CloneLists
+pub mod Shortest
+pub mod Layouts
+pub mod Shapes
+pub mod Counting
+pub mod Elements

@@ -1,0 +1,17 @@
+pub mod Types
+pub mod Plain
+pub mod Layout
+pub mod Resolved
+pub mod Resolve
+pub mod State
+pub mod Objects
+pub mod Step
+pub mod Extents
+pub mod Tokens
+pub mod Lines
+pub mod Canonical
+pub mod Frames
+pub mod Rules
+pub mod Typing
+pub mod Texts
+pub mod Shortest

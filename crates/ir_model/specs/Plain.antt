@@ -1,0 +1,90 @@
+-- A firmware as plain data. Names are lists of bytes; what holds no type is as the code has it.
+use Rattle.std.specs.Prelude.{ℕ, List, ◌++◌, map, flat_map, Bool}
+use Rattle.ir_model.specs.declared.firmware.Slot.{Slot}
+use Rattle.ir_model.specs.declared.firmware.StructDecl.{StructDecl}
+use Rattle.ir_model.specs.declared.firmware.Peripheral.{Peripheral}
+use Rattle.ir_model.specs.declared.firmware.Global.{Global}
+use Rattle.ir_model.specs.declared.firmware.Cell.{Cell}
+use Rattle.ir_model.specs.declared.firmware.Block.{Block}
+use Rattle.ir_model.specs.declared.firmware.Func.{Func}
+use Rattle.ir_model.specs.declared.firmware.FileDecl.{FileDecl}
+use Rattle.ir_model.specs.declared.firmware.Firmware.{Firmware}
+use Rattle.ir_model.specs.Types.{PlainType, PlainResult, type_of, result_of}
+
+pub record PlainSlot : Type 0 where
+  pub name : List ℕ
+  pub ty : PlainType
+
+pub record PlainStruct : Type 0 where
+  pub name : List ℕ
+  pub fields : List PlainSlot
+
+pub record PlainGlobal : Type 0 where
+  pub name : List ℕ
+  pub constant : Bool
+  pub ty : PlainType
+  pub init : List Cell
+
+pub record PlainFunc : Type 0 where
+  pub name : List ℕ
+  pub params : List PlainSlot
+  pub outcome : PlainResult
+  pub locals : List PlainSlot
+  pub regs : List PlainSlot
+  pub blocks : List Block
+
+pub record PlainFile : Type 0 where
+  pub name : List ℕ
+  pub funcs : List PlainFunc
+
+pub record PlainFirmware : Type 0 where
+  pub structs : List PlainStruct
+  pub periphs : List Peripheral
+  pub globals : List PlainGlobal
+  pub files : List PlainFile
+
+abbrev pub slot_of : Slot → PlainSlot
+slot_of s = record { name = s.name; ty = type_of s.ty }
+
+abbrev pub struct_of : StructDecl → PlainStruct
+struct_of s = record { name = s.name; fields = map slot_of s.fields }
+
+abbrev pub global_of : Global → PlainGlobal
+global_of g = record { name = g.name; constant = g.constant; ty = type_of g.ty; init = g.init }
+
+abbrev pub func_of : Func → PlainFunc
+func_of f =
+    record {
+      name = f.name;
+      params = map slot_of f.params;
+      outcome = result_of f.«result»;
+      locals = map slot_of f.locals;
+      regs = map slot_of f.regs;
+      blocks = f.blocks;
+    }
+
+abbrev pub file_of : FileDecl → PlainFile
+file_of f = record { name = f.name; funcs = map func_of f.funcs }
+
+abbrev pub firmware_of : Firmware → PlainFirmware
+firmware_of w =
+    record {
+      structs = map struct_of w.structs;
+      periphs = w.periphs;
+      globals = map global_of w.globals;
+      files = map file_of w.files;
+    }
+
+abbrev pub names_of : List PlainSlot → List (List ℕ)
+names_of ss = map (λ (s : PlainSlot). s.name) ss
+
+abbrev pub types_of : List PlainSlot → List PlainType
+types_of ss = map (λ (s : PlainSlot). s.ty) ss
+
+-- the functions of all files in order, by which they have their numbers
+abbrev pub funcs_of : PlainFirmware → List PlainFunc
+funcs_of w = flat_map (λ (f : PlainFile). f.funcs) w.files
+
+-- the registers of a function, its parameters first
+abbrev pub regs_of : PlainFunc → List PlainSlot
+regs_of f = f.params ++ f.regs

@@ -1,0 +1,55 @@
+//! What can be wrong with a firmware, and where.
+
+use crate::name::Name;
+
+/// A check that fails.
+#[derive(Drop, Debug)]
+pub enum CheckKind {
+    /// A name that nothing of the kind asked for has.
+    Unknown(Name),
+    /// A name that something before it has.
+    Twice(Name),
+    /// An instruction, a block's end or a slot whose types do not fit.
+    IllTyped,
+    /// There is no function `main` without parameters and result.
+    NoMain,
+    /// A window that is no aligned power of two in the peripherals' addresses.
+    BadWindow,
+    /// A window that overlaps an earlier one.
+    WindowOverlap,
+    /// A first value that does not fit its cell, or a cell too many.
+    BadInit,
+    /// A type of more than 65,536 bytes.
+    ObjectTooLarge,
+    /// A frame of more than 992 bytes.
+    FrameTooLarge {
+        /// How many bytes it would have.
+        bytes: u32,
+    },
+}
+
+/// Where a check fails.
+#[derive(Drop, Debug)]
+pub enum Place {
+    /// In a struct.
+    Struct(Name),
+    /// In a peripheral.
+    Periph(Name),
+    /// In a global.
+    Global(Name),
+    /// In a file.
+    File(Name),
+    /// In a function, before its instructions.
+    Func(Name),
+    /// At an instruction, or at a block's end, which has the number behind the instructions.
+    Inst {
+        /// The function.
+        func: Name,
+        /// The block's label.
+        block: Name,
+        /// The instruction's number in the block, from 0.
+        inst: u32,
+    },
+    /// In no single part.
+    Whole,
+}

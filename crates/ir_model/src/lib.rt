@@ -1,0 +1,17 @@
+//! The firmware language: its parts as types, and its definitions.
+#![tactic(auto)]
+
+pub mod check;
+pub mod checked;
+pub mod clones;
+pub mod copies;
+pub mod equal;
+pub mod extent;
+pub mod firmware;
+pub mod layout;
+pub mod name;
+pub mod object;
+#[cfg(test)]
+mod tests;
+pub mod token;
+pub mod types;

@@ -1,0 +1,41 @@
+//! The types of the firmware language.
+
+use crate::name::Name;
+
+/// A type.
+#[cycle(types)]
+#[derive(Drop)]
+pub enum Ty {
+    /// An integer of 8 bits.
+    U8,
+    /// An integer of 16 bits.
+    U16,
+    /// An integer of 32 bits.
+    U32,
+    /// A pointer.
+    Ptr(Box<Ty>),
+    /// So many elements.
+    Array(u32, Box<Ty>),
+    /// A struct, by its name.
+    Named(Name),
+    /// A function that can be called by its address.
+    Callee(Signature),
+}
+
+/// What a function takes and gives.
+#[cycle(types)]
+#[derive(Drop)]
+pub struct Signature {
+    /// The parameters' types.
+    pub params: Tys,
+    /// The result's type, where there is one.
+    pub result: Option<Box<Ty>>,
+}
+
+/// Types one after another.
+#[cycle(types)]
+#[derive(Drop)]
+pub struct Tys {
+    /// The types in order.
+    pub items: Vec<Ty>,
+}

@@ -1,0 +1,6 @@
+use Rattle.std.proofs.Common.{◌≡◌, ◌++◌, take, flat_map}
+use Rattle.ir_printer.specs.Pieces.{inst_line_text}
+use Rattle.ir_printer.proofs.functions.put_insts.Given as goal
+
+abbrev pub invariant-loop-inst : goal.invariant-loop-inst
+invariant-loop-inst l = l.out.items ≡ l.initial.out.items ++ flat_map inst_line_text (take l.inst-index l.insts)

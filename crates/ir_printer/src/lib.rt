@@ -1,0 +1,12 @@
+//! The canonical text of a firmware.
+#![tactic(auto)]
+
+mod declarations;
+mod functions;
+mod insts;
+pub mod laws;
+pub mod print;
+#[cfg(test)]
+mod tests;
+mod tokens;
+mod types;

@@ -1,0 +1,34 @@
+use Rattle.std.proofs.Common.{◌≡◌, ◌<◌, ◌+◌, [], ◌∷◌, ◌++◌, map, List, length, arith, false, ◌∙◌}
+use Rattle.std.proofs.lemmas.Grind.{common_steps}
+use Rattle.ir_model.specs.declared.token.Mark.TheVariants as mark
+use Rattle.ir_model.specs.Plain.{slot_of}
+use Rattle.ir_reader.specs.Found.{Found, finds}
+use Rattle.ir_reader.specs.Machine as expected
+use Rattle.ir_reader.specs.Machine.{Symbol, fault}
+use Rattle.ir_reader.specs.Reading.{mark_first}
+use Rattle.ir_reader.specs.Scan.{placed}
+use Rattle.ir_reader.specs.Spelling.{Sign, separated, spell_slot}
+use Rattle.ir_reader.proofs.Ends.{params_end}
+use Rattle.ir_reader.proofs.Kept.{counted_none}
+use Rattle.ir_reader.proofs.Separated.{read_more, read_next, read_closed}
+use Rattle.ir_reader.proofs.slots.params.Goals as goal
+
+pub loop-behind-preserved : goal.loop-behind-preserved
+loop-behind-preserved c =
+    let pushed : c.push-in-Some-behind_mark.new.self.items ≡ c.loop-behind.params.items ++ c.in_ok-next.next ∷ [] = grind (arith, common_steps) in
+    let comma : finds (placed c.loop-behind.rest.now) ≡ Sign mark.Comma ∷ finds (placed c.in-Some-behind_mark.behind.now) = grind (arith, common_steps) in
+    let below : length c.loop-behind.params.items < 4 = grind (arith, common_steps, counted_none) in
+    record {
+      spelled = rw pushed (read_more spell_slot slot_of c.loop-behind.params.items c.in_ok-next.next _ _ _ _ c.loop-behind.invariant.some c.loop-behind.invariant.spelled comma (c.in_ok-next.ensures.read.spelled));
+      passed = λ st. grind (arith, common_steps);
+      some = grind (arith, common_steps);
+      limit = grind (arith, common_steps);
+    }
+
+pub returns-clause-read : goal.returns-clause-read
+returns-clause-read c =
+    let none : mark_first mark.Comma (placed c.loop-behind.rest.now) ≡ false = grind (arith, common_steps) in
+    record {
+      spelled = read_closed _ _ _ _ (Sign mark.Close ∷ []) c.loop-behind.invariant.spelled c.in_ok-rest.ensures.spelled;
+      passed = λ st. c.loop-behind.invariant.passed st ∙ (params_end (length c.loop-behind.params.items) st (placed c.loop-behind.rest.now) none ∙ c.in_ok-rest.ensures.passed (expected.Gives 0 ∷ expected.Mk mark.OpenBrace ∷ expected.Locals 0 (length c.loop-behind.params.items) ∷ st));
+    }

@@ -1,0 +1,9 @@
+pub mod Words
+pub mod Found
+pub mod Scan
+pub mod Machine
+pub mod Spelling
+pub mod Reading
+pub mod Lines
+pub mod Parts
+pub mod Refusals

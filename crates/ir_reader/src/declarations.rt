@@ -1,0 +1,196 @@
+//! Structs, peripherals and globals at the front of a text.
+
+ghost use Rattle.std.specs.Prelude.{◌≡◌, ◌<◌, ◌≤◌, ◌+◌, [], ◌∷◌, ◌++◌, map, flat_map, length, OnOk, IfOk, None};
+ghost use Rattle.ir_model.specs.Canonical.{Each};
+ghost use Rattle.ir_model.specs.Plain.{struct_of, global_of};
+ghost use Rattle.ir_model.specs.declared.token.Keyword.TheVariants as key;
+ghost use Rattle.ir_model.specs.declared.token.Mark.TheVariants as mark;
+ghost use Rattle.ir_reader.specs.Machine as Expected;
+ghost use Rattle.ir_reader.specs.Reading.{Reads, ReadsBehind, Starts, HasFields};
+ghost use Rattle.ir_reader.specs.Scan.{placed};
+ghost use Rattle.ir_reader.specs.Spelling as spelling;
+
+use crate::error::ReadError;
+use crate::lexer::lex;
+use crate::limits::{counted, keep, number_excess};
+use crate::slots::{fields, slot};
+use crate::terminals::{behind_mark, behind_word, global_word, mark, name, number, syntax};
+use crate::token::Token;
+use ir_model::firmware::{Cell, Global as GlobalDecl, Peripheral, Slot, StructDecl};
+use ir_model::token::{Keyword, Mark, TextLimit};
+use listed::Listed;
+use std::alloc::Global;
+
+/// A struct behind the word `struct`, and the text behind it.
+fn struct_behind(alloc: Global, text: &[u8]) -> Result<(StructDecl, &[u8]), ReadError>
+    ensures some { IfOk result (λ x. 0 < length x.0.fields) }
+    ensures read { ReadsBehind (spelling.Key key.Struct ∷ []) (λ x. struct_of x.0) spelling.spell_struct Expected.struct_rest [] (placed text.now) (λ x. placed x.1.now) result }
+{
+    let (name, rest) = name(alloc, text)?;
+    let rest = mark(Mark::OpenBrace, rest)?;
+    let (fields, rest) = fields(alloc, rest)?;
+    Ok((
+        StructDecl {
+            name,
+            fields: Listed::new(fields),
+        },
+        rest,
+    ))
+}
+
+/// All structs, and the text behind them.
+#[tactic(auto, using(crate::proofs::Ends::structs_end, crate::proofs::Kept::counted_none, crate::proofs::Separated::each_push))]
+pub fn structs(alloc: Global, text: &[u8]) -> Result<(Vec<StructDecl>, &[u8]), ReadError>
+    ensures fields { IfOk result (λ x. HasFields (map struct_of x.0.items)) }
+    ensures read { Reads (λ x. map struct_of x.0.items) spelling.spell_structs (Expected.Structs 0 ∷ []) (Expected.Periphs 0 ∷ []) (placed text.now) (λ x. placed x.1.now) result }
+{
+    let mut structs = Vec::new(alloc);
+    let mut rest = text;
+    while let Some((left, behind)) = behind_word(Keyword::Struct, rest) {
+        keep(counted(structs.len(), 256, TextLimit::Struct), left)?;
+        let (next, behind) = struct_behind(alloc, behind)?;
+        structs.push(next)?;
+        rest = behind;
+    }
+    Ok((structs, rest))
+}
+
+/// A peripheral behind the word `periph`, and the text behind it.
+fn periph_behind(alloc: Global, text: &[u8]) -> Result<(Peripheral, &[u8]), ReadError>
+    ensures { ReadsBehind (spelling.Key key.Periph ∷ []) (λ x. x.0) spelling.spell_periph Expected.periph_rest [] (placed text.now) (λ x. placed x.1.now) result }
+{
+    let (name, rest) = name(alloc, text)?;
+    let (base, rest) = number(rest)?;
+    let (size, rest) = number(rest)?;
+    Ok((Peripheral { name, base, size }, rest))
+}
+
+/// All peripherals, and the text behind them.
+#[tactic(auto, using(crate::proofs::Ends::periphs_end, crate::proofs::Kept::counted_none))]
+pub fn periphs(alloc: Global, text: &[u8]) -> Result<(Vec<Peripheral>, &[u8]), ReadError>
+    ensures { Reads (λ x. x.0.items) spelling.spell_periphs (Expected.Periphs 0 ∷ []) (Expected.Globals 0 ∷ []) (placed text.now) (λ x. placed x.1.now) result }
+{
+    let mut periphs = Vec::new(alloc);
+    let mut rest = text;
+    while let Some((left, behind)) = behind_word(Keyword::Periph, rest) {
+        keep(counted(periphs.len(), 64, TextLimit::Periph), left)?;
+        let (next, behind) = periph_behind(alloc, behind)?;
+        periphs.push(next)?;
+        rest = behind;
+    }
+    Ok((periphs, rest))
+}
+
+/// A cell behind so many others, and the text behind it.
+#[tactic(auto, using(crate::proofs::Kept::number_fits, crate::proofs::Kept::cell_counted, crate::proofs::Kept::counted_none))]
+fn cell(alloc: Global, before: usize, text: &[u8]) -> Result<(Cell, &[u8]), ReadError>
+    ensures limit { OnOk result (before < 65536) }
+    ensures read { Reads (λ x. x.0) spelling.spell_cell (Expected.CellAt before ∷ []) [] (placed text.now) (λ x. placed x.1.now) result }
+{
+    let (token, left, rest) = lex(text);
+    match token {
+        Token::Number(number) => {
+            keep(
+                number_excess(number, counted(before, 65536, TextLimit::Cell)),
+                left,
+            )?;
+            Ok((Cell::Word(number as u32), rest))
+        }
+        Token::Key(Keyword::Fn) => {
+            keep(counted(before, 65536, TextLimit::Cell), left)?;
+            let (function, rest) = name(alloc, rest)?;
+            Ok((Cell::Function(function), rest))
+        }
+        Token::Key(Keyword::Addr) => {
+            keep(counted(before, 65536, TextLimit::Cell), left)?;
+            let (object, rest) = name(alloc, rest)?;
+            Ok((Cell::Address(object), rest))
+        }
+        _ => Err(syntax(left)),
+    }
+}
+
+/// The first cells of a global and the closing brace, and the text behind it.
+#[tactic(auto, using(crate::proofs::Ends::cells_end))]
+fn cells(alloc: Global, text: &[u8]) -> Result<(Vec<Cell>, &[u8]), ReadError>
+    ensures some { IfOk result (λ x. 0 < length x.0.items) }
+    ensures read { Reads (λ x. x.0.items) spelling.spell_cells (Expected.CellAt 0 ∷ Expected.MoreCells 1 ∷ []) [] (placed text.now) (λ x. placed x.1.now) result }
+{
+    let mut cells = Vec::new(alloc);
+    let (first, mut rest) = cell(alloc, 0, text)?;
+    cells.push(first)?;
+    while let Some(behind) = behind_mark(Mark::Comma, rest) {
+        let (next, behind) = cell(alloc, cells.len(), behind)?;
+        cells.push(next)?;
+        rest = behind;
+    }
+    let rest = mark(Mark::CloseBrace, rest)?;
+    Ok((cells, rest))
+}
+
+/// The first cells of a global, if the text says them, and the text behind it.
+#[tactic(auto, using(crate::proofs::Ends::init_ends, crate::proofs::Separated::spell_some_init))]
+fn init(alloc: Global, before: usize, text: &[u8]) -> Result<(Vec<Cell>, &[u8]), ReadError>
+    ensures { Reads (λ x. x.0.items) spelling.spell_init (Expected.Init before ∷ []) (Expected.Globals before ∷ []) (placed text.now) (λ x. placed x.1.now) result }
+{
+    let Some(rest) = behind_mark(Mark::Equal, text) else {
+        return Ok((Vec::new(alloc), text));
+    };
+    let rest = mark(Mark::OpenBrace, rest)?;
+    cells(alloc, rest)
+}
+
+/// Whether a global behind so many others is constant, up to its name, if one is there.
+#[tactic(auto, using(crate::proofs::Ends::globals_end, crate::proofs::Kept::counted_none))]
+fn constant(before: usize, text: &[u8]) -> Result<Option<(bool, &[u8])>, ReadError>
+    ensures { Starts before (placed text.now) placed result }
+{
+    if let Some((left, behind)) = behind_word(Keyword::Const, text) {
+        keep(counted(before, 1024, TextLimit::Global), left)?;
+        let rest = global_word(behind)?;
+        return Ok(Some((true, rest)));
+    }
+    if let Some((left, behind)) = behind_word(Keyword::Global, text) {
+        keep(counted(before, 1024, TextLimit::Global), left)?;
+        return Ok(Some((false, behind)));
+    }
+    Ok(None)
+}
+
+/// A global behind its first words, behind so many others, and the text behind it.
+fn global_behind(
+    alloc: Global,
+    constant: bool,
+    before: usize,
+    text: &[u8],
+) -> Result<(GlobalDecl, &[u8]), ReadError>
+    requires { before < 1024 }
+    ensures { ReadsBehind (spelling.spell_constant constant) (λ x. global_of x.0) spelling.spell_global (Expected.global_rest before) (Expected.Globals (before + 1) ∷ []) (placed text.now) (λ x. placed x.1.now) result }
+{
+    let (Slot { name, ty }, rest) = slot(alloc, None, text)?;
+    let (init, rest) = init(alloc, before + 1, rest)?;
+    let init = Listed::new(init);
+    Ok((
+        GlobalDecl {
+            name,
+            constant,
+            ty,
+            init,
+        },
+        rest,
+    ))
+}
+
+/// All globals, and the text behind them.
+pub fn globals(alloc: Global, text: &[u8]) -> Result<(Vec<GlobalDecl>, &[u8]), ReadError>
+    ensures { Reads (λ x. map global_of x.0.items) spelling.spell_globals (Expected.Globals 0 ∷ []) (Expected.Files 0 0 ∷ []) (placed text.now) (λ x. placed x.1.now) result }
+{
+    let mut globals = Vec::new(alloc);
+    let mut rest = text;
+    while let Some((constant, behind)) = constant(globals.len(), rest)? {
+        let (next, behind) = global_behind(alloc, constant, globals.len(), behind)?;
+        globals.push(next)?;
+        rest = behind;
+    }
+    Ok((globals, rest))
+}

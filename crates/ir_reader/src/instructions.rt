@@ -1,0 +1,251 @@
+//! Instructions and the ends of blocks at the front of a text.
+
+ghost use Rattle.std.specs.Prelude.{◌≡◌, ◌<◌, ◌≤◌, ◌+◌, [], ◌∷◌, ◌++◌, length, OnOk, IfOk, None, ℕ};
+ghost use Rattle.ir_reader.specs.Machine as Expected;
+ghost use Rattle.ir_reader.specs.Reading.{Reads, ReadsBehind, ReadsAt, BehindRet};
+ghost use Rattle.ir_reader.specs.Lines.{ReadsLine, ReadsValue, IsBelow};
+ghost use Rattle.ir_model.specs.declared.token.Keyword.TheVariants as key;
+ghost use Rattle.ir_reader.specs.Scan.{placed};
+ghost use Rattle.ir_reader.specs.Found.{colon_first};
+ghost use Rattle.ir_reader.specs.Spelling as spelling;
+
+use crate::error::ReadError;
+use crate::lexer::lex;
+use crate::limits::{counted, keep, number_excess, or_else, word_excess};
+use crate::slots::args;
+use crate::terminals::{mark, name, syntax};
+use crate::token::Token;
+use ir_model::firmware::{Inst, Term};
+use ir_model::name::Name;
+use ir_model::token::{Keyword, Mark, TextLimit};
+use listed::Listed;
+use std::alloc::Global;
+
+/// An instruction or the end of a block.
+#[derive(Drop)]
+pub enum Step {
+    /// An instruction.
+    Inst(Inst),
+    /// The end of a block.
+    Term(Term),
+}
+
+/// Two names with a comma between them, and the text behind them.
+fn two_names(alloc: Global, text: &[u8]) -> Result<((Name, Name), &[u8]), ReadError>
+    ensures { Reads (λ x. x.0) (λ p. spelling.spell_two p.0 p.1) Expected.two_words [] (placed text.now) (λ x. placed x.1.now) result }
+{
+    let (a, rest) = name(alloc, text)?;
+    let rest = mark(Mark::Comma, rest)?;
+    let (b, rest) = name(alloc, rest)?;
+    Ok(((a, b), rest))
+}
+
+/// A function or a register, and the arguments of its call, and the text behind them.
+fn called(alloc: Global, text: &[u8]) -> Result<((Name, Listed<Name>), &[u8]), ReadError>
+    ensures { Reads (λ x. x.0) (λ p. spelling.spell_called p.0 p.1) Expected.call_rest [] (placed text.now) (λ x. placed x.1.now) result }
+{
+    let (func, rest) = name(alloc, text)?;
+    let rest = mark(Mark::Open, rest)?;
+    let (args, rest) = args(alloc, rest)?;
+    Ok(((func, Listed::new(args)), rest))
+}
+
+/// What a register gets by a reserved word, which was read, and the text behind it.
+fn value_of_word(
+    alloc: Global,
+    to: Name,
+    word: Keyword,
+    left: usize,
+    text: &[u8],
+) -> Result<(Inst, &[u8]), ReadError>
+    ensures { ReadsValue to word left (placed text.now) placed result }
+{
+    match word {
+        Keyword::Addr => {
+            let (of, rest) = name(alloc, text)?;
+            Ok((Inst::Addr { to, of }, rest))
+        }
+        Keyword::Faddr => {
+            let (of, rest) = name(alloc, text)?;
+            Ok((Inst::FAddr { to, of }, rest))
+        }
+        Keyword::Elem => {
+            let ((base, index), rest) = two_names(alloc, text)?;
+            Ok((Inst::Elem { to, base, index }, rest))
+        }
+        Keyword::Field => {
+            let ((base, field), rest) = two_names(alloc, text)?;
+            Ok((Inst::Field { to, base, field }, rest))
+        }
+        Keyword::Load => {
+            let (from, rest) = name(alloc, text)?;
+            Ok((Inst::Load { to, from }, rest))
+        }
+        Keyword::Call => {
+            let ((func, args), rest) = called(alloc, text)?;
+            Ok((
+                Inst::Call {
+                    to: Some(to),
+                    func,
+                    args,
+                },
+                rest,
+            ))
+        }
+        Keyword::Icall => {
+            let ((func, args), rest) = called(alloc, text)?;
+            Ok((
+                Inst::ICall {
+                    to: Some(to),
+                    func,
+                    args,
+                },
+                rest,
+            ))
+        }
+        _ => Err(syntax(left)),
+    }
+}
+
+/// What a register gets, behind the register and `=`, and the text behind it.
+#[tactic(auto, using(crate::proofs::Kept::number_fits, crate::proofs::Kept::name_of_short))]
+fn value(alloc: Global, to: Name, text: &[u8]) -> Result<(Inst, &[u8]), ReadError>
+    ensures { ReadsBehind (spelling.spell_assigned to) (λ x. x.0) spelling.spell_inst (Expected.Value ∷ []) [] (placed text.now) (λ x. placed x.1.now) result }
+{
+    let (token, left, rest) = lex(text);
+    match token {
+        Token::Number(number) => {
+            keep(number_excess(number, None), left)?;
+            Ok((
+                Inst::Const {
+                    to,
+                    value: number as u32,
+                },
+                rest,
+            ))
+        }
+        Token::Name(word) => {
+            keep(word_excess(word), left)?;
+            let from = Name::of(alloc, word)?;
+            Ok((Inst::Move { to, from }, rest))
+        }
+        Token::Operation(op) => {
+            let ((a, b), rest) = two_names(alloc, rest)?;
+            Ok((Inst::Bin { op, to, a, b }, rest))
+        }
+        Token::Comparison(op) => {
+            let ((a, b), rest) = two_names(alloc, rest)?;
+            Ok((Inst::Cmp { op, to, a, b }, rest))
+        }
+        Token::Key(word) => value_of_word(alloc, to, word, left, rest),
+        _ => Err(syntax(left)),
+    }
+}
+
+/// Whether a text begins with a colon.
+fn begins_colon(text: &[u8]) -> bool
+    ensures { result ≡ colon_first (placed text.now) }
+{
+    let (token, _, _) = lex(text);
+    matches!(token, Token::Mark(Mark::Colon))
+}
+
+/// A word that is no label, how many bytes begin with it, and the text behind it, where one is there.
+fn register_word(text: &[u8]) -> Option<(&[u8], usize, &[u8])>
+    ensures { BehindRet (placed text.now) placed result }
+{
+    let (token, left, rest) = lex(text);
+    match token {
+        Token::Name(word) if !begins_colon(rest) => Some((word, left, rest)),
+        _ => None,
+    }
+}
+
+/// The register behind `ret`, where there is one, and the text behind it.
+#[tactic(auto, using(crate::proofs::Ends::ret_ends, crate::proofs::Kept::name_of_short))]
+fn register(alloc: Global, text: &[u8]) -> Result<(Option<Name>, &[u8]), ReadError>
+    ensures { ReadsAt (λ x. x.0) spelling.spell_register (λ k n. Expected.AfterRet k n ∷ []) (λ k n. Expected.Blocks k n ∷ []) (placed text.now) (λ x. placed x.1.now) result }
+{
+    let Some((word, left, rest)) = register_word(text) else {
+        return Ok((None, text));
+    };
+    keep(word_excess(word), left)?;
+    let register = Name::of(alloc, word)?;
+    Ok((Some(register), rest))
+}
+
+/// The end of a block behind its reserved word, and the text behind it.
+fn branch(alloc: Global, text: &[u8]) -> Result<(Term, &[u8]), ReadError>
+    ensures { ReadsBehind (spelling.Key key.Branch ∷ []) (λ x. x.0) spelling.spell_term Expected.three_words [] (placed text.now) (λ x. placed x.1.now) result }
+{
+    let (on, rest) = name(alloc, text)?;
+    let (yes, rest) = name(alloc, rest)?;
+    let (no, rest) = name(alloc, rest)?;
+    Ok((Term::Branch { on, yes, no }, rest))
+}
+
+/// An instruction behind so many others or the end of a block, and the text behind it.
+#[tactic(auto, using(crate::proofs::Kept::name_of_word, crate::proofs::Kept::first_none, crate::proofs::Kept::counted_none))]
+pub fn line(alloc: Global, before: usize, text: &[u8]) -> Result<(Step, &[u8]), ReadError>
+    ensures limit { IfOk result (λ x. IsBelow before x.0) }
+    ensures read { ReadsLine before (placed text.now) placed result }
+{
+    let (token, left, rest) = lex(text);
+    match token {
+        Token::Name(word) => {
+            keep(
+                or_else(
+                    counted(before, 16384, TextLimit::Instruction),
+                    word_excess(word),
+                ),
+                left,
+            )?;
+            let to = Name::of(alloc, word)?;
+            let rest = mark(Mark::Equal, rest)?;
+            let (inst, rest) = value(alloc, to, rest)?;
+            Ok((Step::Inst(inst), rest))
+        }
+        Token::Key(Keyword::Store) => {
+            keep(counted(before, 16384, TextLimit::Instruction), left)?;
+            let ((to, from), rest) = two_names(alloc, rest)?;
+            Ok((Step::Inst(Inst::Store { to, from }), rest))
+        }
+        Token::Key(Keyword::Call) => {
+            keep(counted(before, 16384, TextLimit::Instruction), left)?;
+            let ((func, args), rest) = called(alloc, rest)?;
+            Ok((
+                Step::Inst(Inst::Call {
+                    to: None,
+                    func,
+                    args,
+                }),
+                rest,
+            ))
+        }
+        Token::Key(Keyword::Icall) => {
+            keep(counted(before, 16384, TextLimit::Instruction), left)?;
+            let ((func, args), rest) = called(alloc, rest)?;
+            Ok((
+                Step::Inst(Inst::ICall {
+                    to: None,
+                    func,
+                    args,
+                }),
+                rest,
+            ))
+        }
+        Token::Key(Keyword::Jump) => {
+            let (label, rest) = name(alloc, rest)?;
+            Ok((Step::Term(Term::Jump(label)), rest))
+        }
+        Token::Key(Keyword::Branch) => {
+            let (term, rest) = branch(alloc, rest)?;
+            Ok((Step::Term(term), rest))
+        }
+        Token::Key(Keyword::Ret) => {
+            let (register, rest) = register(alloc, rest)?;
+            Ok((Step::Term(Term::Ret(register)), rest))
+        }
+        _ => Err(syntax(left)),
+    }
+}

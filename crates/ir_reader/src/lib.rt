@@ -1,0 +1,20 @@
+//! Firmwares from their texts.
+#![tactic(auto)]
+
+mod declarations;
+mod error;
+mod fault;
+mod functions;
+mod instructions;
+mod lexer;
+mod limits;
+mod position;
+mod reader;
+mod reserved;
+mod slots;
+mod terminals;
+mod token;
+mod types;
+
+pub use fault::TextFault;
+pub use reader::read;

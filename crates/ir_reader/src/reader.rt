@@ -1,0 +1,152 @@
+//! Firmwares from texts.
+
+ghost use Rattle.std.specs.Prelude.{◌≡◌, [], ◌∷◌, IfOk};
+ghost use Rattle.ir_model.specs.Plain.{firmware_of, PlainFirmware};
+ghost use Rattle.ir_reader.specs.Machine as Expected;
+ghost use Rattle.ir_reader.specs.Parts.{AllHaveBlocks};
+ghost use Rattle.ir_reader.specs.Reading.{Reads, HasFields};
+ghost use Rattle.ir_reader.specs.Scan.{placed};
+ghost use Rattle.ir_reader.specs.Spelling as spelling;
+ghost use Rattle.std.specs.Prelude.{◌≤◌, length, OnOk, IfErr, IsUtf8};
+ghost use Rattle.ir_model.specs.Texts.{IsText};
+ghost use Rattle.ir_reader.specs.Refusals.{IsPlacedFault, IsNotUtf8, Refuses, IsAccepted};
+
+use crate::declarations::{globals, periphs, structs};
+use crate::error::{Fault, FaultKind, ReadError};
+use crate::fault::TextFault;
+use crate::functions::files;
+use crate::position::position;
+use ir_model::firmware::Firmware;
+use ir_model::token::Excess;
+use listed::Listed;
+use std::alloc::Global;
+
+/// The firmware of a text, or its first fault by the bytes that are left there.
+fn firmware(alloc: Global, text: &[u8]) -> Result<Firmware, ReadError>
+    ensures fields { IfOk result (λ w. HasFields (firmware_of w).structs) }
+    ensures blocks { IfOk result (λ w. AllHaveBlocks (firmware_of w).files) }
+    ensures read { Reads (λ w. firmware_of w) spelling.spell_firmware (Expected.Structs 0 ∷ []) [] (placed text.now) (λ w. []) result }
+{
+    let (structs, rest) = structs(alloc, text)?;
+    let (periphs, rest) = periphs(alloc, rest)?;
+    let (globals, rest) = globals(alloc, rest)?;
+    let files = files(alloc, rest)?;
+    Ok(Firmware {
+        structs: Listed::new(structs),
+        periphs: Listed::new(periphs),
+        globals: Listed::new(globals),
+        files: Listed::new(files),
+    })
+}
+
+/// A fault at its place.
+fn placed_fault(text: &[u8], fault: Fault) -> TextFault
+    requires within { fault.left ≤ length text.now }
+    requires short { length text.now ≤ 4194304 }
+    ensures { IsPlacedFault text.now fault result }
+{
+    let pos = position(text, text.len() - fault.left);
+    match fault.kind {
+        FaultKind::Syntax => TextFault::Syntax { pos },
+        FaultKind::Exceeds(Excess::TooWide) => TextFault::NumberTooWide { pos },
+        FaultKind::Exceeds(Excess::Passes(which)) => TextFault::Limit { which, pos },
+    }
+}
+
+/// The bytes as UTF-8, or the first that are not.
+fn utf8(text: &[u8]) -> Result<(), TextFault>
+    requires { length text.now ≤ 4194304 }
+    ensures ok { OnOk result (IsUtf8 text.now) }
+    ensures err { IfErr result (IsNotUtf8 text.now) }
+{
+    match str::from_utf8(text) {
+        Ok(_) => Ok(()),
+        Err(error) => Err(TextFault::Utf8 {
+            at: error.valid_up_to() as u32,
+        }),
+    }
+}
+
+/// The firmware of a text in UTF-8, or a fault.
+fn read_utf8(alloc: Global, text: &[u8]) -> Result<Firmware, TextFault>
+    requires short { length text.now ≤ 4194304 }
+    requires utf8 { IsUtf8 text.now }
+    ensures found { IfOk result (λ w. IsText (firmware_of w) text.now) }
+    ensures refused { IfErr result (Refuses text.now) }
+{
+    match firmware(alloc, text) {
+        Ok(firmware) => Ok(firmware),
+        Err(ReadError::Memory) => Err(TextFault::NoMemory),
+        Err(ReadError::Fault(fault)) => Err(placed_fault(text, fault)),
+    }
+}
+
+/// The firmware of a text, or the first fault of the text.
+#[tactic(auto, using(crate::proofs::Texts::accepted))]
+pub fn read(alloc: Global, text: &[u8]) -> Result<Firmware, TextFault>
+    requires { length text.now ≤ 4194304 }
+    // What is read is what the text says.
+    ensures found { IfOk result (λ w. IsText (firmware_of w) text.now) }
+    // A text is read, unless memory runs out.
+    ensures only { (w : PlainFirmware) → IsText w text.now → IsAccepted result }
+    // Else it is named what is wrong.
+    ensures refused { IfErr result (Refuses text.now) }
+{
+    utf8(text)?;
+    read_utf8(alloc, text)
+}
+
+#[cfg(test)]
+mod tests {
+    use super::*;
+    use std::test::Fail;
+
+    const BLINK: &[u8] =
+        b"# blinks\nstruct pair{lo:u16,hi:[0x4]*fn(u32)->u8}periph led 0x40000000 -16\nconst global g:u32={1,fn main,addr led}\nfile a{func main(){local l:u8 reg r:u32 top: r=1 store r,r ret next: jump top}}";
+
+    fn place(fault: TextFault) -> (u32, u32, u32) {
+        match fault {
+            TextFault::Utf8 { at } => (0, at, 0),
+            TextFault::Syntax { pos } => (1, pos.line, pos.col),
+            TextFault::NumberTooWide { pos } => (2, pos.line, pos.col),
+            TextFault::Limit { pos, .. } => (3, pos.line, pos.col),
+            TextFault::NoMemory => (4, 0, 0),
+        }
+    }
+
+    fn outcome(alloc: Global, text: &[u8]) -> (u32, u32, u32)
+        requires { length text.now ≤ 4194304 }
+    {
+        match read(alloc, text) {
+            Ok(_) => (9, 0, 0),
+            Err(fault) => place(fault),
+        }
+    }
+
+    #[test]
+    fn reads_texts(rt: HostRuntime) -> Result<(), Fail> {
+        assert!(rt; BLINK.len() <= 4194304);
+        assert_eq!(rt; outcome(rt.alloc(), BLINK), (9, 0, 0));
+        let table: [(&[u8], (u32, u32, u32)); 13] = [
+            (b"", (9, 0, 0)),
+            (b"# no end of line", (9, 0, 0)),
+            (b"\xFF", (0, 0, 0)),
+            (b"struct s { }", (1, 1, 12)),
+            (b"periph p 1 -2147483649", (2, 1, 12)),
+            (b"periph p 1\n 12ab", (1, 2, 2)),
+            (b"global g : [0] u8", (3, 1, 13)),
+            (b"global g : ********u8", (3, 1, 20)),
+            (b"global g : fn ( ) -> -> u8", (1, 1, 22)),
+            (b"file f { func g ( ) { x : ret x : ret } }", (9, 0, 0)),
+            (b"file f { func g ( ) { x : ret x x : ret } }", (9, 0, 0)),
+            (b"file f { func g ( ) { x : ret 5 } }", (1, 1, 31)),
+            (b"file f {", (1, 1, 9)),
+        ];
+        for (text, wanted) in table {
+            if text.len() <= 4194304 {
+                assert_eq!(rt; outcome(rt.alloc(), text), wanted, "at {text:?}");
+            }
+        }
+        Ok(())
+    }
+}

@@ -1,0 +1,286 @@
+//! The printed lines of events and of the ends of runs, in a buffer of fixed room.
+#![tactic(auto)]
+
+ghost use Rattle.std.specs.Prelude.{◌≡◌, ◌<◌, ◌≤◌, ◌+◌, ◌++◌, ◌∷◌, [], length, false};
+ghost use Rattle.std.specs.Fmt.{decimal, digit_glyph};
+ghost use Rattle.lines.specs.Lines as lines;
+
+use armv7m::state::{End, StopReason};
+use arrayvec::ArrayVec;
+use mem_bus::event::Event;
+use mem_bus::image::Window;
+use std::marker::Model;
+
+/// The room for a line, in bytes. That of an event has at most 104: ten digits of the compartment, seven bytes of the
+/// direction, 64 of the name, and 23 of the offset, the width, the value and what stands between them.
+const ROOM: usize = 112;
+
+/// A printed line: its bytes, the line feed among them. It takes no memory.
+#[derive(Drop)]
+pub struct Line {
+    bytes: ArrayVec<u8, ROOM>,
+}
+
+impl Model for Line {
+    ghost use Rattle.std.specs.Prelude.{List, ℕ};
+
+    ghost Value = { List ℕ };
+
+    ghost view = { λ l. l.bytes.items };
+}
+
+/// A lower-case hexadecimal digit.
+fn digit(value: u8) -> u8
+    requires { value < 16 }
+    ensures { result ≡ digit_glyph false value }
+{
+    if value < 10 {
+        b'0' + value
+    } else {
+        b'a' - 10 + value
+    }
+}
+
+/// How a line names the direction of an access.
+fn direction_text(write: bool) -> &'static [u8]
+    ensures text { result.now ≡ lines.direction write }
+    ensures short { length result.now ≤ 7 }
+{
+    if write { b" write " } else { b" read " }
+}
+
+/// The name of the window of this number.
+fn name_of(windows: &[Window], number: u32) -> &[u8]
+    requires { number < length windows.now }
+    ensures { result.now ≡ lines.name_of windows.now number }
+{
+    windows[number as usize].name.as_slice()
+}
+
+/// What a stopped machine's line says of the reason.
+fn reason_text(reason: StopReason) -> &'static [u8]
+    ensures text { result.now ≡ lines.reason reason }
+    ensures short { length result.now ≤ 12 }
+{
+    match reason {
+        StopReason::Unaligned => b"unaligned",
+        StopReason::Bus => b"bus",
+        StopReason::MemDisabled => b"mem-disabled",
+        StopReason::Stacking => b"stacking",
+        StopReason::Unstacking => b"unstacking",
+        StopReason::Handler => b"handler",
+        StopReason::Usage => b"usage",
+        StopReason::Undefined => b"undefined",
+    }
+}
+
+impl Line {
+    /// A line without bytes.
+    pub fn new() -> Line
+        ensures { result ≡ [] }
+    {
+        Line {
+            bytes: ArrayVec::new(),
+        }
+    }
+
+    /// The bytes, lent as a slice.
+    pub fn as_slice(&self) -> &[u8]
+        ensures { result.now ≡ self.now }
+    {
+        self.bytes.as_slice()
+    }
+
+    /// Puts these bytes behind those that are there.
+    fn append(&mut self, bytes: &[u8])
+        requires { length self.old + length bytes.now ≤ 112 }
+        ensures bytes { self.new ≡ self.old ++ bytes.now }
+        ensures length { length self.new ≡ length self.old + length bytes.now }
+    {
+        let _ = self.bytes.try_extend_from_slice(bytes);
+    }
+
+    /// Puts one byte behind those that are there.
+    fn append_byte(&mut self, byte: u8)
+        requires { length self.old < 112 }
+        ensures bytes { self.new ≡ self.old ++ byte ∷ [] }
+        ensures length { length self.new ≡ length self.old + 1 }
+    {
+        self.bytes.push(byte);
+    }
+
+    /// Puts so many hexadecimal digits of a number behind the bytes that are there.
+    #[tactic(auto, unfolding(crate::specs::Lines::hexadecimal))]
+    fn append_hexadecimal(&mut self, count: u8, number: u32)
+        requires { length self.old + count ≤ 112 }
+        ensures bytes { self.new ≡ self.old ++ lines.hexadecimal count number }
+        ensures length { length self.new ≡ length self.old + count }
+    {
+        if count == 0 {
+            return;
+        }
+        self.append_hexadecimal(count - 1, number / 16);
+        self.append_byte(digit((number % 16) as u8));
+    }
+
+    /// Puts the decimal digits of a number behind the bytes that are there.
+    #[tactic(auto, using(crate::proofs::Digits::decimal_one, crate::proofs::Digits::decimal_length))]
+    fn append_digits(&mut self, number: u32)
+        requires { length self.old + length (decimal number) ≤ 112 }
+        ensures { self.new ≡ self.old ++ decimal number }
+    {
+        if number < 10 {
+            return self.append_byte(b'0' + number as u8);
+        }
+        self.append_digits(number / 10);
+        self.append_byte(b'0' + (number % 10) as u8);
+    }
+
+    /// Puts a number, which has at most ten decimal digits, behind the bytes that are there.
+    #[tactic(auto, using(crate::proofs::Digits::decimal_short))]
+    fn append_decimal(&mut self, number: u32)
+        requires { length self.old + 10 ≤ 112 }
+        ensures bytes { self.new ≡ self.old ++ decimal number }
+        ensures length { length self.new ≤ length self.old + 10 }
+    {
+        self.append_digits(number);
+    }
+}
+
+/// The line of an event: its compartment, direction, peripheral, offset, width and value.
+/// The offset is written by its low 16 bits, which are all of it in a window of at most 64 KiB.
+#[tactic(auto, unfolding(crate::specs::Lines::event_line))]
+pub fn event_line(windows: &[Window], event: &Event) -> Line
+    requires known { event.now.periph < length windows.now }
+    requires short { length (lines.name_of windows.now event.now.periph) ≤ 64 }
+    ensures { result ≡ lines.event_line windows.now event.now }
+{
+    let mut line = Line::new();
+    line.append_decimal(event.compartment);
+    line.append(direction_text(event.write));
+    line.append(name_of(windows, event.periph));
+    line.append(b" 0x");
+    line.append_hexadecimal(4, event.offset);
+    line.append(b" ");
+    line.append_decimal(u32::from(event.width));
+    line.append(b" 0x");
+    line.append_hexadecimal(8, event.value);
+    line.append(b"\n");
+    line
+}
+
+/// The line of the end of a run. A refused event has no line.
+#[tactic(auto, unfolding(crate::specs::Lines::end_line))]
+pub fn end_line(end: &End) -> Line
+    ensures { result ≡ lines.end_line end.now }
+{
+    let mut line = Line::new();
+    match end {
+        End::Halt(number) => {
+            line.append(b"end halt ");
+            line.append_decimal(u32::from(*number));
+            line.append(b"\n");
+        }
+        End::InputEnd => line.append(b"end input\n"),
+        End::Limit => line.append(b"end limit\n"),
+        End::Stop { reason, pc } => {
+            line.append(b"end stop ");
+            line.append(reason_text(*reason));
+            line.append(b" 0x");
+            line.append_hexadecimal(8, *pc);
+            line.append(b"\n");
+        }
+        End::Refused => {}
+    }
+    line
+}
+
+#[cfg(test)]
+mod tests {
+    use super::*;
+    use listed::Listed;
+    use std::alloc::{AllocError, Global};
+    use std::process::Abort;
+    use std::test::Fail;
+
+    /// Compartment 0 loads the word 10 from the first window.
+    const LOAD: Event = Event {
+        compartment: 0,
+        periph: 0,
+        offset: 0,
+        width: 4,
+        write: false,
+        value: 10,
+    };
+
+    fn window(alloc: Global, name: &[u8]) -> Result<Window, AllocError> {
+        Ok(Window {
+            name: Listed::new(Vec::from_slice(alloc, name)?),
+            base: 0x40000000,
+            size: 32,
+        })
+    }
+
+    fn printed(rt: &impl Abort, windows: &[Window], event: &Event) -> Line {
+        assert!(rt; (event.periph as usize) < windows.len());
+        assert!(rt; name_of(windows, event.periph).len() <= 64);
+        event_line(windows, event)
+    }
+
+    #[test]
+    fn prints_events(rt: HostRuntime) -> Result<(), Fail> {
+        let store = Event {
+            periph: 1,
+            offset: 4,
+            write: true,
+            value: 7,
+            ..LOAD
+        };
+        let byte = Event {
+            compartment: 63,
+            offset: 0xFE0F,
+            width: 1,
+            value: 0xFF,
+            ..store
+        };
+        let great = Event {
+            compartment: 4294967295,
+            value: 0xDEADBEEF,
+            ..LOAD
+        };
+        let table: [(Event, &[u8]); 4] = [
+            (LOAD, b"0 read ADC 0x0000 4 0x0000000a\n"),
+            (store, b"0 write TIM 0x0004 4 0x00000007\n"),
+            (byte, b"63 write TIM 0xfe0f 1 0x000000ff\n"),
+            (great, b"4294967295 read ADC 0x0000 4 0xdeadbeef\n"),
+        ];
+        let windows = vec![in rt.alloc();
+            window(rt.alloc(), b"ADC")?,
+            window(rt.alloc(), b"TIM")?,
+        ]?;
+        for (event, text) in table {
+            assert_eq!(rt; printed(&rt, &windows, &event).as_slice(), text);
+        }
+        Ok(())
+    }
+
+    #[test]
+    fn prints_ends(rt: HostRuntime) -> Result<(), Fail> {
+        let stop = End::Stop {
+            reason: StopReason::MemDisabled,
+            pc: 0x08002010,
+        };
+        let table: [(End, &[u8]); 6] = [
+            (End::Halt(0), b"end halt 0\n"),
+            (End::Halt(255), b"end halt 255\n"),
+            (End::InputEnd, b"end input\n"),
+            (End::Limit, b"end limit\n"),
+            (stop, b"end stop mem-disabled 0x08002010\n"),
+            (End::Refused, b""),
+        ];
+        for (end, text) in table {
+            assert_eq!(rt; end_line(&end).as_slice(), text);
+        }
+        Ok(())
+    }
+}
