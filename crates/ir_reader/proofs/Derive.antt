@@ -1,5 +1,5 @@
 -- What stands where something is expected agrees with the moves, one token at a time.
-use Rattle.std.proofs.Common.{◌≡◌, ◌<◌, ℕ, ◌+◌, [], ◌∷◌, ◌++◌, List, Bool, true, false, refl, ap, sym, ◌∙◌, subst, append_assoc, append-nil, Option, Some, None, length, arith, nat_eq, rules, tests}
+use Rattle.std.proofs.Common.{◌≡◌, ◌<◌, ℕ, ◌+◌, [], ◌∷◌, ◌++◌, List, Bool, true, false, refl, ap, sym, ◌∙◌, append_assoc, Option, Some, None, length, arith, nat_eq, rules, tests}
 use Rattle.ir_model.specs.declared.firmware.Block.{Block}
 use Rattle.ir_model.specs.declared.firmware.Cell.{Cell}
 use Rattle.ir_model.specs.declared.firmware.Cell.TheVariants as cell
@@ -16,9 +16,9 @@ use Rattle.ir_model.specs.declared.token.TextLimit.TheVariants as limit
 use Rattle.ir_model.specs.Types.{PlainType, U8, U16, U32, Pointer, Array, Named, Callee, PlainTypes, PlainResult, nothing, gives}
 use Rattle.ir_model.specs.Types as types
 use Rattle.ir_model.specs.Plain.{PlainSlot, PlainStruct, PlainGlobal, PlainFunc, PlainFile}
-use Rattle.ir_model.specs.Tokens.{Token, Name, Number, Key, Operation, Comparison, Sign, Marked}
-use Rattle.ir_model.specs.Lines.{Line, marked, plain, name, number, counted, word_excess, length_excess, or_else, type_tokens, row_tokens, more_tokens, result_tokens, slot_tokens, more_slots, slots_tokens, cell_tokens, more_cells, init_tokens, arguments, more_arguments, inst_line, inst_lines, term_line, label_line, block_lines, local_lines, reg_lines, close_line, func_line, func_lines, funcs_lines, file_lines, struct_line, struct_lines, periph_lines, global_line, global_lines, global_start}
-use Rattle.ir_model.specs.Texts.{joined, tokens, begins_colon}
+use Rattle.ir_model.specs.Tokens.{Number, Key, Sign, Marked}
+use Rattle.ir_model.specs.Lines.{Line, marked, plain, name, number, counted, length_excess, type_tokens, row_tokens, more_tokens, result_tokens, slot_tokens, more_slots, slots_tokens, cell_tokens, more_cells, init_tokens, arguments, more_arguments, inst_line, inst_lines, term_line, block_lines, local_lines, reg_lines, close_line, funcs_lines, file_lines, struct_line, struct_lines, periph_lines, global_lines, global_start}
+use Rattle.ir_model.specs.Texts.{joined}
 use Rattle.ir_reader.specs.Machine
 use Rattle.ir_reader.specs.Machine.{Symbol, Move, Go, Stop, Skip, move, is_last, mark_number, struct_rest, func_rest, periph_rest}
 use Rattle.ir_reader.specs.Reading.{HasFields}

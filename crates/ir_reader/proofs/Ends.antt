@@ -1,12 +1,9 @@
 -- Where something that may stand or not, or once more or not, does not stand.
-use Rattle.std.proofs.Common.{◌≡◌, ℕ, ◌+◌, [], ◌∷◌, ◌++◌, List, Bool, true, false, refl, sym, ap, ◌∙◌, Option, Some, None, append_assoc}
-use Rattle.ir_model.specs.declared.token.Excess.{Excess}
-use Rattle.ir_model.specs.declared.token.Keyword.{Keyword}
+use Rattle.std.proofs.Common.{◌≡◌, ℕ, ◌+◌, [], ◌∷◌, List, Bool, true, false, refl, ap, Option, Some, None}
 use Rattle.ir_model.specs.declared.token.Keyword.TheVariants as key
-use Rattle.ir_model.specs.declared.token.Mark.{Mark}
 use Rattle.ir_model.specs.declared.token.Mark.TheVariants as mark
-use Rattle.ir_model.specs.Tokens.{Token, Name, Number, Key, Operation, Comparison, Sign}
-use Rattle.ir_model.specs.Lines.{word_excess, counted}
+use Rattle.ir_model.specs.Tokens.{Name, Number, Key, Operation, Comparison, Sign}
+use Rattle.ir_model.specs.Lines.{counted}
 use Rattle.ir_model.specs.declared.token.TextLimit.TheVariants as limit
 use Rattle.ir_reader.specs.Found.{Found, Is, Bad, End, Placed, colon_first}
 use Rattle.ir_reader.specs.Machine

@@ -1,5 +1,5 @@
 -- What may stand where something is expected: the marked tokens of each symbol.
-use Rattle.std.proofs.Common.{◌≡◌, ◌<◌, ℕ, ◌+◌, [], ◌∷◌, ◌++◌, List, Bool, true, false, refl, ap, sym, ◌∙◌, append_assoc, append-nil, Option, Some, None, length, not, ◌&&◌, nat_eq, if◌then◌else◌}
+use Rattle.std.proofs.Common.{◌≡◌, ℕ, ◌+◌, [], ◌∷◌, ◌++◌, List, Bool, true, false, append-nil, Option, Some, None, length, not, ◌&&◌, nat_eq, if◌then◌else◌}
 use Rattle.ir_model.specs.declared.firmware.BinOp.{BinOp}
 use Rattle.ir_model.specs.declared.firmware.CmpOp.{CmpOp}
 use Rattle.ir_model.specs.declared.firmware.Block.{Block}
@@ -15,8 +15,8 @@ use Rattle.ir_model.specs.declared.token.Mark.TheVariants as mark
 use Rattle.ir_model.specs.declared.token.TextLimit.TheVariants as limit
 use Rattle.ir_model.specs.Types.{PlainType, PlainTypes, PlainResult}
 use Rattle.ir_model.specs.Plain.{PlainSlot, PlainStruct, PlainGlobal, PlainFunc, PlainFile}
-use Rattle.ir_model.specs.Tokens.{Token, Name, Number, Key, Operation, Comparison, Sign, Marked}
-use Rattle.ir_model.specs.Lines.{Line, marked, plain, name, number, counted, word_excess, length_excess, or_else, type_tokens, row_tokens, more_tokens, result_tokens, more_slots, slots_tokens, cell_tokens, more_cells, init_tokens, more_arguments, inst_lines, term_line, block_lines, local_lines, reg_lines, close_line, funcs_lines, file_lines, struct_lines, periph_lines, global_lines}
+use Rattle.ir_model.specs.Tokens.{Name, Number, Key, Operation, Comparison, Sign, Marked}
+use Rattle.ir_model.specs.Lines.{Line, marked, plain, name, number, word_excess, length_excess, or_else, type_tokens, row_tokens, more_tokens, result_tokens, more_slots, slots_tokens, cell_tokens, more_cells, init_tokens, more_arguments, inst_lines, term_line, block_lines, local_lines, reg_lines, close_line, funcs_lines, file_lines, struct_lines, periph_lines, global_lines}
 use Rattle.ir_model.specs.Texts.{joined, tokens, begins_colon}
 use Rattle.ir_reader.specs.Machine
 use Rattle.ir_reader.specs.Machine.{Symbol, Move, Go, Stop, Skip, move, is_last}

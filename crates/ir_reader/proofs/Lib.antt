@@ -16,3 +16,4 @@ pub mod Columns
 pub mod Lefts
 pub mod Whole
 pub mod Stops
+pub mod Verdicts

@@ -1,20 +1,20 @@
 -- What the scan finds is what the bytes spell.
-use Rattle.std.proofs.Common.{◌≡◌, ◌≤◌, ◌<◌, ℕ, ◌+◌, ◌-◌, ◌^◌, [], ◌∷◌, ◌++◌, List, Bool, true, false, not, refl, sym, ap, ◌∙◌, subst, Option, Some, None, length, take, drop, suc, zero, arith, map, nat_eq, if◌then◌else◌, eqb-true, append_assoc}
+use Rattle.std.proofs.Common.{◌≡◌, ◌≤◌, ◌<◌, ℕ, ◌+◌, ◌^◌, [], ◌∷◌, ◌++◌, List, Bool, true, false, refl, sym, ap, ◌∙◌, subst, length, take, drop, suc, zero, arith, map, nat_eq, if◌then◌else◌, eqb-true}
 use Rattle.std.proofs.lemmas.Grind.{common_steps}
 use Rattle.std.specs.List.{prefix_len, take_while}
 use Rattle.std.proofs.lemmas.List.Sums.{take_while-cons}
 use Rattle.numerals.specs.declared.Numeral.{Numeral}
 use Rattle.numerals.specs.declared.Numeral.TheVariants as numerals
 use Rattle.numerals.specs.Numerals.{numeral}
-use Rattle.names.specs.Names.{begins_word, continues_word, is_word, is_reserved}
+use Rattle.names.specs.Names.{begins_word, continues_word, is_word}
 use Rattle.ir_model.specs.declared.token.Mark.{Mark}
 use Rattle.ir_model.specs.declared.token.Mark.TheVariants as mark
 use Rattle.ir_model.specs.Canonical.{Each}
 use Rattle.ir_model.specs.Tokens.{Token, Name, Number, Key, Operation, Comparison, Sign, mark_bytes}
-use Rattle.ir_model.specs.Texts.{is_blank, opens_comment, is_inside_line, EndsLine, IsInsideLine, StandsFor, Spells, EndsWord, IsApart, Leads, here, blank, comment, token}
+use Rattle.ir_model.specs.Texts.{is_blank, opens_comment, is_inside_line, EndsLine, Spells, EndsWord, IsApart, Leads, here, blank, comment, token}
 use Rattle.ir_reader.specs.Found.{Found, Is, Bad, End, Placed, finds}
 use Rattle.ir_reader.specs.Words.{word_token}
-use Rattle.ir_reader.specs.Scan.{scan, placed, StartsToken, first_lexeme, lexeme_of, number_from, mark_found, dash, is_digit, Lexeme, lexeme}
+use Rattle.ir_reader.specs.Scan.{placed, StartsToken, first_lexeme, number_from, mark_found, dash, is_digit, Lexeme, lexeme}
 use Rattle.ir_reader.proofs.Tables.{name_free, word_is_spelled, IsSpelled}
 use Rattle.ir_reader.proofs.Scanning.{placed_blank, placed_comment, placed_nil, placed_token, run_is_word, prefix_len_some, take_run}
 

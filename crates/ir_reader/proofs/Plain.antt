@@ -17,10 +17,10 @@ use Rattle.ir_model.specs.Types.{PlainType, U8, U16, U32, Pointer, Array, Named,
 use Rattle.ir_model.specs.Plain.{PlainSlot, PlainStruct, PlainGlobal, PlainFunc, PlainFile, PlainFirmware}
 use Rattle.ir_model.specs.Tokens as model
 use Rattle.ir_model.specs.Tokens.{Marked}
-use Rattle.ir_model.specs.Lines.{Line, marked, plain, name, type_tokens, row_tokens, more_tokens, result_tokens, slot_tokens, counted, more_slots, slots_tokens, cell_tokens, more_cells, init_tokens, arguments, more_arguments, inst_line, inst_lines, term_line, label_line, block_lines, local_lines, reg_lines, close_line, func_line, func_lines, funcs_lines, file_lines, struct_line, struct_lines, periph_lines, global_line, global_lines, global_start, lines_of}
+use Rattle.ir_model.specs.Lines.{Line, marked, plain, name, type_tokens, row_tokens, more_tokens, result_tokens, slot_tokens, counted, more_slots, slots_tokens, cell_tokens, more_cells, init_tokens, arguments, more_arguments, inst_line, inst_lines, term_line, block_lines, local_lines, reg_lines, close_line, func_lines, funcs_lines, file_lines, struct_line, struct_lines, periph_lines, global_line, global_lines, global_start, lines_of}
 use Rattle.ir_model.specs.Texts.{joined, tokens}
 use Rattle.ir_reader.specs.Found.{Found, Is, End}
-use Rattle.ir_reader.specs.Spelling.{Spelling, Name, Key, Sign, spell_type, spell_row, spell_more_row, spell_gives, separated, spell_slot, spell_fields, spell_struct, spell_structs, spell_periph, spell_periphs, spell_cell, spell_cells, spell_init, spell_constant, spell_global, spell_globals, spell_word, spell_args, spell_inst, spell_term, spell_block, spell_local, spell_reg, spell_params, spell_func, spell_file, spell_firmware}
+use Rattle.ir_reader.specs.Spelling.{Spelling, Name, Key, Sign, spell_type, spell_row, spell_more_row, spell_gives, separated, spell_slot, spell_struct, spell_structs, spell_periph, spell_periphs, spell_cell, spell_cells, spell_init, spell_constant, spell_global, spell_globals, spell_args, spell_inst, spell_term, spell_block, spell_local, spell_reg, spell_func, spell_file, spell_firmware}
 use Rattle.ir_reader.proofs.Derive.{joined-append}
 use Rattle.ir_reader.proofs.Theorem.{text_of}
 

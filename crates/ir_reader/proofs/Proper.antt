@@ -1,14 +1,12 @@
 -- The words of a text that is read are names.
-use Rattle.std.proofs.Common.{◌≡◌, ◌≤◌, ◌<◌, ℕ, [], ◌∷◌, ◌++◌, List, Bool, true, false, refl, sym, ap, ◌∙◌, subst, Option, Some, None, length, map, IsTrue, ◌^◌}
-use Rattle.names.specs.Names.{is_name, is_word, is_reserved}
+use Rattle.std.proofs.Common.{◌≡◌, ◌<◌, ℕ, [], ◌∷◌, ◌++◌, List, Bool, true, false, refl, sym, ap, ◌∙◌, Option, Some, None, ◌^◌}
 use Rattle.ir_model.specs.declared.token.Excess.{Excess}
-use Rattle.ir_model.specs.declared.token.Keyword.TheVariants as key
 use Rattle.ir_model.specs.declared.token.TextLimit.TheVariants as limit
 use Rattle.ir_model.specs.Canonical.{Each, PassesNothing, IsProper}
 use Rattle.ir_model.specs.Tokens.{Token, Name, Number, Key, Operation, Comparison, Sign, Marked}
 use Rattle.ir_model.specs.Lines.{Line, word_excess, number_excess, length_excess, counted, depth_excess, or_else}
-use Rattle.ir_model.specs.Texts.{joined, tokens, begins_colon, IsFree, Leads, here, blank, comment, token, Spells}
-use Rattle.ir_reader.specs.Found.{Found, Is, End, Placed, finds, colon_first}
+use Rattle.ir_model.specs.Texts.{joined, tokens, IsFree, Leads, here, blank, comment, token, Spells}
+use Rattle.ir_reader.specs.Found.{Is, Placed, finds}
 use Rattle.ir_reader.specs.Machine
 use Rattle.ir_reader.specs.Machine.{Symbol, Move, Go, Stop, Skip, Step, To, Stuck, step, fault, move}
 use Rattle.ir_reader.proofs.Kept.{second_none, name_of_short, depth_behind, number_fits, length_fits}

@@ -1,16 +1,16 @@
 -- What the scan of a text says at its front.
-use Rattle.std.proofs.Common.{◌≡◌, ◌≤◌, ◌<◌, ℕ, ◌+◌, ◌-◌, [], ◌∷◌, List, Bool, true, false, refl, sym, ap, ◌∙◌, Some, None, length, take, drop, suc, zero, arith, rules, drop-cons, add-one, ◌&&◌, Option}
+use Rattle.std.proofs.Common.{◌≡◌, ◌<◌, ℕ, ◌+◌, ◌-◌, [], ◌∷◌, List, Bool, true, false, refl, sym, ap, ◌∙◌, length, take, drop, suc, zero, arith}
 use Rattle.std.proofs.lemmas.Grind.{common_steps}
 use Rattle.std.specs.List.{prefix_len, take_while, list_all}
 use Rattle.std.proofs.lemmas.List.Sums.{take_while-cons}
-use Rattle.names.specs.Names.{begins_word, continues_word, is_word, is_reserved}
-use Rattle.ir_model.specs.Texts.{is_blank, opens_comment, is_inside_line}
+use Rattle.names.specs.Names.{begins_word, continues_word, is_word}
+use Rattle.ir_model.specs.Texts.{is_blank, is_inside_line}
 use Rattle.ir_model.specs.Tokens as model
 use Rattle.ir_reader.specs.declared.token.Token.{Token}
 use Rattle.ir_reader.specs.declared.token.Token.TheVariants as code
-use Rattle.ir_reader.specs.Found.{Found, Is, Bad, End, Placed, found_of}
+use Rattle.ir_reader.specs.Found.{Is, End, found_of}
 use Rattle.ir_reader.specs.Words.{word_token}
-use Rattle.ir_reader.specs.Scan.{scan, placed, later, BeginsWith, StartsToken, GoesOn, IsProper, first_lexeme, lexeme_of, is_digit}
+use Rattle.ir_reader.specs.Scan.{scan, placed, later, BeginsWith, StartsToken, GoesOn, IsProper, first_lexeme, lexeme_of}
 use Rattle.ir_reader.proofs.Tables.{name_free}
 
 pub scan_drop : (k : ℕ) (bs : List ℕ) → scan k bs ≡ placed (drop k bs)

@@ -1,10 +1,8 @@
 -- Lists with commas between their things.
-use Rattle.std.proofs.Common.{◌≡◌, ◌<◌, ℕ, [], ◌∷◌, ◌++◌, map, List, refl, ap, sym, ◌∙◌, append_assoc, append-nil, length, arith}
-use Rattle.std.specs.List.{flat_map}
+use Rattle.std.proofs.Common.{◌≡◌, ◌<◌, [], ◌∷◌, ◌++◌, map, List, refl, ap, sym, ◌∙◌, append_assoc, length, arith}
 use Rattle.ir_model.specs.declared.token.Mark.TheVariants.{Comma, Close, Equal, OpenBrace}
-use Rattle.ir_model.specs.Types.{PlainType, PlainTypes, none, more, types_from}
+use Rattle.ir_model.specs.Types.{PlainType, types_from}
 use Rattle.ir_model.specs.Canonical.{Each}
-use Rattle.ir_reader.specs.Found.{Found}
 use Rattle.ir_reader.specs.Spelling.{Spelling, Sign, separated, spell_type, spell_row, spell_more_row, spell_init, spell_cells}
 use Rattle.ir_model.specs.declared.firmware.Cell.{Cell}
 

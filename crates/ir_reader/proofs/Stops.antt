@@ -4,7 +4,7 @@ use Rattle.ir_model.specs.declared.token.Excess.{Excess}
 use Rattle.ir_model.specs.declared.token.Mark.TheVariants as mark
 use Rattle.ir_model.specs.Tokens.{Token, Name, Number, Key, Operation, Comparison, Sign, Marked}
 use Rattle.ir_model.specs.Lines.{Line}
-use Rattle.ir_model.specs.Texts.{tokens, begins_colon, is_colon}
+use Rattle.ir_model.specs.Texts.{tokens, begins_colon}
 use Rattle.ir_reader.specs.declared.error.Fault.{Fault}
 use Rattle.ir_reader.specs.declared.error.FaultKind.{FaultKind}
 use Rattle.ir_reader.specs.declared.error.FaultKind.TheVariants as kind

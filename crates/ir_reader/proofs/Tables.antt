@@ -1,11 +1,10 @@
 -- The reserved words, and the others.
-use Rattle.std.proofs.Common.{◌≡◌, ℕ, [], ◌∷◌, ◌++◌, List, Bool, true, false, ◌||◌, if◌then◌else◌, refl, sym, ap, ◌∙◌, Option, Some, None, codes, arith}
+use Rattle.std.proofs.Common.{◌≡◌, ℕ, [], ◌∷◌, ◌++◌, List, Bool, true, false, ◌||◌, if◌then◌else◌, refl, sym, ap, ◌∙◌, Option, Some, None}
 use Rattle.std.specs.List.{list_any}
 use Rattle.std.specs.Str.{bytes_eq}
-use Rattle.std.proofs.lemmas.Grind.{common_steps}
 use Rattle.std.proofs.lemmas.List.Folds.{list_any-append}
 use Rattle.std.proofs.lemmas.Slice.Eq.{bytes_eq-Decides}
-use Rattle.names.specs.Names.{is_reserved, is_one_of, reserved, declaration_words, instruction_words, type_words, operation_words, comparison_words}
+use Rattle.names.specs.Names.{is_reserved, reserved, declaration_words, instruction_words, type_words, operation_words, comparison_words}
 use Rattle.ir_model.specs.declared.firmware.BinOp.{BinOp}
 use Rattle.ir_model.specs.declared.firmware.CmpOp.{CmpOp}
 use Rattle.ir_model.specs.declared.token.Keyword.{Keyword}
@@ -14,7 +13,7 @@ use Rattle.ir_model.specs.declared.firmware.BinOp.TheVariants as op
 use Rattle.ir_model.specs.declared.firmware.CmpOp.TheVariants as cmp
 use Rattle.ir_model.specs.Tokens.{Token, Name, Number, Key, Operation, Comparison, Sign, keyword_bytes, operation_bytes, comparison_bytes}
 use Rattle.ir_model.specs.Canonical.{Each}
-use Rattle.ir_reader.specs.Words.{first_of, or_else, declarations, operands, controls, arithmetic, bits, comparisons, keyword_of, operation_of, comparison_of, word_token}
+use Rattle.ir_reader.specs.Words.{first_of, or_else, declarations, operands, controls, arithmetic, bits, comparisons, word_token}
 
 abbrev words_of : {A : Type 0} → List (List ℕ × A) → List (List ℕ)
 words_of [] = []

@@ -1,15 +1,15 @@
 -- What is read is a text of the firmware.
-use Rattle.std.proofs.Common.{◌≡◌, ℕ, [], ◌∷◌, ◌++◌, List, Bool, true, false, refl, sym, ap, ◌∙◌, subst, Option, Some, None, map, flat_map, append-nil, append_assoc, IsUtf8, Result, Ok, Err, IfErr}
+use Rattle.std.proofs.Common.{◌≡◌, ℕ, [], ◌∷◌, ◌++◌, List, refl, sym, ap, ◌∙◌, None, map, flat_map, append-nil, append_assoc, IsUtf8, Result, Ok, Err, IfErr}
 use Rattle.ir_model.specs.declared.firmware.Firmware.{Firmware}
 use Rattle.ir_reader.specs.declared.fault.TextFault.{TextFault}
 use Rattle.ir_reader.specs.declared.fault.TextFault.TheVariants as text
 use Rattle.ir_reader.specs.Refusals.{Refuses, IsAccepted}
-use Rattle.ir_model.specs.Canonical.{Each, PassesNothing, IsProper, IsWithinLimits}
-use Rattle.ir_model.specs.Plain.{PlainFirmware, PlainFile, PlainFunc, funcs_of}
+use Rattle.ir_model.specs.Canonical.{Each, PassesNothing, IsProper}
+use Rattle.ir_model.specs.Plain.{PlainFirmware, PlainFile}
 use Rattle.ir_model.specs.Tokens.{Marked}
-use Rattle.ir_model.specs.Lines.{Line, lines_of, struct_lines, periph_lines, global_lines, file_lines}
+use Rattle.ir_model.specs.Lines.{lines_of, struct_lines, periph_lines, global_lines, file_lines}
 use Rattle.ir_model.specs.Texts.{joined, tokens, IsText}
-use Rattle.ir_reader.specs.Found.{finds, Is, End}
+use Rattle.ir_reader.specs.Found.{finds, Is}
 use Rattle.ir_reader.specs.Machine.{fault, Structs}
 use Rattle.ir_reader.specs.Parts.{HasBlocks, AllHaveBlocks}
 use Rattle.ir_reader.specs.Reading.{Passes, HasFields}
@@ -65,7 +65,7 @@ each_back : {A : Type 0} (P : A → Type 0) (xs ys : List A) → Each P (xs ++ y
 each_back P [] ys h = h
 each_back P (x ∷ xs) ys h = each_back P xs ys h.1
 
-blocks_of : (fs : List PlainFile) → HasBlocks (flat_map (λ (f : PlainFile). f.funcs) fs) → AllHaveBlocks fs
+pub blocks_of : (fs : List PlainFile) → HasBlocks (flat_map (λ (f : PlainFile). f.funcs) fs) → AllHaveBlocks fs
 blocks_of [] h = tt
 blocks_of (f ∷ fs) h = (each_front _ f.funcs (flat_map (λ (f : PlainFile). f.funcs) fs) h, blocks_of fs (each_back _ f.funcs (flat_map (λ (f : PlainFile). f.funcs) fs) h))
 

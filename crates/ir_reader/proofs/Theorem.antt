@@ -1,15 +1,12 @@
 -- What the moves say of whole rows of tokens.
-use Rattle.std.proofs.Common.{◌≡◌, ℕ, [], ◌∷◌, ◌++◌, List, Bool, true, false, not, ◌&&◌, refl, sym, ap, ◌∙◌, append_assoc, append-nil, Option, Some, None, subst, map, nat_eq, if◌then◌else◌}
+use Rattle.std.proofs.Common.{◌≡◌, ℕ, [], ◌∷◌, ◌++◌, List, Bool, true, false, not, ◌&&◌, refl, sym, ap, ◌∙◌, append_assoc, append-nil, Option, Some, None, subst, map, if◌then◌else◌}
 use Rattle.ir_model.specs.declared.token.Excess.{Excess}
-use Rattle.ir_model.specs.declared.token.Keyword.TheVariants as key
-use Rattle.ir_model.specs.declared.token.Mark.{Mark}
 use Rattle.ir_model.specs.declared.token.Mark.TheVariants as mark
 use Rattle.ir_model.specs.Canonical.{Each, PassesNothing}
-use Rattle.ir_model.specs.Tokens.{Token, Name, Number, Key, Operation, Comparison, Sign, Marked}
+use Rattle.ir_model.specs.Tokens.{Token, Sign, Marked}
 use Rattle.ir_model.specs.Lines.{Line}
 use Rattle.ir_model.specs.Texts.{tokens, begins_colon}
-use Rattle.ir_reader.specs.declared.error.Fault.{Fault}
-use Rattle.ir_reader.specs.Found.{Found, Is, Bad, End, Placed, finds, colon_first}
+use Rattle.ir_reader.specs.Found.{Found, Is, End, Placed, finds, colon_first}
 use Rattle.ir_reader.specs.Machine
 use Rattle.ir_reader.specs.Machine.{Symbol, Move, Go, Stop, Skip, Step, To, Stuck, step, fault, move, is_last, may_end}
 use Rattle.ir_reader.proofs.Lang

@@ -1,18 +1,16 @@
 -- What a register gets by a reserved word.
-use Rattle.std.proofs.Common.{◌≡◌, ℕ, [], ◌∷◌, ◌++◌, List, Bool, true, false, refl, sym, ap, ◌∙◌, subst, Option, Some, None, Result, Ok, Err, Bor, append-nil, append_assoc}
+use Rattle.std.proofs.Common.{◌≡◌, ℕ, [], ◌∷◌, ◌++◌, List, Bool, sym, ap, ◌∙◌, Some, None, Result, Ok, Err, Bor}
 use Rattle.ir_model.specs.declared.firmware.Inst.{Inst}
 use Rattle.ir_model.specs.declared.token.Keyword.{Keyword}
 use Rattle.ir_model.specs.declared.token.Keyword.TheVariants as key
-use Rattle.ir_model.specs.declared.token.Excess.{Excess}
 use Rattle.ir_model.specs.Tokens as model
 use Rattle.ir_reader.specs.declared.error.Fault.{Fault}
-use Rattle.ir_reader.specs.declared.error.FaultKind.TheVariants as kind
 use Rattle.ir_reader.specs.declared.error.ReadError.{ReadError}
 use Rattle.ir_reader.specs.declared.error.ReadError.TheVariants as errors
-use Rattle.ir_reader.specs.Found.{Found, Is, Placed, finds, colon_first}
+use Rattle.ir_reader.specs.Found.{Is, Placed, finds, colon_first}
 use Rattle.ir_reader.specs.Machine.{Symbol, Move, Go, Stop, Skip, Step, To, Stuck, step, fault, value_key, Value, Insts, AfterRet}
-use Rattle.ir_reader.specs.Reading.{Passes, ReadsBehind, Fails}
-use Rattle.ir_reader.specs.Lines.{ReadsValue, ValueFails, FailsBy, PassesBy}
+use Rattle.ir_reader.specs.Reading.{ReadsBehind, Fails}
+use Rattle.ir_reader.specs.Lines.{ReadsValue, FailsBy, PassesBy}
 use Rattle.ir_reader.specs.Spelling.{spell_inst, spell_assigned, Key}
 use Rattle.ir_reader.proofs.Ends.{after}
 

@@ -1,14 +1,13 @@
 -- What bytes spell is what the scan finds.
-use Rattle.std.proofs.Common.{◌≡◌, ◌≤◌, ◌<◌, ℕ, ◌+◌, ◌-◌, ◌*◌, ◌^◌, [], ◌∷◌, ◌++◌, List, Bool, true, false, not, ◌&&◌, ◌||◌, refl, sym, ap, ◌∙◌, subst, Option, Some, None, length, take, drop, suc, zero, arith, map, nat_eq, nat_lt, nat_le, if◌then◌else◌, eqb-true, append_assoc}
+use Rattle.std.proofs.Common.{◌≡◌, ◌<◌, ℕ, ◌+◌, ◌-◌, ◌*◌, ◌^◌, [], ◌∷◌, ◌++◌, List, Bool, true, false, ◌&&◌, refl, sym, ap, ◌∙◌, subst, Option, Some, None, length, take, drop, suc, arith, map, nat_eq, if◌then◌else◌, eqb-true}
 use Rattle.std.proofs.lemmas.Grind.{common_steps}
 use Rattle.std.proofs.lemmas.Bool.Decides.{nat_tests}
 use Rattle.std.specs.List.{prefix_len, take_while, list_all}
-use Rattle.std.proofs.lemmas.List.Sums.{take_while-cons}
 use Rattle.numerals.specs.declared.Numeral.{Numeral}
 use Rattle.numerals.specs.declared.Numeral.TheVariants as numerals
 use Rattle.numerals.specs.Numerals as numbers
 use Rattle.numerals.specs.Numerals.{numeral}
-use Rattle.names.specs.Names.{begins_word, continues_word, is_word, is_reserved, all_continue}
+use Rattle.names.specs.Names.{begins_word, continues_word, is_word, all_continue}
 use Rattle.ir_model.specs.declared.firmware.BinOp.{BinOp}
 use Rattle.ir_model.specs.declared.firmware.BinOp.TheVariants as op
 use Rattle.ir_model.specs.declared.firmware.CmpOp.{CmpOp}
@@ -19,12 +18,12 @@ use Rattle.ir_model.specs.declared.token.Mark.{Mark}
 use Rattle.ir_model.specs.declared.token.Mark.TheVariants as mark
 use Rattle.ir_model.specs.Canonical.{Each}
 use Rattle.ir_model.specs.Tokens.{Token, Name, Number, Key, Operation, Comparison, Sign, mark_bytes, keyword_bytes, operation_bytes, comparison_bytes}
-use Rattle.ir_model.specs.Texts.{is_blank, opens_comment, is_inside_line, EndsLine, IsInsideLine, StandsFor, Spells, EndsWord, IsApart, Leads, here, blank, comment, token}
-use Rattle.ir_reader.specs.Found.{Found, Is, Bad, End, Placed, finds}
+use Rattle.ir_model.specs.Texts.{is_blank, opens_comment, is_inside_line, EndsLine, StandsFor, Spells, EndsWord, IsApart, Leads, here, blank, comment, token}
+use Rattle.ir_reader.specs.Found.{Is, finds}
 use Rattle.ir_reader.specs.Words.{word_token}
-use Rattle.ir_reader.specs.Scan.{scan, placed, StartsToken, first_lexeme, lexeme_of, number_from, mark_found, dash, is_digit, Lexeme, lexeme}
+use Rattle.ir_reader.specs.Scan.{placed, StartsToken, first_lexeme, lexeme_of, number_from, is_digit, Lexeme, lexeme}
 use Rattle.ir_reader.proofs.Tables.{free_name, keyword_token, operation_token, comparison_token}
-use Rattle.ir_reader.proofs.Scanning.{placed_blank, placed_comment, placed_nil, placed_token}
+use Rattle.ir_reader.proofs.Scanning.{placed_blank, placed_comment, placed_token}
 
 -- bytes that pass a test before one that fails it
 prefix_front : (p : ℕ → Bool) (w bs : List ℕ) → Each (λ (b : ℕ). p b ≡ true) w → prefix_len p bs ≡ 0 → prefix_len p (w ++ bs) ≡ length w

@@ -1,5 +1,5 @@
 -- What stands at a place of a text.
-use Rattle.std.specs.Prelude.{ℕ, List, [], ◌∷◌, map, Bool, true, false}
+use Rattle.std.specs.Prelude.{ℕ, List, [], ◌∷◌, map, Bool, false}
 use Rattle.ir_model.specs.Tokens as model
 use Rattle.ir_model.specs.Texts.{is_colon}
 use Rattle.ir_reader.specs.declared.token.Token.{Token}

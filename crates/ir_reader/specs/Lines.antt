@@ -1,5 +1,5 @@
 -- What a function answers that reads an instruction or the end of a block.
-use Rattle.std.specs.Prelude.{ℕ, ◌+◌, ◌<◌, List, [], ◌∷◌, ◌++◌, ◌≡◌, Option, Some, None, Result, Ok, Err}
+use Rattle.std.specs.Prelude.{ℕ, ◌+◌, ◌<◌, List, [], ◌∷◌, ◌++◌, ◌≡◌, Some, None, Result, Ok, Err}
 use Rattle.std.specs.Borrow.{Bor}
 use Rattle.ir_model.specs.declared.token.Keyword.{Keyword}
 use Rattle.ir_model.specs.declared.firmware.Inst.{Inst}

@@ -10,7 +10,7 @@ use Rattle.ir_model.specs.Tokens.{Token, Name, Number, Key, Operation, Compariso
 use Rattle.ir_model.specs.Lines.{counted, word_excess, number_excess, length_excess, depth_excess, or_else}
 use Rattle.ir_reader.specs.declared.error.Fault.{Fault}
 use Rattle.ir_reader.specs.declared.error.FaultKind.TheVariants as kind
-use Rattle.ir_reader.specs.Found.{Found, Is, Bad, End, Placed, colon_first}
+use Rattle.ir_reader.specs.Found.{Is, Bad, End, Placed, colon_first}
 
 -- what may come next; a number is how many of a kind stand before
 pub data Symbol : Type 0 where

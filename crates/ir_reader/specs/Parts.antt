@@ -12,10 +12,10 @@ use Rattle.ir_model.specs.Canonical.{Each}
 use Rattle.ir_model.specs.Plain.{PlainFunc, PlainFile, func_of, file_of}
 use Rattle.ir_model.specs.Tokens as model
 use Rattle.ir_reader.specs.declared.error.ReadError.{ReadError}
-use Rattle.ir_reader.specs.Found.{Found, Is, End, Placed}
+use Rattle.ir_reader.specs.Found.{Is, End, Placed}
 use Rattle.ir_reader.specs.Machine.{Symbol, Insts, Blocks, Funcs, Files, Word, Mk}
 use Rattle.ir_reader.specs.Reading.{Passes, Fails}
-use Rattle.ir_reader.specs.Spelling.{Spelling, Key, spell_inst, spell_term, spell_func, spell_funcs, spell_file}
+use Rattle.ir_reader.specs.Spelling.{Spelling, Key, spell_inst, spell_term, spell_funcs, spell_file}
 
 -- the instructions of a block and its end
 abbrev pub spell_lines : Vec Inst Global × Term → Spelling

@@ -1,15 +1,13 @@
 -- What a function answers that reads the front of a text.
-use Rattle.std.specs.Prelude.{ℕ, List, [], ◌∷◌, ◌++◌, map, length, ◌≡◌, ◌<◌, Option, Some, None, Result, Ok, Err, Bool, true, false, not, nat_eq}
+use Rattle.std.specs.Prelude.{ℕ, List, [], ◌∷◌, ◌++◌, length, ◌≡◌, ◌<◌, Option, Some, None, Result, Ok, Err, Bool, true, false, not, nat_eq}
 use Rattle.names.specs.Names.{is_word, is_reserved}
 use Rattle.std.specs.Borrow.{Bor}
 use Rattle.ir_model.specs.declared.token.Excess.{Excess}
 use Rattle.ir_model.specs.declared.token.Keyword.{Keyword}
-use Rattle.ir_model.specs.declared.token.Keyword.TheVariants as key
 use Rattle.ir_model.specs.declared.token.Mark.{Mark}
 use Rattle.ir_model.specs.Canonical.{Each}
 use Rattle.ir_model.specs.Plain.{PlainStruct}
-use Rattle.ir_model.specs.Tokens.{Token, Name, Key, Sign}
-use Rattle.ir_reader.specs.declared.error.Fault.{Fault}
+use Rattle.ir_model.specs.Tokens.{Name, Key, Sign}
 use Rattle.ir_reader.specs.declared.error.FaultKind.TheVariants as kind
 use Rattle.ir_reader.specs.declared.error.ReadError.{ReadError}
 use Rattle.ir_reader.specs.declared.error.ReadError.TheVariants as errors

@@ -1,5 +1,5 @@
 -- The tokens of the parts of a firmware, without what they pass.
-use Rattle.std.specs.Prelude.{ℕ, List, [], ◌∷◌, ◌++◌, flat_map, map, Bool, true, false, Option, Some, None}
+use Rattle.std.specs.Prelude.{ℕ, List, [], ◌∷◌, ◌++◌, flat_map, Bool, true, false, Option, Some, None}
 use Rattle.ir_model.specs.declared.firmware.Inst.{Inst}
 use Rattle.ir_model.specs.declared.firmware.Inst.TheVariants as inst
 use Rattle.ir_model.specs.declared.firmware.Term.{Term}
@@ -10,7 +10,7 @@ use Rattle.ir_model.specs.declared.firmware.Cell.TheVariants.{Word, Function, Ad
 use Rattle.ir_model.specs.declared.firmware.Peripheral.{Peripheral}
 use Rattle.ir_model.specs.declared.token.Keyword.TheVariants as key
 use Rattle.ir_model.specs.declared.token.Mark.TheVariants.{OpenBrace, CloseBrace, Open, Close, OpenSquare, CloseSquare, Comma, Colon, Equal, Star, Arrow}
-use Rattle.ir_model.specs.Types.{PlainType, U8, U16, U32, Pointer, Array, Named, Callee, PlainTypes, none, more, PlainResult, nothing, gives, types_from}
+use Rattle.ir_model.specs.Types.{PlainType, U8, U16, U32, Pointer, Array, Named, Callee, PlainTypes, none, more, PlainResult, nothing, gives}
 use Rattle.ir_model.specs.Plain.{PlainSlot, PlainStruct, PlainGlobal, PlainFunc, PlainFile, PlainFirmware}
 use Rattle.ir_model.specs.declared.firmware.BinOp.{BinOp}
 use Rattle.ir_model.specs.declared.firmware.CmpOp.{CmpOp}

@@ -9,7 +9,7 @@ ghost use Rattle.ir_reader.specs.Scan.{placed};
 ghost use Rattle.ir_reader.specs.Spelling as spelling;
 ghost use Rattle.std.specs.Prelude.{◌≤◌, length, OnOk, IfErr, IsUtf8};
 ghost use Rattle.ir_model.specs.Texts.{IsText};
-ghost use Rattle.ir_reader.specs.Refusals.{IsPlacedFault, IsNotUtf8, Refuses, IsAccepted};
+ghost use Rattle.ir_reader.specs.Refusals.{IsPlacedFault, IsNotUtf8, Refuses, IsAccepted, HasVerdict};
 
 use crate::declarations::{globals, periphs, structs};
 use crate::error::{Fault, FaultKind, ReadError};
@@ -82,7 +82,7 @@ fn read_utf8(alloc: Global, text: &[u8]) -> Result<Firmware, TextFault>
 }
 
 /// The firmware of a text, or the first fault of the text.
-#[tactic(auto, using(crate::proofs::Texts::accepted))]
+#[tactic(auto, using(crate::proofs::Texts::accepted, crate::proofs::Verdicts::verdict_of))]
 pub fn read(alloc: Global, text: &[u8]) -> Result<Firmware, TextFault>
     requires { length text.now ≤ 4194304 }
     // What is read is what the text says.
@@ -91,6 +91,8 @@ pub fn read(alloc: Global, text: &[u8]) -> Result<Firmware, TextFault>
     ensures only { (w : PlainFirmware) → IsText w text.now → IsAccepted result }
     // Else it is named what is wrong.
     ensures refused { IfErr result (Refuses text.now) }
+    // Behind the tokens before a fault no firmware goes on as the text does, or each that does passes a limit there.
+    ensures verdict { HasVerdict text.now }
 {
     utf8(text)?;
     read_utf8(alloc, text)

@@ -1,16 +1,13 @@
-use Rattle.std.proofs.Common.{◌≡◌, ◌<◌, ◌+◌, [], ◌∷◌, ◌++◌, map, List, length, arith, false, ◌∙◌}
+use Rattle.std.proofs.Common.{◌≡◌, ◌<◌, [], ◌∷◌, ◌++◌, length, arith, false, ◌∙◌}
 use Rattle.std.proofs.lemmas.Grind.{common_steps}
 use Rattle.ir_model.specs.declared.token.Mark.TheVariants as mark
-use Rattle.ir_model.specs.Plain.{slot_of}
-use Rattle.ir_reader.specs.Found.{Found, finds}
-use Rattle.ir_reader.specs.Machine as expected
-use Rattle.ir_reader.specs.Machine.{Symbol, fault}
+use Rattle.ir_reader.specs.Found.{finds}
 use Rattle.ir_reader.specs.Reading.{mark_first}
 use Rattle.ir_reader.specs.Scan.{placed}
-use Rattle.ir_reader.specs.Spelling.{Sign, separated, spell_cell}
+use Rattle.ir_reader.specs.Spelling.{Sign, spell_cell}
 use Rattle.ir_reader.proofs.Ends.{cells_end}
 use Rattle.ir_reader.proofs.Kept.{counted_none}
-use Rattle.ir_reader.proofs.Separated.{read_more, read_next, read_closed}
+use Rattle.ir_reader.proofs.Separated.{read_next, read_closed}
 use Rattle.ir_reader.proofs.declarations.cells.Goals as goal
 
 pub loop-behind-preserved : goal.loop-behind-preserved

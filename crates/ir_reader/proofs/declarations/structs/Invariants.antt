@@ -1,5 +1,5 @@
-use Rattle.std.proofs.Common.{◌≡◌, ◌<◌, ◌≤◌, ◌+◌, ◌-◌, length, [], ◌∷◌, ◌++◌, map, flat_map, List, None}
-use Rattle.ir_model.specs.Plain.{slot_of, struct_of, global_of, func_of, file_of}
+use Rattle.std.proofs.Common.{◌≡◌, ◌≤◌, ◌-◌, length, ◌∷◌, ◌++◌, map, flat_map, List}
+use Rattle.ir_model.specs.Plain.{struct_of}
 use Rattle.ir_reader.specs.Found.{finds}
 use Rattle.ir_reader.specs.Machine as expected
 use Rattle.ir_reader.specs.Machine.{Symbol, fault}

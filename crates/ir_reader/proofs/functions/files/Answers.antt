@@ -1,13 +1,8 @@
-use Rattle.std.proofs.Common.{◌≡◌, ◌<◌, ◌+◌, ℕ, [], ◌∷◌, ◌++◌, List, length, Ok, Err, Some, arith, ◌∙◌, subst, sym, map, flat_map, append_assoc}
+use Rattle.std.proofs.Common.{◌≡◌, ◌<◌, ◌+◌, [], ◌∷◌, length, Err, arith}
 use Rattle.std.proofs.lemmas.Grind.{common_steps}
-use Rattle.ir_model.specs.Plain.{file_of}
-use Rattle.ir_model.specs.Tokens as model
-use Rattle.ir_model.specs.declared.token.Keyword.TheVariants as key
-use Rattle.ir_reader.specs.Found.{Found, Is, finds}
 use Rattle.ir_reader.specs.Machine as expected
 use Rattle.ir_reader.specs.Machine.{Symbol, fault}
-use Rattle.ir_reader.specs.Parts.{file_rest, HasBlocks}
-use Rattle.ir_reader.specs.Reading.{Fails}
+use Rattle.ir_reader.specs.Parts.{file_rest}
 use Rattle.ir_reader.specs.Scan.{placed}
 use Rattle.ir_reader.proofs.Kept.{counted_none}
 use Rattle.ir_reader.proofs.Separated.{each_push}

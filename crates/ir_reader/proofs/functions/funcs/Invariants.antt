@@ -1,4 +1,4 @@
-use Rattle.std.proofs.Common.{◌≡◌, ◌≤◌, ◌+◌, ◌-◌, ℕ, length, [], ◌∷◌, ◌++◌, map, flat_map, List}
+use Rattle.std.proofs.Common.{◌≡◌, ◌≤◌, ◌+◌, ◌-◌, ℕ, length, ◌∷◌, ◌++◌, map, flat_map, List}
 use Rattle.ir_model.specs.Plain.{func_of}
 use Rattle.ir_reader.specs.Found.{finds}
 use Rattle.ir_reader.specs.Machine as expected

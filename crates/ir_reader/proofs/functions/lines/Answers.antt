@@ -1,8 +1,5 @@
-use Rattle.std.proofs.Common.{◌≡◌, ◌+◌, ℕ, [], ◌∷◌, ◌++◌, List, length, Ok, Err, arith, ◌∙◌, subst, sym, map, flat_map, append_assoc}
+use Rattle.std.proofs.Common.{◌≡◌, ◌+◌, ℕ, [], ◌∷◌, length, Ok, Err, arith, subst}
 use Rattle.std.proofs.lemmas.Grind.{common_steps}
-use Rattle.ir_model.specs.Plain.{slot_of, func_of, file_of}
-use Rattle.ir_model.specs.declared.token.Mark.TheVariants as mark
-use Rattle.ir_reader.specs.Found.{Found, finds}
 use Rattle.ir_reader.specs.Machine as expected
 use Rattle.ir_reader.specs.Machine.{Symbol, fault}
 use Rattle.ir_reader.specs.Reading.{Fails}

@@ -1,9 +1,6 @@
-use Rattle.std.proofs.Common.{◌≡◌, [], ◌∷◌, Ok, Err, Some, IsUtf8, arith, IfOk, subst, Result}
+use Rattle.std.proofs.Common.{◌≡◌, [], ◌∷◌, Some, IsUtf8, arith}
 use Rattle.std.proofs.lemmas.Grind.{common_steps}
 use Rattle.ir_model.specs.Plain.{firmware_of}
-use Rattle.ir_model.specs.declared.firmware.Firmware.{Firmware}
-use Rattle.ir_reader.specs.declared.error.ReadError.{ReadError}
-use Rattle.ir_reader.specs.declared.error.ReadError.TheVariants as errors
 use Rattle.ir_reader.specs.Machine.{fault, Structs}
 use Rattle.ir_reader.specs.Parts.{AllHaveBlocks}
 use Rattle.ir_reader.specs.Reading.{Passes, HasFields}

@@ -1,6 +1,4 @@
-use Rattle.std.proofs.Common.{◌≡◌, ◌<◌, ◌≤◌, ◌-◌, length, [], ◌∷◌, ◌++◌, map, List, None}
-use Rattle.ir_model.specs.Plain.{slot_of}
-use Rattle.ir_model.specs.declared.token.Mark.TheVariants as mark
+use Rattle.std.proofs.Common.{◌≡◌, ◌<◌, ◌≤◌, ◌-◌, length, ◌∷◌, ◌++◌, List}
 use Rattle.ir_reader.specs.Found.{finds}
 use Rattle.ir_reader.specs.Machine as expected
 use Rattle.ir_reader.specs.Machine.{Symbol, fault}

@@ -1,12 +1,12 @@
-use Rattle.std.proofs.Common.{◌≡◌, ◌<◌, ◌+◌, [], ◌∷◌, ◌++◌, map, List, length, arith, false, ◌∙◌}
+use Rattle.std.proofs.Common.{◌≡◌, ◌<◌, [], ◌∷◌, ◌++◌, map, length, arith, false, ◌∙◌}
 use Rattle.std.proofs.lemmas.Grind.{common_steps}
 use Rattle.ir_model.specs.declared.token.Mark.TheVariants as mark
 use Rattle.ir_model.specs.Types.{type_of}
-use Rattle.ir_reader.specs.Found.{Found, finds}
-use Rattle.ir_reader.specs.Machine.{Symbol, fault, Gives}
+use Rattle.ir_reader.specs.Found.{finds}
+use Rattle.ir_reader.specs.Machine.{Gives}
 use Rattle.ir_reader.specs.Reading.{mark_first}
 use Rattle.ir_reader.specs.Scan.{placed}
-use Rattle.ir_reader.specs.Spelling.{Sign, spell_type, separated}
+use Rattle.ir_reader.specs.Spelling.{Sign, spell_type}
 use Rattle.ir_reader.proofs.Ends.{row_ends}
 use Rattle.ir_reader.proofs.Kept.{counted_none}
 use Rattle.ir_reader.proofs.Separated.{read_more, read_closed, spell_types}

@@ -1,4 +1,4 @@
-use Rattle.std.proofs.Common.{◌≡◌, ◌<◌, ◌≤◌, ◌+◌, length, [], ◌∷◌, ◌++◌, map, List, ℕ, ◌-◌, ◌*◌}
+use Rattle.std.proofs.Common.{◌≡◌, ◌<◌, ◌≤◌, ◌+◌, length, ◌∷◌, ◌++◌, map, List, ◌-◌, ◌*◌}
 use Rattle.ir_model.specs.Types.{type_of}
 use Rattle.ir_reader.specs.Found.{finds}
 use Rattle.ir_reader.specs.Machine.{Symbol, fault, Row, MoreRow}
