@@ -37,7 +37,7 @@ nest st a b c l = rw (append_assoc a b c) l
 three : (a b c d : Line) → a ++ ((b ++ c) ++ d) ≡ ((a ++ b) ++ c) ++ d
 three a b c d = simp append_assoc
 
-func_flat : (s r : Line) (c o : Marked) (ls rs bs cs fs xs : List Line)
+pub func_flat : (s r : Line) (c o : Marked) (ls rs bs cs fs xs : List Line)
     → (s ++ c ∷ (r ++ o ∷ joined (ls ++ (rs ++ (bs ++ cs))))) ++ joined (fs ++ xs) ≡ ((s ++ (c ∷ r)) ++ o ∷ []) ++ joined (((((ls ++ rs) ++ bs) ++ cs) ++ fs) ++ xs)
 func_flat s r c o ls rs bs cs fs xs = simp (append_assoc, joined-append)
 

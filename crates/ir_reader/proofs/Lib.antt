@@ -16,4 +16,11 @@ pub mod Columns
 pub mod Lefts
 pub mod Whole
 pub mod Stops
+pub mod Allow
+pub mod Complete
 pub mod Verdicts
+pub mod Firsts
+pub mod Faultless
+pub mod Along
+pub mod Single
+pub mod Unique

@@ -22,7 +22,7 @@ use Rattle.ir_reader.proofs.Scanning.{placed_blank, placed_comment, placed_nil, 
 parts : (p : ℕ → Bool) (bs : List ℕ) → bs ≡ take_while p bs ++ drop (prefix_len p bs) bs
 parts p bs = grind (arith, common_steps)
 
-take_parts : (n : ℕ) (bs : List ℕ) → bs ≡ take n bs ++ drop n bs
+pub take_parts : (n : ℕ) (bs : List ℕ) → bs ≡ take n bs ++ drop n bs
 take_parts n bs = grind (arith, common_steps)
 
 front_passes : (p : ℕ → Bool) (bs : List ℕ) → Each (λ (b : ℕ). p b ≡ true) (take_while p bs)
@@ -223,7 +223,7 @@ lexeme_some b bs = by_word (begins_word b) refl
     by_word true h = prefix_len_some (b ∷ bs) b bs refl (let c : continues_word b ≡ true = rw h refl in c)
     by_word false h = by_digit (is_digit b) refl
 
-at_token : (b : ℕ) (bs : List ℕ) → is_blank b ≡ false → opens_comment b ≡ false
+pub at_token : (b : ℕ) (bs : List ℕ) → is_blank b ≡ false → opens_comment b ≡ false
     → placed (b ∷ bs) ≡ record { found = (first_lexeme b bs).found; left = length (b ∷ bs) } ∷ placed (drop (first_lexeme b bs).len (b ∷ bs))
 at_token b bs h i = placed_token (b ∷ bs) (h, i) (lexeme_some b bs)
 
@@ -292,7 +292,7 @@ no_end_mark b e =
     no_end_one (nat_eq b 123) mark.OpenBrace _ (no_end_one (nat_eq b 125) mark.CloseBrace _ (no_end_one (nat_eq b 40) mark.Open _ (no_end_one (nat_eq b 41) mark.Close _ (no_end_one (nat_eq b 91) mark.OpenSquare _ (
     no_end_one (nat_eq b 93) mark.CloseSquare _ (no_end_one (nat_eq b 44) mark.Comma _ (no_end_one (nat_eq b 58) mark.Colon _ (no_end_one (nat_eq b 61) mark.Equal _ (no_end_one (nat_eq b 42) mark.Star Bad (λ h. cc)))))))))) e
 
-no_end : (b : ℕ) (bs : List ℕ) → (first_lexeme b bs).found ≡ End → ⊥
+pub no_end : (b : ℕ) (bs : List ℕ) → (first_lexeme b bs).found ≡ End → ⊥
 no_end b bs e = by_word (begins_word b) e
   where
     by_next : (c : ℕ) (cs : List ℕ) (u : Bool) → (if u then lexeme (Is (Sign mark.Arrow)) 2 else lexeme (number_from (numeral (45 ∷ take_while continues_word (c ∷ cs)))) (1 + prefix_len continues_word (c ∷ cs))).found ≡ End → ⊥

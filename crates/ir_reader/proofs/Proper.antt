@@ -135,6 +135,13 @@ is_narrow st (Operation o) c e stack i h = tt
 is_narrow st (Comparison o) c e stack i h = tt
 is_narrow st (Sign m) c e stack i h = tt
 
+-- the same, with anything behind
+pub narrow_front : (st : List Symbol) → well st ≡ true → (front x : Line) → Langs st (front ++ x) → Each PassesNothing front → Each IsNarrow (tokens front)
+narrow_front st w [] x l h = tt
+narrow_front st w (m ∷ ms) x l h =
+    let s = steps st w m (ms ++ x) l in
+    (is_narrow st m.token _ m.excess s.stack h.0 s.goes, narrow_front s.stack s.well ms x s.others h.1)
+
 -- where nothing is passed each number has 32 bits
 pub narrow_from : (st : List Symbol) → well st ≡ true → (ms : Line) → Langs st ms → Each PassesNothing ms → Each IsNarrow (tokens ms)
 narrow_from st w [] l h = tt
@@ -142,7 +149,7 @@ narrow_from st w (m ∷ ms) l h =
     let s = steps st w m ms l in
     (is_narrow st m.token _ m.excess s.stack h.0 s.goes, narrow_from s.stack s.well ms s.others h.1)
 
-each_both : {A : Type 0} (P : A → Type 0) (xs ys : List A) → Each P xs → Each P ys → Each P (xs ++ ys)
+pub each_both : {A : Type 0} (P : A → Type 0) (xs ys : List A) → Each P xs → Each P ys → Each P (xs ++ ys)
 each_both P [] ys h i = i
 each_both P (x ∷ xs) ys h i = (h.0, each_both P xs ys h.1 i)
 

@@ -1,9 +1,10 @@
--- What a fault of the moves says of all firmwares.
+-- Where the moves stop, and why.
 use Rattle.std.proofs.Common.{◌≡◌, ℕ, [], ◌∷◌, ◌++◌, List, Bool, true, false, refl, sym, ap, ◌∙◌, subst, Option, Some, None, map, if◌then◌else◌}
 use Rattle.ir_model.specs.declared.token.Excess.{Excess}
 use Rattle.ir_model.specs.declared.token.Mark.TheVariants as mark
 use Rattle.ir_model.specs.Tokens.{Token, Name, Number, Key, Operation, Comparison, Sign, Marked}
-use Rattle.ir_model.specs.Lines.{Line}
+use Rattle.ir_model.specs.Canonical.{Each, PassesNothing}
+use Rattle.ir_model.specs.Lines.{Line, marked}
 use Rattle.ir_model.specs.Texts.{tokens, begins_colon}
 use Rattle.ir_reader.specs.declared.error.Fault.{Fault}
 use Rattle.ir_reader.specs.declared.error.FaultKind.{FaultKind}
@@ -12,9 +13,10 @@ use Rattle.ir_reader.specs.Found.{Found, Is, Bad, End, Placed, finds, colon_firs
 use Rattle.ir_reader.specs.Machine
 use Rattle.ir_reader.specs.Machine.{Symbol, Move, Go, Stop, Skip, Step, To, Stuck, step, fault, move, may_end}
 use Rattle.ir_reader.proofs.Lang.{Langs, well}
+use Rattle.ir_reader.proofs.Allow.{stands}
 use Rattle.ir_reader.proofs.Ends.{after}
 use Rattle.ir_reader.proofs.Values.{stepped}
-use Rattle.ir_reader.proofs.Theorem.{steps, Steps, ended}
+use Rattle.ir_reader.proofs.Theorem.{steps, Steps}
 
 -- the token that a colon follows or not makes no difference to whether it may stand
 move_flag : (s : Symbol) (t : Token) (c d : Bool) → move s t c ≡ Stop → move s t d ≡ Stop
@@ -53,7 +55,7 @@ move_flag _ (Operation o) c d h = h
 move_flag _ (Comparison o) c d h = h
 move_flag _ (Sign m) c d h = h
 
-skip_flag : (s : Symbol) (t : Token) (c d : Bool) → move s t c ≡ Skip → move s t d ≡ Skip
+pub skip_flag : (s : Symbol) (t : Token) (c d : Bool) → move s t c ≡ Skip → move s t d ≡ Skip
 skip_flag (Machine.AfterRet k n) (Name w) true d h = cc
 skip_flag (Machine.AfterRet k n) (Name w) false d h = cc
 skip_flag (Machine.AfterRet k n) (Sign mark.CloseBrace) true d h = cc
@@ -69,7 +71,7 @@ skip_flag _ (Operation o) c d h = h
 skip_flag _ (Comparison o) c d h = h
 skip_flag _ (Sign m) c d h = h
 
-stuck_flag : (st : List Symbol) (t : Token) (c d : Bool) → step st t c ≡ Stuck → step st t d ≡ Stuck
+pub stuck_flag : (st : List Symbol) (t : Token) (c d : Bool) → step st t c ≡ Stuck → step st t d ≡ Stuck
 stuck_flag [] t c d h = refl
 stuck_flag (s ∷ st) t c d h = by_move (move s t c) refl h (stuck_flag st t c d)
   where
@@ -78,12 +80,21 @@ stuck_flag (s ∷ st) t c d h = by_move (move s t c) refl h (stuck_flag st t c d
     by_move Stop e h again = ap (stepped st t d) (move_flag s t c d e)
     by_move Skip e h again = ap (stepped st t d) (skip_flag s t c d e) ∙ again h
 
--- what the place of a fault says of all that may stand there: nothing begins so, or each that does passes this
-pub record Verdict (st : List Symbol) (ts : List Token) (at : Placed) (after_ : List Placed) (k : FaultKind) : Type 0 where
-  pub syntax : k ≡ kind.Syntax → well st ≡ true → (front y : Line) (m : Marked) → tokens front ≡ ts → at.found ≡ Is m.token → Langs st (front ++ m ∷ y) → ⊥
-  pub short : k ≡ kind.Syntax → well st ≡ true → (front : Line) → tokens front ≡ ts → at.found ≡ End → Langs st front → ⊥
-  pub exceeds : (e : Excess) → k ≡ kind.Exceeds e → well st ≡ true → (front y : Line) (m : Marked) → tokens front ≡ ts → at.found ≡ Is m.token → begins_colon (tokens y) ≡ colon_first after_ → Langs st (front ++ m ∷ y) → m.excess ≡ Some e
+-- why the moves stop where this is expected
+pub data Why (stack : List Symbol) (at : Placed) (after_ : List Placed) : FaultKind → Type 0 where
+  stuck : (t : Token) → at.found ≡ Is t → step stack t (colon_first after_) ≡ Stuck → Why stack at after_ kind.Syntax
+  bad : at.found ≡ Bad → Why stack at after_ kind.Syntax
+  short : at.found ≡ End → may_end stack ≡ false → Why stack at after_ kind.Syntax
+  over : (t : Token) (x : Excess) (behind : List Symbol) → at.found ≡ Is t → step stack t (colon_first after_) ≡ To (Some x) behind → Why stack at after_ (kind.Exceeds x)
 
+-- tokens that pass nothing, and what stands behind them
+pub record Front (st : List Symbol) (ts : List Token) (x : Line) : Type 0 where
+  pub front : Line
+  pub same : tokens front ≡ ts
+  pub limits : Each PassesNothing front
+  pub stands : Langs st (front ++ x)
+
+-- where the moves stop: what is expected there, and what may stand there by the tokens before
 pub record Stopped (st : List Symbol) (ps : List Placed) (f : Fault) : Type 0 where
   pub before : List Placed
   pub at : Placed
@@ -92,7 +103,11 @@ pub record Stopped (st : List Symbol) (ps : List Placed) (f : Fault) : Type 0 wh
   pub whole : ps ≡ before ++ at ∷ after_
   pub found : finds before ≡ map Is ts
   pub place : f.left ≡ at.left
-  pub verdict : Verdict st ts at after_ f.kind
+  pub stack : List Symbol
+  pub why : Why stack at after_ f.kind
+  pub back : (x : Line) → Langs stack x → Front st ts x
+  pub forth : well st ≡ true → (front y : Line) (m : Marked) → tokens front ≡ ts → at.found ≡ Is m.token → Langs st (front ++ m ∷ y) → (well stack ≡ true) × Langs stack (m ∷ y)
+  pub end : well st ≡ true → (front : Line) → tokens front ≡ ts → at.found ≡ End → Langs st front → Langs stack []
 
 no_tokens : (front : Line) → tokens front ≡ [] → front ≡ []
 no_tokens [] h = refl
@@ -100,42 +115,6 @@ no_tokens (m ∷ ms) h = cc
 
 same_kind : (g f : Fault) → Some g ≡ Some f → g ≡ f
 same_kind g f e = cc
-
--- at a token that nothing stands for
-stuck_at : (st : List Symbol) (left : ℕ) (ps : List Placed) (t : Token) → step st t (colon_first ps) ≡ Stuck → Verdict st [] (record { found = Is t; left = left }) ps kind.Syntax
-stuck_at st left ps t e = record { syntax = syntax; short = λ k w front s i l. cc; exceeds = λ x k w front y m s i c l. cc }
-  where
-    syntax : kind.Syntax ≡ kind.Syntax → well st ≡ true → (front y : Line) (m : Marked) → tokens front ≡ [] → Is t ≡ Is m.token → Langs st (front ++ m ∷ y) → ⊥
-    syntax k w front y m s i l =
-        let n = no_tokens front s in
-        let same : t ≡ m.token = cc in
-        let q = steps st w m y (subst (λ (z : Line). Langs st (z ++ m ∷ y)) n l) in
-        let g = stuck_flag st t (colon_first ps) (begins_colon (tokens y)) e in
-        let h : step st t (begins_colon (tokens y)) ≡ To m.excess q.stack = subst (λ (z : Token). step st z (begins_colon (tokens y)) ≡ To m.excess q.stack) (sym same) q.goes in
-        cc
-
--- at a token that passes something
-over_at : (st stack : List Symbol) (left : ℕ) (ps : List Placed) (t : Token) (x : Excess) → step st t (colon_first ps) ≡ To (Some x) stack → Verdict st [] (record { found = Is t; left = left }) ps (kind.Exceeds x)
-over_at st stack left ps t x e = record { syntax = λ k. cc; short = λ k. cc; exceeds = exceeds }
-  where
-    exceeds : (v : Excess) → kind.Exceeds x ≡ kind.Exceeds v → well st ≡ true → (front y : Line) (m : Marked) → tokens front ≡ [] → Is t ≡ Is m.token → begins_colon (tokens y) ≡ colon_first ps → Langs st (front ++ m ∷ y) → m.excess ≡ Some v
-    exceeds v k w front y m s i c l =
-        let n = no_tokens front s in
-        let same : t ≡ m.token = cc in
-        let q = steps st w m y (subst (λ (z : Line). Langs st (z ++ m ∷ y)) n l) in
-        let g : step st t (colon_first ps) ≡ To m.excess q.stack = subst (λ (b : Bool). step st t b ≡ To m.excess q.stack) c (subst (λ (z : Token). step st z (begins_colon (tokens y)) ≡ To m.excess q.stack) (sym same) q.goes) in
-        let r : x ≡ v = cc in
-        cc
-
--- where no token begins, and where the text ends
-bad_at : (st : List Symbol) (left : ℕ) (ps : List Placed) → Verdict st [] (record { found = Bad; left = left }) ps kind.Syntax
-bad_at st left ps = record { syntax = λ k w front y m s i l. cc; short = λ k w front s i l. cc; exceeds = λ x k w front y m s i c l. cc }
-
-end_at : (st : List Symbol) (left : ℕ) (ps : List Placed) → may_end st ≡ false → Verdict st [] (record { found = End; left = left }) ps kind.Syntax
-end_at st left ps e = record { syntax = λ k w front y m s i l. cc; short = short; exceeds = λ x k w front y m s i c l. cc }
-  where
-    short : kind.Syntax ≡ kind.Syntax → well st ≡ true → (front : Line) → tokens front ≡ [] → End ≡ End → Langs st front → ⊥
-    short k w front s i l = let g = ended st (subst (λ (z : Line). Langs st z) (no_tokens front s) l) in cc
 
 -- the token behind some tokens is a colon or not
 colon_at : (ts : List Token) (front : Line) (m : Marked) (y : Line) (before : List Placed) (at : Placed) (ps : List Placed) → tokens front ≡ ts → finds before ≡ map Is ts → at.found ≡ Is m.token
@@ -168,59 +147,71 @@ grown st stack left ps t f e s =
       whole = ap (λ z. record { found = Is t; left = left } ∷ z) s.whole;
       found = ap (λ z. Is t ∷ z) s.found;
       place = s.place;
-      verdict = record { syntax = syntax; short = short; exceeds = exceeds };
+      stack = s.stack;
+      why = s.why;
+      back = back;
+      forth = forth;
+      end = end;
     }
   where
-    syntax : f.kind ≡ kind.Syntax → well st ≡ true → (front y : Line) (m : Marked) → tokens front ≡ t ∷ s.ts → s.at.found ≡ Is m.token → Langs st (front ++ m ∷ y) → ⊥
-    syntax k w [] y m h i l = cc
-    syntax k w (n ∷ front) y m h i l =
+    back : (x : Line) → Langs s.stack x → Front st (t ∷ s.ts) x
+    back x l =
+        let g = s.back x l in
+        record { front = marked t None ∷ g.front; same = ap (λ z. t ∷ z) g.same; limits = (refl, g.limits); stands = stands st t (colon_first ps) None stack e (g.front ++ x) g.stands }
+
+    forth : well st ≡ true → (front y : Line) (m : Marked) → tokens front ≡ t ∷ s.ts → s.at.found ≡ Is m.token → Langs st (front ++ m ∷ y) → (well s.stack ≡ true) × Langs s.stack (m ∷ y)
+    forth w [] y m h i l = cc
+    forth w (n ∷ front) y m h i l =
         let same : n.token ≡ t = cc in
         let rest : tokens front ≡ s.ts = cc in
         let q = steps st w n (front ++ m ∷ y) l in
         let c = colon_at s.ts front m y s.before s.at s.after_ rest s.found i ∙ ap colon_first (sym s.whole) in
         let j = step_same st stack t n (front ++ m ∷ y) ps e same c q in
-        s.verdict.syntax k (subst (λ (z : List Symbol). well z ≡ true) j q.well) front y m rest i (subst (λ (z : List Symbol). Langs z (front ++ m ∷ y)) j q.others)
+        s.forth (subst (λ (z : List Symbol). well z ≡ true) j q.well) front y m rest i (subst (λ (z : List Symbol). Langs z (front ++ m ∷ y)) j q.others)
 
-    short : f.kind ≡ kind.Syntax → well st ≡ true → (front : Line) → tokens front ≡ t ∷ s.ts → s.at.found ≡ End → Langs st front → ⊥
-    short k w [] h i l = cc
-    short k w (n ∷ front) h i l =
+    end : well st ≡ true → (front : Line) → tokens front ≡ t ∷ s.ts → s.at.found ≡ End → Langs st front → Langs s.stack []
+    end w [] h i l = cc
+    end w (n ∷ front) h i l =
         let same : n.token ≡ t = cc in
         let rest : tokens front ≡ s.ts = cc in
         let q = steps st w n front l in
         let c = colon_end s.ts front s.before s.at s.after_ rest s.found i ∙ ap colon_first (sym s.whole) in
         let j = step_same st stack t n front ps e same c q in
-        s.verdict.short k (subst (λ (z : List Symbol). well z ≡ true) j q.well) front rest i (subst (λ (z : List Symbol). Langs z front) j q.others)
+        s.end (subst (λ (z : List Symbol). well z ≡ true) j q.well) front rest i (subst (λ (z : List Symbol). Langs z front) j q.others)
 
-    exceeds : (v : Excess) → f.kind ≡ kind.Exceeds v → well st ≡ true → (front y : Line) (m : Marked) → tokens front ≡ t ∷ s.ts → s.at.found ≡ Is m.token → begins_colon (tokens y) ≡ colon_first s.after_ → Langs st (front ++ m ∷ y) → m.excess ≡ Some v
-    exceeds v k w [] y m h i d l = cc
-    exceeds v k w (n ∷ front) y m h i d l =
-        let same : n.token ≡ t = cc in
-        let rest : tokens front ≡ s.ts = cc in
-        let q = steps st w n (front ++ m ∷ y) l in
-        let c = colon_at s.ts front m y s.before s.at s.after_ rest s.found i ∙ ap colon_first (sym s.whole) in
-        let j = step_same st stack t n (front ++ m ∷ y) ps e same c q in
-        s.verdict.exceeds v k (subst (λ (z : List Symbol). well z ≡ true) j q.well) front y m rest i d (subst (λ (z : List Symbol). Langs z (front ++ m ∷ y)) j q.others)
-
-at_once : (st : List Symbol) (p : Placed) (ps : List Placed) (g f : Fault) → g.left ≡ p.left → Verdict st [] p ps g.kind → Some g ≡ Some f → Stopped st (p ∷ ps) f
+at_once : (st : List Symbol) (p : Placed) (ps : List Placed) (g f : Fault) → g.left ≡ p.left → Why st p ps g.kind → Some g ≡ Some f → Stopped st (p ∷ ps) f
 at_once st p ps g f i v e =
     let P : Fault → Type 0 = λ z. Stopped st (p ∷ ps) z in
-    subst P (same_kind g f e) (record { before = []; at = p; after_ = ps; ts = []; whole = refl; found = refl; place = i; verdict = v })
+    subst P (same_kind g f e) (record {
+      before = [];
+      at = p;
+      after_ = ps;
+      ts = [];
+      whole = refl;
+      found = refl;
+      place = i;
+      stack = st;
+      why = v;
+      back = λ x l. record { front = []; same = refl; limits = tt; stands = l };
+      forth = λ w front y m h j l. (w, subst (λ (z : Line). Langs st (z ++ m ∷ y)) (no_tokens front h) l);
+      end = λ w front h j l. subst (λ (z : Line). Langs st z) (no_tokens front h) l;
+    })
 
 by_step : (st : List Symbol) (left : ℕ) (ps : List Placed) (t : Token) (f : Fault) → ((st : List Symbol) → fault st ps ≡ Some f → Stopped st ps f) → (s : Step) → step st t (colon_first ps) ≡ s
     → after (record { found = Is t; left = left }) ps s ≡ Some f → Stopped st (record { found = Is t; left = left } ∷ ps) f
 by_step st left ps t f again (To None stack) i e = grown st stack left ps t f i (again stack e)
-by_step st left ps t f again (To (Some x) stack) i e = at_once st (record { found = Is t; left = left }) ps (Machine.fault_at (record { found = Is t; left = left }) x) f refl (over_at st stack left ps t x i) e
-by_step st left ps t f again Stuck i e = at_once st (record { found = Is t; left = left }) ps (Machine.syntax_at (record { found = Is t; left = left })) f refl (stuck_at st left ps t i) e
+by_step st left ps t f again (To (Some x) stack) i e = at_once st (record { found = Is t; left = left }) ps (Machine.fault_at (record { found = Is t; left = left }) x) f refl (over t x stack refl i) e
+by_step st left ps t f again Stuck i e = at_once st (record { found = Is t; left = left }) ps (Machine.syntax_at (record { found = Is t; left = left })) f refl (stuck t refl i) e
 
 by_end : (st : List Symbol) (left : ℕ) (ps : List Placed) (f : Fault) (u : Bool) → may_end st ≡ u → ◌≡◌ {A = Option Fault} (if u then None else Some (Machine.syntax_at (record { found = End; left = left }))) (Some f)
     → Stopped st (record { found = End; left = left } ∷ ps) f
 by_end st left ps f true i e = cc
-by_end st left ps f false i e = at_once st (record { found = End; left = left }) ps (Machine.syntax_at (record { found = End; left = left })) f refl (end_at st left ps i) e
+by_end st left ps f false i e = at_once st (record { found = End; left = left }) ps (Machine.syntax_at (record { found = End; left = left })) f refl (short refl i) e
 
 by_found : (st : List Symbol) (left : ℕ) (ps : List Placed) (f : Fault) → ((st : List Symbol) → fault st ps ≡ Some f → Stopped st ps f) → (g : Found) → fault st (record { found = g; left = left } ∷ ps) ≡ Some f
     → Stopped st (record { found = g; left = left } ∷ ps) f
 by_found st left ps f again (Is t) e = by_step st left ps t f again (step st t (colon_first ps)) refl e
-by_found st left ps f again Bad e = at_once st (record { found = Bad; left = left }) ps (Machine.syntax_at (record { found = Bad; left = left })) f refl (bad_at st left ps) e
+by_found st left ps f again Bad e = at_once st (record { found = Bad; left = left }) ps (Machine.syntax_at (record { found = Bad; left = left })) f refl (bad refl) e
 by_found st left ps f again End e = by_end st left ps f (may_end st) refl e
 
 -- where the moves find a fault

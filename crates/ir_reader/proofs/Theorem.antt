@@ -41,7 +41,7 @@ below_more (s ∷ r ∷ more) st h i =
     and_both (not (takes_arrow s)) _ (and_first (not (takes_arrow s)) _ h)
     (and_both (not (at_bottom s)) _ (and_first (not (at_bottom s)) _ (and_second (not (takes_arrow s)) _ h)) (below_more (r ∷ more) st (and_second (not (at_bottom s)) _ (and_second (not (takes_arrow s)) _ h)) i))
 
-below_well : (st : List Symbol) → below st ≡ true → well st ≡ true
+pub below_well : (st : List Symbol) → below st ≡ true → well st ≡ true
 below_well [] h = refl
 below_well (s ∷ []) h = refl
 below_well (s ∷ q ∷ st) h = and_second (not (takes_arrow s)) _ h
@@ -52,12 +52,12 @@ well_more (s ∷ []) [] h i = refl
 well_more (s ∷ []) (q ∷ st) h i = and_both (not (at_bottom s)) _ (and_first (not (at_bottom s)) _ h) i
 well_more (s ∷ r ∷ more) st h i = and_both (not (at_bottom s)) _ (and_first (not (at_bottom s)) _ h) (below_more (r ∷ more) st (and_second (not (at_bottom s)) _ h) i)
 
-below_of : (s : Symbol) (st : List Symbol) → well (s ∷ st) ≡ true → below st ≡ true
+pub below_of : (s : Symbol) (st : List Symbol) → well (s ∷ st) ≡ true → below st ≡ true
 below_of s [] h = refl
 below_of s (q ∷ st) h = and_second (not (at_bottom s)) _ h
 
 -- the stack stays well formed
-well_step : (s : Symbol) (st more : List Symbol) → well (s ∷ st) ≡ true → fits s more ≡ true → well (more ++ st) ≡ true
+pub well_step : (s : Symbol) (st more : List Symbol) → well (s ∷ st) ≡ true → fits s more ≡ true → well (more ++ st) ≡ true
 well_step s [] more h f = by_bottom (at_bottom s) f
   where
     by_bottom : (b : Bool) → (if b then well more else inner_top more) ≡ true → well (more ++ []) ≡ true

@@ -1,5 +1,5 @@
 -- What bytes spell is what the scan finds.
-use Rattle.std.proofs.Common.{◌≡◌, ◌<◌, ℕ, ◌+◌, ◌-◌, ◌*◌, ◌^◌, [], ◌∷◌, ◌++◌, List, Bool, true, false, ◌&&◌, refl, sym, ap, ◌∙◌, subst, Option, Some, None, length, take, drop, suc, arith, map, nat_eq, if◌then◌else◌, eqb-true}
+use Rattle.std.proofs.Common.{◌≡◌, ◌<◌, ◌≤◌, ◌⊎◌, inl, inr, ℕ, ◌+◌, ◌-◌, ◌*◌, ◌^◌, [], ◌∷◌, ◌++◌, List, Bool, true, false, ◌&&◌, refl, sym, ap, ◌∙◌, subst, Option, Some, None, length, take, drop, suc, arith, map, nat_eq, if◌then◌else◌, eqb-true}
 use Rattle.std.proofs.lemmas.Grind.{common_steps}
 use Rattle.std.proofs.lemmas.Bool.Decides.{nat_tests}
 use Rattle.std.specs.List.{prefix_len, take_while, list_all}
@@ -19,7 +19,7 @@ use Rattle.ir_model.specs.declared.token.Mark.TheVariants as mark
 use Rattle.ir_model.specs.Canonical.{Each}
 use Rattle.ir_model.specs.Tokens.{Token, Name, Number, Key, Operation, Comparison, Sign, mark_bytes, keyword_bytes, operation_bytes, comparison_bytes}
 use Rattle.ir_model.specs.Texts.{is_blank, opens_comment, is_inside_line, EndsLine, StandsFor, Spells, EndsWord, IsApart, Leads, here, blank, comment, token}
-use Rattle.ir_reader.specs.Found.{Is, finds}
+use Rattle.ir_reader.specs.Found.{Is, Placed, finds}
 use Rattle.ir_reader.specs.Words.{word_token}
 use Rattle.ir_reader.specs.Scan.{placed, StartsToken, first_lexeme, lexeme_of, number_from, is_digit, Lexeme, lexeme}
 use Rattle.ir_reader.proofs.Tables.{free_name, keyword_token, operation_token, comparison_token}
@@ -245,24 +245,24 @@ finds_negative d r bs n h e a =
       some = some_bytes 45 (d ∷ r);
     }
 
-finds_number : (w bs : List ℕ) (n : ℕ) → StandsFor (numeral w) n → n < 2 ^ 32 → EndsWord bs → Finds (Number n) w bs
+finds_number : (w bs : List ℕ) (n m : ℕ) → StandsFor (numeral w) n → number_from (numeral w) ≡ Is (Number m) → EndsWord bs → Finds (Number m) w bs
 unfolding numeral
-finds_number [] bs n s l a = absurd s
-finds_number (b ∷ v) bs n s l a = by_sign (nat_eq b 45) refl (well_formed (numeral (b ∷ v)) n s)
+finds_number [] bs n m s l a = absurd s
+finds_number (b ∷ v) bs n m s l a = by_sign (nat_eq b 45) refl (well_formed (numeral (b ∷ v)) n s)
   where
-    by_run : (v : List ℕ) → IsRun v → number_from (numeral (45 ∷ v)) ≡ Is (Number n) → Finds (Number n) (45 ∷ v) bs
+    by_run : (v : List ℕ) → IsRun v → number_from (numeral (45 ∷ v)) ≡ Is (Number m) → Finds (Number m) (45 ∷ v) bs
     by_run [] r e = absurd r
-    by_run (d ∷ r) h e = finds_negative d r bs n h e a
+    by_run (d ∷ r) h e = finds_negative d r bs m h e a
 
-    by_sign : (t : Bool) → nat_eq b 45 ≡ t → ((if t then numbers.negative (numbers.magnitude v) else numbers.positive (numbers.magnitude (b ∷ v))) ≡ numerals.Malformed → ⊥) → Finds (Number n) (b ∷ v) bs
+    by_sign : (t : Bool) → nat_eq b 45 ≡ t → ((if t then numbers.negative (numbers.magnitude v) else numbers.positive (numbers.magnitude (b ∷ v))) ≡ numerals.Malformed → ⊥) → Finds (Number m) (b ∷ v) bs
     by_sign true e h =
         let o = negative_some (numbers.magnitude v) h in
         let k = eqb-true b 45 e in
-        let q : number_from (numeral (45 ∷ v)) ≡ Is (Number n) = subst (λ z. number_from (numeral (z ∷ v)) ≡ Is (Number n)) k (number_is (numeral (b ∷ v)) n s l) in
-        subst (λ z. Finds (Number n) (z ∷ v) bs) (sym k) (by_run v (run_of v o.0 o.1) q)
+        let q : number_from (numeral (45 ∷ v)) ≡ Is (Number m) = subst (λ z. number_from (numeral (z ∷ v)) ≡ Is (Number m)) k l in
+        subst (λ z. Finds (Number m) (z ∷ v) bs) (sym k) (by_run v (run_of v o.0 o.1) q)
     by_sign false e h =
         let o = positive_some (numbers.magnitude (b ∷ v)) h in
-        finds_positive b v bs n (run_of (b ∷ v) o.0 o.1) (number_is (numeral (b ∷ v)) n s l) a
+        finds_positive b v bs m (run_of (b ∷ v) o.0 o.1) l a
 
 -- a number of 32 bits
 abbrev pub IsNarrow : Token → Type 0
@@ -271,28 +271,72 @@ IsNarrow _ = Unit {0}
 
 finds_token : (t : Token) (w bs : List ℕ) → Spells t w → IsApart t bs → IsNarrow t → Finds t w bs
 finds_token (Name v) w bs s a n = let h : is_word w ≡ true = rw s.0 s.1 in finds_word w bs (Name v) h (ap word_token s.0 ∙ free_name v s.2) a
-finds_token (Number m) w bs s a n = finds_number w bs m s n a
+finds_token (Number m) w bs s a n = finds_number w bs m m s (number_is (numeral w) m s n) a
 finds_token (Key k) w bs s a n = subst (λ z. Finds (Key k) z bs) (sym s) (finds_word (keyword_bytes k) bs (Key k) (keyword_word k) (keyword_token k) a)
 finds_token (Operation o) w bs s a n = subst (λ z. Finds (Operation o) z bs) (sym s) (finds_word (operation_bytes o) bs (Operation o) (operation_word o) (operation_token o) a)
 finds_token (Comparison c) w bs s a n = subst (λ z. Finds (Comparison c) z bs) (sym s) (finds_word (comparison_bytes c) bs (Comparison c) (comparison_word c) (comparison_token c) a)
 finds_token (Sign m) w bs s a n = subst (λ z. Finds (Sign m) z bs) (sym s) (finds_mark m bs)
 
+-- numbers that are too wide are found as one
+abbrev pub AreWide : Token → Token → Type 0
+AreWide (Number n) (Number m) = (2 ^ 32 ≤ n) × (2 ^ 32 ≤ m)
+AreWide _ _ = ⊥
+
+abbrev pub Alike : Token → Token → Type 0
+Alike t u = (t ≡ u) ⊎ AreWide t u
+
+-- the number that is found, where one is spelled
+number_some : (a : Numeral) (n : ℕ) → StandsFor a n → (m : ℕ) × (number_from a ≡ Is (Number m)) × Alike (Number n) (Number m)
+number_some numerals.Malformed n s = absurd s
+number_some numerals.TooWide n s = let w : 2 ^ 32 ≤ 2 ^ 32 = omega arith in (2 ^ 32, refl, inr (s, w))
+number_some (numerals.Value m) n s = (m, refl, inl (ap Number s))
+
+-- where a token is spelled, one is found
+pub finds_some : (t : Token) (w bs : List ℕ) → Spells t w → IsApart t bs → (u : Token) × Finds u w bs × Alike t u
+finds_some (Number n) w bs s a = let m = number_some (numeral w) n s in (Number m.0, finds_number w bs n m.0 s m.1 a, m.2)
+finds_some (Name v) w bs s a = (Name v, finds_token (Name v) w bs s a tt, inl refl)
+finds_some (Key k) w bs s a = (Key k, finds_token (Key k) w bs s a tt, inl refl)
+finds_some (Operation o) w bs s a = (Operation o, finds_token (Operation o) w bs s a tt, inl refl)
+finds_some (Comparison c) w bs s a = (Comparison c, finds_token (Comparison c) w bs s a tt, inl refl)
+finds_some (Sign m) w bs s a = (Sign m, finds_token (Sign m) w bs s a tt, inl refl)
+
 opens_is : (b : ℕ) → opens_comment b ≡ true → b ≡ 35
 opens_is b h = eqb-true b 35 h
 
-token_finds : (t : Token) (w bs : List ℕ) → Finds t w bs → finds (placed (w ++ bs)) ≡ Is t ∷ finds (placed bs)
-token_finds t w bs f =
+pub token_placed : (t : Token) (w bs : List ℕ) → Finds t w bs → placed (w ++ bs) ≡ record { found = Is t; left = length (w ++ bs) } ∷ placed bs
+token_placed t w bs f =
     let s : 0 < (lexeme_of (w ++ bs)).len = rw f.len f.some in
     let d : drop (lexeme_of (w ++ bs)).len (w ++ bs) ≡ bs = ap (λ n. drop n (w ++ bs)) f.len ∙ drop_front w bs in
-    ap finds (placed_token (w ++ bs) f.starts s) ∙ (ap (λ z. z ∷ finds (placed (drop (lexeme_of (w ++ bs)).len (w ++ bs)))) f.found ∙ ap (λ z. Is t ∷ finds (placed z)) d)
+    placed_token (w ++ bs) f.starts s
+    ∙ (ap (λ z. record { found = z; left = length (w ++ bs) } ∷ placed (drop (lexeme_of (w ++ bs)).len (w ++ bs))) f.found ∙ ap (λ z. record { found = Is t; left = length (w ++ bs) } ∷ placed z) d)
+
+-- the front of what the scan finds
+pub record Prefix (ts : List Token) (bs rest : List ℕ) : Type 0 where
+  pub ps : List Placed
+  pub found : finds ps ≡ map Is ts
+  pub whole : placed bs ≡ ps ++ placed rest
+
+pub placed_from : (ts : List Token) (bs rest : List ℕ) → Leads ts bs rest → Each IsNarrow ts → Prefix ts bs rest
+placed_from ts bs rest (here b) n = record { ps = []; found = refl; whole = refl }
+placed_from ts bs rest (blank b {bs = c} h l) n = let p = placed_from ts c rest l n in record { ps = p.ps; found = p.found; whole = placed_blank b c h ∙ p.whole }
+placed_from ts bs rest (comment b inside {bs = c} h i j l) n =
+    let k = opens_is b h in
+    let q : is_blank b ≡ false = rw k refl in
+    let m : prefix_len is_inside_line (inside ++ c) ≡ length inside = prefix_front is_inside_line inside c i (line_ends c j) in
+    let p = placed_from ts c rest l n in
+    record { ps = p.ps; found = p.found; whole = placed_comment b (inside ++ c) q k ∙ (ap placed (ap (λ m. drop m (inside ++ c)) m ∙ drop_front inside c) ∙ p.whole) }
+placed_from (u ∷ us) bs rest (token t w {bs = c} s a l) n =
+    let p = placed_from us c rest l n.1 in
+    record {
+      ps = record { found = Is t; left = length (w ++ c) } ∷ p.ps;
+      found = ap (λ z. Is t ∷ z) p.found;
+      whole = token_placed t w c (finds_token t w c s a n.0) ∙ ap (λ z. record { found = Is t; left = length (w ++ c) } ∷ z) p.whole;
+    }
+
+finds_both : (ps qs : List Placed) → finds (ps ++ qs) ≡ finds ps ++ finds qs
+finds_both [] qs = refl
+finds_both (p ∷ ps) qs = ap (λ z. p.found ∷ z) (finds_both ps qs)
 
 -- the scan finds the tokens that the bytes spell
 pub finds_from : (ts : List Token) (bs rest : List ℕ) → Leads ts bs rest → Each IsNarrow ts → finds (placed bs) ≡ map Is ts ++ finds (placed rest)
-finds_from ts bs rest (here b) n = refl
-finds_from ts bs rest (blank b {bs = c} h l) n = ap finds (placed_blank b c h) ∙ finds_from ts c rest l n
-finds_from ts bs rest (comment b inside {bs = c} h i j l) n =
-    let k = opens_is b h in
-    let q : is_blank b ≡ false = rw k refl in
-    let p : prefix_len is_inside_line (inside ++ c) ≡ length inside = prefix_front is_inside_line inside c i (line_ends c j) in
-    ap finds (placed_comment b (inside ++ c) q k ∙ ap placed (ap (λ m. drop m (inside ++ c)) p ∙ drop_front inside c)) ∙ finds_from ts c rest l n
-finds_from (u ∷ us) bs rest (token t w {bs = c} s a l) n = token_finds t w c (finds_token t w c s a n.0) ∙ ap (λ z. Is t ∷ z) (finds_from us c rest l n.1)
+finds_from ts bs rest l n = let p = placed_from ts bs rest l n in ap finds p.whole ∙ (finds_both p.ps (placed rest) ∙ ap (λ z. z ++ finds (placed rest)) p.found)

@@ -7,3 +7,5 @@ pub mod Reading
 pub mod Lines
 pub mod Parts
 pub mod Refusals
+pub mod First
+pub mod Laws

@@ -6,6 +6,7 @@ mod error;
 mod fault;
 mod functions;
 mod instructions;
+pub mod laws;
 mod lexer;
 mod limits;
 mod position;

@@ -1,0 +1,12 @@
+pub mod FirstPlaces
+pub mod Order
+pub mod Rows
+pub mod Slots
+pub mod NamedTypes
+pub mod StructFields
+pub mod FuncParts
+pub mod Sizes
+pub mod StructSteps
+pub mod CellTables
+pub mod GlobalParts
+pub mod Whole

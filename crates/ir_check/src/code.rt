@@ -1,0 +1,79 @@
+//! Instructions, block ends and blocks.
+
+ghost use Rattle.std.specs.Prelude.{◌≡◌, ◌∷◌, ◌++◌, [], IfOk, IfErr};
+ghost use Rattle.ir_model.specs.Plain.{func_of, firmware_of};
+ghost use Rattle.ir_model.specs.Typing.{blocks_checks, code_checks};
+ghost use Rattle.ir_check.specs.Found.{Finds};
+ghost use Rattle.ir_check.specs.Parts.{inst_check, term_check};
+ghost use Rattle.ir_check.specs.Spots.{place_of};
+ghost use Rattle.ir_check.specs.Scopes.{IsScope, IsFuncScope};
+
+use crate::fault::CheckFault;
+use crate::fits::{inst_fits, term_fits};
+use crate::found::require;
+use crate::register_names::{inst_names, term_names};
+use crate::scope::{FuncScope, Scope};
+use crate::spot::Spot;
+use ir_model::check::CheckKind;
+use ir_model::firmware::{Block, Inst, Term};
+
+#[tactic(auto, using(crate::proofs::Order::refused_left, crate::proofs::Order::refused_right, crate::proofs::Order::first_stays, crate::proofs::Order::first_append))]
+fn inst(scope: &Scope, func: &FuncScope, spot: Spot, inst: &Inst) -> Result<(), CheckFault>
+    requires scope { IsScope scope.now }
+    requires func { IsFuncScope func.now }
+    ensures { Finds (inst_check (firmware_of scope.now.firmware.now) (func_of func.now.func.now) (place_of spot.entry) inst.now) result }
+{
+    inst_names(scope, func, spot, inst)?;
+    require(inst_fits(scope, func, inst), CheckKind::IllTyped, spot)?;
+    Ok(())
+}
+
+#[tactic(auto, using(crate::proofs::Order::refused_left, crate::proofs::Order::refused_right, crate::proofs::Order::first_stays, crate::proofs::Order::first_append))]
+fn term(func: &FuncScope, spot: Spot, term: &Term) -> Result<(), CheckFault>
+    requires { IsFuncScope func.now }
+    ensures { Finds (term_check (func_of func.now.func.now) (place_of spot.entry) term.now) result }
+{
+    term_names(func, spot, term)?;
+    require(term_fits(func, term), CheckKind::IllTyped, spot)?;
+    Ok(())
+}
+
+/// A number of 32 bits.
+pub fn number(place: usize) -> Result<u32, CheckFault>
+    ensures number { IfOk result (λ n. n ≡ place) }
+    ensures free { IfErr result (λ e. e ≡ CheckFault.NoMemory) }
+{
+    match u32::try_from(place) {
+        Ok(number) => Ok(number),
+        Err(_) => Err(CheckFault::NoMemory),
+    }
+}
+
+fn block(scope: &Scope, func: &FuncScope, block: &Block) -> Result<(), CheckFault>
+    requires scope { IsScope scope.now }
+    requires func { IsFuncScope func.now }
+    ensures { Finds (code_checks (firmware_of scope.now.firmware.now) (func_of func.now.func.now) block.now.label 0 block.now.insts block.now.term) result }
+{
+    let insts = block.insts.as_slice();
+    for i in 0..insts.len() {
+        let place = number(i)?;
+        let spot = Spot::Inst(&func.func.name, &block.label, place);
+        inst(scope, func, spot, &insts[i])?;
+    }
+    let count = number(insts.len())?;
+    let spot = Spot::Inst(&func.func.name, &block.label, count);
+    term(func, spot, &block.term)?;
+    Ok(())
+}
+
+/// The checks of blocks.
+pub fn blocks(scope: &Scope, func: &FuncScope, blocks: &[Block]) -> Result<(), CheckFault>
+    requires scope { IsScope scope.now }
+    requires func { IsFuncScope func.now }
+    ensures { Finds (blocks_checks (firmware_of scope.now.firmware.now) (func_of func.now.func.now) blocks.now) result }
+{
+    for code in blocks {
+        block(scope, func, code)?;
+    }
+    Ok(())
+}

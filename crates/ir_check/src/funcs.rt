@@ -1,0 +1,125 @@
+//! Functions.
+
+ghost use Rattle.std.specs.Prelude.{◌≡◌, ◌+◌, ◌*◌, IfOk, IfErr};
+ghost use Rattle.ir_model.specs.Plain.{func_of, funcs_of, firmware_of};
+ghost use Rattle.ir_model.specs.Layout.{known, rounded_up};
+ghost use Rattle.ir_model.specs.Frames.{locals_size};
+ghost use Rattle.ir_model.specs.Typing.{funcs_checks};
+ghost use Rattle.ir_model.specs.Resolve.{labels_of};
+ghost use Rattle.ir_check.specs.Found.{Finds};
+ghost use Rattle.ir_check.specs.Parts.{slots_part, frame_part, body_part, func_part};
+ghost use Rattle.ir_check.specs.Scopes.{IsScope, IsFuncScope};
+
+use crate::code::blocks;
+use crate::fault::CheckFault;
+use crate::found::require;
+use crate::labels::labels;
+use crate::listing::add_slots;
+use crate::locals::locals;
+use crate::registers::{outcome, registers};
+use crate::scope::{FuncScope, Scope};
+use crate::spot::Spot;
+use crate::table::Names;
+use ir_model::check::CheckKind;
+use ir_model::firmware::Func;
+use ir_model::types::Ty;
+use std::alloc::{AllocError, Global};
+
+#[tactic(auto, using(crate::proofs::Order::refused_left, crate::proofs::Order::refused_right, crate::proofs::Order::first_stays, crate::proofs::Order::first_append))]
+fn slots(alloc: Global, scope: &Scope, func: &Func) -> Result<u64, CheckFault>
+    requires { IsScope scope.now }
+    ensures finds { Finds (slots_part scope.now.structs (firmware_of scope.now.firmware.now) (func_of func.now)) result }
+    ensures size { IfOk result (λ n. n ≡ locals_size (known (firmware_of scope.now.firmware.now).structs) (func_of func.now).locals) }
+{
+    let spot = Spot::Func(&func.name);
+    let mut seen = Names::new(alloc);
+    registers(&scope.structs, spot, &mut seen, func.params.as_slice())?;
+    outcome(&scope.structs, spot, &func.result)?;
+    let size = locals(scope, spot, &mut seen, func.locals.as_slice())?;
+    registers(&scope.structs, spot, &mut seen, func.regs.as_slice())?;
+    Ok(size)
+}
+
+fn frame_bytes(registers: usize, locals: u64) -> Result<u32, CheckFault>
+    ensures bytes { IfOk result (λ n. n ≡ rounded_up (4 * registers + locals + 4) 8) }
+    ensures free { IfErr result (λ e. e ≡ CheckFault.NoMemory) }
+{
+    if registers > 1_000_000 || locals > 1_000_000_000 {
+        return Err(CheckFault::NoMemory);
+    }
+    let bytes = (4 * registers as u64 + locals + 11) / 8 * 8;
+    Ok(bytes as u32)
+}
+
+fn frame(scope: &Scope, func: &Func, locals: u64) -> Result<(), CheckFault>
+    requires { locals ≡ locals_size (known (firmware_of scope.now.firmware.now).structs) (func_of func.now).locals }
+    ensures { Finds (frame_part (firmware_of scope.now.firmware.now) (func_of func.now)) result }
+{
+    let params = func.params.len();
+    let regs = func.regs.len();
+    if params > 1_000_000 || regs > 1_000_000 {
+        return Err(CheckFault::NoMemory);
+    }
+    let bytes = frame_bytes(params + regs, locals)?;
+    require(
+        bytes <= 992,
+        CheckKind::FrameTooLarge { bytes },
+        Spot::Func(&func.name),
+    )
+}
+
+fn func_scope<'a>(
+    alloc: Global,
+    func: &'a Func,
+    labels: Names<'a>,
+) -> Result<FuncScope<'a>, AllocError>
+    requires { labels ≡ labels_of (func_of func.now) }
+    ensures scope { IfOk result IsFuncScope }
+    ensures func { IfOk result (λ s. s.func.now ≡ func.now) }
+{
+    let mut registers = Names::new(alloc);
+    add_slots(&mut registers, func.params.as_slice())?;
+    add_slots(&mut registers, func.regs.as_slice())?;
+    let mut locals = Names::new(alloc);
+    add_slots(&mut locals, func.locals.as_slice())?;
+    Ok(FuncScope {
+        func,
+        registers,
+        locals,
+        labels,
+        number: Ty::U32,
+    })
+}
+
+#[tactic(auto, using(crate::proofs::Order::refused_left, crate::proofs::Order::refused_right, crate::proofs::Order::first_stays, crate::proofs::Order::first_append, crate::proofs::Order::refused_one, crate::proofs::Order::refused_behind, crate::proofs::Order::first_behind))]
+fn body(alloc: Global, scope: &Scope, func: &Func) -> Result<(), CheckFault>
+    requires { IsScope scope.now }
+    ensures { Finds (body_part (firmware_of scope.now.firmware.now) (func_of func.now)) result }
+{
+    let labels = labels(alloc, Spot::Func(&func.name), func.blocks.as_slice())?;
+    let inner = func_scope(alloc, func, labels)?;
+    blocks(scope, &inner, func.blocks.as_slice())?;
+    Ok(())
+}
+
+#[tactic(auto, using(crate::proofs::Order::refused_left, crate::proofs::Order::refused_right, crate::proofs::Order::first_stays, crate::proofs::Order::first_append))]
+fn func(alloc: Global, scope: &Scope, func: &Func) -> Result<(), CheckFault>
+    requires { IsScope scope.now }
+    ensures { Finds (func_part scope.now.structs (firmware_of scope.now.firmware.now) (func_of func.now)) result }
+{
+    let locals = slots(alloc, scope, func)?;
+    frame(scope, func, locals)?;
+    body(alloc, scope, func)?;
+    Ok(())
+}
+
+/// The checks of all functions.
+pub fn funcs(alloc: Global, scope: &Scope) -> Result<(), CheckFault>
+    requires { IsScope scope.now }
+    ensures { Finds (funcs_checks (firmware_of scope.now.firmware.now) (funcs_of (firmware_of scope.now.firmware.now))) result }
+{
+    for body in &scope.bodies {
+        func(alloc, scope, body)?;
+    }
+    Ok(())
+}

@@ -1,0 +1,24 @@
+//! Labels.
+
+ghost use Rattle.std.specs.Prelude.{◌≡◌, ◌++◌, ◌∷◌, [], map, OnOk, IfOk};
+ghost use Rattle.ir_model.specs.Typing.{label_checks};
+ghost use Rattle.ir_check.specs.Found.{Finds};
+ghost use Rattle.ir_check.specs.Spots.{place_of};
+
+use crate::fault::CheckFault;
+use crate::spot::Spot;
+use crate::table::Names;
+use ir_model::firmware::Block;
+use std::alloc::Global;
+
+/// Whether the labels of blocks are new, and these labels.
+pub fn labels<'a>(alloc: Global, spot: Spot, blocks: &'a [Block]) -> Result<Names<'a>, CheckFault>
+    ensures finds { Finds (label_checks (place_of spot.entry) [] blocks.now) result }
+    ensures all { IfOk result (λ n. n ≡ map (λ b. b.label) blocks.now) }
+{
+    let mut seen = Names::new(alloc);
+    for block in blocks {
+        seen.add_new(&block.label, spot)?;
+    }
+    Ok(seen)
+}

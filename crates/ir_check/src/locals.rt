@@ -1,0 +1,101 @@
+//! Locals.
+
+ghost use Rattle.std.specs.Prelude.{◌≡◌, ◌++◌, ◌∷◌, [], map, OnOk, IfOk, IfErr, ◌≤◌, ◌+◌};
+ghost use Rattle.ir_model.specs.Types.{type_of};
+ghost use Rattle.ir_model.specs.Plain.{slot_of, names_of, firmware_of};
+ghost use Rattle.ir_model.specs.Layout.{known, shape, rounded_up};
+ghost use Rattle.ir_model.specs.Frames.{locals_size};
+ghost use Rattle.ir_model.specs.Typing.{local_checks};
+ghost use Rattle.ir_check.specs.Found.{Finds};
+ghost use Rattle.ir_check.specs.Spots.{place_of};
+ghost use Rattle.ir_check.specs.Parts.{local_check, slot_check, size_check};
+ghost use Rattle.ir_check.specs.Scopes.{IsScope};
+
+use crate::fault::CheckFault;
+use crate::found::require;
+use crate::measure::measure;
+use crate::scope::Scope;
+use crate::spot::Spot;
+use crate::table::Names;
+use crate::type_names::type_names;
+use ir_model::check::CheckKind;
+use ir_model::extent::SIZE_LIMIT;
+use ir_model::firmware::Slot;
+use ir_model::types::Ty;
+
+#[tactic(auto, using(crate::proofs::Order::refused_left, crate::proofs::Order::refused_right, crate::proofs::Order::first_stays, crate::proofs::Order::first_append, crate::proofs::Order::refused_one, crate::proofs::Order::refused_behind, crate::proofs::Order::first_behind))]
+fn named_slot<'a>(
+    scope: &Scope,
+    spot: Spot,
+    seen: &mut Names<'a>,
+    slot: &'a Slot,
+) -> Result<(), CheckFault>
+    ensures finds { Finds (slot_check scope.now.structs (place_of spot.entry) seen.old (slot_of slot.now)) result }
+    ensures grows { OnOk result (seen.new ≡ seen.old ++ slot.now.name ∷ []) }
+{
+    seen.add_new(&slot.name, spot)?;
+    type_names(&scope.structs, &scope.structs, spot, &slot.ty)?;
+    Ok(())
+}
+
+/// Whether a type has a size that an object may have, and this size.
+pub fn object_size(scope: &Scope, spot: Spot, ty: &Ty) -> Result<u32, CheckFault>
+    requires { IsScope scope.now }
+    ensures finds { Finds (size_check (firmware_of scope.now.firmware.now) (place_of spot.entry) (type_of ty.now)) result }
+    ensures size { IfOk result (λ n. n ≡ (shape (known (firmware_of scope.now.firmware.now).structs) (type_of ty.now)).size) }
+    ensures small { IfOk result (λ n. n ≤ 65536) }
+{
+    let size = measure(&scope.structs, scope.sizes.as_slice(), ty).size;
+    require(size <= SIZE_LIMIT, CheckKind::ObjectTooLarge, spot)?;
+    Ok(size)
+}
+
+#[tactic(auto, using(crate::proofs::Order::refused_left, crate::proofs::Order::refused_right, crate::proofs::Order::first_stays, crate::proofs::Order::first_append))]
+fn local<'a>(
+    scope: &Scope,
+    spot: Spot,
+    seen: &mut Names<'a>,
+    slot: &'a Slot,
+) -> Result<u32, CheckFault>
+    requires { IsScope scope.now }
+    ensures finds { Finds (local_check (firmware_of scope.now.firmware.now) scope.now.structs (place_of spot.entry) seen.old (slot_of slot.now)) result }
+    ensures grows { OnOk result (seen.new ≡ seen.old ++ slot.now.name ∷ []) }
+    ensures size { IfOk result (λ n. n ≡ (shape (known (firmware_of scope.now.firmware.now).structs) (type_of slot.now.ty)).size) }
+    ensures small { IfOk result (λ n. n ≤ 65536) }
+{
+    named_slot(scope, spot, seen, slot)?;
+    let size = object_size(scope, spot, &slot.ty)?;
+    Ok(size)
+}
+
+fn with_local(total: u64, size: u32) -> Result<u64, CheckFault>
+    requires { size ≤ 65536 }
+    ensures total { IfOk result (λ n. n ≡ total + rounded_up size 4) }
+    ensures free { IfErr result (λ e. e ≡ CheckFault.NoMemory) }
+{
+    let bytes = (u64::from(size) + 3) / 4 * 4;
+    match total.checked_add(bytes) {
+        Some(sum) => Ok(sum),
+        None => Err(CheckFault::NoMemory),
+    }
+}
+
+/// Whether locals are new, of declared structs, and not too large; and how many bytes they take.
+pub fn locals<'a>(
+    scope: &Scope,
+    spot: Spot,
+    seen: &mut Names<'a>,
+    slots: &'a [Slot],
+) -> Result<u64, CheckFault>
+    requires { IsScope scope.now }
+    ensures finds { Finds (local_checks (firmware_of scope.now.firmware.now) scope.now.structs (place_of spot.entry) seen.old (map slot_of slots.now)) result }
+    ensures grows { OnOk result (seen.new ≡ seen.old ++ names_of (map slot_of slots.now)) }
+    ensures size { IfOk result (λ n. n ≡ locals_size (known (firmware_of scope.now.firmware.now).structs) (map slot_of slots.now)) }
+{
+    let mut total = 0;
+    for slot in slots {
+        let size = local(scope, spot, seen, slot)?;
+        total = with_local(total, size)?;
+    }
+    Ok(total)
+}

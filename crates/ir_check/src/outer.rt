@@ -1,0 +1,99 @@
+//! All checks of a firmware.
+
+ghost use Rattle.std.specs.Prelude.{◌≡◌, IfOk, IfErr, OnOk};
+ghost use Rattle.ir_model.specs.Types.{Callee, none, nothing, same};
+ghost use Rattle.ir_model.specs.Resolve.{row_from};
+ghost use Rattle.ir_model.specs.Plain.{func_of, firmware_of};
+ghost use Rattle.ir_model.specs.Canonical.{IsWithinLimits};
+ghost use Rattle.ir_model.specs.Typing.{checks, has_main, IsTyped};
+ghost use Rattle.ir_check.specs.Found.{Finds, IsFaultOf};
+ghost use Rattle.ir_check.specs.Parts.{declared_part, code_part};
+ghost use Rattle.ir_check.specs.Scopes.{IsScope};
+
+use crate::fault::CheckFault;
+use crate::files::files;
+use crate::found::require;
+use crate::funcs::funcs;
+use crate::globals::globals;
+use crate::listing::struct_names;
+use crate::lookup::word_named;
+use crate::periphs::periphs;
+use crate::scope::Scope;
+use crate::spot::Spot;
+use crate::structs::structs;
+use crate::tables::scope;
+use ir_model::check::CheckKind;
+use ir_model::checked::Checked;
+use ir_model::firmware::{Firmware, Func};
+use std::alloc::Global;
+
+fn is_main(func: &Func) -> bool
+    ensures { result ≡ same (Callee (row_from (func_of func.now).params) (func_of func.now).outcome) (Callee none nothing) }
+{
+    match func.params.as_slice() {
+        [] => match &func.result {
+            None => true,
+            Some(_) => false,
+        },
+        [_, ..] => false,
+    }
+}
+
+fn main_there(scope: &Scope) -> bool
+    requires { IsScope scope.now }
+    ensures { result ≡ has_main (firmware_of scope.now.firmware.now) }
+{
+    match word_named(scope, b"main") {
+        None => false,
+        Some(func) => is_main(func),
+    }
+}
+
+#[tactic(auto, using(crate::proofs::Order::refused_left, crate::proofs::Order::refused_right, crate::proofs::Order::first_stays, crate::proofs::Order::first_append))]
+fn code(alloc: Global, scope: &Scope) -> Result<(), CheckFault>
+    requires { IsScope scope.now }
+    ensures { Finds (code_part (firmware_of scope.now.firmware.now)) result }
+{
+    globals(alloc, scope)?;
+    files(alloc, scope.firmware)?;
+    funcs(alloc, scope)?;
+    require(main_there(scope), CheckKind::NoMain, Spot::Whole)?;
+    Ok(())
+}
+
+#[tactic(auto, using(crate::proofs::Order::refused_left, crate::proofs::Order::refused_right, crate::proofs::Order::first_stays, crate::proofs::Order::first_append))]
+fn declared<'a>(alloc: Global, firmware: &'a Firmware) -> Result<Scope<'a>, CheckFault>
+    ensures finds { Finds (declared_part (firmware_of firmware.now)) result }
+    ensures scope { IfOk result IsScope }
+    ensures firmware { IfOk result (λ s. s.firmware.now ≡ firmware.now) }
+{
+    let names = struct_names(alloc, firmware.structs.as_slice())?;
+    let sizes = structs(alloc, &names, firmware.structs.as_slice())?;
+    let windows = periphs(alloc, firmware.periphs.as_slice())?;
+    let tables = scope(alloc, firmware, names, sizes, windows)?;
+    Ok(tables)
+}
+
+fn all(alloc: Global, firmware: &Firmware) -> Result<(), CheckFault>
+    ensures { Finds (checks (firmware_of firmware.now)) result }
+{
+    let scope = declared(alloc, firmware)?;
+    code(alloc, &scope)?;
+    Ok(())
+}
+
+/// The firmware as a checked one. Where a check fails, or memory runs out, the firmware comes back with the fault: the
+/// first check that fails in the order in which they are made.
+#[tactic(auto, unfolding(ir_model::specs::Typing::fault_of))]
+pub fn check(alloc: Global, firmware: Firmware) -> Result<Checked, (Firmware, CheckFault)>
+    requires { IsWithinLimits (firmware_of firmware) }
+    ensures same { IfOk result (λ c. c ≡ firmware) }
+    ensures typed { OnOk result (IsTyped (firmware_of firmware)) }
+    ensures returned { IfErr result (λ e. e.0 ≡ firmware) }
+    ensures fault { IfErr result (λ e. IsFaultOf (firmware_of firmware) e.1) }
+{
+    match all(alloc, &firmware) {
+        Ok(()) => Ok(Checked::new(firmware)),
+        Err(fault) => Err((firmware, fault)),
+    }
+}

@@ -1,0 +1,41 @@
+//! What the checks of functions look names up in.
+
+use crate::align::Measure;
+use crate::table::Names;
+use ir_model::firmware::{Firmware, Func};
+use ir_model::types::Ty;
+use listed::Listed;
+
+/// A firmware with its names, and the sizes of its structs.
+#[derive(Drop)]
+pub struct Scope<'a> {
+    /// The firmware.
+    pub firmware: &'a Firmware,
+    /// Its structs' names.
+    pub structs: Names<'a>,
+    /// Their sizes.
+    pub sizes: Listed<Measure>,
+    /// Its peripherals' names.
+    pub periphs: Names<'a>,
+    /// Its globals' names.
+    pub globals: Names<'a>,
+    /// Its functions' names, over all files.
+    pub funcs: Names<'a>,
+    /// These functions.
+    pub bodies: Vec<&'a Func>,
+}
+
+/// A function with its names.
+#[derive(Drop)]
+pub struct FuncScope<'a> {
+    /// The function.
+    pub func: &'a Func,
+    /// The names of its registers, the parameters first.
+    pub registers: Names<'a>,
+    /// Its locals' names.
+    pub locals: Names<'a>,
+    /// Its labels.
+    pub labels: Names<'a>,
+    /// The type of a number.
+    pub number: Ty,
+}

@@ -1,0 +1,35 @@
+-- Laws of texts and of the canonical text.
+use Rattle.std.specs.Prelude.{◌≡◌, ℕ, List, IsUtf8, ◌⊎◌}
+use Rattle.ir_model.specs.declared.token.Excess.{Excess}
+use Rattle.ir_model.specs.declared.token.Pos.{Pos}
+use Rattle.ir_model.specs.Plain.{PlainFirmware}
+use Rattle.ir_model.specs.Canonical.{canonical, IsWithinLimits}
+use Rattle.ir_model.specs.Texts.{IsText, SyntaxAt}
+use Rattle.ir_reader.specs.First.{PassesAt}
+
+-- no bytes are a text of two firmwares
+abbrev pub TextsAreUnique : Type 0
+TextsAreUnique = (v w : PlainFirmware) (bytes : List ℕ) → IsText v bytes → IsText w bytes → v ≡ w
+
+-- the canonical text of a firmware within the limits is a text of that firmware, and of no other
+abbrev pub CanonicalTextsAreOwn : Type 0
+CanonicalTextsAreOwn = (v w : PlainFirmware) → IsWithinLimits w → (v ≡ w → IsText v (canonical w)) × (IsText v (canonical w) → v ≡ w)
+
+-- a place where the first fault of the bytes stands
+abbrev pub HasFault : List ℕ → Type 0
+HasFault bytes = ((pos : Pos) × SyntaxAt bytes pos) ⊎ ((excess : Excess) × (pos : Pos) × PassesAt bytes excess pos)
+
+-- bytes in UTF-8 are a text of a firmware, or have a first fault
+abbrev pub TextsOrFaults : Type 0
+TextsOrFaults = (bytes : List ℕ) → IsUtf8 bytes → ((w : PlainFirmware) × IsText w bytes) ⊎ HasFault bytes
+
+-- a text has no fault, and other bytes have one first fault at most
+abbrev pub TextsAreFaultless : Type 0
+TextsAreFaultless = (w : PlainFirmware) (bytes : List ℕ) → IsText w bytes → HasFault bytes → ⊥
+
+abbrev pub FaultsAreSingle : Type 0
+FaultsAreSingle =
+    (bytes : List ℕ) (p q : Pos)
+    → (SyntaxAt bytes p → SyntaxAt bytes q → p ≡ q)
+    × ((e : Excess) → SyntaxAt bytes p → PassesAt bytes e q → ⊥)
+    × ((e d : Excess) → PassesAt bytes e p → PassesAt bytes d q → (e ≡ d) × (p ≡ q))

@@ -1,0 +1,4 @@
+pub mod Templates
+pub mod Points
+pub mod Effects
+pub mod Emitted

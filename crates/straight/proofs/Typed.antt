@@ -1,0 +1,96 @@
+-- What the checks of a straight firmware say of its instructions.
+use Rattle.std.proofs.Common.{◌≡◌, ℕ, zero, suc, ◌<◌, ◌≤◌, Bool, true, false, ◌&&◌, List, [], ◌∷◌, ◌++◌, length, Some, None, refl, subst, arith}
+use Rattle.std.specs.Prelude.{bytes_eq, if◌then◌else◌}
+use Rattle.ir_model.specs.declared.check.CheckKind.{CheckKind}
+use Rattle.ir_model.specs.declared.check.Place.{Place}
+use Rattle.ir_model.specs.Types.{PlainType, U8, U16, U32, Pointer, Array, Named, Callee, same, is_integer, is_register_type, target_of, element_of}
+use Rattle.ir_model.specs.Layout.{Known, shape}
+use Rattle.ir_model.specs.Resolve.{has, number_of}
+use Rattle.ir_model.specs.Rules.{is_port, is_element, holds_cell}
+use Rattle.ir_model.specs.Typing.{Checks, check, first_failing}
+use Rattle.ir_model.proofs.SameTypes.{same_exactly}
+
+-- ---- checks that all pass
+
+pub record Pass (cs : Checks) : Type 0 where
+  pub none : first_failing cs ≡ None
+
+append_left : (xs ys : Checks) → first_failing (xs ++ ys) ≡ None → first_failing xs ≡ None
+append_left [] ys h = refl
+append_left (None ∷ xs) ys h = append_left xs ys h
+append_left (Some e ∷ xs) ys h = cc
+
+append_right : (xs ys : Checks) → first_failing (xs ++ ys) ≡ None → first_failing ys ≡ None
+append_right [] ys h = h
+append_right (None ∷ xs) ys h = append_right xs ys h
+append_right (Some e ∷ xs) ys h = cc
+
+pub left : (xs ys : Checks) → Pass (xs ++ ys) → Pass xs
+left xs ys h = record { none = append_left xs ys h.none }
+
+pub right : (xs ys : Checks) → Pass (xs ++ ys) → Pass ys
+right xs ys h = record { none = append_right xs ys h.none }
+
+check_by : (b : Bool) (k : CheckKind) (p : Place) (cs : Checks) → first_failing (check b k p ∷ cs) ≡ None → (b ≡ true) × (first_failing cs ≡ None)
+check_by true k p cs h = (refl, h)
+check_by false k p cs h = absurd (let e : Some (record { kind = k; place = p }) ≡ None = h in cc)
+
+pub holds : (b : Bool) (k : CheckKind) (p : Place) (cs : Checks) → Pass (check b k p ∷ cs) → b ≡ true
+holds b k p cs h = (check_by b k p cs h.none).0
+
+pub behind : (b : Bool) (k : CheckKind) (p : Place) (cs : Checks) → Pass (check b k p ∷ cs) → Pass cs
+behind b k p cs h = record { none = (check_by b k p cs h.none).1 }
+
+pub both : (a b : Bool) → (a && b) ≡ true → (a ≡ true) × (b ≡ true)
+both true true h = (refl, refl)
+both true false h = cc
+both false b h = cc
+
+-- ---- names
+
+number_by : (b : Bool) (ms : List (List ℕ)) (n : List ℕ) → (if b then true else has ms n) ≡ true → (has ms n ≡ true → number_of ms n < length ms) → (if b then zero else suc (number_of ms n)) < suc (length ms)
+number_by true ms n h ih = omega arith
+number_by false ms n h ih = let i = ih h in omega arith
+
+pub number_below : (ms : List (List ℕ)) (n : List ℕ) → has ms n ≡ true → number_of ms n < length ms
+number_below [] n h = cc
+number_below (m ∷ ms) n h = number_by (bytes_eq m n) ms n h (number_below ms n)
+
+-- ---- types
+
+is_same : (t u : PlainType) → same t u ≡ true → t ≡ u
+is_same t u h = (same_exactly t u).0 h
+
+pub number_type : (t : PlainType) → same t U32 ≡ true → is_integer t ≡ true
+number_type t h = let e : t ≡ U32 = is_same t U32 h in rw e refl
+
+element_size : (ks : List Known) (t u : PlainType) → is_integer t ≡ true → is_element (Pointer t) u ≡ true → (is_port u ≡ true) × ((shape ks (element_of t)).size ≤ 65536)
+element_size ks U8 u h e = let s : Pointer U8 ≡ u = is_same (Pointer U8) u e in (subst (λ (v : PlainType). is_port v ≡ true) s refl, omega arith)
+element_size ks U16 u h e = let s : Pointer U16 ≡ u = is_same (Pointer U16) u e in (subst (λ (v : PlainType). is_port v ≡ true) s refl, omega arith)
+element_size ks U32 u h e = let s : Pointer U32 ≡ u = is_same (Pointer U32) u e in (subst (λ (v : PlainType). is_port v ≡ true) s refl, omega arith)
+element_size ks (Pointer t) u h e = cc
+element_size ks (Array n t) u h e = cc
+element_size ks (Named n) u h e = cc
+element_size ks (Callee a r) u h e = cc
+
+pub element_fits : (ks : List Known) (b u : PlainType) → is_element b u ≡ true → is_port b ≡ true → (is_port u ≡ true) × ((shape ks (element_of (target_of b))).size ≤ 65536)
+element_fits ks (Pointer t) u e h = element_size ks t u h e
+element_fits ks U8 u e h = cc
+element_fits ks U16 u e h = cc
+element_fits ks U32 u e h = cc
+element_fits ks (Array n t) u e h = cc
+element_fits ks (Named n) u e h = cc
+element_fits ks (Callee a r) u e h = cc
+
+cell_by : (b : Bool) (t u : PlainType) → (if b then same u U32 else (is_register_type t && same t u)) ≡ true → b ≡ true → is_integer u ≡ true
+cell_by true t u e h = number_type u e
+cell_by false t u e h = cc
+
+pub cell_fits : (p u : PlainType) → holds_cell p u ≡ true → is_port p ≡ true → (is_integer (target_of p) ≡ true) × (is_integer u ≡ true)
+cell_fits (Pointer t) u e h = (h, cell_by (is_integer t) t u e h)
+cell_fits U8 u e h = cc
+cell_fits U16 u e h = cc
+cell_fits U32 u e h = cc
+cell_fits (Array n t) u e h = cc
+cell_fits (Named n) u e h = cc
+cell_fits (Callee a r) u e h = cc
