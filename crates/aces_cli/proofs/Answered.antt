@@ -1,0 +1,133 @@
+-- What the top call says, from what its command did.
+use Rattle.std.proofs.Common.{◌≡◌, ℕ, ◌⊎◌, inl, inr, List, [], ◌++◌, None, Ok, Err, Result, refl, ap, sym, ◌∙◌, subst, append-nil, arith}
+use Rattle.aces_cli.specs.declared.failure.Done.{Done}
+use Rattle.aces_cli.specs.declared.failure.Done.TheVariants.{Well, Badly}
+use Rattle.aces_cli.specs.declared.failure.Failure.{Failure}
+use Rattle.aces_cli.specs.declared.failure.Failure.TheVariants.{Refused, Unread, Unwritten, Unprinted, NoMemory}
+use Rattle.aces_cli.specs.Requests.{Request, Asks, IsUsage, Source}
+use Rattle.aces_cli.specs.FaultLines.{usage_line}
+use Rattle.aces_cli.specs.Answer.{Outcome, Answer, refused, usage, run_image_large, run_tape_large, run_read, bin_image_large, bin_read, compile_firmware_large, compile_board_large, compile_read, no_request, to_request}
+use Rattle.aces_cli.specs.Did.{SinkState, World, Does, Quiet, Says, IsPlain, IsCarriedOut, IsAnswered, IsPartly, TellsUnread, TellsUnwritten, TellsUnprinted, TellsOutOfMemory, status_of, line_of}
+
+-- answers from what is known are answers from what follows of it
+pub answer_also : (Has Had : Source → List ℕ → Type 0) (Exceeds Exceeded : Source → Type 0)
+    → ((s : Source) (bytes : List ℕ) → Has s bytes → Had s bytes) → ((s : Source) → Exceeds s → Exceeded s)
+    → (r : Request) (o : Outcome) → Answer Has Exceeds r o → Answer Had Exceeded r o
+answer_also Has Had Exceeds Exceeded m l r o (run_image_large image tape steps e) = run_image_large image tape steps (l _ e)
+answer_also Has Had Exceeds Exceeded m l r o (run_tape_large image tape steps bytes h e) = run_tape_large image tape steps bytes (m _ bytes h) (l _ e)
+answer_also Has Had Exceeds Exceeded m l r o (run_read image tape steps bytes text p h k a) = run_read image tape steps bytes text p (m _ bytes h) (m _ text k) a
+answer_also Has Had Exceeds Exceeded m l r o (bin_image_large image file e) = bin_image_large image file (l _ e)
+answer_also Has Had Exceeds Exceeded m l r o (bin_read image file bytes p h a) = bin_read image file bytes p (m _ bytes h) a
+answer_also Has Had Exceeds Exceeded m l r o (compile_firmware_large firmware board image e) = compile_firmware_large firmware board image (l _ e)
+answer_also Has Had Exceeds Exceeded m l r o (compile_board_large firmware board image bytes h e) = compile_board_large firmware board image bytes (m _ bytes h) (l _ e)
+answer_also Has Had Exceeds Exceeded m l r o (compile_read firmware board image bytes text p h k a) = compile_read firmware board image bytes text p (m _ bytes h) (m _ text k) a
+
+-- nothing is printed and written, and no fault rose
+nothing_more : (old new : World) (o : Outcome) → Quiet old new → new.read_faults ≡ old.read_faults → o.printed ≡ [] → o.written ≡ None → IsCarriedOut old new o
+nothing_more old new o q r p w = record {
+  printed = λ t. ap (λ (s : SinkState). s.written) q.out ∙ sym (ap (λ l. old.out.written ++ l) p ∙ append-nil old.out.written);
+  held = rw w q.held;
+  read_faults = r;
+  write_faults = q.write_faults;
+  faults = ap (λ (s : SinkState). s.faults) q.out;
+}
+
+pub usage_answered : (Has : Source → List ℕ → Type 0) (Exceeds : Source → Type 0) (words : List (List ℕ)) (w : World) (err_old err_new : SinkState)
+    → IsUsage words → Says err_old err_new usage_line → IsAnswered Has Exceeds words w w err_old err_new 2
+usage_answered Has Exceeds words w err_old err_new u s = record {
+  outcome = usage;
+  answer = no_request u;
+  ended = refl;
+  all = nothing_more w w usage (record { held = refl; write_faults = refl; out = refl }) refl refl refl;
+  says = s;
+}
+
+module _ (Has : Source → List ℕ → Type 0) (Exceeds : Source → Type 0) (words : List (List ℕ)) (r : Request) (asks : Asks words r)
+    (old new : World) (err_old err_new : SinkState) where
+  pub answered : (e : Result Done Failure) (s : ℕ) → s ≡ status_of e → Does (Answer Has Exceeds r) r old new e → Says err_old err_new (line_of e)
+      → IsPlain s → IsAnswered Has Exceeds words old new err_old err_new s
+  answered (Ok Well) s q d l p = record {
+    outcome = d.outcome;
+    answer = to_request r d.outcome asks d.answer;
+    ended = d.ended ∙ sym q;
+    all = d.all;
+    says = subst (Says err_old err_new) (sym d.silent) l;
+  }
+  answered (Ok Badly) s q d l p = record {
+    outcome = d.outcome;
+    answer = to_request r d.outcome asks d.answer;
+    ended = d.ended ∙ sym q;
+    all = d.all;
+    says = subst (Says err_old err_new) (sym d.silent) l;
+  }
+  answered (Err (Refused name f)) s q d l p = record {
+    outcome = refused name.now f;
+    answer = to_request r (refused name.now f) asks d.answer;
+    ended = sym q;
+    all = nothing_more old new (refused name.now f) d.quiet d.read_faults refl refl;
+    says = l;
+  }
+  answered (Err (Unread name)) s q d l p = absurd (p.no_read_fault q)
+  answered (Err (Unwritten name)) s q d l p = absurd (p.no_write_fault q)
+  answered (Err Unprinted) s q d l p = absurd (p.no_write_fault q)
+  answered (Err NoMemory) s q d l p = absurd (p.no_want_of_memory q)
+
+  pub partly : (e : Result Done Failure) → status_of e ≡ 5 → Does (Answer Has Exceeds r) r old new e → IsPartly Has Exceeds words old new
+  partly (Ok Well) q d = let f : ⊥ = omega (arith, q) in absurd f
+  partly (Ok Badly) q d = let f : ⊥ = omega (arith, q) in absurd f
+  partly (Err (Refused name f)) q d = let f : ⊥ = omega (arith, q) in absurd f
+  partly (Err (Unread name)) q d = let f : ⊥ = omega (arith, q) in absurd f
+  partly (Err (Unwritten name)) q d = record { outcome = d.1.outcome; answer = to_request r d.1.outcome asks d.1.answer; part = d.1.part }
+  partly (Err Unprinted) q d = record { outcome = d.1.outcome; answer = to_request r d.1.outcome asks d.1.answer; part = d.1.part }
+  partly (Err NoMemory) q d = let f : ⊥ = omega (arith, q) in absurd f
+
+module _ (A : Outcome → Type 0) (words : List (List ℕ)) (r : Request) (asks : Asks words r)
+    (old new : World) (err_old err_new : SinkState) where
+  pub unread : (e : Result Done Failure) → status_of e ≡ 4 → Does A r old new e → Says err_old err_new (line_of e) → TellsUnread words old new err_old err_new
+  unread (Ok Well) q d l = let f : ⊥ = omega (arith, q) in absurd f
+  unread (Ok Badly) q d l = let f : ⊥ = omega (arith, q) in absurd f
+  unread (Err (Refused name f)) q d l = let f : ⊥ = omega (arith, q) in absurd f
+  unread (Err (Unread name)) q d l = record { request = r; asks = asks; name = name.now; unread = d; says = l }
+  unread (Err (Unwritten name)) q d l = let f : ⊥ = omega (arith, q) in absurd f
+  unread (Err Unprinted) q d l = let f : ⊥ = omega (arith, q) in absurd f
+  unread (Err NoMemory) q d l = let f : ⊥ = omega (arith, q) in absurd f
+
+  pub unwritten : (e : Result Done Failure) → status_of e ≡ 5 → Does A r old new e → Says err_old err_new (line_of e)
+      → TellsUnwritten words old new err_old err_new ⊎ TellsUnprinted old new err_old err_new
+  unwritten (Ok Well) q d l = let f : ⊥ = omega (arith, q) in absurd f
+  unwritten (Ok Badly) q d l = let f : ⊥ = omega (arith, q) in absurd f
+  unwritten (Err (Refused name f)) q d l = let f : ⊥ = omega (arith, q) in absurd f
+  unwritten (Err (Unread name)) q d l = let f : ⊥ = omega (arith, q) in absurd f
+  unwritten (Err (Unwritten name)) q d l = inl (record { request = r; asks = asks; name = name.now; unwritten = d.0; says = l })
+  unwritten (Err Unprinted) q d l = inr (record { unprinted = d.0; says = l })
+  unwritten (Err NoMemory) q d l = let f : ⊥ = omega (arith, q) in absurd f
+
+  pub out_of_memory : (e : Result Done Failure) → status_of e ≡ 6 → Does A r old new e → Says err_old err_new (line_of e) → TellsOutOfMemory old new err_old err_new
+  out_of_memory (Ok Well) q d l = let f : ⊥ = omega (arith, q) in absurd f
+  out_of_memory (Ok Badly) q d l = let f : ⊥ = omega (arith, q) in absurd f
+  out_of_memory (Err (Refused name f)) q d l = let f : ⊥ = omega (arith, q) in absurd f
+  out_of_memory (Err (Unread name)) q d l = let f : ⊥ = omega (arith, q) in absurd f
+  out_of_memory (Err (Unwritten name)) q d l = let f : ⊥ = omega (arith, q) in absurd f
+  out_of_memory (Err Unprinted) q d l = let f : ⊥ = omega (arith, q) in absurd f
+  out_of_memory (Err NoMemory) q d l = record { out_of_memory = d; says = l }
+
+  pub reads_stay : (e : Result Done Failure) → Does A r old new e → (status_of e ≡ 4) ⊎ (new.read_faults ≡ old.read_faults)
+  reads_stay (Ok Well) d = inr d.all.read_faults
+  reads_stay (Ok Badly) d = inr d.all.read_faults
+  reads_stay (Err (Refused name f)) d = inr d.read_faults
+  reads_stay (Err (Unread name)) d = inl refl
+  reads_stay (Err (Unwritten name)) d = inr d.0.read_faults
+  reads_stay (Err Unprinted) d = inr d.0.read_faults
+  reads_stay (Err NoMemory) d = inr d.read_faults
+
+  writes_of : Quiet old new → (new.write_faults ≡ old.write_faults) × (new.out.faults ≡ old.out.faults)
+  writes_of q = (q.write_faults, ap (λ (s : SinkState). s.faults) q.out)
+
+  pub writes_stay : (e : Result Done Failure) → Does A r old new e → (status_of e ≡ 5) ⊎ ((new.write_faults ≡ old.write_faults) × (new.out.faults ≡ old.out.faults))
+  writes_stay (Ok Well) d = inr (d.all.write_faults, d.all.faults)
+  writes_stay (Ok Badly) d = inr (d.all.write_faults, d.all.faults)
+  writes_stay (Err (Refused name f)) d = inr (writes_of d.quiet)
+  writes_stay (Err (Unread name)) d = inr (writes_of d.quiet)
+  writes_stay (Err (Unwritten name)) d = inl refl
+  writes_stay (Err Unprinted) d = inl refl
+  writes_stay (Err NoMemory) d = inr (writes_of d.quiet)

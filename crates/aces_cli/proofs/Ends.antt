@@ -1,0 +1,106 @@
+-- How commands end, by what their steps answered.
+use Rattle.std.proofs.Common.{◌≡◌, ◌≢◌, ℕ, inl, inr, List, [], Ok, Err, Result, OnErr, IsErrAnd, IsTrue, IsNone, refl, sym, subst}
+use Rattle.aces_cli.specs.declared.failure.Done.{Done}
+use Rattle.aces_cli.specs.declared.failure.Done.TheVariants.{Well, Badly}
+use Rattle.aces_cli.specs.declared.failure.Fault.{Fault}
+use Rattle.aces_cli.specs.declared.failure.Fault.TheVariants.{TooLarge, NotInForm}
+use Rattle.aces_cli.specs.declared.failure.Failure.{Failure}
+use Rattle.aces_cli.specs.declared.failure.Failure.TheVariants.{Refused, Unread, Unwritten, Unprinted, NoMemory}
+use Rattle.aces_cli.specs.Requests.{Request, Source, sources}
+use Rattle.aces_cli.specs.Known.{Held, IsMissing, IsNamed}
+use Rattle.aces_cli.specs.Answer.{Outcome, refused}
+use Rattle.aces_cli.specs.Did.{SinkState, World, Does, Quiet, IsCarriedOut, status_of}
+use Rattle.aces_cli.specs.Loads.{IsLoadFailure, IsContentFailure}
+use Rattle.ir_model.specs.Plain.{PlainFirmware}
+use Rattle.straight_text.specs.StraightTexts.{IsStraightText, IsNoStraightText}
+use Rattle.aces_cli.specs.Compiled.{board_text}
+use Rattle.aces_cli.specs.CompileFailures.{IsCompileFailure}
+
+-- what holds anyway holds of an error
+pub on_err : {T E : Type 0} (r : Result T E) (P : Type 0) → P → OnErr r P
+on_err (Ok x) P p = tt
+on_err (Err e) P p = p
+
+-- a result that is an error of this kind
+pub err_of : {T E : Type 0} (r : Result T E) (P : E → Type 0) → IsErrAnd r P → (e : E) × (r ≡ Err e) × P e
+err_of (Ok x) P h = absurd h
+err_of (Err e) P h = (e, refl, h)
+
+-- a source that was not read
+pub load_failed : (A : Outcome → Type 0) (Exceeds : Source → Type 0) (r : Request) (s : Source) (old new : World) → Quiet old new
+    → IsNamed (sources r) s.name
+    → (IsTrue old.told → IsNone (old.held s.name) → IsMissing old.held (sources r) s.name)
+    → (Exceeds s → A (refused s.name (TooLarge s.limit)))
+    → (e : Failure) → IsLoadFailure Exceeds old.told old.held s old.read_faults new.read_faults e → Does A r old new (Err e)
+load_failed A Exceeds r s old new quiet named missing large (Refused name f) h = record {
+  answer = subst (λ n. A (refused n f)) (sym h.0) (subst (λ x. A (refused s.name x)) (sym h.1) (large h.2));
+  quiet = quiet;
+  read_faults = h.3;
+}
+load_failed A Exceeds r s old new quiet named missing large (Unread name) h = record {
+  named = subst (IsNamed (sources r)) (sym h.0) named;
+  cause = elim h.1 [ inl rose ↦ inl rose | inr gone ↦ inr (gone.0, subst (IsMissing old.held (sources r)) (sym h.0) (missing gone.0 gone.1)) ];
+  quiet = quiet;
+}
+load_failed A Exceeds r s old new quiet named missing large (Unwritten name) h = absurd h
+load_failed A Exceeds r s old new quiet named missing large Unprinted h = absurd h
+load_failed A Exceeds r s old new quiet named missing large NoMemory h = record { quiet = quiet; read_faults = h }
+
+-- a content that was refused
+pub content_failed : (A : Outcome → Type 0) (IsFault : Fault → Type 0) (r : Request) (name : List ℕ) (old new : World) → Quiet old new
+    → new.read_faults ≡ old.read_faults → ((f : Fault) → IsFault f → A (refused name f))
+    → (e : Failure) → IsContentFailure IsFault name e → Does A r old new (Err e)
+content_failed A IsFault r name old new quiet reads answer (Refused n f) h = record {
+  answer = subst (λ x. A (refused x f)) (sym h.0) (answer f h.1);
+  quiet = quiet;
+  read_faults = reads;
+}
+content_failed A IsFault r name old new quiet reads answer (Unread n) h = absurd h
+content_failed A IsFault r name old new quiet reads answer (Unwritten n) h = absurd h
+content_failed A IsFault r name old new quiet reads answer Unprinted h = absurd h
+content_failed A IsFault r name old new quiet reads answer NoMemory h = record { quiet = quiet; read_faults = reads }
+
+-- a firmware or a board that was refused
+pub compile_failed : (A : Outcome → Type 0) (firmware board bytes text : List ℕ) (r : Request) (old new : World) → Quiet old new → new.read_faults ≡ old.read_faults
+    → (IsNoStraightText bytes → A (refused firmware NotInForm))
+    → ((w : PlainFirmware) → IsStraightText w bytes → text ≢ board_text → A (refused board NotInForm))
+    → (e : Failure) → IsCompileFailure firmware board bytes text e → Does A r old new (Err e)
+compile_failed A firmware board bytes text r old new quiet reads one two (Refused n f) h = record {
+  answer = subst (λ x. A (refused n.now x)) (sym h.0) (elim h.1 [
+    | inl a ↦ subst (λ m. A (refused m NotInForm)) (sym a.0) (one a.1)
+    | inr b ↦ subst (λ m. A (refused m NotInForm)) (sym b.0) (two b.1.0 b.1.1 b.2)
+  ]);
+  quiet = quiet;
+  read_faults = reads;
+}
+compile_failed A firmware board bytes text r old new quiet reads one two (Unread n) h = absurd h
+compile_failed A firmware board bytes text r old new quiet reads one two (Unwritten n) h = absurd h
+compile_failed A firmware board bytes text r old new quiet reads one two Unprinted h = absurd h
+compile_failed A firmware board bytes text r old new quiet reads one two NoMemory h = record { quiet = quiet; read_faults = reads }
+
+-- a command that ended with an outcome of this status
+pub did_end : (A : Outcome → Type 0) (r : Request) (old new : World) (o : Outcome) (d : Done) → A o → o.status ≡ status_of (Ok d) → o.line ≡ []
+    → IsCarriedOut old new o → Does A r old new (Ok d)
+did_end A r old new o Well a s l p = record { outcome = o; answer = a; ended = s; silent = l; all = p }
+did_end A r old new o Badly a s l p = record { outcome = o; answer = a; ended = s; silent = l; all = p }
+
+-- what did for some answers did for others
+pub did_also : (A B : Outcome → Type 0) → ((o : Outcome) → A o → B o) → (r : Request) (old new : World) (e : Result Done Failure)
+    → Does A r old new e → Does B r old new e
+did_also A B m r old new (Ok Well) d = record { outcome = d.outcome; answer = m d.outcome d.answer; ended = d.ended; silent = d.silent; all = d.all }
+did_also A B m r old new (Ok Badly) d = record { outcome = d.outcome; answer = m d.outcome d.answer; ended = d.ended; silent = d.silent; all = d.all }
+did_also A B m r old new (Err (Refused name f)) d = record { answer = m (refused name.now f) d.answer; quiet = d.quiet; read_faults = d.read_faults }
+did_also A B m r old new (Err (Unread name)) d = d
+did_also A B m r old new (Err (Unwritten name)) d = (d.0, record { outcome = d.1.outcome; answer = m d.1.outcome d.1.answer; part = d.1.part })
+did_also A B m r old new (Err Unprinted) d = (d.0, record { outcome = d.1.outcome; answer = m d.1.outcome d.1.answer; part = d.1.part })
+did_also A B m r old new (Err NoMemory) d = d
+
+-- the same of files in which nothing has changed
+pub did_then : (A : Outcome → Type 0) (r : Request) (old : World) (held : Held) (reads writes : ℕ) (out : SinkState) (e : Result Done Failure)
+    → held ≡ old.held → reads ≡ old.read_faults → writes ≡ old.write_faults
+    → Does A r old (record old { out = out }) e
+    → Does A r old (record { told = old.told; held = held; read_faults = reads; write_faults = writes; out = out }) e
+did_then A r old held reads writes out e h p q d =
+    subst (λ x. Does A r old (record { told = old.told; held = x; read_faults = reads; write_faults = writes; out = out }) e) (sym h)
+    (subst (λ x. Does A r old (record { told = old.told; held = old.held; read_faults = x; write_faults = writes; out = out }) e) (sym p)
+    (subst (λ x. Does A r old (record { told = old.told; held = old.held; read_faults = old.read_faults; write_faults = x; out = out }) e) (sym q) d))

@@ -1,0 +1,10 @@
+pub mod Prefixes
+pub mod Running
+pub mod Windows
+pub mod Saying
+pub mod Digits
+pub mod Words
+pub mod Starting
+pub mod Ends
+pub mod Answered
+pub mod Compiling

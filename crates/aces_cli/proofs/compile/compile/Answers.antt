@@ -1,0 +1,119 @@
+use Rattle.std.proofs.Common.{◌≡◌, ◌∙◌, inl, inr, IsTrue, Some, [], Ok, Err, refl, sym, subst, append-nil}
+use Rattle.aces_cli.specs.declared.failure.Done.TheVariants.{Well}
+use Rattle.aces_cli.specs.Requests.{Compile, Source, source, firmware_source}
+use Rattle.aces_cli.specs.Known.{Held, Exceeds, WasTooLarge, IsKnown, IsKnownLarge}
+use Rattle.aces_cli.specs.Answer.{Answer, no_firmware, no_board, compiled, compile_firmware_large, compile_board_large, compile_read, done}
+use Rattle.aces_cli.specs.Did.{Does, world}
+use Rattle.aces_cli.specs.Loads.{IsLoadFailure}
+use Rattle.aces_cli.specs.CompileFailures.{IsCompileFailure}
+use Rattle.aces_cli.proofs.Ends.{err_of, load_failed, compile_failed, did_end}
+use Rattle.aces_cli.proofs.compile.compile.Goals as goal
+
+pub returns-in_err-bytes : goal.returns-in_err-bytes
+returns-in_err-bytes g c out =
+    let firmware = c.args.firmware.now in
+    let r = Compile firmware c.args.board.now c.args.image.now in
+    let large = IsKnownLarge g.F.Files c.args.files.now in
+    let all = Answer (IsKnown g.F.Files c.args.files.now) large r in
+    let old = world g.F.Files c.args.files.now out in
+    let new = world g.F.Files c.load_firmware.new.files out in
+    let x = err_of c.from_residual.result _ c.from_residual.ensures.1 in
+    subst (Does all r old new) (sym x.1)
+    (load_failed all large r (firmware_source firmware) old new
+    (record { held = c.load_firmware.ensures.same; write_faults = c.load_firmware.ensures.writes; out = refl })
+    (inl refl) (λ t n. inl (refl, n)) (λ e. compile_firmware_large firmware c.args.board.now c.args.image.now e) x.0
+    (subst (IsLoadFailure large old.told old.held (firmware_source firmware) old.read_faults new.read_faults) (sym x.2) c.in_err-bytes.ensures.err))
+
+pub returns-in_err-text : goal.returns-in_err-text
+returns-in_err-text g c out =
+    let firmware = c.args.firmware.now in
+    let board = c.args.board.now in
+    let image = c.args.image.now in
+    let r = Compile firmware board image in
+    let told = g.F.Files.told in
+    let large : Held → Source → Type 0 = λ held s. WasTooLarge g.F.Files s × (IsTrue told → Exceeds held s) in
+    let all = Answer (IsKnown g.F.Files c.args.files.now) (IsKnownLarge g.F.Files c.args.files.now) r in
+    let old = world g.F.Files c.args.files.now out in
+    let mid = world g.F.Files c.load_firmware.new.files out in
+    let new = world g.F.Files c.load.new.files out in
+    let bytes = c.in_ok-bytes.bytes.items in
+    let x = err_of c.from_residual-in_err-text.result _ c.from_residual-in_err-text.ensures.1 in
+    let failed = subst (IsLoadFailure (large mid.held) told mid.held (source board) mid.read_faults new.read_faults) (sym x.2) c.in_err-text.ensures.err in
+    let held_too = subst (λ h. IsLoadFailure (large h) told h (source board) mid.read_faults new.read_faults x.0) c.load_firmware.ensures.same failed in
+    let reads_too = subst (λ k. IsLoadFailure (large old.held) told old.held (source board) k new.read_faults x.0) c.in_ok-bytes.ensures.reads held_too in
+    subst (Does all r old new) (sym x.1)
+    (load_failed all (large old.held) r (source board) old new
+    (record { held = c.load.ensures.same ∙ c.load_firmware.ensures.same; write_faults = c.load.ensures.writes ∙ c.load_firmware.ensures.writes; out = refl })
+    (inr (inl refl)) (λ t n. inr ((bytes, c.in_ok-bytes.ensures.ok.1 t), inl (refl, n)))
+    (λ e. compile_board_large firmware board image bytes c.in_ok-bytes.ensures.ok e) x.0 reads_too)
+
+pub returns-in_err-compiled : goal.returns-in_err-compiled
+returns-in_err-compiled g c out =
+    let firmware = c.args.firmware.now in
+    let board = c.args.board.now in
+    let image = c.args.image.now in
+    let r = Compile firmware board image in
+    let bytes = c.in_ok-bytes.bytes.items in
+    let text = c.in_ok-text.text.items in
+    let all = Answer (IsKnown g.F.Files c.args.files.now) (IsKnownLarge g.F.Files c.args.files.now) r in
+    let old = world g.F.Files c.args.files.now out in
+    let new = world g.F.Files c.load.new.files out in
+    let known = rw c.load_firmware.ensures.same at c.in_ok-text.ensures.ok in
+    let x = err_of c.from_residual-in_err-compiled.result _ c.from_residual-in_err-compiled.ensures.1 in
+    subst (Does all r old new) (sym x.1)
+    (compile_failed all firmware board bytes text r old new
+    (record { held = c.load.ensures.same ∙ c.load_firmware.ensures.same; write_faults = c.load.ensures.writes ∙ c.load_firmware.ensures.writes; out = refl })
+    (c.in_ok-text.ensures.reads ∙ c.in_ok-bytes.ensures.reads)
+    (λ n. compile_read firmware board image bytes text _ c.in_ok-bytes.ensures.ok known (no_firmware n))
+    (λ w s n. compile_read firmware board image bytes text _ c.in_ok-bytes.ensures.ok known (no_board w s n)) x.0
+    (subst (IsCompileFailure firmware board bytes text) (sym x.2) (rw (c.as_slice.ensures.value, c.as_slice-2.ensures.value) at c.in_err-compiled.ensures.err)))
+
+pub returns-in-Ok : goal.returns-in-Ok
+returns-in-Ok g c out =
+    let firmware = c.args.firmware.now in
+    let board = c.args.board.now in
+    let image = c.args.image.now in
+    let r = Compile firmware board image in
+    let bytes = c.in_ok-bytes.bytes.items in
+    let text = c.in_ok-text.text.items in
+    let written = c.in_ok-compiled.compiled.items in
+    let all = Answer (IsKnown g.F.Files c.args.files.now) (IsKnownLarge g.F.Files c.args.files.now) r in
+    let known = rw c.load_firmware.ensures.same at c.in_ok-text.ensures.ok in
+    did_end all r (world g.F.Files c.args.files.now out) (world g.F.Files c.write.new.files out)
+    (done 0 [] (Some (record { name = image; bytes = written }))) Well
+    (compile_read firmware board image bytes text _ c.in_ok-bytes.ensures.ok known
+    (compiled written (rw (c.as_slice.ensures.value, c.as_slice-2.ensures.value) at c.in_ok-compiled.ensures.ok)))
+    refl refl
+    (record {
+      printed = λ t. sym (append-nil out.written);
+      held = rw (c.as_slice-3.ensures.value, c.load.ensures.same, c.load_firmware.ensures.same) at c.in-Ok.ensures.ok;
+      read_faults = c.write.ensures.reads ∙ (c.in_ok-text.ensures.reads ∙ c.in_ok-bytes.ensures.reads);
+      write_faults = c.in-Ok.ensures.writes ∙ (c.load.ensures.writes ∙ c.load_firmware.ensures.writes);
+      faults = refl;
+    })
+
+pub returns : goal.returns
+returns g c out =
+    let firmware = c.args.firmware.now in
+    let board = c.args.board.now in
+    let image = c.args.image.now in
+    let bytes = c.in_ok-bytes.bytes.items in
+    let text = c.in_ok-text.text.items in
+    let written = c.in_ok-compiled.compiled.items in
+    let known = rw c.load_firmware.ensures.same at c.in_ok-text.ensures.ok in (
+      record {
+        named = refl;
+        rose = rw (c.load.ensures.writes, c.load_firmware.ensures.writes) at c.in-Err.ensures.rose;
+        read_faults = c.write.ensures.reads ∙ (c.in_ok-text.ensures.reads ∙ c.in_ok-bytes.ensures.reads);
+        out = refl;
+      },
+      record {
+        outcome = done 0 [] (Some (record { name = image; bytes = written }));
+        answer = compile_read firmware board image bytes text _ c.in_ok-bytes.ensures.ok known
+            (compiled written (rw (c.as_slice.ensures.value, c.as_slice-2.ensures.value) at c.in_ok-compiled.ensures.ok));
+        part = record {
+          printed = λ t. (0, sym (append-nil out.written));
+          held = rw (c.as_slice-3.ensures.value, c.load.ensures.same, c.load_firmware.ensures.same) at c.in-Err.ensures.err;
+        };
+      },
+    )

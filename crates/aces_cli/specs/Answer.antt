@@ -1,0 +1,118 @@
+-- What a call answers where no call on the outside fails and memory does not run out: the status, what is printed, the
+-- line that tells of a fault, and what is written.
+use Rattle.std.specs.Prelude.{◌≡◌, ◌≢◌, ℕ, List, [], Option, Some, None}
+use Rattle.mem_bus.specs.declared.image.Image.{Image}
+use Rattle.mem_bus.specs.declared.image.Window.{Window}
+use Rattle.mem_bus.specs.declared.tape.TapeFault.{TapeFault}
+use Rattle.mem_bus.specs.declared.tape.TapeFault.TheVariants as tape_faults
+use Rattle.mem_bus.specs.Tape as tapes
+use Rattle.image.specs.declared.fault.ImageFault.{ImageFault}
+use Rattle.image.specs.declared.fault.ImageFault.TheVariants as image_faults
+use Rattle.image.specs.Faults as images
+use Rattle.image.specs.Text.{IsText}
+use Rattle.armv7m.specs.Run.{start}
+use Rattle.aces_cli.specs.declared.failure.Fault.{Fault}
+use Rattle.aces_cli.specs.declared.failure.Fault.TheVariants.{TooLarge, Short, Magic, Version, Field, Trailing, BadLine, UnknownPeripheral, NotInForm}
+use Rattle.aces_cli.specs.Requests.{Request, Run, Bin, Compile, Asks, IsUsage, Source, source, firmware_source, file_limit, firmware_limit}
+use Rattle.aces_cli.specs.FaultLines.{fault_line, usage_line}
+use Rattle.ir_model.specs.Plain.{PlainFirmware}
+use Rattle.straight_text.specs.StraightTexts.{IsStraightText, IsNoStraightText}
+use Rattle.aces_cli.specs.Compiled.{board_text, IsCompiled}
+use Rattle.aces_cli.specs.Runs.{fill, end_of, run_lines, end_status}
+
+-- the bytes that a name is made to hold
+pub record Written : Type 0 where
+  pub name : List ℕ
+  pub bytes : List ℕ
+
+pub record Outcome : Type 0 where
+  pub status : ℕ
+  pub printed : List ℕ
+  pub line : List ℕ
+  pub written : Option Written
+
+-- done, with this status, or refused by a file's content: status 1 and its line
+abbrev pub done : (status : ℕ) → (printed : List ℕ) → Option Written → Outcome
+done status printed written = record { status = status; printed = printed; line = []; written = written }
+
+abbrev pub refused : (name : List ℕ) → Fault → Outcome
+refused name f = record { status = 1; printed = []; line = fault_line name f; written = None }
+
+abbrev pub usage : Outcome
+usage = record { status = 2; printed = []; line = usage_line; written = None }
+
+-- the fault of a content, which want of memory is not
+abbrev pub of_image : ImageFault → Option Fault
+of_image image_faults.NoMemory = None
+of_image (image_faults.Short at) = Some (Short at)
+of_image image_faults.Magic = Some Magic
+of_image (image_faults.Version found) = Some (Version found)
+of_image (image_faults.Field at) = Some (Field at)
+of_image (image_faults.Trailing at) = Some (Trailing at)
+
+abbrev pub of_tape : TapeFault → Option Fault
+of_tape tape_faults.NoMemory = None
+of_tape (tape_faults.BadLine line) = Some (BadLine line)
+of_tape (tape_faults.UnknownPeripheral line) = Some (UnknownPeripheral line)
+
+-- bytes are the text of no image, and this is their first fault; and so of a tape for windows
+pub record IsNoImage (bytes : List ℕ) (f : Fault) : Type 0 where
+  pub first : ImageFault
+  pub found : images.first_fault bytes ≡ Some first
+  pub named : of_image first ≡ Some f
+
+pub record IsNoTape (windows : List Window) (text : List ℕ) (f : Fault) : Type 0 where
+  pub first : TapeFault
+  pub found : tapes.first_fault text windows ≡ Some first
+  pub named : of_tape first ≡ Some f
+
+-- a run on a tape of this text: the lines of its events and of its end, and nothing is written
+abbrev pub run_outcome : Image → (text : List ℕ) → (steps : ℕ) → Outcome
+run_outcome i text steps =
+    let s = start i (tapes.queues_of text i.windows) fill in
+    done (end_status (end_of i steps s)) (run_lines i steps s) None
+
+-- the answer to `run` on the bytes of both files
+pub data RunAnswer (image tape : List ℕ) (steps : ℕ) (bytes text : List ℕ) : Outcome → Type 0 where
+  no_image : (f : Fault) → IsNoImage bytes f → RunAnswer image tape steps bytes text (refused image f)
+  no_tape : (i : Image) (f : Fault) → IsText i bytes → IsNoTape i.windows text f → RunAnswer image tape steps bytes text (refused tape f)
+  ran : (i : Image) → IsText i bytes → tapes.first_fault text i.windows ≡ None → RunAnswer image tape steps bytes text (run_outcome i text steps)
+
+-- the answer to `bin` on the bytes of the image
+pub data BinAnswer (image file : List ℕ) (bytes : List ℕ) : Outcome → Type 0 where
+  no_image : (f : Fault) → IsNoImage bytes f → BinAnswer image file bytes (refused image f)
+  wrote : (i : Image) → IsText i bytes → BinAnswer image file bytes (done 0 [] (Some (record { name = file; bytes = i.flash })))
+
+-- the answer to `compile` on the bytes of both files, the firmware being tested first
+pub data CompileAnswer (firmware board image : List ℕ) (bytes text : List ℕ) : Outcome → Type 0 where
+  no_firmware : IsNoStraightText bytes → CompileAnswer firmware board image bytes text (refused firmware NotInForm)
+  no_board : (w : PlainFirmware) → IsStraightText w bytes → text ≢ board_text → CompileAnswer firmware board image bytes text (refused board NotInForm)
+  compiled : (out : List ℕ) → IsCompiled bytes text out →
+      CompileAnswer firmware board image bytes text (done 0 [] (Some (record { name = image; bytes = out })))
+
+-- `Has` says which bytes a source within its limit holds, and `Exceeds` that one is larger than its limit
+module _ (Has : Source → List ℕ → Type 0) (Exceeds : Source → Type 0) where
+  -- the answer to a request: by the first source that is larger than its limit, each one before it being there, and else
+  -- by the contents of all of them
+  pub data Answer : Request → Outcome → Type 0 where
+    run_image_large : (image tape : List ℕ) (steps : ℕ) → Exceeds (source image) →
+        Answer (Run image tape steps) (refused image (TooLarge file_limit))
+    run_tape_large : (image tape : List ℕ) (steps : ℕ) (bytes : List ℕ) → Has (source image) bytes → Exceeds (source tape) →
+        Answer (Run image tape steps) (refused tape (TooLarge file_limit))
+    run_read : (image tape : List ℕ) (steps : ℕ) (bytes text : List ℕ) (o : Outcome) → Has (source image) bytes → Has (source tape) text →
+        RunAnswer image tape steps bytes text o → Answer (Run image tape steps) o
+    bin_image_large : (image file : List ℕ) → Exceeds (source image) →
+        Answer (Bin image file) (refused image (TooLarge file_limit))
+    bin_read : (image file : List ℕ) (bytes : List ℕ) (o : Outcome) → Has (source image) bytes →
+        BinAnswer image file bytes o → Answer (Bin image file) o
+    compile_firmware_large : (firmware board image : List ℕ) → Exceeds (firmware_source firmware) →
+        Answer (Compile firmware board image) (refused firmware (TooLarge firmware_limit))
+    compile_board_large : (firmware board image : List ℕ) (bytes : List ℕ) → Has (firmware_source firmware) bytes → Exceeds (source board) →
+        Answer (Compile firmware board image) (refused board (TooLarge file_limit))
+    compile_read : (firmware board image : List ℕ) (bytes text : List ℕ) (o : Outcome) → Has (firmware_source firmware) bytes → Has (source board) text →
+        CompileAnswer firmware board image bytes text o → Answer (Compile firmware board image) o
+
+  -- the answer to any words
+  pub data Answers (words : List (List ℕ)) : Outcome → Type 0 where
+    no_request : IsUsage words → Answers words usage
+    to_request : (r : Request) (o : Outcome) → Asks words r → Answer r o → Answers words o

@@ -1,0 +1,10 @@
+pub mod Compiled
+pub mod Requests
+pub mod Commands
+pub mod Known
+pub mod FaultLines
+pub mod Answer
+pub mod Runs
+pub mod Did
+pub mod Loads
+pub mod CompileFailures

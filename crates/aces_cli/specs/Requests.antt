@@ -1,0 +1,63 @@
+-- What the words behind the program's name ask for.
+use Rattle.std.specs.Prelude.{◌≡◌, ℕ, ◌^◌, ◌<◌, List, [], ◌∷◌, Option, Some, None, codes}
+use Rattle.std.specs.Fmt.{decimal}
+
+pub data Request : Type 0 where
+  -- run an image on a tape for at most so many machine steps
+  Run : (image tape : List ℕ) → (steps : ℕ) → Request
+  -- write the flash bytes of an image to a file
+  Bin : (image file : List ℕ) → Request
+  -- write the image of a firmware for a board, each file of the firmware being a compartment
+  Compile : (firmware board image : List ℕ) → Request
+
+-- the words of a request; a number is written by its decimal digits, without a leading zero
+abbrev pub words_of : Request → List (List ℕ)
+words_of (Run image tape steps) = codes "run" ∷ image ∷ tape ∷ decimal steps ∷ []
+words_of (Bin image file) = codes "bin" ∷ image ∷ file ∷ []
+words_of (Compile firmware board image) = codes "compile" ∷ firmware ∷ board ∷ codes "filename" ∷ image ∷ []
+
+-- its numbers have at most 32 bits
+abbrev pub IsWithin : Request → Type 0
+IsWithin (Run image tape steps) = steps < 2 ^ 32
+IsWithin (Bin image file) = Unit {0}
+IsWithin (Compile firmware board image) = Unit {0}
+
+-- these words are those of the request
+pub record Asks (words : List (List ℕ)) (request : Request) : Type 0 where
+  pub within : IsWithin request
+  pub spelled : words_of request ≡ words
+
+-- the words are those of no request
+abbrev pub IsUsage : List (List ℕ) → Type 0
+IsUsage words = (request : Request) → Asks words request → ⊥
+
+-- how many bytes an image, a tape or a board may have
+abbrev pub file_limit : ℕ
+file_limit = 16777216
+
+-- how many bytes a firmware may have
+abbrev pub firmware_limit : ℕ
+firmware_limit = 4194304
+
+-- a file that is read, and how many bytes it may have
+pub record Source : Type 0 where
+  pub name : List ℕ
+  pub limit : ℕ
+
+abbrev pub source : List ℕ → Source
+source name = record { name = name; limit = file_limit }
+
+abbrev pub firmware_source : List ℕ → Source
+firmware_source name = record { name = name; limit = firmware_limit }
+
+-- the files that a request reads, in order
+abbrev pub sources : Request → List Source
+sources (Run image tape steps) = source image ∷ source tape ∷ []
+sources (Bin image file) = source image ∷ []
+sources (Compile firmware board image) = firmware_source firmware ∷ source board ∷ []
+
+-- the file that it writes
+abbrev pub target : Request → Option (List ℕ)
+target (Run image tape steps) = None
+target (Bin image file) = Some file
+target (Compile firmware board image) = Some image

@@ -1,0 +1,31 @@
+//! `bin`: the flash bytes of an image, written to a file.
+
+ghost use Rattle.aces_cli.specs.Requests.{Bin};
+ghost use Rattle.aces_cli.specs.Known.{IsKnown, IsKnownLarge};
+ghost use Rattle.aces_cli.specs.Answer.{Answer};
+ghost use Rattle.aces_cli.specs.Did.{Does, SinkState, world};
+
+use crate::failure::{Done, Failure};
+use crate::loading::{image_of, load};
+use crate::writing::write;
+use outside::Files;
+use std::alloc::Global;
+
+/// Writes the flash bytes of an image to a file. Whatever takes the output is left as it is.
+pub(crate) fn bin<'a, F: Files>(
+    alloc: Global,
+    image: &'a str,
+    file: &'a str,
+    files: &mut F,
+) -> Result<Done, Failure<'a>>
+    ensures { (out : SinkState) → Does
+        (Answer (IsKnown F.Files files.old) (IsKnownLarge F.Files files.old) (Bin image.now file.now))
+        (Bin image.now file.now) (world F.Files files.old out) (world F.Files files.new out) result }
+{
+    let bytes = load(alloc, files, image)?;
+    let image = image_of(alloc, image, bytes.as_slice())?;
+    match write(files, file, image.flash.as_slice()) {
+        Ok(()) => Ok(Done::Well),
+        Err(_) => Err(Failure::Unwritten { name: file }),
+    }
+}

@@ -1,0 +1,121 @@
+//! The commands of the program, as one call over the words behind its name.
+#![tactic(auto)]
+
+mod bin;
+mod command;
+mod compile;
+#[cfg(test)]
+mod compile_tests;
+mod failure;
+mod loading;
+mod report;
+mod run;
+#[cfg(test)]
+mod tests;
+mod writing;
+
+ghost use Rattle.std.specs.Prelude.{◌≡◌, ◌≢◌, ◌↔◌, ◌⊎◌, map, IsTrue, string_bytes};
+ghost use Rattle.aces_cli.specs.Requests.{IsUsage};
+ghost use Rattle.aces_cli.specs.Commands.{request_of};
+ghost use Rattle.aces_cli.specs.Known.{Holds, Exceeds, WasRead, WasTooLarge, IsKnown, IsKnownLarge};
+ghost use Rattle.aces_cli.specs.Answer.{Answer};
+ghost use Rattle.aces_cli.specs.Did.{sink, world, Does, IsPlain, IsAnswered, IsPartly, TellsUnread, TellsUnwritten, TellsUnprinted, TellsOutOfMemory};
+
+use command::Command;
+use failure::{Done, Failure};
+use outside::{Files, Sink};
+use report::{report, say};
+use std::alloc::Global;
+
+/// Carries out what the words behind the program's name ask for, and answers the exit status: 0 done, 1 a fault in
+/// the content of a file, 2 words that are no request, 4 a file that was not read, 5 a file or output that was not
+/// written, 6 want of memory, 7 a run that ended by a stop or by a halt other than 0.
+///
+/// Where the status is neither 0 nor 7, one line on `err` tells why. A fault of `err` changes no status.
+pub fn aces<F: Files, O: Sink, E: Sink>(
+    alloc: Global,
+    words: &[String],
+    files: &mut F,
+    out: &mut O,
+    err: &mut E,
+) -> u8
+    ensures usage { (result ≡ 2) ↔ IsUsage (map string_bytes words.now) }
+
+    // The call did what the words ask, of the contents where these are told, and else of the bytes that the calls gave.
+    ensures answer { IsTrue F.told → IsPlain result →
+        IsAnswered (Holds (F.held files.old)) (Exceeds (F.held files.old)) (map string_bytes words.now)
+        (world F.Files files.old (sink O.Sink out.old))
+        (world F.Files files.new (sink O.Sink out.new))
+        (sink E.Sink err.old) (sink E.Sink err.new) result }
+    ensures answer_to_reads { IsPlain result →
+        IsAnswered (WasRead F.Files) (WasTooLarge F.Files) (map string_bytes words.now)
+        (world F.Files files.old (sink O.Sink out.old))
+        (world F.Files files.new (sink O.Sink out.new))
+        (sink E.Sink err.old) (sink E.Sink err.new) result }
+
+    ensures unread { result ≡ 4 → TellsUnread (map string_bytes words.now)
+        (world F.Files files.old (sink O.Sink out.old))
+        (world F.Files files.new (sink O.Sink out.new))
+        (sink E.Sink err.old) (sink E.Sink err.new) }
+    ensures read_faults { (result ≡ 4) ⊎ (F.read_faults files.new ≡ F.read_faults files.old) }
+
+    ensures unwritten { result ≡ 5 → TellsUnwritten (map string_bytes words.now)
+        (world F.Files files.old (sink O.Sink out.old))
+        (world F.Files files.new (sink O.Sink out.new))
+        (sink E.Sink err.old) (sink E.Sink err.new)
+        ⊎ TellsUnprinted
+        (world F.Files files.old (sink O.Sink out.old))
+        (world F.Files files.new (sink O.Sink out.new))
+        (sink E.Sink err.old) (sink E.Sink err.new) }
+    ensures write_faults { (result ≡ 5) ⊎ ((F.write_faults files.new ≡ F.write_faults files.old)
+        × (O.faults out.new ≡ O.faults out.old)) }
+
+    // What was printed and written before a fault is a prefix of what the words ask.
+    ensures partly { IsTrue F.told → result ≡ 5 →
+        IsPartly (Holds (F.held files.old)) (Exceeds (F.held files.old)) (map string_bytes words.now)
+        (world F.Files files.old (sink O.Sink out.old))
+        (world F.Files files.new (sink O.Sink out.new)) }
+    ensures partly_of_reads { result ≡ 5 →
+        IsPartly (WasRead F.Files) (WasTooLarge F.Files) (map string_bytes words.now)
+        (world F.Files files.old (sink O.Sink out.old))
+        (world F.Files files.new (sink O.Sink out.new)) }
+
+    ensures memory { result ≡ 6 → TellsOutOfMemory
+        (world F.Files files.old (sink O.Sink out.old))
+        (world F.Files files.new (sink O.Sink out.new))
+        (sink E.Sink err.old) (sink E.Sink err.new) }
+    ensures kept { result ≢ 0 → result ≢ 5 → F.held files.new ≡ F.held files.old }
+{
+    match Command::of_words(words) {
+        None => {
+            say(err, b"aces: usage\n");
+            2
+        }
+        Some(command) => {
+            let ended = perform(alloc, command, files, out);
+            report(ended, err)
+        }
+    }
+}
+
+/// Carries out a command.
+fn perform<'a, F: Files, O: Sink>(
+    alloc: Global,
+    command: Command<'a>,
+    files: &mut F,
+    out: &mut O,
+) -> Result<Done, Failure<'a>>
+    ensures { Does (Answer (IsKnown F.Files files.old) (IsKnownLarge F.Files files.old) (request_of command.entry)) (request_of command.entry)
+        (world F.Files files.old (sink O.Sink out.old))
+        (world F.Files files.new (sink O.Sink out.new)) result }
+{
+    match command {
+        Command::Run { image, tape, steps } => run::run(alloc, image, tape, steps, files, out),
+        Command::Bin { image, file } => bin::bin(alloc, image, file, files),
+        Command::Compile {
+            firmware,
+            board,
+            image,
+        } => compile::compile(alloc, firmware, board, image, files),
+    }
+}

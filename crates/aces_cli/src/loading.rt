@@ -1,0 +1,115 @@
+//! Reading the files of a command.
+
+ghost use Rattle.std.specs.Prelude.{◌≡◌, ◌≤◌, ◌<◌, ◌-◌, ◌^◌, length, None, IfOk, IfErr, OnOk};
+ghost use Rattle.image.specs.Text.{IsText};
+ghost use Rattle.mem_bus.specs.Tape as tapes;
+ghost use Rattle.aces_cli.specs.Requests.{source, firmware_source, file_limit};
+ghost use Rattle.aces_cli.specs.Known.{IsKnown, IsKnownLarge};
+ghost use Rattle.aces_cli.specs.Answer.{IsNoImage, IsNoTape};
+ghost use Rattle.aces_cli.specs.Loads.{IsContentFailure, IsLoadFailure};
+
+use crate::failure::{Failure, Fault, image_failure, tape_failure};
+use mem_bus::image::{Image, Window};
+use mem_bus::tape::Tape;
+use outside::{Files, ReadRefusal, read_whole};
+use std::alloc::Global;
+
+/// How many bytes an image, a tape or a board may have.
+const FILE_LIMIT: u32 = 16_777_216;
+
+/// How many bytes a firmware may have.
+const FIRMWARE_LIMIT: u32 = 4_194_304;
+
+/// The bytes of an image, of a tape or of a board.
+pub(crate) fn load<'a, F: Files>(
+    alloc: Global,
+    files: &mut F,
+    name: &'a str,
+) -> Result<Vec<u8>, Failure<'a>>
+    ensures ok { IfOk result (λ bytes.
+        IsKnown F.Files files.old (source name.now) bytes.items) }
+    ensures few { IfOk result (λ bytes. length bytes.items ≤ file_limit) }
+    ensures err { IfErr result (λ e.
+        IsLoadFailure (IsKnownLarge F.Files files.old) F.told (F.held files.old) (source name.now)
+        (F.read_faults files.old) (F.read_faults files.new) e) }
+    ensures same { F.held files.new ≡ F.held files.old }
+    ensures reads { OnOk result (F.read_faults files.new ≡ F.read_faults files.old) }
+    ensures writes { F.write_faults files.new ≡ F.write_faults files.old }
+{
+    load_within(alloc, files, name, FILE_LIMIT)
+}
+
+/// The bytes of a firmware.
+pub(crate) fn load_firmware<'a, F: Files>(
+    alloc: Global,
+    files: &mut F,
+    name: &'a str,
+) -> Result<Vec<u8>, Failure<'a>>
+    ensures ok { IfOk result (λ bytes.
+        IsKnown F.Files files.old (firmware_source name.now) bytes.items) }
+    ensures err { IfErr result (λ e.
+        IsLoadFailure (IsKnownLarge F.Files files.old) F.told (F.held files.old) (firmware_source name.now)
+        (F.read_faults files.old) (F.read_faults files.new) e) }
+    ensures same { F.held files.new ≡ F.held files.old }
+    ensures reads { OnOk result (F.read_faults files.new ≡ F.read_faults files.old) }
+    ensures writes { F.write_faults files.new ≡ F.write_faults files.old }
+{
+    load_within(alloc, files, name, FIRMWARE_LIMIT)
+}
+
+/// The bytes of a file that may have so many.
+fn load_within<'a, F: Files>(
+    alloc: Global,
+    files: &mut F,
+    name: &'a str,
+    limit: u32,
+) -> Result<Vec<u8>, Failure<'a>>
+    ensures ok { IfOk result (λ bytes.
+        IsKnown F.Files files.old (record { name = name.now; limit = limit }) bytes.items) }
+    ensures few { IfOk result (λ bytes. length bytes.items ≤ limit) }
+    ensures err { IfErr result (λ e.
+        IsLoadFailure (IsKnownLarge F.Files files.old) F.told (F.held files.old) (record { name = name.now; limit = limit })
+        (F.read_faults files.old) (F.read_faults files.new) e) }
+    ensures same { F.held files.new ≡ F.held files.old }
+    ensures reads { OnOk result (F.read_faults files.new ≡ F.read_faults files.old) }
+    ensures writes { F.write_faults files.new ≡ F.write_faults files.old }
+{
+    match read_whole(alloc, files, name, u64::from(limit)) {
+        Ok(bytes) => Ok(bytes),
+        Err(ReadRefusal::TooLong) => Err(Failure::Refused {
+            name,
+            fault: Fault::TooLarge { limit },
+        }),
+        Err(ReadRefusal::Failed) => Err(Failure::Unread { name }),
+        Err(ReadRefusal::NoMemory) => Err(Failure::NoMemory),
+    }
+}
+
+/// The image of which these bytes of a file are the text.
+pub(crate) fn image_of<'a>(alloc: Global, name: &'a str, bytes: &[u8]) -> Result<Image, Failure<'a>>
+    ensures ok { IfOk result (λ i. IsText i bytes.now) }
+    ensures err { IfErr result (λ e. IsContentFailure (IsNoImage bytes.now) name.now e) }
+{
+    match image::read(alloc, bytes) {
+        Ok(image) => Ok(image),
+        Err(fault) => Err(image_failure(name, fault)),
+    }
+}
+
+/// The tape for these windows of which the bytes of a file are the text.
+pub(crate) fn tape_of<'a>(
+    alloc: Global,
+    name: &'a str,
+    text: &[u8],
+    windows: &[Window],
+) -> Result<Tape, Failure<'a>>
+    requires { length text.now ≤ file_limit }
+    ensures faultless { OnOk result (tapes.first_fault text.now windows.now ≡ None) }
+    ensures ok { IfOk result (λ tape. tape ≡ tapes.queues_of text.now windows.now) }
+    ensures err { IfErr result (λ e. IsContentFailure (IsNoTape windows.now text.now) name.now e) }
+{
+    match Tape::read(alloc, text, windows) {
+        Ok(tape) => Ok(tape),
+        Err(fault) => Err(tape_failure(name, fault)),
+    }
+}
