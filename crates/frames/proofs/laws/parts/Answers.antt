@@ -1,0 +1,13 @@
+use Rattle.std.proofs.Common.{arith}
+use Rattle.frames.proofs.Sizes.{words_of, ends_before, ends_within}
+use Rattle.frames.proofs.laws.parts.Goals as goal
+use Rattle.std.proofs.Common.{take}
+
+pub returns-clause-locals : goal.returns-clause-locals
+returns-clause-locals c = λ ks f j k l e b. let h = ends_before ks f.locals j k l e b in omega arith
+
+pub returns-clause-locals_inside : goal.returns-clause-locals_inside
+returns-clause-locals_inside c = λ ks f k l e. let h = ends_within ks f.locals k l e in omega arith
+
+pub returns-clause-locals_aligned : goal.returns-clause-locals_aligned
+returns-clause-locals_aligned c = λ ks f k. let h = words_of ks (take k f.locals) in omega arith

@@ -1,0 +1,27 @@
+//! The parts of a frame are apart. Each function is a law and does nothing.
+
+ghost use Rattle.std.specs.Prelude.{ℕ, ◌≡◌, ◌+◌, ◌<◌, ◌≤◌, ◌%◌, List, length, Option, Some};
+ghost use Rattle.std.specs.List.{slice_get};
+ghost use Rattle.ir_model.specs.Plain.{PlainSlot, PlainFunc, regs_of};
+ghost use Rattle.ir_model.specs.Layout.{Known, shape};
+ghost use Rattle.ir_model.specs.Frames.{frame_size};
+ghost use Rattle.frames.specs.Places.{register_offset, local_offset, return_offset};
+
+/// From the stack pointer on stand the registers, of four bytes each, then the locals in order, then the return
+/// address, whose four bytes are the frame's last. Each ends before the next begins, and begins at a multiple of 4.
+pub fn parts()
+    ensures whole { (ks : List Known) (f : PlainFunc) → frame_size ks f % 8 ≡ 0 }
+    ensures registers { (j k : ℕ) → j < k → register_offset j + 4 ≤ register_offset k }
+    ensures registers_first { (ks : List Known) (f : PlainFunc) (j k : ℕ) → j < length (regs_of f) →
+        register_offset j + 4 ≤ local_offset ks f k }
+    ensures locals { (ks : List Known) (f : PlainFunc) (j k : ℕ) (l : PlainSlot) → slice_get f.locals j ≡ Some l → j < k →
+        local_offset ks f j + (shape ks l.ty).size ≤ local_offset ks f k }
+    ensures registers_inside { (ks : List Known) (f : PlainFunc) (k : ℕ) → k < length (regs_of f) →
+        register_offset k + 4 ≤ return_offset ks f }
+    ensures locals_inside { (ks : List Known) (f : PlainFunc) (k : ℕ) (l : PlainSlot) → slice_get f.locals k ≡ Some l →
+        local_offset ks f k + (shape ks l.ty).size ≤ return_offset ks f }
+    ensures return_last { (ks : List Known) (f : PlainFunc) → return_offset ks f + 4 ≡ frame_size ks f }
+    ensures registers_aligned { (k : ℕ) → register_offset k % 4 ≡ 0 }
+    ensures return_aligned { (ks : List Known) (f : PlainFunc) → return_offset ks f % 4 ≡ 0 }
+    ensures locals_aligned { (ks : List Known) (f : PlainFunc) (k : ℕ) → local_offset ks f k % 4 ≡ 0 }
+{}

@@ -1,0 +1,9 @@
+use Rattle.std.proofs.Common.{◌≡◌, map, take}
+use Rattle.ir_model.specs.Plain.{func_of}
+use Rattle.ir_model.specs.Resolve as resolving
+use Rattle.ir_resolve.specs.Seen.{routine_of}
+use Rattle.ir_resolve.specs.Scopes.{scope_of}
+use Rattle.ir_resolve.proofs.routines.routines.Given as goal
+
+abbrev pub invariant-loop-i : goal.invariant-loop-i
+invariant-loop-i l = map routine_of l.routines.items ≡ map (resolving.resolved_func (scope_of l.scope)) (map (λ f. func_of f.now) (take l.i l.funcs))
