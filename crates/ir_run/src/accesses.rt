@@ -1,0 +1,112 @@
+//! Accesses of globals.
+
+ghost use Rattle.std.specs.Prelude.{◌≡◌, ◌∷◌, [], map, IfOk, OnOk, OnErr};
+ghost use Rattle.std.proofs.Math.ListN.{get_or, set};
+ghost use Rattle.ir_model.specs.Layout.{cell_at};
+ghost use Rattle.ir_model.specs.Resolved.{global_at};
+ghost use Rattle.ir_model.specs.State as state;
+ghost use Rattle.ir_model.specs.Step as step;
+ghost use Rattle.ir_resolve.specs.Seen.{value_of, pointee_of, program_of};
+ghost use Rattle.ir_run.specs.Acts.{frame_of};
+ghost use Rattle.ir_run.specs.States.{running_of, memory_of, Answers};
+
+use crate::cells::cell_number;
+use crate::outcome::{FaultKind, SourceEnd, SourceStep};
+use crate::parts::Parts;
+use crate::registers::{advance, write_register};
+use ir_model::types::Ty;
+use ir_resolve::program::Program;
+use ir_resolve::value::Value;
+use std::alloc::AllocError;
+
+/// Writes a register of the running frame, and goes on.
+///
+/// # Errors
+///
+/// There is no number for the next place; the state is as before.
+pub fn keep(parts: &mut Parts, to: usize, value: Value) -> Result<(), AllocError>
+    ensures ok { OnOk result (running_of parts.new ≡ state.Running (step.onward (step.with_register (frame_of parts.old.top) to (value_of value)) ∷ map frame_of parts.old.below) (memory_of parts.old)) }
+    ensures err { OnErr result (running_of parts.new ≡ running_of parts.old) }
+{
+    advance(&mut parts.top)?;
+    write_register(&mut parts.top, to, value);
+    Ok(())
+}
+
+/// The number of the cell of a type at an offset of a global.
+pub fn global_cell(program: &Program, global: usize, at: u32, ty: Option<&Ty>) -> Option<usize>
+    ensures { result ≡ cell_at (global_at (program_of program.now) global).cells at (pointee_of ty.entry) }
+{
+    let globals = program.globals.as_slice();
+    if global < globals.len() {
+        cell_number(globals[global].cells.as_slice(), at, ty)
+    } else {
+        cell_number(&[], at, ty)
+    }
+}
+
+/// A load of a cell of a global.
+#[tactic(auto, using(crate::proofs::Writing::seen_cell))]
+pub fn load_global(
+    parts: &mut Parts,
+    to: usize,
+    global: usize,
+    cell: Option<usize>,
+) -> Result<SourceStep, AllocError>
+    ensures ok { IfOk result (λ a. Answers (step.load_cell (frame_of parts.old.top) (map frame_of parts.old.below) (memory_of parts.old) to (state.GlobalObject global) (get_or (memory_of parts.old).globals global []) cell) a parts.new) }
+    ensures err { OnErr result (running_of parts.new ≡ running_of parts.old) }
+{
+    match cell {
+        None => Ok(SourceStep::Ended(SourceEnd::Fault(FaultKind::NoCell))),
+        Some(cell) => {
+            let value = parts.globals.at(global, cell);
+            keep(parts, to, value)?;
+            Ok(SourceStep::Ran)
+        }
+    }
+}
+
+/// Writes a cell of a global, and goes on.
+///
+/// # Errors
+///
+/// There is no number for the next place; the state is as before.
+#[tactic(auto, using(crate::proofs::Writing::written_global))]
+pub fn write_global(
+    parts: &mut Parts,
+    global: usize,
+    cell: usize,
+    value: Value,
+) -> Result<(), AllocError>
+    ensures ok { OnOk result (running_of parts.new ≡ state.Running (step.onward (frame_of parts.old.top) ∷ map frame_of parts.old.below) (record (memory_of parts.old) { globals = set (memory_of parts.old).globals global (set (get_or (memory_of parts.old).globals global []) cell (value_of value)) })) }
+    ensures err { OnErr result (running_of parts.new ≡ running_of parts.old) }
+{
+    advance(&mut parts.top)?;
+    parts.globals.put(global, cell, value);
+    Ok(())
+}
+
+/// A store into a cell of a global.
+///
+/// # Errors
+///
+/// There is no number for the next place; the state is as before.
+pub fn store_global(
+    parts: &mut Parts,
+    global: usize,
+    constant: bool,
+    value: Value,
+    cell: Option<usize>,
+) -> Result<SourceStep, AllocError>
+    ensures ok { IfOk result (λ a. Answers (step.store_global (frame_of parts.old.top) (map frame_of parts.old.below) (memory_of parts.old) global constant (value_of value) cell) a parts.new) }
+    ensures err { OnErr result (running_of parts.new ≡ running_of parts.old) }
+{
+    match (cell, constant) {
+        (None, _) => Ok(SourceStep::Ended(SourceEnd::Fault(FaultKind::NoCell))),
+        (Some(_), true) => Ok(SourceStep::Ended(SourceEnd::Fault(FaultKind::Constant))),
+        (Some(cell), false) => {
+            write_global(parts, global, cell, value)?;
+            Ok(SourceStep::Ran)
+        }
+    }
+}

@@ -1,0 +1,198 @@
+//! What an instruction asks for.
+
+ghost use Rattle.std.specs.Prelude.{◌≡◌, ◌*◌, map, IfOk};
+ghost use Rattle.words.specs.Arithmetic.{word};
+ghost use Rattle.ir_model.specs.Step as step;
+ghost use Rattle.ir_model.specs.Resolved as plain;
+ghost use Rattle.ir_resolve.specs.Seen.{value_of, operation_of, target_of, pointee_of, product};
+ghost use Rattle.ir_run.specs.Acts.{frame_of, act_of};
+
+use crate::arithmetic::{binary, bit, compared, number_in};
+use crate::frame::Frame;
+use crate::outcome::FaultKind;
+use crate::request::Act;
+use ir_model::types::Ty;
+use ir_resolve::program::{Operation, Target};
+use ir_resolve::value::{Instance, Value};
+use listed::Listed;
+use std::alloc::{AllocError, Global};
+use words::operations;
+
+// An index times the size of an element.
+fn scaled(index: u32, size: &[u32]) -> u32
+    ensures { result ≡ word (index * product size.now) }
+{
+    let mut scaled = index;
+    for i in 0..size.len() {
+        scaled = operations::multiply(scaled, size[i]);
+    }
+    scaled
+}
+
+fn address_of(frame: &Frame, of: Target) -> Value
+    ensures { value_of result ≡ step.address_of (frame_of frame.now) (target_of of) }
+{
+    let instance = match of {
+        Target::Global(global) => Instance::Global(global),
+        Target::Periph(periph) => Instance::Periph(periph),
+        Target::Local(local) => Instance::Local {
+            func: frame.func,
+            frame: frame.number,
+            local,
+        },
+    };
+    Value::At {
+        instance,
+        offset: 0,
+    }
+}
+
+fn arguments(alloc: Global, frame: &Frame, registers: &[usize]) -> Result<Listed<Value>, AllocError>
+    ensures { IfOk result (λ vs. map value_of vs ≡ map (step.register (frame_of frame.now)) registers.now) }
+{
+    let mut values = Vec::new(alloc);
+    for i in 0..registers.len() {
+        values.push(frame.regs.at(registers[i]))?;
+    }
+    Ok(Listed::new(values))
+}
+
+// What a register holds.
+fn register(frame: &Frame, number: usize) -> Value
+    ensures { value_of result ≡ step.register (frame_of frame.now) number }
+{
+    frame.regs.at(number)
+}
+
+#[tactic(auto, unfolding(ir_model::specs::Step::act))]
+fn element<'a>(frame: &Frame, to: usize, base: usize, index: usize, size: &[u32]) -> Act<'a>
+    ensures { act_of result ≡ step.act (frame_of frame.now) (plain.Elem to base index (product size.now)) }
+{
+    match register(frame, base) {
+        Value::At { instance, offset } => Act::Sets {
+            to,
+            value: Value::At {
+                instance,
+                offset: operations::add(offset, scaled(number_in(register(frame, index)), size)),
+            },
+        },
+        Value::Number(_) | Value::Code(_) | Value::Null => Act::Fails(FaultKind::Null),
+    }
+}
+
+#[tactic(auto, unfolding(ir_model::specs::Step::act))]
+fn field<'a>(frame: &Frame, to: usize, base: usize, by: u32) -> Act<'a>
+    ensures { act_of result ≡ step.act (frame_of frame.now) (plain.Field to base by) }
+{
+    match register(frame, base) {
+        Value::At { instance, offset } => Act::Sets {
+            to,
+            value: Value::At {
+                instance,
+                offset: operations::add(offset, by),
+            },
+        },
+        Value::Number(_) | Value::Code(_) | Value::Null => Act::Fails(FaultKind::Null),
+    }
+}
+
+#[tactic(auto, unfolding(ir_model::specs::Step::act))]
+fn load<'a>(frame: &Frame, to: usize, from: usize, ty: Option<&'a Ty>) -> Act<'a>
+    ensures { act_of result ≡ step.act (frame_of frame.now) (plain.Load to from (pointee_of ty.entry)) }
+{
+    match register(frame, from) {
+        Value::At { instance, offset } => Act::Loads {
+            to,
+            instance,
+            offset,
+            ty,
+        },
+        Value::Number(_) | Value::Code(_) | Value::Null => Act::Fails(FaultKind::Null),
+    }
+}
+
+#[tactic(auto, unfolding(ir_model::specs::Step::act))]
+fn store<'a>(frame: &Frame, to: usize, from: usize, ty: Option<&'a Ty>) -> Act<'a>
+    ensures { act_of result ≡ step.act (frame_of frame.now) (plain.Store to from (pointee_of ty.entry)) }
+{
+    match register(frame, to) {
+        Value::At { instance, offset } => Act::Stores {
+            instance,
+            offset,
+            ty,
+            value: register(frame, from),
+        },
+        Value::Number(_) | Value::Code(_) | Value::Null => Act::Fails(FaultKind::Null),
+    }
+}
+
+#[tactic(auto, unfolding(ir_model::specs::Step::act))]
+fn indirect<'a>(
+    alloc: Global,
+    frame: &Frame,
+    callee: usize,
+    args: &[usize],
+) -> Result<Act<'a>, AllocError>
+    ensures { IfOk result (λ a. act_of a ≡ step.with_code (step.register (frame_of frame.now) callee) (λ g. step.Enters g (map (step.register (frame_of frame.now)) args.now))) }
+{
+    match register(frame, callee) {
+        Value::Code(func) => Ok(Act::Enters {
+            func,
+            args: arguments(alloc, frame, args)?,
+        }),
+        Value::Number(_) | Value::At { .. } | Value::Null => Ok(Act::Fails(FaultKind::Null)),
+    }
+}
+
+fn sets<'a>(to: usize, value: Value) -> Act<'a>
+    ensures { act_of result ≡ step.Sets to (value_of value) }
+{
+    Act::Sets { to, value }
+}
+
+/// What an instruction of the running function asks for.
+#[tactic(auto, unfolding(ir_model::specs::Step::act))]
+pub fn act<'a>(
+    alloc: Global,
+    frame: &Frame,
+    operation: &Operation<'a>,
+) -> Result<Act<'a>, AllocError>
+    ensures { IfOk result (λ a. act_of a ≡ step.act (frame_of frame.now) (operation_of operation.now)) }
+{
+    match operation {
+        Operation::Const { to, value } => Ok(sets(*to, Value::Number(*value))),
+        Operation::Move { to, from } => Ok(sets(*to, register(frame, *from))),
+        Operation::Bin { op, to, a, b } => {
+            let made = binary(
+                *op,
+                number_in(register(frame, *a)),
+                number_in(register(frame, *b)),
+            );
+            Ok(sets(*to, Value::Number(made)))
+        }
+        Operation::Cmp { op, to, a, b } => {
+            let holds = compared(
+                *op,
+                number_in(register(frame, *a)),
+                number_in(register(frame, *b)),
+            );
+            Ok(sets(*to, Value::Number(bit(holds))))
+        }
+        Operation::Addr { to, of } => Ok(sets(*to, address_of(frame, *of))),
+        Operation::FAddr { to, func } => Ok(sets(*to, Value::Code(*func))),
+        Operation::Elem {
+            to,
+            base,
+            index,
+            size,
+        } => Ok(element(frame, *to, *base, *index, size.as_slice())),
+        Operation::Field { to, base, offset } => Ok(field(frame, *to, *base, *offset)),
+        Operation::Load { to, from, ty } => Ok(load(frame, *to, *from, *ty)),
+        Operation::Store { to, from, ty } => Ok(store(frame, *to, *from, *ty)),
+        Operation::Call { to: _, func, args } => Ok(Act::Enters {
+            func: *func,
+            args: arguments(alloc, frame, args.as_slice())?,
+        }),
+        Operation::ICall { to: _, func, args } => indirect(alloc, frame, *func, args.as_slice()),
+    }
+}

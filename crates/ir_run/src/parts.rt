@@ -1,0 +1,21 @@
+//! The state of a run.
+
+use crate::below::Below;
+use crate::contents::Contents;
+use crate::frame::Frame;
+use mem_bus::tape::Tape;
+
+/// The state of a run that has not ended.
+#[derive(Drop)]
+pub struct Parts {
+    /// The running frame.
+    pub top: Frame,
+    /// The frames that wait.
+    pub below: Below,
+    /// What the globals hold.
+    pub globals: Contents,
+    /// The words that each peripheral has left.
+    pub tape: Tape,
+    /// How many frames were made.
+    pub made: u64,
+}

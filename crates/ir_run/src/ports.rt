@@ -1,0 +1,100 @@
+//! Accesses of peripherals.
+
+ghost use Rattle.std.specs.Prelude.{◌≡◌, ◌∷◌, [], map, true, IfOk, OnErr};
+ghost use Rattle.std.proofs.Math.ListN.{get_or};
+ghost use Rattle.ir_model.specs.Step as step;
+ghost use Rattle.ir_resolve.specs.Seen.{value_of, pointee_of};
+ghost use Rattle.ir_run.specs.Acts.{frame_of};
+ghost use Rattle.ir_run.specs.States.{running_of, memory_of, Answers};
+
+use crate::arithmetic::number_in;
+use crate::cells::{cut_number, width_of};
+use crate::outcome::{SourceEnd, SourceStep};
+use crate::parts::Parts;
+use crate::registers::{advance, write_register};
+use ir_model::types::Ty;
+use ir_resolve::value::Value;
+use mem_bus::event::Event;
+use std::alloc::AllocError;
+
+/// The compartment of a function; 0 where there is none.
+pub fn compartment_of(compartments: &[u32], func: usize) -> u32
+    ensures { result ≡ get_or compartments.now func 0 }
+{
+    if func < compartments.len() {
+        compartments[func]
+    } else {
+        0
+    }
+}
+
+/// A store to a cell of a peripheral.
+///
+/// # Errors
+///
+/// There is no number for the next place or for the peripheral; the state is as before.
+pub fn store_port(
+    parts: &mut Parts,
+    compartments: &[u32],
+    periph: usize,
+    at: u32,
+    ty: Option<&Ty>,
+    value: Value,
+) -> Result<SourceStep, AllocError>
+    ensures ok { IfOk result (λ a. Answers (step.store_port compartments.now (frame_of parts.old.top) (map frame_of parts.old.below) (memory_of parts.old) periph at (pointee_of ty.entry) (value_of value) true) a parts.new) }
+    ensures err { OnErr result (running_of parts.new ≡ running_of parts.old) }
+{
+    let Ok(number) = u32::try_from(periph) else {
+        return Err(AllocError);
+    };
+    let compartment = compartment_of(compartments, parts.top.func);
+    advance(&mut parts.top)?;
+    Ok(SourceStep::Event(Event {
+        compartment,
+        periph: number,
+        offset: at,
+        width: width_of(ty),
+        write: true,
+        value: number_in(value),
+    }))
+}
+
+/// A load from a cell of a peripheral.
+///
+/// # Errors
+///
+/// There is no number for the next place or for the peripheral; the state is as before.
+#[tactic(auto, using(crate::proofs::Writing::first_of))]
+pub fn load_port(
+    parts: &mut Parts,
+    compartments: &[u32],
+    to: usize,
+    periph: usize,
+    at: u32,
+    ty: Option<&Ty>,
+) -> Result<SourceStep, AllocError>
+    ensures ok { IfOk result (λ a. Answers (step.take_input compartments.now (frame_of parts.old.top) (map frame_of parts.old.below) (memory_of parts.old) to periph at (pointee_of ty.entry) (get_or parts.old.tape periph [])) a parts.new) }
+    ensures err { OnErr result (running_of parts.new ≡ running_of parts.old) }
+{
+    let Ok(number) = u32::try_from(periph) else {
+        return Err(AllocError);
+    };
+    if periph >= parts.tape.queue_count() {
+        return Ok(SourceStep::Ended(SourceEnd::InputEnd));
+    }
+    let compartment = compartment_of(compartments, parts.top.func);
+    advance(&mut parts.top)?;
+    let Some(word) = parts.tape.take(number) else {
+        return Ok(SourceStep::Ended(SourceEnd::InputEnd));
+    };
+    let value = cut_number(ty, word);
+    write_register(&mut parts.top, to, Value::Number(value));
+    Ok(SourceStep::Event(Event {
+        compartment,
+        periph: number,
+        offset: at,
+        width: width_of(ty),
+        write: false,
+        value,
+    }))
+}

@@ -1,0 +1,56 @@
+//! Registers, places and blocks of the running frame.
+
+ghost use Rattle.std.specs.Prelude.{◌≡◌, OnOk, OnErr, nat_eq, if◌then◌else◌};
+ghost use Rattle.ir_model.specs.Step as step;
+ghost use Rattle.ir_resolve.specs.Seen.{value_of};
+ghost use Rattle.ir_run.specs.Acts.{frame_of};
+
+use crate::arithmetic::number_in;
+use crate::frame::Frame;
+use ir_resolve::value::Value;
+use std::alloc::AllocError;
+
+/// Writes a register.
+#[tactic(auto, using(crate::proofs::Writing::written))]
+pub fn write_register(frame: &mut Frame, register: usize, value: Value)
+    ensures { frame_of frame.new ≡ step.with_register (frame_of frame.old) register (value_of value) }
+{
+    frame.regs.put(register, value);
+}
+
+/// Goes on behind an instruction.
+///
+/// # Errors
+///
+/// There is no number for the next place; the frame is as before.
+pub fn advance(frame: &mut Frame) -> Result<(), AllocError>
+    ensures ok { OnOk result (frame_of frame.new ≡ step.onward (frame_of frame.old)) }
+    ensures err { OnErr result (frame.new ≡ frame.old) }
+{
+    match frame.place.checked_add(1) {
+        Some(next) => {
+            frame.place = next;
+            Ok(())
+        }
+        None => Err(AllocError),
+    }
+}
+
+/// Goes to the begin of a block.
+pub fn jump(frame: &mut Frame, block: usize)
+    ensures { frame_of frame.new ≡ step.jumped (frame_of frame.old) block }
+{
+    frame.block = block;
+    frame.place = 0;
+}
+
+/// The block to which a branch goes: the second where the register is 0.
+pub fn branch_target(frame: &Frame, on: usize, yes: usize, no: usize) -> usize
+    ensures { result ≡ (if nat_eq (step.number_in (step.register (frame_of frame.now) on)) 0 then no else yes) }
+{
+    if number_in(frame.regs.at(on)) == 0 {
+        no
+    } else {
+        yes
+    }
+}

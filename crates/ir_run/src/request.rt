@@ -1,0 +1,37 @@
+//! What instructions ask for.
+
+use crate::outcome::FaultKind;
+use ir_model::types::Ty;
+use ir_resolve::value::{Instance, Value};
+use listed::Listed;
+
+/// What an instruction asks for.
+#[derive(Drop)]
+pub enum Act<'a> {
+    /// To write a register.
+    Sets {
+        to: usize,
+        value: Value,
+    },
+    /// To end in a fault.
+    Fails(FaultKind),
+    /// To load from an object.
+    Loads {
+        to: usize,
+        instance: Instance,
+        offset: u32,
+        ty: Option<&'a Ty>,
+    },
+    /// To store into an object.
+    Stores {
+        instance: Instance,
+        offset: u32,
+        ty: Option<&'a Ty>,
+        value: Value,
+    },
+    /// To enter a function.
+    Enters {
+        func: usize,
+        args: Listed<Value>,
+    },
+}

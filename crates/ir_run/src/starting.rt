@@ -1,0 +1,46 @@
+//! The first state of a run.
+
+ghost use Rattle.std.specs.Prelude.{◌≡◌, map, IfOk};
+ghost use Rattle.ir_model.specs.Resolved.{NumberedGlobal};
+ghost use Rattle.ir_model.specs.State as state;
+ghost use Rattle.ir_resolve.specs.Seen.{value_of, variable_of, program_of};
+ghost use Rattle.ir_run.specs.States.{running_of};
+
+use crate::below::Below;
+use crate::contents::{Contents, Values};
+use crate::entering::new_frame;
+use crate::parts::Parts;
+use ir_resolve::program::{Program, Variable};
+use mem_bus::tape::Tape;
+use std::alloc::{AllocError, Global};
+
+fn initial_contents(alloc: Global, variables: &[Variable]) -> Result<Contents, AllocError>
+    ensures { IfOk result (λ gs. map (map value_of) gs ≡ map (λ (o : NumberedGlobal). o.init) (map variable_of variables.now)) }
+{
+    let mut objects = Vec::new(alloc);
+    for i in 0..variables.len() {
+        let values = variables[i].init.as_slice().to_vec(alloc)?;
+        objects.push(Values::new(values))?;
+    }
+    Ok(Contents::new(objects))
+}
+
+/// The first state of a run: `main` is entered, and the peripherals give the words of the tape.
+///
+/// # Errors
+///
+/// There is no memory for it.
+#[tactic(auto, unfolding(ir_model::specs::State::start))]
+pub fn started(alloc: Global, program: &Program, tape: Tape) -> Result<Parts, AllocError>
+    ensures { IfOk result (λ s. running_of s ≡ state.start (program_of program.now) tape) }
+{
+    let top = new_frame(alloc, program, program.main, 0, &[])?;
+    let globals = initial_contents(alloc, program.globals.as_slice())?;
+    Ok(Parts {
+        top,
+        below: Below::new(alloc),
+        globals,
+        tape,
+        made: 1,
+    })
+}
