@@ -4,14 +4,14 @@ use Rattle.aces_cli.specs.declared.failure.Done.{Done}
 use Rattle.aces_cli.specs.declared.failure.Done.TheVariants.{Well, Badly}
 use Rattle.aces_cli.specs.declared.failure.Failure.{Failure}
 use Rattle.aces_cli.specs.declared.failure.Failure.TheVariants.{Refused, Unread, Unwritten, Unprinted, NoMemory}
-use Rattle.aces_cli.specs.Requests.{Request, Asks, IsUsage, Source}
+use Rattle.aces_cli.specs.Requests.{Request, Run, Bin, Compile, Check, Source, Asks, IsUsage, Origin}
 use Rattle.aces_cli.specs.FaultLines.{usage_line}
-use Rattle.aces_cli.specs.Answer.{Outcome, Answer, refused, usage, run_image_large, run_tape_large, run_read, bin_image_large, bin_read, compile_firmware_large, compile_board_large, compile_read, no_request, to_request}
-use Rattle.aces_cli.specs.Did.{SinkState, World, Does, Quiet, Says, IsPlain, IsCarriedOut, IsAnswered, IsPartly, TellsUnread, TellsUnwritten, TellsUnprinted, TellsOutOfMemory, status_of, line_of}
+use Rattle.aces_cli.specs.Answer.{Outcome, Answer, refused, usage, run_image_large, run_tape_large, run_read, bin_image_large, bin_read, compile_firmware_large, compile_board_large, compile_read, check_large, check_read, source_firmware_large, source_tape_large, source_read, no_request, to_request}
+use Rattle.aces_cli.specs.Did.{SinkState, World, Does, Quiet, Says, IsPlain, IsCarriedOut, IsAnswered, IsPart, IsPrintedInPart, IsPartly, AsksForSource, TellsUnread, TellsUnwritten, TellsUnprinted, TellsOutOfMemory, status_of, line_of}
 
 -- answers from what is known are answers from what follows of it
-pub answer_also : (Has Had : Source → List ℕ → Type 0) (Exceeds Exceeded : Source → Type 0)
-    → ((s : Source) (bytes : List ℕ) → Has s bytes → Had s bytes) → ((s : Source) → Exceeds s → Exceeded s)
+pub answer_also : (Has Had : Origin → List ℕ → Type 0) (Exceeds Exceeded : Origin → Type 0)
+    → ((s : Origin) (bytes : List ℕ) → Has s bytes → Had s bytes) → ((s : Origin) → Exceeds s → Exceeded s)
     → (r : Request) (o : Outcome) → Answer Has Exceeds r o → Answer Had Exceeded r o
 answer_also Has Had Exceeds Exceeded m l r o (run_image_large image tape steps e) = run_image_large image tape steps (l _ e)
 answer_also Has Had Exceeds Exceeded m l r o (run_tape_large image tape steps bytes h e) = run_tape_large image tape steps bytes (m _ bytes h) (l _ e)
@@ -21,6 +21,11 @@ answer_also Has Had Exceeds Exceeded m l r o (bin_read image file bytes p h a) =
 answer_also Has Had Exceeds Exceeded m l r o (compile_firmware_large firmware board image e) = compile_firmware_large firmware board image (l _ e)
 answer_also Has Had Exceeds Exceeded m l r o (compile_board_large firmware board image bytes h e) = compile_board_large firmware board image bytes (m _ bytes h) (l _ e)
 answer_also Has Had Exceeds Exceeded m l r o (compile_read firmware board image bytes text p h k a) = compile_read firmware board image bytes text p (m _ bytes h) (m _ text k) a
+answer_also Has Had Exceeds Exceeded m l r o (check_large firmware e) = check_large firmware (l _ e)
+answer_also Has Had Exceeds Exceeded m l r o (check_read firmware bytes p h a) = check_read firmware bytes p (m _ bytes h) a
+answer_also Has Had Exceeds Exceeded m l r o (source_firmware_large firmware tape steps e) = source_firmware_large firmware tape steps (l _ e)
+answer_also Has Had Exceeds Exceeded m l r o (source_tape_large firmware tape steps bytes h e) = source_tape_large firmware tape steps bytes (m _ bytes h) (l _ e)
+answer_also Has Had Exceeds Exceeded m l r o (source_read firmware tape steps bytes text p h k a) = source_read firmware tape steps bytes text p (m _ bytes h) (m _ text k) a
 
 -- nothing is printed and written, and no fault rose
 nothing_more : (old new : World) (o : Outcome) → Quiet old new → new.read_faults ≡ old.read_faults → o.printed ≡ [] → o.written ≡ None → IsCarriedOut old new o
@@ -32,7 +37,7 @@ nothing_more old new o q r p w = record {
   faults = ap (λ (s : SinkState). s.faults) q.out;
 }
 
-pub usage_answered : (Has : Source → List ℕ → Type 0) (Exceeds : Source → Type 0) (words : List (List ℕ)) (w : World) (err_old err_new : SinkState)
+pub usage_answered : (Has : Origin → List ℕ → Type 0) (Exceeds : Origin → Type 0) (words : List (List ℕ)) (w : World) (err_old err_new : SinkState)
     → IsUsage words → Says err_old err_new usage_line → IsAnswered Has Exceeds words w w err_old err_new 2
 usage_answered Has Exceeds words w err_old err_new u s = record {
   outcome = usage;
@@ -42,7 +47,7 @@ usage_answered Has Exceeds words w err_old err_new u s = record {
   says = s;
 }
 
-module _ (Has : Source → List ℕ → Type 0) (Exceeds : Source → Type 0) (words : List (List ℕ)) (r : Request) (asks : Asks words r)
+module _ (Has : Origin → List ℕ → Type 0) (Exceeds : Origin → Type 0) (words : List (List ℕ)) (r : Request) (asks : Asks words r)
     (old new : World) (err_old err_new : SinkState) where
   pub answered : (e : Result Done Failure) (s : ℕ) → s ≡ status_of e → Does (Answer Has Exceeds r) r old new e → Says err_old err_new (line_of e)
       → IsPlain s → IsAnswered Has Exceeds words old new err_old err_new s
@@ -72,14 +77,33 @@ module _ (Has : Source → List ℕ → Type 0) (Exceeds : Source → Type 0) (w
   answered (Err Unprinted) s q d l p = absurd (p.no_write_fault q)
   answered (Err NoMemory) s q d l p = absurd (p.no_want_of_memory q)
 
+  part_of : IsPart (Answer Has Exceeds r) r old new → IsPartly Has Exceeds words old new
+  part_of p = record { outcome = p.outcome; answer = to_request r p.outcome asks p.answer; part = p.part }
+
   pub partly : (e : Result Done Failure) → status_of e ≡ 5 → Does (Answer Has Exceeds r) r old new e → IsPartly Has Exceeds words old new
   partly (Ok Well) q d = let f : ⊥ = omega (arith, q) in absurd f
   partly (Ok Badly) q d = let f : ⊥ = omega (arith, q) in absurd f
   partly (Err (Refused name f)) q d = let f : ⊥ = omega (arith, q) in absurd f
   partly (Err (Unread name)) q d = let f : ⊥ = omega (arith, q) in absurd f
-  partly (Err (Unwritten name)) q d = record { outcome = d.1.outcome; answer = to_request r d.1.outcome asks d.1.answer; part = d.1.part }
-  partly (Err Unprinted) q d = record { outcome = d.1.outcome; answer = to_request r d.1.outcome asks d.1.answer; part = d.1.part }
+  partly (Err (Unwritten name)) q d = part_of d.1
+  partly (Err Unprinted) q d = part_of d.1
   partly (Err NoMemory) q d = let f : ⊥ = omega (arith, q) in absurd f
+
+  in_part : (s : Request) → IsPrintedInPart (Answer Has Exceeds r) r old new s → (new.out ≡ old.out) ⊎ IsPartly Has Exceeds words old new
+  in_part (Run image tape steps) h = inl h
+  in_part (Bin image file) h = inl h
+  in_part (Compile firmware board image) h = inl h
+  in_part (Check firmware) h = inl h
+  in_part (Source firmware tape steps) h = elim h [ inl e ↦ inl e | inr p ↦ inr (part_of p) ]
+
+  pub printed_in_part : (e : Result Done Failure) → status_of e ≡ 6 → Does (Answer Has Exceeds r) r old new e → (new.out ≡ old.out) ⊎ IsPartly Has Exceeds words old new
+  printed_in_part (Ok Well) q d = let f : ⊥ = omega (arith, q) in absurd f
+  printed_in_part (Ok Badly) q d = let f : ⊥ = omega (arith, q) in absurd f
+  printed_in_part (Err (Refused name f)) q d = let f : ⊥ = omega (arith, q) in absurd f
+  printed_in_part (Err (Unread name)) q d = let f : ⊥ = omega (arith, q) in absurd f
+  printed_in_part (Err (Unwritten name)) q d = let f : ⊥ = omega (arith, q) in absurd f
+  printed_in_part (Err Unprinted) q d = let f : ⊥ = omega (arith, q) in absurd f
+  printed_in_part (Err NoMemory) q d = in_part r d.1
 
 module _ (A : Outcome → Type 0) (words : List (List ℕ)) (r : Request) (asks : Asks words r)
     (old new : World) (err_old err_new : SinkState) where
@@ -102,14 +126,21 @@ module _ (A : Outcome → Type 0) (words : List (List ℕ)) (r : Request) (asks 
   unwritten (Err Unprinted) q d l = inr (record { unprinted = d.0; says = l })
   unwritten (Err NoMemory) q d l = let f : ⊥ = omega (arith, q) in absurd f
 
-  pub out_of_memory : (e : Result Done Failure) → status_of e ≡ 6 → Does A r old new e → Says err_old err_new (line_of e) → TellsOutOfMemory old new err_old err_new
+  quiet_unless : (s : Request) → Asks words s → IsPrintedInPart A r old new s → (new.out ≡ old.out) ⊎ AsksForSource words
+  quiet_unless (Run image tape steps) a h = inl h
+  quiet_unless (Bin image file) a h = inl h
+  quiet_unless (Compile firmware board image) a h = inl h
+  quiet_unless (Check firmware) a h = inl h
+  quiet_unless (Source firmware tape steps) a h = inr (record { firmware = firmware; tape = tape; steps = steps; asks = a })
+
+  pub out_of_memory : (e : Result Done Failure) → status_of e ≡ 6 → Does A r old new e → Says err_old err_new (line_of e) → TellsOutOfMemory words old new err_old err_new
   out_of_memory (Ok Well) q d l = let f : ⊥ = omega (arith, q) in absurd f
   out_of_memory (Ok Badly) q d l = let f : ⊥ = omega (arith, q) in absurd f
   out_of_memory (Err (Refused name f)) q d l = let f : ⊥ = omega (arith, q) in absurd f
   out_of_memory (Err (Unread name)) q d l = let f : ⊥ = omega (arith, q) in absurd f
   out_of_memory (Err (Unwritten name)) q d l = let f : ⊥ = omega (arith, q) in absurd f
   out_of_memory (Err Unprinted) q d l = let f : ⊥ = omega (arith, q) in absurd f
-  out_of_memory (Err NoMemory) q d l = record { out_of_memory = d; says = l }
+  out_of_memory (Err NoMemory) q d l = record { out_of_memory = d.0; quiet = quiet_unless r asks d.1; says = l }
 
   pub reads_stay : (e : Result Done Failure) → Does A r old new e → (status_of e ≡ 4) ⊎ (new.read_faults ≡ old.read_faults)
   reads_stay (Ok Well) d = inr d.all.read_faults
@@ -118,7 +149,7 @@ module _ (A : Outcome → Type 0) (words : List (List ℕ)) (r : Request) (asks 
   reads_stay (Err (Unread name)) d = inl refl
   reads_stay (Err (Unwritten name)) d = inr d.0.read_faults
   reads_stay (Err Unprinted) d = inr d.0.read_faults
-  reads_stay (Err NoMemory) d = inr d.read_faults
+  reads_stay (Err NoMemory) d = inr d.0.read_faults
 
   writes_of : Quiet old new → (new.write_faults ≡ old.write_faults) × (new.out.faults ≡ old.out.faults)
   writes_of q = (q.write_faults, ap (λ (s : SinkState). s.faults) q.out)
@@ -130,4 +161,4 @@ module _ (A : Outcome → Type 0) (words : List (List ℕ)) (r : Request) (asks 
   writes_stay (Err (Unread name)) d = inr (writes_of d.quiet)
   writes_stay (Err (Unwritten name)) d = inl refl
   writes_stay (Err Unprinted) d = inl refl
-  writes_stay (Err NoMemory) d = inr (writes_of d.quiet)
+  writes_stay (Err NoMemory) d = inr (d.0.write_faults, d.0.faults)

@@ -5,7 +5,8 @@ use Rattle.straight_text.specs.StraightTexts.{IsStraightText, IsNoStraightText}
 use Rattle.mem_bus.specs.declared.image.Image.{Image}
 use Rattle.image.specs.Text.{IsText}
 use Rattle.simulate.specs.Refines.{Refines}
-use Rattle.straight.specs.Image.{image_of, window_of}
+use Rattle.straight.specs.Image.{image_of}
+use Rattle.ir_resolve.specs.Windows.{window_of}
 use Rattle.aces_cli.specs.declared.failure.Fault.TheVariants.{NotInForm}
 use Rattle.aces_cli.specs.declared.failure.Failure.{Failure}
 use Rattle.aces_cli.specs.declared.failure.Failure.TheVariants.{Refused, Unread, Unwritten, Unprinted, NoMemory}

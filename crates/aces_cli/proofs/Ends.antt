@@ -1,15 +1,15 @@
 -- How commands end, by what their steps answered.
-use Rattle.std.proofs.Common.{◌≡◌, ◌≢◌, ℕ, inl, inr, List, [], Ok, Err, Result, OnErr, IsErrAnd, IsTrue, IsNone, refl, sym, subst}
+use Rattle.std.proofs.Common.{◌≡◌, ◌≢◌, ℕ, inl, inr, List, [], Ok, Err, Result, OnErr, IsErrAnd, IsTrue, IsNone, refl, ap, sym, subst}
 use Rattle.aces_cli.specs.declared.failure.Done.{Done}
 use Rattle.aces_cli.specs.declared.failure.Done.TheVariants.{Well, Badly}
 use Rattle.aces_cli.specs.declared.failure.Fault.{Fault}
 use Rattle.aces_cli.specs.declared.failure.Fault.TheVariants.{TooLarge, NotInForm}
 use Rattle.aces_cli.specs.declared.failure.Failure.{Failure}
 use Rattle.aces_cli.specs.declared.failure.Failure.TheVariants.{Refused, Unread, Unwritten, Unprinted, NoMemory}
-use Rattle.aces_cli.specs.Requests.{Request, Source, sources}
+use Rattle.aces_cli.specs.Requests.{Request, Run, Bin, Compile, Check, Source, Origin, origins}
 use Rattle.aces_cli.specs.Known.{Held, IsMissing, IsNamed}
 use Rattle.aces_cli.specs.Answer.{Outcome, refused}
-use Rattle.aces_cli.specs.Did.{SinkState, World, Does, Quiet, IsCarriedOut, status_of}
+use Rattle.aces_cli.specs.Did.{SinkState, World, Does, Quiet, IsCarriedOut, IsPart, IsPrintedInPart, status_of}
 use Rattle.aces_cli.specs.Loads.{IsLoadFailure, IsContentFailure}
 use Rattle.ir_model.specs.Plain.{PlainFirmware}
 use Rattle.straight_text.specs.StraightTexts.{IsStraightText, IsNoStraightText}
@@ -26,10 +26,25 @@ pub err_of : {T E : Type 0} (r : Result T E) (P : E → Type 0) → IsErrAnd r P
 err_of (Ok x) P h = absurd h
 err_of (Err e) P h = (e, refl, h)
 
+-- where nothing was printed, no more than a part was
+nothing_printed : (A : Outcome → Type 0) (r : Request) (old new : World) → new.out ≡ old.out → IsPrintedInPart A r old new r
+nothing_printed A (Run image tape steps) old new h = h
+nothing_printed A (Bin image file) old new h = h
+nothing_printed A (Compile firmware board image) old new h = h
+nothing_printed A (Check firmware) old new h = h
+nothing_printed A (Source firmware tape steps) old new h = inl h
+
+-- memory ran out before anything was printed or written
+pub no_memory : (A : Outcome → Type 0) (r : Request) (old new : World) → Quiet old new → new.read_faults ≡ old.read_faults → Does A r old new (Err NoMemory)
+no_memory A r old new quiet reads = (
+  record { held = quiet.held; read_faults = reads; write_faults = quiet.write_faults; faults = ap (λ (s : SinkState). s.faults) quiet.out },
+  nothing_printed A r old new quiet.out,
+)
+
 -- a source that was not read
-pub load_failed : (A : Outcome → Type 0) (Exceeds : Source → Type 0) (r : Request) (s : Source) (old new : World) → Quiet old new
-    → IsNamed (sources r) s.name
-    → (IsTrue old.told → IsNone (old.held s.name) → IsMissing old.held (sources r) s.name)
+pub load_failed : (A : Outcome → Type 0) (Exceeds : Origin → Type 0) (r : Request) (s : Origin) (old new : World) → Quiet old new
+    → IsNamed (origins r) s.name
+    → (IsTrue old.told → IsNone (old.held s.name) → IsMissing old.held (origins r) s.name)
     → (Exceeds s → A (refused s.name (TooLarge s.limit)))
     → (e : Failure) → IsLoadFailure Exceeds old.told old.held s old.read_faults new.read_faults e → Does A r old new (Err e)
 load_failed A Exceeds r s old new quiet named missing large (Refused name f) h = record {
@@ -38,13 +53,13 @@ load_failed A Exceeds r s old new quiet named missing large (Refused name f) h =
   read_faults = h.3;
 }
 load_failed A Exceeds r s old new quiet named missing large (Unread name) h = record {
-  named = subst (IsNamed (sources r)) (sym h.0) named;
-  cause = elim h.1 [ inl rose ↦ inl rose | inr gone ↦ inr (gone.0, subst (IsMissing old.held (sources r)) (sym h.0) (missing gone.0 gone.1)) ];
+  named = subst (IsNamed (origins r)) (sym h.0) named;
+  cause = elim h.1 [ inl rose ↦ inl rose | inr gone ↦ inr (gone.0, subst (IsMissing old.held (origins r)) (sym h.0) (missing gone.0 gone.1)) ];
   quiet = quiet;
 }
 load_failed A Exceeds r s old new quiet named missing large (Unwritten name) h = absurd h
 load_failed A Exceeds r s old new quiet named missing large Unprinted h = absurd h
-load_failed A Exceeds r s old new quiet named missing large NoMemory h = record { quiet = quiet; read_faults = h }
+load_failed A Exceeds r s old new quiet named missing large NoMemory h = no_memory A r old new quiet h
 
 -- a content that was refused
 pub content_failed : (A : Outcome → Type 0) (IsFault : Fault → Type 0) (r : Request) (name : List ℕ) (old new : World) → Quiet old new
@@ -58,7 +73,7 @@ content_failed A IsFault r name old new quiet reads answer (Refused n f) h = rec
 content_failed A IsFault r name old new quiet reads answer (Unread n) h = absurd h
 content_failed A IsFault r name old new quiet reads answer (Unwritten n) h = absurd h
 content_failed A IsFault r name old new quiet reads answer Unprinted h = absurd h
-content_failed A IsFault r name old new quiet reads answer NoMemory h = record { quiet = quiet; read_faults = reads }
+content_failed A IsFault r name old new quiet reads answer NoMemory h = no_memory A r old new quiet reads
 
 -- a firmware or a board that was refused
 pub compile_failed : (A : Outcome → Type 0) (firmware board bytes text : List ℕ) (r : Request) (old new : World) → Quiet old new → new.read_faults ≡ old.read_faults
@@ -76,13 +91,24 @@ compile_failed A firmware board bytes text r old new quiet reads one two (Refuse
 compile_failed A firmware board bytes text r old new quiet reads one two (Unread n) h = absurd h
 compile_failed A firmware board bytes text r old new quiet reads one two (Unwritten n) h = absurd h
 compile_failed A firmware board bytes text r old new quiet reads one two Unprinted h = absurd h
-compile_failed A firmware board bytes text r old new quiet reads one two NoMemory h = record { quiet = quiet; read_faults = reads }
+compile_failed A firmware board bytes text r old new quiet reads one two NoMemory h = no_memory A r old new quiet reads
 
 -- a command that ended with an outcome of this status
 pub did_end : (A : Outcome → Type 0) (r : Request) (old new : World) (o : Outcome) (d : Done) → A o → o.status ≡ status_of (Ok d) → o.line ≡ []
     → IsCarriedOut old new o → Does A r old new (Ok d)
 did_end A r old new o Well a s l p = record { outcome = o; answer = a; ended = s; silent = l; all = p }
 did_end A r old new o Badly a s l p = record { outcome = o; answer = a; ended = s; silent = l; all = p }
+
+-- a part for some answers is one for others
+part_also : (A B : Outcome → Type 0) → ((o : Outcome) → A o → B o) → (r : Request) (old new : World) → IsPart A r old new → IsPart B r old new
+part_also A B m r old new p = record { outcome = p.outcome; answer = m p.outcome p.answer; part = p.part }
+
+printed_also : (A B : Outcome → Type 0) → ((o : Outcome) → A o → B o) → (r : Request) (old new : World) → IsPrintedInPart A r old new r → IsPrintedInPart B r old new r
+printed_also A B m (Run image tape steps) old new h = h
+printed_also A B m (Bin image file) old new h = h
+printed_also A B m (Compile firmware board image) old new h = h
+printed_also A B m (Check firmware) old new h = h
+printed_also A B m (Source firmware tape steps) old new h = elim h [ inl e ↦ inl e | inr p ↦ inr (part_also A B m (Source firmware tape steps) old new p) ]
 
 -- what did for some answers did for others
 pub did_also : (A B : Outcome → Type 0) → ((o : Outcome) → A o → B o) → (r : Request) (old new : World) (e : Result Done Failure)
@@ -91,9 +117,9 @@ did_also A B m r old new (Ok Well) d = record { outcome = d.outcome; answer = m 
 did_also A B m r old new (Ok Badly) d = record { outcome = d.outcome; answer = m d.outcome d.answer; ended = d.ended; silent = d.silent; all = d.all }
 did_also A B m r old new (Err (Refused name f)) d = record { answer = m (refused name.now f) d.answer; quiet = d.quiet; read_faults = d.read_faults }
 did_also A B m r old new (Err (Unread name)) d = d
-did_also A B m r old new (Err (Unwritten name)) d = (d.0, record { outcome = d.1.outcome; answer = m d.1.outcome d.1.answer; part = d.1.part })
-did_also A B m r old new (Err Unprinted) d = (d.0, record { outcome = d.1.outcome; answer = m d.1.outcome d.1.answer; part = d.1.part })
-did_also A B m r old new (Err NoMemory) d = d
+did_also A B m r old new (Err (Unwritten name)) d = (d.0, part_also A B m r old new d.1)
+did_also A B m r old new (Err Unprinted) d = (d.0, part_also A B m r old new d.1)
+did_also A B m r old new (Err NoMemory) d = (d.0, printed_also A B m r old new d.1)
 
 -- the same of files in which nothing has changed
 pub did_then : (A : Outcome → Type 0) (r : Request) (old : World) (held : Held) (reads writes : ℕ) (out : SinkState) (e : Result Done Failure)

@@ -8,3 +8,5 @@ pub mod Starting
 pub mod Ends
 pub mod Answered
 pub mod Compiling
+pub mod Firmwares
+pub mod Sourcing

@@ -3,10 +3,16 @@ use Rattle.std.specs.Prelude.{codes}
 use Rattle.std.specs.Str.{bytes_eq}
 use Rattle.std.specs.Fmt.{decimal}
 use Rattle.std.proofs.lemmas.Slice.Eq.{bytes_eq-Decides}
-use Rattle.std.proofs.Common.{◌≡◌, ℕ, ◌<◌, ◌≤◌, ◌^◌, List, [], ◌∷◌, length, get_or, map, true, ap, sym, ◌∙◌, arith}
-use Rattle.aces_cli.specs.Requests.{Request, Run, Bin, Compile, Asks, IsUsage}
+use Rattle.std.proofs.Common.{◌≡◌, ℕ, ◌<◌, ◌≤◌, ◌^◌, List, [], ◌∷◌, length, get_or, map, true, Option, Some, None, IfNone, ap, sym, ◌∙◌, arith}
+use Rattle.aces_cli.specs.Requests.{Run, Bin, Compile, Check, Source, Asks, IsUsage}
 
 module _ {S : Type 0} (f : S → List ℕ) where
+  two : (xs : List S) (a b : S) → 2 ≤ length xs → length xs < 3 → a ≡ get_or xs 0 a → b ≡ get_or xs 1 b → f a ∷ f b ∷ [] ≡ map f xs
+  two [] a b h k p q = let e : ⊥ = omega (arith, h) in absurd e
+  two (x ∷ []) a b h k p q = let e : ⊥ = omega (arith, h) in absurd e
+  two (x ∷ y ∷ []) a b h k p q = ap (λ v. f v ∷ f b ∷ []) p ∙ ap (λ v. f x ∷ f v ∷ []) q
+  two (x ∷ y ∷ z ∷ xs) a b h k p q = let e : ⊥ = omega (arith, k) in absurd e
+
   three : (xs : List S) (a b c : S) → 3 ≤ length xs → length xs < 4 → a ≡ get_or xs 0 a → b ≡ get_or xs 1 b → c ≡ get_or xs 2 c
       → f a ∷ f b ∷ f c ∷ [] ≡ map f xs
   three [] a b c h k p q r = let e : ⊥ = omega (arith, h) in absurd e
@@ -36,6 +42,16 @@ module _ {S : Type 0} (f : S → List ℕ) where
       ap (λ v. f v ∷ f b ∷ f c ∷ f d ∷ f e ∷ []) p ∙ ap (λ v. f x ∷ f v ∷ f c ∷ f d ∷ f e ∷ []) q ∙ ap (λ v. f x ∷ f y ∷ f v ∷ f d ∷ f e ∷ []) r ∙ ap (λ v. f x ∷ f y ∷ f z ∷ f v ∷ f e ∷ []) s
       ∙ ap (λ v. f x ∷ f y ∷ f z ∷ f u ∷ f v ∷ []) t
   five (x ∷ y ∷ z ∷ u ∷ w ∷ v ∷ xs) a b c d e h k p q r s t = let e : ⊥ = omega (arith, k) in absurd e
+
+  -- the last of five words is the text of the last of five items
+  fifth : (xs : List S) (e : S) → 5 ≤ length xs → length xs < 6 → e ≡ get_or xs 4 e → (n1 n2 n3 n4 n5 : List ℕ) → n1 ∷ n2 ∷ n3 ∷ n4 ∷ n5 ∷ [] ≡ map f xs → n5 ≡ f e
+  fifth [] e h k t n1 n2 n3 n4 n5 s = let e : ⊥ = omega (arith, h) in absurd e
+  fifth (x ∷ []) e h k t n1 n2 n3 n4 n5 s = let e : ⊥ = omega (arith, h) in absurd e
+  fifth (x ∷ y ∷ []) e h k t n1 n2 n3 n4 n5 s = let e : ⊥ = omega (arith, h) in absurd e
+  fifth (x ∷ y ∷ z ∷ []) e h k t n1 n2 n3 n4 n5 s = let e : ⊥ = omega (arith, h) in absurd e
+  fifth (x ∷ y ∷ z ∷ u ∷ []) e h k t n1 n2 n3 n4 n5 s = let e : ⊥ = omega (arith, h) in absurd e
+  fifth (x ∷ y ∷ z ∷ u ∷ w ∷ []) e h k t n1 n2 n3 n4 n5 s = let q : n5 ≡ f w = cc in q ∙ ap f (sym t)
+  fifth (x ∷ y ∷ z ∷ u ∷ w ∷ v ∷ xs) e h k t n1 n2 n3 n4 n5 s = let e : ⊥ = omega (arith, k) in absurd e
 
   -- an item's text, where that is the word
   same_word : (a : S) (name word : List ℕ) → name ≡ f a → bytes_eq name word ≡ true → word ≡ f a
@@ -72,9 +88,42 @@ module _ {S : Type 0} (f : S → List ℕ) where
         ∙ ap (λ v. f a ∷ f b ∷ f c ∷ f d ∷ v ∷ []) l ∙ five xs a b c d e h k p q r s t;
   }
 
+  pub check_words : (xs : List S) (a b : S) (name firmware : List ℕ) → 2 ≤ length xs → length xs < 3
+      → a ≡ get_or xs 0 a → b ≡ get_or xs 1 b
+      → name ≡ f a → bytes_eq name (codes "check") ≡ true → firmware ≡ f b → Asks (map f xs) (Check firmware)
+  check_words xs a b name firmware h k p q e t i = record {
+    within = tt;
+    spelled = ap (λ v. v ∷ firmware ∷ []) (same_word a name (codes "check") e t) ∙ ap (λ v. f a ∷ v ∷ []) i ∙ two xs a b h k p q;
+  }
+
+  pub source_words : (xs : List S) (a b c d e : S) (name firmware policy tape word : List ℕ) (steps : ℕ) → 5 ≤ length xs → length xs < 6
+      → a ≡ get_or xs 0 a → b ≡ get_or xs 1 b → c ≡ get_or xs 2 c → d ≡ get_or xs 3 d → e ≡ get_or xs 4 e
+      → name ≡ f a → bytes_eq name (codes "source") ≡ true → firmware ≡ f b → policy ≡ f c → bytes_eq policy (codes "filename") ≡ true → tape ≡ f d → word ≡ f e
+      → decimal steps ≡ word → steps < 2 ^ 32 → Asks (map f xs) (Source firmware tape steps)
+  source_words xs a b c d e name firmware policy tape word steps h k p q r s t n1 n2 i m1 m2 j l n w = record {
+    within = w;
+    spelled = ap (λ v. v ∷ firmware ∷ codes "filename" ∷ tape ∷ decimal steps ∷ []) (same_word a name (codes "source") n1 n2) ∙ ap (λ v. f a ∷ v ∷ codes "filename" ∷ tape ∷ decimal steps ∷ []) i
+        ∙ ap (λ v. f a ∷ f b ∷ v ∷ tape ∷ decimal steps ∷ []) (same_word c policy (codes "filename") m1 m2) ∙ ap (λ v. f a ∷ f b ∷ f c ∷ v ∷ decimal steps ∷ []) j
+        ∙ ap (λ v. f a ∷ f b ∷ f c ∷ f d ∷ v ∷ []) (n ∙ l) ∙ five xs a b c d e h k p q r s t;
+  }
+
+  -- five words of which the last is no number
+  pub no_steps : (xs : List S) (e : S) (word : List ℕ) → 5 ≤ length xs → length xs < 6 → e ≡ get_or xs 4 e → word ≡ f e
+      → ((n : ℕ) → n < 2 ^ 32 → decimal n ≡ word → ⊥) → (firmware tape : List ℕ) (steps : ℕ) → Asks (map f xs) (Source firmware tape steps) → ⊥
+  no_steps xs e word h k t m none firmware tape steps asks =
+      none steps asks.within (fifth xs e h k t (codes "source") firmware (codes "filename") tape (decimal steps) asks.spelled ∙ sym m)
+
+-- what holds of a missing value, and what follows of it
+pub none_also : {X : Type 0} (o : Option X) (P Q : Type 0) → (P → Q) → IfNone o P → IfNone o Q
+none_also None P Q m h = m h
+none_also (Some x) P Q m h = tt
+
 -- words that are those of no command are those of no request
 pub no_request : (words : List (List ℕ)) → ((image tape : List ℕ) (steps : ℕ) → Asks words (Run image tape steps) → ⊥) → ((image file : List ℕ) → Asks words (Bin image file) → ⊥) →
-    ((firmware board image : List ℕ) → Asks words (Compile firmware board image) → ⊥) → IsUsage words
-no_request words x y z (Run image tape steps) asks = x image tape steps asks
-no_request words x y z (Bin image file) asks = y image file asks
-no_request words x y z (Compile firmware board image) asks = z firmware board image asks
+    ((firmware board image : List ℕ) → Asks words (Compile firmware board image) → ⊥) → ((firmware : List ℕ) → Asks words (Check firmware) → ⊥) →
+    ((firmware tape : List ℕ) (steps : ℕ) → Asks words (Source firmware tape steps) → ⊥) → IsUsage words
+no_request words x y z u v (Run image tape steps) asks = x image tape steps asks
+no_request words x y z u v (Bin image file) asks = y image file asks
+no_request words x y z u v (Compile firmware board image) asks = z firmware board image asks
+no_request words x y z u v (Check firmware) asks = u firmware asks
+no_request words x y z u v (Source firmware tape steps) asks = v firmware tape steps asks

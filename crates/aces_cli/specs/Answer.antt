@@ -12,13 +12,23 @@ use Rattle.image.specs.Faults as images
 use Rattle.image.specs.Text.{IsText}
 use Rattle.armv7m.specs.Run.{start}
 use Rattle.aces_cli.specs.declared.failure.Fault.{Fault}
-use Rattle.aces_cli.specs.declared.failure.Fault.TheVariants.{TooLarge, Short, Magic, Version, Field, Trailing, BadLine, UnknownPeripheral, NotInForm}
-use Rattle.aces_cli.specs.Requests.{Request, Run, Bin, Compile, Asks, IsUsage, Source, source, firmware_source, file_limit, firmware_limit}
+use Rattle.aces_cli.specs.declared.failure.Fault.TheVariants.{TooLarge, Short, Magic, Version, Field, Trailing, BadLine, UnknownPeripheral, NotInForm, NotUtf8, Syntax, NumberTooWide, Limit, IllTyped}
+use Rattle.aces_cli.specs.Requests.{Request, Run, Bin, Compile, Check, Source, Asks, IsUsage, Origin, file_origin, firmware_origin, file_limit, firmware_limit}
 use Rattle.aces_cli.specs.FaultLines.{fault_line, usage_line}
+use Rattle.ir_model.specs.declared.check.CheckKind.{CheckKind}
+use Rattle.ir_model.specs.declared.check.Place.{Place}
 use Rattle.ir_model.specs.Plain.{PlainFirmware}
+use Rattle.ir_model.specs.Texts as firmwares
+use Rattle.ir_model.specs.Typing.{IsTyped, fault_of}
+use Rattle.ir_reader.specs.declared.fault.TextFault.{TextFault}
+use Rattle.ir_reader.specs.declared.fault.TextFault.TheVariants as text_faults
+use Rattle.ir_reader.specs.First.{IsFirst}
+use Rattle.ir_resolve.specs.Windows.{windows_of}
 use Rattle.straight_text.specs.StraightTexts.{IsStraightText, IsNoStraightText}
 use Rattle.aces_cli.specs.Compiled.{board_text, IsCompiled}
 use Rattle.aces_cli.specs.Runs.{fill, end_of, run_lines, end_status}
+use Rattle.aces_cli.specs.Counts.{count_line}
+use Rattle.source_output.specs.SourceRuns.{source_lines, source_status}
 
 -- the bytes that a name is made to hold
 pub record Written : Type 0 where
@@ -55,6 +65,13 @@ of_tape tape_faults.NoMemory = None
 of_tape (tape_faults.BadLine line) = Some (BadLine line)
 of_tape (tape_faults.UnknownPeripheral line) = Some (UnknownPeripheral line)
 
+abbrev pub of_text : TextFault → Option Fault
+of_text text_faults.NoMemory = None
+of_text (text_faults.Utf8 at) = Some (NotUtf8 at)
+of_text (text_faults.Syntax pos) = Some (Syntax pos)
+of_text (text_faults.NumberTooWide pos) = Some (NumberTooWide pos)
+of_text (text_faults.Limit which pos) = Some (Limit which pos)
+
 -- bytes are the text of no image, and this is their first fault; and so of a tape for windows
 pub record IsNoImage (bytes : List ℕ) (f : Fault) : Type 0 where
   pub first : ImageFault
@@ -65,6 +82,28 @@ pub record IsNoTape (windows : List Window) (text : List ℕ) (f : Fault) : Type
   pub first : TapeFault
   pub found : tapes.first_fault text windows ≡ Some first
   pub named : of_tape first ≡ Some f
+
+-- bytes are the text of no firmware, and this is their first fault
+pub record IsNoText (bytes : List ℕ) (f : Fault) : Type 0 where
+  pub first : TextFault
+  pub found : IsFirst bytes first
+  pub named : of_text first ≡ Some f
+
+-- bytes are the text of a firmware that isn't typed, and this is the first check that fails
+pub record IsIllTyped (bytes : List ℕ) (kind : CheckKind) (place : Place) : Type 0 where
+  pub firmware : PlainFirmware
+  pub is_text : firmwares.IsText firmware bytes
+  pub found : fault_of firmware ≡ Some (record { kind = kind; place = place })
+
+-- bytes are the text of no typed firmware, by this fault
+pub data IsNoFirmware (bytes : List ℕ) : Fault → Type 0 where
+  no_text : (f : Fault) → IsNoText bytes f → IsNoFirmware bytes f
+  ill_typed : (kind : CheckKind) (place : Place) → IsIllTyped bytes kind place → IsNoFirmware bytes (IllTyped kind place)
+
+-- bytes are the text of a typed firmware
+pub record IsFirmware (w : PlainFirmware) (bytes : List ℕ) : Type 0 where
+  pub is_text : firmwares.IsText w bytes
+  pub typed : IsTyped w
 
 -- a run on a tape of this text: the lines of its events and of its end, and nothing is written
 abbrev pub run_outcome : Image → (text : List ℕ) → (steps : ℕ) → Outcome
@@ -90,27 +129,55 @@ pub data CompileAnswer (firmware board image : List ℕ) (bytes text : List ℕ)
   compiled : (out : List ℕ) → IsCompiled bytes text out →
       CompileAnswer firmware board image bytes text (done 0 [] (Some (record { name = image; bytes = out })))
 
+-- the answer to `check` on the bytes of the firmware
+pub data CheckAnswer (firmware : List ℕ) (bytes : List ℕ) : Outcome → Type 0 where
+  no_firmware : (f : Fault) → IsNoFirmware bytes f → CheckAnswer firmware bytes (refused firmware f)
+  checked : (w : PlainFirmware) → IsFirmware w bytes → CheckAnswer firmware bytes (done 0 (count_line w) None)
+
+-- a run of the source on a tape of this text
+abbrev pub source_outcome : PlainFirmware → (text : List ℕ) → (steps : ℕ) → Outcome
+source_outcome w text steps =
+    let queues = tapes.queues_of text (windows_of w) in
+    done (source_status w queues steps) (source_lines w queues steps) None
+
+-- the answer to `source` on the bytes of both files, the firmware being read and checked first
+pub data SourceAnswer (firmware tape : List ℕ) (steps : ℕ) (bytes text : List ℕ) : Outcome → Type 0 where
+  no_firmware : (f : Fault) → IsNoFirmware bytes f → SourceAnswer firmware tape steps bytes text (refused firmware f)
+  no_tape : (w : PlainFirmware) (f : Fault) → IsFirmware w bytes → IsNoTape (windows_of w) text f → SourceAnswer firmware tape steps bytes text (refused tape f)
+  ran : (w : PlainFirmware) → IsFirmware w bytes → tapes.first_fault text (windows_of w) ≡ None →
+      SourceAnswer firmware tape steps bytes text (source_outcome w text steps)
+
 -- `Has` says which bytes a source within its limit holds, and `Exceeds` that one is larger than its limit
-module _ (Has : Source → List ℕ → Type 0) (Exceeds : Source → Type 0) where
+module _ (Has : Origin → List ℕ → Type 0) (Exceeds : Origin → Type 0) where
   -- the answer to a request: by the first source that is larger than its limit, each one before it being there, and else
   -- by the contents of all of them
   pub data Answer : Request → Outcome → Type 0 where
-    run_image_large : (image tape : List ℕ) (steps : ℕ) → Exceeds (source image) →
+    run_image_large : (image tape : List ℕ) (steps : ℕ) → Exceeds (file_origin image) →
         Answer (Run image tape steps) (refused image (TooLarge file_limit))
-    run_tape_large : (image tape : List ℕ) (steps : ℕ) (bytes : List ℕ) → Has (source image) bytes → Exceeds (source tape) →
+    run_tape_large : (image tape : List ℕ) (steps : ℕ) (bytes : List ℕ) → Has (file_origin image) bytes → Exceeds (file_origin tape) →
         Answer (Run image tape steps) (refused tape (TooLarge file_limit))
-    run_read : (image tape : List ℕ) (steps : ℕ) (bytes text : List ℕ) (o : Outcome) → Has (source image) bytes → Has (source tape) text →
+    run_read : (image tape : List ℕ) (steps : ℕ) (bytes text : List ℕ) (o : Outcome) → Has (file_origin image) bytes → Has (file_origin tape) text →
         RunAnswer image tape steps bytes text o → Answer (Run image tape steps) o
-    bin_image_large : (image file : List ℕ) → Exceeds (source image) →
+    bin_image_large : (image file : List ℕ) → Exceeds (file_origin image) →
         Answer (Bin image file) (refused image (TooLarge file_limit))
-    bin_read : (image file : List ℕ) (bytes : List ℕ) (o : Outcome) → Has (source image) bytes →
+    bin_read : (image file : List ℕ) (bytes : List ℕ) (o : Outcome) → Has (file_origin image) bytes →
         BinAnswer image file bytes o → Answer (Bin image file) o
-    compile_firmware_large : (firmware board image : List ℕ) → Exceeds (firmware_source firmware) →
+    compile_firmware_large : (firmware board image : List ℕ) → Exceeds (firmware_origin firmware) →
         Answer (Compile firmware board image) (refused firmware (TooLarge firmware_limit))
-    compile_board_large : (firmware board image : List ℕ) (bytes : List ℕ) → Has (firmware_source firmware) bytes → Exceeds (source board) →
+    compile_board_large : (firmware board image : List ℕ) (bytes : List ℕ) → Has (firmware_origin firmware) bytes → Exceeds (file_origin board) →
         Answer (Compile firmware board image) (refused board (TooLarge file_limit))
-    compile_read : (firmware board image : List ℕ) (bytes text : List ℕ) (o : Outcome) → Has (firmware_source firmware) bytes → Has (source board) text →
+    compile_read : (firmware board image : List ℕ) (bytes text : List ℕ) (o : Outcome) → Has (firmware_origin firmware) bytes → Has (file_origin board) text →
         CompileAnswer firmware board image bytes text o → Answer (Compile firmware board image) o
+    check_large : (firmware : List ℕ) → Exceeds (firmware_origin firmware) →
+        Answer (Check firmware) (refused firmware (TooLarge firmware_limit))
+    check_read : (firmware : List ℕ) (bytes : List ℕ) (o : Outcome) → Has (firmware_origin firmware) bytes →
+        CheckAnswer firmware bytes o → Answer (Check firmware) o
+    source_firmware_large : (firmware tape : List ℕ) (steps : ℕ) → Exceeds (firmware_origin firmware) →
+        Answer (Source firmware tape steps) (refused firmware (TooLarge firmware_limit))
+    source_tape_large : (firmware tape : List ℕ) (steps : ℕ) (bytes : List ℕ) → Has (firmware_origin firmware) bytes → Exceeds (file_origin tape) →
+        Answer (Source firmware tape steps) (refused tape (TooLarge file_limit))
+    source_read : (firmware tape : List ℕ) (steps : ℕ) (bytes text : List ℕ) (o : Outcome) → Has (firmware_origin firmware) bytes → Has (file_origin tape) text →
+        SourceAnswer firmware tape steps bytes text o → Answer (Source firmware tape steps) o
 
   -- the answer to any words
   pub data Answers (words : List (List ℕ)) : Outcome → Type 0 where

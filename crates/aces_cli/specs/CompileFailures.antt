@@ -2,7 +2,6 @@
 use Rattle.std.specs.Prelude.{◌≡◌, ◌≢◌, ℕ, ◌⊎◌, List}
 use Rattle.ir_model.specs.Plain.{PlainFirmware}
 use Rattle.straight_text.specs.StraightTexts.{IsStraightText, IsNoStraightText}
-use Rattle.aces_cli.specs.declared.failure.Fault.{Fault}
 use Rattle.aces_cli.specs.declared.failure.Fault.TheVariants.{NotInForm}
 use Rattle.aces_cli.specs.declared.failure.Failure.{Failure}
 use Rattle.aces_cli.specs.declared.failure.Failure.TheVariants.{Refused, Unread, Unwritten, Unprinted, NoMemory}

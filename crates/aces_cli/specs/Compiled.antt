@@ -4,7 +4,7 @@ use Rattle.mem_bus.specs.declared.image.Image.{Image}
 use Rattle.image.specs.Text.{IsText}
 use Rattle.ir_model.specs.Plain.{PlainFirmware}
 use Rattle.simulate.specs.Refines.{Refines}
-use Rattle.straight.specs.Image.{window_of}
+use Rattle.ir_resolve.specs.Windows.{window_of}
 use Rattle.straight_text.specs.StraightTexts.{IsStraightText}
 
 -- the one board that is compiled for so far, line by line

@@ -9,7 +9,7 @@ use Rattle.aces_cli.specs.declared.failure.Done.TheVariants.{Well, Badly}
 use Rattle.aces_cli.specs.declared.failure.Fault.{Fault}
 use Rattle.aces_cli.specs.declared.failure.Failure.{Failure}
 use Rattle.aces_cli.specs.declared.failure.Failure.TheVariants.{Refused, Unread, Unwritten, Unprinted, NoMemory}
-use Rattle.aces_cli.specs.Requests.{Request, Asks, Source, sources, target}
+use Rattle.aces_cli.specs.Requests.{Request, Source, Asks, Origin, origins, target}
 use Rattle.aces_cli.specs.Known.{Held, IsMissing, IsNamed}
 use Rattle.aces_cli.specs.FaultLines.{fault_line, unread_line, unwritten_line, unprinted_line, memory_line}
 use Rattle.aces_cli.specs.Answer.{Outcome, Written, Answers, refused}
@@ -61,8 +61,8 @@ pub record Quiet (old new : World) : Type 0 where
 
 -- a file was not read: a read fault rose, or contents are told and it is the first that isn't there
 pub record IsUnread (request : Request) (old new : World) (name : List ℕ) : Type 0 where
-  pub named : IsNamed (sources request) name
-  pub cause : Rose old.read_faults new.read_faults ⊎ (IsTrue old.told × IsMissing old.held (sources request) name)
+  pub named : IsNamed (origins request) name
+  pub cause : Rose old.read_faults new.read_faults ⊎ (IsTrue old.told × IsMissing old.held (origins request) name)
   pub quiet : Quiet old new
 
 -- a file was not written: a write fault rose
@@ -79,10 +79,12 @@ pub record IsUnprinted (old new : World) : Type 0 where
   pub read_faults : new.read_faults ≡ old.read_faults
   pub write_faults : new.write_faults ≡ old.write_faults
 
--- memory ran out
+-- memory ran out: every name holds what it held, and no fault rose
 pub record IsOutOfMemory (old new : World) : Type 0 where
-  pub quiet : Quiet old new
+  pub held : new.held ≡ old.held
   pub read_faults : new.read_faults ≡ old.read_faults
+  pub write_faults : new.write_faults ≡ old.write_faults
+  pub faults : new.out.faults ≡ old.out.faults
 
 -- all that is to be printed and written is there, and no fault rose
 pub record IsCarriedOut (old new : World) (o : Outcome) : Type 0 where
@@ -119,6 +121,11 @@ module _ (Answer : Outcome → Type 0) (request : Request) (old new : World) whe
     pub answer : Answer outcome
     pub part : IsBrokenOff old new outcome
 
+  -- where memory ran out nothing was printed, but of a run of the source the first lines
+  abbrev pub IsPrintedInPart : Request → Type 0
+  IsPrintedInPart (Source firmware tape steps) = (new.out ≡ old.out) ⊎ IsPart
+  IsPrintedInPart r = new.out ≡ old.out
+
   -- what a command did, by how it ended
   abbrev pub Does : Result Done Failure → Type 0
   Does (Ok Well) = IsDone 0
@@ -127,7 +134,7 @@ module _ (Answer : Outcome → Type 0) (request : Request) (old new : World) whe
   Does (Err (Unread name)) = IsUnread request old new name.now
   Does (Err (Unwritten name)) = IsUnwritten request old new name.now × IsPart
   Does (Err Unprinted) = IsUnprinted old new × IsPart
-  Does (Err NoMemory) = IsOutOfMemory old new
+  Does (Err NoMemory) = IsOutOfMemory old new × IsPrintedInPart request
 
 -- the status and the line of how a command ended
 abbrev pub status_of : Result Done Failure → ℕ
@@ -154,7 +161,7 @@ pub record IsPlain (status : ℕ) : Type 0 where
   pub no_want_of_memory : status ≢ 6
 
 -- the call did what the words ask: its status, what is printed and written, and the line that tells of a fault
-pub record IsAnswered (Has : Source → List ℕ → Type 0) (Exceeds : Source → Type 0) (words : List (List ℕ))
+pub record IsAnswered (Has : Origin → List ℕ → Type 0) (Exceeds : Origin → Type 0) (words : List (List ℕ))
     (old new : World) (err_old err_new : SinkState) (status : ℕ) : Type 0 where
   pub outcome : Outcome
   pub answer : Answers Has Exceeds words outcome
@@ -163,7 +170,7 @@ pub record IsAnswered (Has : Source → List ℕ → Type 0) (Exceeds : Source �
   pub says : Says err_old err_new outcome.line
 
 -- the call was broken off in the midst of what the words ask
-pub record IsPartly (Has : Source → List ℕ → Type 0) (Exceeds : Source → Type 0) (words : List (List ℕ))
+pub record IsPartly (Has : Origin → List ℕ → Type 0) (Exceeds : Origin → Type 0) (words : List (List ℕ))
     (old new : World) : Type 0 where
   pub outcome : Outcome
   pub answer : Answers Has Exceeds words outcome
@@ -189,6 +196,15 @@ pub record TellsUnprinted (old new : World) (err_old err_new : SinkState) : Type
   pub unprinted : IsUnprinted old new
   pub says : Says err_old err_new unprinted_line
 
-pub record TellsOutOfMemory (old new : World) (err_old err_new : SinkState) : Type 0 where
+-- the words ask for a run of the source
+pub record AsksForSource (words : List (List ℕ)) : Type 0 where
+  pub firmware : List ℕ
+  pub tape : List ℕ
+  pub steps : ℕ
+  pub asks : Asks words (Source firmware tape steps)
+
+-- memory ran out: nothing was printed, unless the words ask for a run of the source
+pub record TellsOutOfMemory (words : List (List ℕ)) (old new : World) (err_old err_new : SinkState) : Type 0 where
   pub out_of_memory : IsOutOfMemory old new
+  pub quiet : (new.out ≡ old.out) ⊎ AsksForSource words
   pub says : Says err_old err_new memory_line

@@ -8,3 +8,4 @@ pub mod Runs
 pub mod Did
 pub mod Loads
 pub mod CompileFailures
+pub mod Counts

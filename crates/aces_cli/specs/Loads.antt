@@ -1,12 +1,19 @@
 -- What the steps of a command answer before it ends.
-use Rattle.std.specs.Prelude.{◌≡◌, ℕ, ◌⊎◌, List, Bool, IsTrue, IsNone}
+use Rattle.std.specs.Prelude.{◌≡◌, ℕ, ◌⊎◌, List, Bool, Option, Some, None, IsTrue, IsNone}
+use Rattle.ir_check.specs.declared.fault.CheckFault.{CheckFault}
+use Rattle.ir_check.specs.declared.fault.CheckFault.TheVariants as check_faults
 use Rattle.outside.specs.Counts.{Rose}
 use Rattle.aces_cli.specs.declared.failure.Fault.{Fault}
-use Rattle.aces_cli.specs.declared.failure.Fault.TheVariants.{TooLarge}
+use Rattle.aces_cli.specs.declared.failure.Fault.TheVariants.{TooLarge, IllTyped}
 use Rattle.aces_cli.specs.declared.failure.Failure.{Failure}
 use Rattle.aces_cli.specs.declared.failure.Failure.TheVariants.{Refused, Unread, Unwritten, Unprinted, NoMemory}
-use Rattle.aces_cli.specs.Requests.{Source}
+use Rattle.aces_cli.specs.Requests.{Origin}
 use Rattle.aces_cli.specs.Known.{Held}
+
+-- the fault that a failing check is, which want of memory is not
+abbrev pub of_check : CheckFault → Option Fault
+of_check check_faults.NoMemory = None
+of_check (check_faults.At kind place) = Some (IllTyped kind place)
 
 -- a file's content is refused by such a fault, or memory ran out
 abbrev pub IsContentFailure : (IsFault : Fault → Type 0) → (name : List ℕ) → Failure → Type 0
@@ -17,7 +24,7 @@ IsContentFailure IsFault name Unprinted = ⊥
 IsContentFailure IsFault name NoMemory = Unit {0}
 
 -- why a source was not read whole; `Exceeds` says that it is larger than its limit
-module _ (Exceeds : Source → Type 0) (told : Bool) (held : Held) (s : Source) (faults_before faults_after : ℕ) where
+module _ (Exceeds : Origin → Type 0) (told : Bool) (held : Held) (s : Origin) (faults_before faults_after : ℕ) where
   abbrev pub IsLoadFailure : Failure → Type 0
   IsLoadFailure (Refused name f) = (name.now ≡ s.name) × (f ≡ TooLarge s.limit) × Exceeds s × (faults_after ≡ faults_before)
   IsLoadFailure (Unread name) = (name.now ≡ s.name) × (Rose faults_before faults_after ⊎ (IsTrue told × IsNone (held s.name)))

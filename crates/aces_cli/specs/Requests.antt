@@ -9,18 +9,26 @@ pub data Request : Type 0 where
   Bin : (image file : List ℕ) → Request
   -- write the image of a firmware for a board, each file of the firmware being a compartment
   Compile : (firmware board image : List ℕ) → Request
+  -- read and check a firmware
+  Check : (firmware : List ℕ) → Request
+  -- run the source of a firmware on a tape for at most so many steps, each file of the firmware being a compartment
+  Source : (firmware tape : List ℕ) → (steps : ℕ) → Request
 
 -- the words of a request; a number is written by its decimal digits, without a leading zero
 abbrev pub words_of : Request → List (List ℕ)
 words_of (Run image tape steps) = codes "run" ∷ image ∷ tape ∷ decimal steps ∷ []
 words_of (Bin image file) = codes "bin" ∷ image ∷ file ∷ []
 words_of (Compile firmware board image) = codes "compile" ∷ firmware ∷ board ∷ codes "filename" ∷ image ∷ []
+words_of (Check firmware) = codes "check" ∷ firmware ∷ []
+words_of (Source firmware tape steps) = codes "source" ∷ firmware ∷ codes "filename" ∷ tape ∷ decimal steps ∷ []
 
 -- its numbers have at most 32 bits
 abbrev pub IsWithin : Request → Type 0
 IsWithin (Run image tape steps) = steps < 2 ^ 32
 IsWithin (Bin image file) = Unit {0}
 IsWithin (Compile firmware board image) = Unit {0}
+IsWithin (Check firmware) = Unit {0}
+IsWithin (Source firmware tape steps) = steps < 2 ^ 32
 
 -- these words are those of the request
 pub record Asks (words : List (List ℕ)) (request : Request) : Type 0 where
@@ -40,24 +48,28 @@ abbrev pub firmware_limit : ℕ
 firmware_limit = 4194304
 
 -- a file that is read, and how many bytes it may have
-pub record Source : Type 0 where
+pub record Origin : Type 0 where
   pub name : List ℕ
   pub limit : ℕ
 
-abbrev pub source : List ℕ → Source
-source name = record { name = name; limit = file_limit }
+abbrev pub file_origin : List ℕ → Origin
+file_origin name = record { name = name; limit = file_limit }
 
-abbrev pub firmware_source : List ℕ → Source
-firmware_source name = record { name = name; limit = firmware_limit }
+abbrev pub firmware_origin : List ℕ → Origin
+firmware_origin name = record { name = name; limit = firmware_limit }
 
 -- the files that a request reads, in order
-abbrev pub sources : Request → List Source
-sources (Run image tape steps) = source image ∷ source tape ∷ []
-sources (Bin image file) = source image ∷ []
-sources (Compile firmware board image) = firmware_source firmware ∷ source board ∷ []
+abbrev pub origins : Request → List Origin
+origins (Run image tape steps) = file_origin image ∷ file_origin tape ∷ []
+origins (Bin image file) = file_origin image ∷ []
+origins (Compile firmware board image) = firmware_origin firmware ∷ file_origin board ∷ []
+origins (Check firmware) = firmware_origin firmware ∷ []
+origins (Source firmware tape steps) = firmware_origin firmware ∷ file_origin tape ∷ []
 
 -- the file that it writes
 abbrev pub target : Request → Option (List ℕ)
 target (Run image tape steps) = None
 target (Bin image file) = Some file
 target (Compile firmware board image) = Some image
+target (Check firmware) = None
+target (Source firmware tape steps) = None

@@ -2,7 +2,7 @@
 
 ghost use Rattle.std.specs.Prelude.{◌≡◌, ◌↔◌, ◌^◌, ◌<◌, ℕ, List, map, string_bytes, IsTrue, IfSome, IfNone};
 ghost use Rattle.std.specs.Fmt.{decimal};
-ghost use Rattle.aces_cli.specs.Requests.{Run, Bin, Compile, Asks, IsUsage};
+ghost use Rattle.aces_cli.specs.Requests.{Run, Bin, Compile, Check, Source, Asks, IsUsage};
 ghost use Rattle.aces_cli.specs.Commands.{request_of};
 
 /// A command, with what its words name.
@@ -25,6 +25,16 @@ pub(crate) enum Command<'a> {
         board: &'a str,
         image: &'a str,
     },
+    /// Reads and checks a firmware.
+    Check {
+        firmware: &'a str,
+    },
+    /// Runs the source of a firmware on a tape for at most so many steps, each file of it being a compartment.
+    Source {
+        firmware: &'a str,
+        tape: &'a str,
+        steps: u32,
+    },
 }
 
 impl<'a> Command<'a> {
@@ -33,16 +43,19 @@ impl<'a> Command<'a> {
         ensures command { IfSome result (λ c. Asks (map string_bytes words.now) (request_of c)) }
         ensures usage { IfNone result (IsUsage (map string_bytes words.now)) }
     {
-        match run_of(words) {
-            Some(command) => Some(command),
-            None => match bin_of(words) {
-                Some(command) => Some(command),
-                None => match compile_of(words) {
-                    Some(command) => Some(command),
-                    None => None,
-                },
-            },
+        if let Some(command) = run_of(words) {
+            return Some(command);
         }
+        if let Some(command) = bin_of(words) {
+            return Some(command);
+        }
+        if let Some(command) = compile_of(words) {
+            return Some(command);
+        }
+        if let Some(command) = check_of(words) {
+            return Some(command);
+        }
+        source_of(words)
     }
 }
 
@@ -90,6 +103,38 @@ fn compile_of(words: &[String]) -> Option<Command<'_>>
                 firmware: firmware.as_str(),
                 board: board.as_str(),
                 image: image.as_str(),
+            })
+        }
+        _ => None,
+    }
+}
+
+/// `check FIRMWARE`, if the words are of that form.
+fn check_of(words: &[String]) -> Option<Command<'_>>
+    ensures command { IfSome result (λ c. Asks (map string_bytes words.now) (request_of c)) }
+    ensures none { IfNone result ((firmware : List ℕ) → Asks (map string_bytes words.now) (Check firmware) → ⊥) }
+{
+    match words {
+        [name, firmware] if name.as_str() == "check" => Some(Command::Check {
+            firmware: firmware.as_str(),
+        }),
+        _ => None,
+    }
+}
+
+/// `source FIRMWARE filename TAPE N`, if the words are of that form.
+fn source_of(words: &[String]) -> Option<Command<'_>>
+    ensures command { IfSome result (λ c. Asks (map string_bytes words.now) (request_of c)) }
+    ensures none { IfNone result ((firmware tape : List ℕ) (steps : ℕ) → Asks (map string_bytes words.now) (Source firmware tape steps) → ⊥) }
+{
+    match words {
+        [name, firmware, policy, tape, steps]
+            if name.as_str() == "source" && policy.as_str() == "filename" => {
+            let steps = number(steps.as_str())?;
+            Some(Command::Source {
+                firmware: firmware.as_str(),
+                tape: tape.as_str(),
+                steps,
             })
         }
         _ => None,

@@ -1,11 +1,15 @@
 //! How a command ends.
 
 ghost use Rattle.std.specs.Prelude.{◌≡◌, Some};
-ghost use Rattle.aces_cli.specs.Answer.{of_image, of_tape};
-ghost use Rattle.aces_cli.specs.Loads.{IsContentFailure};
+ghost use Rattle.aces_cli.specs.Answer.{of_image, of_tape, of_text};
+ghost use Rattle.aces_cli.specs.Loads.{IsContentFailure, of_check};
 ghost use Rattle.aces_cli.specs.declared.failure.Failure.TheVariants.{NoMemory};
 
 use image::fault::ImageFault;
+use ir_check::CheckFault;
+use ir_model::check::{CheckKind, Place};
+use ir_model::token::{Pos, TextLimit};
+use ir_reader::TextFault;
 use mem_bus::tape::TapeFault;
 use std::alloc::AllocError;
 
@@ -19,7 +23,7 @@ pub(crate) enum Done {
 }
 
 /// What is wrong with the content of a file.
-#[derive(Clone, Copy, PartialEq, Eq, Debug)]
+#[derive(Debug, Drop)]
 pub(crate) enum Fault {
     /// It has more bytes than this limit.
     TooLarge { limit: u32 },
@@ -39,10 +43,20 @@ pub(crate) enum Fault {
     UnknownPeripheral { line: u32 },
     /// A firmware or a board that is not compiled yet, or none at all.
     NotInForm,
+    /// The text of a firmware is not UTF-8 from this byte on.
+    NotUtf8 { at: u32 },
+    /// No text of a firmware goes on there as this one does.
+    Syntax { pos: Pos },
+    /// The number that stands there is too wide.
+    NumberTooWide { pos: Pos },
+    /// What stands there passes a limit of firmware texts.
+    Limit { which: TextLimit, pos: Pos },
+    /// A check of a firmware fails, the first in their order.
+    IllTyped { kind: CheckKind, place: Place },
 }
 
 /// What stopped a command.
-#[derive(Clone, Copy, PartialEq, Eq, Debug)]
+#[derive(Debug, Drop)]
 pub(crate) enum Failure<'a> {
     /// The content of a file: status 1.
     Refused { name: &'a str, fault: Fault },
@@ -86,6 +100,29 @@ pub(crate) fn tape_failure(name: &str, fault: TapeFault) -> Failure<'_>
         TapeFault::NoMemory => Failure::NoMemory,
         TapeFault::BadLine { line } => refused(name, Fault::BadLine { line }),
         TapeFault::UnknownPeripheral { line } => refused(name, Fault::UnknownPeripheral { line }),
+    }
+}
+
+/// The failure that a fault of a firmware's text is.
+pub(crate) fn text_failure(name: &str, fault: TextFault) -> Failure<'_>
+    ensures { IsContentFailure (λ f. of_text fault ≡ Some f) name.now result }
+{
+    match fault {
+        TextFault::NoMemory => Failure::NoMemory,
+        TextFault::Utf8 { at } => refused(name, Fault::NotUtf8 { at }),
+        TextFault::Syntax { pos } => refused(name, Fault::Syntax { pos }),
+        TextFault::NumberTooWide { pos } => refused(name, Fault::NumberTooWide { pos }),
+        TextFault::Limit { which, pos } => refused(name, Fault::Limit { which, pos }),
+    }
+}
+
+/// The failure that a check of a firmware is.
+pub(crate) fn check_failure(name: &str, fault: CheckFault) -> Failure<'_>
+    ensures { IsContentFailure (λ f. of_check fault ≡ Some f) name.now result }
+{
+    match fault {
+        CheckFault::NoMemory => Failure::NoMemory,
+        CheckFault::At { kind, place } => refused(name, Fault::IllTyped { kind, place }),
     }
 }
 

@@ -2,6 +2,9 @@
 #![tactic(auto)]
 
 mod bin;
+mod check;
+#[cfg(test)]
+mod check_tests;
 mod command;
 mod compile;
 #[cfg(test)]
@@ -10,6 +13,9 @@ mod failure;
 mod loading;
 mod report;
 mod run;
+mod source;
+#[cfg(test)]
+mod source_tests;
 #[cfg(test)]
 mod tests;
 mod writing;
@@ -80,10 +86,19 @@ pub fn aces<F: Files, O: Sink, E: Sink>(
         (world F.Files files.old (sink O.Sink out.old))
         (world F.Files files.new (sink O.Sink out.new)) }
 
-    ensures memory { result ≡ 6 → TellsOutOfMemory
+    // After want of memory nothing was printed, but of a run of the source the first lines.
+    ensures memory { result ≡ 6 → TellsOutOfMemory (map string_bytes words.now)
         (world F.Files files.old (sink O.Sink out.old))
         (world F.Files files.new (sink O.Sink out.new))
         (sink E.Sink err.old) (sink E.Sink err.new) }
+    ensures printed_in_part { IsTrue F.told → result ≡ 6 → (sink O.Sink out.new ≡ sink O.Sink out.old)
+        ⊎ IsPartly (Holds (F.held files.old)) (Exceeds (F.held files.old)) (map string_bytes words.now)
+        (world F.Files files.old (sink O.Sink out.old))
+        (world F.Files files.new (sink O.Sink out.new)) }
+    ensures printed_in_part_of_reads { result ≡ 6 → (sink O.Sink out.new ≡ sink O.Sink out.old)
+        ⊎ IsPartly (WasRead F.Files) (WasTooLarge F.Files) (map string_bytes words.now)
+        (world F.Files files.old (sink O.Sink out.old))
+        (world F.Files files.new (sink O.Sink out.new)) }
     ensures kept { result ≢ 0 → result ≢ 5 → F.held files.new ≡ F.held files.old }
 {
     match Command::of_words(words) {
@@ -117,5 +132,11 @@ fn perform<'a, F: Files, O: Sink>(
             board,
             image,
         } => compile::compile(alloc, firmware, board, image, files),
+        Command::Check { firmware } => check::check(alloc, firmware, files, out),
+        Command::Source {
+            firmware,
+            tape,
+            steps,
+        } => source::source(alloc, firmware, tape, steps, files, out),
     }
 }

@@ -2,13 +2,16 @@
 
 ghost use Rattle.std.specs.Prelude.{◌≡◌, ◌≤◌, ◌<◌, ◌-◌, ◌^◌, length, None, IfOk, IfErr, OnOk};
 ghost use Rattle.image.specs.Text.{IsText};
+ghost use Rattle.ir_model.specs.Plain as plain;
 ghost use Rattle.mem_bus.specs.Tape as tapes;
-ghost use Rattle.aces_cli.specs.Requests.{source, firmware_source, file_limit};
+ghost use Rattle.aces_cli.specs.Requests.{file_origin, firmware_origin, file_limit, firmware_limit};
 ghost use Rattle.aces_cli.specs.Known.{IsKnown, IsKnownLarge};
-ghost use Rattle.aces_cli.specs.Answer.{IsNoImage, IsNoTape};
+ghost use Rattle.aces_cli.specs.Answer.{IsNoImage, IsNoTape, IsNoFirmware, IsFirmware};
 ghost use Rattle.aces_cli.specs.Loads.{IsContentFailure, IsLoadFailure};
 
-use crate::failure::{Failure, Fault, image_failure, tape_failure};
+use crate::failure::{Failure, Fault, check_failure, image_failure, tape_failure, text_failure};
+use ir_check::check;
+use ir_model::checked::Checked;
 use mem_bus::image::{Image, Window};
 use mem_bus::tape::Tape;
 use outside::{Files, ReadRefusal, read_whole};
@@ -27,10 +30,10 @@ pub(crate) fn load<'a, F: Files>(
     name: &'a str,
 ) -> Result<Vec<u8>, Failure<'a>>
     ensures ok { IfOk result (λ bytes.
-        IsKnown F.Files files.old (source name.now) bytes.items) }
+        IsKnown F.Files files.old (file_origin name.now) bytes.items) }
     ensures few { IfOk result (λ bytes. length bytes.items ≤ file_limit) }
     ensures err { IfErr result (λ e.
-        IsLoadFailure (IsKnownLarge F.Files files.old) F.told (F.held files.old) (source name.now)
+        IsLoadFailure (IsKnownLarge F.Files files.old) F.told (F.held files.old) (file_origin name.now)
         (F.read_faults files.old) (F.read_faults files.new) e) }
     ensures same { F.held files.new ≡ F.held files.old }
     ensures reads { OnOk result (F.read_faults files.new ≡ F.read_faults files.old) }
@@ -46,9 +49,10 @@ pub(crate) fn load_firmware<'a, F: Files>(
     name: &'a str,
 ) -> Result<Vec<u8>, Failure<'a>>
     ensures ok { IfOk result (λ bytes.
-        IsKnown F.Files files.old (firmware_source name.now) bytes.items) }
+        IsKnown F.Files files.old (firmware_origin name.now) bytes.items) }
+    ensures few { IfOk result (λ bytes. length bytes.items ≤ firmware_limit) }
     ensures err { IfErr result (λ e.
-        IsLoadFailure (IsKnownLarge F.Files files.old) F.told (F.held files.old) (firmware_source name.now)
+        IsLoadFailure (IsKnownLarge F.Files files.old) F.told (F.held files.old) (firmware_origin name.now)
         (F.read_faults files.old) (F.read_faults files.new) e) }
     ensures same { F.held files.new ≡ F.held files.old }
     ensures reads { OnOk result (F.read_faults files.new ≡ F.read_faults files.old) }
@@ -111,5 +115,25 @@ pub(crate) fn tape_of<'a>(
     match Tape::read(alloc, text, windows) {
         Ok(tape) => Ok(tape),
         Err(fault) => Err(tape_failure(name, fault)),
+    }
+}
+
+/// The checked firmware of which these bytes of a file are the text.
+pub(crate) fn firmware_of<'a>(
+    alloc: Global,
+    name: &'a str,
+    bytes: &[u8],
+) -> Result<Checked, Failure<'a>>
+    requires { length bytes.now ≤ firmware_limit }
+    ensures ok { IfOk result (λ checked. IsFirmware (plain.firmware_of checked) bytes.now) }
+    ensures err { IfErr result (λ e. IsContentFailure (IsNoFirmware bytes.now) name.now e) }
+{
+    let firmware = match ir_reader::read(alloc, bytes) {
+        Ok(firmware) => firmware,
+        Err(fault) => return Err(text_failure(name, fault)),
+    };
+    match check(alloc, firmware) {
+        Ok(checked) => Ok(checked),
+        Err((_, fault)) => Err(check_failure(name, fault)),
     }
 }

@@ -1,3 +1,4 @@
 pub mod Seen
 pub mod Shapes
 pub mod Scopes
+pub mod Windows

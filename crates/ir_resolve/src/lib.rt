@@ -15,3 +15,4 @@ mod shapes;
 mod tests;
 pub mod value;
 pub mod variables;
+pub mod windows;

@@ -1,10 +1,6 @@
--- Numbers of cells counted from a later one, and the cells of a window.
-use Rattle.std.specs.Prelude.{ℕ, ◌+◌, ◌%◌, Bool, ◌&&◌, Option, Some, None, nat_eq, nat_le}
+-- The cells of a window.
+use Rattle.std.specs.Prelude.{ℕ, ◌+◌, ◌%◌, Bool, ◌&&◌, nat_eq, nat_le}
 use Rattle.ir_model.specs.Types.{PlainType, is_integer, width_of}
-
-abbrev pub later_by : ℕ → Option ℕ → Option ℕ
-later_by n None = None
-later_by n (Some k) = Some (n + k)
 
 abbrev pub is_port : (size at : ℕ) → PlainType → Bool
 is_port n at t = is_integer t && (nat_eq (at % width_of t) 0 && nat_le (at + width_of t) n)

@@ -2,6 +2,7 @@
 
 ghost use Rattle.std.specs.Prelude.{◌≡◌, ◌∷◌, [], map, IfOk, OnOk, OnErr};
 ghost use Rattle.std.proofs.Math.ListN.{get_or, set};
+ghost use Rattle.ir_laws.specs.Laws.{HasCellsApart};
 ghost use Rattle.ir_model.specs.Layout.{cell_at};
 ghost use Rattle.ir_model.specs.Resolved.{global_at};
 ghost use Rattle.ir_model.specs.State as state;
@@ -34,15 +35,16 @@ pub fn keep(parts: &mut Parts, to: usize, value: Value) -> Result<(), AllocError
 }
 
 /// The number of the cell of a type at an offset of a global.
+#[tactic(auto, unfolding(ir_model::specs::Layout::cell_at))]
 pub fn global_cell(program: &Program, global: usize, at: u32, ty: Option<&Ty>) -> Option<usize>
+    requires { HasCellsApart (program_of program.now) }
     ensures { result ≡ cell_at (global_at (program_of program.now) global).cells at (pointee_of ty.entry) }
 {
     let globals = program.globals.as_slice();
-    if global < globals.len() {
-        cell_number(globals[global].cells.as_slice(), at, ty)
-    } else {
-        cell_number(&[], at, ty)
+    if global >= globals.len() {
+        return None;
     }
+    cell_number(globals[global].cells.as_slice(), at, ty)
 }
 
 /// A load of a cell of a global.

@@ -1,10 +1,19 @@
 //! The frames that wait at their calls.
 
-ghost use Rattle.std.specs.Prelude.{◌≡◌, [], ◌∷◌, MatchOption};
+ghost use Rattle.std.specs.Prelude.{◌≡◌, [], ◌∷◌, map, Some, MatchOption, IfOk};
+ghost use Rattle.std.specs.Option.{option_map, option_copied};
+ghost use Rattle.std.proofs.Math.ListN.{get_or, set};
+ghost use Rattle.ir_model.specs.State as state;
+ghost use Rattle.ir_model.specs.Step as step;
+ghost use Rattle.ir_resolve.specs.Seen.{value_of};
 ghost use Rattle.ir_run.specs.declared.frame.Frame.{Frame};
+ghost use Rattle.ir_run.specs.Acts.{frame_of};
+ghost use Rattle.ir_run.specs.Found.{AreOrdered, next_place};
 
 use crate::frame::Frame;
-use std::alloc::Global;
+use crate::search::place_of;
+use ir_resolve::value::Value;
+use std::alloc::{AllocError, Global};
 use std::marker::Model;
 
 /// Frames, the one that called last first.
@@ -47,5 +56,42 @@ impl Below {
         ensures { MatchOption result (self.old ≡ []) (λ frame. self.old ≡ frame ∷ self.new) }
     {
         self.frames.pop()
+    }
+
+    /// The frame of a number, where it is one of this function.
+    pub fn frame(&self, func: usize, number: u64) -> Option<&Frame>
+        requires { AreOrdered (map frame_of self.now) }
+        ensures { option_map frame_of (option_copied result) ≡ step.frame_in (map frame_of self.now) func number }
+    {
+        let frames = self.frames.as_slice();
+        match place_of(frames, func, number) {
+            Some(place) => Some(&frames[place]),
+            None => None,
+        }
+    }
+
+    /// Puts a value into a cell of a local of the frame of a number.
+    pub fn put_cell(&mut self, func: usize, number: u64, local: usize, cell: usize, value: Value)
+        requires { AreOrdered (map frame_of self.old) }
+        ensures { (held : state.Frame) → step.frame_in (map frame_of self.old) func number ≡ Some held →
+            map frame_of self.new ≡ step.with_local (map frame_of self.old) func number local (set (get_or held.locals local []) cell (value_of value)) }
+    {
+        if let Some(place) = place_of(self.frames.as_slice(), func, number) {
+            self.frames[place].locals.put(local, cell, value);
+        }
+    }
+
+    /// The place behind the one at which the first frame stands; 0 where there is no frame.
+    ///
+    /// # Errors
+    ///
+    /// There is no number for it.
+    pub fn next_place(&self) -> Result<usize, AllocError>
+        ensures { IfOk result (λ place. place ≡ next_place self.now) }
+    {
+        match self.frames.last() {
+            Some(frame) => frame.place.checked_add(1).ok_or(AllocError),
+            None => Ok(0),
+        }
     }
 }

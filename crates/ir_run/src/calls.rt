@@ -10,10 +10,12 @@ ghost use Rattle.ir_run.specs.Acts.{frame_of};
 ghost use Rattle.ir_run.specs.States.{running_of, memory_of, Answers};
 
 use crate::entering::new_frame;
-use crate::outcome::SourceStep;
+use crate::frame::Frame;
+use crate::outcome::{SourceEnd, SourceStep};
 use crate::parts::Parts;
-use crate::registers::{branch_target, jump};
-use ir_resolve::program::Program;
+use crate::places::result_register;
+use crate::registers::{branch_target, jump, write_register};
+use ir_resolve::program::{Exit, Program};
 use ir_resolve::value::Value;
 use std::alloc::{AllocError, Global};
 use std::mem::replace;
@@ -43,8 +45,8 @@ pub fn enter(
             parts.made = made;
             Ok(())
         }
-        Some(caller) => {
-            parts.top = caller;
+        Some(back) => {
+            parts.top = back;
             Err(AllocError)
         }
     }
@@ -66,4 +68,69 @@ pub fn branch(program: &Program, parts: &mut Parts, on: usize, yes: usize, no: u
     let block = branch_target(&parts.top, on, yes, no);
     go(parts, block);
     SourceStep::Ran
+}
+
+// Writes what a function returned into the register that the call of it names, if it names one.
+fn keep_result(program: &Program, frame: &mut Frame, value: Value)
+    ensures { frame_of frame.new ≡ step.answered (frame_of frame.old) (step.result_register (plain.here (program_of program.now) frame.old.func frame.old.block frame.old.place)) (value_of value) }
+{
+    if let Some(to) = result_register(program, frame) {
+        write_register(frame, to, value);
+    }
+}
+
+/// Goes back to the caller with a value; the first frame has none, and the run ends.
+///
+/// # Errors
+///
+/// There is no number for the caller's next place; the state is as before.
+pub fn go_back(
+    program: &Program,
+    parts: &mut Parts,
+    value: Value,
+) -> Result<SourceStep, AllocError>
+    ensures ok { IfOk result (λ a. Answers (step.back_to (program_of program.now) (value_of value) (map frame_of parts.old.below) (memory_of parts.old)) a parts.new) }
+    ensures err { OnErr result (running_of parts.new ≡ running_of parts.old) }
+{
+    let place = parts.below.next_place()?;
+    let Some(mut caller) = parts.below.pop() else {
+        return Ok(SourceStep::Ended(SourceEnd::Returned));
+    };
+    keep_result(program, &mut caller, value);
+    caller.place = place;
+    parts.top = caller;
+    Ok(SourceStep::Ran)
+}
+
+// What a function returns: what the register holds, or 0 where it has no result.
+fn returned(frame: &Frame, register: Option<usize>) -> Value
+    ensures { value_of result ≡ step.returned_value (frame_of frame.now) register }
+{
+    match register {
+        Some(register) => frame.regs.at(register),
+        None => Value::Number(0),
+    }
+}
+
+/// Leaves a block.
+///
+/// # Errors
+///
+/// There is no number for the caller's next place; the state is as before.
+#[tactic(auto, unfolding(ir_model::specs::Step::leave))]
+pub fn leave(program: &Program, parts: &mut Parts, exit: Exit) -> Result<SourceStep, AllocError>
+    ensures ok { IfOk result (λ a. Answers (step.leave (program_of program.now) (frame_of parts.old.top) (map frame_of parts.old.below) (memory_of parts.old) (exit_of exit)) a parts.new) }
+    ensures err { OnErr result (running_of parts.new ≡ running_of parts.old) }
+{
+    match exit {
+        Exit::Jump(block) => {
+            go(parts, block);
+            Ok(SourceStep::Ran)
+        }
+        Exit::Branch { on, yes, no } => Ok(branch(program, parts, on, yes, no)),
+        Exit::Ret(register) => {
+            let value = returned(&parts.top, register);
+            go_back(program, parts, value)
+        }
+    }
 }

@@ -7,6 +7,7 @@ ghost use Rattle.ir_model.specs.Types.{type_of, same};
 ghost use Rattle.ir_model.specs.Layout.{cell_at};
 ghost use Rattle.ir_model.specs.Step as step;
 ghost use Rattle.ir_resolve.specs.Seen.{value_of, cells_of, pointee_of};
+ghost use Rattle.ir_laws.specs.Laws.{AreApart};
 ghost use Rattle.ir_run.specs.Cells.{is_port};
 
 use ir_model::equal::same_type;
@@ -28,17 +29,18 @@ fn is_type(ty: &Ty, other: Option<&Ty>) -> bool
     }
 }
 
-/// The number of the cell of a type at an offset.
-#[tactic(auto, unfolding(ir_model::specs::Layout::cell_at))]
+/// The number of the cell of a type at an offset. Cells that lie apart have rising offsets, so one at most has the
+/// offset, and it is found by halving.
 pub fn cell_number(cells: &[CellSpot], at: u32, ty: Option<&Ty>) -> Option<usize>
+    requires { AreApart (cells_of cells.now) }
     ensures { result ≡ cell_at (cells_of cells.now) at (pointee_of ty.entry) }
 {
-    for i in 0..cells.len() {
-        if cells[i].at == at && is_type(cells[i].ty, ty) {
-            return Some(i);
-        }
+    let i = cells.partition_point(|cell| cell.at < at);
+    if i < cells.len() && cells[i].at == at && is_type(cells[i].ty, ty) {
+        Some(i)
+    } else {
+        None
     }
-    None
 }
 
 /// The width of an integer type in bytes; 4 for another type, and for none, which is u32.

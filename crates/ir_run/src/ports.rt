@@ -3,16 +3,17 @@
 ghost use Rattle.std.specs.Prelude.{◌≡◌, ◌∷◌, [], map, true, IfOk, OnErr};
 ghost use Rattle.std.proofs.Math.ListN.{get_or};
 ghost use Rattle.ir_model.specs.Step as step;
-ghost use Rattle.ir_resolve.specs.Seen.{value_of, pointee_of};
+ghost use Rattle.ir_resolve.specs.Seen.{value_of, pointee_of, program_of};
 ghost use Rattle.ir_run.specs.Acts.{frame_of};
 ghost use Rattle.ir_run.specs.States.{running_of, memory_of, Answers};
 
 use crate::arithmetic::number_in;
-use crate::cells::{cut_number, width_of};
+use crate::cells::{cut_number, has_port, width_of};
 use crate::outcome::{SourceEnd, SourceStep};
 use crate::parts::Parts;
 use crate::registers::{advance, write_register};
 use ir_model::types::Ty;
+use ir_resolve::program::Program;
 use ir_resolve::value::Value;
 use mem_bus::event::Event;
 use std::alloc::AllocError;
@@ -26,6 +27,19 @@ pub fn compartment_of(compartments: &[u32], func: usize) -> u32
     } else {
         0
     }
+}
+
+/// Whether a peripheral has a cell of the type at an offset: inside its window, and at a multiple of its size.
+pub fn in_window(program: &Program, periph: usize, at: u32, ty: Option<&Ty>) -> bool
+    ensures { result ≡ step.has_port (program_of program.now) periph at (pointee_of ty.entry) }
+{
+    let sizes = program.periphs.as_slice();
+    let size = if periph < sizes.len() {
+        sizes[periph]
+    } else {
+        0
+    };
+    has_port(size, at, ty)
 }
 
 /// A store to a cell of a peripheral.

@@ -1,26 +1,24 @@
-use crate::accesses::{global_cell, keep, load_global, store_global};
+ghost use Rattle.std.specs.Prelude.{◌≡◌, ◌≤◌, IfOk};
+ghost use Rattle.ir_model.specs.Plain.{firmware_of};
+ghost use Rattle.ir_model.specs.Canonical.{IsWithinLimits};
+ghost use Rattle.ir_model.specs.Typing.{IsTyped};
+ghost use Rattle.ir_model.specs.Shortest.{shortest_main};
+
 use crate::arithmetic::{binary, bit, compared};
 use crate::cells::{cut_number, cut_value, has_port};
 use crate::outcome::{FaultKind, SourceEnd, SourceStep};
-use crate::registers::{branch_target, jump};
-use crate::starting::started;
-use ir_model::firmware::{BinOp, CmpOp};
+use crate::run::SourceRun;
+use ir_model::checked::Checked;
+use ir_model::firmware::{BinOp, Block, CmpOp, FileDecl, Firmware, Func, Term};
+use ir_model::name::Name;
 use ir_model::types::Ty;
-use ir_resolve::program::Program;
+use ir_resolve::program::{CellSpot, Exit, Operation, Program, Routine, Sequence, Target, Variable};
 use ir_resolve::value::Value;
 use listed::Listed;
+use mem_bus::event::Event;
 use mem_bus::tape::Tape;
 use std::alloc::Global;
 use std::test::Fail;
-
-fn nothing<'a>(alloc: Global) -> Program<'a> {
-    Program {
-        globals: Listed::new(Vec::new(alloc)),
-        periphs: Listed::new(Vec::new(alloc)),
-        funcs: Listed::new(Vec::new(alloc)),
-        main: 0,
-    }
-}
 
 #[test]
 fn names_faults(rt: HostRuntime) -> Result<(), Fail> {
@@ -57,17 +55,50 @@ fn computes(rt: HostRuntime) -> Result<(), Fail> {
     Ok(())
 }
 
+fn returning_main(alloc: Global) -> Result<Func, Fail>
+    ensures { IfOk result (λ f. f ≡ shortest_main) }
+{
+    let block = Block {
+        label: Name::new(alloc, b"b0")?,
+        insts: Listed::new(Vec::new(alloc)),
+        term: Term::Ret(None),
+    };
+    Ok(Func {
+        name: Name::new(alloc, b"main")?,
+        params: Listed::new(Vec::new(alloc)),
+        result: None,
+        locals: Listed::new(Vec::new(alloc)),
+        regs: Listed::new(Vec::new(alloc)),
+        blocks: Listed::new(vec![in alloc; block]?),
+    })
+}
+
+#[tactic(auto, using(ir_resolve::proofs::Shortest::shortest_within, ir_resolve::proofs::Shortest::shortest_typed))]
+fn shortest(alloc: Global) -> Result<Firmware, Fail>
+    ensures within { IfOk result (λ w. IsWithinLimits (firmware_of w)) }
+    ensures typed { IfOk result (λ w. IsTyped (firmware_of w)) }
+{
+    let file = FileDecl {
+        name: Name::new(alloc, b"m")?,
+        funcs: Listed::new(vec![in alloc; returning_main(alloc)?]?),
+    };
+    Ok(Firmware {
+        structs: Listed::new(Vec::new(alloc)),
+        periphs: Listed::new(Vec::new(alloc)),
+        globals: Listed::new(Vec::new(alloc)),
+        files: Listed::new(vec![in alloc; file]?),
+    })
+}
+
 #[test]
-fn starts_without_globals(rt: HostRuntime) -> Result<(), Fail> {
-    let program = nothing(rt.alloc());
-    let mut parts = started(rt.alloc(), &program, Tape::empty(rt.alloc(), 0)?)?;
-    let cell = global_cell(&program, 0, 0, None);
-    let end = SourceStep::Ended(SourceEnd::Fault(FaultKind::NoCell));
-    assert_eq!(rt; load_global(&mut parts, 0, 0, cell)?, end);
-    assert_eq!(rt; store_global(&mut parts, 0, false, Value::Null, cell)?, end);
-    keep(&mut parts, 0, Value::Null)?;
-    assert_eq!(rt; parts.top.place, 1);
-    jump(&mut parts.top, 2);
-    assert_eq!(rt; branch_target(&parts.top, 0, 5, 6), 6);
+fn runs_the_shortest_firmware(rt: HostRuntime) -> Result<(), Fail> {
+    let checked = Checked::new(shortest(rt.alloc())?);
+    let compartments = vec![in rt.alloc(); 0u32]?;
+    let tape = Tape::empty(rt.alloc(), 0)?;
+    let mut run = SourceRun::start(rt.alloc(), &checked, compartments, tape)?;
+    let end = SourceStep::Ended(SourceEnd::Returned);
+    assert_eq!(rt; run.step()?, end);
+    assert_eq!(rt; run.step()?, end);
+    assert_eq!(rt; run.taken(), 2);
     Ok(())
 }

@@ -1,4 +1,4 @@
--- The printed lines of events and of the ends of runs, as bytes.
+-- The printed lines of events, of the ends of runs and of counts, as bytes.
 use Rattle.std.specs.Prelude.{ℕ, zero, suc, ◌/◌, ◌%◌, List, [], ◌∷◌, ◌++◌, Bool, false, Some, None, codes, slice_get, if◌then◌else◌}
 use Rattle.std.specs.Fmt.{decimal, digit_glyph}
 use Rattle.mem_bus.specs.declared.image.Window.{Window}
@@ -48,3 +48,8 @@ end_line InputEnd = codes "end input" ++ line_feed
 end_line Limit = codes "end limit" ++ line_feed
 end_line (Stop r pc) = codes "end stop " ++ reason r ++ codes " 0x" ++ hexadecimal 8 pc ++ line_feed
 end_line Refused = []
+
+-- how many functions, globals and peripherals a firmware has
+unfoldable pub count_line : (functions globals peripherals : ℕ) → List ℕ
+count_line f g p =
+    codes "ok functions " ++ decimal f ++ codes " globals " ++ decimal g ++ codes " peripherals " ++ decimal p ++ line_feed

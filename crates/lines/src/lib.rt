@@ -1,4 +1,4 @@
-//! The printed lines of events and of the ends of runs, in a buffer of fixed room.
+//! The printed lines of events, of the ends of runs and of counts, in a buffer of fixed room.
 #![tactic(auto)]
 
 ghost use Rattle.std.specs.Prelude.{◌≡◌, ◌<◌, ◌≤◌, ◌+◌, ◌++◌, ◌∷◌, [], length, false};
@@ -11,9 +11,10 @@ use mem_bus::event::Event;
 use mem_bus::image::Window;
 use std::marker::Model;
 
-/// The room for a line, in bytes. That of an event has at most 104: ten digits of the compartment, seven bytes of the
-/// direction, 64 of the name, and 23 of the offset, the width, the value and what stands between them.
-const ROOM: usize = 112;
+/// The room for a line, in bytes. That of an event has at most 131: twenty for the digits of the compartment, seven bytes
+/// of the direction, 64 of the name, twenty for the digits of the width, and 20 of the offset, the value and what stands
+/// between them. The line of counts has at most 96: three times twenty digits, and 36 of the words.
+const ROOM: usize = 136;
 
 /// A printed line: its bytes, the line feed among them. It takes no memory.
 #[derive(Drop)]
@@ -93,7 +94,7 @@ impl Line {
 
     /// Puts these bytes behind those that are there.
     fn append(&mut self, bytes: &[u8])
-        requires { length self.old + length bytes.now ≤ 112 }
+        requires { length self.old + length bytes.now ≤ 136 }
         ensures bytes { self.new ≡ self.old ++ bytes.now }
         ensures length { length self.new ≡ length self.old + length bytes.now }
     {
@@ -102,7 +103,7 @@ impl Line {
 
     /// Puts one byte behind those that are there.
     fn append_byte(&mut self, byte: u8)
-        requires { length self.old < 112 }
+        requires { length self.old < 136 }
         ensures bytes { self.new ≡ self.old ++ byte ∷ [] }
         ensures length { length self.new ≡ length self.old + 1 }
     {
@@ -112,7 +113,7 @@ impl Line {
     /// Puts so many hexadecimal digits of a number behind the bytes that are there.
     #[tactic(auto, unfolding(crate::specs::Lines::hexadecimal))]
     fn append_hexadecimal(&mut self, count: u8, number: u32)
-        requires { length self.old + count ≤ 112 }
+        requires { length self.old + count ≤ 136 }
         ensures bytes { self.new ≡ self.old ++ lines.hexadecimal count number }
         ensures length { length self.new ≡ length self.old + count }
     {
@@ -125,8 +126,8 @@ impl Line {
 
     /// Puts the decimal digits of a number behind the bytes that are there.
     #[tactic(auto, using(crate::proofs::Digits::decimal_one, crate::proofs::Digits::decimal_length))]
-    fn append_digits(&mut self, number: u32)
-        requires { length self.old + length (decimal number) ≤ 112 }
+    fn append_digits(&mut self, number: u64)
+        requires { length self.old + length (decimal number) ≤ 136 }
         ensures { self.new ≡ self.old ++ decimal number }
     {
         if number < 10 {
@@ -136,12 +137,12 @@ impl Line {
         self.append_byte(b'0' + (number % 10) as u8);
     }
 
-    /// Puts a number, which has at most ten decimal digits, behind the bytes that are there.
+    /// Puts a number, which has at most twenty decimal digits, behind the bytes that are there.
     #[tactic(auto, using(crate::proofs::Digits::decimal_short))]
-    fn append_decimal(&mut self, number: u32)
-        requires { length self.old + 10 ≤ 112 }
+    fn append_decimal(&mut self, number: u64)
+        requires { length self.old + 20 ≤ 136 }
         ensures bytes { self.new ≡ self.old ++ decimal number }
-        ensures length { length self.new ≤ length self.old + 10 }
+        ensures length { length self.new ≤ length self.old + 20 }
     {
         self.append_digits(number);
     }
@@ -156,13 +157,13 @@ pub fn event_line(windows: &[Window], event: &Event) -> Line
     ensures { result ≡ lines.event_line windows.now event.now }
 {
     let mut line = Line::new();
-    line.append_decimal(event.compartment);
+    line.append_decimal(u64::from(event.compartment));
     line.append(direction_text(event.write));
     line.append(name_of(windows, event.periph));
     line.append(b" 0x");
     line.append_hexadecimal(4, event.offset);
     line.append(b" ");
-    line.append_decimal(u32::from(event.width));
+    line.append_decimal(u64::from(event.width));
     line.append(b" 0x");
     line.append_hexadecimal(8, event.value);
     line.append(b"\n");
@@ -178,7 +179,7 @@ pub fn end_line(end: &End) -> Line
     match end {
         End::Halt(number) => {
             line.append(b"end halt ");
-            line.append_decimal(u32::from(*number));
+            line.append_decimal(u64::from(*number));
             line.append(b"\n");
         }
         End::InputEnd => line.append(b"end input\n"),
@@ -192,6 +193,22 @@ pub fn end_line(end: &End) -> Line
         }
         End::Refused => {}
     }
+    line
+}
+
+/// The line that says how many functions, globals and peripherals a firmware has.
+#[tactic(auto, unfolding(crate::specs::Lines::count_line))]
+pub fn count_line(functions: usize, globals: usize, peripherals: usize) -> Line
+    ensures { result ≡ lines.count_line functions globals peripherals }
+{
+    let mut line = Line::new();
+    line.append(b"ok functions ");
+    line.append_decimal(functions as u64);
+    line.append(b" globals ");
+    line.append_decimal(globals as u64);
+    line.append(b" peripherals ");
+    line.append_decimal(peripherals as u64);
+    line.append(b"\n");
     line
 }
 
@@ -282,5 +299,22 @@ mod tests {
             assert_eq!(rt; end_line(&end).as_slice(), text);
         }
         Ok(())
+    }
+
+    #[test]
+    fn prints_counts(rt: HostRuntime) {
+        let table: [(usize, usize, usize, &[u8]); 2] = [
+            (1, 0, 0, b"ok functions 1 globals 0 peripherals 0\n"),
+            (
+                18446744073709551615,
+                1024,
+                64,
+                b"ok functions 18446744073709551615 globals 1024 peripherals 64\n",
+            ),
+        ];
+        for (functions, globals, peripherals, text) in table {
+            let line = count_line(functions, globals, peripherals);
+            assert_eq!(rt; line.as_slice(), text);
+        }
     }
 }

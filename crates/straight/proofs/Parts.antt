@@ -22,7 +22,8 @@ use Rattle.ir_model.specs.Typing.{IsTyped}
 use Rattle.ir_model.specs.Canonical.{IsWithinLimits}
 use Rattle.simulate.specs.Refines.{Refines}
 use Rattle.straight.specs.Form.{IsStraight, is_straight, block_of, main_of, firmware_with}
-use Rattle.straight.specs.Image.{image_of, flash_base, ram_base, ram_size, vector_bytes, start_code, filled_up, main_code, bases_of, window_of, registers_of, insts_of}
+use Rattle.straight.specs.Image.{image_of, flash_base, ram_base, ram_size, vector_bytes, start_code, filled_up, main_code, bases_of, registers_of, insts_of}
+use Rattle.ir_resolve.specs.Windows.{window_of}
 use Rattle.straight.specs.Resolved.{resolved_in, image_with}
 use Rattle.straight.proofs.Decides.{all_of}
 use Rattle.straight.proofs.Given.{code_works}

@@ -14,7 +14,8 @@ use Rattle.ir_model.specs.declared.firmware.Peripheral.{Peripheral}
 use Rattle.ir_model.specs.Types.{PlainType, U8, U16, U32, Pointer, Array, Named, Callee, is_integer, width_of}
 use Rattle.ir_model.specs.Resolved.{Program}
 use Rattle.ir_model.specs.Step.{has_port}
-use Rattle.straight.specs.Image.{window_of, bases_of}
+use Rattle.straight.specs.Image.{bases_of}
+use Rattle.ir_resolve.specs.Windows.{window_of}
 use Rattle.straight.proofs.Typed.{both}
 use Rattle.straight.proofs.Windows.{same_number, at_most}
 use Rattle.straight.proofs.Setup.{Leading}

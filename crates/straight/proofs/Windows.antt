@@ -13,7 +13,7 @@ use Rattle.ir_model.specs.declared.check.Place.TheVariants as place
 use Rattle.ir_model.specs.Resolve.{has}
 use Rattle.ir_model.specs.Typing.{Checks, check, is_power_from, is_window, overlaps, periph_checks}
 use Rattle.ir_model.specs.Canonical.{Each}
-use Rattle.straight.specs.Image.{window_of}
+use Rattle.ir_resolve.specs.Windows.{window_of}
 use Rattle.straight.proofs.Typed.{Pass, holds, behind, both}
 
 -- ---- one window

@@ -3,7 +3,6 @@ use Rattle.std.specs.Prelude.{ℕ, ◌+◌, ◌*◌, ◌%◌, ◌++◌, List, []
 use Rattle.thumb_model.specs.declared.table.Instr.{Instr}
 use Rattle.thumb_model.specs.declared.table.Instr.TheVariants.{BranchLink, BreakpointNop}
 use Rattle.mem_bus.specs.declared.image.Image.{Image}
-use Rattle.mem_bus.specs.declared.image.Window.{Window}
 use Rattle.armv7m.specs.CodeBytes.{code_bytes}
 use Rattle.armv7m.specs.Running.{code_size}
 use Rattle.ir_model.specs.declared.firmware.Peripheral.{Peripheral}
@@ -11,6 +10,7 @@ use Rattle.ir_model.specs.Plain.{PlainFirmware}
 use Rattle.ir_model.specs.Layout.{rounded_up}
 use Rattle.ir_model.specs.Resolved.{NumberedInst, func_at, block_at}
 use Rattle.ir_model.specs.Resolve.{resolve}
+use Rattle.ir_resolve.specs.Windows.{window_of}
 use Rattle.lower.specs.Templates.{entry_code, insts_code, return_code, words_below_return}
 
 -- board A's memories
@@ -47,9 +47,6 @@ bases_of ps = map (λ (q : Peripheral). q.base) ps
 
 abbrev pub periph_names : List Peripheral → List (List ℕ)
 periph_names ps = map (λ (q : Peripheral). q.name) ps
-
-abbrev pub window_of : Peripheral → Window
-window_of q = record { name = q.name; base = q.base; size = q.size }
 
 -- the one function's instructions, resolved, and how many registers it has
 abbrev pub insts_of : PlainFirmware → List NumberedInst

@@ -10,7 +10,8 @@ use Rattle.ir_model.specs.Resolve.{Scope, main_name, resolved_inst}
 use Rattle.lower.specs.declared.insts.StraightInst.{StraightInst}
 use Rattle.lower.specs.Emitted.{numbered}
 use Rattle.lower.specs.Templates.{inst_code}
-use Rattle.straight.specs.Image.{bases_of, periph_names, start_code, filled_up, main_code, vector_bytes, window_of, flash_base, ram_base, ram_size}
+use Rattle.straight.specs.Image.{bases_of, periph_names, start_code, filled_up, main_code, vector_bytes, flash_base, ram_base, ram_size}
+use Rattle.ir_resolve.specs.Windows.{window_of}
 use Rattle.mem_bus.specs.declared.image.Image.{Image}
 use Rattle.armv7m.specs.CodeBytes.{code_bytes}
 

@@ -5,14 +5,15 @@ ghost use Rattle.mem_bus.specs.Rules.{ObeysRules};
 ghost use Rattle.ir_model.specs.Plain.{firmware_of, slot_of};
 ghost use Rattle.simulate.specs.Refines.{Refines};
 ghost use Rattle.straight.specs.Form.{IsStraight, is_straight};
-ghost use Rattle.straight.specs.Image.{image_of, window_of};
+ghost use Rattle.straight.specs.Image.{image_of};
 ghost use Rattle.straight.specs.Resolved.{image_with};
 
 use crate::flash::flash;
 use ir_model::checked::Checked;
 use ir_model::firmware::{Block, FileDecl, Func, Inst, Peripheral, Slot};
+use ir_resolve::windows::windows;
 use listed::Listed;
-use mem_bus::image::{Image, Window};
+use mem_bus::image::Image;
 use std::alloc::{AllocError, Global};
 
 const FLASH_BASE: u32 = 0x0800_0000;
@@ -20,29 +21,6 @@ const FLASH_BASE: u32 = 0x0800_0000;
 const RAM_BASE: u32 = 0x2000_0000;
 
 const RAM_SIZE: u32 = 65_536;
-
-// The window of a peripheral.
-fn window(alloc: Global, periph: &Peripheral) -> Result<Window, AllocError>
-    ensures { IfOk result (λ window. window ≡ window_of periph.now) }
-{
-    let name = Vec::from_slice(alloc, periph.name.as_slice())?;
-    Ok(Window {
-        name: Listed::new(name),
-        base: periph.base,
-        size: periph.size,
-    })
-}
-
-// The windows of peripherals.
-fn windows(alloc: Global, periphs: &[Peripheral]) -> Result<Vec<Window>, AllocError>
-    ensures { IfOk result (λ windows. windows.items ≡ map window_of periphs.now) }
-{
-    let mut windows = Vec::new(alloc);
-    for periph in periphs {
-        windows.push(window(alloc, periph)?)?;
-    }
-    Ok(windows)
-}
 
 // The image of a `main` by its parts.
 fn image(

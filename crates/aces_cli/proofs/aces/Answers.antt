@@ -4,7 +4,7 @@ use Rattle.aces_cli.specs.Known.{Holds, Exceeds, WasRead, WasTooLarge, IsKnown, 
 use Rattle.aces_cli.specs.Answer.{Answer}
 use Rattle.aces_cli.specs.Did.{sink, world}
 use Rattle.aces_cli.proofs.Ends.{did_also}
-use Rattle.aces_cli.proofs.Answered.{answer_also, usage_answered, answered, partly}
+use Rattle.aces_cli.proofs.Answered.{answer_also, usage_answered, answered, partly, printed_in_part}
 use Rattle.aces_cli.proofs.aces.Goals as goal
 
 pub returns-in-None-clause-answer : goal.returns-in-None-clause-answer
@@ -67,4 +67,28 @@ returns-in-Some-clause-partly_of_reads g c five =
     let also = answer_also (IsKnown of files) (WasRead of) (IsKnownLarge of files) (WasTooLarge of) (λ s b k. k.0) (λ s k. k.0) r in
     partly (WasRead of) (WasTooLarge of) (map (string_bytes {Z = Global}) c.args.words.now) r c.in-Some.ensures.command
     old new (sink g.E.Sink c.args.err.now) (sink g.E.Sink c.report.new.err) c.perform-ended.result (sym c.report.ensures.status ∙ five)
+    (did_also (Answer (IsKnown of files) (IsKnownLarge of files) r) (Answer (WasRead of) (WasTooLarge of) r) also r old new c.perform-ended.result c.perform-ended.ensures)
+
+pub returns-in-Some-clause-printed_in_part : goal.returns-in-Some-clause-printed_in_part
+returns-in-Some-clause-printed_in_part g c told six =
+    let of = g.F.Files in
+    let files = c.args.files.now in
+    let r = request_of c.in-Some.command in
+    let old = world of files (sink g.O.Sink c.args.out.now) in
+    let new = world of c.perform-ended.new.files (sink g.O.Sink c.perform-ended.new.out) in
+    let also = answer_also (IsKnown of files) (Holds (of.held files)) (IsKnownLarge of files) (Exceeds (of.held files)) (λ s b k. k.1 told) (λ s k. k.1 told) r in
+    printed_in_part (Holds (of.held files)) (Exceeds (of.held files)) (map (string_bytes {Z = Global}) c.args.words.now) r c.in-Some.ensures.command
+    old new (sink g.E.Sink c.args.err.now) (sink g.E.Sink c.report.new.err) c.perform-ended.result (sym c.report.ensures.status ∙ six)
+    (did_also (Answer (IsKnown of files) (IsKnownLarge of files) r) (Answer (Holds (of.held files)) (Exceeds (of.held files)) r) also r old new c.perform-ended.result c.perform-ended.ensures)
+
+pub returns-in-Some-clause-printed_in_part_of_reads : goal.returns-in-Some-clause-printed_in_part_of_reads
+returns-in-Some-clause-printed_in_part_of_reads g c six =
+    let of = g.F.Files in
+    let files = c.args.files.now in
+    let r = request_of c.in-Some.command in
+    let old = world of files (sink g.O.Sink c.args.out.now) in
+    let new = world of c.perform-ended.new.files (sink g.O.Sink c.perform-ended.new.out) in
+    let also = answer_also (IsKnown of files) (WasRead of) (IsKnownLarge of files) (WasTooLarge of) (λ s b k. k.0) (λ s k. k.0) r in
+    printed_in_part (WasRead of) (WasTooLarge of) (map (string_bytes {Z = Global}) c.args.words.now) r c.in-Some.ensures.command
+    old new (sink g.E.Sink c.args.err.now) (sink g.E.Sink c.report.new.err) c.perform-ended.result (sym c.report.ensures.status ∙ six)
     (did_also (Answer (IsKnown of files) (IsKnownLarge of files) r) (Answer (WasRead of) (WasTooLarge of) r) also r old new c.perform-ended.result c.perform-ended.ensures)

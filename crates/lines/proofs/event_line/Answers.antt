@@ -6,6 +6,6 @@ pub returns : goal.returns
 unfolding event_line
 returns c =
     rw (← c.direction_text.ensures.text, ← c.name_of.ensures) (joined_ten _ _ _ _ _ _ _ _ _ _ _ _ _ _ _ _ _ _ _ _ _
-    c.append_decimal.ensures.bytes c.append.ensures.bytes c.append-2.ensures.bytes c.append-3.ensures.bytes
-    c.append_hexadecimal.ensures.bytes c.append-4.ensures.bytes (rw c.from.ensures at c.append_decimal-2.ensures.bytes) c.append-5.ensures.bytes
+    (rw c.from.ensures at c.append_decimal.ensures.bytes) c.append.ensures.bytes c.append-2.ensures.bytes c.append-3.ensures.bytes
+    c.append_hexadecimal.ensures.bytes c.append-4.ensures.bytes (rw c.from-2.ensures at c.append_decimal-2.ensures.bytes) c.append-5.ensures.bytes
     c.append_hexadecimal-2.ensures.bytes c.append-6.ensures.bytes c.new-line.ensures)

@@ -1,6 +1,6 @@
 use Rattle.std.proofs.Common.{◌∙◌, inl, Some, [], refl, sym, subst, append-nil}
 use Rattle.aces_cli.specs.declared.failure.Done.TheVariants.{Well}
-use Rattle.aces_cli.specs.Requests.{Bin, source}
+use Rattle.aces_cli.specs.Requests.{Bin, file_origin}
 use Rattle.aces_cli.specs.Known.{IsKnown, IsKnownLarge}
 use Rattle.aces_cli.specs.Answer.{Answer, IsNoImage, no_image, wrote, bin_image_large, bin_read, done}
 use Rattle.aces_cli.specs.Did.{Does, world}
@@ -18,10 +18,10 @@ returns-in_err-bytes g c out =
     let new = world g.F.Files c.load.new.files out in
     let x = err_of c.from_residual.result _ c.from_residual.ensures.1 in
     subst (Does all (Bin image file) old new) (sym x.1)
-    (load_failed all large (Bin image file) (source image) old new
+    (load_failed all large (Bin image file) (file_origin image) old new
     (record { held = c.load.ensures.same; write_faults = c.load.ensures.writes; out = refl })
     (inl refl) (λ t n. inl (refl, n)) (λ e. bin_image_large image file e) x.0
-    (subst (IsLoadFailure large old.told old.held (source image) old.read_faults new.read_faults) (sym x.2) c.in_err-bytes.ensures.err))
+    (subst (IsLoadFailure large old.told old.held (file_origin image) old.read_faults new.read_faults) (sym x.2) c.in_err-bytes.ensures.err))
 
 pub returns-in_err-image : goal.returns-in_err-image
 returns-in_err-image g c out =

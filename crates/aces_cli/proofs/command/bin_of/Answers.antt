@@ -1,4 +1,4 @@
-use Rattle.std.proofs.Common.{◌≡◌, ◌∙◌, sym, string_bytes, Global}
+use Rattle.std.proofs.Common.{◌∙◌, sym, string_bytes, Global}
 use Rattle.aces_cli.proofs.Words.{bin_words}
 use Rattle.aces_cli.proofs.command.bin_of.Goals as goal
 

@@ -1,6 +1,6 @@
-use Rattle.std.proofs.Common.{◌≡◌, ◌∙◌, inl, inr, IsTrue, Some, [], Ok, Err, refl, sym, subst, append-nil}
+use Rattle.std.proofs.Common.{◌∙◌, inl, inr, IsTrue, Some, [], refl, sym, subst, append-nil}
 use Rattle.aces_cli.specs.declared.failure.Done.TheVariants.{Well}
-use Rattle.aces_cli.specs.Requests.{Compile, Source, source, firmware_source}
+use Rattle.aces_cli.specs.Requests.{Compile, Origin, file_origin, firmware_origin}
 use Rattle.aces_cli.specs.Known.{Held, Exceeds, WasTooLarge, IsKnown, IsKnownLarge}
 use Rattle.aces_cli.specs.Answer.{Answer, no_firmware, no_board, compiled, compile_firmware_large, compile_board_large, compile_read, done}
 use Rattle.aces_cli.specs.Did.{Does, world}
@@ -19,10 +19,10 @@ returns-in_err-bytes g c out =
     let new = world g.F.Files c.load_firmware.new.files out in
     let x = err_of c.from_residual.result _ c.from_residual.ensures.1 in
     subst (Does all r old new) (sym x.1)
-    (load_failed all large r (firmware_source firmware) old new
+    (load_failed all large r (firmware_origin firmware) old new
     (record { held = c.load_firmware.ensures.same; write_faults = c.load_firmware.ensures.writes; out = refl })
     (inl refl) (λ t n. inl (refl, n)) (λ e. compile_firmware_large firmware c.args.board.now c.args.image.now e) x.0
-    (subst (IsLoadFailure large old.told old.held (firmware_source firmware) old.read_faults new.read_faults) (sym x.2) c.in_err-bytes.ensures.err))
+    (subst (IsLoadFailure large old.told old.held (firmware_origin firmware) old.read_faults new.read_faults) (sym x.2) c.in_err-bytes.ensures.err))
 
 pub returns-in_err-text : goal.returns-in_err-text
 returns-in_err-text g c out =
@@ -31,18 +31,18 @@ returns-in_err-text g c out =
     let image = c.args.image.now in
     let r = Compile firmware board image in
     let told = g.F.Files.told in
-    let large : Held → Source → Type 0 = λ held s. WasTooLarge g.F.Files s × (IsTrue told → Exceeds held s) in
+    let large : Held → Origin → Type 0 = λ held s. WasTooLarge g.F.Files s × (IsTrue told → Exceeds held s) in
     let all = Answer (IsKnown g.F.Files c.args.files.now) (IsKnownLarge g.F.Files c.args.files.now) r in
     let old = world g.F.Files c.args.files.now out in
     let mid = world g.F.Files c.load_firmware.new.files out in
     let new = world g.F.Files c.load.new.files out in
     let bytes = c.in_ok-bytes.bytes.items in
     let x = err_of c.from_residual-in_err-text.result _ c.from_residual-in_err-text.ensures.1 in
-    let failed = subst (IsLoadFailure (large mid.held) told mid.held (source board) mid.read_faults new.read_faults) (sym x.2) c.in_err-text.ensures.err in
-    let held_too = subst (λ h. IsLoadFailure (large h) told h (source board) mid.read_faults new.read_faults x.0) c.load_firmware.ensures.same failed in
-    let reads_too = subst (λ k. IsLoadFailure (large old.held) told old.held (source board) k new.read_faults x.0) c.in_ok-bytes.ensures.reads held_too in
+    let failed = subst (IsLoadFailure (large mid.held) told mid.held (file_origin board) mid.read_faults new.read_faults) (sym x.2) c.in_err-text.ensures.err in
+    let held_too = subst (λ h. IsLoadFailure (large h) told h (file_origin board) mid.read_faults new.read_faults x.0) c.load_firmware.ensures.same failed in
+    let reads_too = subst (λ k. IsLoadFailure (large old.held) told old.held (file_origin board) k new.read_faults x.0) c.in_ok-bytes.ensures.reads held_too in
     subst (Does all r old new) (sym x.1)
-    (load_failed all (large old.held) r (source board) old new
+    (load_failed all (large old.held) r (file_origin board) old new
     (record { held = c.load.ensures.same ∙ c.load_firmware.ensures.same; write_faults = c.load.ensures.writes ∙ c.load_firmware.ensures.writes; out = refl })
     (inr (inl refl)) (λ t n. inr ((bytes, c.in_ok-bytes.ensures.ok.1 t), inl (refl, n)))
     (λ e. compile_board_large firmware board image bytes c.in_ok-bytes.ensures.ok e) x.0 reads_too)

@@ -1,5 +1,5 @@
 use Rattle.std.proofs.Common.{◌∙◌, inl, inr, IsTrue, refl, sym, subst}
-use Rattle.aces_cli.specs.Requests.{Run, Source, source}
+use Rattle.aces_cli.specs.Requests.{Run, Origin, file_origin}
 use Rattle.aces_cli.specs.Known.{Held, Exceeds, WasTooLarge, IsKnown, IsKnownLarge}
 use Rattle.aces_cli.specs.Answer.{Answer, RunAnswer, run_image_large, run_tape_large, run_read}
 use Rattle.aces_cli.specs.Did.{Does, sink, world}
@@ -17,10 +17,10 @@ returns-in_err-bytes g c =
     let new = world g.F.Files c.load.new.files (sink g.O.Sink c.args.out.now) in
     let x = err_of c.from_residual.result _ c.from_residual.ensures.1 in
     subst (Does all r old new) (sym x.1)
-    (load_failed all large r (source image) old new
+    (load_failed all large r (file_origin image) old new
     (record { held = c.load.ensures.same; write_faults = c.load.ensures.writes; out = refl })
     (inl refl) (λ t n. inl (refl, n)) (λ e. run_image_large image c.args.tape.now c.args.steps e) x.0
-    (subst (IsLoadFailure large old.told old.held (source image) old.read_faults new.read_faults) (sym x.2) c.in_err-bytes.ensures.err))
+    (subst (IsLoadFailure large old.told old.held (file_origin image) old.read_faults new.read_faults) (sym x.2) c.in_err-bytes.ensures.err))
 
 pub returns-in_err-text : goal.returns-in_err-text
 returns-in_err-text g c =
@@ -28,18 +28,18 @@ returns-in_err-text g c =
     let tape = c.args.tape.now in
     let r = Run image tape c.args.steps in
     let told = g.F.Files.told in
-    let large : Held → Source → Type 0 = λ held s. WasTooLarge g.F.Files s × (IsTrue told → Exceeds held s) in
+    let large : Held → Origin → Type 0 = λ held s. WasTooLarge g.F.Files s × (IsTrue told → Exceeds held s) in
     let all = Answer (IsKnown g.F.Files c.args.files.now) (IsKnownLarge g.F.Files c.args.files.now) r in
     let old = world g.F.Files c.args.files.now (sink g.O.Sink c.args.out.now) in
     let mid = world g.F.Files c.load.new.files (sink g.O.Sink c.args.out.now) in
     let new = world g.F.Files c.load-2.new.files (sink g.O.Sink c.args.out.now) in
     let bytes = c.in_ok-bytes.bytes.items in
     let x = err_of c.from_residual-in_err-text.result _ c.from_residual-in_err-text.ensures.1 in
-    let failed = subst (IsLoadFailure (large mid.held) told mid.held (source tape) mid.read_faults new.read_faults) (sym x.2) c.in_err-text.ensures.err in
-    let held_too = subst (λ h. IsLoadFailure (large h) told h (source tape) mid.read_faults new.read_faults x.0) c.load.ensures.same failed in
-    let reads_too = subst (λ k. IsLoadFailure (large old.held) told old.held (source tape) k new.read_faults x.0) c.in_ok-bytes.ensures.reads held_too in
+    let failed = subst (IsLoadFailure (large mid.held) told mid.held (file_origin tape) mid.read_faults new.read_faults) (sym x.2) c.in_err-text.ensures.err in
+    let held_too = subst (λ h. IsLoadFailure (large h) told h (file_origin tape) mid.read_faults new.read_faults x.0) c.load.ensures.same failed in
+    let reads_too = subst (λ k. IsLoadFailure (large old.held) told old.held (file_origin tape) k new.read_faults x.0) c.in_ok-bytes.ensures.reads held_too in
     subst (Does all r old new) (sym x.1)
-    (load_failed all (large old.held) r (source tape) old new
+    (load_failed all (large old.held) r (file_origin tape) old new
     (record { held = c.load-2.ensures.same ∙ c.load.ensures.same; write_faults = c.load-2.ensures.writes ∙ c.load.ensures.writes; out = refl })
     (inr (inl refl)) (λ t n. inr ((bytes, c.in_ok-bytes.ensures.ok.1 t), inl (refl, n)))
     (λ e. run_tape_large image tape c.args.steps bytes c.in_ok-bytes.ensures.ok e) x.0 reads_too)

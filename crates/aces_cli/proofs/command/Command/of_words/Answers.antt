@@ -1,7 +1,11 @@
 use Rattle.std.proofs.Common.{map, string_bytes, Global}
-use Rattle.aces_cli.proofs.Words.{no_request}
+use Rattle.aces_cli.specs.Requests.{IsUsage}
+use Rattle.aces_cli.proofs.Words.{none_also, no_request}
 use Rattle.aces_cli.proofs.command.Command.of_words.Goals as goal
 
-pub returns-in-None-compile_of-clause-usage : goal.returns-in-None-compile_of-clause-usage
-returns-in-None-compile_of-clause-usage c =
-    no_request (map (string_bytes {Z = Global}) c.args.words.now) c.in-None.ensures.none c.in-None-bin_of.ensures.none c.in-None-compile_of.ensures.none
+pub returns-clause-usage : goal.returns-clause-usage
+returns-clause-usage c =
+    let words = map (string_bytes {Z = Global}) c.args.words.now in
+    none_also c.source_of.result _ (IsUsage words)
+    (no_request words c.in_default.ensures.none c.in_default-bin_of.ensures.none c.in_default-compile_of.ensures.none c.in_default-check_of.ensures.none)
+    c.source_of.ensures.none

@@ -1,0 +1,18 @@
+-- A run of the source on the bytes of a firmware and of a tape.
+use Rattle.std.proofs.Common.{◌≡◌, ℕ, List, None, map, ap, sym, ◌∙◌}
+use Rattle.mem_bus.specs.declared.image.Window.{Window}
+use Rattle.mem_bus.specs.Tape.{first_fault}
+use Rattle.ir_model.specs.declared.firmware.Firmware.{Firmware}
+use Rattle.ir_model.specs.declared.firmware.Peripheral.{Peripheral}
+use Rattle.ir_model.specs.Plain.{firmware_of}
+use Rattle.ir_resolve.specs.Windows.{window_of, windows_of}
+use Rattle.aces_cli.specs.Answer.{IsFirmware, SourceAnswer, ran, source_outcome}
+
+-- the windows that are made of a firmware's peripherals
+pub windows_made : (w v : Firmware) (periphs : List Peripheral) (made lent : List Window) → made ≡ map window_of periphs → periphs ≡ v.periphs → v ≡ w → lent ≡ made → lent ≡ windows_of (firmware_of w)
+windows_made w v periphs made lent m p s l = l ∙ (m ∙ ap (map window_of) (p ∙ ap (λ (f : Firmware). f.periphs) s))
+
+-- what is answered of a run
+pub has_run : (firmware tape : List ℕ) (steps : ℕ) (bytes text : List ℕ) (w : Firmware) (windows : List Window) → IsFirmware (firmware_of w) bytes → windows ≡ windows_of (firmware_of w)
+    → first_fault text windows ≡ None → SourceAnswer firmware tape steps bytes text (source_outcome (firmware_of w) text steps)
+has_run firmware tape steps bytes text w windows f e n = ran (firmware_of w) f (ap (first_fault text) (sym e) ∙ n)

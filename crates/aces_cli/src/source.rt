@@ -1,0 +1,84 @@
+//! `source`: the source of a firmware, run on recorded device input.
+
+ghost use Rattle.std.specs.Prelude.{◌≡◌, ◌≤◌, ℕ, Bool, Ok, length};
+ghost use Rattle.source_output.specs.Ends.{seen_end};
+ghost use Rattle.source_output.specs.SourceRuns.{end_status};
+ghost use Rattle.aces_cli.specs.Requests.{Source, file_limit, firmware_limit};
+ghost use Rattle.aces_cli.specs.Known.{Held, IsKnown, IsKnownLarge};
+ghost use Rattle.aces_cli.specs.Answer.{Answer, SourceAnswer};
+ghost use Rattle.aces_cli.specs.Did.{Does, sink, world, status_of};
+
+use crate::failure::{Done, Failure};
+use crate::loading::{firmware_of, load, load_firmware, tape_of};
+use ir_resolve::windows::windows;
+use ir_run::outcome::SourceEnd;
+use outside::{Files, Sink};
+use source_output::{Broken, print_source};
+use std::alloc::Global;
+
+/// Runs the source of a firmware on a tape for at most so many steps, each file of it being a compartment, and prints the
+/// events and the end.
+pub(crate) fn source<'a, F: Files, O: Sink>(
+    alloc: Global,
+    firmware: &'a str,
+    tape: &'a str,
+    steps: u32,
+    files: &mut F,
+    out: &mut O,
+) -> Result<Done, Failure<'a>>
+    ensures { Does
+        (Answer (IsKnown F.Files files.old) (IsKnownLarge F.Files files.old) (Source firmware.now tape.now steps))
+        (Source firmware.now tape.now steps)
+        (world F.Files files.old (sink O.Sink out.old))
+        (world F.Files files.new (sink O.Sink out.new)) result }
+{
+    let bytes = load_firmware(alloc, files, firmware)?;
+    let text = load(alloc, files, tape)?;
+    source_texts(
+        alloc,
+        firmware,
+        bytes.as_slice(),
+        tape,
+        text.as_slice(),
+        steps,
+        out,
+    )
+}
+
+/// The same on the bytes of both files, each behind its name. No file is touched.
+fn source_texts<'a, O: Sink>(
+    alloc: Global,
+    firmware: &'a str,
+    bytes: &[u8],
+    tape: &'a str,
+    text: &[u8],
+    steps: u32,
+    out: &mut O,
+) -> Result<Done, Failure<'a>>
+    requires firmware_fits { length bytes.now ≤ firmware_limit }
+    requires tape_fits { length text.now ≤ file_limit }
+    ensures { (told : Bool) (held : Held) (reads writes : ℕ) → Does
+        (SourceAnswer firmware.now tape.now steps bytes.now text.now) (Source firmware.now tape.now steps)
+        (record { told = told; held = held; read_faults = reads; write_faults = writes; out = sink O.Sink out.old })
+        (record { told = told; held = held; read_faults = reads; write_faults = writes; out = sink O.Sink out.new })
+        result }
+{
+    let checked = firmware_of(alloc, firmware, bytes)?;
+    let windows = windows(alloc, checked.firmware().periphs.as_slice())?;
+    let tape_read = tape_of(alloc, tape, text, windows.as_slice())?;
+    match print_source(alloc, &checked, windows.as_slice(), tape_read, steps, out) {
+        Ok(end) => Ok(done(end)),
+        Err(Broken::Unprinted) => Err(Failure::Unprinted),
+        Err(Broken::NoMemory) => Err(Failure::NoMemory),
+    }
+}
+
+/// How a run ends that ends so; none where it ran all its steps.
+fn done(end: Option<SourceEnd>) -> Done
+    ensures { status_of (Ok result) ≡ end_status (seen_end end) }
+{
+    match end {
+        Some(SourceEnd::Fault(_)) => Done::Badly,
+        Some(SourceEnd::Returned | SourceEnd::InputEnd) | None => Done::Well,
+    }
+}

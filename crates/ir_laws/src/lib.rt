@@ -1,0 +1,20 @@
+//! Laws of the firmware language: functions that do nothing, whose contract is the law.
+#![tactic(auto)]
+
+ghost use Rattle.ir_laws.specs.Laws.{CellsOfTypes, CellsOfFirmwares, FramesStayOrdered, EventsAreDeclared};
+
+/// The cells of a type lie apart and inside it; so do those of each global and each local of a firmware.
+pub fn cells()
+    ensures types { CellsOfTypes }
+    ensures firmwares { CellsOfFirmwares }
+{}
+
+/// The frames of a source run stand in the order in which they were made.
+pub fn frames()
+    ensures { FramesStayOrdered }
+{}
+
+/// Each event of a source run is an access inside the window of a declared peripheral.
+pub fn events()
+    ensures { EventsAreDeclared }
+{}

@@ -1,0 +1,9 @@
+-- What stands at a place, as the definition's.
+use Rattle.ir_model.specs.Resolved as plain
+use Rattle.ir_resolve.specs.Seen.{operation_of, exit_of}
+use Rattle.ir_run.specs.declared.place.Here.{Here}
+use Rattle.ir_run.specs.declared.place.Here.TheVariants.{Does, Ends}
+
+abbrev pub here_of : Here → plain.Here
+here_of (Does operation) = plain.Does (operation_of operation.now)
+here_of (Ends exit) = plain.Ends (exit_of exit)

@@ -1,0 +1,175 @@
+//! Runs of the source of a firmware.
+
+ghost use Rattle.std.specs.Prelude.{◌≡◌, ◌-◌, ◌^◌, ◌<◌, IfOk, OnErr, OnOk};
+ghost use Rattle.ir_laws.specs.Laws.{HasCellsApart, HasOrderedFrames};
+ghost use Rattle.ir_model.specs.Step.{source_turn, source_step};
+ghost use Rattle.ir_resolve.specs.Seen.{program_of};
+ghost use Rattle.ir_run.specs.Runs.{IsAnswer};
+ghost use Rattle.ir_run.specs.Phases.{state_of};
+
+use crate::outcome::{SourceEnd, SourceStep};
+use crate::parts::Parts;
+use crate::starting::started;
+use crate::turn::turn;
+use ir_laws::{cells, events, frames};
+use ir_model::checked::Checked;
+use ir_resolve::program::Program;
+use ir_resolve::resolving::resolve;
+use listed::Listed;
+use mem_bus::tape::Tape;
+use std::alloc::{AllocError, Global};
+use std::marker::Model;
+
+/// How far a run is.
+#[derive(Drop)]
+enum Phase {
+    /// It goes on.
+    Running(Parts),
+    /// It has ended so.
+    Ended(SourceEnd),
+}
+
+// One instruction or block end of a run, or the end that it has come to.
+#[tactic(auto, unfolding(ir_model::specs::Step::source_turn))]
+fn go_on(
+    alloc: Global,
+    program: &Program,
+    compartments: &[u32],
+    phase: &mut Phase,
+) -> Result<SourceStep, AllocError>
+    requires cells { HasCellsApart (program_of program.now) }
+    requires frames { HasOrderedFrames (state_of phase.old) }
+    ensures says { IfOk result (λ answer. IsAnswer (source_turn (program_of program.now) compartments.now (state_of phase.old)) answer) }
+    ensures goes { OnOk result (state_of phase.new ≡ source_step (program_of program.now) compartments.now (state_of phase.old)) }
+    ensures err { OnErr result (state_of phase.new ≡ state_of phase.old) }
+{
+    let answer = match phase {
+        Phase::Running(parts) => turn(alloc, program, compartments, parts)?,
+        Phase::Ended(end) => SourceStep::Ended(*end),
+    };
+    if let SourceStep::Ended(end) = answer {
+        *phase = Phase::Ended(end);
+    }
+    Ok(answer)
+}
+
+/// A run of the source of a firmware on recorded device input, one instruction or block end a step.
+#[derive(Drop)]
+pub struct SourceRun<'a> {
+    alloc: Global,
+    program: Program<'a>,
+    compartments: Listed<u32>,
+    phase: Phase,
+    taken: u64,
+}
+
+impl<'a> Model for SourceRun<'a> {
+    ghost use Rattle.ir_resolve.specs.Seen.{program_of};
+    ghost use Rattle.ir_run.specs.Runs.{RunState, IsRun};
+    ghost use Rattle.ir_run.specs.Phases.{state_of};
+
+    ghost Value = { RunState };
+
+    ghost use Rattle.std.specs.Coded.{codes};
+    ghost use Rattle.ir_run.specs.Codes.{coded_type, coded_row, coded_outcome};
+
+    ghost coded = { Prim.hlevel (coded_type, coded_row, coded_outcome, codes) };
+
+    ghost view = { λ r. record { program = program_of r.program; compartments = r.compartments; state = state_of r.phase; taken = r.taken } };
+
+    ghost invariant = { λ r. IsRun (record { program = program_of r.program; compartments = r.compartments; state = state_of r.phase; taken = r.taken }) };
+}
+
+impl<'a> SourceRun<'a> {
+    ghost use Rattle.ir_model.specs.Plain.{firmware_of};
+    ghost use Rattle.ir_model.specs.Resolve.{resolve};
+    ghost use Rattle.ir_model.specs.State as state;
+    ghost use Rattle.ir_laws.specs.Laws.{HasCellsApart};
+    ghost use Rattle.ir_resolve.specs.Seen.{program_of};
+    ghost use Rattle.ir_run.specs.Runs.{IsStep, AnswersDeclared};
+
+    /// The run of a firmware that has the compartment of each of its functions, by their numbers, and the words that
+    /// each peripheral gives: `main` is entered.
+    ///
+    /// # Errors
+    ///
+    /// There is no memory for it.
+    pub fn start(
+        alloc: Global,
+        firmware: &'a Checked,
+        compartments: Vec<u32>,
+        tape: Tape,
+    ) -> Result<SourceRun<'a>, AllocError>
+        ensures { IfOk result (λ run. run ≡ record {
+            program = resolve (firmware_of firmware.now);
+            compartments = compartments.items;
+            state = state.start (resolve (firmware_of firmware.now)) tape;
+            taken = 0;
+        }) }
+    {
+        let program = resolve(alloc, firmware)?;
+        cells();
+        SourceRun::over(alloc, program, compartments, tape)
+    }
+
+    /// The run of a program in place of a firmware.
+    ///
+    /// # Errors
+    ///
+    /// There is no memory for it.
+    pub(crate) fn over(
+        alloc: Global,
+        program: Program<'a>,
+        compartments: Vec<u32>,
+        tape: Tape,
+    ) -> Result<SourceRun<'a>, AllocError>
+        requires { HasCellsApart (program_of program) }
+        ensures { IfOk result (λ run. run ≡ record {
+            program = program_of program.entry;
+            compartments = compartments.items;
+            state = state.start (program_of program.entry) tape;
+            taken = 0;
+        }) }
+    {
+        let parts = started(alloc, &program, tape)?;
+        frames();
+        Ok(SourceRun {
+            alloc,
+            program,
+            compartments: Listed::new(compartments),
+            phase: Phase::Running(parts),
+            taken: 0,
+        })
+    }
+
+    /// One instruction or block end. A run that has ended answers its end again. Where there is no memory, the run is
+    /// as before.
+    ///
+    /// # Errors
+    ///
+    /// There is no memory for it.
+    pub fn step(&mut self) -> Result<SourceStep, AllocError>
+        requires { self.old.taken < 2 ^ 64 - 1 }
+        ensures step { IfOk result (λ answer. IsStep self.old answer self.new) }
+        ensures declared { IfOk result (AnswersDeclared self.old.program) }
+        ensures err { OnErr result (self.new ≡ self.old) }
+    {
+        frames();
+        events();
+        let answer = go_on(
+            self.alloc,
+            &self.program,
+            self.compartments.as_slice(),
+            &mut self.phase,
+        )?;
+        self.taken += 1;
+        Ok(answer)
+    }
+
+    /// How many steps were answered so far.
+    pub fn taken(&self) -> u64
+        ensures { result ≡ self.now.taken }
+    {
+        self.taken
+    }
+}

@@ -1,0 +1,182 @@
+//! One instruction or block end.
+
+ghost use Rattle.std.specs.Prelude.{◌≡◌, ◌∷◌, map, IfOk, OnErr};
+ghost use Rattle.ir_laws.specs.Laws.{HasCellsApart, HasOrderedFrames};
+ghost use Rattle.ir_model.specs.Resolved.{global_at};
+ghost use Rattle.ir_model.specs.Step as step;
+ghost use Rattle.ir_resolve.specs.Seen.{value_of, instance_of, pointee_of, program_of};
+ghost use Rattle.ir_run.specs.Acts.{frame_of, act_of};
+ghost use Rattle.ir_run.specs.States.{running_of, memory_of, Answers};
+
+use crate::accesses::{global_cell, keep, load_global, store_global};
+use crate::act::act;
+use crate::calls::{enter, leave};
+use crate::cells::cut_value;
+use crate::local::Local;
+use crate::locals::{load_local, store_local};
+use crate::outcome::{FaultKind, SourceEnd, SourceStep};
+use crate::parts::Parts;
+use crate::place::Here;
+use crate::places::here;
+use crate::ports::{in_window, load_port, store_port};
+use crate::request::Act;
+use ir_model::types::Ty;
+use ir_resolve::program::Program;
+use ir_resolve::value::{Instance, Value};
+use std::alloc::{AllocError, Global};
+
+/// Whether a global is never written.
+pub fn is_constant(program: &Program, global: usize) -> bool
+    ensures { result ≡ (global_at (program_of program.now) global).constant }
+{
+    let globals = program.globals.as_slice();
+    global < globals.len() && globals[global].constant
+}
+
+/// A load from an object.
+///
+/// # Errors
+///
+/// There is no number for the next place or for the peripheral; the state is as before.
+pub fn load(
+    program: &Program,
+    compartments: &[u32],
+    parts: &mut Parts,
+    to: usize,
+    instance: Instance,
+    at: u32,
+    ty: Option<&Ty>,
+) -> Result<SourceStep, AllocError>
+    requires cells { HasCellsApart (program_of program.now) }
+    requires frames { HasOrderedFrames (running_of parts.old) }
+    ensures ok { IfOk result (λ a. Answers (step.load (program_of program.now) compartments.now (frame_of parts.old.top) (map frame_of parts.old.below) (memory_of parts.old) to (instance_of instance) at (pointee_of ty.entry)) a parts.new) }
+    ensures err { OnErr result (running_of parts.new ≡ running_of parts.old) }
+{
+    match instance {
+        Instance::Global(global) => {
+            let cell = global_cell(program, global, at, ty);
+            load_global(parts, to, global, cell)
+        }
+        Instance::Local { func, frame, local } => {
+            let of = Local { func, frame, local };
+            load_local(program, parts, to, of, at, ty)
+        }
+        Instance::Periph(periph) => {
+            if in_window(program, periph, at, ty) {
+                load_port(parts, compartments, to, periph, at, ty)
+            } else {
+                Ok(SourceStep::Ended(SourceEnd::Fault(FaultKind::NoCell)))
+            }
+        }
+    }
+}
+
+/// A store into an object of a value that is cut to the width of the cell.
+///
+/// # Errors
+///
+/// There is no number for the next place or for the peripheral; the state is as before.
+pub fn store(
+    program: &Program,
+    compartments: &[u32],
+    parts: &mut Parts,
+    instance: Instance,
+    at: u32,
+    ty: Option<&Ty>,
+    value: Value,
+) -> Result<SourceStep, AllocError>
+    requires cells { HasCellsApart (program_of program.now) }
+    requires frames { HasOrderedFrames (running_of parts.old) }
+    ensures ok { IfOk result (λ a. Answers (step.store (program_of program.now) compartments.now (frame_of parts.old.top) (map frame_of parts.old.below) (memory_of parts.old) (instance_of instance) at (pointee_of ty.entry) (value_of value)) a parts.new) }
+    ensures err { OnErr result (running_of parts.new ≡ running_of parts.old) }
+{
+    match instance {
+        Instance::Global(global) => {
+            let cell = global_cell(program, global, at, ty);
+            store_global(parts, global, is_constant(program, global), value, cell)
+        }
+        Instance::Local { func, frame, local } => {
+            let of = Local { func, frame, local };
+            store_local(program, parts, of, at, ty, value)
+        }
+        Instance::Periph(periph) => {
+            if in_window(program, periph, at, ty) {
+                store_port(parts, compartments, periph, at, ty, value)
+            } else {
+                Ok(SourceStep::Ended(SourceEnd::Fault(FaultKind::NoCell)))
+            }
+        }
+    }
+}
+
+/// Does what an instruction asks for.
+///
+/// # Errors
+///
+/// There is no memory for it, or no number for the next place, the peripheral or the frame; the state is as before.
+#[tactic(auto, unfolding(ir_model::specs::Step::perform))]
+pub fn perform(
+    alloc: Global,
+    program: &Program,
+    compartments: &[u32],
+    parts: &mut Parts,
+    asked: Act,
+) -> Result<SourceStep, AllocError>
+    requires cells { HasCellsApart (program_of program.now) }
+    requires frames { HasOrderedFrames (running_of parts.old) }
+    ensures ok { IfOk result (λ a. Answers (step.perform (program_of program.now) compartments.now (frame_of parts.old.top) (map frame_of parts.old.below) (memory_of parts.old) (act_of asked.entry)) a parts.new) }
+    ensures err { OnErr result (running_of parts.new ≡ running_of parts.old) }
+{
+    match asked {
+        Act::Sets { to, value } => {
+            keep(parts, to, value)?;
+            Ok(SourceStep::Ran)
+        }
+        Act::Fails(fault) => Ok(SourceStep::Ended(SourceEnd::Fault(fault))),
+        Act::Loads {
+            to,
+            instance,
+            offset,
+            ty,
+        } => load(program, compartments, parts, to, instance, offset, ty),
+        Act::Stores {
+            instance,
+            offset,
+            ty,
+            value,
+        } => {
+            let cut = cut_value(ty, value);
+            store(program, compartments, parts, instance, offset, ty, cut)
+        }
+        Act::Enters { func, args } => {
+            enter(alloc, program, parts, func, args.as_slice())?;
+            Ok(SourceStep::Ran)
+        }
+    }
+}
+
+/// One instruction or block end of the running frame.
+///
+/// # Errors
+///
+/// There is no memory for it, or no number for the next place, the peripheral or the frame; the state is as before.
+#[tactic(auto, unfolding(ir_model::specs::Step::source_turn))]
+pub fn turn(
+    alloc: Global,
+    program: &Program,
+    compartments: &[u32],
+    parts: &mut Parts,
+) -> Result<SourceStep, AllocError>
+    requires cells { HasCellsApart (program_of program.now) }
+    requires frames { HasOrderedFrames (running_of parts.old) }
+    ensures ok { IfOk result (λ a. Answers (step.source_turn (program_of program.now) compartments.now (running_of parts.old)) a parts.new) }
+    ensures err { OnErr result (running_of parts.new ≡ running_of parts.old) }
+{
+    match here(program, parts.top.func, parts.top.block, parts.top.place) {
+        Here::Does(operation) => {
+            let asked = act(alloc, &parts.top, operation)?;
+            perform(alloc, program, compartments, parts, asked)
+        }
+        Here::Ends(exit) => leave(program, parts, exit),
+    }
+}

@@ -1,0 +1,80 @@
+-- What holds of a firmware's run before its first step, and of its windows.
+use Rattle.std.proofs.Common.{◌≡◌, ℕ, zero, suc, ◌+◌, ◌≤◌, Bool, true, false, List, [], ◌∷◌, ◌++◌, length, map, Option, Some, None, refl, ap, sym, ◌∙◌, arith}
+use Rattle.std.specs.Prelude.{if◌then◌else◌, nat_le}
+use Rattle.std.proofs.lemmas.Bool.Decides.{nat_tests}
+use Rattle.std.proofs.lemmas.List.{length-map}
+use Rattle.mem_bus.specs.declared.image.Window.{Window}
+use Rattle.ir_model.specs.declared.firmware.Peripheral.{Peripheral}
+use Rattle.ir_model.specs.declared.token.Excess.{Excess}
+use Rattle.ir_model.specs.declared.token.Excess.TheVariants.{Passes}
+use Rattle.ir_model.specs.declared.token.TextLimit.TheVariants as limit
+use Rattle.ir_model.specs.Plain.{PlainFirmware}
+use Rattle.ir_model.specs.Lines.{Line, word_excess, struct_lines, periph_lines, global_lines, file_lines, lines_of}
+use Rattle.ir_model.specs.Canonical.{Each, PassesNothing, IsWithinLimits}
+use Rattle.ir_model.specs.Resolved.{Program}
+use Rattle.ir_model.specs.Resolve.{resolve}
+use Rattle.ir_model.specs.State.{start}
+use Rattle.ir_resolve.specs.Windows.{window_of, windows_of}
+use Rattle.ir_run.specs.Runs.{RunState}
+use Rattle.lines.specs.Lines.{name_of}
+use Rattle.source_output.specs.Compartments.{compartments_of}
+use Rattle.source_output.specs.SourceRuns.{ending_of, end_of, event_lines, source_end, source_event_lines}
+
+pub goes_at_first : (p : Program) (queues : List (List ℕ)) → ending_of (start p queues) ≡ None
+unfolding start
+goes_at_first p queues = refl
+
+-- there are as many windows as the program has peripherals
+pub as_many : (w : PlainFirmware) → length (windows_of w) ≡ length (resolve w).periphs
+unfolding resolve
+as_many w = length-map w.periphs window_of ∙ sym (length-map w.periphs (λ (q : Peripheral). q.size))
+
+each_left : {A : Type 0} (P : A → Type 0) (xs ys : List A) → Each P (xs ++ ys) → Each P xs
+each_left P [] ys h = tt
+each_left P (x ∷ xs) ys h = (h.0, each_left P xs ys h.1)
+
+each_right : {A : Type 0} (P : A → Type 0) (xs ys : List A) → Each P (xs ++ ys) → Each P ys
+each_right P [] ys h = h
+each_right P (x ∷ xs) ys h = each_right P xs ys h.1
+
+abbrev nothing_passed : Option Excess
+nothing_passed = None
+
+short_by : (b : Bool) → (if b then nothing_passed else Some (Passes limit.Name)) ≡ None → b ≡ true
+short_by true h = refl
+short_by false h = cc
+
+is_short : (word : List ℕ) → word_excess word ≡ None → length word ≤ 64
+is_short word h = let t : nat_le (length word) 64 ≡ true = short_by (nat_le (length word) 64) h in grind (arith, nat_tests)
+
+abbrev Quiet : Line → Type 0
+Quiet l = Each PassesNothing l
+
+short_at : (before : ℕ) (ps : List Peripheral) (k : ℕ) → Each Quiet (periph_lines before ps) → length (name_of (map window_of ps) k) ≤ 64
+short_at before [] k h = let e : 0 ≤ 64 = omega arith in e
+short_at before (q ∷ qs) zero h = is_short q.name h.0.1.0
+short_at before (q ∷ qs) (suc k) h = short_at (before + 1) qs k h.1
+
+-- the name of each window has at most 64 bytes
+pub names_are_short : (w : PlainFirmware) → IsWithinLimits w → (k : ℕ) → length (name_of (windows_of w) k) ≤ 64
+unfolding lines_of
+names_are_short w h k =
+    let structs = struct_lines 0 w.structs in
+    let periphs = periph_lines 0 w.periphs in
+    let globals = global_lines 0 w.globals in
+    let front = each_left Quiet (structs ++ periphs) globals (each_left Quiet (structs ++ periphs ++ globals) (file_lines 0 0 w.files) h.tokens) in
+    short_at 0 w.periphs k (each_right Quiet structs periphs front)
+
+-- a run that begins as that of a firmware has its lines and its end
+module _ (w : PlainFirmware) (queues : List (List ℕ)) (n : ℕ) (r : RunState) (c : List ℕ)
+    (begins : r ≡ record { program = resolve w; compartments = c; state = start (resolve w) queues; taken = 0 }) (same : c ≡ compartments_of w) where
+  pub lines_of_run : (ws : List Window) → ws ≡ windows_of w → event_lines r.program r.compartments ws n r.state ≡ source_event_lines w queues n
+  lines_of_run ws e =
+      ap (λ (x : RunState). event_lines x.program x.compartments ws n x.state) begins
+      ∙ ap (λ d. event_lines (resolve w) d ws n (start (resolve w) queues)) same
+      ∙ ap (λ v. event_lines (resolve w) (compartments_of w) v n (start (resolve w) queues)) e
+
+  pub end_of_run : end_of r.program r.compartments n r.state ≡ source_end w queues n
+  end_of_run =
+      ap (λ (x : RunState). end_of x.program x.compartments n x.state) begins
+      ∙ ap (λ d. end_of (resolve w) d n (start (resolve w) queues)) same

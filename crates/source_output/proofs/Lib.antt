@@ -1,0 +1,4 @@
+pub mod Running
+pub mod Prefixes
+pub mod Sources
+pub mod Begins

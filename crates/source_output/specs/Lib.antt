@@ -1,0 +1,3 @@
+pub mod Compartments
+pub mod SourceRuns
+pub mod Ends

@@ -1,0 +1,89 @@
+//! A run of the source of a firmware, printed line by line.
+#![tactic(auto)]
+
+ghost use Rattle.std.specs.Prelude.{◌≡◌, ◌++◌, IsTrue, IfOk, IfErr, OnOk, OnErr};
+ghost use Rattle.outside.specs.Contents.{AddsPrefix};
+ghost use Rattle.ir_model.specs.Plain.{firmware_of};
+ghost use Rattle.ir_resolve.specs.Windows.{windows_of};
+ghost use Rattle.source_output.specs.SourceRuns.{source_end, source_lines};
+ghost use Rattle.source_output.specs.Ends.{seen_end, IsCause};
+
+pub mod compartments;
+mod ending;
+mod stepping;
+#[cfg(test)]
+mod tests;
+
+use compartments::compartments;
+use ending::end_line;
+use ir_model::checked::Checked;
+use ir_run::outcome::SourceEnd;
+use ir_run::run::SourceRun;
+use mem_bus::image::Window;
+use mem_bus::tape::Tape;
+use outside::{Failed, Sink};
+use std::alloc::{AllocError, Global};
+use stepping::print_events;
+use thiserror::Error;
+
+/// Why a run was broken off.
+#[derive(Clone, Copy, PartialEq, Eq, Debug, Error)]
+pub enum Broken {
+    /// A line was not put.
+    #[error("a line was not put")]
+    Unprinted,
+    /// Memory ran out.
+    #[error("out of memory")]
+    NoMemory,
+}
+
+impl From<AllocError> for Broken {
+    ghost use Rattle.source_output.specs.declared.Broken.TheVariants.{NoMemory};
+
+    ghost from_gives = { λ _ broken. broken ≡ NoMemory };
+
+    fn from(_error: AllocError) -> Broken {
+        Broken::NoMemory
+    }
+}
+
+impl From<Failed> for Broken {
+    ghost use Rattle.source_output.specs.declared.Broken.TheVariants.{Unprinted};
+
+    ghost from_gives = { λ _ broken. broken ≡ Unprinted };
+
+    fn from(_error: Failed) -> Broken {
+        Broken::Unprinted
+    }
+}
+
+/// Runs the source of a firmware on a tape for at most so many steps, each of its files being a compartment. Puts the line
+/// of each event, and then that of the end, by one put each. Answers how it ended; none where it ran all the steps without
+/// an end.
+///
+/// # Errors
+///
+/// A put failed, and it was the last; or there was no memory for a step. The lines up to there are put.
+pub fn print_source<O: Sink>(
+    alloc: Global,
+    firmware: &Checked,
+    windows: &[Window],
+    tape: Tape,
+    steps: u32,
+    out: &mut O,
+) -> Result<Option<SourceEnd>, Broken>
+    requires { windows.now ≡ windows_of (firmware_of firmware.now) }
+    ensures end { IfOk result (λ end. seen_end end ≡ source_end (firmware_of firmware.now) tape steps) }
+    ensures lines { IsTrue O.told → OnOk result
+        (O.written out.new ≡ O.written out.old ++ source_lines (firmware_of firmware.now) tape steps) }
+    ensures faultless { OnOk result (O.faults out.new ≡ O.faults out.old) }
+    ensures cause { IfErr result (IsCause (O.faults out.old) (O.faults out.new)) }
+    ensures part { IsTrue O.told → OnErr result
+        (AddsPrefix (O.written out.old) (O.written out.new) (source_lines (firmware_of firmware.now) tape steps)) }
+{
+    let compartments = compartments(alloc, firmware.firmware())?;
+    let mut run = SourceRun::start(alloc, firmware, compartments, tape)?;
+    let end = print_events(&mut run, windows, steps, out)?;
+    out.put(end_line(end))?;
+    Ok(end)
+}
