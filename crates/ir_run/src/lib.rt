@@ -1,27 +1,27 @@
 //! Runs of the source of a firmware, step by step.
 #![tactic(auto)]
 
-pub mod accesses;
-pub mod act;
-pub mod arithmetic;
-pub mod below;
-pub mod calls;
-pub mod cells;
-pub mod contents;
-pub mod entering;
-pub mod frame;
-pub mod local;
-pub mod locals;
+mod accesses;
+mod act;
+mod arithmetic;
+mod below;
+mod calls;
+mod cells;
+mod contents;
+mod entering;
+mod frame;
+mod local;
+mod locals;
 pub mod outcome;
-pub mod parts;
-pub mod place;
-pub mod places;
-pub mod ports;
-pub mod registers;
-pub mod request;
+mod parts;
+mod place;
+mod places;
+mod ports;
+mod registers;
+mod request;
 pub mod run;
-pub mod search;
-pub mod starting;
+mod search;
+mod starting;
 #[cfg(test)]
 mod tests;
-pub mod turn;
+mod turn;

@@ -73,7 +73,7 @@ fn returning_main(alloc: Global) -> Result<Func, Fail>
     })
 }
 
-#[tactic(auto, using(ir_resolve::proofs::Shortest::shortest_within, ir_resolve::proofs::Shortest::shortest_typed))]
+#[tactic(auto, using(ir_model::proofs::Shortest::shortest_within, ir_model::proofs::Shortest::shortest_typed))]
 fn shortest(alloc: Global) -> Result<Firmware, Fail>
     ensures within { IfOk result (λ w. IsWithinLimits (firmware_of w)) }
     ensures typed { IfOk result (λ w. IsTyped (firmware_of w)) }
