@@ -1,3 +1,4 @@
 pub mod Counts
 pub mod Sizes
 pub mod Example
+pub mod Checked

@@ -1,10 +1,11 @@
 //! The parts of a frame are apart. Each function is a law and does nothing.
 
 ghost use Rattle.std.specs.Prelude.{ℕ, ◌≡◌, ◌+◌, ◌<◌, ◌≤◌, ◌%◌, List, length, Option, Some};
-ghost use Rattle.std.specs.List.{slice_get};
-ghost use Rattle.ir_model.specs.Plain.{PlainSlot, PlainFunc, regs_of};
-ghost use Rattle.ir_model.specs.Layout.{Known, shape};
+ghost use Rattle.std.specs.List.{slice_get, Contains};
+ghost use Rattle.ir_model.specs.Plain.{PlainSlot, PlainFunc, PlainFirmware, regs_of, funcs_of};
+ghost use Rattle.ir_model.specs.Layout.{Known, known, shape};
 ghost use Rattle.ir_model.specs.Frames.{frame_size};
+ghost use Rattle.ir_model.specs.Typing.{IsTyped};
 ghost use Rattle.frames.specs.Places.{register_offset, local_offset, return_offset};
 
 /// From the stack pointer on stand the registers, of four bytes each, then the locals in order, then the return
@@ -24,4 +25,9 @@ pub fn parts()
     ensures registers_aligned { (k : ℕ) → register_offset k % 4 ≡ 0 }
     ensures return_aligned { (ks : List Known) (f : PlainFunc) → return_offset ks f % 4 ≡ 0 }
     ensures locals_aligned { (ks : List Known) (f : PlainFunc) (k : ℕ) → local_offset ks f k % 4 ≡ 0 }
+{}
+
+/// In a firmware that passes its checks each function has a frame of at most 992 bytes.
+pub fn checked()
+    ensures { (w : PlainFirmware) (f : PlainFunc) → IsTyped w → Contains (funcs_of w) f → frame_size (known w.structs) f ≤ 992 }
 {}

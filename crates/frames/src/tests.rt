@@ -70,5 +70,6 @@ fn places_the_parts(rt: HostRuntime) -> Result<(), Fail> {
     assert_eq!(rt; local_offset(&main, &firmware, 0), 8);
     assert_eq!(rt; local_offset(&main, &firmware, 1), 12);
     laws::parts();
+    laws::checked();
     Ok(())
 }

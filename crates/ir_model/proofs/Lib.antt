@@ -13,3 +13,4 @@ pub mod Layouts
 pub mod Shapes
 pub mod Counting
 pub mod Elements
+pub mod Passing

@@ -21,7 +21,8 @@ use Rattle.ir_model.specs.Frames.{frame_size}
 use Rattle.ir_model.specs.Canonical.{Each}
 use Rattle.straight.specs.Form.{is_straight, block_of, main_of, firmware_with}
 use Rattle.straight.proofs.Values.{Good}
-use Rattle.straight.proofs.Typed.{Pass, left, right, holds, behind, both, number_below, number_type, element_fits, cell_fits}
+use Rattle.ir_model.proofs.Passing.{Pass, left, right, holds, behind}
+use Rattle.straight.proofs.Typed.{both, number_below, number_type, element_fits, cell_fits}
 
 -- numbers are words
 abbrev pub HasWord : Inst → Type 0
