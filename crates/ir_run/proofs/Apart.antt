@@ -16,7 +16,7 @@ pub global_apart : (p : Program) → HasCellsApart (program_of p) → (g : ℕ) 
 global_apart p h g vs v cs e l a =
     let known : g < length p.globals = subst (λ ws. g < length ws) e l in
     let there : (global_at (program_of p) g).cells ≡ cells_of cs =
-        ap (λ (o : NumberedGlobal). o.cells) (get_or-map variable_of p.globals g v no_global known) ∙ ap cells_of (sym (a ∙ ap (λ ws. (get_or ws g v).cells) e)) in
+    ap (λ (o : NumberedGlobal). o.cells) (get_or-map variable_of p.globals g v no_global known) ∙ ap cells_of (sym (a ∙ ap (λ ws. (get_or ws g v).cells) e)) in
     subst AreApart there (h.globals g)
 
 -- the cells of a local, where the numbers name a function and a local of it
@@ -26,7 +26,7 @@ pub local_apart : (p : Program) → HasCellsApart (program_of p) → (f l : ℕ)
 local_apart p h f l rs r ls cs e a b d i =
     let known : f < length p.funcs = subst (λ qs. f < length qs) e a in
     let of_function : (func_at (program_of p) f).locals ≡ map cells_of ls =
-        ap (λ (o : NumberedFunc). o.locals) (get_or-map routine_of p.funcs f r no_func known) ∙ ap (map cells_of) (sym (b ∙ ap (λ qs. (get_or qs f r).locals) e)) in
+    ap (λ (o : NumberedFunc). o.locals) (get_or-map routine_of p.funcs f r no_func known) ∙ ap (map cells_of) (sym (b ∙ ap (λ qs. (get_or qs f r).locals) e)) in
     let there : cells_of_local (program_of p) f l ≡ cells_of cs =
-        ap (λ xs. get_or xs l []) of_function ∙ (get_or-map cells_of ls l cs [] d ∙ ap cells_of (sym i)) in
+    ap (λ xs. get_or xs l []) of_function ∙ (get_or-map cells_of ls l cs [] d ∙ ap cells_of (sym i)) in
     subst AreApart there (h.locals f l)

@@ -164,8 +164,8 @@ put_at xs f n i l k v x locals place e w held h =
     let at : frame_of (get_or xs i x) ≡ held = cc in
     let same : frame_of x ≡ held = ap frame_of e ∙ at in
     let cell : map (map value_of) locals ≡ set (map (map value_of) x.locals) l vs =
-        written_global x.locals locals l k v w
-        ∙ ap (λ (fr : state.Frame). set (map (map value_of) x.locals) l (set (get_or fr.locals l []) k (value_of v))) same in
+    written_global x.locals locals l k v w
+    ∙ ap (λ (fr : state.Frame). set (map (map value_of) x.locals) l (set (get_or fr.locals l []) k (value_of v))) same in
     place.written x (record x { locals = locals }) l vs
     (ap (λ ls. record (frame_of x) { locals = ls }) cell
     ∙ ap (λ (z : Frame). record (frame_of z) { locals = set (map (map value_of) z.locals) l vs }) e)

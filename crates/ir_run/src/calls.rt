@@ -84,11 +84,7 @@ fn keep_result(program: &Program, frame: &mut Frame, value: Value)
 /// # Errors
 ///
 /// There is no number for the caller's next place; the state is as before.
-pub fn go_back(
-    program: &Program,
-    parts: &mut Parts,
-    value: Value,
-) -> Result<SourceStep, AllocError>
+pub fn go_back(program: &Program, parts: &mut Parts, value: Value) -> Result<SourceStep, AllocError>
     ensures ok { IfOk result (λ a. Answers (step.back_to (program_of program.now) (value_of value) (map frame_of parts.old.below) (memory_of parts.old)) a parts.new) }
     ensures err { OnErr result (running_of parts.new ≡ running_of parts.old) }
 {

@@ -83,12 +83,7 @@ pub fn load_local(
 
 // Writes a cell of a local, and goes on.
 #[tactic(auto, using(crate::proofs::Writing::written_global))]
-fn write_local(
-    parts: &mut Parts,
-    of: Local,
-    cell: usize,
-    value: Value,
-) -> Result<(), AllocError>
+fn write_local(parts: &mut Parts, of: Local, cell: usize, value: Value) -> Result<(), AllocError>
     requires { HasOrderedFrames (running_of parts.old) }
     ensures ok { OnOk result ((held : state.Frame) → step.frame_in (frame_of parts.old.top ∷ map frame_of parts.old.below) of.func of.frame ≡ Some held →
         running_of parts.new ≡ state.Running (step.with_local (step.onward (frame_of parts.old.top) ∷ map frame_of parts.old.below) of.func of.frame of.local (set (get_or held.locals of.local []) cell (value_of value))) (memory_of parts.old)) }

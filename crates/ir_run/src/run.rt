@@ -101,10 +101,10 @@ impl<'a> SourceRun<'a> {
         tape: Tape,
     ) -> Result<SourceRun<'a>, AllocError>
         ensures { IfOk result (λ run. run ≡ record {
-            program = resolve (firmware_of firmware.now);
-            compartments = compartments.items;
-            state = state.start (resolve (firmware_of firmware.now)) tape;
-            taken = 0;
+          program = resolve (firmware_of firmware.now);
+          compartments = compartments.items;
+          state = state.start (resolve (firmware_of firmware.now)) tape;
+          taken = 0;
         }) }
     {
         let program = resolve(alloc, firmware)?;
@@ -125,10 +125,10 @@ impl<'a> SourceRun<'a> {
     ) -> Result<SourceRun<'a>, AllocError>
         requires { HasCellsApart (program_of program) }
         ensures { IfOk result (λ run. run ≡ record {
-            program = program_of program.entry;
-            compartments = compartments.items;
-            state = state.start (program_of program.entry) tape;
-            taken = 0;
+          program = program_of program.entry;
+          compartments = compartments.items;
+          state = state.start (program_of program.entry) tape;
+          taken = 0;
         }) }
     {
         let parts = started(alloc, &program, tape)?;

@@ -12,7 +12,9 @@ use ir_model::checked::Checked;
 use ir_model::firmware::{BinOp, Block, CmpOp, FileDecl, Firmware, Func, Term};
 use ir_model::name::Name;
 use ir_model::types::Ty;
-use ir_resolve::program::{CellSpot, Exit, Operation, Program, Routine, Sequence, Target, Variable};
+use ir_resolve::program::{
+    CellSpot, Exit, Operation, Program, Routine, Sequence, Target, Variable,
+};
 use ir_resolve::value::Value;
 use listed::Listed;
 use mem_bus::event::Event;
