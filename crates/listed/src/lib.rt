@@ -56,21 +56,3 @@ impl<T: Drop> Listed<T> {
         items
     }
 }
-
-#[cfg(test)]
-mod tests {
-    use super::*;
-    use std::test::Fail;
-
-    #[test]
-    fn keeps_the_items(rt: HostRuntime) -> Result<(), Fail> {
-        let empty: Listed<u16> = Listed::new(Vec::new(rt.alloc()));
-        assert!(rt; empty.is_empty());
-        let list = Listed::new(vec![in rt.alloc(); 3u16, 1, 2]?);
-        assert!(rt; !list.is_empty());
-        assert_eq!(rt; list.len(), 3);
-        assert_eq!(rt; list.as_slice(), [3, 1, 2].as_slice());
-        assert_eq!(rt; list.into_vec().as_slice(), [3, 1, 2].as_slice());
-        Ok(())
-    }
-}

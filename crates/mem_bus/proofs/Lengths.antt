@@ -1,7 +1,8 @@
 -- What no access changes.
 use Rattle.std.proofs.Common.{◌≡◌, ℕ, List, length, refl, length-set}
 use Rattle.mem_bus.specs.Places.{Place, InRam, InFlash, InWindow, Nowhere}
-use Rattle.mem_bus.specs.Bus.{put_at, taken, queue, without_first}
+use Rattle.mem_bus.specs.Bus.{put_at}
+use Rattle.device_model.specs.Input.{taken, queue, without_first}
 use Rattle.words.specs.Bytes.{write}
 
 pub length-taken : (queues : List (List ℕ)) (k : ℕ) → length (taken queues k) ≡ length queues

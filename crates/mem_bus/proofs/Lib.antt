@@ -1,6 +1,6 @@
-pub mod Fields
-pub mod LineEnds
-pub mod Rows
-pub mod Reading
+mod Ranges
+pub mod Addresses
 pub mod Placed
-pub mod Lengths
+mod Searches
+pub mod Offsets
+mod Lengths

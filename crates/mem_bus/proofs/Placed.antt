@@ -1,30 +1,20 @@
 -- The place of an aligned access.
-use Rattle.std.proofs.Common.{◌≡◌, ◌<◌, ◌≤◌, ◌⊎◌, inl, inr, ℕ, zero, ◌+◌, ◌-◌, ◌*◌, ◌/◌, ◌%◌, ◌^◌, List, [], ◌∷◌, refl, ap, sym, ◌∙◌, subst, Bool, true, false, length, suc, arith, Some, get_or, drop, drop-cons, add-one}
-use Rattle.std.specs.Prelude.{slice_get, ◌↔◌}
-use Rattle.std.proofs.lemmas.Bool.Decides.{nat_tests}
+use Rattle.std.proofs.Common.{◌≡◌, ◌<◌, ◌≤◌, inl, inr, ℕ, ◌+◌, ◌-◌, ◌*◌, ◌/◌, ◌%◌, ◌^◌, List, [], ◌∷◌, refl, ap, sym, ◌∙◌, Bool, true, false, length, suc, arith}
+use Rattle.std.specs.Prelude.{◌↔◌}
 use Rattle.std.proofs.lemmas.Nat.{pow-add}
 use Rattle.std.proofs.Math.Nat.{mul-mod_right, mul_assoc, div-add-mod}
 use Rattle.mpu_model.specs.Protection.{IsAccessWidth}
-use Rattle.mem_bus.specs.declared.image.Image.{Image}
-use Rattle.mem_bus.specs.declared.image.Window.{Window}
+use Rattle.device_model.specs.declared.image.Image.{Image}
+use Rattle.device_model.specs.declared.image.Window.{Window}
 use Rattle.mem_bus.specs.Places.{Place, InRam, InFlash, InWindow, Nowhere, inside, choose, find_window, place}
-use Rattle.mem_bus.specs.Rules.{ObeysRules, IsWindow, IsApart, AreApart, AreWindows, IsMonitor}
+use Rattle.device_model.specs.Rules.{ObeysRules, IsWindow, AreWindows}
+use Rattle.mem_bus.proofs.Ranges.{inside_true, inside_yes}
 use Rattle.mem_bus.specs.Access.{further, HasBytes, Fits, AnyHolds, Holds}
 
 -- a range that begins and ends at multiples of 4
 record IsAligned (b n : ℕ) : Type 0 where
   base : b % 4 ≡ 0
   size : n % 4 ≡ 0
-
--- what the test of a range tells
-inside_true : (b s a : ℕ) → inside b s a ≡ true → (b ≤ a) × (a < b + s)
-inside_true b s a h = (grind (arith, nat_tests), grind (arith, nat_tests))
-
-inside_false : (b s a : ℕ) → inside b s a ≡ false → (a < b) ⊎ (b + s ≤ a)
-inside_false b s a h = grind (arith, nat_tests)
-
-inside_yes : (b s a : ℕ) → b ≤ a → a < b + s → inside b s a ≡ true
-inside_yes b s a h k = grind (arith, nat_tests)
 
 -- an aligned access in an aligned range ends in it
 inside_ends : (b s a w : ℕ) → IsAligned b s → IsAccessWidth w → a % w ≡ 0 → a < b + s → a + w ≤ b + s
@@ -188,19 +178,6 @@ misses_windows (x ∷ xs) k a w h v m n = by_test (inside x.base x.size a) refl 
         absurd (n (inl (b.0, inside_ends x.base x.size a w (window_aligned x h.0) v m b.1))))
     by_test false e ih = ih
 
-pub place-ram : (i : Image) (a : ℕ) → i.ram_base ≤ a → a < i.ram_base + i.ram_size → place i a ≡ InRam (a - i.ram_base)
-unfolding place
-place-ram i a l h = rw (inside_yes i.ram_base i.ram_size a l h) refl
-
-pub place-flash : (i : Image) (a : ℕ) → ObeysRules i → i.flash_base ≤ a → a < i.flash_base + length i.flash → place i a ≡ InFlash (a - i.flash_base)
-unfolding place
-place-flash i a r l h =
-    let apart : inside i.ram_base i.ram_size a ≡ false = before i.ram_base i.ram_size a (omega (arith, r.ram_lowest, r.flash_highest, r.flash_most)) in
-    rw (apart, inside_yes i.flash_base (length i.flash) a l h) refl
-  where
-    before : (b s x : ℕ) → x < b → inside b s x ≡ false
-    before b s x g = grind (arith, nat_tests)
-
 pub nowhere_holds : (i : Image) (a w : ℕ) → IsAccessWidth w → place i a ≡ Nowhere → Holds i a w → ⊥
 unfolding place
 nowhere_holds i a w v e (inl h) =
@@ -237,88 +214,7 @@ holds_nowhere i a w r v m n = by_tests (inside i.ram_base i.ram_size a) (inside 
         absurd (n (inr (inl (b.0, inside_ends i.flash_base (length i.flash) a w (flash_aligned i r) v m b.1)))))
     by_tests false false e f = misses_windows i.windows 0 a w r.windows v m (λ g. n (inr (inr g)))
 
--- ---- the search for a window
-
-pub find_window-at : (ws : List Window) (n k a : ℕ) (w : Window) → n < length ws → w ≡ get_or ws n w → inside w.base w.size a ≡ true
-    → find_window (drop n ws) k a ≡ InWindow k (a - w.base)
-unfolding find_window
-find_window-at ws n k a w l e t = rw (drop-cons ws n w l, ← e, t) refl
-
-pub find_window-next : (ws : List Window) (n k a : ℕ) (w : Window) → n < length ws → w ≡ get_or ws n w → inside w.base w.size a ≡ false
-    → find_window (drop n ws) k a ≡ find_window (drop (n + 1) ws) (k + 1) a
-unfolding find_window
-find_window-next ws n k a w l e t = rw (drop-cons ws n w l, ← e, t, add-one n, add-one k) refl
-
-pub find_window-end : (ws : List Window) (n k a : ℕ) → length ws ≤ n → find_window (drop n ws) k a ≡ Nowhere
-unfolding find_window
-find_window-end [] zero k a h = refl
-find_window-end [] (suc n) k a h = refl
-find_window-end (w ∷ ws) zero k a h = absurd (omega arith)
-find_window-end (w ∷ ws) (suc n) k a h = find_window-end ws n k a (omega arith)
-
-pub ruleset window_rules = (find_window-at, find_window-next, find_window-end)
-
--- ---- the addresses of a window
-
-inside_no : (b s a : ℕ) → (a < b) ⊎ (b + s ≤ a) → inside b s a ≡ false
-inside_no b s a h = grind (arith, nat_tests)
-
-apart_at : (x : Window) (xs : List Window) (k : ℕ) (w : Window) → IsApart x xs → slice_get xs k ≡ Some w → AreApart x.base x.size w.base w.size
-apart_at x [] k w h e = cc
-apart_at x (y ∷ ys) zero w h e = (let same : y ≡ w = cc in subst (λ z. AreApart x.base x.size z.base z.size) same h.1)
-apart_at x (y ∷ ys) (suc k) w h e = apart_at x ys k w h.2 e
-
-window_at : (ws : List Window) (k : ℕ) (w : Window) → AreWindows ws → slice_get ws k ≡ Some w → IsWindow w
-window_at [] k w h e = cc
-window_at (x ∷ xs) zero w h e = (let same : x ≡ w = cc in subst IsWindow same h.0)
-window_at (x ∷ xs) (suc k) w h e = window_at xs k w h.2 e
-
-find_window-window : (ws : List Window) (first k a : ℕ) (w : Window) → AreWindows ws → slice_get ws k ≡ Some w → w.base ≤ a → a < w.base + w.size
-    → find_window ws first a ≡ InWindow (first + k) (a - w.base)
-unfolding find_window
-find_window-window [] first k a w h e l g = cc
-find_window-window (x ∷ xs) first zero a w h e l g =
-    (let same : x ≡ w = cc in
-    let none : first + 0 ≡ first = omega arith in
-    rw (same, inside_yes w.base w.size a l g, none) refl)
-find_window-window (x ∷ xs) first (suc k) a w h e l g =
-    (let apart = apart_at x xs k w h.1 e in
-    let past : suc first + k ≡ first + suc k = omega arith in
-    rw (inside_no x.base x.size a (outside apart)) (find_window-window xs (suc first) k a w h.2 e l g ∙ ap (λ n. InWindow n (a - w.base)) past))
-  where
-    outside : AreApart x.base x.size w.base w.size → (a < x.base) ⊎ (x.base + x.size ≤ a)
-    outside (inl p) = inr (omega arith)
-    outside (inr p) = inl (omega arith)
-
-pub place-window : (i : Image) (a k : ℕ) (w : Window) → ObeysRules i → slice_get i.windows k ≡ Some w → w.base ≤ a → a < w.base + w.size
-    → place i a ≡ InWindow k (a - w.base)
-unfolding place
-place-window i a k w r e l g =
-    let p = (window_at i.windows k w r.windows e).place in
-    let ram = inside_no i.ram_base i.ram_size a (inr (omega (arith, p.0, r.ram_highest, r.ram_most))) in
-    let flash = inside_no i.flash_base (length i.flash) a (inr (omega (arith, p.0, r.flash_highest, r.flash_most))) in
-    let none : 0 + k ≡ k = omega arith in
-    rw (ram, flash) (find_window-window i.windows 0 k a w r.windows e l g ∙ ap (λ n. InWindow n (a - w.base)) none)
-
-pub place-monitor : (i : Image) → ObeysRules i → (i.monitor ≡ 0 → ⊥) → place i i.monitor ≡ InRam (i.monitor - i.ram_base)
-place-monitor i r n = by_case r.monitor
-  where
-    by_case : IsMonitor i → place i i.monitor ≡ InRam (i.monitor - i.ram_base)
-    by_case (inl e) = absurd (n e)
-    by_case (inr m) = place-ram i i.monitor m.1.0 (omega (arith, m.1.1))
-
 pub place-nowhere : (i : Image) (a w : ℕ) → ObeysRules i → IsAccessWidth w → a % w ≡ 0 → (place i a ≡ Nowhere) ↔ (Holds i a w → ⊥)
 place-nowhere i a w r v m = (nowhere_holds i a w v, holds_nowhere i a w r v m)
 
 pub ruleset access_rules = (place_fits)
-
-pub ruleset place_rules = (place-ram, place-flash, place-window, place-monitor)
-
-pub monitor_aligned : (i : Image) → ObeysRules i → i.monitor % 4 ≡ 0
-monitor_aligned i r = by_case r.monitor
-  where
-    by_case : IsMonitor i → i.monitor % 4 ≡ 0
-    by_case (inl e) = omega arith
-    by_case (inr m) = omega (arith, m.0)
-
-pub ruleset monitor_rules = (place-monitor, monitor_aligned)

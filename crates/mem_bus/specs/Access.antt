@@ -1,9 +1,9 @@
 -- What the place of an access's first byte says of all its bytes.
 use Rattle.std.specs.Prelude.{◌≡◌, ℕ, ◌+◌, ◌≤◌, ◌⊎◌, List, [], ◌∷◌, length, slice_get, Some}
-use Rattle.mem_bus.specs.declared.image.Image.{Image}
-use Rattle.mem_bus.specs.declared.image.Window.{Window}
+use Rattle.device_model.specs.declared.image.Image.{Image}
+use Rattle.device_model.specs.declared.image.Window.{Window}
 use Rattle.mem_bus.specs.Places.{Place, InRam, InFlash, InWindow, Nowhere}
-use Rattle.mem_bus.specs.Rules.{IsInside}
+use Rattle.device_model.specs.Rules.{IsInside}
 
 -- the place that lies further on
 abbrev pub further : ℕ → Place → Place

@@ -1,26 +1,14 @@
 -- What a load, a store and a fetch at a place give, and what they change. Widths are 1, 2 or 4 bytes; values are
 -- little-endian. The queues are the recorded words that each window has left, in the order of the windows.
 use Rattle.std.specs.Prelude.{ℕ, List, [], ◌∷◌, Option, Some, None}
-use Rattle.std.proofs.Math.ListN.{get_or, set}
 use Rattle.words.specs.Bytes.{read, write, cut}
-use Rattle.mem_bus.specs.declared.image.Image.{Image}
-use Rattle.mem_bus.specs.declared.event.Loaded.{Loaded}
-use Rattle.mem_bus.specs.declared.event.Loaded.TheVariants.{Value, Device, NoInput, Unmapped}
-use Rattle.mem_bus.specs.declared.event.Stored.{Stored}
-use Rattle.mem_bus.specs.declared.event.Stored.TheVariants.{Done, Device as Taken, Unmapped as Refused}
+use Rattle.device_model.specs.Input.{queue}
+use Rattle.device_model.specs.declared.image.Image.{Image}
+use Rattle.mem_bus.specs.declared.answer.Loaded.{Loaded}
+use Rattle.mem_bus.specs.declared.answer.Loaded.TheVariants.{Value, Device, NoInput, Unmapped}
+use Rattle.mem_bus.specs.declared.answer.Stored.{Stored}
+use Rattle.mem_bus.specs.declared.answer.Stored.TheVariants.{Done, Device as Taken, Unmapped as Refused}
 use Rattle.mem_bus.specs.Places.{Place, InRam, InFlash, InWindow, Nowhere}
-
--- the words that a window has left
-abbrev pub queue : List (List ℕ) → ℕ → List ℕ
-queue queues k = get_or queues k []
-
-abbrev pub without_first : List ℕ → List ℕ
-without_first [] = []
-without_first (x ∷ xs) = xs
-
--- the queues after a window's first word was taken
-abbrev pub taken : List (List ℕ) → ℕ → List (List ℕ)
-taken queues k = set queues k (without_first (queue queues k))
 
 -- the first word of a window, cut to the width
 abbrev pub input : List ℕ → (periph offset width : ℕ) → Loaded

@@ -1,9 +1,5 @@
 pub mod Places
-pub mod Rules
 pub mod Bus
-pub mod Tape
-pub mod Lines
-pub mod Queues
 pub mod Access
 pub mod Memory
 pub mod Targets

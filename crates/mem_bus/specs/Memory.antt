@@ -1,12 +1,13 @@
 -- A bus as callers see it, and what its calls do to it.
 use Rattle.std.specs.Prelude.{◌≡◌, ℕ, List, length, Option, Some, None, replicate, ◌-◌, nat_eq, if◌then◌else◌}
 use Rattle.words.specs.Bytes.{read}
-use Rattle.mem_bus.specs.declared.image.Image.{Image}
-use Rattle.mem_bus.specs.declared.event.Loaded.{Loaded}
-use Rattle.mem_bus.specs.declared.event.Loaded.TheVariants.{Value, Device, NoInput, Unmapped}
+use Rattle.device_model.specs.declared.image.Image.{Image}
+use Rattle.mem_bus.specs.declared.answer.Loaded.{Loaded}
+use Rattle.mem_bus.specs.declared.answer.Loaded.TheVariants.{Value, Device, NoInput, Unmapped}
 use Rattle.mem_bus.specs.Places.{Place, InRam, InFlash, InWindow, Nowhere, place}
-use Rattle.mem_bus.specs.Rules.{ObeysRules}
-use Rattle.mem_bus.specs.Bus.{load_at, put_at, taken}
+use Rattle.device_model.specs.Rules.{ObeysRules}
+use Rattle.mem_bus.specs.Bus.{load_at, put_at}
+use Rattle.device_model.specs.Input.{taken}
 
 -- the image that the bus was made from, the bytes of RAM, and the recorded words that each window has left
 pub record Memory : Type 0 where
@@ -45,5 +46,5 @@ byte_at (InWindow k o) i ram = None
 byte_at Nowhere i ram = None
 
 -- the number of the running compartment: the first word of the monitor's block, or 0 without a monitor
-abbrev pub compartment_of : Memory → ℕ
-compartment_of m = if nat_eq m.image.monitor 0 then 0 else read 4 (m.image.monitor - m.image.ram_base) m.ram
+abbrev pub compartment_of : Image → (ram : List ℕ) → ℕ
+compartment_of i ram = if nat_eq i.monitor 0 then 0 else read 4 (i.monitor - i.ram_base) ram

@@ -7,12 +7,12 @@ ghost use Rattle.mpu_model.specs.Protection.{IsAccessWidth};
 ghost use Rattle.mem_bus.specs.Bus as accesses;
 ghost use Rattle.mem_bus.specs.Memory as memory;
 ghost use Rattle.mem_bus.specs.Places as places;
-ghost use Rattle.mem_bus.specs.Rules.{ObeysRules};
+ghost use Rattle.device_model.specs.Rules.{ObeysRules};
 
-use crate::event::{Loaded, Stored};
-use crate::image::Image;
-use crate::tape::Tape;
+use crate::answer::{Loaded, Stored};
 use crate::target::{Target, find, find_access};
+use device_model::image::Image;
+use device_model::tape::Tape;
 use mpu_model::region::Access;
 use std::alloc::{AllocError, Global};
 use std::marker::Model;
@@ -169,9 +169,9 @@ impl Bus {
 
     /// The number of the running compartment: the first word of the monitor's block, and 0 where
     /// the image has no monitor.
-    #[tactic(auto, using(crate::proofs::Placed::monitor_rules))]
+    #[tactic(auto, using(crate::proofs::Addresses::monitor_rules))]
     pub fn compartment(&self) -> u32
-        ensures { result ≡ memory.compartment_of self.now }
+        ensures { result ≡ memory.compartment_of self.now.image self.now.ram }
     {
         if self.image.monitor == 0 {
             return 0;

@@ -3,11 +3,12 @@
 ghost use Rattle.std.specs.Prelude.{◌≡◌, ◌≢◌, ◌↔◌, ℕ, ◌+◌, ◌-◌, ◌%◌, ◌<◌, ◌≤◌, List, length, slice_get, Some};
 ghost use Rattle.mpu_model.specs.Protection.{IsAccessWidth};
 ghost use Rattle.mem_bus.specs.Access.{further, Fits, Holds};
-ghost use Rattle.mem_bus.specs.Bus.{put_at, taken};
+ghost use Rattle.mem_bus.specs.Bus.{put_at};
+ghost use Rattle.device_model.specs.Input.{taken};
 ghost use Rattle.mem_bus.specs.Places.{Place, InRam, InFlash, InWindow, Nowhere, place};
-ghost use Rattle.mem_bus.specs.Rules.{ObeysRules};
-ghost use Rattle.mem_bus.specs.declared.image.Image.{Image};
-ghost use Rattle.mem_bus.specs.declared.image.Window.{Window};
+ghost use Rattle.device_model.specs.Rules.{ObeysRules};
+ghost use Rattle.device_model.specs.declared.image.Image.{Image};
+ghost use Rattle.device_model.specs.declared.image.Window.{Window};
 
 use words::laws::bytes_after_write;
 
@@ -25,7 +26,7 @@ pub fn accesses()
 {}
 
 /// The addresses of RAM, of flash and of each window lead to it.
-#[tactic(auto, using(crate::proofs::Placed::place_rules))]
+#[tactic(auto, using(crate::proofs::Addresses::place_rules))]
 pub fn places()
     ensures ram { (i : Image) (a : ℕ) → i.ram_base ≤ a → a < i.ram_base + i.ram_size →
         place i a ≡ InRam (a - i.ram_base) }
@@ -37,6 +38,18 @@ pub fn places()
         place i a ≡ InWindow k (a - w.base) }
     ensures monitor { (i : Image) → ObeysRules i → i.monitor ≢ 0 →
         place i i.monitor ≡ InRam (i.monitor - i.ram_base) }
+{}
+
+/// The places of RAM and of flash are exactly the addresses that lie so many bytes behind their base. In the mebibyte
+/// of flash nothing but flash is mapped.
+pub fn offsets()
+    ensures ram { (i : Image) (a o : ℕ) →
+        (place i a ≡ InRam o) ↔ ((i.ram_base + o ≡ a) × (o < i.ram_size)) }
+    ensures flash { (i : Image) (a o : ℕ) → ObeysRules i →
+        (place i a ≡ InFlash o) ↔ ((i.flash_base + o ≡ a) × (o < length i.flash)) }
+    ensures alone { (i : Image) (a : ℕ) → ObeysRules i →
+        i.flash_base ≤ a → a < i.flash_base + 0x100000 → place i a ≢ Nowhere →
+        place i a ≡ InFlash (a - i.flash_base) }
 {}
 
 /// A store leaves RAM as long as it was, and a load leaves as many queues as there were.

@@ -1,12 +1,11 @@
 //! Memory, peripheral windows and recorded device input: what lies at an address of a machine.
 #![tactic(auto)]
 
+pub mod answer;
 pub mod bus;
-pub mod event;
-pub mod image;
 pub mod laws;
-mod line;
-pub mod tape;
 mod target;
-#[cfg(test)]
-mod tests;
+
+pub use device_model::event::Event;
+pub use device_model::image::{Image, Window};
+pub use device_model::tape::{Tape, TapeFault};

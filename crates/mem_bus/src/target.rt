@@ -4,10 +4,10 @@ ghost use Rattle.std.specs.Prelude.{◌≡◌, ◌%◌, ◌≤◌, length};
 ghost use Rattle.mpu_model.specs.Protection.{IsAccessWidth};
 ghost use Rattle.mem_bus.specs.Access.{Fits};
 ghost use Rattle.mem_bus.specs.Places as places;
-ghost use Rattle.mem_bus.specs.Rules.{ObeysRules};
+ghost use Rattle.device_model.specs.Rules.{ObeysRules};
 ghost use Rattle.mem_bus.specs.Targets.{place_of};
 
-use crate::image::{Image, Window};
+use device_model::image::{Image, Window};
 
 /// Where an address leads.
 #[derive(Clone, Copy)]
@@ -33,7 +33,7 @@ fn is_inside(base: u32, size: usize, addr: u32) -> bool
     addr >= base && ((addr - base) as usize) < size
 }
 
-#[tactic(auto, using(crate::proofs::Placed::window_rules))]
+#[tactic(auto, using(crate::proofs::Searches::window_rules))]
 fn find_window(windows: &[Window], addr: u32) -> Target
     requires { length windows.now ≤ 64 }
     ensures { place_of result ≡ places.find_window windows.now 0 addr }

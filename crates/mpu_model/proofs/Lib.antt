@@ -1,7 +1,8 @@
-pub mod Protection
-pub mod Scan
-pub mod Selected
+mod Protection
+mod Scan
+mod Selected
 pub mod Alike
-pub mod RegionWords
-pub mod Powers
-pub mod Writes
+mod RegionWords
+mod Powers
+mod Writes
+pub mod Configured

@@ -3,3 +3,4 @@ pub mod Protection
 pub mod Registers
 pub mod RegionWords
 pub mod Laws
+pub mod Configured

@@ -1,5 +1,6 @@
 //! Laws of the definitions: functions without a body, whose contract is the law.
 
+ghost use Rattle.mpu_model.specs.Configured.{KeptListsDecide, KeptListsPermit, KeptUnitsPermitTheSame, EighthsAreClosed, OpenEighthsAreHeld, EachWriteIs, ListsAreWritten};
 ghost use Rattle.mpu_model.specs.Laws.{RegionsAreKept, RegionsAreWritten, RegionsGiveTheirRights, RegionsHoldTheirBlocks, RegistersReadBack, TheHighestDecides, WritesKeepTheCount};
 ghost use Rattle.mpu_model.specs.Protection.{BytesAreAlike, PermitsIsAllowed};
 
@@ -51,4 +52,27 @@ pub fn regions_hold_their_blocks()
 /// The region for a block allows what its rights say.
 pub fn regions_give_their_rights()
     ensures { RegionsGiveTheirRights }
+{}
+
+/// Of a list of regions that the unit keeps, the last that holds an address decides. So unprivileged code may do
+/// there what that region allows, and nothing where none holds it; and all is permitted as by the words that were
+/// written.
+pub fn kept_lists_decide()
+    ensures deciding { KeptListsDecide }
+    ensures unprivileged { KeptListsPermit }
+    ensures alike { KeptUnitsPermitTheSame }
+{}
+
+/// A region whose SRD has bit i set exactly where i is at least n holds the first n eighths of its block, and no
+/// other address (B3.5.9).
+pub fn open_eighths_are_held()
+    ensures closed { EighthsAreClosed }
+    ensures held { OpenEighthsAreHeld }
+{}
+
+/// Each write as an equation (B3.5.6 to B3.5.9); and the writes of a list of regions with VALID and the numbers from
+/// k on leave the first k as they were, behind them exactly those of the list, and MPU_CTRL.
+pub fn writes_are_equations()
+    ensures each { EachWriteIs }
+    ensures lists { ListsAreWritten }
 {}

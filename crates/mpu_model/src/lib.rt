@@ -18,6 +18,3 @@ pub const MPU_RNR: u32 = 0xE000ED98;
 pub const MPU_RBAR: u32 = 0xE000ED9C;
 /// MPU_RASR, the address of the region attribute and size register (B3.5.9).
 pub const MPU_RASR: u32 = 0xE000EDA0;
-
-#[cfg(test)]
-mod tests;

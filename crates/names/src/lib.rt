@@ -134,35 +134,3 @@ pub fn is_name(bytes: &[u8]) -> bool
 {
     is_word(bytes) && bytes.len() <= NAME_LIMIT && !is_reserved(bytes)
 }
-
-#[cfg(test)]
-mod tests {
-    use super::*;
-
-    #[test]
-    fn knows_words_and_names(rt: HostRuntime) {
-        let table: [(&[u8], bool, bool, bool); 12] = [
-            (b"main", true, false, true),
-            (b"_", true, false, true),
-            (b"TIM2.SR", true, false, true),
-            (b"struct", true, true, false),
-            (b"structs", true, false, true),
-            (b"Struct", true, false, true),
-            (b"u16", true, true, false),
-            (b"u64", true, false, true),
-            (b"sle", true, true, false),
-            (b"", false, false, false),
-            (b"2main", false, false, false),
-            (b"a-b", false, false, false),
-        ];
-        for (bytes, word, reserved, name) in table {
-            assert_eq!(rt; is_word(bytes), word, "word {bytes:?}");
-            assert_eq!(rt; is_reserved(bytes), reserved, "reserved {bytes:?}");
-            assert_eq!(rt; is_name(bytes), name, "name {bytes:?}");
-        }
-        assert!(rt; is_name(&[b'a'; 64]));
-        assert!(rt; !is_name(&[b'a'; 65]));
-        assert!(rt; may_begin_word(b'_') && !may_begin_word(b'.'));
-        assert!(rt; may_continue_word(b'.') && !may_continue_word(b'-'));
-    }
-}

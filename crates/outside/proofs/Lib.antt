@@ -1,3 +1,4 @@
-pub mod Entries
-pub mod Appends
-pub mod Filling
+mod Entries
+mod Appends
+mod Filling
+pub mod Prefixes

@@ -8,7 +8,7 @@ use std::io::{Read, Seek, SeekFrom, Write};
 use std::rt::Files as FileSystem;
 use std::{fs, io};
 
-/// The files of the system, by their paths. A name that isn't there counts as a fault.
+/// The files of the system, by their paths. A name that isn't there, or that is no regular file, counts as a fault of `size`.
 #[derive(Drop)]
 pub struct HostFiles<S: FileSystem> {
     system: S,
@@ -56,8 +56,8 @@ impl<S: FileSystem> Files for HostFiles<S> {
 
     fn size(&mut self, name: &str) -> Result<u64, Failed> {
         match fs::metadata(&self.system, name) {
-            Ok(metadata) => Ok(metadata.len()),
-            Err(_) => {
+            Ok(metadata) if metadata.is_file() => Ok(metadata.len()),
+            Ok(_) | Err(_) => {
                 self.read_faults = self.read_faults.saturating_add(1);
                 Err(Failed)
             }
@@ -129,57 +129,5 @@ impl<W: Write> Sink for HostSink<W> {
         }
         self.faults = self.faults.saturating_add(1);
         Err(Failed)
-    }
-}
-
-#[cfg(test)]
-mod tests {
-    use super::*;
-    use crate::read_whole;
-    use crate::tests::{Call, run};
-    use std::process;
-    use std::test::Fail;
-
-    #[test]
-    fn a_file_of_the_system(rt: HostRuntime) -> Result<(), Fail> {
-        let alloc = rt.alloc();
-        let path = format!(in alloc; "/tmp/outside-test-{}", process::id(rt.process()))?;
-        let name = path.as_str();
-        let steps = [
-            (name, Call::Size, Err(Failed)),
-            (name, Call::Append(b"x"), Err(Failed)),
-            (name, Call::Create, Ok(0)),
-            (name, Call::Append(b"abc"), Ok(0)),
-            (name, Call::Append(b"def"), Ok(0)),
-            (name, Call::Size, Ok(6)),
-            (name, Call::Byte(2), Ok(99)),
-            (name, Call::Byte(6), Ok(256)),
-        ];
-        let mut files = HostFiles::new(&rt);
-        run(&rt, &mut files, &steps);
-        assert_eq!(rt; (files.read_faults, files.write_faults), (1, 1));
-        let bytes = read_whole(alloc, &mut files, name, 6)?;
-        assert_eq!(rt; bytes.as_slice(), b"abcdef".as_slice());
-        run(
-            &rt,
-            &mut files,
-            &[(name, Call::Create, Ok(0)), (name, Call::Size, Ok(0))],
-        );
-        fs::remove_file(&rt, name)?;
-        Ok(())
-    }
-
-    #[test]
-    fn writers_of_the_system(rt: HostRuntime) -> Result<(), Fail> {
-        let mut out = HostSink::new(rt.stdout());
-        assert_eq!(rt; out.put(b"to standard output\n"), Ok(()));
-        let mut err = HostSink::new(rt.stderr());
-        assert_eq!(rt; err.put(b"to standard error\n"), Ok(()));
-        // A file that is open for reading takes no byte.
-        let mut shut = HostSink::new(File::open(&rt, "/dev/null")?);
-        assert_eq!(rt; shut.put(b""), Ok(()));
-        assert_eq!(rt; shut.put(b"x"), Err(Failed));
-        assert_eq!(rt; (out.faults, err.faults, shut.faults), (0, 0, 1));
-        Ok(())
     }
 }

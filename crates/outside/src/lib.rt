@@ -21,6 +21,3 @@ pub use mem_files::MemFiles;
 pub use mem_sink::MemSink;
 pub use reading::{ReadRefusal, read_whole};
 pub use sink::Sink;
-
-#[cfg(test)]
-mod tests;

@@ -1,5 +1,6 @@
-pub mod Offsets
-pub mod Sound
-pub mod Round
+mod Offsets
+mod Sound
+mod Round
 pub mod Relation
-pub mod LeftOut
+mod LeftOut
+pub mod Codes

@@ -4,7 +4,7 @@ use Rattle.std.specs.Option.{IfSome, IfNone}
 use Rattle.std.proofs.lemmas.Bool.Decides.{leb_tells}
 use Rattle.std.proofs.lemmas.Option.{same_Some}
 use Rattle.thumb_model.proofs.Offsets.{lt_true, lt_false}
-use Rattle.thumb_model.proofs.Sound.{Encodes-decoded}
+use Rattle.thumb_model.proofs.Sound.{narrow, wide}
 use Rattle.thumb_model.proofs.Round.{decoded_code-encode}
 use Rattle.thumb_model.specs.Table.{InTable, Encodes, encode, read_code}
 use Rattle.thumb_model.specs.Decoded.{decoded, decoded_code, narrow_of, wide_of}
@@ -35,6 +35,14 @@ decoded_encode_half i h k v e = decoded_code-related (Half h) k i (record { in_t
 
 pub decoded_encode_pair : (i : Instr) (h k : ℕ) → InTable i → encode i ≡ Pair h k → decoded h k ≡ Some i
 decoded_encode_pair i h k v e = decoded_code-related (Pair h k) 0 i (record { in_table = v; halfwords = e })
+
+-- what is decoded is related to its halfwords
+pub Encodes-decoded : (h k : ℕ) → h < 2 ^ 16 → k < 2 ^ 16 → IfSome (decoded h k) (Encodes (read_code h k))
+unfolding decoded
+Encodes-decoded h k below second = elim (leb_tells 0xE800 h) [
+  | inl t ↦ rw (lt_false h 0xE800 t.1) (wide h k t.1 below second)
+  | inr t ↦ rw (lt_true h 0xE800 t.1) (narrow h t.1)
+]
 
 -- what is decoded is related
 pub related-decoded : (h k : ℕ) (i : Instr) → h < 2 ^ 16 → k < 2 ^ 16 → decoded h k ≡ Some i → Encodes (read_code h k) i

@@ -5,14 +5,14 @@ use Rattle.std.proofs.lemmas.Bool.{cases_Bool, eqb-true}
 use Rattle.std.specs.Prelude.{if◌then◌else◌}
 use Rattle.std.proofs.lemmas.Bool.Decides.{nat_tests, leb_tells}
 use Rattle.thumb_model.proofs.Offsets.{lt_true, lt_false, Extends-extended, halfwords_of-extended-8, halfwords_of-extended-11, halfwords_of-extended-24}
-use Rattle.thumb_model.specs.Table.{branch_pair, Encodes, encode, read_code}
-use Rattle.thumb_model.specs.Decoded.{decoded, arithmetic_of, special_of, transfer_of, stack_of, multiple_of, upper_of, narrow_of, move_of, special_register_of, divide_of, wide_of, extended, branch_bits}
+use Rattle.thumb_model.specs.Table.{branch_pair, Encodes, encode}
+use Rattle.thumb_model.specs.Decoded.{arithmetic_of, special_of, transfer_of, stack_of, multiple_of, upper_of, narrow_of, move_of, special_register_of, divide_of, wide_of, extended, branch_bits}
 use Rattle.thumb_model.specs.declared.table.Code.{Code}
 use Rattle.thumb_model.specs.declared.table.Code.TheVariants.{Half, Pair}
 use Rattle.thumb_model.specs.declared.table.Instr.{Instr}
 use Rattle.thumb_model.specs.declared.table.Instr.TheVariants.{BranchConditional, CallBranch, BranchLink, BranchWide, StackRelative}
 
-abbrev Sound : Code → Option Instr → Type 0
+abbrev pub Sound : Code → Option Instr → Type 0
 Sound code o = IfSome o (Encodes code)
 
 -- an instruction by a test of a halfword
@@ -133,7 +133,7 @@ upper h above below =
     (λ a. below_or _ h 0xE000 _ _ (λ t. call h a t)
     (λ a. plain h a below))))))))
 
-narrow : (h : ℕ) → h < 0xE800 → Sound (Half h) (narrow_of h)
+pub narrow : (h : ℕ) → h < 0xE800 → Sound (Half h) (narrow_of h)
 unfolding narrow_of
 narrow h below =
     below_or _ h 0x4000 _ _ (λ t. arithmetic h t)
@@ -146,7 +146,7 @@ equal_or code a b x y f g = elim (cases_Bool (nat_eq a b)) [
   | inr t ↦ rw t g
 ]
 
-wide : (h k : ℕ) → 0xE800 ≤ h → h < 2 ^ 16 → k < 2 ^ 16 → Sound (Pair h k) (wide_of h k)
+pub wide : (h k : ℕ) → 0xE800 ≤ h → h < 2 ^ 16 → k < 2 ^ 16 → Sound (Pair h k) (wide_of h k)
 unfolding wide_of
 wide h k above below second =
     below_or _ h 0xF000 _ _ (λ t. tt)
@@ -156,11 +156,3 @@ wide h k above below second =
     (λ e. below_or _ k 0xC000 _ _ (λ u. far h k a t b u e) (λ c. link h k a t c second e))
     (below_or _ k 0x9000 _ _ (λ u. special_register h k a t b u) (λ c. tt))))
     (λ b. divide h k b below second))
-
--- what is decoded is related to its halfwords
-pub Encodes-decoded : (h k : ℕ) → h < 2 ^ 16 → k < 2 ^ 16 → IfSome (decoded h k) (Encodes (read_code h k))
-unfolding decoded
-Encodes-decoded h k below second = elim (leb_tells 0xE800 h) [
-  | inl t ↦ rw (lt_false h 0xE800 t.1) (wide h k t.1 below second)
-  | inr t ↦ rw (lt_true h 0xE800 t.1) (narrow h t.1)
-]

@@ -11,6 +11,3 @@ pub use decoding::decode;
 pub use encoding::encode;
 pub use table::{Code, Instr};
 pub use text::show;
-
-#[cfg(test)]
-mod tests;

@@ -1,4 +1,5 @@
 pub mod Arithmetic
 pub mod Bytes
-pub mod Flags
+mod Flags
 pub mod Runs
+pub mod EventLines

@@ -6,5 +6,3 @@ pub mod conditions;
 pub mod laws;
 pub mod memory;
 pub mod operations;
-#[cfg(test)]
-mod tests;

@@ -1,0 +1,4 @@
+mod Fields
+mod LineEnds
+mod Rows
+mod Reading
