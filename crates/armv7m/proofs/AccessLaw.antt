@@ -1,6 +1,6 @@
 -- Where every access is permitted, protection makes no difference.
-use Rattle.std.proofs.Common.{◌≡◌, ℕ, zero, suc, ◌+◌, ◌%◌, Bool, true, false, ◌&&◌, ⊎_elim, List, length, Option, Some, None, nat_eq, nat_lt, refl, sym, ap, ◌∙◌}
-use Rattle.std.proofs.lemmas.Bool.{false≢true}
+use Rattle.std.proofs.Common.{◌≡◌, ℕ, zero, suc, ◌+◌, ◌%◌, Bool, true, false, ◌&&◌, List, length, Option, Some, None, nat_eq, nat_lt, refl, ap, ◌∙◌}
+use Rattle.std.proofs.lemmas.Bool.{eqb-true}
 use Rattle.std.proofs.Math.ListN.{get_or}
 use Rattle.words.specs.Arithmetic.{word}
 use Rattle.thumb_model.specs.declared.table.Instr.{Instr}
@@ -8,7 +8,7 @@ use Rattle.thumb_model.specs.Decoded.{decoded}
 use Rattle.mpu_model.specs.declared.region.Access.{Access}
 use Rattle.mpu_model.specs.declared.region.Access.TheVariants.{Read, Write, Fetch}
 use Rattle.mpu_model.specs.Protection.{permits, is_on, default_allows}
-use Rattle.mem_bus.specs.declared.image.Image.{Image}
+use Rattle.device_model.specs.declared.image.Image.{Image}
 use Rattle.mem_bus.specs.Places.{place, is_memory, choose}
 use Rattle.mem_bus.specs.Bus.{fetch_at}
 use Rattle.armv7m.specs.declared.state.CoreRegisters.{CoreRegisters}
@@ -18,10 +18,14 @@ use Rattle.armv7m.specs.State.{State, Judge, by_mpu, is_unprivileged}
 use Rattle.armv7m.specs.Act.{Act, Changes, Loads, Stores, LoadsMany, StoresMany, GetsSpecial, SetsSpecial, Exchanges, Calls, Halts, Stops}
 use Rattle.armv7m.specs.Instructions.{act}
 use Rattle.armv7m.specs.System.{in_system, is_system_register}
-use Rattle.armv7m.specs.Tests.{tested, verdict, Verdicts, AllGood, RefusedAt, BadOne, and_then, verdicts, all_open}
+use Rattle.armv7m.specs.declared.several.Verdicts.{Verdicts}
+use Rattle.armv7m.specs.declared.several.Verdicts.TheVariants.{AllGood, RefusedAt, BadOne}
+use Rattle.armv7m.specs.Tests.{tested, verdict, and_then, verdicts, all_open}
 use Rattle.armv7m.specs.Exceptions.{stacked_words, frame_at, supervisor_call, entered, call, is_thread, leaves, returns, return_on_psp, return_on_msp}
 use Rattle.armv7m.specs.Perform.{after_load, after_store, after_loads, after_stores, exchanged, perform}
-use Rattle.armv7m.specs.Step.{Fetched, Took, NotAllowed, NotMapped, second_half, by_size, first_half, fetch, performed, fetched, running, turn}
+use Rattle.armv7m.specs.declared.fetching.Fetched.{Fetched}
+use Rattle.armv7m.specs.declared.fetching.Fetched.TheVariants.{Took, NotAllowed, NotMapped}
+use Rattle.armv7m.specs.Step.{second_half, by_size, first_half, fetch, performed, fetched, running, turn}
 use Rattle.armv7m.specs.AccessLaw.{free, AreAllowed, IsAllowed, IsStepAllowed}
 
 -- ---- one access
@@ -109,20 +113,21 @@ module _ (j : Judge) (i : Image) (s : State) where
   call_same true next may = refl
   call_same false next may = ap (λ x. entered x i supervisor_call next s.status s) (same_open j i s.protection Write 8 (frame_at s.core.sp) may)
 
-  returns_same : (psp : Bool) → AreAllowed j (record s.protection { handler = false }) Read (choose psp s.core.other_sp s.core.sp) 8 → returns j i psp s ≡ returns free i psp s
+  -- the frame that is returned to may be read
+  abbrev CanReturn : (psp : Bool) → Type 0
+  CanReturn psp = AreAllowed j (record s.protection { handler = false }) Read (choose psp s.core.other_sp s.core.sp) 8
+
+  returns_same : (psp : Bool) → CanReturn psp → returns j i psp s ≡ returns free i psp s
   returns_same psp may =
       let a : ℕ = choose psp s.core.other_sp s.core.sp in
       let ws : List ℕ = stacked_words i a 8 s.ram in
       ap (λ x. leaves x (is_thread (get_or ws 7 0)) psp a ws s) (same_open j i (record s.protection { handler = false }) Read 8 a may)
 
-  exchange_same : (to_psp to_msp : Bool) (v : ℕ) → ((psp : Bool) → AreAllowed j (record s.protection { handler = false }) Read (choose psp s.core.other_sp s.core.sp) 8) → exchanged to_psp to_msp j i v s ≡ exchanged to_psp to_msp free i v s
-  exchange_same true m v may = returns_same true (may true)
-  exchange_same false true v may = returns_same false (may false)
-  exchange_same false false v may = refl
-
-  exchange_thread : (handler to_psp to_msp : Bool) (v : ℕ) → handler ≡ false → exchanged (handler && to_psp) (handler && to_msp) j i v s ≡ exchanged (handler && to_psp) (handler && to_msp) free i v s
-  exchange_thread true x y v e = absurd (false≢true (sym e))
-  exchange_thread false x y v e = refl
+  exchange_same : (handler to_psp to_msp : Bool) (v : ℕ) → (handler ≡ true → to_psp ≡ true → CanReturn true) → (handler ≡ true → to_msp ≡ true → CanReturn false) → exchanged (handler && to_psp) (handler && to_msp) j i v s ≡ exchanged (handler && to_psp) (handler && to_msp) free i v s
+  exchange_same false x y v p m = refl
+  exchange_same true true y v p m = returns_same true (p refl refl)
+  exchange_same true false true v p m = returns_same false (m refl refl)
+  exchange_same true false false v p m = refl
 
 -- ---- what an instruction asks for
 
@@ -141,10 +146,9 @@ as_free j i (StoresMany a vs c) s may =
 as_free j i (GetsSpecial n d c) s may = refl
 as_free j i (SetsSpecial n v c) s may = refl
 as_free j i (Exchanges v) s may =
-    ⊎_elim
-    (λ thread. exchange_thread j i s s.protection.handler (nat_eq v return_on_psp) (nat_eq v return_on_msp) v thread)
-    (λ read. exchange_same j i s (s.protection.handler && nat_eq v return_on_psp) (s.protection.handler && nat_eq v return_on_msp) v read)
-    may
+    exchange_same j i s s.protection.handler (nat_eq v return_on_psp) (nat_eq v return_on_msp) v
+    (λ h e. may true (h, eqb-true v return_on_psp e))
+    (λ h e. may false (h, eqb-true v return_on_msp e))
 as_free j i (Calls next) s may = call_same j i s s.protection.handler next may
 as_free j i (Halts n) s may = refl
 as_free j i (Stops r) s may = refl

@@ -6,7 +6,7 @@ use Rattle.words.specs.Bytes.{read, write, cut}
 use Rattle.thumb_model.specs.declared.table.Instr.{Instr}
 use Rattle.mpu_model.specs.declared.region.Access.{Access}
 use Rattle.mpu_model.specs.declared.region.Access.TheVariants.{Read, Write}
-use Rattle.mem_bus.specs.declared.image.Image.{Image}
+use Rattle.device_model.specs.declared.image.Image.{Image}
 use Rattle.mem_bus.specs.Places.{InRam, InFlash, InWindow, place}
 use Rattle.armv7m.specs.declared.state.CoreRegisters.{CoreRegisters}
 use Rattle.armv7m.specs.declared.state.ProtectionState.{ProtectionState}
@@ -16,7 +16,8 @@ use Rattle.armv7m.specs.State.{Judge, is_unprivileged, with_register}
 use Rattle.armv7m.specs.Act.{Act, Changes, Loads, Stores, GetsSpecial, SetsSpecial, Halts}
 use Rattle.armv7m.specs.Instructions.{act}
 use Rattle.armv7m.specs.System.{in_system, read_special, write_special}
-use Rattle.armv7m.specs.Tests.{ToBus, verdict}
+use Rattle.armv7m.specs.declared.accesses.Verdict.TheVariants.{ToBus}
+use Rattle.armv7m.specs.Tests.{verdict}
 use Rattle.armv7m.specs.Perform.{perform}
 use Rattle.armv7m.specs.Step.{turn}
 use Rattle.armv7m.specs.Code.{size, Stands, live, Steps}

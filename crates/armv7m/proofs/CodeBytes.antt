@@ -9,11 +9,12 @@ use Rattle.thumb_model.specs.declared.table.Code.{Code}
 use Rattle.thumb_model.specs.declared.table.Code.TheVariants.{Half, Pair}
 use Rattle.thumb_model.specs.declared.table.Instr.{Instr}
 use Rattle.thumb_model.specs.declared.table.Instr.TheVariants.{BranchLink, BranchWide, MoveWide, MoveTop, Divide, SpecialRegister, Barrier}
-use Rattle.mem_bus.specs.declared.image.Image.{Image}
+use Rattle.device_model.specs.declared.image.Image.{Image}
 use Rattle.mem_bus.specs.Places.{InFlash, place, inside}
-use Rattle.mem_bus.specs.Rules.{ObeysRules}
+use Rattle.device_model.specs.Rules.{ObeysRules}
 use Rattle.armv7m.specs.Code.{size, HoldsHalf, HoldsCode, Lies}
-use Rattle.armv7m.specs.CodeBytes.{bytes_of_code, code_bytes, HoldsBytes, BytesAreCode}
+use Rattle.thumb_model.specs.Bytes.{bytes_of_code, code_bytes}
+use Rattle.armv7m.specs.CodeBytes.{HoldsBytes, BytesAreCode}
 use Rattle.armv7m.proofs.Exec.{HasForm, encode_form}
 
 -- ---- halfwords fit

@@ -6,10 +6,10 @@ use Rattle.words.specs.declared.conditions.Flags.{Flags}
 use Rattle.words.specs.Arithmetic.{word, add, subtract}
 use Rattle.words.specs.Flags.{add_with_carry, add_flags, compare_flags}
 use Rattle.thumb_model.specs.declared.table.Instr.TheVariants.{AddSubRegister, DataImmediate, HighRegister, BranchExchange, TransferImmediate, MoveWide, MoveTop}
-use Rattle.mem_bus.specs.declared.image.Image.{Image}
+use Rattle.device_model.specs.declared.image.Image.{Image}
 use Rattle.armv7m.specs.State.{Judge}
 use Rattle.armv7m.specs.Act.{Loads, Stores, Exchanges}
-use Rattle.armv7m.specs.DataOperations.{Gives}
+use Rattle.armv7m.specs.declared.data.Outcome.TheVariants.{Gives}
 use Rattle.armv7m.specs.Instructions.{act}
 use Rattle.armv7m.specs.Perform.{perform}
 use Rattle.armv7m.specs.Code.{Stands, Steps, Runs}

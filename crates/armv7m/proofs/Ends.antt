@@ -5,11 +5,11 @@ use Rattle.words.specs.Arithmetic.{word}
 use Rattle.thumb_model.specs.declared.table.Instr.{Instr}
 use Rattle.thumb_model.specs.Decoded.{decoded}
 use Rattle.mpu_model.specs.declared.region.Access.TheVariants.{Read, Write}
-use Rattle.mem_bus.specs.declared.image.Image.{Image}
-use Rattle.mem_bus.specs.declared.event.Loaded.{Loaded}
-use Rattle.mem_bus.specs.declared.event.Loaded.TheVariants.{Value, Device, NoInput, Unmapped}
-use Rattle.mem_bus.specs.declared.event.Stored.{Stored}
-use Rattle.mem_bus.specs.declared.event.Stored.TheVariants.{Done, Device as Taken, Unmapped as NotTaken}
+use Rattle.device_model.specs.declared.image.Image.{Image}
+use Rattle.mem_bus.specs.declared.answer.Loaded.{Loaded}
+use Rattle.mem_bus.specs.declared.answer.Loaded.TheVariants.{Value, Device, NoInput, Unmapped}
+use Rattle.mem_bus.specs.declared.answer.Stored.{Stored}
+use Rattle.mem_bus.specs.declared.answer.Stored.TheVariants.{Done, Device as Taken, Unmapped as NotTaken}
 use Rattle.mem_bus.specs.Places.{place}
 use Rattle.mem_bus.specs.Bus.{load_at, store_at}
 use Rattle.armv7m.specs.declared.state.CoreRegisters.{CoreRegisters}
@@ -19,10 +19,16 @@ use Rattle.armv7m.specs.State.{State, Judge, is_unprivileged, with_core}
 use Rattle.armv7m.specs.Act.{Act, Changes, Loads, Stores, LoadsMany, StoresMany, GetsSpecial, SetsSpecial, Exchanges, Calls, Halts, Stops}
 use Rattle.armv7m.specs.Instructions.{act}
 use Rattle.armv7m.specs.System.{in_system, write_special}
-use Rattle.armv7m.specs.Tests.{Verdict, ToBus, ToSystem, Refused, Bad, verdict, Verdicts, AllGood, RefusedAt, BadOne, verdicts}
+use Rattle.armv7m.specs.declared.accesses.Verdict.{Verdict}
+use Rattle.armv7m.specs.declared.accesses.Verdict.TheVariants.{ToBus, ToSystem, Refused, Bad}
+use Rattle.armv7m.specs.declared.several.Verdicts.{Verdicts}
+use Rattle.armv7m.specs.declared.several.Verdicts.TheVariants.{AllGood, RefusedAt, BadOne}
+use Rattle.armv7m.specs.Tests.{verdict, verdicts}
 use Rattle.armv7m.specs.Exceptions.{entered, call, fault_by, is_frame_open, is_fault_enabled, data_fault, fetch_fault, leaves, returns, mem_manage, supervisor_call}
 use Rattle.armv7m.specs.Perform.{perform, loaded, stored, after_load, after_store, after_loads, after_stores, word_to, put_words, or_usage, exchanged, jumped}
-use Rattle.armv7m.specs.Step.{turn, fetch, Fetched, Took, NotAllowed, NotMapped, performed, fetched, running}
+use Rattle.armv7m.specs.declared.fetching.Fetched.{Fetched}
+use Rattle.armv7m.specs.declared.fetching.Fetched.TheVariants.{Took, NotAllowed, NotMapped}
+use Rattle.armv7m.specs.Step.{turn, fetch, performed, fetched, running}
 use Rattle.armv7m.specs.Machine.{EndsOrGoesOn, StepsEndOrGoOn}
 
 entered_ends : (b : Bool) (i : Image) (n ret : ℕ) (t : FaultStatus) (s : State) → EndsOrGoesOn s (entered b i n ret t s)

@@ -6,7 +6,7 @@ use Rattle.words.specs.Bytes.{write_all}
 use Rattle.thumb_model.specs.declared.table.Instr.{Instr}
 use Rattle.mpu_model.specs.declared.region.Access.{Access}
 use Rattle.mpu_model.specs.declared.region.Access.TheVariants.{Read, Write, Fetch}
-use Rattle.mem_bus.specs.declared.image.Image.{Image}
+use Rattle.device_model.specs.declared.image.Image.{Image}
 use Rattle.armv7m.specs.declared.state.CoreRegisters.{CoreRegisters}
 use Rattle.armv7m.specs.declared.state.ProtectionState.{ProtectionState}
 use Rattle.armv7m.specs.declared.state.FaultStatus.{FaultStatus}
@@ -14,10 +14,13 @@ use Rattle.armv7m.specs.State.{Turn, Judge}
 use Rattle.armv7m.specs.Act.{Loads, Stores, LoadsMany, StoresMany, Exchanges, Calls}
 use Rattle.armv7m.specs.Instructions.{act}
 use Rattle.armv7m.specs.System.{in_system}
-use Rattle.armv7m.specs.Tests.{verdict, Refused, verdicts, RefusedAt, all_open}
+use Rattle.armv7m.specs.declared.accesses.Verdict.TheVariants.{Refused}
+use Rattle.armv7m.specs.declared.several.Verdicts.TheVariants.{RefusedAt}
+use Rattle.armv7m.specs.Tests.{verdict, verdicts, all_open}
 use Rattle.armv7m.specs.Exceptions.{words_from, frame_at, frame_of, entry_core, entered, is_frame_open, call, fault_by, is_fault_enabled, vector_offset, supervisor_call, mem_manage, return_on_psp, return_on_msp, is_thread, unstacked}
 use Rattle.armv7m.specs.Perform.{perform, after_load, after_store, after_loads, after_stores}
-use Rattle.armv7m.specs.Step.{turn, fetch, fetched, NotAllowed}
+use Rattle.armv7m.specs.declared.fetching.Fetched.TheVariants.{NotAllowed}
+use Rattle.armv7m.specs.Step.{turn, fetch, fetched}
 use Rattle.armv7m.specs.Code.{size, Stands, live, Steps}
 use Rattle.armv7m.specs.Stack.{Words, words_at, May, Frame}
 use Rattle.armv7m.proofs.Exec.{steps_from}

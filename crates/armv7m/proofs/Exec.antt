@@ -4,21 +4,23 @@ use Rattle.std.proofs.lemmas.Bool.Decides.{nat_tests}
 use Rattle.words.proofs.Runs.{stay as stay_run, onward as onward_run, next as next_run, next_event as next_event_run}
 use Rattle.thumb_model.specs.Table.{InTable, encode}
 use Rattle.thumb_model.specs.Decoded.{decoded_code}
-use Rattle.thumb_model.proofs.Round.{decoded_code-encode}
+use Rattle.thumb_model.proofs.Relation.{round_trip}
 use Rattle.thumb_model.specs.declared.table.Code.{Code}
 use Rattle.thumb_model.specs.declared.table.Code.TheVariants.{Half, Pair}
 use Rattle.thumb_model.specs.declared.table.Instr.{Instr}
 use Rattle.thumb_model.specs.declared.table.Instr.TheVariants.{ShiftImmediate, AddSubRegister, AddSubImmediate, DataImmediate, DataRegister, HighRegister, BranchExchange, LoadLiteral, TransferRegister, TransferImmediate, StackRelative, AdjustStack, PushPop, BreakpointNop, TransferMultiple, BranchConditional, CallBranch, BranchLink, BranchWide, MoveWide, MoveTop, Divide, SpecialRegister, Barrier}
 use Rattle.mpu_model.specs.declared.region.Access.TheVariants.{Fetch}
-use Rattle.mem_bus.specs.declared.image.Image.{Image}
-use Rattle.mem_bus.specs.declared.event.Event.{Event}
+use Rattle.device_model.specs.declared.image.Image.{Image}
+use Rattle.device_model.specs.declared.event.Event.{Event}
 use Rattle.armv7m.specs.declared.state.CoreRegisters.{CoreRegisters}
 use Rattle.armv7m.specs.declared.state.ProtectionState.{ProtectionState}
 use Rattle.armv7m.specs.declared.state.FaultStatus.{FaultStatus}
 use Rattle.armv7m.specs.State.{State, Turn, Judge}
 use Rattle.armv7m.specs.Instructions.{act}
 use Rattle.armv7m.specs.Perform.{perform}
-use Rattle.armv7m.specs.Step.{turn, fetch, fetched, Fetched, Took}
+use Rattle.armv7m.specs.declared.fetching.Fetched.{Fetched}
+use Rattle.armv7m.specs.declared.fetching.Fetched.TheVariants.{Took}
+use Rattle.armv7m.specs.Step.{turn, fetch, fetched}
 use Rattle.armv7m.specs.Running.{code_size, CodeMayRun, CodeHasParts}
 use Rattle.armv7m.specs.Events.{StepsWith}
 use Rattle.armv7m.specs.Code.{size, HoldsCode, MayFetch, Stands, CodeIn, live, Steps, Runs}
@@ -116,7 +118,7 @@ unfolding turn
 stepped j i c p t ram queues x h =
     let f = encode_form x h.lies.in_table in
     let e = fetches j i (live c p t ram queues) (encode x) (size x) h.lies.code h.may_fetch f in
-    rw e (performs j i (live c p t ram queues) (encode x) (size x) x f (decoded_code-encode x 0 h.lies.in_table))
+    rw e (performs j i (live c p t ram queues) (encode x) (size x) x f (round_trip x 0 h.lies.in_table))
 
 -- ---- steps one after another
 

@@ -8,12 +8,12 @@ use Rattle.thumb_model.specs.declared.table.Instr.{Instr}
 use Rattle.thumb_model.specs.Decoded.{decoded}
 use Rattle.mpu_model.specs.declared.region.Access.{Access}
 use Rattle.mpu_model.specs.declared.region.Access.TheVariants.{Read, Write}
-use Rattle.mem_bus.specs.declared.event.Loaded.{Loaded}
-use Rattle.mem_bus.specs.declared.event.Loaded.TheVariants.{Value, Device, NoInput, Unmapped}
-use Rattle.mem_bus.specs.declared.image.Image.{Image}
-use Rattle.mem_bus.specs.declared.image.Window.{Window}
+use Rattle.mem_bus.specs.declared.answer.Loaded.{Loaded}
+use Rattle.mem_bus.specs.declared.answer.Loaded.TheVariants.{Value, Device, NoInput, Unmapped}
+use Rattle.device_model.specs.declared.image.Image.{Image}
+use Rattle.device_model.specs.declared.image.Window.{Window}
 use Rattle.mem_bus.specs.Places.{Place, InRam, InFlash, InWindow, Nowhere, inside, choose, find_window, place, is_memory}
-use Rattle.mem_bus.specs.Rules.{ObeysRules}
+use Rattle.device_model.specs.Rules.{ObeysRules}
 use Rattle.mem_bus.specs.Bus.{load_at, store_at}
 use Rattle.armv7m.specs.declared.state.CoreRegisters.{CoreRegisters}
 use Rattle.armv7m.specs.declared.state.ProtectionState.{ProtectionState}
@@ -23,12 +23,18 @@ use Rattle.armv7m.specs.State.{State, Touched, Turn, Judge, is_unprivileged}
 use Rattle.armv7m.specs.Act.{Act, Changes, Loads, Stores, LoadsMany, StoresMany, GetsSpecial, SetsSpecial, Exchanges, Calls, Halts, Stops}
 use Rattle.armv7m.specs.Instructions.{act}
 use Rattle.armv7m.specs.System.{in_system, is_system_register}
-use Rattle.armv7m.specs.Tests.{Verdict, ToBus, ToSystem, Refused, Bad, tested, verdict, Verdicts, AllGood, RefusedAt, BadOne, and_then, verdicts, all_open}
+use Rattle.armv7m.specs.declared.accesses.Verdict.{Verdict}
+use Rattle.armv7m.specs.declared.accesses.Verdict.TheVariants.{ToBus, ToSystem, Refused, Bad}
+use Rattle.armv7m.specs.declared.several.Verdicts.{Verdicts}
+use Rattle.armv7m.specs.declared.several.Verdicts.TheVariants.{AllGood, RefusedAt, BadOne}
+use Rattle.armv7m.specs.Tests.{tested, verdict, and_then, verdicts, all_open}
 use Rattle.armv7m.specs.Exceptions.{stacked_words, words_from, mem_manage, supervisor_call, frame_at, entered, is_frame_open, call, is_fault_enabled, fault_by, is_thread, leaves, returns}
 use Rattle.armv7m.specs.Perform.{loaded, after_load, stored, after_store, get_words, or_usage, after_loads, after_stores, jumped, exchanged, perform}
-use Rattle.armv7m.specs.Step.{Fetched, Took, NotAllowed, NotMapped, fetch, performed, fetched, running, turn}
+use Rattle.armv7m.specs.declared.fetching.Fetched.{Fetched}
+use Rattle.armv7m.specs.declared.fetching.Fetched.TheVariants.{Took, NotAllowed, NotMapped}
+use Rattle.armv7m.specs.Step.{fetch, performed, fetched, running, turn}
 use Rattle.armv7m.specs.Confinement.{Each}
-use Rattle.armv7m.proofs.Confinement.{and_second, and_last}
+use Rattle.armv7m.proofs.Tested.{open_tests}
 
 -- an access that does not lead to flash
 abbrev pub NotFlash : Image → Touched → Type 0
@@ -111,10 +117,9 @@ module _ (j : Judge) (i : Image) (rules : ObeysRules i) (p : ProtectionState) wh
   open_not_flash : (n a : ℕ) → all_open j i p Write a n ≡ true → Each (NotFlash i) (words_from a n)
   unfolding all_open words_from
   open_not_flash zero a e = tt
-  open_not_flash (suc n) a e = (
-    λ o. memory_not_flash (place i a) o (and_second (j p Write a) (is_memory Write (place i a)) (all_open j i p Write (word (a + 4)) n) e),
-    open_not_flash n (word (a + 4)) (and_last (j p Write a && is_memory Write (place i a)) (all_open j i p Write (word (a + 4)) n) e),
-  )
+  open_not_flash (suc n) a e =
+      let t = open_tests (j p Write a) (is_memory Write (place i a)) (all_open j i p Write (word (a + 4)) n) e in
+      (λ o. memory_not_flash (place i a) o t.1, open_not_flash n (word (a + 4)) t.2)
 
 -- ---- a step
 

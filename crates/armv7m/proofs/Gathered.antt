@@ -1,6 +1,6 @@
 -- The laws of running code, put together.
 use Rattle.armv7m.specs.State.{Judge}
-use Rattle.mem_bus.specs.declared.image.Image.{Image}
+use Rattle.device_model.specs.declared.image.Image.{Image}
 use Rattle.armv7m.specs.Running.{StepsAreActs, RunsGoOn, EachLive, ActSteps, ExceptionSteps}
 use Rattle.armv7m.proofs.Exec.{stepped, next_step, next_event, onward}
 use Rattle.armv7m.proofs.Acts.{changes, loads_ram, loads_flash, loads_window, loads_nothing, stores_ram, stores_window, halts}

@@ -1,27 +1,36 @@
 pub mod Runs
-pub mod AccessLaw
-pub mod Confinement
-pub mod Flash
-pub mod Listed
-pub mod Examples
+mod AccessLaw
+pub mod Tested
+mod Flash
+mod Listed
 pub mod Exec
-pub mod Acts
-pub mod Stack
+mod Acts
+mod Stack
 pub mod Templates
 pub mod Transfers
-pub mod Special
-pub mod Entries
-pub mod Frames
-pub mod Gathered
-pub mod Threads
+mod Special
+mod Entries
+mod Frames
+mod Gathered
+mod Threads
 pub mod Constants
-pub mod ShapeActs
-pub mod Shape
-pub mod ShapeSteps
+mod ShapeActs
+mod Shape
+mod ShapeSteps
 pub mod CodeBytes
-pub mod Loaded
-pub mod Lists
-pub mod Fetches
-pub mod Ends
-pub mod Machines
-pub mod MachineRuns
+pub mod CodeParts
+mod Loaded
+mod Lists
+mod Fetches
+mod Ends
+mod Machines
+mod MachineRuns
+mod ActStacks
+pub mod Asked
+pub mod ThreadStep
+pub mod AnyStep
+pub mod Turns
+pub mod EntryFrame
+mod SameBytes
+mod Locality
+mod Accessed

@@ -4,10 +4,11 @@ use Rattle.std.proofs.Math.ListN.{get_or}
 use Rattle.thumb_model.specs.declared.table.Instr.{Instr}
 use Rattle.thumb_model.specs.Decoded.{decoded}
 use Rattle.mpu_model.specs.declared.region.Access.TheVariants.{Read, Write, Fetch}
-use Rattle.mem_bus.specs.declared.event.Event.{Event}
-use Rattle.mem_bus.specs.declared.image.Image.{Image}
+use Rattle.device_model.specs.declared.event.Event.{Event}
+use Rattle.device_model.specs.declared.image.Image.{Image}
 use Rattle.mem_bus.specs.Places.{Place, InRam, InFlash, InWindow, Nowhere, choose, place}
-use Rattle.mem_bus.specs.Bus.{queue, input, load_at, store_at, fetch_at}
+use Rattle.mem_bus.specs.Bus.{input, load_at, store_at, fetch_at}
+use Rattle.device_model.specs.Input.{queue}
 use Rattle.armv7m.specs.declared.state.CoreRegisters.{CoreRegisters}
 use Rattle.armv7m.specs.declared.state.FaultStatus.{FaultStatus}
 use Rattle.armv7m.specs.declared.state.End.{End}
@@ -15,10 +16,16 @@ use Rattle.armv7m.specs.Confinement.{AnyOf, ListsEvent, FetchesArePermitted}
 use Rattle.armv7m.specs.State.{State, Touched, Judge}
 use Rattle.armv7m.specs.Act.{Act, Changes, Loads, Stores, LoadsMany, StoresMany, GetsSpecial, SetsSpecial, Exchanges, Calls, Halts, Stops}
 use Rattle.armv7m.specs.Instructions.{act}
-use Rattle.armv7m.specs.Tests.{Verdict, ToBus, ToSystem, Refused, Bad, verdict, Verdicts, AllGood, RefusedAt, BadOne, verdicts, all_open}
+use Rattle.armv7m.specs.declared.accesses.Verdict.{Verdict}
+use Rattle.armv7m.specs.declared.accesses.Verdict.TheVariants.{ToBus, ToSystem, Refused, Bad}
+use Rattle.armv7m.specs.declared.several.Verdicts.{Verdicts}
+use Rattle.armv7m.specs.declared.several.Verdicts.TheVariants.{AllGood, RefusedAt, BadOne}
+use Rattle.armv7m.specs.Tests.{verdict, verdicts, all_open}
 use Rattle.armv7m.specs.Exceptions.{stacked_words, mem_manage, supervisor_call, entered, is_frame_open, call, is_fault_enabled, fault_by, fetch_fault, is_thread, leaves, returns}
 use Rattle.armv7m.specs.Perform.{loaded, after_load, stored, after_store, get_words, or_usage, after_loads, after_stores, jumped, exchanged, perform}
-use Rattle.armv7m.specs.Step.{Fetched, Took, NotAllowed, NotMapped, by_size, first_half, fetch, performed, fetched, running, turn}
+use Rattle.armv7m.specs.declared.fetching.Fetched.{Fetched}
+use Rattle.armv7m.specs.declared.fetching.Fetched.TheVariants.{Took, NotAllowed, NotMapped}
+use Rattle.armv7m.specs.Step.{by_size, first_half, fetch, performed, fetched, running, turn}
 
 some_same : {A : Type 0} (x y : A) → Some x ≡ Some y → x ≡ y
 some_same x y h = cc

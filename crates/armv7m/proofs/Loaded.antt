@@ -2,11 +2,12 @@
 use Rattle.std.proofs.Common.{ℕ, ◌^◌, ◌<◌, List, [], ◌∷◌, arith}
 use Rattle.std.proofs.Math.Nat.{one-le-pow}
 use Rattle.words.proofs.Bytes.{read_fits, cut_is}
-use Rattle.mem_bus.specs.declared.image.Image.{Image}
-use Rattle.mem_bus.specs.declared.event.Loaded.{Loaded}
-use Rattle.mem_bus.specs.declared.event.Loaded.TheVariants.{Value, Device, NoInput, Unmapped}
+use Rattle.device_model.specs.declared.image.Image.{Image}
+use Rattle.mem_bus.specs.declared.answer.Loaded.{Loaded}
+use Rattle.mem_bus.specs.declared.answer.Loaded.TheVariants.{Value, Device, NoInput, Unmapped}
 use Rattle.mem_bus.specs.Places.{Place, InRam, InFlash, InWindow, Nowhere}
-use Rattle.mem_bus.specs.Bus.{load_at, input, queue}
+use Rattle.mem_bus.specs.Bus.{load_at, input}
+use Rattle.device_model.specs.Input.{queue}
 
 abbrev pub IsBelow : Loaded → (limit : ℕ) → Type 0
 IsBelow (Value v) n = v < n

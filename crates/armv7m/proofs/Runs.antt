@@ -2,7 +2,7 @@
 use Rattle.std.proofs.Common.{◌≡◌, ℕ, ◌+◌, List, [], ◌++◌, Some, None, ap, ◌∙◌, append-nil}
 use Rattle.words.specs.Runs.{run, events}
 use Rattle.words.proofs.Runs.{run-add, events-add, run_still, events_still}
-use Rattle.mem_bus.specs.declared.image.Image.{Image}
+use Rattle.device_model.specs.declared.image.Image.{Image}
 use Rattle.armv7m.specs.declared.state.End.{End}
 use Rattle.armv7m.specs.State.{State, Judge, by_mpu, calm}
 use Rattle.armv7m.specs.Step.{turn, running, step, event}

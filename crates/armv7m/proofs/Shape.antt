@@ -7,7 +7,7 @@ use Rattle.words.proofs.Bytes.{read_fits, length-write}
 use Rattle.mpu_model.specs.declared.region.Region.{Region}
 use Rattle.mpu_model.specs.Registers.{Registers, blank, selected, with_address, with_attributes, write_address, write_register, read_register, read_address, kept_address, kept_attributes}
 use Rattle.mpu_model.specs.declared.TheConstants.{MPU_TYPE, MPU_CTRL, MPU_RNR, MPU_RBAR, MPU_RASR}
-use Rattle.mem_bus.specs.declared.image.Image.{Image}
+use Rattle.device_model.specs.declared.image.Image.{Image}
 use Rattle.mem_bus.specs.Places.{Place, InRam, InFlash, InWindow, Nowhere, choose}
 use Rattle.mem_bus.specs.Bus.{put_at, word_at}
 use Rattle.armv7m.specs.declared.TheConstants.{CCR, SHCSR, CFSR, MMFAR}
@@ -131,17 +131,17 @@ put_length Nowhere w v ram = refl
 
 -- ---- states
 
-pub with_core_fits : (i : Image) (count : ℕ) (s : State) (c : CoreRegisters) → StateFits i count s → CoreFits c → StateFits i count (with_core s c)
-with_core_fits i count s c h f = record { core = f; status = h.status; unit = h.unit; ram_count = h.ram_count; queue_count = h.queue_count }
+pub with_core_fits : (i : Image) (s : State) (c : CoreRegisters) → StateFits i s → CoreFits c → StateFits i (with_core s c)
+with_core_fits i s c h f = record { core = f; status = h.status; unit = h.unit; ram_count = h.ram_count; queue_count = h.queue_count }
 
-pub with_ram_fits : (i : Image) (count : ℕ) (s : State) (ram : List ℕ) → StateFits i count s → length ram ≡ length s.ram → StateFits i count (record s { ram = ram })
-with_ram_fits i count s ram h e = record { core = h.core; status = h.status; unit = h.unit; ram_count = e ∙ h.ram_count; queue_count = h.queue_count }
+pub with_ram_fits : (i : Image) (s : State) (ram : List ℕ) → StateFits i s → length ram ≡ length s.ram → StateFits i (record s { ram = ram })
+with_ram_fits i s ram h e = record { core = h.core; status = h.status; unit = h.unit; ram_count = e ∙ h.ram_count; queue_count = h.queue_count }
 
-pub write_system_fits : (i : Image) (count a v : ℕ) (s : State) → StateFits i count s → v < 2 ^ 32 → StateFits i count (write_system a v s)
-write_system_fits i count a v s h f = record {
+pub write_system_fits : (i : Image) (a v : ℕ) (s : State) → StateFits i s → v < 2 ^ 32 → StateFits i (write_system a v s)
+write_system_fits i a v s h f = record {
   core = h.core;
   status = write_status_fits a v s.status h.status f;
-  unit = write_register_fits count a v s.protection.mpu h.unit f;
+  unit = write_register_fits i.regions a v s.protection.mpu h.unit f;
   ram_count = h.ram_count;
   queue_count = h.queue_count;
 }

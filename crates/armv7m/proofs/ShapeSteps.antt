@@ -1,30 +1,29 @@
 -- Performing keeps the shape of a state, and so does a step.
 use Rattle.std.specs.Prelude.{replicate}
-use Rattle.std.proofs.Common.{◌≡◌, ℕ, zero, suc, ◌+◌, ◌-◌, ◌*◌, ◌/◌, ◌%◌, ◌^◌, ◌<◌, ◌≤◌, Bool, true, false, not, ◌&&◌, List, [], ◌∷◌, length, get_or, Option, Some, None, nat_eq, nat_lt, refl, ap, ◌∙◌, arith}
+use Rattle.std.proofs.Common.{◌≡◌, ℕ, zero, suc, ◌+◌, ◌-◌, ◌*◌, ◌/◌, ◌%◌, ◌^◌, ◌<◌, ◌≤◌, Bool, true, false, List, [], ◌∷◌, length, get_or, Option, Some, None, nat_eq, refl, ap, ◌∙◌, ⊎_elim, arith}
 use Rattle.std.specs.Prelude.{if◌then◌else◌}
 use Rattle.std.specs.Option.{IfSome}
 use Rattle.std.proofs.Math.Nat.{one-le-pow, pow-le-pow_right}
 use Rattle.std.proofs.lemmas.List.{length-set}
 use Rattle.std.proofs.lemmas.Nat.{or_lt}
-use Rattle.std.proofs.lemmas.Bool.Decides.{nat_tests}
 use Rattle.words.specs.Arithmetic.{word}
 use Rattle.words.specs.Bytes.{read, cut}
 use Rattle.words.proofs.Bytes.{read_fits, cut_is}
 use Rattle.thumb_model.specs.Table.{Encodes, read_code}
 use Rattle.thumb_model.specs.Decoded.{decoded}
-use Rattle.thumb_model.proofs.Sound.{Encodes-decoded}
+use Rattle.thumb_model.proofs.Relation.{Encodes-decoded}
 use Rattle.thumb_model.specs.declared.table.Instr.{Instr}
 use Rattle.mpu_model.specs.declared.region.Access.{Access}
 use Rattle.mpu_model.specs.declared.region.Access.TheVariants.{Read, Write}
-use Rattle.mem_bus.specs.declared.image.Image.{Image}
-use Rattle.mem_bus.specs.declared.image.Window.{Window}
-use Rattle.mem_bus.specs.declared.event.Loaded.{Loaded}
-use Rattle.mem_bus.specs.declared.event.Loaded.TheVariants.{Value, Device, NoInput, Unmapped}
-use Rattle.mem_bus.specs.declared.event.Stored.{Stored}
-use Rattle.mem_bus.specs.declared.event.Stored.TheVariants.{Done, Device as Taken, Unmapped as NotTaken}
-use Rattle.mem_bus.specs.Places.{is_memory, Place, InRam, InFlash, InWindow, Nowhere, place, choose, inside, find_window}
-use Rattle.mem_bus.specs.Bus.{load_at, store_at, put_at, fetch_at, taken, input, queue}
-use Rattle.mem_bus.specs.Rules.{ObeysRules}
+use Rattle.device_model.specs.declared.image.Image.{Image}
+use Rattle.mem_bus.specs.declared.answer.Loaded.{Loaded}
+use Rattle.mem_bus.specs.declared.answer.Loaded.TheVariants.{Value, Device, NoInput, Unmapped}
+use Rattle.mem_bus.specs.declared.answer.Stored.{Stored}
+use Rattle.mem_bus.specs.declared.answer.Stored.TheVariants.{Done, Device as Taken, Unmapped as NotTaken}
+use Rattle.mem_bus.specs.Places.{is_memory, Place, InRam, InFlash, InWindow, Nowhere, place, choose}
+use Rattle.mem_bus.specs.Bus.{load_at, store_at, put_at, input}
+use Rattle.device_model.specs.Input.{taken, queue}
+use Rattle.device_model.specs.Rules.{ObeysRules}
 use Rattle.armv7m.specs.declared.state.CoreRegisters.{CoreRegisters}
 use Rattle.armv7m.specs.declared.state.ProtectionState.{ProtectionState}
 use Rattle.armv7m.specs.declared.state.FaultStatus.{FaultStatus}
@@ -34,15 +33,22 @@ use Rattle.armv7m.specs.Act.{Act, Changes, Loads, Stores, LoadsMany, StoresMany,
 use Rattle.armv7m.specs.Instructions.{act}
 use Rattle.armv7m.specs.Stack.{AreWords}
 use Rattle.armv7m.specs.System.{read_system, read_special, write_special, with_stack, selected_stack, write_stack_pointer, is_in_use, in_system}
-use Rattle.armv7m.specs.Tests.{Verdict, ToBus, ToSystem, Refused, Bad, verdict, Verdicts, AllGood, RefusedAt, BadOne, verdicts, and_then}
+use Rattle.armv7m.specs.declared.accesses.Verdict.{Verdict}
+use Rattle.armv7m.specs.declared.accesses.Verdict.TheVariants.{ToBus, ToSystem, Refused, Bad}
+use Rattle.armv7m.specs.declared.several.Verdicts.{Verdicts}
+use Rattle.armv7m.specs.declared.several.Verdicts.TheVariants.{AllGood, RefusedAt, BadOne}
+use Rattle.armv7m.specs.Tests.{verdict, verdicts, and_then}
 use Rattle.armv7m.specs.Exceptions.{push_words, stacked_words, frame_at, frame_of, has_pad, vector, entry_core, entered, call, fault_by, is_frame_open, is_fault_enabled, data_fault, fetch_fault, with_pad, unstacked, leaves, returns, mem_manage, supervisor_call}
 use Rattle.armv7m.specs.Perform.{perform, loaded, stored, after_load, after_store, after_loads, after_stores, word_from, word_to, get_words, put_words, or_usage, exchanged, jumped}
 use Rattle.words.specs.Runs.{run}
 use Rattle.mpu_model.specs.Registers.{blank}
 use Rattle.armv7m.specs.Run.{start}
-use Rattle.armv7m.specs.Step.{step, turn, fetch, Fetched, Took, NotAllowed, NotMapped, first_half, second_half, by_size, performed, fetched, running}
+use Rattle.armv7m.specs.declared.fetching.Fetched.{Fetched}
+use Rattle.armv7m.specs.declared.fetching.Fetched.TheVariants.{Took, NotAllowed, NotMapped}
+use Rattle.armv7m.specs.Step.{step, turn, fetch, performed, fetched, running}
 use Rattle.armv7m.specs.Shape.{EachWord, CoreFits, StatusFits, StateFits, StepsKeepShape, RunsKeepShape}
 use Rattle.armv7m.proofs.ShapeActs.{ActFits, MaybeFits, act_fits, if_below, set_words, at_fits, stack_fits, with_register_fits, odd_before}
+use Rattle.armv7m.proofs.Fetches.{FetchedFits, fetch_fits}
 use Rattle.armv7m.proofs.Shape.{choose_below, choose_core, read_system_fits, word_fits, put_length, with_core_fits, with_ram_fits, write_system_fits}
 
 -- ---- values
@@ -76,32 +82,21 @@ load_at_fits (InFlash o) i ram queues w h = value_fits w o i.flash h
 load_at_fits (InWindow k o) i ram queues w h = input_fits (queue queues k) k o w h
 load_at_fits Nowhere i ram queues w h = tt
 
--- ---- places
-
-and_right : (x y : Bool) → x && y ≡ true → y ≡ true
-and_right true y h = h
-and_right false y h = cc
-
-inside_below : (base size a : ℕ) → inside base size a ≡ true → a < base + size
-inside_below base size a e =
-    let t = and_right (not (nat_lt a base)) (nat_lt a (base + size)) e in
-    grind (arith, nat_tests)
-
 -- ---- states
 
-module _ (i : Image) (count : ℕ) where
-  ended_fits : (e : End) (s : State) → StateFits i count s → StateFits i count (record s { ending = Some e })
+module _ (i : Image) where
+  ended_fits : (e : End) (s : State) → StateFits i s → StateFits i (record s { ending = Some e })
   ended_fits e s h = record { core = h.core; status = h.status; unit = h.unit; ram_count = h.ram_count; queue_count = h.queue_count }
 
-  taken_fits : (s : State) (c : CoreRegisters) (k : ℕ) → StateFits i count s → CoreFits c → StateFits i count (record s { core = c; queues = taken s.queues k })
+  taken_fits : (s : State) (c : CoreRegisters) (k : ℕ) → StateFits i s → CoreFits c → StateFits i (record s { core = c; queues = taken s.queues k })
   taken_fits s c k h f = record { core = f; status = h.status; unit = h.unit; ram_count = h.ram_count; queue_count = length-set s.queues k _ ∙ h.queue_count }
 
-  stored_in_ram_fits : (s : State) (c : CoreRegisters) (p : Place) (w v : ℕ) → StateFits i count s → CoreFits c → StateFits i count (record s { core = c; ram = put_at p w v s.ram })
+  stored_in_ram_fits : (s : State) (c : CoreRegisters) (p : Place) (w v : ℕ) → StateFits i s → CoreFits c → StateFits i (record s { core = c; ram = put_at p w v s.ram })
   stored_in_ram_fits s c p w v h f = record { core = f; status = h.status; unit = h.unit; ram_count = put_length p w v s.ram ∙ h.ram_count; queue_count = h.queue_count }
 
   -- ---- exceptions
 
-  pushed_length : (vs : List ℕ) (a : ℕ) (ram : List ℕ) → length (push_words i a vs ram) ≡ length ram
+  pub pushed_length : (vs : List ℕ) (a : ℕ) (ram : List ℕ) → length (push_words i a vs ram) ≡ length ram
   unfolding push_words
   pushed_length [] a ram = refl
   pushed_length (v ∷ vs) a ram = pushed_length vs (word (a + 4)) (put_at (place i a) 4 v ram) ∙ put_length (place i a) 4 v ram
@@ -137,25 +132,25 @@ module _ (i : Image) (count : ℕ) where
         pc_even = omega arith;
       }
 
-  entered_fits : (b : Bool) (n ret : ℕ) (t : FaultStatus) (s : State) → StateFits i count s → StatusFits t → StateFits i count (entered b i n ret t s).to
+  entered_fits : (b : Bool) (n ret : ℕ) (t : FaultStatus) (s : State) → StateFits i s → StatusFits t → StateFits i (entered b i n ret t s).to
   entered_fits false n ret t s h f = ended_fits _ s h
   entered_fits true n ret t s h f = record { core = entry_fits n s.core h.core; status = f; unit = h.unit; ram_count = pushed_length (frame_of s.core ret) (frame_at s.core.sp) s.ram ∙ h.ram_count; queue_count = h.queue_count }
 
-  call_fits : (b : Bool) (j : Judge) (next : ℕ) (s : State) → StateFits i count s → StateFits i count (call b j i next s).to
+  call_fits : (b : Bool) (j : Judge) (next : ℕ) (s : State) → StateFits i s → StateFits i (call b j i next s).to
   call_fits true j next s h = ended_fits _ s h
   call_fits false j next s h = entered_fits (is_frame_open j i s) supervisor_call next s.status s h h.status
 
-  fault_fits : (b e : Bool) (j : Judge) (t : FaultStatus) (s : State) → StateFits i count s → StatusFits t → StateFits i count (fault_by b e j i t s).to
+  fault_fits : (b e : Bool) (j : Judge) (t : FaultStatus) (s : State) → StateFits i s → StatusFits t → StateFits i (fault_by b e j i t s).to
   fault_fits true e j t s h f = ended_fits _ s h
   fault_fits false false j t s h f = ended_fits _ s h
   fault_fits false true j t s h f = entered_fits (is_frame_open j i s) mem_manage s.core.pc t s h f
 
-  data_fault_fits : (j : Judge) (a : ℕ) (s : State) → StateFits i count s → a < 2 ^ 32 → StateFits i count (data_fault j i a s).to
+  data_fault_fits : (j : Judge) (a : ℕ) (s : State) → StateFits i s → a < 2 ^ 32 → StateFits i (data_fault j i a s).to
   data_fault_fits j a s h f =
       fault_fits s.protection.handler (is_fault_enabled s.status) j _ s h
       (record { shcsr_word = h.status.shcsr_word; cfsr_word = or_lt 32 s.status.cfsr 0x82 h.status.cfsr_word (omega arith); mmfar_word = f })
 
-  fetch_fault_fits : (j : Judge) (s : State) → StateFits i count s → StateFits i count (fetch_fault j i s).to
+  fetch_fault_fits : (j : Judge) (s : State) → StateFits i s → StateFits i (fetch_fault j i s).to
   fetch_fault_fits j s h =
       fault_fits s.protection.handler (is_fault_enabled s.status) j _ s h
       (record { shcsr_word = h.status.shcsr_word; cfsr_word = or_lt 32 s.status.cfsr 1 h.status.cfsr_word (omega arith); mmfar_word = h.status.mmfar_word })
@@ -192,64 +187,64 @@ module _ (i : Image) (count : ℕ) where
         pc_even = omega arith;
       }
 
-  leaves_fits : (o t psp : Bool) (a : ℕ) (ws : List ℕ) (s : State) → StateFits i count s → a % 4 ≡ 0 → EachWord ws → StateFits i count (leaves o t psp a ws s).to
+  leaves_fits : (o t psp : Bool) (a : ℕ) (ws : List ℕ) (s : State) → StateFits i s → a % 4 ≡ 0 → EachWord ws → StateFits i (leaves o t psp a ws s).to
   leaves_fits false t psp a ws s h al w = ended_fits _ s h
   leaves_fits true false psp a ws s h al w = ended_fits _ s h
   leaves_fits true true psp a ws s h al w = record { core = unstacked_fits psp s.core a ws h.core al w; status = h.status; unit = h.unit; ram_count = h.ram_count; queue_count = h.queue_count }
 
-  returns_fits : (j : Judge) (psp : Bool) (s : State) → StateFits i count s → StateFits i count (returns j i psp s).to
+  returns_fits : (j : Judge) (psp : Bool) (s : State) → StateFits i s → StateFits i (returns j i psp s).to
   returns_fits j psp s h =
       leaves_fits _ _ psp (choose psp s.core.other_sp s.core.sp) _ s h (choose_aligned psp s.core.other_sp s.core.sp h.core.other_aligned h.core.sp_aligned) (stacked_fit 8 (choose psp s.core.other_sp s.core.sp) s.ram)
 
   -- ---- accesses
 
-  module _ (few : count ≤ 16) where
-    loaded_fits : (l : Loaded) (w a : ℕ) (s : State) (go : ℕ → CoreRegisters) → LoadedFits l → StateFits i count s → ((v : ℕ) → v < 2 ^ 32 → CoreFits (go v)) → StateFits i count (loaded l i w a s go).to
-    loaded_fits (Value v) w a s go f h g = with_core_fits i count s (go v) h (g v f)
+  module _ (few : i.regions ≤ 16) where
+    loaded_fits : (l : Loaded) (w a : ℕ) (s : State) (go : ℕ → CoreRegisters) → LoadedFits l → StateFits i s → ((v : ℕ) → v < 2 ^ 32 → CoreFits (go v)) → StateFits i (loaded l i w a s go).to
+    loaded_fits (Value v) w a s go f h g = with_core_fits i s (go v) h (g v f)
     loaded_fits (Device k o v) w a s go f h g = taken_fits s (go v) k h (g v f)
     loaded_fits NoInput w a s go f h g = ended_fits _ s h
     loaded_fits Unmapped w a s go f h g = ended_fits _ s h
 
-    after_load_fits : (v : Verdict) (j : Judge) (w a : ℕ) (s : State) (go : ℕ → CoreRegisters) → StateFits i count s → w ≤ 4 → a < 2 ^ 32 → ((v : ℕ) → v < 2 ^ 32 → CoreFits (go v)) → StateFits i count (after_load v j i w a s go).to
+    after_load_fits : (v : Verdict) (j : Judge) (w a : ℕ) (s : State) (go : ℕ → CoreRegisters) → StateFits i s → w ≤ 4 → a < 2 ^ 32 → ((v : ℕ) → v < 2 ^ 32 → CoreFits (go v)) → StateFits i (after_load v j i w a s go).to
     after_load_fits ToBus j w a s go h l f g = loaded_fits (load_at (place i a) i s.ram s.queues w) w a s go (load_at_fits (place i a) i s.ram s.queues w l) h g
-    after_load_fits ToSystem j w a s go h l f g = with_core_fits i count s (go (read_system a s.protection s.status)) h (g (read_system a s.protection s.status) (read_system_fits count a s.protection s.status few h.unit h.status))
+    after_load_fits ToSystem j w a s go h l f g = with_core_fits i s (go (read_system a s.protection s.status)) h (g (read_system a s.protection s.status) (read_system_fits i.regions a s.protection s.status few h.unit h.status))
     after_load_fits Refused j w a s go h l f g = data_fault_fits j a s h f
     after_load_fits (Bad r) j w a s go h l f g = ended_fits _ s h
 
-    stored_fits : (l : Stored) (w a v : ℕ) (s : State) (c : CoreRegisters) → StateFits i count s → CoreFits c → StateFits i count (stored l i w a v s c).to
+    stored_fits : (l : Stored) (w a v : ℕ) (s : State) (c : CoreRegisters) → StateFits i s → CoreFits c → StateFits i (stored l i w a v s c).to
     stored_fits Done w a v s c h f = stored_in_ram_fits s c (place i a) w v h f
-    stored_fits (Taken k o) w a v s c h f = with_core_fits i count s c h f
+    stored_fits (Taken k o) w a v s c h f = with_core_fits i s c h f
     stored_fits NotTaken w a v s c h f = ended_fits _ s h
 
-    after_store_fits : (d : Verdict) (j : Judge) (w a v : ℕ) (s : State) (c : CoreRegisters) → StateFits i count s → a < 2 ^ 32 → v < 2 ^ 32 → CoreFits c → StateFits i count (after_store d j i w a v s c).to
+    after_store_fits : (d : Verdict) (j : Judge) (w a v : ℕ) (s : State) (c : CoreRegisters) → StateFits i s → a < 2 ^ 32 → v < 2 ^ 32 → CoreFits c → StateFits i (after_store d j i w a v s c).to
     after_store_fits ToBus j w a v s c h f g k = stored_fits (store_at (place i a)) w a v s c h k
-    after_store_fits ToSystem j w a v s c h f g k = write_system_fits i count a v (with_core s c) (with_core_fits i count s c h k) g
+    after_store_fits ToSystem j w a v s c h f g k = write_system_fits i a v (with_core s c) (with_core_fits i s c h k) g
     after_store_fits Refused j w a v s c h f g k = data_fault_fits j a s h f
     after_store_fits (Bad r) j w a v s c h f g k = ended_fits _ s h
 
     -- several words
 
-    word_from_fits : (b : Bool) (a : ℕ) (s : State) → StateFits i count s → word_from b i a s < 2 ^ 32
-    word_from_fits true a s h = read_system_fits count a s.protection s.status few h.unit h.status
+    word_from_fits : (b : Bool) (a : ℕ) (s : State) → StateFits i s → word_from b i a s < 2 ^ 32
+    word_from_fits true a s h = read_system_fits i.regions a s.protection s.status few h.unit h.status
     word_from_fits false a s h = word_fits (place i a) i s.ram
 
-    got_fit : (n a : ℕ) (s : State) → StateFits i count s → AreWords (get_words i a n s)
+    got_fit : (n a : ℕ) (s : State) → StateFits i s → AreWords (get_words i a n s)
     unfolding get_words
     got_fit zero a s h = tt
     got_fit (suc n) a s h = (word_from_fits (in_system a) a s h, got_fit n (word (a + 4)) s h)
 
-    word_to_fits : (b : Bool) (a v : ℕ) (s : State) → StateFits i count s → v < 2 ^ 32 → StateFits i count (word_to b i a v s)
-    word_to_fits true a v s h f = write_system_fits i count a v s h f
-    word_to_fits false a v s h f = with_ram_fits i count s (put_at (place i a) 4 v s.ram) h (put_length (place i a) 4 v s.ram)
+    word_to_fits : (b : Bool) (a v : ℕ) (s : State) → StateFits i s → v < 2 ^ 32 → StateFits i (word_to b i a v s)
+    word_to_fits true a v s h f = write_system_fits i a v s h f
+    word_to_fits false a v s h f = with_ram_fits i s (put_at (place i a) 4 v s.ram) h (put_length (place i a) 4 v s.ram)
 
-    put_fit : (vs : List ℕ) (a : ℕ) (s : State) → StateFits i count s → AreWords vs → StateFits i count (put_words i a vs s)
+    put_fit : (vs : List ℕ) (a : ℕ) (s : State) → StateFits i s → AreWords vs → StateFits i (put_words i a vs s)
     unfolding put_words
     put_fit [] a s h f = h
     put_fit (v ∷ vs) a s h f = put_fit vs (word (a + 4)) (word_to (in_system a) i a v s) (word_to_fits (in_system a) a v s h f.0) f.1
 
-    or_usage_fits : (o : Option CoreRegisters) (a n : ℕ) (s : State) → StateFits i count s → MaybeFits o → StateFits i count (or_usage o a n s).to
+    or_usage_fits : (o : Option CoreRegisters) (a n : ℕ) (s : State) → StateFits i s → MaybeFits o → StateFits i (or_usage o a n s).to
     or_usage_fits None a n s h f = ended_fits _ s h
-    or_usage_fits (Some c) a n s h f = with_core_fits i count s c h f
+    or_usage_fits (Some c) a n s h f = with_core_fits i s c h f
 
     -- the address of a refused word
 
@@ -270,13 +265,13 @@ module _ (i : Image) (count : ℕ) where
     verdicts_fit j p kind zero a h = tt
     verdicts_fit j p kind (suc n) a h = and_then_fits (verdict j p kind 4 a) (is_memory kind (place i a)) a (verdicts j i p kind (word (a + 4)) n) h (verdicts_fit j p kind n (word (a + 4)) (omega arith))
 
-    after_loads_fits : (v : Verdicts) (j : Judge) (a n : ℕ) (s : State) (go : List ℕ → Option CoreRegisters) → VerdictsFit v → StateFits i count s → ((vs : List ℕ) → AreWords vs → MaybeFits (go vs)) → StateFits i count (after_loads v j i a n s go).to
+    after_loads_fits : (v : Verdicts) (j : Judge) (a n : ℕ) (s : State) (go : List ℕ → Option CoreRegisters) → VerdictsFit v → StateFits i s → ((vs : List ℕ) → AreWords vs → MaybeFits (go vs)) → StateFits i (after_loads v j i a n s go).to
     after_loads_fits AllGood j a n s go f h g = or_usage_fits (go (get_words i a n s)) a n s h (g (get_words i a n s) (got_fit n a s h))
     after_loads_fits (RefusedAt x) j a n s go f h g = data_fault_fits j x s h f
     after_loads_fits (BadOne r) j a n s go f h g = ended_fits _ s h
 
-    after_stores_fits : (v : Verdicts) (j : Judge) (a : ℕ) (vs : List ℕ) (s : State) (c : CoreRegisters) → VerdictsFit v → StateFits i count s → AreWords vs → CoreFits c → StateFits i count (after_stores v j i a vs s c).to
-    after_stores_fits AllGood j a vs s c f h g k = put_fit vs a (with_core s c) (with_core_fits i count s c h k) g
+    after_stores_fits : (v : Verdicts) (j : Judge) (a : ℕ) (vs : List ℕ) (s : State) (c : CoreRegisters) → VerdictsFit v → StateFits i s → AreWords vs → CoreFits c → StateFits i (after_stores v j i a vs s c).to
+    after_stores_fits AllGood j a vs s c f h g k = put_fit vs a (with_core s c) (with_core_fits i s c h k) g
     after_stores_fits (RefusedAt x) j a vs s c f h g k = data_fault_fits j x s h f
     after_stores_fits (BadOne r) j a vs s c f h g k = ended_fits _ s h
 
@@ -286,7 +281,7 @@ module _ (i : Image) (count : ℕ) where
     bit_fits true = omega arith
     bit_fits false = omega arith
 
-    special_fits : (u : Bool) (n : ℕ) (s : State) → StateFits i count s → read_special u n s < 2 ^ 32
+    special_fits : (u : Bool) (n : ℕ) (s : State) → StateFits i s → read_special u n s < 2 ^ 32
     special_fits u n s h =
         let a = bit_fits s.protection.unprivileged in
         let b = bit_fits s.core.on_psp in
@@ -332,122 +327,64 @@ module _ (i : Image) (count : ℕ) where
       pc_even = h.pc_even;
     }
 
-    if_state : (b : Bool) (x y : State) → StateFits i count x → StateFits i count y → StateFits i count (if b then x else y)
+    if_state : (b : Bool) (x y : State) → StateFits i x → StateFits i y → StateFits i (if b then x else y)
     if_state true x y h g = h
     if_state false x y h g = g
 
-    write_special_fits : (u : Bool) (n v : ℕ) (s : State) (c : CoreRegisters) → StateFits i count s → CoreFits c → v < 2 ^ 32 → StateFits i count (write_special u n v s c)
-    write_special_fits true n v s c h g f = with_core_fits i count s c h g
+    write_special_fits : (u : Bool) (n v : ℕ) (s : State) (c : CoreRegisters) → StateFits i s → CoreFits c → v < 2 ^ 32 → StateFits i (write_special u n v s c)
+    write_special_fits true n v s c h g f = with_core_fits i s c h g
     write_special_fits false n v s c h g f =
         if_state (nat_eq n 20) _ _
         (record { core = selected_fits s.protection.handler v c g; status = h.status; unit = h.unit; ram_count = h.ram_count; queue_count = h.queue_count })
-        (with_core_fits i count s (write_stack_pointer (is_in_use n c) v c) h (pointer_fits (is_in_use n c) v c g f))
+        (with_core_fits i s (write_stack_pointer (is_in_use n c) v c) h (pointer_fits (is_in_use n c) v c g f))
 
     -- branches and exception returns
 
-    jumped_fits : (b : Bool) (v : ℕ) (s : State) → StateFits i count s → v < 2 ^ 32 → (b ≡ true → (v - 1) % 2 ≡ 0) → StateFits i count (jumped b v s).to
-    jumped_fits true v s h f e = with_core_fits i count s (record s.core { pc = v - 1 }) h (at_fits s.core (v - 1) h.core (omega arith, e refl))
+    jumped_fits : (b : Bool) (v : ℕ) (s : State) → StateFits i s → v < 2 ^ 32 → (b ≡ true → (v - 1) % 2 ≡ 0) → StateFits i (jumped b v s).to
+    jumped_fits true v s h f e = with_core_fits i s (record s.core { pc = v - 1 }) h (at_fits s.core (v - 1) h.core (omega arith, e refl))
     jumped_fits false v s h f e = ended_fits _ s h
 
-    exchanged_fits : (p m : Bool) (j : Judge) (v : ℕ) (s : State) → StateFits i count s → v < 2 ^ 32 → StateFits i count (exchanged p m j i v s).to
+    exchanged_fits : (p m : Bool) (j : Judge) (v : ℕ) (s : State) → StateFits i s → v < 2 ^ 32 → StateFits i (exchanged p m j i v s).to
     exchanged_fits true m j v s h f = returns_fits j true s h
     exchanged_fits false true j v s h f = returns_fits j false s h
     exchanged_fits false false j v s h f = jumped_fits (nat_eq (v % 2) 1) v s h f (odd_before v)
 
-    perform_fits : (j : Judge) (a : Act) (s : State) → StateFits i count s → ActFits a → StateFits i count (perform j i a s).to
+    perform_fits : (j : Judge) (a : Act) (s : State) → StateFits i s → ActFits a → StateFits i (perform j i a s).to
     unfolding perform
-    perform_fits j (Changes c) s h f = with_core_fits i count s c h f
+    perform_fits j (Changes c) s h f = with_core_fits i s c h f
     perform_fits j (Loads w a go) s h f = after_load_fits (verdict j s.protection Read w a) j w a s go h f.0 f.1 f.2
     perform_fits j (Stores w a v c) s h f = after_store_fits (verdict j s.protection Write w a) j w a v s c h f.0 f.1 f.2
     perform_fits j (LoadsMany a n go) s h f = after_loads_fits (verdicts j i s.protection Read a n) j a n s go (verdicts_fit j s.protection Read n a f.0) h f.1
     perform_fits j (StoresMany a vs c) s h f = after_stores_fits (verdicts j i s.protection Write a (length vs)) j a vs s c (verdicts_fit j s.protection Write (length vs) a f.0) h f.1 f.2
     perform_fits j (GetsSpecial n d c) s h f =
-        with_core_fits i count s (with_register c d (read_special (is_unprivileged s.protection) n s)) h (with_register_fits c d (read_special (is_unprivileged s.protection) n s) f (special_fits (is_unprivileged s.protection) n s h))
+        with_core_fits i s (with_register c d (read_special (is_unprivileged s.protection) n s)) h (with_register_fits c d (read_special (is_unprivileged s.protection) n s) f (special_fits (is_unprivileged s.protection) n s h))
     perform_fits j (SetsSpecial n v c) s h f = write_special_fits (is_unprivileged s.protection) n v s c h f.1 f.0
     perform_fits j (Exchanges v) s h f = exchanged_fits _ _ j v s h f
     perform_fits j (Calls next) s h f = call_fits s.protection.handler j next s h
     perform_fits j (Halts n) s h f = ended_fits _ s h
     perform_fits j (Stops r) s h f = ended_fits _ s h
 
-    -- ---- the fetch
-
-    abbrev pub HalfFits : (pc : ℕ) → Option ℕ → Type 0
-    HalfFits pc None = Unit {0}
-    HalfFits pc (Some h) = (h < 2 ^ 16) × (pc < 2 ^ 31)
-
-    abbrev FetchedFits : (pc : ℕ) → Fetched → Type 0
-    FetchedFits pc (Took h k n) = (h < 2 ^ 16) × (k < 2 ^ 16) × (pc < 2 ^ 31) × (n ≤ 4) × (n % 2 ≡ 0)
-    FetchedFits pc NotAllowed = Unit {0}
-    FetchedFits pc NotMapped = Unit {0}
-
-    second_fits : (al : Bool) (o : Option ℕ) (h pc q : ℕ) → h < 2 ^ 16 → pc < 2 ^ 31 → HalfFits q o → FetchedFits pc (second_half al o h)
-    second_fits false o h pc q a b f = tt
-    second_fits true None h pc q a b f = tt
-    second_fits true (Some k) h pc q a b f = (a, f.0, b, omega arith, refl)
-
-    by_size_fits : (b al : Bool) (o : Option ℕ) (h pc q : ℕ) → h < 2 ^ 16 → pc < 2 ^ 31 → HalfFits q o → FetchedFits pc (by_size b al o h)
-    by_size_fits true al o h pc q a b f = (a, omega arith, b, omega arith, refl)
-    by_size_fits false al o h pc q a b f = second_fits al o h pc q a b f
-
-    first_fits : (al : Bool) (o : Option ℕ) (al2 : Bool) (o2 : Option ℕ) (pc q : ℕ) → HalfFits pc o → HalfFits q o2 → FetchedFits pc (first_half al o al2 o2)
-    first_fits false o al2 o2 pc q f g = tt
-    first_fits true None al2 o2 pc q f g = tt
-    first_fits true (Some h) al2 o2 pc q f g = by_size_fits (nat_lt h 0xE800) al2 o2 h pc q f.0 f.1 g
-
-    abbrev pub PlaceFits : (pc : ℕ) → Place → Type 0
-    PlaceFits pc (InRam o) = pc < 2 ^ 31
-    PlaceFits pc (InFlash o) = pc < 2 ^ 31
-    PlaceFits pc (InWindow k o) = Unit {0}
-    PlaceFits pc Nowhere = Unit {0}
-
-    pub fetch_at_fits : (p : Place) (pc : ℕ) (ram : List ℕ) → PlaceFits pc p → HalfFits pc (fetch_at p i ram)
-    fetch_at_fits (InRam o) pc ram f = let h = read_fits 2 o ram in (h, f)
-    fetch_at_fits (InFlash o) pc ram f = let h = read_fits 2 o i.flash in (h, f)
-    fetch_at_fits (InWindow k o) pc ram f = tt
-    fetch_at_fits Nowhere pc ram f = tt
-
-    choose_place : (b : Bool) (x y : Place) (pc : ℕ) → (b ≡ true → PlaceFits pc x) → PlaceFits pc y → PlaceFits pc (choose b x y)
-    choose_place true x y pc f g = f refl
-    choose_place false x y pc f g = g
-
-    window_place : (ws : List Window) (k pc : ℕ) → PlaceFits pc (find_window ws k pc)
-    unfolding find_window
-    window_place [] k pc = tt
-    window_place (w ∷ ws) k pc = choose_place (inside w.base w.size pc) (InWindow k (pc - w.base)) (find_window ws (suc k) pc) pc (λ e. tt) (window_place ws (suc k) pc)
-
-    pub place_fits : (pc : ℕ) → ObeysRules i → PlaceFits pc (place i pc)
-    unfolding place
-    place_fits pc r =
-        choose_place (inside i.ram_base i.ram_size pc) (InRam (pc - i.ram_base)) _ pc
-        (λ e. omega (arith, inside_below i.ram_base i.ram_size pc e, r.ram_highest, r.ram_most))
-        (choose_place (inside i.flash_base (length i.flash) pc) (InFlash (pc - i.flash_base)) _ pc
-        (λ e. omega (arith, inside_below i.flash_base (length i.flash) pc e, r.flash_highest, r.flash_most))
-        (window_place i.windows 0 pc))
-
-    fetch_fits : (j : Judge) (s : State) → ObeysRules i → FetchedFits s.core.pc (fetch j i s)
-    unfolding fetch
-    fetch_fits j s r =
-        first_fits _ _ _ _ s.core.pc (s.core.pc + 2) (fetch_at_fits (place i s.core.pc) s.core.pc s.ram (place_fits s.core.pc r))
-        (fetch_at_fits (place i (s.core.pc + 2)) (s.core.pc + 2) s.ram (place_fits (s.core.pc + 2) r))
-
     -- ---- the step
 
-    performed_fits : (o : Option Instr) (h k : ℕ) (j : Judge) (next : ℕ) (s : State) → IfSome o (Encodes (read_code h k)) → StateFits i count s → next + 1 < 2 ^ 32 → next % 2 ≡ 0 → StateFits i count (performed o j i next s).to
+    performed_fits : (o : Option Instr) (h k : ℕ) (j : Judge) (next : ℕ) (s : State) → IfSome o (Encodes (read_code h k)) → StateFits i s → next + 1 < 2 ^ 32 → next % 2 ≡ 0 → StateFits i (performed o j i next s).to
     performed_fits None h k j next s e f n v = ended_fits _ s f
     performed_fits (Some x) h k j next s e f n v = perform_fits j (act x next s.core) s f (act_fits x next s.core e.in_table f.core n v)
 
-    fetched_fits : (t : Fetched) (j : Judge) (s : State) → FetchedFits s.core.pc t → StateFits i count s → StateFits i count (fetched t j i s).to
+    fetched_fits : (t : Fetched) (j : Judge) (s : State) → FetchedFits s.core.pc t → StateFits i s → StateFits i (fetched t j i s).to
     fetched_fits (Took h k n) j s f g = performed_fits (decoded h k) h k j (s.core.pc + n) s (Encodes-decoded h k f.0 f.1) g (omega (arith, f.2, f.3)) (omega (arith, f.4, g.core.pc_even))
     fetched_fits NotAllowed j s f g = fetch_fault_fits j s g
     fetched_fits NotMapped j s f g = ended_fits _ s g
 
-    running_fits : (e : Option End) (j : Judge) (s : State) → ObeysRules i → StateFits i count s → StateFits i count (running e j i s).to
-    running_fits None j s r h = fetched_fits (fetch j i s) j s (fetch_fits j s r) h
+    running_fits : (e : Option End) (j : Judge) (s : State) → ObeysRules i → StateFits i s → StateFits i (running e j i s).to
+    running_fits None j s r h = fetched_fits (fetch j i s) j s (fetch_fits i j s r) h
     running_fits (Some e) j s r h = h
+
+most_regions : (i : Image) → ObeysRules i → i.regions ≤ 16
+most_regions i r = ⊎_elim (λ (e : i.regions ≡ 8). let P : i.regions ≤ 16 = omega (arith, e) in P) (λ (e : i.regions ≡ 16). let P : i.regions ≤ 16 = omega (arith, e) in P) r.regions
 
 pub steps_keep_shape : StepsKeepShape
 unfolding turn
-steps_keep_shape j i count s r few h = running_fits i count few s.ending j s r h
+steps_keep_shape j i s r h = running_fits i (most_regions i r) s.ending j s r h
 
 -- ---- from reset on
 
@@ -465,11 +402,11 @@ repeated_blank zero k = refl
 repeated_blank (suc n) zero = refl
 repeated_blank (suc n) (suc k) = repeated_blank n k
 
-start_fits : (i : Image) (queues : List (List ℕ)) (fill : ℕ) → length queues ≡ length i.windows → StateFits i 8 (start i queues fill)
+pub start_fits : (i : Image) (queues : List (List ℕ)) (fill : ℕ) → length queues ≡ length i.windows → StateFits i (start i queues fill)
 unfolding start
 start_fits i queues fill q =
     let h = read_fits 4 0 i.flash in
-    let v = vector_fits i 8 1 in
+    let v = vector_fits i 1 in
     record {
       core = record {
         low_count = refl;
@@ -488,18 +425,18 @@ start_fits i queues fill q =
       unit = record {
         control_word = omega arith;
         number_word = omega arith;
-        region_count = refl;
-        rbar_words = λ k. let e = repeated_blank 8 k in rw e (omega arith);
-        rasr_words = λ k. let e = repeated_blank 8 k in rw e (omega arith);
+        region_count = replicate_length i.regions blank;
+        rbar_words = λ k. let e = repeated_blank i.regions k in rw e (omega arith);
+        rasr_words = λ k. let e = repeated_blank i.regions k in rw e (omega arith);
       };
       ram_count = replicate_length i.ram_size fill;
       queue_count = q;
     }
 
-run_fits : (i : Image) (n : ℕ) (s : State) → ObeysRules i → StateFits i 8 s → StateFits i 8 (run (step i) n s)
+run_fits : (i : Image) (n : ℕ) (s : State) → ObeysRules i → StateFits i s → StateFits i (run (step i) n s)
 unfolding run
 run_fits i zero s r h = h
-run_fits i (suc n) s r h = run_fits i n (step i s) r (steps_keep_shape by_mpu i 8 s r (omega arith) h)
+run_fits i (suc n) s r h = run_fits i n (step i s) r (steps_keep_shape by_mpu i s r h)
 
 pub runs_keep_shape : RunsKeepShape
 runs_keep_shape i queues fill n r q = run_fits i n (start i queues fill) r (start_fits i queues fill q)

@@ -6,14 +6,15 @@ use Rattle.words.specs.Arithmetic.{word}
 use Rattle.thumb_model.specs.declared.table.Instr.TheVariants.{TransferImmediate, SpecialRegister}
 use Rattle.mpu_model.specs.declared.region.Access.{Access}
 use Rattle.mpu_model.specs.declared.region.Access.TheVariants.{Read, Write}
-use Rattle.mem_bus.specs.declared.image.Image.{Image}
+use Rattle.device_model.specs.declared.image.Image.{Image}
 use Rattle.armv7m.specs.declared.state.ProtectionState.{ProtectionState}
 use Rattle.armv7m.specs.State.{Judge, is_unprivileged, bit_of}
 use Rattle.armv7m.specs.Act.{Loads, Stores, GetsSpecial, SetsSpecial}
 use Rattle.armv7m.specs.Instructions.{act}
 use Rattle.armv7m.specs.System.{in_system, is_system_register, read_system, write_status}
 use Rattle.mpu_model.specs.Registers.{write_register}
-use Rattle.armv7m.specs.Tests.{verdict, ToSystem}
+use Rattle.armv7m.specs.declared.accesses.Verdict.TheVariants.{ToSystem}
+use Rattle.armv7m.specs.Tests.{verdict}
 use Rattle.armv7m.specs.Perform.{perform}
 use Rattle.armv7m.specs.Code.{Stands, Steps}
 use Rattle.armv7m.specs.Working.{Context, body, works}

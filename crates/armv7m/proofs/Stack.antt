@@ -1,5 +1,5 @@
 -- Words of RAM by their addresses: pushes, pops and frames.
-use Rattle.std.proofs.Common.{◌≡◌, ℕ, zero, suc, ◌+◌, ◌-◌, ◌*◌, ◌<◌, ◌≤◌, true, false, List, [], ◌∷◌, Option, Some, get_or, refl, ap, ◌∙◌, arith, length}
+use Rattle.std.proofs.Common.{◌≡◌, ℕ, zero, suc, ◌+◌, ◌*◌, ◌<◌, ◌≤◌, true, false, List, [], ◌∷◌, Option, Some, get_or, refl, ap, ◌∙◌, arith, length}
 use Rattle.std.proofs.lemmas.Bool.Decides.{nat_tests}
 use Rattle.words.specs.Arithmetic.{word}
 use Rattle.words.specs.Bytes.{read, write, write_all}
@@ -7,8 +7,9 @@ use Rattle.words.proofs.Bytes.{length-write, cut_small, read_same, read_below_al
 use Rattle.thumb_model.specs.declared.table.Instr.{Instr}
 use Rattle.mpu_model.specs.declared.region.Access.{Access}
 use Rattle.mpu_model.specs.declared.region.Access.TheVariants.{Read, Write}
-use Rattle.mem_bus.specs.declared.image.Image.{Image}
-use Rattle.mem_bus.specs.Places.{InRam, place, inside}
+use Rattle.device_model.specs.declared.image.Image.{Image}
+use Rattle.mem_bus.specs.Places.{InRam, place}
+use Rattle.mem_bus.proofs.Offsets.{in_ram}
 use Rattle.armv7m.specs.declared.state.CoreRegisters.{CoreRegisters}
 use Rattle.armv7m.specs.declared.state.ProtectionState.{ProtectionState}
 use Rattle.armv7m.specs.declared.state.FaultStatus.{FaultStatus}
@@ -16,20 +17,15 @@ use Rattle.armv7m.specs.State.{State, Judge}
 use Rattle.armv7m.specs.Act.{StoresMany, LoadsMany}
 use Rattle.armv7m.specs.Instructions.{act}
 use Rattle.armv7m.specs.System.{in_system}
-use Rattle.armv7m.specs.Tests.{verdict, ToBus, verdicts, AllGood, all_open}
+use Rattle.armv7m.specs.declared.accesses.Verdict.TheVariants.{ToBus}
+use Rattle.armv7m.specs.declared.several.Verdicts.TheVariants.{AllGood}
+use Rattle.armv7m.specs.Tests.{verdict, verdicts, all_open}
 use Rattle.armv7m.specs.Exceptions.{stacked_words, push_words}
 use Rattle.armv7m.specs.Perform.{perform, get_words, put_words}
 use Rattle.armv7m.specs.Stack.{Words, words_at, cut_words, AreWords, May}
 use Rattle.armv7m.specs.Code.{size, Stands, live, Steps}
 use Rattle.armv7m.proofs.Exec.{steps_from}
 use Rattle.armv7m.proofs.Acts.{to_bus, turns}
-
-pub in_ram : (i : Image) (a o : ℕ) → i.ram_base + o ≡ a → o < i.ram_size → place i a ≡ InRam o
-unfolding place
-in_ram i a o e h =
-    let t : inside i.ram_base i.ram_size a ≡ true = search (nat_tests, arith) in
-    let d : a - i.ram_base ≡ o = omega arith in
-    rw (t, d)
 
 pub behind : (i : Image) (a o n : ℕ) → Words i a o (suc n) → Words i (word (a + 4)) (o + 4) n
 behind i a o n w =

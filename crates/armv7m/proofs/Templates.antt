@@ -6,12 +6,13 @@ use Rattle.words.specs.Arithmetic.{moved, unsigned_quotient, signed_quotient}
 use Rattle.words.specs.Flags.{holds, result_flags, compare_flags}
 use Rattle.thumb_model.specs.declared.table.Instr.{Instr}
 use Rattle.thumb_model.specs.declared.table.Instr.TheVariants.{ShiftImmediate, AddSubRegister, AddSubImmediate, DataImmediate, DataRegister, HighRegister, BreakpointNop, BranchConditional, CallBranch, BranchLink, BranchWide, MoveWide, MoveTop, Divide, Barrier}
-use Rattle.mem_bus.specs.declared.image.Image.{Image}
+use Rattle.device_model.specs.declared.image.Image.{Image}
 use Rattle.armv7m.specs.declared.state.CoreRegisters.{CoreRegisters}
 use Rattle.armv7m.specs.declared.state.End.TheVariants.{Halt}
 use Rattle.armv7m.specs.State.{Judge, register, with_register, with_low}
 use Rattle.armv7m.specs.Act.{Changes}
-use Rattle.armv7m.specs.DataOperations.{Gives, Tests, shift_by, immediate_amount, add_or_subtract, immediate, operation}
+use Rattle.armv7m.specs.declared.data.Outcome.TheVariants.{Gives, Tests}
+use Rattle.armv7m.specs.DataOperations.{shift_by, immediate_amount, add_or_subtract, immediate, operation}
 use Rattle.armv7m.specs.Instructions.{act}
 use Rattle.armv7m.specs.Code.{size, Stands, live, Steps}
 use Rattle.armv7m.specs.Events.{ended}

@@ -5,7 +5,7 @@ use Rattle.words.specs.declared.conditions.Flags.{Flags}
 use Rattle.words.specs.Bytes.{write_all}
 use Rattle.thumb_model.specs.declared.table.Instr.TheVariants.{BranchExchange, CallBranch}
 use Rattle.mpu_model.specs.declared.region.Access.TheVariants.{Read}
-use Rattle.mem_bus.specs.declared.image.Image.{Image}
+use Rattle.device_model.specs.declared.image.Image.{Image}
 use Rattle.armv7m.specs.State.{State, Judge}
 use Rattle.armv7m.specs.Act.{Exchanges}
 use Rattle.armv7m.specs.Instructions.{act}

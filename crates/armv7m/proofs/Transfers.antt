@@ -8,7 +8,7 @@ use Rattle.thumb_model.specs.declared.table.Instr.{Instr}
 use Rattle.thumb_model.specs.declared.table.Instr.TheVariants.{BranchExchange, LoadLiteral, TransferImmediate, StackRelative, AdjustStack, PushPop}
 use Rattle.mpu_model.specs.declared.region.Access.{Access}
 use Rattle.mpu_model.specs.declared.region.Access.TheVariants.{Read, Write}
-use Rattle.mem_bus.specs.declared.image.Image.{Image}
+use Rattle.device_model.specs.declared.image.Image.{Image}
 use Rattle.mem_bus.specs.Places.{InRam, InFlash, InWindow, place}
 use Rattle.armv7m.specs.declared.state.CoreRegisters.{CoreRegisters}
 use Rattle.armv7m.specs.declared.state.ProtectionState.{ProtectionState}
@@ -16,7 +16,8 @@ use Rattle.armv7m.specs.declared.state.End.TheVariants.{InputEnd}
 use Rattle.armv7m.specs.State.{Judge}
 use Rattle.armv7m.specs.Act.{Changes, Exchanges}
 use Rattle.armv7m.specs.Instructions.{act, listed}
-use Rattle.armv7m.specs.Tests.{verdict, ToBus}
+use Rattle.armv7m.specs.declared.accesses.Verdict.TheVariants.{ToBus}
+use Rattle.armv7m.specs.Tests.{verdict}
 use Rattle.armv7m.specs.Perform.{perform}
 use Rattle.armv7m.specs.Code.{size, Stands, live, Steps}
 use Rattle.armv7m.specs.Stack.{Words, words_at, May, Room}

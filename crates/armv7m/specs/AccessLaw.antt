@@ -1,19 +1,20 @@
 -- Where every access of a step is permitted, protection makes no difference.
-use Rattle.std.specs.Prelude.{◌≡◌, ℕ, zero, suc, ◌+◌, ◌⊎◌, length, Bool, true, false, Some, nat_lt}
+use Rattle.std.specs.Prelude.{◌≡◌, ℕ, zero, suc, ◌+◌, length, Bool, true, false, Some, nat_lt}
 use Rattle.words.specs.Arithmetic.{word}
 use Rattle.thumb_model.specs.declared.table.Instr.{Instr}
 use Rattle.thumb_model.specs.Decoded.{decoded}
 use Rattle.mpu_model.specs.declared.region.Access.{Access}
 use Rattle.mpu_model.specs.declared.region.Access.TheVariants.{Read, Write, Fetch}
-use Rattle.mem_bus.specs.declared.image.Image.{Image}
+use Rattle.device_model.specs.declared.image.Image.{Image}
 use Rattle.mem_bus.specs.Places.{place, choose}
 use Rattle.mem_bus.specs.Bus.{fetch_at}
 use Rattle.armv7m.specs.declared.state.ProtectionState.{ProtectionState}
 use Rattle.armv7m.specs.State.{State, Judge}
 use Rattle.armv7m.specs.Act.{Act, Changes, Loads, Stores, LoadsMany, StoresMany, GetsSpecial, SetsSpecial, Exchanges, Calls, Halts, Stops}
 use Rattle.armv7m.specs.Instructions.{act}
-use Rattle.armv7m.specs.Exceptions.{frame_at}
-use Rattle.armv7m.specs.Step.{turn, fetch, Took}
+use Rattle.armv7m.specs.Exceptions.{frame_at, return_on_psp, return_on_msp}
+use Rattle.armv7m.specs.declared.fetching.Fetched.TheVariants.{Took}
+use Rattle.armv7m.specs.Step.{turn, fetch}
 
 -- everything is allowed
 abbrev pub free : Judge
@@ -24,6 +25,10 @@ abbrev pub AreAllowed : Judge → ProtectionState → Access → (address count 
 AreAllowed j p kind a zero = Unit {0}
 AreAllowed j p kind a (suc n) = (j p kind a ≡ true) × AreAllowed j p kind (word (a + 4)) n
 
+-- a BX to this address is an exception return: to PSP or to MSP
+abbrev pub IsReturn : (psp : Bool) → State → (target : ℕ) → Type 0
+IsReturn psp s v = (s.protection.handler ≡ true) × (v ≡ choose psp return_on_psp return_on_msp)
+
 -- every access of what an instruction asks for is permitted
 abbrev pub IsAllowed : Judge → State → Act → Type 0
 IsAllowed j s (Changes c) = Unit {0}
@@ -33,8 +38,9 @@ IsAllowed j s (LoadsMany a n go) = AreAllowed j s.protection Read a n
 IsAllowed j s (StoresMany a vs c) = AreAllowed j s.protection Write a (length vs)
 IsAllowed j s (GetsSpecial n d c) = Unit {0}
 IsAllowed j s (SetsSpecial n v c) = Unit {0}
+-- an exception return reads the frame on the stack that it returns to, as Thread mode would; any other BX reads nothing
 IsAllowed j s (Exchanges v) =
-    (s.protection.handler ≡ false) ⊎ ((psp : Bool) → AreAllowed j (record s.protection { handler = false }) Read (choose psp s.core.other_sp s.core.sp) 8)
+    (psp : Bool) → IsReturn psp s v → AreAllowed j (record s.protection { handler = false }) Read (choose psp s.core.other_sp s.core.sp) 8
 IsAllowed j s (Calls next) = AreAllowed j s.protection Write (frame_at s.core.sp) 8
 IsAllowed j s (Halts n) = Unit {0}
 IsAllowed j s (Stops r) = Unit {0}

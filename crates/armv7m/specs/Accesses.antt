@@ -1,29 +1,30 @@
--- Verdicts on accesses as the code has them, and loads as an instruction names them.
-use Rattle.std.specs.Prelude.{◌≡◌, ℕ, ◌%◌, Bool, true, false, nat_eq, if◌then◌else◌}
+-- What verdicts on accesses tell, and loads as an instruction names them.
+use Rattle.std.specs.Prelude.{◌≡◌, ℕ, ◌%◌, ◌<◌, Bool, true, false, nat_eq, if◌then◌else◌}
 use Rattle.std.proofs.Common.{to_z, of_z, w8, w16, w32}
-use Rattle.armv7m.specs.declared.accesses.Verdict.{Verdict as Found}
-use Rattle.armv7m.specs.declared.accesses.Verdict.TheVariants.{ToBus as FoundBus, ToSystem as FoundSystem, Refused as FoundRefused, Bad as FoundBad}
 use Rattle.armv7m.specs.declared.state.CoreRegisters.{CoreRegisters}
-use Rattle.mem_bus.specs.declared.image.Image.{Image}
+use Rattle.device_model.specs.declared.image.Image.{Image}
 use Rattle.mem_bus.specs.Bus.{load_at, store_at}
 use Rattle.mem_bus.specs.Places.{place}
 use Rattle.armv7m.specs.Perform.{loaded, stored}
 use Rattle.armv7m.specs.State.{State, Turn, at, low_at}
 use Rattle.armv7m.specs.Act.{Act, Loads}
-use Rattle.armv7m.specs.Tests.{Verdict, ToBus, ToSystem, Refused, Bad}
+use Rattle.armv7m.specs.declared.accesses.Verdict.{Verdict}
+use Rattle.armv7m.specs.declared.accesses.Verdict.TheVariants.{ToBus, ToSystem, Refused, Bad}
+use Rattle.armv7m.specs.declared.several.Verdicts.{Verdicts}
+use Rattle.armv7m.specs.declared.several.Verdicts.TheVariants.{AllGood, RefusedAt, BadOne}
 
-abbrev pub verdict_of : Found → Verdict
-verdict_of FoundBus = ToBus
-verdict_of FoundSystem = ToSystem
-verdict_of FoundRefused = Refused
-verdict_of (FoundBad r) = Bad r
+-- what a verdict of the code says of the access
+abbrev pub IsFit : Verdict → (width address : ℕ) → Type 0
+IsFit ToBus w a = a % w ≡ 0
+IsFit ToSystem w a = (w ≡ 4) × (a % w ≡ 0)
+IsFit Refused w a = Unit {0}
+IsFit (Bad r) w a = Unit {0}
 
--- what such a verdict says of the access
-abbrev pub IsFit : Found → (width address : ℕ) → Type 0
-IsFit FoundBus w a = a % w ≡ 0
-IsFit FoundSystem w a = (w ≡ 4) × (a % w ≡ 0)
-IsFit FoundRefused w a = Unit {0}
-IsFit (FoundBad r) w a = Unit {0}
+-- and one on several words: where all is well, they begin at a multiple of 4
+abbrev pub AreFit : Verdicts → (address count : ℕ) → Type 0
+AreFit AllGood a n = 0 < n → a % 4 ≡ 0
+AreFit (RefusedAt x) a n = Unit {0}
+AreFit (BadOne r) a n = Unit {0}
 
 -- a loaded value as a register holds it: zeros before it, or its sign (ZeroExtend, SignExtend)
 abbrev pub extended : (signed : Bool) → (width value : ℕ) → ℕ

@@ -6,8 +6,8 @@ use Rattle.thumb_model.specs.declared.table.Instr.{Instr}
 use Rattle.thumb_model.specs.declared.table.Instr.TheVariants.{BranchLink, BranchWide, MoveWide, MoveTop, Divide, SpecialRegister, Barrier}
 use Rattle.thumb_model.specs.Table.{InTable, encode}
 use Rattle.mpu_model.specs.declared.region.Access.TheVariants.{Fetch}
-use Rattle.mem_bus.specs.declared.image.Image.{Image}
-use Rattle.mem_bus.specs.declared.event.Event.{Event}
+use Rattle.device_model.specs.declared.image.Image.{Image}
+use Rattle.device_model.specs.declared.event.Event.{Event}
 use Rattle.mem_bus.specs.Places.{place, InFlash}
 use Rattle.words.specs.Bytes.{read}
 use Rattle.words.specs.Runs.{Goes}

@@ -1,26 +1,11 @@
--- The bytes of instructions, and flash that holds them.
-use Rattle.std.specs.Prelude.{◌≡◌, ℕ, ◌+◌, ◌/◌, ◌%◌, ◌<◌, ◌≤◌, List, [], ◌∷◌, ◌++◌, length}
+-- Flash that holds the bytes of instructions.
+use Rattle.std.specs.Prelude.{◌≡◌, ℕ, ◌+◌, ◌<◌, ◌≤◌, List, length}
 use Rattle.std.proofs.Math.ListN.{get_or}
-use Rattle.thumb_model.specs.Table.{InTable, encode}
-use Rattle.thumb_model.specs.declared.table.Code.{Code}
-use Rattle.thumb_model.specs.declared.table.Code.TheVariants.{Half, Pair}
+use Rattle.thumb_model.specs.Bytes.{code_bytes, EachInTable}
 use Rattle.thumb_model.specs.declared.table.Instr.{Instr}
-use Rattle.mem_bus.specs.declared.image.Image.{Image}
-use Rattle.mem_bus.specs.Rules.{ObeysRules}
+use Rattle.device_model.specs.declared.image.Image.{Image}
+use Rattle.device_model.specs.Rules.{ObeysRules}
 use Rattle.armv7m.specs.Code.{CodeIn}
-
--- halfwords with the lowest byte first (A3.3)
-abbrev pub bytes_of_code : Code → List ℕ
-bytes_of_code (Half h) = h % 256 ∷ h / 256 ∷ []
-bytes_of_code (Pair h k) = h % 256 ∷ h / 256 ∷ k % 256 ∷ k / 256 ∷ []
-
-abbrev pub code_bytes : List Instr → List ℕ
-code_bytes [] = []
-code_bytes (x ∷ xs) = bytes_of_code (encode x) ++ code_bytes xs
-
-abbrev pub EachInTable : List Instr → Type 0
-EachInTable [] = Unit {0}
-EachInTable (x ∷ xs) = InTable x × EachInTable xs
 
 -- flash holds these bytes from an offset on
 pub record HoldsBytes (i : Image) (offset : ℕ) (bytes : List ℕ) : Type 0 where

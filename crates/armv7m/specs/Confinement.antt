@@ -1,15 +1,13 @@
 -- What one step may do to memory and protection.
 use Rattle.std.specs.Prelude.{◌≡◌, ◌≢◌, ℕ, ◌+◌, ◌<◌, ◌≤◌, ◌⊎◌, List, [], ◌∷◌, true, false, Some, None, nat_lt}
-use Rattle.std.proofs.Math.ListN.{get_or}
-use Rattle.mpu_model.specs.declared.region.Access.TheVariants.{Read, Write, Fetch}
-use Rattle.mpu_model.specs.Protection.{permits}
-use Rattle.mem_bus.specs.declared.image.Image.{Image}
-use Rattle.mem_bus.specs.declared.event.Event.{Event}
+use Rattle.mpu_model.specs.declared.region.Access.TheVariants.{Fetch}
+use Rattle.device_model.specs.declared.image.Image.{Image}
+use Rattle.device_model.specs.declared.event.Event.{Event}
 use Rattle.mem_bus.specs.Places.{InRam, InFlash, InWindow, choose, place}
 use Rattle.mem_bus.specs.Bus.{fetch_at}
-use Rattle.mem_bus.specs.Rules.{ObeysRules}
-use Rattle.armv7m.specs.State.{State, Touched, Turn, Judge, by_mpu, is_unprivileged}
-use Rattle.armv7m.specs.Exceptions.{vector, vector_offset, mem_manage, supervisor_call, fetch_fault}
+use Rattle.device_model.specs.Rules.{ObeysRules}
+use Rattle.armv7m.specs.State.{State, Touched, Turn, Judge}
+use Rattle.armv7m.specs.Exceptions.{vector_offset, mem_manage, supervisor_call, fetch_fault}
 use Rattle.armv7m.specs.Step.{turn}
 
 -- each element
@@ -29,18 +27,6 @@ IsVectorRead i x =
 -- the step entered an exception
 abbrev pub HasEntered : State → Turn → Type 0
 HasEntered s t = t.to.protection ≡ record s.protection { handler = true }
-
--- a step that begins unprivileged: what it stores and loads is permitted, and it changes nothing else that protects
-pub record IsConfined (i : Image) (s : State) (t : Turn) : Type 0 where
-  pub stores_permitted : Each (λ x. permits s.protection.mpu true Write x.address ≡ true) t.stores
-  pub loads_permitted : Each (λ x. (permits s.protection.mpu true Read x.address ≡ true) ⊎ IsVectorRead i x) t.loads
-  pub protection_stays : (t.to.protection ≡ s.protection) ⊎ HasEntered s t
-  -- the fault status changes by a MemManage fault alone
-  pub status_stays : (t.to.status ≡ s.status) ⊎ (HasEntered s t × (t.to.core.pc ≡ vector i mem_manage) × (t.to.status.shcsr ≡ s.status.shcsr))
-  pub ram_stays : (k : ℕ) → Each (Misses i k) t.stores → get_or t.to.ram k 0 ≡ get_or s.ram k 0
-
-abbrev pub StepsAreConfined : Type 0
-StepsAreConfined = (i : Image) (s : State) → is_unprivileged s.protection ≡ true → IsConfined i s (turn by_mpu i s)
 
 -- some element
 abbrev pub AnyOf : {A : Type 0} → (A → Type 0) → List A → Type 0

@@ -1,11 +1,11 @@
 -- Steps that tell of an access of a window, and steps that end.
 use Rattle.std.specs.Prelude.{◌≡◌, ℕ, List, true, false, Some}
 use Rattle.words.specs.Bytes.{cut}
-use Rattle.mem_bus.specs.declared.image.Image.{Image}
-use Rattle.mem_bus.specs.declared.event.Event.{Event}
+use Rattle.device_model.specs.declared.image.Image.{Image}
+use Rattle.device_model.specs.declared.event.Event.{Event}
 use Rattle.armv7m.specs.declared.state.End.{End}
 use Rattle.armv7m.specs.State.{State, Judge}
-use Rattle.armv7m.specs.Perform.{compartment}
+use Rattle.mem_bus.specs.Memory.{compartment_of}
 use Rattle.armv7m.specs.Code.{next, told}
 
 -- one step with this event
@@ -15,10 +15,10 @@ pub record StepsWith (j : Judge) (i : Image) (s t : State) (e : Event) : Type 0 
 
 -- of a load whose word was this, and of a store of this value
 abbrev pub input_event : Image → (ram : List ℕ) → (periph offset width value : ℕ) → Event
-input_event i ram k o w v = record { compartment = compartment i ram; periph = k; offset = o; width = w; write = false; value = cut w v }
+input_event i ram k o w v = record { compartment = compartment_of i ram; periph = k; offset = o; width = w; write = false; value = cut w v }
 
 abbrev pub output_event : Image → (ram : List ℕ) → (periph offset width value : ℕ) → Event
-output_event i ram k o w v = record { compartment = compartment i ram; periph = k; offset = o; width = w; write = true; value = cut w v }
+output_event i ram k o w v = record { compartment = compartment_of i ram; periph = k; offset = o; width = w; write = true; value = cut w v }
 
 abbrev pub ended : End → State → State
 ended e s = record s { ending = Some e }

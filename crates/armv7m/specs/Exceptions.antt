@@ -6,7 +6,7 @@ use Rattle.words.specs.Arithmetic.{word}
 use Rattle.words.specs.Bytes.{read}
 use Rattle.words.specs.declared.conditions.Flags.{Flags}
 use Rattle.mpu_model.specs.declared.region.Access.TheVariants.{Read, Write}
-use Rattle.mem_bus.specs.declared.image.Image.{Image}
+use Rattle.device_model.specs.declared.image.Image.{Image}
 use Rattle.mem_bus.specs.Places.{place, choose}
 use Rattle.mem_bus.specs.Bus.{word_at, put_at}
 use Rattle.armv7m.specs.declared.state.CoreRegisters.{CoreRegisters}
@@ -114,13 +114,18 @@ fault_by false true j i t s = entered (is_frame_open j i s) i mem_manage s.core.
 abbrev pub fault : Judge → Image → FaultStatus → State → Turn
 fault j i t s = fault_by s.protection.handler (is_fault_enabled s.status) j i t s
 
--- IACCVIOL
-abbrev pub fetch_fault : Judge → Image → State → Turn
-fetch_fault j i s = fault j i (record s.status { cfsr = bit_or s.status.cfsr 1 }) s
+-- the status behind a refused fetch (IACCVIOL), and behind a refused data access (DACCVIOL, MMARVALID, and the address)
+abbrev pub fetch_status : FaultStatus → FaultStatus
+fetch_status t = record t { cfsr = bit_or t.cfsr 1 }
 
--- DACCVIOL and MMARVALID, and the address
+abbrev pub data_status : (address : ℕ) → FaultStatus → FaultStatus
+data_status a t = record t { cfsr = bit_or t.cfsr 0x82; mmfar = a }
+
+abbrev pub fetch_fault : Judge → Image → State → Turn
+fetch_fault j i s = fault j i (fetch_status s.status) s
+
 abbrev pub data_fault : Judge → Image → (address : ℕ) → State → Turn
-data_fault j i a s = fault j i (record s.status { cfsr = bit_or s.status.cfsr 0x82; mmfar = a }) s
+data_fault j i a s = fault j i (data_status a s.status) s
 
 -- PopStack: SP goes up by 32, and bit 2 is set where the stacked xPSR tells of a pad
 abbrev pub with_pad : (pad : Bool) → (sp : ℕ) → ℕ

@@ -11,9 +11,6 @@ pub mod Run
 pub mod Confinement
 pub mod AccessLaw
 pub mod Code
-pub mod Board
-pub mod ComputedSteps
-pub mod ComputedFaults
 pub mod Stack
 pub mod Events
 pub mod Working
@@ -22,9 +19,14 @@ pub mod Running
 pub mod Templates
 pub mod Shape
 pub mod CodeBytes
-pub mod Outcomes
 pub mod Parts
 pub mod Accesses
-pub mod Several
 pub mod Fetches
 pub mod Machine
+pub mod Asked
+pub mod ThreadStep
+pub mod AnyStep
+pub mod Turns
+pub mod EntryFrame
+pub mod Locality
+pub mod Accessed

@@ -2,9 +2,9 @@
 use Rattle.std.specs.Prelude.{◌≡◌, ℕ, suc, ◌≤◌, ◌⊎◌, Bool, true, false, List, Option, Some, None}
 use Rattle.std.specs.List.{FoldsTo}
 use Rattle.words.specs.Runs.{run, events}
-use Rattle.mem_bus.specs.declared.image.Image.{Image}
-use Rattle.mem_bus.specs.declared.event.Event.{Event}
-use Rattle.mem_bus.specs.Rules.{ObeysRules}
+use Rattle.device_model.specs.declared.image.Image.{Image}
+use Rattle.device_model.specs.declared.event.Event.{Event}
+use Rattle.device_model.specs.Rules.{ObeysRules}
 use Rattle.armv7m.specs.declared.state.End.{End}
 use Rattle.armv7m.specs.declared.state.End.TheVariants.{Halt, InputEnd, Limit, Stop, Refused}
 use Rattle.armv7m.specs.declared.machine.Step.{Step}
@@ -30,10 +30,10 @@ abbrev pub HasOwn : Option End → Type 0
 HasOwn None = Unit {0}
 HasOwn (Some e) = IsOwn e
 
--- a machine of eight regions
+-- a machine over an image that obeys the rules
 pub record IsMachine (m : MachineState) : Type 0 where
   pub rules : ObeysRules m.image
-  pub fits : StateFits m.image 8 m.state
+  pub fits : StateFits m.image m.state
   pub own : HasOwn m.state.ending
 
 -- a step that ends the machine does nothing else: it has no event, and neither stores nor loads

@@ -1,28 +1,30 @@
 -- How what an instruction asks for is done: the one place where data is accessed.
-use Rattle.std.specs.Prelude.{ℕ, zero, suc, ◌+◌, ◌-◌, ◌%◌, List, [], ◌∷◌, length, Bool, true, false, ◌&&◌, Option, Some, None, nat_eq, if◌then◌else◌}
+use Rattle.std.specs.Prelude.{ℕ, zero, suc, ◌+◌, ◌-◌, ◌%◌, List, [], ◌∷◌, length, Bool, true, false, ◌&&◌, Option, Some, None, nat_eq}
 use Rattle.words.specs.Arithmetic.{word}
-use Rattle.words.specs.Bytes.{read, cut}
+use Rattle.words.specs.Bytes.{cut}
 use Rattle.mpu_model.specs.declared.region.Access.TheVariants.{Read, Write}
-use Rattle.mem_bus.specs.declared.image.Image.{Image}
-use Rattle.mem_bus.specs.declared.event.Event.{Event}
-use Rattle.mem_bus.specs.declared.event.Loaded.{Loaded}
-use Rattle.mem_bus.specs.declared.event.Loaded.TheVariants.{Value, Device, NoInput, Unmapped}
-use Rattle.mem_bus.specs.declared.event.Stored.{Stored}
-use Rattle.mem_bus.specs.declared.event.Stored.TheVariants.{Done, Device as Taken, Unmapped as NotTaken}
+use Rattle.device_model.specs.declared.image.Image.{Image}
+use Rattle.device_model.specs.declared.event.Event.{Event}
+use Rattle.mem_bus.specs.declared.answer.Loaded.{Loaded}
+use Rattle.mem_bus.specs.declared.answer.Loaded.TheVariants.{Value, Device, NoInput, Unmapped}
+use Rattle.mem_bus.specs.declared.answer.Stored.{Stored}
+use Rattle.mem_bus.specs.declared.answer.Stored.TheVariants.{Done, Device as Taken, Unmapped as NotTaken}
 use Rattle.mem_bus.specs.Places.{place}
-use Rattle.mem_bus.specs.Bus.{load_at, store_at, put_at, word_at, taken}
+use Rattle.mem_bus.specs.Bus.{load_at, store_at, put_at, word_at}
+use Rattle.mem_bus.specs.Memory.{compartment_of}
+use Rattle.device_model.specs.Input.{taken}
 use Rattle.armv7m.specs.declared.state.CoreRegisters.{CoreRegisters}
 use Rattle.armv7m.specs.declared.state.End.TheVariants.{Halt, InputEnd}
 use Rattle.armv7m.specs.declared.state.StopReason.TheVariants.{Bus, Usage}
 use Rattle.armv7m.specs.State.{State, Turn, Judge, is_unprivileged, calm, ends, stops, with_core, at, with_register}
 use Rattle.armv7m.specs.Act.{Act, Changes, Loads, Stores, LoadsMany, StoresMany, GetsSpecial, SetsSpecial, Exchanges, Calls, Halts, Stops}
 use Rattle.armv7m.specs.System.{in_system, read_system, write_system, read_special, write_special}
-use Rattle.armv7m.specs.Tests.{Verdict, ToBus, ToSystem, Refused, Bad, verdict, Verdicts, AllGood, RefusedAt, BadOne, verdicts}
+use Rattle.armv7m.specs.declared.accesses.Verdict.{Verdict}
+use Rattle.armv7m.specs.declared.accesses.Verdict.TheVariants.{ToBus, ToSystem, Refused, Bad}
+use Rattle.armv7m.specs.declared.several.Verdicts.{Verdicts}
+use Rattle.armv7m.specs.declared.several.Verdicts.TheVariants.{AllGood, RefusedAt, BadOne}
+use Rattle.armv7m.specs.Tests.{verdict, verdicts}
 use Rattle.armv7m.specs.Exceptions.{words_from, call, data_fault, returns, return_on_psp, return_on_msp}
-
--- the compartment of an event: the first word of the monitor's block, or 0 without a monitor
-abbrev pub compartment : Image → (ram : List ℕ) → ℕ
-compartment i ram = if nat_eq i.monitor 0 then 0 else read 4 (i.monitor - i.ram_base) ram
 
 abbrev pub did_load : (width address : ℕ) → State → Option Event → Turn
 did_load w a s e = record { to = s; stores = []; loads = record { width = w; address = a } ∷ []; event = e }
@@ -35,7 +37,7 @@ abbrev pub loaded : Loaded → Image → (width address : ℕ) → State → (�
 loaded (Value v) i w a s go = did_load w a (with_core s (go v)) None
 loaded (Device k o v) i w a s go =
     did_load w a (record s { core = go v; queues = taken s.queues k })
-    (Some (record { compartment = compartment i s.ram; periph = k; offset = o; width = w; write = false; value = v }))
+    (Some (record { compartment = compartment_of i s.ram; periph = k; offset = o; width = w; write = false; value = v }))
 loaded NoInput i w a s go = ends InputEnd s
 loaded Unmapped i w a s go = stops Bus s
 
@@ -50,7 +52,7 @@ abbrev pub stored : Stored → Image → (width address value : ℕ) → State �
 stored Done i w a v s c = did_store w a (record s { core = c; ram = put_at (place i a) w v s.ram }) None
 stored (Taken k o) i w a v s c =
     did_store w a (with_core s c)
-    (Some (record { compartment = compartment i s.ram; periph = k; offset = o; width = w; write = true; value = cut w v }))
+    (Some (record { compartment = compartment_of i s.ram; periph = k; offset = o; width = w; write = true; value = cut w v }))
 stored NotTaken i w a v s c = stops Bus s
 
 abbrev pub after_store : Verdict → Judge → Image → (width address value : ℕ) → State → CoreRegisters → Turn

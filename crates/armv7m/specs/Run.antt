@@ -1,20 +1,16 @@
 -- The start of a machine, and its runs.
-use Rattle.std.specs.Prelude.{replicate}
-use Rattle.std.specs.Prelude.{ℕ, ◌/◌, ◌*◌, List, false, None}
+use Rattle.std.specs.Prelude.{ℕ, ◌/◌, ◌*◌, List, false, None, replicate}
 use Rattle.words.specs.Bytes.{read}
 use Rattle.words.specs.Runs.{run, events}
-use Rattle.mpu_model.specs.Registers.{Registers, blank}
-use Rattle.mem_bus.specs.declared.image.Image.{Image}
-use Rattle.mem_bus.specs.declared.event.Event.{Event}
+use Rattle.mpu_model.specs.Registers.{at_reset}
+use Rattle.device_model.specs.declared.image.Image.{Image}
+use Rattle.device_model.specs.declared.event.Event.{Event}
 use Rattle.armv7m.specs.State.{State}
 use Rattle.armv7m.specs.Exceptions.{vector}
 use Rattle.armv7m.specs.Step.{step, event}
 
--- the unit at reset: off, and its registers 0
-abbrev pub unit_at_reset : (regions : ℕ) → Registers
-unit_at_reset n = record { control = 0; number = 0; regions = replicate n blank }
-
--- reset (Armv7-M ARM, B1.5.5 TakeReset): Thread mode, privileged, on MSP; RAM holds the fill byte
+-- reset (Armv7-M ARM, B1.5.5 TakeReset): Thread mode, privileged, on MSP; the unit has the image's number of regions;
+-- RAM holds the fill byte
 unfoldable pub start : Image → (queues : List (List ℕ)) → (fill : ℕ) → State
 start i queues fill =
     record {
@@ -28,7 +24,7 @@ start i queues fill =
         pc = vector i 1;
         flags = record { negative = false; is_zero = false; carry = false; overflow = false };
       };
-      protection = record { handler = false; unprivileged = false; mpu = unit_at_reset 8 };
+      protection = record { handler = false; unprivileged = false; mpu = at_reset i.regions };
       status = record { shcsr = 0; cfsr = 0; mmfar = 0 };
       ram = replicate i.ram_size fill;
       queues = queues;

@@ -1,11 +1,11 @@
 -- What a step does, by what its instruction asks for.
-use Rattle.std.specs.Prelude.{◌≡◌, ℕ, suc, ◌+◌, ◌<◌, ◌≤◌, List, [], ◌∷◌, ◌++◌, length, true, false, Option, Some, bit_or}
+use Rattle.std.specs.Prelude.{◌≡◌, ℕ, suc, ◌+◌, ◌%◌, ◌<◌, ◌≤◌, List, [], ◌∷◌, ◌++◌, length, true, false, Option, Some}
 use Rattle.std.proofs.Math.ListN.{get_or, set}
 use Rattle.words.specs.Bytes.{read, write, cut, write_all}
 use Rattle.thumb_model.specs.declared.table.Instr.{Instr}
 use Rattle.mpu_model.specs.declared.region.Access.TheVariants.{Read, Write, Fetch}
-use Rattle.mem_bus.specs.declared.image.Image.{Image}
-use Rattle.mem_bus.specs.declared.event.Event.{Event}
+use Rattle.device_model.specs.declared.image.Image.{Image}
+use Rattle.device_model.specs.declared.event.Event.{Event}
 use Rattle.mem_bus.specs.Places.{InRam, InFlash, InWindow, place}
 use Rattle.armv7m.specs.declared.state.CoreRegisters.{CoreRegisters}
 use Rattle.armv7m.specs.declared.state.ProtectionState.{ProtectionState}
@@ -14,8 +14,10 @@ use Rattle.armv7m.specs.declared.state.End.TheVariants.{Halt, InputEnd}
 use Rattle.armv7m.specs.State.{State, Judge}
 use Rattle.armv7m.specs.Act.{Changes, Loads, Stores, LoadsMany, StoresMany, Calls, Exchanges, Halts}
 use Rattle.armv7m.specs.Instructions.{act}
-use Rattle.armv7m.specs.Tests.{verdict, ToBus, Refused, verdicts, RefusedAt}
-use Rattle.armv7m.specs.Exceptions.{frame_of, entry_core, is_fault_enabled, supervisor_call, mem_manage, return_on_psp, return_on_msp, is_thread, unstacked}
+use Rattle.armv7m.specs.declared.accesses.Verdict.TheVariants.{ToBus, Refused}
+use Rattle.armv7m.specs.declared.several.Verdicts.TheVariants.{RefusedAt}
+use Rattle.armv7m.specs.Tests.{verdict, verdicts}
+use Rattle.armv7m.specs.Exceptions.{frame_of, entry_core, is_fault_enabled, supervisor_call, mem_manage, return_on_psp, return_on_msp, is_thread, unstacked, fetch_status, data_status}
 use Rattle.armv7m.specs.Perform.{perform}
 use Rattle.armv7m.specs.Step.{turn}
 use Rattle.armv7m.specs.Code.{size, Stands, CodeIn, CodeAt, live, Steps, Runs}
@@ -44,6 +46,18 @@ abbrev pub CodeHasParts : Type 0
 CodeHasParts =
     (i : Image) (xs ys : List Instr) (pc : ℕ) →
     (CodeIn i pc (xs ++ ys) → CodeIn i pc xs × CodeIn i (pc + code_size xs) ys) × (CodeIn i pc xs → CodeIn i (pc + code_size xs) ys → CodeIn i pc (xs ++ ys))
+
+-- so is code that may run, and its size, an even number of bytes, is the sum of theirs
+abbrev pub StandingCodeHasParts : Type 0
+StandingCodeHasParts =
+    (j : Judge) (i : Image) (p : ProtectionState) (xs ys : List Instr) (pc : ℕ) →
+    (CodeAt j i p pc (xs ++ ys) → CodeAt j i p pc xs × CodeAt j i p (pc + code_size xs) ys) × (CodeAt j i p pc xs → CodeAt j i p (pc + code_size xs) ys → CodeAt j i p pc (xs ++ ys))
+
+abbrev pub SizesAddUp : Type 0
+SizesAddUp = (xs ys : List Instr) → code_size (xs ++ ys) ≡ code_size xs + code_size ys
+
+abbrev pub SizesAreEven : Type 0
+SizesAreEven = (xs : List Instr) → code_size xs % 2 ≡ 0
 
 -- a step in front of a run, and a run behind a run
 pub record RunsGoOn (j : Judge) (i : Image) : Type 0 where
@@ -85,21 +99,21 @@ module _ (j : Judge) (i : Image) (c : CoreRegisters) (p : ProtectionState) (t : 
         LeadsTo (live (entry_core i supervisor_call c) (record p { handler = true }) t (write_all 4 o (frame_of c next) ram) queues)
     pub faults_load : (w a o : ℕ) (go : ℕ → CoreRegisters) → act x (c.pc + size x) c ≡ Loads w a go → verdict j p Read w a ≡ Refused →
         p.handler ≡ false → is_fault_enabled t ≡ true → Frame j i p c.sp o →
-        LeadsTo (live (entry_core i mem_manage c) (record p { handler = true }) (record t { cfsr = bit_or t.cfsr 0x82; mmfar = a }) (write_all 4 o (frame_of c c.pc) ram) queues)
+        LeadsTo (live (entry_core i mem_manage c) (record p { handler = true }) (data_status a t) (write_all 4 o (frame_of c c.pc) ram) queues)
     pub faults_store : (w a v o : ℕ) (d : CoreRegisters) → act x (c.pc + size x) c ≡ Stores w a v d → verdict j p Write w a ≡ Refused →
         p.handler ≡ false → is_fault_enabled t ≡ true → Frame j i p c.sp o →
-        LeadsTo (live (entry_core i mem_manage c) (record p { handler = true }) (record t { cfsr = bit_or t.cfsr 0x82; mmfar = a }) (write_all 4 o (frame_of c c.pc) ram) queues)
+        LeadsTo (live (entry_core i mem_manage c) (record p { handler = true }) (data_status a t) (write_all 4 o (frame_of c c.pc) ram) queues)
     -- of several words, the first that is refused
     pub faults_loads : (a n y o : ℕ) (go : List ℕ → Option CoreRegisters) → act x (c.pc + size x) c ≡ LoadsMany a n go → verdicts j i p Read a n ≡ RefusedAt y →
         p.handler ≡ false → is_fault_enabled t ≡ true → Frame j i p c.sp o →
-        LeadsTo (live (entry_core i mem_manage c) (record p { handler = true }) (record t { cfsr = bit_or t.cfsr 0x82; mmfar = y }) (write_all 4 o (frame_of c c.pc) ram) queues)
+        LeadsTo (live (entry_core i mem_manage c) (record p { handler = true }) (data_status y t) (write_all 4 o (frame_of c c.pc) ram) queues)
     pub faults_stores : (a y o : ℕ) (vs : List ℕ) (d : CoreRegisters) → act x (c.pc + size x) c ≡ StoresMany a vs d → verdicts j i p Write a (length vs) ≡ RefusedAt y →
         p.handler ≡ false → is_fault_enabled t ≡ true → Frame j i p c.sp o →
-        LeadsTo (live (entry_core i mem_manage c) (record p { handler = true }) (record t { cfsr = bit_or t.cfsr 0x82; mmfar = y }) (write_all 4 o (frame_of c c.pc) ram) queues)
+        LeadsTo (live (entry_core i mem_manage c) (record p { handler = true }) (data_status y t) (write_all 4 o (frame_of c c.pc) ram) queues)
     -- a fetch that is refused, whatever stands there
     pub faults_fetch : (o : ℕ) → j p Fetch c.pc ≡ false → p.handler ≡ false → is_fault_enabled t ≡ true → Frame j i p c.sp o →
         Steps j i (live c p t ram queues)
-        (live (entry_core i mem_manage c) (record p { handler = true }) (record t { cfsr = bit_or t.cfsr 1 }) (write_all 4 o (frame_of c c.pc) ram) queues)
+        (live (entry_core i mem_manage c) (record p { handler = true }) (fetch_status t) (write_all 4 o (frame_of c c.pc) ram) queues)
     pub returns_to_psp : (o : ℕ) → act x (c.pc + size x) c ≡ Exchanges return_on_psp → p.handler ≡ true → Words i c.other_sp o 8 → May j (record p { handler = false }) Read c.other_sp 8 →
         is_thread (get_or (words_at 8 o ram) 7 0) ≡ true → LeadsTo (live (unstacked true c c.other_sp (words_at 8 o ram)) (record p { handler = false }) t ram queues)
     pub returns_to_msp : (o : ℕ) → act x (c.pc + size x) c ≡ Exchanges return_on_msp → p.handler ≡ true → Words i c.sp o 8 → May j (record p { handler = false }) Read c.sp 8 →

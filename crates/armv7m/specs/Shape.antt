@@ -1,10 +1,10 @@
 -- What every step keeps of a state: how many registers, regions and bytes there are, that numbers are words, that
 -- stack pointers are multiples of 4, and that the program counter is even.
-use Rattle.std.specs.Prelude.{◌≡◌, ℕ, ◌%◌, ◌^◌, ◌<◌, ◌≤◌, List, length}
+use Rattle.std.specs.Prelude.{◌≡◌, ℕ, ◌%◌, ◌^◌, ◌<◌, List, length}
 use Rattle.std.proofs.Math.ListN.{get_or}
 use Rattle.mpu_model.specs.Registers.{Registers, blank}
-use Rattle.mem_bus.specs.declared.image.Image.{Image}
-use Rattle.mem_bus.specs.Rules.{ObeysRules}
+use Rattle.device_model.specs.declared.image.Image.{Image}
+use Rattle.device_model.specs.Rules.{ObeysRules}
 use Rattle.armv7m.specs.declared.state.CoreRegisters.{CoreRegisters}
 use Rattle.armv7m.specs.declared.state.FaultStatus.{FaultStatus}
 use Rattle.armv7m.specs.State.{State, Judge}
@@ -40,16 +40,16 @@ pub record UnitFits (count : ℕ) (m : Registers) : Type 0 where
   pub rbar_words : (k : ℕ) → (get_or m.regions k blank).rbar < 2 ^ 32
   pub rasr_words : (k : ℕ) → (get_or m.regions k blank).rasr < 2 ^ 32
 
-pub record StateFits (i : Image) (count : ℕ) (s : State) : Type 0 where
+pub record StateFits (i : Image) (s : State) : Type 0 where
   pub core : CoreFits s.core
   pub status : StatusFits s.status
-  pub unit : UnitFits count s.protection.mpu
+  pub unit : UnitFits i.regions s.protection.mpu
   pub ram_count : length s.ram ≡ i.ram_size
   pub queue_count : length s.queues ≡ length i.windows
 
 abbrev pub StepsKeepShape : Type 0
-StepsKeepShape = (j : Judge) (i : Image) (count : ℕ) (s : State) → ObeysRules i → count ≤ 16 → StateFits i count s → StateFits i count (turn j i s).to
+StepsKeepShape = (j : Judge) (i : Image) (s : State) → ObeysRules i → StateFits i s → StateFits i (turn j i s).to
 
 -- so it holds from reset on
 abbrev pub RunsKeepShape : Type 0
-RunsKeepShape = (i : Image) (queues : List (List ℕ)) (fill steps : ℕ) → ObeysRules i → length queues ≡ length i.windows → StateFits i 8 (after i queues fill steps)
+RunsKeepShape = (i : Image) (queues : List (List ℕ)) (fill steps : ℕ) → ObeysRules i → length queues ≡ length i.windows → StateFits i (after i queues fill steps)

@@ -3,22 +3,18 @@ use Rattle.std.specs.Prelude.{ℕ, ◌+◌, Bool, true, false, Option, Some, Non
 use Rattle.thumb_model.specs.declared.table.Instr.{Instr}
 use Rattle.thumb_model.specs.Decoded.{decoded}
 use Rattle.mpu_model.specs.declared.region.Access.TheVariants.{Fetch}
-use Rattle.mem_bus.specs.declared.image.Image.{Image}
-use Rattle.mem_bus.specs.declared.event.Event.{Event}
+use Rattle.device_model.specs.declared.image.Image.{Image}
+use Rattle.device_model.specs.declared.event.Event.{Event}
 use Rattle.mem_bus.specs.Places.{place}
 use Rattle.mem_bus.specs.Bus.{fetch_at}
 use Rattle.armv7m.specs.declared.state.End.{End}
 use Rattle.armv7m.specs.declared.state.StopReason.TheVariants.{Bus, Undefined}
+use Rattle.armv7m.specs.declared.fetching.Fetched.{Fetched}
+use Rattle.armv7m.specs.declared.fetching.Fetched.TheVariants.{Took, NotAllowed, NotMapped}
 use Rattle.armv7m.specs.State.{State, Turn, Judge, by_mpu, calm, stops}
 use Rattle.armv7m.specs.Instructions.{act}
 use Rattle.armv7m.specs.Exceptions.{fetch_fault}
 use Rattle.armv7m.specs.Perform.{perform}
-
--- the halfwords of an instruction and its size in bytes; or protection refuses one, or the bus maps none
-pub data Fetched : Type 0 where
-  Took : (first second size : ℕ) → Fetched
-  NotAllowed : Fetched
-  NotMapped : Fetched
 
 abbrev pub second_half : (allowed : Bool) → Option ℕ → (first : ℕ) → Fetched
 second_half false k h = NotAllowed

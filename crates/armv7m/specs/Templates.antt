@@ -9,16 +9,18 @@ use Rattle.thumb_model.specs.declared.table.Instr.{Instr}
 use Rattle.thumb_model.specs.declared.table.Instr.TheVariants.{ShiftImmediate, AddSubRegister, AddSubImmediate, DataImmediate, DataRegister, HighRegister, BranchExchange, LoadLiteral, TransferImmediate, StackRelative, AdjustStack, PushPop, BreakpointNop, BranchConditional, CallBranch, BranchLink, BranchWide, MoveWide, MoveTop, Divide, SpecialRegister, Barrier}
 use Rattle.mpu_model.specs.declared.region.Access.TheVariants.{Read, Write}
 use Rattle.mpu_model.specs.Registers.{write_register}
-use Rattle.mem_bus.specs.declared.image.Image.{Image}
-use Rattle.mem_bus.specs.declared.event.Event.{Event}
+use Rattle.device_model.specs.declared.image.Image.{Image}
+use Rattle.device_model.specs.declared.event.Event.{Event}
 use Rattle.mem_bus.specs.Places.{InRam, InFlash, InWindow, place}
 use Rattle.armv7m.specs.declared.state.End.TheVariants.{Halt, InputEnd}
 use Rattle.armv7m.specs.State.{State, Judge, is_unprivileged, bit_of}
 use Rattle.armv7m.specs.Act.{Loads, Stores}
 use Rattle.armv7m.specs.Instructions.{act}
-use Rattle.armv7m.specs.DataOperations.{Gives, Tests, shift_by, immediate_amount, add_or_subtract, immediate, operation}
+use Rattle.armv7m.specs.declared.data.Outcome.TheVariants.{Gives, Tests}
+use Rattle.armv7m.specs.DataOperations.{shift_by, immediate_amount, add_or_subtract, immediate, operation}
 use Rattle.armv7m.specs.System.{read_system, write_status}
-use Rattle.armv7m.specs.Tests.{verdict, ToSystem}
+use Rattle.armv7m.specs.declared.accesses.Verdict.TheVariants.{ToSystem}
+use Rattle.armv7m.specs.Tests.{verdict}
 use Rattle.armv7m.specs.Exceptions.{frame_at, frame_of, vector, supervisor_call, return_on_psp, return_on_msp, is_thread, flags_of, with_pad}
 use Rattle.armv7m.specs.Code.{Stands, Steps, Runs}
 use Rattle.armv7m.specs.Stack.{Words, words_at, May, Room, Frame}

@@ -3,21 +3,16 @@
 use Rattle.std.specs.Prelude.{ℕ, zero, suc, ◌+◌, ◌%◌, Bool, true, false, ◌&&◌, nat_eq}
 use Rattle.words.specs.Arithmetic.{word}
 use Rattle.mpu_model.specs.declared.region.Access.{Access}
-use Rattle.mem_bus.specs.declared.image.Image.{Image}
+use Rattle.device_model.specs.declared.image.Image.{Image}
 use Rattle.mem_bus.specs.Places.{place, is_memory, choose}
 use Rattle.armv7m.specs.declared.state.ProtectionState.{ProtectionState}
-use Rattle.armv7m.specs.declared.state.StopReason.{StopReason}
 use Rattle.armv7m.specs.declared.state.StopReason.TheVariants.{Unaligned, Bus}
+use Rattle.armv7m.specs.declared.accesses.Verdict.{Verdict}
+use Rattle.armv7m.specs.declared.accesses.Verdict.TheVariants.{ToBus, ToSystem, Refused, Bad}
+use Rattle.armv7m.specs.declared.several.Verdicts.{Verdicts}
+use Rattle.armv7m.specs.declared.several.Verdicts.TheVariants.{AllGood, RefusedAt, BadOne}
 use Rattle.armv7m.specs.State.{Judge, is_unprivileged}
 use Rattle.armv7m.specs.System.{in_system, is_system_register}
-
-pub data Verdict : Type 0 where
-  -- the access goes to the bus, or to a system register
-  ToBus : Verdict
-  ToSystem : Verdict
-  -- protection refuses it: a MemManage fault
-  Refused : Verdict
-  Bad : (reason : StopReason) → Verdict
 
 abbrev pub tested : (aligned system unprivileged register allowed : Bool) → Verdict
 tested false sy u r al = Bad Unaligned
@@ -31,11 +26,6 @@ verdict j p kind w a =
     tested (nat_eq (a % w) 0) (in_system a) (is_unprivileged p) (nat_eq w 4 && is_system_register a) (j p kind a)
 
 -- of several words all are tested first, in rising order; none of them may go to a window
-pub data Verdicts : Type 0 where
-  AllGood : Verdicts
-  RefusedAt : (address : ℕ) → Verdicts
-  BadOne : (reason : StopReason) → Verdicts
-
 abbrev pub and_then : Verdict → (memory : Bool) → (address : ℕ) → Verdicts → Verdicts
 and_then ToBus true a v = v
 and_then ToBus false a v = BadOne Bus

@@ -2,7 +2,7 @@
 
 ghost use Rattle.std.specs.Prelude.{◌≡◌, ◌≢◌, ◌<◌, ◌%◌, ◌^◌, true, IsTrue};
 ghost use Rattle.mpu_model.specs.Protection.{IsAccessWidth};
-ghost use Rattle.armv7m.specs.Accesses.{verdict_of, IsFit, extended, load_extended, loaded_extended, stored_at};
+ghost use Rattle.armv7m.specs.Accesses.{IsFit, extended, load_extended, loaded_extended, stored_at};
 ghost use Rattle.armv7m.specs.Instructions.{store_from};
 ghost use Rattle.armv7m.specs.Parts.{state_of, left, left_by, does};
 ghost use Rattle.armv7m.specs.Perform as perform;
@@ -11,13 +11,13 @@ ghost use Rattle.armv7m.specs.System as system;
 ghost use Rattle.armv7m.specs.Tests as tests;
 
 use crate::parts::Parts;
-use crate::state::{CoreRegisters, End, FaultStatus, ProtectionState, StopReason};
+use crate::state::{CoreRegisters, End, ProtectionState, StopReason};
 use crate::{CCR, CFSR, MMFAR, SHCSR};
+use device_model::event::Event;
+use mem_bus::answer::{Loaded, Stored};
 use mem_bus::bus::{Bus, cut_to_width};
-use mem_bus::event::{Event, Loaded, Stored};
 use mpu_model::region::Access;
 use mpu_model::{MPU_CTRL, MPU_RASR, MPU_RBAR, MPU_RNR, MPU_TYPE};
-use words::operations;
 
 /// What the tests of an access say.
 #[derive(Clone, Copy)]
@@ -53,7 +53,7 @@ fn is_system_register(address: u32) -> bool
 #[tactic(auto, unfolding(crate::specs::Tests::verdict))]
 pub fn test_access(protection: &ProtectionState, kind: Access, width: u8, address: u32) -> Verdict
     requires { IsAccessWidth width }
-    ensures verdict { verdict_of result ≡ tests.verdict state.by_mpu protection.now kind width address }
+    ensures verdict { result ≡ tests.verdict state.by_mpu protection.now kind width address }
     ensures fit { IsFit result width address }
 {
     if address % u32::from(width) != 0 {
@@ -68,34 +68,6 @@ pub fn test_access(protection: &ProtectionState, kind: Access, width: u8, addres
         Verdict::ToBus
     } else {
         Verdict::Refused
-    }
-}
-
-impl FaultStatus {
-    /// A read of CCR, which gives STKALIGN alone, or of a register that tells of faults.
-    #[tactic(auto, unfolding(crate::specs::System::read_status))]
-    fn read(&self, address: u32) -> u32
-        ensures { result ≡ system.read_status address self.now }
-    {
-        match address {
-            CCR => 0x200,
-            SHCSR => self.shcsr,
-            CFSR => self.cfsr,
-            _ => self.mmfar,
-        }
-    }
-
-    /// A write: SHCSR keeps MEMFAULTENA, and a one clears its bit of CFSR.
-    #[tactic(auto, unfolding(crate::specs::System::write_status))]
-    fn write(&mut self, address: u32, value: u32)
-        ensures { self.new ≡ system.write_status address value self.old }
-    {
-        match address {
-            SHCSR => self.shcsr = (value >> 16) % 2 << 16,
-            CFSR => self.cfsr = operations::bit_clear(self.cfsr, value),
-            MMFAR => self.mmfar = value,
-            _ => {}
-        }
     }
 }
 

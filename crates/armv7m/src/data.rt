@@ -2,7 +2,6 @@
 
 ghost use Rattle.std.specs.Prelude.{◌≡◌};
 ghost use Rattle.armv7m.specs.DataOperations as operations;
-ghost use Rattle.armv7m.specs.Outcomes.{outcome_of};
 ghost use Rattle.armv7m.specs.State.{bit_of};
 
 use crate::state::CoreRegisters;
@@ -20,7 +19,7 @@ pub enum Outcome {
 
 /// A result that sets N and Z.
 fn logical(flags: Flags, value: u32) -> Outcome
-    ensures { outcome_of result ≡ operations.logical flags value }
+    ensures { result ≡ operations.logical flags value }
 {
     Outcome::Gives {
         value,
@@ -30,7 +29,7 @@ fn logical(flags: Flags, value: u32) -> Outcome
 
 /// A shifted value, which sets the carry too.
 fn shifted(flags: Flags, value: u32, carry: bool) -> Outcome
-    ensures { outcome_of result ≡ operations.shifted flags value carry }
+    ensures { result ≡ operations.shifted flags value carry }
 {
     Outcome::Gives {
         value,
@@ -43,7 +42,7 @@ fn shifted(flags: Flags, value: u32, carry: bool) -> Outcome
 
 /// AddWithCarry.
 fn sum(x: u32, y: u32, carry: bool) -> Outcome
-    ensures { outcome_of result ≡ operations.sum x y (bit_of carry) }
+    ensures { result ≡ operations.sum x y (bit_of carry) }
 {
     let (value, flags) = add_with_carry(x, y, carry);
     Outcome::Gives { value, flags }
@@ -51,7 +50,7 @@ fn sum(x: u32, y: u32, carry: bool) -> Outcome
 
 /// LSLS with `op` 0, LSRS with 1, ASRS with 2, by an amount; 0 is no shift.
 pub fn shift_by(op: u8, x: u32, amount: u32, flags: Flags) -> Outcome
-    ensures { outcome_of result ≡ operations.shift_by op x amount flags }
+    ensures { result ≡ operations.shift_by op x amount flags }
 {
     let (value, carry) = match op {
         0 => (
@@ -83,7 +82,7 @@ pub fn immediate_amount(op: u8, imm5: u8) -> u32
 
 /// ADDS with `op` 0, SUBS with 1.
 pub fn add_or_subtract(op: u8, x: u32, y: u32) -> Outcome
-    ensures { outcome_of result ≡ operations.add_or_subtract op x y }
+    ensures { result ≡ operations.add_or_subtract op x y }
 {
     if op == 0 {
         sum(x, y, false)
@@ -94,7 +93,7 @@ pub fn add_or_subtract(op: u8, x: u32, y: u32) -> Outcome
 
 /// MOVS, CMP, ADDS and SUBS with a number, by `op` from 0.
 pub fn immediate(op: u8, x: u32, number: u32, flags: Flags) -> Outcome
-    ensures { outcome_of result ≡ operations.immediate op x number flags }
+    ensures { result ≡ operations.immediate op x number flags }
 {
     match op {
         0 => logical(flags, number),
@@ -108,7 +107,7 @@ pub fn immediate(op: u8, x: u32, number: u32, flags: Flags) -> Outcome
 
 /// The operations on two registers, by `op` from 0 to 15.
 pub fn operation(op: u8, x: u32, y: u32, flags: Flags) -> Outcome
-    ensures { outcome_of result ≡ operations.operation op x y flags }
+    ensures { result ≡ operations.operation op x y flags }
 {
     match op {
         0 => logical(flags, x & y),
@@ -138,7 +137,7 @@ pub fn operation(op: u8, x: u32, y: u32, flags: Flags) -> Outcome
 
 /// RORS by a register.
 fn rotated(x: u32, y: u32, flags: Flags) -> Outcome
-    ensures { outcome_of result ≡ operations.operation 7 x y flags }
+    ensures { result ≡ operations.operation 7 x y flags }
 {
     let value = operations::rotate_right(x, y);
     let carry = operations::rotated_right_carry(x, y, flags.carry);
@@ -148,7 +147,7 @@ fn rotated(x: u32, y: u32, flags: Flags) -> Outcome
 impl CoreRegisters {
     /// The registers with an outcome in the destination, before the next instruction.
     pub fn after(mut self, outcome: Outcome, next: u32, destination: u8) -> CoreRegisters
-        ensures { result ≡ operations.after_outcome (outcome_of outcome) self next destination }
+        ensures { result ≡ operations.after_outcome outcome self next destination }
     {
         self.pc = next;
         match outcome {

@@ -2,7 +2,7 @@
 
 ghost use Rattle.std.specs.Prelude.{◌≡◌, ◌<◌, ◌%◌, ◌++◌, ◌+◌, ◌≤◌, length, true};
 ghost use Rattle.arrayvec.specs.ArrayVec.{array_vec_len};
-ghost use Rattle.mem_bus.specs.Rules.{ObeysRules};
+ghost use Rattle.device_model.specs.Rules.{ObeysRules};
 ghost use Rattle.armv7m.specs.Exceptions as exceptions;
 ghost use Rattle.armv7m.specs.Act.{Calls};
 ghost use Rattle.armv7m.specs.Parts.{state_of, left, left_by, does};
@@ -12,9 +12,9 @@ ghost use Rattle.armv7m.specs.Tests.{all_open};
 use crate::parts::Parts;
 use crate::state::{CoreRegisters, FaultStatus, ProtectionState, StopReason};
 use arrayvec::ArrayVec;
+use device_model::event::Event;
+use device_model::image::Image;
 use mem_bus::bus::Bus;
-use mem_bus::event::Event;
-use mem_bus::image::Image;
 use mpu_model::region::Access;
 use words::conditions::Flags;
 use words::memory::{Width, read_value};
@@ -241,7 +241,7 @@ impl Parts {
     {
         if self.protection.handler {
             self.stop(StopReason::Handler)
-        } else if (self.status.shcsr >> 16) % 2 == 1 {
+        } else if self.status.shcsr.enables_faults() {
             self.enter(MEM_MANAGE, self.core.pc, status)
         } else {
             self.stop(StopReason::MemDisabled)
@@ -254,10 +254,7 @@ impl Parts {
         ensures { left self.new result ≡ left_by self.old.bus.image
             (exceptions.fetch_fault by_mpu self.old.bus.image (state_of self.old)) }
     {
-        self.fault(FaultStatus {
-            cfsr: self.status.cfsr | 1,
-            ..self.status
-        })
+        self.fault(self.status.after_fetch())
     }
 
     /// A load or store that is not permitted sets DACCVIOL and MMARVALID, and MMFAR to its address.
@@ -266,11 +263,7 @@ impl Parts {
         ensures { left self.new result ≡ left_by self.old.bus.image
             (exceptions.data_fault by_mpu self.old.bus.image address (state_of self.old)) }
     {
-        self.fault(FaultStatus {
-            cfsr: self.status.cfsr | 0x82,
-            mmfar: address,
-            ..self.status
-        })
+        self.fault(self.status.after_access(address))
     }
 
     /// An exception return in Handler mode (B1.5.8), from PSP or from MSP. The words are tested as Thread mode

@@ -3,22 +3,29 @@
 ghost use Rattle.std.specs.Prelude.{◌≡◌, ◌%◌, ◌<◌, ◌^◌, IfSome, None};
 ghost use Rattle.mem_bus.specs.Bus.{fetch_at};
 ghost use Rattle.mem_bus.specs.Places.{place};
-ghost use Rattle.armv7m.specs.Fetches.{fetched_of, IsLow};
+ghost use Rattle.armv7m.specs.Fetches.{IsLow};
 ghost use Rattle.armv7m.specs.Parts.{state_of, left, left_by};
 ghost use Rattle.armv7m.specs.State.{by_mpu};
 ghost use Rattle.armv7m.specs.Step as step;
 
 use crate::parts::Parts;
 use crate::state::StopReason;
-use mem_bus::event::Event;
+use device_model::event::Event;
 use mpu_model::region::Access;
 use thumb_model::decoding::decode;
 
 /// What the fetch of an instruction gives.
 #[derive(Clone, Copy)]
 pub enum Fetched {
-    /// Its halfwords; the second is 0 where the first is the whole instruction.
-    Took(u16, u16),
+    /// An instruction.
+    Took {
+        /// Its first halfword.
+        first: u16,
+        /// Its second halfword, or 0.
+        second: u16,
+        /// How many bytes it has: 2 or 4.
+        size: u8,
+    },
     /// Protection refuses one of them.
     NotAllowed,
     /// The bus maps none there.
@@ -42,7 +49,7 @@ impl Parts {
     #[tactic(auto, unfolding(crate::specs::Step::fetch))]
     fn fetch(&self) -> Fetched
         requires { self.now.core.pc % 2 ≡ 0 }
-        ensures fetched { fetched_of result ≡ step.fetch by_mpu self.now.bus.image (state_of self.now) }
+        ensures fetched { result ≡ step.fetch by_mpu self.now.bus.image (state_of self.now) }
         ensures low { IsLow result self.now.core.pc }
     {
         let pc = self.core.pc;
@@ -53,13 +60,21 @@ impl Parts {
             return Fetched::NotMapped;
         };
         if first < 0xE800 {
-            return Fetched::Took(first, 0);
+            return Fetched::Took {
+                first,
+                second: 0,
+                size: 2,
+            };
         }
         if !self.protection.permits(Access::Fetch, pc + 2) {
             return Fetched::NotAllowed;
         }
         match self.fetch_half(pc + 2) {
-            Some(second) => Fetched::Took(first, second),
+            Some(second) => Fetched::Took {
+                first,
+                second,
+                size: 4,
+            },
             None => Fetched::NotMapped,
         }
     }
@@ -75,8 +90,12 @@ impl Parts {
             (step.turn by_mpu self.old.bus.image (state_of self.old)) }
     {
         match self.fetch() {
-            Fetched::Took(first, second) => match decode(first, second) {
-                Some((instr, size)) => self.execute(instr, self.core.pc + u32::from(size)),
+            Fetched::Took {
+                first,
+                second,
+                size,
+            } => match decode(first, second) {
+                Some((instr, _)) => self.execute(instr, self.core.pc + u32::from(size)),
                 None => self.stop(StopReason::Undefined),
             },
             Fetched::NotAllowed => self.fetch_fault(),

@@ -2,7 +2,7 @@
 
 ghost use Rattle.std.specs.Prelude.{ℕ, ◌≡◌, ◌+◌, List, [], ◌++◌, Some};
 ghost use Rattle.words.specs.Runs.{run, events};
-ghost use Rattle.mem_bus.specs.declared.image.Image.{Image};
+ghost use Rattle.device_model.specs.declared.image.Image.{Image};
 ghost use Rattle.armv7m.specs.declared.state.End.{End};
 ghost use Rattle.armv7m.specs.State.{State, Judge, calm};
 ghost use Rattle.armv7m.specs.Step.{turn, step, event};
@@ -10,7 +10,8 @@ ghost use Rattle.armv7m.specs.Run.{after, events_after};
 ghost use Rattle.armv7m.specs.Code.{next, told};
 ghost use Rattle.armv7m.specs.Machine.{StepsEndOrGoOn};
 ghost use Rattle.armv7m.specs.AccessLaw.{AllowedStepsAreFree};
-ghost use Rattle.armv7m.specs.Confinement.{StepsAreConfined, EventsAreListed, FetchesArePermittedAlways, FlashIsNeverWritten};
+ghost use Rattle.armv7m.specs.Locality.{StepsReadWhatTheyList};
+ghost use Rattle.armv7m.specs.Confinement.{EventsAreListed, FetchesArePermittedAlways, FlashIsNeverWritten};
 
 /// A machine that has ended stays as it is: its steps change nothing, store and load nothing and have no event,
 /// and so do runs of them.
@@ -50,13 +51,6 @@ pub fn access_law()
     ensures { AllowedStepsAreFree }
 {}
 
-/// Confinement: a step that begins unprivileged stores and loads only where the protection unit permits it, but for
-/// the vector that an exception entry reads; it changes no byte of RAM outside its stores, and neither the
-/// protection nor the fault status but by entering an exception.
-pub fn confinement()
-    ensures { StepsAreConfined }
-{}
-
 /// The event of a step is one of the accesses that the step lists, at a place of a window; so an unprivileged step
 /// makes events only where it may store or load. And a fetch that is not permitted is a fault.
 pub fn listed_accesses()
@@ -68,4 +62,12 @@ pub fn listed_accesses()
 /// the state, so it stays.
 pub fn flash_stays()
     ensures { FlashIsNeverWritten }
+{}
+
+/// The lists of a step are complete also for what it reads: on any other RAM of the same size that agrees on the
+/// halfwords fetched, on the listed loads and on the compartment word of an event, the step makes the same stores,
+/// loads and event, leads to the same state but for RAM, and writes the same bytes there and no others. Where a
+/// machine stops for what an instruction loaded, the words that it asked for count as its loads.
+pub fn listed_reads()
+    ensures { StepsReadWhatTheyList }
 {}

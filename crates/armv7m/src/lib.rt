@@ -2,9 +2,11 @@
 #![tactic(auto)]
 
 mod accesses;
+pub mod any_step;
 mod branches;
 mod data;
 mod exceptions;
+pub mod fault_registers;
 mod fetching;
 pub mod laws;
 pub mod machine;
@@ -25,6 +27,3 @@ pub const SHCSR: u32 = 0xE000ED24;
 pub const CFSR: u32 = 0xE000ED28;
 /// MMFAR, the address of the MemManage fault address register (B3.2.17).
 pub const MMFAR: u32 = 0xE000ED34;
-
-#[cfg(test)]
-mod tests;

@@ -4,15 +4,16 @@ ghost use Rattle.std.specs.Prelude.{◌≡◌, ◌<◌, length, not, IfOk};
 ghost use Rattle.std.specs.Fn.{CalledAt};
 ghost use Rattle.mem_bus.specs.Memory.{byte_at};
 ghost use Rattle.mem_bus.specs.Places.{place};
-ghost use Rattle.mem_bus.specs.Rules.{ObeysRules};
+ghost use Rattle.device_model.specs.Rules.{ObeysRules};
+ghost use Rattle.mpu_model.specs.Registers.{at_reset};
 
 use crate::exceptions::vector;
 use crate::parts::Parts;
 use crate::state::{CoreRegisters, End, FaultStatus, ProtectionState};
+use device_model::event::Event;
+use device_model::image::Image;
+use device_model::tape::Tape;
 use mem_bus::bus::Bus;
-use mem_bus::event::Event;
-use mem_bus::image::Image;
-use mem_bus::tape::Tape;
 use mpu_model::unit::Mpu;
 use std::alloc::{AllocError, Global};
 use std::marker::Model;
@@ -45,6 +46,18 @@ impl Model for Machine {
     ghost view = { λ m. record { image = m.parts.bus.image; state = state_of m.parts } };
 
     ghost invariant = { λ m. IsMachine (record { image = m.parts.bus.image; state = state_of m.parts }) };
+}
+
+/// The protection unit at reset, with as many regions as the image tells.
+fn unit_at_reset(image: &Image) -> Mpu
+    requires { ObeysRules image.now }
+    ensures { result ≡ at_reset image.now.regions }
+{
+    if image.regions == 16 {
+        Mpu::sixteen()
+    } else {
+        Mpu::new()
+    }
 }
 
 impl Machine {
@@ -81,19 +94,14 @@ impl Machine {
         let protection = ProtectionState {
             handler: false,
             unprivileged: false,
-            mpu: Mpu::new(),
-        };
-        let status = FaultStatus {
-            shcsr: 0,
-            cfsr: 0,
-            mmfar: 0,
+            mpu: unit_at_reset(image),
         };
         Ok(Machine {
             parts: Parts {
                 bus,
                 core,
                 protection,
-                status,
+                status: FaultStatus::at_reset(),
                 ending: None,
             },
         })

@@ -5,8 +5,8 @@ ghost use Rattle.armv7m.specs.Parts.{state_of, left, left_by};
 ghost use Rattle.armv7m.specs.State as state;
 
 use crate::state::{CoreRegisters, End, FaultStatus, ProtectionState, StopReason};
+use device_model::event::Event;
 use mem_bus::bus::Bus;
-use mem_bus::event::Event;
 use mpu_model::region::Access;
 
 /// What a machine is made of. Each function that acts on it answers the event that it makes, if it makes one.

@@ -3,20 +3,10 @@
 ghost use Rattle.std.specs.Prelude.{◌≡◌, ℕ, ◌+◌, ◌*◌, ◌%◌, ◌^◌, ◌<◌, ◌≤◌, List, length, Bool};
 ghost use Rattle.words.specs.declared.conditions.Flags.{Flags};
 ghost use Rattle.words.specs.Bytes.{write_all};
-ghost use Rattle.mem_bus.specs.declared.image.Image.{Image};
+ghost use Rattle.device_model.specs.declared.image.Image.{Image};
 ghost use Rattle.armv7m.specs.declared.state.CoreRegisters.{CoreRegisters as Core};
 ghost use Rattle.armv7m.specs.State.{Judge};
 ghost use Rattle.armv7m.specs.Exceptions.{frame_at, frame_of, unstacked};
-ghost use Rattle.armv7m.specs.ComputedSteps.{ComputesData, ComputesBranches, ComputesTransfers};
-ghost use Rattle.armv7m.specs.ComputedFaults.{
-  ComputesProtection,
-  ComputesExceptions,
-  ComputesTests,
-  ComputesWindows,
-  ComputesStops,
-  ComputesSystem,
-  ComputesRun,
-};
 ghost use Rattle.armv7m.specs.Stack.{words_at, cut_words, AreWords};
 ghost use Rattle.armv7m.specs.Resumed.{resumed, TellsThread, saved_of};
 ghost use Rattle.armv7m.specs.Shape.{StepsKeepShape, RunsKeepShape};
@@ -25,11 +15,17 @@ ghost use Rattle.armv7m.specs.Running.{
   StepsAreActs,
   CodeMayRun,
   CodeHasParts,
+  StandingCodeHasParts,
+  SizesAddUp,
+  SizesAreEven,
   RunsGoOn,
   EachLive,
   ActSteps,
   ExceptionSteps,
 };
+ghost use Rattle.armv7m.specs.EntryFrame.{OpenFramesAreWords};
+ghost use Rattle.armv7m.specs.Turns.{WholeTurns};
+ghost use Rattle.armv7m.specs.Accessed.{TransfersHaveWidths, NothingStops, SystemRegistersAreReached, FramesAreAligned};
 ghost use Rattle.armv7m.specs.Templates.{
   EachWorks,
   RegisterSteps,
@@ -40,34 +36,19 @@ ghost use Rattle.armv7m.specs.Templates.{
   ThreadSteps,
 };
 
-/// Single steps of a small machine, whose outcomes were worked out by hand from the manual: instructions that
-/// compute (A7.7), branch, load and store.
-pub fn computed_steps()
-    ensures of_data { ComputesData }
-    ensures of_branches { ComputesBranches }
-    ensures of_transfers { ComputesTransfers }
-{}
-
-/// And of protection (B3.5), exceptions (B1.5), windows, every reason to stop, the system's registers, and a run.
-pub fn computed_faults()
-    ensures of_protection { ComputesProtection }
-    ensures of_exceptions { ComputesExceptions }
-    ensures of_tests { ComputesTests }
-    ensures of_windows { ComputesWindows }
-    ensures of_stops { ComputesStops }
-    ensures of_system { ComputesSystem }
-    ensures of_run { ComputesRun }
-{}
-
 /// An instruction that stands at the program counter is performed, steps make up runs, and flash that holds the
 /// bytes of instructions is code.
 pub fn instructions()
     ensures performed { StepsAreActs }
     ensures by_act { EachLive ActSteps }
     ensures of_exceptions { EachLive ExceptionSteps }
+    ensures by_turn { EachLive WholeTurns }
     ensures in_runs { (j : Judge) (i : Image) → RunsGoOn j i }
     ensures may_run { CodeMayRun }
     ensures has_parts { CodeHasParts }
+    ensures stands_by_parts { StandingCodeHasParts }
+    ensures sizes { SizesAddUp }
+    ensures even_sizes { SizesAreEven }
     ensures from_bytes { BytesAreCode }
 {}
 
@@ -82,7 +63,7 @@ pub fn templates()
 {}
 
 /// What an exception entry pushes (PushStack, B1.5.6) is read as it was, and taken back by the return (PopStack,
-/// B1.5.8) it is the thread again.
+/// B1.5.8) it is the thread again. A frame that is open lies in RAM, its words one behind the other.
 pub fn frames()
     ensures pushed { (vs : List ℕ) (o : ℕ) (ram : List ℕ) → o + 4 * length vs ≤ length ram →
         words_at (length vs) o (write_all 4 o vs ram) ≡ cut_words vs }
@@ -91,6 +72,7 @@ pub fn frames()
     ensures taken_back { (c h : Core) (ret : ℕ) → c.sp % 4 ≡ 0 → 36 ≤ c.sp → c.sp < 2 ^ 32 →
         unstacked c.on_psp h (frame_at c.sp) (frame_of c ret) ≡ resumed c h ret }
     ensures of_thread { (f : Flags) (pad : Bool) → TellsThread f pad }
+    ensures in_ram { OpenFramesAreWords }
 {}
 
 /// Every step keeps the number of registers, regions and bytes, the stack pointers multiples of 4, and numbers words;
@@ -98,4 +80,18 @@ pub fn frames()
 pub fn shapes()
     ensures of_steps { StepsKeepShape }
     ensures of_runs { RunsKeepShape }
+{}
+
+/// Each load and each store of the instruction table asks for an access of its width, at the address of its form, and
+/// a load puts the value into its register behind zeros or its sign (A7.7).
+pub fn transfers()
+    ensures { (next : ℕ) (c : Core) → TransfersHaveWidths next c }
+{}
+
+/// What the tests let through to a place where nothing lies stops the machine with `Bus`, whatever is accessed; a
+/// privileged access of the word of a system register reaches it; and a frame begins at a multiple of 8.
+pub fn accesses()
+    ensures of_nothing { NothingStops }
+    ensures of_system { SystemRegistersAreReached }
+    ensures of_frames { FramesAreAligned }
 {}

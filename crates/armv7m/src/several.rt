@@ -7,7 +7,7 @@ ghost use Rattle.armv7m.specs.Act.{LoadsMany, StoresMany};
 ghost use Rattle.armv7m.specs.Instructions as instructions;
 ghost use Rattle.armv7m.specs.Parts.{state_of, left, left_by, does};
 ghost use Rattle.armv7m.specs.Perform as perform;
-ghost use Rattle.armv7m.specs.Several.{verdicts_of, AreFit};
+ghost use Rattle.armv7m.specs.Accesses.{AreFit};
 ghost use Rattle.armv7m.specs.State.{by_mpu};
 ghost use Rattle.armv7m.specs.Tests as tests;
 
@@ -15,8 +15,8 @@ use crate::accesses::{Verdict, is_in_system, test_access};
 use crate::parts::Parts;
 use crate::state::{CoreRegisters, ProtectionState, StopReason};
 use arrayvec::ArrayVec;
+use device_model::event::Event;
 use mem_bus::bus::Bus;
-use mem_bus::event::Event;
 use mpu_model::region::Access;
 
 /// The words of one instruction: at most the eight low registers and one more.
@@ -30,7 +30,7 @@ pub enum Verdicts {
     /// Protection refuses this one first.
     RefusedAt(u32),
     /// The machine stops.
-    Bad(StopReason),
+    BadOne(StopReason),
 }
 
 /// The tests of so many words in rising order. None of them may go to a window.
@@ -42,7 +42,7 @@ fn test_words(
     address: u32,
     count: u8,
 ) -> Verdicts
-    ensures verdicts { verdicts_of result
+    ensures verdicts { result
         ≡ tests.verdicts by_mpu bus.now.image protection.now kind address count }
     ensures fit { AreFit result address count }
 {
@@ -51,8 +51,8 @@ fn test_words(
     }
     match test_access(protection, kind, 4, address) {
         Verdict::Refused => Verdicts::RefusedAt(address),
-        Verdict::Bad(reason) => Verdicts::Bad(reason),
-        Verdict::ToBus if !bus.is_memory(kind, address) => Verdicts::Bad(StopReason::Bus),
+        Verdict::Bad(reason) => Verdicts::BadOne(reason),
+        Verdict::ToBus if !bus.is_memory(kind, address) => Verdicts::BadOne(StopReason::Bus),
         Verdict::ToBus | Verdict::ToSystem => {
             test_words(bus, protection, kind, address.wrapping_add(4), count - 1)
         }
@@ -221,7 +221,7 @@ impl Parts {
                 let _ = self.data_fault(refused);
                 None
             }
-            Verdicts::Bad(reason) => {
+            Verdicts::BadOne(reason) => {
                 let _ = self.stop(reason);
                 None
             }
@@ -248,7 +248,7 @@ impl Parts {
                 None
             }
             Verdicts::RefusedAt(refused) => self.data_fault(refused),
-            Verdicts::Bad(reason) => self.stop(reason),
+            Verdicts::BadOne(reason) => self.stop(reason),
         }
     }
 

@@ -1,5 +1,6 @@
 //! The parts of a machine's state, and the ways in which a run ends.
 
+use crate::fault_registers::{FaultCauses, HandlerControl};
 use mpu_model::unit::Mpu;
 use words::conditions::Flags;
 
@@ -38,11 +39,11 @@ pub struct ProtectionState {
 /// The system registers that tell of faults (B3.2.13 to B3.2.17).
 #[derive(Clone, Copy)]
 pub struct FaultStatus {
-    /// SHCSR, of which MEMFAULTENA in bit 16 is kept.
-    pub shcsr: u32,
-    /// CFSR: bit 0 IACCVIOL, bit 1 DACCVIOL, bit 7 MMARVALID.
-    pub cfsr: u32,
-    /// MMFAR.
+    /// SHCSR.
+    pub shcsr: HandlerControl,
+    /// CFSR.
+    pub cfsr: FaultCauses,
+    /// MMFAR, the address of the last refused load or store.
     pub mmfar: u32,
 }
 

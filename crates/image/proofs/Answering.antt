@@ -2,12 +2,12 @@
 use Rattle.std.proofs.Common.{◌≡◌, ℕ, zero, suc, ◌<◌, ◌^◌, ◌⊎◌, inl, inr, List, [], ◌∷◌, ◌++◌, length, get_or, Some, None, Result, Ok, Err, refl, sym, ap, ◌∙◌, subst, arith}
 use Rattle.std.specs.Prelude.{IfOk, IfErr, OnOk}
 use Rattle.std.specs.List.{flat_map}
-use Rattle.mem_bus.specs.declared.image.Image.{Image}
-use Rattle.mem_bus.specs.declared.image.Window.{Window}
-use Rattle.mem_bus.specs.Rules.{ObeysRules, AreWindows}
+use Rattle.device_model.specs.declared.image.Image.{Image}
+use Rattle.device_model.specs.declared.image.Window.{Window}
+use Rattle.device_model.specs.Rules.{ObeysRules, AreWindows}
 use Rattle.image.specs.declared.fault.ImageFault.{ImageFault}
 use Rattle.image.specs.declared.fault.ImageFault.TheVariants.{NoMemory, Short, Magic, Version, Field, Trailing}
-use Rattle.image.specs.Text.{magic, version, word_bytes, memory_bytes, place_bytes, window_bytes, image_bytes, IsText}
+use Rattle.image.specs.Text.{magic, version, word_bytes, memory_bytes, place_bytes, protection_bytes, window_bytes, image_bytes, IsText}
 use Rattle.image.specs.Parts.{spelled_image}
 use Rattle.image.specs.Faults.{first_fault, Reads}
 use Rattle.image.proofs.Bytes.{AreBytes}
@@ -47,11 +47,11 @@ short_names (w ∷ ws) h zero d below = let fits = window_fits w h.0 in omega ar
 short_names (w ∷ ws) h (suc k) d below = short_names ws h.2 k d (omega arith)
 
 -- the text of an image as its parts are written
-written : (i : Image) → image_bytes i ≡ (((((magic ++ word_bytes version) ++ memory_bytes i) ++ place_bytes i) ++ word_bytes (length i.windows)) ++ flat_map window_bytes i.windows) ++ i.flash
+written : (i : Image) → image_bytes i ≡ ((((((magic ++ word_bytes (version i.regions i.closed)) ++ memory_bytes i) ++ place_bytes i) ++ word_bytes (length i.windows)) ++ protection_bytes i.regions i.closed) ++ flat_map window_bytes i.windows) ++ i.flash
 unfolding image_bytes
 written i = refl
 
-pub IsText-written : (i : Image) (first second third fourth fifth sixth last : List ℕ) → ObeysRules i → first ≡ magic → second ≡ first ++ word_bytes version → third ≡ second ++ memory_bytes i → fourth ≡ third ++ place_bytes i → fifth ≡ fourth ++ word_bytes (length i.windows) → sixth ≡ fifth ++ flat_map window_bytes i.windows → last ≡ sixth ++ i.flash → IsText i last
-IsText-written i first second third fourth fifth sixth last rules a b c d e f g =
-    let joined : last ≡ (((((magic ++ word_bytes version) ++ memory_bytes i) ++ place_bytes i) ++ word_bytes (length i.windows)) ++ flat_map window_bytes i.windows) ++ i.flash = cc in
+pub IsText-written : (i : Image) (first second third fourth fifth sixth seventh last : List ℕ) → ObeysRules i → first ≡ magic → second ≡ first ++ word_bytes (version i.regions i.closed) → third ≡ second ++ memory_bytes i → fourth ≡ third ++ place_bytes i → fifth ≡ fourth ++ word_bytes (length i.windows) → sixth ≡ fifth ++ protection_bytes i.regions i.closed → seventh ≡ sixth ++ flat_map window_bytes i.windows → last ≡ seventh ++ i.flash → IsText i last
+IsText-written i first second third fourth fifth sixth seventh last rules a b c d e f g h =
+    let joined : last ≡ ((((((magic ++ word_bytes (version i.regions i.closed)) ++ memory_bytes i) ++ place_bytes i) ++ word_bytes (length i.windows)) ++ protection_bytes i.regions i.closed) ++ flat_map window_bytes i.windows) ++ i.flash = cc in
     record { rules = rules; spelled = written i ∙ sym joined }

@@ -7,8 +7,8 @@ use Rattle.std.proofs.lemmas.Bool.Decides.{Decides-eqb, Decides-and, Decides-or,
 use Rattle.std.specs.List.{list_any, list_all}
 use Rattle.std.specs.Str.{bytes_eq}
 use Rattle.names.specs.Names.{is_name}
-use Rattle.mem_bus.specs.declared.image.Window.{Window}
-use Rattle.mem_bus.specs.Rules.{IsPowerBetween, IsInside, AreApart, block_size}
+use Rattle.device_model.specs.declared.image.Window.{Window}
+use Rattle.device_model.specs.Rules.{IsPowerBetween, IsInside, AreApart, block_size}
 use Rattle.image.specs.Faults.{is_power_between, is_inside, are_apart, is_flash_base, is_flash_length, is_ram_base, is_ram_size, is_monitor, is_stack_size, is_stack_base, is_window_size, is_window_base, is_name_length, is_new_name}
 
 pub Decides-nat_le : (a b : ℕ) → Decides (nat_le a b) (a ≤ b)

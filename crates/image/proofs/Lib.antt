@@ -1,8 +1,9 @@
-pub mod Steps
-pub mod Turns
-pub mod Decisions
-pub mod Passing
-pub mod Bytes
-pub mod Rows
-pub mod Texts
-pub mod Answering
+mod Steps
+mod Turns
+mod Decisions
+mod Passing
+mod Bytes
+mod Rows
+mod Protection
+mod Texts
+mod Answering

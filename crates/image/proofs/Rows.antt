@@ -8,8 +8,8 @@ use Rattle.std.proofs.lemmas.List.Edits.{length-between}
 use Rattle.std.proofs.lemmas.List.Folds.{drop_split}
 use Rattle.std.proofs.lemmas.Slice.Eq.{bytes_eq-Decides}
 use Rattle.names.specs.Names.{is_name, is_word}
-use Rattle.mem_bus.specs.declared.image.Window.{Window}
-use Rattle.mem_bus.specs.Rules.{IsWindow, IsApart, AreWindows, AreApart}
+use Rattle.device_model.specs.declared.image.Window.{Window}
+use Rattle.device_model.specs.Rules.{IsWindow, IsApart, AreWindows, AreApart}
 use Rattle.image.specs.Text.{word_bytes, window_bytes}
 use Rattle.image.specs.Parts.{number, window_at, behind_window, windows_from, behind_windows}
 use Rattle.image.specs.Faults.{first_of, are_apart, range_checks, name_checks, window_checks, windows_checks}

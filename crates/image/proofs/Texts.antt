@@ -1,27 +1,30 @@
 -- Bytes without a fault are the text of the image that they spell, and the text of an image has no fault and spells it.
-use Rattle.std.proofs.Common.{◌≡◌, ℕ, ◌+◌, ◌-◌, ◌%◌, ◌^◌, ◌<◌, ◌≤◌, ◌⊎◌, inl, inr, List, [], ◌++◌, length, drop, None, refl, sym, ap, ◌∙◌, subst, arith, append-nil, length-drop}
+use Rattle.std.proofs.Common.{◌≡◌, ℕ, ◌+◌, ◌-◌, ◌%◌, ◌^◌, ◌<◌, ◌≤◌, ◌⊎◌, inl, inr, Bool, List, [], ◌++◌, length, drop, None, refl, sym, ap, ◌∙◌, subst, arith, append-nil, append_assoc, length-drop}
 use Rattle.std.specs.List.{slice_range, flat_map}
-use Rattle.std.proofs.lemmas.Bool.Decides.{Decides-eqb}
+use Rattle.std.proofs.lemmas.Bool.Decides.{Decides-eqb, Decides-or}
 use Rattle.std.proofs.lemmas.List.{drop_all}
 use Rattle.std.proofs.lemmas.List.Edits.{length-between}
 use Rattle.std.proofs.lemmas.List.Folds.{drop_split}
 use Rattle.std.proofs.lemmas.Slice.Eq.{bytes_eq-Decides}
-use Rattle.mem_bus.specs.declared.image.Image.{Image}
-use Rattle.mem_bus.specs.declared.image.Window.{Window}
-use Rattle.mem_bus.specs.Rules.{ObeysRules, IsStack, IsMonitor, IsInside, block_size}
-use Rattle.image.specs.Text.{magic, version, word_bytes, window_bytes, image_bytes, IsText}
-use Rattle.image.specs.Parts.{number, windows_from, behind_windows, flash_place, spelled_image}
-use Rattle.image.specs.Faults.{first_of, first_fault, start_checks, magic_check, version_check, memory_checks, place_checks, count_checks, windows_checks, flash_checks, end_check}
+use Rattle.device_model.specs.declared.image.Image.{Image}
+use Rattle.device_model.specs.declared.image.Window.{Window}
+use Rattle.device_model.specs.Rules.{ObeysRules, IsStack, IsMonitor, IsInside, block_size}
+use Rattle.image.specs.Text.{magic, version, word_bytes, protection_bytes, window_bytes, header_bytes, image_bytes, IsText}
+use Rattle.image.specs.Parts.{number, regions, closed, windows_from, behind_windows, windows_place, flash_place, spelled_image}
+use Rattle.image.specs.Faults.{first_of, first_fault, start_checks, magic_check, version_check, memory_checks, place_checks, count_checks, protection_checks, windows_checks, flash_checks, end_check}
 use Rattle.image.proofs.Steps.{first_of-pass_all}
 use Rattle.image.proofs.Passing.{AllPass-from_first_of, first_of-from_AllPass, first_of-none_in, room, whole-none, kept, rule-none}
 use Rattle.image.proofs.Decisions.{Decides-nat_le, Decides-is_flash_base, Decides-is_flash_length, Decides-is_ram_base, Decides-is_ram_size, Decides-is_monitor, KeepsStackRule, stack_rule, stack_tests}
 use Rattle.image.proofs.Bytes.{AreBytes, word_at, begins, begins_word}
+use Rattle.image.proofs.Protection.{protects, protects_rule, Protected, protected, small_version}
 use Rattle.image.proofs.Rows.{AreWindows-from_checks, length-windows_from, windows_spelled, found}
 
 -- the bytes of an image, field by field
-image_parts : (i : Image) → image_bytes i ≡ magic ++ (word_bytes version ++ (word_bytes i.flash_base ++ (word_bytes (length i.flash) ++ (word_bytes i.ram_base ++ (word_bytes i.ram_size ++ (word_bytes i.monitor ++ (word_bytes i.stack_base ++ (word_bytes i.stack_size ++ (word_bytes (length i.windows) ++ (flat_map window_bytes i.windows ++ i.flash))))))))))
+image_parts : (i : Image) → image_bytes i ≡ magic ++ (word_bytes (version i.regions i.closed) ++ (word_bytes i.flash_base ++ (word_bytes (length i.flash) ++ (word_bytes i.ram_base ++ (word_bytes i.ram_size ++ (word_bytes i.monitor ++ (word_bytes i.stack_base ++ (word_bytes i.stack_size ++ (word_bytes (length i.windows) ++ (protection_bytes i.regions i.closed ++ (flat_map window_bytes i.windows ++ i.flash)))))))))))
 unfolding image_bytes word_bytes
-image_parts i = refl
+image_parts i =
+    append_assoc (header_bytes i ++ protection_bytes i.regions i.closed) (flat_map window_bytes i.windows) i.flash
+    ∙ append_assoc (header_bytes i) (protection_bytes i.regions i.closed) (flat_map window_bytes i.windows ++ i.flash)
 
 -- all checks of a file find nothing
 record Faultless (b : List ℕ) : Type 0 where
@@ -29,7 +32,8 @@ record Faultless (b : List ℕ) : Type 0 where
   memories : first_of (memory_checks b) ≡ None
   places : first_of (place_checks b) ≡ None
   count : first_of (count_checks b) ≡ None
-  windows : first_of (windows_checks b 40 [] (number b 36)) ≡ None
+  protection : first_of (protection_checks b) ≡ None
+  windows : first_of (windows_checks b (windows_place b) [] (number b 36)) ≡ None
   flash : first_of (flash_checks b (flash_place b)) ≡ None
 
 faultless : (b : List ℕ) → first_fault b ≡ None → Faultless b
@@ -39,8 +43,9 @@ faultless b h =
     let m = first_of-none_in (memory_checks b) _ s.1 in
     let p = first_of-none_in (place_checks b) _ m.1 in
     let c = first_of-none_in (count_checks b) _ p.1 in
-    let w = first_of-none_in (windows_checks b 40 [] (number b 36)) _ c.1 in
-    record { start = s.0; memories = m.0; places = p.0; count = c.0; windows = w.0; flash = w.1 }
+    let k = first_of-none_in (protection_checks b) _ c.1 in
+    let w = first_of-none_in (windows_checks b (windows_place b) [] (number b 36)) _ k.1 in
+    record { start = s.0; memories = m.0; places = p.0; count = c.0; protection = k.0; windows = w.0; flash = w.1 }
 
 first_fault-none : (b : List ℕ) → Faultless b → first_fault b ≡ None
 unfolding first_fault
@@ -49,14 +54,15 @@ first_fault-none b h =
     ∙ (first_of-pass_all (memory_checks b) _ h.memories
     ∙ (first_of-pass_all (place_checks b) _ h.places
     ∙ (first_of-pass_all (count_checks b) _ h.count
-    ∙ (first_of-pass_all (windows_checks b 40 [] (number b 36)) _ h.windows
-    ∙ h.flash))))
+    ∙ (first_of-pass_all (protection_checks b) _ h.protection
+    ∙ (first_of-pass_all (windows_checks b (windows_place b) [] (number b 36)) _ h.windows
+    ∙ h.flash)))))
 
 -- what the checks of each part say
 
 record Starts (b : List ℕ) : Type 0 where
   letters : slice_range b 0 4 ≡ magic
-  edition : number b 4 ≡ version
+  edition : (number b 4 ≡ 1) ⊎ (number b 4 ≡ 2)
 
 starts : (b : List ℕ) → first_of (start_checks b) ≡ None → Starts b
 unfolding start_checks magic_check version_check
@@ -64,14 +70,14 @@ starts b h =
     let p = AllPass-from_first_of (start_checks b) h in
     record {
       letters = (bytes_eq-Decides (slice_range b 0 4) magic).0 (let q = p.1.0 in grind arith);
-      edition = (Decides-eqb (number b 4) version).0 (let q = p.1.1.1.0 in grind arith);
+      edition = (Decides-or _ _ (Decides-eqb (number b 4) 1) (Decides-eqb (number b 4) 2)).0 (let q = p.1.1.1.0 in grind arith);
     }
 
 starts-none : (b : List ℕ) → 8 ≤ length b → Starts b → first_of (start_checks b) ≡ None
 unfolding start_checks magic_check version_check
 starts-none b long s =
     let l = (bytes_eq-Decides (slice_range b 0 4) magic).1 s.letters in
-    let v = (Decides-eqb (number b 4) version).1 s.edition in
+    let v = (Decides-or _ _ (Decides-eqb (number b 4) 1) (Decides-eqb (number b 4) 2)).1 s.edition in
     first_of-from_AllPass (start_checks b) (whole-none b 0 4 (omega arith), (rw l refl, (whole-none b 4 4 (omega arith), (rw v refl, tt))))
 
 record Memories (flash_base flash_length ram_base ram_size : ℕ) : Type 0 where
@@ -182,15 +188,17 @@ flash_step b at n h =
     let last : length b ≤ at + n = omega arith in
     drop_split b at (at + n) ordered ∙ (ap (λ xs. slice_range b at (at + n) ++ xs) (drop_all (at + n) b last) ∙ append-nil (slice_range b at (at + n)))
 
-spelled_parts : (b : List ℕ) → AreBytes b → Faultless b → b ≡ magic ++ (word_bytes version ++ (word_bytes (number b 8) ++ (word_bytes (number b 12) ++ (word_bytes (number b 16) ++ (word_bytes (number b 20) ++ (word_bytes (number b 24) ++ (word_bytes (number b 28) ++ (word_bytes (number b 32) ++ (word_bytes (number b 36) ++ (flat_map window_bytes (windows_from b 40 (number b 36)) ++ slice_range b (flash_place b) (flash_place b + number b 12)))))))))))
+spelled_parts : (b : List ℕ) → AreBytes b → Faultless b → b ≡ magic ++ (word_bytes (version (regions b) (closed b)) ++ (word_bytes (number b 8) ++ (word_bytes (number b 12) ++ (word_bytes (number b 16) ++ (word_bytes (number b 20) ++ (word_bytes (number b 24) ++ (word_bytes (number b 28) ++ (word_bytes (number b 32) ++ (word_bytes (number b 36) ++ (protection_bytes (regions b) (closed b) ++ (flat_map window_bytes (windows_from b (windows_place b) (number b 36)) ++ slice_range b (flash_place b) (flash_place b + number b 12))))))))))))
 spelled_parts b bytes h =
     let s = starts b h.start in
     let long = (count b h.count).0 in
-    let tail = windows_spelled (number b 36) b 40 [] bytes h.windows ∙ ap (λ xs. flat_map window_bytes (windows_from b 40 (number b 36)) ++ xs) (flash_step b (flash_place b) (number b 12) (flash b (flash_place b) h.flash)) in
+    let told = protects b bytes s.edition h.protection in
+    let windows = windows_spelled (number b 36) b (windows_place b) [] bytes h.windows ∙ ap (λ xs. flat_map window_bytes (windows_from b (windows_place b) (number b 36)) ++ xs) (flash_step b (flash_place b) (number b 12) (flash b (flash_place b) h.flash)) in
+    let tail = told.bytes ∙ ap (λ xs. protection_bytes (regions b) (closed b) ++ xs) windows in
     drop_split b 0 4 (omega arith)
     ∙ (ap (λ xs. xs ++ drop 4 b) s.letters
     ∙ ap (λ xs. magic ++ xs)
-    (word_step b 4 version 8 _ bytes (omega arith) s.edition refl
+    (word_step b 4 (version (regions b) (closed b)) 8 _ bytes (omega arith) (sym told.edition) refl
     (word_step b 8 (number b 8) 12 _ bytes (omega arith) refl refl
     (word_step b 12 (number b 12) 16 _ bytes (omega arith) refl refl
     (word_step b 16 (number b 16) 20 _ bytes (omega arith) refl refl
@@ -212,9 +220,9 @@ spelled_rules b h =
     let m = memories b h.memories in
     let p = places b h.places in
     let c = (count b h.count).1 in
-    let w = AreWindows-from_checks (number b 36) b 40 [] h.windows in
+    let w = AreWindows-from_checks (number b 36) b (windows_place b) [] h.windows in
     let long = spelled_flash_length b h in
-    let many = length-windows_from (number b 36) b 40 in
+    let many = length-windows_from (number b 36) b (windows_place b) in
     record {
       flash_aligned = m.flash_start.0;
       flash_highest = m.flash_start.1;
@@ -228,6 +236,7 @@ spelled_rules b h =
       ram_most = m.ram_bytes.1.1;
       ram_blocks = m.ram_bytes.0;
       monitor = p.block;
+      regions = protects_rule b (starts b h.start).edition h.protection;
       stack = is_stack b p.stack;
       count = subst (λ (n : ℕ). n ≤ 64) (sym many) c;
       windows = w.0;
@@ -246,13 +255,13 @@ spelled_is_text b bytes none =
       rules = spelled_rules b h;
       spelled =
           image_parts (spelled_image b)
-          ∙ (ap (λ n. spelling n (length (windows_from b 40 (number b 36)))) (spelled_flash_length b h)
-          ∙ (ap (λ n. spelling (number b 12) n) (length-windows_from (number b 36) b 40)
+          ∙ (ap (λ n. spelling n (length (windows_from b (windows_place b) (number b 36)))) (spelled_flash_length b h)
+          ∙ (ap (λ n. spelling (number b 12) n) (length-windows_from (number b 36) b (windows_place b))
           ∙ sym (spelled_parts b bytes h)));
     }
   where
     spelling : (flash_length windows : ℕ) → List ℕ
-    spelling n k = magic ++ (word_bytes version ++ (word_bytes (number b 8) ++ (word_bytes n ++ (word_bytes (number b 16) ++ (word_bytes (number b 20) ++ (word_bytes (number b 24) ++ (word_bytes (number b 28) ++ (word_bytes (number b 32) ++ (word_bytes k ++ (flat_map window_bytes (windows_from b 40 (number b 36)) ++ slice_range b (flash_place b) (flash_place b + number b 12)))))))))))
+    spelling n k = magic ++ (word_bytes (version (regions b) (closed b)) ++ (word_bytes (number b 8) ++ (word_bytes n ++ (word_bytes (number b 16) ++ (word_bytes (number b 20) ++ (word_bytes (number b 24) ++ (word_bytes (number b 28) ++ (word_bytes (number b 32) ++ (word_bytes k ++ (protection_bytes (regions b) (closed b) ++ (flat_map window_bytes (windows_from b (windows_place b) (number b 36)) ++ slice_range b (flash_place b) (flash_place b + number b 12))))))))))))
 
 -- the numbers of an image that obeys the rules are words
 record Fits (i : Image) : Type 0 where
@@ -292,7 +301,7 @@ fits i r = record {
 -- what the text of an image has at each offset
 record Spelled (i : Image) (b : List ℕ) : Type 0 where
   letters : slice_range b 0 4 ≡ magic
-  edition : number b 4 ≡ version
+  edition : number b 4 ≡ version i.regions i.closed
   flash_base : number b 8 ≡ i.flash_base
   flash_length : number b 12 ≡ length i.flash
   ram_base : number b 16 ≡ i.ram_base
@@ -302,14 +311,14 @@ record Spelled (i : Image) (b : List ℕ) : Type 0 where
   stack_size : number b 32 ≡ i.stack_size
   count : number b 36 ≡ length i.windows
   within : 40 ≤ length b
-  behind : drop 40 b ≡ flat_map window_bytes i.windows ++ i.flash
+  behind : drop 40 b ≡ protection_bytes i.regions i.closed ++ (flat_map window_bytes i.windows ++ i.flash)
 
 spelled : (i : Image) (b : List ℕ) → IsText i b → Spelled i b
 spelled i b h =
     let f = fits i h.rules in
     let e : drop 0 b ≡ magic ++ _ = sym h.spelled ∙ image_parts i in
     let f0 = begins b 0 magic _ (omega arith) e in
-    let f4 = begins_word b 4 version _ (omega arith) f0.within f0.behind in
+    let f4 = begins_word b 4 (version i.regions i.closed) _ (small_version i.regions i.closed) f0.within f0.behind in
     let f8 = begins_word b 8 i.flash_base _ f.flash_base f4.within f4.behind in
     let f12 = begins_word b 12 (length i.flash) _ f.flash_length f8.within f8.behind in
     let f16 = begins_word b 16 i.ram_base _ f.ram_base f12.within f12.behind in
@@ -333,33 +342,37 @@ spelled i b h =
       behind = f36.behind;
     }
 
-image_of : (flash_base : ℕ) (flash : List ℕ) (ram_base ram_size monitor stack_base stack_size : ℕ) (windows : List Window) → Image
-image_of a b c d e f g h = record { flash_base = a; flash = b; ram_base = c; ram_size = d; monitor = e; stack_base = f; stack_size = g; windows = h }
+image_of : (flash_base : ℕ) (flash : List ℕ) (ram_base ram_size monitor stack_base stack_size regions : ℕ) (closed : Bool) (windows : List Window) → Image
+image_of a b c d e f g r k h = record { flash_base = a; flash = b; ram_base = c; ram_size = d; monitor = e; stack_base = f; stack_size = g; regions = r; closed = k; windows = h }
 
-same_image : (v w : Image) → v.flash_base ≡ w.flash_base → v.flash ≡ w.flash → v.ram_base ≡ w.ram_base → v.ram_size ≡ w.ram_size → v.monitor ≡ w.monitor → v.stack_base ≡ w.stack_base → v.stack_size ≡ w.stack_size → v.windows ≡ w.windows → v ≡ w
+same_image : (v w : Image) → v.flash_base ≡ w.flash_base → v.flash ≡ w.flash → v.ram_base ≡ w.ram_base → v.ram_size ≡ w.ram_size → v.monitor ≡ w.monitor → v.stack_base ≡ w.stack_base → v.stack_size ≡ w.stack_size → v.regions ≡ w.regions → v.closed ≡ w.closed → v.windows ≡ w.windows → v ≡ w
 unfolding image_of
-same_image v w a b c d e f g h =
-    ap (λ x. image_of x v.flash v.ram_base v.ram_size v.monitor v.stack_base v.stack_size v.windows) a
-    ∙ (ap (λ x. image_of w.flash_base x v.ram_base v.ram_size v.monitor v.stack_base v.stack_size v.windows) b
-    ∙ (ap (λ x. image_of w.flash_base w.flash x v.ram_size v.monitor v.stack_base v.stack_size v.windows) c
-    ∙ (ap (λ x. image_of w.flash_base w.flash w.ram_base x v.monitor v.stack_base v.stack_size v.windows) d
-    ∙ (ap (λ x. image_of w.flash_base w.flash w.ram_base w.ram_size x v.stack_base v.stack_size v.windows) e
-    ∙ (ap (λ x. image_of w.flash_base w.flash w.ram_base w.ram_size w.monitor x v.stack_size v.windows) f
-    ∙ (ap (λ x. image_of w.flash_base w.flash w.ram_base w.ram_size w.monitor w.stack_base x v.windows) g
-    ∙ ap (λ x. image_of w.flash_base w.flash w.ram_base w.ram_size w.monitor w.stack_base w.stack_size x) h))))))
+same_image v w a b c d e f g r k h =
+    ap (λ x. image_of x v.flash v.ram_base v.ram_size v.monitor v.stack_base v.stack_size v.regions v.closed v.windows) a
+    ∙ (ap (λ x. image_of w.flash_base x v.ram_base v.ram_size v.monitor v.stack_base v.stack_size v.regions v.closed v.windows) b
+    ∙ (ap (λ x. image_of w.flash_base w.flash x v.ram_size v.monitor v.stack_base v.stack_size v.regions v.closed v.windows) c
+    ∙ (ap (λ x. image_of w.flash_base w.flash w.ram_base x v.monitor v.stack_base v.stack_size v.regions v.closed v.windows) d
+    ∙ (ap (λ x. image_of w.flash_base w.flash w.ram_base w.ram_size x v.stack_base v.stack_size v.regions v.closed v.windows) e
+    ∙ (ap (λ x. image_of w.flash_base w.flash w.ram_base w.ram_size w.monitor x v.stack_size v.regions v.closed v.windows) f
+    ∙ (ap (λ x. image_of w.flash_base w.flash w.ram_base w.ram_size w.monitor w.stack_base x v.regions v.closed v.windows) g
+    ∙ (ap (λ x. image_of w.flash_base w.flash w.ram_base w.ram_size w.monitor w.stack_base w.stack_size x v.closed v.windows) r
+    ∙ (ap (λ x. image_of w.flash_base w.flash w.ram_base w.ram_size w.monitor w.stack_base w.stack_size w.regions x v.windows) k
+    ∙ ap (λ x. image_of w.flash_base w.flash w.ram_base w.ram_size w.monitor w.stack_base w.stack_size w.regions w.closed x) h))))))))
 
 -- the windows and the flash bytes of a text
 record Tail (i : Image) (b : List ℕ) : Type 0 where
-  faultless_windows : first_of (windows_checks b 40 [] (number b 36)) ≡ None
-  windows : windows_from b 40 (number b 36) ≡ i.windows
+  protection : Protected b i.regions i.closed (flat_map window_bytes i.windows ++ i.flash)
+  faultless_windows : first_of (windows_checks b (windows_place b) [] (number b 36)) ≡ None
+  windows : windows_from b (windows_place b) (number b 36) ≡ i.windows
   flash : slice_range b (flash_place b) (flash_place b + number b 12) ≡ i.flash
   long : length b ≡ flash_place b + number b 12
 
 tail : (i : Image) (b : List ℕ) → ObeysRules i → Spelled i b → Tail i b
 tail i b r s =
-    let f = found i.windows b 40 [] i.flash r.windows tt s.within s.behind in
+    let p = protected b i.regions i.closed _ s.edition s.within r.regions s.behind in
+    let f = found i.windows b (windows_place b) [] i.flash r.windows tt p.within p.behind in
     let many : length i.windows ≡ number b 36 = sym s.count in
-    let place : behind_windows b 40 (length i.windows) ≡ flash_place b = ap (behind_windows b 40) many in
+    let place : behind_windows b (windows_place b) (length i.windows) ≡ flash_place b = ap (behind_windows b (windows_place b)) many in
     let within : flash_place b ≤ length b = subst (λ (n : ℕ). n ≤ length b) place f.within in
     let rest : drop (flash_place b) b ≡ i.flash ++ [] = ap (λ k. drop k b) (sym place) ∙ (f.behind ∙ sym (append-nil i.flash)) in
     let bytes = begins b (flash_place b) i.flash [] within rest in
@@ -367,8 +380,9 @@ tail i b r s =
     let none : length b - (flash_place b + length i.flash) ≡ 0 = sym (length-drop (flash_place b + length i.flash) b) ∙ ap length end in
     let inside : flash_place b + length i.flash ≤ length b = bytes.within in
     record {
-      faultless_windows = ap (λ n. first_of (windows_checks b 40 [] n)) (sym many) ∙ f.faultless;
-      windows = ap (windows_from b 40) (sym many) ∙ f.windows;
+      protection = p;
+      faultless_windows = ap (λ n. first_of (windows_checks b (windows_place b) [] n)) (sym many) ∙ f.faultless;
+      windows = ap (windows_from b (windows_place b)) (sym many) ∙ f.windows;
       flash = ap (λ n. slice_range b (flash_place b) (flash_place b + n)) s.flash_length ∙ bytes.part;
       long = let e = s.flash_length in omega arith;
     }
@@ -399,10 +413,11 @@ text_is_faultless i b h =
     let few : number b 36 ≤ 64 = let c = h.rules.count in let e = s.count in omega arith in
     let w = s.within in
     first_fault-none b (record {
-      start = starts-none b (omega arith) (record { letters = s.letters; edition = s.edition });
+      start = starts-none b (omega arith) (record { letters = s.letters; edition = t.protection.edition });
       memories = memories-none b (omega arith) (text_memories i b h.rules s);
       places = places-none b (omega arith) (text_places i b h.rules s);
       count = count-none b w few;
+      protection = t.protection.faultless;
       windows = t.faultless_windows;
       flash = flash-none b (flash_place b) t.long;
     })
@@ -413,4 +428,4 @@ unfolding spelled_image
 spelled_image-text i b h =
     let s = spelled i b h in
     let t = tail i b h.rules s in
-    same_image (spelled_image b) i s.flash_base t.flash s.ram_base s.ram_size s.monitor s.stack_base s.stack_size t.windows
+    same_image (spelled_image b) i s.flash_base t.flash s.ram_base s.ram_size s.monitor s.stack_base s.stack_size t.protection.count t.protection.shut t.windows

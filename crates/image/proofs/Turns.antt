@@ -1,6 +1,6 @@
 -- What one window does to the checks of a row of windows, to the windows, and to the place behind them.
 use Rattle.std.proofs.Common.{◌≡◌, ℕ, suc, List, [], ◌∷◌, ◌++◌, None, inl, inr, ap, sym, ◌∙◌, append_assoc}
-use Rattle.mem_bus.specs.declared.image.Window.{Window}
+use Rattle.device_model.specs.declared.image.Window.{Window}
 use Rattle.image.specs.declared.fault.ImageFault.{ImageFault}
 use Rattle.image.specs.Faults.{Checks, IsFirst, first_of, window_checks, windows_checks}
 use Rattle.image.specs.Parts.{window_at, behind_window, windows_from, behind_windows}

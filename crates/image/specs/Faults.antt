@@ -4,13 +4,13 @@ use Rattle.std.specs.Prelude.{◌≡◌, ℕ, zero, suc, ◌+◌, ◌%◌, ◌^�
 use Rattle.std.specs.List.{list_any, list_all}
 use Rattle.std.specs.Str.{bytes_eq}
 use Rattle.names.specs.Names.{is_name}
-use Rattle.mem_bus.specs.declared.image.Image.{Image}
-use Rattle.mem_bus.specs.declared.image.Window.{Window}
-use Rattle.mem_bus.specs.Rules.{block_size}
+use Rattle.device_model.specs.declared.image.Image.{Image}
+use Rattle.device_model.specs.declared.image.Window.{Window}
+use Rattle.device_model.specs.Rules.{block_size}
 use Rattle.image.specs.declared.fault.ImageFault.{ImageFault}
 use Rattle.image.specs.declared.fault.ImageFault.TheVariants.{NoMemory, Short, Magic, Version, Field, Trailing}
-use Rattle.image.specs.Text.{magic, version, IsText}
-use Rattle.image.specs.Parts.{number, window_at, behind_window, flash_place}
+use Rattle.image.specs.Text.{magic, IsText}
+use Rattle.image.specs.Parts.{number, window_at, behind_window, tells_protection, windows_place, flash_place}
 
 -- what each check finds, in order
 abbrev pub Checks : Type 0
@@ -63,6 +63,13 @@ is_stack_size n = nat_eq n 0 || is_power_between 9 7 n
 unfoldable pub is_stack_base : (n size ram_base ram_size : ℕ) → Bool
 is_stack_base n s b r = if nat_eq s 0 then nat_eq n 0 else (nat_eq (n % s) 0 && is_inside n s b r)
 
+unfoldable pub is_regions : ℕ → Bool
+is_regions n = nat_eq n 8 || nat_eq n 16
+
+-- 1 is for closed, and 0 for open, which 8 regions leave to version 1
+unfoldable pub is_closed_word : (n regions : ℕ) → Bool
+is_closed_word n r = nat_eq n 1 || (nat_eq n 0 && nat_eq r 16)
+
 unfoldable pub is_window_size : ℕ → Bool
 is_window_size n = is_power_between 5 11 n
 
@@ -82,7 +89,7 @@ unfoldable pub magic_check : List ℕ → Option ImageFault
 magic_check b = if bytes_eq (slice_range b 0 4) magic then None else Some Magic
 
 unfoldable pub version_check : List ℕ → Option ImageFault
-version_check b = if nat_eq (number b 4) version then None else Some (Version (number b 4))
+version_check b = if nat_eq (number b 4) 1 || nat_eq (number b 4) 2 then None else Some (Version (number b 4))
 
 unfoldable pub start_checks : List ℕ → Checks
 start_checks b = whole b 0 4 ∷ magic_check b ∷ whole b 4 4 ∷ version_check b ∷ []
@@ -104,6 +111,15 @@ place_checks b =
 
 unfoldable pub count_checks : List ℕ → Checks
 count_checks b = whole b 36 4 ∷ rule (nat_le (number b 36) 64) 36 ∷ []
+
+-- the checks of the fields that version 2 alone has
+unfoldable pub protection_checks : List ℕ → Checks
+protection_checks b =
+    if tells_protection b
+    then whole b 40 4 ∷ rule (is_regions (number b 40)) 40
+    ∷ whole b 44 4 ∷ rule (is_closed_word (number b 44) (number b 40)) 44
+    ∷ []
+    else []
 
 -- the checks of a window's range behind other windows, and of its name
 unfoldable pub range_checks : List ℕ → (at : ℕ) → (seen : List Window) → Checks
@@ -137,8 +153,8 @@ flash_checks b at = whole b at (number b 12) ∷ end_check b (at + number b 12) 
 -- the first fault in order of the bytes, if there is one
 unfoldable pub first_fault : List ℕ → Option ImageFault
 first_fault b =
-    first_of (start_checks b ++ (memory_checks b ++ (place_checks b ++ (count_checks b
-    ++ (windows_checks b 40 [] (number b 36) ++ flash_checks b (flash_place b))))))
+    first_of (start_checks b ++ (memory_checks b ++ (place_checks b ++ (count_checks b ++ (protection_checks b
+    ++ (windows_checks b (windows_place b) [] (number b 36) ++ flash_checks b (flash_place b)))))))
 
 -- the error is the first fault of the checks, or want of memory
 abbrev pub IsFirst : Checks → ImageFault → Type 0

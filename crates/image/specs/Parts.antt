@@ -1,8 +1,8 @@
 -- What the bytes of an image file spell, whether or not they keep the rules.
-use Rattle.std.specs.Prelude.{ℕ, zero, suc, ◌+◌, List, [], ◌∷◌, slice_range}
+use Rattle.std.specs.Prelude.{ℕ, zero, suc, ◌+◌, List, [], ◌∷◌, slice_range, Bool, ◌&&◌, nat_eq, if◌then◌else◌}
 use Rattle.words.specs.Bytes.{read}
-use Rattle.mem_bus.specs.declared.image.Image.{Image}
-use Rattle.mem_bus.specs.declared.image.Window.{Window}
+use Rattle.device_model.specs.declared.image.Image.{Image}
+use Rattle.device_model.specs.declared.image.Window.{Window}
 
 -- the number that stands at an offset
 abbrev pub number : (bytes : List ℕ) → (at : ℕ) → ℕ
@@ -25,9 +25,23 @@ unfoldable pub behind_windows : List ℕ → (at count : ℕ) → ℕ
 behind_windows b at zero = at
 behind_windows b at (suc k) = behind_windows b (behind_window b at) k
 
--- where the flash bytes begin: the header has 40 bytes, and the number of windows at its end
+-- version 2 tells the number of regions, and whether the image is closed; version 1 stands for 8 and for open
+abbrev pub tells_protection : List ℕ → Bool
+tells_protection b = nat_eq (number b 4) 2
+
+unfoldable pub regions : List ℕ → ℕ
+regions b = if tells_protection b then number b 40 else 8
+
+unfoldable pub closed : List ℕ → Bool
+closed b = tells_protection b && nat_eq (number b 44) 1
+
+-- where the windows begin
+unfoldable pub windows_place : List ℕ → ℕ
+windows_place b = if tells_protection b then 48 else 40
+
+-- where the flash bytes begin
 abbrev pub flash_place : List ℕ → ℕ
-flash_place b = behind_windows b 40 (number b 36)
+flash_place b = behind_windows b (windows_place b) (number b 36)
 
 unfoldable pub spelled_image : List ℕ → Image
 spelled_image b = record {
@@ -38,5 +52,7 @@ spelled_image b = record {
   monitor = number b 24;
   stack_base = number b 28;
   stack_size = number b 32;
-  windows = windows_from b 40 (number b 36);
+  regions = regions b;
+  closed = closed b;
+  windows = windows_from b (windows_place b) (number b 36);
 }

@@ -21,7 +21,7 @@ pub enum ImageFault {
     /// The file does not begin as an image does.
     #[error("bad magic")]
     Magic,
-    /// The version is not 1.
+    /// The version is neither 1 nor 2.
     #[error("version")]
     Version {
         /// The version that is there.

@@ -11,8 +11,11 @@ use words::memory::{Width, read_value};
 /// The bytes that an image file begins with.
 pub const MAGIC: &[u8; 4] = b"ACES";
 
-/// The version of the format.
-pub const VERSION: u32 = 1;
+/// The version for 8 regions on an open board, which tells nothing of either.
+pub const BASIC_VERSION: u32 = 1;
+
+/// The version that tells the number of regions, and whether the image is closed.
+pub const PROTECTION_VERSION: u32 = 2;
 
 /// Checks that a field of so many bytes is there whole.
 #[tactic(auto, unfolding(crate::specs::Faults::whole))]

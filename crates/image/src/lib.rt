@@ -1,4 +1,4 @@
-//! The image file, version 1: an image's bytes, both ways.
+//! The image file, versions 1 and 2: an image's bytes, both ways.
 #![tactic(auto)]
 
 pub mod fault;
@@ -6,8 +6,6 @@ mod fields;
 pub mod laws;
 mod reader;
 mod rules;
-#[cfg(test)]
-mod tests;
 mod writer;
 
 pub use reader::read;

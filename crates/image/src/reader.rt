@@ -3,14 +3,17 @@
 ghost use Rattle.std.specs.Prelude.{◌≡◌, ◌+◌, ◌*◌, ◌<◌, ◌≤◌, ◌^◌, [], length, IfOk, IfErr, OnOk, Some, None, slice_range, ◌⊎◌};
 ghost use Rattle.std.specs.Result.{result_err};
 ghost use Rattle.image.specs.Faults as faults;
+ghost use Rattle.image.specs.Parts as parts;
 ghost use Rattle.image.specs.Parts.{number, window_at, windows_from, behind_windows, spelled_image};
 ghost use Rattle.image.specs.declared.fault.ImageFault.TheVariants.{NoMemory};
 
 use crate::fault::ImageFault;
-use crate::fields::{MAGIC, VERSION, read_number, require, require_end, require_whole};
+use crate::fields::{
+    BASIC_VERSION, MAGIC, PROTECTION_VERSION, read_number, require, require_end, require_whole,
+};
 use crate::rules;
+use device_model::image::{Image, Window};
 use listed::Listed;
-use mem_bus::image::{Image, Window};
 use std::alloc::Global;
 
 /// The memories of an image.
@@ -30,19 +33,28 @@ struct Places {
     stack_size: u32,
 }
 
+/// What an image tells of its board's protection unit, and where its windows begin.
+#[derive(Clone, Copy)]
+struct Protection {
+    regions: u32,
+    closed: bool,
+    windows_at: u32,
+}
+
 #[tactic(auto, using(crate::proofs::Steps::steps), unfolding(crate::specs::Faults::start_checks, crate::specs::Faults::magic_check, crate::specs::Faults::version_check))]
-fn read_start(bytes: &[u8]) -> Result<(), ImageFault>
-    ensures { result_err result ≡ faults.first_of (faults.start_checks bytes.now) }
+fn read_start(bytes: &[u8]) -> Result<u32, ImageFault>
+    ensures faults { result_err result ≡ faults.first_of (faults.start_checks bytes.now) }
+    ensures version { IfOk result (λ version. version ≡ number bytes.now 4) }
 {
     require_whole(bytes, 0, 4)?;
     if !rules::is_text(&bytes[0..4], MAGIC) {
         return Err(ImageFault::Magic);
     }
     let found = read_number(bytes, 4)?;
-    if found != VERSION {
+    if found != BASIC_VERSION && found != PROTECTION_VERSION {
         return Err(ImageFault::Version { found });
     }
-    Ok(())
+    Ok(found)
 }
 
 #[tactic(auto, using(crate::proofs::Steps::steps), unfolding(crate::specs::Faults::memory_checks))]
@@ -105,6 +117,32 @@ fn read_count(bytes: &[u8]) -> Result<u32, ImageFault>
     Ok(count)
 }
 
+#[tactic(auto, using(crate::proofs::Steps::steps), unfolding(crate::specs::Faults::protection_checks, crate::specs::Parts::regions, crate::specs::Parts::closed, crate::specs::Parts::windows_place))]
+fn read_protection(bytes: &[u8], version: u32) -> Result<Protection, ImageFault>
+    requires { version ≡ number bytes.now 4 }
+    ensures faults { result_err result ≡ faults.first_of (faults.protection_checks bytes.now) }
+    ensures values { IfOk result (λ p. (p.regions ≡ parts.regions bytes.now)
+        × (p.closed ≡ parts.closed bytes.now) × (p.windows_at ≡ parts.windows_place bytes.now)) }
+    ensures most { IfOk result (λ p. p.windows_at ≤ 48) }
+{
+    if version != PROTECTION_VERSION {
+        return Ok(Protection {
+            regions: 8,
+            closed: false,
+            windows_at: 40,
+        });
+    }
+    let regions = read_number(bytes, 40)?;
+    require(rules::is_regions(regions), 40)?;
+    let word = read_number(bytes, 44)?;
+    require(rules::is_closed_word(word, regions), 44)?;
+    Ok(Protection {
+        regions,
+        closed: word == 1,
+        windows_at: 48,
+    })
+}
+
 #[tactic(auto, using(crate::proofs::Steps::steps), unfolding(crate::specs::Faults::range_checks))]
 fn read_range(bytes: &[u8], at: u32, seen: &[Window]) -> Result<(u32, u32), ImageFault>
     requires { at < 2 ^ 31 }
@@ -153,16 +191,22 @@ fn read_window(alloc: Global, bytes: &[u8], at: u32, seen: &[Window]) -> Result<
     })
 }
 
-fn read_windows(alloc: Global, bytes: &[u8], count: u32) -> Result<(Vec<Window>, u32), ImageFault>
-    requires { count ≤ 64 }
-    ensures passed { OnOk result (faults.first_of (faults.windows_checks bytes.now 40 [] count) ≡ None) }
-    ensures fault { IfErr result (faults.IsFirst (faults.windows_checks bytes.now 40 [] count)) }
-    ensures windows { IfOk result (λ r. r.0.items ≡ windows_from bytes.now 40 count) }
-    ensures place { IfOk result (λ r. r.1 ≡ behind_windows bytes.now 40 count) }
-    ensures most { IfOk result (λ r. r.1 ≤ 40 + 76 * 64) }
+fn read_windows(
+    alloc: Global,
+    bytes: &[u8],
+    start: u32,
+    count: u32,
+) -> Result<(Vec<Window>, u32), ImageFault>
+    requires place { start ≤ 48 }
+    requires few { count ≤ 64 }
+    ensures passed { OnOk result (faults.first_of (faults.windows_checks bytes.now start [] count) ≡ None) }
+    ensures fault { IfErr result (faults.IsFirst (faults.windows_checks bytes.now start [] count)) }
+    ensures windows { IfOk result (λ r. r.0.items ≡ windows_from bytes.now start count) }
+    ensures place { IfOk result (λ r. r.1 ≡ behind_windows bytes.now start count) }
+    ensures most { IfOk result (λ r. r.1 ≤ 48 + 76 * 64) }
 {
     let mut windows = Vec::new(alloc);
-    let mut at = 40;
+    let mut at = start;
     for number in 0..count {
         let window = read_window(alloc, bytes, at, windows.as_slice())?;
         at += 12 + window.name.len() as u32;
@@ -192,11 +236,12 @@ fn read_image(alloc: Global, bytes: &[u8]) -> Result<Image, ImageFault>
     ensures fault { IfErr result (λ e. (e ≡ NoMemory) ⊎ (faults.first_fault bytes.now ≡ Some e)) }
     ensures value { IfOk result (λ i. i ≡ spelled_image bytes.now) }
 {
-    read_start(bytes)?;
+    let version = read_start(bytes)?;
     let memories = read_memories(bytes)?;
     let places = read_places(bytes, &memories)?;
     let count = read_count(bytes)?;
-    let (windows, flash_at) = read_windows(alloc, bytes, count)?;
+    let protection = read_protection(bytes, version)?;
+    let (windows, flash_at) = read_windows(alloc, bytes, protection.windows_at, count)?;
     let flash = read_flash(alloc, bytes, flash_at, memories.flash_length)?;
     Ok(Image {
         flash_base: memories.flash_base,
@@ -206,6 +251,8 @@ fn read_image(alloc: Global, bytes: &[u8]) -> Result<Image, ImageFault>
         monitor: places.monitor,
         stack_base: places.stack_base,
         stack_size: places.stack_size,
+        regions: protection.regions,
+        closed: protection.closed,
         windows: Listed::new(windows),
     })
 }

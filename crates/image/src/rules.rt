@@ -5,7 +5,7 @@ ghost use Rattle.std.specs.List.{list_any, list_all};
 ghost use Rattle.std.specs.Str.{bytes_eq};
 ghost use Rattle.image.specs.Faults as faults;
 
-use mem_bus::image::Window;
+use device_model::image::Window;
 use names::is_name;
 
 fn is_inside(base: u32, size: u32, outer: u32, outer_size: u32) -> bool
@@ -83,6 +83,22 @@ pub fn is_stack_base(address: u32, size: u32, ram_base: u32, ram_size: u32) -> b
     } else {
         address % size == 0 && is_inside(address, size, ram_base, ram_size)
     }
+}
+
+/// Whether the protection unit may have so many regions.
+#[tactic(auto, unfolding(crate::specs::Faults::is_regions))]
+pub fn is_regions(count: u32) -> bool
+    ensures { result ≡ faults.is_regions count }
+{
+    count == 8 || count == 16
+}
+
+/// Whether the word may tell if an image with so many regions is closed: an open one with 8 has no such word.
+#[tactic(auto, unfolding(crate::specs::Faults::is_closed_word))]
+pub fn is_closed_word(word: u32, regions: u32) -> bool
+    ensures { result ≡ faults.is_closed_word word regions }
+{
+    word == 1 || (word == 0 && regions == 16)
 }
 
 /// Whether a window may have so many bytes.

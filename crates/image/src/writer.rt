@@ -2,11 +2,11 @@
 
 ghost use Rattle.std.specs.Prelude.{◌≡◌, ◌<◌, ◌^◌, ◌++◌, length, All, IfOk, OnOk};
 ghost use Rattle.std.specs.List.{flat_map};
-ghost use Rattle.mem_bus.specs.Rules.{ObeysRules};
-ghost use Rattle.image.specs.Text.{word_bytes, memory_bytes, place_bytes, window_bytes, IsText};
+ghost use Rattle.device_model.specs.Rules.{ObeysRules};
+ghost use Rattle.image.specs.Text.{is_basic, version, word_bytes, memory_bytes, place_bytes, protection_bytes, window_bytes, IsText};
 
-use crate::fields::{MAGIC, VERSION};
-use mem_bus::image::{Image, Window};
+use crate::fields::{BASIC_VERSION, MAGIC, PROTECTION_VERSION};
+use device_model::image::{Image, Window};
 use std::alloc::{AllocError, Global};
 
 #[tactic(auto, unfolding(crate::specs::Text::word_bytes))]
@@ -44,6 +44,34 @@ fn put_places(out: &mut Vec<u8>, image: &Image) -> Result<(), AllocError>
     put_number(out, image.stack_size)
 }
 
+fn is_basic_version(image: &Image) -> bool
+    ensures { result ≡ is_basic image.now.regions image.now.closed }
+{
+    !image.closed && image.regions == 8
+}
+
+#[tactic(auto, unfolding(crate::specs::Text::version))]
+fn version_of(image: &Image) -> u32
+    ensures { result ≡ version image.now.regions image.now.closed }
+{
+    if is_basic_version(image) {
+        BASIC_VERSION
+    } else {
+        PROTECTION_VERSION
+    }
+}
+
+#[tactic(auto, unfolding(crate::specs::Text::protection_bytes))]
+fn put_protection(out: &mut Vec<u8>, image: &Image) -> Result<(), AllocError>
+    ensures { OnOk result (out.new.items ≡ out.old.items ++ protection_bytes image.now.regions image.now.closed) }
+{
+    if is_basic_version(image) {
+        return Ok(());
+    }
+    put_number(out, image.regions)?;
+    put_number(out, u32::from(image.closed))
+}
+
 fn put_windows(out: &mut Vec<u8>, windows: &[Window]) -> Result<(), AllocError>
     requires { All (λ w. length w.name < 2 ^ 32) windows.now }
     ensures { OnOk result (out.new.items ≡ out.old.items ++ flat_map window_bytes windows.now) }
@@ -65,10 +93,11 @@ pub fn write(alloc: Global, image: &Image) -> Result<Vec<u8>, AllocError>
 {
     let mut out = Vec::new(alloc);
     out.extend_from_slice(MAGIC)?;
-    put_number(&mut out, VERSION)?;
+    put_number(&mut out, version_of(image))?;
     put_memories(&mut out, image)?;
     put_places(&mut out, image)?;
     put_number(&mut out, image.windows.len() as u32)?;
+    put_protection(&mut out, image)?;
     put_windows(&mut out, image.windows.as_slice())?;
     out.extend_from_slice(image.flash.as_slice())?;
     Ok(out)

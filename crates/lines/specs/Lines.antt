@@ -1,8 +1,8 @@
 -- The printed lines of events, of the ends of runs and of counts, as bytes.
 use Rattle.std.specs.Prelude.{ℕ, zero, suc, ◌/◌, ◌%◌, List, [], ◌∷◌, ◌++◌, Bool, false, Some, None, codes, slice_get, if◌then◌else◌}
 use Rattle.std.specs.Fmt.{decimal, digit_glyph}
-use Rattle.mem_bus.specs.declared.image.Window.{Window}
-use Rattle.mem_bus.specs.declared.event.Event.{Event}
+use Rattle.device_model.specs.declared.image.Window.{Window}
+use Rattle.device_model.specs.declared.event.Event.{Event}
 use Rattle.armv7m.specs.declared.state.End.{End}
 use Rattle.armv7m.specs.declared.state.End.TheVariants.{Halt, InputEnd, Limit, Stop, Refused}
 use Rattle.armv7m.specs.declared.state.StopReason.{StopReason}

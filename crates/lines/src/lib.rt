@@ -7,8 +7,8 @@ ghost use Rattle.lines.specs.Lines as lines;
 
 use armv7m::state::{End, StopReason};
 use arrayvec::ArrayVec;
-use mem_bus::event::Event;
-use mem_bus::image::Window;
+use device_model::event::Event;
+use device_model::image::Window;
 use std::marker::Model;
 
 /// The room for a line, in bytes. That of an event has at most 131: twenty for the digits of the compartment, seven bytes
@@ -210,111 +210,4 @@ pub fn count_line(functions: usize, globals: usize, peripherals: usize) -> Line
     line.append_decimal(peripherals as u64);
     line.append(b"\n");
     line
-}
-
-#[cfg(test)]
-mod tests {
-    use super::*;
-    use listed::Listed;
-    use std::alloc::{AllocError, Global};
-    use std::process::Abort;
-    use std::test::Fail;
-
-    /// Compartment 0 loads the word 10 from the first window.
-    const LOAD: Event = Event {
-        compartment: 0,
-        periph: 0,
-        offset: 0,
-        width: 4,
-        write: false,
-        value: 10,
-    };
-
-    fn window(alloc: Global, name: &[u8]) -> Result<Window, AllocError> {
-        Ok(Window {
-            name: Listed::new(Vec::from_slice(alloc, name)?),
-            base: 0x40000000,
-            size: 32,
-        })
-    }
-
-    fn printed(rt: &impl Abort, windows: &[Window], event: &Event) -> Line {
-        assert!(rt; (event.periph as usize) < windows.len());
-        assert!(rt; name_of(windows, event.periph).len() <= 64);
-        event_line(windows, event)
-    }
-
-    #[test]
-    fn prints_events(rt: HostRuntime) -> Result<(), Fail> {
-        let store = Event {
-            periph: 1,
-            offset: 4,
-            write: true,
-            value: 7,
-            ..LOAD
-        };
-        let byte = Event {
-            compartment: 63,
-            offset: 0xFE0F,
-            width: 1,
-            value: 0xFF,
-            ..store
-        };
-        let great = Event {
-            compartment: 4294967295,
-            value: 0xDEADBEEF,
-            ..LOAD
-        };
-        let table: [(Event, &[u8]); 4] = [
-            (LOAD, b"0 read ADC 0x0000 4 0x0000000a\n"),
-            (store, b"0 write TIM 0x0004 4 0x00000007\n"),
-            (byte, b"63 write TIM 0xfe0f 1 0x000000ff\n"),
-            (great, b"4294967295 read ADC 0x0000 4 0xdeadbeef\n"),
-        ];
-        let windows = vec![in rt.alloc();
-            window(rt.alloc(), b"ADC")?,
-            window(rt.alloc(), b"TIM")?,
-        ]?;
-        for (event, text) in table {
-            assert_eq!(rt; printed(&rt, &windows, &event).as_slice(), text);
-        }
-        Ok(())
-    }
-
-    #[test]
-    fn prints_ends(rt: HostRuntime) -> Result<(), Fail> {
-        let stop = End::Stop {
-            reason: StopReason::MemDisabled,
-            pc: 0x08002010,
-        };
-        let table: [(End, &[u8]); 6] = [
-            (End::Halt(0), b"end halt 0\n"),
-            (End::Halt(255), b"end halt 255\n"),
-            (End::InputEnd, b"end input\n"),
-            (End::Limit, b"end limit\n"),
-            (stop, b"end stop mem-disabled 0x08002010\n"),
-            (End::Refused, b""),
-        ];
-        for (end, text) in table {
-            assert_eq!(rt; end_line(&end).as_slice(), text);
-        }
-        Ok(())
-    }
-
-    #[test]
-    fn prints_counts(rt: HostRuntime) {
-        let table: [(usize, usize, usize, &[u8]); 2] = [
-            (1, 0, 0, b"ok functions 1 globals 0 peripherals 0\n"),
-            (
-                18446744073709551615,
-                1024,
-                64,
-                b"ok functions 18446744073709551615 globals 1024 peripherals 64\n",
-            ),
-        ];
-        for (functions, globals, peripherals, text) in table {
-            let line = count_line(functions, globals, peripherals);
-            assert_eq!(rt; line.as_slice(), text);
-        }
-    }
 }

@@ -1,5 +1,6 @@
 use Rattle.armv7m.proofs.Stack.{words_written}
 use Rattle.armv7m.proofs.Frames.{unstacked_frame, status_tells, frame_read}
+use Rattle.armv7m.proofs.EntryFrame.{open_frame}
 use Rattle.armv7m.proofs.running.frames.Goals as goal
 
 pub returns-clause-pushed : goal.returns-clause-pushed
@@ -13,3 +14,6 @@ returns-clause-of_thread c = status_tells
 
 pub returns-clause-read_back : goal.returns-clause-read_back
 returns-clause-read_back c = frame_read
+
+pub returns-clause-in_ram : goal.returns-clause-in_ram
+returns-clause-in_ram c = open_frame

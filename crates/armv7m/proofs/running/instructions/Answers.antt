@@ -1,6 +1,8 @@
 use Rattle.armv7m.proofs.Exec.{code_may_run, code_has_parts}
 use Rattle.armv7m.proofs.Gathered.{steps_are_acts, act_steps, exception_steps, runs_go_on}
 use Rattle.armv7m.proofs.CodeBytes.{bytes_are_code}
+use Rattle.armv7m.proofs.CodeParts.{code_at-append, code_at_joined, code_size-append, code_size-even}
+use Rattle.armv7m.proofs.Turns.{whole_turns}
 use Rattle.armv7m.proofs.running.instructions.Goals as goal
 
 pub returns-clause-performed : goal.returns-clause-performed
@@ -23,3 +25,15 @@ returns-clause-has_parts c = code_has_parts
 
 pub returns-clause-from_bytes : goal.returns-clause-from_bytes
 returns-clause-from_bytes c = bytes_are_code
+
+pub returns-clause-by_turn : goal.returns-clause-by_turn
+returns-clause-by_turn c = whole_turns
+
+pub returns-clause-stands_by_parts : goal.returns-clause-stands_by_parts
+returns-clause-stands_by_parts c j i p xs ys pc = (code_at-append j i p xs ys pc, code_at_joined j i p xs ys pc)
+
+pub returns-clause-sizes : goal.returns-clause-sizes
+returns-clause-sizes c = code_size-append
+
+pub returns-clause-even_sizes : goal.returns-clause-even_sizes
+returns-clause-even_sizes c = code_size-even

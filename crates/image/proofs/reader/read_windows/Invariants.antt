@@ -6,8 +6,8 @@ use Rattle.image.proofs.reader.read_windows.Given as goal
 -- what is left to check, to read and to pass over is what is left of the whole
 abbrev pub invariant-loop-number : goal.invariant-loop-number
 invariant-loop-number l = record {
-  checks : first_of (windows_checks l.bytes 40 [] l.count) ≡ first_of (windows_checks l.bytes l.at l.windows.items (l.count - l.number));
-  windows : windows_from l.bytes 40 l.count ≡ l.windows.items ++ windows_from l.bytes l.at (l.count - l.number);
-  place : behind_windows l.bytes 40 l.count ≡ behind_windows l.bytes l.at (l.count - l.number);
-  bounded : l.at ≤ 40 + 76 * l.number;
+  checks : first_of (windows_checks l.bytes l.start [] l.count) ≡ first_of (windows_checks l.bytes l.at l.windows.items (l.count - l.number));
+  windows : windows_from l.bytes l.start l.count ≡ l.windows.items ++ windows_from l.bytes l.at (l.count - l.number);
+  place : behind_windows l.bytes l.start l.count ≡ behind_windows l.bytes l.at (l.count - l.number);
+  bounded : l.at ≤ 48 + 76 * l.number;
 }
