@@ -1,4 +1,3 @@
-pub mod Counts
-pub mod Sizes
-pub mod Example
-pub mod Checked
+mod Counts
+mod Sizes
+mod Checked

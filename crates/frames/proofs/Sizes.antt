@@ -3,8 +3,10 @@ use Rattle.std.proofs.Common.{◌≡◌, ℕ, zero, suc, ◌+◌, ◌<◌, ◌�
 use Rattle.ir_model.specs.declared.firmware.Slot.{Slot}
 use Rattle.std.specs.List.{slice_get}
 use Rattle.ir_model.specs.Plain.{PlainSlot, slot_of}
-use Rattle.ir_model.specs.Layout.{Known, shape}
+use Rattle.ir_model.specs.Layout.{Known, shape, rounded_up}
+use Rattle.frames.specs.Places.{offsets_from, Stand}
 use Rattle.ir_model.specs.Frames.{local_size, locals_size}
+use Rattle.std.proofs.lemmas.List.{take_more, length-take, take-map}
 
 pub words_of : (ks : List Known) (ls : List PlainSlot) → locals_size ks ls % 4 ≡ 0
 words_of ks [] = refl
@@ -24,11 +26,6 @@ ends_within ks [] j l e = cc
 ends_within ks (x ∷ ls) zero l e = grind arith
 ends_within ks (x ∷ ls) (suc j) l e = let h = ends_within ks ls j l e in omega arith
 
-taken : {A : Type 0} (xs : List A) (i : ℕ) (x : A) → i < length xs → x ≡ get_or xs i x → take (i + 1) xs ≡ take i xs ++ x ∷ []
-taken [] i x l e = absurd (omega arith)
-taken (y ∷ xs) zero x l e = ap (λ z. z ∷ []) (sym e)
-taken (y ∷ xs) (suc i) x l e = let q : suc i + 1 ≡ suc (i + 1) = omega arith in rw q (ap (λ zs. y ∷ zs) (taken xs i x (omega arith) e))
-
 nothing_more : (n : ℕ) → n + 0 ≡ 0 + n
 nothing_more n = omega arith
 
@@ -42,15 +39,30 @@ pub one_more : (ks : List Known) (xs : List Slot) (i : ℕ) (x : Slot) (old new 
     → n ≡ local_size ks (slot_of x) → new ≡ old + n → new ≡ locals_size ks (map slot_of (take (i + 1) xs))
 one_more ks xs i x old new n l e h s g =
     g ∙ (ap (λ m. m + n) h ∙ (ap (λ m. locals_size ks (map slot_of (take i xs)) + m) s
-    ∙ (sym (last ks (take i xs) x) ∙ ap (λ ys. locals_size ks (map slot_of ys)) (sym (taken xs i x l e)))))
-
-pub first_slots : (k : ℕ) (xs : List Slot) → map slot_of (take k xs) ≡ take k (map slot_of xs)
-first_slots zero xs = refl
-first_slots (suc k) [] = refl
-first_slots (suc k) (x ∷ xs) = ap (λ ys. slot_of x ∷ ys) (first_slots k xs)
+    ∙ (sym (last ks (take i xs) x) ∙ ap (λ ys. locals_size ks (map slot_of ys)) (sym (take_more xs i x l ∙ ap (λ z. take i xs ++ z ∷ []) (sym e))))))
 
 pub few_first : {A : Type 0} (k : ℕ) (xs : List A) (n : ℕ) → length xs ≤ n → length (take k xs) ≤ n
-few_first zero xs n h = omega arith
-few_first (suc k) [] n h = omega arith
-few_first (suc k) (x ∷ xs) zero h = absurd (omega arith)
-few_first (suc k) (x ∷ xs) (suc n) h = let r = few_first k xs n (omega arith) in omega arith
+few_first k xs n h = omega (arith, length-take k xs)
+
+pub first_slots : (k : ℕ) (xs : List Slot) → map slot_of (take k xs) ≡ take k (map slot_of xs)
+first_slots k xs = sym (take-map slot_of k xs)
+
+rounds_up : (n : ℕ) → n ≤ rounded_up n 4
+rounds_up n = omega arith
+
+stand_less : (ks : List Known) (n m to : ℕ) (ls : List PlainSlot) → n ≤ m → Stand m to (offsets_from ks m ls) (map (λ (l : PlainSlot). (shape ks l.ty).size) ls)
+    → Stand n to (offsets_from ks m ls) (map (λ (l : PlainSlot). (shape ks l.ty).size) ls)
+stand_less ks n m to [] l h = omega arith
+stand_less ks n m to (x ∷ ls) l h = (omega arith, h.1)
+
+-- the locals stand one behind the other
+pub stand_from : (ks : List Known) (n to : ℕ) (ls : List PlainSlot) → n + locals_size ks ls ≤ to → Stand n to (offsets_from ks n ls) (map (λ (l : PlainSlot). (shape ks l.ty).size) ls)
+stand_from ks n to [] b = omega arith
+stand_from ks n to (l ∷ ls) b =
+    let u = rounds_up (shape ks l.ty).size in
+    (omega arith, stand_less ks (n + (shape ks l.ty).size) (n + local_size ks l) to ls (omega (arith, u)) (stand_from ks (n + local_size ks l) to ls (omega arith)))
+
+pub offset_at : (ks : List Known) (n : ℕ) (ls : List PlainSlot) (k : ℕ) (l : PlainSlot) → slice_get ls k ≡ Some l → slice_get (offsets_from ks n ls) k ≡ Some (n + locals_size ks (take k ls))
+offset_at ks n [] k l e = cc
+offset_at ks n (x ∷ ls) zero l e = ap Some (omega arith)
+offset_at ks n (x ∷ ls) (suc k) l e = offset_at ks (n + local_size ks x) ls k l e ∙ ap Some (omega arith)

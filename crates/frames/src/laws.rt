@@ -6,12 +6,17 @@ ghost use Rattle.ir_model.specs.Plain.{PlainSlot, PlainFunc, PlainFirmware, regs
 ghost use Rattle.ir_model.specs.Layout.{Known, known, shape};
 ghost use Rattle.ir_model.specs.Frames.{frame_size};
 ghost use Rattle.ir_model.specs.Typing.{IsTyped};
-ghost use Rattle.frames.specs.Places.{register_offset, local_offset, return_offset};
+ghost use Rattle.frames.specs.Places.{register_offset, local_offset, local_offsets, local_sizes, return_offset, Stand};
 
 /// From the stack pointer on stand the registers, of four bytes each, then the locals in order, then the return
 /// address, whose four bytes are the frame's last. Each ends before the next begins, and begins at a multiple of 4.
 pub fn parts()
     ensures whole { (ks : List Known) (f : PlainFunc) → frame_size ks f % 8 ≡ 0 }
+    ensures least { (ks : List Known) (f : PlainFunc) → 8 ≤ frame_size ks f }
+    ensures rows { (ks : List Known) (f : PlainFunc) →
+        Stand (register_offset (length (regs_of f))) (return_offset ks f) (local_offsets ks f) (local_sizes ks f) }
+    ensures offsets { (ks : List Known) (f : PlainFunc) (k : ℕ) (l : PlainSlot) → slice_get f.locals k ≡ Some l →
+        slice_get (local_offsets ks f) k ≡ Some (local_offset ks f k) }
     ensures registers { (j k : ℕ) → j < k → register_offset j + 4 ≤ register_offset k }
     ensures registers_first { (ks : List Known) (f : PlainFunc) (j k : ℕ) → j < length (regs_of f) →
         register_offset j + 4 ≤ local_offset ks f k }

@@ -3,5 +3,3 @@
 
 pub mod frame;
 pub mod laws;
-#[cfg(test)]
-mod tests;

@@ -1,6 +1,8 @@
 -- A global's checks in parts.
-use Rattle.std.proofs.Common.{◌≡◌, ℕ, zero, suc, ◌+◌, ◌<◌, ◌≤◌, Bool, true, false, List, [], ◌∷◌, ◌++◌, Option, None, map, drop, get_or, length, refl, sym, ap, ◌∙◌, subst, arith, nat_le, Bor, append_assoc}
+use Rattle.std.proofs.Common.{◌≡◌, ℕ, zero, suc, ◌+◌, ◌<◌, ◌≤◌, Bool, true, false, List, [], ◌∷◌, ◌++◌, Option, None, map, take, drop, get_or, ◌⊎◌, inl, inr, length, refl, sym, ap, ◌∙◌, subst, arith, nat_le, Bor, append_assoc}
+use Rattle.std.proofs.lemmas.Bool.{cases_lt}
 use Rattle.std.proofs.lemmas.Bool.Decides.{nat_tests}
+use Rattle.std.proofs.lemmas.List.{length-map, take_all, length-take-le}
 use Rattle.ir_model.specs.declared.types.Ty.{Ty}
 use Rattle.ir_model.specs.declared.firmware.Cell.{Cell}
 use Rattle.ir_model.specs.declared.check.CheckKind.TheVariants.{ObjectTooLarge, BadInit}
@@ -13,9 +15,8 @@ use Rattle.ir_model.specs.Typing.{Checks, Failing, check, first_failing, global_
 use Rattle.ir_check.specs.declared.fault.CheckFault.{CheckFault}
 use Rattle.ir_check.specs.declared.fault.CheckFault.TheVariants.{NoMemory, At}
 use Rattle.ir_check.specs.Found.{Refused, IsFault}
-use Rattle.ir_check.specs.Cells.{lent_types, values_checks}
-use Rattle.ir_check.specs.Parts.{named_check, cells_part, values_part, global_part}
-use Rattle.ir_check.proofs.FirstPlaces.{length_map}
+use Rattle.layouts.specs.Cells.{lent_types}
+use Rattle.ir_check.specs.Parts.{named_check, cells_part, values_checks, values_part, global_part}
 
 abbrev types : List CellPlace → List PlainType
 types cs = map (λ (c : CellPlace). c.ty) cs
@@ -25,11 +26,25 @@ values_same w p [] ts = refl
 values_same w p (c ∷ cs) [] = refl
 values_same w p (c ∷ cs) (t ∷ ts) = ap (λ xs. cell_checks w p c t.ty ++ xs) (values_same w p cs ts)
 
-pub cells_parts : (w : PlainFirmware) (p : Place) (cs : List Cell) (t : PlainType) (ts : List PlainType) → ts ≡ types (shape (known w.structs) t).cells → cells_part w p cs t ≡ values_part w p cs ts
+-- as many types as there are values are enough
+values_taken : (w : PlainFirmware) (p : Place) (cs : List Cell) (ts : List PlainType) → values_checks w p cs (take (length cs) ts) ≡ values_checks w p cs ts
+values_taken w p [] ts = refl
+values_taken w p (c ∷ cs) [] = refl
+values_taken w p (c ∷ cs) (t ∷ ts) = ap (λ xs. cell_checks w p c t ++ xs) (values_taken w p cs ts)
+
+length_taken : (n : ℕ) (ts : List PlainType) → nat_le n (length (take n ts)) ≡ nat_le n (length ts)
+length_taken n ts = by_size (cases_lt (length ts) n)
+  where
+    by_size : (length ts < n) ⊎ (n ≤ length ts) → nat_le n (length (take n ts)) ≡ nat_le n (length ts)
+    by_size (inl l) = ap (λ (xs : List PlainType). nat_le n (length xs)) (take_all n ts (omega arith))
+    by_size (inr l) = let e = length-take-le n ts l in let q : nat_le n (length (take n ts)) ≡ true = grind (arith, nat_tests) in let r : nat_le n (length ts) ≡ true = grind (arith, nat_tests) in q ∙ sym r
+
+pub cells_parts : (w : PlainFirmware) (p : Place) (cs : List Cell) (t : PlainType) (ts : List PlainType) → ts ≡ take (length cs) (types (shape (known w.structs) t).cells) → cells_part w p cs t ≡ values_part w p cs ts
 cells_parts w p cs t ts e =
-    ap (λ n. check (nat_le (length cs) n) BadInit p ∷ init_checks w p cs (shape (known w.structs) t).cells) (length_map (λ (c : CellPlace). c.ty) (shape (known w.structs) t).cells)
-    ∙ (ap (λ xs. check (nat_le (length cs) (length (types (shape (known w.structs) t).cells))) BadInit p ∷ xs) (values_same w p cs (shape (known w.structs) t).cells)
-    ∙ ap (λ us. values_part w p cs us) (sym e))
+    let us : List PlainType = types (shape (known w.structs) t).cells in
+    ap (λ n. check (nat_le (length cs) n) BadInit p ∷ init_checks w p cs (shape (known w.structs) t).cells) (sym (length-map (shape (known w.structs) t).cells (λ (c : CellPlace). c.ty)))
+    ∙ (ap (λ xs. check (nat_le (length cs) (length us)) BadInit p ∷ xs) (values_same w p cs (shape (known w.structs) t).cells ∙ sym (values_taken w p cs us))
+    ∙ (ap (λ b. check b BadInit p ∷ values_checks w p cs (take (length cs) us)) (sym (length_taken (length cs) us)) ∙ ap (λ us. values_part w p cs us) (sym e)))
 
 no_values_pick : (w : PlainFirmware) (p : Place) (b : Bool) → true ≡ b → first_failing (check b BadInit p ∷ []) ≡ None
 no_values_pick w p b e = subst (λ c. first_failing (check c BadInit p ∷ []) ≡ None) e refl
@@ -46,14 +61,14 @@ too_many_pick p false vs (At k q) h f = let a = f.0 in let b = f.1 in cc
 
 pub too_many : (w : PlainFirmware) (p : Place) (cs : List Cell) (ts : List (Bor Ty)) (e : CheckFault) → length ts < length cs → IsFault e BadInit p → Refused (values_part w p cs (lent_types ts)) e
 too_many w p cs ts e l f =
-    let n : length ts ≡ length (lent_types ts) = length_map (λ (t : Bor Ty). type_of t.now) ts in
+    let n : length ts ≡ length (lent_types ts) = sym (length-map ts (λ (t : Bor Ty). type_of t.now)) in
     let m : length (lent_types ts) < length cs = omega arith in
     let q : nat_le (length cs) (length (lent_types ts)) ≡ false = grind (arith, nat_tests) in
     too_many_pick p (nat_le (length cs) (length (lent_types ts))) (values_checks w p cs (lent_types ts)) e q f
 
 enough : (w : PlainFirmware) (p : Place) (cs : List Cell) (ts : List (Bor Ty)) → length cs ≤ length ts → values_part w p cs (lent_types ts) ≡ None ∷ values_checks w p cs (lent_types ts)
 enough w p cs ts l =
-    let n : length ts ≡ length (lent_types ts) = length_map (λ (t : Bor Ty). type_of t.now) ts in
+    let n : length ts ≡ length (lent_types ts) = sym (length-map ts (λ (t : Bor Ty). type_of t.now)) in
     let m : length cs ≤ length (lent_types ts) = omega arith in
     let q : nat_le (length cs) (length (lent_types ts)) ≡ true = grind (arith, nat_tests) in
     ap (λ b. check b BadInit p ∷ values_checks w p cs (lent_types ts)) q

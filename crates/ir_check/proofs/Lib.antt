@@ -1,12 +1,8 @@
-pub mod FirstPlaces
-pub mod Order
-pub mod Rows
-pub mod Slots
-pub mod NamedTypes
-pub mod StructFields
-pub mod FuncParts
-pub mod Sizes
-pub mod StructSteps
-pub mod CellTables
-pub mod GlobalParts
-pub mod Whole
+mod Order
+mod Rows
+mod Slots
+mod NamedTypes
+mod FuncParts
+mod StructSteps
+mod GlobalParts
+mod Whole

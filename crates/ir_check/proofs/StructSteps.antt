@@ -1,57 +1,58 @@
 -- One struct more.
-use Rattle.std.proofs.Common.{◌≡◌, ℕ, zero, suc, ◌≤◌, arith, ◌+◌, ◌<◌, ◌++◌, ◌∷◌, List, [], map, take, get_or, length, refl, sym, ap, ◌∙◌, subst, nat_le}
+use Rattle.std.proofs.Common.{◌≡◌, ℕ, ◌+◌, ◌<◌, ◌≤◌, ◌++◌, ◌∷◌, List, [], map, take, get_or, length, refl, sym, ap, subst, ◌∙◌, nat_le, true, false, Bool, None, arith}
 use Rattle.std.proofs.lemmas.List.{map-append}
+use Rattle.std.proofs.lemmas.Bool.Decides.{nat_tests}
 use Rattle.ir_model.specs.declared.check.CheckKind.TheVariants.{ObjectTooLarge}
+use Rattle.ir_model.specs.declared.check.Place.{Place}
 use Rattle.ir_model.specs.declared.check.Place.TheVariants as place
 use Rattle.ir_model.specs.declared.firmware.StructDecl.{StructDecl}
 use Rattle.ir_model.specs.Plain.{PlainStruct, struct_of}
-use Rattle.ir_model.specs.Layout.{known, laid_out, empty, with_struct, field_places}
-use Rattle.ir_model.specs.Typing.{check, struct_checks}
-use Rattle.ir_check.specs.declared.align.Measure.{Measure}
-use Rattle.ir_check.specs.Measures.{fields_measure, IsMeasure}
-use Rattle.ir_check.specs.Parts.{struct_check, fields_part}
+use Rattle.ir_model.specs.Typing.{Checks, check, first_failing, struct_checks}
+use Rattle.ir_check.specs.declared.fault.CheckFault.{CheckFault}
+use Rattle.ir_check.specs.declared.fault.CheckFault.TheVariants.{NoMemory, At}
+use Rattle.ir_check.specs.Found.{Refused, IsFault}
+use Rattle.ir_check.specs.Parts.{fields_part}
 use Rattle.ir_check.proofs.Slots.{take_next}
-use Rattle.ir_check.proofs.Sizes.{Agree, agree_more, struct_fits, size_within, known_last, known_none}
-
-pub same_struct : (ds es : List (List ℕ)) (ms : List Measure) (ss : List PlainStruct) (s : PlainStruct) → es ≡ map (λ (d : PlainStruct). d.name) ss → Agree es ms (known ss) → struct_checks ds ss s ≡ struct_check ds es ms s
-same_struct ds es ms ss s e a =
-    ap (λ ns. fields_part ds ns s ++ check (nat_le (laid_out (known ss) empty s.fields).size 65536) ObjectTooLarge (place.Struct s.name) ∷ []) (sym e)
-    ∙ ap (λ b. fields_part ds es s ++ check b ObjectTooLarge (place.Struct s.name) ∷ []) (sym (size_within (fields_measure es ms s.fields) (laid_out (known ss) empty s.fields) (struct_fits es ms (known ss) s.fields a)))
+use Rattle.ir_check.proofs.Order.{refused_left, refused_right, first_append}
+use Rattle.layouts.specs.Measures.{struct_shape, IsTooLarge}
 
 pub more_structs : (ss : List StructDecl) (i : ℕ) (s : StructDecl) → i < length ss → s ≡ get_or ss i s → map struct_of (take (i + 1) ss) ≡ map struct_of (take i ss) ++ struct_of s ∷ []
 more_structs ss i s l e = ap (map struct_of) (take_next ss i s l e) ∙ map-append struct_of (take i ss) (s ∷ [])
 
-pub names_after : (old new : List (List ℕ)) (ss : List StructDecl) (i : ℕ) (s : StructDecl) → map struct_of (take (i + 1) ss) ≡ map struct_of (take i ss) ++ struct_of s ∷ []
-    → old ≡ map (λ (d : PlainStruct). d.name) (map struct_of (take i ss)) → new ≡ old ++ s.name ∷ [] → new ≡ map (λ (d : PlainStruct). d.name) (map struct_of (take (i + 1) ss))
-names_after old new ss i s m h g =
-    g ∙ (ap (λ ns. ns ++ s.name ∷ []) h ∙ (sym (map-append (λ (d : PlainStruct). d.name) (map struct_of (take i ss)) (struct_of s ∷ [])) ∙ ap (map (λ (d : PlainStruct). d.name)) (sym m)))
+-- names of declarations are those of their structs
+pub names_same : (ss : List StructDecl) → map (λ (s : StructDecl). s.name) ss ≡ map (λ (s : PlainStruct). s.name) (map struct_of ss)
+names_same [] = refl
+names_same (s ∷ ss) = ap (λ ns. s.name ∷ ns) (names_same ss)
 
-pub sizes_after : (old new : List (List ℕ)) (ms ns : List Measure) (m : Measure) (ss rs : List PlainStruct) (s : PlainStruct) → rs ≡ ss ++ s ∷ [] → Agree old ms (known ss)
-    → m ≡ fields_measure old ms s.fields → new ≡ old ++ s.name ∷ [] → ns ≡ ms ++ m ∷ [] → Agree new ns (known rs)
-sizes_after old new ms ns m ss rs s r a z g p =
-    let whole : Agree (old ++ s.name ∷ []) (ms ++ m ∷ []) (with_struct (known ss) s) =
-    agree_more old ms (known ss) s.name m (record { name = s.name; shape = laid_out (known ss) empty s.fields; fields = field_places (known ss) empty s.fields }) a refl
-    (subst (λ x. IsMeasure x (laid_out (known ss) empty s.fields)) (sym z) (struct_fits old ms (known ss) s.fields a)) in
-    subst (λ x. Agree x ns (known rs)) (sym g)
-    (subst (λ x. Agree (old ++ s.name ∷ []) x (known rs)) (sym p)
-    (subst (λ x. Agree (old ++ s.name ∷ []) (ms ++ m ∷ []) (known x)) (sym r)
-    (subst (λ x. Agree (old ++ s.name ∷ []) (ms ++ m ∷ []) x) (sym (known_last ss s)) whole)))
+abbrev size_part : List PlainStruct → PlainStruct → Checks
+size_part ss s = check (nat_le (struct_shape ss s).size 65536) ObjectTooLarge (place.Struct s.name) ∷ []
 
-pub no_sizes : (ns : List (List ℕ)) (ms : List Measure) → ns ≡ [] → ms ≡ [] → Agree ns ms (known [])
-no_sizes ns ms e f = subst (λ x. Agree x ms (known [])) (sym e) (subst (λ x. Agree [] x (known [])) (sym f) (subst (λ x. Agree [] [] x) (sym known_none) tt))
+abbrev named_in : List StructDecl → List (List ℕ)
+named_in ss = map (λ (s : StructDecl). s.name) ss
 
-take_whole : {A : Type 0} (xs : List A) (i : ℕ) → length xs ≤ i → take i xs ≡ xs
-take_whole [] zero l = refl
-take_whole [] (suc i) l = refl
-take_whole (x ∷ xs) zero l = absurd (omega arith)
-take_whole (x ∷ xs) (suc i) l = ap (λ ys. x ∷ ys) (take_whole xs i (omega arith))
+-- a struct's checks are those of its name and fields, and of its size
+split : (ds : List (List ℕ)) (ss : List StructDecl) (s : PlainStruct) → struct_checks ds (map struct_of ss) s ≡ fields_part ds (named_in ss) s ++ size_part (map struct_of ss) s
+split ds ss s = ap (λ ns. fields_part ds ns s ++ size_part (map struct_of ss) s) (sym (names_same ss))
 
-abbrev names_in : List StructDecl → List (List ℕ)
-names_in ss = map (λ (d : PlainStruct). d.name) (map struct_of ss)
+pub step_refused : (ds : List (List ℕ)) (ss : List StructDecl) (s : PlainStruct) (e : CheckFault) → Refused (fields_part ds (named_in ss) s) e → Refused (struct_checks ds (map struct_of ss) s) e
+step_refused ds ss s e h = subst (λ cs. Refused cs e) (sym (split ds ss s)) (refused_left (fields_part ds (named_in ss) s) (size_part (map struct_of ss) s) e h)
 
--- behind the last struct the table is whole
-pub whole_table : (P : List (List ℕ) → List PlainStruct → Type 0) (ns earlier : List (List ℕ)) (ss : List StructDecl) (i : ℕ) → length ss ≤ i → ns ≡ names_in ss
-    → earlier ≡ names_in (take i ss) → P earlier (map struct_of (take i ss)) → P ns (map struct_of ss)
-whole_table P ns earlier ss i l g h p =
-    subst (λ x. P ns (map struct_of x)) (take_whole ss i l)
-    (subst (λ x. P x (map struct_of (take i ss))) (h ∙ (ap names_in (take_whole ss i l) ∙ sym g)) p)
+small_size : (ss : List PlainStruct) (s : PlainStruct) → (struct_shape ss s).size ≤ 65536 → first_failing (size_part ss s) ≡ None
+small_size ss s l = let q : nat_le (struct_shape ss s).size 65536 ≡ true = grind (arith, nat_tests) in ap (λ b. first_failing (check b ObjectTooLarge (place.Struct s.name) ∷ [])) q
+
+pub step_passes : (ds : List (List ℕ)) (ss : List StructDecl) (s : PlainStruct) → first_failing (fields_part ds (named_in ss) s) ≡ None → (struct_shape (map struct_of ss) s).size ≤ 65536
+    → first_failing (struct_checks ds (map struct_of ss) s) ≡ None
+step_passes ds ss s h l =
+    ap first_failing (split ds ss s) ∙ (first_append (fields_part ds (named_in ss) s) (size_part (map struct_of ss) s) h ∙ small_size (map struct_of ss) s l)
+
+large_pick : (p : Place) (b : Bool) (e : CheckFault) → b ≡ false → IsFault e ObjectTooLarge p → Refused (check b ObjectTooLarge p ∷ []) e
+large_pick p b NoMemory h f = tt
+large_pick p true (At k q) h f = cc
+large_pick p false (At k q) h f = let a = f.0 in let b = f.1 in cc
+
+pub step_large : (ds : List (List ℕ)) (ss : List StructDecl) (s : PlainStruct) (e : CheckFault) → first_failing (fields_part ds (named_in ss) s) ≡ None → IsTooLarge (map struct_of ss) s
+    → IsFault e ObjectTooLarge (place.Struct s.name) → Refused (struct_checks ds (map struct_of ss) s) e
+step_large ds ss s e h l f =
+    let q : nat_le (struct_shape (map struct_of ss) s).size 65536 ≡ false = grind (arith, nat_tests) in
+    subst (λ cs. Refused cs e) (sym (split ds ss s))
+    (refused_right (fields_part ds (named_in ss) s) (size_part (map struct_of ss) s) e h (large_pick (place.Struct s.name) (nat_le (struct_shape (map struct_of ss) s).size 65536) e q f))

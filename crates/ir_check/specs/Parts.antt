@@ -14,10 +14,7 @@ use Rattle.ir_model.specs.Layout.{known, shape}
 use Rattle.ir_model.specs.Frames.{frame_size}
 use Rattle.ir_model.specs.Resolve.{has}
 use Rattle.ir_model.specs.Rules.{inst_fits, term_fits, is_port, is_address, global_type}
-use Rattle.ir_check.specs.declared.align.Measure.{Measure}
-use Rattle.ir_check.specs.Cells.{values_checks}
-use Rattle.ir_check.specs.Measures.{fields_measure}
-use Rattle.ir_model.specs.Typing.{structs_checks, periph_checks, globals_checks, file_checks, funcs_checks, has_main, init_checks, func_name_checks, field_checks, inst_names, term_names, register_checks, outcome_checks, local_checks, label_checks, blocks_checks, frame_limit, Checks, check, is_new, type_checks, is_window, overlaps, object_limit}
+use Rattle.ir_model.specs.Typing.{structs_checks, periph_checks, globals_checks, file_checks, funcs_checks, has_main, init_checks, cell_checks, func_name_checks, field_checks, inst_names, term_names, register_checks, outcome_checks, local_checks, label_checks, blocks_checks, frame_limit, Checks, check, is_new, type_checks, is_window, overlaps, object_limit}
 
 abbrev pub register_check : (declared : List (List ℕ)) → Place → (seen : List (List ℕ)) → PlainSlot → Checks
 register_check ds p seen s = (is_new seen s.name p ∷ type_checks ds ds p s.ty) ++ check (is_register_type s.ty) IllTyped p ∷ []
@@ -62,15 +59,12 @@ body_part w f = label_checks (place.Func f.name) [] f.blocks ++ blocks_checks w 
 abbrev pub func_part : (declared : List (List ℕ)) → PlainFirmware → PlainFunc → Checks
 func_part ds w f = slots_part ds w f ++ frame_part w f ++ body_part w f
 
--- a field; a struct's name and fields; a struct, whose size is known by the names and sizes of those before it
+-- a field; a struct's name and fields
 abbrev pub field_check : (declared earlier : List (List ℕ)) → Place → (seen : List (List ℕ)) → PlainSlot → Checks
 field_check ds es p seen s = is_new seen s.name p ∷ type_checks ds es p s.ty
 
 abbrev pub fields_part : (declared earlier : List (List ℕ)) → PlainStruct → Checks
 fields_part ds es s = is_new es s.name (place.Struct s.name) ∷ field_checks ds es (place.Struct s.name) [] s.fields
-
-abbrev pub struct_check : (declared earlier : List (List ℕ)) → List Measure → PlainStruct → Checks
-struct_check ds es ms s = fields_part ds es s ++ check (nat_le (fields_measure es ms s.fields).size object_limit) ObjectTooLarge (place.Struct s.name) ∷ []
 
 -- the address of a global or a peripheral
 abbrev pub address_fits : PlainFirmware → List ℕ → PlainType → Bool
@@ -83,6 +77,12 @@ named_check ds seen g = is_new seen g.name (place.Global g.name) ∷ type_checks
 
 abbrev pub cells_part : PlainFirmware → Place → List Cell → PlainType → Checks
 cells_part w p cs t = check (nat_le (length cs) (length (shape (known w.structs) t).cells)) BadInit p ∷ init_checks w p cs (shape (known w.structs) t).cells
+
+-- first values beside the types of their cells
+abbrev pub values_checks : PlainFirmware → Place → List Cell → List PlainType → Checks
+values_checks w p [] ts = []
+values_checks w p (c ∷ cs) [] = []
+values_checks w p (c ∷ cs) (t ∷ ts) = cell_checks w p c t ++ values_checks w p cs ts
 
 -- first values, and the types of their cells
 abbrev pub values_part : PlainFirmware → Place → List Cell → List PlainType → Checks

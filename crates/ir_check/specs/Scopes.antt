@@ -4,11 +4,8 @@ use Rattle.std.proofs.Common.{Bor}
 use Rattle.ir_model.specs.declared.firmware.Peripheral.{Peripheral}
 use Rattle.ir_model.specs.declared.firmware.Func.{Func}
 use Rattle.ir_model.specs.declared.types.Ty.{U32}
-use Rattle.ir_model.specs.Types.{PlainType}
 use Rattle.ir_model.specs.Plain.{PlainStruct, PlainGlobal, PlainFunc, firmware_of, func_of, funcs_of, names_of, regs_of}
-use Rattle.ir_model.specs.Layout.{known, shape}
 use Rattle.ir_model.specs.Resolve.{labels_of}
-use Rattle.ir_check.specs.Measures.{measure, IsMeasure}
 use Rattle.ir_check.specs.declared.scope.Scope.{Scope}
 use Rattle.ir_check.specs.declared.scope.FuncScope.{FuncScope}
 
@@ -19,7 +16,7 @@ lent_funcs fs = map (λ (f : Bor Func). func_of f.now) fs
 -- each table has what the firmware has, in its order
 pub record IsScope (s : Scope) : Type 0 where
   pub structs : s.structs ≡ map (λ (d : PlainStruct). d.name) (firmware_of s.firmware.now).structs
-  pub sizes : (t : PlainType) → IsMeasure (measure s.structs s.sizes t) (shape (known (firmware_of s.firmware.now).structs) t)
+  pub layouts : s.layouts ≡ s.firmware.now.structs
   pub periphs : s.periphs ≡ map (λ (q : Peripheral). q.name) (firmware_of s.firmware.now).periphs
   pub globals : s.globals ≡ map (λ (g : PlainGlobal). g.name) (firmware_of s.firmware.now).globals
   pub bodies : map (λ f. func_of f.now) s.bodies.items ≡ funcs_of (firmware_of s.firmware.now)

@@ -7,10 +7,10 @@ ghost use Rattle.ir_check.specs.Found.{Finds};
 ghost use Rattle.ir_check.specs.Parts.{file_part};
 
 use crate::fault::CheckFault;
-use crate::listing::{add_globals, periph_names};
+use crate::new_names::add_new;
 use crate::spot::Spot;
-use crate::table::Names;
 use ir_model::firmware::{FileDecl, Firmware, Func};
+use name_tables::{Names, add_globals, periph_names};
 use std::alloc::Global;
 
 fn func_names<'a>(seen: &mut Names<'a>, funcs: &'a [Func]) -> Result<(), CheckFault>
@@ -18,7 +18,7 @@ fn func_names<'a>(seen: &mut Names<'a>, funcs: &'a [Func]) -> Result<(), CheckFa
     ensures grows { OnOk result (seen.new ≡ seen.old ++ map (λ (f : PlainFunc). f.name) (map func_of funcs.now)) }
 {
     for func in funcs {
-        seen.add_new(&func.name, Spot::Func(&func.name))?;
+        add_new(seen, &func.name, Spot::Func(&func.name))?;
     }
     Ok(())
 }
@@ -33,7 +33,7 @@ fn file<'a>(
     ensures files { OnOk result (files.new ≡ files.old ++ file.now.name ∷ []) }
     ensures funcs { OnOk result (seen.new ≡ seen.old ++ map (λ (f : PlainFunc). f.name) (map func_of file.now.funcs)) }
 {
-    files.add_new(&file.name, Spot::File(&file.name))?;
+    add_new(files, &file.name, Spot::File(&file.name))?;
     func_names(seen, file.funcs.as_slice())?;
     Ok(())
 }

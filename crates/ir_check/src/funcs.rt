@@ -14,15 +14,14 @@ use crate::code::blocks;
 use crate::fault::CheckFault;
 use crate::found::require;
 use crate::labels::labels;
-use crate::listing::add_slots;
 use crate::locals::locals;
 use crate::registers::{outcome, registers};
 use crate::scope::{FuncScope, Scope};
 use crate::spot::Spot;
-use crate::table::Names;
 use ir_model::check::CheckKind;
 use ir_model::firmware::Func;
 use ir_model::types::Ty;
+use name_tables::{Names, add_slots};
 use std::alloc::{AllocError, Global};
 
 #[tactic(auto, using(crate::proofs::Order::refused_left, crate::proofs::Order::refused_right, crate::proofs::Order::first_stays, crate::proofs::Order::first_append))]

@@ -2,32 +2,29 @@
 
 ghost use Rattle.std.specs.Prelude.{◌≡◌, ◌&&◌, ◌++◌, ◌∷◌, [], ◌≤◌, ◌<◌, ◌^◌, ◌*◌, map, length, nat_lt, OnOk, IfOk, take};
 ghost use Rattle.ir_model.specs.Types as types;
-ghost use Rattle.ir_model.specs.Types.{PlainType, type_of};
+ghost use Rattle.ir_model.specs.Types.{type_of};
 ghost use Rattle.ir_model.specs.Plain.{PlainGlobal, global_of, firmware_of};
-ghost use Rattle.ir_model.specs.Layout.{CellPlace, known, shape};
 ghost use Rattle.ir_model.specs.Typing.{cell_checks, globals_checks};
 ghost use Rattle.ir_check.specs.Found.{Finds};
 ghost use Rattle.ir_check.specs.Spots.{place_of};
-ghost use Rattle.ir_check.specs.Cells.{lent_types, cells_of, values_checks};
-ghost use Rattle.ir_check.specs.Parts.{address_fits, cells_part, values_part, named_check, global_part};
+ghost use Rattle.layouts.specs.Cells.{lent_types};
+ghost use Rattle.ir_check.specs.Parts.{address_fits, cells_part, values_checks, values_part, named_check, global_part};
 ghost use Rattle.ir_check.specs.Scopes.{IsScope};
 
-use crate::cells::{cell_table, put_cells};
 use crate::fault::CheckFault;
 use crate::fits::{is_function, is_port, points_to};
 use crate::found::{fault, require, require_known};
-use crate::listing::periph_names;
 use crate::locals::object_size;
 use crate::lookup::global_named;
+use crate::new_names::add_new;
 use crate::scope::Scope;
 use crate::spot::Spot;
-use crate::table::Names;
 use crate::type_names::type_names;
 use ir_model::check::CheckKind;
 use ir_model::firmware::{Cell, Global as GlobalDecl};
 use ir_model::name::Name;
 use ir_model::types::Ty;
-use listed::Listed;
+use name_tables::{Names, periph_names};
 use std::alloc::Global;
 
 fn holds_number(ty: &Ty, number: u32) -> bool
@@ -113,13 +110,11 @@ fn typed_values(scope: &Scope, spot: Spot, cells: &[Cell], types: &[&Ty]) -> Res
 
 fn first_values<'a>(
     alloc: Global,
-    scope: &Scope,
-    table: &[Listed<&'a Ty>],
+    scope: &Scope<'a>,
     spot: Spot,
     global: &'a GlobalDecl,
 ) -> Result<(), CheckFault>
-    requires scope { IsScope scope.now }
-    requires table { (t : PlainType) → cells_of scope.now.structs (map lent_types table.now) t ≡ map (λ (c : CellPlace). c.ty) (shape (known (firmware_of scope.now.firmware.now).structs) t).cells }
+    requires { IsScope scope.now }
     ensures { Finds (cells_part (firmware_of scope.now.firmware.now) (place_of spot.entry) global.now.init (type_of global.now.ty)) result }
 {
     let init = global.init.as_slice();
@@ -127,7 +122,9 @@ fn first_values<'a>(
         return Ok(());
     }
     let mut types = Vec::new(alloc);
-    put_cells(&scope.structs, table, &global.ty, &mut types)?;
+    scope
+        .layouts
+        .put_cell_types(&global.ty, init.len(), &mut types)?;
     typed_values(scope, spot, init, types.as_slice())?;
     Ok(())
 }
@@ -138,7 +135,7 @@ fn named<'a>(scope: &Scope, seen: &mut Names<'a>, global: &'a GlobalDecl) -> Res
     ensures grows { OnOk result (seen.new ≡ seen.old ++ global.now.name ∷ []) }
 {
     let spot = Spot::Global(&global.name);
-    seen.add_new(&global.name, spot)?;
+    add_new(seen, &global.name, spot)?;
     type_names(&scope.structs, &scope.structs, spot, &global.ty)?;
     Ok(())
 }
@@ -146,20 +143,18 @@ fn named<'a>(scope: &Scope, seen: &mut Names<'a>, global: &'a GlobalDecl) -> Res
 #[tactic(auto, using(crate::proofs::Order::refused_left, crate::proofs::Order::refused_right, crate::proofs::Order::first_stays, crate::proofs::Order::first_append))]
 fn global<'a>(
     alloc: Global,
-    scope: &Scope,
-    table: &[Listed<&'a Ty>],
+    scope: &Scope<'a>,
     seen: &mut Names<'a>,
     global: &'a GlobalDecl,
 ) -> Result<(), CheckFault>
-    requires scope { IsScope scope.now }
-    requires table { (t : PlainType) → cells_of scope.now.structs (map lent_types table.now) t ≡ map (λ (c : CellPlace). c.ty) (shape (known (firmware_of scope.now.firmware.now).structs) t).cells }
+    requires { IsScope scope.now }
     ensures finds { Finds (global_part scope.now.structs (firmware_of scope.now.firmware.now) seen.old (global_of global.now)) result }
     ensures grows { OnOk result (seen.new ≡ seen.old ++ global.now.name ∷ []) }
 {
     let spot = Spot::Global(&global.name);
     named(scope, seen, global)?;
     object_size(scope, spot, &global.ty)?;
-    first_values(alloc, scope, table, spot, global)?;
+    first_values(alloc, scope, spot, global)?;
     Ok(())
 }
 
@@ -168,10 +163,9 @@ pub fn globals(alloc: Global, scope: &Scope) -> Result<(), CheckFault>
     requires { IsScope scope.now }
     ensures { Finds (globals_checks (firmware_of scope.now.firmware.now) (map (λ p. p.name) scope.now.firmware.now.periphs) (map global_of scope.now.firmware.now.globals)) result }
 {
-    let table = cell_table(alloc, &scope.structs, scope.firmware.structs.as_slice())?;
     let mut seen = periph_names(alloc, scope.firmware.periphs.as_slice())?;
     for declaration in scope.firmware.globals.as_slice() {
-        global(alloc, scope, table.as_slice(), &mut seen, declaration)?;
+        global(alloc, scope, &mut seen, declaration)?;
     }
     Ok(())
 }

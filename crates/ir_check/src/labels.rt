@@ -6,9 +6,10 @@ ghost use Rattle.ir_check.specs.Found.{Finds};
 ghost use Rattle.ir_check.specs.Spots.{place_of};
 
 use crate::fault::CheckFault;
+use crate::new_names::add_new;
 use crate::spot::Spot;
-use crate::table::Names;
 use ir_model::firmware::Block;
+use name_tables::Names;
 use std::alloc::Global;
 
 /// Whether the labels of blocks are new, and these labels.
@@ -18,7 +19,7 @@ pub fn labels<'a>(alloc: Global, spot: Spot, blocks: &'a [Block]) -> Result<Name
 {
     let mut seen = Names::new(alloc);
     for block in blocks {
-        seen.add_new(&block.label, spot)?;
+        add_new(&mut seen, &block.label, spot)?;
     }
     Ok(seen)
 }

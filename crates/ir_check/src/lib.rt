@@ -1,9 +1,7 @@
 //! The checks of a firmware: its names, types and sizes, in order.
 #![tactic(auto)]
 
-mod align;
 mod calls;
-mod cells;
 mod code;
 mod fault;
 mod files;
@@ -12,10 +10,9 @@ mod found;
 mod funcs;
 mod globals;
 mod labels;
-mod listing;
 mod locals;
 mod lookup;
-mod measure;
+mod new_names;
 mod outer;
 mod periphs;
 mod register_names;
@@ -23,7 +20,6 @@ mod registers;
 mod scope;
 mod spot;
 mod structs;
-mod table;
 mod tables;
 mod type_names;
 

@@ -13,15 +13,15 @@ ghost use Rattle.ir_check.specs.Scopes.{IsScope};
 
 use crate::fault::CheckFault;
 use crate::found::require;
-use crate::measure::measure;
+use crate::new_names::add_new;
 use crate::scope::Scope;
 use crate::spot::Spot;
-use crate::table::Names;
 use crate::type_names::type_names;
 use ir_model::check::CheckKind;
 use ir_model::extent::SIZE_LIMIT;
 use ir_model::firmware::Slot;
 use ir_model::types::Ty;
+use name_tables::Names;
 
 #[tactic(auto, using(crate::proofs::Order::refused_left, crate::proofs::Order::refused_right, crate::proofs::Order::first_stays, crate::proofs::Order::first_append, crate::proofs::Order::refused_one, crate::proofs::Order::refused_behind, crate::proofs::Order::first_behind))]
 fn named_slot<'a>(
@@ -33,7 +33,7 @@ fn named_slot<'a>(
     ensures finds { Finds (slot_check scope.now.structs (place_of spot.entry) seen.old (slot_of slot.now)) result }
     ensures grows { OnOk result (seen.new ≡ seen.old ++ slot.now.name ∷ []) }
 {
-    seen.add_new(&slot.name, spot)?;
+    add_new(seen, &slot.name, spot)?;
     type_names(&scope.structs, &scope.structs, spot, &slot.ty)?;
     Ok(())
 }
@@ -45,9 +45,13 @@ pub fn object_size(scope: &Scope, spot: Spot, ty: &Ty) -> Result<u32, CheckFault
     ensures size { IfOk result (λ n. n ≡ (shape (known (firmware_of scope.now.firmware.now).structs) (type_of ty.now)).size) }
     ensures small { IfOk result (λ n. n ≤ 65536) }
 {
-    let size = measure(&scope.structs, scope.sizes.as_slice(), ty).size;
-    require(size <= SIZE_LIMIT, CheckKind::ObjectTooLarge, spot)?;
-    Ok(size)
+    let size = scope.layouts.measure(ty).size;
+    require(
+        size <= u64::from(SIZE_LIMIT),
+        CheckKind::ObjectTooLarge,
+        spot,
+    )?;
+    Ok(size as u32)
 }
 
 #[tactic(auto, using(crate::proofs::Order::refused_left, crate::proofs::Order::refused_right, crate::proofs::Order::first_stays, crate::proofs::Order::first_append))]

@@ -9,7 +9,7 @@ ghost use Rattle.ir_model.specs.Rules.{slot_type, global_type, func_type, field_
 ghost use Rattle.ir_check.specs.Scopes.{IsScope, IsFuncScope};
 
 use crate::scope::{FuncScope, Scope};
-use ir_model::firmware::{Func, Slot};
+use ir_model::firmware::Func;
 use ir_model::name::Name;
 use ir_model::types::Ty;
 
@@ -74,27 +74,13 @@ pub fn word_named<'s>(scope: &'s Scope<'s>, word: &[u8]) -> Option<&'s Func>
     Some(scope.bodies.as_slice()[place])
 }
 
-fn slot_named<'s>(slots: &'s [Slot], name: &Name) -> Option<&'s Ty>
-    ensures { MatchOption result (slot_type (map slot_of slots.now) name.now ≡ None) (λ t. slot_type (map slot_of slots.now) name.now ≡ Some (type_of t.now)) }
-{
-    for slot in slots {
-        if slot.name.same(name) {
-            return Some(&slot.ty);
-        }
-    }
-    None
-}
-
 /// The type of a struct's field.
 pub fn field_named<'s>(scope: &'s Scope<'s>, of: &Name, field: &Name) -> Option<&'s Ty>
     requires { IsScope scope.now }
     ensures { MatchOption result (field_type (fields_named (known (firmware_of scope.now.firmware.now).structs) of.now) field.now ≡ None) (λ t. field_type (fields_named (known (firmware_of scope.now.firmware.now).structs) of.now) field.now ≡ Some (type_of t.now)) }
 {
-    let Some(place) = scope.structs.number(of) else {
-        return None;
-    };
-    slot_named(
-        scope.firmware.structs.as_slice()[place].fields.as_slice(),
-        field,
-    )
+    match scope.layouts.field(of, field) {
+        None => None,
+        Some(field) => Some(field.ty),
+    }
 }

@@ -15,7 +15,6 @@ use crate::files::files;
 use crate::found::require;
 use crate::funcs::funcs;
 use crate::globals::globals;
-use crate::listing::struct_names;
 use crate::lookup::word_named;
 use crate::periphs::periphs;
 use crate::scope::Scope;
@@ -25,6 +24,7 @@ use crate::tables::scope;
 use ir_model::check::CheckKind;
 use ir_model::checked::Checked;
 use ir_model::firmware::{Firmware, Func};
+use name_tables::struct_names;
 use std::alloc::Global;
 
 fn is_main(func: &Func) -> bool
@@ -68,9 +68,9 @@ fn declared<'a>(alloc: Global, firmware: &'a Firmware) -> Result<Scope<'a>, Chec
     ensures firmware { IfOk result (λ s. s.firmware.now ≡ firmware.now) }
 {
     let names = struct_names(alloc, firmware.structs.as_slice())?;
-    let sizes = structs(alloc, &names, firmware.structs.as_slice())?;
+    let layouts = structs(alloc, &names, firmware.structs.as_slice())?;
     let windows = periphs(alloc, firmware.periphs.as_slice())?;
-    let tables = scope(alloc, firmware, names, sizes, windows)?;
+    let tables = scope(alloc, firmware, names, layouts, windows)?;
     Ok(tables)
 }
 

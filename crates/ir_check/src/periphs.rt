@@ -8,10 +8,11 @@ ghost use Rattle.ir_check.specs.Parts.{periph_check};
 
 use crate::fault::CheckFault;
 use crate::found::require;
+use crate::new_names::add_new;
 use crate::spot::Spot;
-use crate::table::Names;
 use ir_model::check::CheckKind;
 use ir_model::firmware::Peripheral;
+use name_tables::Names;
 use std::alloc::Global;
 
 fn is_power(size: u32) -> bool
@@ -56,7 +57,7 @@ fn periph<'a>(
     ensures grows { OnOk result (seen.new ≡ seen.old ++ periph.now.name ∷ []) }
 {
     let spot = Spot::Periph(&periph.name);
-    seen.add_new(&periph.name, spot)?;
+    add_new(seen, &periph.name, spot)?;
     require(is_window(periph), CheckKind::BadWindow, spot)?;
     require(
         !overlaps_one(periph, earlier),

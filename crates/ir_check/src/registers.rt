@@ -10,12 +10,13 @@ ghost use Rattle.ir_check.specs.Parts.{register_check};
 
 use crate::fault::CheckFault;
 use crate::found::require;
+use crate::new_names::add_new;
 use crate::spot::Spot;
-use crate::table::Names;
 use crate::type_names::type_names;
 use ir_model::check::CheckKind;
 use ir_model::firmware::Slot;
 use ir_model::types::Ty;
+use name_tables::Names;
 
 /// Whether a register may have a type.
 pub fn is_register_type(ty: &Ty) -> bool
@@ -42,7 +43,7 @@ fn register<'a>(
     ensures finds { Finds (register_check declared.now (place_of spot.entry) seen.old (slot_of slot.now)) result }
     ensures grows { OnOk result (seen.new ≡ seen.old ++ slot.now.name ∷ []) }
 {
-    seen.add_new(&slot.name, spot)?;
+    add_new(seen, &slot.name, spot)?;
     type_names(declared, declared, spot, &slot.ty)?;
     require(is_register_type(&slot.ty), CheckKind::IllTyped, spot)?;
     Ok(())

@@ -1,20 +1,19 @@
 //! What the checks of functions look names up in.
 
-use crate::align::Measure;
-use crate::table::Names;
 use ir_model::firmware::{Firmware, Func};
 use ir_model::types::Ty;
-use listed::Listed;
+use layouts::table::Layouts;
+use name_tables::Names;
 
-/// A firmware with its names, and the sizes of its structs.
+/// A firmware with its names, and the layouts of its structs.
 #[derive(Drop)]
 pub struct Scope<'a> {
     /// The firmware.
     pub firmware: &'a Firmware,
     /// Its structs' names.
     pub structs: Names<'a>,
-    /// Their sizes.
-    pub sizes: Listed<Measure>,
+    /// Their layouts.
+    pub layouts: Layouts<'a>,
     /// Its peripherals' names.
     pub periphs: Names<'a>,
     /// Its globals' names.

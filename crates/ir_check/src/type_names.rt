@@ -9,8 +9,8 @@ ghost use Rattle.ir_check.specs.Spots.{place_of};
 use crate::fault::CheckFault;
 use crate::found::require_known;
 use crate::spot::Spot;
-use crate::table::Names;
 use ir_model::types::Ty;
+use name_tables::Names;
 
 /// Whether each struct in a type is declared, and each that is behind no pointer and no `fn` earlier.
 #[cycle(type_names)]

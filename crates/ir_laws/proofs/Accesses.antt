@@ -1,14 +1,14 @@
 -- Each event of a source run is an access inside the window of a declared peripheral.
-use Rattle.std.proofs.Common.{◌≡◌, ℕ, zero, suc, ◌+◌, ◌<◌, ◌≤◌, Bool, true, false, ◌&&◌, List, [], ◌∷◌, length, Option, Some, None, nat_le, refl, subst, arith}
-use Rattle.std.proofs.lemmas.Bool.{leb-true}
+use Rattle.std.proofs.Common.{◌≡◌, ℕ, zero, suc, ◌+◌, ◌%◌, ◌<◌, ◌≤◌, Bool, true, false, List, [], ◌∷◌, length, Option, Some, None, nat_eq, nat_le, refl, subst, arith}
+use Rattle.std.proofs.lemmas.Bool.{leb-true, and_parts}
 use Rattle.std.proofs.Math.ListN.{get_or}
 use Rattle.words.specs.Bytes.{cut}
-use Rattle.mem_bus.specs.declared.event.Event.{Event}
+use Rattle.device_model.specs.declared.event.Event.{Event}
 use Rattle.ir_model.specs.Types.{PlainType, is_integer, width_of}
 use Rattle.ir_model.specs.Layout.{cell_at}
-use Rattle.ir_model.specs.Resolved.{Program, Value, Instance, OfGlobal, OfPeriph, OfLocal, NumberedTerm, Jump, Branch, Ret, Here, Does, Ends, global_at, here}
+use Rattle.ir_model.specs.Resolved.{Program, Value, Instance, OfGlobal, OfPeriph, OfLocal, NumberedTerm, Jump, Branch, Ret, Here, Does, Ends, global_at, window_at, NumberedWindow, no_window, cells_of_global, cells_of_local, here}
 use Rattle.ir_model.specs.State.{Frame, Memory, Running, Ended, Object, SourceTurn}
-use Rattle.ir_model.specs.Step.{number_in, SourceAct, Sets, Fails, Loads, Stores, Enters, act, cells_of_local, frame_in, has_port, cut_to, load_cell, load_local, take_input, load_port, load, store_global, store_cell, store_local, store_port, store, perform, back_to, returned_value, leave, turn_here, source_turn}
+use Rattle.ir_model.specs.Step.{number_in, SourceAct, Sets, Fails, Loads, Stores, Enters, act, frame_in, has_port, cut_to, load_cell, load_local, take_input, load_port, load, store_global, store_cell, store_local, store_port, store, perform, back_to, returned_value, leave, turn_here, source_turn}
 use Rattle.ir_laws.specs.Laws.{IsDeclaredAccess, EventsAreDeclared}
 use Rattle.ir_laws.proofs.Layouts.{positive_width}
 
@@ -17,18 +17,15 @@ abbrev IsDeclaredTurn : Program → SourceTurn → Type 0
 IsDeclaredTurn p turn = (e : Event) → turn.event ≡ Some e → IsDeclaredAccess p e
 
 -- ports are inside windows
-second_true : (a b : Bool) → a && b ≡ true → b ≡ true
-second_true true b h = h
-second_true false b h = cc
-
-declared_at : (sizes : List ℕ) (q n : ℕ) → 0 < n → n ≤ get_or sizes q 0 → q < length sizes
+declared_at : (windows : List NumberedWindow) (q n : ℕ) → 0 < n → n ≤ (get_or windows q no_window).size → q < length windows
 declared_at [] q n p h = absurd (omega arith)
-declared_at (s ∷ sizes) zero n p h = omega arith
-declared_at (s ∷ sizes) (suc q) n p h = let r = declared_at sizes q n p h in omega arith
+declared_at (s ∷ windows) zero n p h = omega arith
+declared_at (s ∷ windows) (suc q) n p h = let r = declared_at windows q n p h in omega arith
 
-inside_window : (p : Program) (q at : ℕ) (t : PlainType) → has_port p q at t ≡ true → at + width_of t ≤ get_or p.periphs q 0
+inside_window : (p : Program) (q at : ℕ) (t : PlainType) → has_port p q at t ≡ true → at + width_of t ≤ (window_at p q).size
 inside_window p q at t h =
-    leb-true (at + width_of t) (get_or p.periphs q 0) (second_true _ (nat_le (at + width_of t) (get_or p.periphs q 0)) (second_true (is_integer t) _ h))
+    leb-true (at + width_of t) (window_at p q).size
+    (and_parts (nat_eq (at % width_of t) 0) (nat_le (at + width_of t) (window_at p q).size) (and_parts (is_integer t) _ h).1).1
 
 access : (p : Program) (q at : ℕ) (t : PlainType) (c v : ℕ) (w : Bool) → has_port p q at t ≡ true
     → IsDeclaredAccess p (record { compartment = c; periph = q; offset = at; width = width_of t; write = w; value = v })
@@ -68,7 +65,7 @@ of_load_port p c fr rest m to q at t true d e h = of_input p c fr rest m to q at
 
 of_load : (p : Program) (c : List ℕ) (fr : Frame) (rest : List Frame) (m : Memory) (to : ℕ) (o : Instance) (at : ℕ) (t : PlainType)
     → IsDeclaredTurn p (load p c fr rest m to o at t)
-of_load p c fr rest m to (OfGlobal g) at t e h = of_load_cell p fr rest m to _ (get_or m.globals g []) (cell_at (global_at p g).cells at t) e h
+of_load p c fr rest m to (OfGlobal g) at t e h = of_load_cell p fr rest m to _ (get_or m.globals g []) (cell_at (cells_of_global p g) at t) e h
 of_load p c fr rest m to (OfLocal f n l) at t e h = of_load_local p fr rest m to f l at t (frame_in (fr ∷ rest) f n) e h
 of_load p c fr rest m to (OfPeriph q) at t e h = of_load_port p c fr rest m to q at t (has_port p q at t) refl e h
 
@@ -97,7 +94,7 @@ of_store_port p c fr rest m q at t v true d e h = of_access p q at t (get_or c f
 
 of_store : (p : Program) (c : List ℕ) (fr : Frame) (rest : List Frame) (m : Memory) (o : Instance) (at : ℕ) (t : PlainType) (v : Value)
     → IsDeclaredTurn p (store p c fr rest m o at t v)
-of_store p c fr rest m (OfGlobal g) at t v e h = of_store_global p fr rest m g (global_at p g).constant v (cell_at (global_at p g).cells at t) e h
+of_store p c fr rest m (OfGlobal g) at t v e h = of_store_global p fr rest m g (global_at p g).constant v (cell_at (cells_of_global p g) at t) e h
 of_store p c fr rest m (OfLocal f n l) at t v e h = of_store_local p fr rest m f n l at t v (frame_in (fr ∷ rest) f n) e h
 of_store p c fr rest m (OfPeriph q) at t v e h = of_store_port p c fr rest m q at t v (has_port p q at t) refl e h
 

@@ -1,12 +1,12 @@
 -- The cells of a type lie apart and inside it.
-use Rattle.std.proofs.Common.{ℕ, zero, suc, ◌+◌, ◌-◌, ◌*◌, ◌<◌, ◌≤◌, Bool, true, false, if◌then◌else◌, bytes_eq, max, List, [], ◌∷◌, ◌++◌, map, arith}
-use Rattle.std.proofs.lemmas.Nat.{div-add-mod'}
+use Rattle.std.proofs.Common.{ℕ, zero, suc, ◌+◌, ◌*◌, ◌<◌, ◌≤◌, Bool, true, false, if◌then◌else◌, bytes_eq, max, List, [], ◌∷◌, ◌++◌, map, arith}
 use Rattle.std.proofs.Math.ListN.{get_or}
 use Rattle.ir_model.specs.Types.{PlainType, U8, U16, U32, Pointer, Array, Named, Callee, width_of}
 use Rattle.ir_model.specs.Plain.{PlainSlot, PlainStruct, PlainFunc, PlainFirmware, funcs_of}
 use Rattle.ir_model.specs.Layout.{CellPlace, Shape, Known, empty, shape_named, shifted, copies, one_cell, array_of, shape, rounded_up, with_field, laid_out, field_places, with_struct, known_behind, known}
 use Rattle.ir_model.specs.Resolved.{NumberedGlobal, NumberedFunc, no_global, no_func}
 use Rattle.ir_model.specs.Resolve.{scope_of, resolved_global, resolved_func, resolve}
+use Rattle.ir_model.proofs.Counting.{rounded_at_least}
 use Rattle.ir_laws.specs.Laws.{IsLaidOut, CellsOfTypes, AreApart, CellsOfFirmwares}
 
 -- a cell has a byte at least
@@ -54,11 +54,11 @@ repeated (suc n) at step cs h =
     (longer (at + step) (at + step + n * step) (at + suc n * step) (copies n (at + step) step cs) (one_more n at step) (repeated n (at + step) step cs h))
 
 -- a shape whose cells are laid out, and whose alignment is not 0
-record IsSound (s : Shape) : Type 0 where
-  aligned : 0 < s.align
-  cells : IsLaidOut 0 s.size s.cells
+pub record IsSound (s : Shape) : Type 0 where
+  pub aligned : 0 < s.align
+  pub cells : IsLaidOut 0 s.size s.cells
 
-abbrev AreSound : List Known → Type 0
+abbrev pub AreSound : List Known → Type 0
 AreSound [] = Unit {0}
 AreSound (k ∷ ks) = IsSound k.shape × AreSound ks
 
@@ -77,7 +77,7 @@ sound_array : (n : ℕ) (s : Shape) → IsSound s → IsSound (array_of n s)
 sound_array n s h =
     record { aligned = h.aligned; cells = longer 0 (0 + n * s.size) (n * s.size) (copies n 0 s.size s.cells) (omega arith) (repeated n 0 s.size s.cells h.cells) }
 
-sound : (ks : List Known) (t : PlainType) → AreSound ks → IsSound (shape ks t)
+pub sound : (ks : List Known) (t : PlainType) → AreSound ks → IsSound (shape ks t)
 sound ks U8 h = sound_cell 1 U8 (omega arith) (omega arith)
 sound ks U16 h = sound_cell 2 U16 (omega arith) (omega arith)
 sound ks U32 h = sound_cell 4 U32 (omega arith) (omega arith)
@@ -87,9 +87,6 @@ sound ks (Named n) h = sound_named ks n h
 sound ks (Callee a r) h = sound_cell 4 (Callee a r) (omega arith) (omega arith)
 
 -- a struct's fields
-rounded_at_least : (n a : ℕ) → 0 < a → n ≤ rounded_up n a
-rounded_at_least n a h = let e = div-add-mod' (n + (a - 1)) a in grind (arith, e)
-
 sound_behind : (s u : Shape) (at : ℕ) → s.size ≤ at → IsSound s → IsSound u
     → IsSound (record { size = at + u.size; align = max s.align u.align; cells = s.cells ++ shifted at u.cells })
 sound_behind s u at l h g =
@@ -106,21 +103,23 @@ sound_field ks s t a h =
     let u = sound ks t a in
     sound_behind s (shape ks t) (rounded_up s.size (shape ks t).align) (rounded_at_least s.size (shape ks t).align u.aligned) h u
 
-sound_fields : (ks : List Known) (s : Shape) (fs : List PlainSlot) → AreSound ks → IsSound s → IsSound (laid_out ks s fs)
+pub sound_fields : (ks : List Known) (s : Shape) (fs : List PlainSlot) → AreSound ks → IsSound s → IsSound (laid_out ks s fs)
 sound_fields ks s [] a h =
     record { aligned = h.aligned; cells = longer 0 s.size (rounded_up s.size s.align) s.cells (rounded_at_least s.size s.align h.aligned) h.cells }
 sound_fields ks s (f ∷ fs) a h = sound_fields ks (with_field ks s f.ty) fs a (sound_field ks s f.ty a h)
 
-sound_more : (ks : List Known) (k : Known) → AreSound ks → IsSound k.shape → AreSound (ks ++ k ∷ [])
+pub sound_more : (ks : List Known) (k : Known) → AreSound ks → IsSound k.shape → AreSound (ks ++ k ∷ [])
 sound_more [] k h g = (g, tt)
 sound_more (j ∷ ks) k h g = (h.0, sound_more ks k h.1 g)
 
-sound_structs : (ks : List Known) (ss : List PlainStruct) → AreSound ks → AreSound (known_behind ks ss)
+pub sound_empty : IsSound empty
+sound_empty = record { aligned = omega arith; cells = omega arith }
+
+pub sound_structs : (ks : List Known) (ss : List PlainStruct) → AreSound ks → AreSound (known_behind ks ss)
 sound_structs ks [] a = a
 sound_structs ks (s ∷ ss) a =
-    let first : IsSound empty = record { aligned = omega arith; cells = omega arith } in
     sound_structs (with_struct ks s) ss
-    (sound_more ks (record { name = s.name; shape = laid_out ks empty s.fields; fields = field_places ks empty s.fields }) a (sound_fields ks empty s.fields a first))
+    (sound_more ks (record { name = s.name; shape = laid_out ks empty s.fields; fields = field_places ks empty s.fields }) a (sound_fields ks empty s.fields a sound_empty))
 
 pub cells_of_types : CellsOfTypes
 unfolding known
@@ -139,16 +138,16 @@ type_apart : (structs : List PlainStruct) (t : PlainType) → AreApart (shape (k
 type_apart structs t = record { to = (shape (known structs) t).size; laid_out = cells_of_types structs t }
 
 abbrev HasLocalsApart : NumberedFunc → Type 0
-HasLocalsApart f = (l : ℕ) → AreApart (get_or f.locals l [])
+HasLocalsApart f = (l : ℕ) → AreApart (get_or f.locals l empty).cells
 
 locals_apart : (w : PlainFirmware) (f : PlainFunc) → HasLocalsApart (resolved_func (scope_of w) f)
 locals_apart w f l =
-    at_each AreApart (λ (s : PlainSlot). (shape (known w.structs) s.ty).cells) f.locals l [] none_apart (λ s. type_apart w.structs s.ty)
+    at_each (λ (s : Shape). AreApart s.cells) (λ (s : PlainSlot). shape (known w.structs) s.ty) f.locals l empty none_apart (λ s. type_apart w.structs s.ty)
 
 pub cells_of_firmwares : CellsOfFirmwares
 unfolding resolve
 cells_of_firmwares w =
     record {
-      globals = λ g. at_each (λ (o : NumberedGlobal). AreApart o.cells) (resolved_global (scope_of w)) w.globals g no_global none_apart (λ o. type_apart w.structs o.ty);
+      globals = λ g. at_each (λ (o : NumberedGlobal). AreApart o.shape.cells) (resolved_global (scope_of w)) w.globals g no_global none_apart (λ o. type_apart w.structs o.ty);
       locals = λ f. at_each HasLocalsApart (resolved_func (scope_of w)) (funcs_of w) f no_func (λ l. none_apart) (locals_apart w);
     }

@@ -1,3 +1,22 @@
 pub mod Layouts
-pub mod Accesses
-pub mod Order
+mod Accesses
+mod Order
+pub mod Tests
+mod Names
+mod Structs
+mod Places
+mod Words
+pub mod Values
+mod Functions
+mod Globals
+mod Firmware
+mod Counts
+mod Sizes
+mod Windows
+mod Declared
+mod Aligned
+pub mod Moving
+mod Steps
+mod Facts
+mod Fitting
+pub mod Walk

@@ -1,10 +1,10 @@
 -- The frames of a source run stand in the order in which they were made.
 use Rattle.std.proofs.Common.{ℕ, ◌≤◌, Bool, true, false, if◌then◌else◌, List, [], ◌∷◌, Option, Some, None, arith}
 use Rattle.ir_model.specs.Types.{PlainType}
-use Rattle.ir_model.specs.Resolved.{Program, Value, Instance, OfGlobal, OfPeriph, OfLocal, NumberedTerm, Jump, Branch, Ret, Here, Does, Ends, global_at, here}
+use Rattle.ir_model.specs.Resolved.{Program, Value, Instance, OfGlobal, OfPeriph, OfLocal, NumberedTerm, Jump, Branch, Ret, Here, Does, Ends, global_at, cells_of_global, cells_of_local, here}
 use Rattle.ir_model.specs.Layout.{cell_at}
 use Rattle.ir_model.specs.State.{Frame, Memory, SourceState, Running, Ended, Object, start}
-use Rattle.ir_model.specs.Step.{SourceAct, Sets, Fails, Loads, Stores, Enters, act, is_frame, with_local, cells_of_local, frame_in, has_port, cut_to, load_cell, load_local, take_input, load_port, load, store_global, store_cell, store_local, store_port, store, perform, back_to, returned_value, result_register, answered, leave, turn_here, source_turn, source_step, onward}
+use Rattle.ir_model.specs.Step.{SourceAct, Sets, Fails, Loads, Stores, Enters, act, is_frame, with_local, frame_in, has_port, cut_to, load_cell, load_local, take_input, load_port, load, store_global, store_cell, store_local, store_port, store, perform, back_to, returned_value, result_register, answered, leave, turn_here, source_turn, source_step, onward}
 use Rattle.std.proofs.Math.ListN.{get_or, set}
 use Rattle.ir_laws.specs.Laws.{IsOrdered, HasOrderedFrames, FramesStayOrdered}
 
@@ -48,7 +48,7 @@ after_load_port c fr rest m to q at t true h = after_input c fr rest m to q at t
 
 after_load : (p : Program) (c : List ℕ) (fr : Frame) (rest : List Frame) (m : Memory) (to : ℕ) (o : Instance) (at : ℕ) (t : PlainType) → IsOrdered m.made (fr ∷ rest)
     → HasOrderedFrames (load p c fr rest m to o at t).to
-after_load p c fr rest m to (OfGlobal g) at t h = after_load_cell fr rest m to _ (get_or m.globals g []) (cell_at (global_at p g).cells at t) h
+after_load p c fr rest m to (OfGlobal g) at t h = after_load_cell fr rest m to _ (get_or m.globals g []) (cell_at (cells_of_global p g) at t) h
 after_load p c fr rest m to (OfLocal f n l) at t h = after_load_local p fr rest m to f l at t (frame_in (fr ∷ rest) f n) h
 after_load p c fr rest m to (OfPeriph q) at t h = after_load_port c fr rest m to q at t (has_port p q at t) h
 
@@ -77,7 +77,7 @@ after_store_port c fr rest m q at t v true h = h
 
 after_store : (p : Program) (c : List ℕ) (fr : Frame) (rest : List Frame) (m : Memory) (o : Instance) (at : ℕ) (t : PlainType) (v : Value)
     → IsOrdered m.made (fr ∷ rest) → HasOrderedFrames (store p c fr rest m o at t v).to
-after_store p c fr rest m (OfGlobal g) at t v h = after_store_global fr rest m g (global_at p g).constant v (cell_at (global_at p g).cells at t) h
+after_store p c fr rest m (OfGlobal g) at t v h = after_store_global fr rest m g (global_at p g).constant v (cell_at (cells_of_global p g) at t) h
 after_store p c fr rest m (OfLocal f n l) at t v h = after_store_local p fr rest m f n l at t v (frame_in (fr ∷ rest) f n) h
 after_store p c fr rest m (OfPeriph q) at t v h = after_store_port c fr rest m q at t v (has_port p q at t) h
 

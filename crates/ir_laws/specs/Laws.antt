@@ -1,14 +1,13 @@
 -- Laws of layouts and of source runs.
 use Rattle.std.specs.Prelude.{◌≡◌, ℕ, ◌+◌, ◌<◌, ◌≤◌, List, [], ◌∷◌, length, Some}
-use Rattle.std.proofs.Math.ListN.{get_or}
-use Rattle.mem_bus.specs.declared.event.Event.{Event}
+use Rattle.device_model.specs.declared.event.Event.{Event}
 use Rattle.ir_model.specs.Types.{PlainType, width_of}
 use Rattle.ir_model.specs.Plain.{PlainStruct, PlainFirmware}
 use Rattle.ir_model.specs.Layout.{CellPlace, known, shape}
-use Rattle.ir_model.specs.Resolved.{Program, global_at}
+use Rattle.ir_model.specs.Resolved.{Program, window_at, cells_of_global, cells_of_local}
 use Rattle.ir_model.specs.Resolve.{resolve}
 use Rattle.ir_model.specs.State.{Frame, SourceState, Running, Ended, start}
-use Rattle.ir_model.specs.Step.{cells_of_local, source_step, source_event}
+use Rattle.ir_model.specs.Step.{source_step, source_event}
 
 -- cells one behind the other: each begins at or behind the end of the one before it, the first at or behind `from`, and
 -- the last ends at or before `to`
@@ -27,7 +26,7 @@ pub record AreApart (cs : List CellPlace) : Type 0 where
 
 -- the cells of each global and of each local lie apart
 pub record HasCellsApart (p : Program) : Type 0 where
-  pub globals : (g : ℕ) → AreApart (global_at p g).cells
+  pub globals : (g : ℕ) → AreApart (cells_of_global p g)
   pub locals : (f l : ℕ) → AreApart (cells_of_local p f l)
 
 abbrev pub CellsOfFirmwares : Type 0
@@ -50,7 +49,7 @@ pub record FramesStayOrdered : Type 0 where
 -- an event is an access of a declared peripheral, inside its window
 pub record IsDeclaredAccess (p : Program) (e : Event) : Type 0 where
   pub declared : e.periph < length p.periphs
-  pub inside : e.offset + e.width ≤ get_or p.periphs e.periph 0
+  pub inside : e.offset + e.width ≤ (window_at p e.periph).size
 
 abbrev pub EventsAreDeclared : Type 0
 EventsAreDeclared = (p : Program) (compartments : List ℕ) (s : SourceState) (e : Event) → source_event p compartments s ≡ Some e → IsDeclaredAccess p e

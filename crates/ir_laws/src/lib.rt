@@ -2,11 +2,22 @@
 #![tactic(auto)]
 
 ghost use Rattle.ir_laws.specs.Laws.{CellsOfTypes, CellsOfFirmwares, FramesStayOrdered, EventsAreDeclared};
+ghost use Rattle.ir_laws.specs.Cells.{CellsAreAligned, CellsAreFound};
+
+pub mod limits;
+pub mod runs;
+pub mod typing;
 
 /// The cells of a type lie apart and inside it; so do those of each global and each local of a firmware.
 pub fn cells()
     ensures types { CellsOfTypes }
     ensures firmwares { CellsOfFirmwares }
+{}
+
+/// Each cell of a global or a local stands at a multiple of its width, and the cell that is found at an offset stands there.
+pub fn alignment()
+    ensures aligned { CellsAreAligned }
+    ensures found { CellsAreFound }
 {}
 
 /// The frames of a source run stand in the order in which they were made.

@@ -27,7 +27,7 @@ beyond e h = elim (leb_tells e.size SIZE_LIMIT) [ inl t ↦ absurd (omega (arith
 many_at_least : (n s : ℕ) → 0 < n → s ≤ n * s
 many_at_least n s h = grind arith
 
-rounded_at_least : (n a : ℕ) → 0 < a → n ≤ rounded_up n a
+pub rounded_at_least : (n a : ℕ) → 0 < a → n ≤ rounded_up n a
 rounded_at_least n a h = let e = div-add-mod' (n + (a - 1)) a in grind (arith, e)
 
 tie_many : (n : ℕ) (o : Option Extent) (s : Shape) (c : Bool) → 0 < n → Tied o s c → Tied (option_and_then (of_many n) o) (array_of n s) c

@@ -12,14 +12,7 @@ use Rattle.ir_model.specs.Tokens.{Key, Sign}
 use Rattle.ir_model.specs.Lines.{Line, marked, plain, name, counted, length_excess, type_tokens, slot_tokens, more_slots, slots_tokens, struct_lines, periph_lines, global_lines, file_lines, lines_of}
 use Rattle.ir_model.specs.Canonical.{Each, PassesNothing, IsWithinLimits}
 use Rattle.ir_model.specs.Extents.{HasElements, EachHasElements, AllHaveElements}
-
-each_left : {A : Type 0} (P : A → Type 0) (xs ys : List A) → Each P (xs ++ ys) → Each P xs
-each_left P [] ys h = tt
-each_left P (x ∷ xs) ys h = (h.0, each_left P xs ys h.1)
-
-each_right : {A : Type 0} (P : A → Type 0) (xs ys : List A) → Each P (xs ++ ys) → Each P ys
-each_right P [] ys h = h
-each_right P (x ∷ xs) ys h = each_right P xs ys h.1
+use Rattle.ir_model.proofs.ForEach.{each_left, each_right}
 
 length_passes : (n : ℕ) → length_excess n ≡ None → 0 < n
 length_passes zero h = cc
@@ -54,7 +47,7 @@ structs_elements k (s ∷ ss) h =
     let line = each_left PassesNothing front (plain (Sign CloseBrace) ∷ []) h.0 in
     (slots_elements limit.Field 64 s.fields line.1.1.1, structs_elements (k + 1) ss h.1)
 
-firmware_elements : (w : PlainFirmware) → IsWithinLimits w → AllHaveElements w.structs
+pub firmware_elements : (w : PlainFirmware) → IsWithinLimits w → AllHaveElements w.structs
 unfolding lines_of
 firmware_elements w h =
     structs_elements 0 w.structs

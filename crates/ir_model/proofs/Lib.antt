@@ -1,16 +1,12 @@
-pub mod Written
-pub mod Control
-pub mod Lending
-pub mod Calls
-pub mod Table
-pub mod Small
-pub mod Refused
-pub mod Spelling
 pub mod SameTypes
-pub mod CloneLists
-pub mod Shortest
-pub mod Layouts
-pub mod Shapes
+mod RowSteps
+mod CloneLists
+mod Layouts
+mod Shapes
 pub mod Counting
 pub mod Elements
 pub mod Passing
+pub mod ForEach
+pub mod Limits
+pub mod Typed
+pub mod Numbers

@@ -3,9 +3,11 @@ pub mod Plain
 pub mod Layout
 pub mod Resolved
 pub mod Resolve
+pub mod Signatures
 pub mod State
 pub mod Objects
 pub mod Step
+pub mod Runs
 pub mod Extents
 pub mod Tokens
 pub mod Lines
@@ -14,4 +16,3 @@ pub mod Frames
 pub mod Rules
 pub mod Typing
 pub mod Texts
-pub mod Shortest

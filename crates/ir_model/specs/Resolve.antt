@@ -1,5 +1,5 @@
 -- From names to numbers. A name means the first that has it; one that is not there has the number behind the last.
-use Rattle.std.specs.Prelude.{ℕ, zero, suc, List, [], ◌∷◌, map, Bool, true, false, if◌then◌else◌, Option, Some, None, bytes_eq, codes}
+use Rattle.std.specs.Prelude.{ℕ, zero, suc, List, [], ◌∷◌, ◌++◌, length, replicate, map, Bool, true, false, if◌then◌else◌, Option, Some, None, bytes_eq, codes}
 use Rattle.std.proofs.Math.ListN.{get_or}
 use Rattle.ir_model.specs.declared.firmware.Inst.{Inst}
 use Rattle.ir_model.specs.declared.firmware.Inst.TheVariants as named
@@ -10,9 +10,9 @@ use Rattle.ir_model.specs.declared.firmware.Cell.{Cell}
 use Rattle.ir_model.specs.declared.firmware.Cell.TheVariants.{Word, Function, Address}
 use Rattle.ir_model.specs.declared.firmware.Peripheral.{Peripheral}
 use Rattle.ir_model.specs.Types.{PlainType, U32, Named, PlainTypes, none, more, target_of, element_of, is_integer}
-use Rattle.ir_model.specs.Plain.{PlainSlot, PlainFunc, PlainGlobal, PlainFirmware, names_of, types_of, funcs_of, regs_of}
-use Rattle.ir_model.specs.Layout.{Known, known, shape, FieldPlace, fields_named, CellPlace}
-use Rattle.ir_model.specs.Resolved.{Instance, OfGlobal, OfPeriph, Value, Number, Code, Null, At, TheGlobal, ThePeriph, TheLocal, NumberedInst, Const, Move, Bin, Cmp, Addr, FAddr, Elem, Field, Load, Store, Call, ICall, NumberedTerm, Jump, Branch, Ret, NumberedBlock, NumberedFunc, NumberedGlobal, Program}
+use Rattle.ir_model.specs.Plain.{PlainSlot, PlainFunc, PlainGlobal, PlainFile, PlainFirmware, names_of, types_of, funcs_of, regs_of}
+use Rattle.ir_model.specs.Layout.{Known, known, Shape, shape, FieldPlace, fields_named, CellPlace}
+use Rattle.ir_model.specs.Resolved.{Instance, OfGlobal, OfPeriph, Value, Number, Code, Null, At, TheGlobal, ThePeriph, TheLocal, NumberedInst, Const, Move, Bin, Cmp, Addr, FAddr, Elem, Field, Load, Store, Call, ICall, NumberedTerm, Jump, Branch, Ret, NumberedBlock, NumberedFunc, NumberedGlobal, NumberedWindow, Program}
 use Rattle.ir_model.specs.Resolved as numbered
 
 abbrev pub number_of : List (List ℕ) → List ℕ → ℕ
@@ -101,7 +101,7 @@ resolved_func s f =
       params = row_from f.params;
       outcome = f.outcome;
       regs = types_of (regs_of f);
-      locals = map (λ (l : PlainSlot). (shape s.known l.ty).cells) f.locals;
+      locals = map (λ (l : PlainSlot). shape s.known l.ty) f.locals;
       blocks = map (resolved_block s f) f.blocks;
     }
 
@@ -122,8 +122,16 @@ filled (c ∷ cs) (v ∷ vs) = v ∷ filled cs vs
 
 abbrev pub resolved_global : Scope → PlainGlobal → NumberedGlobal
 resolved_global s g =
-    let cells : List CellPlace = (shape s.known g.ty).cells in
-    record { constant = g.constant; cells = cells; init = filled cells (map (value_of s) g.init) }
+    let it : Shape = shape s.known g.ty in
+    record { constant = g.constant; shape = it; init = filled it.cells (map (value_of s) g.init) }
+
+abbrev pub window_of : Peripheral → NumberedWindow
+window_of p = record { base = p.base; size = p.size }
+
+-- the number of the file of each function, for files from this number on
+abbrev pub files_from : (file : ℕ) → List PlainFile → List ℕ
+files_from k [] = []
+files_from k (f ∷ fs) = replicate (length f.funcs) k ++ files_from (suc k) fs
 
 abbrev pub main_name : List ℕ
 main_name = codes "main"
@@ -133,7 +141,8 @@ resolve w =
     let s : Scope = scope_of w in
     record {
       globals = map (resolved_global s) w.globals;
-      periphs = map (λ (p : Peripheral). p.size) w.periphs;
+      periphs = map window_of w.periphs;
       funcs = map (resolved_func s) (funcs_of w);
+      files = files_from 0 w.files;
       main = number_of s.funcs main_name;
     }

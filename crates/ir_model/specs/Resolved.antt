@@ -5,7 +5,7 @@ use Rattle.std.proofs.Math.ListN.{get_or}
 use Rattle.ir_model.specs.declared.firmware.BinOp.{BinOp}
 use Rattle.ir_model.specs.declared.firmware.CmpOp.{CmpOp}
 use Rattle.ir_model.specs.Types.{PlainType, U32, PlainTypes, none, PlainResult, nothing}
-use Rattle.ir_model.specs.Layout.{CellPlace}
+use Rattle.ir_model.specs.Layout.{CellPlace, Shape, empty}
 
 -- an object that can be pointed into: a global, a peripheral, or a local of one numbered frame of a function
 pub data Instance : Type 0 where
@@ -49,24 +49,30 @@ pub record NumberedBlock : Type 0 where
   pub insts : List NumberedInst
   pub term : NumberedTerm
 
--- a global
+-- a global: what it is made of, and what its cells hold at first
 pub record NumberedGlobal : Type 0 where
   pub constant : Bool
-  pub cells : List CellPlace
+  pub shape : Shape
   pub init : List Value
+
+-- a peripheral's window
+pub record NumberedWindow : Type 0 where
+  pub base : ℕ
+  pub size : ℕ
 
 pub record NumberedFunc : Type 0 where
   pub params : PlainTypes
   pub outcome : PlainResult
   pub regs : List PlainType
-  pub locals : List (List CellPlace)
+  pub locals : List Shape
   pub blocks : List NumberedBlock
 
 pub record Program : Type 0 where
   pub globals : List NumberedGlobal
-  -- the sizes of the peripherals' windows
-  pub periphs : List ℕ
+  pub periphs : List NumberedWindow
   pub funcs : List NumberedFunc
+  -- the number of each function's file
+  pub files : List ℕ
   pub main : ℕ
 
 abbrev pub no_func : NumberedFunc
@@ -76,7 +82,10 @@ abbrev pub no_block : NumberedBlock
 no_block = record { insts = []; term = Jump 0 }
 
 abbrev pub no_global : NumberedGlobal
-no_global = record { constant = false; cells = []; init = [] }
+no_global = record { constant = false; shape = empty; init = [] }
+
+abbrev pub no_window : NumberedWindow
+no_window = record { base = 0; size = 0 }
 
 abbrev pub func_at : Program → ℕ → NumberedFunc
 func_at p f = get_or p.funcs f no_func
@@ -89,6 +98,21 @@ block_at p f b = get_or (func_at p f).blocks b no_block
 
 abbrev pub global_at : Program → ℕ → NumberedGlobal
 global_at p g = get_or p.globals g no_global
+
+abbrev pub window_at : Program → ℕ → NumberedWindow
+window_at p q = get_or p.periphs q no_window
+
+abbrev pub local_at : Program → (func local : ℕ) → Shape
+local_at p f l = get_or (func_at p f).locals l empty
+
+abbrev pub cells_of_global : Program → ℕ → List CellPlace
+cells_of_global p g = (global_at p g).shape.cells
+
+abbrev pub cells_of_local : Program → (func local : ℕ) → List CellPlace
+cells_of_local p f l = (local_at p f l).cells
+
+abbrev pub file_of : Program → (func : ℕ) → ℕ
+file_of p f = get_or p.files f 0
 
 -- what stands at a place: an instruction, or the block's end
 pub data Here : Type 0 where

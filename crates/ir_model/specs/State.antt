@@ -1,8 +1,8 @@
 -- The state of a source run: frames, contents, and the words that each peripheral has left.
 use Rattle.std.specs.Prelude.{ℕ, List, [], ◌∷◌, map, Option}
-use Rattle.mem_bus.specs.declared.event.Event.{Event}
+use Rattle.device_model.specs.declared.event.Event.{Event}
 use Rattle.ir_model.specs.Types.{PlainType}
-use Rattle.ir_model.specs.Layout.{CellPlace}
+use Rattle.ir_model.specs.Layout.{CellPlace, Shape}
 use Rattle.ir_model.specs.Resolved.{Instance, OfGlobal, OfPeriph, OfLocal, Value, NumberedGlobal, Program, func_at}
 use Rattle.ir_model.specs.Resolve.{zero_of}
 
@@ -66,6 +66,10 @@ pub record SourceTurn : Type 0 where
 abbrev pub zero_cells : List CellPlace → List Value
 zero_cells cs = map (λ (c : CellPlace). zero_of c.ty) cs
 
+-- a local before it is written
+abbrev pub zero_local : Shape → List Value
+zero_local s = zero_cells s.cells
+
 -- the arguments, then 0 or null
 abbrev pub entered : List Value → List PlainType → List Value
 entered vs [] = []
@@ -74,7 +78,7 @@ entered (v ∷ vs) (t ∷ ts) = v ∷ entered vs ts
 
 abbrev pub frame_of : Program → (func number : ℕ) → List Value → Frame
 frame_of p g n vs =
-    record { func = g; block = 0; place = 0; number = n; regs = entered vs (func_at p g).regs; locals = map zero_cells (func_at p g).locals }
+    record { func = g; block = 0; place = 0; number = n; regs = entered vs (func_at p g).regs; locals = map zero_local (func_at p g).locals }
 
 -- the first state: `main` is entered
 unfoldable pub start : Program → (queues : List (List ℕ)) → SourceState

@@ -3,14 +3,14 @@ use Rattle.std.specs.Prelude.{ℕ, suc, ◌+◌, ◌*◌, ◌%◌, List, [], ◌
 use Rattle.std.proofs.Math.ListN.{get_or, set}
 use Rattle.words.specs.Arithmetic.{word, add, subtract, multiply, unsigned_quotient, signed_quotient, unsigned_remainder, signed_remainder, bit_clear, shift_left, shift_right, shift_right_signed, signed_less, signed_at_most}
 use Rattle.words.specs.Bytes.{cut}
-use Rattle.mem_bus.specs.declared.event.Event.{Event}
+use Rattle.device_model.specs.declared.event.Event.{Event}
 use Rattle.ir_model.specs.declared.firmware.BinOp.{BinOp}
 use Rattle.ir_model.specs.declared.firmware.BinOp.TheVariants.{Add, Sub, Mul, Udiv, Sdiv, Urem, Srem, And, Or, Xor, Bic, Shl, Shr, Sar}
 use Rattle.ir_model.specs.declared.firmware.CmpOp.{CmpOp}
 use Rattle.ir_model.specs.declared.firmware.CmpOp.TheVariants.{Eq, Ne, Ult, Ule, Slt, Sle}
 use Rattle.ir_model.specs.Types.{PlainType, is_integer, width_of}
 use Rattle.ir_model.specs.Layout.{CellPlace, cell_at}
-use Rattle.ir_model.specs.Resolved.{Program, Value, Number, Code, At, Instance, OfGlobal, OfPeriph, OfLocal, func_at, global_at, Named, TheGlobal, ThePeriph, TheLocal, NumberedInst, Const, Move, Bin, Cmp, Addr, FAddr, Elem, Field, Load, Store, Call, ICall, NumberedTerm, Jump, Branch, Ret, Here, Does, Ends, here}
+use Rattle.ir_model.specs.Resolved.{Program, Value, Number, Code, At, Instance, OfGlobal, OfPeriph, OfLocal, global_at, window_at, cells_of_global, cells_of_local, Named, TheGlobal, ThePeriph, TheLocal, NumberedInst, Const, Move, Bin, Cmp, Addr, FAddr, Elem, Field, Load, Store, Call, ICall, NumberedTerm, Jump, Branch, Ret, Here, Does, Ends, here}
 use Rattle.ir_model.specs.State.{Frame, SourceFault, NullFault, DeadFault, NoCellFault, ConstantFault, SourceEnd, Returned, OutOfInput, Faulted, Memory, SourceState, Running, Ended, Object, GlobalObject, PeriphObject, LocalObject, Nothing, Loaded, Stored, Called, SourceTurn, frame_of}
 
 abbrev pub register : Frame → ℕ → Value
@@ -104,12 +104,9 @@ with_local [] f n l vs = []
 with_local (fr ∷ rest) f n l vs =
     if is_frame fr f n then record fr { locals = set fr.locals l vs } ∷ rest else fr ∷ with_local rest f n l vs
 
-abbrev pub cells_of_local : Program → (func local : ℕ) → List CellPlace
-cells_of_local p f l = get_or (func_at p f).locals l []
-
 -- a peripheral has a cell of each integer type at each multiple of its size in the window
 abbrev pub has_port : Program → (periph offset : ℕ) → PlainType → Bool
-has_port p q at t = is_integer t && (nat_eq (at % width_of t) 0 && nat_le (at + width_of t) (get_or p.periphs q 0))
+has_port p q at t = is_integer t && (nat_eq (at % width_of t) 0 && nat_le (at + width_of t) (window_at p q).size)
 
 abbrev pub over : SourceEnd → SourceTurn
 over e = record { to = Ended e; event = None; did = Nothing }
@@ -149,7 +146,7 @@ load_port c fr rest m to q at t true = take_input c fr rest m to q at t (get_or 
 
 abbrev pub load : Program → (compartments : List ℕ) → Frame → List Frame → Memory → (to : ℕ) → Instance → (offset : ℕ) → PlainType → SourceTurn
 load p c fr rest m to (OfGlobal g) at t =
-    load_cell fr rest m to (GlobalObject g) (get_or m.globals g []) (cell_at (global_at p g).cells at t)
+    load_cell fr rest m to (GlobalObject g) (get_or m.globals g []) (cell_at (cells_of_global p g) at t)
 load p c fr rest m to (OfLocal f n l) at t = load_local p fr rest m to f l at t (frame_in (fr ∷ rest) f n)
 load p c fr rest m to (OfPeriph q) at t = load_port c fr rest m to q at t (has_port p q at t)
 
@@ -184,7 +181,7 @@ store_port c fr rest m q at t v true =
     }
 
 abbrev pub store : Program → (compartments : List ℕ) → Frame → List Frame → Memory → Instance → (offset : ℕ) → PlainType → Value → SourceTurn
-store p c fr rest m (OfGlobal g) at t v = store_global fr rest m g (global_at p g).constant v (cell_at (global_at p g).cells at t)
+store p c fr rest m (OfGlobal g) at t v = store_global fr rest m g (global_at p g).constant v (cell_at (cells_of_global p g) at t)
 store p c fr rest m (OfLocal f n l) at t v = store_local p fr rest m f n l at t v (frame_in (fr ∷ rest) f n)
 store p c fr rest m (OfPeriph q) at t v = store_port c fr rest m q at t v (has_port p q at t)
 

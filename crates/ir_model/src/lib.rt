@@ -11,7 +11,5 @@ pub mod firmware;
 pub mod layout;
 pub mod name;
 pub mod object;
-#[cfg(test)]
-mod tests;
 pub mod token;
 pub mod types;

@@ -2,9 +2,12 @@
 
 ghost use Rattle.std.specs.Prelude.{◌≡◌, ◌↔◌, List, ℕ, false, IsTrue, IfOk, OnOk};
 ghost use Rattle.std.specs.Str.{bytes_eq};
+ghost use Rattle.std.specs.Ordering.{nat_cmp};
+ghost use Rattle.std.specs.Cmp.Lexicographic.{slice_cmp};
 ghost use Rattle.names.specs.Names.{is_name, IsName};
 
 use std::alloc::{AllocError, Global};
+use std::cmp::Ordering;
 use std::marker::Model;
 use thiserror::Error;
 
@@ -78,6 +81,13 @@ impl Name {
     /// Where the name's bytes lie.
     pub(crate) fn allocator(&self) -> Global {
         *self.word.allocator()
+    }
+
+    /// How a name stands to another in the order of their bytes.
+    pub fn order(&self, other: &Name) -> Ordering
+        ensures { result ≡ slice_cmp nat_cmp self.now other.now }
+    {
+        self.word.as_slice().cmp(other.word.as_slice())
     }
 
     /// Whether two names have the same bytes.

@@ -1,5 +1,10 @@
 //! Objects of a firmware by their numbers.
 
+ghost use Rattle.std.specs.Prelude.{◌≡◌};
+ghost use Rattle.ir_model.specs.Objects.{compare_objects};
+
+use std::cmp::Ordering;
+
 /// An object of a firmware, by its number in order of declaration. Objects are in the order of these kinds, and those of
 /// one kind in the order of their numbers.
 #[derive(Clone, Copy, PartialEq, Eq, PartialOrd, Ord, Debug)]
@@ -17,4 +22,13 @@ pub enum ObjId {
     },
     /// A function, over all files.
     Func(u32),
+}
+
+impl ObjId {
+    /// How an object stands to another in their order: by kind, and then by number.
+    pub fn order(&self, other: &ObjId) -> Ordering
+        ensures { result ≡ compare_objects self.now other.now }
+    {
+        self.cmp(other)
+    }
 }

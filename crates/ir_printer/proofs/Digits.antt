@@ -8,6 +8,7 @@ use Rattle.std.specs.Str.{all_ascii_digits}
 use Rattle.std.specs.Char.{is_ascii_digit}
 use Rattle.numerals.specs.declared.Numeral.TheVariants.{Value}
 use Rattle.numerals.specs.Numerals.{numeral, magnitude, and_more, decimal_digit, positive}
+use Rattle.std.proofs.lemmas.Bool.{and_parts, cond-true, cond-false}
 
 -- the number of digits behind others of this value
 read_on : ℕ → List ℕ → ℕ
@@ -17,19 +18,6 @@ read_on n (c ∷ cs) = read_on (10 * n + (c - 48)) cs
 own : IsNumeralModel (λ ds. all_ascii_digits ds ≡ true) (read_on 0)
 unfolding read_on
 own = numerals_by_fold _ (search rules) read_on (search rules)
-
-pub both : (a b : Bool) → a && b ≡ true → (a ≡ true) × (b ≡ true)
-both true true h = (refl, refl)
-both true false h = cc
-both false b h = cc
-
-if_true : {A : Type 0} (c : Bool) (x y : A) → c ≡ true → (if c then x else y) ≡ x
-if_true true x y h = refl
-if_true false x y h = cc
-
-if_false : {A : Type 0} (c : Bool) (x y : A) → c ≡ false → (if c then x else y) ≡ y
-if_false true x y h = cc
-if_false false x y h = refl
 
 digit_is : (b : ℕ) → is_ascii_digit b ≡ true → decimal_digit b ≡ Some (b - 48)
 digit_is b h = grind (arith, nat_tests)
@@ -44,7 +32,7 @@ and_more_is : (n : ℕ) (ds : List ℕ) → all_ascii_digits ds ≡ true → and
 unfolding read_on
 and_more_is n [] h = refl
 and_more_is n (d ∷ ds) h =
-    let p = both (is_ascii_digit d) (all_ascii_digits ds) h in
+    let p = and_parts (is_ascii_digit d) (all_ascii_digits ds) h in
     ap (λ o. elim o [ Some e ↦ and_more decimal_digit 10 (10 * n + e) ds | None ↦ None ]) (digit_is d p.0)
     ∙ and_more_is (10 * n + (d - 48)) ds p.1
 
@@ -52,19 +40,19 @@ magnitude_is : (ds : List ℕ) → 0 < length ds → all_ascii_digits ds ≡ tru
 magnitude_is [] l h = absurd (omega arith)
 magnitude_is (a ∷ []) l h = and_more_is 0 (a ∷ []) h
 magnitude_is (a ∷ b ∷ ds) l h =
-    let p = both (is_ascii_digit a) (all_ascii_digits (b ∷ ds)) h in
-    let q = both (is_ascii_digit b) (all_ascii_digits ds) p.1 in
-    if_false _ _ _ (not_a_prefix a b q.0) ∙ and_more_is 0 (a ∷ b ∷ ds) h
+    let p = and_parts (is_ascii_digit a) (all_ascii_digits (b ∷ ds)) h in
+    let q = and_parts (is_ascii_digit b) (all_ascii_digits ds) p.1 in
+    cond-false _ _ _ (not_a_prefix a b q.0) ∙ and_more_is 0 (a ∷ b ∷ ds) h
 
 numeral_is : (ds : List ℕ) (n : ℕ) → 0 < length ds → all_ascii_digits ds ≡ true → read_on 0 ds ≡ n → n < 2 ^ 32 → numeral ds ≡ Value n
 unfolding numeral
 numeral_is [] n l h e w = absurd (omega arith)
 numeral_is (d ∷ ds) n l h e w =
-    let p = both (is_ascii_digit d) (all_ascii_digits ds) h in
+    let p = and_parts (is_ascii_digit d) (all_ascii_digits ds) h in
     let small : nat_lt n (2 ^ 32) ≡ true = grind (arith, nat_tests) in
-    if_false _ _ _ (not_a_sign d p.0)
+    cond-false _ _ _ (not_a_sign d p.0)
     ∙ ap positive (magnitude_is (d ∷ ds) l h ∙ ap Some e)
-    ∙ if_true _ _ _ small
+    ∙ cond-true _ _ _ small
 
 pub numeral_decimal : (n : ℕ) → n < 2 ^ 32 → numeral (decimal n) ≡ Value n
 numeral_decimal n w =

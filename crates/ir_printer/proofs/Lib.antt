@@ -1,8 +1,8 @@
-pub mod Separated
-pub mod Rows
-pub mod Behind
-pub mod Parts
-pub mod Digits
-pub mod Spelled
-pub mod Widths
-pub mod Law
+mod Separated
+mod Rows
+mod Behind
+mod Parts
+mod Digits
+mod Spelled
+mod Widths
+mod Law

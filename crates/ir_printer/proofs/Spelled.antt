@@ -21,7 +21,8 @@ use Rattle.ir_model.specs.Tokens.{Token, Name, Number, Key, Operation, Compariso
 use Rattle.ir_model.specs.Lines.{Line}
 use Rattle.ir_model.specs.Canonical.{Each, IsProper, line_bytes}
 use Rattle.ir_model.specs.Texts.{StandsFor, Spells, IsApart, Leads, here, blank, token, joined, tokens}
-use Rattle.ir_printer.proofs.Digits.{both, numeral_decimal}
+use Rattle.std.proofs.lemmas.Bool.{and_parts}
+use Rattle.ir_printer.proofs.Digits.{numeral_decimal}
 
 -- ASCII.
 all_below : List ℕ → Bool
@@ -31,7 +32,7 @@ ascii_from : (bs : List ℕ) → all_below bs ≡ true → IsAscii bs
 unfolding all_below
 ascii_from [] h = IsAscii-nil
 ascii_from (b ∷ bs) h =
-    let p = both (nat_lt b 128) (all_below bs) h in
+    let p = and_parts (nat_lt b 128) (all_below bs) h in
     let small : b < 128 = grind (arith, nat_tests, p.0) in
     IsAscii-cons b bs small (ascii_from bs p.1)
 
@@ -64,12 +65,12 @@ begins_ascii b h = grind (arith, nat_tests)
 inner_ascii : (bs : List ℕ) → all_continue bs ≡ true → IsAscii bs
 inner_ascii [] h = IsAscii-nil
 inner_ascii (b ∷ bs) h =
-    let p = both (continues_word b) (all_continue bs) h in IsAscii-cons b bs (continues_ascii b p.0) (inner_ascii bs p.1)
+    let p = and_parts (continues_word b) (all_continue bs) h in IsAscii-cons b bs (continues_ascii b p.0) (inner_ascii bs p.1)
 
 word_ascii : (w : List ℕ) → is_word w ≡ true → IsAscii w
 word_ascii [] h = IsAscii-nil
 word_ascii (b ∷ bs) h =
-    let p = both (begins_word b) (all_continue bs) h in IsAscii-cons b bs (begins_ascii b p.0) (inner_ascii bs p.1)
+    let p = and_parts (begins_word b) (all_continue bs) h in IsAscii-cons b bs (begins_ascii b p.0) (inner_ascii bs p.1)
 
 -- what a name is
 not_true : (b : Bool) → not b ≡ true → b ≡ false
@@ -83,8 +84,8 @@ pub record IsPlainWord (w : List ℕ) : Type 0 where
 plain_word : (w : List ℕ) → IsTrue (is_name w) → IsPlainWord w
 unfolding is_name
 plain_word w h =
-    let p = both (is_word w) (nat_le (length w) NAME_LIMIT && not (is_reserved w)) h in
-    let q = both (nat_le (length w) NAME_LIMIT) (not (is_reserved w)) p.1 in
+    let p = and_parts (is_word w) (nat_le (length w) NAME_LIMIT && not (is_reserved w)) h in
+    let q = and_parts (nat_le (length w) NAME_LIMIT) (not (is_reserved w)) p.1 in
     record { word = p.0; free = not_true (is_reserved w) q.1 }
 
 -- a number of 32 bits

@@ -19,6 +19,7 @@ use Rattle.ir_model.specs.Plain.{PlainSlot, PlainStruct, PlainGlobal, PlainFunc,
 use Rattle.ir_model.specs.Tokens.{Token, Number, Sign, Marked}
 use Rattle.ir_model.specs.Lines.{Line, counted, plain, name, number_excess, length_excess, type_tokens, row_tokens, more_tokens, result_tokens, slot_tokens, more_slots, slots_tokens, struct_line, struct_lines, periph_line, periph_lines, cell_tokens, more_cells, init_tokens, global_start, global_line, global_lines, arguments, more_arguments, inst_line, inst_lines, term_line, block_lines, local_lines, reg_lines, func_line, func_lines, funcs_lines, close_line, file_lines, lines_of}
 use Rattle.ir_model.specs.Canonical.{Each}
+use Rattle.ir_model.proofs.ForEach.{each_both}
 
 -- a number that passes nothing has 32 bits
 abbrev pub IsKept : Token → Option Excess → Type 0
@@ -28,15 +29,11 @@ IsKept _ x = Unit {0}
 abbrev pub AreKept : Line → Type 0
 AreKept l = Each (λ (m : Marked). IsKept m.token m.excess) l
 
-pub each_append : {A : Type 0} (P : A → Type 0) (xs ys : List A) → Each P xs → Each P ys → Each P (xs ++ ys)
-each_append P [] ys h k = k
-each_append P (x ∷ xs) ys h k = (h.0, each_append P xs ys h.1 k)
-
 join : (ls ms : Line) → AreKept ls → AreKept ms → AreKept (ls ++ ms)
-join ls ms h k = each_append (λ (m : Marked). IsKept m.token m.excess) ls ms h k
+join ls ms h k = each_both (λ (m : Marked). IsKept m.token m.excess) ls ms h k
 
 stack : (ls ms : List Line) → Each AreKept ls → Each AreKept ms → Each AreKept (ls ++ ms)
-stack ls ms h k = each_append AreKept ls ms h k
+stack ls ms h k = each_both AreKept ls ms h k
 
 by_test : (b : Bool) (o : Option Excess) → (if b then o else Some TooWide) ≡ None → b ≡ true
 by_test true o h = refl

@@ -6,7 +6,5 @@ mod functions;
 mod insts;
 pub mod laws;
 pub mod print;
-#[cfg(test)]
-mod tests;
 mod tokens;
 mod types;

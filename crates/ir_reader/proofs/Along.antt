@@ -23,6 +23,7 @@ use Rattle.ir_reader.proofs.Theorem.{steps}
 use Rattle.ir_reader.proofs.Values.{stepped}
 use Rattle.ir_reader.proofs.Verdicts.{begun, Taken, taken}
 use Rattle.ir_reader.proofs.Whole.{Alike, AreWide, IsNarrow, finds_some, token_placed, Prefix, placed_from}
+use Rattle.ir_model.proofs.ForEach.{each_right}
 
 -- two fronts of one list
 data Ordered (ps qs rs ss : List Placed) : Type 0 where
@@ -82,14 +83,6 @@ cut (m ∷ ms) (t ∷ ts) u vs e =
     let c = cut ms ts u vs h in
     record { front = m ∷ c.front; at = c.at; back = c.back; whole = ap (λ z. m ∷ z) c.whole; same = cc (i, c.same); is = c.is; rest = c.rest }
 
-each_at : (P : Marked → Type 0) (f : Line) (m : Marked) (r : Line) → Each P (f ++ m ∷ r) → P m
-each_at P [] m r h = h.0
-each_at P (n ∷ f) m r h = each_at P f m r h.1
-
-token_at : (P : Token → Type 0) (ts : List Token) (u : Token) (vs : List Token) → Each P (ts ++ u ∷ vs) → P u
-token_at P [] u vs h = h.0
-token_at P (t ∷ ts) u vs h = token_at P ts u vs h.1
-
 -- where the bytes spell what some firmware begins with, within the limits
 pub record Along (bytes : List ℕ) : Type 0 where
   pub ts : List Token
@@ -127,7 +120,7 @@ goes ts u vs us behind e r =
       same = c.same;
       is = c.is;
       rest = c.rest;
-      passes = each_at PassesNothing c.front c.at c.back (subst (λ (z : Line). Each PassesNothing z) c.whole r.limits);
+      passes = (each_right PassesNothing c.front (c.at ∷ c.back) (subst (λ (z : Line). Each PassesNothing z) c.whole r.limits)).0;
       begins = record { firmware = r.begins.firmware; whole = r.begins.whole; parts = r.begins.parts ∙ w };
     }
 
@@ -350,7 +343,7 @@ beyond bytes ts rest b ps qs p more e f g h =
       is = l.is;
       found = l.rest;
       whole = l.whole;
-      narrow = token_at IsNarrow ts l.next l.others (subst (λ (z : List Token). Each IsNarrow z) l.whole (narrow_along bytes b));
+      narrow = (each_right IsNarrow ts (l.next ∷ l.others) (subst (λ (z : List Token). Each IsNarrow z) l.whole (narrow_along bytes b))).0;
       on = goes ts l.next l.others b.ts b.behind l.whole b.good;
     }
 

@@ -19,7 +19,7 @@ use Rattle.ir_reader.specs.Machine.{Symbol, Move, Go, move, is_last}
 use Rattle.ir_reader.proofs.Derive.{follows}
 use Rattle.ir_reader.proofs.Lang
 use Rattle.ir_reader.proofs.Lang.{Langs, none, some, Follows, next, ends, skips}
-use Rattle.ir_reader.proofs.Proper.{each_both}
+use Rattle.ir_model.proofs.ForEach.{each_both}
 use Rattle.ir_reader.proofs.Theorem.{split}
 
 abbrev pub Free : Marked → Type 0

@@ -29,7 +29,8 @@ use Rattle.ir_reader.proofs.Complete.{Free, complete, Choice, some_such, none_su
 use Rattle.ir_reader.proofs.Lang
 use Rattle.ir_reader.proofs.Lang.{Langs, well}
 use Rattle.ir_reader.proofs.Pieces.{Reached, reached, spelled_lexeme, at_token, take_parts, nothing_left}
-use Rattle.ir_reader.proofs.Proper.{leads_free, each_both}
+use Rattle.ir_reader.proofs.Proper.{leads_free}
+use Rattle.ir_model.proofs.ForEach.{each_both}
 use Rattle.ir_reader.proofs.Scanning.{placed_nil}
 use Rattle.ir_reader.proofs.Stops.{stopped, Stopped, Why, stuck, bad, short, over}
 use Rattle.ir_reader.proofs.Texts.{all_functions}

@@ -1,26 +1,26 @@
-pub mod Tables
-pub mod Scanning
-pub mod Kept
-pub mod Ends
-pub mod Rows
-pub mod Separated
-pub mod Values
-pub mod Lang
-pub mod Derive
-pub mod Theorem
-pub mod Plain
-pub mod Pieces
-pub mod Proper
-pub mod Texts
-pub mod Columns
-pub mod Lefts
-pub mod Whole
-pub mod Stops
-pub mod Allow
-pub mod Complete
-pub mod Verdicts
-pub mod Firsts
-pub mod Faultless
-pub mod Along
-pub mod Single
-pub mod Unique
+mod Tables
+mod Scanning
+mod Kept
+mod Ends
+mod Rows
+mod Separated
+mod Values
+mod Lang
+mod Derive
+mod Theorem
+mod Plain
+mod Pieces
+mod Proper
+mod Texts
+mod Columns
+mod Lefts
+mod Whole
+mod Stops
+mod Allow
+mod Complete
+mod Verdicts
+mod Firsts
+mod Faultless
+mod Along
+mod Single
+mod Unique

@@ -15,6 +15,7 @@ use Rattle.ir_reader.proofs.Lang.{Langs, well}
 use Rattle.ir_reader.proofs.Theorem.{steps, text_of, colon_same, fault_token, kept}
 use Rattle.ir_reader.proofs.Ends.{after}
 use Rattle.ir_reader.proofs.Values.{stepped}
+use Rattle.ir_model.proofs.ForEach.{each_left, each_right, each_both}
 
 abbrev pub IsShort : Token → Type 0
 IsShort (Name w) = word_excess w ≡ None
@@ -95,18 +96,10 @@ pub proper_all : (ms : Line) → Each IsFree (tokens ms) → Each (λ (m : Marke
 proper_all [] f s = tt
 proper_all (m ∷ ms) f s = (proper_token m.token f.0 s.0, proper_all ms f.1 s.1)
 
-each_front : {A : Type 0} (P : A → Type 0) (xs ys : List A) → Each P (xs ++ ys) → Each P xs
-each_front P [] ys h = tt
-each_front P (x ∷ xs) ys h = (h.0, each_front P xs ys h.1)
-
-each_back : {A : Type 0} (P : A → Type 0) (xs ys : List A) → Each P (xs ++ ys) → Each P ys
-each_back P [] ys h = h
-each_back P (x ∷ xs) ys h = each_back P xs ys h.1
-
 -- by lines
 pub each_lines : (P : Marked → Type 0) (ls : List Line) → Each P (joined ls) → Each (Each P) ls
 each_lines P [] h = tt
-each_lines P (l ∷ ls) h = (each_front P l (joined ls) h, each_lines P ls (each_back P l (joined ls) h))
+each_lines P (l ∷ ls) h = (each_left P l (joined ls) h, each_lines P ls (each_right P l (joined ls) h))
 
 -- a number that passes nothing has 32 bits
 narrow_move : (s : Symbol) (n : ℕ) (c : Bool) (more : List Symbol) → move s (Number n) c ≡ Go None more → n < 2 ^ 32
@@ -148,10 +141,6 @@ narrow_from st w [] l h = tt
 narrow_from st w (m ∷ ms) l h =
     let s = steps st w m ms l in
     (is_narrow st m.token _ m.excess s.stack h.0 s.goes, narrow_from s.stack s.well ms s.others h.1)
-
-pub each_both : {A : Type 0} (P : A → Type 0) (xs ys : List A) → Each P xs → Each P ys → Each P (xs ++ ys)
-each_both P [] ys h i = i
-each_both P (x ∷ xs) ys h i = (h.0, each_both P xs ys h.1 i)
 
 pub each_joined : (P : Marked → Type 0) (ls : List Line) → Each (Each P) ls → Each P (joined ls)
 each_joined P [] h = tt

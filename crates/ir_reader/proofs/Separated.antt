@@ -5,6 +5,7 @@ use Rattle.ir_model.specs.Types.{PlainType, types_from}
 use Rattle.ir_model.specs.Canonical.{Each}
 use Rattle.ir_reader.specs.Spelling.{Spelling, Sign, separated, spell_type, spell_row, spell_more_row, spell_init, spell_cells}
 use Rattle.ir_model.specs.declared.firmware.Cell.{Cell}
+use Rattle.std.proofs.lemmas.List.{length-map}
 
 -- one more thing
 pub separated_push : {A : Type 0} (f : A → Spelling) (xs : List A) (x : A) → 0 < length xs → separated f (xs ++ x ∷ []) ≡ separated f xs ++ (Sign Comma ∷ f x)
@@ -16,15 +17,11 @@ map_push : {A B : Type 0} (g : A → B) (xs : List A) (x : A) → map g (xs ++ x
 map_push g [] x = refl
 map_push g (y ∷ ys) x = ap (λ z. g y ∷ z) (map_push g ys x)
 
-length_map : {A B : Type 0} (g : A → B) (xs : List A) → length (map g xs) ≡ length xs
-length_map g [] = refl
-length_map g (y ∷ ys) = let e = length_map g ys in omega arith
-
 -- what was read up to a comma, and the thing behind it
 pub read_more : {A B : Type 0} (f : B → Spelling) (g : A → B) (xs : List A) (x : A) (all old mid new : Spelling) → 0 < length xs
     → all ≡ separated f (map g xs) ++ old → old ≡ Sign Comma ∷ mid → mid ≡ f (g x) ++ new → all ≡ separated f (map g (xs ++ x ∷ [])) ++ new
 read_more f g xs x all old mid new s a b c =
-    let t : 0 < length (map g xs) = rw (length_map g xs) s in
+    let t : 0 < length (map g xs) = rw (length-map xs g) s in
     a ∙ (rw (b, c, map_push g xs x, separated_push f (map g xs) (g x) t) (simp append_assoc))
 
 -- the things themselves

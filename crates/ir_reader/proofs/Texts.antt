@@ -24,6 +24,7 @@ use Rattle.ir_reader.proofs.Scanning.{placed_nil}
 use Rattle.ir_reader.proofs.Unique.{firmware_unique}
 use Rattle.ir_reader.proofs.Whole.{finds_from}
 use Rattle.ir_reader.proofs.Theorem.{sound_from, none_from, text_of}
+use Rattle.ir_model.proofs.ForEach.{each_left, each_right, each_both}
 
 -- the marks of a firmware stand where a text begins
 pub firmware_is : (w : PlainFirmware) → HasFields w.structs → AllHaveBlocks w.files → Langs (Structs 0 ∷ []) (joined (lines_of w))
@@ -33,25 +34,13 @@ firmware_is w f b =
     (ap joined (sym (append_assoc (struct_lines 0 w.structs) (periph_lines 0 w.periphs) (global_lines 0 w.globals ++ file_lines 0 0 w.files)
     ) ∙ sym (append_assoc (struct_lines 0 w.structs ++ periph_lines 0 w.periphs) (global_lines 0 w.globals) (file_lines 0 0 w.files))))
 
-each_append : {A : Type 0} (P : A → Type 0) (xs ys : List A) → Each P xs → Each P ys → Each P (xs ++ ys)
-each_append P [] ys h i = i
-each_append P (x ∷ xs) ys h i = (h.0, each_append P xs ys h.1 i)
-
 pub all_functions : (fs : List PlainFile) → AllHaveBlocks fs → HasBlocks (flat_map (λ (f : PlainFile). f.funcs) fs)
 all_functions [] h = tt
-all_functions (f ∷ fs) h = each_append _ f.funcs (flat_map (λ (f : PlainFile). f.funcs) fs) h.0 (all_functions fs h.1)
-
-each_front : {A : Type 0} (P : A → Type 0) (xs ys : List A) → Each P (xs ++ ys) → Each P xs
-each_front P [] ys h = tt
-each_front P (x ∷ xs) ys h = (h.0, each_front P xs ys h.1)
-
-each_back : {A : Type 0} (P : A → Type 0) (xs ys : List A) → Each P (xs ++ ys) → Each P ys
-each_back P [] ys h = h
-each_back P (x ∷ xs) ys h = each_back P xs ys h.1
+all_functions (f ∷ fs) h = each_both _ f.funcs (flat_map (λ (f : PlainFile). f.funcs) fs) h.0 (all_functions fs h.1)
 
 pub blocks_of : (fs : List PlainFile) → HasBlocks (flat_map (λ (f : PlainFile). f.funcs) fs) → AllHaveBlocks fs
 blocks_of [] h = tt
-blocks_of (f ∷ fs) h = (each_front _ f.funcs (flat_map (λ (f : PlainFile). f.funcs) fs) h, blocks_of fs (each_back _ f.funcs (flat_map (λ (f : PlainFile). f.funcs) fs) h))
+blocks_of (f ∷ fs) h = (each_left _ f.funcs (flat_map (λ (f : PlainFile). f.funcs) fs) h, blocks_of fs (each_right _ f.funcs (flat_map (λ (f : PlainFile). f.funcs) fs) h))
 
 pub text_made : (bytes : List ℕ) (w : PlainFirmware) → IsUtf8 bytes → HasFields w.structs → HasBlocks (funcs_of w) → finds (placed bytes) ≡ text_of (joined (lines_of w)) → fault (Structs 0 ∷ []) (placed bytes) ≡ None → IsText w bytes
 text_made bytes w u f b whole none =

@@ -24,17 +24,14 @@ use Rattle.ir_reader.specs.Words.{word_token}
 use Rattle.ir_reader.specs.Scan.{placed, StartsToken, first_lexeme, lexeme_of, number_from, is_digit, Lexeme, lexeme}
 use Rattle.ir_reader.proofs.Tables.{free_name, keyword_token, operation_token, comparison_token}
 use Rattle.ir_reader.proofs.Scanning.{placed_blank, placed_comment, placed_token}
+use Rattle.ir_model.proofs.ForEach.{each_from_list_all}
+use Rattle.std.proofs.lemmas.Bool.{cond-true, cond-false}
+use Rattle.std.proofs.Math.Seq.{take-append_seam, drop-append_seam}
 
 -- bytes that pass a test before one that fails it
 prefix_front : (p : ℕ → Bool) (w bs : List ℕ) → Each (λ (b : ℕ). p b ≡ true) w → prefix_len p bs ≡ 0 → prefix_len p (w ++ bs) ≡ length w
 prefix_front p [] bs h e = e
 prefix_front p (b ∷ w) bs h e = let i = prefix_front p w bs h.1 e in let t = h.0 in grind (arith, common_steps)
-
-take_front : (w bs : List ℕ) → take (length w) (w ++ bs) ≡ w
-take_front w bs = grind (arith, common_steps)
-
-drop_front : (w bs : List ℕ) → drop (length w) (w ++ bs) ≡ bs
-drop_front w bs = grind (arith, common_steps)
 
 line_ends : (bs : List ℕ) → EndsLine bs → prefix_len is_inside_line bs ≡ 0
 line_ends [] h = refl
@@ -43,14 +40,6 @@ line_ends (b ∷ bs) h = rw h refl
 word_ends : (bs : List ℕ) → EndsWord bs → prefix_len continues_word bs ≡ 0
 word_ends [] h = refl
 word_ends (b ∷ bs) h = rw h refl
-
-all_each_by : (b : ℕ) (w : List ℕ) (t : Bool) → continues_word b ≡ t → (t && list_all continues_word w) ≡ true → (list_all continues_word w ≡ true → Each (λ (b : ℕ). continues_word b ≡ true) w) → Each (λ (b : ℕ). continues_word b ≡ true) (b ∷ w)
-all_each_by b w true e h again = (e, again h)
-all_each_by b w false e h again = cc
-
-all_each : (w : List ℕ) → list_all continues_word w ≡ true → Each (λ (b : ℕ). continues_word b ≡ true) w
-all_each [] h = tt
-all_each (b ∷ w) h = all_each_by b w (continues_word b) refl h (all_each w)
 
 -- the front of a text is the token
 pub record Finds (t : Token) (w bs : List ℕ) : Type 0 where
@@ -81,27 +70,19 @@ run_len : (b : ℕ) (w bs : List ℕ) → continues_word b ≡ true → Each (λ
 run_len b w bs c h e = prefix_front continues_word (b ∷ w) bs (c, h) (word_ends bs e)
 
 run_is : (b : ℕ) (w bs : List ℕ) → continues_word b ≡ true → Each (λ (b : ℕ). continues_word b ≡ true) w → EndsWord bs → take_while continues_word (b ∷ (w ++ bs)) ≡ b ∷ w
-run_is b w bs c h e = ap (λ n. take n (b ∷ (w ++ bs))) (run_len b w bs c h e) ∙ take_front (b ∷ w) bs
+run_is b w bs c h e = ap (λ n. take n (b ∷ (w ++ bs))) (run_len b w bs c h e) ∙ take-append_seam (b ∷ w) bs
 
 some_bytes : (b : ℕ) (w : List ℕ) → 0 < length (b ∷ w)
 some_bytes b w = omega arith
-
-if_true : {A : Type 0} (u : Bool) (x y : A) → u ≡ true → (if u then x else y) ≡ x
-if_true true x y h = refl
-if_true false x y h = cc
-
-if_false : {A : Type 0} (u : Bool) (x y : A) → u ≡ false → (if u then x else y) ≡ y
-if_false true x y h = cc
-if_false false x y h = refl
 
 finds_word : (w bs : List ℕ) (t : Token) → is_word w ≡ true → word_token w ≡ t → EndsWord bs → Finds t w bs
 finds_word [] bs t h e a = cc
 finds_word (b ∷ w) bs t h e a =
     let i = and_left (begins_word b) (all_continue w) h in
     let c = begins_goes_on b i in
-    let r = all_each w (and_right (begins_word b) (all_continue w) h) in
+    let r = each_from_list_all continues_word w (and_right (begins_word b) (all_continue w) h) in
     let n = begins_nothing b i in
-    let f : first_lexeme b (w ++ bs) ≡ lexeme (Is (word_token (take_while continues_word (b ∷ (w ++ bs))))) (prefix_len continues_word (b ∷ (w ++ bs))) = if_true (begins_word b) _ _ i in
+    let f : first_lexeme b (w ++ bs) ≡ lexeme (Is (word_token (take_while continues_word (b ∷ (w ++ bs))))) (prefix_len continues_word (b ∷ (w ++ bs))) = cond-true (begins_word b) _ _ i in
     record {
       starts = (n.0, n.1);
       found = ap (λ (z : Lexeme). z.found) f ∙ (ap (λ z. Is (word_token z)) (run_is b w bs c r a) ∙ ap Is e);
@@ -220,7 +201,7 @@ finds_positive : (b : ℕ) (v bs : List ℕ) (n : ℕ) → IsRun (b ∷ v) → n
 finds_positive b v bs n r e a =
     let c = digit_goes_on b r.0 in
     let k = digit_nothing b r.0 in
-    let f : first_lexeme b (v ++ bs) ≡ lexeme (number_from (numeral (take_while continues_word (b ∷ (v ++ bs))))) (prefix_len continues_word (b ∷ (v ++ bs))) = if_false (begins_word b) _ _ k.2 ∙ if_true (is_digit b) _ _ r.0 in
+    let f : first_lexeme b (v ++ bs) ≡ lexeme (number_from (numeral (take_while continues_word (b ∷ (v ++ bs))))) (prefix_len continues_word (b ∷ (v ++ bs))) = cond-false (begins_word b) _ _ k.2 ∙ cond-true (is_digit b) _ _ r.0 in
     record {
       starts = (k.0, k.1);
       found = ap (λ (z : Lexeme). z.found) f ∙ (ap (λ z. number_from (numeral z)) (run_is b v bs c r.1 a) ∙ e);
@@ -237,7 +218,7 @@ one_and n m h = omega arith
 finds_negative : (d : ℕ) (r bs : List ℕ) (n : ℕ) → IsRun (d ∷ r) → number_from (numeral (45 ∷ d ∷ r)) ≡ Is (Number n) → EndsWord bs → Finds (Number n) (45 ∷ d ∷ r) bs
 finds_negative d r bs n h e a =
     let c = digit_goes_on d h.0 in
-    let f : first_lexeme 45 (d ∷ (r ++ bs)) ≡ lexeme (number_from (numeral (45 ∷ take_while continues_word (d ∷ (r ++ bs))))) (1 + prefix_len continues_word (d ∷ (r ++ bs))) = if_false (nat_eq d 62) _ _ (not_greater d h.0) in
+    let f : first_lexeme 45 (d ∷ (r ++ bs)) ≡ lexeme (number_from (numeral (45 ∷ take_while continues_word (d ∷ (r ++ bs))))) (1 + prefix_len continues_word (d ∷ (r ++ bs))) = cond-false (nat_eq d 62) _ _ (not_greater d h.0) in
     record {
       starts = (refl, refl);
       found = ap (λ (z : Lexeme). z.found) f ∙ (ap (λ z. number_from (numeral (45 ∷ z))) (run_is d r bs c h.1 a) ∙ e);
@@ -306,7 +287,7 @@ opens_is b h = eqb-true b 35 h
 pub token_placed : (t : Token) (w bs : List ℕ) → Finds t w bs → placed (w ++ bs) ≡ record { found = Is t; left = length (w ++ bs) } ∷ placed bs
 token_placed t w bs f =
     let s : 0 < (lexeme_of (w ++ bs)).len = rw f.len f.some in
-    let d : drop (lexeme_of (w ++ bs)).len (w ++ bs) ≡ bs = ap (λ n. drop n (w ++ bs)) f.len ∙ drop_front w bs in
+    let d : drop (lexeme_of (w ++ bs)).len (w ++ bs) ≡ bs = ap (λ n. drop n (w ++ bs)) f.len ∙ drop-append_seam w bs in
     placed_token (w ++ bs) f.starts s
     ∙ (ap (λ z. record { found = z; left = length (w ++ bs) } ∷ placed (drop (lexeme_of (w ++ bs)).len (w ++ bs))) f.found ∙ ap (λ z. record { found = Is t; left = length (w ++ bs) } ∷ placed z) d)
 
@@ -324,7 +305,7 @@ placed_from ts bs rest (comment b inside {bs = c} h i j l) n =
     let q : is_blank b ≡ false = rw k refl in
     let m : prefix_len is_inside_line (inside ++ c) ≡ length inside = prefix_front is_inside_line inside c i (line_ends c j) in
     let p = placed_from ts c rest l n in
-    record { ps = p.ps; found = p.found; whole = placed_comment b (inside ++ c) q k ∙ (ap placed (ap (λ m. drop m (inside ++ c)) m ∙ drop_front inside c) ∙ p.whole) }
+    record { ps = p.ps; found = p.found; whole = placed_comment b (inside ++ c) q k ∙ (ap placed (ap (λ m. drop m (inside ++ c)) m ∙ drop-append_seam inside c) ∙ p.whole) }
 placed_from (u ∷ us) bs rest (token t w {bs = c} s a l) n =
     let p = placed_from us c rest l n.1 in
     record {

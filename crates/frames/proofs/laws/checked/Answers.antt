@@ -2,4 +2,4 @@ use Rattle.frames.proofs.Checked.{frame_fits}
 use Rattle.frames.proofs.laws.checked.Goals as goal
 
 pub returns : goal.returns
-returns c = λ w f t h. frame_fits w f h.0 t h.1 h.2
+returns c = λ w f t h. frame_fits w f t h

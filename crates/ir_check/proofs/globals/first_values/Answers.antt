@@ -1,9 +1,10 @@
-use Rattle.std.proofs.Common.{◌≡◌, ◌∙◌, ◌++◌, ap, sym, subst, map, None}
+use Rattle.std.proofs.Common.{◌≡◌, ◌∙◌, ◌++◌, ap, sym, subst, map, take, length, List, None}
 use Rattle.ir_model.specs.Types.{type_of}
-use Rattle.ir_model.specs.Plain.{firmware_of}
-use Rattle.ir_model.specs.Layout.{CellPlace, known, shape}
+use Rattle.ir_model.specs.declared.firmware.StructDecl.{StructDecl}
+use Rattle.ir_model.specs.Plain.{struct_of, firmware_of}
+use Rattle.ir_model.specs.Layout.{known, shape}
 use Rattle.ir_model.specs.Typing.{first_failing}
-use Rattle.ir_check.specs.Cells.{lent_types, cells_of}
+use Rattle.layouts.specs.Cells.{lent_types, types_of}
 use Rattle.ir_check.specs.Found.{Refused}
 use Rattle.ir_check.specs.Parts.{cells_part, values_part}
 use Rattle.ir_check.specs.Spots.{place_of}
@@ -13,9 +14,11 @@ use Rattle.ir_check.proofs.globals.first_values.Goals as goal
 
 pub returns-in_err-typed_values : goal.returns-in_err-typed_values
 returns-in_err-typed_values c =
-    let listed : lent_types c.as_slice.result.now ≡ map (λ (k : CellPlace). k.ty) (shape (known (firmware_of c.args.scope.now.firmware.now).structs) (type_of c.args.global.now.ty)).cells =
-    ap lent_types c.as_slice.ensures.value ∙ (c.in_ok-put_cells.ensures
-    ∙ (ap (λ ts. lent_types ts ++ cells_of c.args.scope.now.structs (map lent_types c.args.table.now) (type_of c.args.global.now.ty)) c.new-types.ensures.items ∙ c.requires.table (type_of c.args.global.now.ty))) in
+    let listed : lent_types c.as_slice.result.now ≡ take (length c.args.global.now.init) (types_of (shape (known (firmware_of c.args.scope.now.firmware.now).structs) (type_of c.args.global.now.ty)).cells) =
+    ap lent_types c.as_slice.ensures.value ∙ (c.in_ok-put_cell_types.ensures
+    ∙ (ap (λ ts. take (length c.as_slice-init.result.now) (lent_types ts ++ types_of (shape (known (map struct_of c.args.scope.now.layouts)) (type_of c.args.global.now.ty)).cells)) c.new-types.ensures.items
+    ∙ (ap (λ n. take n (types_of (shape (known (map struct_of c.args.scope.now.layouts)) (type_of c.args.global.now.ty)).cells)) (ap length c.as_slice-init.ensures)
+    ∙ ap (λ (ss : List StructDecl). take (length c.args.global.now.init) (types_of (shape (known (map struct_of ss)) (type_of c.args.global.now.ty)).cells)) c.requires.layouts))) in
     let same : cells_part (firmware_of c.args.scope.now.firmware.now) (place_of c.args.spot) c.args.global.now.init (type_of c.args.global.now.ty) ≡ values_part (firmware_of c.args.scope.now.firmware.now) (place_of c.args.spot) c.args.global.now.init (lent_types c.as_slice.result.now) = cells_parts (firmware_of c.args.scope.now.firmware.now) (place_of c.args.spot) c.args.global.now.init (type_of c.args.global.now.ty) (lent_types c.as_slice.result.now) listed in
     told (cells_part (firmware_of c.args.scope.now.firmware.now) (place_of c.args.spot) c.args.global.now.init (type_of c.args.global.now.ty)) c.from_residual-in_err-typed_values.result c.in_err-typed_values.field-0.0 c.from_residual-in_err-typed_values.ensures.1
     (subst (λ cs. Refused cs c.in_err-typed_values.field-0.0) (sym same)
@@ -23,9 +26,11 @@ returns-in_err-typed_values c =
 
 pub returns : goal.returns
 returns c =
-    let listed : lent_types c.as_slice.result.now ≡ map (λ (k : CellPlace). k.ty) (shape (known (firmware_of c.args.scope.now.firmware.now).structs) (type_of c.args.global.now.ty)).cells =
-    ap lent_types c.as_slice.ensures.value ∙ (c.in_ok-put_cells.ensures
-    ∙ (ap (λ ts. lent_types ts ++ cells_of c.args.scope.now.structs (map lent_types c.args.table.now) (type_of c.args.global.now.ty)) c.new-types.ensures.items ∙ c.requires.table (type_of c.args.global.now.ty))) in
+    let listed : lent_types c.as_slice.result.now ≡ take (length c.args.global.now.init) (types_of (shape (known (firmware_of c.args.scope.now.firmware.now).structs) (type_of c.args.global.now.ty)).cells) =
+    ap lent_types c.as_slice.ensures.value ∙ (c.in_ok-put_cell_types.ensures
+    ∙ (ap (λ ts. take (length c.as_slice-init.result.now) (lent_types ts ++ types_of (shape (known (map struct_of c.args.scope.now.layouts)) (type_of c.args.global.now.ty)).cells)) c.new-types.ensures.items
+    ∙ (ap (λ n. take n (types_of (shape (known (map struct_of c.args.scope.now.layouts)) (type_of c.args.global.now.ty)).cells)) (ap length c.as_slice-init.ensures)
+    ∙ ap (λ (ss : List StructDecl). take (length c.args.global.now.init) (types_of (shape (known (map struct_of ss)) (type_of c.args.global.now.ty)).cells)) c.requires.layouts))) in
     let same : cells_part (firmware_of c.args.scope.now.firmware.now) (place_of c.args.spot) c.args.global.now.init (type_of c.args.global.now.ty) ≡ values_part (firmware_of c.args.scope.now.firmware.now) (place_of c.args.spot) c.args.global.now.init (lent_types c.as_slice.result.now) = cells_parts (firmware_of c.args.scope.now.firmware.now) (place_of c.args.spot) c.args.global.now.init (type_of c.args.global.now.ty) (lent_types c.as_slice.result.now) listed in
     ap first_failing same
     ∙ subst (λ is. first_failing (values_part (firmware_of c.args.scope.now.firmware.now) (place_of c.args.spot) is (lent_types c.as_slice.result.now)) ≡ None) c.as_slice-init.ensures c.in_ok-typed_values.ensures

@@ -1,6 +1,7 @@
 use Rattle.std.proofs.Common.{rules, arith, sym}
 use Rattle.ir_model.specs.declared.types.Ty as code
-use Rattle.ir_model.proofs.SameTypes.{rows, other_count, row_end}
+use Rattle.ir_model.proofs.SameTypes.{rows}
+use Rattle.ir_model.proofs.RowSteps.{other_count, row_end}
 use Rattle.ir_model.proofs.equal.+equal.Goals as goal
 
 pub is_same-returns-then-is_same_row : goal.is_same-returns-then-is_same_row

@@ -1,0 +1,81 @@
+-- The limits of a program: how many items it has, how large its objects are, and where its windows lie.
+use Rattle.std.specs.Prelude.{◌≡◌, ◌≢◌, ℕ, ◌+◌, ◌%◌, ◌^◌, ◌<◌, ◌≤◌, ◌⊎◌, List, [], ◌∷◌, length, Some}
+use Rattle.ir_model.specs.Types.{PlainType}
+use Rattle.ir_model.specs.Plain.{PlainSlot, PlainGlobal, PlainFunc, PlainFirmware, funcs_of}
+use Rattle.ir_model.specs.Layout.{known, shape}
+use Rattle.ir_model.specs.Resolved.{Program, NumberedBlock, NumberedFunc, NumberedWindow, func_at, global_at, local_at, window_at, file_of}
+use Rattle.ir_model.specs.Resolve.{resolve}
+use Rattle.ir_model.specs.Extents.{layout_of}
+use Rattle.ir_model.specs.Canonical.{Each, IsWithinLimits}
+use Rattle.ir_model.specs.Typing.{object_limit, IsTyped}
+use Rattle.ir_model.specs.Signatures.{row_length}
+
+abbrev pub inst_count : List NumberedBlock → ℕ
+inst_count [] = 0
+inst_count (b ∷ bs) = length b.insts + inst_count bs
+
+-- a function's parameters, registers with parameters, locals, blocks, and instructions in all blocks
+pub record IsFew (g : NumberedFunc) : Type 0 where
+  pub params : row_length g.params ≤ 4
+  pub registers : length g.regs ≤ 120
+  pub locals : length g.locals ≤ 64
+  pub blocks : length g.blocks ≤ 1024
+  pub insts : inst_count g.blocks ≤ 16384
+
+-- the counts of a program; files are numbered from 0, and each function is of one
+pub record AreFew (p : Program) : Type 0 where
+  pub periphs : length p.periphs ≤ 64
+  pub globals : length p.globals ≤ 1024
+  pub funcs : length p.funcs ≤ 1024
+  pub files : length p.files ≡ length p.funcs
+  pub each : (f : ℕ) → IsFew (func_at p f)
+  pub each_file : (f : ℕ) → file_of p f < 1024
+
+-- no global and no local is larger than 65,536 bytes
+pub record HasSmallObjects (p : Program) : Type 0 where
+  pub globals : (g : ℕ) → (global_at p g).shape.size ≤ object_limit
+  pub locals : (f l : ℕ) → (local_at p f l).size ≤ object_limit
+
+-- a window: an aligned power of two from 32 to 65,536 bytes, from 0x40000000 to 0x5FFFFFFF
+pub record IsWindow (q : NumberedWindow) : Type 0 where
+  pub power : ℕ
+  pub least : 5 ≤ power
+  pub most : power ≤ 16
+  pub size : q.size ≡ 2 ^ power
+  pub aligned : q.base % q.size ≡ 0
+  pub from : 0x40000000 ≤ q.base
+  pub to : q.base + q.size ≤ 0x60000000
+
+abbrev pub AreDisjoint : NumberedWindow → NumberedWindow → Type 0
+AreDisjoint q r = (q.base + q.size ≤ r.base) ⊎ (r.base + r.size ≤ q.base)
+
+pub record HasWindows (p : Program) : Type 0 where
+  pub each : (q : ℕ) → q < length p.periphs → IsWindow (window_at p q)
+  pub apart : (q r : ℕ) → q < length p.periphs → r < length p.periphs → q ≢ r → AreDisjoint (window_at p q) (window_at p r)
+
+-- the layout of a type is that of its shape
+abbrev pub HasLayout : PlainFirmware → PlainType → Type 0
+HasLayout w t = layout_of w.structs t ≡ Some ((shape (known w.structs) t).size, (shape (known w.structs) t).align)
+
+pub record HasLayouts (w : PlainFirmware) : Type 0 where
+  pub globals : Each (λ (g : PlainGlobal). HasLayout w g.ty) w.globals
+  pub locals : Each (λ (f : PlainFunc). Each (λ (s : PlainSlot). HasLayout w s.ty) f.locals) (funcs_of w)
+
+-- the counts of a firmware that is within the limits, typed or not
+pub record CountsOf (w : PlainFirmware) : Type 0 where
+  pub structs : length w.structs ≤ 256
+  pub files : length w.files ≤ 1024
+  pub each_file : (f : ℕ) → f < length (funcs_of w) → file_of (resolve w) f < length w.files
+  pub program : AreFew (resolve w)
+
+abbrev pub CountsAreLimited : Type 0
+CountsAreLimited = (w : PlainFirmware) → IsWithinLimits w → CountsOf w
+
+abbrev pub SizesAreLimited : Type 0
+SizesAreLimited = (w : PlainFirmware) → IsTyped w → HasSmallObjects (resolve w)
+
+abbrev pub WindowsLieApart : Type 0
+WindowsLieApart = (w : PlainFirmware) → IsTyped w → HasWindows (resolve w)
+
+abbrev pub LayoutsAreThere : Type 0
+LayoutsAreThere = (w : PlainFirmware) → IsTyped w → IsWithinLimits w → HasLayouts w

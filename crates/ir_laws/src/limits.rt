@@ -1,0 +1,24 @@
+//! The limits of a firmware, over numbers.
+
+ghost use Rattle.ir_laws.specs.Limits.{CountsAreLimited, SizesAreLimited, WindowsLieApart, LayoutsAreThere};
+
+/// A firmware within the limits has no more items of each kind than the limit, in itself and in each function.
+pub fn counts()
+    ensures { CountsAreLimited }
+{}
+
+/// In a firmware that passes the checks no global and no local is larger than 65,536 bytes.
+pub fn sizes()
+    ensures { SizesAreLimited }
+{}
+
+/// In a firmware that passes the checks each peripheral's window is an aligned power of two from 32 to 65,536 bytes, inside
+/// 0x40000000 to 0x5FFFFFFF, and no two overlap.
+pub fn windows()
+    ensures { WindowsLieApart }
+{}
+
+/// In a firmware that passes the checks and is within the limits the type of each global and of each local has a layout.
+pub fn layouts()
+    ensures { LayoutsAreThere }
+{}

@@ -1,0 +1,4 @@
+pub mod Measures
+pub mod Fields
+pub mod Cells
+pub mod Tables

@@ -1,0 +1,9 @@
+//! The layouts of the structs of a firmware, made once in order, and what types are made of by them.
+#![tactic(auto)]
+
+pub mod cells;
+pub mod fault;
+mod laying;
+pub mod measure;
+pub mod table;
+mod types;
