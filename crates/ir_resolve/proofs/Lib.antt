@@ -1,2 +1,2 @@
-pub mod Laid
-pub mod Naming
+mod Functions
+mod SameScope

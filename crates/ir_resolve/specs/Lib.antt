@@ -1,4 +1,5 @@
+pub mod Values
+pub mod Storages
 pub mod Seen
-pub mod Shapes
 pub mod Scopes
 pub mod Windows

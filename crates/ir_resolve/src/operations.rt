@@ -1,35 +1,40 @@
 //! Instructions and block ends with numbers.
 
 ghost use Rattle.std.specs.Prelude.{◌≡◌, map, IfOk};
-ghost use Rattle.ir_model.specs.Plain.{func_of};
 ghost use Rattle.ir_model.specs.Resolve as resolving;
 ghost use Rattle.ir_resolve.specs.Seen.{operation_of, exit_of, sequence_of};
-ghost use Rattle.ir_resolve.specs.Scopes.{scope_of};
+ghost use Rattle.ir_resolve.specs.Scopes.{scope_of, named_func, AreTables};
 
-use crate::lookup::{element, label_number, register_number, register_type, target};
+use crate::lookup::{element, target};
 use crate::program::{Exit, Operation, Sequence};
-use crate::scope::{field_offset, named, pointee_factors};
-use crate::scope_parts::Scope;
-use ir_model::firmware::{Block, Func, Inst, Term};
+use crate::scope::{field_offset, in_16_bits, label_number, named, register_number, register_type};
+use crate::tables::{FuncTables, Scope};
+use ir_model::firmware::{Block, Inst, Term};
 use ir_model::name::Name;
 use listed::Listed;
 use std::alloc::{AllocError, Global};
 
-fn optional_number(func: &Func, name: &Option<Name>) -> Option<usize>
-    ensures { result ≡ resolving.optional (resolving.register_number (func_of func.now)) name.now }
+fn optional_number(tables: &FuncTables, name: &Option<Name>) -> Option<usize>
+    requires { AreTables tables.now }
+    ensures { result ≡ resolving.optional (resolving.register_number (named_func tables.now)) name.now }
 {
     match name {
-        Some(name) => Some(register_number(func, name)),
+        Some(name) => Some(register_number(tables, name)),
         None => None,
     }
 }
 
-fn register_numbers(alloc: Global, func: &Func, names: &[Name]) -> Result<Listed<usize>, AllocError>
-    ensures { IfOk result (λ ns. ns ≡ map (resolving.register_number (func_of func.now)) names.now) }
+fn register_numbers(
+    alloc: Global,
+    tables: &FuncTables,
+    names: &[Name],
+) -> Result<Listed<usize>, AllocError>
+    requires { AreTables tables.now }
+    ensures { IfOk result (λ ns. ns ≡ map (resolving.register_number (named_func tables.now)) names.now) }
 {
     let mut numbers = Vec::new(alloc);
     for name in names {
-        numbers.push(register_number(func, name))?;
+        numbers.push(register_number(tables, name))?;
     }
     Ok(Listed::new(numbers))
 }
@@ -38,108 +43,111 @@ fn register_numbers(alloc: Global, func: &Func, names: &[Name]) -> Result<Listed
 fn operation<'a>(
     alloc: Global,
     scope: &Scope<'a>,
-    func: &'a Func,
+    tables: &FuncTables<'a>,
     inst: &Inst,
 ) -> Result<Operation<'a>, AllocError>
-    ensures { IfOk result (λ o. operation_of o ≡ resolving.resolved_inst (scope_of scope.now) (func_of func.now) inst.now) }
+    requires { AreTables tables.now }
+    ensures { IfOk result (λ o. operation_of (scope_of scope.now).known o ≡ resolving.resolved_inst (scope_of scope.now) (named_func tables.now) inst.now) }
 {
     match inst {
         Inst::Const { to, value } => Ok(Operation::Const {
-            to: register_number(func, to),
+            to: register_number(tables, to),
             value: *value,
         }),
         Inst::Move { to, from } => Ok(Operation::Move {
-            to: register_number(func, to),
-            from: register_number(func, from),
+            to: register_number(tables, to),
+            from: register_number(tables, from),
         }),
         Inst::Bin { op, to, a, b } => Ok(Operation::Bin {
             op: *op,
-            to: register_number(func, to),
-            a: register_number(func, a),
-            b: register_number(func, b),
+            to: register_number(tables, to),
+            a: register_number(tables, a),
+            b: register_number(tables, b),
         }),
         Inst::Cmp { op, to, a, b } => Ok(Operation::Cmp {
             op: *op,
-            to: register_number(func, to),
-            a: register_number(func, a),
-            b: register_number(func, b),
+            to: register_number(tables, to),
+            a: register_number(tables, a),
+            b: register_number(tables, b),
         }),
         Inst::Addr { to, of } => Ok(Operation::Addr {
-            to: register_number(func, to),
-            of: named(scope, func, of),
+            to: register_number(tables, to),
+            of: named(scope, tables, of)?,
         }),
         Inst::FAddr { to, of } => Ok(Operation::FAddr {
-            to: register_number(func, to),
-            func: scope.funcs.number(of),
+            to: register_number(tables, to),
+            func: in_16_bits(scope.funcs.number_or_len(of))?,
         }),
         Inst::Elem { to, base, index } => Ok(Operation::Elem {
-            to: register_number(func, to),
-            base: register_number(func, base),
-            index: register_number(func, index),
-            size: pointee_factors(alloc, scope, element(target(register_type(func, base))))?,
+            to: register_number(tables, to),
+            base: register_number(tables, base),
+            index: register_number(tables, index),
+            element: element(target(register_type(tables, base))),
         }),
         Inst::Field { to, base, field } => Ok(Operation::Field {
-            to: register_number(func, to),
-            base: register_number(func, base),
-            offset: field_offset(scope, target(register_type(func, base)), field),
+            to: register_number(tables, to),
+            base: register_number(tables, base),
+            offset: field_offset(scope, target(register_type(tables, base)), field),
         }),
         Inst::Load { to, from } => Ok(Operation::Load {
-            to: register_number(func, to),
-            from: register_number(func, from),
-            ty: target(register_type(func, from)),
+            to: register_number(tables, to),
+            from: register_number(tables, from),
+            ty: target(register_type(tables, from)),
         }),
         Inst::Store { to, from } => Ok(Operation::Store {
-            to: register_number(func, to),
-            from: register_number(func, from),
-            ty: target(register_type(func, to)),
+            to: register_number(tables, to),
+            from: register_number(tables, from),
+            ty: target(register_type(tables, to)),
         }),
         Inst::Call {
             to,
             func: callee,
             args,
         } => Ok(Operation::Call {
-            to: optional_number(func, to),
-            func: scope.funcs.number(callee),
-            args: register_numbers(alloc, func, args.as_slice())?,
+            to: optional_number(tables, to),
+            func: in_16_bits(scope.funcs.number_or_len(callee))?,
+            args: register_numbers(alloc, tables, args.as_slice())?,
         }),
         Inst::ICall {
             to,
             func: callee,
             args,
         } => Ok(Operation::ICall {
-            to: optional_number(func, to),
-            func: register_number(func, callee),
-            args: register_numbers(alloc, func, args.as_slice())?,
+            to: optional_number(tables, to),
+            func: register_number(tables, callee),
+            args: register_numbers(alloc, tables, args.as_slice())?,
         }),
     }
 }
 
 /// A block's end with numbers for its names.
-fn exit(func: &Func, term: &Term) -> Exit
-    ensures { exit_of result ≡ resolving.resolved_term (func_of func.now) term.now }
+fn exit(tables: &FuncTables, term: &Term) -> Exit
+    requires { AreTables tables.now }
+    ensures { exit_of result ≡ resolving.resolved_term (named_func tables.now) term.now }
 {
     match term {
-        Term::Jump(block) => Exit::Jump(label_number(func, block)),
+        Term::Jump(block) => Exit::Jump(label_number(tables, block)),
         Term::Branch { on, yes, no } => Exit::Branch {
-            on: register_number(func, on),
-            yes: label_number(func, yes),
-            no: label_number(func, no),
+            on: register_number(tables, on),
+            yes: label_number(tables, yes),
+            no: label_number(tables, no),
         },
-        Term::Ret(value) => Exit::Ret(optional_number(func, value)),
+        Term::Ret(value) => Exit::Ret(optional_number(tables, value)),
     }
 }
 
 fn operations<'a>(
     alloc: Global,
     scope: &Scope<'a>,
-    func: &'a Func,
+    tables: &FuncTables<'a>,
     insts: &[Inst],
 ) -> Result<Listed<Operation<'a>>, AllocError>
-    ensures { IfOk result (λ os. map operation_of os ≡ map (resolving.resolved_inst (scope_of scope.now) (func_of func.now)) insts.now) }
+    requires { AreTables tables.now }
+    ensures { IfOk result (λ os. map (operation_of (scope_of scope.now).known) os ≡ map (resolving.resolved_inst (scope_of scope.now) (named_func tables.now)) insts.now) }
 {
     let mut operations = Vec::new(alloc);
     for i in 0..insts.len() {
-        let next = operation(alloc, scope, func, &insts[i])?;
+        let next = operation(alloc, scope, tables, &insts[i])?;
         operations.push(next)?;
     }
     Ok(Listed::new(operations))
@@ -149,15 +157,16 @@ fn operations<'a>(
 pub(crate) fn sequences<'a>(
     alloc: Global,
     scope: &Scope<'a>,
-    func: &'a Func,
+    tables: &FuncTables<'a>,
 ) -> Result<Listed<Sequence<'a>>, AllocError>
-    ensures { IfOk result (λ ss. map sequence_of ss ≡ map (resolving.resolved_block (scope_of scope.now) (func_of func.now)) func.now.blocks) }
+    requires { AreTables tables.now }
+    ensures { IfOk result (λ ss. map (sequence_of (scope_of scope.now).known) ss ≡ map (resolving.resolved_block (scope_of scope.now) (named_func tables.now)) tables.now.source.now.blocks) }
 {
-    let blocks: &[Block] = func.blocks.as_slice();
+    let blocks: &[Block] = tables.source.blocks.as_slice();
     let mut sequences = Vec::new(alloc);
     for i in 0..blocks.len() {
-        let operations = operations(alloc, scope, func, blocks[i].insts.as_slice())?;
-        let exit = exit(func, &blocks[i].term);
+        let operations = operations(alloc, scope, tables, blocks[i].insts.as_slice())?;
+        let exit = exit(tables, &blocks[i].term);
         sequences.push(Sequence { operations, exit })?;
     }
     Ok(Listed::new(sequences))

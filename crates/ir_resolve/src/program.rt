@@ -3,26 +3,31 @@
 use crate::value::Value;
 use ir_model::firmware::{BinOp, CmpOp, Func};
 use ir_model::types::Ty;
+use layouts::table::Layouts;
 use listed::Listed;
 
-/// A place of a type that holds one value.
+/// What a global or a local is made of. Its cells are those of its type.
 #[derive(Clone, Copy)]
-pub struct CellSpot<'a> {
-    /// How many bytes behind the first.
-    pub at: u32,
-    /// The value's type.
+pub struct Storage<'a> {
+    /// Its type.
     pub ty: &'a Ty,
+    /// How many bytes it has.
+    pub size: u32,
+    /// Of how many bytes its address is a multiple.
+    pub align: u32,
+    /// How many cells it has.
+    pub cells: u32,
 }
 
 /// What `addr` names.
 #[derive(Clone, Copy, PartialEq, Eq, Debug)]
 pub enum Target {
     /// A global, by its number.
-    Global(usize),
+    Global(u32),
     /// A peripheral, by its number.
-    Periph(usize),
+    Periph(u32),
     /// A local of the running function, by its number.
-    Local(usize),
+    Local(u8),
 }
 
 /// An instruction. Registers and functions have their numbers; `to` is the register that is written, but in `Store`, where
@@ -77,7 +82,7 @@ pub enum Operation<'a> {
         /// The register written.
         to: usize,
         /// The function.
-        func: usize,
+        func: u16,
     },
     /// `to = elem base, index`
     Elem {
@@ -87,8 +92,8 @@ pub enum Operation<'a> {
         base: usize,
         /// How many elements behind it.
         index: usize,
-        /// An element's bytes: the product of these.
-        size: Listed<u32>,
+        /// The type of an element; none is u32.
+        element: Option<&'a Ty>,
     },
     /// `to = field base, field`
     Field {
@@ -122,7 +127,7 @@ pub enum Operation<'a> {
         /// The register written, where the result is kept.
         to: Option<usize>,
         /// The function.
-        func: usize,
+        func: u16,
         /// The arguments' registers.
         args: Listed<usize>,
     },
@@ -169,10 +174,19 @@ pub struct Sequence<'a> {
 pub struct Variable<'a> {
     /// Whether it is never written.
     pub constant: bool,
-    /// Its cells in order.
-    pub cells: Listed<CellSpot<'a>>,
-    /// What they hold at first.
+    /// What it is made of.
+    pub storage: Storage<'a>,
+    /// What its first cells hold at first; those behind them hold 0 or null.
     pub init: Listed<Value>,
+}
+
+/// A peripheral's window.
+#[derive(Clone, Copy, PartialEq, Eq, Debug)]
+pub struct Span {
+    /// The address of its first byte.
+    pub base: u32,
+    /// How many bytes it has.
+    pub size: u32,
 }
 
 /// A function.
@@ -182,8 +196,8 @@ pub struct Routine<'a> {
     pub source: &'a Func,
     /// The types of its registers, the parameters first.
     pub registers: Listed<&'a Ty>,
-    /// The cells of each local.
-    pub locals: Listed<Listed<CellSpot<'a>>>,
+    /// What each local is made of.
+    pub locals: Listed<Storage<'a>>,
     /// Its blocks in order; it begins with the first.
     pub blocks: Listed<Sequence<'a>>,
 }
@@ -191,12 +205,16 @@ pub struct Routine<'a> {
 /// A firmware with numbers for its names.
 #[derive(Drop)]
 pub struct Program<'a> {
+    /// The layouts of its structs.
+    pub layouts: Layouts<'a>,
     /// Its globals in order.
     pub globals: Listed<Variable<'a>>,
-    /// How many bytes each peripheral's window has.
-    pub periphs: Listed<u32>,
+    /// Each peripheral's window.
+    pub periphs: Listed<Span>,
     /// The functions of all files in order.
     pub funcs: Listed<Routine<'a>>,
+    /// The number of each function's file.
+    pub files: Listed<u32>,
     /// The number of `main`.
-    pub main: usize,
+    pub main: u16,
 }

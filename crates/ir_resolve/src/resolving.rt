@@ -3,42 +3,48 @@
 ghost use Rattle.std.specs.Prelude.{◌≡◌, map, IfOk};
 ghost use Rattle.ir_model.specs.Plain.{firmware_of};
 ghost use Rattle.ir_model.specs.Resolve as definition;
-ghost use Rattle.ir_resolve.specs.Seen.{program_of};
+ghost use Rattle.ir_resolve.specs.Seen.{program_of, span_of, HasCounts};
 
-use crate::program::Program;
-use crate::routines::{all_funcs, routines};
-use crate::scope::named_scope;
+use crate::program::{Program, Span};
+use crate::routines::{all_funcs, file_numbers, routines};
+use crate::scope::{in_16_bits, named_scope};
 use crate::variables::variables;
 use ir_model::checked::Checked;
 use ir_model::firmware::Firmware;
 use listed::Listed;
 use std::alloc::{AllocError, Global};
 
-fn window_sizes(alloc: Global, firmware: &Firmware) -> Result<Listed<u32>, AllocError>
-    ensures { IfOk result (λ ns. ns ≡ map (λ p. p.size) firmware.now.periphs) }
+fn spans(alloc: Global, firmware: &Firmware) -> Result<Listed<Span>, AllocError>
+    ensures { IfOk result (λ ws. map span_of ws ≡ map definition.window_of firmware.now.periphs) }
 {
-    let periphs = firmware.periphs.as_slice();
-    let mut sizes = Vec::new(alloc);
-    for i in 0..periphs.len() {
-        sizes.push(periphs[i].size)?;
+    let mut spans = Vec::new(alloc);
+    for periph in firmware.periphs.as_slice() {
+        spans.push(Span {
+            base: periph.base,
+            size: periph.size,
+        })?;
     }
-    Ok(Listed::new(sizes))
+    Ok(Listed::new(spans))
 }
 
 #[tactic(auto, unfolding(ir_model::specs::Resolve::resolve))]
 fn resolved(alloc: Global, firmware: &Firmware) -> Result<Program<'_>, AllocError>
-    ensures { IfOk result (λ p. program_of p ≡ definition.resolve (firmware_of firmware.now)) }
+    ensures exact { IfOk result (λ p. program_of p ≡ definition.resolve (firmware_of firmware.now)) }
+    ensures counts { IfOk result HasCounts }
 {
     let sources = all_funcs(alloc, firmware)?;
     let scope = named_scope(alloc, firmware, sources.as_slice())?;
     let globals = variables(alloc, &scope, firmware)?;
-    let periphs = window_sizes(alloc, firmware)?;
+    let periphs = spans(alloc, firmware)?;
     let funcs = routines(alloc, &scope, sources.as_slice())?;
-    let main = scope.funcs.number_by(b"main");
+    let files = file_numbers(alloc, firmware)?;
+    let main = in_16_bits(scope.funcs.find_or_len(b"main"))?;
     Ok(Program {
+        layouts: scope.layouts,
         globals,
         periphs,
         funcs,
+        files,
         main,
     })
 }
@@ -49,7 +55,8 @@ fn resolved(alloc: Global, firmware: &Firmware) -> Result<Program<'_>, AllocErro
 ///
 /// There is no memory for it.
 pub fn resolve(alloc: Global, firmware: &Checked) -> Result<Program<'_>, AllocError>
-    ensures { IfOk result (λ p. program_of p ≡ definition.resolve (firmware_of firmware.now)) }
+    ensures exact { IfOk result (λ p. program_of p ≡ definition.resolve (firmware_of firmware.now)) }
+    ensures counts { IfOk result HasCounts }
 {
     resolved(alloc, firmware.firmware())
 }

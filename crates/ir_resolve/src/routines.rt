@@ -1,21 +1,23 @@
 //! Functions with numbers.
 
-ghost use Rattle.std.specs.Prelude.{◌≡◌, ◌++◌, map, flat_map, IfOk, OnOk};
+ghost use Rattle.std.specs.Prelude.{◌≡◌, ◌++◌, length, map, flat_map, replicate, IfOk, OnOk};
 ghost use Rattle.ir_model.specs.Types.{type_of};
-ghost use Rattle.ir_model.specs.Layout.{shape};
-ghost use Rattle.ir_model.specs.Plain.{PlainFunc, PlainFile, slot_of, func_of, file_of, firmware_of, types_of, regs_of, funcs_of};
+ghost use Rattle.ir_model.specs.Layout.{known, shape, Shape};
+ghost use Rattle.ir_model.specs.Plain.{PlainFunc, PlainFile, struct_of, slot_of, func_of, file_of, firmware_of, types_of, regs_of, funcs_of};
 ghost use Rattle.ir_model.specs.Resolve as resolving;
-ghost use Rattle.ir_resolve.specs.Seen.{routine_of, cells_of};
-ghost use Rattle.ir_resolve.specs.Shapes.{known_of};
+ghost use Rattle.ir_resolve.specs.Seen.{routine_of, local_counts, cell_counts};
+ghost use Rattle.ir_resolve.specs.Storages.{shape_of};
 ghost use Rattle.ir_resolve.specs.Scopes.{scope_of};
+ghost use Rattle.ir_resolve.specs.declared.program.Storage.{Storage};
 
 use crate::operations::sequences;
-use crate::program::{CellSpot, Routine};
-use crate::scope_parts::Scope;
-use crate::shape_parts::KnownStruct;
-use crate::shapes::type_cells;
+use crate::program::{Routine, Storage};
+use crate::scope::func_tables;
+use crate::storage::storage;
+use crate::tables::Scope;
 use ir_model::firmware::{FileDecl, Firmware, Func, Slot};
 use ir_model::types::Ty;
+use layouts::table::Layouts;
 use listed::Listed;
 use std::alloc::{AllocError, Global};
 
@@ -28,7 +30,8 @@ fn push_types<'a>(types: &mut Vec<&'a Ty>, slots: &'a [Slot]) -> Result<(), Allo
     Ok(())
 }
 
-fn register_types(alloc: Global, func: &Func) -> Result<Listed<&Ty>, AllocError>
+/// The types of a function's registers, the parameters first.
+pub(crate) fn register_types(alloc: Global, func: &Func) -> Result<Listed<&Ty>, AllocError>
     ensures { IfOk result (λ ts. map (λ t. type_of t.now) ts ≡ types_of (regs_of (func_of func.now))) }
 {
     let mut types = Vec::new(alloc);
@@ -39,15 +42,15 @@ fn register_types(alloc: Global, func: &Func) -> Result<Listed<&Ty>, AllocError>
 
 fn locals<'a>(
     alloc: Global,
-    known: &[KnownStruct<'a>],
+    layouts: &Layouts<'a>,
     slots: &'a [Slot],
-) -> Result<Listed<Listed<CellSpot<'a>>>, AllocError>
-    ensures { IfOk result (λ ls. map cells_of ls ≡ map (λ l. (shape (map known_of known.now) l.ty).cells) (map slot_of slots.now)) }
+) -> Result<Listed<Storage<'a>>, AllocError>
+    ensures shapes { IfOk result (λ ls. map (shape_of (known (map struct_of layouts.now))) ls ≡ map (λ l. shape (known (map struct_of layouts.now)) l.ty) (map slot_of slots.now)) }
+    ensures cells { IfOk result (λ ls. map (λ (s : Storage). s.cells) ls ≡ map (λ (s : Shape). length s.cells) (map (λ l. shape (known (map struct_of layouts.now)) l.ty) (map slot_of slots.now))) }
 {
     let mut locals = Vec::new(alloc);
-    for i in 0..slots.len() {
-        let cells = type_cells(alloc, known, &slots[i].ty)?;
-        locals.push(cells)?;
+    for slot in slots {
+        locals.push(storage(layouts, &slot.ty)?)?;
     }
     Ok(Listed::new(locals))
 }
@@ -57,14 +60,15 @@ fn routine<'a>(
     scope: &Scope<'a>,
     source: &'a Func,
 ) -> Result<Routine<'a>, AllocError>
-    ensures { IfOk result (λ r. routine_of r ≡ resolving.resolved_func (scope_of scope.now) (func_of source.now)) }
+    ensures exact { IfOk result (λ r. routine_of (known (map struct_of scope.now.layouts)) r ≡ resolving.resolved_func (scope_of scope.now) (func_of source.now)) }
+    ensures cells { IfOk result (λ r. local_counts r ≡ cell_counts (resolving.resolved_func (scope_of scope.now) (func_of source.now))) }
 {
-    let registers = register_types(alloc, source)?;
-    let locals = locals(alloc, scope.known.as_slice(), source.locals.as_slice())?;
-    let blocks = sequences(alloc, scope, source)?;
+    let tables = func_tables(alloc, source)?;
+    let blocks = sequences(alloc, scope, &tables)?;
+    let locals = locals(alloc, &scope.layouts, source.locals.as_slice())?;
     Ok(Routine {
         source,
-        registers,
+        registers: tables.types,
         locals,
         blocks,
     })
@@ -76,7 +80,8 @@ pub(crate) fn routines<'a>(
     scope: &Scope<'a>,
     funcs: &[&'a Func],
 ) -> Result<Listed<Routine<'a>>, AllocError>
-    ensures { IfOk result (λ rs. map routine_of rs ≡ map (resolving.resolved_func (scope_of scope.now)) (map (λ f. func_of f.now) funcs.now)) }
+    ensures exact { IfOk result (λ rs. map (routine_of (known (map struct_of scope.now.layouts))) rs ≡ map (resolving.resolved_func (scope_of scope.now)) (map (λ f. func_of f.now) funcs.now)) }
+    ensures cells { IfOk result (λ rs. map local_counts rs ≡ map cell_counts (map (resolving.resolved_func (scope_of scope.now)) (map (λ f. func_of f.now) funcs.now))) }
 {
     let mut routines = Vec::new(alloc);
     for i in 0..funcs.len() {
@@ -106,4 +111,32 @@ pub(crate) fn all_funcs(alloc: Global, firmware: &Firmware) -> Result<Vec<&Func>
         push_funcs(&mut funcs, &files[i])?;
     }
     Ok(funcs)
+}
+
+fn push_times(numbers: &mut Vec<u32>, number: u32, times: usize) -> Result<(), AllocError>
+    ensures { OnOk result (numbers.new.items ≡ numbers.old.items ++ replicate times number) }
+{
+    for _time in 0..times {
+        numbers.push(number)?;
+    }
+    Ok(())
+}
+
+/// The number of the file of each function.
+///
+/// # Errors
+///
+/// There is no memory for them, or a file's number has more than 32 bits.
+pub(crate) fn file_numbers(alloc: Global, firmware: &Firmware) -> Result<Listed<u32>, AllocError>
+    ensures { IfOk result (λ ns. ns ≡ resolving.files_from 0 (firmware_of firmware.now).files) }
+{
+    let files = firmware.files.as_slice();
+    let mut numbers = Vec::new(alloc);
+    for i in 0..files.len() {
+        let Ok(number) = u32::try_from(i) else {
+            return Err(AllocError);
+        };
+        push_times(&mut numbers, number, files[i].funcs.len())?;
+    }
+    Ok(Listed::new(numbers))
 }

@@ -1,60 +1,36 @@
-//! The names of a firmware.
+//! The names of a firmware and of a function.
 
-ghost use Rattle.std.specs.Prelude.{◌≡◌, ◌∷◌, ◌*◌, map, IfOk};
-ghost use Rattle.ir_model.specs.Types as types;
-ghost use Rattle.ir_model.specs.Types.{type_of};
-ghost use Rattle.ir_model.specs.Layout.{shape, shape_named, fields_named};
-ghost use Rattle.ir_model.specs.Plain.{firmware_of, func_of, funcs_of};
+ghost use Rattle.std.specs.Prelude.{◌≡◌, ◌≤◌, map, length, IfOk};
+ghost use Rattle.ir_model.specs.Plain.{firmware_of, func_of, funcs_of, names_of, regs_of};
 ghost use Rattle.ir_model.specs.Resolve as resolving;
-ghost use Rattle.ir_resolve.specs.Seen.{product, target_of, pointee_of};
-ghost use Rattle.ir_resolve.specs.Shapes.{known_of, field_of};
-ghost use Rattle.ir_resolve.specs.Scopes.{scope_of};
+ghost use Rattle.ir_resolve.specs.Seen.{target_of};
+ghost use Rattle.ir_resolve.specs.Storages.{pointee_of};
+ghost use Rattle.ir_resolve.specs.Scopes.{scope_of, named_func, AreTables};
 
-use crate::listing::Names;
-use crate::lookup::{has_slot, slot_number};
 use crate::program::Target;
-use crate::scope_parts::Scope;
-use crate::shape_parts::{FieldSpot, KnownStruct};
-use crate::shapes::known_structs;
+use crate::routines::register_types;
+use crate::tables::{FuncTables, Scope};
 use ir_model::firmware::{Firmware, Func};
 use ir_model::name::Name;
 use ir_model::types::Ty;
-use listed::Listed;
+use layouts::table::Layouts;
+use name_tables::{Names, add_slots, func_names, global_names, label_names, periph_names};
 use std::alloc::{AllocError, Global};
 
-fn global_names(alloc: Global, firmware: &Firmware) -> Result<Names<'_>, AllocError>
-    ensures { IfOk result (λ ns. ns ≡ (resolving.scope_of (firmware_of firmware.now)).globals) }
+fn struct_layouts(alloc: Global, firmware: &Firmware) -> Result<Layouts<'_>, AllocError>
+    ensures { IfOk result (λ l. l ≡ firmware.now.structs) }
 {
-    let globals = firmware.globals.as_slice();
-    let mut names = Names::new(alloc);
-    for i in 0..globals.len() {
-        names.push(&globals[i].name)?;
+    match Layouts::of(alloc, firmware.structs.as_slice()) {
+        Ok(layouts) => Ok(layouts),
+        Err(_) => Err(AllocError),
     }
-    Ok(names)
-}
-
-fn periph_names(alloc: Global, firmware: &Firmware) -> Result<Names<'_>, AllocError>
-    ensures { IfOk result (λ ns. ns ≡ (resolving.scope_of (firmware_of firmware.now)).periphs) }
-{
-    let periphs = firmware.periphs.as_slice();
-    let mut names = Names::new(alloc);
-    for i in 0..periphs.len() {
-        names.push(&periphs[i].name)?;
-    }
-    Ok(names)
-}
-
-fn func_names<'a>(alloc: Global, funcs: &[&'a Func]) -> Result<Names<'a>, AllocError>
-    ensures { IfOk result (λ ns. ns ≡ map (λ f. (func_of f.now).name) funcs.now) }
-{
-    let mut names = Names::new(alloc);
-    for i in 0..funcs.len() {
-        names.push(&funcs[i].name)?;
-    }
-    Ok(names)
 }
 
 /// The names of a firmware that has these functions.
+///
+/// # Errors
+///
+/// There is no memory for them, or a struct has more than 65,536 bytes.
 pub(crate) fn named_scope<'a>(
     alloc: Global,
     firmware: &'a Firmware,
@@ -63,114 +39,145 @@ pub(crate) fn named_scope<'a>(
     requires { map (λ f. func_of f.now) funcs.now ≡ funcs_of (firmware_of firmware.now) }
     ensures { IfOk result (λ s. scope_of s ≡ resolving.scope_of (firmware_of firmware.now)) }
 {
-    let known = known_structs(alloc, firmware.structs.as_slice())?;
-    let globals = global_names(alloc, firmware)?;
-    let periphs = periph_names(alloc, firmware)?;
+    let layouts = struct_layouts(alloc, firmware)?;
+    let globals = global_names(alloc, firmware.globals.as_slice())?;
+    let periphs = periph_names(alloc, firmware.periphs.as_slice())?;
     let funcs = func_names(alloc, funcs)?;
     Ok(Scope {
-        known: Listed::new(known),
+        layouts,
         globals,
         periphs,
         funcs,
     })
 }
 
+fn register_names(alloc: Global, source: &Func) -> Result<Names<'_>, AllocError>
+    ensures { IfOk result (λ n. n ≡ names_of (regs_of (func_of source.now))) }
+{
+    let mut names = Names::new(alloc);
+    add_slots(&mut names, source.params.as_slice())?;
+    add_slots(&mut names, source.regs.as_slice())?;
+    Ok(names)
+}
+
+fn local_names(alloc: Global, source: &Func) -> Result<Names<'_>, AllocError>
+    ensures { IfOk result (λ n. n ≡ names_of (func_of source.now).locals) }
+{
+    let mut names = Names::new(alloc);
+    add_slots(&mut names, source.locals.as_slice())?;
+    Ok(names)
+}
+
+/// The names of a function.
+///
+/// # Errors
+///
+/// There is no memory for them.
+pub(crate) fn func_tables(alloc: Global, source: &Func) -> Result<FuncTables<'_>, AllocError>
+    ensures tables { IfOk result AreTables }
+    ensures same { IfOk result (λ t. t.source.now ≡ source.now) }
+{
+    Ok(FuncTables {
+        source,
+        registers: register_names(alloc, source)?,
+        types: register_types(alloc, source)?,
+        locals: local_names(alloc, source)?,
+        labels: label_names(alloc, source.blocks.as_slice())?,
+    })
+}
+
+/// The number of the register of a name, the parameters first, or how many registers there are.
+pub(crate) fn register_number(tables: &FuncTables, name: &Name) -> usize
+    requires { AreTables tables.now }
+    ensures { result ≡ resolving.register_number (named_func tables.now) name.now }
+{
+    tables.registers.number_or_len(name)
+}
+
+/// The type of the register of a name; none where no register has it, as for u32.
+pub(crate) fn register_type<'a>(tables: &FuncTables<'a>, name: &Name) -> Option<&'a Ty>
+    requires { AreTables tables.now }
+    ensures { pointee_of result ≡ resolving.type_named (named_func tables.now) name.now }
+{
+    let number = register_number(tables, name);
+    let types = tables.types.as_slice();
+    if number < types.len() {
+        Some(types[number])
+    } else {
+        None
+    }
+}
+
+/// The number of the block of a label, or how many blocks there are.
+pub(crate) fn label_number(tables: &FuncTables, label: &Name) -> usize
+    requires { AreTables tables.now }
+    ensures { result ≡ resolving.number_of (resolving.labels_of (named_func tables.now)) label.now }
+{
+    tables.labels.number_or_len(label)
+}
+
+/// A number of a function in 16 bits.
+///
+/// # Errors
+///
+/// It has more: a firmware within the limits has 1,024 functions at most.
+pub(crate) fn in_16_bits(number: usize) -> Result<u16, AllocError>
+    ensures { IfOk result (λ n. n ≡ number) }
+{
+    match u16::try_from(number) {
+        Ok(small) => Ok(small),
+        Err(_) => Err(AllocError),
+    }
+}
+
+/// A number of a global or a peripheral in 32 bits.
+///
+/// # Errors
+///
+/// It has more.
+pub(crate) fn in_32_bits(number: usize) -> Result<u32, AllocError>
+    ensures { IfOk result (λ n. n ≡ number) }
+{
+    match u32::try_from(number) {
+        Ok(small) => Ok(small),
+        Err(_) => Err(AllocError),
+    }
+}
+
 /// What `addr` names in a function: a local first.
-pub(crate) fn named(scope: &Scope, func: &Func, name: &Name) -> Target
-    ensures { target_of result ≡ resolving.named_by (scope_of scope.now) (func_of func.now) name.now }
+///
+/// # Errors
+///
+/// A local's number has more than 8 bits, or another more than 32: a firmware within the limits has 64 locals in a function
+/// at most.
+pub(crate) fn named(scope: &Scope, tables: &FuncTables, name: &Name) -> Result<Target, AllocError>
+    requires { AreTables tables.now }
+    ensures { IfOk result (λ t. target_of t ≡ resolving.named_by (scope_of scope.now) (named_func tables.now) name.now) }
 {
-    let locals = func.locals.as_slice();
-    if has_slot(locals, name) {
-        return Target::Local(slot_number(locals, name));
+    if let Some(number) = tables.locals.number(name) {
+        return match u8::try_from(number) {
+            Ok(local) => Ok(Target::Local(local)),
+            Err(_) => Err(AllocError),
+        };
     }
-    if scope.periphs.has(name) {
-        return Target::Periph(scope.periphs.number(name));
+    if let Some(number) = scope.periphs.number(name) {
+        return Ok(Target::Periph(in_32_bits(number)?));
     }
-    Target::Global(scope.globals.number(name))
+    Ok(Target::Global(in_32_bits(scope.globals.number_or_len(name))?))
 }
 
-fn offset_named(fields: &[FieldSpot], name: &Name) -> u32
-    ensures { result ≡ resolving.offset_named (map field_of fields.now) name.now }
-{
-    for i in 0..fields.len() {
-        if fields[i].name.same(name) {
-            return fields[i].at;
-        }
-    }
-    0
-}
-
-fn offset_in(known: &[KnownStruct], name: &Name, field: &Name) -> u32
-    ensures { result ≡ resolving.offset_named (fields_named (map known_of known.now) name.now) field.now }
-{
-    for i in 0..known.len() {
-        if known[i].name.same(name) {
-            return offset_named(known[i].fields.as_slice(), field);
-        }
-    }
-    0
-}
-
-/// Where a field of a type lies.
+/// Where a field of a type lies; 0 where there is none.
 pub(crate) fn field_offset(scope: &Scope, ty: Option<&Ty>, field: &Name) -> u32
     ensures { result ≡ resolving.field_offset (scope_of scope.now) (pointee_of ty.entry) field.now }
 {
     match ty {
         None => 0,
         Some(inner) => match inner {
-            Ty::Named(name) => offset_in(scope.known.as_slice(), name, field),
+            Ty::Named(name) => match scope.layouts.field(name, field) {
+                Some(place) => place.at,
+                None => 0,
+            },
             Ty::U8 | Ty::U16 | Ty::U32 | Ty::Ptr(_) | Ty::Array(_, _) | Ty::Callee(_) => 0,
         },
     }
-}
-
-fn size_named(known: &[KnownStruct], name: &Name) -> u32
-    ensures { result ≡ (shape_named (map known_of known.now) name.now).size }
-{
-    for i in 0..known.len() {
-        if known[i].name.same(name) {
-            return known[i].shape.size;
-        }
-    }
-    0
-}
-
-fn factor(alloc: Global, size: u32) -> Result<Vec<u32>, AllocError>
-    ensures { IfOk result (λ v. product v.items ≡ size) }
-{
-    Ok(vec![in alloc; size]?)
-}
-
-/// Numbers whose product is a type's size.
-fn size_factors(alloc: Global, known: &[KnownStruct], ty: &Ty) -> Result<Vec<u32>, AllocError>
-    ensures { IfOk result (λ v. product v.items ≡ (shape (map known_of known.now) (type_of ty.now)).size) }
-{
-    match ty {
-        Ty::U8 => factor(alloc, 1),
-        Ty::U16 => factor(alloc, 2),
-        Ty::U32 => factor(alloc, 4),
-        Ty::Ptr(_) => factor(alloc, 4),
-        Ty::Callee(_) => factor(alloc, 4),
-        Ty::Named(name) => factor(alloc, size_named(known, name)),
-        Ty::Array(count, element) => {
-            let mut factors = size_factors(alloc, known, element)?;
-            factors.push(*count)?;
-            Ok(factors)
-        }
-    }
-}
-
-/// Numbers whose product is the size of the type, or of u32 where there is none.
-pub(crate) fn pointee_factors(
-    alloc: Global,
-    scope: &Scope,
-    ty: Option<&Ty>,
-) -> Result<Listed<u32>, AllocError>
-    ensures { IfOk result (λ v. product v ≡ (shape (scope_of scope.now).known (pointee_of ty.entry)).size) }
-{
-    let factors = match ty {
-        Some(ty) => size_factors(alloc, scope.known.as_slice(), ty)?,
-        None => factor(alloc, 4)?,
-    };
-    Ok(Listed::new(factors))
 }

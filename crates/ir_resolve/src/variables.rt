@@ -1,17 +1,20 @@
 //! Globals with numbers.
 
 ghost use Rattle.std.specs.Prelude.{◌≡◌, map, IfOk};
-ghost use Rattle.std.proofs.Math.ListN.{get_or};
 ghost use Rattle.ir_model.specs.Types.{type_of};
-ghost use Rattle.ir_model.specs.Plain.{global_of, firmware_of};
+ghost use Rattle.ir_model.specs.Plain.{global_of, firmware_of, struct_of};
+ghost use Rattle.ir_model.specs.Layout.{known};
 ghost use Rattle.ir_model.specs.Resolve as resolving;
-ghost use Rattle.ir_resolve.specs.Seen.{value_of, variable_of, cells_of};
+ghost use Rattle.ir_resolve.specs.Seen.{variable_of, cell_count};
+ghost use Rattle.ir_resolve.specs.Values.{value_of};
 ghost use Rattle.ir_resolve.specs.Scopes.{scope_of};
+ghost use Rattle.ir_resolve.specs.declared.program.Variable.{Variable};
 
 use crate::lookup::is_integer;
-use crate::program::{CellSpot, Variable};
-use crate::scope_parts::Scope;
-use crate::shapes::type_cells;
+use crate::program::Variable;
+use crate::scope::{in_16_bits, in_32_bits};
+use crate::storage::storage;
+use crate::tables::Scope;
 use crate::value::{Instance, Value};
 use ir_model::firmware::{Cell, Firmware, Global as GlobalDecl};
 use ir_model::types::Ty;
@@ -29,53 +32,42 @@ pub fn zero(ty: &Ty) -> Value
     }
 }
 
-fn cell_value(scope: &Scope, cell: &Cell) -> Value
-    ensures { value_of result ≡ resolving.value_of (scope_of scope.now) cell.now }
+/// What a cell holds that a text gives.
+///
+/// # Errors
+///
+/// A function's number has more than 16 bits, or another's more than 32.
+fn cell_value(scope: &Scope, cell: &Cell) -> Result<Value, AllocError>
+    ensures { IfOk result (λ v. value_of v ≡ resolving.value_of (scope_of scope.now) cell.now) }
 {
     match cell {
-        Cell::Word(number) => Value::Number(*number),
-        Cell::Function(name) => Value::Code(scope.funcs.number(name)),
+        Cell::Word(number) => Ok(Value::Number(*number)),
+        Cell::Function(name) => Ok(Value::Code(in_16_bits(scope.funcs.number_or_len(name))?)),
         Cell::Address(name) => {
-            if scope.periphs.has(name) {
-                Value::At {
-                    instance: Instance::Periph(scope.periphs.number(name)),
+            if let Some(number) = scope.periphs.number(name) {
+                return Ok(Value::AtPeriph {
+                    periph: in_32_bits(number)?,
                     offset: 0,
-                }
-            } else {
-                Value::At {
-                    instance: Instance::Global(scope.globals.number(name)),
-                    offset: 0,
-                }
+                });
             }
+            Ok(Value::AtGlobal {
+                global: in_32_bits(scope.globals.number_or_len(name))?,
+                offset: 0,
+            })
         }
     }
 }
 
-// What the cell of a number holds at first.
-fn initial(scope: &Scope, ty: &Ty, init: &[Cell], cell: usize) -> Value
-    ensures { value_of result ≡ get_or (map (resolving.value_of (scope_of scope.now)) init.now) cell (resolving.zero_of (type_of ty.now)) }
-{
-    if cell < init.len() {
-        cell_value(scope, &init[cell])
-    } else {
-        zero(ty)
-    }
-}
-
-fn filled(
-    alloc: Global,
-    scope: &Scope,
-    cells: &[CellSpot],
-    init: &[Cell],
-) -> Result<Vec<Value>, AllocError>
-    ensures { IfOk result (λ vs. map value_of vs.items ≡ resolving.filled (cells_of cells.now) (map (resolving.value_of (scope_of scope.now)) init.now)) }
+/// What the first cells of a global hold, as many as the text gives.
+fn first_values(alloc: Global, scope: &Scope, init: &[Cell]) -> Result<Listed<Value>, AllocError>
+    ensures { IfOk result (λ vs. map value_of vs ≡ map (resolving.value_of (scope_of scope.now)) init.now) }
 {
     let mut values = Vec::new(alloc);
-    for i in 0..cells.len() {
-        let value = initial(scope, cells[i].ty, init, i);
+    for cell in init {
+        let value = cell_value(scope, cell)?;
         values.push(value)?;
     }
-    Ok(values)
+    Ok(Listed::new(values))
 }
 
 fn variable<'a>(
@@ -83,14 +75,13 @@ fn variable<'a>(
     scope: &Scope<'a>,
     global: &'a GlobalDecl,
 ) -> Result<Variable<'a>, AllocError>
-    ensures { IfOk result (λ v. variable_of v ≡ resolving.resolved_global (scope_of scope.now) (global_of global.now)) }
+    ensures exact { IfOk result (λ v. variable_of (known (map struct_of scope.now.layouts)) v ≡ resolving.resolved_global (scope_of scope.now) (global_of global.now)) }
+    ensures cells { IfOk result (λ v. v.storage.cells ≡ cell_count (resolving.resolved_global (scope_of scope.now) (global_of global.now))) }
 {
-    let cells = type_cells(alloc, scope.known.as_slice(), &global.ty)?;
-    let init = filled(alloc, scope, cells.as_slice(), global.init.as_slice())?;
     Ok(Variable {
         constant: global.constant,
-        cells,
-        init: Listed::new(init),
+        storage: storage(&scope.layouts, &global.ty)?,
+        init: first_values(alloc, scope, global.init.as_slice())?,
     })
 }
 
@@ -100,7 +91,8 @@ pub(crate) fn variables<'a>(
     scope: &Scope<'a>,
     firmware: &'a Firmware,
 ) -> Result<Listed<Variable<'a>>, AllocError>
-    ensures { IfOk result (λ vs. map variable_of vs ≡ map (resolving.resolved_global (scope_of scope.now)) (firmware_of firmware.now).globals) }
+    ensures exact { IfOk result (λ vs. map (variable_of (known (map struct_of scope.now.layouts))) vs ≡ map (resolving.resolved_global (scope_of scope.now)) (firmware_of firmware.now).globals) }
+    ensures cells { IfOk result (λ vs. map (λ (v : Variable). v.storage.cells) vs ≡ map cell_count (map (resolving.resolved_global (scope_of scope.now)) (firmware_of firmware.now).globals)) }
 {
     let globals = firmware.globals.as_slice();
     let mut variables = Vec::new(alloc);

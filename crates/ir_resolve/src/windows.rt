@@ -3,9 +3,9 @@
 ghost use Rattle.std.specs.Prelude.{◌≡◌, map, IfOk};
 ghost use Rattle.ir_resolve.specs.Windows.{window_of};
 
+use device_model::image::Window;
 use ir_model::firmware::Peripheral;
 use listed::Listed;
-use mem_bus::image::Window;
 use std::alloc::{AllocError, Global};
 
 fn window(alloc: Global, periph: &Peripheral) -> Result<Window, AllocError>

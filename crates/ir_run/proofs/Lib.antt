@@ -1,6 +1,6 @@
-pub mod Apart
-pub mod Products
-pub mod Rising
-pub mod Standing
-pub mod Stored
-pub mod Writing
+mod Elements
+mod Filling
+mod Rising
+mod Standing
+mod Stored
+mod Writing

@@ -2,9 +2,9 @@
 use Rattle.std.proofs.Common.{◌≡◌, ℕ, List, [], ◌∷◌, Option, Some, None, get_or, set, refl, sym, subst}
 use Rattle.ir_model.specs.Types.{PlainType}
 use Rattle.ir_model.specs.Layout.{cell_at}
-use Rattle.ir_model.specs.Resolved.{Program, Value}
+use Rattle.ir_model.specs.Resolved.{Program, Value, cells_of_local}
 use Rattle.ir_model.specs.State.{Frame, Memory, SourceState, Running, SourceTurn}
-use Rattle.ir_model.specs.Step.{frame_in, with_local, onward, cells_of_local, store_cell, store_local}
+use Rattle.ir_model.specs.Step.{frame_in, with_local, onward, store_cell, store_local}
 
 pub stored : (p : Program) (fr : Frame) (rest : List Frame) (m : Memory) (f n l at : ℕ) (t : PlainType) (v : Value) (held : Frame) (cell : ℕ) (s : SourceState)
     → Some held ≡ frame_in (fr ∷ rest) f n

@@ -1,9 +1,9 @@
 -- What a write of one element makes of a list that is seen through a function.
 use Rattle.std.proofs.Common.{◌≡◌, ℕ, zero, suc, List, [], ◌∷◌, map, get_or, set, refl, ap, ◌∙◌, Some}
 use Rattle.std.specs.List.{slice_get}
-use Rattle.mem_bus.specs.Bus.{without_first}
+use Rattle.device_model.specs.Input.{without_first}
 use Rattle.ir_resolve.specs.declared.value.Value.{Value as Held}
-use Rattle.ir_resolve.specs.Seen.{value_of}
+use Rattle.ir_resolve.specs.Values.{value_of}
 
 pub written : {A B : Type 0} (f : A → B) (xs : List A) (i : ℕ) (x : A) → map f (set xs i x) ≡ set (map f xs) i (f x)
 written f [] zero x = refl

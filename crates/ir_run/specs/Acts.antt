@@ -3,7 +3,8 @@ use Rattle.std.specs.Prelude.{map}
 use Rattle.ir_model.specs.State as state
 use Rattle.ir_model.specs.State.{SourceFault, SourceEnd}
 use Rattle.ir_model.specs.Step as step
-use Rattle.ir_resolve.specs.Seen.{value_of, instance_of, pointee_of}
+use Rattle.ir_resolve.specs.Values.{value_of, instance_of}
+use Rattle.ir_resolve.specs.Storages.{pointee_of}
 use Rattle.ir_run.specs.declared.frame.Frame as frames
 use Rattle.ir_run.specs.declared.outcome.FaultKind.{FaultKind}
 use Rattle.ir_run.specs.declared.outcome.FaultKind.TheVariants.{Null, Dead, NoCell, Constant}
@@ -37,6 +38,6 @@ end_of (Fault f) = state.Faulted (fault_of f)
 abbrev pub act_of : Act → step.SourceAct
 act_of (Sets to v) = step.Sets to (value_of v)
 act_of (Fails f) = step.Fails (fault_of f)
-act_of (Loads to o at t) = step.Loads to (instance_of o) at (pointee_of t)
-act_of (Stores o at t v) = step.Stores (instance_of o) at (pointee_of t) (value_of v)
+act_of (Loads to a t) = step.Loads to (instance_of a.instance) a.offset (pointee_of t)
+act_of (Stores a t v) = step.Stores (instance_of a.instance) a.offset (pointee_of t) (value_of v)
 act_of (Enters f vs) = step.Enters f (map value_of vs)

@@ -5,7 +5,7 @@ use Rattle.ir_model.specs.Resolved.{Value}
 use Rattle.ir_model.specs.State as state
 use Rattle.ir_model.specs.Step.{frame_in, with_local}
 use Rattle.ir_laws.specs.Laws.{IsOrdered}
-use Rattle.ir_resolve.specs.Seen.{value_of}
+use Rattle.ir_resolve.specs.Values.{value_of}
 use Rattle.ir_run.specs.declared.frame.Frame.{Frame}
 use Rattle.ir_run.specs.Acts.{frame_of}
 
@@ -26,8 +26,3 @@ pub record IsPlace (xs : List Frame) (func number place : ℕ) : Type 0 where
 abbrev pub Finds : List Frame → (func number : ℕ) → Option ℕ → Type 0
 Finds xs f n None = frame_in (map frame_of (reverse xs)) f n ≡ None
 Finds xs f n (Some place) = IsPlace xs f n place
-
--- the place behind that of the first frame; 0 where there is none
-abbrev pub next_place : List Frame → ℕ
-next_place [] = 0
-next_place (fr ∷ frs) = suc fr.place

@@ -4,7 +4,7 @@ use Rattle.ir_model.specs.Resolved.{Program}
 use Rattle.ir_model.specs.State.{SourceState, Running, SourceTurn}
 use Rattle.ir_model.specs.State as state
 use Rattle.ir_model.specs.Step.{source_turn, source_step}
-use Rattle.ir_laws.specs.Laws.{HasCellsApart, HasOrderedFrames, IsDeclaredAccess}
+use Rattle.ir_laws.specs.Laws.{HasOrderedFrames, IsDeclaredAccess}
 use Rattle.ir_run.specs.Acts.{end_of}
 use Rattle.ir_run.specs.declared.outcome.SourceStep.{SourceStep}
 use Rattle.ir_run.specs.declared.outcome.SourceStep.TheVariants.{Ran, Event, Ended}
@@ -18,7 +18,6 @@ pub record RunState : Type 0 where
 
 -- what is so of every run
 pub record IsRun (r : RunState) : Type 0 where
-  pub cells : HasCellsApart r.program
   pub frames : HasOrderedFrames r.state
   pub few : r.taken < 2 ^ 64
 

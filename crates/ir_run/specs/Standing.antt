@@ -1,9 +1,11 @@
 -- What stands at a place, as the definition's.
+use Rattle.std.specs.Prelude.{List}
+use Rattle.ir_model.specs.Layout.{Known}
 use Rattle.ir_model.specs.Resolved as plain
 use Rattle.ir_resolve.specs.Seen.{operation_of, exit_of}
 use Rattle.ir_run.specs.declared.place.Here.{Here}
 use Rattle.ir_run.specs.declared.place.Here.TheVariants.{Does, Ends}
 
-abbrev pub here_of : Here → plain.Here
-here_of (Does operation) = plain.Does (operation_of operation.now)
-here_of (Ends exit) = plain.Ends (exit_of exit)
+abbrev pub here_of : List Known → Here → plain.Here
+here_of ks (Does operation) = plain.Does (operation_of ks operation.now)
+here_of ks (Ends exit) = plain.Ends (exit_of exit)

@@ -2,12 +2,13 @@
 
 ghost use Rattle.std.specs.Prelude.{◌≡◌, ◌∷◌, [], map, IfOk, OnOk, OnErr};
 ghost use Rattle.std.proofs.Math.ListN.{get_or, set};
-ghost use Rattle.ir_laws.specs.Laws.{HasCellsApart};
 ghost use Rattle.ir_model.specs.Layout.{cell_at};
-ghost use Rattle.ir_model.specs.Resolved.{global_at};
+ghost use Rattle.ir_model.specs.Resolved.{cells_of_global};
 ghost use Rattle.ir_model.specs.State as state;
 ghost use Rattle.ir_model.specs.Step as step;
-ghost use Rattle.ir_resolve.specs.Seen.{value_of, pointee_of, program_of};
+ghost use Rattle.ir_resolve.specs.Values.{value_of};
+ghost use Rattle.ir_resolve.specs.Storages.{pointee_of};
+ghost use Rattle.ir_resolve.specs.Seen.{program_of};
 ghost use Rattle.ir_run.specs.Acts.{frame_of};
 ghost use Rattle.ir_run.specs.States.{running_of, memory_of, Answers};
 
@@ -36,15 +37,15 @@ pub fn keep(parts: &mut Parts, to: usize, value: Value) -> Result<(), AllocError
 
 /// The number of the cell of a type at an offset of a global.
 #[tactic(auto, unfolding(ir_model::specs::Layout::cell_at))]
-pub fn global_cell(program: &Program, global: usize, at: u32, ty: Option<&Ty>) -> Option<usize>
-    requires { HasCellsApart (program_of program.now) }
-    ensures { result ≡ cell_at (global_at (program_of program.now) global).cells at (pointee_of ty.entry) }
+pub fn global_cell(program: &Program, global: u32, at: u32, ty: Option<&Ty>) -> Option<u32>
+    ensures { result ≡ cell_at (cells_of_global (program_of program.now) global) at (pointee_of ty.entry) }
 {
     let globals = program.globals.as_slice();
-    if global >= globals.len() {
+    let number = global as usize;
+    if number >= globals.len() {
         return None;
     }
-    cell_number(globals[global].cells.as_slice(), at, ty)
+    cell_number(&program.layouts, globals[number].storage.ty, at, ty)
 }
 
 /// A load of a cell of a global.
@@ -52,8 +53,8 @@ pub fn global_cell(program: &Program, global: usize, at: u32, ty: Option<&Ty>) -
 pub fn load_global(
     parts: &mut Parts,
     to: usize,
-    global: usize,
-    cell: Option<usize>,
+    global: u32,
+    cell: Option<u32>,
 ) -> Result<SourceStep, AllocError>
     ensures ok { IfOk result (λ a. Answers (step.load_cell (frame_of parts.old.top) (map frame_of parts.old.below) (memory_of parts.old) to (state.GlobalObject global) (get_or (memory_of parts.old).globals global []) cell) a parts.new) }
     ensures err { OnErr result (running_of parts.new ≡ running_of parts.old) }
@@ -61,7 +62,7 @@ pub fn load_global(
     match cell {
         None => Ok(SourceStep::Ended(SourceEnd::Fault(FaultKind::NoCell))),
         Some(cell) => {
-            let value = parts.globals.at(global, cell);
+            let value = parts.globals.at(global as usize, cell as usize);
             keep(parts, to, value)?;
             Ok(SourceStep::Ran)
         }
@@ -76,15 +77,15 @@ pub fn load_global(
 #[tactic(auto, using(crate::proofs::Writing::written_global))]
 pub fn write_global(
     parts: &mut Parts,
-    global: usize,
-    cell: usize,
+    global: u32,
+    cell: u32,
     value: Value,
 ) -> Result<(), AllocError>
     ensures ok { OnOk result (running_of parts.new ≡ state.Running (step.onward (frame_of parts.old.top) ∷ map frame_of parts.old.below) (record (memory_of parts.old) { globals = set (memory_of parts.old).globals global (set (get_or (memory_of parts.old).globals global []) cell (value_of value)) })) }
     ensures err { OnErr result (running_of parts.new ≡ running_of parts.old) }
 {
     advance(&mut parts.top)?;
-    parts.globals.put(global, cell, value);
+    parts.globals.put(global as usize, cell as usize, value);
     Ok(())
 }
 
@@ -95,10 +96,10 @@ pub fn write_global(
 /// There is no number for the next place; the state is as before.
 pub fn store_global(
     parts: &mut Parts,
-    global: usize,
+    global: u32,
     constant: bool,
     value: Value,
-    cell: Option<usize>,
+    cell: Option<u32>,
 ) -> Result<SourceStep, AllocError>
     ensures ok { IfOk result (λ a. Answers (step.store_global (frame_of parts.old.top) (map frame_of parts.old.below) (memory_of parts.old) global constant (value_of value) cell) a parts.new) }
     ensures err { OnErr result (running_of parts.new ≡ running_of parts.old) }

@@ -1,33 +1,28 @@
 //! What an instruction asks for.
 
-ghost use Rattle.std.specs.Prelude.{◌≡◌, ◌*◌, map, IfOk};
+ghost use Rattle.std.specs.Prelude.{◌≡◌, ℕ, map, IfOk};
 ghost use Rattle.words.specs.Arithmetic.{word};
+ghost use Rattle.ir_model.specs.Plain.{struct_of};
+ghost use Rattle.ir_model.specs.Layout.{known};
 ghost use Rattle.ir_model.specs.Step as step;
 ghost use Rattle.ir_model.specs.Resolved as plain;
-ghost use Rattle.ir_resolve.specs.Seen.{value_of, operation_of, target_of, pointee_of, product};
+ghost use Rattle.ir_resolve.specs.Values.{value_of};
+ghost use Rattle.ir_resolve.specs.Storages.{pointee_of};
+ghost use Rattle.ir_resolve.specs.Seen.{operation_of, target_of};
 ghost use Rattle.ir_run.specs.Acts.{frame_of, act_of};
 
 use crate::arithmetic::{binary, bit, compared, number_in};
 use crate::frame::Frame;
 use crate::outcome::FaultKind;
 use crate::request::Act;
+use crate::sizes::pointee_size;
 use ir_model::types::Ty;
 use ir_resolve::program::{Operation, Target};
-use ir_resolve::value::{Instance, Value};
+use ir_resolve::value::{Address, Instance, Value};
+use layouts::table::Layouts;
 use listed::Listed;
 use std::alloc::{AllocError, Global};
 use words::operations;
-
-// An index times the size of an element.
-fn scaled(index: u32, size: &[u32]) -> u32
-    ensures { result ≡ word (index * product size.now) }
-{
-    let mut scaled = index;
-    for i in 0..size.len() {
-        scaled = operations::multiply(scaled, size[i]);
-    }
-    scaled
-}
 
 fn address_of(frame: &Frame, of: Target) -> Value
     ensures { value_of result ≡ step.address_of (frame_of frame.now) (target_of of) }
@@ -36,15 +31,12 @@ fn address_of(frame: &Frame, of: Target) -> Value
         Target::Global(global) => Instance::Global(global),
         Target::Periph(periph) => Instance::Periph(periph),
         Target::Local(local) => Instance::Local {
+            local,
             func: frame.func,
             frame: frame.number,
-            local,
         },
     };
-    Value::At {
-        instance,
-        offset: 0,
-    }
+    Value::at(instance, 0)
 }
 
 fn arguments(alloc: Global, frame: &Frame, registers: &[usize]) -> Result<Listed<Value>, AllocError>
@@ -65,18 +57,18 @@ fn register(frame: &Frame, number: usize) -> Value
 }
 
 #[tactic(auto, unfolding(ir_model::specs::Step::act))]
-fn element<'a>(frame: &Frame, to: usize, base: usize, index: usize, size: &[u32]) -> Act<'a>
-    ensures { act_of result ≡ step.act (frame_of frame.now) (plain.Elem to base index (product size.now)) }
+fn element_at<'a>(frame: &Frame, to: usize, base: usize, index: usize, size: u32) -> Act<'a>
+    ensures { (exact : ℕ) → size ≡ word exact → act_of result ≡ step.act (frame_of frame.now) (plain.Elem to base index exact) }
 {
-    match register(frame, base) {
-        Value::At { instance, offset } => Act::Sets {
-            to,
-            value: Value::At {
-                instance,
-                offset: operations::add(offset, scaled(number_in(register(frame, index)), size)),
-            },
-        },
-        Value::Number(_) | Value::Code(_) | Value::Null => Act::Fails(FaultKind::Null),
+    match register(frame, base).address() {
+        Some(Address { instance, offset }) => {
+            let behind = operations::multiply(number_in(register(frame, index)), size);
+            Act::Sets {
+                to,
+                value: Value::at(instance, operations::add(offset, behind)),
+            }
+        }
+        None => Act::Fails(FaultKind::Null),
     }
 }
 
@@ -84,15 +76,12 @@ fn element<'a>(frame: &Frame, to: usize, base: usize, index: usize, size: &[u32]
 fn field<'a>(frame: &Frame, to: usize, base: usize, by: u32) -> Act<'a>
     ensures { act_of result ≡ step.act (frame_of frame.now) (plain.Field to base by) }
 {
-    match register(frame, base) {
-        Value::At { instance, offset } => Act::Sets {
+    match register(frame, base).address() {
+        Some(Address { instance, offset }) => Act::Sets {
             to,
-            value: Value::At {
-                instance,
-                offset: operations::add(offset, by),
-            },
+            value: Value::at(instance, operations::add(offset, by)),
         },
-        Value::Number(_) | Value::Code(_) | Value::Null => Act::Fails(FaultKind::Null),
+        None => Act::Fails(FaultKind::Null),
     }
 }
 
@@ -100,14 +89,9 @@ fn field<'a>(frame: &Frame, to: usize, base: usize, by: u32) -> Act<'a>
 fn load<'a>(frame: &Frame, to: usize, from: usize, ty: Option<&'a Ty>) -> Act<'a>
     ensures { act_of result ≡ step.act (frame_of frame.now) (plain.Load to from (pointee_of ty.entry)) }
 {
-    match register(frame, from) {
-        Value::At { instance, offset } => Act::Loads {
-            to,
-            instance,
-            offset,
-            ty,
-        },
-        Value::Number(_) | Value::Code(_) | Value::Null => Act::Fails(FaultKind::Null),
+    match register(frame, from).address() {
+        Some(from) => Act::Loads { to, from, ty },
+        None => Act::Fails(FaultKind::Null),
     }
 }
 
@@ -115,14 +99,13 @@ fn load<'a>(frame: &Frame, to: usize, from: usize, ty: Option<&'a Ty>) -> Act<'a
 fn store<'a>(frame: &Frame, to: usize, from: usize, ty: Option<&'a Ty>) -> Act<'a>
     ensures { act_of result ≡ step.act (frame_of frame.now) (plain.Store to from (pointee_of ty.entry)) }
 {
-    match register(frame, to) {
-        Value::At { instance, offset } => Act::Stores {
-            instance,
-            offset,
+    match register(frame, to).address() {
+        Some(to) => Act::Stores {
+            to,
             ty,
             value: register(frame, from),
         },
-        Value::Number(_) | Value::Code(_) | Value::Null => Act::Fails(FaultKind::Null),
+        None => Act::Fails(FaultKind::Null),
     }
 }
 
@@ -140,7 +123,11 @@ fn indirect<'a>(
             func,
             args: arguments(alloc, frame, args)?,
         }),
-        Value::Number(_) | Value::At { .. } | Value::Null => Ok(Act::Fails(FaultKind::Null)),
+        Value::Number(_)
+        | Value::Null
+        | Value::AtGlobal { .. }
+        | Value::AtPeriph { .. }
+        | Value::AtLocal { .. } => Ok(Act::Fails(FaultKind::Null)),
     }
 }
 
@@ -154,10 +141,11 @@ fn sets<'a>(to: usize, value: Value) -> Act<'a>
 #[tactic(auto, unfolding(ir_model::specs::Step::act))]
 pub fn act<'a>(
     alloc: Global,
+    layouts: &Layouts<'a>,
     frame: &Frame,
     operation: &Operation<'a>,
 ) -> Result<Act<'a>, AllocError>
-    ensures { IfOk result (λ a. act_of a ≡ step.act (frame_of frame.now) (operation_of operation.now)) }
+    ensures { IfOk result (λ a. act_of a ≡ step.act (frame_of frame.now) (operation_of (known (map struct_of layouts.now)) operation.now)) }
 {
     match operation {
         Operation::Const { to, value } => Ok(sets(*to, Value::Number(*value))),
@@ -184,8 +172,11 @@ pub fn act<'a>(
             to,
             base,
             index,
-            size,
-        } => Ok(element(frame, *to, *base, *index, size.as_slice())),
+            element,
+        } => {
+            let size = pointee_size(layouts, *element)?;
+            Ok(element_at(frame, *to, *base, *index, size))
+        }
         Operation::Field { to, base, offset } => Ok(field(frame, *to, *base, *offset)),
         Operation::Load { to, from, ty } => Ok(load(frame, *to, *from, *ty)),
         Operation::Store { to, from, ty } => Ok(store(frame, *to, *from, *ty)),

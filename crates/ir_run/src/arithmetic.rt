@@ -2,7 +2,7 @@
 
 ghost use Rattle.std.specs.Prelude.{◌≡◌};
 ghost use Rattle.ir_model.specs.Step as step;
-ghost use Rattle.ir_resolve.specs.Seen.{value_of};
+ghost use Rattle.ir_resolve.specs.Values.{value_of};
 
 use ir_model::firmware::{BinOp, CmpOp};
 use ir_resolve::value::Value;
@@ -59,6 +59,10 @@ pub fn number_in(value: Value) -> u32
 {
     match value {
         Value::Number(number) => number,
-        Value::Code(_) | Value::Null | Value::At { .. } => 0,
+        Value::Code(_)
+        | Value::Null
+        | Value::AtGlobal { .. }
+        | Value::AtPeriph { .. }
+        | Value::AtLocal { .. } => 0,
     }
 }

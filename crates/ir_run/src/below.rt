@@ -5,10 +5,11 @@ ghost use Rattle.std.specs.Option.{option_map, option_copied};
 ghost use Rattle.std.proofs.Math.ListN.{get_or, set};
 ghost use Rattle.ir_model.specs.State as state;
 ghost use Rattle.ir_model.specs.Step as step;
-ghost use Rattle.ir_resolve.specs.Seen.{value_of};
+ghost use Rattle.ir_resolve.specs.Values.{value_of};
 ghost use Rattle.ir_run.specs.declared.frame.Frame.{Frame};
 ghost use Rattle.ir_run.specs.Acts.{frame_of};
-ghost use Rattle.ir_run.specs.Found.{AreOrdered, next_place};
+ghost use Rattle.std.specs.List.{slice_get};
+ghost use Rattle.ir_run.specs.Found.{AreOrdered};
 
 use crate::frame::Frame;
 use crate::search::place_of;
@@ -59,7 +60,7 @@ impl Below {
     }
 
     /// The frame of a number, where it is one of this function.
-    pub fn frame(&self, func: usize, number: u64) -> Option<&Frame>
+    pub fn frame(&self, func: u16, number: u64) -> Option<&Frame>
         requires { AreOrdered (map frame_of self.now) }
         ensures { option_map frame_of (option_copied result) ≡ step.frame_in (map frame_of self.now) func number }
     {
@@ -71,27 +72,22 @@ impl Below {
     }
 
     /// Puts a value into a cell of a local of the frame of a number.
-    pub fn put_cell(&mut self, func: usize, number: u64, local: usize, cell: usize, value: Value)
+    pub fn put_cell(&mut self, func: u16, number: u64, local: u8, cell: u32, value: Value)
         requires { AreOrdered (map frame_of self.old) }
         ensures { (held : state.Frame) → step.frame_in (map frame_of self.old) func number ≡ Some held →
             map frame_of self.new ≡ step.with_local (map frame_of self.old) func number local (set (get_or held.locals local []) cell (value_of value)) }
     {
         if let Some(place) = place_of(self.frames.as_slice(), func, number) {
-            self.frames[place].locals.put(local, cell, value);
+            self.frames[place]
+                .locals
+                .put(usize::from(local), cell as usize, value);
         }
     }
 
-    /// The place behind the one at which the first frame stands; 0 where there is no frame.
-    ///
-    /// # Errors
-    ///
-    /// There is no number for it.
-    pub fn next_place(&self) -> Result<usize, AllocError>
-        ensures { IfOk result (λ place. place ≡ next_place self.now) }
+    /// The first frame, where there is one.
+    pub fn first(&self) -> Option<&Frame>
+        ensures { option_copied result ≡ slice_get self.now 0 }
     {
-        match self.frames.last() {
-            Some(frame) => frame.place.checked_add(1).ok_or(AllocError),
-            None => Ok(0),
-        }
+        self.frames.last()
     }
 }

@@ -5,7 +5,8 @@ ghost use Rattle.std.proofs.Math.ListN.{get_or};
 ghost use Rattle.ir_model.specs.Resolved as plain;
 ghost use Rattle.ir_model.specs.State as state;
 ghost use Rattle.ir_model.specs.Step as step;
-ghost use Rattle.ir_resolve.specs.Seen.{value_of, exit_of, program_of};
+ghost use Rattle.ir_resolve.specs.Values.{value_of};
+ghost use Rattle.ir_resolve.specs.Seen.{exit_of, program_of};
 ghost use Rattle.ir_run.specs.Acts.{frame_of};
 ghost use Rattle.ir_run.specs.States.{running_of, memory_of, Answers};
 
@@ -29,7 +30,7 @@ pub fn enter(
     alloc: Global,
     program: &Program,
     parts: &mut Parts,
-    func: usize,
+    func: u16,
     args: &[Value],
 ) -> Result<(), AllocError>
     ensures ok { OnOk result (running_of parts.new ≡ state.Running (state.frame_of (program_of program.now) func parts.old.made (map value_of args.now) ∷ frame_of parts.old.top ∷ map frame_of parts.old.below) (record (memory_of parts.old) { made = suc parts.old.made })) }
@@ -88,7 +89,10 @@ pub fn go_back(program: &Program, parts: &mut Parts, value: Value) -> Result<Sou
     ensures ok { IfOk result (λ a. Answers (step.back_to (program_of program.now) (value_of value) (map frame_of parts.old.below) (memory_of parts.old)) a parts.new) }
     ensures err { OnErr result (running_of parts.new ≡ running_of parts.old) }
 {
-    let place = parts.below.next_place()?;
+    let place = match parts.below.first() {
+        Some(frame) => frame.place.checked_add(1).ok_or(AllocError)?,
+        None => 0,
+    };
     let Some(mut caller) = parts.below.pop() else {
         return Ok(SourceStep::Ended(SourceEnd::Returned));
     };

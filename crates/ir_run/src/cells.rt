@@ -1,45 +1,31 @@
 //! Cells and ports.
 
-ghost use Rattle.std.specs.Prelude.{◌≡◌, ◌<◌};
+ghost use Rattle.std.specs.Prelude.{◌≡◌, ◌<◌, map};
 ghost use Rattle.words.specs.Bytes.{cut};
 ghost use Rattle.ir_model.specs.Types as types;
-ghost use Rattle.ir_model.specs.Types.{type_of, same};
-ghost use Rattle.ir_model.specs.Layout.{cell_at};
+ghost use Rattle.ir_model.specs.Types.{type_of};
+ghost use Rattle.ir_model.specs.Layout.{known, shape, cell_at};
+ghost use Rattle.ir_model.specs.Plain.{struct_of};
 ghost use Rattle.ir_model.specs.Step as step;
-ghost use Rattle.ir_resolve.specs.Seen.{value_of, cells_of, pointee_of};
-ghost use Rattle.ir_laws.specs.Laws.{AreApart};
+ghost use Rattle.ir_resolve.specs.Values.{value_of};
+ghost use Rattle.ir_resolve.specs.Storages.{pointee_of};
 ghost use Rattle.ir_run.specs.Cells.{is_port};
 
-use ir_model::equal::same_type;
 use ir_model::types::Ty;
 use ir_resolve::lookup::is_integer;
-use ir_resolve::program::CellSpot;
 use ir_resolve::value::Value;
+use layouts::table::Layouts;
 
-// Whether a type is this one; none is u32.
-fn is_type(ty: &Ty, other: Option<&Ty>) -> bool
-    ensures { result ≡ same (type_of ty.now) (pointee_of other.entry) }
+/// The number of the cell at an offset of an object of a type; `ty` is the cell's type, and none is u32.
+pub fn cell_number(layouts: &Layouts, object: &Ty, at: u32, ty: Option<&Ty>) -> Option<u32>
+    ensures { result ≡ cell_at (shape (known (map struct_of layouts.now)) (type_of object.now)).cells at (pointee_of ty.entry) }
 {
-    match other {
-        Some(other) => same_type(ty, other),
-        None => match ty {
-            Ty::U32 => true,
-            Ty::U8 | Ty::U16 | Ty::Ptr(_) | Ty::Array(_, _) | Ty::Named(_) | Ty::Callee(_) => false,
-        },
-    }
-}
-
-/// The number of the cell of a type at an offset. Cells that lie apart have rising offsets, so one at most has the
-/// offset, and it is found by halving.
-pub fn cell_number(cells: &[CellSpot], at: u32, ty: Option<&Ty>) -> Option<usize>
-    requires { AreApart (cells_of cells.now) }
-    ensures { result ≡ cell_at (cells_of cells.now) at (pointee_of ty.entry) }
-{
-    let i = cells.partition_point(|cell| cell.at < at);
-    if i < cells.len() && cells[i].at == at && is_type(cells[i].ty, ty) {
-        Some(i)
-    } else {
-        None
+    match ty {
+        Some(ty) => layouts.cell_number(object, at, ty),
+        None => {
+            let word = Ty::U32;
+            layouts.cell_number(object, at, &word)
+        }
     }
 }
 
@@ -103,6 +89,10 @@ pub fn cut_value(ty: Option<&Ty>, value: Value) -> Value
                 value
             }
         }
-        Value::Code(_) | Value::Null | Value::At { .. } => value,
+        Value::Code(_)
+        | Value::Null
+        | Value::AtGlobal { .. }
+        | Value::AtPeriph { .. }
+        | Value::AtLocal { .. } => value,
     }
 }

@@ -5,16 +5,21 @@ ghost use Rattle.std.proofs.Math.ListN.{get_or};
 ghost use Rattle.ir_model.specs.Types.{type_of};
 ghost use Rattle.ir_model.specs.Resolve.{zero_of};
 ghost use Rattle.ir_model.specs.State as state;
-ghost use Rattle.ir_resolve.specs.Seen.{value_of, cells_of, routine_of, program_of};
+ghost use Rattle.ir_resolve.specs.Values.{value_of};
+ghost use Rattle.ir_resolve.specs.Storages.{shape_of};
+ghost use Rattle.ir_model.specs.Plain.{struct_of};
+ghost use Rattle.ir_model.specs.Layout.{known, shape};
+ghost use Rattle.layouts.specs.Cells.{lent_types, types_of};
+ghost use Rattle.ir_resolve.specs.Seen.{routine_of, program_of};
 ghost use Rattle.ir_run.specs.Acts.{frame_of};
 
 use crate::contents::{Contents, Values};
 use crate::frame::Frame;
 use ir_model::types::Ty;
-use ir_resolve::program::{CellSpot, Program, Routine};
+use ir_resolve::program::{Program, Routine, Storage};
 use ir_resolve::value::Value;
 use ir_resolve::variables::zero;
-use listed::Listed;
+use layouts::table::Layouts;
 use std::alloc::{AllocError, Global};
 
 // What a register holds when its function is entered.
@@ -39,38 +44,67 @@ fn entered(alloc: Global, args: &[Value], types: &[&Ty]) -> Result<Values, Alloc
     Ok(Values::new(values))
 }
 
-fn zero_cells(alloc: Global, cells: &[CellSpot]) -> Result<Values, AllocError>
-    ensures { IfOk result (λ vs. map value_of vs ≡ state.zero_cells (cells_of cells.now)) }
+// The types of the cells of a type, which are fewer than so many.
+fn cell_types<'a>(
+    alloc: Global,
+    layouts: &Layouts<'a>,
+    ty: &'a Ty,
+    most: usize,
+) -> Result<Vec<&'a Ty>, AllocError>
+    ensures { IfOk result (λ ts. lent_types ts.items ≡ types_of (shape (known (map struct_of layouts.now)) (type_of ty.now)).cells) }
 {
-    let mut values = Vec::new(alloc);
-    for i in 0..cells.len() {
-        values.push(zero(cells[i].ty))?;
+    let mut types = Vec::new(alloc);
+    layouts.put_cell_types(ty, most, &mut types)?;
+    if types.len() >= most {
+        return Err(AllocError);
     }
-    Ok(Values::new(values))
+    Ok(types)
 }
 
-fn zero_locals(alloc: Global, locals: &[Listed<CellSpot>]) -> Result<Contents, AllocError>
-    ensures { IfOk result (λ ls. map (map value_of) ls ≡ map state.zero_cells (map cells_of locals.now)) }
+/// What the cells of an object of a type hold before they are written, the first of them these values.
+///
+/// # Errors
+///
+/// There is no memory for them.
+pub fn first_contents<'a>(
+    alloc: Global,
+    layouts: &Layouts<'a>,
+    ty: &'a Ty,
+    first: &[Value],
+) -> Result<Values, AllocError>
+    ensures { IfOk result (λ vs. map value_of vs ≡ state.entered (map value_of first.now) (types_of (shape (known (map struct_of layouts.now)) (type_of ty.now)).cells)) }
+{
+    let types = cell_types(alloc, layouts, ty, usize::MAX)?;
+    entered(alloc, first, types.as_slice())
+}
+
+fn zero_locals<'a>(
+    alloc: Global,
+    layouts: &Layouts<'a>,
+    locals: &[Storage<'a>],
+) -> Result<Contents, AllocError>
+    ensures { IfOk result (λ ls. map (map value_of) ls ≡ map state.zero_local (map (shape_of (known (map struct_of layouts.now))) locals.now)) }
 {
     let mut objects = Vec::new(alloc);
     for i in 0..locals.len() {
-        let cells = zero_cells(alloc, locals[i].as_slice())?;
+        let cells = first_contents(alloc, layouts, locals[i].ty, &[])?;
         objects.push(cells)?;
     }
     Ok(Contents::new(objects))
 }
 
-fn routine_frame(
+fn routine_frame<'a>(
     alloc: Global,
-    routine: &Routine,
-    func: usize,
+    layouts: &Layouts<'a>,
+    routine: &Routine<'a>,
+    func: u16,
     number: u64,
     args: &[Value],
 ) -> Result<Frame, AllocError>
-    ensures { IfOk result (λ f. frame_of f ≡ record { func = func; block = 0; place = 0; number = number; regs = state.entered (map value_of args.now) (routine_of routine.now).regs; locals = map state.zero_cells (routine_of routine.now).locals }) }
+    ensures { IfOk result (λ f. frame_of f ≡ record { func = func; block = 0; place = 0; number = number; regs = state.entered (map value_of args.now) (routine_of (known (map struct_of layouts.now)) routine.now).regs; locals = map state.zero_local (routine_of (known (map struct_of layouts.now)) routine.now).locals }) }
 {
     let regs = entered(alloc, args, routine.registers.as_slice())?;
-    let locals = zero_locals(alloc, routine.locals.as_slice())?;
+    let locals = zero_locals(alloc, layouts, routine.locals.as_slice())?;
     Ok(Frame {
         func,
         block: 0,
@@ -85,15 +119,23 @@ fn routine_frame(
 pub fn new_frame(
     alloc: Global,
     program: &Program,
-    func: usize,
+    func: u16,
     number: u64,
     args: &[Value],
 ) -> Result<Frame, AllocError>
     ensures { IfOk result (λ f. frame_of f ≡ state.frame_of (program_of program.now) func number (map value_of args.now)) }
 {
     let routines = program.funcs.as_slice();
-    if func < routines.len() {
-        return routine_frame(alloc, &routines[func], func, number, args);
+    let place = usize::from(func);
+    if place < routines.len() {
+        return routine_frame(
+            alloc,
+            &program.layouts,
+            &routines[place],
+            func,
+            number,
+            args,
+        );
     }
     Ok(Frame {
         func,

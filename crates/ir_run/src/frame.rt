@@ -6,7 +6,7 @@ use crate::contents::{Contents, Values};
 #[derive(Drop)]
 pub struct Frame {
     /// Its number.
-    pub func: usize,
+    pub func: u16,
     /// The block at which it stands.
     pub block: usize,
     /// The instruction of the block, or behind them its end.

@@ -21,7 +21,6 @@ mod registers;
 mod request;
 pub mod run;
 mod search;
+mod sizes;
 mod starting;
-#[cfg(test)]
-mod tests;
 mod turn;

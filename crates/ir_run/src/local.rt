@@ -4,9 +4,9 @@
 #[derive(Clone, Copy)]
 pub struct Local {
     /// The function's number.
-    pub func: usize,
+    pub func: u16,
     /// The frame's number.
     pub frame: u64,
     /// The local's number.
-    pub local: usize,
+    pub local: u8,
 }

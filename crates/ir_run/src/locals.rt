@@ -3,11 +3,14 @@
 ghost use Rattle.std.specs.Prelude.{◌≡◌, ◌∷◌, [], map, Some, IfOk, OnOk, OnErr};
 ghost use Rattle.std.specs.Option.{option_map, option_copied};
 ghost use Rattle.std.proofs.Math.ListN.{get_or, set};
-ghost use Rattle.ir_laws.specs.Laws.{HasCellsApart, HasOrderedFrames};
+ghost use Rattle.ir_laws.specs.Laws.{HasOrderedFrames};
 ghost use Rattle.ir_model.specs.Layout.{cell_at};
+ghost use Rattle.ir_model.specs.Resolved.{cells_of_local};
 ghost use Rattle.ir_model.specs.State as state;
 ghost use Rattle.ir_model.specs.Step as step;
-ghost use Rattle.ir_resolve.specs.Seen.{value_of, pointee_of, program_of};
+ghost use Rattle.ir_resolve.specs.Values.{value_of};
+ghost use Rattle.ir_resolve.specs.Storages.{pointee_of};
+ghost use Rattle.ir_resolve.specs.Seen.{program_of};
 ghost use Rattle.ir_run.specs.Acts.{frame_of};
 ghost use Rattle.ir_run.specs.States.{running_of, memory_of, Answers};
 
@@ -25,19 +28,20 @@ use std::alloc::AllocError;
 
 /// The number of the cell of a type at an offset of a local.
 #[tactic(auto, unfolding(ir_model::specs::Layout::cell_at))]
-pub fn local_cell(program: &Program, of: Local, at: u32, ty: Option<&Ty>) -> Option<usize>
-    requires { HasCellsApart (program_of program.now) }
-    ensures { result ≡ cell_at (step.cells_of_local (program_of program.now) of.func of.local) at (pointee_of ty.entry) }
+pub fn local_cell(program: &Program, of: Local, at: u32, ty: Option<&Ty>) -> Option<u32>
+    ensures { result ≡ cell_at (cells_of_local (program_of program.now) of.func of.local) at (pointee_of ty.entry) }
 {
     let routines = program.funcs.as_slice();
-    if of.func >= routines.len() {
+    let func = usize::from(of.func);
+    if func >= routines.len() {
         return None;
     }
-    let locals = routines[of.func].locals.as_slice();
-    if of.local >= locals.len() {
+    let locals = routines[func].locals.as_slice();
+    let local = usize::from(of.local);
+    if local >= locals.len() {
         return None;
     }
-    cell_number(locals[of.local].as_slice(), at, ty)
+    cell_number(&program.layouts, locals[local].ty, at, ty)
 }
 
 // The frame that holds a local, if its function has not returned.
@@ -65,8 +69,7 @@ pub fn load_local(
     at: u32,
     ty: Option<&Ty>,
 ) -> Result<SourceStep, AllocError>
-    requires cells { HasCellsApart (program_of program.now) }
-    requires frames { HasOrderedFrames (running_of parts.old) }
+    requires { HasOrderedFrames (running_of parts.old) }
     ensures ok { IfOk result (λ a. Answers (step.load_local (program_of program.now) (frame_of parts.old.top) (map frame_of parts.old.below) (memory_of parts.old) to of.func of.local at (pointee_of ty.entry) (step.frame_in (frame_of parts.old.top ∷ map frame_of parts.old.below) of.func of.frame)) a parts.new) }
     ensures err { OnErr result (running_of parts.new ≡ running_of parts.old) }
 {
@@ -76,14 +79,14 @@ pub fn load_local(
     let Some(cell) = local_cell(program, of, at, ty) else {
         return Ok(SourceStep::Ended(SourceEnd::Fault(FaultKind::NoCell)));
     };
-    let value = frame.locals.at(of.local, cell);
+    let value = frame.locals.at(usize::from(of.local), cell as usize);
     keep(parts, to, value)?;
     Ok(SourceStep::Ran)
 }
 
 // Writes a cell of a local, and goes on.
 #[tactic(auto, using(crate::proofs::Writing::written_global))]
-fn write_local(parts: &mut Parts, of: Local, cell: usize, value: Value) -> Result<(), AllocError>
+fn write_local(parts: &mut Parts, of: Local, cell: u32, value: Value) -> Result<(), AllocError>
     requires { HasOrderedFrames (running_of parts.old) }
     ensures ok { OnOk result ((held : state.Frame) → step.frame_in (frame_of parts.old.top ∷ map frame_of parts.old.below) of.func of.frame ≡ Some held →
         running_of parts.new ≡ state.Running (step.with_local (step.onward (frame_of parts.old.top) ∷ map frame_of parts.old.below) of.func of.frame of.local (set (get_or held.locals of.local []) cell (value_of value))) (memory_of parts.old)) }
@@ -91,7 +94,10 @@ fn write_local(parts: &mut Parts, of: Local, cell: usize, value: Value) -> Resul
 {
     advance(&mut parts.top)?;
     if parts.top.number == of.frame && parts.top.func == of.func {
-        parts.top.locals.put(of.local, cell, value);
+        parts
+            .top
+            .locals
+            .put(usize::from(of.local), cell as usize, value);
     } else {
         parts
             .below
@@ -113,8 +119,7 @@ pub fn store_local(
     ty: Option<&Ty>,
     value: Value,
 ) -> Result<SourceStep, AllocError>
-    requires cells { HasCellsApart (program_of program.now) }
-    requires frames { HasOrderedFrames (running_of parts.old) }
+    requires { HasOrderedFrames (running_of parts.old) }
     ensures ok { IfOk result (λ a. Answers (step.store_local (program_of program.now) (frame_of parts.old.top) (map frame_of parts.old.below) (memory_of parts.old) of.func of.frame of.local at (pointee_of ty.entry) (value_of value) (step.frame_in (frame_of parts.old.top ∷ map frame_of parts.old.below) of.func of.frame)) a parts.new) }
     ensures err { OnErr result (running_of parts.new ≡ running_of parts.old) }
 {

@@ -1,6 +1,6 @@
 //! What a step answers.
 
-use mem_bus::event::Event;
+use device_model::event::Event;
 use thiserror::Error;
 
 /// A fault of the source.

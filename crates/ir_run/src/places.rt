@@ -1,9 +1,10 @@
 //! Look-ups by the numbers of a function, a block and a place.
 
-ghost use Rattle.std.specs.Prelude.{◌≡◌};
+ghost use Rattle.std.specs.Prelude.{◌≡◌, List};
+ghost use Rattle.ir_model.specs.Layout.{Known};
 ghost use Rattle.ir_model.specs.Resolved as plain;
 ghost use Rattle.ir_model.specs.Step as step;
-ghost use Rattle.ir_resolve.specs.Seen.{operation_of, sequence_of, program_of};
+ghost use Rattle.ir_resolve.specs.Seen.{operation_of, sequence_of, known_of, program_of};
 ghost use Rattle.ir_run.specs.Standing.{here_of};
 
 use crate::frame::Frame;
@@ -11,9 +12,8 @@ use crate::place::Here;
 use ir_resolve::program::{Exit, Operation, Program, Sequence};
 
 // What stands at a place of a block.
-#[tactic(auto, using(crate::proofs::Standing::here_before, crate::proofs::Standing::here_behind))]
 fn here_in<'p, 'a>(sequence: &'p Sequence<'a>, place: usize) -> Here<'p, 'a>
-    ensures { here_of result ≡ plain.here_in (sequence_of sequence.now).insts (sequence_of sequence.now).term place }
+    ensures { (ks : List Known) → here_of ks result ≡ plain.here_in (sequence_of ks sequence.now).insts (sequence_of ks sequence.now).term place }
 {
     let operations = sequence.operations.as_slice();
     if place < operations.len() {
@@ -25,19 +25,15 @@ fn here_in<'p, 'a>(sequence: &'p Sequence<'a>, place: usize) -> Here<'p, 'a>
 
 /// What stands at a place of a function: behind the instructions of its block the block's end. A block that is not
 /// there is empty, and goes to the first.
-pub fn here<'p, 'a>(
-    program: &'p Program<'a>,
-    func: usize,
-    block: usize,
-    place: usize,
-) -> Here<'p, 'a>
-    ensures { here_of result ≡ plain.here (program_of program.now) func block place }
+pub fn here<'p, 'a>(program: &'p Program<'a>, func: u16, block: usize, place: usize) -> Here<'p, 'a>
+    ensures { here_of (known_of program.now) result ≡ plain.here (program_of program.now) func block place }
 {
     let routines = program.funcs.as_slice();
-    if func >= routines.len() {
+    let number = usize::from(func);
+    if number >= routines.len() {
         return Here::Ends(Exit::Jump(0));
     }
-    let blocks = routines[func].blocks.as_slice();
+    let blocks = routines[number].blocks.as_slice();
     if block >= blocks.len() {
         return Here::Ends(Exit::Jump(0));
     }
@@ -56,7 +52,7 @@ pub fn result_register(program: &Program, frame: &Frame) -> Option<usize>
 
 // The register in which an instruction keeps what a function returned.
 fn kept_in(operation: &Operation) -> Option<usize>
-    ensures { result ≡ step.result_register (plain.Does (operation_of operation.now)) }
+    ensures { (ks : List Known) → result ≡ step.result_register (plain.Does (operation_of ks operation.now)) }
 {
     match operation {
         Operation::Call {

@@ -3,7 +3,9 @@
 ghost use Rattle.std.specs.Prelude.{◌≡◌, ◌∷◌, [], map, true, IfOk, OnErr};
 ghost use Rattle.std.proofs.Math.ListN.{get_or};
 ghost use Rattle.ir_model.specs.Step as step;
-ghost use Rattle.ir_resolve.specs.Seen.{value_of, pointee_of, program_of};
+ghost use Rattle.ir_resolve.specs.Values.{value_of};
+ghost use Rattle.ir_resolve.specs.Storages.{pointee_of};
+ghost use Rattle.ir_resolve.specs.Seen.{program_of};
 ghost use Rattle.ir_run.specs.Acts.{frame_of};
 ghost use Rattle.ir_run.specs.States.{running_of, memory_of, Answers};
 
@@ -12,30 +14,32 @@ use crate::cells::{cut_number, has_port, width_of};
 use crate::outcome::{SourceEnd, SourceStep};
 use crate::parts::Parts;
 use crate::registers::{advance, write_register};
+use device_model::event::Event;
 use ir_model::types::Ty;
 use ir_resolve::program::Program;
 use ir_resolve::value::Value;
-use mem_bus::event::Event;
 use std::alloc::AllocError;
 
-/// The compartment of a function; 0 where there is none.
-pub fn compartment_of(compartments: &[u32], func: usize) -> u32
-    ensures { result ≡ get_or compartments.now func 0 }
+// The compartment of the running function; 0 where it has none.
+fn running_compartment(parts: &Parts, compartments: &[u32]) -> u32
+    ensures { result ≡ get_or compartments.now (frame_of parts.now.top).func 0 }
 {
-    if func < compartments.len() {
-        compartments[func]
+    let number = usize::from(parts.top.func);
+    if number < compartments.len() {
+        compartments[number]
     } else {
         0
     }
 }
 
 /// Whether a peripheral has a cell of the type at an offset: inside its window, and at a multiple of its size.
-pub fn in_window(program: &Program, periph: usize, at: u32, ty: Option<&Ty>) -> bool
+pub fn in_window(program: &Program, periph: u32, at: u32, ty: Option<&Ty>) -> bool
     ensures { result ≡ step.has_port (program_of program.now) periph at (pointee_of ty.entry) }
 {
-    let sizes = program.periphs.as_slice();
-    let size = if periph < sizes.len() {
-        sizes[periph]
+    let windows = program.periphs.as_slice();
+    let number = periph as usize;
+    let size = if number < windows.len() {
+        windows[number].size
     } else {
         0
     };
@@ -46,11 +50,11 @@ pub fn in_window(program: &Program, periph: usize, at: u32, ty: Option<&Ty>) -> 
 ///
 /// # Errors
 ///
-/// There is no number for the next place or for the peripheral; the state is as before.
+/// There is no number for the next place; the state is as before.
 pub fn store_port(
     parts: &mut Parts,
     compartments: &[u32],
-    periph: usize,
+    periph: u32,
     at: u32,
     ty: Option<&Ty>,
     value: Value,
@@ -58,14 +62,11 @@ pub fn store_port(
     ensures ok { IfOk result (λ a. Answers (step.store_port compartments.now (frame_of parts.old.top) (map frame_of parts.old.below) (memory_of parts.old) periph at (pointee_of ty.entry) (value_of value) true) a parts.new) }
     ensures err { OnErr result (running_of parts.new ≡ running_of parts.old) }
 {
-    let Ok(number) = u32::try_from(periph) else {
-        return Err(AllocError);
-    };
-    let compartment = compartment_of(compartments, parts.top.func);
+    let compartment = running_compartment(parts, compartments);
     advance(&mut parts.top)?;
     Ok(SourceStep::Event(Event {
         compartment,
-        periph: number,
+        periph,
         offset: at,
         width: width_of(ty),
         write: true,
@@ -77,35 +78,32 @@ pub fn store_port(
 ///
 /// # Errors
 ///
-/// There is no number for the next place or for the peripheral; the state is as before.
+/// There is no number for the next place; the state is as before.
 #[tactic(auto, using(crate::proofs::Writing::first_of))]
 pub fn load_port(
     parts: &mut Parts,
     compartments: &[u32],
     to: usize,
-    periph: usize,
+    periph: u32,
     at: u32,
     ty: Option<&Ty>,
 ) -> Result<SourceStep, AllocError>
     ensures ok { IfOk result (λ a. Answers (step.take_input compartments.now (frame_of parts.old.top) (map frame_of parts.old.below) (memory_of parts.old) to periph at (pointee_of ty.entry) (get_or parts.old.tape periph [])) a parts.new) }
     ensures err { OnErr result (running_of parts.new ≡ running_of parts.old) }
 {
-    let Ok(number) = u32::try_from(periph) else {
-        return Err(AllocError);
-    };
-    if periph >= parts.tape.queue_count() {
+    if periph as usize >= parts.tape.queue_count() {
         return Ok(SourceStep::Ended(SourceEnd::InputEnd));
     }
-    let compartment = compartment_of(compartments, parts.top.func);
+    let compartment = running_compartment(parts, compartments);
     advance(&mut parts.top)?;
-    let Some(word) = parts.tape.take(number) else {
+    let Some(word) = parts.tape.take(periph) else {
         return Ok(SourceStep::Ended(SourceEnd::InputEnd));
     };
     let value = cut_number(ty, word);
     write_register(&mut parts.top, to, Value::Number(value));
     Ok(SourceStep::Event(Event {
         compartment,
-        periph: number,
+        periph,
         offset: at,
         width: width_of(ty),
         write: false,

@@ -2,7 +2,7 @@
 
 ghost use Rattle.std.specs.Prelude.{◌≡◌, OnOk, OnErr, nat_eq, if◌then◌else◌};
 ghost use Rattle.ir_model.specs.Step as step;
-ghost use Rattle.ir_resolve.specs.Seen.{value_of};
+ghost use Rattle.ir_resolve.specs.Values.{value_of};
 ghost use Rattle.ir_run.specs.Acts.{frame_of};
 
 use crate::arithmetic::number_in;

@@ -2,7 +2,7 @@
 
 use crate::outcome::FaultKind;
 use ir_model::types::Ty;
-use ir_resolve::value::{Instance, Value};
+use ir_resolve::value::{Address, Value};
 use listed::Listed;
 
 /// What an instruction asks for.
@@ -18,20 +18,18 @@ pub enum Act<'a> {
     /// To load from an object.
     Loads {
         to: usize,
-        instance: Instance,
-        offset: u32,
+        from: Address,
         ty: Option<&'a Ty>,
     },
     /// To store into an object.
     Stores {
-        instance: Instance,
-        offset: u32,
+        to: Address,
         ty: Option<&'a Ty>,
         value: Value,
     },
     /// To enter a function.
     Enters {
-        func: usize,
+        func: u16,
         args: Listed<Value>,
     },
 }

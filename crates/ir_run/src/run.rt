@@ -1,7 +1,7 @@
 //! Runs of the source of a firmware.
 
 ghost use Rattle.std.specs.Prelude.{◌≡◌, ◌-◌, ◌^◌, ◌<◌, IfOk, OnErr, OnOk};
-ghost use Rattle.ir_laws.specs.Laws.{HasCellsApart, HasOrderedFrames};
+ghost use Rattle.ir_laws.specs.Laws.{HasOrderedFrames};
 ghost use Rattle.ir_model.specs.Step.{source_turn, source_step};
 ghost use Rattle.ir_resolve.specs.Seen.{program_of};
 ghost use Rattle.ir_run.specs.Runs.{IsAnswer};
@@ -11,12 +11,12 @@ use crate::outcome::{SourceEnd, SourceStep};
 use crate::parts::Parts;
 use crate::starting::started;
 use crate::turn::turn;
-use ir_laws::{cells, events, frames};
+use device_model::tape::Tape;
+use ir_laws::{events, frames};
 use ir_model::checked::Checked;
 use ir_resolve::program::Program;
 use ir_resolve::resolving::resolve;
 use listed::Listed;
-use mem_bus::tape::Tape;
 use std::alloc::{AllocError, Global};
 use std::marker::Model;
 
@@ -37,8 +37,7 @@ fn go_on(
     compartments: &[u32],
     phase: &mut Phase,
 ) -> Result<SourceStep, AllocError>
-    requires cells { HasCellsApart (program_of program.now) }
-    requires frames { HasOrderedFrames (state_of phase.old) }
+    requires { HasOrderedFrames (state_of phase.old) }
     ensures says { IfOk result (λ answer. IsAnswer (source_turn (program_of program.now) compartments.now (state_of phase.old)) answer) }
     ensures goes { OnOk result (state_of phase.new ≡ source_step (program_of program.now) compartments.now (state_of phase.old)) }
     ensures err { OnErr result (state_of phase.new ≡ state_of phase.old) }
@@ -84,7 +83,6 @@ impl<'a> SourceRun<'a> {
     ghost use Rattle.ir_model.specs.Plain.{firmware_of};
     ghost use Rattle.ir_model.specs.Resolve.{resolve};
     ghost use Rattle.ir_model.specs.State as state;
-    ghost use Rattle.ir_laws.specs.Laws.{HasCellsApart};
     ghost use Rattle.ir_resolve.specs.Seen.{program_of};
     ghost use Rattle.ir_run.specs.Runs.{IsStep, AnswersDeclared};
 
@@ -108,7 +106,6 @@ impl<'a> SourceRun<'a> {
         }) }
     {
         let program = resolve(alloc, firmware)?;
-        cells();
         SourceRun::over(alloc, program, compartments, tape)
     }
 
@@ -123,7 +120,6 @@ impl<'a> SourceRun<'a> {
         compartments: Vec<u32>,
         tape: Tape,
     ) -> Result<SourceRun<'a>, AllocError>
-        requires { HasCellsApart (program_of program) }
         ensures { IfOk result (λ run. run ≡ record {
           program = program_of program.entry;
           compartments = compartments.items;

@@ -8,7 +8,7 @@ use crate::frame::Frame;
 
 /// The place of the frame of a number, where it is one of this function. The frames stand in the order in which they
 /// were made.
-pub fn place_of(frames: &[Frame], func: usize, number: u64) -> Option<usize>
+pub fn place_of(frames: &[Frame], func: u16, number: u64) -> Option<usize>
     requires { AreOrdered (map frame_of (reverse frames.now)) }
     ensures { Finds frames.now func number result }
 {

@@ -3,24 +3,34 @@
 ghost use Rattle.std.specs.Prelude.{◌≡◌, map, IfOk};
 ghost use Rattle.ir_model.specs.Resolved.{NumberedGlobal};
 ghost use Rattle.ir_model.specs.State as state;
-ghost use Rattle.ir_resolve.specs.Seen.{value_of, variable_of, program_of};
+ghost use Rattle.ir_model.specs.Plain.{struct_of};
+ghost use Rattle.ir_model.specs.Layout.{known};
+ghost use Rattle.ir_resolve.specs.Values.{value_of};
+ghost use Rattle.ir_resolve.specs.Seen.{variable_of, program_of};
 ghost use Rattle.ir_run.specs.States.{running_of};
 
 use crate::below::Below;
-use crate::contents::{Contents, Values};
-use crate::entering::new_frame;
+use crate::contents::Contents;
+use crate::entering::{first_contents, new_frame};
 use crate::parts::Parts;
+use device_model::tape::Tape;
 use ir_resolve::program::{Program, Variable};
-use mem_bus::tape::Tape;
+use layouts::table::Layouts;
 use std::alloc::{AllocError, Global};
 
-fn initial_contents(alloc: Global, variables: &[Variable]) -> Result<Contents, AllocError>
-    ensures { IfOk result (λ gs. map (map value_of) gs ≡ map (λ (o : NumberedGlobal). o.init) (map variable_of variables.now)) }
+fn initial_contents<'a>(
+    alloc: Global,
+    layouts: &Layouts<'a>,
+    variables: &[Variable<'a>],
+) -> Result<Contents, AllocError>
+    ensures { IfOk result (λ gs. map (map value_of) gs ≡ map (λ (o : NumberedGlobal). o.init) (map (variable_of (known (map struct_of layouts.now))) variables.now)) }
 {
     let mut objects = Vec::new(alloc);
     for i in 0..variables.len() {
-        let values = variables[i].init.as_slice().to_vec(alloc)?;
-        objects.push(Values::new(values))?;
+        let variable = &variables[i];
+        let first = variable.init.as_slice();
+        let values = first_contents(alloc, layouts, variable.storage.ty, first)?;
+        objects.push(values)?;
     }
     Ok(Contents::new(objects))
 }
@@ -35,7 +45,7 @@ pub fn started(alloc: Global, program: &Program, tape: Tape) -> Result<Parts, Al
     ensures { IfOk result (λ s. running_of s ≡ state.start (program_of program.now) tape) }
 {
     let top = new_frame(alloc, program, program.main, 0, &[])?;
-    let globals = initial_contents(alloc, program.globals.as_slice())?;
+    let globals = initial_contents(alloc, &program.layouts, program.globals.as_slice())?;
     Ok(Parts {
         top,
         below: Below::new(alloc),

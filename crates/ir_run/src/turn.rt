@@ -1,10 +1,12 @@
 //! One instruction or block end.
 
 ghost use Rattle.std.specs.Prelude.{◌≡◌, ◌∷◌, map, IfOk, OnErr};
-ghost use Rattle.ir_laws.specs.Laws.{HasCellsApart, HasOrderedFrames};
+ghost use Rattle.ir_laws.specs.Laws.{HasOrderedFrames};
 ghost use Rattle.ir_model.specs.Resolved.{global_at};
 ghost use Rattle.ir_model.specs.Step as step;
-ghost use Rattle.ir_resolve.specs.Seen.{value_of, instance_of, pointee_of, program_of};
+ghost use Rattle.ir_resolve.specs.Values.{value_of, instance_of};
+ghost use Rattle.ir_resolve.specs.Storages.{pointee_of};
+ghost use Rattle.ir_resolve.specs.Seen.{program_of};
 ghost use Rattle.ir_run.specs.Acts.{frame_of, act_of};
 ghost use Rattle.ir_run.specs.States.{running_of, memory_of, Answers};
 
@@ -22,42 +24,42 @@ use crate::ports::{in_window, load_port, store_port};
 use crate::request::Act;
 use ir_model::types::Ty;
 use ir_resolve::program::Program;
-use ir_resolve::value::{Instance, Value};
+use ir_resolve::value::{Address, Instance, Value};
 use std::alloc::{AllocError, Global};
 
 /// Whether a global is never written.
-pub fn is_constant(program: &Program, global: usize) -> bool
+pub fn is_constant(program: &Program, global: u32) -> bool
     ensures { result ≡ (global_at (program_of program.now) global).constant }
 {
     let globals = program.globals.as_slice();
-    global < globals.len() && globals[global].constant
+    let number = global as usize;
+    number < globals.len() && globals[number].constant
 }
 
 /// A load from an object.
 ///
 /// # Errors
 ///
-/// There is no number for the next place or for the peripheral; the state is as before.
+/// There is no number for the next place; the state is as before.
 pub fn load(
     program: &Program,
     compartments: &[u32],
     parts: &mut Parts,
     to: usize,
-    instance: Instance,
-    at: u32,
+    from: Address,
     ty: Option<&Ty>,
 ) -> Result<SourceStep, AllocError>
-    requires cells { HasCellsApart (program_of program.now) }
-    requires frames { HasOrderedFrames (running_of parts.old) }
-    ensures ok { IfOk result (λ a. Answers (step.load (program_of program.now) compartments.now (frame_of parts.old.top) (map frame_of parts.old.below) (memory_of parts.old) to (instance_of instance) at (pointee_of ty.entry)) a parts.new) }
+    requires { HasOrderedFrames (running_of parts.old) }
+    ensures ok { IfOk result (λ a. Answers (step.load (program_of program.now) compartments.now (frame_of parts.old.top) (map frame_of parts.old.below) (memory_of parts.old) to (instance_of from.instance) from.offset (pointee_of ty.entry)) a parts.new) }
     ensures err { OnErr result (running_of parts.new ≡ running_of parts.old) }
 {
-    match instance {
+    let at = from.offset;
+    match from.instance {
         Instance::Global(global) => {
             let cell = global_cell(program, global, at, ty);
             load_global(parts, to, global, cell)
         }
-        Instance::Local { func, frame, local } => {
+        Instance::Local { local, func, frame } => {
             let of = Local { func, frame, local };
             load_local(program, parts, to, of, at, ty)
         }
@@ -75,27 +77,26 @@ pub fn load(
 ///
 /// # Errors
 ///
-/// There is no number for the next place or for the peripheral; the state is as before.
+/// There is no number for the next place; the state is as before.
 pub fn store(
     program: &Program,
     compartments: &[u32],
     parts: &mut Parts,
-    instance: Instance,
-    at: u32,
+    to: Address,
     ty: Option<&Ty>,
     value: Value,
 ) -> Result<SourceStep, AllocError>
-    requires cells { HasCellsApart (program_of program.now) }
-    requires frames { HasOrderedFrames (running_of parts.old) }
-    ensures ok { IfOk result (λ a. Answers (step.store (program_of program.now) compartments.now (frame_of parts.old.top) (map frame_of parts.old.below) (memory_of parts.old) (instance_of instance) at (pointee_of ty.entry) (value_of value)) a parts.new) }
+    requires { HasOrderedFrames (running_of parts.old) }
+    ensures ok { IfOk result (λ a. Answers (step.store (program_of program.now) compartments.now (frame_of parts.old.top) (map frame_of parts.old.below) (memory_of parts.old) (instance_of to.instance) to.offset (pointee_of ty.entry) (value_of value)) a parts.new) }
     ensures err { OnErr result (running_of parts.new ≡ running_of parts.old) }
 {
-    match instance {
+    let at = to.offset;
+    match to.instance {
         Instance::Global(global) => {
             let cell = global_cell(program, global, at, ty);
             store_global(parts, global, is_constant(program, global), value, cell)
         }
-        Instance::Local { func, frame, local } => {
+        Instance::Local { local, func, frame } => {
             let of = Local { func, frame, local };
             store_local(program, parts, of, at, ty, value)
         }
@@ -113,7 +114,7 @@ pub fn store(
 ///
 /// # Errors
 ///
-/// There is no memory for it, or no number for the next place, the peripheral or the frame; the state is as before.
+/// There is no memory for it, or no number for the next place or the frame; the state is as before.
 #[tactic(auto, unfolding(ir_model::specs::Step::perform))]
 pub fn perform(
     alloc: Global,
@@ -122,8 +123,7 @@ pub fn perform(
     parts: &mut Parts,
     asked: Act,
 ) -> Result<SourceStep, AllocError>
-    requires cells { HasCellsApart (program_of program.now) }
-    requires frames { HasOrderedFrames (running_of parts.old) }
+    requires { HasOrderedFrames (running_of parts.old) }
     ensures ok { IfOk result (λ a. Answers (step.perform (program_of program.now) compartments.now (frame_of parts.old.top) (map frame_of parts.old.below) (memory_of parts.old) (act_of asked.entry)) a parts.new) }
     ensures err { OnErr result (running_of parts.new ≡ running_of parts.old) }
 {
@@ -133,20 +133,10 @@ pub fn perform(
             Ok(SourceStep::Ran)
         }
         Act::Fails(fault) => Ok(SourceStep::Ended(SourceEnd::Fault(fault))),
-        Act::Loads {
-            to,
-            instance,
-            offset,
-            ty,
-        } => load(program, compartments, parts, to, instance, offset, ty),
-        Act::Stores {
-            instance,
-            offset,
-            ty,
-            value,
-        } => {
+        Act::Loads { to, from, ty } => load(program, compartments, parts, to, from, ty),
+        Act::Stores { to, ty, value } => {
             let cut = cut_value(ty, value);
-            store(program, compartments, parts, instance, offset, ty, cut)
+            store(program, compartments, parts, to, ty, cut)
         }
         Act::Enters { func, args } => {
             enter(alloc, program, parts, func, args.as_slice())?;
@@ -159,7 +149,7 @@ pub fn perform(
 ///
 /// # Errors
 ///
-/// There is no memory for it, or no number for the next place, the peripheral or the frame; the state is as before.
+/// There is no memory for it, or no number for the next place or the frame; the state is as before.
 #[tactic(auto, unfolding(ir_model::specs::Step::source_turn))]
 pub fn turn(
     alloc: Global,
@@ -167,14 +157,13 @@ pub fn turn(
     compartments: &[u32],
     parts: &mut Parts,
 ) -> Result<SourceStep, AllocError>
-    requires cells { HasCellsApart (program_of program.now) }
-    requires frames { HasOrderedFrames (running_of parts.old) }
+    requires { HasOrderedFrames (running_of parts.old) }
     ensures ok { IfOk result (λ a. Answers (step.source_turn (program_of program.now) compartments.now (running_of parts.old)) a parts.new) }
     ensures err { OnErr result (running_of parts.new ≡ running_of parts.old) }
 {
     match here(program, parts.top.func, parts.top.block, parts.top.place) {
         Here::Does(operation) => {
-            let asked = act(alloc, &parts.top, operation)?;
+            let asked = act(alloc, &program.layouts, &parts.top, operation)?;
             perform(alloc, program, compartments, parts, asked)
         }
         Here::Ends(exit) => leave(program, parts, exit),

@@ -3,7 +3,7 @@ use Rattle.std.proofs.Common.{◌≡◌, ℕ, zero, suc, ◌+◌, ◌≤◌, Boo
 use Rattle.std.specs.Prelude.{if◌then◌else◌, nat_le}
 use Rattle.std.proofs.lemmas.Bool.Decides.{nat_tests}
 use Rattle.std.proofs.lemmas.List.{length-map}
-use Rattle.mem_bus.specs.declared.image.Window.{Window}
+use Rattle.device_model.specs.declared.image.Window.{Window}
 use Rattle.ir_model.specs.declared.firmware.Peripheral.{Peripheral}
 use Rattle.ir_model.specs.declared.token.Excess.{Excess}
 use Rattle.ir_model.specs.declared.token.Excess.TheVariants.{Passes}
@@ -11,7 +11,9 @@ use Rattle.ir_model.specs.declared.token.TextLimit.TheVariants as limit
 use Rattle.ir_model.specs.Plain.{PlainFirmware}
 use Rattle.ir_model.specs.Lines.{Line, word_excess, struct_lines, periph_lines, global_lines, file_lines, lines_of}
 use Rattle.ir_model.specs.Canonical.{Each, PassesNothing, IsWithinLimits}
+use Rattle.ir_model.proofs.ForEach.{each_left, each_right}
 use Rattle.ir_model.specs.Resolved.{Program}
+use Rattle.ir_model.specs.Resolve as spans
 use Rattle.ir_model.specs.Resolve.{resolve}
 use Rattle.ir_model.specs.State.{start}
 use Rattle.ir_resolve.specs.Windows.{window_of, windows_of}
@@ -27,15 +29,7 @@ goes_at_first p queues = refl
 -- there are as many windows as the program has peripherals
 pub as_many : (w : PlainFirmware) → length (windows_of w) ≡ length (resolve w).periphs
 unfolding resolve
-as_many w = length-map w.periphs window_of ∙ sym (length-map w.periphs (λ (q : Peripheral). q.size))
-
-each_left : {A : Type 0} (P : A → Type 0) (xs ys : List A) → Each P (xs ++ ys) → Each P xs
-each_left P [] ys h = tt
-each_left P (x ∷ xs) ys h = (h.0, each_left P xs ys h.1)
-
-each_right : {A : Type 0} (P : A → Type 0) (xs ys : List A) → Each P (xs ++ ys) → Each P ys
-each_right P [] ys h = h
-each_right P (x ∷ xs) ys h = each_right P xs ys h.1
+as_many w = length-map w.periphs window_of ∙ sym (length-map w.periphs spans.window_of)
 
 abbrev nothing_passed : Option Excess
 nothing_passed = None

@@ -1,4 +1,4 @@
-pub mod Running
-pub mod Prefixes
-pub mod Sources
-pub mod Begins
+mod Files
+mod Sources
+mod Begins
+mod Causes

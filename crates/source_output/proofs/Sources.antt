@@ -1,7 +1,7 @@
 -- Runs of the source that have made so many steps, and what the answer of the next step says.
 use Rattle.std.proofs.Common.{◌≡◌, ℕ, suc, ◌+◌, ◌<◌, List, Some, None, refl, ap, sym, ◌∙◌, subst, arith}
 use Rattle.words.specs.Runs.{run}
-use Rattle.mem_bus.specs.declared.event.Event.{Event}
+use Rattle.device_model.specs.declared.event.Event.{Event}
 use Rattle.ir_model.specs.Resolved.{Program}
 use Rattle.ir_model.specs.State.{SourceEnd, SourceState, Running, Ended, SourceTurn}
 use Rattle.ir_model.specs.Step.{source_turn, source_step, source_event}
@@ -11,7 +11,7 @@ use Rattle.ir_run.specs.declared.outcome.SourceStep.TheVariants as answer
 use Rattle.ir_run.specs.Acts as acts
 use Rattle.ir_run.specs.Runs.{RunState, IsRunning, IsStep}
 use Rattle.source_output.specs.SourceRuns.{ending_of, end_of}
-use Rattle.source_output.proofs.Running.{run_none, run_behind, run_ended, lines, lines_ended}
+use Rattle.words.proofs.EventLines.{run_none, run_behind, run_ended, lines, lines_ended}
 
 -- a run that has ended stays, and has no event
 ended_stays : (p : Program) (c : List ℕ) (e : SourceEnd) → source_step p c (Ended e) ≡ Ended e

@@ -1,16 +1,17 @@
 -- The compartments of the policy `filename`: each file that has a function is one.
-use Rattle.std.specs.Prelude.{ℕ, zero, suc, List, [], ◌∷◌, ◌++◌, length, replicate}
-use Rattle.ir_model.specs.Plain.{PlainFile, PlainFirmware}
+use Rattle.std.specs.Prelude.{ℕ, List, [], ◌∷◌, Bool, true, false}
+use Rattle.std.specs.List.{filter}
+use Rattle.ir_model.specs.Plain.{PlainFile, PlainFunc, PlainFirmware}
+use Rattle.ir_model.specs.Resolve.{files_from}
 
--- the number of the compartment behind one of so many functions
-abbrev pub behind : (functions compartment : ℕ) → ℕ
-behind zero c = c
-behind (suc n) c = suc c
+abbrev pub is_not_empty : List PlainFunc → Bool
+is_not_empty [] = false
+is_not_empty (f ∷ fs) = true
 
-abbrev pub compartments_from : (compartment : ℕ) → List PlainFile → List ℕ
-compartments_from c [] = []
-compartments_from c (f ∷ fs) = replicate (length f.funcs) c ++ compartments_from (behind (length f.funcs) c) fs
+-- the files that have functions, in order
+abbrev pub filled_files : List PlainFile → List PlainFile
+filled_files fs = filter (λ (f : PlainFile). is_not_empty f.funcs) fs
 
--- the compartment of each function
+-- the compartment of each function: the number of its file among those that have functions
 abbrev pub compartments_of : PlainFirmware → List ℕ
-compartments_of w = compartments_from 0 w.files
+compartments_of w = files_from 0 (filled_files w.files)

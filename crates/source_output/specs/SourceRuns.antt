@@ -1,12 +1,13 @@
 -- What is printed of a run of the source, and how it ends.
 use Rattle.std.specs.Prelude.{ℕ, List, ◌++◌, flat_map, codes, Option, Some, None}
 use Rattle.words.specs.Runs.{run, events}
-use Rattle.mem_bus.specs.declared.image.Window.{Window}
+use Rattle.device_model.specs.declared.image.Window.{Window}
 use Rattle.ir_model.specs.Plain.{PlainFirmware}
 use Rattle.ir_model.specs.Resolved.{Program}
 use Rattle.ir_model.specs.Resolve.{resolve}
-use Rattle.ir_model.specs.State.{SourceFault, NullFault, DeadFault, NoCellFault, ConstantFault, SourceEnd, Returned, OutOfInput, Faulted, SourceState, Running, Ended, start}
+use Rattle.ir_model.specs.State.{SourceFault, NullFault, DeadFault, NoCellFault, ConstantFault, SourceEnd, Returned, OutOfInput, Faulted, SourceState, Running, Ended}
 use Rattle.ir_model.specs.Step.{source_step, source_event}
+use Rattle.ir_model.specs.Runs.{source_after, source_events}
 use Rattle.ir_resolve.specs.Windows.{windows_of}
 use Rattle.lines.specs.Lines.{event_line, line_feed}
 use Rattle.source_output.specs.Compartments.{compartments_of}
@@ -47,10 +48,10 @@ module _ (p : Program) (compartments : List ℕ) where
 -- a firmware, the words that its peripherals give, and how many steps are made
 module _ (w : PlainFirmware) (queues : List (List ℕ)) (steps : ℕ) where
   abbrev pub source_end : Option SourceEnd
-  source_end = end_of (resolve w) (compartments_of w) steps (start (resolve w) queues)
+  source_end = ending_of (source_after (resolve w) (compartments_of w) queues steps)
 
   abbrev pub source_event_lines : List ℕ
-  source_event_lines = event_lines (resolve w) (compartments_of w) (windows_of w) steps (start (resolve w) queues)
+  source_event_lines = flat_map (event_line (windows_of w)) (source_events (resolve w) (compartments_of w) queues steps)
 
   -- the lines of the events, and that of the end behind them
   abbrev pub source_lines : List ℕ

@@ -1,8 +1,8 @@
 //! The compartments of a firmware's functions, each file being one.
 
-ghost use Rattle.std.specs.Prelude.{◌≡◌, ◌++◌, replicate, IfOk, OnOk};
+ghost use Rattle.std.specs.Prelude.{◌≡◌, ◌++◌, suc, replicate, nat_eq, if◌then◌else◌, IfOk, OnOk};
 ghost use Rattle.ir_model.specs.Plain.{firmware_of};
-ghost use Rattle.source_output.specs.Compartments.{behind, compartments_of};
+ghost use Rattle.source_output.specs.Compartments.{compartments_of};
 
 use ir_model::firmware::Firmware;
 use std::alloc::{AllocError, Global};
@@ -17,13 +17,13 @@ fn push_times(numbers: &mut Vec<u32>, number: u32, times: usize) -> Result<(), A
     Ok(())
 }
 
-/// The number of the compartment behind one of so many functions.
+/// The number of the compartment behind a file of so many functions.
 ///
 /// # Errors
 ///
 /// It has more than 32 bits.
 fn number_behind(functions: usize, compartment: u32) -> Result<u32, AllocError>
-    ensures { IfOk result (λ next. next ≡ behind functions compartment) }
+    ensures { IfOk result (λ next. next ≡ (if nat_eq functions 0 then compartment else suc compartment)) }
 {
     if functions == 0 {
         return Ok(compartment);

@@ -11,16 +11,14 @@ ghost use Rattle.source_output.specs.Ends.{seen_end, IsCause};
 pub mod compartments;
 mod ending;
 mod stepping;
-#[cfg(test)]
-mod tests;
 
 use compartments::compartments;
+use device_model::image::Window;
+use device_model::tape::Tape;
 use ending::end_line;
 use ir_model::checked::Checked;
 use ir_run::outcome::SourceEnd;
 use ir_run::run::SourceRun;
-use mem_bus::image::Window;
-use mem_bus::tape::Tape;
 use outside::{Failed, Sink};
 use std::alloc::{AllocError, Global};
 use stepping::print_events;

@@ -7,10 +7,10 @@ ghost use Rattle.source_output.specs.SourceRuns.{ending_of, end_of, event_lines}
 ghost use Rattle.source_output.specs.Ends.{seen_end, IsCause};
 
 use crate::Broken;
+use device_model::image::Window;
 use ir_run::outcome::{SourceEnd, SourceStep};
 use ir_run::run::SourceRun;
 use lines::event_line;
-use mem_bus::image::Window;
 use outside::Sink;
 
 /// Makes at most so many steps of a run, puts the line of each event, and answers how it ended.

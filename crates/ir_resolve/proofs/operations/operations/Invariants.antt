@@ -1,9 +1,9 @@
 use Rattle.std.proofs.Common.{◌≡◌, map, take}
-use Rattle.ir_model.specs.Plain.{func_of}
+use Rattle.ir_resolve.specs.Scopes.{named_func}
 use Rattle.ir_model.specs.Resolve as resolving
 use Rattle.ir_resolve.specs.Seen.{operation_of}
 use Rattle.ir_resolve.specs.Scopes.{scope_of}
 use Rattle.ir_resolve.proofs.operations.operations.Given as goal
 
 abbrev pub invariant-loop-i : goal.invariant-loop-i
-invariant-loop-i l = map operation_of l.operations.items ≡ map (resolving.resolved_inst (scope_of l.scope) (func_of l.func)) (take l.i l.insts)
+invariant-loop-i l = map (operation_of (scope_of l.scope).known) l.operations.items ≡ map (resolving.resolved_inst (scope_of l.scope) (named_func l.tables)) (take l.i l.insts)

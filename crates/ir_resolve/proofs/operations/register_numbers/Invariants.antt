@@ -1,7 +1,7 @@
 use Rattle.std.proofs.Common.{◌≡◌, map, take}
-use Rattle.ir_model.specs.Plain.{func_of}
+use Rattle.ir_resolve.specs.Scopes.{named_func}
 use Rattle.ir_model.specs.Resolve as resolving
 use Rattle.ir_resolve.proofs.operations.register_numbers.Given as goal
 
 abbrev pub invariant-loop-name : goal.invariant-loop-name
-invariant-loop-name l = l.numbers.items ≡ map (resolving.register_number (func_of l.func)) (take l.name-index l.names)
+invariant-loop-name l = l.numbers.items ≡ map (resolving.register_number (named_func l.tables)) (take l.name-index l.names)

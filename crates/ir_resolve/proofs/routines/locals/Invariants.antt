@@ -1,9 +1,12 @@
-use Rattle.std.proofs.Common.{◌≡◌, map, take}
-use Rattle.ir_model.specs.Layout.{shape}
-use Rattle.ir_model.specs.Plain.{slot_of}
-use Rattle.ir_resolve.specs.Seen.{cells_of}
-use Rattle.ir_resolve.specs.Shapes.{known_of}
+use Rattle.std.proofs.Common.{◌≡◌, map, take, length}
+use Rattle.ir_model.specs.Layout.{known, shape, Shape}
+use Rattle.ir_model.specs.Plain.{slot_of, struct_of}
+use Rattle.ir_resolve.specs.declared.program.Storage.{Storage}
+use Rattle.ir_resolve.specs.Storages.{shape_of}
 use Rattle.ir_resolve.proofs.routines.locals.Given as goal
 
-abbrev pub invariant-loop-i : goal.invariant-loop-i
-invariant-loop-i l = map cells_of l.locals.items ≡ map (λ s. (shape (map known_of l.known) s.ty).cells) (map slot_of (take l.i l.slots))
+abbrev pub invariant-loop-slot : goal.invariant-loop-slot
+invariant-loop-slot l = record {
+  shapes : map (shape_of (known (map struct_of l.layouts))) l.locals.items ≡ map (λ s. shape (known (map struct_of l.layouts)) s.ty) (map slot_of (take l.slot-index l.slots));
+  cells : map (λ (s : Storage). s.cells) l.locals.items ≡ map (λ (s : Shape). length s.cells) (map (λ s. shape (known (map struct_of l.layouts)) s.ty) (map slot_of (take l.slot-index l.slots)));
+}

@@ -1,7 +1,10 @@
 use Rattle.std.proofs.Common.{◌≡◌, map, take}
 use Rattle.ir_model.specs.State as state
-use Rattle.ir_resolve.specs.Seen.{value_of, cells_of}
+use Rattle.ir_model.specs.Plain.{struct_of}
+use Rattle.ir_model.specs.Layout.{known}
+use Rattle.ir_resolve.specs.Values.{value_of}
+use Rattle.ir_resolve.specs.Storages.{shape_of}
 use Rattle.ir_run.proofs.entering.zero_locals.Given as goal
 
 abbrev pub invariant-loop-i : goal.invariant-loop-i
-invariant-loop-i l = map (map value_of) l.objects.items ≡ map state.zero_cells (map cells_of (take l.i l.locals))
+invariant-loop-i l = map (map value_of) l.objects.items ≡ map state.zero_local (map (shape_of (known (map struct_of l.layouts))) (take l.i l.locals))

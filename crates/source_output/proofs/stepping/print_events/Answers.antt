@@ -2,8 +2,8 @@ use Rattle.std.proofs.Common.{◌++◌, refl, ap, sym, ◌∙◌, arith, append-
 use Rattle.ir_model.specs.Step.{source_step, source_event}
 use Rattle.lines.specs.Lines.{event_line}
 use Rattle.source_output.specs.SourceRuns.{event_lines}
-use Rattle.source_output.proofs.Running.{lines_none, lines_quiet, lines_told, lines_more, lines_cut}
-use Rattle.source_output.proofs.Prefixes.{prefix_part, prefix_front, on_err}
+use Rattle.words.proofs.EventLines.{lines_none, lines_quiet, lines_told, lines_more, lines_cut}
+use Rattle.outside.proofs.Prefixes.{prefix_part, prefix_front, on_err}
 use Rattle.source_output.proofs.Sources.{not_begun, ran, ran_quiet, told, told_event, ended_so, same_lines}
 use Rattle.source_output.proofs.stepping.print_events.Goals as goal
 use Rattle.source_output.proofs.stepping.print_events.Goals.{in-Ran, in-Event+in_ok-put-in-Event}

@@ -1,0 +1,26 @@
+//! The names of a firmware and of a function, as tables.
+
+use ir_model::firmware::Func;
+use ir_model::types::Ty;
+use layouts::table::Layouts;
+use listed::Listed;
+use name_tables::Names;
+
+/// The names of a firmware, and the layouts of its structs.
+#[derive(Drop)]
+pub(crate) struct Scope<'a> {
+    pub(crate) layouts: Layouts<'a>,
+    pub(crate) globals: Names<'a>,
+    pub(crate) periphs: Names<'a>,
+    pub(crate) funcs: Names<'a>,
+}
+
+/// The names of a function, and the types of its registers, the parameters first.
+#[derive(Drop)]
+pub(crate) struct FuncTables<'a> {
+    pub(crate) source: &'a Func,
+    pub(crate) registers: Names<'a>,
+    pub(crate) types: Listed<&'a Ty>,
+    pub(crate) locals: Names<'a>,
+    pub(crate) labels: Names<'a>,
+}

@@ -1,0 +1,20 @@
+use Rattle.std.proofs.Common.{map, ap, sym, ◌∙◌}
+use Rattle.ir_model.specs.Types.{type_of}
+use Rattle.ir_model.specs.Plain.{struct_of}
+use Rattle.ir_model.specs.Layout.{known, shape}
+use Rattle.ir_model.specs.Resolved.{NumberedGlobal}
+use Rattle.ir_model.specs.State.{entered}
+use Rattle.layouts.specs.Cells.{types_of}
+use Rattle.ir_resolve.specs.Values.{value_of}
+use Rattle.ir_resolve.specs.Seen.{variable_of}
+use Rattle.ir_run.proofs.Filling.{one_more, filled_entered}
+use Rattle.ir_run.proofs.starting.initial_contents.Goals as goal
+
+pub loop-i-preserved : goal.loop-i-preserved
+loop-i-preserved c =
+    let ks = known (map struct_of c.args.layouts.now) in
+    let variable = c.index-variables-i.result in
+    let cells = (shape ks (type_of variable.storage.ty.now)).cells in
+    one_more (map value_of) (λ (o : NumberedGlobal). o.init) (variable_of ks) c.loop-i.objects.items c.push.new.self.items c.in_ok-values.values c.args.variables.now c.loop-i.i variable
+    c.loop-i-test.true c.index-variables-i.is c.in_ok-push.ensures.items c.loop-i.invariant
+    (c.in_ok-values.ensures ∙ (ap (λ vs. entered (map value_of vs) (types_of cells)) c.as_slice-first.ensures ∙ sym (filled_entered cells (map value_of variable.init))))
