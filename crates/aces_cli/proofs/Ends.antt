@@ -16,11 +16,6 @@ use Rattle.straight_text.specs.StraightTexts.{IsStraightText, IsNoStraightText}
 use Rattle.aces_cli.specs.Compiled.{board_text}
 use Rattle.aces_cli.specs.CompileFailures.{IsCompileFailure}
 
--- what holds anyway holds of an error
-pub on_err : {T E : Type 0} (r : Result T E) (P : Type 0) → P → OnErr r P
-on_err (Ok x) P p = tt
-on_err (Err e) P p = p
-
 -- a result that is an error of this kind
 pub err_of : {T E : Type 0} (r : Result T E) (P : E → Type 0) → IsErrAnd r P → (e : E) × (r ≡ Err e) × P e
 err_of (Ok x) P h = absurd h

@@ -1,19 +1,14 @@
 -- Firmwares: what a refusal says of the bytes, and how many functions a firmware within the limits has.
 use Rattle.std.proofs.Common.{◌≡◌, ℕ, ◌+◌, ◌<◌, ◌≤◌, Bool, true, false, List, [], ◌∷◌, ◌++◌, map, length, get_or, take, Option, Some, None, nat_lt, refl, ap, sym, subst, ◌∙◌, arith, length-append, if◌then◌else◌, flat_map}
-use Rattle.std.proofs.lemmas.Bool.Decides.{nat_tests}
 use Rattle.std.proofs.lemmas.List.{length-map}
 use Rattle.std.proofs.lemmas.List.Folds.{length-flat_map-take}
 use Rattle.ir_model.specs.declared.firmware.FileDecl.{FileDecl}
 use Rattle.ir_model.specs.declared.firmware.Firmware.{Firmware}
 use Rattle.ir_model.specs.declared.firmware.Func.{Func}
-use Rattle.ir_model.specs.declared.token.Excess.{Excess}
-use Rattle.ir_model.specs.declared.token.Excess.TheVariants.{Passes}
-use Rattle.ir_model.specs.declared.token.TextLimit.{TextLimit}
-use Rattle.ir_model.specs.declared.token.TextLimit.TheVariants as limit
 use Rattle.ir_model.specs.Plain.{PlainFunc, PlainFile, PlainFirmware, func_of, file_of, global_of, firmware_of, funcs_of}
-use Rattle.ir_model.specs.Lines.{Line, counted, close_line, func_lines, funcs_lines, file_lines, struct_lines, periph_lines, global_lines, lines_of}
-use Rattle.ir_model.specs.Canonical.{Each, PassesNothing, IsWithinLimits}
+use Rattle.ir_model.specs.Canonical.{IsWithinLimits}
 use Rattle.ir_model.specs.Texts as firmwares
+use Rattle.ir_model.proofs.Limits.{few_functions}
 use Rattle.ir_check.specs.declared.fault.CheckFault.{CheckFault}
 use Rattle.ir_check.specs.declared.fault.CheckFault.TheVariants.{At, NoMemory as WantOfMemory}
 use Rattle.ir_check.specs.Found.{IsFaultOf}
@@ -53,54 +48,6 @@ pub check_refused : (w : PlainFirmware) (bytes name : List ℕ) (fault : CheckFa
 check_refused w bytes name fault e t h =
     content_also (λ f. of_check fault ≡ Some f) (IsNoFirmware bytes) (λ f q. not_typed w bytes fault f t h q) name e
 
-each_left : {A : Type 0} (P : A → Type 0) (xs ys : List A) → Each P (xs ++ ys) → Each P xs
-each_left P [] ys h = tt
-each_left P (x ∷ xs) ys h = (h.0, each_left P xs ys h.1)
-
-each_right : {A : Type 0} (P : A → Type 0) (xs ys : List A) → Each P (xs ++ ys) → Each P ys
-each_right P [] ys h = h
-each_right P (x ∷ xs) ys h = each_right P xs ys h.1
-
-abbrev Quiet : Line → Type 0
-Quiet l = Each PassesNothing l
-
-abbrev nothing_passed : Option Excess
-nothing_passed = None
-
-counted_by : (b : Bool) (l : TextLimit) → (if b then nothing_passed else Some (Passes l)) ≡ None → b ≡ true
-counted_by true l h = refl
-counted_by false l h = cc
-
-counted_below : (k most : ℕ) (l : TextLimit) → counted k most l None ≡ None → k < most
-counted_below k most l h = let t : nat_lt k most ≡ true = counted_by (nat_lt k most) l h in grind (arith, nat_tests)
-
--- behind so many functions
-few_functions : (n : ℕ) (fs : List PlainFunc) → n ≤ 1024 → Each Quiet (funcs_lines n fs) → n + length fs ≤ 1024
-few_functions n [] b h = omega arith
-few_functions n (f ∷ fs) b h =
-    let c = counted_below n 1024 limit.Function h.0.0 in
-    let r = few_functions (n + 1) fs (omega arith) (each_right Quiet (func_lines n f) (funcs_lines (n + 1) fs) h) in
-    omega arith
-
-few_in_files : (k n : ℕ) (fs : List PlainFile) → n ≤ 1024 → Each Quiet (file_lines k n fs) → n + length (flat_map (λ (f : PlainFile). f.funcs) fs) ≤ 1024
-few_in_files k n [] b h = omega arith
-few_in_files k n (f ∷ fs) b h =
-    let later : List Line = file_lines (k + 1) (n + length f.funcs) fs in
-    let here : List Line = funcs_lines n f.funcs in
-    let end : List Line = close_line ∷ [] in
-    let c = few_functions n f.funcs b (each_left Quiet here end (each_left Quiet (here ++ end) later h.1)) in
-    let r = few_in_files (k + 1) (n + length f.funcs) fs (omega arith) (each_right Quiet (here ++ end) later h.1) in
-    let e = length-append f.funcs (flat_map (λ (g : PlainFile). g.funcs) fs) in
-    omega arith
-
--- a firmware within the limits has at most 1,024 functions
-at_most_1024 : (w : PlainFirmware) → IsWithinLimits w → length (funcs_of w) ≤ 1024
-unfolding lines_of
-at_most_1024 w h =
-    let before : List Line = struct_lines 0 w.structs ++ periph_lines 0 w.periphs ++ global_lines 0 w.globals in
-    let r = few_in_files 0 0 w.files (omega arith) (each_right Quiet before (file_lines 0 0 w.files) h.tokens) in
-    omega arith
-
 abbrev functions : List FileDecl → List Func
 functions fs = flat_map (λ (f : FileDecl). f.funcs) fs
 
@@ -115,7 +62,7 @@ same_count (f ∷ fs) =
     omega arith
 
 pub few_declared : (w : Firmware) → IsWithinLimits (firmware_of w) → length (functions w.files) ≤ 1024
-few_declared w h = let n = at_most_1024 (firmware_of w) h in let e = same_count w.files in omega arith
+few_declared w h = let n = few_functions (firmware_of w) h in let e = same_count w.files in omega arith
 
 -- one file's functions fit behind those of the files before it
 pub room_for_more : (fs : List FileDecl) (k : ℕ) (f : FileDecl) → k < length fs → f ≡ get_or fs k f → length (functions (take k fs)) + length f.funcs ≤ length (functions fs)

@@ -1,12 +1,11 @@
-pub mod Prefixes
-pub mod Running
-pub mod Windows
-pub mod Saying
-pub mod Digits
-pub mod Words
-pub mod Starting
-pub mod Ends
-pub mod Answered
-pub mod Compiling
-pub mod Firmwares
-pub mod Sourcing
+mod Windows
+mod Callbacks
+mod Saying
+mod Digits
+mod Words
+mod Starting
+mod Ends
+mod Answered
+mod Compiling
+mod Firmwares
+mod Sourcing

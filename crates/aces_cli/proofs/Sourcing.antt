@@ -1,7 +1,7 @@
 -- A run of the source on the bytes of a firmware and of a tape.
 use Rattle.std.proofs.Common.{◌≡◌, ℕ, List, None, map, ap, sym, ◌∙◌}
-use Rattle.mem_bus.specs.declared.image.Window.{Window}
-use Rattle.mem_bus.specs.Tape.{first_fault}
+use Rattle.device_model.specs.declared.image.Window.{Window}
+use Rattle.device_model.specs.Tape.{first_fault}
 use Rattle.ir_model.specs.declared.firmware.Firmware.{Firmware}
 use Rattle.ir_model.specs.declared.firmware.Peripheral.{Peripheral}
 use Rattle.ir_model.specs.Plain.{firmware_of}

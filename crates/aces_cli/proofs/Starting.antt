@@ -1,9 +1,9 @@
 -- The state in which a run begins.
 use Rattle.std.proofs.Common.{◌≡◌, ℕ, List, length, None, refl}
 use Rattle.std.proofs.Math.ListN.{length-map}
-use Rattle.mem_bus.specs.declared.image.Image.{Image}
-use Rattle.mem_bus.specs.declared.image.Window.{Window}
-use Rattle.mem_bus.specs.Tape.{queues_of}
+use Rattle.device_model.specs.declared.image.Image.{Image}
+use Rattle.device_model.specs.declared.image.Window.{Window}
+use Rattle.device_model.specs.Tape.{queues_of}
 use Rattle.armv7m.specs.Run.{start}
 
 -- a tape has a queue for each window

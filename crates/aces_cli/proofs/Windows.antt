@@ -3,11 +3,11 @@ use Rattle.std.specs.Prelude.{IsTrue, ◌&&◌, not, nat_le}
 use Rattle.std.proofs.Common.{◌≡◌, ℕ, zero, suc, ◌+◌, ◌-◌, ◌<◌, ◌≤◌, ◌⊎◌, inl, inr, Bool, true, false, List, [], ◌∷◌, length, Some, refl, arith}
 use Rattle.std.proofs.lemmas.Bool.Decides.{nat_tests}
 use Rattle.names.specs.Names.{is_name, is_word, is_reserved}
-use Rattle.mem_bus.specs.declared.image.Image.{Image}
-use Rattle.mem_bus.specs.declared.image.Window.{Window}
-use Rattle.mem_bus.specs.declared.event.Event.{Event}
+use Rattle.device_model.specs.declared.image.Image.{Image}
+use Rattle.device_model.specs.declared.image.Window.{Window}
+use Rattle.device_model.specs.declared.event.Event.{Event}
 use Rattle.mem_bus.specs.Places.{Place, InRam, InFlash, InWindow, inside, choose, find_window, place}
-use Rattle.mem_bus.specs.Rules.{ObeysRules, AreWindows}
+use Rattle.device_model.specs.Rules.{ObeysRules, AreWindows}
 use Rattle.armv7m.specs.State.{State, Touched, by_mpu}
 use Rattle.armv7m.specs.Step.{turn, event}
 use Rattle.armv7m.specs.Confinement.{AnyOf, EventsAreListed}

@@ -1,11 +1,11 @@
 -- What a call answers where no call on the outside fails and memory does not run out: the status, what is printed, the
 -- line that tells of a fault, and what is written.
 use Rattle.std.specs.Prelude.{◌≡◌, ◌≢◌, ℕ, List, [], Option, Some, None}
-use Rattle.mem_bus.specs.declared.image.Image.{Image}
-use Rattle.mem_bus.specs.declared.image.Window.{Window}
-use Rattle.mem_bus.specs.declared.tape.TapeFault.{TapeFault}
-use Rattle.mem_bus.specs.declared.tape.TapeFault.TheVariants as tape_faults
-use Rattle.mem_bus.specs.Tape as tapes
+use Rattle.device_model.specs.declared.image.Image.{Image}
+use Rattle.device_model.specs.declared.image.Window.{Window}
+use Rattle.device_model.specs.declared.tape.TapeFault.{TapeFault}
+use Rattle.device_model.specs.declared.tape.TapeFault.TheVariants as tape_faults
+use Rattle.device_model.specs.Tape as tapes
 use Rattle.image.specs.declared.fault.ImageFault.{ImageFault}
 use Rattle.image.specs.declared.fault.ImageFault.TheVariants as image_faults
 use Rattle.image.specs.Faults as images

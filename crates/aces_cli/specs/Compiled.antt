@@ -1,6 +1,6 @@
 -- What `compile` writes.
 use Rattle.std.specs.Prelude.{◌≡◌, ℕ, List, [], ◌∷◌, ◌++◌, map, codes}
-use Rattle.mem_bus.specs.declared.image.Image.{Image}
+use Rattle.device_model.specs.declared.image.Image.{Image}
 use Rattle.image.specs.Text.{IsText}
 use Rattle.ir_model.specs.Plain.{PlainFirmware}
 use Rattle.simulate.specs.Refines.{Refines}

@@ -1,5 +1,5 @@
 -- What a command did to the outside, by how it ended.
-use Rattle.std.specs.Prelude.{◌≡◌, ◌≢◌, ℕ, ◌≤◌, ◌⊎◌, List, [], ◌++◌, take, Bool, Option, Some, None, Result, Ok, Err, IsTrue}
+use Rattle.std.specs.Prelude.{◌≡◌, ◌≢◌, ℕ, ◌≤◌, ◌⊎◌, List, [], ◌++◌, take, Bool, true, false, Option, Some, None, Result, Ok, Err, IsTrue}
 use Rattle.outside.specs.declared.files.Files as files
 use Rattle.outside.specs.declared.sink.Sink as sinks
 use Rattle.outside.specs.Counts.{Rose, Stayed}
@@ -39,6 +39,11 @@ world of fs out =
 pub record Says (old new : SinkState) (line : List ℕ) : Type 0 where
   pub never_falls : old.faults ≤ new.faults
   pub said : IsTrue old.told → Stayed old.faults new.faults → new.written ≡ old.written ++ line
+
+-- a piece was put, or a fault of the sink rose and a prefix of it was put
+abbrev pub Puts : (old new : SinkState) → List ℕ → Bool → Type 0
+Puts old new piece true = (new.faults ≡ old.faults) × (IsTrue old.told → new.written ≡ old.written ++ piece)
+Puts old new piece false = Rose old.faults new.faults × (IsTrue old.told → AddsPrefix old.written new.written piece)
 
 -- names hold what they held, but for what was to be written
 abbrev pub IsRewritten : (told : Bool) → Option Written → (old new : Held) → Type 0

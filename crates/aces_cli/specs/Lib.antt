@@ -9,3 +9,4 @@ pub mod Did
 pub mod Loads
 pub mod CompileFailures
 pub mod Counts
+pub mod WordsRefusals

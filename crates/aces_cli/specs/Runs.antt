@@ -1,16 +1,23 @@
 -- What is printed of a run, and how it ends.
-use Rattle.std.specs.Prelude.{ℕ, suc, zero, List, ◌++◌, flat_map, unwrap_or}
+use Rattle.std.specs.Prelude.{ℕ, ◌<◌, ◌≤◌, length, suc, zero, List, ◌++◌, flat_map, unwrap_or}
 use Rattle.words.specs.Runs.{run, events}
-use Rattle.mem_bus.specs.declared.image.Image.{Image}
+use Rattle.device_model.specs.declared.image.Image.{Image}
+use Rattle.device_model.specs.declared.image.Window.{Window}
+use Rattle.device_model.specs.declared.event.Event.{Event}
 use Rattle.armv7m.specs.declared.state.End.{End}
 use Rattle.armv7m.specs.declared.state.End.TheVariants.{Halt, InputEnd, Limit, Stop, Refused}
 use Rattle.armv7m.specs.State.{State}
 use Rattle.armv7m.specs.Step.{step, event}
-use Rattle.lines.specs.Lines.{event_line, end_line}
+use Rattle.lines.specs.Lines.{name_of, event_line, end_line}
 
 -- the byte that RAM holds at the start of a run
 abbrev pub fill : ℕ
 fill = 0xA5
+
+-- an event of a window whose name is short enough for a line, as are all events of a machine
+pub record HasLine (windows : List Window) (e : Event) : Type 0 where
+  pub known : e.periph < length windows
+  pub short : length (name_of windows e.periph) ≤ 64
 
 -- how so many steps from a state end: as the machine has ended, or by the limit
 abbrev pub end_of : Image → (steps : ℕ) → State → End

@@ -5,12 +5,12 @@ ghost use Rattle.aces_cli.specs.Answer.{of_image, of_tape, of_text};
 ghost use Rattle.aces_cli.specs.Loads.{IsContentFailure, of_check};
 ghost use Rattle.aces_cli.specs.declared.failure.Failure.TheVariants.{NoMemory};
 
+use device_model::tape::TapeFault;
 use image::fault::ImageFault;
 use ir_check::CheckFault;
 use ir_model::check::{CheckKind, Place};
 use ir_model::token::{Pos, TextLimit};
 use ir_reader::TextFault;
-use mem_bus::tape::TapeFault;
 use std::alloc::AllocError;
 
 /// How a command ends that nothing stopped.

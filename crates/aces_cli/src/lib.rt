@@ -3,21 +3,14 @@
 
 mod bin;
 mod check;
-#[cfg(test)]
-mod check_tests;
 mod command;
 mod compile;
-#[cfg(test)]
-mod compile_tests;
 mod failure;
 mod loading;
 mod report;
 mod run;
 mod source;
-#[cfg(test)]
-mod source_tests;
-#[cfg(test)]
-mod tests;
+mod words_refusal;
 mod writing;
 
 ghost use Rattle.std.specs.Prelude.{◌≡◌, ◌≢◌, ◌↔◌, ◌⊎◌, map, IsTrue, string_bytes};
@@ -32,6 +25,7 @@ use failure::{Done, Failure};
 use outside::{Files, Sink};
 use report::{report, say};
 use std::alloc::Global;
+pub use words_refusal::{WordsRefusal, refuse_words};
 
 /// Carries out what the words behind the program's name ask for, and answers the exit status: 0 done, 1 a fault in
 /// the content of a file, 2 words that are no request, 4 a file that was not read, 5 a file or output that was not

@@ -3,17 +3,17 @@
 ghost use Rattle.std.specs.Prelude.{◌≡◌, ◌≤◌, ◌<◌, ◌-◌, ◌^◌, length, None, IfOk, IfErr, OnOk};
 ghost use Rattle.image.specs.Text.{IsText};
 ghost use Rattle.ir_model.specs.Plain as plain;
-ghost use Rattle.mem_bus.specs.Tape as tapes;
+ghost use Rattle.device_model.specs.Tape as tapes;
 ghost use Rattle.aces_cli.specs.Requests.{file_origin, firmware_origin, file_limit, firmware_limit};
 ghost use Rattle.aces_cli.specs.Known.{IsKnown, IsKnownLarge};
 ghost use Rattle.aces_cli.specs.Answer.{IsNoImage, IsNoTape, IsNoFirmware, IsFirmware};
 ghost use Rattle.aces_cli.specs.Loads.{IsContentFailure, IsLoadFailure};
 
 use crate::failure::{Failure, Fault, check_failure, image_failure, tape_failure, text_failure};
+use device_model::image::{Image, Window};
+use device_model::tape::Tape;
 use ir_check::check;
 use ir_model::checked::Checked;
-use mem_bus::image::{Image, Window};
-use mem_bus::tape::Tape;
 use outside::{Files, ReadRefusal, read_whole};
 use std::alloc::Global;
 

@@ -3,20 +3,22 @@
 ghost use Rattle.std.specs.Prelude.{◌≡◌, ◌≤◌, ◌++◌, ℕ, Bool, Ok, length, IsTrue, IfOk, OnErr, OnOk, None};
 ghost use Rattle.outside.specs.Counts.{Rose};
 ghost use Rattle.outside.specs.Contents.{AddsPrefix};
-ghost use Rattle.mem_bus.specs.Rules.{ObeysRules};
+ghost use Rattle.device_model.specs.Rules.{ObeysRules};
+ghost use Rattle.lines.specs.Lines as lines;
 ghost use Rattle.aces_cli.specs.Requests.{Run, file_limit};
 ghost use Rattle.aces_cli.specs.Known.{Held, IsKnown, IsKnownLarge};
 ghost use Rattle.aces_cli.specs.Answer.{Answer, RunAnswer};
-ghost use Rattle.aces_cli.specs.Runs.{end_of, event_lines, run_lines, end_status};
-ghost use Rattle.aces_cli.specs.Did.{Does, sink, world, status_of};
+ghost use Rattle.aces_cli.specs.Runs.{end_of, event_lines, run_lines, end_status, HasLine};
+ghost use Rattle.aces_cli.specs.Did.{Does, Puts, sink, world, status_of};
 
 use crate::failure::{Done, Failure};
 use crate::loading::{image_of, load, tape_of};
-use armv7m::laws::{ended_machines, listed_accesses, steps_end_or_go_on};
-use armv7m::machine::{Machine, Step};
+use armv7m::laws::{ended_machines, listed_accesses};
+use armv7m::machine::Machine;
 use armv7m::state::End;
+use device_model::event::Event;
+use device_model::image::{Image, Window};
 use lines::{end_line, event_line};
-use mem_bus::image::Image;
 use outside::{Failed, Files, Sink};
 use std::alloc::Global;
 
@@ -110,6 +112,25 @@ fn emulate<O: Sink>(
     Ok(end)
 }
 
+/// Whether the event is one of these windows, and the name of its window has at most 64 bytes.
+fn has_line(windows: &[Window], event: &Event) -> bool
+    ensures true_where { HasLine windows.now event.now → IsTrue result }
+    ensures true_only_where { IsTrue result → HasLine windows.now event.now }
+{
+    match windows.get(event.periph as usize) {
+        Some(window) => window.name.len() <= 64,
+        None => false,
+    }
+}
+
+/// Puts the line of an event of one of these windows, and answers whether it was put.
+fn put_event<O: Sink>(out: &mut O, windows: &[Window], event: &Event) -> bool
+    ensures { HasLine windows.now event.now →
+        Puts (sink O.Sink out.old) (sink O.Sink out.new) (lines.event_line windows.now event.now) result }
+{
+    has_line(windows, event) && out.put(event_line(windows, event).as_slice()).is_ok()
+}
+
 /// Runs it, prints the line of each event, and answers the end.
 fn print_events<O: Sink>(
     machine: &mut Machine,
@@ -129,15 +150,11 @@ fn print_events<O: Sink>(
         (AddsPrefix (O.written out.old) (O.written out.new) (event_lines image.now steps machine.old.state)) }
 {
     ended_machines();
-    steps_end_or_go_on();
     listed_accesses();
     let windows = image.windows.as_slice();
-    for _step in 0..steps {
-        match machine.step() {
-            Step::Ran => {}
-            Step::Event(event) => out.put(event_line(windows, &event).as_slice())?,
-            Step::Ended(end) => return Ok(end),
-        }
+    let mut put = |event: &Event| put_event(out, windows, event);
+    match machine.run(u64::from(steps), &mut put) {
+        End::Refused => Err(Failed),
+        end => Ok(end),
     }
-    Ok(End::Limit)
 }

@@ -7,7 +7,7 @@ use Rattle.words.specs.Bytes.{read, write, cut}
 use Rattle.words.proofs.Bytes.{read_fits}
 use Rattle.thumb_model.specs.declared.table.Instr.TheVariants.{TransferImmediate}
 use Rattle.mpu_model.specs.declared.region.Access.TheVariants.{Read, Write}
-use Rattle.mem_bus.specs.declared.image.Image.{Image}
+use Rattle.device_model.specs.declared.image.Image.{Image}
 use Rattle.armv7m.specs.State.{Judge}
 use Rattle.armv7m.specs.declared.state.End.TheVariants.{InputEnd}
 use Rattle.armv7m.specs.Events.{input_event, output_event, ended}

@@ -5,7 +5,7 @@ use Rattle.words.specs.declared.conditions.Flags.{Flags}
 use Rattle.words.specs.Flags.{result_flags}
 use Rattle.words.specs.Bytes.{read, write}
 use Rattle.words.proofs.Bytes.{length-write, read_same, read_below, read_above, cut_small}
-use Rattle.mem_bus.specs.declared.image.Image.{Image}
+use Rattle.device_model.specs.declared.image.Image.{Image}
 use Rattle.armv7m.specs.declared.state.ProtectionState.{ProtectionState}
 use Rattle.armv7m.specs.State.{Judge}
 use Rattle.armv7m.specs.Code.{CodeAt, Runs}

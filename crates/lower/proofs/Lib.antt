@@ -1,5 +1,6 @@
-pub mod Joined
-pub mod Effects
-pub mod Frames
-pub mod Tables
+mod Joined
+mod Effects
+mod Frames
+mod Tables
 pub mod Written
+mod Clearing

@@ -5,7 +5,8 @@ use Rattle.std.proofs.Math.ListN.{get_or}
 use Rattle.thumb_model.specs.declared.table.Instr.{Instr}
 use Rattle.thumb_model.specs.declared.table.Instr.TheVariants.{AddSubRegister, DataRegister, StackRelative, MoveWide, MoveTop}
 use Rattle.thumb_model.specs.Table.{InTable}
-use Rattle.armv7m.specs.CodeBytes.{EachInTable}
+use Rattle.thumb_model.specs.Bytes.{EachInTable}
+use Rattle.thumb_model.proofs.Codes.{in_table-append}
 use Rattle.ir_model.specs.Types.{PlainType, U8, U16}
 use Rattle.ir_model.specs.Resolved.{NumberedInst, Const, Addr, Elem, Load, Store, ThePeriph}
 use Rattle.lower.specs.Templates.{to_slot, inst_code, scale_of, load_code, store_code, clear_code, entry_code, return_code}
@@ -55,9 +56,5 @@ entry n h =
 leave : (n : ℕ) → n < 128 → EachInTable (return_code n)
 leave n h = ((omega arith, h), ((omega arith, omega arith, omega arith, omega arith, λ e. omega arith, λ e. refl, omega arith), tt))
 
-join : (xs ys : List Instr) → EachInTable xs → EachInTable ys → EachInTable (xs ++ ys)
-join [] ys a b = b
-join (x ∷ xs) ys a b = (a.0, join xs ys a.1 b)
-
 pub code_is_in_table : CodeIsInTable
-code_is_in_table = record { insts = insts; entry = entry; leave = leave; join = join }
+code_is_in_table = record { insts = insts; entry = entry; leave = leave; join = in_table-append }

@@ -5,13 +5,13 @@ use Rattle.words.specs.Arithmetic.{word}
 use Rattle.words.specs.Bytes.{read, write, cut}
 use Rattle.thumb_model.specs.declared.table.Instr.{Instr}
 use Rattle.mpu_model.specs.declared.region.Access.TheVariants.{Read, Write}
-use Rattle.mem_bus.specs.declared.image.Image.{Image}
-use Rattle.mem_bus.specs.declared.event.Event.{Event}
+use Rattle.device_model.specs.declared.image.Image.{Image}
+use Rattle.device_model.specs.declared.event.Event.{Event}
 use Rattle.mem_bus.specs.Places.{InWindow, place}
 use Rattle.armv7m.specs.declared.state.End.TheVariants.{InputEnd}
 use Rattle.armv7m.specs.State.{Judge}
 use Rattle.armv7m.specs.Code.{CodeAt}
-use Rattle.armv7m.specs.CodeBytes.{EachInTable}
+use Rattle.thumb_model.specs.Bytes.{EachInTable}
 use Rattle.armv7m.specs.Running.{code_size}
 use Rattle.armv7m.specs.Stack.{Room}
 use Rattle.armv7m.specs.Events.{input_event, output_event}

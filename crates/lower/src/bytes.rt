@@ -2,7 +2,7 @@
 
 ghost use Rattle.std.specs.Prelude.{◌≡◌, ◌++◌, ◌/◌, ◌%◌, [], ◌∷◌, OnOk};
 ghost use Rattle.thumb_model.specs.Table as table;
-ghost use Rattle.armv7m.specs.CodeBytes.{bytes_of_code};
+ghost use Rattle.thumb_model.specs.Bytes.{bytes_of_code};
 
 use std::alloc::AllocError;
 use thumb_model::{Code, Instr, encode};

@@ -2,9 +2,9 @@
 
 ghost use Rattle.std.specs.Prelude.{◌≡◌, ℕ, List, ◌++◌, length};
 ghost use Rattle.thumb_model.specs.declared.table.Instr.{Instr};
-ghost use Rattle.mem_bus.specs.declared.image.Image.{Image};
+ghost use Rattle.device_model.specs.declared.image.Image.{Image};
 ghost use Rattle.armv7m.specs.State.{Judge};
-ghost use Rattle.armv7m.specs.CodeBytes.{code_bytes, EachInTable};
+ghost use Rattle.thumb_model.specs.Bytes.{code_bytes};
 ghost use Rattle.armv7m.specs.Running.{code_size};
 ghost use Rattle.armv7m.specs.Working.{Context};
 ghost use Rattle.lower.specs.Points.{Point};
@@ -34,5 +34,5 @@ pub fn tables()
 /// The bytes of code are those of its parts, and as many as the sizes of its instructions.
 pub fn bytes()
     ensures join { (xs ys : List Instr) → code_bytes (xs ++ ys) ≡ code_bytes xs ++ code_bytes ys }
-    ensures count { (xs : List Instr) → EachInTable xs → length (code_bytes xs) ≡ code_size xs }
+    ensures count { (xs : List Instr) → length (code_bytes xs) ≡ code_size xs }
 {}

@@ -5,5 +5,3 @@ pub mod bytes;
 pub mod insts;
 pub mod laws;
 pub mod templates;
-#[cfg(test)]
-mod tests;

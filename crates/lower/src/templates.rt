@@ -2,7 +2,7 @@
 
 ghost use Rattle.std.specs.Prelude.{◌≡◌, ◌<◌, ◌++◌, [], ◌∷◌, map, All, OnOk};
 ghost use Rattle.thumb_model.specs.Table.{InTable};
-ghost use Rattle.armv7m.specs.CodeBytes.{code_bytes};
+ghost use Rattle.thumb_model.specs.Bytes.{code_bytes};
 ghost use Rattle.ir_model.specs.Resolved as ir;
 ghost use Rattle.lower.specs.Templates as template;
 ghost use Rattle.lower.specs.Templates.{number_into, scale_of, inst_code, insts_code, load_code, store_code, entry_code, return_code, clear_code};

@@ -3,8 +3,8 @@ use Rattle.std.proofs.Common.{◌≡◌, ℕ, zero, suc, ◌+◌, ◌*◌, ◌�
 use Rattle.std.specs.Prelude.{option_to_list}
 use Rattle.words.specs.Runs.{run, events}
 use Rattle.words.proofs.Runs.{stay, onward, run_still}
-use Rattle.mem_bus.specs.declared.image.Image.{Image}
-use Rattle.mem_bus.specs.declared.event.Event.{Event}
+use Rattle.device_model.specs.declared.image.Image.{Image}
+use Rattle.device_model.specs.declared.event.Event.{Event}
 use Rattle.armv7m.specs.State.{State, by_mpu}
 use Rattle.armv7m.specs.Code.{Runs}
 use Rattle.armv7m.specs.Run.{start}
@@ -12,7 +12,8 @@ use Rattle.ir_model.specs.Resolved.{Program}
 use Rattle.ir_model.specs.State.{SourceState, Running, Ended, Returned, OutOfInput, Faulted}
 use Rattle.ir_model.specs.State as source
 use Rattle.ir_model.specs.Step.{source_turn, source_step, source_event}
-use Rattle.simulate.specs.Refines.{HasFault, Matched, EndsAlike, source_after}
+use Rattle.simulate.specs.Refines.{HasFault, Matched, EndsAlike}
+use Rattle.ir_model.specs.Runs.{source_after}
 use Rattle.simulate.specs.Simulation.{Follows, Simulation}
 
 ended_stays : (p : Program) (c : List ℕ) (e : source.SourceEnd) → source_step p c (Ended e) ≡ Ended e

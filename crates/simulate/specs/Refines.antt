@@ -1,24 +1,15 @@
 -- An image refines a firmware: whatever the device input, as long as the source run meets no fault, the machine makes the
 -- same accesses of peripherals, by the same compartments and in the same order, and ends exactly when the source does.
 use Rattle.std.specs.Prelude.{◌≡◌, ℕ, ◌+◌, ◌*◌, ◌<◌, ◌≤◌, List, length, Option, Some, None}
-use Rattle.words.specs.Runs.{run, events}
-use Rattle.mem_bus.specs.declared.image.Image.{Image}
-use Rattle.mem_bus.specs.declared.event.Event.{Event}
+use Rattle.device_model.specs.declared.image.Image.{Image}
 use Rattle.armv7m.specs.declared.state.End.{End}
 use Rattle.armv7m.specs.declared.state.End.TheVariants.{Halt, InputEnd}
 use Rattle.armv7m.specs.Run.{after, events_after}
 use Rattle.ir_model.specs.Plain.{PlainFirmware}
 use Rattle.ir_model.specs.Resolved.{Program}
 use Rattle.ir_model.specs.Resolve.{resolve}
-use Rattle.ir_model.specs.State.{SourceState, Running, Ended, Returned, OutOfInput, Faulted, start}
-use Rattle.ir_model.specs.Step.{source_step, source_event}
-
--- the source run after n steps, and the events of these steps; `compartments` has a number for each function
-abbrev pub source_after : Program → (compartments : List ℕ) → (queues : List (List ℕ)) → (steps : ℕ) → SourceState
-source_after p c queues n = run (source_step p c) n (start p queues)
-
-abbrev pub source_events : Program → (compartments : List ℕ) → (queues : List (List ℕ)) → (steps : ℕ) → List Event
-source_events p c queues n = events (source_step p c) (source_event p c) n (start p queues)
+use Rattle.ir_model.specs.State.{SourceState, Running, Ended, Returned, OutOfInput, Faulted}
+use Rattle.ir_model.specs.Runs.{source_after, source_events}
 
 abbrev pub HasFault : SourceState → Type 0
 HasFault (Ended (Faulted f)) = Unit {0}

@@ -1,8 +1,8 @@
 -- A simulation: pairs of a state of a source run and a state of a machine, such that every source step without a fault
 -- leads from a pair to a pair, by a bounded number of machine steps with the same event.
 use Rattle.std.specs.Prelude.{◌≡◌, ℕ, ◌≤◌, List, [], option_to_list}
-use Rattle.mem_bus.specs.declared.image.Image.{Image}
-use Rattle.mem_bus.specs.declared.event.Event.{Event}
+use Rattle.device_model.specs.declared.image.Image.{Image}
+use Rattle.device_model.specs.declared.event.Event.{Event}
 use Rattle.armv7m.specs.State.{State, by_mpu}
 use Rattle.armv7m.specs.Code.{Runs}
 use Rattle.armv7m.specs.Run.{start}
@@ -10,7 +10,8 @@ use Rattle.ir_model.specs.Resolved.{Program}
 use Rattle.ir_model.specs.State.{SourceState}
 use Rattle.ir_model.specs.State as source
 use Rattle.ir_model.specs.Step.{source_step, source_event}
-use Rattle.simulate.specs.Refines.{HasFault, EndsAlike, Matched, source_after}
+use Rattle.simulate.specs.Refines.{HasFault, EndsAlike, Matched}
+use Rattle.ir_model.specs.Runs.{source_after}
 
 -- from 1 to 16,384 machine steps, with these events, to the machine's state of a pair whose source state is this
 pub record Follows {K : Type 0} (source_of : K → SourceState) (machine_of : K → State) (i : Image) (from : State) (to : SourceState) (es : List Event) : Type 0 where

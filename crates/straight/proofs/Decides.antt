@@ -1,6 +1,6 @@
 -- The test decides the form.
 use Rattle.std.proofs.Common.{rules, ◌≡◌, ℕ, ◌≤◌, List, [], ◌∷◌, length, Bool, true, false, ◌&&◌, None, Some, bytes_eq, nat_le, refl, ap, ◌∙◌, IsTrue, ◌↔◌, arith}
-use Rattle.std.proofs.lemmas.Bool.{false≢true}
+use Rattle.std.proofs.lemmas.Bool.{false≢true, and_parts}
 use Rattle.ir_model.specs.Resolve.{main_name}
 use Rattle.std.proofs.lemmas.Bool.Decides.{nat_tests}
 use Rattle.std.specs.List.{list_all}
@@ -12,27 +12,9 @@ use Rattle.ir_model.specs.Types.{PlainResult, nothing, gives}
 use Rattle.ir_model.specs.Plain.{PlainSlot, PlainStruct, PlainGlobal, PlainFunc, PlainFile, PlainFirmware}
 use Rattle.ir_model.specs.declared.firmware.Peripheral.{Peripheral}
 use Rattle.ir_model.specs.Canonical.{Each}
+use Rattle.ir_model.proofs.ForEach.{each_from_list_all, list_all_from_each}
 use Rattle.straight.specs.Form.{is_straight, block_of, main_of, firmware_with, IsStraight}
 use Rattle.straight.specs.FormTest.{is_empty, is_one, is_plain_return, is_nothing, is_straight_block, is_straight_func, is_straight_file, is_straight_firmware}
-
-istrue : (b : Bool) → b ≡ true → IsTrue b
-istrue b h = h
-
-true_is : (b : Bool) → IsTrue b → b ≡ true
-true_is b h = h
-
-both : (a b : Bool) → (a && b) ≡ true → (a ≡ true) × (b ≡ true)
-both true true h = (refl, refl)
-both true false h = absurd (false≢true h)
-both false b h = absurd (false≢true h)
-
-each_of : (is : List Inst) → list_all is_straight is ≡ true → Each (λ (i : Inst). IsTrue (is_straight i)) is
-each_of [] h = tt
-each_of (i ∷ is) h = let g = both (is_straight i) (list_all is_straight is) h in (istrue (is_straight i) g.0, each_of is g.1)
-
-pub all_of : (is : List Inst) → Each (λ (i : Inst). IsTrue (is_straight i)) is → list_all is_straight is ≡ true
-all_of [] h = refl
-all_of (i ∷ is) h = let e = all_of is h.1 in let f = true_is (is_straight i) h.0 in rw (f, e) refl
 
 -- each test on one part
 empty_is : {A : Type 0} (xs : List A) → is_empty xs ≡ true → xs ≡ []
@@ -66,10 +48,10 @@ record Block' (b : Block) : Type 0 where
 
 block_is : (b : Block) → is_straight_block b ≡ true → Block' b
 block_is b h =
-    let t = both (is_plain_return b.term) _ h in
-    let u = both (nat_le (length b.insts) 1000) (list_all is_straight b.insts) t.1 in
+    let t = and_parts (is_plain_return b.term) _ h in
+    let u = and_parts (nat_le (length b.insts) 1000) (list_all is_straight b.insts) t.1 in
     let e = return_is b.term t.0 in
-    record { parts = ap (λ (t : Term). record { label = b.label; insts = b.insts; term = t }) e; few = let v = u.0 in search (nat_tests, arith); each = each_of b.insts u.1 }
+    record { parts = ap (λ (t : Term). record { label = b.label; insts = b.insts; term = t }) e; few = let v = u.0 in search (nat_tests, arith); each = each_from_list_all is_straight b.insts u.1 }
 
 record Func' (f : PlainFunc) : Type 0 where
   block : Block
@@ -82,10 +64,10 @@ func_made n ps ls rs o bs b e1 e2 e3 e4 e5 = rw (e1, e2, e3, e4, e5) refl
 
 func_is : (f : PlainFunc) → is_straight_func f ≡ true → Func' f
 func_is f h =
-    let t = both (bytes_eq f.name main_name) _ h in
-    let u = both (is_empty f.params) _ t.1 in
-    let v = both (is_nothing f.outcome) _ u.1 in
-    let x = both (is_empty f.locals) (is_one is_straight_block f.blocks) v.1 in
+    let t = and_parts (bytes_eq f.name main_name) _ h in
+    let u = and_parts (is_empty f.params) _ t.1 in
+    let v = and_parts (is_nothing f.outcome) _ u.1 in
+    let x = and_parts (is_empty f.locals) (is_one is_straight_block f.blocks) v.1 in
     let n : f.name ≡ main_name = let z = t.0 in search rules in
     let o = one_is is_straight_block f.blocks x.1 in
     let a = empty_is f.params u.0 in
@@ -107,8 +89,8 @@ firmware_made ss ps gs fs f n m e1 e2 e3 e4 = rw (e1, e2, e3, e4) refl
 
 to_form : (w : PlainFirmware) → is_straight_firmware w ≡ true → IsStraight w
 to_form w h =
-    let t = both (is_empty w.structs) _ h in
-    let u = both (is_empty w.globals) (is_one is_straight_file w.files) t.1 in
+    let t = and_parts (is_empty w.structs) _ h in
+    let u = and_parts (is_empty w.globals) (is_one is_straight_file w.files) t.1 in
     let o = one_is is_straight_file w.files u.1 in
     let q = one_is is_straight_func o.it.funcs o.passes in
     let f = func_is q.it q.passes in
@@ -128,10 +110,10 @@ to_form w h =
 
 from_form : (w : PlainFirmware) → IsStraight w → is_straight_firmware w ≡ true
 from_form w s =
-    let a = all_of s.insts s.each in
+    let a = list_all_from_each is_straight s.insts s.each in
     let b : nat_le (length s.insts) 1000 ≡ true = let c = s.few in search (nat_tests, arith) in
     let e : is_straight_firmware (firmware_with w.periphs s.file (main_of s.registers (block_of s.label s.insts))) ≡ true = rw (b, a) refl in
     ap is_straight_firmware s.parts ∙ e
 
 pub decides : (w : PlainFirmware) → IsTrue (is_straight_firmware w) ↔ IsStraight w
-decides w = ((λ h. to_form w (true_is (is_straight_firmware w) h)), (λ s. istrue (is_straight_firmware w) (from_form w s)))
+decides w = (to_form w, from_form w)

@@ -7,14 +7,16 @@ use Rattle.thumb_model.specs.declared.table.Instr.{Instr}
 use Rattle.thumb_model.specs.declared.table.Instr.TheVariants.{ShiftImmediate, AddSubRegister, AddSubImmediate, DataImmediate, DataRegister, HighRegister, BranchExchange, LoadLiteral, TransferRegister, TransferImmediate, StackRelative, AdjustStack, PushPop, BreakpointNop, TransferMultiple, BranchConditional, CallBranch, BranchLink, BranchWide, MoveWide, MoveTop, Divide, SpecialRegister, Barrier}
 use Rattle.thumb_model.specs.Table.{encode}
 use Rattle.armv7m.specs.Code.{size}
-use Rattle.armv7m.specs.CodeBytes.{bytes_of_code, code_bytes}
+use Rattle.thumb_model.specs.Bytes.{bytes_of_code, code_bytes}
 use Rattle.armv7m.specs.Running.{code_size}
 use Rattle.ir_model.specs.declared.firmware.Inst.{Inst}
 use Rattle.ir_model.specs.declared.firmware.Slot.{Slot}
 use Rattle.ir_model.specs.declared.firmware.Peripheral.{Peripheral}
 use Rattle.ir_model.specs.Plain.{PlainSlot, slot_of}
 use Rattle.lower.specs.Templates.{inst_code, insts_code, entry_code, return_code}
-use Rattle.lower.proofs.Written.{code_bytes-append}
+use Rattle.thumb_model.proofs.Codes.{code_bytes-append}
+use Rattle.armv7m.proofs.CodeParts.{length-code_bytes}
+use Rattle.lower.proofs.Written.{insts_bytes}
 use Rattle.straight.specs.Image.{bases_of, frame_words, main_code, start_code, vector_bytes, filled_up}
 use Rattle.straight.specs.Padded.{padded}
 use Rattle.straight.specs.Resolved.{resolved_in, flash_with}
@@ -23,61 +25,7 @@ use Rattle.straight.specs.Resolved.{resolved_in, flash_with}
 pub frame_words_are : (n : ℕ) → n + 1 - n % 2 ≡ frame_words n
 frame_words_are n = omega arith
 
--- ---- as many bytes as the sizes say
-
-abbrev bytes_in : Code → ℕ
-bytes_in c = length (bytes_of_code c)
-
-half_or : (b : Bool) (x y : ℕ) → bytes_in (if b then Half x else Half y) ≡ 2
-half_or true x y = refl
-half_or false x y = refl
-
-pair_or : (b : Bool) (x y v w : ℕ) → bytes_in (if b then Pair x y else Pair v w) ≡ 4
-pair_or true x y v w = refl
-pair_or false x y v w = refl
-
-size_is : (x : Instr) → bytes_in (encode x) ≡ size x
-unfolding encode
-size_is (ShiftImmediate op imm5 m d) = refl
-size_is (AddSubRegister op m n d) = refl
-size_is (AddSubImmediate op imm3 n d) = refl
-size_is (DataImmediate op d imm8) = refl
-size_is (DataRegister op m d) = refl
-size_is (HighRegister op m d) = refl
-size_is (BranchExchange op m) = refl
-size_is (LoadLiteral t imm8) = refl
-size_is (TransferRegister op m n t) = refl
-size_is (TransferImmediate op imm5 n t) = refl
-size_is (StackRelative op t d imm8) = half_or (nat_lt op 2) _ _
-size_is (AdjustStack op imm7) = refl
-size_is (PushPop op m p list) = half_or (nat_eq op 0) _ _
-size_is (BreakpointNop op imm8) = half_or (nat_eq op 0) _ _
-size_is (TransferMultiple op n list) = refl
-size_is (BranchConditional cond offset) = refl
-size_is (CallBranch op imm8 offset) = half_or (nat_eq op 0) _ _
-size_is (BranchLink offset) = refl
-size_is (BranchWide offset) = refl
-size_is (MoveWide d value) = refl
-size_is (MoveTop d value) = refl
-size_is (Divide op n d m) = refl
-size_is (SpecialRegister op n d s) = pair_or (nat_eq op 0) _ _ _ _
-size_is (Barrier op) = refl
-
-code_length : (xs : List Instr) → length (code_bytes xs) ≡ code_size xs
-code_length [] = refl
-code_length (x ∷ xs) =
-    let a = size_is x in
-    let b = code_length xs in
-    length-append (bytes_of_code (encode x)) (code_bytes xs) ∙ rw (a, b) refl
-
 -- ---- the parts of `main`
-
-insts_bytes : (rs : List PlainSlot) (ps : List Peripheral) (is : List Inst) →
-    flat_map (λ i. code_bytes (inst_code (bases_of ps) (resolved_in rs ps i))) is ≡ code_bytes (insts_code (bases_of ps) (map (resolved_in rs ps) is))
-insts_bytes rs ps [] = refl
-insts_bytes rs ps (i ∷ is) =
-    ap (λ l. code_bytes (inst_code (bases_of ps) (resolved_in rs ps i)) ++ l) (insts_bytes rs ps is)
-    ∙ sym (code_bytes-append (inst_code (bases_of ps) (resolved_in rs ps i)) (insts_code (bases_of ps) (map (resolved_in rs ps) is)))
 
 main_bytes : (old : List ℕ) (rs : List PlainSlot) (ps : List Peripheral) (is : List Inst) (n : ℕ) →
     ((old ++ code_bytes (entry_code (frame_words n))) ++ flat_map (λ i. code_bytes (inst_code (bases_of ps) (resolved_in rs ps i))) is) ++ code_bytes (return_code (frame_words n))
@@ -86,7 +34,7 @@ main_bytes old rs ps is n =
     let e : List Instr = entry_code (frame_words n) in
     let m : List Instr = insts_code (bases_of ps) (map (resolved_in rs ps) is) in
     let r : List Instr = return_code (frame_words n) in
-    let a = insts_bytes rs ps is in
+    let a = insts_bytes (bases_of ps) (resolved_in rs ps) is in
     let b = code_bytes-append (e ++ m) r in
     let c = code_bytes-append e m in
     rw a (ap (λ l. l ++ code_bytes r) (append_assoc old (code_bytes e) (code_bytes m)) ∙ append_assoc old (code_bytes e ++ code_bytes m) (code_bytes r)
@@ -116,7 +64,7 @@ flash_parts m =
     let nop : List Instr = BreakpointNop 1 0 ∷ [] in
     let a : nat_eq (length ((vector_bytes ++ code_bytes start_code) ++ code_bytes m) % 4) 0 ≡ nat_eq (code_size m % 4) 0 =
     ap (λ n. nat_eq n 0) (ap (λ n. n % 4) (length-append (vector_bytes ++ code_bytes start_code) (code_bytes m))
-    ∙ front_length vector_bytes (code_bytes start_code) (length (code_bytes m)) refl (code_length start_code) ∙ ap (λ n. n % 4) (code_length m)) in
+    ∙ front_length vector_bytes (code_bytes start_code) (length (code_bytes m)) refl (length-code_bytes start_code) ∙ ap (λ n. n % 4) (length-code_bytes m)) in
     let b = padded_by (nat_eq (length ((vector_bytes ++ code_bytes start_code) ++ code_bytes m) % 4) 0) (nat_eq (code_size m % 4) 0) vector_bytes (code_bytes start_code) (code_bytes m) (code_bytes nop) a in
     let c = filled_bytes (nat_eq (code_size m % 4) 0) m nop in
     let d = code_bytes-append start_code (filled_up m) in

@@ -6,7 +6,7 @@ use Rattle.words.specs.declared.conditions.Flags.{Flags}
 use Rattle.words.specs.Arithmetic.{moved}
 use Rattle.words.specs.Bytes.{read}
 use Rattle.words.proofs.Bytes.{cut_small}
-use Rattle.mem_bus.specs.declared.image.Image.{Image}
+use Rattle.device_model.specs.declared.image.Image.{Image}
 use Rattle.armv7m.specs.declared.state.End.{End}
 use Rattle.armv7m.specs.declared.state.End.TheVariants.{Halt, InputEnd}
 use Rattle.armv7m.specs.State.{State, Judge, by_mpu}
@@ -18,9 +18,10 @@ use Rattle.armv7m.specs.Working.{Context, works}
 use Rattle.armv7m.proofs.Templates.{bkpt, bl}
 use Rattle.armv7m.proofs.Exec.{stay, next_step, onward as runs_onward}
 use Rattle.armv7m.proofs.Runs.{run_ended, events_ended}
+use Rattle.armv7m.proofs.CodeParts.{code_at-append}
 use Rattle.ir_model.specs.Types.{PlainType}
 use Rattle.ir_model.specs.Resolved.{Program, Value, NumberedInst, NumberedFunc, NumberedGlobal, Ret, Here, Does, Ends, here, here_in}
-use Rattle.ir_model.specs.State.{SourceState, SourceEnd, SourceTurn, Returned, OutOfInput, Faulted, Running, Ended, entered, frame_of, zero_cells}
+use Rattle.ir_model.specs.State.{SourceState, SourceEnd, SourceTurn, Returned, OutOfInput, Faulted, Running, Ended, entered, frame_of, zero_local}
 use Rattle.ir_model.specs.State as source
 use Rattle.ir_model.specs.Step.{source_turn, turn_here, leave}
 use Rattle.simulate.specs.Refines.{EndsAlike}
@@ -30,7 +31,7 @@ use Rattle.lower.specs.Points.{Point, state_at}
 use Rattle.lower.specs.Effects.{InstEffects, EntryWorks, ReturnWorks, Entry, Entered}
 use Rattle.straight.specs.Image.{main_code}
 use Rattle.straight.proofs.Values.{Fits, word_of, type_at, value_at, Held, entered_at, length-entered, zero_fits, zero_word}
-use Rattle.straight.proofs.Setup.{Setup, Stand, Pair, Both, Over, source_of, machine_of, alike, privileged, frame_at, memory_with, point_at, frame_offset, frame_sp, has_room, words_least, words_most, code_from, code_at_parts}
+use Rattle.straight.proofs.Setup.{Setup, Stand, Pair, Both, Over, source_of, machine_of, alike, privileged, frame_at, memory_with, point_at, frame_offset, frame_sp, has_room, words_least, words_most, code_from}
 use Rattle.straight.proofs.Steps.{words, Answers, zeros, here_straight, inst_step, next_of}
 
 -- a machine that has ended stays so for a step
@@ -49,10 +50,10 @@ first_point ram qs = record { sp = 0x20010000; lr = 0xFFFFFFFF; pc = 0x08000040;
 abbrev called_point : (ram : List ℕ) → (queues : List (List ℕ)) → Point
 called_point ram qs = record { sp = 0x20010000; lr = 0x08000045; pc = 0x08000048; ram = ram; queues = qs }
 
-start_is : (i : Image) (queues : List (List ℕ)) (fill : ℕ) → read 4 0 i.flash ≡ 0x20010000 → read 4 4 i.flash ≡ 0x08000041 →
+start_is : (i : Image) (queues : List (List ℕ)) (fill : ℕ) → i.regions ≡ 8 → read 4 0 i.flash ≡ 0x20010000 → read 4 4 i.flash ≡ 0x08000041 →
     start i queues fill ≡ state_at privileged (first_point (replicate i.ram_size fill) queues) (replicate 8 0) no_flags
 unfolding start
-start_is i queues fill a b = rw (a, b) refl
+start_is i queues fill r a b = rw (r, a, b) refl
 
 call_target : moved 0x08000044 (pos 4) ≡ 0x08000048
 call_target = refl
@@ -65,7 +66,7 @@ module _ (p : Program) (i : Image) (ts : List PlainType) (is : List NumberedInst
   unfolding source.start
   source_start queues =
       ap (λ (m : ℕ). Running (frame_of p m 0 [] ∷ []) (memory_with first_globals queues)) su.main_is
-      ∙ ap (λ (f : NumberedFunc). Running (record { func = 0; block = 0; place = 0; number = 0; regs = entered [] f.regs; locals = map zero_cells f.locals } ∷ []) (memory_with first_globals queues)) su.func_is
+      ∙ ap (λ (f : NumberedFunc). Running (record { func = 0; block = 0; place = 0; number = 0; regs = entered [] f.regs; locals = map zero_local f.locals } ∷ []) (memory_with first_globals queues)) su.func_is
 
   called : (queues : List (List ℕ)) (ram low : List ℕ) (f : Flags) → Steps by_mpu i (state_at privileged (first_point ram queues) low f) (state_at privileged (called_point ram queues) low f)
   called queues ram low f = bl by_mpu i privileged low 0x20010000 0xFFFFFFFF 0x08000040 f ram queues 0x08000048 (pos 4) call_target su.code.0
@@ -74,7 +75,7 @@ module _ (p : Program) (i : Image) (ts : List PlainType) (is : List NumberedInst
   main_parts =
       let c : CodeAt by_mpu i privileged.protection 0x08000048 (main_code ws (length ts) is) = su.code.1.1.1 in
       let e : main_code ws (length ts) is ≡ entry_code (words p i ts is ws) ++ code_from ws (words p i ts is ws) is = append_assoc (entry_code (words p i ts is ws)) (insts_code ws is) (return_code (words p i ts is ws)) in
-      code_at_parts i (entry_code (words p i ts is ws)) (code_from ws (words p i ts is ws) is) 0x08000048 (subst (CodeAt by_mpu i privileged.protection 0x08000048) e c)
+      code_at-append by_mpu i privileged.protection (entry_code (words p i ts is ws)) (code_from ws (words p i ts is ws) is) 0x08000048 (subst (CodeAt by_mpu i privileged.protection 0x08000048) e c)
 
   module _ (ram new : List ℕ) (as_long : length ram ≡ i.ram_size) (en : Entered (frame_offset (words p i ts is ws)) (words p i ts is ws) 0x08000045 ram new) where
     first_fits : (k : ℕ) → k < length ts → Fits (length ws) (type_at ts k) (value_at (entered [] ts) k)
@@ -133,7 +134,7 @@ module _ (p : Program) (i : Image) (ts : List PlainType) (is : List NumberedInst
           most = omega arith;
           pair = Both s;
           source_is = sym (source_start queues);
-          runs = subst (λ (t : State). Runs by_mpu i (suc (3 + words p i ts is ws)) t (machine_of i ts is ws (Both s)) []) (sym (start_is i queues fill su.first_sp su.first_pc))
+          runs = subst (λ (t : State). Runs by_mpu i (suc (3 + words p i ts is ws)) t (machine_of i ts is ws (Both s)) []) (sym (start_is i queues fill su.regions su.first_sp su.first_pc))
               (next_step (called queues first_ram (replicate 8 0) no_flags) a.runs);
         }
 

@@ -1,18 +1,18 @@
-pub mod Given
-pub mod Values
-pub mod Setup
-pub mod Steps
-pub mod Followed
-pub mod Typed
-pub mod Resolved
-pub mod Limits
-pub mod Windows
-pub mod Ports
-pub mod Sizes
-pub mod Whole
-pub mod Refined
-pub mod Decides
-pub mod Scales
-pub mod Positions
-pub mod Filling
-pub mod Parts
+mod Given
+mod Values
+mod Setup
+mod Steps
+mod Followed
+mod Typed
+mod Resolved
+mod Limits
+mod Windows
+mod Ports
+mod Sizes
+mod Whole
+mod Refined
+mod Decides
+mod Scales
+mod Positions
+mod Filling
+mod Parts

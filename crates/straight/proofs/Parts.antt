@@ -2,8 +2,7 @@
 use Rattle.std.proofs.Common.{◌≡◌, ℕ, ◌<◌, ◌^◌, List, [], ◌∷◌, length, map, refl, sym, ap, ◌∙◌, subst, arith, ◌++◌, IsTrue}
 use Rattle.std.specs.List.{All}
 use Rattle.std.proofs.lemmas.List.{length-map}
-use Rattle.mem_bus.specs.declared.image.Image.{Image}
-use Rattle.mem_bus.specs.Rules.{ObeysRules}
+use Rattle.device_model.specs.declared.image.Image.{Image}
 use Rattle.ir_model.specs.declared.firmware.Block.{Block}
 use Rattle.ir_model.specs.declared.firmware.FileDecl.{FileDecl}
 use Rattle.ir_model.specs.declared.firmware.Firmware.{Firmware}
@@ -15,20 +14,15 @@ use Rattle.ir_model.specs.declared.firmware.Inst.TheVariants.{Const, Move, Bin, 
 use Rattle.ir_model.specs.Layout.{known}
 use Rattle.ir_model.specs.Resolved.{NumberedInst}
 use Rattle.ir_model.specs.Resolve.{resolve, scope_of, resolved_inst}
-use Rattle.armv7m.specs.CodeBytes.{code_bytes}
 use Rattle.std.specs.List.{list_all}
 use Rattle.std.proofs.lemmas.List.Sums.{AllPass-from_list_all}
-use Rattle.ir_model.specs.Typing.{IsTyped}
 use Rattle.ir_model.specs.Canonical.{IsWithinLimits}
-use Rattle.simulate.specs.Refines.{Refines}
 use Rattle.straight.specs.Form.{IsStraight, is_straight, block_of, main_of, firmware_with}
-use Rattle.straight.specs.Image.{image_of, flash_base, ram_base, ram_size, vector_bytes, start_code, filled_up, main_code, bases_of, registers_of, insts_of}
+use Rattle.straight.specs.Image.{image_of, image_with, flash_of, bases_of, registers_of, insts_of}
 use Rattle.ir_resolve.specs.Windows.{window_of}
-use Rattle.straight.specs.Resolved.{resolved_in, image_with}
-use Rattle.straight.proofs.Decides.{all_of}
-use Rattle.straight.proofs.Given.{code_works}
+use Rattle.straight.specs.Resolved.{resolved_in, flash_with}
+use Rattle.ir_model.proofs.ForEach.{list_all_from_each}
 use Rattle.straight.proofs.Limits.{at_most_64, at_most_120}
-use Rattle.straight.proofs.Refined.{images_obey, images_refine}
 
 -- what stands in the first function of the first file
 abbrev in_func : {A : Type 0} → A → (PlainFunc → A) → List PlainFunc → A
@@ -63,23 +57,6 @@ all_alike : (ps : List Peripheral) (file : List ℕ) (rs : List PlainSlot) (b : 
 all_alike ps file rs b [] = refl
 all_alike ps file rs b (y ∷ is) = let e = resolved_alike ps file rs b y in let f = all_alike ps file rs b is in rw (e, f) refl
 
-abbrev image_for : List Peripheral → (registers : ℕ) → List NumberedInst → Image
-image_for ps n is =
-    record {
-      flash_base = flash_base;
-      flash = vector_bytes ++ code_bytes (start_code ++ filled_up (main_code (bases_of ps) n is));
-      ram_base = ram_base;
-      ram_size = ram_size;
-      monitor = 0;
-      stack_base = 0;
-      stack_size = 0;
-      windows = map window_of ps;
-    }
-
-image_is_for : (w : PlainFirmware) → image_of w ≡ image_for w.periphs (registers_of w) (insts_of w)
-unfolding image_of
-image_is_for w = refl
-
 registers_counted : (ps : List Peripheral) (file : List ℕ) (rs : List PlainSlot) (b : Block) → registers_of (firmware_with ps file (main_of rs b)) ≡ length rs
 unfolding resolve
 registers_counted ps file rs b = length-map rs (λ (r : PlainSlot). r.ty)
@@ -89,11 +66,15 @@ insts_found : (ps : List Peripheral) (file : List ℕ) (rs : List PlainSlot) (la
 unfolding resolve
 insts_found ps file rs label is = all_alike ps file rs (block_of label is) is
 
-image_parts : (ps : List Peripheral) (file : List ℕ) (rs : List PlainSlot) (label : List ℕ) (is : List Inst) → image_with rs ps is ≡ image_of (firmware_with ps file (main_of rs (block_of label is)))
+image_parts : (ps : List Peripheral) (file : List ℕ) (rs : List PlainSlot) (label : List ℕ) (is : List Inst) →
+    image_with (flash_with rs ps is) (map window_of ps) ≡ image_of (firmware_with ps file (main_of rs (block_of label is)))
+unfolding image_of
 image_parts ps file rs label is =
+    let w : PlainFirmware = firmware_with ps file (main_of rs (block_of label is)) in
     let a = registers_counted ps file rs (block_of label is) in
     let b = insts_found ps file rs label is in
-    sym (image_is_for (firmware_with ps file (main_of rs (block_of label is))) ∙ ap (λ n. image_for ps n (insts_of (firmware_with ps file (main_of rs (block_of label is))))) a ∙ ap (image_for ps (length rs)) b)
+    sym (ap (λ n. image_with (flash_of (bases_of ps) n (insts_of w)) (map window_of ps)) a
+    ∙ ap (λ ns. image_with (flash_of (bases_of ps) (length rs) ns) (map window_of ps)) b)
 
 module _ (w : Firmware) (s : IsStraight (firmware_of w)) where
   pub one_file : length w.files ≡ 1
@@ -138,18 +119,12 @@ module _ (w : Firmware) (s : IsStraight (firmware_of w)) where
 
       module _ (b : Block) (k : g.blocks ≡ b ∷ []) where
         pub insts_straight : All (λ i. IsTrue (is_straight i)) b.insts
-        insts_straight = AllPass-from_list_all is_straight b.insts (ap (list_all is_straight) (insts_are b k) ∙ all_of s.insts s.each)
+        insts_straight = AllPass-from_list_all is_straight b.insts (ap (list_all is_straight) (insts_are b k) ∙ list_all_from_each is_straight s.insts s.each)
 
-        pub image_is : image_with (map slot_of g.regs) w.periphs b.insts ≡ image_of (firmware_of w)
+        pub image_is : image_with (flash_with (map slot_of g.regs) w.periphs b.insts) (map window_of w.periphs) ≡ image_of (firmware_of w)
         image_is = rw (registers_are, insts_are b k) (image_parts w.periphs s.file s.registers s.label s.insts ∙ ap image_of (sym s.parts))
 
   pub few_periphs : IsWithinLimits (firmware_of w) → length w.periphs < 2 ^ 32
   few_periphs l =
       let a = at_most_64 w.periphs s.file s.registers s.label s.insts (subst IsWithinLimits s.parts l) in
       omega arith
-
-  pub obeys : IsWithinLimits (firmware_of w) → IsTyped (firmware_of w) → (i : Image) → i ≡ image_of (firmware_of w) → ObeysRules i
-  obeys l t i e = subst ObeysRules (sym e) (images_obey code_works (firmware_of w) l t s)
-
-  pub refines : IsWithinLimits (firmware_of w) → IsTyped (firmware_of w) → (i : Image) → i ≡ image_of (firmware_of w) → Refines (firmware_of w) (0 ∷ []) i
-  refines l t i e = subst (Refines (firmware_of w) (0 ∷ [])) (sym e) (images_refine code_works (firmware_of w) l t s)

@@ -3,27 +3,23 @@ use Rattle.std.proofs.Common.{◌≡◌, ℕ, zero, suc, ◌+◌, ◌*◌, ◌-�
 use Rattle.std.specs.Prelude.{map, slice_get}
 use Rattle.std.proofs.Math.Nat.{pow-suc}
 use Rattle.std.proofs.lemmas.List.{length-map, get_or-map}
+use Rattle.std.proofs.lemmas.Bool.{and_parts}
 use Rattle.std.proofs.lemmas.Option.{slice_get-get_or}
 use Rattle.words.specs.Arithmetic.{word}
-use Rattle.mem_bus.specs.declared.image.Image.{Image}
-use Rattle.mem_bus.specs.declared.image.Window.{Window}
-use Rattle.mem_bus.specs.Rules.{IsPowerBetween, IsWindow, AreWindows, ObeysRules}
+use Rattle.device_model.specs.declared.image.Image.{Image}
+use Rattle.device_model.specs.declared.image.Window.{Window}
+use Rattle.device_model.specs.Rules.{IsPowerBetween, IsWindow, AreWindows, ObeysRules}
 use Rattle.mem_bus.specs.Places.{InWindow, place}
-use Rattle.mem_bus.proofs.Placed.{place-window}
+use Rattle.mem_bus.proofs.Addresses.{window_at, place-window}
 use Rattle.ir_model.specs.declared.firmware.Peripheral.{Peripheral}
 use Rattle.ir_model.specs.Types.{PlainType, U8, U16, U32, Pointer, Array, Named, Callee, is_integer, width_of}
-use Rattle.ir_model.specs.Resolved.{Program}
+use Rattle.ir_model.specs.Resolved.{Program, NumberedWindow, no_window}
+use Rattle.ir_model.specs.Resolve.{window_of as numbered_window}
 use Rattle.ir_model.specs.Step.{has_port}
 use Rattle.straight.specs.Image.{bases_of}
 use Rattle.ir_resolve.specs.Windows.{window_of}
-use Rattle.straight.proofs.Typed.{both}
 use Rattle.straight.proofs.Windows.{same_number, at_most}
 use Rattle.straight.proofs.Setup.{Leading}
-
-pub window_at : (ws : List Window) (k : ℕ) (d : Window) → AreWindows ws → k < length ws → IsWindow (get_or ws k d)
-window_at [] k d h l = absurd (omega arith)
-window_at (w ∷ ws) zero d h l = h.0
-window_at (w ∷ ws) (suc k) d h l = window_at ws k d h.2 (omega arith)
 
 -- a multiple of a large power of two is one of 32
 record Multiple (n : ℕ) : Type 0 where
@@ -72,19 +68,19 @@ base_below ps q a there =
     let b : q < length (map window_of ps) = omega arith in
     let e : get_or (map window_of ps) q (window_of nobody) ≡ window_of (get_or ps q nobody) = get_or-map window_of ps q nobody (window_of nobody) there in
     let f : get_or (bases_of ps) q 0 ≡ (get_or ps q nobody).base = get_or-map (λ (q : Peripheral). q.base) ps q nobody 0 there in
-    let w = (subst IsWindow e (window_at (map window_of ps) q (window_of nobody) a b)).place in
+    let w = (subst IsWindow e (window_at (map window_of ps) q (get_or (map window_of ps) q (window_of nobody)) a (slice_get-get_or (map window_of ps) q (window_of nobody) b))).place in
     let high = w.1 in
     omega (arith, f)
 
-module _ (i : Image) (ps : List Peripheral) (p : Program) (rules : ObeysRules i) (windows_are : i.windows ≡ map window_of ps) (periphs_are : p.periphs ≡ map (λ (q : Peripheral). q.size) ps) (q at : ℕ) (t : PlainType) (there : q < length ps) where
+module _ (i : Image) (ps : List Peripheral) (p : Program) (rules : ObeysRules i) (windows_are : i.windows ≡ map window_of ps) (periphs_are : p.periphs ≡ map numbered_window ps) (q at : ℕ) (t : PlainType) (there : q < length ps) where
   abbrev it : Peripheral
   it = get_or ps q nobody
 
   base_is : get_or (bases_of ps) q 0 ≡ it.base
   base_is = get_or-map (λ (q : Peripheral). q.base) ps q nobody 0 there
 
-  size_is : get_or p.periphs q 0 ≡ it.size
-  size_is = ap (λ (l : List ℕ). get_or l q 0) periphs_are ∙ get_or-map (λ (q : Peripheral). q.size) ps q nobody 0 there
+  size_is : (get_or p.periphs q no_window).size ≡ it.size
+  size_is = ap (λ (l : List NumberedWindow). (get_or l q no_window).size) periphs_are ∙ ap (λ (w : NumberedWindow). w.size) (get_or-map numbered_window ps q nobody no_window there)
 
   window_is : slice_get i.windows q ≡ Some (window_of it)
   window_is =
@@ -93,17 +89,14 @@ module _ (i : Image) (ps : List Peripheral) (p : Program) (rules : ObeysRules i)
       ap (λ (ws : List Window). slice_get ws q) windows_are ∙ slice_get-get_or (map window_of ps) q (window_of nobody) b ∙ ap Some (get_or-map window_of ps q nobody (window_of nobody) there)
 
   is_window : IsWindow (window_of it)
-  is_window =
-      let l = length-map ps window_of in
-      let b : q < length (map window_of ps) = omega arith in
-      subst IsWindow (get_or-map window_of ps q nobody (window_of nobody) there) (window_at (map window_of ps) q (window_of nobody) (subst AreWindows windows_are rules.windows) b)
+  is_window = window_at i.windows q (window_of it) rules.windows window_is
 
   pub leading : has_port p q at t ≡ true → Leading i (word (get_or (bases_of ps) q 0 + at)) (width_of t) q at
   leading h =
-      let a = both (is_integer t) (nat_eq (at % width_of t) 0 && nat_le (at + width_of t) (get_or p.periphs q 0)) h in
-      let b = both (nat_eq (at % width_of t) 0) (nat_le (at + width_of t) (get_or p.periphs q 0)) a.1 in
+      let a = and_parts (is_integer t) (nat_eq (at % width_of t) 0 && nat_le (at + width_of t) (get_or p.periphs q no_window).size) h in
+      let b = and_parts (nat_eq (at % width_of t) 0) (nat_le (at + width_of t) (get_or p.periphs q no_window).size) a.1 in
       let e = same_number (at % width_of t) 0 b.0 in
-      let f : at + width_of t ≤ it.size = subst (λ (s : ℕ). at + width_of t ≤ s) size_is (at_most (at + width_of t) (get_or p.periphs q 0) b.1) in
+      let f : at + width_of t ≤ it.size = subst (λ (s : ℕ). at + width_of t ≤ s) size_is (at_most (at + width_of t) (get_or p.periphs q no_window).size b.1) in
       let w = is_window.place in
       let low = w.0 in
       let high = w.1 in

@@ -1,8 +1,8 @@
 -- The image of a straight firmware obeys the rules of images, and refines the firmware.
 use Rattle.std.proofs.Common.{ℕ, ◌≤◌, List, length, sym, subst}
 use Rattle.std.specs.Prelude.{IsTrue}
-use Rattle.mem_bus.specs.declared.image.Image.{Image}
-use Rattle.mem_bus.specs.Rules.{ObeysRules}
+use Rattle.device_model.specs.declared.image.Image.{Image}
+use Rattle.device_model.specs.Rules.{ObeysRules}
 use Rattle.ir_model.specs.declared.firmware.Inst.{Inst}
 use Rattle.ir_model.specs.declared.firmware.Peripheral.{Peripheral}
 use Rattle.ir_model.specs.Plain.{PlainSlot, PlainFirmware}

@@ -2,6 +2,8 @@
 use Rattle.std.proofs.Common.{◌≡◌, ℕ, suc, ◌^◌, ◌<◌, Bool, true, false, ◌&&◌, List, [], ◌∷◌, ◌++◌, length, None, refl, sym, subst, arith}
 use Rattle.std.specs.Prelude.{IsTrue, map, nat_le, if◌then◌else◌}
 use Rattle.std.proofs.lemmas.List.{length-map}
+use Rattle.std.proofs.lemmas.Bool.{and_parts}
+use Rattle.std.specs.List.{Contains}
 use Rattle.ir_model.specs.declared.firmware.Inst.{Inst}
 use Rattle.ir_model.specs.declared.firmware.Inst.TheVariants as inst
 use Rattle.ir_model.specs.declared.firmware.Term.{Term}
@@ -11,7 +13,7 @@ use Rattle.ir_model.specs.declared.check.CheckKind.TheVariants.{Unknown, IllType
 use Rattle.ir_model.specs.declared.check.Place.{Place}
 use Rattle.ir_model.specs.declared.check.Place.TheVariants as place
 use Rattle.ir_model.specs.Types.{PlainType}
-use Rattle.ir_model.specs.Plain.{PlainSlot, PlainFunc, PlainFirmware, names_of, types_of}
+use Rattle.ir_model.specs.Plain.{PlainSlot, PlainFunc, PlainFirmware, names_of, types_of, funcs_of}
 use Rattle.ir_model.specs.Layout.{known}
 use Rattle.ir_model.specs.Resolved.{NumberedInst, Addr, Named, ThePeriph}
 use Rattle.ir_model.specs.Resolve.{scope_of, has, number_of, register_number, type_named, resolved_inst, named_by, main_name}
@@ -22,12 +24,10 @@ use Rattle.ir_model.specs.Canonical.{Each}
 use Rattle.straight.specs.Form.{is_straight, block_of, main_of, firmware_with}
 use Rattle.straight.proofs.Values.{Good}
 use Rattle.ir_model.proofs.Passing.{Pass, left, right, holds, behind}
-use Rattle.straight.proofs.Typed.{both, number_below, number_type, element_fits, cell_fits}
-
--- numbers are words
-abbrev pub HasWord : Inst → Type 0
-HasWord (inst.Const to v) = v < 2 ^ 32
-HasWord _ = Unit {0}
+use Rattle.ir_model.proofs.Limits.{HasWord}
+use Rattle.ir_model.proofs.Typed.{parts_pass, func_passes}
+use Rattle.ir_model.proofs.Numbers.{number_below}
+use Rattle.straight.proofs.Typed.{number_type, element_fits, cell_fits}
 
 module _ (ps : List Peripheral) (file : List ℕ) (rs : List PlainSlot) (label : List ℕ) (is : List Inst) where
   abbrev pub main : PlainFunc
@@ -106,7 +106,7 @@ module _ (ps : List Peripheral) (file : List ℕ) (rs : List PlainSlot) (label :
         let b = past_register base (here k) c a in
         let e = past_register i (here k) (fits (inst.Elem to base i)) b in
         let f : (is_number main i && is_element (type_named main base) (type_named main to)) ≡ true = holds (inst_fits firmware main (inst.Elem to base i)) IllTyped (here k) rest e in
-        let g = both (is_number main i) (is_element (type_named main base) (type_named main to)) f in (
+        let g = and_parts (is_number main i) (is_element (type_named main base) (type_named main to)) f in (
           known_register to (here k) d h,
           known_register base (here k) c a,
           known_register i (here k) (fits (inst.Elem to base i)) b,
@@ -154,40 +154,14 @@ module _ (ps : List Peripheral) (file : List ℕ) (rs : List PlainSlot) (label :
   abbrev code : Checks
   code = code_checks firmware main label 0 is (Ret None)
 
-  abbrev no_names : List (List ℕ)
-  no_names = []
+  the_only : Contains (funcs_of firmware) main
+  the_only = (0, omega arith, refl)
 
-  abbrev registers : Checks
-  registers = register_checks no_names (place.Func main_name) no_names rs
+  pub typed_windows : IsTyped firmware → Pass (periph_checks [] ps)
+  typed_windows h = (parts_pass firmware h).periphs
 
-  abbrev frame_and_labels : Checks
-  frame_and_labels = check (nat_le (frame_size (known []) main) frame_limit) (FrameTooLarge (frame_size (known []) main)) (place.Func main_name) ∷ label_checks (place.Func main_name) no_names (block_of label is ∷ [])
-
-  code_passes : Pass (func_checks firmware main) → Pass code
-  code_passes h = left code [] (right (registers ++ frame_and_labels) (blocks_checks firmware main (block_of label is ∷ [])) h)
-
-  abbrev periph_names : List (List ℕ)
-  periph_names = map (λ (q : Peripheral). q.name) ps
-
-  abbrev files : Checks
-  files = file_checks [] (periph_names ++ []) firmware.files
-
-  abbrev windows : Checks
-  windows = periph_checks [] ps
-
-  pub typed_windows : IsTyped firmware → Pass windows
-  unfolding fault_of checks
-  typed_windows h =
-      let m : Checks = check (has_main firmware) NoMain place.Whole ∷ [] in
-      let u : Checks = funcs_checks firmware (main ∷ []) in
-      left windows [] (left (windows ++ []) files (left (windows ++ [] ++ files) u (left (windows ++ [] ++ files ++ u) m (record { none = h }))))
-
-  pub typed_code : IsTyped firmware → Pass code
-  unfolding fault_of checks
-  typed_code h =
-      let m : Checks = check (has_main firmware) NoMain place.Whole ∷ [] in
-      let u : Checks = funcs_checks firmware (main ∷ []) in
-      code_passes (left (func_checks firmware main) [] (right (windows ++ [] ++ files) u (left (windows ++ [] ++ files ++ u) m (record { none = h }))))
+  typed_code : IsTyped firmware → Pass code
+  typed_code h = left code [] (func_passes firmware main h the_only).blocks
 
   pub good_insts : IsTyped firmware → Each (λ (y : Inst). IsTrue (is_straight y)) is → Each HasWord is → Each (Good types (length ps)) (map numbered is)
   good_insts h s w = all_good 0 is (Ret None) s w (typed_code h)

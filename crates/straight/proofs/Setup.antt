@@ -7,13 +7,13 @@ use Rattle.words.specs.Bytes.{read}
 use Rattle.thumb_model.specs.declared.table.Instr.{Instr}
 use Rattle.mpu_model.specs.declared.region.Access.TheVariants.{Read, Write, Fetch}
 use Rattle.mpu_model.specs.Protection.{permits, is_fetch_place}
-use Rattle.mem_bus.specs.declared.image.Image.{Image}
+use Rattle.mpu_model.specs.Registers.{at_reset}
+use Rattle.device_model.specs.declared.image.Image.{Image}
 use Rattle.mem_bus.specs.Places.{InWindow, place}
 use Rattle.armv7m.specs.State.{State, by_mpu}
 use Rattle.armv7m.specs.Code.{size, CodeAt}
 use Rattle.armv7m.specs.Stack.{Room}
 use Rattle.armv7m.specs.Running.{code_size}
-use Rattle.armv7m.specs.Run.{unit_at_reset}
 use Rattle.armv7m.specs.Working.{Context}
 use Rattle.ir_model.specs.Types.{PlainType, nothing, none, width_of}
 use Rattle.ir_model.specs.Resolved.{Program, Value, NumberedInst, NumberedFunc, Ret, func_at, here_in}
@@ -52,7 +52,7 @@ privileged =
       high = replicate 5 0;
       other_sp = 0;
       on_psp = false;
-      protection = record { handler = false; unprivileged = false; mpu = unit_at_reset 8 };
+      protection = record { handler = false; unprivileged = false; mpu = at_reset 8 };
       status = record { shcsr = 0; cfsr = 0; mmfar = 0 };
     }
 
@@ -90,14 +90,6 @@ code_from ws n is = insts_code ws is ++ return_code n
 pub code_from-next : (ws : List ℕ) (n : ℕ) (y : NumberedInst) (ys : List NumberedInst) → code_from ws n (y ∷ ys) ≡ inst_code ws y ++ code_from ws n ys
 code_from-next ws n y ys = append_assoc (inst_code ws y) (insts_code ws ys) (return_code n)
 
-pub code_at_parts : (i : Image) (xs ys : List Instr) (pc : ℕ) → CodeAt by_mpu i privileged.protection pc (xs ++ ys) →
-    CodeAt by_mpu i privileged.protection pc xs × CodeAt by_mpu i privileged.protection (pc + code_size xs) ys
-code_at_parts i [] ys pc c = let e : pc + 0 ≡ pc = omega arith in (tt, rw e c)
-code_at_parts i (x ∷ xs) ys pc c =
-    let r = code_at_parts i xs ys (pc + size x) c.1 in
-    let e : pc + (size x + code_size xs) ≡ pc + size x + code_size xs = omega arith in
-    ((c.0, r.0), rw e r.1)
-
 -- a straight program and an image with its code
 pub record Setup (p : Program) (i : Image) (ts : List PlainType) (is : List NumberedInst) (ws : List ℕ) : Type 0 where
   pub main_is : p.main ≡ 0
@@ -107,6 +99,7 @@ pub record Setup (p : Program) (i : Image) (ts : List PlainType) (is : List Numb
   pub bases : (q : ℕ) → q < length ws → get_or ws q 0 < 2 ^ 32
   pub port : (q at : ℕ) (t : PlainType) → q < length ws → at < 2 ^ 32 → has_port p q at t ≡ true → Leading i (word (get_or ws q 0 + at)) (width_of t) q at
   pub no_monitor : i.monitor ≡ 0
+  pub regions : i.regions ≡ 8
   pub ram_at : i.ram_base ≡ 0x20000000
   pub ram_is : i.ram_size ≡ 65536
   pub code : CodeAt by_mpu i privileged.protection 0x08000040 (start_code ++ main_code ws (length ts) is)

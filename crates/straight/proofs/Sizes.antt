@@ -9,9 +9,10 @@ use Rattle.thumb_model.specs.declared.table.Code.TheVariants.{Half, Pair}
 use Rattle.thumb_model.specs.declared.table.Instr.{Instr}
 use Rattle.thumb_model.specs.declared.table.Instr.TheVariants.{BranchLink, BranchWide, MoveWide, MoveTop, Divide, SpecialRegister, Barrier, BreakpointNop}
 use Rattle.armv7m.specs.Code.{size}
-use Rattle.armv7m.specs.CodeBytes.{bytes_of_code, code_bytes, EachInTable}
+use Rattle.thumb_model.specs.Bytes.{bytes_of_code, code_bytes, EachInTable}
 use Rattle.armv7m.specs.Running.{code_size}
-use Rattle.armv7m.proofs.Exec.{HasForm, encode_form}
+use Rattle.armv7m.proofs.CodeParts.{code_size-append, code_size-even}
+use Rattle.thumb_model.proofs.Codes.{in_table-append}
 use Rattle.ir_model.specs.Types.{PlainType, U8, U16}
 use Rattle.ir_model.specs.Resolved.{NumberedInst, Const, Addr, Elem, Load, Store, ThePeriph}
 use Rattle.ir_model.specs.Canonical.{Each}
@@ -22,24 +23,6 @@ use Rattle.straight.proofs.Values.{Good}
 use Rattle.straight.proofs.Setup.{words_most}
 
 -- ---- sizes
-
-pub code_size-append : (xs ys : List Instr) → code_size (xs ++ ys) ≡ code_size xs + code_size ys
-code_size-append [] ys = omega arith
-code_size-append (x ∷ xs) ys = omega (arith, code_size-append xs ys)
-
-size_even : (x : Instr) → size x % 2 ≡ 0
-size_even (BranchLink offset) = refl
-size_even (BranchWide offset) = refl
-size_even (MoveWide d value) = refl
-size_even (MoveTop d value) = refl
-size_even (Divide op n d m) = refl
-size_even (SpecialRegister op n d s) = refl
-size_even (Barrier op) = refl
-size_even _ = refl
-
-code_size-even : (xs : List Instr) → code_size xs % 2 ≡ 0
-code_size-even [] = refl
-code_size-even (x ∷ xs) = omega (arith, size_even x, code_size-even xs)
 
 clear_size : (n k : ℕ) → code_size (clear_code n k) ≡ 2 * n
 clear_size zero k = refl
@@ -92,17 +75,6 @@ filled_by false xs h =
 pub filled_size : (xs : List Instr) → (code_size (filled_up xs) % 4 ≡ 0) × (code_size (filled_up xs) ≤ code_size xs + 2)
 filled_size xs = filled_by (nat_eq (code_size xs % 4) 0) xs refl
 
--- ---- bytes
-
-bytes_length : (c : Code) (n : ℕ) → HasForm c n → length (bytes_of_code c) ≡ n
-bytes_length (Half h) n f = sym f.1
-bytes_length (Pair h k) n f = sym f.1
-
-pub code_length : (xs : List Instr) → EachInTable xs → length (code_bytes xs) ≡ code_size xs
-code_length [] t = refl
-code_length (x ∷ xs) t =
-    omega (arith, length-append (bytes_of_code (encode x)) (code_bytes xs), bytes_length (encode x) (size x) (encode_form x t.0), code_length xs t.1)
-
 -- ---- in the table
 
 pub can_hold : (ts : List PlainType) (ws : List ℕ) (y : NumberedInst) → Good ts (length ws) y → length ts ≤ 120 → ((q : ℕ) → q < length ws → get_or ws q 0 < 2 ^ 32) → CanHold ws y
@@ -119,17 +91,17 @@ call_offset = record { from = omega (arith, ints); below = omega (arith, ints); 
 module _ (table : CodeIsInTable) (ts : List PlainType) (ws : List ℕ) (few : length ts ≤ 120) (bases : (q : ℕ) → q < length ws → get_or ws q 0 < 2 ^ 32) where
   insts_in_table : (is : List NumberedInst) → Each (Good ts (length ws)) is → EachInTable (insts_code ws is)
   insts_in_table [] g = tt
-  insts_in_table (y ∷ ys) g = table.join (inst_code ws y) (insts_code ws ys) (table.insts ws y (can_hold ts ws y g.0 few bases)) (insts_in_table ys g.1)
+  insts_in_table (y ∷ ys) g = in_table-append (inst_code ws y) (insts_code ws ys) (table.insts ws y (can_hold ts ws y g.0 few bases)) (insts_in_table ys g.1)
 
   pub main_in_table : (is : List NumberedInst) → Each (Good ts (length ws)) is → EachInTable (main_code ws (length ts) is)
   main_in_table is g =
       let m = words_most (length ts) few in
-      table.join (entry_code (frame_words (length ts)) ++ insts_code ws is) (return_code (frame_words (length ts)))
-      (table.join (entry_code (frame_words (length ts))) (insts_code ws is) (table.entry (frame_words (length ts)) m) (insts_in_table is g)) (table.leave (frame_words (length ts)) m)
+      in_table-append (entry_code (frame_words (length ts)) ++ insts_code ws is) (return_code (frame_words (length ts)))
+      (in_table-append (entry_code (frame_words (length ts))) (insts_code ws is) (table.entry (frame_words (length ts)) m) (insts_in_table is g)) (table.leave (frame_words (length ts)) m)
 
   filled_in_table : (b : Bool) (xs : List Instr) → EachInTable xs → EachInTable (if b then xs else xs ++ BreakpointNop 1 0 ∷ [])
   filled_in_table true xs t = t
-  filled_in_table false xs t = table.join xs (BreakpointNop 1 0 ∷ []) t ((omega arith, omega arith, λ e. refl), tt)
+  filled_in_table false xs t = in_table-append xs (BreakpointNop 1 0 ∷ []) t ((omega arith, omega arith, λ e. refl), tt)
 
   pub code_in_table : (is : List NumberedInst) → Each (Good ts (length ws)) is → EachInTable (start_code ++ filled_up (main_code ws (length ts) is))
   code_in_table is g =

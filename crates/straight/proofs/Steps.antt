@@ -8,10 +8,10 @@ use Rattle.words.specs.Arithmetic.{word}
 use Rattle.words.specs.Bytes.{read, write, cut}
 use Rattle.mpu_model.specs.declared.region.Access.{Access}
 use Rattle.mpu_model.specs.declared.region.Access.TheVariants.{Read, Write}
-use Rattle.mem_bus.specs.declared.image.Image.{Image}
+use Rattle.device_model.specs.declared.image.Image.{Image}
 use Rattle.armv7m.specs.State.{State, Judge, by_mpu}
 use Rattle.armv7m.specs.Code.{CodeAt, Runs}
-use Rattle.armv7m.specs.Perform.{compartment}
+use Rattle.mem_bus.specs.Memory.{compartment_of}
 use Rattle.armv7m.specs.Running.{code_size}
 use Rattle.armv7m.specs.Working.{Context}
 use Rattle.ir_model.specs.Types.{PlainType, is_integer, width_of}
@@ -25,14 +25,15 @@ use Rattle.simulate.specs.Simulation.{Follows}
 use Rattle.lower.specs.Templates.{inst_code, scale_of}
 use Rattle.lower.specs.Points.{Point}
 use Rattle.lower.specs.Effects.{InstEffects, IsPort, HasFrame}
+use Rattle.armv7m.proofs.CodeParts.{code_at-append}
 use Rattle.straight.specs.Image.{frame_words}
 use Rattle.straight.proofs.Values.{Fits, word_of, type_at, value_at, Good, Held, held_set, number_is, cut_number, cut_fits, element_word}
-use Rattle.straight.proofs.Setup.{Setup, Leading, Stand, Both, Over, source_of, machine_of, privileged, straight_func, frame_at, memory_with, point_at, frame_offset, has_room, words_least, words_most, code_from, code_from-next, code_at_parts, may_read, may_write}
+use Rattle.straight.proofs.Setup.{Setup, Leading, Stand, Both, Over, source_of, machine_of, privileged, straight_func, frame_at, memory_with, point_at, frame_offset, has_room, words_least, words_most, code_from, code_from-next, may_read, may_write}
 
 scale_small : (n : ℕ) → n ≤ 65536 → scale_of n ≡ n
 scale_small n h = let t : nat_le n 65536 ≡ true = search (nat_tests, arith) in rw t refl
 
-no_compartment : (i : Image) (ram : List ℕ) → i.monitor ≡ 0 → compartment i ram ≡ 0
+no_compartment : (i : Image) (ram : List ℕ) → i.monitor ≡ 0 → compartment_of i ram ≡ 0
 no_compartment i ram e = rw e refl
 
 -- `main` is in compartment 0
@@ -61,7 +62,7 @@ module _ (p : Program) (i : Image) (ts : List PlainType) (is : List NumberedInst
   next_of b y ys e =
       let g : Each (Good ts (length ws)) (y ∷ ys) = subst (λ (r : List NumberedInst). Each (Good ts (length ws)) r) e b.good in
       let c : CodeAt by_mpu i privileged.protection b.pc (code_from ws words (y ∷ ys)) = subst (λ (r : List NumberedInst). CodeAt by_mpu i privileged.protection b.pc (code_from ws words r)) e b.code in
-      let d = code_at_parts i (inst_code ws y) (code_from ws words ys) b.pc (subst (CodeAt by_mpu i privileged.protection b.pc) (code_from-next ws words y ys) c) in
+      let d = code_at-append by_mpu i privileged.protection (inst_code ws y) (code_from ws words ys) b.pc (subst (CodeAt by_mpu i privileged.protection b.pc) (code_from-next ws words y ys) c) in
       record {
         here_next = λ k.
             let a : suc b.place + k ≡ b.place + suc k = omega arith in

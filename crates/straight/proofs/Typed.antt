@@ -7,21 +7,6 @@ use Rattle.ir_model.specs.Resolve.{has, number_of}
 use Rattle.ir_model.specs.Rules.{is_port, is_element, holds_cell}
 use Rattle.ir_model.proofs.SameTypes.{same_exactly}
 
-pub both : (a b : Bool) → (a && b) ≡ true → (a ≡ true) × (b ≡ true)
-both true true h = (refl, refl)
-both true false h = cc
-both false b h = cc
-
--- ---- names
-
-number_by : (b : Bool) (ms : List (List ℕ)) (n : List ℕ) → (if b then true else has ms n) ≡ true → (has ms n ≡ true → number_of ms n < length ms) → (if b then zero else suc (number_of ms n)) < suc (length ms)
-number_by true ms n h ih = omega arith
-number_by false ms n h ih = let i = ih h in omega arith
-
-pub number_below : (ms : List (List ℕ)) (n : List ℕ) → has ms n ≡ true → number_of ms n < length ms
-number_below [] n h = cc
-number_below (m ∷ ms) n h = number_by (bytes_eq m n) ms n h (number_below ms n)
-
 -- ---- types
 
 is_same : (t u : PlainType) → same t u ≡ true → t ≡ u

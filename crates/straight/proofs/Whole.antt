@@ -7,11 +7,12 @@ use Rattle.words.specs.Bytes.{read}
 use Rattle.thumb_model.specs.declared.table.Instr.{Instr}
 use Rattle.thumb_model.specs.declared.table.Instr.TheVariants.{BreakpointNop}
 use Rattle.mpu_model.specs.Protection.{is_fetch_place}
-use Rattle.mem_bus.specs.declared.image.Image.{Image}
-use Rattle.mem_bus.specs.Rules.{ObeysRules, AreWindows}
+use Rattle.device_model.specs.declared.image.Image.{Image}
+use Rattle.device_model.specs.Rules.{ObeysRules, AreWindows}
 use Rattle.armv7m.specs.State.{by_mpu}
 use Rattle.armv7m.specs.Code.{CodeIn, CodeAt}
-use Rattle.armv7m.specs.CodeBytes.{HoldsBytes, EachInTable, code_bytes}
+use Rattle.thumb_model.specs.Bytes.{EachInTable, code_bytes}
+use Rattle.armv7m.specs.CodeBytes.{HoldsBytes}
 use Rattle.armv7m.specs.Running.{code_size}
 use Rattle.armv7m.proofs.CodeBytes.{bytes_are_code}
 use Rattle.armv7m.proofs.Exec.{code_may_run, code_parts, code_joined}
@@ -20,7 +21,7 @@ use Rattle.ir_model.specs.declared.firmware.Peripheral.{Peripheral}
 use Rattle.ir_model.specs.Types.{PlainType}
 use Rattle.ir_model.specs.Plain.{PlainSlot, PlainFirmware, types_of}
 use Rattle.ir_model.specs.Resolved.{NumberedInst, func_at}
-use Rattle.ir_model.specs.Resolve.{resolve}
+use Rattle.ir_model.specs.Resolve.{resolve, window_of as numbered_window}
 use Rattle.ir_model.specs.Typing.{IsTyped}
 use Rattle.ir_model.specs.Canonical.{Each, IsWithinLimits}
 use Rattle.straight.specs.Form.{is_straight}
@@ -31,7 +32,8 @@ use Rattle.straight.proofs.Resolved.{firmware, numbered, typed_windows, good_ins
 use Rattle.straight.proofs.Limits.{at_most_64, at_most_120, named, words}
 use Rattle.straight.proofs.Windows.{are_windows}
 use Rattle.straight.proofs.Ports.{base_below, leading}
-use Rattle.straight.proofs.Sizes.{code_size-append, main_size, filled_size, code_length, code_in_table}
+use Rattle.armv7m.proofs.CodeParts.{code_size-append, length-code_bytes}
+use Rattle.straight.proofs.Sizes.{main_size, filled_size, code_in_table}
 use Rattle.straight.proofs.Setup.{Setup, straight_func, privileged, may_fetch}
 use Rattle.lower.specs.Effects.{CodeIsInTable}
 
@@ -87,6 +89,10 @@ module _ (ps : List Peripheral) (file : List ℕ) (rs : List PlainSlot) (label :
   unfolding image_of
   no_monitor = refl
 
+  regions_are : (image_of w).regions ≡ 8
+  unfolding image_of
+  regions_are = refl
+
   no_stack : ((image_of w).stack_base ≡ 0) × ((image_of w).stack_size ≡ 0)
   unfolding image_of
   no_stack = (refl, refl)
@@ -103,7 +109,7 @@ module _ (ps : List Peripheral) (file : List ℕ) (rs : List PlainSlot) (label :
   unfolding resolve
   func_is = refl
 
-  periphs_are : (resolve w).periphs ≡ map (λ (q : Peripheral). q.size) ps
+  periphs_are : (resolve w).periphs ≡ map numbered_window ps
   unfolding resolve
   periphs_are = refl
 
@@ -138,7 +144,7 @@ module _ (ps : List Peripheral) (file : List ℕ) (rs : List PlainSlot) (label :
     each_in_table = code_in_table table ts ws k.few (bases k) ns k.good
 
     bytes_are : length (code_bytes the_code) ≡ 8 + code_size (filled_up the_main)
-    bytes_are = code_length the_code each_in_table ∙ code_size-append start_code (filled_up the_main)
+    bytes_are = length-code_bytes the_code ∙ code_size-append start_code (filled_up the_main)
 
     flash_length : length (image_of w).flash ≡ 72 + code_size (filled_up the_main)
     flash_length =
@@ -164,6 +170,7 @@ module _ (ps : List Peripheral) (file : List ℕ) (rs : List PlainSlot) (label :
           ram_blocks = omega (arith, ram_is);
           monitor = inl no_monitor;
           stack = inl no_stack;
+          regions = inl regions_are;
           count = omega (arith, ap length windows_are, k.most);
           windows = subst AreWindows (sym windows_are) k.windows;
         }
@@ -201,6 +208,7 @@ module _ (ps : List Peripheral) (file : List ℕ) (rs : List PlainSlot) (label :
           bases = bases k;
           port = λ q at t h b y. leading (image_of w) ps (resolve w) rules windows_are periphs_are q at t (omega arith) y;
           no_monitor = no_monitor;
+          regions = regions_are;
           ram_at = ram_at;
           ram_is = ram_is;
           code = code_at;

@@ -3,10 +3,11 @@ use Rattle.std.proofs.Common.{◌≡◌, ◌≢◌, ℕ, zero, suc, ◌+◌, ◌
 use Rattle.std.specs.Prelude.{IsTrue, map, if◌then◌else◌, bytes_eq}
 use Rattle.std.specs.List.{list_any}
 use Rattle.std.proofs.Math.Nat.{pow-suc}
+use Rattle.std.proofs.lemmas.Bool.{and_parts}
 use Rattle.std.proofs.lemmas.Bool.Decides.{nat_tests}
 use Rattle.std.proofs.lemmas.Slice.Eq.{bytes_eq-Decides}
 use Rattle.names.specs.Names.{is_name}
-use Rattle.mem_bus.specs.Rules.{IsPowerBetween, AreApart, IsWindow, IsApart, AreWindows}
+use Rattle.device_model.specs.Rules.{IsPowerBetween, AreApart, IsWindow, IsApart, AreWindows}
 use Rattle.ir_model.specs.declared.firmware.Peripheral.{Peripheral}
 use Rattle.ir_model.specs.declared.check.CheckKind.TheVariants.{Twice, BadWindow, WindowOverlap}
 use Rattle.ir_model.specs.declared.check.Place.TheVariants as place
@@ -15,7 +16,6 @@ use Rattle.ir_model.specs.Typing.{Checks, check, is_power_from, is_window, overl
 use Rattle.ir_model.specs.Canonical.{Each}
 use Rattle.ir_resolve.specs.Windows.{window_of}
 use Rattle.ir_model.proofs.Passing.{Pass, holds, behind}
-use Rattle.straight.proofs.Typed.{both}
 
 -- ---- one window
 
@@ -55,9 +55,9 @@ power_between n h =
 
 window_is : (q : Peripheral) → is_window q ≡ true → IsTrue (is_name q.name) → IsWindow (window_of q)
 window_is q h n =
-    let a = both (is_power_from 12 q.size 32) (nat_eq (q.base % q.size) 0 && (nat_le 0x40000000 q.base && nat_le (q.base + q.size) 0x60000000)) h in
-    let b = both (nat_eq (q.base % q.size) 0) (nat_le 0x40000000 q.base && nat_le (q.base + q.size) 0x60000000) a.1 in
-    let c = both (nat_le 0x40000000 q.base) (nat_le (q.base + q.size) 0x60000000) b.1 in
+    let a = and_parts (is_power_from 12 q.size 32) (nat_eq (q.base % q.size) 0 && (nat_le 0x40000000 q.base && nat_le (q.base + q.size) 0x60000000)) h in
+    let b = and_parts (nat_eq (q.base % q.size) 0) (nat_le 0x40000000 q.base && nat_le (q.base + q.size) 0x60000000) a.1 in
+    let c = and_parts (nat_le 0x40000000 q.base) (nat_le (q.base + q.size) 0x60000000) b.1 in
     let low = at_most 0x40000000 q.base c.0 in
     let high = at_most (q.base + q.size) 0x60000000 c.1 in
     record { named = n; size = power_between q.size a.0; aligned = same_number (q.base % q.size) 0 b.0; place = (low, omega arith) }

@@ -1,9 +1,10 @@
 -- The image of one straight `main`, without a monitor: vectors, a call of `main` with a halt behind it, and `main`.
-use Rattle.std.specs.Prelude.{ℕ, ◌+◌, ◌*◌, ◌%◌, ◌++◌, List, [], ◌∷◌, map, nat_eq, if◌then◌else◌, pos, length, replicate}
+use Rattle.std.specs.Prelude.{ℕ, ◌+◌, ◌*◌, ◌%◌, ◌++◌, List, [], ◌∷◌, map, nat_eq, if◌then◌else◌, pos, length, replicate, false}
 use Rattle.thumb_model.specs.declared.table.Instr.{Instr}
 use Rattle.thumb_model.specs.declared.table.Instr.TheVariants.{BranchLink, BreakpointNop}
-use Rattle.mem_bus.specs.declared.image.Image.{Image}
-use Rattle.armv7m.specs.CodeBytes.{code_bytes}
+use Rattle.device_model.specs.declared.image.Image.{Image}
+use Rattle.device_model.specs.declared.image.Window.{Window}
+use Rattle.thumb_model.specs.Bytes.{code_bytes}
 use Rattle.armv7m.specs.Running.{code_size}
 use Rattle.ir_model.specs.declared.firmware.Peripheral.{Peripheral}
 use Rattle.ir_model.specs.Plain.{PlainFirmware}
@@ -55,18 +56,25 @@ insts_of w = (block_at (resolve w) 0 0).insts
 abbrev pub registers_of : PlainFirmware → ℕ
 registers_of w = length (func_at (resolve w) 0).regs
 
-abbrev pub code_of : PlainFirmware → List Instr
-code_of w = start_code ++ filled_up (main_code (bases_of w.periphs) (registers_of w) (insts_of w))
+-- the bytes of flash of a `main` with so many registers
+abbrev pub flash_of : (windows : List ℕ) → (registers : ℕ) → List NumberedInst → List ℕ
+flash_of ws n is = vector_bytes ++ code_bytes (start_code ++ filled_up (main_code ws n is))
 
-unfoldable pub image_of : PlainFirmware → Image
-image_of w =
+-- an image without a monitor
+abbrev pub image_with : (flash : List ℕ) → List Window → Image
+image_with flash ws =
     record {
       flash_base = flash_base;
-      flash = vector_bytes ++ code_bytes (code_of w);
+      flash = flash;
       ram_base = ram_base;
       ram_size = ram_size;
       monitor = 0;
       stack_base = 0;
       stack_size = 0;
-      windows = map window_of w.periphs;
+      regions = 8;
+      closed = false;
+      windows = ws;
     }
+
+unfoldable pub image_of : PlainFirmware → Image
+image_of w = image_with (flash_of (bases_of w.periphs) (registers_of w) (insts_of w)) (map window_of w.periphs)

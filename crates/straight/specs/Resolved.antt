@@ -1,5 +1,5 @@
 -- The instructions of a straight `main` with numbers for their names.
-use Rattle.std.specs.Prelude.{ℕ, List, [], ◌∷◌, ◌++◌, map, length, Option, Some, None}
+use Rattle.std.specs.Prelude.{ℕ, List, [], ◌∷◌, map, length, Option, Some, None}
 use Rattle.thumb_model.specs.declared.table.Instr.{Instr}
 use Rattle.ir_model.specs.declared.firmware.Inst.{Inst}
 use Rattle.ir_model.specs.declared.firmware.Peripheral.{Peripheral}
@@ -10,10 +10,7 @@ use Rattle.ir_model.specs.Resolve.{Scope, main_name, resolved_inst}
 use Rattle.lower.specs.declared.insts.StraightInst.{StraightInst}
 use Rattle.lower.specs.Emitted.{numbered}
 use Rattle.lower.specs.Templates.{inst_code}
-use Rattle.straight.specs.Image.{bases_of, periph_names, start_code, filled_up, main_code, vector_bytes, flash_base, ram_base, ram_size}
-use Rattle.ir_resolve.specs.Windows.{window_of}
-use Rattle.mem_bus.specs.declared.image.Image.{Image}
-use Rattle.armv7m.specs.CodeBytes.{code_bytes}
+use Rattle.straight.specs.Image.{bases_of, periph_names, flash_of}
 
 -- the names that a straight `main` can mean: its registers, and the peripherals
 abbrev pub names_with : List Peripheral → Scope
@@ -30,21 +27,6 @@ abbrev pub code_of_found : (windows : List ℕ) → Option StraightInst → List
 code_of_found ws None = []
 code_of_found ws (Some s) = inst_code ws (numbered s)
 
--- the code of a `main` of these instructions, with what comes before it in flash
+-- the bytes of flash of a `main` of these instructions
 abbrev pub flash_with : List PlainSlot → List Peripheral → List Inst → List ℕ
-flash_with rs ps is =
-    vector_bytes ++ code_bytes (start_code ++ filled_up (main_code (bases_of ps) (length rs) (map (resolved_in rs ps) is)))
-
--- the image of a `main` by its parts
-abbrev pub image_with : List PlainSlot → List Peripheral → List Inst → Image
-image_with rs ps is =
-    record {
-      flash_base = flash_base;
-      flash = flash_with rs ps is;
-      ram_base = ram_base;
-      ram_size = ram_size;
-      monitor = 0;
-      stack_base = 0;
-      stack_size = 0;
-      windows = map window_of ps;
-    }
+flash_with rs ps is = flash_of (bases_of ps) (length rs) (map (resolved_in rs ps) is)

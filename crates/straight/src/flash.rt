@@ -3,7 +3,7 @@
 ghost use Rattle.std.specs.Prelude.{◌≡◌, ◌<◌, ◌≤◌, ◌^◌, ◌++◌, ◌%◌, length, map, OnOk, IfOk, IfSome, IsTrue, All};
 ghost use Rattle.std.specs.List.{flat_map};
 ghost use Rattle.ir_model.specs.Plain.{slot_of};
-ghost use Rattle.armv7m.specs.CodeBytes.{code_bytes};
+ghost use Rattle.thumb_model.specs.Bytes.{code_bytes};
 ghost use Rattle.lower.specs.Templates.{inst_code};
 ghost use Rattle.lower.specs.Emitted.{MayStand};
 ghost use Rattle.straight.specs.Form.{is_straight};

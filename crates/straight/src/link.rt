@@ -1,19 +1,21 @@
 //! The image of a straight `main`.
 
 ghost use Rattle.std.specs.Prelude.{◌≡◌, ◌<◌, ◌^◌, [], ◌∷◌, length, map, IfOk, IsTrue, All};
-ghost use Rattle.mem_bus.specs.Rules.{ObeysRules};
+ghost use Rattle.device_model.specs.Rules.{ObeysRules};
 ghost use Rattle.ir_model.specs.Plain.{firmware_of, slot_of};
 ghost use Rattle.simulate.specs.Refines.{Refines};
 ghost use Rattle.straight.specs.Form.{IsStraight, is_straight};
-ghost use Rattle.straight.specs.Image.{image_of};
-ghost use Rattle.straight.specs.Resolved.{image_with};
+ghost use Rattle.straight.specs.Image.{image_of, image_with};
+ghost use Rattle.straight.specs.Resolved.{flash_with};
+ghost use Rattle.ir_resolve.specs.Windows.{window_of};
 
 use crate::flash::flash;
+use crate::laws::images;
+use device_model::image::Image;
 use ir_model::checked::Checked;
 use ir_model::firmware::{Block, FileDecl, Func, Inst, Peripheral, Slot};
 use ir_resolve::windows::windows;
 use listed::Listed;
-use mem_bus::image::Image;
 use std::alloc::{AllocError, Global};
 
 const FLASH_BASE: u32 = 0x0800_0000;
@@ -32,7 +34,7 @@ fn image(
     requires few_registers { length registers.now < 127 }
     requires few_periphs { length periphs.now < 2 ^ 32 }
     requires straight { All (λ i. IsTrue (is_straight i)) insts.now }
-    ensures { IfOk result (λ image. image ≡ image_with (map slot_of registers.now) periphs.now insts.now) }
+    ensures { IfOk result (λ image. image ≡ image_with (flash_with (map slot_of registers.now) periphs.now insts.now) (map window_of periphs.now)) }
 {
     let windows = windows(alloc, periphs)?;
     let flash = flash(alloc, registers, periphs, insts)?;
@@ -44,6 +46,8 @@ fn image(
         monitor: 0,
         stack_base: 0,
         stack_size: 0,
+        regions: 8,
+        closed: false,
         windows: Listed::new(windows),
     })
 }
@@ -75,7 +79,7 @@ fn only_block(blocks: &[Block]) -> &Block
 /// # Errors
 ///
 /// Only for want of memory.
-#[tactic(auto, using(crate::proofs::Parts::one_file, crate::proofs::Parts::one_func, crate::proofs::Parts::one_block, crate::proofs::Parts::few_registers, crate::proofs::Parts::few_periphs, crate::proofs::Parts::insts_straight, crate::proofs::Parts::image_is, crate::proofs::Parts::obeys, crate::proofs::Parts::refines))]
+#[tactic(auto, using(crate::proofs::Parts::one_file, crate::proofs::Parts::one_func, crate::proofs::Parts::one_block, crate::proofs::Parts::few_registers, crate::proofs::Parts::few_periphs, crate::proofs::Parts::insts_straight, crate::proofs::Parts::image_is))]
 pub fn link(alloc: Global, checked: &Checked) -> Result<Image, AllocError>
     requires { IsStraight (firmware_of checked.now) }
     ensures image { IfOk result (λ image. image ≡ image_of (firmware_of checked.now)) }
@@ -83,6 +87,7 @@ pub fn link(alloc: Global, checked: &Checked) -> Result<Image, AllocError>
     ensures rules { IfOk result ObeysRules }
     ensures refines { IfOk result (λ image. Refines (firmware_of checked.now) (0 ∷ []) image) }
 {
+    images();
     let firmware = checked.firmware();
     let file = only_file(firmware.files.as_slice());
     let func = only_func(file.funcs.as_slice());

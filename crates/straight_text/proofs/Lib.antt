@@ -1,1 +1,1 @@
-pub mod OneFirmware
+mod OneFirmware

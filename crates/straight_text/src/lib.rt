@@ -1,7 +1,7 @@
 //! The firmware of a canonical text of one straight `main`.
 #![tactic(auto)]
 
-ghost use Rattle.std.specs.Prelude.{◌≡◌, ◌≤◌, ◌↔◌, length, IfOk, OnOk, Err, IsTrue};
+ghost use Rattle.std.specs.Prelude.{◌≡◌, ◌≤◌, ◌↔◌, ℕ, List, length, IfOk, OnOk, Err, IsTrue};
 ghost use Rattle.ir_model.specs.Plain as plain;
 ghost use Rattle.ir_model.specs.Canonical.{canonical, IsWithinLimits};
 ghost use Rattle.ir_model.specs.Typing.{IsTyped};
@@ -13,6 +13,7 @@ use ir_check::{CheckFault, check};
 use ir_model::checked::Checked;
 use ir_model::firmware::Firmware;
 use ir_reader::TextFault;
+use ir_reader::laws::{canonical_texts, texts};
 use std::alloc::{AllocError, Global};
 use straight::form::is_straight;
 use thiserror::Error;
@@ -55,12 +56,22 @@ fn refusal(fault: TextFault) -> StraightRefusal
     }
 }
 
+// A straight text is a text of its firmware, and of no other.
+fn straight_texts()
+    ensures own { (w : plain.PlainFirmware) (bytes : List ℕ) → IsStraightText w bytes → IsText w bytes }
+    ensures only { (v w : plain.PlainFirmware) (bytes : List ℕ) → IsText v bytes → IsStraightText w bytes → w ≡ v }
+{
+    canonical_texts();
+    texts();
+}
+
 // The firmware of a text, whatever its form.
 fn firmware_of(alloc: Global, bytes: &[u8]) -> Result<Firmware, StraightRefusal>
     requires { length bytes.now ≤ 4194304 }
     ensures found { IfOk result (λ f. IsText (plain.firmware_of f) bytes.now) }
     ensures none { (result ≡ Err StraightRefusal.NotStraight) → IsNoStraightText bytes.now }
 {
+    straight_texts();
     match ir_reader::read(alloc, bytes) {
         Ok(firmware) => Ok(firmware),
         Err(fault) => Err(refusal(fault)),
@@ -98,6 +109,7 @@ pub fn read_straight(alloc: Global, bytes: &[u8]) -> Result<Checked, StraightRef
     ensures found { IfOk result (λ checked. IsStraightText (plain.firmware_of checked) bytes.now) }
     ensures none { (result ≡ Err StraightRefusal.NotStraight) → IsNoStraightText bytes.now }
 {
+    straight_texts();
     if bytes.len() > MOST_BYTES {
         return Err(StraightRefusal::NotStraight);
     }

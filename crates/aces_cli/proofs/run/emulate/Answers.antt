@@ -1,8 +1,7 @@
 use Rattle.std.proofs.Common.{[], ◌++◌, ap, sym, append-nil}
 use Rattle.lines.specs.Lines.{end_line}
 use Rattle.aces_cli.specs.Runs.{end_of, event_lines}
-use Rattle.aces_cli.proofs.Prefixes.{prefix_part, prefix_longer}
-use Rattle.aces_cli.proofs.Ends.{on_err}
+use Rattle.outside.proofs.Prefixes.{prefix_part, prefix_longer, on_err}
 use Rattle.aces_cli.proofs.run.emulate.Goals as goal
 
 pub returns-in_err-end-clause-part : goal.returns-in_err-end-clause-part

@@ -1,5 +1,5 @@
 use Rattle.std.proofs.Common.{◌≡◌, ◌∙◌, ◌++◌, length, refl, ap, sym, subst}
-use Rattle.mem_bus.specs.Tape.{queues_of, first_fault}
+use Rattle.device_model.specs.Tape.{queues_of, first_fault}
 use Rattle.armv7m.specs.Machine.{MachineState}
 use Rattle.armv7m.specs.Run.{start}
 use Rattle.aces_cli.specs.Requests.{Run}

@@ -1,5 +1,5 @@
 use Rattle.std.proofs.Common.{◌≡◌, ◌∙◌, ◌++◌, inr, refl, ap, sym, subst}
-use Rattle.mem_bus.specs.Tape.{queues_of}
+use Rattle.device_model.specs.Tape.{queues_of}
 use Rattle.ir_model.specs.Plain.{firmware_of}
 use Rattle.source_output.specs.SourceRuns.{source_end, source_lines, end_status}
 use Rattle.aces_cli.specs.Requests.{Source}

@@ -1,4 +1,5 @@
-use Rattle.lower.proofs.Written.{code_bytes-append, length-code_bytes}
+use Rattle.thumb_model.proofs.Codes.{code_bytes-append}
+use Rattle.armv7m.proofs.CodeParts.{length-code_bytes}
 use Rattle.lower.proofs.laws.bytes.Goals as goal
 
 pub returns-clause-join : goal.returns-clause-join

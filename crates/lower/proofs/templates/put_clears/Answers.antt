@@ -1,5 +1,5 @@
 use Rattle.std.proofs.Common.{arith}
-use Rattle.lower.proofs.Written.{cleared_more}
+use Rattle.lower.proofs.Clearing.{cleared_more}
 use Rattle.lower.proofs.templates.put_clears.Goals as goal
 
 pub loop-k-preserved : goal.loop-k-preserved

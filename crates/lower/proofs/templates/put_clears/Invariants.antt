@@ -1,5 +1,5 @@
 use Rattle.std.proofs.Common.{◌≡◌, ◌++◌, ◌-◌}
-use Rattle.armv7m.specs.CodeBytes.{code_bytes}
+use Rattle.thumb_model.specs.Bytes.{code_bytes}
 use Rattle.lower.specs.Templates.{clear_code}
 use Rattle.lower.proofs.templates.put_clears.Given as goal
 

@@ -1,5 +1,5 @@
 use Rattle.std.proofs.Common.{◌≡◌, ◌++◌, take, flat_map}
-use Rattle.armv7m.specs.CodeBytes.{code_bytes}
+use Rattle.thumb_model.specs.Bytes.{code_bytes}
 use Rattle.lower.specs.Templates.{inst_code}
 use Rattle.lower.specs.Emitted.{numbered}
 use Rattle.lower.proofs.templates.put_insts.Given as goal

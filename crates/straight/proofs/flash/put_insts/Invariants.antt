@@ -1,5 +1,5 @@
 use Rattle.std.proofs.Common.{◌≡◌, ◌++◌, take, map, flat_map}
-use Rattle.armv7m.specs.CodeBytes.{code_bytes}
+use Rattle.thumb_model.specs.Bytes.{code_bytes}
 use Rattle.ir_model.specs.Plain.{slot_of}
 use Rattle.lower.specs.Templates.{inst_code}
 use Rattle.straight.specs.Image.{bases_of}

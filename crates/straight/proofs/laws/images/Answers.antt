@@ -1,9 +1,13 @@
-use Rattle.straight.proofs.Given.{code_works}
+use Rattle.straight.proofs.Given.{CodeWorks}
 use Rattle.straight.proofs.Refined.{images_obey, images_refine}
 use Rattle.straight.proofs.laws.images.Goals as goal
 
 pub returns-clause-rules : goal.returns-clause-rules
-returns-clause-rules c = images_obey code_works
+returns-clause-rules c =
+    let works : CodeWorks = record { effects = c.instructions.ensures; entry = c.frames.ensures.entry; leave = c.frames.ensures.leave; table = c.tables.ensures } in
+    images_obey works
 
 pub returns-clause-refines : goal.returns-clause-refines
-returns-clause-refines c = images_refine code_works
+returns-clause-refines c =
+    let works : CodeWorks = record { effects = c.instructions.ensures; entry = c.frames.ensures.entry; leave = c.frames.ensures.leave; table = c.tables.ensures } in
+    images_refine works

@@ -1,9 +1,11 @@
-use Rattle.std.proofs.Common.{◌≡◌, [], ◌∷◌, sym, ap, ◌∙◌}
+use Rattle.std.proofs.Common.{◌≡◌, [], ◌∷◌, sym, ap, ◌∙◌, subst}
 use Rattle.ir_model.specs.declared.firmware.Firmware.{Firmware}
-use Rattle.straight.proofs.Parts.{image_is, obeys, refines}
+use Rattle.ir_model.specs.Plain.{firmware_of}
+use Rattle.device_model.specs.Rules.{ObeysRules}
+use Rattle.simulate.specs.Refines.{Refines}
+use Rattle.straight.proofs.Parts.{image_is}
 use Rattle.straight.proofs.link.link.Goals as goal
 
--- src/link.rt:98:1
 pub returns-clause-image : goal.returns-clause-image
 returns-clause-image c =
     let same = c.firmware-firmware.ensures.same in
@@ -17,10 +19,12 @@ returns-clause-image c =
     let m = c.in_ok-image.ensures in
     cc
 
--- src/link.rt:98:1
 pub returns-clause-rules : goal.returns-clause-rules
-returns-clause-rules c = obeys c.args.checked.now c.requires c.firmware-firmware.ensures.within c.firmware-firmware.ensures.typed c.in_ok-image.image (returns-clause-image c)
+returns-clause-rules c =
+    subst ObeysRules (sym (returns-clause-image c))
+    (c.images.ensures.rules (firmware_of c.args.checked.now) c.firmware-firmware.ensures.within c.firmware-firmware.ensures.typed c.requires)
 
--- src/link.rt:98:1
 pub returns-clause-refines : goal.returns-clause-refines
-returns-clause-refines c = refines c.args.checked.now c.requires c.firmware-firmware.ensures.within c.firmware-firmware.ensures.typed c.in_ok-image.image (returns-clause-image c)
+returns-clause-refines c =
+    subst (Refines (firmware_of c.args.checked.now) (0 ∷ [])) (sym (returns-clause-image c))
+    (c.images.ensures.refines (firmware_of c.args.checked.now) c.firmware-firmware.ensures.within c.firmware-firmware.ensures.typed c.requires)
