@@ -1,0 +1,138 @@
+//! A run of a small machine. Addresses and results were worked out by hand from the manual.
+
+ghost use Rattle.std.specs.Prelude.{◌≡◌, IfOk, length};
+ghost use Rattle.device_model.specs.Rules.{ObeysRules, IsWindow};
+
+use armv7m::machine::{Machine, Step};
+use armv7m::state::End;
+use device_model::event::Event;
+use device_model::image::{Image, Window};
+use device_model::tape::Tape;
+use listed::Listed;
+use names::is_name;
+use std::alloc::{AllocError, Global};
+use std::process::Abort;
+use std::test::Fail;
+use words::memory::write_words;
+
+/// The window PORT of 32 bytes at 0x40000000.
+fn port(rt: &impl Abort, alloc: Global) -> Result<Window, AllocError>
+    ensures { IfOk result IsWindow }
+{
+    let name = Vec::from_slice(alloc, b"PORT")?;
+    assert!(rt; is_name(&name));
+    Ok(Window {
+        name: Listed::new(name),
+        base: 0x4000_0000,
+        size: 32,
+    })
+}
+
+/// 128 bytes of flash at 0, 1 KiB of RAM and one window. The main stack begins behind RAM, and the code at 0x40.
+fn board(rt: &impl Abort, alloc: Global) -> Result<Image, AllocError>
+    ensures rules { IfOk result ObeysRules }
+    ensures windows { IfOk result (λ image. length image.windows ≡ 1) }
+{
+    let mut flash = vec![in alloc; 0u8; 128]?;
+    write_words(flash.as_mut_slice(), 0, &[0x2000_0400, 0x41]);
+    write_words(
+        flash.as_mut_slice(),
+        64,
+        &[
+            0x2107_2005, // MOVS r0, #5; MOVS r1, #7
+            0x4348_1842, // ADDS r2, r0, r1; MULS r0, r1
+            0x2301_B405, // PUSH {r0, r2}; MOVS r3, #1
+            0x605A_079B, // LSLS r3, r3, #30; STR r2, [r3, #4]
+            0xBE09_681C, // LDR r4, [r3]; BKPT 9
+        ],
+    );
+    let mut windows = Vec::new(alloc);
+    windows.push(port(rt, alloc)?)?;
+    Ok(Image {
+        flash_base: 0,
+        flash: Listed::new(flash),
+        ram_base: 0x2000_0000,
+        ram_size: 1024,
+        monitor: 0,
+        stack_base: 0,
+        stack_size: 0,
+        regions: 8,
+        closed: false,
+        windows: Listed::new(windows),
+    })
+}
+
+fn start(rt: &impl Abort, alloc: Global) -> Result<Machine, AllocError> {
+    let image = board(rt, alloc)?;
+    let mut tape = Tape::empty(alloc, 1)?;
+    tape.push(0, 0x1234_5678)?;
+    Machine::start(alloc, &image, tape, 0xAA)
+}
+
+const STORED: Event = Event {
+    compartment: 0,
+    periph: 0,
+    offset: 4,
+    width: 4,
+    write: true,
+    value: 12,
+};
+
+const LOADED: Event = Event {
+    compartment: 0,
+    periph: 0,
+    offset: 0,
+    width: 4,
+    write: false,
+    value: 0x1234_5678,
+};
+
+#[test]
+fn runs_to_its_end(rt: HostRuntime) -> Result<(), Fail> {
+    let mut machine = start(&rt, rt.alloc())?;
+    assert_eq!(rt; machine.step(), Step::Ran);
+    let mut first = None;
+    let mut second = None;
+    let end = machine.run(
+        100,
+        &mut |event: &Event| {
+            if first.is_none() {
+                first = Some(*event);
+            } else {
+                second = Some(*event);
+            }
+            true
+        },
+    );
+    assert_eq!(rt; end, End::Halt(9));
+    assert_eq!(rt; first, Some(STORED));
+    assert_eq!(rt; second, Some(LOADED));
+    assert_eq!(rt; machine.step(), Step::Ended(End::Halt(9)));
+    let registers = [
+        (0, 35),
+        (2, 12),
+        (4, 0x1234_5678),
+        (13, 0x2000_03F8),
+        (15, 0x52),
+    ];
+    for (k, value) in registers {
+        assert!(rt; k < 16);
+        assert_eq!(rt; machine.reg(k), value, "r{k}");
+    }
+    assert_eq!(rt; machine.byte(0x2000_03F8), Some(35));
+    assert_eq!(rt; machine.byte(0x2000_03F7), Some(0xAA));
+    assert!(rt; machine.privileged());
+    assert_eq!(rt; machine.mpu().read(0xE000_ED94), Some(0));
+    Ok(())
+}
+
+#[test]
+fn stops_where_told(rt: HostRuntime) -> Result<(), Fail> {
+    let mut machine = start(&rt, rt.alloc())?;
+    assert_eq!(rt; machine.run(7, &mut |_: &Event| false), End::Limit);
+    assert_eq!(rt; machine.reg(15), 0x4E);
+    assert_eq!(rt; machine.run(2, &mut |_: &Event| false), End::Refused);
+    assert_eq!(rt; machine.reg(15), 0x50);
+    assert_eq!(rt; machine.step(), Step::Event(LOADED));
+    Ok(())
+}

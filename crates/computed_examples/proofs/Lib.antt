@@ -1,0 +1,11 @@
+mod Examples
+mod StoredPointer
+mod Control
+mod Lending
+mod Calls
+mod Table
+mod Small
+mod Refused
+mod Spelling
+mod Shortest
+mod Frame

@@ -1,0 +1,14 @@
+pub mod Board
+pub mod ComputedSteps
+pub mod ComputedFaults
+pub mod StoredPointer
+pub mod Written
+pub mod Control
+pub mod Lending
+pub mod Calls
+pub mod Table
+pub mod Small
+pub mod Refused
+pub mod Spelling
+pub mod Shortest
+pub mod Frame

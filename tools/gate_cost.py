@@ -1,0 +1,63 @@
+#!/usr/bin/env python3
+"""What each crate costs the merge gate, in processor time.
+
+    tools/gate_cost.py record FILE &    # samples the prover's processes once a second, until it is ended
+    rt ci --anew
+    kill %1
+    tools/gate_cost.py table FILE       # a table: each crate's own proof, and its must-fail edits
+"""
+
+import collections
+import json
+import os
+import sys
+import time
+
+TICKS = os.sysconf("SC_CLK_TCK")
+
+
+def prover(pid):
+    """The crate, the folder and the processor seconds of a process of the prover; None where it is another."""
+    with open(f"/proc/{pid}/cmdline", "rb") as file:
+        words = [word.decode(errors="replace") for word in file.read().split(b"\0")]
+    if os.path.basename(words[0]) != "rattle" or "--crate-name" not in words:
+        return None
+    with open(f"/proc/{pid}/stat", encoding="utf-8", errors="replace") as file:
+        fields = file.read().rsplit(")", 1)[1].split()
+    seconds = (int(fields[11]) + int(fields[12])) / TICKS
+    crate = words[words.index("--crate-name") + 1]
+    return f"{pid}:{fields[19]}", (crate, os.readlink(f"/proc/{pid}/cwd"), seconds)
+
+
+def record(path):
+    """Writes what was seen of each process of the prover, again and again."""
+    seen = {}
+    while True:
+        for pid in filter(str.isdigit, os.listdir("/proc")):
+            try:
+                found = prover(pid)
+            except OSError:
+                continue
+            if found:
+                seen[found[0]] = found[1]
+        with open(path + ".new", "w", encoding="utf-8") as file:
+            json.dump(list(seen.values()), file)
+        os.replace(path + ".new", path)
+        time.sleep(1)
+
+
+def table(path):
+    """Prints processor minutes by crate: the gate tries edits in folders of their own, and proves in the checkout."""
+    minutes = collections.defaultdict(lambda: [0.0, 0.0])
+    with open(path, encoding="utf-8") as file:
+        for crate, folder, seconds in json.load(file):
+            minutes[crate]["/rt-edit-" in folder] += seconds / 60
+    print("| crate | its proof | its edits |\n|---|---|---|")
+    for crate, (proof, edits) in sorted(minutes.items(), key=lambda item: -sum(item[1])):
+        print(f"| `{crate}` | {proof:.1f} | {edits:.1f} |")
+    total = [sum(column) for column in zip(*minutes.values())]
+    print(f"| all | {total[0]:.1f} | {total[1]:.1f} |")
+
+
+if __name__ == "__main__":
+    {"record": record, "table": table}[sys.argv[1]](sys.argv[2])
