@@ -1,6 +1,6 @@
 -- Single accesses: where nothing lies, where a system register lies, and by the form of the instruction.
-use Rattle.std.proofs.Common.{◌≡◌, ◌≢◌, ℕ, suc, ◌+◌, ◌-◌, ◌%◌, ◌^◌, Bool, true, false, not, ◌||◌, ◌⊎◌, inl, inr, ⊎_elim, ◌∷◌, length, nat_eq, refl, sym, ap, ◌∙◌, subst, arith}
-use Rattle.std.proofs.lemmas.Bool.{eqb-true}
+use Rattle.std.proofs.Common.{◌≡◌, ◌≢◌, ℕ, suc, ◌+◌, ◌-◌, ◌%◌, ◌^◌, Bool, true, false, not, ◌||◌, ⊎_elim, ◌∷◌, length, nat_eq, refl, sym, ap, ◌∙◌, subst, arith}
+use Rattle.std.proofs.lemmas.Bool.{eqb-true, or_cases}
 use Rattle.std.proofs.lemmas.Bool.Decides.{nat_tests}
 use Rattle.words.specs.Arithmetic.{word}
 use Rattle.mpu_model.specs.declared.region.Access.{Access}
@@ -59,10 +59,6 @@ pub nothing_stops : NothingStops
 nothing_stops = stops_at_nothing
 
 -- ---- system registers
-
-or_cases : (x y : Bool) → x || y ≡ true → (x ≡ true) ⊎ (y ≡ true)
-or_cases true y h = inl refl
-or_cases false y h = inr h
 
 -- at each of its registers' addresses the system control space has an aligned word
 abbrev IsWordThere : ℕ → Type 0

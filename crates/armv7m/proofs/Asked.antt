@@ -1,7 +1,6 @@
 -- What the turn of an instruction stores and loads, by what it asks for.
 use Rattle.std.specs.Prelude.{if◌then◌else◌}
-use Rattle.std.proofs.Common.{◌≡◌, ℕ, ◌+◌, Bool, true, false, inl, inr, List, [], ◌∷◌, length, Option, Some, None, nat_eq, refl, sym, ap, ◌∙◌, subst}
-use Rattle.words.specs.Arithmetic.{word}
+use Rattle.std.proofs.Common.{◌≡◌, ℕ, ◌+◌, Bool, true, false, inl, inr, List, [], length, Option, Some, None, nat_eq, refl, sym, ap, ◌∙◌, subst}
 use Rattle.mpu_model.specs.declared.region.Access.TheVariants.{Read, Write}
 use Rattle.device_model.specs.declared.image.Image.{Image}
 use Rattle.mem_bus.specs.declared.answer.Loaded.{Loaded}
@@ -12,30 +11,20 @@ use Rattle.armv7m.specs.declared.state.CoreRegisters.{CoreRegisters}
 use Rattle.armv7m.specs.State.{State, Turn, Judge, is_unprivileged, with_core}
 use Rattle.armv7m.specs.Act.{Act, Changes, Loads, Stores, LoadsMany, StoresMany, GetsSpecial, SetsSpecial, Exchanges, Calls, Halts, Stops}
 use Rattle.armv7m.specs.Instructions.{act}
-use Rattle.armv7m.specs.System.{in_system, write_special}
+use Rattle.armv7m.specs.System.{write_special}
 use Rattle.armv7m.specs.declared.accesses.Verdict.{Verdict}
 use Rattle.armv7m.specs.declared.accesses.Verdict.TheVariants.{ToBus, ToSystem, Refused, Bad}
 use Rattle.armv7m.specs.declared.several.Verdicts.{Verdicts}
 use Rattle.armv7m.specs.declared.several.Verdicts.TheVariants.{AllGood, RefusedAt, BadOne}
 use Rattle.armv7m.specs.Tests.{verdict, verdicts}
 use Rattle.armv7m.specs.Exceptions.{words_from, mem_manage, supervisor_call, entered, is_frame_open, call, is_fault_enabled, fault_by, data_fault, leaves, data_status}
-use Rattle.armv7m.specs.Perform.{loaded, after_load, stored, after_store, get_words, put_words, or_usage, after_loads, after_stores, jumped, exchanged, perform, word_to}
+use Rattle.armv7m.specs.Perform.{loaded, after_load, stored, after_store, get_words, or_usage, after_loads, after_stores, jumped, exchanged, perform}
 use Rattle.armv7m.specs.Step.{performed, fetched, running, turn}
 use Rattle.armv7m.specs.Asked.{frame_loads, asked_loads, RefusesFirst, DoesAct, Stopped, Completed, Called, Faulted, TakenActsAreDone, StandingActsAreDone}
 use Rattle.armv7m.specs.Code.{size, live}
 use Rattle.armv7m.proofs.Exec.{stepped}
 use Rattle.armv7m.proofs.Tested.{verdict_refused, first_refused_word}
-
--- ---- several words do not end the machine
-
-words_end : (i : Image) (vs : List ℕ) (a : ℕ) (s : State) → (put_words i a vs s).ending ≡ s.ending
-unfolding put_words
-words_end i [] a s = refl
-words_end i (v ∷ vs) a s = words_end i vs (word (a + 4)) (word_to (in_system a) i a v s) ∙ one (in_system a)
-  where
-    one : (b : Bool) → (word_to b i a v s).ending ≡ s.ending
-    one true = refl
-    one false = refl
+use Rattle.armv7m.proofs.Ends.{put_ending}
 
 -- ---- the turn
 
@@ -99,7 +88,7 @@ module _ (j : Judge) (i : Image) (s : State) where
 
   stores_done : (a : ℕ) (vs : List ℕ) (c : CoreRegisters) (v : Verdicts) → verdicts j i s.protection Write a (length vs) ≡ v →
       DoesAct j i s (StoresMany a vs c) (after_stores v j i a vs s c)
-  stores_done a vs c AllGood e = Completed refl refl (words_end i vs a (with_core s c))
+  stores_done a vs c AllGood e = Completed refl refl (put_ending vs i a (with_core s c))
   stores_done a vs c (RefusedAt y) e = fault_done (StoresMany a vs c) y (inr (first_refused_word j i s.protection Write (length vs) a y e))
   stores_done a vs c (BadOne r) e = Stopped _ refl
 

@@ -14,6 +14,7 @@ use Rattle.mem_bus.specs.Places.{InFlash, place, inside}
 use Rattle.device_model.specs.Rules.{ObeysRules}
 use Rattle.armv7m.specs.Code.{size, HoldsHalf, HoldsCode, Lies}
 use Rattle.thumb_model.specs.Bytes.{bytes_of_code, code_bytes}
+use Rattle.thumb_model.proofs.Codes.{zero_or_one}
 use Rattle.armv7m.specs.CodeBytes.{HoldsBytes, BytesAreCode}
 use Rattle.armv7m.proofs.Exec.{HasForm, encode_form}
 
@@ -30,9 +31,6 @@ below_test h n t = grind (arith, nat_tests)
 half_fits : (c : Code) (n : ℕ) → HasForm c n → n ≡ 2 → HalvesFit c
 half_fits (Half h) n f e = let b = below_test h 0xE800 f.0 in omega arith
 half_fits (Pair h k) n f e = let b = f.1 in absurd (omega arith)
-
-zero_or_one : (op : ℕ) → op < 2 → (op ≡ 0) ⊎ (op ≡ 1)
-zero_or_one op below = grind arith
 
 special_below : (s : ℕ) → (s ≡ 8) ⊎ (s ≡ 9) ⊎ (s ≡ 20) → s < 256
 special_below s h = grind arith

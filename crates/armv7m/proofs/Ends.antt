@@ -94,7 +94,7 @@ word_to_ending : (b : Bool) (i : Image) (a v : ℕ) (s : State) → (word_to b i
 word_to_ending true i a v s = refl
 word_to_ending false i a v s = refl
 
-put_ending : (vs : List ℕ) (i : Image) (a : ℕ) (s : State) → (put_words i a vs s).ending ≡ s.ending
+pub put_ending : (vs : List ℕ) (i : Image) (a : ℕ) (s : State) → (put_words i a vs s).ending ≡ s.ending
 unfolding put_words
 put_ending [] i a s = refl
 put_ending (v ∷ vs) i a s = put_ending vs i (word (a + 4)) (word_to (in_system a) i a v s) ∙ word_to_ending (in_system a) i a v s

@@ -1,5 +1,5 @@
 -- One instruction after another, whatever protects.
-use Rattle.std.proofs.Common.{◌≡◌, ℕ, suc, ◌+◌, ◌<◌, ◌≤◌, true, false, List, [], ◌∷◌, ◌++◌, Some, None, nat_lt, refl, ap, ◌∙◌, arith, ◌⊎◌, inl, inr}
+use Rattle.std.proofs.Common.{◌≡◌, ℕ, suc, ◌+◌, ◌<◌, ◌≤◌, true, false, List, [], ◌∷◌, ◌++◌, Some, None, nat_lt, refl, ap, ◌∙◌, arith, inl, inr}
 use Rattle.std.proofs.lemmas.Bool.Decides.{nat_tests}
 use Rattle.words.proofs.Runs.{stay as stay_run, onward as onward_run, next as next_run, next_event as next_event_run}
 use Rattle.thumb_model.specs.Table.{InTable, encode}
@@ -9,6 +9,7 @@ use Rattle.thumb_model.specs.declared.table.Code.{Code}
 use Rattle.thumb_model.specs.declared.table.Code.TheVariants.{Half, Pair}
 use Rattle.thumb_model.specs.declared.table.Instr.{Instr}
 use Rattle.thumb_model.specs.declared.table.Instr.TheVariants.{ShiftImmediate, AddSubRegister, AddSubImmediate, DataImmediate, DataRegister, HighRegister, BranchExchange, LoadLiteral, TransferRegister, TransferImmediate, StackRelative, AdjustStack, PushPop, BreakpointNop, TransferMultiple, BranchConditional, CallBranch, BranchLink, BranchWide, MoveWide, MoveTop, Divide, SpecialRegister, Barrier}
+use Rattle.thumb_model.proofs.Codes.{zero_or_one, zero_one_or_two}
 use Rattle.mpu_model.specs.declared.region.Access.TheVariants.{Fetch}
 use Rattle.device_model.specs.declared.image.Image.{Image}
 use Rattle.device_model.specs.declared.event.Event.{Event}
@@ -35,12 +36,6 @@ short h below = search (nat_tests, arith)
 
 long : (h : ℕ) → 0xE800 ≤ h → nat_lt h 0xE800 ≡ false
 long h above = search (nat_tests, arith)
-
-zero_or_one : (op : ℕ) → op < 2 → (op ≡ 0) ⊎ (op ≡ 1)
-zero_or_one op below = grind arith
-
-zero_one_or_two : (op : ℕ) → op < 3 → (op < 2) ⊎ (op ≡ 2)
-zero_one_or_two op below = grind arith
 
 below_two : (op : ℕ) → op < 2 → nat_lt op 2 ≡ true
 below_two op h = search (nat_tests, arith)

@@ -1,7 +1,8 @@
 -- Code lies below the peripherals, and what is fetched is halfwords.
-use Rattle.std.proofs.Common.{◌≡◌, ℕ, suc, ◌+◌, ◌-◌, ◌%◌, ◌^◌, ◌<◌, ◌≤◌, Bool, true, false, not, ◌&&◌, List, [], ◌∷◌, length, Option, Some, None, nat_lt, refl, arith}
+use Rattle.std.proofs.Common.{◌≡◌, ℕ, suc, ◌+◌, ◌-◌, ◌%◌, ◌^◌, ◌<◌, ◌≤◌, Bool, true, false, not, List, [], ◌∷◌, length, Option, Some, None, nat_lt, refl, arith}
 use Rattle.std.specs.Option.{IfSome}
 use Rattle.std.proofs.lemmas.Bool.Decides.{nat_tests}
+use Rattle.std.proofs.lemmas.Bool.{and_parts}
 use Rattle.words.proofs.Bytes.{read_fits}
 use Rattle.device_model.specs.declared.image.Image.{Image}
 use Rattle.device_model.specs.declared.image.Window.{Window}
@@ -15,13 +16,9 @@ use Rattle.armv7m.specs.Step.{fetch, first_half, second_half, by_size}
 
 -- ---- places
 
-and_right : (x y : Bool) → x && y ≡ true → y ≡ true
-and_right true y h = h
-and_right false y h = cc
-
 inside_below : (base size a : ℕ) → inside base size a ≡ true → a < base + size
 inside_below base size a e =
-    let t = and_right (not (nat_lt a base)) (nat_lt a (base + size)) e in
+    let t = (and_parts (not (nat_lt a base)) (nat_lt a (base + size)) e).1 in
     grind (arith, nat_tests)
 
 -- ---- what is fetched

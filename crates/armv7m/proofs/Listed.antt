@@ -1,6 +1,7 @@
 -- What a step tells and fetches: an event is an access that the step lists, and a fetch that is not permitted faults.
 use Rattle.std.proofs.Common.{◌≡◌, ℕ, ◌+◌, Bool, true, false, inl, List, [], ◌∷◌, length, Option, Some, None, nat_lt, refl, ap, ◌∙◌, subst}
 use Rattle.std.proofs.Math.ListN.{get_or}
+use Rattle.std.proofs.lemmas.Option.{same_Some}
 use Rattle.thumb_model.specs.declared.table.Instr.{Instr}
 use Rattle.thumb_model.specs.Decoded.{decoded}
 use Rattle.mpu_model.specs.declared.region.Access.TheVariants.{Read, Write, Fetch}
@@ -27,9 +28,6 @@ use Rattle.armv7m.specs.declared.fetching.Fetched.{Fetched}
 use Rattle.armv7m.specs.declared.fetching.Fetched.TheVariants.{Took, NotAllowed, NotMapped}
 use Rattle.armv7m.specs.Step.{by_size, first_half, fetch, performed, fetched, running, turn}
 
-some_same : {A : Type 0} (x y : A) → Some x ≡ Some y → x ≡ y
-some_same x y h = cc
-
 module _ (j : Judge) (i : Image) (s : State) where
   entered_lists : (is_open : Bool) (n ret : ℕ) (t : FaultStatus) → ListsEvent i (entered is_open i n ret t s)
   entered_lists false n ret t e h = cc
@@ -46,7 +44,7 @@ module _ (j : Judge) (i : Image) (s : State) where
 
   input_lists : (q : List ℕ) (k o w a : ℕ) (go : ℕ → CoreRegisters) → place i a ≡ InWindow k o → ListsEvent i (loaded (input q k o w) i w a s go)
   input_lists [] k o w a go is e h = cc
-  input_lists (x ∷ xs) k o w a go is e h = subst (λ (v : Event). AnyOf (λ (y : Touched). (y.width ≡ v.width) × (place i y.address ≡ InWindow v.periph v.offset)) (choose v.write [] ((record { width = w; address = a }) ∷ []))) (some_same _ e h) (inl (refl, is))
+  input_lists (x ∷ xs) k o w a go is e h = subst (λ (v : Event). AnyOf (λ (y : Touched). (y.width ≡ v.width) × (place i y.address ≡ InWindow v.periph v.offset)) (choose v.write [] ((record { width = w; address = a }) ∷ []))) (same_Some _ e h) (inl (refl, is))
 
   loaded_lists : (l : Place) (w a : ℕ) (go : ℕ → CoreRegisters) → place i a ≡ l → ListsEvent i (loaded (load_at l i s.ram s.queues w) i w a s go)
   loaded_lists (InRam o) w a go is e h = cc
@@ -63,7 +61,7 @@ module _ (j : Judge) (i : Image) (s : State) where
   stored_lists : (l : Place) (w a v : ℕ) (c : CoreRegisters) → place i a ≡ l → ListsEvent i (stored (store_at l) i w a v s c)
   stored_lists (InRam o) w a v c is e h = cc
   stored_lists (InFlash o) w a v c is e h = cc
-  stored_lists (InWindow k o) w a v c is e h = subst (λ (x : Event). AnyOf (λ (y : Touched). (y.width ≡ x.width) × (place i y.address ≡ InWindow x.periph x.offset)) (choose x.write ((record { width = w; address = a }) ∷ []) [])) (some_same _ e h) (inl (refl, is))
+  stored_lists (InWindow k o) w a v c is e h = subst (λ (x : Event). AnyOf (λ (y : Touched). (y.width ≡ x.width) × (place i y.address ≡ InWindow x.periph x.offset)) (choose x.write ((record { width = w; address = a }) ∷ []) [])) (same_Some _ e h) (inl (refl, is))
   stored_lists Nowhere w a v c is e h = cc
 
   store_lists : (v : Verdict) (w a x : ℕ) (c : CoreRegisters) → ListsEvent i (after_store v j i w a x s c)

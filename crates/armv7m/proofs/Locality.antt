@@ -17,6 +17,7 @@ use Rattle.mem_bus.specs.Bus.{load_at, input, store_at, put_at, word_at, fetch_a
 use Rattle.mem_bus.specs.Memory.{compartment_of}
 use Rattle.mem_bus.proofs.Addresses.{place-monitor}
 use Rattle.mem_bus.proofs.Offsets.{ram_at}
+use Rattle.mem_bus.proofs.Lengths.{length-put_at}
 use Rattle.armv7m.specs.declared.state.CoreRegisters.{CoreRegisters}
 use Rattle.armv7m.specs.declared.state.FaultStatus.{FaultStatus}
 use Rattle.armv7m.specs.declared.state.End.{End}
@@ -41,7 +42,6 @@ use Rattle.armv7m.specs.Asked.{frame_loads, asked_loads}
 use Rattle.armv7m.specs.Locality.{Agree, AgreeOnReads, Hits, StepsReadWhatTheyList}
 use Rattle.armv7m.proofs.SameBytes.{put_lengths, put_keeps, put_hits, read_agrees, word_agrees}
 use Rattle.armv7m.proofs.AnyStep.{any_step}
-use Rattle.armv7m.proofs.Shape.{put_length}
 use Rattle.armv7m.proofs.ShapeSteps.{pushed_length}
 use Rattle.armv7m.proofs.Tested.{verdict_to_system}
 
@@ -130,7 +130,7 @@ words_length i (v ∷ vs) a s = words_length i vs (word (a + 4)) (word_to (in_sy
   where
     one : (b : Bool) → length (word_to b i a v s).ram ≡ length s.ram
     one true = refl
-    one false = put_length (place i a) 4 v s.ram
+    one false = length-put_at (place i a) 4 v s.ram
 
 module _ (i : Image) (s : State) (other : List ℕ) where
   word_same : (b : Bool) (a : ℕ) → Agree i s.ram other (record { width = 4; address = a }) → word_from b i a (record s { ram = other }) ≡ word_from b i a s
@@ -237,7 +237,7 @@ module _ (j : Judge) (i : Image) (r : ObeysRules i) (s : State) (other : List �
       loads = refl;
       event = refl;
       to = refl;
-      size = put_length (place i a) w v other;
+      size = length-put_at (place i a) w v other;
       written = λ k. ⊎_elim (λ x. put_hits (place i a) w v x.offset s.ram other k size x.is_at x.from x.before) (λ x. absurd x);
     }
     stored_same (InFlash o) e h = calm_same _ _ _

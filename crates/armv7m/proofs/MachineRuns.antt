@@ -1,6 +1,4 @@
 -- Runs of a machine's steps, one step in front of others, and what their answers say.
-use denote.Ref.{Bor}
-use Rattle.std.specs.Fn.{Called, CalledAt, Mut}
 use Rattle.std.specs.List.{FoldsTo}
 use Rattle.std.specs.Prelude.{option_to_list}
 use Rattle.std.proofs.Common.{◌≡◌, ℕ, suc, ◌++◌, subst, Bool, true, false, List, [], ◌∷◌, Option, Some, None, refl, ap, sym, ◌∙◌, inl, inr, arith}
@@ -213,11 +211,3 @@ module _ {G : Type 0} (calls : G → Event → Bool → G → Type 0) where
     leads = run_none m.image m.state;
     says = (refl, h, accepts_none calls m.image m.state f);
   }
-
--- a call at a reference, with the answer that was tested
-pub called_with : {G : Type 0} (g : Mut G (Bor Event × Unit {0}) Bool) (f : G) (b : Bor Event) (r v : Bool) (k : G) → Called g f (b, tt) r k → r ≡ v → CalledAt g f b.now v k
-called_with g f b r v k h e = record {
-  shown = b;
-  shows = refl;
-  called = let P : Bool → Type 0 = λ x. Called g f (b, tt) x k in subst P e h;
-}

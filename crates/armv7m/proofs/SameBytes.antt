@@ -8,8 +8,8 @@ use Rattle.words.proofs.Bytes.{read_alike}
 use Rattle.device_model.specs.declared.image.Image.{Image}
 use Rattle.mem_bus.specs.Places.{Place, InRam, InFlash, InWindow, Nowhere, place}
 use Rattle.mem_bus.specs.Bus.{word_at, put_at}
+use Rattle.mem_bus.proofs.Lengths.{length-put_at}
 use Rattle.armv7m.specs.Locality.{Agree}
-use Rattle.armv7m.proofs.Shape.{put_length}
 
 -- ---- writes
 
@@ -49,7 +49,7 @@ write_hits (suc w) o v m n k l f h =
     (eqb_tells k o)
 
 pub put_lengths : (p : Place) (w v : ℕ) (m n : List ℕ) → length n ≡ length m → length (put_at p w v n) ≡ length (put_at p w v m)
-put_lengths p w v m n l = put_length p w v n ∙ l ∙ sym (put_length p w v m)
+put_lengths p w v m n l = length-put_at p w v n ∙ l ∙ sym (length-put_at p w v m)
 
 -- a byte that is the same stays so, and a byte that is written becomes so
 pub put_keeps : (p : Place) (w v : ℕ) (m n : List ℕ) (k : ℕ) → length n ≡ length m → get_or n k 0 ≡ get_or m k 0 → get_or (put_at p w v n) k 0 ≡ get_or (put_at p w v m) k 0

@@ -1,15 +1,15 @@
 -- Every step keeps the shape of a state.
-use Rattle.std.proofs.Common.{◌≡◌, ℕ, zero, suc, ◌+◌, ◌*◌, ◌/◌, ◌%◌, ◌^◌, ◌<◌, ◌≤◌, Bool, true, false, List, [], ◌∷◌, length, get_or, set, nat_eq, nat_lt, refl, ◌∙◌, arith}
+use Rattle.std.proofs.Common.{◌≡◌, ℕ, zero, suc, ◌+◌, ◌*◌, ◌/◌, ◌%◌, ◌^◌, ◌<◌, ◌≤◌, Bool, true, false, List, [], ◌∷◌, length, get_or, set, nat_eq, nat_lt, ◌∙◌, arith}
 use Rattle.std.specs.Prelude.{if◌then◌else◌}
 use Rattle.std.proofs.lemmas.List.{length-set}
 use Rattle.words.proofs.Arithmetic.{bit_clear_fits}
-use Rattle.words.proofs.Bytes.{read_fits, length-write}
+use Rattle.words.proofs.Bytes.{read_fits}
 use Rattle.mpu_model.specs.declared.region.Region.{Region}
 use Rattle.mpu_model.specs.Registers.{Registers, blank, selected, with_address, with_attributes, write_address, write_register, read_register, read_address, kept_address, kept_attributes}
 use Rattle.mpu_model.specs.declared.TheConstants.{MPU_TYPE, MPU_CTRL, MPU_RNR, MPU_RBAR, MPU_RASR}
 use Rattle.device_model.specs.declared.image.Image.{Image}
 use Rattle.mem_bus.specs.Places.{Place, InRam, InFlash, InWindow, Nowhere, choose}
-use Rattle.mem_bus.specs.Bus.{put_at, word_at}
+use Rattle.mem_bus.specs.Bus.{word_at}
 use Rattle.armv7m.specs.declared.TheConstants.{CCR, SHCSR, CFSR, MMFAR}
 use Rattle.armv7m.specs.declared.state.CoreRegisters.{CoreRegisters}
 use Rattle.armv7m.specs.declared.state.ProtectionState.{ProtectionState}
@@ -122,12 +122,6 @@ word_fits (InRam o) i ram = let h = read_fits 4 o ram in h
 word_fits (InFlash o) i ram = let h = read_fits 4 o i.flash in h
 word_fits (InWindow k o) i ram = omega arith
 word_fits Nowhere i ram = omega arith
-
-pub put_length : (p : Place) (w v : ℕ) (ram : List ℕ) → length (put_at p w v ram) ≡ length ram
-put_length (InRam o) w v ram = length-write w o v ram
-put_length (InFlash o) w v ram = refl
-put_length (InWindow k o) w v ram = refl
-put_length Nowhere w v ram = refl
 
 -- ---- states
 

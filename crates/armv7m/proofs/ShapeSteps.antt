@@ -1,10 +1,10 @@
 -- Performing keeps the shape of a state, and so does a step.
 use Rattle.std.specs.Prelude.{replicate}
-use Rattle.std.proofs.Common.{◌≡◌, ℕ, zero, suc, ◌+◌, ◌-◌, ◌*◌, ◌/◌, ◌%◌, ◌^◌, ◌<◌, ◌≤◌, Bool, true, false, List, [], ◌∷◌, length, get_or, Option, Some, None, nat_eq, refl, ap, ◌∙◌, ⊎_elim, arith}
+use Rattle.std.proofs.Common.{◌≡◌, ℕ, zero, suc, ◌+◌, ◌-◌, ◌*◌, ◌/◌, ◌%◌, ◌^◌, ◌<◌, ◌≤◌, Bool, true, false, List, [], ◌∷◌, length, get_or, Option, Some, None, nat_eq, refl, ◌∙◌, ⊎_elim, arith}
 use Rattle.std.specs.Prelude.{if◌then◌else◌}
 use Rattle.std.specs.Option.{IfSome}
 use Rattle.std.proofs.Math.Nat.{one-le-pow, pow-le-pow_right}
-use Rattle.std.proofs.lemmas.List.{length-set}
+use Rattle.std.proofs.lemmas.List.{length-set, length-replicate}
 use Rattle.std.proofs.lemmas.Nat.{or_lt}
 use Rattle.words.specs.Arithmetic.{word}
 use Rattle.words.specs.Bytes.{read, cut}
@@ -22,6 +22,7 @@ use Rattle.mem_bus.specs.declared.answer.Stored.{Stored}
 use Rattle.mem_bus.specs.declared.answer.Stored.TheVariants.{Done, Device as Taken, Unmapped as NotTaken}
 use Rattle.mem_bus.specs.Places.{is_memory, Place, InRam, InFlash, InWindow, Nowhere, place, choose}
 use Rattle.mem_bus.specs.Bus.{load_at, store_at, put_at, input}
+use Rattle.mem_bus.proofs.Lengths.{length-put_at}
 use Rattle.device_model.specs.Input.{taken, queue}
 use Rattle.device_model.specs.Rules.{ObeysRules}
 use Rattle.armv7m.specs.declared.state.CoreRegisters.{CoreRegisters}
@@ -49,7 +50,7 @@ use Rattle.armv7m.specs.Step.{step, turn, fetch, performed, fetched, running}
 use Rattle.armv7m.specs.Shape.{EachWord, CoreFits, StatusFits, StateFits, StepsKeepShape, RunsKeepShape}
 use Rattle.armv7m.proofs.ShapeActs.{ActFits, MaybeFits, act_fits, if_below, set_words, at_fits, stack_fits, with_register_fits, odd_before}
 use Rattle.armv7m.proofs.Fetches.{FetchedFits, fetch_fits}
-use Rattle.armv7m.proofs.Shape.{choose_below, choose_core, read_system_fits, word_fits, put_length, with_core_fits, with_ram_fits, write_system_fits}
+use Rattle.armv7m.proofs.Shape.{choose_below, choose_core, read_system_fits, word_fits, with_core_fits, with_ram_fits, write_system_fits}
 
 -- ---- values
 
@@ -92,14 +93,14 @@ module _ (i : Image) where
   taken_fits s c k h f = record { core = f; status = h.status; unit = h.unit; ram_count = h.ram_count; queue_count = length-set s.queues k _ ∙ h.queue_count }
 
   stored_in_ram_fits : (s : State) (c : CoreRegisters) (p : Place) (w v : ℕ) → StateFits i s → CoreFits c → StateFits i (record s { core = c; ram = put_at p w v s.ram })
-  stored_in_ram_fits s c p w v h f = record { core = f; status = h.status; unit = h.unit; ram_count = put_length p w v s.ram ∙ h.ram_count; queue_count = h.queue_count }
+  stored_in_ram_fits s c p w v h f = record { core = f; status = h.status; unit = h.unit; ram_count = length-put_at p w v s.ram ∙ h.ram_count; queue_count = h.queue_count }
 
   -- ---- exceptions
 
   pub pushed_length : (vs : List ℕ) (a : ℕ) (ram : List ℕ) → length (push_words i a vs ram) ≡ length ram
   unfolding push_words
   pushed_length [] a ram = refl
-  pushed_length (v ∷ vs) a ram = pushed_length vs (word (a + 4)) (put_at (place i a) 4 v ram) ∙ put_length (place i a) 4 v ram
+  pushed_length (v ∷ vs) a ram = pushed_length vs (word (a + 4)) (put_at (place i a) 4 v ram) ∙ length-put_at (place i a) 4 v ram
 
   vector_fits : (n : ℕ) → vector i n < 2 ^ 32
   vector_fits n = let h = read_fits 4 (4 * n) i.flash in omega arith
@@ -235,7 +236,7 @@ module _ (i : Image) where
 
     word_to_fits : (b : Bool) (a v : ℕ) (s : State) → StateFits i s → v < 2 ^ 32 → StateFits i (word_to b i a v s)
     word_to_fits true a v s h f = write_system_fits i a v s h f
-    word_to_fits false a v s h f = with_ram_fits i s (put_at (place i a) 4 v s.ram) h (put_length (place i a) 4 v s.ram)
+    word_to_fits false a v s h f = with_ram_fits i s (put_at (place i a) 4 v s.ram) h (length-put_at (place i a) 4 v s.ram)
 
     put_fit : (vs : List ℕ) (a : ℕ) (s : State) → StateFits i s → AreWords vs → StateFits i (put_words i a vs s)
     unfolding put_words
@@ -388,10 +389,6 @@ steps_keep_shape j i s r h = running_fits i (most_regions i r) s.ending j s r h
 
 -- ---- from reset on
 
-replicate_length : {A : Type 0} (n : ℕ) (x : A) → length (replicate n x) ≡ n
-replicate_length zero x = refl
-replicate_length (suc n) x = ap suc (replicate_length n x)
-
 repeated_words : (n : ℕ) → EachWord (replicate n 0)
 repeated_words zero k = omega arith
 repeated_words (suc n) zero = omega arith
@@ -425,11 +422,11 @@ start_fits i queues fill q =
       unit = record {
         control_word = omega arith;
         number_word = omega arith;
-        region_count = replicate_length i.regions blank;
+        region_count = length-replicate i.regions blank;
         rbar_words = λ k. let e = repeated_blank i.regions k in rw e (omega arith);
         rasr_words = λ k. let e = repeated_blank i.regions k in rw e (omega arith);
       };
-      ram_count = replicate_length i.ram_size fill;
+      ram_count = length-replicate i.ram_size fill;
       queue_count = q;
     }
 

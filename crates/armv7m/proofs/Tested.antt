@@ -1,6 +1,6 @@
 -- The tests of an access, and the bytes that lie outside stores.
 use Rattle.std.proofs.Common.{not, ◌-◌, ◌^◌, ◌<◌, ◌≤◌, ⊎_elim, get_or, ◌≡◌, ℕ, zero, suc, ◌+◌, ◌%◌, Bool, true, false, ◌&&◌, ◌⊎◌, inl, inr, List, [], ◌∷◌, length, nat_eq, refl, sym, ◌∙◌, arith}
-use Rattle.std.proofs.lemmas.Bool.{false≢true}
+use Rattle.std.proofs.lemmas.Bool.{false≢true, and_parts}
 use Rattle.std.proofs.lemmas.Bool.Decides.{nat_tests}
 use Rattle.words.specs.Arithmetic.{word}
 use Rattle.words.proofs.Bytes.{byte_apart}
@@ -46,10 +46,6 @@ tested_system true true false false al e = cc
 tested_system true false u r false e = cc
 tested_system true false u r true e = cc
 
-last : (x y : Bool) → x && y ≡ true → y ≡ true
-last true y e = e
-last false y e = absurd (false≢true e)
-
 -- of a word of a frame that may be accessed
 pub open_tests : (x y z : Bool) → (x && y) && z ≡ true → (x ≡ true) × (y ≡ true) × (z ≡ true)
 open_tests true true z e = (refl, refl, e)
@@ -78,7 +74,7 @@ module _ (j : Judge) (p : ProtectionState) (kind : Access) where
   unfolding verdict
   verdict_to_system w a e =
       let t = tested_system (nat_eq (a % w) 0) (in_system a) (is_unprivileged p) (nat_eq w 4 && is_system_register a) (j p kind a) e in
-      (aligned_by w a t.0, record { within = t.1; privileged = t.2; register = last (nat_eq w 4) (is_system_register a) t.3 })
+      (aligned_by w a t.0, record { within = t.1; privileged = t.2; register = (and_parts (nat_eq w 4) (is_system_register a) t.3).1 })
 
   -- so it is none of unprivileged code
   pub verdict_system : (w a : ℕ) → is_unprivileged p ≡ true → verdict j p kind w a ≡ ToSystem → ⊥

@@ -2,6 +2,7 @@
 use Rattle.std.proofs.Common.{◌≡◌, ◌<◌, ◌≤◌, ℕ, ◌+◌, List, [], ◌∷◌, refl, ap, sym, ◌∙◌, Bool, true, false, not, ◌&&◌, cond, length, take, drop, suc, arith, nat_eq, nat_lt, if◌then◌else◌, Some, None, position, map, length-drop}
 use Rattle.std.specs.List.{prefix_len}
 use Rattle.std.proofs.lemmas.Bool.Decides.{nat_tests}
+use Rattle.std.proofs.lemmas.List.{nil_from_length}
 use Rattle.device_model.specs.Tape.{lines_of, ends_line, before_first, rows_of, row_of}
 use Rattle.device_model.specs.Lines.{without_return}
 
@@ -141,10 +142,6 @@ lines_of-more : (bs xs : List ℕ) → rest bs ≡ xs → 0 < length xs → line
 lines_of-more bs [] h l = absurd (omega arith)
 lines_of-more bs (c ∷ cs) h l = lines_of-front bs c cs h
 
-is_empty : (xs : List ℕ) → length xs ≡ 0 → xs ≡ []
-is_empty [] h = refl
-is_empty (x ∷ xs) h = absurd (omega arith)
-
 -- the first row of a text with a line feed, and the rows behind it
 pub rows_of-more : (bs : List ℕ) (k : ℕ) → position (λ b. nat_eq b 10) bs ≡ Some k
     → rows_of bs ≡ row_of (without_return (take k bs)) ∷ rows_of (drop 1 (drop k bs))
@@ -163,4 +160,4 @@ found_within bs k h = (found_at bs k h).1
 pub rows_of-last : (bs : List ℕ) → position (λ b. nat_eq b 10) bs ≡ None → rows_of bs ≡ row_of bs ∷ []
 rows_of-last bs h =
     let far = found_none bs h in
-    ap (map row_of) (lines_of-last bs (sym (rest-is bs) ∙ is_empty (drop (line_len bs) bs) (omega (arith, length-drop (line_len bs) bs))))
+    ap (map row_of) (lines_of-last bs (sym (rest-is bs) ∙ nil_from_length (drop (line_len bs) bs) (omega (arith, length-drop (line_len bs) bs))))

@@ -1,6 +1,7 @@
 -- What rows put into the queues of windows.
 use Rattle.std.proofs.Common.{◌≡◌, ◌<◌, ℕ, ◌+◌, List, [], ◌∷◌, ◌++◌, refl, ap, sym, ◌∙◌, Bool, true, false, length, zero, suc, arith, if◌then◌else◌, map, set, get_or, append_assoc, add-one}
 use Rattle.std.specs.Str.{bytes_eq}
+use Rattle.std.proofs.lemmas.List.{append-nil}
 use Rattle.device_model.specs.declared.image.Window.{Window}
 use Rattle.device_model.specs.Tape.{Row, Blank, Entry, Bad, words_named}
 use Rattle.device_model.specs.Queues.{with_row, all_empty}
@@ -28,13 +29,9 @@ so_far-suc r zero (w ∷ ws) (q ∷ qs) v h e = refl
 so_far-suc r (suc k) (w ∷ ws) (q ∷ qs) v h e =
     ap (λ l. (q ++ words_named w.name (r ∷ [])) ∷ l) (so_far-suc r k ws qs v (omega arith) (omega arith))
 
-append_nil : (xs : List ℕ) → xs ++ [] ≡ xs
-append_nil [] = refl
-append_nil (x ∷ xs) = ap (λ l. x ∷ l) (append_nil xs)
-
 set-same : (qs : List (List ℕ)) (k : ℕ) → set qs k (get_or qs k [] ++ []) ≡ qs
 set-same [] k = refl
-set-same (q ∷ qs) zero = ap (λ l. l ∷ qs) (append_nil q)
+set-same (q ∷ qs) zero = ap (λ l. l ∷ qs) (append-nil q)
 set-same (q ∷ qs) (suc k) = ap (λ l. q ∷ l) (set-same qs k)
 
 -- the next window has the name
@@ -100,7 +97,7 @@ before-none [] [] h = refl
 before-none [] (q ∷ qs) h = absurd (omega arith)
 before-none (w ∷ ws) [] h = refl
 before-none (w ∷ ws) (q ∷ qs) h =
-    ap (λ l. l ∷ before qs (queues_from ws [])) (append_nil q) ∙ ap (λ l. q ∷ l) (before-none ws qs (omega arith))
+    ap (λ l. l ∷ before qs (queues_from ws [])) (append-nil q) ∙ ap (λ l. q ∷ l) (before-none ws qs (omega arith))
 
 pub length-with_row : (r : Row) (ws : List Window) (qs : List (List ℕ)) → length qs ≡ length ws → length (with_row r ws qs) ≡ length ws
 length-with_row r [] qs h = h
@@ -110,7 +107,7 @@ length-with_row r (w ∷ ws) (q ∷ qs) h = let e = length-with_row r ws qs (ome
 pub with_row-blank : (ws : List Window) (qs : List (List ℕ)) → length qs ≡ length ws → with_row Blank ws qs ≡ qs
 with_row-blank [] qs h = refl
 with_row-blank (w ∷ ws) [] h = absurd (omega arith)
-with_row-blank (w ∷ ws) (q ∷ qs) h = ap (λ l. l ∷ with_row Blank ws qs) (append_nil q) ∙ ap (λ l. q ∷ l) (with_row-blank ws qs (omega arith))
+with_row-blank (w ∷ ws) (q ∷ qs) h = ap (λ l. l ∷ with_row Blank ws qs) (append-nil q) ∙ ap (λ l. q ∷ l) (with_row-blank ws qs (omega arith))
 
 pub ruleset blank_rules = (with_row-blank)
 

@@ -1,12 +1,13 @@
 -- The bytes of the first locals.
-use Rattle.std.proofs.Common.{◌≡◌, ℕ, zero, suc, ◌+◌, ◌<◌, ◌≤◌, ◌%◌, List, [], ◌∷◌, ◌++◌, map, take, get_or, length, Some, refl, sym, ap, ◌∙◌, arith, add_assoc}
+use Rattle.std.proofs.Common.{◌≡◌, ℕ, zero, suc, ◌+◌, ◌<◌, ◌≤◌, ◌%◌, List, [], ◌∷◌, ◌++◌, map, take, get_or, length, Some, refl, sym, ap, ◌∙◌, arith}
 use Rattle.ir_model.specs.declared.firmware.Slot.{Slot}
 use Rattle.std.specs.List.{slice_get}
 use Rattle.ir_model.specs.Plain.{PlainSlot, slot_of}
 use Rattle.ir_model.specs.Layout.{Known, shape, rounded_up}
 use Rattle.frames.specs.Places.{offsets_from, Stand}
 use Rattle.ir_model.specs.Frames.{local_size, locals_size}
-use Rattle.std.proofs.lemmas.List.{take_more, length-take, take-map}
+use Rattle.ir_model.proofs.Locals.{locals_last}
+use Rattle.std.proofs.lemmas.List.{take_more, length-take}
 
 pub words_of : (ks : List Known) (ls : List PlainSlot) → locals_size ks ls % 4 ≡ 0
 words_of ks [] = refl
@@ -26,26 +27,14 @@ ends_within ks [] j l e = cc
 ends_within ks (x ∷ ls) zero l e = grind arith
 ends_within ks (x ∷ ls) (suc j) l e = let h = ends_within ks ls j l e in omega arith
 
-nothing_more : (n : ℕ) → n + 0 ≡ 0 + n
-nothing_more n = omega arith
-
-last : (ks : List Known) (xs : List Slot) (x : Slot) → locals_size ks (map slot_of (xs ++ x ∷ [])) ≡ locals_size ks (map slot_of xs) + local_size ks (slot_of x)
-last ks [] x = nothing_more (local_size ks (slot_of x))
-last ks (y ∷ xs) x =
-    ap (λ n. local_size ks (slot_of y) + n) (last ks xs x)
-    ∙ sym (add_assoc (local_size ks (slot_of y)) (locals_size ks (map slot_of xs)) (local_size ks (slot_of x)))
-
 pub one_more : (ks : List Known) (xs : List Slot) (i : ℕ) (x : Slot) (old new n : ℕ) → i < length xs → x ≡ get_or xs i x → old ≡ locals_size ks (map slot_of (take i xs))
     → n ≡ local_size ks (slot_of x) → new ≡ old + n → new ≡ locals_size ks (map slot_of (take (i + 1) xs))
 one_more ks xs i x old new n l e h s g =
     g ∙ (ap (λ m. m + n) h ∙ (ap (λ m. locals_size ks (map slot_of (take i xs)) + m) s
-    ∙ (sym (last ks (take i xs) x) ∙ ap (λ ys. locals_size ks (map slot_of ys)) (sym (take_more xs i x l ∙ ap (λ z. take i xs ++ z ∷ []) (sym e))))))
+    ∙ (sym (locals_last ks (take i xs) x) ∙ ap (λ ys. locals_size ks (map slot_of ys)) (sym (take_more xs i x l ∙ ap (λ z. take i xs ++ z ∷ []) (sym e))))))
 
 pub few_first : {A : Type 0} (k : ℕ) (xs : List A) (n : ℕ) → length xs ≤ n → length (take k xs) ≤ n
 few_first k xs n h = omega (arith, length-take k xs)
-
-pub first_slots : (k : ℕ) (xs : List Slot) → map slot_of (take k xs) ≡ take k (map slot_of xs)
-first_slots k xs = sym (take-map slot_of k xs)
 
 rounds_up : (n : ℕ) → n ≤ rounded_up n 4
 rounds_up n = omega arith

@@ -1,13 +1,13 @@
 -- Rows of windows behind other windows: what the checks of each window say of the whole row, and back.
 use Rattle.std.proofs.Common.{◌≡◌, ◌≢◌, ℕ, zero, suc, ◌+◌, ◌-◌, ◌<◌, ◌≤◌, ◌^◌, Bool, true, false, List, [], ◌∷◌, ◌++◌, length, drop, None, refl, sym, ap, ◌∙◌, subst, arith, append_assoc}
-use Rattle.std.specs.Prelude.{◌&&◌, ◌||◌, not, nat_le}
+use Rattle.std.specs.Prelude.{◌||◌, not}
 use Rattle.std.specs.List.{list_any, list_all, slice_range, flat_map}
 use Rattle.std.specs.Str.{bytes_eq}
-use Rattle.std.proofs.lemmas.Bool.{false≢true}
+use Rattle.std.proofs.lemmas.Bool.{false≢true, and_parts, and_from}
 use Rattle.std.proofs.lemmas.List.Edits.{length-between}
 use Rattle.std.proofs.lemmas.List.Folds.{drop_split}
 use Rattle.std.proofs.lemmas.Slice.Eq.{bytes_eq-Decides}
-use Rattle.names.specs.Names.{is_name, is_word}
+use Rattle.names.proofs.Lengths.{name_lengths}
 use Rattle.device_model.specs.declared.image.Window.{Window}
 use Rattle.device_model.specs.Rules.{IsWindow, IsApart, AreWindows, AreApart}
 use Rattle.image.specs.Text.{word_bytes, window_bytes}
@@ -15,7 +15,7 @@ use Rattle.image.specs.Parts.{number, window_at, behind_window, windows_from, be
 use Rattle.image.specs.Faults.{first_of, are_apart, range_checks, name_checks, window_checks, windows_checks}
 use Rattle.image.proofs.Passing.{AllPass-from_first_of, first_of-from_AllPass, first_of-none_in, room, whole-none, kept, rule-none}
 use Rattle.image.proofs.Steps.{first_of-nil, first_of-pass_all}
-use Rattle.image.proofs.Decisions.{Decides-nat_le, Decides-are_apart, Decides-is_window_size, Decides-is_window_base, Decides-is_name_length, Decides-is_new_name}
+use Rattle.image.proofs.Decisions.{Decides-are_apart, Decides-is_window_size, Decides-is_window_base, Decides-is_name_length, Decides-is_new_name}
 use Rattle.image.proofs.Bytes.{AreBytes, word_at, begins, begins_word}
 
 -- a window shares neither name nor address with earlier ones
@@ -28,17 +28,9 @@ abbrev pub AreBehind : List Window → List Window → Type 0
 AreBehind [] ws = Unit {0}
 AreBehind (w ∷ seen) ws = IsApart w ws × AreBehind seen ws
 
-and_both : (a b : Bool) → (a && b) ≡ true → (a ≡ true) × (b ≡ true)
-and_both true b h = (refl, h)
-and_both false b h = absurd (false≢true h)
-
 neither : (a b : Bool) → not (a || b) ≡ true → (a ≡ false) × (not b ≡ true)
 neither true b h = absurd (false≢true h)
 neither false b h = (refl, h)
-
-and_join : (a b : Bool) → a ≡ true → b ≡ true → (a && b) ≡ true
-and_join true b h k = k
-and_join false b h k = absurd (false≢true h)
 
 neither_join : (a b : Bool) → a ≡ false → not b ≡ true → not (a || b) ≡ true
 neither_join true b h k = absurd (false≢true (sym h))
@@ -54,7 +46,7 @@ not_equal xs ys false e h = e
 pub IsClear-from_tests : (seen : List Window) (x : Window) → list_all (λ w. are_apart w.base w.size x.base x.size) seen ≡ true → not (list_any (λ w. bytes_eq w.name x.name) seen) ≡ true → IsClear seen x
 IsClear-from_tests [] x apart new = tt
 IsClear-from_tests (w ∷ seen) x apart new =
-    let a = and_both (are_apart w.base w.size x.base x.size) (list_all (λ w. are_apart w.base w.size x.base x.size) seen) apart in
+    let a = and_parts (are_apart w.base w.size x.base x.size) (list_all (λ w. are_apart w.base w.size x.base x.size) seen) apart in
     let n = neither (bytes_eq w.name x.name) (list_any (λ w. bytes_eq w.name x.name) seen) new in
     (differ w.name x.name n.0, (Decides-are_apart w.base w.size x.base x.size).0 a.0, IsClear-from_tests seen x a.1 n.1)
 
@@ -62,7 +54,7 @@ pub tests_from_IsClear : (seen : List Window) (x : Window) → IsClear seen x �
 tests_from_IsClear [] x h = (refl, refl)
 tests_from_IsClear (w ∷ seen) x h =
     let more = tests_from_IsClear seen x h.2 in
-    (and_join _ _ ((Decides-are_apart w.base w.size x.base x.size).1 h.1) more.0, neither_join _ _ (not_equal w.name x.name _ refl h.0) more.1)
+    (and_from _ _ ((Decides-are_apart w.base w.size x.base x.size).1 h.1) more.0, neither_join _ _ (not_equal w.name x.name _ refl h.0) more.1)
 
 AreBehind-nil : (seen : List Window) → AreBehind seen []
 AreBehind-nil [] = tt
@@ -173,13 +165,6 @@ same_window v w name base size =
     ap (λ (n : List ℕ). let x : Window = record { name = n; base = v.base; size = v.size } in x) name
     ∙ (ap (λ (n : ℕ). let x : Window = record { name = w.name; base = n; size = v.size } in x) base
     ∙ ap (λ (n : ℕ). let x : Window = record { name = w.name; base = w.base; size = n } in x) size)
-
-name_lengths : (name : List ℕ) → is_name name ≡ true → (1 ≤ length name) × (length name ≤ 64)
-unfolding is_name
-name_lengths [] h = absurd (false≢true h)
-name_lengths (x ∷ xs) h =
-    let short = and_both (nat_le (length (x ∷ xs)) 64) _ (and_both (is_word (x ∷ xs)) _ h).1 in
-    (omega arith, (Decides-nat_le (length (x ∷ xs)) 64).0 short.0)
 
 -- one window that keeps its rules, spelled from an offset on
 record FoundOne (b : List ℕ) (at : ℕ) (seen : List Window) (w : Window) (rest : List ℕ) : Type 0 where

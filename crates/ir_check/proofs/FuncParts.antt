@@ -1,5 +1,5 @@
 -- A function's checks in parts, and the bytes of its locals.
-use Rattle.std.proofs.Common.{◌≡◌, ℕ, ◌+◌, ◌<◌, List, [], ◌∷◌, ◌++◌, Option, map, take, get_or, length, sym, ap, ◌∙◌, arith, append_assoc, add_assoc}
+use Rattle.std.proofs.Common.{◌≡◌, ℕ, ◌+◌, ◌<◌, List, [], map, take, get_or, length, sym, ap, ◌∙◌}
 use Rattle.ir_model.specs.declared.firmware.Slot.{Slot}
 use Rattle.ir_model.specs.declared.check.CheckKind.TheVariants.{FrameTooLarge}
 use Rattle.ir_model.specs.declared.check.Place.TheVariants as place
@@ -7,28 +7,18 @@ use Rattle.std.specs.Prelude.{nat_le}
 use Rattle.ir_model.specs.Types.{type_of}
 use Rattle.ir_model.specs.Plain.{PlainStruct, PlainFunc, PlainFirmware, slot_of}
 use Rattle.ir_model.specs.Layout.{Known, known, shape, rounded_up}
-use Rattle.ir_model.specs.Frames.{local_size, locals_size, frame_size}
-use Rattle.ir_model.specs.Typing.{Checks, Failing, check, func_checks, label_checks, blocks_checks, frame_limit}
+use Rattle.ir_model.specs.Frames.{locals_size, frame_size}
+use Rattle.ir_model.specs.Typing.{check, func_checks, label_checks, blocks_checks, frame_limit}
+use Rattle.ir_model.proofs.Locals.{locals_last}
 use Rattle.ir_check.specs.Parts.{slots_part, func_part}
 use Rattle.ir_check.proofs.Slots.{take_next}
-
-regroup : (a b c : Checks) (x : Option Failing) → (a ++ (x ∷ b)) ++ c ≡ (a ++ x ∷ []) ++ (b ++ c)
-regroup a b c x = append_assoc a (x ∷ b) c ∙ sym (append_assoc a (x ∷ []) (b ++ c))
+use Rattle.ir_check.proofs.Regrouped.{regroup}
 
 pub func_parts : (w : PlainFirmware) (f : PlainFunc) (ds : List (List ℕ)) → ds ≡ map (λ (s : PlainStruct). s.name) w.structs → func_checks w f ≡ func_part ds w f
 func_parts w f ds e =
     regroup (slots_part (map (λ (s : PlainStruct). s.name) w.structs) w f) (label_checks (place.Func f.name) [] f.blocks) (blocks_checks w f f.blocks)
     (check (nat_le (frame_size (known w.structs) f) frame_limit) (FrameTooLarge (frame_size (known w.structs) f)) (place.Func f.name))
     ∙ ap (λ d. func_part d w f) (sym e)
-
-nothing_more : (n : ℕ) → n + 0 ≡ 0 + n
-nothing_more n = omega arith
-
-locals_last : (ks : List Known) (xs : List Slot) (x : Slot) → locals_size ks (map slot_of (xs ++ x ∷ [])) ≡ locals_size ks (map slot_of xs) + local_size ks (slot_of x)
-locals_last ks [] x = nothing_more (local_size ks (slot_of x))
-locals_last ks (y ∷ xs) x =
-    ap (λ n. local_size ks (slot_of y) + n) (locals_last ks xs x)
-    ∙ sym (add_assoc (local_size ks (slot_of y)) (locals_size ks (map slot_of xs)) (local_size ks (slot_of x)))
 
 pub more_size : (ks : List Known) (xs : List Slot) (i : ℕ) (x : Slot) (old new n : ℕ) → i < length xs → x ≡ get_or xs i x → old ≡ locals_size ks (map slot_of (take i xs))
     → n ≡ (shape ks (type_of x.ty)).size → new ≡ old + rounded_up n 4 → new ≡ locals_size ks (map slot_of (take (i + 1) xs))

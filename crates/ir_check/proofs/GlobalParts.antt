@@ -1,5 +1,5 @@
 -- A global's checks in parts.
-use Rattle.std.proofs.Common.{◌≡◌, ℕ, zero, suc, ◌+◌, ◌<◌, ◌≤◌, Bool, true, false, List, [], ◌∷◌, ◌++◌, Option, None, map, take, drop, get_or, ◌⊎◌, inl, inr, length, refl, sym, ap, ◌∙◌, subst, arith, nat_le, Bor, append_assoc}
+use Rattle.std.proofs.Common.{◌≡◌, ℕ, zero, suc, ◌+◌, ◌<◌, ◌≤◌, Bool, true, false, List, [], ◌∷◌, ◌++◌, None, map, take, drop, get_or, ◌⊎◌, inl, inr, length, refl, sym, ap, ◌∙◌, subst, arith, nat_le, Bor}
 use Rattle.std.proofs.lemmas.Bool.{cases_lt}
 use Rattle.std.proofs.lemmas.Bool.Decides.{nat_tests}
 use Rattle.std.proofs.lemmas.List.{length-map, take_all, length-take-le}
@@ -11,12 +11,13 @@ use Rattle.ir_model.specs.declared.check.Place.TheVariants as place
 use Rattle.ir_model.specs.Types.{PlainType, type_of}
 use Rattle.ir_model.specs.Plain.{PlainStruct, PlainGlobal, PlainFirmware}
 use Rattle.ir_model.specs.Layout.{CellPlace, known, shape}
-use Rattle.ir_model.specs.Typing.{Checks, Failing, check, first_failing, global_checks, init_checks, cell_checks}
+use Rattle.ir_model.specs.Typing.{Checks, check, first_failing, global_checks, init_checks, cell_checks}
 use Rattle.ir_check.specs.declared.fault.CheckFault.{CheckFault}
 use Rattle.ir_check.specs.declared.fault.CheckFault.TheVariants.{NoMemory, At}
 use Rattle.ir_check.specs.Found.{Refused, IsFault}
 use Rattle.layouts.specs.Cells.{lent_types}
 use Rattle.ir_check.specs.Parts.{named_check, cells_part, values_checks, values_part, global_part}
+use Rattle.ir_check.proofs.Regrouped.{regroup}
 
 abbrev types : List CellPlace → List PlainType
 types cs = map (λ (c : CellPlace). c.ty) cs
@@ -91,9 +92,6 @@ values_next w p (c ∷ cs) (t ∷ ts) (suc i) x y l m e f =
     let q : suc i + 1 ≡ suc (i + 1) = omega arith in
     values_next w p cs ts i x y (omega arith) (omega arith) e f
     ∙ ap (λ n. cell_checks w p x (type_of y.now) ++ values_checks w p (drop n (c ∷ cs)) (lent_types (drop n (t ∷ ts)))) (sym q)
-
-regroup : (a b c : Checks) (x : Option Failing) → (a ++ (x ∷ b)) ++ c ≡ (a ++ x ∷ []) ++ (b ++ c)
-regroup a b c x = append_assoc a (x ∷ b) c ∙ sym (append_assoc a (x ∷ []) (b ++ c))
 
 pub global_parts : (w : PlainFirmware) (seen : List (List ℕ)) (g : PlainGlobal) (ds : List (List ℕ)) → ds ≡ map (λ (s : PlainStruct). s.name) w.structs → global_checks w seen g ≡ global_part ds w seen g
 global_parts w seen g ds e =

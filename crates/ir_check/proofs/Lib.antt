@@ -2,6 +2,7 @@ mod Order
 mod Rows
 mod Slots
 mod NamedTypes
+mod Regrouped
 mod FuncParts
 mod StructSteps
 mod GlobalParts

@@ -1,14 +1,10 @@
 -- Types in a row.
-use Rattle.std.proofs.Common.{◌≡◌, ◌<◌, List, [], ◌∷◌, length, false, arith, map, refl, ap}
+use Rattle.std.proofs.Common.{◌≡◌, ◌<◌, List, [], ◌∷◌, length, false, arith, map, refl}
 use Rattle.ir_model.specs.declared.types.Ty as code
 use Rattle.ir_model.specs.declared.firmware.Slot.{Slot}
 use Rattle.ir_model.specs.Plain.{slot_of}
 use Rattle.ir_model.specs.Resolve.{row_from}
-use Rattle.ir_model.specs.Types.{PlainResult, Callee, none, nothing, same, same_row, more, type_of, row_of, types_from}
-
-pub rows : (n : _) (k : code.Row_of-Ty n) → row_of k ≡ types_from (map type_of (code.items-the_row-Ty n k))
-rows n code.end_of-Ty = refl
-rows n (code.more_of-Ty t r) = ap (more (type_of t)) (rows _ r)
+use Rattle.ir_model.specs.Types.{PlainResult, Callee, none, nothing, same, same_row, type_of, types_from}
 
 pub more_types : (ps : List Slot) (ts : List code.Ty) → length ps < 1 → 0 < length ts → false ≡ same_row (row_from (map slot_of ps)) (types_from (map type_of ts))
 more_types [] [] l h = absurd (omega arith)

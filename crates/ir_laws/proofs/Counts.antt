@@ -1,7 +1,7 @@
 -- A firmware within the limits has few items of each kind, over numbers.
 use Rattle.std.proofs.Common.{length-append, ap, ◌≡◌, ℕ, zero, suc, ◌+◌, ◌<◌, List, [], ◌∷◌, length, replicate, refl, get_or, map, arith}
 use Rattle.std.specs.Prelude.{flat_map}
-use Rattle.std.proofs.lemmas.List.{length-map}
+use Rattle.std.proofs.lemmas.List.{length-map, length-replicate}
 use Rattle.ir_model.specs.declared.firmware.Block.{Block}
 use Rattle.ir_model.specs.Plain.{PlainSlot, PlainFunc, PlainFile, PlainFirmware, funcs_of, regs_of}
 use Rattle.ir_model.specs.Layout.{known, shape}
@@ -26,15 +26,11 @@ files_below k (f ∷ fs) =
     (each_copy (λ (n : ℕ). n < k + length (f ∷ fs)) (length f.funcs) k (omega arith))
     (each_weaker (λ (n : ℕ). n < suc k + length fs) (λ (n : ℕ). n < k + length (f ∷ fs)) (λ n h. omega arith) (files_from (suc k) fs) (files_below (suc k) fs))
 
-length_copies : (n k : ℕ) → length (replicate n k) ≡ n
-length_copies zero k = refl
-length_copies (suc n) k = ap suc (length_copies n k)
-
 files_count : (k : ℕ) (fs : List PlainFile) → length (files_from k fs) ≡ length (flat_map (λ (f : PlainFile). f.funcs) fs)
 files_count k [] = refl
 files_count k (f ∷ fs) =
     let a = length-append (replicate (length f.funcs) k) (files_from (suc k) fs) in
-    let b = length_copies (length f.funcs) k in
+    let b = length-replicate (length f.funcs) k in
     let c = length-append f.funcs (flat_map (λ (f : PlainFile). f.funcs) fs) in
     let r = files_count (suc k) fs in
     omega arith

@@ -21,6 +21,7 @@ use Rattle.ir_model.proofs.Counting.{Tied, extent_tied}
 use Rattle.ir_model.proofs.Elements.{firmware_elements}
 use Rattle.ir_model.proofs.Limits.{Limited, HasParts, limited, global_elements}
 use Rattle.ir_model.proofs.Typed.{structs_named, parts_pass, by_parts}
+use Rattle.ir_model.proofs.ForEach.{each_both}
 use Rattle.ir_laws.specs.Limits.{HasLayout, HasLayouts}
 
 abbrev Counts : Counted → Type 0
@@ -64,10 +65,6 @@ the_names ss = map (λ (s : PlainStruct). s.name) ss
 names_more : (ks : List Counted) (k : Counted) → names_in (ks ++ k ∷ []) ≡ names_in ks ++ k.name ∷ []
 names_more ks k = map-append (λ (j : Counted). j.name) ks (k ∷ [])
 
-each_more : (ks : List Counted) (k : Counted) → Each Counts ks → Counts k → Each Counts (ks ++ k ∷ [])
-each_more [] k c e = (e, tt)
-each_more (j ∷ ks) k c e = (c.0, each_more ks k c.1 e)
-
 record Table (ks : List Counted) (es : List PlainStruct) : Type 0 where
   each : Each Counts ks
   names : names_in ks ≡ the_names es
@@ -76,7 +73,7 @@ table_more : (ks : List Counted) (es : List PlainStruct) (s : PlainStruct) (b : 
 table_more ks es s b e t =
     let k : Counted = record { name = s.name; counts = b } in
     record {
-      each = each_more ks k t.each e;
+      each = each_both Counts ks (k ∷ []) t.each (e, tt);
       names = names_more ks k ∙ (ap (λ (x : List (List ℕ)). x ++ s.name ∷ []) t.names ∙ sym (map-append (λ (d : PlainStruct). d.name) es (s ∷ [])));
     }
 

@@ -15,6 +15,7 @@ use Rattle.ir_model.specs.Rules.{field_type}
 use Rattle.ir_model.specs.Typing.{Checks, check, is_new, type_checks, object_limit, field_checks, struct_checks, structs_checks}
 use Rattle.ir_model.proofs.Passing.{Pass, left, right, holds}
 use Rattle.ir_model.proofs.Counting.{rounded_at_least}
+use Rattle.ir_model.proofs.ForEach.{each_both}
 use Rattle.ir_laws.proofs.Layouts.{AreSound, sound, sound_empty, sound_more, sound_fields}
 
 more_aligned : (m n : ℕ) → 0 < m → 0 < max m n
@@ -115,10 +116,6 @@ with_more ks (s ∷ ss) =
     let r = with_more (with_struct ks s) ss in
     (k ++ r.0, r.1 ∙ append_assoc ks k r.0)
 
-each_last : (P : Known → Type 0) (ks : List Known) (k : Known) → Each P ks → P k → Each P (ks ++ k ∷ [])
-each_last P [] k h g = (g, tt)
-each_last P (j ∷ ks) k h g = (h.0, each_last P ks k h.1 g)
-
 names_last : (ks : List Known) (k : Known) (es : List PlainStruct) (s : PlainStruct) → names_in ks ≡ map (λ (e : PlainStruct). e.name) es → k.name ≡ s.name
     → names_in (ks ++ k ∷ []) ≡ map (λ (e : PlainStruct). e.name) (es ++ s ∷ [])
 names_last ks k es s h g =
@@ -155,7 +152,7 @@ goods all ds es ks (s ∷ ss) b n a e h g =
       small = subst (λ (z : List Known). (laid_out z empty s.fields).size ≤ 65536) b sm;
     } in
     goods all ds (es ++ s ∷ []) (with_struct ks s) ss (behind_last [] es s ∙ ap (λ (z : List Known). with_struct z s) b) (names_last ks k es s n refl)
-    (sound_more ks k a (sound_fields ks empty s.fields a sound_empty)) e (right (struct_checks ds es s) (structs_checks ds (es ++ s ∷ []) ss) h) (each_last (GoodIn all) ks k g good)
+    (sound_more ks k a (sound_fields ks empty s.fields a sound_empty)) e (right (struct_checks ds es s) (structs_checks ds (es ++ s ∷ []) ss) h) (each_both (GoodIn all) ks (k ∷ []) g (good, tt))
 
 pub all_good : (ss : List PlainStruct) → Pass (structs_checks (map (λ (s : PlainStruct). s.name) ss) [] ss) → Each (GoodIn (known ss)) (known ss)
 unfolding known

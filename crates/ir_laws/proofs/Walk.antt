@@ -1,5 +1,6 @@
 -- What holds at every place of a program, or at some place of a function, by walks over its blocks and instructions.
 use Rattle.std.proofs.Common.{◌≡◌, ℕ, zero, suc, ◌+◌, Bool, true, false, ◌||◌, List, [], ◌∷◌, arith, refl, get_or, subst}
+use Rattle.std.proofs.lemmas.Bool.{or_left, or_right}
 use Rattle.ir_model.specs.Resolved.{Program, NumberedInst, NumberedTerm, Jump, NumberedBlock, NumberedFunc, no_block, no_func, Here, Does, Ends, here, here_in}
 
 -- ---- each place
@@ -53,24 +54,16 @@ abbrev pub at_inst : (NumberedInst → Bool) → Here → Bool
 at_inst t (Does i) = t i
 at_inst t (Ends e) = false
 
-left_or : (a b : Bool) → a ≡ true → (a || b) ≡ true
-left_or true b h = refl
-left_or false b h = cc
-
-right_or : (a b : Bool) → b ≡ true → (a || b) ≡ true
-right_or true b h = refl
-right_or false b h = h
-
 any_of_inst : (t : NumberedInst → Bool) (is : List NumberedInst) (e : NumberedTerm) (k : ℕ) → at_inst t (here_in is e k) ≡ true → any_inst t is ≡ true
 any_of_inst t [] e k h = cc
-any_of_inst t (i ∷ is) e zero h = left_or (t i) (any_inst t is) h
-any_of_inst t (i ∷ is) e (suc k) h = right_or (t i) (any_inst t is) (any_of_inst t is e k h)
+any_of_inst t (i ∷ is) e zero h = or_left (t i) (any_inst t is) h
+any_of_inst t (i ∷ is) e (suc k) h = or_right (t i) (any_inst t is) (any_of_inst t is e k h)
 
 -- an instruction at a place is one of the walk, and what the walk finds stands at a place
 pub any_of_block : (t : NumberedInst → Bool) (bs : List NumberedBlock) (b k : ℕ) → at_inst t (here_in (get_or bs b no_block).insts (get_or bs b no_block).term k) ≡ true → any_block t bs ≡ true
 any_of_block t [] b k h = cc
-any_of_block t (x ∷ bs) zero k h = left_or (any_inst t x.insts) (any_block t bs) (any_of_inst t x.insts x.term k h)
-any_of_block t (x ∷ bs) (suc b) k h = right_or (any_inst t x.insts) (any_block t bs) (any_of_block t bs b k h)
+any_of_block t (x ∷ bs) zero k h = or_left (any_inst t x.insts) (any_block t bs) (any_of_inst t x.insts x.term k h)
+any_of_block t (x ∷ bs) (suc b) k h = or_right (any_inst t x.insts) (any_block t bs) (any_of_block t bs b k h)
 
 place_by : (t : NumberedInst → Bool) (i : NumberedInst) (is : List NumberedInst) (e : NumberedTerm) (c : Bool) → t i ≡ c → (c || any_inst t is) ≡ true
     → (any_inst t is ≡ true → (k : ℕ) × (at_inst t (here_in is e k) ≡ true)) → (k : ℕ) × (at_inst t (here_in (i ∷ is) e k) ≡ true)

@@ -24,7 +24,7 @@ within e h = ap (λ b. if b then Some e else None) (le-leb e.size SIZE_LIMIT h)
 beyond : (e : Extent) → SIZE_LIMIT < e.size → limited e ≡ None
 beyond e h = elim (leb_tells e.size SIZE_LIMIT) [ inl t ↦ absurd (omega (arith, t.1)) | inr f ↦ ap (λ b. if b then Some e else None) f.0 ]
 
-many_at_least : (n s : ℕ) → 0 < n → s ≤ n * s
+pub many_at_least : (n s : ℕ) → 0 < n → s ≤ n * s
 many_at_least n s h = grind arith
 
 pub rounded_at_least : (n a : ℕ) → 0 < a → n ≤ rounded_up n a

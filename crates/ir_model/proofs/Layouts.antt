@@ -7,9 +7,10 @@ use Rattle.std.proofs.lemmas.Iterator.Adapters.{position_from-zero}
 use Rattle.ir_model.specs.declared.extent.Extent.{Extent}
 use Rattle.ir_model.specs.declared.firmware.Slot.{Slot}
 use Rattle.ir_model.specs.declared.firmware.StructDecl.{StructDecl}
-use Rattle.ir_model.specs.Types.{PlainType, Array, type_of}
+use Rattle.ir_model.specs.Types.{type_of}
 use Rattle.ir_model.specs.Plain.{PlainSlot, PlainStruct, slot_of, struct_of}
 use Rattle.ir_model.specs.Extents.{Sized, extent_named, fields_extent, extent_behind, extent, behind, sized_behind, sized}
+use Rattle.ir_model.proofs.Arrays.{arrays}
 
 -- no entry has the name
 abbrev pub Lacks : List Sized → List ℕ → Type 0
@@ -97,11 +98,6 @@ behind_step ks s (f ∷ fs) (suc i) d l =
 pub behind_none : (ks : List Sized) (fs : List PlainSlot) → extent_behind ks None fs ≡ None
 behind_none ks [] = refl
 behind_none ks (f ∷ fs) = behind_none ks fs
-
--- the arrays round what a type holds
-abbrev pub arrays : PlainType → ℕ
-arrays (Array n t) = suc (arrays t)
-arrays _ = 0
 
 abbrev pub slot_weight : Slot → ℕ
 slot_weight f = arrays (type_of f.ty) + 2

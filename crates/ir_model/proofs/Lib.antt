@@ -10,3 +10,6 @@ pub mod ForEach
 pub mod Limits
 pub mod Typed
 pub mod Numbers
+pub mod NoExcess
+pub mod Locals
+pub mod Arrays

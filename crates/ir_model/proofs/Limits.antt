@@ -1,16 +1,14 @@
 -- What the limits of a text say of a firmware: how many of each part it has, that its peripherals have names, that its
 -- constants are words, and that its arrays have elements.
-use Rattle.std.proofs.Common.{◌≡◌, ℕ, ◌+◌, ◌^◌, ◌<◌, ◌≤◌, Bool, true, false, List, [], ◌∷◌, ◌++◌, length, Option, Some, None, nat_lt, refl, arith, length-append, if◌then◌else◌, flat_map}
+use Rattle.std.proofs.Common.{◌≡◌, ℕ, ◌+◌, ◌^◌, ◌<◌, ◌≤◌, Bool, true, false, List, [], ◌∷◌, ◌++◌, length, Option, Some, None, arith, length-append, flat_map}
 use Rattle.std.specs.Prelude.{IsTrue}
 use Rattle.std.specs.List.{Contains}
-use Rattle.std.proofs.lemmas.Bool.Decides.{nat_tests}
 use Rattle.names.specs.Names.{is_name}
 use Rattle.ir_model.specs.declared.firmware.Inst.{Inst}
 use Rattle.ir_model.specs.declared.firmware.Inst.TheVariants as inst
 use Rattle.ir_model.specs.declared.firmware.Block.{Block}
 use Rattle.ir_model.specs.declared.firmware.Peripheral.{Peripheral}
 use Rattle.ir_model.specs.declared.token.Excess.{Excess}
-use Rattle.ir_model.specs.declared.token.Excess.TheVariants.{TooWide, Passes}
 use Rattle.ir_model.specs.declared.token.Mark.TheVariants.{Colon, Open, Close, OpenBrace, Comma}
 use Rattle.ir_model.specs.declared.token.TextLimit.{TextLimit}
 use Rattle.ir_model.specs.declared.token.TextLimit.TheVariants as limit
@@ -18,11 +16,12 @@ use Rattle.ir_model.specs.Plain.{PlainSlot, PlainStruct, PlainGlobal, PlainFunc,
 use Rattle.ir_model.specs.declared.token.Keyword.TheVariants as key
 use Rattle.ir_model.specs.Types.{PlainType, U8, U16, U32, Pointer, Array, Named, Callee, target_of}
 use Rattle.ir_model.specs.Tokens.{Token, Key, Marked, Sign}
-use Rattle.ir_model.specs.Lines.{Line, marked, name, register, arguments, more_arguments, kept, type_tokens, init_tokens, counted, number_excess, or_else, word_excess, plain, slot_tokens, more_slots, slots_tokens, result_tokens, global_start, func_line, close_line, term_line, label_line, inst_line, inst_lines, block_lines, local_lines, reg_lines, func_lines, funcs_lines, file_lines, struct_lines, periph_lines, global_line, global_lines, lines_of}
+use Rattle.ir_model.specs.Lines.{Line, marked, name, register, arguments, more_arguments, kept, type_tokens, init_tokens, counted, word_excess, plain, slot_tokens, more_slots, slots_tokens, result_tokens, global_start, func_line, close_line, term_line, label_line, inst_line, inst_lines, block_lines, local_lines, reg_lines, func_lines, funcs_lines, file_lines, struct_lines, periph_lines, global_line, global_lines, lines_of}
 use Rattle.ir_model.specs.Canonical.{Each, PassesNothing, IsProper, IsWithinLimits}
 use Rattle.ir_model.specs.Extents.{HasElements}
 use Rattle.ir_model.proofs.Elements.{type_elements}
 use Rattle.ir_model.proofs.ForEach.{each_left, each_right, each_both, each_contained}
+use Rattle.ir_model.proofs.NoExcess.{first_none, counted_none, number_fits}
 
 abbrev Quiet : Line → Type 0
 Quiet l = Each PassesNothing l
@@ -30,42 +29,19 @@ Quiet l = Each PassesNothing l
 abbrev Proper : Line → Type 0
 Proper l = Each (λ (m : Marked). IsProper m.token) l
 
--- ---- tests of limits that pass
-
-abbrev nothing_passed : Option Excess
-nothing_passed = None
-
-counted_by : (b : Bool) (l : TextLimit) → (if b then nothing_passed else Some (Passes l)) ≡ None → b ≡ true
-counted_by true l h = refl
-counted_by false l h = cc
-
-counted_below : (k most : ℕ) (l : TextLimit) → counted k most l None ≡ None → k < most
-counted_below k most l h = let t : nat_lt k most ≡ true = counted_by (nat_lt k most) l h in grind (arith, nat_tests)
-
-or_else_none : (x y : Option Excess) → or_else x y ≡ None → x ≡ None
-or_else_none None y h = refl
-or_else_none (Some x) y h = cc
-
-word_by : (b : Bool) → (if b then nothing_passed else Some TooWide) ≡ None → b ≡ true
-word_by true h = refl
-word_by false h = cc
-
-is_word : (n : ℕ) → number_excess n None ≡ None → n < 2 ^ 32
-is_word n h = let t : nat_lt n (2 ^ 32) ≡ true = word_by (nat_lt n (2 ^ 32)) h in grind (arith, nat_tests)
-
 -- ---- structs, peripherals and globals
 
 structs_in : (k : ℕ) (ss : List PlainStruct) → k ≤ 256 → Each Quiet (struct_lines k ss) → k + length ss ≤ 256
 structs_in k [] b h = omega arith
 structs_in k (s ∷ ss) b h =
-    let c = counted_below k 256 limit.Struct h.0.0 in
+    let c = counted_none k 256 limit.Struct None h.0.0 in
     let r = structs_in (k + 1) ss (omega arith) h.1 in
     omega arith
 
 periphs_in : (k : ℕ) (ps : List Peripheral) → k ≤ 64 → Each Quiet (periph_lines k ps) → k + length ps ≤ 64
 periphs_in k [] b h = omega arith
 periphs_in k (q ∷ qs) b h =
-    let c = counted_below k 64 limit.Periph h.0.0 in
+    let c = counted_none k 64 limit.Periph None h.0.0 in
     let r = periphs_in (k + 1) qs (omega arith) h.1 in
     omega arith
 
@@ -81,7 +57,7 @@ globals_in : (k : ℕ) (gs : List PlainGlobal) → k ≤ 1024 → Each Quiet (gl
 globals_in k [] b h = omega arith
 globals_in k (g ∷ gs) b h =
     let front : Line = global_start g.constant (counted k 1024 limit.Global None) in
-    let c = counted_below k 1024 limit.Global (start_passes g.constant (counted k 1024 limit.Global None) _ (each_left PassesNothing _ _ h.0)) in
+    let c = counted_none k 1024 limit.Global None (start_passes g.constant (counted k 1024 limit.Global None) _ (each_left PassesNothing _ _ h.0)) in
     let r = globals_in (k + 1) gs (omega arith) h.1 in
     omega arith
 
@@ -90,7 +66,7 @@ globals_in k (g ∷ gs) b h =
 functions_in : (n : ℕ) (fs : List PlainFunc) → n ≤ 1024 → Each Quiet (funcs_lines n fs) → n + length fs ≤ 1024
 functions_in n [] b h = omega arith
 functions_in n (f ∷ fs) b h =
-    let c = counted_below n 1024 limit.Function h.0.0 in
+    let c = counted_none n 1024 limit.Function None h.0.0 in
     let r = functions_in (n + 1) fs (omega arith) (each_right Quiet (func_lines n f) (funcs_lines (n + 1) fs) h) in
     omega arith
 
@@ -108,7 +84,7 @@ functions_in_files k n (f ∷ fs) b h =
 files_in : (k n : ℕ) (fs : List PlainFile) → k ≤ 1024 → Each Quiet (file_lines k n fs) → k + length fs ≤ 1024
 files_in k n [] b h = omega arith
 files_in k n (f ∷ fs) b h =
-    let c = counted_below k 1024 limit.File h.0.0 in
+    let c = counted_none k 1024 limit.File None h.0.0 in
     let front : List Line = funcs_lines n f.funcs ++ (close_line ∷ []) in
     let r = files_in (k + 1) (n + length f.funcs) fs (omega arith) (each_right Quiet front (file_lines (k + 1) (n + length f.funcs) fs) h.1) in
     omega arith
@@ -118,21 +94,21 @@ files_in k n (f ∷ fs) b h =
 locals_in : (k : ℕ) (ls : List PlainSlot) → k ≤ 64 → Each Quiet (local_lines k ls) → k + length ls ≤ 64
 locals_in k [] b h = omega arith
 locals_in k (s ∷ ls) b h =
-    let c = counted_below k 64 limit.Local h.0.0 in
+    let c = counted_none k 64 limit.Local None h.0.0 in
     let r = locals_in (k + 1) ls (omega arith) h.1 in
     omega arith
 
 registers_in : (k : ℕ) (rs : List PlainSlot) → k ≤ 120 → Each Quiet (reg_lines k rs) → k + length rs ≤ 120
 registers_in k [] b h = omega arith
 registers_in k (s ∷ rs) b h =
-    let c = counted_below k 120 limit.Register h.0.0 in
+    let c = counted_none k 120 limit.Register None h.0.0 in
     let r = registers_in (k + 1) rs (omega arith) h.1 in
     omega arith
 
 more_in : (k : ℕ) (ss : List PlainSlot) → k ≤ 4 → Quiet (more_slots limit.Param k 4 ss) → k + length ss ≤ 4
 more_in k [] b h = omega arith
 more_in k (s ∷ ss) b h =
-    let c = counted_below k 4 limit.Param (or_else_none (counted k 4 limit.Param None) (word_excess s.name) h.1.0) in
+    let c = counted_none k 4 limit.Param None (first_none (counted k 4 limit.Param None) (word_excess s.name) h.1.0) in
     let r = more_in (k + 1) ss (omega arith) (each_right PassesNothing (slot_tokens (counted k 4 limit.Param None) s) (more_slots limit.Param (k + 1) 4 ss) h.1) in
     omega arith
 
@@ -215,7 +191,7 @@ abbrev pub HasWords : PlainFunc → Type 0
 HasWords f = Each (λ (b : Block). Each HasWord b.insts) f.blocks
 
 has_word : (y : Inst) (x : Option Excess) → Quiet (inst_line x y) → HasWord y
-has_word (inst.Const to v) x h = is_word v h.1.1.0
+has_word (inst.Const to v) x h = number_fits v None h.1.1.0
 has_word _ x h = tt
 
 words_in : (k : ℕ) (is : List Inst) → Each Quiet (inst_lines k is) → Each HasWord is
@@ -243,7 +219,7 @@ HasFewArguments _ = Unit {0}
 more_arguments_few : (k : ℕ) (as_ : List (List ℕ)) → k ≤ 4 → Quiet (more_arguments k as_) → k + length as_ ≤ 4
 more_arguments_few k [] b h = omega arith
 more_arguments_few k (a ∷ as_) b h =
-    let c = counted_below k 4 limit.Param (or_else_none (counted k 4 limit.Param None) (word_excess a) h.1.0) in
+    let c = counted_none k 4 limit.Param None (first_none (counted k 4 limit.Param None) (word_excess a) h.1.0) in
     let r = more_arguments_few (k + 1) as_ (omega arith) h.1.1 in
     omega arith
 
@@ -282,24 +258,24 @@ insts_in (b ∷ bs) = length b.insts + insts_in bs
 insts_few : (k : ℕ) (is : List Inst) → k ≤ 16384 → Each Quiet (inst_lines k is) → k + length is ≤ 16384
 insts_few k [] b h = omega arith
 insts_few k (y ∷ ys) b h =
-    let c = counted_below k 16384 limit.Instruction (first_counted k y h.0) in
+    let c = counted_none k 16384 limit.Instruction None (first_counted k y h.0) in
     let r = insts_few (k + 1) ys (omega arith) h.1 in
     omega arith
   where
     kept_counted : (x : Option Excess) (to : Option (List ℕ)) (t : Token) (l : Line) → Quiet (kept x to t l) → x ≡ None
     kept_counted x None t l q = q.0
-    kept_counted x (Some to) t l q = or_else_none x (word_excess to) q.0
+    kept_counted x (Some to) t l q = first_none x (word_excess to) q.0
 
     first_counted : (k : ℕ) (y : Inst) → Quiet (inst_line (counted k 16384 limit.Instruction None) y) → counted k 16384 limit.Instruction None ≡ None
-    first_counted k (inst.Const to v) q = or_else_none (counted k 16384 limit.Instruction None) (word_excess to) q.0
-    first_counted k (inst.Move to from) q = or_else_none (counted k 16384 limit.Instruction None) (word_excess to) q.0
-    first_counted k (inst.Bin op to a b) q = or_else_none (counted k 16384 limit.Instruction None) (word_excess to) q.0
-    first_counted k (inst.Cmp op to a b) q = or_else_none (counted k 16384 limit.Instruction None) (word_excess to) q.0
-    first_counted k (inst.Addr to x) q = or_else_none (counted k 16384 limit.Instruction None) (word_excess to) q.0
-    first_counted k (inst.FAddr to x) q = or_else_none (counted k 16384 limit.Instruction None) (word_excess to) q.0
-    first_counted k (inst.Elem to base i) q = or_else_none (counted k 16384 limit.Instruction None) (word_excess to) q.0
-    first_counted k (inst.Field to base x) q = or_else_none (counted k 16384 limit.Instruction None) (word_excess to) q.0
-    first_counted k (inst.Load to from) q = or_else_none (counted k 16384 limit.Instruction None) (word_excess to) q.0
+    first_counted k (inst.Const to v) q = first_none (counted k 16384 limit.Instruction None) (word_excess to) q.0
+    first_counted k (inst.Move to from) q = first_none (counted k 16384 limit.Instruction None) (word_excess to) q.0
+    first_counted k (inst.Bin op to a b) q = first_none (counted k 16384 limit.Instruction None) (word_excess to) q.0
+    first_counted k (inst.Cmp op to a b) q = first_none (counted k 16384 limit.Instruction None) (word_excess to) q.0
+    first_counted k (inst.Addr to x) q = first_none (counted k 16384 limit.Instruction None) (word_excess to) q.0
+    first_counted k (inst.FAddr to x) q = first_none (counted k 16384 limit.Instruction None) (word_excess to) q.0
+    first_counted k (inst.Elem to base i) q = first_none (counted k 16384 limit.Instruction None) (word_excess to) q.0
+    first_counted k (inst.Field to base x) q = first_none (counted k 16384 limit.Instruction None) (word_excess to) q.0
+    first_counted k (inst.Load to from) q = first_none (counted k 16384 limit.Instruction None) (word_excess to) q.0
     first_counted k (inst.Store to from) q = q.0
     first_counted k (inst.Call to g args) q = kept_counted (counted k 16384 limit.Instruction None) to (Key key.Call) (name g ∷ arguments args) q
     first_counted k (inst.ICall to g args) q = kept_counted (counted k 16384 limit.Instruction None) to (Key key.Icall) (register g ∷ arguments args) q
@@ -309,7 +285,7 @@ blocks_few k n [] a b h = (omega arith, omega arith)
 blocks_few k n (x ∷ bs) a b h =
     let more : List Line = block_lines (k + 1) (n + length x.insts) bs in
     let own = each_left Quiet (inst_lines n x.insts ++ term_line x.term ∷ []) more h.1 in
-    let c = counted_below k 1024 limit.Block (or_else_none (counted k 1024 limit.Block None) (word_excess x.label) h.0.0) in
+    let c = counted_none k 1024 limit.Block None (first_none (counted k 1024 limit.Block None) (word_excess x.label) h.0.0) in
     let i = insts_few n x.insts b (each_left Quiet (inst_lines n x.insts) (term_line x.term ∷ []) own) in
     let r = blocks_few (k + 1) (n + length x.insts) bs (omega arith) i (each_right Quiet (inst_lines n x.insts ++ term_line x.term ∷ []) more h.1) in
     let r0 = r.0 in

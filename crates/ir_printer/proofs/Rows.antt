@@ -1,5 +1,5 @@
 -- The types between brackets, as the code holds them and as texts.
-use Rattle.std.proofs.Common.{◌≡◌, ◌<◌, ◌≤◌, ℕ, length, take, Result, Ok, Err, OnOk, ◌+◌, ◌++◌, List, [], ◌∷◌, map, refl, ap, sym, ◌∙◌, append_assoc, arith, rules}
+use Rattle.std.proofs.Common.{◌≡◌, ◌<◌, ◌≤◌, ℕ, length, take, ◌+◌, ◌++◌, List, [], ◌∷◌, map, refl, ap, sym, ◌∙◌, append_assoc, arith, rules}
 use Rattle.std.proofs.lemmas.List.{take_all}
 use Rattle.std.proofs.lemmas.Bool.Decides.{nat_tests}
 use Rattle.ir_model.specs.declared.types.Ty as code
@@ -47,7 +47,3 @@ pub row_end : (ts : List Ty) (i : ℕ) (start before after : List ℕ) → lengt
     → after ≡ start ++ row_text (types_from (map type_of ts))
 row_end ts i start before after l b a =
     rw (a, b, take_all i ts l, row_by_types ts) (append_assoc start (separated ty_text 0 ts) (next (Sign Close)))
-
-pub on_ok : {V E : Type 0} (r : Result V E) {P Q : Type 0} → (P → Q) → OnOk r P → OnOk r Q
-on_ok (Ok v) f h = f h
-on_ok (Err e) f h = tt

@@ -21,7 +21,8 @@ use Rattle.ir_model.specs.Tokens.{Token, Name, Number, Key, Operation, Compariso
 use Rattle.ir_model.specs.Lines.{Line}
 use Rattle.ir_model.specs.Canonical.{Each, IsProper, line_bytes}
 use Rattle.ir_model.specs.Texts.{StandsFor, Spells, IsApart, Leads, here, blank, token, joined, tokens}
-use Rattle.std.proofs.lemmas.Bool.{and_parts}
+use Rattle.ir_model.proofs.NoExcess.{IsNarrow}
+use Rattle.std.proofs.lemmas.Bool.{and_parts, not-true}
 use Rattle.ir_printer.proofs.Digits.{numeral_decimal}
 
 -- ASCII.
@@ -73,10 +74,6 @@ word_ascii (b ∷ bs) h =
     let p = and_parts (begins_word b) (all_continue bs) h in IsAscii-cons b bs (begins_ascii b p.0) (inner_ascii bs p.1)
 
 -- what a name is
-not_true : (b : Bool) → not b ≡ true → b ≡ false
-not_true true h = cc
-not_true false h = refl
-
 pub record IsPlainWord (w : List ℕ) : Type 0 where
   pub word : is_word w ≡ true
   pub free : is_reserved w ≡ false
@@ -86,12 +83,7 @@ unfolding is_name
 plain_word w h =
     let p = and_parts (is_word w) (nat_le (length w) NAME_LIMIT && not (is_reserved w)) h in
     let q = and_parts (nat_le (length w) NAME_LIMIT) (not (is_reserved w)) p.1 in
-    record { word = p.0; free = not_true (is_reserved w) q.1 }
-
--- a number of 32 bits
-abbrev pub IsNarrow : Token → Type 0
-IsNarrow (Number n) = n < 2 ^ 32
-IsNarrow _ = Unit {0}
+    record { word = p.0; free = not-true (is_reserved w) q.1 }
 
 -- a token that its canonical spelling spells
 pub record IsSpelled (t : Token) : Type 0 where

@@ -1,6 +1,5 @@
 -- Numbers of a text that passes nothing have 32 bits.
-use Rattle.std.proofs.Common.{◌≡◌, ◌<◌, ℕ, ◌+◌, ◌^◌, ◌++◌, List, [], ◌∷◌, length, Bool, true, false, Option, Some, None, refl, arith, nat_lt, if◌then◌else◌}
-use Rattle.std.proofs.lemmas.Bool.Decides.{nat_tests}
+use Rattle.std.proofs.Common.{◌≡◌, ◌<◌, ℕ, ◌+◌, ◌^◌, ◌++◌, List, [], ◌∷◌, length, Bool, true, false, Option, Some, None}
 use Rattle.ir_model.specs.declared.firmware.Peripheral.{Peripheral}
 use Rattle.ir_model.specs.declared.firmware.Cell.{Cell}
 use Rattle.ir_model.specs.declared.firmware.Cell.TheVariants.{Word, Function, Address}
@@ -10,16 +9,16 @@ use Rattle.ir_model.specs.declared.firmware.Term.{Term}
 use Rattle.ir_model.specs.declared.firmware.Term.TheVariants as term
 use Rattle.ir_model.specs.declared.firmware.Block.{Block}
 use Rattle.ir_model.specs.declared.token.Excess.{Excess}
-use Rattle.ir_model.specs.declared.token.Excess.TheVariants.{TooWide}
 use Rattle.ir_model.specs.declared.token.Mark.TheVariants.{OpenBrace, CloseBrace, Close, Colon}
 use Rattle.ir_model.specs.declared.token.TextLimit.{TextLimit}
 use Rattle.ir_model.specs.declared.token.TextLimit.TheVariants as limit
 use Rattle.ir_model.specs.Types.{PlainType, U8, U16, U32, Pointer, Array, Named, Callee, PlainTypes, none, more, PlainResult, nothing, gives}
 use Rattle.ir_model.specs.Plain.{PlainSlot, PlainStruct, PlainGlobal, PlainFunc, PlainFile, PlainFirmware}
 use Rattle.ir_model.specs.Tokens.{Token, Number, Sign, Marked}
-use Rattle.ir_model.specs.Lines.{Line, counted, plain, name, number_excess, length_excess, type_tokens, row_tokens, more_tokens, result_tokens, slot_tokens, more_slots, slots_tokens, struct_line, struct_lines, periph_line, periph_lines, cell_tokens, more_cells, init_tokens, global_start, global_line, global_lines, arguments, more_arguments, inst_line, inst_lines, term_line, block_lines, local_lines, reg_lines, func_line, func_lines, funcs_lines, close_line, file_lines, lines_of}
+use Rattle.ir_model.specs.Lines.{Line, counted, plain, name, type_tokens, row_tokens, more_tokens, result_tokens, slot_tokens, more_slots, slots_tokens, struct_line, struct_lines, periph_line, periph_lines, cell_tokens, more_cells, init_tokens, global_start, global_line, global_lines, arguments, more_arguments, inst_line, inst_lines, term_line, block_lines, local_lines, reg_lines, func_line, func_lines, funcs_lines, close_line, file_lines, lines_of}
 use Rattle.ir_model.specs.Canonical.{Each}
 use Rattle.ir_model.proofs.ForEach.{each_both}
+use Rattle.ir_model.proofs.NoExcess.{number_fits, length_fits}
 
 -- a number that passes nothing has 32 bits
 abbrev pub IsKept : Token → Option Excess → Type 0
@@ -35,26 +34,13 @@ join ls ms h k = each_both (λ (m : Marked). IsKept m.token m.excess) ls ms h k
 stack : (ls ms : List Line) → Each AreKept ls → Each AreKept ms → Each AreKept (ls ++ ms)
 stack ls ms h k = each_both AreKept ls ms h k
 
-by_test : (b : Bool) (o : Option Excess) → (if b then o else Some TooWide) ≡ None → b ≡ true
-by_test true o h = refl
-by_test false o h = cc
-
-below : (n : ℕ) → nat_lt n (2 ^ 32) ≡ true → n < 2 ^ 32
-below n h = grind (arith, nat_tests)
-
-number_kept : (n : ℕ) (o : Option Excess) → number_excess n o ≡ None → n < 2 ^ 32
-number_kept n o h = below n (by_test (nat_lt n (2 ^ 32)) o h)
-
-length_kept : (n : ℕ) → length_excess n ≡ None → n < 2 ^ 32
-length_kept n h = number_kept n _ h
-
 mutual
   type_kept : (x : Option Excess) (d : ℕ) (t : PlainType) → AreKept (type_tokens x d t)
   type_kept x d U8 = (tt, tt)
   type_kept x d U16 = (tt, tt)
   type_kept x d U32 = (tt, tt)
   type_kept x d (Pointer t) = (tt, type_kept None (d + 1) t)
-  type_kept x d (Array n t) = (tt, (length_kept n, (tt, type_kept None (d + 1) t)))
+  type_kept x d (Array n t) = (tt, (length_fits n, (tt, type_kept None (d + 1) t)))
   type_kept x d (Named w) = (tt, tt)
   type_kept x d (Callee a r) = (tt, (tt, join (row_tokens (d + 1) a) (result_tokens (d + 1) r) (row_kept (d + 1) a) (result_kept (d + 1) r)))
 
@@ -87,10 +73,10 @@ struct_kept : (k : ℕ) (s : PlainStruct) → AreKept (struct_line k s)
 struct_kept k s = (tt, (tt, (tt, join (slots_tokens limit.Field 64 s.fields) (plain (Sign CloseBrace) ∷ []) (slots_kept limit.Field 64 s.fields) (tt, tt))))
 
 periph_kept : (k : ℕ) (p : Peripheral) → AreKept (periph_line k p)
-periph_kept k p = (tt, (tt, (number_kept p.base None, (number_kept p.size None, tt))))
+periph_kept k p = (tt, (tt, (number_fits p.base None, (number_fits p.size None, tt))))
 
 cell_kept : (k : ℕ) (c : Cell) → AreKept (cell_tokens k c)
-cell_kept k (Word n) = (number_kept n (counted k 65536 limit.Cell None), tt)
+cell_kept k (Word n) = (number_fits n (counted k 65536 limit.Cell None), tt)
 cell_kept k (Function f) = (tt, (tt, tt))
 cell_kept k (Address x) = (tt, (tt, tt))
 
@@ -122,7 +108,7 @@ arguments_kept [] = (tt, (tt, tt))
 arguments_kept (a ∷ as_) = (tt, (tt, more_arguments_kept 1 as_))
 
 inst_kept : (x : Option Excess) (i : Inst) → AreKept (inst_line x i)
-inst_kept x (inst.Const to v) = (tt, (tt, (number_kept v None, tt)))
+inst_kept x (inst.Const to v) = (tt, (tt, (number_fits v None, tt)))
 inst_kept x (inst.Move to from) = (tt, (tt, (tt, tt)))
 inst_kept x (inst.Bin op to a b) = (tt, (tt, (tt, (tt, (tt, (tt, tt))))))
 inst_kept x (inst.Cmp op to a b) = (tt, (tt, (tt, (tt, (tt, (tt, tt))))))

@@ -14,7 +14,7 @@ use Rattle.ir_reader.specs.Machine
 use Rattle.ir_reader.specs.Machine.{Symbol, Move, Go, Stop, Skip, Step, To, Stuck, step, move, Structs}
 use Rattle.ir_reader.specs.Scan.{placed, StartsToken}
 use Rattle.ir_reader.proofs.Firsts.{spelled_at, has_colon, is_the_colon, free_front}
-use Rattle.ir_reader.proofs.Kept.{second_none}
+use Rattle.ir_model.proofs.NoExcess.{second_none, IsNarrow}
 use Rattle.ir_reader.proofs.Lang.{Langs, well}
 use Rattle.ir_reader.proofs.Proper.{narrow_front, each_joined, leads_free}
 use Rattle.ir_reader.proofs.Scanning.{placed_nil}
@@ -22,7 +22,7 @@ use Rattle.ir_reader.proofs.Stops.{skip_flag}
 use Rattle.ir_reader.proofs.Theorem.{steps}
 use Rattle.ir_reader.proofs.Values.{stepped}
 use Rattle.ir_reader.proofs.Verdicts.{begun, Taken, taken}
-use Rattle.ir_reader.proofs.Whole.{Alike, AreWide, IsNarrow, finds_some, token_placed, Prefix, placed_from}
+use Rattle.ir_reader.proofs.Whole.{Alike, AreWide, finds_some, token_placed, Prefix, placed_from}
 use Rattle.ir_model.proofs.ForEach.{each_right}
 
 -- two fronts of one list

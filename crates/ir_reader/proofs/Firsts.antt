@@ -1,6 +1,7 @@
 -- The fault at which the moves stop is the first of the bytes.
 use Rattle.std.proofs.Common.{◌≡◌, ℕ, [], ◌∷◌, ◌++◌, List, Bool, true, false, refl, sym, ap, ◌∙◌, subst, append_assoc, append-nil, Some, length, take, drop, arith, IsUtf8, Result, Ok, Err, IfErr}
 use Rattle.std.proofs.Common.{◌≤◌}
+use Rattle.std.proofs.lemmas.List.{take-append-drop}
 use Rattle.ir_model.specs.declared.token.Excess.{Excess}
 use Rattle.ir_model.specs.declared.token.Excess.TheVariants as excess
 use Rattle.ir_model.specs.declared.token.Mark.TheVariants as mark
@@ -8,7 +9,7 @@ use Rattle.ir_model.specs.declared.token.Pos.{Pos}
 use Rattle.ir_model.specs.declared.firmware.Firmware.{Firmware}
 use Rattle.ir_model.specs.Canonical.{Each}
 use Rattle.ir_model.specs.Plain.{PlainFirmware, funcs_of}
-use Rattle.ir_model.specs.Tokens.{Token, Name, Number, Key, Operation, Comparison, Sign, Marked}
+use Rattle.ir_model.specs.Tokens.{Token, Sign, Marked}
 use Rattle.ir_model.specs.Lines.{Line, marked, lines_of}
 use Rattle.ir_model.specs.Texts.{joined, tokens, Spells, IsApart, Leads, here, blank, comment, token, is_blank, opens_comment, IsFree, Begins, NoneBegins, NoneIs, Reaches, BeginsNothing, IsUnexpected, end, nothing, IsSyntaxFault, HasColon, begins_colon, is_colon, IsPlace, SyntaxAt}
 use Rattle.ir_model.specs.Texts as texts
@@ -28,8 +29,8 @@ use Rattle.ir_reader.proofs.Allow.{only, stands}
 use Rattle.ir_reader.proofs.Complete.{Free, complete, Choice, some_such, none_such, choose}
 use Rattle.ir_reader.proofs.Lang
 use Rattle.ir_reader.proofs.Lang.{Langs, well}
-use Rattle.ir_reader.proofs.Pieces.{Reached, reached, spelled_lexeme, at_token, take_parts, nothing_left}
-use Rattle.ir_reader.proofs.Proper.{leads_free}
+use Rattle.ir_reader.proofs.Pieces.{Reached, reached, spelled_lexeme, at_token, nothing_left}
+use Rattle.ir_reader.proofs.Proper.{leads_free, free_token}
 use Rattle.ir_model.proofs.ForEach.{each_both}
 use Rattle.ir_reader.proofs.Scanning.{placed_nil}
 use Rattle.ir_reader.proofs.Stops.{stopped, Stopped, Why, stuck, bad, short, over}
@@ -80,7 +81,7 @@ spelled_at t (b ∷ bs) at after_ s h i =
     let e = sym (at_token b bs s.0 s.1) ∙ h in
     let f : (first_lexeme b bs).found ≡ Is t = cc in
     let p = spelled_lexeme b bs t f in
-    record { spelling = take (first_lexeme b bs).len (b ∷ bs); after = drop (first_lexeme b bs).len (b ∷ bs); parts = take_parts (first_lexeme b bs).len (b ∷ bs); spells = p.spells; apart = p.apart; behind = cc }
+    record { spelling = take (first_lexeme b bs).len (b ∷ bs); after = drop (first_lexeme b bs).len (b ∷ bs); parts = sym (take-append-drop (first_lexeme b bs).len (b ∷ bs)); spells = p.spells; apart = p.apart; behind = cc }
 
 -- where no token is found, none is spelled
 nothing_at : (rest : List ℕ) (at : Placed) (after_ : List Placed) → StartsToken rest → placed rest ≡ at ∷ after_ → at.found ≡ Bad → BeginsNothing rest
@@ -211,14 +212,6 @@ syntax_at bytes f pos u e k p =
     }
 
 -- limits
-
-free_token : (t : Token) (bs : List ℕ) → Spells t bs → IsFree t
-free_token (Name w) bs s = (s.1, s.2)
-free_token (Number n) bs s = tt
-free_token (Key k) bs s = tt
-free_token (Operation o) bs s = tt
-free_token (Comparison o) bs s = tt
-free_token (Sign m) bs s = tt
 
 -- where the moves stop for a limit
 passing_by : (k : FaultKind) (v : Excess) (stack : List Symbol) (at : Placed) (after_ : List Placed) → Why stack at after_ k → k ≡ kind.Exceeds v

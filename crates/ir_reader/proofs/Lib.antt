@@ -1,8 +1,7 @@
 mod Tables
-mod Scanning
 mod Kept
+mod Scanning
 mod Ends
-mod Rows
 mod Separated
 mod Values
 mod Lang

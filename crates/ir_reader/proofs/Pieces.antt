@@ -3,6 +3,7 @@ use Rattle.std.proofs.Common.{◌≡◌, ◌≤◌, ◌<◌, ℕ, ◌+◌, ◌^�
 use Rattle.std.proofs.lemmas.Grind.{common_steps}
 use Rattle.std.specs.List.{prefix_len, take_while}
 use Rattle.std.proofs.lemmas.List.Sums.{take_while-cons}
+use Rattle.std.proofs.lemmas.List.{take-append-drop}
 use Rattle.numerals.specs.declared.Numeral.{Numeral}
 use Rattle.numerals.specs.declared.Numeral.TheVariants as numerals
 use Rattle.numerals.specs.Numerals.{numeral}
@@ -16,14 +17,11 @@ use Rattle.ir_reader.specs.Found.{Found, Is, Bad, End, Placed, finds}
 use Rattle.ir_reader.specs.Words.{word_token}
 use Rattle.ir_reader.specs.Scan.{placed, StartsToken, first_lexeme, number_from, mark_found, dash, is_digit, Lexeme, lexeme}
 use Rattle.ir_reader.proofs.Tables.{name_free, word_is_spelled, IsSpelled}
-use Rattle.ir_reader.proofs.Scanning.{placed_blank, placed_comment, placed_nil, placed_token, run_is_word, prefix_len_some, take_run}
+use Rattle.ir_reader.proofs.Scanning.{placed_blank, placed_comment, placed_nil, placed_token, run_is_word, prefix_len_some, take_run, digit_continues, opens_at}
 
 -- bytes are a front that passes a test, and the rest
 parts : (p : ℕ → Bool) (bs : List ℕ) → bs ≡ take_while p bs ++ drop (prefix_len p bs) bs
 parts p bs = grind (arith, common_steps)
-
-pub take_parts : (n : ℕ) (bs : List ℕ) → bs ≡ take n bs ++ drop n bs
-take_parts n bs = grind (arith, common_steps)
 
 front_passes : (p : ℕ → Bool) (bs : List ℕ) → Each (λ (b : ℕ). p b ≡ true) (take_while p bs)
 front_passes p [] = tt
@@ -93,13 +91,6 @@ spells_number w (numerals.Value m) t e h =
 
 is_number : (n : Numeral) (t : Token) (bs : List ℕ) → number_from n ≡ Is t → EndsWord bs → IsApart t bs
 is_number n t bs h e = apart_word t bs e
-
-digit_continues : (b : ℕ) → is_digit b ≡ true → continues_word b ≡ true
-digit_continues b h = by_test (begins_word b) refl
-  where
-    by_test : (t : Bool) → begins_word b ≡ t → continues_word b ≡ true
-    by_test true e = rw e refl
-    by_test false e = rw (e, h) refl
 
 spelled_number : (b : ℕ) (bs : List ℕ) (t : Token) → is_digit b ≡ true → number_from (numeral (take_while continues_word (b ∷ bs))) ≡ Is t → Spelled t (prefix_len continues_word (b ∷ bs)) (b ∷ bs)
 spelled_number b bs t h e =
@@ -188,16 +179,13 @@ further_token : (len : ℕ) (bs : List ℕ) (t : Token) (ts : List Token) (at : 
 further_token len bs t ts at after s r =
     let P : List ℕ → Type 0 = λ z. Leads (t ∷ ts) z r.rest in
     let l : Leads (t ∷ ts) (take len bs ++ drop len bs) r.rest = token t (take len bs) s.spells s.apart r.leads in
-    record { rest = r.rest; leads = subst P (sym (take_parts len bs)) l; here = r.here; starts = r.starts }
+    record { rest = r.rest; leads = subst P (take-append-drop len bs) l; here = r.here; starts = r.starts }
 
 drop_short : (n len : ℕ) (b : ℕ) (bs : List ℕ) → length (b ∷ bs) ≤ suc n → 0 < len → length (drop len (b ∷ bs)) ≤ n
 drop_short n len b bs h s = grind (arith, common_steps)
 
 tail_short : (n k : ℕ) (b : ℕ) (bs : List ℕ) → length (b ∷ bs) ≤ suc n → length (drop k bs) ≤ n
 tail_short n k b bs h = grind (arith, common_steps)
-
-opens_at : (b : ℕ) → opens_comment b ≡ true → b ≡ 35
-opens_at b h = eqb-true b 35 h
 
 -- the lexeme's length, where it is no token
 pub lexeme_some : (b : ℕ) (bs : List ℕ) → 0 < (first_lexeme b bs).len

@@ -9,8 +9,7 @@ use Rattle.ir_model.specs.Texts.{joined, tokens, IsFree, Leads, here, blank, com
 use Rattle.ir_reader.specs.Found.{Is, Placed, finds}
 use Rattle.ir_reader.specs.Machine
 use Rattle.ir_reader.specs.Machine.{Symbol, Move, Go, Stop, Skip, Step, To, Stuck, step, fault, move}
-use Rattle.ir_reader.proofs.Kept.{second_none, name_of_short, depth_behind, number_fits, length_fits}
-use Rattle.ir_reader.proofs.Whole.{IsNarrow}
+use Rattle.ir_model.proofs.NoExcess.{second_none, name_of_short, depth_behind, number_fits, length_fits, IsNarrow}
 use Rattle.ir_reader.proofs.Lang.{Langs, well}
 use Rattle.ir_reader.proofs.Theorem.{steps, text_of, colon_same, fault_token, kept}
 use Rattle.ir_reader.proofs.Ends.{after}
@@ -70,7 +69,7 @@ short_from (p ∷ ps) st w (m ∷ ms) l same e =
     let k = kept p ps m.excess s.stack (sym goes ∙ e) in
     (is_short st m.token _ m.excess s.stack k.0 s.goes, short_from ps s.stack s.well ms s.others rest k.1)
 
-free_token : (t : Token) (bs : List ℕ) → Spells t bs → IsFree t
+pub free_token : (t : Token) (bs : List ℕ) → Spells t bs → IsFree t
 free_token (Name w) bs s = (s.1, s.2)
 free_token (Number n) bs s = tt
 free_token (Key k) bs s = tt

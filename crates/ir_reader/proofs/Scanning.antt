@@ -3,14 +3,15 @@ use Rattle.std.proofs.Common.{◌≡◌, ◌<◌, ℕ, ◌+◌, ◌-◌, [], ◌
 use Rattle.std.proofs.lemmas.Grind.{common_steps}
 use Rattle.std.specs.List.{prefix_len, take_while, list_all}
 use Rattle.std.proofs.lemmas.List.Sums.{take_while-cons}
+use Rattle.std.proofs.lemmas.Bool.{eqb-true}
 use Rattle.names.specs.Names.{begins_word, continues_word, is_word}
-use Rattle.ir_model.specs.Texts.{is_blank, is_inside_line}
+use Rattle.ir_model.specs.Texts.{is_blank, is_inside_line, opens_comment}
 use Rattle.ir_model.specs.Tokens as model
 use Rattle.ir_reader.specs.declared.token.Token.{Token}
 use Rattle.ir_reader.specs.declared.token.Token.TheVariants as code
 use Rattle.ir_reader.specs.Found.{Is, End, found_of}
 use Rattle.ir_reader.specs.Words.{word_token}
-use Rattle.ir_reader.specs.Scan.{scan, placed, later, BeginsWith, StartsToken, GoesOn, IsProper, first_lexeme, lexeme_of}
+use Rattle.ir_reader.specs.Scan.{scan, placed, later, BeginsWith, StartsToken, GoesOn, IsProper, first_lexeme, lexeme_of, is_digit}
 use Rattle.ir_reader.proofs.Tables.{name_free}
 
 pub scan_drop : (k : ℕ) (bs : List ℕ) → scan k bs ≡ placed (drop k bs)
@@ -73,8 +74,18 @@ run_continues (b ∷ bs) = by_test (continues_word b) refl (run_continues bs)
     by_test true e h = rw (take_while-cons continues_word b bs, e) (rw (e, h) refl)
     by_test false e h = rw (take_while-cons continues_word b bs, e) refl
 
-begins_continues : (b : ℕ) → begins_word b ≡ true → continues_word b ≡ true
+pub begins_continues : (b : ℕ) → begins_word b ≡ true → continues_word b ≡ true
 begins_continues b e = rw e refl
+
+pub digit_continues : (b : ℕ) → is_digit b ≡ true → continues_word b ≡ true
+digit_continues b h = by_test (begins_word b) refl
+  where
+    by_test : (t : Bool) → begins_word b ≡ t → continues_word b ≡ true
+    by_test true e = rw e refl
+    by_test false e = rw (e, h) refl
+
+pub opens_at : (b : ℕ) → opens_comment b ≡ true → b ≡ 35
+opens_at b h = eqb-true b 35 h
 
 pub run_is_word : (b : ℕ) (bs : List ℕ) → begins_word b ≡ true → is_word (take_while continues_word (b ∷ bs)) ≡ true
 run_is_word b bs e = rw (take_while-cons continues_word b bs, begins_continues b e) (rw (e, run_continues bs) refl)

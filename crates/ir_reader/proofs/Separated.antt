@@ -1,21 +1,17 @@
 -- Lists with commas between their things.
-use Rattle.std.proofs.Common.{◌≡◌, ◌<◌, [], ◌∷◌, ◌++◌, map, List, refl, ap, sym, ◌∙◌, append_assoc, length, arith}
+use Rattle.std.proofs.Common.{◌≡◌, ◌<◌, [], ◌∷◌, ◌++◌, map, List, refl, sym, ◌∙◌, append_assoc, length, arith}
 use Rattle.ir_model.specs.declared.token.Mark.TheVariants.{Comma, Close, Equal, OpenBrace}
 use Rattle.ir_model.specs.Types.{PlainType, types_from}
 use Rattle.ir_model.specs.Canonical.{Each}
 use Rattle.ir_reader.specs.Spelling.{Spelling, Sign, separated, spell_type, spell_row, spell_more_row, spell_init, spell_cells}
 use Rattle.ir_model.specs.declared.firmware.Cell.{Cell}
-use Rattle.std.proofs.lemmas.List.{length-map}
+use Rattle.std.proofs.lemmas.List.{length-map, map_push}
 
 -- one more thing
 pub separated_push : {A : Type 0} (f : A → Spelling) (xs : List A) (x : A) → 0 < length xs → separated f (xs ++ x ∷ []) ≡ separated f xs ++ (Sign Comma ∷ f x)
 separated_push f [] x h = absurd (omega arith)
 separated_push f (y ∷ []) x h = refl
 separated_push f (y ∷ z ∷ zs) x h = let s : 0 < length (z ∷ zs) = omega arith in rw (separated_push f (z ∷ zs) x s) (simp append_assoc)
-
-map_push : {A B : Type 0} (g : A → B) (xs : List A) (x : A) → map g (xs ++ x ∷ []) ≡ map g xs ++ g x ∷ []
-map_push g [] x = refl
-map_push g (y ∷ ys) x = ap (λ z. g y ∷ z) (map_push g ys x)
 
 -- what was read up to a comma, and the thing behind it
 pub read_more : {A B : Type 0} (f : B → Spelling) (g : A → B) (xs : List A) (x : A) (all old mid new : Spelling) → 0 < length xs

@@ -1,5 +1,6 @@
 -- Where the moves stop, and why.
 use Rattle.std.proofs.Common.{◌≡◌, ℕ, [], ◌∷◌, ◌++◌, List, Bool, true, false, refl, sym, ap, ◌∙◌, subst, Option, Some, None, map, if◌then◌else◌}
+use Rattle.std.proofs.lemmas.Option.{same_Some}
 use Rattle.ir_model.specs.declared.token.Excess.{Excess}
 use Rattle.ir_model.specs.declared.token.Mark.TheVariants as mark
 use Rattle.ir_model.specs.Tokens.{Token, Name, Number, Key, Operation, Comparison, Sign, Marked}
@@ -113,9 +114,6 @@ no_tokens : (front : Line) → tokens front ≡ [] → front ≡ []
 no_tokens [] h = refl
 no_tokens (m ∷ ms) h = cc
 
-same_kind : (g f : Fault) → Some g ≡ Some f → g ≡ f
-same_kind g f e = cc
-
 -- the token behind some tokens is a colon or not
 colon_at : (ts : List Token) (front : Line) (m : Marked) (y : Line) (before : List Placed) (at : Placed) (ps : List Placed) → tokens front ≡ ts → finds before ≡ map Is ts → at.found ≡ Is m.token
     → begins_colon (tokens (front ++ m ∷ y)) ≡ colon_first (before ++ at ∷ ps)
@@ -182,7 +180,7 @@ grown st stack left ps t f e s =
 at_once : (st : List Symbol) (p : Placed) (ps : List Placed) (g f : Fault) → g.left ≡ p.left → Why st p ps g.kind → Some g ≡ Some f → Stopped st (p ∷ ps) f
 at_once st p ps g f i v e =
     let P : Fault → Type 0 = λ z. Stopped st (p ∷ ps) z in
-    subst P (same_kind g f e) (record {
+    subst P (same_Some g f e) (record {
       before = [];
       at = p;
       after_ = ps;

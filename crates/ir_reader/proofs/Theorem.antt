@@ -1,5 +1,6 @@
 -- What the moves say of whole rows of tokens.
 use Rattle.std.proofs.Common.{◌≡◌, ℕ, [], ◌∷◌, ◌++◌, List, Bool, true, false, not, ◌&&◌, refl, sym, ap, ◌∙◌, append_assoc, append-nil, Option, Some, None, subst, map, if◌then◌else◌}
+use Rattle.std.proofs.lemmas.Bool.{and_parts, and_from, not-true}
 use Rattle.ir_model.specs.declared.token.Excess.{Excess}
 use Rattle.ir_model.specs.declared.token.Mark.TheVariants as mark
 use Rattle.ir_model.specs.Canonical.{Each, PassesNothing}
@@ -20,41 +21,28 @@ both : (xs ys : List Symbol) (a b : Line) → Langs xs a → Langs ys b → Lang
 both [] ys a b none r = r
 both (x ∷ xs) ys a b (some {a = c} {b = d} l m) r = rw append_assoc (some l (both xs ys d b m r))
 
-and_first : (a b : Bool) → (a && b) ≡ true → a ≡ true
-and_first true b h = refl
-and_first false b h = cc
-
-and_second : (a b : Bool) → (a && b) ≡ true → b ≡ true
-and_second true b h = h
-and_second false b h = cc
-
-and_both : (a b : Bool) → a ≡ true → b ≡ true → (a && b) ≡ true
-and_both true true h i = refl
-and_both true false h i = cc
-and_both false b h i = cc
-
 below_more : (more st : List Symbol) → inner more ≡ true → below st ≡ true → below (more ++ st) ≡ true
 below_more [] st h i = i
-below_more (s ∷ []) [] h i = and_first (not (takes_arrow s)) _ h
-below_more (s ∷ []) (q ∷ st) h i = and_both (not (takes_arrow s)) _ (and_first (not (takes_arrow s)) _ h) (and_both (not (at_bottom s)) _ (and_first (not (at_bottom s)) _ (and_second (not (takes_arrow s)) _ h)) i)
+below_more (s ∷ []) [] h i = (and_parts (not (takes_arrow s)) _ h).0
+below_more (s ∷ []) (q ∷ st) h i = and_from (not (takes_arrow s)) _ (and_parts (not (takes_arrow s)) _ h).0 (and_from (not (at_bottom s)) _ (and_parts (not (at_bottom s)) _ (and_parts (not (takes_arrow s)) _ h).1).0 i)
 below_more (s ∷ r ∷ more) st h i =
-    and_both (not (takes_arrow s)) _ (and_first (not (takes_arrow s)) _ h)
-    (and_both (not (at_bottom s)) _ (and_first (not (at_bottom s)) _ (and_second (not (takes_arrow s)) _ h)) (below_more (r ∷ more) st (and_second (not (at_bottom s)) _ (and_second (not (takes_arrow s)) _ h)) i))
+    and_from (not (takes_arrow s)) _ (and_parts (not (takes_arrow s)) _ h).0
+    (and_from (not (at_bottom s)) _ (and_parts (not (at_bottom s)) _ (and_parts (not (takes_arrow s)) _ h).1).0 (below_more (r ∷ more) st (and_parts (not (at_bottom s)) _ (and_parts (not (takes_arrow s)) _ h).1).1 i))
 
 pub below_well : (st : List Symbol) → below st ≡ true → well st ≡ true
 below_well [] h = refl
 below_well (s ∷ []) h = refl
-below_well (s ∷ q ∷ st) h = and_second (not (takes_arrow s)) _ h
+below_well (s ∷ q ∷ st) h = (and_parts (not (takes_arrow s)) _ h).1
 
 well_more : (more st : List Symbol) → inner_top more ≡ true → below st ≡ true → well (more ++ st) ≡ true
 well_more [] st h i = below_well st i
 well_more (s ∷ []) [] h i = refl
-well_more (s ∷ []) (q ∷ st) h i = and_both (not (at_bottom s)) _ (and_first (not (at_bottom s)) _ h) i
-well_more (s ∷ r ∷ more) st h i = and_both (not (at_bottom s)) _ (and_first (not (at_bottom s)) _ h) (below_more (r ∷ more) st (and_second (not (at_bottom s)) _ h) i)
+well_more (s ∷ []) (q ∷ st) h i = and_from (not (at_bottom s)) _ (and_parts (not (at_bottom s)) _ h).0 i
+well_more (s ∷ r ∷ more) st h i = and_from (not (at_bottom s)) _ (and_parts (not (at_bottom s)) _ h).0 (below_more (r ∷ more) st (and_parts (not (at_bottom s)) _ h).1 i)
 
 pub below_of : (s : Symbol) (st : List Symbol) → well (s ∷ st) ≡ true → below st ≡ true
 below_of s [] h = refl
-below_of s (q ∷ st) h = and_second (not (at_bottom s)) _ h
+below_of s (q ∷ st) h = (and_parts (not (at_bottom s)) _ h).1
 
 -- the stack stays well formed
 pub well_step : (s : Symbol) (st more : List Symbol) → well (s ∷ st) ≡ true → fits s more ≡ true → well (more ++ st) ≡ true
@@ -101,10 +89,6 @@ no_arrow s (Sign mark.Arrow) c e more h i = let a = arrow_stops s c h in cc
 no_arrow s (Sign _) c e more h i = refl
 no_arrow s _ c e more h i = refl
 
-not_true : (b : Bool) → not b ≡ true → b ≡ false
-not_true true h = cc
-not_true false h = refl
-
 -- where a token begins what a symbol stands for
 headed : (s : Symbol) (st : List Symbol) → well (s ∷ st) ≡ true → (m : Marked) (x a b : Line) → m ∷ x ≡ a ++ b → Langs st b → Follows s a
     → (Steps (s ∷ st) m x → Steps (s ∷ st) m x) → ((d : ℕ) → s ≡ Machine.Gives d → m ∷ x ≡ b → Steps (s ∷ st) m x) → Steps (s ∷ st) m x
@@ -120,7 +104,7 @@ headed s [] w m x a b e r (ends i j) k skip = nothing r e
   where
     nothing : {b : Line} → Langs [] b → m ∷ x ≡ b → Steps (s ∷ []) m x
     nothing none e = cc
-headed s (q ∷ st) w m x a b e r (ends i j) k skip = let n : not (at_bottom s) ≡ true = and_first (not (at_bottom s)) _ w in absurd (contra (at_bottom s) i n)
+headed s (q ∷ st) w m x a b e r (ends i j) k skip = let n : not (at_bottom s) ≡ true = (and_parts (not (at_bottom s)) _ w).0 in absurd (contra (at_bottom s) i n)
   where
     contra : (b : Bool) → b ≡ true → not b ≡ true → ⊥
     contra true i n = cc
@@ -133,8 +117,8 @@ not_arrow q st (Sign _) c e stack h i = refl
 not_arrow q st _ c e stack h i = refl
 
 first_takes : (q : Symbol) (st : List Symbol) → below (q ∷ st) ≡ true → takes_arrow q ≡ false
-first_takes q [] h = not_true (takes_arrow q) h
-first_takes q (r ∷ st) h = not_true (takes_arrow q) (and_first (not (takes_arrow q)) _ h)
+first_takes q [] h = not-true (takes_arrow q) h
+first_takes q (r ∷ st) h = not-true (takes_arrow q) (and_parts (not (takes_arrow q)) _ h).0
 
 passed_over : (d : ℕ) (st : List Symbol) (m : Marked) (x : Line) → below st ≡ true → Steps st m x → Steps (Machine.Gives d ∷ st) m x
 passed_over d [] m x w s = let g = s.goes in cc

@@ -23,9 +23,10 @@ use Rattle.ir_reader.specs.Found.{Is, Placed, finds}
 use Rattle.ir_reader.specs.Words.{word_token}
 use Rattle.ir_reader.specs.Scan.{placed, StartsToken, first_lexeme, lexeme_of, number_from, is_digit, Lexeme, lexeme}
 use Rattle.ir_reader.proofs.Tables.{free_name, keyword_token, operation_token, comparison_token}
-use Rattle.ir_reader.proofs.Scanning.{placed_blank, placed_comment, placed_token}
+use Rattle.ir_reader.proofs.Scanning.{placed_blank, placed_comment, placed_token, begins_continues, digit_continues, opens_at}
 use Rattle.ir_model.proofs.ForEach.{each_from_list_all}
-use Rattle.std.proofs.lemmas.Bool.{cond-true, cond-false}
+use Rattle.ir_model.proofs.NoExcess.{IsNarrow}
+use Rattle.std.proofs.lemmas.Bool.{cond-true, cond-false, and_parts}
 use Rattle.std.proofs.Math.Seq.{take-append_seam, drop-append_seam}
 
 -- bytes that pass a test before one that fails it
@@ -54,17 +55,6 @@ begins_nothing b h = (grind (arith, nat_tests), grind (arith, nat_tests))
 digit_nothing : (b : ℕ) → is_digit b ≡ true → (is_blank b ≡ false) × (opens_comment b ≡ false) × (begins_word b ≡ false)
 digit_nothing b h = (grind (arith, nat_tests), grind (arith, nat_tests), grind (arith, nat_tests))
 
-and_left : (a b : Bool) → (a && b) ≡ true → a ≡ true
-and_left true b h = refl
-and_left false b h = cc
-
-and_right : (a b : Bool) → (a && b) ≡ true → b ≡ true
-and_right true b h = h
-and_right false b h = cc
-
-begins_goes_on : (b : ℕ) → begins_word b ≡ true → continues_word b ≡ true
-begins_goes_on b h = rw h refl
-
 -- a run of bytes that words may have
 run_len : (b : ℕ) (w bs : List ℕ) → continues_word b ≡ true → Each (λ (b : ℕ). continues_word b ≡ true) w → EndsWord bs → prefix_len continues_word (b ∷ (w ++ bs)) ≡ length (b ∷ w)
 run_len b w bs c h e = prefix_front continues_word (b ∷ w) bs (c, h) (word_ends bs e)
@@ -78,9 +68,9 @@ some_bytes b w = omega arith
 finds_word : (w bs : List ℕ) (t : Token) → is_word w ≡ true → word_token w ≡ t → EndsWord bs → Finds t w bs
 finds_word [] bs t h e a = cc
 finds_word (b ∷ w) bs t h e a =
-    let i = and_left (begins_word b) (all_continue w) h in
-    let c = begins_goes_on b i in
-    let r = each_from_list_all continues_word w (and_right (begins_word b) (all_continue w) h) in
+    let i = (and_parts (begins_word b) (all_continue w) h).0 in
+    let c = begins_continues b i in
+    let r = each_from_list_all continues_word w (and_parts (begins_word b) (all_continue w) h).1 in
     let n = begins_nothing b i in
     let f : first_lexeme b (w ++ bs) ≡ lexeme (Is (word_token (take_while continues_word (b ∷ (w ++ bs))))) (prefix_len continues_word (b ∷ (w ++ bs))) = cond-true (begins_word b) _ _ i in
     record {
@@ -115,27 +105,20 @@ decimal_goes_on b d h = by_test (numbers.is_between 48 57 b) refl h
     by_test true e h = grind (arith, nat_tests)
     by_test false e h = cc
 
-digit_goes_on : (b : ℕ) → is_digit b ≡ true → continues_word b ≡ true
-digit_goes_on b h = by_test (begins_word b) refl
-  where
-    by_test : (t : Bool) → begins_word b ≡ t → continues_word b ≡ true
-    by_test true e = rw e refl
-    by_test false e = rw (e, h) refl
-
 hexadecimal_goes_on : (b d : ℕ) → numbers.hexadecimal_digit b ≡ Some d → continues_word b ≡ true
 hexadecimal_goes_on b d h = by_decimal (numbers.is_between 48 57 b) refl h
   where
     by_upper : (t : Bool) → numbers.is_between 65 70 b ≡ t → (if t then Some (b - 65 + 10) else None) ≡ Some d → continues_word b ≡ true
-    by_upper true e h = let g : begins_word b ≡ true = grind (arith, nat_tests) in begins_goes_on b g
+    by_upper true e h = let g : begins_word b ≡ true = grind (arith, nat_tests) in begins_continues b g
     by_upper false e h = cc
 
     by_lower : (t : Bool) → numbers.is_between 97 102 b ≡ t → (if t then Some (b - 97 + 10) else if numbers.is_between 65 70 b then Some (b - 65 + 10) else None) ≡ Some d → continues_word b ≡ true
-    by_lower true e h = let g : begins_word b ≡ true = grind (arith, nat_tests) in begins_goes_on b g
+    by_lower true e h = let g : begins_word b ≡ true = grind (arith, nat_tests) in begins_continues b g
     by_lower false e h = by_upper (numbers.is_between 65 70 b) refl h
 
     by_decimal : (t : Bool) → numbers.is_between 48 57 b ≡ t
         → (if t then Some (b - 48) else if numbers.is_between 97 102 b then Some (b - 97 + 10) else if numbers.is_between 65 70 b then Some (b - 65 + 10) else None) ≡ Some d → continues_word b ≡ true
-    by_decimal true e h = let g : is_digit b ≡ true = grind (arith, nat_tests) in digit_goes_on b g
+    by_decimal true e h = let g : is_digit b ≡ true = grind (arith, nat_tests) in digit_continues b g
     by_decimal false e h = by_lower (numbers.is_between 97 102 b) refl h
 
 digits_go_on : (f : ℕ → Option ℕ) (base n : ℕ) (bs : List ℕ) (m : ℕ) → ((b d : ℕ) → f b ≡ Some d → continues_word b ≡ true) → numbers.and_more f base n bs ≡ Some m → Each (λ (b : ℕ). continues_word b ≡ true) bs
@@ -161,7 +144,7 @@ IsRun (d ∷ r) = (is_digit d ≡ true) × Each (λ (b : ℕ). continues_word b 
 
 decimal_run : (bs : List ℕ) (m : ℕ) → numbers.digits numbers.decimal_digit 10 bs ≡ Some m → IsRun bs
 decimal_run [] m h = cc
-decimal_run (b ∷ bs) m h = (first_digit 0 b bs m h, (digits_go_on numbers.decimal_digit 10 0 (b ∷ bs) m (λ b d e. digit_goes_on b (decimal_goes_on b d e)) h).1)
+decimal_run (b ∷ bs) m h = (first_digit 0 b bs m h, (digits_go_on numbers.decimal_digit 10 0 (b ∷ bs) m (λ b d e. digit_continues b (decimal_goes_on b d e)) h).1)
 
 hexadecimal_run : (bs : List ℕ) (m : ℕ) → numbers.digits numbers.hexadecimal_digit 16 bs ≡ Some m → Each (λ (b : ℕ). continues_word b ≡ true) bs
 hexadecimal_run [] m h = tt
@@ -174,8 +157,8 @@ run_of (a ∷ b ∷ bs) m h = by_prefix (nat_eq a 48 && nat_eq b 120) refl h
   where
     by_prefix : (t : Bool) → (nat_eq a 48 && nat_eq b 120) ≡ t → (if t then numbers.digits numbers.hexadecimal_digit 16 bs else numbers.digits numbers.decimal_digit 10 (a ∷ b ∷ bs)) ≡ Some m → IsRun (a ∷ b ∷ bs)
     by_prefix true e h =
-        let x : is_digit a ≡ true = rw (eqb-true a 48 (and_left (nat_eq a 48) (nat_eq b 120) e)) refl in
-        let y : continues_word b ≡ true = rw (eqb-true b 120 (and_right (nat_eq a 48) (nat_eq b 120) e)) refl in
+        let x : is_digit a ≡ true = rw (eqb-true a 48 (and_parts (nat_eq a 48) (nat_eq b 120) e).0) refl in
+        let y : continues_word b ≡ true = rw (eqb-true b 120 (and_parts (nat_eq a 48) (nat_eq b 120) e).1) refl in
         (x, (y, hexadecimal_run bs m h))
     by_prefix false e h = decimal_run (a ∷ b ∷ bs) m h
 
@@ -199,7 +182,7 @@ number_is (numerals.Value m) n s l = ap (λ z. Is (Number z)) (sym s)
 
 finds_positive : (b : ℕ) (v bs : List ℕ) (n : ℕ) → IsRun (b ∷ v) → number_from (numeral (b ∷ v)) ≡ Is (Number n) → EndsWord bs → Finds (Number n) (b ∷ v) bs
 finds_positive b v bs n r e a =
-    let c = digit_goes_on b r.0 in
+    let c = digit_continues b r.0 in
     let k = digit_nothing b r.0 in
     let f : first_lexeme b (v ++ bs) ≡ lexeme (number_from (numeral (take_while continues_word (b ∷ (v ++ bs))))) (prefix_len continues_word (b ∷ (v ++ bs))) = cond-false (begins_word b) _ _ k.2 ∙ cond-true (is_digit b) _ _ r.0 in
     record {
@@ -217,7 +200,7 @@ one_and n m h = omega arith
 
 finds_negative : (d : ℕ) (r bs : List ℕ) (n : ℕ) → IsRun (d ∷ r) → number_from (numeral (45 ∷ d ∷ r)) ≡ Is (Number n) → EndsWord bs → Finds (Number n) (45 ∷ d ∷ r) bs
 finds_negative d r bs n h e a =
-    let c = digit_goes_on d h.0 in
+    let c = digit_continues d h.0 in
     let f : first_lexeme 45 (d ∷ (r ++ bs)) ≡ lexeme (number_from (numeral (45 ∷ take_while continues_word (d ∷ (r ++ bs))))) (1 + prefix_len continues_word (d ∷ (r ++ bs))) = cond-false (nat_eq d 62) _ _ (not_greater d h.0) in
     record {
       starts = (refl, refl);
@@ -244,11 +227,6 @@ finds_number (b ∷ v) bs n m s l a = by_sign (nat_eq b 45) refl (well_formed (n
     by_sign false e h =
         let o = positive_some (numbers.magnitude (b ∷ v)) h in
         finds_positive b v bs m (run_of (b ∷ v) o.0 o.1) l a
-
--- a number of 32 bits
-abbrev pub IsNarrow : Token → Type 0
-IsNarrow (Number n) = n < 2 ^ 32
-IsNarrow _ = Unit {0}
 
 finds_token : (t : Token) (w bs : List ℕ) → Spells t w → IsApart t bs → IsNarrow t → Finds t w bs
 finds_token (Name v) w bs s a n = let h : is_word w ≡ true = rw s.0 s.1 in finds_word w bs (Name v) h (ap word_token s.0 ∙ free_name v s.2) a
@@ -281,9 +259,6 @@ finds_some (Operation o) w bs s a = (Operation o, finds_token (Operation o) w bs
 finds_some (Comparison c) w bs s a = (Comparison c, finds_token (Comparison c) w bs s a tt, inl refl)
 finds_some (Sign m) w bs s a = (Sign m, finds_token (Sign m) w bs s a tt, inl refl)
 
-opens_is : (b : ℕ) → opens_comment b ≡ true → b ≡ 35
-opens_is b h = eqb-true b 35 h
-
 pub token_placed : (t : Token) (w bs : List ℕ) → Finds t w bs → placed (w ++ bs) ≡ record { found = Is t; left = length (w ++ bs) } ∷ placed bs
 token_placed t w bs f =
     let s : 0 < (lexeme_of (w ++ bs)).len = rw f.len f.some in
@@ -301,7 +276,7 @@ pub placed_from : (ts : List Token) (bs rest : List ℕ) → Leads ts bs rest �
 placed_from ts bs rest (here b) n = record { ps = []; found = refl; whole = refl }
 placed_from ts bs rest (blank b {bs = c} h l) n = let p = placed_from ts c rest l n in record { ps = p.ps; found = p.found; whole = placed_blank b c h ∙ p.whole }
 placed_from ts bs rest (comment b inside {bs = c} h i j l) n =
-    let k = opens_is b h in
+    let k = opens_at b h in
     let q : is_blank b ≡ false = rw k refl in
     let m : prefix_len is_inside_line (inside ++ c) ≡ length inside = prefix_front is_inside_line inside c i (line_ends c j) in
     let p = placed_from ts c rest l n in

@@ -39,7 +39,7 @@ fn struct_behind(alloc: Global, text: &[u8]) -> Result<(StructDecl, &[u8]), Read
 }
 
 /// All structs, and the text behind them.
-#[tactic(auto, using(crate::proofs::Ends::structs_end, crate::proofs::Kept::counted_none, crate::proofs::Separated::each_push))]
+#[tactic(auto, using(crate::proofs::Ends::structs_end, ir_model::proofs::NoExcess::counted_none, crate::proofs::Separated::each_push))]
 pub fn structs(alloc: Global, text: &[u8]) -> Result<(Vec<StructDecl>, &[u8]), ReadError>
     ensures fields { IfOk result (λ x. HasFields (map struct_of x.0.items)) }
     ensures read { Reads (λ x. map struct_of x.0.items) spelling.spell_structs (Expected.Structs 0 ∷ []) (Expected.Periphs 0 ∷ []) (placed text.now) (λ x. placed x.1.now) result }
@@ -66,7 +66,7 @@ fn periph_behind(alloc: Global, text: &[u8]) -> Result<(Peripheral, &[u8]), Read
 }
 
 /// All peripherals, and the text behind them.
-#[tactic(auto, using(crate::proofs::Ends::periphs_end, crate::proofs::Kept::counted_none))]
+#[tactic(auto, using(crate::proofs::Ends::periphs_end, ir_model::proofs::NoExcess::counted_none))]
 pub fn periphs(alloc: Global, text: &[u8]) -> Result<(Vec<Peripheral>, &[u8]), ReadError>
     ensures { Reads (λ x. x.0.items) spelling.spell_periphs (Expected.Periphs 0 ∷ []) (Expected.Globals 0 ∷ []) (placed text.now) (λ x. placed x.1.now) result }
 {
@@ -82,7 +82,7 @@ pub fn periphs(alloc: Global, text: &[u8]) -> Result<(Vec<Peripheral>, &[u8]), R
 }
 
 /// A cell behind so many others, and the text behind it.
-#[tactic(auto, using(crate::proofs::Kept::number_fits, crate::proofs::Kept::cell_counted, crate::proofs::Kept::counted_none))]
+#[tactic(auto, using(ir_model::proofs::NoExcess::number_fits, crate::proofs::Kept::cell_counted, ir_model::proofs::NoExcess::counted_none))]
 fn cell(alloc: Global, before: usize, text: &[u8]) -> Result<(Cell, &[u8]), ReadError>
     ensures limit { OnOk result (before < 65536) }
     ensures read { Reads (λ x. x.0) spelling.spell_cell (Expected.CellAt before ∷ []) [] (placed text.now) (λ x. placed x.1.now) result }
@@ -141,7 +141,7 @@ fn init(alloc: Global, before: usize, text: &[u8]) -> Result<(Vec<Cell>, &[u8]),
 }
 
 /// Whether a global behind so many others is constant, up to its name, if one is there.
-#[tactic(auto, using(crate::proofs::Ends::globals_end, crate::proofs::Kept::counted_none))]
+#[tactic(auto, using(crate::proofs::Ends::globals_end, ir_model::proofs::NoExcess::counted_none))]
 fn constant(before: usize, text: &[u8]) -> Result<Option<(bool, &[u8])>, ReadError>
     ensures { Starts before (placed text.now) placed result }
 {

@@ -45,7 +45,7 @@ fn lines(alloc: Global, before: usize, text: &[u8]) -> Result<((Vec<Inst>, Term)
 }
 
 /// A block behind so many others with so many instructions, and the text behind it.
-#[tactic(auto, using(crate::proofs::Ends::first_is, crate::proofs::Kept::counted_none))]
+#[tactic(auto, using(crate::proofs::Ends::first_is, ir_model::proofs::NoExcess::counted_none))]
 fn block(
     alloc: Global,
     before: usize,
@@ -91,7 +91,7 @@ fn blocks(alloc: Global, text: &[u8]) -> Result<(Vec<Block>, &[u8]), ReadError>
 }
 
 /// The locals of a function, and the text behind them.
-#[tactic(auto, using(crate::proofs::Ends::locals_end, crate::proofs::Kept::counted_none))]
+#[tactic(auto, using(crate::proofs::Ends::locals_end, ir_model::proofs::NoExcess::counted_none))]
 fn locals(alloc: Global, params: usize, text: &[u8]) -> Result<(Vec<Slot>, &[u8]), ReadError>
     ensures { Reads (λ x. map slot_of x.0.items) spelling.spell_locals (Expected.Locals 0 params ∷ []) (Expected.Regs params ∷ []) (placed text.now) (λ x. placed x.1.now) result }
 {
@@ -107,7 +107,7 @@ fn locals(alloc: Global, params: usize, text: &[u8]) -> Result<(Vec<Slot>, &[u8]
 }
 
 /// The registers of a function, and the text behind them.
-#[tactic(auto, using(crate::proofs::Ends::regs_end, crate::proofs::Kept::counted_none))]
+#[tactic(auto, using(crate::proofs::Ends::regs_end, ir_model::proofs::NoExcess::counted_none))]
 fn regs(alloc: Global, params: usize, text: &[u8]) -> Result<(Vec<Slot>, &[u8]), ReadError>
     requires { params ≤ 4 }
     ensures { Reads (λ x. map slot_of x.0.items) spelling.spell_regs (Expected.Regs params ∷ []) (Expected.First 0 0 ∷ []) (placed text.now) (λ x. placed x.1.now) result }
@@ -211,7 +211,7 @@ fn func_behind(alloc: Global, text: &[u8]) -> Result<(Func, &[u8]), ReadError>
 }
 
 /// The functions of a file behind so many others and the closing brace, and the text behind it.
-#[tactic(auto, using(crate::proofs::Ends::funcs_end, crate::proofs::Kept::counted_none, crate::proofs::Separated::each_push))]
+#[tactic(auto, using(crate::proofs::Ends::funcs_end, ir_model::proofs::NoExcess::counted_none, crate::proofs::Separated::each_push))]
 fn funcs(alloc: Global, before: usize, text: &[u8]) -> Result<(Vec<Func>, &[u8]), ReadError>
     requires { before ≤ 1024 }
     ensures limit { IfOk result (λ x. before + length x.0.items ≤ 1024) }
@@ -265,7 +265,7 @@ fn next_file(text: &[u8]) -> Result<Option<(usize, &[u8])>, ReadError>
 }
 
 /// All files, up to the end of the text.
-#[tactic(auto, using(crate::proofs::Kept::counted_none))]
+#[tactic(auto, using(ir_model::proofs::NoExcess::counted_none))]
 pub fn files(alloc: Global, text: &[u8]) -> Result<Vec<FileDecl>, ReadError>
     ensures blocks { IfOk result (λ x. AllHaveBlocks (map file_of x.items)) }
     ensures read { Reads (λ x. map file_of x.items) spelling.spell_files (Expected.Files 0 0 ∷ []) [] (placed text.now) (λ x. []) result }

@@ -108,7 +108,7 @@ fn value_of_word(
 }
 
 /// What a register gets, behind the register and `=`, and the text behind it.
-#[tactic(auto, using(crate::proofs::Kept::number_fits, crate::proofs::Kept::name_of_short))]
+#[tactic(auto, using(ir_model::proofs::NoExcess::number_fits, ir_model::proofs::NoExcess::name_of_short))]
 fn value(alloc: Global, to: Name, text: &[u8]) -> Result<(Inst, &[u8]), ReadError>
     ensures { ReadsBehind (spelling.spell_assigned to) (λ x. x.0) spelling.spell_inst (Expected.Value ∷ []) [] (placed text.now) (λ x. placed x.1.now) result }
 {
@@ -162,7 +162,7 @@ fn register_word(text: &[u8]) -> Option<(&[u8], usize, &[u8])>
 }
 
 /// The register behind `ret`, where there is one, and the text behind it.
-#[tactic(auto, using(crate::proofs::Ends::ret_ends, crate::proofs::Kept::name_of_short))]
+#[tactic(auto, using(crate::proofs::Ends::ret_ends, ir_model::proofs::NoExcess::name_of_short))]
 fn register(alloc: Global, text: &[u8]) -> Result<(Option<Name>, &[u8]), ReadError>
     ensures { ReadsAt (λ x. x.0) spelling.spell_register (λ k n. Expected.AfterRet k n ∷ []) (λ k n. Expected.Blocks k n ∷ []) (placed text.now) (λ x. placed x.1.now) result }
 {
@@ -185,7 +185,7 @@ fn branch(alloc: Global, text: &[u8]) -> Result<(Term, &[u8]), ReadError>
 }
 
 /// An instruction behind so many others or the end of a block, and the text behind it.
-#[tactic(auto, using(crate::proofs::Kept::name_of_word, crate::proofs::Kept::first_none, crate::proofs::Kept::counted_none))]
+#[tactic(auto, using(ir_model::proofs::NoExcess::name_of_word, ir_model::proofs::NoExcess::first_none, ir_model::proofs::NoExcess::counted_none))]
 pub fn line(alloc: Global, before: usize, text: &[u8]) -> Result<(Step, &[u8]), ReadError>
     ensures limit { IfOk result (λ x. IsBelow before x.0) }
     ensures read { ReadsLine before (placed text.now) placed result }

@@ -31,7 +31,7 @@ pub fn slot(alloc: Global, first: Option<Excess>, text: &[u8]) -> Result<(Slot, 
 }
 
 /// The fields of a struct and the closing brace, and the text behind it.
-#[tactic(auto, using(crate::proofs::Kept::counted_none, crate::proofs::Ends::fields_end))]
+#[tactic(auto, using(ir_model::proofs::NoExcess::counted_none, crate::proofs::Ends::fields_end))]
 pub fn fields(alloc: Global, text: &[u8]) -> Result<(Vec<Slot>, &[u8]), ReadError>
     ensures some { IfOk result (λ x. 0 < length x.0.items) }
     ensures read { Reads (λ x. map slot_of x.0.items) spelling.spell_fields (Expected.Word None ∷ Expected.Mk mark.Colon ∷ Expected.Ty None 0 ∷ Expected.MoreFields 1 ∷ []) [] (placed text.now) (λ x. placed x.1.now) result }
@@ -50,7 +50,7 @@ pub fn fields(alloc: Global, text: &[u8]) -> Result<(Vec<Slot>, &[u8]), ReadErro
 }
 
 /// The parameters of a function and the closing bracket, and the text behind it.
-#[tactic(auto, using(crate::proofs::Kept::counted_none, crate::proofs::Ends::params_begin, crate::proofs::Ends::params_end))]
+#[tactic(auto, using(ir_model::proofs::NoExcess::counted_none, crate::proofs::Ends::params_begin, crate::proofs::Ends::params_end))]
 pub fn params(alloc: Global, text: &[u8]) -> Result<(Vec<Slot>, &[u8]), ReadError>
     ensures limit { IfOk result (λ x. length x.0.items ≤ 4) }
     ensures read { ReadsTo (λ x. map slot_of x.0.items) spelling.spell_params (Expected.Params ∷ []) (λ x. Expected.body (length x.0.items)) (placed text.now) (λ x. placed x.1.now) result }
@@ -72,7 +72,7 @@ pub fn params(alloc: Global, text: &[u8]) -> Result<(Vec<Slot>, &[u8]), ReadErro
 }
 
 /// The arguments of a call and the closing bracket, and the text behind it.
-#[tactic(auto, using(crate::proofs::Kept::counted_none, crate::proofs::Ends::args_begin, crate::proofs::Ends::args_end))]
+#[tactic(auto, using(ir_model::proofs::NoExcess::counted_none, crate::proofs::Ends::args_begin, crate::proofs::Ends::args_end))]
 pub fn args(alloc: Global, text: &[u8]) -> Result<(Vec<Name>, &[u8]), ReadError>
     ensures { Reads (λ x. x.0.items) spelling.spell_args (Expected.Args ∷ []) [] (placed text.now) (λ x. placed x.1.now) result }
 {

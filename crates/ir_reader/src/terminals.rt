@@ -73,7 +73,7 @@ pub fn behind_word(word: Keyword, text: &[u8]) -> Option<(usize, &[u8])>
 }
 
 /// A name whose token may pass something else first, and the text behind it.
-#[tactic(auto, using(crate::proofs::Kept::name_of_word, crate::proofs::Kept::first_none))]
+#[tactic(auto, using(ir_model::proofs::NoExcess::name_of_word, ir_model::proofs::NoExcess::first_none))]
 pub fn name_behind(
     alloc: Global,
     first: Option<Excess>,
@@ -98,7 +98,7 @@ pub fn name(alloc: Global, text: &[u8]) -> Result<(Name, &[u8]), ReadError>
 }
 
 /// A number, and the text behind it.
-#[tactic(auto, using(crate::proofs::Kept::number_fits))]
+#[tactic(auto, using(ir_model::proofs::NoExcess::number_fits))]
 pub fn number(text: &[u8]) -> Result<(u32, &[u8]), ReadError>
     ensures { Reads (λ x. x.0) (λ n. spelling.Number n ∷ []) (Expected.Num ∷ []) [] (placed text.now) (λ x. placed x.1.now) result }
 {

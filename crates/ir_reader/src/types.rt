@@ -19,7 +19,7 @@ use ir_model::types::{Signature, Ty, Tys};
 use std::alloc::Global;
 
 /// An array's length, and the text behind it.
-#[tactic(auto, using(crate::proofs::Kept::length_fits))]
+#[tactic(auto, using(ir_model::proofs::NoExcess::length_fits))]
 fn length(text: &[u8]) -> Result<(u32, &[u8]), ReadError>
     ensures { Reads (λ x. x.0) (λ n. spelling.Number n ∷ []) (Expected.Len ∷ []) [] (placed text.now) (λ x. placed x.1.now) result }
 {
@@ -40,7 +40,7 @@ fn type_excess(first: Option<Excess>, around: u32) -> Option<Excess>
 
 /// A type in so many others, whose first token may pass something else first, and the text behind it.
 #[cycle(types)]
-#[tactic(auto, using(crate::proofs::Kept::first_none, crate::proofs::Kept::type_depth, crate::proofs::Kept::name_of_type))]
+#[tactic(auto, using(ir_model::proofs::NoExcess::first_none, crate::proofs::Kept::type_depth, crate::proofs::Kept::name_of_type))]
 pub fn ty(
     alloc: Global,
     first: Option<Excess>,
@@ -113,7 +113,7 @@ fn boxed_result(
 
 /// The types between brackets, up to the closing one, and the text behind it.
 #[cycle(types)]
-#[tactic(auto, using(crate::proofs::Ends::row_begins, crate::proofs::Ends::row_ends, crate::proofs::Kept::counted_none))]
+#[tactic(auto, using(crate::proofs::Ends::row_begins, crate::proofs::Ends::row_ends, ir_model::proofs::NoExcess::counted_none))]
 fn row(alloc: Global, around: u32, text: &[u8]) -> Result<(Vec<Ty>, &[u8]), ReadError>
     ensures { Reads (λ x. types_from (map type_of x.0.items)) spelling.spell_row (Expected.Row around ∷ []) (Expected.Gives around ∷ []) (placed text.now) (λ x. placed x.1.now) result }
 {

@@ -1,15 +1,14 @@
 -- What a write of one element makes of a list that is seen through a function.
 use Rattle.std.proofs.Common.{◌≡◌, ℕ, zero, suc, List, [], ◌∷◌, map, get_or, set, refl, ap, ◌∙◌, Some}
 use Rattle.std.specs.List.{slice_get}
+use Rattle.std.proofs.lemmas.List.{map-set}
 use Rattle.device_model.specs.Input.{without_first}
 use Rattle.ir_resolve.specs.declared.value.Value.{Value as Held}
 use Rattle.ir_resolve.specs.Values.{value_of}
 
+-- std's `map-set`, under a name that code can cite
 pub written : {A B : Type 0} (f : A → B) (xs : List A) (i : ℕ) (x : A) → map f (set xs i x) ≡ set (map f xs) i (f x)
-written f [] zero x = refl
-written f [] (suc i) x = refl
-written f (y ∷ xs) zero x = refl
-written f (y ∷ xs) (suc i) x = ap (λ ys. f y ∷ ys) (written f xs i x)
+written f xs i x = map-set f xs i x
 
 pub seen_at : {A B : Type 0} (f : A → B) (xs : List A) (i : ℕ) (d : A) → f (get_or xs i d) ≡ get_or (map f xs) i (f d)
 seen_at f [] zero d = refl
@@ -23,8 +22,8 @@ seen_cell f xs i k d = seen_at f (get_or xs i []) k d ∙ ap (λ ys. get_or ys k
 pub written_cell : {A B : Type 0} (f : A → B) (xs : List (List A)) (i k : ℕ) (x : A)
     → map (map f) (set xs i (set (get_or xs i []) k x)) ≡ set (map (map f) xs) i (set (get_or (map (map f) xs) i []) k (f x))
 written_cell f xs i k x =
-    written (map f) xs i (set (get_or xs i []) k x)
-    ∙ ap (λ ys. set (map (map f) xs) i ys) (written f (get_or xs i []) k x ∙ ap (λ ys. set ys k (f x)) (seen_at (map f) xs i []))
+    map-set (map f) xs i (set (get_or xs i []) k x)
+    ∙ ap (λ ys. set (map (map f) xs) i ys) (map-set f (get_or xs i []) k x ∙ ap (λ ys. set ys k (f x)) (seen_at (map f) xs i []))
 
 -- the globals after a store
 pub written_global : (old new : List (List Held)) (i k : ℕ) (x : Held) → new ≡ set old i (set (get_or old i []) k x)

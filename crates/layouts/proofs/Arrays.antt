@@ -2,7 +2,7 @@
 use Rattle.std.proofs.Common.{◌≡◌, ℕ, ◌*◌, ◌/◌, ◌%◌, ◌^◌, ◌<◌, ◌≤◌, ◌⊎◌, inl, inr, [], length, refl, sym, ap, ◌∙◌, arith, None}
 use Rattle.std.proofs.lemmas.Bool.{cases_lt}
 use Rattle.std.proofs.lemmas.Nat.{div-add-mod'}
-use Rattle.std.proofs.Math.Nat.{zero-mul}
+use Rattle.std.proofs.Math.Nat.{zero-mul, mul-le-mul_right}
 use Rattle.ir_model.specs.Types.{PlainType}
 use Rattle.ir_model.specs.Layout.{Shape, copies, array_of, cell_at}
 use Rattle.layouts.specs.declared.measure.Measure.{Measure}
@@ -11,14 +11,8 @@ use Rattle.layouts.proofs.Sizes.{Good}
 use Rattle.layouts.proofs.Pieces.{further, cell_copies, cell_past_copies}
 use Rattle.layouts.proofs.Capped.{capped_small, capped_large}
 
-pub product_most : (n a b : ℕ) → a ≤ b → n * a ≤ n * b
-product_most n a b l = grind arith
-
 no_multiple : (n s : ℕ) → s ≡ 0 → n * s ≡ 0
 no_multiple n s e = grind arith
-
-fewer_times : (n m s : ℕ) → n ≤ m → n * s ≤ m * s
-fewer_times n m s l = grind arith
 
 -- an element without bytes
 pub number_nowhere : (n a : ℕ) (t : PlainType) (m : Measure) (s : Shape) → IsMeasure m s → Good s → m.size ≡ 0 → cell_at (array_of n s).cells a t ≡ None
@@ -45,7 +39,7 @@ number_past n a place t m s h g p b q l = by_size (cases_lt s.size (2 ^ 32))
     by_size (inl k) =
         let e : m.size ≡ s.size = h.0 ∙ capped_small s.size (omega arith) in
         let d = div-add-mod' a m.size in
-        let f = fewer_times n place s.size l in
+        let f = mul-le-mul_right {m = n} {n = place} s.size l in
         let g2 : place * s.size ≡ a / m.size * m.size = cc in
         cell_past_copies n a s.size s.cells t g.inside (omega (arith, f, d, g2))
     by_size (inr k) =

@@ -1,10 +1,11 @@
 -- The cells of a struct are those of its fields, one field behind the other.
-use Rattle.std.proofs.Common.{◌≡◌, ℕ, zero, suc, ◌+◌, ◌<◌, ◌≤◌, List, [], ◌∷◌, ◌++◌, take, get_or, length, refl, sym, ap, ◌∙◌, arith, None, length-append}
-use Rattle.std.proofs.lemmas.List.{append_assoc}
+use Rattle.std.proofs.Common.{◌≡◌, ℕ, zero, suc, ◌+◌, ◌<◌, ◌≤◌, List, [], ◌∷◌, ◌++◌, take, get_or, length, sym, ap, ◌∙◌, arith, None, length-append}
+use Rattle.std.proofs.lemmas.List.{append_assoc, append-nil}
 use Rattle.ir_model.specs.Types.{PlainType}
 use Rattle.ir_model.specs.Plain.{PlainSlot, PlainStruct}
 use Rattle.ir_model.specs.Layout.{CellPlace, FieldPlace, Shape, Known, shape, shifted, rounded_up, with_field, laid_out, field_places, known, cell_at}
-use Rattle.layouts.proofs.Sizes.{good, rounded_at_least, inside_shifted}
+use Rattle.ir_model.proofs.Counting.{rounded_at_least}
+use Rattle.layouts.proofs.Sizes.{good, inside_shifted}
 use Rattle.layouts.proofs.Pieces.{further, further_none, further_more, cell_left, cell_right, cell_shifted, cell_above, cell_below, From, from_append, from_shifted}
 
 abbrev pub fields_cells : List Known → List FieldPlace → List CellPlace
@@ -12,11 +13,7 @@ fields_cells ks [] = []
 fields_cells ks (p ∷ ps) = shifted p.at (shape ks p.ty).cells ++ fields_cells ks ps
 
 pub laid_cells : (ks : List Known) (s : Shape) (fs : List PlainSlot) → (laid_out ks s fs).cells ≡ s.cells ++ fields_cells ks (field_places ks s fs)
-laid_cells ks s [] = sym (append_none s.cells)
-  where
-    append_none : (cs : List CellPlace) → cs ++ [] ≡ cs
-    append_none [] = refl
-    append_none (c ∷ cs) = ap (λ r. c ∷ r) (append_none cs)
+laid_cells ks s [] = sym (append-nil s.cells)
 laid_cells ks s (f ∷ fs) =
     laid_cells ks (with_field ks s f.ty) fs
     ∙ append_assoc s.cells (shifted (rounded_up s.size (shape ks f.ty).align) (shape ks f.ty).cells) (fields_cells ks (field_places ks (with_field ks s f.ty) fs))

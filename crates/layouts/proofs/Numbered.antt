@@ -1,16 +1,18 @@
 -- The cell of a number of a type.
-use Rattle.std.proofs.Common.{◌≡◌, ℕ, zero, suc, ◌+◌, ◌-◌, ◌*◌, ◌/◌, ◌%◌, ◌^◌, ◌<◌, ◌≤◌, ◌⊎◌, inl, inr, List, [], ◌∷◌, ◌++◌, map, take, get_or, length, refl, sym, ap, subst, ◌∙◌, arith, Option, Some, None, option_map, MatchOption, length-append, zero-add}
+use Rattle.std.proofs.Common.{◌≡◌, ℕ, zero, suc, ◌+◌, ◌-◌, ◌*◌, ◌/◌, ◌%◌, ◌^◌, ◌<◌, ◌≤◌, ◌⊎◌, inl, inr, List, [], ◌∷◌, ◌++◌, map, take, get_or, length, refl, sym, ap, subst, ◌∙◌, arith, Option, Some, option_map, MatchOption, length-append, zero-add}
 use Rattle.std.specs.List.{slice_get}
 use Rattle.std.specs.List.Sorted.{IsNonDecreasingBy}
 use Rattle.std.proofs.lemmas.Bool.{cases_lt}
-use Rattle.std.proofs.lemmas.List.{length-map}
+use Rattle.std.proofs.lemmas.List.{length-map, take_all, get_or-map}
 use Rattle.std.proofs.lemmas.Nat.{div-add-mod'}
 use Rattle.std.proofs.Math.Nat.{suc-mul, zero-mul}
+use Rattle.std.proofs.lemmas.Option.{slice_get_within}
 use Rattle.ir_model.specs.declared.extent.TheConstants.{SIZE_LIMIT}
 use Rattle.ir_model.specs.declared.firmware.StructDecl.{StructDecl}
 use Rattle.ir_model.specs.Types.{PlainType, Array, Named, type_of}
 use Rattle.ir_model.specs.Plain.{PlainSlot, PlainStruct, struct_of}
 use Rattle.ir_model.specs.Layout.{CellPlace, FieldPlace, Shape, Known, empty, shape, shape_named, shifted, copies, array_of, with_field, laid_out, field_places, known}
+use Rattle.ir_model.proofs.Counting.{many_at_least}
 use Rattle.layouts.specs.declared.measure.Measure.{Measure}
 use Rattle.layouts.specs.declared.cells.CellSpot.{CellSpot}
 use Rattle.layouts.specs.declared.table.Field.{Field}
@@ -22,7 +24,7 @@ use Rattle.layouts.specs.Tables.{IsLaid, IsPlaceBelow, IsFirstAbove, IsLastWithi
 use Rattle.layouts.proofs.Sizes.{Inside, good, length_shifted, length_copies, size_grows}
 use Rattle.layouts.proofs.Capped.{capped_small, capped_large}
 use Rattle.layouts.proofs.Fields.{fields_cells}
-use Rattle.layouts.proofs.Structs.{places, struct_cells, first_cell_at, place_at}
+use Rattle.layouts.proofs.Structs.{places, struct_cells, first_cell_at}
 use Rattle.layouts.proofs.Walks.{named_shape}
 
 abbrev pub moved : ℕ → CellPlace → CellPlace
@@ -43,20 +45,10 @@ nth_right [] ys k j e = ap (slice_get ys) (e ∙ zero-add j)
 nth_right (x ∷ xs) ys zero j e = absurd (omega arith)
 nth_right (x ∷ xs) ys (suc k) j e = nth_right xs ys k j (omega arith)
 
-nth_past : (cs : List CellPlace) (k : ℕ) → length cs ≤ k → slice_get cs k ≡ None
-nth_past [] k l = refl
-nth_past (c ∷ cs) zero l = absurd (omega arith)
-nth_past (c ∷ cs) (suc k) l = nth_past cs k (omega arith)
-
 inside_nth : (n : ℕ) (cs : List CellPlace) (k : ℕ) (c : CellPlace) → Inside n cs → slice_get cs k ≡ Some c → c.at < n
 inside_nth n [] k c h e = cc
 inside_nth n (x ∷ cs) zero c h e = let q : x ≡ c = cc in subst (λ (y : CellPlace). y.at < n) q h.0
 inside_nth n (x ∷ cs) (suc k) c h e = inside_nth n cs k c h.1 e
-
-within_nth : (cs : List CellPlace) (k : ℕ) (c : CellPlace) → slice_get cs k ≡ Some c → k < length cs
-within_nth [] k c e = cc
-within_nth (x ∷ cs) zero c e = omega arith
-within_nth (x ∷ cs) (suc k) c e = let r = within_nth cs k c e in omega (arith, r)
 
 nth_copies : (n place at step rest k : ℕ) (cs : List CellPlace) (c : CellPlace) → place < n → slice_get cs rest ≡ Some c → k ≡ place * length cs + rest
     → slice_get (copies n at step cs) k ≡ Some (moved (at + place * step) c)
@@ -65,7 +57,7 @@ nth_copies (suc n) zero at step rest k cs c l e q =
     let z = zero-mul (length cs) in
     let y = zero-mul step in
     let j : k ≡ rest = omega (arith, q, z) in
-    let b = within_nth cs rest c e in
+    let b = slice_get_within cs rest c e in
     let s = length_shifted at cs in
     let d : at ≡ at + 0 * step = omega (arith, y) in
     nth_left (shifted at cs) (copies n (at + step) step cs) k (omega (arith, s, b, j))
@@ -84,9 +76,6 @@ IsNth cs k r = MatchOption r (length cs ≤ k) (λ c. slice_get cs k ≡ Some (c
 
 uncapped : (n m : ℕ) → m ≡ capped n → n ≤ SIZE_LIMIT → m ≡ n
 uncapped n m e l = omega (arith, e)
-
-times_least : (n s : ℕ) → 0 < n → s ≤ n * s
-times_least n s l = grind arith
 
 pub zero_cells : (n m : ℕ) → m ≡ capped n → m ≡ 0 → n ≡ 0
 zero_cells n m e z = by_size (cases_lt n (2 ^ 32))
@@ -119,7 +108,7 @@ nth_behind ss u t n k m e h b z l = by_count (cases_lt 0 n)
         let c = length_copies n 0 s.size s.cells in
         let v : length (shape (known ss) u).cells ≡ length (array_of n s).cells = ap (λ x. length (shape (known ss) x).cells) e in
         let w : (shape (known ss) u).size ≡ n * s.size = ap (λ x. (shape (known ss) x).size) e in
-        let r = times_least n s.size p in
+        let r = many_at_least n s.size p in
         let q : m.cells ≡ length s.cells = uncapped (length s.cells) m.cells h.1.1 (omega (arith, g.fewer, r, w, b)) in
         let d = div-add-mod' k m.cells in
         let x = below_product n (k / m.cells) m.cells k l (omega (arith, d)) in
@@ -137,12 +126,8 @@ nth_behind ss u t n k m e h b z l = by_count (cases_lt 0 n)
 pub element_small : (ss : List PlainStruct) (u t : PlainType) (n place : ℕ) → u ≡ Array n t → (shape (known ss) u).size ≤ SIZE_LIMIT → place < n → (shape (known ss) t).size ≤ SIZE_LIMIT
 element_small ss u t n place e b l =
     let w : (shape (known ss) u).size ≡ n * (shape (known ss) t).size = ap (λ x. (shape (known ss) x).size) e in
-    let r = times_least n (shape (known ss) t).size (omega arith) in
+    let r = many_at_least n (shape (known ss) t).size (omega arith) in
     omega (arith, r, w, b)
-
-positive : (n : ℕ) → (n ≡ 0 → ⊥) → 0 < n
-positive zero f = absurd (f refl)
-positive (suc n) f = omega arith
 
 next_multiple : (p n s : ℕ) → p < n → p * s + s ≤ n * s
 next_multiple p n s l = let e = suc-mul p s in let m : suc p * s ≤ n * s = grind arith in omega (arith, e, m)
@@ -158,7 +143,7 @@ nth_element ss u t n k m c e h b l g z =
     let s : Shape = shape (known ss) t in
     let good_s = good ss t in
     let w : (shape (known ss) u).size ≡ n * s.size = ap (λ x. (shape (known ss) x).size) e in
-    let r = times_least n s.size (omega arith) in
+    let r = many_at_least n s.size (omega arith) in
     let q : m.cells ≡ length s.cells = uncapped (length s.cells) m.cells h.1.1 (omega (arith, good_s.fewer, r, w, b)) in
     let qs : m.size ≡ s.size = uncapped s.size m.size h.0 (omega (arith, r, w, b)) in
     let d = div-add-mod' k m.cells in
@@ -208,7 +193,7 @@ nth_in_field : (ks : List Known) (ps : List FieldPlace) (j k rest : ℕ) (d : Fi
 nth_in_field ks [] j k rest d c l g e = absurd (omega arith)
 nth_in_field ks (p ∷ ps) zero k rest d c l g e =
     let q : k ≡ rest = e ∙ zero-add rest in
-    let b = within_nth (shape ks p.ty).cells rest c g in
+    let b = slice_get_within (shape ks p.ty).cells rest c g in
     let s = length_shifted p.at (shape ks p.ty).cells in
     nth_left (shifted p.at (shape ks p.ty).cells) (fields_cells ks ps) k (omega (arith, b, s, q))
     ∙ (ap (slice_get (shifted p.at (shape ks p.ty).cells)) q ∙ (nth_shifted p.at (shape ks p.ty).cells rest ∙ ap (option_map (moved p.at)) g))
@@ -249,15 +234,9 @@ nth_before ss b u n k l number e p g h w =
     ap (λ (s : Shape). length s.cells) (named_shape ss b u n k l e p g) ∙ ap length (struct_cells (map struct_of (take k ss)) l h) in
     omega (arith, a, c)
 
-take_past : {A : Type 0} (xs : List A) (n : ℕ) → length xs ≤ n → take n xs ≡ xs
-take_past [] zero l = refl
-take_past [] (suc n) l = refl
-take_past (x ∷ xs) zero l = absurd (omega arith)
-take_past (x ∷ xs) (suc n) l = ap (λ ys. x ∷ ys) (take_past xs n (omega arith))
-
 -- what a field's place is among the places
 at_place : (l : StructLayout) (j : ℕ) (f : Field) → j < length l.fields.items → f ≡ get_or l.fields.items j f → get_or (places l) j (place_of f) ≡ place_of f
-at_place l j f m e = place_at l.fields.items j f (place_of f) m ∙ ap place_of (sym e)
+at_place l j f m e = get_or-map place_of l.fields.items j f (place_of f) m ∙ ap place_of (sym e)
 
 first_of : (ss : List PlainStruct) (l : StructLayout) (j : ℕ) (f : Field) → IsLaid ss l → j < length l.fields.items → f ≡ get_or l.fields.items j f → f.first_cell ≡ length (fields_cells (known ss) (take j (places l)))
 first_of ss l j f h m e = ap (λ (x : Field). x.first_cell) e ∙ first_cell_at ss l j f h m
@@ -288,7 +267,7 @@ nth_field_none ss b u n k l j number f e p g h w i m = by_next (cases_lt (suc j)
         let t : length (shape (known (map struct_of (take k ss))) (get_or (places l) j (place_of f)).ty).cells ≡ length (shape (known (map struct_of (take k ss))) (type_of f.ty.now)).cells =
         ap (λ (y : FieldPlace). length (shape (known (map struct_of (take k ss))) y.ty).cells) q in
         let all : length (fields_cells (known (map struct_of (take k ss))) (take (suc j) (places l))) ≡ length (fields_cells (known (map struct_of (take k ss))) (places l)) =
-        ap (λ ys. length (fields_cells (known (map struct_of (take k ss))) ys)) (take_past (places l) (suc j) (omega (arith, c, x))) in
+        ap (λ ys. length (fields_cells (known (map struct_of (take k ss))) ys)) (take_all (suc j) (places l) (omega (arith, c, x))) in
         let z : length (shape (known (map struct_of (take b ss))) u).cells ≡ length (fields_cells (known (map struct_of (take k ss))) (places l)) =
         ap (λ (s : Shape). length s.cells) (named_shape ss b u n k l e p g) ∙ ap length (struct_cells (map struct_of (take k ss)) l h) in
         omega (arith, o, s, t, m, within, all, z)

@@ -6,13 +6,14 @@ use Rattle.ir_model.specs.declared.firmware.Slot.{Slot}
 use Rattle.ir_model.specs.Types.{PlainType, type_of}
 use Rattle.ir_model.specs.Plain.{PlainSlot, PlainStruct, slot_of, struct_of, names_of}
 use Rattle.ir_model.specs.Layout.{Shape, Known, empty, shape, shifted, rounded_up, with_field, laid_out, field_places, known}
+use Rattle.ir_model.proofs.Counting.{rounded_at_least}
 use Rattle.layouts.specs.declared.measure.Measure.{Measure}
 use Rattle.layouts.specs.declared.table.Field.{Field}
 use Rattle.layouts.specs.declared.table.StructLayout.{StructLayout}
 use Rattle.layouts.specs.Measures.{capped, IsMeasure, IsTooLarge, struct_shape}
 use Rattle.layouts.specs.Fields.{place_of}
 use Rattle.layouts.specs.Tables.{IsLaid, first_cells}
-use Rattle.layouts.proofs.Sizes.{good, rounded_at_least, length_shifted, size_grows}
+use Rattle.layouts.proofs.Sizes.{good, length_shifted, size_grows}
 
 -- what is laid out behind these fields, before it is closed
 abbrev pub after : List Known → Shape → List PlainSlot → Shape

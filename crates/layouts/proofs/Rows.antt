@@ -2,7 +2,7 @@
 use Rattle.std.proofs.Common.{◌≡◌, ℕ, zero, suc, ◌+◌, ◌-◌, ◌<◌, ◌≤◌, List, [], ◌∷◌, ◌++◌, map, take, drop, get_or, length, refl, sym, ap, ◌∙◌, arith, Bor, Some, zero-add, add-one}
 use Rattle.std.proofs.Math.Nat.{suc-add}
 use Rattle.std.specs.List.{slice_get}
-use Rattle.std.proofs.lemmas.List.{length-map, map-append, append_assoc, take_all, take-append-drop}
+use Rattle.std.proofs.lemmas.List.{length-map, map-append, append_assoc, take_all, take-append-drop, append-nil}
 use Rattle.ir_model.specs.declared.types.Ty.{Ty}
 use Rattle.ir_model.specs.declared.firmware.StructDecl.{StructDecl}
 use Rattle.ir_model.specs.Types.{PlainType, Array, Named, type_of}
@@ -24,12 +24,8 @@ abbrev pub repeated : ℕ → List PlainType → List PlainType
 repeated zero ts = []
 repeated (suc n) ts = ts ++ repeated n ts
 
-append_none : (xs : List PlainType) → xs ++ [] ≡ xs
-append_none [] = refl
-append_none (x ∷ xs) = ap (λ r. x ∷ r) (append_none xs)
-
 repeated_more : (n : ℕ) (ts : List PlainType) → repeated (suc n) ts ≡ repeated n ts ++ ts
-repeated_more zero ts = append_none ts
+repeated_more zero ts = append-nil ts
 repeated_more (suc n) ts = ap (λ r. ts ++ r) (repeated_more n ts) ∙ sym (append_assoc ts (repeated n ts) ts)
 
 repeated_split : (j k : ℕ) (ts : List PlainType) → repeated (j + k) ts ≡ repeated j ts ++ repeated k ts
@@ -81,12 +77,6 @@ take_full zero xs ys e = refl
 take_full (suc n) [] ys e = absurd (omega arith)
 take_full (suc n) (x ∷ xs) ys e = ap (λ r. x ∷ r) (take_full n xs ys (omega arith))
 
-take_short : (n : ℕ) (xs : List PlainType) → length xs ≤ n → take n xs ≡ xs
-take_short zero [] l = refl
-take_short zero (x ∷ xs) l = absurd (omega arith)
-take_short (suc n) [] l = refl
-take_short (suc n) (x ∷ xs) l = ap (λ r. x ∷ r) (take_short n xs (omega arith))
-
 length_taken : (n : ℕ) (xs : List PlainType) → length (take n xs) ≤ n
 length_taken zero xs = omega arith
 length_taken (suc n) [] = omega arith
@@ -103,7 +93,7 @@ at_most most items xs e =
 pub row_start : (most : ℕ) (items : List (Bor Ty)) (zs : List PlainType) → length items ≤ most → zs ≡ [] → lent_types items ≡ take most (lent_types items ++ zs)
 row_start most items zs l e =
     let a : length (lent_types items) ≡ length items = length-map items (λ (t : Bor Ty). type_of t.now) in
-    sym (ap (λ r. take most (lent_types items ++ r)) e ∙ (ap (take most) (append_none (lent_types items)) ∙ take_short most (lent_types items) (omega (arith, a, l))))
+    sym (ap (λ r. take most (lent_types items ++ r)) e ∙ (ap (take most) (append-nil (lent_types items)) ∙ take_all most (lent_types items) (omega (arith, a, l))))
 
 pub row_more : (most : ℕ) (old now next : List (Bor Ty)) (xs ys zs : List PlainType) → lent_types now ≡ take most (lent_types old ++ xs) → lent_types next ≡ take most (lent_types now ++ ys) → zs ≡ xs ++ ys
     → lent_types next ≡ take most (lent_types old ++ zs)
@@ -158,7 +148,7 @@ take_next (x ∷ fs) (suc k) f l e = ap (λ r. x ∷ r) (take_next fs k f (omega
 pub field_step : (ss : List PlainStruct) (fs : List Field) (k : ℕ) (f : Field) → k < length fs → f ≡ get_or fs k f → fields_row ss (take (k + 1) fs) ≡ fields_row ss (take k fs) ++ row_of ss (type_of f.ty.now)
 field_step ss fs k f l e =
     ap (fields_row ss) (ap (λ n. take n fs) (add-one k) ∙ take_next fs k f l e)
-    ∙ (fields_row_append ss (take k fs) (f ∷ []) ∙ ap (λ ts. fields_row ss (take k fs) ++ ts) (append_none (row_of ss (type_of f.ty.now))))
+    ∙ (fields_row_append ss (take k fs) (f ∷ []) ∙ ap (λ ts. fields_row ss (take k fs) ++ ts) (append-nil (row_of ss (type_of f.ty.now))))
 
 pub row_fields : (ss : List PlainStruct) (fs : List Field) (k : ℕ) → length fs ≤ k → fields_row ss (take k fs) ≡ fields_row ss fs
 row_fields ss fs k l = ap (fields_row ss) (take_all k fs l)

@@ -1,13 +1,10 @@
 -- What holds of every shape: its alignment is 1, 2 or 4, its cells lie inside it, and it has no more cells than bytes.
-use Rattle.std.proofs.Common.{◌≡◌, ℕ, zero, suc, ◌+◌, ◌-◌, ◌*◌, ◌<◌, ◌≤◌, max, Bool, true, false, List, [], ◌∷◌, ◌++◌, length, refl, sym, ap, subst, ◌∙◌, arith, bytes_eq, if◌then◌else◌, length-append, zero-add}
-use Rattle.std.proofs.lemmas.Nat.{div-add-mod'}
-use Rattle.std.proofs.Math.Nat.{suc-mul, zero-mul}
+use Rattle.std.proofs.Common.{◌≡◌, ℕ, zero, suc, ◌+◌, ◌*◌, ◌<◌, ◌≤◌, max, Bool, true, false, List, [], ◌∷◌, ◌++◌, length, refl, sym, ap, subst, ◌∙◌, arith, bytes_eq, if◌then◌else◌, length-append, zero-add}
+use Rattle.std.proofs.Math.Nat.{suc-mul, zero-mul, mul-le-mul_left}
 use Rattle.ir_model.specs.Types.{PlainType, U8, U16, U32, Pointer, Array, Named, Callee}
 use Rattle.ir_model.specs.Plain.{PlainSlot, PlainStruct}
 use Rattle.ir_model.specs.Layout.{CellPlace, Shape, Known, empty, shape, shape_named, shifted, copies, array_of, rounded_up, with_field, laid_out, field_places, known, known_behind}
-
-pub rounded_at_least : (n a : ℕ) → 0 < a → n ≤ rounded_up n a
-rounded_at_least n a h = let e = div-add-mod' (n + (a - 1)) a in grind (arith, e)
+use Rattle.ir_model.proofs.Counting.{rounded_at_least}
 
 -- each cell begins below an offset
 abbrev pub Inside : ℕ → List CellPlace → Type 0
@@ -74,15 +71,12 @@ good_named : (ks : List Known) (n : List ℕ) → AllGood ks → Good (shape_nam
 good_named [] n h = good_empty
 good_named (k ∷ ks) n h = good_first (bytes_eq k.name n) k.shape (shape_named ks n) h.0 (good_named ks n h.1)
 
-product_most : (n a b : ℕ) → a ≤ b → n * a ≤ n * b
-product_most n a b l = grind arith
-
 good_array : (n : ℕ) (s : Shape) → Good s → Good (array_of n s)
 good_array n s g = record {
   positive = g.positive;
   most = g.most;
   inside = subst (λ x. Inside x (copies n 0 s.size s.cells)) (zero-add (n * s.size)) (inside_copies n 0 s.size s.cells g.inside);
-  fewer = let e = length_copies n 0 s.size s.cells in let l = product_most n (length s.cells) s.size g.fewer in omega (arith, e, l);
+  fewer = let e = length_copies n 0 s.size s.cells in let l = mul-le-mul_left {m = length s.cells} {n = s.size} n g.fewer in omega (arith, e, l);
 }
 
 good_type : (ks : List Known) (t : PlainType) → AllGood ks → Good (shape ks t)

@@ -23,15 +23,12 @@ struct_cells ss l h = laid_cells (known ss) empty (struct_of l.declaration.now).
 places_follow : (ss : List PlainStruct) (l : StructLayout) → IsLaid ss l → Follow (known ss) 0 (places l)
 places_follow ss l h = subst (Follow (known ss) 0) (sym h.fields) (fields_follow ss empty (struct_of l.declaration.now).fields)
 
-pub place_at : (fs : List Field) (k : ℕ) (d : Field) (e : FieldPlace) → k < length fs → get_or (map place_of fs) k e ≡ place_of (get_or fs k d)
-place_at fs k d e l = get_or-map place_of fs k d e l
-
 pub offsets_rise : (ss : List PlainStruct) (l : StructLayout) → IsLaid ss l → IsNonDecreasingBy (λ (f : Field). f.at) l.fields.items
 offsets_rise ss l h = λ i j d m n.
     let e = length-map l.fields.items place_of in
     let r = follow_rise (known ss) 0 (places l) i j (place_of d) (places_follow ss l h) m (omega (arith, e)) in
-    let p = place_at l.fields.items i d (place_of d) (omega arith) in
-    let q = place_at l.fields.items j d (place_of d) n in
+    let p = get_or-map place_of l.fields.items i d (place_of d) (omega arith) in
+    let q = get_or-map place_of l.fields.items j d (place_of d) n in
     subst (λ x. x ≤ (get_or l.fields.items j d).at) (ap (λ (x : FieldPlace). x.at) p) (subst (λ x. (get_or (places l) i (place_of d)).at ≤ x) (ap (λ (x : FieldPlace). x.at) q) r)
 
 first_at_place : (ks : List Known) (n : ℕ) (s : Shape) (fs : List PlainSlot) (k e : ℕ) → k < length fs
@@ -65,7 +62,7 @@ pub number_in : (ss : List PlainStruct) (l : StructLayout) (j a : ℕ) (t : Plai
     → cell_at (struct_shape ss (struct_of l.declaration.now)).cells a t ≡ further f.first_cell (cell_at (shape (known ss) (type_of f.ty.now)).cells (a - f.at) t)
 number_in ss l j a t f h w e =
     let n = length-map l.fields.items place_of in
-    let p : get_or (places l) j (place_of f) ≡ place_of f = place_at l.fields.items j f (place_of f) w.0 ∙ ap place_of (sym e) in
+    let p : get_or (places l) j (place_of f) ≡ place_of f = get_or-map place_of l.fields.items j f (place_of f) w.0 ∙ ap place_of (sym e) in
     let at : (get_or (places l) j (place_of f)).at ≡ f.at = ap (λ (x : FieldPlace). x.at) p in
     let within : f.at ≤ a = subst (λ (x : Field). x.at ≤ a) (sym e) (w.1 f) in
     ap (λ cs. cell_at cs a t) (struct_cells ss l h)
@@ -77,7 +74,7 @@ number_in ss l j a t f h w e =
     above : (k : ℕ) (d : FieldPlace) → j < k → k < length (places l) → a < (get_or (places l) k d).at
     above k d x y =
         let n = length-map l.fields.items place_of in
-        let q = place_at l.fields.items k f d (omega (arith, n)) in
+        let q = get_or-map place_of l.fields.items k f d (omega (arith, n)) in
         let r = w.2 k f (omega arith) (omega (arith, n)) in
         subst (λ (z : FieldPlace). a < z.at) (sym q) r
 
@@ -93,7 +90,7 @@ number_before ss l a t h w = ap (λ cs. cell_at cs a t) (struct_cells ss l h) �
     above k d m =
         let n = length-map l.fields.items place_of in
         let f : Field = some_field l.fields.items k (omega (arith, n)) in
-        let q = place_at l.fields.items k f d (omega (arith, n)) in
+        let q = get_or-map place_of l.fields.items k f d (omega (arith, n)) in
         subst (λ (z : FieldPlace). a < z.at) (sym q) (w k f (omega arith) (omega (arith, n)))
 
 few_before : (ss : List PlainStruct) (n : ℕ) (ps : List FieldPlace) (j : ℕ) (d : FieldPlace) → Follow (known ss) n ps → j < length ps → n + length (fields_cells (known ss) (take j ps)) ≤ (get_or ps j d).at
@@ -111,6 +108,6 @@ pub first_below_offset : (ss : List PlainStruct) (l : StructLayout) (j : ℕ) (f
 first_below_offset ss l j f h m e =
     let n = length-map l.fields.items place_of in
     let r = few_before ss 0 (places l) j (place_of f) (places_follow ss l h) (omega (arith, n)) in
-    let p : (get_or (places l) j (place_of f)).at ≡ f.at = ap (λ (x : FieldPlace). x.at) (place_at l.fields.items j f (place_of f) m ∙ ap place_of (sym e)) in
+    let p : (get_or (places l) j (place_of f)).at ≡ f.at = ap (λ (x : FieldPlace). x.at) (get_or-map place_of l.fields.items j f (place_of f) m ∙ ap place_of (sym e)) in
     let q : f.first_cell ≡ length (fields_cells (known ss) (take j (places l))) = ap (λ (x : Field). x.first_cell) e ∙ first_cell_at ss l j f h m in
     omega (arith, r, p, q)

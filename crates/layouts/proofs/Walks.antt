@@ -1,10 +1,12 @@
 -- Steps of a walk down a type to the cell at an offset.
-use Rattle.std.proofs.Common.{◌≡◌, ℕ, zero, suc, ◌+◌, ◌-◌, ◌*◌, ◌/◌, ◌%◌, ◌^◌, ◌<◌, ◌≤◌, List, map, take, get_or, length, refl, sym, ap, subst, ◌∙◌, arith, Option, Some, None}
+use Rattle.std.proofs.Common.{◌≡◌, ℕ, ◌+◌, ◌-◌, ◌*◌, ◌/◌, ◌%◌, ◌^◌, ◌<◌, ◌≤◌, List, map, take, get_or, length, refl, sym, ap, subst, ◌∙◌, arith, Option, Some, None}
 use Rattle.std.specs.List.{slice_get}
+use Rattle.std.proofs.Math.Nat.{pos_of_ne-zero}
 use Rattle.ir_model.specs.declared.firmware.StructDecl.{StructDecl}
 use Rattle.ir_model.specs.Types.{PlainType, Array, Named, type_of}
 use Rattle.ir_model.specs.Plain.{PlainStruct, struct_of}
 use Rattle.ir_model.specs.Layout.{Shape, empty, shape, shape_named, known, cell_at}
+use Rattle.ir_model.proofs.Arrays.{arrays}
 use Rattle.layouts.specs.declared.measure.Measure.{Measure}
 use Rattle.layouts.specs.declared.table.Field.{Field}
 use Rattle.layouts.specs.declared.table.StructLayout.{StructLayout}
@@ -14,11 +16,7 @@ use Rattle.layouts.proofs.Sizes.{good}
 use Rattle.layouts.proofs.Pieces.{further}
 use Rattle.layouts.proofs.Arrays.{number_nowhere, number_past, number_of_element}
 use Rattle.layouts.proofs.Structs.{number_in, number_before, first_below_offset}
-use Rattle.layouts.proofs.Weights.{arrays, structs_weight, field_weighs, struct_weighs}
-
-above_none : (n : ℕ) → (n ≡ 0 → ⊥) → 0 < n
-above_none zero f = absurd (f refl)
-above_none (suc n) f = omega arith
+use Rattle.layouts.proofs.Weights.{structs_weight, field_weighs, struct_weighs}
 
 -- the cells that lie at an offset of a type
 abbrev pub at_offset : List PlainStruct → PlainType → ℕ → PlainType → Option ℕ
@@ -29,13 +27,13 @@ walk_nowhere ss u t n a of m e h z = sym (ap (λ x. at_offset ss x a of) e ∙ n
 
 pub walk_past : (ss : List PlainStruct) (u t : PlainType) (n a : ℕ) (of : PlainType) (m : Measure) → u ≡ Array n t → IsMeasure m (shape (known ss) t) → (m.size ≡ 0 → ⊥) → a < 2 ^ 32
     → n ≤ a / m.size → None ≡ at_offset ss u a of
-walk_past ss u t n a of m e h p b l = sym (ap (λ x. at_offset ss x a of) e ∙ number_past n a (a / m.size) of m (shape (known ss) t) h (good ss t) (above_none m.size p) b refl l)
+walk_past ss u t n a of m e h p b l = sym (ap (λ x. at_offset ss x a of) e ∙ number_past n a (a / m.size) of m (shape (known ss) t) h (good ss t) (pos_of_ne-zero {n = m.size} p) b refl l)
 
 pub walk_element : (ss : List PlainStruct) (u t : PlainType) (n a : ℕ) (of : PlainType) (m : Measure) → u ≡ Array n t → IsMeasure m (shape (known ss) t) → (m.size ≡ 0 → ⊥) → a < 2 ^ 32
     → a / m.size < n → (r : Option ℕ) → r ≡ at_offset ss t (a % m.size) of → at_offset ss u a of ≡ further (a / m.size * m.cells) r
 walk_element ss u t n a of m e h p b l r q =
     ap (λ x. at_offset ss x a of) e
-    ∙ (number_of_element n a (a / m.size) (a % m.size) of m (shape (known ss) t) h (good ss t) (above_none m.size p) b refl refl l ∙ ap (further (a / m.size * m.cells)) (sym q))
+    ∙ (number_of_element n a (a / m.size) (a % m.size) of m (shape (known ss) t) h (good ss t) (pos_of_ne-zero {n = m.size} p) b refl refl l ∙ ap (further (a / m.size * m.cells)) (sym q))
 
 no_cell : (s : Shape) (a : ℕ) (of : PlainType) → s ≡ empty → cell_at s.cells a of ≡ None
 unfolding cell_at

@@ -3,17 +3,14 @@ use Rattle.std.proofs.Common.{◌≡◌, ℕ, zero, suc, ◌+◌, ◌<◌, List,
 use Rattle.std.specs.List.{slice_get}
 use Rattle.std.proofs.lemmas.List.{get_or-map, length-map}
 use Rattle.ir_model.specs.declared.firmware.StructDecl.{StructDecl}
-use Rattle.ir_model.specs.Types.{PlainType, Array, type_of}
+use Rattle.ir_model.specs.Types.{type_of}
 use Rattle.ir_model.specs.Plain.{PlainSlot, PlainStruct, struct_of}
 use Rattle.ir_model.specs.Layout.{FieldPlace, Shape, Known, empty, with_field, field_places, known}
+use Rattle.ir_model.proofs.Arrays.{arrays}
 use Rattle.layouts.specs.declared.table.Field.{Field}
 use Rattle.layouts.specs.declared.table.StructLayout.{StructLayout}
 use Rattle.layouts.specs.Fields.{place_of}
 use Rattle.layouts.specs.Tables.{IsLaid}
-
-abbrev pub arrays : PlainType → ℕ
-arrays (Array n t) = suc (arrays t)
-arrays _ = 0
 
 abbrev fields_weight : List PlainSlot → ℕ
 fields_weight [] = 0

@@ -3,16 +3,15 @@ use Rattle.std.proofs.Common.{◌≡◌, ℕ, List, length, refl, length-set}
 use Rattle.mem_bus.specs.Places.{Place, InRam, InFlash, InWindow, Nowhere}
 use Rattle.mem_bus.specs.Bus.{put_at}
 use Rattle.device_model.specs.Input.{taken, queue, without_first}
-use Rattle.words.specs.Bytes.{write}
+use Rattle.words.proofs.Bytes.{length-write}
 
 pub length-taken : (queues : List (List ℕ)) (k : ℕ) → length (taken queues k) ≡ length queues
 length-taken queues k = length-set queues k (without_first (queue queues k))
 
-pub length-put_at : (long : (w a v : ℕ) (mem : List ℕ) → length (write w a v mem) ≡ length mem)
-    (p : Place) (w v : ℕ) (ram : List ℕ) → length (put_at p w v ram) ≡ length ram
-length-put_at long (InRam o) w v ram = long w o v ram
-length-put_at long (InFlash o) w v ram = refl
-length-put_at long (InWindow k o) w v ram = refl
-length-put_at long Nowhere w v ram = refl
+pub length-put_at : (p : Place) (w v : ℕ) (ram : List ℕ) → length (put_at p w v ram) ≡ length ram
+length-put_at (InRam o) w v ram = length-write w o v ram
+length-put_at (InFlash o) w v ram = refl
+length-put_at (InWindow k o) w v ram = refl
+length-put_at Nowhere w v ram = refl
 
 pub ruleset length_rules = (length-taken, length-put_at)

@@ -3,4 +3,4 @@ pub mod Addresses
 pub mod Placed
 mod Searches
 pub mod Offsets
-mod Lengths
+pub mod Lengths

@@ -5,6 +5,7 @@ use Rattle.std.proofs.lemmas.Bool.{false≢true, cases_lt}
 use Rattle.std.proofs.lemmas.Bool.Decides.{nat_tests}
 use Rattle.std.proofs.lemmas.Nat.{pow-add, pow_below}
 use Rattle.std.proofs.lemmas.Nat.Bits.{bit_at_mask_inside, bit_at_mask_below}
+use Rattle.std.proofs.lemmas.List.{length_push}
 use Rattle.mpu_model.specs.declared.region.Region.{Region}
 use Rattle.mpu_model.specs.declared.region.Access.{Access}
 use Rattle.mpu_model.specs.declared.TheConstants.{MPU_RBAR, MPU_RASR}
@@ -210,10 +211,6 @@ one_more : (front : List Region) (y : Region) (back : List Region) → front ++ 
 one_more [] y back = refl
 one_more (g ∷ front) y back = ap (λ l. g ∷ l) (one_more front y back)
 
-longer : (front : List Region) (y : Region) → length (front ++ y ∷ []) ≡ length front + 1
-longer [] y = refl
-longer (g ∷ front) y = let e = longer front y in omega arith
-
 pub lists_are_written : ListsAreWritten
 lists_are_written [] front [] m e h n = record { regions = e; control = refl }
 lists_are_written [] front (x ∷ back) m e h n = absurd (omega arith)
@@ -223,7 +220,7 @@ lists_are_written (g ∷ gs) front (x ∷ back) m e h n =
     let new : Registers = record { control = m.control; number = g.rbar % 16; regions = set m.regions (g.rbar % 16) y } in
     let one : write_register MPU_RASR g.rasr (write_register MPU_RBAR g.rbar m) ≡ new = regions_are_written g m n.0 in
     let at : set m.regions (g.rbar % 16) y ≡ front ++ y ∷ back = ap (λ l. set l (g.rbar % 16) y) e ∙ ap (λ k. set (front ++ x ∷ back) k y) n.1 ∙ set_behind front x y back in
-    let rest = lists_are_written gs (front ++ y ∷ []) back new (at ∙ one_more front y back) (omega arith) (subst (λ k. AreNumbered k gs) (sym (longer front y)) n.2) in
+    let rest = lists_are_written gs (front ++ y ∷ []) back new (at ∙ one_more front y back) (omega arith) (subst (λ k. AreNumbered k gs) (sym (length_push front y)) n.2) in
     record {
       regions = ap (λ t. (written gs t).regions) one ∙ rest.regions ∙ sym (one_more front y (map kept_region gs));
       control = ap (λ t. (written gs t).control) one ∙ rest.control;

@@ -1,7 +1,8 @@
 -- The place of a name in a list that grows.
-use Rattle.std.proofs.Common.{◌≡◌, ℕ, zero, suc, ◌<◌, Bool, true, false, List, [], ◌∷◌, ◌++◌, Option, Some, None, if◌then◌else◌, refl, sym, ap, ◌∙◌, length, arith, bytes_eq, cond, MatchOption, is_some, map}
+use Rattle.std.proofs.Common.{◌≡◌, ℕ, zero, suc, ◌<◌, Bool, true, false, List, [], ◌∷◌, ◌++◌, Option, Some, None, if◌then◌else◌, refl, sym, ap, ◌∙◌, length, arith, bytes_eq, cond, MatchOption, is_some}
 use Rattle.std.proofs.lemmas.Slice.Eq.{bytes_eq-Decides}
 use Rattle.ir_model.specs.Resolve.{has, number_of}
+use Rattle.ir_model.proofs.Numbers.{number_below}
 use Rattle.name_tables.specs.Places.{place_in}
 
 later : Option ℕ → Option ℕ
@@ -62,14 +63,6 @@ put_again ns n q old h e = e ∙ (pick (bytes_eq n q) refl (place_in ns q) refl 
     pick false i None j = refl
     pick true i None j = let g = (bytes_eq-Decides n q).0 i in let u = ap (λ x. is_some (place_in ns x)) g in let v : is_some (place_in ns q) ≡ false = ap is_some j in cc
 
-below_pick : (ns : List (List ℕ)) (n : List ℕ) (b : Bool) → (has ns n ≡ true → number_of ns n < length ns) → (if b then true else has ns n) ≡ true → (if b then zero else suc (number_of ns n)) < suc (length ns)
-below_pick ns n true f i = omega arith
-below_pick ns n false f i = let r = f i in omega arith
-
-number_below : (ns : List (List ℕ)) (n : List ℕ) → has ns n ≡ true → number_of ns n < length ns
-number_below [] n h = cc
-number_below (m ∷ ns) n h = below_pick ns n (bytes_eq m n) (λ i. number_below ns n i) h
-
 pub found : (ns : List (List ℕ)) (n : List ℕ) (r : Option ℕ) → r ≡ place_in ns n → MatchOption r (has ns n ≡ false) (λ k. (has ns n ≡ true) × ((k ≡ number_of ns n) × (k < length ns)))
 found ns n r e = pick (has ns n) refl r e
   where
@@ -78,10 +71,6 @@ found ns n r e = pick (has ns n) refl r e
     pick true h (Some k) e = let q : k ≡ number_of ns n = cc in let l = number_below ns n h in (h, (q, omega arith))
     pick false h None e = h
     pick false h (Some k) e = cc
-
-pub length_map : {A B : Type 0} (f : A → B) (xs : List A) → length xs ≡ length (map f xs)
-length_map f [] = refl
-length_map f (x ∷ xs) = ap suc (length_map f xs)
 
 absent_next : (ns : List (List ℕ)) (n : List ℕ) (b : Bool) → (has ns n ≡ false → number_of ns n ≡ length ns)
     → (if b then true else has ns n) ≡ false → (if b then zero else suc (number_of ns n)) ≡ suc (length ns)

@@ -1,21 +1,18 @@
 -- What holds of a firmware's run before its first step, and of its windows.
-use Rattle.std.proofs.Common.{◌≡◌, ℕ, zero, suc, ◌+◌, ◌≤◌, Bool, true, false, List, [], ◌∷◌, ◌++◌, length, map, Option, Some, None, refl, ap, sym, ◌∙◌, arith}
-use Rattle.std.specs.Prelude.{if◌then◌else◌, nat_le}
-use Rattle.std.proofs.lemmas.Bool.Decides.{nat_tests}
+use Rattle.std.proofs.Common.{◌≡◌, ℕ, zero, suc, ◌+◌, ◌≤◌, List, [], ◌∷◌, ◌++◌, length, map, None, refl, ap, sym, ◌∙◌, arith}
 use Rattle.std.proofs.lemmas.List.{length-map}
 use Rattle.device_model.specs.declared.image.Window.{Window}
 use Rattle.ir_model.specs.declared.firmware.Peripheral.{Peripheral}
-use Rattle.ir_model.specs.declared.token.Excess.{Excess}
-use Rattle.ir_model.specs.declared.token.Excess.TheVariants.{Passes}
 use Rattle.ir_model.specs.declared.token.TextLimit.TheVariants as limit
 use Rattle.ir_model.specs.Plain.{PlainFirmware}
-use Rattle.ir_model.specs.Lines.{Line, word_excess, struct_lines, periph_lines, global_lines, file_lines, lines_of}
+use Rattle.ir_model.specs.Lines.{Line, struct_lines, periph_lines, global_lines, file_lines, lines_of}
 use Rattle.ir_model.specs.Canonical.{Each, PassesNothing, IsWithinLimits}
 use Rattle.ir_model.proofs.ForEach.{each_left, each_right}
 use Rattle.ir_model.specs.Resolved.{Program}
 use Rattle.ir_model.specs.Resolve as spans
 use Rattle.ir_model.specs.Resolve.{resolve}
 use Rattle.ir_model.specs.State.{start}
+use Rattle.ir_model.proofs.NoExcess.{word_short}
 use Rattle.ir_resolve.specs.Windows.{window_of, windows_of}
 use Rattle.ir_run.specs.Runs.{RunState}
 use Rattle.lines.specs.Lines.{name_of}
@@ -31,22 +28,12 @@ pub as_many : (w : PlainFirmware) → length (windows_of w) ≡ length (resolve 
 unfolding resolve
 as_many w = length-map w.periphs window_of ∙ sym (length-map w.periphs spans.window_of)
 
-abbrev nothing_passed : Option Excess
-nothing_passed = None
-
-short_by : (b : Bool) → (if b then nothing_passed else Some (Passes limit.Name)) ≡ None → b ≡ true
-short_by true h = refl
-short_by false h = cc
-
-is_short : (word : List ℕ) → word_excess word ≡ None → length word ≤ 64
-is_short word h = let t : nat_le (length word) 64 ≡ true = short_by (nat_le (length word) 64) h in grind (arith, nat_tests)
-
 abbrev Quiet : Line → Type 0
 Quiet l = Each PassesNothing l
 
 short_at : (before : ℕ) (ps : List Peripheral) (k : ℕ) → Each Quiet (periph_lines before ps) → length (name_of (map window_of ps) k) ≤ 64
 short_at before [] k h = let e : 0 ≤ 64 = omega arith in e
-short_at before (q ∷ qs) zero h = is_short q.name h.0.1.0
+short_at before (q ∷ qs) zero h = word_short q.name h.0.1.0
 short_at before (q ∷ qs) (suc k) h = short_at (before + 1) qs k h.1
 
 -- the name of each window has at most 64 bytes

@@ -1,8 +1,8 @@
 -- What the bytes of pieces decode to.
-use Rattle.std.proofs.Common.{◌≡◌, ℕ, zero, suc, ◌+◌, ◌*◌, ◌/◌, ◌%◌, ◌<◌, ◌≤◌, ◌^◌, true, List, [], ◌∷◌, ◌++◌, length, take, Option, Some, None, slice_get, rules, refl, ap, ◌∙◌, arith, length-append}
+use Rattle.std.proofs.Common.{◌≡◌, ℕ, zero, suc, ◌+◌, ◌*◌, ◌/◌, ◌%◌, ◌<◌, ◌≤◌, ◌^◌, true, List, [], ◌∷◌, ◌++◌, length, take, Option, Some, None, slice_get, refl, ap, ◌∙◌, arith, length-append}
 use Rattle.std.proofs.lemmas.Bool.Decides.{nat_tests}
 use Rattle.std.proofs.lemmas.Int.{ints}
-use Rattle.std.proofs.lemmas.Option.{none-some}
+use Rattle.std.proofs.lemmas.Option.{none-some, same_Some}
 use Rattle.std.proofs.lemmas.List.{get_or-append-add}
 use Rattle.thumb_model.specs.declared.table.Instr.{Instr}
 use Rattle.thumb_model.specs.declared.table.Code.{Code}
@@ -72,9 +72,6 @@ half_behind xs ys o =
 
 -- ---- pieces
 
-some_item : (x y : Item) → Some x ≡ Some y → x ≡ y
-some_item x y e = search (rules)
-
 first_decodes : (n : ℕ) (ps : List (Option ℕ)) (at : ℕ) (i : Item) (x : Instr) (more : List ℕ) → IsItem n i → GoesSomewhere ps at i → at < 2 ^ 31
     → first_far ps at (i ∷ []) ≡ None → instruction_of ps at i ≡ Some x
     → decoded (half_at (bytes_at ps at i ++ more) 0) (half_at (bytes_at ps at i ++ more) 2) ≡ Some x
@@ -92,7 +89,7 @@ decodes_from : (a : Assembly) → IsAssembly a → (at : ℕ) (is : List Item) (
     → decoded (half_at (bytes_from a.places at is) (total (take k is))) (half_at (bytes_from a.places at is) (total (take k is) + 2)) ≡ Some x
 decodes_from a h at (i ∷ is) zero item x room even items put far there e =
     let r = h.room in
-    let same = some_item i item there in
+    let same = same_Some i item there in
     let f = far-split a.places at i is far in
     let z : at + 0 ≡ at = omega arith in
     first_decodes (length a.places) a.places at i x (bytes_from a.places (at + size_of i) is) items.0 (goes a at i h even (first_put a.places i is put).0) (omega arith) f.0 (rw (z, ← same) at e)

@@ -1,5 +1,5 @@
 -- Pieces that are put one behind the other.
-use Rattle.std.proofs.Common.{◌≡◌, ℕ, zero, suc, ◌+◌, ◌%◌, ◌<◌, ◌≤◌, ◌^◌, Bool, true, false, List, [], ◌∷◌, length, take, drop, if◌then◌else◌, Option, Some, None, IsSome, rules, refl, sym, ◌∙◌, arith}
+use Rattle.std.proofs.Common.{◌≡◌, ℕ, zero, suc, ◌+◌, ◌%◌, ◌<◌, ◌≤◌, ◌^◌, Bool, true, false, List, [], ◌∷◌, length, take, if◌then◌else◌, Option, Some, None, IsSome, rules, refl, sym, ◌∙◌, arith}
 use Rattle.std.proofs.Math.ListN.{get_or}
 use Rattle.std.proofs.lemmas.Option.{none-some}
 use Rattle.thumb_model.specs.Table.{width_of, encode}
@@ -83,14 +83,6 @@ pub put_piece : (ps : List (Option ℕ)) (is : List Item) (k : ℕ) (d : Item) �
 put_piece ps (i ∷ is) zero d h l = (first_put ps i is h).0
 put_piece ps (i ∷ is) (suc k) d h l = put_piece ps is k d (first_put ps i is h).1 (omega arith)
 put_piece ps [] k d h l = absurd (omega arith)
-
-next_of : (is : List Item) (k : ℕ) (d : Item) → k < length is → drop k is ≡ get_or is k d ∷ drop (suc k) is
-next_of (i ∷ is) zero d l = refl
-next_of (i ∷ is) (suc k) d l = next_of is k d (omega arith)
-next_of [] k d l = absurd (omega arith)
-
-pub next_piece : (is : List Item) (k : ℕ) (d : Item) → k < length is → drop k is ≡ get_or is k d ∷ drop (k + 1) is
-next_piece is k d l = let e : k + 1 ≡ suc k = omega arith in rw e (next_of is k d l)
 
 -- one piece that reaches, before others
 pub far-next : (ps : List (Option ℕ)) (at : ℕ) (i : Item) (is : List Item) → first_far ps at (i ∷ []) ≡ None → first_far ps at (i ∷ is) ≡ first_far ps (at + size_of i) is

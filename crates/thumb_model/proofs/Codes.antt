@@ -1,5 +1,5 @@
--- The bytes of code, and code of two parts.
-use Rattle.std.proofs.Common.{◌≡◌, List, [], ◌∷◌, ◌++◌, length, refl, sym, ap, ◌∙◌, append_assoc}
+-- The bytes of code, code of two parts, and the numbers of operations of two or three kinds.
+use Rattle.std.proofs.Common.{◌≡◌, ℕ, ◌<◌, ◌⊎◌, arith, List, [], ◌∷◌, ◌++◌, length, refl, sym, ap, ◌∙◌, append_assoc}
 use Rattle.thumb_model.specs.declared.table.Code.{Code}
 use Rattle.thumb_model.specs.declared.table.Code.TheVariants.{Half, Pair}
 use Rattle.thumb_model.specs.declared.table.Instr.{Instr}
@@ -18,3 +18,10 @@ code_bytes-append (x ∷ xs) ys = ap (λ l. bytes_of_code (encode x) ++ l) (code
 pub in_table-append : (xs ys : List Instr) → EachInTable xs → EachInTable ys → EachInTable (xs ++ ys)
 in_table-append [] ys a b = b
 in_table-append (x ∷ xs) ys a b = (a.0, in_table-append xs ys a.1 b)
+
+-- the number of an operation of two kinds, and of one of three
+pub zero_or_one : (op : ℕ) → op < 2 → (op ≡ 0) ⊎ (op ≡ 1)
+zero_or_one op below = grind arith
+
+pub zero_one_or_two : (op : ℕ) → op < 3 → (op < 2) ⊎ (op ≡ 2)
+zero_one_or_two op below = grind arith

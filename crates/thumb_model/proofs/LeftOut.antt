@@ -3,7 +3,7 @@ use Rattle.std.proofs.Common.{◌≡◌, ◌≢◌, ℕ, ◌+◌, ◌*◌, ◌/�
 use Rattle.std.proofs.lemmas.Bool.Decides.{nat_tests}
 use Rattle.thumb_model.proofs.Offsets.{lt_true, lt_false}
 use Rattle.thumb_model.proofs.Relation.{decoded_code-related}
-use Rattle.thumb_model.proofs.Round.{in_special, in_stack, in_multiple, in_last, in_pair, in_divide, in_special_register, here, past, zero_or_one, move_value-move_pair}
+use Rattle.thumb_model.proofs.Round.{in_special, in_stack, in_multiple, in_last, in_pair, in_divide, in_special_register, here, past, move_value-move_pair}
 use Rattle.thumb_model.specs.Table.{InTable, encode, read_code, move_pair}
 use Rattle.thumb_model.specs.Decoded.{decoded, is_general, special_of, stack_of, multiple_of, move_of, special_register_of, divide_of}
 use Rattle.thumb_model.specs.Laws.{IsUndefined, IsSpecial, LeavesOut, IsSelfDelimiting, ShowsItsLength}
@@ -11,6 +11,7 @@ use Rattle.thumb_model.specs.declared.table.Code.{Code}
 use Rattle.thumb_model.specs.declared.table.Code.TheVariants.{Half, Pair}
 use Rattle.thumb_model.specs.declared.table.Instr.{Instr}
 use Rattle.thumb_model.specs.declared.table.Instr.TheVariants.{ShiftImmediate, AddSubRegister, AddSubImmediate, DataImmediate, DataRegister, HighRegister, BranchExchange, LoadLiteral, TransferRegister, TransferImmediate, StackRelative, AdjustStack, PushPop, BreakpointNop, TransferMultiple, BranchConditional, CallBranch, BranchLink, BranchWide, MoveWide, MoveTop, Divide, SpecialRegister, Barrier}
+use Rattle.thumb_model.proofs.Codes.{zero_or_one}
 
 half : (h : ℕ) → decoded h 0 ≡ None → IsUndefined (Half h)
 half h n i e = let s = decoded_code-related (Half h) 0 i e in cc

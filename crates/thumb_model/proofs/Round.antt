@@ -6,6 +6,7 @@ use Rattle.thumb_model.specs.Table.{InTable, IsOffset, IsGeneral, eor_not, halfw
 use Rattle.thumb_model.specs.Decoded.{decoded, decoded_code, is_general, move_value, arithmetic_of, special_of, transfer_of, stack_of, multiple_of, upper_of, narrow_of, move_of, special_register_of, divide_of, wide_of, extended, branch_bits}
 use Rattle.thumb_model.specs.declared.table.Instr.{Instr}
 use Rattle.thumb_model.specs.declared.table.Instr.TheVariants.{ShiftImmediate, AddSubRegister, AddSubImmediate, DataImmediate, DataRegister, HighRegister, BranchExchange, LoadLiteral, TransferRegister, TransferImmediate, StackRelative, AdjustStack, PushPop, BreakpointNop, TransferMultiple, BranchConditional, CallBranch, BranchLink, BranchWide, MoveWide, MoveTop, Divide, SpecialRegister, Barrier}
+use Rattle.thumb_model.proofs.Codes.{zero_or_one, zero_one_or_two}
 
 -- a test that is known
 pub here : (h n : ℕ) (x y z : Option Instr) → h < n → x ≡ z → (if nat_lt h n then x else y) ≡ z
@@ -277,12 +278,6 @@ special_read : (d s : ℕ) → IsGeneral d → (s ≡ 8) ⊎ (s ≡ 9) ⊎ (s �
 unfolding special_register_of
 special_read d s a b = search (rules, nat_tests)
 
-pub zero_or_one : (op : ℕ) → op < 2 → (op ≡ 0) ⊎ (op ≡ 1)
-zero_or_one op below = grind arith
-
-zero_or_two : (op : ℕ) → op < 3 → (op < 2) ⊎ (op ≡ 2)
-zero_or_two op below = grind arith
-
 -- an instruction of the table is decoded from its halfwords, whatever follows a single one
 pub decoded_code-encode : (i : Instr) (next : ℕ) → InTable i → decoded_code (encode i) next ≡ Some i
 unfolding encode stack_of special_register_of
@@ -296,7 +291,7 @@ decoded_code-encode (BranchExchange op m) next v = in_special _ next _ (omega ar
 decoded_code-encode (LoadLiteral t imm8) next v = in_transfer _ next _ (omega arith) (omega arith) (literal t imm8 v.0 v.1)
 decoded_code-encode (TransferRegister op m n t) next v = in_transfer _ next _ (omega arith) (omega arith) (transfer_register op m n t v.0 v.1 v.2 v.3)
 decoded_code-encode (TransferImmediate op imm5 n t) next v = in_transfer _ next _ (omega arith) (omega arith) (transfer_immediate op imm5 n t v.0 v.1 v.2 v.3)
-decoded_code-encode (StackRelative op t d imm8) next v = elim (zero_or_two op v.0) [
+decoded_code-encode (StackRelative op t d imm8) next v = elim (zero_one_or_two op v.0) [
   | inl z ↦ rw (lt_true op 2 z, v.4 z) (in_stack_relative op t imm8 next z v.1 v.3)
   | inr z ↦ rw (z, v.5 z) (in_stack_address d imm8 next v.2 v.3)
 ]

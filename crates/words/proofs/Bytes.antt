@@ -5,7 +5,7 @@ use Rattle.std.proofs.Math.Arith.{mod-mul}
 use Rattle.std.proofs.lemmas.Grind.{common_steps}
 use Rattle.std.proofs.Math.ListN.{set, get_or-append}
 use Rattle.std.specs.Prelude.{slice_index, slice_set}
-use Rattle.std.proofs.lemmas.List.{length-set, set-set, get_or-append-add}
+use Rattle.std.proofs.lemmas.List.{length-set, set-set, get_or-append-add, set_comm}
 use Rattle.words.specs.Bytes.{read, write, cut, write_all, AreBytes}
 
 -- ---- cut
@@ -117,19 +117,12 @@ AreBytes-write (suc w) a v mem h = AreBytes-write w (a + 1) (v / 256) (set mem a
 
 -- ---- writes over writes
 
-set_apart : (m : List ℕ) (i j x y : ℕ) → i ≢ j → set (set m i x) j y ≡ set (set m j y) i x
-set_apart [] i j x y h = refl
-set_apart (z ∷ zs) zero zero x y h = absurd (h refl)
-set_apart (z ∷ zs) zero (suc j) x y h = refl
-set_apart (z ∷ zs) (suc i) zero x y h = refl
-set_apart (z ∷ zs) (suc i) (suc j) x y h = ap (λ l. z ∷ l) (set_apart zs i j x y (λ e. h (ap suc e)))
-
 set-write : (w a v : ℕ) (mem : List ℕ) (j y : ℕ) → ((k : ℕ) → k < w → j ≢ a + k) → set (write w a v mem) j y ≡ write w a v (set mem j y)
 unfolding write
 set-write zero a v mem j y h = refl
 set-write (suc w) a v mem j y h =
     set-write w (a + 1) (v / 256) (set mem a (v % 256)) j y (λ k lt e. h (k + 1) (omega arith) (omega arith))
-    ∙ ap (write w (a + 1) (v / 256)) (set_apart mem a j (v % 256) y (λ e. h 0 (omega arith) (omega arith)))
+    ∙ ap (write w (a + 1) (v / 256)) (set_comm mem a j (v % 256) y (λ e. h 0 (omega arith) (omega arith)))
 
 -- two writes that lie apart, in either order
 pub write_apart : (u b x w a v : ℕ) (mem : List ℕ) → ((i : ℕ) → i < u → (k : ℕ) → k < w → b + i ≢ a + k) → write u b x (write w a v mem) ≡ write w a v (write u b x mem)

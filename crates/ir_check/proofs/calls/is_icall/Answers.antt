@@ -1,6 +1,6 @@
 use Rattle.std.proofs.Common.{rules}
 use Rattle.ir_model.specs.declared.types.Ty as code
-use Rattle.ir_check.proofs.Rows.{rows}
+use Rattle.ir_model.proofs.SameTypes.{rows}
 use Rattle.ir_check.proofs.calls.is_icall.Goals as goal
 
 pub returns-then-fit_types : goal.returns-then-fit_types

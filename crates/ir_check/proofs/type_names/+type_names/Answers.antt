@@ -4,7 +4,7 @@ use Rattle.ir_model.specs.Types.{Callee, type_of, types_from, boxed_result_of}
 use Rattle.ir_model.specs.Typing.{row_checks, type_checks, result_checks, first_failing}
 use Rattle.ir_check.specs.Found.{Refused}
 use Rattle.ir_check.specs.Spots.{place_of}
-use Rattle.ir_check.proofs.Rows.{rows}
+use Rattle.ir_model.proofs.SameTypes.{rows}
 use Rattle.ir_check.proofs.Order.{told, stop_at, go_on, refused_left, refused_right, first_append}
 use Rattle.ir_check.proofs.type_names.+type_names.Goals as goal
 

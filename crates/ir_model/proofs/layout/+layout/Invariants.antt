@@ -2,8 +2,9 @@ use Rattle.std.proofs.Common.{◌≡◌, ◌+◌, map, drop, Some}
 use Rattle.ir_model.specs.Types.{type_of}
 use Rattle.ir_model.specs.Plain.{slot_of, struct_of}
 use Rattle.ir_model.specs.Extents.{sized, fields_extent, extent_behind, IsSmall}
-use Rattle.ir_model.proofs.Layouts.{arrays, fields_weight, structs_weight}
+use Rattle.ir_model.proofs.Layouts.{fields_weight, structs_weight}
 use Rattle.ir_model.proofs.layout.+layout.Given as goal
+use Rattle.ir_model.proofs.Arrays.{arrays}
 
 abbrev pub decreases-type_extent : goal.decreases-type_extent
 decreases-type_extent l = structs_weight l.structs.now + arrays (type_of l.ty.now) + 1

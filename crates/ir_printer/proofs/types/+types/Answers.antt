@@ -1,9 +1,10 @@
 use Rattle.std.proofs.Common.{arith, ap, length, ◌∙◌}
 use Rattle.std.proofs.lemmas.Grind.{common_steps}
+use Rattle.std.proofs.lemmas.Result.{on_ok_weaker}
 use Rattle.ir_model.specs.declared.types.Ty as code
 use Rattle.ir_model.specs.Types.{type_of}
 use Rattle.ir_printer.specs.Pieces.{type_text, ty_text}
-use Rattle.ir_printer.proofs.Rows.{callee_text, row_end, on_ok}
+use Rattle.ir_printer.proofs.Rows.{callee_text, row_end}
 use Rattle.ir_printer.proofs.Separated.{separated_step}
 use Rattle.ir_printer.proofs.types.+types.Goals as goal
 
@@ -22,4 +23,4 @@ put_row-loop-i-preserved t c =
 pub put_row-returns : goal.put_row-returns
 put_row-returns t c =
     let e = ap length c.deref-ty-items.ensures.value in
-    on_ok c.put_mark.result (row_end c.args.types.now.items c.loop-i.i c.args.out.now.items _ _ (omega arith) c.loop-i.invariant) c.put_mark.ensures
+    on_ok_weaker c.put_mark.result (row_end c.args.types.now.items c.loop-i.i c.args.out.now.items _ _ (omega arith) c.loop-i.invariant) c.put_mark.ensures

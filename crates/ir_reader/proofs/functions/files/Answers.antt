@@ -4,7 +4,7 @@ use Rattle.ir_reader.specs.Machine as expected
 use Rattle.ir_reader.specs.Machine.{Symbol, fault}
 use Rattle.ir_reader.specs.Parts.{file_rest}
 use Rattle.ir_reader.specs.Scan.{placed}
-use Rattle.ir_reader.proofs.Kept.{counted_none}
+use Rattle.ir_model.proofs.NoExcess.{counted_none}
 use Rattle.ir_reader.proofs.Separated.{each_push}
 use Rattle.ir_reader.proofs.Values.{fails_after}
 use Rattle.ir_reader.proofs.functions.files.Goals as goal

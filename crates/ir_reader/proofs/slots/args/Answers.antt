@@ -6,7 +6,7 @@ use Rattle.ir_reader.specs.Reading.{mark_first}
 use Rattle.ir_reader.specs.Scan.{placed}
 use Rattle.ir_reader.specs.Spelling.{Sign, spell_word}
 use Rattle.ir_reader.proofs.Ends.{args_end}
-use Rattle.ir_reader.proofs.Kept.{counted_none}
+use Rattle.ir_model.proofs.NoExcess.{counted_none}
 use Rattle.ir_reader.proofs.Separated.{read_next, read_closed}
 use Rattle.ir_reader.proofs.slots.args.Goals as goal
 

@@ -9,7 +9,7 @@ use Rattle.ir_reader.specs.Reading.{mark_first}
 use Rattle.ir_reader.specs.Scan.{placed}
 use Rattle.ir_reader.specs.Spelling.{Sign, spell_slot}
 use Rattle.ir_reader.proofs.Ends.{params_end}
-use Rattle.ir_reader.proofs.Kept.{counted_none}
+use Rattle.ir_model.proofs.NoExcess.{counted_none}
 use Rattle.ir_reader.proofs.Separated.{read_more, read_closed}
 use Rattle.ir_reader.proofs.slots.params.Goals as goal
 

@@ -8,7 +8,7 @@ use Rattle.ir_reader.specs.Reading.{mark_first}
 use Rattle.ir_reader.specs.Scan.{placed}
 use Rattle.ir_reader.specs.Spelling.{Sign, spell_type}
 use Rattle.ir_reader.proofs.Ends.{row_ends}
-use Rattle.ir_reader.proofs.Kept.{counted_none}
+use Rattle.ir_model.proofs.NoExcess.{counted_none}
 use Rattle.ir_reader.proofs.Separated.{read_more, read_closed, spell_types}
 use Rattle.ir_reader.proofs.types.+types.Goals as goal
 

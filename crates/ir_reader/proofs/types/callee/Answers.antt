@@ -1,6 +1,6 @@
 use Rattle.std.proofs.Common.{rules}
 use Rattle.ir_model.specs.declared.types.Ty as code
-use Rattle.ir_reader.proofs.Rows.{rows}
+use Rattle.ir_model.proofs.SameTypes.{rows}
 use Rattle.ir_reader.proofs.types.callee.Goals as goal
 
 pub returns : goal.returns

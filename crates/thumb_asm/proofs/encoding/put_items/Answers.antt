@@ -1,8 +1,9 @@
 use Rattle.std.proofs.Common.{drop, ap, arith}
+use Rattle.std.proofs.lemmas.List.{drop_more}
 use Rattle.thumb_model.specs.declared.table.Instr.TheVariants.{ShiftImmediate}
 use Rattle.thumb_asm.specs.declared.item.Item.TheVariants.{Plain}
 use Rattle.thumb_asm.specs.Assembly.{Assembly, total}
-use Rattle.thumb_asm.proofs.Reaching.{goes, piece_at, put_piece, next_piece, even_so_far}
+use Rattle.thumb_asm.proofs.Reaching.{goes, piece_at, put_piece, even_so_far}
 use Rattle.thumb_asm.proofs.encoding.put_items.Goals as goal
 
 pub put_item-requires-clause-item : goal.put_item-requires-clause-item
@@ -16,5 +17,5 @@ put_item-requires-clause-put c =
 
 pub put_item-requires-clause-at : goal.put_item-requires-clause-at
 put_item-requires-clause-at c =
-    let e = ap total (next_piece c.args.items.now c.loop-item.item-index (Plain (ShiftImmediate 0 0 0 0)) c.loop-item-test.true) in
+    let e = ap total (drop_more c.args.items.now c.loop-item.item-index (Plain (ShiftImmediate 0 0 0 0)) c.loop-item-test.true) in
     omega (arith, c.requires.whole.room, c.loop-item.invariant.room, e)

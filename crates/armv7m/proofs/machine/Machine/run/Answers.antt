@@ -1,9 +1,10 @@
 use Rattle.std.proofs.Common.{ℕ, suc, ◌-◌, true, false, subst, sym, ◌∙◌, arith, of_calls}
 use Rattle.std.specs.Fn.{CalledAt}
+use Rattle.std.proofs.lemmas.Fn.{called_at}
 use Rattle.armv7m.specs.declared.state.End.TheVariants.{Refused, Limit}
 use Rattle.armv7m.specs.Parts.{state_of}
 use Rattle.armv7m.specs.Machine.{MachineState, IsRun}
-use Rattle.armv7m.proofs.MachineRuns.{run_quiet, run_told, run_refused, run_ended, run_over, run_out, called_with}
+use Rattle.armv7m.proofs.MachineRuns.{run_quiet, run_told, run_refused, run_ended, run_over, run_out}
 use Rattle.armv7m.proofs.machine.Machine.run.Goals as goal
 use Rattle.armv7m.proofs.machine.Machine.run.Goals.{in-Ran, in-Event+else-not-each, in-Some, in-None}
 
@@ -13,7 +14,7 @@ returns-then-not-each g c =
     let rest : ℕ = c.args.n - suc c.loop-step._step in
     c.loop-step.invariant.1 (suc rest) c.step.new.self c.each.new.self Refused (omega arith)
     (rw c.step.ensures.state (run_refused (CalledAt g.G.FnMut) rest m c.in-Event.event c.loop-step.each c.each.new.self (sym c.in-Event.is ∙ c.step.ensures.answer)
-    (called_with g.G.FnMut _ _ _ false _ c.each.ensures c.if-not-each.true)))
+    (called_at g.G.FnMut c.each.ensures c.if-not-each.true)))
 
 pub returns-in-Ended : goal.returns-in-Ended
 returns-in-Ended g c =
@@ -36,7 +37,7 @@ loop-step-preserved g c =
         rw w.each-is (search of_calls),
         λ rest new last e h r. c.loop-step.invariant.1 (suc rest) new last e (omega arith)
             (run_told (CalledAt g.G.FnMut) rest m new w.in-Event.event c.loop-step.each w.each.new.self last e (sym w.in-Event.is ∙ c.step.ensures.answer)
-            (called_with g.G.FnMut _ _ _ true _ w.each.ensures w.if-not-each.false)
+            (called_at g.G.FnMut w.each.ensures w.if-not-each.false)
             (rw (c.step.ensures.state, w.each-is) at r)),
       )
     ]

@@ -1,6 +1,7 @@
 use Rattle.std.proofs.Common.{◌+◌, take}
 use Rattle.ir_model.specs.Types.{type_of}
-use Rattle.layouts.proofs.Weights.{arrays, structs_weight}
+use Rattle.ir_model.proofs.Arrays.{arrays}
+use Rattle.layouts.proofs.Weights.{structs_weight}
 use Rattle.layouts.proofs.table.Layouts.+number_below.Given as goal
 
 abbrev pub decreases-number_below : goal.decreases-number_below

@@ -1,9 +1,9 @@
 use Rattle.std.proofs.Common.{◌≡◌, ap, sym, map, take, drop, ◌∙◌, arith, length, List, get_or, ◌+◌, ◌-◌, ◌++◌}
 use Rattle.ir_model.specs.Types.{Array, type_of}
 use Rattle.ir_model.specs.Plain.{struct_of}
+use Rattle.ir_model.proofs.Arrays.{arrays}
 use Rattle.layouts.specs.declared.table.Field.{Field}
 use Rattle.layouts.specs.Cells.{lent_types}
-use Rattle.layouts.proofs.Weights.{arrays}
 use Rattle.layouts.proofs.Walks.{walk_falls}
 use Rattle.layouts.proofs.Rows.{repeated, row_of, fields_row, at_most, row_start, row_more, row_full, row_array, row_no_cells, row_step, row_rest, row_struct, row_fields, fields_rest, field_step}
 use Rattle.layouts.proofs.table.Layouts.+put_types_below.Goals as goal

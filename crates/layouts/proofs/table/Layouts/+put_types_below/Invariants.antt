@@ -1,8 +1,9 @@
 use Rattle.std.proofs.Common.{◌≡◌, ◌+◌, ◌++◌, map, take}
 use Rattle.ir_model.specs.Types.{type_of}
 use Rattle.ir_model.specs.Plain.{struct_of}
+use Rattle.ir_model.proofs.Arrays.{arrays}
 use Rattle.layouts.specs.Cells.{lent_types}
-use Rattle.layouts.proofs.Weights.{arrays, structs_weight}
+use Rattle.layouts.proofs.Weights.{structs_weight}
 use Rattle.layouts.proofs.Rows.{repeated, row_of, fields_row}
 use Rattle.layouts.proofs.table.Layouts.+put_types_below.Given as goal
 
