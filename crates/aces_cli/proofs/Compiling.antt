@@ -4,7 +4,7 @@ use Rattle.ir_model.specs.Plain.{PlainFirmware}
 use Rattle.straight_text.specs.StraightTexts.{IsStraightText, IsNoStraightText}
 use Rattle.device_model.specs.declared.image.Image.{Image}
 use Rattle.image.specs.Text.{IsText}
-use Rattle.simulate.specs.Refines.{Refines}
+use Rattle.straight.specs.Refines.{Refines}
 use Rattle.straight.specs.Image.{image_of}
 use Rattle.ir_resolve.specs.Windows.{window_of}
 use Rattle.aces_cli.specs.declared.failure.Fault.TheVariants.{NotInForm}

@@ -1,26 +1,11 @@
 -- The decimal digits of a number, from the last on.
-use Rattle.std.proofs.Common.{◌≡◌, ◌≢◌, ◌↔◌, ℕ, suc, ◌+◌, ◌-◌, ◌/◌, ◌%◌, ◌<◌, ◌≤◌, ◌^◌, List, [], ◌∷◌, ◌++◌, length, get_or, take, refl, ap, sym, ◌∙◌, arith, length-append, append-nil, Bool, true}
+use Rattle.std.proofs.Common.{◌≡◌, ◌≢◌, ◌↔◌, ℕ, ◌+◌, ◌-◌, ◌/◌, ◌%◌, ◌<◌, ◌≤◌, ◌^◌, List, [], ◌∷◌, ◌++◌, length, get_or, take, refl, ap, sym, ◌∙◌, arith, append-nil, Bool, true}
 use Rattle.std.specs.Prelude.{◌==◌}
 use Rattle.std.proofs.lemmas.Bool.Decides.{nat_tests}
 use Rattle.std.proofs.lemmas.Grind.{take_at_read}
-use Rattle.std.proofs.lemmas.List.{take_at}
+use Rattle.std.proofs.lemmas.List.{take_at, same_from_push}
 use Rattle.std.specs.Fmt.{decimal}
 use Rattle.std.proofs.lemmas.Fmt.{decimal_digit, decimal_step, decimal_by_steps, decimal_nonempty}
-
--- what stands before the last of a list, and the last
-last_apart : (xs ys : List ℕ) (a b : ℕ) → xs ++ a ∷ [] ≡ ys ++ b ∷ [] → (xs ≡ ys) × (a ≡ b)
-last_apart [] [] a b h = (refl, let e : a ≡ b = cc in e)
-last_apart [] (y ∷ ys) a b h =
-    let e = ap length h ∙ ap suc (length-append ys (b ∷ [])) in
-    let f : ⊥ = omega (arith, e) in absurd f
-last_apart (x ∷ xs) [] a b h =
-    let e = sym (ap length h) ∙ ap suc (length-append xs (a ∷ [])) in
-    let f : ⊥ = omega (arith, ap length h, length-append xs (a ∷ [])) in absurd f
-last_apart (x ∷ xs) (y ∷ ys) a b h =
-    let p : x ≡ y = cc in
-    let q : xs ++ a ∷ [] ≡ ys ++ b ∷ [] = cc in
-    let r = last_apart xs ys a b q in
-    (ap (λ z. z ∷ xs) p ∙ ap (λ z. y ∷ z) r.0, r.1)
 
 -- every number has a last digit
 pub last_digit : (n : ℕ) → n < 2 ^ 32 → (front : List ℕ) × (decimal n ≡ front ++ (48 + n % 10) ∷ [])
@@ -46,7 +31,7 @@ not_empty ds n h k e = omega (arith, ap length e, decimal_nonempty n (omega arit
 module _ (ds : List ℕ) (n : ℕ) (some : 1 ≤ length ds) (small : n < 2 ^ 32) where
   -- another last digit is another number
   pub other_last : get_or ds (length ds - 1) 0 ≢ 48 + n % 10 → ds ≡ decimal n → ⊥
-  other_last k e = let d = last_digit n small in k (last_apart (take (length ds - 1) ds) d.0 (get_or ds (length ds - 1) 0) (48 + n % 10) (sym (split_last ds some) ∙ e ∙ d.1)).1
+  other_last k e = let d = last_digit n small in k (same_from_push (take (length ds - 1) ds) d.0 (get_or ds (length ds - 1) 0) (48 + n % 10) (sym (split_last ds some) ∙ e ∙ d.1)).1
 
   same_last : get_or ds (length ds - 1) 0 ≡ 48 + n % 10 → ds ≡ take (length ds - 1) ds ++ (48 + n % 10) ∷ []
   same_last h = split_last ds some ∙ ap (λ d. take (length ds - 1) ds ++ d ∷ []) h
@@ -55,12 +40,12 @@ module _ (ds : List ℕ) (n : ℕ) (some : 1 ≤ length ds) (small : n < 2 ^ 32)
   one_digit b h k q =
       let one : decimal n ≡ [] ++ (48 + n % 10) ∷ [] = let e : n % 10 ≡ n = omega arith in decimal_digit n k ∙ sym (ap (λ d. (48 + d) ∷ []) e) in (
         λ t. same_last h ∙ ap (λ x. x ++ (48 + n % 10) ∷ []) (no_items (take (length ds - 1) ds) (sym q ∙ t)) ∙ sym one,
-        λ e. q ∙ ap (λ (x : List ℕ). length x == 0) (last_apart (take (length ds - 1) ds) [] (48 + n % 10) (48 + n % 10) (sym (same_last h) ∙ e ∙ one)).0,
+        λ e. q ∙ ap (λ (x : List ℕ). length x == 0) (same_from_push (take (length ds - 1) ds) [] (48 + n % 10) (48 + n % 10) (sym (same_last h) ∙ e ∙ one)).0,
       )
 
   pub more_digits : (b : Bool) → get_or ds (length ds - 1) 0 ≡ 48 + n % 10 → 10 ≤ n → (b ≡ true) ↔ (take (length ds - 1) ds ≡ decimal (n / 10)) → (b ≡ true) ↔ (ds ≡ decimal n)
   more_digits b h k q =
       let s = decimal_step n k (omega arith) in (
         λ t. same_last h ∙ ap (λ x. x ++ (48 + n % 10) ∷ []) (q.0 t) ∙ sym s,
-        λ e. q.1 (last_apart (take (length ds - 1) ds) (decimal (n / 10)) (48 + n % 10) (48 + n % 10) (sym (same_last h) ∙ e ∙ s)).0,
+        λ e. q.1 (same_from_push (take (length ds - 1) ds) (decimal (n / 10)) (48 + n % 10) (48 + n % 10) (sym (same_last h) ∙ e ∙ s)).0,
       )

@@ -1,5 +1,5 @@
 -- How commands end, by what their steps answered.
-use Rattle.std.proofs.Common.{◌≡◌, ◌≢◌, ℕ, inl, inr, List, [], Ok, Err, Result, OnErr, IsErrAnd, IsTrue, IsNone, refl, ap, sym, subst}
+use Rattle.std.proofs.Common.{◌≡◌, ◌≢◌, ℕ, inl, inr, List, [], Ok, Err, Result, OnErr, IsTrue, IsNone, ap, sym, subst}
 use Rattle.aces_cli.specs.declared.failure.Done.{Done}
 use Rattle.aces_cli.specs.declared.failure.Done.TheVariants.{Well, Badly}
 use Rattle.aces_cli.specs.declared.failure.Fault.{Fault}
@@ -15,11 +15,6 @@ use Rattle.ir_model.specs.Plain.{PlainFirmware}
 use Rattle.straight_text.specs.StraightTexts.{IsStraightText, IsNoStraightText}
 use Rattle.aces_cli.specs.Compiled.{board_text}
 use Rattle.aces_cli.specs.CompileFailures.{IsCompileFailure}
-
--- a result that is an error of this kind
-pub err_of : {T E : Type 0} (r : Result T E) (P : E → Type 0) → IsErrAnd r P → (e : E) × (r ≡ Err e) × P e
-err_of (Ok x) P h = absurd h
-err_of (Err e) P h = (e, refl, h)
 
 -- where nothing was printed, no more than a part was
 nothing_printed : (A : Outcome → Type 0) (r : Request) (old new : World) → new.out ≡ old.out → IsPrintedInPart A r old new r

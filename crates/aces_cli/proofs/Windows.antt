@@ -1,8 +1,6 @@
 -- Each event of a machine is one of a window, and the names of windows are short.
-use Rattle.std.specs.Prelude.{IsTrue, ◌&&◌, not, nat_le}
-use Rattle.std.proofs.Common.{◌≡◌, ℕ, zero, suc, ◌+◌, ◌-◌, ◌<◌, ◌≤◌, ◌⊎◌, inl, inr, Bool, true, false, List, [], ◌∷◌, length, Some, refl, arith}
-use Rattle.std.proofs.lemmas.Bool.Decides.{nat_tests}
-use Rattle.names.specs.Names.{is_name, is_word, is_reserved}
+use Rattle.std.proofs.Common.{◌≡◌, ℕ, zero, suc, ◌+◌, ◌-◌, ◌<◌, ◌≤◌, ◌⊎◌, inl, inr, Bool, true, false, List, [], ◌∷◌, length, Some, arith}
+use Rattle.names.proofs.Lengths.{name_lengths}
 use Rattle.device_model.specs.declared.image.Image.{Image}
 use Rattle.device_model.specs.declared.image.Window.{Window}
 use Rattle.device_model.specs.declared.event.Event.{Event}
@@ -50,23 +48,9 @@ event_known law i s e h =
     let x = some_of (λ (x : Touched). (x.width ≡ e.width) × (place i x.address ≡ InWindow e.periph e.offset)) (choose e.write t.stores t.loads) (law by_mpu i s e h) in
     placed_window i x.0.address e.periph e.offset x.1.1
 
-both_true : (a b : Bool) → a && b ≡ true → b ≡ true
-both_true true b h = h
-both_true false b h = let f : ⊥ = cc in absurd f
-
-first_true : (a b : Bool) → a && b ≡ true → a ≡ true
-first_true true b h = refl
-first_true false b h = cc
-
-name_short : (name : List ℕ) → IsTrue (is_name name) → length name ≤ 64
-unfolding is_name
-name_short name h =
-    let p : nat_le (length name) 64 ≡ true = first_true (nat_le (length name) 64) (not (is_reserved name)) (both_true (is_word name) (nat_le (length name) 64 && not (is_reserved name)) h) in
-    grind (arith, nat_tests)
-
 short_at : (ws : List Window) (k : ℕ) → AreWindows ws → length (name_of ws k) ≤ 64
 short_at [] k h = let e : 0 ≤ 64 = omega arith in e
-short_at (w ∷ ws) zero h = name_short w.name h.0.named
+short_at (w ∷ ws) zero h = (name_lengths w.name h.0.named).1
 short_at (w ∷ ws) (suc k) h = short_at ws k h.2
 
 -- and the window's name has at most 64 bytes

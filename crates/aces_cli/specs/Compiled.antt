@@ -3,7 +3,7 @@ use Rattle.std.specs.Prelude.{◌≡◌, ℕ, List, [], ◌∷◌, ◌++◌, map
 use Rattle.device_model.specs.declared.image.Image.{Image}
 use Rattle.image.specs.Text.{IsText}
 use Rattle.ir_model.specs.Plain.{PlainFirmware}
-use Rattle.simulate.specs.Refines.{Refines}
+use Rattle.straight.specs.Refines.{Refines}
 use Rattle.ir_resolve.specs.Windows.{window_of}
 use Rattle.straight_text.specs.StraightTexts.{IsStraightText}
 

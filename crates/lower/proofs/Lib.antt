@@ -1,6 +1,8 @@
-mod Joined
-mod Effects
 mod Frames
-mod Tables
-pub mod Written
-mod Clearing
+mod Totals
+mod PieceSizes
+mod FunctionSizes
+mod Even
+pub mod Pieces
+mod Compartments
+mod Sites

@@ -1,4 +1,14 @@
+pub mod FrameShape
+pub mod Places
+pub mod Words
+pub mod Numbers
+pub mod Comparisons
+pub mod Addresses
+pub mod Calls
+pub mod Entry
 pub mod Templates
-pub mod Points
-pub mod Effects
-pub mod Emitted
+pub mod Sizes
+pub mod FunctionCode
+pub mod CompartmentCode
+pub mod Laws
+pub mod Planned

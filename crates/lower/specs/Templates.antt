@@ -1,70 +1,55 @@
--- The code of a function: the machine's instructions for each instruction of the firmware language. Register k of the
--- function stands at SP + 4 k; r0, r1 and r2 are used. So far there is code for numbers, addresses of peripherals,
--- elements, loads and stores.
-use Rattle.std.specs.Prelude.{ℕ, zero, suc, ◌-◌, ◌/◌, ◌%◌, ◌^◌, List, [], ◌∷◌, ◌++◌, nat_le, if◌then◌else◌}
-use Rattle.std.proofs.Math.ListN.{get_or}
+-- The code of each instruction and of each block's end, as pieces of an assembly. Block b of the function is label first + b.
+use Rattle.std.specs.Prelude.{ℕ, ◌+◌, pos, List, [], ◌∷◌, ◌++◌, Option}
 use Rattle.thumb_model.specs.declared.table.Instr.{Instr}
-use Rattle.thumb_model.specs.declared.table.Instr.TheVariants.{AddSubRegister, DataImmediate, DataRegister, TransferImmediate, StackRelative, AdjustStack, PushPop, MoveWide, MoveTop}
-use Rattle.ir_model.specs.Types.{PlainType, U8, U16}
-use Rattle.ir_model.specs.Resolved.{NumberedInst, Const, Addr, Elem, Load, Store, ThePeriph}
+use Rattle.thumb_model.specs.declared.table.Instr.TheVariants.{DataImmediate, BranchConditional}
+use Rattle.thumb_asm.specs.declared.item.BranchKind.TheVariants.{Long}
+use Rattle.thumb_asm.specs.declared.item.Label.{Label}
+use Rattle.thumb_asm.specs.declared.item.Item.{Item}
+use Rattle.thumb_asm.specs.declared.item.Item.TheVariants.{Branch}
+use Rattle.ir_model.specs.Resolved as ir
+use Rattle.ir_model.specs.Resolved.{NumberedInst, NumberedTerm, NumberedFunc}
+use Rattle.ir_model.specs.Signatures.{row_length}
+use Rattle.lower.specs.declared.places.Places.{Places}
+use Rattle.lower.specs.FrameShape.{frame_shape}
+use Rattle.lower.specs.Places.{Lend, entry_address, lends_among}
+use Rattle.lower.specs.Words.{load_slot, plain}
+use Rattle.lower.specs.Numbers.{const_code, move_code, bin_code}
+use Rattle.lower.specs.Comparisons.{cmp_code}
+use Rattle.lower.specs.Addresses.{addr_code, faddr_code, elem_code, field_code, load_code, store_code}
+use Rattle.lower.specs.Calls.{call_items, icall_items}
+use Rattle.lower.specs.Entry.{enter_code, leave_code}
 
--- LDR t, [SP, #4 k]
-abbrev pub from_slot : (t k : ℕ) → Instr
-from_slot t k = StackRelative 1 t 0 k
+-- the lent locals of a function
+abbrev pub lends_of : NumberedFunc → Places → List Lend
+lends_of g q = lends_among (frame_shape g).starts q.lends
 
--- STR r0, [SP, #4 k]
-abbrev pub to_slot : (k : ℕ) → Instr
-to_slot k = StackRelative 0 0 0 k
+abbrev pub entry_items : NumberedFunc → Places → List Item
+entry_items g q = plain (enter_code (row_length g.params) (frame_shape g).words (lends_of g q))
 
--- a number into a register: MOVW and MOVT
-abbrev pub number_into : (d n : ℕ) → List Instr
-number_into d n = MoveWide d (n % 2 ^ 16) ∷ MoveTop d (n / 2 ^ 16) ∷ []
+-- an instruction at an address; `site` is the site of a call that may go to another compartment
+unfoldable pub inst_items : NumberedFunc → Places → (at : ℕ) → (site : Option ℕ) → NumberedInst → List Item
+inst_items g q at s (ir.Const to v) = plain (const_code to v)
+inst_items g q at s (ir.Move to from) = plain (move_code to from)
+inst_items g q at s (ir.Bin op to a b) = plain (bin_code op to a b)
+inst_items g q at s (ir.Cmp op to a b) = plain (cmp_code op to a b)
+inst_items g q at s (ir.Addr to of) = plain (addr_code (frame_shape g) q to of)
+inst_items g q at s (ir.FAddr to f) = plain (faddr_code q to f)
+inst_items g q at s (ir.Elem to base index size) = plain (elem_code to base index size)
+inst_items g q at s (ir.Field to base offset) = plain (field_code to base offset)
+inst_items g q at s (ir.Load to from t) = plain (load_code to from t)
+inst_items g q at s (ir.Store to from t) = plain (store_code to from t)
+inst_items g q at s (ir.Call to f args) = call_items at (entry_address q f) s to args
+inst_items g q at s (ir.ICall to h args) = icall_items s to h args
 
--- LDRB, LDRH or LDR r0, [r1, #0]
-abbrev pub load_code : PlainType → Instr
-load_code U8 = TransferImmediate 3 0 1 0
-load_code U16 = TransferImmediate 5 0 1 0
-load_code _ = TransferImmediate 1 0 1 0
+-- B T4
+abbrev pub jump_items : (first block : ℕ) → List Item
+jump_items first b = let l : Label = record { number = first + b } in Branch Long l ∷ []
 
--- STRB, STRH or STR r0, [r1, #0]
-abbrev pub store_code : PlainType → Instr
-store_code U8 = TransferImmediate 2 0 1 0
-store_code U16 = TransferImmediate 4 0 1 0
-store_code _ = TransferImmediate 0 0 1 0
+-- LDR r0; CMP r0, #0; BEQ over the next branch
+abbrev pub test_code : (on : ℕ) → List Instr
+test_code on = load_slot 0 on ∷ DataImmediate 1 0 0 ∷ BranchConditional 0 (pos 2) ∷ []
 
--- no object is larger than 65,536 bytes, so no pointer to a larger element is ever other than null
-abbrev pub scale_of : (size : ℕ) → ℕ
-scale_of n = if nat_le n 65536 then n else 0
-
--- `windows` has the first address of each peripheral
-unfoldable pub inst_code : (windows : List ℕ) → NumberedInst → List Instr
-inst_code ws (Const to v) = number_into 0 v ++ to_slot to ∷ []
-inst_code ws (Addr to (ThePeriph q)) = number_into 0 (get_or ws q 0) ++ to_slot to ∷ []
--- MULS r1, r2; ADDS r0, r0, r1
-inst_code ws (Elem to base index size) =
-    (from_slot 0 base ∷ from_slot 1 index ∷ number_into 2 (scale_of size)) ++ DataRegister 13 2 1 ∷ AddSubRegister 0 1 0 0 ∷ to_slot to ∷ []
-inst_code ws (Load to from t) = from_slot 1 from ∷ load_code t ∷ to_slot to ∷ []
-inst_code ws (Store to from t) = from_slot 1 to ∷ from_slot 0 from ∷ store_code t ∷ []
-inst_code ws _ = []
-
-abbrev pub insts_code : (windows : List ℕ) → List NumberedInst → List Instr
-insts_code ws [] = []
-insts_code ws (i ∷ is) = inst_code ws i ++ insts_code ws is
-
--- the words of a frame of so many bytes that lie below the return address
-abbrev pub words_below_return : (frame : ℕ) → ℕ
-words_below_return n = (n - 4) / 4
-
--- r0 into so many words from this one on
-abbrev pub clear_code : (count from : ℕ) → List Instr
-clear_code zero k = []
-clear_code (suc n) k = to_slot k ∷ clear_code n (suc k)
-
--- PUSH {lr}; SUB SP, #4 n; MOVS r0, #0; and every word of the frame below the return address is cleared. For a function
--- without parameters whose frame has at most 512 bytes.
-abbrev pub entry_code : (words : ℕ) → List Instr
-entry_code n = PushPop 0 1 0 0 ∷ AdjustStack 1 n ∷ DataImmediate 0 0 0 ∷ clear_code n 0
-
--- ADD SP, #4 n; POP {pc}
-abbrev pub return_code : (words : ℕ) → List Instr
-return_code n = AdjustStack 0 n ∷ PushPop 1 0 1 0 ∷ []
+unfoldable pub term_items : NumberedFunc → Places → (first : ℕ) → NumberedTerm → List Item
+term_items g q first (ir.Jump b) = jump_items first b
+term_items g q first (ir.Branch on a b) = plain (test_code on) ++ (jump_items first a ++ jump_items first b)
+term_items g q first (ir.Ret r) = plain (leave_code (frame_shape g).words (lends_of g q) r)

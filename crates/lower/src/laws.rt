@@ -1,38 +1,29 @@
-//! What generated code does. Each function is a law and does nothing.
+//! Laws of the definitions: functions that do nothing, whose contract is the law.
 
-ghost use Rattle.std.specs.Prelude.{◌≡◌, ℕ, List, ◌++◌, length};
-ghost use Rattle.thumb_model.specs.declared.table.Instr.{Instr};
-ghost use Rattle.device_model.specs.declared.image.Image.{Image};
-ghost use Rattle.armv7m.specs.State.{Judge};
-ghost use Rattle.thumb_model.specs.Bytes.{code_bytes};
-ghost use Rattle.armv7m.specs.Running.{code_size};
-ghost use Rattle.armv7m.specs.Working.{Context};
-ghost use Rattle.lower.specs.Points.{Point};
-ghost use Rattle.lower.specs.Effects.{InstEffects, EntryWorks, ReturnWorks, RunsJoin, CodeIsInTable};
+ghost use Rattle.lower.specs.Laws.{FramesAgree, SizesHold, SizesAreEven, PiecesStand, CompartmentsHold, SitesAgree};
 
-/// The code of each instruction, where it stands at the program counter, does what the instruction means for the frame.
-pub fn instructions()
-    ensures { (j : Judge) (i : Image) (x : Context) (windows : List ℕ) (p : Point) (o n : ℕ) → InstEffects j i x windows p o n }
-{}
-
-/// The entry of a function clears its frame, and the return goes back behind the call.
+/// The frame of a function by numbers is its frame by names.
 pub fn frames()
-    ensures entry { EntryWorks }
-    ensures leave { ReturnWorks }
+    ensures { FramesAgree }
 {}
 
-/// One run behind another.
-pub fn runs()
-    ensures { RunsJoin }
+/// The code of each instruction, block's end, entry and function has the size that is told without addresses.
+pub fn sizes()
+    ensures hold { SizesHold }
+    ensures even { SizesAreEven }
 {}
 
-/// The code stands in the instruction table.
-pub fn tables()
-    ensures { CodeIsInTable }
+/// The code of a place stands in the function's code at the place's offset.
+pub fn pieces()
+    ensures { PiecesStand }
 {}
 
-/// The bytes of code are those of its parts, and as many as the sizes of its instructions.
-pub fn bytes()
-    ensures join { (xs ys : List Instr) → code_bytes (xs ++ ys) ≡ code_bytes xs ++ code_bytes ys }
-    ensures count { (xs : List Instr) → length (code_bytes xs) ≡ code_size xs }
+/// The code of a compartment has its size, and entries stand at multiples of four.
+pub fn compartments()
+    ensures { CompartmentsHold }
+{}
+
+/// A call's site in a function's code is the crossing site that stands there.
+pub fn sites()
+    ensures { SitesAgree }
 {}

@@ -1,7 +1,7 @@
-//! The code of functions: the machine's instructions for each instruction of the firmware language.
+//! The code of functions: as definitions, of each instruction, of a whole function, and of a compartment.
 #![tactic(auto)]
 
-pub mod bytes;
-pub mod insts;
 pub mod laws;
-pub mod templates;
+pub mod places;
+
+pub use places::{CallSite, Places};

@@ -1,2 +1,2 @@
+pub mod StackLimit
 pub mod Refines
-pub mod Simulation

@@ -1,4 +1,2 @@
-//! How an image and a firmware belong together: the image refines the firmware, by a simulation.
+//! What it means that an image refines a firmware.
 #![tactic(auto)]
-
-pub mod laws;

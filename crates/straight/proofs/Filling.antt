@@ -13,10 +13,10 @@ use Rattle.ir_model.specs.declared.firmware.Inst.{Inst}
 use Rattle.ir_model.specs.declared.firmware.Slot.{Slot}
 use Rattle.ir_model.specs.declared.firmware.Peripheral.{Peripheral}
 use Rattle.ir_model.specs.Plain.{PlainSlot, slot_of}
-use Rattle.lower.specs.Templates.{inst_code, insts_code, entry_code, return_code}
+use Rattle.straight.specs.Templates.{inst_code, insts_code, entry_code, return_code}
 use Rattle.thumb_model.proofs.Codes.{code_bytes-append}
 use Rattle.armv7m.proofs.CodeParts.{length-code_bytes}
-use Rattle.lower.proofs.Written.{insts_bytes}
+use Rattle.straight.proofs.Written.{insts_bytes}
 use Rattle.straight.specs.Image.{bases_of, frame_words, main_code, start_code, vector_bytes, filled_up}
 use Rattle.straight.specs.Padded.{padded}
 use Rattle.straight.specs.Resolved.{resolved_in, flash_with}

@@ -24,11 +24,11 @@ use Rattle.ir_model.specs.Resolved.{Program, Value, NumberedInst, NumberedFunc, 
 use Rattle.ir_model.specs.State.{SourceState, SourceEnd, SourceTurn, Returned, OutOfInput, Faulted, Running, Ended, entered, frame_of, zero_local}
 use Rattle.ir_model.specs.State as source
 use Rattle.ir_model.specs.Step.{source_turn, turn_here, leave}
-use Rattle.simulate.specs.Refines.{EndsAlike}
-use Rattle.simulate.specs.Simulation.{Follows, Simulation}
-use Rattle.lower.specs.Templates.{entry_code, insts_code, return_code}
-use Rattle.lower.specs.Points.{Point, state_at}
-use Rattle.lower.specs.Effects.{InstEffects, EntryWorks, ReturnWorks, Entry, Entered}
+use Rattle.straight.specs.Refines.{EndsAlike}
+use Rattle.straight.specs.Simulation.{Follows, Simulation}
+use Rattle.straight.specs.Templates.{entry_code, insts_code, return_code}
+use Rattle.straight.specs.Points.{Point, state_at}
+use Rattle.straight.specs.Effects.{InstEffects, EntryWorks, ReturnWorks, Entry, Entered}
 use Rattle.straight.specs.Image.{main_code}
 use Rattle.straight.proofs.Values.{Fits, word_of, type_at, value_at, Held, entered_at, length-entered, zero_fits, zero_word}
 use Rattle.straight.proofs.Setup.{Setup, Stand, Pair, Both, Over, source_of, machine_of, alike, privileged, frame_at, memory_with, point_at, frame_offset, frame_sp, has_room, words_least, words_most, code_from}

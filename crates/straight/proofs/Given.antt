@@ -3,8 +3,8 @@ use Rattle.std.specs.Prelude.{ℕ, List}
 use Rattle.device_model.specs.declared.image.Image.{Image}
 use Rattle.armv7m.specs.State.{Judge}
 use Rattle.armv7m.specs.Working.{Context}
-use Rattle.lower.specs.Points.{Point}
-use Rattle.lower.specs.Effects.{InstEffects, EntryWorks, ReturnWorks, CodeIsInTable}
+use Rattle.straight.specs.Points.{Point}
+use Rattle.straight.specs.Effects.{InstEffects, EntryWorks, ReturnWorks, CodeIsInTable}
 
 pub record CodeWorks : Type 0 where
   pub effects : (j : Judge) (i : Image) (x : Context) (windows : List ℕ) (p : Point) (o n : ℕ) → InstEffects j i x windows p o n

@@ -16,3 +16,10 @@ mod Scales
 mod Positions
 mod Filling
 mod Parts
+mod Joined
+mod Effects
+mod Frames
+mod Tables
+mod Written
+mod Clearing
+mod Simulations

@@ -9,8 +9,8 @@ use Rattle.ir_model.specs.Plain.{PlainSlot, PlainFirmware}
 use Rattle.ir_model.specs.Resolve.{resolve}
 use Rattle.ir_model.specs.Typing.{IsTyped}
 use Rattle.ir_model.specs.Canonical.{Each, IsWithinLimits}
-use Rattle.simulate.specs.Refines.{Refines}
-use Rattle.simulate.proofs.Simulations.{matched}
+use Rattle.straight.specs.Refines.{Refines}
+use Rattle.straight.proofs.Simulations.{matched}
 use Rattle.straight.proofs.Given.{CodeWorks}
 use Rattle.straight.specs.Form.{IsStraight, is_straight}
 use Rattle.straight.specs.Image.{image_of}

@@ -1,7 +1,7 @@
 -- Scales of arrays.
 use Rattle.std.proofs.Common.{◌≡◌, ℕ, zero, suc, ◌*◌, ◌<◌, ◌≤◌, true, false, nat_le, refl, ap, arith, ◌⊎◌, inl, inr}
 use Rattle.std.proofs.lemmas.Bool.Decides.{nat_tests}
-use Rattle.lower.specs.Templates.{scale_of}
+use Rattle.straight.specs.Templates.{scale_of}
 
 small : (n : ℕ) → n ≤ 65536 → scale_of n ≡ n
 small n h = let e : nat_le n 65536 ≡ true = search (nat_tests, arith) in rw e refl

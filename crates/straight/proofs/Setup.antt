@@ -20,9 +20,9 @@ use Rattle.ir_model.specs.Resolved.{Program, Value, NumberedInst, NumberedFunc, 
 use Rattle.ir_model.specs.State.{SourceState, SourceEnd, Running, Ended, Frame, Memory}
 use Rattle.ir_model.specs.Step.{has_port}
 use Rattle.ir_model.specs.Canonical.{Each}
-use Rattle.simulate.specs.Refines.{EndsAlike}
-use Rattle.lower.specs.Templates.{inst_code, insts_code, return_code}
-use Rattle.lower.specs.Points.{Point, state_at}
+use Rattle.straight.specs.Refines.{EndsAlike}
+use Rattle.straight.specs.Templates.{inst_code, insts_code, return_code}
+use Rattle.straight.specs.Points.{Point, state_at}
 use Rattle.straight.specs.Image.{start_code, main_code, frame_words}
 use Rattle.straight.proofs.Values.{Good, Held}
 

@@ -16,8 +16,8 @@ use Rattle.thumb_model.proofs.Codes.{in_table-append}
 use Rattle.ir_model.specs.Types.{PlainType, U8, U16}
 use Rattle.ir_model.specs.Resolved.{NumberedInst, Const, Addr, Elem, Load, Store, ThePeriph}
 use Rattle.ir_model.specs.Canonical.{Each}
-use Rattle.lower.specs.Templates.{inst_code, insts_code, load_code, store_code, clear_code, entry_code, return_code}
-use Rattle.lower.specs.Effects.{CanHold, CodeIsInTable}
+use Rattle.straight.specs.Templates.{inst_code, insts_code, load_code, store_code, clear_code, entry_code, return_code}
+use Rattle.straight.specs.Effects.{CanHold, CodeIsInTable}
 use Rattle.straight.specs.Image.{start_code, filled_up, main_code, frame_words}
 use Rattle.straight.proofs.Values.{Good}
 use Rattle.straight.proofs.Setup.{words_most}

@@ -20,11 +20,11 @@ use Rattle.ir_model.specs.Resolved.{Program, Value, Number, Code, Null, At, OfGl
 use Rattle.ir_model.specs.State.{SourceTurn, OutOfInput}
 use Rattle.ir_model.specs.Step.{perform, act, with_pointer, Sets, Loads, Stores, number_in, has_port, load_port, store_port, take_input, cut_to}
 use Rattle.ir_model.specs.Canonical.{Each}
-use Rattle.simulate.specs.Refines.{HasFault}
-use Rattle.simulate.specs.Simulation.{Follows}
-use Rattle.lower.specs.Templates.{inst_code, scale_of}
-use Rattle.lower.specs.Points.{Point}
-use Rattle.lower.specs.Effects.{InstEffects, IsPort, HasFrame}
+use Rattle.straight.specs.Refines.{HasFault}
+use Rattle.straight.specs.Simulation.{Follows}
+use Rattle.straight.specs.Templates.{inst_code, scale_of}
+use Rattle.straight.specs.Points.{Point}
+use Rattle.straight.specs.Effects.{InstEffects, IsPort, HasFrame}
 use Rattle.armv7m.proofs.CodeParts.{code_at-append}
 use Rattle.straight.specs.Image.{frame_words}
 use Rattle.straight.proofs.Values.{Fits, word_of, type_at, value_at, Good, Held, held_set, number_is, cut_number, cut_fits, element_word}

@@ -35,7 +35,7 @@ use Rattle.straight.proofs.Ports.{base_below, leading}
 use Rattle.armv7m.proofs.CodeParts.{code_size-append, length-code_bytes}
 use Rattle.straight.proofs.Sizes.{main_size, filled_size, code_in_table}
 use Rattle.straight.proofs.Setup.{Setup, straight_func, privileged, may_fetch}
-use Rattle.lower.specs.Effects.{CodeIsInTable}
+use Rattle.straight.specs.Effects.{CodeIsInTable}
 
 fetch_place : (a : ℕ) → a < 0x40000000 → is_fetch_place a ≡ true
 fetch_place a h = let t : nat_lt a 0x40000000 ≡ true = search (nat_tests, arith) in rw t refl

@@ -3,7 +3,7 @@ use Rattle.std.proofs.Common.{◌≡◌, ◌≢◌, ℕ, zero, suc, ◌+◌, ◌
 use Rattle.std.specs.Prelude.{IsTrue, map, if◌then◌else◌, bytes_eq}
 use Rattle.std.specs.List.{list_any}
 use Rattle.std.proofs.Math.Nat.{pow-suc}
-use Rattle.std.proofs.lemmas.Bool.{and_parts}
+use Rattle.std.proofs.lemmas.Bool.{and_parts, or_parts, not-true}
 use Rattle.std.proofs.lemmas.Bool.Decides.{nat_tests}
 use Rattle.std.proofs.lemmas.Slice.Eq.{bytes_eq-Decides}
 use Rattle.names.specs.Names.{is_name}
@@ -90,10 +90,6 @@ named_among q (x ∷ es) n (inr h) e = named_by (bytes_eq x.name n) es n (inr (n
 names_differ : (q x : Peripheral) (es : List Peripheral) → Among q es → not (has (map (λ (e : Peripheral). e.name) es) x.name) ≡ true → q.name ≢ x.name
 names_differ q x es h t e = let d : has (map (λ (e : Peripheral). e.name) es) x.name ≡ true = named_among q es x.name h e in let f : not true ≡ true = rw d at t in cc
 
-neither : (a b : Bool) → not (a || b) ≡ true → (a ≡ false) × (not b ≡ true)
-neither true b h = cc
-neither false b h = (refl, h)
-
 apart_by : (a b c d : ℕ) (s t : Bool) → nat_lt a b ≡ s → nat_lt c d ≡ t → (s && t) ≡ false → (b ≤ a) ⊎ (d ≤ c)
 apart_by a b c d true true e f h = cc
 apart_by a b c d false t e f h = inl (grind (arith, nat_tests))
@@ -102,10 +98,10 @@ apart_by a b c d true false e f h = inr (grind (arith, nat_tests))
 apart_among : (q x : Peripheral) (es : List Peripheral) → Among q es → not (list_any (overlaps x) es) ≡ true → AreApart q.base q.size x.base x.size
 apart_among q x [] h t = absurd h
 apart_among q x (e ∷ es) (inl h) t =
-    let n = neither (overlaps x e) (list_any (overlaps x) es) t in
+    let n = or_parts (overlaps x e) (list_any (overlaps x) es) (not-true _ t) in
     let a = apart_by x.base (e.base + e.size) e.base (x.base + x.size) (nat_lt x.base (e.base + e.size)) (nat_lt e.base (x.base + x.size)) refl refl n.0 in
     subst (λ (p : Peripheral). AreApart p.base p.size x.base x.size) (sym h) a
-apart_among q x (e ∷ es) (inr h) t = apart_among q x es h (neither (overlaps x e) (list_any (overlaps x) es) t).1
+apart_among q x (e ∷ es) (inr h) t = apart_among q x es h (ap not (or_parts (overlaps x e) (list_any (overlaps x) es) (not-true _ t)).1)
 
 -- what is checked of a peripheral
 record Checked (es : List Peripheral) (q : Peripheral) (qs : List Peripheral) : Type 0 where

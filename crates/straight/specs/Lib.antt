@@ -3,3 +3,9 @@ pub mod FormTest
 pub mod Image
 pub mod Resolved
 pub mod Padded
+pub mod Templates
+pub mod Points
+pub mod Effects
+pub mod Emitted
+pub mod Refines
+pub mod Simulation

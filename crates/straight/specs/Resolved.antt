@@ -7,9 +7,9 @@ use Rattle.ir_model.specs.Types.{nothing}
 use Rattle.ir_model.specs.Plain.{PlainSlot, PlainFunc}
 use Rattle.ir_model.specs.Resolved.{NumberedInst}
 use Rattle.ir_model.specs.Resolve.{Scope, main_name, resolved_inst}
-use Rattle.lower.specs.declared.insts.StraightInst.{StraightInst}
-use Rattle.lower.specs.Emitted.{numbered}
-use Rattle.lower.specs.Templates.{inst_code}
+use Rattle.straight.specs.declared.insts.StraightInst.{StraightInst}
+use Rattle.straight.specs.Emitted.{numbered}
+use Rattle.straight.specs.Templates.{inst_code}
 use Rattle.straight.specs.Image.{bases_of, periph_names, flash_of}
 
 -- the names that a straight `main` can mean: its registers, and the peripherals

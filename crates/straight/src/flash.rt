@@ -4,18 +4,18 @@ ghost use Rattle.std.specs.Prelude.{◌≡◌, ◌<◌, ◌≤◌, ◌^◌, ◌+
 ghost use Rattle.std.specs.List.{flat_map};
 ghost use Rattle.ir_model.specs.Plain.{slot_of};
 ghost use Rattle.thumb_model.specs.Bytes.{code_bytes};
-ghost use Rattle.lower.specs.Templates.{inst_code};
-ghost use Rattle.lower.specs.Emitted.{MayStand};
+ghost use Rattle.straight.specs.Templates.{inst_code};
+ghost use Rattle.straight.specs.Emitted.{MayStand};
 ghost use Rattle.straight.specs.Form.{is_straight};
 ghost use Rattle.straight.specs.Image.{bases_of, frame_words, main_code, start_code, vector_bytes};
 ghost use Rattle.straight.specs.Resolved.{resolved_in, code_of_found, flash_with};
 ghost use Rattle.straight.specs.Padded.{padded};
 
+use crate::bytes::put_code;
+use crate::insts::StraightInst;
 use crate::resolving::resolved;
+use crate::templates::{put_entry, put_inst, put_return};
 use ir_model::firmware::{Inst, Peripheral, Slot};
-use lower::bytes::put_code;
-use lower::insts::StraightInst;
-use lower::templates::{put_entry, put_inst, put_return};
 use std::alloc::{AllocError, Global};
 use thumb_model::Instr;
 

@@ -3,7 +3,7 @@
 ghost use Rattle.std.specs.Prelude.{◌≡◌, ◌<◌, ◌^◌, [], ◌∷◌, length, map, IfOk, IsTrue, All};
 ghost use Rattle.device_model.specs.Rules.{ObeysRules};
 ghost use Rattle.ir_model.specs.Plain.{firmware_of, slot_of};
-ghost use Rattle.simulate.specs.Refines.{Refines};
+ghost use Rattle.straight.specs.Refines.{Refines};
 ghost use Rattle.straight.specs.Form.{IsStraight, is_straight};
 ghost use Rattle.straight.specs.Image.{image_of, image_with};
 ghost use Rattle.straight.specs.Resolved.{flash_with};

@@ -6,18 +6,18 @@ ghost use Rattle.ir_model.specs.Plain.{slot_of, names_of, types_of};
 ghost use Rattle.ir_model.specs.Types.{type_of, U32, target_of, element_of};
 ghost use Rattle.ir_model.specs.Layout.{shape};
 ghost use Rattle.ir_model.specs.Resolve.{number_of};
-ghost use Rattle.lower.specs.Templates.{inst_code, load_code, store_code, scale_of};
+ghost use Rattle.straight.specs.Templates.{inst_code, load_code, store_code, scale_of};
 ghost use Rattle.straight.specs.Form.{is_straight};
 ghost use Rattle.straight.specs.Image.{bases_of};
 ghost use Rattle.straight.specs.Resolved.{resolved_in, code_of_found};
-ghost use Rattle.lower.specs.Emitted.{MayStand, integer_of};
+ghost use Rattle.straight.specs.Emitted.{MayStand, integer_of};
 
+use crate::insts::StraightInst;
 use crate::numbers::{periph_number, register_number};
 use crate::scale::scale;
 use ir_model::firmware::{Inst, Peripheral, Slot};
 use ir_model::name::Name;
 use ir_model::types::Ty;
-use lower::insts::StraightInst;
 use words::memory::Width;
 
 // The number of a register's name. There are below 128 registers.
@@ -83,7 +83,7 @@ fn element_scale(registers: &[Slot], pointer: u8) -> u32
 }
 
 // The address of a peripheral, if the name is one's.
-#[tactic(auto, using(crate::proofs::Positions::has_periph, crate::proofs::Positions::has_no_periph), unfolding(lower::specs::Templates::inst_code))]
+#[tactic(auto, using(crate::proofs::Positions::has_periph, crate::proofs::Positions::has_no_periph), unfolding(crate::specs::Templates::inst_code))]
 fn address(registers: &[Slot], periphs: &[Peripheral], to: &Name, of: &Name) -> Option<StraightInst>
     requires few_registers { length registers.now < 128 }
     requires few_periphs { length periphs.now < 2 ^ 32 }
@@ -102,7 +102,7 @@ fn address(registers: &[Slot], periphs: &[Peripheral], to: &Name, of: &Name) -> 
 }
 
 /// An instruction that there is code for; None for the address of what is no peripheral.
-#[tactic(auto, unfolding(lower::specs::Templates::inst_code))]
+#[tactic(auto, unfolding(crate::specs::Templates::inst_code))]
 pub(crate) fn resolved(
     registers: &[Slot],
     periphs: &[Peripheral],

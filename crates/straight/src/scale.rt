@@ -3,7 +3,7 @@
 ghost use Rattle.std.specs.Prelude.{◌≡◌, ◌≤◌, ◌*◌, []};
 ghost use Rattle.ir_model.specs.Types.{type_of};
 ghost use Rattle.ir_model.specs.Layout.{shape};
-ghost use Rattle.lower.specs.Templates.{scale_of};
+ghost use Rattle.straight.specs.Templates.{scale_of};
 
 use ir_model::types::Ty;
 

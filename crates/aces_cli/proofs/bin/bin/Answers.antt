@@ -1,11 +1,12 @@
 use Rattle.std.proofs.Common.{◌∙◌, inl, Some, [], refl, sym, subst, append-nil}
+use Rattle.std.proofs.lemmas.Result.{err_from_is_err_and}
 use Rattle.aces_cli.specs.declared.failure.Done.TheVariants.{Well}
 use Rattle.aces_cli.specs.Requests.{Bin, file_origin}
 use Rattle.aces_cli.specs.Known.{IsKnown, IsKnownLarge}
 use Rattle.aces_cli.specs.Answer.{Answer, IsNoImage, no_image, wrote, bin_image_large, bin_read, done}
 use Rattle.aces_cli.specs.Did.{Does, world}
 use Rattle.aces_cli.specs.Loads.{IsLoadFailure, IsContentFailure}
-use Rattle.aces_cli.proofs.Ends.{err_of, load_failed, content_failed, did_end}
+use Rattle.aces_cli.proofs.Ends.{load_failed, content_failed, did_end}
 use Rattle.aces_cli.proofs.bin.bin.Goals as goal
 
 pub returns-in_err-bytes : goal.returns-in_err-bytes
@@ -16,7 +17,7 @@ returns-in_err-bytes g c out =
     let all = Answer (IsKnown g.F.Files c.args.files.now) large (Bin image file) in
     let old = world g.F.Files c.args.files.now out in
     let new = world g.F.Files c.load.new.files out in
-    let x = err_of c.from_residual.result _ c.from_residual.ensures.1 in
+    let x = err_from_is_err_and c.from_residual.result c.from_residual.ensures.1 in
     subst (Does all (Bin image file) old new) (sym x.1)
     (load_failed all large (Bin image file) (file_origin image) old new
     (record { held = c.load.ensures.same; write_faults = c.load.ensures.writes; out = refl })
@@ -31,7 +32,7 @@ returns-in_err-image g c out =
     let old = world g.F.Files c.args.files.now out in
     let new = world g.F.Files c.load.new.files out in
     let bytes = c.in_ok-bytes.bytes.items in
-    let x = err_of c.from_residual-in_err-image.result _ c.from_residual-in_err-image.ensures.1 in
+    let x = err_from_is_err_and c.from_residual-in_err-image.result c.from_residual-in_err-image.ensures.1 in
     subst (Does all (Bin image file) old new) (sym x.1)
     (content_failed all (IsNoImage bytes) (Bin image file) image old new
     (record { held = c.load.ensures.same; write_faults = c.load.ensures.writes; out = refl }) c.in_ok-bytes.ensures.reads

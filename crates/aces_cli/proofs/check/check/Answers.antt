@@ -1,4 +1,5 @@
 use Rattle.std.proofs.Common.{inl, None, refl, sym, subst}
+use Rattle.std.proofs.lemmas.Result.{err_from_is_err_and}
 use Rattle.ir_model.specs.Plain.{firmware_of}
 use Rattle.aces_cli.specs.declared.failure.Done.TheVariants.{Well}
 use Rattle.aces_cli.specs.Requests.{Check, firmware_origin}
@@ -7,7 +8,7 @@ use Rattle.aces_cli.specs.Answer.{Answer, IsNoFirmware, no_firmware, checked, ch
 use Rattle.aces_cli.specs.Counts.{count_line}
 use Rattle.aces_cli.specs.Did.{Does, sink, world}
 use Rattle.aces_cli.specs.Loads.{IsLoadFailure, IsContentFailure}
-use Rattle.aces_cli.proofs.Ends.{err_of, load_failed, content_failed, did_end}
+use Rattle.aces_cli.proofs.Ends.{load_failed, content_failed, did_end}
 use Rattle.aces_cli.proofs.check.check.Goals as goal
 
 pub returns-in_err-bytes : goal.returns-in_err-bytes
@@ -18,7 +19,7 @@ returns-in_err-bytes g c =
     let all = Answer (IsKnown g.F.Files c.args.files.now) large r in
     let old = world g.F.Files c.args.files.now (sink g.O.Sink c.args.out.now) in
     let new = world g.F.Files c.load_firmware.new.files (sink g.O.Sink c.args.out.now) in
-    let x = err_of c.from_residual.result _ c.from_residual.ensures.1 in
+    let x = err_from_is_err_and c.from_residual.result c.from_residual.ensures.1 in
     subst (Does all r old new) (sym x.1)
     (load_failed all large r (firmware_origin firmware) old new
     (record { held = c.load_firmware.ensures.same; write_faults = c.load_firmware.ensures.writes; out = refl })
@@ -33,7 +34,7 @@ returns-in_err-checked g c =
     let all = Answer (IsKnown g.F.Files c.args.files.now) (IsKnownLarge g.F.Files c.args.files.now) r in
     let old = world g.F.Files c.args.files.now (sink g.O.Sink c.args.out.now) in
     let new = world g.F.Files c.load_firmware.new.files (sink g.O.Sink c.args.out.now) in
-    let x = err_of c.from_residual-in_err-checked.result _ c.from_residual-in_err-checked.ensures.1 in
+    let x = err_from_is_err_and c.from_residual-in_err-checked.result c.from_residual-in_err-checked.ensures.1 in
     subst (Does all r old new) (sym x.1)
     (content_failed all (IsNoFirmware bytes) r firmware old new
     (record { held = c.load_firmware.ensures.same; write_faults = c.load_firmware.ensures.writes; out = refl }) c.in_ok-bytes.ensures.reads

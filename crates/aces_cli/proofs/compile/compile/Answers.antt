@@ -1,4 +1,5 @@
 use Rattle.std.proofs.Common.{◌∙◌, inl, inr, IsTrue, Some, [], refl, sym, subst, append-nil}
+use Rattle.std.proofs.lemmas.Result.{err_from_is_err_and}
 use Rattle.aces_cli.specs.declared.failure.Done.TheVariants.{Well}
 use Rattle.aces_cli.specs.Requests.{Compile, Origin, file_origin, firmware_origin}
 use Rattle.aces_cli.specs.Known.{Held, Exceeds, WasTooLarge, IsKnown, IsKnownLarge}
@@ -6,7 +7,7 @@ use Rattle.aces_cli.specs.Answer.{Answer, no_firmware, no_board, compiled, compi
 use Rattle.aces_cli.specs.Did.{Does, world}
 use Rattle.aces_cli.specs.Loads.{IsLoadFailure}
 use Rattle.aces_cli.specs.CompileFailures.{IsCompileFailure}
-use Rattle.aces_cli.proofs.Ends.{err_of, load_failed, compile_failed, did_end}
+use Rattle.aces_cli.proofs.Ends.{load_failed, compile_failed, did_end}
 use Rattle.aces_cli.proofs.compile.compile.Goals as goal
 
 pub returns-in_err-bytes : goal.returns-in_err-bytes
@@ -17,7 +18,7 @@ returns-in_err-bytes g c out =
     let all = Answer (IsKnown g.F.Files c.args.files.now) large r in
     let old = world g.F.Files c.args.files.now out in
     let new = world g.F.Files c.load_firmware.new.files out in
-    let x = err_of c.from_residual.result _ c.from_residual.ensures.1 in
+    let x = err_from_is_err_and c.from_residual.result c.from_residual.ensures.1 in
     subst (Does all r old new) (sym x.1)
     (load_failed all large r (firmware_origin firmware) old new
     (record { held = c.load_firmware.ensures.same; write_faults = c.load_firmware.ensures.writes; out = refl })
@@ -37,7 +38,7 @@ returns-in_err-text g c out =
     let mid = world g.F.Files c.load_firmware.new.files out in
     let new = world g.F.Files c.load.new.files out in
     let bytes = c.in_ok-bytes.bytes.items in
-    let x = err_of c.from_residual-in_err-text.result _ c.from_residual-in_err-text.ensures.1 in
+    let x = err_from_is_err_and c.from_residual-in_err-text.result c.from_residual-in_err-text.ensures.1 in
     let failed = subst (IsLoadFailure (large mid.held) told mid.held (file_origin board) mid.read_faults new.read_faults) (sym x.2) c.in_err-text.ensures.err in
     let held_too = subst (λ h. IsLoadFailure (large h) told h (file_origin board) mid.read_faults new.read_faults x.0) c.load_firmware.ensures.same failed in
     let reads_too = subst (λ k. IsLoadFailure (large old.held) told old.held (file_origin board) k new.read_faults x.0) c.in_ok-bytes.ensures.reads held_too in
@@ -59,7 +60,7 @@ returns-in_err-compiled g c out =
     let old = world g.F.Files c.args.files.now out in
     let new = world g.F.Files c.load.new.files out in
     let known = rw c.load_firmware.ensures.same at c.in_ok-text.ensures.ok in
-    let x = err_of c.from_residual-in_err-compiled.result _ c.from_residual-in_err-compiled.ensures.1 in
+    let x = err_from_is_err_and c.from_residual-in_err-compiled.result c.from_residual-in_err-compiled.ensures.1 in
     subst (Does all r old new) (sym x.1)
     (compile_failed all firmware board bytes text r old new
     (record { held = c.load.ensures.same ∙ c.load_firmware.ensures.same; write_faults = c.load.ensures.writes ∙ c.load_firmware.ensures.writes; out = refl })

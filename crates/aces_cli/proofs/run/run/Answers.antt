@@ -1,10 +1,11 @@
 use Rattle.std.proofs.Common.{◌∙◌, inl, inr, IsTrue, refl, sym, subst}
+use Rattle.std.proofs.lemmas.Result.{err_from_is_err_and}
 use Rattle.aces_cli.specs.Requests.{Run, Origin, file_origin}
 use Rattle.aces_cli.specs.Known.{Held, Exceeds, WasTooLarge, IsKnown, IsKnownLarge}
 use Rattle.aces_cli.specs.Answer.{Answer, RunAnswer, run_image_large, run_tape_large, run_read}
 use Rattle.aces_cli.specs.Did.{Does, sink, world}
 use Rattle.aces_cli.specs.Loads.{IsLoadFailure}
-use Rattle.aces_cli.proofs.Ends.{err_of, load_failed, did_also, did_then}
+use Rattle.aces_cli.proofs.Ends.{load_failed, did_also, did_then}
 use Rattle.aces_cli.proofs.run.run.Goals as goal
 
 pub returns-in_err-bytes : goal.returns-in_err-bytes
@@ -15,7 +16,7 @@ returns-in_err-bytes g c =
     let all = Answer (IsKnown g.F.Files c.args.files.now) large r in
     let old = world g.F.Files c.args.files.now (sink g.O.Sink c.args.out.now) in
     let new = world g.F.Files c.load.new.files (sink g.O.Sink c.args.out.now) in
-    let x = err_of c.from_residual.result _ c.from_residual.ensures.1 in
+    let x = err_from_is_err_and c.from_residual.result c.from_residual.ensures.1 in
     subst (Does all r old new) (sym x.1)
     (load_failed all large r (file_origin image) old new
     (record { held = c.load.ensures.same; write_faults = c.load.ensures.writes; out = refl })
@@ -34,7 +35,7 @@ returns-in_err-text g c =
     let mid = world g.F.Files c.load.new.files (sink g.O.Sink c.args.out.now) in
     let new = world g.F.Files c.load-2.new.files (sink g.O.Sink c.args.out.now) in
     let bytes = c.in_ok-bytes.bytes.items in
-    let x = err_of c.from_residual-in_err-text.result _ c.from_residual-in_err-text.ensures.1 in
+    let x = err_from_is_err_and c.from_residual-in_err-text.result c.from_residual-in_err-text.ensures.1 in
     let failed = subst (IsLoadFailure (large mid.held) told mid.held (file_origin tape) mid.read_faults new.read_faults) (sym x.2) c.in_err-text.ensures.err in
     let held_too = subst (λ h. IsLoadFailure (large h) told h (file_origin tape) mid.read_faults new.read_faults x.0) c.load.ensures.same failed in
     let reads_too = subst (λ k. IsLoadFailure (large old.held) told old.held (file_origin tape) k new.read_faults x.0) c.in_ok-bytes.ensures.reads held_too in

@@ -1,4 +1,5 @@
 use Rattle.std.proofs.Common.{◌≡◌, ◌∙◌, ◌++◌, length, refl, ap, sym, subst}
+use Rattle.std.proofs.lemmas.Result.{err_from_is_err_and}
 use Rattle.device_model.specs.Tape.{queues_of, first_fault}
 use Rattle.armv7m.specs.Machine.{MachineState}
 use Rattle.armv7m.specs.Run.{start}
@@ -7,7 +8,7 @@ use Rattle.aces_cli.specs.Answer.{RunAnswer, IsNoImage, IsNoTape, no_image, no_t
 use Rattle.aces_cli.specs.Runs.{fill, end_of, run_lines, end_status}
 use Rattle.aces_cli.specs.Did.{Does, World, sink}
 use Rattle.aces_cli.specs.Loads.{IsContentFailure}
-use Rattle.aces_cli.proofs.Ends.{err_of, content_failed, did_end}
+use Rattle.aces_cli.proofs.Ends.{content_failed, did_end}
 use Rattle.aces_cli.proofs.Starting.{queue_count, begins}
 use Rattle.aces_cli.proofs.run.run_texts.Goals as goal
 
@@ -17,7 +18,7 @@ returns-in_err-image_read g c told held reads writes =
     let all = RunAnswer image c.args.tape.now c.args.steps c.args.bytes.now c.args.text.now in
     let r = Run image c.args.tape.now c.args.steps in
     let w : World = record { told = told; held = held; read_faults = reads; write_faults = writes; out = sink g.O.Sink c.args.out.now } in
-    let x = err_of c.from_residual.result _ c.from_residual.ensures.1 in
+    let x = err_from_is_err_and c.from_residual.result c.from_residual.ensures.1 in
     subst (Does all r w w) (sym x.1)
     (content_failed all (IsNoImage c.args.bytes.now) r image w w (record { held = refl; write_faults = refl; out = refl }) refl (λ f h. no_image f h) x.0
     (subst (IsContentFailure (IsNoImage c.args.bytes.now) image) (sym x.2) c.in_err-image_read.ensures.err))
@@ -29,7 +30,7 @@ returns-in_err-tape_read g c told held reads writes =
     let all = RunAnswer c.args.image.now tape c.args.steps c.args.bytes.now c.args.text.now in
     let r = Run c.args.image.now tape c.args.steps in
     let w : World = record { told = told; held = held; read_faults = reads; write_faults = writes; out = sink g.O.Sink c.args.out.now } in
-    let x = err_of c.from_residual-in_err-tape_read.result _ c.from_residual-in_err-tape_read.ensures.1 in
+    let x = err_from_is_err_and c.from_residual-in_err-tape_read.result c.from_residual-in_err-tape_read.ensures.1 in
     subst (Does all r w w) (sym x.1)
     (content_failed all (IsNoTape i.windows c.args.text.now) r tape w w (record { held = refl; write_faults = refl; out = refl }) refl
     (λ f h. no_tape i f c.in_ok-image_read.ensures.ok h) x.0

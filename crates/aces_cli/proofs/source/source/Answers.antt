@@ -1,10 +1,11 @@
 use Rattle.std.proofs.Common.{◌∙◌, inl, inr, IsTrue, refl, sym, subst}
+use Rattle.std.proofs.lemmas.Result.{err_from_is_err_and}
 use Rattle.aces_cli.specs.Requests.{Source, Origin, file_origin, firmware_origin}
 use Rattle.aces_cli.specs.Known.{Held, Exceeds, WasTooLarge, IsKnown, IsKnownLarge}
 use Rattle.aces_cli.specs.Answer.{Answer, SourceAnswer, source_firmware_large, source_tape_large, source_read}
 use Rattle.aces_cli.specs.Did.{Does, sink, world}
 use Rattle.aces_cli.specs.Loads.{IsLoadFailure}
-use Rattle.aces_cli.proofs.Ends.{err_of, load_failed, did_also, did_then}
+use Rattle.aces_cli.proofs.Ends.{load_failed, did_also, did_then}
 use Rattle.aces_cli.proofs.source.source.Goals as goal
 
 pub returns-in_err-bytes : goal.returns-in_err-bytes
@@ -15,7 +16,7 @@ returns-in_err-bytes g c =
     let all = Answer (IsKnown g.F.Files c.args.files.now) large r in
     let old = world g.F.Files c.args.files.now (sink g.O.Sink c.args.out.now) in
     let new = world g.F.Files c.load_firmware.new.files (sink g.O.Sink c.args.out.now) in
-    let x = err_of c.from_residual.result _ c.from_residual.ensures.1 in
+    let x = err_from_is_err_and c.from_residual.result c.from_residual.ensures.1 in
     subst (Does all r old new) (sym x.1)
     (load_failed all large r (firmware_origin firmware) old new
     (record { held = c.load_firmware.ensures.same; write_faults = c.load_firmware.ensures.writes; out = refl })
@@ -34,7 +35,7 @@ returns-in_err-text g c =
     let mid = world g.F.Files c.load_firmware.new.files (sink g.O.Sink c.args.out.now) in
     let new = world g.F.Files c.load.new.files (sink g.O.Sink c.args.out.now) in
     let bytes = c.in_ok-bytes.bytes.items in
-    let x = err_of c.from_residual-in_err-text.result _ c.from_residual-in_err-text.ensures.1 in
+    let x = err_from_is_err_and c.from_residual-in_err-text.result c.from_residual-in_err-text.ensures.1 in
     let failed = subst (IsLoadFailure (large mid.held) told mid.held (file_origin tape) mid.read_faults new.read_faults) (sym x.2) c.in_err-text.ensures.err in
     let held_too = subst (λ h. IsLoadFailure (large h) told h (file_origin tape) mid.read_faults new.read_faults x.0) c.load_firmware.ensures.same failed in
     let reads_too = subst (λ k. IsLoadFailure (large old.held) told old.held (file_origin tape) k new.read_faults x.0) c.in_ok-bytes.ensures.reads held_too in

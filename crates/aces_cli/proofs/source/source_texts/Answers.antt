@@ -1,4 +1,5 @@
 use Rattle.std.proofs.Common.{◌≡◌, ◌∙◌, ◌++◌, inr, refl, ap, sym, subst}
+use Rattle.std.proofs.lemmas.Result.{err_from_is_err_and}
 use Rattle.device_model.specs.Tape.{queues_of}
 use Rattle.ir_model.specs.Plain.{firmware_of}
 use Rattle.source_output.specs.SourceRuns.{source_end, source_lines, end_status}
@@ -6,7 +7,7 @@ use Rattle.aces_cli.specs.Requests.{Source}
 use Rattle.aces_cli.specs.Answer.{SourceAnswer, IsNoFirmware, IsNoTape, no_firmware, no_tape, source_outcome}
 use Rattle.aces_cli.specs.Did.{Does, World, sink}
 use Rattle.aces_cli.specs.Loads.{IsContentFailure}
-use Rattle.aces_cli.proofs.Ends.{err_of, content_failed, did_end}
+use Rattle.aces_cli.proofs.Ends.{content_failed, did_end}
 use Rattle.aces_cli.proofs.Sourcing.{windows_made, has_run}
 use Rattle.aces_cli.proofs.source.source_texts.Goals as goal
 
@@ -16,7 +17,7 @@ returns-in_err-checked g c told held reads writes =
     let all = SourceAnswer firmware c.args.tape.now c.args.steps c.args.bytes.now c.args.text.now in
     let r = Source firmware c.args.tape.now c.args.steps in
     let w : World = record { told = told; held = held; read_faults = reads; write_faults = writes; out = sink g.O.Sink c.args.out.now } in
-    let x = err_of c.from_residual.result _ c.from_residual.ensures.1 in
+    let x = err_from_is_err_and c.from_residual.result c.from_residual.ensures.1 in
     subst (Does all r w w) (sym x.1)
     (content_failed all (IsNoFirmware c.args.bytes.now) r firmware w w (record { held = refl; write_faults = refl; out = refl }) refl (λ f h. no_firmware f h) x.0
     (subst (IsContentFailure (IsNoFirmware c.args.bytes.now) firmware) (sym x.2) c.in_err-checked.ensures.err))
@@ -30,7 +31,7 @@ returns-in_err-tape_read g c told held reads writes =
     let all = SourceAnswer c.args.firmware.now tape c.args.steps c.args.bytes.now c.args.text.now in
     let r = Source c.args.firmware.now tape c.args.steps in
     let w : World = record { told = told; held = held; read_faults = reads; write_faults = writes; out = sink g.O.Sink c.args.out.now } in
-    let x = err_of c.from_residual-in_err-tape_read.result _ c.from_residual-in_err-tape_read.ensures.1 in
+    let x = err_from_is_err_and c.from_residual-in_err-tape_read.result c.from_residual-in_err-tape_read.ensures.1 in
     subst (Does all r w w) (sym x.1)
     (content_failed all (IsNoTape c.as_slice-2.result.now c.args.text.now) r tape w w (record { held = refl; write_faults = refl; out = refl }) refl
     (λ f h. no_tape (firmware_of v) f c.in_ok-checked.ensures.ok (subst (λ ws. IsNoTape ws c.args.text.now f) windows h)) x.0

@@ -1,8 +1,5 @@
-use Rattle.lower.proofs.Frames.{entry_works, return_works}
+use Rattle.lower.proofs.Frames.{frames_agree}
 use Rattle.lower.proofs.laws.frames.Goals as goal
 
-pub returns-clause-entry : goal.returns-clause-entry
-returns-clause-entry c = entry_works
-
-pub returns-clause-leave : goal.returns-clause-leave
-returns-clause-leave c = return_works
+pub returns : goal.returns
+returns c = frames_agree

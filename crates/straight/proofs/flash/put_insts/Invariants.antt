@@ -1,7 +1,7 @@
 use Rattle.std.proofs.Common.{◌≡◌, ◌++◌, take, map, flat_map}
 use Rattle.thumb_model.specs.Bytes.{code_bytes}
 use Rattle.ir_model.specs.Plain.{slot_of}
-use Rattle.lower.specs.Templates.{inst_code}
+use Rattle.straight.specs.Templates.{inst_code}
 use Rattle.straight.specs.Image.{bases_of}
 use Rattle.straight.specs.Resolved.{resolved_in}
 use Rattle.straight.proofs.flash.put_insts.Given as goal

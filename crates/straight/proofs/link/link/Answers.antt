@@ -2,7 +2,7 @@ use Rattle.std.proofs.Common.{◌≡◌, [], ◌∷◌, sym, ap, ◌∙◌, subs
 use Rattle.ir_model.specs.declared.firmware.Firmware.{Firmware}
 use Rattle.ir_model.specs.Plain.{firmware_of}
 use Rattle.device_model.specs.Rules.{ObeysRules}
-use Rattle.simulate.specs.Refines.{Refines}
+use Rattle.straight.specs.Refines.{Refines}
 use Rattle.straight.proofs.Parts.{image_is}
 use Rattle.straight.proofs.link.link.Goals as goal
 

@@ -1,6 +1,6 @@
 use Rattle.std.proofs.Common.{sym, ap, ◌∙◌}
 use Rattle.ir_model.specs.Types.{PlainType, target_of}
-use Rattle.lower.specs.Templates.{load_code, store_code}
+use Rattle.straight.specs.Templates.{load_code, store_code}
 use Rattle.straight.proofs.Positions.{type_within}
 use Rattle.straight.proofs.resolving.access_width.Goals as goal
 

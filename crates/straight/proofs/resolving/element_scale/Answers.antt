@@ -1,7 +1,7 @@
 use Rattle.std.proofs.Common.{sym, ap, ◌∙◌, []}
 use Rattle.ir_model.specs.Types.{PlainType, target_of, element_of}
 use Rattle.ir_model.specs.Layout.{shape}
-use Rattle.lower.specs.Templates.{scale_of}
+use Rattle.straight.specs.Templates.{scale_of}
 use Rattle.straight.proofs.Positions.{type_within}
 use Rattle.straight.proofs.resolving.element_scale.Goals as goal
 

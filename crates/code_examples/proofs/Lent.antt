@@ -1,0 +1,18 @@
+-- The code of a firmware with a lent local.
+use Rattle.std.proofs.Common.{refl}
+use Rattle.thumb_model.specs.Table.{encode}
+use Rattle.lower.specs.Entry.{frame_code}
+use Rattle.lower.specs.Templates.{inst_items, term_items}
+use Rattle.lower.specs.Sizes.{inst_size, term_size, entry_size}
+use Rattle.code_examples.specs.Lent.{ComputesLent}
+
+pub computes_lent : ComputesLent
+unfolding encode frame_code inst_items term_items inst_size term_size entry_size
+computes_lent = record {
+  frame = refl;
+  shape = refl;
+  sizes = refl;
+  main_code = refl;
+  passes_on_code = refl;
+  stores_code = refl;
+}

@@ -1,0 +1,9 @@
+mod Shortest
+mod Sensor
+mod Lent
+mod Table
+mod Operations
+mod Addresses
+mod Calls
+mod Frames
+mod Planned

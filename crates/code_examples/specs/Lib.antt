@@ -1,0 +1,10 @@
+pub mod Written
+pub mod Shortest
+pub mod Sensor
+pub mod Lent
+pub mod Table
+pub mod Operations
+pub mod Addresses
+pub mod Calls
+pub mod Frames
+pub mod Planned
