@@ -1,0 +1,9 @@
+mod ControlLoop
+mod Joining
+mod Placing
+mod OneItem
+mod LeastSets
+mod LentNeeds
+mod Loans
+mod SelfCalls
+mod StackPositions

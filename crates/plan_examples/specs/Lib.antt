@@ -1,0 +1,14 @@
+pub mod Written
+pub mod ControlLoop
+pub mod ControlGraph
+pub mod ControlPlan
+pub mod ClosedLoop
+pub mod FiveGlobals
+pub mod NearWindows
+pub mod Tails
+pub mod Sums
+pub mod Words
+pub mod Limits
+pub mod LentLocal
+pub mod SelfCall
+pub mod StackPositions

@@ -1,0 +1,29 @@
+//! Where blocks lie, and the words of the regions that hold them.
+
+ghost use Rattle.plan_examples.specs.ControlPlan.{ComputesPlan, ComputesOtherPolicies};
+ghost use Rattle.plan_examples.specs.ClosedLoop.{ComputesClosedPlan};
+ghost use Rattle.plan_examples.specs.Tails.{ComputesTails};
+ghost use Rattle.plan_examples.specs.Sums.{ComputesSums};
+ghost use Rattle.plan_examples.specs.Words.{ComputesWords};
+
+/// The blocks of a control loop, the size of its tables, and the words of its slots.
+pub fn control_loop()
+    ensures open { ComputesPlan }
+    ensures policies { ComputesOtherPolicies }
+    ensures closed { ComputesClosedPlan }
+{}
+
+/// A region that stands in the tail of another's block.
+pub fn tails()
+    ensures { ComputesTails }
+{}
+
+/// Sums that fit a memory and sums that pass it.
+pub fn sums()
+    ensures { ComputesSums }
+{}
+
+/// The words of regions for blocks of various sizes.
+pub fn words()
+    ensures { ComputesWords }
+{}

@@ -1,0 +1,57 @@
+//! A board, and where the blocks of an image lie on it.
+
+use listed::Listed;
+
+/// A block of memory.
+#[derive(Clone, Copy, PartialEq, Eq, Debug)]
+pub struct Spot {
+    /// The first address.
+    pub base: u32,
+    /// How many bytes.
+    pub size: u32,
+}
+
+/// The memories of a board, and its protection unit.
+#[derive(Clone, Copy, PartialEq, Eq, Debug)]
+pub struct Board {
+    /// The first address of flash.
+    pub flash_base: u32,
+    /// How many bytes of flash.
+    pub flash_size: u32,
+    /// The first address of RAM.
+    pub ram_base: u32,
+    /// How many bytes of RAM.
+    pub ram_size: u32,
+    /// How many bytes of RAM are for the stack.
+    pub stack: u32,
+    /// The number of regions of the protection unit, 8 or 16.
+    pub regions: u32,
+    /// Whether loads are confined as stores are.
+    pub closed: bool,
+}
+
+/// How much is to be placed in flash, in bytes.
+#[derive(Drop)]
+pub struct Sizes {
+    /// The code of each compartment.
+    pub code: Listed<u32>,
+    /// The vectors, the monitor's code and its tables.
+    pub tables: u32,
+}
+
+/// Where the blocks of an image lie.
+#[derive(Drop)]
+pub struct Plan {
+    /// The vectors, the monitor's code and its tables, in flash.
+    pub tables: Spot,
+    /// The code of each compartment, in flash.
+    pub code: Listed<Spot>,
+    /// The stack, in RAM.
+    pub stack: Spot,
+    /// The monitor's block, in RAM.
+    pub monitor: Spot,
+    /// The data regions, in RAM.
+    pub regions: Listed<Spot>,
+    /// The globals of no data region, in RAM, where there are any.
+    pub unwritten: Option<Spot>,
+}
