@@ -1,0 +1,73 @@
+-- The length of a list's code, and code that stands one part behind the other.
+use Rattle.std.proofs.Common.{◌≡◌, ℕ, pos, negsuc, ◌+◌, ◌<◌, ◌≤◌, Bool, true, false, List, [], ◌∷◌, ◌++◌, nat_eq, refl, subst, arith}
+use Rattle.thumb_model.specs.declared.table.Instr.{Instr}
+use Rattle.thumb_model.specs.declared.table.Instr.TheVariants.{DataImmediate, BranchWide}
+use Rattle.mpu_model.specs.declared.region.Access.TheVariants.{Fetch}
+use Rattle.device_model.specs.declared.image.Image.{Image}
+use Rattle.armv7m.specs.declared.state.ProtectionState.{ProtectionState}
+use Rattle.armv7m.specs.State.{Judge}
+use Rattle.armv7m.specs.Code.{size, CodeIn}
+use Rattle.armv7m.specs.Running.{code_size}
+use Rattle.armv7m.proofs.Exec.{code_may_run}
+use Rattle.armv7m.proofs.CodeParts.{code_size-append}
+use Rattle.gate_steps.specs.declared.steps.GateOp.{GateOp}
+use Rattle.gate_steps.specs.declared.steps.GateOp.TheVariants.{Add, Sub, And, Or, Shl, Shr}
+use Rattle.gate_steps.specs.Steps.{Steps, End, Const, Copy, Load, Store, Alu, ReadPsp, WritePsp, WriteControl, Test, Repeat, Halt, Return, Go}
+use Rattle.gate_steps.specs.Code.{by_moves, operation_code, two_address_length, operation_length, code_length, code}
+use Rattle.gate_steps.specs.Runs.{HasCode}
+
+by_moves_has_its_length : (h t : Bool) (op to a b : ℕ) → code_size (by_moves op to a b h t) ≡ two_address_length h t
+by_moves_has_its_length true t op to a b = refl
+by_moves_has_its_length false true op to a b = refl
+by_moves_has_its_length false false op to a b = refl
+
+pub operation_has_its_length : (op : GateOp) (to a b : ℕ) → code_size (operation_code op to a b) ≡ operation_length op (nat_eq to a) (nat_eq to b)
+operation_has_its_length Add to a b = refl
+operation_has_its_length Sub to a b = refl
+operation_has_its_length And to a b = by_moves_has_its_length (nat_eq to a) (nat_eq to b) 0 to a b
+operation_has_its_length Or to a b = by_moves_has_its_length (nat_eq to a) (nat_eq to b) 12 to a b
+operation_has_its_length Shl to a b = by_moves_has_its_length (nat_eq to a) (nat_eq to b) 2 to a b
+operation_has_its_length Shr to a b = by_moves_has_its_length (nat_eq to a) (nat_eq to b) 3 to a b
+
+pub code_has_its_length : (s : Steps) → code_size (code s) ≡ code_length s
+code_has_its_length End = refl
+code_has_its_length (Const to n k) = omega (arith, code_has_its_length k)
+code_has_its_length (Copy to from k) = omega (arith, code_has_its_length k)
+code_has_its_length (Load z to base off k) = omega (arith, code_has_its_length k)
+code_has_its_length (Store z from base off k) = omega (arith, code_has_its_length k)
+code_has_its_length (Alu op to a b k) =
+    omega (arith, code_size-append (operation_code op to a b) (code k), operation_has_its_length op to a b, code_has_its_length k)
+code_has_its_length (ReadPsp to k) = omega (arith, code_has_its_length k)
+code_has_its_length (WritePsp from k) = omega (arith, code_has_its_length k)
+code_has_its_length (WriteControl from k) = omega (arith, code_has_its_length k)
+code_has_its_length (Test c a b ys ns k) =
+    omega (arith, code_size-append (code ys) (BranchWide (pos (code_length ns)) ∷ (code ns ++ code k)), code_size-append (code ns) (code k), code_has_its_length ys, code_has_its_length ns, code_has_its_length k)
+code_has_its_length (Repeat left most body k) =
+    omega (arith, code_size-append (code body) (DataImmediate 3 left 1 ∷ BranchWide (negsuc (code_length body + 13)) ∷ code k), code_has_its_length body, code_has_its_length k)
+code_has_its_length (Halt n k) = omega (arith, code_has_its_length k)
+code_has_its_length (Return k) = omega (arith, code_has_its_length k)
+code_has_its_length (Go to link k) = omega (arith, code_has_its_length k)
+
+module _ (j : Judge) (i : Image) (Good : ProtectionState → Type 0) where
+  -- code in flash that may be fetched under each good protection
+  pub flash_has_code : (pc : ℕ) (ys : List Instr) → CodeIn i pc ys → ((p : ProtectionState) → Good p → (a : ℕ) → pc ≤ a → a < pc + code_size ys → j p Fetch a ≡ true) → HasCode j i Good pc ys
+  flash_has_code pc [] has may = tt
+  flash_has_code pc (y ∷ ys) has may = (
+    λ p g. (code_may_run j i p (y ∷ []) pc (has.0, tt) (λ a lo hi. may p g a lo (omega arith))).0,
+    flash_has_code (pc + size y) ys has.1 (λ p g a lo hi. may p g a (omega arith) (omega arith)),
+  )
+
+  -- of two parts, the first and the second
+  pub has_front : (pc : ℕ) (a b : List Instr) → HasCode j i Good pc (a ++ b) → HasCode j i Good pc a
+  has_front pc [] b h = tt
+  has_front pc (y ∷ a) b h = (h.0, has_front (pc + size y) a b h.1)
+
+  pub has_back : (pc : ℕ) (a b : List Instr) → HasCode j i Good pc (a ++ b) → HasCode j i Good (pc + code_size a) b
+  has_back pc [] b h = let e : pc ≡ pc + 0 = omega arith in subst (λ n. HasCode j i Good n b) e h
+  has_back pc (y ∷ a) b h =
+      let e : pc + size y + code_size a ≡ pc + code_size (y ∷ a) = omega arith in
+      subst (λ n. HasCode j i Good n b) e (has_back (pc + size y) a b h.1)
+
+  -- code behind a list's own
+  pub behind : (s : Steps) (pc : ℕ) (ys : List Instr) → HasCode j i Good pc (code s ++ ys) → HasCode j i Good (pc + code_length s) ys
+  behind s pc ys h = subst (λ n. HasCode j i Good (pc + n) ys) (code_has_its_length s) (has_back pc (code s) ys h)

@@ -1,0 +1,9 @@
+pub mod Steps
+pub mod Lists
+pub mod Core
+pub mod Accesses
+pub mod Effect
+pub mod Code
+pub mod Ticks
+pub mod Safe
+pub mod Runs

@@ -1,0 +1,7 @@
+//! A small language of privileged steps, of which the monitor's handlers are written.
+#![tactic(auto)]
+
+pub mod laws;
+pub mod steps;
+
+pub use steps::{GateCond, GateOp, GateStep};
