@@ -1,0 +1,9 @@
+mod Calls
+mod Faults
+mod Audits
+mod LentTables
+mod SmallLists
+mod Lengths
+mod Pages
+mod Handled
+mod Joined

@@ -1,0 +1,13 @@
+pub mod LentImage
+pub mod LentTables
+pub mod Audits
+pub mod Stack
+pub mod Calls
+pub mod Faults
+pub mod Sample
+pub mod Board
+pub mod SmallLists
+pub mod Lengths
+pub mod Pages
+pub mod Handled
+pub mod Joined
