@@ -5,6 +5,7 @@
     rt ci --anew
     kill %1
     tools/gate_cost.py table FILE       # a table: each crate's own proof, and its must-fail edits
+    tools/gate_cost.py chain FILE       # the chain of crates, each standing on the one before it, whose proofs take longest
 """
 
 import collections
@@ -46,12 +47,18 @@ def record(path):
         time.sleep(1)
 
 
-def table(path):
-    """Prints processor minutes by crate: the gate tries edits in folders of their own, and proves in the checkout."""
+def minutes_by_crate(path):
+    """Processor minutes of proofs and of edits: the gate tries edits in folders of their own, and proves in the checkout."""
     minutes = collections.defaultdict(lambda: [0.0, 0.0])
     with open(path, encoding="utf-8") as file:
         for crate, folder, seconds in json.load(file):
             minutes[crate]["/rt-edit-" in folder] += seconds / 60
+    return minutes
+
+
+def table(path):
+    """Prints processor minutes by crate."""
+    minutes = minutes_by_crate(path)
     print("| crate | its proof | its edits |\n|---|---|---|")
     for crate, (proof, edits) in sorted(minutes.items(), key=lambda item: -sum(item[1])):
         print(f"| `{crate}` | {proof:.1f} | {edits:.1f} |")
@@ -59,5 +66,23 @@ def table(path):
     print(f"| all | {total[0]:.1f} | {total[1]:.1f} |")
 
 
+def chain(path):
+    """Prints the longest chain of crates and its processor minutes, by crates.txt in the folder above this one."""
+    minutes = minutes_by_crate(path)
+    with open(os.path.join(os.path.dirname(__file__), "..", "crates.txt"), encoding="utf-8") as file:
+        rows = [line.split(":") for line in file if line.strip() and not line.startswith("#")]
+    below = {name.strip(): uses.split() for name, uses in rows}
+    longest = {}
+
+    def ending_at(crate):
+        if crate not in longest:
+            best = max((ending_at(use) for use in below[crate] if use in below), default=(0.0, []))
+            longest[crate] = (best[0] + minutes[crate][0], best[1] + [crate])
+        return longest[crate]
+
+    total, crates = max(ending_at(crate) for crate in below)
+    print(f"{total:.1f}: {' '.join(crates)}")
+
+
 if __name__ == "__main__":
-    {"record": record, "table": table}[sys.argv[1]](sys.argv[2])
+    {"record": record, "table": table, "chain": chain}[sys.argv[1]](sys.argv[2])
