@@ -6,7 +6,7 @@ use Rattle.device_model.specs.declared.image.Image.{Image}
 use Rattle.image.specs.Text.{IsText}
 use Rattle.straight.specs.Refines.{Refines}
 use Rattle.straight.specs.Image.{image_of}
-use Rattle.ir_resolve.specs.Windows.{window_of}
+use Rattle.ir_program.specs.Windows.{window_of}
 use Rattle.aces_cli.specs.declared.failure.Fault.TheVariants.{NotInForm}
 use Rattle.aces_cli.specs.declared.failure.Failure.{Failure}
 use Rattle.aces_cli.specs.declared.failure.Failure.TheVariants.{Refused, Unread, Unwritten, Unprinted, NoMemory}

@@ -5,7 +5,7 @@ use Rattle.device_model.specs.Tape.{first_fault}
 use Rattle.ir_model.specs.declared.firmware.Firmware.{Firmware}
 use Rattle.ir_model.specs.declared.firmware.Peripheral.{Peripheral}
 use Rattle.ir_model.specs.Plain.{firmware_of}
-use Rattle.ir_resolve.specs.Windows.{window_of, windows_of}
+use Rattle.ir_program.specs.Windows.{window_of, windows_of}
 use Rattle.aces_cli.specs.Answer.{IsFirmware, SourceAnswer, ran, source_outcome}
 
 -- the windows that are made of a firmware's peripherals

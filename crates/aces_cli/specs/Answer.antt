@@ -23,7 +23,7 @@ use Rattle.ir_model.specs.Typing.{IsTyped, fault_of}
 use Rattle.ir_reader.specs.declared.fault.TextFault.{TextFault}
 use Rattle.ir_reader.specs.declared.fault.TextFault.TheVariants as text_faults
 use Rattle.ir_reader.specs.First.{IsFirst}
-use Rattle.ir_resolve.specs.Windows.{windows_of}
+use Rattle.ir_program.specs.Windows.{windows_of}
 use Rattle.straight_text.specs.StraightTexts.{IsStraightText, IsNoStraightText}
 use Rattle.aces_cli.specs.Compiled.{board_text, IsCompiled}
 use Rattle.aces_cli.specs.Runs.{fill, end_of, run_lines, end_status}

@@ -4,7 +4,7 @@ use Rattle.device_model.specs.declared.image.Image.{Image}
 use Rattle.image.specs.Text.{IsText}
 use Rattle.ir_model.specs.Plain.{PlainFirmware}
 use Rattle.straight.specs.Refines.{Refines}
-use Rattle.ir_resolve.specs.Windows.{window_of}
+use Rattle.ir_program.specs.Windows.{window_of}
 use Rattle.straight_text.specs.StraightTexts.{IsStraightText}
 
 -- the one board that is compiled for so far, line by line

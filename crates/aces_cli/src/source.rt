@@ -10,7 +10,7 @@ ghost use Rattle.aces_cli.specs.Did.{Does, sink, world, status_of};
 
 use crate::failure::{Done, Failure};
 use crate::loading::{firmware_of, load, load_firmware, tape_of};
-use ir_resolve::windows::windows;
+use ir_program::windows::windows;
 use ir_run::outcome::SourceEnd;
 use outside::{Files, Sink};
 use source_output::{Broken, print_source};

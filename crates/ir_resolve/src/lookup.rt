@@ -3,7 +3,7 @@
 ghost use Rattle.std.specs.Prelude.{◌≡◌};
 ghost use Rattle.ir_model.specs.Types as types;
 ghost use Rattle.ir_model.specs.Types.{type_of};
-ghost use Rattle.ir_resolve.specs.Storages.{pointee_of};
+ghost use Rattle.ir_program.specs.Storages.{pointee_of};
 
 use ir_model::types::Ty;
 
@@ -27,15 +27,5 @@ pub(crate) fn element(ty: Option<&Ty>) -> Option<&Ty>
             Ty::Array(_, element) => Some(element),
             Ty::U8 | Ty::U16 | Ty::U32 | Ty::Ptr(_) | Ty::Named(_) | Ty::Callee(_) => Some(inner),
         },
-    }
-}
-
-/// Whether a value of this type is a number.
-pub fn is_integer(ty: &Ty) -> bool
-    ensures { result ≡ types.is_integer (type_of ty.now) }
-{
-    match ty {
-        Ty::U8 | Ty::U16 | Ty::U32 => true,
-        Ty::Ptr(_) | Ty::Array(_, _) | Ty::Named(_) | Ty::Callee(_) => false,
     }
 }

@@ -3,9 +3,9 @@
 ghost use Rattle.std.specs.Prelude.{◌≡◌, map, IfOk};
 ghost use Rattle.ir_model.specs.Plain.{firmware_of};
 ghost use Rattle.ir_model.specs.Resolve as definition;
-ghost use Rattle.ir_resolve.specs.Seen.{program_of, span_of, HasCounts};
+ghost use Rattle.ir_program.specs.Seen.{program_of, span_of, HasCounts};
 
-use crate::program::{Program, Span};
+use ir_program::program::{Program, Span};
 use crate::routines::{all_funcs, file_numbers, routines};
 use crate::scope::{in_16_bits, named_scope};
 use crate::variables::variables;

@@ -5,13 +5,13 @@ ghost use Rattle.ir_model.specs.Types.{type_of};
 ghost use Rattle.ir_model.specs.Layout.{known, shape, Shape};
 ghost use Rattle.ir_model.specs.Plain.{PlainFunc, PlainFile, struct_of, slot_of, func_of, file_of, firmware_of, types_of, regs_of, funcs_of};
 ghost use Rattle.ir_model.specs.Resolve as resolving;
-ghost use Rattle.ir_resolve.specs.Seen.{routine_of, local_counts, cell_counts};
-ghost use Rattle.ir_resolve.specs.Storages.{shape_of};
+ghost use Rattle.ir_program.specs.Seen.{routine_of, local_counts, cell_counts};
+ghost use Rattle.ir_program.specs.Storages.{shape_of};
 ghost use Rattle.ir_resolve.specs.Scopes.{scope_of};
-ghost use Rattle.ir_resolve.specs.declared.program.Storage.{Storage};
+ghost use Rattle.ir_program.specs.declared.program.Storage.{Storage};
 
 use crate::operations::sequences;
-use crate::program::{Routine, Storage};
+use ir_program::program::{Routine, Storage};
 use crate::scope::func_tables;
 use crate::storage::storage;
 use crate::tables::Scope;

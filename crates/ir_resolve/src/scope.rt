@@ -3,11 +3,11 @@
 ghost use Rattle.std.specs.Prelude.{◌≡◌, ◌≤◌, map, length, IfOk};
 ghost use Rattle.ir_model.specs.Plain.{firmware_of, func_of, funcs_of, names_of, regs_of};
 ghost use Rattle.ir_model.specs.Resolve as resolving;
-ghost use Rattle.ir_resolve.specs.Seen.{target_of};
-ghost use Rattle.ir_resolve.specs.Storages.{pointee_of};
+ghost use Rattle.ir_program.specs.Seen.{target_of};
+ghost use Rattle.ir_program.specs.Storages.{pointee_of};
 ghost use Rattle.ir_resolve.specs.Scopes.{scope_of, named_func, AreTables};
 
-use crate::program::Target;
+use ir_program::program::Target;
 use crate::routines::register_types;
 use crate::tables::{FuncTables, Scope};
 use ir_model::firmware::{Firmware, Func};

@@ -4,9 +4,9 @@ ghost use Rattle.std.specs.Prelude.{◌≡◌, map, length, IfOk};
 ghost use Rattle.ir_model.specs.Types.{type_of};
 ghost use Rattle.ir_model.specs.Plain.{struct_of};
 ghost use Rattle.ir_model.specs.Layout.{known, shape};
-ghost use Rattle.ir_resolve.specs.Storages.{shape_of};
+ghost use Rattle.ir_program.specs.Storages.{shape_of};
 
-use crate::program::Storage;
+use ir_program::program::Storage;
 use ir_model::types::Ty;
 use layouts::table::Layouts;
 use std::alloc::AllocError;

@@ -5,32 +5,20 @@ ghost use Rattle.ir_model.specs.Types.{type_of};
 ghost use Rattle.ir_model.specs.Plain.{global_of, firmware_of, struct_of};
 ghost use Rattle.ir_model.specs.Layout.{known};
 ghost use Rattle.ir_model.specs.Resolve as resolving;
-ghost use Rattle.ir_resolve.specs.Seen.{variable_of, cell_count};
-ghost use Rattle.ir_resolve.specs.Values.{value_of};
+ghost use Rattle.ir_program.specs.Seen.{variable_of, cell_count};
+ghost use Rattle.ir_program.specs.Values.{value_of};
 ghost use Rattle.ir_resolve.specs.Scopes.{scope_of};
-ghost use Rattle.ir_resolve.specs.declared.program.Variable.{Variable};
+ghost use Rattle.ir_program.specs.declared.program.Variable.{Variable};
 
-use crate::lookup::is_integer;
-use crate::program::Variable;
 use crate::scope::{in_16_bits, in_32_bits};
 use crate::storage::storage;
 use crate::tables::Scope;
-use crate::value::{Instance, Value};
+use ir_program::program::Variable;
+use ir_program::value::Value;
 use ir_model::firmware::{Cell, Firmware, Global as GlobalDecl};
 use ir_model::types::Ty;
 use listed::Listed;
 use std::alloc::{AllocError, Global};
-
-/// What a cell or a register of this type holds before it is written: 0 or null.
-pub fn zero(ty: &Ty) -> Value
-    ensures { value_of result ≡ resolving.zero_of (type_of ty.now) }
-{
-    if is_integer(ty) {
-        Value::Number(0)
-    } else {
-        Value::Null
-    }
-}
 
 /// What a cell holds that a text gives.
 ///

@@ -9,8 +9,8 @@ use Rattle.ir_model.specs.Resolved.{Value}
 use Rattle.ir_model.specs.State as state
 use Rattle.ir_model.specs.Step.{is_frame, frame_in, with_local}
 use Rattle.ir_laws.specs.Laws.{IsOrdered}
-use Rattle.ir_resolve.specs.declared.value.Value.{Value as Held}
-use Rattle.ir_resolve.specs.Values.{value_of}
+use Rattle.ir_program.specs.declared.value.Value.{Value as Held}
+use Rattle.ir_program.specs.Values.{value_of}
 use Rattle.ir_run.specs.declared.frame.Frame.{Frame}
 use Rattle.ir_run.specs.Acts.{frame_of}
 use Rattle.ir_run.specs.Found.{IsPlace}

@@ -2,8 +2,8 @@
 use Rattle.std.proofs.Common.{◌≡◌, ℕ, zero, suc, ◌<◌, ◌≤◌, List, [], ◌∷◌, map, length, get_or, refl, arith}
 use Rattle.ir_model.specs.Layout.{Known}
 use Rattle.ir_model.specs.Resolved as plain
-use Rattle.ir_resolve.specs.declared.program.Operation.{Operation}
-use Rattle.ir_resolve.specs.Seen.{operation_of}
+use Rattle.ir_program.specs.declared.program.Operation.{Operation}
+use Rattle.ir_program.specs.Seen.{operation_of}
 
 -- before the end: an instruction
 pub here_before : (ks : List Known) (is : List Operation) (t : plain.NumberedTerm) (k : ℕ) (d : Operation) → k < length is

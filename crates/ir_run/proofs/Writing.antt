@@ -3,8 +3,8 @@ use Rattle.std.proofs.Common.{◌≡◌, ℕ, zero, suc, List, [], ◌∷◌, ma
 use Rattle.std.specs.List.{slice_get}
 use Rattle.std.proofs.lemmas.List.{map-set}
 use Rattle.device_model.specs.Input.{without_first}
-use Rattle.ir_resolve.specs.declared.value.Value.{Value as Held}
-use Rattle.ir_resolve.specs.Values.{value_of}
+use Rattle.ir_program.specs.declared.value.Value.{Value as Held}
+use Rattle.ir_program.specs.Values.{value_of}
 
 -- std's `map-set`, under a name that code can cite
 pub written : {A B : Type 0} (f : A → B) (xs : List A) (i : ℕ) (x : A) → map f (set xs i x) ≡ set (map f xs) i (f x)

@@ -3,8 +3,8 @@ use Rattle.std.specs.Prelude.{map}
 use Rattle.ir_model.specs.State as state
 use Rattle.ir_model.specs.State.{SourceFault, SourceEnd}
 use Rattle.ir_model.specs.Step as step
-use Rattle.ir_resolve.specs.Values.{value_of, instance_of}
-use Rattle.ir_resolve.specs.Storages.{pointee_of}
+use Rattle.ir_program.specs.Values.{value_of, instance_of}
+use Rattle.ir_program.specs.Storages.{pointee_of}
 use Rattle.ir_run.specs.declared.frame.Frame as frames
 use Rattle.ir_run.specs.declared.outcome.FaultKind.{FaultKind}
 use Rattle.ir_run.specs.declared.outcome.FaultKind.TheVariants.{Null, Dead, NoCell, Constant}

@@ -5,7 +5,7 @@ use Rattle.ir_model.specs.Resolved.{Value}
 use Rattle.ir_model.specs.State as state
 use Rattle.ir_model.specs.Step.{frame_in, with_local}
 use Rattle.ir_laws.specs.Laws.{IsOrdered}
-use Rattle.ir_resolve.specs.Values.{value_of}
+use Rattle.ir_program.specs.Values.{value_of}
 use Rattle.ir_run.specs.declared.frame.Frame.{Frame}
 use Rattle.ir_run.specs.Acts.{frame_of}
 

@@ -1,7 +1,7 @@
 -- The state of a run as the definition's.
 use Rattle.std.specs.Prelude.{◌≡◌, ◌∷◌, map, Some, None}
 use Rattle.ir_model.specs.State as state
-use Rattle.ir_resolve.specs.Values.{value_of}
+use Rattle.ir_program.specs.Values.{value_of}
 use Rattle.ir_run.specs.declared.parts.Parts as parts
 use Rattle.ir_run.specs.Acts.{frame_of, end_of}
 use Rattle.ir_run.specs.declared.outcome.SourceStep.{SourceStep}

@@ -2,10 +2,10 @@
 
 ghost use Rattle.std.specs.Prelude.{◌≡◌};
 ghost use Rattle.ir_model.specs.Step as step;
-ghost use Rattle.ir_resolve.specs.Values.{value_of};
+ghost use Rattle.ir_program.specs.Values.{value_of};
 
 use ir_model::firmware::{BinOp, CmpOp};
-use ir_resolve::value::Value;
+use ir_program::value::Value;
 use words::operations;
 
 /// What an operation makes of two numbers.

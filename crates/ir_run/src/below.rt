@@ -5,7 +5,7 @@ ghost use Rattle.std.specs.Option.{option_map, option_copied};
 ghost use Rattle.std.proofs.Math.ListN.{get_or, set};
 ghost use Rattle.ir_model.specs.State as state;
 ghost use Rattle.ir_model.specs.Step as step;
-ghost use Rattle.ir_resolve.specs.Values.{value_of};
+ghost use Rattle.ir_program.specs.Values.{value_of};
 ghost use Rattle.ir_run.specs.declared.frame.Frame.{Frame};
 ghost use Rattle.ir_run.specs.Acts.{frame_of};
 ghost use Rattle.std.specs.List.{slice_get};
@@ -13,7 +13,7 @@ ghost use Rattle.ir_run.specs.Found.{AreOrdered};
 
 use crate::frame::Frame;
 use crate::search::place_of;
-use ir_resolve::value::Value;
+use ir_program::value::Value;
 use std::alloc::{AllocError, Global};
 use std::marker::Model;
 

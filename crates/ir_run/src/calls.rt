@@ -5,8 +5,8 @@ ghost use Rattle.std.proofs.Math.ListN.{get_or};
 ghost use Rattle.ir_model.specs.Resolved as plain;
 ghost use Rattle.ir_model.specs.State as state;
 ghost use Rattle.ir_model.specs.Step as step;
-ghost use Rattle.ir_resolve.specs.Values.{value_of};
-ghost use Rattle.ir_resolve.specs.Seen.{exit_of, program_of};
+ghost use Rattle.ir_program.specs.Values.{value_of};
+ghost use Rattle.ir_program.specs.Seen.{exit_of, program_of};
 ghost use Rattle.ir_run.specs.Acts.{frame_of};
 ghost use Rattle.ir_run.specs.States.{running_of, memory_of, Answers};
 
@@ -16,8 +16,8 @@ use crate::outcome::{SourceEnd, SourceStep};
 use crate::parts::Parts;
 use crate::places::result_register;
 use crate::registers::{branch_target, jump, write_register};
-use ir_resolve::program::{Exit, Program};
-use ir_resolve::value::Value;
+use ir_program::program::{Exit, Program};
+use ir_program::value::Value;
 use std::alloc::{AllocError, Global};
 use std::mem::replace;
 

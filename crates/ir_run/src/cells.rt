@@ -7,13 +7,13 @@ ghost use Rattle.ir_model.specs.Types.{type_of};
 ghost use Rattle.ir_model.specs.Layout.{known, shape, cell_at};
 ghost use Rattle.ir_model.specs.Plain.{struct_of};
 ghost use Rattle.ir_model.specs.Step as step;
-ghost use Rattle.ir_resolve.specs.Values.{value_of};
-ghost use Rattle.ir_resolve.specs.Storages.{pointee_of};
+ghost use Rattle.ir_program.specs.Values.{value_of};
+ghost use Rattle.ir_program.specs.Storages.{pointee_of};
 ghost use Rattle.ir_run.specs.Cells.{is_port};
 
 use ir_model::types::Ty;
-use ir_resolve::lookup::is_integer;
-use ir_resolve::value::Value;
+use ir_program::types::is_integer;
+use ir_program::value::Value;
 use layouts::table::Layouts;
 
 /// The number of the cell at an offset of an object of a type; `ty` is the cell's type, and none is u32.

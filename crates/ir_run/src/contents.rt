@@ -2,9 +2,9 @@
 
 ghost use Rattle.std.specs.Prelude.{◌≡◌, [], map};
 ghost use Rattle.std.proofs.Math.ListN.{get_or, set};
-ghost use Rattle.ir_resolve.specs.declared.value.Value.TheVariants.{Number};
+ghost use Rattle.ir_program.specs.declared.value.Value.TheVariants.{Number};
 
-use ir_resolve::value::Value;
+use ir_program::value::Value;
 use std::marker::Model;
 
 /// Values by number.
@@ -15,7 +15,7 @@ pub struct Values {
 
 impl Model for Values {
     ghost use Rattle.std.specs.Prelude.{List};
-    ghost use Rattle.ir_resolve.specs.declared.value.Value.{Value as Held};
+    ghost use Rattle.ir_program.specs.declared.value.Value.{Value as Held};
 
     ghost Value = { List Held };
 
@@ -59,7 +59,7 @@ pub struct Contents {
 
 impl Model for Contents {
     ghost use Rattle.std.specs.Prelude.{List};
-    ghost use Rattle.ir_resolve.specs.declared.value.Value.{Value as Held};
+    ghost use Rattle.ir_program.specs.declared.value.Value.{Value as Held};
 
     ghost Value = { List (List Held) };
 

@@ -5,20 +5,20 @@ ghost use Rattle.std.proofs.Math.ListN.{get_or};
 ghost use Rattle.ir_model.specs.Types.{type_of};
 ghost use Rattle.ir_model.specs.Resolve.{zero_of};
 ghost use Rattle.ir_model.specs.State as state;
-ghost use Rattle.ir_resolve.specs.Values.{value_of};
-ghost use Rattle.ir_resolve.specs.Storages.{shape_of};
+ghost use Rattle.ir_program.specs.Values.{value_of};
+ghost use Rattle.ir_program.specs.Storages.{shape_of};
 ghost use Rattle.ir_model.specs.Plain.{struct_of};
 ghost use Rattle.ir_model.specs.Layout.{known, shape};
 ghost use Rattle.layouts.specs.Cells.{lent_types, types_of};
-ghost use Rattle.ir_resolve.specs.Seen.{routine_of, program_of};
+ghost use Rattle.ir_program.specs.Seen.{routine_of, program_of};
 ghost use Rattle.ir_run.specs.Acts.{frame_of};
 
 use crate::contents::{Contents, Values};
 use crate::frame::Frame;
 use ir_model::types::Ty;
-use ir_resolve::program::{Program, Routine, Storage};
-use ir_resolve::value::Value;
-use ir_resolve::variables::zero;
+use ir_program::program::{Program, Routine, Storage};
+use ir_program::value::Value;
+use ir_program::types::zero;
 use layouts::table::Layouts;
 use std::alloc::{AllocError, Global};
 

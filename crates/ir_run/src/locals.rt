@@ -8,9 +8,9 @@ ghost use Rattle.ir_model.specs.Layout.{cell_at};
 ghost use Rattle.ir_model.specs.Resolved.{cells_of_local};
 ghost use Rattle.ir_model.specs.State as state;
 ghost use Rattle.ir_model.specs.Step as step;
-ghost use Rattle.ir_resolve.specs.Values.{value_of};
-ghost use Rattle.ir_resolve.specs.Storages.{pointee_of};
-ghost use Rattle.ir_resolve.specs.Seen.{program_of};
+ghost use Rattle.ir_program.specs.Values.{value_of};
+ghost use Rattle.ir_program.specs.Storages.{pointee_of};
+ghost use Rattle.ir_program.specs.Seen.{program_of};
 ghost use Rattle.ir_run.specs.Acts.{frame_of};
 ghost use Rattle.ir_run.specs.States.{running_of, memory_of, Answers};
 
@@ -22,8 +22,8 @@ use crate::outcome::{FaultKind, SourceEnd, SourceStep};
 use crate::parts::Parts;
 use crate::registers::advance;
 use ir_model::types::Ty;
-use ir_resolve::program::Program;
-use ir_resolve::value::Value;
+use ir_program::program::Program;
+use ir_program::value::Value;
 use std::alloc::AllocError;
 
 /// The number of the cell of a type at an offset of a local.

@@ -1,6 +1,6 @@
 //! What stands at a place of a function.
 
-use ir_resolve::program::{Exit, Operation};
+use ir_program::program::{Exit, Operation};
 
 /// What stands at a place of a block.
 #[derive(Drop)]

@@ -4,12 +4,12 @@ ghost use Rattle.std.specs.Prelude.{◌≡◌, List};
 ghost use Rattle.ir_model.specs.Layout.{Known};
 ghost use Rattle.ir_model.specs.Resolved as plain;
 ghost use Rattle.ir_model.specs.Step as step;
-ghost use Rattle.ir_resolve.specs.Seen.{operation_of, sequence_of, known_of, program_of};
+ghost use Rattle.ir_program.specs.Seen.{operation_of, sequence_of, known_of, program_of};
 ghost use Rattle.ir_run.specs.Standing.{here_of};
 
 use crate::frame::Frame;
 use crate::place::Here;
-use ir_resolve::program::{Exit, Operation, Program, Sequence};
+use ir_program::program::{Exit, Operation, Program, Sequence};
 
 // What stands at a place of a block.
 fn here_in<'p, 'a>(sequence: &'p Sequence<'a>, place: usize) -> Here<'p, 'a>

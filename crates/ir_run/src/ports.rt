@@ -3,9 +3,9 @@
 ghost use Rattle.std.specs.Prelude.{◌≡◌, ◌∷◌, [], map, true, IfOk, OnErr};
 ghost use Rattle.std.proofs.Math.ListN.{get_or};
 ghost use Rattle.ir_model.specs.Step as step;
-ghost use Rattle.ir_resolve.specs.Values.{value_of};
-ghost use Rattle.ir_resolve.specs.Storages.{pointee_of};
-ghost use Rattle.ir_resolve.specs.Seen.{program_of};
+ghost use Rattle.ir_program.specs.Values.{value_of};
+ghost use Rattle.ir_program.specs.Storages.{pointee_of};
+ghost use Rattle.ir_program.specs.Seen.{program_of};
 ghost use Rattle.ir_run.specs.Acts.{frame_of};
 ghost use Rattle.ir_run.specs.States.{running_of, memory_of, Answers};
 
@@ -16,8 +16,8 @@ use crate::parts::Parts;
 use crate::registers::{advance, write_register};
 use device_model::event::Event;
 use ir_model::types::Ty;
-use ir_resolve::program::Program;
-use ir_resolve::value::Value;
+use ir_program::program::Program;
+use ir_program::value::Value;
 use std::alloc::AllocError;
 
 // The compartment of the running function; 0 where it has none.

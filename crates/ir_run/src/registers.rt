@@ -2,12 +2,12 @@
 
 ghost use Rattle.std.specs.Prelude.{◌≡◌, OnOk, OnErr, nat_eq, if◌then◌else◌};
 ghost use Rattle.ir_model.specs.Step as step;
-ghost use Rattle.ir_resolve.specs.Values.{value_of};
+ghost use Rattle.ir_program.specs.Values.{value_of};
 ghost use Rattle.ir_run.specs.Acts.{frame_of};
 
 use crate::arithmetic::number_in;
 use crate::frame::Frame;
-use ir_resolve::value::Value;
+use ir_program::value::Value;
 use std::alloc::AllocError;
 
 /// Writes a register.

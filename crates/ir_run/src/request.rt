@@ -2,7 +2,7 @@
 
 use crate::outcome::FaultKind;
 use ir_model::types::Ty;
-use ir_resolve::value::{Address, Value};
+use ir_program::value::{Address, Value};
 use listed::Listed;
 
 /// What an instruction asks for.

@@ -3,7 +3,7 @@
 ghost use Rattle.std.specs.Prelude.{◌≡◌, ◌-◌, ◌^◌, ◌<◌, IfOk, OnErr, OnOk};
 ghost use Rattle.ir_laws.specs.Laws.{HasOrderedFrames};
 ghost use Rattle.ir_model.specs.Step.{source_turn, source_step};
-ghost use Rattle.ir_resolve.specs.Seen.{program_of};
+ghost use Rattle.ir_program.specs.Seen.{program_of};
 ghost use Rattle.ir_run.specs.Runs.{IsAnswer};
 ghost use Rattle.ir_run.specs.Phases.{state_of};
 
@@ -13,9 +13,7 @@ use crate::starting::started;
 use crate::turn::turn;
 use device_model::tape::Tape;
 use ir_laws::{events, frames};
-use ir_model::checked::Checked;
-use ir_resolve::program::Program;
-use ir_resolve::resolving::resolve;
+use ir_program::program::Program;
 use listed::Listed;
 use std::alloc::{AllocError, Global};
 use std::marker::Model;
@@ -63,7 +61,7 @@ pub struct SourceRun<'a> {
 }
 
 impl<'a> Model for SourceRun<'a> {
-    ghost use Rattle.ir_resolve.specs.Seen.{program_of};
+    ghost use Rattle.ir_program.specs.Seen.{program_of};
     ghost use Rattle.ir_run.specs.Runs.{RunState, IsRun};
     ghost use Rattle.ir_run.specs.Phases.{state_of};
 
@@ -80,41 +78,17 @@ impl<'a> Model for SourceRun<'a> {
 }
 
 impl<'a> SourceRun<'a> {
-    ghost use Rattle.ir_model.specs.Plain.{firmware_of};
-    ghost use Rattle.ir_model.specs.Resolve.{resolve};
     ghost use Rattle.ir_model.specs.State as state;
-    ghost use Rattle.ir_resolve.specs.Seen.{program_of};
+    ghost use Rattle.ir_program.specs.Seen.{program_of};
     ghost use Rattle.ir_run.specs.Runs.{IsStep, AnswersDeclared};
 
-    /// The run of a firmware that has the compartment of each of its functions, by their numbers, and the words that
+    /// The run of a firmware with numbers for its names, that has the compartment of each of its functions, and the words that
     /// each peripheral gives: `main` is entered.
     ///
     /// # Errors
     ///
     /// There is no memory for it.
     pub fn start(
-        alloc: Global,
-        firmware: &'a Checked,
-        compartments: Vec<u32>,
-        tape: Tape,
-    ) -> Result<SourceRun<'a>, AllocError>
-        ensures { IfOk result (λ run. run ≡ record {
-          program = resolve (firmware_of firmware.now);
-          compartments = compartments.items;
-          state = state.start (resolve (firmware_of firmware.now)) tape;
-          taken = 0;
-        }) }
-    {
-        let program = resolve(alloc, firmware)?;
-        SourceRun::over(alloc, program, compartments, tape)
-    }
-
-    /// The run of a program in place of a firmware.
-    ///
-    /// # Errors
-    ///
-    /// There is no memory for it.
-    pub(crate) fn over(
         alloc: Global,
         program: Program<'a>,
         compartments: Vec<u32>,

@@ -5,7 +5,7 @@ ghost use Rattle.words.specs.Arithmetic.{word};
 ghost use Rattle.ir_model.specs.Types.{type_of};
 ghost use Rattle.ir_model.specs.Plain.{struct_of};
 ghost use Rattle.ir_model.specs.Layout.{known, shape};
-ghost use Rattle.ir_resolve.specs.Storages.{pointee_of};
+ghost use Rattle.ir_program.specs.Storages.{pointee_of};
 
 use ir_model::types::Ty;
 use layouts::table::Layouts;

@@ -5,8 +5,8 @@ ghost use Rattle.ir_model.specs.Resolved.{NumberedGlobal};
 ghost use Rattle.ir_model.specs.State as state;
 ghost use Rattle.ir_model.specs.Plain.{struct_of};
 ghost use Rattle.ir_model.specs.Layout.{known};
-ghost use Rattle.ir_resolve.specs.Values.{value_of};
-ghost use Rattle.ir_resolve.specs.Seen.{variable_of, program_of};
+ghost use Rattle.ir_program.specs.Values.{value_of};
+ghost use Rattle.ir_program.specs.Seen.{variable_of, program_of};
 ghost use Rattle.ir_run.specs.States.{running_of};
 
 use crate::below::Below;
@@ -14,7 +14,7 @@ use crate::contents::Contents;
 use crate::entering::{first_contents, new_frame};
 use crate::parts::Parts;
 use device_model::tape::Tape;
-use ir_resolve::program::{Program, Variable};
+use ir_program::program::{Program, Variable};
 use layouts::table::Layouts;
 use std::alloc::{AllocError, Global};
 

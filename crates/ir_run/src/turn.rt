@@ -4,9 +4,9 @@ ghost use Rattle.std.specs.Prelude.{◌≡◌, ◌∷◌, map, IfOk, OnErr};
 ghost use Rattle.ir_laws.specs.Laws.{HasOrderedFrames};
 ghost use Rattle.ir_model.specs.Resolved.{global_at};
 ghost use Rattle.ir_model.specs.Step as step;
-ghost use Rattle.ir_resolve.specs.Values.{value_of, instance_of};
-ghost use Rattle.ir_resolve.specs.Storages.{pointee_of};
-ghost use Rattle.ir_resolve.specs.Seen.{program_of};
+ghost use Rattle.ir_program.specs.Values.{value_of, instance_of};
+ghost use Rattle.ir_program.specs.Storages.{pointee_of};
+ghost use Rattle.ir_program.specs.Seen.{program_of};
 ghost use Rattle.ir_run.specs.Acts.{frame_of, act_of};
 ghost use Rattle.ir_run.specs.States.{running_of, memory_of, Answers};
 
@@ -23,8 +23,8 @@ use crate::places::here;
 use crate::ports::{in_window, load_port, store_port};
 use crate::request::Act;
 use ir_model::types::Ty;
-use ir_resolve::program::Program;
-use ir_resolve::value::{Address, Instance, Value};
+use ir_program::program::Program;
+use ir_program::value::{Address, Instance, Value};
 use std::alloc::{AllocError, Global};
 
 /// Whether a global is never written.

@@ -13,7 +13,7 @@ use Rattle.ir_model.specs.Resolve as spans
 use Rattle.ir_model.specs.Resolve.{resolve}
 use Rattle.ir_model.specs.State.{start}
 use Rattle.ir_model.proofs.NoExcess.{word_short}
-use Rattle.ir_resolve.specs.Windows.{window_of, windows_of}
+use Rattle.ir_program.specs.Windows.{window_of, windows_of}
 use Rattle.ir_run.specs.Runs.{RunState}
 use Rattle.lines.specs.Lines.{name_of}
 use Rattle.source_output.specs.Compartments.{compartments_of}

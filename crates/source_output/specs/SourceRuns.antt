@@ -8,7 +8,7 @@ use Rattle.ir_model.specs.Resolve.{resolve}
 use Rattle.ir_model.specs.State.{SourceFault, NullFault, DeadFault, NoCellFault, ConstantFault, SourceEnd, Returned, OutOfInput, Faulted, SourceState, Running, Ended}
 use Rattle.ir_model.specs.Step.{source_step, source_event}
 use Rattle.ir_model.specs.Runs.{source_after, source_events}
-use Rattle.ir_resolve.specs.Windows.{windows_of}
+use Rattle.ir_program.specs.Windows.{windows_of}
 use Rattle.lines.specs.Lines.{event_line, line_feed}
 use Rattle.source_output.specs.Compartments.{compartments_of}
 

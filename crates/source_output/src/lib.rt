@@ -4,7 +4,7 @@
 ghost use Rattle.std.specs.Prelude.{◌≡◌, ◌++◌, IsTrue, IfOk, IfErr, OnOk, OnErr};
 ghost use Rattle.outside.specs.Contents.{AddsPrefix};
 ghost use Rattle.ir_model.specs.Plain.{firmware_of};
-ghost use Rattle.ir_resolve.specs.Windows.{windows_of};
+ghost use Rattle.ir_program.specs.Windows.{windows_of};
 ghost use Rattle.source_output.specs.SourceRuns.{source_end, source_lines};
 ghost use Rattle.source_output.specs.Ends.{seen_end, IsCause};
 
@@ -17,6 +17,7 @@ use device_model::image::Window;
 use device_model::tape::Tape;
 use ending::end_line;
 use ir_model::checked::Checked;
+use ir_resolve::resolving::resolve;
 use ir_run::outcome::SourceEnd;
 use ir_run::run::SourceRun;
 use outside::{Failed, Sink};
@@ -80,7 +81,8 @@ pub fn print_source<O: Sink>(
         (AddsPrefix (O.written out.old) (O.written out.new) (source_lines (firmware_of firmware.now) tape steps)) }
 {
     let compartments = compartments(alloc, firmware.firmware())?;
-    let mut run = SourceRun::start(alloc, firmware, compartments, tape)?;
+    let program = resolve(alloc, firmware)?;
+    let mut run = SourceRun::start(alloc, program, compartments, tape)?;
     let end = print_events(&mut run, windows, steps, out)?;
     out.put(end_line(end))?;
     Ok(end)

@@ -19,7 +19,7 @@ use Rattle.std.proofs.lemmas.List.Sums.{AllPass-from_list_all}
 use Rattle.ir_model.specs.Canonical.{IsWithinLimits}
 use Rattle.straight.specs.Form.{IsStraight, is_straight, block_of, main_of, firmware_with}
 use Rattle.straight.specs.Image.{image_of, image_with, flash_of, bases_of, registers_of, insts_of}
-use Rattle.ir_resolve.specs.Windows.{window_of}
+use Rattle.ir_program.specs.Windows.{window_of}
 use Rattle.straight.specs.Resolved.{resolved_in, flash_with}
 use Rattle.ir_model.proofs.ForEach.{list_all_from_each}
 use Rattle.straight.proofs.Limits.{at_most_64, at_most_120}

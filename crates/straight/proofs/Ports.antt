@@ -17,7 +17,7 @@ use Rattle.ir_model.specs.Resolved.{Program, NumberedWindow, no_window}
 use Rattle.ir_model.specs.Resolve.{window_of as numbered_window}
 use Rattle.ir_model.specs.Step.{has_port}
 use Rattle.straight.specs.Image.{bases_of}
-use Rattle.ir_resolve.specs.Windows.{window_of}
+use Rattle.ir_program.specs.Windows.{window_of}
 use Rattle.straight.proofs.Windows.{same_number, at_most}
 use Rattle.straight.proofs.Setup.{Leading}
 

@@ -26,7 +26,7 @@ use Rattle.ir_model.specs.Typing.{IsTyped}
 use Rattle.ir_model.specs.Canonical.{Each, IsWithinLimits}
 use Rattle.straight.specs.Form.{is_straight}
 use Rattle.straight.specs.Image.{vector_bytes, start_code, filled_up, main_code, bases_of, image_of}
-use Rattle.ir_resolve.specs.Windows.{window_of}
+use Rattle.ir_program.specs.Windows.{window_of}
 use Rattle.straight.proofs.Values.{Good}
 use Rattle.straight.proofs.Resolved.{firmware, numbered, typed_windows, good_insts}
 use Rattle.straight.proofs.Limits.{at_most_64, at_most_120, named, words}

@@ -14,7 +14,7 @@ use Rattle.ir_model.specs.declared.check.Place.TheVariants as place
 use Rattle.ir_model.specs.Resolve.{has}
 use Rattle.ir_model.specs.Typing.{Checks, check, is_power_from, is_window, overlaps, periph_checks}
 use Rattle.ir_model.specs.Canonical.{Each}
-use Rattle.ir_resolve.specs.Windows.{window_of}
+use Rattle.ir_program.specs.Windows.{window_of}
 use Rattle.ir_model.proofs.Passing.{Pass, holds, behind}
 
 -- ---- one window

@@ -11,7 +11,7 @@ use Rattle.ir_model.specs.Plain.{PlainFirmware}
 use Rattle.ir_model.specs.Layout.{rounded_up}
 use Rattle.ir_model.specs.Resolved.{NumberedInst, func_at, block_at}
 use Rattle.ir_model.specs.Resolve.{resolve}
-use Rattle.ir_resolve.specs.Windows.{window_of}
+use Rattle.ir_program.specs.Windows.{window_of}
 use Rattle.straight.specs.Templates.{entry_code, insts_code, return_code, words_below_return}
 
 -- board A's memories

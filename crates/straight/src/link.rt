@@ -7,14 +7,14 @@ ghost use Rattle.straight.specs.Refines.{Refines};
 ghost use Rattle.straight.specs.Form.{IsStraight, is_straight};
 ghost use Rattle.straight.specs.Image.{image_of, image_with};
 ghost use Rattle.straight.specs.Resolved.{flash_with};
-ghost use Rattle.ir_resolve.specs.Windows.{window_of};
+ghost use Rattle.ir_program.specs.Windows.{window_of};
 
 use crate::flash::flash;
 use crate::laws::images;
 use device_model::image::Image;
 use ir_model::checked::Checked;
 use ir_model::firmware::{Block, FileDecl, Func, Inst, Peripheral, Slot};
-use ir_resolve::windows::windows;
+use ir_program::windows::windows;
 use listed::Listed;
 use std::alloc::{AllocError, Global};
 

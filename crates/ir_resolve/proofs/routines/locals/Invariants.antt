@@ -1,8 +1,8 @@
 use Rattle.std.proofs.Common.{◌≡◌, map, take, length}
 use Rattle.ir_model.specs.Layout.{known, shape, Shape}
 use Rattle.ir_model.specs.Plain.{slot_of, struct_of}
-use Rattle.ir_resolve.specs.declared.program.Storage.{Storage}
-use Rattle.ir_resolve.specs.Storages.{shape_of}
+use Rattle.ir_program.specs.declared.program.Storage.{Storage}
+use Rattle.ir_program.specs.Storages.{shape_of}
 use Rattle.ir_resolve.proofs.routines.locals.Given as goal
 
 abbrev pub invariant-loop-slot : goal.invariant-loop-slot

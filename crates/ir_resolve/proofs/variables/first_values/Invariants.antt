@@ -1,6 +1,6 @@
 use Rattle.std.proofs.Common.{◌≡◌, map, take}
 use Rattle.ir_model.specs.Resolve as resolving
-use Rattle.ir_resolve.specs.Values.{value_of}
+use Rattle.ir_program.specs.Values.{value_of}
 use Rattle.ir_resolve.specs.Scopes.{scope_of}
 use Rattle.ir_resolve.proofs.variables.first_values.Given as goal
 

@@ -2,8 +2,8 @@ use Rattle.std.proofs.Common.{◌≡◌, map, take}
 use Rattle.ir_model.specs.Plain.{global_of, struct_of}
 use Rattle.ir_model.specs.Layout.{known}
 use Rattle.ir_model.specs.Resolve as resolving
-use Rattle.ir_resolve.specs.declared.program.Variable.{Variable}
-use Rattle.ir_resolve.specs.Seen.{variable_of, cell_count}
+use Rattle.ir_program.specs.declared.program.Variable.{Variable}
+use Rattle.ir_program.specs.Seen.{variable_of, cell_count}
 use Rattle.ir_resolve.specs.Scopes.{scope_of}
 use Rattle.ir_resolve.proofs.variables.variables.Given as goal
 

@@ -1,6 +1,6 @@
 use Rattle.std.proofs.Common.{◌≡◌, map, take}
 use Rattle.ir_model.specs.Step.{register}
-use Rattle.ir_resolve.specs.Values.{value_of}
+use Rattle.ir_program.specs.Values.{value_of}
 use Rattle.ir_run.specs.Acts.{frame_of}
 use Rattle.ir_run.proofs.act.arguments.Given as goal
 

@@ -2,7 +2,7 @@ use Rattle.std.proofs.Common.{◌≡◌, ◌+◌, ◌*◌, sym, ap, ◌∙◌}
 use Rattle.ir_model.specs.Resolved.{Value, At}
 use Rattle.ir_model.specs.Step.{act, with_pointer, register, number_in, Sets}
 use Rattle.words.specs.Arithmetic.{word}
-use Rattle.ir_resolve.specs.Values.{instance_of, value_of}
+use Rattle.ir_program.specs.Values.{instance_of, value_of}
 use Rattle.ir_run.specs.Acts.{frame_of}
 use Rattle.ir_run.proofs.Elements.{offset_word}
 use Rattle.ir_run.proofs.act.element_at.Goals as goal

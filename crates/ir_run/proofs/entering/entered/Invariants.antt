@@ -1,7 +1,7 @@
 use Rattle.std.proofs.Common.{◌≡◌, ◌++◌, map, drop}
 use Rattle.ir_model.specs.Types.{type_of}
 use Rattle.ir_model.specs.State as state
-use Rattle.ir_resolve.specs.Values.{value_of}
+use Rattle.ir_program.specs.Values.{value_of}
 use Rattle.ir_run.proofs.entering.entered.Given as goal
 
 abbrev pub invariant-loop-i : goal.invariant-loop-i

@@ -4,9 +4,9 @@ use Rattle.ir_model.specs.Plain.{struct_of}
 use Rattle.ir_model.specs.Layout.{known, shape}
 use Rattle.ir_model.specs.State.{zero_local, entered}
 use Rattle.layouts.specs.Cells.{types_of}
-use Rattle.ir_resolve.specs.declared.program.Storage.{Storage}
-use Rattle.ir_resolve.specs.Values.{value_of}
-use Rattle.ir_resolve.specs.Storages.{shape_of}
+use Rattle.ir_program.specs.declared.program.Storage.{Storage}
+use Rattle.ir_program.specs.Values.{value_of}
+use Rattle.ir_program.specs.Storages.{shape_of}
 use Rattle.ir_run.proofs.Filling.{one_more, zero_entered}
 use Rattle.ir_run.proofs.entering.zero_locals.Goals as goal
 

@@ -2,8 +2,8 @@ use Rattle.std.proofs.Common.{◌≡◌, map, take}
 use Rattle.ir_model.specs.State as state
 use Rattle.ir_model.specs.Plain.{struct_of}
 use Rattle.ir_model.specs.Layout.{known}
-use Rattle.ir_resolve.specs.Values.{value_of}
-use Rattle.ir_resolve.specs.Storages.{shape_of}
+use Rattle.ir_program.specs.Values.{value_of}
+use Rattle.ir_program.specs.Storages.{shape_of}
 use Rattle.ir_run.proofs.entering.zero_locals.Given as goal
 
 abbrev pub invariant-loop-i : goal.invariant-loop-i

@@ -1,7 +1,7 @@
 use Rattle.std.proofs.Common.{map, sym}
-use Rattle.ir_resolve.specs.Values.{value_of}
-use Rattle.ir_resolve.specs.Storages.{pointee_of}
-use Rattle.ir_resolve.specs.Seen.{program_of}
+use Rattle.ir_program.specs.Values.{value_of}
+use Rattle.ir_program.specs.Storages.{pointee_of}
+use Rattle.ir_program.specs.Seen.{program_of}
 use Rattle.ir_run.specs.Acts.{frame_of}
 use Rattle.ir_run.specs.States.{running_of, memory_of}
 use Rattle.ir_run.proofs.Stored.{stored}

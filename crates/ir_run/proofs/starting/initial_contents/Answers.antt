@@ -5,8 +5,8 @@ use Rattle.ir_model.specs.Layout.{known, shape}
 use Rattle.ir_model.specs.Resolved.{NumberedGlobal}
 use Rattle.ir_model.specs.State.{entered}
 use Rattle.layouts.specs.Cells.{types_of}
-use Rattle.ir_resolve.specs.Values.{value_of}
-use Rattle.ir_resolve.specs.Seen.{variable_of}
+use Rattle.ir_program.specs.Values.{value_of}
+use Rattle.ir_program.specs.Seen.{variable_of}
 use Rattle.ir_run.proofs.Filling.{one_more, filled_entered}
 use Rattle.ir_run.proofs.starting.initial_contents.Goals as goal
 

@@ -2,8 +2,8 @@ use Rattle.std.proofs.Common.{◌≡◌, map, take}
 use Rattle.ir_model.specs.Resolved.{NumberedGlobal}
 use Rattle.ir_model.specs.Plain.{struct_of}
 use Rattle.ir_model.specs.Layout.{known}
-use Rattle.ir_resolve.specs.Values.{value_of}
-use Rattle.ir_resolve.specs.Seen.{variable_of}
+use Rattle.ir_program.specs.Values.{value_of}
+use Rattle.ir_program.specs.Seen.{variable_of}
 use Rattle.ir_run.proofs.starting.initial_contents.Given as goal
 
 abbrev pub invariant-loop-i : goal.invariant-loop-i

@@ -4,7 +4,7 @@ ghost use Rattle.std.specs.Prelude.{◌≡◌, ℕ, MatchOption};
 ghost use Rattle.ir_model.specs.Resolved as plain;
 ghost use Rattle.ir_model.specs.State.{NullFault};
 ghost use Rattle.ir_model.specs.Step as step;
-ghost use Rattle.ir_resolve.specs.Values.{instance_of, value_of};
+ghost use Rattle.ir_program.specs.Values.{instance_of, value_of};
 
 /// An object that can be pointed into.
 #[derive(Clone, Copy, PartialEq, Eq, Debug)]

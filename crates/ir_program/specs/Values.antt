@@ -1,9 +1,9 @@
 -- Values of the code as the definition's.
 use Rattle.ir_model.specs.Resolved as plain
-use Rattle.ir_resolve.specs.declared.value.Instance as instances
-use Rattle.ir_resolve.specs.declared.value.Instance.TheVariants as instance
-use Rattle.ir_resolve.specs.declared.value.Value as values
-use Rattle.ir_resolve.specs.declared.value.Value.TheVariants as value
+use Rattle.ir_program.specs.declared.value.Instance as instances
+use Rattle.ir_program.specs.declared.value.Instance.TheVariants as instance
+use Rattle.ir_program.specs.declared.value.Value as values
+use Rattle.ir_program.specs.declared.value.Value.TheVariants as value
 
 abbrev pub instance_of : instances.Instance → plain.Instance
 instance_of (instance.Global g) = plain.OfGlobal g

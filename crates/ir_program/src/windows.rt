@@ -1,7 +1,7 @@
 //! The windows of a firmware's peripherals.
 
 ghost use Rattle.std.specs.Prelude.{◌≡◌, map, IfOk};
-ghost use Rattle.ir_resolve.specs.Windows.{window_of};
+ghost use Rattle.ir_program.specs.Windows.{window_of};
 
 use device_model::image::Window;
 use ir_model::firmware::Peripheral;

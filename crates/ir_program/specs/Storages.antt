@@ -4,7 +4,7 @@ use Rattle.std.specs.Borrow.{Bor}
 use Rattle.ir_model.specs.declared.types.Ty as types
 use Rattle.ir_model.specs.Types.{PlainType, U32, type_of}
 use Rattle.ir_model.specs.Layout.{Known, Shape, shape}
-use Rattle.ir_resolve.specs.declared.program.Storage.{Storage}
+use Rattle.ir_program.specs.declared.program.Storage.{Storage}
 
 -- a type that may be missing: then it is u32
 abbrev pub pointee_of : Option (Bor types.Ty) → PlainType

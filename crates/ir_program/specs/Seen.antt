@@ -6,20 +6,20 @@ use Rattle.ir_model.specs.Layout.{Known, known, Shape, shape}
 use Rattle.ir_model.specs.Resolve.{row_from, filled}
 use Rattle.ir_model.specs.Resolved as plain
 use Rattle.ir_model.specs.Resolved.{NumberedInst, NumberedTerm, NumberedBlock, NumberedGlobal, NumberedWindow, NumberedFunc}
-use Rattle.ir_resolve.specs.declared.program.Target.{Target}
-use Rattle.ir_resolve.specs.declared.program.Target.TheVariants as target
-use Rattle.ir_resolve.specs.declared.program.Operation.{Operation}
-use Rattle.ir_resolve.specs.declared.program.Operation.TheVariants as operation
-use Rattle.ir_resolve.specs.declared.program.Exit.{Exit}
-use Rattle.ir_resolve.specs.declared.program.Exit.TheVariants as exit
-use Rattle.ir_resolve.specs.declared.program.Sequence.{Sequence}
-use Rattle.ir_resolve.specs.declared.program.Storage.{Storage}
-use Rattle.ir_resolve.specs.declared.program.Variable.{Variable}
-use Rattle.ir_resolve.specs.declared.program.Span.{Span}
-use Rattle.ir_resolve.specs.declared.program.Routine.{Routine}
-use Rattle.ir_resolve.specs.declared.program.Program as programs
-use Rattle.ir_resolve.specs.Values.{value_of}
-use Rattle.ir_resolve.specs.Storages.{pointee_of, shape_of}
+use Rattle.ir_program.specs.declared.program.Target.{Target}
+use Rattle.ir_program.specs.declared.program.Target.TheVariants as target
+use Rattle.ir_program.specs.declared.program.Operation.{Operation}
+use Rattle.ir_program.specs.declared.program.Operation.TheVariants as operation
+use Rattle.ir_program.specs.declared.program.Exit.{Exit}
+use Rattle.ir_program.specs.declared.program.Exit.TheVariants as exit
+use Rattle.ir_program.specs.declared.program.Sequence.{Sequence}
+use Rattle.ir_program.specs.declared.program.Storage.{Storage}
+use Rattle.ir_program.specs.declared.program.Variable.{Variable}
+use Rattle.ir_program.specs.declared.program.Span.{Span}
+use Rattle.ir_program.specs.declared.program.Routine.{Routine}
+use Rattle.ir_program.specs.declared.program.Program as programs
+use Rattle.ir_program.specs.Values.{value_of}
+use Rattle.ir_program.specs.Storages.{pointee_of, shape_of}
 
 abbrev pub target_of : Target → plain.Named
 target_of (target.Global g) = plain.TheGlobal g

@@ -1,0 +1,4 @@
+pub mod Values
+pub mod Storages
+pub mod Seen
+pub mod Windows
