@@ -1,12 +1,12 @@
 -- All checks in two parts.
-use Rattle.std.proofs.Common.{◌≡◌, ◌∙◌, ap, sym, subst, [], ◌∷◌, map, ◌++◌, None, append_assoc}
+use Rattle.std.proofs.Common.{◌≡◌, ◌∙◌, ap, sym, subst, [], ◌∷◌, map, ◌++◌, None, Result, Ok, Err, append_assoc}
 use Rattle.ir_model.specs.declared.check.CheckKind.TheVariants.{NoMain}
 use Rattle.ir_model.specs.declared.check.Place.TheVariants as place
 use Rattle.ir_model.specs.declared.firmware.Peripheral.{Peripheral}
 use Rattle.ir_model.specs.Plain.{PlainGlobal, PlainFirmware, funcs_of}
 use Rattle.ir_model.specs.Typing.{Checks, check, checks, first_failing, globals_checks, file_checks, funcs_checks, has_main}
 use Rattle.ir_check.specs.declared.fault.CheckFault.{CheckFault}
-use Rattle.ir_check.specs.Found.{Refused}
+use Rattle.ir_check.specs.Found.{Refused, Finds}
 use Rattle.ir_check.specs.Parts.{declared_part, code_part}
 use Rattle.ir_check.proofs.Order.{refused_left, refused_right, first_append}
 
@@ -24,8 +24,14 @@ in_parts w =
 pub all_left : (w : PlainFirmware) (e : CheckFault) → Refused (declared_part w) e → Refused (checks w) e
 all_left w e h = subst (λ cs. Refused cs e) (sym (in_parts w)) (refused_left (declared_part w) (code_part w) e h)
 
-pub all_right : (w v : PlainFirmware) (e : CheckFault) → v ≡ w → first_failing (declared_part w) ≡ None → Refused (code_part v) e → Refused (checks w) e
+all_right : (w v : PlainFirmware) (e : CheckFault) → v ≡ w → first_failing (declared_part w) ≡ None → Refused (code_part v) e → Refused (checks w) e
 all_right w v e q n h = subst (λ cs. Refused cs e) (sym (in_parts w)) (refused_right (declared_part w) (code_part w) e n (subst (λ x. Refused (code_part x) e) q h))
 
-pub all_pass : (w v : PlainFirmware) → v ≡ w → first_failing (declared_part w) ≡ None → first_failing (code_part v) ≡ None → first_failing (checks w) ≡ None
+all_pass : (w v : PlainFirmware) → v ≡ w → first_failing (declared_part w) ≡ None → first_failing (code_part v) ≡ None → first_failing (checks w) ≡ None
 all_pass w v q n h = ap first_failing (in_parts w) ∙ (first_append (declared_part w) (code_part w) n ∙ subst (λ x. first_failing (code_part x) ≡ None) q h)
+
+-- what the checks of the code find behind declarations without a fault, all checks find
+pub all_behind : {T : Type 0} (w v : PlainFirmware) (r : Result T CheckFault) → v ≡ w → first_failing (declared_part w) ≡ None
+    → Finds (code_part v) r → Finds (checks w) r
+all_behind w v (Ok x) q n h = all_pass w v q n h
+all_behind w v (Err e) q n h = all_right w v e q n h

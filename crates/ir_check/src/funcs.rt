@@ -1,7 +1,7 @@
 //! Functions.
 
-ghost use Rattle.std.specs.Prelude.{◌≡◌, ◌+◌, ◌*◌, IfOk, IfErr};
-ghost use Rattle.ir_model.specs.Plain.{func_of, funcs_of, firmware_of};
+ghost use Rattle.std.specs.Prelude.{◌≡◌, ◌+◌, ◌*◌, [], IfOk, IfErr};
+ghost use Rattle.ir_model.specs.Plain.{func_of, funcs_of, firmware_of, names_of, regs_of};
 ghost use Rattle.ir_model.specs.Layout.{known, rounded_up};
 ghost use Rattle.ir_model.specs.Frames.{locals_size};
 ghost use Rattle.ir_model.specs.Typing.{funcs_checks};
@@ -24,19 +24,29 @@ use ir_model::types::Ty;
 use name_tables::{Names, add_slots};
 use std::alloc::{AllocError, Global};
 
+/// The slots of a function, no name being taken before.
 #[tactic(auto, using(crate::proofs::Order::refused_left, crate::proofs::Order::refused_right, crate::proofs::Order::first_stays, crate::proofs::Order::first_append))]
+fn slots_behind<'a>(scope: &Scope, seen: &mut Names<'a>, func: &'a Func) -> Result<u64, CheckFault>
+    requires scope { IsScope scope.now }
+    requires seen { seen.old ≡ [] }
+    ensures finds { Finds (slots_part scope.now.structs (firmware_of scope.now.firmware.now) (func_of func.now)) result }
+    ensures size { IfOk result (λ n. n ≡ locals_size (known (firmware_of scope.now.firmware.now).structs) (func_of func.now).locals) }
+{
+    let spot = Spot::Func(&func.name);
+    registers(&scope.structs, spot, seen, func.params.as_slice())?;
+    outcome(&scope.structs, spot, &func.result)?;
+    let size = locals(scope, spot, seen, func.locals.as_slice())?;
+    registers(&scope.structs, spot, seen, func.regs.as_slice())?;
+    Ok(size)
+}
+
 fn slots(alloc: Global, scope: &Scope, func: &Func) -> Result<u64, CheckFault>
     requires { IsScope scope.now }
     ensures finds { Finds (slots_part scope.now.structs (firmware_of scope.now.firmware.now) (func_of func.now)) result }
     ensures size { IfOk result (λ n. n ≡ locals_size (known (firmware_of scope.now.firmware.now).structs) (func_of func.now).locals) }
 {
-    let spot = Spot::Func(&func.name);
     let mut seen = Names::new(alloc);
-    registers(&scope.structs, spot, &mut seen, func.params.as_slice())?;
-    outcome(&scope.structs, spot, &func.result)?;
-    let size = locals(scope, spot, &mut seen, func.locals.as_slice())?;
-    registers(&scope.structs, spot, &mut seen, func.regs.as_slice())?;
-    Ok(size)
+    slots_behind(scope, &mut seen, func)
 }
 
 fn frame_bytes(registers: usize, locals: u64) -> Result<u32, CheckFault>
@@ -67,6 +77,23 @@ fn frame(scope: &Scope, func: &Func, locals: u64) -> Result<(), CheckFault>
     )
 }
 
+fn register_names(alloc: Global, func: &Func) -> Result<Names<'_>, AllocError>
+    ensures { IfOk result (λ n. n ≡ names_of (regs_of (func_of func.now))) }
+{
+    let mut names = Names::new(alloc);
+    add_slots(&mut names, func.params.as_slice())?;
+    add_slots(&mut names, func.regs.as_slice())?;
+    Ok(names)
+}
+
+fn local_names(alloc: Global, func: &Func) -> Result<Names<'_>, AllocError>
+    ensures { IfOk result (λ n. n ≡ names_of (func_of func.now).locals) }
+{
+    let mut names = Names::new(alloc);
+    add_slots(&mut names, func.locals.as_slice())?;
+    Ok(names)
+}
+
 fn func_scope<'a>(
     alloc: Global,
     func: &'a Func,
@@ -76,11 +103,8 @@ fn func_scope<'a>(
     ensures scope { IfOk result IsFuncScope }
     ensures func { IfOk result (λ s. s.func.now ≡ func.now) }
 {
-    let mut registers = Names::new(alloc);
-    add_slots(&mut registers, func.params.as_slice())?;
-    add_slots(&mut registers, func.regs.as_slice())?;
-    let mut locals = Names::new(alloc);
-    add_slots(&mut locals, func.locals.as_slice())?;
+    let registers = register_names(alloc, func)?;
+    let locals = local_names(alloc, func)?;
     Ok(FuncScope {
         func,
         registers,

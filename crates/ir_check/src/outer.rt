@@ -78,8 +78,7 @@ fn all(alloc: Global, firmware: &Firmware) -> Result<(), CheckFault>
     ensures { Finds (checks (firmware_of firmware.now)) result }
 {
     let scope = declared(alloc, firmware)?;
-    code(alloc, &scope)?;
-    Ok(())
+    code(alloc, &scope)
 }
 
 /// The firmware as a checked one. Where a check fails, or memory runs out, the firmware comes back with the fault: the

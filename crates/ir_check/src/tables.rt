@@ -1,7 +1,7 @@
 //! The tables of a firmware.
 
 ghost use Rattle.std.specs.Prelude.{◌≡◌, ◌++◌, map, flat_map, OnOk, IfOk};
-ghost use Rattle.ir_model.specs.Plain.{PlainFunc, PlainFile, PlainStruct, func_of, file_of, struct_of, firmware_of, funcs_of};
+ghost use Rattle.ir_model.specs.Plain.{PlainFunc, PlainFile, PlainGlobal, PlainStruct, func_of, file_of, struct_of, firmware_of, funcs_of};
 ghost use Rattle.ir_check.specs.Scopes.{IsScope, lent_funcs};
 
 use crate::scope::Scope;
@@ -29,6 +29,28 @@ fn all_funcs(alloc: Global, files: &[FileDecl]) -> Result<Vec<&Func>, AllocError
     Ok(bodies)
 }
 
+/// The names of globals and functions, and the functions themselves.
+struct Below<'a> {
+    globals: Names<'a>,
+    funcs: Names<'a>,
+    bodies: Vec<&'a Func>,
+}
+
+fn names_below(alloc: Global, firmware: &Firmware) -> Result<Below<'_>, AllocError>
+    ensures globals { IfOk result (λ b. b.globals ≡ map (λ (g : PlainGlobal). g.name) (firmware_of firmware.now).globals) }
+    ensures bodies { IfOk result (λ b. lent_funcs b.bodies.items ≡ funcs_of (firmware_of firmware.now)) }
+    ensures funcs { IfOk result (λ b. b.funcs ≡ map (λ (f : PlainFunc). f.name) (funcs_of (firmware_of firmware.now))) }
+{
+    let bodies = all_funcs(alloc, firmware.files.as_slice())?;
+    let funcs = func_names(alloc, bodies.as_slice())?;
+    let globals = global_names(alloc, firmware.globals.as_slice())?;
+    Ok(Below {
+        globals,
+        funcs,
+        bodies,
+    })
+}
+
 /// The tables of a firmware whose structs have these layouts.
 pub fn scope<'a>(
     alloc: Global,
@@ -43,9 +65,11 @@ pub fn scope<'a>(
     ensures scope { IfOk result IsScope }
     ensures firmware { IfOk result (λ s. s.firmware.now ≡ firmware.now) }
 {
-    let globals = global_names(alloc, firmware.globals.as_slice())?;
-    let bodies = all_funcs(alloc, firmware.files.as_slice())?;
-    let funcs = func_names(alloc, bodies.as_slice())?;
+    let Below {
+        globals,
+        funcs,
+        bodies,
+    } = names_below(alloc, firmware)?;
     Ok(Scope {
         firmware,
         structs,

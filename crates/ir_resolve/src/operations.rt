@@ -6,11 +6,11 @@ ghost use Rattle.ir_program.specs.Seen.{operation_of, exit_of, sequence_of};
 ghost use Rattle.ir_resolve.specs.Scopes.{scope_of, named_func, AreTables};
 
 use crate::lookup::{element, target};
-use ir_program::program::{Exit, Operation, Sequence};
 use crate::scope::{field_offset, in_16_bits, label_number, named, register_number, register_type};
 use crate::tables::{FuncTables, Scope};
 use ir_model::firmware::{Block, Inst, Term};
 use ir_model::name::Name;
+use ir_program::program::{Exit, Operation, Sequence};
 use listed::Listed;
 use std::alloc::{AllocError, Global};
 

@@ -1,16 +1,20 @@
 //! Checked firmwares with numbers for their names.
 
 ghost use Rattle.std.specs.Prelude.{◌≡◌, map, IfOk};
-ghost use Rattle.ir_model.specs.Plain.{firmware_of};
+ghost use Rattle.ir_model.specs.Layout.{known};
+ghost use Rattle.ir_model.specs.Plain.{firmware_of, func_of, struct_of};
 ghost use Rattle.ir_model.specs.Resolve as definition;
-ghost use Rattle.ir_program.specs.Seen.{program_of, span_of, HasCounts};
+ghost use Rattle.ir_program.specs.Seen.{program_of, variable_of, span_of, routine_of, cell_count, cell_counts, local_counts, HasCounts};
+ghost use Rattle.ir_program.specs.declared.program.Variable.{Variable as VariableOf};
+ghost use Rattle.ir_resolve.specs.Scopes.{scope_of};
 
-use ir_program::program::{Program, Span};
 use crate::routines::{all_funcs, file_numbers, routines};
 use crate::scope::{in_16_bits, named_scope};
+use crate::tables::Scope;
 use crate::variables::variables;
 use ir_model::checked::Checked;
-use ir_model::firmware::Firmware;
+use ir_model::firmware::{Firmware, Func};
+use ir_program::program::{Program, Routine, Span, Variable};
 use listed::Listed;
 use std::alloc::{AllocError, Global};
 
@@ -27,6 +31,44 @@ fn spans(alloc: Global, firmware: &Firmware) -> Result<Listed<Span>, AllocError>
     Ok(Listed::new(spans))
 }
 
+/// What a program has beside the layouts of its structs.
+struct Parts<'a> {
+    globals: Listed<Variable<'a>>,
+    periphs: Listed<Span>,
+    funcs: Listed<Routine<'a>>,
+    files: Listed<u32>,
+    main: u16,
+}
+
+/// The parts of the program of a firmware that has these names and these functions.
+fn numbered<'a>(
+    alloc: Global,
+    scope: &Scope<'a>,
+    firmware: &'a Firmware,
+    sources: &[&'a Func],
+) -> Result<Parts<'a>, AllocError>
+    ensures globals { IfOk result (λ p. map (variable_of (known (map struct_of scope.now.layouts))) p.globals ≡ map (definition.resolved_global (scope_of scope.now)) (firmware_of firmware.now).globals) }
+    ensures cells { IfOk result (λ p. map (λ (v : VariableOf). v.storage.cells) p.globals ≡ map cell_count (map (definition.resolved_global (scope_of scope.now)) (firmware_of firmware.now).globals)) }
+    ensures periphs { IfOk result (λ p. map span_of p.periphs ≡ map definition.window_of firmware.now.periphs) }
+    ensures funcs { IfOk result (λ p. map (routine_of (known (map struct_of scope.now.layouts))) p.funcs ≡ map (definition.resolved_func (scope_of scope.now)) (map (λ f. func_of f.now) sources.now)) }
+    ensures locals { IfOk result (λ p. map local_counts p.funcs ≡ map cell_counts (map (definition.resolved_func (scope_of scope.now)) (map (λ f. func_of f.now) sources.now))) }
+    ensures files { IfOk result (λ p. p.files ≡ definition.files_from 0 (firmware_of firmware.now).files) }
+    ensures main { IfOk result (λ p. p.main ≡ definition.number_of scope.now.funcs definition.main_name) }
+{
+    let main = in_16_bits(scope.funcs.find_or_len(b"main"))?;
+    let files = file_numbers(alloc, firmware)?;
+    let periphs = spans(alloc, firmware)?;
+    let globals = variables(alloc, scope, firmware)?;
+    let funcs = routines(alloc, scope, sources)?;
+    Ok(Parts {
+        globals,
+        periphs,
+        funcs,
+        files,
+        main,
+    })
+}
+
 #[tactic(auto, unfolding(ir_model::specs::Resolve::resolve))]
 fn resolved(alloc: Global, firmware: &Firmware) -> Result<Program<'_>, AllocError>
     ensures exact { IfOk result (λ p. program_of p ≡ definition.resolve (firmware_of firmware.now)) }
@@ -34,11 +76,13 @@ fn resolved(alloc: Global, firmware: &Firmware) -> Result<Program<'_>, AllocErro
 {
     let sources = all_funcs(alloc, firmware)?;
     let scope = named_scope(alloc, firmware, sources.as_slice())?;
-    let globals = variables(alloc, &scope, firmware)?;
-    let periphs = spans(alloc, firmware)?;
-    let funcs = routines(alloc, &scope, sources.as_slice())?;
-    let files = file_numbers(alloc, firmware)?;
-    let main = in_16_bits(scope.funcs.find_or_len(b"main"))?;
+    let Parts {
+        globals,
+        periphs,
+        funcs,
+        files,
+        main,
+    } = numbered(alloc, &scope, firmware, sources.as_slice())?;
     Ok(Program {
         layouts: scope.layouts,
         globals,

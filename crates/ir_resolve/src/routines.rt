@@ -11,12 +11,12 @@ ghost use Rattle.ir_resolve.specs.Scopes.{scope_of};
 ghost use Rattle.ir_program.specs.declared.program.Storage.{Storage};
 
 use crate::operations::sequences;
-use ir_program::program::{Routine, Storage};
 use crate::scope::func_tables;
 use crate::storage::storage;
 use crate::tables::Scope;
-use ir_model::firmware::{FileDecl, Firmware, Func, Slot};
+use ir_model::firmware::{Firmware, Func, Slot};
 use ir_model::types::Ty;
+use ir_program::program::{Routine, Storage};
 use layouts::table::Layouts;
 use listed::Listed;
 use std::alloc::{AllocError, Global};
@@ -63,9 +63,9 @@ fn routine<'a>(
     ensures exact { IfOk result (λ r. routine_of (known (map struct_of scope.now.layouts)) r ≡ resolving.resolved_func (scope_of scope.now) (func_of source.now)) }
     ensures cells { IfOk result (λ r. local_counts r ≡ cell_counts (resolving.resolved_func (scope_of scope.now) (func_of source.now))) }
 {
+    let locals = locals(alloc, &scope.layouts, source.locals.as_slice())?;
     let tables = func_tables(alloc, source)?;
     let blocks = sequences(alloc, scope, &tables)?;
-    let locals = locals(alloc, &scope.layouts, source.locals.as_slice())?;
     Ok(Routine {
         source,
         registers: tables.types,
@@ -91,12 +91,11 @@ pub(crate) fn routines<'a>(
     Ok(Listed::new(routines))
 }
 
-fn push_funcs<'a>(funcs: &mut Vec<&'a Func>, file: &'a FileDecl) -> Result<(), AllocError>
-    ensures { OnOk result (map (λ f. func_of f.now) funcs.new.items ≡ map (λ f. func_of f.now) funcs.old.items ++ (file_of file.now).funcs) }
+fn push_funcs<'a>(funcs: &mut Vec<&'a Func>, more: &'a [Func]) -> Result<(), AllocError>
+    ensures { OnOk result (map (λ f. func_of f.now) funcs.new.items ≡ map (λ f. func_of f.now) funcs.old.items ++ map func_of more.now) }
 {
-    let more = file.funcs.as_slice();
-    for i in 0..more.len() {
-        funcs.push(&more[i])?;
+    for func in more {
+        funcs.push(func)?;
     }
     Ok(())
 }
@@ -107,8 +106,8 @@ pub(crate) fn all_funcs(alloc: Global, firmware: &Firmware) -> Result<Vec<&Func>
 {
     let files = firmware.files.as_slice();
     let mut funcs = Vec::new(alloc);
-    for i in 0..files.len() {
-        push_funcs(&mut funcs, &files[i])?;
+    for file in files {
+        push_funcs(&mut funcs, file.funcs.as_slice())?;
     }
     Ok(funcs)
 }

@@ -7,12 +7,12 @@ ghost use Rattle.ir_program.specs.Seen.{target_of};
 ghost use Rattle.ir_program.specs.Storages.{pointee_of};
 ghost use Rattle.ir_resolve.specs.Scopes.{scope_of, named_func, AreTables};
 
-use ir_program::program::Target;
 use crate::routines::register_types;
 use crate::tables::{FuncTables, Scope};
 use ir_model::firmware::{Firmware, Func};
 use ir_model::name::Name;
 use ir_model::types::Ty;
+use ir_program::program::Target;
 use layouts::table::Layouts;
 use name_tables::{Names, add_slots, func_names, global_names, label_names, periph_names};
 use std::alloc::{AllocError, Global};
@@ -39,10 +39,10 @@ pub(crate) fn named_scope<'a>(
     requires { map (λ f. func_of f.now) funcs.now ≡ funcs_of (firmware_of firmware.now) }
     ensures { IfOk result (λ s. scope_of s ≡ resolving.scope_of (firmware_of firmware.now)) }
 {
-    let layouts = struct_layouts(alloc, firmware)?;
     let globals = global_names(alloc, firmware.globals.as_slice())?;
     let periphs = periph_names(alloc, firmware.periphs.as_slice())?;
     let funcs = func_names(alloc, funcs)?;
+    let layouts = struct_layouts(alloc, firmware)?;
     Ok(Scope {
         layouts,
         globals,
@@ -79,8 +79,8 @@ pub(crate) fn func_tables(alloc: Global, source: &Func) -> Result<FuncTables<'_>
 {
     Ok(FuncTables {
         source,
-        registers: register_names(alloc, source)?,
         types: register_types(alloc, source)?,
+        registers: register_names(alloc, source)?,
         locals: local_names(alloc, source)?,
         labels: label_names(alloc, source.blocks.as_slice())?,
     })

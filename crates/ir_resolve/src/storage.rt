@@ -6,8 +6,8 @@ ghost use Rattle.ir_model.specs.Plain.{struct_of};
 ghost use Rattle.ir_model.specs.Layout.{known, shape};
 ghost use Rattle.ir_program.specs.Storages.{shape_of};
 
-use ir_program::program::Storage;
 use ir_model::types::Ty;
+use ir_program::program::Storage;
 use layouts::table::Layouts;
 use std::alloc::AllocError;
 

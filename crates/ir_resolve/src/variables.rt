@@ -13,10 +13,10 @@ ghost use Rattle.ir_program.specs.declared.program.Variable.{Variable};
 use crate::scope::{in_16_bits, in_32_bits};
 use crate::storage::storage;
 use crate::tables::Scope;
-use ir_program::program::Variable;
-use ir_program::value::Value;
 use ir_model::firmware::{Cell, Firmware, Global as GlobalDecl};
 use ir_model::types::Ty;
+use ir_program::program::Variable;
+use ir_program::value::Value;
 use listed::Listed;
 use std::alloc::{AllocError, Global};
 

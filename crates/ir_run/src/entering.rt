@@ -17,8 +17,8 @@ use crate::contents::{Contents, Values};
 use crate::frame::Frame;
 use ir_model::types::Ty;
 use ir_program::program::{Program, Routine, Storage};
-use ir_program::value::Value;
 use ir_program::types::zero;
+use ir_program::value::Value;
 use layouts::table::Layouts;
 use std::alloc::{AllocError, Global};
 

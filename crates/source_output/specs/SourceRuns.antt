@@ -5,10 +5,11 @@ use Rattle.device_model.specs.declared.image.Window.{Window}
 use Rattle.ir_model.specs.Plain.{PlainFirmware}
 use Rattle.ir_model.specs.Resolved.{Program}
 use Rattle.ir_model.specs.Resolve.{resolve}
-use Rattle.ir_model.specs.State.{SourceFault, NullFault, DeadFault, NoCellFault, ConstantFault, SourceEnd, Returned, OutOfInput, Faulted, SourceState, Running, Ended}
+use Rattle.ir_model.specs.State.{SourceFault, NullFault, DeadFault, NoCellFault, ConstantFault, SourceEnd, Returned, OutOfInput, Faulted, SourceState, Running, Ended, start}
 use Rattle.ir_model.specs.Step.{source_step, source_event}
 use Rattle.ir_model.specs.Runs.{source_after, source_events}
 use Rattle.ir_program.specs.Windows.{windows_of}
+use Rattle.ir_run.specs.Runs.{RunState}
 use Rattle.lines.specs.Lines.{event_line, line_feed}
 use Rattle.source_output.specs.Compartments.{compartments_of}
 
@@ -44,6 +45,10 @@ module _ (p : Program) (compartments : List ℕ) where
 
   abbrev pub event_lines : List Window → (steps : ℕ) → SourceState → List ℕ
   event_lines windows n s = flat_map (event_line windows) (events (source_step p compartments) (source_event p compartments) n s)
+
+-- the run of a firmware with the words that its peripherals give, before its first step
+abbrev pub source_run : PlainFirmware → (queues : List (List ℕ)) → RunState
+source_run w queues = record { program = resolve w; compartments = compartments_of w; state = start (resolve w) queues; taken = 0 }
 
 -- a firmware, the words that its peripherals give, and how many steps are made
 module _ (w : PlainFirmware) (queues : List (List ℕ)) (steps : ℕ) where
