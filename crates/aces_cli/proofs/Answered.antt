@@ -1,13 +1,15 @@
 -- What the top call says, from what its command did.
 use Rattle.std.proofs.Common.{◌≡◌, ℕ, ◌⊎◌, inl, inr, List, [], ◌++◌, None, Ok, Err, Result, refl, ap, sym, ◌∙◌, subst, append-nil, arith}
-use Rattle.aces_cli.specs.declared.failure.Done.{Done}
-use Rattle.aces_cli.specs.declared.failure.Done.TheVariants.{Well, Badly}
-use Rattle.aces_cli.specs.declared.failure.Failure.{Failure}
-use Rattle.aces_cli.specs.declared.failure.Failure.TheVariants.{Refused, Unread, Unwritten, Unprinted, NoMemory}
-use Rattle.aces_cli.specs.Requests.{Request, Run, Bin, Compile, Check, Source, Asks, IsUsage, Origin}
-use Rattle.aces_cli.specs.FaultLines.{usage_line}
+use Rattle.aces_reports.specs.declared.failure.Done.{Done}
+use Rattle.aces_reports.specs.declared.failure.Done.TheVariants.{Well, Badly}
+use Rattle.aces_reports.specs.declared.failure.Failure.{Failure}
+use Rattle.aces_reports.specs.declared.failure.Failure.TheVariants.{Refused, Unread, Unwritten, Unprinted, NoMemory}
+use Rattle.aces_words.specs.Requests.{Request, Run, Bin, Compile, Check, Source, Asks, IsUsage, Origin}
+use Rattle.aces_reports.specs.FaultLines.{usage_line}
 use Rattle.aces_cli.specs.Answer.{Outcome, Answer, refused, usage, run_image_large, run_tape_large, run_read, bin_image_large, bin_read, compile_firmware_large, compile_board_large, compile_read, check_large, check_read, source_firmware_large, source_tape_large, source_read, no_request, to_request}
-use Rattle.aces_cli.specs.Did.{SinkState, World, Does, Quiet, Says, IsPlain, IsCarriedOut, IsAnswered, IsPart, IsPrintedInPart, IsPartly, AsksForSource, TellsUnread, TellsUnwritten, TellsUnprinted, TellsOutOfMemory, status_of, line_of}
+use Rattle.aces_reports.specs.Sinks.{SinkState, Says}
+use Rattle.aces_reports.specs.Ends.{status_of, line_of}
+use Rattle.aces_cli.specs.Did.{World, Does, Quiet, IsPlain, IsCarriedOut, IsAnswered, IsPart, IsPrintedInPart, IsPartly, AsksForSource, TellsUnread, TellsUnwritten, TellsUnprinted, TellsOutOfMemory}
 
 -- answers from what is known are answers from what follows of it
 pub answer_also : (Has Had : Origin → List ℕ → Type 0) (Exceeds Exceeded : Origin → Type 0)

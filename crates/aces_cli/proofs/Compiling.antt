@@ -7,9 +7,9 @@ use Rattle.image.specs.Text.{IsText}
 use Rattle.straight.specs.Refines.{Refines}
 use Rattle.straight.specs.Image.{image_of}
 use Rattle.ir_program.specs.Windows.{window_of}
-use Rattle.aces_cli.specs.declared.failure.Fault.TheVariants.{NotInForm}
-use Rattle.aces_cli.specs.declared.failure.Failure.{Failure}
-use Rattle.aces_cli.specs.declared.failure.Failure.TheVariants.{Refused, Unread, Unwritten, Unprinted, NoMemory}
+use Rattle.aces_reports.specs.declared.failure.Fault.TheVariants.{NotInForm}
+use Rattle.aces_reports.specs.declared.failure.Failure.{Failure}
+use Rattle.aces_reports.specs.declared.failure.Failure.TheVariants.{Refused, Unread, Unwritten, Unprinted, NoMemory}
 use Rattle.aces_cli.specs.Loads.{IsContentFailure}
 use Rattle.aces_cli.specs.Compiled.{board_text, IsImageOf, IsCompiled}
 use Rattle.aces_cli.specs.CompileFailures.{IsCompileFailure}

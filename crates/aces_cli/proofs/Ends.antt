@@ -1,15 +1,17 @@
 -- How commands end, by what their steps answered.
 use Rattle.std.proofs.Common.{◌≡◌, ◌≢◌, ℕ, inl, inr, List, [], Ok, Err, Result, OnErr, IsTrue, IsNone, ap, sym, subst}
-use Rattle.aces_cli.specs.declared.failure.Done.{Done}
-use Rattle.aces_cli.specs.declared.failure.Done.TheVariants.{Well, Badly}
-use Rattle.aces_cli.specs.declared.failure.Fault.{Fault}
-use Rattle.aces_cli.specs.declared.failure.Fault.TheVariants.{TooLarge, NotInForm}
-use Rattle.aces_cli.specs.declared.failure.Failure.{Failure}
-use Rattle.aces_cli.specs.declared.failure.Failure.TheVariants.{Refused, Unread, Unwritten, Unprinted, NoMemory}
-use Rattle.aces_cli.specs.Requests.{Request, Run, Bin, Compile, Check, Source, Origin, origins}
+use Rattle.aces_reports.specs.declared.failure.Done.{Done}
+use Rattle.aces_reports.specs.declared.failure.Done.TheVariants.{Well, Badly}
+use Rattle.aces_reports.specs.declared.failure.Fault.{Fault}
+use Rattle.aces_reports.specs.declared.failure.Fault.TheVariants.{TooLarge, NotInForm}
+use Rattle.aces_reports.specs.declared.failure.Failure.{Failure}
+use Rattle.aces_reports.specs.declared.failure.Failure.TheVariants.{Refused, Unread, Unwritten, Unprinted, NoMemory}
+use Rattle.aces_words.specs.Requests.{Request, Run, Bin, Compile, Check, Source, Origin, origins}
 use Rattle.aces_cli.specs.Known.{Held, IsMissing, IsNamed}
 use Rattle.aces_cli.specs.Answer.{Outcome, refused}
-use Rattle.aces_cli.specs.Did.{SinkState, World, Does, Quiet, IsCarriedOut, IsPart, IsPrintedInPart, status_of}
+use Rattle.aces_reports.specs.Sinks.{SinkState}
+use Rattle.aces_reports.specs.Ends.{status_of}
+use Rattle.aces_cli.specs.Did.{World, Does, Quiet, IsCarriedOut, IsPart, IsPrintedInPart}
 use Rattle.aces_cli.specs.Loads.{IsLoadFailure, IsContentFailure}
 use Rattle.ir_model.specs.Plain.{PlainFirmware}
 use Rattle.straight_text.specs.StraightTexts.{IsStraightText, IsNoStraightText}

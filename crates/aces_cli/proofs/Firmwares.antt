@@ -14,10 +14,10 @@ use Rattle.ir_check.specs.declared.fault.CheckFault.TheVariants.{At, NoMemory as
 use Rattle.ir_check.specs.Found.{IsFaultOf}
 use Rattle.ir_reader.specs.declared.fault.TextFault.{TextFault}
 use Rattle.ir_reader.specs.First.{IsFirst}
-use Rattle.aces_cli.specs.declared.failure.Fault.{Fault}
-use Rattle.aces_cli.specs.declared.failure.Fault.TheVariants.{IllTyped}
-use Rattle.aces_cli.specs.declared.failure.Failure.{Failure}
-use Rattle.aces_cli.specs.declared.failure.Failure.TheVariants.{Refused, Unread, Unwritten, Unprinted, NoMemory}
+use Rattle.aces_reports.specs.declared.failure.Fault.{Fault}
+use Rattle.aces_reports.specs.declared.failure.Fault.TheVariants.{IllTyped}
+use Rattle.aces_reports.specs.declared.failure.Failure.{Failure}
+use Rattle.aces_reports.specs.declared.failure.Failure.TheVariants.{Refused, Unread, Unwritten, Unprinted, NoMemory}
 use Rattle.aces_cli.specs.Answer.{of_text, IsNoFirmware, no_text, ill_typed}
 use Rattle.aces_cli.specs.Counts.{count_line}
 use Rattle.aces_cli.specs.Loads.{IsContentFailure, of_check}

@@ -1,8 +1,3 @@
-mod Windows
-mod Callbacks
-mod Saying
-mod Digits
-mod Words
 mod Starting
 mod Ends
 mod Answered

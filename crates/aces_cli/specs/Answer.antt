@@ -11,10 +11,10 @@ use Rattle.image.specs.declared.fault.ImageFault.TheVariants as image_faults
 use Rattle.image.specs.Faults as images
 use Rattle.image.specs.Text.{IsText}
 use Rattle.armv7m.specs.Run.{start}
-use Rattle.aces_cli.specs.declared.failure.Fault.{Fault}
-use Rattle.aces_cli.specs.declared.failure.Fault.TheVariants.{TooLarge, Short, Magic, Version, Field, Trailing, BadLine, UnknownPeripheral, NotInForm, NotUtf8, Syntax, NumberTooWide, Limit, IllTyped}
-use Rattle.aces_cli.specs.Requests.{Request, Run, Bin, Compile, Check, Source, Asks, IsUsage, Origin, file_origin, firmware_origin, file_limit, firmware_limit}
-use Rattle.aces_cli.specs.FaultLines.{fault_line, usage_line}
+use Rattle.aces_reports.specs.declared.failure.Fault.{Fault}
+use Rattle.aces_reports.specs.declared.failure.Fault.TheVariants.{TooLarge, Short, Magic, Version, Field, Trailing, BadLine, UnknownPeripheral, NotInForm, NotUtf8, Syntax, NumberTooWide, Limit, IllTyped}
+use Rattle.aces_words.specs.Requests.{Request, Run, Bin, Compile, Check, Source, Asks, IsUsage, Origin, file_origin, firmware_origin, file_limit, firmware_limit}
+use Rattle.aces_reports.specs.FaultLines.{fault_line, usage_line}
 use Rattle.ir_model.specs.declared.check.CheckKind.{CheckKind}
 use Rattle.ir_model.specs.declared.check.Place.{Place}
 use Rattle.ir_model.specs.Plain.{PlainFirmware}
@@ -26,7 +26,7 @@ use Rattle.ir_reader.specs.First.{IsFirst}
 use Rattle.ir_program.specs.Windows.{windows_of}
 use Rattle.straight_text.specs.StraightTexts.{IsStraightText, IsNoStraightText}
 use Rattle.aces_cli.specs.Compiled.{board_text, IsCompiled}
-use Rattle.aces_cli.specs.Runs.{fill, end_of, run_lines, end_status}
+use Rattle.machine_output.specs.Runs.{fill, end_of, run_lines, end_status}
 use Rattle.aces_cli.specs.Counts.{count_line}
 use Rattle.source_output.specs.SourceRuns.{source_lines, source_status}
 

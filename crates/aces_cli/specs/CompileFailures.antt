@@ -2,9 +2,9 @@
 use Rattle.std.specs.Prelude.{◌≡◌, ◌≢◌, ℕ, ◌⊎◌, List}
 use Rattle.ir_model.specs.Plain.{PlainFirmware}
 use Rattle.straight_text.specs.StraightTexts.{IsStraightText, IsNoStraightText}
-use Rattle.aces_cli.specs.declared.failure.Fault.TheVariants.{NotInForm}
-use Rattle.aces_cli.specs.declared.failure.Failure.{Failure}
-use Rattle.aces_cli.specs.declared.failure.Failure.TheVariants.{Refused, Unread, Unwritten, Unprinted, NoMemory}
+use Rattle.aces_reports.specs.declared.failure.Fault.TheVariants.{NotInForm}
+use Rattle.aces_reports.specs.declared.failure.Failure.{Failure}
+use Rattle.aces_reports.specs.declared.failure.Failure.TheVariants.{Refused, Unread, Unwritten, Unprinted, NoMemory}
 use Rattle.aces_cli.specs.Compiled.{board_text}
 
 -- the firmware is none that is compiled so far; or it is one, and the board is another

@@ -1,27 +1,18 @@
 -- What a command did to the outside, by how it ended.
-use Rattle.std.specs.Prelude.{◌≡◌, ◌≢◌, ℕ, ◌≤◌, ◌⊎◌, List, [], ◌++◌, take, Bool, true, false, Option, Some, None, Result, Ok, Err, IsTrue}
+use Rattle.std.specs.Prelude.{◌≡◌, ◌≢◌, ℕ, ◌⊎◌, List, [], ◌++◌, take, Bool, Option, Some, None, Result, Ok, Err, IsTrue}
 use Rattle.outside.specs.declared.files.Files as files
-use Rattle.outside.specs.declared.sink.Sink as sinks
-use Rattle.outside.specs.Counts.{Rose, Stayed}
+use Rattle.outside.specs.Counts.{Rose}
 use Rattle.outside.specs.Contents.{AddsPrefix}
-use Rattle.aces_cli.specs.declared.failure.Done.{Done}
-use Rattle.aces_cli.specs.declared.failure.Done.TheVariants.{Well, Badly}
-use Rattle.aces_cli.specs.declared.failure.Fault.{Fault}
-use Rattle.aces_cli.specs.declared.failure.Failure.{Failure}
-use Rattle.aces_cli.specs.declared.failure.Failure.TheVariants.{Refused, Unread, Unwritten, Unprinted, NoMemory}
-use Rattle.aces_cli.specs.Requests.{Request, Source, Asks, Origin, origins, target}
+use Rattle.aces_reports.specs.declared.failure.Done.{Done}
+use Rattle.aces_reports.specs.declared.failure.Done.TheVariants.{Well, Badly}
+use Rattle.aces_reports.specs.declared.failure.Fault.{Fault}
+use Rattle.aces_reports.specs.declared.failure.Failure.{Failure}
+use Rattle.aces_reports.specs.declared.failure.Failure.TheVariants.{Refused, Unread, Unwritten, Unprinted, NoMemory}
+use Rattle.aces_words.specs.Requests.{Request, Source, Asks, Origin, origins, target}
 use Rattle.aces_cli.specs.Known.{Held, IsMissing, IsNamed}
-use Rattle.aces_cli.specs.FaultLines.{fault_line, unread_line, unwritten_line, unprinted_line, memory_line}
+use Rattle.aces_reports.specs.FaultLines.{unread_line, unwritten_line, unprinted_line, memory_line}
+use Rattle.aces_reports.specs.Sinks.{SinkState, Says}
 use Rattle.aces_cli.specs.Answer.{Outcome, Written, Answers, refused}
-
--- a sink as it is seen: whether it tells what was written, the bytes written, and the count of faults
-pub record SinkState : Type 0 where
-  pub told : Bool
-  pub written : List ℕ
-  pub faults : ℕ
-
-abbrev pub sink : {O : Type 0} → sinks.Ghosts O → O → SinkState
-sink of out = record { told = of.told; written = of.written out; faults = of.faults out }
 
 -- the files as they are seen, and the sink of what is printed
 pub record World : Type 0 where
@@ -34,16 +25,6 @@ pub record World : Type 0 where
 abbrev pub world : {F : Type 0} → files.Ghosts F → F → SinkState → World
 world of fs out =
     record { told = of.told; held = of.held fs; read_faults = of.read_faults fs; write_faults = of.write_faults fs; out = out }
-
--- a line was added, where the sink tells what was written and no fault of it rose
-pub record Says (old new : SinkState) (line : List ℕ) : Type 0 where
-  pub never_falls : old.faults ≤ new.faults
-  pub said : IsTrue old.told → Stayed old.faults new.faults → new.written ≡ old.written ++ line
-
--- a piece was put, or a fault of the sink rose and a prefix of it was put
-abbrev pub Puts : (old new : SinkState) → List ℕ → Bool → Type 0
-Puts old new piece true = (new.faults ≡ old.faults) × (IsTrue old.told → new.written ≡ old.written ++ piece)
-Puts old new piece false = Rose old.faults new.faults × (IsTrue old.told → AddsPrefix old.written new.written piece)
 
 -- names hold what they held, but for what was to be written
 abbrev pub IsRewritten : (told : Bool) → Option Written → (old new : Held) → Type 0
@@ -140,24 +121,6 @@ module _ (Answer : Outcome → Type 0) (request : Request) (old new : World) whe
   Does (Err (Unwritten name)) = IsUnwritten request old new name.now × IsPart
   Does (Err Unprinted) = IsUnprinted old new × IsPart
   Does (Err NoMemory) = IsOutOfMemory old new × IsPrintedInPart request
-
--- the status and the line of how a command ended
-abbrev pub status_of : Result Done Failure → ℕ
-status_of (Ok Well) = 0
-status_of (Ok Badly) = 7
-status_of (Err (Refused name fault)) = 1
-status_of (Err (Unread name)) = 4
-status_of (Err (Unwritten name)) = 5
-status_of (Err Unprinted) = 5
-status_of (Err NoMemory) = 6
-
-abbrev pub line_of : Result Done Failure → List ℕ
-line_of (Ok d) = []
-line_of (Err (Refused name fault)) = fault_line name.now fault
-line_of (Err (Unread name)) = unread_line name.now
-line_of (Err (Unwritten name)) = unwritten_line name.now
-line_of (Err Unprinted) = unprinted_line
-line_of (Err NoMemory) = memory_line
 
 -- a status that comes by no failing call and no want of memory
 pub record IsPlain (status : ℕ) : Type 0 where

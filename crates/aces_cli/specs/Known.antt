@@ -3,7 +3,7 @@
 use Rattle.std.specs.Prelude.{◌≡◌, ℕ, ◌<◌, ◌≤◌, ◌⊎◌, List, [], ◌∷◌, length, Option, Some, IsTrue, IsNone, IsSomeAnd}
 use Rattle.outside.specs.declared.files.Files as files
 use Rattle.outside.specs.Reading.{AllPieces}
-use Rattle.aces_cli.specs.Requests.{Origin}
+use Rattle.aces_words.specs.Requests.{Origin}
 
 -- the bytes that are held under each name that is there
 abbrev pub Held : Type 0

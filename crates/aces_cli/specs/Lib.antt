@@ -1,12 +1,7 @@
 pub mod Compiled
-pub mod Requests
-pub mod Commands
 pub mod Known
-pub mod FaultLines
 pub mod Answer
-pub mod Runs
 pub mod Did
 pub mod Loads
 pub mod CompileFailures
 pub mod Counts
-pub mod WordsRefusals

@@ -1,13 +1,14 @@
 //! `bin`: the flash bytes of an image, written to a file.
 
-ghost use Rattle.aces_cli.specs.Requests.{Bin};
+ghost use Rattle.aces_words.specs.Requests.{Bin};
 ghost use Rattle.aces_cli.specs.Known.{IsKnown, IsKnownLarge};
 ghost use Rattle.aces_cli.specs.Answer.{Answer};
-ghost use Rattle.aces_cli.specs.Did.{Does, SinkState, world};
+ghost use Rattle.aces_reports.specs.Sinks.{SinkState};
+ghost use Rattle.aces_cli.specs.Did.{Does, world};
 
-use crate::failure::{Done, Failure};
 use crate::loading::{image_of, load};
 use crate::writing::write;
+use aces_reports::{Done, Failure};
 use outside::Files;
 use std::alloc::Global;
 

@@ -5,14 +5,15 @@ ghost use Rattle.outside.specs.Counts.{Rose};
 ghost use Rattle.outside.specs.Contents.{AddsPrefix};
 ghost use Rattle.ir_model.specs.declared.firmware.FileDecl.{FileDecl as SourceFile};
 ghost use Rattle.ir_model.specs.Plain as plain;
-ghost use Rattle.aces_cli.specs.Requests.{Check};
+ghost use Rattle.aces_words.specs.Requests.{Check};
 ghost use Rattle.aces_cli.specs.Known.{IsKnown, IsKnownLarge};
 ghost use Rattle.aces_cli.specs.Answer.{Answer};
 ghost use Rattle.aces_cli.specs.Counts as counts;
-ghost use Rattle.aces_cli.specs.Did.{Does, sink, world};
+ghost use Rattle.aces_reports.specs.Sinks.{sink};
+ghost use Rattle.aces_cli.specs.Did.{Does, world};
 
-use crate::failure::{Done, Failure};
 use crate::loading::{firmware_of, load_firmware};
+use aces_reports::{Done, Failure};
 use ir_model::checked::Checked;
 use ir_model::firmware::FileDecl;
 use lines::count_line;

@@ -3,17 +3,18 @@
 ghost use Rattle.std.specs.Prelude.{◌≡◌, IfOk, IfErr};
 ghost use Rattle.ir_model.specs.Plain as plain;
 ghost use Rattle.straight.specs.Form.{IsStraight};
-ghost use Rattle.aces_cli.specs.Requests.{Compile};
+ghost use Rattle.aces_words.specs.Requests.{Compile};
 ghost use Rattle.aces_cli.specs.Known.{IsKnown, IsKnownLarge};
 ghost use Rattle.aces_cli.specs.Answer.{Answer};
 ghost use Rattle.aces_cli.specs.Compiled.{IsCompiled, IsImageOf};
 ghost use Rattle.aces_cli.specs.CompileFailures.{IsCompileFailure};
 ghost use Rattle.aces_cli.specs.Loads.{IsContentFailure};
-ghost use Rattle.aces_cli.specs.Did.{Does, SinkState, world};
+ghost use Rattle.aces_reports.specs.Sinks.{SinkState};
+ghost use Rattle.aces_cli.specs.Did.{Does, world};
 
-use crate::failure::{Done, Failure, Fault};
 use crate::loading::{load, load_firmware};
 use crate::writing::write;
+use aces_reports::{Done, Failure, Fault};
 use ir_model::checked::Checked;
 use outside::Files;
 use std::alloc::{AllocError, Global};

@@ -3,29 +3,26 @@
 
 mod bin;
 mod check;
-mod command;
 mod compile;
 mod failure;
 mod loading;
-mod report;
 mod run;
 mod source;
-mod words_refusal;
 mod writing;
 
 ghost use Rattle.std.specs.Prelude.{◌≡◌, ◌≢◌, ◌↔◌, ◌⊎◌, map, IsTrue, string_bytes};
-ghost use Rattle.aces_cli.specs.Requests.{IsUsage};
-ghost use Rattle.aces_cli.specs.Commands.{request_of};
+ghost use Rattle.aces_words.specs.Requests.{IsUsage};
+ghost use Rattle.aces_words.specs.Commands.{request_of};
 ghost use Rattle.aces_cli.specs.Known.{Holds, Exceeds, WasRead, WasTooLarge, IsKnown, IsKnownLarge};
 ghost use Rattle.aces_cli.specs.Answer.{Answer};
-ghost use Rattle.aces_cli.specs.Did.{sink, world, Does, IsPlain, IsAnswered, IsPartly, TellsUnread, TellsUnwritten, TellsUnprinted, TellsOutOfMemory};
+ghost use Rattle.aces_reports.specs.Sinks.{sink};
+ghost use Rattle.aces_cli.specs.Did.{world, Does, IsPlain, IsAnswered, IsPartly, TellsUnread, TellsUnwritten, TellsUnprinted, TellsOutOfMemory};
 
-use command::Command;
-use failure::{Done, Failure};
+use aces_reports::{Done, Failure, report, say};
+pub use aces_reports::{WordsRefusal, refuse_words};
+use aces_words::Command;
 use outside::{Files, Sink};
-use report::{report, say};
 use std::alloc::Global;
-pub use words_refusal::{WordsRefusal, refuse_words};
 
 /// Carries out what the words behind the program's name ask for, and answers the exit status: 0 done, 1 a fault in
 /// the content of a file, 2 words that are no request, 4 a file that was not read, 5 a file or output that was not

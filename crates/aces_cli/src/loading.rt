@@ -4,12 +4,13 @@ ghost use Rattle.std.specs.Prelude.{◌≡◌, ◌≤◌, ◌<◌, ◌-◌, ◌^
 ghost use Rattle.image.specs.Text.{IsText};
 ghost use Rattle.ir_model.specs.Plain as plain;
 ghost use Rattle.device_model.specs.Tape as tapes;
-ghost use Rattle.aces_cli.specs.Requests.{file_origin, firmware_origin, file_limit, firmware_limit};
+ghost use Rattle.aces_words.specs.Requests.{file_origin, firmware_origin, file_limit, firmware_limit};
 ghost use Rattle.aces_cli.specs.Known.{IsKnown, IsKnownLarge};
 ghost use Rattle.aces_cli.specs.Answer.{IsNoImage, IsNoTape, IsNoFirmware, IsFirmware};
 ghost use Rattle.aces_cli.specs.Loads.{IsContentFailure, IsLoadFailure};
 
-use crate::failure::{Failure, Fault, check_failure, image_failure, tape_failure, text_failure};
+use crate::failure::{check_failure, image_failure, tape_failure, text_failure};
+use aces_reports::{Failure, Fault};
 use device_model::image::{Image, Window};
 use device_model::tape::Tape;
 use ir_check::check;

@@ -1,25 +1,20 @@
 //! `run`: an image, run on recorded device input.
 
-ghost use Rattle.std.specs.Prelude.{◌≡◌, ◌≤◌, ◌++◌, ℕ, Bool, Ok, length, IsTrue, IfOk, OnErr, OnOk, None};
-ghost use Rattle.outside.specs.Counts.{Rose};
-ghost use Rattle.outside.specs.Contents.{AddsPrefix};
-ghost use Rattle.device_model.specs.Rules.{ObeysRules};
-ghost use Rattle.lines.specs.Lines as lines;
-ghost use Rattle.aces_cli.specs.Requests.{Run, file_limit};
+ghost use Rattle.std.specs.Prelude.{◌≡◌, ◌≤◌, ℕ, Bool, Ok, length};
+ghost use Rattle.aces_words.specs.Requests.{Run, file_limit};
 ghost use Rattle.aces_cli.specs.Known.{Held, IsKnown, IsKnownLarge};
 ghost use Rattle.aces_cli.specs.Answer.{Answer, RunAnswer};
-ghost use Rattle.aces_cli.specs.Runs.{end_of, event_lines, run_lines, end_status, HasLine};
-ghost use Rattle.aces_cli.specs.Did.{Does, Puts, sink, world, status_of};
+ghost use Rattle.machine_output.specs.Runs.{end_status};
+ghost use Rattle.aces_reports.specs.Sinks.{sink};
+ghost use Rattle.aces_reports.specs.Ends.{status_of};
+ghost use Rattle.aces_cli.specs.Did.{Does, world};
 
-use crate::failure::{Done, Failure};
 use crate::loading::{image_of, load, tape_of};
-use armv7m::laws::{ended_machines, listed_accesses};
+use aces_reports::{Done, Failure};
 use armv7m::machine::Machine;
 use armv7m::state::End;
-use device_model::event::Event;
-use device_model::image::{Image, Window};
-use lines::{end_line, event_line};
-use outside::{Failed, Files, Sink};
+use machine_output::print_run;
+use outside::{Files, Sink};
 use std::alloc::Global;
 
 /// What RAM is filled with before a run.
@@ -73,7 +68,7 @@ fn run_texts<'a, O: Sink>(
     let image_read = image_of(alloc, image, bytes)?;
     let tape_read = tape_of(alloc, tape, text, image_read.windows.as_slice())?;
     let mut machine = Machine::start(alloc, &image_read, tape_read, FILL)?;
-    match emulate(&mut machine, &image_read, steps, out) {
+    match print_run(&mut machine, &image_read, steps, out) {
         Ok(end) => Ok(done(end)),
         Err(_) => Err(Failure::Unprinted),
     }
@@ -86,75 +81,5 @@ fn done(end: End) -> Done
     match end {
         End::Halt(0) | End::InputEnd | End::Limit | End::Refused => Done::Well,
         End::Halt(_) | End::Stop { .. } => Done::Badly,
-    }
-}
-
-/// Runs a machine of this image, and prints the line of each event and of the end. Takes no memory.
-fn emulate<O: Sink>(
-    machine: &mut Machine,
-    image: &Image,
-    steps: u32,
-    out: &mut O,
-) -> Result<End, Failed>
-    requires rules { ObeysRules image.now }
-    requires image { machine.old.image ≡ image.now }
-    requires begins { machine.old.state.ending ≡ None }
-    ensures end { IfOk result (λ end. end ≡ end_of image.now steps machine.old.state) }
-    ensures lines { IsTrue O.told → OnOk result
-        (O.written out.new ≡ O.written out.old ++ run_lines image.now steps machine.old.state) }
-    ensures faultless { OnOk result (O.faults out.new ≡ O.faults out.old) }
-    ensures cause { OnErr result (Rose (O.faults out.old) (O.faults out.new)) }
-    ensures part { IsTrue O.told → OnErr result
-        (AddsPrefix (O.written out.old) (O.written out.new) (run_lines image.now steps machine.old.state)) }
-{
-    let end = print_events(machine, image, steps, out)?;
-    out.put(end_line(&end).as_slice())?;
-    Ok(end)
-}
-
-/// Whether the event is one of these windows, and the name of its window has at most 64 bytes.
-fn has_line(windows: &[Window], event: &Event) -> bool
-    ensures true_where { HasLine windows.now event.now → IsTrue result }
-    ensures true_only_where { IsTrue result → HasLine windows.now event.now }
-{
-    match windows.get(event.periph as usize) {
-        Some(window) => window.name.len() <= 64,
-        None => false,
-    }
-}
-
-/// Puts the line of an event of one of these windows, and answers whether it was put.
-fn put_event<O: Sink>(out: &mut O, windows: &[Window], event: &Event) -> bool
-    ensures { HasLine windows.now event.now →
-        Puts (sink O.Sink out.old) (sink O.Sink out.new) (lines.event_line windows.now event.now) result }
-{
-    has_line(windows, event) && out.put(event_line(windows, event).as_slice()).is_ok()
-}
-
-/// Runs it, prints the line of each event, and answers the end.
-fn print_events<O: Sink>(
-    machine: &mut Machine,
-    image: &Image,
-    steps: u32,
-    out: &mut O,
-) -> Result<End, Failed>
-    requires rules { ObeysRules image.now }
-    requires image { machine.old.image ≡ image.now }
-    requires begins { machine.old.state.ending ≡ None }
-    ensures end { IfOk result (λ end. end ≡ end_of image.now steps machine.old.state) }
-    ensures lines { IsTrue O.told → OnOk result
-        (O.written out.new ≡ O.written out.old ++ event_lines image.now steps machine.old.state) }
-    ensures faultless { OnOk result (O.faults out.new ≡ O.faults out.old) }
-    ensures cause { OnErr result (Rose (O.faults out.old) (O.faults out.new)) }
-    ensures part { IsTrue O.told → OnErr result
-        (AddsPrefix (O.written out.old) (O.written out.new) (event_lines image.now steps machine.old.state)) }
-{
-    ended_machines();
-    listed_accesses();
-    let windows = image.windows.as_slice();
-    let mut put = |event: &Event| put_event(out, windows, event);
-    match machine.run(u64::from(steps), &mut put) {
-        End::Refused => Err(Failed),
-        end => Ok(end),
     }
 }

@@ -3,13 +3,15 @@
 ghost use Rattle.std.specs.Prelude.{◌≡◌, ◌≤◌, ℕ, Bool, Ok, length};
 ghost use Rattle.source_output.specs.Ends.{seen_end};
 ghost use Rattle.source_output.specs.SourceRuns.{end_status};
-ghost use Rattle.aces_cli.specs.Requests.{Source, file_limit, firmware_limit};
+ghost use Rattle.aces_words.specs.Requests.{Source, file_limit, firmware_limit};
 ghost use Rattle.aces_cli.specs.Known.{Held, IsKnown, IsKnownLarge};
 ghost use Rattle.aces_cli.specs.Answer.{Answer, SourceAnswer};
-ghost use Rattle.aces_cli.specs.Did.{Does, sink, world, status_of};
+ghost use Rattle.aces_reports.specs.Sinks.{sink};
+ghost use Rattle.aces_reports.specs.Ends.{status_of};
+ghost use Rattle.aces_cli.specs.Did.{Does, world};
 
-use crate::failure::{Done, Failure};
 use crate::loading::{firmware_of, load, load_firmware, tape_of};
+use aces_reports::{Done, Failure};
 use ir_program::windows::windows;
 use ir_run::outcome::SourceEnd;
 use outside::{Files, Sink};

@@ -1,8 +1,9 @@
 use Rattle.std.proofs.Common.{◌∙◌, sym, map, string_bytes, Global}
-use Rattle.aces_cli.specs.Commands.{request_of}
+use Rattle.aces_words.specs.Commands.{request_of}
 use Rattle.aces_cli.specs.Known.{Holds, Exceeds, WasRead, WasTooLarge, IsKnown, IsKnownLarge}
 use Rattle.aces_cli.specs.Answer.{Answer}
-use Rattle.aces_cli.specs.Did.{sink, world}
+use Rattle.aces_reports.specs.Sinks.{sink}
+use Rattle.aces_cli.specs.Did.{world}
 use Rattle.aces_cli.proofs.Ends.{did_also}
 use Rattle.aces_cli.proofs.Answered.{answer_also, usage_answered, answered, partly, printed_in_part}
 use Rattle.aces_cli.proofs.aces.Goals as goal

@@ -1,4 +1,4 @@
-use Rattle.aces_cli.specs.Did.{sink}
+use Rattle.aces_reports.specs.Sinks.{sink}
 use Rattle.aces_cli.proofs.perform.Goals as goal
 
 pub returns-in-Compile : goal.returns-in-Compile

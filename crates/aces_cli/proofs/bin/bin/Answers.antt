@@ -1,7 +1,7 @@
 use Rattle.std.proofs.Common.{◌∙◌, inl, Some, [], refl, sym, subst, append-nil}
 use Rattle.std.proofs.lemmas.Result.{err_from_is_err_and}
-use Rattle.aces_cli.specs.declared.failure.Done.TheVariants.{Well}
-use Rattle.aces_cli.specs.Requests.{Bin, file_origin}
+use Rattle.aces_reports.specs.declared.failure.Done.TheVariants.{Well}
+use Rattle.aces_words.specs.Requests.{Bin, file_origin}
 use Rattle.aces_cli.specs.Known.{IsKnown, IsKnownLarge}
 use Rattle.aces_cli.specs.Answer.{Answer, IsNoImage, no_image, wrote, bin_image_large, bin_read, done}
 use Rattle.aces_cli.specs.Did.{Does, world}

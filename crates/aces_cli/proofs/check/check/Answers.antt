@@ -1,12 +1,13 @@
 use Rattle.std.proofs.Common.{inl, None, refl, sym, subst}
 use Rattle.std.proofs.lemmas.Result.{err_from_is_err_and}
 use Rattle.ir_model.specs.Plain.{firmware_of}
-use Rattle.aces_cli.specs.declared.failure.Done.TheVariants.{Well}
-use Rattle.aces_cli.specs.Requests.{Check, firmware_origin}
+use Rattle.aces_reports.specs.declared.failure.Done.TheVariants.{Well}
+use Rattle.aces_words.specs.Requests.{Check, firmware_origin}
 use Rattle.aces_cli.specs.Known.{IsKnown, IsKnownLarge}
 use Rattle.aces_cli.specs.Answer.{Answer, IsNoFirmware, no_firmware, checked, check_large, check_read, done}
 use Rattle.aces_cli.specs.Counts.{count_line}
-use Rattle.aces_cli.specs.Did.{Does, sink, world}
+use Rattle.aces_reports.specs.Sinks.{sink}
+use Rattle.aces_cli.specs.Did.{Does, world}
 use Rattle.aces_cli.specs.Loads.{IsLoadFailure, IsContentFailure}
 use Rattle.aces_cli.proofs.Ends.{load_failed, content_failed, did_end}
 use Rattle.aces_cli.proofs.check.check.Goals as goal

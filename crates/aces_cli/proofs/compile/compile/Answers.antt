@@ -1,7 +1,7 @@
 use Rattle.std.proofs.Common.{◌∙◌, inl, inr, IsTrue, Some, [], refl, sym, subst, append-nil}
 use Rattle.std.proofs.lemmas.Result.{err_from_is_err_and}
-use Rattle.aces_cli.specs.declared.failure.Done.TheVariants.{Well}
-use Rattle.aces_cli.specs.Requests.{Compile, Origin, file_origin, firmware_origin}
+use Rattle.aces_reports.specs.declared.failure.Done.TheVariants.{Well}
+use Rattle.aces_words.specs.Requests.{Compile, Origin, file_origin, firmware_origin}
 use Rattle.aces_cli.specs.Known.{Held, Exceeds, WasTooLarge, IsKnown, IsKnownLarge}
 use Rattle.aces_cli.specs.Answer.{Answer, no_firmware, no_board, compiled, compile_firmware_large, compile_board_large, compile_read, done}
 use Rattle.aces_cli.specs.Did.{Does, world}

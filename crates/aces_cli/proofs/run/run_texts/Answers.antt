@@ -3,10 +3,11 @@ use Rattle.std.proofs.lemmas.Result.{err_from_is_err_and}
 use Rattle.device_model.specs.Tape.{queues_of, first_fault}
 use Rattle.armv7m.specs.Machine.{MachineState}
 use Rattle.armv7m.specs.Run.{start}
-use Rattle.aces_cli.specs.Requests.{Run}
+use Rattle.aces_words.specs.Requests.{Run}
 use Rattle.aces_cli.specs.Answer.{RunAnswer, IsNoImage, IsNoTape, no_image, no_tape, ran, run_outcome}
-use Rattle.aces_cli.specs.Runs.{fill, end_of, run_lines, end_status}
-use Rattle.aces_cli.specs.Did.{Does, World, sink}
+use Rattle.machine_output.specs.Runs.{fill, end_of, run_lines, end_status}
+use Rattle.aces_reports.specs.Sinks.{sink}
+use Rattle.aces_cli.specs.Did.{Does, World}
 use Rattle.aces_cli.specs.Loads.{IsContentFailure}
 use Rattle.aces_cli.proofs.Ends.{content_failed, did_end}
 use Rattle.aces_cli.proofs.Starting.{queue_count, begins}
@@ -40,8 +41,8 @@ pub start-requires-clause-queues : goal.start-requires-clause-queues
 start-requires-clause-queues g c =
     ap length c.in_ok-tape_read.ensures.ok ∙ queue_count c.args.text.now c.as_slice.result.now ∙ ap length c.as_slice.ensures
 
-pub emulate-requires-clause-begins : goal.emulate-requires-clause-begins
-emulate-requires-clause-begins g c =
+pub print_run-requires-clause-begins : goal.print_run-requires-clause-begins
+print_run-requires-clause-begins g c =
     ap (λ (m : MachineState). m.state.ending) c.in_ok-machine.ensures ∙ begins c.in_ok-image_read.image_read c.in_ok-tape_read.tape_read fill
 
 pub returns-in-Ok : goal.returns-in-Ok
@@ -54,7 +55,7 @@ returns-in-Ok g c told held reads writes =
     ap (λ (m : MachineState). m.state) c.in_ok-machine.ensures
     ∙ ap (λ q. start i q fill) (c.in_ok-tape_read.ensures.ok ∙ ap (queues_of text) c.as_slice.ensures) in
     did_end (RunAnswer c.args.image.now c.args.tape.now steps c.args.bytes.now text) (Run c.args.image.now c.args.tape.now steps)
-    w (record w { out = sink g.O.Sink c.emulate.new.out }) (run_outcome i text steps) c.done.result
+    w (record w { out = sink g.O.Sink c.print_run.new.out }) (run_outcome i text steps) c.done.result
     (ran i c.in_ok-image_read.ensures.ok (ap (first_fault text) (sym c.as_slice.ensures) ∙ c.in_ok-tape_read.ensures.faultless))
     (sym (c.done.ensures ∙ ap end_status (c.in-Ok.ensures.end ∙ ap (end_of i steps) state))) refl
     (record {

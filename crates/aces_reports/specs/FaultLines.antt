@@ -1,0 +1,99 @@
+-- The one line that tells why a call was refused.
+use Rattle.std.specs.Prelude.{ℕ, List, [], ◌∷◌, ◌++◌, codes}
+use Rattle.std.specs.Fmt.{decimal}
+use Rattle.ir_model.specs.declared.token.Pos.{Pos}
+use Rattle.ir_model.specs.declared.token.TextLimit.{TextLimit}
+use Rattle.ir_model.specs.declared.token.TextLimit.TheVariants as limit
+use Rattle.ir_model.specs.declared.check.CheckKind.{CheckKind}
+use Rattle.ir_model.specs.declared.check.CheckKind.TheVariants as kind
+use Rattle.ir_model.specs.declared.check.Place.{Place}
+use Rattle.ir_model.specs.declared.check.Place.TheVariants as place
+use Rattle.aces_reports.specs.declared.failure.Fault.{Fault}
+use Rattle.aces_reports.specs.declared.failure.Fault.TheVariants.{TooLarge, Short, Magic, Version, Field, Trailing, BadLine, UnknownPeripheral, NotInForm, NotUtf8, Syntax, NumberTooWide, Limit, IllTyped}
+
+-- what closes a line
+abbrev pub line_feed : List ℕ
+line_feed = 10 ∷ []
+
+-- a file's name, and a text behind it
+abbrev pub about : (name text : List ℕ) → List ℕ
+about name text = codes "aces: " ++ name ++ text
+
+-- a file's name, and a number between two texts behind it
+abbrev pub counted : (name before : List ℕ) → (number : ℕ) → (after : List ℕ) → List ℕ
+counted name before n after = codes "aces: " ++ name ++ before ++ decimal n ++ after
+
+-- a file's name, a line and a column of it, and a text behind them
+abbrev pub placed : (name : List ℕ) → Pos → (text : List ℕ) → List ℕ
+placed name pos text = codes "aces: " ++ name ++ codes ":" ++ decimal pos.line ++ codes ":" ++ decimal pos.col ++ text
+
+-- what passes a limit of texts
+abbrev pub limit_word : TextLimit → List ℕ
+limit_word limit.Name = codes "name"
+limit_word limit.Struct = codes "struct"
+limit_word limit.Field = codes "field"
+limit_word limit.Depth = codes "depth"
+limit_word limit.Array = codes "array"
+limit_word limit.Cell = codes "cell"
+limit_word limit.Periph = codes "periph"
+limit_word limit.Global = codes "global"
+limit_word limit.File = codes "file"
+limit_word limit.Function = codes "function"
+limit_word limit.Param = codes "param"
+limit_word limit.Register = codes "register"
+limit_word limit.Local = codes "local"
+limit_word limit.Block = codes "block"
+limit_word limit.Instruction = codes "instruction"
+
+-- which check fails
+abbrev pub kind_text : CheckKind → List ℕ
+kind_text (kind.Unknown name) = codes "unknown " ++ name
+kind_text (kind.Twice name) = codes "twice " ++ name
+kind_text kind.IllTyped = codes "type"
+kind_text kind.NoMain = codes "no main"
+kind_text kind.BadWindow = codes "bad window"
+kind_text kind.WindowOverlap = codes "windows overlap"
+kind_text kind.BadInit = codes "bad init"
+kind_text kind.ObjectTooLarge = codes "object too large"
+kind_text (kind.FrameTooLarge bytes) = codes "frame of " ++ decimal bytes ++ codes " bytes"
+
+-- where it fails
+abbrev pub place_text : Place → List ℕ
+place_text (place.Struct name) = codes "struct " ++ name
+place_text (place.Periph name) = codes "peripheral " ++ name
+place_text (place.Global name) = codes "global " ++ name
+place_text (place.File name) = codes "file " ++ name
+place_text (place.Func name) = codes "function " ++ name
+place_text (place.Inst func block inst) = func ++ codes " block " ++ block ++ codes " instruction " ++ decimal inst
+place_text place.Whole = codes "firmware"
+
+abbrev pub fault_line : (name : List ℕ) → Fault → List ℕ
+fault_line name (TooLarge limit) = counted name (codes ": larger than ") limit (codes " bytes" ++ line_feed)
+fault_line name (Short at) = counted name (codes ": short at ") at line_feed
+fault_line name Magic = about name (codes ": bad magic" ++ line_feed)
+fault_line name (Version found) = counted name (codes ": version ") found line_feed
+fault_line name (Field at) = counted name (codes ": bad field at ") at line_feed
+fault_line name (Trailing at) = counted name (codes ": trailing at ") at line_feed
+fault_line name (BadLine line) = counted name (codes ":") line (codes ": bad line" ++ line_feed)
+fault_line name (UnknownPeripheral line) = counted name (codes ":") line (codes ": unknown peripheral" ++ line_feed)
+fault_line name NotInForm = about name (codes ": not in this form yet" ++ line_feed)
+fault_line name (NotUtf8 at) = counted name (codes ": byte ") at (codes ": not UTF-8" ++ line_feed)
+fault_line name (Syntax pos) = placed name pos (codes ": syntax" ++ line_feed)
+fault_line name (NumberTooWide pos) = placed name pos (codes ": number too wide" ++ line_feed)
+fault_line name (Limit which pos) = placed name pos (codes ": limit " ++ limit_word which ++ line_feed)
+fault_line name (IllTyped kind place) = about name (codes ": " ++ kind_text kind ++ codes " in " ++ place_text place ++ line_feed)
+
+abbrev pub usage_line : List ℕ
+usage_line = codes "aces: usage" ++ line_feed
+
+abbrev pub unread_line : (name : List ℕ) → List ℕ
+unread_line name = codes "aces: cannot read " ++ name ++ line_feed
+
+abbrev pub unwritten_line : (name : List ℕ) → List ℕ
+unwritten_line name = codes "aces: cannot write " ++ name ++ line_feed
+
+abbrev pub unprinted_line : List ℕ
+unprinted_line = codes "aces: cannot write output" ++ line_feed
+
+abbrev pub memory_line : List ℕ
+memory_line = codes "aces: out of memory" ++ line_feed

@@ -1,0 +1,4 @@
+pub mod Sinks
+pub mod FaultLines
+pub mod Ends
+pub mod WordsRefusals

@@ -1,0 +1,73 @@
+//! How a command ends.
+
+ghost use Rattle.std.specs.Prelude.{◌≡◌};
+ghost use Rattle.aces_reports.specs.declared.failure.Failure.TheVariants.{NoMemory};
+
+use ir_model::check::{CheckKind, Place};
+use ir_model::token::{Pos, TextLimit};
+use std::alloc::AllocError;
+
+/// How a command ends that nothing stopped.
+#[derive(Clone, Copy)]
+pub enum Done {
+    /// Well: status 0.
+    Well,
+    /// A run by a stop, or by a halt other than 0: status 7.
+    Badly,
+}
+
+/// What is wrong with the content of a file.
+#[derive(Drop)]
+pub enum Fault {
+    /// It has more bytes than this limit.
+    TooLarge { limit: u32 },
+    /// The field of an image that begins at this offset is not there whole.
+    Short { at: u32 },
+    /// It does not begin as an image does.
+    Magic,
+    /// An image of this version.
+    Version { found: u32 },
+    /// The value of the field of an image that begins at this offset breaks its rule.
+    Field { at: u32 },
+    /// Bytes from this offset on follow an image.
+    Trailing { at: u32 },
+    /// The line of a tape of this number is neither blank nor a name and a number.
+    BadLine { line: u32 },
+    /// The name in the line of a tape of this number is no peripheral's.
+    UnknownPeripheral { line: u32 },
+    /// A firmware or a board that is not compiled yet, or none at all.
+    NotInForm,
+    /// The text of a firmware is not UTF-8 from this byte on.
+    NotUtf8 { at: u32 },
+    /// No text of a firmware goes on there as this one does.
+    Syntax { pos: Pos },
+    /// The number that stands there is too wide.
+    NumberTooWide { pos: Pos },
+    /// What stands there passes a limit of firmware texts.
+    Limit { which: TextLimit, pos: Pos },
+    /// A check of a firmware fails, the first in their order.
+    IllTyped { kind: CheckKind, place: Place },
+}
+
+/// What stopped a command.
+#[derive(Drop)]
+pub enum Failure<'a> {
+    /// The content of a file: status 1.
+    Refused { name: &'a str, fault: Fault },
+    /// A file that was not read: status 4.
+    Unread { name: &'a str },
+    /// A file that was not written: status 5.
+    Unwritten { name: &'a str },
+    /// Output that was not written: status 5.
+    Unprinted,
+    /// Want of memory: status 6.
+    NoMemory,
+}
+
+impl<'a> From<AllocError> for Failure<'a> {
+    ghost from_gives = { λ _ failure. failure ≡ NoMemory };
+
+    fn from(_error: AllocError) -> Failure<'a> {
+        Failure::NoMemory
+    }
+}

@@ -1,0 +1,235 @@
+//! The line that tells why a command was stopped, put piece by piece and so without memory.
+
+ghost use Rattle.std.specs.Prelude.{◌≡◌, ◌++◌, Err};
+ghost use Rattle.std.specs.Fmt.{decimal};
+ghost use Rattle.aces_reports.specs.FaultLines as lines;
+ghost use Rattle.aces_reports.specs.Ends.{status_of, line_of};
+ghost use Rattle.aces_reports.specs.Sinks.{Says, sink};
+
+use crate::failure::{Done, Failure, Fault};
+use ir_model::check::{CheckKind, Place};
+use ir_model::token::{Pos, TextLimit};
+use outside::Sink;
+
+/// The exit status of how a command ended. Where something stopped it, its line is put.
+pub fn report<E: Sink>(ended: Result<Done, Failure>, err: &mut E) -> u8
+    ensures status { result ≡ status_of ended.entry }
+    ensures line { Says (sink E.Sink err.old) (sink E.Sink err.new) (line_of ended.entry) }
+{
+    match ended {
+        Ok(Done::Well) => 0,
+        Ok(Done::Badly) => 7,
+        Err(failure) => {
+            say_failure(err, &failure);
+            failure_status(&failure)
+        }
+    }
+}
+
+/// The exit status of what stopped a command.
+fn failure_status(failure: &Failure) -> u8
+    ensures { result ≡ status_of (Err failure.now) }
+{
+    match failure {
+        Failure::Refused { .. } => 1,
+        Failure::Unread { .. } => 4,
+        Failure::Unwritten { .. } | Failure::Unprinted => 5,
+        Failure::NoMemory => 6,
+    }
+}
+
+/// Puts the line on what stopped a command.
+fn say_failure<E: Sink>(err: &mut E, failure: &Failure)
+    ensures { Says (sink E.Sink err.old) (sink E.Sink err.new) (line_of (Err failure.now)) }
+{
+    match failure {
+        Failure::Refused { name, fault } => say_fault(err, name.as_bytes(), fault),
+        Failure::Unread { name } => {
+            say_named(err, b"aces: cannot read ", name.as_bytes(), b"\n")
+        }
+        Failure::Unwritten { name } => {
+            say_named(err, b"aces: cannot write ", name.as_bytes(), b"\n")
+        }
+        Failure::Unprinted => say(err, b"aces: cannot write output\n"),
+        Failure::NoMemory => say(err, b"aces: out of memory\n"),
+    }
+}
+
+/// Puts a piece. A fault of the sink changes nothing else.
+pub fn say<E: Sink>(err: &mut E, piece: &[u8])
+    ensures { Says (sink E.Sink err.old) (sink E.Sink err.new) piece.now }
+{
+    let _ = err.put(piece);
+}
+
+/// Puts a file's name between two texts.
+fn say_named<E: Sink>(err: &mut E, before: &[u8], name: &[u8], after: &[u8])
+    ensures { Says (sink E.Sink err.old) (sink E.Sink err.new)
+        (before.now ++ name.now ++ after.now) }
+{
+    say(err, before);
+    say(err, name);
+    say(err, after);
+}
+
+/// Puts the decimal digits of a number.
+fn say_number<E: Sink>(err: &mut E, number: u32)
+    ensures { Says (sink E.Sink err.old) (sink E.Sink err.new) (decimal number) }
+{
+    if number >= 10 {
+        say_number(err, number / 10);
+    }
+    say(err, &[b'0' + (number % 10) as u8]);
+}
+
+/// Puts a line on a file: its name, and a number between two texts behind it.
+fn say_counted<E: Sink>(err: &mut E, name: &[u8], before: &[u8], number: u32, after: &[u8])
+    ensures { Says (sink E.Sink err.old) (sink E.Sink err.new)
+        (lines.counted name.now before.now number after.now) }
+{
+    say_named(err, b"aces: ", name, before);
+    say_number(err, number);
+    say(err, after);
+}
+
+/// Puts a line on a place in a file: its name, a line and a column of it, and a text behind them.
+fn say_placed<E: Sink>(err: &mut E, name: &[u8], pos: Pos, text: &[u8])
+    ensures { Says (sink E.Sink err.old) (sink E.Sink err.new)
+        (lines.placed name.now pos text.now) }
+{
+    say_counted(err, name, b":", pos.line, b":");
+    say_number(err, pos.col);
+    say(err, text);
+}
+
+/// What passes a limit of texts.
+fn limit_word(which: TextLimit) -> &'static [u8]
+    ensures { result.now ≡ lines.limit_word which }
+{
+    match which {
+        TextLimit::Name => b"name",
+        TextLimit::Struct => b"struct",
+        TextLimit::Field => b"field",
+        TextLimit::Depth => b"depth",
+        TextLimit::Array => b"array",
+        TextLimit::Cell => b"cell",
+        TextLimit::Periph => b"periph",
+        TextLimit::Global => b"global",
+        TextLimit::File => b"file",
+        TextLimit::Function => b"function",
+        TextLimit::Param => b"param",
+        TextLimit::Register => b"register",
+        TextLimit::Local => b"local",
+        TextLimit::Block => b"block",
+        TextLimit::Instruction => b"instruction",
+    }
+}
+
+/// Puts the line on a limit that a text passes.
+fn say_limit<E: Sink>(err: &mut E, name: &[u8], which: TextLimit, pos: Pos)
+    ensures { Says (sink E.Sink err.old) (sink E.Sink err.new)
+        (lines.fault_line name.now (Fault.Limit which pos)) }
+{
+    say_placed(err, name, pos, b": limit ");
+    say(err, limit_word(which));
+    say(err, b"\n");
+}
+
+/// Puts two texts.
+fn say_both<E: Sink>(err: &mut E, first: &[u8], second: &[u8])
+    ensures { Says (sink E.Sink err.old) (sink E.Sink err.new) (first.now ++ second.now) }
+{
+    say(err, first);
+    say(err, second);
+}
+
+/// Puts which check of a firmware fails.
+fn say_kind<E: Sink>(err: &mut E, kind: &CheckKind)
+    ensures { Says (sink E.Sink err.old) (sink E.Sink err.new) (lines.kind_text kind.now) }
+{
+    match kind {
+        CheckKind::Unknown(name) => say_both(err, b"unknown ", name.as_slice()),
+        CheckKind::Twice(name) => say_both(err, b"twice ", name.as_slice()),
+        CheckKind::IllTyped => say(err, b"type"),
+        CheckKind::NoMain => say(err, b"no main"),
+        CheckKind::BadWindow => say(err, b"bad window"),
+        CheckKind::WindowOverlap => say(err, b"windows overlap"),
+        CheckKind::BadInit => say(err, b"bad init"),
+        CheckKind::ObjectTooLarge => say(err, b"object too large"),
+        CheckKind::FrameTooLarge { bytes } => say_frame(err, *bytes),
+    }
+}
+
+/// Puts how many bytes a frame would have.
+fn say_frame<E: Sink>(err: &mut E, bytes: u32)
+    ensures { Says (sink E.Sink err.old) (sink E.Sink err.new)
+        (lines.kind_text (CheckKind.FrameTooLarge bytes)) }
+{
+    say(err, b"frame of ");
+    say_number(err, bytes);
+    say(err, b" bytes");
+}
+
+/// Puts where a check of a firmware fails.
+fn say_place<E: Sink>(err: &mut E, place: &Place)
+    ensures { Says (sink E.Sink err.old) (sink E.Sink err.new) (lines.place_text place.now) }
+{
+    match place {
+        Place::Struct(name) => say_both(err, b"struct ", name.as_slice()),
+        Place::Periph(name) => say_both(err, b"peripheral ", name.as_slice()),
+        Place::Global(name) => say_both(err, b"global ", name.as_slice()),
+        Place::File(name) => say_both(err, b"file ", name.as_slice()),
+        Place::Func(name) => say_both(err, b"function ", name.as_slice()),
+        Place::Inst { func, block, inst } => {
+            say_instruction(err, func.as_slice(), block.as_slice(), *inst)
+        }
+        Place::Whole => say(err, b"firmware"),
+    }
+}
+
+/// Puts the place of an instruction.
+fn say_instruction<E: Sink>(err: &mut E, func: &[u8], block: &[u8], inst: u32)
+    ensures { Says (sink E.Sink err.old) (sink E.Sink err.new)
+        (lines.place_text (Place.Inst func.now block.now inst)) }
+{
+    say_named(err, func, b" block ", block);
+    say(err, b" instruction ");
+    say_number(err, inst);
+}
+
+/// Puts the line on a check of a firmware that fails.
+fn say_check<E: Sink>(err: &mut E, name: &[u8], kind: &CheckKind, place: &Place)
+    ensures { Says (sink E.Sink err.old) (sink E.Sink err.new)
+        (lines.fault_line name.now (Fault.IllTyped kind.now place.now)) }
+{
+    say_named(err, b"aces: ", name, b": ");
+    say_kind(err, kind);
+    say(err, b" in ");
+    say_place(err, place);
+    say(err, b"\n");
+}
+
+/// Puts the line on a fault in the content of a file.
+fn say_fault<E: Sink>(err: &mut E, name: &[u8], fault: &Fault)
+    ensures { Says (sink E.Sink err.old) (sink E.Sink err.new)
+        (lines.fault_line name.now fault.now) }
+{
+    match fault {
+        Fault::TooLarge { limit } => say_counted(err, name, b": larger than ", *limit, b" bytes\n"),
+        Fault::Short { at } => say_counted(err, name, b": short at ", *at, b"\n"),
+        Fault::Magic => say_named(err, b"aces: ", name, b": bad magic\n"),
+        Fault::Version { found } => say_counted(err, name, b": version ", *found, b"\n"),
+        Fault::Field { at } => say_counted(err, name, b": bad field at ", *at, b"\n"),
+        Fault::Trailing { at } => say_counted(err, name, b": trailing at ", *at, b"\n"),
+        Fault::BadLine { line } => say_counted(err, name, b":", *line, b": bad line\n"),
+        Fault::UnknownPeripheral { line } => {
+            say_counted(err, name, b":", *line, b": unknown peripheral\n")
+        }
+        Fault::NotInForm => say_named(err, b"aces: ", name, b": not in this form yet\n"),
+        Fault::NotUtf8 { at } => say_counted(err, name, b": byte ", *at, b": not UTF-8\n"),
+        Fault::Syntax { pos } => say_placed(err, name, *pos, b": syntax\n"),
+        Fault::NumberTooWide { pos } => say_placed(err, name, *pos, b": number too wide\n"),
+        Fault::Limit { which, pos } => say_limit(err, name, *which, *pos),
+        Fault::IllTyped { kind, place } => say_check(err, name, kind, place),
+    }
+}

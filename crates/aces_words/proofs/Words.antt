@@ -1,0 +1,129 @@
+-- Words of requests, as lists of as many items.
+use Rattle.std.specs.Prelude.{codes}
+use Rattle.std.specs.Str.{bytes_eq}
+use Rattle.std.specs.Fmt.{decimal}
+use Rattle.std.proofs.lemmas.Slice.Eq.{bytes_eq-Decides}
+use Rattle.std.proofs.Common.{◌≡◌, ℕ, ◌<◌, ◌≤◌, ◌^◌, List, [], ◌∷◌, length, get_or, map, true, Option, Some, None, IfNone, ap, sym, ◌∙◌, arith}
+use Rattle.aces_words.specs.Requests.{Run, Bin, Compile, Check, Source, Asks, IsUsage}
+
+module _ {S : Type 0} (f : S → List ℕ) where
+  two : (xs : List S) (a b : S) → 2 ≤ length xs → length xs < 3 → a ≡ get_or xs 0 a → b ≡ get_or xs 1 b → f a ∷ f b ∷ [] ≡ map f xs
+  two [] a b h k p q = let e : ⊥ = omega (arith, h) in absurd e
+  two (x ∷ []) a b h k p q = let e : ⊥ = omega (arith, h) in absurd e
+  two (x ∷ y ∷ []) a b h k p q = ap (λ v. f v ∷ f b ∷ []) p ∙ ap (λ v. f x ∷ f v ∷ []) q
+  two (x ∷ y ∷ z ∷ xs) a b h k p q = let e : ⊥ = omega (arith, k) in absurd e
+
+  three : (xs : List S) (a b c : S) → 3 ≤ length xs → length xs < 4 → a ≡ get_or xs 0 a → b ≡ get_or xs 1 b → c ≡ get_or xs 2 c
+      → f a ∷ f b ∷ f c ∷ [] ≡ map f xs
+  three [] a b c h k p q r = let e : ⊥ = omega (arith, h) in absurd e
+  three (x ∷ []) a b c h k p q r = let e : ⊥ = omega (arith, h) in absurd e
+  three (x ∷ y ∷ []) a b c h k p q r = let e : ⊥ = omega (arith, h) in absurd e
+  three (x ∷ y ∷ z ∷ []) a b c h k p q r = ap (λ v. f v ∷ f b ∷ f c ∷ []) p ∙ ap (λ v. f x ∷ f v ∷ f c ∷ []) q ∙ ap (λ v. f x ∷ f y ∷ f v ∷ []) r
+  three (x ∷ y ∷ z ∷ u ∷ xs) a b c h k p q r = let e : ⊥ = omega (arith, k) in absurd e
+
+  four : (xs : List S) (a b c d : S) → 4 ≤ length xs → length xs < 5 → a ≡ get_or xs 0 a → b ≡ get_or xs 1 b → c ≡ get_or xs 2 c → d ≡ get_or xs 3 d
+      → f a ∷ f b ∷ f c ∷ f d ∷ [] ≡ map f xs
+  four [] a b c d h k p q r s = let e : ⊥ = omega (arith, h) in absurd e
+  four (x ∷ []) a b c d h k p q r s = let e : ⊥ = omega (arith, h) in absurd e
+  four (x ∷ y ∷ []) a b c d h k p q r s = let e : ⊥ = omega (arith, h) in absurd e
+  four (x ∷ y ∷ z ∷ []) a b c d h k p q r s = let e : ⊥ = omega (arith, h) in absurd e
+  four (x ∷ y ∷ z ∷ u ∷ []) a b c d h k p q r s =
+      ap (λ v. f v ∷ f b ∷ f c ∷ f d ∷ []) p ∙ ap (λ v. f x ∷ f v ∷ f c ∷ f d ∷ []) q ∙ ap (λ v. f x ∷ f y ∷ f v ∷ f d ∷ []) r ∙ ap (λ v. f x ∷ f y ∷ f z ∷ f v ∷ []) s
+  four (x ∷ y ∷ z ∷ u ∷ v ∷ xs) a b c d h k p q r s = let e : ⊥ = omega (arith, k) in absurd e
+
+  five : (xs : List S) (a b c d e : S) → 5 ≤ length xs → length xs < 6 → a ≡ get_or xs 0 a → b ≡ get_or xs 1 b → c ≡ get_or xs 2 c → d ≡ get_or xs 3 d → e ≡ get_or xs 4 e
+      → f a ∷ f b ∷ f c ∷ f d ∷ f e ∷ [] ≡ map f xs
+  five [] a b c d e h k p q r s t = let e : ⊥ = omega (arith, h) in absurd e
+  five (x ∷ []) a b c d e h k p q r s t = let e : ⊥ = omega (arith, h) in absurd e
+  five (x ∷ y ∷ []) a b c d e h k p q r s t = let e : ⊥ = omega (arith, h) in absurd e
+  five (x ∷ y ∷ z ∷ []) a b c d e h k p q r s t = let e : ⊥ = omega (arith, h) in absurd e
+  five (x ∷ y ∷ z ∷ u ∷ []) a b c d e h k p q r s t = let e : ⊥ = omega (arith, h) in absurd e
+  five (x ∷ y ∷ z ∷ u ∷ w ∷ []) a b c d e h k p q r s t =
+      ap (λ v. f v ∷ f b ∷ f c ∷ f d ∷ f e ∷ []) p ∙ ap (λ v. f x ∷ f v ∷ f c ∷ f d ∷ f e ∷ []) q ∙ ap (λ v. f x ∷ f y ∷ f v ∷ f d ∷ f e ∷ []) r ∙ ap (λ v. f x ∷ f y ∷ f z ∷ f v ∷ f e ∷ []) s
+      ∙ ap (λ v. f x ∷ f y ∷ f z ∷ f u ∷ f v ∷ []) t
+  five (x ∷ y ∷ z ∷ u ∷ w ∷ v ∷ xs) a b c d e h k p q r s t = let e : ⊥ = omega (arith, k) in absurd e
+
+  -- the last of five words is the text of the last of five items
+  fifth : (xs : List S) (e : S) → 5 ≤ length xs → length xs < 6 → e ≡ get_or xs 4 e → (n1 n2 n3 n4 n5 : List ℕ) → n1 ∷ n2 ∷ n3 ∷ n4 ∷ n5 ∷ [] ≡ map f xs → n5 ≡ f e
+  fifth [] e h k t n1 n2 n3 n4 n5 s = let e : ⊥ = omega (arith, h) in absurd e
+  fifth (x ∷ []) e h k t n1 n2 n3 n4 n5 s = let e : ⊥ = omega (arith, h) in absurd e
+  fifth (x ∷ y ∷ []) e h k t n1 n2 n3 n4 n5 s = let e : ⊥ = omega (arith, h) in absurd e
+  fifth (x ∷ y ∷ z ∷ []) e h k t n1 n2 n3 n4 n5 s = let e : ⊥ = omega (arith, h) in absurd e
+  fifth (x ∷ y ∷ z ∷ u ∷ []) e h k t n1 n2 n3 n4 n5 s = let e : ⊥ = omega (arith, h) in absurd e
+  fifth (x ∷ y ∷ z ∷ u ∷ w ∷ []) e h k t n1 n2 n3 n4 n5 s = let q : n5 ≡ f w = cc in q ∙ ap f (sym t)
+  fifth (x ∷ y ∷ z ∷ u ∷ w ∷ v ∷ xs) e h k t n1 n2 n3 n4 n5 s = let e : ⊥ = omega (arith, k) in absurd e
+
+  -- an item's text, where that is the word
+  same_word : (a : S) (name word : List ℕ) → name ≡ f a → bytes_eq name word ≡ true → word ≡ f a
+  same_word a name word e h = sym ((bytes_eq-Decides name word).0 h) ∙ e
+
+  pub bin_words : (xs : List S) (a b c : S) (name image file : List ℕ) → 3 ≤ length xs → length xs < 4
+      → a ≡ get_or xs 0 a → b ≡ get_or xs 1 b → c ≡ get_or xs 2 c
+      → name ≡ f a → bytes_eq name (codes "bin") ≡ true → image ≡ f b → file ≡ f c → Asks (map f xs) (Bin image file)
+  bin_words xs a b c name image file h k p q r e t i j = record {
+    within = tt;
+    spelled = ap (λ v. v ∷ image ∷ file ∷ []) (same_word a name (codes "bin") e t) ∙ ap (λ v. f a ∷ v ∷ file ∷ []) i ∙ ap (λ v. f a ∷ f b ∷ v ∷ []) j
+        ∙ three xs a b c h k p q r;
+  }
+
+  pub run_words : (xs : List S) (a b c d : S) (name image tape word : List ℕ) (steps : ℕ) → 4 ≤ length xs → length xs < 5
+      → a ≡ get_or xs 0 a → b ≡ get_or xs 1 b → c ≡ get_or xs 2 c → d ≡ get_or xs 3 d
+      → name ≡ f a → bytes_eq name (codes "run") ≡ true → image ≡ f b → tape ≡ f c → word ≡ f d → decimal steps ≡ word → steps < 2 ^ 32
+      → Asks (map f xs) (Run image tape steps)
+  run_words xs a b c d name image tape word steps h k p q r s e t i j m n w = record {
+    within = w;
+    spelled = ap (λ v. v ∷ image ∷ tape ∷ decimal steps ∷ []) (same_word a name (codes "run") e t) ∙ ap (λ v. f a ∷ v ∷ tape ∷ decimal steps ∷ []) i
+        ∙ ap (λ v. f a ∷ f b ∷ v ∷ decimal steps ∷ []) j ∙ ap (λ v. f a ∷ f b ∷ f c ∷ v ∷ []) (n ∙ m)
+        ∙ four xs a b c d h k p q r s;
+  }
+
+  pub compile_words : (xs : List S) (a b c d e : S) (name firmware board policy image : List ℕ) → 5 ≤ length xs → length xs < 6
+      → a ≡ get_or xs 0 a → b ≡ get_or xs 1 b → c ≡ get_or xs 2 c → d ≡ get_or xs 3 d → e ≡ get_or xs 4 e
+      → name ≡ f a → bytes_eq name (codes "compile") ≡ true → firmware ≡ f b → board ≡ f c → policy ≡ f d → bytes_eq policy (codes "filename") ≡ true → image ≡ f e
+      → Asks (map f xs) (Compile firmware board image)
+  compile_words xs a b c d e name firmware board policy image h k p q r s t n1 n2 i j m1 m2 l = record {
+    within = tt;
+    spelled = ap (λ v. v ∷ firmware ∷ board ∷ codes "filename" ∷ image ∷ []) (same_word a name (codes "compile") n1 n2) ∙ ap (λ v. f a ∷ v ∷ board ∷ codes "filename" ∷ image ∷ []) i
+        ∙ ap (λ v. f a ∷ f b ∷ v ∷ codes "filename" ∷ image ∷ []) j ∙ ap (λ v. f a ∷ f b ∷ f c ∷ v ∷ image ∷ []) (same_word d policy (codes "filename") m1 m2)
+        ∙ ap (λ v. f a ∷ f b ∷ f c ∷ f d ∷ v ∷ []) l ∙ five xs a b c d e h k p q r s t;
+  }
+
+  pub check_words : (xs : List S) (a b : S) (name firmware : List ℕ) → 2 ≤ length xs → length xs < 3
+      → a ≡ get_or xs 0 a → b ≡ get_or xs 1 b
+      → name ≡ f a → bytes_eq name (codes "check") ≡ true → firmware ≡ f b → Asks (map f xs) (Check firmware)
+  check_words xs a b name firmware h k p q e t i = record {
+    within = tt;
+    spelled = ap (λ v. v ∷ firmware ∷ []) (same_word a name (codes "check") e t) ∙ ap (λ v. f a ∷ v ∷ []) i ∙ two xs a b h k p q;
+  }
+
+  pub source_words : (xs : List S) (a b c d e : S) (name firmware policy tape word : List ℕ) (steps : ℕ) → 5 ≤ length xs → length xs < 6
+      → a ≡ get_or xs 0 a → b ≡ get_or xs 1 b → c ≡ get_or xs 2 c → d ≡ get_or xs 3 d → e ≡ get_or xs 4 e
+      → name ≡ f a → bytes_eq name (codes "source") ≡ true → firmware ≡ f b → policy ≡ f c → bytes_eq policy (codes "filename") ≡ true → tape ≡ f d → word ≡ f e
+      → decimal steps ≡ word → steps < 2 ^ 32 → Asks (map f xs) (Source firmware tape steps)
+  source_words xs a b c d e name firmware policy tape word steps h k p q r s t n1 n2 i m1 m2 j l n w = record {
+    within = w;
+    spelled = ap (λ v. v ∷ firmware ∷ codes "filename" ∷ tape ∷ decimal steps ∷ []) (same_word a name (codes "source") n1 n2) ∙ ap (λ v. f a ∷ v ∷ codes "filename" ∷ tape ∷ decimal steps ∷ []) i
+        ∙ ap (λ v. f a ∷ f b ∷ v ∷ tape ∷ decimal steps ∷ []) (same_word c policy (codes "filename") m1 m2) ∙ ap (λ v. f a ∷ f b ∷ f c ∷ v ∷ decimal steps ∷ []) j
+        ∙ ap (λ v. f a ∷ f b ∷ f c ∷ f d ∷ v ∷ []) (n ∙ l) ∙ five xs a b c d e h k p q r s t;
+  }
+
+  -- five words of which the last is no number
+  pub no_steps : (xs : List S) (e : S) (word : List ℕ) → 5 ≤ length xs → length xs < 6 → e ≡ get_or xs 4 e → word ≡ f e
+      → ((n : ℕ) → n < 2 ^ 32 → decimal n ≡ word → ⊥) → (firmware tape : List ℕ) (steps : ℕ) → Asks (map f xs) (Source firmware tape steps) → ⊥
+  no_steps xs e word h k t m none firmware tape steps asks =
+      none steps asks.within (fifth xs e h k t (codes "source") firmware (codes "filename") tape (decimal steps) asks.spelled ∙ sym m)
+
+-- what holds of a missing value, and what follows of it
+pub none_also : {X : Type 0} (o : Option X) (P Q : Type 0) → (P → Q) → IfNone o P → IfNone o Q
+none_also None P Q m h = m h
+none_also (Some x) P Q m h = tt
+
+-- words that are those of no command are those of no request
+pub no_request : (words : List (List ℕ)) → ((image tape : List ℕ) (steps : ℕ) → Asks words (Run image tape steps) → ⊥) → ((image file : List ℕ) → Asks words (Bin image file) → ⊥) →
+    ((firmware board image : List ℕ) → Asks words (Compile firmware board image) → ⊥) → ((firmware : List ℕ) → Asks words (Check firmware) → ⊥) →
+    ((firmware tape : List ℕ) (steps : ℕ) → Asks words (Source firmware tape steps) → ⊥) → IsUsage words
+no_request words x y z u v (Run image tape steps) asks = x image tape steps asks
+no_request words x y z u v (Bin image file) asks = y image file asks
+no_request words x y z u v (Compile firmware board image) asks = z firmware board image asks
+no_request words x y z u v (Check firmware) asks = u firmware asks
+no_request words x y z u v (Source firmware tape steps) asks = v firmware tape steps asks

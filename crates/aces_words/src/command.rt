@@ -1,0 +1,175 @@
+//! What the words behind the program's name ask for.
+
+ghost use Rattle.std.specs.Prelude.{◌≡◌, ◌↔◌, ◌^◌, ◌<◌, ℕ, List, map, string_bytes, IsTrue, IfSome, IfNone};
+ghost use Rattle.std.specs.Fmt.{decimal};
+ghost use Rattle.aces_words.specs.Requests.{Run, Bin, Compile, Check, Source, Asks, IsUsage};
+ghost use Rattle.aces_words.specs.Commands.{request_of};
+
+/// A command, with what its words name.
+#[derive(Clone, Copy)]
+pub enum Command<'a> {
+    /// Runs an image on a tape for at most so many machine steps.
+    Run {
+        image: &'a str,
+        tape: &'a str,
+        steps: u32,
+    },
+    /// Writes the flash bytes of an image to a file.
+    Bin {
+        image: &'a str,
+        file: &'a str,
+    },
+    /// Writes the image of a firmware for a board, each file of the firmware being a compartment.
+    Compile {
+        firmware: &'a str,
+        board: &'a str,
+        image: &'a str,
+    },
+    /// Reads and checks a firmware.
+    Check {
+        firmware: &'a str,
+    },
+    /// Runs the source of a firmware on a tape for at most so many steps, each file of it being a compartment.
+    Source {
+        firmware: &'a str,
+        tape: &'a str,
+        steps: u32,
+    },
+}
+
+impl<'a> Command<'a> {
+    /// The command of these words; none where they are those of no command.
+    pub fn of_words(words: &'a [String]) -> Option<Command<'a>>
+        ensures command { IfSome result (λ c. Asks (map string_bytes words.now) (request_of c)) }
+        ensures usage { IfNone result (IsUsage (map string_bytes words.now)) }
+    {
+        if let Some(command) = run_of(words) {
+            return Some(command);
+        }
+        if let Some(command) = bin_of(words) {
+            return Some(command);
+        }
+        if let Some(command) = compile_of(words) {
+            return Some(command);
+        }
+        if let Some(command) = check_of(words) {
+            return Some(command);
+        }
+        source_of(words)
+    }
+}
+
+/// `run IMAGE TAPE N`, if the words are of that form.
+fn run_of(words: &[String]) -> Option<Command<'_>>
+    ensures command { IfSome result (λ c. Asks (map string_bytes words.now) (request_of c)) }
+    ensures none { IfNone result ((image tape : List ℕ) (steps : ℕ) → Asks (map string_bytes words.now) (Run image tape steps) → ⊥) }
+{
+    match words {
+        [name, image, tape, steps] if name.as_str() == "run" => {
+            let steps = number(steps.as_str())?;
+            Some(Command::Run {
+                image: image.as_str(),
+                tape: tape.as_str(),
+                steps,
+            })
+        }
+        _ => None,
+    }
+}
+
+/// `bin IMAGE FILE`, if the words are of that form.
+fn bin_of(words: &[String]) -> Option<Command<'_>>
+    ensures command { IfSome result (λ c. Asks (map string_bytes words.now) (request_of c)) }
+    ensures none { IfNone result ((image file : List ℕ) → Asks (map string_bytes words.now) (Bin image file) → ⊥) }
+{
+    match words {
+        [name, image, file] if name.as_str() == "bin" => Some(Command::Bin {
+            image: image.as_str(),
+            file: file.as_str(),
+        }),
+        _ => None,
+    }
+}
+
+/// `compile FIRMWARE BOARD filename IMAGE`, if the words are of that form.
+fn compile_of(words: &[String]) -> Option<Command<'_>>
+    ensures command { IfSome result (λ c. Asks (map string_bytes words.now) (request_of c)) }
+    ensures none { IfNone result ((firmware board image : List ℕ) → Asks (map string_bytes words.now) (Compile firmware board image) → ⊥) }
+{
+    match words {
+        [name, firmware, board, policy, image]
+            if name.as_str() == "compile" && policy.as_str() == "filename" => {
+            Some(Command::Compile {
+                firmware: firmware.as_str(),
+                board: board.as_str(),
+                image: image.as_str(),
+            })
+        }
+        _ => None,
+    }
+}
+
+/// `check FIRMWARE`, if the words are of that form.
+fn check_of(words: &[String]) -> Option<Command<'_>>
+    ensures command { IfSome result (λ c. Asks (map string_bytes words.now) (request_of c)) }
+    ensures none { IfNone result ((firmware : List ℕ) → Asks (map string_bytes words.now) (Check firmware) → ⊥) }
+{
+    match words {
+        [name, firmware] if name.as_str() == "check" => Some(Command::Check {
+            firmware: firmware.as_str(),
+        }),
+        _ => None,
+    }
+}
+
+/// `source FIRMWARE filename TAPE N`, if the words are of that form.
+fn source_of(words: &[String]) -> Option<Command<'_>>
+    ensures command { IfSome result (λ c. Asks (map string_bytes words.now) (request_of c)) }
+    ensures none { IfNone result ((firmware tape : List ℕ) (steps : ℕ) → Asks (map string_bytes words.now) (Source firmware tape steps) → ⊥) }
+{
+    match words {
+        [name, firmware, policy, tape, steps]
+            if name.as_str() == "source" && policy.as_str() == "filename" => {
+            let steps = number(steps.as_str())?;
+            Some(Command::Source {
+                firmware: firmware.as_str(),
+                tape: tape.as_str(),
+                steps,
+            })
+        }
+        _ => None,
+    }
+}
+
+/// The number below 2^32 whose decimal digits these are, without a leading zero.
+fn number(word: &str) -> Option<u32>
+    ensures number { IfSome result (λ n. decimal n ≡ word.now) }
+    ensures fits { IfSome result (λ n. n < 2 ^ 32) }
+    ensures none { IfNone result ((n : ℕ) → n < 2 ^ 32 → decimal n ≡ word.now → ⊥) }
+{
+    let Ok(number) = word.parse::<u32>() else {
+        return None;
+    };
+    if spells(word.as_bytes(), number) {
+        Some(number)
+    } else {
+        None
+    }
+}
+
+/// Whether these bytes are the decimal digits of a number.
+fn spells(digits: &[u8], number: u32) -> bool
+    ensures { IsTrue result ↔ (digits.now ≡ decimal number) }
+{
+    let [front @ .., last] = digits else {
+        return false;
+    };
+    if *last != b'0' + (number % 10) as u8 {
+        return false;
+    }
+    if number < 10 {
+        front.is_empty()
+    } else {
+        spells(front, number / 10)
+    }
+}

@@ -1,0 +1,14 @@
+//! Cases that are written in files: files in memory, calls of a program over them, and what each call is to leave.
+#![tactic(auto)]
+
+mod call;
+mod case;
+mod content;
+mod program;
+mod running;
+mod section;
+mod tally;
+
+pub use program::Program;
+pub use section::Section;
+pub use tally::{Tally, run_file};
