@@ -1,0 +1,18 @@
+//! Sets of objects for the nodes of a firmware: registers, contents of objects and results of functions.
+#![tactic(auto)]
+
+mod groups;
+mod node;
+mod numbering;
+mod pairs;
+mod points_to;
+mod rows;
+mod steps;
+
+pub use groups::Groups;
+pub use node::Node;
+pub use numbering::Numbering;
+pub use pairs::Pairs;
+pub use points_to::PointsTo;
+pub use rows::Rows;
+pub use steps::Steps;

@@ -1,0 +1,179 @@
+//! The numbers of nodes and objects.
+
+ghost use Rattle.std.specs.Prelude.{◌≡◌, ◌+◌, ◌<◌, ◌++◌, ◌∷◌, [], length, map, IfOk, OnOk};
+ghost use Rattle.std.specs.List.{sum};
+ghost use Rattle.ir_model.specs.Resolved.{NumberedFunc};
+ghost use Rattle.ir_program.specs.Seen.{program_of};
+ghost use Rattle.object_sets.specs.Groups.{place_of, start_of};
+ghost use Rattle.ir_model.specs.Objects.{object_by};
+ghost use Rattle.object_sets.specs.Nodes.{node_by};
+ghost use Rattle.object_sets.specs.Numbers.{object_number, node_number, numbering_of, object_groups, node_groups, IsTable};
+
+use crate::groups::Groups;
+use crate::node::Node;
+use ir_model::object::ObjId;
+use ir_program::program::Program;
+use std::alloc::{AllocError, Global};
+
+/// How nodes and objects are numbered: objects in their order, and nodes with the registers of all functions first, then
+/// the contents of the objects, then the results of the functions.
+#[derive(Drop)]
+pub struct Numbering {
+    /// How many functions there are.
+    pub funcs: u32,
+    /// The objects in groups: globals, peripherals, the locals of each function, functions.
+    pub objects: Groups,
+    /// The nodes in groups: the registers of each function, contents, results.
+    pub nodes: Groups,
+}
+
+/// A count in 32 bits.
+fn in_32_bits(count: usize) -> Result<u32, AllocError>
+    ensures { IfOk result (λ n. n ≡ count) }
+{
+    match u32::try_from(count) {
+        Ok(count) => Ok(count),
+        Err(_) => Err(AllocError),
+    }
+}
+
+fn objects_of(alloc: Global, program: &Program) -> Result<Groups, AllocError>
+    ensures { IfOk result (λ g. g ≡ object_groups (program_of program.now)) }
+{
+    let mut groups = Groups::new(alloc);
+    groups.push(in_32_bits(program.globals.len())?)?;
+    groups.push(in_32_bits(program.periphs.len())?)?;
+    for func in program.funcs.as_slice() {
+        groups.push(in_32_bits(func.locals.len())?)?;
+    }
+    groups.push(in_32_bits(program.funcs.len())?)?;
+    Ok(groups)
+}
+
+fn nodes_of(alloc: Global, program: &Program, objects: u32) -> Result<Groups, AllocError>
+    ensures { IfOk result (λ g. g ≡ node_groups (program_of program.now) objects) }
+{
+    let mut groups = Groups::new(alloc);
+    for func in program.funcs.as_slice() {
+        groups.push(in_32_bits(func.registers.len())?)?;
+    }
+    groups.push(objects)?;
+    groups.push(in_32_bits(program.funcs.len())?)?;
+    Ok(groups)
+}
+
+impl Numbering {
+    /// The numbering of a program.
+    ///
+    /// # Errors
+    ///
+    /// There is no memory for it, or there would be 2^32 nodes or more.
+    pub fn new(alloc: Global, program: &Program) -> Result<Numbering, AllocError>
+        ensures { IfOk result (λ c. c ≡ numbering_of (program_of program.now)) }
+    {
+        let funcs = in_32_bits(program.funcs.len())?;
+        let objects = objects_of(alloc, program)?;
+        let nodes = nodes_of(alloc, program, objects.total())?;
+        Ok(Numbering {
+            funcs,
+            objects,
+            nodes,
+        })
+    }
+
+    fn item(&self, group: usize, item: u32) -> ObjId
+        requires { group < 3 + self.now.funcs }
+        ensures { object_number self.now (object_by result) ≡ place_of self.now.objects group item }
+    {
+        match group {
+            0 => ObjId::Global(item),
+            1 => ObjId::Periph(item),
+            _ => {
+                let func = group - 2;
+                if func < self.funcs as usize {
+                    ObjId::Local {
+                        func: func as u32,
+                        local: item,
+                    }
+                } else {
+                    ObjId::Func(item)
+                }
+            }
+        }
+    }
+
+    fn put_items(&self, table: &mut Vec<ObjId>, group: usize) -> Result<(), AllocError>
+        requires group { group < 3 + self.now.funcs }
+        requires count { length table.old.items ≡ start_of self.now.objects group }
+        requires table { IsTable self.now table.old.items }
+        ensures count { OnOk result (length table.new.items ≡ start_of self.now.objects (group + 1)) }
+        ensures table { OnOk result (IsTable self.now table.new.items) }
+    {
+        for item in 0..self.objects.count(group) {
+            table.push(self.item(group, item))?;
+        }
+        Ok(())
+    }
+
+    /// All objects, each at the place of its number.
+    ///
+    /// # Errors
+    ///
+    /// There is no memory for them.
+    pub fn all_objects(&self, alloc: Global) -> Result<Vec<ObjId>, AllocError>
+        requires { length self.now.objects ≡ 3 + self.now.funcs }
+        ensures count { IfOk result (λ table. length table.items ≡ sum self.now.objects) }
+        ensures table { IfOk result (λ table. IsTable self.now table.items) }
+    {
+        let mut table = Vec::new(alloc);
+        for group in 0..self.objects.len() {
+            self.put_items(&mut table, group)?;
+        }
+        Ok(table)
+    }
+
+    /// The number of an object; none where it is not there.
+    pub fn object(&self, object: &ObjId) -> Option<u32>
+        ensures { result ≡ object_number self.now (object_by object.now) }
+    {
+        match *object {
+            ObjId::Global(global) => self.objects.place(0, global),
+            ObjId::Periph(periph) => self.objects.place(1, periph),
+            ObjId::Local { func, local } => {
+                if func < self.funcs {
+                    self.objects.place(2 + func as usize, local)
+                } else {
+                    None
+                }
+            }
+            ObjId::Func(func) => self.objects.place(2 + self.funcs as usize, func),
+        }
+    }
+
+    /// The number of the node that is the content of an object, by the object's number; none where the object is not there.
+    pub fn content(&self, object: u32) -> Option<u32>
+        ensures { result ≡ place_of self.now.nodes self.now.funcs object }
+    {
+        self.nodes.place(self.funcs as usize, object)
+    }
+
+    /// The number of a node; none where it is not there.
+    pub fn node(&self, node: &Node) -> Option<u32>
+        ensures { result ≡ node_number self.now (node_by node.now) }
+    {
+        match node {
+            Node::Reg { func, reg } => {
+                if *func < self.funcs {
+                    self.nodes.place(*func as usize, *reg)
+                } else {
+                    None
+                }
+            }
+            Node::Content(object) => {
+                let number = self.object(object)?;
+                self.nodes.place(self.funcs as usize, number)
+            }
+            Node::Result(func) => self.nodes.place(1 + self.funcs as usize, *func),
+        }
+    }
+}

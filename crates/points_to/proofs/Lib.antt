@@ -1,0 +1,8 @@
+mod Rows
+mod Lists
+mod Putting
+mod Copying
+mod Passing
+mod Firing
+mod Starting
+mod Running

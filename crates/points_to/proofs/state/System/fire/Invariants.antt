@@ -1,0 +1,5 @@
+use Rattle.points_to.proofs.Firing.{IsFiring}
+use Rattle.points_to.proofs.state.System.fire.Given as goal
+
+abbrev pub invariant-loop-place : goal.invariant-loop-place
+invariant-loop-place g l = IsFiring l.self l.initial.state l.state l.pair l.place
