@@ -1,0 +1,10 @@
+use Rattle.std.proofs.Common.{◌↔◌, take}
+use Rattle.std.specs.Prelude.{Contains}
+use Rattle.ir_model.specs.declared.object.ObjId.{ObjId}
+use Rattle.ir_model.specs.Objects.{object_by}
+use Rattle.object_sets.specs.Sets.{sets_of}
+use Rattle.depend.specs.Accesses.{AnyOf, Reaches}
+use Rattle.depend.proofs.objects.all_objects.Given as goal
+
+abbrev pub invariant-loop-i : goal.invariant-loop-i
+invariant-loop-i l = (o : ObjId) → Contains l.objects.items o ↔ AnyOf (Reaches (sets_of l.pts) l.func l.access (object_by o)) (take l.i l.uses)

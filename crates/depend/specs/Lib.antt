@@ -1,0 +1,9 @@
+pub mod Reached
+pub mod Laws
+pub mod Checked
+pub mod Uses
+pub mod Accesses
+pub mod Bounds
+pub mod Reaching
+pub mod Sites
+pub mod Lent
