@@ -1,0 +1,9 @@
+mod ByName
+pub mod Distinct
+mod Files
+mod Moves
+mod NextNumber
+pub mod Numbers
+mod Periphs
+mod Told
+mod UsedGroups

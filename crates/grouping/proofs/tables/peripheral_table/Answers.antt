@@ -1,0 +1,17 @@
+use Rattle.std.proofs.Common.{rules, ◌≡◌, ◌∙◌, ap, map}
+use Rattle.std.specs.List.{position_or_len}
+use Rattle.std.proofs.lemmas.List.{take_all}
+use Rattle.plan_model.specs.declared.groups.FuncFacts.{FuncFacts}
+use Rattle.plan_model.specs.Lists.{same_numbers}
+use Rattle.plan_model.specs.Policies.{periph_lists, peripheral_groups}
+use Rattle.grouping.proofs.Periphs.{group_more}
+use Rattle.grouping.proofs.tables.peripheral_table.Goals as goal
+
+pub loop-i-preserved : goal.loop-i-preserved
+loop-i-preserved c =
+    let same : c.in-Ok.group ≡ c.place_of.result = search rules in
+    group_more c.args.facts.now c.loop-i.i c.index-facts-i.result c.in_ok-lists.lists.items c.deref.result.now c.as_slice.result.now c.loop-i.groups.items _ c.place_of.result c.in-Ok.group c.loop-i-test.true c.as_slice.ensures c.deref.ensures.value c.in_ok-lists.ensures c.place_of.ensures same c.loop-i.invariant c.in_ok-push.ensures.items
+
+pub returns : goal.returns
+unfolding peripheral_groups
+returns c = c.loop-i.invariant ∙ ap (map (λ (f : FuncFacts). position_or_len (λ qs. same_numbers qs f.periphs) (periph_lists c.args.facts.now))) (take_all c.loop-i.i c.args.facts.now c.loop-i-test.false)

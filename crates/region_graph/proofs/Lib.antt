@@ -1,0 +1,5 @@
+mod DifferentUsers
+mod MaskBits
+mod Reached
+mod WholeGraph
+mod Windows

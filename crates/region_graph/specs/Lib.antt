@@ -1,0 +1,2 @@
+pub mod UserLists
+pub mod ReachMasks
