@@ -65,18 +65,18 @@ adjust_by w false h = rw h refl
 adjust_even : (w : ℕ) → adjust_size w % 2 ≡ 0
 adjust_even w = adjust_by w (nat_le w 127) refl
 
-term_even : (g : NumberedFunc) (n : ℕ) (t : NumberedTerm) → term_size g n t % 2 ≡ 0
+pub term_even : (g : NumberedFunc) (n : ℕ) (t : NumberedTerm) → term_size g n t % 2 ≡ 0
 unfolding term_size
 term_even g n (ir.Jump b) = refl
 term_even g n (ir.Branch on a b) = refl
 term_even g n (ir.Ret r) = let a = save_even r in let b = adjust_even (frame_shape g).words in omega arith
 
-entry_even : (g : NumberedFunc) (n : ℕ) → entry_size g n % 2 ≡ 0
+pub entry_even : (g : NumberedFunc) (n : ℕ) → entry_size g n % 2 ≡ 0
 unfolding entry_size
 entry_even g n = let a = adjust_even (frame_shape g).words in omega arith
 
 module _ (g : NumberedFunc) (sites : List CallSite) (n : ℕ) where
-  insts_even : (b k : ℕ) (is : List NumberedInst) → insts_size g sites n b k is % 2 ≡ 0
+  pub insts_even : (b k : ℕ) (is : List NumberedInst) → insts_size g sites n b k is % 2 ≡ 0
   insts_even b k [] = refl
   insts_even b k (i ∷ is) = let h = insts_even b (suc k) is in let a = inst_even (crosses sites b k) i in omega arith
 

@@ -74,7 +74,7 @@ unfolding encode
 save_total None = refl
 save_total (Some k) = refl
 
-args_total : (r : ℕ) (as_ : List ℕ) → total (plain (args_code r as_)) ≡ 2 * length as_
+pub args_total : (r : ℕ) (as_ : List ℕ) → total (plain (args_code r as_)) ≡ 2 * length as_
 unfolding encode
 args_total r [] = refl
 args_total r (a ∷ more) = let h = args_total (suc r) more in omega arith
@@ -98,7 +98,7 @@ pub icross_total : (h : ℕ) (as_ : List ℕ) → total (plain (icross_code h as
 unfolding encode
 icross_total h as_ = let a = args_total 0 as_ in let b = total-plain-append (callee_code h as_) (supervisor_call 0 ∷ []) in omega arith
 
-call_items_total : (at e : ℕ) (s to : Option ℕ) (as_ : List ℕ) → total (call_items at e s to as_) ≡ call_size (is_some s) as_ + save_size to
+pub call_items_total : (at e : ℕ) (s to : Option ℕ) (as_ : List ℕ) → total (call_items at e s to as_) ≡ call_size (is_some s) as_ + save_size to
 call_items_total at e None to as_ =
     let d : ℤ = distance (at + total (plain (args_code 0 as_))) e in
     let a = total-append (plain (call_code as_ d)) (plain (save_code to)) in

@@ -10,5 +10,8 @@ pub mod Templates
 pub mod Sizes
 pub mod FunctionCode
 pub mod CompartmentCode
+pub mod Emitted
+pub mod Fitting
+pub mod Subjects
 pub mod Laws
 pub mod Planned

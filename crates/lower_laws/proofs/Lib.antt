@@ -1,0 +1,4 @@
+mod Reaching
+mod Functions
+mod Compartments
+mod Fitting
