@@ -1,0 +1,20 @@
+pub mod Registers
+pub mod Joined
+mod Moves
+pub mod Items
+mod ItemBytes
+mod Assembled
+mod Functions
+mod Compartments
+mod Fits
+mod Distances
+mod Numbers
+mod Comparisons
+mod Addresses
+mod Accesses
+mod Branches
+mod Sources
+mod Arguments
+mod Calls
+mod Entry
+mod Returns

@@ -1,0 +1,56 @@
+-- Pieces of an assembly that stand in memory. `labels` has the address of each label that was put, and `at` is the first piece's.
+use Rattle.std.specs.Prelude.{◌≡◌, ℕ, ◌+◌, ◌/◌, ◌%◌, ◌^◌, ◌<◌, ◌≤◌, List, [], ◌∷◌, ◌++◌, Option, true, None}
+use Rattle.thumb_model.specs.declared.table.Instr.{Instr}
+use Rattle.thumb_model.specs.Table.{InTable}
+use Rattle.thumb_asm.specs.declared.item.Item.{Item}
+use Rattle.thumb_asm.specs.declared.item.Item.TheVariants.{Plain, Branch, Half, Word}
+use Rattle.thumb_asm.specs.Assembly.{Assembly, branch_size, total, place_of, ArePut, IsAssembly}
+use Rattle.thumb_asm.specs.Finished.{branch, first_far, bytes_from}
+use Rattle.mpu_model.specs.declared.region.Access.TheVariants.{Fetch}
+use Rattle.device_model.specs.declared.image.Image.{Image}
+use Rattle.device_model.specs.Rules.{ObeysRules}
+use Rattle.armv7m.specs.declared.state.ProtectionState.{ProtectionState}
+use Rattle.armv7m.specs.State.{Judge}
+use Rattle.armv7m.specs.Code.{size, HoldsHalf, Lies, Stands, CodeAt}
+use Rattle.armv7m.specs.CodeBytes.{HoldsBytes}
+use Rattle.lower.specs.Words.{plain}
+
+-- flash holds them, each branch being one to its label
+abbrev pub ItemsIn : Image → (labels : List (Option ℕ)) → (at : ℕ) → List Item → Type 0
+ItemsIn i labels at [] = Unit {0}
+ItemsIn i labels at (Plain x ∷ more) = Lies i at x × ItemsIn i labels (at + size x) more
+ItemsIn i labels at (Branch kind to ∷ more) = Lies i at (branch kind at (place_of labels to.number)) × ItemsIn i labels (at + branch_size kind) more
+ItemsIn i labels at (Half h ∷ more) = HoldsHalf i at h × ItemsIn i labels (at + 2) more
+ItemsIn i labels at (Word w ∷ more) = HoldsHalf i at (w % 2 ^ 16) × HoldsHalf i (at + 2) (w / 2 ^ 16) × ItemsIn i labels (at + 4) more
+
+-- and their instructions may be fetched
+abbrev pub ItemsAt : Judge → Image → ProtectionState → (labels : List (Option ℕ)) → (at : ℕ) → List Item → Type 0
+ItemsAt j i p labels at [] = Unit {0}
+ItemsAt j i p labels at (Plain x ∷ more) = Stands j i p at x × ItemsAt j i p labels (at + size x) more
+ItemsAt j i p labels at (Branch kind to ∷ more) = Stands j i p at (branch kind at (place_of labels to.number)) × ItemsAt j i p labels (at + branch_size kind) more
+ItemsAt j i p labels at (Half h ∷ more) = HoldsHalf i at h × ItemsAt j i p labels (at + 2) more
+ItemsAt j i p labels at (Word w ∷ more) = HoldsHalf i at (w % 2 ^ 16) × HoldsHalf i (at + 2) (w / 2 ^ 16) × ItemsAt j i p labels (at + 4) more
+
+-- the instructions among them are in the table, the branches as they go to their labels
+abbrev pub InstructionsInTable : (labels : List (Option ℕ)) → (at : ℕ) → List Item → Type 0
+InstructionsInTable labels at [] = Unit {0}
+InstructionsInTable labels at (Plain x ∷ more) = InTable x × InstructionsInTable labels (at + size x) more
+InstructionsInTable labels at (Branch kind to ∷ more) = InTable (branch kind at (place_of labels to.number)) × InstructionsInTable labels (at + branch_size kind) more
+InstructionsInTable labels at (Half h ∷ more) = (h < 2 ^ 16) × InstructionsInTable labels (at + 2) more
+InstructionsInTable labels at (Word w ∷ more) = (w < 2 ^ 32) × InstructionsInTable labels (at + 4) more
+
+pub record ItemsStand : Type 0 where
+  -- they are, where the pieces are those of an assembly whose branches all reach their labels
+  pub from_assembly : (a : Assembly) → IsAssembly a → ArePut a.places a.items → first_far a.places a.base a.items ≡ None → InstructionsInTable a.places a.base a.items
+  -- where flash holds the bytes of pieces, they stand there
+  pub from_bytes : (i : Image) (labels : List (Option ℕ)) (offset : ℕ) (items : List Item) → ObeysRules i → InstructionsInTable labels (i.flash_base + offset) items →
+      HoldsBytes i offset (bytes_from labels (i.flash_base + offset) items) → ItemsIn i labels (i.flash_base + offset) items
+  -- and they may run where each of their bytes may be fetched
+  pub may_run : (j : Judge) (i : Image) (p : ProtectionState) (labels : List (Option ℕ)) (items : List Item) (at : ℕ) →
+      ItemsIn i labels at items → ((a : ℕ) → at ≤ a → a < at + total items → j p Fetch a ≡ true) → ItemsAt j i p labels at items
+  -- parts stand one behind the other
+  pub parts_in : (i : Image) (labels : List (Option ℕ)) (xs ys : List Item) (at : ℕ) → ItemsIn i labels at (xs ++ ys) → ItemsIn i labels at xs × ItemsIn i labels (at + total xs) ys
+  pub parts_at : (j : Judge) (i : Image) (p : ProtectionState) (labels : List (Option ℕ)) (xs ys : List Item) (at : ℕ) →
+      ItemsAt j i p labels at (xs ++ ys) → ItemsAt j i p labels at xs × ItemsAt j i p labels (at + total xs) ys
+  -- instructions alone are code
+  pub plain_code : (j : Judge) (i : Image) (p : ProtectionState) (labels : List (Option ℕ)) (xs : List Instr) (at : ℕ) → ItemsAt j i p labels at (plain xs) → CodeAt j i p at xs

@@ -1,0 +1,14 @@
+pub mod Points
+pub mod Items
+pub mod Frames
+pub mod Numbers
+pub mod Comparisons
+pub mod Addresses
+pub mod Accesses
+pub mod Branches
+pub mod Calls
+pub mod Entry
+pub mod Returns
+pub mod Functions
+pub mod Compartments
+pub mod Sources

@@ -1,0 +1,32 @@
+-- What the code of a return does. `w` words of the frame lie below the return address.
+use Rattle.std.specs.Prelude.{◌≡◌, ℕ, ◌+◌, ◌*◌, ◌%◌, ◌<◌, List, [], ◌∷◌, Option, Some, None, nat_le, if◌then◌else◌}
+use Rattle.device_model.specs.declared.image.Image.{Image}
+use Rattle.armv7m.specs.State.{Judge}
+use Rattle.armv7m.specs.Code.{Stands}
+use Rattle.ir_model.specs.Resolved.{NumberedFunc, Ret}
+use Rattle.lower.specs.declared.places.Places.{Places}
+use Rattle.lower.specs.FrameShape.{frame_shape}
+use Rattle.lower.specs.Words.{supervisor_call}
+use Rattle.lower.specs.FunctionCode.{lent}
+use Rattle.code_effects.specs.Points.{Point, known, Leads}
+use Rattle.code_effects.specs.Frames.{HasFrame, slot, HasTerm}
+use Rattle.code_effects.specs.Calls.{IsBelow, keep_steps}
+
+-- LDR where there is a result; ADD once or twice; POP
+abbrev pub return_steps : (words : ℕ) → Option ℕ → ℕ
+return_steps w r = keep_steps r + (if nat_le w 127 then 2 else 3)
+
+-- what is known of r0 then
+abbrev pub result_known : (o : ℕ) → Point → Option ℕ → List (Option ℕ)
+result_known o p None = []
+result_known o p (Some k) = known (slot o p k ∷ [])
+
+module _ (j : Judge) (i : Image) (g : NumberedFunc) (q : Places) (labels : List (Option ℕ)) (first : ℕ) (p : Point) (o at : ℕ) where
+  pub record ReturnEffects : Type 0 where
+    -- an SVC for each lent local
+    pub unlend_stands : (r : Option ℕ) (k : ℕ) → k < lent g q → HasTerm j i g q labels first p at (Ret r) → Stands j i p.context.protection (at + 2 * k) (supervisor_call 3)
+    -- from behind the last of them: all of it where no local is lent. The caller's stack pointer is back, and the run goes on at the
+    -- return address without its bit 0
+    pub leave : (r : Option ℕ) (to : ℕ) → HasFrame j i p o ((frame_shape g).words + 1) → IsBelow ((frame_shape g).words + 1) r → slot o p (frame_shape g).words ≡ to + 1 → to % 2 ≡ 0 →
+        HasTerm j i g q labels first p at (Ret r) →
+        Leads j i (return_steps (frame_shape g).words r) (record p { pc = at + 2 * lent g q }) (record p { registers = result_known o p r; sp = p.sp + 4 * ((frame_shape g).words + 1); pc = to }) []
