@@ -1,0 +1,4 @@
+pub mod Puts
+mod Splits
+mod Alone
+mod Nested

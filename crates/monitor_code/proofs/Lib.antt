@@ -1,0 +1,4 @@
+mod Listed
+mod Counted
+mod Fits
+mod Paged

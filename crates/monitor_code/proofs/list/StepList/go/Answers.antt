@@ -1,0 +1,12 @@
+use Rattle.std.proofs.Common.{◌≡◌, [], ◌∷◌, ◌++◌}
+use Rattle.gate_steps.specs.declared.steps.GateStep.TheBlock.{Go}
+use Rattle.gate_steps.specs.Steps as list
+use Rattle.gate_steps.proofs.Views.{before-Go}
+use Rattle.monitor_code.proofs.Listed.{one_more, on_ok}
+use Rattle.monitor_code.proofs.list.StepList.go.Goals as goal
+
+pub returns : goal.returns
+returns c =
+    let old = c.args.self.now.steps.items in
+    let new = c.put.new.self.steps.items in
+    on_ok c.put.result (λ (e : new ≡ old ++ (Go c.args.to c.args.link) ∷ []). one_more old new (Go c.args.to c.args.link) (λ rest. list.Go c.args.to c.args.link rest) e (λ rest. before-Go c.args.to c.args.link rest)) c.put.ensures

@@ -1,0 +1,4 @@
+pub mod Parts
+pub mod Made
+pub mod Sizes
+pub mod Whole

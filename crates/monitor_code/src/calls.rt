@@ -1,0 +1,97 @@
+//! The monitor's lists for tables.
+
+ghost use Rattle.std.specs.Prelude.{◌≡◌, ◌≤◌, ◌<◌, ◌^◌, IfOk};
+ghost use Rattle.gate_steps.specs.Lists.{steps_of};
+ghost use Rattle.monitor.specs.Svc as svc_handler;
+ghost use Rattle.monitor.specs.MemFault as fault_handler;
+ghost use Rattle.monitor.specs.Reset as start;
+ghost use Rattle.monitor.specs.Page as flash;
+ghost use Rattle.monitor_code.specs.Made.{constants_of};
+ghost use Rattle.monitor_code.specs.Whole.{AreLists};
+
+use crate::constants::{Numbers, without_stub};
+use crate::reset::start_up;
+use gate_assembler::length_of;
+use gate_steps::GateStep;
+use monitor::Tables;
+use monitor::code_size::page_is_full;
+use std::alloc::{AllocError, Global};
+
+/// The three lists.
+#[derive(Drop)]
+pub(crate) struct Lists {
+    /// Start-up.
+    pub(crate) start: Vec<GateStep>,
+    /// The handler of SVC.
+    pub(crate) svc: Vec<GateStep>,
+    /// The handler of MemManage.
+    pub(crate) memfault: Vec<GateStep>,
+}
+
+/// The three lists by what they take of the tables.
+pub(crate) fn all_lists(alloc: Global, numbers: &Numbers) -> Result<Lists, AllocError>
+    requires { numbers.now.slots ≤ 12 }
+    ensures { IfOk result (λ lists. AreLists (constants_of numbers.now) lists) }
+{
+    Ok(Lists {
+        start: start_up(alloc, numbers)?.into_vec(),
+        svc: crate::svc::handler(alloc, numbers)?.into_vec(),
+        memfault: crate::memfault::handler(alloc, numbers)?.into_vec(),
+    })
+}
+
+/// The offset of the leave stub. The code of the lists has the same length for each stub.
+fn stub_offset(alloc: Global, numbers: &Numbers) -> Result<u32, AllocError>
+    requires slots { numbers.now.slots ≤ 12 }
+    requires short { flash.stub_offset (constants_of numbers.now) < 2 ^ 24 }
+    ensures { IfOk result (λ offset. offset ≡ flash.stub_offset (constants_of numbers.now)) }
+{
+    let lists = all_lists(alloc, numbers)?;
+    Ok(64 + length_of(&lists.start) + length_of(&lists.svc) + length_of(&lists.memfault))
+}
+
+/// What the lists take of the tables.
+pub(crate) fn numbers(alloc: Global, t: &Tables) -> Result<Numbers, AllocError>
+    ensures numbers { IfOk result (λ numbers. constants_of numbers ≡ flash.constants t.now) }
+    ensures slots { IfOk result (λ numbers. numbers.slots ≤ 12) }
+{
+    page_is_full();
+    let first = without_stub(t);
+    let offset = stub_offset(alloc, &first)?;
+    Ok(Numbers {
+        stub_entry: t.base.wrapping_add(offset + 1),
+        ..first
+    })
+}
+
+/// Start-up for these tables.
+pub fn reset(alloc: Global, t: &Tables) -> Result<Vec<GateStep>, AllocError>
+    ensures { IfOk result (λ steps. steps_of steps.items ≡ start.reset (flash.constants t.now)) }
+{
+    let numbers = numbers(alloc, t)?;
+    Ok(start_up(alloc, &numbers)?.into_vec())
+}
+
+/// The handler of SVC for these tables.
+pub fn svc(alloc: Global, t: &Tables) -> Result<Vec<GateStep>, AllocError>
+    ensures { IfOk result (λ steps. steps_of steps.items ≡ svc_handler.svc (flash.constants t.now)) }
+{
+    let numbers = numbers(alloc, t)?;
+    Ok(crate::svc::handler(alloc, &numbers)?.into_vec())
+}
+
+/// The handler of MemManage for these tables.
+pub fn memfault(alloc: Global, t: &Tables) -> Result<Vec<GateStep>, AllocError>
+    ensures { IfOk result (λ steps. steps_of steps.items ≡ fault_handler.memfault (flash.constants t.now)) }
+{
+    let numbers = numbers(alloc, t)?;
+    Ok(crate::memfault::handler(alloc, &numbers)?.into_vec())
+}
+
+/// The offsets in the page at which start-up has the entry of `main`, and its compartment, each by MOVW and MOVT.
+pub fn main_at() -> (u32, u32)
+    ensures entry { result.0 ≡ flash.main_entry_at }
+    ensures compartment { result.1 ≡ flash.main_compartment_at }
+{
+    (72, 64)
+}
