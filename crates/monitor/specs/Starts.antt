@@ -1,5 +1,5 @@
 -- What the monitor's start-up leaves.
-use Rattle.std.specs.Prelude.{◌≡◌, ℕ, suc, ◌+◌, ◌-◌, ◌<◌, List, [], ◌∷◌, length, None}
+use Rattle.std.specs.Prelude.{◌≡◌, ℕ, ◌+◌, ◌-◌, ◌<◌, ◌≤◌, List, [], ◌∷◌, length, None}
 use Rattle.words.specs.Bytes.{write_all}
 use Rattle.device_model.specs.declared.image.Image.{Image}
 use Rattle.armv7m.specs.State.{State}
@@ -42,10 +42,10 @@ module _ (i : Image) (t : Tables) (stub : ℕ) (first : State) where
     -- confinement's first property
     pub start_up : StartUp i t first
     pub begun : HasBegun start_up.count
-    -- CONTROL is written before the branch: two further steps, a MOV and a BX, run unprivileged
-    pub quiet : (event i (later i t first start_up.count) ≡ None) × (event i (later i t first (suc start_up.count)) ≡ None)
-    pub still_begun : HasBegun (suc (suc start_up.count))
-    pub at_main : AtMain t stub (later i t first (suc (suc start_up.count)))
+    -- CONTROL is written before the branch: three further steps, an ISB, a MOV and a BX, run unprivileged
+    pub quiet : (n : ℕ) → start_up.count ≤ n → n < start_up.count + 3 → event i (later i t first n) ≡ None
+    pub still_begun : HasBegun (start_up.count + 3)
+    pub at_main : AtMain t stub (later i t first (start_up.count + 3))
 
 -- for every recorded input, with a queue for each window, and every byte that fills RAM at first
 abbrev pub Starts : Image → Tables → (stub : ℕ) → Type 0

@@ -1,0 +1,303 @@
+-- The list of lend: the tests of the loan that a thread asks for, and RAM with one loan more.
+use Rattle.std.proofs.Common.{◌≡◌, ◌≢◌, ℕ, zero, suc, ◌+◌, ◌-◌, ◌*◌, ◌/◌, ◌%◌, ◌^◌, ◌<◌, ◌≤◌, Bool, true, false, List, [], ◌∷◌, length, get_or, nat_eq, nat_lt, refl, sym, ap, ◌∙◌, subst, arith}
+use Rattle.std.proofs.lemmas.Bool.Decides.{nat_tests}
+use Rattle.std.proofs.lemmas.Nat.{and_comm, and_mask}
+use Rattle.std.specs.Prelude.{bit_and}
+use Rattle.words.specs.Arithmetic.{add, subtract, shift_left}
+use Rattle.words.specs.Bytes.{read, write}
+use Rattle.words.specs.declared.memory.Width.TheVariants.{Word}
+use Rattle.mpu_model.specs.declared.region.Access.TheVariants.{Read, Write}
+use Rattle.mpu_model.specs.declared.TheConstants.{MPU_CTRL}
+use Rattle.device_model.specs.declared.image.Image.{Image}
+use Rattle.armv7m.specs.declared.state.ProtectionState.{ProtectionState}
+use Rattle.armv7m.specs.declared.state.FaultStatus.{FaultStatus}
+use Rattle.armv7m.specs.State.{by_mpu}
+use Rattle.gate_steps.specs.declared.steps.GateOp.TheVariants.{Add, Shl}
+use Rattle.gate_steps.specs.Steps.{Steps, Const, Copy, Store, Alu, ◌▸◌}
+use Rattle.gate_steps.specs.Core.{Core}
+use Rattle.gate_steps.specs.Effect.{Outcome, Halted, AtReturn}
+use Rattle.gate_steps.specs.Safe.{Rule}
+use Rattle.gate_steps.proofs.Gives.{word_fits}
+use Rattle.gate_steps.proofs.Within.{GivesWithin, const_within, copy_within, alu_within, at_within, more_within, yes_within, no_within, must_within, must_not_within, load_within, load_flash_within, store_within}
+use Rattle.monitor.specs.declared.tables.Tables.{Tables}
+use Rattle.monitor.specs.Records.{stack_end, lend_size}
+use Rattle.monitor.specs.Area.{HasTables}
+use Rattle.monitor.specs.Placed.{Placed}
+use Rattle.monitor.specs.Offsets.{loans, loan_from, loan_end, loan_number}
+use Rattle.monitor.specs.Constants.{Constants, constants_with}
+use Rattle.monitor.specs.Opening.{closed_up}
+use Rattle.monitor.specs.Svc.{lend}
+use Rattle.monitor_laws.proofs.Numbers.{shl2}
+use Rattle.monitor_laws.proofs.Off.{core, with_unit, IsOff, Allows, open_while_off}
+use Rattle.monitor_laws.proofs.FlashWords.{has_word}
+use Rattle.monitor_laws.proofs.Placement.{writable, has_lends, lends_offset, lends_is, few_lends, lends_at_is, lends_aligned, loans_at_is}
+use Rattle.monitor_laws.proofs.Opened.{Handles, FrameIsOpen, le_true, le_false, eq_true, eq_false, block_load_within, block_store_within}
+use Rattle.monitor_laws.proofs.Unlend.{closed_within}
+use Rattle.monitor_laws.proofs.SvcNumber.{by_number}
+
+lt_true : (x y : ℕ) → nat_lt x y ≡ true → x < y
+lt_true x y h = grind (arith, nat_tests)
+
+lt_false : (x y : ℕ) → nat_lt x y ≡ false → y ≤ x
+lt_false x y h = grind (arith, nat_tests)
+
+-- the two low bits
+low_bits : (n : ℕ) → bit_and 3 n ≡ n % 4
+low_bits n = and_comm 3 n ∙ and_mask n 2
+
+-- a local that may be lent, by its address and its number, of a frame at psp below this TOP, while so many loans live
+pub record MayLend (t : Tables) (psp top live address number : ℕ) : Type 0 where
+  pub room : live < 32
+  pub number_in : number < length t.lends
+  pub aligned : address % 4 ≡ 0
+  pub low : psp + 32 ≤ address
+  pub high : address + lend_size t number ≤ top
+
+-- RAM with one loan more than so many, of a block at an offset
+abbrev pub with_loan : (block live address end number : ℕ) → List ℕ → List ℕ
+with_loan b n a e x m = write 4 (b + 12) (n + 1) (write 4 (b + (160 + 12 * n + 8)) x (write 4 (b + (160 + 12 * n + 4)) e (write 4 (b + (160 + 12 * n)) a m)))
+
+-- the list behind its tests: address, number and LOANS in r4 to r6, the size in r2
+abbrev noted : Constants → Steps
+noted c =
+    Const 3 2
+    ▸ Copy 7 6
+    ▸ Alu Shl 7 7 3
+    ▸ Alu Add 3 7 7
+    ▸ Alu Add 7 7 3
+    ▸ Const 3 c.loans_at
+    ▸ Alu Add 7 7 3
+    ▸ Store Word 4 7 loan_from
+    ▸ Alu Add 2 4 2
+    ▸ Store Word 2 7 loan_end
+    ▸ Store Word 5 7 loan_number
+    ▸ Const 3 1
+    ▸ Alu Add 6 6 3
+    ▸ Store Word 6 1 loans
+    ▸ closed_up
+
+twelve : (n a b c : ℕ) → a ≡ 4 * n → b ≡ add a a → c ≡ add a b → n < 32 → c ≡ 12 * n
+twelve n a b c x y z h = omega (arith, x, y, z, h)
+
+module _ (i : Image) (t : Tables) (p : Placed i t) (has : HasTables i t) (stub : ℕ) (Good : ProtectionState → Type 0) (Allowed : Rule) (handles : Handles i t Allowed) (good : (q : ProtectionState) → IsOff true q → Good q) where
+  abbrev k : Constants
+  k = constants_with stub t
+
+  abbrev W : ℕ → Steps → List Steps → Core → (Outcome → Type 0) → Type 0
+  W n s ks c Q = GivesWithin by_mpu i Good Allowed n s ks c Q
+
+  abbrev block : ℕ
+  block = t.monitor - i.ram_base
+
+  module _ (msp psp : ℕ) (u : FaultStatus) where
+    -- the loan is written, and LOANS counts it
+    noted_within : {ks : List Steps} {Q : Outcome → Type 0} (q : ProtectionState) (m : List ℕ) (live address number size a0 a3 a7 : ℕ) → IsOff true q → Good (with_unit q (record q.mpu { control = 5 })) → live < 32 → address + size < 2 ^ 32 →
+        ((q1 : ProtectionState) (new : List ℕ) → q1 ≡ with_unit q (record q.mpu { control = 5 }) → new ≡ with_loan block live address (address + size) number m → length new ≡ length m →
+        Q (AtReturn (core msp psp q1 u new a0 k.block (address + size) 1 address number MPU_CTRL 5))) →
+        W 42 (noted k) ks (core msp psp q u m a0 k.block size a3 address number live a7) Q
+    noted_within {ks} {Q} q m live address number size a0 a3 a7 off on few fits go =
+        more_within
+        (const_within (copy_within (alu_within (λ b1 f1. alu_within (λ b2 f2. alu_within (λ b3 f3. const_within (alu_within (λ b f4.
+        let at : b ≡ i.ram_base + (block + (160 + 12 * live)) = loan_at b b3 (twelve live b1 b2 b3 (shl2 live b1 f1 (small few)) f2 f3 few) f4 in
+        store_within p.rules (block + (160 + 12 * live)) (open_while_off q off.control) (good q off) (at_0 b at) aligned_0 room_0 (handles.block Write _ (160 + 12 * live) off.mode (in_0 few)) (λ m1 g1 h1.
+        alu_within (λ e f5.
+        let ends : e ≡ address + size = end_is e f5 in
+        store_within p.rules (block + (160 + 12 * live + 4)) (open_while_off q off.control) (good q off) (at_4 b at) aligned_4 room_4 (handles.block Write _ (160 + 12 * live + 4) off.mode (in_4 few)) (λ m2 g2 h2.
+        store_within p.rules (block + (160 + 12 * live + 8)) (open_while_off q off.control) (good q off) (at_8 b at) aligned_8 room_8 (handles.block Write _ (160 + 12 * live + 8) off.mode (in_8 few)) (λ m3 g3 h3.
+        const_within (alu_within (λ c f6.
+        let more : c ≡ live + 1 = one_more c f6 in
+        block_store_within i t p has stub Good Allowed handles good 3 off refl refl (λ m4 g4 h4.
+        at_within (ap (λ e. core msp psp q u m4 a0 k.block e 1 address number c b) ends)
+        (closed_within i t p has stub Good Allowed handles good msp psp u q m4 a0 k.block (address + size) 1 address number c b off on (λ q1 e1.
+        go q1 m4 e1 (all_of m1 m2 m3 m4 e c g1 g2 g3 g4 ends more) (h4 ∙ h3 ∙ h2 ∙ h1)))))))))))))))))) (omega arith)
+      where
+        small : live < 32 → live < 2 ^ 28
+        small h = omega (arith, h)
+
+        loan_at : (b c : ℕ) → c ≡ 12 * live → b ≡ add c k.loans_at → b ≡ i.ram_base + (block + (160 + 12 * live))
+        loan_at b c e h = let a = loans_at_is i t p has stub in let l = p.block_inside.0 in let z = p.block_inside.1 in let r = p.rules.ram_highest in let s = p.rules.ram_most in omega (arith, a, e, h, l, z, r, s, few)
+
+        at_0 : (b : ℕ) → b ≡ i.ram_base + (block + (160 + 12 * live)) → b + 4 * 0 ≡ i.ram_base + (block + (160 + 12 * live))
+        at_0 b e = omega (arith, e)
+
+        at_4 : (b : ℕ) → b ≡ i.ram_base + (block + (160 + 12 * live)) → b + 4 * 1 ≡ i.ram_base + (block + (160 + 12 * live + 4))
+        at_4 b e = omega (arith, e)
+
+        at_8 : (b : ℕ) → b ≡ i.ram_base + (block + (160 + 12 * live)) → b + 4 * 2 ≡ i.ram_base + (block + (160 + 12 * live + 8))
+        at_8 b e = omega (arith, e)
+
+        block_aligned : block % 4 ≡ 0
+        block_aligned = let a = p.block_aligned in let r = p.rules.ram_aligned in let l = p.block_inside.0 in omega (arith, a, r, l)
+
+        aligned_0 : (block + (160 + 12 * live)) % 4 ≡ 0
+        aligned_0 = let a = block_aligned in omega (arith, a)
+
+        aligned_4 : (block + (160 + 12 * live + 4)) % 4 ≡ 0
+        aligned_4 = let a = block_aligned in omega (arith, a)
+
+        aligned_8 : (block + (160 + 12 * live + 8)) % 4 ≡ 0
+        aligned_8 = let a = block_aligned in omega (arith, a)
+
+        room_0 : block + (160 + 12 * live) + 4 ≤ i.ram_size
+        room_0 = let l = p.block_inside.0 in let z = p.block_inside.1 in omega (arith, l, z, few)
+
+        room_4 : block + (160 + 12 * live + 4) + 4 ≤ i.ram_size
+        room_4 = let l = p.block_inside.0 in let z = p.block_inside.1 in omega (arith, l, z, few)
+
+        room_8 : block + (160 + 12 * live + 8) + 4 ≤ i.ram_size
+        room_8 = let l = p.block_inside.0 in let z = p.block_inside.1 in omega (arith, l, z, few)
+
+        in_0 : live < 32 → 160 + 12 * live + 4 ≤ 544
+        in_0 h = omega (arith, h)
+
+        in_4 : live < 32 → 160 + 12 * live + 4 + 4 ≤ 544
+        in_4 h = omega (arith, h)
+
+        in_8 : live < 32 → 160 + 12 * live + 8 + 4 ≤ 544
+        in_8 h = omega (arith, h)
+
+        end_is : (e : ℕ) → e ≡ add address size → e ≡ address + size
+        end_is e h = omega (arith, h, fits)
+
+        one_more : (c : ℕ) → c ≡ add live 1 → c ≡ live + 1
+        one_more c h = omega (arith, h, few)
+
+        all_of : (m1 m2 m3 m4 : List ℕ) (e c : ℕ) → m1 ≡ write 4 (block + (160 + 12 * live)) address m → m2 ≡ write 4 (block + (160 + 12 * live + 4)) e m1 → m3 ≡ write 4 (block + (160 + 12 * live + 8)) number m2 → m4 ≡ write 4 (block + 12) c m3 → e ≡ address + size → c ≡ live + 1 →
+            m4 ≡ with_loan block live address (address + size) number m
+        all_of m1 m2 m3 m4 e c g1 g2 g3 g4 ee ce =
+            g4 ∙ ap (λ c. write 4 (block + 12) c m3) ce
+            ∙ ap (λ m. write 4 (block + 12) (live + 1) m) (g3
+            ∙ ap (λ m. write 4 (block + (160 + 12 * live + 8)) number m) (g2
+            ∙ ap (λ e. write 4 (block + (160 + 12 * live + 4)) e m1) ee
+            ∙ ap (λ m. write 4 (block + (160 + 12 * live + 4)) (address + size) m) g1))
+
+    -- the loan that is asked for, where it may be made; else halt 6
+    pub lend_within : {ks : List Steps} {Q : Outcome → Type 0} (q : ProtectionState) (o top live address number : ℕ) (m : List ℕ) (a2 a4 a5 a6 a7 : ℕ) → IsOff true q → Good (with_unit q (record q.mpu { control = 5 })) → psp ≡ i.ram_base + o → o % 4 ≡ 0 → FrameIsOpen i t o m → top ≡ read 4 (block + 4) m → top ≤ stack_end t →
+        read 4 o m ≡ address → read 4 (o + 4) m ≡ number → read 4 (block + 12) m ≡ live → live ≤ 32 →
+        ((d : Core) → d.ram ≡ m → (MayLend t psp top live address number → ⊥) → Q (Halted 6 d)) →
+        ((q1 : ProtectionState) (new : List ℕ) → q1 ≡ with_unit q (record q.mpu { control = 5 }) → MayLend t psp top live address number → new ≡ with_loan block live address (address + lend_size t number) number m → length new ≡ length m →
+        Q (AtReturn (core msp psp q1 u new psp k.block (address + lend_size t number) 1 address number MPU_CTRL 5))) →
+        W 111 (lend k) ks (core msp psp q u m psp k.block a2 top a4 a5 a6 a7) Q
+    lend_within {ks} {Q} q o top live address number m a2 a4 a5 a6 a7 off on ep ao f et en ea eb el few refuse go =
+        more_within
+        (load_within p.rules o (open_while_off q off.control) (frame_0 ep) ao room_0 (handles.stack Read _ o f.low high_0) (λ x4 e4.
+        load_within p.rules (o + 4) (open_while_off q off.control) (frame_4 ep) aligned_4 room_4 (handles.stack Read _ (o + 4) low_4 high_4) (λ x5 e5.
+        block_load_within i t p has stub Good Allowed handles good 3 off refl refl (λ x6 e6.
+        at_within (ap (λ x. core msp psp q u m psp k.block a2 top x x5 x6 a7) (e4 ∙ ea) ∙ ap (λ x. core msp psp q u m psp k.block a2 top address x x6 a7) (e5 ∙ eb) ∙ ap (λ x. core msp psp q u m psp k.block a2 top address number x a7) (e6 ∙ el))
+        (const_within
+        (must_not_within (λ c1. refuse _ refl (λ y. full (eq_true _ _ c1) y.room)) (λ c1.
+        let room : live < 32 = not_full (eq_false _ _ c1) in
+        const_within
+        (must_within (λ c2. refuse _ refl (λ y. outside (lt_false _ _ c2) y.number_in)) (λ c2.
+        let inside : number < length t.lends = is_inside (lt_true _ _ c2) in
+        const_within (alu_within (λ v ev. const_within
+        (must_within (λ c3. refuse _ refl (λ y. absurd (eq_false _ _ c3 (ev ∙ low_bits address ∙ y.aligned)))) (λ c3.
+        let aligned : address % 4 ≡ 0 = sym (low_bits address) ∙ sym ev ∙ eq_true _ _ c3 in
+        const_within (copy_within (alu_within (λ s es. const_within (alu_within (λ l l_is.
+        load_flash_within p.rules (lends_offset i t p has stub + 4 * number) {z = Word} (open_while_off q off.control) (record_at s l inside es l_is) record_aligned (record_in inside) (handles.plain.flash _ 4 (lends_offset i t p has stub + 4 * number) (record_fits inside)) (λ z ez.
+        at_within (ap (λ z. core msp psp q u m psp k.block z top address number live k.lends_at) (ez ∙ (has_word i (lends_offset i t p has stub) t.lends number (has_lends i t p has stub) inside).0))
+        (const_within (alu_within (λ g eg.
+        must_within (λ c4. refuse _ refl (λ y. not_low g eg (le_false _ _ c4) y.low)) (λ c4.
+        let low : psp + 32 ≤ address = is_low g eg (le_true _ _ c4) in
+        must_within (λ c5. refuse _ refl (λ y. not_below (le_false _ _ c5) y.high)) (λ c5.
+        alu_within (λ r er.
+        must_within (λ c6. refuse _ refl (λ y. not_high r er (le_true _ _ c5) (le_false _ _ c6) y.high)) (λ c6.
+        let high : address + lend_size t number ≤ top = is_high r er (le_true _ _ c5) (le_true _ _ c6) in
+        noted_within q m live address number (lend_size t number) psp top r off on room (fits high) (λ q1 new e1 n1 h1.
+        go q1 new e1 (record { room = room; number_in = inside; aligned = aligned; low = low; high = high }) n1 h1))))))))))))))))))))))))))) (omega arith)
+      where
+        stack_high : i.ram_base + o + 32 ≤ i.ram_base + i.ram_size
+        stack_high = let a = (writable i t p has stub).stack_inside.1 in let h = f.high in omega (arith, a, h, et, en)
+
+        frame_0 : psp ≡ i.ram_base + o → psp + 4 * 0 ≡ i.ram_base + o
+        frame_0 e = omega (arith, e)
+
+        frame_4 : psp ≡ i.ram_base + o → psp + 4 * 1 ≡ i.ram_base + (o + 4)
+        frame_4 e = omega (arith, e)
+
+        room_0 : o + 4 ≤ i.ram_size
+        room_0 = let h = stack_high in omega (arith, h)
+
+        room_4 : o + 4 + 4 ≤ i.ram_size
+        room_4 = let h = stack_high in omega (arith, h)
+
+        high_0 : i.ram_base + (o + 4) ≤ read 4 (block + 4) m
+        high_0 = let h = f.high in omega (arith, h)
+
+        high_4 : i.ram_base + (o + 4 + 4) ≤ read 4 (block + 4) m
+        high_4 = let h = f.high in omega (arith, h)
+
+        low_4 : t.stack.base ≤ i.ram_base + (o + 4)
+        low_4 = let h = f.low in omega (arith, h)
+
+        aligned_4 : (o + 4) % 4 ≡ 0
+        aligned_4 = omega (arith, ao)
+
+        full : live ≡ 32 → live < 32 → ⊥
+        full a b = omega (arith, a, b)
+
+        not_full : live ≢ 32 → live < 32
+        not_full h = grind (arith, h, few)
+
+        outside : k.lends ≤ number → number < length t.lends → ⊥
+        outside a b = let e = lends_is i t p has stub in omega (arith, a, b, e)
+
+        is_inside : number < k.lends → number < length t.lends
+        is_inside a = let e = lends_is i t p has stub in omega (arith, a, e)
+
+        record_fits : number < length t.lends → lends_offset i t p has stub + 4 * number + 4 ≤ length i.flash
+        record_fits h = (has_word i (lends_offset i t p has stub) t.lends number (has_lends i t p has stub) h).1
+
+        record_in : number < length t.lends → lends_offset i t p has stub + 4 * number < length i.flash
+        record_in h = let a = record_fits h in omega (arith, a)
+
+        record_aligned : (i.flash_base + (lends_offset i t p has stub + 4 * number)) % 4 ≡ 0
+        record_aligned = let a = lends_aligned i t p has stub in let b = p.rules.flash_aligned in omega (arith, a, b)
+
+        small : number < length t.lends → number < 2 ^ 28
+        small h = let e = few_lends i t p has stub in omega (arith, h, e)
+
+        record_at : (s l : ℕ) → number < length t.lends → s ≡ shift_left number 2 → l ≡ add s k.lends_at → l + 4 * 0 ≡ i.flash_base + (lends_offset i t p has stub + 4 * number)
+        record_at s l h es e =
+            let a = shl2 number s es (small h) in
+            let b = lends_at_is i t p has stub in
+            let r = record_fits h in
+            let x = p.rules.flash_highest in
+            let y = p.rules.flash_most in
+            omega (arith, a, b, e, r, x, y)
+
+        frame_end : (g : ℕ) → g ≡ add psp 32 → g ≡ psp + 32
+        frame_end g e = let h = f.high in let w = word_fits (block + 4) m in let s = stack_high in let x = p.rules.ram_highest in let y = p.rules.ram_most in omega (arith, e, h, w, ep, s, x, y)
+
+        not_low : (g : ℕ) → g ≡ add psp 32 → address < g → psp + 32 ≤ address → ⊥
+        not_low g e a b = let h = frame_end g e in omega (arith, h, a, b)
+
+        is_low : (g : ℕ) → g ≡ add psp 32 → g ≤ address → psp + 32 ≤ address
+        is_low g e a = let h = frame_end g e in omega (arith, h, a)
+
+        not_below : top < address → address + lend_size t number ≤ top → ⊥
+        not_below a b = omega (arith, a, b)
+
+        left_over : (r : ℕ) → r ≡ subtract top address → address ≤ top → r ≡ top - address
+        left_over r e a = let w = word_fits (block + 4) m in omega (arith, e, a, w, et)
+
+        not_high : (r : ℕ) → r ≡ subtract top address → address ≤ top → r < lend_size t number → address + lend_size t number ≤ top → ⊥
+        not_high r e a b c = let h = left_over r e a in omega (arith, h, a, b, c)
+
+        is_high : (r : ℕ) → r ≡ subtract top address → address ≤ top → lend_size t number ≤ r → address + lend_size t number ≤ top
+        is_high r e a b = let h = left_over r e a in omega (arith, h, a, b)
+
+        fits : address + lend_size t number ≤ top → address + lend_size t number < 2 ^ 32
+        fits h = let w = word_fits (block + 4) m in omega (arith, h, w, et)
+
+    -- 2: lend
+    pub two_within : {Q : Outcome → Type 0} (q : ProtectionState) (o top live address number : ℕ) (m : List ℕ) (a2 a4 a6 a7 : ℕ) → IsOff true q → Good (with_unit q (record q.mpu { control = 5 })) → psp ≡ i.ram_base + o → o % 4 ≡ 0 → FrameIsOpen i t o m → top ≡ read 4 (block + 4) m → top ≤ stack_end t →
+        read 4 o m ≡ address → read 4 (o + 4) m ≡ number → read 4 (block + 12) m ≡ live → live ≤ 32 →
+        ((d : Core) → d.ram ≡ m → (MayLend t psp top live address number → ⊥) → Q (Halted 6 d)) →
+        ((q1 : ProtectionState) (new : List ℕ) → q1 ≡ with_unit q (record q.mpu { control = 5 }) → MayLend t psp top live address number → new ≡ with_loan block live address (address + lend_size t number) number m → length new ≡ length m →
+        Q (AtReturn (core msp psp q1 u new psp k.block (address + lend_size t number) 1 address number MPU_CTRL 5))) →
+        W 129 (by_number i t p has stub Good Allowed handles good) [] (core msp psp q u m psp k.block a2 top a4 2 a6 a7) Q
+    two_within q o top live address number m a2 a4 a6 a7 off on ep ao f et en ea eb el few refuse go =
+        more_within
+        (const_within (no_within refl (const_within (no_within refl (const_within (yes_within refl
+        (lend_within q o top live address number m a2 a4 2 2 a7 off on ep ao f et en ea eb el few refuse go))))))) (omega arith)

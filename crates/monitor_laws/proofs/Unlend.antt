@@ -1,0 +1,59 @@
+-- The end of both handlers, and the list of unlend.
+use Rattle.std.proofs.Common.{◌≡◌, ◌≢◌, ℕ, zero, suc, ◌+◌, ◌-◌, ◌*◌, ◌/◌, ◌%◌, ◌^◌, ◌<◌, ◌≤◌, Bool, true, false, List, [], ◌∷◌, length, nat_eq, refl, sym, ap, ◌∙◌, subst, arith}
+use Rattle.words.specs.Arithmetic.{subtract}
+use Rattle.words.specs.Bytes.{read, write}
+use Rattle.mpu_model.specs.declared.TheConstants.{MPU_CTRL}
+use Rattle.device_model.specs.declared.image.Image.{Image}
+use Rattle.armv7m.specs.declared.state.ProtectionState.{ProtectionState}
+use Rattle.armv7m.specs.declared.state.FaultStatus.{FaultStatus}
+use Rattle.armv7m.specs.State.{by_mpu}
+use Rattle.gate_steps.specs.Steps.{Steps}
+use Rattle.gate_steps.specs.Core.{Core}
+use Rattle.gate_steps.specs.Effect.{Outcome, Halted, AtReturn}
+use Rattle.gate_steps.specs.Safe.{Rule}
+use Rattle.gate_steps.proofs.Gives.{word_fits}
+use Rattle.gate_steps.proofs.Within.{GivesWithin, const_within, alu_within, at_within, more_within, must_not_within, return_within}
+use Rattle.monitor.specs.declared.tables.Tables.{Tables}
+use Rattle.monitor.specs.Area.{HasTables}
+use Rattle.monitor.specs.Placed.{Placed}
+use Rattle.monitor.specs.Constants.{Constants, constants_with}
+use Rattle.monitor.specs.Opening.{closed_up}
+use Rattle.monitor.specs.Svc.{unlend}
+use Rattle.monitor_laws.proofs.Off.{core, with_unit, IsOff, set_control_within}
+use Rattle.monitor_laws.proofs.Opened.{Handles, eq_true, eq_false, block_load_within, block_store_within}
+
+module _ (i : Image) (t : Tables) (p : Placed i t) (has : HasTables i t) (stub : ℕ) (Good : ProtectionState → Type 0) (Allowed : Rule) (handles : Handles i t Allowed) (good : (q : ProtectionState) → IsOff true q → Good q) where
+  abbrev k : Constants
+  k = constants_with stub t
+
+  abbrev W : ℕ → Steps → List Steps → Core → (Outcome → Type 0) → Type 0
+  W n s ks c Q = GivesWithin by_mpu i Good Allowed n s ks c Q
+
+  abbrev block : ℕ
+  block = t.monitor - i.ram_base
+
+  module _ (msp psp : ℕ) (u : FaultStatus) where
+    -- the unit on again, and the exception return
+    pub closed_within : {ks : List Steps} {Q : Outcome → Type 0} (q : ProtectionState) (m : List ℕ) (a0 a1 a2 a3 a4 a5 a6 a7 : ℕ) → IsOff true q → Good (with_unit q (record q.mpu { control = 5 })) →
+        ((q1 : ProtectionState) → q1 ≡ with_unit q (record q.mpu { control = 5 }) → Q (AtReturn (core msp psp q1 u m a0 a1 a2 a3 a4 a5 MPU_CTRL 5))) →
+        W 7 closed_up ks (core msp psp q u m a0 a1 a2 a3 a4 a5 a6 a7) Q
+    closed_within q m a0 a1 a2 a3 a4 a5 a6 a7 off on f =
+        more_within
+        (set_control_within i p.rules Good Allowed true handles.plain good msp psp u 5 q m a0 a1 a2 a3 a4 a5 a6 a7 off.mode off.privileged (omega arith) on (λ q1 e.
+        return_within (f q1 e))) (omega arith)
+
+    -- the last loan ends, where LOANS is not MARK; else halt 6
+    pub unlend_within : {ks : List Steps} {Q : Outcome → Type 0} (q : ProtectionState) (m : List ℕ) (a0 a2 a3 a4 a5 a6 a7 : ℕ) → IsOff true q → Good (with_unit q (record q.mpu { control = 5 })) →
+        ((d : Core) → d.ram ≡ m → read 4 (block + 12) m ≡ read 4 (block + 16) m → Q (Halted 6 d)) →
+        ((q1 : ProtectionState) (new : List ℕ) (v4 : ℕ) → q1 ≡ with_unit q (record q.mpu { control = 5 }) → read 4 (block + 12) m ≢ read 4 (block + 16) m → new ≡ write 4 (block + 12) (subtract (read 4 (block + 12) m) 1) m → length new ≡ length m →
+        Q (AtReturn (core msp psp q1 u new a0 k.block a2 a3 v4 1 MPU_CTRL 5))) →
+        W 24 unlend ks (core msp psp q u m a0 k.block a2 a3 a4 a5 a6 a7) Q
+    unlend_within {ks} {Q} q m a0 a2 a3 a4 a5 a6 a7 off on refuse go =
+        more_within
+        (block_load_within i t p has stub Good Allowed handles good 3 off refl refl (λ x ex.
+        block_load_within i t p has stub Good Allowed handles good 4 off refl refl (λ y ey.
+        must_not_within (λ e. refuse _ refl (sym ex ∙ eq_true _ _ e ∙ ey)) (λ e.
+        const_within (alu_within (λ v ev.
+        block_store_within i t p has stub Good Allowed handles good 3 off refl refl (λ new en ln.
+        closed_within q new a0 k.block a2 a3 v 1 a6 a7 off on (λ q1 e1.
+        go q1 new v e1 (λ z. eq_false _ _ e (ex ∙ z ∙ sym ey)) (en ∙ ap (λ v. write 4 (block + 12) v m) (ev ∙ ap (λ x. subtract x 1) ex)) ln)))))))) (omega arith)

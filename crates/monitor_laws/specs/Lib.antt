@@ -1,0 +1,2 @@
+pub mod RegionsWritten
+pub mod StartUp

@@ -1,0 +1,22 @@
+//! Sound images. Each function is a law and does nothing.
+
+ghost use Rattle.monitor.specs.Placed.{SoundImagesArePlaced};
+ghost use Rattle.monitor.specs.Promises.{ImagesStart};
+ghost use Rattle.monitor.specs.TheCode.{monitor_code};
+
+use crate::start_up::ready_images_start;
+
+/// Whatever the monitor's code is: where none of the checks of an image fails, its tables are placed and in form, and its flash
+/// has their words.
+pub fn sound_images_are_placed()
+    ensures { SoundImagesArePlaced }
+{}
+
+/// A machine that is started on a sound image comes to the first unprivileged step within 4,096 steps and 64 for each initial
+/// word, all of them without an event, each storing only to the monitor's block, to system registers and to the ranges with
+/// initial words; and three steps later to the first instruction of `main`, with the initial words in place.
+pub fn images_start()
+    ensures { ImagesStart monitor_code }
+{
+    ready_images_start();
+}

@@ -1,0 +1,23 @@
+//! Start-up. The function is a law and does nothing.
+
+ghost use Rattle.monitor_laws.specs.StartUp.{ReadyImagesStart};
+
+use armv7m::running::{shapes, templates};
+use monitor::code_size::page_is_full;
+use mpu_model::laws::{regions_are_kept, regions_give_their_rights, regions_hold_their_blocks};
+use words::laws::comparisons;
+
+/// A machine that is started on an image whose tables are placed comes to the first instruction of `main`: within the steps that
+/// are counted, of which each stores only to the monitor's block, to system registers and to the ranges with initial words,
+/// and three further steps.
+pub fn ready_images_start()
+    ensures { ReadyImagesStart }
+{
+    shapes();
+    templates();
+    comparisons();
+    page_is_full();
+    regions_are_kept();
+    regions_give_their_rights();
+    regions_hold_their_blocks();
+}
