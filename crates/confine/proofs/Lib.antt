@@ -1,0 +1,6 @@
+mod Reaches
+mod ThreadSteps
+mod Changes
+mod Induction
+mod FaultLaw
+mod SvcLaw

@@ -1,0 +1,4 @@
+pub mod Reaches
+pub mod ThreadSteps
+pub mod WholeRuns
+pub mod FromLaw
