@@ -1,6 +1,6 @@
 -- What the handler of MemManage comes to, by its tests in their order: it makes a refused access of a lent local that the
 -- running compartment may reach.
-use Rattle.std.specs.Prelude.{ℕ, ◌+◌, ◌-◌, Bool, ◌&&◌, List, nat_eq, nat_le, if◌then◌else◌}
+use Rattle.std.specs.Prelude.{ℕ, ◌+◌, ◌-◌, ◌%◌, Bool, ◌&&◌, List, nat_eq, nat_le, if◌then◌else◌}
 use Rattle.std.specs.Int.{bit_at}
 use Rattle.std.specs.List.{list_any}
 use Rattle.words.specs.Bytes.{read, write}
@@ -8,7 +8,7 @@ use Rattle.device_model.specs.declared.image.Image.{Image}
 use Rattle.monitor.specs.declared.tables.Tables.{Tables}
 use Rattle.monitor.specs.Records.{compartment_at}
 use Rattle.monitor.specs.Block.{Loan, Block}
-use Rattle.monitor.specs.Outcomes.{Outcome, Halts, Resumes, stacked, with_stacked, moved_on, is_open}
+use Rattle.monitor.specs.Outcomes.{Outcome, Halts, StopsUnaligned, Resumes, stacked, with_stacked, moved_on, is_open}
 
 -- the loan holds so many bytes from an address on, and its number is in a mask
 abbrev pub covers : (mask address width : ℕ) → Loan → Bool
@@ -26,18 +26,22 @@ module _ (i : Image) (t : Tables) (m : Block) (psp : ℕ) (memory : List ℕ) wh
   abbrev pub address : ℕ
   address = stacked i psp memory 1
 
+  -- the machine makes an access at multiples of its width alone
+  abbrev pub if_aligned : (width : ℕ) → Outcome → Outcome
+  if_aligned w outcome = if nat_eq (address % w) 0 then outcome else StopsUnaligned
+
   -- where the store reaches the frame itself, the return address rises from what the store made of it
   abbrev pub emulated_store : (width : ℕ) → Outcome
   emulated_store w =
       if is_lent (compartment_at t m.current).mask address w m.loans then
-      Resumes m psp (moved_on i psp (write w (address - i.ram_base) value memory))
+      if_aligned w (Resumes m psp (moved_on i psp (write w (address - i.ram_base) value memory)))
       else Halts 7
 
   -- what was read goes to r0, widened with zeros
   abbrev pub emulated_load : (width : ℕ) → Outcome
   emulated_load w =
       if is_lent (compartment_at t m.current).reads address w m.loans then
-      Resumes m psp (moved_on i psp (with_stacked i psp 0 (read w (address - i.ram_base) memory) memory))
+      if_aligned w (Resumes m psp (moved_on i psp (with_stacked i psp 0 (read w (address - i.ram_base) memory) memory)))
       else Halts 9
 
   -- STR, STRB, STRH r0,[r1,#0] are 0x6008, 0x7008, 0x8008; on a closed board LDR, LDRB, LDRH r0,[r1,#0] too

@@ -1,5 +1,5 @@
 -- What confinement uses of the handlers: the steps from an exception's entry to its return, or to the machine's end.
-use Rattle.std.specs.Prelude.{◌≡◌, ℕ, ◌+◌, ◌%◌, ◌<◌, ◌≤◌, ◌⊎◌, List, ◌∷◌, length, true, Some, None}
+use Rattle.std.specs.Prelude.{◌≡◌, ℕ, ◌+◌, ◌%◌, ◌^◌, ◌<◌, ◌≤◌, ◌⊎◌, List, ◌∷◌, length, true, Some, None}
 use Rattle.words.specs.Runs.{run}
 use Rattle.device_model.specs.declared.image.Image.{Image}
 use Rattle.device_model.specs.Rules.{block_size}
@@ -33,7 +33,7 @@ at_memfault i u s = (entry true i mem_manage s.core.pc u s).to
 abbrev pub IsFault : Image → State → FaultStatus → Type 0
 IsFault i s u =
     (u ≡ record s.status { cfsr = 1 })
-    ⊎ ((address half : ℕ) × HoldsHalf i s.core.pc half × (u ≡ record s.status { cfsr = 0x82; mmfar = address }))
+    ⊎ ((address half : ℕ) × (address < 2 ^ 32) × HoldsHalf i s.core.pc half × (u ≡ record s.status { cfsr = 0x82; mmfar = address }))
 
 -- in Handler mode the machine has ended
 pub record HasEndedInHandler (u : State) (e : End) : Type 0 where

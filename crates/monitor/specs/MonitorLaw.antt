@@ -8,7 +8,7 @@ use Rattle.armv7m.specs.declared.state.CoreRegisters.{CoreRegisters}
 use Rattle.armv7m.specs.declared.state.FaultStatus.{FaultStatus}
 use Rattle.armv7m.specs.declared.state.End.{End}
 use Rattle.armv7m.specs.declared.state.End.TheVariants.{Halt, Stop}
-use Rattle.armv7m.specs.declared.state.StopReason.TheVariants.{Bus, Usage}
+use Rattle.armv7m.specs.declared.state.StopReason.TheVariants.{Bus, Unaligned, Usage}
 use Rattle.armv7m.specs.State.{State, by_mpu}
 use Rattle.armv7m.specs.Exceptions.{is_thread, unstacked, is_frame_open, frame_at}
 use Rattle.armv7m.specs.Code.{HoldsHalf}
@@ -19,7 +19,7 @@ use Rattle.monitor.specs.BlockWords.{IsBlock, words_end}
 use Rattle.monitor.specs.Confined.{IsSvc}
 use Rattle.monitor.specs.Invariant.{InvariantHolds}
 use Rattle.monitor.specs.Handlers.{at_svc, at_memfault, IsFault, Leads, HasEndedInHandler}
-use Rattle.monitor.specs.Outcomes.{Outcome, Halts, StopsAtBus, Resumes, status_place, frame_in, stacked}
+use Rattle.monitor.specs.Outcomes.{Outcome, Halts, StopsAtBus, StopsUnaligned, Resumes, status_place, frame_in, stacked}
 use Rattle.monitor.specs.SvcOutcome.{svc_outcome}
 use Rattle.monitor.specs.FaultOutcome.{fault_outcome}
 
@@ -68,6 +68,7 @@ ReturnsBy false i t s u m b psp memory = (pc : ℕ) × EndsThere i t m b memory 
 abbrev pub Shows : Image → Tables → Outcome → (s : State) → Block → (memory : List ℕ) → (u : State) → Type 0
 Shows i t (Halts n) s m memory u = EndsThere i t m m memory u (Halt n)
 Shows i t StopsAtBus s m memory u = (pc : ℕ) × EndsThere i t m m memory u (Stop Bus pc)
+Shows i t StopsUnaligned s m memory u = (pc : ℕ) × EndsThere i t m m memory u (Stop Unaligned pc)
 Shows i t (Resumes b psp after) s m memory u = ReturnsBy (is_thread (stacked i psp after status_place)) i t s u m b psp after
 
 -- how many steps a handler takes at most: enter and leave, then the other SVCs, and MemManage

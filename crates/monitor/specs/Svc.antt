@@ -183,9 +183,8 @@ lend c =
     ▸ Alu And 7 7 4
     ▸ Const 2 0
     ▸ must Eq 7 2 6
-    ▸ Const 7 2
-    ▸ Copy 2 5
-    ▸ Alu Shl 2 2 7
+    ▸ Alu Add 2 5 5
+    ▸ Alu Add 2 2 2
     ▸ Const 7 c.lends_at
     ▸ Alu Add 2 2 7
     ▸ Load Word 2 2 0
@@ -195,11 +194,10 @@ lend c =
     ▸ must Ule 4 3 6
     ▸ Alu Sub 7 3 4
     ▸ must Ule 2 7 6
-    ▸ Const 3 2
-    ▸ Copy 7 6
-    ▸ Alu Shl 7 7 3
-    ▸ Alu Add 3 7 7
-    ▸ Alu Add 7 7 3
+    ▸ Alu Add 7 6 6
+    ▸ Alu Add 7 7 6
+    ▸ Alu Add 7 7 7
+    ▸ Alu Add 7 7 7
     ▸ Const 3 c.loans_at
     ▸ Alu Add 7 7 3
     ▸ Store Word 4 7 loan_from
@@ -226,11 +224,12 @@ unlend =
 
 -- ---- the handler
 
--- where the number in r5 is this one, a list; else another
-abbrev pub on_number : (number : ℕ) → (list other : Steps) → Steps
-on_number n list other = Const 6 n ▸ Test Eq 5 6 list other ▸ End
+-- where the number in r5 is this one, a list, which ends the handler; else the rest
+abbrev pub on_number : (number : ℕ) → (list rest : Steps) → Steps
+on_number n list rest = Const 6 n ▸ Test Eq 5 6 list End ▸ rest
 
--- the number of the SVC is the low byte of the halfword before the return address; above 3: halt 1
+-- the number of the SVC is the low byte of the halfword before the return address; above 3: halt 1. The lists of fewer steps are
+-- asked for first
 abbrev pub svc : Constants → Steps
 svc c =
     opened c
@@ -238,9 +237,9 @@ svc c =
     ▸ Const 5 2
     ▸ Alu Sub 5 4 5
     ▸ Load Byte 5 5 0
+    ▸ on_number 3 unlend
+    ▸ on_number 2 (lend c)
     ▸ on_number 0 (enter c)
     ▸ on_number 1 (leave c)
-    ▸ on_number 2 (lend c)
-    ▸ on_number 3 unlend
     ▸ Halt 1
     ▸ End

@@ -2,16 +2,15 @@
 -- make the whole is shown where they are put together.
 use Rattle.std.specs.Prelude.{ℕ, ◌^◌}
 use Rattle.words.specs.declared.memory.Width.{Width}
-use Rattle.words.specs.declared.memory.Width.TheVariants.{Half, Word}
+use Rattle.words.specs.declared.memory.Width.TheVariants.{Byte, Half, Word}
 use Rattle.armv7m.specs.declared.TheConstants.{CFSR}
 use Rattle.gate_steps.specs.declared.steps.GateOp.TheVariants.{Add, Sub, And, Shl, Shr}
 use Rattle.gate_steps.specs.declared.steps.GateCond.TheVariants.{Eq, Ult, Ule}
-use Rattle.gate_steps.specs.Steps.{Steps, End, Const, Copy, Load, Store, Alu, ReadPsp, WritePsp, Test, Halt, ◌▸◌}
+use Rattle.gate_steps.specs.Steps.{Steps, End, Const, Copy, Load, Store, Alu, ReadPsp, WritePsp, Test, ◌▸◌}
 use Rattle.monitor.specs.Offsets.{cur, top, depth, loans as loan_count, mark, saved_psp, saved_cur, saved_top, saved_mark, loan_from, loan_end, loan_number, frame_r0, frame_r1, frame_r2, frame_r3, frame_r12, frame_return, frame_xpsr}
 use Rattle.monitor.specs.Constants.{Constants}
 use Rattle.monitor.specs.Opening.{must, must_not, record_of}
 use Rattle.monitor.specs.MemFault.{by_width}
-use Rattle.monitor.specs.Svc.{leave, lend, unlend, on_number}
 
 -- ---- of `opened` and `stack_region`
 
@@ -145,9 +144,8 @@ lend_number c rest =
 -- of `lend`: the tests of the place
 abbrev pub lend_place : Constants → Steps → Steps
 lend_place c rest =
-    Const 7 2
-    ▸ Copy 2 5
-    ▸ Alu Shl 2 2 7
+    Alu Add 2 5 5
+    ▸ Alu Add 2 2 2
     ▸ Const 7 c.lends_at
     ▸ Alu Add 2 2 7
     ▸ Load Word 2 2 0
@@ -162,11 +160,10 @@ lend_place c rest =
 -- of `lend`: the loan
 abbrev pub lend_entry : Constants → Steps → Steps
 lend_entry c rest =
-    Const 3 2
-    ▸ Copy 7 6
-    ▸ Alu Shl 7 7 3
-    ▸ Alu Add 3 7 7
-    ▸ Alu Add 7 7 3
+    Alu Add 7 6 6
+    ▸ Alu Add 7 7 6
+    ▸ Alu Add 7 7 7
+    ▸ Alu Add 7 7 7
     ▸ Const 3 c.loans_at
     ▸ Alu Add 7 7 3
     ▸ Store Word 4 7 loan_from
@@ -178,12 +175,14 @@ lend_entry c rest =
     ▸ Store Word 6 1 loan_count
     ▸ rest
 
--- of `svc`: what is done for numbers above 1, and above 0
-abbrev pub loans : Constants → Steps
-loans c = on_number 2 (lend c) ▸ on_number 3 unlend ▸ Halt 1 ▸ End
-
-abbrev pub leave_or_loans : Constants → Steps
-leave_or_loans c = on_number 1 (leave c) (loans c)
+-- of `svc`: the number
+abbrev pub number : Steps → Steps
+number rest =
+    Load Word 4 0 frame_return
+    ▸ Const 5 2
+    ▸ Alu Sub 5 4 5
+    ▸ Load Byte 5 5 0
+    ▸ rest
 
 -- ---- of MemManage
 

@@ -265,9 +265,8 @@ fn lend_number(list: &mut StepList, c: &Numbers) -> Result<(), AllocError>
 fn lend_place(list: &mut StepList, c: &Numbers) -> Result<(), AllocError>
     ensures { OnOk result (Appends list.old list.new (parts.lend_place (constants_of c.now))) }
 {
-    list.constant(7, 2)?;
-    list.copy(2, 5)?;
-    list.alu(GateOp::Shl, 2, 2, 7)?;
+    list.alu(GateOp::Add, 2, 5, 5)?;
+    list.alu(GateOp::Add, 2, 2, 2)?;
     list.constant(7, c.lends_at)?;
     list.alu(GateOp::Add, 2, 2, 7)?;
     list.load_word(2, 2, 0)?;
@@ -284,11 +283,10 @@ fn lend_place(list: &mut StepList, c: &Numbers) -> Result<(), AllocError>
 fn lend_entry(list: &mut StepList, c: &Numbers) -> Result<(), AllocError>
     ensures { OnOk result (Appends list.old list.new (parts.lend_entry (constants_of c.now))) }
 {
-    list.constant(3, 2)?;
-    list.copy(7, 6)?;
-    list.alu(GateOp::Shl, 7, 7, 3)?;
-    list.alu(GateOp::Add, 3, 7, 7)?;
-    list.alu(GateOp::Add, 7, 7, 3)?;
+    list.alu(GateOp::Add, 7, 6, 6)?;
+    list.alu(GateOp::Add, 7, 7, 6)?;
+    list.alu(GateOp::Add, 7, 7, 7)?;
+    list.alu(GateOp::Add, 7, 7, 7)?;
     list.constant(3, c.loans_at)?;
     list.alu(GateOp::Add, 7, 7, 3)?;
     list.store_word(4, 7, 0)?;
@@ -328,45 +326,25 @@ fn unlend(alloc: Global) -> Result<StepList, AllocError>
     Ok(list)
 }
 
-/// Where the number in r5 is this one, a list; else another.
-fn on_number(
-    list: &mut StepList,
-    number: u32,
-    chosen: StepList,
-    other: StepList,
-) -> Result<(), AllocError>
-    ensures { OnOk result (Ends list.old list.new (handler.on_number number (steps_of chosen.steps.items) (steps_of other.steps.items))) }
+/// The number of the SVC into r5, the return address into r4.
+fn number(list: &mut StepList) -> Result<(), AllocError>
+    ensures { OnOk result (Appends list.old list.new parts.number) }
 {
-    list.constant(6, number)?;
-    list.test(GateCond::Eq, 5, 6, chosen, other)?;
+    list.load_word(4, 0, 6)?;
+    list.constant(5, 2)?;
+    list.alu(GateOp::Sub, 5, 4, 5)?;
+    list.load(Width::Byte, 5, 5)?;
     Ok(())
 }
 
-/// Of a number above 1: lend and unlend, else the machine halts with 1.
-fn loans(alloc: Global, c: &Numbers) -> Result<StepList, AllocError>
-    ensures { IfOk result (λ list. steps_of list.steps.items ≡ parts.loans (constants_of c.now)) }
+/// Where the number in r5 is this one, a list, which ends the handler.
+fn on_number(list: &mut StepList, number: u32, chosen: StepList) -> Result<(), AllocError>
+    ensures { OnOk result (Appends list.old list.new (handler.on_number number (steps_of chosen.steps.items))) }
 {
-    let mut none = StepList::new(alloc);
-    none.halt(1)?;
-    let ended = unlend(alloc)?;
-    let mut third = StepList::new(alloc);
-    on_number(&mut third, 3, ended, none)?;
-    let lent = lend(alloc, c)?;
-    let mut list = StepList::new(alloc);
-    on_number(&mut list, 2, lent, third)?;
-    Ok(list)
-}
-
-/// Of a number above 0: leave, and what has a greater number.
-fn leave_or_loans(alloc: Global, c: &Numbers) -> Result<StepList, AllocError>
-    requires { c.now.slots ≤ 12 }
-    ensures { IfOk result (λ list. steps_of list.steps.items ≡ parts.leave_or_loans (constants_of c.now)) }
-{
-    let lends = loans(alloc, c)?;
-    let leaves = leave(alloc, c)?;
-    let mut list = StepList::new(alloc);
-    on_number(&mut list, 1, leaves, lends)?;
-    Ok(list)
+    let rest = list.other();
+    list.constant(6, number)?;
+    list.test(GateCond::Eq, 5, 6, chosen, rest)?;
+    Ok(())
 }
 
 /// The handler.
@@ -374,14 +352,13 @@ pub(crate) fn handler(alloc: Global, c: &Numbers) -> Result<StepList, AllocError
     requires { c.now.slots ≤ 12 }
     ensures { IfOk result (λ list. steps_of list.steps.items ≡ handler.svc (constants_of c.now)) }
 {
-    let others = leave_or_loans(alloc, c)?;
-    let enters = enter(alloc, c)?;
     let mut list = StepList::new(alloc);
     opened(&mut list, c)?;
-    list.load_word(4, 0, 6)?;
-    list.constant(5, 2)?;
-    list.alu(GateOp::Sub, 5, 4, 5)?;
-    list.load(Width::Byte, 5, 5)?;
-    on_number(&mut list, 0, enters, others)?;
+    number(&mut list)?;
+    on_number(&mut list, 3, unlend(alloc)?)?;
+    on_number(&mut list, 2, lend(alloc, c)?)?;
+    on_number(&mut list, 0, enter(alloc, c)?)?;
+    on_number(&mut list, 1, leave(alloc, c)?)?;
+    list.halt(1)?;
     Ok(list)
 }

@@ -45,7 +45,7 @@ abbrev pub comes_back : Core
 comes_back = core 0 0x20000560 (ram (second_runs 0 0) [] 0x20000560 (frame 77 0 0 0x08001008))
 
 pub record ComputesCalls : Type 0 where
-  -- TOP is PSP rounded down to 64 bytes, and the callee's frame lies below it; the leave stub stands at 0x0800092C
+  -- TOP is PSP rounded down to 64 bytes, and the callee's frame lies below it; the leave stub stands at 0x0800091C
   pub enters :
       returned (does (svc open_board) calls_second)
       ≡ Some (record {
@@ -53,7 +53,7 @@ pub record ComputesCalls : Type 0 where
         saved = 0x200005A0 ∷ 0 ∷ 0x20000600 ∷ 0 ∷ [];
         loan = 0 ∷ 0 ∷ 0 ∷ [];
         psp = 0x20000560;
-        frame = 10 ∷ 11 ∷ 12 ∷ 13 ∷ 0 ∷ 0x0800092D ∷ 0x08002100 ∷ 0x01000000 ∷ [];
+        frame = 10 ∷ 11 ∷ 12 ∷ 13 ∷ 0 ∷ 0x0800091D ∷ 0x08002100 ∷ 0x01000000 ∷ [];
         control = 5;
         cfsr = 0;
         regions = second_regions 0x1306C011;

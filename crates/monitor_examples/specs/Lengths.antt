@@ -1,5 +1,5 @@
--- How many bytes of code the monitor has, and how many steps at most, on boards with 8 and 16 regions. The numbers are those of an
--- earlier form of the same lists.
+-- How many bytes of code the monitor has, and how many steps at most, on boards with 8 and 16 regions. The tests of the
+-- number of an SVC count with all four lists, of which a run takes one.
 use Rattle.std.specs.Prelude.{◌≡◌, ℕ, ◌+◌, true, false}
 use Rattle.gate_steps.specs.Steps.{Steps}
 use Rattle.gate_steps.specs.Code.{code_length}
@@ -37,17 +37,17 @@ pub record ComputesLengths : Type 0 where
   pub enter_twelve : Measures (enter twelve_open) 592 1324
   pub leave_four : Measures (leave four_open) 262 144
   pub leave_twelve : Measures (leave twelve_open) 328 180
-  pub lend_any : Measures (lend four_open) 234 111
+  pub lend_any : Measures (lend four_open) 218 113
   pub unlend_any : Measures unlend 58 21
-  pub svc_four : Measures (svc four_open) 1302 1348
-  pub svc_twelve : Measures (svc twelve_closed) 1434 1384
+  pub svc_four : Measures (svc four_open) 1286 1645
+  pub svc_twelve : Measures (svc twelve_closed) 1418 1717
   pub memfault_four : Measures (memfault four_open) 548 1646
   pub memfault_twelve : Measures (memfault twelve_open) 550 1650
   pub memfault_four_closed : Measures (memfault four_closed) 930 3228
   pub memfault_twelve_closed : Measures (memfault twelve_closed) 934 3236
   pub reset_four : code_length (reset four_open) ≡ 434
   pub reset_twelve : code_length (reset twelve_closed) ≡ 500
-  pub four : EndsAt four_open 2286
-  pub four_of_closed : EndsAt four_closed 2668
-  pub twelve : EndsAt twelve_open 2486
-  pub twelve_of_closed : EndsAt twelve_closed 2870
+  pub four : EndsAt four_open 2270
+  pub four_of_closed : EndsAt four_closed 2652
+  pub twelve : EndsAt twelve_open 2470
+  pub twelve_of_closed : EndsAt twelve_closed 2854

@@ -185,7 +185,7 @@ times_fit [] k h = h
 times_fit (true ∷ bs) k h = times_fit bs k h
 times_fit (false ∷ bs) k h = times_fit bs k h
 
-times_fields : (bs : List Bool) (k : Steps) → fits_fields (times 6 5 bs k) ≡ fits_fields k
+pub times_fields : (bs : List Bool) (k : Steps) → fits_fields (times 6 5 bs k) ≡ fits_fields k
 times_fields [] k = refl
 times_fields (true ∷ bs) k = times_fields bs k
 times_fields (false ∷ bs) k = times_fields bs k
@@ -201,7 +201,7 @@ regions_fields (suc n) w k h =
     let b : nat_lt (w + 1) 32 ≡ true = search (nat_tests, arith) in
     rw (a, b) (regions_fields n (w + 2) k (omega (arith, h)))
 
-tables_fields : (c : Constants) (k : Steps) → c.slots ≤ 12 → fits_fields (tables_of c k) ≡ fits_fields k
+pub tables_fields : (c : Constants) (k : Steps) → c.slots ≤ 12 → fits_fields (tables_of c k) ≡ fits_fields k
 tables_fields c k h = times_fields (bits_of 4 (c.slots + 2)) _ ∙ regions_fields c.slots 2 k (omega (arith, h))
 
 pub before_control_in : (stub : ℕ) (t : Tables) → (constants_with stub t).slots ≤ 12 → EachInTable (code (before_control (constants_with stub t)))

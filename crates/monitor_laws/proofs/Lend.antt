@@ -3,7 +3,7 @@ use Rattle.std.proofs.Common.{◌≡◌, ◌≢◌, ℕ, zero, suc, ◌+◌, ◌
 use Rattle.std.proofs.lemmas.Bool.Decides.{nat_tests}
 use Rattle.std.proofs.lemmas.Nat.{and_comm, and_mask}
 use Rattle.std.specs.Prelude.{bit_and}
-use Rattle.words.specs.Arithmetic.{add, subtract, shift_left}
+use Rattle.words.specs.Arithmetic.{add, subtract}
 use Rattle.words.specs.Bytes.{read, write}
 use Rattle.words.specs.declared.memory.Width.TheVariants.{Word}
 use Rattle.mpu_model.specs.declared.region.Access.TheVariants.{Read, Write}
@@ -12,13 +12,13 @@ use Rattle.device_model.specs.declared.image.Image.{Image}
 use Rattle.armv7m.specs.declared.state.ProtectionState.{ProtectionState}
 use Rattle.armv7m.specs.declared.state.FaultStatus.{FaultStatus}
 use Rattle.armv7m.specs.State.{by_mpu}
-use Rattle.gate_steps.specs.declared.steps.GateOp.TheVariants.{Add, Shl}
-use Rattle.gate_steps.specs.Steps.{Steps, Const, Copy, Store, Alu, ◌▸◌}
+use Rattle.gate_steps.specs.declared.steps.GateOp.TheVariants.{Add}
+use Rattle.gate_steps.specs.Steps.{Steps, Const, Store, Alu, ◌▸◌}
 use Rattle.gate_steps.specs.Core.{Core}
 use Rattle.gate_steps.specs.Effect.{Outcome, Halted, AtReturn}
 use Rattle.gate_steps.specs.Safe.{Rule}
 use Rattle.gate_steps.proofs.Gives.{word_fits}
-use Rattle.gate_steps.proofs.Within.{GivesWithin, const_within, copy_within, alu_within, at_within, more_within, yes_within, no_within, must_within, must_not_within, load_within, load_flash_within, store_within}
+use Rattle.gate_steps.proofs.Within.{GivesWithin, const_within, alu_within, at_within, more_within, yes_within, no_within, next_within, must_within, must_not_within, load_within, load_flash_within, store_within}
 use Rattle.monitor.specs.declared.tables.Tables.{Tables}
 use Rattle.monitor.specs.Records.{stack_end, lend_size}
 use Rattle.monitor.specs.Area.{HasTables}
@@ -27,7 +27,6 @@ use Rattle.monitor.specs.Offsets.{loans, loan_from, loan_end, loan_number}
 use Rattle.monitor.specs.Constants.{Constants, constants_with}
 use Rattle.monitor.specs.Opening.{closed_up}
 use Rattle.monitor.specs.Svc.{lend}
-use Rattle.monitor_laws.proofs.Numbers.{shl2}
 use Rattle.monitor_laws.proofs.Off.{core, with_unit, IsOff, Allows, open_while_off}
 use Rattle.monitor_laws.proofs.FlashWords.{has_word}
 use Rattle.monitor_laws.proofs.Placement.{writable, has_lends, lends_offset, lends_is, few_lends, lends_at_is, lends_aligned, loans_at_is}
@@ -60,11 +59,10 @@ with_loan b n a e x m = write 4 (b + 12) (n + 1) (write 4 (b + (160 + 12 * n + 8
 -- the list behind its tests: address, number and LOANS in r4 to r6, the size in r2
 abbrev noted : Constants → Steps
 noted c =
-    Const 3 2
-    ▸ Copy 7 6
-    ▸ Alu Shl 7 7 3
-    ▸ Alu Add 3 7 7
-    ▸ Alu Add 7 7 3
+    Alu Add 7 6 6
+    ▸ Alu Add 7 7 6
+    ▸ Alu Add 7 7 7
+    ▸ Alu Add 7 7 7
     ▸ Const 3 c.loans_at
     ▸ Alu Add 7 7 3
     ▸ Store Word 4 7 loan_from
@@ -76,8 +74,11 @@ noted c =
     ▸ Store Word 6 1 loans
     ▸ closed_up
 
-twelve : (n a b c : ℕ) → a ≡ 4 * n → b ≡ add a a → c ≡ add a b → n < 32 → c ≡ 12 * n
-twelve n a b c x y z h = omega (arith, x, y, z, h)
+four : (n a b : ℕ) → a ≡ add n n → b ≡ add a a → n < 2 ^ 28 → b ≡ 4 * n
+four n a b x y h = omega (arith, x, y, h)
+
+twelve : (n a b c d : ℕ) → a ≡ add n n → b ≡ add a n → c ≡ add b b → d ≡ add c c → n < 32 → d ≡ 12 * n
+twelve n a b c d x y z w h = omega (arith, x, y, z, w, h)
 
 module _ (i : Image) (t : Tables) (p : Placed i t) (has : HasTables i t) (stub : ℕ) (Good : ProtectionState → Type 0) (Allowed : Rule) (handles : Handles i t Allowed) (good : (q : ProtectionState) → IsOff true q → Good q) where
   abbrev k : Constants
@@ -94,11 +95,11 @@ module _ (i : Image) (t : Tables) (p : Placed i t) (has : HasTables i t) (stub :
     noted_within : {ks : List Steps} {Q : Outcome → Type 0} (q : ProtectionState) (m : List ℕ) (live address number size a0 a3 a7 : ℕ) → IsOff true q → Good (with_unit q (record q.mpu { control = 5 })) → live < 32 → address + size < 2 ^ 32 →
         ((q1 : ProtectionState) (new : List ℕ) → q1 ≡ with_unit q (record q.mpu { control = 5 }) → new ≡ with_loan block live address (address + size) number m → length new ≡ length m →
         Q (AtReturn (core msp psp q1 u new a0 k.block (address + size) 1 address number MPU_CTRL 5))) →
-        W 42 (noted k) ks (core msp psp q u m a0 k.block size a3 address number live a7) Q
+        W 43 (noted k) ks (core msp psp q u m a0 k.block size a3 address number live a7) Q
     noted_within {ks} {Q} q m live address number size a0 a3 a7 off on few fits go =
         more_within
-        (const_within (copy_within (alu_within (λ b1 f1. alu_within (λ b2 f2. alu_within (λ b3 f3. const_within (alu_within (λ b f4.
-        let at : b ≡ i.ram_base + (block + (160 + 12 * live)) = loan_at b b3 (twelve live b1 b2 b3 (shl2 live b1 f1 (small few)) f2 f3 few) f4 in
+        (alu_within (λ b1 f1. alu_within (λ b2 f2. alu_within (λ b3 f3. alu_within (λ b4 f4. const_within (alu_within (λ b f.
+        let at : b ≡ i.ram_base + (block + (160 + 12 * live)) = loan_at b b4 (twelve live b1 b2 b3 b4 f1 f2 f3 f4 few) f in
         store_within p.rules (block + (160 + 12 * live)) (open_while_off q off.control) (good q off) (at_0 b at) aligned_0 room_0 (handles.block Write _ (160 + 12 * live) off.mode (in_0 few)) (λ m1 g1 h1.
         alu_within (λ e f5.
         let ends : e ≡ address + size = end_is e f5 in
@@ -109,11 +110,8 @@ module _ (i : Image) (t : Tables) (p : Placed i t) (has : HasTables i t) (stub :
         block_store_within i t p has stub Good Allowed handles good 3 off refl refl (λ m4 g4 h4.
         at_within (ap (λ e. core msp psp q u m4 a0 k.block e 1 address number c b) ends)
         (closed_within i t p has stub Good Allowed handles good msp psp u q m4 a0 k.block (address + size) 1 address number c b off on (λ q1 e1.
-        go q1 m4 e1 (all_of m1 m2 m3 m4 e c g1 g2 g3 g4 ends more) (h4 ∙ h3 ∙ h2 ∙ h1)))))))))))))))))) (omega arith)
+        go q1 m4 e1 (all_of m1 m2 m3 m4 e c g1 g2 g3 g4 ends more) (h4 ∙ h3 ∙ h2 ∙ h1))))))))))))))))) (omega arith)
       where
-        small : live < 32 → live < 2 ^ 28
-        small h = omega (arith, h)
-
         loan_at : (b c : ℕ) → c ≡ 12 * live → b ≡ add c k.loans_at → b ≡ i.ram_base + (block + (160 + 12 * live))
         loan_at b c e h = let a = loans_at_is i t p has stub in let l = p.block_inside.0 in let z = p.block_inside.1 in let r = p.rules.ram_highest in let s = p.rules.ram_most in omega (arith, a, e, h, l, z, r, s, few)
 
@@ -177,7 +175,7 @@ module _ (i : Image) (t : Tables) (p : Placed i t) (has : HasTables i t) (stub :
         ((d : Core) → d.ram ≡ m → (MayLend t psp top live address number → ⊥) → Q (Halted 6 d)) →
         ((q1 : ProtectionState) (new : List ℕ) → q1 ≡ with_unit q (record q.mpu { control = 5 }) → MayLend t psp top live address number → new ≡ with_loan block live address (address + lend_size t number) number m → length new ≡ length m →
         Q (AtReturn (core msp psp q1 u new psp k.block (address + lend_size t number) 1 address number MPU_CTRL 5))) →
-        W 111 (lend k) ks (core msp psp q u m psp k.block a2 top a4 a5 a6 a7) Q
+        W 113 (lend k) ks (core msp psp q u m psp k.block a2 top a4 a5 a6 a7) Q
     lend_within {ks} {Q} q o top live address number m a2 a4 a5 a6 a7 off on ep ao f et en ea eb el few refuse go =
         more_within
         (load_within p.rules o (open_while_off q off.control) (frame_0 ep) ao room_0 (handles.stack Read _ o f.low high_0) (λ x4 e4.
@@ -193,8 +191,8 @@ module _ (i : Image) (t : Tables) (p : Placed i t) (has : HasTables i t) (stub :
         const_within (alu_within (λ v ev. const_within
         (must_within (λ c3. refuse _ refl (λ y. absurd (eq_false _ _ c3 (ev ∙ low_bits address ∙ y.aligned)))) (λ c3.
         let aligned : address % 4 ≡ 0 = sym (low_bits address) ∙ sym ev ∙ eq_true _ _ c3 in
-        const_within (copy_within (alu_within (λ s es. const_within (alu_within (λ l l_is.
-        load_flash_within p.rules (lends_offset i t p has stub + 4 * number) {z = Word} (open_while_off q off.control) (record_at s l inside es l_is) record_aligned (record_in inside) (handles.plain.flash _ 4 (lends_offset i t p has stub + 4 * number) (record_fits inside)) (λ z ez.
+        alu_within (λ d ds. alu_within (λ s es. const_within (alu_within (λ l l_is.
+        load_flash_within p.rules (lends_offset i t p has stub + 4 * number) {z = Word} (open_while_off q off.control) (record_at d s l inside ds es l_is) record_aligned (record_in inside) (handles.plain.flash _ 4 (lends_offset i t p has stub + 4 * number) (record_fits inside)) (λ z ez.
         at_within (ap (λ z. core msp psp q u m psp k.block z top address number live k.lends_at) (ez ∙ (has_word i (lends_offset i t p has stub) t.lends number (has_lends i t p has stub) inside).0))
         (const_within (alu_within (λ g eg.
         must_within (λ c4. refuse _ refl (λ y. not_low g eg (le_false _ _ c4) y.low)) (λ c4.
@@ -204,7 +202,7 @@ module _ (i : Image) (t : Tables) (p : Placed i t) (has : HasTables i t) (stub :
         must_within (λ c6. refuse _ refl (λ y. not_high r er (le_true _ _ c5) (le_false _ _ c6) y.high)) (λ c6.
         let high : address + lend_size t number ≤ top = is_high r er (le_true _ _ c5) (le_true _ _ c6) in
         noted_within q m live address number (lend_size t number) psp top r off on room (fits high) (λ q1 new e1 n1 h1.
-        go q1 new e1 (record { room = room; number_in = inside; aligned = aligned; low = low; high = high }) n1 h1))))))))))))))))))))))))))) (omega arith)
+        go q1 new e1 (record { room = room; number_in = inside; aligned = aligned; low = low; high = high }) n1 h1)))))))))))))))))))))))))) (omega arith)
       where
         stack_high : i.ram_base + o + 32 ≤ i.ram_base + i.ram_size
         stack_high = let a = (writable i t p has stub).stack_inside.1 in let h = f.high in omega (arith, a, h, et, en)
@@ -257,9 +255,9 @@ module _ (i : Image) (t : Tables) (p : Placed i t) (has : HasTables i t) (stub :
         small : number < length t.lends → number < 2 ^ 28
         small h = let e = few_lends i t p has stub in omega (arith, h, e)
 
-        record_at : (s l : ℕ) → number < length t.lends → s ≡ shift_left number 2 → l ≡ add s k.lends_at → l + 4 * 0 ≡ i.flash_base + (lends_offset i t p has stub + 4 * number)
-        record_at s l h es e =
-            let a = shl2 number s es (small h) in
+        record_at : (d s l : ℕ) → number < length t.lends → d ≡ add number number → s ≡ add d d → l ≡ add s k.lends_at → l + 4 * 0 ≡ i.flash_base + (lends_offset i t p has stub + 4 * number)
+        record_at d s l h ds es e =
+            let a = four number d s ds es (small h) in
             let b = lends_at_is i t p has stub in
             let r = record_fits h in
             let x = p.rules.flash_highest in
@@ -296,8 +294,8 @@ module _ (i : Image) (t : Tables) (p : Placed i t) (has : HasTables i t) (stub :
         ((d : Core) → d.ram ≡ m → (MayLend t psp top live address number → ⊥) → Q (Halted 6 d)) →
         ((q1 : ProtectionState) (new : List ℕ) → q1 ≡ with_unit q (record q.mpu { control = 5 }) → MayLend t psp top live address number → new ≡ with_loan block live address (address + lend_size t number) number m → length new ≡ length m →
         Q (AtReturn (core msp psp q1 u new psp k.block (address + lend_size t number) 1 address number MPU_CTRL 5))) →
-        W 129 (by_number i t p has stub Good Allowed handles good) [] (core msp psp q u m psp k.block a2 top a4 2 a6 a7) Q
+        W 125 (by_number i t p has stub Good Allowed handles good) [] (core msp psp q u m psp k.block a2 top a4 2 a6 a7) Q
     two_within q o top live address number m a2 a4 a6 a7 off on ep ao f et en ea eb el few refuse go =
         more_within
-        (const_within (no_within refl (const_within (no_within refl (const_within (yes_within refl
-        (lend_within q o top live address number m a2 a4 2 2 a7 off on ep ao f et en ea eb el few refuse go))))))) (omega arith)
+        (const_within (no_within refl (next_within (const_within (yes_within refl
+        (lend_within q o top live address number m a2 a4 2 2 a7 off on ep ao f et en ea eb el few refuse go)))))) (omega arith)

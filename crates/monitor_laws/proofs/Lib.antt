@@ -1,34 +1,34 @@
-mod Numbers
-mod Off
-mod Written
-mod FlashWords
-mod Tables
-mod Effects
+pub mod Numbers
+pub mod Off
+pub mod Written
+pub mod FlashWords
+pub mod Tables
+pub mod Effects
 mod Copies
-mod Placement
-mod Appended
+pub mod Placement
+pub mod Appended
 mod ResetList
-mod Encoded
-mod PageCode
-mod Fetched
+pub mod Encoded
+pub mod PageCode
+pub mod Fetched
 mod FirstBlock
 mod Ranges
 mod Started
-mod Checked
+pub mod Checked
 mod RegionForms
 mod Sizes
 mod ReadTables
-mod SoundImages
-mod Opened
-mod Unlend
-mod SvcNumber
-mod HandlerRule
-mod HandlerWords
-mod LeaveWords
-mod Leave
-mod EnterSave
-mod EnterFrame
-mod EnterRounded
-mod EnterSite
-mod EnterTarget
-mod Lend
+pub mod SoundImages
+pub mod Opened
+pub mod Unlend
+pub mod SvcNumber
+pub mod HandlerRule
+pub mod HandlerWords
+pub mod LeaveWords
+pub mod Leave
+pub mod EnterSave
+pub mod EnterFrame
+pub mod EnterRounded
+pub mod EnterSite
+pub mod EnterTarget
+pub mod Lend

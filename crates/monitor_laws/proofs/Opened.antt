@@ -47,7 +47,7 @@ pad_zero n h = let e : bit_and n (2 ^ 9) ≡ n / 2 ^ 9 % 2 * 2 ^ 9 = and_pow n 9
 pad_is : (n : ℕ) → bit_and n (2 ^ 9) ≡ 0 → n / 2 ^ 9 % 2 ≡ 0
 pad_is n h = let e : bit_and n (2 ^ 9) ≡ n / 2 ^ 9 % 2 * 2 ^ 9 = and_pow n 9 in omega (arith, e, h)
 
-on_msp : (p : ProtectionState) → is_unprivileged p ≡ false → (not (is_unprivileged p) && true) ≡ true
+pub on_msp : (p : ProtectionState) → is_unprivileged p ≡ false → (not (is_unprivileged p) && true) ≡ true
 on_msp p e = rw e refl
 
 -- the frame at an offset of RAM lies in the open stack, and has no pad

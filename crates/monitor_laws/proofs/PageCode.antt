@@ -26,7 +26,7 @@ use Rattle.monitor_laws.proofs.ResetList.{before_control, control_and_go, reset_
 use Rattle.monitor_laws.proofs.Encoded.{control_and_go_in}
 
 -- a part in the middle
-middle : (xs ys zs : List ℕ) (k : ℕ) → k < length ys → get_or (xs ++ (ys ++ zs)) (length xs + k) 0 ≡ get_or ys k 0
+pub middle : (xs ys zs : List ℕ) (k : ℕ) → k < length ys → get_or (xs ++ (ys ++ zs)) (length xs + k) 0 ≡ get_or ys k 0
 middle xs ys zs k h = get_or-append-add xs (ys ++ zs) k 0 ∙ get_or_append_left ys zs 0 k h
 
 -- start-up's code in two parts

@@ -172,7 +172,11 @@ ready i rules nf =
       inits = inits_are monitor_code i rules nf;
     }
 
-pub images_start : ReadyImagesStart → ImagesStart monitor_code
-images_start starts i t rules s =
+-- so a sound image is ready
+pub sound_images_are_ready : (i : Image) (t : Tables) → ObeysRules i → Sound monitor_code i t → IsReady i t
+sound_images_are_ready i t rules s =
     let e = read_tables monitor_code i t s in
-    starts i t (subst (λ t. IsReady i t) (sym e) (ready i rules (subst (λ t. NoneFails monitor_code i t) e (none_fails monitor_code i t s))))
+    subst (λ t. IsReady i t) (sym e) (ready i rules (subst (λ t. NoneFails monitor_code i t) e (none_fails monitor_code i t s)))
+
+pub images_start : ReadyImagesStart → ImagesStart monitor_code
+images_start starts i t rules s = starts i t (sound_images_are_ready i t rules s)

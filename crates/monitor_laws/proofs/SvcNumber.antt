@@ -10,16 +10,19 @@ use Rattle.device_model.specs.declared.image.Image.{Image}
 use Rattle.armv7m.specs.declared.state.ProtectionState.{ProtectionState}
 use Rattle.armv7m.specs.declared.state.FaultStatus.{FaultStatus}
 use Rattle.armv7m.specs.State.{by_mpu, is_unprivileged}
-use Rattle.gate_steps.specs.Steps.{Steps, End, Halt}
+use Rattle.gate_steps.specs.declared.steps.GateOp.TheVariants.{Sub}
+use Rattle.gate_steps.specs.Steps.{Steps, End, Const, Load, Alu, Halt}
 use Rattle.gate_steps.specs.Core.{Core}
 use Rattle.gate_steps.specs.Effect.{Outcome, Halted, AtReturn}
 use Rattle.gate_steps.specs.Safe.{Rule}
-use Rattle.gate_steps.proofs.Within.{GivesWithin, const_within, alu_within, at_within, more_within, yes_within, no_within, halt_within, load_within, load_flash_within}
+use Rattle.gate_steps.proofs.Within.{GivesWithin, const_within, alu_within, at_within, more_within, yes_within, no_within, next_within, halt_within, load_within, load_flash_within}
 use Rattle.monitor.specs.declared.tables.Tables.{Tables}
 use Rattle.monitor.specs.Records.{stack_end}
 use Rattle.monitor.specs.Area.{HasTables}
 use Rattle.monitor.specs.Placed.{Placed}
 use Rattle.monitor.specs.Constants.{Constants, constants_with}
+use Rattle.monitor.specs.Offsets.{frame_return}
+use Rattle.monitor.specs.Opening.{opened}
 use Rattle.monitor.specs.Svc.{enter, leave, lend, unlend, on_number, svc}
 use Rattle.monitor_laws.proofs.Off.{core, with_unit, IsOff, Allows, open_while_off}
 use Rattle.monitor_laws.proofs.Placement.{writable}
@@ -50,15 +53,19 @@ module _ (i : Image) (t : Tables) (p : Placed i t) (has : HasTables i t) (stub :
 
   -- by the number
   abbrev pub by_number : Steps
-  by_number = on_number 0 (enter k) (on_number 1 (leave k) (on_number 2 (lend k) (on_number 3 unlend (Halt 1 End))))
+  by_number = on_number 3 unlend (on_number 2 (lend k) (on_number 0 (enter k) (on_number 1 (leave k) (Halt 1 End))))
+
+  -- up to the number
+  abbrev pub numbered : Steps → Steps
+  numbered rest = opened k (Load Word 4 0 frame_return (Const 5 2 (Alu Sub 5 4 5 (Load Byte 5 5 0 rest))))
 
   module _ (msp psp : ℕ) (u : FaultStatus) where
     -- the number into r5, the return address in r4: 54 steps
-    pub number_within : {b : ℕ} {Q : Outcome → Type 0} (q : ProtectionState) (o n : ℕ) (m : List ℕ) (a0 a1 a2 a3 a4 a5 a6 a7 : ℕ) → q.handler ≡ true → is_unprivileged q ≡ false → psp ≡ i.ram_base + o → o % 4 ≡ 0 → o < 2 ^ 31 → read 4 (block + 4) m ≤ stack_end t → Called i (read 4 (o + 24) m) n →
+    pub numbered_within : {b : ℕ} {s : Steps} {Q : Outcome → Type 0} (q : ProtectionState) (o n : ℕ) (m : List ℕ) (a0 a1 a2 a3 a4 a5 a6 a7 : ℕ) → q.handler ≡ true → is_unprivileged q ≡ false → psp ≡ i.ram_base + o → o % 4 ≡ 0 → o < 2 ^ 31 → read 4 (block + 4) m ≤ stack_end t → Called i (read 4 (o + 24) m) n →
         ((d : Core) → d.ram ≡ m → (FrameIsOpen i t o m → ⊥) → Q (Halted 4 d)) →
-        ((q1 : ProtectionState) → q1 ≡ with_unit q (record q.mpu { control = 0 }) → IsOff true q1 → FrameIsOpen i t o m → W b by_number [] (core msp psp q1 u m psp k.block k.stack (read 4 (block + 4) m) (read 4 (o + 24) m) n MPU_CTRL 0) Q) →
-        W (54 + b) (svc k) [] (core msp psp q u m a0 a1 a2 a3 a4 a5 a6 a7) Q
-    number_within {b} {Q} q o n m a0 a1 a2 a3 a4 a5 a6 a7 h un ep ao small et called refuse go =
+        ((q1 : ProtectionState) → q1 ≡ with_unit q (record q.mpu { control = 0 }) → IsOff true q1 → FrameIsOpen i t o m → W b s [] (core msp psp q1 u m psp k.block k.stack (read 4 (block + 4) m) (read 4 (o + 24) m) n MPU_CTRL 0) Q) →
+        W (54 + b) (numbered s) [] (core msp psp q u m a0 a1 a2 a3 a4 a5 a6 a7) Q
+    numbered_within {b} {s} {Q} q o n m a0 a1 a2 a3 a4 a5 a6 a7 h un ep ao small et called refuse go =
         more_within
         (opened_within i t p has stub Good Allowed handles good msp psp u q o m a0 a1 a2 a3 a4 a5 a6 a7 h un ep ao small et refuse (λ q1 v4 eq off f.
         load_within p.rules (o + 24) (open_while_off q1 off.control) (frame_at ep) (aligned ao) (room f.high) (handles.stack Read _ (o + 24) (later f.low) (earlier f.high)) (λ x4 e4.
@@ -91,11 +98,18 @@ module _ (i : Image) (t : Tables) (p : Placed i t) (has : HasTables i t) (stub :
         one : called.offset + 2 ≤ length i.flash → called.offset + 1 ≤ length i.flash
         one a = omega (arith, a)
 
+    pub number_within : {b : ℕ} {Q : Outcome → Type 0} (q : ProtectionState) (o n : ℕ) (m : List ℕ) (a0 a1 a2 a3 a4 a5 a6 a7 : ℕ) → q.handler ≡ true → is_unprivileged q ≡ false → psp ≡ i.ram_base + o → o % 4 ≡ 0 → o < 2 ^ 31 → read 4 (block + 4) m ≤ stack_end t → Called i (read 4 (o + 24) m) n →
+        ((d : Core) → d.ram ≡ m → (FrameIsOpen i t o m → ⊥) → Q (Halted 4 d)) →
+        ((q1 : ProtectionState) → q1 ≡ with_unit q (record q.mpu { control = 0 }) → IsOff true q1 → FrameIsOpen i t o m → W b by_number [] (core msp psp q1 u m psp k.block k.stack (read 4 (block + 4) m) (read 4 (o + 24) m) n MPU_CTRL 0) Q) →
+        W (54 + b) (svc k) [] (core msp psp q u m a0 a1 a2 a3 a4 a5 a6 a7) Q
+    number_within q o n m a0 a1 a2 a3 a4 a5 a6 a7 h un ep ao small et called refuse go =
+        numbered_within q o n m a0 a1 a2 a3 a4 a5 a6 a7 h un ep ao small et called refuse go
+
     -- above 3: halt 1
     pub above_within : {Q : Outcome → Type 0} (q : ProtectionState) (n : ℕ) (m : List ℕ) (a0 a1 a2 a3 a4 a6 a7 : ℕ) → 3 < n → ((d : Core) → d.ram ≡ m → Q (Halted 1 d)) → W 25 by_number [] (core msp psp q u m a0 a1 a2 a3 a4 n a6 a7) Q
     above_within q n m a0 a1 a2 a3 a4 a6 a7 h f =
         more_within
-        (const_within (no_within (other 0 (omega (arith, h))) (const_within (no_within (other 1 (omega (arith, h))) (const_within (no_within (other 2 (omega (arith, h))) (const_within (no_within (other 3 (omega (arith, h))) (halt_within (f _ refl)))))))))) (omega arith)
+        (const_within (no_within (other 3 (omega (arith, h))) (next_within (const_within (no_within (other 2 (omega (arith, h))) (next_within (const_within (no_within (other 0 (omega (arith, h))) (next_within (const_within (no_within (other 1 (omega (arith, h))) (next_within (halt_within (f _ refl)))))))))))))) (omega arith)
       where
         other : (j : ℕ) → j < n → nat_eq n j ≡ false
         other j lt = search (nat_tests, arith)
@@ -105,8 +119,8 @@ module _ (i : Image) (t : Tables) (p : Placed i t) (has : HasTables i t) (stub :
         ((d : Core) → d.ram ≡ m → read 4 (block + 12) m ≡ read 4 (block + 16) m → Q (Halted 6 d)) →
         ((q1 : ProtectionState) (new : List ℕ) (v4 : ℕ) → q1 ≡ with_unit q (record q.mpu { control = 5 }) → read 4 (block + 12) m ≢ read 4 (block + 16) m → new ≡ write 4 (block + 12) (subtract (read 4 (block + 12) m) 1) m → length new ≡ length m →
         Q (AtReturn (core msp psp q1 u new a0 k.block a2 a3 v4 1 MPU_CTRL 5))) →
-        W 48 by_number [] (core msp psp q u m a0 k.block a2 a3 a4 3 a6 a7) Q
+        W 30 by_number [] (core msp psp q u m a0 k.block a2 a3 a4 3 a6 a7) Q
     three_within q m a0 a2 a3 a4 a6 a7 off on refuse go =
         more_within
-        (const_within (no_within refl (const_within (no_within refl (const_within (no_within refl (const_within (yes_within refl
-        (unlend_within i t p has stub Good Allowed handles good msp psp u q m a0 a2 a3 a4 3 3 a7 off on refuse go))))))))) (omega arith)
+        (const_within (yes_within refl
+        (unlend_within i t p has stub Good Allowed handles good msp psp u q m a0 a2 a3 a4 3 3 a7 off on refuse go))) (omega arith)

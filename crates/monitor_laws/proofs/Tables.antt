@@ -58,7 +58,7 @@ stack_size z p = size_by z p.0 p.3 (nine_to_sixteen p.0 p.1 p.2)
 
 -- ---- the words of a compartment
 
-slot_words : (gs : List Region) → length (flat_map region_words gs) ≡ 2 * length gs
+pub slot_words : (gs : List Region) → length (flat_map region_words gs) ≡ 2 * length gs
 slot_words [] = refl
 slot_words (g ∷ gs) = let h = slot_words gs in omega (arith, h)
 

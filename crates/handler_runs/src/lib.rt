@@ -1,0 +1,4 @@
+//! What runs of the two handlers have in common.
+#![tactic(auto)]
+
+pub mod modes;

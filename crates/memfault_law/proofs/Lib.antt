@@ -1,0 +1,8 @@
+mod Wide
+mod Lent
+mod Scan
+mod Emulated
+mod FaultList
+mod Encodings
+mod FaultCode
+mod FaultLaw

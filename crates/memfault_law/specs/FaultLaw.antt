@@ -1,0 +1,21 @@
+-- The half of the monitor's law that speaks of MemManage.
+use Rattle.std.specs.Prelude.{◌≡◌, ℕ, true, None}
+use Rattle.device_model.specs.declared.image.Image.{Image}
+use Rattle.armv7m.specs.declared.state.FaultStatus.{FaultStatus}
+use Rattle.armv7m.specs.State.{State, by_mpu}
+use Rattle.armv7m.specs.Exceptions.{is_frame_open, frame_at}
+use Rattle.armv7m.specs.Code.{HoldsHalf}
+use Rattle.monitor.specs.declared.tables.Tables.{Tables}
+use Rattle.monitor.specs.Block.{Block}
+use Rattle.monitor.specs.Invariant.{InvariantHolds}
+use Rattle.monitor.specs.Handlers.{at_memfault, IsFault, Leads}
+use Rattle.monitor.specs.FaultOutcome.{fault_outcome}
+use Rattle.monitor.specs.MonitorLaw.{Shows, memfault_steps}
+
+-- from any thread state of the invariant whose frame was pushed, the handler of MemManage comes to its outcome
+abbrev pub FaultLaw : Image → Tables → Type 0
+FaultLaw i t =
+    (s : State) (m : Block) (u : FaultStatus) (half : ℕ) → InvariantHolds i t m s → s.ending ≡ None → IsFault i s u →
+    (u.cfsr ≡ 0x82 → HoldsHalf i s.core.pc half) → is_frame_open by_mpu i s ≡ true →
+    let from : State = at_memfault i u s in
+    Leads i t memfault_steps from (Shows i t (fault_outcome i t m (frame_at s.core.sp) from.ram u.cfsr half) s m from.ram)

@@ -1,0 +1,4 @@
+//! What the handler of MemManage leaves, as a theorem.
+#![tactic(auto)]
+
+pub mod faults;
