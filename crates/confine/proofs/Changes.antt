@@ -18,14 +18,15 @@ dropped t zero ls h = h
 dropped t (suc n) [] h = tt
 dropped t (suc n) (l ∷ ls) h = dropped t n ls h.1
 
-module _ (i : Image) (t : Tables) (p : Placed i t) (s u : State) (m : Block) (x : IsOrderly t m) (aligned : s.core.sp % 4 ≡ 0) where
-  top_below : (n a : ℕ) → IsTop t n a → a ≤ t.stack.base + t.stack.size
-  top_below n a h =
-      let few : h.0 ≤ 8 = (let z = h.3 in omega (arith, z)) in
-      let most : h.0 * eighth t ≤ 8 * eighth t = grind (arith, few) in
-      let at = h.1 in
-      omega (arith, at, most)
+-- TOP lies in the stack
+pub top_below : (t : Tables) (n a : ℕ) → IsTop t n a → a ≤ t.stack.base + t.stack.size
+top_below t n a h =
+    let few : h.0 ≤ 8 = (let z = h.3 in omega (arith, z)) in
+    let most : h.0 * eighth t ≤ 8 * eighth t = grind (arith, few) in
+    let at = h.1 in
+    omega (arith, at, most)
 
+module _ (i : Image) (t : Tables) (p : Placed i t) (s u : State) (m : Block) (x : IsOrderly t m) (aligned : s.core.sp % 4 ≡ 0) where
   entered_orderly : (c : ℕ) → FrameIsOpen i t m (frame_at s.core.sp) → t.stack.base < rounded t (frame_at s.core.sp) → c < length t.comps →
       IsOrderly t (entered m c (rounded t (frame_at s.core.sp)) (frame_at s.core.sp))
   entered_orderly c o some inside =
@@ -75,7 +76,7 @@ module _ (i : Image) (t : Tables) (p : Placed i t) (s u : State) (m : Block) (x 
   change_orderly _ (Leaves e es q v) = left_orderly e es q
   change_orderly _ (Lends l o room in_list al size from to) =
       let low = o.from_base in
-      let inside = top_below (length m.saved) m.top x.is_top in
+      let inside = top_below t (length m.saved) m.top x.is_top in
       let marks = x.marks in
       record {
         current_in = x.current_in;

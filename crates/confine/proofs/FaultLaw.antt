@@ -1,13 +1,13 @@
 -- The handler of MemManage keeps the block, or ends the machine.
 use Rattle.std.specs.Prelude.{if◌then◌else◌}
-use Rattle.std.proofs.Common.{◌≡◌, ℕ, ◌⊎◌, inl, inr, Bool, true, false, ◌&&◌, List, nat_eq, refl, sym, ap, ap₂, ◌∙◌, subst, arith}
+use Rattle.std.proofs.Common.{◌≡◌, ℕ, ◌%◌, ◌⊎◌, inl, inr, Bool, true, false, ◌&&◌, List, nat_eq, refl, sym, ap, ap₂, ◌∙◌, subst, arith}
 use Rattle.words.specs.Runs.{run}
 use Rattle.device_model.specs.declared.image.Image.{Image}
 use Rattle.armv7m.specs.declared.state.CoreRegisters.{CoreRegisters}
 use Rattle.armv7m.specs.declared.state.FaultStatus.{FaultStatus}
 use Rattle.armv7m.specs.declared.state.End.{End}
 use Rattle.armv7m.specs.declared.state.End.TheVariants.{Halt, Stop}
-use Rattle.armv7m.specs.declared.state.StopReason.TheVariants.{Bus, Usage}
+use Rattle.armv7m.specs.declared.state.StopReason.TheVariants.{Bus, Unaligned, Usage}
 use Rattle.armv7m.specs.State.{State}
 use Rattle.armv7m.specs.Step.{step}
 use Rattle.armv7m.specs.Code.{HoldsHalf}
@@ -17,8 +17,8 @@ use Rattle.monitor.specs.Records.{compartment_at}
 use Rattle.monitor.specs.Regions.{regions_for}
 use Rattle.monitor.specs.Block.{Block}
 use Rattle.monitor.specs.Handlers.{IsFault, Change, Emulates, HasReturned, HasEndedInHandler, at_memfault}
-use Rattle.monitor.specs.Outcomes.{Outcome, Halts, StopsAtBus, Resumes, is_open, stacked, status_place}
-use Rattle.monitor.specs.FaultOutcome.{address, is_lent, emulated_store, emulated_load, is_data_fault, fault_outcome}
+use Rattle.monitor.specs.Outcomes.{Outcome, Halts, StopsAtBus, StopsUnaligned, Resumes, is_open, stacked, status_place}
+use Rattle.monitor.specs.FaultOutcome.{address, is_lent, if_aligned, emulated_store, emulated_load, is_data_fault, fault_outcome}
 use Rattle.monitor.specs.MonitorLaw.{GoesOn, ReturnsBy, Shows}
 use Rattle.confine.specs.FromLaw.{FaultsAreHandled}
 
@@ -48,11 +48,17 @@ fault_block i t m psp memory c h n q fr e =
     halts : (k : ℕ) → Halts k ≡ Resumes n q fr → m ≡ n
     halts k e = cc
 
+    stops : StopsUnaligned ≡ Resumes n q fr → m ≡ n
+    stops e = cc
+
+    aligned : (w : ℕ) (a : Outcome) → (a ≡ Resumes n q fr → m ≡ n) → if_aligned i t m psp memory w a ≡ Resumes n q fr → m ≡ n
+    aligned w a f e = if_block (nat_eq (address i t m psp memory % w) 0) _ _ m n q fr f stops e
+
     store : (w : ℕ) → emulated_store i t m psp memory w ≡ Resumes n q fr → m ≡ n
-    store w e = if_block (is_lent (compartment_at t m.current).mask (address i t m psp memory) w m.loans) _ _ m n q fr (λ x. same_block m n psp q _ fr x) (halts 7) e
+    store w e = if_block (is_lent (compartment_at t m.current).mask (address i t m psp memory) w m.loans) _ _ m n q fr (aligned w _ (λ x. same_block m n psp q _ fr x)) (halts 7) e
 
     load : (w : ℕ) → emulated_load i t m psp memory w ≡ Resumes n q fr → m ≡ n
-    load w e = if_block (is_lent (compartment_at t m.current).reads (address i t m psp memory) w m.loans) _ _ m n q fr (λ x. same_block m n psp q _ fr x) (halts 9) e
+    load w e = if_block (is_lent (compartment_at t m.current).reads (address i t m psp memory) w m.loans) _ _ m n q fr (aligned w _ (λ x. same_block m n psp q _ fr x)) (halts 9) e
 
 module _ (i : Image) (t : Tables) where
   returned : (s u : State) (m b : Block) (psp : ℕ) (memory : List ℕ) → GoesOn i t s u m b psp memory → Change i t s u m b → HasReturned i t s u m
@@ -73,21 +79,24 @@ module _ (i : Image) (t : Tables) where
   }
 
   -- by the tested status of the frame
-  by_status : (b : Bool) (s u : State) (m n : Block) (psp : ℕ) (memory : List ℕ) → Change i t s u m n → ReturnsBy b i t s u m n psp memory →
-      ((e : End) × HasEndedInHandler u e) ⊎ HasReturned i t s u m
-  by_status true s u m n psp memory c g = inr (returned s u m n psp memory g c)
+  by_status : (b : Bool) (s u : State) (m n : Block) (psp : ℕ) (memory : List ℕ) → (GoesOn i t s u m n psp memory → Change i t s u m n) →
+      ReturnsBy b i t s u m n psp memory → ((e : End) × HasEndedInHandler u e) ⊎ HasReturned i t s u m
+  by_status true s u m n psp memory c g = inr (returned s u m n psp memory g (c g))
   by_status false s u m n psp memory c g = inl (Stop Usage g.0, g.1.ended)
 
-  pub by_outcome : (s u : State) (m : Block) (o : Outcome) (memory : List ℕ) → ((n : Block) (psp : ℕ) (after : List ℕ) → o ≡ Resumes n psp after → Change i t s u m n) →
+  -- a change follows from the outcome and from where the thread goes on
+  pub by_outcome : (s u : State) (m : Block) (o : Outcome) (memory : List ℕ) →
+      ((n : Block) (psp : ℕ) (after : List ℕ) → o ≡ Resumes n psp after → GoesOn i t s u m n psp after → Change i t s u m n) →
       Shows i t o s m memory u → ((e : End) × HasEndedInHandler u e) ⊎ HasReturned i t s u m
   by_outcome s u m (Halts k) memory c x = inl (Halt k, x.ended)
   by_outcome s u m StopsAtBus memory c x = inl (Stop Bus x.0, x.1.ended)
+  by_outcome s u m StopsUnaligned memory c x = inl (Stop Unaligned x.0, x.1.ended)
   by_outcome s u m (Resumes n psp after) memory c x = by_status (is_thread (stacked i psp after status_place)) s u m n psp after (c n psp after refl) x
 
   -- the halfword of a data fault
-  half_of : (s : State) (u : FaultStatus) → IsFault i s u → (half : ℕ) × (u.cfsr ≡ 0x82 → HoldsHalf i s.core.pc half)
+  pub half_of : (s : State) (u : FaultStatus) → IsFault i s u → (half : ℕ) × (u.cfsr ≡ 0x82 → HoldsHalf i s.core.pc half)
   half_of s u (inl e) = (0, λ c. absurd (let z : 1 ≡ u.cfsr = sym (ap (λ (x : FaultStatus). x.cfsr) e) in omega (arith, z, c)))
-  half_of s u (inr e) = (e.1, λ c. e.2)
+  half_of s u (inr e) = (e.1, λ c. e.3)
 
 pub faults_are_handled : FaultsAreHandled
 faults_are_handled i t stub law s m u h live x frame =
@@ -101,5 +110,5 @@ faults_are_handled i t stub law s m u h live x frame =
       within = omega (arith, le);
       each = l.each;
       holds = by_outcome i t s end m (fault_outcome i t m (frame_at s.core.sp) from.ram u.cfsr g.0) from.ram
-          (λ n psp after e. subst (λ (b : Block). Change i t s end m b) (fault_block i t m (frame_at s.core.sp) from.ram u.cfsr g.0 n psp after e) Emulates) l.holds;
+          (λ n psp after e on. subst (λ (b : Block). Change i t s end m b) (fault_block i t m (frame_at s.core.sp) from.ram u.cfsr g.0 n psp after e) Emulates) l.holds;
     }

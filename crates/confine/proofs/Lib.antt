@@ -1,6 +1,8 @@
-mod Reaches
-mod ThreadSteps
-mod Changes
+pub mod Reaches
+pub mod ThreadSteps
+pub mod Changes
 mod Induction
-mod FaultLaw
-mod SvcLaw
+pub mod EntryWords
+pub mod FaultLaw
+pub mod EnterLaw
+pub mod SvcLaw

@@ -68,7 +68,7 @@ module _ (laws : UnitLaws) where
   not_background true n kind c e = not_by_rights Background 0 n 0x100000 0 kind (omega arith) c e
   not_background false n kind c e = not_by_rights Background 0 0 0x40000000 0 kind (omega arith) c e
 
-byte : (n : ℕ) → closed_from n < 2 ^ 8
+pub byte : (n : ℕ) → closed_from n < 2 ^ 8
 byte n = let q = pow_pos n in omega (arith, q)
 
 writes_at : (g : Region) → allows g true Write ≡ true → permission g ≡ 3
@@ -97,7 +97,7 @@ no_slot_code i t (g ∷ gs) a h (inl f) = false≢true (sym (h.0 a f.0).no_code 
 no_slot_code i t (g ∷ gs) a h (inr f) = no_slot_code i t gs a h.1 f
 
 -- a power of two divides a greater one
-divides : (b z : ℕ) → IsPowerOfTwo z → z ≤ 2 ^ 20 → b % 2 ^ 20 ≡ 0 → b % z ≡ 0
+pub divides : (b z : ℕ) → IsPowerOfTwo z → z ≤ 2 ^ 20 → b % 2 ^ 20 ≡ 0 → b % z ≡ 0
 divides b z p le h = ap (λ z. b % z) p.1 ∙ ⊎_elim same (λ o. ⊎_elim small large o) (cases_order p.0 20)
   where
     k : ℕ
@@ -125,7 +125,7 @@ stack_eighth k lo hi =
 -- ---- the regions of placed tables
 
 module _ (laws : UnitLaws) (i : Image) (t : Tables) (p : Placed i t) where
-  stack_some : (2 ^ 8 ≤ t.stack.size) × (t.stack.size < 2 ^ 32) × (0 < eighth t)
+  pub stack_some : (2 ^ 8 ≤ t.stack.size) × (t.stack.size < 2 ^ 32) × (0 < eighth t)
   stack_some =
       let k = p.stack.size in
       subst (λ (z : ℕ). (2 ^ 8 ≤ z) × (z < 2 ^ 32) × (0 < z / 8)) (sym (p.stack_size ∙ k.3)) (stack_eighth k.0 k.1 k.2)

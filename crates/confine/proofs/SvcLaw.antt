@@ -1,7 +1,6 @@
--- The handler of SVC, but for enter, makes a change of the block, or ends the machine.
+-- The handler of SVC makes a change of the block, or ends the machine.
 use Rattle.std.specs.Prelude.{if◌then◌else◌, nat_le}
 use Rattle.std.proofs.Common.{◌≡◌, ℕ, suc, ◌+◌, ◌%◌, ◌<◌, ◌≤◌, Bool, true, false, ◌&&◌, List, [], ◌∷◌, length, nat_eq, nat_lt, refl, subst, arith}
-use Rattle.std.proofs.lemmas.Bool.{false≢true}
 use Rattle.std.proofs.lemmas.Bool.Decides.{nat_tests}
 use Rattle.words.specs.Runs.{run}
 use Rattle.device_model.specs.declared.image.Image.{Image}
@@ -13,21 +12,16 @@ use Rattle.monitor.specs.declared.tables.Tables.{Tables}
 use Rattle.monitor.specs.Block.{Loan, Saved, Block, lent}
 use Rattle.monitor.specs.Confined.{IsSvc}
 use Rattle.monitor.specs.Handlers.{FrameIsOpen, Change, Leaves, Lends, Unlends, at_svc}
-use Rattle.monitor.specs.Outcomes.{Outcome, Halts, Resumes, stacked, status_place, return_place}
+use Rattle.monitor.specs.Outcomes.{Halts, Resumes, stacked, status_place, return_place}
 use Rattle.std.specs.Int.{bit_at}
 use Rattle.monitor.specs.SvcOutcome.{word, enter_at, leave_to, new_loan, lend, unlend_to, by_number, svc_outcome}
-use Rattle.confine.specs.FromLaw.{OtherCallsAreHandled}
+use Rattle.confine.specs.FromLaw.{FaultsAreHandled, CallsAreHandled, PlacedLawsConfine}
+use Rattle.confine.proofs.EntryWords.{FrameLaws}
+use Rattle.confine.proofs.EnterLaw.{if_resumes, both, enter_change}
+use Rattle.confine.proofs.Changes.{top_below}
 use Rattle.confine.proofs.FaultLaw.{same_block, by_outcome}
 
-if_resumes : (b : Bool) (x : Outcome) (k : ℕ) (n : Block) (q : ℕ) (fr : List ℕ) → (if b then x else Halts k) ≡ Resumes n q fr → (b ≡ true) × (x ≡ Resumes n q fr)
-if_resumes true x k n q fr e = (refl, e)
-if_resumes false x k n q fr e = cc
-
-both : (x y : Bool) → x && y ≡ true → (x ≡ true) × (y ≡ true)
-both true y e = (refl, e)
-both false y e = absurd (false≢true e)
-
-few_steps : (b : Bool) (k : ℕ) → k ≤ (if b then 4000 else 250) → k ≤ 16000
+pub few_steps : (b : Bool) (k : ℕ) → k ≤ (if b then 4000 else 250) → k ≤ 16000
 few_steps true k h = omega (arith, h)
 few_steps false k h = omega (arith, h)
 
@@ -70,21 +64,26 @@ module _ (i : Image) (t : Tables) (stub : ℕ) (s u : State) (m : Block) (memory
   unlend_change [] is e = cc
   unlend_change (l ∷ ls) is e = unlend_by l ls is (subst (λ (k : List Loan). m.mark ≤ length k) is marks) (nat_eq (suc (length ls)) m.mark) refl e
 
-  numbered : (k : ℕ) → 0 < k → IsSvc i t k s → FrameIsOpen i t m psp → by_number i t stub m psp memory k ≡ Resumes n q after → Change i t s u m n
-  numbered k some svc opened e = by (nat_eq k 0) (nat_eq k 1) (nat_eq k 2) (nat_eq k 3) refl refl e
+  numbered : (k : ℕ) → IsSvc i t k s → FrameIsOpen i t m psp → by_number i t stub m psp memory k ≡ Resumes n q after →
+      (IsSvc i t 0 s → FrameIsOpen i t m psp → enter_at i t stub m psp memory (place i (word i t stub m psp memory return_place)) ≡ Resumes n q after → Change i t s u m n) →
+      Change i t s u m n
+  numbered k svc opened e enters = by (nat_eq k 0) (nat_eq k 1) (nat_eq k 2) (nat_eq k 3) refl refl e
     where
       by : (b0 b1 b2 b3 : Bool) → nat_eq k 0 ≡ b0 → nat_eq k 1 ≡ b1 →
           (if b0 then enter_at i t stub m psp memory (place i (word i t stub m psp memory return_place)) else if b1 then leave_to i t stub m psp memory m.saved else if b2 then lend i t stub m psp memory else if b3 then unlend_to i t stub m psp memory m.loans else Halts 1) ≡ Resumes n q after →
           Change i t s u m n
-      by true b1 b2 b3 z0 z1 e = let z : k ≡ 0 = search (nat_tests, arith) in absurd (omega (arith, z, some))
+      by true b1 b2 b3 z0 z1 e = let z : k ≡ 0 = search (nat_tests, arith) in enters (subst (λ (a : ℕ). IsSvc i t a s) z svc) opened e
       by false true b2 b3 z0 z1 e = let z : k ≡ 1 = search (nat_tests, arith) in leave_change m.saved refl (subst (λ (a : ℕ). IsSvc i t a s) z svc) e
       by false false true b3 z0 z1 e = lend_change opened e
       by false false false true z0 z1 e = unlend_change m.loans refl e
       by false false false false z0 z1 e = cc
 
-  pub svc_change : (k : ℕ) → 0 < k → IsSvc i t k s → svc_outcome i t stub m psp memory k ≡ Resumes n q after → Change i t s u m n
+  -- with the answer of enter
+  pub svc_change : (k : ℕ) → IsSvc i t k s → svc_outcome i t stub m psp memory k ≡ Resumes n q after →
+      (IsSvc i t 0 s → FrameIsOpen i t m psp → enter_at i t stub m psp memory (place i (word i t stub m psp memory return_place)) ≡ Resumes n q after → Change i t s u m n) →
+      Change i t s u m n
   unfolding svc_outcome
-  svc_change k some svc e =
+  svc_change k svc e enters =
       let b1 : Bool = nat_le t.stack.base psp in
       let b2 : Bool = nat_le (psp + 32) m.top in
       let b3 : Bool = nat_eq (bit_at (stacked i psp memory status_place) 9) 0 in
@@ -93,10 +92,10 @@ module _ (i : Image) (t : Tables) (stub : ℕ) (s u : State) (m : Block) (memory
       let c = both b2 b3 b.1 in
       let x1 : t.stack.base ≤ psp = let z = b.0 in search (nat_tests, arith) in
       let x2 : psp + 32 ≤ m.top = let z = c.0 in search (nat_tests, arith) in
-      numbered k some svc (record { from_base = x1; below_top = x2 }) a.1
+      numbered k svc (record { from_base = x1; below_top = x2 }) a.1 enters
 
-pub other_calls_are_handled : OtherCallsAreHandled
-other_calls_are_handled i t stub law s m n h live some few is frame =
+pub calls_are_handled : FrameLaws → CallsAreHandled
+calls_are_handled laws i t stub p law s m n h live few is frame =
     let from : State = at_svc i s in
     let l = law.svc s m n h live few is frame in
     let end : State = run (step i) l.count from in
@@ -105,5 +104,9 @@ other_calls_are_handled i t stub law s m n h live some few is frame =
       within = few_steps (nat_lt n 2) l.count l.within;
       each = l.each;
       holds = by_outcome i t s end m (svc_outcome i t stub m (frame_at s.core.sp) from.ram n) from.ram
-          (λ b psp after e. svc_change i t stub s end m from.ram b psp after h.inv.orderly.marks n some is e) l.holds;
+          (λ b psp after e on. svc_change i t stub s end m from.ram b psp after h.inv.orderly.marks n is e
+          (λ zero opened x. enter_change laws i t p stub s end m h frame zero opened (top_below t (length m.saved) m.top h.inv.orderly.is_top) b psp after on x)) l.holds;
     }
+
+pub laws_confine : FaultsAreHandled → CallsAreHandled → PlacedLawsConfine
+laws_confine faults calls i t stub p law = record { svc = λ s m n. calls i t stub p law s m n; memfault = λ s m u. faults i t stub law s m u }

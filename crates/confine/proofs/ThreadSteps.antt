@@ -1,5 +1,5 @@
 -- A thread's accesses are of the kinds that confinement allows, and its step keeps the invariant or comes to a handler.
-use Rattle.std.proofs.Common.{◌≡◌, ◌≢◌, ℕ, ◌+◌, ◌-◌, ◌*◌, ◌<◌, ◌≤◌, ◌⊎◌, inl, inr, ⊎_elim, Bool, true, not, ◌&&◌, List, [], ◌∷◌, length, Some, None, bit_or, refl, sym, ap, ap₂, ◌∙◌, subst, arith}
+use Rattle.std.proofs.Common.{◌≡◌, ◌≢◌, ℕ, ◌+◌, ◌-◌, ◌*◌, ◌^◌, ◌<◌, ◌≤◌, ◌⊎◌, inl, inr, ⊎_elim, Bool, true, not, ◌&&◌, List, [], ◌∷◌, length, Some, None, bit_or, refl, sym, ap, ap₂, ◌∙◌, subst, arith}
 use Rattle.std.proofs.lemmas.Bool.{cases_lt}
 use Rattle.words.specs.Bytes.{read}
 use Rattle.words.proofs.Bytes.{read_alike}
@@ -27,7 +27,7 @@ use Rattle.monitor.specs.declared.tables.Tables.{Tables}
 use Rattle.monitor.specs.Records.{nobody, eighth}
 use Rattle.monitor.specs.Placed.{Placed, IsCompartment, IsSlot}
 use Rattle.monitor.specs.Block.{Loan, Saved, Block}
-use Rattle.monitor.specs.BlockWords.{block_word, current, top, HasSaved, HasLoans, IsBlock}
+use Rattle.monitor.specs.BlockWords.{block_word, current, top, words_end, HasSaved, HasLoans, IsBlock}
 use Rattle.monitor.specs.Invariant.{InvariantHolds}
 use Rattle.monitor.specs.Reach.{AllBytes, running, StoreKind, BySlot, ByStack, LoadKind, OfFlash, OfSlot, OfStack}
 use Rattle.monitor.specs.Confined.{IsProtected}
@@ -54,7 +54,7 @@ slot_off i t (g ∷ gs) a h (inr f) = slot_off i t gs a h.1 f
 
 -- ---- words of the block that stay
 
-module _ (i : Image) (t : Tables) (old new : List ℕ) (same : (o : ℕ) → o + 4 ≤ 1024 → block_word i t new o ≡ block_word i t old o) where
+module _ (i : Image) (t : Tables) (old new : List ℕ) (same : (o : ℕ) → o + 4 ≤ words_end → block_word i t new o ≡ block_word i t old o) where
   saved_stay : (es : List Saved) → length es ≤ 8 → HasSaved i t old es → HasSaved i t new es
   saved_stay [] le h = tt
   saved_stay (e ∷ es) le h =
@@ -80,7 +80,7 @@ module _ (i : Image) (t : Tables) (old new : List ℕ) (same : (o : ℕ) → o +
         loans_stay ls (omega arith) h.1,
       )
 
-  block_stays : (m : Block) → length m.saved ≤ 8 → length m.loans ≤ 32 → IsBlock i t old m → IsBlock i t new m
+  pub block_stays : (m : Block) → length m.saved ≤ 8 → length m.loans ≤ 32 → IsBlock i t old m → IsBlock i t new m
   block_stays m few_saved few_loans h = record {
     current_is = same 0 (omega arith) ∙ h.current_is;
     top_is = same 4 (omega arith) ∙ h.top_is;
@@ -172,7 +172,7 @@ module _ (i : Image) (t : Tables) (m : Block) (s : State) (p : Placed i t) (h : 
   goes_holds : (tn : Turn) → Plain i s tn → StateFits i tn.to → InvariantHolds i t m tn.to
   goes_holds tn plain fits = record {
     inv = record {
-      is_block = block_stays i t s.ram tn.to.ram (word_stays tn plain) m shallow h.inv.orderly.few h.inv.is_block;
+      is_block = block_stays i t s.ram tn.to.ram (λ o le. word_stays tn plain o (omega (arith, le))) m shallow h.inv.orderly.few h.inv.is_block;
       orderly = h.inv.orderly;
       thread = ap (λ q. q.handler) plain.protection ∙ h.inv.thread;
       unprivileged = ap (λ q. q.unprivileged) plain.protection ∙ h.inv.unprivileged;
@@ -204,16 +204,16 @@ module _ (i : Image) (t : Tables) (m : Block) (s : State) (p : Placed i t) (h : 
       record { offset = o; is_in_flash = l; is_half = (let z : read 2 o i.flash ≡ half = cc in z) }
 
   -- its status was clear
-  fault_of : (u : FaultStatus) → IsFetchFault i s u ⊎ IsDataFault i s u → IsFault i s u
-  fault_of u (inl f) = inl (f.status ∙ ap (λ c. record s.status { cfsr = bit_or c 1 }) h.inv.no_fault)
-  fault_of u (inr f) =
-      inr (f.address, f.taken.first, fetched_flash f.taken.first f.taken.begins, f.status ∙ ap (λ c. record s.status { cfsr = bit_or c 0x82; mmfar = f.address }) h.inv.no_fault)
+  fault_of : (u : FaultStatus) → u.mmfar < 2 ^ 32 → IsFetchFault i s u ⊎ IsDataFault i s u → IsFault i s u
+  fault_of u lt (inl f) = inl (f.status ∙ ap (λ c. record s.status { cfsr = bit_or c 1 }) h.inv.no_fault)
+  fault_of u lt (inr f) =
+      inr (f.address, f.taken.first, subst (λ (a : ℕ). a < 2 ^ 32) (ap (λ (x : FaultStatus). x.mmfar) f.status) lt, fetched_flash f.taken.first f.taken.begins, f.status ∙ ap (λ c. record s.status { cfsr = bit_or c 0x82; mmfar = f.address }) h.inv.no_fault)
 
   leads : StateFits i (turn by_mpu i s).to → s.ending ≡ None → ThreadStep i s (turn by_mpu i s) → LeadsOn i t m s
   leads fits live (Ends e q) = LeadsToEnd e q
   leads fits live (Goes x next k plain) = LeadsToThread (goes_holds (turn by_mpu i s) plain fits) (plain.ending ∙ live)
   leads fits live (Calls n few f frame q) = LeadsToSvc n few (fetched_flash (0xDF00 + n) f) frame (ap (λ (x : Turn). x.to) q)
-  leads fits live (Faults u f on frame q) = LeadsToFault u (fault_of u f) frame (ap (λ (x : Turn). x.to) q)
+  leads fits live (Faults u f on frame q) = LeadsToFault u (fault_of u (subst (λ (x : Turn). StateFits i x.to) q fits).status.mmfar_word f) frame (ap (λ (x : Turn). x.to) q)
 
 pub steps_are_confined : UnprivilegedAccessesAreReached → ThreadsReach → ThreadStepsAreConfined
 steps_are_confined accesses reach i t m s p h =

@@ -1,6 +1,8 @@
 //! What confinement asks of the handlers, from the monitor's law. Each function is a law and does nothing.
 
-ghost use Rattle.confine.specs.FromLaw.{FaultsAreHandled, OtherCallsAreHandled};
+ghost use Rattle.confine.specs.FromLaw.{FaultsAreHandled, CallsAreHandled, PlacedLawsConfine};
+
+use armv7m::running::frames;
 
 /// By the monitor's law the handler of MemManage does what confinement asks of it: it ends the machine, or the thread goes on
 /// with the block's lists as they were.
@@ -8,7 +10,18 @@ pub fn faults_are_handled()
     ensures { FaultsAreHandled }
 {}
 
-/// By the monitor's law the handler of SVC does what confinement asks of it for every number but 0, that of enter.
-pub fn other_calls_are_handled()
-    ensures { OtherCallsAreHandled }
-{}
+/// By the monitor's law the handler of SVC does what confinement asks of it, for every number: it ends the machine, or enters a
+/// target of a site's record, leaves to the last saved entry, lends or unlends.
+pub fn calls_are_handled()
+    ensures { CallsAreHandled }
+{
+    frames();
+}
+
+/// So both handlers keep what confinement asks of them, where the tables are placed.
+pub fn laws_confine()
+    ensures { PlacedLawsConfine }
+{
+    faults_are_handled();
+    calls_are_handled();
+}

@@ -1,0 +1,66 @@
+-- What the laws below take of the machine, of the protection unit and of confinement; and states of threads.
+use Rattle.std.proofs.Common.{◌≡◌, ℕ, zero, suc, ◌+◌, ◌<◌, [], Bool, Option, None, refl, sym, ap, subst, arith}
+use Rattle.words.specs.declared.conditions.Flags.{Flags}
+use Rattle.words.specs.Runs.{run, events}
+use Rattle.thumb_model.specs.declared.table.Instr.{Instr}
+use Rattle.device_model.specs.declared.image.Image.{Image}
+use Rattle.armv7m.specs.declared.state.End.{End}
+use Rattle.armv7m.specs.State.{State, Judge, by_mpu}
+use Rattle.armv7m.specs.Instructions.{act}
+use Rattle.armv7m.specs.AccessLaw.{AllowedStepsAreFree}
+use Rattle.armv7m.specs.Asked.{DoesAct, StandingActsAreDone}
+use Rattle.armv7m.specs.Code.{size, Stands, live}
+use Rattle.armv7m.specs.Perform.{perform}
+use Rattle.armv7m.specs.Resumed.{TellsThread}
+use Rattle.armv7m.specs.Running.{StepsAreActs}
+use Rattle.armv7m.specs.Shape.{StateFits, StepsKeepShape}
+use Rattle.armv7m.specs.Step.{turn, step, event}
+use Rattle.armv7m.specs.Templates.{EachWorks, TransferSteps}
+use Rattle.armv7m.specs.ThreadStep.{UnprivilegedStepsAreThreadSteps}
+use Rattle.device_model.specs.Rules.{ObeysRules}
+use Rattle.confine.specs.ThreadSteps.{ThreadStepsLead}
+use Rattle.confine.specs.WholeRuns.{ChangesKeepOrder}
+use Rattle.confine.proofs.Reaches.{UnitLaws}
+use Rattle.confine.proofs.EntryWords.{FrameLaws}
+
+pub record ThreadLaws : Type 0 where
+  pub unit : UnitLaws
+  pub frames : FrameLaws
+  pub performed : StepsAreActs
+  pub allowed : AllowedStepsAreFree
+  pub steps : UnprivilegedStepsAreThreadSteps
+  pub done : StandingActsAreDone
+  pub shape : StepsKeepShape
+  pub transfers : EachWorks TransferSteps
+  pub status : (f : Flags) (pad : Bool) → TellsThread f pad
+  pub lead : ThreadStepsLead
+  pub order : ChangesKeepOrder
+
+-- ---- a machine that has not ended
+
+pub live_is : (s : State) → s.ending ≡ None → s ≡ live s.core s.protection s.status s.ram s.queues
+live_is s e = ap (λ (o : Option End). record s { ending = o }) e
+
+pub performed_at : StepsAreActs → (j : Judge) (i : Image) (s : State) (x : Instr) → s.ending ≡ None → Stands j i s.protection s.core.pc x →
+    turn j i s ≡ perform j i (act x (s.core.pc + size x) s.core) s
+performed_at law j i s x e st =
+    subst (λ (z : State). turn j i z ≡ perform j i (act x (s.core.pc + size x) s.core) z) (sym (live_is s e)) (law j i s.core s.protection s.status s.ram s.queues x st)
+
+pub done_at : StandingActsAreDone → (j : Judge) (i : Image) (s : State) (x : Instr) → s.ending ≡ None → Stands j i s.protection s.core.pc x →
+    DoesAct j i s (act x (s.core.pc + size x) s.core) (turn j i s)
+done_at law j i s x e st =
+    subst (λ (z : State). DoesAct j i z (act x (s.core.pc + size x) s.core) (turn j i z)) (sym (live_is s e)) (law j i s.core s.protection s.status s.ram s.queues x st)
+
+-- ---- runs without an event
+
+pub quiet_events : (i : Image) (k : ℕ) (s : State) → ((n : ℕ) → n < k → event i (run (step i) n s) ≡ None) → events (step i) (event i) k s ≡ []
+unfolding run events
+quiet_events i zero s q = refl
+quiet_events i (suc k) s q =
+    let e : event i s ≡ None = q 0 (omega arith) in
+    rw e (quiet_events i k (step i s) (λ n lt. q (suc n) (omega (arith, lt))))
+
+pub run_fits : StepsKeepShape → (i : Image) → ObeysRules i → (k : ℕ) (s : State) → StateFits i s → StateFits i (run (step i) k s)
+unfolding run
+run_fits shape i rules zero s h = h
+run_fits shape i rules (suc k) s h = run_fits shape i rules k (step i s) (shape by_mpu i s rules h)

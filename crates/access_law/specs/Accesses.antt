@@ -1,0 +1,20 @@
+-- The access law of placed tables.
+use Rattle.std.specs.Prelude.{ℕ, ◌+◌, ◌≤◌}
+use Rattle.device_model.specs.declared.image.Image.{Image}
+use Rattle.armv7m.specs.Code.{Lies}
+use Rattle.monitor.specs.declared.tables.Tables.{Tables}
+use Rattle.monitor.specs.Layout.{tables_size}
+use Rattle.monitor.specs.Placed.{Placed}
+use Rattle.monitor.specs.MonitorLaw.{MonitorLaw}
+use Rattle.monitor.specs.AccessLaw.{AccessLaw}
+use Rattle.monitor.specs.Threads.{svc}
+
+-- the leave stub stands in the tables' block
+pub record StubStands (i : Image) (t : Tables) (stub : ℕ) : Type 0 where
+  pub from_base : t.base ≤ stub
+  pub inside : stub + 2 ≤ t.base + tables_size t
+  pub lies : Lies i stub (svc 1)
+
+abbrev pub PlacedAccessesHaveTheirEffect : Type 0
+PlacedAccessesHaveTheirEffect =
+    (i : Image) (t : Tables) (stub : ℕ) → Placed i t → StubStands i t stub → MonitorLaw i t stub → AccessLaw i t stub

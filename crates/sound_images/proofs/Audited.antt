@@ -1,0 +1,119 @@
+-- What the checks of the page, of the tables' size and of the ranges with initial words tell of a sound image.
+use Rattle.std.proofs.Common.{◌≡◌, ℕ, ◌+◌, ◌-◌, ◌*◌, ◌%◌, ◌≤◌, ◌⊎◌, inl, inr, Bool, true, false, ◌&&◌, ◌||◌, List, [], ◌∷◌, ◌++◌, length, nat_eq, nat_lt, nat_le, Option, Some, None, refl, sym, ap₂, arith}
+use Rattle.std.proofs.lemmas.Bool.Decides.{nat_tests}
+use Rattle.device_model.specs.declared.image.Image.{Image}
+use Rattle.device_model.specs.Rules.{IsInside, AreApart, block_size}
+use Rattle.armv7m.specs.Confinement.{Each}
+use Rattle.monitor.specs.declared.sound.AuditCheck.{AuditCheck}
+use Rattle.monitor.specs.declared.sound.AuditCheck.TheVariants as check
+use Rattle.monitor.specs.declared.tables.InitRecord.{InitRecord}
+use Rattle.monitor.specs.declared.tables.Tables.{Tables}
+use Rattle.monitor.specs.Layout.{area_end, tables_size, initial_words_at, inits_at, head_at}
+use Rattle.monitor.specs.RegionChecks.{are_apart, is_inside, is_data_range}
+use Rattle.monitor.specs.Checks.{must, and_then, header_fails, tables_fail, difference, code_fails, regions_fail, sites_fail, lends_fail, is_init, inits_from, inits_fail}
+use Rattle.monitor.specs.MonitorCode.{MonitorCode}
+use Rattle.monitor.specs.Sound.{Failure, unless, first_failure, Sound}
+use Rattle.access_law.specs.Simulation.{IsRange}
+
+both : (a b : Bool) → (a && b) ≡ true → (a ≡ true) × (b ≡ true)
+both true true h = (refl, refl)
+both true false h = cc
+both false b h = cc
+
+le_is : (a b : ℕ) → nat_le a b ≡ true → a ≤ b
+le_is a b h = grind (arith, nat_tests)
+
+eq_is : (a b : ℕ) → nat_eq a b ≡ true → a ≡ b
+eq_is a b h = grind (arith, nat_tests)
+
+either_is : (a b : Bool) → (a || b) ≡ true → (a ≡ true) ⊎ (b ≡ true)
+either_is true b h = inl refl
+either_is false b h = inr h
+
+apart_is : (b n c m : ℕ) → are_apart b n c m ≡ true → AreApart b n c m
+apart_is b n c m h = go (either_is (nat_le (b + n) c) (nat_le (c + m) b) h)
+  where
+    go : (nat_le (b + n) c ≡ true) ⊎ (nat_le (c + m) b ≡ true) → AreApart b n c m
+    go (inl e) = inl (le_is (b + n) c e)
+    go (inr e) = inr (le_is (c + m) b e)
+
+inside_is : (b n o m : ℕ) → is_inside b n o m ≡ true → IsInside b n o m
+inside_is b n o m h = let p = both (nat_le o b) (nat_le (b + n) (o + m)) h in (le_is o b p.0, le_is (b + n) (o + m) p.1)
+
+must_none : (b : Bool) (a : ℕ) → must b a ≡ None → b ≡ true
+must_none true a h = refl
+must_none false a h = cc
+
+and_none : (o p : Option ℕ) → and_then o p ≡ None → (o ≡ None) × (p ≡ None)
+and_none (Some a) p h = cc
+and_none None p h = (refl, h)
+
+unless_none : (c : AuditCheck) (o : Option ℕ) (l : Option Failure) → unless c o l ≡ None → (o ≡ None) × (l ≡ None)
+unless_none c (Some a) l h = cc
+unless_none c None l h = (refl, h)
+
+-- the first list stands at the beginning of the second
+begins_with : (xs ys : List ℕ) (a : ℕ) → difference xs ys a ≡ None → (zs : List ℕ) × (ys ≡ xs ++ zs)
+begins_with [] ys a h = (ys, refl)
+begins_with (x ∷ xs) [] a h = cc
+begins_with (x ∷ xs) (y ∷ ys) a h =
+    let p = and_none (must (nat_eq x y) a) (difference xs ys (a + 1)) h in
+    let e : x ≡ y = eq_is x y (must_none (nat_eq x y) a p.0) in
+    let r = begins_with xs ys (a + 1) p.1 in
+    (r.0, ap₂ (λ a b. a ∷ b) (sym e) r.1)
+
+whole : (e a : ℕ) → e % 4 ≡ 0 → a % 4 ≡ 0 → (e - a) % 4 ≡ 0
+whole e a h k = omega arith
+
+module _ (i : Image) (t : Tables) where
+  range_is : (w : ℕ) (n : InitRecord) → is_init i t w n ≡ true → IsRange i t n
+  range_is w n h =
+      let a = both (nat_eq (n.at % 4) 0) (nat_eq (n.end % 4) 0 && (nat_lt n.at n.end && (is_data_range i t n.at (n.end - n.at) && nat_eq n.from w))) h in
+      let b = both (nat_eq (n.end % 4) 0) (nat_lt n.at n.end && (is_data_range i t n.at (n.end - n.at) && nat_eq n.from w)) a.1 in
+      let c = both (nat_lt n.at n.end) (is_data_range i t n.at (n.end - n.at) && nat_eq n.from w) b.1 in
+      let d = both (is_data_range i t n.at (n.end - n.at)) (nat_eq n.from w) c.1 in
+      let e = both (is_inside n.at (n.end - n.at) i.ram_base i.ram_size) (are_apart n.at (n.end - n.at) t.stack.base t.stack.size && are_apart n.at (n.end - n.at) t.monitor block_size) d.0 in
+      let f = both (are_apart n.at (n.end - n.at) t.stack.base t.stack.size) (are_apart n.at (n.end - n.at) t.monitor block_size) e.1 in
+      record {
+        whole = whole n.end n.at (eq_is (n.end % 4) 0 b.0) (eq_is (n.at % 4) 0 a.0);
+        in_ram = inside_is n.at (n.end - n.at) i.ram_base i.ram_size e.0;
+        off_block = apart_is n.at (n.end - n.at) t.monitor block_size f.1;
+      }
+
+  ranges_are : (w a : ℕ) (ns : List InitRecord) → inits_from i t w a ns ≡ None → Each (IsRange i t) ns
+  ranges_are w a [] h = tt
+  ranges_are w a (n ∷ ns) h =
+      let p = and_none (must (is_init i t w n) a) (inits_from i t (w + (n.end - n.at)) (a + 12) ns) h in
+      (range_is w n (must_none (is_init i t w n) a p.0), ranges_are (w + (n.end - n.at)) (a + 12) ns p.1)
+
+  -- the tables' block has room for all words of the tables
+  size_is : tables_fail i t ≡ None → area_end t ≤ t.base + tables_size t
+  size_is h =
+      let a = and_none (must (nat_le 1 (length t.comps) && nat_le (length t.comps) 64) (head_at t)) _ h in
+      let b = and_none (must (nat_le (length t.sites) 4096) (head_at t + 4)) _ a.1 in
+      let c = and_none (must (nat_le (length t.targets) (64 * length t.sites)) (head_at t + 8)) _ b.1 in
+      let d = and_none (must (nat_le (length t.lends) 32) (head_at t + 12)) _ c.1 in
+      let e = and_none (must (nat_eq t.stack.base i.stack_base) (head_at t + 20)) _ d.1 in
+      let f = and_none (must (nat_eq t.stack.size i.stack_size) (head_at t + 24)) _ e.1 in
+      let g = and_none (must (nat_eq t.monitor i.monitor) (head_at t + 28)) _ f.1 in
+      let k = must_none (is_inside t.base (tables_size t) i.flash_base (length i.flash) && nat_le (area_end t) (t.base + tables_size t)) (head_at t) g.1 in
+      le_is (area_end t) (t.base + tables_size t) (both (is_inside t.base (tables_size t) i.flash_base (length i.flash)) (nat_le (area_end t) (t.base + tables_size t)) k).1
+
+pub record Audited (code : MonitorCode) (i : Image) (t : Tables) : Type 0 where
+  pub behind : List ℕ
+  pub has_page : i.flash ≡ code.page t ++ behind
+  pub room : area_end t ≤ t.base + tables_size t
+  pub ranges : Each (IsRange i t) t.inits
+
+pub audited : (code : MonitorCode) (i : Image) (t : Tables) → Sound code i t → Audited code i t
+unfolding first_failure
+audited code i t s =
+    let a = unless_none check.Header (header_fails i) _ s.none_fails in
+    let b = unless_none check.Tables (tables_fail i t) _ a.1 in
+    let c = unless_none check.Code (code_fails code.page i t) _ b.1 in
+    let d = unless_none check.Regions (regions_fail i t) _ c.1 in
+    let e = unless_none check.Sites (sites_fail t) _ d.1 in
+    let f = unless_none check.Lends (lends_fail t) _ e.1 in
+    let g = unless_none check.Inits (inits_fail i t) None f.1 in
+    let p = begins_with (code.page t) i.flash t.base c.0 in
+    record { behind = p.0; has_page = p.1; room = size_is i t b.0; ranges = ranges_are i t (initial_words_at t) (inits_at t) t.inits g.0 }

@@ -1,0 +1,3 @@
+mod Audited
+mod Stub
+mod Composed
