@@ -1,0 +1,5 @@
+mod Applied
+mod InTable
+mod LeastNeeds
+mod Promises
+mod Source

@@ -1,0 +1,3 @@
+pub mod TwoCompartments
+pub mod Source
+pub mod Applied

@@ -1,0 +1,60 @@
+-- Linked images refine their firmwares.
+use Rattle.std.proofs.Common.{ℕ, ◌*◌, List}
+use Rattle.armv7m.specs.Working.{Context}
+use Rattle.ir_model.specs.Plain.{PlainFirmware}
+use Rattle.ir_model.specs.Resolve.{resolve}
+use Rattle.ir_model.specs.Canonical.{IsWithinLimits}
+use Rattle.ir_model.specs.Typing.{IsTyped}
+use Rattle.ir_laws.specs.Sets.{ObjectSets}
+use Rattle.ir_laws.specs.Typed.{sizes_of}
+use Rattle.plan_model.specs.declared.needs.Needs.{Needs}
+use Rattle.plan_model.specs.declared.groups.Groups.{Groups}
+use Rattle.plan_model.specs.PointsTo.{IsLeast}
+use Rattle.plan_model.specs.Needs.{AreNeeds}
+use Rattle.lower.specs.CompartmentCode.{CodePlaces}
+use Rattle.monitor.specs.Block.{Block}
+use Rattle.monitor.specs.Setting.{Setting, setting_of}
+use Rattle.monitor.specs.Invariant.{Invariant}
+use Rattle.monitor.specs.Law.{Law}
+use Rattle.simulate.specs.Refines.{Refines}
+use Rattle.thread_runs.specs.CodeLaws.{CodeLaws}
+use Rattle.relation.specs.Linked.{Linked}
+use Rattle.refinement.specs.Refinement.{build_of, LinkedImagesRefine}
+use Rattle.refinement.specs.SourceLaws.{SourceLaws}
+use Rattle.refinement.proofs.Given.{laid_globals, laid_locals, frame_limited, facts_of}
+use Rattle.refinement.proofs.Whole.{refined}
+
+module _ (laws : CodeLaws) (source : SourceLaws) where
+  -- whatever invariant the monitor's law speaks of
+  pub image_refines : (w : PlainFirmware) (S : ObjectSets) (g : Setting) (n : Needs) (groups : Groups) (places : CodePlaces) (Inv : Block → Context → List ℕ → Type 0) → IsTyped w → IsWithinLimits w → IsLeast (resolve w) S → AreNeeds (resolve w) S n.closed n → Law g Inv →
+      Linked (build_of w g n groups places) → Refines w n groups (8 * g.eighth) g.words g.image
+  image_refines w S g n groups places Inv t l least needs law linked = record {
+    matched = λ queues fill count tape small good.
+        refined (build_of w g n groups places) Inv (sizes_of w) S
+        (record {
+          law = law;
+          facts = facts_of (build_of w g n groups places) linked (frame_limited source.functions w t l) (laid_locals source.cells w);
+          linked = linked;
+          laws = laws;
+          typed = source.typed w t l;
+          needs = needs;
+          cells = source.aligned w;
+          windows = source.windows w t;
+          laid_globals = laid_globals source.cells w;
+          laid_locals = laid_locals source.cells w;
+          found = source.found;
+          numbers = source.numbers;
+          pointers = source.pointers;
+          elements = source.elements;
+          contents = source.contents;
+          returns = source.returns;
+          accesses = source.accesses;
+          listed = source.listed;
+          inside = source.inside;
+          own = source.own;
+          numbered = source.numbered;
+        }) source.moves source.grouped queues fill count small tape (λ j. (source.values w S t l least.closed).states groups.of queues j) good;
+  }
+
+  pub images_refine : LinkedImagesRefine
+  images_refine w S code i t n groups places typed l least needs law linked = image_refines w S (setting_of code i t) n groups places (Invariant i t) typed l least needs law linked

@@ -1,0 +1,5 @@
+mod Counts
+mod Given
+mod Runs
+mod Whole
+mod Images

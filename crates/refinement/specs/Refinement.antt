@@ -1,0 +1,35 @@
+-- Every image that is linked of a typed firmware, with its least needs, refines it, where the monitor keeps its law.
+use Rattle.std.specs.Prelude.{◌*◌}
+use Rattle.device_model.specs.declared.image.Image.{Image}
+use Rattle.ir_model.specs.Plain.{PlainFirmware}
+use Rattle.ir_model.specs.Resolve.{resolve}
+use Rattle.ir_model.specs.Canonical.{IsWithinLimits}
+use Rattle.ir_model.specs.Typing.{IsTyped}
+use Rattle.ir_laws.specs.Sets.{ObjectSets}
+use Rattle.plan_model.specs.declared.needs.Needs.{Needs}
+use Rattle.plan_model.specs.declared.groups.Groups.{Groups}
+use Rattle.plan_model.specs.PointsTo.{IsLeast}
+use Rattle.plan_model.specs.Needs.{AreNeeds}
+use Rattle.lower.specs.CompartmentCode.{CodePlaces}
+use Rattle.monitor.specs.declared.tables.Tables.{Tables}
+use Rattle.monitor.specs.Records.{eighth}
+use Rattle.monitor.specs.Layout.{initial_word_count}
+use Rattle.monitor.specs.MonitorCode.{MonitorCode}
+use Rattle.monitor.specs.Setting.{Setting, setting_of}
+use Rattle.monitor.specs.Invariant.{Invariant}
+use Rattle.monitor.specs.Law.{Law}
+use Rattle.simulate.specs.Refines.{Refines}
+use Rattle.relation.specs.Builds.{Build}
+use Rattle.relation.specs.Linked.{Linked}
+
+-- what was built of a firmware
+abbrev pub build_of : PlainFirmware → Setting → Needs → Groups → CodePlaces → Build
+build_of w g n groups places = record { setting = g; program = resolve w; needs = n; groups = groups; places = places }
+
+-- an image with these tables, over the monitor's own invariant; `code` says where the monitor's stub stands
+abbrev pub LinkedImagesRefine : Type 0
+LinkedImagesRefine =
+    (w : PlainFirmware) (S : ObjectSets) (code : MonitorCode) (i : Image) (t : Tables) (n : Needs) (groups : Groups) (places : CodePlaces)
+    → IsTyped w → IsWithinLimits w → IsLeast (resolve w) S → AreNeeds (resolve w) S n.closed n
+    → Law (setting_of code i t) (Invariant i t) → Linked (build_of w (setting_of code i t) n groups places)
+    → Refines w n groups (8 * eighth t) (initial_word_count t) i

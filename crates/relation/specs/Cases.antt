@@ -1,0 +1,48 @@
+-- One source step is followed by the machine.
+use Rattle.std.specs.Prelude.{ℕ, ◌≤◌, List, [], ◌∷◌, option_to_list}
+use Rattle.device_model.specs.declared.image.Image.{Image}
+use Rattle.events.specs.declared.event.Event.{Event}
+use Rattle.armv7m.specs.State.{State, by_mpu}
+use Rattle.armv7m.specs.Code.{Runs}
+use Rattle.armv7m.specs.Working.{Context}
+use Rattle.ir_model.specs.Types.{PlainType}
+use Rattle.ir_model.specs.Resolved.{Here, here}
+use Rattle.ir_model.specs.State.{Frame, Memory, SourceState, Running, Ended}
+use Rattle.ir_model.specs.Step.{turn_here}
+use Rattle.ir_laws.specs.Moves.{Where, where_of, wheres}
+use Rattle.ir_laws.specs.Sets.{ObjectSets}
+use Rattle.ir_laws.specs.States.{StateFits}
+use Rattle.monitor.specs.Block.{Block}
+use Rattle.simulate.specs.Refines.{HasFault, step_limit}
+use Rattle.relation.specs.Builds.{Build}
+use Rattle.relation.specs.Relation.{AllFit, Stands, Related}
+
+-- so many steps at most lead to a state that belongs to this source state
+pub record FollowsBy (R : SourceState → State → Type 0) (i : Image) (most : ℕ) (from : State) (s : SourceState) (es : List Event) : Type 0 where
+  pub steps : ℕ
+  pub least : 1 ≤ steps
+  pub within : steps ≤ most
+  pub to : State
+  pub runs : Runs by_mpu i steps from to es
+  pub related : R s to
+
+module _ (k : Build) (Inv : Block → Context → List ℕ → Type 0) (places : ℕ → ℕ) where
+  abbrev pub Follows : (from : State) (s : SourceState) (es : List Event) → Type 0
+  Follows t s es = FollowsBy (Related k places Inv) k.setting.image step_limit t s es
+
+  -- where the frames of a state stand
+  abbrev pub standing : SourceState → List Where
+  standing (Running fs m) = wheres fs
+  standing (Ended e) = []
+
+  -- the step from a place where this stands, if it meets no fault and the frames behind it are within the stack limit
+  abbrev pub CaseFollows : (fr : Frame) (rest : List Frame) (m : Memory) (t : State) → Here → Type 0
+  CaseFollows fr rest m t h =
+      (HasFault (turn_here k.program k.groups.of fr rest m h).to → ⊥) → AllFit k places (standing (turn_here k.program k.groups.of fr rest m h).to)
+      → Follows t (turn_here k.program k.groups.of fr rest m h).to (option_to_list (turn_here k.program k.groups.of fr rest m h).event)
+
+  -- the statement of all cases: from each state of a run that fits, by the sizes of types and sets of objects
+  abbrev pub CasesFollow : (sizes : PlainType → ℕ) → ObjectSets → Type 0
+  CasesFollow sizes S =
+      (fr : Frame) (rest : List Frame) (m : Memory) (t : State) → Stands k places Inv (where_of fr) (wheres rest) (fr ∷ rest) m t
+      → StateFits k.program sizes S (Running (fr ∷ rest) m) → CaseFollows fr rest m t (here k.program fr.func fr.block fr.place)

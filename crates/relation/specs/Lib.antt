@@ -1,0 +1,4 @@
+pub mod Builds
+pub mod Relation
+pub mod Linked
+pub mod Cases

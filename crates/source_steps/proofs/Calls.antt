@@ -1,0 +1,236 @@
+-- Calls, direct and through a register.
+use Rattle.std.proofs.Common.{◌≡◌, ℕ, zero, suc, ◌+◌, ◌-◌, ◌*◌, ◌/◌, ◌%◌, ◌^◌, ◌<◌, ◌≤◌, false, Option, Some, None, is_some, List, [], ◌∷◌, ◌++◌, length, map, get_or, refl, sym, ap, ◌∙◌, subst, arith}
+use Rattle.std.proofs.Math.Nat.{div-mul-le_self}
+use Rattle.std.proofs.lemmas.List.{length-map}
+use Rattle.words.specs.Bytes.{read, cut}
+use Rattle.words.proofs.Bytes.{read_fits}
+use Rattle.armv7m.specs.State.{State}
+use Rattle.armv7m.specs.Working.{Context, works}
+use Rattle.ir_model.specs.Types.{PlainType, PlainTypes}
+use Rattle.ir_model.specs.Resolved.{NumberedFunc, Call, Here, Does, here}
+use Rattle.ir_model.specs.Signatures.{in_row, row_length}
+use Rattle.ir_model.specs.State.{Frame, Memory, Running, frame_of}
+use Rattle.ir_model.specs.Step.{register}
+use Rattle.ir_laws.specs.Moves.{where_of, wheres}
+use Rattle.ir_laws.specs.Sets.{ObjectSets, CallsAt}
+use Rattle.ir_laws.specs.Typed.{Has, CallTyped}
+use Rattle.ir_laws.specs.States.{FrameFits}
+use Rattle.lower.specs.Places.{entry_address}
+use Rattle.lower.specs.Sizes.{entry_size, call_size}
+use Rattle.lower.specs.Templates.{inst_items, entry_items}
+use Rattle.monitor.specs.Block.{Block, entered}
+use Rattle.monitor.specs.Setting.{Setting}
+use Rattle.monitor.specs.Threads.{base}
+use Rattle.code_effects.specs.Calls.{AllBelow}
+use Rattle.thread_runs.specs.Areas.{Has as Holds}
+use Rattle.thread_runs.specs.Owned.{Owns, all_lent}
+use Rattle.thread_runs.proofs.Areas.{has_join}
+use Rattle.thread_runs.proofs.Thread.{at_pc, fits_pc, started, has_stays}
+use Rattle.thread_runs.proofs.Entry.{Filled}
+use Rattle.thread_runs.proofs.Calls.{frame_words, Called, Crossed, CalleeFits, calls}
+use Rattle.relation.specs.Builds.{Build, compartment_of, func, words_at, lends_at, places_at, labels_at, entry_at, code_at, behind_at, site_at}
+use Rattle.relation.specs.Relation.{own, words_of, own_words, link_by, waiting_by, waiting_words, statuses_behind, first_or_zero, IsStatusBy, Wait, areas, held, ceiling_by, beneath, block_of, Fits as HasPlace}
+use Rattle.relation.specs.Cases.{Follows}
+use Rattle.relation.proofs.Frames.{safe, own_has}
+use Rattle.relation.proofs.Blocks.{all_lent_is, top_least, read_cut, below_more}
+use Rattle.relation.proofs.Limits.{words_are}
+use Rattle.source_steps.proofs.Premises.{Premises}
+use Rattle.source_steps.proofs.Standing.{owned_entry, entry_is, entry_low, first_code, behind_is, place_low}
+use Rattle.source_steps.proofs.Steps.{Here as HereStands, state_of, place_of_frame}
+use Rattle.source_steps.proofs.Registers.{register_word, owned_by}
+
+-- a function's registers begin with its parameters
+pub params_there : (g : NumberedFunc) → ((k : ℕ) → k < row_length g.params → Has g k (in_row g.params k)) → row_length g.params ≤ length g.regs
+params_there g each = by (row_length g.params) refl
+  where
+    by : (n : ℕ) → row_length g.params ≡ n → row_length g.params ≤ length g.regs
+    by zero e = omega arith
+    by (suc n) e = let h = (each n (omega arith)).there in omega arith
+
+pub all_below : (g : NumberedFunc) (ts : PlainTypes) (args : List ℕ) (k : ℕ) → ((j : ℕ) → j < length args → Has g (get_or args j 0) (in_row ts (k + j))) → AllBelow (length g.regs) args
+all_below g ts [] k each = tt
+all_below g ts (a ∷ more) k each = ((each 0 (omega arith)).there, all_below g ts more (suc k) (λ j l. let z : k + suc j ≡ suc k + j = omega arith in subst (λ (n : ℕ). Has g (get_or more j 0) (in_row ts n)) z (each (suc j) (omega arith))))
+
+module _ (k : Build) (Inv : Block → Context → List ℕ → Type 0) (sizes : PlainType → ℕ) (S : ObjectSets) (w : Premises k Inv sizes S) (places : ℕ → ℕ) where
+  abbrev pub gs : Setting
+  gs = k.setting
+
+  module _ (fr : Frame) (rest : List Frame) (m : Memory) (t : State) (st : HereStands k Inv sizes S w places fr rest m t) (ff : FrameFits k.program sizes S fr) where
+    -- arguments, as words of the caller's frame
+    arguments_are : (args : List ℕ) → AllBelow (length (func k fr.func).regs) args → (i : ℕ) → i < length args → get_or (frame_words (places fr.number) st.ram args) i 0 ≡ get_or (words_of k places (map (register fr) args)) i 0
+    arguments_are [] b i l = absurd (omega arith)
+    arguments_are (a ∷ more) b zero l = register_word k Inv sizes S w places fr rest m t st ff a b.0
+    arguments_are (a ∷ more) b (suc i) l = arguments_are more b.1 i (omega arith)
+
+    abbrev pub callee_frame : (h : ℕ) (args : List ℕ) → Frame
+    callee_frame h args = frame_of k.program h m.made (map (register fr) args)
+
+    -- the new frame's own words
+    new_own : (h o l : ℕ) (args new : List ℕ) → AllBelow (length (func k fr.func).regs) args → length args ≤ length (func k h).regs → Filled o (words_at k h) l (frame_words (places fr.number) st.ram args) new → o + 4 * words_at k h + 4 ≤ length new →
+        Holds new (own k h o) (own_words k places (callee_frame h args) l)
+    new_own h o l args new b few fl fits =
+        let n = length-map args (λ (a : ℕ). read 4 (places fr.number + 4 * a) st.ram) in
+        own_has k places h o (length args) (map (register fr) args) l new (w.facts.shapes h) (length-map args (register fr)) few
+        (λ i u. fl.given i (omega arith) ∙ ap (λ (v : ℕ). cut 4 v) (arguments_are args b i u)) (λ i u v. fl.cleared i (omega arith) v) fl.return_address fits
+
+    -- within the compartment
+    pub called_step : (h : ℕ) (args : List ℕ) (link pc : ℕ) → site_at k fr.func fr.block fr.place ≡ None → link ≡ behind_at k fr.func fr.block fr.place + 1 → pc ≡ code_at k h 0 0 → AllBelow (length (func k fr.func).regs) args → length args ≤ length (func k h).regs →
+        HasPlace k places (where_of (callee_frame h args)) (wheres (fr ∷ rest)) →
+        Called gs Inv (state_of k Inv sizes S w places fr rest m t st) (all_lent gs (places m.made) (block_of k places (wheres (fr ∷ rest))) (lends_at k h)) (places m.made) (words_at k h) pc (places fr.number) (frame_words (places fr.number) st.ram args) link st.ram m.queues →
+        Follows k Inv places t (Running (callee_frame h args ∷ fr ∷ rest) (record m { made = suc m.made })) []
+    called_step h args link pc site eb ep b few fit c =
+        let oc : ℕ = places fr.number in
+        let o : ℕ = places m.made in
+        let bl : Block = block_of k places (wheres (fr ∷ rest)) in
+        let nf : Frame = callee_frame h args in
+        let e = c.goes in
+        let ends : o + 4 * words_at k h + 4 ≡ oc = subst (λ (x : Option ℕ). o + 4 * words_at k h + 4 ≡ ceiling_by k places x (wheres (fr ∷ rest))) site fit.ends in
+        let sf = safe k places w.facts (wheres (fr ∷ rest)) st.fits in
+        let ins = sf.inside in
+        let old = has_stays gs oc st.ram e.memory (areas k places (wheres (fr ∷ rest))) (held k places st.statuses (fr ∷ rest) m.globals) e.stays sf.each st.has in
+        let len = w.law.keeps.as_long _ _ _ e.invariant in
+        let rf = w.facts.rules.fits in
+        let ow = new_own h o link args e.memory b few c.filled (omega arith) in
+        let ow2 = subst (λ (l : ℕ). Holds e.memory (own k h o) (own_words k places nf l)) eb ow in
+        let has0 = has_join (own k h o) (areas k places (wheres (fr ∷ rest))) (own_words k places nf (behind_at k fr.func fr.block fr.place + 1)) (held k places st.statuses (fr ∷ rest) m.globals) e.memory ow2 old in
+        record {
+          steps = e.count;
+          least = c.least;
+          within = e.within;
+          to = works e.context e.low (base gs + o) e.lr (code_at k h 0 0) e.flags e.memory m.queues;
+          runs = started gs e.count t _ _ [] st.is_state (at_pc gs e.count _ e.context e.low (base gs + o) e.lr pc (code_at k h 0 0) e.flags e.memory m.queues [] ep e.runs);
+          related = record {
+            context = e.context;
+            low = e.low;
+            lr = e.lr;
+            flags = e.flags;
+            ram = e.memory;
+            statuses = st.statuses;
+            is_state = refl;
+            state_fits = fits_pc gs e.context e.low (base gs + o) e.lr pc (code_at k h 0 0) e.flags e.memory m.queues ep e.fits;
+            invariant = subst (λ (x : Option ℕ). Inv (all_lent gs o (beneath k places x h (wheres (fr ∷ rest)) bl) (lends_at k h)) e.context e.memory) (sym site) e.invariant;
+            has = subst (λ (x : Option ℕ). Holds e.memory (own k h o ++ (waiting_by k places x (wheres (fr ∷ rest)) ++ areas k places (wheres (fr ∷ rest))))
+                (own_words k places nf (link_by k places x (wheres (fr ∷ rest))) ++ (waiting_words k places x (first_or_zero st.statuses) (wheres (fr ∷ rest)) ++ held k places (statuses_behind x st.statuses) (fr ∷ rest) m.globals))) (sym site) has0;
+            threads = subst (λ (x : Option ℕ). IsStatusBy x (first_or_zero st.statuses) × Wait k (statuses_behind x st.statuses) (wheres (fr ∷ rest))) (sym site) (tt, st.threads);
+            fits = (fit, st.fits);
+          };
+        }
+
+    small_read : (a v : ℕ) (ram : List ℕ) → read 4 a ram ≡ v → v < 2 ^ 32
+    small_read a v ram e = let f = read_fits 4 a ram in omega arith
+
+    -- and across
+    pub crossed_step : (h : ℕ) (args : List ℕ) (number ret pc top : ℕ) → site_at k fr.func fr.block fr.place ≡ Some number → ret ≡ behind_at k fr.func fr.block fr.place → pc ≡ code_at k h 0 0 → AllBelow (length (func k fr.func).regs) args → length args ≤ length (func k h).regs →
+        top ≡ gs.stack + (places fr.number - 32 - gs.stack) / gs.eighth * gs.eighth → HasPlace k places (where_of (callee_frame h args)) (wheres (fr ∷ rest)) →
+        Crossed gs Inv (state_of k Inv sizes S w places fr rest m t st) (all_lent gs (places m.made) (entered (block_of k places (wheres (fr ∷ rest))) (compartment_of k h) (base gs + top) (base gs + places fr.number - 32)) (lends_at k h)) (places m.made) (words_at k h) pc (places fr.number)
+        (frame_words (places fr.number) st.ram args) ret st.ram m.queues →
+        Follows k Inv places t (Running (callee_frame h args ∷ fr ∷ rest) (record m { made = suc m.made })) []
+    crossed_step h args number ret pc top site eb ep b few tops fit c =
+        let oc : ℕ = places fr.number in
+        let o : ℕ = places m.made in
+        let bl : Block = block_of k places (wheres (fr ∷ rest)) in
+        let nf : Frame = callee_frame h args in
+        let d = c.called in
+        let e = d.goes in
+        let rm = st.fits.0.room in
+        let dm = div-mul-le_self (oc - 32 - gs.stack) gs.eighth in
+        let ends : o + 4 * words_at k h + 4 ≡ gs.stack + (oc - 32 - gs.stack) / gs.eighth * gs.eighth = subst (λ (x : Option ℕ). o + 4 * words_at k h + 4 ≡ ceiling_by k places x (wheres (fr ∷ rest))) site fit.ends in
+        let sf = safe k places w.facts (wheres (fr ∷ rest)) st.fits in
+        let ins = sf.inside in
+        let old = has_stays gs oc st.ram e.memory (areas k places (wheres (fr ∷ rest))) (held k places st.statuses (fr ∷ rest) m.globals) e.stays sf.each st.has in
+        let len = w.law.keeps.as_long _ _ _ e.invariant in
+        let rf = w.facts.rules.fits in
+        let ow = new_own h o (gs.stub + 1) args e.memory b few d.filled (omega arith) in
+        let wt : Holds e.memory (record { at = oc - 8; width = 4 } ∷ record { at = oc - 4; width = 4 } ∷ []) (behind_at k fr.func fr.block fr.place ∷ c.status ∷ []) =
+        (read_cut (oc - 8) (behind_at k fr.func fr.block fr.place) e.memory (c.saved_return ∙ eb), omega arith, (read_cut (oc - 4) c.status e.memory c.saved_status, omega arith, tt)) in
+        let has0 = has_join (own k h o) _ (own_words k places nf (gs.stub + 1)) _ e.memory ow
+        (has_join (record { at = oc - 8; width = 4 } ∷ record { at = oc - 4; width = 4 } ∷ []) (areas k places (wheres (fr ∷ rest))) (behind_at k fr.func fr.block fr.place ∷ c.status ∷ []) (held k places st.statuses (fr ∷ rest) m.globals) e.memory wt old) in
+        let inv = subst (λ (y : ℕ). Inv (all_lent gs o (entered bl (compartment_of k h) (base gs + y) (base gs + oc - 32)) (lends_at k h)) e.context e.memory) tops e.invariant in
+        record {
+          steps = e.count;
+          least = d.least;
+          within = e.within;
+          to = works e.context e.low (base gs + o) e.lr (code_at k h 0 0) e.flags e.memory m.queues;
+          runs = started gs e.count t _ _ [] st.is_state (at_pc gs e.count _ e.context e.low (base gs + o) e.lr pc (code_at k h 0 0) e.flags e.memory m.queues [] ep e.runs);
+          related = record {
+            context = e.context;
+            low = e.low;
+            lr = e.lr;
+            flags = e.flags;
+            ram = e.memory;
+            statuses = c.status ∷ st.statuses;
+            is_state = refl;
+            state_fits = fits_pc gs e.context e.low (base gs + o) e.lr pc (code_at k h 0 0) e.flags e.memory m.queues ep e.fits;
+            invariant = subst (λ (x : Option ℕ). Inv (all_lent gs o (beneath k places x h (wheres (fr ∷ rest)) bl) (lends_at k h)) e.context e.memory) (sym site) inv;
+            has = subst (λ (x : Option ℕ). Holds e.memory (own k h o ++ (waiting_by k places x (wheres (fr ∷ rest)) ++ areas k places (wheres (fr ∷ rest))))
+                (own_words k places nf (link_by k places x (wheres (fr ∷ rest))) ++ (waiting_words k places x c.status (wheres (fr ∷ rest)) ++ held k places (statuses_behind x (c.status ∷ st.statuses)) (fr ∷ rest) m.globals))) (sym site) has0;
+            threads = subst (λ (x : Option ℕ). IsStatusBy x c.status × Wait k (statuses_behind x (c.status ∷ st.statuses)) (wheres (fr ∷ rest))) (sym site) ((c.thread, c.no_pad, small_read (oc - 4) c.status e.memory c.saved_status), st.threads);
+            fits = (fit, st.fits);
+          };
+        }
+
+    -- ---- what is asked of the callee
+
+    pub callee_fits : (h o ends entry : ℕ) (compartment loans : ℕ) (args : List ℕ) → h < length k.program.funcs → entry_at k h ≡ entry → compartment ≡ compartment_of k h → length args ≡ row_length (func k h).params → length args ≤ 4 →
+        o % 8 ≡ 0 → gs.stack + 32 ≤ o → o + 4 * words_at k h + 4 ≡ ends → loans + length (lends_at k h) ≤ 32 →
+        CalleeFits gs (func k h) (places_at k h) (labels_at k h) compartment (words_at k h) o ends entry (length (frame_words (places fr.number) st.ram args)) loans
+    callee_fits h o ends entry compartment loans args there ee ec counts few ao ro en fl =
+        let n = length-map args (λ (a : ℕ). read 4 (places fr.number + 4 * a) st.ram) in
+        let sh = w.facts.shapes h in
+        let rg = sh.registers in
+        let pt = params_there (func k h) (w.typed.funcs h).params in
+        record {
+          words = words_are k h;
+          aligned = ao;
+          room = ro;
+          frame_ends = en;
+          counts = n ∙ counts;
+          few = omega arith;
+          fewer = omega arith;
+          small = sh.few;
+          code = subst (λ (e : ℕ). Owns gs compartment (labels_at k h) e (entry_items (func k h) (places_at k h))) ee
+              (subst (λ (c : ℕ). Owns gs c (labels_at k h) (entry_at k h) (entry_items (func k h) (places_at k h))) (sym ec) (owned_entry k w.facts.rules w.laws w.linked.code h there));
+          lendable = sh.lendable;
+          few_loans = fl;
+        }
+
+    abbrev pub here_pc : ℕ
+    here_pc = code_at k fr.func fr.block fr.place
+
+    -- where a call's callee begins
+    pub begins_at : (h entry : ℕ) → entry_at k h ≡ entry → entry + entry_size (func k h) (length (lends_at k h)) ≡ code_at k h 0 0
+    begins_at h entry e = ap (λ (y : ℕ). y + entry_size (func k h) (length (lends_at k h))) (sym e) ∙ sym (first_code k w.facts.rules w.laws w.linked.code h)
+
+    -- ---- the four kinds
+
+    pub call_inside : (to : Option ℕ) (h : ℕ) (args : List ℕ) → here k.program fr.func fr.block fr.place ≡ Does (Call to h args) → h < length k.program.funcs → CallTyped (func k fr.func) to args (func k h).params (func k h).outcome → site_at k fr.func fr.block fr.place ≡ None →
+        HasPlace k places (where_of (callee_frame h args)) (wheres (fr ∷ rest)) → Follows k Inv places t (Running (callee_frame h args ∷ fr ∷ rest) (record m { made = suc m.made })) []
+    call_inside to h args e there ty site fit =
+        let f : ℕ = fr.func in
+        let oc : ℕ = places fr.number in
+        let o : ℕ = places m.made in
+        let bl : Block = block_of k places (wheres (fr ∷ rest)) in
+        let f0 = st.fits.0 in
+        let tl = top_least k places (where_of fr) (wheres rest) st.fits in
+        let en = f0.ends in
+        let rm = f0.room in
+        let ac = f0.aligned in
+        let rg = (w.facts.shapes f).registers in
+        let b = all_below (func k f) (func k h).params args 0 (λ j l. let z : j ≡ 0 + j = omega arith in subst (λ (n : ℕ). Has (func k f) (get_or args j 0) (in_row (func k h).params n)) z (ty.arguments j l)) in
+        let pt = params_there (func k h) (w.typed.funcs h).params in
+        let cn = ty.count in
+        let few : length args ≤ length (func k h).regs = omega arith in
+        let ei = entry_is k w.facts.rules w.laws w.linked.code f h there in
+        let el = entry_low k w.facts.rules w.laws w.linked.code h there st.context.protection in
+        let near = place_low k w.facts.rules w.laws w.linked.code f fr.block fr.place (place_of_frame k Inv sizes S w places fr ff) st.context.protection in
+        let same = w.inside k.program S k.needs.closed k.needs k.groups f fr.block fr.place h w.needs (subst (λ (y : Here). CallsAt k.program S f y h) (sym e) refl) site in
+        let ends : o + 4 * words_at k h + 4 ≡ oc = subst (λ (x : Option ℕ). o + 4 * words_at k h + 4 ≡ ceiling_by k places x (wheres (fr ∷ rest))) site fit.ends in
+        let lo : length (all_lent gs o bl (lends_at k h)).loans ≤ 32 = subst (λ (x : Option ℕ). length (all_lent gs o (beneath k places x h (wheres (fr ∷ rest)) bl) (lends_at k h)).loans ≤ 32) site fit.loans in
+        let ll = (all_lent_is gs o bl (lends_at k h)).loans in
+        let fits = callee_fits h o oc (entry_address (places_at k f) h) bl.current (length bl.loans) args there (sym ei) (f0.current ∙ sym same) cn ty.few fit.aligned fit.room ends (omega arith) in
+        let own = subst (λ (x : Option ℕ). Owns gs bl.current (labels_at k f) here_pc (inst_items (func k f) (places_at k f) here_pc x (Call to h args))) site (owned_by k Inv sizes S w places fr rest f0 (Call to h args) ff e) in
+        let c = calls gs Inv w.law w.facts.rules w.laws (func k f) (places_at k f) (labels_at k f) (func k h) (places_at k h) (labels_at k h) bl st.context st.low oc (words_at k f) o (words_at k h) st.lr here_pc st.flags to h args st.ram m.queues
+        st.invariant st.state_fits (omega arith) (omega arith) (omega arith) (omega arith) (below_more k places w.facts _ _ args rg b) near (omega arith) own fits in
+        let bh = behind_is k w.facts.rules w.laws w.linked.code f fr.block fr.place (Does (Call to h args)) ff.func e in
+        let rs : call_size (is_some (site_at k f fr.block fr.place)) args ≡ call_size false args = ap (λ (x : Option ℕ). call_size (is_some x) args) site in
+        called_step h args _ _ site (omega arith) (begins_at h (entry_address (places_at k f) h) (sym ei)) b few fit c

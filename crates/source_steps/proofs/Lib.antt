@@ -1,0 +1,14 @@
+pub mod Standing
+pub mod Premises
+pub mod Steps
+pub mod Registers
+pub mod Branches
+pub mod Calls
+pub mod CallCases
+pub mod Returns
+pub mod Cells
+pub mod Reaching
+pub mod Loads
+pub mod Stores
+pub mod Begins
+pub mod AllCases

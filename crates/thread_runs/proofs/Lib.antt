@@ -1,0 +1,5 @@
+pub mod Areas
+pub mod Thread
+pub mod Entry
+pub mod Calls
+pub mod Returns
