@@ -4,7 +4,7 @@ use Rattle.std.specs.Prelude.{◌⊎◌, Contains}
 use Rattle.std.proofs.lemmas.List.{take_more, take_all}
 use Rattle.std.proofs.lemmas.List.Elements.{Contains-append_left, Contains-push, Contains-push_cases}
 use Rattle.depend.specs.Accesses.{AnyOf}
-use Rattle.depend.proofs.Members.{in_none}
+use Rattle.object_sets.proofs.Parts.{in_none}
 
 pub any_none : {X : Type 0} (P : X → Type 0) → AnyOf P [] → ⊥
 any_none P a = in_none a.item a.listed

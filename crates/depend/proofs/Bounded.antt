@@ -8,7 +8,7 @@ use Rattle.depend.specs.declared.uses.Use.{Use}
 use Rattle.depend.specs.declared.uses.Use.TheVariants as uses
 use Rattle.depend.specs.Uses.{UsedAt}
 use Rattle.depend.specs.Bounds.{IsBelow, HasSmallNumbers, RegistersAreThere}
-use Rattle.depend.proofs.Members.{in_none}
+use Rattle.object_sets.proofs.Parts.{in_none}
 use Rattle.depend.proofs.Used.{single}
 
 insts_of : (bs : List NumberedBlock) (b : ℕ) → length (get_or bs b no_block).insts ≤ inst_count bs

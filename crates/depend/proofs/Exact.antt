@@ -7,7 +7,8 @@ use Rattle.std.specs.declared.cmp.Ordering.{Ordering}
 use Rattle.std.proofs.lemmas.List.Kept.{IsStrictlySortedBy-filter}
 use Rattle.std.proofs.lemmas.List.Elements.{Contains-append_left, Contains-append_right, Contains-append_cases}
 use Rattle.plan_model.specs.Lists.{ListsExactly}
-use Rattle.depend.proofs.Members.{cases, head, in_none, filtered, from_filter}
+use Rattle.object_sets.proofs.Parts.{cases, head, in_none}
+use Rattle.depend.proofs.Members.{filtered, from_filter}
 
 pub exactly_by : {X : Type 0} (cmp : X → X → Ordering) (P Q : X → Type 0) (xs : List X) → ((x : X) → P x ↔ Q x) → ListsExactly cmp P xs → ListsExactly cmp Q xs
 exactly_by cmp P Q xs same e = record { rising = e.rising; each = λ x h. (same x).0 (e.each x h); all = λ x h. e.all x ((same x).1 h) }

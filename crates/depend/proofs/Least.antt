@@ -1,13 +1,14 @@
 -- The least sets of a typed program have objects of the program alone.
-use Rattle.std.proofs.Common.{◌≡◌, ℕ, ◌<◌, Bool, true, ◌&&◌, List, length, Option, Some, None, nat_lt, get_or, arith}
+use Rattle.std.proofs.Common.{◌≡◌, ℕ, ◌<◌, Bool, true, ◌&&◌, List, length, Option, Some, None, nat_lt, get_or, arith, sym, subst}
 use Rattle.std.proofs.lemmas.Bool.{and_parts, and_from}
 use Rattle.std.proofs.lemmas.Bool.Decides.{nat_tests}
 use Rattle.ir_model.specs.Types.{PlainType}
 use Rattle.ir_model.specs.Resolved.{Program, Value, Instance, OfGlobal, OfPeriph, OfLocal, Named, TheGlobal, ThePeriph, TheLocal, NumberedInst, Const, Move, Bin, Cmp, Addr, FAddr, Elem, Field, Load, Store, Call, ICall, NumberedTerm, Jump, Branch, Ret, Here, Does, Ends, func_at, register_type, here}
 use Rattle.ir_model.specs.State.{Object, GlobalObject, PeriphObject, LocalObject, FunctionObject, object_of}
 use Rattle.ir_laws.specs.Sets.{Node, Register, Content, Outcome, ObjectSets, IsWithin, Flows, named_object, ResultFlows, CallFlows, InstFlows, EndFlows, HereFlows, IsOf, Closed}
-use Rattle.ir_laws.specs.Typed.{IsThere as NamesThere, IsPlaced, InstTyped, HereTyped, Fits, number, null, at, code, Typed}
+use Rattle.ir_laws.specs.Typed.{IsThere as NamesThere, IsPlaced, InstTyped, HereTyped, Fits, number, null, at, code, Typed, sizes_of, TypedOverNumbers}
 use Rattle.plan_model.specs.PointsTo.{IsLeast}
+use Rattle.depend.specs.Checked.{LeastSetsServe}
 use Rattle.depend.specs.Laws.{IsThere, LeastSetsHaveObjects}
 
 abbrev is_object : Program → Object → Bool
@@ -97,3 +98,10 @@ module _ (p : Program) (z : PlainType → ℕ) (S : ObjectSets) (typed : Typed p
 
 pub least_sets_have_objects : LeastSetsHaveObjects
 least_sets_have_objects p sizes S typed least m o h = only_objects p sizes S typed least m o h
+
+pub least_sets_serve : TypedOverNumbers → LeastSetsServe
+least_sets_serve typing p S k l =
+    record {
+      closed = l.closed;
+      there = least_sets_have_objects p (sizes_of k.source) S (subst (λ q. Typed q (sizes_of k.source)) (sym k.same) (typing k.source k.typed k.limits)) l;
+    }

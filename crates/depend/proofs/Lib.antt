@@ -2,7 +2,6 @@ mod Members
 mod Any
 mod Joined
 mod Exact
-mod Orders
 mod Funcs
 mod Listed
 mod Used

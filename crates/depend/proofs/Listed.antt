@@ -12,7 +12,8 @@ use Rattle.plan_model.specs.Lists.{numbers_below}
 use Rattle.plan_model.specs.Calls.{CallPlace, calls_from, calls_of, call_places, IsSiteOf}
 use Rattle.plan_model.specs.Needs.{need_of, IsData, IsWritable, AreNeeds}
 use Rattle.depend.specs.Reached.{IsListed, ListsPeriph, HasTarget}
-use Rattle.depend.proofs.Members.{head, tail, joined, number_in, partner}
+use Rattle.object_sets.proofs.Parts.{head, tail, joined, number_in}
+use Rattle.depend.proofs.Members.{partner}
 
 -- ---- objects by their numbers
 

@@ -12,7 +12,7 @@ use Rattle.depend.specs.declared.uses.Use.TheVariants as uses
 use Rattle.depend.specs.declared.objects.Access.TheVariants.{Read, Write}
 use Rattle.depend.specs.Uses.{used, uses_in, UsedAt}
 use Rattle.depend.specs.Accesses.{AnyOf, Reaches, Calls}
-use Rattle.depend.proofs.Members.{head, cases, in_none}
+use Rattle.object_sets.proofs.Parts.{head, cases, in_none}
 
 -- ---- places
 

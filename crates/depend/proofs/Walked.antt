@@ -24,7 +24,7 @@ use Rattle.depend.specs.declared.uses.Use.TheVariants as uses
 use Rattle.depend.specs.Uses.{used}
 use Rattle.depend.specs.Bounds.{IsBelow}
 use Rattle.depend.specs.Sites.{CallsBelow, Adds}
-use Rattle.depend.proofs.Members.{head, cases, in_none}
+use Rattle.object_sets.proofs.Parts.{head, cases, in_none}
 use Rattle.depend.proofs.Funcs.{func_read}
 
 pub adds_none : (p : Program) (S : ObjectSets) (old : List SiteNeed) → Adds p S old old []

@@ -7,6 +7,7 @@ use Rattle.ir_model.specs.State.{Object}
 use Rattle.ir_model.specs.Canonical.{IsWithinLimits}
 use Rattle.ir_model.specs.Typing.{IsTyped}
 use Rattle.ir_laws.specs.Sets.{Node, ObjectSets, Closed}
+use Rattle.plan_model.specs.PointsTo.{IsLeast}
 use Rattle.depend.specs.Laws.{IsThere}
 
 -- a program is that of a firmware that is typed and within the limits
@@ -20,3 +21,7 @@ pub record IsChecked (p : Program) : Type 0 where
 pub record AreSets (p : Program) (S : ObjectSets) : Type 0 where
   pub closed : Closed p S
   pub there : (m : Node) (o : Object) → S m o ≡ true → IsThere p o
+
+-- needs may be made by the least sets
+abbrev pub LeastSetsServe : Type 0
+LeastSetsServe = (p : Program) (S : ObjectSets) → IsChecked p → IsLeast p S → AreSets p S

@@ -9,9 +9,9 @@ ghost use Rattle.plan_model.specs.Lists.{ListsExactly};
 ghost use Rattle.depend.specs.Accesses.{AnyOf, Calls, HasTargets};
 ghost use Rattle.depend.specs.Bounds.{IsBelow};
 
-use crate::unique::each_once;
 use crate::uses::Use;
 use listed::Listed;
+use object_sets::each_once;
 use std::alloc::{AllocError, Global};
 
 fn push_callees(targets: &[Listed<u32>], by: Use, callees: &mut Vec<u32>) -> Result<(), AllocError>

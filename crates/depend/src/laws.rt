@@ -1,8 +1,10 @@
 //! Laws of needs: functions that do nothing, whose contract is the law.
 
 ghost use Rattle.depend.specs.Laws.{NoStepLeavesNeeds, RunningFrameStaysInNeeds, CallsStayInside, FramesAreGrouped, WaitingFramesReach, FramesAreOwn, OtherLocalsAreLendable, LendableLocalsHaveNumbers, LeastSetsHaveObjects};
+ghost use Rattle.depend.specs.Checked.{LeastSetsServe};
 
 use ir_laws::runs::{accesses as frame_accesses, values};
+use ir_laws::typing::places;
 
 /// No step of a run of a typed firmware reaches more than the needs by closed sets list.
 pub fn runs()
@@ -36,7 +38,10 @@ pub fn locals()
     ensures numbered { LendableLocalsHaveNumbers }
 {}
 
-/// The least sets of a typed program have objects of the program alone.
+/// The least sets of a typed program have objects of the program alone, so needs may be made by them.
 pub fn least_sets()
-    ensures { LeastSetsHaveObjects }
-{}
+    ensures objects { LeastSetsHaveObjects }
+    ensures serve { LeastSetsServe }
+{
+    places();
+}

@@ -10,9 +10,9 @@ ghost use Rattle.depend.specs.Bounds.{HasSmallNumbers};
 ghost use Rattle.depend.specs.Lent.{Lends, IsLentBy, IsOwnOf, IsLendableFor, IsLendableByNeeds};
 
 use crate::reaching::recursive;
-use crate::unique::each_once;
 use ir_model::object::ObjId;
 use ir_program::program::Program;
+use object_sets::each_once;
 use plan_model::needs::FuncNeed;
 use std::alloc::{AllocError, Global};
 

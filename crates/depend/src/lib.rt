@@ -15,10 +15,8 @@ mod lending;
 mod need;
 mod objects;
 mod reaching;
-mod signatures;
 mod sites;
 mod targets;
-mod unique;
 mod uses;
 
 use ir_laws::limits::counts;

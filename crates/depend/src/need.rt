@@ -13,12 +13,11 @@ ghost use Rattle.depend.specs.Bounds.{HasSmallNumbers, RegistersAreThere};
 
 use crate::calls::callees;
 use crate::objects::{Access, objects};
-use crate::unique::each_once;
 use crate::uses::uses;
 use ir_model::object::ObjId;
 use ir_program::program::Program;
 use listed::Listed;
-use object_sets::PointsTo;
+use object_sets::{PointsTo, each_once};
 use plan_model::needs::FuncNeed;
 use std::alloc::{AllocError, Global};
 

@@ -11,11 +11,10 @@ ghost use Rattle.plan_model.specs.Lists.{ListsExactly};
 ghost use Rattle.depend.specs.Accesses.{AnyOf, Reaches, is_open};
 ghost use Rattle.depend.specs.Bounds.{HasSmallRegister};
 
-use crate::unique::each_once;
 use crate::uses::Use;
 use ir_model::object::ObjId;
 use ir_program::program::Program;
-use object_sets::{Node, PointsTo};
+use object_sets::{Node, PointsTo, each_once};
 use std::alloc::{AllocError, Global};
 
 /// Whether objects are read or written.

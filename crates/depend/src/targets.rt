@@ -14,13 +14,12 @@ ghost use Rattle.plan_model.specs.Lists.{ListsExactly};
 ghost use Rattle.depend.specs.Accesses.{IsTarget, IsFunctionOf, HasTargets};
 ghost use Rattle.depend.specs.Bounds.{FunctionsAreThere};
 
-use crate::signatures::has_type;
-use crate::unique::each_once;
+use ir_model::callee::has_type;
 use ir_model::object::ObjId;
 use ir_model::types::Ty;
 use ir_program::program::Program;
 use listed::Listed;
-use object_sets::{Node, PointsTo};
+use object_sets::{Node, PointsTo, each_once};
 use std::alloc::{AllocError, Global};
 
 fn push_target(

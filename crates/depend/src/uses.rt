@@ -6,8 +6,8 @@ ghost use Rattle.ir_model.specs.Layout.{Known};
 ghost use Rattle.ir_program.specs.Seen.{operation_of, sequence_of};
 ghost use Rattle.depend.specs.Uses.{used, uses_in};
 
-use crate::unique::each_once;
 use ir_program::program::{Operation, Sequence};
+use object_sets::each_once;
 use std::alloc::{AllocError, Global};
 
 /// What an instruction reaches objects or functions by.

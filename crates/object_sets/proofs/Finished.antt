@@ -1,5 +1,5 @@
 -- The rows of sets, from the rows of pairs.
-use Rattle.std.proofs.Common.{◌≡◌, ℕ, zero, suc, ◌+◌, ◌<◌, ◌≤◌, Bool, List, [], ◌∷◌, ◌++◌, get_or, length, map, Option, Some, None, refl, sym, ap, ◌∙◌, subst, arith, ◌⊎◌, inl, inr, Contains}
+use Rattle.std.proofs.Common.{◌≡◌, ℕ, zero, suc, ◌+◌, ◌<◌, ◌≤◌, List, [], ◌∷◌, ◌++◌, get_or, length, map, Option, Some, None, refl, sym, ap, ◌∙◌, subst, arith, ◌⊎◌, inl, inr, Contains}
 use Rattle.std.specs.List.Sorted.{IsStrictlySortedBy}
 use Rattle.std.specs.List.{list_any, sum}
 use Rattle.std.proofs.lemmas.List.{length-map, length-append, get_or_append_left, get_or_push}
@@ -73,3 +73,15 @@ pub four_groups : (p : Program) → length (object_groups p) ≡ 3 + length p.fu
 four_groups p =
     let e = length-append (map (λ (f : NumberedFunc). length f.locals) p.funcs) (length p.funcs ∷ []) in
     let f = length-map p.funcs (λ (f : NumberedFunc). length f.locals) in omega arith
+
+-- one row more, by the lists that were read
+pub one_pushed : (table t : List ObjId) (lists : Lists) (js : List ℕ) (node : ℕ) (rows new : List (List ObjId)) (xs ys : List ObjId) → t ≡ table → js ≡ row lists node → ys ≡ xs → new ≡ rows ++ ys ∷ [] → AreDone table lists node rows → ListsExactly compare_objects (Contains (map (object_at t) js)) xs → AreDone table lists (node + 1) new
+one_pushed table t lists js node rows new xs ys a b c e d h =
+    subst (AreDone table lists (node + 1)) (sym (e ∙ ap (λ (z : List ObjId). rows ++ z ∷ []) c))
+    (one_more table lists node rows xs d (subst (λ (s : List ObjId). ListsExactly compare_objects (Contains (map (object_at s) (row lists node))) xs) a (subst (λ (k : List ℕ). ListsExactly compare_objects (Contains (map (object_at t) k)) xs) b h)))
+
+pub sets_are : (c d : Numbering) (table : List ObjId) (lists : Lists) (rows : List (List ObjId)) (node : ℕ) → c ≡ d → IsTable c table → length table ≡ sum c.objects → IsWithin (sum d.objects) lists → AreDone table lists node rows → node ≡ length lists
+    → (n : Node) (o : Object) → sets_of (record { numbers = c; rows = rows }) n o ≡ sets_by d lists n o
+sets_are c d table lists rows node e t l w a m n o =
+    same_sets (record { numbers = c; rows = rows }) table lists t (subst (λ (k : ℕ). IsWithin k lists) (sym (l ∙ ap (λ (x : Numbering). sum x.objects) e)) w) (subst (λ (k : ℕ). AreDone table lists k rows) m a) n o
+    ∙ ap (λ (x : Numbering). sets_by x lists n o) e

@@ -1,7 +1,8 @@
 mod GroupPlaces
-mod Members
+pub mod Members
 mod RowSteps
 mod Counted
-mod Orders
-mod Numbered
+pub mod Orders
+pub mod Parts
+pub mod Numbered
 mod Finished

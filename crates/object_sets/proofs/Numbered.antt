@@ -1,6 +1,6 @@
 -- What has a number has it alone, and objects at the places of a list's numbers are those whose numbers the list has.
 use Rattle.std.proofs.Common.{◌≡◌, ℕ, zero, suc, ◌+◌, ◌<◌, Bool, true, false, List, [], ◌∷◌, take, map, get_or, length, Option, Some, None, refl, sym, ap, ◌∙◌, subst, arith, nat_lt, nat_eq, if◌then◌else◌, Contains}
-use Rattle.std.specs.List.{sum, list_any, Any}
+use Rattle.std.specs.List.{sum, list_any}
 use Rattle.std.proofs.lemmas.Bool.{false≢true, ltb-true, eqb-true, eq-eqb}
 use Rattle.std.proofs.lemmas.List.{length-map, get_or-map, get_or_default}
 use Rattle.std.proofs.lemmas.List.Folds.{Any-from_list_any, list_any_at}
@@ -13,7 +13,6 @@ use Rattle.plan_model.specs.Lists.{ListsExactly}
 use Rattle.object_sets.specs.declared.numbering.Numbering.{Numbering}
 use Rattle.object_sets.specs.Groups.{place_of, start_of}
 use Rattle.object_sets.specs.Numbers.{object_number, IsTable}
-use Rattle.object_sets.specs.Rows.{has}
 use Rattle.object_sets.specs.Sets.{same_object}
 use Rattle.object_sets.specs.Tables.{has_number, object_at}
 use Rattle.object_sets.proofs.Members.{same_is, same_self}
@@ -34,17 +33,17 @@ same_place (c ∷ cs) (suc g) (suc h) i j l m e =
     let q = sum_by-cons (λ x. x) c (take h cs) in
     let r = same_place cs g h i j l m (omega arith) in (ap suc r.0, r.1)
 
-some_is : (x y : ℕ) → Some x ≡ Some y → x ≡ y
+pub some_is : (x y : ℕ) → Some x ≡ Some y → x ≡ y
 some_is x y e = cc
 
-none_is : (r : Option ℕ) (x : ℕ) → r ≡ None → r ≡ Some x → ⊥
+pub none_is : (r : Option ℕ) (x : ℕ) → r ≡ None → r ≡ Some x → ⊥
 none_is r x n e = cc
 
-guarded : (b : Bool) (r : Option ℕ) (k : ℕ) → (if b then r else None) ≡ Some k → (b ≡ true) × (r ≡ Some k)
+pub guarded : (b : Bool) (r : Option ℕ) (k : ℕ) → (if b then r else None) ≡ Some k → (b ≡ true) × (r ≡ Some k)
 guarded true r k e = (refl, e)
 guarded false r k e = absurd (none_is None k refl e)
 
-place_at : (cs : List ℕ) (g i k : ℕ) → place_of cs g i ≡ Some k → (i < get_or cs g 0) × (sum (take g cs) + i ≡ k)
+pub place_at : (cs : List ℕ) (g i k : ℕ) → place_of cs g i ≡ Some k → (i < get_or cs g 0) × (sum (take g cs) + i ≡ k)
 place_at cs g i k e =
     let h = guarded (nat_lt i (get_or cs g 0)) (Some (start_of cs g + i)) k e in
     (ltb-true i (get_or cs g 0) h.0, some_is (start_of cs g + i) k h.1)

@@ -1,6 +1,7 @@
 //! Sets of objects for the nodes of a firmware: registers, contents of objects and results of functions.
 #![tactic(auto)]
 
+mod finish;
 mod groups;
 mod node;
 mod numbering;
@@ -8,6 +9,7 @@ mod pairs;
 mod points_to;
 mod rows;
 mod steps;
+mod unique;
 
 pub use groups::Groups;
 pub use node::Node;
@@ -16,3 +18,4 @@ pub use pairs::Pairs;
 pub use points_to::PointsTo;
 pub use rows::Rows;
 pub use steps::Steps;
+pub use unique::each_once;

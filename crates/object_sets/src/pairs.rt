@@ -1,11 +1,20 @@
 //! Pairs of a node and an object, by their numbers.
 
 ghost use Rattle.std.specs.Prelude.{◌≡◌, ◌+◌, ◌<◌, [], length, not, replicate, slice_get, IfOk, OnOk, OnErr, IfSome};
+ghost use Rattle.std.specs.List.{sum};
+ghost use Rattle.ir_laws.specs.Sets.{Node};
+ghost use Rattle.ir_model.specs.State.{Object};
+ghost use Rattle.ir_program.specs.Seen.{program_of};
+ghost use Rattle.object_sets.specs.Numbers.{numbering_of};
 ghost use Rattle.object_sets.specs.Rows.{has, row, added};
-ghost use Rattle.object_sets.specs.Tables.{Table};
+ghost use Rattle.object_sets.specs.Sets.{sets_of};
+ghost use Rattle.object_sets.specs.Tables.{Table, sets_by};
 
+use crate::finish::finish;
+use crate::points_to::PointsTo;
 use crate::rows::Rows;
 use crate::steps::Steps;
+use ir_program::program::Program;
 use std::alloc::{AllocError, Global};
 use std::marker::Model;
 use std::sync::ledger::Ledger;
@@ -72,5 +81,18 @@ impl Pairs {
     {
         steps.tick();
         self.rows.get(node, place)
+    }
+    /// The sets of objects of a program that the pairs are: for each node its objects, in rising order.
+    ///
+    /// # Errors
+    ///
+    /// There is no memory for them.
+    pub fn done(self, alloc: Global, program: &Program) -> Result<PointsTo, AllocError>
+        requires nodes { length self.rows ≡ sum (numbering_of (program_of program.now)).nodes }
+        requires objects { self.objects ≡ sum (numbering_of (program_of program.now)).objects }
+        ensures numbers { IfOk result (λ sets. sets.numbers ≡ numbering_of (program_of program.now)) }
+        ensures exact { IfOk result (λ sets. (n : Node) (o : Object) → sets_of sets n o ≡ sets_by (numbering_of (program_of program.now)) self.rows n o) }
+    {
+        finish(alloc, program, &self.rows)
     }
 }

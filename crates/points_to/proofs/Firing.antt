@@ -1,13 +1,13 @@
 -- What is asked for a pair is found, one trigger after another.
-use Rattle.std.proofs.Common.{◌≡◌, ℕ, zero, suc, ◌+◌, ◌<◌, ◌≤◌, Bool, true, false, List, [], ◌∷◌, length, get_or, refl, sym, ap, ◌∙◌, subst, arith, ◌⊎◌, inl, inr, Option, Some, None, slice_get, below_more}
+use Rattle.std.proofs.Common.{◌≡◌, ℕ, zero, suc, ◌+◌, ◌<◌, ◌≤◌, true, List, [], ◌∷◌, length, get_or, refl, sym, ◌∙◌, subst, arith, inl, inr, Option, Some, None, slice_get, below_more}
 use Rattle.points_to.specs.declared.rules.Pair.{Pair}
 use Rattle.points_to.specs.declared.rules.Edge.{Edge}
 use Rattle.points_to.specs.declared.rules.Trigger.{Trigger}
 use Rattle.points_to.specs.declared.state.State.{State}
 use Rattle.points_to.specs.declared.state.System.{System}
-use Rattle.points_to.specs.Rules.{Says, Passes, OnEdge, no_edge, no_pair}
-use Rattle.points_to.specs.Searching.{lists_in, asked, ObeysAll, pair_at, is_in, Holds, Grown, IsPut, IsFound, IsFired}
-use Rattle.points_to.proofs.Putting.{holds_put, grown_put, has_put, grown_none, grown_both}
+use Rattle.points_to.specs.Rules.{Says, Passes, OnEdge}
+use Rattle.points_to.specs.Searching.{lists_in, asked, ObeysAll, is_in, Holds, Grown, IsFound, IsFired, IsAsked}
+use Rattle.points_to.proofs.Putting.{grown_none, grown_both}
 
 abbrev triggers : System → Pair → List Trigger
 triggers w x = get_or (lists_in w.rules.triggers) x.node []
@@ -47,6 +47,16 @@ pub fire_allowed : (w : System) (s t : State) (x : Pair) (k : ℕ) (r : Option T
 fire_allowed w s t x k r g c h f e Q q =
     let i = trigger_is (triggers w x) k g (sym f ∙ e) in
     subst (λ (y : Trigger). OnEdge (asked w y x.object) (Passes Q)) (i.1 g) (q.triggers x.node k x.object g i.0 (c.holds.below Q q x.node x.object (c.grown.rows x.node x.object h)))
+
+on_made : (o : Option Edge) (P : Edge → Type 0) → ((e : Edge) → o ≡ Some e → P e) → OnEdge o P
+on_made None P h = tt
+on_made (Some e) P h = h e refl
+
+-- what a trigger of a pair asks for is asked for
+pub fire_asked : (w : System) (s t : State) (x : Pair) (k : ℕ) (r : Option Trigger) (g : Trigger) → IsFiring w s t x k → is_in s.pairs.rows x.node x.object ≡ true → r ≡ slice_get (get_or (lists_in w.rules.triggers) x.node []) k → r ≡ Some g → OnEdge (asked w g x.object) (IsAsked w t.pairs.rows)
+fire_asked w s t x k r g c h f e =
+    let i = trigger_is (triggers w x) k g (sym f ∙ e) in
+    on_made (asked w g x.object) (IsAsked w t.pairs.rows) (λ a q. inr (record { node = x.node; object = x.object; by = g; listed = (k, i.0, i.1 g); has = c.grown.rows x.node x.object h; asks = q }))
 
 pub fire_next : (w : System) (s t u : State) (x : Pair) (k : ℕ) (r : Option Trigger) (g : Trigger) → IsFiring w s t x k → r ≡ slice_get (get_or (lists_in w.rules.triggers) x.node []) k → r ≡ Some g → Holds w u → Grown t u → u.next ≡ t.next → OnEdge (asked w g x.object) (IsFound u.edges) → IsFiring w s u x (k + 1)
 fire_next w s t u x k r g c f e h n z q =

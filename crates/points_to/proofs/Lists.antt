@@ -1,8 +1,10 @@
 -- Lists without repeats that grow.
 use Rattle.std.proofs.Common.{◌≡◌, ℕ, zero, suc, ◌+◌, ◌<◌, ◌≤◌, Bool, true, false, ◌||◌, List, [], ◌∷◌, ◌++◌, length, get_or, set, refl, sym, ap, ◌∙◌, subst, arith, nat_eq, if◌then◌else◌, ◌⊎◌, inl, inr}
-use Rattle.std.specs.List.{list_any}
+use Rattle.std.specs.List.{IsDistinct}
 use Rattle.std.proofs.lemmas.Bool.{false≢true, eqb-true, eq-eqb}
-use Rattle.std.proofs.lemmas.List.{length-set, get_or-set_same}
+use Rattle.std.proofs.lemmas.List.{length-set, get_or-set_same, length-append}
+use Rattle.std.proofs.lemmas.Map.Keys.{IsDistinct-push}
+use Rattle.std.specs.Cmp.{nat_eq_equiv}
 use Rattle.object_sets.specs.Rows.{Lists, has, row, added}
 use Rattle.points_to.specs.Searching.{is_in}
 
@@ -102,3 +104,35 @@ pub at_has : (xs : List ℕ) (k : ℕ) → k < length xs → has (get_or xs k 0)
 at_has [] k l = absurd (omega arith)
 at_has (x ∷ xs) zero l = or_left (nat_eq x x) (has x xs) (eq-eqb x x refl)
 at_has (x ∷ xs) (suc k) l = or_true (nat_eq (get_or xs k 0) x) (has (get_or xs k 0) xs) (at_has xs k (omega arith))
+
+-- lists grow
+pub put_longer : (rows : Lists) (n o m : ℕ) → length (row rows m) ≤ length (row (set rows n (row rows n ++ o ∷ [])) m)
+put_longer rows n o m = set_each (λ i r. length (row rows i) ≤ length r) rows n (row rows n ++ o ∷ []) (λ i. omega arith) (let e = length-append (row rows n) (o ∷ []) in omega arith) m
+
+pub added_longer : (rows : Lists) (n o m : ℕ) → length (row rows m) ≤ length (row (added rows n o) m)
+added_longer rows n o m = pick (is_in rows n o)
+  where
+    pick : (b : Bool) → length (row rows m) ≤ length (row (if b then rows else set rows n (row rows n ++ o ∷ [])) m)
+    pick true = omega arith
+    pick false = put_longer rows n o m
+
+pub put_more : (rows : Lists) (n o : ℕ) → n < length rows → length (row (set rows n (row rows n ++ o ∷ [])) n) ≡ length (row rows n) + 1
+put_more rows n o l = ap length (get_or-set_same rows n (row rows n ++ o ∷ []) [] l) ∙ length-append (row rows n) (o ∷ [])
+
+pub added_more : (rows : Lists) (n o : ℕ) → n < length rows → is_in rows n o ≡ false → length (row (added rows n o) n) ≡ length (row rows n) + 1
+added_more rows n o l e = pick (is_in rows n o) e
+  where
+    pick : (b : Bool) → b ≡ false → length (row (if b then rows else set rows n (row rows n ++ o ∷ [])) n) ≡ length (row rows n) + 1
+    pick true q = absurd (false≢true (sym q))
+    pick false q = put_more rows n o l
+
+-- lists without repeats stay so
+pub put_distinct : (rows : Lists) (n o : ℕ) → ((i : ℕ) → IsDistinct nat_eq (row rows i)) → is_in rows n o ≡ false → (i : ℕ) → IsDistinct nat_eq (row (set rows n (row rows n ++ o ∷ [])) i)
+put_distinct rows n o h e = set_each (λ i r. IsDistinct nat_eq r) rows n (row rows n ++ o ∷ []) h (IsDistinct-push nat_eq_equiv (row rows n) o (h n) e)
+
+pub added_distinct : (rows : Lists) (n o : ℕ) → ((i : ℕ) → IsDistinct nat_eq (row rows i)) → (i : ℕ) → IsDistinct nat_eq (row (added rows n o) i)
+added_distinct rows n o h = pick (is_in rows n o) refl
+  where
+    pick : (b : Bool) → is_in rows n o ≡ b → (i : ℕ) → IsDistinct nat_eq (row (if b then rows else set rows n (row rows n ++ o ∷ [])) i)
+    pick true e = h
+    pick false e = put_distinct rows n o h e

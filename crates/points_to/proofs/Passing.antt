@@ -1,12 +1,11 @@
 -- The next pair is passed on.
-use Rattle.std.proofs.Common.{◌≡◌, ℕ, zero, suc, ◌+◌, ◌<◌, ◌≤◌, Bool, true, false, List, [], ◌∷◌, length, get_or, refl, sym, ap, ◌∙◌, subst, arith, ◌⊎◌, inl, inr, Option, Some, None, slice_get, below_more}
+use Rattle.std.proofs.Common.{◌≡◌, ℕ, ◌+◌, ◌<◌, ◌≤◌, true, length, get_or, refl, sym, ap, ◌∙◌, subst, arith, ◌⊎◌, inl, inr, Option, Some, None, slice_get, below_more}
 use Rattle.std.proofs.lemmas.Bool.{cases_lt}
-use Rattle.object_sets.specs.Rows.{Lists, row, added}
+use Rattle.object_sets.specs.Rows.{Lists, row}
 use Rattle.points_to.specs.declared.rules.Pair.{Pair}
 use Rattle.points_to.specs.declared.state.State.{State}
 use Rattle.points_to.specs.declared.state.System.{System}
-use Rattle.points_to.specs.Rules.{Says}
-use Rattle.points_to.specs.Searching.{ObeysAll, pair_at, is_in, IsSound, Holds, Grown, IsPut}
+use Rattle.points_to.specs.Searching.{pair_at, is_in, IsSound, Holds, Grown, IsPut}
 use Rattle.points_to.proofs.Lists.{has_at, at_has}
 use Rattle.points_to.proofs.Putting.{holds_put, grown_put, has_put, grown_none, grown_both}
 use Rattle.points_to.proofs.Copying.{taken, none_left}
@@ -22,10 +21,11 @@ pub record IsPassing (w : System) (s t : State) (x : Pair) (k : ℕ) : Type 0 wh
   pub grown : Grown s t
   pub edges : t.edges ≡ s.edges
   pub next : t.next ≡ s.next
+  pub upto : k ≤ length (row s.edges x.node)
   pub each : (j : ℕ) → j < k → is_in t.pairs.rows (get_or (row t.edges x.node) j 0) x.object ≡ true
 
 pub pass_none : (w : System) (s : State) (x : Pair) → Holds w s → IsPassing w s s x 0
-pass_none w s x h = record { holds = h; grown = grown_none s; edges = refl; next = refl; each = λ j l. absurd (omega arith) }
+pass_none w s x h = record { holds = h; grown = grown_none s; edges = refl; next = refl; upto = omega arith; each = λ j l. absurd (omega arith) }
 
 pub there : (w : System) (s t : State) (x : Pair) → IsNext w s x → Grown s t → is_in t.pairs.rows x.node x.object ≡ true
 there w s t x n g = g.rows x.node x.object (subst (λ (p : Pair). is_in s.pairs.rows p.node p.object ≡ true) (sym n.is) (n.holds.kept s.next n.next_in))
@@ -55,6 +55,7 @@ pass_next w s t u x k m to r n c z q f g = subst (IsPassing w s u x) (sym z) (
       grown = grown_both s t u c.grown (grown_put t u to x.object q);
       edges = q.edges ∙ c.edges;
       next = q.next ∙ c.next;
+      upto = (let y = h.0 in let z = ap (λ (l : Lists). length (row l x.node)) c.edges in omega arith);
       each = below_more (λ j. is_in u.pairs.rows (get_or (row u.edges x.node) j 0) x.object ≡ true) k
           (λ j i. subst (λ (y : Lists). is_in u.pairs.rows (get_or (row y x.node) j 0) x.object ≡ true) (sym q.edges) ((grown_put t u to x.object q).rows _ x.object (c.each j i)))
           (subst (λ (y : Lists). is_in u.pairs.rows (get_or (row y x.node) k 0) x.object ≡ true) (sym q.edges) (subst (λ y. is_in u.pairs.rows y x.object ≡ true) (sym h.1) (has_put t u to x.object q a)));
@@ -73,6 +74,10 @@ pass_all w s t x k m r n c z f g =
       targets = c.holds.targets;
       below = c.holds.below;
       justified = c.holds.justified;
+      once = c.holds.once;
+      apart = c.holds.apart;
+      needed = c.holds.needed;
+      counted = c.holds.counted;
       next_in = omega arith;
       flows = λ i b l q. elim (split i (omega arith)) [
         | inl d ↦ c.holds.flows i b d q

@@ -1,13 +1,16 @@
 -- One pair more.
-use Rattle.std.proofs.Common.{◌≡◌, ℕ, zero, suc, ◌+◌, ◌<◌, ◌≤◌, Bool, true, false, List, [], ◌∷◌, ◌++◌, length, get_or, set, refl, sym, ap, ◌∙◌, subst, arith, if◌then◌else◌, ◌⊎◌, inl, inr, length-append}
+use Rattle.std.proofs.Common.{◌≡◌, ℕ, zero, suc, ◌+◌, ◌<◌, ◌≤◌, Bool, true, false, List, [], ◌∷◌, ◌++◌, length, set, nat_eq, refl, sym, ap, ◌∙◌, subst, arith, if◌then◌else◌, ◌⊎◌, inl, inr}
 use Rattle.std.proofs.lemmas.List.{length-set}
+use Rattle.std.proofs.lemmas.Bool.{eqb-true}
 use Rattle.object_sets.specs.Rows.{Lists, row, added}
 use Rattle.points_to.specs.declared.rules.Pair.{Pair}
 use Rattle.points_to.specs.declared.state.State.{State}
 use Rattle.points_to.specs.declared.state.System.{System}
-use Rattle.points_to.specs.Rules.{Says, no_pair}
-use Rattle.points_to.specs.Searching.{ObeysAll, pair_at, is_in, IsLogged, IsSound, Holds, Grown, IsPut}
-use Rattle.points_to.proofs.Lists.{put_cases, put_kept, put_new, added_kept, added_new, added_count}
+use Rattle.points_to.specs.Rules.{Says}
+use Rattle.points_to.specs.Searching.{ObeysAll, pair_at, is_in, IsLogged, IsAsked, IsNeeded, one_if, handled, IsSound, Holds, Grown, IsPut}
+use Rattle.points_to.specs.declared.rules.Edge.{Edge}
+use Rattle.points_to.proofs.Handled.{handled_same}
+use Rattle.points_to.proofs.Lists.{put_cases, put_kept, put_new, put_more, put_longer, put_distinct, added_kept, added_new, added_count, added_longer}
 
 before_end : (l : List Pair) (p : Pair) (i : ℕ) → i < length l → pair_at (l ++ p ∷ []) i ≡ pair_at l i
 before_end [] p i h = absurd (omega arith)
@@ -47,9 +50,40 @@ logged_end l n o m x e f = let u = longer l (record { node = n; object = o }) in
   object = ap (λ (y : Pair). y.object) (at_end l (record { node = n; object = o })) ∙ sym f;
 }
 
-sound_new : (w : System) (rows : Lists) (objects : ℕ) (l : List Pair) (edges : Lists) (next n o : ℕ) → IsSound w rows objects l edges next → n < length rows → o < objects → ((Q : Says) → ObeysAll w Q → Q n o ≡ true)
+-- what was asked for is still asked for
+pub still_asked : (w : System) (rows more : Lists) (e : Edge) → ((n o : ℕ) → is_in rows n o ≡ true → is_in more n o ≡ true) → IsAsked w rows e → IsAsked w more e
+still_asked w rows more e h (inl i) = inl i
+still_asked w rows more e h (inr t) = inr (record { node = t.node; object = t.object; by = t.by; listed = t.listed; has = h t.node t.object t.has; asks = t.asks })
+
+pub still_needed : (w : System) (rows more : Lists) (a b : ℕ) → ((n o : ℕ) → is_in rows n o ≡ true → is_in more n o ≡ true) → IsNeeded w rows a b → IsNeeded w more a b
+still_needed w rows more a b h n = record { apart = n.apart; asked = still_asked w rows more (record { from = a; to = b }) h n.asked }
+
+-- one pair more is handled once
+counted_new : (rows : Lists) (l : List Pair) (n o a : ℕ) → ((m : ℕ) → handled m (length l) l ≤ length (row rows m)) → n < length rows
+    → handled a (length (l ++ record { node = n; object = o } ∷ [])) (l ++ record { node = n; object = o } ∷ []) ≤ length (row (set rows n (row rows n ++ o ∷ [])) a)
+counted_new rows l n o a h b =
+    subst (λ k. handled a k (l ++ record { node = n; object = o } ∷ []) ≤ length (row (set rows n (row rows n ++ o ∷ [])) a)) (sym (longer l (record { node = n; object = o }))) (
+    let same = handled_same a (length l) l (l ++ record { node = n; object = o } ∷ []) (λ i j. before_end l (record { node = n; object = o }) i j) in
+    let last : one_if (nat_eq (pair_at (l ++ record { node = n; object = o } ∷ []) (length l)).node a) ≡ one_if (nat_eq n a) = ap (λ (p : Pair). one_if (nat_eq p.node a)) (at_end l (record { node = n; object = o })) in
+    let old = h a in
+    by (nat_eq n a) refl same last old)
+  where
+    by : (c : Bool) → nat_eq n a ≡ c → handled a (length l) (l ++ record { node = n; object = o } ∷ []) ≡ handled a (length l) l
+        → one_if (nat_eq (pair_at (l ++ record { node = n; object = o } ∷ []) (length l)).node a) ≡ one_if (nat_eq n a) → handled a (length l) l ≤ length (row rows a)
+        → handled a (suc (length l)) (l ++ record { node = n; object = o } ∷ []) ≤ length (row (set rows n (row rows n ++ o ∷ [])) a)
+    by true q same last old =
+        let e : n ≡ a = eqb-true n a q in
+        let one : one_if (nat_eq n a) ≡ 1 = ap one_if q in
+        let more : length (row (set rows n (row rows n ++ o ∷ [])) a) ≡ length (row rows a) + 1 = subst (λ x. length (row (set rows n (row rows n ++ o ∷ [])) x) ≡ length (row rows x) + 1) e (put_more rows n o b) in
+        omega arith
+    by false q same last old =
+        let none : one_if (nat_eq n a) ≡ 0 = ap one_if q in
+        let grown = put_longer rows n o a in
+        omega arith
+
+sound_new : (w : System) (rows : Lists) (objects : ℕ) (l : List Pair) (edges : Lists) (next n o : ℕ) → IsSound w rows objects l edges next → n < length rows → o < objects → is_in rows n o ≡ false → ((Q : Says) → ObeysAll w Q → Q n o ≡ true)
     → IsSound w (set rows n (row rows n ++ o ∷ [])) objects (l ++ record { node = n; object = o } ∷ []) edges next
-sound_new w rows objects l edges next n o g a b allowed =
+sound_new w rows objects l edges next n o g a b new allowed =
     let e = length-set rows n (row rows n ++ o ∷ []) in
     let u = longer l (record { node = n; object = o }) in
     let y = g.next_in in
@@ -63,17 +97,21 @@ sound_new w rows objects l edges next n o g a b allowed =
       targets = λ m x h. let v = g.targets m x h in omega arith;
       below = λ Q q m x h. elim (put_cases rows n o m x h) [ inl v ↦ g.below Q q m x v | inr v ↦ subst (λ i. Q i x ≡ true) (sym v.0) (subst (λ i. Q n i ≡ true) (sym v.1) (allowed Q q)) ];
       justified = g.justified;
+      once = g.once;
+      apart = put_distinct rows n o g.apart new;
+      needed = λ x y h. still_needed w rows (set rows n (row rows n ++ o ∷ [])) x y (λ m z i. put_kept rows n o m z i) (g.needed x y h);
+      counted = λ m. counted_new rows l n o m g.counted a;
       flows = λ i m h q. let v : i < length l = omega arith in let r = before_end l (record { node = n; object = o }) i v in
           subst (λ (p : Pair). is_in (set rows n (row rows n ++ o ∷ [])) m p.object ≡ true) (sym r) (put_kept rows n o m _ (g.flows i m h (subst (λ (p : Pair). is_in edges p.node m ≡ true) r q)));
     }
 
 sound_put : (w : System) (rows : Lists) (objects : ℕ) (l : List Pair) (edges : Lists) (next n o : ℕ) → IsSound w rows objects l edges next → n < length rows → o < objects → ((Q : Says) → ObeysAll w Q → Q n o ≡ true)
     → IsSound w (added rows n o) objects (if is_in rows n o then l else l ++ record { node = n; object = o } ∷ []) edges next
-sound_put w rows objects l edges next n o g a b allowed = pick (is_in rows n o)
+sound_put w rows objects l edges next n o g a b allowed = pick (is_in rows n o) refl
   where
-    pick : (c : Bool) → IsSound w (if c then rows else set rows n (row rows n ++ o ∷ [])) objects (if c then l else l ++ record { node = n; object = o } ∷ []) edges next
-    pick true = g
-    pick false = sound_new w rows objects l edges next n o g a b allowed
+    pick : (c : Bool) → is_in rows n o ≡ c → IsSound w (if c then rows else set rows n (row rows n ++ o ∷ [])) objects (if c then l else l ++ record { node = n; object = o } ∷ []) edges next
+    pick true e = g
+    pick false e = sound_new w rows objects l edges next n o g a b e allowed
 
 pub holds_put : (w : System) (s t : State) (n o : ℕ) → Holds w s → IsPut s t n o → n < length s.pairs.rows → o < s.pairs.objects → ((Q : Says) → ObeysAll w Q → Q n o ≡ true) → Holds w t
 holds_put w s t n o h q a b allowed =
@@ -100,13 +138,14 @@ grown_put s t n o q = record {
   log = λ i h. ap (λ (l : List Pair). pair_at l i) q.log ∙ log_kept (is_in s.pairs.rows n o) s.log.items (record { node = n; object = o }) i h;
   count = ap length q.rows ∙ added_count s.pairs.rows n o;
   objects = q.objects;
+  lengths = λ m. subst (λ (r : Lists). length (row s.pairs.rows m) ≤ length (row r m)) (sym q.rows) (added_longer s.pairs.rows n o m);
 }
 
 pub has_put : (s t : State) (n o : ℕ) → IsPut s t n o → n < length s.pairs.rows → is_in t.pairs.rows n o ≡ true
 has_put s t n o q l = subst (λ r. is_in r n o ≡ true) (sym q.rows) (added_new s.pairs.rows n o l)
 
 pub grown_none : (s : State) → Grown s s
-grown_none s = record { rows = λ n o h. h; edges = λ a b h. h; log_count = omega arith; log = λ i h. refl; count = refl; objects = refl }
+grown_none s = record { rows = λ n o h. h; edges = λ a b h. h; log_count = omega arith; log = λ i h. refl; count = refl; objects = refl; lengths = λ n. omega arith }
 
 pub grown_both : (s t u : State) → Grown s t → Grown t u → Grown s u
 grown_both s t u g h = let a = g.log_count in let b = h.log_count in record {
@@ -116,4 +155,5 @@ grown_both s t u g h = let a = g.log_count in let b = h.log_count in record {
   log = λ i q. h.log i (omega arith) ∙ g.log i q;
   count = h.count ∙ g.count;
   objects = h.objects ∙ g.objects;
+  lengths = λ n. let x = g.lengths n in let y = h.lengths n in omega arith;
 }

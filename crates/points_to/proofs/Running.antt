@@ -1,5 +1,6 @@
 -- A search, from its beginning to its end.
-use Rattle.std.proofs.Common.{◌≡◌, ℕ, zero, suc, ◌+◌, ◌<◌, ◌≤◌, Bool, true, false, List, [], ◌∷◌, length, get_or, replicate, refl, sym, ap, ◌∙◌, subst, arith, ◌⊎◌, inl, inr}
+use Rattle.std.proofs.Common.{◌≡◌, ℕ, zero, suc, ◌+◌, ◌<◌, ◌≤◌, true, List, [], length, get_or, replicate, refl, sym, ap, ◌∙◌, subst, arith, inl, inr, nat_eq}
+use Rattle.std.specs.List.{IsDistinct}
 use Rattle.std.proofs.lemmas.Bool.{false≢true, cases_lt}
 use Rattle.object_sets.specs.Rows.{Lists, row}
 use Rattle.points_to.specs.declared.rules.Pair.{Pair}
@@ -7,7 +8,7 @@ use Rattle.points_to.specs.declared.rules.Edge.{Edge}
 use Rattle.points_to.specs.declared.rules.Trigger.{Trigger}
 use Rattle.points_to.specs.declared.state.State.{State}
 use Rattle.points_to.specs.declared.state.System.{System}
-use Rattle.points_to.specs.Rules.{Says, Passes, OnEdge, no_edge, no_pair}
+use Rattle.points_to.specs.Rules.{Passes, OnEdge, no_edge}
 use Rattle.points_to.specs.Searching.{lists_in, asked, ObeysAll, pair_at, is_in, IsSound, Holds, Grown, IsFound, IsFired, IsLogged}
 use Rattle.points_to.proofs.Putting.{grown_both}
 use Rattle.points_to.proofs.Firing.{on_edge, found_more}
@@ -17,7 +18,13 @@ none_in zero a b e = false≢true e
 none_in (suc n) zero b e = false≢true e
 none_in (suc n) (suc a) b e = none_in n a b e
 
+none_row : (n a : ℕ) → row (replicate n []) a ≡ []
+none_row zero a = refl
+none_row (suc n) zero = refl
+none_row (suc n) (suc a) = none_row n a
+
 pub sound_none : (w : System) (n m : ℕ) → IsSound w (replicate n []) m [] (replicate n []) 0
+unfolding IsDistinct
 sound_none w n m = record {
   count = refl;
   next_in = omega arith;
@@ -28,6 +35,10 @@ sound_none w n m = record {
   targets = λ a b h. absurd (none_in n a b h);
   below = λ Q q a b h. absurd (none_in n a b h);
   justified = λ Q q a b o h i. absurd (none_in n a b h);
+  once = λ a. subst (IsDistinct nat_eq) (sym (none_row n a)) tt;
+  apart = λ a. subst (IsDistinct nat_eq) (sym (none_row n a)) tt;
+  needed = λ a b h. absurd (none_in n a b h);
+  counted = λ a. omega arith;
   flows = λ i b l. absurd (omega arith);
 }
 

@@ -1,11 +1,11 @@
 -- Facts and copies at the beginning.
-use Rattle.std.proofs.Common.{◌≡◌, ℕ, zero, suc, ◌+◌, ◌<◌, ◌≤◌, true, List, [], ◌∷◌, length, get_or, refl, sym, ap, ◌∙◌, subst, arith, below_more}
+use Rattle.std.proofs.Common.{◌≡◌, ℕ, ◌+◌, ◌<◌, true, length, get_or, refl, sym, ◌∙◌, subst, arith, below_more}
 use Rattle.points_to.specs.declared.rules.Pair.{Pair}
 use Rattle.points_to.specs.declared.rules.Edge.{Edge}
 use Rattle.points_to.specs.declared.state.State.{State}
 use Rattle.points_to.specs.declared.state.System.{System}
-use Rattle.points_to.specs.Rules.{Says, Passes, no_edge, no_pair}
-use Rattle.points_to.specs.Searching.{ObeysAll, pair_at, is_in, Holds, Grown, IsPut, IsFound}
+use Rattle.points_to.specs.Rules.{no_edge}
+use Rattle.points_to.specs.Searching.{pair_at, is_in, Holds, Grown, IsPut, IsFound}
 use Rattle.points_to.proofs.Putting.{holds_put, grown_put, has_put, grown_none, grown_both}
 use Rattle.points_to.proofs.Firing.{found_more}
 

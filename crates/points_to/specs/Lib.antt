@@ -1,2 +1,5 @@
 pub mod Rules
 pub mod Searching
+pub mod Demands
+pub mod Gathered
+pub mod Edges

@@ -1,5 +1,5 @@
 -- What sets of objects have to obey, over the numbers of nodes and objects.
-use Rattle.std.specs.Prelude.{◌≡◌, ℕ, ◌+◌, ◌-◌, ◌<◌, Bool, true, false, ◌&&◌, List, [], length, get_or, Option, Some, None, nat_le, nat_lt, if◌then◌else◌}
+use Rattle.std.specs.Prelude.{◌≡◌, ℕ, ◌+◌, ◌-◌, ◌<◌, Bool, true, ◌&&◌, List, [], length, get_or, Option, Some, None, nat_le, nat_lt, if◌then◌else◌}
 use Rattle.ir_model.specs.Types.{PlainType, type_of, same}
 use Rattle.ir_model.specs.Resolved.{Program, register_type}
 use Rattle.ir_model.specs.Signatures.{signature}

@@ -1,5 +1,6 @@
 -- What holds during a search.
-use Rattle.std.specs.Prelude.{◌≡◌, ℕ, ◌<◌, ◌≤◌, ◌⊎◌, Bool, true, List, [], ◌∷◌, ◌++◌, length, get_or, map, Vec, Option, if◌then◌else◌}
+use Rattle.std.specs.Prelude.{◌≡◌, ◌≢◌, ℕ, zero, suc, ◌+◌, ◌*◌, ◌<◌, ◌≤◌, ◌⊎◌, Bool, true, false, List, [], ◌∷◌, ◌++◌, length, get_or, map, Vec, Option, Some, nat_eq, if◌then◌else◌, Contains}
+use Rattle.std.specs.List.{IsDistinct}
 use Rattle.ir_program.specs.Seen.{program_of}
 use Rattle.object_sets.specs.Rows.{Lists, has, row, added}
 use Rattle.points_to.specs.declared.rules.Pair.{Pair}
@@ -7,7 +8,7 @@ use Rattle.points_to.specs.declared.rules.Edge.{Edge}
 use Rattle.points_to.specs.declared.rules.Trigger.{Trigger}
 use Rattle.points_to.specs.declared.state.State.{State}
 use Rattle.points_to.specs.declared.state.System.{System}
-use Rattle.points_to.specs.Rules.{Says, Passes, OnEdge, no_pair, no_edge, edge_of, Obeys}
+use Rattle.points_to.specs.Rules.{Says, OnEdge, no_pair, edge_of, Obeys}
 
 abbrev pub lists_in : {A : Type 0} → Vec (Vec Trigger A) A → List (List Trigger)
 lists_in {A = A} v = map (λ (x : Vec Trigger A). x.items) v.items
@@ -28,12 +29,38 @@ pub record IsLogged (l : List Pair) (n o : ℕ) : Type 0 where
   pub node : (pair_at l at).node ≡ n
   pub object : (pair_at l at).object ≡ o
 
+-- an edge that a trigger asks for, for an object of its node
+pub record IsTriggered (w : System) (rows : Lists) (e : Edge) : Type 0 where
+  pub node : ℕ
+  pub object : ℕ
+  pub by : Trigger
+  pub listed : Contains (get_or (lists_in w.rules.triggers) node []) by
+  pub has : is_in rows node object ≡ true
+  pub asks : edge_of (program_of w.callees.program.now) w.callees.numbering by object ≡ Some e
+
+abbrev pub IsAsked : System → Lists → Edge → Type 0
+IsAsked w rows e = Contains w.rules.copies.items e ⊎ IsTriggered w rows e
+
+-- an edge between different nodes that is asked for
+pub record IsNeeded (w : System) (rows : Lists) (a b : ℕ) : Type 0 where
+  pub apart : a ≢ b
+  pub asked : IsAsked w rows (record { from = a; to = b })
+
+abbrev pub one_if : Bool → ℕ
+one_if true = 1
+one_if false = 0
+
+-- how many of the first pairs are of a node
+abbrev pub handled : (node count : ℕ) → List Pair → ℕ
+handled a zero l = 0
+handled a (suc k) l = handled a k l + one_if (nat_eq (pair_at l k).node a)
+
 -- nodes that are equal need not be passed on
 abbrev pub IsFound : Lists → Edge → Type 0
 IsFound edges e = (e.from ≡ e.to) ⊎ (is_in edges e.from e.to ≡ true)
 
 -- the pairs are those that were found, and all sets that obey have them; the edges are such that all sets that obey pass
--- them on; and of the first pairs each was passed on along the edges
+-- them on, and are asked for; and of the first pairs each was passed on along the edges
 pub record IsSound (w : System) (rows : Lists) (objects : ℕ) (l : List Pair) (edges : Lists) (next : ℕ) : Type 0 where
   pub count : length edges ≡ length rows
   pub next_in : next ≤ length l
@@ -44,6 +71,10 @@ pub record IsSound (w : System) (rows : Lists) (objects : ℕ) (l : List Pair) (
   pub targets : (a b : ℕ) → is_in edges a b ≡ true → b < length rows
   pub below : (Q : Says) → ObeysAll w Q → (n o : ℕ) → is_in rows n o ≡ true → Q n o ≡ true
   pub justified : (Q : Says) → ObeysAll w Q → (a b o : ℕ) → is_in edges a b ≡ true → Q a o ≡ true → Q b o ≡ true
+  pub once : (a : ℕ) → IsDistinct nat_eq (row edges a)
+  pub apart : (a : ℕ) → IsDistinct nat_eq (row rows a)
+  pub needed : (a b : ℕ) → is_in edges a b ≡ true → IsNeeded w rows a b
+  pub counted : (a : ℕ) → handled a (length l) l ≤ length (row rows a)
   pub flows : (i b : ℕ) → i < next → is_in edges (pair_at l i).node b ≡ true → is_in rows b (pair_at l i).object ≡ true
 
 abbrev pub Holds : System → State → Type 0
@@ -56,6 +87,7 @@ pub record Grown (old new : State) : Type 0 where
   pub log : (i : ℕ) → i < length old.log.items → pair_at new.log.items i ≡ pair_at old.log.items i
   pub count : length new.pairs.rows ≡ length old.pairs.rows
   pub objects : new.pairs.objects ≡ old.pairs.objects
+  pub lengths : (n : ℕ) → length (row old.pairs.rows n) ≤ length (row new.pairs.rows n)
 
 -- one pair was put
 pub record IsPut (old new : State) (n o : ℕ) : Type 0 where
@@ -71,6 +103,7 @@ pub record IsCopied (old new : State) (e : Edge) : Type 0 where
   pub edges : new.edges ≡ old.edges
   pub next : new.next ≡ old.next
   pub copied : (o : ℕ) → is_in new.pairs.rows e.from o ≡ true → is_in new.pairs.rows e.to o ≡ true
+  pub same : row new.pairs.rows e.from ≡ row old.pairs.rows e.from
 
 abbrev pub asked : System → Trigger → (object : ℕ) → Option Edge
 asked w t o = edge_of (program_of w.callees.program.now) w.callees.numbering t o
@@ -78,3 +111,29 @@ asked w t o = edge_of (program_of w.callees.program.now) w.callees.numbering t o
 -- what the triggers of a pair's node ask was found
 abbrev pub IsFired : System → (edges : Lists) → Pair → Type 0
 IsFired w edges x = (k : ℕ) (d : Trigger) → k < length (get_or (lists_in w.rules.triggers) x.node []) → OnEdge (asked w (get_or (get_or (lists_in w.rules.triggers) x.node []) k d) x.object) (IsFound edges)
+
+-- ---- steps
+
+-- the sum of the first so many
+abbrev pub total : (ℕ → ℕ) → ℕ → ℕ
+total f zero = 0
+total f (suc n) = total f n + f n
+
+-- what the edges from a node have cost at most
+abbrev pub charge : State → (node : ℕ) → ℕ
+charge s a = length (row s.edges a) * (1 + 2 * length (row s.pairs.rows a) + handled a s.next s.log.items)
+
+unfoldable pub cost : State → ℕ
+cost s = total (charge s) (length s.pairs.rows)
+
+-- the steps from one state to another are no more than the cost that came
+pub record IsPaid (old new : State) (before now : ℕ) : Type 0 where
+  pub paid : now + cost old ≤ before + cost new
+
+-- so many steps at most were taken for pairs and the edges between them
+pub record IsBounded (w : System) (rows : Lists) (count : ℕ) : Type 0 where
+  pub edges : Lists
+  pub once : (a : ℕ) → IsDistinct nat_eq (row edges a)
+  pub apart : (a : ℕ) → IsDistinct nat_eq (row rows a)
+  pub needed : (a b : ℕ) → is_in edges a b ≡ true → IsNeeded w rows a b
+  pub steps : count ≤ length w.rules.facts.items + total (λ a. length (row edges a) * (1 + 3 * length (row rows a))) (length rows)

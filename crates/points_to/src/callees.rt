@@ -7,13 +7,13 @@ ghost use Rattle.ir_program.specs.Seen.{program_of};
 ghost use Rattle.points_to.specs.Rules.{callee_of, parameter_of, outcome_of, edge_of};
 
 use crate::rules::{Edge, Trigger};
-use crate::signatures::is_callee;
+use ir_model::callee::is_callee;
 use ir_model::types::Ty;
 use ir_program::program::{Program, Routine};
 use object_sets::{Node, Numbering};
 
 /// Whether values of a type are of objects.
-fn carries(ty: &Ty) -> bool
+pub(crate) fn carries(ty: &Ty) -> bool
     ensures { result ≡ flows.carries (type_of ty.now) }
 {
     match ty {

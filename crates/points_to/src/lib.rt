@@ -2,11 +2,15 @@
 #![tactic(auto)]
 
 mod callees;
+mod gather;
+mod instructions;
+mod least_sets;
 mod rules;
 mod search;
-mod signatures;
 mod state;
+mod system;
 
 pub use callees::Callees;
+pub use least_sets::{solve, solve_counted};
 pub use rules::{Edge, Pair, Rules, Trigger};
 pub use state::System;

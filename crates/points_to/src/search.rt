@@ -1,8 +1,9 @@
 //! The search for the least sets.
 
-ghost use Rattle.std.specs.Prelude.{◌≡◌, ◌≢◌, ◌+◌, ◌<◌, ℕ, true, [], length, get_or, slice_get, OnOk, IfOk};
+ghost use Rattle.std.specs.Prelude.{◌≡◌, ◌≢◌, ◌+◌, ◌-◌, ◌*◌, ◌<◌, ◌≤◌, ℕ, true, [], length, get_or, slice_get, OnOk, IfOk};
 ghost use Rattle.points_to.specs.Rules.{Says, Passes, OnEdge, no_edge};
-ghost use Rattle.points_to.specs.Searching.{lists_in, asked, ObeysAll, pair_at, is_in, IsFound, Holds, Grown, IsPut, IsCopied, IsFired};
+ghost use Rattle.object_sets.specs.Rows.{row};
+ghost use Rattle.points_to.specs.Searching.{lists_in, asked, ObeysAll, pair_at, is_in, IsAsked, IsFound, Holds, Grown, IsPut, IsCopied, IsFired, cost, IsPaid, IsBounded};
 
 use crate::rules::{Edge, Pair, Trigger};
 use crate::state::{State, System};
@@ -36,7 +37,8 @@ impl State {
     ) -> Result<(), AllocError>
         requires node { node < length self.old.pairs.rows }
         requires object { object < self.old.pairs.objects }
-        ensures { OnOk result (IsPut self.old self.new node object) }
+        ensures put { OnOk result (IsPut self.old self.new node object) }
+        ensures counted { steps.new ≡ steps.old + 1 }
     {
         if self.pairs.add(node, object, steps)? {
             self.log.push(Pair { node, object })?;
@@ -75,9 +77,10 @@ impl<'a> System<'a> {
         requires from { edge.from < length state.old.pairs.rows }
         requires to { edge.to < length state.old.pairs.rows }
         requires apart { edge.from ≢ edge.to }
-        requires justified { (Q : Says) → ObeysAll self.now Q → Passes Q edge }
+        requires asked { IsAsked self.now state.old.pairs.rows edge }
         ensures holds { OnOk result (Holds self.now state.new) }
         ensures copied { OnOk result (IsCopied state.old state.new edge) }
+        ensures counted { OnOk result (steps.new ≤ steps.old + 1 + 2 * length (row state.old.pairs.rows edge.from)) }
     {
         let mut place: u32 = 0;
         while let Some(object) = state.pairs.member(edge.from, place, steps) {
@@ -95,11 +98,12 @@ impl<'a> System<'a> {
         steps: &mut Steps<L>,
     ) -> Result<(), AllocError>
         requires holds { Holds self.now state.old }
-        requires justified { (Q : Says) → ObeysAll self.now Q → Passes Q edge }
+        requires asked { IsAsked self.now state.old.pairs.rows edge }
         ensures holds { OnOk result (Holds self.now state.new) }
         ensures grown { OnOk result (Grown state.old state.new) }
         ensures next { OnOk result (state.new.next ≡ state.old.next) }
         ensures found { OnOk result (IsFound state.new.edges edge) }
+        ensures paid { OnOk result (IsPaid state.old state.new steps.old steps.new) }
     {
         let count = state.edges.len();
         if edge.from as usize >= count || edge.to as usize >= count {
@@ -129,6 +133,7 @@ impl<'a> System<'a> {
         ensures holds { OnOk result (Holds self.now state.new) }
         ensures grown { OnOk result (Grown state.old state.new) }
         ensures next { OnOk result (state.new.next ≡ state.old.next + 1) }
+        ensures paid { OnOk result (IsPaid state.old state.new steps.old steps.new) }
     {
         let mut place: u32 = 0;
         while let Some(to) = state.edges.get(pair.node, place) {
@@ -148,11 +153,12 @@ impl<'a> System<'a> {
         steps: &mut Steps<L>,
     ) -> Result<(), AllocError>
         requires holds { Holds self.now state.old }
-        requires justified { (Q : Says) → ObeysAll self.now Q → OnEdge (asked self.now trigger.now object) (Passes Q) }
+        requires asked { OnEdge (asked self.now trigger.now object) (IsAsked self.now state.old.pairs.rows) }
         ensures holds { OnOk result (Holds self.now state.new) }
         ensures grown { OnOk result (Grown state.old state.new) }
         ensures next { OnOk result (state.new.next ≡ state.old.next) }
         ensures found { OnOk result (OnEdge (asked self.now trigger.now object) (IsFound state.new.edges)) }
+        ensures paid { OnOk result (IsPaid state.old state.new steps.old steps.new) }
     {
         let Some(edge) = self.callees.edge(trigger, object) else {
             return Ok(());
@@ -173,6 +179,7 @@ impl<'a> System<'a> {
         ensures grown { OnOk result (Grown state.old state.new) }
         ensures next { OnOk result (state.new.next ≡ state.old.next) }
         ensures fired { OnOk result (IsFired self.now state.new.edges pair) }
+        ensures paid { OnOk result (IsPaid state.old state.new steps.old steps.new) }
     {
         for place in 0..self.trigger_count(pair.node) {
             let Some(trigger) = self.trigger_at(pair.node, place) else {
@@ -208,6 +215,7 @@ impl<'a> System<'a> {
         ensures holds { OnOk result (Holds self.now state.new) }
         ensures grown { OnOk result (Grown state.old state.new) }
         ensures next { OnOk result (state.new.next ≡ state.old.next) }
+        ensures counted { OnOk result (steps.new + cost state.old ≤ steps.old + length self.now.rules.facts.items + cost state.new) }
         ensures there { OnOk result ((k : ℕ) → k < length self.now.rules.facts.items → is_in state.new.pairs.rows (pair_at self.now.rules.facts.items k).node (pair_at self.now.rules.facts.items k).object ≡ true) }
     {
         let nodes = state.edges.len();
@@ -230,6 +238,7 @@ impl<'a> System<'a> {
         ensures holds { OnOk result (Holds self.now state.new) }
         ensures grown { OnOk result (Grown state.old state.new) }
         ensures next { OnOk result (state.new.next ≡ state.old.next) }
+        ensures paid { OnOk result (IsPaid state.old state.new steps.old steps.new) }
         ensures found { OnOk result ((k : ℕ) → k < length self.now.rules.copies.items → IsFound state.new.edges (get_or self.now.rules.copies.items k no_edge)) }
     {
         for place in 0..self.rules.copies.len() {
@@ -242,6 +251,7 @@ impl<'a> System<'a> {
     fn begin(&self, alloc: Global, nodes: u32, objects: u32) -> Result<State, AllocError>
         ensures holds { IfOk result (Holds self.now) }
         ensures objects { IfOk result (λ state. state.pairs.objects ≡ objects) }
+        ensures count { IfOk result (λ state. length state.pairs.rows ≡ nodes) }
         ensures next { IfOk result (λ state. state.next ≡ 0) }
     {
         let pairs = Pairs::new(alloc, nodes, objects)?;
@@ -267,6 +277,9 @@ impl<'a> System<'a> {
         steps: &mut Steps<L>,
     ) -> Result<Pairs, AllocError>
         ensures closed { IfOk result (λ pairs. ObeysAll self.now (is_in pairs.rows)) }
+        ensures bounded { IfOk result (λ pairs. IsBounded self.now pairs.rows (steps.new - steps.old)) }
+        ensures count { IfOk result (λ pairs. length pairs.rows ≡ nodes) }
+        ensures objects { IfOk result (λ pairs. pairs.objects ≡ objects) }
         ensures least { IfOk result (λ pairs. (Q : Says) → ObeysAll self.now Q → (n o : ℕ) → is_in pairs.rows n o ≡ true → Q n o ≡ true) }
     {
         let mut state = self.begin(alloc, nodes, objects)?;

@@ -8,7 +8,7 @@ use Rattle.depend.specs.declared.uses.Use.TheVariants as uses
 use Rattle.depend.specs.Accesses.{AnyOf, Reaches}
 use Rattle.depend.proofs.Any.{any_step, any_whole}
 use Rattle.depend.proofs.Exact.{exactly_by}
-use Rattle.depend.proofs.Orders.{in_order}
+use Rattle.object_sets.proofs.Orders.{in_order}
 use Rattle.depend.proofs.objects.all_objects.Goals as goal
 
 pub loop-i-preserved : goal.loop-i-preserved

@@ -1,4 +1,4 @@
-use Rattle.std.proofs.Common.{ap, arith, ◌≤◌, length, ◌≡◌, ◌∙◌}
+use Rattle.std.proofs.Common.{ap, arith, length}
 use Rattle.object_sets.proofs.Counted.{node_groups_are}
 use Rattle.object_sets.proofs.numbering.nodes_of.Goals as goal
 

@@ -1,4 +1,4 @@
-use Rattle.std.proofs.Common.{◌≡◌, ◌∷◌, length, map, take}
+use Rattle.std.proofs.Common.{◌≡◌, length, map, take}
 use Rattle.ir_program.specs.declared.program.Routine.{Routine}
 use Rattle.object_sets.proofs.numbering.nodes_of.Given as goal
 

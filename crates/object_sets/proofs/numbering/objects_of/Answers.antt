@@ -1,4 +1,4 @@
-use Rattle.std.proofs.Common.{ap, arith, ◌≤◌, length, ◌≡◌, ◌∙◌}
+use Rattle.std.proofs.Common.{ap, arith, length}
 use Rattle.object_sets.proofs.Counted.{object_groups_are}
 use Rattle.object_sets.proofs.numbering.objects_of.Goals as goal
 

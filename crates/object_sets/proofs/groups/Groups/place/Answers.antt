@@ -1,4 +1,4 @@
-use Rattle.std.proofs.Common.{arith, ◌<◌, ◌≡◌, length}
+use Rattle.std.proofs.Common.{arith}
 use Rattle.object_sets.proofs.GroupPlaces.{place_fits}
 use Rattle.object_sets.proofs.groups.Groups.place.Goals as goal
 

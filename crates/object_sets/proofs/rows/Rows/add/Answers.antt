@@ -1,5 +1,5 @@
-use Rattle.std.proofs.Common.{◌≡◌, ◌∙◌, sym, ap, length, ◌<◌, subst}
-use Rattle.object_sets.specs.Rows.{Lists, added, lists_of}
+use Rattle.std.proofs.Common.{◌∙◌, sym, ap, length, ◌<◌, subst}
+use Rattle.object_sets.specs.Rows.{Lists, added}
 use Rattle.object_sets.proofs.RowSteps.{kept, put}
 use Rattle.object_sets.proofs.rows.Rows.add.Goals as goal
 
