@@ -1,3 +1,4 @@
+mod Below
 mod ByName
 pub mod Distinct
 mod Files

@@ -9,7 +9,7 @@ use Rattle.plan_model.specs.Lists.{distinct, same_numbers}
 use Rattle.plan_model.specs.Policies.{periph_lists}
 use Rattle.grouping.proofs.Distinct.{distinct_more, any_distinct, found_any, position_seen, any_seen}
 
-same_through : (x z y : List ℕ) → same_numbers x z ≡ true → same_numbers z y ≡ true → same_numbers x y ≡ true
+pub same_through : (x z y : List ℕ) → same_numbers x z ≡ true → same_numbers z y ≡ true → same_numbers x y ≡ true
 same_through x z y e f = ap (λ w. same_numbers w y) (same_text x z (sym e)) ∙ f
 
 abbrev seen : List (Bor (List ℕ)) → List (List ℕ)

@@ -1,6 +1,7 @@
 //! What a policy knows of each function.
 
 ghost use Rattle.std.specs.Prelude.{◌≡◌, ◌<◌, length, get_or, IfOk};
+ghost use Rattle.std.specs.List.{All};
 ghost use Rattle.ir_model.specs.Plain.{firmware_of, funcs_of};
 ghost use Rattle.plan_model.specs.Facts as definition;
 ghost use Rattle.plan_model.specs.Needs.{need_of};
@@ -48,6 +49,7 @@ pub fn facts(alloc: Global, firmware: &Checked, needs: &Needs) -> Result<Vec<Fun
     ensures exact { IfOk result (λ facts. facts.items ≡ definition.facts (firmware_of firmware.now) needs.now) }
     ensures functions { IfOk result (λ facts. AreFunctions facts.items) }
     ensures each { IfOk result (λ facts. length facts.items ≡ length (funcs_of (firmware_of firmware.now))) }
+    ensures files { IfOk result (λ facts. All (λ f. f.file < length (firmware_of firmware.now).files) facts.items) }
 {
     let origins = origins(alloc, firmware.firmware())?;
     let Ok(count) = u32::try_from(needs.funcs.len()) else {

@@ -1,6 +1,6 @@
 //! The three policies: the group of each function.
 
-ghost use Rattle.std.specs.Prelude.{◌≡◌, ◌<◌, length, map, IfOk};
+ghost use Rattle.std.specs.Prelude.{◌≡◌, ◌<◌, ℕ, length, map, IfOk};
 ghost use Rattle.std.specs.List.{All, position_or_len};
 ghost use Rattle.plan_model.specs.Lists.{same_numbers};
 ghost use Rattle.plan_model.specs.Policies.{filename_groups, optimized_groups, peripheral_groups, by_name, common_group, move as moved, periph_lists};
@@ -15,7 +15,8 @@ use std::alloc::{AllocError, Global};
 ///
 /// There is no memory for it.
 pub fn filename_table(alloc: Global, facts: &[FuncFacts]) -> Result<Vec<u32>, AllocError>
-    ensures { IfOk result (λ groups. groups.items ≡ filename_groups facts.now) }
+    ensures exact { IfOk result (λ groups. groups.items ≡ filename_groups facts.now) }
+    ensures below { IfOk result (λ groups. (files : ℕ) → All (λ f. f.file < files) facts.now → All (λ g. g < files) groups.items) }
 {
     let mut groups = Vec::new(alloc);
     for i in 0..facts.len() {
@@ -84,7 +85,8 @@ fn move_one(groups: &mut Vec<u32>, facts: &FuncFacts)
 /// There is no memory for it.
 pub fn optimized_table(alloc: Global, facts: &[FuncFacts]) -> Result<Vec<u32>, AllocError>
     requires { AreFunctions facts.now }
-    ensures { IfOk result (λ groups. groups.items ≡ optimized_groups facts.now) }
+    ensures exact { IfOk result (λ groups. groups.items ≡ optimized_groups facts.now) }
+    ensures below { IfOk result (λ groups. (files : ℕ) → All (λ f. f.file < files) facts.now → All (λ g. g < files) groups.items) }
 {
     let mut groups = filename_table(alloc, facts)?;
     let sorted = sorted_by_name(alloc, facts)?;
@@ -126,7 +128,8 @@ fn different_periphs(alloc: Global, facts: &[FuncFacts]) -> Result<Vec<&[u32]>, 
 ///
 /// There is no memory for it, or there are more groups than a number of 32 bits tells.
 pub fn peripheral_table(alloc: Global, facts: &[FuncFacts]) -> Result<Vec<u32>, AllocError>
-    ensures { IfOk result (λ groups. groups.items ≡ peripheral_groups facts.now) }
+    ensures exact { IfOk result (λ groups. groups.items ≡ peripheral_groups facts.now) }
+    ensures below { IfOk result (λ groups. All (λ g. g < length facts.now) groups.items) }
 {
     let lists = different_periphs(alloc, facts)?;
     let mut groups = Vec::new(alloc);

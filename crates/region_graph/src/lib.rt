@@ -1,9 +1,16 @@
 //! The graph of compartments: which of them reach which globals and peripherals.
 #![tactic(auto)]
 
+mod choices;
 mod covers;
+mod flags;
 pub mod initial;
+mod joined;
+mod known;
+pub mod laws;
 mod masks;
-mod reach;
+pub mod merge;
+mod merging;
+pub mod reach;
 mod regions;
 mod users;

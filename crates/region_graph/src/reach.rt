@@ -54,7 +54,7 @@ fn reads_there(
 }
 
 /// Whether a function of a compartment may write an object.
-pub(crate) fn writes(needs: &Needs, groups: &Groups, compartment: u32, object: &ObjId) -> bool
+pub fn writes(needs: &Needs, groups: &Groups, compartment: u32, object: &ObjId) -> bool
     requires { length groups.now.of ≡ length needs.now.funcs }
     ensures { result ≡ sets.writes needs.now groups.now compartment object.now }
 {
@@ -67,7 +67,7 @@ pub(crate) fn writes(needs: &Needs, groups: &Groups, compartment: u32, object: &
 }
 
 /// Whether a function of a compartment may read an object.
-pub(crate) fn reads(needs: &Needs, groups: &Groups, compartment: u32, object: &ObjId) -> bool
+pub fn reads(needs: &Needs, groups: &Groups, compartment: u32, object: &ObjId) -> bool
     requires { length groups.now.of ≡ length needs.now.funcs }
     ensures { result ≡ sets.reads needs.now groups.now compartment object.now }
 {
@@ -80,7 +80,7 @@ pub(crate) fn reads(needs: &Needs, groups: &Groups, compartment: u32, object: &O
 }
 
 /// Whether a function of a compartment may write or read an object.
-pub(crate) fn reaches(needs: &Needs, groups: &Groups, compartment: u32, object: &ObjId) -> bool
+pub fn reaches(needs: &Needs, groups: &Groups, compartment: u32, object: &ObjId) -> bool
     requires { length groups.now.of ≡ length needs.now.funcs }
     ensures { result ≡ (sets.writes needs.now groups.now compartment object.now || sets.reads needs.now groups.now compartment object.now) }
 {

@@ -2,7 +2,10 @@ use Rattle.std.proofs.Common.{rules, ◌≡◌, ◌∙◌, ◌<◌, ap, map, sym
 use Rattle.std.proofs.lemmas.List.{length-map}
 use Rattle.ir_model.specs.Plain.{PlainFunc, firmware_of, funcs_of}
 use Rattle.plan_model.specs.Facts.{facts, all_facts}
+use Rattle.std.specs.List.{All}
+use Rattle.plan_model.specs.declared.groups.FuncFacts.{FuncFacts}
 use Rattle.grouping.specs.Functions.{AreFunctions}
+use Rattle.grouping.proofs.Below.{facts_below}
 use Rattle.grouping.specs.declared.origins.Origin.{Origin}
 use Rattle.grouping.proofs.Numbers.{mapped_more}
 use Rattle.ir_model.specs.Resolve.{files_from}
@@ -23,14 +26,21 @@ loop-index-preserved c =
     mapped_more _ c.loop-index.index c.loop-index.facts.items _ c.in_ok-fact.field-0 c.loop-index.invariant
     (fact_read c.in_ok-origins.origins.items c.args.needs.now c.loop-index.index c.index.result.now c.in_ok-fact.field-0 there c.index.ensures c.in_ok-fact.ensures) c.in_ok-push.ensures.items
 
-pub returns-clause-exact : goal.returns-clause-exact
+exactly : goal.returns-clause-exact
 unfolding facts
-returns-clause-exact c =
+exactly c =
     let whole : c.loop-index.index ≡ length c.args.needs.now.funcs = omega arith in
     let names : names_of c.in_ok-origins.origins.items ≡ map (λ (f : PlainFunc). f.name) (funcs_of (firmware_of c.args.firmware.now)) = search rules in
     let files : files_of c.in_ok-origins.origins.items ≡ files_from 0 (firmware_of c.args.firmware.now).files = search rules in
     all_told c.in_ok-origins.origins.items c.args.needs.now c.loop-index.index c.loop-index.facts.items c.loop-index.invariant whole
     ∙ (ap (λ ns. all_facts ns (files_of c.in_ok-origins.origins.items) c.args.needs.now) names ∙ ap (λ ks. all_facts (map (λ (f : PlainFunc). f.name) (funcs_of (firmware_of c.args.firmware.now))) ks c.args.needs.now) files)
+
+pub returns-clause-exact : goal.returns-clause-exact
+returns-clause-exact c = exactly c
+
+pub returns-clause-files : goal.returns-clause-files
+returns-clause-files c =
+    subst (λ fs. All (λ (f : FuncFacts). f.file < length (firmware_of c.args.firmware.now).files) fs) (sym (exactly c)) (facts_below (firmware_of c.args.firmware.now) c.args.needs.now c.requires)
 
 pub returns-clause-functions : goal.returns-clause-functions
 returns-clause-functions c =

@@ -1,0 +1,85 @@
+//! The compartments of a firmware, by what its functions need.
+
+ghost use Rattle.std.specs.Prelude.{◌≡◌, ◌<◌, length, get_or, nat_lt, IfOk};
+ghost use Rattle.std.specs.List.{list_all};
+ghost use Rattle.ir_model.specs.Plain.{firmware_of, funcs_of};
+ghost use Rattle.plan_model.specs.Compartments.{compartments};
+ghost use Rattle.grouping.specs.Functions.{AreFunctions};
+ghost use Rattle.compartments.specs.Divisions as divisions;
+
+use aces_words::Policy;
+use grouping::facts::facts;
+use grouping::grouping::{Grouping, groups};
+use grouping::tables::{filename_table, optimized_table, peripheral_table};
+use ir_model::checked::Checked;
+use plan_model::groups::{FuncFacts, Groups};
+use plan_model::needs::Needs;
+use std::alloc::{AllocError, Global};
+
+/// More than the number of any group, and as many functions as there may be.
+const MOST: u32 = 1024;
+
+/// The group of each function by a policy.
+fn table(alloc: Global, facts: &[FuncFacts], policy: Policy) -> Result<Vec<u32>, AllocError>
+    requires { AreFunctions facts.now }
+    ensures { IfOk result (λ groups. groups.items ≡ divisions.groups_by policy facts.now) }
+{
+    match policy {
+        Policy::Filename => filename_table(alloc, facts),
+        Policy::Optimized => optimized_table(alloc, facts),
+        Policy::Peripheral => peripheral_table(alloc, facts),
+    }
+}
+
+/// Whether each number is that of a group.
+fn are_groups(table: &[u32]) -> bool
+    ensures { result ≡ list_all (λ g. nat_lt g 1024) table.now }
+{
+    table.iter().all(|group| *group < MOST)
+}
+
+/// The compartments that a table of groups makes of functions.
+///
+/// # Errors
+///
+/// There is no memory for them, or functions or groups are more than those of any firmware.
+fn grouped(alloc: Global, table: &[u32], facts: &[FuncFacts]) -> Result<Groups, AllocError>
+    requires { AreFunctions facts.now }
+    ensures { IfOk result (λ made. made ≡ compartments table.now) }
+{
+    let count = facts.len();
+    if count == 0 || count > MOST as usize || table.len() != count || !are_groups(table) {
+        return Err(AllocError);
+    }
+    let by_table = |facts: &FuncFacts| -> u32
+        requires { facts.now.index < length table.now }
+        ensures { result ≡ get_or table.entry.now facts.now.index 0 }
+    { table[facts.index as usize] };
+    let grouping = Grouping::new(by_table, count as u32, MOST);
+    let made = groups(alloc, &grouping, facts);
+    let Grouping {
+        callback: _callback,
+        functions: _functions,
+        count: _count,
+    } = grouping;
+    made
+}
+
+/// The compartments of a firmware by a policy, its functions needing so much.
+///
+/// # Errors
+///
+/// There is no memory for them.
+pub fn division(
+    alloc: Global,
+    firmware: &Checked,
+    needs: &Needs,
+    policy: Policy,
+) -> Result<Groups, AllocError>
+    requires { length needs.now.funcs ≡ length (funcs_of (firmware_of firmware.now)) }
+    ensures { IfOk result (λ groups. groups ≡ divisions.division policy (firmware_of firmware.now) needs.now) }
+{
+    let facts = facts(alloc, firmware, needs)?;
+    let table = table(alloc, facts.as_slice(), policy)?;
+    grouped(alloc, table.as_slice(), facts.as_slice())
+}

@@ -1,0 +1,53 @@
+-- A number is in the union of two lists where it is in one of them.
+use Rattle.std.proofs.Common.{◌≡◌, ℕ, Bool, true, false, not, ◌&&◌, ◌||◌, List, [], ◌∷◌, ◌++◌, cond, nat_eq, nat_lt, refl, sym, ap, ◌∙◌}
+use Rattle.std.specs.List.{list_any}
+use Rattle.std.proofs.lemmas.Bool.{eqb-true}
+use Rattle.std.proofs.lemmas.List.Folds.{list_any-append}
+use Rattle.plan_model.specs.Lists.{has, without, placed, in_order, union}
+use Rattle.region_graph.proofs.Reached.{any_filtered}
+
+turned : (a b c : Bool) → (a || (b || c)) ≡ (b || (a || c))
+turned true true c = refl
+turned true false c = refl
+turned false true c = refl
+turned false false c = refl
+
+any_placed : (p : ℕ → Bool) (lt : ℕ → ℕ → Bool) (x : ℕ) (ys : List ℕ) → list_any p (placed lt x ys) ≡ (p x || list_any p ys)
+any_placed p lt x [] = refl
+any_placed p lt x (y ∷ ys) = by (lt y x) (any_placed p lt x ys)
+  where
+    by : (b : Bool) → list_any p (placed lt x ys) ≡ (p x || list_any p ys) → list_any p (cond b (y ∷ placed lt x ys) (x ∷ y ∷ ys)) ≡ (p x || (p y || list_any p ys))
+    by true ih = ap (λ b. p y || b) ih ∙ turned (p y) (p x) (list_any p ys)
+    by false ih = refl
+
+any_in_order : (p : ℕ → Bool) (lt : ℕ → ℕ → Bool) (xs : List ℕ) → list_any p (in_order lt xs) ≡ list_any p xs
+any_in_order p lt [] = refl
+any_in_order p lt (x ∷ xs) = any_placed p lt x (in_order lt xs) ∙ ap (λ b. p x || b) (any_in_order p lt xs)
+
+others_have : (ns ms : List ℕ) (n : ℕ) → (has ns n || list_any (λ m. not (has ns m) && nat_eq m n) ms) ≡ (has ns n || has ms n)
+others_have ns [] n = refl
+others_have ns (m ∷ ms) n = by (nat_eq m n) refl (has ns n) refl (others_have ns ms n)
+  where
+    by : (b : Bool) → nat_eq m n ≡ b → (h : Bool) → has ns n ≡ h → (has ns n || list_any (λ k. not (has ns k) && nat_eq k n) ms) ≡ (has ns n || has ms n)
+        → (has ns n || (not (has ns m) && nat_eq m n || list_any (λ k. not (has ns k) && nat_eq k n) ms)) ≡ (has ns n || (nat_eq m n || has ms n))
+    by b e true h ih = ap (λ c. c || (not (has ns m) && nat_eq m n || list_any (λ k. not (has ns k) && nat_eq k n) ms)) h ∙ ap (λ c. c || (nat_eq m n || has ms n)) (sym h)
+    by true e false h ih =
+        let none : has ns m ≡ false = ap (has ns) (eqb-true m n e) ∙ h in
+        ap (λ c. c || (not (has ns m) && nat_eq m n || list_any (λ k. not (has ns k) && nat_eq k n) ms)) h
+        ∙ (ap (λ c. not c && nat_eq m n || list_any (λ k. not (has ns k) && nat_eq k n) ms) none
+        ∙ (ap (λ c. c || list_any (λ k. not (has ns k) && nat_eq k n) ms) e
+        ∙ (ap (λ c. c || has ms n) (sym e) ∙ ap (λ c. c || (nat_eq m n || has ms n)) (sym h))))
+    by false e false h ih =
+        ap (λ c. has ns n || (not (has ns m) && c || list_any (λ k. not (has ns k) && nat_eq k n) ms)) e
+        ∙ (ap (λ c. has ns n || (c || list_any (λ k. not (has ns k) && nat_eq k n) ms)) (nothing (has ns m))
+        ∙ (ih ∙ ap (λ c. has ns n || (c || has ms n)) (sym e)))
+      where
+        nothing : (c : Bool) → (not c && false) ≡ false
+        nothing true = refl
+        nothing false = refl
+
+pub has_union : (ns ms : List ℕ) (n : ℕ) → has (union ns ms) n ≡ (has ns n || has ms n)
+has_union ns ms n =
+    any_in_order (λ m. nat_eq m n) nat_lt (ns ++ without ms ns)
+    ∙ (list_any-append (λ m. nat_eq m n) ns (without ms ns)
+    ∙ (ap (λ b. has ns n || b) (any_filtered (λ m. nat_eq m n) (λ m. not (has ns m)) ms) ∙ others_have ns ms n))

@@ -1,0 +1,23 @@
+-- Covers and windows within the 32 bits of addresses.
+use Rattle.std.specs.Prelude.{◌+◌, ◌<◌, ◌≤◌, ◌^◌, List}
+use Rattle.std.specs.List.{All}
+use Rattle.ir_model.specs.Resolved.{Program, NumberedWindow}
+use Rattle.plan_model.specs.declared.graph.Cover.{Cover}
+use Rattle.plan_model.specs.declared.graph.Graph.{Graph}
+
+-- first address and end are
+pub record CoverFits (c : Cover) : Type 0 where
+  pub base : c.base < 2 ^ 32
+  pub end : c.base + c.size ≤ 2 ^ 32
+
+-- those of each cover of a graph
+abbrev pub Fits : Graph → Type 0
+Fits g = All (λ (cs : List Cover). All CoverFits cs) g.covers
+
+-- those of a peripheral's window
+pub record WindowFits (w : NumberedWindow) : Type 0 where
+  pub base : w.base < 2 ^ 32
+  pub end : w.base + w.size ≤ 2 ^ 32
+
+abbrev pub WindowsFit : Program → Type 0
+WindowsFit p = All WindowFits p.periphs
