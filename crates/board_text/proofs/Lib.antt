@@ -1,0 +1,3 @@
+mod Refusals
+mod Rules
+mod Words

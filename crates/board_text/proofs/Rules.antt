@@ -1,0 +1,134 @@
+-- A board that is read obeys the rules of boards.
+use Rattle.std.proofs.Common.{◌≡◌, ℕ, zero, suc, ◌+◌, ◌%◌, ◌^◌, ◌≤◌, ◌<◌, ◌⊎◌, inl, inr, ℤ, pos, negsuc, Bool, true, false, cond, List, Option, Some, None, Result, Ok, Err, refl, ap, subst, ◌∙◌, arith, nat_eq}
+use Rattle.std.specs.List.{range_with_len, list_any}
+use Rattle.std.proofs.lemmas.Bool.{and_parts, or_cases, leb-true, eqb-true}
+use mathlib.Core.Logic.{⊎_elim}
+use Rattle.device_model.specs.Rules.{IsPowerBetween}
+use Rattle.plan_model.specs.declared.plan.Board.{Board}
+use Rattle.plan_model.specs.declared.plan.Spot.{Spot}
+use Rattle.plan_model.specs.Boards.{IsBoard, IsMemorySize}
+use Rattle.toml.specs.Data.{Data, Members, get_member, as_integer}
+use Rattle.board_text.specs.declared.key.Key.{Key}
+use Rattle.board_text.specs.declared.key.Key.TheVariants.{Flash, FlashBase, FlashSize, Ram, RamBase, RamSize, RamStack, Mpu, MpuRegions}
+use Rattle.board_text.specs.declared.document.KeyFault.{KeyFault}
+use Rattle.board_text.specs.declared.document.KeyFault.TheVariants.{Range}
+use Rattle.board_text.specs.declared.fields.Unit.{Unit as Protection}
+use Rattle.board_text.specs.Keys.{word_of, allows, is_base, is_size, is_stack}
+use Rattle.board_text.specs.Fields.{and_then, of_kind, allowed, number_of, value_at, number_at, table_at, table_of, flash_of, regions_by, regions_of, closed_of, unit_in, unit_by, unit_of, board_of}
+use Rattle.board_text.specs.Extra.{extra_of}
+use Rattle.board_text.specs.Reading.{reading, reading_by}
+
+-- ---- tests behind one another
+
+passed : {X Y : Type 0} (r : Result X KeyFault) (f : X → Result Y KeyFault) (y : Y) → and_then r f ≡ Ok y → (x : X) × (r ≡ Ok x) × (f x ≡ Ok y)
+passed (Ok x) f y e = (x, refl, e)
+passed (Err k) f y e = cc
+
+-- ---- numbers
+
+allowed_is : (k : Key) (z : ℤ) (n : ℕ) → allowed k z ≡ Ok n → allows k n ≡ true
+allowed_is k (negsuc m) n e = cc
+allowed_is k (pos m) n e = by (allows k m) refl e
+  where
+    by : (b : Bool) → allows k m ≡ b → cond b (Ok m) (Err (Range k)) ≡ Ok n → allows k n ≡ true
+    by true t h = let same : m ≡ n = cc in subst (λ x. allows k x ≡ true) same t
+    by false t h = cc
+
+number_is : (k : Key) (d : Data) (n : ℕ) → number_of k d ≡ Ok n → allows k n ≡ true
+number_is k d n e = let (z, f, g) = passed (of_kind k (as_integer d)) (allowed k) n e in allowed_is k z n g
+
+number_at_is : (k : Key) (ms : Members) (n : ℕ) → number_at k ms ≡ Ok n → allows k n ≡ true
+number_at_is k ms n e = let (d, f, g) = passed (value_at k ms) (number_of k) n e in number_is k d n g
+
+-- ---- what the numbers of a key are
+
+base_is : (least most n : ℕ) → is_base least most n ≡ true → (least ≤ n) × (n ≤ most) × (n % 0x100000 ≡ 0)
+base_is least most n e =
+    let (a, f) = and_parts _ _ e in
+    let (b, c) = and_parts _ _ f in
+    (leb-true least n a, leb-true n most b, eqb-true (n % 0x100000) 0 c)
+
+size_is : (n : ℕ) → is_size n ≡ true → IsMemorySize n
+size_is n e =
+    let (a, f) = and_parts _ _ e in
+    let (b, c) = and_parts _ _ f in
+    record { least = leb-true 1024 n a; most = leb-true n 0x100000 b; blocks = eqb-true (n % 32) 0 c }
+
+power_is : (a m n : ℕ) → list_any (λ k. nat_eq n (2 ^ k)) (range_with_len a m) ≡ true → (k : ℕ) × (a ≤ k) × (k < a + m) × (n ≡ 2 ^ k)
+power_is a zero n e = cc
+power_is a (suc m) n e = ⊎_elim here (later (power_is (a + 1) m n)) (or_cases _ _ e)
+  where
+    here : nat_eq n (2 ^ a) ≡ true → (k : ℕ) × (a ≤ k) × (k < a + suc m) × (n ≡ 2 ^ k)
+    here t = (a, omega arith, omega arith, eqb-true n (2 ^ a) t)
+
+    later : (list_any (λ k. nat_eq n (2 ^ k)) (range_with_len (a + 1) m) ≡ true → (k : ℕ) × (a + 1 ≤ k) × (k < a + 1 + m) × (n ≡ 2 ^ k)) → list_any (λ k. nat_eq n (2 ^ k)) (range_with_len (a + 1) m) ≡ true → (k : ℕ) × (a ≤ k) × (k < a + suc m) × (n ≡ 2 ^ k)
+    later ih t = let (k, l, h, p) = ih t in (k, omega arith, omega arith, p)
+
+stack_is : (n : ℕ) → is_stack n ≡ true → IsPowerBetween 9 16 n
+stack_is n e = let (k, l, h, p) = power_is 9 8 n e in (k, l, omega arith, p)
+
+regions_is : (n : ℕ) → allows MpuRegions n ≡ true → (n ≡ 8) ⊎ (n ≡ 16)
+regions_is n e = ⊎_elim (λ t. inl (eqb-true n 8 t)) (λ t. inr (eqb-true n 16 t)) (or_cases _ _ e)
+
+-- ---- the parts of a board
+
+flash_is : (ms : Members) (s : Spot) → flash_of ms ≡ Ok s → (allows FlashBase s.base ≡ true) × (allows FlashSize s.size ≡ true)
+flash_is ms s e =
+    let (flash, f, g) = passed (table_at Flash ms) _ s e in
+    let (base, h, i) = passed (number_at FlashBase flash) _ s g in
+    let (size, j, k) = passed (number_at FlashSize flash) _ s i in
+    let same : (let t : Spot = record { base = base; size = size } in t) ≡ s = cc in
+    subst (λ (t : Spot). (allows FlashBase t.base ≡ true) × (allows FlashSize t.size ≡ true)) same (number_at_is FlashBase flash base h, number_at_is FlashSize flash size j)
+
+regions_by_is : (o : Option Data) (n : ℕ) → regions_by o ≡ Ok n → (n ≡ 8) ⊎ (n ≡ 16)
+regions_by_is None n e = let same : n ≡ 8 = cc in inl same
+regions_by_is (Some d) n e = regions_is n (number_is MpuRegions d n e)
+
+unit_in_is : (mpu : Members) (u : Protection) → unit_in mpu ≡ Ok u → (u.regions ≡ 8) ⊎ (u.regions ≡ 16)
+unit_in_is mpu u e =
+    let (regions, f, g) = passed (regions_of mpu) _ u e in
+    let (closed, h, i) = passed (closed_of mpu) _ u g in
+    let same : (let v : Protection = record { regions = regions; closed = closed } in v) ≡ u = cc in
+    subst (λ (v : Protection). (v.regions ≡ 8) ⊎ (v.regions ≡ 16)) same (regions_by_is (get_member (word_of MpuRegions) mpu) regions f)
+
+unit_by_is : (o : Option Data) (u : Protection) → unit_by o ≡ Ok u → (u.regions ≡ 8) ⊎ (u.regions ≡ 16)
+unit_by_is None u e =
+    let same : (let v : Protection = record { regions = 8; closed = false } in v) ≡ u = cc in
+    subst (λ (v : Protection). (v.regions ≡ 8) ⊎ (v.regions ≡ 16)) same (inl refl)
+unit_by_is (Some d) u e = let (mpu, f, g) = passed (table_of Mpu d) unit_in u e in unit_in_is mpu u g
+
+-- ---- all of it
+
+board_is : (ms : Members) (b : Board) → board_of ms ≡ Ok b → IsBoard b
+unfolding board_of
+board_is ms b e =
+    let (flash, f0, e0) = passed (flash_of ms) _ b e in
+    let (ram, f1, e1) = passed (table_at Ram ms) _ b e0 in
+    let (ram_base, f2, e2) = passed (number_at RamBase ram) _ b e1 in
+    let (ram_size, f3, e3) = passed (number_at RamSize ram) _ b e2 in
+    let (stack, f4, e4) = passed (number_at RamStack ram) _ b e3 in
+    let (unit, f5, e5) = passed (unit_of ms) _ b e4 in
+    let flash_parts = flash_is ms flash f0 in
+    let flash_place = base_is 0 0x1FE00000 flash.base flash_parts.0 in
+    let ram_place = base_is 0x20000000 0x3FF00000 ram_base (number_at_is RamBase ram ram_base f2) in
+    let same : (let c : Board = record { flash_base = flash.base; flash_size = flash.size; ram_base = ram_base; ram_size = ram_size; stack = stack; regions = unit.regions; closed = unit.closed } in c) ≡ b = cc in
+    subst IsBoard same (record {
+      flash_aligned = flash_place.2;
+      flash_highest = flash_place.1;
+      flash_size = size_is flash.size flash_parts.1;
+      ram_aligned = ram_place.2;
+      ram_lowest = ram_place.0;
+      ram_highest = ram_place.1;
+      ram_size = size_is ram_size (number_at_is RamSize ram ram_size f3);
+      stack = stack_is stack (number_at_is RamStack ram stack f4);
+      regions = unit_by_is (get_member (word_of Mpu) ms) unit f5;
+    })
+
+pub read_obeys : (ms : Members) (b : Board) → reading ms ≡ Ok b → IsBoard b
+unfolding reading
+read_obeys ms b e = by (board_of ms) (extra_of ms) refl e
+  where
+    by : (r : Result Board KeyFault) (o : Option (List ℕ)) → board_of ms ≡ r → reading_by r o ≡ Ok b → IsBoard b
+    by (Ok c) None f h = let same : c ≡ b = cc in board_is ms b (f ∙ ap (λ (d : Board). let r : Result Board KeyFault = Ok d in r) same)
+    by (Ok c) (Some path) f h = cc
+    by (Err k) o f h = cc

@@ -1,0 +1,64 @@
+-- The tables and keys of a board's document: their names, and the numbers that a key may have.
+use Rattle.std.specs.Prelude.{ℕ, ◌%◌, ◌^◌, List, ◌++◌, Bool, false, ◌&&◌, ◌||◌, nat_eq, nat_le, codes}
+use Rattle.std.specs.List.{range_with_len, list_any}
+use Rattle.board_text.specs.declared.key.Key.{Key}
+use Rattle.board_text.specs.declared.key.Key.TheVariants.{Flash, FlashBase, FlashSize, Ram, RamBase, RamSize, RamStack, Mpu, MpuRegions, MpuReads}
+
+-- ---- names
+
+-- as it stands in its table
+abbrev pub word_of : Key → List ℕ
+word_of Flash = codes "flash"
+word_of FlashBase = codes "base"
+word_of FlashSize = codes "size"
+word_of Ram = codes "ram"
+word_of RamBase = codes "base"
+word_of RamSize = codes "size"
+word_of RamStack = codes "stack"
+word_of Mpu = codes "mpu"
+word_of MpuRegions = codes "regions"
+word_of MpuReads = codes "reads"
+
+-- a key of a table, behind the table and a point
+abbrev pub behind : (table : Key) → (word : List ℕ) → List ℕ
+behind t w = word_of t ++ codes "." ++ w
+
+-- as it is printed
+abbrev pub path_of : Key → List ℕ
+path_of Flash = codes "flash"
+path_of FlashBase = codes "flash.base"
+path_of FlashSize = codes "flash.size"
+path_of Ram = codes "ram"
+path_of RamBase = codes "ram.base"
+path_of RamSize = codes "ram.size"
+path_of RamStack = codes "ram.stack"
+path_of Mpu = codes "mpu"
+path_of MpuRegions = codes "mpu.regions"
+path_of MpuReads = codes "mpu.reads"
+
+-- ---- numbers
+
+-- a multiple of a MiB in a range
+abbrev pub is_base : (least most number : ℕ) → Bool
+is_base least most n = nat_le least n && (nat_le n most && nat_eq (n % 0x100000) 0)
+
+-- a multiple of 32 from 1,024 to 1,048,576
+abbrev pub is_size : (number : ℕ) → Bool
+is_size n = nat_le 1024 n && (nat_le n 0x100000 && nat_eq (n % 32) 0)
+
+-- a power of two from 512 to 65,536
+abbrev pub is_stack : (number : ℕ) → Bool
+is_stack n = list_any (λ k. nat_eq n (2 ^ k)) (range_with_len 9 8)
+
+-- the numbers that a key may have
+abbrev pub allows : Key → (number : ℕ) → Bool
+allows FlashBase n = is_base 0 0x1FE00000 n
+allows FlashSize n = is_size n
+allows RamBase n = is_base 0x20000000 0x3FF00000 n
+allows RamSize n = is_size n
+allows RamStack n = is_stack n
+allows MpuRegions n = nat_eq n 8 || nat_eq n 16
+allows Flash n = false
+allows Ram n = false
+allows Mpu n = false
+allows MpuReads n = false

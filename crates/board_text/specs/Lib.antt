@@ -1,0 +1,4 @@
+pub mod Extra
+pub mod Fields
+pub mod Keys
+pub mod Reading

@@ -1,0 +1,95 @@
+//! The fields of a board, in the order in which they are tested.
+
+ghost use Rattle.std.specs.Prelude.{◌≡◌};
+ghost use Rattle.toml.specs.View.{table_view};
+ghost use Rattle.board_text.specs.Fields as fields;
+
+use crate::document::{KeyFault, find, is_closed, number_at, number_of, table_at, table_of};
+use crate::key::Key;
+use plan_model::Spot;
+use plan_model::plan::Board;
+use toml::Table;
+
+/// A protection unit, and whether loads are confined.
+#[derive(Clone, Copy)]
+pub(crate) struct Unit {
+    regions: u32,
+    closed: bool,
+}
+
+/// Where flash is.
+fn flash(document: &Table) -> Result<Spot, KeyFault>
+    ensures { result ≡ fields.flash_of (table_view document.now) }
+{
+    let flash = table_at(document, Key::Flash)?;
+    let base = number_at(flash, Key::FlashBase)?;
+    let size = number_at(flash, Key::FlashSize)?;
+    Ok(Spot { base, size })
+}
+
+/// How many regions the unit has, by its table.
+fn regions(mpu: &Table) -> Result<u32, KeyFault>
+    ensures { result ≡ fields.regions_of (table_view mpu.now) }
+{
+    match find(mpu, Key::MpuRegions) {
+        None => Ok(8),
+        Some(value) => number_of(value, Key::MpuRegions),
+    }
+}
+
+/// Whether loads are confined, by the unit's table.
+fn closed(mpu: &Table) -> Result<bool, KeyFault>
+    ensures { result ≡ fields.closed_of (table_view mpu.now) }
+{
+    match find(mpu, Key::MpuReads) {
+        None => Ok(false),
+        Some(value) => match value.as_str() {
+            None => Err(KeyFault::Kind(Key::MpuReads)),
+            Some(text) => is_closed(text),
+        },
+    }
+}
+
+/// The protection unit, by its table.
+fn unit_in(mpu: &Table) -> Result<Unit, KeyFault>
+    ensures { result ≡ fields.unit_in (table_view mpu.now) }
+{
+    let regions = regions(mpu)?;
+    let closed = closed(mpu)?;
+    Ok(Unit { regions, closed })
+}
+
+/// The protection unit, and whether loads are confined.
+fn unit_of(document: &Table) -> Result<Unit, KeyFault>
+    ensures { result ≡ fields.unit_of (table_view document.now) }
+{
+    match find(document, Key::Mpu) {
+        None => Ok(Unit {
+            regions: 8,
+            closed: false,
+        }),
+        Some(value) => unit_in(table_of(value, Key::Mpu)?),
+    }
+}
+
+/// The board of a document whose tables may have further keys.
+#[tactic(auto, unfolding(crate::specs::Fields::board_of))]
+pub(crate) fn board_of(document: &Table) -> Result<Board, KeyFault>
+    ensures { result ≡ fields.board_of (table_view document.now) }
+{
+    let flash = flash(document)?;
+    let table = table_at(document, Key::Ram)?;
+    let ram_base = number_at(table, Key::RamBase)?;
+    let ram_size = number_at(table, Key::RamSize)?;
+    let stack = number_at(table, Key::RamStack)?;
+    let unit = unit_of(document)?;
+    Ok(Board {
+        flash_base: flash.base,
+        flash_size: flash.size,
+        ram_base,
+        ram_size,
+        stack,
+        regions: unit.regions,
+        closed: unit.closed,
+    })
+}

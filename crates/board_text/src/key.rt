@@ -1,0 +1,94 @@
+//! The tables and keys of a board's document.
+
+ghost use Rattle.std.specs.Prelude.{◌≡◌};
+ghost use Rattle.board_text.specs.Keys as keys;
+
+use std::fmt;
+
+/// A table of a board's document, or a key of one of its tables.
+#[derive(Clone, Copy, PartialEq, Eq, Debug)]
+pub enum Key {
+    /// The table `flash`.
+    Flash,
+    /// The first address of flash.
+    FlashBase,
+    /// How many bytes of flash.
+    FlashSize,
+    /// The table `ram`.
+    Ram,
+    /// The first address of RAM.
+    RamBase,
+    /// How many bytes of RAM.
+    RamSize,
+    /// How many bytes of RAM are for the stack.
+    RamStack,
+    /// The table `mpu`, which need not be there.
+    Mpu,
+    /// The number of regions of the protection unit; where it is not there, 8.
+    MpuRegions,
+    /// Whether loads are confined as stores are: `open` or `closed`; where it is not there, `open`.
+    MpuReads,
+}
+
+impl Key {
+    /// The key as it is printed: that of a table's key stands behind the table's and a point.
+    pub fn path(self) -> &'static str
+        ensures { result.now ≡ keys.path_of self }
+    {
+        match self {
+            Key::Flash => "flash",
+            Key::FlashBase => "flash.base",
+            Key::FlashSize => "flash.size",
+            Key::Ram => "ram",
+            Key::RamBase => "ram.base",
+            Key::RamSize => "ram.size",
+            Key::RamStack => "ram.stack",
+            Key::Mpu => "mpu",
+            Key::MpuRegions => "mpu.regions",
+            Key::MpuReads => "mpu.reads",
+        }
+    }
+
+    /// The key as it stands in its table.
+    pub(crate) fn word(self) -> &'static str
+        ensures { result.now ≡ keys.word_of self }
+    {
+        match self {
+            Key::Flash => "flash",
+            Key::Ram => "ram",
+            Key::Mpu => "mpu",
+            Key::FlashBase | Key::RamBase => "base",
+            Key::FlashSize | Key::RamSize => "size",
+            Key::RamStack => "stack",
+            Key::MpuRegions => "regions",
+            Key::MpuReads => "reads",
+        }
+    }
+
+    /// Whether the key may have this number.
+    pub(crate) fn allows(self, number: u32) -> bool
+        ensures { result ≡ keys.allows self number }
+    {
+        match self {
+            Key::FlashBase => number <= 0x1FE0_0000 && number % 0x10_0000 == 0,
+            Key::RamBase => {
+                number >= 0x2000_0000 && number <= 0x3FF0_0000 && number % 0x10_0000 == 0
+            }
+            Key::FlashSize | Key::RamSize => {
+                number >= 1024 && number <= 0x10_0000 && number % 32 == 0
+            }
+            Key::RamStack => matches!(
+                number,
+                512 | 1024 | 2048 | 4096 | 8192 | 16384 | 32768 | 65536
+            ),
+            Key::MpuRegions => number == 8 || number == 16,
+            Key::Flash | Key::Ram | Key::Mpu | Key::MpuReads => false,
+        }
+    }
+}
+
+impl fmt::Display for Key {
+    fn fmt<W: fmt::Write>(&self, f: &mut fmt::Formatter<W>) -> fmt::Result {
+        f.write_str(self.path())
+    }
+}

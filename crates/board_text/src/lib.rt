@@ -1,0 +1,11 @@
+//! Boards, from the texts that describe them.
+#![tactic(auto)]
+
+pub mod board;
+mod document;
+mod extra;
+pub mod fault;
+mod fields;
+pub mod key;
+
+pub use board::read_board;

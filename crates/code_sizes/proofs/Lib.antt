@@ -1,0 +1,4 @@
+mod Bare
+mod Grown
+mod Lends
+mod Same

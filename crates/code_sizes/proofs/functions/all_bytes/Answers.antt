@@ -1,0 +1,9 @@
+use Rattle.ir_program.specs.Seen.{program_of}
+use Rattle.code_sizes.specs.Parts.{seen_sites, function_bytes}
+use Rattle.code_sizes.proofs.Grown.{mapped_more}
+use Rattle.code_sizes.proofs.functions.all_bytes.Goals as goal
+
+pub loop-func-preserved : goal.loop-func-preserved
+loop-func-preserved c =
+    mapped_more (function_bytes (program_of c.args.program.now) (seen_sites c.args.sites.now) c.args.lent.now) c.loop-func.func c.loop-func.all.items _ _
+    c.loop-func.invariant c.in_ok-function_bytes.ensures c.in_ok-push.ensures.items

@@ -1,0 +1,28 @@
+use Rattle.std.proofs.Common.{◌≡◌, ℕ, Bool, IfSome, length, count_by, sym, ap, ◌∙◌, subst}
+use Rattle.std.specs.List.{list_any}
+use Rattle.std.proofs.lemmas.List.{length-map}
+use Rattle.ir_model.specs.Resolved.{NumberedFunc, func_at}
+use Rattle.ir_program.specs.Storages.{shape_of}
+use Rattle.ir_program.specs.Seen.{known_of, program_of}
+use Rattle.plan_model.specs.Lists.{numbers_below}
+use Rattle.plan_model.specs.Lending.{is_local}
+use Rattle.lower.specs.Sizes.{function_size}
+use Rattle.code_sizes.proofs.Bare.{same_function_size}
+use Rattle.code_sizes.proofs.functions.size_with.Goals as goal
+
+pub returns : goal.returns
+returns c =
+    let ks = known_of c.args.program.now in
+    let p = program_of c.args.program.now in
+    let f = c.args.func in
+    let r = c.routine_at-routine.result.now in
+    let calls = c.args.calls.now in
+    let passes : ℕ → Bool = λ k. list_any (is_local f k) c.args.lent.now in
+    let is : func_at p f ≡ _ = c.routine_at-routine.ensures in
+    let size : ℕ → ℕ = λ n. function_size (func_at p f) calls n in
+    let long : c.len.result ≡ length (func_at p f).locals =
+    c.len.ensures ∙ (sym (length-map r.locals (shape_of ks)) ∙ ap (λ (g : NumberedFunc). length g.locals) (sym is)) in
+    let counted = c.in_ok-count.ensures ∙ ap (λ n. count_by passes (numbers_below n)) long in
+    let same =
+    sym (same_function_size ks r calls c.in_ok-count.count) ∙ ap (λ (g : NumberedFunc). function_size g calls c.in_ok-count.count) (sym is) ∙ ap size counted in
+    subst (λ (m : ℕ). IfSome c.function_size.result (λ n. n ≡ m)) same c.function_size.ensures

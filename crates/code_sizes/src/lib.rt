@@ -1,0 +1,9 @@
+//! How many bytes the code of each compartment has, and the vectors, the monitor and its tables.
+#![tactic(auto)]
+
+mod calls;
+mod functions;
+pub mod sizing;
+mod tables;
+
+pub use sizing::sizes;

@@ -1,0 +1,13 @@
+use Rattle.std.proofs.Common.{take, arith}
+use Rattle.std.proofs.lemmas.List.{length-take}
+use Rattle.plan_model.specs.Crossing.{crosses}
+use Rattle.compile_limits.proofs.Wide.{few}
+use Rattle.compile_limits.proofs.site_count.Goals as goal
+
+pub overflow_add-count : goal.overflow_add-count
+overflow_add-count c =
+    let sites = c.args.needs.now.sites in
+    let i = c.loop-site.site-index in
+    let some = few (crosses c.args.groups.now) (take i sites) in
+    let size = length-take i sites in
+    omega arith

@@ -1,0 +1,8 @@
+pub mod Before
+mod FlashCount
+mod RegionBytes
+pub mod Searches
+mod Smallest
+mod Sorted
+mod Steps
+mod Whole

@@ -1,0 +1,13 @@
+mod Filling
+mod FlashBlocks
+mod GlobalsHeld
+mod Hits
+mod Multiples
+mod Offsets
+mod Order
+mod PowersOfTwo
+mod RamApart
+mod RamInside
+mod RamThere
+mod Uses
+mod Within

@@ -1,0 +1,100 @@
+-- In a plan the blocks of RAM lie in it, at multiples of their sizes.
+use Rattle.std.proofs.Common.{◌≡◌, ℕ, ◌+◌, ◌<◌, ◌≤◌, List, [], ◌∷◌, length, map, nat_lt, refl, sym, ap, subst, ◌∙◌, lit<, arith}
+use Rattle.std.proofs.lemmas.Bool.{cases_lt}
+use Rattle.std.proofs.lemmas.List.{get_or_past}
+use Rattle.std.proofs.lemmas.List.FromFn.{length-map-range_with_len, get_or-map-range_with_len}
+use mathlib.Core.Logic.{⊎_elim}
+use Rattle.ir_model.specs.Resolved.{Program}
+use Rattle.plan_model.specs.declared.graph.Final.{Final}
+use Rattle.plan_model.specs.declared.plan.Board.{Board}
+use Rattle.plan_model.specs.declared.plan.Sizes.{Sizes}
+use Rattle.plan_model.specs.declared.plan.Spot.{Spot}
+use Rattle.plan_model.specs.Boards.{IsBoard}
+use Rattle.plan_model.specs.Lists.{numbers_below}
+use Rattle.plan_model.specs.Regions.{region_at}
+use Rattle.plan_model.specs.Blocks.{region_bytes}
+use Rattle.plan_model.specs.RamBlocks.{RamUse, ForStack, ForMonitor, ForRegion, ForUnwritten, RamBlock, ram_blocks, falling}
+use Rattle.plan_model.specs.RamPlacement.{Ram, PlacedBlock, ram_of, ram_needed}
+use Rattle.plan_model.specs.Placement.{plan_of, placed_for, region_spot, no_spot}
+use Rattle.layout_laws.specs.FlashLaws.{IsIn, IsAligned}
+use Rattle.layout_laws.specs.RamPlaces.{block_for, RamIsInside}
+use Rattle.layout_laws.proofs.Multiples.{through, no_rest, from_no_rest}
+use Rattle.layout_laws.proofs.PowersOfTwo.{IsPower, quotient, block_is_power}
+use Rattle.layout_laws.proofs.Uses.{use_block, AreOwn, all_own, ordered_own, positive}
+use Rattle.layout_laws.proofs.Within.{All, Within, found_in, IsBlockIn, filled_within, empty_within, none_used, falls_ordered}
+
+mebibyte : IsPower 0x100000
+mebibyte = record { exponent = 20; is = refl }
+
+thousand : IsPower 1024
+thousand = record { exponent = 10; is = refl }
+
+module _ (p : Program) (f : Final) (s : Sizes) (b : Board) (ok : IsBoard b) (room : ram_needed p f b ≤ b.ram_size) where
+  abbrev ram : Ram
+  ram = ram_of p f b
+
+  abbrev blocks : List RamBlock
+  blocks = falling (ram_blocks p f b.stack)
+
+  own : AreOwn p f b.stack blocks
+  own = ordered_own p f b.stack (λ (c d : RamBlock). nat_lt d.size c.size) (ram_blocks p f b.stack) (all_own p f b.stack)
+
+  use_power : (u : RamUse) → IsPower (use_block p f b.stack u).size
+  use_power ForStack = let k = ok.stack in record { exponent = k.0; is = k.3 }
+  use_power ForMonitor = thousand
+  use_power (ForRegion r) = block_is_power (region_bytes p (region_at f.regions r).globals)
+  use_power ForUnwritten = block_is_power (region_bytes p f.unwritten)
+
+  powers : (bs : List RamBlock) → AreOwn p f b.stack bs → All (λ (c : RamBlock). IsPower c.size) bs
+  powers [] h = tt
+  powers (c ∷ cs) h = (subst (λ (d : RamBlock). IsPower d.size) (sym h.0) (use_power c.use_of), powers cs h.1)
+
+  within : Within b.ram_base ram
+  unfolding ram_of
+  within =
+      filled_within b.ram_base (record { used = 0; tails = []; blocks = [] }) blocks (empty_within b.ram_base) (falls_ordered (ram_blocks p f b.stack)) (powers blocks own) (positive p f b.stack blocks own) (none_used blocks)
+
+  -- the spots of placed blocks are of their sizes; a power of two at most a MiB divides the base of RAM
+  in_ram : (t : PlacedBlock) → IsBlockIn b.ram_base (b.ram_base + ram.used) t → IsIn t.spot b.ram_base b.ram_size × IsAligned t.spot
+  in_ram t h =
+      let low = h.from in
+      let high = h.to in
+      let most = ok.ram_size.most in
+      let small : t.spot.size ≤ 0x100000 = omega arith in
+      let d = quotient t.spot.size 0x100000 h.power mebibyte small in
+      let base = through t.spot.size 0x100000 b.ram_base (record { times = d.0; is = d.1 }) (from_no_rest 0x100000 b.ram_base (lit< tt) ok.ram_aligned) in
+      ((low, omega arith), no_rest t.spot.size t.spot.base (h.aligned base))
+
+  spot_in_ram : (u : RamUse) (t : Spot) → t ≡ placed_for ram u → 0 < t.size → IsIn t b.ram_base b.ram_size × IsAligned t
+  spot_in_ram u t e some =
+      ⊎_elim
+      (λ n. let z : t.size ≡ 0 = ap (λ (q : Spot). q.size) (e ∙ n) in absurd (omega arith))
+      (λ g. subst (λ (q : Spot). IsIn q b.ram_base b.ram_size × IsAligned q) (sym (e ∙ g.2)) (in_ram g.0 g.1))
+      (found_in (IsBlockIn b.ram_base (b.ram_base + ram.used)) ram.blocks u within.blocks)
+
+  abbrev count : ℕ
+  count = length f.regions
+
+  region_there : (r : ℕ) → r < count → region_spot (plan_of p f s b) r ≡ placed_for ram (ForRegion r)
+  unfolding plan_of
+  region_there r l = get_or-map-range_with_len (λ (q : ℕ). placed_for ram (ForRegion q)) 0 count r r no_spot l (omega arith)
+
+  region_missing : (r : ℕ) → count ≤ r → region_spot (plan_of p f s b) r ≡ no_spot
+  unfolding plan_of
+  region_missing r l =
+      let n = length-map-range_with_len (λ (q : ℕ). placed_for ram (ForRegion q)) 0 count in
+      get_or_past (map (λ (q : ℕ). placed_for ram (ForRegion q)) (numbers_below count)) r no_spot (omega arith)
+
+  pub in_plan : (u : RamUse) → 0 < (block_for (plan_of p f s b) u).size → IsIn (block_for (plan_of p f s b) u) b.ram_base b.ram_size × IsAligned (block_for (plan_of p f s b) u)
+  unfolding plan_of
+  in_plan ForStack some = spot_in_ram ForStack (placed_for ram ForStack) refl some
+  in_plan ForMonitor some = spot_in_ram ForMonitor (placed_for ram ForMonitor) refl some
+  in_plan ForUnwritten some = spot_in_ram ForUnwritten (placed_for ram ForUnwritten) refl some
+  in_plan (ForRegion r) some =
+      ⊎_elim
+      (λ l. spot_in_ram (ForRegion r) (region_spot (plan_of p f s b) r) (region_there r l) some)
+      (λ l. let z : (region_spot (plan_of p f s b) r).size ≡ 0 = ap (λ (q : Spot). q.size) (region_missing r l) in absurd (omega arith))
+      (cases_lt r count)
+
+pub ram_is_inside : RamIsInside
+ram_is_inside p f s b u ok fits some = in_plan p f s b ok fits.ram u some

@@ -1,0 +1,4 @@
+pub mod FlashLaws
+pub mod GlobalLaws
+pub mod RamLaws
+pub mod RamPlaces

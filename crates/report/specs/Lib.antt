@@ -1,0 +1,4 @@
+pub mod Subjects
+pub mod Names
+pub mod CompartmentLines
+pub mod Listing

@@ -1,0 +1,52 @@
+-- How a listing tells names, addresses and blocks.
+use Rattle.std.specs.Prelude.{ℕ, List, [], ◌++◌, map, flat_map, codes, get_or, Option, Some, None}
+use Rattle.std.specs.Borrow.{Bor}
+use Rattle.std.specs.Fmt.{decimal}
+use Rattle.lines.specs.Lines.{hexadecimal}
+use Rattle.ir_model.specs.declared.firmware.Peripheral.{Peripheral}
+use Rattle.ir_model.specs.declared.firmware.Func.{Func}
+use Rattle.ir_model.specs.Plain.{PlainFirmware, PlainFile, PlainGlobal, PlainFunc, names_of, func_of}
+
+-- the names of things by their numbers; of what is not there, no byte
+abbrev pub global_name : PlainFirmware → (global : ℕ) → List ℕ
+global_name w x = get_or (map (λ (g : PlainGlobal). g.name) w.globals) x []
+
+abbrev pub periph_name : PlainFirmware → (periph : ℕ) → List ℕ
+periph_name w q = get_or (map (λ (d : Peripheral). d.name) w.periphs) q []
+
+-- of functions by their names and the names of their locals
+pub record FuncNames : Type 0 where
+  pub name : List ℕ
+  pub locals : List (List ℕ)
+
+abbrev pub no_func_names : FuncNames
+no_func_names = record { name = []; locals = [] }
+
+abbrev pub names_in : PlainFunc → FuncNames
+names_in f = record { name = f.name; locals = names_of f.locals }
+
+-- of the function of a number, counted over these files in order
+abbrev pub func_names_in : List PlainFile → (func : ℕ) → FuncNames
+func_names_in fs f = get_or (map names_in (flat_map (λ (d : PlainFile). d.funcs) fs)) f no_func_names
+
+abbrev pub func_names : PlainFirmware → (func : ℕ) → FuncNames
+func_names w f = func_names_in w.files f
+
+abbrev pub func_name : PlainFirmware → (func : ℕ) → List ℕ
+func_name w f = (func_names w f).name
+
+abbrev pub local_name : PlainFirmware → (func local : ℕ) → List ℕ
+local_name w f l = get_or (func_names w f).locals l []
+
+-- of a function that was found
+abbrev pub names_of_found : Option (Bor Func) → FuncNames
+names_of_found None = no_func_names
+names_of_found (Some f) = names_in (func_of f.now)
+
+-- names, each behind a space
+abbrev pub spaced : List (List ℕ) → List ℕ
+spaced ns = flat_map (λ n. codes " " ++ n) ns
+
+-- a range of addresses: its base in eight digits, and its size
+unfoldable pub range_text : (base size : ℕ) → List ℕ
+range_text base size = codes " 0x" ++ hexadecimal 8 base ++ codes " " ++ decimal size

@@ -1,0 +1,12 @@
+//! What `list` prints: the compartments of a firmware on a board, and what lies where.
+#![tactic(auto)]
+
+mod compartment;
+mod exposure;
+mod lent;
+pub mod listing;
+mod naming;
+mod slots;
+pub mod subject;
+mod text;
+mod totals;

@@ -1,0 +1,104 @@
+//! A text that grows.
+
+ghost use Rattle.std.specs.Prelude.{◌≡◌, ◌<◌, ◌++◌, ◌∷◌, [], length, codes, false, IfOk, OnOk};
+ghost use Rattle.std.specs.Fmt.{decimal, digit_glyph};
+ghost use Rattle.lines.specs.Lines.{hexadecimal};
+ghost use Rattle.report.specs.Names.{range_text};
+
+use std::alloc::{AllocError, Global};
+use std::marker::Model;
+
+/// The bytes of printed lines, as they grow.
+#[derive(Drop)]
+pub(crate) struct Text {
+    bytes: Vec<u8>,
+}
+
+impl Model for Text {
+    ghost use Rattle.std.specs.Prelude.{List, ℕ};
+
+    ghost Value = { List ℕ };
+
+    ghost view = { λ t. t.bytes.items };
+}
+
+/// A lower-case hexadecimal digit.
+fn digit(value: u8) -> u8
+    requires { value < 16 }
+    ensures { result ≡ digit_glyph false value }
+{
+    if value < 10 {
+        b'0' + value
+    } else {
+        b'a' - 10 + value
+    }
+}
+
+impl Text {
+    /// A text without bytes. Takes no memory.
+    pub(crate) fn new(alloc: Global) -> Text
+        ensures { result ≡ [] }
+    {
+        Text {
+            bytes: Vec::new(alloc),
+        }
+    }
+
+    /// The bytes. Takes no memory.
+    pub(crate) fn into_bytes(self) -> Vec<u8>
+        ensures { result.items ≡ self }
+    {
+        let Text { bytes } = self;
+        bytes
+    }
+
+    /// Puts these bytes behind those that are there.
+    pub(crate) fn put(&mut self, bytes: &[u8]) -> Result<(), AllocError>
+        ensures { OnOk result (self.new ≡ self.old ++ bytes.now) }
+    {
+        self.bytes.extend_from_slice(bytes)?;
+        Ok(())
+    }
+
+    fn put_byte(&mut self, byte: u8) -> Result<(), AllocError>
+        ensures { OnOk result (self.new ≡ self.old ++ byte ∷ []) }
+    {
+        self.bytes.push(byte)?;
+        Ok(())
+    }
+
+    /// Puts the decimal digits of a number behind the bytes that are there.
+    #[tactic(auto, using(crate::proofs::Digits::decimal_one, crate::proofs::Digits::with_last))]
+    pub(crate) fn put_decimal(&mut self, number: u64) -> Result<(), AllocError>
+        ensures { OnOk result (self.new ≡ self.old ++ decimal number) }
+    {
+        if number < 10 {
+            return self.put_byte(b'0' + number as u8);
+        }
+        self.put_decimal(number / 10)?;
+        self.put_byte(b'0' + (number % 10) as u8)
+    }
+
+    /// Puts so many hexadecimal digits of a number behind the bytes that are there.
+    #[tactic(auto, unfolding(lines::specs::Lines::hexadecimal))]
+    fn put_hexadecimal(&mut self, count: u8, number: u32) -> Result<(), AllocError>
+        ensures { OnOk result (self.new ≡ self.old ++ hexadecimal count number) }
+    {
+        if count == 0 {
+            return Ok(());
+        }
+        self.put_hexadecimal(count - 1, number / 16)?;
+        self.put_byte(digit((number % 16) as u8))
+    }
+
+    /// Puts a range of addresses behind the bytes that are there.
+    #[tactic(auto, unfolding(crate::specs::Names::range_text))]
+    pub(crate) fn put_range(&mut self, base: u32, size: u32) -> Result<(), AllocError>
+        ensures { OnOk result (self.new ≡ self.old ++ range_text base size) }
+    {
+        self.put(b" 0x")?;
+        self.put_hexadecimal(8, base)?;
+        self.put(b" ")?;
+        self.put_decimal(u64::from(size))
+    }
+}
