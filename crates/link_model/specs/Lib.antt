@@ -1,0 +1,4 @@
+pub mod FirstWords
+pub mod LinkedTables
+pub mod LinkedImage
+pub mod Laws

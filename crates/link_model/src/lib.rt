@@ -1,0 +1,4 @@
+//! Which image a firmware gets, as definitions, and laws of them.
+#![tactic(auto)]
+
+pub mod laws;

@@ -1,0 +1,14 @@
+pub mod FlashBack
+pub mod Powers
+pub mod Flash
+pub mod Passing
+pub mod Facts
+pub mod Header
+pub mod OpenBytes
+pub mod Ranges
+pub mod AreaSize
+pub mod ReadBack
+pub mod Limits
+pub mod AreaEnd
+pub mod CodeRegions
+pub mod TablesPass

@@ -1,0 +1,4 @@
+//! Laws of the images of planned firmwares.
+#![tactic(auto)]
+
+pub mod laws;

@@ -1,0 +1,31 @@
+-- The bits of a number that is told by its bits.
+use Rattle.std.proofs.Common.{◌≡◌, ℕ, zero, suc, ◌<◌, ◌+◌, ◌*◌, ◌/◌, ◌%◌, Bool, true, false, cond, List, [], ◌∷◌, length, map, take, get_or, ap, ◌∙◌, lit<, arith}
+use Rattle.std.specs.Int.{bit_at}
+use Rattle.std.proofs.lemmas.Nat.{div-add-mod', mod_below}
+use Rattle.std.proofs.lemmas.Nat.Bits.{bit_at-suc, bit_at_lowest}
+use Rattle.std.proofs.lemmas.List.{get_or-map, get_or-take, length-take}
+use Rattle.plan_model.specs.declared.needs.Needs.{Needs}
+use Rattle.plan_model.specs.InitialGraph.{number_of_bits, mask_where}
+
+lowest_bit : (b : Bool) (m : ℕ) → b ≡ true → (cond b 1 0 + 2 * m) % 2 ≡ 1
+lowest_bit true m e = let d = div-add-mod' (1 + 2 * m) 2 in let l = mod_below (1 + 2 * m) 2 (lit< tt) in omega (arith, d, l)
+lowest_bit false m e = cc
+
+other_bits : (b : Bool) (m : ℕ) → (cond b 1 0 + 2 * m) / 2 ≡ m
+other_bits true m = let d = div-add-mod' (1 + 2 * m) 2 in let l = mod_below (1 + 2 * m) 2 (lit< tt) in omega (arith, d, l)
+other_bits false m = let d = div-add-mod' (0 + 2 * m) 2 in let l = mod_below (0 + 2 * m) 2 (lit< tt) in omega (arith, d, l)
+
+-- a bit that is told is set
+pub bit_told : (bs : List Bool) (i : ℕ) → get_or bs i false ≡ true → bit_at (number_of_bits bs) i ≡ 1
+bit_told [] i e = cc
+bit_told (b ∷ bs) zero e = bit_at_lowest (number_of_bits (b ∷ bs)) ∙ lowest_bit b (number_of_bits bs) e
+bit_told (b ∷ bs) (suc i) e =
+    bit_at-suc (number_of_bits (b ∷ bs)) i ∙ (ap (λ m. bit_at m i) (other_bits b (number_of_bits bs)) ∙ bit_told bs i e)
+
+-- the mask has the bit of a lendable local that passes the test
+pub mask_bit : (n : Needs) (does : ℕ × ℕ → Bool) (i : ℕ) → i < length n.lendable → i < 32 → does (get_or n.lendable i (0, 0)) ≡ true → bit_at (mask_where n does) i ≡ 1
+mask_bit n does i l m t =
+    let size = length-take 32 n.lendable in
+    let there : i < length (take 32 n.lendable) = omega arith in
+    bit_told (map does (take 32 n.lendable)) i
+    (get_or-map does (take 32 n.lendable) i (0, 0) false there ∙ (ap does (get_or-take 32 n.lendable i (0, 0) m) ∙ t))

@@ -1,0 +1,4 @@
+//! What the linked image of a firmware promises the simulation of its runs.
+#![tactic(auto)]
+
+pub mod laws;

@@ -1,0 +1,10 @@
+mod Bare
+mod Loops
+mod Members
+mod Totals
+mod SlotLists
+mod Standing
+mod Cells
+mod Linked
+mod Same
+mod Fits

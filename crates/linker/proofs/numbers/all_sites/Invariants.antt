@@ -1,0 +1,13 @@
+use Rattle.std.proofs.Common.{◌≡◌, ◌<◌, List, map, All}
+use Rattle.linker.specs.Lent.{lent_sites}
+use Rattle.plan_model.specs.Lists.{numbers_below}
+use Rattle.lower.specs.Planned.{call_sites_among}
+use Rattle.lower.specs.declared.places.CallSite.{CallSite}
+use Rattle.linker.proofs.numbers.all_sites.Given as goal
+
+abbrev pub invariant-loop-func : goal.invariant-loop-func
+invariant-loop-func l =
+    record {
+      exact : l.all.items ≡ map (call_sites_among 0 (lent_sites l.sites)) (numbers_below l.func);
+      small : All (λ (ss : List CallSite). All (λ (s : CallSite). s.number < 4096) ss) l.all.items;
+    }
