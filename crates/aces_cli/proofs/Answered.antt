@@ -25,9 +25,9 @@ answer_also Has Had Exceeds Exceeded m l r o (compile_board_large firmware board
 answer_also Has Had Exceeds Exceeded m l r o (compile_read firmware board image bytes text p h k a) = compile_read firmware board image bytes text p (m _ bytes h) (m _ text k) a
 answer_also Has Had Exceeds Exceeded m l r o (check_large firmware e) = check_large firmware (l _ e)
 answer_also Has Had Exceeds Exceeded m l r o (check_read firmware bytes p h a) = check_read firmware bytes p (m _ bytes h) a
-answer_also Has Had Exceeds Exceeded m l r o (source_firmware_large firmware tape steps e) = source_firmware_large firmware tape steps (l _ e)
-answer_also Has Had Exceeds Exceeded m l r o (source_tape_large firmware tape steps bytes h e) = source_tape_large firmware tape steps bytes (m _ bytes h) (l _ e)
-answer_also Has Had Exceeds Exceeded m l r o (source_read firmware tape steps bytes text p h k a) = source_read firmware tape steps bytes text p (m _ bytes h) (m _ text k) a
+answer_also Has Had Exceeds Exceeded m l r o (source_firmware_large firmware policy tape steps e) = source_firmware_large firmware policy tape steps (l _ e)
+answer_also Has Had Exceeds Exceeded m l r o (source_tape_large firmware policy tape steps bytes h e) = source_tape_large firmware policy tape steps bytes (m _ bytes h) (l _ e)
+answer_also Has Had Exceeds Exceeded m l r o (source_read firmware policy tape steps bytes text p h k a) = source_read firmware policy tape steps bytes text p (m _ bytes h) (m _ text k) a
 
 -- nothing is printed and written, and no fault rose
 nothing_more : (old new : World) (o : Outcome) → Quiet old new → new.read_faults ≡ old.read_faults → o.printed ≡ [] → o.written ≡ None → IsCarriedOut old new o
@@ -96,7 +96,7 @@ module _ (Has : Origin → List ℕ → Type 0) (Exceeds : Origin → Type 0) (w
   in_part (Bin image file) h = inl h
   in_part (Compile firmware board image) h = inl h
   in_part (Check firmware) h = inl h
-  in_part (Source firmware tape steps) h = elim h [ inl e ↦ inl e | inr p ↦ inr (part_of p) ]
+  in_part (Source firmware policy tape steps) h = elim h [ inl e ↦ inl e | inr p ↦ inr (part_of p) ]
 
   pub printed_in_part : (e : Result Done Failure) → status_of e ≡ 6 → Does (Answer Has Exceeds r) r old new e → (new.out ≡ old.out) ⊎ IsPartly Has Exceeds words old new
   printed_in_part (Ok Well) q d = let f : ⊥ = omega (arith, q) in absurd f
@@ -133,7 +133,7 @@ module _ (A : Outcome → Type 0) (words : List (List ℕ)) (r : Request) (asks 
   quiet_unless (Bin image file) a h = inl h
   quiet_unless (Compile firmware board image) a h = inl h
   quiet_unless (Check firmware) a h = inl h
-  quiet_unless (Source firmware tape steps) a h = inr (record { firmware = firmware; tape = tape; steps = steps; asks = a })
+  quiet_unless (Source firmware policy tape steps) a h = inr (record { firmware = firmware; policy = policy; tape = tape; steps = steps; asks = a })
 
   pub out_of_memory : (e : Result Done Failure) → status_of e ≡ 6 → Does A r old new e → Says err_old err_new (line_of e) → TellsOutOfMemory words old new err_old err_new
   out_of_memory (Ok Well) q d l = let f : ⊥ = omega (arith, q) in absurd f

@@ -24,7 +24,7 @@ nothing_printed A (Run image tape steps) old new h = h
 nothing_printed A (Bin image file) old new h = h
 nothing_printed A (Compile firmware board image) old new h = h
 nothing_printed A (Check firmware) old new h = h
-nothing_printed A (Source firmware tape steps) old new h = inl h
+nothing_printed A (Source firmware policy tape steps) old new h = inl h
 
 -- memory ran out before anything was printed or written
 pub no_memory : (A : Outcome → Type 0) (r : Request) (old new : World) → Quiet old new → new.read_faults ≡ old.read_faults → Does A r old new (Err NoMemory)
@@ -100,7 +100,7 @@ printed_also A B m (Run image tape steps) old new h = h
 printed_also A B m (Bin image file) old new h = h
 printed_also A B m (Compile firmware board image) old new h = h
 printed_also A B m (Check firmware) old new h = h
-printed_also A B m (Source firmware tape steps) old new h = elim h [ inl e ↦ inl e | inr p ↦ inr (part_also A B m (Source firmware tape steps) old new p) ]
+printed_also A B m (Source firmware policy tape steps) old new h = elim h [ inl e ↦ inl e | inr p ↦ inr (part_also A B m (Source firmware policy tape steps) old new p) ]
 
 -- what did for some answers did for others
 pub did_also : (A B : Outcome → Type 0) → ((o : Outcome) → A o → B o) → (r : Request) (old new : World) (e : Result Done Failure)

@@ -29,6 +29,8 @@ use Rattle.aces_cli.specs.Compiled.{board_text, IsCompiled}
 use Rattle.machine_output.specs.Runs.{fill, end_of, run_lines, end_status}
 use Rattle.aces_cli.specs.Counts.{count_line}
 use Rattle.source_output.specs.SourceRuns.{source_lines, source_status}
+use Rattle.aces_words.specs.declared.policy.Policy.{Policy}
+use Rattle.compartments.specs.Analyses.{AreCompartmentsBy}
 
 -- the bytes that a name is made to hold
 pub record Written : Type 0 where
@@ -134,18 +136,19 @@ pub data CheckAnswer (firmware : List ℕ) (bytes : List ℕ) : Outcome → Type
   no_firmware : (f : Fault) → IsNoFirmware bytes f → CheckAnswer firmware bytes (refused firmware f)
   checked : (w : PlainFirmware) → IsFirmware w bytes → CheckAnswer firmware bytes (done 0 (count_line w) None)
 
--- a run of the source on a tape of this text
-abbrev pub source_outcome : PlainFirmware → (text : List ℕ) → (steps : ℕ) → Outcome
-source_outcome w text steps =
+-- a run of the source in these compartments on a tape of this text
+abbrev pub source_outcome : PlainFirmware → (compartments text : List ℕ) → (steps : ℕ) → Outcome
+source_outcome w compartments text steps =
     let queues = tapes.queues_of text (windows_of w) in
-    done (source_status w queues steps) (source_lines w queues steps) None
+    done (source_status w compartments queues steps) (source_lines w compartments queues steps) None
 
--- the answer to `source` on the bytes of both files, the firmware being read and checked first
-pub data SourceAnswer (firmware tape : List ℕ) (steps : ℕ) (bytes text : List ℕ) : Outcome → Type 0 where
-  no_firmware : (f : Fault) → IsNoFirmware bytes f → SourceAnswer firmware tape steps bytes text (refused firmware f)
-  no_tape : (w : PlainFirmware) (f : Fault) → IsFirmware w bytes → IsNoTape (windows_of w) text f → SourceAnswer firmware tape steps bytes text (refused tape f)
-  ran : (w : PlainFirmware) → IsFirmware w bytes → tapes.first_fault text (windows_of w) ≡ None →
-      SourceAnswer firmware tape steps bytes text (source_outcome w text steps)
+-- the answer to `source` on the bytes of both files, the firmware being read and checked first; the compartments are those of
+-- the policy by what the firmware's functions need on an open board
+pub data SourceAnswer (firmware : List ℕ) (policy : Policy) (tape : List ℕ) (steps : ℕ) (bytes text : List ℕ) : Outcome → Type 0 where
+  no_firmware : (f : Fault) → IsNoFirmware bytes f → SourceAnswer firmware policy tape steps bytes text (refused firmware f)
+  no_tape : (w : PlainFirmware) (f : Fault) → IsFirmware w bytes → IsNoTape (windows_of w) text f → SourceAnswer firmware policy tape steps bytes text (refused tape f)
+  ran : (w : PlainFirmware) (compartments : List ℕ) → IsFirmware w bytes → tapes.first_fault text (windows_of w) ≡ None → AreCompartmentsBy policy w compartments →
+      SourceAnswer firmware policy tape steps bytes text (source_outcome w compartments text steps)
 
 -- `Has` says which bytes a source within its limit holds, and `Exceeds` that one is larger than its limit
 module _ (Has : Origin → List ℕ → Type 0) (Exceeds : Origin → Type 0) where
@@ -172,12 +175,12 @@ module _ (Has : Origin → List ℕ → Type 0) (Exceeds : Origin → Type 0) wh
         Answer (Check firmware) (refused firmware (TooLarge firmware_limit))
     check_read : (firmware : List ℕ) (bytes : List ℕ) (o : Outcome) → Has (firmware_origin firmware) bytes →
         CheckAnswer firmware bytes o → Answer (Check firmware) o
-    source_firmware_large : (firmware tape : List ℕ) (steps : ℕ) → Exceeds (firmware_origin firmware) →
-        Answer (Source firmware tape steps) (refused firmware (TooLarge firmware_limit))
-    source_tape_large : (firmware tape : List ℕ) (steps : ℕ) (bytes : List ℕ) → Has (firmware_origin firmware) bytes → Exceeds (file_origin tape) →
-        Answer (Source firmware tape steps) (refused tape (TooLarge file_limit))
-    source_read : (firmware tape : List ℕ) (steps : ℕ) (bytes text : List ℕ) (o : Outcome) → Has (firmware_origin firmware) bytes → Has (file_origin tape) text →
-        SourceAnswer firmware tape steps bytes text o → Answer (Source firmware tape steps) o
+    source_firmware_large : (firmware : List ℕ) (policy : Policy) (tape : List ℕ) (steps : ℕ) → Exceeds (firmware_origin firmware) →
+        Answer (Source firmware policy tape steps) (refused firmware (TooLarge firmware_limit))
+    source_tape_large : (firmware : List ℕ) (policy : Policy) (tape : List ℕ) (steps : ℕ) (bytes : List ℕ) → Has (firmware_origin firmware) bytes → Exceeds (file_origin tape) →
+        Answer (Source firmware policy tape steps) (refused tape (TooLarge file_limit))
+    source_read : (firmware : List ℕ) (policy : Policy) (tape : List ℕ) (steps : ℕ) (bytes text : List ℕ) (o : Outcome) → Has (firmware_origin firmware) bytes → Has (file_origin tape) text →
+        SourceAnswer firmware policy tape steps bytes text o → Answer (Source firmware policy tape steps) o
 
   -- the answer to any words
   pub data Answers (words : List (List ℕ)) : Outcome → Type 0 where

@@ -8,6 +8,7 @@ use Rattle.aces_reports.specs.declared.failure.Done.TheVariants.{Well, Badly}
 use Rattle.aces_reports.specs.declared.failure.Fault.{Fault}
 use Rattle.aces_reports.specs.declared.failure.Failure.{Failure}
 use Rattle.aces_reports.specs.declared.failure.Failure.TheVariants.{Refused, Unread, Unwritten, Unprinted, NoMemory}
+use Rattle.aces_words.specs.declared.policy.Policy.{Policy}
 use Rattle.aces_words.specs.Requests.{Request, Source, Asks, Origin, origins, target}
 use Rattle.aces_cli.specs.Known.{Held, IsMissing, IsNamed}
 use Rattle.aces_reports.specs.FaultLines.{unread_line, unwritten_line, unprinted_line, memory_line}
@@ -109,7 +110,7 @@ module _ (Answer : Outcome → Type 0) (request : Request) (old new : World) whe
 
   -- where memory ran out nothing was printed, but of a run of the source the first lines
   abbrev pub IsPrintedInPart : Request → Type 0
-  IsPrintedInPart (Source firmware tape steps) = (new.out ≡ old.out) ⊎ IsPart
+  IsPrintedInPart (Source firmware policy tape steps) = (new.out ≡ old.out) ⊎ IsPart
   IsPrintedInPart r = new.out ≡ old.out
 
   -- what a command did, by how it ended
@@ -167,9 +168,10 @@ pub record TellsUnprinted (old new : World) (err_old err_new : SinkState) : Type
 -- the words ask for a run of the source
 pub record AsksForSource (words : List (List ℕ)) : Type 0 where
   pub firmware : List ℕ
+  pub policy : Policy
   pub tape : List ℕ
   pub steps : ℕ
-  pub asks : Asks words (Source firmware tape steps)
+  pub asks : Asks words (Source firmware policy tape steps)
 
 -- memory ran out: nothing was printed, unless the words ask for a run of the source
 pub record TellsOutOfMemory (words : List (List ℕ)) (old new : World) (err_old err_new : SinkState) : Type 0 where

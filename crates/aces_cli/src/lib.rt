@@ -126,8 +126,9 @@ fn perform<'a, F: Files, O: Sink>(
         Command::Check { firmware } => check::check(alloc, firmware, files, out),
         Command::Source {
             firmware,
+            policy,
             tape,
             steps,
-        } => source::source(alloc, firmware, tape, steps, files, out),
+        } => source::source(alloc, firmware, policy, tape, steps, files, out),
     }
 }

@@ -4,7 +4,8 @@ use Rattle.std.specs.Str.{bytes_eq}
 use Rattle.std.specs.Fmt.{decimal}
 use Rattle.std.proofs.lemmas.Slice.Eq.{bytes_eq-Decides}
 use Rattle.std.proofs.Common.{◌≡◌, ℕ, ◌<◌, ◌≤◌, ◌^◌, List, [], ◌∷◌, length, get_or, map, true, Option, Some, None, IfNone, ap, sym, ◌∙◌, arith}
-use Rattle.aces_words.specs.Requests.{Run, Bin, Compile, Check, Source, Asks, IsUsage}
+use Rattle.aces_words.specs.declared.policy.Policy.{Policy}
+use Rattle.aces_words.specs.Requests.{Run, Bin, Compile, Check, Source, policy_word, Asks, IsUsage}
 
 module _ {S : Type 0} (f : S → List ℕ) where
   two : (xs : List S) (a b : S) → 2 ≤ length xs → length xs < 3 → a ≡ get_or xs 0 a → b ≡ get_or xs 1 b → f a ∷ f b ∷ [] ≡ map f xs
@@ -53,6 +54,13 @@ module _ {S : Type 0} (f : S → List ℕ) where
   fifth (x ∷ y ∷ z ∷ u ∷ w ∷ []) e h k t n1 n2 n3 n4 n5 s = let q : n5 ≡ f w = cc in q ∙ ap f (sym t)
   fifth (x ∷ y ∷ z ∷ u ∷ w ∷ v ∷ xs) e h k t n1 n2 n3 n4 n5 s = let e : ⊥ = omega (arith, k) in absurd e
 
+  -- so the third, of more words
+  third : (xs : List S) (c : S) → 5 ≤ length xs → c ≡ get_or xs 2 c → (n1 n2 n3 : List ℕ) (ns : List (List ℕ)) → n1 ∷ n2 ∷ n3 ∷ ns ≡ map f xs → n3 ≡ f c
+  third [] c h t n1 n2 n3 ns s = let e : ⊥ = omega (arith, h) in absurd e
+  third (x ∷ []) c h t n1 n2 n3 ns s = let e : ⊥ = omega (arith, h) in absurd e
+  third (x ∷ y ∷ []) c h t n1 n2 n3 ns s = let e : ⊥ = omega (arith, h) in absurd e
+  third (x ∷ y ∷ z ∷ xs) c h t n1 n2 n3 ns s = let q : n3 ≡ f z = cc in q ∙ ap f (sym t)
+
   -- an item's text, where that is the word
   same_word : (a : S) (name word : List ℕ) → name ≡ f a → bytes_eq name word ≡ true → word ≡ f a
   same_word a name word e h = sym ((bytes_eq-Decides name word).0 h) ∙ e
@@ -96,22 +104,28 @@ module _ {S : Type 0} (f : S → List ℕ) where
     spelled = ap (λ v. v ∷ firmware ∷ []) (same_word a name (codes "check") e t) ∙ ap (λ v. f a ∷ v ∷ []) i ∙ two xs a b h k p q;
   }
 
-  pub source_words : (xs : List S) (a b c d e : S) (name firmware policy tape word : List ℕ) (steps : ℕ) → 5 ≤ length xs → length xs < 6
+  pub source_words : (xs : List S) (a b c d e : S) (name firmware : List ℕ) (policy : Policy) (policy_text tape word : List ℕ) (steps : ℕ) → 5 ≤ length xs → length xs < 6
       → a ≡ get_or xs 0 a → b ≡ get_or xs 1 b → c ≡ get_or xs 2 c → d ≡ get_or xs 3 d → e ≡ get_or xs 4 e
-      → name ≡ f a → bytes_eq name (codes "source") ≡ true → firmware ≡ f b → policy ≡ f c → bytes_eq policy (codes "filename") ≡ true → tape ≡ f d → word ≡ f e
-      → decimal steps ≡ word → steps < 2 ^ 32 → Asks (map f xs) (Source firmware tape steps)
-  source_words xs a b c d e name firmware policy tape word steps h k p q r s t n1 n2 i m1 m2 j l n w = record {
+      → name ≡ f a → bytes_eq name (codes "source") ≡ true → firmware ≡ f b → policy_text ≡ f c → policy_word policy ≡ policy_text → tape ≡ f d → word ≡ f e
+      → decimal steps ≡ word → steps < 2 ^ 32 → Asks (map f xs) (Source firmware policy tape steps)
+  source_words xs a b c d e name firmware policy policy_text tape word steps h k p q r s t n1 n2 i m1 m2 j l n w = record {
     within = w;
-    spelled = ap (λ v. v ∷ firmware ∷ codes "filename" ∷ tape ∷ decimal steps ∷ []) (same_word a name (codes "source") n1 n2) ∙ ap (λ v. f a ∷ v ∷ codes "filename" ∷ tape ∷ decimal steps ∷ []) i
-        ∙ ap (λ v. f a ∷ f b ∷ v ∷ tape ∷ decimal steps ∷ []) (same_word c policy (codes "filename") m1 m2) ∙ ap (λ v. f a ∷ f b ∷ f c ∷ v ∷ decimal steps ∷ []) j
+    spelled = ap (λ v. v ∷ firmware ∷ policy_word policy ∷ tape ∷ decimal steps ∷ []) (same_word a name (codes "source") n1 n2) ∙ ap (λ v. f a ∷ v ∷ policy_word policy ∷ tape ∷ decimal steps ∷ []) i
+        ∙ ap (λ v. f a ∷ f b ∷ v ∷ tape ∷ decimal steps ∷ []) (m2 ∙ m1) ∙ ap (λ v. f a ∷ f b ∷ f c ∷ v ∷ decimal steps ∷ []) j
         ∙ ap (λ v. f a ∷ f b ∷ f c ∷ f d ∷ v ∷ []) (n ∙ l) ∙ five xs a b c d e h k p q r s t;
   }
 
   -- five words of which the last is no number
   pub no_steps : (xs : List S) (e : S) (word : List ℕ) → 5 ≤ length xs → length xs < 6 → e ≡ get_or xs 4 e → word ≡ f e
-      → ((n : ℕ) → n < 2 ^ 32 → decimal n ≡ word → ⊥) → (firmware tape : List ℕ) (steps : ℕ) → Asks (map f xs) (Source firmware tape steps) → ⊥
-  no_steps xs e word h k t m none firmware tape steps asks =
-      none steps asks.within (fifth xs e h k t (codes "source") firmware (codes "filename") tape (decimal steps) asks.spelled ∙ sym m)
+      → ((n : ℕ) → n < 2 ^ 32 → decimal n ≡ word → ⊥) → (firmware : List ℕ) (policy : Policy) (tape : List ℕ) (steps : ℕ) → Asks (map f xs) (Source firmware policy tape steps) → ⊥
+  no_steps xs e word h k t m none firmware policy tape steps asks =
+      none steps asks.within (fifth xs e h k t (codes "source") firmware (policy_word policy) tape (decimal steps) asks.spelled ∙ sym m)
+
+  -- five words of which the third is that of no policy
+  pub no_source_policy : (xs : List S) (c : S) (word : List ℕ) → 5 ≤ length xs → length xs < 6 → c ≡ get_or xs 2 c → word ≡ f c
+      → ((p : Policy) → policy_word p ≡ word → ⊥) → (firmware : List ℕ) (policy : Policy) (tape : List ℕ) (steps : ℕ) → Asks (map f xs) (Source firmware policy tape steps) → ⊥
+  no_source_policy xs c word h k t m none firmware policy tape steps asks =
+      none policy (third xs c h t (codes "source") firmware (policy_word policy) (tape ∷ decimal steps ∷ []) asks.spelled ∙ sym m)
 
 -- what holds of a missing value, and what follows of it
 pub none_also : {X : Type 0} (o : Option X) (P Q : Type 0) → (P → Q) → IfNone o P → IfNone o Q
@@ -121,9 +135,9 @@ none_also (Some x) P Q m h = tt
 -- words that are those of no command are those of no request
 pub no_request : (words : List (List ℕ)) → ((image tape : List ℕ) (steps : ℕ) → Asks words (Run image tape steps) → ⊥) → ((image file : List ℕ) → Asks words (Bin image file) → ⊥) →
     ((firmware board image : List ℕ) → Asks words (Compile firmware board image) → ⊥) → ((firmware : List ℕ) → Asks words (Check firmware) → ⊥) →
-    ((firmware tape : List ℕ) (steps : ℕ) → Asks words (Source firmware tape steps) → ⊥) → IsUsage words
+    ((firmware : List ℕ) (policy : Policy) (tape : List ℕ) (steps : ℕ) → Asks words (Source firmware policy tape steps) → ⊥) → IsUsage words
 no_request words x y z u v (Run image tape steps) asks = x image tape steps asks
 no_request words x y z u v (Bin image file) asks = y image file asks
 no_request words x y z u v (Compile firmware board image) asks = z firmware board image asks
 no_request words x y z u v (Check firmware) asks = u firmware asks
-no_request words x y z u v (Source firmware tape steps) asks = v firmware tape steps asks
+no_request words x y z u v (Source firmware policy tape steps) asks = v firmware policy tape steps asks

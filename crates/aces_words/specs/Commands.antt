@@ -8,4 +8,4 @@ request_of (commands.Run image tape steps) = Run image.now tape.now steps
 request_of (commands.Bin image file) = Bin image.now file.now
 request_of (commands.Compile firmware board image) = Compile firmware.now board.now image.now
 request_of (commands.Check firmware) = Check firmware.now
-request_of (commands.Source firmware tape steps) = Source firmware.now tape.now steps
+request_of (commands.Source firmware policy tape steps) = Source firmware.now policy tape.now steps

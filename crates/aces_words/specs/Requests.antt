@@ -1,6 +1,14 @@
 -- What the words behind the program's name ask for.
 use Rattle.std.specs.Prelude.{◌≡◌, ℕ, ◌^◌, ◌<◌, List, [], ◌∷◌, Option, Some, None, codes}
 use Rattle.std.specs.Fmt.{decimal}
+use Rattle.aces_words.specs.declared.policy.Policy.{Policy}
+use Rattle.aces_words.specs.declared.policy.Policy.TheVariants.{Filename, Optimized, Peripheral}
+
+-- the word of a policy
+abbrev pub policy_word : Policy → List ℕ
+policy_word Filename = codes "filename"
+policy_word Optimized = codes "optimized"
+policy_word Peripheral = codes "peripheral"
 
 pub data Request : Type 0 where
   -- run an image on a tape for at most so many machine steps
@@ -11,8 +19,8 @@ pub data Request : Type 0 where
   Compile : (firmware board image : List ℕ) → Request
   -- read and check a firmware
   Check : (firmware : List ℕ) → Request
-  -- run the source of a firmware on a tape for at most so many steps, each file of the firmware being a compartment
-  Source : (firmware tape : List ℕ) → (steps : ℕ) → Request
+  -- run the source of a firmware on a tape for at most so many steps, the compartments being those of a policy
+  Source : (firmware : List ℕ) → Policy → (tape : List ℕ) → (steps : ℕ) → Request
 
 -- the words of a request; a number is written by its decimal digits, without a leading zero
 abbrev pub words_of : Request → List (List ℕ)
@@ -20,7 +28,7 @@ words_of (Run image tape steps) = codes "run" ∷ image ∷ tape ∷ decimal ste
 words_of (Bin image file) = codes "bin" ∷ image ∷ file ∷ []
 words_of (Compile firmware board image) = codes "compile" ∷ firmware ∷ board ∷ codes "filename" ∷ image ∷ []
 words_of (Check firmware) = codes "check" ∷ firmware ∷ []
-words_of (Source firmware tape steps) = codes "source" ∷ firmware ∷ codes "filename" ∷ tape ∷ decimal steps ∷ []
+words_of (Source firmware policy tape steps) = codes "source" ∷ firmware ∷ policy_word policy ∷ tape ∷ decimal steps ∷ []
 
 -- its numbers have at most 32 bits
 abbrev pub IsWithin : Request → Type 0
@@ -28,7 +36,7 @@ IsWithin (Run image tape steps) = steps < 2 ^ 32
 IsWithin (Bin image file) = Unit {0}
 IsWithin (Compile firmware board image) = Unit {0}
 IsWithin (Check firmware) = Unit {0}
-IsWithin (Source firmware tape steps) = steps < 2 ^ 32
+IsWithin (Source firmware policy tape steps) = steps < 2 ^ 32
 
 -- these words are those of the request
 pub record Asks (words : List (List ℕ)) (request : Request) : Type 0 where
@@ -64,7 +72,7 @@ origins (Run image tape steps) = file_origin image ∷ file_origin tape ∷ []
 origins (Bin image file) = file_origin image ∷ []
 origins (Compile firmware board image) = firmware_origin firmware ∷ file_origin board ∷ []
 origins (Check firmware) = firmware_origin firmware ∷ []
-origins (Source firmware tape steps) = firmware_origin firmware ∷ file_origin tape ∷ []
+origins (Source firmware policy tape steps) = firmware_origin firmware ∷ file_origin tape ∷ []
 
 -- the file that it writes
 abbrev pub target : Request → Option (List ℕ)
@@ -72,4 +80,4 @@ target (Run image tape steps) = None
 target (Bin image file) = Some file
 target (Compile firmware board image) = Some image
 target (Check firmware) = None
-target (Source firmware tape steps) = None
+target (Source firmware policy tape steps) = None

@@ -3,7 +3,10 @@
 ghost use Rattle.std.specs.Prelude.{◌≡◌, ◌↔◌, ◌^◌, ◌<◌, ℕ, List, map, string_bytes, IsTrue, IfSome, IfNone};
 ghost use Rattle.std.specs.Fmt.{decimal};
 ghost use Rattle.aces_words.specs.Requests.{Run, Bin, Compile, Check, Source, Asks, IsUsage};
+ghost use Rattle.aces_words.specs.declared.policy.Policy.{Policy as ThePolicy};
 ghost use Rattle.aces_words.specs.Commands.{request_of};
+
+use crate::policy::Policy;
 
 /// A command, with what its words name.
 #[derive(Clone, Copy)]
@@ -29,9 +32,10 @@ pub enum Command<'a> {
     Check {
         firmware: &'a str,
     },
-    /// Runs the source of a firmware on a tape for at most so many steps, each file of it being a compartment.
+    /// Runs the source of a firmware on a tape for at most so many steps, the compartments being those of a policy.
     Source {
         firmware: &'a str,
+        policy: Policy,
         tape: &'a str,
         steps: u32,
     },
@@ -122,17 +126,18 @@ fn check_of(words: &[String]) -> Option<Command<'_>>
     }
 }
 
-/// `source FIRMWARE filename TAPE N`, if the words are of that form.
+/// `source FIRMWARE POLICY TAPE N`, if the words are of that form.
 fn source_of(words: &[String]) -> Option<Command<'_>>
     ensures command { IfSome result (λ c. Asks (map string_bytes words.now) (request_of c)) }
-    ensures none { IfNone result ((firmware tape : List ℕ) (steps : ℕ) → Asks (map string_bytes words.now) (Source firmware tape steps) → ⊥) }
+    ensures none { IfNone result ((firmware : List ℕ) (policy : ThePolicy) (tape : List ℕ) (steps : ℕ) → Asks (map string_bytes words.now) (Source firmware policy tape steps) → ⊥) }
 {
     match words {
-        [name, firmware, policy, tape, steps]
-            if name.as_str() == "source" && policy.as_str() == "filename" => {
+        [name, firmware, policy, tape, steps] if name.as_str() == "source" => {
+            let policy = Policy::of_word(policy.as_str())?;
             let steps = number(steps.as_str())?;
             Some(Command::Source {
                 firmware: firmware.as_str(),
+                policy,
                 tape: tape.as_str(),
                 steps,
             })

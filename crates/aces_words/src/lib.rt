@@ -2,5 +2,7 @@
 #![tactic(auto)]
 
 mod command;
+mod policy;
 
 pub use command::Command;
+pub use policy::Policy;

@@ -16,7 +16,6 @@ use Rattle.ir_model.proofs.NoExcess.{word_short}
 use Rattle.ir_program.specs.Windows.{window_of, windows_of}
 use Rattle.ir_run.specs.Runs.{RunState}
 use Rattle.lines.specs.Lines.{name_of}
-use Rattle.source_output.specs.Compartments.{compartments_of}
 use Rattle.source_output.specs.SourceRuns.{ending_of, end_of, event_lines, source_run, source_end, source_event_lines}
 
 pub goes_at_first : (p : Program) (queues : List (List ℕ)) → ending_of (start p queues) ≡ None
@@ -46,20 +45,19 @@ names_are_short w h k =
     let front = each_left Quiet (structs ++ periphs) globals (each_left Quiet (structs ++ periphs ++ globals) (file_lines 0 0 w.files) h.tokens) in
     short_at 0 w.periphs k (each_right Quiet structs periphs front)
 
--- a run begins as the firmware's, where its program and its compartments are the firmware's
+-- a run begins as the firmware's, where its program is the firmware's
 pub begun : (w : PlainFirmware) (queues : List (List ℕ)) (p : Program) (c : List ℕ) (r : RunState)
-    → r ≡ record { program = p; compartments = c; state = start p queues; taken = 0 } → p ≡ resolve w → c ≡ compartments_of w → r ≡ source_run w queues
-begun w queues p c r h e f =
+    → r ≡ record { program = p; compartments = c; state = start p queues; taken = 0 } → p ≡ resolve w → r ≡ source_run w c queues
+begun w queues p c r h e =
     h
     ∙ ap (λ q. let s : RunState = record { program = q; compartments = c; state = start q queues; taken = 0 } in s) e
-    ∙ ap (λ d. let s : RunState = record { program = resolve w; compartments = d; state = start (resolve w) queues; taken = 0 } in s) f
 
 -- a run that begins as that of a firmware has its lines and its end
-module _ (w : PlainFirmware) (queues : List (List ℕ)) (n : ℕ) (r : RunState) (begins : r ≡ source_run w queues) where
-  pub lines_of_run : (ws : List Window) → ws ≡ windows_of w → event_lines r.program r.compartments ws n r.state ≡ source_event_lines w queues n
+module _ (w : PlainFirmware) (c : List ℕ) (queues : List (List ℕ)) (n : ℕ) (r : RunState) (begins : r ≡ source_run w c queues) where
+  pub lines_of_run : (ws : List Window) → ws ≡ windows_of w → event_lines r.program r.compartments ws n r.state ≡ source_event_lines w c queues n
   lines_of_run ws e =
       ap (λ (x : RunState). event_lines x.program x.compartments ws n x.state) begins
-      ∙ ap (λ v. event_lines (resolve w) (compartments_of w) v n (start (resolve w) queues)) e
+      ∙ ap (λ v. event_lines (resolve w) c v n (start (resolve w) queues)) e
 
-  pub end_of_run : end_of r.program r.compartments n r.state ≡ source_end w queues n
+  pub end_of_run : end_of r.program r.compartments n r.state ≡ source_end w c queues n
   end_of_run = ap (λ (x : RunState). end_of x.program x.compartments n x.state) begins

@@ -1,4 +1,3 @@
-mod Files
 mod Sources
 mod Begins
 mod Causes

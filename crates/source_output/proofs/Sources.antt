@@ -1,7 +1,7 @@
 -- Runs of the source that have made so many steps, and what the answer of the next step says.
 use Rattle.std.proofs.Common.{◌≡◌, ℕ, suc, ◌+◌, ◌<◌, List, Some, None, refl, ap, sym, ◌∙◌, subst, arith}
 use Rattle.words.specs.Runs.{run}
-use Rattle.device_model.specs.declared.event.Event.{Event}
+use Rattle.events.specs.declared.event.Event.{Event}
 use Rattle.ir_model.specs.Resolved.{Program}
 use Rattle.ir_model.specs.State.{SourceEnd, SourceState, Running, Ended, SourceTurn}
 use Rattle.ir_model.specs.Step.{source_turn, source_step, source_event}

@@ -1,3 +1,2 @@
-pub mod Compartments
 pub mod SourceRuns
 pub mod Ends

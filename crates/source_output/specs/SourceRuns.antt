@@ -11,7 +11,6 @@ use Rattle.ir_model.specs.Runs.{source_after, source_events}
 use Rattle.ir_program.specs.Windows.{windows_of}
 use Rattle.ir_run.specs.Runs.{RunState}
 use Rattle.lines.specs.Lines.{event_line, line_feed}
-use Rattle.source_output.specs.Compartments.{compartments_of}
 
 -- how a run has ended, if it has
 abbrev pub ending_of : SourceState → Option SourceEnd
@@ -46,17 +45,17 @@ module _ (p : Program) (compartments : List ℕ) where
   abbrev pub event_lines : List Window → (steps : ℕ) → SourceState → List ℕ
   event_lines windows n s = flat_map (event_line windows) (events (source_step p compartments) (source_event p compartments) n s)
 
--- the run of a firmware with the words that its peripherals give, before its first step
-abbrev pub source_run : PlainFirmware → (queues : List (List ℕ)) → RunState
-source_run w queues = record { program = resolve w; compartments = compartments_of w; state = start (resolve w) queues; taken = 0 }
+-- the run of a firmware with the compartments of its functions and the words that its peripherals give, before its first step
+abbrev pub source_run : PlainFirmware → (compartments : List ℕ) → (queues : List (List ℕ)) → RunState
+source_run w compartments queues = record { program = resolve w; compartments = compartments; state = start (resolve w) queues; taken = 0 }
 
--- a firmware, the words that its peripherals give, and how many steps are made
-module _ (w : PlainFirmware) (queues : List (List ℕ)) (steps : ℕ) where
+-- a firmware, the compartments of its functions, the words that its peripherals give, and how many steps are made
+module _ (w : PlainFirmware) (compartments : List ℕ) (queues : List (List ℕ)) (steps : ℕ) where
   abbrev pub source_end : Option SourceEnd
-  source_end = ending_of (source_after (resolve w) (compartments_of w) queues steps)
+  source_end = ending_of (source_after (resolve w) compartments queues steps)
 
   abbrev pub source_event_lines : List ℕ
-  source_event_lines = flat_map (event_line (windows_of w)) (source_events (resolve w) (compartments_of w) queues steps)
+  source_event_lines = flat_map (event_line (windows_of w)) (source_events (resolve w) compartments queues steps)
 
   -- the lines of the events, and that of the end behind them
   abbrev pub source_lines : List ℕ

@@ -9,11 +9,9 @@ ghost use Rattle.ir_program.specs.Windows.{windows_of};
 ghost use Rattle.source_output.specs.SourceRuns.{source_run, source_end, source_event_lines, source_lines};
 ghost use Rattle.source_output.specs.Ends.{seen_end, IsCause};
 
-pub mod compartments;
 mod ending;
 mod stepping;
 
-use compartments::compartments;
 use device_model::image::Window;
 use device_model::tape::Tape;
 use ending::end_line;
@@ -58,11 +56,16 @@ impl From<Failed> for Broken {
 }
 
 /// The run of a firmware on a tape, before its first step.
-fn begun(alloc: Global, firmware: &Checked, tape: Tape) -> Result<SourceRun<'_>, AllocError>
-    ensures run { IfOk result (λ run. run ≡ source_run (firmware_of firmware.now) tape) }
+fn begun(
+    alloc: Global,
+    firmware: &Checked,
+    compartments: Vec<u32>,
+    tape: Tape,
+) -> Result<SourceRun<'_>, AllocError>
+    ensures run { IfOk result (λ run. run ≡ source_run (firmware_of firmware.now) compartments.items tape) }
     ensures within { OnOk result (IsWithinLimits (firmware_of firmware.now)) }
 {
-    let compartments = compartments(alloc, firmware.firmware())?;
+    firmware.firmware();
     let program = resolve(alloc, firmware)?;
     let run = SourceRun::start(alloc, program, compartments, tape)?;
     Ok(run)
@@ -73,26 +76,27 @@ fn print_run<O: Sink>(
     alloc: Global,
     firmware: &Checked,
     windows: &[Window],
+    compartments: Vec<u32>,
     tape: Tape,
     steps: u32,
     out: &mut O,
 ) -> Result<Option<SourceEnd>, Broken>
     requires { windows.now ≡ windows_of (firmware_of firmware.now) }
-    ensures end { IfOk result (λ end. seen_end end ≡ source_end (firmware_of firmware.now) tape steps) }
+    ensures end { IfOk result (λ end. seen_end end ≡ source_end (firmware_of firmware.now) compartments.items tape steps) }
     ensures lines { IsTrue O.told → OnOk result
-        (O.written out.new ≡ O.written out.old ++ source_event_lines (firmware_of firmware.now) tape steps) }
+        (O.written out.new ≡ O.written out.old ++ source_event_lines (firmware_of firmware.now) compartments.items tape steps) }
     ensures faultless { OnOk result (O.faults out.new ≡ O.faults out.old) }
     ensures cause { IfErr result (IsCause (O.faults out.old) (O.faults out.new)) }
     ensures part { IsTrue O.told → OnErr result
-        (AddsPrefix (O.written out.old) (O.written out.new) (source_event_lines (firmware_of firmware.now) tape steps)) }
+        (AddsPrefix (O.written out.old) (O.written out.new) (source_event_lines (firmware_of firmware.now) compartments.items tape steps)) }
 {
-    let mut run = begun(alloc, firmware, tape)?;
+    let mut run = begun(alloc, firmware, compartments, tape)?;
     print_events(&mut run, windows, steps, out)
 }
 
-/// Runs the source of a firmware on a tape for at most so many steps, each of its files being a compartment. Puts the line
-/// of each event, and then that of the end, by one put each. Answers how it ended; none where it ran all the steps without
-/// an end.
+/// Runs the source of a firmware on a tape for at most so many steps, its functions standing in these compartments. Puts the
+/// line of each event, and then that of the end, by one put each. Answers how it ended; none where it ran all the steps
+/// without an end.
 ///
 /// # Errors
 ///
@@ -101,20 +105,21 @@ pub fn print_source<O: Sink>(
     alloc: Global,
     firmware: &Checked,
     windows: &[Window],
+    compartments: Vec<u32>,
     tape: Tape,
     steps: u32,
     out: &mut O,
 ) -> Result<Option<SourceEnd>, Broken>
     requires { windows.now ≡ windows_of (firmware_of firmware.now) }
-    ensures end { IfOk result (λ end. seen_end end ≡ source_end (firmware_of firmware.now) tape steps) }
+    ensures end { IfOk result (λ end. seen_end end ≡ source_end (firmware_of firmware.now) compartments.items tape steps) }
     ensures lines { IsTrue O.told → OnOk result
-        (O.written out.new ≡ O.written out.old ++ source_lines (firmware_of firmware.now) tape steps) }
+        (O.written out.new ≡ O.written out.old ++ source_lines (firmware_of firmware.now) compartments.items tape steps) }
     ensures faultless { OnOk result (O.faults out.new ≡ O.faults out.old) }
     ensures cause { IfErr result (IsCause (O.faults out.old) (O.faults out.new)) }
     ensures part { IsTrue O.told → OnErr result
-        (AddsPrefix (O.written out.old) (O.written out.new) (source_lines (firmware_of firmware.now) tape steps)) }
+        (AddsPrefix (O.written out.old) (O.written out.new) (source_lines (firmware_of firmware.now) compartments.items tape steps)) }
 {
-    let end = print_run(alloc, firmware, windows, tape, steps, out)?;
+    let end = print_run(alloc, firmware, windows, compartments, tape, steps, out)?;
     out.put(end_line(end))?;
     Ok(end)
 }

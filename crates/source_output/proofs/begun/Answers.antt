@@ -1,11 +1,9 @@
-use Rattle.std.proofs.Common.{ap, ◌∙◌}
 use Rattle.ir_model.specs.Plain.{firmware_of}
 use Rattle.ir_program.specs.Seen.{program_of}
-use Rattle.source_output.specs.Compartments.{compartments_of}
 use Rattle.source_output.proofs.Begins as begins
 use Rattle.source_output.proofs.begun.Goals as goal
 
 pub returns-clause-run : goal.returns-clause-run
 returns-clause-run c =
-    begins.begun (firmware_of c.args.firmware.now) c.args.tape (program_of c.in_ok-program.program) c.in_ok-compartments.compartments.items c.in_ok-run.run'
-    c.in_ok-run.ensures c.in_ok-program.ensures.exact (c.in_ok-compartments.ensures ∙ ap (λ f. compartments_of (firmware_of f)) c.firmware.ensures.same)
+    begins.begun (firmware_of c.args.firmware.now) c.args.tape (program_of c.in_ok-program.program) c.args.compartments.items c.in_ok-run.run'
+    c.in_ok-run.ensures c.in_ok-program.ensures.exact

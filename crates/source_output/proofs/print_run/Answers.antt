@@ -24,14 +24,14 @@ print_events-requires-clause-short g c k =
 pub returns-clause-end : goal.returns-clause-end
 returns-clause-end g c =
     subst (λ e. IfOk c.print_events.result (λ end. seen_end end ≡ e))
-    (end_of_run (firmware_of c.args.firmware.now) c.args.tape c.args.steps c.in_ok-run.run' c.in_ok-run.ensures.run) c.print_events.ensures.end
+    (end_of_run (firmware_of c.args.firmware.now) c.args.compartments.items c.args.tape c.args.steps c.in_ok-run.run' c.in_ok-run.ensures.run) c.print_events.ensures.end
 
 pub returns-clause-lines : goal.returns-clause-lines
 returns-clause-lines g c t =
     subst (λ l. OnOk c.print_events.result (g.O.Sink.written c.print_events.new.out ≡ g.O.Sink.written c.args.out.now ++ l))
-    (lines_of_run (firmware_of c.args.firmware.now) c.args.tape c.args.steps c.in_ok-run.run' c.in_ok-run.ensures.run c.args.windows.now c.requires) (c.print_events.ensures.lines t)
+    (lines_of_run (firmware_of c.args.firmware.now) c.args.compartments.items c.args.tape c.args.steps c.in_ok-run.run' c.in_ok-run.ensures.run c.args.windows.now c.requires) (c.print_events.ensures.lines t)
 
 pub returns-clause-part : goal.returns-clause-part
 returns-clause-part g c t =
     subst (λ l. OnErr c.print_events.result (AddsPrefix (g.O.Sink.written c.args.out.now) (g.O.Sink.written c.print_events.new.out) l))
-    (lines_of_run (firmware_of c.args.firmware.now) c.args.tape c.args.steps c.in_ok-run.run' c.in_ok-run.ensures.run c.args.windows.now c.requires) (c.print_events.ensures.part t)
+    (lines_of_run (firmware_of c.args.firmware.now) c.args.compartments.items c.args.tape c.args.steps c.in_ok-run.run' c.in_ok-run.ensures.run c.args.windows.now c.requires) (c.print_events.ensures.part t)

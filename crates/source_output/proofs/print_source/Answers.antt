@@ -9,13 +9,13 @@ use Rattle.source_output.proofs.print_source.Goals as goal
 pub returns-in_err-end-clause-part : goal.returns-in_err-end-clause-part
 returns-in_err-end-clause-part g c t =
     let w = firmware_of c.args.firmware.now in
-    on_err _ _ (prefix_longer _ _ (source_event_lines w c.args.tape c.args.steps) (end_line (source_end w c.args.tape c.args.steps)) (c.in_err-end.ensures.part t))
+    on_err _ _ (prefix_longer _ _ (source_event_lines w c.args.compartments.items c.args.tape c.args.steps) (end_line (source_end w c.args.compartments.items c.args.tape c.args.steps)) (c.in_err-end.ensures.part t))
 
 pub returns-in_err-put-clause-part : goal.returns-in_err-put-clause-part
 returns-in_err-put-clause-part g c t =
     let w = firmware_of c.args.firmware.now in
-    let lines = source_event_lines w c.args.tape c.args.steps in
-    let last = end_line (source_end w c.args.tape c.args.steps) in
+    let lines = source_event_lines w c.args.compartments.items c.args.tape c.args.steps in
+    let last = end_line (source_end w c.args.compartments.items c.args.tape c.args.steps) in
     let piece : c.end_line.result.now ≡ last = c.end_line.ensures ∙ ap end_line c.in_ok-end.ensures.end in
     on_err _ _ (prefix_part (g.O.Sink.written c.args.out.now) (g.O.Sink.written c.print_run.new.out) (g.O.Sink.written c.put.new.self) lines last [] _
     (c.in_ok-end.ensures.lines t)
@@ -25,8 +25,8 @@ returns-in_err-put-clause-part g c t =
 pub returns-clause-lines : goal.returns-clause-lines
 returns-clause-lines g c t =
     let w = firmware_of c.args.firmware.now in
-    let lines = source_event_lines w c.args.tape c.args.steps in
-    let last = end_line (source_end w c.args.tape c.args.steps) in
+    let lines = source_event_lines w c.args.compartments.items c.args.tape c.args.steps in
+    let last = end_line (source_end w c.args.compartments.items c.args.tape c.args.steps) in
     let piece : c.end_line.result.now ≡ last = c.end_line.ensures ∙ ap end_line c.in_ok-end.ensures.end in
     c.in_ok-put.ensures.bytes t
     ∙ (ap (λ l. g.O.Sink.written c.print_run.new.out ++ l) piece

@@ -12,7 +12,7 @@ use Rattle.aces_cli.proofs.source.source.Goals as goal
 pub returns-in_err-bytes : goal.returns-in_err-bytes
 returns-in_err-bytes g c =
     let firmware = c.args.firmware.now in
-    let r = Source firmware c.args.tape.now c.args.steps in
+    let r = Source firmware c.args.policy c.args.tape.now c.args.steps in
     let large = IsKnownLarge g.F.Files c.args.files.now in
     let all = Answer (IsKnown g.F.Files c.args.files.now) large r in
     let old = world g.F.Files c.args.files.now (sink g.O.Sink c.args.out.now) in
@@ -21,14 +21,14 @@ returns-in_err-bytes g c =
     subst (Does all r old new) (sym x.1)
     (load_failed all large r (firmware_origin firmware) old new
     (record { held = c.load_firmware.ensures.same; write_faults = c.load_firmware.ensures.writes; out = refl })
-    (inl refl) (λ t n. inl (refl, n)) (λ e. source_firmware_large firmware c.args.tape.now c.args.steps e) x.0
+    (inl refl) (λ t n. inl (refl, n)) (λ e. source_firmware_large firmware c.args.policy c.args.tape.now c.args.steps e) x.0
     (subst (IsLoadFailure large old.told old.held (firmware_origin firmware) old.read_faults new.read_faults) (sym x.2) c.in_err-bytes.ensures.err))
 
 pub returns-in_err-text : goal.returns-in_err-text
 returns-in_err-text g c =
     let firmware = c.args.firmware.now in
     let tape = c.args.tape.now in
-    let r = Source firmware tape c.args.steps in
+    let r = Source firmware c.args.policy tape c.args.steps in
     let told = g.F.Files.told in
     let large : Held → Origin → Type 0 = λ held s. WasTooLarge g.F.Files s × (IsTrue told → Exceeds held s) in
     let all = Answer (IsKnown g.F.Files c.args.files.now) (IsKnownLarge g.F.Files c.args.files.now) r in
@@ -44,14 +44,14 @@ returns-in_err-text g c =
     (load_failed all (large old.held) r (file_origin tape) old new
     (record { held = c.load.ensures.same ∙ c.load_firmware.ensures.same; write_faults = c.load.ensures.writes ∙ c.load_firmware.ensures.writes; out = refl })
     (inr (inl refl)) (λ t n. inr ((bytes, c.in_ok-bytes.ensures.ok.1 t), inl (refl, n)))
-    (λ e. source_tape_large firmware tape c.args.steps bytes c.in_ok-bytes.ensures.ok e) x.0 reads_too)
+    (λ e. source_tape_large firmware c.args.policy tape c.args.steps bytes c.in_ok-bytes.ensures.ok e) x.0 reads_too)
 
 pub returns : goal.returns
 returns g c =
     let firmware = c.args.firmware.now in
     let tape = c.args.tape.now in
     let steps = c.args.steps in
-    let r = Source firmware tape steps in
+    let r = Source firmware c.args.policy tape steps in
     let bytes = c.in_ok-bytes.bytes.items in
     let text = c.in_ok-text.text.items in
     let of = g.F.Files in
@@ -63,4 +63,4 @@ returns g c =
     let known = rw c.load_firmware.ensures.same at c.in_ok-text.ensures.ok in
     did_then all r old (of.held c.load.new.files) (of.read_faults c.load.new.files) (of.write_faults c.load.new.files) (sink g.O.Sink c.source_texts.new.out) c.source_texts.result
     (c.load.ensures.same ∙ c.load_firmware.ensures.same) (c.in_ok-text.ensures.reads ∙ c.in_ok-bytes.ensures.reads) (c.load.ensures.writes ∙ c.load_firmware.ensures.writes)
-    (did_also (SourceAnswer firmware tape steps bytes text) all (λ o a. source_read firmware tape steps bytes text o c.in_ok-bytes.ensures.ok known a) r old mid c.source_texts.result ran)
+    (did_also (SourceAnswer firmware c.args.policy tape steps bytes text) all (λ o a. source_read firmware c.args.policy tape steps bytes text o c.in_ok-bytes.ensures.ok known a) r old mid c.source_texts.result ran)
