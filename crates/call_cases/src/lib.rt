@@ -7,8 +7,6 @@ mod buses;
 #[cfg(test)]
 mod files;
 #[cfg(test)]
-mod firmwares;
-#[cfg(test)]
 mod instructions;
 #[cfg(test)]
 mod machines;

@@ -5,9 +5,9 @@ ghost use Rattle.device_model.specs.Rules.{ObeysRules, IsWindow};
 
 use armv7m::machine::{Machine, Step};
 use armv7m::state::End;
-use device_model::event::Event;
 use device_model::image::{Image, Window};
 use device_model::tape::Tape;
+use events::event::Event;
 use listed::Listed;
 use names::is_name;
 use std::alloc::{AllocError, Global};

@@ -1,0 +1,40 @@
+//! Boards, and texts that are none, as text.
+
+use anyhow::Result;
+use board_text::fault::BoardFault;
+use board_text::read_board;
+use plan_model::plan::Board;
+use std::alloc::Global;
+
+fn board_of(alloc: Global, board: &Board) -> Result<String> {
+    let Board {
+        flash_base,
+        flash_size,
+        ram_base,
+        ram_size,
+        stack,
+        regions,
+        closed,
+    } = *board;
+    let line = format!(in alloc;
+        "flash {flash_base:#010x} {flash_size} ram {ram_base:#010x} {ram_size} stack {stack} regions {regions} closed {closed}\n"
+    )?;
+    Ok(line)
+}
+
+/// The board that a text describes, or why it is none.
+pub(crate) fn board_line(alloc: Global, bytes: &[u8]) -> Result<String> {
+    let line = match read_board(alloc, bytes) {
+        Ok(board) => return board_of(alloc, &board),
+        Err(BoardFault::NoMemory) => String::from_str(alloc, "out of memory\n")?,
+        Err(BoardFault::NotToml) => String::from_str(alloc, "not toml\n")?,
+        Err(BoardFault::Missing(key)) => format!(in alloc; "missing {key}\n")?,
+        Err(BoardFault::Kind(key)) => format!(in alloc; "kind {key}\n")?,
+        Err(BoardFault::Range(key)) => format!(in alloc; "range {key}\n")?,
+        Err(BoardFault::Extra(path)) => {
+            let path = String::from_utf8(path.into_vec())?;
+            format!(in alloc; "extra {path}\n")?
+        }
+    };
+    Ok(line)
+}
