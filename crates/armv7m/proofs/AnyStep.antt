@@ -30,7 +30,7 @@ use Rattle.armv7m.specs.declared.fetching.Fetched.TheVariants.{Took, NotAllowed,
 use Rattle.armv7m.specs.Step.{fetch, performed, fetched, running, turn}
 use Rattle.armv7m.specs.Confinement.{Each, AnyOf, Misses}
 use Rattle.armv7m.proofs.Tested.{put_kept, push_kept, verdict_to_system}
-use Rattle.device_model.specs.declared.event.Event.{Event}
+use Rattle.events.specs.declared.event.Event.{Event}
 use Rattle.armv7m.specs.AnyStep.{AnyStep}
 
 -- several words

@@ -2,7 +2,7 @@
 use Rattle.std.proofs.Common.{◌≡◌, ℕ, List, length, Option, sym, subst, inl, inr}
 use Rattle.device_model.specs.declared.image.Image.{Image}
 use Rattle.device_model.specs.Rules.{ObeysRules}
-use Rattle.device_model.specs.declared.event.Event.{Event}
+use Rattle.events.specs.declared.event.Event.{Event}
 use Rattle.armv7m.specs.declared.parts.Parts.{Parts}
 use Rattle.armv7m.specs.State.{State, Turn, by_mpu}
 use Rattle.armv7m.specs.Step.{turn}

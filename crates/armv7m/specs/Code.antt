@@ -7,7 +7,7 @@ use Rattle.thumb_model.specs.declared.table.Instr.TheVariants.{BranchLink, Branc
 use Rattle.thumb_model.specs.Table.{InTable, encode}
 use Rattle.mpu_model.specs.declared.region.Access.TheVariants.{Fetch}
 use Rattle.device_model.specs.declared.image.Image.{Image}
-use Rattle.device_model.specs.declared.event.Event.{Event}
+use Rattle.events.specs.declared.event.Event.{Event}
 use Rattle.mem_bus.specs.Places.{place, InFlash}
 use Rattle.words.specs.Bytes.{read}
 use Rattle.words.specs.Runs.{Goes}

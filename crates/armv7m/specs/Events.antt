@@ -2,7 +2,7 @@
 use Rattle.std.specs.Prelude.{◌≡◌, ℕ, List, true, false, Some}
 use Rattle.words.specs.Bytes.{cut}
 use Rattle.device_model.specs.declared.image.Image.{Image}
-use Rattle.device_model.specs.declared.event.Event.{Event}
+use Rattle.events.specs.declared.event.Event.{Event}
 use Rattle.armv7m.specs.declared.state.End.{End}
 use Rattle.armv7m.specs.State.{State, Judge}
 use Rattle.mem_bus.specs.Memory.{compartment_of}

@@ -1,7 +1,7 @@
 -- The parts of a running machine as a state, and what code leaves of them.
 use Rattle.std.specs.Prelude.{Option}
 use Rattle.device_model.specs.declared.image.Image.{Image}
-use Rattle.device_model.specs.declared.event.Event.{Event}
+use Rattle.events.specs.declared.event.Event.{Event}
 use Rattle.armv7m.specs.declared.parts.Parts.{Parts}
 use Rattle.armv7m.specs.State.{State, Turn, by_mpu}
 use Rattle.armv7m.specs.Act.{Act}

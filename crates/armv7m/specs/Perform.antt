@@ -4,7 +4,7 @@ use Rattle.words.specs.Arithmetic.{word}
 use Rattle.words.specs.Bytes.{cut}
 use Rattle.mpu_model.specs.declared.region.Access.TheVariants.{Read, Write}
 use Rattle.device_model.specs.declared.image.Image.{Image}
-use Rattle.device_model.specs.declared.event.Event.{Event}
+use Rattle.events.specs.declared.event.Event.{Event}
 use Rattle.mem_bus.specs.declared.answer.Loaded.{Loaded}
 use Rattle.mem_bus.specs.declared.answer.Loaded.TheVariants.{Value, Device, NoInput, Unmapped}
 use Rattle.mem_bus.specs.declared.answer.Stored.{Stored}

@@ -4,7 +4,7 @@ use Rattle.words.specs.Bytes.{read}
 use Rattle.words.specs.Runs.{run, events}
 use Rattle.mpu_model.specs.Registers.{at_reset}
 use Rattle.device_model.specs.declared.image.Image.{Image}
-use Rattle.device_model.specs.declared.event.Event.{Event}
+use Rattle.events.specs.declared.event.Event.{Event}
 use Rattle.armv7m.specs.State.{State}
 use Rattle.armv7m.specs.Exceptions.{vector}
 use Rattle.armv7m.specs.Step.{step, event}

@@ -13,7 +13,7 @@ ghost use Rattle.armv7m.specs.Tests as tests;
 use crate::parts::Parts;
 use crate::state::{CoreRegisters, End, ProtectionState, StopReason};
 use crate::{CCR, CFSR, MMFAR, SHCSR};
-use device_model::event::Event;
+use events::event::Event;
 use mem_bus::answer::{Loaded, Stored};
 use mem_bus::bus::{Bus, cut_to_width};
 use mpu_model::region::Access;

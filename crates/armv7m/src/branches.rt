@@ -7,7 +7,7 @@ ghost use Rattle.armv7m.specs.Parts.{left, does};
 
 use crate::parts::Parts;
 use crate::state::{CoreRegisters, End, StopReason};
-use device_model::event::Event;
+use events::event::Event;
 
 impl Parts {
     /// The registers change, and nothing else.

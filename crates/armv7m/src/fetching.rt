@@ -10,7 +10,7 @@ ghost use Rattle.armv7m.specs.Step as step;
 
 use crate::parts::Parts;
 use crate::state::StopReason;
-use device_model::event::Event;
+use events::event::Event;
 use mpu_model::region::Access;
 use thumb_model::decoding::decode;
 

@@ -6,7 +6,7 @@ ghost use Rattle.armv7m.specs.Instructions.{act};
 ghost use Rattle.armv7m.specs.Parts.{left, does};
 
 use crate::parts::Parts;
-use device_model::event::Event;
+use events::event::Event;
 use thumb_model::table::Instr;
 use words::operations::{add, moved};
 

@@ -5,7 +5,7 @@ ghost use Rattle.armv7m.specs.Parts.{state_of, left, left_by};
 ghost use Rattle.armv7m.specs.State as state;
 
 use crate::state::{CoreRegisters, End, FaultStatus, ProtectionState, StopReason};
-use device_model::event::Event;
+use events::event::Event;
 use mem_bus::bus::Bus;
 use mpu_model::region::Access;
 

@@ -8,7 +8,7 @@ ghost use Rattle.armv7m.specs.State.{at};
 
 use crate::data::{add_or_subtract, immediate, immediate_amount, operation, shift_by};
 use crate::parts::Parts;
-use device_model::event::Event;
+use events::event::Event;
 use thumb_model::table::Instr;
 use words::conditions::{compare_flags, holds};
 use words::operations::{add, moved, signed_quotient, unsigned_quotient};

@@ -15,7 +15,7 @@ use crate::accesses::{Verdict, is_in_system, test_access};
 use crate::parts::Parts;
 use crate::state::{CoreRegisters, ProtectionState, StopReason};
 use arrayvec::ArrayVec;
-use device_model::event::Event;
+use events::event::Event;
 use mem_bus::bus::Bus;
 use mpu_model::region::Access;
 

@@ -8,7 +8,7 @@ ghost use Rattle.armv7m.specs.System as system;
 
 use crate::parts::Parts;
 use crate::state::CoreRegisters;
-use device_model::event::Event;
+use events::event::Event;
 
 /// The number of CONTROL (B5.1.1).
 const CONTROL: u8 = 20;

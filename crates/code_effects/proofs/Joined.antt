@@ -2,7 +2,7 @@
 use Rattle.std.proofs.Common.{◌≡◌, ℕ, ◌+◌, List, [], ◌∷◌, ◌++◌, length, Option, refl, arith}
 use Rattle.words.specs.declared.conditions.Flags.{Flags}
 use Rattle.device_model.specs.declared.image.Image.{Image}
-use Rattle.device_model.specs.declared.event.Event.{Event}
+use Rattle.events.specs.declared.event.Event.{Event}
 use Rattle.armv7m.specs.declared.state.End.{End}
 use Rattle.armv7m.specs.State.{State, Judge}
 use Rattle.armv7m.specs.Code.{Runs}

@@ -1,6 +1,6 @@
 -- A table of functions that are called by what a sensor gives; its last cell is null.
 use Rattle.std.specs.Prelude.{◌≡◌, ℕ, [], ◌∷◌, Some, None, Bool, true, false, codes, refl}
-use Rattle.device_model.specs.declared.event.Event.{Event}
+use Rattle.events.specs.declared.event.Event.{Event}
 use Rattle.words.specs.Runs.{run, events}
 use Rattle.words.specs.Bytes.{cut}
 use Rattle.ir_model.specs.declared.firmware.BinOp.TheVariants.{Add, Mul}

@@ -1,7 +1,7 @@
 -- Short ways to write a firmware down, and to run it.
 use Rattle.std.specs.Prelude.{ℕ, List, [], ◌∷◌, None, false}
 use Rattle.words.specs.Runs.{run, events}
-use Rattle.device_model.specs.declared.event.Event.{Event}
+use Rattle.events.specs.declared.event.Event.{Event}
 use Rattle.ir_model.specs.declared.firmware.Inst.{Inst}
 use Rattle.ir_model.specs.declared.firmware.Term.{Term}
 use Rattle.ir_model.specs.declared.firmware.Term.TheVariants as term

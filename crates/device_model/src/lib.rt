@@ -1,7 +1,6 @@
 //! A device as data: its memories and peripherals' windows, recorded input, and the accesses that a run makes.
 #![tactic(auto)]
 
-pub mod event;
 pub mod image;
 mod line;
 pub mod tape;

@@ -1,7 +1,7 @@
 //! The typing rules of calls and results.
 
 ghost use Rattle.std.specs.Prelude.{◌≡◌, Option, Some, None, map};
-ghost use Rattle.ir_model.specs.Types.{type_of, same, same_row, same_result, Callee, result_of, boxed_result_of, types_from, gives};
+ghost use Rattle.ir_model.specs.Types.{type_of, same_result, Callee, result_of, boxed_result_of, types_from, gives};
 ghost use Rattle.ir_model.specs.Plain.{func_of, slot_of};
 ghost use Rattle.ir_model.specs.Resolve.{type_named, row_from};
 ghost use Rattle.ir_model.specs.Rules as rules;
@@ -13,50 +13,6 @@ use ir_model::equal::same_type;
 use ir_model::firmware::{Func, Slot};
 use ir_model::name::Name;
 use ir_model::types::Ty;
-
-fn is_row(params: &[Slot], types: &[Ty]) -> bool
-    ensures { result ≡ same_row (row_from (map slot_of params.now)) (types_from (map type_of types.now)) }
-{
-    match params {
-        [] => match types {
-            [] => true,
-            [_, ..] => false,
-        },
-        [param, more @ ..] => match types {
-            [] => false,
-            [ty, rest @ ..] => same_type(&param.ty, ty) && is_row(more, rest),
-        },
-    }
-}
-
-/// Whether two results are of one type, or both nothing.
-fn is_result(outcome: &Option<Ty>, other: &Option<Box<Ty>>) -> bool
-    ensures { result ≡ same_result (result_of outcome.now) (boxed_result_of other.now) }
-{
-    match outcome {
-        None => other.is_none(),
-        Some(ty) => match other {
-            None => false,
-            Some(other) => same_type(ty, other),
-        },
-    }
-}
-
-/// Whether a type is that of a function.
-pub fn is_callee(func: &Func, ty: &Ty) -> bool
-    ensures { result ≡ same (Callee (row_from (func_of func.now).params) (func_of func.now).outcome) (type_of ty.now) }
-{
-    match ty {
-        Ty::Callee(signature) => is_row(func.params.as_slice(), &signature.params.items)
-            && is_result(&func.result, &signature.result),
-        Ty::U8 => false,
-        Ty::U16 => false,
-        Ty::U32 => false,
-        Ty::Ptr(_) => false,
-        Ty::Array(_, _) => false,
-        Ty::Named(_) => false,
-    }
-}
 
 fn fit_slots(func: &FuncScope, params: &[Slot], args: &[Name]) -> bool
     requires { IsFuncScope func.now }

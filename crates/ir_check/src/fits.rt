@@ -8,10 +8,11 @@ ghost use Rattle.ir_model.specs.Layout.{known, fields_named};
 ghost use Rattle.ir_model.specs.Rules as rules;
 ghost use Rattle.ir_check.specs.Scopes.{IsScope, IsFuncScope};
 
-use crate::calls::{is_call, is_callee, is_icall, is_outcome};
+use crate::calls::{is_call, is_icall, is_outcome};
 use crate::lookup::{field_named, func_named, global_named, local_named, register_type};
 use crate::registers::is_register_type;
 use crate::scope::{FuncScope, Scope};
+use ir_model::callee::is_callee;
 use ir_model::equal::same_type;
 use ir_model::firmware::{Inst, Term};
 use ir_model::name::Name;

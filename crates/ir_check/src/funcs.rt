@@ -1,7 +1,7 @@
 //! Functions.
 
 ghost use Rattle.std.specs.Prelude.{◌≡◌, ◌+◌, ◌*◌, [], IfOk, IfErr};
-ghost use Rattle.ir_model.specs.Plain.{func_of, funcs_of, firmware_of, names_of, regs_of};
+ghost use Rattle.ir_model.specs.Plain.{func_of, funcs_of, firmware_of};
 ghost use Rattle.ir_model.specs.Layout.{known, rounded_up};
 ghost use Rattle.ir_model.specs.Frames.{locals_size};
 ghost use Rattle.ir_model.specs.Typing.{funcs_checks};
@@ -21,7 +21,7 @@ use crate::spot::Spot;
 use ir_model::check::CheckKind;
 use ir_model::firmware::Func;
 use ir_model::types::Ty;
-use name_tables::{Names, add_slots};
+use name_tables::{Names, local_names, register_names};
 use std::alloc::{AllocError, Global};
 
 /// The slots of a function, no name being taken before.
@@ -75,23 +75,6 @@ fn frame(scope: &Scope, func: &Func, locals: u64) -> Result<(), CheckFault>
         CheckKind::FrameTooLarge { bytes },
         Spot::Func(&func.name),
     )
-}
-
-fn register_names(alloc: Global, func: &Func) -> Result<Names<'_>, AllocError>
-    ensures { IfOk result (λ n. n ≡ names_of (regs_of (func_of func.now))) }
-{
-    let mut names = Names::new(alloc);
-    add_slots(&mut names, func.params.as_slice())?;
-    add_slots(&mut names, func.regs.as_slice())?;
-    Ok(names)
-}
-
-fn local_names(alloc: Global, func: &Func) -> Result<Names<'_>, AllocError>
-    ensures { IfOk result (λ n. n ≡ names_of (func_of func.now).locals) }
-{
-    let mut names = Names::new(alloc);
-    add_slots(&mut names, func.locals.as_slice())?;
-    Ok(names)
 }
 
 fn func_scope<'a>(

@@ -3,7 +3,7 @@ use Rattle.std.proofs.Common.{◌≡◌, ℕ, zero, suc, ◌+◌, ◌%◌, ◌<�
 use Rattle.std.proofs.lemmas.Bool.{leb-true, and_parts}
 use Rattle.std.proofs.Math.ListN.{get_or}
 use Rattle.words.specs.Bytes.{cut}
-use Rattle.device_model.specs.declared.event.Event.{Event}
+use Rattle.events.specs.declared.event.Event.{Event}
 use Rattle.ir_model.specs.Types.{PlainType, is_integer, width_of}
 use Rattle.ir_model.specs.Layout.{cell_at}
 use Rattle.ir_model.specs.Resolved.{Program, Value, Instance, OfGlobal, OfPeriph, OfLocal, NumberedTerm, Jump, Branch, Ret, Here, Does, Ends, global_at, window_at, NumberedWindow, no_window, cells_of_global, cells_of_local, here}

@@ -1,6 +1,6 @@
 -- Laws of layouts and of source runs.
 use Rattle.std.specs.Prelude.{◌≡◌, ℕ, ◌+◌, ◌<◌, ◌≤◌, List, [], ◌∷◌, length, Some}
-use Rattle.device_model.specs.declared.event.Event.{Event}
+use Rattle.events.specs.declared.event.Event.{Event}
 use Rattle.ir_model.specs.Types.{PlainType, width_of}
 use Rattle.ir_model.specs.Plain.{PlainStruct, PlainFirmware}
 use Rattle.ir_model.specs.Layout.{CellPlace, known, shape}

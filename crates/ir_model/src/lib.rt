@@ -1,6 +1,7 @@
 //! The firmware language: its parts as types, and its definitions.
 #![tactic(auto)]
 
+pub mod callee;
 pub mod check;
 pub mod checked;
 pub mod clones;

@@ -1,7 +1,7 @@
 //! The names of a firmware and of a function.
 
 ghost use Rattle.std.specs.Prelude.{◌≡◌, ◌≤◌, map, length, IfOk};
-ghost use Rattle.ir_model.specs.Plain.{firmware_of, func_of, funcs_of, names_of, regs_of};
+ghost use Rattle.ir_model.specs.Plain.{firmware_of, func_of, funcs_of};
 ghost use Rattle.ir_model.specs.Resolve as resolving;
 ghost use Rattle.ir_program.specs.Seen.{target_of};
 ghost use Rattle.ir_program.specs.Storages.{pointee_of};
@@ -14,7 +14,9 @@ use ir_model::name::Name;
 use ir_model::types::Ty;
 use ir_program::program::Target;
 use layouts::table::Layouts;
-use name_tables::{Names, add_slots, func_names, global_names, label_names, periph_names};
+use name_tables::{
+    func_names, global_names, label_names, local_names, periph_names, register_names,
+};
 use std::alloc::{AllocError, Global};
 
 fn struct_layouts(alloc: Global, firmware: &Firmware) -> Result<Layouts<'_>, AllocError>
@@ -49,23 +51,6 @@ pub(crate) fn named_scope<'a>(
         periphs,
         funcs,
     })
-}
-
-fn register_names(alloc: Global, source: &Func) -> Result<Names<'_>, AllocError>
-    ensures { IfOk result (λ n. n ≡ names_of (regs_of (func_of source.now))) }
-{
-    let mut names = Names::new(alloc);
-    add_slots(&mut names, source.params.as_slice())?;
-    add_slots(&mut names, source.regs.as_slice())?;
-    Ok(names)
-}
-
-fn local_names(alloc: Global, source: &Func) -> Result<Names<'_>, AllocError>
-    ensures { IfOk result (λ n. n ≡ names_of (func_of source.now).locals) }
-{
-    let mut names = Names::new(alloc);
-    add_slots(&mut names, source.locals.as_slice())?;
-    Ok(names)
 }
 
 /// The names of a function.

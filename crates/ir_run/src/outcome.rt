@@ -1,6 +1,6 @@
 //! What a step answers.
 
-use device_model::event::Event;
+use events::event::Event;
 use thiserror::Error;
 
 /// A fault of the source.

@@ -14,7 +14,7 @@ use crate::cells::{cut_number, has_port, width_of};
 use crate::outcome::{SourceEnd, SourceStep};
 use crate::parts::Parts;
 use crate::registers::{advance, write_register};
-use device_model::event::Event;
+use events::event::Event;
 use ir_model::types::Ty;
 use ir_program::program::Program;
 use ir_program::value::Value;

@@ -7,8 +7,8 @@ ghost use Rattle.lines.specs.Lines as lines;
 
 use armv7m::state::{End, StopReason};
 use arrayvec::ArrayVec;
-use device_model::event::Event;
 use device_model::image::Window;
+use events::event::Event;
 use std::marker::Model;
 
 /// The room for a line, in bytes. That of an event has at most 131: twenty for the digits of the compartment, seven bytes

@@ -9,7 +9,7 @@ use Rattle.words.specs.Runs.{run, events}
 use Rattle.words.proofs.Runs.{run-add}
 use Rattle.device_model.specs.declared.image.Image.{Image}
 use Rattle.device_model.specs.declared.image.Window.{Window}
-use Rattle.device_model.specs.declared.event.Event.{Event}
+use Rattle.events.specs.declared.event.Event.{Event}
 use Rattle.device_model.specs.Rules.{ObeysRules}
 use Rattle.armv7m.specs.declared.state.End.{End}
 use Rattle.armv7m.specs.declared.state.End.TheVariants.{Halt, InputEnd, Limit, Stop, Refused}

@@ -3,7 +3,7 @@ use Rattle.std.proofs.Common.{◌≡◌, ℕ, zero, suc, ◌+◌, ◌-◌, ◌<�
 use Rattle.names.proofs.Lengths.{name_lengths}
 use Rattle.device_model.specs.declared.image.Image.{Image}
 use Rattle.device_model.specs.declared.image.Window.{Window}
-use Rattle.device_model.specs.declared.event.Event.{Event}
+use Rattle.events.specs.declared.event.Event.{Event}
 use Rattle.mem_bus.specs.Places.{Place, InRam, InFlash, InWindow, inside, choose, find_window, place}
 use Rattle.device_model.specs.Rules.{ObeysRules, AreWindows}
 use Rattle.armv7m.specs.State.{State, Touched, by_mpu}

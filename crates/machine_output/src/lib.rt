@@ -12,8 +12,8 @@ ghost use Rattle.machine_output.specs.Runs.{end_of, event_lines, run_lines, HasL
 use armv7m::laws::{ended_machines, listed_accesses};
 use armv7m::machine::Machine;
 use armv7m::state::End;
-use device_model::event::Event;
 use device_model::image::{Image, Window};
+use events::event::Event;
 use lines::{end_line, event_line};
 use outside::{Failed, Sink};
 

@@ -6,6 +6,6 @@ pub mod bus;
 pub mod laws;
 mod target;
 
-pub use device_model::event::Event;
 pub use device_model::image::{Image, Window};
 pub use device_model::tape::{Tape, TapeFault};
+pub use events::event::Event;

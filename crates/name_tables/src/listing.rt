@@ -1,7 +1,7 @@
 //! The names of the parts of a firmware, in order.
 
 ghost use Rattle.std.specs.Prelude.{◌≡◌, ◌++◌, map, OnOk, IfOk};
-ghost use Rattle.ir_model.specs.Plain.{PlainStruct, PlainGlobal, slot_of, struct_of, global_of, func_of, names_of};
+ghost use Rattle.ir_model.specs.Plain.{PlainStruct, PlainGlobal, slot_of, struct_of, global_of, func_of, names_of, regs_of};
 
 use crate::table::Names;
 use ir_model::firmware::{Block, Func, Global as GlobalDecl, Peripheral, Slot, StructDecl};
@@ -80,4 +80,31 @@ pub fn add_slots<'a>(names: &mut Names<'a>, slots: &'a [Slot]) -> Result<(), All
         names.push(&slot.name)?;
     }
     Ok(())
+}
+
+/// The names of a function's registers, the parameters first.
+///
+/// # Errors
+///
+/// There is no memory for them.
+pub fn register_names(alloc: Global, func: &Func) -> Result<Names<'_>, AllocError>
+    ensures { IfOk result (λ n. n ≡ names_of (regs_of (func_of func.now))) }
+{
+    let mut names = Names::new(alloc);
+    add_slots(&mut names, func.params.as_slice())?;
+    add_slots(&mut names, func.regs.as_slice())?;
+    Ok(names)
+}
+
+/// The names of a function's locals.
+///
+/// # Errors
+///
+/// There is no memory for them.
+pub fn local_names(alloc: Global, func: &Func) -> Result<Names<'_>, AllocError>
+    ensures { IfOk result (λ n. n ≡ names_of (func_of func.now).locals) }
+{
+    let mut names = Names::new(alloc);
+    add_slots(&mut names, func.locals.as_slice())?;
+    Ok(names)
 }

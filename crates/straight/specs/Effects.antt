@@ -6,7 +6,7 @@ use Rattle.words.specs.Bytes.{read, write, cut}
 use Rattle.thumb_model.specs.declared.table.Instr.{Instr}
 use Rattle.mpu_model.specs.declared.region.Access.TheVariants.{Read, Write}
 use Rattle.device_model.specs.declared.image.Image.{Image}
-use Rattle.device_model.specs.declared.event.Event.{Event}
+use Rattle.events.specs.declared.event.Event.{Event}
 use Rattle.mem_bus.specs.Places.{InWindow, place}
 use Rattle.armv7m.specs.declared.state.End.TheVariants.{InputEnd}
 use Rattle.armv7m.specs.State.{Judge}

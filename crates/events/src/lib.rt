@@ -1,0 +1,4 @@
+//! Events: the accesses of peripherals that a run makes.
+#![tactic(auto)]
+
+pub mod event;
