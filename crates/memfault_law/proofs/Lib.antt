@@ -3,6 +3,6 @@ mod Lent
 mod Scan
 mod Emulated
 mod FaultList
-mod Encodings
+pub mod Encodings
 mod FaultCode
 mod FaultLaw

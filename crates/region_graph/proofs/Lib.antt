@@ -13,7 +13,7 @@ mod MaskBits
 mod Pairs
 mod Reached
 mod Steps
-mod UsersHave
+pub mod UsersHave
 mod WholeGraph
 mod Windows
 mod Zipped

@@ -1,4 +1,4 @@
-mod SvcEncoded
+pub mod SvcEncoded
 mod SvcCode
 mod Targets
 mod Enter
