@@ -1,17 +1,17 @@
 -- What the slot of a data region holds: just what the region's block does. So of a compartment's slots one alone holds an address of a
 -- region, and lets a writer store there.
-use Rattle.std.proofs.Common.{◌≡◌, ◌≢◌, ℕ, zero, suc, ◌<◌, ◌≤◌, ◌+◌, ◌-◌, ◌*◌, ◌/◌, ◌%◌, ◌^◌, ◌↔◌, inl, inr, Bool, true, false, ◌&&◌, ◌||◌, List, [], ◌∷◌, ◌++◌, length, map, filter, get_or, cond, nat_eq, nat_lt, nat_le, refl, ap, sym, ◌∙◌, subst, eqb-true, pow_pos, lit<, arith, div-lt_iff_lt-mul}
+use Rattle.std.proofs.Common.{◌≡◌, ◌≢◌, ℕ, ◌<◌, ◌≤◌, ◌+◌, ◌-◌, ◌*◌, ◌/◌, ◌%◌, ◌^◌, ◌↔◌, inl, inr, Bool, true, false, ◌&&◌, ◌||◌, List, [], ◌∷◌, ◌++◌, length, map, cond, nat_eq, nat_lt, refl, ap, sym, ◌∙◌, subst, eqb-true, pow_pos, lit<, arith, div-lt_iff_lt-mul}
 use Rattle.std.specs.Prelude.{IsTrue}
-use Rattle.std.specs.Int.{IsPowerOfTwo, bit_at}
+use Rattle.std.specs.Int.{IsPowerOfTwo}
 use Rattle.std.proofs.Math.Pow.{pow_mono}
-use Rattle.std.proofs.lemmas.Bool.{leb-true, ltb-false, ltb-true, cases_eq}
+use Rattle.std.proofs.lemmas.Bool.{leb-true, ltb-false, cases_eq}
 use Rattle.std.proofs.lemmas.Nat.Bits.{bit_at-zero}
 use mathlib.Core.Logic.{⊎_elim}
 use Rattle.mpu_model.specs.declared.region.Access.TheVariants.{Write}
 use Rattle.mpu_model.specs.declared.words.Rights.{Rights}
 use Rattle.mpu_model.specs.declared.words.Rights.TheVariants.{Ram, Background, Device}
 use Rattle.mpu_model.specs.Regions.{holds, allows}
-use Rattle.mpu_model.specs.RegionWords.{region_of, may}
+use Rattle.mpu_model.specs.RegionWords.{region_of}
 use Rattle.mpu_model.specs.Configured.{closed_from, OpenEighthsAreHeld}
 use Rattle.mpu_model.specs.Laws.{RegionsHoldTheirBlocks, RegionsGiveTheirRights}
 use Rattle.thread_runs.specs.Areas as areas
@@ -24,7 +24,6 @@ use Rattle.plan_model.specs.declared.graph.Final.{Final}
 use Rattle.plan_model.specs.declared.plan.Board.{Board}
 use Rattle.plan_model.specs.declared.plan.Plan.{Plan}
 use Rattle.plan_model.specs.declared.plan.Sizes.{Sizes}
-use Rattle.plan_model.specs.declared.plan.Spot.{Spot}
 use Rattle.plan_model.specs.Lists.{has}
 use Rattle.plan_model.specs.Regions.{region_at}
 use Rattle.plan_model.specs.Blocks.{block, has_eighths, open_eighths, subregions_out, region_bytes}

@@ -1,7 +1,6 @@
 -- The data regions of the final graph: each global is in just one of them, or in none if nobody uses it; each has a global, and all
 -- who write or read one of its globals are among its writers or readers.
-use Rattle.std.proofs.Common.{◌≡◌, ℕ, zero, suc, ◌<◌, ◌≤◌, ◌+◌, ◌⊎◌, inl, inr, Bool, true, false, not, ◌&&◌, ◌||◌, List, [], ◌∷◌, length, cond, get_or, position, Option, Some, None, refl, ap, sym, ◌∙◌, subst, arith}
-use Rattle.std.proofs.lemmas.Bool.{cases_order}
+use Rattle.std.proofs.Common.{◌≡◌, ℕ, ◌<◌, ◌⊎◌, inl, inr, Bool, true, false, not, ◌&&◌, ◌||◌, List, [], ◌∷◌, length, cond, Some, None, refl, ap, sym, ◌∙◌, subst, arith}
 use Rattle.std.proofs.lemmas.List.Quantifiers.{position-Some}
 use mathlib.Core.Logic.{⊎_elim}
 use Rattle.layout.proofs.Searches.{position_here}
@@ -13,7 +12,6 @@ use Rattle.plan_model.specs.declared.graph.Final.{Final}
 use Rattle.plan_model.specs.Lists.{has, is_empty, union}
 use Rattle.plan_model.specs.Groups.{writes, reads}
 use Rattle.plan_model.specs.Regions.{region_at, no_region}
-use Rattle.plan_model.specs.Merging.{joined_region}
 use Rattle.plan_model.specs.InitialGraph.{Users, users_of, has_users, compartments_that, initial_graph, data_regions, unwritten}
 use Rattle.plan_model.specs.FinalGraph.{IsFinal}
 use Rattle.plan_model.specs.Placement.{region_with}
@@ -115,8 +113,8 @@ module _ (p : Program) (n : Needs) (f : Final) (slots : ℕ) (final : IsFinal p 
   unwritten_unused x h = (free_are p n f.groups x (subst (λ ns. has ns x ≡ true) unwritten_is h)).1
 
   -- a global of a region is not one of them
-  pub written_or_not : (r x : ℕ) → r < length f.regions → has (region_at f.regions r).globals x ≡ true → has f.unwritten x ≡ false
-  written_or_not r x l h = by (has f.unwritten x) refl
+  pub not_unwritten : (r x : ℕ) → r < length f.regions → has (region_at f.regions r).globals x ≡ true → has f.unwritten x ≡ false
+  not_unwritten r x l h = by (has f.unwritten x) refl
     where
       by : (b : Bool) → has f.unwritten x ≡ b → has f.unwritten x ≡ false
       by false e = e

@@ -1,7 +1,7 @@
 -- The areas of a planned firmware's globals: in RAM, aligned, apart, and off the stack and the monitor's block.
-use Rattle.std.proofs.Common.{◌≡◌, ◌≢◌, ℕ, zero, suc, ◌<◌, ◌≤◌, ◌+◌, ◌-◌, ◌*◌, ◌/◌, ◌%◌, ◌⊎◌, inl, inr, List, [], ◌∷◌, length, map, get_or, refl, ap, sym, ◌∙◌, subst, lit<, arith}
+use Rattle.std.proofs.Common.{◌≡◌, ◌≢◌, ℕ, ◌<◌, ◌≤◌, ◌+◌, ◌-◌, ◌*◌, ◌/◌, ◌%◌, ◌⊎◌, inl, inr, List, length, map, get_or, ap, sym, ◌∙◌, subst, lit<, arith}
 use Rattle.std.proofs.lemmas.List.{get_or-map, length-map}
-use Rattle.std.proofs.lemmas.List.FromFn.{get_or-map-range_with_len, length-map-range_with_len, length-range_with_len}
+use Rattle.std.proofs.lemmas.List.FromFn.{get_or-map-range_with_len, length-map-range_with_len}
 use mathlib.Core.Logic.{⊎_elim}
 use Rattle.device_model.specs.Rules.{block_size}
 use Rattle.ir_model.specs.Types.{width_of}
@@ -22,7 +22,7 @@ use Rattle.linked_images.specs.Planned.{IsPlanned, plan}
 use Rattle.linked_images.proofs.Facts.{stack_in, stack_size_is, stack_least, monitor_in, monitor_size_is}
 use Rattle.linked_images.proofs.Passing.{apart_from}
 use Rattle.linked_globals.proofs.CellWidths.{Divides, Aligned, none, more, through, plus, multiple, global_shaped}
-use Rattle.linked_globals.proofs.GlobalPlaces.{GlobalLaws, IsByte, address, in_ram, aligned_at, apart, off_stack, off_monitor}
+use Rattle.linked_globals.proofs.GlobalPlaces.{GlobalLaws, address, in_ram, aligned_at, apart, off_stack, off_monitor}
 use Rattle.linked_globals.proofs.Lists.{each_weaker}
 use Rattle.linked_globals.proofs.Objects.{IsIn, cells_inside, cells_laid, each_object, objects_laid}
 

@@ -1,5 +1,5 @@
 -- The globals of a planned firmware in its linked image.
-use Rattle.std.proofs.Common.{◌≡◌, ℕ, ◌<◌, ◌≤◌, ◌+◌, ◌-◌, Bool, true, false, length, map, get_or, refl, ap, sym, ◌∙◌, subst, arith}
+use Rattle.std.proofs.Common.{◌≡◌, ℕ, ◌<◌, ◌+◌, ◌-◌, Bool, true, false, length, refl, sym, subst, arith}
 use Rattle.ir_model.specs.Plain.{PlainFirmware}
 use Rattle.ir_model.specs.Resolve.{resolve}
 use Rattle.ir_model.specs.Resolved.{Program}
@@ -17,7 +17,7 @@ use Rattle.link_model.specs.LinkedImage.{linked}
 use Rattle.link_model.specs.LinkedTables.{tables_of}
 use Rattle.relation.specs.Builds.{global_starts}
 use Rattle.linked_images.specs.Planned.{IsPlanned, planned_tables, planned_image}
-use Rattle.linked_promises.specs.Parts.{linked_build, LoansAreKept}
+use Rattle.linked_promises.specs.Parts.{LoansAreKept}
 use Rattle.linked_globals.specs.Globals.{GlobalsArePlaced}
 use Rattle.linked_globals.proofs.GlobalPlaces.{address, in_ram}
 use Rattle.linked_globals.proofs.GlobalAreas.{count_is, address_is, inside, aligned, all_laid, off}

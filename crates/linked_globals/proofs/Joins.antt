@@ -1,5 +1,5 @@
 -- What joins do with data regions: of the two, the lower one becomes the region of both, the other one is taken out, and all others stay.
-use Rattle.std.proofs.Common.{◌≡◌, ℕ, zero, suc, ◌<◌, ◌≤◌, ◌+◌, ◌-◌, ◌⊎◌, inl, inr, Bool, true, false, ◌||◌, List, [], ◌∷◌, ◌++◌, length, map, filter, cond, get_or, set, remove, Option, Some, None, nat_lt, refl, ap, sym, ◌∙◌, subst, arith}
+use Rattle.std.proofs.Common.{◌≡◌, ℕ, zero, suc, ◌<◌, ◌≤◌, ◌+◌, ◌-◌, ◌⊎◌, inl, inr, Bool, true, false, ◌||◌, List, [], ◌∷◌, length, map, filter, cond, set, Some, None, nat_lt, refl, ap, sym, ◌∙◌, subst, arith}
 use Rattle.std.specs.List.{range_with_len, best_of}
 use Rattle.std.proofs.lemmas.Bool.{cases_lt, cases_eq}
 use Rattle.std.proofs.lemmas.Option.{same_Some}
@@ -10,7 +10,7 @@ use Rattle.thread_runs.specs.Areas as areas
 use Rattle.ir_model.specs.Resolved.{Program}
 use Rattle.plan_model.specs.declared.graph.Region.{Region}
 use Rattle.plan_model.specs.declared.graph.Graph.{Graph}
-use Rattle.plan_model.specs.Lists.{has, union, numbers_below}
+use Rattle.plan_model.specs.Lists.{has}
 use Rattle.plan_model.specs.Choices.{Pair, pairs, cheapest}
 use Rattle.plan_model.specs.Regions.{region_at, no_region, is_user, regions_used}
 use Rattle.plan_model.specs.Merging.{joined_region, with_joined_region, region_cost, region_pair, next}

@@ -1,5 +1,5 @@
 -- What holds of each item of a list, of one of them, and of numbers that pass a test.
-use Rattle.std.proofs.Common.{◌≡◌, ℕ, zero, suc, ◌<◌, ◌≤◌, ◌+◌, Bool, true, false, not, ◌&&◌, ◌||◌, List, [], ◌∷◌, ◌++◌, length, filter, cond, get_or, nat_eq, refl, sym, ◌∙◌, subst, eq-eqb, eqb-true, arith}
+use Rattle.std.proofs.Common.{◌≡◌, ℕ, zero, suc, ◌<◌, ◌≤◌, ◌+◌, Bool, true, false, not, ◌&&◌, ◌||◌, List, [], ◌∷◌, ◌++◌, length, filter, cond, get_or, nat_eq, refl, ◌∙◌, subst, eq-eqb, eqb-true, arith}
 use Rattle.std.specs.List.{list_any, range_with_len}
 use Rattle.thread_runs.specs.Areas as areas
 use Rattle.plan_model.specs.Lists.{has, numbers_below}

@@ -1,10 +1,10 @@
 -- The cells of several objects that lie at given places, object by object.
-use Rattle.std.proofs.Common.{◌≡◌, ℕ, zero, suc, ◌<◌, ◌≤◌, ◌+◌, inl, inr, ◌⊎◌, List, [], ◌∷◌, ◌++◌, length, get_or, refl, subst, arith}
+use Rattle.std.proofs.Common.{◌≡◌, ℕ, suc, ◌<◌, ◌≤◌, ◌+◌, inl, List, [], ◌∷◌, ◌++◌, length, get_or, refl, subst, arith}
 use Rattle.ir_model.specs.Types.{width_of}
 use Rattle.ir_model.specs.Layout.{CellPlace, Shape, empty}
 use Rattle.ir_laws.specs.Laws.{IsLaidOut}
 use Rattle.ir_laws.proofs.Layouts.{positive_width}
-use Rattle.thread_runs.specs.Areas.{Area, Each, Beside, Laid, Inside}
+use Rattle.thread_runs.specs.Areas.{Area, Each, Beside, Laid}
 use Rattle.relation.specs.Relation.{cells_at, objects_at}
 use Rattle.linked_globals.proofs.Lists.{each_behind, each_weaker}
 

@@ -1,5 +1,5 @@
 -- The globals that a compartment needs are open to it.
-use Rattle.std.proofs.Common.{◌≡◌, ℕ, zero, suc, ◌<◌, ◌≤◌, ◌+◌, ◌-◌, inl, inr, Bool, true, false, ◌||◌, List, [], ◌∷◌, ◌++◌, length, map, filter, get_or, refl, ap, sym, ◌∙◌, subst, arith}
+use Rattle.std.proofs.Common.{◌≡◌, ℕ, ◌<◌, ◌≤◌, ◌+◌, Bool, true, false, ◌||◌, [], length, map, get_or, refl, ap, ◌∙◌, arith}
 use Rattle.std.specs.List.{list_any}
 use Rattle.std.proofs.lemmas.List.{length-map, length-append}
 use mathlib.Core.Logic.{⊎_elim}
@@ -27,7 +27,7 @@ use Rattle.plan_model.specs.Regions.{region_at, regions_used, is_user, global_si
 use Rattle.plan_model.specs.RamBlocks.{ForRegion}
 use Rattle.plan_model.specs.InitialGraph.{initial_graph}
 use Rattle.plan_model.specs.FinalGraph.{IsMerged}
-use Rattle.plan_model.specs.Slots.{SlotUse, data_slot, cover_slot, slot_uses, slot_regions, slots_from}
+use Rattle.plan_model.specs.Slots.{data_slot, cover_slot, slot_uses, slot_regions, slots_from}
 use Rattle.layout_laws.specs.RamLaws.{Holds}
 use Rattle.depend.specs.Reached.{IsListed}
 use Rattle.monitor.specs.declared.tables.CompRecord.{CompRecord}
