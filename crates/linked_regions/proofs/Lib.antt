@@ -1,0 +1,10 @@
+pub mod Forms
+pub mod Fours
+pub mod WindowRules
+pub mod Rules
+pub mod Masks
+pub mod Readers
+pub mod CoverSlots
+pub mod DataSlots
+pub mod DataRanges
+pub mod Regions
