@@ -1,5 +1,5 @@
 -- The slots of covers pass: each cover of the final graph is an aligned power of two of addresses of peripherals.
-use Rattle.std.proofs.Common.{◌≡◌, ℕ, zero, suc, ◌+◌, ◌<◌, ◌≤◌, ◌%◌, Bool, true, false, ◌||◌, List, [], ◌∷◌, length, map, filter, get_or, cond, nat_lt, ap, ap₂, sym, ◌∙◌, subst, lit<, arith}
+use Rattle.std.proofs.Common.{◌≡◌, ℕ, zero, suc, ◌+◌, ◌<◌, ◌≤◌, ◌%◌, true, ◌||◌, [], length, map, filter, get_or, nat_lt, ap, ap₂, sym, ◌∙◌, subst, lit<, arith}
 use Rattle.std.specs.List.{range_with_len}
 use Rattle.std.proofs.lemmas.Bool.{cases_lt}
 use Rattle.std.proofs.lemmas.List.{get_or_past}
@@ -25,6 +25,7 @@ use Rattle.linked_images.proofs.Passing.{and_yes, or_right, inside_yes}
 use Rattle.linked_promises.proofs.CoverParts.{IsPart, AreParts, parts_all, each_in_order, each_map}
 use Rattle.linked_promises.proofs.Bearing.{use_region}
 use Rattle.linked_regions.proofs.Forms.{is_made}
+use Rattle.linked_regions.proofs.Lists.{each_filter}
 
 -- ---- the first graph
 
@@ -39,19 +40,11 @@ module _ (p : Program) (n : Needs) (g : Groups) (windows : HasWindows p) where
   each_below a zero k l = tt
   each_below a (suc m) k l = (omega (arith, l), each_below (a + 1) m k (omega (arith, l)))
 
-  each_kept : {X : Type 0} (P : X → Type 0) (test : X → Bool) (xs : List X) → areas.Each P xs → areas.Each P (filter test xs)
-  each_kept P test [] e = tt
-  each_kept P test (x ∷ xs) e = by (test x) (each_kept P test xs e.1)
-    where
-      by : (b : Bool) → areas.Each P (filter test xs) → areas.Each P (cond b (x ∷ filter test xs) (filter test xs))
-      by true ih = (e.0, ih)
-      by false ih = ih
-
   first_parts : (c : ℕ) → AreParts (covers_of p n g c)
   first_parts c =
       each_in_order IsPart (λ (a b : Cover). nat_lt a.base b.base) (map (cover_of p) (filter (uses n g c) (numbers_below (length p.periphs))))
       (each_map IsPart (cover_of p) (λ j. j < length p.periphs) (filter (uses n g c) (numbers_below (length p.periphs))) window_part
-      (each_kept (λ j. j < length p.periphs) (uses n g c) (numbers_below (length p.periphs)) (each_below 0 (length p.periphs) (length p.periphs) (omega arith))))
+      (each_filter (λ j. j < length p.periphs) (uses n g c) (numbers_below (length p.periphs)) (each_below 0 (length p.periphs) (length p.periphs) (omega arith))))
 
   first_at : (c : ℕ) → AreParts (get_or (initial_graph p n g).covers c [])
   unfolding initial_graph

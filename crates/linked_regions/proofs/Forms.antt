@@ -1,5 +1,5 @@
 -- The words of the region that is made for a block, read back as the check of regions reads them.
-use Rattle.std.proofs.Common.{◌≡◌, ◌≢◌, ℕ, ◌+◌, ◌-◌, ◌*◌, ◌/◌, ◌%◌, ◌^◌, ◌<◌, ◌≤◌, true, ap, ap₂, sym, ◌∙◌, subst, pow_pos, arith}
+use Rattle.std.proofs.Common.{◌≡◌, ◌≢◌, ℕ, ◌+◌, ◌-◌, ◌*◌, ◌/◌, ◌%◌, ◌^◌, ◌<◌, ◌≤◌, true, refl, ap, ap₂, sym, ◌∙◌, subst, pow_pos, arith}
 use Rattle.std.specs.Int.{trailing_zeros, w32}
 use Rattle.std.proofs.lemmas.Bool.{cases_lt}
 use Rattle.std.proofs.lemmas.Nat.{div-add-mod'}
@@ -104,7 +104,7 @@ module _ (number base k srd : ℕ) (rights : Rights) (few : number < 16) (least 
   form = and_yes legal (and_yes (eq_yes whole) (and_yes (eq_yes address) (eq_yes attributes)))
 
   made : IsMade number base (2 ^ k) srd rights
-  made = record { power = k; least = least; exact = Rattle.std.proofs.Common.refl; log = log; base_is = based; size_is = sized; out_is = outs; has = form }
+  made = record { power = k; least = least; exact = refl; log = log; base_is = based; size_is = sized; out_is = outs; has = form }
 
 -- the region of a block of at least 32 bytes at a multiple of its size
 pub is_made : (number base size srd : ℕ) (rights : Rights) → number < 16 → IsPowerBetween 5 31 size → base % size ≡ 0 → srd < 2 ^ 8 → IsMade number base size srd rights

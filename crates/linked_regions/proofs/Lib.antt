@@ -1,10 +1,11 @@
+pub mod Lists
 pub mod Forms
-pub mod Fours
-pub mod WindowRules
-pub mod Rules
+mod FlashWords
+mod WindowRules
+mod Rules
 pub mod Masks
 pub mod Readers
 pub mod CoverSlots
 pub mod DataSlots
-pub mod DataRanges
-pub mod Regions
+mod DataRanges
+mod Regions

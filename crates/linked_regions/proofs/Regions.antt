@@ -1,8 +1,9 @@
 -- The check of regions passes.
-use Rattle.std.proofs.Common.{◌≡◌, ℕ, zero, suc, ◌+◌, ◌^◌, ◌<◌, ◌≤◌, Bool, true, false, ◌||◌, List, [], ◌∷◌, ◌++◌, length, map, filter, get_or, cond, None, refl, ap₂, sym, ◌∙◌, subst, lit<, arith}
+use Rattle.std.proofs.Common.{◌≡◌, ℕ, zero, suc, ◌+◌, ◌^◌, ◌<◌, ◌≤◌, Bool, true, false, ◌||◌, List, [], ◌∷◌, length, map, filter, get_or, cond, None, refl, ap₂, sym, ◌∙◌, subst, lit<, arith}
 use Rattle.std.specs.List.{range_with_len}
 use mathlib.Core.Logic.{⊎_elim}
-use Rattle.armv7m.specs.Confinement.{Each}
+use Rattle.ir_model.specs.Canonical.{Each}
+use Rattle.ir_model.proofs.ForEach.{each_both}
 use Rattle.device_model.specs.declared.image.Image.{Image}
 use Rattle.device_model.specs.Rules.{IsPowerBetween}
 use Rattle.mpu_model.specs.declared.words.Rights.TheVariants.{Background, Code, Ram}
@@ -66,10 +67,6 @@ module _ (i : Image) (t : Tables) where
   covers_pass : (ds : List Cover) → AreParts ds → Each Passes (map cover_slot ds)
   covers_pass [] e = tt
   covers_pass (d ∷ ds) e = ((λ m l. cover_passes i t m d l e.0), covers_pass ds e.1)
-
-each_both : {X : Type 0} (P : X → Type 0) (xs ys : List X) → Each P xs → Each P ys → Each P (xs ++ ys)
-each_both P [] ys e g = g
-each_both P (x ∷ xs) ys e g = (e.0, each_both P xs ys e.1 g)
 
 -- the numbers of a range that pass a test, each mapped
 each_chosen : {X : Type 0} (P : X → Type 0) (f : ℕ → X) (test : ℕ → Bool) (lo n : ℕ) → ((k : ℕ) → k < lo + n → test k ≡ true → P (f k)) → Each P (map f (filter test (range_with_len lo n)))

@@ -15,7 +15,7 @@ use Rattle.linked_images.specs.Planned.{IsPlanned, plan, planned_sizes, planned_
 use Rattle.linked_images.proofs.Facts.{PlanLaws, length_is, needed_most, flash_least, stack_in, stack_size_is, monitor_in, monitor_size_is}
 use Rattle.linked_promises.specs.Parts.{MemoryIsLaid}
 use Rattle.linked_regions.specs.Laws.{ImagesObeyRules, MemoryObeysRules}
-use Rattle.linked_regions.proofs.Fours.{flash_fours}
+use Rattle.linked_regions.proofs.FlashWords.{flash_fours}
 use Rattle.linked_regions.proofs.WindowRules.{are_windows}
 
 module _ (law : PlanLaws) (w : PlainFirmware) (n : Needs) (f : Final) (b : Board) (is : IsPlanned w n f b) where
