@@ -1,0 +1,25 @@
+-- What holds of the image of every planned firmware and of the regions in its tables: statements of laws.
+use Rattle.std.specs.Prelude.{◌≡◌, None}
+use Rattle.ir_model.specs.Plain.{PlainFirmware}
+use Rattle.plan_model.specs.declared.needs.Needs.{Needs}
+use Rattle.plan_model.specs.declared.graph.Final.{Final}
+use Rattle.plan_model.specs.declared.plan.Board.{Board}
+use Rattle.device_model.specs.Rules.{ObeysRules}
+use Rattle.monitor.specs.MonitorCode.{MonitorCode}
+use Rattle.monitor.specs.Checks.{regions_fail}
+use Rattle.thread_runs.specs.Owned.{MemoryRules}
+use Rattle.linked_images.specs.Planned.{IsPlanned}
+use Rattle.linked_images.specs.Laws.{OfPlanned}
+use Rattle.linked_promises.specs.Parts.{linked_build}
+
+-- the image obeys the rules that every image obeys
+abbrev pub ImagesObeyRules : Type 0
+ImagesObeyRules = OfPlanned (λ i t. ObeysRules i)
+
+-- and the stack and the monitor's block lie in its RAM as the monitor wants them
+abbrev pub MemoryObeysRules : Type 0
+MemoryObeysRules = (code : MonitorCode) (w : PlainFirmware) (n : Needs) (f : Final) (b : Board) → IsPlanned w n f b → MemoryRules (linked_build code w n f b).setting
+
+-- the check of the regions in the tables does not fail
+abbrev pub RegionsPass : Type 0
+RegionsPass = OfPlanned (λ i t. regions_fail i t ≡ None)
