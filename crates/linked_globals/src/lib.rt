@@ -1,4 +1,0 @@
-//! What the linked image of a firmware promises about its globals.
-#![tactic(auto)]
-
-pub mod laws;
