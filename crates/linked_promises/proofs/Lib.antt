@@ -20,7 +20,7 @@ pub mod GlobalPlaces
 pub mod GlobalAreas
 pub mod DataSlots
 mod Opened
-mod Globals
+mod GlobalsPlaced
 pub mod KeptItems
 pub mod Forms
 mod FlashWords
@@ -31,7 +31,7 @@ pub mod Readers
 pub mod CoverSlots
 pub mod DataSlotForms
 mod DataRanges
-mod Regions
+mod RegionsPassed
 pub mod ObjectSizes
 mod Called
 mod LastTarget

@@ -1,3 +1,4 @@
 mod Checked
 mod Stacks
+mod Linking
 mod Composed

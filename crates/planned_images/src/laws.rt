@@ -2,8 +2,15 @@
 
 ghost use Rattle.planned_images.specs.Whole.{PlannedImagesAreSound, PlannedImagesAreConfined, PlannedImagesAreLinked, PlannedImagesRefine};
 
-use linked_images::laws::{header, ranges, tables};
-use linked_promises::laws::{code as placed_code, kind, loans, windows};
+use layout_laws::{flash, places, ram};
+use linked_images::laws::{header, ranges, tables as tables_have_room};
+use linked_promises::code::{code as code_stands, main_words, page, stub};
+use linked_promises::globals::globals;
+use linked_promises::initial::{globals_begin, inits};
+use linked_promises::laws::{code as functions_are_placed, kind, loans, windows};
+use linked_promises::regions::{images, memory, regions};
+use linked_promises::sites::{lends, sites, targets};
+use linked_promises::tables::tables as tables_read_back;
 use refinement::laws::refinement;
 use sound_images::promises::{sound_images_are_confined, sound_images_serve_simulation};
 
@@ -12,7 +19,14 @@ pub fn sound()
     ensures { PlannedImagesAreSound }
 {
     header();
-    tables();
+    tables_have_room();
+    page();
+    regions();
+    sites();
+    lends();
+    inits();
+    main_words();
+    tables_read_back();
 }
 
 /// It is confined: for every recorded input, every byte that fills RAM at first, and whatever code its compartments execute.
@@ -20,6 +34,7 @@ pub fn confined()
     ensures { PlannedImagesAreConfined }
 {
     sound();
+    images();
     sound_images_are_confined();
 }
 
@@ -27,7 +42,14 @@ pub fn confined()
 pub fn linked()
     ensures { PlannedImagesAreLinked }
 {
-    placed_code();
+    images();
+    memory();
+    functions_are_placed();
+    code_stands();
+    targets();
+    stub();
+    globals();
+    globals_begin();
     windows();
     loans();
     kind();
@@ -37,9 +59,14 @@ pub fn linked()
 pub fn refined()
     ensures { PlannedImagesRefine }
 {
+    flash();
+    ram();
+    places();
     sound();
+    images();
     linked();
     ranges();
+    kind();
     sound_images_serve_simulation();
     refinement();
 }

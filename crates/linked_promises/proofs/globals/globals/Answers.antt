@@ -1,4 +1,4 @@
-use Rattle.linked_promises.proofs.Globals.{globals_are_placed}
+use Rattle.linked_promises.proofs.GlobalsPlaced.{globals_are_placed}
 use Rattle.linked_promises.proofs.globals.globals.Goals as goal
 
 pub returns : goal.returns

@@ -1,4 +1,4 @@
-use Rattle.linked_promises.proofs.Regions.{regions_pass}
+use Rattle.linked_promises.proofs.RegionsPassed.{regions_pass}
 use Rattle.linked_promises.proofs.regions.regions.Goals as goal
 
 pub returns : goal.returns

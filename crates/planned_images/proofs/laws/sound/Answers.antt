@@ -1,0 +1,16 @@
+use Rattle.planned_images.proofs.Composed.{are_sound}
+use Rattle.planned_images.proofs.laws.sound.Goals as goal
+
+pub returns : goal.returns
+returns c =
+    are_sound
+    (λ w n f b is. let moved = c.main_words.ensures w n f b is in c.tables.ensures w n f b is moved.entry moved.compartment)
+    (λ w n f b is. record {
+      header = c.header.ensures w n f b is;
+      tables = c.tables_have_room.ensures w n f b is;
+      code = c.page.ensures.passes w n f b is;
+      regions = c.regions.ensures w n f b is;
+      sites = c.sites.ensures w n f b is;
+      lends = c.lends.ensures w n f b is;
+      inits = c.inits.ensures w n f b is;
+    })
