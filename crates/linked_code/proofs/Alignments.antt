@@ -1,8 +1,8 @@
 -- No global of a firmware has the alignment 0.
-use Rattle.std.proofs.Common.{ℕ, zero, suc, ◌<◌, Bool, true, false, List, [], ◌∷◌, ◌++◌, map, get_or, max, bytes_eq, if◌then◌else◌, arith}
+use Rattle.std.proofs.Common.{ℕ, zero, suc, ◌<◌, Bool, true, false, List, [], ◌∷◌, ◌++◌, map, get_or, bytes_eq, if◌then◌else◌, arith}
 use Rattle.ir_model.specs.Types.{PlainType, U8, U16, U32, Pointer, Array, Named, Callee}
 use Rattle.ir_model.specs.Plain.{PlainSlot, PlainStruct, PlainGlobal, PlainFirmware}
-use Rattle.ir_model.specs.Layout.{Shape, Known, empty, shape_named, shape, with_field, laid_out, field_places, with_struct, known_behind, known}
+use Rattle.ir_model.specs.Layout.{Shape, Known, empty, shape_named, shape, with_field, laid_out, with_struct, known_behind, known}
 use Rattle.ir_model.specs.Resolved.{no_global}
 use Rattle.ir_model.specs.Resolve.{Scope, scope_of, resolved_global, resolve}
 use Rattle.layout_laws.specs.GlobalLaws.{HasAlignments}

@@ -1,13 +1,11 @@
 -- The code of the compartments of a plan has an encoding, and its bytes are bytes.
-use Rattle.std.proofs.Common.{◌≡◌, ℕ, ◌+◌, ◌-◌, ◌%◌, ◌^◌, ◌<◌, ◌≤◌, Bool, true, false, List, [], ◌∷◌, ◌++◌, length, get_or, nat_eq, if◌then◌else◌, Option, refl, sym, ap, ◌∙◌, subst, arith}
+use Rattle.std.proofs.Common.{◌≡◌, ℕ, ◌+◌, ◌%◌, ◌<◌, ◌≤◌, Bool, true, false, List, [], ◌∷◌, length, get_or, nat_eq, if◌then◌else◌, Option, refl, arith}
 use Rattle.words.specs.Bytes.{AreBytes}
 use Rattle.thumb_model.specs.declared.table.Instr.TheVariants.{BreakpointNop}
 use Rattle.thumb_model.specs.Laws.{ShowsItsLength}
-use Rattle.thumb_asm.specs.declared.item.Item.{Item}
 use Rattle.thumb_asm.specs.Assembly.{total}
-use Rattle.thumb_asm.specs.Finished.{bytes_from}
 use Rattle.ir_model.specs.Plain.{PlainFirmware}
-use Rattle.ir_model.specs.Resolved.{Program, NumberedFunc, func_at}
+use Rattle.ir_model.specs.Resolved.{Program, func_at}
 use Rattle.ir_model.specs.Resolve.{resolve}
 use Rattle.ir_laws.specs.Limits.{WindowsLieApart}
 use Rattle.ir_laws.specs.Typed.{TypedOverNumbers, sizes_of}
@@ -15,11 +13,10 @@ use Rattle.plan_model.specs.declared.needs.Needs.{Needs}
 use Rattle.plan_model.specs.declared.graph.Final.{Final}
 use Rattle.plan_model.specs.declared.plan.Board.{Board}
 use Rattle.plan_model.specs.declared.plan.Plan.{Plan}
-use Rattle.plan_model.specs.Placement.{compartment_spot}
 use Rattle.lower.specs.declared.places.Places.{Places}
 use Rattle.lower.specs.Words.{plain}
 use Rattle.lower.specs.FunctionCode.{function_items, function_labels}
-use Rattle.lower.specs.CompartmentCode.{CodeGroups, CodePlaces, compartment_of, before, filling, size_of, label_count, compartment_size, entry_of, places_of, filled_items, compartment_items, compartment_labels}
+use Rattle.lower.specs.CompartmentCode.{CodeGroups, CodePlaces, compartment_of, before, filling, size_of, label_count, entry_of, places_of, filled_items, compartment_items, compartment_labels}
 use Rattle.lower.specs.Planned.{code_groups, code_places, planned_code}
 use Rattle.lower.specs.Laws.{SizesHold, SitesAgree}
 use Rattle.lower_laws.specs.Fitting.{TypedFunctionsFit, TypedJumpsInside}

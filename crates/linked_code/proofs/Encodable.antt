@@ -1,5 +1,5 @@
 -- Pieces of an assembly that have an encoding: their instructions are in the table, and their branches go wherever code of flash goes.
-use Rattle.std.proofs.Common.{◌≡◌, ℕ, zero, suc, ◌+◌, ◌-◌, ◌/◌, ◌%◌, ◌^◌, ◌<◌, ◌≤◌, Bool, true, false, List, [], ◌∷◌, ◌++◌, length, get_or, if◌then◌else◌, Option, Some, None, refl, sym, ap, ◌∙◌, subst, arith}
+use Rattle.std.proofs.Common.{◌≡◌, ℕ, ◌+◌, ◌/◌, ◌%◌, ◌^◌, ◌<◌, Bool, true, false, List, [], ◌∷◌, ◌++◌, if◌then◌else◌, Option, Some, None, refl, sym, ◌∙◌, subst, arith}
 use Rattle.std.proofs.lemmas.Bool.Decides.{nat_tests}
 use Rattle.std.proofs.lemmas.Int.{ints}
 use Rattle.std.proofs.lemmas.Option.{none-some}
@@ -14,7 +14,7 @@ use Rattle.thumb_asm.specs.declared.item.Item.TheVariants.{Plain, Branch, Half, 
 use Rattle.thumb_asm.specs.declared.item.Label.{Label}
 use Rattle.thumb_asm.specs.declared.refusal.AsmRefusal.TheVariants.{FarBranch}
 use Rattle.thumb_asm.specs.Assembly.{branch_size, size_of, total, place_of}
-use Rattle.thumb_asm.specs.Finished.{distance, branch, reach, is_near, first_far, bytes_at, bytes_from}
+use Rattle.thumb_asm.specs.Finished.{distance, branch, reach, is_near, first_far, bytes_from}
 use Rattle.armv7m.specs.Code.{size}
 use Rattle.armv7m.proofs.CodeParts.{width-encode, code_size-even}
 use Rattle.lower.specs.Words.{plain}

@@ -1,5 +1,5 @@
 -- The code of compartments lies in flash, and so does the entry of each function.
-use Rattle.std.proofs.Common.{◌≡◌, ℕ, zero, suc, ◌+◌, ◌-◌, ◌%◌, ◌^◌, ◌<◌, ◌≤◌, Bool, true, false, List, [], ◌∷◌, length, map, take, get_or, nat_eq, if◌then◌else◌, refl, sym, ap, ◌∙◌, subst, arith}
+use Rattle.std.proofs.Common.{◌≡◌, ℕ, zero, suc, ◌+◌, ◌%◌, ◌<◌, ◌≤◌, Bool, true, false, List, [], ◌∷◌, length, take, get_or, nat_eq, if◌then◌else◌, arith}
 use Rattle.std.proofs.lemmas.List.{get_or-map}
 use Rattle.ir_model.specs.Plain.{PlainFirmware}
 use Rattle.ir_model.specs.Resolved.{Program}
@@ -12,7 +12,7 @@ use Rattle.plan_model.specs.declared.plan.Plan.{Plan}
 use Rattle.plan_model.specs.declared.plan.Sizes.{Sizes}
 use Rattle.plan_model.specs.Placement.{compartment_spot, no_spot}
 use Rattle.lower.specs.CompartmentCode.{CodeGroups, CodePlaces, compartment_of, members_from, before, total_size, compartment_size, entry_of}
-use Rattle.lower.specs.Planned.{code_groups, code_places, planned_code}
+use Rattle.lower.specs.Planned.{code_groups, code_places}
 use Rattle.monitor.specs.MonitorCode.{MonitorCode}
 use Rattle.linked_images.specs.Planned.{IsPlanned, plan, planned_sizes}
 use Rattle.linked_images.proofs.Facts.{laid, code_blocks_count, needed_most}

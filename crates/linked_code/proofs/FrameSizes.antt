@@ -1,7 +1,6 @@
 -- The frame of each function of a typed firmware is small enough for its code.
-use Rattle.std.proofs.Common.{◌≡◌, ℕ, zero, suc, ◌+◌, ◌-◌, ◌*◌, ◌/◌, ◌%◌, ◌<◌, ◌≤◌, List, [], ◌∷◌, length, get_or, map, replicate, Option, Some, None, refl, sym, ap, ◌∙◌, subst, arith}
+use Rattle.std.proofs.Common.{◌≡◌, ℕ, zero, suc, ◌+◌, ◌*◌, ◌/◌, ◌<◌, ◌≤◌, List, [], ◌∷◌, length, get_or, replicate, Option, Some, None, refl, arith}
 use Rattle.std.specs.Prelude.{IfSome}
-use Rattle.std.specs.List.{All, range_with_len}
 use Rattle.std.proofs.lemmas.List.{length-replicate}
 use Rattle.std.proofs.lemmas.List.Elements.{All-from_get_or}
 use Rattle.ir_model.specs.Layout.{Shape}
@@ -14,7 +13,6 @@ use Rattle.ir_model.specs.Signatures.{row_length}
 use Rattle.lower.specs.declared.places.CallSite.{CallSite}
 use Rattle.lower.specs.declared.places.Places.{Places}
 use Rattle.lower.specs.FrameShape.{locals_size, frame_size, starts_from, local_starts, frame_shape}
-use Rattle.lower.specs.Fitting.{FuncFits}
 use Rattle.lower.specs.Places.{lends_among}
 use Rattle.lower_laws.specs.Fitting.{HasEach, TypedFunctionsFit}
 use Rattle.linked_code.proofs.TemplateCode.{LendsFit}

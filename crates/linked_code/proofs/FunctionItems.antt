@@ -2,7 +2,7 @@
 use Rattle.std.proofs.Common.{◌≡◌, ℕ, zero, suc, ◌+◌, ◌-◌, ◌*◌, ◌/◌, ◌%◌, ◌^◌, ◌<◌, ◌≤◌, Bool, true, false, List, [], ◌∷◌, ◌++◌, length, get_or, flat_map, nat_le, nat_lt, Option, Some, None, refl, sym, ap, ◌∙◌, subst, arith}
 use Rattle.std.proofs.lemmas.List.Concat.{flat_map-append}
 use Rattle.thumb_model.specs.declared.table.Instr.{Instr}
-use Rattle.thumb_model.specs.declared.table.Instr.TheVariants.{BranchLink, BranchExchange}
+use Rattle.thumb_model.specs.declared.table.Instr.TheVariants.{BranchLink}
 use Rattle.thumb_model.specs.Table.{IsOffset, encode}
 use Rattle.thumb_model.specs.Bytes.{EachInTable}
 use Rattle.thumb_model.proofs.Codes.{in_table-append}
@@ -14,23 +14,23 @@ use Rattle.ir_model.specs.Types.{PlainType, PlainResult, PlainTypes}
 use Rattle.ir_model.specs.Resolved as ir
 use Rattle.ir_model.specs.Resolved.{Program, NumberedInst, NumberedTerm, NumberedBlock, NumberedFunc, TheGlobal, ThePeriph, TheLocal, Does, Ends, here_in, no_block}
 use Rattle.ir_model.specs.Signatures.{row_length}
-use Rattle.ir_laws.specs.Typed.{Has, KeepsResult, CallTyped, InstTyped, EndTyped, HereTyped, FuncTyped}
+use Rattle.ir_laws.specs.Typed.{KeepsResult, CallTyped, InstTyped, EndTyped, HereTyped, FuncTyped}
 use Rattle.lower.specs.declared.places.Places.{Places}
-use Rattle.lower.specs.FrameShape.{frame_size, frame_shape, local_starts}
+use Rattle.lower.specs.FrameShape.{frame_shape, local_starts}
 use Rattle.lower.specs.Places.{global_address, window_address, entry_address, site_in, crosses}
 use Rattle.lower.specs.Words.{plain, save_code, word_into, supervisor_call}
 use Rattle.lower.specs.Numbers.{const_code, move_code, bin_code}
 use Rattle.lower.specs.Comparisons.{cmp_code}
 use Rattle.lower.specs.Addresses.{named_into, addr_code, faddr_code, elem_code, field_code, load_code, store_code}
 use Rattle.lower.specs.Entry.{enter_code, leave_code}
-use Rattle.lower.specs.Calls.{args_code, call_code, cross_code, callee_code, icall_code, icross_code, call_items, icall_items}
-use Rattle.lower.specs.Templates.{lends_of, entry_items, inst_items, jump_items, test_code, term_items}
+use Rattle.lower.specs.Calls.{args_code, call_code, callee_code, icall_code, call_items, icall_items}
+use Rattle.lower.specs.Templates.{lends_of, entry_items, inst_items, term_items}
 use Rattle.lower.specs.Sizes.{inst_size, block_size, entry_size}
 use Rattle.lower.specs.FunctionCode.{lent, block_pieces, blocks_pieces, function_items}
 use Rattle.lower.specs.Laws.{SizesHold}
 use Rattle.linked_images.proofs.Passing.{and_yes, le_yes, lt_yes}
 use Rattle.linked_code.proofs.Encodable.{Encodable, encodable-append, plain_encodable, total-append, total_even, offset_in}
-use Rattle.linked_code.proofs.TemplateCode.{LendsFit, load_in, store_in, address_in, byte_in, supervisor_in, word_in, save_in, const_in, move_in, bin_in, cmp_in, two_offset, elem_in, field_in, loads_in, stores_to_in, args_in, callee_in, enter_in, leave_in}
+use Rattle.linked_code.proofs.TemplateCode.{LendsFit, load_in, store_in, address_in, supervisor_in, word_in, save_in, const_in, move_in, bin_in, cmp_in, two_offset, elem_in, field_in, loads_in, stores_to_in, args_in, callee_in, enter_in, leave_in}
 
 -- what a function's code finds outside: addresses are words, entries stand between two addresses, and sites have small numbers
 pub record PlacesFit (low high count : ℕ) (q : Places) : Type 0 where

@@ -1,7 +1,6 @@
 -- Each global of a planned image lies below 2^32.
-use Rattle.std.proofs.Common.{◌≡◌, ℕ, zero, suc, ◌+◌, ◌^◌, ◌<◌, ◌≤◌, List, [], ◌∷◌, length, get_or, Option, Some, None, refl, sym, ap, ◌∙◌, subst, arith}
+use Rattle.std.proofs.Common.{◌≡◌, ℕ, zero, suc, ◌+◌, ◌^◌, ◌<◌, ◌≤◌, List, [], ◌∷◌, length, get_or, Option, Some, None, refl, sym, ap, ◌∙◌, arith}
 use Rattle.std.specs.Prelude.{unwrap_or}
-use Rattle.std.specs.List.{position_or_len}
 use Rattle.ir_model.proofs.Counting.{rounded_at_least}
 use Rattle.ir_model.specs.Plain.{PlainFirmware}
 use Rattle.ir_model.specs.Resolved.{Program, global_at}
@@ -14,7 +13,7 @@ use Rattle.plan_model.specs.declared.plan.Plan.{Plan}
 use Rattle.plan_model.specs.declared.plan.Spot.{Spot}
 use Rattle.plan_model.specs.Lists.{has}
 use Rattle.plan_model.specs.Regions.{global_size, no_region}
-use Rattle.plan_model.specs.Blocks.{block, aligned, offsets_from, end_from, region_bytes, offset_in_region}
+use Rattle.plan_model.specs.Blocks.{aligned, offsets_from, end_from, region_bytes, offset_in_region}
 use Rattle.plan_model.specs.RamBlocks.{RamUse, ForRegion, ForUnwritten}
 use Rattle.plan_model.specs.Placement.{no_spot, region_with, address_in, global_address}
 use Rattle.layout.proofs.Searches.{position_is}

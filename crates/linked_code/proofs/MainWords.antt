@@ -1,5 +1,5 @@
 -- The words of `main` that start-up begins with, read back from the page.
-use Rattle.std.proofs.Common.{◌≡◌, ℕ, ◌+◌, ◌-◌, ◌*◌, ◌/◌, ◌%◌, ◌^◌, ◌<◌, ◌≤◌, List, [], ◌∷◌, ◌++◌, length, get_or, replicate, refl, sym, ap, ◌∙◌, subst, length-append, append_assoc, get_or-append-add, arith}
+use Rattle.std.proofs.Common.{◌≡◌, ℕ, ◌+◌, ◌-◌, ◌*◌, ◌/◌, ◌%◌, ◌^◌, ◌<◌, ◌≤◌, List, [], ◌∷◌, ◌++◌, length, get_or, replicate, ap, ◌∙◌, subst, append_assoc, get_or-append-add, arith}
 use Rattle.std.specs.Prelude.{slice_index}
 use Rattle.thumb_model.specs.declared.table.Instr.{Instr}
 use Rattle.thumb_model.specs.declared.table.Instr.TheVariants.{MoveWide, MoveTop}
@@ -15,7 +15,7 @@ use Rattle.monitor.specs.FromFlash.{moved_word_at}
 use Rattle.monitor.specs.Layout.{page_size}
 use Rattle.monitor.specs.MemFault.{memfault}
 use Rattle.monitor.specs.Page.{vectors, bytes_of_words, used_bytes, leave_stub, constants, page}
-use Rattle.monitor.specs.Reset.{main_words, copied, first_block, traps, first_regions, go_on, reset}
+use Rattle.monitor.specs.Reset.{copied, first_block, traps, first_regions, go_on, reset}
 use Rattle.monitor.specs.Opening.{tables_of}
 use Rattle.monitor.specs.Svc.{svc}
 use Rattle.monitor_laws.proofs.PageCode.{middle}

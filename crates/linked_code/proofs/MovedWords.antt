@@ -1,13 +1,12 @@
 -- What is read back of MOVW and MOVT of one register, where their bytes stand in flash.
-use Rattle.std.proofs.Common.{◌≡◌, ℕ, zero, suc, ◌+◌, ◌*◌, ◌/◌, ◌%◌, ◌^◌, ◌<◌, ◌≤◌, true, List, [], ◌∷◌, ◌++◌, length, get_or, nat_eq, Some, refl, sym, ap, ap₂, ◌∙◌, subst, eq-eqb, arith}
+use Rattle.std.proofs.Common.{◌≡◌, ℕ, ◌+◌, ◌*◌, ◌/◌, ◌%◌, ◌^◌, ◌<◌, List, ◌∷◌, get_or, Some, refl, ap₂, ◌∙◌, subst, eq-eqb, arith}
 use Rattle.std.specs.Prelude.{slice_index}
 use Rattle.words.specs.Bytes.{read}
-use Rattle.thumb_model.specs.declared.table.Code.TheVariants.{Pair}
 use Rattle.thumb_model.specs.declared.table.Instr.{Instr}
 use Rattle.thumb_model.specs.declared.table.Instr.TheVariants.{MoveWide, MoveTop}
-use Rattle.thumb_model.specs.Table.{InTable, encode}
+use Rattle.thumb_model.specs.Table.{encode}
 use Rattle.thumb_model.specs.Bytes.{code_bytes}
-use Rattle.thumb_model.specs.Decoded.{decoded, decoded_code}
+use Rattle.thumb_model.specs.Decoded.{decoded}
 use Rattle.thumb_model.specs.Laws.{IsRoundTrip}
 use Rattle.monitor.specs.FromFlash.{moved_word, half_at, moved_word_at}
 

@@ -1,15 +1,14 @@
 -- A plan has no block for globals of no data region where there are none.
-use Rattle.std.proofs.Common.{◌≡◌, ℕ, zero, suc, ◌+◌, Bool, true, false, List, [], ◌∷◌, ◌++◌, length, map, cond, Option, Some, None, option_map, if◌then◌else◌, refl, sym, ap, ◌∙◌, subst, arith}
-use Rattle.std.specs.Prelude.{find, unwrap_or}
+use Rattle.std.proofs.Common.{◌≡◌, ℕ, zero, suc, ◌+◌, Bool, true, false, List, [], ◌∷◌, ◌++◌, length, map, cond, Option, Some, None, option_map, if◌then◌else◌, refl, sym, ap, subst}
+use Rattle.std.specs.Prelude.{find}
 use Rattle.std.specs.List.{fold, range_with_len}
 use Rattle.ir_model.specs.Resolved.{Program}
 use Rattle.plan_model.specs.declared.graph.Final.{Final}
 use Rattle.plan_model.specs.declared.plan.Board.{Board}
 use Rattle.plan_model.specs.declared.plan.Sizes.{Sizes}
-use Rattle.plan_model.specs.declared.plan.Spot.{Spot}
 use Rattle.plan_model.specs.Lists.{placed, in_order}
 use Rattle.plan_model.specs.RamBlocks.{RamUse, RamBlock, ForUnwritten, same_use, region_block, unwritten_block, ram_blocks}
-use Rattle.plan_model.specs.RamPlacement.{Ram, PlacedBlock, no_tail, tail_for, spot_at, with_block_by, with_block, ram_of, spot_for}
+use Rattle.plan_model.specs.RamPlacement.{Ram, PlacedBlock, tail_for, with_block_by, with_block, ram_of}
 use Rattle.plan_model.specs.Placement.{plan_of}
 
 -- none of these is for them

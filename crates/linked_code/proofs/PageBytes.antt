@@ -1,5 +1,5 @@
 -- All of the monitor's code has an encoding, and each byte of its page is a byte.
-use Rattle.std.proofs.Common.{◌≡◌, ℕ, pos, ◌+◌, ◌-◌, ◌^◌, ◌<◌, ◌≤◌, List, [], ◌∷◌, ◌++◌, length, replicate, refl, sym, subst, arith}
+use Rattle.std.proofs.Common.{ℕ, pos, ◌+◌, ◌-◌, ◌^◌, ◌<◌, ◌≤◌, ◌++◌, length, replicate, refl, arith}
 use Rattle.std.proofs.lemmas.Nat.{trailing_le}
 use Rattle.std.specs.Int.Signed.{le_z_yes, lt_z_yes}
 use Rattle.words.specs.Bytes.{AreBytes}

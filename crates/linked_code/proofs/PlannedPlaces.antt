@@ -1,5 +1,5 @@
 -- The places that a plan gives to the code of a function.
-use Rattle.std.proofs.Common.{◌≡◌, ℕ, zero, suc, ◌+◌, ◌-◌, ◌*◌, ◌/◌, ◌%◌, ◌^◌, ◌<◌, ◌≤◌, true, List, [], ◌∷◌, length, get_or, map, Option, Some, None, refl, sym, ap, ◌∙◌, subst, arith}
+use Rattle.std.proofs.Common.{◌≡◌, ℕ, ◌+◌, ◌^◌, ◌<◌, ◌≤◌, [], length, get_or, map, Some, None, sym, ap, ◌∙◌, subst, arith}
 use Rattle.std.specs.List.{position, range_with_len}
 use Rattle.std.proofs.lemmas.Bool.{cases_lt}
 use Rattle.std.proofs.lemmas.List.{get_or-map, get_or_past, length-map}
@@ -18,8 +18,6 @@ use Rattle.plan_model.specs.Crossing.{crossing_sites, stands_at, site_number}
 use Rattle.plan_model.specs.Lending.{lent, is_local, lend_number, lend_numbers_in}
 use Rattle.plan_model.specs.Placement.{global_address}
 use Rattle.layout.proofs.Searches.{position_is}
-use Rattle.lower.specs.declared.places.CallSite.{CallSite}
-use Rattle.lower.specs.declared.places.Places.{Places}
 use Rattle.lower.specs.FrameShape.{local_starts}
 use Rattle.lower.specs.Places.{site_in}
 use Rattle.lower.specs.CompartmentCode.{CodeGroups, CodePlaces, sites_of, lends_of, entry_of, places_of}

@@ -1,6 +1,5 @@
 -- The leave stub stands at an even address below 2^32.
-use Rattle.std.proofs.Common.{◌≡◌, ℕ, ◌+◌, ◌%◌, ◌^◌, ◌<◌, ◌≤◌, refl, arith}
-use Rattle.gate_steps.specs.Code.{code_length}
+use Rattle.std.proofs.Common.{◌≡◌, ◌%◌, arith}
 use Rattle.handler_runs.proofs.Encodable.{length_even}
 use Rattle.plan_model.specs.declared.plan.Board.{Board}
 use Rattle.ir_model.specs.Plain.{PlainFirmware}
@@ -10,7 +9,7 @@ use Rattle.monitor.specs.declared.tables.Tables.{Tables}
 use Rattle.monitor.specs.CodeSize.{CodeFits, StubIsThere}
 use Rattle.monitor.specs.Constants.{Constants, constants_with}
 use Rattle.monitor.specs.MemFault.{memfault}
-use Rattle.monitor.specs.Page.{stub_offset, stub_address, constants}
+use Rattle.monitor.specs.Page.{stub_offset}
 use Rattle.monitor.specs.Reset.{reset}
 use Rattle.monitor.specs.Svc.{svc}
 use Rattle.link_model.specs.LinkedTables.{tables_of}

@@ -1,9 +1,8 @@
 -- The instructions of each template stand in the instruction table, where registers, words of the frame and numbers are small enough.
-use Rattle.std.proofs.Common.{◌≡◌, ℕ, zero, suc, pos, ◌+◌, ◌-◌, ◌/◌, ◌%◌, ◌^◌, ◌<◌, ◌≤◌, Bool, true, false, List, [], ◌∷◌, ◌++◌, length, get_or, nat_le, if◌then◌else◌, Option, Some, None, refl, arith}
+use Rattle.std.proofs.Common.{◌≡◌, ℕ, zero, suc, pos, ◌+◌, ◌-◌, ◌^◌, ◌<◌, ◌≤◌, Bool, true, false, List, [], ◌∷◌, length, get_or, nat_le, if◌then◌else◌, Option, Some, None, refl, arith}
 use Rattle.std.proofs.lemmas.Bool.Decides.{nat_tests}
 use Rattle.std.specs.Int.Signed.{le_z_yes, lt_z_yes}
-use Rattle.thumb_model.specs.declared.table.Instr.{Instr}
-use Rattle.thumb_model.specs.declared.table.Instr.TheVariants.{AdjustStack, PushPop, CallBranch}
+use Rattle.thumb_model.specs.declared.table.Instr.TheVariants.{CallBranch}
 use Rattle.thumb_model.specs.Table.{InTable, IsGeneral, IsOffset}
 use Rattle.thumb_model.specs.Bytes.{EachInTable}
 use Rattle.thumb_model.proofs.Codes.{in_table-append}
@@ -21,7 +20,6 @@ use Rattle.lower.specs.Calls.{args_code, callee_code}
 use Rattle.lower.specs.Entry.{sub_by, sub_code, add_by, add_code, stores_code, frame_code, lend_code, enter_code, unlend_code, result_code, leave_code}
 
 -- ---- single instructions
-
 
 pub load_in : (t k : ℕ) → t < 8 → k < 256 → InTable (load_slot t k)
 load_in t k a b = (omega arith, a, omega arith, b, λ e. refl, λ e. absurd (omega (arith, e)))
