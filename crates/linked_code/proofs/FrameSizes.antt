@@ -12,7 +12,7 @@ use Rattle.ir_model.specs.Typing.{IsTyped}
 use Rattle.ir_model.specs.Signatures.{row_length}
 use Rattle.lower.specs.declared.places.CallSite.{CallSite}
 use Rattle.lower.specs.declared.places.Places.{Places}
-use Rattle.lower.specs.FrameShape.{locals_size, frame_size, starts_from, local_starts, frame_shape}
+use Rattle.lower.specs.FrameShape.{local_size, locals_size, frame_size, starts_from, local_starts, frame_shape}
 use Rattle.lower.specs.Places.{lends_among}
 use Rattle.lower_laws.specs.Fitting.{HasEach, TypedFunctionsFit}
 use Rattle.linked_code.proofs.TemplateCode.{LendsFit}
@@ -63,7 +63,7 @@ module _ (fits : TypedFunctionsFit) (w : PlainFirmware) (typed : IsTyped w) (wit
 starts_below : (n : ℕ) (ss : List Shape) (l : ℕ) → get_or (starts_from n ss) l 0 ≤ n + locals_size ss
 starts_below n [] l = omega arith
 starts_below n (s ∷ ss) zero = omega arith
-starts_below n (s ∷ ss) (suc l) = let h = starts_below (n + Rattle.lower.specs.FrameShape.local_size s) ss l in omega (arith, h)
+starts_below n (s ∷ ss) (suc l) = let h = starts_below (n + local_size s) ss l in omega (arith, h)
 
 pub words_few : (g : NumberedFunc) → frame_size g ≤ 992 → (frame_shape g).words ≤ 254
 words_few g h = omega (arith, h)

@@ -1,5 +1,5 @@
 -- The code of a typed function has an encoding, where its places are those of a plan.
-use Rattle.std.proofs.Common.{◌≡◌, ℕ, zero, suc, ◌+◌, ◌-◌, ◌*◌, ◌/◌, ◌%◌, ◌^◌, ◌<◌, ◌≤◌, Bool, true, false, List, [], ◌∷◌, ◌++◌, length, get_or, flat_map, nat_le, nat_lt, Option, Some, None, refl, sym, ap, ◌∙◌, subst, arith}
+use Rattle.std.proofs.Common.{◌≡◌, ℕ, ℤ, zero, suc, ◌+◌, ◌*◌, ◌/◌, ◌%◌, ◌^◌, ◌<◌, ◌≤◌, true, List, [], ◌∷◌, ◌++◌, length, get_or, flat_map, nat_le, nat_lt, Option, Some, None, refl, sym, ap, ◌∙◌, subst, arith}
 use Rattle.std.proofs.lemmas.List.Concat.{flat_map-append}
 use Rattle.thumb_model.specs.declared.table.Instr.{Instr}
 use Rattle.thumb_model.specs.declared.table.Instr.TheVariants.{BranchLink}
@@ -25,7 +25,7 @@ use Rattle.lower.specs.Addresses.{named_into, addr_code, faddr_code, elem_code, 
 use Rattle.lower.specs.Entry.{enter_code, leave_code}
 use Rattle.lower.specs.Calls.{args_code, call_code, callee_code, icall_code, call_items, icall_items}
 use Rattle.lower.specs.Templates.{lends_of, entry_items, inst_items, term_items}
-use Rattle.lower.specs.Sizes.{inst_size, block_size, entry_size}
+use Rattle.lower.specs.Sizes.{inst_size, insts_size, term_size, block_size, entry_size}
 use Rattle.lower.specs.FunctionCode.{lent, block_pieces, blocks_pieces, function_items}
 use Rattle.lower.specs.Laws.{SizesHold}
 use Rattle.linked_images.proofs.Passing.{and_yes, le_yes, lt_yes}
@@ -63,6 +63,11 @@ unfolding encode
 args_total r [] = refl
 args_total r (a ∷ more) = let h = args_total (suc r) more in omega (arith, h)
 
+-- arguments stand before the branch
+args_before : (r : ℕ) (as_ : List ℕ) (offset : ℤ) → total (plain (args_code r as_)) ≤ total (plain (args_code r as_ ++ BranchLink offset ∷ []))
+args_before r [] d = omega arith
+args_before r (a ∷ more) d = let h = args_before (suc r) more d in omega (arith, h)
+
 module _ (low high : ℕ) (near : high ≤ low + 2 ^ 21) (top : high < 2 ^ 31) (p : Program) (sizes : PlainType → ℕ) (g : NumberedFunc) (q : Places)
     (fit : PlacesFit low high (length p.funcs) q) (frame : FrameFits g q) where
   -- ---- registers
@@ -98,22 +103,15 @@ module _ (low high : ℕ) (near : high ≤ low + 2 ^ 21) (top : high < 2 ^ 31) (
       ((n : ℕ) → s ≡ Some n → n < 2 ^ 16) → Encodable (call_items at (entry_address q h) s to as_)
   call_in at h None to as_ a r l c from room even small =
       let few = c.few in
-      let n : ℕ = at + total (plain (args_code 0 as_)) in
+      let from_here : ℕ = at + total (plain (args_code 0 as_)) in
+      let offset : ℤ = distance from_here (entry_address q h) in
       let t = args_total 0 as_ in
-      let code : List Instr = call_code as_ (distance n (entry_address q h)) in
-      let u = total-append (plain code) (plain (save_code to)) in
-      encodable-append (plain code) _ (plain_encodable code (in_table-append (args_code 0 as_) _ (args_in 0 as_ (omega (arith, few)) (args_fit to as_ a r c)) (link_in n h l (omega (arith, from)) (behind n u) (omega (arith, t, even)), tt)))
+      let before = args_before 0 as_ offset in
+      let parts = total-append (plain (call_code as_ offset)) (plain (save_code to)) in
+      let link = link_in from_here h l (omega (arith, from)) (omega (arith, before, parts, room)) (omega (arith, t, even)) in
+      encodable-append (plain (call_code as_ offset)) (plain (save_code to))
+      (plain_encodable (call_code as_ offset) (in_table-append (args_code 0 as_) (BranchLink offset ∷ []) (args_in 0 as_ (omega (arith, few)) (args_fit to as_ a r c)) (link, tt)))
       (saved to r c.outcome)
-    where
-      total_call : (xs : List ℕ) (k : ℕ) (d : Rattle.std.proofs.Common.ℤ) → total (plain (args_code k xs)) ≤ total (plain (args_code k xs ++ BranchLink d ∷ []))
-      total_call [] k d = omega arith
-      total_call (x ∷ xs) k d = let i = total_call xs (suc k) d in omega (arith, i)
-
-      behind : (n : ℕ) → total (plain (call_code as_ (distance n (entry_address q h))) ++ plain (save_code to)) ≡ total (plain (call_code as_ (distance n (entry_address q h)))) + total (plain (save_code to)) → at + total (plain (args_code 0 as_)) ≤ high
-      behind n u =
-          let m = total_call as_ 0 (distance (at + total (plain (args_code 0 as_))) (entry_address q h)) in
-          let v = total-append (plain (call_code as_ (distance (at + total (plain (args_code 0 as_))) (entry_address q h)))) (plain (save_code to)) in
-          omega (arith, m, v, room)
   call_in at h (Some s) to as_ a r l c from room even small =
       let few = c.few in
       let t = fit.to h l in
@@ -180,7 +178,7 @@ module _ (low high : ℕ) (near : high ≤ low + 2 ^ 21) (top : high < 2 ^ 31) (
         encodable-append piece rest (inst_in at (site_in q.sites b k) i (h 0 (omega arith)) from (omega (arith, room, a)) even (fit.sites b k))
         (block_in next b (suc k) is t (λ j l. h (suc j) (omega (arith, l))) e (omega (arith, from)) (omega (arith, room, a, z)) (omega (arith, even, z, v)))
 
-    block_total : (at b k : ℕ) (is : List NumberedInst) (t : NumberedTerm) → total (joined (block_pieces g q first at b k is t)) ≡ Rattle.lower.specs.Sizes.insts_size g q.sites (lent g q) b k is + Rattle.lower.specs.Sizes.term_size g (lent g q) t
+    block_total : (at b k : ℕ) (is : List NumberedInst) (t : NumberedTerm) → total (joined (block_pieces g q first at b k is t)) ≡ insts_size g q.sites (lent g q) b k is + term_size g (lent g q) t
     block_total at b k [] t = let h = hold.terms g q first t in let a = total-append (term_items g q first t) [] in omega (arith, h, a)
     block_total at b k (i ∷ is) t =
         let next : ℕ = at + inst_size (crosses q.sites b k) i in

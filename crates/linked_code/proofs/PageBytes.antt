@@ -15,6 +15,7 @@ use Rattle.monitor.specs.MemFault.{memfault}
 use Rattle.monitor.specs.Page.{vectors, bytes_of_words, used_bytes, leave_stub, monitor_code, stub_offset, stub_address, constants, page}
 use Rattle.handler_runs.proofs.Encodable.{Words, words_fit, times_words, regions_words}
 use Rattle.monitor.specs.Opening.{bits_of, tables_of}
+use Rattle.monitor.specs.Records.{eighth as eighth_of}
 use Rattle.monitor.specs.Reset.{init_turn, go_on, reset}
 use Rattle.monitor.specs.Svc.{svc}
 use Rattle.monitor_laws.proofs.Encoded.{tables_fields, in_table}
@@ -47,7 +48,7 @@ module _ (stub : ℕ) (t : Tables) where
   s = constants_with stub t
 
   eighth : s.eighth < 2 ^ 32
-  eighth = let e = trailing_le 32 (Rattle.monitor.specs.Records.eighth t) in omega (arith, e)
+  eighth = let e = trailing_le 32 (eighth_of t) in omega (arith, e)
 
   go_words : Words (go_on s)
   go_words = (omega arith, (omega arith, (omega arith, (omega arith, (omega arith, (omega arith, tt))))))
