@@ -40,3 +40,23 @@ mod SiteRecords
 mod LendsPass
 mod SitesPass
 mod Targets
+pub mod ByteLists
+pub mod PageBytes
+mod PageStands
+mod MovedWords
+mod MainWords
+pub mod EntryPlaces
+mod MainMoved
+mod StubPlace
+mod TemplateCode
+mod Encodable
+mod FunctionItems
+mod FrameSizes
+mod PlannedPlaces
+mod Members
+mod EvenLabels
+mod CompartmentCode
+mod CodeStanding
+pub mod Alignments
+mod NoUnwritten
+pub mod GlobalsLow

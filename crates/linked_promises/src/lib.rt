@@ -1,6 +1,7 @@
 //! What the linked image of a firmware promises the simulation of its runs.
 #![tactic(auto)]
 
+pub mod code;
 pub mod globals;
 pub mod laws;
 pub mod regions;

@@ -15,9 +15,9 @@ use Rattle.linked_images.specs.Planned.{IsPlanned, plan, planned_tables, planned
 use Rattle.linked_images.proofs.Limits.{few}
 use Rattle.linked_images.proofs.ReadBack.{ReadLaws}
 use Rattle.linked_promises.specs.Parts.{CodeIsPlaced}
-use Rattle.linked_code.specs.Laws.{PageIsExact, MainIsMoved}
-use Rattle.linked_code.proofs.Entries.{entry_in, is}
-use Rattle.linked_code.proofs.MainWords.{entry_back, compartment_back}
+use Rattle.linked_promises.specs.CodeInFlash.{PageIsExact, MainIsMoved}
+use Rattle.linked_promises.proofs.EntryPlaces.{entry_in, is}
+use Rattle.linked_promises.proofs.MainWords.{entry_back, compartment_back}
 
 module _ (law : ReadLaws) (placed : CodeIsPlaced) (typing : TypedOverNumbers) (w : PlainFirmware) (n : Needs) (f : Final) (b : Board) (ok : IsPlanned w n f b) where
   there : (resolve w).main < length (resolve w).funcs

@@ -29,10 +29,10 @@ use Rattle.linked_images.specs.Planned.{IsPlanned, plan}
 use Rattle.linked_images.proofs.Limits.{few}
 use Rattle.linked_images.proofs.ReadBack.{ReadLaws}
 use Rattle.linked_promises.specs.Parts.{CodeIsPlaced}
-use Rattle.linked_code.proofs.Entries.{entry_in, entry_aligned}
-use Rattle.linked_code.proofs.FrameSizes.{small, words_few, starts_few, lends_fit}
-use Rattle.linked_code.proofs.FunctionItems.{PlacesFit, FrameFits}
-use Rattle.linked_code.proofs.GlobalsLow.{global_below}
+use Rattle.linked_promises.proofs.EntryPlaces.{entry_in, entry_aligned}
+use Rattle.linked_promises.proofs.FrameSizes.{small, words_few, starts_few, lends_fit}
+use Rattle.linked_promises.proofs.FunctionItems.{PlacesFit, FrameFits}
+use Rattle.linked_promises.proofs.GlobalsLow.{global_below}
 
 -- numbers made of numbers, below a limit
 mapped_below : (limit : ℕ) (g : ℕ → ℕ) (n x : ℕ) → 0 < limit → (x < n → g x < limit) → get_or (map g (range_with_len 0 n)) x 0 < limit

@@ -23,8 +23,8 @@ use Rattle.linked_images.specs.Planned.{IsPlanned, plan, planned_sizes}
 use Rattle.linked_images.proofs.Facts.{PlanLaws}
 use Rattle.linked_images.proofs.Powers.{block_is}
 use Rattle.linked_images.proofs.Ranges.{globals_for, IsUse, block_in, small}
-use Rattle.linked_code.proofs.Alignments.{has_alignments}
-use Rattle.linked_code.proofs.NoUnwritten.{none_for_unwritten}
+use Rattle.linked_promises.proofs.Alignments.{has_alignments}
+use Rattle.linked_promises.proofs.NoUnwritten.{none_for_unwritten}
 
 -- ---- offsets in a block
 

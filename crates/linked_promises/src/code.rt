@@ -1,14 +1,14 @@
 //! Laws of the flash of planned images: functions that do nothing, whose contract is the law.
 
-ghost use Rattle.linked_code.specs.Laws.{CodeIsExact, CodeLies, CodePasses, MainIsMoved, PageIsExact, StubIsPlaced};
+ghost use Rattle.linked_promises.specs.CodeInFlash.{CodeIsExact, CodeLies, CodePasses, MainIsMoved, PageIsExact, StubIsPlaced};
 
+use crate::laws::code as placed;
 use code_effects::laws::items;
 use ir_laws::limits::windows;
 use ir_laws::typing::places as typed_places;
 use layout_laws::{flash, places, ram};
 use link_model::laws::counts;
 use linked_images::laws::flash_has;
-use linked_promises::laws::code as placed;
 use lower::laws::{compartments, sites, sizes};
 use lower_laws::laws::{compartments as branches, typed};
 use monitor::code_size::page_is_full;

@@ -7,7 +7,7 @@ use Rattle.lower.specs.Templates.{entry_items, inst_items, term_items}
 use Rattle.lower.specs.Sizes.{entry_size, insts_size, block_size, blocks_size, function_size}
 use Rattle.lower.specs.FunctionCode.{lent, blocks_labels, function_labels}
 use Rattle.lower.specs.Laws.{SizesHold}
-use Rattle.linked_code.proofs.Encodable.{LeadEven, total_even}
+use Rattle.linked_promises.proofs.Encodable.{LeadEven, total_even}
 
 abbrev pub EvenLabels : List (Option ℕ) → Type 0
 EvenLabels [] = Unit {0}

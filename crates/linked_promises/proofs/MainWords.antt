@@ -19,7 +19,7 @@ use Rattle.monitor.specs.Reset.{copied, first_block, traps, first_regions, go_on
 use Rattle.monitor.specs.Opening.{tables_of}
 use Rattle.monitor.specs.Svc.{svc}
 use Rattle.monitor_laws.proofs.PageCode.{middle}
-use Rattle.linked_code.proofs.MovedWords.{HoldsMoves, moved_back}
+use Rattle.linked_promises.proofs.MovedWords.{HoldsMoves, moved_back}
 
 -- ---- start-up's code in the page
 

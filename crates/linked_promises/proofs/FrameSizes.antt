@@ -15,7 +15,7 @@ use Rattle.lower.specs.declared.places.Places.{Places}
 use Rattle.lower.specs.FrameShape.{local_size, locals_size, frame_size, starts_from, local_starts, frame_shape}
 use Rattle.lower.specs.Places.{lends_among}
 use Rattle.lower_laws.specs.Fitting.{HasEach, TypedFunctionsFit}
-use Rattle.linked_code.proofs.TemplateCode.{LendsFit}
+use Rattle.linked_promises.proofs.TemplateCode.{LendsFit}
 
 -- ---- registers, parameters and the frame are the same whatever the places are
 

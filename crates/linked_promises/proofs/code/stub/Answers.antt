@@ -1,6 +1,6 @@
 use Rattle.linked_images.proofs.Facts.{PlanLaws}
-use Rattle.linked_code.proofs.StubPlace.{stub_is_placed}
-use Rattle.linked_code.proofs.laws.stub.Goals as goal
+use Rattle.linked_promises.proofs.StubPlace.{stub_is_placed}
+use Rattle.linked_promises.proofs.code.stub.Goals as goal
 
 pub returns : goal.returns
 returns c =

@@ -1,6 +1,6 @@
 use Rattle.linked_images.proofs.Facts.{PlanLaws}
-use Rattle.linked_code.proofs.PageStands.{page_is_exact, code_passes}
-use Rattle.linked_code.proofs.laws.page.Goals as goal
+use Rattle.linked_promises.proofs.PageStands.{page_is_exact, code_passes}
+use Rattle.linked_promises.proofs.code.page.Goals as goal
 
 pub returns : goal.returns
 returns c =

@@ -21,7 +21,7 @@ use Rattle.monitor.specs.Svc.{svc}
 use Rattle.monitor_laws.proofs.Encoded.{tables_fields, in_table}
 use Rattle.svc_law.proofs.SvcEncoded.{svc_in_table}
 use Rattle.memfault_law.proofs.Encodings.{memfault_in_table}
-use Rattle.linked_code.proofs.ByteLists.{EachBelow, below-append, below_at, ones_below, words_below, code_below}
+use Rattle.linked_promises.proofs.ByteLists.{EachBelow, below-append, below_at, ones_below, words_below, code_below}
 
 no_offset : IsOffset 2048 (pos 0)
 no_offset = record { from = le_z_yes tt; below = lt_z_yes tt; even = refl }

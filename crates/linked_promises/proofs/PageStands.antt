@@ -10,8 +10,8 @@ use Rattle.linked_images.specs.Planned.{planned_tables, planned_image}
 use Rattle.linked_images.specs.Laws.{FlashReadsBack}
 use Rattle.linked_images.proofs.Facts.{PlanLaws, length_is, flash_least}
 use Rattle.linked_images.proofs.Passing.{eq_yes, must_yes, then_yes}
-use Rattle.linked_code.specs.Laws.{PageIsExact, CodePasses}
-use Rattle.linked_code.proofs.PageBytes.{page_bytes}
+use Rattle.linked_promises.specs.CodeInFlash.{PageIsExact, CodePasses}
+use Rattle.linked_promises.proofs.PageBytes.{page_bytes}
 
 -- a list that the other begins with
 no_difference : (wanted found : List ℕ) (at : ℕ) → length wanted ≤ length found → ((k : ℕ) → k < length wanted → get_or found k 0 ≡ get_or wanted k 0) → difference wanted found at ≡ None

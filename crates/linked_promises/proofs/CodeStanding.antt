@@ -24,8 +24,8 @@ use Rattle.linked_images.specs.Laws.{FlashReadsBack}
 use Rattle.linked_images.proofs.Facts.{length_is, code_blocks_count}
 use Rattle.linked_images.proofs.Flash.{code_ends}
 use Rattle.linked_images.proofs.ReadBack.{code_fits}
-use Rattle.linked_code.proofs.CompartmentCode.{CodeLaws, code_in_table, code_bytes}
-use Rattle.linked_code.proofs.Entries.{base_is, from_base}
+use Rattle.linked_promises.proofs.CompartmentCode.{CodeLaws, code_in_table, code_bytes}
+use Rattle.linked_promises.proofs.EntryPlaces.{base_is, from_base}
 
 module _ (law : CodeLaws) (has : FlashReadsBack) (w : PlainFirmware) (n : Needs) (f : Final) (b : Board) (ok : IsPlanned w n f b) where
   abbrev p : Program

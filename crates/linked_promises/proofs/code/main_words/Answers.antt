@@ -1,7 +1,7 @@
 use Rattle.linked_images.proofs.Facts.{PlanLaws}
 use Rattle.linked_images.proofs.ReadBack.{ReadLaws}
-use Rattle.linked_code.proofs.MainMoved.{main_is_moved}
-use Rattle.linked_code.proofs.laws.main_words.Goals as goal
+use Rattle.linked_promises.proofs.MainMoved.{main_is_moved}
+use Rattle.linked_promises.proofs.code.main_words.Goals as goal
 
 pub returns : goal.returns
 returns c =

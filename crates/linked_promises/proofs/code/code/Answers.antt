@@ -1,8 +1,8 @@
 use Rattle.linked_images.proofs.Facts.{PlanLaws}
 use Rattle.linked_images.proofs.ReadBack.{ReadLaws}
-use Rattle.linked_code.proofs.CompartmentCode.{CodeLaws}
-use Rattle.linked_code.proofs.CodeStanding.{code_exact, code_stands}
-use Rattle.linked_code.proofs.laws.code.Goals as goal
+use Rattle.linked_promises.proofs.CompartmentCode.{CodeLaws}
+use Rattle.linked_promises.proofs.CodeStanding.{code_exact, code_stands}
+use Rattle.linked_promises.proofs.code.code.Goals as goal
 
 pub returns : goal.returns
 returns c =

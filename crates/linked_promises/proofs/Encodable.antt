@@ -19,7 +19,7 @@ use Rattle.armv7m.specs.Code.{size}
 use Rattle.armv7m.proofs.CodeParts.{width-encode, code_size-even}
 use Rattle.lower.specs.Words.{plain}
 use Rattle.code_effects.specs.Items.{InstructionsInTable}
-use Rattle.linked_code.proofs.ByteLists.{EachBelow, below-append, half_below, encoded_below}
+use Rattle.linked_promises.proofs.ByteLists.{EachBelow, below-append, half_below, encoded_below}
 
 abbrev IsLong : BranchKind → Type 0
 IsLong Long = Unit {0}

@@ -26,13 +26,13 @@ use Rattle.monitor.specs.TheCode.{monitor_code}
 use Rattle.linked_images.specs.Planned.{IsPlanned, plan}
 use Rattle.linked_images.proofs.ReadBack.{ReadLaws}
 use Rattle.linked_promises.specs.Parts.{CodeIsPlaced}
-use Rattle.linked_code.proofs.ByteLists.{below_at}
-use Rattle.linked_code.proofs.Encodable.{Encodable, encodable-append, in_table, pieces_below}
-use Rattle.linked_code.proofs.Entries.{is, base_is, from_base, code_room, block_end, entry_in, entry_aligned}
-use Rattle.linked_code.proofs.EvenLabels.{EvenLabels, labels-append, lead_even, function_even}
-use Rattle.linked_code.proofs.FunctionItems.{function_encodable}
-use Rattle.linked_code.proofs.Members.{all_good, function_room}
-use Rattle.linked_code.proofs.PlannedPlaces.{places_fit, frame_fits}
+use Rattle.linked_promises.proofs.ByteLists.{below_at}
+use Rattle.linked_promises.proofs.Encodable.{Encodable, encodable-append, in_table, pieces_below}
+use Rattle.linked_promises.proofs.EntryPlaces.{is, base_is, from_base, code_room, block_end, entry_in, entry_aligned}
+use Rattle.linked_promises.proofs.EvenLabels.{EvenLabels, labels-append, lead_even, function_even}
+use Rattle.linked_promises.proofs.FunctionItems.{function_encodable}
+use Rattle.linked_promises.proofs.Members.{all_good, function_room}
+use Rattle.linked_promises.proofs.PlannedPlaces.{places_fit, frame_fits}
 
 -- what else is known of the code of firmwares
 pub record CodeLaws : Type 0 where

@@ -15,7 +15,7 @@ use Rattle.monitor.specs.Svc.{svc}
 use Rattle.link_model.specs.LinkedTables.{tables_of}
 use Rattle.linked_images.specs.Planned.{IsPlanned, planned_tables}
 use Rattle.linked_images.proofs.Facts.{PlanLaws, laid}
-use Rattle.linked_code.specs.Laws.{StubIsPlaced}
+use Rattle.linked_promises.specs.CodeInFlash.{StubIsPlaced}
 
 offset_even : (c : Constants) → stub_offset c % 2 ≡ 0
 offset_even c =

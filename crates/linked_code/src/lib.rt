@@ -1,4 +1,0 @@
-//! What stands in the flash of a planned image.
-#![tactic(auto)]
-
-pub mod laws;
