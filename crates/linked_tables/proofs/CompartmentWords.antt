@@ -1,5 +1,5 @@
 -- The words of compartments: of their regions and of their masks.
-use Rattle.std.proofs.Common.{◌≡◌, ℕ, ◌+◌, ◌%◌, ◌^◌, ◌<◌, ◌≤◌, Bool, true, false, List, [], ◌∷◌, ◌++◌, length, map, filter, get_or, cond, flat_map, nat_lt, ap, sym, ◌∙◌, subst, lit<, arith}
+use Rattle.std.proofs.Common.{◌≡◌, ℕ, ◌+◌, ◌%◌, ◌^◌, ◌<◌, ◌≤◌, Bool, true, false, [], ◌∷◌, ◌++◌, length, map, filter, get_or, cond, flat_map, nat_lt, ap, sym, ◌∙◌, subst, lit<, arith}
 use Rattle.std.proofs.lemmas.Bool.{cases_lt}
 use Rattle.std.proofs.lemmas.List.{get_or_past}
 use Rattle.std.proofs.lemmas.List.FromFn.{get_or-map-range_with_len, length-map-range_with_len}
@@ -11,7 +11,6 @@ use Rattle.ir_model.specs.Resolve.{resolve}
 use Rattle.ir_model.specs.Resolved.{Program, window_at}
 use Rattle.ir_model.specs.declared.object.ObjId.TheVariants.{Local}
 use Rattle.ir_laws.specs.Limits.{HasWindows, WindowsLieApart}
-use Rattle.thread_runs.specs.Areas as areas
 use Rattle.plan_model.specs.declared.needs.Needs.{Needs}
 use Rattle.plan_model.specs.declared.groups.Groups.{Groups}
 use Rattle.plan_model.specs.declared.graph.Cover.{Cover}
@@ -42,14 +41,6 @@ use Rattle.linked_tables.proofs.RegionWords.{IsLow, region_fits, out_is_byte, sl
 
 -- ---- covers lie among the peripherals
 
-to_areas : {X : Type 0} (P : X → Type 0) (xs : List X) → Each P xs → areas.Each P xs
-to_areas P [] e = tt
-to_areas P (x ∷ xs) e = (e.0, to_areas P xs e.1)
-
-from_areas : {X : Type 0} (P : X → Type 0) (xs : List X) → areas.Each P xs → Each P xs
-from_areas P [] e = tt
-from_areas P (x ∷ xs) e = (e.0, from_areas P xs e.1)
-
 module _ (p : Program) (n : Needs) (windows : HasWindows p) where
   window_part : (q : ℕ) → q < length p.periphs → IsPart (cover_of p q)
   window_part q l =
@@ -60,9 +51,8 @@ module _ (p : Program) (n : Needs) (windows : HasWindows p) where
   first_parts : (g : Groups) (c : ℕ) → AreParts (covers_of p n g c)
   first_parts g c =
       each_in_order IsPart (λ (a b : Cover). nat_lt a.base b.base) (map (cover_of p) (filter (uses n g c) (numbers_below (length p.periphs))))
-      (to_areas IsPart (map (cover_of p) (filter (uses n g c) (numbers_below (length p.periphs))))
       (each_map IsPart (cover_of p) (λ j. j < length p.periphs) (filter (uses n g c) (numbers_below (length p.periphs))) window_part
-      (each_kept (λ j. j < length p.periphs) (uses n g c) (numbers_below (length p.periphs)) (each_below 0 (length p.periphs) (length p.periphs) (omega arith)))))
+      (each_kept (λ j. j < length p.periphs) (uses n g c) (numbers_below (length p.periphs)) (each_below 0 (length p.periphs) (length p.periphs) (omega arith))))
 
   module _ (f : Final) (slots : ℕ) (final : IsFinal p n f.groups slots f) where
     first_at : (c : ℕ) → c < f.groups.count → get_or (initial_graph p n f.groups).covers c [] ≡ covers_of p n f.groups c
@@ -83,7 +73,7 @@ module _ (p : Program) (n : Needs) (windows : HasWindows p) where
 
     pub covers_low : (c : ℕ) → Each IsLow (map cover_slot (get_or f.covers c []))
     covers_low c =
-        each_map IsLow cover_slot IsPart (get_or f.covers c []) (λ d i. record { base = let t = i.to in omega (arith, t); byte = lit< tt }) (from_areas IsPart (get_or f.covers c []) (parts c))
+        each_map IsLow cover_slot IsPart (get_or f.covers c []) (λ d i. record { base = let t = i.to in omega (arith, t); byte = lit< tt }) (parts c)
 
     -- ---- masks
 

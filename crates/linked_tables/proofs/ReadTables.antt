@@ -104,7 +104,7 @@ module _ (code : MonitorCode) (i : Image) (t : Tables) (in_it : StandIn code i t
 
   at_sites : 32 + 4 * length (flat_map compartment_words t.comps) ≡ sites_offset bytes slots
   at_sites =
-      let l = comps_long bytes slots t.comps in_it.slots in
+      let l = comps_long slots t.comps in_it.slots in
       let n : (8 * slots + 16) * comp_count bytes ≡ (8 * slots + 16) * length t.comps = ap (λ n. (8 * slots + 16) * n) comps_counted in
       omega (arith, l, n)
 

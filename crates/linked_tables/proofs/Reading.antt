@@ -13,6 +13,38 @@ use Rattle.monitor.specs.declared.tables.InitRecord.{InitRecord}
 use Rattle.monitor.specs.Area.{region_words, compartment_words, site_words, target_words, init_words}
 use Rattle.monitor.specs.FromFlash.{records, word_at, region_at, comp_record_at, site_record_at, target_record_at, init_record_at}
 
+-- ---- how many words records have
+
+regions_long : (gs : List Region) → length (flat_map region_words gs) ≡ 2 * length gs
+regions_long [] = refl
+regions_long (g ∷ gs) = let h = regions_long gs in omega (arith, h)
+
+comp_long : (slots : ℕ) (c : CompRecord) → length c.slots ≡ slots → 4 * length (compartment_words c) ≡ 8 * slots + 16
+comp_long slots c e =
+    let l = regions_long c.slots in
+    let d = length-append (flat_map region_words c.slots) (c.mask ∷ c.reads ∷ []) in
+    omega (arith, l, d, e)
+
+pub comps_long : (slots : ℕ) (cs : List CompRecord) → Each (λ (c : CompRecord). length c.slots ≡ slots) cs → 4 * length (flat_map compartment_words cs) ≡ (8 * slots + 16) * length cs
+comps_long slots [] e = grind arith
+comps_long slots (c ∷ cs) e =
+    let one = comp_long slots c e.0 in
+    let h = comps_long slots cs e.1 in
+    let l = length-append (compartment_words c) (flat_map compartment_words cs) in
+    grind (arith, one, h, l)
+
+-- ---- what is read
+
+abbrev Any : {A : Type 0} → A → Type 0
+Any x = Unit {0}
+
+all : {A : Type 0} (xs : List A) → Each Any xs
+all [] = tt
+all (x ∷ xs) = (tt, all xs)
+
+third : (o : ℕ) → o + 8 ≡ o + 4 + 4
+third o = omega arith
+
 module _ (bytes : List ℕ) where
   -- these words are read from an offset on
   abbrev pub Reads : (offset : ℕ) → List ℕ → Type 0
@@ -55,16 +87,6 @@ module _ (bytes : List ℕ) where
   words_read [] o h = refl
   words_read (w ∷ ws) o h = ap₂ (λ y ys. y ∷ ys) h.0 (words_read ws (o + 4) h.1)
 
-  abbrev Any : {A : Type 0} → A → Type 0
-  Any x = Unit {0}
-
-  all : {A : Type 0} (xs : List A) → Each Any xs
-  all [] = tt
-  all (x ∷ xs) = (tt, all xs)
-
-  third : (o : ℕ) → o + 8 ≡ o + 4 + 4
-  third o = omega arith
-
   region_read : (g : Region) (o : ℕ) → Reads o (region_words g) → region_at bytes o ≡ g
   region_read g o h = ap₂ (λ a b. record { rbar = a; rasr = b }) h.0 h.1.0
 
@@ -95,16 +117,6 @@ module _ (bytes : List ℕ) where
 
   -- ---- compartments with so many slots
 
-  regions_long : (gs : List Region) → length (flat_map region_words gs) ≡ 2 * length gs
-  regions_long [] = refl
-  regions_long (g ∷ gs) = let h = regions_long gs in omega (arith, h)
-
-  comp_long : (slots : ℕ) (c : CompRecord) → length c.slots ≡ slots → 4 * length (compartment_words c) ≡ 8 * slots + 16
-  comp_long slots c e =
-      let l = regions_long c.slots in
-      let d = length-append (flat_map region_words c.slots) (c.mask ∷ c.reads ∷ []) in
-      omega (arith, l, d, e)
-
   comp_read : (slots : ℕ) (c : CompRecord) (o : ℕ) → length c.slots ≡ slots → Reads o (compartment_words c) → comp_record_at bytes slots o ≡ c
   comp_read slots c o e h =
       let masks : List ℕ = c.mask ∷ c.reads ∷ [] in
@@ -121,14 +133,6 @@ module _ (bytes : List ℕ) where
       let first : comp_record_at bytes slots o ≡ record c { mask = read 4 (o + 8 + 8 * slots) bytes; reads = read 4 (o + 12 + 8 * slots) bytes } =
       ap₂ (λ a b. record { code = a; slots = b; mask = read 4 (o + 8 + 8 * slots) bytes; reads = read 4 (o + 12 + 8 * slots) bytes }) code slotted in
       first ∙ ap₂ (λ a b. record c { mask = a; reads = b }) mask reads
-
-  pub comps_long : (slots : ℕ) (cs : List CompRecord) → Each (λ (c : CompRecord). length c.slots ≡ slots) cs → 4 * length (flat_map compartment_words cs) ≡ (8 * slots + 16) * length cs
-  comps_long slots [] e = grind arith
-  comps_long slots (c ∷ cs) e =
-      let one = comp_long slots c e.0 in
-      let h = comps_long slots cs e.1 in
-      let l = length-append (compartment_words c) (flat_map compartment_words cs) in
-      grind (arith, one, h, l)
 
   pub comps_read : (slots : ℕ) (cs : List CompRecord) (o : ℕ) → Each (λ (c : CompRecord). length c.slots ≡ slots) cs → Reads o (flat_map compartment_words cs)
       → records (comp_record_at bytes slots) (8 * slots + 16) (length cs) o ≡ cs

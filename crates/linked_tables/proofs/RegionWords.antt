@@ -48,7 +48,7 @@ slots_fit n zero us h e = tt
 slots_fit n (suc k) [] h e = (omega (arith, h), (lit< tt, slots_fit (suc n) k [] (omega (arith, h)) tt))
 slots_fit n (suc k) (u ∷ us) h e =
     let low = e.0 in
-    both_words (region_words (Rattle.mpu_model.specs.RegionWords.region_of n u.base u.size u.srd u.rights)) (flat_map region_words (slots_from (suc n) k us))
+    both_words (region_words (region_of n u.base u.size u.srd u.rights)) (flat_map region_words (slots_from (suc n) k us))
     (region_fits n u.base u.size u.srd u.rights (omega (arith, h)) low.base low.byte) (slots_fit (suc n) k us (omega (arith, h)) e.1)
 
 -- ---- masks
