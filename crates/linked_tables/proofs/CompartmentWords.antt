@@ -1,0 +1,155 @@
+-- The words of compartments: of their regions and of their masks.
+use Rattle.std.proofs.Common.{◌≡◌, ℕ, ◌+◌, ◌%◌, ◌^◌, ◌<◌, ◌≤◌, Bool, true, false, [], ◌∷◌, ◌++◌, length, map, filter, get_or, cond, flat_map, nat_lt, ap, sym, ◌∙◌, subst, lit<, arith}
+use Rattle.std.proofs.lemmas.Bool.{cases_lt}
+use Rattle.std.proofs.lemmas.List.{get_or_past}
+use Rattle.std.proofs.lemmas.List.FromFn.{get_or-map-range_with_len, length-map-range_with_len}
+use mathlib.Core.Logic.{⊎_elim}
+use Rattle.armv7m.specs.Confinement.{Each}
+use Rattle.mpu_model.specs.declared.words.Rights.TheVariants.{Code}
+use Rattle.ir_model.specs.Plain.{PlainFirmware}
+use Rattle.ir_model.specs.Resolve.{resolve}
+use Rattle.ir_model.specs.Resolved.{Program, window_at}
+use Rattle.ir_model.specs.declared.object.ObjId.TheVariants.{Local}
+use Rattle.ir_laws.specs.Limits.{HasWindows, WindowsLieApart}
+use Rattle.plan_model.specs.declared.needs.Needs.{Needs}
+use Rattle.plan_model.specs.declared.groups.Groups.{Groups}
+use Rattle.plan_model.specs.declared.graph.Cover.{Cover}
+use Rattle.plan_model.specs.declared.graph.Final.{Final}
+use Rattle.plan_model.specs.declared.plan.Board.{Board}
+use Rattle.plan_model.specs.declared.plan.Plan.{Plan}
+use Rattle.plan_model.specs.declared.plan.Sizes.{Sizes}
+use Rattle.plan_model.specs.Boards.{slots_of}
+use Rattle.plan_model.specs.Lists.{numbers_below}
+use Rattle.plan_model.specs.Groups.{uses, writes}
+use Rattle.plan_model.specs.Regions.{region_at, is_user, regions_used}
+use Rattle.plan_model.specs.Blocks.{region_bytes}
+use Rattle.plan_model.specs.RamBlocks.{ForRegion}
+use Rattle.plan_model.specs.Placement.{region_spot, compartment_spot}
+use Rattle.plan_model.specs.InitialGraph.{cover_of, covers_of, mask_of, read_mask_of, mask_where, initial_graph}
+use Rattle.plan_model.specs.FinalGraph.{IsFinal}
+use Rattle.plan_model.specs.Slots.{data_slot, cover_slot, slot_uses, slot_regions, code_region, lend_mask, read_mask}
+use Rattle.monitor.specs.Area.{region_words, compartment_words}
+use Rattle.link_model.specs.LinkedTables.{comp_record, tables_of}
+use Rattle.linked_images.specs.Planned.{IsPlanned, plan, planned_sizes, planned_tables}
+use Rattle.linked_images.proofs.Facts.{PlanLaws, laid, code_blocks_count}
+use Rattle.linked_images.proofs.Flash.{code_count}
+use Rattle.linked_images.proofs.Ranges.{block_in}
+use Rattle.linked_promises.proofs.Kept.{kept_final}
+use Rattle.linked_promises.proofs.CoverParts.{IsPart, AreParts, parts_all, each_in_order}
+use Rattle.linked_tables.proofs.Words.{IsWord, AreWords, each_map, each_both, each_kept, each_below, each_flat, both_words}
+use Rattle.linked_tables.proofs.RegionWords.{IsLow, region_fits, out_is_byte, slots_fit, mask_fits}
+
+-- ---- covers lie among the peripherals
+
+module _ (p : Program) (n : Needs) (windows : HasWindows p) where
+  window_part : (q : ℕ) → q < length p.periphs → IsPart (cover_of p q)
+  window_part q l =
+      let i = windows.each q l in
+      let m = i.most in
+      record { power = i.power; least = i.least; most = omega (arith, m); size = i.size; aligned = subst (λ s. (window_at p q).base % s ≡ 0) i.size i.aligned; from = i.from; to = i.to }
+
+  first_parts : (g : Groups) (c : ℕ) → AreParts (covers_of p n g c)
+  first_parts g c =
+      each_in_order IsPart (λ (a b : Cover). nat_lt a.base b.base) (map (cover_of p) (filter (uses n g c) (numbers_below (length p.periphs))))
+      (each_map IsPart (cover_of p) (λ j. j < length p.periphs) (filter (uses n g c) (numbers_below (length p.periphs))) window_part
+      (each_kept (λ j. j < length p.periphs) (uses n g c) (numbers_below (length p.periphs)) (each_below 0 (length p.periphs) (length p.periphs) (omega arith))))
+
+  module _ (f : Final) (slots : ℕ) (final : IsFinal p n f.groups slots f) where
+    first_at : (c : ℕ) → c < f.groups.count → get_or (initial_graph p n f.groups).covers c [] ≡ covers_of p n f.groups c
+    unfolding initial_graph
+    first_at c l = get_or-map-range_with_len (covers_of p n f.groups) 0 f.groups.count c c [] l (omega arith)
+
+    first_past : (c : ℕ) → f.groups.count ≤ c → get_or (initial_graph p n f.groups).covers c [] ≡ []
+    unfolding initial_graph
+    first_past c l =
+        let size = length-map-range_with_len (covers_of p n f.groups) 0 f.groups.count in
+        get_or_past (map (covers_of p n f.groups) (numbers_below f.groups.count)) c [] (omega (arith, size, l))
+
+    parts : (c : ℕ) → AreParts (get_or f.covers c [])
+    parts c =
+        subst AreParts (sym (ap (λ (x : Final). get_or x.covers c []) final.is))
+        (parts_all p slots (initial_graph p n f.groups) final.last final.reached
+        (λ d. ⊎_elim (λ lt. subst AreParts (sym (first_at d lt)) (first_parts f.groups d)) (λ le. subst AreParts (sym (first_past d le)) tt) (cases_lt d f.groups.count)) c)
+
+    pub covers_low : (c : ℕ) → Each IsLow (map cover_slot (get_or f.covers c []))
+    covers_low c =
+        each_map IsLow cover_slot IsPart (get_or f.covers c []) (λ d i. record { base = let t = i.to in omega (arith, t); byte = lit< tt }) (parts c)
+
+    -- ---- masks
+
+    mask_is : (c : ℕ) → c < f.groups.count → get_or f.masks c 0 ≡ mask_of n f.groups c
+    unfolding initial_graph
+    mask_is c l =
+        let k = kept_final p slots (initial_graph p n f.groups) f final in
+        ap (λ ms. get_or ms c 0) k.masks ∙ get_or-map-range_with_len (mask_of n f.groups) 0 f.groups.count c c 0 l (omega arith)
+
+    reads_is : (c : ℕ) → c < f.groups.count → get_or f.reads c 0 ≡ read_mask_of n f.groups c
+    unfolding initial_graph
+    reads_is c l =
+        let k = kept_final p slots (initial_graph p n f.groups) f final in
+        ap (λ ms. get_or ms c 0) k.reads ∙ get_or-map-range_with_len (read_mask_of n f.groups) 0 f.groups.count c c 0 l (omega arith)
+
+    or_none : (b : Bool) (m : ℕ) → m < 2 ^ 32 → cond b m 0 < 2 ^ 32
+    or_none true m h = h
+    or_none false m h = lit< tt
+
+    pub mask_is_word : (c : ℕ) → c < f.groups.count → lend_mask f c < 2 ^ 32
+    mask_is_word c l =
+        or_none (nat_lt 1 f.groups.count) (get_or f.masks c 0)
+        (subst (λ m. m < 2 ^ 32) (sym (mask_is c l)) (mask_fits n (λ x. writes n f.groups c (Local x.0 x.1))))
+
+    pub reads_is_word : (c : ℕ) → c < f.groups.count → read_mask f c < 2 ^ 32
+    reads_is_word c l =
+        or_none (nat_lt 1 f.groups.count) (get_or f.reads c 0)
+        (subst (λ m. m < 2 ^ 32) (sym (reads_is c l)) (or_none n.closed (mask_where n _) (mask_fits n _)))
+
+-- ---- the regions of a compartment
+
+module _ (law : PlanLaws) (apart : WindowsLieApart) (w : PlainFirmware) (n : Needs) (f : Final) (b : Board) (ok : IsPlanned w n f b) where
+  abbrev p : Program
+  p = resolve w
+
+  abbrev s : Sizes
+  s = planned_sizes w n f b
+
+  abbrev l : Plan
+  l = plan w n f b
+
+  code_fits : (c : ℕ) → c < f.groups.count → AreWords (region_words (code_region l c))
+  code_fits c lt =
+      let m = code_blocks_count law w n f b ok in
+      let e = code_count p f s b in
+      let ends = ((laid law w n f b ok).inside c (omega (arith, lt, m, e))).1 in
+      let top = ok.board.flash_highest in
+      let size = ok.board.flash_size.most in
+      region_fits 2 (compartment_spot l c).base (compartment_spot l c).size 0 Code (lit< tt) (omega (arith, ends, top, size)) (lit< tt)
+
+  region_low : (c r : ℕ) → r < length f.regions → IsLow (data_slot p f l c r)
+  region_low c r lt =
+      let ends = (block_in law w n f b ok (ForRegion r) (record { of_globals = tt; there = lt })).0.1 in
+      let top = ok.board.ram_highest in
+      let size = ok.board.ram_size.most in
+      record { base = omega (arith, ends, top, size); byte = out_is_byte (region_spot l r).size (region_bytes p (region_at f.regions r).globals) }
+
+  uses_low : (c : ℕ) → Each IsLow (slot_uses p f l c)
+  uses_low c =
+      each_both IsLow (map (data_slot p f l c) (regions_used f.regions c)) (map cover_slot (get_or f.covers c []))
+      (each_map IsLow (data_slot p f l c) (λ r. r < length f.regions) (regions_used f.regions c) (region_low c)
+      (each_kept (λ r. r < length f.regions) (λ r. is_user c (region_at f.regions r)) (numbers_below (length f.regions)) (each_below 0 (length f.regions) (length f.regions) (omega arith))))
+      (covers_low p n (apart w ok.typed) f (slots_of b) ok.final c)
+
+  slots_few : 4 + slots_of b ≤ 16
+  slots_few = ⊎_elim (λ e. omega (arith, e)) (λ e. omega (arith, e)) ok.board.regions
+
+  comp_fits : (c : ℕ) → c < f.groups.count → AreWords (compartment_words (comp_record p f l (slots_of b) c))
+  unfolding slot_regions
+  comp_fits c lt =
+      both_words (region_words (code_region l c)) (flat_map region_words (slot_regions p f l (slots_of b) c) ++ lend_mask f c ∷ read_mask f c ∷ []) (code_fits c lt)
+      (both_words (flat_map region_words (slot_regions p f l (slots_of b) c)) (lend_mask f c ∷ read_mask f c ∷ []) (slots_fit 4 (slots_of b) (slot_uses p f l c) slots_few (uses_low c))
+      (mask_is_word p n (apart w ok.typed) f (slots_of b) ok.final c lt, (reads_is_word p n (apart w ok.typed) f (slots_of b) ok.final c lt, tt)))
+
+  pub comps_fit : AreWords (flat_map compartment_words (planned_tables w n f b).comps)
+  unfolding tables_of
+  comps_fit =
+      each_flat IsWord compartment_words (λ c. AreWords (compartment_words c)) (λ c h. h) (map (comp_record p f l (slots_of b)) (numbers_below f.groups.count))
+      (each_map (λ c. AreWords (compartment_words c)) (comp_record p f l (slots_of b)) (λ c. c < f.groups.count) (numbers_below f.groups.count) comp_fits (each_below 0 f.groups.count f.groups.count (omega arith)))

@@ -1,0 +1,10 @@
+pub mod Reading
+pub mod ReadTables
+pub mod Words
+pub mod RegionWords
+pub mod SiteNeeds
+pub mod CodeEnds
+pub mod CompartmentWords
+pub mod SiteWords
+pub mod InitWords
+pub mod AreaWords
