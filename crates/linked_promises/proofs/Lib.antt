@@ -60,3 +60,13 @@ mod CodeStanding
 pub mod Alignments
 mod NoUnwritten
 pub mod GlobalsLow
+pub mod Reading
+pub mod ReadTables
+pub mod WordLists
+pub mod RegionWords
+pub mod SiteNeeds
+pub mod CodeEnds
+pub mod CompartmentWords
+pub mod SiteWords
+pub mod InitWords
+pub mod AreaWords

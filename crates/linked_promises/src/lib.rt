@@ -6,3 +6,4 @@ pub mod globals;
 pub mod laws;
 pub mod regions;
 pub mod sites;
+pub mod tables;

@@ -36,8 +36,8 @@ use Rattle.linked_images.proofs.Flash.{code_count}
 use Rattle.linked_images.proofs.Ranges.{block_in}
 use Rattle.linked_promises.proofs.Kept.{kept_final}
 use Rattle.linked_promises.proofs.CoverParts.{IsPart, AreParts, parts_all, each_in_order}
-use Rattle.linked_tables.proofs.Words.{IsWord, AreWords, each_map, each_both, each_kept, each_below, each_flat, both_words}
-use Rattle.linked_tables.proofs.RegionWords.{IsLow, region_fits, out_is_byte, slots_fit, mask_fits}
+use Rattle.linked_promises.proofs.WordLists.{IsWord, AreWords, each_map, each_both, each_kept, each_below, each_flat, both_words}
+use Rattle.linked_promises.proofs.RegionWords.{IsLow, region_fits, out_is_byte, slots_fit, mask_fits}
 
 -- ---- covers lie among the peripherals
 

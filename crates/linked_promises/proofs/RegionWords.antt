@@ -13,7 +13,7 @@ use Rattle.plan_model.specs.declared.needs.Needs.{Needs}
 use Rattle.plan_model.specs.InitialGraph.{number_of_bits, mask_where}
 use Rattle.plan_model.specs.Slots.{SlotUse, slots_from}
 use Rattle.monitor.specs.Area.{region_words}
-use Rattle.linked_tables.proofs.Words.{AreWords, both_words}
+use Rattle.linked_promises.proofs.WordLists.{AreWords, both_words}
 
 rights_at_most : (r : Rights) → rights_word r ≤ 0x13060001
 rights_at_most Background = lit< tt

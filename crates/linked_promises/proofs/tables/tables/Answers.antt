@@ -1,11 +1,11 @@
 use Rattle.linked_images.proofs.Facts.{PlanLaws}
 use Rattle.linked_images.proofs.ReadBack.{ReadLaws}
-use Rattle.linked_tables.proofs.AreaWords.{WordLaws, all_words_fit, words_stand}
-use Rattle.linked_tables.proofs.laws.words.Goals as goal
+use Rattle.linked_promises.proofs.AreaWords.{WordLaws, tables_read_back}
+use Rattle.linked_promises.proofs.tables.tables.Goals as goal
 
 pub returns : goal.returns
 returns c =
     let plans : PlanLaws = record { flash = c.flash.ensures; apart = c.ram.ensures; there = c.places.ensures.there; inside = c.places.ensures.inside } in
     let read : ReadLaws = record { plans = plans; code = c.compartments.ensures; counts = c.counts.ensures; pages = c.page_is_full.ensures.full } in
     let law : WordLaws = record { read = read; typing = c.places-2.ensures; sizes = c.sizes.ensures; windows = c.windows.ensures } in
-    record { fit = all_words_fit law; stand = words_stand law c.flash_has.ensures }
+    tables_read_back law c.flash_has.ensures

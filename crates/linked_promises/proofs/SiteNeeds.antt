@@ -12,7 +12,7 @@ use Rattle.plan_model.specs.Lists.{numbers_below}
 use Rattle.plan_model.specs.Calls.{CallPlace, calls_from, calls_of, call_places, IsSiteOf}
 use Rattle.plan_model.specs.Needs.{AreNeeds}
 use Rattle.plan_model.specs.Crossing.{crosses, crossing_sites}
-use Rattle.linked_tables.proofs.Words.{each_of, each_below, each_flat, each_kept}
+use Rattle.linked_promises.proofs.WordLists.{each_of, each_below, each_flat, each_kept}
 
 abbrev IsOf : ℕ → CallPlace → Type 0
 IsOf f c = c.func ≡ f

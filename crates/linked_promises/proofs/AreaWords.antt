@@ -29,13 +29,13 @@ use Rattle.linked_images.proofs.Limits.{few}
 use Rattle.linked_images.proofs.ReadBack.{ReadLaws}
 use Rattle.linked_images.proofs.AreaSize.{slot_count}
 use Rattle.linked_images.proofs.AreaEnd.{initial_words_are}
-use Rattle.linked_tables.specs.Laws.{WordsFit, WordsStand, TablesReadBack}
-use Rattle.linked_tables.proofs.Words.{AreWords, each_map, each_of, both_words}
-use Rattle.linked_tables.proofs.CompartmentWords.{comps_fit}
-use Rattle.linked_tables.proofs.SiteWords.{tables_most, sites_fit, targets_fit}
-use Rattle.linked_tables.proofs.InitWords.{lends_fit, inits_fit, words_fit}
-use Rattle.linked_tables.proofs.Reading.{Reads, each_word, behind_page}
-use Rattle.linked_tables.proofs.ReadTables.{same_tables}
+use Rattle.linked_promises.specs.TablesInFlash.{WordsFit, WordsStand, TablesReadBack}
+use Rattle.linked_promises.proofs.WordLists.{AreWords, each_map, each_of, both_words}
+use Rattle.linked_promises.proofs.CompartmentWords.{comps_fit}
+use Rattle.linked_promises.proofs.SiteWords.{tables_most, sites_fit, targets_fit}
+use Rattle.linked_promises.proofs.InitWords.{lends_fit, inits_fit, words_fit}
+use Rattle.linked_promises.proofs.Reading.{Reads, each_word, behind_page}
+use Rattle.linked_promises.proofs.ReadTables.{same_tables}
 
 -- what is known of plans, of code and of firmwares
 pub record WordLaws : Type 0 where

@@ -1,6 +1,6 @@
 //! Laws of the definitions: functions that do nothing, whose contract is the law.
 
-ghost use Rattle.linked_tables.specs.Laws.{TablesReadBack, WordsFit, WordsStand};
+ghost use Rattle.linked_promises.specs.TablesInFlash.{TablesReadBack, WordsFit, WordsStand};
 
 use ir_laws::limits::{sizes, windows};
 use ir_laws::typing::places as typed_places;
