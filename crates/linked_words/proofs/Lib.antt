@@ -1,0 +1,10 @@
+mod Joins
+mod GraphGlobals
+mod Shapes
+mod InitChecks
+mod FirstValues
+mod CellWrites
+mod FilledBlocks
+mod WordsBack
+mod FlashWords
+mod GlobalsBegin
