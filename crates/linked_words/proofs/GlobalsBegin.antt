@@ -196,11 +196,11 @@ module _ (law : PlanLaws) (counts : CountsAgree) (typing : TypedOverNumbers) (la
 
   -- what is known of a global at an address
   record Begins (a : ℕ) (g : NumberedGlobal) : Type 0 where
-    low : b.ram_base ≤ a
-    counts : length g.init ≡ length g.shape.cells
+    from_ram : b.ram_base ≤ a
+    as_many : length g.init ≡ length g.shape.cells
     lies : IsLaidOut 0 g.shape.size g.shape.cells
     known : Each (IsKnown p) g.init
-    brought : AnyOf (Brings a g.shape.size g.shape.cells g.init) t.inits
+    has_record : AnyOf (Brings a g.shape.size g.shape.cells g.init) t.inits
 
   globals_in : (places : ℕ → ℕ) (x : ℕ) (gs : List NumberedGlobal) → ((j : ℕ) → j < length gs → Begins (address (x + j)) (get_or gs j no_global))
       → InFlash k (objects_at 0 (map (λ (a : ℕ). a - b.ram_base) (map address (range_with_len x (length gs)))) (map (λ (g : NumberedGlobal). g.shape) gs)) (object_words k places (map (λ (g : NumberedGlobal). g.init) gs))
@@ -208,19 +208,19 @@ module _ (law : PlanLaws) (counts : CountsAgree) (typing : TypedOverNumbers) (la
   globals_in places x (g ∷ gs) h =
       let s : x + 0 ≡ x = omega arith in
       let one = subst (λ y. Begins (address y) g) s (h 0 (omega arith)) in
-      let z = one.low in
-      cells_in places (address x) (0 + (address x - b.ram_base)) 0 g.shape.size g.shape.cells g.init _ _ (omega (arith, z)) one.counts one.lies one.known one.brought
+      let z = one.from_ram in
+      cells_in places (address x) (0 + (address x - b.ram_base)) 0 g.shape.size g.shape.cells g.init _ _ (omega (arith, z)) one.as_many one.lies one.known one.has_record
       (globals_in places (x + 1) gs (λ j lt. subst (λ y. Begins (address y) (get_or gs j no_global)) (let e : x + suc j ≡ x + 1 + j = omega arith in e) (h (suc j) (omega (arith, lt)))))
 
   each_begins : (x : ℕ) → x < count → Begins (address x) (global_at p x)
   each_begins x lt =
       let typed = typing w ok.typed ok.within in
       record {
-        low = low x lt;
-        counts = typed.counts x;
+        from_ram = low x lt;
+        as_many = typed.counts x;
         lies = (global_sound w x).cells;
         known = values_known w (sizes_of w) typed x;
-        brought = brought_by x lt;
+        has_record = brought_by x lt;
       }
 
   pub globals_begin : (places : ℕ → ℕ) → InFlash k (global_areas k) (object_words k places (map (λ (g : NumberedGlobal). g.init) p.globals))
