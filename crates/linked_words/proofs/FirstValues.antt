@@ -1,16 +1,13 @@
 -- The words of the values that globals have at first, by the places of the linker and by those of what is built.
-use Rattle.std.proofs.Common.{◌≡◌, ℕ, zero, suc, ◌+◌, ◌-◌, ◌<◌, ◌≤◌, Bool, true, false, List, [], ◌∷◌, length, map, get_or, refl, sym, ap, ◌∙◌, subst, arith}
+use Rattle.std.proofs.Common.{ℕ, suc, ◌<◌, Bool, true, false, List, [], ◌∷◌, length, map, get_or}
 use Rattle.std.specs.Prelude.{if◌then◌else◌}
-use Rattle.std.proofs.lemmas.List.{get_or-map}
-use Rattle.std.proofs.lemmas.List.FromFn.{length-map-range_with_len, get_or-map-range_with_len}
-use Rattle.words.specs.Arithmetic.{word}
 use Rattle.armv7m.specs.Confinement.{Each}
 use Rattle.ir_model.specs.declared.firmware.Cell.{Cell}
 use Rattle.ir_model.specs.declared.firmware.Cell.TheVariants.{Word, Function, Address}
 use Rattle.ir_model.specs.Types.{PlainType, is_integer}
-use Rattle.ir_model.specs.Plain.{PlainGlobal, PlainFirmware}
+use Rattle.ir_model.specs.Plain.{PlainFirmware}
 use Rattle.ir_model.specs.Layout.{CellPlace, shape, known}
-use Rattle.ir_model.specs.Resolved.{Program, NumberedGlobal, Instance, Value, Number, Code, Null, At, OfGlobal, OfPeriph, OfLocal, no_global, global_at}
+use Rattle.ir_model.specs.Resolved.{Program, NumberedGlobal, Value, Number, Code, Null, At, OfGlobal, OfPeriph, OfLocal, no_global, global_at}
 use Rattle.ir_model.specs.Resolve.{Scope, scope_of, has, value_of, zero_of, filled, resolved_global, resolve}
 use Rattle.ir_model.specs.State.{Object}
 use Rattle.ir_laws.specs.Typed.{IsPlaced, Fits, number, null, at, code, Typed}

@@ -1,14 +1,14 @@
 -- The records of filled blocks bring each cell of each global its first value.
-use Rattle.std.proofs.Common.{◌≡◌, ℕ, zero, suc, ◌+◌, ◌-◌, ◌*◌, ◌/◌, ◌<◌, ◌≤◌, inl, inr, List, [], ◌∷◌, ◌++◌, length, get_or, map, refl, sym, ap, ◌∙◌, subst, arith}
+use Rattle.std.proofs.Common.{◌≡◌, ℕ, suc, ◌+◌, ◌-◌, ◌*◌, ◌/◌, ◌<◌, ◌≤◌, inl, inr, List, [], ◌∷◌, ◌++◌, length, get_or, map, refl, sym, ap, ◌∙◌, subst, arith}
 use Rattle.std.specs.List.{range_with_len}
-use Rattle.std.proofs.lemmas.List.{get_or-map, length-map}
+use Rattle.std.proofs.lemmas.List.{get_or-map}
 use Rattle.std.proofs.lemmas.List.FromFn.{length-map-range_with_len, get_or-map-range_with_len}
 use Rattle.words.specs.Bytes.{read, cut}
 use Rattle.words.specs.Arithmetic.{word}
 use Rattle.armv7m.specs.Confinement.{Each, AnyOf}
 use Rattle.ir_model.specs.Types.{width_of}
 use Rattle.ir_model.specs.Plain.{PlainFirmware}
-use Rattle.ir_model.specs.Layout.{CellPlace, Shape, rounded_up}
+use Rattle.ir_model.specs.Layout.{CellPlace, rounded_up}
 use Rattle.ir_model.specs.Resolved.{Program, NumberedGlobal, Value, Number, Code, Null, At, OfGlobal, OfPeriph, OfLocal, no_global, global_at}
 use Rattle.ir_model.specs.Resolve.{resolve}
 use Rattle.ir_model.proofs.Counting.{rounded_at_least}
@@ -37,7 +37,7 @@ use Rattle.relation.specs.Relation.{cells_at, objects_at, global_areas, word_of,
 use Rattle.relation.specs.Linked.{InFlash}
 use Rattle.link_model.specs.Laws.{CountsAgree}
 use Rattle.link_model.specs.FirstWords.{first_word, first_bytes}
-use Rattle.link_model.specs.LinkedTables.{Filled, filled, object_places, init_records, words_begin, tables_of}
+use Rattle.link_model.specs.LinkedTables.{Filled, filled, object_places, words_begin, tables_of}
 use Rattle.link_model.specs.LinkedImage.{linked}
 use Rattle.linked_images.specs.Planned.{IsPlanned, plan, planned_tables, planned_image}
 use Rattle.linked_images.specs.Laws.{FlashReadsBack}

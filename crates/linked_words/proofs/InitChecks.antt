@@ -1,5 +1,5 @@
 -- The check of the blocks that start-up fills passes.
-use Rattle.std.proofs.Common.{◌≡◌, ◌≢◌, ℕ, zero, suc, ◌+◌, ◌-◌, ◌*◌, ◌/◌, ◌%◌, ◌^◌, ◌<◌, ◌≤◌, inl, inr, true, List, [], ◌∷◌, ◌++◌, length, get_or, map, None, refl, sym, ap, ◌∙◌, subst, lit<, arith}
+use Rattle.std.proofs.Common.{◌≡◌, ◌≢◌, ℕ, ◌+◌, ◌-◌, ◌*◌, ◌/◌, ◌%◌, ◌^◌, ◌<◌, ◌≤◌, inl, inr, true, List, [], ◌∷◌, length, map, None, refl, sym, ap, ◌∙◌, subst, lit<, arith}
 use Rattle.std.specs.Prelude.{unwrap_or}
 use Rattle.std.proofs.Math.Nat.{mul-mod_left}
 use Rattle.std.proofs.lemmas.Nat.{div-add-mod'}
@@ -7,35 +7,33 @@ use Rattle.armv7m.specs.Confinement.{Each}
 use Rattle.device_model.specs.declared.image.Image.{Image}
 use Rattle.device_model.specs.Rules.{IsInside, AreApart, block_size}
 use Rattle.ir_model.specs.Plain.{PlainFirmware}
-use Rattle.ir_model.specs.Resolved.{Program, global_at}
+use Rattle.ir_model.specs.Resolved.{Program}
 use Rattle.ir_model.specs.Resolve.{resolve}
 use Rattle.ir_laws.specs.Typed.{TypedOverNumbers}
 use Rattle.plan_model.specs.declared.needs.Needs.{Needs}
-use Rattle.plan_model.specs.declared.graph.Region.{Region}
 use Rattle.plan_model.specs.declared.graph.Final.{Final}
 use Rattle.plan_model.specs.declared.plan.Board.{Board}
 use Rattle.plan_model.specs.declared.plan.Plan.{Plan}
 use Rattle.plan_model.specs.declared.plan.Sizes.{Sizes}
 use Rattle.plan_model.specs.Boards.{slots_of}
 use Rattle.plan_model.specs.Lists.{has}
-use Rattle.plan_model.specs.Regions.{region_at, no_region, global_size}
+use Rattle.plan_model.specs.Regions.{region_at, no_region}
 use Rattle.plan_model.specs.Blocks.{block, region_bytes}
-use Rattle.plan_model.specs.TableSize.{words_in, initial_words, table_bytes}
+use Rattle.plan_model.specs.TableSize.{words_in}
 use Rattle.plan_model.specs.RamBlocks.{RamUse, ForStack, ForMonitor, ForRegion, ForUnwritten}
 use Rattle.plan_model.specs.Placement.{region_spot, no_spot}
 use Rattle.layout_laws.specs.GlobalLaws.{GlobalsAreLaid}
 use Rattle.layout_laws.specs.RamLaws.{Holds, open_bytes}
 use Rattle.layout_laws.specs.RamPlaces.{block_for}
-use Rattle.monitor.specs.declared.tables.InitRecord.{InitRecord}
 use Rattle.monitor.specs.declared.tables.Tables.{Tables}
 use Rattle.monitor.specs.Layout.{initial_words_at, inits_at}
 use Rattle.monitor.specs.RegionChecks.{is_data_range}
 use Rattle.monitor.specs.Checks.{is_init, inits_from, inits_fail}
-use Rattle.link_model.specs.LinkedTables.{Filled, filled, init_records, words_begin, tables_of}
+use Rattle.link_model.specs.LinkedTables.{init_records, words_begin, tables_of}
 use Rattle.link_model.specs.LinkedImage.{linked}
 use Rattle.linked_images.specs.Planned.{IsPlanned, planned_sizes, plan, planned_tables, planned_image}
 use Rattle.linked_images.proofs.Facts.{stack_size_is, stack_least, monitor_size_is}
-use Rattle.linked_images.proofs.Powers.{block_is, block_some}
+use Rattle.linked_images.proofs.Powers.{block_is}
 use Rattle.linked_images.proofs.OpenBytes.{multiple, words_held}
 use Rattle.linked_images.proofs.Passing.{and_yes, eq_yes, lt_yes, data_yes, must_yes, then_yes, apart_from}
 use Rattle.linked_images.proofs.Ranges.{IsUse, globals_for, filled_for, filled_is, uses_are, block_size_is, block_in, small}

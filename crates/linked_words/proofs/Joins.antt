@@ -1,18 +1,14 @@
 -- Where the globals of a graph stand: each region has one, and each global is in a region or in none. Joins keep that.
-use Rattle.std.proofs.Common.{◌≡◌, ◌≢◌, ℕ, zero, suc, ◌+◌, ◌<◌, nat_lt, ◌≤◌, ◌⊎◌, inl, inr, Bool, true, false, not, ◌&&◌, ◌||◌, List, [], ◌∷◌, ◌++◌, length, get_or, set, take, drop, filter, map, cond, nat_eq, Option, Some, refl, sym, ap, ◌∙◌, subst, arith}
-use Rattle.std.specs.Prelude.{remove}
+use Rattle.std.proofs.Common.{◌≡◌, ◌≢◌, ℕ, zero, suc, ◌+◌, ◌<◌, nat_lt, ◌≤◌, Bool, true, false, ◌||◌, List, [], ◌∷◌, ◌++◌, length, get_or, set, take, drop, filter, map, cond, Some, refl, ap, ◌∙◌, subst, arith}
 use Rattle.std.specs.List.{list_any, range_with_len, best_of}
-use Rattle.std.proofs.lemmas.Bool.{cases_lt, cases_eq, eq-eqb}
+use Rattle.std.proofs.lemmas.Bool.{cases_eq}
 use Rattle.std.proofs.lemmas.List.Folds.{list_any_at}
 use Rattle.std.proofs.lemmas.List.{length-set, get_or-set_same, get_or-set_other}
 use mathlib.Core.Logic.{⊎_elim}
 use Rattle.armv7m.specs.Confinement.{Each}
 use Rattle.ir_model.specs.Resolved.{Program}
-use Rattle.plan_model.specs.declared.needs.Needs.{Needs}
-use Rattle.plan_model.specs.declared.groups.Groups.{Groups}
 use Rattle.plan_model.specs.declared.graph.Region.{Region}
-use Rattle.plan_model.specs.declared.graph.Graph.{Graph}
-use Rattle.plan_model.specs.Lists.{has, numbers_below, is_empty, distinct, same_numbers}
+use Rattle.plan_model.specs.Lists.{has, numbers_below}
 use Rattle.plan_model.specs.Choices.{Pair, pairs, cheapest}
 use Rattle.plan_model.specs.Regions.{no_region, region_at, regions_used, is_user}
 use Rattle.plan_model.specs.Merging.{region_cost, region_pair, joined_region, with_joined_region}

@@ -1,9 +1,9 @@
 -- The shapes of a firmware's globals: their cells lie in them, apart, and no alignment is 0.
-use Rattle.std.proofs.Common.{◌≡◌, ℕ, zero, suc, ◌<◌, List, [], ◌∷◌, map, get_or, arith}
-use Rattle.ir_model.specs.Plain.{PlainStruct, PlainGlobal, PlainFirmware}
+use Rattle.std.proofs.Common.{ℕ, zero, suc, ◌<◌, List, [], ◌∷◌, map, get_or}
+use Rattle.ir_model.specs.Plain.{PlainStruct, PlainFirmware}
 use Rattle.ir_model.specs.Types.{PlainType}
 use Rattle.ir_model.specs.Layout.{known_behind, known, shape}
-use Rattle.ir_model.specs.Resolved.{NumberedGlobal, Program, no_global, global_at}
+use Rattle.ir_model.specs.Resolved.{NumberedGlobal, no_global, global_at}
 use Rattle.ir_model.specs.Resolve.{scope_of, resolved_global, resolve}
 use Rattle.ir_laws.proofs.Layouts.{IsSound, sound, sound_structs, sound_empty}
 

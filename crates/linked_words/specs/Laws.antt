@@ -8,7 +8,6 @@ use Rattle.plan_model.specs.declared.graph.Final.{Final}
 use Rattle.plan_model.specs.declared.plan.Board.{Board}
 use Rattle.monitor.specs.MonitorCode.{MonitorCode}
 use Rattle.monitor.specs.Checks.{inits_fail}
-use Rattle.relation.specs.Builds.{Build}
 use Rattle.relation.specs.Relation.{global_areas, object_words}
 use Rattle.relation.specs.Linked.{InFlash}
 use Rattle.linked_images.specs.Planned.{IsPlanned}
