@@ -1,5 +1,5 @@
 -- Reads of a block that is filled with the first values of its globals give each cell its value.
-use Rattle.std.proofs.Common.{◌≡◌, ◌≢◌, ℕ, zero, suc, ◌+◌, ◌*◌, ◌/◌, ◌<◌, ◌≤◌, ◌⊎◌, inl, inr, Bool, true, false, ◌||◌, List, [], ◌∷◌, length, replicate, nat_eq, refl, sym, ap, ◌∙◌, subst, eq-eqb, arith}
+use Rattle.std.proofs.Common.{eqb-true, ◌≡◌, ◌≢◌, ℕ, ◌+◌, ◌*◌, ◌/◌, ◌≤◌, ◌⊎◌, inl, inr, Bool, true, false, ◌||◌, List, [], ◌∷◌, length, replicate, nat_eq, refl, sym, ap, ◌∙◌, subst, eq-eqb, arith}
 use Rattle.std.specs.List.{fold}
 use Rattle.std.proofs.lemmas.Bool.{cases_eq}
 use Rattle.std.proofs.lemmas.List.{length-replicate}
@@ -21,6 +21,11 @@ use Rattle.lower.specs.declared.places.Places.{Places}
 use Rattle.link_model.specs.FirstWords.{first_word, with_cells, with_global, first_bytes}
 use Rattle.armv7m.specs.Confinement.{Each}
 
+-- cells end at or before the last bound
+pub last_end : (a size : ℕ) (ds : List CellPlace) → IsLaidOut a size ds → a ≤ size
+last_end a size [] l = l
+last_end a size (d ∷ ds) l = let e = last_end (d.at + width_of d.ty) size ds l.1 in let z = l.0 in omega (arith, e, z)
+
 module _ (q : Places) where
   -- a memory has these values in cells that lie so many bytes behind an offset
   abbrev pub HasCells : (at : ℕ) → List CellPlace → List Value → (memory : List ℕ) → Type 0
@@ -34,21 +39,13 @@ module _ (q : Places) where
   cells_alike at to from size [] vs m n laid same h = tt
   cells_alike at to from size (c ∷ cs) [] m n laid same h = tt
   cells_alike at to from size (c ∷ cs) (v ∷ vs) m n laid same h =
-      (same (width_of c.ty) c.at (ends (c.at + width_of c.ty) cs laid.1) ∙ h.0, cells_alike at to (c.at + width_of c.ty) size cs vs m n laid.1 same h.1)
-    where
-      ends : (a : ℕ) (ds : List CellPlace) → IsLaidOut a size ds → a ≤ size
-      ends a [] l = l
-      ends a (d ∷ ds) l = let e = ends (d.at + width_of d.ty) ds l.1 in let z = l.0 in omega (arith, e, z)
+      (same (width_of c.ty) c.at (last_end (c.at + width_of c.ty) size cs laid.1) ∙ h.0, cells_alike at to (c.at + width_of c.ty) size cs vs m n laid.1 same h.1)
 
   pub length-with_cells : (at : ℕ) (cs : List CellPlace) (vs : List Value) (mem : List ℕ) → length (with_cells q at cs vs mem) ≡ length mem
   length-with_cells at [] vs mem = refl
   length-with_cells at (c ∷ cs) [] mem = refl
   length-with_cells at (c ∷ cs) (v ∷ vs) mem =
       length-with_cells at cs vs (write (width_of c.ty) (at + c.at) (first_word q v) mem) ∙ length-write (width_of c.ty) (at + c.at) (first_word q v) mem
-
-  last_end : (a size : ℕ) (ds : List CellPlace) → IsLaidOut a size ds → a ≤ size
-  last_end a size [] l = l
-  last_end a size (d ∷ ds) l = let e = last_end (d.at + width_of d.ty) size ds l.1 in let z = l.0 in omega (arith, e, z)
 
   -- reads below all of the cells, and above them
   read_under : (w a at from size : ℕ) (cs : List CellPlace) (vs : List Value) (mem : List ℕ) → IsLaidOut from size cs → a + w ≤ at + from → read w a (with_cells q at cs vs mem) ≡ read w a mem
@@ -127,7 +124,7 @@ module _ (q : Places) where
             by (inl g) = inl (rest (nat_eq y x) refl g)
               where
                 rest : (b : Bool) → nat_eq y x ≡ b → (b || has ys x) ≡ true → has ys x ≡ true
-                rest true e g = absurd (ne (sym (Rattle.std.proofs.Common.eqb-true y x e)))
+                rest true e g = absurd (ne (sym (eqb-true y x e)))
                 rest false e g = g
             by (inr g) = inr (step_off x y mem hx all.0 ne g)
 

@@ -1,17 +1,16 @@
 -- The words of the values that globals have at first, by the places of the linker and by those of what is built.
-use Rattle.std.proofs.Common.{ℕ, suc, ◌<◌, Bool, true, false, List, [], ◌∷◌, length, map, get_or}
+use Rattle.std.proofs.Common.{ℕ, zero, suc, ◌<◌, Bool, true, false, List, [], ◌∷◌, length, map, get_or}
 use Rattle.std.specs.Prelude.{if◌then◌else◌}
 use Rattle.armv7m.specs.Confinement.{Each}
 use Rattle.ir_model.specs.declared.firmware.Cell.{Cell}
 use Rattle.ir_model.specs.declared.firmware.Cell.TheVariants.{Word, Function, Address}
 use Rattle.ir_model.specs.Types.{PlainType, is_integer}
-use Rattle.ir_model.specs.Plain.{PlainFirmware}
-use Rattle.ir_model.specs.Layout.{CellPlace, shape, known}
-use Rattle.ir_model.specs.Resolved.{Program, NumberedGlobal, Value, Number, Code, Null, At, OfGlobal, OfPeriph, OfLocal, no_global, global_at}
-use Rattle.ir_model.specs.Resolve.{Scope, scope_of, has, value_of, zero_of, filled, resolved_global, resolve}
+use Rattle.ir_model.specs.Plain.{PlainGlobal, PlainFirmware}
+use Rattle.ir_model.specs.Layout.{CellPlace, shape}
+use Rattle.ir_model.specs.Resolved.{Program, Value, Number, Code, Null, At, OfGlobal, OfPeriph, OfLocal, no_global, global_at}
+use Rattle.ir_model.specs.Resolve.{Scope, scope_of, number_of, has, value_of, zero_of, filled, resolved_global, resolve}
 use Rattle.ir_model.specs.State.{Object}
 use Rattle.ir_laws.specs.Typed.{IsPlaced, Fits, number, null, at, code, Typed}
-use Rattle.linked_words.proofs.Shapes.{at_each}
 
 -- ---- no global has the address of a local at first
 
@@ -24,7 +23,7 @@ of_cell s (Word n) = tt
 of_cell s (Function f) = tt
 of_cell s (Address x) = by (has s.periphs x)
   where
-    by : (b : Bool) → NoLocal (if b then At (OfPeriph (Rattle.ir_model.specs.Resolve.number_of s.periphs x)) 0 else At (OfGlobal (Rattle.ir_model.specs.Resolve.number_of s.globals x)) 0)
+    by : (b : Bool) → NoLocal (if b then At (OfPeriph (number_of s.periphs x)) 0 else At (OfGlobal (number_of s.globals x)) 0)
     by true = tt
     by false = tt
 
@@ -44,11 +43,14 @@ of_cells : (s : Scope) (cs : List Cell) → Each NoLocal (map (value_of s) cs)
 of_cells s [] = tt
 of_cells s (c ∷ cs) = (of_cell s c, of_cells s cs)
 
+among : (s : Scope) (gs : List PlainGlobal) (x : ℕ) → Each NoLocal (get_or (map (resolved_global s) gs) x no_global).init
+among s [] x = tt
+among s (g ∷ gs) zero = of_filled (shape s.known g.ty).cells (map (value_of s) g.init) (of_cells s g.init)
+among s (g ∷ gs) (suc x) = among s gs x
+
 no_locals : (w : PlainFirmware) (x : ℕ) → Each NoLocal (global_at (resolve w) x).init
 unfolding resolve
-no_locals w x =
-    at_each (λ (g : NumberedGlobal). Each NoLocal g.init) (resolved_global (scope_of w)) w.globals x no_global tt
-    (λ g. of_filled (shape (known w.structs) g.ty).cells (map (value_of (scope_of w)) g.init) (of_cells (scope_of w) g.init))
+no_locals w x = among (scope_of w) w.globals x
 
 -- ---- what they name is there
 

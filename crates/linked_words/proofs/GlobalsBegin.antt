@@ -1,5 +1,5 @@
 -- The records of filled blocks bring each cell of each global its first value.
-use Rattle.std.proofs.Common.{◌≡◌, ℕ, suc, ◌+◌, ◌-◌, ◌*◌, ◌/◌, ◌<◌, ◌≤◌, inl, inr, List, [], ◌∷◌, ◌++◌, length, get_or, map, refl, sym, ap, ◌∙◌, subst, arith}
+use Rattle.std.proofs.Common.{◌≡◌, true, ℕ, suc, ◌+◌, ◌-◌, ◌*◌, ◌/◌, ◌<◌, ◌≤◌, inl, inr, List, [], ◌∷◌, ◌++◌, length, get_or, map, refl, sym, ap, ◌∙◌, subst, arith}
 use Rattle.std.specs.List.{range_with_len}
 use Rattle.std.proofs.lemmas.List.{get_or-map}
 use Rattle.std.proofs.lemmas.List.FromFn.{length-map-range_with_len, get_or-map-range_with_len}
@@ -19,13 +19,11 @@ use Rattle.plan_model.specs.declared.graph.Final.{Final}
 use Rattle.plan_model.specs.declared.plan.Board.{Board}
 use Rattle.plan_model.specs.declared.plan.Plan.{Plan}
 use Rattle.plan_model.specs.Boards.{slots_of}
-use Rattle.plan_model.specs.Lists.{numbers_below}
+use Rattle.plan_model.specs.Lists.{numbers_below, has}
 use Rattle.plan_model.specs.Regions.{global_size}
 use Rattle.plan_model.specs.Blocks.{offset_in_region, region_bytes}
 use Rattle.plan_model.specs.TableSize.{words_in}
-use Rattle.plan_model.specs.RamBlocks.{ForRegion, ForUnwritten}
 use Rattle.plan_model.specs.Placement.{global_address}
-use Rattle.layout_laws.specs.GlobalLaws.{GlobalsAreLaid}
 use Rattle.lower.specs.declared.places.Places.{Places}
 use Rattle.lower.specs.Planned.{planned_entry, code_places}
 use Rattle.monitor.specs.declared.tables.InitRecord.{InitRecord}
@@ -41,14 +39,12 @@ use Rattle.link_model.specs.LinkedTables.{Filled, filled, object_places, words_b
 use Rattle.link_model.specs.LinkedImage.{linked}
 use Rattle.linked_images.specs.Planned.{IsPlanned, plan, planned_tables, planned_image}
 use Rattle.linked_images.specs.Laws.{FlashReadsBack}
-use Rattle.linked_images.proofs.Facts.{PlanLaws}
-use Rattle.linked_images.proofs.Ranges.{block_in}
 use Rattle.linked_promises.specs.Parts.{linked_build}
-use Rattle.linked_words.proofs.Shapes.{global_sound, aligned}
-use Rattle.linked_words.proofs.GraphGlobals.{global_stands}
+use Rattle.linked_globals.proofs.CellWidths.{global_shaped}
+use Rattle.linked_globals.proofs.GlobalPlaces.{GlobalLaws, placed, in_ram, aligns}
+use Rattle.linked_words.proofs.FilledBlocks.{is_filled}
 use Rattle.linked_words.proofs.FirstValues.{IsKnown, values_known}
-use Rattle.linked_words.proofs.CellWrites.{HasCells, cells_alike, block_holds}
-use Rattle.linked_words.proofs.FilledBlocks.{HasItsPlace, placed}
+use Rattle.linked_words.proofs.CellWrites.{HasCells, last_end, cells_alike, block_holds}
 use Rattle.linked_words.proofs.WordsBack.{IsBrought, brought, reads_back}
 use Rattle.linked_words.proofs.FlashWords.{words_stand, from_base}
 
@@ -57,16 +53,7 @@ any_weaker P Q f [] h = h
 any_weaker P Q f (x ∷ xs) (inl h) = inl (f x h)
 any_weaker P Q f (x ∷ xs) (inr h) = inr (any_weaker P Q f xs h)
 
-any_gives : {A : Type 0} (P : A → Type 0) (C : Type 0) → ((x : A) → P x → C) → (xs : List A) → AnyOf P xs → C
-any_gives P C f [] h = absurd h
-any_gives P C f (x ∷ xs) (inl h) = f x h
-any_gives P C f (x ∷ xs) (inr h) = any_gives P C f xs h
-
-last_end : (a size : ℕ) (ds : List CellPlace) → IsLaidOut a size ds → a ≤ size
-last_end a size [] l = l
-last_end a size (d ∷ ds) l = let e = last_end (d.at + width_of d.ty) size ds l.1 in let z = l.0 in omega (arith, e, z)
-
-module _ (law : PlanLaws) (counts : CountsAgree) (typing : TypedOverNumbers) (laid : GlobalsAreLaid) (back : FlashReadsBack) (code : MonitorCode) (w : PlainFirmware) (n : Needs) (f : Final) (b : Board) (ok : IsPlanned w n f b) where
+module _ (law : GlobalLaws) (counts : CountsAgree) (typing : TypedOverNumbers) (back : FlashReadsBack) (code : MonitorCode) (w : PlainFirmware) (n : Needs) (f : Final) (b : Board) (ok : IsPlanned w n f b) where
   abbrev p : Program
   p = resolve w
 
@@ -94,15 +81,13 @@ module _ (law : PlanLaws) (counts : CountsAgree) (typing : TypedOverNumbers) (la
   -- ---- the block of a global
 
   abbrev IsBlockOf : ℕ → Filled → Type 0
-  IsBlockOf x c = HasItsPlace p f l x c × (b.ram_base ≤ c.base)
+  IsBlockOf x c = (has c.globals x ≡ true) × (address x ≡ c.base + offset_in_region p c.globals x)
 
   filled_with : (x : ℕ) → x < count → AnyOf (IsBlockOf x) (filled f l)
-  filled_with x lt =
-      placed p f l x (λ c. b.ram_base ≤ c.base) (λ r h. (block_in law w n f b ok (ForRegion r) (record { of_globals = tt; there = h })).0.0)
-      (λ h. (block_in law w n f b ok ForUnwritten (record { of_globals = tt; there = h })).0.0) (global_stands p n f.groups (slots_of b) f ok.final x lt)
+  filled_with x lt = let i = placed law w n f b ok x lt in is_filled (IsBlockOf x) f l i.use_of i.is_use (i.has_it, i.address_is)
 
   low : (x : ℕ) → x < count → b.ram_base ≤ address x
-  low x lt = any_gives (IsBlockOf x) (b.ram_base ≤ address x) (λ c h. (let e = h.0.address in let z = h.1 in omega (arith, e, z))) (filled f l) (filled_with x lt)
+  low x lt = (in_ram law w n f b ok x lt).0
 
   -- ---- its record
 
@@ -114,19 +99,19 @@ module _ (law : PlanLaws) (counts : CountsAgree) (typing : TypedOverNumbers) (la
   brings x c m h is =
       let at = is.at in
       let end = is.end in
-      let e = h.0.address in
-      let lay = laid p c.globals (aligned w) in
-      let among = lay.among x h.0.listed in
+      let e = h.1 in
+      let lay = law.laid p c.globals (aligns law w n f b ok) in
+      let among = lay.among x h.0 in
       let up = rounded_at_least (region_bytes p c.globals) 4 (omega arith) in
       let whole = whole_words (region_bytes p c.globals) in
       let off : ℕ = offset_in_region p c.globals x in
       let room : off + global_size p x ≤ 4 * words_in p c.globals = omega (arith, among, up, whole) in (
         omega (arith, at, e),
         omega (arith, end, e, room),
-        cells_alike q off (m.from - b.flash_base + (address x - m.at)) 0 (global_size p x) (global_at p x).shape.cells (global_at p x).init (first_bytes p q c.globals) flash (global_sound w x).cells
+        cells_alike q off (m.from - b.flash_base + (address x - m.at)) 0 (global_size p x) (global_at p x).shape.cells (global_at p x).init (first_bytes p q c.globals) flash (global_shaped w x).sound.cells
             (λ v a le. (let s : m.from - b.flash_base + (address x - m.at) + a ≡ m.from - b.flash_base + (off + a) = omega (arith, at, e) in
             ap (λ o. read v o flash) s ∙ reads_back p q b.flash_base flash m.from c.globals is.words v (off + a) (omega (arith, le, room))))
-            (block_holds q p (λ y. (global_sound w y).cells) c.globals lay x h.0.listed),
+            (block_holds q p (λ y. (global_shaped w y).sound.cells) c.globals lay x h.0),
       )
     where
       whole_words : (m : ℕ) → 4 * (rounded_up m 4 / 4) ≡ rounded_up m 4
@@ -136,7 +121,7 @@ module _ (law : PlanLaws) (counts : CountsAgree) (typing : TypedOverNumbers) (la
   unfolding tables_of
   brought_by x lt =
       brought p q b.flash_base flash (IsBlockOf x) (Brings (address x) (global_size p x) (global_at p x).shape.cells (global_at p x).init) (brings x) (words_begin p n f l (slots_of b)) (filled f l)
-      (from_base law counts back w n f b ok) (filled_with x lt) (words_stand law counts back w n f b ok)
+      (from_base law.plans counts back w n f b ok) (filled_with x lt) (words_stand law.plans counts back w n f b ok)
 
   -- ---- words of values
 
@@ -218,7 +203,7 @@ module _ (law : PlanLaws) (counts : CountsAgree) (typing : TypedOverNumbers) (la
       record {
         from_ram = low x lt;
         as_many = typed.counts x;
-        lies = (global_sound w x).cells;
+        lies = (global_shaped w x).sound.cells;
         known = values_known w (sizes_of w) typed x;
         has_record = brought_by x lt;
       }

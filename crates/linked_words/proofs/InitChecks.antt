@@ -1,5 +1,5 @@
 -- The check of the blocks that start-up fills passes.
-use Rattle.std.proofs.Common.{◌≡◌, ◌≢◌, ℕ, ◌+◌, ◌-◌, ◌*◌, ◌/◌, ◌%◌, ◌^◌, ◌<◌, ◌≤◌, inl, inr, true, List, [], ◌∷◌, length, map, None, refl, sym, ap, ◌∙◌, subst, lit<, arith}
+use Rattle.std.proofs.Common.{◌||◌, eq-eqb, ◌≡◌, ◌≢◌, ℕ, ◌+◌, ◌-◌, ◌*◌, ◌/◌, ◌%◌, ◌^◌, ◌<◌, ◌≤◌, inl, inr, true, List, [], ◌∷◌, length, map, None, refl, sym, ap, ◌∙◌, subst, lit<, arith}
 use Rattle.std.specs.Prelude.{unwrap_or}
 use Rattle.std.proofs.Math.Nat.{mul-mod_left}
 use Rattle.std.proofs.lemmas.Nat.{div-add-mod'}
@@ -17,7 +17,7 @@ use Rattle.plan_model.specs.declared.plan.Plan.{Plan}
 use Rattle.plan_model.specs.declared.plan.Sizes.{Sizes}
 use Rattle.plan_model.specs.Boards.{slots_of}
 use Rattle.plan_model.specs.Lists.{has}
-use Rattle.plan_model.specs.Regions.{region_at, no_region}
+use Rattle.plan_model.specs.Regions.{region_at}
 use Rattle.plan_model.specs.Blocks.{block, region_bytes}
 use Rattle.plan_model.specs.TableSize.{words_in}
 use Rattle.plan_model.specs.RamBlocks.{RamUse, ForStack, ForMonitor, ForRegion, ForUnwritten}
@@ -41,9 +41,8 @@ use Rattle.linked_images.proofs.AreaEnd.{initial_words_are, end_is}
 use Rattle.linked_images.proofs.ReadBack.{ReadLaws}
 use Rattle.linked_images.proofs.TablesPass.{some}
 use Rattle.linked_sites.proofs.ObjectSizes.{global_is_large}
-use Rattle.linked_words.proofs.Joins.{HasGlobal, each_at}
-use Rattle.linked_words.proofs.Shapes.{aligned}
-use Rattle.linked_words.proofs.GraphGlobals.{regions_have, unwritten_have}
+use Rattle.linked_globals.proofs.CellWidths.{global_shaped}
+use Rattle.linked_globals.proofs.FinalRegions as regions
 
 grouped : (a b c : ℕ) → a * (b * c) ≡ a * c * b
 grouped a b c = grind arith
@@ -164,7 +163,7 @@ module _ (law : ReadLaws) (typing : TypedOverNumbers) (laid : GlobalsAreLaid) (w
 
   large : (xs : List ℕ) (x : ℕ) → x < length p.globals → has xs x ≡ true → 0 < words_in p xs
   large xs x lt h =
-      let among = (laid p xs (aligned w)).among x h in
+      let among = (laid p xs (λ y. (global_shaped w y).sound.aligned)).among x h in
       let size = global_is_large w ok.typed ok.within x lt in
       filled_up (region_bytes p xs) (omega (arith, among, size))
     where
@@ -175,13 +174,15 @@ module _ (law : ReadLaws) (typing : TypedOverNumbers) (laid : GlobalsAreLaid) (w
   not_empty ForStack h = absurd h.of_globals
   not_empty ForMonitor h = absurd h.of_globals
   not_empty (ForRegion r) h =
-      let g = each_at (HasGlobal (length p.globals)) f.regions r no_region h.there (regions_have p n f.groups (slots_of b) f ok.final) in
-      large (region_at f.regions r).globals g.0 g.1 g.2
+      let g = regions.filled p n f (slots_of b) ok.final r h.there in
+      large (region_at f.regions r).globals g.0 (regions.below p n f (slots_of b) ok.final r h.there g.0 g.1) g.1
   not_empty ForUnwritten h = by f.unwritten refl
     where
       by : (ys : List ℕ) → f.unwritten ≡ ys → 0 < words_in p f.unwritten
       by [] e = let m : length f.unwritten ≡ 0 = ap length e in let some = h.there in absurd (omega (arith, m, some))
-      by (y ∷ ys) e = let g = unwritten_have p n f.groups (slots_of b) f ok.final y ys e in large f.unwritten g.0 g.1 g.2
+      by (y ∷ ys) e =
+          let g : has f.unwritten y ≡ true = subst (λ zs. has zs y ≡ true) (sym e) (ap (λ c. c || has ys y) (eq-eqb y y refl)) in
+          large f.unwritten y (regions.unwritten_below p n f (slots_of b) ok.final y g) g
 
   -- ---- all records
 

@@ -1,6 +1,3 @@
-mod Joins
-mod GraphGlobals
-mod Shapes
 mod InitChecks
 mod FirstValues
 mod CellWrites
