@@ -1,0 +1,7 @@
+mod InitChecks
+mod FirstValues
+mod CellWrites
+mod FilledBlocks
+mod WordsBack
+mod FlashWords
+mod GlobalsBegin

@@ -1,0 +1,4 @@
+//! What start-up copies into RAM for a planned firmware.
+#![tactic(auto)]
+
+pub mod laws;
