@@ -70,3 +70,10 @@ pub mod CompartmentWords
 pub mod SiteWords
 pub mod InitWords
 pub mod AreaWords
+mod InitChecks
+mod FirstValues
+mod CellWrites
+mod FilledBlocks
+mod WordsBack
+mod InitialFlash
+mod GlobalsBegin

@@ -3,6 +3,7 @@
 
 pub mod code;
 pub mod globals;
+pub mod initial;
 pub mod laws;
 pub mod regions;
 pub mod sites;

@@ -21,7 +21,7 @@ use Rattle.linked_images.specs.Planned.{IsPlanned, plan, planned_tables, planned
 use Rattle.linked_images.specs.Laws.{FlashReadsBack}
 use Rattle.linked_images.proofs.AreaSize.{area_size}
 use Rattle.linked_images.proofs.Facts.{PlanLaws, laid}
-use Rattle.linked_words.proofs.WordsBack.{StandAt}
+use Rattle.linked_promises.proofs.WordsBack.{StandAt}
 
 -- a list ends with another
 record EndsWith (whole part : List ℕ) : Type 0 where

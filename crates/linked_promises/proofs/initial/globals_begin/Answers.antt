@@ -1,7 +1,7 @@
 use Rattle.linked_images.proofs.Facts.{PlanLaws}
-use Rattle.linked_globals.proofs.GlobalPlaces.{GlobalLaws}
-use Rattle.linked_words.proofs.GlobalsBegin.{globals_begin}
-use Rattle.linked_words.proofs.laws.globals_begin.Goals as goal
+use Rattle.linked_promises.proofs.GlobalPlaces.{GlobalLaws}
+use Rattle.linked_promises.proofs.GlobalsBegin.{globals_begin}
+use Rattle.linked_promises.proofs.initial.globals_begin.Goals as goal
 
 pub returns : goal.returns
 returns c =

@@ -1,7 +1,7 @@
 use Rattle.linked_images.proofs.Facts.{PlanLaws}
 use Rattle.linked_images.proofs.ReadBack.{ReadLaws}
-use Rattle.linked_words.proofs.InitChecks.{inits_pass}
-use Rattle.linked_words.proofs.laws.inits.Goals as goal
+use Rattle.linked_promises.proofs.InitChecks.{inits_pass}
+use Rattle.linked_promises.proofs.initial.inits.Goals as goal
 
 pub returns : goal.returns
 returns c =

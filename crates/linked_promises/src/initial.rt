@@ -1,6 +1,6 @@
 //! Laws of the definitions: functions that do nothing, whose contract is the law.
 
-ghost use Rattle.linked_words.specs.Laws.{GlobalsBegin, InitsPass};
+ghost use Rattle.linked_promises.specs.InitialWords.{GlobalsBegin, InitsPass};
 
 use ir_laws::typing::places as typed_places;
 use layout_laws::{flash, globals, places, ram};

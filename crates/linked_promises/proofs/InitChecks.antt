@@ -40,9 +40,9 @@ use Rattle.linked_images.proofs.Ranges.{IsUse, globals_for, filled_for, filled_i
 use Rattle.linked_images.proofs.AreaEnd.{initial_words_are, end_is}
 use Rattle.linked_images.proofs.ReadBack.{ReadLaws}
 use Rattle.linked_images.proofs.TablesPass.{some}
-use Rattle.linked_sites.proofs.ObjectSizes.{global_is_large}
-use Rattle.linked_globals.proofs.CellWidths.{global_shaped}
-use Rattle.linked_globals.proofs.FinalRegions as regions
+use Rattle.linked_promises.proofs.ObjectSizes.{global_is_large}
+use Rattle.linked_promises.proofs.CellWidths.{global_shaped}
+use Rattle.linked_promises.proofs.FinalRegions as regions
 
 grouped : (a b c : ℕ) → a * (b * c) ≡ a * c * b
 grouped a b c = grind arith

@@ -1,5 +1,0 @@
-//! Laws of the tables: functions that do nothing, whose contract is the law.
-
-/// For now.
-pub fn lends()
-{}

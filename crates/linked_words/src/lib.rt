@@ -1,4 +1,0 @@
-//! What start-up copies into RAM for a planned firmware.
-#![tactic(auto)]
-
-pub mod laws;
