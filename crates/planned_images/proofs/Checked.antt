@@ -1,5 +1,5 @@
 -- Where none of the seven checks fails on its own, there is no first failure.
-use Rattle.std.proofs.Common.{◌≡◌, ℕ, Option, None, ap, ◌∙◌}
+use Rattle.std.proofs.Common.{◌≡◌, ℕ, Option, None, refl, ap, ◌∙◌}
 use Rattle.device_model.specs.declared.image.Image.{Image}
 use Rattle.monitor.specs.declared.sound.AuditCheck.{AuditCheck}
 use Rattle.monitor.specs.declared.sound.AuditCheck.TheVariants as check
@@ -12,7 +12,7 @@ use Rattle.monitor.specs.Checks.{header_fails, tables_fail, code_fails, regions_
 pub record Passes (code : MonitorCode) (i : Image) (t : Tables) : Type 0 where
   pub header : header_fails i ≡ None
   pub tables : tables_fail i t ≡ None
-  pub code : code_fails code.page i t ≡ None
+  pub page : code_fails code.page i t ≡ None
   pub regions : regions_fail i t ≡ None
   pub sites : sites_fail t ≡ None
   pub lends : lends_fail t ≡ None
@@ -28,19 +28,19 @@ none_fails code i t p =
     let lends = then_later check.Lends (lends_fail t) (unless check.Inits (inits_fail i t) None) p.lends inits in
     let sites = then_later check.Sites (sites_fail t) (unless check.Lends (lends_fail t) (unless check.Inits (inits_fail i t) None)) p.sites lends in
     let regions =
-        then_later check.Regions (regions_fail i t) (unless check.Sites (sites_fail t) (unless check.Lends (lends_fail t) (unless check.Inits (inits_fail i t) None)))
-        p.regions sites
+    then_later check.Regions (regions_fail i t) (unless check.Sites (sites_fail t) (unless check.Lends (lends_fail t) (unless check.Inits (inits_fail i t) None)))
+    p.regions sites
     in
     let page =
-        then_later check.Code (code_fails code.page i t)
-        (unless check.Regions (regions_fail i t) (unless check.Sites (sites_fail t) (unless check.Lends (lends_fail t) (unless check.Inits (inits_fail i t) None))))
-        p.code regions
+    then_later check.Code (code_fails code.page i t)
+    (unless check.Regions (regions_fail i t) (unless check.Sites (sites_fail t) (unless check.Lends (lends_fail t) (unless check.Inits (inits_fail i t) None))))
+    p.page regions
     in
     let tables =
-        then_later check.Tables (tables_fail i t)
-        (unless check.Code (code_fails code.page i t)
-        (unless check.Regions (regions_fail i t) (unless check.Sites (sites_fail t) (unless check.Lends (lends_fail t) (unless check.Inits (inits_fail i t) None)))))
-        p.tables page
+    then_later check.Tables (tables_fail i t)
+    (unless check.Code (code_fails code.page i t)
+    (unless check.Regions (regions_fail i t) (unless check.Sites (sites_fail t) (unless check.Lends (lends_fail t) (unless check.Inits (inits_fail i t) None)))))
+    p.tables page
     in
     then_later check.Header (header_fails i)
     (unless check.Tables (tables_fail i t)

@@ -1,5 +1,5 @@
 -- Both halves of what is promised of an image, from the parts.
-use Rattle.std.proofs.Common.{◌≡◌, ℕ, None, sym, subst}
+use Rattle.std.proofs.Common.{◌≡◌, ℕ, sym, subst}
 use Rattle.device_model.specs.Rules.{ObeysRules}
 use Rattle.ir_model.specs.Resolve.{resolve}
 use Rattle.plan_model.specs.Needs.{AreNeeds}
@@ -11,6 +11,7 @@ use Rattle.monitor.specs.Layout.{initial_word_count}
 use Rattle.monitor.specs.Promises.{OfSoundImages, RangesAreApart, SoundImagesAreConfined}
 use Rattle.monitor.specs.Setting.{setting_of}
 use Rattle.monitor.specs.TheCode.{monitor_code}
+use Rattle.link_model.specs.LinkedImage.{linked}
 use Rattle.simulate.specs.Refines.{Refines}
 use Rattle.refinement.specs.Refinement.{LinkedImagesRefine}
 use Rattle.linked_images.specs.Planned.{plan, planned_tables, planned_image}
@@ -35,6 +36,7 @@ are_confined sound rules confine w n f b is = confine (planned_image w n f b) (p
 pub refine_firmwares : PlanLaws → PlannedImagesAreSound → OfPlanned (λ i t. ObeysRules i) → PlannedImagesAreLinked → KindsAgree → PlannedRangesAreApart
     → OfSoundImages monitor_code (λ i t. RangesAreApart t.inits → Law (setting_of monitor_code i t) (Invariant i t))
     → LinkedImagesRefine → PlannedImagesRefine
+unfolding linked
 refine_firmwares law sound rules linked kind apart serve refine w S n f b is least needs =
     subst (λ (s : ℕ). Refines w n f.groups s (initial_word_count (planned_tables w n f b)) (planned_image w n f b)) (stack_is law w n f b is)
     (refine w S monitor_code (planned_image w n f b) (planned_tables w n f b) n f.groups (code_places (resolve w) n f (plan w n f b)) is.typed is.within least

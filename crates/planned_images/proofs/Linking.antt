@@ -1,12 +1,6 @@
 -- All that the linker promises, from the parts.
-use Rattle.std.proofs.Common.{◌≡◌}
-use Rattle.ir_model.specs.Plain.{PlainFirmware}
-use Rattle.plan_model.specs.declared.needs.Needs.{Needs}
-use Rattle.plan_model.specs.declared.graph.Final.{Final}
-use Rattle.plan_model.specs.declared.plan.Board.{Board}
 use Rattle.device_model.specs.Rules.{ObeysRules}
 use Rattle.monitor.specs.TheCode.{monitor_code}
-use Rattle.linked_images.specs.Planned.{IsPlanned}
 use Rattle.linked_images.specs.Laws.{OfPlanned}
 use Rattle.linked_promises.specs.Parts.{LoansAreKept, KindsAgree, WindowsArePromised, CodeIsPlaced}
 use Rattle.linked_promises.specs.CodeInFlash.{CodeLies, StubIsPlaced}

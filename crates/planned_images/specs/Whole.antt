@@ -1,5 +1,4 @@
 -- What holds of the image of every planned firmware, with the monitor's own code: statements of laws.
-use Rattle.std.specs.Prelude.{◌≡◌}
 use Rattle.ir_model.specs.Plain.{PlainFirmware}
 use Rattle.ir_model.specs.Resolve.{resolve}
 use Rattle.ir_laws.specs.Sets.{ObjectSets}

@@ -7,8 +7,8 @@ returns c =
     (record {
       rules = c.images.ensures;
       memory = c.memory.ensures;
-      placed = c.functions_are_placed.ensures;
-      lies = c.code_stands.ensures.lies;
+      placed = c.code.ensures;
+      lies = c.code-2.ensures.lies;
       targets = c.targets.ensures;
       stub = c.stub.ensures;
       globals = c.globals.ensures;

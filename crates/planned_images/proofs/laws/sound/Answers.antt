@@ -4,11 +4,11 @@ use Rattle.planned_images.proofs.laws.sound.Goals as goal
 pub returns : goal.returns
 returns c =
     are_sound
-    (λ w n f b is. let moved = c.main_words.ensures w n f b is in c.tables.ensures w n f b is moved.entry moved.compartment)
+    (λ w n f b is. let moved = c.main_words.ensures w n f b is in c.tables-2.ensures w n f b is moved.entry moved.compartment)
     (λ w n f b is. record {
       header = c.header.ensures w n f b is;
-      tables = c.tables_have_room.ensures w n f b is;
-      code = c.page.ensures.passes w n f b is;
+      tables = c.tables.ensures w n f b is;
+      page = c.page.ensures.passes w n f b is;
       regions = c.regions.ensures w n f b is;
       sites = c.sites.ensures w n f b is;
       lends = c.lends.ensures w n f b is;
