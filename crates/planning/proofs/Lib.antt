@@ -1,0 +1,3 @@
+mod Kept
+mod Refusing
+mod OneAnswer

@@ -1,0 +1,87 @@
+-- Planning has one answer, where there is memory enough.
+use Rattle.std.proofs.Common.{◌≡◌, ℕ, Bool, true, false, cond, Option, Some, None, option_map, Result, Ok, Err, nat_lt, refl, sym, ap, subst, ◌∙◌}
+use Rattle.std.proofs.lemmas.Bool.{le-ltb}
+use Rattle.ir_model.specs.Resolved.{Program}
+use Rattle.plan_model.specs.declared.needs.Needs.{Needs}
+use Rattle.plan_model.specs.declared.groups.Groups.{Groups}
+use Rattle.plan_model.specs.declared.graph.Graph.{Graph}
+use Rattle.plan_model.specs.declared.graph.Final.{Final}
+use Rattle.plan_model.specs.declared.limits.LimitKind.{LimitKind}
+use Rattle.plan_model.specs.declared.plan.Board.{Board}
+use Rattle.plan_model.specs.declared.plan.Sizes.{Sizes}
+use Rattle.plan_model.specs.declared.plan.Plan.{Plan}
+use Rattle.plan_model.specs.Boards.{slots_of}
+use Rattle.plan_model.specs.CompileLimits.{first_passed}
+use Rattle.plan_model.specs.FinalGraph.{IsMerged}
+use Rattle.plan_model.specs.FlashPlacement.{flash_needed}
+use Rattle.plan_model.specs.InitialGraph.{initial_graph}
+use Rattle.plan_model.specs.RamPlacement.{ram_needed}
+use Rattle.plan_model.specs.Placement.{Fits, plan_of}
+use Rattle.compile_limits.specs.Told.{told}
+use Rattle.lower.specs.Planned.{sizes_of}
+use Rattle.layout.specs.declared.refusal.PlaceRefusal.{PlaceRefusal}
+use Rattle.layout.specs.Placing.{flash_refusal, ram_refusal}
+use Rattle.layout.specs.Placing as placing
+use Rattle.planning.specs.declared.planner.PlannedFirmware.{PlannedFirmware}
+use Rattle.planning.specs.declared.refusal.PlanningRefusal.{PlanningRefusal}
+use Rattle.planning.specs.declared.refusal.PlanningRefusal.TheVariants.{NoMemory, Limit, Flash, Ram}
+use Rattle.planning.specs.Planned.{IsPlannedFor}
+use Rattle.planning.specs.Refusals.{AreRefused, HasNoRoom, IsPlanningRefusal}
+use Rattle.planning.specs.Laws.{PlansAreOne, PlansAreNotRefused}
+
+-- ---- blocks that fit are placed
+
+abbrev tried : (a b : Bool) → (x y : PlaceRefusal) → Plan → Result Plan PlaceRefusal
+tried a b x y l = cond a (Err x) (cond b (Err y) (Ok l))
+
+untried : (a b : Bool) (x y r : PlaceRefusal) (l : Plan) → a ≡ false → b ≡ false → tried a b x y l ≡ Err r → ⊥
+untried true b x y r l e f h = cc
+untried false true x y r l e f h = cc
+untried false false x y r l e f h = cc
+
+unrefused : (p : Program) (f : Final) (s : Sizes) (b : Board) (r : PlaceRefusal) → Fits p f s b → placing.placed p f s b ≡ Err r → ⊥
+unfolding placing.placed
+unrefused p f s b r k h =
+    untried (nat_lt b.flash_size (flash_needed s)) (nat_lt b.ram_size (ram_needed p f b)) (flash_refusal s b) (ram_refusal p f b) r (plan_of p f s b)
+    (le-ltb b.flash_size (flash_needed s) k.flash)
+    (le-ltb b.ram_size (ram_needed p f b) k.ram)
+    h
+
+-- ---- one answer
+
+abbrev GraphsAreOne : Type 0
+GraphsAreOne = (p : Program) (slots : ℕ) (g : Graph) (f h : Final) → IsMerged p slots g f → IsMerged p slots g h → f ≡ h
+
+no_limit : (o : Option (LimitKind × ℕ)) (x : LimitKind × ℕ) → o ≡ None → option_map told o ≡ Some x → ⊥
+no_limit None x e h = cc
+no_limit (Some y) x e h = cc
+
+module _ (one : GraphsAreOne) (p : Program) (n : Needs) (g : Groups) (b : Board) where
+  has_room : (x : PlannedFirmware) (r : PlaceRefusal) → IsPlannedFor p n g b x → HasNoRoom p n g b r → ⊥
+  has_room x r k h =
+      let same : h.graph ≡ x.graph = one p (slots_of b) (initial_graph p n g) h.graph x.graph h.final k.final in
+      let refused = subst (λ (f : Final). AreRefused p n f b r) same h.refused in
+      unrefused p x.graph (sizes_of p n x.graph (slots_of b)) b r (subst (λ (s : Sizes). Fits p x.graph s b) k.placed.sizes k.placed.fits) refused
+
+  not_refused : (x : PlannedFirmware) (r : PlanningRefusal) → IsPlannedFor p n g b x → IsPlanningRefusal p n g b r → r ≡ NoMemory
+  not_refused x NoMemory k h = refl
+  not_refused x (Limit w c) k h = absurd (no_limit (first_passed n g) (w, c) k.limits h)
+  not_refused x (Flash c m a) k h = absurd (has_room x _ k h)
+  not_refused x (Ram c m a) k h = absurd (has_room x _ k h)
+
+  same_plan : (x y : PlannedFirmware) → IsPlannedFor p n g b x → IsPlannedFor p n g b y → x ≡ y
+  same_plan x y k h =
+      let graph : x.graph ≡ y.graph = one p (slots_of b) (initial_graph p n g) x.graph y.graph k.final h.final in
+      let sizes : x.sizes ≡ y.sizes = k.placed.sizes ∙ (ap (λ (f : Final). sizes_of p n f (slots_of b)) graph ∙ sym h.placed.sizes) in
+      let first : plan_of p x.graph x.sizes b ≡ plan_of p y.graph x.sizes b = ap (λ (f : Final). plan_of p f x.sizes b) graph in
+      let second : plan_of p y.graph x.sizes b ≡ plan_of p y.graph y.sizes b = ap (λ (s : Sizes). plan_of p y.graph s b) sizes in
+      let plan : x.plan ≡ y.plan = k.placed.plan ∙ (first ∙ (second ∙ sym h.placed.plan)) in
+      ap (λ (f : Final). let z : PlannedFirmware = record { graph = f; sizes = x.sizes; plan = x.plan } in z) graph
+      ∙ (ap (λ (s : Sizes). let z : PlannedFirmware = record { graph = y.graph; sizes = s; plan = x.plan } in z) sizes
+      ∙ ap (λ (l : Plan). let z : PlannedFirmware = record { graph = y.graph; sizes = y.sizes; plan = l } in z) plan)
+
+pub plans_are_one : GraphsAreOne → PlansAreOne
+plans_are_one one p n g b x y k h = same_plan one p n g b x y k h
+
+pub plans_are_not_refused : GraphsAreOne → PlansAreNotRefused
+plans_are_not_refused one p n g b x r k h = not_refused one p n g b x r k h

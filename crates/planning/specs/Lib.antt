@@ -1,0 +1,3 @@
+pub mod Planned
+pub mod Refusals
+pub mod Laws

@@ -1,0 +1,13 @@
+//! Laws of planning: functions that do nothing, whose contract is the law.
+
+ghost use Rattle.planning.specs.Laws.{PlansAreOne, PlansAreNotRefused};
+
+use region_graph::laws::final_graph_is_one;
+
+/// A firmware is planned for a board in one way alone, and where it is, the one refusal is that there is no memory.
+pub fn one_answer()
+    ensures one { PlansAreOne }
+    ensures planned { PlansAreNotRefused }
+{
+    final_graph_is_one();
+}

@@ -1,0 +1,9 @@
+//! Plans a firmware for a board: the final graph of its compartments, how many bytes its code and tables have, and where all blocks lie.
+#![tactic(auto)]
+
+pub mod laws;
+pub mod planner;
+pub mod refusal;
+
+pub use planner::{PlannedFirmware, planned};
+pub use refusal::PlanningRefusal;
