@@ -38,7 +38,7 @@ all_moved [] groups = refl
 all_moved (f ∷ fs) groups = all_moved fs (move groups f) ∙ each_moved groups f
 
 each_group : (policy : Policy) (fs : List FuncFacts) → length (groups_by policy fs) ≡ length fs
-unfolding optimized_groups, peripheral_groups
+unfolding optimized_groups peripheral_groups
 each_group Filename fs = length-map fs (λ (f : FuncFacts). f.file)
 each_group Optimized fs = all_moved (by_name fs) (filename_groups fs) ∙ length-map fs (λ (f : FuncFacts). f.file)
 each_group Peripheral fs = length-map fs _
