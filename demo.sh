@@ -26,11 +26,15 @@ show() {
 echo "An unproved build of the program; each call takes a minute or two."
 begin check check "$examples/heater.ir"
 begin source source "$examples/heater.ir" filename "$examples/heater.tape" 1000
+begin small list "$examples/satellite.ir" "$examples/board.toml" filename
+begin large list "$examples/satellite.ir" "$examples/board16.toml" filename
 begin compile compile "$examples/sample.ir" "$examples/board.toml" filename "$work/sample.image"
 begin sample source "$examples/sample.ir" filename "$examples/sample.tape" 1000
 show check
 show source
 show sample
+show small
+show large
 show compile
 begin run run "$work/sample.image" "$examples/sample.tape" 1000
 show run

@@ -3,10 +3,10 @@ use Rattle.std.proofs.Common.{◌≡◌, ℕ, ◌⊎◌, inl, inr, List, [], ◌
 use Rattle.aces_reports.specs.declared.failure.Done.{Done}
 use Rattle.aces_reports.specs.declared.failure.Done.TheVariants.{Well, Badly}
 use Rattle.aces_reports.specs.declared.failure.Failure.{Failure}
-use Rattle.aces_reports.specs.declared.failure.Failure.TheVariants.{Refused, Unread, Unwritten, Unprinted, NoMemory}
-use Rattle.aces_words.specs.Requests.{Request, Run, Bin, Compile, Check, Source, Asks, IsUsage, Origin}
+use Rattle.aces_reports.specs.declared.failure.Failure.TheVariants.{Refused, PastLimit, NoRoom, Unread, Unwritten, Unprinted, NoMemory}
+use Rattle.aces_words.specs.Requests.{Request, Run, Bin, Compile, Check, Source, Listing, Asks, IsUsage, Origin}
 use Rattle.aces_reports.specs.FaultLines.{usage_line}
-use Rattle.aces_cli.specs.Answer.{Outcome, Answer, refused, usage, run_image_large, run_tape_large, run_read, bin_image_large, bin_read, compile_firmware_large, compile_board_large, compile_read, check_large, check_read, source_firmware_large, source_tape_large, source_read, no_request, to_request}
+use Rattle.aces_cli.specs.Answer.{Outcome, Answer, refused, past_limit, no_room, usage, run_image_large, run_tape_large, run_read, bin_image_large, bin_read, compile_firmware_large, compile_board_large, compile_read, check_large, check_read, source_firmware_large, source_tape_large, source_read, list_firmware_large, list_board_large, list_read, no_request, to_request}
 use Rattle.aces_reports.specs.Sinks.{SinkState, Says}
 use Rattle.aces_reports.specs.Ends.{status_of, line_of}
 use Rattle.aces_cli.specs.Did.{World, Does, Quiet, IsPlain, IsCarriedOut, IsAnswered, IsPart, IsPrintedInPart, IsPartly, AsksForSource, TellsUnread, TellsUnwritten, TellsUnprinted, TellsOutOfMemory}
@@ -20,14 +20,17 @@ answer_also Has Had Exceeds Exceeded m l r o (run_tape_large image tape steps by
 answer_also Has Had Exceeds Exceeded m l r o (run_read image tape steps bytes text p h k a) = run_read image tape steps bytes text p (m _ bytes h) (m _ text k) a
 answer_also Has Had Exceeds Exceeded m l r o (bin_image_large image file e) = bin_image_large image file (l _ e)
 answer_also Has Had Exceeds Exceeded m l r o (bin_read image file bytes p h a) = bin_read image file bytes p (m _ bytes h) a
-answer_also Has Had Exceeds Exceeded m l r o (compile_firmware_large firmware board image e) = compile_firmware_large firmware board image (l _ e)
-answer_also Has Had Exceeds Exceeded m l r o (compile_board_large firmware board image bytes h e) = compile_board_large firmware board image bytes (m _ bytes h) (l _ e)
-answer_also Has Had Exceeds Exceeded m l r o (compile_read firmware board image bytes text p h k a) = compile_read firmware board image bytes text p (m _ bytes h) (m _ text k) a
+answer_also Has Had Exceeds Exceeded m l r o (compile_firmware_large firmware board policy image e) = compile_firmware_large firmware board policy image (l _ e)
+answer_also Has Had Exceeds Exceeded m l r o (compile_board_large firmware board policy image bytes h e) = compile_board_large firmware board policy image bytes (m _ bytes h) (l _ e)
+answer_also Has Had Exceeds Exceeded m l r o (compile_read firmware board policy image bytes text p h k a) = compile_read firmware board policy image bytes text p (m _ bytes h) (m _ text k) a
 answer_also Has Had Exceeds Exceeded m l r o (check_large firmware e) = check_large firmware (l _ e)
 answer_also Has Had Exceeds Exceeded m l r o (check_read firmware bytes p h a) = check_read firmware bytes p (m _ bytes h) a
 answer_also Has Had Exceeds Exceeded m l r o (source_firmware_large firmware policy tape steps e) = source_firmware_large firmware policy tape steps (l _ e)
 answer_also Has Had Exceeds Exceeded m l r o (source_tape_large firmware policy tape steps bytes h e) = source_tape_large firmware policy tape steps bytes (m _ bytes h) (l _ e)
 answer_also Has Had Exceeds Exceeded m l r o (source_read firmware policy tape steps bytes text p h k a) = source_read firmware policy tape steps bytes text p (m _ bytes h) (m _ text k) a
+answer_also Has Had Exceeds Exceeded m l r o (list_firmware_large firmware board policy e) = list_firmware_large firmware board policy (l _ e)
+answer_also Has Had Exceeds Exceeded m l r o (list_board_large firmware board policy bytes h e) = list_board_large firmware board policy bytes (m _ bytes h) (l _ e)
+answer_also Has Had Exceeds Exceeded m l r o (list_read firmware board policy bytes text p h k a) = list_read firmware board policy bytes text p (m _ bytes h) (m _ text k) a
 
 -- nothing is printed and written, and no fault rose
 nothing_more : (old new : World) (o : Outcome) → Quiet old new → new.read_faults ≡ old.read_faults → o.printed ≡ [] → o.written ≡ None → IsCarriedOut old new o
@@ -74,6 +77,20 @@ module _ (Has : Origin → List ℕ → Type 0) (Exceeds : Origin → Type 0) (w
     all = nothing_more old new (refused name.now f) d.quiet d.read_faults refl refl;
     says = l;
   }
+  answered (Err (PastLimit which count)) s q d l p = record {
+    outcome = past_limit which count;
+    answer = to_request r (past_limit which count) asks d.answer;
+    ended = sym q;
+    all = nothing_more old new (past_limit which count) d.quiet d.read_faults refl refl;
+    says = l;
+  }
+  answered (Err (NoRoom memory c needed available)) s q d l p = record {
+    outcome = no_room memory c needed available;
+    answer = to_request r (no_room memory c needed available) asks d.answer;
+    ended = sym q;
+    all = nothing_more old new (no_room memory c needed available) d.quiet d.read_faults refl refl;
+    says = l;
+  }
   answered (Err (Unread name)) s q d l p = absurd (p.no_read_fault q)
   answered (Err (Unwritten name)) s q d l p = absurd (p.no_write_fault q)
   answered (Err Unprinted) s q d l p = absurd (p.no_write_fault q)
@@ -86,6 +103,8 @@ module _ (Has : Origin → List ℕ → Type 0) (Exceeds : Origin → Type 0) (w
   partly (Ok Well) q d = let f : ⊥ = omega (arith, q) in absurd f
   partly (Ok Badly) q d = let f : ⊥ = omega (arith, q) in absurd f
   partly (Err (Refused name f)) q d = let f : ⊥ = omega (arith, q) in absurd f
+  partly (Err (PastLimit which count)) q d = let f : ⊥ = omega (arith, q) in absurd f
+  partly (Err (NoRoom memory c needed available)) q d = let f : ⊥ = omega (arith, q) in absurd f
   partly (Err (Unread name)) q d = let f : ⊥ = omega (arith, q) in absurd f
   partly (Err (Unwritten name)) q d = part_of d.1
   partly (Err Unprinted) q d = part_of d.1
@@ -94,14 +113,17 @@ module _ (Has : Origin → List ℕ → Type 0) (Exceeds : Origin → Type 0) (w
   in_part : (s : Request) → IsPrintedInPart (Answer Has Exceeds r) r old new s → (new.out ≡ old.out) ⊎ IsPartly Has Exceeds words old new
   in_part (Run image tape steps) h = inl h
   in_part (Bin image file) h = inl h
-  in_part (Compile firmware board image) h = inl h
+  in_part (Compile firmware board policy image) h = inl h
   in_part (Check firmware) h = inl h
   in_part (Source firmware policy tape steps) h = elim h [ inl e ↦ inl e | inr p ↦ inr (part_of p) ]
+  in_part (Listing firmware board policy) h = inl h
 
   pub printed_in_part : (e : Result Done Failure) → status_of e ≡ 6 → Does (Answer Has Exceeds r) r old new e → (new.out ≡ old.out) ⊎ IsPartly Has Exceeds words old new
   printed_in_part (Ok Well) q d = let f : ⊥ = omega (arith, q) in absurd f
   printed_in_part (Ok Badly) q d = let f : ⊥ = omega (arith, q) in absurd f
   printed_in_part (Err (Refused name f)) q d = let f : ⊥ = omega (arith, q) in absurd f
+  printed_in_part (Err (PastLimit which count)) q d = let f : ⊥ = omega (arith, q) in absurd f
+  printed_in_part (Err (NoRoom memory c needed available)) q d = let f : ⊥ = omega (arith, q) in absurd f
   printed_in_part (Err (Unread name)) q d = let f : ⊥ = omega (arith, q) in absurd f
   printed_in_part (Err (Unwritten name)) q d = let f : ⊥ = omega (arith, q) in absurd f
   printed_in_part (Err Unprinted) q d = let f : ⊥ = omega (arith, q) in absurd f
@@ -113,6 +135,8 @@ module _ (A : Outcome → Type 0) (words : List (List ℕ)) (r : Request) (asks 
   unread (Ok Well) q d l = let f : ⊥ = omega (arith, q) in absurd f
   unread (Ok Badly) q d l = let f : ⊥ = omega (arith, q) in absurd f
   unread (Err (Refused name f)) q d l = let f : ⊥ = omega (arith, q) in absurd f
+  unread (Err (PastLimit which count)) q d l = let f : ⊥ = omega (arith, q) in absurd f
+  unread (Err (NoRoom memory c needed available)) q d l = let f : ⊥ = omega (arith, q) in absurd f
   unread (Err (Unread name)) q d l = record { request = r; asks = asks; name = name.now; unread = d; says = l }
   unread (Err (Unwritten name)) q d l = let f : ⊥ = omega (arith, q) in absurd f
   unread (Err Unprinted) q d l = let f : ⊥ = omega (arith, q) in absurd f
@@ -123,6 +147,8 @@ module _ (A : Outcome → Type 0) (words : List (List ℕ)) (r : Request) (asks 
   unwritten (Ok Well) q d l = let f : ⊥ = omega (arith, q) in absurd f
   unwritten (Ok Badly) q d l = let f : ⊥ = omega (arith, q) in absurd f
   unwritten (Err (Refused name f)) q d l = let f : ⊥ = omega (arith, q) in absurd f
+  unwritten (Err (PastLimit which count)) q d l = let f : ⊥ = omega (arith, q) in absurd f
+  unwritten (Err (NoRoom memory c needed available)) q d l = let f : ⊥ = omega (arith, q) in absurd f
   unwritten (Err (Unread name)) q d l = let f : ⊥ = omega (arith, q) in absurd f
   unwritten (Err (Unwritten name)) q d l = inl (record { request = r; asks = asks; name = name.now; unwritten = d.0; says = l })
   unwritten (Err Unprinted) q d l = inr (record { unprinted = d.0; says = l })
@@ -131,14 +157,17 @@ module _ (A : Outcome → Type 0) (words : List (List ℕ)) (r : Request) (asks 
   quiet_unless : (s : Request) → Asks words s → IsPrintedInPart A r old new s → (new.out ≡ old.out) ⊎ AsksForSource words
   quiet_unless (Run image tape steps) a h = inl h
   quiet_unless (Bin image file) a h = inl h
-  quiet_unless (Compile firmware board image) a h = inl h
+  quiet_unless (Compile firmware board policy image) a h = inl h
   quiet_unless (Check firmware) a h = inl h
   quiet_unless (Source firmware policy tape steps) a h = inr (record { firmware = firmware; policy = policy; tape = tape; steps = steps; asks = a })
+  quiet_unless (Listing firmware board policy) a h = inl h
 
   pub out_of_memory : (e : Result Done Failure) → status_of e ≡ 6 → Does A r old new e → Says err_old err_new (line_of e) → TellsOutOfMemory words old new err_old err_new
   out_of_memory (Ok Well) q d l = let f : ⊥ = omega (arith, q) in absurd f
   out_of_memory (Ok Badly) q d l = let f : ⊥ = omega (arith, q) in absurd f
   out_of_memory (Err (Refused name f)) q d l = let f : ⊥ = omega (arith, q) in absurd f
+  out_of_memory (Err (PastLimit which count)) q d l = let f : ⊥ = omega (arith, q) in absurd f
+  out_of_memory (Err (NoRoom memory c needed available)) q d l = let f : ⊥ = omega (arith, q) in absurd f
   out_of_memory (Err (Unread name)) q d l = let f : ⊥ = omega (arith, q) in absurd f
   out_of_memory (Err (Unwritten name)) q d l = let f : ⊥ = omega (arith, q) in absurd f
   out_of_memory (Err Unprinted) q d l = let f : ⊥ = omega (arith, q) in absurd f
@@ -148,6 +177,8 @@ module _ (A : Outcome → Type 0) (words : List (List ℕ)) (r : Request) (asks 
   reads_stay (Ok Well) d = inr d.all.read_faults
   reads_stay (Ok Badly) d = inr d.all.read_faults
   reads_stay (Err (Refused name f)) d = inr d.read_faults
+  reads_stay (Err (PastLimit which count)) d = inr d.read_faults
+  reads_stay (Err (NoRoom memory c needed available)) d = inr d.read_faults
   reads_stay (Err (Unread name)) d = inl refl
   reads_stay (Err (Unwritten name)) d = inr d.0.read_faults
   reads_stay (Err Unprinted) d = inr d.0.read_faults
@@ -160,6 +191,8 @@ module _ (A : Outcome → Type 0) (words : List (List ℕ)) (r : Request) (asks 
   writes_stay (Ok Well) d = inr (d.all.write_faults, d.all.faults)
   writes_stay (Ok Badly) d = inr (d.all.write_faults, d.all.faults)
   writes_stay (Err (Refused name f)) d = inr (writes_of d.quiet)
+  writes_stay (Err (PastLimit which count)) d = inr (writes_of d.quiet)
+  writes_stay (Err (NoRoom memory c needed available)) d = inr (writes_of d.quiet)
   writes_stay (Err (Unread name)) d = inr (writes_of d.quiet)
   writes_stay (Err (Unwritten name)) d = inl refl
   writes_stay (Err Unprinted) d = inl refl

@@ -5,14 +5,14 @@ use Rattle.aces_reports.specs.declared.failure.Done.TheVariants.{Well, Badly}
 use Rattle.aces_reports.specs.declared.failure.Fault.{Fault}
 use Rattle.aces_reports.specs.declared.failure.Fault.TheVariants.{TooLarge, NotInForm}
 use Rattle.aces_reports.specs.declared.failure.Failure.{Failure}
-use Rattle.aces_reports.specs.declared.failure.Failure.TheVariants.{Refused, Unread, Unwritten, Unprinted, NoMemory}
-use Rattle.aces_words.specs.Requests.{Request, Run, Bin, Compile, Check, Source, Origin, origins}
+use Rattle.aces_reports.specs.declared.failure.Failure.TheVariants.{Refused, PastLimit, NoRoom, Unread, Unwritten, Unprinted, NoMemory}
+use Rattle.aces_words.specs.Requests.{Request, Run, Bin, Compile, Check, Source, Listing, Origin, origins}
 use Rattle.aces_cli.specs.Known.{Held, IsMissing, IsNamed}
-use Rattle.aces_cli.specs.Answer.{Outcome, refused}
+use Rattle.aces_cli.specs.Answer.{Outcome, refused, past_limit, no_room}
 use Rattle.aces_reports.specs.Sinks.{SinkState}
 use Rattle.aces_reports.specs.Ends.{status_of}
 use Rattle.aces_cli.specs.Did.{World, Does, Quiet, IsCarriedOut, IsPart, IsPrintedInPart}
-use Rattle.aces_cli.specs.Loads.{IsLoadFailure, IsContentFailure}
+use Rattle.aces_cli.specs.Loads.{IsLoadFailure, IsContentFailure, IsRefusal}
 use Rattle.ir_model.specs.Plain.{PlainFirmware}
 use Rattle.straight_text.specs.StraightTexts.{IsStraightText, IsNoStraightText}
 use Rattle.aces_cli.specs.Compiled.{board_text}
@@ -22,9 +22,10 @@ use Rattle.aces_cli.specs.CompileFailures.{IsCompileFailure}
 nothing_printed : (A : Outcome → Type 0) (r : Request) (old new : World) → new.out ≡ old.out → IsPrintedInPart A r old new r
 nothing_printed A (Run image tape steps) old new h = h
 nothing_printed A (Bin image file) old new h = h
-nothing_printed A (Compile firmware board image) old new h = h
+nothing_printed A (Compile firmware board policy image) old new h = h
 nothing_printed A (Check firmware) old new h = h
 nothing_printed A (Source firmware policy tape steps) old new h = inl h
+nothing_printed A (Listing firmware board policy) old new h = h
 
 -- memory ran out before anything was printed or written
 pub no_memory : (A : Outcome → Type 0) (r : Request) (old new : World) → Quiet old new → new.read_faults ≡ old.read_faults → Does A r old new (Err NoMemory)
@@ -44,6 +45,8 @@ load_failed A Exceeds r s old new quiet named missing large (Refused name f) h =
   quiet = quiet;
   read_faults = h.3;
 }
+load_failed A Exceeds r s old new quiet named missing large (PastLimit which count) h = absurd h
+load_failed A Exceeds r s old new quiet named missing large (NoRoom memory c needed available) h = absurd h
 load_failed A Exceeds r s old new quiet named missing large (Unread name) h = record {
   named = subst (IsNamed (origins r)) (sym h.0) named;
   cause = elim h.1 [ inl rose ↦ inl rose | inr gone ↦ inr (gone.0, subst (IsMissing old.held (origins r)) (sym h.0) (missing gone.0 gone.1)) ];
@@ -62,10 +65,43 @@ content_failed A IsFault r name old new quiet reads answer (Refused n f) h = rec
   quiet = quiet;
   read_faults = reads;
 }
+content_failed A IsFault r name old new quiet reads answer (PastLimit which count) h = absurd h
+content_failed A IsFault r name old new quiet reads answer (NoRoom memory c needed available) h = absurd h
 content_failed A IsFault r name old new quiet reads answer (Unread n) h = absurd h
 content_failed A IsFault r name old new quiet reads answer (Unwritten n) h = absurd h
 content_failed A IsFault r name old new quiet reads answer Unprinted h = absurd h
 content_failed A IsFault r name old new quiet reads answer NoMemory h = no_memory A r old new quiet reads
+
+-- an outcome that refuses
+pub refusal_did : (A : Outcome → Type 0) (r : Request) (old new : World) → Quiet old new → new.read_faults ≡ old.read_faults
+    → (e : Failure) → IsRefusal A e → Does A r old new (Err e)
+refusal_did A r old new quiet reads (Refused n f) h = record { answer = h; quiet = quiet; read_faults = reads }
+refusal_did A r old new quiet reads (PastLimit which count) h = record { answer = h; quiet = quiet; read_faults = reads }
+refusal_did A r old new quiet reads (NoRoom memory c needed available) h = record { answer = h; quiet = quiet; read_faults = reads }
+refusal_did A r old new quiet reads (Unread n) h = absurd h
+refusal_did A r old new quiet reads (Unwritten n) h = absurd h
+refusal_did A r old new quiet reads Unprinted h = absurd h
+refusal_did A r old new quiet reads NoMemory h = no_memory A r old new quiet reads
+
+-- what is refused by some answers is refused by others, by a content's fault among them
+pub refusal_also : (A B : Outcome → Type 0) → ((o : Outcome) → A o → B o) → (e : Failure) → IsRefusal A e → IsRefusal B e
+refusal_also A B m (Refused n f) h = m (refused n.now f) h
+refusal_also A B m (PastLimit which count) h = m (past_limit which count) h
+refusal_also A B m (NoRoom memory c needed available) h = m (no_room memory c needed available) h
+refusal_also A B m (Unread n) h = h
+refusal_also A B m (Unwritten n) h = h
+refusal_also A B m Unprinted h = h
+refusal_also A B m NoMemory h = h
+
+pub content_refused : (A : Outcome → Type 0) (IsFault : Fault → Type 0) (name : List ℕ) → ((f : Fault) → IsFault f → A (refused name f))
+    → (e : Failure) → IsContentFailure IsFault name e → IsRefusal A e
+content_refused A IsFault name answer (Refused n f) h = subst (λ x. A (refused x f)) (sym h.0) (answer f h.1)
+content_refused A IsFault name answer (PastLimit which count) h = absurd h
+content_refused A IsFault name answer (NoRoom memory c needed available) h = absurd h
+content_refused A IsFault name answer (Unread n) h = absurd h
+content_refused A IsFault name answer (Unwritten n) h = absurd h
+content_refused A IsFault name answer Unprinted h = absurd h
+content_refused A IsFault name answer NoMemory h = tt
 
 -- a firmware or a board that was refused
 pub compile_failed : (A : Outcome → Type 0) (firmware board bytes text : List ℕ) (r : Request) (old new : World) → Quiet old new → new.read_faults ≡ old.read_faults
@@ -80,6 +116,8 @@ compile_failed A firmware board bytes text r old new quiet reads one two (Refuse
   quiet = quiet;
   read_faults = reads;
 }
+compile_failed A firmware board bytes text r old new quiet reads one two (PastLimit which count) h = absurd h
+compile_failed A firmware board bytes text r old new quiet reads one two (NoRoom memory c needed available) h = absurd h
 compile_failed A firmware board bytes text r old new quiet reads one two (Unread n) h = absurd h
 compile_failed A firmware board bytes text r old new quiet reads one two (Unwritten n) h = absurd h
 compile_failed A firmware board bytes text r old new quiet reads one two Unprinted h = absurd h
@@ -98,9 +136,10 @@ part_also A B m r old new p = record { outcome = p.outcome; answer = m p.outcome
 printed_also : (A B : Outcome → Type 0) → ((o : Outcome) → A o → B o) → (r : Request) (old new : World) → IsPrintedInPart A r old new r → IsPrintedInPart B r old new r
 printed_also A B m (Run image tape steps) old new h = h
 printed_also A B m (Bin image file) old new h = h
-printed_also A B m (Compile firmware board image) old new h = h
+printed_also A B m (Compile firmware board policy image) old new h = h
 printed_also A B m (Check firmware) old new h = h
 printed_also A B m (Source firmware policy tape steps) old new h = elim h [ inl e ↦ inl e | inr p ↦ inr (part_also A B m (Source firmware policy tape steps) old new p) ]
+printed_also A B m (Listing firmware board policy) old new h = h
 
 -- what did for some answers did for others
 pub did_also : (A B : Outcome → Type 0) → ((o : Outcome) → A o → B o) → (r : Request) (old new : World) (e : Result Done Failure)
@@ -108,6 +147,8 @@ pub did_also : (A B : Outcome → Type 0) → ((o : Outcome) → A o → B o) �
 did_also A B m r old new (Ok Well) d = record { outcome = d.outcome; answer = m d.outcome d.answer; ended = d.ended; silent = d.silent; all = d.all }
 did_also A B m r old new (Ok Badly) d = record { outcome = d.outcome; answer = m d.outcome d.answer; ended = d.ended; silent = d.silent; all = d.all }
 did_also A B m r old new (Err (Refused name f)) d = record { answer = m (refused name.now f) d.answer; quiet = d.quiet; read_faults = d.read_faults }
+did_also A B m r old new (Err (PastLimit which count)) d = record { answer = m (past_limit which count) d.answer; quiet = d.quiet; read_faults = d.read_faults }
+did_also A B m r old new (Err (NoRoom memory c needed available)) d = record { answer = m (no_room memory c needed available) d.answer; quiet = d.quiet; read_faults = d.read_faults }
 did_also A B m r old new (Err (Unread name)) d = d
 did_also A B m r old new (Err (Unwritten name)) d = (d.0, part_also A B m r old new d.1)
 did_also A B m r old new (Err Unprinted) d = (d.0, part_also A B m r old new d.1)

@@ -17,15 +17,17 @@ use Rattle.ir_reader.specs.First.{IsFirst}
 use Rattle.aces_reports.specs.declared.failure.Fault.{Fault}
 use Rattle.aces_reports.specs.declared.failure.Fault.TheVariants.{IllTyped}
 use Rattle.aces_reports.specs.declared.failure.Failure.{Failure}
-use Rattle.aces_reports.specs.declared.failure.Failure.TheVariants.{Refused, Unread, Unwritten, Unprinted, NoMemory}
+use Rattle.aces_reports.specs.declared.failure.Failure.TheVariants.{Refused, PastLimit, NoRoom, Unread, Unwritten, Unprinted, NoMemory}
 use Rattle.aces_cli.specs.Answer.{of_text, IsNoFirmware, no_text, ill_typed}
 use Rattle.aces_cli.specs.Counts.{count_line}
 use Rattle.aces_cli.specs.Loads.{IsContentFailure, of_check}
 use Rattle.lines.specs.Lines as lines
 
 -- what is refused by some faults is refused by others
-content_also : (P Q : Fault → Type 0) → ((f : Fault) → P f → Q f) → (name : List ℕ) (e : Failure) → IsContentFailure P name e → IsContentFailure Q name e
+pub content_also : (P Q : Fault → Type 0) → ((f : Fault) → P f → Q f) → (name : List ℕ) (e : Failure) → IsContentFailure P name e → IsContentFailure Q name e
 content_also P Q m name (Refused n f) h = (h.0, m f h.1)
+content_also P Q m name (PastLimit which count) h = h
+content_also P Q m name (NoRoom memory c needed available) h = h
 content_also P Q m name (Unread n) h = h
 content_also P Q m name (Unwritten n) h = h
 content_also P Q m name Unprinted h = h

@@ -4,3 +4,4 @@ mod Answered
 mod Compiling
 mod Firmwares
 mod Sourcing
+mod Listing

@@ -12,9 +12,11 @@ use Rattle.image.specs.Faults as images
 use Rattle.image.specs.Text.{IsText}
 use Rattle.armv7m.specs.Run.{start}
 use Rattle.aces_reports.specs.declared.failure.Fault.{Fault}
-use Rattle.aces_reports.specs.declared.failure.Fault.TheVariants.{TooLarge, Short, Magic, Version, Field, Trailing, BadLine, UnknownPeripheral, NotInForm, NotUtf8, Syntax, NumberTooWide, Limit, IllTyped}
-use Rattle.aces_words.specs.Requests.{Request, Run, Bin, Compile, Check, Source, Asks, IsUsage, Origin, file_origin, firmware_origin, file_limit, firmware_limit}
-use Rattle.aces_reports.specs.FaultLines.{fault_line, usage_line}
+use Rattle.aces_reports.specs.declared.failure.Fault.TheVariants.{TooLarge, Short, Magic, Version, Field, Trailing, BadLine, UnknownPeripheral, NotInForm, NotUtf8, Syntax, NumberTooWide, Limit, IllTyped, NotToml, MissingKey, KeyKind, KeyRange, ExtraKey}
+use Rattle.aces_words.specs.Requests.{Request, Run, Bin, Compile, Check, Source, Listing, Asks, IsUsage, Origin, file_origin, firmware_origin, file_limit, firmware_limit}
+use Rattle.aces_reports.specs.declared.failure.Memory.{Memory}
+use Rattle.aces_reports.specs.declared.failure.Memory.TheVariants as memory
+use Rattle.aces_reports.specs.FaultLines.{fault_line, limit_line, room_line, usage_line}
 use Rattle.ir_model.specs.declared.check.CheckKind.{CheckKind}
 use Rattle.ir_model.specs.declared.check.Place.{Place}
 use Rattle.ir_model.specs.Plain.{PlainFirmware}
@@ -31,6 +33,13 @@ use Rattle.aces_cli.specs.Counts.{count_line}
 use Rattle.source_output.specs.SourceRuns.{source_lines, source_status}
 use Rattle.aces_words.specs.declared.policy.Policy.{Policy}
 use Rattle.compartments.specs.Analyses.{AreCompartmentsBy}
+use Rattle.plan_model.specs.declared.plan.Board.{Board}
+use Rattle.plan_model.specs.declared.limits.LimitKind.{LimitKind}
+use Rattle.board_text.specs.declared.fault.BoardFault.{BoardFault}
+use Rattle.board_text.specs.declared.fault.BoardFault.TheVariants as board_faults
+use Rattle.board_text.specs.Reading as boards
+use Rattle.planning.specs.declared.refusal.PlanningRefusal.TheVariants as planning
+use Rattle.firmware_listing.specs.Listings.{IsListing, IsRefusedBy}
 
 -- the bytes that a name is made to hold
 pub record Written : Type 0 where
@@ -49,6 +58,13 @@ done status printed written = record { status = status; printed = printed; line 
 
 abbrev pub refused : (name : List ℕ) → Fault → Outcome
 refused name f = record { status = 1; printed = []; line = fault_line name f; written = None }
+
+-- a firmware has too much of this to be compiled, or a memory of the board has no room
+abbrev pub past_limit : LimitKind → (count : ℕ) → Outcome
+past_limit which count = record { status = 1; printed = []; line = limit_line which count; written = None }
+
+abbrev pub no_room : Memory → (compartment : Option ℕ) → (needed available : ℕ) → Outcome
+no_room m c needed available = record { status = 3; printed = []; line = room_line m c needed available; written = None }
 
 abbrev pub usage : Outcome
 usage = record { status = 2; printed = []; line = usage_line; written = None }
@@ -74,6 +90,14 @@ of_text (text_faults.Syntax pos) = Some (Syntax pos)
 of_text (text_faults.NumberTooWide pos) = Some (NumberTooWide pos)
 of_text (text_faults.Limit which pos) = Some (Limit which pos)
 
+abbrev pub of_board : BoardFault → Option Fault
+of_board board_faults.NoMemory = None
+of_board board_faults.NotToml = Some NotToml
+of_board (board_faults.Missing key) = Some (MissingKey key)
+of_board (board_faults.Kind key) = Some (KeyKind key)
+of_board (board_faults.Range key) = Some (KeyRange key)
+of_board (board_faults.Extra path) = Some (ExtraKey path)
+
 -- bytes are the text of no image, and this is their first fault; and so of a tape for windows
 pub record IsNoImage (bytes : List ℕ) (f : Fault) : Type 0 where
   pub first : ImageFault
@@ -84,6 +108,12 @@ pub record IsNoTape (windows : List Window) (text : List ℕ) (f : Fault) : Type
   pub first : TapeFault
   pub found : tapes.first_fault text windows ≡ Some first
   pub named : of_tape first ≡ Some f
+
+-- bytes are the text of no board, and this is the first test that fails
+pub record IsNoBoard (text : List ℕ) (f : Fault) : Type 0 where
+  pub first : BoardFault
+  pub found : boards.IsFault text first
+  pub named : of_board first ≡ Some f
 
 -- bytes are the text of no firmware, and this is their first fault
 pub record IsNoText (bytes : List ℕ) (f : Fault) : Type 0 where
@@ -124,7 +154,8 @@ pub data BinAnswer (image file : List ℕ) (bytes : List ℕ) : Outcome → Type
   no_image : (f : Fault) → IsNoImage bytes f → BinAnswer image file bytes (refused image f)
   wrote : (i : Image) → IsText i bytes → BinAnswer image file bytes (done 0 [] (Some (record { name = file; bytes = i.flash })))
 
--- the answer to `compile` on the bytes of both files, the firmware being tested first
+-- the answer to `compile` on the bytes of both files, the firmware being tested first: a straight `main` is one compartment, whatever
+-- the policy
 pub data CompileAnswer (firmware board image : List ℕ) (bytes text : List ℕ) : Outcome → Type 0 where
   no_firmware : IsNoStraightText bytes → CompileAnswer firmware board image bytes text (refused firmware NotInForm)
   no_board : (w : PlainFirmware) → IsStraightText w bytes → text ≢ board_text → CompileAnswer firmware board image bytes text (refused board NotInForm)
@@ -150,6 +181,21 @@ pub data SourceAnswer (firmware : List ℕ) (policy : Policy) (tape : List ℕ) 
   ran : (w : PlainFirmware) (compartments : List ℕ) → IsFirmware w bytes → tapes.first_fault text (windows_of w) ≡ None → AreCompartmentsBy policy w compartments →
       SourceAnswer firmware policy tape steps bytes text (source_outcome w compartments text steps)
 
+-- the answer to `list` on the bytes of both files: the firmware is read and checked first, then the board is read; then come the
+-- limits of what is compiled, flash, and RAM. Status 3 is that of a memory whose blocks have more bytes than it has, by the needs
+-- on a board of that kind
+pub data ListAnswer (firmware board : List ℕ) (policy : Policy) (bytes text : List ℕ) : Outcome → Type 0 where
+  no_firmware : (f : Fault) → IsNoFirmware bytes f → ListAnswer firmware board policy bytes text (refused firmware f)
+  no_board : (w : PlainFirmware) (f : Fault) → IsFirmware w bytes → IsNoBoard text f → ListAnswer firmware board policy bytes text (refused board f)
+  too_many : (w : PlainFirmware) (b : Board) (which : LimitKind) (count : ℕ) → IsFirmware w bytes → boards.IsRead text b →
+      IsRefusedBy policy w b (planning.Limit which count) → ListAnswer firmware board policy bytes text (past_limit which count)
+  no_flash : (w : PlainFirmware) (b : Board) (c : Option ℕ) (needed available : ℕ) → IsFirmware w bytes → boards.IsRead text b →
+      IsRefusedBy policy w b (planning.Flash c needed available) → ListAnswer firmware board policy bytes text (no_room memory.Flash c needed available)
+  no_ram : (w : PlainFirmware) (b : Board) (c : Option ℕ) (needed available : ℕ) → IsFirmware w bytes → boards.IsRead text b →
+      IsRefusedBy policy w b (planning.Ram c needed available) → ListAnswer firmware board policy bytes text (no_room memory.Ram c needed available)
+  listed : (w : PlainFirmware) (b : Board) (lines : List ℕ) → IsFirmware w bytes → boards.IsRead text b → IsListing policy w b lines →
+      ListAnswer firmware board policy bytes text (done 0 lines None)
+
 -- `Has` says which bytes a source within its limit holds, and `Exceeds` that one is larger than its limit
 module _ (Has : Origin → List ℕ → Type 0) (Exceeds : Origin → Type 0) where
   -- the answer to a request: by the first source that is larger than its limit, each one before it being there, and else
@@ -165,12 +211,12 @@ module _ (Has : Origin → List ℕ → Type 0) (Exceeds : Origin → Type 0) wh
         Answer (Bin image file) (refused image (TooLarge file_limit))
     bin_read : (image file : List ℕ) (bytes : List ℕ) (o : Outcome) → Has (file_origin image) bytes →
         BinAnswer image file bytes o → Answer (Bin image file) o
-    compile_firmware_large : (firmware board image : List ℕ) → Exceeds (firmware_origin firmware) →
-        Answer (Compile firmware board image) (refused firmware (TooLarge firmware_limit))
-    compile_board_large : (firmware board image : List ℕ) (bytes : List ℕ) → Has (firmware_origin firmware) bytes → Exceeds (file_origin board) →
-        Answer (Compile firmware board image) (refused board (TooLarge file_limit))
-    compile_read : (firmware board image : List ℕ) (bytes text : List ℕ) (o : Outcome) → Has (firmware_origin firmware) bytes → Has (file_origin board) text →
-        CompileAnswer firmware board image bytes text o → Answer (Compile firmware board image) o
+    compile_firmware_large : (firmware board : List ℕ) (policy : Policy) (image : List ℕ) → Exceeds (firmware_origin firmware) →
+        Answer (Compile firmware board policy image) (refused firmware (TooLarge firmware_limit))
+    compile_board_large : (firmware board : List ℕ) (policy : Policy) (image : List ℕ) (bytes : List ℕ) → Has (firmware_origin firmware) bytes → Exceeds (file_origin board) →
+        Answer (Compile firmware board policy image) (refused board (TooLarge file_limit))
+    compile_read : (firmware board : List ℕ) (policy : Policy) (image : List ℕ) (bytes text : List ℕ) (o : Outcome) → Has (firmware_origin firmware) bytes → Has (file_origin board) text →
+        CompileAnswer firmware board image bytes text o → Answer (Compile firmware board policy image) o
     check_large : (firmware : List ℕ) → Exceeds (firmware_origin firmware) →
         Answer (Check firmware) (refused firmware (TooLarge firmware_limit))
     check_read : (firmware : List ℕ) (bytes : List ℕ) (o : Outcome) → Has (firmware_origin firmware) bytes →
@@ -181,6 +227,12 @@ module _ (Has : Origin → List ℕ → Type 0) (Exceeds : Origin → Type 0) wh
         Answer (Source firmware policy tape steps) (refused tape (TooLarge file_limit))
     source_read : (firmware : List ℕ) (policy : Policy) (tape : List ℕ) (steps : ℕ) (bytes text : List ℕ) (o : Outcome) → Has (firmware_origin firmware) bytes → Has (file_origin tape) text →
         SourceAnswer firmware policy tape steps bytes text o → Answer (Source firmware policy tape steps) o
+    list_firmware_large : (firmware board : List ℕ) (policy : Policy) → Exceeds (firmware_origin firmware) →
+        Answer (Listing firmware board policy) (refused firmware (TooLarge firmware_limit))
+    list_board_large : (firmware board : List ℕ) (policy : Policy) (bytes : List ℕ) → Has (firmware_origin firmware) bytes → Exceeds (file_origin board) →
+        Answer (Listing firmware board policy) (refused board (TooLarge file_limit))
+    list_read : (firmware board : List ℕ) (policy : Policy) (bytes text : List ℕ) (o : Outcome) → Has (firmware_origin firmware) bytes → Has (file_origin board) text →
+        ListAnswer firmware board policy bytes text o → Answer (Listing firmware board policy) o
 
   -- the answer to any words
   pub data Answers (words : List (List ℕ)) : Outcome → Type 0 where

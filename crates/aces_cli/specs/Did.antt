@@ -7,13 +7,13 @@ use Rattle.aces_reports.specs.declared.failure.Done.{Done}
 use Rattle.aces_reports.specs.declared.failure.Done.TheVariants.{Well, Badly}
 use Rattle.aces_reports.specs.declared.failure.Fault.{Fault}
 use Rattle.aces_reports.specs.declared.failure.Failure.{Failure}
-use Rattle.aces_reports.specs.declared.failure.Failure.TheVariants.{Refused, Unread, Unwritten, Unprinted, NoMemory}
+use Rattle.aces_reports.specs.declared.failure.Failure.TheVariants.{Refused, PastLimit, NoRoom, Unread, Unwritten, Unprinted, NoMemory}
 use Rattle.aces_words.specs.declared.policy.Policy.{Policy}
 use Rattle.aces_words.specs.Requests.{Request, Source, Asks, Origin, origins, target}
 use Rattle.aces_cli.specs.Known.{Held, IsMissing, IsNamed}
 use Rattle.aces_reports.specs.FaultLines.{unread_line, unwritten_line, unprinted_line, memory_line}
 use Rattle.aces_reports.specs.Sinks.{SinkState, Says}
-use Rattle.aces_cli.specs.Answer.{Outcome, Written, Answers, refused}
+use Rattle.aces_cli.specs.Answer.{Outcome, Written, Answers, refused, past_limit, no_room}
 
 -- the files as they are seen, and the sink of what is printed
 pub record World : Type 0 where
@@ -96,9 +96,9 @@ module _ (Answer : Outcome → Type 0) (request : Request) (old new : World) whe
     pub silent : outcome.line ≡ []
     pub all : IsCarriedOut old new outcome
 
-  -- a file's content was refused
-  pub record IsRefused (name : List ℕ) (f : Fault) : Type 0 where
-    pub answer : Answer (refused name f)
+  -- it was refused so, and nothing was printed or written
+  pub record IsRefused (outcome : Outcome) : Type 0 where
+    pub answer : Answer outcome
     pub quiet : Quiet old new
     pub read_faults : new.read_faults ≡ old.read_faults
 
@@ -117,7 +117,9 @@ module _ (Answer : Outcome → Type 0) (request : Request) (old new : World) whe
   abbrev pub Does : Result Done Failure → Type 0
   Does (Ok Well) = IsDone 0
   Does (Ok Badly) = IsDone 7
-  Does (Err (Refused name fault)) = IsRefused name.now fault
+  Does (Err (Refused name fault)) = IsRefused (refused name.now fault)
+  Does (Err (PastLimit which count)) = IsRefused (past_limit which count)
+  Does (Err (NoRoom memory compartment needed available)) = IsRefused (no_room memory compartment needed available)
   Does (Err (Unread name)) = IsUnread request old new name.now
   Does (Err (Unwritten name)) = IsUnwritten request old new name.now × IsPart
   Does (Err Unprinted) = IsUnprinted old new × IsPart

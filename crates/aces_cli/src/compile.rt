@@ -4,6 +4,7 @@ ghost use Rattle.std.specs.Prelude.{◌≡◌, IfOk, IfErr};
 ghost use Rattle.ir_model.specs.Plain as plain;
 ghost use Rattle.straight.specs.Form.{IsStraight};
 ghost use Rattle.aces_words.specs.Requests.{Compile};
+ghost use Rattle.aces_words.specs.declared.policy.Policy.{Policy};
 ghost use Rattle.aces_cli.specs.Known.{IsKnown, IsKnownLarge};
 ghost use Rattle.aces_cli.specs.Answer.{Answer};
 ghost use Rattle.aces_cli.specs.Compiled.{IsCompiled, IsImageOf};
@@ -25,7 +26,8 @@ use straight_text::{StraightRefusal, read_straight};
 const BOARD: &[u8] =
     b"[flash]\nbase = 0x08000000\nsize = 262144\n[ram]\nbase = 0x20000000\nsize = 65536\nstack = 2048\n";
 
-/// Writes the image of a firmware for a board to a file. Whatever takes the output is left as it is.
+/// Writes the image of a firmware for a board to a file: the same under each policy, since a straight `main` is one compartment.
+/// Whatever takes the output is left as it is.
 pub(crate) fn compile<'a, F: Files>(
     alloc: Global,
     firmware: &'a str,
@@ -33,9 +35,9 @@ pub(crate) fn compile<'a, F: Files>(
     image: &'a str,
     files: &mut F,
 ) -> Result<Done, Failure<'a>>
-    ensures { (out : SinkState) → Does
-        (Answer (IsKnown F.Files files.old) (IsKnownLarge F.Files files.old) (Compile firmware.now board.now image.now))
-        (Compile firmware.now board.now image.now) (world F.Files files.old out) (world F.Files files.new out) result }
+    ensures { (out : SinkState) (policy : Policy) → Does
+        (Answer (IsKnown F.Files files.old) (IsKnownLarge F.Files files.old) (Compile firmware.now board.now policy image.now))
+        (Compile firmware.now board.now policy image.now) (world F.Files files.old out) (world F.Files files.new out) result }
 {
     let bytes = load_firmware(alloc, files, firmware)?;
     let text = load(alloc, files, board)?;

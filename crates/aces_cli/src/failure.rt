@@ -1,14 +1,17 @@
 //! The failures that faults of files are.
 
 ghost use Rattle.std.specs.Prelude.{◌≡◌, Some};
-ghost use Rattle.aces_cli.specs.Answer.{of_image, of_tape, of_text};
-ghost use Rattle.aces_cli.specs.Loads.{IsContentFailure, of_check};
+ghost use Rattle.aces_reports.specs.declared.failure.Failure.TheVariants.{NoRoom};
+ghost use Rattle.aces_cli.specs.Answer.{of_board, of_image, of_tape, of_text};
+ghost use Rattle.aces_cli.specs.Loads.{IsContentFailure, of_check, of_planning};
 
-use aces_reports::{Failure, Fault};
+use aces_reports::{Failure, Fault, Memory};
+use board_text::fault::BoardFault;
 use device_model::tape::TapeFault;
 use image::fault::ImageFault;
 use ir_check::CheckFault;
 use ir_reader::TextFault;
+use planning::PlanningRefusal;
 
 /// The failure that a fault of an image is.
 pub(crate) fn image_failure(name: &str, fault: ImageFault) -> Failure<'_>
@@ -55,6 +58,56 @@ pub(crate) fn check_failure(name: &str, fault: CheckFault) -> Failure<'_>
     match fault {
         CheckFault::NoMemory => Failure::NoMemory,
         CheckFault::At { kind, place } => refused(name, Fault::IllTyped { kind, place }),
+    }
+}
+
+/// The failure that a fault of a board is.
+pub(crate) fn board_failure(name: &str, fault: BoardFault) -> Failure<'_>
+    ensures { IsContentFailure (λ f. of_board fault ≡ Some f) name.now result }
+{
+    match fault {
+        BoardFault::NoMemory => Failure::NoMemory,
+        BoardFault::NotToml => refused(name, Fault::NotToml),
+        BoardFault::Missing(key) => refused(name, Fault::MissingKey { key }),
+        BoardFault::Kind(key) => refused(name, Fault::KeyKind { key }),
+        BoardFault::Range(key) => refused(name, Fault::KeyRange { key }),
+        BoardFault::Extra(path) => refused(name, Fault::ExtraKey { path }),
+    }
+}
+
+/// The failure that a refusal of planning is.
+pub(crate) fn planning_failure<'a>(refusal: PlanningRefusal) -> Failure<'a>
+    ensures { result ≡ of_planning refusal }
+{
+    match refusal {
+        PlanningRefusal::NoMemory => Failure::NoMemory,
+        PlanningRefusal::Limit { which, count } => Failure::PastLimit { which, count },
+        PlanningRefusal::Flash {
+            compartment,
+            needed,
+            available,
+        } => no_room(Memory::Flash, compartment, needed, available),
+        PlanningRefusal::Ram {
+            compartment,
+            needed,
+            available,
+        } => no_room(Memory::Ram, compartment, needed, available),
+    }
+}
+
+fn no_room<'a>(
+    memory: Memory,
+    compartment: Option<u32>,
+    needed: u64,
+    available: u64,
+) -> Failure<'a>
+    ensures { result ≡ NoRoom memory compartment needed available }
+{
+    Failure::NoRoom {
+        memory,
+        compartment,
+        needed,
+        available,
     }
 }
 

@@ -5,6 +5,7 @@ mod bin;
 mod check;
 mod compile;
 mod failure;
+mod list;
 mod loading;
 mod run;
 mod source;
@@ -25,8 +26,8 @@ use outside::{Files, Sink};
 use std::alloc::Global;
 
 /// Carries out what the words behind the program's name ask for, and answers the exit status: 0 done, 1 a fault in
-/// the content of a file, 2 words that are no request, 4 a file that was not read, 5 a file or output that was not
-/// written, 6 want of memory, 7 a run that ended by a stop or by a halt other than 0.
+/// the content of a file, 2 words that are no request, 3 a board without room for a firmware, 4 a file that was not read, 5 a
+/// file or output that was not written, 6 want of memory, 7 a run that ended by a stop or by a halt other than 0.
 ///
 /// Where the status is neither 0 nor 7, one line on `err` tells why. A fault of `err` changes no status.
 pub fn aces<F: Files, O: Sink, E: Sink>(
@@ -121,6 +122,7 @@ fn perform<'a, F: Files, O: Sink>(
         Command::Compile {
             firmware,
             board,
+            policy: _,
             image,
         } => compile::compile(alloc, firmware, board, image, files),
         Command::Check { firmware } => check::check(alloc, firmware, files, out),
@@ -130,5 +132,10 @@ fn perform<'a, F: Files, O: Sink>(
             tape,
             steps,
         } => source::source(alloc, firmware, policy, tape, steps, files, out),
+        Command::List {
+            firmware,
+            board,
+            policy,
+        } => list::list(alloc, firmware, board, policy, files, out),
     }
 }

@@ -6,16 +6,20 @@ ghost use Rattle.ir_model.specs.Plain as plain;
 ghost use Rattle.device_model.specs.Tape as tapes;
 ghost use Rattle.aces_words.specs.Requests.{file_origin, firmware_origin, file_limit, firmware_limit};
 ghost use Rattle.aces_cli.specs.Known.{IsKnown, IsKnownLarge};
-ghost use Rattle.aces_cli.specs.Answer.{IsNoImage, IsNoTape, IsNoFirmware, IsFirmware};
+ghost use Rattle.plan_model.specs.Boards.{IsBoard};
+ghost use Rattle.board_text.specs.Reading as boards;
+ghost use Rattle.aces_cli.specs.Answer.{IsNoImage, IsNoTape, IsNoFirmware, IsFirmware, IsNoBoard};
 ghost use Rattle.aces_cli.specs.Loads.{IsContentFailure, IsLoadFailure};
 
-use crate::failure::{check_failure, image_failure, tape_failure, text_failure};
+use crate::failure::{board_failure, check_failure, image_failure, tape_failure, text_failure};
 use aces_reports::{Failure, Fault};
+use board_text::read_board;
 use device_model::image::{Image, Window};
 use device_model::tape::Tape;
 use ir_check::check;
 use ir_model::checked::Checked;
 use outside::{Files, ReadRefusal, read_whole};
+use plan_model::plan::Board;
 use std::alloc::Global;
 
 /// How many bytes an image, a tape or a board may have.
@@ -136,5 +140,17 @@ pub(crate) fn firmware_of<'a>(
     match check(alloc, firmware) {
         Ok(checked) => Ok(checked),
         Err((_, fault)) => Err(check_failure(name, fault)),
+    }
+}
+
+/// The board that these bytes of a file describe.
+pub(crate) fn board_of<'a>(alloc: Global, name: &'a str, text: &[u8]) -> Result<Board, Failure<'a>>
+    ensures ok { IfOk result (boards.IsRead text.now) }
+    ensures board { IfOk result IsBoard }
+    ensures err { IfErr result (λ e. IsContentFailure (IsNoBoard text.now) name.now e) }
+{
+    match read_board(alloc, text) {
+        Ok(board) => Ok(board),
+        Err(fault) => Err(board_failure(name, fault)),
     }
 }

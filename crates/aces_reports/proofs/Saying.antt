@@ -32,5 +32,5 @@ says_digit a c n h p =
     let e : n % 10 ≡ n = omega arith in
     subst (Says a c) (ap (λ d. (48 + d) ∷ []) e ∙ sym (decimal_digit n h)) p
 
-pub says_digits : (a b c : SinkState) (n : ℕ) → 10 ≤ n → n < 2 ^ 32 → b.told ≡ a.told → Says a b (decimal (n / 10)) → Says b c ((48 + n % 10) ∷ []) → Says a c (decimal n)
+pub says_digits : (a b c : SinkState) (n : ℕ) → 10 ≤ n → n < 2 ^ 64 → b.told ≡ a.told → Says a b (decimal (n / 10)) → Says b c ((48 + n % 10) ∷ []) → Says a c (decimal n)
 says_digits a b c n h k t p q = subst (Says a c) (sym (decimal_step n h (omega arith))) (says_both a b c _ _ t p q)

@@ -1,5 +1,5 @@
 -- The one line that tells why a call was refused.
-use Rattle.std.specs.Prelude.{ℕ, List, [], ◌∷◌, ◌++◌, codes}
+use Rattle.std.specs.Prelude.{ℕ, List, [], ◌∷◌, ◌++◌, Option, Some, None, codes}
 use Rattle.std.specs.Fmt.{decimal}
 use Rattle.ir_model.specs.declared.token.Pos.{Pos}
 use Rattle.ir_model.specs.declared.token.TextLimit.{TextLimit}
@@ -9,7 +9,12 @@ use Rattle.ir_model.specs.declared.check.CheckKind.TheVariants as kind
 use Rattle.ir_model.specs.declared.check.Place.{Place}
 use Rattle.ir_model.specs.declared.check.Place.TheVariants as place
 use Rattle.aces_reports.specs.declared.failure.Fault.{Fault}
-use Rattle.aces_reports.specs.declared.failure.Fault.TheVariants.{TooLarge, Short, Magic, Version, Field, Trailing, BadLine, UnknownPeripheral, NotInForm, NotUtf8, Syntax, NumberTooWide, Limit, IllTyped}
+use Rattle.aces_reports.specs.declared.failure.Fault.TheVariants.{TooLarge, Short, Magic, Version, Field, Trailing, BadLine, UnknownPeripheral, NotInForm, NotUtf8, Syntax, NumberTooWide, Limit, IllTyped, NotToml, MissingKey, KeyKind, KeyRange, ExtraKey}
+use Rattle.aces_reports.specs.declared.failure.Memory.{Memory}
+use Rattle.aces_reports.specs.declared.failure.Memory.TheVariants as memory
+use Rattle.board_text.specs.Keys.{path_of}
+use Rattle.plan_model.specs.declared.limits.LimitKind.{LimitKind}
+use Rattle.plan_model.specs.declared.limits.LimitKind.TheVariants as compiled
 
 -- what closes a line
 abbrev pub line_feed : List ℕ
@@ -26,6 +31,10 @@ counted name before n after = codes "aces: " ++ name ++ before ++ decimal n ++ a
 -- a file's name, a line and a column of it, and a text behind them
 abbrev pub placed : (name : List ℕ) → Pos → (text : List ℕ) → List ℕ
 placed name pos text = codes "aces: " ++ name ++ codes ":" ++ decimal pos.line ++ codes ":" ++ decimal pos.col ++ text
+
+-- a file's name, and a key of it behind a text
+abbrev pub keyed : (name text key : List ℕ) → List ℕ
+keyed name text key = codes "aces: " ++ name ++ text ++ key ++ line_feed
 
 -- what passes a limit of texts
 abbrev pub limit_word : TextLimit → List ℕ
@@ -82,6 +91,44 @@ fault_line name (Syntax pos) = placed name pos (codes ": syntax" ++ line_feed)
 fault_line name (NumberTooWide pos) = placed name pos (codes ": number too wide" ++ line_feed)
 fault_line name (Limit which pos) = placed name pos (codes ": limit " ++ limit_word which ++ line_feed)
 fault_line name (IllTyped kind place) = about name (codes ": " ++ kind_text kind ++ codes " in " ++ place_text place ++ line_feed)
+fault_line name NotToml = about name (codes ": not TOML" ++ line_feed)
+fault_line name (MissingKey key) = keyed name (codes ": missing ") (path_of key)
+fault_line name (KeyKind key) = keyed name (codes ": kind ") (path_of key)
+fault_line name (KeyRange key) = keyed name (codes ": range ") (path_of key)
+fault_line name (ExtraKey path) = keyed name (codes ": extra ") path
+
+-- what a firmware has too much of to be compiled
+abbrev pub compiled_word : LimitKind → List ℕ
+compiled_word compiled.Compartments = codes "compartments"
+compiled_word compiled.Lent = codes "lent"
+compiled_word compiled.Sites = codes "sites"
+compiled_word compiled.Targets = codes "targets"
+
+-- how much there is of something, behind its word
+abbrev pub count_text : (count : ℕ) → List ℕ
+count_text count = codes " " ++ decimal count ++ line_feed
+
+-- a limit of what is compiled is passed
+abbrev pub limit_line : LimitKind → (count : ℕ) → List ℕ
+limit_line which count = codes "aces: limit " ++ compiled_word which ++ count_text count
+
+abbrev pub memory_word : Memory → List ℕ
+memory_word memory.Flash = codes "flash"
+memory_word memory.Ram = codes "ram"
+
+-- a compartment, or `-` where there is none
+abbrev pub compartment_word : Option ℕ → List ℕ
+compartment_word None = codes "-"
+compartment_word (Some c) = decimal c
+
+-- how many bytes are needed, and how many there are
+abbrev pub bytes_text : (needed available : ℕ) → List ℕ
+bytes_text needed available = codes ": needs " ++ decimal needed ++ codes " of " ++ decimal available ++ codes " bytes" ++ line_feed
+
+-- a memory has no room: the compartment that takes most of it, what is needed, and what there is
+abbrev pub room_line : Memory → (compartment : Option ℕ) → (needed available : ℕ) → List ℕ
+room_line m c needed available =
+    codes "aces: " ++ memory_word m ++ codes ": compartment " ++ compartment_word c ++ bytes_text needed available
 
 abbrev pub usage_line : List ℕ
 usage_line = codes "aces: usage" ++ line_feed

@@ -3,8 +3,11 @@
 ghost use Rattle.std.specs.Prelude.{◌≡◌};
 ghost use Rattle.aces_reports.specs.declared.failure.Failure.TheVariants.{NoMemory};
 
+use board_text::key::Key;
 use ir_model::check::{CheckKind, Place};
 use ir_model::token::{Pos, TextLimit};
+use listed::Listed;
+use plan_model::limits::LimitKind;
 use std::alloc::AllocError;
 
 /// How a command ends that nothing stopped.
@@ -47,17 +50,54 @@ pub enum Fault {
     Limit { which: TextLimit, pos: Pos },
     /// A check of a firmware fails, the first in their order.
     IllTyped { kind: CheckKind, place: Place },
+    /// The text of a board is no TOML document.
+    NotToml,
+    /// A table or key of a board is not there.
+    MissingKey { key: Key },
+    /// A key of a board is no table, no integer or no text.
+    KeyKind { key: Key },
+    /// A key of a board has another value than it may have.
+    KeyRange { key: Key },
+    /// A further key stands in the text of a board.
+    ExtraKey { path: Listed<u8> },
+}
+
+/// A memory of a board.
+#[derive(Clone, Copy)]
+pub enum Memory {
+    Flash,
+    Ram,
 }
 
 /// What stopped a command.
 #[derive(Drop)]
 pub enum Failure<'a> {
     /// The content of a file: status 1.
-    Refused { name: &'a str, fault: Fault },
+    Refused {
+        name: &'a str,
+        fault: Fault,
+    },
+    /// A firmware has more of this than is compiled: status 1.
+    PastLimit {
+        which: LimitKind,
+        count: u32,
+    },
+    /// The blocks of a firmware need more bytes than a memory of the board has: status 3. The compartment is the one that takes
+    /// most of it, if one does.
+    NoRoom {
+        memory: Memory,
+        compartment: Option<u32>,
+        needed: u64,
+        available: u64,
+    },
     /// A file that was not read: status 4.
-    Unread { name: &'a str },
+    Unread {
+        name: &'a str,
+    },
     /// A file that was not written: status 5.
-    Unwritten { name: &'a str },
+    Unwritten {
+        name: &'a str,
+    },
     /// Output that was not written: status 5.
     Unprinted,
     /// Want of memory: status 6.

@@ -2,14 +2,17 @@
 
 ghost use Rattle.std.specs.Prelude.{◌≡◌, ◌++◌, Err};
 ghost use Rattle.std.specs.Fmt.{decimal};
+ghost use Rattle.board_text.specs.Keys.{path_of};
 ghost use Rattle.aces_reports.specs.FaultLines as lines;
 ghost use Rattle.aces_reports.specs.Ends.{status_of, line_of};
 ghost use Rattle.aces_reports.specs.Sinks.{Says, sink};
 
-use crate::failure::{Done, Failure, Fault};
+use crate::failure::{Done, Failure, Fault, Memory};
+use board_text::key::Key;
 use ir_model::check::{CheckKind, Place};
 use ir_model::token::{Pos, TextLimit};
 use outside::Sink;
+use plan_model::limits::LimitKind;
 
 /// The exit status of how a command ended. Where something stopped it, its line is put.
 pub fn report<E: Sink>(ended: Result<Done, Failure>, err: &mut E) -> u8
@@ -31,7 +34,8 @@ fn failure_status(failure: &Failure) -> u8
     ensures { result ≡ status_of (Err failure.now) }
 {
     match failure {
-        Failure::Refused { .. } => 1,
+        Failure::Refused { .. } | Failure::PastLimit { .. } => 1,
+        Failure::NoRoom { .. } => 3,
         Failure::Unread { .. } => 4,
         Failure::Unwritten { .. } | Failure::Unprinted => 5,
         Failure::NoMemory => 6,
@@ -44,6 +48,13 @@ fn say_failure<E: Sink>(err: &mut E, failure: &Failure)
 {
     match failure {
         Failure::Refused { name, fault } => say_fault(err, name.as_bytes(), fault),
+        Failure::PastLimit { which, count } => say_past_limit(err, *which, *count),
+        Failure::NoRoom {
+            memory,
+            compartment,
+            needed,
+            available,
+        } => say_no_room(err, *memory, *compartment, *needed, *available),
         Failure::Unread { name } => {
             say_named(err, b"aces: cannot read ", name.as_bytes(), b"\n")
         }
@@ -73,7 +84,7 @@ fn say_named<E: Sink>(err: &mut E, before: &[u8], name: &[u8], after: &[u8])
 }
 
 /// Puts the decimal digits of a number.
-fn say_number<E: Sink>(err: &mut E, number: u32)
+fn say_number<E: Sink>(err: &mut E, number: u64)
     ensures { Says (sink E.Sink err.old) (sink E.Sink err.new) (decimal number) }
 {
     if number >= 10 {
@@ -88,7 +99,7 @@ fn say_counted<E: Sink>(err: &mut E, name: &[u8], before: &[u8], number: u32, af
         (lines.counted name.now before.now number after.now) }
 {
     say_named(err, b"aces: ", name, before);
-    say_number(err, number);
+    say_number(err, u64::from(number));
     say(err, after);
 }
 
@@ -98,7 +109,7 @@ fn say_placed<E: Sink>(err: &mut E, name: &[u8], pos: Pos, text: &[u8])
         (lines.placed name.now pos text.now) }
 {
     say_counted(err, name, b":", pos.line, b":");
-    say_number(err, pos.col);
+    say_number(err, u64::from(pos.col));
     say(err, text);
 }
 
@@ -166,7 +177,7 @@ fn say_frame<E: Sink>(err: &mut E, bytes: u32)
         (lines.kind_text (CheckKind.FrameTooLarge bytes)) }
 {
     say(err, b"frame of ");
-    say_number(err, bytes);
+    say_number(err, u64::from(bytes));
     say(err, b" bytes");
 }
 
@@ -194,7 +205,7 @@ fn say_instruction<E: Sink>(err: &mut E, func: &[u8], block: &[u8], inst: u32)
 {
     say_named(err, func, b" block ", block);
     say(err, b" instruction ");
-    say_number(err, inst);
+    say_number(err, u64::from(inst));
 }
 
 /// Puts the line on a check of a firmware that fails.
@@ -207,6 +218,102 @@ fn say_check<E: Sink>(err: &mut E, name: &[u8], kind: &CheckKind, place: &Place)
     say(err, b" in ");
     say_place(err, place);
     say(err, b"\n");
+}
+
+/// Puts a line on a key of a file: its name, and the key behind a text.
+fn say_keyed<E: Sink>(err: &mut E, name: &[u8], text: &[u8], key: &[u8])
+    ensures { Says (sink E.Sink err.old) (sink E.Sink err.new)
+        (lines.keyed name.now text.now key.now) }
+{
+    say_named(err, b"aces: ", name, text);
+    say_both(err, key, b"\n");
+}
+
+/// The same of a key of a board.
+fn say_key<E: Sink>(err: &mut E, name: &[u8], text: &[u8], key: Key)
+    ensures { Says (sink E.Sink err.old) (sink E.Sink err.new)
+        (lines.keyed name.now text.now (path_of key)) }
+{
+    say_keyed(err, name, text, key.path().as_bytes());
+}
+
+/// What a firmware has too much of to be compiled.
+fn compiled_word(which: LimitKind) -> &'static [u8]
+    ensures { result.now ≡ lines.compiled_word which }
+{
+    match which {
+        LimitKind::Compartments => b"compartments",
+        LimitKind::Lent => b"lent",
+        LimitKind::Sites => b"sites",
+        LimitKind::Targets => b"targets",
+    }
+}
+
+/// Puts the line on a limit of what is compiled.
+fn say_past_limit<E: Sink>(err: &mut E, which: LimitKind, count: u32)
+    ensures { Says (sink E.Sink err.old) (sink E.Sink err.new) (lines.limit_line which count) }
+{
+    say(err, b"aces: limit ");
+    say(err, compiled_word(which));
+    say_count(err, count);
+}
+
+/// Puts how much there is of something, behind its word.
+fn say_count<E: Sink>(err: &mut E, count: u32)
+    ensures { Says (sink E.Sink err.old) (sink E.Sink err.new) (lines.count_text count) }
+{
+    say(err, b" ");
+    say_number(err, u64::from(count));
+    say(err, b"\n");
+}
+
+/// The word of a memory.
+fn memory_word(memory: Memory) -> &'static [u8]
+    ensures { result.now ≡ lines.memory_word memory }
+{
+    match memory {
+        Memory::Flash => b"flash",
+        Memory::Ram => b"ram",
+    }
+}
+
+/// Puts a compartment, or `-` where there is none.
+fn say_compartment<E: Sink>(err: &mut E, compartment: Option<u32>)
+    ensures { Says (sink E.Sink err.old) (sink E.Sink err.new) (lines.compartment_word compartment) }
+{
+    match compartment {
+        None => say(err, b"-"),
+        Some(compartment) => say_number(err, u64::from(compartment)),
+    }
+}
+
+/// Puts the line on a memory that has no room.
+fn say_no_room<E: Sink>(
+    err: &mut E,
+    memory: Memory,
+    compartment: Option<u32>,
+    needed: u64,
+    available: u64,
+)
+    ensures { Says (sink E.Sink err.old) (sink E.Sink err.new)
+        (lines.room_line memory compartment needed available) }
+{
+    say(err, b"aces: ");
+    say(err, memory_word(memory));
+    say(err, b": compartment ");
+    say_compartment(err, compartment);
+    say_bytes(err, needed, available);
+}
+
+/// Puts how many bytes are needed, and how many there are.
+fn say_bytes<E: Sink>(err: &mut E, needed: u64, available: u64)
+    ensures { Says (sink E.Sink err.old) (sink E.Sink err.new) (lines.bytes_text needed available) }
+{
+    say(err, b": needs ");
+    say_number(err, needed);
+    say(err, b" of ");
+    say_number(err, available);
+    say(err, b" bytes\n");
 }
 
 /// Puts the line on a fault in the content of a file.
@@ -231,5 +338,10 @@ fn say_fault<E: Sink>(err: &mut E, name: &[u8], fault: &Fault)
         Fault::NumberTooWide { pos } => say_placed(err, name, *pos, b": number too wide\n"),
         Fault::Limit { which, pos } => say_limit(err, name, *which, *pos),
         Fault::IllTyped { kind, place } => say_check(err, name, kind, place),
+        Fault::NotToml => say_named(err, b"aces: ", name, b": not TOML\n"),
+        Fault::MissingKey { key } => say_key(err, name, b": missing ", *key),
+        Fault::KeyKind { key } => say_key(err, name, b": kind ", *key),
+        Fault::KeyRange { key } => say_key(err, name, b": range ", *key),
+        Fault::ExtraKey { path } => say_keyed(err, name, b": extra ", path.as_slice()),
     }
 }

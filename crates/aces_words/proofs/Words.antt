@@ -5,7 +5,7 @@ use Rattle.std.specs.Fmt.{decimal}
 use Rattle.std.proofs.lemmas.Slice.Eq.{bytes_eq-Decides}
 use Rattle.std.proofs.Common.{◌≡◌, ℕ, ◌<◌, ◌≤◌, ◌^◌, List, [], ◌∷◌, length, get_or, map, true, Option, Some, None, IfNone, ap, sym, ◌∙◌, arith}
 use Rattle.aces_words.specs.declared.policy.Policy.{Policy}
-use Rattle.aces_words.specs.Requests.{Run, Bin, Compile, Check, Source, policy_word, Asks, IsUsage}
+use Rattle.aces_words.specs.Requests.{Run, Bin, Compile, Check, Source, Listing, policy_word, Asks, IsUsage}
 
 module _ {S : Type 0} (f : S → List ℕ) where
   two : (xs : List S) (a b : S) → 2 ≤ length xs → length xs < 3 → a ≡ get_or xs 0 a → b ≡ get_or xs 1 b → f a ∷ f b ∷ [] ≡ map f xs
@@ -61,6 +61,14 @@ module _ {S : Type 0} (f : S → List ℕ) where
   third (x ∷ y ∷ []) c h t n1 n2 n3 ns s = let e : ⊥ = omega (arith, h) in absurd e
   third (x ∷ y ∷ z ∷ xs) c h t n1 n2 n3 ns s = let q : n3 ≡ f z = cc in q ∙ ap f (sym t)
 
+  -- and the fourth
+  fourth : (xs : List S) (d : S) → 4 ≤ length xs → d ≡ get_or xs 3 d → (n1 n2 n3 n4 : List ℕ) (ns : List (List ℕ)) → n1 ∷ n2 ∷ n3 ∷ n4 ∷ ns ≡ map f xs → n4 ≡ f d
+  fourth [] d h t n1 n2 n3 n4 ns s = let e : ⊥ = omega (arith, h) in absurd e
+  fourth (x ∷ []) d h t n1 n2 n3 n4 ns s = let e : ⊥ = omega (arith, h) in absurd e
+  fourth (x ∷ y ∷ []) d h t n1 n2 n3 n4 ns s = let e : ⊥ = omega (arith, h) in absurd e
+  fourth (x ∷ y ∷ z ∷ []) d h t n1 n2 n3 n4 ns s = let e : ⊥ = omega (arith, h) in absurd e
+  fourth (x ∷ y ∷ z ∷ u ∷ xs) d h t n1 n2 n3 n4 ns s = let q : n4 ≡ f u = cc in q ∙ ap f (sym t)
+
   -- an item's text, where that is the word
   same_word : (a : S) (name word : List ℕ) → name ≡ f a → bytes_eq name word ≡ true → word ≡ f a
   same_word a name word e h = sym ((bytes_eq-Decides name word).0 h) ∙ e
@@ -85,14 +93,14 @@ module _ {S : Type 0} (f : S → List ℕ) where
         ∙ four xs a b c d h k p q r s;
   }
 
-  pub compile_words : (xs : List S) (a b c d e : S) (name firmware board policy image : List ℕ) → 5 ≤ length xs → length xs < 6
+  pub compile_words : (xs : List S) (a b c d e : S) (name firmware board : List ℕ) (policy : Policy) (policy_text image : List ℕ) → 5 ≤ length xs → length xs < 6
       → a ≡ get_or xs 0 a → b ≡ get_or xs 1 b → c ≡ get_or xs 2 c → d ≡ get_or xs 3 d → e ≡ get_or xs 4 e
-      → name ≡ f a → bytes_eq name (codes "compile") ≡ true → firmware ≡ f b → board ≡ f c → policy ≡ f d → bytes_eq policy (codes "filename") ≡ true → image ≡ f e
-      → Asks (map f xs) (Compile firmware board image)
-  compile_words xs a b c d e name firmware board policy image h k p q r s t n1 n2 i j m1 m2 l = record {
+      → name ≡ f a → bytes_eq name (codes "compile") ≡ true → firmware ≡ f b → board ≡ f c → policy_text ≡ f d → policy_word policy ≡ policy_text → image ≡ f e
+      → Asks (map f xs) (Compile firmware board policy image)
+  compile_words xs a b c d e name firmware board policy policy_text image h k p q r s t n1 n2 i j m1 m2 l = record {
     within = tt;
-    spelled = ap (λ v. v ∷ firmware ∷ board ∷ codes "filename" ∷ image ∷ []) (same_word a name (codes "compile") n1 n2) ∙ ap (λ v. f a ∷ v ∷ board ∷ codes "filename" ∷ image ∷ []) i
-        ∙ ap (λ v. f a ∷ f b ∷ v ∷ codes "filename" ∷ image ∷ []) j ∙ ap (λ v. f a ∷ f b ∷ f c ∷ v ∷ image ∷ []) (same_word d policy (codes "filename") m1 m2)
+    spelled = ap (λ v. v ∷ firmware ∷ board ∷ policy_word policy ∷ image ∷ []) (same_word a name (codes "compile") n1 n2) ∙ ap (λ v. f a ∷ v ∷ board ∷ policy_word policy ∷ image ∷ []) i
+        ∙ ap (λ v. f a ∷ f b ∷ v ∷ policy_word policy ∷ image ∷ []) j ∙ ap (λ v. f a ∷ f b ∷ f c ∷ v ∷ image ∷ []) (m2 ∙ m1)
         ∙ ap (λ v. f a ∷ f b ∷ f c ∷ f d ∷ v ∷ []) l ∙ five xs a b c d e h k p q r s t;
   }
 
@@ -115,6 +123,17 @@ module _ {S : Type 0} (f : S → List ℕ) where
         ∙ ap (λ v. f a ∷ f b ∷ f c ∷ f d ∷ v ∷ []) (n ∙ l) ∙ five xs a b c d e h k p q r s t;
   }
 
+  pub list_words : (xs : List S) (a b c d : S) (name firmware board : List ℕ) (policy : Policy) (policy_text : List ℕ) → 4 ≤ length xs → length xs < 5
+      → a ≡ get_or xs 0 a → b ≡ get_or xs 1 b → c ≡ get_or xs 2 c → d ≡ get_or xs 3 d
+      → name ≡ f a → bytes_eq name (codes "list") ≡ true → firmware ≡ f b → board ≡ f c → policy_text ≡ f d → policy_word policy ≡ policy_text
+      → Asks (map f xs) (Listing firmware board policy)
+  list_words xs a b c d name firmware board policy policy_text h k p q r s n1 n2 i j m1 m2 = record {
+    within = tt;
+    spelled = ap (λ v. v ∷ firmware ∷ board ∷ policy_word policy ∷ []) (same_word a name (codes "list") n1 n2) ∙ ap (λ v. f a ∷ v ∷ board ∷ policy_word policy ∷ []) i
+        ∙ ap (λ v. f a ∷ f b ∷ v ∷ policy_word policy ∷ []) j ∙ ap (λ v. f a ∷ f b ∷ f c ∷ v ∷ []) (m2 ∙ m1)
+        ∙ four xs a b c d h k p q r s;
+  }
+
   -- five words of which the last is no number
   pub no_steps : (xs : List S) (e : S) (word : List ℕ) → 5 ≤ length xs → length xs < 6 → e ≡ get_or xs 4 e → word ≡ f e
       → ((n : ℕ) → n < 2 ^ 32 → decimal n ≡ word → ⊥) → (firmware : List ℕ) (policy : Policy) (tape : List ℕ) (steps : ℕ) → Asks (map f xs) (Source firmware policy tape steps) → ⊥
@@ -127,6 +146,18 @@ module _ {S : Type 0} (f : S → List ℕ) where
   no_source_policy xs c word h k t m none firmware policy tape steps asks =
       none policy (third xs c h t (codes "source") firmware (policy_word policy) (tape ∷ decimal steps ∷ []) asks.spelled ∙ sym m)
 
+  -- five words of which the fourth is that of no policy
+  pub no_compile_policy : (xs : List S) (d : S) (word : List ℕ) → 5 ≤ length xs → d ≡ get_or xs 3 d → word ≡ f d
+      → ((p : Policy) → policy_word p ≡ word → ⊥) → (firmware board : List ℕ) (policy : Policy) (image : List ℕ) → Asks (map f xs) (Compile firmware board policy image) → ⊥
+  no_compile_policy xs d word h t m none firmware board policy image asks =
+      none policy (fourth xs d (omega arith) t (codes "compile") firmware board (policy_word policy) (image ∷ []) asks.spelled ∙ sym m)
+
+  -- and four of which it is
+  pub no_list_policy : (xs : List S) (d : S) (word : List ℕ) → 4 ≤ length xs → d ≡ get_or xs 3 d → word ≡ f d
+      → ((p : Policy) → policy_word p ≡ word → ⊥) → (firmware board : List ℕ) (policy : Policy) → Asks (map f xs) (Listing firmware board policy) → ⊥
+  no_list_policy xs d word h t m none firmware board policy asks =
+      none policy (fourth xs d h t (codes "list") firmware board (policy_word policy) [] asks.spelled ∙ sym m)
+
 -- what holds of a missing value, and what follows of it
 pub none_also : {X : Type 0} (o : Option X) (P Q : Type 0) → (P → Q) → IfNone o P → IfNone o Q
 none_also None P Q m h = m h
@@ -134,10 +165,12 @@ none_also (Some x) P Q m h = tt
 
 -- words that are those of no command are those of no request
 pub no_request : (words : List (List ℕ)) → ((image tape : List ℕ) (steps : ℕ) → Asks words (Run image tape steps) → ⊥) → ((image file : List ℕ) → Asks words (Bin image file) → ⊥) →
-    ((firmware board image : List ℕ) → Asks words (Compile firmware board image) → ⊥) → ((firmware : List ℕ) → Asks words (Check firmware) → ⊥) →
-    ((firmware : List ℕ) (policy : Policy) (tape : List ℕ) (steps : ℕ) → Asks words (Source firmware policy tape steps) → ⊥) → IsUsage words
-no_request words x y z u v (Run image tape steps) asks = x image tape steps asks
-no_request words x y z u v (Bin image file) asks = y image file asks
-no_request words x y z u v (Compile firmware board image) asks = z firmware board image asks
-no_request words x y z u v (Check firmware) asks = u firmware asks
-no_request words x y z u v (Source firmware policy tape steps) asks = v firmware policy tape steps asks
+    ((firmware board : List ℕ) (policy : Policy) (image : List ℕ) → Asks words (Compile firmware board policy image) → ⊥) → ((firmware : List ℕ) → Asks words (Check firmware) → ⊥) →
+    ((firmware : List ℕ) (policy : Policy) (tape : List ℕ) (steps : ℕ) → Asks words (Source firmware policy tape steps) → ⊥) →
+    ((firmware board : List ℕ) (policy : Policy) → Asks words (Listing firmware board policy) → ⊥) → IsUsage words
+no_request words x y z u v l (Run image tape steps) asks = x image tape steps asks
+no_request words x y z u v l (Bin image file) asks = y image file asks
+no_request words x y z u v l (Compile firmware board policy image) asks = z firmware board policy image asks
+no_request words x y z u v l (Check firmware) asks = u firmware asks
+no_request words x y z u v l (Source firmware policy tape steps) asks = v firmware policy tape steps asks
+no_request words x y z u v l (Listing firmware board policy) asks = l firmware board policy asks

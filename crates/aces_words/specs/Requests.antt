@@ -15,28 +15,32 @@ pub data Request : Type 0 where
   Run : (image tape : List ℕ) → (steps : ℕ) → Request
   -- write the flash bytes of an image to a file
   Bin : (image file : List ℕ) → Request
-  -- write the image of a firmware for a board, each file of the firmware being a compartment
-  Compile : (firmware board image : List ℕ) → Request
+  -- write the image of a firmware for a board, the compartments being those of a policy
+  Compile : (firmware board : List ℕ) → Policy → (image : List ℕ) → Request
   -- read and check a firmware
   Check : (firmware : List ℕ) → Request
   -- run the source of a firmware on a tape for at most so many steps, the compartments being those of a policy
   Source : (firmware : List ℕ) → Policy → (tape : List ℕ) → (steps : ℕ) → Request
+  -- list the compartments of a firmware on a board, by a policy
+  Listing : (firmware board : List ℕ) → Policy → Request
 
 -- the words of a request; a number is written by its decimal digits, without a leading zero
 abbrev pub words_of : Request → List (List ℕ)
 words_of (Run image tape steps) = codes "run" ∷ image ∷ tape ∷ decimal steps ∷ []
 words_of (Bin image file) = codes "bin" ∷ image ∷ file ∷ []
-words_of (Compile firmware board image) = codes "compile" ∷ firmware ∷ board ∷ codes "filename" ∷ image ∷ []
+words_of (Compile firmware board policy image) = codes "compile" ∷ firmware ∷ board ∷ policy_word policy ∷ image ∷ []
 words_of (Check firmware) = codes "check" ∷ firmware ∷ []
 words_of (Source firmware policy tape steps) = codes "source" ∷ firmware ∷ policy_word policy ∷ tape ∷ decimal steps ∷ []
+words_of (Listing firmware board policy) = codes "list" ∷ firmware ∷ board ∷ policy_word policy ∷ []
 
 -- its numbers have at most 32 bits
 abbrev pub IsWithin : Request → Type 0
 IsWithin (Run image tape steps) = steps < 2 ^ 32
 IsWithin (Bin image file) = Unit {0}
-IsWithin (Compile firmware board image) = Unit {0}
+IsWithin (Compile firmware board policy image) = Unit {0}
 IsWithin (Check firmware) = Unit {0}
 IsWithin (Source firmware policy tape steps) = steps < 2 ^ 32
+IsWithin (Listing firmware board policy) = Unit {0}
 
 -- these words are those of the request
 pub record Asks (words : List (List ℕ)) (request : Request) : Type 0 where
@@ -70,14 +74,16 @@ firmware_origin name = record { name = name; limit = firmware_limit }
 abbrev pub origins : Request → List Origin
 origins (Run image tape steps) = file_origin image ∷ file_origin tape ∷ []
 origins (Bin image file) = file_origin image ∷ []
-origins (Compile firmware board image) = firmware_origin firmware ∷ file_origin board ∷ []
+origins (Compile firmware board policy image) = firmware_origin firmware ∷ file_origin board ∷ []
 origins (Check firmware) = firmware_origin firmware ∷ []
 origins (Source firmware policy tape steps) = firmware_origin firmware ∷ file_origin tape ∷ []
+origins (Listing firmware board policy) = firmware_origin firmware ∷ file_origin board ∷ []
 
 -- the file that it writes
 abbrev pub target : Request → Option (List ℕ)
 target (Run image tape steps) = None
 target (Bin image file) = Some file
-target (Compile firmware board image) = Some image
+target (Compile firmware board policy image) = Some image
 target (Check firmware) = None
 target (Source firmware policy tape steps) = None
+target (Listing firmware board policy) = None

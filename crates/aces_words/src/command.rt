@@ -2,7 +2,7 @@
 
 ghost use Rattle.std.specs.Prelude.{◌≡◌, ◌↔◌, ◌^◌, ◌<◌, ℕ, List, map, string_bytes, IsTrue, IfSome, IfNone};
 ghost use Rattle.std.specs.Fmt.{decimal};
-ghost use Rattle.aces_words.specs.Requests.{Run, Bin, Compile, Check, Source, Asks, IsUsage};
+ghost use Rattle.aces_words.specs.Requests.{Run, Bin, Compile, Check, Source, Listing, Asks, IsUsage};
 ghost use Rattle.aces_words.specs.declared.policy.Policy.{Policy as ThePolicy};
 ghost use Rattle.aces_words.specs.Commands.{request_of};
 
@@ -22,10 +22,11 @@ pub enum Command<'a> {
         image: &'a str,
         file: &'a str,
     },
-    /// Writes the image of a firmware for a board, each file of the firmware being a compartment.
+    /// Writes the image of a firmware for a board, the compartments being those of a policy.
     Compile {
         firmware: &'a str,
         board: &'a str,
+        policy: Policy,
         image: &'a str,
     },
     /// Reads and checks a firmware.
@@ -38,6 +39,12 @@ pub enum Command<'a> {
         policy: Policy,
         tape: &'a str,
         steps: u32,
+    },
+    /// Lists the compartments of a firmware on a board, by a policy.
+    List {
+        firmware: &'a str,
+        board: &'a str,
+        policy: Policy,
     },
 }
 
@@ -59,7 +66,10 @@ impl<'a> Command<'a> {
         if let Some(command) = check_of(words) {
             return Some(command);
         }
-        source_of(words)
+        if let Some(command) = source_of(words) {
+            return Some(command);
+        }
+        list_of(words)
     }
 }
 
@@ -95,17 +105,18 @@ fn bin_of(words: &[String]) -> Option<Command<'_>>
     }
 }
 
-/// `compile FIRMWARE BOARD filename IMAGE`, if the words are of that form.
+/// `compile FIRMWARE BOARD POLICY IMAGE`, if the words are of that form.
 fn compile_of(words: &[String]) -> Option<Command<'_>>
     ensures command { IfSome result (λ c. Asks (map string_bytes words.now) (request_of c)) }
-    ensures none { IfNone result ((firmware board image : List ℕ) → Asks (map string_bytes words.now) (Compile firmware board image) → ⊥) }
+    ensures none { IfNone result ((firmware board : List ℕ) (policy : ThePolicy) (image : List ℕ) → Asks (map string_bytes words.now) (Compile firmware board policy image) → ⊥) }
 {
     match words {
-        [name, firmware, board, policy, image]
-            if name.as_str() == "compile" && policy.as_str() == "filename" => {
+        [name, firmware, board, policy, image] if name.as_str() == "compile" => {
+            let policy = Policy::of_word(policy.as_str())?;
             Some(Command::Compile {
                 firmware: firmware.as_str(),
                 board: board.as_str(),
+                policy,
                 image: image.as_str(),
             })
         }
@@ -140,6 +151,24 @@ fn source_of(words: &[String]) -> Option<Command<'_>>
                 policy,
                 tape: tape.as_str(),
                 steps,
+            })
+        }
+        _ => None,
+    }
+}
+
+/// `list FIRMWARE BOARD POLICY`, if the words are of that form.
+fn list_of(words: &[String]) -> Option<Command<'_>>
+    ensures command { IfSome result (λ c. Asks (map string_bytes words.now) (request_of c)) }
+    ensures none { IfNone result ((firmware board : List ℕ) (policy : ThePolicy) → Asks (map string_bytes words.now) (Listing firmware board policy) → ⊥) }
+{
+    match words {
+        [name, firmware, board, policy] if name.as_str() == "list" => {
+            let policy = Policy::of_word(policy.as_str())?;
+            Some(Command::List {
+                firmware: firmware.as_str(),
+                board: board.as_str(),
+                policy,
             })
         }
         _ => None,

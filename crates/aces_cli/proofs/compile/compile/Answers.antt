@@ -11,9 +11,9 @@ use Rattle.aces_cli.proofs.Ends.{load_failed, compile_failed, did_end}
 use Rattle.aces_cli.proofs.compile.compile.Goals as goal
 
 pub returns-in_err-bytes : goal.returns-in_err-bytes
-returns-in_err-bytes g c out =
+returns-in_err-bytes g c out policy =
     let firmware = c.args.firmware.now in
-    let r = Compile firmware c.args.board.now c.args.image.now in
+    let r = Compile firmware c.args.board.now policy c.args.image.now in
     let large = IsKnownLarge g.F.Files c.args.files.now in
     let all = Answer (IsKnown g.F.Files c.args.files.now) large r in
     let old = world g.F.Files c.args.files.now out in
@@ -22,15 +22,15 @@ returns-in_err-bytes g c out =
     subst (Does all r old new) (sym x.1)
     (load_failed all large r (firmware_origin firmware) old new
     (record { held = c.load_firmware.ensures.same; write_faults = c.load_firmware.ensures.writes; out = refl })
-    (inl refl) (λ t n. inl (refl, n)) (λ e. compile_firmware_large firmware c.args.board.now c.args.image.now e) x.0
+    (inl refl) (λ t n. inl (refl, n)) (λ e. compile_firmware_large firmware c.args.board.now policy c.args.image.now e) x.0
     (subst (IsLoadFailure large old.told old.held (firmware_origin firmware) old.read_faults new.read_faults) (sym x.2) c.in_err-bytes.ensures.err))
 
 pub returns-in_err-text : goal.returns-in_err-text
-returns-in_err-text g c out =
+returns-in_err-text g c out policy =
     let firmware = c.args.firmware.now in
     let board = c.args.board.now in
     let image = c.args.image.now in
-    let r = Compile firmware board image in
+    let r = Compile firmware board policy image in
     let told = g.F.Files.told in
     let large : Held → Origin → Type 0 = λ held s. WasTooLarge g.F.Files s × (IsTrue told → Exceeds held s) in
     let all = Answer (IsKnown g.F.Files c.args.files.now) (IsKnownLarge g.F.Files c.args.files.now) r in
@@ -46,14 +46,14 @@ returns-in_err-text g c out =
     (load_failed all (large old.held) r (file_origin board) old new
     (record { held = c.load.ensures.same ∙ c.load_firmware.ensures.same; write_faults = c.load.ensures.writes ∙ c.load_firmware.ensures.writes; out = refl })
     (inr (inl refl)) (λ t n. inr ((bytes, c.in_ok-bytes.ensures.ok.1 t), inl (refl, n)))
-    (λ e. compile_board_large firmware board image bytes c.in_ok-bytes.ensures.ok e) x.0 reads_too)
+    (λ e. compile_board_large firmware board policy image bytes c.in_ok-bytes.ensures.ok e) x.0 reads_too)
 
 pub returns-in_err-compiled : goal.returns-in_err-compiled
-returns-in_err-compiled g c out =
+returns-in_err-compiled g c out policy =
     let firmware = c.args.firmware.now in
     let board = c.args.board.now in
     let image = c.args.image.now in
-    let r = Compile firmware board image in
+    let r = Compile firmware board policy image in
     let bytes = c.in_ok-bytes.bytes.items in
     let text = c.in_ok-text.text.items in
     let all = Answer (IsKnown g.F.Files c.args.files.now) (IsKnownLarge g.F.Files c.args.files.now) r in
@@ -65,16 +65,16 @@ returns-in_err-compiled g c out =
     (compile_failed all firmware board bytes text r old new
     (record { held = c.load.ensures.same ∙ c.load_firmware.ensures.same; write_faults = c.load.ensures.writes ∙ c.load_firmware.ensures.writes; out = refl })
     (c.in_ok-text.ensures.reads ∙ c.in_ok-bytes.ensures.reads)
-    (λ n. compile_read firmware board image bytes text _ c.in_ok-bytes.ensures.ok known (no_firmware n))
-    (λ w s n. compile_read firmware board image bytes text _ c.in_ok-bytes.ensures.ok known (no_board w s n)) x.0
+    (λ n. compile_read firmware board policy image bytes text _ c.in_ok-bytes.ensures.ok known (no_firmware n))
+    (λ w s n. compile_read firmware board policy image bytes text _ c.in_ok-bytes.ensures.ok known (no_board w s n)) x.0
     (subst (IsCompileFailure firmware board bytes text) (sym x.2) (rw (c.as_slice.ensures.value, c.as_slice-2.ensures.value) at c.in_err-compiled.ensures.err)))
 
 pub returns-in-Ok : goal.returns-in-Ok
-returns-in-Ok g c out =
+returns-in-Ok g c out policy =
     let firmware = c.args.firmware.now in
     let board = c.args.board.now in
     let image = c.args.image.now in
-    let r = Compile firmware board image in
+    let r = Compile firmware board policy image in
     let bytes = c.in_ok-bytes.bytes.items in
     let text = c.in_ok-text.text.items in
     let written = c.in_ok-compiled.compiled.items in
@@ -82,7 +82,7 @@ returns-in-Ok g c out =
     let known = rw c.load_firmware.ensures.same at c.in_ok-text.ensures.ok in
     did_end all r (world g.F.Files c.args.files.now out) (world g.F.Files c.write.new.files out)
     (done 0 [] (Some (record { name = image; bytes = written }))) Well
-    (compile_read firmware board image bytes text _ c.in_ok-bytes.ensures.ok known
+    (compile_read firmware board policy image bytes text _ c.in_ok-bytes.ensures.ok known
     (compiled written (rw (c.as_slice.ensures.value, c.as_slice-2.ensures.value) at c.in_ok-compiled.ensures.ok)))
     refl refl
     (record {
@@ -94,7 +94,7 @@ returns-in-Ok g c out =
     })
 
 pub returns : goal.returns
-returns g c out =
+returns g c out policy =
     let firmware = c.args.firmware.now in
     let board = c.args.board.now in
     let image = c.args.image.now in
@@ -110,7 +110,7 @@ returns g c out =
       },
       record {
         outcome = done 0 [] (Some (record { name = image; bytes = written }));
-        answer = compile_read firmware board image bytes text _ c.in_ok-bytes.ensures.ok known
+        answer = compile_read firmware board policy image bytes text _ c.in_ok-bytes.ensures.ok known
             (compiled written (rw (c.as_slice.ensures.value, c.as_slice-2.ensures.value) at c.in_ok-compiled.ensures.ok));
         part = record {
           printed = λ t. (0, sym (append-nil out.written));

@@ -1,0 +1,33 @@
+-- Listings, and boards that are refused.
+use Rattle.std.proofs.Common.{◌≡◌, ℕ, List, None, Some, sym, subst}
+use Rattle.aces_words.specs.declared.policy.Policy.{Policy}
+use Rattle.ir_model.specs.Plain.{PlainFirmware}
+use Rattle.plan_model.specs.declared.plan.Board.{Board}
+use Rattle.board_text.specs.declared.fault.BoardFault.{BoardFault}
+use Rattle.board_text.specs.Reading.{IsRead, IsFault}
+use Rattle.planning.specs.declared.refusal.PlanningRefusal.{PlanningRefusal}
+use Rattle.planning.specs.declared.refusal.PlanningRefusal.TheVariants.{NoMemory, Limit, Flash, Ram}
+use Rattle.firmware_listing.specs.Listings.{IsUnplanned}
+use Rattle.aces_reports.specs.declared.failure.Failure.{Failure}
+use Rattle.aces_cli.specs.Answer.{IsFirmware, IsNoBoard, of_board, ListAnswer, too_many, no_flash, no_ram}
+use Rattle.aces_cli.specs.Loads.{IsContentFailure, IsRefusal, of_planning}
+use Rattle.aces_cli.proofs.Firmwares.{content_also}
+
+-- bytes that fail a test describe no board
+pub board_refused : (text name : List ℕ) (first : BoardFault) (e : Failure) → IsFault text first → IsContentFailure (λ f. of_board first ≡ Some f) name e
+    → IsContentFailure (IsNoBoard text) name e
+board_refused text name first e h =
+    content_also (λ f. of_board first ≡ Some f) (IsNoBoard text) (λ f q. record { first = first; found = h; named = q }) name e
+
+-- a firmware that is not planned
+unplanned : (firmware board : List ℕ) (policy : Policy) (bytes text : List ℕ) (w : PlainFirmware) (b : Board) → IsFirmware w bytes → IsRead text b
+    → (r : PlanningRefusal) → IsUnplanned policy w b r → IsRefusal (ListAnswer firmware board policy bytes text) (of_planning r)
+unplanned firmware board policy bytes text w b f k NoMemory h = tt
+unplanned firmware board policy bytes text w b f k (Limit which count) h = too_many w b which count f k h
+unplanned firmware board policy bytes text w b f k (Flash c n a) h = no_flash w b c n a f k h
+unplanned firmware board policy bytes text w b f k (Ram c n a) h = no_ram w b c n a f k h
+
+pub planning_refused : (firmware board : List ℕ) (policy : Policy) (bytes text : List ℕ) (w : PlainFirmware) (b : Board) → IsFirmware w bytes → IsRead text b
+    → (r : PlanningRefusal) (e : Failure) → IsUnplanned policy w b r → e ≡ of_planning r → IsRefusal (ListAnswer firmware board policy bytes text) e
+planning_refused firmware board policy bytes text w b f k r e h q =
+    subst (IsRefusal (ListAnswer firmware board policy bytes text)) (sym q) (unplanned firmware board policy bytes text w b f k r h)

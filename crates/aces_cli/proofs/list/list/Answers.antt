@@ -1,0 +1,111 @@
+use Rattle.std.proofs.Common.{◌∙◌, inl, inr, IsTrue, None, refl, sym, subst}
+use Rattle.std.proofs.lemmas.Result.{err_from_is_err_and}
+use Rattle.aces_reports.specs.declared.failure.Done.TheVariants.{Well}
+use Rattle.aces_words.specs.Requests.{Listing, Origin, file_origin, firmware_origin}
+use Rattle.aces_cli.specs.Known.{Held, Exceeds, WasTooLarge, IsKnown, IsKnownLarge}
+use Rattle.aces_cli.specs.Answer.{Answer, ListAnswer, list_firmware_large, list_board_large, list_read, done}
+use Rattle.aces_reports.specs.Sinks.{sink}
+use Rattle.aces_cli.specs.Did.{Does, world}
+use Rattle.aces_cli.specs.Loads.{IsLoadFailure, IsRefusal}
+use Rattle.aces_cli.proofs.Ends.{load_failed, refusal_did, refusal_also, did_end}
+use Rattle.aces_cli.proofs.list.list.Goals as goal
+
+pub returns-in_err-bytes : goal.returns-in_err-bytes
+returns-in_err-bytes g c =
+    let firmware = c.args.firmware.now in
+    let r = Listing firmware c.args.board.now c.args.policy in
+    let large = IsKnownLarge g.F.Files c.args.files.now in
+    let all = Answer (IsKnown g.F.Files c.args.files.now) large r in
+    let old = world g.F.Files c.args.files.now (sink g.O.Sink c.args.out.now) in
+    let new = world g.F.Files c.load_firmware.new.files (sink g.O.Sink c.args.out.now) in
+    let x = err_from_is_err_and c.from_residual.result c.from_residual.ensures.1 in
+    subst (Does all r old new) (sym x.1)
+    (load_failed all large r (firmware_origin firmware) old new
+    (record { held = c.load_firmware.ensures.same; write_faults = c.load_firmware.ensures.writes; out = refl })
+    (inl refl) (λ t n. inl (refl, n)) (λ e. list_firmware_large firmware c.args.board.now c.args.policy e) x.0
+    (subst (IsLoadFailure large old.told old.held (firmware_origin firmware) old.read_faults new.read_faults) (sym x.2) c.in_err-bytes.ensures.err))
+
+pub returns-in_err-text : goal.returns-in_err-text
+returns-in_err-text g c =
+    let firmware = c.args.firmware.now in
+    let board = c.args.board.now in
+    let r = Listing firmware board c.args.policy in
+    let told = g.F.Files.told in
+    let large : Held → Origin → Type 0 = λ held s. WasTooLarge g.F.Files s × (IsTrue told → Exceeds held s) in
+    let all = Answer (IsKnown g.F.Files c.args.files.now) (IsKnownLarge g.F.Files c.args.files.now) r in
+    let old = world g.F.Files c.args.files.now (sink g.O.Sink c.args.out.now) in
+    let mid = world g.F.Files c.load_firmware.new.files (sink g.O.Sink c.args.out.now) in
+    let new = world g.F.Files c.load.new.files (sink g.O.Sink c.args.out.now) in
+    let bytes = c.in_ok-bytes.bytes.items in
+    let x = err_from_is_err_and c.from_residual-in_err-text.result c.from_residual-in_err-text.ensures.1 in
+    let failed = subst (IsLoadFailure (large mid.held) told mid.held (file_origin board) mid.read_faults new.read_faults) (sym x.2) c.in_err-text.ensures.err in
+    let held_too = subst (λ h. IsLoadFailure (large h) told h (file_origin board) mid.read_faults new.read_faults x.0) c.load_firmware.ensures.same failed in
+    let reads_too = subst (λ k. IsLoadFailure (large old.held) told old.held (file_origin board) k new.read_faults x.0) c.in_ok-bytes.ensures.reads held_too in
+    subst (Does all r old new) (sym x.1)
+    (load_failed all (large old.held) r (file_origin board) old new
+    (record { held = c.load.ensures.same ∙ c.load_firmware.ensures.same; write_faults = c.load.ensures.writes ∙ c.load_firmware.ensures.writes; out = refl })
+    (inr (inl refl)) (λ t n. inr ((bytes, c.in_ok-bytes.ensures.ok.1 t), inl (refl, n)))
+    (λ e. list_board_large firmware board c.args.policy bytes c.in_ok-bytes.ensures.ok e) x.0 reads_too)
+
+pub returns-in_err-lines : goal.returns-in_err-lines
+returns-in_err-lines g c =
+    let firmware = c.args.firmware.now in
+    let board = c.args.board.now in
+    let policy = c.args.policy in
+    let r = Listing firmware board policy in
+    let bytes = c.in_ok-bytes.bytes.items in
+    let text = c.in_ok-text.text.items in
+    let of = g.F.Files in
+    let files = c.args.files.now in
+    let all = Answer (IsKnown of files) (IsKnownLarge of files) r in
+    let some = ListAnswer firmware board policy bytes text in
+    let old = world of files (sink g.O.Sink c.args.out.now) in
+    let new = world of c.load.new.files (sink g.O.Sink c.args.out.now) in
+    let known = rw c.load_firmware.ensures.same at c.in_ok-text.ensures.ok in
+    let x = err_from_is_err_and c.from_residual-in_err-lines.result c.from_residual-in_err-lines.ensures.1 in
+    let here = rw (c.as_slice.ensures.value, c.as_slice-2.ensures.value) at c.in_err-lines.ensures.err in
+    subst (Does all r old new) (sym x.1)
+    (refusal_did all r old new
+    (record { held = c.load.ensures.same ∙ c.load_firmware.ensures.same; write_faults = c.load.ensures.writes ∙ c.load_firmware.ensures.writes; out = refl })
+    (c.in_ok-text.ensures.reads ∙ c.in_ok-bytes.ensures.reads) x.0
+    (refusal_also some all (λ o a. list_read firmware board policy bytes text o c.in_ok-bytes.ensures.ok known a) x.0
+    (subst (IsRefusal some) (sym x.2) here)))
+
+pub returns-in-Ok : goal.returns-in-Ok
+returns-in-Ok g c =
+    let firmware = c.args.firmware.now in
+    let board = c.args.board.now in
+    let policy = c.args.policy in
+    let r = Listing firmware board policy in
+    let of = g.F.Files in
+    let files = c.args.files.now in
+    let known = rw c.load_firmware.ensures.same at c.in_ok-text.ensures.ok in
+    did_end (Answer (IsKnown of files) (IsKnownLarge of files) r) r (world of files (sink g.O.Sink c.args.out.now)) (world of c.load.new.files (sink g.O.Sink c.put.new.self))
+    (done 0 c.in_ok-lines.lines.items None) Well
+    (list_read firmware board policy c.in_ok-bytes.bytes.items c.in_ok-text.text.items _ c.in_ok-bytes.ensures.ok known
+    (rw (c.as_slice.ensures.value, c.as_slice-2.ensures.value) at c.in_ok-lines.ensures.ok))
+    refl refl
+    (record {
+      printed = λ t. rw c.as_slice-3.ensures.value at (c.put.ensures.bytes t);
+      held = c.load.ensures.same ∙ c.load_firmware.ensures.same;
+      read_faults = c.in_ok-text.ensures.reads ∙ c.in_ok-bytes.ensures.reads;
+      write_faults = c.load.ensures.writes ∙ c.load_firmware.ensures.writes;
+      faults = c.put.ensures.faultless;
+    })
+
+pub returns : goal.returns
+returns g c =
+    let known = rw c.load_firmware.ensures.same at c.in_ok-text.ensures.ok in (
+      record {
+        rose = c.put.ensures.cause;
+        held = c.load.ensures.same ∙ c.load_firmware.ensures.same;
+        read_faults = c.in_ok-text.ensures.reads ∙ c.in_ok-bytes.ensures.reads;
+        write_faults = c.load.ensures.writes ∙ c.load_firmware.ensures.writes;
+      },
+      record {
+        outcome = done 0 c.in_ok-lines.lines.items None;
+        answer = list_read c.args.firmware.now c.args.board.now c.args.policy c.in_ok-bytes.bytes.items c.in_ok-text.text.items _ c.in_ok-bytes.ensures.ok known
+            (rw (c.as_slice.ensures.value, c.as_slice-2.ensures.value) at c.in_ok-lines.ensures.ok);
+        part = record { printed = λ t. rw c.as_slice-3.ensures.value at c.put.ensures.failed; held = c.load.ensures.same ∙ c.load_firmware.ensures.same };
+      },
+    )

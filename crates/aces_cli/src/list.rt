@@ -1,0 +1,69 @@
+//! `list`: the compartments of a firmware on a board.
+
+ghost use Rattle.std.specs.Prelude.{◌≤◌, None, IfOk, IfErr, length};
+ghost use Rattle.aces_words.specs.Requests.{Listing, firmware_limit};
+ghost use Rattle.aces_cli.specs.Known.{IsKnown, IsKnownLarge};
+ghost use Rattle.aces_cli.specs.Answer.{Answer, ListAnswer, done};
+ghost use Rattle.aces_cli.specs.Loads.{IsRefusal};
+ghost use Rattle.aces_reports.specs.Sinks.{sink};
+ghost use Rattle.aces_cli.specs.Did.{Does, world};
+
+use crate::failure::planning_failure;
+use crate::loading::{board_of, firmware_of, load, load_firmware};
+use aces_reports::{Done, Failure};
+use aces_words::Policy;
+use firmware_listing::listing_of;
+use outside::{Files, Sink};
+use std::alloc::Global;
+
+/// Prints the compartments of a firmware by a policy, and what lies where on a board.
+pub(crate) fn list<'a, F: Files, O: Sink>(
+    alloc: Global,
+    firmware: &'a str,
+    board: &'a str,
+    policy: Policy,
+    files: &mut F,
+    out: &mut O,
+) -> Result<Done, Failure<'a>>
+    ensures { Does
+        (Answer (IsKnown F.Files files.old) (IsKnownLarge F.Files files.old) (Listing firmware.now board.now policy))
+        (Listing firmware.now board.now policy)
+        (world F.Files files.old (sink O.Sink out.old))
+        (world F.Files files.new (sink O.Sink out.new)) result }
+{
+    let bytes = load_firmware(alloc, files, firmware)?;
+    let text = load(alloc, files, board)?;
+    let lines = listed(
+        alloc,
+        firmware,
+        bytes.as_slice(),
+        board,
+        text.as_slice(),
+        policy,
+    )?;
+    match out.put(lines.as_slice()) {
+        Ok(()) => Ok(Done::Well),
+        Err(_) => Err(Failure::Unprinted),
+    }
+}
+
+/// The listing by the bytes of both files, each behind its name. No file is touched.
+fn listed<'a>(
+    alloc: Global,
+    firmware: &'a str,
+    bytes: &[u8],
+    board: &'a str,
+    text: &[u8],
+    policy: Policy,
+) -> Result<Vec<u8>, Failure<'a>>
+    requires { length bytes.now ≤ firmware_limit }
+    ensures ok { IfOk result (λ lines. ListAnswer firmware.now board.now policy bytes.now text.now (done 0 lines.items None)) }
+    ensures err { IfErr result (IsRefusal (ListAnswer firmware.now board.now policy bytes.now text.now)) }
+{
+    let checked = firmware_of(alloc, firmware, bytes)?;
+    let read = board_of(alloc, board, text)?;
+    match listing_of(alloc, &checked, &read, policy) {
+        Ok(lines) => Ok(lines),
+        Err(refusal) => Err(planning_failure(refusal)),
+    }
+}
