@@ -22,7 +22,7 @@ pub needs_of : (p : Program) (w : PlainFirmware) (S : ObjectSets) (closed : Bool
 needs_of p w S closed n e h k = record { sets = S; least = subst (λ q. IsLeast q S) e h; needs = subst (λ q. AreNeeds q S closed n) e k }
 
 -- a program has the functions of its firmware
-as_many : (w : PlainFirmware) → length (resolve w).funcs ≡ length (funcs_of w)
+pub as_many : (w : PlainFirmware) → length (resolve w).funcs ≡ length (funcs_of w)
 unfolding resolve
 as_many w = length-map (funcs_of w) (definition.resolved_func _)
 

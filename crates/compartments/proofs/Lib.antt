@@ -1,2 +1,3 @@
 mod Tables
 mod Analysing
+mod Counting

@@ -3,7 +3,8 @@
 ghost use Rattle.std.specs.Prelude.{◌≡◌, ◌<◌, length, get_or, nat_lt, IfOk};
 ghost use Rattle.std.specs.List.{list_all};
 ghost use Rattle.ir_model.specs.Plain.{firmware_of, funcs_of};
-ghost use Rattle.plan_model.specs.Compartments.{compartments};
+ghost use Rattle.ir_model.specs.Resolve.{resolve};
+ghost use Rattle.plan_model.specs.Compartments.{AreCompartments, compartments};
 ghost use Rattle.grouping.specs.Functions.{AreFunctions};
 ghost use Rattle.compartments.specs.Divisions as divisions;
 
@@ -77,9 +78,11 @@ pub fn division(
     policy: Policy,
 ) -> Result<Groups, AllocError>
     requires { length needs.now.funcs ≡ length (funcs_of (firmware_of firmware.now)) }
-    ensures { IfOk result (λ groups. groups ≡ divisions.division policy (firmware_of firmware.now) needs.now) }
+    ensures by { IfOk result (λ groups. groups ≡ divisions.division policy (firmware_of firmware.now) needs.now) }
+    ensures are { IfOk result (AreCompartments (resolve (firmware_of firmware.now))) }
 {
     let facts = facts(alloc, firmware, needs)?;
     let table = table(alloc, facts.as_slice(), policy)?;
-    grouped(alloc, table.as_slice(), facts.as_slice())
+    let made = grouped(alloc, table.as_slice(), facts.as_slice())?;
+    Ok(made)
 }

@@ -23,65 +23,75 @@ use Rattle.plan_model.specs.Placement.{Fits, plan_of}
 use Rattle.depend.specs.Checked.{LeastSetsServe}
 use Rattle.compartments.specs.Analyses.{AreNeedsOf}
 use Rattle.grouping.specs.Callbacks.{AreAnswers}
-use Rattle.linked_images.specs.Planned.{IsPlanned, plan}
+use Rattle.device_model.specs.declared.image.Image.{Image}
+use Rattle.device_model.specs.Rules.{ObeysRules}
+use Rattle.monitor.specs.Confined.{Confined}
+use Rattle.monitor.specs.Layout.{initial_word_count}
+use Rattle.simulate.specs.Refines.{Refines}
+use Rattle.linked_images.specs.Planned.{IsPlanned, plan, planned_image, planned_tables}
+use Rattle.linked_promises.specs.Regions.{ImagesObeyRules}
+use Rattle.planned_images.specs.Whole.{PlannedImagesAreConfined, PlannedImagesRefine}
 use Rattle.planning.specs.declared.planner.PlannedFirmware.{PlannedFirmware}
 use Rattle.planning.specs.Planned.{IsPlannedFor}
-use Rattle.compiler.specs.Compiled.{AreGroupsBy}
+use Rattle.compiler.specs.Compiled.{IsImageFor}
 
 -- ---- how many functions there are
 
 -- as many in the program as in the firmware
-pub as_many : (w : PlainFirmware) → length (resolve w).funcs ≡ length (funcs_of w)
+as_many : (w : PlainFirmware) → length (resolve w).funcs ≡ length (funcs_of w)
 unfolding resolve
 as_many w = length-map (funcs_of w) (definition.resolved_func _)
 
-pub routines : (p : programs.Program) (w : PlainFirmware) → program_of p ≡ resolve w → length p.funcs ≡ length (funcs_of w)
-routines p w e = sym (length-map p.funcs (routine_of (known_of p))) ∙ (ap (λ (q : Program). length q.funcs) e ∙ as_many w)
+pub routines : (p : programs.Program) (w : PlainFirmware) → program_of p ≡ resolve w → length p.funcs ≡ length (resolve w).funcs
+routines p w e = sym (length-map p.funcs (routine_of (known_of p))) ∙ ap (λ (q : Program). length q.funcs) e
 
 pub each_need : (w : PlainFirmware) (b : Board) (n : Needs) → AreNeedsOf w b.closed n → length n.funcs ≡ length (funcs_of w)
 each_need w b n h = h.needs.count ∙ as_many w
 
--- and each has its group, and its compartment
-each_group : (answers : FuncFacts → ℕ → Type 0) (fs : List FuncFacts) (groups : List ℕ) → AreAnswers answers fs groups → length groups ≡ length fs
-each_group answers fs groups h = AllZip-long answers fs groups h
-
-each_compartment : (groups : List ℕ) → length (compartments groups).of ≡ length groups
+-- and each has its compartment
+pub each_compartment : (p : Program) (g : Groups) → AreCompartments p g → length g.of ≡ length p.funcs
 unfolding compartments
-each_compartment groups = length-map groups (compartment_number groups)
+each_compartment p g h = ap (λ (x : Groups). length x.of) h.are ∙ (length-map h.groups (compartment_number h.groups) ∙ h.each)
 
-pub each_answered : (answers : FuncFacts → ℕ → Type 0) (fs : List FuncFacts) (made : Groups) → (groups : List ℕ) × AreAnswers answers fs groups × (made ≡ compartments groups)
-    → length made.of ≡ length fs
-each_answered answers fs made (groups, h, e) = ap (λ (x : Groups). length x.of) e ∙ (each_compartment groups ∙ each_group answers fs groups h)
+-- by the answers of a callback
+pub answered_compartments : (w : PlainFirmware) (n : Needs) (answers : FuncFacts → ℕ → Type 0) (fs : List FuncFacts) (g : Groups) → length fs ≡ length (funcs_of w)
+    → (groups : List ℕ) × AreAnswers answers fs groups × (g ≡ compartments groups) → AreCompartments (resolve w) g
+answered_compartments w n answers fs g e (groups, h, is) =
+    record { groups = groups; each = AllZip-long answers fs groups h ∙ (e ∙ sym (as_many w)); are = is }
 
 -- ---- a firmware that is planned
 
 pub plan_is : (w : PlainFirmware) (n : Needs) (b : Board) (g : Groups) (x : PlannedFirmware) → IsPlannedFor (resolve w) n g b x → x.plan ≡ plan w n x.graph b
 plan_is w n b g x k = k.placed.plan ∙ ap (λ (s : Sizes). plan_of (resolve w) x.graph s b) k.placed.sizes
 
-module _ (w : PlainFirmware) (n : Needs) (b : Board) (answers : FuncFacts → ℕ → Type 0) (g : Groups) (x : PlannedFirmware) (k : IsPlannedFor (resolve w) n g b x) where
-  pub by_answers : AreGroupsBy w n answers g → AreGroupsBy w n answers x.graph.groups
-  by_answers h = record { groups = h.groups; answered = h.answered; are = k.groups ∙ h.are }
-
-  are_compartments : AreGroupsBy w n answers g → length g.of ≡ length (funcs_of w) → AreCompartments (resolve w) x.graph.groups
-  are_compartments h e =
-      record {
-        groups = h.groups;
-        each = sym (each_compartment h.groups) ∙ (ap (λ (y : Groups). length y.of) (sym h.are) ∙ (e ∙ sym (as_many w)));
-        are = k.groups ∙ h.are;
-      }
-
-  pub is_planned : LeastSetsServe → IsTyped w → IsWithinLimits w → AreNeedsOf w b.closed n → IsBoard b → AreGroupsBy w n answers g → length g.of ≡ length (funcs_of w)
-      → IsPlanned w n x.graph b
-  is_planned serve typed within needs board h e =
+module _ (w : PlainFirmware) (n : Needs) (b : Board) (g : Groups) (x : PlannedFirmware) (k : IsPlannedFor (resolve w) n g b x) where
+  pub is_planned : LeastSetsServe → IsTyped w → IsWithinLimits w → AreNeedsOf w b.closed n → IsBoard b → AreCompartments (resolve w) g → IsPlanned w n x.graph b
+  is_planned serve typed within needs board are =
       record {
         typed = typed;
         within = within;
         sets = needs.sets;
         are_sets = serve (resolve w) needs.sets (record { source = w; typed = typed; limits = within; same = refl }) needs.least;
         needs = needs.needs;
-        groups = are_compartments h e;
+        groups = subst (AreCompartments (resolve w)) (sym k.groups) are;
         limits = subst (λ (y : Groups). KeepsLimits n y) (sym k.groups) k.limits;
         final = subst (λ (y : Groups). IsFinal (resolve w) n y (slots_of b) x.graph) (sym k.groups) k.final;
         board = board;
         fits = subst (λ (s : Sizes). Fits (resolve w) x.graph s b) k.placed.sizes k.placed.fits;
+      }
+
+  -- its image, with all that is promised of it
+  pub is_image : IsPlanned w n x.graph b → AreNeedsOf w b.closed n → ImagesObeyRules → PlannedImagesAreConfined → PlannedImagesRefine
+      → (i : Image) → i ≡ planned_image w n x.graph b → IsImageFor w n b g i
+  is_image is needs rules confined refined i e =
+      record {
+        graph = x.graph;
+        groups = k.groups;
+        planned = is;
+        linked = e;
+        rules = subst ObeysRules (sym e) (rules w n x.graph b is);
+        confined = subst (λ (j : Image). Confined j (planned_tables w n x.graph b)) (sym e) (confined w n x.graph b is);
+        refines = subst (λ (j : Image). Refines w n g b.stack (initial_word_count (planned_tables w n x.graph b)) j) (sym e)
+            (subst (λ (y : Groups). Refines w n y b.stack (initial_word_count (planned_tables w n x.graph b)) (planned_image w n x.graph b)) k.groups
+            (refined w needs.sets n x.graph b is needs.least needs.needs));
       }

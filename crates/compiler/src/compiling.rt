@@ -6,10 +6,12 @@ ghost use Rattle.ir_model.specs.Plain.{firmware_of, funcs_of};
 ghost use Rattle.ir_model.specs.Resolve.{resolve};
 ghost use Rattle.ir_program.specs.Seen.{program_of};
 ghost use Rattle.plan_model.specs.Boards.{IsBoard};
+ghost use Rattle.plan_model.specs.Compartments.{AreCompartments};
 ghost use Rattle.grouping.specs.Callbacks.{IsGrouping};
 ghost use Rattle.compartments.specs.Analyses.{AreNeedsOf};
 ghost use Rattle.linked_images.specs.Planned.{plan, planned_image};
-ghost use Rattle.compiler.specs.Compiled.{AreGroupsBy, IsCompiled};
+ghost use Rattle.planning.specs.Refusals.{IsPlanningRefusal};
+ghost use Rattle.compiler.specs.Compiled.{AreGroupsBy, IsCompiled, IsImageFor};
 ghost use Rattle.compiler.specs.Refusals.{IsCompileRefusal};
 
 use depend::laws::least_sets;
@@ -18,10 +20,12 @@ use grouping::facts::facts;
 use grouping::grouping::{Grouping, groups};
 use ir_model::checked::Checked;
 use ir_program::program::Program;
+use linked_promises::regions::images;
 use linker::link;
 use plan_model::groups::{FuncFacts, Groups};
 use plan_model::needs::Needs;
 use plan_model::plan::Board;
+use planned_images::laws::{confined, refined};
 use planning::{PlannedFirmware, PlanningRefusal, planned};
 use std::alloc::{AllocError, Global};
 
@@ -36,7 +40,7 @@ fn grouped<F: Fn(&FuncFacts) -> u32>(
     requires grouping { IsGrouping grouping.now.functions grouping.now.count (F.pre grouping.now.callback) (FnReturnsAt F.Fn grouping.now.callback) }
     requires each { grouping.now.functions ≡ length (funcs_of (firmware_of firmware.now)) }
     ensures by { IfOk result (AreGroupsBy (firmware_of firmware.now) needs.now (FnReturnsAt F.Fn grouping.now.callback)) }
-    ensures each { IfOk result (λ made. length made.of ≡ length (funcs_of (firmware_of firmware.now))) }
+    ensures are { IfOk result (AreCompartments (resolve (firmware_of firmware.now))) }
 {
     let facts = facts(alloc, firmware, needs)?;
     let made = groups(alloc, grouping, &facts)?;
@@ -68,8 +72,38 @@ fn linked(
     )
 }
 
-/// The image of a firmware for a board: its functions are grouped by a callback, the graph of the compartments is joined until the
-/// protection unit can hold it, all blocks are placed, and code and tables are written.
+/// The image of a firmware for a board, its compartments being these: their graph is joined until the protection unit can hold it, all
+/// blocks are placed, and code and tables are written.
+///
+/// # Errors
+///
+/// There is no memory, a limit of what is compiled is passed, or the blocks have more bytes than a memory of the board.
+pub fn compile_groups(
+    alloc: Global,
+    firmware: &Checked,
+    program: &Program,
+    needs: &Needs,
+    groups: Groups,
+    board: &Board,
+) -> Result<Image, PlanningRefusal>
+    requires program { program_of program.now ≡ resolve (firmware_of firmware.now) }
+    requires needs { AreNeedsOf (firmware_of firmware.now) board.now.closed needs.now }
+    requires groups { AreCompartments (resolve (firmware_of firmware.now)) groups }
+    requires board { IsBoard board.now }
+    ensures ok { IfOk result (IsImageFor (firmware_of firmware.now) needs.now board.now groups) }
+    ensures refused { IfErr result (IsPlanningRefusal (resolve (firmware_of firmware.now)) needs.now groups board.now) }
+{
+    firmware.firmware();
+    least_sets();
+    images();
+    confined();
+    refined();
+    let made = planned(alloc, program, needs, groups, board)?;
+    let image = linked(alloc, firmware, program, needs, &made, board)?;
+    Ok(image)
+}
+
+/// The image of a firmware for a board, its functions being grouped by a callback.
 ///
 /// # Errors
 ///
@@ -90,10 +124,7 @@ pub fn compile<F: Fn(&FuncFacts) -> u32>(
     ensures ok { IfOk result (IsCompiled (firmware_of firmware.now) needs.now board.now (FnReturnsAt F.Fn grouping.now.callback)) }
     ensures refused { IfErr result (IsCompileRefusal (firmware_of firmware.now) needs.now board.now (FnReturnsAt F.Fn grouping.now.callback)) }
 {
-    firmware.firmware();
-    least_sets();
     let groups = grouped(alloc, firmware, needs, grouping)?;
-    let made = planned(alloc, program, needs, groups, board)?;
-    let image = linked(alloc, firmware, program, needs, &made, board)?;
+    let image = compile_groups(alloc, firmware, program, needs, groups, board)?;
     Ok(image)
 }

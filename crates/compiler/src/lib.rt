@@ -1,7 +1,9 @@
-//! Compiles: makes the image of a checked firmware for a board, its functions grouped by a callback.
+//! Compiles: makes the image of a checked firmware for a board, its functions grouped by a callback or by a policy.
 #![tactic(auto)]
 
 pub mod compiling;
+pub mod policies;
 
-pub use compiling::compile;
+pub use compiling::{compile, compile_groups};
 pub use planning::PlanningRefusal as CompileRefusal;
+pub use policies::compile_by;

@@ -1,4 +1,4 @@
--- What `list` prints of a firmware, and why it prints nothing.
+-- What `list` prints of a firmware.
 use Rattle.std.specs.Prelude.{◌≡◌, ℕ, List}
 use Rattle.aces_words.specs.declared.policy.Policy.{Policy}
 use Rattle.aces_words.specs.Requests.{policy_word}
@@ -9,10 +9,7 @@ use Rattle.plan_model.specs.declared.plan.Board.{Board}
 use Rattle.compartments.specs.Analyses.{AreNeedsOf}
 use Rattle.compartments.specs.Divisions.{division}
 use Rattle.planning.specs.declared.planner.PlannedFirmware.{PlannedFirmware}
-use Rattle.planning.specs.declared.refusal.PlanningRefusal.{PlanningRefusal}
-use Rattle.planning.specs.declared.refusal.PlanningRefusal.TheVariants.{NoMemory, Limit, Flash, Ram}
 use Rattle.planning.specs.Planned.{IsPlannedFor}
-use Rattle.planning.specs.Refusals.{IsPlanningRefusal}
 use Rattle.report.specs.Listing.{listing}
 
 -- the listing of a firmware that needs so much and is planned so
@@ -28,16 +25,3 @@ pub record IsListing (policy : Policy) (w : PlainFirmware) (b : Board) (lines : 
   pub made : PlannedFirmware
   pub is_planned : IsPlannedFor (resolve w) needs (division policy w needs) b made
   pub same : lines ≡ listing_for policy w needs made b
-
--- by the same needs and compartments there is none, for this
-pub record IsRefusedBy (policy : Policy) (w : PlainFirmware) (b : Board) (r : PlanningRefusal) : Type 0 where
-  pub needs : Needs
-  pub are_needs : AreNeedsOf w b.closed needs
-  pub refused : IsPlanningRefusal (resolve w) needs (division policy w needs) b r
-
--- a refusal for want of memory says nothing else
-abbrev pub IsUnplanned : Policy → PlainFirmware → Board → PlanningRefusal → Type 0
-IsUnplanned policy w b NoMemory = Unit {0}
-IsUnplanned policy w b (Limit k c) = IsRefusedBy policy w b (Limit k c)
-IsUnplanned policy w b (Flash c m a) = IsRefusedBy policy w b (Flash c m a)
-IsUnplanned policy w b (Ram c m a) = IsRefusedBy policy w b (Ram c m a)

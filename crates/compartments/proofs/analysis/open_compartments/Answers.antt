@@ -6,5 +6,5 @@ pub returns : goal.returns
 returns c = record {
   needs = c.in_ok-needs.needs;
   are_needs = c.in_ok-needs.ensures.exact;
-  same = c.into_vec.ensures ∙ ap (λ (g : Groups). g.of) c.in_ok-groups.ensures;
+  same = c.into_vec.ensures ∙ ap (λ (g : Groups). g.of) c.in_ok-groups.ensures.by;
 }

@@ -1,4 +1,4 @@
--- How a listing ends.
+-- What planning refuses is refused by a policy.
 use Rattle.std.proofs.Common.{◌≡◌, Bool}
 use Rattle.aces_words.specs.declared.policy.Policy.{Policy}
 use Rattle.ir_model.specs.Plain.{PlainFirmware}
@@ -10,7 +10,7 @@ use Rattle.compartments.specs.Divisions.{division}
 use Rattle.planning.specs.declared.refusal.PlanningRefusal.{PlanningRefusal}
 use Rattle.planning.specs.declared.refusal.PlanningRefusal.TheVariants.{NoMemory, Limit, Flash, Ram}
 use Rattle.planning.specs.Refusals.{IsPlanningRefusal}
-use Rattle.firmware_listing.specs.Listings.{IsUnplanned}
+use Rattle.firmware_plans.specs.Unplanned.{IsUnplanned}
 
 pub unplanned : (policy : Policy) (w : PlainFirmware) (b : Board) (n : Needs) (r : PlanningRefusal) → AreNeedsOf w b.closed n
     → IsPlanningRefusal (resolve w) n (division policy w n) b r → IsUnplanned policy w b r

@@ -1,0 +1,34 @@
+use Rattle.std.proofs.Common.{subst, sym, ◌∙◌}
+use Rattle.ir_model.specs.Plain.{firmware_of}
+use Rattle.ir_model.specs.Resolve.{resolve}
+use Rattle.ir_model.specs.Resolved.{Program}
+use Rattle.planning.specs.Planned.{IsPlannedFor}
+use Rattle.compiler.proofs.Parts.{each_compartment, routines, plan_is, is_planned, is_image}
+use Rattle.compiler.proofs.compiling.compile_groups.Goals as goal
+
+pub planned-requires-clause-needs : goal.planned-requires-clause-needs
+planned-requires-clause-needs c =
+    each_compartment (resolve (firmware_of c.args.firmware.now)) c.args.groups c.requires.groups ∙ sym c.requires.needs.needs.count
+
+pub planned-requires-clause-each : goal.planned-requires-clause-each
+planned-requires-clause-each c =
+    let w = firmware_of c.args.firmware.now in
+    each_compartment (resolve w) c.args.groups c.requires.groups ∙ sym (routines c.args.program.now w c.requires.program)
+
+pub linked-requires-clause-plan : goal.linked-requires-clause-plan
+linked-requires-clause-plan c =
+    let w = firmware_of c.args.firmware.now in
+    let made = c.in_ok-made.made in
+    let planned = subst (λ (p : Program). IsPlannedFor p c.args.needs.now c.args.groups c.args.board.now made) c.requires.program c.in_ok-made.ensures.ok in
+    plan_is w c.args.needs.now c.args.board.now c.args.groups made planned
+
+pub returns-clause-ok : goal.returns-clause-ok
+returns-clause-ok c =
+    let w = firmware_of c.args.firmware.now in
+    let n = c.args.needs.now in
+    let b = c.args.board.now in
+    let groups = c.args.groups in
+    let made = c.in_ok-made.made in
+    let planned = subst (λ (p : Program). IsPlannedFor p n groups b made) c.requires.program c.in_ok-made.ensures.ok in
+    let is = is_planned w n b groups made planned c.least_sets.ensures.serve c.firmware.ensures.typed c.firmware.ensures.within c.requires.needs c.requires.board c.requires.groups in
+    is_image w n b groups made planned is c.requires.needs c.images.ensures c.confined.ensures c.refined.ensures c.in_ok-image.image c.in_ok-image.ensures

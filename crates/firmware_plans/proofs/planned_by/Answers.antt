@@ -1,0 +1,16 @@
+use Rattle.std.proofs.Common.{◌∙◌, ap, sym, length}
+use Rattle.ir_model.specs.Plain.{firmware_of}
+use Rattle.ir_model.specs.Resolve.{resolve}
+use Rattle.plan_model.specs.declared.groups.Groups.{Groups}
+use Rattle.firmware_plans.proofs.Counting.{as_many, each_compartment, each_resolved}
+use Rattle.firmware_plans.proofs.planned_by.Goals as goal
+
+pub planned-requires-clause-needs : goal.planned-requires-clause-needs
+planned-requires-clause-needs c =
+    let w = firmware_of c.args.firmware.now in
+    each_compartment (resolve w) c.in_ok-groups.groups c.in_ok-groups.ensures.are ∙ (as_many w ∙ sym c.requires.each)
+
+pub planned-requires-clause-each : goal.planned-requires-clause-each
+planned-requires-clause-each c =
+    let w = firmware_of c.args.firmware.now in
+    each_compartment (resolve w) c.in_ok-groups.groups c.in_ok-groups.ensures.are ∙ (as_many w ∙ sym (each_resolved c.args.program.now w c.requires.program))
