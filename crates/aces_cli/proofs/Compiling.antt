@@ -9,13 +9,15 @@ use Rattle.straight.specs.Image.{image_of}
 use Rattle.ir_program.specs.Windows.{window_of}
 use Rattle.aces_reports.specs.declared.failure.Fault.TheVariants.{NotInForm}
 use Rattle.aces_reports.specs.declared.failure.Failure.{Failure}
-use Rattle.aces_reports.specs.declared.failure.Failure.TheVariants.{Refused, Unread, Unwritten, Unprinted, NoMemory}
+use Rattle.aces_reports.specs.declared.failure.Failure.TheVariants.{Refused, PastLimit, NoRoom, Unread, Unwritten, Unprinted, NoMemory}
 use Rattle.aces_cli.specs.Loads.{IsContentFailure}
 use Rattle.aces_cli.specs.Compiled.{board_text, IsImageOf, IsCompiled}
 use Rattle.aces_cli.specs.CompileFailures.{IsCompileFailure}
 
 pub firmware_refused : (firmware board bytes text : List ℕ) (e : Failure) → IsContentFailure (λ f. f ≡ NotInForm) firmware e → IsNoStraightText bytes → IsCompileFailure firmware board bytes text e
 firmware_refused firmware board bytes text (Refused n f) h s = (h.1, inl (h.0, s))
+firmware_refused firmware board bytes text (PastLimit which count) h s = h
+firmware_refused firmware board bytes text (NoRoom memory c needed available) h s = h
 firmware_refused firmware board bytes text (Unread n) h s = h
 firmware_refused firmware board bytes text (Unwritten n) h s = h
 firmware_refused firmware board bytes text Unprinted h s = h
@@ -24,6 +26,8 @@ firmware_refused firmware board bytes text NoMemory h s = tt
 pub board_refused : (firmware board bytes text : List ℕ) (w : PlainFirmware) (e : Failure) → IsContentFailure (λ f. f ≡ NotInForm) board e → IsStraightText w bytes → text ≢ board_text →
     IsCompileFailure firmware board bytes text e
 board_refused firmware board bytes text w (Refused n f) h s t = (h.1, inr (h.0, (w, s), t))
+board_refused firmware board bytes text w (PastLimit which count) h s t = h
+board_refused firmware board bytes text w (NoRoom memory c needed available) h s t = h
 board_refused firmware board bytes text w (Unread n) h s t = h
 board_refused firmware board bytes text w (Unwritten n) h s t = h
 board_refused firmware board bytes text w Unprinted h s t = h

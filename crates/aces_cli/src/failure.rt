@@ -95,12 +95,7 @@ pub(crate) fn planning_failure<'a>(refusal: PlanningRefusal) -> Failure<'a>
     }
 }
 
-fn no_room<'a>(
-    memory: Memory,
-    compartment: Option<u32>,
-    needed: u64,
-    available: u64,
-) -> Failure<'a>
+fn no_room<'a>(memory: Memory, compartment: Option<u32>, needed: u64, available: u64) -> Failure<'a>
     ensures { result ≡ NoRoom memory compartment needed available }
 {
     Failure::NoRoom {

@@ -86,18 +86,18 @@ returns-in-Ok g c =
     (rw (c.as_slice.ensures.value, c.as_slice-2.ensures.value) at c.in_ok-lines.ensures.ok))
     refl refl
     (record {
-      printed = λ t. rw c.as_slice-3.ensures.value at (c.put.ensures.bytes t);
+      printed = λ t. rw c.as_slice-3.ensures.value at (c.in-Ok.ensures.bytes t);
       held = c.load.ensures.same ∙ c.load_firmware.ensures.same;
       read_faults = c.in_ok-text.ensures.reads ∙ c.in_ok-bytes.ensures.reads;
       write_faults = c.load.ensures.writes ∙ c.load_firmware.ensures.writes;
-      faults = c.put.ensures.faultless;
+      faults = c.in-Ok.ensures.counts.only_failed;
     })
 
 pub returns : goal.returns
 returns g c =
     let known = rw c.load_firmware.ensures.same at c.in_ok-text.ensures.ok in (
       record {
-        rose = c.put.ensures.cause;
+        rose = c.in-Err.ensures.cause;
         held = c.load.ensures.same ∙ c.load_firmware.ensures.same;
         read_faults = c.in_ok-text.ensures.reads ∙ c.in_ok-bytes.ensures.reads;
         write_faults = c.load.ensures.writes ∙ c.load_firmware.ensures.writes;
@@ -106,6 +106,6 @@ returns g c =
         outcome = done 0 c.in_ok-lines.lines.items None;
         answer = list_read c.args.firmware.now c.args.board.now c.args.policy c.in_ok-bytes.bytes.items c.in_ok-text.text.items _ c.in_ok-bytes.ensures.ok known
             (rw (c.as_slice.ensures.value, c.as_slice-2.ensures.value) at c.in_ok-lines.ensures.ok);
-        part = record { printed = λ t. rw c.as_slice-3.ensures.value at c.put.ensures.failed; held = c.load.ensures.same ∙ c.load_firmware.ensures.same };
+        part = record { printed = λ t. rw c.as_slice-3.ensures.value at c.in-Err.ensures.failed; held = c.load.ensures.same ∙ c.load_firmware.ensures.same };
       },
     )

@@ -29,7 +29,7 @@ pub returns-in-Ok-clause-ok : goal.returns-in-Ok-clause-ok
 returns-in-Ok-clause-ok c =
     listed (firmware_of c.in_ok-checked.checked) c.in_ok-read.read c.in-Ok.lines.items c.in_ok-checked.ensures.ok c.in_ok-read.ensures.ok c.in-Ok.ensures.ok
 
-pub returns-in-Err-clause-err : goal.returns-in-Err-clause-err
-returns-in-Err-clause-err c =
+pub returns-clause-err : goal.returns-clause-err
+returns-clause-err c =
     planning_refused c.args.firmware.now c.args.board.now c.args.policy c.args.bytes.now c.args.text.now (firmware_of c.in_ok-checked.checked) c.in_ok-read.read
     c.in_ok-checked.ensures.ok c.in_ok-read.ensures.ok c.in-Err.refusal c.planning_failure.result c.in-Err.ensures.refused c.planning_failure.ensures
