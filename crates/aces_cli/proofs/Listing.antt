@@ -7,7 +7,7 @@ use Rattle.board_text.specs.declared.fault.BoardFault.{BoardFault}
 use Rattle.board_text.specs.Reading.{IsRead, IsFault}
 use Rattle.planning.specs.declared.refusal.PlanningRefusal.{PlanningRefusal}
 use Rattle.planning.specs.declared.refusal.PlanningRefusal.TheVariants.{NoMemory, Limit, Flash, Ram}
-use Rattle.firmware_listing.specs.Listings.{IsUnplanned}
+use Rattle.firmware_plans.specs.Unplanned.{IsUnplanned}
 use Rattle.aces_reports.specs.declared.failure.Failure.{Failure}
 use Rattle.aces_cli.specs.Answer.{IsFirmware, IsNoBoard, of_board, ListAnswer, too_many, no_flash, no_ram}
 use Rattle.aces_cli.specs.Loads.{IsContentFailure, IsRefusal, of_planning}

@@ -1,5 +1,4 @@
 -- What planning refuses is refused by a policy.
-use Rattle.std.proofs.Common.{◌≡◌, Bool}
 use Rattle.aces_words.specs.declared.policy.Policy.{Policy}
 use Rattle.ir_model.specs.Plain.{PlainFirmware}
 use Rattle.ir_model.specs.Resolve.{resolve}

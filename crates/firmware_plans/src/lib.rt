@@ -65,5 +65,6 @@ pub fn planned_by(
         (divisions.division policy (firmware_of firmware.now) needs.now) board.now) }
 {
     let groups = division(alloc, firmware, needs, policy)?;
-    planned(alloc, program, needs, groups, board)
+    let made = planned(alloc, program, needs, groups, board)?;
+    Ok(made)
 }

@@ -14,3 +14,9 @@ pub planned-requires-clause-each : goal.planned-requires-clause-each
 planned-requires-clause-each c =
     let w = firmware_of c.args.firmware.now in
     each_compartment (resolve w) c.in_ok-groups.groups c.in_ok-groups.ensures.are ∙ (as_many w ∙ sym (each_resolved c.args.program.now w c.requires.program))
+
+pub returns-clause-each : goal.returns-clause-each
+returns-clause-each c =
+    let w = firmware_of c.args.firmware.now in
+    ap (λ (g : Groups). length g.of) c.in_ok-made.ensures.ok.groups
+    ∙ (each_compartment (resolve w) c.in_ok-groups.groups c.in_ok-groups.ensures.are ∙ (as_many w ∙ sym c.requires.each))
