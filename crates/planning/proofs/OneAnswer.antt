@@ -1,5 +1,5 @@
 -- Planning has one answer, where there is memory enough.
-use Rattle.std.proofs.Common.{◌≡◌, ℕ, Bool, true, false, cond, Option, Some, None, option_map, Result, Ok, Err, nat_lt, refl, sym, ap, subst, ◌∙◌}
+use Rattle.std.proofs.Common.{◌≡◌, ℕ, Bool, true, false, Option, Some, None, option_map, Err, nat_lt, refl, sym, ap, subst, ◌∙◌}
 use Rattle.std.proofs.lemmas.Bool.{le-ltb}
 use Rattle.ir_model.specs.Resolved.{Program}
 use Rattle.plan_model.specs.declared.needs.Needs.{Needs}
@@ -28,11 +28,9 @@ use Rattle.planning.specs.declared.refusal.PlanningRefusal.TheVariants.{NoMemory
 use Rattle.planning.specs.Planned.{IsPlannedFor}
 use Rattle.planning.specs.Refusals.{AreRefused, HasNoRoom, IsPlanningRefusal}
 use Rattle.planning.specs.Laws.{PlansAreOne, PlansAreNotRefused}
+use Rattle.planning.proofs.Refusing.{tried}
 
 -- ---- blocks that fit are placed
-
-abbrev tried : (a b : Bool) → (x y : PlaceRefusal) → Plan → Result Plan PlaceRefusal
-tried a b x y l = cond a (Err x) (cond b (Err y) (Ok l))
 
 untried : (a b : Bool) (x y r : PlaceRefusal) (l : Plan) → a ≡ false → b ≡ false → tried a b x y l ≡ Err r → ⊥
 untried true b x y r l e f h = cc

@@ -17,20 +17,19 @@ use Rattle.plan_model.specs.Placement.{Fits, plan_of}
 use Rattle.compile_limits.specs.Told.{told}
 use Rattle.lower.specs.Planned.{sizes_of}
 use Rattle.layout.specs.declared.refusal.PlaceRefusal.{PlaceRefusal}
-use Rattle.layout.specs.declared.refusal.PlaceRefusal.TheVariants as place
-use Rattle.layout.specs.Placing.{flash_refusal, ram_refusal, IsPlaceRefusal}
+use Rattle.layout.specs.Placing.{flash_refusal, ram_refusal}
 use Rattle.layout.specs.Placing as placing
 use Rattle.planning.specs.declared.planner.PlannedFirmware.{PlannedFirmware}
 use Rattle.planning.specs.declared.refusal.PlanningRefusal.{PlanningRefusal}
 use Rattle.planning.specs.declared.refusal.PlanningRefusal.TheVariants.{NoMemory, Limit, Flash, Ram}
 use Rattle.planning.specs.Planned.{IsPlaced, IsPlannedFor}
-use Rattle.planning.specs.Refusals.{of_place, IsRoomRefusal, IsPlanningRefusal}
+use Rattle.planning.specs.Refusals.{IsRoomRefusal, IsPlanningRefusal}
 use Rattle.planning.proofs.Kept.{final_groups}
 
 -- ---- a plan that is given
 
 -- two tests, one behind the other
-abbrev tried : (a b : Bool) → (x y : PlaceRefusal) → Plan → Result Plan PlaceRefusal
+abbrev pub tried : (a b : Bool) → (x y : PlaceRefusal) → Plan → Result Plan PlaceRefusal
 tried a b x y l = cond a (Err x) (cond b (Err y) (Ok l))
 
 record ArePassed (a b : Bool) (l m : Plan) : Type 0 where
@@ -58,12 +57,6 @@ pub placed_is : (p : Program) (n : Needs) (b : Board) (f : Final) (s : Sizes) (l
 placed_is p n b f s l e h = record { sizes = e; fits = fits p f s b l h; plan = (passed p f s b l h).same }
 
 -- ---- a refusal
-
-pub room_refused : (p : Program) (n : Needs) (b : Board) (f : Final) (s : Sizes) (r : PlaceRefusal) → s ≡ sizes_of p n f (slots_of b) → IsPlaceRefusal p f s b r
-    → IsRoomRefusal p n f b (of_place r)
-room_refused p n b f s place.NoMemory e h = tt
-room_refused p n b f s (place.Flash c m a) e h = rw e at h
-room_refused p n b f s (place.Ram c m a) e h = rw e at h
 
 planning_refused : (p : Program) (n : Needs) (g : Groups) (b : Board) (f : Final) (r : PlanningRefusal) → KeepsLimits n g → IsFinal p n g (slots_of b) f → IsRoomRefusal p n f b r
     → IsPlanningRefusal p n g b r
