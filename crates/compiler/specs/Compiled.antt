@@ -15,6 +15,7 @@ use Rattle.monitor.specs.Confined.{Confined}
 use Rattle.monitor.specs.Layout.{initial_word_count}
 use Rattle.simulate.specs.Refines.{Refines}
 use Rattle.linked_images.specs.Planned.{IsPlanned, planned_image, planned_tables}
+use Rattle.planned_images.specs.Whole.{IsForBoard}
 
 -- the image of a firmware as it is planned with these compartments
 pub record IsImageFor (w : PlainFirmware) (n : Needs) (b : Board) (g : Groups) (i : Image) : Type 0 where
@@ -23,6 +24,7 @@ pub record IsImageFor (w : PlainFirmware) (n : Needs) (b : Board) (g : Groups) (
   pub planned : IsPlanned w n graph b
   pub linked : i ≡ planned_image w n graph b
   pub rules : ObeysRules i
+  pub board : IsForBoard w b i
   -- whatever code its compartments execute and whatever the device input, no store for a compartment leaves its permission, and on a
   -- closed board no load
   pub confined : Confined i (planned_tables w n graph b)

@@ -25,7 +25,7 @@ use linker::link;
 use plan_model::groups::{FuncFacts, Groups};
 use plan_model::needs::Needs;
 use plan_model::plan::Board;
-use planned_images::laws::{confined, refined};
+use planned_images::laws::{confined, for_boards, refined};
 use planning::{PlannedFirmware, PlanningRefusal, planned};
 use std::alloc::{AllocError, Global};
 
@@ -96,6 +96,7 @@ pub fn compile_groups(
     firmware.firmware();
     least_sets();
     images();
+    for_boards();
     confined();
     refined();
     let made = planned(alloc, program, needs, groups, board)?;

@@ -1,14 +1,16 @@
--- The eight eighths of a planned image's stack are the board's stack.
-use Rattle.std.proofs.Common.{◌≡◌, ℕ, ◌+◌, ◌-◌, ◌*◌, ◌/◌, ◌^◌, ◌≤◌, ap, sym, ◌∙◌, arith, lit<}
+-- What a planned image has of its board; the eight eighths of its stack are the board's stack.
+use Rattle.std.proofs.Common.{◌≡◌, refl, ℕ, ◌+◌, ◌-◌, ◌*◌, ◌/◌, ◌^◌, ◌≤◌, ap, sym, ◌∙◌, arith, lit<}
 use Rattle.std.proofs.lemmas.Nat.{div-add-mod', mod_below, pow-add}
 use Rattle.ir_model.specs.Plain.{PlainFirmware}
 use Rattle.plan_model.specs.declared.needs.Needs.{Needs}
 use Rattle.plan_model.specs.declared.graph.Final.{Final}
 use Rattle.plan_model.specs.declared.plan.Board.{Board}
 use Rattle.monitor.specs.Records.{eighth}
+use Rattle.link_model.specs.LinkedImage.{linked}
 use Rattle.link_model.specs.LinkedTables.{tables_of}
 use Rattle.linked_images.specs.Planned.{IsPlanned, planned_tables}
 use Rattle.linked_images.proofs.Facts.{PlanLaws, stack_size_is}
+use Rattle.planned_images.specs.Whole.{PlannedImagesAreForBoards}
 
 eight_eighths : (x k : ℕ) → 3 ≤ k → x ≡ 2 ^ k → 8 * (x / 8) ≡ x
 eight_eighths x k l e =
@@ -24,3 +26,8 @@ stack_is law w n f b is =
     let power = is.board.stack in
     let least = power.1 in
     ap (λ z. 8 * (z / 8)) size ∙ eight_eighths b.stack power.0 (omega (arith, least)) power.3
+
+pub are_for_boards : PlanLaws → PlannedImagesAreForBoards
+unfolding linked
+are_for_boards law w n f b is =
+    record { windows = refl; flash_base = refl; ram_base = refl; ram_size = refl; stack_size = stack_size_is law w n f b is; regions = refl; closed = refl }

@@ -1,7 +1,10 @@
 -- What holds of the image of every planned firmware, with the monitor's own code: statements of laws.
+use Rattle.std.specs.Prelude.{◌≡◌}
+use Rattle.device_model.specs.declared.image.Image.{Image}
 use Rattle.ir_model.specs.Plain.{PlainFirmware}
 use Rattle.ir_model.specs.Resolve.{resolve}
 use Rattle.ir_laws.specs.Sets.{ObjectSets}
+use Rattle.ir_program.specs.Windows.{windows_of}
 use Rattle.plan_model.specs.declared.needs.Needs.{Needs}
 use Rattle.plan_model.specs.declared.graph.Final.{Final}
 use Rattle.plan_model.specs.declared.plan.Board.{Board}
@@ -16,6 +19,19 @@ use Rattle.relation.specs.Linked.{Linked}
 use Rattle.linked_images.specs.Planned.{IsPlanned, planned_tables, planned_image}
 use Rattle.linked_images.specs.Laws.{OfPlanned}
 use Rattle.linked_promises.specs.Parts.{linked_build}
+
+-- its windows are the firmware's peripherals in order, and its memories, its stack's size and the kind of its protection are the board's
+pub record IsForBoard (w : PlainFirmware) (b : Board) (i : Image) : Type 0 where
+  pub windows : i.windows ≡ windows_of w
+  pub flash_base : i.flash_base ≡ b.flash_base
+  pub ram_base : i.ram_base ≡ b.ram_base
+  pub ram_size : i.ram_size ≡ b.ram_size
+  pub stack_size : i.stack_size ≡ b.stack
+  pub regions : i.regions ≡ b.regions
+  pub closed : i.closed ≡ b.closed
+
+abbrev pub PlannedImagesAreForBoards : Type 0
+PlannedImagesAreForBoards = (w : PlainFirmware) (n : Needs) (f : Final) (b : Board) → IsPlanned w n f b → IsForBoard w b (planned_image w n f b)
 
 -- its flash has its tables, and none of the checks of an image fails
 abbrev pub PlannedImagesAreSound : Type 0

@@ -1,6 +1,6 @@
 //! The two halves of what is promised of an image, for every planned firmware: functions that do nothing, whose contract is the law.
 
-ghost use Rattle.planned_images.specs.Whole.{PlannedImagesAreSound, PlannedImagesAreConfined, PlannedImagesAreLinked, PlannedImagesRefine};
+ghost use Rattle.planned_images.specs.Whole.{PlannedImagesAreForBoards, PlannedImagesAreSound, PlannedImagesAreConfined, PlannedImagesAreLinked, PlannedImagesRefine};
 
 use layout_laws::{flash, places, ram};
 use linked_images::laws::{header, ranges, tables as tables_have_room};
@@ -13,6 +13,16 @@ use linked_promises::sites::{lends, sites, targets};
 use linked_promises::tables::tables as tables_read_back;
 use refinement::laws::refinement;
 use sound_images::promises::{sound_images_are_confined, sound_images_serve_simulation};
+
+/// The windows of the image of a planned firmware are the firmware's peripherals in order, and its memories, its stack's size and the
+/// kind of its protection are the board's.
+pub fn for_boards()
+    ensures { PlannedImagesAreForBoards }
+{
+    flash();
+    ram();
+    places();
+}
 
 /// The image of a planned firmware is sound: its flash has its tables, and none of the seven checks of an image fails.
 pub fn sound()
