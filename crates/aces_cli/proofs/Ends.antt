@@ -3,7 +3,7 @@ use Rattle.std.proofs.Common.{◌≡◌, ◌≢◌, ℕ, inl, inr, List, [], Ok,
 use Rattle.aces_reports.specs.declared.failure.Done.{Done}
 use Rattle.aces_reports.specs.declared.failure.Done.TheVariants.{Well, Badly}
 use Rattle.aces_reports.specs.declared.failure.Fault.{Fault}
-use Rattle.aces_reports.specs.declared.failure.Fault.TheVariants.{TooLarge, NotInForm}
+use Rattle.aces_reports.specs.declared.failure.Fault.TheVariants.{TooLarge}
 use Rattle.aces_reports.specs.declared.failure.Failure.{Failure}
 use Rattle.aces_reports.specs.declared.failure.Failure.TheVariants.{Refused, PastLimit, NoRoom, Unread, Unwritten, Unprinted, NoMemory}
 use Rattle.aces_words.specs.Requests.{Request, Run, Bin, Compile, Check, Source, Listing, Origin, origins}
@@ -14,9 +14,6 @@ use Rattle.aces_reports.specs.Ends.{status_of}
 use Rattle.aces_cli.specs.Did.{World, Does, Quiet, IsCarriedOut, IsPart, IsPrintedInPart}
 use Rattle.aces_cli.specs.Loads.{IsLoadFailure, IsContentFailure, IsRefusal}
 use Rattle.ir_model.specs.Plain.{PlainFirmware}
-use Rattle.straight_text.specs.StraightTexts.{IsStraightText, IsNoStraightText}
-use Rattle.aces_cli.specs.Compiled.{board_text}
-use Rattle.aces_cli.specs.CompileFailures.{IsCompileFailure}
 
 -- where nothing was printed, no more than a part was
 nothing_printed : (A : Outcome → Type 0) (r : Request) (old new : World) → new.out ≡ old.out → IsPrintedInPart A r old new r
@@ -102,26 +99,6 @@ content_refused A IsFault name answer (Unread n) h = absurd h
 content_refused A IsFault name answer (Unwritten n) h = absurd h
 content_refused A IsFault name answer Unprinted h = absurd h
 content_refused A IsFault name answer NoMemory h = tt
-
--- a firmware or a board that was refused
-pub compile_failed : (A : Outcome → Type 0) (firmware board bytes text : List ℕ) (r : Request) (old new : World) → Quiet old new → new.read_faults ≡ old.read_faults
-    → (IsNoStraightText bytes → A (refused firmware NotInForm))
-    → ((w : PlainFirmware) → IsStraightText w bytes → text ≢ board_text → A (refused board NotInForm))
-    → (e : Failure) → IsCompileFailure firmware board bytes text e → Does A r old new (Err e)
-compile_failed A firmware board bytes text r old new quiet reads one two (Refused n f) h = record {
-  answer = subst (λ x. A (refused n.now x)) (sym h.0) (elim h.1 [
-    | inl a ↦ subst (λ m. A (refused m NotInForm)) (sym a.0) (one a.1)
-    | inr b ↦ subst (λ m. A (refused m NotInForm)) (sym b.0) (two b.1.0 b.1.1 b.2)
-  ]);
-  quiet = quiet;
-  read_faults = reads;
-}
-compile_failed A firmware board bytes text r old new quiet reads one two (PastLimit which count) h = absurd h
-compile_failed A firmware board bytes text r old new quiet reads one two (NoRoom memory c needed available) h = absurd h
-compile_failed A firmware board bytes text r old new quiet reads one two (Unread n) h = absurd h
-compile_failed A firmware board bytes text r old new quiet reads one two (Unwritten n) h = absurd h
-compile_failed A firmware board bytes text r old new quiet reads one two Unprinted h = absurd h
-compile_failed A firmware board bytes text r old new quiet reads one two NoMemory h = no_memory A r old new quiet reads
 
 -- a command that ended with an outcome of this status
 pub did_end : (A : Outcome → Type 0) (r : Request) (old new : World) (o : Outcome) (d : Done) → A o → o.status ≡ status_of (Ok d) → o.line ≡ []

@@ -1,7 +1,6 @@
 mod Starting
 mod Ends
 mod Answered
-mod Compiling
 mod Firmwares
 mod Sourcing
-mod Listing
+mod Planning

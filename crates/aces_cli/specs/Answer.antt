@@ -12,7 +12,7 @@ use Rattle.image.specs.Faults as images
 use Rattle.image.specs.Text.{IsText}
 use Rattle.armv7m.specs.Run.{start}
 use Rattle.aces_reports.specs.declared.failure.Fault.{Fault}
-use Rattle.aces_reports.specs.declared.failure.Fault.TheVariants.{TooLarge, Short, Magic, Version, Field, Trailing, BadLine, UnknownPeripheral, NotInForm, NotUtf8, Syntax, NumberTooWide, Limit, IllTyped, NotToml, MissingKey, KeyKind, KeyRange, ExtraKey}
+use Rattle.aces_reports.specs.declared.failure.Fault.TheVariants.{TooLarge, Short, Magic, Version, Field, Trailing, BadLine, UnknownPeripheral, NotUtf8, Syntax, NumberTooWide, Limit, IllTyped, NotToml, MissingKey, KeyKind, KeyRange, ExtraKey}
 use Rattle.aces_words.specs.Requests.{Request, Run, Bin, Compile, Check, Source, Listing, Asks, IsUsage, Origin, file_origin, firmware_origin, file_limit, firmware_limit}
 use Rattle.aces_reports.specs.declared.failure.Memory.{Memory}
 use Rattle.aces_reports.specs.declared.failure.Memory.TheVariants as memory
@@ -26,8 +26,7 @@ use Rattle.ir_reader.specs.declared.fault.TextFault.{TextFault}
 use Rattle.ir_reader.specs.declared.fault.TextFault.TheVariants as text_faults
 use Rattle.ir_reader.specs.First.{IsFirst}
 use Rattle.ir_program.specs.Windows.{windows_of}
-use Rattle.straight_text.specs.StraightTexts.{IsStraightText, IsNoStraightText}
-use Rattle.aces_cli.specs.Compiled.{board_text, IsCompiled}
+use Rattle.aces_cli.specs.Compiled.{IsImageText}
 use Rattle.machine_output.specs.Runs.{fill, end_of, run_lines, end_status}
 use Rattle.aces_cli.specs.Counts.{count_line}
 use Rattle.source_output.specs.SourceRuns.{source_lines, source_status}
@@ -154,14 +153,6 @@ pub data BinAnswer (image file : List ℕ) (bytes : List ℕ) : Outcome → Type
   no_image : (f : Fault) → IsNoImage bytes f → BinAnswer image file bytes (refused image f)
   wrote : (i : Image) → IsText i bytes → BinAnswer image file bytes (done 0 [] (Some (record { name = file; bytes = i.flash })))
 
--- the answer to `compile` on the bytes of both files, the firmware being tested first: a straight `main` is one compartment, whatever
--- the policy
-pub data CompileAnswer (firmware board image : List ℕ) (bytes text : List ℕ) : Outcome → Type 0 where
-  no_firmware : IsNoStraightText bytes → CompileAnswer firmware board image bytes text (refused firmware NotInForm)
-  no_board : (w : PlainFirmware) → IsStraightText w bytes → text ≢ board_text → CompileAnswer firmware board image bytes text (refused board NotInForm)
-  compiled : (out : List ℕ) → IsCompiled bytes text out →
-      CompileAnswer firmware board image bytes text (done 0 [] (Some (record { name = image; bytes = out })))
-
 -- the answer to `check` on the bytes of the firmware
 pub data CheckAnswer (firmware : List ℕ) (bytes : List ℕ) : Outcome → Type 0 where
   no_firmware : (f : Fault) → IsNoFirmware bytes f → CheckAnswer firmware bytes (refused firmware f)
@@ -181,20 +172,29 @@ pub data SourceAnswer (firmware : List ℕ) (policy : Policy) (tape : List ℕ) 
   ran : (w : PlainFirmware) (compartments : List ℕ) → IsFirmware w bytes → tapes.first_fault text (windows_of w) ≡ None → AreCompartmentsBy policy w compartments →
       SourceAnswer firmware policy tape steps bytes text (source_outcome w compartments text steps)
 
--- the answer to `list` on the bytes of both files: the firmware is read and checked first, then the board is read; then come the
--- limits of what is compiled, flash, and RAM. Status 3 is that of a memory whose blocks have more bytes than it has, by the needs
--- on a board of that kind
-pub data ListAnswer (firmware board : List ℕ) (policy : Policy) (bytes text : List ℕ) : Outcome → Type 0 where
-  no_firmware : (f : Fault) → IsNoFirmware bytes f → ListAnswer firmware board policy bytes text (refused firmware f)
-  no_board : (w : PlainFirmware) (f : Fault) → IsFirmware w bytes → IsNoBoard text f → ListAnswer firmware board policy bytes text (refused board f)
+-- why a firmware has no plan on a board by a policy, by the bytes of both files: the firmware is read and checked first, then the board is
+-- read; the limits of what is compiled come next, then the room in flash, and the room in RAM
+pub data PlanAnswer (firmware board : List ℕ) (policy : Policy) (bytes text : List ℕ) : Outcome → Type 0 where
+  no_firmware : (f : Fault) → IsNoFirmware bytes f → PlanAnswer firmware board policy bytes text (refused firmware f)
+  no_board : (w : PlainFirmware) (f : Fault) → IsFirmware w bytes → IsNoBoard text f → PlanAnswer firmware board policy bytes text (refused board f)
   too_many : (w : PlainFirmware) (b : Board) (which : LimitKind) (count : ℕ) → IsFirmware w bytes → boards.IsRead text b →
-      IsRefusedBy policy w b (planning.Limit which count) → ListAnswer firmware board policy bytes text (past_limit which count)
+      IsRefusedBy policy w b (planning.Limit which count) → PlanAnswer firmware board policy bytes text (past_limit which count)
   no_flash : (w : PlainFirmware) (b : Board) (c : Option ℕ) (needed available : ℕ) → IsFirmware w bytes → boards.IsRead text b →
-      IsRefusedBy policy w b (planning.Flash c needed available) → ListAnswer firmware board policy bytes text (no_room memory.Flash c needed available)
+      IsRefusedBy policy w b (planning.Flash c needed available) → PlanAnswer firmware board policy bytes text (no_room memory.Flash c needed available)
   no_ram : (w : PlainFirmware) (b : Board) (c : Option ℕ) (needed available : ℕ) → IsFirmware w bytes → boards.IsRead text b →
-      IsRefusedBy policy w b (planning.Ram c needed available) → ListAnswer firmware board policy bytes text (no_room memory.Ram c needed available)
+      IsRefusedBy policy w b (planning.Ram c needed available) → PlanAnswer firmware board policy bytes text (no_room memory.Ram c needed available)
+
+-- the answer to `list` on the bytes of both files
+pub data ListAnswer (firmware board : List ℕ) (policy : Policy) (bytes text : List ℕ) : Outcome → Type 0 where
+  unplanned : (o : Outcome) → PlanAnswer firmware board policy bytes text o → ListAnswer firmware board policy bytes text o
   listed : (w : PlainFirmware) (b : Board) (lines : List ℕ) → IsFirmware w bytes → boards.IsRead text b → IsListing policy w b lines →
       ListAnswer firmware board policy bytes text (done 0 lines None)
+
+-- the answer to `compile` on the bytes of both files
+pub data CompileAnswer (firmware board : List ℕ) (policy : Policy) (image bytes text : List ℕ) : Outcome → Type 0 where
+  unplanned : (o : Outcome) → PlanAnswer firmware board policy bytes text o → CompileAnswer firmware board policy image bytes text o
+  compiled : (w : PlainFirmware) (b : Board) (out : List ℕ) → IsFirmware w bytes → boards.IsRead text b → IsImageText policy w b out →
+      CompileAnswer firmware board policy image bytes text (done 0 [] (Some (record { name = image; bytes = out })))
 
 -- `Has` says which bytes a source within its limit holds, and `Exceeds` that one is larger than its limit
 module _ (Has : Origin → List ℕ → Type 0) (Exceeds : Origin → Type 0) where
@@ -216,7 +216,7 @@ module _ (Has : Origin → List ℕ → Type 0) (Exceeds : Origin → Type 0) wh
     compile_board_large : (firmware board : List ℕ) (policy : Policy) (image : List ℕ) (bytes : List ℕ) → Has (firmware_origin firmware) bytes → Exceeds (file_origin board) →
         Answer (Compile firmware board policy image) (refused board (TooLarge file_limit))
     compile_read : (firmware board : List ℕ) (policy : Policy) (image : List ℕ) (bytes text : List ℕ) (o : Outcome) → Has (firmware_origin firmware) bytes → Has (file_origin board) text →
-        CompileAnswer firmware board image bytes text o → Answer (Compile firmware board policy image) o
+        CompileAnswer firmware board policy image bytes text o → Answer (Compile firmware board policy image) o
     check_large : (firmware : List ℕ) → Exceeds (firmware_origin firmware) →
         Answer (Check firmware) (refused firmware (TooLarge firmware_limit))
     check_read : (firmware : List ℕ) (bytes : List ℕ) (o : Outcome) → Has (firmware_origin firmware) bytes →

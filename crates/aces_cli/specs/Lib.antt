@@ -3,5 +3,4 @@ pub mod Known
 pub mod Answer
 pub mod Did
 pub mod Loads
-pub mod CompileFailures
 pub mod Counts

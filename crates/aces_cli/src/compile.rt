@@ -1,95 +1,91 @@
 //! `compile`: the image of a firmware, written to a file.
 
-ghost use Rattle.std.specs.Prelude.{◌≡◌, IfOk, IfErr};
+ghost use Rattle.std.specs.Prelude.{◌≤◌, ℕ, List, Some, [], IfOk, IfErr, length};
 ghost use Rattle.ir_model.specs.Plain as plain;
-ghost use Rattle.straight.specs.Form.{IsStraight};
-ghost use Rattle.aces_words.specs.Requests.{Compile};
-ghost use Rattle.aces_words.specs.declared.policy.Policy.{Policy};
+ghost use Rattle.plan_model.specs.Boards.{IsBoard};
+ghost use Rattle.firmware_plans.specs.Unplanned.{IsUnplanned};
+ghost use Rattle.aces_words.specs.Requests.{Compile, firmware_limit};
 ghost use Rattle.aces_cli.specs.Known.{IsKnown, IsKnownLarge};
-ghost use Rattle.aces_cli.specs.Answer.{Answer};
-ghost use Rattle.aces_cli.specs.Compiled.{IsCompiled, IsImageOf};
-ghost use Rattle.aces_cli.specs.CompileFailures.{IsCompileFailure};
-ghost use Rattle.aces_cli.specs.Loads.{IsContentFailure};
+ghost use Rattle.aces_cli.specs.Answer.{Answer, CompileAnswer, done};
+ghost use Rattle.aces_cli.specs.Compiled.{IsImageText};
+ghost use Rattle.aces_cli.specs.Loads.{IsRefusal};
 ghost use Rattle.aces_reports.specs.Sinks.{SinkState};
 ghost use Rattle.aces_cli.specs.Did.{Does, world};
 
-use crate::loading::{load, load_firmware};
+use crate::failure::planning_failure;
+use crate::loading::{board_of, firmware_of, load, load_firmware};
 use crate::writing::write;
-use aces_reports::{Done, Failure, Fault};
+use aces_reports::{Done, Failure};
+use aces_words::Policy;
+use compiler::{CompileRefusal, compile_by};
 use ir_model::checked::Checked;
 use outside::Files;
-use std::alloc::{AllocError, Global};
-use straight::link::link;
-use straight_text::{StraightRefusal, read_straight};
+use plan_model::plan::Board;
+use std::alloc::Global;
 
-/// The text of the one board that is compiled for so far.
-const BOARD: &[u8] =
-    b"[flash]\nbase = 0x08000000\nsize = 262144\n[ram]\nbase = 0x20000000\nsize = 65536\nstack = 2048\n";
-
-/// Writes the image of a firmware for a board to a file: the same under each policy, since a straight `main` is one compartment.
-/// Whatever takes the output is left as it is.
+/// Writes the image of a firmware for a board by a policy to a file. Whatever takes the output is left as it is.
 pub(crate) fn compile<'a, F: Files>(
     alloc: Global,
     firmware: &'a str,
     board: &'a str,
+    policy: Policy,
     image: &'a str,
     files: &mut F,
 ) -> Result<Done, Failure<'a>>
-    ensures { (out : SinkState) (policy : Policy) → Does
+    ensures { (out : SinkState) → Does
         (Answer (IsKnown F.Files files.old) (IsKnownLarge F.Files files.old) (Compile firmware.now board.now policy image.now))
         (Compile firmware.now board.now policy image.now) (world F.Files files.old out) (world F.Files files.new out) result }
 {
     let bytes = load_firmware(alloc, files, firmware)?;
     let text = load(alloc, files, board)?;
-    let compiled = compiled(alloc, firmware, bytes.as_slice(), board, text.as_slice())?;
+    let compiled = compiled(
+        alloc,
+        firmware,
+        bytes.as_slice(),
+        board,
+        text.as_slice(),
+        policy,
+    )?;
     match write(files, image, compiled.as_slice()) {
         Ok(()) => Ok(Done::Well),
         Err(_) => Err(Failure::Unwritten { name: image }),
     }
 }
 
-/// The bytes of the image of a firmware, of the bytes of both files, each behind its name. No file is touched.
-#[tactic(auto, using(crate::proofs::Compiling::firmware_refused, crate::proofs::Compiling::board_refused, crate::proofs::Compiling::is_compiled))]
+/// The bytes of the image, by the bytes of both files, each behind its name. No file is touched.
 fn compiled<'a>(
     alloc: Global,
     firmware: &'a str,
     bytes: &[u8],
     board: &'a str,
     text: &[u8],
+    policy: Policy,
 ) -> Result<Vec<u8>, Failure<'a>>
-    ensures ok { IfOk result (λ out. IsCompiled bytes.now text.now out.items) }
-    ensures err { IfErr result (IsCompileFailure firmware.now board.now bytes.now text.now) }
+    requires { length bytes.now ≤ firmware_limit }
+    ensures ok { IfOk result (λ out. (image : List ℕ) → CompileAnswer firmware.now board.now policy image bytes.now text.now
+        (done 0 [] (Some (record { name = image; bytes = out.items })))) }
+    ensures err { IfErr result (λ failure. (image : List ℕ) → IsRefusal (CompileAnswer firmware.now board.now policy image bytes.now text.now) failure) }
 {
-    let checked = match read_straight(alloc, bytes) {
-        Ok(checked) => checked,
-        Err(StraightRefusal::NoMemory) => return Err(Failure::NoMemory),
-        Err(StraightRefusal::NotStraight) => return Err(refused(firmware)),
-    };
-    if text != BOARD {
-        return Err(refused(board));
-    }
-    match image_bytes(alloc, &checked) {
+    let checked = firmware_of(alloc, firmware, bytes)?;
+    let read = board_of(alloc, board, text)?;
+    match image_text(alloc, &checked, &read, policy) {
         Ok(out) => Ok(out),
-        Err(_) => Err(Failure::NoMemory),
+        Err(refusal) => Err(planning_failure(refusal)),
     }
 }
 
-fn refused(name: &str) -> Failure<'_>
-    ensures { IsContentFailure (λ f. f ≡ Fault.NotInForm) name.now result }
+/// The text of the image of a firmware for a board by a policy.
+fn image_text(
+    alloc: Global,
+    firmware: &Checked,
+    board: &Board,
+    policy: Policy,
+) -> Result<Vec<u8>, CompileRefusal>
+    requires { IsBoard board.now }
+    ensures ok { IfOk result (λ out. IsImageText policy (plain.firmware_of firmware.now) board.now out.items) }
+    ensures refused { IfErr result (IsUnplanned policy (plain.firmware_of firmware.now) board.now) }
 {
-    Failure::Refused {
-        name,
-        fault: Fault::NotInForm,
-    }
-}
-
-/// The text of the image of a straight firmware.
-#[tactic(auto, using(crate::proofs::Compiling::is_image_of))]
-fn image_bytes(alloc: Global, checked: &Checked) -> Result<Vec<u8>, AllocError>
-    requires { IsStraight (plain.firmware_of checked.now) }
-    ensures { IfOk result (λ out. IsImageOf (plain.firmware_of checked.now) out.items) }
-{
-    let image = link(alloc, checked)?;
+    let image = compile_by(alloc, firmware, board, policy)?;
     let out = image::write(alloc, &image)?;
     Ok(out)
 }

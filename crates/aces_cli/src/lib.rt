@@ -122,9 +122,9 @@ fn perform<'a, F: Files, O: Sink>(
         Command::Compile {
             firmware,
             board,
-            policy: _,
+            policy,
             image,
-        } => compile::compile(alloc, firmware, board, image, files),
+        } => compile::compile(alloc, firmware, board, policy, image, files),
         Command::Check { firmware } => check::check(alloc, firmware, files, out),
         Command::Source {
             firmware,

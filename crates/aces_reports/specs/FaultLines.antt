@@ -9,7 +9,7 @@ use Rattle.ir_model.specs.declared.check.CheckKind.TheVariants as kind
 use Rattle.ir_model.specs.declared.check.Place.{Place}
 use Rattle.ir_model.specs.declared.check.Place.TheVariants as place
 use Rattle.aces_reports.specs.declared.failure.Fault.{Fault}
-use Rattle.aces_reports.specs.declared.failure.Fault.TheVariants.{TooLarge, Short, Magic, Version, Field, Trailing, BadLine, UnknownPeripheral, NotInForm, NotUtf8, Syntax, NumberTooWide, Limit, IllTyped, NotToml, MissingKey, KeyKind, KeyRange, ExtraKey}
+use Rattle.aces_reports.specs.declared.failure.Fault.TheVariants.{TooLarge, Short, Magic, Version, Field, Trailing, BadLine, UnknownPeripheral, NotUtf8, Syntax, NumberTooWide, Limit, IllTyped, NotToml, MissingKey, KeyKind, KeyRange, ExtraKey}
 use Rattle.aces_reports.specs.declared.failure.Memory.{Memory}
 use Rattle.aces_reports.specs.declared.failure.Memory.TheVariants as memory
 use Rattle.board_text.specs.Keys.{path_of}
@@ -85,7 +85,6 @@ fault_line name (Field at) = counted name (codes ": bad field at ") at line_feed
 fault_line name (Trailing at) = counted name (codes ": trailing at ") at line_feed
 fault_line name (BadLine line) = counted name (codes ":") line (codes ": bad line" ++ line_feed)
 fault_line name (UnknownPeripheral line) = counted name (codes ":") line (codes ": unknown peripheral" ++ line_feed)
-fault_line name NotInForm = about name (codes ": not in this form yet" ++ line_feed)
 fault_line name (NotUtf8 at) = counted name (codes ": byte ") at (codes ": not UTF-8" ++ line_feed)
 fault_line name (Syntax pos) = placed name pos (codes ": syntax" ++ line_feed)
 fault_line name (NumberTooWide pos) = placed name pos (codes ": number too wide" ++ line_feed)

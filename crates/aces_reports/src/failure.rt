@@ -38,8 +38,6 @@ pub enum Fault {
     BadLine { line: u32 },
     /// The name in the line of a tape of this number is no peripheral's.
     UnknownPeripheral { line: u32 },
-    /// A firmware or a board that is not compiled yet, or none at all.
-    NotInForm,
     /// The text of a firmware is not UTF-8 from this byte on.
     NotUtf8 { at: u32 },
     /// No text of a firmware goes on there as this one does.

@@ -332,7 +332,6 @@ fn say_fault<E: Sink>(err: &mut E, name: &[u8], fault: &Fault)
         Fault::UnknownPeripheral { line } => {
             say_counted(err, name, b":", *line, b": unknown peripheral\n")
         }
-        Fault::NotInForm => say_named(err, b"aces: ", name, b": not in this form yet\n"),
         Fault::NotUtf8 { at } => say_counted(err, name, b": byte ", *at, b": not UTF-8\n"),
         Fault::Syntax { pos } => say_placed(err, name, *pos, b": syntax\n"),
         Fault::NumberTooWide { pos } => say_placed(err, name, *pos, b": number too wide\n"),

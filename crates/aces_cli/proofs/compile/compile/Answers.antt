@@ -3,17 +3,16 @@ use Rattle.std.proofs.lemmas.Result.{err_from_is_err_and}
 use Rattle.aces_reports.specs.declared.failure.Done.TheVariants.{Well}
 use Rattle.aces_words.specs.Requests.{Compile, Origin, file_origin, firmware_origin}
 use Rattle.aces_cli.specs.Known.{Held, Exceeds, WasTooLarge, IsKnown, IsKnownLarge}
-use Rattle.aces_cli.specs.Answer.{Answer, no_firmware, no_board, compiled, compile_firmware_large, compile_board_large, compile_read, done}
+use Rattle.aces_cli.specs.Answer.{Answer, CompileAnswer, compile_firmware_large, compile_board_large, compile_read, done}
 use Rattle.aces_cli.specs.Did.{Does, world}
-use Rattle.aces_cli.specs.Loads.{IsLoadFailure}
-use Rattle.aces_cli.specs.CompileFailures.{IsCompileFailure}
-use Rattle.aces_cli.proofs.Ends.{load_failed, compile_failed, did_end}
+use Rattle.aces_cli.specs.Loads.{IsLoadFailure, IsRefusal}
+use Rattle.aces_cli.proofs.Ends.{load_failed, refusal_did, refusal_also, did_end}
 use Rattle.aces_cli.proofs.compile.compile.Goals as goal
 
 pub returns-in_err-bytes : goal.returns-in_err-bytes
-returns-in_err-bytes g c out policy =
+returns-in_err-bytes g c out =
     let firmware = c.args.firmware.now in
-    let r = Compile firmware c.args.board.now policy c.args.image.now in
+    let r = Compile firmware c.args.board.now c.args.policy c.args.image.now in
     let large = IsKnownLarge g.F.Files c.args.files.now in
     let all = Answer (IsKnown g.F.Files c.args.files.now) large r in
     let old = world g.F.Files c.args.files.now out in
@@ -22,14 +21,15 @@ returns-in_err-bytes g c out policy =
     subst (Does all r old new) (sym x.1)
     (load_failed all large r (firmware_origin firmware) old new
     (record { held = c.load_firmware.ensures.same; write_faults = c.load_firmware.ensures.writes; out = refl })
-    (inl refl) (λ t n. inl (refl, n)) (λ e. compile_firmware_large firmware c.args.board.now policy c.args.image.now e) x.0
+    (inl refl) (λ t n. inl (refl, n)) (λ e. compile_firmware_large firmware c.args.board.now c.args.policy c.args.image.now e) x.0
     (subst (IsLoadFailure large old.told old.held (firmware_origin firmware) old.read_faults new.read_faults) (sym x.2) c.in_err-bytes.ensures.err))
 
 pub returns-in_err-text : goal.returns-in_err-text
-returns-in_err-text g c out policy =
+returns-in_err-text g c out =
     let firmware = c.args.firmware.now in
     let board = c.args.board.now in
     let image = c.args.image.now in
+    let policy = c.args.policy in
     let r = Compile firmware board policy image in
     let told = g.F.Files.told in
     let large : Held → Origin → Type 0 = λ held s. WasTooLarge g.F.Files s × (IsTrue told → Exceeds held s) in
@@ -49,31 +49,34 @@ returns-in_err-text g c out policy =
     (λ e. compile_board_large firmware board policy image bytes c.in_ok-bytes.ensures.ok e) x.0 reads_too)
 
 pub returns-in_err-compiled : goal.returns-in_err-compiled
-returns-in_err-compiled g c out policy =
+returns-in_err-compiled g c out =
     let firmware = c.args.firmware.now in
     let board = c.args.board.now in
     let image = c.args.image.now in
+    let policy = c.args.policy in
     let r = Compile firmware board policy image in
     let bytes = c.in_ok-bytes.bytes.items in
     let text = c.in_ok-text.text.items in
     let all = Answer (IsKnown g.F.Files c.args.files.now) (IsKnownLarge g.F.Files c.args.files.now) r in
+    let some = CompileAnswer firmware board policy image bytes text in
     let old = world g.F.Files c.args.files.now out in
     let new = world g.F.Files c.load.new.files out in
     let known = rw c.load_firmware.ensures.same at c.in_ok-text.ensures.ok in
     let x = err_from_is_err_and c.from_residual-in_err-compiled.result c.from_residual-in_err-compiled.ensures.1 in
+    let here = rw (c.as_slice.ensures.value, c.as_slice-2.ensures.value) at c.in_err-compiled.ensures.err in
     subst (Does all r old new) (sym x.1)
-    (compile_failed all firmware board bytes text r old new
+    (refusal_did all r old new
     (record { held = c.load.ensures.same ∙ c.load_firmware.ensures.same; write_faults = c.load.ensures.writes ∙ c.load_firmware.ensures.writes; out = refl })
-    (c.in_ok-text.ensures.reads ∙ c.in_ok-bytes.ensures.reads)
-    (λ n. compile_read firmware board policy image bytes text _ c.in_ok-bytes.ensures.ok known (no_firmware n))
-    (λ w s n. compile_read firmware board policy image bytes text _ c.in_ok-bytes.ensures.ok known (no_board w s n)) x.0
-    (subst (IsCompileFailure firmware board bytes text) (sym x.2) (rw (c.as_slice.ensures.value, c.as_slice-2.ensures.value) at c.in_err-compiled.ensures.err)))
+    (c.in_ok-text.ensures.reads ∙ c.in_ok-bytes.ensures.reads) x.0
+    (refusal_also some all (λ o a. compile_read firmware board policy image bytes text o c.in_ok-bytes.ensures.ok known a) x.0
+    (subst (IsRefusal some) (sym x.2) (here image))))
 
 pub returns-in-Ok : goal.returns-in-Ok
-returns-in-Ok g c out policy =
+returns-in-Ok g c out =
     let firmware = c.args.firmware.now in
     let board = c.args.board.now in
     let image = c.args.image.now in
+    let policy = c.args.policy in
     let r = Compile firmware board policy image in
     let bytes = c.in_ok-bytes.bytes.items in
     let text = c.in_ok-text.text.items in
@@ -83,7 +86,7 @@ returns-in-Ok g c out policy =
     did_end all r (world g.F.Files c.args.files.now out) (world g.F.Files c.write.new.files out)
     (done 0 [] (Some (record { name = image; bytes = written }))) Well
     (compile_read firmware board policy image bytes text _ c.in_ok-bytes.ensures.ok known
-    (compiled written (rw (c.as_slice.ensures.value, c.as_slice-2.ensures.value) at c.in_ok-compiled.ensures.ok)))
+    (let here = rw (c.as_slice.ensures.value, c.as_slice-2.ensures.value) at c.in_ok-compiled.ensures.ok in here image))
     refl refl
     (record {
       printed = λ t. sym (append-nil out.written);
@@ -94,10 +97,11 @@ returns-in-Ok g c out policy =
     })
 
 pub returns : goal.returns
-returns g c out policy =
+returns g c out =
     let firmware = c.args.firmware.now in
     let board = c.args.board.now in
     let image = c.args.image.now in
+    let policy = c.args.policy in
     let bytes = c.in_ok-bytes.bytes.items in
     let text = c.in_ok-text.text.items in
     let written = c.in_ok-compiled.compiled.items in
@@ -111,7 +115,7 @@ returns g c out policy =
       record {
         outcome = done 0 [] (Some (record { name = image; bytes = written }));
         answer = compile_read firmware board policy image bytes text _ c.in_ok-bytes.ensures.ok known
-            (compiled written (rw (c.as_slice.ensures.value, c.as_slice-2.ensures.value) at c.in_ok-compiled.ensures.ok));
+            (let here = rw (c.as_slice.ensures.value, c.as_slice-2.ensures.value) at c.in_ok-compiled.ensures.ok in here image);
         part = record {
           printed = λ t. (0, sym (append-nil out.written));
           held = rw (c.as_slice-3.ensures.value, c.load.ensures.same, c.load_firmware.ensures.same) at c.in-Err.ensures.err;

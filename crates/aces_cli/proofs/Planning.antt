@@ -1,4 +1,4 @@
--- Listings, and boards that are refused.
+-- Boards that are refused, and firmwares that are not planned.
 use Rattle.std.proofs.Common.{◌≡◌, ℕ, List, None, Some, sym, subst}
 use Rattle.aces_words.specs.declared.policy.Policy.{Policy}
 use Rattle.ir_model.specs.Plain.{PlainFirmware}
@@ -9,7 +9,7 @@ use Rattle.planning.specs.declared.refusal.PlanningRefusal.{PlanningRefusal}
 use Rattle.planning.specs.declared.refusal.PlanningRefusal.TheVariants.{NoMemory, Limit, Flash, Ram}
 use Rattle.firmware_plans.specs.Unplanned.{IsUnplanned}
 use Rattle.aces_reports.specs.declared.failure.Failure.{Failure}
-use Rattle.aces_cli.specs.Answer.{IsFirmware, IsNoBoard, of_board, ListAnswer, too_many, no_flash, no_ram}
+use Rattle.aces_cli.specs.Answer.{IsFirmware, IsNoBoard, of_board, PlanAnswer, too_many, no_flash, no_ram}
 use Rattle.aces_cli.specs.Loads.{IsContentFailure, IsRefusal, of_planning}
 use Rattle.aces_cli.proofs.Firmwares.{content_also}
 
@@ -21,13 +21,13 @@ board_refused text name first e h =
 
 -- a firmware that is not planned
 unplanned : (firmware board : List ℕ) (policy : Policy) (bytes text : List ℕ) (w : PlainFirmware) (b : Board) → IsFirmware w bytes → IsRead text b
-    → (r : PlanningRefusal) → IsUnplanned policy w b r → IsRefusal (ListAnswer firmware board policy bytes text) (of_planning r)
+    → (r : PlanningRefusal) → IsUnplanned policy w b r → IsRefusal (PlanAnswer firmware board policy bytes text) (of_planning r)
 unplanned firmware board policy bytes text w b f k NoMemory h = tt
 unplanned firmware board policy bytes text w b f k (Limit which count) h = too_many w b which count f k h
 unplanned firmware board policy bytes text w b f k (Flash c n a) h = no_flash w b c n a f k h
 unplanned firmware board policy bytes text w b f k (Ram c n a) h = no_ram w b c n a f k h
 
 pub planning_refused : (firmware board : List ℕ) (policy : Policy) (bytes text : List ℕ) (w : PlainFirmware) (b : Board) → IsFirmware w bytes → IsRead text b
-    → (r : PlanningRefusal) (e : Failure) → IsUnplanned policy w b r → e ≡ of_planning r → IsRefusal (ListAnswer firmware board policy bytes text) e
+    → (r : PlanningRefusal) (e : Failure) → IsUnplanned policy w b r → e ≡ of_planning r → IsRefusal (PlanAnswer firmware board policy bytes text) e
 planning_refused firmware board policy bytes text w b f k r e h q =
-    subst (IsRefusal (ListAnswer firmware board policy bytes text)) (sym q) (unplanned firmware board policy bytes text w b f k r h)
+    subst (IsRefusal (PlanAnswer firmware board policy bytes text)) (sym q) (unplanned firmware board policy bytes text w b f k r h)
