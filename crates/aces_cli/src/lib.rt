@@ -39,7 +39,9 @@ pub fn aces<F: Files, O: Sink, E: Sink>(
 ) -> u8
     ensures usage { (result ≡ 2) ↔ IsUsage (map string_bytes words.now) }
 
-    // The call did what the words ask, of the contents where these are told, and else of the bytes that the calls gave.
+    // The call did what the words ask, of the contents where these are told, and else of the bytes that the calls gave. So the
+    // status is 3 exactly where a listing was asked, both texts are read, no limit is passed, and the blocks of flash, or else
+    // those of RAM, have more bytes than it has (`ListAnswer`).
     ensures answer { IsTrue F.told → IsPlain result →
         IsAnswered (Holds (F.held files.old)) (Exceeds (F.held files.old)) (map string_bytes words.now)
         (world F.Files files.old (sink O.Sink out.old))
