@@ -38,7 +38,8 @@ use Rattle.board_text.specs.declared.fault.BoardFault.{BoardFault}
 use Rattle.board_text.specs.declared.fault.BoardFault.TheVariants as board_faults
 use Rattle.board_text.specs.Reading as boards
 use Rattle.planning.specs.declared.refusal.PlanningRefusal.TheVariants as planning
-use Rattle.firmware_listing.specs.Listings.{IsListing, IsRefusedBy}
+use Rattle.firmware_listing.specs.Listings.{IsListing}
+use Rattle.firmware_plans.specs.Unplanned.{IsRefusedBy}
 
 -- the bytes that a name is made to hold
 pub record Written : Type 0 where

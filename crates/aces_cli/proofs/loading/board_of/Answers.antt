@@ -1,4 +1,4 @@
-use Rattle.aces_cli.proofs.Listing.{board_refused}
+use Rattle.aces_cli.proofs.Planning.{board_refused}
 use Rattle.aces_cli.proofs.loading.board_of.Goals as goal
 
 pub returns-in-Err-clause-err : goal.returns-in-Err-clause-err

@@ -1,4 +1,4 @@
-use Rattle.std.proofs.Common.{◌≡◌, ◌∙◌, ◌++◌, inr, refl, ap, sym, subst}
+use Rattle.std.proofs.Common.{◌∙◌, ◌++◌, inr, refl, ap, sym, subst}
 use Rattle.std.proofs.lemmas.Result.{err_from_is_err_and}
 use Rattle.device_model.specs.Tape.{queues_of}
 use Rattle.ir_model.specs.Plain.{firmware_of}
