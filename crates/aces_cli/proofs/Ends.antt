@@ -1,5 +1,5 @@
 -- How commands end, by what their steps answered.
-use Rattle.std.proofs.Common.{◌≡◌, ◌≢◌, ℕ, inl, inr, List, [], Ok, Err, Result, OnErr, IsTrue, IsNone, ap, sym, subst}
+use Rattle.std.proofs.Common.{◌≡◌, ℕ, inl, inr, List, [], Ok, Err, Result, IsTrue, IsNone, ap, sym, subst}
 use Rattle.aces_reports.specs.declared.failure.Done.{Done}
 use Rattle.aces_reports.specs.declared.failure.Done.TheVariants.{Well, Badly}
 use Rattle.aces_reports.specs.declared.failure.Fault.{Fault}
@@ -13,7 +13,6 @@ use Rattle.aces_reports.specs.Sinks.{SinkState}
 use Rattle.aces_reports.specs.Ends.{status_of}
 use Rattle.aces_cli.specs.Did.{World, Does, Quiet, IsCarriedOut, IsPart, IsPrintedInPart}
 use Rattle.aces_cli.specs.Loads.{IsLoadFailure, IsContentFailure, IsRefusal}
-use Rattle.ir_model.specs.Plain.{PlainFirmware}
 
 -- where nothing was printed, no more than a part was
 nothing_printed : (A : Outcome → Type 0) (r : Request) (old new : World) → new.out ≡ old.out → IsPrintedInPart A r old new r

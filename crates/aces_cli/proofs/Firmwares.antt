@@ -1,11 +1,11 @@
 -- Firmwares: what a refusal says of the bytes, and how many functions a firmware within the limits has.
-use Rattle.std.proofs.Common.{◌≡◌, ℕ, ◌+◌, ◌<◌, ◌≤◌, Bool, true, false, List, [], ◌∷◌, ◌++◌, map, length, get_or, take, Option, Some, None, nat_lt, refl, ap, sym, subst, ◌∙◌, arith, length-append, if◌then◌else◌, flat_map}
+use Rattle.std.proofs.Common.{◌≡◌, ℕ, ◌+◌, ◌<◌, ◌≤◌, List, [], ◌∷◌, map, length, get_or, take, Some, refl, ap, sym, subst, ◌∙◌, arith, length-append, flat_map}
 use Rattle.std.proofs.lemmas.List.{length-map}
 use Rattle.std.proofs.lemmas.List.Folds.{length-flat_map-take}
 use Rattle.ir_model.specs.declared.firmware.FileDecl.{FileDecl}
 use Rattle.ir_model.specs.declared.firmware.Firmware.{Firmware}
 use Rattle.ir_model.specs.declared.firmware.Func.{Func}
-use Rattle.ir_model.specs.Plain.{PlainFunc, PlainFile, PlainFirmware, func_of, file_of, global_of, firmware_of, funcs_of}
+use Rattle.ir_model.specs.Plain.{PlainFile, PlainFirmware, func_of, file_of, global_of, firmware_of, funcs_of}
 use Rattle.ir_model.specs.Canonical.{IsWithinLimits}
 use Rattle.ir_model.specs.Texts as firmwares
 use Rattle.ir_model.proofs.Limits.{few_functions}

@@ -4,3 +4,4 @@ mod Answered
 mod Firmwares
 mod Sourcing
 mod Planning
+mod Kept

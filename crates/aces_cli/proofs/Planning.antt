@@ -1,5 +1,5 @@
 -- Boards that are refused, and firmwares that are not planned.
-use Rattle.std.proofs.Common.{◌≡◌, ℕ, List, None, Some, sym, subst}
+use Rattle.std.proofs.Common.{◌≡◌, ℕ, List, Some, sym, subst}
 use Rattle.aces_words.specs.declared.policy.Policy.{Policy}
 use Rattle.ir_model.specs.Plain.{PlainFirmware}
 use Rattle.plan_model.specs.declared.plan.Board.{Board}

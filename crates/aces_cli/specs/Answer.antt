@@ -1,6 +1,6 @@
 -- What a call answers where no call on the outside fails and memory does not run out: the status, what is printed, the
 -- line that tells of a fault, and what is written.
-use Rattle.std.specs.Prelude.{◌≡◌, ◌≢◌, ℕ, List, [], Option, Some, None}
+use Rattle.std.specs.Prelude.{◌≡◌, ℕ, List, [], Option, Some, None}
 use Rattle.device_model.specs.declared.image.Image.{Image}
 use Rattle.device_model.specs.declared.image.Window.{Window}
 use Rattle.device_model.specs.declared.tape.TapeFault.{TapeFault}

@@ -6,6 +6,7 @@ use Rattle.aces_reports.specs.Sinks.{sink}
 use Rattle.aces_cli.specs.Did.{world}
 use Rattle.aces_cli.proofs.Ends.{did_also}
 use Rattle.aces_cli.proofs.Answered.{answer_also, usage_answered, answered, partly, printed_in_part}
+use Rattle.aces_cli.proofs.Kept.{held_stays}
 use Rattle.aces_cli.proofs.aces.Goals as goal
 
 pub returns-in-None-clause-answer : goal.returns-in-None-clause-answer
@@ -93,3 +94,11 @@ returns-in-Some-clause-printed_in_part_of_reads g c six =
     printed_in_part (WasRead of) (WasTooLarge of) (map (string_bytes {Z = Global}) c.args.words.now) r c.in-Some.ensures.command
     old new (sink g.E.Sink c.args.err.now) (sink g.E.Sink c.report.new.err) c.perform-ended.result (sym c.report.ensures.status ∙ six)
     (did_also (Answer (IsKnown of files) (IsKnownLarge of files) r) (Answer (WasRead of) (WasTooLarge of) r) also r old new c.perform-ended.result c.perform-ended.ensures)
+
+pub returns-in-Some-clause-kept : goal.returns-in-Some-clause-kept
+returns-in-Some-clause-kept g c some whole =
+    let of = g.F.Files in
+    let files = c.args.files.now in
+    held_stays (IsKnown of files) (IsKnownLarge of files) (request_of c.in-Some.command)
+    (world of files (sink g.O.Sink c.args.out.now)) (world of c.perform-ended.new.files (sink g.O.Sink c.perform-ended.new.out)) c.perform-ended.result c.perform-ended.ensures
+    (λ z. some (c.report.ensures.status ∙ z)) (λ z. whole (c.report.ensures.status ∙ z))
