@@ -1,40 +1,134 @@
-#!/bin/bash
-# Shows what the program does with the example firmwares on recorded device input. The program is read and run as it stands:
-# nothing of it is proved here. `rt ci` proves it.
+#!/bin/sh
+# Shows what the program does with the example firmwares on recorded device input. The program is built once and run as it
+# stands: nothing of it is proved here. `rt ci` proves it.
 set -e
 cd "$(dirname "$0")"
 examples=$PWD/examples
 work=$(mktemp -d)
-trap 'rm -rf "$work"' EXIT
+build=
+trap '[ -z "$build" ] || kill "$build" 2> /dev/null || :; rm -rf "$work"' EXIT
+trap 'exit 1' HUP INT TERM
+mkdir "$work/cases"
+mkfifo "$work/go"
 
-# Runs the program with these words in the background; `show` waits for it.
-begin() {
-    local name=$1
+# Puts a call of the program among those of the build; calls are made in the order of their names, the first word here.
+call() {
+    name=$1
     shift
-    echo "$ aces $*" > "$work/$name.words"
-    (cd crates/aces && rt try -- "$@" > "$work/$name.out" 2> "$work/$name.err") &
-    echo $! > "$work/$name.pid"
+    : > "$work/cases/$name"
+    printf '%s\n' "$@" > "$work/cases/$name.args"
 }
 
-# Prints the words of a run that was begun and what it printed.
+# Prints what a call printed.
+printed() {
+    awk -v "name=$1" '/^== / { on = $2 == name; next } on' "$work/printed"
+}
+
+# Prints a call, what it printed, and its exit status where that is another than 0.
 show() {
-    wait "$(cat "$work/$1.pid")" || { cat "$work/$1.err"; exit 1; }
-    sed "s:$examples/::g; s:$work/::g" "$work/$1.words"
-    cat "$work/$1.out"
+    echo
+    echo "$ aces $(paste -s -d ' ' "$work/cases/$1.args" | sed "s:$examples/::g; s:$work/::g")"
+    printed "$1"
+    sed -n "s/^case=$1 .*status=\([1-9][0-9]*\) .*/(exit status \1)/p" "$work/ends"
 }
 
-echo "An unproved build of the program; each call takes a minute or two."
-begin check check "$examples/heater.ir"
-begin source source "$examples/heater.ir" filename "$examples/heater.tape" 1000
-begin small list "$examples/satellite.ir" "$examples/board.toml" filename
-begin large list "$examples/satellite.ir" "$examples/board16.toml" filename
-begin compile compile "$examples/sample.ir" "$examples/board.toml" filename "$work/sample.image"
-begin sample source "$examples/sample.ir" filename "$examples/sample.tape" 1000
-show check
-show source
-show sample
-show small
-show large
-show compile
-begin run run "$work/sample.image" "$examples/sample.tape" 1000
-show run
+cd "$examples"
+call 10-check check "$examples/satellite.ir"
+call 11-list list "$examples/satellite.ir" "$examples/board.toml" filename
+call 12-list list "$examples/satellite.ir" "$examples/board16.toml" filename
+call 20-compile compile "$examples/satellite.ir" "$examples/board.toml" filename "$work/satellite.image"
+call 21-compile compile "$examples/satellite.ir" "$examples/board16.toml" filename "$work/satellite16.image"
+call 30-source source "$examples/satellite.ir" filename "$examples/satellite.tape" 10000
+call 31-run run "$work/satellite.image" "$examples/satellite.tape" 100000
+call 32-run run "$work/satellite16.image" "$examples/satellite.tape" 100000
+
+# Every example on both boards under the three policies.
+all=""
+for firmware in sample heater satellite; do
+    for policy in filename optimized peripheral; do
+        for board in board board16; do
+            one=$firmware.$policy.$board
+            call "40-$one" compile "$examples/$firmware.ir" "$examples/$board.toml" "$policy" "$work/$one"
+            call "41-$one" run "$work/$one" "$examples/$firmware.tape" 100000
+            call "42-$one" source "$examples/$firmware.ir" "$policy" "$examples/$firmware.tape" 10000
+            all="$all $one"
+        done
+    done
+done
+
+# A radio that was taken over. The flash bytes come first, to know where they begin in the image; at the pipe `go` the program
+# waits until the hostile image is made.
+call 50-bin bin "$work/satellite16.image" "$work/flash"
+call 51-bin bin "$work/satellite16.image" "$work/flash.again"
+call 52-go bin "$work/satellite16.image" "$work/go"
+call 53-hostile run "$work/hostile.image" "$examples/satellite.tape" 100000
+
+# Writes hostile.image: satellite16.image, but for 22 bytes where the listing has the radio's code, 0x2300 behind the start of
+# flash. They put 7 into the radio's own peripheral, and then into `effort`, a global of the control loop at 0x20000c60.
+hostile() {
+    start=$(($(wc -c < "$work/satellite16.image") - $(wc -c < "$work/flash")))
+    cp "$work/satellite16.image" "$work/hostile.image"
+    {
+        printf '\101\362\000\001\304\362\001\001' # MOVW r1,#0x1000; MOVT r1,#0x4001
+        printf '\007\040\010\140'                 # MOVS r0,#7; STR r0,[r1,#0]
+        printf '\100\366\140\101\302\362\000\001' # MOVW r1,#0x0c60; MOVT r1,#0x2000
+        printf '\010\140'                         # STR r0,[r1,#0]
+    } | dd of="$work/hostile.image" bs=1 seek=$((start + 0x2300)) conv=notrunc 2> "$work/dd" || cat "$work/dd" >&2
+}
+
+echo "An unproved build of the program, with checks; it takes a minute or two."
+(cd ../crates/aces && exec rt try --cases "$work/cases" > "$work/printed" 2> "$work/ends") &
+build=$!
+while [ ! -e "$work/flash.again" ] && kill -0 "$build" 2> /dev/null; do sleep 1; done
+if [ -e "$work/flash.again" ]; then
+    hostile
+    exec 3<> "$work/go"
+fi
+wait "$build" || { cat "$work/ends" >&2; exit 1; }
+build=
+
+echo
+echo "The firmware of a small satellite: a control loop, a sensor driver and a radio, which are to be kept apart."
+show 10-check
+
+echo
+echo "Its compartments on a board with 8 regions, and what each may write. The radio may write 4 bytes without need."
+show 11-list
+echo
+echo "The same with 16 regions, where all that is not needed is closed to reading too. Nothing is exposed."
+show 12-list
+
+echo
+echo "Images for both boards: code, monitor and tables."
+show 20-compile
+show 21-compile
+
+echo
+echo "The source on recorded input, and the image on the simulated processor: number of the compartment, access, peripheral."
+show 30-source
+show 31-run
+printed 30-source > "$work/source"
+for it in 31-run 32-run; do
+    printed "$it" > "$work/run"
+    cmp "$work/source" "$work/run"
+done
+echo
+echo "The images of both boards make the same accesses, by the same compartments, in the same order, as the source, and end as it does."
+
+for one in $all; do
+    printed "41-$one" > "$work/run"
+    printed "42-$one" > "$work/source"
+    [ -s "$work/source" ] && cmp "$work/source" "$work/run" || { echo "source and image differ: $one"; exit 1; }
+    echo "source and image agree: $(echo "$one" | tr . ' ')"
+done
+
+echo
+echo "Now the radio is hostile: in the image for the second board its code is overwritten by code that stores into the control loop's effort."
+printed 12-list | grep -q '^compartment 2 code 0x08002300 '
+printed 12-list | grep -q '^slot . data 0x20000c60 32 effort$'
+show 53-hostile
+echo
+echo "The hostile code runs and reaches the radio's own peripheral; its store into effort is refused, and the monitor ends the run by halt 7."
+printed 53-hostile | grep '^[01] ' > "$work/others"
+printed 30-source | grep '^[01] ' | head -n "$(wc -l < "$work/others")" | cmp - "$work/others"
+echo "Up to there the control loop and the sensor driver did what they do in the source."
