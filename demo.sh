@@ -132,3 +132,5 @@ echo "The hostile code runs and reaches the radio's own peripheral; its store in
 printed 53-hostile | grep '^[01] ' > "$work/others"
 printed 30-source | grep '^[01] ' | head -n "$(wc -l < "$work/others")" | cmp - "$work/others"
 echo "Up to there the control loop and the sensor driver did what they do in the source."
+echo
+echo "All of this was run unproved. This proves every crate and builds the program, with a line for each crate: rt ci 2>&1 | tools/progress.py"

@@ -4,6 +4,7 @@
     tools/claim_reach.py files     # each crate's files, lowest crates first, with the lines reached, comments not counted
     tools/claim_reach.py names     # the same, with the names of the definitions
     tools/claim_reach.py beyond    # the files of definitions of which the claim reaches nothing
+    tools/claim_reach.py mark      # has the first line of each of these files say so, and of no other
     tools/claim_reach.py files compiler/specs/Compiled.antt IsImageFor      # what one definition reaches
 
 A definition reaches those whose names stand in it, in its own file or by its file's imports. A variable that has the name of
@@ -20,6 +21,7 @@ import textwrap
 
 CRATES = os.path.join(os.path.dirname(os.path.abspath(__file__)), "..", "crates")
 CLAIM = "aces_cli/src/lib.rt", "aces"
+BEYOND = "-- Beyond the program's claim: only laws, proofs and functions inside the tool cite this file.\n"
 GHOST_USE = re.compile(r"^(?:ghost )?use Rattle\.(\w+)\.specs\.(declared\.)?([\w.]+?)(?:\.\{([^}]*)\}| as (\w+));?$", re.M)
 RUST_USE = re.compile(r"^(?:pub )?use (\w+)::([^;]*);", re.M)
 RUST_BLOCK = re.compile(r"^pub (?:struct|enum|trait) (\w+)(?:[^;{]*;|.*?^\})|^pub fn (aces)\b.*?^(?=\{)", re.M | re.S)
@@ -133,12 +135,31 @@ def table(found, with_names):
     print(f"all {sum(count.values())}: {sum(count.values()) - rust} of definitions, {rust} of Rust types, traits and the call itself")
 
 
+def beyond(found):
+    """The files of definitions of which nothing is reached, with their lines."""
+    others = {path: blocks(path) for path in sorted(glob.glob("*/specs/*.antt", root_dir=CRATES)) if path not in found}
+    return {path: count for path, count in line_counts(others).items() if count}
+
+
+def mark(found):
+    """Writes the first line of each file of definitions of which nothing is reached, and takes it from every other."""
+    others = beyond(found)
+    for path in glob.glob("*/specs/*.antt", root_dir=CRATES):
+        with open(os.path.join(CRATES, path), encoding="utf-8") as file:
+            text = file.read()
+        marked = BEYOND * (path in others) + text.removeprefix(BEYOND)
+        if marked != text:
+            with open(os.path.join(CRATES, path), "w", encoding="utf-8") as file:
+                file.write(marked)
+
+
 def main(mode="files", *root):
     """Prints what is asked for."""
     found = reached(root or CLAIM)
     if mode == "beyond":
-        others = {path: blocks(path) for path in sorted(glob.glob("*/specs/*.antt", root_dir=CRATES)) if path not in found}
-        print("\n".join(f"{path} {count}" for path, count in line_counts(others).items() if count))
+        print("\n".join(f"{path} {count}" for path, count in beyond(found).items()))
+    elif mode == "mark":
+        mark(found)
     else:
         table(found, mode == "names")
 
