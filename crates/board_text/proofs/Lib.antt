@@ -1,3 +1,4 @@
 mod Refusals
 mod Rules
 mod Words
+mod OneAnswer

@@ -1,4 +1,5 @@
 pub mod Extra
 pub mod Fields
 pub mod Keys
+pub mod Laws
 pub mod Reading

@@ -7,5 +7,6 @@ mod extra;
 pub mod fault;
 mod fields;
 pub mod key;
+pub mod laws;
 
 pub use board::read_board;

@@ -1,3 +1,6 @@
 mod Tables
 mod Analysing
 mod Counting
+mod OneList
+mod Wider
+mod OneAnswer

@@ -1,1 +1,3 @@
 pub mod Unplanned
+pub mod Plannable
+pub mod Laws

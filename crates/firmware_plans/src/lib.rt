@@ -1,6 +1,8 @@
 //! Plans of a checked firmware: what its functions need, and where its blocks lie on a board by a policy.
 #![tactic(auto)]
 
+pub mod laws;
+
 ghost use Rattle.std.specs.Prelude.{◌≡◌, IfOk, IfErr, length};
 ghost use Rattle.ir_model.specs.Plain.{firmware_of, funcs_of};
 ghost use Rattle.ir_model.specs.Resolve.{resolve};
