@@ -1,6 +1,5 @@
 -- The slots of covers pass: each cover of the final graph is an aligned power of two of addresses of peripherals.
-use Rattle.std.proofs.Common.{◌≡◌, ℕ, zero, suc, ◌+◌, ◌<◌, ◌≤◌, ◌%◌, true, ◌||◌, [], length, map, filter, get_or, nat_lt, ap, ap₂, sym, ◌∙◌, subst, lit<, arith}
-use Rattle.std.specs.List.{range_with_len}
+use Rattle.std.proofs.Common.{◌≡◌, ℕ, ◌+◌, ◌<◌, ◌≤◌, ◌%◌, true, ◌||◌, [], length, map, filter, get_or, nat_lt, ap, ap₂, sym, ◌∙◌, subst, lit<, arith}
 use Rattle.std.proofs.lemmas.Bool.{cases_lt}
 use Rattle.std.proofs.lemmas.List.{get_or_past}
 use Rattle.std.proofs.lemmas.List.FromFn.{get_or-map-range_with_len, length-map-range_with_len}

@@ -1,5 +1,5 @@
 -- Each cover of the final graph holds whole windows: a window that has an address in it lies inside it.
-use Rattle.std.proofs.Common.{◌≡◌, ℕ, ◌+◌, ◌*◌, ◌-◌, ◌/◌, ◌%◌, ◌^◌, ◌<◌, ◌≤◌, Bool, true, false, ◌&&◌, [], length, get_or, nat_le, refl, sym, subst, le-leb, pow_pos, arith}
+use Rattle.std.proofs.Common.{◌≡◌, ℕ, ◌+◌, ◌*◌, ◌-◌, ◌/◌, ◌^◌, ◌<◌, ◌≤◌, Bool, true, false, ◌&&◌, [], length, get_or, nat_le, refl, sym, subst, le-leb, pow_pos, arith}
 use Rattle.std.proofs.lemmas.Bool.{leb-true, cases_lt, cases_eq}
 use Rattle.std.proofs.lemmas.Nat.{div-add-mod'}
 use mathlib.Core.Logic.{⊎_elim}

@@ -1,5 +1,5 @@
 -- What the slots of a planned firmware's compartments hold is of their permissions.
-use Rattle.std.proofs.Common.{◌≡◌, ◌≢◌, ℕ, zero, suc, ◌<◌, ◌≤◌, ◌+◌, ◌*◌, ◌/◌, ◌%◌, ◌^◌, inl, inr, Bool, true, false, not, ◌&&◌, ◌||◌, List, [], ◌∷◌, ◌++◌, length, map, get_or, cond, nat_eq, nat_lt, refl, ap, ap₂, sym, ◌∙◌, subst, eq-eqb, pow_pos, lit<, arith}
+use Rattle.std.proofs.Common.{◌≡◌, ℕ, zero, suc, ◌<◌, ◌≤◌, ◌+◌, ◌*◌, ◌/◌, ◌%◌, inl, inr, Bool, true, false, ◌&&◌, List, [], ◌∷◌, length, map, get_or, cond, nat_eq, nat_lt, refl, ap, sym, ◌∙◌, subst, lit<, arith}
 use Rattle.std.specs.List.{list_any}
 use Rattle.std.proofs.lemmas.Bool.{ltb-true, cases_lt}
 use Rattle.std.proofs.lemmas.List.{get_or_past}
@@ -51,7 +51,7 @@ use Rattle.linked_promises.proofs.Lists.{each_behind, each_weaker, each_passing,
 use Rattle.linked_promises.proofs.Bearing.{use_region}
 use Rattle.linked_promises.proofs.CoverParts.{each_map}
 use Rattle.linked_promises.proofs.CoverWindows.{IsFilled, covers_are_filled, whole_inside}
-use Rattle.linked_promises.proofs.GlobalPlaces.{IsPlaced, placed, byte_held, same_or_other}
+use Rattle.linked_promises.proofs.GlobalPlaces.{placed, byte_held, same_or_other}
 use Rattle.linked_promises.proofs.DataSlots.{few_bits, slot_holds}
 use Rattle.linked_promises.proofs.DataRanges as ranges
 use Rattle.linked_promises.proofs.Opened.{SlotLaws, slots_are, slots_at}
