@@ -1,5 +1,5 @@
 -- Each cover is an aligned power of two of addresses of peripherals, and a join of two is one too.
-use Rattle.std.proofs.Common.{◌≡◌, ℕ, zero, suc, ◌<◌, ◌≤◌, ◌+◌, ◌-◌, ◌*◌, ◌/◌, ◌%◌, ◌^◌, ◌⊎◌, inl, inr, Bool, true, false, not, List, [], ◌∷◌, ◌++◌, length, map, filter, get_or, set, cond, Option, Some, nat_eq, nat_lt, refl, ap, sym, ◌∙◌, subst, eq-eqb, lit<, arith}
+use Rattle.std.proofs.Common.{◌≡◌, ℕ, zero, suc, ◌<◌, ◌≤◌, ◌+◌, ◌-◌, ◌*◌, ◌/◌, ◌%◌, ◌^◌, ◌⊎◌, inl, inr, Bool, true, false, not, List, [], ◌∷◌, ◌++◌, length, map, filter, get_or, set, cond, Option, Some, nat_eq, nat_lt, nat_le, refl, ap, sym, ◌∙◌, subst, eq-eqb, eqb-true, le-leb, lit<, arith}
 use Rattle.std.specs.Prelude.{find, unwrap_or}
 use Rattle.std.specs.List.{range_with_len, best_of}
 use Rattle.std.proofs.lemmas.Bool.{cases_lt, cases_eq}
@@ -14,10 +14,11 @@ use Rattle.plan_model.specs.declared.graph.Cover.{Cover}
 use Rattle.plan_model.specs.declared.graph.Graph.{Graph}
 use Rattle.plan_model.specs.Choices.{Pair, pairs, cheapest}
 use Rattle.plan_model.specs.Lists.{numbers_below, placed, in_order}
-use Rattle.plan_model.specs.Covers.{least_power, lowest, highest, joined_size, joined, is_inside, cover_at}
+use Rattle.plan_model.specs.Covers.{least_power, lowest, highest, joined_size, joined, is_inside, end_of, cover_at}
 use Rattle.plan_model.specs.FinalGraph.{Merges, stays, joins}
 use Rattle.plan_model.specs.Merging.{covers_at, cover_cost, cover_pair, with_joined_cover, next}
 use Rattle.linked_promises.proofs.Kept.{by_next}
+use Rattle.linked_promises.proofs.Reach.{both}
 
 pub record IsPart (d : Cover) : Type 0 where
   pub power : ℕ
@@ -75,9 +76,9 @@ range_in x n lo hi p l h =
       omega (arith, up, spread),
     )
 
-joined_part : (c d : Cover) → IsPart c → IsPart d → IsPart (joined c d)
-unfolding joined least_power
-joined_part c d one two =
+-- what the search for the size of a join finds
+join_found : (c d : Cover) → IsPart c → IsPart d → IsFound (λ n. nat_eq (lowest c d / n) (highest c d / n)) 5 29 (find (λ n. nat_eq (lowest c d / n) (highest c d / n)) (map (λ k. 2 ^ k) (range_with_len 5 28)))
+join_found c d one two =
     let lo : ℕ = lowest c d in
     let hi : ℕ = highest c d in
     let some_c = positive one.power in
@@ -94,7 +95,23 @@ joined_part c d one two =
     let high_to : hi < 0x60000000 = omega (arith, cf, ct, df, dt, cs, ds, some_c, some_d) in
     let test : ℕ → Bool = λ n. nat_eq (lo / n) (hi / n) in
     let last : test (2 ^ 29) ≡ true = eq-eqb (lo / 0x20000000) (hi / 0x20000000) (third lo low_from low_to ∙ sym (third hi high_from high_to)) in
-    let f = found test 28 5 29 (omega arith) (omega arith) last in
+    found test 28 5 29 (omega arith) (omega arith) last
+
+pub joined_part : (c d : Cover) → IsPart c → IsPart d → IsPart (joined c d)
+unfolding joined least_power
+joined_part c d one two =
+    let lo : ℕ = lowest c d in
+    let some_c = positive one.power in
+    let some_d = positive two.power in
+    let cs = one.size in
+    let ds = two.size in
+    let cf = one.from in
+    let ct = one.to in
+    let df = two.from in
+    let dt = two.to in
+    let low_from : 0x40000000 ≤ lo = omega (arith, cf, df) in
+    let low_to : lo < 0x60000000 = omega (arith, cf, ct, df, dt, cs, ds, some_c, some_d) in
+    let f = join_found c d one two in
     let n : ℕ = 2 ^ f.power in
     let size : joined_size c d ≡ n = ap (λ o. unwrap_or o (2 ^ 32)) f.is in
     let pos = positive f.power in
@@ -113,6 +130,27 @@ joined_part c d one two =
       from = let a = r.0 in omega (arith, a, base, two_of);
       to = let b = r.1 in omega (arith, b, base, three_of, size);
     }
+
+-- the join holds its first cover
+pub joined_holds : (c d : Cover) → IsPart c → IsPart d → is_inside c (joined c d) ≡ true
+unfolding joined least_power
+joined_holds c d one two =
+    let lo : ℕ = lowest c d in
+    let hi : ℕ = highest c d in
+    let f = join_found c d one two in
+    let n : ℕ = 2 ^ f.power in
+    let pos = positive f.power in
+    let size : joined_size c d ≡ n = ap (λ o. unwrap_or o (2 ^ 32)) f.is in
+    let base : lo / joined_size c d * joined_size c d ≡ lo / n * n = ap (λ k. lo / k * k) size in
+    let same : lo / n ≡ hi / n = eqb-true (lo / n) (hi / n) f.passes in
+    let same_base : lo / n * n ≡ hi / n * n = ap (λ k. k * n) same in
+    let low = div-add-mod' lo n in
+    let high = div-add-mod' hi n in
+    let rest = mod_below hi n pos in
+    let least : lo ≤ c.base = omega arith in
+    let most : end_of c ≤ hi + 1 = omega arith in
+    both (nat_le (joined c d).base c.base) (nat_le (end_of c) (end_of (joined c d))) (le-leb (joined c d).base c.base (omega (arith, base, low, least)))
+    (le-leb (end_of c) (end_of (joined c d)) (omega (arith, base, size, same_base, high, rest, most)))
 
 -- ---- lists of covers
 
@@ -180,37 +218,42 @@ chosen cs q e =
     cheapest_is (λ (q : Pair). (q.first < length cs) × (q.second < length cs)) (cover_cost cs) (pairs (numbers_below (length cs))) q
     (pairs_are (length cs) (numbers_below (length cs)) (numbers_are 0 (length cs) (length cs) (omega arith))) e
 
-joined_parts : (cs : List Cover) (q : Pair) → cover_pair cs ≡ Some q → AreParts cs → AreParts (with_joined_cover cs q)
-joined_parts cs q e a =
-    let m = chosen cs q e in
-    let d : Cover = joined (cover_at cs q.first) (cover_at cs q.second) in
-    each_in_order IsPart (λ (x y : Cover). nat_lt x.base y.base) (d ∷ filter (λ (c : Cover). not (is_inside c d)) cs) (
-      joined_part (cover_at cs q.first) (cover_at cs q.second) (each_at IsPart cs q.first _ a m.0) (each_at IsPart cs q.second _ a m.1),
-      each_filter IsPart (λ (c : Cover). not (is_inside c d)) cs a,
-    )
-
 -- ---- joins of a graph
 
 abbrev pub HasParts : Graph → Type 0
 HasParts g = (c : ℕ) → AreParts (get_or g.covers c [])
 
-parts_set : (css : List (List Cover)) (k : ℕ) (new : List Cover) → ((c : ℕ) → AreParts (get_or css c [])) → AreParts new → (c : ℕ) → AreParts (get_or (set css k new) c [])
-parts_set css k new a e c = ⊎_elim same other (cases_eq c k)
-  where
-    other : (c ≡ k → ⊥) → AreParts (get_or (set css k new) c [])
-    other d = subst AreParts (sym (get_or-set_other css k c new [] d)) (a c)
+-- what a join has from both of its covers, each cover keeps
+module _ (P : Cover → Type 0) (joins_both : (c d : Cover) → P c → P d → P (joined c d)) where
+  joined_covers : (cs : List Cover) (q : Pair) → cover_pair cs ≡ Some q → areas.Each P cs → areas.Each P (with_joined_cover cs q)
+  joined_covers cs q e a =
+      let m = chosen cs q e in
+      let d : Cover = joined (cover_at cs q.first) (cover_at cs q.second) in
+      each_in_order P (λ (x y : Cover). nat_lt x.base y.base) (d ∷ filter (λ (c : Cover). not (is_inside c d)) cs) (
+        joins_both (cover_at cs q.first) (cover_at cs q.second) (each_at P cs q.first _ a m.0) (each_at P cs q.second _ a m.1),
+        each_filter P (λ (c : Cover). not (is_inside c d)) cs a,
+      )
 
-    same : c ≡ k → AreParts (get_or (set css k new) c [])
-    same s =
-        subst (λ j. AreParts (get_or (set css k new) j [])) (sym s)
-        (⊎_elim (λ lt. subst AreParts (sym (get_or-set_same css k new [] lt)) e)
-        (λ le. subst AreParts (sym (get_or_past (set css k new) k [] (let n = length-set css k new in omega (arith, n, le)))) tt) (cases_lt k (length css)))
+  covers_set : (css : List (List Cover)) (k : ℕ) (new : List Cover) → ((c : ℕ) → areas.Each P (get_or css c [])) → areas.Each P new → (c : ℕ) → areas.Each P (get_or (set css k new) c [])
+  covers_set css k new a e c = ⊎_elim same other (cases_eq c k)
+    where
+      other : (c ≡ k → ⊥) → areas.Each P (get_or (set css k new) c [])
+      other d = subst (areas.Each P) (sym (get_or-set_other css k c new [] d)) (a c)
 
-parts_next : (p : Program) (slots : ℕ) (g h : Graph) → next p slots g ≡ Some h → HasParts g → HasParts h
-parts_next p slots g h e =
-    by_next p (λ g h. HasParts g → HasParts h) (λ g q c f a. a)
-    (λ g c q f a. parts_set g.covers c (with_joined_cover (covers_at g c) q) a (joined_parts (covers_at g c) q f (a c))) slots g h e
+      same : c ≡ k → areas.Each P (get_or (set css k new) c [])
+      same s =
+          subst (λ j. areas.Each P (get_or (set css k new) j [])) (sym s)
+          (⊎_elim (λ lt. subst (areas.Each P) (sym (get_or-set_same css k new [] lt)) e)
+          (λ le. subst (areas.Each P) (sym (get_or_past (set css k new) k [] (let n = length-set css k new in omega (arith, n, le)))) tt) (cases_lt k (length css)))
+
+  covers_next : (p : Program) (slots : ℕ) (g h : Graph) → next p slots g ≡ Some h → ((c : ℕ) → areas.Each P (get_or g.covers c [])) → (c : ℕ) → areas.Each P (get_or h.covers c [])
+  covers_next p slots g h e =
+      by_next p (λ g h. ((c : ℕ) → areas.Each P (get_or g.covers c [])) → (c : ℕ) → areas.Each P (get_or h.covers c [])) (λ g q c f a. a)
+      (λ g c q f a. covers_set g.covers c (with_joined_cover (covers_at g c) q) a (joined_covers (covers_at g c) q f (a c))) slots g h e
+
+  pub covers_all : (p : Program) (slots : ℕ) (g h : Graph) → Merges p slots g h → ((c : ℕ) → areas.Each P (get_or g.covers c [])) → (c : ℕ) → areas.Each P (get_or h.covers c [])
+  covers_all p slots g h stays a = a
+  covers_all p slots g k (joins {h = h} e m) a = covers_all p slots h k m (covers_next p slots g h e a)
 
 pub parts_all : (p : Program) (slots : ℕ) (g h : Graph) → Merges p slots g h → HasParts g → HasParts h
-parts_all p slots g h stays a = a
-parts_all p slots g k (joins {h = h} e m) a = parts_all p slots h k m (parts_next p slots g h e a)
+parts_all p slots g h m a = covers_all IsPart joined_part p slots g h m a

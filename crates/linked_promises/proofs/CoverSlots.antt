@@ -1,6 +1,5 @@
 -- The slots of covers pass: each cover of the final graph is an aligned power of two of addresses of peripherals.
-use Rattle.std.proofs.Common.{◌≡◌, ℕ, zero, suc, ◌+◌, ◌<◌, ◌≤◌, ◌%◌, true, ◌||◌, [], length, map, filter, get_or, nat_lt, ap, ap₂, sym, ◌∙◌, subst, lit<, arith}
-use Rattle.std.specs.List.{range_with_len}
+use Rattle.std.proofs.Common.{◌≡◌, ℕ, ◌+◌, ◌<◌, ◌≤◌, ◌%◌, true, ◌||◌, [], length, map, filter, get_or, nat_lt, ap, ap₂, sym, ◌∙◌, subst, lit<, arith}
 use Rattle.std.proofs.lemmas.Bool.{cases_lt}
 use Rattle.std.proofs.lemmas.List.{get_or_past}
 use Rattle.std.proofs.lemmas.List.FromFn.{get_or-map-range_with_len, length-map-range_with_len}
@@ -16,54 +15,57 @@ use Rattle.plan_model.specs.declared.graph.Cover.{Cover}
 use Rattle.plan_model.specs.declared.graph.Final.{Final}
 use Rattle.plan_model.specs.Lists.{numbers_below}
 use Rattle.plan_model.specs.Groups.{uses}
+use Rattle.plan_model.specs.Covers.{joined}
 use Rattle.plan_model.specs.InitialGraph.{cover_of, covers_of, initial_graph}
 use Rattle.plan_model.specs.FinalGraph.{IsFinal}
 use Rattle.plan_model.specs.Slots.{cover_slot}
 use Rattle.monitor.specs.declared.tables.Tables.{Tables}
 use Rattle.monitor.specs.RegionChecks.{is_inside, is_free, is_data, is_read_only, is_cover, is_slot}
 use Rattle.linked_images.proofs.Passing.{and_yes, or_right, inside_yes}
-use Rattle.linked_promises.proofs.CoverParts.{IsPart, AreParts, parts_all, each_in_order, each_map}
+use Rattle.linked_promises.proofs.CoverParts.{IsPart, AreParts, joined_part, covers_all, each_in_order, each_map}
 use Rattle.linked_promises.proofs.Bearing.{use_region}
 use Rattle.linked_promises.proofs.Forms.{is_made}
 use Rattle.linked_promises.proofs.KeptItems.{each_filter}
+use Rattle.linked_promises.proofs.Lists.{below_all}
 
--- ---- the first graph
+-- ---- the windows of peripherals
 
-module _ (p : Program) (n : Needs) (g : Groups) (windows : HasWindows p) where
-  window_part : (q : ℕ) → q < length p.periphs → IsPart (cover_of p q)
-  window_part q l =
-      let i = windows.each q l in
-      let m = i.most in
-      record { power = i.power; least = i.least; most = omega (arith, m); size = i.size; aligned = subst (λ s. (window_at p q).base % s ≡ 0) i.size i.aligned; from = i.from; to = i.to }
+pub window_part : (p : Program) → HasWindows p → (q : ℕ) → q < length p.periphs → IsPart (cover_of p q)
+window_part p windows q l =
+    let i = windows.each q l in
+    let m = i.most in
+    record { power = i.power; least = i.least; most = omega (arith, m); size = i.size; aligned = subst (λ s. (window_at p q).base % s ≡ 0) i.size i.aligned; from = i.from; to = i.to }
 
-  each_below : (a m k : ℕ) → a + m ≤ k → areas.Each (λ j. j < k) (range_with_len a m)
-  each_below a zero k l = tt
-  each_below a (suc m) k l = (omega (arith, l), each_below (a + 1) m k (omega (arith, l)))
+-- ---- what each window has, and a join from both of its covers
 
-  first_parts : (c : ℕ) → AreParts (covers_of p n g c)
-  first_parts c =
-      each_in_order IsPart (λ (a b : Cover). nat_lt a.base b.base) (map (cover_of p) (filter (uses n g c) (numbers_below (length p.periphs))))
-      (each_map IsPart (cover_of p) (λ j. j < length p.periphs) (filter (uses n g c) (numbers_below (length p.periphs))) window_part
-      (each_filter (λ j. j < length p.periphs) (uses n g c) (numbers_below (length p.periphs)) (each_below 0 (length p.periphs) (length p.periphs) (omega arith))))
+module _ (p : Program) (P : Cover → Type 0) (window : (q : ℕ) → q < length p.periphs → P (cover_of p q)) where
+  module _ (n : Needs) (g : Groups) where
+    first_each : (c : ℕ) → areas.Each P (covers_of p n g c)
+    first_each c =
+        each_in_order P (λ (a b : Cover). nat_lt a.base b.base) (map (cover_of p) (filter (uses n g c) (numbers_below (length p.periphs))))
+        (each_map P (cover_of p) (λ j. j < length p.periphs) (filter (uses n g c) (numbers_below (length p.periphs))) window
+        (each_filter (λ j. j < length p.periphs) (uses n g c) (numbers_below (length p.periphs)) (below_all 0 (length p.periphs) (length p.periphs) (omega arith))))
 
-  first_at : (c : ℕ) → AreParts (get_or (initial_graph p n g).covers c [])
-  unfolding initial_graph
-  first_at c = ⊎_elim inner outer (cases_lt c g.count)
-    where
-      inner : c < g.count → AreParts (get_or (map (covers_of p n g) (numbers_below g.count)) c [])
-      inner l = subst AreParts (sym (get_or-map-range_with_len (covers_of p n g) 0 g.count c c [] l (let e : 0 + c ≡ c = omega arith in e))) (first_parts c)
+    first_at : (c : ℕ) → areas.Each P (get_or (initial_graph p n g).covers c [])
+    unfolding initial_graph
+    first_at c = ⊎_elim inner outer (cases_lt c g.count)
+      where
+        inner : c < g.count → areas.Each P (get_or (map (covers_of p n g) (numbers_below g.count)) c [])
+        inner l = subst (areas.Each P) (sym (get_or-map-range_with_len (covers_of p n g) 0 g.count c c [] l (let e : 0 + c ≡ c = omega arith in e))) (first_each c)
 
-      outer : g.count ≤ c → AreParts (get_or (map (covers_of p n g) (numbers_below g.count)) c [])
-      outer l =
-          let size = length-map-range_with_len (covers_of p n g) 0 g.count in
-          subst AreParts (sym (get_or_past (map (covers_of p n g) (numbers_below g.count)) c [] (omega (arith, size, l)))) tt
+        outer : g.count ≤ c → areas.Each P (get_or (map (covers_of p n g) (numbers_below g.count)) c [])
+        outer l =
+            let size = length-map-range_with_len (covers_of p n g) 0 g.count in
+            subst (areas.Each P) (sym (get_or_past (map (covers_of p n g) (numbers_below g.count)) c [] (omega (arith, size, l)))) tt
 
--- ---- the final graph
+  -- each cover of the final graph has it
+  pub final_covers : ((c d : Cover) → P c → P d → P (joined c d)) → (n : Needs) (f : Final) (slots : ℕ) → IsFinal p n f.groups slots f → (c : ℕ) → areas.Each P (get_or f.covers c [])
+  final_covers joins_both n f slots final c =
+      subst (areas.Each P) (sym (ap (λ (x : Final). get_or x.covers c []) final.is))
+      (covers_all P joins_both p slots (initial_graph p n f.groups) final.last final.reached (first_at n f.groups) c)
 
 pub covers_are_parts : (p : Program) (n : Needs) (f : Final) (slots : ℕ) → IsFinal p n f.groups slots f → HasWindows p → (c : ℕ) → AreParts (get_or f.covers c [])
-covers_are_parts p n f slots final windows c =
-    subst AreParts (sym (ap (λ (x : Final). get_or x.covers c []) final.is))
-    (parts_all p slots (initial_graph p n f.groups) final.last final.reached (first_at p n f.groups windows) c)
+covers_are_parts p n f slots final windows c = final_covers p IsPart (window_part p windows) joined_part n f slots final c
 
 -- ---- slots
 

@@ -70,7 +70,7 @@ module _ (law : PlanLaws) (w : PlainFirmware) (n : Needs) (f : Final) (b : Board
   pub aligned : spot.base % spot.size ≡ 0
   aligned = subst (λ z. spot.base % z ≡ 0) (sym size_is) (block_in law w n f b is (ForRegion r) of_region).1
 
-  inside : IsInside spot.base spot.size b.ram_base b.ram_size
+  pub inside : IsInside spot.base spot.size b.ram_base b.ram_size
   inside = subst (λ z. IsInside spot.base z b.ram_base b.ram_size) (sym size_is) (block_in law w n f b is (ForRegion r) of_region).0
 
   some : 0 < open_bytes spot.size bytes

@@ -89,7 +89,7 @@ module _ (held : RegionsHoldTheirBlocks) (opened : OpenEighthsAreHeld) (rights :
   unfolding subregions_out
   open_held = by_size (has_eighths size) refl
 
-few_bits : (size bytes : ℕ) → subregions_out size bytes < 2 ^ 8
+pub few_bits : (size bytes : ℕ) → subregions_out size bytes < 2 ^ 8
 unfolding subregions_out
 few_bits size bytes = by (has_eighths size)
   where
@@ -115,7 +115,7 @@ module _ (law : GlobalLaws) (held : RegionsHoldTheirBlocks) (opened : OpenEighth
   is_use : (r : ℕ) → r < length f.regions → IsUse f (ForRegion r)
   is_use r h = record { of_globals = tt; there = h }
 
-  slot_holds : (c r a m : ℕ) → r < length f.regions → m < 16 → IsTrue (holds (use_region m (data_slot p f l c r)) a) ↔ Holds p f l (ForRegion r) a
+  pub slot_holds : (c r a m : ℕ) → r < length f.regions → m < 16 → IsTrue (holds (use_region m (data_slot p f l c r)) a) ↔ Holds p f l (ForRegion r) a
   slot_holds c r a m h number =
       let u = is_use r h in
       let size : (region_spot l r).size ≡ block (bytes_of r) = block_size_is law.plans w n f b ok (ForRegion r) u in

@@ -50,7 +50,7 @@ fours k l = record { times = 2 ^ (k - 2); is = let m = multiple 2 k l in omega (
 
 -- ---- uses
 
-same_or_other : (u v : RamUse) → IsOfGlobals u → IsOfGlobals v → (u ≡ v) ⊎ (u ≢ v)
+pub same_or_other : (u v : RamUse) → IsOfGlobals u → IsOfGlobals v → (u ≡ v) ⊎ (u ≢ v)
 same_or_other ForStack v h k = absurd h
 same_or_other ForMonitor v h k = absurd h
 same_or_other u ForStack h k = absurd k

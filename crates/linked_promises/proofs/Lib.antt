@@ -29,8 +29,10 @@ mod Rules
 pub mod Masks
 pub mod Readers
 pub mod CoverSlots
+mod CoverWindows
 pub mod DataSlotForms
 mod DataRanges
+mod SlotContents
 mod RegionsPassed
 pub mod ObjectSizes
 mod Called

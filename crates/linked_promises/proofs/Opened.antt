@@ -73,7 +73,7 @@ module _ (law : SlotLaws) (w : PlainFirmware) (n : Needs) (f : Final) (b : Board
 
   -- ---- a compartment's slots
 
-  slots_are : (2 ≤ slots_of b) × (4 + slots_of b ≤ 16)
+  pub slots_are : (2 ≤ slots_of b) × (4 + slots_of b ≤ 16)
   slots_are = ⊎_elim (λ e. (omega (arith, e), omega (arith, e))) (λ e. (omega (arith, e), omega (arith, e))) ok.board.regions
 
   uses_few : (c : ℕ) → c < f.groups.count → length (slot_uses p f l c) ≤ slots_of b
@@ -84,7 +84,7 @@ module _ (law : SlotLaws) (w : PlainFirmware) (n : Needs) (f : Final) (b : Board
       let three = length-map (get_or f.covers c []) cover_slot in
       omega (arith, most, one, two, three)
 
-  slots_at : (c : ℕ) → c < f.groups.count → (compartment_at (planned_tables w n f b) c).slots ≡ slots_from 4 (slots_of b) (slot_uses p f l c)
+  pub slots_at : (c : ℕ) → c < f.groups.count → (compartment_at (planned_tables w n f b) c).slots ≡ slots_from 4 (slots_of b) (slot_uses p f l c)
   unfolding tables_of slot_regions
   slots_at c m =
       ap (λ (r : CompRecord). r.slots) (get_or-map-range_with_len (comp_record p f l (slots_of b)) 0 f.groups.count c c nobody m (let e : 0 + c ≡ c = omega arith in e))

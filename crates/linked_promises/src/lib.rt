@@ -5,6 +5,7 @@ pub mod code;
 pub mod globals;
 pub mod initial;
 pub mod laws;
+pub mod permissions;
 pub mod regions;
 pub mod sites;
 pub mod tables;
