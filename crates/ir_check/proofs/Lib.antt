@@ -7,3 +7,4 @@ mod FuncParts
 mod StructSteps
 mod GlobalParts
 mod Whole
+mod Small

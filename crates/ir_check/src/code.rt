@@ -1,6 +1,8 @@
 //! Instructions, block ends and blocks.
 
-ghost use Rattle.std.specs.Prelude.{◌≡◌, ◌∷◌, ◌++◌, [], IfOk, IfErr};
+ghost use Rattle.std.specs.Prelude.{◌≡◌, ◌∷◌, ◌++◌, ◌≤◌, [], length};
+ghost use Rattle.std.specs.List.{All};
+ghost use Rattle.ir_model.specs.declared.firmware.Block.{Block as Code};
 ghost use Rattle.ir_model.specs.Plain.{func_of, firmware_of};
 ghost use Rattle.ir_model.specs.Typing.{blocks_checks, code_checks};
 ghost use Rattle.ir_check.specs.Found.{Finds};
@@ -38,30 +40,18 @@ fn term(func: &FuncScope, spot: Spot, term: &Term) -> Result<(), CheckFault>
     Ok(())
 }
 
-/// A number of 32 bits.
-pub fn number(place: usize) -> Result<u32, CheckFault>
-    ensures number { IfOk result (λ n. n ≡ place) }
-    ensures free { IfErr result (λ e. e ≡ CheckFault.NoMemory) }
-{
-    match u32::try_from(place) {
-        Ok(number) => Ok(number),
-        Err(_) => Err(CheckFault::NoMemory),
-    }
-}
-
 fn block(scope: &Scope, func: &FuncScope, block: &Block) -> Result<(), CheckFault>
     requires scope { IsScope scope.now }
     requires func { IsFuncScope func.now }
+    requires few { length block.now.insts ≤ 16384 }
     ensures { Finds (code_checks (firmware_of scope.now.firmware.now) (func_of func.now.func.now) block.now.label 0 block.now.insts block.now.term) result }
 {
     let insts = block.insts.as_slice();
     for i in 0..insts.len() {
-        let place = number(i)?;
-        let spot = Spot::Inst(&func.func.name, &block.label, place);
+        let spot = Spot::Inst(&func.func.name, &block.label, i as u32);
         inst(scope, func, spot, &insts[i])?;
     }
-    let count = number(insts.len())?;
-    let spot = Spot::Inst(&func.func.name, &block.label, count);
+    let spot = Spot::Inst(&func.func.name, &block.label, insts.len() as u32);
     term(func, spot, &block.term)?;
     Ok(())
 }
@@ -70,6 +60,7 @@ fn block(scope: &Scope, func: &FuncScope, block: &Block) -> Result<(), CheckFaul
 pub fn blocks(scope: &Scope, func: &FuncScope, blocks: &[Block]) -> Result<(), CheckFault>
     requires scope { IsScope scope.now }
     requires func { IsFuncScope func.now }
+    requires few { All (λ (b : Code). length b.insts ≤ 16384) blocks.now }
     ensures { Finds (blocks_checks (firmware_of scope.now.firmware.now) (func_of func.now.func.now) blocks.now) result }
 {
     for code in blocks {

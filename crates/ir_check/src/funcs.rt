@@ -1,6 +1,8 @@
 //! Functions.
 
-ghost use Rattle.std.specs.Prelude.{◌≡◌, ◌+◌, ◌*◌, [], IfOk, IfErr};
+ghost use Rattle.std.specs.Prelude.{◌≡◌, ◌+◌, ◌*◌, ◌≤◌, [], length, IfOk};
+ghost use Rattle.std.specs.List.{All};
+ghost use Rattle.ir_model.specs.declared.firmware.Block.{Block};
 ghost use Rattle.ir_model.specs.Plain.{func_of, funcs_of, firmware_of};
 ghost use Rattle.ir_model.specs.Layout.{known, rounded_up};
 ghost use Rattle.ir_model.specs.Frames.{locals_size};
@@ -8,7 +10,7 @@ ghost use Rattle.ir_model.specs.Typing.{funcs_checks};
 ghost use Rattle.ir_model.specs.Resolve.{labels_of};
 ghost use Rattle.ir_check.specs.Found.{Finds};
 ghost use Rattle.ir_check.specs.Parts.{slots_part, frame_part, body_part, func_part};
-ghost use Rattle.ir_check.specs.Scopes.{IsScope, IsFuncScope};
+ghost use Rattle.ir_check.specs.Scopes.{IsScope, IsFuncScope, IsSmall, AreSmall};
 
 use crate::code::blocks;
 use crate::fault::CheckFault;
@@ -29,8 +31,10 @@ use std::alloc::{AllocError, Global};
 fn slots_behind<'a>(scope: &Scope, seen: &mut Names<'a>, func: &'a Func) -> Result<u64, CheckFault>
     requires scope { IsScope scope.now }
     requires seen { seen.old ≡ [] }
+    requires few { length func.now.locals ≤ 64 }
     ensures finds { Finds (slots_part scope.now.structs (firmware_of scope.now.firmware.now) (func_of func.now)) result }
     ensures size { IfOk result (λ n. n ≡ locals_size (known (firmware_of scope.now.firmware.now).structs) (func_of func.now).locals) }
+    ensures most { IfOk result (λ n. n ≤ 64 * 65536) }
 {
     let spot = Spot::Func(&func.name);
     registers(&scope.structs, spot, seen, func.params.as_slice())?;
@@ -41,35 +45,32 @@ fn slots_behind<'a>(scope: &Scope, seen: &mut Names<'a>, func: &'a Func) -> Resu
 }
 
 fn slots(alloc: Global, scope: &Scope, func: &Func) -> Result<u64, CheckFault>
-    requires { IsScope scope.now }
+    requires scope { IsScope scope.now }
+    requires few { length func.now.locals ≤ 64 }
     ensures finds { Finds (slots_part scope.now.structs (firmware_of scope.now.firmware.now) (func_of func.now)) result }
     ensures size { IfOk result (λ n. n ≡ locals_size (known (firmware_of scope.now.firmware.now).structs) (func_of func.now).locals) }
+    ensures most { IfOk result (λ n. n ≤ 64 * 65536) }
 {
     let mut seen = Names::new(alloc);
     slots_behind(scope, &mut seen, func)
 }
 
-fn frame_bytes(registers: usize, locals: u64) -> Result<u32, CheckFault>
-    ensures bytes { IfOk result (λ n. n ≡ rounded_up (4 * registers + locals + 4) 8) }
-    ensures free { IfErr result (λ e. e ≡ CheckFault.NoMemory) }
+fn frame_bytes(registers: usize, locals: u64) -> u32
+    requires registers { registers ≤ 120 }
+    requires locals { locals ≤ 64 * 65536 }
+    ensures { result ≡ rounded_up (4 * registers + locals + 4) 8 }
 {
-    if registers > 1_000_000 || locals > 1_000_000_000 {
-        return Err(CheckFault::NoMemory);
-    }
     let bytes = (4 * registers as u64 + locals + 11) / 8 * 8;
-    Ok(bytes as u32)
+    bytes as u32
 }
 
 fn frame(scope: &Scope, func: &Func, locals: u64) -> Result<(), CheckFault>
-    requires { locals ≡ locals_size (known (firmware_of scope.now.firmware.now).structs) (func_of func.now).locals }
+    requires locals { locals ≡ locals_size (known (firmware_of scope.now.firmware.now).structs) (func_of func.now).locals }
+    requires most { locals ≤ 64 * 65536 }
+    requires few { length func.now.params + length func.now.regs ≤ 120 }
     ensures { Finds (frame_part (firmware_of scope.now.firmware.now) (func_of func.now)) result }
 {
-    let params = func.params.len();
-    let regs = func.regs.len();
-    if params > 1_000_000 || regs > 1_000_000 {
-        return Err(CheckFault::NoMemory);
-    }
-    let bytes = frame_bytes(params + regs, locals)?;
+    let bytes = frame_bytes(func.params.len() + func.regs.len(), locals);
     require(
         bytes <= 992,
         CheckKind::FrameTooLarge { bytes },
@@ -99,7 +100,8 @@ fn func_scope<'a>(
 
 #[tactic(auto, using(crate::proofs::Order::refused_left, crate::proofs::Order::refused_right, crate::proofs::Order::first_stays, crate::proofs::Order::first_append, crate::proofs::Order::refused_one, crate::proofs::Order::refused_behind, crate::proofs::Order::first_behind))]
 fn body(alloc: Global, scope: &Scope, func: &Func) -> Result<(), CheckFault>
-    requires { IsScope scope.now }
+    requires scope { IsScope scope.now }
+    requires few { All (λ (b : Block). length b.insts ≤ 16384) func.now.blocks }
     ensures { Finds (body_part (firmware_of scope.now.firmware.now) (func_of func.now)) result }
 {
     let labels = labels(alloc, Spot::Func(&func.name), func.blocks.as_slice())?;
@@ -110,7 +112,8 @@ fn body(alloc: Global, scope: &Scope, func: &Func) -> Result<(), CheckFault>
 
 #[tactic(auto, using(crate::proofs::Order::refused_left, crate::proofs::Order::refused_right, crate::proofs::Order::first_stays, crate::proofs::Order::first_append))]
 fn func(alloc: Global, scope: &Scope, func: &Func) -> Result<(), CheckFault>
-    requires { IsScope scope.now }
+    requires scope { IsScope scope.now }
+    requires small { IsSmall func.now }
     ensures { Finds (func_part scope.now.structs (firmware_of scope.now.firmware.now) (func_of func.now)) result }
 {
     let locals = slots(alloc, scope, func)?;
@@ -121,7 +124,8 @@ fn func(alloc: Global, scope: &Scope, func: &Func) -> Result<(), CheckFault>
 
 /// The checks of all functions.
 pub fn funcs(alloc: Global, scope: &Scope) -> Result<(), CheckFault>
-    requires { IsScope scope.now }
+    requires scope { IsScope scope.now }
+    requires small { AreSmall scope.now.bodies.items }
     ensures { Finds (funcs_checks (firmware_of scope.now.firmware.now) (funcs_of (firmware_of scope.now.firmware.now))) result }
 {
     for body in &scope.bodies {

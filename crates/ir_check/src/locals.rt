@@ -1,6 +1,6 @@
 //! Locals.
 
-ghost use Rattle.std.specs.Prelude.{◌≡◌, ◌++◌, ◌∷◌, [], map, OnOk, IfOk, IfErr, ◌≤◌, ◌+◌};
+ghost use Rattle.std.specs.Prelude.{◌≡◌, ◌++◌, ◌∷◌, [], map, OnOk, IfOk, length, ◌≤◌, ◌+◌, ◌*◌};
 ghost use Rattle.ir_model.specs.Types.{type_of};
 ghost use Rattle.ir_model.specs.Plain.{slot_of, names_of, firmware_of};
 ghost use Rattle.ir_model.specs.Layout.{known, shape, rounded_up};
@@ -72,16 +72,13 @@ fn local<'a>(
     Ok(size)
 }
 
-fn with_local(total: u64, size: u32) -> Result<u64, CheckFault>
-    requires { size ≤ 65536 }
-    ensures total { IfOk result (λ n. n ≡ total + rounded_up size 4) }
-    ensures free { IfErr result (λ e. e ≡ CheckFault.NoMemory) }
+fn with_local(total: u64, size: u32) -> u64
+    requires total { total ≤ 64 * 65536 }
+    requires size { size ≤ 65536 }
+    ensures exact { result ≡ total + rounded_up size 4 }
+    ensures most { result ≤ total + 65536 }
 {
-    let bytes = (u64::from(size) + 3) / 4 * 4;
-    match total.checked_add(bytes) {
-        Some(sum) => Ok(sum),
-        None => Err(CheckFault::NoMemory),
-    }
+    total + (u64::from(size) + 3) / 4 * 4
 }
 
 /// Whether locals are new, of declared structs, and not too large; and how many bytes they take.
@@ -91,15 +88,17 @@ pub fn locals<'a>(
     seen: &mut Names<'a>,
     slots: &'a [Slot],
 ) -> Result<u64, CheckFault>
-    requires { IsScope scope.now }
+    requires scope { IsScope scope.now }
+    requires few { length slots.now ≤ 64 }
     ensures finds { Finds (local_checks (firmware_of scope.now.firmware.now) scope.now.structs (place_of spot.entry) seen.old (map slot_of slots.now)) result }
     ensures grows { OnOk result (seen.new ≡ seen.old ++ names_of (map slot_of slots.now)) }
     ensures size { IfOk result (λ n. n ≡ locals_size (known (firmware_of scope.now.firmware.now).structs) (map slot_of slots.now)) }
+    ensures most { IfOk result (λ n. n ≤ 64 * 65536) }
 {
     let mut total = 0;
     for slot in slots {
         let size = local(scope, spot, seen, slot)?;
-        total = with_local(total, size)?;
+        total = with_local(total, size);
     }
     Ok(total)
 }

@@ -8,7 +8,7 @@ ghost use Rattle.ir_model.specs.Canonical.{IsWithinLimits};
 ghost use Rattle.ir_model.specs.Typing.{checks, has_main, IsTyped};
 ghost use Rattle.ir_check.specs.Found.{Finds, IsFaultOf};
 ghost use Rattle.ir_check.specs.Parts.{declared_part, code_part};
-ghost use Rattle.ir_check.specs.Scopes.{IsScope};
+ghost use Rattle.ir_check.specs.Scopes.{IsScope, AreSmall};
 
 use crate::fault::CheckFault;
 use crate::files::files;
@@ -51,7 +51,8 @@ fn main_there(scope: &Scope) -> bool
 
 #[tactic(auto, using(crate::proofs::Order::refused_left, crate::proofs::Order::refused_right, crate::proofs::Order::first_stays, crate::proofs::Order::first_append))]
 fn code(alloc: Global, scope: &Scope) -> Result<(), CheckFault>
-    requires { IsScope scope.now }
+    requires scope { IsScope scope.now }
+    requires small { AreSmall scope.now.bodies.items }
     ensures { Finds (code_part (firmware_of scope.now.firmware.now)) result }
 {
     globals(alloc, scope)?;
@@ -75,6 +76,7 @@ fn declared<'a>(alloc: Global, firmware: &'a Firmware) -> Result<Scope<'a>, Chec
 }
 
 fn all(alloc: Global, firmware: &Firmware) -> Result<(), CheckFault>
+    requires { IsWithinLimits (firmware_of firmware.now) }
     ensures { Finds (checks (firmware_of firmware.now)) result }
 {
     let scope = declared(alloc, firmware)?;

@@ -13,11 +13,11 @@ returns-in_err-func c =
     (stop_at (λ (bs : List (Bor Func)). funcs_checks (firmware_of c.args.scope.now.firmware.now) (map (λ (b : Bor Func). func_of b.now) bs))
     (λ (bs : List (Bor Func)). funcs_checks (firmware_of c.args.scope.now.firmware.now) (map (λ (b : Bor Func). func_of b.now) bs))
     (funcs_checks (firmware_of c.args.scope.now.firmware.now) (funcs_of (firmware_of c.args.scope.now.firmware.now))) (c.args.scope.now.bodies.items) c.loop-body.body-index c.body-item.result (func_part c.args.scope.now.structs (firmware_of c.args.scope.now.firmware.now) (func_of c.body-item.result.now)) c.in_err-func.field-0.0
-    (let l : c.loop-body.body-index < length c.deref-body-items.result.now = omega arith in rw c.deref-body-items.ensures.value at l) (rw c.deref-body-items.ensures.value at c.body-item.is) (λ r. ap (λ cs. cs ++ funcs_checks (firmware_of c.args.scope.now.firmware.now) (map (λ (b : Bor Func). func_of b.now) r)) (func_parts (firmware_of c.args.scope.now.firmware.now) (func_of c.body-item.result.now) c.args.scope.now.structs c.requires.structs)) c.loop-body.invariant c.in_err-func.ensures)
+    (let l : c.loop-body.body-index < length c.deref-body-items.result.now = omega arith in rw c.deref-body-items.ensures.value at l) (rw c.deref-body-items.ensures.value at c.body-item.is) (λ r. ap (λ cs. cs ++ funcs_checks (firmware_of c.args.scope.now.firmware.now) (map (λ (b : Bor Func). func_of b.now) r)) (func_parts (firmware_of c.args.scope.now.firmware.now) (func_of c.body-item.result.now) c.args.scope.now.structs c.requires.scope.structs)) c.loop-body.invariant c.in_err-func.ensures)
 
 pub loop-body-preserved : goal.loop-body-preserved
 loop-body-preserved c =
     (go_on (λ (bs : List (Bor Func)). funcs_checks (firmware_of c.args.scope.now.firmware.now) (map (λ (b : Bor Func). func_of b.now) bs))
     (λ (bs : List (Bor Func)). funcs_checks (firmware_of c.args.scope.now.firmware.now) (map (λ (b : Bor Func). func_of b.now) bs))
     (funcs_checks (firmware_of c.args.scope.now.firmware.now) (funcs_of (firmware_of c.args.scope.now.firmware.now))) (c.args.scope.now.bodies.items) c.loop-body.body-index c.body-item.result (func_part c.args.scope.now.structs (firmware_of c.args.scope.now.firmware.now) (func_of c.body-item.result.now))
-    (let l : c.loop-body.body-index < length c.deref-body-items.result.now = omega arith in rw c.deref-body-items.ensures.value at l) (rw c.deref-body-items.ensures.value at c.body-item.is) (λ r. ap (λ cs. cs ++ funcs_checks (firmware_of c.args.scope.now.firmware.now) (map (λ (b : Bor Func). func_of b.now) r)) (func_parts (firmware_of c.args.scope.now.firmware.now) (func_of c.body-item.result.now) c.args.scope.now.structs c.requires.structs)) c.loop-body.invariant c.in_ok-func.ensures)
+    (let l : c.loop-body.body-index < length c.deref-body-items.result.now = omega arith in rw c.deref-body-items.ensures.value at l) (rw c.deref-body-items.ensures.value at c.body-item.is) (λ r. ap (λ cs. cs ++ funcs_checks (firmware_of c.args.scope.now.firmware.now) (map (λ (b : Bor Func). func_of b.now) r)) (func_parts (firmware_of c.args.scope.now.firmware.now) (func_of c.body-item.result.now) c.args.scope.now.structs c.requires.scope.structs)) c.loop-body.invariant c.in_ok-func.ensures)

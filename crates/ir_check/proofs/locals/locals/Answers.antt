@@ -27,5 +27,6 @@ loop-slot-preserved c =
           (local_checks (firmware_of c.args.scope.now.firmware.now) c.args.scope.now.structs (place_of c.args.spot) c.args.seen.now (map slot_of c.args.slots.now)) (c.args.slots.now) c.loop-slot.slot-index c.slot-item.result (local_check (firmware_of c.args.scope.now.firmware.now) c.args.scope.now.structs (place_of c.args.spot) c.loop-slot.seen (slot_of c.slot-item.result))
           (omega arith) c.slot-item.is (λ r. refl) c.loop-slot.invariant.left c.in_ok-size.ensures.finds);
       names = more_names c.args.seen.now c.loop-slot.seen c.local.new.seen c.args.slots.now c.loop-slot.slot-index c.slot-item.result (omega arith) c.slot-item.is c.loop-slot.invariant.names c.in_ok-size.ensures.grows;
-      size = more_size (known (firmware_of c.args.scope.now.firmware.now).structs) c.args.slots.now c.loop-slot.slot-index c.slot-item.result c.loop-slot.total c.in_ok-total.total c.in_ok-size.size (omega arith) c.slot-item.is c.loop-slot.invariant.size c.in_ok-size.ensures.size c.in_ok-total.ensures.total;
+      size = more_size (known (firmware_of c.args.scope.now.firmware.now).structs) c.args.slots.now c.loop-slot.slot-index c.slot-item.result c.loop-slot.total c.with_local-total.result c.in_ok-size.size (omega arith) c.slot-item.is c.loop-slot.invariant.size c.in_ok-size.ensures.size c.with_local-total.ensures.exact;
+      most = let m = c.with_local-total.ensures.most in let o = c.loop-slot.invariant.most in omega arith;
     }
