@@ -10,6 +10,7 @@ pub mod Step
 pub mod Runs
 pub mod Extents
 pub mod Tokens
+pub mod TextLimits
 pub mod Lines
 pub mod Canonical
 pub mod Frames

@@ -15,6 +15,7 @@ use Rattle.ir_model.specs.declared.token.TextLimit.{TextLimit}
 use Rattle.ir_model.specs.declared.token.TextLimit.TheVariants as limit
 use Rattle.ir_model.specs.Types.{PlainType, U8, U16, U32, Pointer, Array, Named, Callee, PlainTypes, none, more, PlainResult, nothing, gives}
 use Rattle.ir_model.specs.Plain.{PlainSlot, PlainStruct, PlainGlobal, PlainFunc, PlainFile, PlainFirmware}
+use Rattle.ir_model.specs.TextLimits.{word_limit, struct_limit, field_limit, periph_limit, global_limit, cell_limit, array_limit, depth_limit, file_limit, function_limit, parameter_limit, register_limit, local_limit, block_limit, instruction_limit}
 use Rattle.ir_model.specs.Tokens.{Token, Name, Number, Key, Operation, Comparison, Sign, Marked}
 use Rattle.ir_model.specs.declared.token.Excess.{Excess}
 use Rattle.ir_model.specs.declared.token.Excess.TheVariants.{TooWide, Passes}
@@ -32,9 +33,9 @@ plain t = marked t None
 abbrev pub counted : (before most : ℕ) → TextLimit → Option Excess → Option Excess
 counted k most l otherwise = if nat_lt k most then otherwise else Some (Passes l)
 
--- a word has 64 bytes at most
+-- a word may be too long
 abbrev pub word_excess : List ℕ → Option Excess
-word_excess w = if nat_le (length w) 64 then None else Some (Passes limit.Name)
+word_excess w = if nat_le (length w) word_limit then None else Some (Passes limit.Name)
 
 abbrev pub name : List ℕ → Marked
 name w = marked (Name w) (word_excess w)
@@ -48,11 +49,11 @@ number n = marked (Number n) (number_excess n None)
 
 -- an array's length
 abbrev pub length_excess : ℕ → Option Excess
-length_excess n = number_excess n (if nat_lt 0 n then (if nat_le n 65536 then None else Some (Passes limit.Array)) else Some (Passes limit.Array))
+length_excess n = number_excess n (if nat_lt 0 n then (if nat_le n array_limit then None else Some (Passes limit.Array)) else Some (Passes limit.Array))
 
 -- a type that stands in so many others, where its first token has something else to pass first
 abbrev pub depth_excess : (around : ℕ) → Option Excess → Option Excess
-depth_excess d otherwise = counted d 8 limit.Depth otherwise
+depth_excess d otherwise = counted d depth_limit limit.Depth otherwise
 
 abbrev pub or_else : Option Excess → Option Excess → Option Excess
 or_else (Some x) y = Some x
@@ -78,7 +79,7 @@ abbrev mutual
 
   pub more_tokens : (around before : ℕ) → PlainTypes → Line
   more_tokens d k none = plain (Sign Close) ∷ []
-  more_tokens d k (more t ts) = (plain (Sign Comma) ∷ type_tokens (counted k 4 limit.Param None) d t) ++ more_tokens d (k + 1) ts
+  more_tokens d k (more t ts) = (plain (Sign Comma) ∷ type_tokens (counted k parameter_limit limit.Param None) d t) ++ more_tokens d (k + 1) ts
 
   pub result_tokens : (around : ℕ) → PlainResult → Line
   result_tokens d nothing = []
@@ -99,15 +100,15 @@ slots_tokens l most (s ∷ ss) = slot_tokens None s ++ more_slots l 1 most ss
 
 abbrev pub struct_line : (before : ℕ) → PlainStruct → Line
 struct_line k s =
-    (marked (Key key.Struct) (counted k 256 limit.Struct None) ∷ name s.name ∷ plain (Sign OpenBrace) ∷ slots_tokens limit.Field 64 s.fields) ++ plain (Sign CloseBrace) ∷ []
+    (marked (Key key.Struct) (counted k struct_limit limit.Struct None) ∷ name s.name ∷ plain (Sign OpenBrace) ∷ slots_tokens limit.Field field_limit s.fields) ++ plain (Sign CloseBrace) ∷ []
 
 abbrev pub periph_line : (before : ℕ) → Peripheral → Line
-periph_line k p = marked (Key key.Periph) (counted k 64 limit.Periph None) ∷ name p.name ∷ number p.base ∷ number p.size ∷ []
+periph_line k p = marked (Key key.Periph) (counted k periph_limit limit.Periph None) ∷ name p.name ∷ number p.base ∷ number p.size ∷ []
 
 abbrev pub cell_tokens : (before : ℕ) → Cell → Line
-cell_tokens k (Word n) = marked (Number n) (number_excess n (counted k 65536 limit.Cell None)) ∷ []
-cell_tokens k (Function f) = marked (Key key.Fn) (counted k 65536 limit.Cell None) ∷ name f ∷ []
-cell_tokens k (Address x) = marked (Key key.Addr) (counted k 65536 limit.Cell None) ∷ name x ∷ []
+cell_tokens k (Word n) = marked (Number n) (number_excess n (counted k cell_limit limit.Cell None)) ∷ []
+cell_tokens k (Function f) = marked (Key key.Fn) (counted k cell_limit limit.Cell None) ∷ name f ∷ []
+cell_tokens k (Address x) = marked (Key key.Addr) (counted k cell_limit limit.Cell None) ∷ name x ∷ []
 
 abbrev pub more_cells : (before : ℕ) → List Cell → Line
 more_cells k [] = plain (Sign CloseBrace) ∷ []
@@ -123,7 +124,7 @@ global_start false x = marked (Key key.Global) x ∷ []
 
 abbrev pub global_line : (before : ℕ) → PlainGlobal → Line
 global_line k g =
-    global_start g.constant (counted k 1024 limit.Global None) ++ (name g.name ∷ plain (Sign Colon) ∷ type_tokens None 0 g.ty) ++ init_tokens g.init
+    global_start g.constant (counted k global_limit limit.Global None) ++ (name g.name ∷ plain (Sign Colon) ∷ type_tokens None 0 g.ty) ++ init_tokens g.init
 
 -- instructions; `x` is what the first token passes as an instruction too many
 abbrev pub register : List ℕ → Marked
@@ -135,7 +136,7 @@ assigned x to behind = marked (Name to) (or_else x (word_excess to)) ∷ plain (
 abbrev pub more_arguments : (before : ℕ) → List (List ℕ) → Line
 more_arguments k [] = plain (Sign Close) ∷ []
 more_arguments k (a ∷ as_) =
-    (plain (Sign Comma) ∷ marked (Name a) (or_else (counted k 4 limit.Param None) (word_excess a)) ∷ []) ++ more_arguments (k + 1) as_
+    (plain (Sign Comma) ∷ marked (Name a) (or_else (counted k parameter_limit limit.Param None) (word_excess a)) ∷ []) ++ more_arguments (k + 1) as_
 
 abbrev pub arguments : List (List ℕ) → Line
 arguments [] = plain (Sign Open) ∷ plain (Sign Close) ∷ []
@@ -163,7 +164,7 @@ inst_line x (inst.ICall to f args) = kept x to (Key key.Icall) (register f ∷ a
 
 abbrev pub inst_lines : (before : ℕ) → List Inst → List Line
 inst_lines k [] = []
-inst_lines k (i ∷ is) = inst_line (counted k 16384 limit.Instruction None) i ∷ inst_lines (k + 1) is
+inst_lines k (i ∷ is) = inst_line (counted k instruction_limit limit.Instruction None) i ∷ inst_lines (k + 1) is
 
 abbrev pub term_line : Term → Line
 term_line (term.Jump b) = plain (Key key.Jump) ∷ name b ∷ []
@@ -172,7 +173,7 @@ term_line (term.Ret None) = plain (Key key.Ret) ∷ []
 term_line (term.Ret (Some r)) = plain (Key key.Ret) ∷ register r ∷ []
 
 abbrev pub label_line : (before : ℕ) → List ℕ → Line
-label_line k l = marked (Name l) (or_else (counted k 1024 limit.Block None) (word_excess l)) ∷ plain (Sign Colon) ∷ []
+label_line k l = marked (Name l) (or_else (counted k block_limit limit.Block None) (word_excess l)) ∷ plain (Sign Colon) ∷ []
 
 -- blocks behind so many others with so many instructions
 abbrev pub block_lines : (before instructions : ℕ) → List Block → List Line
@@ -183,16 +184,16 @@ block_lines k n (b ∷ bs) =
 abbrev pub local_lines : (before : ℕ) → List PlainSlot → List Line
 local_lines k [] = []
 local_lines k (s ∷ ss) =
-    ((marked (Key key.Local) (counted k 64 limit.Local None) ∷ name s.name ∷ plain (Sign Colon) ∷ []) ++ type_tokens None 0 s.ty) ∷ local_lines (k + 1) ss
+    ((marked (Key key.Local) (counted k local_limit limit.Local None) ∷ name s.name ∷ plain (Sign Colon) ∷ []) ++ type_tokens None 0 s.ty) ∷ local_lines (k + 1) ss
 
 abbrev pub reg_lines : (before : ℕ) → List PlainSlot → List Line
 reg_lines k [] = []
 reg_lines k (s ∷ ss) =
-    ((marked (Key key.Reg) (counted k 120 limit.Register None) ∷ name s.name ∷ plain (Sign Colon) ∷ []) ++ type_tokens None 0 s.ty) ∷ reg_lines (k + 1) ss
+    ((marked (Key key.Reg) (counted k register_limit limit.Register None) ∷ name s.name ∷ plain (Sign Colon) ∷ []) ++ type_tokens None 0 s.ty) ∷ reg_lines (k + 1) ss
 
 abbrev pub func_line : (before : ℕ) → PlainFunc → Line
 func_line k f =
-    (marked (Key key.Func) (counted k 1024 limit.Function None) ∷ name f.name ∷ plain (Sign Open) ∷ slots_tokens limit.Param 4 f.params) ++ (plain (Sign Close) ∷ result_tokens 0 f.outcome) ++ plain (Sign OpenBrace) ∷ []
+    (marked (Key key.Func) (counted k function_limit limit.Function None) ∷ name f.name ∷ plain (Sign Open) ∷ slots_tokens limit.Param parameter_limit f.params) ++ (plain (Sign Close) ∷ result_tokens 0 f.outcome) ++ plain (Sign OpenBrace) ∷ []
 
 abbrev pub close_line : Line
 close_line = plain (Sign CloseBrace) ∷ []
@@ -209,7 +210,7 @@ funcs_lines k (f ∷ fs) = func_lines k f ++ funcs_lines (k + 1) fs
 abbrev pub file_lines : (before functions : ℕ) → List PlainFile → List Line
 file_lines k n [] = []
 file_lines k n (f ∷ fs) =
-    ((marked (Key key.File) (counted k 1024 limit.File None) ∷ name f.name ∷ plain (Sign OpenBrace) ∷ []) ∷ funcs_lines n f.funcs) ++ (close_line ∷ []) ++ file_lines (k + 1) (n + length f.funcs) fs
+    ((marked (Key key.File) (counted k file_limit limit.File None) ∷ name f.name ∷ plain (Sign OpenBrace) ∷ []) ∷ funcs_lines n f.funcs) ++ (close_line ∷ []) ++ file_lines (k + 1) (n + length f.funcs) fs
 
 abbrev pub struct_lines : (before : ℕ) → List PlainStruct → List Line
 struct_lines k [] = []

@@ -144,8 +144,15 @@ abbrev pub begins_colon : List Token → Bool
 begins_colon [] = false
 begins_colon (t ∷ ts) = is_colon t
 
--- where the rest begins, a token may stand and passes a limit, or is a number that is too wide
-pub record IsExcess (bytes rest : List ℕ) (excess : Excess) : Type 0 where
+-- what may stand behind a token has a colon first exactly where the bytes behind the token do, or no firmware with these
+-- tokens has
+pub data Agrees (before : List Token) (at : Token) (behind : List Marked) (after : List ℕ) : Type 0 where
+  same : HasColon (begins_colon (tokens behind)) after → Agrees before at behind after
+  none : ((front others : List Marked) (m : Marked) → tokens front ≡ before → m.token ≡ at → Begins front (m ∷ others) → HasColon (begins_colon (tokens others)) after → ⊥) → Agrees before at behind after
+
+-- where the rest begins, a token may stand and passes this, behind tokens that pass nothing; each firmware with the same
+-- tokens, and with a colon next exactly where the bytes have one, passes this there
+pub record IsPassed (bytes rest : List ℕ) (excess : Excess) : Type 0 where
   pub before : List Token
   pub leads : Leads before bytes rest
   pub at : Token
@@ -156,7 +163,8 @@ pub record IsExcess (bytes rest : List ℕ) (excess : Excess) : Type 0 where
   pub apart : IsApart at after
   pub behind : List Marked
   pub reaches : Reaches before (marked at (Some excess) ∷ behind)
-  pub colon : HasColon (begins_colon (tokens behind)) after
+  pub colon : Agrees before at behind after
+  pub each : (front others : List Marked) (m : Marked) → tokens front ≡ before → m.token ≡ at → Begins front (m ∷ others) → HasColon (begins_colon (tokens others)) after → m.excess ≡ Some excess
 
 -- the place where the rest begins: lines and columns count from 1, columns in bytes
 pub record IsPlace (bytes rest : List ℕ) (pos : Pos) : Type 0 where
@@ -170,11 +178,11 @@ pub record SyntaxAt (bytes : List ℕ) (pos : Pos) : Type 0 where
   pub place : IsPlace bytes rest pos
   pub fault : IsSyntaxFault bytes rest
 
-pub record ExceedsAt (bytes : List ℕ) (excess : Excess) (pos : Pos) : Type 0 where
+pub record PassesAt (bytes : List ℕ) (excess : Excess) (pos : Pos) : Type 0 where
   pub utf8 : IsUtf8 bytes
   pub rest : List ℕ
   pub place : IsPlace bytes rest pos
-  pub fault : IsExcess bytes rest excess
+  pub fault : IsPassed bytes rest excess
 
 pub record NotUtf8At (bytes : List ℕ) (at : ℕ) : Type 0 where
   pub none : ¬ (IsUtf8 bytes)

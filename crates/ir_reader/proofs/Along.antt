@@ -7,8 +7,7 @@ use Rattle.ir_model.specs.Plain.{PlainFirmware}
 use Rattle.ir_model.specs.Tokens.{Token, Name, Number, Key, Operation, Comparison, Sign, Marked}
 use Rattle.ir_model.specs.Lines.{Line, marked, lines_of, word_excess, counted, or_else}
 use Rattle.ir_model.specs.declared.token.TextLimit.TheVariants as limit
-use Rattle.ir_model.specs.Texts.{joined, tokens, IsText, Spells, IsApart, Leads, Begins, NoneBegins, Reaches, IsUnexpected, end, nothing, token, IsSyntaxFault, begins_colon, is_colon}
-use Rattle.ir_reader.specs.First.{IsPassed}
+use Rattle.ir_model.specs.Texts.{joined, tokens, IsText, Spells, IsApart, Leads, Begins, NoneBegins, Reaches, IsUnexpected, end, nothing, token, IsSyntaxFault, begins_colon, is_colon, IsPassed}
 use Rattle.ir_reader.specs.Found.{Is, Placed, finds, colon_first}
 use Rattle.ir_reader.specs.Machine
 use Rattle.ir_reader.specs.Machine.{Symbol, Move, Go, Stop, Skip, Step, To, Stuck, step, move, Structs}

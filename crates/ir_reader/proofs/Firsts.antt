@@ -11,14 +11,14 @@ use Rattle.ir_model.specs.Canonical.{Each}
 use Rattle.ir_model.specs.Plain.{PlainFirmware, funcs_of}
 use Rattle.ir_model.specs.Tokens.{Token, Sign, Marked}
 use Rattle.ir_model.specs.Lines.{Line, marked, lines_of}
-use Rattle.ir_model.specs.Texts.{joined, tokens, Spells, IsApart, Leads, here, blank, comment, token, is_blank, opens_comment, IsFree, Begins, NoneBegins, NoneIs, Reaches, BeginsNothing, IsUnexpected, end, nothing, IsSyntaxFault, HasColon, begins_colon, is_colon, IsPlace, SyntaxAt}
+use Rattle.ir_model.specs.Texts.{joined, tokens, Spells, IsApart, Leads, here, blank, comment, token, is_blank, opens_comment, IsFree, Begins, NoneBegins, NoneIs, Reaches, BeginsNothing, IsUnexpected, end, nothing, IsSyntaxFault, HasColon, begins_colon, is_colon, Agrees, same, none, IsPlace, SyntaxAt, PassesAt}
 use Rattle.ir_model.specs.Texts as texts
 use Rattle.ir_reader.specs.declared.error.Fault.{Fault}
 use Rattle.ir_reader.specs.declared.error.FaultKind.{FaultKind}
 use Rattle.ir_reader.specs.declared.error.FaultKind.TheVariants as kind
 use Rattle.ir_reader.specs.declared.fault.TextFault.{TextFault}
 use Rattle.ir_reader.specs.declared.fault.TextFault.TheVariants as text
-use Rattle.ir_reader.specs.First.{Agrees, same, none, PassesAt, IsFirst}
+use Rattle.ir_reader.specs.First.{IsFirst}
 use Rattle.ir_reader.specs.Found.{Found, Is, Bad, End, Placed, finds, colon_first, is_colon_found}
 use Rattle.ir_reader.specs.Machine.{Symbol, To, step, fault, Structs}
 use Rattle.ir_reader.specs.Parts.{HasBlocks}

@@ -9,8 +9,7 @@ use Rattle.ir_model.specs.Canonical.{Each}
 use Rattle.ir_model.specs.Plain.{PlainFirmware}
 use Rattle.ir_model.specs.Tokens.{Token, Name, Number, Key, Operation, Comparison, Sign, Marked}
 use Rattle.ir_model.specs.Lines.{Line, marked, lines_of, number_excess, length_excess}
-use Rattle.ir_model.specs.Texts.{joined, tokens, IsText, Begins, NoneBegins, IsUnexpected, end, nothing, token, begins_colon, IsPlace, is_inside_line, SyntaxAt}
-use Rattle.ir_reader.specs.First.{IsPassed, PassesAt}
+use Rattle.ir_model.specs.Texts.{joined, tokens, IsText, Begins, NoneBegins, IsUnexpected, end, nothing, token, begins_colon, IsPassed, IsPlace, is_inside_line, SyntaxAt, PassesAt}
 use Rattle.ir_reader.specs.Laws.{FaultsAreSingle, TextsAreFaultless}
 use Rattle.ir_reader.specs.Found.{Is, End, Placed, colon_first}
 use Rattle.ir_reader.specs.Machine

@@ -4,8 +4,7 @@ use Rattle.ir_model.specs.declared.token.Excess.{Excess}
 use Rattle.ir_model.specs.declared.token.Pos.{Pos}
 use Rattle.ir_model.specs.Plain.{PlainFirmware}
 use Rattle.ir_model.specs.Canonical.{canonical, IsWithinLimits}
-use Rattle.ir_model.specs.Texts.{IsText, SyntaxAt}
-use Rattle.ir_reader.specs.First.{PassesAt}
+use Rattle.ir_model.specs.Texts.{IsText, SyntaxAt, PassesAt}
 
 -- no bytes are a text of two firmwares
 abbrev pub TextsAreUnique : Type 0

@@ -3,6 +3,7 @@ use Rattle.std.specs.Prelude.{ℕ, ◌+◌, ◌<◌, List, [], ◌∷◌, ◌++�
 use Rattle.std.specs.Borrow.{Bor}
 use Rattle.ir_model.specs.declared.token.Keyword.{Keyword}
 use Rattle.ir_model.specs.declared.firmware.Inst.{Inst}
+use Rattle.ir_model.specs.TextLimits.{instruction_limit}
 use Rattle.ir_reader.specs.declared.error.Fault.{Fault}
 use Rattle.ir_reader.specs.declared.error.FaultKind.TheVariants as kind
 use Rattle.ir_reader.specs.declared.error.ReadError.{ReadError}
@@ -16,7 +17,7 @@ use Rattle.ir_reader.specs.Spelling.{Key, spell_inst, spell_term, spell_assigned
 
 -- an instruction is behind few enough others
 abbrev pub IsBelow : ℕ → Step → Type 0
-IsBelow n (step.Inst i) = n < 16384
+IsBelow n (step.Inst i) = n < instruction_limit
 IsBelow n (step.Term t) = Unit {0}
 
 -- an instruction or the end of a block, behind so many instructions and any number of blocks

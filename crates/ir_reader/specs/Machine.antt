@@ -7,6 +7,7 @@ use Rattle.ir_model.specs.declared.token.Mark.{Mark}
 use Rattle.ir_model.specs.declared.token.Mark.TheVariants as mark
 use Rattle.ir_model.specs.declared.token.TextLimit.TheVariants as limit
 use Rattle.ir_model.specs.Tokens.{Token, Name, Number, Key, Operation, Comparison, Sign}
+use Rattle.ir_model.specs.TextLimits.{struct_limit, field_limit, periph_limit, global_limit, cell_limit, file_limit, function_limit, parameter_limit, register_limit, local_limit, block_limit, instruction_limit}
 use Rattle.ir_model.specs.Lines.{counted, word_excess, number_excess, length_excess, depth_excess, or_else}
 use Rattle.ir_reader.specs.declared.error.Fault.{Fault}
 use Rattle.ir_reader.specs.declared.error.FaultKind.TheVariants as kind
@@ -148,7 +149,7 @@ row_move d (Name w) = then_row d (Go (or_else None (depth_excess d (word_excess 
 row_move d _ = Stop
 
 abbrev pub more_row_mark : ℕ → ℕ → Mark → Move
-more_row_mark d k mark.Comma = Go None (Ty (counted k 4 limit.Param None) d ∷ MoreRow d (k + 1) ∷ [])
+more_row_mark d k mark.Comma = Go None (Ty (counted k parameter_limit limit.Param None) d ∷ MoreRow d (k + 1) ∷ [])
 more_row_mark d k mark.Close = Go None (Gives d ∷ [])
 more_row_mark d k _ = Stop
 
@@ -159,7 +160,7 @@ gives_mark d _ = Skip
 -- lists in declarations
 
 abbrev pub more_fields_mark : ℕ → Mark → Move
-more_fields_mark k mark.Comma = Go None (Word (counted k 64 limit.Field None) ∷ Mk mark.Colon ∷ Ty None 0 ∷ MoreFields (k + 1) ∷ [])
+more_fields_mark k mark.Comma = Go None (Word (counted k field_limit limit.Field None) ∷ Mk mark.Colon ∷ Ty None 0 ∷ MoreFields (k + 1) ∷ [])
 more_fields_mark k mark.CloseBrace = Go None []
 more_fields_mark k _ = Stop
 
@@ -171,21 +172,21 @@ params_mark mark.Close = Go None (body 0)
 params_mark _ = Stop
 
 abbrev pub more_params_mark : ℕ → Mark → Move
-more_params_mark k mark.Comma = Go None (Word (counted k 4 limit.Param None) ∷ Mk mark.Colon ∷ Ty None 0 ∷ MoreParams (k + 1) ∷ [])
+more_params_mark k mark.Comma = Go None (Word (counted k parameter_limit limit.Param None) ∷ Mk mark.Colon ∷ Ty None 0 ∷ MoreParams (k + 1) ∷ [])
 more_params_mark k mark.Close = Go None (body k)
 more_params_mark k _ = Stop
 
 -- instructions and blocks
 
 abbrev pub label_move : ℕ → ℕ → List ℕ → Move
-label_move k n w = Go (or_else (counted k 1024 limit.Block None) (word_excess w)) (Mk mark.Colon ∷ Insts (k + 1) n ∷ [])
+label_move k n w = Go (or_else (counted k block_limit limit.Block None) (word_excess w)) (Mk mark.Colon ∷ Insts (k + 1) n ∷ [])
 
 abbrev pub first_move : ℕ → ℕ → Token → Move
 first_move k n (Name w) = label_move k n w
 first_move k n _ = Stop
 
 abbrev pub inst_excess : ℕ → Option Excess
-inst_excess n = counted n 16384 limit.Instruction None
+inst_excess n = counted n instruction_limit limit.Instruction None
 
 abbrev pub inst_key : ℕ → ℕ → Keyword → Move
 inst_key k n key.Store = Go (inst_excess n) (Word None ∷ Mk mark.Comma ∷ Word None ∷ Insts k (n + 1) ∷ [])
@@ -254,14 +255,14 @@ args_move (Name w) = Go (word_excess w) (MoreArgs 1 ∷ [])
 args_move _ = Stop
 
 abbrev pub more_args_mark : ℕ → Mark → Move
-more_args_mark k mark.Comma = Go None (Word (counted k 4 limit.Param None) ∷ MoreArgs (k + 1) ∷ [])
+more_args_mark k mark.Comma = Go None (Word (counted k parameter_limit limit.Param None) ∷ MoreArgs (k + 1) ∷ [])
 more_args_mark k mark.Close = Go None []
 more_args_mark k _ = Stop
 
 -- declarations
 
 abbrev pub regs_key : ℕ → Keyword → Move
-regs_key k key.Reg = Go (counted k 120 limit.Register None) (Word None ∷ Mk mark.Colon ∷ Ty None 0 ∷ Regs (k + 1) ∷ [])
+regs_key k key.Reg = Go (counted k register_limit limit.Register None) (Word None ∷ Mk mark.Colon ∷ Ty None 0 ∷ Regs (k + 1) ∷ [])
 regs_key k _ = Stop
 
 abbrev pub regs_move : ℕ → Token → Move
@@ -270,7 +271,7 @@ regs_move k (Name w) = label_move 0 0 w
 regs_move k _ = Stop
 
 abbrev pub locals_key : ℕ → ℕ → Keyword → Move
-locals_key k p key.Local = Go (counted k 64 limit.Local None) (Word None ∷ Mk mark.Colon ∷ Ty None 0 ∷ Locals (k + 1) p ∷ [])
+locals_key k p key.Local = Go (counted k local_limit limit.Local None) (Word None ∷ Mk mark.Colon ∷ Ty None 0 ∷ Locals (k + 1) p ∷ [])
 locals_key k p w = regs_key p w
 
 abbrev pub locals_move : ℕ → ℕ → Token → Move
@@ -279,7 +280,7 @@ locals_move k p (Name w) = label_move 0 0 w
 locals_move k p _ = Stop
 
 abbrev pub funcs_key : ℕ → ℕ → Keyword → Move
-funcs_key k n key.Func = Go (counted n 1024 limit.Function None) (Word None ∷ Mk mark.Open ∷ Params ∷ Funcs k (n + 1) ∷ [])
+funcs_key k n key.Func = Go (counted n function_limit limit.Function None) (Word None ∷ Mk mark.Open ∷ Params ∷ Funcs k (n + 1) ∷ [])
 funcs_key k n _ = Stop
 
 abbrev pub funcs_mark : ℕ → ℕ → Mark → Move
@@ -287,11 +288,11 @@ funcs_mark k n mark.CloseBrace = Go None (Files k n ∷ [])
 funcs_mark k n _ = Stop
 
 abbrev pub files_key : ℕ → ℕ → Keyword → Move
-files_key k n key.File = Go (counted k 1024 limit.File None) (Word None ∷ Mk mark.OpenBrace ∷ Funcs (k + 1) n ∷ [])
+files_key k n key.File = Go (counted k file_limit limit.File None) (Word None ∷ Mk mark.OpenBrace ∷ Funcs (k + 1) n ∷ [])
 files_key k n _ = Stop
 
 abbrev pub global_excess : ℕ → Option Excess
-global_excess k = counted k 1024 limit.Global None
+global_excess k = counted k global_limit limit.Global None
 
 -- what stands behind the first words of a declaration
 abbrev pub global_rest : ℕ → List Symbol
@@ -316,7 +317,7 @@ init_mark k mark.Equal = Go None (Mk mark.OpenBrace ∷ CellAt 0 ∷ MoreCells 1
 init_mark k _ = Stop
 
 abbrev pub cell_excess : ℕ → Option Excess
-cell_excess k = counted k 65536 limit.Cell None
+cell_excess k = counted k cell_limit limit.Cell None
 
 abbrev pub cell_key : ℕ → Keyword → Move
 cell_key k key.Fn = Go (cell_excess k) (Word None ∷ [])
@@ -334,11 +335,11 @@ more_cells_mark k mark.CloseBrace = Go None []
 more_cells_mark k _ = Stop
 
 abbrev pub periphs_key : ℕ → Keyword → Move
-periphs_key k key.Periph = Go (counted k 64 limit.Periph None) (Word None ∷ Num ∷ Num ∷ Periphs (k + 1) ∷ [])
+periphs_key k key.Periph = Go (counted k periph_limit limit.Periph None) (Word None ∷ Num ∷ Num ∷ Periphs (k + 1) ∷ [])
 periphs_key k w = globals_key 0 w
 
 abbrev pub structs_key : ℕ → Keyword → Move
-structs_key k key.Struct = Go (counted k 256 limit.Struct None) (Word None ∷ Mk mark.OpenBrace ∷ Word None ∷ Mk mark.Colon ∷ Ty None 0 ∷ MoreFields 1 ∷ Structs (k + 1) ∷ [])
+structs_key k key.Struct = Go (counted k struct_limit limit.Struct None) (Word None ∷ Mk mark.OpenBrace ∷ Word None ∷ Mk mark.Colon ∷ Ty None 0 ∷ MoreFields 1 ∷ Structs (k + 1) ∷ [])
 structs_key k w = periphs_key 0 w
 
 -- what a token makes of what is expected, where a colon follows the token or does not

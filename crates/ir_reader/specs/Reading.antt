@@ -7,6 +7,7 @@ use Rattle.ir_model.specs.declared.token.Keyword.{Keyword}
 use Rattle.ir_model.specs.declared.token.Mark.{Mark}
 use Rattle.ir_model.specs.Canonical.{Each}
 use Rattle.ir_model.specs.Plain.{PlainStruct}
+use Rattle.ir_model.specs.TextLimits.{global_limit}
 use Rattle.ir_model.specs.Tokens.{Name, Key, Sign}
 use Rattle.ir_reader.specs.declared.error.FaultKind.TheVariants as kind
 use Rattle.ir_reader.specs.declared.error.ReadError.{ReadError}
@@ -78,7 +79,7 @@ BehindKey k old placed None = key_first k old ≡ false
 
 -- a global begins behind so many others, or a file
 abbrev pub Starts : ℕ → List Placed → (List ℕ → List Placed) → Result (Option (Bool × Bor (List ℕ))) ReadError → Type 0
-Starts k old placed (Ok (Some x)) = (k < 1024) × Passes [] spell_constant (Globals k ∷ []) (global_rest k) old (placed x.1.now) x.0
+Starts k old placed (Ok (Some x)) = (k < global_limit) × Passes [] spell_constant (Globals k ∷ []) (global_rest k) old (placed x.1.now) x.0
 Starts k old placed (Ok None) = (st : List Symbol) → fault (Globals k ∷ st) old ≡ fault (Files 0 0 ∷ st) old
 Starts k old placed (Err e) = Fails (Globals k ∷ []) old e
 
