@@ -1,3 +1,4 @@
+-- Beyond the program's claim: only laws, proofs and functions inside the tool cite this file.
 -- The law that a simulation takes, of placed tables.
 use Rattle.std.specs.Prelude.{◌≡◌, ◌-◌, ◌%◌}
 use Rattle.device_model.specs.declared.image.Image.{Image}

@@ -1,3 +1,4 @@
+-- Beyond the program's claim: only laws, proofs and functions inside the tool cite this file.
 -- What the steps of a command answer before it ends.
 use Rattle.std.specs.Prelude.{◌≡◌, ℕ, ◌⊎◌, List, Bool, Option, Some, None, IsTrue, IsNone}
 use Rattle.ir_check.specs.declared.fault.CheckFault.{CheckFault}

@@ -1,3 +1,4 @@
+-- Beyond the program's claim: only laws, proofs and functions inside the tool cite this file.
 -- The answer where the system does not give the words.
 use Rattle.std.specs.Prelude.{ℕ, List}
 use Rattle.aces_reports.specs.declared.words_refusal.WordsRefusal.{WordsRefusal}

@@ -1,3 +1,4 @@
+-- Beyond the program's claim: only laws, proofs and functions inside the tool cite this file.
 -- Commands as the code names them.
 use Rattle.aces_words.specs.declared.command.Command.{Command}
 use Rattle.aces_words.specs.declared.command.Command.TheVariants as commands

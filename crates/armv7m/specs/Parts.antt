@@ -1,3 +1,4 @@
+-- Beyond the program's claim: only laws, proofs and functions inside the tool cite this file.
 -- The parts of a running machine as a state, and what code leaves of them.
 use Rattle.std.specs.Prelude.{Option}
 use Rattle.device_model.specs.declared.image.Image.{Image}

@@ -1,3 +1,4 @@
+-- Beyond the program's claim: only laws, proofs and functions inside the tool cite this file.
 -- A thread behind an exception, and the registers of the handler that it did not keep.
 use Rattle.std.specs.Prelude.{List, [], ◌∷◌, ◌≡◌, ℕ, ◌/◌, ◌%◌, ◌^◌, ◌<◌, ◌*◌, Bool, true, nat_eq}
 use Rattle.words.specs.declared.conditions.Flags.{Flags}

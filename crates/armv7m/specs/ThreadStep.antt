@@ -1,3 +1,4 @@
+-- Beyond the program's claim: only laws, proofs and functions inside the tool cite this file.
 -- All that an unprivileged step may do, whatever bytes it executes.
 use Rattle.std.specs.Prelude.{◌≡◌, ◌≢◌, ℕ, ◌+◌, ◌%◌, ◌<◌, ◌⊎◌, [], ◌∷◌, true, false, None, nat_lt}
 use Rattle.std.proofs.Math.ListN.{get_or}

@@ -1,3 +1,4 @@
+-- Beyond the program's claim: only laws, proofs and functions inside the tool cite this file.
 -- That a text describes one board, and is not refused where it describes one: statements of laws.
 use Rattle.std.specs.Prelude.{◌≡◌, ℕ, List}
 use Rattle.plan_model.specs.declared.plan.Board.{Board}

@@ -1,9 +1,10 @@
+-- Beyond the program's claim: only laws, proofs and functions inside the tool cite this file.
 -- The code of an instruction that sets a register does what the source's step does: where the words of the frame are those of the
 -- source's registers, it leads to the frame with the new value's word in that register.
 use Rattle.std.specs.Prelude.{◌≡◌, ℕ, ◌+◌, ◌^◌, ◌<◌, ◌≤◌, List, [], Option}
 use Rattle.words.specs.Arithmetic.{word}
 use Rattle.device_model.specs.declared.image.Image.{Image}
-use Rattle.armv7m.specs.State.{Judge}
+use Rattle.armv7m.specs.State.{PermissionTest}
 use Rattle.ir_model.specs.Resolved.{Value, Number, Code, Null, At, Instance, OfGlobal, OfPeriph, OfLocal, Named, TheGlobal, ThePeriph, TheLocal, NumberedFunc, NumberedInst, Const, Move, Bin, Cmp, Addr, FAddr, Elem, Field}
 use Rattle.ir_model.specs.State.{Frame}
 use Rattle.ir_model.specs.Step.{register, Sets, act}
@@ -47,7 +48,7 @@ IsSound g q address fr sp r n (Elem to base index size) = (to < r) × (base < r)
 IsSound g q address fr sp r n (Field to base offset) = (to < r) × (base < r) × (offset < 2 ^ 32)
 IsSound g q address fr sp r n _ = ⊥
 
-module _ (j : Judge) (i : Image) (g : NumberedFunc) (q : Places) (labels : List (Option ℕ)) (site : Option ℕ) (p : Point) (o n : ℕ) where
+module _ (j : PermissionTest) (i : Image) (g : NumberedFunc) (q : Places) (labels : List (Option ℕ)) (site : Option ℕ) (p : Point) (o n : ℕ) where
   -- in at most seven steps
   pub record SetsWord (y : NumberedInst) (to v : ℕ) : Type 0 where
     pub count : ℕ

@@ -1,3 +1,4 @@
+-- Beyond the program's claim: only laws, proofs and functions inside the tool cite this file.
 -- Calls of each kind, at 0x08002010, of a function whose entry is 0x08002100.
 use Rattle.std.specs.Prelude.{◌≡◌, ℕ, List, [], ◌∷◌, Some, None}
 use Rattle.thumb_asm.specs.Finished.{bytes_from}

@@ -1,3 +1,4 @@
+-- Beyond the program's claim: only laws, proofs and functions inside the tool cite this file.
 -- Entries and returns. A frame of 512 bytes is the largest that SP reaches by one instruction.
 use Rattle.std.specs.Prelude.{◌≡◌, ℕ, [], ◌∷◌, take, Some, None}
 use Rattle.thumb_model.specs.Bytes.{code_bytes}

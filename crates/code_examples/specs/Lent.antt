@@ -1,3 +1,4 @@
+-- Beyond the program's claim: only laws, proofs and functions inside the tool cite this file.
 -- `main` lends its local x to functions of two other compartments, which pass its address on and store 42 through it.
 use Rattle.std.specs.Prelude.{◌≡◌, [], ◌∷◌, Some, None}
 use Rattle.ir_model.specs.Types.{U32, Pointer, none, more, nothing}

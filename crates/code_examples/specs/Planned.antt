@@ -1,3 +1,4 @@
+-- Beyond the program's claim: only laws, proofs and functions inside the tool cite this file.
 -- The control loop by its needs, its graph of compartments and its plan, where each file is a compartment.
 use Rattle.std.specs.Prelude.{◌≡◌, ℕ, List, [], ◌∷◌, Some, None, false}
 use Rattle.plan_model.specs.declared.needs.SiteNeed.{SiteNeed}

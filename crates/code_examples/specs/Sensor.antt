@@ -1,3 +1,4 @@
+-- Beyond the program's claim: only laws, proofs and functions inside the tool cite this file.
 -- A control loop: `main` reads a sensor through adc_read and passes it to control, which scales it, lets clamp cut it and coil_set
 -- write it. Each function is in a file of its own, but for clamp and coil_set, which share one.
 use Rattle.std.specs.Prelude.{◌≡◌, [], ◌∷◌, Some, None, false}

@@ -1,3 +1,4 @@
+-- Beyond the program's claim: only laws, proofs and functions inside the tool cite this file.
 -- A `main` that returns at once: a frame of one word below the return address, which is cleared.
 use Rattle.std.specs.Prelude.{◌≡◌, [], ◌∷◌, None}
 use Rattle.thumb_asm.specs.Finished.{bytes_from}

@@ -1,3 +1,4 @@
+-- Beyond the program's claim: only laws, proofs and functions inside the tool cite this file.
 -- `main` calls what a table of three functions has at the place that a sensor gives. One of the three is in its own compartment, so
 -- every call there goes across.
 use Rattle.std.specs.Prelude.{◌≡◌, [], ◌∷◌, Some, false}

@@ -1,3 +1,4 @@
+-- Beyond the program's claim: only laws, proofs and functions inside the tool cite this file.
 -- Sizes by the crossing sites and the locals that are lent.
 use Rattle.std.specs.Prelude.{ℕ, ◌+◌, ◌*◌, List, [], ◌∷◌, length, map, count_by, sum_by}
 use Rattle.std.specs.Borrow.{Bor}

@@ -1,3 +1,4 @@
+-- Beyond the program's claim: only laws, proofs and functions inside the tool cite this file.
 -- That the needs of a firmware are one: the statement of a law.
 use Rattle.std.specs.Prelude.{◌≡◌, Bool}
 use Rattle.ir_model.specs.Plain.{PlainFirmware}

@@ -1,3 +1,4 @@
+-- Beyond the program's claim: only laws, proofs and functions inside the tool cite this file.
 -- A small machine for computed examples: 48 bytes of vectors with code behind them, 64 bytes of RAM, one window.
 use Rattle.std.specs.Prelude.{ℕ, ◌*◌, ◌/◌, ◌%◌, ◌^◌, List, [], ◌∷◌, ◌++◌, true, false, None}
 use Rattle.words.specs.declared.conditions.Flags.{Flags}

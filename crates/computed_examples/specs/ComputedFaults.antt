@@ -1,3 +1,4 @@
+-- Beyond the program's claim: only laws, proofs and functions inside the tool cite this file.
 -- Computed examples of protection, exceptions, windows and stops. The values are worked out by hand from the
 -- manual's B1.5, B3.2 and B3.5, and where this profile decides, from its rules.
 use Rattle.std.specs.Prelude.{replicate}

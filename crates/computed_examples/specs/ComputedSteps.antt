@@ -1,3 +1,4 @@
+-- Beyond the program's claim: only laws, proofs and functions inside the tool cite this file.
 -- Computed examples of instructions. The values are worked out by hand from the manual's A7.7.
 use Rattle.std.specs.Prelude.{◌≡◌, ℕ, List, [], ◌∷◌, Bool, true, false, None}
 use Rattle.words.specs.declared.conditions.Flags.{Flags}

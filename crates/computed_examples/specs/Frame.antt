@@ -1,3 +1,4 @@
+-- Beyond the program's claim: only laws, proofs and functions inside the tool cite this file.
 -- A function with two registers and two locals. Its frame has 24 bytes: the registers at 0 and 4, a byte at 8, a half-word
 -- at 12, and the return address at 20.
 use Rattle.std.specs.Prelude.{◌≡◌, ℕ, [], ◌∷◌, None, codes}

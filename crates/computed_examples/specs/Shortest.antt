@@ -1,3 +1,4 @@
+-- Beyond the program's claim: only laws, proofs and functions inside the tool cite this file.
 -- The shortest firmware that is typed has one function, which returns.
 use Rattle.std.specs.Prelude.{[], ◌∷◌, None, codes}
 use Rattle.ir_model.specs.declared.firmware.Term.TheVariants.{Ret}

@@ -1,3 +1,4 @@
+-- Beyond the program's claim: only laws, proofs and functions inside the tool cite this file.
 -- Small firmwares of one function, and arithmetic.
 use Rattle.std.specs.Prelude.{◌≡◌, ℕ, [], ◌∷◌, None, true, codes, refl}
 use Rattle.words.specs.Runs.{run, events}

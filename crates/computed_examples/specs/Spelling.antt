@@ -1,3 +1,4 @@
+-- Beyond the program's claim: only laws, proofs and functions inside the tool cite this file.
 -- Canonical texts, line by line.
 use Rattle.std.specs.Prelude.{◌≡◌, ◌++◌, ℕ, List, [], ◌∷◌, length, map, flat_map, Option, Some, None, true, codes, refl}
 use Rattle.std.specs.Fmt.{decimal}

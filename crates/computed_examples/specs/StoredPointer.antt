@@ -1,3 +1,4 @@
+-- Beyond the program's claim: only laws, proofs and functions inside the tool cite this file.
 -- A firmware that stores a pointer through a pointer and loads it again, and sets of objects for it.
 use Rattle.std.specs.Prelude.{zero, suc, [], ◌∷◌, true, false, None, codes}
 use Rattle.ir_model.specs.declared.firmware.Inst.TheVariants as inst

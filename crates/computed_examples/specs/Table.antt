@@ -1,3 +1,4 @@
+-- Beyond the program's claim: only laws, proofs and functions inside the tool cite this file.
 -- A table of functions that are called by what a sensor gives; its last cell is null.
 use Rattle.std.specs.Prelude.{◌≡◌, ℕ, [], ◌∷◌, Some, None, Bool, true, false, codes, refl}
 use Rattle.events.specs.declared.event.Event.{Event}

@@ -1,3 +1,4 @@
+-- Beyond the program's claim: only laws, proofs and functions inside the tool cite this file.
 -- Short ways to write a firmware down, and to run it.
 use Rattle.std.specs.Prelude.{ℕ, List, [], ◌∷◌, None, false}
 use Rattle.words.specs.Runs.{run, events}

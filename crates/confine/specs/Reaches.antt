@@ -1,3 +1,4 @@
+-- Beyond the program's claim: only laws, proofs and functions inside the tool cite this file.
 -- What the protection unit lets unprivileged code reach where the invariant holds, whatever it executes.
 use Rattle.std.specs.Prelude.{◌≡◌, ℕ, ◌+◌, ◌<◌, ◌≤◌, ◌⊎◌, true}
 use Rattle.mpu_model.specs.declared.region.Region.{Region}

@@ -1,3 +1,4 @@
+-- Beyond the program's claim: only laws, proofs and functions inside the tool cite this file.
 -- Bounds of numbers, so that they fit in 32 bits.
 use Rattle.std.specs.Prelude.{◌≡◌, ℕ, ◌<◌, ◌^◌, length, true}
 use Rattle.ir_model.specs.Resolved.{Program, func_at, block_at, here}

@@ -1,3 +1,4 @@
+-- Beyond the program's claim: only laws, proofs and functions inside the tool cite this file.
 -- The locals that are lendable, by what the needs of each function list.
 use Rattle.std.specs.Prelude.{◌≡◌, ◌≢◌, ℕ, ◌<◌, ◌⊎◌, Bool, true, List, length, get_or}
 use Rattle.ir_model.specs.declared.object.ObjId.{ObjId}

@@ -1,3 +1,4 @@
+-- Beyond the program's claim: only laws, proofs and functions inside the tool cite this file.
 -- Which of a number of functions lead to which, as rows of flags.
 use Rattle.std.specs.Prelude.{◌≡◌, ◌↔◌, ℕ, ◌<◌, Bool, true, false, ◌||◌, ◌&&◌, List, [], length, get_or, Contains}
 use Rattle.plan_model.specs.declared.needs.FuncNeed.{FuncNeed}

@@ -1,3 +1,4 @@
+-- Beyond the program's claim: only laws, proofs and functions inside the tool cite this file.
 -- By what an instruction reaches objects and functions.
 use Rattle.std.specs.Prelude.{List, [], ◌∷◌, flat_map, Contains}
 use Rattle.ir_model.specs.Resolved.{NumberedInst, Load, Store, Call, ICall, NumberedBlock, Here, Does, Ends}

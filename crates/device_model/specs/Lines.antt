@@ -1,3 +1,4 @@
+-- Beyond the program's claim: only laws, proofs and functions inside the tool cite this file.
 -- Lines of a tape as the code reads them, tied to the definitions of Tape.
 use Rattle.std.specs.Prelude.{ℕ, List, [], ◌∷◌, nat_eq, if◌then◌else◌}
 use Rattle.device_model.specs.Tape.{Row, Blank as Nothing, Entry as Word, Bad as Malformed}

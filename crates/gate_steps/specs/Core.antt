@@ -1,3 +1,4 @@
+-- Beyond the program's claim: only laws, proofs and functions inside the tool cite this file.
 -- The part of a machine that steps may change.
 use Rattle.std.specs.Prelude.{ℕ, ◌*◌, ◌/◌, ◌%◌, ◌&&◌, List, Bool, true, not, nat_eq}
 use Rattle.std.proofs.Math.ListN.{get_or, set}

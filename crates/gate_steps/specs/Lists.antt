@@ -1,3 +1,4 @@
+-- Beyond the program's claim: only laws, proofs and functions inside the tool cite this file.
 -- Vectors of steps, as the program has them, as lists of the language.
 use Rattle.std.specs.Prelude.{◌/◌, List, [], ◌∷◌}
 use Rattle.words.specs.Width.{byte_count}

@@ -1,3 +1,4 @@
+-- Beyond the program's claim: only laws, proofs and functions inside the tool cite this file.
 -- Cells: each stands at a multiple of its width, and the cell that is found at an offset.
 use Rattle.std.specs.Prelude.{◌≡◌, ℕ, ◌%◌, ◌<◌, List, length, Some}
 use Rattle.ir_model.specs.Types.{PlainType, width_of}

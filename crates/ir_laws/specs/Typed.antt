@@ -1,3 +1,4 @@
+-- Beyond the program's claim: only laws, proofs and functions inside the tool cite this file.
 -- The typing of a program at each place of each function, over numbers. `sizes` has the size of each type.
 use Rattle.std.specs.Prelude.{◌≡◌, ℕ, ◌^◌, ◌*◌, ◌<◌, ◌≤◌, List, length, Bool, true, false, ◌||◌, Option, Some, None, IsTrue}
 use Rattle.std.proofs.Math.ListN.{get_or}

@@ -1,3 +1,4 @@
+-- Beyond the program's claim: only laws, proofs and functions inside the tool cite this file.
 -- Sizes and alignments where a size may pass the limit, and where a struct may not be declared.
 use Rattle.std.specs.Prelude.{◌≡◌, Bool, ◌&&◌, true, false, IsTrue, ℕ, ◌+◌, ◌*◌, ◌<◌, ◌≤◌, List, [], ◌∷◌, ◌++◌, if◌then◌else◌, max, Option, Some, None, option_and_then, nat_le, bytes_eq}
 use Rattle.ir_model.specs.declared.extent.Extent.{Extent}

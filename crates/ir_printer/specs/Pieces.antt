@@ -1,3 +1,4 @@
+-- Beyond the program's claim: only laws, proofs and functions inside the tool cite this file.
 -- The canonical text of each part of a firmware, token by token. A line has its first token, the others each behind a
 -- space, and its end.
 use Rattle.std.specs.Prelude.{ℕ, ◌+◌, List, [], ◌∷◌, ◌++◌, flat_map, Option, Some, None, Bool, true, false, ◌==◌, if◌then◌else◌}

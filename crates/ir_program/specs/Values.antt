@@ -1,3 +1,4 @@
+-- Beyond the program's claim: only laws, proofs and functions inside the tool cite this file.
 -- Values of the code as the definition's.
 use Rattle.ir_model.specs.Resolved as plain
 use Rattle.ir_program.specs.declared.value.Instance as instances

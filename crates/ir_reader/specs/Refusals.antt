@@ -1,3 +1,4 @@
+-- Beyond the program's claim: only laws, proofs and functions inside the tool cite this file.
 -- What a refusal says of the bytes.
 use Rattle.std.specs.Prelude.{◌≡◌, ℕ, ◌+◌, ◌-◌, List, [], ◌∷◌, ◌++◌, map, length, take, count_by, Some, IsUtf8, nat_eq, Result, Ok, Err}
 use Rattle.ir_model.specs.declared.firmware.Firmware.{Firmware}

@@ -1,3 +1,4 @@
+-- Beyond the program's claim: only laws, proofs and functions inside the tool cite this file.
 -- The tokens of the parts of a firmware, without what they pass.
 use Rattle.std.specs.Prelude.{ℕ, List, [], ◌∷◌, ◌++◌, flat_map, Bool, true, false, Option, Some, None}
 use Rattle.ir_model.specs.declared.firmware.Inst.{Inst}

@@ -1,3 +1,4 @@
+-- Beyond the program's claim: only laws, proofs and functions inside the tool cite this file.
 -- Frames, ends and what instructions ask for, as the definition's.
 use Rattle.std.specs.Prelude.{map}
 use Rattle.ir_model.specs.State as state

@@ -1,3 +1,4 @@
+-- Beyond the program's claim: only laws, proofs and functions inside the tool cite this file.
 -- How far a run is, as the definition's state.
 use Rattle.ir_model.specs.State as state
 use Rattle.ir_run.specs.declared.run.Phase.{Phase}

@@ -1,3 +1,4 @@
+-- Beyond the program's claim: only laws, proofs and functions inside the tool cite this file.
 -- Runs of a source as callers see them, and what a step answers.
 use Rattle.std.specs.Prelude.{◌≡◌, ℕ, suc, ◌<◌, ◌^◌, List, Some, None}
 use Rattle.ir_model.specs.Resolved.{Program}

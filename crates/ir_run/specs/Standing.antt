@@ -1,3 +1,4 @@
+-- Beyond the program's claim: only laws, proofs and functions inside the tool cite this file.
 -- What stands at a place, as the definition's.
 use Rattle.std.specs.Prelude.{List}
 use Rattle.ir_model.specs.Layout.{Known}

@@ -1,3 +1,4 @@
+-- Beyond the program's claim: only laws, proofs and functions inside the tool cite this file.
 -- The state of a run as the definition's.
 use Rattle.std.specs.Prelude.{◌≡◌, ◌∷◌, map, Some, None}
 use Rattle.ir_model.specs.State as state

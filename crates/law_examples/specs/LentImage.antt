@@ -1,3 +1,4 @@
+-- Beyond the program's claim: only laws, proofs and functions inside the tool cite this file.
 -- The laws of one sound image.
 use Rattle.device_model.specs.Rules.{ObeysRules}
 use Rattle.monitor.specs.TheCode.{monitor_code}

@@ -1,3 +1,4 @@
+-- Beyond the program's claim: only laws, proofs and functions inside the tool cite this file.
 -- The blocks, tails and RAM of the code as the definitions see them.
 use Rattle.std.specs.Prelude.{ℕ, ◌+◌, List, [], map}
 use Rattle.std.specs.List.{fold}

@@ -1,3 +1,4 @@
+-- Beyond the program's claim: only laws, proofs and functions inside the tool cite this file.
 -- The least of numbers that may be missing.
 use Rattle.std.specs.Prelude.{ℕ, List, Option, Some, None, min}
 use Rattle.std.specs.List.{fold}

@@ -1,3 +1,4 @@
+-- Beyond the program's claim: only laws, proofs and functions inside the tool cite this file.
 -- Sizes and numbers of cells that are cut off at 2^32.
 use Rattle.std.specs.Prelude.{◌≡◌, ℕ, ◌^◌, ◌<◌, length, min, List}
 use Rattle.ir_model.specs.declared.extent.TheConstants.{SIZE_LIMIT}

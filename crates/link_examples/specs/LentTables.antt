@@ -1,3 +1,4 @@
+-- Beyond the program's claim: only laws, proofs and functions inside the tool cite this file.
 -- The tables of a firmware of three compartments in which `main` lends a local, by its needs, its graph and its plan.
 use Rattle.std.specs.Prelude.{◌≡◌, [], ◌∷◌, false, None}
 use Rattle.plan_model.specs.declared.graph.Final.{Final}

@@ -1,3 +1,4 @@
+-- Beyond the program's claim: only laws, proofs and functions inside the tool cite this file.
 -- What holds of the tables of every firmware: statements of laws.
 use Rattle.std.specs.Prelude.{◌≡◌, length}
 use Rattle.ir_model.specs.Resolved.{Program}

@@ -1,3 +1,4 @@
+-- Beyond the program's claim: only laws, proofs and functions inside the tool cite this file.
 -- What the refinement says of this image.
 use Rattle.monitor.specs.Invariant.{Invariant}
 use Rattle.monitor.specs.Law.{Law}

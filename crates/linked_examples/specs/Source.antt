@@ -1,3 +1,4 @@
+-- Beyond the program's claim: only laws, proofs and functions inside the tool cite this file.
 -- The firmware of two compartments as a source.
 use Rattle.std.specs.Prelude.{◌≡◌, [], ◌∷◌, false, None, codes}
 use Rattle.ir_model.specs.declared.firmware.Cell.TheVariants.{Word}

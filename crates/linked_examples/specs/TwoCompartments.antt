@@ -1,3 +1,4 @@
+-- Beyond the program's claim: only laws, proofs and functions inside the tool cite this file.
 -- Two compartments of a closed board. `main` lends its local x to `writer`, which stores in it what the global has, and that in
 -- a window, too; then `main` loads x.
 use Rattle.std.specs.Prelude.{ℕ, zero, suc, List, [], ◌∷◌, ◌++◌, true, false, None, replicate}

@@ -1,3 +1,4 @@
+-- Beyond the program's claim: only laws, proofs and functions inside the tool cite this file.
 -- What the linked image of a planned firmware promises about its globals, but for what they hold at first: the statement of a law.
 use Rattle.std.specs.Prelude.{◌≡◌, ℕ, ◌+◌, ◌%◌, ◌<◌, ◌≤◌, length, true}
 use Rattle.std.proofs.Math.ListN.{get_or}

@@ -1,3 +1,4 @@
+-- Beyond the program's claim: only laws, proofs and functions inside the tool cite this file.
 -- What start-up copies into RAM for a planned firmware: statements of laws.
 use Rattle.std.specs.Prelude.{◌≡◌, ℕ, map, None}
 use Rattle.ir_model.specs.Plain.{PlainFirmware}

@@ -1,3 +1,4 @@
+-- Beyond the program's claim: only laws, proofs and functions inside the tool cite this file.
 -- What the linked image of a planned firmware promises its simulation, part by part: statements of laws.
 use Rattle.std.specs.Prelude.{◌≡◌, ℕ, ◌+◌, ◌%◌, ◌<◌, ◌≤◌, ◌⊎◌, length, true}
 use Rattle.ir_model.specs.Plain.{PlainFirmware}

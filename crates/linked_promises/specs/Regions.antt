@@ -1,3 +1,4 @@
+-- Beyond the program's claim: only laws, proofs and functions inside the tool cite this file.
 -- What holds of the image of every planned firmware and of the regions in its tables: statements of laws.
 use Rattle.std.specs.Prelude.{◌≡◌, None}
 use Rattle.ir_model.specs.Plain.{PlainFirmware}

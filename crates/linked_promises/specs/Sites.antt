@@ -1,3 +1,4 @@
+-- Beyond the program's claim: only laws, proofs and functions inside the tool cite this file.
 -- What holds of the sites, the targets and the lent locals in the tables of every planned firmware: statements of laws.
 use Rattle.std.specs.Prelude.{◌≡◌, ℕ, ◌<◌, length, true, Some, None}
 use Rattle.ir_model.specs.Plain.{PlainFirmware}

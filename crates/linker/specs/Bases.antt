@@ -1,3 +1,4 @@
+-- Beyond the program's claim: only laws, proofs and functions inside the tool cite this file.
 -- Where functions begin, from the sizes of all functions.
 use Rattle.std.specs.Prelude.{ℕ, ◌+◌, List, [], ◌∷◌, length, map}
 use Rattle.std.proofs.Math.ListN.{get_or, take}

@@ -1,3 +1,4 @@
+-- Beyond the program's claim: only laws, proofs and functions inside the tool cite this file.
 -- What a slot is for, as the code has it and as the definition has it.
 use Rattle.std.specs.Prelude.{ℕ, ◌+◌, ◌-◌, List, map, drop}
 use Rattle.mpu_model.specs.declared.region.Region.{Region}

@@ -1,3 +1,4 @@
+-- Beyond the program's claim: only laws, proofs and functions inside the tool cite this file.
 -- The functions that code is made for: their registers, locals and blocks are those that they have, and few enough. `InstFits`
 -- is for an instruction of a function whose code has these places.
 use Rattle.std.specs.Prelude.{◌≡◌, ℕ, ◌<◌, ◌≤◌, List, length, Option, IfSome}

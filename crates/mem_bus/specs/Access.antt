@@ -1,3 +1,4 @@
+-- Beyond the program's claim: only laws, proofs and functions inside the tool cite this file.
 -- What the place of an access's first byte says of all its bytes.
 use Rattle.std.specs.Prelude.{◌≡◌, ℕ, ◌+◌, ◌≤◌, ◌⊎◌, List, [], ◌∷◌, length, slice_get, Some}
 use Rattle.device_model.specs.declared.image.Image.{Image}

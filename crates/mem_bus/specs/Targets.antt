@@ -1,3 +1,4 @@
+-- Beyond the program's claim: only laws, proofs and functions inside the tool cite this file.
 -- Places as the code names them.
 use Rattle.mem_bus.specs.Places.{Place, InRam, InFlash, InWindow, Nowhere as Nothing}
 use Rattle.mem_bus.specs.declared.target.Target.{Target}

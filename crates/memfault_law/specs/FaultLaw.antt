@@ -1,3 +1,4 @@
+-- Beyond the program's claim: only laws, proofs and functions inside the tool cite this file.
 -- The half of the monitor's law that speaks of MemManage.
 use Rattle.std.specs.Prelude.{◌≡◌, ℕ, true, None}
 use Rattle.device_model.specs.declared.image.Image.{Image}

@@ -1,3 +1,4 @@
+-- Beyond the program's claim: only laws, proofs and functions inside the tool cite this file.
 -- The access law: the accesses of a compartment's code that are in its reach have the effect that they have with the protection
 -- unit off. It is all that a simulation needs of the unit's regions and of the handler of MemManage.
 use Rattle.std.specs.Prelude.{◌≡◌, ◌≢◌, ℕ, zero, suc, ◌+◌, ◌-◌, ◌%◌, ◌<◌, ◌≤◌, ◌⊎◌, length, Bool, true, false, Some, None}
@@ -22,7 +23,7 @@ use Rattle.armv7m.specs.Code.{size, Lies}
 use Rattle.armv7m.specs.Confinement.{AnyOf}
 use Rattle.armv7m.specs.Exceptions.{is_frame_open}
 use Rattle.armv7m.specs.Step.{turn, step, event}
-use Rattle.armv7m.specs.Working.{IsStore, IsLoad}
+use Rattle.armv7m.specs.RunningCode.{IsStore, IsLoad}
 use Rattle.monitor.specs.declared.tables.Tables.{Tables}
 use Rattle.monitor.specs.Block.{Block, Loan}
 use Rattle.monitor.specs.BlockWords.{words_end}

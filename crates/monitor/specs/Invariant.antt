@@ -1,10 +1,11 @@
+-- Beyond the program's claim: only laws, proofs and functions inside the tool cite this file.
 -- What holds at the beginning of each step of a thread, whatever it executes. Confinement of all code and the simulation of
 -- source runs rest on this one invariant.
 use Rattle.std.specs.Prelude.{◌≡◌, ℕ, ◌+◌, ◌*◌, ◌%◌, ◌<◌, ◌≤◌, List, [], ◌∷◌, length, true, false}
 use Rattle.device_model.specs.declared.image.Image.{Image}
 use Rattle.device_model.specs.Rules.{block_size}
 use Rattle.armv7m.specs.State.{State}
-use Rattle.armv7m.specs.Working.{Context}
+use Rattle.armv7m.specs.RunningCode.{Context}
 use Rattle.armv7m.specs.Shape.{StateFits}
 use Rattle.armv7m.specs.Confinement.{Each}
 use Rattle.monitor.specs.declared.tables.Tables.{Tables}

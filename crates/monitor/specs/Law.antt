@@ -1,3 +1,4 @@
+-- Beyond the program's claim: only laws, proofs and functions inside the tool cite this file.
 -- The law of the monitor, in the words of a simulation of source runs: what the protection unit permits a compartment's code,
 -- and what each call of the monitor comes to. Offsets are from RAM's base.
 use Rattle.std.specs.Prelude.{◌≡◌, ℕ, ◌+◌, ◌-◌, ◌*◌, ◌/◌, ◌%◌, ◌^◌, ◌<◌, ◌≤◌, List, [], length, true, false, Some, nat_eq}
@@ -14,7 +15,7 @@ use Rattle.armv7m.specs.State.{State, by_mpu}
 use Rattle.armv7m.specs.Exceptions.{is_thread}
 use Rattle.armv7m.specs.Code.{HoldsHalf, Runs}
 use Rattle.armv7m.specs.Shape.{StateFits}
-use Rattle.armv7m.specs.Working.{Context, works, IsStore, IsLoad}
+use Rattle.armv7m.specs.RunningCode.{Context, works, IsStore, IsLoad}
 use Rattle.monitor.specs.Block.{Block, Loan, entered, lent}
 use Rattle.monitor.specs.BlockWords.{words_end}
 use Rattle.monitor.specs.Setting.{Setting}

@@ -1,3 +1,4 @@
+-- Beyond the program's claim: only laws, proofs and functions inside the tool cite this file.
 -- The law of the monitor: what its handlers leave, in the words of their outcomes. The contract that confinement uses and the
 -- law that the simulation uses both follow from it.
 use Rattle.std.specs.Prelude.{◌≡◌, ℕ, ◌+◌, ◌-◌, ◌≤◌, ◌<◌, ◌⊎◌, Bool, true, false, List, length, None, nat_lt, if◌then◌else◌}

@@ -1,3 +1,4 @@
+-- Beyond the program's claim: only laws, proofs and functions inside the tool cite this file.
 -- What is promised of the monitor, each as one statement, and how they rest on one another. `code` is the monitor's own code.
 use Rattle.std.specs.Prelude.{List, [], ◌∷◌, ◌-◌}
 use Rattle.device_model.specs.declared.image.Image.{Image}

@@ -1,3 +1,4 @@
+-- Beyond the program's claim: only laws, proofs and functions inside the tool cite this file.
 -- What is made: lists of steps, and the constants that they take of the tables.
 use Rattle.std.specs.Prelude.{◌≡◌}
 use Rattle.gate_steps.specs.Steps.{Steps}

@@ -1,3 +1,4 @@
+-- Beyond the program's claim: only laws, proofs and functions inside the tool cite this file.
 -- Parts of the monitor's definitions: what each function of this crate puts that makes less than one of them. That the parts
 -- make the whole is shown where they are put together.
 use Rattle.std.specs.Prelude.{ℕ, ◌^◌}

@@ -1,3 +1,4 @@
+-- Beyond the program's claim: only laws, proofs and functions inside the tool cite this file.
 -- Sizes that are counted in 64 bits.
 use Rattle.std.specs.Prelude.{ℕ, ◌-◌, ◌^◌}
 

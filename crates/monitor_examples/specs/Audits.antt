@@ -1,3 +1,4 @@
+-- Beyond the program's claim: only laws, proofs and functions inside the tool cite this file.
 -- The checks of that image, which is sound, and of images that differ from it in one place.
 use Rattle.std.specs.Prelude.{◌≡◌, ℕ, ◌+◌, [], ◌∷◌, ◌++◌, true, Option, Some, None, take}
 use Rattle.std.proofs.Math.ListN.{set}

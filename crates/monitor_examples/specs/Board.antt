@@ -1,3 +1,4 @@
+-- Beyond the program's claim: only laws, proofs and functions inside the tool cite this file.
 -- The small board's memories, and the state in which a handler begins there.
 use Rattle.std.specs.Prelude.{ℕ, ◌-◌, List, [], ◌∷◌, ◌++◌, true, false, Option, Some, None, replicate, drop}
 use Rattle.words.specs.Bytes.{write_all, read}

@@ -1,3 +1,4 @@
+-- Beyond the program's claim: only laws, proofs and functions inside the tool cite this file.
 -- How many bytes of code the monitor has, and how many steps at most, on boards with 8 and 16 regions. The tests of the
 -- number of an SVC count with all four lists, of which a run takes one.
 use Rattle.std.specs.Prelude.{◌≡◌, ℕ, ◌+◌, true, false}

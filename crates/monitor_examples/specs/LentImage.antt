@@ -1,3 +1,4 @@
+-- Beyond the program's claim: only laws, proofs and functions inside the tool cite this file.
 -- The tables and the image of a firmware of three compartments: main lends a local word to the function that is called by the
 -- function that it calls. The words of the image are those that an independent model of the compiler made for a board of
 -- 262,144 bytes of flash and 65,536 of RAM, with a stack of 2,048 bytes; the monitor's code is left out.

@@ -1,3 +1,4 @@
+-- Beyond the program's claim: only laws, proofs and functions inside the tool cite this file.
 -- The tables of that firmware, computed.
 use Rattle.std.specs.Prelude.{◌≡◌, [], ◌∷◌, true, Some, None}
 use Rattle.monitor.specs.Records.{number_of_slots, last_with_entry, targets_of, site_at}

@@ -1,3 +1,4 @@
+-- Beyond the program's claim: only laws, proofs and functions inside the tool cite this file.
 -- A small board: two compartments, a crossing site of the first that calls into the second, and one lendable local.
 use Rattle.std.specs.Prelude.{ℕ, zero, suc, ◌+◌, List, [], ◌∷◌, Bool}
 use Rattle.mpu_model.specs.declared.region.Region.{Region}

@@ -1,3 +1,4 @@
+-- Beyond the program's claim: only laws, proofs and functions inside the tool cite this file.
 -- Small lists of steps: effects, code and steps. Values were worked out by hand.
 use Rattle.std.specs.Prelude.{◌≡◌, ℕ, List, [], ◌∷◌, true, false, replicate}
 use Rattle.words.specs.declared.memory.Width.TheVariants.{Byte, Half, Word}

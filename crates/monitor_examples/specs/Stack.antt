@@ -1,3 +1,4 @@
+-- Beyond the program's claim: only laws, proofs and functions inside the tool cite this file.
 -- A small stack for the handlers: the firmware's 2,048 bytes, as words. The frame of an exception lies at the stack pointer.
 use Rattle.std.specs.Prelude.{ℕ, ◌-◌, ◌/◌, List, [], ◌∷◌, ◌++◌, replicate}
 use Rattle.monitor.specs.Block.{Loan, Saved, Block}

@@ -1,3 +1,4 @@
+-- Beyond the program's claim: only laws, proofs and functions inside the tool cite this file.
 -- Numbers that are told apart only below 2^32.
 use Rattle.std.specs.Prelude.{ℕ, ◌^◌, min, Option, Some, None}
 

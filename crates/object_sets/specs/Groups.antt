@@ -1,3 +1,4 @@
+-- Beyond the program's claim: only laws, proofs and functions inside the tool cite this file.
 -- Items in groups, numbered through: those of the first group first. A list of groups is the list of how many items they have.
 use Rattle.std.specs.Prelude.{◌≡◌, ℕ, ◌+◌, ◌^◌, ◌<◌, List, take, length, get_or, Option, Some, None, nat_lt, if◌then◌else◌}
 use Rattle.std.specs.List.{sum}

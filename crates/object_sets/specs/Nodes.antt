@@ -1,3 +1,4 @@
+-- Beyond the program's claim: only laws, proofs and functions inside the tool cite this file.
 -- Nodes of the code as the definition's.
 use Rattle.ir_model.specs.Objects.{object_by}
 use Rattle.ir_laws.specs.Sets as plain

@@ -1,3 +1,4 @@
+-- Beyond the program's claim: only laws, proofs and functions inside the tool cite this file.
 -- Lists of numbers, by their numbers.
 use Rattle.std.specs.Prelude.{ℕ, Bool, List, [], ◌∷◌, ◌++◌, map, get_or, set, nat_eq, if◌then◌else◌}
 use Rattle.std.specs.List.{list_any}

@@ -1,3 +1,4 @@
+-- Beyond the program's claim: only laws, proofs and functions inside the tool cite this file.
 -- Pairs of a node and an object, by their numbers.
 use Rattle.std.specs.Prelude.{ℕ, ◌<◌, Bool, false, List, length, get_or, Option, Some, None}
 use Rattle.ir_laws.specs.Sets.{ObjectSets}

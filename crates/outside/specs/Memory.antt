@@ -1,3 +1,4 @@
+-- Beyond the program's claim: only laws, proofs and functions inside the tool cite this file.
 -- Files and a sink in memory, whose calls are numbered from 0 and fail by their numbers.
 use Rattle.std.specs.Prelude.{◌≡◌, ◌≢◌, ◌⊎◌, ℕ, ◌+◌, ◌-◌, ◌^◌, ◌<◌, min, List, [], length, take, Option, Some, None, Result, Ok, Err, IsSomeAnd, Contains, unwrap_or, Bool, true, not, ◌&&◌, ◌∷◌}
 use Rattle.std.specs.Option.{option_map, option_and_then}

@@ -1,3 +1,4 @@
+-- Beyond the program's claim: only laws, proofs and functions inside the tool cite this file.
 -- The control loop by files on a closed board: what is only read has a region too, which is read-only.
 use Rattle.std.specs.Prelude.{◌≡◌, [], ◌∷◌, true, false, None}
 use Rattle.ir_model.specs.declared.object.ObjId.TheVariants.{Global}

@@ -1,3 +1,4 @@
+-- Beyond the program's claim: only laws, proofs and functions inside the tool cite this file.
 -- The graph of the control loop by files on an open board: nothing is joined, and nothing is exposed.
 use Rattle.std.specs.Prelude.{◌≡◌, [], ◌∷◌, true, false, None}
 use Rattle.ir_model.specs.declared.object.ObjId.TheVariants.{Global, Periph}

@@ -1,3 +1,4 @@
+-- Beyond the program's claim: only laws, proofs and functions inside the tool cite this file.
 -- A control loop in four files. `main` asks `adc_read` for a sample and hands it to `control`, which calls `clamp` and
 -- `coil_set`; these two are in one file. `main` counts in `turns`, `control` reads `gain`.
 use Rattle.std.specs.Prelude.{◌≡◌, ℕ, List, [], ◌∷◌, Bool, true, false, Some, None, codes}

@@ -1,3 +1,4 @@
+-- Beyond the program's claim: only laws, proofs and functions inside the tool cite this file.
 -- The blocks of the control loop on an open board: the size of the tables, the plan, and the words of the slots.
 use Rattle.std.specs.Prelude.{◌≡◌, List, [], ◌∷◌, false, Some, length}
 use Rattle.mpu_model.specs.declared.region.Region.{Region}

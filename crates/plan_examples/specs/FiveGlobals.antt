@@ -1,3 +1,4 @@
+-- Beyond the program's claim: only laws, proofs and functions inside the tool cite this file.
 -- Five globals that are written by compartments {0}, {0, 1}, {0, 2}, {0, 3} and {0, 1, 2}: five data regions for compartment 0,
 -- one more than a unit of eight regions has slots. The first pair of least added exposure, 4 bytes, is that of the first two.
 use Rattle.std.specs.Prelude.{◌≡◌, ℕ, List, [], ◌∷◌, false, map, Some, None}

@@ -1,3 +1,4 @@
+-- Beyond the program's claim: only laws, proofs and functions inside the tool cite this file.
 -- The first limit that is passed, with its count.
 use Rattle.std.specs.Prelude.{◌≡◌, ℕ, List, [], ◌∷◌, replicate, false, Some, None}
 use Rattle.plan_model.specs.declared.needs.SiteNeed.{SiteNeed}

@@ -1,3 +1,4 @@
+-- Beyond the program's claim: only laws, proofs and functions inside the tool cite this file.
 -- A compartment with six peripherals and one data region on a unit with four slots: covers are joined until three are left.
 use Rattle.std.specs.Prelude.{◌≡◌, List, [], ◌∷◌, false, true, Some, None}
 use Rattle.ir_model.specs.declared.object.ObjId.TheVariants.{Global, Periph}

@@ -1,3 +1,4 @@
+-- Beyond the program's claim: only laws, proofs and functions inside the tool cite this file.
 -- A function that calls itself, so that its local is lendable though no other function reaches it; and a constant, which it
 -- reads and, as it has no right to, stores to.
 use Rattle.std.specs.Prelude.{zero, [], ◌∷◌, true, false, None}

@@ -1,3 +1,4 @@
+-- Beyond the program's claim: only laws, proofs and functions inside the tool cite this file.
 -- Two functions that call each other across compartments: where their frames stand on a stack of 2,048 bytes.
 use Rattle.std.specs.Prelude.{◌≡◌, ℕ, ◌+◌, ◌≤◌, List, [], ◌∷◌, length, false, Option, Some, None}
 use Rattle.ir_model.specs.Types.{PlainTypes, PlainType, U32, none, more, nothing}

@@ -1,3 +1,4 @@
+-- Beyond the program's claim: only laws, proofs and functions inside the tool cite this file.
 -- What fits a memory and what does not, and the compartment that a refusal names.
 use Rattle.std.specs.Prelude.{◌≡◌, ℕ, false, [], ◌∷◌, map, Some, None}
 use Rattle.ir_model.specs.Resolved.{Program}

@@ -1,3 +1,4 @@
+-- Beyond the program's claim: only laws, proofs and functions inside the tool cite this file.
 -- A region of 600 bytes leaves three eighths of its block free, and another of 200 bytes stands there.
 use Rattle.std.specs.Prelude.{◌≡◌, ℕ, [], ◌∷◌, None}
 use Rattle.ir_model.specs.Resolved.{Program}

@@ -1,3 +1,4 @@
+-- Beyond the program's claim: only laws, proofs and functions inside the tool cite this file.
 -- Blocks and the words of the regions that hold them.
 use Rattle.std.specs.Prelude.{◌≡◌, ℕ, [], ◌∷◌, map}
 use Rattle.mpu_model.specs.declared.words.Rights.TheVariants.{Ram, Stack}

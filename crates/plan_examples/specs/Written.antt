@@ -1,3 +1,4 @@
+-- Beyond the program's claim: only laws, proofs and functions inside the tool cite this file.
 -- Short ways to write needs and programs down.
 use Rattle.std.specs.Prelude.{ℕ, List, [], false}
 use Rattle.ir_model.specs.declared.object.ObjId.{ObjId}

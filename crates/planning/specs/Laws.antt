@@ -1,3 +1,4 @@
+-- Beyond the program's claim: only laws, proofs and functions inside the tool cite this file.
 -- That planning has one answer, where there is memory enough: statements of laws.
 use Rattle.std.specs.Prelude.{◌≡◌}
 use Rattle.ir_model.specs.Resolved.{Program}

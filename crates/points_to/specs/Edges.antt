@@ -1,3 +1,4 @@
+-- Beyond the program's claim: only laws, proofs and functions inside the tool cite this file.
 -- Between which nodes objects are passed on, and how many steps a search may take.
 use Rattle.std.specs.Prelude.{◌≡◌, ℕ, suc, ◌+◌, ◌*◌, ◌≤◌, true, List, length, count_by, Contains}
 use Rattle.std.specs.List.{sum_by}

@@ -1,3 +1,4 @@
+-- Beyond the program's claim: only laws, proofs and functions inside the tool cite this file.
 -- Rules over numbers that ask what a program asks.
 use Rattle.std.specs.Prelude.{◌≡◌, ℕ, ◌+◌, ◌⊎◌, Bool, true, false, List, [], ◌++◌, length, get_or, count_by, Some, Contains}
 use Rattle.ir_model.specs.Types.{type_of}

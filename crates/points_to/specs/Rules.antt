@@ -1,3 +1,4 @@
+-- Beyond the program's claim: only laws, proofs and functions inside the tool cite this file.
 -- What sets of objects have to obey, over the numbers of nodes and objects.
 use Rattle.std.specs.Prelude.{◌≡◌, ℕ, ◌+◌, ◌-◌, ◌<◌, Bool, true, ◌&&◌, List, [], length, get_or, Option, Some, None, nat_le, nat_lt, if◌then◌else◌}
 use Rattle.ir_model.specs.Types.{PlainType, type_of, same}

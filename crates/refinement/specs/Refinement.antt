@@ -1,3 +1,4 @@
+-- Beyond the program's claim: only laws, proofs and functions inside the tool cite this file.
 -- Every image that is linked of a typed firmware, with its least needs, refines it, where the monitor keeps its law.
 use Rattle.std.specs.Prelude.{◌*◌}
 use Rattle.device_model.specs.declared.image.Image.{Image}

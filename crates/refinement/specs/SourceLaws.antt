@@ -1,3 +1,4 @@
+-- Beyond the program's claim: only laws, proofs and functions inside the tool cite this file.
 -- The laws of typed firmwares and of their runs that the refinement rests on.
 use Rattle.ir_laws.specs.Cells.{CellsAreAligned, CellsAreFound}
 use Rattle.ir_laws.specs.Laws.{CellsOfTypes}

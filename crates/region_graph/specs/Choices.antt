@@ -1,3 +1,4 @@
+-- Beyond the program's claim: only laws, proofs and functions inside the tool cite this file.
 -- Pairs that may be joined, with what their join costs.
 use Rattle.std.specs.Prelude.{ℕ, List, map, Option, Some, None, if◌then◌else◌, nat_lt}
 use Rattle.std.specs.List.{fold}

@@ -1,3 +1,4 @@
+-- Beyond the program's claim: only laws, proofs and functions inside the tool cite this file.
 -- What is known of a data region, on which alone the cost of its joins depends.
 use Rattle.std.specs.Prelude.{◌≡◌, ℕ, ◌<◌, ◌+◌, ◌*◌, Bool, false, not, List, [], length, map, filter, get_or, take}
 use Rattle.std.specs.List.{AllZip}

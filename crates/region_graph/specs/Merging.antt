@@ -1,3 +1,4 @@
+-- Beyond the program's claim: only laws, proofs and functions inside the tool cite this file.
 -- A graph that is being merged, with what is known of its regions; and what an attempt to join comes to.
 use Rattle.std.specs.Prelude.{◌≡◌, ℕ, ◌+◌, ◌<◌, Bool, true, false, Option, Some, None, List, length, sum_by}
 use Rattle.ir_program.specs.Seen.{program_of}

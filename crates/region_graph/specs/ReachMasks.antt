@@ -1,3 +1,4 @@
+-- Beyond the program's claim: only laws, proofs and functions inside the tool cite this file.
 -- The lendable locals that a compartment's functions may write or read.
 use Rattle.std.specs.Prelude.{ℕ, ◌||◌}
 use Rattle.ir_model.specs.declared.object.ObjId.TheVariants.{Local}

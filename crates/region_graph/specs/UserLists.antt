@@ -1,3 +1,4 @@
+-- Beyond the program's claim: only laws, proofs and functions inside the tool cite this file.
 -- The users of globals as the definition's.
 use Rattle.std.specs.Prelude.{ℕ, not, List, [], length, map, filter, get_or}
 use Rattle.plan_model.specs.declared.graph.Region.{Region}

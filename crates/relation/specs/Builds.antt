@@ -1,3 +1,4 @@
+-- Beyond the program's claim: only laws, proofs and functions inside the tool cite this file.
 -- What was built of a firmware, and where its parts stand.
 use Rattle.std.specs.Prelude.{ℕ, ◌+◌, ◌-◌, List, length, map, Option}
 use Rattle.std.proofs.Math.ListN.{get_or}

@@ -1,10 +1,11 @@
+-- Beyond the program's claim: only laws, proofs and functions inside the tool cite this file.
 -- Code that stands as a compartment's own, where memory has the stack and the monitor's block, and the loans of a frame's locals.
 use Rattle.std.specs.Prelude.{◌≡◌, ℕ, ◌+◌, ◌*◌, ◌%◌, ◌<◌, ◌≤◌, ◌⊎◌, List, [], ◌∷◌, length, Option}
 use Rattle.std.proofs.Math.ListN.{get_or}
 use Rattle.thumb_asm.specs.declared.item.Item.{Item}
 use Rattle.device_model.specs.Rules.{ObeysRules, block_size}
 use Rattle.armv7m.specs.declared.state.ProtectionState.{ProtectionState}
-use Rattle.armv7m.specs.State.{Judge}
+use Rattle.armv7m.specs.State.{PermissionTest}
 use Rattle.lower.specs.Places.{Lend}
 use Rattle.monitor.specs.Block.{Block, Loan, lent}
 use Rattle.monitor.specs.Setting.{Setting}
@@ -12,7 +13,7 @@ use Rattle.monitor.specs.Threads.{base, stack_end}
 use Rattle.code_effects.specs.Items.{ItemsAt}
 
 -- a judge that lets a compartment's own code be fetched
-abbrev pub owner : Setting → (compartment : ℕ) → Judge
+abbrev pub owner : Setting → (compartment : ℕ) → PermissionTest
 owner g c = λ p kind a. g.has_code c a
 
 -- these pieces stand in flash from an address on, and are code of a compartment

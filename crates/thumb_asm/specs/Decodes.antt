@@ -1,3 +1,4 @@
+-- Beyond the program's claim: only laws, proofs and functions inside the tool cite this file.
 -- The bytes of an assembly decode to what was put into it.
 use Rattle.std.specs.Prelude.{◌≡◌, ℕ, ◌+◌, ◌*◌, List, length, take, Option, Some, None, slice_get}
 use Rattle.std.proofs.Math.ListN.{get_or}

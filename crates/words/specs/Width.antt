@@ -1,3 +1,4 @@
+-- Beyond the program's claim: only laws, proofs and functions inside the tool cite this file.
 -- The widths of an access.
 use Rattle.std.specs.Prelude.{ℕ}
 use Rattle.words.specs.declared.memory.Width.{Width}
