@@ -1,6 +1,6 @@
-//! What holds of plans by a policy: a function that does nothing, whose contract is the law.
+//! What holds of plans by a policy: functions that do nothing, whose contract is the law.
 
-ghost use Rattle.firmware_plans.specs.Laws.{RefusalsAndPlansExclude};
+ghost use Rattle.firmware_plans.specs.Laws.{RefusalsAndPlansExclude, RefusalsAreOne};
 
 use compartments::laws::needs_are_one;
 use planning::laws::one_answer;
@@ -8,6 +8,14 @@ use planning::laws::one_answer;
 /// A firmware that has a plan for a board by a policy is refused for want of memory alone.
 pub fn refusals_and_plans_exclude()
     ensures { RefusalsAndPlansExclude }
+{
+    needs_are_one();
+    one_answer();
+}
+
+/// A firmware that is refused for a board by a policy is refused for one reason, but for want of memory.
+pub fn refusals_are_one()
+    ensures { RefusalsAreOne }
 {
     needs_are_one();
     one_answer();

@@ -1,5 +1,6 @@
 -- Planning has one answer, where there is memory enough.
-use Rattle.std.proofs.Common.{◌≡◌, ℕ, Bool, true, false, Option, Some, None, option_map, Err, nat_lt, refl, sym, ap, subst, ◌∙◌}
+use Rattle.std.proofs.Common.{◌≡◌, ℕ, Bool, true, false, Option, Some, None, option_map, Result, Err, nat_lt, refl, sym, ap, subst, ◌∙◌}
+use Rattle.std.specs.Prelude.{◌≢◌}
 use Rattle.std.proofs.lemmas.Bool.{le-ltb}
 use Rattle.ir_model.specs.Resolved.{Program}
 use Rattle.plan_model.specs.declared.needs.Needs.{Needs}
@@ -20,14 +21,15 @@ use Rattle.plan_model.specs.Placement.{Fits, plan_of}
 use Rattle.compile_limits.specs.Told.{told}
 use Rattle.lower.specs.Planned.{sizes_of}
 use Rattle.layout.specs.declared.refusal.PlaceRefusal.{PlaceRefusal}
+use Rattle.layout.specs.declared.refusal.PlaceRefusal.TheVariants as place
 use Rattle.layout.specs.Placing.{flash_refusal, ram_refusal}
 use Rattle.layout.specs.Placing as placing
 use Rattle.planning.specs.declared.planner.PlannedFirmware.{PlannedFirmware}
 use Rattle.planning.specs.declared.refusal.PlanningRefusal.{PlanningRefusal}
 use Rattle.planning.specs.declared.refusal.PlanningRefusal.TheVariants.{NoMemory, Limit, Flash, Ram}
 use Rattle.planning.specs.Planned.{IsPlannedFor}
-use Rattle.planning.specs.Refusals.{AreRefused, HasNoRoom, IsPlanningRefusal}
-use Rattle.planning.specs.Laws.{PlansAreOne, PlansAreNotRefused}
+use Rattle.planning.specs.Refusals.{AreRefused, HasNoRoom, IsPlanningRefusal, of_place}
+use Rattle.planning.specs.Laws.{PlansAreOne, PlansAreNotRefused, PlanningRefusalsAreOne}
 use Rattle.planning.proofs.Refusing.{tried}
 
 -- ---- blocks that fit are placed
@@ -83,3 +85,42 @@ plans_are_one one p n g b x y k h = same_plan one p n g b x y k h
 
 pub plans_are_not_refused : GraphsAreOne → PlansAreNotRefused
 plans_are_not_refused one p n g b x r k h = not_refused one p n g b x r k h
+
+-- ---- one refusal
+
+one_error : {X E : Type 0} (r : Result X E) (e f : E) → r ≡ Err e → r ≡ Err f → e ≡ f
+one_error r e f a b = cc
+
+one_passed : {X : Type 0} (o : Option X) (x y : X) → o ≡ Some x → o ≡ Some y → x ≡ y
+one_passed o x y a b = cc
+
+module _ (one : GraphsAreOne) (p : Program) (n : Needs) (g : Groups) (b : Board) where
+  same_limit : (w v : LimitKind) (c d : ℕ) → IsPlanningRefusal p n g b (Limit w c) → IsPlanningRefusal p n g b (Limit v d) → Limit w c ≡ Limit v d
+  same_limit w v c d h k = ap (λ (x : LimitKind × ℕ). Limit x.0 x.1) (one_passed (option_map told (first_passed n g)) (w, c) (v, d) h k)
+
+  limit_or_room : (w : LimitKind) (c : ℕ) (r : PlaceRefusal) → IsPlanningRefusal p n g b (Limit w c) → HasNoRoom p n g b r → ⊥
+  limit_or_room w c r h k = no_limit (first_passed n g) (w, c) k.limits h
+
+  same_room : (r s : PlaceRefusal) → HasNoRoom p n g b r → HasNoRoom p n g b s → of_place r ≡ of_place s
+  same_room r s h k =
+      let same : h.graph ≡ k.graph = one p (slots_of b) (initial_graph p n g) h.graph k.graph h.final k.final in
+      let refused = subst (λ (f : Final). AreRefused p n f b r) same h.refused in
+      ap of_place (one_error (placing.placed p k.graph (sizes_of p n k.graph (slots_of b)) b) r s refused k.refused)
+
+  same_refusal : (r s : PlanningRefusal) → r ≢ NoMemory → s ≢ NoMemory → IsPlanningRefusal p n g b r → IsPlanningRefusal p n g b s → r ≡ s
+  same_refusal NoMemory s a d h k = absurd (a refl)
+  same_refusal (Limit w c) NoMemory a d h k = absurd (d refl)
+  same_refusal (Limit w c) (Limit v e) a d h k = same_limit w v c e h k
+  same_refusal (Limit w c) (Flash e m x) a d h k = absurd (limit_or_room w c (place.Flash e m x) h k)
+  same_refusal (Limit w c) (Ram e m x) a d h k = absurd (limit_or_room w c (place.Ram e m x) h k)
+  same_refusal (Flash c m x) NoMemory a d h k = absurd (d refl)
+  same_refusal (Flash c m x) (Limit v e) a d h k = absurd (limit_or_room v e (place.Flash c m x) k h)
+  same_refusal (Flash c m x) (Flash e o y) a d h k = same_room (place.Flash c m x) (place.Flash e o y) h k
+  same_refusal (Flash c m x) (Ram e o y) a d h k = same_room (place.Flash c m x) (place.Ram e o y) h k
+  same_refusal (Ram c m x) NoMemory a d h k = absurd (d refl)
+  same_refusal (Ram c m x) (Limit v e) a d h k = absurd (limit_or_room v e (place.Ram c m x) k h)
+  same_refusal (Ram c m x) (Flash e o y) a d h k = same_room (place.Ram c m x) (place.Flash e o y) h k
+  same_refusal (Ram c m x) (Ram e o y) a d h k = same_room (place.Ram c m x) (place.Ram e o y) h k
+
+pub planning_refusals_are_one : GraphsAreOne → PlanningRefusalsAreOne
+planning_refusals_are_one one p n g b r s a d h k = same_refusal one p n g b r s a d h k
