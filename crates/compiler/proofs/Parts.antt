@@ -30,6 +30,7 @@ use Rattle.monitor.specs.Layout.{initial_word_count}
 use Rattle.simulate.specs.Refines.{Refines}
 use Rattle.linked_images.specs.Planned.{IsPlanned, plan, planned_image, planned_tables}
 use Rattle.linked_promises.specs.Regions.{ImagesObeyRules}
+use Rattle.linked_promises.specs.Permissions.{SlotsHoldPermissions}
 use Rattle.planned_images.specs.Whole.{IsForBoard, PlannedImagesAreForBoards, PlannedImagesAreConfined, PlannedImagesRefine}
 use Rattle.planning.specs.declared.planner.PlannedFirmware.{PlannedFirmware}
 use Rattle.planning.specs.Planned.{IsPlannedFor}
@@ -81,9 +82,9 @@ module _ (w : PlainFirmware) (n : Needs) (b : Board) (g : Groups) (x : PlannedFi
       }
 
   -- its image, with all that is promised of it
-  pub is_image : IsPlanned w n x.graph b → AreNeedsOf w b.closed n → ImagesObeyRules → PlannedImagesAreForBoards → PlannedImagesAreConfined → PlannedImagesRefine
+  pub is_image : IsPlanned w n x.graph b → AreNeedsOf w b.closed n → ImagesObeyRules → PlannedImagesAreForBoards → PlannedImagesAreConfined → SlotsHoldPermissions → PlannedImagesRefine
       → (i : Image) → i ≡ planned_image w n x.graph b → IsImageFor w n b g i
-  is_image is needs rules board confined refined i e =
+  is_image is needs rules board confined permissions refined i e =
       record {
         graph = x.graph;
         groups = k.groups;
@@ -92,6 +93,7 @@ module _ (w : PlainFirmware) (n : Needs) (b : Board) (g : Groups) (x : PlannedFi
         rules = subst ObeysRules (sym e) (rules w n x.graph b is);
         board = subst (IsForBoard w b) (sym e) (board w n x.graph b is);
         confined = subst (λ (j : Image). Confined j (planned_tables w n x.graph b)) (sym e) (confined w n x.graph b is);
+        permissions = permissions w n x.graph b is;
         refines = subst (λ (j : Image). Refines w n g b.stack (initial_word_count (planned_tables w n x.graph b)) j) (sym e)
             (subst (λ (y : Groups). Refines w n y b.stack (initial_word_count (planned_tables w n x.graph b)) (planned_image w n x.graph b)) k.groups
             (refined w needs.sets n x.graph b is needs.least needs.needs));

@@ -15,6 +15,7 @@ use Rattle.monitor.specs.Confined.{Confined}
 use Rattle.monitor.specs.Layout.{initial_word_count}
 use Rattle.simulate.specs.Refines.{Refines}
 use Rattle.linked_images.specs.Planned.{IsPlanned, planned_image, planned_tables}
+use Rattle.linked_promises.specs.Permissions.{SlotsArePermitted}
 use Rattle.planned_images.specs.Whole.{IsForBoard}
 
 -- the image of a firmware as it is planned with these compartments
@@ -28,6 +29,8 @@ pub record IsImageFor (w : PlainFirmware) (n : Needs) (b : Board) (g : Groups) (
   -- whatever code its compartments execute and whatever the device input, no store for a compartment leaves its permission, and on a
   -- closed board no load
   pub confined : Confined i (planned_tables w n graph b)
+  -- that permission holds bytes of the objects that the compartment may write, of those that it may read, and padding
+  pub permissions : SlotsArePermitted w n graph b
   -- where the source meets no fault and stays within its stack limit, the image makes the same accesses of peripherals, by the same
   -- compartments and in the same order, and ends exactly when the source does
   pub refines : Refines w n g b.stack (initial_word_count (planned_tables w n graph b)) i

@@ -20,6 +20,7 @@ use grouping::facts::facts;
 use grouping::grouping::{Grouping, groups};
 use ir_model::checked::Checked;
 use ir_program::program::Program;
+use linked_promises::permissions::permissions;
 use linked_promises::regions::images;
 use linker::link;
 use plan_model::groups::{FuncFacts, Groups};
@@ -98,6 +99,7 @@ pub fn compile_groups(
     images();
     for_boards();
     confined();
+    permissions();
     refined();
     let made = planned(alloc, program, needs, groups, board)?;
     let image = linked(alloc, firmware, program, needs, &made, board)?;

@@ -1,4 +1,3 @@
--- Beyond the program's claim: only laws, proofs and functions inside the tool cite this file.
 -- Which addresses the blocks of RAM hold, for those that use a plan.
 use Rattle.std.specs.Prelude.{◌≢◌, ℕ, ◌+◌, ◌*◌, ◌/◌, ◌<◌, ◌≤◌, ◌&&◌, if◌then◌else◌, nat_lt, unwrap_or}
 use Rattle.ir_model.specs.Resolved.{Program}

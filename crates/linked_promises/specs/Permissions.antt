@@ -1,4 +1,3 @@
--- Beyond the program's claim: only laws, proofs and functions inside the tool cite this file.
 -- What the slots of a compartment hold in the tables of a planned firmware: bytes of objects of its permission, and padding. The
 -- statement of a law.
 use Rattle.std.specs.Prelude.{◌≡◌, ℕ, ◌+◌, ◌<◌, ◌≤◌, Bool, true, [], length, get_or}

@@ -1,4 +1,3 @@
--- Beyond the program's claim: only laws, proofs and functions inside the tool cite this file.
 -- Which objects a compartment may write and read.
 use Rattle.std.specs.Prelude.{ℕ, Bool, false, ◌&&◌, [], get_or, nat_eq, Option, Some, None, position}
 use Rattle.std.specs.List.{list_any}

@@ -31,4 +31,4 @@ returns-clause-ok c =
     let made = c.in_ok-made.made in
     let planned = subst (λ (p : Program). IsPlannedFor p n groups b made) c.requires.program c.in_ok-made.ensures.ok in
     let is = is_planned w n b groups made planned c.least_sets.ensures.serve c.firmware.ensures.typed c.firmware.ensures.within c.requires.needs c.requires.board c.requires.groups in
-    is_image w n b groups made planned is c.requires.needs c.images.ensures c.for_boards.ensures c.confined.ensures c.refined.ensures c.in_ok-image.image c.in_ok-image.ensures
+    is_image w n b groups made planned is c.requires.needs c.images.ensures c.for_boards.ensures c.confined.ensures c.permissions.ensures c.refined.ensures c.in_ok-image.image c.in_ok-image.ensures
