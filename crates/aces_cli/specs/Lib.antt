@@ -4,3 +4,4 @@ pub mod Answer
 pub mod Did
 pub mod Loads
 pub mod Counts
+pub mod Complete
