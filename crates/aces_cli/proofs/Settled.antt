@@ -2,14 +2,14 @@
 use Rattle.std.proofs.Common.{◌≡◌, ℕ, ◌<◌, ◌⊎◌, inl, inr, List, [], ◌∷◌, true, false, Option, Some, Result, Ok, Err, IsTrue, IsNone, refl, ap, sym, ◌∙◌, subst, arith}
 use Rattle.outside.specs.Counts.{Rose, Stayed}
 use Rattle.aces_reports.specs.declared.failure.Done.{Done}
-use Rattle.aces_reports.specs.declared.failure.Done.TheVariants.{Well, Badly}
+use Rattle.aces_reports.specs.declared.failure.Done.TheVariants.{Completed, RunFailed}
 use Rattle.aces_reports.specs.declared.failure.Failure.{Failure}
 use Rattle.aces_reports.specs.declared.failure.Failure.TheVariants.{Refused, PastLimit, NoRoom, Unread, Unwritten, Unprinted, NoMemory}
 use Rattle.aces_reports.specs.Ends.{status_of}
 use Rattle.aces_words.specs.Requests.{Request, Asks, Origin, origins}
 use Rattle.aces_cli.specs.Known.{Held, Holds, Exceeds, IsMissing}
 use Rattle.aces_cli.specs.Answer.{Outcome, Answer, refused, past_limit, no_room}
-use Rattle.aces_cli.specs.Did.{World, Does, IsPlain, IsUnread}
+use Rattle.aces_cli.specs.Effects.{World, Does, IsPlain, IsUnread}
 use Rattle.aces_cli.specs.Complete.{NoneFailed, AreThere, HasFiles, IsGood, run, bin, compile, check, source, list, IsDoneBy, GoodRequestsAreDone}
 use Rattle.aces_cli.proofs.Requests.{requests_are_one}
 
@@ -58,8 +58,8 @@ module _ (A : Outcome → Type 0) (r : Request) (old new : World) (told : IsTrue
   not_unread name u = elim u.cause [ inl rose ↦ not_risen old.read_faults new.read_faults none.read_faults rose | inr gone ↦ not_missing old.held (origins r) name there gone.1 ]
 
   settles : (e : Result Done Failure) → Does A r old new e → IsSettled A (status_of e) ⊎ (status_of e ≡ 6)
-  settles (Ok Well) d = inl (record { outcome = d.outcome; answer = d.answer; ended = d.ended; plain = is_plain 0 (inl (omega arith)) })
-  settles (Ok Badly) d = inl (record { outcome = d.outcome; answer = d.answer; ended = d.ended; plain = is_plain 7 (inr (omega arith)) })
+  settles (Ok Completed) d = inl (record { outcome = d.outcome; answer = d.answer; ended = d.ended; plain = is_plain 0 (inl (omega arith)) })
+  settles (Ok RunFailed) d = inl (record { outcome = d.outcome; answer = d.answer; ended = d.ended; plain = is_plain 7 (inr (omega arith)) })
   settles (Err (Refused name f)) d = inl (record { outcome = refused name.now f; answer = d.answer; ended = refl; plain = is_plain 1 (inl (omega arith)) })
   settles (Err (PastLimit which count)) d = inl (record { outcome = past_limit which count; answer = d.answer; ended = refl; plain = is_plain 1 (inl (omega arith)) })
   settles (Err (NoRoom memory c needed available)) d = inl (record { outcome = no_room memory c needed available; answer = d.answer; ended = refl; plain = is_plain 3 (inl (omega arith)) })

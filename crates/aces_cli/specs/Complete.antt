@@ -18,7 +18,7 @@ use Rattle.aces_words.specs.declared.policy.Policy.{Policy}
 use Rattle.aces_words.specs.Requests.{Request, Run, Bin, Compile, Check, Source, Listing, Asks, Origin, origins, file_origin, firmware_origin}
 use Rattle.aces_cli.specs.Known.{Held, Holds, Exceeds}
 use Rattle.aces_cli.specs.Answer.{Outcome, Answer, IsFirmware}
-use Rattle.aces_cli.specs.Did.{World}
+use Rattle.aces_cli.specs.Effects.{World}
 
 -- no call on files or on what is printed failed
 pub record NoneFailed (old new : World) : Type 0 where

@@ -1,7 +1,7 @@
 pub mod Compiled
 pub mod Known
 pub mod Answer
-pub mod Did
+pub mod Effects
 pub mod Loads
 pub mod Counts
 pub mod Complete

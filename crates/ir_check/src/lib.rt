@@ -13,7 +13,7 @@ mod labels;
 mod locals;
 mod lookup;
 mod new_names;
-mod outer;
+mod whole_check;
 mod periphs;
 mod register_names;
 mod registers;
@@ -24,4 +24,4 @@ mod tables;
 mod type_names;
 
 pub use fault::CheckFault;
-pub use outer::check;
+pub use whole_check::check;
