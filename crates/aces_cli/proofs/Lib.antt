@@ -5,3 +5,6 @@ mod Firmwares
 mod Sourcing
 mod Planning
 mod Kept
+mod Requests
+mod Good
+mod Settled

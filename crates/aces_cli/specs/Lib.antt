@@ -4,3 +4,4 @@ pub mod Answer
 pub mod Effects
 pub mod Loads
 pub mod Counts
+pub mod Complete

@@ -4,6 +4,7 @@
 mod bin;
 mod check;
 mod compile;
+mod complete;
 mod failure;
 mod list;
 mod loading;
@@ -12,16 +13,18 @@ mod source;
 mod writing;
 
 ghost use Rattle.std.specs.Prelude.{◌≡◌, ◌≢◌, ◌↔◌, ◌⊎◌, map, IsTrue, string_bytes};
-ghost use Rattle.aces_words.specs.Requests.{IsUsage};
+ghost use Rattle.aces_words.specs.Requests.{Request, Asks, IsUsage};
 ghost use Rattle.aces_words.specs.Commands.{request_of};
 ghost use Rattle.aces_cli.specs.Known.{Holds, Exceeds, WasRead, WasTooLarge, IsKnown, IsKnownLarge};
 ghost use Rattle.aces_cli.specs.Answer.{Answer};
+ghost use Rattle.aces_cli.specs.Complete.{NoneFailed, HasFiles, IsGood, IsDoneBy};
 ghost use Rattle.aces_reports.specs.Sinks.{sink};
 ghost use Rattle.aces_cli.specs.Effects.{world, Does, IsPlain, IsAnswered, IsPartly, TellsUnread, TellsUnwritten, TellsUnprinted, TellsOutOfMemory};
 
 use aces_reports::{Done, Failure, report, say};
 pub use aces_reports::{WordsRefusal, refuse_words};
 use aces_words::Command;
+use complete::good_requests;
 use outside::{Files, Sink};
 use std::alloc::Global;
 
@@ -93,6 +96,18 @@ pub fn aces<F: Files, O: Sink, E: Sink>(
         ⊎ IsPartly (WasRead F.Files) (WasTooLarge F.Files) (map string_bytes words.now)
         (world F.Files files.old (sink O.Sink out.old))
         (world F.Files files.new (sink O.Sink out.new)) }
+
+    // Where contents are told and no call failed, a command whose files are there ends by what they hold, or for want of memory; and
+    // where what they hold is good, all was done or memory ran out.
+    ensures settled { IsTrue F.told → NoneFailed
+        (world F.Files files.old (sink O.Sink out.old))
+        (world F.Files files.new (sink O.Sink out.new)) →
+        HasFiles (F.held files.old) (map string_bytes words.now) → IsPlain result ⊎ (result ≡ 6) }
+    ensures complete { IsTrue F.told → NoneFailed
+        (world F.Files files.old (sink O.Sink out.old))
+        (world F.Files files.new (sink O.Sink out.new)) →
+        (r : Request) → Asks (map string_bytes words.now) r → IsGood (Holds (F.held files.old)) r →
+        IsDoneBy r result ⊎ (result ≡ 6) }
     ensures kept { result ≢ 0 → result ≢ 5 → F.held files.new ≡ F.held files.old }
 {
     match Command::of_words(words) {
@@ -101,6 +116,7 @@ pub fn aces<F: Files, O: Sink, E: Sink>(
             2
         }
         Some(command) => {
+            good_requests();
             let ended = perform(alloc, command, files, out);
             report(ended, err)
         }

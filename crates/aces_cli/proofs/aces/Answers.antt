@@ -1,4 +1,4 @@
-use Rattle.std.proofs.Common.{◌∙◌, sym, map, string_bytes, Global}
+use Rattle.std.proofs.Common.{inl, arith, ◌∙◌, sym, map, string_bytes, Global}
 use Rattle.aces_words.specs.Commands.{request_of}
 use Rattle.aces_cli.specs.Known.{Holds, Exceeds, WasRead, WasTooLarge, IsKnown, IsKnownLarge}
 use Rattle.aces_cli.specs.Answer.{Answer}
@@ -7,6 +7,7 @@ use Rattle.aces_cli.specs.Effects.{world}
 use Rattle.aces_cli.proofs.Ends.{did_also}
 use Rattle.aces_cli.proofs.Answered.{answer_also, usage_answered, answered, partly, printed_in_part}
 use Rattle.aces_cli.proofs.Kept.{held_stays}
+use Rattle.aces_cli.proofs.Settled.{is_plain, settled, complete}
 use Rattle.aces_cli.proofs.aces.Goals as goal
 
 pub returns-in-None-clause-answer : goal.returns-in-None-clause-answer
@@ -102,3 +103,31 @@ returns-in-Some-clause-kept g c some whole =
     held_stays (IsKnown of files) (IsKnownLarge of files) (request_of c.in-Some.command)
     (world of files (sink g.O.Sink c.args.out.now)) (world of c.perform-ended.new.files (sink g.O.Sink c.perform-ended.new.out)) c.perform-ended.result c.perform-ended.ensures
     (λ z. some (c.report.ensures.status ∙ z)) (λ z. whole (c.report.ensures.status ∙ z))
+
+pub returns-in-None-clause-settled : goal.returns-in-None-clause-settled
+returns-in-None-clause-settled g c told none there = inl (is_plain 2 (inl (omega arith)))
+
+pub returns-in-None-clause-complete : goal.returns-in-None-clause-complete
+returns-in-None-clause-complete g c told none r asks good = absurd (c.in-None.ensures.usage r asks)
+
+pub returns-in-Some-clause-settled : goal.returns-in-Some-clause-settled
+returns-in-Some-clause-settled g c told none there =
+    let of = g.F.Files in
+    let files = c.args.files.now in
+    let r = request_of c.in-Some.command in
+    settled (map (string_bytes {Z = Global}) c.args.words.now) r c.in-Some.ensures.command
+    (world of files (sink g.O.Sink c.args.out.now)) (world of c.perform-ended.new.files (sink g.O.Sink c.perform-ended.new.out)) told none c.perform-ended.result c.report.result c.report.ensures.status
+    (Answer (IsKnown of files) (IsKnownLarge of files) r) c.perform-ended.ensures there
+
+pub returns-in-Some-clause-complete : goal.returns-in-Some-clause-complete
+returns-in-Some-clause-complete g c told none q asks good =
+    let of = g.F.Files in
+    let files = c.args.files.now in
+    let r = request_of c.in-Some.command in
+    let old = world of files (sink g.O.Sink c.args.out.now) in
+    let new = world of c.perform-ended.new.files (sink g.O.Sink c.perform-ended.new.out) in
+    let also = answer_also (IsKnown of files) (Holds (of.held files)) (IsKnownLarge of files) (Exceeds (of.held files)) (λ s b k. k.1 told) (λ s k. k.1 told) r in
+    complete (map (string_bytes {Z = Global}) c.args.words.now) r c.in-Some.ensures.command old new told none c.perform-ended.result c.report.result c.report.ensures.status
+    c.good_requests.ensures
+    (did_also (Answer (IsKnown of files) (IsKnownLarge of files) r) (Answer (Holds (of.held files)) (Exceeds (of.held files)) r) also r old new c.perform-ended.result c.perform-ended.ensures)
+    q asks good

@@ -1,0 +1,89 @@
+-- Where a command does all that it was asked for, unless memory runs out: no call on the outside fails, and what its files hold is good.
+use Rattle.std.specs.Prelude.{◌≡◌, ℕ, ◌⊎◌, List, [], ◌∷◌, Option, Some, None}
+use Rattle.outside.specs.Counts.{Stayed}
+use Rattle.device_model.specs.declared.image.Image.{Image}
+use Rattle.device_model.specs.Tape as tapes
+use Rattle.image.specs.Text.{IsText}
+use Rattle.ir_model.specs.Plain.{PlainFirmware}
+use Rattle.ir_model.specs.Resolve.{resolve}
+use Rattle.ir_program.specs.Windows.{windows_of}
+use Rattle.plan_model.specs.declared.needs.Needs.{Needs}
+use Rattle.plan_model.specs.declared.plan.Board.{Board}
+use Rattle.board_text.specs.Reading as boards
+use Rattle.compartments.specs.Analyses.{AreNeedsOf}
+use Rattle.compartments.specs.Divisions.{division}
+use Rattle.planning.specs.declared.planner.PlannedFirmware.{PlannedFirmware}
+use Rattle.planning.specs.Planned.{IsPlannedFor}
+use Rattle.aces_words.specs.declared.policy.Policy.{Policy}
+use Rattle.aces_words.specs.Requests.{Request, Run, Bin, Compile, Check, Source, Listing, Asks, Origin, origins, file_origin, firmware_origin}
+use Rattle.aces_cli.specs.Known.{Held, Holds, Exceeds}
+use Rattle.aces_cli.specs.Answer.{Outcome, Answer, IsFirmware}
+use Rattle.aces_cli.specs.Effects.{World}
+
+-- no call on files or on what is printed failed
+pub record NoneFailed (old new : World) : Type 0 where
+  pub read_faults : Stayed old.read_faults new.read_faults
+  pub write_faults : Stayed old.write_faults new.write_faults
+  pub out_faults : Stayed old.out.faults new.out.faults
+
+-- each of these files is there
+abbrev pub AreThere : Held → List Origin → Type 0
+AreThere held [] = Unit {0}
+AreThere held (s ∷ more) = ((bytes : List ℕ) × (held s.name ≡ Some bytes)) × AreThere held more
+
+-- and so is each one that the words name for reading
+abbrev pub HasFiles : Held → (words : List (List ℕ)) → Type 0
+HasFiles held words = (r : Request) → Asks words r → AreThere held (origins r)
+
+-- bytes are the text of an image, and a text is a tape for it
+pub record IsRunnable (bytes text : List ℕ) : Type 0 where
+  pub image : Image
+  pub is_text : IsText image bytes
+  pub tape : tapes.first_fault text image.windows ≡ None
+
+-- bytes are a text of a typed firmware, and a text is a tape for it
+pub record IsSourceRunnable (bytes text : List ℕ) : Type 0 where
+  pub firmware : PlainFirmware
+  pub is_firmware : IsFirmware firmware bytes
+  pub tape : tapes.first_fault text (windows_of firmware) ≡ None
+
+-- by what its functions need on a board of that kind, a firmware has a plan there in the compartments of the policy: no limit is passed, and
+-- each memory has room
+abbrev pub IsPlannable : Policy → PlainFirmware → Board → Type 0
+IsPlannable policy w b =
+    (needs : Needs) → AreNeedsOf w b.closed needs → (made : PlannedFirmware) × IsPlannedFor (resolve w) needs (division policy w needs) b made
+
+-- bytes are a text of a typed firmware and a text is one of a board, where the firmware has a plan by the policy
+pub record IsCompilable (policy : Policy) (bytes text : List ℕ) : Type 0 where
+  pub firmware : PlainFirmware
+  pub board : Board
+  pub is_firmware : IsFirmware firmware bytes
+  pub is_board : boards.IsRead text board
+  pub plannable : IsPlannable policy firmware board
+
+-- what the files of a request hold is what it takes: `Has` says which bytes a source within its limit holds
+module _ (Has : Origin → List ℕ → Type 0) where
+  pub data IsGood : Request → Type 0 where
+    run : (image tape : List ℕ) (steps : ℕ) (bytes text : List ℕ) → Has (file_origin image) bytes → Has (file_origin tape) text →
+        IsRunnable bytes text → IsGood (Run image tape steps)
+    bin : (image file : List ℕ) (bytes : List ℕ) (i : Image) → Has (file_origin image) bytes → IsText i bytes → IsGood (Bin image file)
+    compile : (firmware board : List ℕ) (policy : Policy) (image : List ℕ) (bytes text : List ℕ) → Has (firmware_origin firmware) bytes → Has (file_origin board) text →
+        IsCompilable policy bytes text → IsGood (Compile firmware board policy image)
+    check : (firmware : List ℕ) (bytes : List ℕ) (w : PlainFirmware) → Has (firmware_origin firmware) bytes → IsFirmware w bytes → IsGood (Check firmware)
+    source : (firmware : List ℕ) (policy : Policy) (tape : List ℕ) (steps : ℕ) (bytes text : List ℕ) → Has (firmware_origin firmware) bytes → Has (file_origin tape) text →
+        IsSourceRunnable bytes text → IsGood (Source firmware policy tape steps)
+    list : (firmware board : List ℕ) (policy : Policy) (bytes text : List ℕ) → Has (firmware_origin firmware) bytes → Has (file_origin board) text →
+        IsCompilable policy bytes text → IsGood (Listing firmware board policy)
+
+-- the status says that all was done: 0, and where a run was asked for also 7, which says that it ended badly
+abbrev pub IsDoneBy : Request → (status : ℕ) → Type 0
+IsDoneBy (Run image tape steps) status = (status ≡ 0) ⊎ (status ≡ 7)
+IsDoneBy (Bin image file) status = status ≡ 0
+IsDoneBy (Compile firmware board policy image) status = status ≡ 0
+IsDoneBy (Check firmware) status = status ≡ 0
+IsDoneBy (Source firmware policy tape steps) status = (status ≡ 0) ⊎ (status ≡ 7)
+IsDoneBy (Listing firmware board policy) status = status ≡ 0
+
+-- a good request has no outcome but one that says so
+abbrev pub GoodRequestsAreDone : Type 0
+GoodRequestsAreDone = (held : Held) (r : Request) (o : Outcome) → IsGood (Holds held) r → Answer (Holds held) (Exceeds held) r o → IsDoneBy r o.status
