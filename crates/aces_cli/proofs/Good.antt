@@ -11,7 +11,6 @@ use Rattle.ir_model.specs.declared.check.CheckKind.{CheckKind}
 use Rattle.ir_model.specs.declared.check.Place.{Place}
 use Rattle.ir_model.specs.Plain.{PlainFirmware}
 use Rattle.ir_model.specs.Typing.{fault_of}
-use Rattle.ir_model.specs.Resolve.{resolve}
 use Rattle.ir_program.specs.Windows.{windows_of}
 use Rattle.ir_reader.specs.Laws as readers
 use Rattle.ir_reader.specs.First.{IsFirst}
@@ -21,12 +20,13 @@ use Rattle.ir_model.specs.Texts as firmwares
 use Rattle.plan_model.specs.declared.plan.Board.{Board}
 use Rattle.board_text.specs.declared.fault.BoardFault.{BoardFault}
 use Rattle.board_text.specs.declared.fault.BoardFault.TheVariants as board_fault
-use Rattle.board_text.specs.Reading.{reading, IsRead, IsRefused, IsFault}
+use Rattle.board_text.specs.Reading.{IsRead, IsFault}
+use Rattle.board_text.specs.Laws.{BoardsAreOne, BoardsAreNotRefused}
 use Rattle.aces_reports.specs.declared.failure.Fault.{Fault}
 use Rattle.planning.specs.declared.refusal.PlanningRefusal.{PlanningRefusal}
 use Rattle.planning.specs.declared.refusal.PlanningRefusal.TheVariants as planning
-use Rattle.planning.specs.Laws.{PlansAreNotRefused}
-use Rattle.compartments.specs.Divisions.{division}
+use Rattle.firmware_plans.specs.Laws.{RefusalsAndPlansExclude}
+use Rattle.firmware_plans.specs.Plannable.{IsPlannable}
 use Rattle.firmware_plans.specs.Unplanned.{IsRefusedBy}
 use Rattle.armv7m.specs.declared.state.End.{End}
 use Rattle.armv7m.specs.declared.state.End.TheVariants.{Halt, InputEnd, Limit, Stop, Refused}
@@ -38,7 +38,7 @@ use Rattle.aces_words.specs.declared.policy.Policy.{Policy}
 use Rattle.aces_words.specs.Requests.{Request, Run, Bin, Compile, Check, Source, Listing, Origin}
 use Rattle.aces_cli.specs.Answer.{Outcome, of_image, of_tape, of_text, of_board, Answer, IsFirmware, IsNoFirmware, IsNoText, IsIllTyped, IsNoImage, IsNoTape, IsNoBoard, no_text, ill_typed, RunAnswer, BinAnswer, PlanAnswer, ListAnswer, CompileAnswer, CheckAnswer, SourceAnswer, no_image, no_tape, ran, wrote, no_firmware, no_board, too_many, no_flash, no_ram, unplanned, listed, compiled, checked, run_image_large, run_tape_large, run_read, bin_image_large, bin_read, compile_firmware_large, compile_board_large, compile_read, check_large, check_read, source_firmware_large, source_tape_large, source_read, list_firmware_large, list_board_large, list_read}
 use Rattle.aces_cli.specs.Known.{Held, Holds, Exceeds}
-use Rattle.aces_cli.specs.Complete.{IsRunnable, IsSourceRunnable, IsPlannable, IsCompilable, IsGood, run, bin, compile, check, source, list, IsDoneBy, GoodRequestsAreDone}
+use Rattle.aces_cli.specs.Complete.{IsRunnable, IsSourceRunnable, IsCompilable, IsGood, run, bin, compile, check, source, list, IsDoneBy, GoodRequestsAreDone}
 
 -- a text of a typed firmware has no fault, and its firmware is one
 module _ (unique : readers.TextsAreUnique) (faultless : readers.TextsAreFaultless) where
@@ -59,31 +59,12 @@ module _ (unique : readers.TextsAreUnique) (faultless : readers.TextsAreFaultles
       absurd (let wrong : None ≡ Some (record { kind = kind; place = place }) = sym q ∙ k.found in cc)
 
 -- boards of texts
-boards_are_one : (t : List ℕ) (b c : Board) → IsRead t b → IsRead t c → b ≡ c
-boards_are_one t b c (ms, d, r) (ns, e, s) =
-    let same : ms ≡ ns = cc in
-    let both : Ok b ≡ Ok c = sym r ∙ (ap reading same ∙ s) in
-    cc
-
-not_refused : (t : List ℕ) (b : Board) (f : BoardFault) → IsRead t b → IsRefused t f → ⊥
-not_refused t b f (ms, d, r) (ns, e, s) =
-    let same : ms ≡ ns = cc in
-    let both : Ok b ≡ Err f = sym r ∙ (ap reading same ∙ s) in
-    cc
-
-board_has_no_fault : (t : List ℕ) (b : Board) (f : Fault) → IsRead t b → (first : BoardFault) → IsFault t first → of_board first ≡ Some f → ⊥
-board_has_no_fault t b f h board_fault.NoMemory k q = (let wrong : None ≡ Some f = q in cc)
-board_has_no_fault t b f h board_fault.NotToml k q = k h.0 h.1
-board_has_no_fault t b f h (board_fault.Missing key) k q = not_refused t b (board_fault.Missing key) h k
-board_has_no_fault t b f h (board_fault.Kind key) k q = not_refused t b (board_fault.Kind key) h k
-board_has_no_fault t b f h (board_fault.Range key) k q = not_refused t b (board_fault.Range key) h k
-board_has_no_fault t b f h (board_fault.Extra path) k q = not_refused t b (board_fault.Extra path) h k
-
--- plans
-is_planned : PlansAreNotRefused → (policy : Policy) (w : PlainFirmware) (b : Board) (r : PlanningRefusal) → IsPlannable policy w b → IsRefusedBy policy w b r → r ≡ planning.NoMemory
-is_planned one policy w b r p k =
-    let made = p k.needs k.are_needs in
-    one (resolve w) k.needs (division policy w k.needs) b made.0 r made.1 k.refused
+module _ (read : BoardsAreNotRefused) where
+  board_has_no_fault : (t : List ℕ) (b : Board) (f : Fault) → IsRead t b → (first : BoardFault) → IsFault t first → of_board first ≡ Some f → ⊥
+  board_has_no_fault t b f h first k q =
+      let same : first ≡ board_fault.NoMemory = read t b first h k in
+      let wrong : None ≡ Some f = ap of_board (sym same) ∙ q in
+      cc
 
 -- how runs end
 machine_ends : (e : End) → (machine.end_status e ≡ 0) ⊎ (machine.end_status e ≡ 7)
@@ -106,7 +87,9 @@ pub record Laws : Type 0 where
   pub faultless : readers.TextsAreFaultless
   pub images : images.TextsAreUnique
   pub no_fault : image_faults.TextsAreFaultless
-  pub planned : PlansAreNotRefused
+  pub boards : BoardsAreOne
+  pub read : BoardsAreNotRefused
+  pub planned : RefusalsAndPlansExclude
 
 module _ (laws : Laws) where
   is_image : (i : Image) (bytes : List ℕ) (f : Fault) → images.IsText i bytes → IsNoImage bytes f → ⊥
@@ -141,13 +124,13 @@ module _ (laws : Laws) where
   planned_one : (policy : Policy) (bytes t : List ℕ) (w : PlainFirmware) (b : Board) (r : PlanningRefusal) → IsCompilable policy bytes t → IsFirmware w bytes → IsRead t b
       → IsRefusedBy policy w b r → r ≡ planning.NoMemory
   planned_one policy bytes t w b r g h k q =
-      is_planned laws.planned policy w b r
-      (subst (IsPlannable policy w) (boards_are_one t g.board b g.is_board k)
+      laws.planned policy w b r
+      (subst (IsPlannable policy w) (laws.boards t g.board b g.is_board k)
       (subst (λ v. IsPlannable policy v g.board) (firmwares_are_one laws.unique laws.faultless g.firmware w bytes g.is_firmware h) g.plannable)) q
 
   plan_none : (firmware board : List ℕ) (policy : Policy) (bytes t : List ℕ) (o : Outcome) → IsCompilable policy bytes t → PlanAnswer firmware board policy bytes t o → ⊥
   plan_none firmware board policy bytes t o g (no_firmware f k) = is_firmware laws.unique laws.faultless g.firmware bytes f g.is_firmware k
-  plan_none firmware board policy bytes t o g (no_board w f h k) = board_has_no_fault t g.board f g.is_board k.first k.found k.named
+  plan_none firmware board policy bytes t o g (no_board w f h k) = board_has_no_fault laws.read t g.board f g.is_board k.first k.found k.named
   plan_none firmware board policy bytes t o g (too_many w b which count h k r) =
       let wrong : planning.Limit which count ≡ planning.NoMemory = planned_one policy bytes t w b (planning.Limit which count) g h k r in cc
   plan_none firmware board policy bytes t o g (no_flash w b c n a h k r) =

@@ -5,15 +5,10 @@ use Rattle.device_model.specs.declared.image.Image.{Image}
 use Rattle.device_model.specs.Tape as tapes
 use Rattle.image.specs.Text.{IsText}
 use Rattle.ir_model.specs.Plain.{PlainFirmware}
-use Rattle.ir_model.specs.Resolve.{resolve}
 use Rattle.ir_program.specs.Windows.{windows_of}
-use Rattle.plan_model.specs.declared.needs.Needs.{Needs}
 use Rattle.plan_model.specs.declared.plan.Board.{Board}
 use Rattle.board_text.specs.Reading as boards
-use Rattle.compartments.specs.Analyses.{AreNeedsOf}
-use Rattle.compartments.specs.Divisions.{division}
-use Rattle.planning.specs.declared.planner.PlannedFirmware.{PlannedFirmware}
-use Rattle.planning.specs.Planned.{IsPlannedFor}
+use Rattle.firmware_plans.specs.Plannable.{IsPlannable}
 use Rattle.aces_words.specs.declared.policy.Policy.{Policy}
 use Rattle.aces_words.specs.Requests.{Request, Run, Bin, Compile, Check, Source, Listing, Asks, Origin, origins, file_origin, firmware_origin}
 use Rattle.aces_cli.specs.Known.{Held, Holds, Exceeds}
@@ -46,12 +41,6 @@ pub record IsSourceRunnable (bytes text : List ℕ) : Type 0 where
   pub firmware : PlainFirmware
   pub is_firmware : IsFirmware firmware bytes
   pub tape : tapes.first_fault text (windows_of firmware) ≡ None
-
--- by what its functions need on a board of that kind, a firmware has a plan there in the compartments of the policy: no limit is passed, and
--- each memory has room
-abbrev pub IsPlannable : Policy → PlainFirmware → Board → Type 0
-IsPlannable policy w b =
-    (needs : Needs) → AreNeedsOf w b.closed needs → (made : PlannedFirmware) × IsPlannedFor (resolve w) needs (division policy w needs) b made
 
 -- bytes are a text of a typed firmware and a text is one of a board, where the firmware has a plan by the policy
 pub record IsCompilable (policy : Policy) (bytes text : List ℕ) : Type 0 where

@@ -2,9 +2,10 @@
 
 ghost use Rattle.aces_cli.specs.Complete.{GoodRequestsAreDone};
 
+use board_text::laws::boards_are_one;
+use firmware_plans::laws::refusals_and_plans_exclude;
 use image::laws::{faults as image_faults, texts as image_texts};
 use ir_reader::laws::{faults, texts};
-use planning::laws::one_answer;
 
 /// Where the files of a request hold what it takes, its only outcome is the one that says that all was done.
 pub fn good_requests()
@@ -14,5 +15,6 @@ pub fn good_requests()
     faults();
     image_texts();
     image_faults();
-    one_answer();
+    boards_are_one();
+    refusals_and_plans_exclude();
 }

@@ -9,5 +9,7 @@ returns c =
       faultless = c.faults.ensures.texts;
       images = c.texts-2.ensures.unique;
       no_fault = c.faults-2.ensures.faultless;
-      planned = c.one_answer.ensures.planned;
+      boards = c.boards_are_one.ensures.one;
+      read = c.boards_are_one.ensures.read;
+      planned = c.refusals_and_plans_exclude.ensures;
     })
