@@ -17,7 +17,7 @@ use ir_model::firmware::{Cell, Firmware, Global as GlobalDecl};
 use ir_model::types::Ty;
 use ir_program::program::Variable;
 use ir_program::value::Value;
-use listed::Listed;
+use list_vec::ListVec;
 use std::alloc::{AllocError, Global};
 
 /// What a cell holds that a text gives.
@@ -44,7 +44,7 @@ fn cell_value(scope: &Scope, cell: &Cell) -> Value
 }
 
 /// What the first cells of a global hold, as many as the text gives.
-fn first_values(alloc: Global, scope: &Scope, init: &[Cell]) -> Result<Listed<Value>, AllocError>
+fn first_values(alloc: Global, scope: &Scope, init: &[Cell]) -> Result<ListVec<Value>, AllocError>
     requires { AreFew scope.now }
     ensures { IfOk result (λ vs. map value_of vs ≡ map (resolving.value_of (scope_of scope.now)) init.now) }
 {
@@ -52,7 +52,7 @@ fn first_values(alloc: Global, scope: &Scope, init: &[Cell]) -> Result<Listed<Va
     for cell in init {
         values.push(cell_value(scope, cell))?;
     }
-    Ok(Listed::new(values))
+    Ok(ListVec::new(values))
 }
 
 fn variable<'a>(
@@ -77,7 +77,7 @@ pub(crate) fn variables<'a>(
     alloc: Global,
     scope: &Scope<'a>,
     firmware: &'a Firmware,
-) -> Result<Listed<Variable<'a>>, AllocError>
+) -> Result<ListVec<Variable<'a>>, AllocError>
     requires few { AreFew scope.now }
     requires small { AreSmallGlobals (known (map struct_of scope.now.layouts)) firmware.now.globals }
     ensures exact { IfOk result (λ vs. map (variable_of (known (map struct_of scope.now.layouts))) vs ≡ map (resolving.resolved_global (scope_of scope.now)) (firmware_of firmware.now).globals) }
@@ -89,5 +89,5 @@ pub(crate) fn variables<'a>(
         let next = variable(alloc, scope, &globals[i])?;
         variables.push(next)?;
     }
-    Ok(Listed::new(variables))
+    Ok(ListVec::new(variables))
 }
