@@ -1,2 +1,3 @@
+mod Small
 mod Functions
 mod SameScope

@@ -1,9 +1,16 @@
 -- Beyond the program's claim: only laws, proofs and functions inside the tool cite this file.
 -- The tables of names as the definition's.
-use Rattle.std.specs.Prelude.{◌≡◌, ℕ, List, map}
+use Rattle.std.specs.Prelude.{◌≡◌, ◌≤◌, ℕ, List, map, length}
+use Rattle.std.specs.List.{All}
+use Rattle.std.specs.Borrow.{Bor}
+use Rattle.ir_model.specs.declared.firmware.Func.{Func}
+use Rattle.ir_model.specs.declared.firmware.Global.{Global}
+use Rattle.ir_model.specs.declared.firmware.Slot.{Slot}
+use Rattle.ir_model.specs.declared.types.Ty.{Ty}
 use Rattle.ir_model.specs.Types.{type_of}
 use Rattle.ir_model.specs.Plain.{PlainFunc, struct_of, func_of, names_of, types_of, regs_of}
-use Rattle.ir_model.specs.Layout.{known}
+use Rattle.ir_model.specs.Layout.{Known, known, shape}
+use Rattle.ir_model.specs.Typing.{object_limit}
 use Rattle.ir_model.specs.Resolve as resolving
 use Rattle.ir_model.specs.Resolve.{labels_of}
 use Rattle.ir_resolve.specs.declared.tables.Scope as code
@@ -21,4 +28,29 @@ pub record AreTables (t : FuncTables) : Type 0 where
   pub registers : t.registers ≡ names_of (regs_of (named_func t))
   pub types : map (λ u. type_of u.now) t.types ≡ types_of (regs_of (named_func t))
   pub locals : t.locals ≡ names_of (named_func t).locals
+  pub few : length t.locals ≤ 64
   pub labels : t.labels ≡ labels_of (named_func t)
+
+-- names that are as few as the limits of a text allow
+pub record AreFew (s : code.Scope) : Type 0 where
+  pub funcs : length s.funcs ≤ 1024
+  pub globals : length s.globals ≤ 1024
+  pub periphs : length s.periphs ≤ 64
+
+-- a type of which an object may be
+abbrev pub IsSmall : List Known → Ty → Type 0
+IsSmall ks t = (shape ks (type_of t)).size ≤ object_limit
+
+abbrev pub AreSmallGlobals : List Known → List Global → Type 0
+AreSmallGlobals ks gs = All (λ (g : Global). IsSmall ks g.ty) gs
+
+abbrev pub AreSmallSlots : List Known → List Slot → Type 0
+AreSmallSlots ks ss = All (λ (s : Slot). IsSmall ks s.ty) ss
+
+-- a function with few locals, and small ones
+pub record IsSmallFunc (ks : List Known) (f : Func) : Type 0 where
+  pub few : length f.locals ≤ 64
+  pub small : AreSmallSlots ks f.locals
+
+abbrev pub AreSmallFuncs : List Known → List (Bor Func) → Type 0
+AreSmallFuncs ks fs = All (λ (f : Bor Func). IsSmallFunc ks f.now) fs

@@ -3,10 +3,12 @@
 ghost use Rattle.std.specs.Prelude.{◌≡◌, map, IfOk};
 ghost use Rattle.ir_model.specs.Resolve as resolving;
 ghost use Rattle.ir_program.specs.Seen.{operation_of, exit_of, sequence_of};
-ghost use Rattle.ir_resolve.specs.Scopes.{scope_of, named_func, AreTables};
+ghost use Rattle.ir_resolve.specs.Scopes.{scope_of, named_func, AreTables, AreFew};
 
 use crate::lookup::{element, target};
-use crate::scope::{field_offset, in_16_bits, label_number, named, register_number, register_type};
+use crate::scope::{
+    field_offset, func_number, label_number, named, register_number, register_type,
+};
 use crate::tables::{FuncTables, Scope};
 use ir_model::firmware::{Block, Inst, Term};
 use ir_model::name::Name;
@@ -46,7 +48,8 @@ fn operation<'a>(
     tables: &FuncTables<'a>,
     inst: &Inst,
 ) -> Result<Operation<'a>, AllocError>
-    requires { AreTables tables.now }
+    requires few { AreFew scope.now }
+    requires tables { AreTables tables.now }
     ensures { IfOk result (λ o. operation_of (scope_of scope.now).known o ≡ resolving.resolved_inst (scope_of scope.now) (named_func tables.now) inst.now) }
 {
     match inst {
@@ -72,11 +75,11 @@ fn operation<'a>(
         }),
         Inst::Addr { to, of } => Ok(Operation::Addr {
             to: register_number(tables, to),
-            of: named(scope, tables, of)?,
+            of: named(scope, tables, of),
         }),
         Inst::FAddr { to, of } => Ok(Operation::FAddr {
             to: register_number(tables, to),
-            func: in_16_bits(scope.funcs.number_or_len(of))?,
+            func: func_number(scope, of),
         }),
         Inst::Elem { to, base, index } => Ok(Operation::Elem {
             to: register_number(tables, to),
@@ -105,7 +108,7 @@ fn operation<'a>(
             args,
         } => Ok(Operation::Call {
             to: optional_number(tables, to),
-            func: in_16_bits(scope.funcs.number_or_len(callee))?,
+            func: func_number(scope, callee),
             args: register_numbers(alloc, tables, args.as_slice())?,
         }),
         Inst::ICall {
@@ -142,7 +145,8 @@ fn operations<'a>(
     tables: &FuncTables<'a>,
     insts: &[Inst],
 ) -> Result<ListVec<Operation<'a>>, AllocError>
-    requires { AreTables tables.now }
+    requires few { AreFew scope.now }
+    requires tables { AreTables tables.now }
     ensures { IfOk result (λ os. map (operation_of (scope_of scope.now).known) os ≡ map (resolving.resolved_inst (scope_of scope.now) (named_func tables.now)) insts.now) }
 {
     let mut operations = Vec::new(alloc);
@@ -159,7 +163,8 @@ pub(crate) fn sequences<'a>(
     scope: &Scope<'a>,
     tables: &FuncTables<'a>,
 ) -> Result<ListVec<Sequence<'a>>, AllocError>
-    requires { AreTables tables.now }
+    requires few { AreFew scope.now }
+    requires tables { AreTables tables.now }
     ensures { IfOk result (λ ss. map (sequence_of (scope_of scope.now).known) ss ≡ map (resolving.resolved_block (scope_of scope.now) (named_func tables.now)) tables.now.source.now.blocks) }
 {
     let blocks: &[Block] = tables.source.blocks.as_slice();

@@ -1,17 +1,20 @@
 //! Checked firmwares with numbers for their names.
 
-ghost use Rattle.std.specs.Prelude.{◌≡◌, map, IfOk};
+ghost use Rattle.std.specs.Prelude.{◌≡◌, ◌≤◌, map, length, IfOk};
 ghost use Rattle.ir_model.specs.Layout.{known};
 ghost use Rattle.ir_model.specs.Plain.{firmware_of, func_of, struct_of};
+ghost use Rattle.ir_model.specs.Canonical.{IsWithinLimits};
+ghost use Rattle.ir_model.specs.Typing.{IsTyped};
 ghost use Rattle.ir_model.specs.Resolve as definition;
 ghost use Rattle.ir_program.specs.Seen.{program_of, variable_of, span_of, routine_of, cell_count, cell_counts, local_counts, HasCounts};
 ghost use Rattle.ir_program.specs.declared.program.Variable.{Variable as VariableOf};
-ghost use Rattle.ir_resolve.specs.Scopes.{scope_of};
+ghost use Rattle.ir_resolve.specs.Scopes.{scope_of, AreFew, AreSmallGlobals, AreSmallFuncs};
 
 use crate::routines::{all_funcs, file_numbers, routines};
-use crate::scope::{in_16_bits, named_scope};
+use crate::scope::named_scope;
 use crate::tables::Scope;
 use crate::variables::variables;
+use ir_laws::limits::sizes;
 use ir_model::checked::Checked;
 use ir_model::firmware::{Firmware, Func};
 use ir_program::program::{Program, Routine, Span, Variable};
@@ -47,6 +50,10 @@ fn numbered<'a>(
     firmware: &'a Firmware,
     sources: &[&'a Func],
 ) -> Result<Parts<'a>, AllocError>
+    requires few { AreFew scope.now }
+    requires files { length firmware.now.files ≤ 1024 }
+    requires globals { AreSmallGlobals (known (map struct_of scope.now.layouts)) firmware.now.globals }
+    requires funcs { AreSmallFuncs (known (map struct_of scope.now.layouts)) sources.now }
     ensures globals { IfOk result (λ p. map (variable_of (known (map struct_of scope.now.layouts))) p.globals ≡ map (definition.resolved_global (scope_of scope.now)) (firmware_of firmware.now).globals) }
     ensures cells { IfOk result (λ p. map (λ (v : VariableOf). v.storage.cells) p.globals ≡ map cell_count (map (definition.resolved_global (scope_of scope.now)) (firmware_of firmware.now).globals)) }
     ensures periphs { IfOk result (λ p. map span_of p.periphs ≡ map definition.window_of firmware.now.periphs) }
@@ -55,7 +62,7 @@ fn numbered<'a>(
     ensures files { IfOk result (λ p. p.files ≡ definition.files_from 0 (firmware_of firmware.now).files) }
     ensures main { IfOk result (λ p. p.main ≡ definition.number_of scope.now.funcs definition.main_name) }
 {
-    let main = in_16_bits(scope.funcs.find_or_len(b"main"))?;
+    let main = scope.funcs.find_or_len(b"main") as u16;
     let files = file_numbers(alloc, firmware)?;
     let periphs = spans(alloc, firmware)?;
     let globals = variables(alloc, scope, firmware)?;
@@ -71,11 +78,14 @@ fn numbered<'a>(
 
 #[tactic(auto, unfolding(ir_model::specs::Resolve::resolve))]
 fn resolved(alloc: Global, firmware: &Firmware) -> Result<Program<'_>, AllocError>
+    requires within { IsWithinLimits (firmware_of firmware.now) }
+    requires typed { IsTyped (firmware_of firmware.now) }
     ensures exact { IfOk result (λ p. program_of p ≡ definition.resolve (firmware_of firmware.now)) }
     ensures counts { IfOk result HasCounts }
 {
     let sources = all_funcs(alloc, firmware)?;
     let scope = named_scope(alloc, firmware, sources.as_slice())?;
+    sizes();
     let Parts {
         globals,
         periphs,

@@ -1,13 +1,13 @@
 //! Functions with numbers.
 
-ghost use Rattle.std.specs.Prelude.{◌≡◌, ◌++◌, length, map, flat_map, replicate, IfOk, OnOk};
+ghost use Rattle.std.specs.Prelude.{◌≡◌, ◌≤◌, ◌++◌, length, map, flat_map, replicate, IfOk, OnOk};
 ghost use Rattle.ir_model.specs.Types.{type_of};
 ghost use Rattle.ir_model.specs.Layout.{known, shape, Shape};
 ghost use Rattle.ir_model.specs.Plain.{PlainFunc, PlainFile, struct_of, slot_of, func_of, file_of, firmware_of, types_of, regs_of, funcs_of};
 ghost use Rattle.ir_model.specs.Resolve as resolving;
 ghost use Rattle.ir_program.specs.Seen.{routine_of, local_counts, cell_counts};
 ghost use Rattle.ir_program.specs.Storages.{shape_of};
-ghost use Rattle.ir_resolve.specs.Scopes.{scope_of};
+ghost use Rattle.ir_resolve.specs.Scopes.{scope_of, AreFew, AreSmallSlots, IsSmallFunc, AreSmallFuncs};
 ghost use Rattle.ir_program.specs.declared.program.Storage.{Storage};
 
 use crate::operations::sequences;
@@ -45,12 +45,13 @@ fn locals<'a>(
     layouts: &Layouts<'a>,
     slots: &'a [Slot],
 ) -> Result<ListVec<Storage<'a>>, AllocError>
+    requires { AreSmallSlots (known (map struct_of layouts.now)) slots.now }
     ensures shapes { IfOk result (λ ls. map (shape_of (known (map struct_of layouts.now))) ls ≡ map (λ l. shape (known (map struct_of layouts.now)) l.ty) (map slot_of slots.now)) }
     ensures cells { IfOk result (λ ls. map (λ (s : Storage). s.cells) ls ≡ map (λ (s : Shape). length s.cells) (map (λ l. shape (known (map struct_of layouts.now)) l.ty) (map slot_of slots.now))) }
 {
     let mut locals = Vec::new(alloc);
     for slot in slots {
-        locals.push(storage(layouts, &slot.ty)?)?;
+        locals.push(storage(layouts, &slot.ty))?;
     }
     Ok(ListVec::new(locals))
 }
@@ -60,6 +61,8 @@ fn routine<'a>(
     scope: &Scope<'a>,
     source: &'a Func,
 ) -> Result<Routine<'a>, AllocError>
+    requires few { AreFew scope.now }
+    requires small { IsSmallFunc (known (map struct_of scope.now.layouts)) source.now }
     ensures exact { IfOk result (λ r. routine_of (known (map struct_of scope.now.layouts)) r ≡ resolving.resolved_func (scope_of scope.now) (func_of source.now)) }
     ensures cells { IfOk result (λ r. local_counts r ≡ cell_counts (resolving.resolved_func (scope_of scope.now) (func_of source.now))) }
 {
@@ -80,6 +83,8 @@ pub(crate) fn routines<'a>(
     scope: &Scope<'a>,
     funcs: &[&'a Func],
 ) -> Result<ListVec<Routine<'a>>, AllocError>
+    requires few { AreFew scope.now }
+    requires small { AreSmallFuncs (known (map struct_of scope.now.layouts)) funcs.now }
     ensures exact { IfOk result (λ rs. map (routine_of (known (map struct_of scope.now.layouts))) rs ≡ map (resolving.resolved_func (scope_of scope.now)) (map (λ f. func_of f.now) funcs.now)) }
     ensures cells { IfOk result (λ rs. map local_counts rs ≡ map cell_counts (map (resolving.resolved_func (scope_of scope.now)) (map (λ f. func_of f.now) funcs.now))) }
 {
@@ -125,17 +130,15 @@ fn push_times(numbers: &mut Vec<u32>, number: u32, times: usize) -> Result<(), A
 ///
 /// # Errors
 ///
-/// There is no memory for them, or a file's number has more than 32 bits.
+/// There is no memory for them.
 pub(crate) fn file_numbers(alloc: Global, firmware: &Firmware) -> Result<ListVec<u32>, AllocError>
+    requires { length firmware.now.files ≤ 1024 }
     ensures { IfOk result (λ ns. ns ≡ resolving.files_from 0 (firmware_of firmware.now).files) }
 {
     let files = firmware.files.as_slice();
     let mut numbers = Vec::new(alloc);
     for i in 0..files.len() {
-        let Ok(number) = u32::try_from(i) else {
-            return Err(AllocError);
-        };
-        push_times(&mut numbers, number, files[i].funcs.len())?;
+        push_times(&mut numbers, i as u32, files[i].funcs.len())?;
     }
     Ok(ListVec::new(numbers))
 }

@@ -5,7 +5,7 @@ ghost use Rattle.ir_model.specs.Plain.{firmware_of, func_of, funcs_of};
 ghost use Rattle.ir_model.specs.Resolve as resolving;
 ghost use Rattle.ir_program.specs.Seen.{target_of};
 ghost use Rattle.ir_program.specs.Storages.{pointee_of};
-ghost use Rattle.ir_resolve.specs.Scopes.{scope_of, named_func, AreTables};
+ghost use Rattle.ir_resolve.specs.Scopes.{scope_of, named_func, AreTables, AreFew};
 
 use crate::routines::register_types;
 use crate::tables::{FuncTables, Scope};
@@ -59,6 +59,7 @@ pub(crate) fn named_scope<'a>(
 ///
 /// There is no memory for them.
 pub(crate) fn func_tables(alloc: Global, source: &Func) -> Result<FuncTables<'_>, AllocError>
+    requires { length source.now.locals ≤ 64 }
     ensures tables { IfOk result AreTables }
     ensures same { IfOk result (λ t. t.source.now ≡ source.now) }
 {
@@ -101,54 +102,27 @@ pub(crate) fn label_number(tables: &FuncTables, label: &Name) -> usize
     tables.labels.number_or_len(label)
 }
 
-/// A number of a function in 16 bits.
-///
-/// # Errors
-///
-/// It has more: a firmware within the limits has 1,024 functions at most.
-pub(crate) fn in_16_bits(number: usize) -> Result<u16, AllocError>
-    ensures { IfOk result (λ n. n ≡ number) }
+/// The number of the function of a name, or how many functions there are.
+pub(crate) fn func_number(scope: &Scope, name: &Name) -> u16
+    requires { AreFew scope.now }
+    ensures { result ≡ resolving.number_of scope.now.funcs name.now }
 {
-    match u16::try_from(number) {
-        Ok(small) => Ok(small),
-        Err(_) => Err(AllocError),
-    }
-}
-
-/// A number of a global or a peripheral in 32 bits.
-///
-/// # Errors
-///
-/// It has more.
-pub(crate) fn in_32_bits(number: usize) -> Result<u32, AllocError>
-    ensures { IfOk result (λ n. n ≡ number) }
-{
-    match u32::try_from(number) {
-        Ok(small) => Ok(small),
-        Err(_) => Err(AllocError),
-    }
+    scope.funcs.number_or_len(name) as u16
 }
 
 /// What `addr` names in a function: a local first.
-///
-/// # Errors
-///
-/// A local's number has more than 8 bits, or another more than 32: a firmware within the limits has 64 locals in a function
-/// at most.
-pub(crate) fn named(scope: &Scope, tables: &FuncTables, name: &Name) -> Result<Target, AllocError>
-    requires { AreTables tables.now }
-    ensures { IfOk result (λ t. target_of t ≡ resolving.named_by (scope_of scope.now) (named_func tables.now) name.now) }
+pub(crate) fn named(scope: &Scope, tables: &FuncTables, name: &Name) -> Target
+    requires few { AreFew scope.now }
+    requires tables { AreTables tables.now }
+    ensures { target_of result ≡ resolving.named_by (scope_of scope.now) (named_func tables.now) name.now }
 {
     if let Some(number) = tables.locals.number(name) {
-        return match u8::try_from(number) {
-            Ok(local) => Ok(Target::Local(local)),
-            Err(_) => Err(AllocError),
-        };
+        return Target::Local(number as u8);
     }
     if let Some(number) = scope.periphs.number(name) {
-        return Ok(Target::Periph(in_32_bits(number)?));
+        return Target::Periph(number as u32);
     }
-    Ok(Target::Global(in_32_bits(scope.globals.number_or_len(name))?))
+    Target::Global(scope.globals.number_or_len(name) as u32)
 }
 
 /// Where a field of a type lies; 0 where there is none.

@@ -7,10 +7,10 @@ ghost use Rattle.ir_model.specs.Layout.{known};
 ghost use Rattle.ir_model.specs.Resolve as resolving;
 ghost use Rattle.ir_program.specs.Seen.{variable_of, cell_count};
 ghost use Rattle.ir_program.specs.Values.{value_of};
-ghost use Rattle.ir_resolve.specs.Scopes.{scope_of};
+ghost use Rattle.ir_resolve.specs.Scopes.{scope_of, AreFew, IsSmall, AreSmallGlobals};
 ghost use Rattle.ir_program.specs.declared.program.Variable.{Variable};
 
-use crate::scope::{in_16_bits, in_32_bits};
+use crate::scope::func_number;
 use crate::storage::storage;
 use crate::tables::Scope;
 use ir_model::firmware::{Cell, Firmware, Global as GlobalDecl};
@@ -21,39 +21,36 @@ use list_vec::ListVec;
 use std::alloc::{AllocError, Global};
 
 /// What a cell holds that a text gives.
-///
-/// # Errors
-///
-/// A function's number has more than 16 bits, or another's more than 32.
-fn cell_value(scope: &Scope, cell: &Cell) -> Result<Value, AllocError>
-    ensures { IfOk result (λ v. value_of v ≡ resolving.value_of (scope_of scope.now) cell.now) }
+fn cell_value(scope: &Scope, cell: &Cell) -> Value
+    requires { AreFew scope.now }
+    ensures { value_of result ≡ resolving.value_of (scope_of scope.now) cell.now }
 {
     match cell {
-        Cell::Word(number) => Ok(Value::Number(*number)),
-        Cell::Function(name) => Ok(Value::Code(in_16_bits(scope.funcs.number_or_len(name))?)),
+        Cell::Word(number) => Value::Number(*number),
+        Cell::Function(name) => Value::Code(func_number(scope, name)),
         Cell::Address(name) => {
             if let Some(number) = scope.periphs.number(name) {
-                return Ok(Value::AtPeriph {
-                    periph: in_32_bits(number)?,
+                return Value::AtPeriph {
+                    periph: number as u32,
                     offset: 0,
-                });
+                };
             }
-            Ok(Value::AtGlobal {
-                global: in_32_bits(scope.globals.number_or_len(name))?,
+            Value::AtGlobal {
+                global: scope.globals.number_or_len(name) as u32,
                 offset: 0,
-            })
+            }
         }
     }
 }
 
 /// What the first cells of a global hold, as many as the text gives.
 fn first_values(alloc: Global, scope: &Scope, init: &[Cell]) -> Result<ListVec<Value>, AllocError>
+    requires { AreFew scope.now }
     ensures { IfOk result (λ vs. map value_of vs ≡ map (resolving.value_of (scope_of scope.now)) init.now) }
 {
     let mut values = Vec::new(alloc);
     for cell in init {
-        let value = cell_value(scope, cell)?;
-        values.push(value)?;
+        values.push(cell_value(scope, cell))?;
     }
     Ok(ListVec::new(values))
 }
@@ -63,12 +60,14 @@ fn variable<'a>(
     scope: &Scope<'a>,
     global: &'a GlobalDecl,
 ) -> Result<Variable<'a>, AllocError>
+    requires few { AreFew scope.now }
+    requires small { IsSmall (known (map struct_of scope.now.layouts)) global.now.ty }
     ensures exact { IfOk result (λ v. variable_of (known (map struct_of scope.now.layouts)) v ≡ resolving.resolved_global (scope_of scope.now) (global_of global.now)) }
     ensures cells { IfOk result (λ v. v.storage.cells ≡ cell_count (resolving.resolved_global (scope_of scope.now) (global_of global.now))) }
 {
     Ok(Variable {
         constant: global.constant,
-        storage: storage(&scope.layouts, &global.ty)?,
+        storage: storage(&scope.layouts, &global.ty),
         init: first_values(alloc, scope, global.init.as_slice())?,
     })
 }
@@ -79,6 +78,8 @@ pub(crate) fn variables<'a>(
     scope: &Scope<'a>,
     firmware: &'a Firmware,
 ) -> Result<ListVec<Variable<'a>>, AllocError>
+    requires few { AreFew scope.now }
+    requires small { AreSmallGlobals (known (map struct_of scope.now.layouts)) firmware.now.globals }
     ensures exact { IfOk result (λ vs. map (variable_of (known (map struct_of scope.now.layouts))) vs ≡ map (resolving.resolved_global (scope_of scope.now)) (firmware_of firmware.now).globals) }
     ensures cells { IfOk result (λ vs. map (λ (v : Variable). v.storage.cells) vs ≡ map cell_count (map (resolving.resolved_global (scope_of scope.now)) (firmware_of firmware.now).globals)) }
 {
