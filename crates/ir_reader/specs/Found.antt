@@ -1,3 +1,4 @@
+-- Only private functions and proofs cite this.
 -- What stands at a place of a text.
 use Rattle.std.specs.Prelude.{ℕ, List, [], ◌∷◌, map, Bool, false}
 use Rattle.ir_model.specs.Tokens as model

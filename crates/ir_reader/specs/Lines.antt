@@ -1,3 +1,4 @@
+-- Only private functions and proofs cite this.
 -- What a function answers that reads an instruction or the end of a block.
 use Rattle.std.specs.Prelude.{ℕ, ◌+◌, ◌<◌, List, [], ◌∷◌, ◌++◌, ◌≡◌, Some, None, Result, Ok, Err}
 use Rattle.std.specs.Borrow.{Bor}

@@ -1,3 +1,4 @@
+-- Only private functions and proofs cite this.
 -- What may come next in a text, and what a token makes of it.
 use Rattle.std.specs.Prelude.{ℕ, ◌+◌, List, [], ◌∷◌, ◌++◌, Option, Some, None, Bool, true, false, if◌then◌else◌, nat_eq}
 use Rattle.ir_model.specs.declared.token.Excess.{Excess}

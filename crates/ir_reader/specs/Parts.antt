@@ -1,3 +1,4 @@
+-- Only private functions and proofs cite this.
 -- What functions answer that read parts of functions and files.
 use Rattle.std.specs.Prelude.{ℕ, ◌+◌, ◌<◌, List, [], ◌∷◌, ◌++◌, ◌≡◌, map, flat_map, length, Option, Some, None, Result, Ok, Err, Vec}
 use Rattle.std.specs.Borrow.{Bor}

@@ -1,3 +1,4 @@
+-- Only private functions and proofs cite this.
 -- What a function answers that reads the front of a text.
 use Rattle.std.specs.Prelude.{ℕ, List, [], ◌∷◌, ◌++◌, length, ◌≡◌, ◌<◌, Option, Some, None, Result, Ok, Err, Bool, true, false, not, nat_eq}
 use Rattle.names.specs.Names.{is_word, is_reserved}

@@ -1,3 +1,4 @@
+-- Only private functions and proofs cite this.
 -- The tokens of bytes, by one pass from the first byte on.
 use Rattle.std.specs.Prelude.{ℕ, zero, suc, ◌+◌, ◌-◌, ◌^◌, ◌≡◌, List, [], ◌∷◌, length, Bool, true, false, nat_eq, if◌then◌else◌}
 use Rattle.std.specs.List.{prefix_len, take_while}

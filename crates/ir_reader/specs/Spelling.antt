@@ -1,3 +1,4 @@
+-- Only private functions and proofs cite this.
 -- The tokens of the parts of a firmware, without what they pass.
 use Rattle.std.specs.Prelude.{ℕ, List, [], ◌∷◌, ◌++◌, flat_map, Bool, true, false, Option, Some, None}
 use Rattle.ir_model.specs.declared.firmware.Inst.{Inst}

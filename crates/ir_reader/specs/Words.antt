@@ -1,3 +1,4 @@
+-- Only private functions and proofs cite this.
 -- Which reserved word bytes are.
 use Rattle.std.specs.Prelude.{ℕ, List, [], ◌∷◌, Option, Some, None, codes, if◌then◌else◌}
 use Rattle.std.specs.Str.{bytes_eq}
