@@ -4,7 +4,6 @@
 mod declarations;
 mod functions;
 mod insts;
-pub mod laws;
 pub mod print;
 mod tokens;
 mod types;

@@ -3,7 +3,8 @@ use Rattle.std.proofs.Common.{◌≡◌, ℕ, [], ◌∷◌, ◌++◌, List, ref
 use Rattle.ir_model.specs.declared.firmware.Firmware.{Firmware}
 use Rattle.ir_reader.specs.declared.fault.TextFault.{TextFault}
 use Rattle.ir_reader.specs.declared.fault.TextFault.TheVariants as text
-use Rattle.ir_reader.specs.Refusals.{Refuses, IsAccepted}
+use Rattle.ir_reader.specs.First.{IsAccepted}
+use Rattle.ir_reader.specs.Refusals.{Refuses}
 use Rattle.ir_model.specs.Canonical.{Each, PassesNothing, IsProper}
 use Rattle.ir_model.specs.Plain.{PlainFirmware, PlainFile, firmware_of, funcs_of}
 use Rattle.ir_model.specs.Tokens.{Marked}

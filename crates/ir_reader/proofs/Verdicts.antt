@@ -1,18 +1,15 @@
--- What a fault says of all firmwares.
-use Rattle.std.proofs.Common.{◌≡◌, ℕ, [], ◌∷◌, ◌++◌, List, Bool, true, refl, sym, subst, append-nil, Some}
+-- What the reason of a fault says of all firmwares.
+use Rattle.std.proofs.Common.{◌≡◌, ℕ, [], ◌∷◌, ◌++◌, List, Bool, true, sym, subst, Some}
 use Rattle.ir_model.specs.declared.token.Excess.{Excess}
 use Rattle.ir_model.specs.Tokens.{Token, Marked}
 use Rattle.ir_model.specs.Lines.{Line}
 use Rattle.ir_model.specs.Texts.{Begins, tokens, begins_colon}
-use Rattle.ir_reader.specs.declared.error.Fault.{Fault}
 use Rattle.ir_reader.specs.declared.error.FaultKind.{FaultKind}
 use Rattle.ir_reader.specs.declared.error.FaultKind.TheVariants as kind
 use Rattle.ir_reader.specs.Found.{Is, End, Placed, colon_first}
-use Rattle.ir_reader.specs.Machine.{Symbol, To, step, fault, Structs}
-use Rattle.ir_reader.specs.Refusals.{Verdict}
-use Rattle.ir_reader.specs.Scan.{placed}
+use Rattle.ir_reader.specs.Machine.{Symbol, To, step, Structs}
 use Rattle.ir_reader.proofs.Lang.{Langs, well}
-use Rattle.ir_reader.proofs.Stops.{stopped, Why, stuck, bad, short, over, stuck_flag}
+use Rattle.ir_reader.proofs.Stops.{Why, stuck, bad, short, over, stuck_flag}
 use Rattle.ir_reader.proofs.Texts.{firmware_is, blocks_of}
 use Rattle.ir_reader.proofs.Theorem.{steps, ended}
 
@@ -59,19 +56,3 @@ each_there k stack at after_ (over t x behind i e) v h m y j c w l =
     let r : step stack t (colon_first after_) ≡ To m.excess q.behind = subst (λ (z : Token). step stack z (colon_first after_) ≡ To m.excess q.behind) (sym t_is) q.goes in
     let x_is : x ≡ v = cc in
     cc
-
-pub verdict_of : (bytes : List ℕ) (f : Fault) → fault (Structs 0 ∷ []) (placed bytes) ≡ Some f → Verdict bytes f
-verdict_of bytes f e =
-    let s = stopped (placed bytes) (Structs 0 ∷ []) f e in
-    record {
-      before = s.before;
-      at = s.at;
-      after = s.after_;
-      ts = s.ts;
-      whole = s.whole;
-      tokens = s.found;
-      place = s.place;
-      none = λ k front y m h i b. let g = s.forth refl front y m h i (begun front (m ∷ y) b) in none_there f.kind s.stack s.at s.after_ s.why k m y i g.0 g.1;
-      short = λ k front h i b. none_ends f.kind s.stack s.at s.after_ s.why k i (s.end refl front h i (subst (λ (z : Line). Langs (Structs 0 ∷ []) z) (append-nil front) (begun front [] b)));
-      each = λ x k front y m h i d b. let g = s.forth refl front y m h i (begun front (m ∷ y) b) in each_there f.kind s.stack s.at s.after_ s.why x k m y i d g.0 g.1;
-    }

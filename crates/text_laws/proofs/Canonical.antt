@@ -7,8 +7,8 @@ use Rattle.ir_model.specs.Lines.{Line, lines_of}
 use Rattle.ir_model.specs.Canonical.{Each, PassesNothing, IsProper, line_bytes, canonical, IsWithinLimits}
 use Rattle.ir_model.specs.Texts.{IsText}
 use Rattle.ir_model.proofs.NoExcess.{IsNarrow}
-use Rattle.ir_printer.proofs.Spelled.{AreSpelled, token_spelled, lines_lead, lines_ascii}
-use Rattle.ir_printer.proofs.Widths.{IsKept, AreKept, lines_kept}
+use Rattle.text_laws.proofs.Spelled.{AreSpelled, token_spelled, lines_lead, lines_ascii}
+use Rattle.text_laws.proofs.Widths.{IsKept, AreKept, lines_kept}
 
 narrow : (m : Marked) → IsKept m.token m.excess → PassesNothing m → IsNarrow m.token
 narrow m k p = by_token m.token k

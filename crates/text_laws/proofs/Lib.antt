@@ -1,0 +1,4 @@
+mod Digits
+mod Spelled
+mod Widths
+mod Canonical
