@@ -1,8 +1,9 @@
 -- Needs by the least sets are one.
-use Rattle.std.proofs.Common.{◌≡◌, ℕ, ◌<◌, Bool, length, sym, subst, ◌∙◌, inl, inr}
+use Rattle.std.proofs.Common.{◌≡◌, ℕ, ◌<◌, Bool, List, length, ap, sym, subst, ◌∙◌, inl, inr}
 use Rattle.std.specs.Prelude.{◌⊎◌}
 use Rattle.std.specs.Cmp.{IsTotalOrder}
 use Rattle.std.proofs.lemmas.Cmp.{nat_cmp_total, on_total, then_total}
+use Rattle.ir_model.specs.Plain.{PlainFirmware}
 use Rattle.ir_model.specs.Resolved.{Program, here}
 use Rattle.ir_model.specs.Resolve.{resolve}
 use Rattle.ir_model.specs.State.{PeriphObject}
@@ -15,7 +16,11 @@ use Rattle.plan_model.specs.Calls.{CallPlace, IsCallee, IsSiteOf, call_places}
 use Rattle.plan_model.specs.Lendable.{IsLendable, compare_locals}
 use Rattle.plan_model.specs.Needs.{IsData, IsWritable, IsNeedOf, AreNeeds, need_of, no_need}
 use Rattle.plan_model.specs.PointsTo.{IsLeast}
-use Rattle.compartments.specs.Laws.{NeedsAreOne}
+use Rattle.plan_model.specs.declared.groups.FuncFacts.{FuncFacts}
+use Rattle.plan_model.specs.Compartments.{compartments}
+use Rattle.plan_model.specs.Facts.{facts}
+use Rattle.compartments.specs.Divisions.{groups_by}
+use Rattle.compartments.specs.Laws.{NeedsAreOne, DivisionsAreOne}
 use Rattle.compartments.proofs.OneList.{one_list, one_by_one, one_partner}
 use Rattle.compartments.proofs.Wider.{AreWithin, called_at, read, written, callee, lendable}
 
@@ -58,11 +63,15 @@ module _ (p : Program) (S Q : ObjectSets) (to : AreWithin S Q) (from : AreWithin
       one_list nat_cmp_total (CallsAt p S c.func h) (CallsAt p Q c.func h) s.targets t.targets (called_at p S Q to c.func h) (called_at p Q S from c.func h) a.targets b.targets in
       λ i. record { func = f i; block = k i; inst = n i; targets = g i }
 
+  -- on any two kinds of board
+  same_funcs : (closed other : Bool) (n m : Needs) → AreNeeds p S closed n → AreNeeds p Q other m → n.funcs ≡ m.funcs
+  same_funcs closed other n m a b =
+      one_by_one no_need n.funcs m.funcs (a.count ∙ sym b.count)
+      (λ f l. let k : f < length p.funcs = subst (λ c. f < c) a.count l in one_need f (need_of n f) (need_of m f) (a.funcs f k) (b.funcs f k))
+
   same_needs : (closed : Bool) (n m : Needs) → AreNeeds p S closed n → AreNeeds p Q closed m → n ≡ m
   same_needs closed n m a b =
-      let fs : n.funcs ≡ m.funcs =
-      one_by_one no_need n.funcs m.funcs (a.count ∙ sym b.count)
-      (λ f l. let k : f < length p.funcs = subst (λ c. f < c) a.count l in one_need f (need_of n f) (need_of m f) (a.funcs f k) (b.funcs f k)) in
+      let fs : n.funcs ≡ m.funcs = same_funcs closed closed n m a b in
       let ss : n.sites ≡ m.sites = one_partner (IsSiteOf p S) (IsSiteOf p Q) (call_places p) n.sites m.sites one_site a.sites b.sites in
       let ls : n.lendable ≡ m.lendable =
       one_list locals_total (λ x. IsLendable p S closed x.0 x.1) (λ x. IsLendable p Q closed x.0 x.1) n.lendable m.lendable
@@ -78,3 +87,21 @@ least_within p S Q a b = a.least Q b.closed
 pub needs_are_one : NeedsAreOne
 needs_are_one w closed n m a b =
     same_needs (resolve w) a.sets b.sets (least_within (resolve w) a.sets b.sets a.least b.least) (least_within (resolve w) b.sets a.sets b.least a.least) closed n m a.needs b.needs
+
+-- ---- compartments by needs on any two kinds of board
+
+-- needs but for those of functions
+with_funcs : Needs → List FuncNeed → Needs
+with_funcs n fs = record { funcs = fs; sites = n.sites; lendable = n.lendable; closed = n.closed }
+
+-- a policy looks at nothing else
+same_facts : (w : PlainFirmware) (n m : Needs) → n.funcs ≡ m.funcs → facts w n ≡ facts w m
+unfolding facts with_funcs
+same_facts w n m e = ap (λ (fs : List FuncNeed). facts w (with_funcs n fs)) e
+
+pub divisions_are_one : DivisionsAreOne
+divisions_are_one policy w closed other n m a b =
+    ap (λ (fs : List FuncFacts). compartments (groups_by policy fs))
+    (same_facts w n m
+    (same_funcs (resolve w) a.sets b.sets (least_within (resolve w) a.sets b.sets a.least b.least) (least_within (resolve w) b.sets a.sets b.least a.least) closed other n m
+    a.needs b.needs))

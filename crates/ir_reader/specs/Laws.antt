@@ -1,3 +1,4 @@
+-- Beyond the program's claim: only laws, proofs and functions inside the tool cite this file.
 -- Laws of texts and their faults.
 use Rattle.std.specs.Prelude.{◌≡◌, ℕ, List, IsUtf8, ◌⊎◌}
 use Rattle.ir_model.specs.declared.token.Excess.{Excess}

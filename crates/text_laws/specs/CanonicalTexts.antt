@@ -1,3 +1,4 @@
+-- Beyond the program's claim: only laws, proofs and functions inside the tool cite this file.
 -- What the canonical text of a firmware says.
 use Rattle.std.specs.Prelude.{◌≡◌}
 use Rattle.ir_model.specs.Plain.{PlainFirmware}
