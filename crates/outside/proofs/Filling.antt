@@ -1,5 +1,5 @@
 -- A buffer that is filled by pieces, each behind the one before.
-use Rattle.std.proofs.Common.{◌≡◌, ◌≤◌, ◌+◌, ◌∙◌, ℕ, List, ◌++◌, length, take, Option, Some, None, IfSome, refl, sym, ap, subst}
+use Rattle.std.proofs.Common.{◌≡◌, ◌<◌, ◌≤◌, ◌+◌, ◌∙◌, ℕ, List, ◌++◌, length, take, Option, Some, None, IfSome, refl, sym, ap, subst}
 use Rattle.std.proofs.Math.Seq.{take-add, take-append-add}
 use Rattle.std.proofs.lemmas.List.{take-append-le, length-take-le}
 use borrow.Rule.Slice.PartMut.{put_mid, post_of}
@@ -29,7 +29,7 @@ fills_more (Some bytes) a n before ys h r = ap (λ t. t ++ take n ys) h ∙ ap (
 
 -- one more piece
 pub pieces_more : {F : Type 0} (gave : F → List ℕ → ℕ → List ℕ → Type 0) (name : List ℕ) (files : F) (a : ℕ)
-    (xs piece : List ℕ) → a ≤ length xs → Pieces gave name (take a xs) → gave files name a piece →
+    (xs piece : List ℕ) → a ≤ length xs → Pieces gave name (take a xs) → 0 < length piece → gave files name a piece →
     Pieces gave name (take a xs ++ piece)
-pieces_more gave name files a xs piece within before given =
-    more files (take a xs) piece before (subst (λ (m : ℕ). gave files name m piece) (sym (length-take-le a xs within)) given)
+pieces_more gave name files a xs piece within before some given =
+    more files (take a xs) piece before some (subst (λ (m : ℕ). gave files name m piece) (sym (length-take-le a xs within)) given)

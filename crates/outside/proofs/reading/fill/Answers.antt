@@ -1,4 +1,5 @@
-use Rattle.std.proofs.Common.{◌≡◌, ◌≤◌, ◌+◌, ◌-◌, ◌∙◌, ℕ, List, ◌++◌, take, length, IfSome, refl, sym, subst, arith}
+use Rattle.std.proofs.Common.{◌≡◌, ◌<◌, ◌≤◌, ◌+◌, ◌-◌, ◌∙◌, ℕ, List, ◌++◌, take, length, IfSome, refl, sym, subst, arith}
+use Rattle.std.proofs.lemmas.List.{length-take-le}
 use borrow.Rule.Slice.PartMut.{put_mid}
 use Rattle.std.proofs.lemmas.Grind.{common_steps}
 use Rattle.outside.specs.Reading.{Pieces, none}
@@ -19,6 +20,7 @@ pub loop-filled-preserved : goal.loop-filled-preserved
 loop-filled-preserved g c =
     let within : c.loop-filled.filled ≤ length c.loop-filled.buf = omega arith
     in let fits : c.in_ok-n.n ≤ length c.read_at.new.buf = omega (arith, c.in_ok-n.ensures.fits, c.read_at.auto.buf)
+    in let some : 0 < length (take c.in_ok-n.n c.read_at.new.buf) = subst (λ (m : ℕ). 0 < m) (sym (length-take-le c.in_ok-n.n c.read_at.new.buf fits)) (omega arith)
     in let now : take (c.loop-filled.filled + c.in_ok-n.n)
     (put_mid c.loop-filled.filled (length c.loop-filled.buf - c.loop-filled.filled) c.loop-filled.buf c.read_at.new.buf)
     ≡ take c.loop-filled.filled c.loop-filled.buf ++ take c.in_ok-n.n c.read_at.new.buf =
@@ -35,7 +37,7 @@ loop-filled-preserved g c =
           (let read = c.in_ok-n.ensures.bytes told in rw c.loop-filled.invariant.same at read));
       pieces = subst (λ (t : List ℕ). Pieces g.F.Files.gave c.args.name.now t) (sym now)
           (pieces_more g.F.Files.gave c.args.name.now c.loop-filled.files c.loop-filled.filled c.loop-filled.buf
-          (take c.in_ok-n.n c.read_at.new.buf) within c.loop-filled.invariant.pieces c.in_ok-n.ensures.answer);
+          (take c.in_ok-n.n c.read_at.new.buf) within c.loop-filled.invariant.pieces some c.in_ok-n.ensures.answer);
       same = c.in_ok-n.ensures.same ∙ c.loop-filled.invariant.same;
       reads = c.in_ok-n.ensures.reads.only_failed ∙ c.loop-filled.invariant.reads;
       writes = c.in_ok-n.ensures.writes ∙ c.loop-filled.invariant.writes;
