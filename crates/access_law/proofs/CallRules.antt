@@ -9,7 +9,7 @@ use Rattle.armv7m.specs.State.{State, by_mpu}
 use Rattle.armv7m.specs.Code.{Lies}
 use Rattle.armv7m.specs.Exceptions.{frame_at, frame_of, is_thread, supervisor_call}
 use Rattle.armv7m.specs.Shape.{StateFits}
-use Rattle.armv7m.specs.Working.{Context, works}
+use Rattle.armv7m.specs.RunningCode.{Context, works}
 use Rattle.monitor.specs.declared.tables.Tables.{Tables}
 use Rattle.monitor.specs.Records.{lend_size}
 use Rattle.monitor.specs.Placed.{Placed}

@@ -19,7 +19,7 @@ use Rattle.armv7m.specs.declared.state.FaultStatus.{FaultStatus}
 use Rattle.armv7m.specs.declared.state.ProtectionState.{ProtectionState}
 use Rattle.armv7m.specs.declared.state.CoreRegisters.{CoreRegisters}
 use Rattle.armv7m.specs.declared.fetching.Fetched.TheVariants.{Took}
-use Rattle.armv7m.specs.State.{State, Touched, Turn, Judge, by_mpu, register}
+use Rattle.armv7m.specs.State.{State, Touched, Turn, PermissionTest, by_mpu, register}
 use Rattle.armv7m.specs.Act.{Act, Changes, Loads, Stores, LoadsMany, StoresMany, GetsSpecial, SetsSpecial, Exchanges, Calls, Halts, Stops}
 use Rattle.armv7m.specs.AccessLaw.{free, IsAllowed, AreAllowed}
 use Rattle.armv7m.specs.Instructions.{act}
@@ -41,7 +41,7 @@ use Rattle.access_law.proofs.Permits.{user, reads_stack, writes_stack, fetches, 
 
 -- ---- what is fetched of an instruction that lies there
 
-fetches_halves : (j : Judge) (i : Image) (s : State) (c : Code) (n : ℕ) → HoldsCode i s.core.pc c → MayFetch j s.protection s.core.pc c → HasForm c n → fetch j i s ≡ taken_of c
+fetches_halves : (j : PermissionTest) (i : Image) (s : State) (c : Code) (n : ℕ) → HoldsCode i s.core.pc c → MayFetch j s.protection s.core.pc c → HasForm c n → fetch j i s ≡ taken_of c
 unfolding fetch
 fetches_halves j i s (Half h) n c m f =
     let p = c.is_in_flash in

@@ -16,7 +16,7 @@ use Rattle.armv7m.specs.Code.{HoldsHalf}
 use Rattle.armv7m.specs.Exceptions.{frame_at, is_thread, stacked_status, supervisor_call}
 use Rattle.armv7m.specs.Stack.{cut_words}
 use Rattle.armv7m.specs.Step.{step}
-use Rattle.armv7m.specs.Working.{Context}
+use Rattle.armv7m.specs.RunningCode.{Context}
 use Rattle.monitor.specs.declared.tables.TargetRecord.{TargetRecord}
 use Rattle.monitor.specs.declared.tables.Tables.{Tables}
 use Rattle.monitor.specs.Records.{site_at, targets_of, last_with_entry, rounded, eighth}

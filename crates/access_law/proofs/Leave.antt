@@ -13,7 +13,7 @@ use Rattle.armv7m.specs.Exceptions.{frame_at, is_thread, supervisor_call}
 use Rattle.armv7m.specs.Shape.{StateFits}
 use Rattle.armv7m.specs.Stack.{words_at}
 use Rattle.armv7m.specs.Step.{step, event}
-use Rattle.armv7m.specs.Working.{Context, works}
+use Rattle.armv7m.specs.RunningCode.{Context, works}
 use Rattle.monitor.specs.declared.tables.Tables.{Tables}
 use Rattle.monitor.specs.Placed.{Placed}
 use Rattle.monitor.specs.Block.{Block, Saved, left, entered}

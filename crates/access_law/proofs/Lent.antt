@@ -20,7 +20,7 @@ use Rattle.mem_bus.proofs.Offsets.{in_ram, flash_at}
 use Rattle.armv7m.specs.declared.state.CoreRegisters.{CoreRegisters}
 use Rattle.armv7m.specs.declared.state.ProtectionState.{ProtectionState}
 use Rattle.armv7m.specs.declared.state.FaultStatus.{FaultStatus}
-use Rattle.armv7m.specs.State.{State, Judge, by_mpu}
+use Rattle.armv7m.specs.State.{State, PermissionTest, by_mpu}
 use Rattle.armv7m.specs.Act.{Act, Loads, Stores}
 use Rattle.armv7m.specs.AccessLaw.{free}
 use Rattle.armv7m.specs.Instructions.{act}
@@ -28,7 +28,7 @@ use Rattle.armv7m.specs.Perform.{perform}
 use Rattle.armv7m.specs.Exceptions.{frame_at, frame_of, entered, mem_manage, flags_of, stacked_status}
 use Rattle.armv7m.specs.Code.{HoldsHalf, Lies, Stands, Steps}
 use Rattle.armv7m.specs.Step.{turn, step, event}
-use Rattle.armv7m.specs.Working.{works, IsStore, IsLoad}
+use Rattle.armv7m.specs.RunningCode.{works, IsStore, IsLoad}
 use Rattle.monitor.specs.declared.tables.Tables.{Tables}
 use Rattle.monitor.specs.Records.{compartment_at}
 use Rattle.monitor.specs.Placed.{Placed}
@@ -283,7 +283,7 @@ module _ (laws : ThreadLaws) (i : Image) (t : Tables) (p : Placed i t) (stub : �
   abbrev pub working : State
   working = works (context_of s) s.core.low s.core.sp s.core.lr s.core.pc s.core.flags s.ram s.queues
 
-  steps_here : (j : Judge) (v : State) → Steps j i working v → Steps j i s v
+  steps_here : (j : PermissionTest) (v : State) → Steps j i working v → Steps j i s v
   steps_here j v x = subst (λ (z : State). Steps j i z v) (sym (live_is s live)) x
 
   is_reached : (low ram : List ℕ) → works (context_of s) low s.core.sp s.core.lr (s.core.pc + 2) s.core.flags ram s.queues ≡ reached s low ram
@@ -337,7 +337,7 @@ module _ (laws : ThreadLaws) (i : Image) (t : Tables) (p : Placed i t) (stub : �
     abbrev pub stored_state : State
     stored_state = works (context_of s) s.core.low s.core.sp s.core.lr (s.core.pc + 2) s.core.flags stored_ram s.queues
 
-    store_step : (j : Judge) → Stands j i s.protection s.core.pc (TransferImmediate op 0 1 0) → j s.protection Write a ≡ true → Steps j i s stored_state
+    store_step : (j : PermissionTest) → Stands j i s.protection s.core.pc (TransferImmediate op 0 1 0) → j s.protection Write a ≡ true → Steps j i s stored_state
     store_step j st ok =
         let l = store_loan in
         let z = in_stack laws i t p m s h live op lies code (has_loan t m.current) w lent l.loan l.placed l.from l.to store_some in
@@ -431,7 +431,7 @@ module _ (laws : ThreadLaws) (i : Image) (t : Tables) (p : Placed i t) (stub : �
     abbrev pub loaded_state : State
     loaded_state = works (context_of s) loaded_low s.core.sp s.core.lr (s.core.pc + 2) s.core.flags s.ram s.queues
 
-    load_step : (j : Judge) → Stands j i s.protection s.core.pc (TransferImmediate op 0 1 0) → j s.protection Read la ≡ true → Steps j i s loaded_state
+    load_step : (j : PermissionTest) → Stands j i s.protection s.core.pc (TransferImmediate op 0 1 0) → j s.protection Read la ≡ true → Steps j i s loaded_state
     load_step j st ok =
         let l = load_loan in
         let z = in_stack laws i t p m s h live op lies code (has_read_loan i t m.current) w lent l.loan l.placed l.from l.to load_some in

@@ -14,7 +14,7 @@ use Rattle.armv7m.specs.AccessLaw.{free}
 use Rattle.armv7m.specs.Confinement.{AnyOf}
 use Rattle.armv7m.specs.Shape.{StateFits}
 use Rattle.armv7m.specs.Step.{turn, step}
-use Rattle.armv7m.specs.Working.{Context, works, IsStore, IsLoad}
+use Rattle.armv7m.specs.RunningCode.{Context, works, IsStore, IsLoad}
 use Rattle.monitor.specs.declared.tables.Tables.{Tables}
 use Rattle.monitor.specs.Placed.{Placed}
 use Rattle.monitor.specs.Block.{Block, Loan}

@@ -11,7 +11,7 @@ use Rattle.armv7m.specs.declared.state.CoreRegisters.{CoreRegisters}
 use Rattle.armv7m.specs.Act.{Stores, Loads}
 use Rattle.armv7m.specs.Instructions.{transfer_immediate, store_from, load_into}
 use Rattle.armv7m.specs.Confinement.{Each, AnyOf}
-use Rattle.armv7m.specs.Working.{IsStore, IsLoad}
+use Rattle.armv7m.specs.RunningCode.{IsStore, IsLoad}
 use Rattle.monitor.specs.declared.tables.TargetRecord.{TargetRecord}
 use Rattle.monitor.specs.declared.tables.Tables.{Tables}
 use Rattle.monitor.specs.Records.{compartment_at, site_at, targets_of, last_with_entry}

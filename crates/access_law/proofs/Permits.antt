@@ -17,7 +17,7 @@ use Rattle.device_model.specs.declared.image.Image.{Image}
 use Rattle.mem_bus.specs.Places.{choose, inside}
 use Rattle.armv7m.specs.State.{by_mpu, is_unprivileged}
 use Rattle.armv7m.specs.Confinement.{Each}
-use Rattle.armv7m.specs.Working.{Context}
+use Rattle.armv7m.specs.RunningCode.{Context}
 use Rattle.monitor.specs.declared.tables.CompRecord.{CompRecord}
 use Rattle.monitor.specs.declared.tables.Tables.{Tables}
 use Rattle.monitor.specs.Records.{compartment_at, nobody, eighth}

@@ -9,7 +9,7 @@ use Rattle.armv7m.specs.State.{State, by_mpu}
 use Rattle.armv7m.specs.Code.{Runs}
 use Rattle.armv7m.specs.Shape.{StateFits}
 use Rattle.armv7m.specs.Step.{step, event}
-use Rattle.armv7m.specs.Working.{works}
+use Rattle.armv7m.specs.RunningCode.{works}
 use Rattle.monitor.specs.declared.tables.Tables.{Tables}
 use Rattle.monitor.specs.Placed.{Placed}
 use Rattle.monitor.specs.Block.{Block}

@@ -14,7 +14,7 @@ use Rattle.armv7m.specs.declared.state.CoreRegisters.{CoreRegisters}
 use Rattle.armv7m.specs.declared.state.FaultStatus.{FaultStatus}
 use Rattle.armv7m.specs.declared.state.ProtectionState.{ProtectionState}
 use Rattle.armv7m.specs.declared.accesses.Verdict.TheVariants.{Refused}
-use Rattle.armv7m.specs.State.{State, Judge, by_mpu}
+use Rattle.armv7m.specs.State.{State, PermissionTest, by_mpu}
 use Rattle.armv7m.specs.Act.{Loads, Stores}
 use Rattle.armv7m.specs.Instructions.{act}
 use Rattle.armv7m.specs.Stack.{cut_words}
@@ -36,7 +36,7 @@ use Rattle.confine.proofs.EntryWords.{frame_word}
 use Rattle.access_law.proofs.ThreadLaws.{ThreadLaws, performed_at}
 use Rattle.access_law.proofs.Permits.{writes_stack, top_inside}
 
-all_are_open : (j : Judge) (i : Image) (p : ProtectionState) (n a o : ℕ) → i.ram_base + o ≡ a → o + 4 * n ≤ i.ram_size → i.ram_base + i.ram_size ≤ 0x40000000 →
+all_are_open : (j : PermissionTest) (i : Image) (p : ProtectionState) (n a o : ℕ) → i.ram_base + o ≡ a → o + 4 * n ≤ i.ram_size → i.ram_base + i.ram_size ≤ 0x40000000 →
     ((k : ℕ) → k < n → j p Write (a + 4 * k) ≡ true) → all_open j i p Write a n ≡ true
 unfolding all_open
 all_are_open j i p zero a o at fits low may = refl

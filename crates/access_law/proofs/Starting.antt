@@ -11,7 +11,7 @@ use Rattle.armv7m.specs.Confinement.{Each}
 use Rattle.armv7m.specs.Run.{start}
 use Rattle.armv7m.specs.Shape.{StateFits}
 use Rattle.armv7m.specs.Step.{step, event}
-use Rattle.armv7m.specs.Working.{works}
+use Rattle.armv7m.specs.RunningCode.{works}
 use Rattle.monitor.specs.declared.tables.InitRecord.{InitRecord}
 use Rattle.monitor.specs.declared.tables.Tables.{Tables}
 use Rattle.monitor.specs.Placed.{Placed}

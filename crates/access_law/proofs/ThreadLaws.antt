@@ -5,7 +5,7 @@ use Rattle.words.specs.Runs.{run, events}
 use Rattle.thumb_model.specs.declared.table.Instr.{Instr}
 use Rattle.device_model.specs.declared.image.Image.{Image}
 use Rattle.armv7m.specs.declared.state.End.{End}
-use Rattle.armv7m.specs.State.{State, Judge, by_mpu}
+use Rattle.armv7m.specs.State.{State, PermissionTest, by_mpu}
 use Rattle.armv7m.specs.Instructions.{act}
 use Rattle.armv7m.specs.AccessLaw.{AllowedStepsAreFree}
 use Rattle.armv7m.specs.Asked.{DoesAct, StandingActsAreDone}
@@ -15,7 +15,7 @@ use Rattle.armv7m.specs.Resumed.{TellsThread}
 use Rattle.armv7m.specs.Running.{StepsAreActs}
 use Rattle.armv7m.specs.Shape.{StateFits, StepsKeepShape}
 use Rattle.armv7m.specs.Step.{turn, step, event}
-use Rattle.armv7m.specs.Templates.{EachWorks, TransferSteps}
+use Rattle.armv7m.specs.InstructionEffects.{EachWorks, TransferSteps}
 use Rattle.armv7m.specs.ThreadStep.{UnprivilegedStepsAreThreadSteps}
 use Rattle.device_model.specs.Rules.{ObeysRules}
 use Rattle.confine.specs.ThreadSteps.{ThreadStepsLead}
@@ -41,12 +41,12 @@ pub record ThreadLaws : Type 0 where
 pub live_is : (s : State) → s.ending ≡ None → s ≡ live s.core s.protection s.status s.ram s.queues
 live_is s e = ap (λ (o : Option End). record s { ending = o }) e
 
-pub performed_at : StepsAreActs → (j : Judge) (i : Image) (s : State) (x : Instr) → s.ending ≡ None → Stands j i s.protection s.core.pc x →
+pub performed_at : StepsAreActs → (j : PermissionTest) (i : Image) (s : State) (x : Instr) → s.ending ≡ None → Stands j i s.protection s.core.pc x →
     turn j i s ≡ perform j i (act x (s.core.pc + size x) s.core) s
 performed_at law j i s x e st =
     subst (λ (z : State). turn j i z ≡ perform j i (act x (s.core.pc + size x) s.core) z) (sym (live_is s e)) (law j i s.core s.protection s.status s.ram s.queues x st)
 
-pub done_at : StandingActsAreDone → (j : Judge) (i : Image) (s : State) (x : Instr) → s.ending ≡ None → Stands j i s.protection s.core.pc x →
+pub done_at : StandingActsAreDone → (j : PermissionTest) (i : Image) (s : State) (x : Instr) → s.ending ≡ None → Stands j i s.protection s.core.pc x →
     DoesAct j i s (act x (s.core.pc + size x) s.core) (turn j i s)
 done_at law j i s x e st =
     subst (λ (z : State). DoesAct j i z (act x (s.core.pc + size x) s.core) (turn j i z)) (sym (live_is s e)) (law j i s.core s.protection s.status s.ram s.queues x st)

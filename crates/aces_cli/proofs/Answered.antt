@@ -1,7 +1,7 @@
 -- What the top call says, from what its command did.
 use Rattle.std.proofs.Common.{◌≡◌, ℕ, ◌⊎◌, inl, inr, List, [], ◌++◌, None, Ok, Err, Result, refl, ap, sym, ◌∙◌, subst, append-nil, arith}
 use Rattle.aces_reports.specs.declared.failure.Done.{Done}
-use Rattle.aces_reports.specs.declared.failure.Done.TheVariants.{Well, Badly}
+use Rattle.aces_reports.specs.declared.failure.Done.TheVariants.{Completed, RunFailed}
 use Rattle.aces_reports.specs.declared.failure.Failure.{Failure}
 use Rattle.aces_reports.specs.declared.failure.Failure.TheVariants.{Refused, PastLimit, NoRoom, Unread, Unwritten, Unprinted, NoMemory}
 use Rattle.aces_words.specs.Requests.{Request, Run, Bin, Compile, Check, Source, Listing, Asks, IsUsage, Origin}
@@ -9,7 +9,7 @@ use Rattle.aces_reports.specs.FaultLines.{usage_line}
 use Rattle.aces_cli.specs.Answer.{Outcome, Answer, refused, past_limit, no_room, usage, run_image_large, run_tape_large, run_read, bin_image_large, bin_read, compile_firmware_large, compile_board_large, compile_read, check_large, check_read, source_firmware_large, source_tape_large, source_read, list_firmware_large, list_board_large, list_read, no_request, to_request}
 use Rattle.aces_reports.specs.Sinks.{SinkState, Says}
 use Rattle.aces_reports.specs.Ends.{status_of, line_of}
-use Rattle.aces_cli.specs.Did.{World, Does, Quiet, IsPlain, IsCarriedOut, IsAnswered, IsPart, IsPrintedInPart, IsPartly, AsksForSource, TellsUnread, TellsUnwritten, TellsUnprinted, TellsOutOfMemory}
+use Rattle.aces_cli.specs.Effects.{World, Does, Quiet, IsPlain, IsCarriedOut, IsAnswered, IsPart, IsPrintedInPart, IsPartly, AsksForSource, TellsUnread, TellsUnwritten, TellsUnprinted, TellsOutOfMemory}
 
 -- answers from what is known are answers from what follows of it
 pub answer_also : (Has Had : Origin → List ℕ → Type 0) (Exceeds Exceeded : Origin → Type 0)
@@ -56,14 +56,14 @@ module _ (Has : Origin → List ℕ → Type 0) (Exceeds : Origin → Type 0) (w
     (old new : World) (err_old err_new : SinkState) where
   pub answered : (e : Result Done Failure) (s : ℕ) → s ≡ status_of e → Does (Answer Has Exceeds r) r old new e → Says err_old err_new (line_of e)
       → IsPlain s → IsAnswered Has Exceeds words old new err_old err_new s
-  answered (Ok Well) s q d l p = record {
+  answered (Ok Completed) s q d l p = record {
     outcome = d.outcome;
     answer = to_request r d.outcome asks d.answer;
     ended = d.ended ∙ sym q;
     all = d.all;
     says = subst (Says err_old err_new) (sym d.silent) l;
   }
-  answered (Ok Badly) s q d l p = record {
+  answered (Ok RunFailed) s q d l p = record {
     outcome = d.outcome;
     answer = to_request r d.outcome asks d.answer;
     ended = d.ended ∙ sym q;
@@ -100,8 +100,8 @@ module _ (Has : Origin → List ℕ → Type 0) (Exceeds : Origin → Type 0) (w
   part_of p = record { outcome = p.outcome; answer = to_request r p.outcome asks p.answer; part = p.part }
 
   pub partly : (e : Result Done Failure) → status_of e ≡ 5 → Does (Answer Has Exceeds r) r old new e → IsPartly Has Exceeds words old new
-  partly (Ok Well) q d = let f : ⊥ = omega (arith, q) in absurd f
-  partly (Ok Badly) q d = let f : ⊥ = omega (arith, q) in absurd f
+  partly (Ok Completed) q d = let f : ⊥ = omega (arith, q) in absurd f
+  partly (Ok RunFailed) q d = let f : ⊥ = omega (arith, q) in absurd f
   partly (Err (Refused name f)) q d = let f : ⊥ = omega (arith, q) in absurd f
   partly (Err (PastLimit which count)) q d = let f : ⊥ = omega (arith, q) in absurd f
   partly (Err (NoRoom memory c needed available)) q d = let f : ⊥ = omega (arith, q) in absurd f
@@ -119,8 +119,8 @@ module _ (Has : Origin → List ℕ → Type 0) (Exceeds : Origin → Type 0) (w
   in_part (Listing firmware board policy) h = inl h
 
   pub printed_in_part : (e : Result Done Failure) → status_of e ≡ 6 → Does (Answer Has Exceeds r) r old new e → (new.out ≡ old.out) ⊎ IsPartly Has Exceeds words old new
-  printed_in_part (Ok Well) q d = let f : ⊥ = omega (arith, q) in absurd f
-  printed_in_part (Ok Badly) q d = let f : ⊥ = omega (arith, q) in absurd f
+  printed_in_part (Ok Completed) q d = let f : ⊥ = omega (arith, q) in absurd f
+  printed_in_part (Ok RunFailed) q d = let f : ⊥ = omega (arith, q) in absurd f
   printed_in_part (Err (Refused name f)) q d = let f : ⊥ = omega (arith, q) in absurd f
   printed_in_part (Err (PastLimit which count)) q d = let f : ⊥ = omega (arith, q) in absurd f
   printed_in_part (Err (NoRoom memory c needed available)) q d = let f : ⊥ = omega (arith, q) in absurd f
@@ -132,8 +132,8 @@ module _ (Has : Origin → List ℕ → Type 0) (Exceeds : Origin → Type 0) (w
 module _ (A : Outcome → Type 0) (words : List (List ℕ)) (r : Request) (asks : Asks words r)
     (old new : World) (err_old err_new : SinkState) where
   pub unread : (e : Result Done Failure) → status_of e ≡ 4 → Does A r old new e → Says err_old err_new (line_of e) → TellsUnread words old new err_old err_new
-  unread (Ok Well) q d l = let f : ⊥ = omega (arith, q) in absurd f
-  unread (Ok Badly) q d l = let f : ⊥ = omega (arith, q) in absurd f
+  unread (Ok Completed) q d l = let f : ⊥ = omega (arith, q) in absurd f
+  unread (Ok RunFailed) q d l = let f : ⊥ = omega (arith, q) in absurd f
   unread (Err (Refused name f)) q d l = let f : ⊥ = omega (arith, q) in absurd f
   unread (Err (PastLimit which count)) q d l = let f : ⊥ = omega (arith, q) in absurd f
   unread (Err (NoRoom memory c needed available)) q d l = let f : ⊥ = omega (arith, q) in absurd f
@@ -144,8 +144,8 @@ module _ (A : Outcome → Type 0) (words : List (List ℕ)) (r : Request) (asks 
 
   pub unwritten : (e : Result Done Failure) → status_of e ≡ 5 → Does A r old new e → Says err_old err_new (line_of e)
       → TellsUnwritten words old new err_old err_new ⊎ TellsUnprinted old new err_old err_new
-  unwritten (Ok Well) q d l = let f : ⊥ = omega (arith, q) in absurd f
-  unwritten (Ok Badly) q d l = let f : ⊥ = omega (arith, q) in absurd f
+  unwritten (Ok Completed) q d l = let f : ⊥ = omega (arith, q) in absurd f
+  unwritten (Ok RunFailed) q d l = let f : ⊥ = omega (arith, q) in absurd f
   unwritten (Err (Refused name f)) q d l = let f : ⊥ = omega (arith, q) in absurd f
   unwritten (Err (PastLimit which count)) q d l = let f : ⊥ = omega (arith, q) in absurd f
   unwritten (Err (NoRoom memory c needed available)) q d l = let f : ⊥ = omega (arith, q) in absurd f
@@ -163,8 +163,8 @@ module _ (A : Outcome → Type 0) (words : List (List ℕ)) (r : Request) (asks 
   quiet_unless (Listing firmware board policy) a h = inl h
 
   pub out_of_memory : (e : Result Done Failure) → status_of e ≡ 6 → Does A r old new e → Says err_old err_new (line_of e) → TellsOutOfMemory words old new err_old err_new
-  out_of_memory (Ok Well) q d l = let f : ⊥ = omega (arith, q) in absurd f
-  out_of_memory (Ok Badly) q d l = let f : ⊥ = omega (arith, q) in absurd f
+  out_of_memory (Ok Completed) q d l = let f : ⊥ = omega (arith, q) in absurd f
+  out_of_memory (Ok RunFailed) q d l = let f : ⊥ = omega (arith, q) in absurd f
   out_of_memory (Err (Refused name f)) q d l = let f : ⊥ = omega (arith, q) in absurd f
   out_of_memory (Err (PastLimit which count)) q d l = let f : ⊥ = omega (arith, q) in absurd f
   out_of_memory (Err (NoRoom memory c needed available)) q d l = let f : ⊥ = omega (arith, q) in absurd f
@@ -174,8 +174,8 @@ module _ (A : Outcome → Type 0) (words : List (List ℕ)) (r : Request) (asks 
   out_of_memory (Err NoMemory) q d l = record { out_of_memory = d.0; quiet = quiet_unless r asks d.1; says = l }
 
   pub reads_stay : (e : Result Done Failure) → Does A r old new e → (status_of e ≡ 4) ⊎ (new.read_faults ≡ old.read_faults)
-  reads_stay (Ok Well) d = inr d.all.read_faults
-  reads_stay (Ok Badly) d = inr d.all.read_faults
+  reads_stay (Ok Completed) d = inr d.all.read_faults
+  reads_stay (Ok RunFailed) d = inr d.all.read_faults
   reads_stay (Err (Refused name f)) d = inr d.read_faults
   reads_stay (Err (PastLimit which count)) d = inr d.read_faults
   reads_stay (Err (NoRoom memory c needed available)) d = inr d.read_faults
@@ -188,8 +188,8 @@ module _ (A : Outcome → Type 0) (words : List (List ℕ)) (r : Request) (asks 
   writes_of q = (q.write_faults, ap (λ (s : SinkState). s.faults) q.out)
 
   pub writes_stay : (e : Result Done Failure) → Does A r old new e → (status_of e ≡ 5) ⊎ ((new.write_faults ≡ old.write_faults) × (new.out.faults ≡ old.out.faults))
-  writes_stay (Ok Well) d = inr (d.all.write_faults, d.all.faults)
-  writes_stay (Ok Badly) d = inr (d.all.write_faults, d.all.faults)
+  writes_stay (Ok Completed) d = inr (d.all.write_faults, d.all.faults)
+  writes_stay (Ok RunFailed) d = inr (d.all.write_faults, d.all.faults)
   writes_stay (Err (Refused name f)) d = inr (writes_of d.quiet)
   writes_stay (Err (PastLimit which count)) d = inr (writes_of d.quiet)
   writes_stay (Err (NoRoom memory c needed available)) d = inr (writes_of d.quiet)

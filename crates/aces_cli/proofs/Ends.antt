@@ -1,7 +1,7 @@
 -- How commands end, by what their steps answered.
 use Rattle.std.proofs.Common.{◌≡◌, ℕ, inl, inr, List, [], Ok, Err, Result, IsTrue, IsNone, ap, sym, subst}
 use Rattle.aces_reports.specs.declared.failure.Done.{Done}
-use Rattle.aces_reports.specs.declared.failure.Done.TheVariants.{Well, Badly}
+use Rattle.aces_reports.specs.declared.failure.Done.TheVariants.{Completed, RunFailed}
 use Rattle.aces_reports.specs.declared.failure.Fault.{Fault}
 use Rattle.aces_reports.specs.declared.failure.Fault.TheVariants.{TooLarge}
 use Rattle.aces_reports.specs.declared.failure.Failure.{Failure}
@@ -11,7 +11,7 @@ use Rattle.aces_cli.specs.Known.{Held, IsMissing, IsNamed}
 use Rattle.aces_cli.specs.Answer.{Outcome, refused, past_limit, no_room}
 use Rattle.aces_reports.specs.Sinks.{SinkState}
 use Rattle.aces_reports.specs.Ends.{status_of}
-use Rattle.aces_cli.specs.Did.{World, Does, Quiet, IsCarriedOut, IsPart, IsPrintedInPart}
+use Rattle.aces_cli.specs.Effects.{World, Does, Quiet, IsCarriedOut, IsPart, IsPrintedInPart}
 use Rattle.aces_cli.specs.Loads.{IsLoadFailure, IsContentFailure, IsRefusal}
 
 -- where nothing was printed, no more than a part was
@@ -102,8 +102,8 @@ content_refused A IsFault name answer NoMemory h = tt
 -- a command that ended with an outcome of this status
 pub did_end : (A : Outcome → Type 0) (r : Request) (old new : World) (o : Outcome) (d : Done) → A o → o.status ≡ status_of (Ok d) → o.line ≡ []
     → IsCarriedOut old new o → Does A r old new (Ok d)
-did_end A r old new o Well a s l p = record { outcome = o; answer = a; ended = s; silent = l; all = p }
-did_end A r old new o Badly a s l p = record { outcome = o; answer = a; ended = s; silent = l; all = p }
+did_end A r old new o Completed a s l p = record { outcome = o; answer = a; ended = s; silent = l; all = p }
+did_end A r old new o RunFailed a s l p = record { outcome = o; answer = a; ended = s; silent = l; all = p }
 
 -- a part for some answers is one for others
 part_also : (A B : Outcome → Type 0) → ((o : Outcome) → A o → B o) → (r : Request) (old new : World) → IsPart A r old new → IsPart B r old new
@@ -120,8 +120,8 @@ printed_also A B m (Listing firmware board policy) old new h = h
 -- what did for some answers did for others
 pub did_also : (A B : Outcome → Type 0) → ((o : Outcome) → A o → B o) → (r : Request) (old new : World) (e : Result Done Failure)
     → Does A r old new e → Does B r old new e
-did_also A B m r old new (Ok Well) d = record { outcome = d.outcome; answer = m d.outcome d.answer; ended = d.ended; silent = d.silent; all = d.all }
-did_also A B m r old new (Ok Badly) d = record { outcome = d.outcome; answer = m d.outcome d.answer; ended = d.ended; silent = d.silent; all = d.all }
+did_also A B m r old new (Ok Completed) d = record { outcome = d.outcome; answer = m d.outcome d.answer; ended = d.ended; silent = d.silent; all = d.all }
+did_also A B m r old new (Ok RunFailed) d = record { outcome = d.outcome; answer = m d.outcome d.answer; ended = d.ended; silent = d.silent; all = d.all }
 did_also A B m r old new (Err (Refused name f)) d = record { answer = m (refused name.now f) d.answer; quiet = d.quiet; read_faults = d.read_faults }
 did_also A B m r old new (Err (PastLimit which count)) d = record { answer = m (past_limit which count) d.answer; quiet = d.quiet; read_faults = d.read_faults }
 did_also A B m r old new (Err (NoRoom memory c needed available)) d = record { answer = m (no_room memory c needed available) d.answer; quiet = d.quiet; read_faults = d.read_faults }

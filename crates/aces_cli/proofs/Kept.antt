@@ -3,12 +3,12 @@ use Rattle.std.proofs.Common.{◌≡◌, ◌≢◌, ℕ, List, None, Result, Ok,
 use Rattle.aces_words.specs.declared.policy.Policy.{Policy}
 use Rattle.aces_words.specs.Requests.{Request, Origin}
 use Rattle.aces_reports.specs.declared.failure.Done.{Done}
-use Rattle.aces_reports.specs.declared.failure.Done.TheVariants.{Well, Badly}
+use Rattle.aces_reports.specs.declared.failure.Done.TheVariants.{Completed, RunFailed}
 use Rattle.aces_reports.specs.declared.failure.Failure.{Failure}
 use Rattle.aces_reports.specs.declared.failure.Failure.TheVariants.{Refused, PastLimit, NoRoom, Unread, Unwritten, Unprinted, NoMemory}
 use Rattle.aces_reports.specs.Ends.{status_of}
 use Rattle.aces_cli.specs.Answer.{Outcome, Answer, RunAnswer, BinAnswer, PlanAnswer, ListAnswer, CompileAnswer, CheckAnswer, SourceAnswer, no_image, no_tape, ran, wrote, no_firmware, no_board, too_many, no_flash, no_ram, unplanned, listed, compiled, checked, run_image_large, run_tape_large, run_read, bin_image_large, bin_read, compile_firmware_large, compile_board_large, compile_read, check_large, check_read, source_firmware_large, source_tape_large, source_read, list_firmware_large, list_board_large, list_read}
-use Rattle.aces_cli.specs.Did.{World, Does, IsRewritten}
+use Rattle.aces_cli.specs.Effects.{World, Does, IsRewritten}
 
 run_writes_nothing : (image tape : List ℕ) (steps : ℕ) (bytes text : List ℕ) (o : Outcome) → RunAnswer image tape steps bytes text o → o.written ≡ None
 run_writes_nothing image tape steps bytes text o (no_image f h) = refl
@@ -66,8 +66,8 @@ module _ (Has : Origin → List ℕ → Type 0) (Exceeds : Origin → Type 0) wh
 
   module _ (r : Request) (old new : World) where
     pub held_stays : (e : Result Done Failure) → Does (Answer Has Exceeds r) r old new e → status_of e ≢ 0 → status_of e ≢ 5 → new.held ≡ old.held
-    held_stays (Ok Well) d n m = absurd (n refl)
-    held_stays (Ok Badly) d n m =
+    held_stays (Ok Completed) d n m = absurd (n refl)
+    held_stays (Ok RunFailed) d n m =
         let q = d.ended in
         subst (λ w. IsRewritten old.told w old.held new.held) (writes_nothing r d.outcome d.answer (λ z. let f : ⊥ = omega (arith, z, q) in f)) d.all.held
     held_stays (Err (Refused name f)) d n m = d.quiet.held

@@ -1,6 +1,6 @@
 pub mod Compiled
 pub mod Known
 pub mod Answer
-pub mod Did
+pub mod Effects
 pub mod Loads
 pub mod Counts

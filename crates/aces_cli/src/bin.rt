@@ -4,7 +4,7 @@ ghost use Rattle.aces_words.specs.Requests.{Bin};
 ghost use Rattle.aces_cli.specs.Known.{IsKnown, IsKnownLarge};
 ghost use Rattle.aces_cli.specs.Answer.{Answer};
 ghost use Rattle.aces_reports.specs.Sinks.{SinkState};
-ghost use Rattle.aces_cli.specs.Did.{Does, world};
+ghost use Rattle.aces_cli.specs.Effects.{Does, world};
 
 use crate::loading::{image_of, load};
 use crate::writing::write;
@@ -26,7 +26,7 @@ pub(crate) fn bin<'a, F: Files>(
     let bytes = load(alloc, files, image)?;
     let image = image_of(alloc, image, bytes.as_slice())?;
     match write(files, file, image.flash.as_slice()) {
-        Ok(()) => Ok(Done::Well),
+        Ok(()) => Ok(Done::Completed),
         Err(_) => Err(Failure::Unwritten { name: file }),
     }
 }

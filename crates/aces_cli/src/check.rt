@@ -10,7 +10,7 @@ ghost use Rattle.aces_cli.specs.Known.{IsKnown, IsKnownLarge};
 ghost use Rattle.aces_cli.specs.Answer.{Answer};
 ghost use Rattle.aces_cli.specs.Counts as counts;
 ghost use Rattle.aces_reports.specs.Sinks.{sink};
-ghost use Rattle.aces_cli.specs.Did.{Does, world};
+ghost use Rattle.aces_cli.specs.Effects.{Does, world};
 
 use crate::loading::{firmware_of, load_firmware};
 use aces_reports::{Done, Failure};
@@ -36,7 +36,7 @@ pub(crate) fn check<'a, F: Files, O: Sink>(
     let bytes = load_firmware(alloc, files, firmware)?;
     let checked = firmware_of(alloc, firmware, bytes.as_slice())?;
     match print_counts(&checked, out) {
-        Ok(()) => Ok(Done::Well),
+        Ok(()) => Ok(Done::Completed),
         Err(_) => Err(Failure::Unprinted),
     }
 }

@@ -10,7 +10,7 @@ ghost use Rattle.aces_cli.specs.Answer.{Answer, CompileAnswer, done};
 ghost use Rattle.aces_cli.specs.Compiled.{IsImageText};
 ghost use Rattle.aces_cli.specs.Loads.{IsRefusal};
 ghost use Rattle.aces_reports.specs.Sinks.{SinkState};
-ghost use Rattle.aces_cli.specs.Did.{Does, world};
+ghost use Rattle.aces_cli.specs.Effects.{Does, world};
 
 use crate::failure::planning_failure;
 use crate::loading::{board_of, firmware_of, load, load_firmware};
@@ -47,7 +47,7 @@ pub(crate) fn compile<'a, F: Files>(
         policy,
     )?;
     match write(files, image, compiled.as_slice()) {
-        Ok(()) => Ok(Done::Well),
+        Ok(()) => Ok(Done::Completed),
         Err(_) => Err(Failure::Unwritten { name: image }),
     }
 }

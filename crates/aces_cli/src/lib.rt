@@ -17,7 +17,7 @@ ghost use Rattle.aces_words.specs.Commands.{request_of};
 ghost use Rattle.aces_cli.specs.Known.{Holds, Exceeds, WasRead, WasTooLarge, IsKnown, IsKnownLarge};
 ghost use Rattle.aces_cli.specs.Answer.{Answer};
 ghost use Rattle.aces_reports.specs.Sinks.{sink};
-ghost use Rattle.aces_cli.specs.Did.{world, Does, IsPlain, IsAnswered, IsPartly, TellsUnread, TellsUnwritten, TellsUnprinted, TellsOutOfMemory};
+ghost use Rattle.aces_cli.specs.Effects.{world, Does, IsPlain, IsAnswered, IsPartly, TellsUnread, TellsUnwritten, TellsUnprinted, TellsOutOfMemory};
 
 use aces_reports::{Done, Failure, report, say};
 pub use aces_reports::{WordsRefusal, refuse_words};

@@ -6,7 +6,7 @@ ghost use Rattle.aces_cli.specs.Known.{IsKnown, IsKnownLarge};
 ghost use Rattle.aces_cli.specs.Answer.{Answer, ListAnswer, done};
 ghost use Rattle.aces_cli.specs.Loads.{IsRefusal};
 ghost use Rattle.aces_reports.specs.Sinks.{sink};
-ghost use Rattle.aces_cli.specs.Did.{Does, world};
+ghost use Rattle.aces_cli.specs.Effects.{Does, world};
 
 use crate::failure::planning_failure;
 use crate::loading::{board_of, firmware_of, load, load_firmware};
@@ -42,7 +42,7 @@ pub(crate) fn list<'a, F: Files, O: Sink>(
         policy,
     )?;
     match out.put(lines.as_slice()) {
-        Ok(()) => Ok(Done::Well),
+        Ok(()) => Ok(Done::Completed),
         Err(_) => Err(Failure::Unprinted),
     }
 }

@@ -7,7 +7,7 @@ ghost use Rattle.aces_cli.specs.Answer.{Answer, RunAnswer};
 ghost use Rattle.machine_output.specs.Runs.{end_status};
 ghost use Rattle.aces_reports.specs.Sinks.{sink};
 ghost use Rattle.aces_reports.specs.Ends.{status_of};
-ghost use Rattle.aces_cli.specs.Did.{Does, world};
+ghost use Rattle.aces_cli.specs.Effects.{Does, world};
 
 use crate::loading::{image_of, load, tape_of};
 use aces_reports::{Done, Failure};
@@ -79,7 +79,7 @@ fn done(end: End) -> Done
     ensures { status_of (Ok result) ≡ end_status end }
 {
     match end {
-        End::Halt(0) | End::InputEnd | End::Limit | End::Refused => Done::Well,
-        End::Halt(_) | End::Stop { .. } => Done::Badly,
+        End::Halt(0) | End::InputEnd | End::Limit | End::Refused => Done::Completed,
+        End::Halt(_) | End::Stop { .. } => Done::RunFailed,
     }
 }

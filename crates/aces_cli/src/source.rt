@@ -10,7 +10,7 @@ ghost use Rattle.aces_cli.specs.Known.{Held, IsKnown, IsKnownLarge};
 ghost use Rattle.aces_cli.specs.Answer.{Answer, SourceAnswer};
 ghost use Rattle.aces_reports.specs.Sinks.{sink};
 ghost use Rattle.aces_reports.specs.Ends.{status_of};
-ghost use Rattle.aces_cli.specs.Did.{Does, world};
+ghost use Rattle.aces_cli.specs.Effects.{Does, world};
 
 use crate::loading::{firmware_of, load, load_firmware, tape_of};
 use aces_reports::{Done, Failure};
@@ -112,7 +112,7 @@ fn done(end: Option<SourceEnd>) -> Done
     ensures { status_of (Ok result) ≡ end_status (seen_end end) }
 {
     match end {
-        Some(SourceEnd::Fault(_)) => Done::Badly,
-        Some(SourceEnd::Returned | SourceEnd::InputEnd) | None => Done::Well,
+        Some(SourceEnd::Fault(_)) => Done::RunFailed,
+        Some(SourceEnd::Returned | SourceEnd::InputEnd) | None => Done::Completed,
     }
 }

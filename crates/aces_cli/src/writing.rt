@@ -2,7 +2,7 @@
 
 ghost use Rattle.std.specs.Prelude.{◌≡◌, Some, OnOk, OnErr};
 ghost use Rattle.outside.specs.Counts.{Rose};
-ghost use Rattle.aces_cli.specs.Did.{IsRewritten, IsCutShort};
+ghost use Rattle.aces_cli.specs.Effects.{IsRewritten, IsCutShort};
 
 use outside::{Failed, Files};
 

@@ -6,7 +6,7 @@ ghost use Rattle.aces_reports.specs.declared.failure.Failure.TheVariants.{NoMemo
 use board_text::key::Key;
 use ir_model::check::{CheckKind, Place};
 use ir_model::token::{Pos, TextLimit};
-use listed::Listed;
+use list_vec::ListVec;
 use plan_model::limits::LimitKind;
 use std::alloc::AllocError;
 
@@ -14,9 +14,9 @@ use std::alloc::AllocError;
 #[derive(Clone, Copy)]
 pub enum Done {
     /// Well: status 0.
-    Well,
+    Completed,
     /// A run by a stop, or by a halt other than 0: status 7.
-    Badly,
+    RunFailed,
 }
 
 /// What is wrong with the content of a file.
@@ -57,7 +57,7 @@ pub enum Fault {
     /// A key of a board has another value than it may have.
     KeyRange { key: Key },
     /// A further key stands in the text of a board.
-    ExtraKey { path: Listed<u8> },
+    ExtraKey { path: ListVec<u8> },
 }
 
 /// A memory of a board.

@@ -20,8 +20,8 @@ pub fn report<E: Sink>(ended: Result<Done, Failure>, err: &mut E) -> u8
     ensures line { Says (sink E.Sink err.old) (sink E.Sink err.new) (line_of ended.entry) }
 {
     match ended {
-        Ok(Done::Well) => 0,
-        Ok(Done::Badly) => 7,
+        Ok(Done::Completed) => 0,
+        Ok(Done::RunFailed) => 7,
         Err(failure) => {
             say_failure(err, &failure);
             failure_status(&failure)

@@ -14,7 +14,7 @@ use Rattle.mem_bus.specs.Bus.{fetch_at}
 use Rattle.armv7m.specs.declared.state.CoreRegisters.{CoreRegisters}
 use Rattle.armv7m.specs.declared.state.ProtectionState.{ProtectionState}
 use Rattle.armv7m.specs.declared.state.End.{End}
-use Rattle.armv7m.specs.State.{State, Judge, by_mpu, is_unprivileged}
+use Rattle.armv7m.specs.State.{State, PermissionTest, by_mpu, is_unprivileged}
 use Rattle.armv7m.specs.Act.{Act, Changes, Loads, Stores, LoadsMany, StoresMany, GetsSpecial, SetsSpecial, Exchanges, Calls, Halts, Stops}
 use Rattle.armv7m.specs.Instructions.{act}
 use Rattle.armv7m.specs.System.{in_system, is_system_register}
@@ -30,12 +30,12 @@ use Rattle.armv7m.specs.AccessLaw.{free, AreAllowed, IsAllowed, IsStepAllowed}
 
 -- ---- one access
 
-same_verdict : (j : Judge) (p : ProtectionState) (kind : Access) (w a : ℕ) → j p kind a ≡ true → verdict j p kind w a ≡ verdict free p kind w a
+same_verdict : (j : PermissionTest) (p : ProtectionState) (kind : Access) (w a : ℕ) → j p kind a ≡ true → verdict j p kind w a ≡ verdict free p kind w a
 unfolding verdict
 same_verdict j p kind w a may = rw may
 
 -- a test that allows everything refuses nothing, so whose test comes after it does not matter
-module _ (j : Judge) (i : Image) (w a : ℕ) (s : State) where
+module _ (j : PermissionTest) (i : Image) (w a : ℕ) (s : State) where
   load_tested : (aligned system unprivileged register : Bool) (go : ℕ → CoreRegisters) → after_load (tested aligned system unprivileged register true) j i w a s go ≡ after_load (tested aligned system unprivileged register true) free i w a s go
   load_tested false sy u r go = refl
   load_tested true true true r go = refl
@@ -80,7 +80,7 @@ never_refused i p kind (suc n) a =
     tested_not (nat_eq (a % 4) 0) (in_system a) (is_unprivileged p) (is_system_register a) (is_memory kind (place i a)) a
     (verdicts free i p kind (word (a + 4)) n) (never_refused i p kind n (word (a + 4)))
 
-pub same_verdicts : (j : Judge) (i : Image) (p : ProtectionState) (kind : Access) (n a : ℕ) → AreAllowed j p kind a n → verdicts j i p kind a n ≡ verdicts free i p kind a n
+pub same_verdicts : (j : PermissionTest) (i : Image) (p : ProtectionState) (kind : Access) (n a : ℕ) → AreAllowed j p kind a n → verdicts j i p kind a n ≡ verdicts free i p kind a n
 unfolding verdicts
 same_verdicts j i p kind zero a may = refl
 same_verdicts j i p kind (suc n) a may =
@@ -88,7 +88,7 @@ same_verdicts j i p kind (suc n) a may =
     let f = same_verdicts j i p kind n (word (a + 4)) may.1 in
     rw (e, f)
 
-pub same_open : (j : Judge) (i : Image) (p : ProtectionState) (kind : Access) (n a : ℕ) → AreAllowed j p kind a n → all_open j i p kind a n ≡ all_open free i p kind a n
+pub same_open : (j : PermissionTest) (i : Image) (p : ProtectionState) (kind : Access) (n a : ℕ) → AreAllowed j p kind a n → all_open j i p kind a n ≡ all_open free i p kind a n
 unfolding all_open
 same_open j i p kind zero a may = refl
 same_open j i p kind (suc n) a may =
@@ -96,19 +96,19 @@ same_open j i p kind (suc n) a may =
     let f = same_open j i p kind n (word (a + 4)) may.1 in
     rw (e, f)
 
-loads_same : (v : Verdicts) (j : Judge) (i : Image) (a n : ℕ) (s : State) (go : List ℕ → Option CoreRegisters) → NotRefused v → after_loads v j i a n s go ≡ after_loads v free i a n s go
+loads_same : (v : Verdicts) (j : PermissionTest) (i : Image) (a n : ℕ) (s : State) (go : List ℕ → Option CoreRegisters) → NotRefused v → after_loads v j i a n s go ≡ after_loads v free i a n s go
 loads_same AllGood j i a n s go h = refl
 loads_same (RefusedAt x) j i a n s go h = absurd h
 loads_same (BadOne r) j i a n s go h = refl
 
-stores_same : (v : Verdicts) (j : Judge) (i : Image) (a : ℕ) (vs : List ℕ) (s : State) (c : CoreRegisters) → NotRefused v → after_stores v j i a vs s c ≡ after_stores v free i a vs s c
+stores_same : (v : Verdicts) (j : PermissionTest) (i : Image) (a : ℕ) (vs : List ℕ) (s : State) (c : CoreRegisters) → NotRefused v → after_stores v j i a vs s c ≡ after_stores v free i a vs s c
 stores_same AllGood j i a vs s c h = refl
 stores_same (RefusedAt x) j i a vs s c h = absurd h
 stores_same (BadOne r) j i a vs s c h = refl
 
 -- ---- exceptions
 
-module _ (j : Judge) (i : Image) (s : State) where
+module _ (j : PermissionTest) (i : Image) (s : State) where
   call_same : (handler : Bool) (next : ℕ) → AreAllowed j s.protection Write (frame_at s.core.sp) 8 → call handler j i next s ≡ call handler free i next s
   call_same true next may = refl
   call_same false next may = ap (λ x. entered x i supervisor_call next s.status s) (same_open j i s.protection Write 8 (frame_at s.core.sp) may)
@@ -132,7 +132,7 @@ module _ (j : Judge) (i : Image) (s : State) where
 -- ---- what an instruction asks for
 
 -- the access law for one act
-pub as_free : (j : Judge) (i : Image) (x : Act) (s : State) → IsAllowed j s x → perform j i x s ≡ perform free i x s
+pub as_free : (j : PermissionTest) (i : Image) (x : Act) (s : State) → IsAllowed j s x → perform j i x s ≡ perform free i x s
 unfolding perform
 as_free j i (Changes c) s may = refl
 as_free j i (Loads w a go) s may = ap (λ v. after_load v j i w a s go) (same_verdict j s.protection Read w a may) ∙ load_free j i w a s go
@@ -163,7 +163,7 @@ halves_free : (o k : Option ℕ) (allowed : Bool) → ((h : ℕ) → o ≡ Some 
 halves_free None k al may = refl
 halves_free (Some h) k al may = size_free (nat_lt h 0xE800) al k h (may h refl)
 
-pub fetch_free : (j : Judge) (i : Image) (s : State) → IsStepAllowed j i s → fetch j i s ≡ fetch free i s
+pub fetch_free : (j : PermissionTest) (i : Image) (s : State) → IsStepAllowed j i s → fetch j i s ≡ fetch free i s
 unfolding fetch
 fetch_free j i s may =
     let first : j s.protection Fetch s.core.pc ≡ true = may.first in
@@ -182,7 +182,7 @@ fetch_allowed : (i : Image) (s : State) → fetch free i s ≡ NotAllowed → �
 unfolding fetch
 fetch_allowed i s e = halves_allowed (fetch_at (place i s.core.pc) i s.ram) (fetch_at (place i (s.core.pc + 2)) i s.ram) e
 
-module _ (j : Judge) (i : Image) (s : State) where
+module _ (j : PermissionTest) (i : Image) (s : State) where
   performed_free : (o : Option Instr) (next : ℕ) → ((x : Instr) → o ≡ Some x → IsAllowed j s (act x next s.core)) → performed o j i next s ≡ performed o free i next s
   performed_free None next may = refl
   performed_free (Some x) next may = as_free j i (act x next s.core) s (may x refl)
@@ -197,7 +197,7 @@ module _ (j : Judge) (i : Image) (s : State) where
   running_free None may = ap (λ f. fetched f j i s) (fetch_free j i s may) ∙ fetched_free (fetch free i s) refl may
 
 -- the access law
-pub turn_free : (j : Judge) (i : Image) (s : State) → IsStepAllowed j i s → turn j i s ≡ turn free i s
+pub turn_free : (j : PermissionTest) (i : Image) (s : State) → IsStepAllowed j i s → turn j i s ≡ turn free i s
 unfolding turn
 turn_free j i s may = running_free j i s s.ending may
 

@@ -14,7 +14,7 @@ use Rattle.armv7m.specs.declared.several.Verdicts.TheVariants.{BadOne}
 use Rattle.armv7m.specs.declared.state.CoreRegisters.{CoreRegisters}
 use Rattle.armv7m.specs.declared.state.StopReason.TheVariants.{Bus}
 use Rattle.armv7m.specs.declared.fetching.Fetched.TheVariants.{NotMapped}
-use Rattle.armv7m.specs.State.{State, Judge}
+use Rattle.armv7m.specs.State.{State, PermissionTest}
 use Rattle.armv7m.specs.Instructions.{act}
 use Rattle.armv7m.specs.System.{in_system, is_system_register}
 use Rattle.armv7m.specs.Tests.{verdict, verdicts}
@@ -31,7 +31,7 @@ not_memory Read = refl
 not_memory Write = refl
 not_memory Fetch = refl
 
-module _ (j : Judge) (i : Image) (s : State) (a : ℕ) (nothing : place i a ≡ Nowhere) where
+module _ (j : PermissionTest) (i : Image) (s : State) (a : ℕ) (nothing : place i a ≡ Nowhere) where
   first_bad : (kind : Access) (n : ℕ) → verdict j s.protection kind 4 a ≡ ToBus → verdicts j i s.protection kind a (suc n) ≡ BadOne Bus
   unfolding verdicts
   first_bad kind n e =

@@ -12,7 +12,7 @@ use Rattle.armv7m.specs.declared.state.CoreRegisters.{CoreRegisters}
 use Rattle.armv7m.specs.declared.state.ProtectionState.{ProtectionState}
 use Rattle.armv7m.specs.declared.state.FaultStatus.{FaultStatus}
 use Rattle.armv7m.specs.declared.state.End.TheVariants.{Halt, InputEnd}
-use Rattle.armv7m.specs.State.{Judge, is_unprivileged, with_register}
+use Rattle.armv7m.specs.State.{PermissionTest, is_unprivileged, with_register}
 use Rattle.armv7m.specs.Act.{Act, Changes, Loads, Stores, GetsSpecial, SetsSpecial, Halts}
 use Rattle.armv7m.specs.Instructions.{act}
 use Rattle.armv7m.specs.System.{in_system, read_special, write_special}
@@ -25,14 +25,14 @@ use Rattle.armv7m.specs.Events.{StepsWith, input_event, output_event, ended}
 use Rattle.armv7m.proofs.Exec.{stepped, steps_from, steps_with_from}
 
 -- an access outside the system's part of the memory map goes to the bus
-pub to_bus : (j : Judge) (p : ProtectionState) (kind : Access) (w a : ℕ) → a % w ≡ 0 → a < 0xE0000000 → j p kind a ≡ true → verdict j p kind w a ≡ ToBus
+pub to_bus : (j : PermissionTest) (p : ProtectionState) (kind : Access) (w a : ℕ) → a % w ≡ 0 → a < 0xE0000000 → j p kind a ≡ true → verdict j p kind w a ≡ ToBus
 unfolding verdict
 to_bus j p kind w a aligned low may =
     let e : nat_eq (a % w) 0 ≡ true = search (nat_tests, arith) in
     let s : in_system a ≡ false = search (nat_tests, arith) in
     rw (e, s, may)
 
-module _ (j : Judge) (i : Image) (c : CoreRegisters) (p : ProtectionState) (t : FaultStatus) (ram : List ℕ) (queues : List (List ℕ)) (x : Instr) where
+module _ (j : PermissionTest) (i : Image) (c : CoreRegisters) (p : ProtectionState) (t : FaultStatus) (ram : List ℕ) (queues : List (List ℕ)) (x : Instr) where
   pub turns : (a : Act) → Stands j i p c.pc x → act x (c.pc + size x) c ≡ a → turn j i (live c p t ram queues) ≡ perform j i a (live c p t ram queues)
   turns a h e = stepped j i c p t ram queues x h ∙ ap (λ y. perform j i y (live c p t ram queues)) e
 

@@ -14,7 +14,7 @@ use Rattle.mem_bus.specs.Bus.{load_at, store_at, put_at}
 use Rattle.armv7m.specs.declared.state.CoreRegisters.{CoreRegisters}
 use Rattle.armv7m.specs.declared.state.FaultStatus.{FaultStatus}
 use Rattle.armv7m.specs.declared.state.End.{End}
-use Rattle.armv7m.specs.State.{State, Touched, Judge, is_unprivileged, calm, with_core}
+use Rattle.armv7m.specs.State.{State, Touched, PermissionTest, is_unprivileged, calm, with_core}
 use Rattle.armv7m.specs.Act.{Act, Changes, Loads, Stores, LoadsMany, StoresMany, GetsSpecial, SetsSpecial, Exchanges, Calls, Halts, Stops}
 use Rattle.armv7m.specs.Instructions.{act}
 use Rattle.armv7m.specs.System.{in_system, write_special}
@@ -59,7 +59,7 @@ put_space i (v ∷ vs) a s = one (in_system a) refl (put_space i vs (word (a + 4
     one true e r = inr (inl e)
     one false e r = ⊎_elim (λ l. inl l) (λ f. inr (inr f)) r
 
-module _ (j : Judge) (i : Image) (s : State) where
+module _ (j : PermissionTest) (i : Image) (s : State) where
   still : (t : State) (loads : List Touched) (e : Option Event) → t.ram ≡ s.ram → t.protection.mpu ≡ s.protection.mpu → t.status ≡ s.status →
       AnyStep i s (record { to = t; stores = []; loads = loads; event = e })
   still t loads e r m u = record { ram = λ k h. ap (λ x. get_or x k 0) r; unit = inl m; status = inl u }

@@ -8,7 +8,7 @@ use Rattle.mem_bus.specs.declared.answer.Loaded.TheVariants.{Value, Device, NoIn
 use Rattle.mem_bus.specs.Places.{Place, InRam, InFlash, InWindow, Nowhere, place}
 use Rattle.mem_bus.specs.Bus.{load_at, store_at}
 use Rattle.armv7m.specs.declared.state.CoreRegisters.{CoreRegisters}
-use Rattle.armv7m.specs.State.{State, Turn, Judge, is_unprivileged, with_core}
+use Rattle.armv7m.specs.State.{State, Turn, PermissionTest, is_unprivileged, with_core}
 use Rattle.armv7m.specs.Act.{Act, Changes, Loads, Stores, LoadsMany, StoresMany, GetsSpecial, SetsSpecial, Exchanges, Calls, Halts, Stops}
 use Rattle.armv7m.specs.Instructions.{act}
 use Rattle.armv7m.specs.System.{write_special}
@@ -28,7 +28,7 @@ use Rattle.armv7m.proofs.Ends.{put_ending}
 
 -- ---- the turn
 
-module _ (j : Judge) (i : Image) (s : State) where
+module _ (j : PermissionTest) (i : Image) (s : State) where
   faulted : (x : Act) (y : ℕ) → RefusesFirst j i s x y → (handler enabled : Bool) → s.protection.handler ≡ handler → is_fault_enabled s.status ≡ enabled →
       DoesAct j i s x (fault_by handler enabled j i (data_status y s.status) s)
   faulted x y f true e h g = Stopped _ refl

@@ -7,7 +7,7 @@ use Rattle.thumb_model.specs.Table.{encode, width_of}
 use Rattle.thumb_model.proofs.Codes.{length-bytes_of_code}
 use Rattle.device_model.specs.declared.image.Image.{Image}
 use Rattle.armv7m.specs.declared.state.ProtectionState.{ProtectionState}
-use Rattle.armv7m.specs.State.{Judge}
+use Rattle.armv7m.specs.State.{PermissionTest}
 use Rattle.armv7m.specs.Code.{size, CodeAt}
 use Rattle.thumb_model.specs.Bytes.{bytes_of_code, code_bytes}
 use Rattle.armv7m.specs.Running.{code_size}
@@ -80,14 +80,14 @@ length-code_bytes (x ∷ xs) =
 
 -- ---- where code may run
 
-pub code_at-append : (j : Judge) (i : Image) (p : ProtectionState) (xs ys : List Instr) (pc : ℕ) → CodeAt j i p pc (xs ++ ys) → CodeAt j i p pc xs × CodeAt j i p (pc + code_size xs) ys
+pub code_at-append : (j : PermissionTest) (i : Image) (p : ProtectionState) (xs ys : List Instr) (pc : ℕ) → CodeAt j i p pc (xs ++ ys) → CodeAt j i p pc xs × CodeAt j i p (pc + code_size xs) ys
 code_at-append j i p [] ys pc c = let e : pc + 0 ≡ pc = omega arith in (tt, rw e c)
 code_at-append j i p (x ∷ xs) ys pc c =
     let r = code_at-append j i p xs ys (pc + size x) c.1 in
     let e : pc + (size x + code_size xs) ≡ pc + size x + code_size xs = omega arith in
     ((c.0, r.0), rw e r.1)
 
-pub code_at_joined : (j : Judge) (i : Image) (p : ProtectionState) (xs ys : List Instr) (pc : ℕ) → CodeAt j i p pc xs → CodeAt j i p (pc + code_size xs) ys → CodeAt j i p pc (xs ++ ys)
+pub code_at_joined : (j : PermissionTest) (i : Image) (p : ProtectionState) (xs ys : List Instr) (pc : ℕ) → CodeAt j i p pc xs → CodeAt j i p (pc + code_size xs) ys → CodeAt j i p pc (xs ++ ys)
 code_at_joined j i p [] ys pc c d = let e : pc + 0 ≡ pc = omega arith in rw e at d
 code_at_joined j i p (x ∷ xs) ys pc c d =
     let e : pc + (size x + code_size xs) ≡ pc + size x + code_size xs = omega arith in

@@ -7,16 +7,16 @@ use Rattle.words.specs.Arithmetic.{word, add, subtract}
 use Rattle.words.specs.Flags.{add_with_carry, add_flags, compare_flags}
 use Rattle.thumb_model.specs.declared.table.Instr.TheVariants.{AddSubRegister, DataImmediate, HighRegister, BranchExchange, TransferImmediate, MoveWide, MoveTop}
 use Rattle.device_model.specs.declared.image.Image.{Image}
-use Rattle.armv7m.specs.State.{Judge}
+use Rattle.armv7m.specs.State.{PermissionTest}
 use Rattle.armv7m.specs.Act.{Loads, Stores, Exchanges}
 use Rattle.armv7m.specs.declared.data.Outcome.TheVariants.{Gives}
 use Rattle.armv7m.specs.Instructions.{act}
 use Rattle.armv7m.specs.Perform.{perform}
 use Rattle.armv7m.specs.Code.{Stands, Steps, Runs}
-use Rattle.armv7m.specs.Working.{Context, body, works, IsLoad, IsStore}
+use Rattle.armv7m.specs.RunningCode.{Context, body, works, IsLoad, IsStore}
 use Rattle.armv7m.proofs.Exec.{steps_from, stay, next_step}
 use Rattle.armv7m.proofs.Acts.{turns, changes}
-use Rattle.armv7m.proofs.Templates.{register_low, with_register_low, sum_gives, immediate_gives, movw, movt}
+use Rattle.armv7m.proofs.InstructionEffects.{register_low, with_register_low, sum_gives, immediate_gives, movw, movt}
 use Rattle.armv7m.proofs.Transfers.{not_return}
 
 -- ---- what a sum gives
@@ -34,7 +34,7 @@ difference_is a b h = ap word (let e : a + (2 ^ 32 - 1 - b) + 1 ≡ a + (2 ^ 32 
 halves_are : (v : ℕ) → v < 2 ^ 32 → v % 2 ^ 16 % 2 ^ 16 + v / 2 ^ 16 * 2 ^ 16 ≡ v
 halves_are v h = omega arith
 
-module _ (j : Judge) (i : Image) (x : Context) (low : List ℕ) (sp lr pc : ℕ) (f : Flags) (ram : List ℕ) (queues : List (List ℕ)) where
+module _ (j : PermissionTest) (i : Image) (x : Context) (low : List ℕ) (sp lr pc : ℕ) (f : Flags) (ram : List ℕ) (queues : List (List ℕ)) where
   -- ADDS d, n, m; SUBS d, n, m
   pub adds : (m n d : ℕ) → Stands j i x.protection pc (AddSubRegister 0 m n d) →
       Steps j i (works x low sp lr pc f ram queues) (works x (set low d (add (get_or low n 0) (get_or low m 0))) sp lr (pc + 2) (add_flags (get_or low n 0) (get_or low m 0) 0) ram queues)
@@ -106,7 +106,7 @@ set_twice l d v h room =
     let e = halves_are v room in
     rw (g, e) (set-set l d (v % 2 ^ 16) v)
 
-pub word_into : (j : Judge) (i : Image) (x : Context) (low : List ℕ) (sp lr pc : ℕ) (f : Flags) (ram : List ℕ) (queues : List (List ℕ)) (d v : ℕ) → d < 8 → d < length low → v < 2 ^ 32 →
+pub word_into : (j : PermissionTest) (i : Image) (x : Context) (low : List ℕ) (sp lr pc : ℕ) (f : Flags) (ram : List ℕ) (queues : List (List ℕ)) (d v : ℕ) → d < 8 → d < length low → v < 2 ^ 32 →
     Stands j i x.protection pc (MoveWide d (v % 2 ^ 16)) → Stands j i x.protection (pc + 4) (MoveTop d (v / 2 ^ 16)) →
     Runs j i 2 (works x low sp lr pc f ram queues) (works x (set low d v) sp lr (pc + 4 + 4) f ram queues) []
 word_into j i x low sp lr pc f ram queues d v h room fits one two =
@@ -114,7 +114,7 @@ word_into j i x low sp lr pc f ram queues d v h room fits one two =
     let s = movt j i x (set low d (v % 2 ^ 16)) sp lr (pc + 4) f ram queues d (v / 2 ^ 16) h two in
     next_step (movw j i x low sp lr pc f ram queues d (v % 2 ^ 16) h one) (next_step (rw e at s) (stay j i))
 
-pub word_into_r12 : (j : Judge) (i : Image) (x : Context) (low : List ℕ) (sp lr pc : ℕ) (f : Flags) (ram : List ℕ) (queues : List (List ℕ)) (v : ℕ) → 4 < length x.high → v < 2 ^ 32 →
+pub word_into_r12 : (j : PermissionTest) (i : Image) (x : Context) (low : List ℕ) (sp lr pc : ℕ) (f : Flags) (ram : List ℕ) (queues : List (List ℕ)) (v : ℕ) → 4 < length x.high → v < 2 ^ 32 →
     Stands j i x.protection pc (MoveWide 12 (v % 2 ^ 16)) → Stands j i x.protection (pc + 4) (MoveTop 12 (v / 2 ^ 16)) →
     Runs j i 2 (works x low sp lr pc f ram queues) (works (record x { high = set x.high 4 v }) low sp lr (pc + 4 + 4) f ram queues) []
 word_into_r12 j i x low sp lr pc f ram queues v room fits one two =

@@ -15,7 +15,7 @@ use Rattle.mem_bus.specs.Bus.{load_at, store_at}
 use Rattle.armv7m.specs.declared.state.CoreRegisters.{CoreRegisters}
 use Rattle.armv7m.specs.declared.state.FaultStatus.{FaultStatus}
 use Rattle.armv7m.specs.declared.state.End.{End}
-use Rattle.armv7m.specs.State.{State, Judge, is_unprivileged, with_core}
+use Rattle.armv7m.specs.State.{State, PermissionTest, is_unprivileged, with_core}
 use Rattle.armv7m.specs.Act.{Act, Changes, Loads, Stores, LoadsMany, StoresMany, GetsSpecial, SetsSpecial, Exchanges, Calls, Halts, Stops}
 use Rattle.armv7m.specs.Instructions.{act}
 use Rattle.armv7m.specs.System.{in_system, write_special}
@@ -35,19 +35,19 @@ entered_ends : (b : Bool) (i : Image) (n ret : ℕ) (t : FaultStatus) (s : State
 entered_ends false i n ret t s = inr (_, tt, refl)
 entered_ends true i n ret t s = inl refl
 
-call_ends : (b : Bool) (j : Judge) (i : Image) (next : ℕ) (s : State) → EndsOrGoesOn s (call b j i next s)
+call_ends : (b : Bool) (j : PermissionTest) (i : Image) (next : ℕ) (s : State) → EndsOrGoesOn s (call b j i next s)
 call_ends true j i next s = inr (_, tt, refl)
 call_ends false j i next s = entered_ends (is_frame_open j i s) i supervisor_call next s.status s
 
-fault_ends : (b e : Bool) (j : Judge) (i : Image) (t : FaultStatus) (s : State) → EndsOrGoesOn s (fault_by b e j i t s)
+fault_ends : (b e : Bool) (j : PermissionTest) (i : Image) (t : FaultStatus) (s : State) → EndsOrGoesOn s (fault_by b e j i t s)
 fault_ends true e j i t s = inr (_, tt, refl)
 fault_ends false false j i t s = inr (_, tt, refl)
 fault_ends false true j i t s = entered_ends (is_frame_open j i s) i mem_manage s.core.pc t s
 
-data_fault_ends : (j : Judge) (i : Image) (a : ℕ) (s : State) → EndsOrGoesOn s (data_fault j i a s)
+data_fault_ends : (j : PermissionTest) (i : Image) (a : ℕ) (s : State) → EndsOrGoesOn s (data_fault j i a s)
 data_fault_ends j i a s = fault_ends s.protection.handler (is_fault_enabled s.status) j i _ s
 
-fetch_fault_ends : (j : Judge) (i : Image) (s : State) → EndsOrGoesOn s (fetch_fault j i s)
+fetch_fault_ends : (j : PermissionTest) (i : Image) (s : State) → EndsOrGoesOn s (fetch_fault j i s)
 fetch_fault_ends j i s = fault_ends s.protection.handler (is_fault_enabled s.status) j i _ s
 
 leaves_ends : (o t psp : Bool) (a : ℕ) (ws : List ℕ) (s : State) → EndsOrGoesOn s (leaves o t psp a ws s)
@@ -55,7 +55,7 @@ leaves_ends false t psp a ws s = inr (_, tt, refl)
 leaves_ends true false psp a ws s = inr (_, tt, refl)
 leaves_ends true true psp a ws s = inl refl
 
-returns_ends : (j : Judge) (i : Image) (psp : Bool) (s : State) → EndsOrGoesOn s (returns j i psp s)
+returns_ends : (j : PermissionTest) (i : Image) (psp : Bool) (s : State) → EndsOrGoesOn s (returns j i psp s)
 returns_ends j i psp s = leaves_ends _ _ psp _ _ s
 
 loaded_ends : (l : Loaded) (i : Image) (w a : ℕ) (s : State) (go : ℕ → CoreRegisters) → EndsOrGoesOn s (loaded l i w a s go)
@@ -64,7 +64,7 @@ loaded_ends (Device k o v) i w a s go = inl refl
 loaded_ends NoInput i w a s go = inr (_, tt, refl)
 loaded_ends Unmapped i w a s go = inr (_, tt, refl)
 
-after_load_ends : (v : Verdict) (j : Judge) (i : Image) (w a : ℕ) (s : State) (go : ℕ → CoreRegisters) → EndsOrGoesOn s (after_load v j i w a s go)
+after_load_ends : (v : Verdict) (j : PermissionTest) (i : Image) (w a : ℕ) (s : State) (go : ℕ → CoreRegisters) → EndsOrGoesOn s (after_load v j i w a s go)
 after_load_ends ToBus j i w a s go = loaded_ends (load_at (place i a) i s.ram s.queues w) i w a s go
 after_load_ends ToSystem j i w a s go = inl refl
 after_load_ends Refused j i w a s go = data_fault_ends j i a s
@@ -75,7 +75,7 @@ stored_ends Done i w a v s c = inl refl
 stored_ends (Taken k o) i w a v s c = inl refl
 stored_ends NotTaken i w a v s c = inr (_, tt, refl)
 
-after_store_ends : (d : Verdict) (j : Judge) (i : Image) (w a v : ℕ) (s : State) (c : CoreRegisters) → EndsOrGoesOn s (after_store d j i w a v s c)
+after_store_ends : (d : Verdict) (j : PermissionTest) (i : Image) (w a v : ℕ) (s : State) (c : CoreRegisters) → EndsOrGoesOn s (after_store d j i w a v s c)
 after_store_ends ToBus j i w a v s c = stored_ends (store_at (place i a)) i w a v s c
 after_store_ends ToSystem j i w a v s c = inl refl
 after_store_ends Refused j i w a v s c = data_fault_ends j i a s
@@ -85,7 +85,7 @@ or_usage_ends : (o : Option CoreRegisters) (a n : ℕ) (s : State) → EndsOrGoe
 or_usage_ends None a n s = inr (_, tt, refl)
 or_usage_ends (Some c) a n s = inl refl
 
-after_loads_ends : (v : Verdicts) (j : Judge) (i : Image) (a n : ℕ) (s : State) (go : List ℕ → Option CoreRegisters) → EndsOrGoesOn s (after_loads v j i a n s go)
+after_loads_ends : (v : Verdicts) (j : PermissionTest) (i : Image) (a n : ℕ) (s : State) (go : List ℕ → Option CoreRegisters) → EndsOrGoesOn s (after_loads v j i a n s go)
 after_loads_ends AllGood j i a n s go = or_usage_ends _ a n s
 after_loads_ends (RefusedAt x) j i a n s go = data_fault_ends j i x s
 after_loads_ends (BadOne r) j i a n s go = inr (_, tt, refl)
@@ -99,7 +99,7 @@ unfolding put_words
 put_ending [] i a s = refl
 put_ending (v ∷ vs) i a s = put_ending vs i (word (a + 4)) (word_to (in_system a) i a v s) ∙ word_to_ending (in_system a) i a v s
 
-after_stores_ends : (v : Verdicts) (j : Judge) (i : Image) (a : ℕ) (vs : List ℕ) (s : State) (c : CoreRegisters) → EndsOrGoesOn s (after_stores v j i a vs s c)
+after_stores_ends : (v : Verdicts) (j : PermissionTest) (i : Image) (a : ℕ) (vs : List ℕ) (s : State) (c : CoreRegisters) → EndsOrGoesOn s (after_stores v j i a vs s c)
 after_stores_ends AllGood j i a vs s c = inl (put_ending vs i a (with_core s c))
 after_stores_ends (RefusedAt x) j i a vs s c = data_fault_ends j i x s
 after_stores_ends (BadOne r) j i a vs s c = inr (_, tt, refl)
@@ -116,12 +116,12 @@ jumped_ends : (b : Bool) (v : ℕ) (s : State) → EndsOrGoesOn s (jumped b v s)
 jumped_ends true v s = inl refl
 jumped_ends false v s = inr (_, tt, refl)
 
-exchanged_ends : (p m : Bool) (j : Judge) (i : Image) (v : ℕ) (s : State) → EndsOrGoesOn s (exchanged p m j i v s)
+exchanged_ends : (p m : Bool) (j : PermissionTest) (i : Image) (v : ℕ) (s : State) → EndsOrGoesOn s (exchanged p m j i v s)
 exchanged_ends true m j i v s = returns_ends j i true s
 exchanged_ends false true j i v s = returns_ends j i false s
 exchanged_ends false false j i v s = jumped_ends (nat_eq (v % 2) 1) v s
 
-perform_ends : (j : Judge) (i : Image) (a : Act) (s : State) → EndsOrGoesOn s (perform j i a s)
+perform_ends : (j : PermissionTest) (i : Image) (a : Act) (s : State) → EndsOrGoesOn s (perform j i a s)
 unfolding perform
 perform_ends j i (Changes c) s = inl refl
 perform_ends j i (Loads w a go) s = after_load_ends (verdict j s.protection Read w a) j i w a s go
@@ -135,16 +135,16 @@ perform_ends j i (Calls next) s = call_ends s.protection.handler j i next s
 perform_ends j i (Halts n) s = inr (_, tt, refl)
 perform_ends j i (Stops r) s = inr (_, tt, refl)
 
-performed_ends : (o : Option Instr) (j : Judge) (i : Image) (next : ℕ) (s : State) → EndsOrGoesOn s (performed o j i next s)
+performed_ends : (o : Option Instr) (j : PermissionTest) (i : Image) (next : ℕ) (s : State) → EndsOrGoesOn s (performed o j i next s)
 performed_ends None j i next s = inr (_, tt, refl)
 performed_ends (Some x) j i next s = perform_ends j i (act x next s.core) s
 
-fetched_ends : (f : Fetched) (j : Judge) (i : Image) (s : State) → EndsOrGoesOn s (fetched f j i s)
+fetched_ends : (f : Fetched) (j : PermissionTest) (i : Image) (s : State) → EndsOrGoesOn s (fetched f j i s)
 fetched_ends (Took h k n) j i s = performed_ends (decoded h k) j i _ s
 fetched_ends NotAllowed j i s = fetch_fault_ends j i s
 fetched_ends NotMapped j i s = inr (_, tt, refl)
 
-running_ends : (e : Option End) (j : Judge) (i : Image) (s : State) → EndsOrGoesOn s (running e j i s)
+running_ends : (e : Option End) (j : PermissionTest) (i : Image) (s : State) → EndsOrGoesOn s (running e j i s)
 running_ends (Some e) j i s = inl refl
 running_ends None j i s = fetched_ends (fetch j i s) j i s
 

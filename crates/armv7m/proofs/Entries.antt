@@ -10,7 +10,7 @@ use Rattle.device_model.specs.declared.image.Image.{Image}
 use Rattle.armv7m.specs.declared.state.CoreRegisters.{CoreRegisters}
 use Rattle.armv7m.specs.declared.state.ProtectionState.{ProtectionState}
 use Rattle.armv7m.specs.declared.state.FaultStatus.{FaultStatus}
-use Rattle.armv7m.specs.State.{Turn, Judge}
+use Rattle.armv7m.specs.State.{Turn, PermissionTest}
 use Rattle.armv7m.specs.Act.{Loads, Stores, LoadsMany, StoresMany, Exchanges, Calls}
 use Rattle.armv7m.specs.Instructions.{act}
 use Rattle.armv7m.specs.System.{in_system}
@@ -28,17 +28,17 @@ use Rattle.armv7m.proofs.Acts.{turns}
 use Rattle.armv7m.proofs.Stack.{open_in_ram, stacked_are, pushed_are}
 
 -- a refused access
-pub refused : (j : Judge) (p : ProtectionState) (kind : Access) (w a : ℕ) → a % w ≡ 0 → a < 0xE0000000 → j p kind a ≡ false → verdict j p kind w a ≡ Refused
+pub refused : (j : PermissionTest) (p : ProtectionState) (kind : Access) (w a : ℕ) → a % w ≡ 0 → a < 0xE0000000 → j p kind a ≡ false → verdict j p kind w a ≡ Refused
 unfolding verdict
 refused j p kind w a aligned low denied =
     let e : nat_eq (a % w) 0 ≡ true = search (nat_tests, arith) in
     let s : in_system a ≡ false = search (nat_tests, arith) in
     rw (e, s, denied)
 
-frame_open : (j : Judge) (i : Image) (p : ProtectionState) (sp o : ℕ) → Frame j i p sp o → all_open j i p Write (frame_at sp) 8 ≡ true
+frame_open : (j : PermissionTest) (i : Image) (p : ProtectionState) (sp o : ℕ) → Frame j i p sp o → all_open j i p Write (frame_at sp) 8 ≡ true
 frame_open j i p sp o r = open_in_ram j i p Write 8 (frame_at sp) o r.words r.writes
 
-module _ (j : Judge) (i : Image) (c : CoreRegisters) (p : ProtectionState) (t : FaultStatus) (ram : List ℕ) (queues : List (List ℕ)) where
+module _ (j : PermissionTest) (i : Image) (c : CoreRegisters) (p : ProtectionState) (t : FaultStatus) (ram : List ℕ) (queues : List (List ℕ)) where
   -- an entry from a thread
   abbrev entry : (o n ret : ℕ) → FaultStatus → Turn
   entry o n ret u = record {

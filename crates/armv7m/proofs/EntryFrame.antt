@@ -10,7 +10,7 @@ use Rattle.mem_bus.specs.Places.{Place, InRam, InFlash, InWindow, Nowhere, place
 use Rattle.mem_bus.proofs.Placed.{place_fits}
 use Rattle.mem_bus.proofs.Offsets.{ram_at}
 use Rattle.armv7m.specs.declared.state.ProtectionState.{ProtectionState}
-use Rattle.armv7m.specs.State.{Judge}
+use Rattle.armv7m.specs.State.{PermissionTest}
 use Rattle.armv7m.specs.Tests.{all_open}
 use Rattle.armv7m.specs.Exceptions.{frame_at, frame_of, entry_core}
 use Rattle.armv7m.specs.Code.{live}
@@ -25,7 +25,7 @@ memory_ram (InFlash o) e = absurd (false≢true e)
 memory_ram (InWindow k o) e = absurd (false≢true e)
 memory_ram Nowhere e = absurd (false≢true e)
 
-module _ (j : Judge) (i : Image) (rules : ObeysRules i) (p : ProtectionState) where
+module _ (j : PermissionTest) (i : Image) (rules : ObeysRules i) (p : ProtectionState) where
   -- the first word
   first_word : (n a : ℕ) → a % 4 ≡ 0 → all_open j i p Write a (suc n) ≡ true → (o : ℕ) × (i.ram_base + o ≡ a) × (o + 4 ≤ i.ram_size) × (j p Write a ≡ true) × (all_open j i p Write (word (a + 4)) n ≡ true)
   unfolding all_open

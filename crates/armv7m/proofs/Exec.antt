@@ -16,7 +16,7 @@ use Rattle.events.specs.declared.event.Event.{Event}
 use Rattle.armv7m.specs.declared.state.CoreRegisters.{CoreRegisters}
 use Rattle.armv7m.specs.declared.state.ProtectionState.{ProtectionState}
 use Rattle.armv7m.specs.declared.state.FaultStatus.{FaultStatus}
-use Rattle.armv7m.specs.State.{State, Turn, Judge}
+use Rattle.armv7m.specs.State.{State, Turn, PermissionTest}
 use Rattle.armv7m.specs.Instructions.{act}
 use Rattle.armv7m.specs.Perform.{perform}
 use Rattle.armv7m.specs.declared.fetching.Fetched.{Fetched}
@@ -91,7 +91,7 @@ abbrev pub taken_of : Code → Fetched
 taken_of (Half h) = Took h 0 2
 taken_of (Pair h k) = Took h k 4
 
-fetches : (j : Judge) (i : Image) (s : State) (c : Code) (n : ℕ) → HoldsCode i s.core.pc c → MayFetch j s.protection s.core.pc c → HasForm c n → fetch j i s ≡ taken_of c
+fetches : (j : PermissionTest) (i : Image) (s : State) (c : Code) (n : ℕ) → HoldsCode i s.core.pc c → MayFetch j s.protection s.core.pc c → HasForm c n → fetch j i s ≡ taken_of c
 unfolding fetch
 fetches j i s (Half h) n c m f =
     let p = c.is_in_flash in let r = c.is_half in let t = f.0 in
@@ -101,13 +101,13 @@ fetches j i s (Pair h k) n c m f =
     let a = m.0 in let b = m.1 in
     rw (a, b, p, r, q, u, t)
 
-performs : (j : Judge) (i : Image) (s : State) (c : Code) (n : ℕ) (x : Instr) → HasForm c n → decoded_code c 0 ≡ Some x →
+performs : (j : PermissionTest) (i : Image) (s : State) (c : Code) (n : ℕ) (x : Instr) → HasForm c n → decoded_code c 0 ≡ Some x →
     fetched (taken_of c) j i s ≡ perform j i (act x (s.core.pc + n) s.core) s
 performs j i s (Half h) n x f d = let e = f.1 in rw (d, e)
 performs j i s (Pair h k) n x f d = let e = f.1 in rw (d, e)
 
 -- the step of an instruction that stands at the program counter is what the instruction asks for, performed
-pub stepped : (j : Judge) (i : Image) (c : CoreRegisters) (p : ProtectionState) (t : FaultStatus) (ram : List ℕ) (queues : List (List ℕ)) (x : Instr) →
+pub stepped : (j : PermissionTest) (i : Image) (c : CoreRegisters) (p : ProtectionState) (t : FaultStatus) (ram : List ℕ) (queues : List (List ℕ)) (x : Instr) →
     Stands j i p c.pc x → turn j i (live c p t ram queues) ≡ perform j i (act x (c.pc + size x) c) (live c p t ram queues)
 unfolding turn
 stepped j i c p t ram queues x h =
@@ -117,28 +117,28 @@ stepped j i c p t ram queues x h =
 
 -- ---- steps one after another
 
-pub steps_from : {j : Judge} {i : Image} {s t : State} {u : Turn} → turn j i s ≡ u → u.to ≡ t → u.event ≡ None → Steps j i s t
+pub steps_from : {j : PermissionTest} {i : Image} {s t : State} {u : Turn} → turn j i s ≡ u → u.to ≡ t → u.event ≡ None → Steps j i s t
 steps_from e f g = record { leads = ap (λ u. u.to) e ∙ f; quiet = ap (λ u. u.event) e ∙ g }
 
-pub steps_with_from : {j : Judge} {i : Image} {s t : State} {e : Event} {u : Turn} → turn j i s ≡ u → u.to ≡ t → u.event ≡ Some e → StepsWith j i s t e
+pub steps_with_from : {j : PermissionTest} {i : Image} {s t : State} {e : Event} {u : Turn} → turn j i s ≡ u → u.to ≡ t → u.event ≡ Some e → StepsWith j i s t e
 steps_with_from e f g = record { leads = ap (λ u. u.to) e ∙ f; tells = ap (λ u. u.event) e ∙ g }
 
-pub stay : (j : Judge) (i : Image) {s : State} → Runs j i 0 s s []
+pub stay : (j : PermissionTest) (i : Image) {s : State} → Runs j i 0 s s []
 stay j i = stay_run
 
 -- one more step in front
-pub next_step : {j : Judge} {i : Image} {k : ℕ} {s t u : State} {es : List Event} → Steps j i s t → Runs j i k t u es → Runs j i (suc k) s u es
+pub next_step : {j : PermissionTest} {i : Image} {k : ℕ} {s t u : State} {es : List Event} → Steps j i s t → Runs j i k t u es → Runs j i (suc k) s u es
 next_step a g = next_run a.leads a.quiet g
 
-pub next_event : {j : Judge} {i : Image} {k : ℕ} {s t u : State} {e : Event} {es : List Event} → StepsWith j i s t e → Runs j i k t u es → Runs j i (suc k) s u (e ∷ es)
+pub next_event : {j : PermissionTest} {i : Image} {k : ℕ} {s t u : State} {e : Event} {es : List Event} → StepsWith j i s t e → Runs j i k t u es → Runs j i (suc k) s u (e ∷ es)
 next_event a g = next_event_run a.leads a.tells g
 
-pub onward : (j : Judge) (i : Image) {m k : ℕ} {s t u : State} {xs ys : List Event} → Runs j i m s t xs → Runs j i k t u ys → Runs j i (m + k) s u (xs ++ ys)
+pub onward : (j : PermissionTest) (i : Image) {m k : ℕ} {s t u : State} {xs ys : List Event} → Runs j i m s t xs → Runs j i k t u ys → Runs j i (m + k) s u (xs ++ ys)
 onward j i g h = onward_run g h
 
 -- ---- code of several instructions
 
-fetch_all : (j : Judge) (p : ProtectionState) (pc n : ℕ) (c : Code) → HasForm c n → ((a : ℕ) → pc ≤ a → a < pc + n → j p Fetch a ≡ true) → MayFetch j p pc c
+fetch_all : (j : PermissionTest) (p : ProtectionState) (pc n : ℕ) (c : Code) → HasForm c n → ((a : ℕ) → pc ≤ a → a < pc + n → j p Fetch a ≡ true) → MayFetch j p pc c
 fetch_all j p pc n (Half h) f m = let e = f.1 in m pc (omega arith) (omega arith)
 fetch_all j p pc n (Pair h k) f m = let e = f.1 in (m pc (omega arith) (omega arith), m (pc + 2) (omega arith) (omega arith))
 

@@ -9,7 +9,7 @@ use Rattle.device_model.specs.declared.image.Window.{Window}
 use Rattle.device_model.specs.Rules.{ObeysRules}
 use Rattle.mem_bus.specs.Places.{Place, InRam, InFlash, InWindow, Nowhere, place, choose, inside, find_window}
 use Rattle.mem_bus.specs.Bus.{fetch_at}
-use Rattle.armv7m.specs.State.{State, Judge}
+use Rattle.armv7m.specs.State.{State, PermissionTest}
 use Rattle.armv7m.specs.declared.fetching.Fetched.{Fetched}
 use Rattle.armv7m.specs.declared.fetching.Fetched.TheVariants.{Took, NotAllowed, NotMapped}
 use Rattle.armv7m.specs.Step.{fetch, first_half, second_half, by_size}
@@ -76,7 +76,7 @@ place_fits i pc r =
     (λ e. omega (arith, inside_below i.flash_base (length i.flash) pc e, r.flash_highest, r.flash_most))
     (window_place i.windows 0 pc))
 
-pub fetch_fits : (i : Image) (j : Judge) (s : State) → ObeysRules i → FetchedFits s.core.pc (fetch j i s)
+pub fetch_fits : (i : Image) (j : PermissionTest) (s : State) → ObeysRules i → FetchedFits s.core.pc (fetch j i s)
 unfolding fetch
 fetch_fits i j s r =
     first_fits _ _ _ _ s.core.pc (s.core.pc + 2) (fetch_at_fits (place i s.core.pc) i s.core.pc s.ram (place_fits i s.core.pc r))

@@ -19,7 +19,7 @@ use Rattle.armv7m.specs.declared.state.CoreRegisters.{CoreRegisters}
 use Rattle.armv7m.specs.declared.state.ProtectionState.{ProtectionState}
 use Rattle.armv7m.specs.declared.state.FaultStatus.{FaultStatus}
 use Rattle.armv7m.specs.declared.state.End.{End}
-use Rattle.armv7m.specs.State.{State, Touched, Turn, Judge, is_unprivileged}
+use Rattle.armv7m.specs.State.{State, Touched, Turn, PermissionTest, is_unprivileged}
 use Rattle.armv7m.specs.Act.{Act, Changes, Loads, Stores, LoadsMany, StoresMany, GetsSpecial, SetsSpecial, Exchanges, Calls, Halts, Stops}
 use Rattle.armv7m.specs.Instructions.{act}
 use Rattle.armv7m.specs.System.{in_system, is_system_register}
@@ -92,7 +92,7 @@ tested_in_system true true u r al e = refl
 tested_in_system true false u r false e = cc
 tested_in_system true false u r true e = cc
 
-verdict_in_system : (j : Judge) (p : ProtectionState) (kind : Access) (w a : ℕ) → verdict j p kind w a ≡ ToSystem → in_system a ≡ true
+verdict_in_system : (j : PermissionTest) (p : ProtectionState) (kind : Access) (w a : ℕ) → verdict j p kind w a ≡ ToSystem → in_system a ≡ true
 unfolding verdict
 verdict_in_system j p kind w a e = tested_in_system (nat_eq (a % w) 0) (in_system a) (is_unprivileged p) (nat_eq w 4 && is_system_register a) (j p kind a) e
 
@@ -104,7 +104,7 @@ first_good ToSystem m a vs e = (inr refl, e)
 first_good Refused m a vs e = cc
 first_good (Bad r) m a vs e = cc
 
-module _ (j : Judge) (i : Image) (rules : ObeysRules i) (p : ProtectionState) where
+module _ (j : PermissionTest) (i : Image) (rules : ObeysRules i) (p : ProtectionState) where
   words_not_flash : (n a : ℕ) → verdicts j i p Write a n ≡ AllGood → Each (NotFlash i) (words_from a n)
   unfolding verdicts words_from
   words_not_flash zero a e = tt
@@ -123,7 +123,7 @@ module _ (j : Judge) (i : Image) (rules : ObeysRules i) (p : ProtectionState) wh
 
 -- ---- a step
 
-module _ (j : Judge) (i : Image) (rules : ObeysRules i) (s : State) where
+module _ (j : PermissionTest) (i : Image) (rules : ObeysRules i) (s : State) where
   entered_spares : (is_open : Bool) (n ret : ℕ) (t : FaultStatus) → is_frame_open j i s ≡ is_open → SparesFlash i (entered is_open i n ret t s)
   entered_spares false n ret t e = tt
   entered_spares true n ret t e = open_not_flash j i rules s.protection 8 (frame_at s.core.sp) e
@@ -222,6 +222,6 @@ module _ (j : Judge) (i : Image) (rules : ObeysRules i) (s : State) where
   running_spares (Some e) = tt
   running_spares None = fetched_spares (fetch j i s)
 
-pub turn_spares : (j : Judge) (i : Image) (s : State) → ObeysRules i → SparesFlash i (turn j i s)
+pub turn_spares : (j : PermissionTest) (i : Image) (s : State) → ObeysRules i → SparesFlash i (turn j i s)
 unfolding turn
 turn_spares j i s rules = running_spares j i rules s s.ending

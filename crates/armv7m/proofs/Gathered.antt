@@ -1,13 +1,13 @@
 -- The laws of running code, put together.
-use Rattle.armv7m.specs.State.{Judge}
+use Rattle.armv7m.specs.State.{PermissionTest}
 use Rattle.device_model.specs.declared.image.Image.{Image}
 use Rattle.armv7m.specs.Running.{StepsAreActs, RunsGoOn, EachLive, ActSteps, ExceptionSteps}
 use Rattle.armv7m.proofs.Exec.{stepped, next_step, next_event, onward}
 use Rattle.armv7m.proofs.Acts.{changes, loads_ram, loads_flash, loads_window, loads_nothing, stores_ram, stores_window, halts}
 use Rattle.armv7m.proofs.Stack.{loads_many, stores_many}
 use Rattle.armv7m.proofs.Entries.{calls, faults_load, faults_store, faults_loads, faults_stores, faults_fetch, returns_to_psp, returns_to_msp}
-use Rattle.armv7m.specs.Templates.{EachWorks, RegisterSteps, BranchSteps, StackSteps, TransferSteps, SpecialSteps, ThreadSteps}
-use Rattle.armv7m.proofs.Templates.{movs, cmp_immediate, cmp, immediate_gives, shift_gives, sum_gives, small_sum_gives, operation_gives, operation_tests, movw, movt, udiv, sdiv, mov_to_r12, mov_from_r12, mov_to_lr, nop, barrier, bkpt, b_taken, b_not_taken, b, b_wide, bl}
+use Rattle.armv7m.specs.InstructionEffects.{EachWorks, RegisterSteps, BranchSteps, StackSteps, TransferSteps, SpecialSteps, ThreadSteps}
+use Rattle.armv7m.proofs.InstructionEffects.{movs, cmp_immediate, cmp, immediate_gives, shift_gives, sum_gives, small_sum_gives, operation_gives, operation_tests, movw, movt, udiv, sdiv, mov_to_r12, mov_from_r12, mov_to_lr, nop, barrier, bkpt, b_taken, b_not_taken, b, b_wide, bl}
 use Rattle.armv7m.proofs.Transfers.{blx_r12, bx_lr, ldr_sp, str_sp, add_d_sp, add_sp, sub_sp, push_lr, pop_pc, load_ram, load_flash, load_window, load_nothing, store_ram, store_window, ldr_literal}
 use Rattle.armv7m.proofs.Special.{mrs_psp, msr_psp, mrs_control, msr_control_in_handler, msr_control_to_psp, store_system, load_system}
 use Rattle.armv7m.proofs.Threads.{svc_from_psp, svc_from_msp, bx_to_psp, bx_to_msp}
@@ -16,7 +16,7 @@ use Rattle.armv7m.proofs.Constants.{adds, subs, adds_immediate, subs_immediate, 
 pub steps_are_acts : StepsAreActs
 steps_are_acts = stepped
 
-pub runs_go_on : (j : Judge) (i : Image) → RunsGoOn j i
+pub runs_go_on : (j : PermissionTest) (i : Image) → RunsGoOn j i
 runs_go_on j i = record {
   next_step = λ k s t u es a g. next_step a g;
   next_event = λ k s t u e es a g. next_event a g;

@@ -6,7 +6,7 @@ mod Listed
 pub mod Exec
 mod Acts
 mod Stack
-pub mod Templates
+pub mod InstructionEffects
 pub mod Transfers
 mod Special
 mod Entries

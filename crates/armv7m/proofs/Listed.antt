@@ -14,7 +14,7 @@ use Rattle.armv7m.specs.declared.state.CoreRegisters.{CoreRegisters}
 use Rattle.armv7m.specs.declared.state.FaultStatus.{FaultStatus}
 use Rattle.armv7m.specs.declared.state.End.{End}
 use Rattle.armv7m.specs.Confinement.{AnyOf, ListsEvent, FetchesArePermitted}
-use Rattle.armv7m.specs.State.{State, Touched, Judge}
+use Rattle.armv7m.specs.State.{State, Touched, PermissionTest}
 use Rattle.armv7m.specs.Act.{Act, Changes, Loads, Stores, LoadsMany, StoresMany, GetsSpecial, SetsSpecial, Exchanges, Calls, Halts, Stops}
 use Rattle.armv7m.specs.Instructions.{act}
 use Rattle.armv7m.specs.declared.accesses.Verdict.{Verdict}
@@ -28,7 +28,7 @@ use Rattle.armv7m.specs.declared.fetching.Fetched.{Fetched}
 use Rattle.armv7m.specs.declared.fetching.Fetched.TheVariants.{Took, NotAllowed, NotMapped}
 use Rattle.armv7m.specs.Step.{by_size, first_half, fetch, performed, fetched, running, turn}
 
-module _ (j : Judge) (i : Image) (s : State) where
+module _ (j : PermissionTest) (i : Image) (s : State) where
   entered_lists : (is_open : Bool) (n ret : ℕ) (t : FaultStatus) → ListsEvent i (entered is_open i n ret t s)
   entered_lists false n ret t e h = cc
   entered_lists true n ret t e h = cc
@@ -131,19 +131,19 @@ module _ (j : Judge) (i : Image) (s : State) where
   running_lists (Some x) e h = cc
   running_lists None e h = fetched_lists (fetch j i s) e h
 
-pub turn_lists : (j : Judge) (i : Image) (s : State) → ListsEvent i (turn j i s)
+pub turn_lists : (j : PermissionTest) (i : Image) (s : State) → ListsEvent i (turn j i s)
 unfolding turn
 turn_lists j i s = running_lists j i s s.ending
 
 -- ---- fetches
 
-pub first_refused : (j : Judge) (i : Image) (s : State) → s.ending ≡ None → j s.protection Fetch s.core.pc ≡ false → turn j i s ≡ fetch_fault j i s
+pub first_refused : (j : PermissionTest) (i : Image) (s : State) → s.ending ≡ None → j s.protection Fetch s.core.pc ≡ false → turn j i s ≡ fetch_fault j i s
 unfolding turn fetch
 first_refused j i s live may =
     ap (λ o. running o j i s) live
     ∙ ap (λ x. fetched (first_half x (fetch_at (place i s.core.pc) i s.ram) (j s.protection Fetch (s.core.pc + 2)) (fetch_at (place i (s.core.pc + 2)) i s.ram)) j i s) may
 
-pub second_refused : (j : Judge) (i : Image) (s : State) (h : ℕ) → s.ending ≡ None → j s.protection Fetch s.core.pc ≡ true → fetch_at (place i s.core.pc) i s.ram ≡ Some h → nat_lt h 0xE800 ≡ false → j s.protection Fetch (s.core.pc + 2) ≡ false → turn j i s ≡ fetch_fault j i s
+pub second_refused : (j : PermissionTest) (i : Image) (s : State) (h : ℕ) → s.ending ≡ None → j s.protection Fetch s.core.pc ≡ true → fetch_at (place i s.core.pc) i s.ram ≡ Some h → nat_lt h 0xE800 ≡ false → j s.protection Fetch (s.core.pc + 2) ≡ false → turn j i s ≡ fetch_fault j i s
 unfolding turn fetch
 second_refused j i s h live first is long may =
     let k : Option ℕ = fetch_at (place i (s.core.pc + 2)) i s.ram in
@@ -154,7 +154,7 @@ second_refused j i s h live first is long may =
     ∙ ap (λ b. fetched (by_size b al k h) j i s) long
     ∙ ap (λ x. fetched (by_size false x k h) j i s) may
 
-pub fetches_permitted : (j : Judge) (i : Image) (s : State) → s.ending ≡ None → FetchesArePermitted j i s
+pub fetches_permitted : (j : PermissionTest) (i : Image) (s : State) → s.ending ≡ None → FetchesArePermitted j i s
 fetches_permitted j i s live = record {
   first = λ may. first_refused j i s live may;
   second = λ h first is long may. second_refused j i s h live first is long may;

@@ -29,7 +29,7 @@ use Rattle.armv7m.specs.declared.several.Verdicts.{Verdicts}
 use Rattle.armv7m.specs.declared.several.Verdicts.TheVariants.{AllGood, RefusedAt, BadOne}
 use Rattle.armv7m.specs.declared.fetching.Fetched.{Fetched}
 use Rattle.armv7m.specs.declared.fetching.Fetched.TheVariants.{Took, NotAllowed, NotMapped}
-use Rattle.armv7m.specs.State.{State, Touched, Turn, Judge, is_unprivileged, calm, with_core}
+use Rattle.armv7m.specs.State.{State, Touched, Turn, PermissionTest, is_unprivileged, calm, with_core}
 use Rattle.armv7m.specs.Act.{Act, Changes, Loads, Stores, LoadsMany, StoresMany, GetsSpecial, SetsSpecial, Exchanges, Calls, Halts, Stops}
 use Rattle.armv7m.specs.Instructions.{act}
 use Rattle.armv7m.specs.System.{in_system, write_special, write_system}
@@ -169,7 +169,7 @@ record Local (i : Image) (other : List ℕ) (t u : Turn) : Type 0 where
   size : length u.to.ram ≡ length other
   written : (k : ℕ) → AnyOf (Hits i k) t.stores → get_or u.to.ram k 0 ≡ get_or t.to.ram k 0
 
-module _ (j : Judge) (i : Image) (r : ObeysRules i) (s : State) (other : List ℕ) (size : length other ≡ length s.ram) where
+module _ (j : PermissionTest) (i : Image) (r : ObeysRules i) (s : State) (other : List ℕ) (size : length other ≡ length s.ram) where
   -- the RAMs agree on what this turn loads, and on the compartment of its event
   record Agrees (t : Turn) : Type 0 where
     loads : Each (Agree i s.ram other) t.loads
@@ -383,7 +383,7 @@ first_same : (al : Bool) (o p : Option ℕ) (al2 : Bool) (q : Option ℕ) → (a
 first_same false o p al2 q e = refl
 first_same true o p al2 q e = ap (λ x. first_half true x al2 q) (e refl)
 
-fetch_same : (j : Judge) (i : Image) (s : State) (other : List ℕ) → AgreeOnReads j i s other → fetch j i (record s { ram = other }) ≡ fetch j i s
+fetch_same : (j : PermissionTest) (i : Image) (s : State) (other : List ℕ) → AgreeOnReads j i s other → fetch j i (record s { ram = other }) ≡ fetch j i s
 unfolding fetch
 fetch_same j i s other g =
     first_same (j s.protection Fetch s.core.pc) (fetch_at (place i s.core.pc) i other) (fetch_at (place i s.core.pc) i s.ram) (j s.protection Fetch (s.core.pc + 2)) (fetch_at (place i (s.core.pc + 2)) i other)
@@ -393,11 +393,11 @@ fetch_same j i s other g =
 
 -- ---- the step
 
-ran : (j : Judge) (i : Image) (s : State) → s.ending ≡ None → turn j i s ≡ fetched (fetch j i s) j i s
+ran : (j : PermissionTest) (i : Image) (s : State) → s.ending ≡ None → turn j i s ≡ fetched (fetch j i s) j i s
 unfolding turn
 ran j i s z = ap (λ x. running x j i s) z
 
-module _ (j : Judge) (i : Image) (r : ObeysRules i) (s : State) (other : List ℕ) (g : AgreeOnReads j i s other) where
+module _ (j : PermissionTest) (i : Image) (r : ObeysRules i) (s : State) (other : List ℕ) (g : AgreeOnReads j i s other) where
   running_same : (o : Option End) → s.ending ≡ o → Local i other (running o j i s) (running o j i (record s { ram = other }))
   running_same (Some e) is = calm_same j i r s other g.size _ _ _
   running_same None is =

@@ -4,27 +4,27 @@ use Rattle.words.specs.Runs.{run, events}
 use Rattle.words.proofs.Runs.{run-add, events-add, run_still, events_still}
 use Rattle.device_model.specs.declared.image.Image.{Image}
 use Rattle.armv7m.specs.declared.state.End.{End}
-use Rattle.armv7m.specs.State.{State, Judge, by_mpu, calm}
+use Rattle.armv7m.specs.State.{State, PermissionTest, by_mpu, calm}
 use Rattle.armv7m.specs.Step.{turn, running, step, event}
 use Rattle.armv7m.specs.Run.{start, after, events_after}
 use Rattle.armv7m.specs.Code.{next, told}
 
 -- ---- a machine that has ended
 
-pub turn_ended : (j : Judge) (i : Image) (s : State) (e : End) → s.ending ≡ Some e → turn j i s ≡ calm s
+pub turn_ended : (j : PermissionTest) (i : Image) (s : State) (e : End) → s.ending ≡ Some e → turn j i s ≡ calm s
 unfolding turn
 turn_ended j i s e ended = ap (λ o. running o j i s) ended
 
-pub next_ended : (j : Judge) (i : Image) (s : State) (e : End) → s.ending ≡ Some e → next j i s ≡ s
+pub next_ended : (j : PermissionTest) (i : Image) (s : State) (e : End) → s.ending ≡ Some e → next j i s ≡ s
 next_ended j i s e ended = ap (λ t. t.to) (turn_ended j i s e ended)
 
-pub told_ended : (j : Judge) (i : Image) (s : State) (e : End) → s.ending ≡ Some e → told j i s ≡ None
+pub told_ended : (j : PermissionTest) (i : Image) (s : State) (e : End) → s.ending ≡ Some e → told j i s ≡ None
 told_ended j i s e ended = ap (λ t. t.event) (turn_ended j i s e ended)
 
-pub run_ended : (j : Judge) (i : Image) (n : ℕ) (s : State) (e : End) → s.ending ≡ Some e → run (next j i) n s ≡ s
+pub run_ended : (j : PermissionTest) (i : Image) (n : ℕ) (s : State) (e : End) → s.ending ≡ Some e → run (next j i) n s ≡ s
 run_ended j i n s e ended = run_still (next j i) n s (next_ended j i s e ended)
 
-pub events_ended : (j : Judge) (i : Image) (n : ℕ) (s : State) (e : End) → s.ending ≡ Some e → events (next j i) (told j i) n s ≡ []
+pub events_ended : (j : PermissionTest) (i : Image) (n : ℕ) (s : State) (e : End) → s.ending ≡ Some e → events (next j i) (told j i) n s ≡ []
 events_ended j i n s e ended = events_still (next j i) (told j i) n s (next_ended j i s e ended) (told_ended j i s e ended)
 
 -- ---- the machine from its start

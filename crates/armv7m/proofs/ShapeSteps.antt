@@ -29,7 +29,7 @@ use Rattle.armv7m.specs.declared.state.CoreRegisters.{CoreRegisters}
 use Rattle.armv7m.specs.declared.state.ProtectionState.{ProtectionState}
 use Rattle.armv7m.specs.declared.state.FaultStatus.{FaultStatus}
 use Rattle.armv7m.specs.declared.state.End.{End}
-use Rattle.armv7m.specs.State.{State, Judge, by_mpu, with_core, with_register, is_unprivileged, bit_of}
+use Rattle.armv7m.specs.State.{State, PermissionTest, by_mpu, with_core, with_register, is_unprivileged, bit_of}
 use Rattle.armv7m.specs.Act.{Act, Changes, Loads, Stores, LoadsMany, StoresMany, GetsSpecial, SetsSpecial, Exchanges, Calls, Halts, Stops}
 use Rattle.armv7m.specs.Instructions.{act}
 use Rattle.armv7m.specs.Stack.{AreWords}
@@ -137,21 +137,21 @@ module _ (i : Image) where
   entered_fits false n ret t s h f = ended_fits _ s h
   entered_fits true n ret t s h f = record { core = entry_fits n s.core h.core; status = f; unit = h.unit; ram_count = pushed_length (frame_of s.core ret) (frame_at s.core.sp) s.ram ∙ h.ram_count; queue_count = h.queue_count }
 
-  call_fits : (b : Bool) (j : Judge) (next : ℕ) (s : State) → StateFits i s → StateFits i (call b j i next s).to
+  call_fits : (b : Bool) (j : PermissionTest) (next : ℕ) (s : State) → StateFits i s → StateFits i (call b j i next s).to
   call_fits true j next s h = ended_fits _ s h
   call_fits false j next s h = entered_fits (is_frame_open j i s) supervisor_call next s.status s h h.status
 
-  fault_fits : (b e : Bool) (j : Judge) (t : FaultStatus) (s : State) → StateFits i s → StatusFits t → StateFits i (fault_by b e j i t s).to
+  fault_fits : (b e : Bool) (j : PermissionTest) (t : FaultStatus) (s : State) → StateFits i s → StatusFits t → StateFits i (fault_by b e j i t s).to
   fault_fits true e j t s h f = ended_fits _ s h
   fault_fits false false j t s h f = ended_fits _ s h
   fault_fits false true j t s h f = entered_fits (is_frame_open j i s) mem_manage s.core.pc t s h f
 
-  data_fault_fits : (j : Judge) (a : ℕ) (s : State) → StateFits i s → a < 2 ^ 32 → StateFits i (data_fault j i a s).to
+  data_fault_fits : (j : PermissionTest) (a : ℕ) (s : State) → StateFits i s → a < 2 ^ 32 → StateFits i (data_fault j i a s).to
   data_fault_fits j a s h f =
       fault_fits s.protection.handler (is_fault_enabled s.status) j _ s h
       (record { shcsr_word = h.status.shcsr_word; cfsr_word = or_lt 32 s.status.cfsr 0x82 h.status.cfsr_word (omega arith); mmfar_word = f })
 
-  fetch_fault_fits : (j : Judge) (s : State) → StateFits i s → StateFits i (fetch_fault j i s).to
+  fetch_fault_fits : (j : PermissionTest) (s : State) → StateFits i s → StateFits i (fetch_fault j i s).to
   fetch_fault_fits j s h =
       fault_fits s.protection.handler (is_fault_enabled s.status) j _ s h
       (record { shcsr_word = h.status.shcsr_word; cfsr_word = or_lt 32 s.status.cfsr 1 h.status.cfsr_word (omega arith); mmfar_word = h.status.mmfar_word })
@@ -193,7 +193,7 @@ module _ (i : Image) where
   leaves_fits true false psp a ws s h al w = ended_fits _ s h
   leaves_fits true true psp a ws s h al w = record { core = unstacked_fits psp s.core a ws h.core al w; status = h.status; unit = h.unit; ram_count = h.ram_count; queue_count = h.queue_count }
 
-  returns_fits : (j : Judge) (psp : Bool) (s : State) → StateFits i s → StateFits i (returns j i psp s).to
+  returns_fits : (j : PermissionTest) (psp : Bool) (s : State) → StateFits i s → StateFits i (returns j i psp s).to
   returns_fits j psp s h =
       leaves_fits _ _ psp (choose psp s.core.other_sp s.core.sp) _ s h (choose_aligned psp s.core.other_sp s.core.sp h.core.other_aligned h.core.sp_aligned) (stacked_fit 8 (choose psp s.core.other_sp s.core.sp) s.ram)
 
@@ -206,7 +206,7 @@ module _ (i : Image) where
     loaded_fits NoInput w a s go f h g = ended_fits _ s h
     loaded_fits Unmapped w a s go f h g = ended_fits _ s h
 
-    after_load_fits : (v : Verdict) (j : Judge) (w a : ℕ) (s : State) (go : ℕ → CoreRegisters) → StateFits i s → w ≤ 4 → a < 2 ^ 32 → ((v : ℕ) → v < 2 ^ 32 → CoreFits (go v)) → StateFits i (after_load v j i w a s go).to
+    after_load_fits : (v : Verdict) (j : PermissionTest) (w a : ℕ) (s : State) (go : ℕ → CoreRegisters) → StateFits i s → w ≤ 4 → a < 2 ^ 32 → ((v : ℕ) → v < 2 ^ 32 → CoreFits (go v)) → StateFits i (after_load v j i w a s go).to
     after_load_fits ToBus j w a s go h l f g = loaded_fits (load_at (place i a) i s.ram s.queues w) w a s go (load_at_fits (place i a) i s.ram s.queues w l) h g
     after_load_fits ToSystem j w a s go h l f g = with_core_fits i s (go (read_system a s.protection s.status)) h (g (read_system a s.protection s.status) (read_system_fits i.regions a s.protection s.status few h.unit h.status))
     after_load_fits Refused j w a s go h l f g = data_fault_fits j a s h f
@@ -217,7 +217,7 @@ module _ (i : Image) where
     stored_fits (Taken k o) w a v s c h f = with_core_fits i s c h f
     stored_fits NotTaken w a v s c h f = ended_fits _ s h
 
-    after_store_fits : (d : Verdict) (j : Judge) (w a v : ℕ) (s : State) (c : CoreRegisters) → StateFits i s → a < 2 ^ 32 → v < 2 ^ 32 → CoreFits c → StateFits i (after_store d j i w a v s c).to
+    after_store_fits : (d : Verdict) (j : PermissionTest) (w a v : ℕ) (s : State) (c : CoreRegisters) → StateFits i s → a < 2 ^ 32 → v < 2 ^ 32 → CoreFits c → StateFits i (after_store d j i w a v s c).to
     after_store_fits ToBus j w a v s c h f g k = stored_fits (store_at (place i a)) w a v s c h k
     after_store_fits ToSystem j w a v s c h f g k = write_system_fits i a v (with_core s c) (with_core_fits i s c h k) g
     after_store_fits Refused j w a v s c h f g k = data_fault_fits j a s h f
@@ -261,17 +261,17 @@ module _ (i : Image) where
     and_then_fits Refused m a u h f = h
     and_then_fits (Bad r) m a u h f = tt
 
-    verdicts_fit : (j : Judge) (p : ProtectionState) (kind : Access) (n a : ℕ) → a < 2 ^ 32 → VerdictsFit (verdicts j i p kind a n)
+    verdicts_fit : (j : PermissionTest) (p : ProtectionState) (kind : Access) (n a : ℕ) → a < 2 ^ 32 → VerdictsFit (verdicts j i p kind a n)
     unfolding verdicts
     verdicts_fit j p kind zero a h = tt
     verdicts_fit j p kind (suc n) a h = and_then_fits (verdict j p kind 4 a) (is_memory kind (place i a)) a (verdicts j i p kind (word (a + 4)) n) h (verdicts_fit j p kind n (word (a + 4)) (omega arith))
 
-    after_loads_fits : (v : Verdicts) (j : Judge) (a n : ℕ) (s : State) (go : List ℕ → Option CoreRegisters) → VerdictsFit v → StateFits i s → ((vs : List ℕ) → AreWords vs → MaybeFits (go vs)) → StateFits i (after_loads v j i a n s go).to
+    after_loads_fits : (v : Verdicts) (j : PermissionTest) (a n : ℕ) (s : State) (go : List ℕ → Option CoreRegisters) → VerdictsFit v → StateFits i s → ((vs : List ℕ) → AreWords vs → MaybeFits (go vs)) → StateFits i (after_loads v j i a n s go).to
     after_loads_fits AllGood j a n s go f h g = or_usage_fits (go (get_words i a n s)) a n s h (g (get_words i a n s) (got_fit n a s h))
     after_loads_fits (RefusedAt x) j a n s go f h g = data_fault_fits j x s h f
     after_loads_fits (BadOne r) j a n s go f h g = ended_fits _ s h
 
-    after_stores_fits : (v : Verdicts) (j : Judge) (a : ℕ) (vs : List ℕ) (s : State) (c : CoreRegisters) → VerdictsFit v → StateFits i s → AreWords vs → CoreFits c → StateFits i (after_stores v j i a vs s c).to
+    after_stores_fits : (v : Verdicts) (j : PermissionTest) (a : ℕ) (vs : List ℕ) (s : State) (c : CoreRegisters) → VerdictsFit v → StateFits i s → AreWords vs → CoreFits c → StateFits i (after_stores v j i a vs s c).to
     after_stores_fits AllGood j a vs s c f h g k = put_fit vs a (with_core s c) (with_core_fits i s c h k) g
     after_stores_fits (RefusedAt x) j a vs s c f h g k = data_fault_fits j x s h f
     after_stores_fits (BadOne r) j a vs s c f h g k = ended_fits _ s h
@@ -345,12 +345,12 @@ module _ (i : Image) where
     jumped_fits true v s h f e = with_core_fits i s (record s.core { pc = v - 1 }) h (at_fits s.core (v - 1) h.core (omega arith, e refl))
     jumped_fits false v s h f e = ended_fits _ s h
 
-    exchanged_fits : (p m : Bool) (j : Judge) (v : ℕ) (s : State) → StateFits i s → v < 2 ^ 32 → StateFits i (exchanged p m j i v s).to
+    exchanged_fits : (p m : Bool) (j : PermissionTest) (v : ℕ) (s : State) → StateFits i s → v < 2 ^ 32 → StateFits i (exchanged p m j i v s).to
     exchanged_fits true m j v s h f = returns_fits j true s h
     exchanged_fits false true j v s h f = returns_fits j false s h
     exchanged_fits false false j v s h f = jumped_fits (nat_eq (v % 2) 1) v s h f (odd_before v)
 
-    perform_fits : (j : Judge) (a : Act) (s : State) → StateFits i s → ActFits a → StateFits i (perform j i a s).to
+    perform_fits : (j : PermissionTest) (a : Act) (s : State) → StateFits i s → ActFits a → StateFits i (perform j i a s).to
     unfolding perform
     perform_fits j (Changes c) s h f = with_core_fits i s c h f
     perform_fits j (Loads w a go) s h f = after_load_fits (verdict j s.protection Read w a) j w a s go h f.0 f.1 f.2
@@ -367,16 +367,16 @@ module _ (i : Image) where
 
     -- ---- the step
 
-    performed_fits : (o : Option Instr) (h k : ℕ) (j : Judge) (next : ℕ) (s : State) → IfSome o (Encodes (read_code h k)) → StateFits i s → next + 1 < 2 ^ 32 → next % 2 ≡ 0 → StateFits i (performed o j i next s).to
+    performed_fits : (o : Option Instr) (h k : ℕ) (j : PermissionTest) (next : ℕ) (s : State) → IfSome o (Encodes (read_code h k)) → StateFits i s → next + 1 < 2 ^ 32 → next % 2 ≡ 0 → StateFits i (performed o j i next s).to
     performed_fits None h k j next s e f n v = ended_fits _ s f
     performed_fits (Some x) h k j next s e f n v = perform_fits j (act x next s.core) s f (act_fits x next s.core e.in_table f.core n v)
 
-    fetched_fits : (t : Fetched) (j : Judge) (s : State) → FetchedFits s.core.pc t → StateFits i s → StateFits i (fetched t j i s).to
+    fetched_fits : (t : Fetched) (j : PermissionTest) (s : State) → FetchedFits s.core.pc t → StateFits i s → StateFits i (fetched t j i s).to
     fetched_fits (Took h k n) j s f g = performed_fits (decoded h k) h k j (s.core.pc + n) s (Encodes-decoded h k f.0 f.1) g (omega (arith, f.2, f.3)) (omega (arith, f.4, g.core.pc_even))
     fetched_fits NotAllowed j s f g = fetch_fault_fits j s g
     fetched_fits NotMapped j s f g = ended_fits _ s g
 
-    running_fits : (e : Option End) (j : Judge) (s : State) → ObeysRules i → StateFits i s → StateFits i (running e j i s).to
+    running_fits : (e : Option End) (j : PermissionTest) (s : State) → ObeysRules i → StateFits i s → StateFits i (running e j i s).to
     running_fits None j s r h = fetched_fits (fetch j i s) j s (fetch_fits i j s r) h
     running_fits (Some e) j s r h = h
 

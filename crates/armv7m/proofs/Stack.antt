@@ -13,7 +13,7 @@ use Rattle.mem_bus.proofs.Offsets.{in_ram}
 use Rattle.armv7m.specs.declared.state.CoreRegisters.{CoreRegisters}
 use Rattle.armv7m.specs.declared.state.ProtectionState.{ProtectionState}
 use Rattle.armv7m.specs.declared.state.FaultStatus.{FaultStatus}
-use Rattle.armv7m.specs.State.{State, Judge}
+use Rattle.armv7m.specs.State.{State, PermissionTest}
 use Rattle.armv7m.specs.Act.{StoresMany, LoadsMany}
 use Rattle.armv7m.specs.Instructions.{act}
 use Rattle.armv7m.specs.System.{in_system}
@@ -42,19 +42,19 @@ head_low i a o n w =
 
 -- ---- permission and tests
 
-pub may_first : (j : Judge) (p : ProtectionState) (kind : Access) (a n : ℕ) → May j p kind a (suc n) → j p kind a ≡ true
+pub may_first : (j : PermissionTest) (p : ProtectionState) (kind : Access) (a n : ℕ) → May j p kind a (suc n) → j p kind a ≡ true
 may_first j p kind a n m = let z : a + 4 * 0 ≡ a = omega arith in rw z at (m 0 (omega arith))
 
-pub may_rest : (j : Judge) (i : Image) (p : ProtectionState) (kind : Access) (a o n : ℕ) → Words i a o (suc n) → May j p kind a (suc n) → May j p kind (word (a + 4)) n
+pub may_rest : (j : PermissionTest) (i : Image) (p : ProtectionState) (kind : Access) (a o n : ℕ) → Words i a o (suc n) → May j p kind a (suc n) → May j p kind (word (a + 4)) n
 may_rest j i p kind a o n w m = λ k lt.
     let q : word (a + 4) ≡ a + 4 = omega (arith, w.is_at, w.fits, w.low) in
     let y : a + 4 + 4 * k ≡ a + 4 * suc k = omega arith in
     rw (q, y) (m (suc k) (omega arith))
 
-pub word_verdict : (j : Judge) (i : Image) (p : ProtectionState) (kind : Access) (a o n : ℕ) → Words i a o (suc n) → j p kind a ≡ true → verdict j p kind 4 a ≡ ToBus
+pub word_verdict : (j : PermissionTest) (i : Image) (p : ProtectionState) (kind : Access) (a o n : ℕ) → Words i a o (suc n) → j p kind a ≡ true → verdict j p kind 4 a ≡ ToBus
 word_verdict j i p kind a o n w m = to_bus j p kind 4 a w.aligned (omega (arith, w.is_at, w.fits, w.low)) m
 
-pub words_verdict : (j : Judge) (i : Image) (p : ProtectionState) (kind : Access) (n a o : ℕ) → Words i a o n → May j p kind a n → verdicts j i p kind a n ≡ AllGood
+pub words_verdict : (j : PermissionTest) (i : Image) (p : ProtectionState) (kind : Access) (n a o : ℕ) → Words i a o n → May j p kind a n → verdicts j i p kind a n ≡ AllGood
 unfolding verdicts
 words_verdict j i p kind zero a o w m = refl
 words_verdict j i p kind (suc n) a o w m =
@@ -63,7 +63,7 @@ words_verdict j i p kind (suc n) a o w m =
     let g = words_verdict j i p kind n (word (a + 4)) (o + 4) (behind i a o n w) (may_rest j i p kind a o n w m) in
     rw (v, e, g)
 
-pub open_in_ram : (j : Judge) (i : Image) (p : ProtectionState) (kind : Access) (n a o : ℕ) → Words i a o n → May j p kind a n → all_open j i p kind a n ≡ true
+pub open_in_ram : (j : PermissionTest) (i : Image) (p : ProtectionState) (kind : Access) (n a o : ℕ) → Words i a o n → May j p kind a n → all_open j i p kind a n ≡ true
 unfolding all_open
 open_in_ram j i p kind zero a o w m = refl
 open_in_ram j i p kind (suc n) a o w m =
@@ -170,7 +170,7 @@ get_or-words_at (suc n) o (suc k) ram h = let z : o + 4 * suc k ≡ o + 4 + 4 * 
 
 -- ---- PUSH, POP, STMIA and LDMIA
 
-module _ (j : Judge) (i : Image) (c : CoreRegisters) (p : ProtectionState) (t : FaultStatus) (ram : List ℕ) (queues : List (List ℕ)) (x : Instr) where
+module _ (j : PermissionTest) (i : Image) (c : CoreRegisters) (p : ProtectionState) (t : FaultStatus) (ram : List ℕ) (queues : List (List ℕ)) (x : Instr) where
   pub stores_many : (a o : ℕ) (vs : List ℕ) (d : CoreRegisters) → Stands j i p c.pc x → act x (c.pc + size x) c ≡ StoresMany a vs d → Words i a o (length vs) → May j p Write a (length vs) →
       Steps j i (live c p t ram queues) (live d p t (write_all 4 o vs ram) queues)
   unfolding perform

@@ -10,7 +10,7 @@ use Rattle.device_model.specs.declared.image.Image.{Image}
 use Rattle.mem_bus.specs.Places.{Place, InRam, InFlash, InWindow, Nowhere, place, is_memory, choose}
 use Rattle.mem_bus.specs.Bus.{put_at}
 use Rattle.armv7m.specs.declared.state.ProtectionState.{ProtectionState}
-use Rattle.armv7m.specs.State.{Judge, is_unprivileged}
+use Rattle.armv7m.specs.State.{PermissionTest, is_unprivileged}
 use Rattle.armv7m.specs.System.{in_system, is_system_register}
 use Rattle.armv7m.specs.declared.accesses.Verdict.{Verdict}
 use Rattle.armv7m.specs.declared.accesses.Verdict.TheVariants.{ToBus, ToSystem, Refused, Bad}
@@ -52,7 +52,7 @@ open_tests true true z e = (refl, refl, e)
 open_tests true false z e = absurd (false≢true e)
 open_tests false y z e = absurd (false≢true e)
 
-module _ (j : Judge) (p : ProtectionState) (kind : Access) where
+module _ (j : PermissionTest) (p : ProtectionState) (kind : Access) where
   aligned_by : (w a : ℕ) → nat_eq (a % w) 0 ≡ true → a % w ≡ 0
   aligned_by w a t = search (nat_tests, arith)
 
@@ -84,7 +84,7 @@ module _ (j : Judge) (p : ProtectionState) (kind : Access) where
 
 -- ---- the first refused word
 
-module _ (j : Judge) (i : Image) (p : ProtectionState) (kind : Access) where
+module _ (j : PermissionTest) (i : Image) (p : ProtectionState) (kind : Access) where
   abbrev FirstOf : (a n y : ℕ) → Type 0
   FirstOf a n y = IsFirstRefused j i p kind (words_from a n) y
 

@@ -6,19 +6,19 @@ use Rattle.words.specs.Bytes.{write_all}
 use Rattle.thumb_model.specs.declared.table.Instr.TheVariants.{BranchExchange, CallBranch}
 use Rattle.mpu_model.specs.declared.region.Access.TheVariants.{Read}
 use Rattle.device_model.specs.declared.image.Image.{Image}
-use Rattle.armv7m.specs.State.{State, Judge}
+use Rattle.armv7m.specs.State.{State, PermissionTest}
 use Rattle.armv7m.specs.Act.{Exchanges}
 use Rattle.armv7m.specs.Instructions.{act}
 use Rattle.armv7m.specs.Exceptions.{frame_at, frame_of, entry_core, vector, supervisor_call, return_on_psp, return_on_msp, is_thread, flags_of, with_pad, unstacked}
 use Rattle.armv7m.specs.Code.{Stands, live, Steps}
 use Rattle.armv7m.specs.Stack.{Words, words_at, May, Frame}
-use Rattle.armv7m.specs.Working.{Context, body, works}
+use Rattle.armv7m.specs.RunningCode.{Context, body, works}
 use Rattle.armv7m.proofs.Entries.{calls, returns_to_psp, returns_to_msp}
 
-pub steps_to : {j : Judge} {i : Image} {s t u : State} → Steps j i s t → t ≡ u → Steps j i s u
+pub steps_to : {j : PermissionTest} {i : Image} {s t u : State} → Steps j i s t → t ≡ u → Steps j i s u
 steps_to a e = record { leads = a.leads ∙ e; quiet = a.quiet }
 
-module _ (j : Judge) (i : Image) (x : Context) (low : List ℕ) (sp lr pc : ℕ) (f : Flags) (ram : List ℕ) (queues : List (List ℕ)) where
+module _ (j : PermissionTest) (i : Image) (x : Context) (low : List ℕ) (sp lr pc : ℕ) (f : Flags) (ram : List ℕ) (queues : List (List ℕ)) where
   entry_from_psp : (n : ℕ) → x.on_psp ≡ true →
       entry_core i n (body x low sp lr pc f) ≡ body (record x { other_sp = frame_at sp; on_psp = false }) low x.other_sp return_on_psp (vector i n) f
   entry_from_psp n h = rw h refl

@@ -13,7 +13,7 @@ use Rattle.mem_bus.specs.Places.{InRam, InFlash, InWindow, place}
 use Rattle.armv7m.specs.declared.state.CoreRegisters.{CoreRegisters}
 use Rattle.armv7m.specs.declared.state.ProtectionState.{ProtectionState}
 use Rattle.armv7m.specs.declared.state.End.TheVariants.{InputEnd}
-use Rattle.armv7m.specs.State.{Judge}
+use Rattle.armv7m.specs.State.{PermissionTest}
 use Rattle.armv7m.specs.Act.{Changes, Exchanges}
 use Rattle.armv7m.specs.Instructions.{act, listed}
 use Rattle.armv7m.specs.declared.accesses.Verdict.TheVariants.{ToBus}
@@ -22,7 +22,7 @@ use Rattle.armv7m.specs.Perform.{perform}
 use Rattle.armv7m.specs.Code.{size, Stands, live, Steps}
 use Rattle.armv7m.specs.Stack.{Words, words_at, May, Room}
 use Rattle.armv7m.specs.Events.{StepsWith, input_event, output_event, ended}
-use Rattle.armv7m.specs.Working.{Context, body, works, IsLoad, IsStore}
+use Rattle.armv7m.specs.RunningCode.{Context, body, works, IsLoad, IsStore}
 use Rattle.armv7m.proofs.Exec.{steps_from}
 use Rattle.armv7m.proofs.Acts.{turns, changes, loads_ram, loads_flash, loads_window, loads_nothing, stores_ram, stores_window, to_bus}
 use Rattle.armv7m.proofs.Stack.{word_verdict, head_place, stores_many, loads_many}
@@ -40,7 +40,7 @@ slot i sp o n k w h =
 slot_place : (i : Image) (sp o n k : ℕ) → Words i sp o n → k < n → place i (word (sp + 4 * k)) ≡ InRam (o + 4 * k)
 slot_place i sp o n k w h = head_place i (word (sp + 4 * k)) (o + 4 * k) 0 (slot i sp o n k w h)
 
-slot_verdict : (j : Judge) (i : Image) (p : ProtectionState) (kind : Access) (sp o n k : ℕ) → Words i sp o n → May j p kind sp n → k < n → verdict j p kind 4 (word (sp + 4 * k)) ≡ ToBus
+slot_verdict : (j : PermissionTest) (i : Image) (p : ProtectionState) (kind : Access) (sp o n k : ℕ) → Words i sp o n → May j p kind sp n → k < n → verdict j p kind 4 (word (sp + 4 * k)) ≡ ToBus
 slot_verdict j i p kind sp o n k w m h =
     let e = slot_address i sp o n k w h in
     word_verdict j i p kind (word (sp + 4 * k)) (o + 4 * k) 0 (slot i sp o n k w h) (rw e (m k h))
@@ -70,7 +70,7 @@ pub not_return : (handler : Bool) (v n : ℕ) → v ≢ n → handler && nat_eq 
 not_return false v n h = refl
 not_return true v n h = search (nat_tests, arith)
 
-module _ (j : Judge) (i : Image) (x : Context) (low : List ℕ) (sp lr pc : ℕ) (f : Flags) (ram : List ℕ) (queues : List (List ℕ)) where
+module _ (j : PermissionTest) (i : Image) (x : Context) (low : List ℕ) (sp lr pc : ℕ) (f : Flags) (ram : List ℕ) (queues : List (List ℕ)) where
   by_change : (y : Instr) (d : CoreRegisters) → act y (pc + size y) (body x low sp lr pc f) ≡ Changes d → Stands j i x.protection pc y → Steps j i (works x low sp lr pc f ram queues) (live d x.protection x.status ram queues)
   by_change y d e st = changes j i (body x low sp lr pc f) x.protection x.status ram queues y d st e
 

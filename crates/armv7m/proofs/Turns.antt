@@ -9,7 +9,7 @@ use Rattle.armv7m.specs.declared.state.CoreRegisters.{CoreRegisters}
 use Rattle.armv7m.specs.declared.state.ProtectionState.{ProtectionState}
 use Rattle.armv7m.specs.declared.state.FaultStatus.{FaultStatus}
 use Rattle.armv7m.specs.declared.state.End.TheVariants.{Halt}
-use Rattle.armv7m.specs.State.{State, Judge, is_unprivileged, with_register, calm, ends}
+use Rattle.armv7m.specs.State.{State, PermissionTest, is_unprivileged, with_register, calm, ends}
 use Rattle.armv7m.specs.Act.{Act, Changes, Loads, Stores, LoadsMany, StoresMany, GetsSpecial, SetsSpecial, Exchanges, Halts}
 use Rattle.armv7m.specs.Instructions.{act}
 use Rattle.armv7m.specs.System.{read_system, write_system, read_special, write_special}
@@ -26,7 +26,7 @@ use Rattle.armv7m.specs.Turns.{WholeTurns}
 use Rattle.armv7m.proofs.Acts.{turns}
 use Rattle.armv7m.proofs.Stack.{open_in_ram, stacked_are, words_verdict, got_are, put_are}
 
-module _ (j : Judge) (i : Image) (c : CoreRegisters) (p : ProtectionState) (t : FaultStatus) (ram : List ℕ) (queues : List (List ℕ)) (x : Instr) (h : Stands j i p c.pc x) where
+module _ (j : PermissionTest) (i : Image) (c : CoreRegisters) (p : ProtectionState) (t : FaultStatus) (ram : List ℕ) (queues : List (List ℕ)) (x : Instr) (h : Stands j i p c.pc x) where
   abbrev At : State
   At = live c p t ram queues
 

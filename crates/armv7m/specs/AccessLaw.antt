@@ -9,7 +9,7 @@ use Rattle.device_model.specs.declared.image.Image.{Image}
 use Rattle.mem_bus.specs.Places.{place, choose}
 use Rattle.mem_bus.specs.Bus.{fetch_at}
 use Rattle.armv7m.specs.declared.state.ProtectionState.{ProtectionState}
-use Rattle.armv7m.specs.State.{State, Judge}
+use Rattle.armv7m.specs.State.{State, PermissionTest}
 use Rattle.armv7m.specs.Act.{Act, Changes, Loads, Stores, LoadsMany, StoresMany, GetsSpecial, SetsSpecial, Exchanges, Calls, Halts, Stops}
 use Rattle.armv7m.specs.Instructions.{act}
 use Rattle.armv7m.specs.Exceptions.{frame_at, return_on_psp, return_on_msp}
@@ -17,11 +17,11 @@ use Rattle.armv7m.specs.declared.fetching.Fetched.TheVariants.{Took}
 use Rattle.armv7m.specs.Step.{turn, fetch}
 
 -- everything is allowed
-abbrev pub free : Judge
+abbrev pub free : PermissionTest
 free p kind a = true
 
 -- so many words one after another are permitted
-abbrev pub AreAllowed : Judge → ProtectionState → Access → (address count : ℕ) → Type 0
+abbrev pub AreAllowed : PermissionTest → ProtectionState → Access → (address count : ℕ) → Type 0
 AreAllowed j p kind a zero = Unit {0}
 AreAllowed j p kind a (suc n) = (j p kind a ≡ true) × AreAllowed j p kind (word (a + 4)) n
 
@@ -30,7 +30,7 @@ abbrev pub IsReturn : (psp : Bool) → State → (target : ℕ) → Type 0
 IsReturn psp s v = (s.protection.handler ≡ true) × (v ≡ choose psp return_on_psp return_on_msp)
 
 -- every access of what an instruction asks for is permitted
-abbrev pub IsAllowed : Judge → State → Act → Type 0
+abbrev pub IsAllowed : PermissionTest → State → Act → Type 0
 IsAllowed j s (Changes c) = Unit {0}
 IsAllowed j s (Loads w a go) = j s.protection Read a ≡ true
 IsAllowed j s (Stores w a v c) = j s.protection Write a ≡ true
@@ -46,10 +46,10 @@ IsAllowed j s (Halts n) = Unit {0}
 IsAllowed j s (Stops r) = Unit {0}
 
 -- every access of a step is permitted: its fetches, and those of the instruction that is fetched
-pub record IsStepAllowed (j : Judge) (i : Image) (s : State) : Type 0 where
+pub record IsStepAllowed (j : PermissionTest) (i : Image) (s : State) : Type 0 where
   pub first : j s.protection Fetch s.core.pc ≡ true
   pub second : (h : ℕ) → fetch_at (place i s.core.pc) i s.ram ≡ Some h → nat_lt h 0xE800 ≡ false → j s.protection Fetch (s.core.pc + 2) ≡ true
   pub data_accesses : (h k size : ℕ) (x : Instr) → fetch free i s ≡ Took h k size → decoded h k ≡ Some x → IsAllowed j s (act x (s.core.pc + size) s.core)
 
 abbrev pub AllowedStepsAreFree : Type 0
-AllowedStepsAreFree = (j : Judge) (i : Image) (s : State) → IsStepAllowed j i s → turn j i s ≡ turn free i s
+AllowedStepsAreFree = (j : PermissionTest) (i : Image) (s : State) → IsStepAllowed j i s → turn j i s ≡ turn free i s

@@ -11,7 +11,7 @@ use Rattle.armv7m.specs.declared.accesses.Verdict.TheVariants.{ToBus, ToSystem}
 use Rattle.armv7m.specs.declared.state.CoreRegisters.{CoreRegisters}
 use Rattle.armv7m.specs.declared.state.ProtectionState.{ProtectionState}
 use Rattle.armv7m.specs.declared.state.StopReason.TheVariants.{Bus}
-use Rattle.armv7m.specs.State.{State, Judge, is_unprivileged, stops, low_register, at, low_at}
+use Rattle.armv7m.specs.State.{State, PermissionTest, is_unprivileged, stops, low_register, at, low_at}
 use Rattle.armv7m.specs.Act.{Act, Loads, Stores, LoadsMany, StoresMany}
 use Rattle.armv7m.specs.Instructions.{act}
 use Rattle.armv7m.specs.System.{is_system_register}
@@ -22,7 +22,7 @@ use Rattle.armv7m.specs.Step.{turn}
 
 -- an access that the tests let through to a place where nothing lies stops the machine: of one word, of the first of
 -- several, and a fetch
-pub record StopsAtNothing (j : Judge) (i : Image) (s : State) (a : ℕ) : Type 0 where
+pub record StopsAtNothing (j : PermissionTest) (i : Image) (s : State) (a : ℕ) : Type 0 where
   pub loads : (w : ℕ) (go : ℕ → CoreRegisters) → verdict j s.protection Read w a ≡ ToBus → perform j i (Loads w a go) s ≡ stops Bus s
   pub stores : (w v : ℕ) (c : CoreRegisters) → verdict j s.protection Write w a ≡ ToBus → perform j i (Stores w a v c) s ≡ stops Bus s
   pub loads_many : (n : ℕ) (go : List ℕ → Option CoreRegisters) → verdict j s.protection Read 4 a ≡ ToBus → perform j i (LoadsMany a (suc n) go) s ≡ stops Bus s
@@ -30,12 +30,12 @@ pub record StopsAtNothing (j : Judge) (i : Image) (s : State) (a : ℕ) : Type 0
   pub fetches : s.ending ≡ None → s.core.pc ≡ a → j s.protection Fetch a ≡ true → turn j i s ≡ stops Bus s
 
 abbrev pub NothingStops : Type 0
-NothingStops = (j : Judge) (i : Image) (s : State) (a : ℕ) → place i a ≡ Nowhere → StopsAtNothing j i s a
+NothingStops = (j : PermissionTest) (i : Image) (s : State) (a : ℕ) → place i a ≡ Nowhere → StopsAtNothing j i s a
 
 -- a privileged access of a word of a system register reaches it, whatever the protection unit permits
 abbrev pub SystemRegistersAreReached : Type 0
 SystemRegistersAreReached =
-    (j : Judge) (p : ProtectionState) (kind : Access) (a : ℕ) → is_unprivileged p ≡ false → is_system_register a ≡ true → verdict j p kind 4 a ≡ ToSystem
+    (j : PermissionTest) (p : ProtectionState) (kind : Access) (a : ℕ) → is_unprivileged p ≡ false → is_system_register a ≡ true → verdict j p kind 4 a ≡ ToSystem
 
 -- an exception's frame begins at a multiple of 8 (STKALIGN)
 abbrev pub FramesAreAligned : Type 0

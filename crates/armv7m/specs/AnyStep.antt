@@ -2,7 +2,7 @@
 use Rattle.std.specs.Prelude.{◌≡◌, ℕ, ◌⊎◌, true}
 use Rattle.std.proofs.Math.ListN.{get_or}
 use Rattle.device_model.specs.declared.image.Image.{Image}
-use Rattle.armv7m.specs.State.{State, Touched, Turn, Judge}
+use Rattle.armv7m.specs.State.{State, Touched, Turn, PermissionTest}
 use Rattle.armv7m.specs.System.{in_system}
 use Rattle.armv7m.specs.Step.{turn}
 use Rattle.armv7m.specs.Confinement.{Each, AnyOf, Misses, HasEntered}
@@ -19,4 +19,4 @@ pub record AnyStep (i : Image) (s : State) (t : Turn) : Type 0 where
   pub status : (t.to.status ≡ s.status) ⊎ (HasEntered s t ⊎ ListsSystemStore t)
 
 abbrev pub StoresAreListed : Type 0
-StoresAreListed = (j : Judge) (i : Image) (s : State) → AnyStep i s (turn j i s)
+StoresAreListed = (j : PermissionTest) (i : Image) (s : State) → AnyStep i s (turn j i s)

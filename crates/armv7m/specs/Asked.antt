@@ -11,7 +11,7 @@ use Rattle.armv7m.specs.declared.state.CoreRegisters.{CoreRegisters}
 use Rattle.armv7m.specs.declared.state.ProtectionState.{ProtectionState}
 use Rattle.armv7m.specs.declared.state.FaultStatus.{FaultStatus}
 use Rattle.armv7m.specs.declared.state.End.{End}
-use Rattle.armv7m.specs.State.{State, Touched, Turn, Judge, is_unprivileged, ends}
+use Rattle.armv7m.specs.State.{State, Touched, Turn, PermissionTest, is_unprivileged, ends}
 use Rattle.armv7m.specs.Act.{Act, Loads, Stores, LoadsMany, StoresMany, Exchanges, Calls}
 use Rattle.armv7m.specs.Instructions.{act}
 use Rattle.armv7m.specs.System.{in_system, is_system_register}
@@ -40,13 +40,13 @@ asked_stores (StoresMany a vs c) = words_from a (length vs)
 asked_stores _ = []
 
 -- an access that only the test of permission refuses: aligned, and outside the private peripheral bus
-pub record IsRefused (j : Judge) (p : ProtectionState) (kind : Access) (x : Touched) : Type 0 where
+pub record IsRefused (j : PermissionTest) (p : ProtectionState) (kind : Access) (x : Touched) : Type 0 where
   pub aligned : x.address % x.width ≡ 0
   pub outside : in_system x.address ≡ false
   pub refused : j p kind x.address ≡ false
 
 -- permitted, and in memory that takes such an access
-pub record IsInMemory (j : Judge) (i : Image) (p : ProtectionState) (kind : Access) (x : Touched) : Type 0 where
+pub record IsInMemory (j : PermissionTest) (i : Image) (p : ProtectionState) (kind : Access) (x : Touched) : Type 0 where
   pub outside : in_system x.address ≡ false
   pub permitted : j p kind x.address ≡ true
   pub memory : is_memory kind (place i x.address) ≡ true
@@ -58,27 +58,27 @@ pub record IsPrivilegedPlace (p : ProtectionState) (x : Touched) : Type 0 where
   pub register : is_system_register x.address ≡ true
 
 -- one of several words that passes all tests
-pub record IsInOrder (j : Judge) (i : Image) (p : ProtectionState) (kind : Access) (x : Touched) : Type 0 where
+pub record IsInOrder (j : PermissionTest) (i : Image) (p : ProtectionState) (kind : Access) (x : Touched) : Type 0 where
   pub aligned : x.address % x.width ≡ 0
   pub reached : IsInMemory j i p kind x ⊎ IsPrivilegedPlace p x
 
 -- this is the address of the first of these accesses that is refused, all before it being in order
-abbrev pub IsFirstRefused : Judge → Image → ProtectionState → Access → List Touched → (address : ℕ) → Type 0
+abbrev pub IsFirstRefused : PermissionTest → Image → ProtectionState → Access → List Touched → (address : ℕ) → Type 0
 IsFirstRefused j i p kind [] y = ⊥
 IsFirstRefused j i p kind (x ∷ xs) y =
     ((y ≡ x.address) × IsRefused j p kind x) ⊎ (IsInOrder j i p kind x × IsFirstRefused j i p kind xs y)
 
 -- of the accesses of an act, which are loads or stores and not both
-abbrev pub RefusesFirst : Judge → Image → State → Act → (address : ℕ) → Type 0
+abbrev pub RefusesFirst : PermissionTest → Image → State → Act → (address : ℕ) → Type 0
 RefusesFirst j i s x y = IsFirstRefused j i s.protection Read (asked_loads s x) y ⊎ IsFirstRefused j i s.protection Write (asked_stores x) y
 
 -- this halfword was fetched from the program counter
-pub record IsFetched (j : Judge) (i : Image) (s : State) (half : ℕ) : Type 0 where
+pub record IsFetched (j : PermissionTest) (i : Image) (s : State) (half : ℕ) : Type 0 where
   pub permitted : j s.protection Fetch s.core.pc ≡ true
   pub is_half : fetch_at (place i s.core.pc) i s.ram ≡ Some half
 
 -- the halfwords of this instruction were fetched from the program counter; the next address is behind them
-pub record IsTaken (j : Judge) (i : Image) (s : State) (x : Instr) (next : ℕ) : Type 0 where
+pub record IsTaken (j : PermissionTest) (i : Image) (s : State) (x : Instr) (next : ℕ) : Type 0 where
   pub first : ℕ
   pub second : ℕ
   pub count : ℕ
@@ -90,7 +90,7 @@ pub record IsTaken (j : Judge) (i : Image) (s : State) (x : Instr) (next : ℕ) 
   pub is_next : next ≡ s.core.pc + count
 
 -- all that the turn of an instruction may be that asks for this: what it stores and loads
-pub data DoesAct (j : Judge) (i : Image) (s : State) (x : Act) (t : Turn) : Type 0 where
+pub data DoesAct (j : PermissionTest) (i : Image) (s : State) (x : Act) (t : Turn) : Type 0 where
   -- the machine ends, with no access
   Stopped : (e : End) → t ≡ ends e s → DoesAct j i s x t
   -- each access that the act asks for, in order, and no other
@@ -105,10 +105,10 @@ pub data DoesAct (j : Judge) (i : Image) (s : State) (x : Act) (t : Turn) : Type
 -- of the instruction that was fetched, whatever it is, and of one that stands at the program counter
 abbrev pub TakenActsAreDone : Type 0
 TakenActsAreDone =
-    (j : Judge) (i : Image) (s : State) (x : Instr) (next : ℕ) → s.ending ≡ None → IsTaken j i s x next →
+    (j : PermissionTest) (i : Image) (s : State) (x : Instr) (next : ℕ) → s.ending ≡ None → IsTaken j i s x next →
     DoesAct j i s (act x next s.core) (turn j i s)
 
 abbrev pub StandingActsAreDone : Type 0
 StandingActsAreDone =
-    (j : Judge) (i : Image) (c : CoreRegisters) (p : ProtectionState) (t : FaultStatus) (ram : List ℕ) (queues : List (List ℕ)) (x : Instr) →
+    (j : PermissionTest) (i : Image) (c : CoreRegisters) (p : ProtectionState) (t : FaultStatus) (ram : List ℕ) (queues : List (List ℕ)) (x : Instr) →
     Stands j i p c.pc x → DoesAct j i (live c p t ram queues) (act x (c.pc + size x) c) (turn j i (live c p t ram queues))

@@ -14,7 +14,7 @@ use Rattle.words.specs.Runs.{Goes}
 use Rattle.armv7m.specs.declared.state.CoreRegisters.{CoreRegisters}
 use Rattle.armv7m.specs.declared.state.ProtectionState.{ProtectionState}
 use Rattle.armv7m.specs.declared.state.FaultStatus.{FaultStatus}
-use Rattle.armv7m.specs.State.{State, Judge}
+use Rattle.armv7m.specs.State.{State, PermissionTest}
 use Rattle.armv7m.specs.Step.{turn}
 
 -- how many bytes the halfwords of an instruction are
@@ -39,7 +39,7 @@ HoldsCode i pc (Half h) = HoldsHalf i pc h
 HoldsCode i pc (Pair h k) = HoldsHalf i pc h × HoldsHalf i (pc + 2) k
 
 -- protection lets the halfwords of an instruction be fetched
-abbrev pub MayFetch : Judge → ProtectionState → (address : ℕ) → Code → Type 0
+abbrev pub MayFetch : PermissionTest → ProtectionState → (address : ℕ) → Code → Type 0
 MayFetch j p pc (Half h) = j p Fetch pc ≡ true
 MayFetch j p pc (Pair h k) = (j p Fetch pc ≡ true) × (j p Fetch (pc + 2) ≡ true)
 
@@ -49,7 +49,7 @@ pub record Lies (i : Image) (address : ℕ) (x : Instr) : Type 0 where
   pub code : HoldsCode i address (encode x)
 
 -- and may be fetched
-pub record Stands (j : Judge) (i : Image) (p : ProtectionState) (address : ℕ) (x : Instr) : Type 0 where
+pub record Stands (j : PermissionTest) (i : Image) (p : ProtectionState) (address : ℕ) (x : Instr) : Type 0 where
   pub lies : Lies i address x
   pub may_fetch : MayFetch j p address (encode x)
 
@@ -58,7 +58,7 @@ abbrev pub CodeIn : Image → (address : ℕ) → List Instr → Type 0
 CodeIn i pc [] = Unit {0}
 CodeIn i pc (x ∷ xs) = Lies i pc x × CodeIn i (pc + size x) xs
 
-abbrev pub CodeAt : Judge → Image → ProtectionState → (address : ℕ) → List Instr → Type 0
+abbrev pub CodeAt : PermissionTest → Image → ProtectionState → (address : ℕ) → List Instr → Type 0
 CodeAt j i p pc [] = Unit {0}
 CodeAt j i p pc (x ∷ xs) = Stands j i p pc x × CodeAt j i p (pc + size x) xs
 
@@ -66,17 +66,17 @@ CodeAt j i p pc (x ∷ xs) = Stands j i p pc x × CodeAt j i p (pc + size x) xs
 abbrev pub live : CoreRegisters → ProtectionState → FaultStatus → (ram : List ℕ) → (queues : List (List ℕ)) → State
 live c p t ram queues = record { core = c; protection = p; status = t; ram = ram; queues = queues; ending = None }
 
-abbrev pub next : Judge → Image → State → State
+abbrev pub next : PermissionTest → Image → State → State
 next j i s = (turn j i s).to
 
-abbrev pub told : Judge → Image → State → Option Event
+abbrev pub told : PermissionTest → Image → State → Option Event
 told j i s = (turn j i s).event
 
 -- one step without an event
-pub record Steps (j : Judge) (i : Image) (s t : State) : Type 0 where
+pub record Steps (j : PermissionTest) (i : Image) (s t : State) : Type 0 where
   pub leads : next j i s ≡ t
   pub quiet : told j i s ≡ None
 
 -- k steps with these events
-abbrev pub Runs : Judge → Image → (count : ℕ) → State → State → List Event → Type 0
+abbrev pub Runs : PermissionTest → Image → (count : ℕ) → State → State → List Event → Type 0
 Runs j i k s t es = Goes (next j i) (told j i) k s t es

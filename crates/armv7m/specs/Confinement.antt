@@ -6,7 +6,7 @@ use Rattle.events.specs.declared.event.Event.{Event}
 use Rattle.mem_bus.specs.Places.{InRam, InFlash, InWindow, choose, place}
 use Rattle.mem_bus.specs.Bus.{fetch_at}
 use Rattle.device_model.specs.Rules.{ObeysRules}
-use Rattle.armv7m.specs.State.{State, Touched, Turn, Judge}
+use Rattle.armv7m.specs.State.{State, Touched, Turn, PermissionTest}
 use Rattle.armv7m.specs.Exceptions.{vector_offset, mem_manage, supervisor_call, fetch_fault}
 use Rattle.armv7m.specs.Step.{turn}
 
@@ -38,16 +38,16 @@ abbrev pub ListsEvent : Image → Turn → Type 0
 ListsEvent i t = (e : Event) → t.event ≡ Some e → AnyOf (λ (x : Touched). (x.width ≡ e.width) × (place i x.address ≡ InWindow e.periph e.offset)) (choose e.write t.stores t.loads)
 
 abbrev pub EventsAreListed : Type 0
-EventsAreListed = (j : Judge) (i : Image) (s : State) → ListsEvent i (turn j i s)
+EventsAreListed = (j : PermissionTest) (i : Image) (s : State) → ListsEvent i (turn j i s)
 
 -- a machine that has not ended faults where a halfword that it fetches is not permitted
-pub record FetchesArePermitted (j : Judge) (i : Image) (s : State) : Type 0 where
+pub record FetchesArePermitted (j : PermissionTest) (i : Image) (s : State) : Type 0 where
   pub first : j s.protection Fetch s.core.pc ≡ false → turn j i s ≡ fetch_fault j i s
   pub second : (h : ℕ) → j s.protection Fetch s.core.pc ≡ true → fetch_at (place i s.core.pc) i s.ram ≡ Some h → nat_lt h 0xE800 ≡ false → j s.protection Fetch (s.core.pc + 2) ≡ false → turn j i s ≡ fetch_fault j i s
 
 abbrev pub FetchesArePermittedAlways : Type 0
-FetchesArePermittedAlways = (j : Judge) (i : Image) (s : State) → s.ending ≡ None → FetchesArePermitted j i s
+FetchesArePermittedAlways = (j : PermissionTest) (i : Image) (s : State) → s.ending ≡ None → FetchesArePermitted j i s
 
 -- no store of any step leads to flash, which is no part of the state
 abbrev pub FlashIsNeverWritten : Type 0
-FlashIsNeverWritten = (j : Judge) (i : Image) (s : State) → ObeysRules i → Each (λ x. (o : ℕ) → place i x.address ≢ InFlash o) (turn j i s).stores
+FlashIsNeverWritten = (j : PermissionTest) (i : Image) (s : State) → ObeysRules i → Each (λ x. (o : ℕ) → place i x.address ≢ InFlash o) (turn j i s).stores

@@ -6,14 +6,14 @@ use Rattle.device_model.specs.Rules.{ObeysRules}
 use Rattle.armv7m.specs.declared.state.CoreRegisters.{CoreRegisters}
 use Rattle.armv7m.specs.declared.state.ProtectionState.{ProtectionState}
 use Rattle.armv7m.specs.declared.state.FaultStatus.{FaultStatus}
-use Rattle.armv7m.specs.State.{Judge}
+use Rattle.armv7m.specs.State.{PermissionTest}
 use Rattle.armv7m.specs.Exceptions.{frame_at, frame_of, entry_core, entered, is_frame_open}
 use Rattle.armv7m.specs.Code.{live}
 use Rattle.armv7m.specs.Stack.{Frame}
 
 -- the frame that is open below the stack pointer of a machine that has not ended: where in RAM it lies, at a multiple
 -- of 8, and what every entry leaves
-pub record OpenFrame (j : Judge) (i : Image) (c : CoreRegisters) (p : ProtectionState) (t : FaultStatus) (ram : List ℕ) (queues : List (List ℕ)) : Type 0 where
+pub record OpenFrame (j : PermissionTest) (i : Image) (c : CoreRegisters) (p : ProtectionState) (t : FaultStatus) (ram : List ℕ) (queues : List (List ℕ)) : Type 0 where
   pub offset : ℕ
   pub frame : Frame j i p c.sp offset
   pub aligned : frame_at c.sp % 8 ≡ 0
@@ -22,5 +22,5 @@ pub record OpenFrame (j : Judge) (i : Image) (c : CoreRegisters) (p : Protection
 
 abbrev pub OpenFramesAreWords : Type 0
 OpenFramesAreWords =
-    (j : Judge) (i : Image) (c : CoreRegisters) (p : ProtectionState) (t : FaultStatus) (ram : List ℕ) (queues : List (List ℕ)) →
+    (j : PermissionTest) (i : Image) (c : CoreRegisters) (p : ProtectionState) (t : FaultStatus) (ram : List ℕ) (queues : List (List ℕ)) →
     ObeysRules i → c.sp % 4 ≡ 0 → is_frame_open j i (live c p t ram queues) ≡ true → OpenFrame j i c p t ram queues

@@ -4,12 +4,12 @@ use Rattle.words.specs.Bytes.{cut}
 use Rattle.device_model.specs.declared.image.Image.{Image}
 use Rattle.events.specs.declared.event.Event.{Event}
 use Rattle.armv7m.specs.declared.state.End.{End}
-use Rattle.armv7m.specs.State.{State, Judge}
+use Rattle.armv7m.specs.State.{State, PermissionTest}
 use Rattle.mem_bus.specs.Memory.{compartment_of}
 use Rattle.armv7m.specs.Code.{next, told}
 
 -- one step with this event
-pub record StepsWith (j : Judge) (i : Image) (s t : State) (e : Event) : Type 0 where
+pub record StepsWith (j : PermissionTest) (i : Image) (s t : State) (e : Event) : Type 0 where
   pub leads : next j i s ≡ t
   pub tells : told j i s ≡ Some e
 

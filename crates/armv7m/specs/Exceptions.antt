@@ -12,7 +12,7 @@ use Rattle.mem_bus.specs.Bus.{word_at, put_at}
 use Rattle.armv7m.specs.declared.state.CoreRegisters.{CoreRegisters}
 use Rattle.armv7m.specs.declared.state.FaultStatus.{FaultStatus}
 use Rattle.armv7m.specs.declared.state.StopReason.TheVariants.{MemDisabled, Stacking, Unstacking, Handler, Usage}
-use Rattle.armv7m.specs.State.{State, Touched, Turn, Judge, stops, low_register, bit_of}
+use Rattle.armv7m.specs.State.{State, Touched, Turn, PermissionTest, stops, low_register, bit_of}
 use Rattle.armv7m.specs.Tests.{all_open}
 
 -- words one after another
@@ -93,11 +93,11 @@ entered true i n ret t s =
       event = None;
     }
 
-abbrev pub is_frame_open : Judge → Image → State → Bool
+abbrev pub is_frame_open : PermissionTest → Image → State → Bool
 is_frame_open j i s = all_open j i s.protection Write (frame_at s.core.sp) 8
 
 -- SVC
-abbrev pub call : (handler : Bool) → Judge → Image → (next : ℕ) → State → Turn
+abbrev pub call : (handler : Bool) → PermissionTest → Image → (next : ℕ) → State → Turn
 call true j i next s = stops Handler s
 call false j i next s = entered (is_frame_open j i s) i supervisor_call next s.status s
 
@@ -106,12 +106,12 @@ abbrev pub is_fault_enabled : FaultStatus → Bool
 is_fault_enabled t = nat_eq (t.shcsr / 2 ^ 16 % 2) 1
 
 -- a MemManage fault, with the status that it leaves
-abbrev pub fault_by : (handler enabled : Bool) → Judge → Image → FaultStatus → State → Turn
+abbrev pub fault_by : (handler enabled : Bool) → PermissionTest → Image → FaultStatus → State → Turn
 fault_by true e j i t s = stops Handler s
 fault_by false false j i t s = stops MemDisabled s
 fault_by false true j i t s = entered (is_frame_open j i s) i mem_manage s.core.pc t s
 
-abbrev pub fault : Judge → Image → FaultStatus → State → Turn
+abbrev pub fault : PermissionTest → Image → FaultStatus → State → Turn
 fault j i t s = fault_by s.protection.handler (is_fault_enabled s.status) j i t s
 
 -- the status behind a refused fetch (IACCVIOL), and behind a refused data access (DACCVIOL, MMARVALID, and the address)
@@ -121,10 +121,10 @@ fetch_status t = record t { cfsr = bit_or t.cfsr 1 }
 abbrev pub data_status : (address : ℕ) → FaultStatus → FaultStatus
 data_status a t = record t { cfsr = bit_or t.cfsr 0x82; mmfar = a }
 
-abbrev pub fetch_fault : Judge → Image → State → Turn
+abbrev pub fetch_fault : PermissionTest → Image → State → Turn
 fetch_fault j i s = fault j i (fetch_status s.status) s
 
-abbrev pub data_fault : Judge → Image → (address : ℕ) → State → Turn
+abbrev pub data_fault : PermissionTest → Image → (address : ℕ) → State → Turn
 data_fault j i a s = fault j i (data_status a s.status) s
 
 -- PopStack: SP goes up by 32, and bit 2 is set where the stacked xPSR tells of a pad
@@ -171,7 +171,7 @@ leaves true true psp a ws s =
     }
 
 -- an exception return, in Handler mode: the words are tested as Thread mode would read them
-abbrev pub returns : Judge → Image → (psp : Bool) → State → Turn
+abbrev pub returns : PermissionTest → Image → (psp : Bool) → State → Turn
 returns j i psp s =
     let a : ℕ = choose psp s.core.other_sp s.core.sp in
     let ws : List ℕ = stacked_words i a 8 s.ram in

@@ -13,10 +13,10 @@ pub mod AccessLaw
 pub mod Code
 pub mod Stack
 pub mod Events
-pub mod Working
+pub mod RunningCode
 pub mod Resumed
 pub mod Running
-pub mod Templates
+pub mod InstructionEffects
 pub mod Shape
 pub mod CodeBytes
 pub mod Parts

@@ -11,7 +11,7 @@ use Rattle.mem_bus.specs.Places.{InRam, place}
 use Rattle.armv7m.specs.declared.state.End.TheVariants.{Stop}
 use Rattle.armv7m.specs.declared.state.StopReason.TheVariants.{Usage}
 use Rattle.armv7m.specs.declared.fetching.Fetched.TheVariants.{Took}
-use Rattle.armv7m.specs.State.{State, Touched, Turn, Judge}
+use Rattle.armv7m.specs.State.{State, Touched, Turn, PermissionTest}
 use Rattle.armv7m.specs.Instructions.{act}
 use Rattle.armv7m.specs.Step.{fetch, turn}
 use Rattle.armv7m.specs.Confinement.{Each, AnyOf, Misses}
@@ -22,7 +22,7 @@ abbrev pub Agree : Image → (ram other : List ℕ) → Touched → Type 0
 Agree i ram other x = (o : ℕ) → place i x.address ≡ InRam o → (k : ℕ) → k < x.width → get_or other (o + k) 0 ≡ get_or ram (o + k) 0
 
 -- another RAM of the same size holds the same wherever a step reads
-pub record AgreeOnReads (j : Judge) (i : Image) (s : State) (other : List ℕ) : Type 0 where
+pub record AgreeOnReads (j : PermissionTest) (i : Image) (s : State) (other : List ℕ) : Type 0 where
   pub size : length other ≡ length s.ram
   -- the halfwords that it fetches: the second behind one that has a second; none that is not permitted
   pub first : j s.protection Fetch s.core.pc ≡ true → Agree i s.ram other (record { width = 2; address = s.core.pc })
@@ -55,5 +55,5 @@ pub record IsSameTurn (i : Image) (other : List ℕ) (t u : Turn) : Type 0 where
 
 abbrev pub StepsReadWhatTheyList : Type 0
 StepsReadWhatTheyList =
-    (j : Judge) (i : Image) (s : State) (other : List ℕ) → ObeysRules i → AgreeOnReads j i s other →
+    (j : PermissionTest) (i : Image) (s : State) (other : List ℕ) → ObeysRules i → AgreeOnReads j i s other →
     IsSameTurn i other (turn j i s) (turn j i (record s { ram = other }))

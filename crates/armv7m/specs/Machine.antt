@@ -9,7 +9,7 @@ use Rattle.armv7m.specs.declared.state.End.{End}
 use Rattle.armv7m.specs.declared.state.End.TheVariants.{Halt, InputEnd, Limit, Stop, Refused}
 use Rattle.armv7m.specs.declared.machine.Step.{Step}
 use Rattle.armv7m.specs.declared.machine.Step.TheVariants.{Ran, Event as Told, Ended}
-use Rattle.armv7m.specs.State.{State, Turn, Judge, ends}
+use Rattle.armv7m.specs.State.{State, Turn, PermissionTest, ends}
 use Rattle.armv7m.specs.Shape.{StateFits}
 use Rattle.armv7m.specs.Step.{turn, step, event}
 
@@ -41,7 +41,7 @@ abbrev pub EndsOrGoesOn : State → Turn → Type 0
 EndsOrGoesOn s t = (t.to.ending ≡ s.ending) ⊎ ((e : End) × IsOwn e × (t ≡ ends e s))
 
 abbrev pub StepsEndOrGoOn : Type 0
-StepsEndOrGoOn = (j : Judge) (i : Image) (s : State) → EndsOrGoesOn s (turn j i s)
+StepsEndOrGoOn = (j : PermissionTest) (i : Image) (s : State) → EndsOrGoesOn s (turn j i s)
 
 -- a step's answer: the end of the machine, else the step's event
 abbrev pub answer_by : Option End → Option Event → Step

@@ -16,7 +16,7 @@ use Rattle.device_model.specs.Input.{taken}
 use Rattle.armv7m.specs.declared.state.CoreRegisters.{CoreRegisters}
 use Rattle.armv7m.specs.declared.state.End.TheVariants.{Halt, InputEnd}
 use Rattle.armv7m.specs.declared.state.StopReason.TheVariants.{Bus, Usage}
-use Rattle.armv7m.specs.State.{State, Turn, Judge, is_unprivileged, calm, ends, stops, with_core, at, with_register}
+use Rattle.armv7m.specs.State.{State, Turn, PermissionTest, is_unprivileged, calm, ends, stops, with_core, at, with_register}
 use Rattle.armv7m.specs.Act.{Act, Changes, Loads, Stores, LoadsMany, StoresMany, GetsSpecial, SetsSpecial, Exchanges, Calls, Halts, Stops}
 use Rattle.armv7m.specs.System.{in_system, read_system, write_system, read_special, write_special}
 use Rattle.armv7m.specs.declared.accesses.Verdict.{Verdict}
@@ -41,7 +41,7 @@ loaded (Device k o v) i w a s go =
 loaded NoInput i w a s go = ends InputEnd s
 loaded Unmapped i w a s go = stops Bus s
 
-abbrev pub after_load : Verdict → Judge → Image → (width address : ℕ) → State → (ℕ → CoreRegisters) → Turn
+abbrev pub after_load : Verdict → PermissionTest → Image → (width address : ℕ) → State → (ℕ → CoreRegisters) → Turn
 after_load ToBus j i w a s go = loaded (load_at (place i a) i s.ram s.queues w) i w a s go
 after_load ToSystem j i w a s go = did_load w a (with_core s (go (read_system a s.protection s.status))) None
 after_load Refused j i w a s go = data_fault j i a s
@@ -55,7 +55,7 @@ stored (Taken k o) i w a v s c =
     (Some (record { compartment = compartment_of i s.ram; periph = k; offset = o; width = w; write = true; value = cut w v }))
 stored NotTaken i w a v s c = stops Bus s
 
-abbrev pub after_store : Verdict → Judge → Image → (width address value : ℕ) → State → CoreRegisters → Turn
+abbrev pub after_store : Verdict → PermissionTest → Image → (width address value : ℕ) → State → CoreRegisters → Turn
 after_store ToBus j i w a v s c = stored (store_at (place i a)) i w a v s c
 after_store ToSystem j i w a v s c = did_store w a (write_system a v (with_core s c)) None
 after_store Refused j i w a v s c = data_fault j i a s
@@ -83,12 +83,12 @@ abbrev pub or_usage : Option CoreRegisters → (address count : ℕ) → State �
 or_usage None a n s = stops Usage s
 or_usage (Some c) a n s = record { to = with_core s c; stores = []; loads = words_from a n; event = None }
 
-abbrev pub after_loads : Verdicts → Judge → Image → (address count : ℕ) → State → (List ℕ → Option CoreRegisters) → Turn
+abbrev pub after_loads : Verdicts → PermissionTest → Image → (address count : ℕ) → State → (List ℕ → Option CoreRegisters) → Turn
 after_loads AllGood j i a n s go = or_usage (go (get_words i a n s)) a n s
 after_loads (RefusedAt x) j i a n s go = data_fault j i x s
 after_loads (BadOne r) j i a n s go = stops r s
 
-abbrev pub after_stores : Verdicts → Judge → Image → (address : ℕ) → (values : List ℕ) → State → CoreRegisters → Turn
+abbrev pub after_stores : Verdicts → PermissionTest → Image → (address : ℕ) → (values : List ℕ) → State → CoreRegisters → Turn
 after_stores AllGood j i a vs s c =
     record { to = put_words i a vs (with_core s c); stores = words_from a (length vs); loads = []; event = None }
 after_stores (RefusedAt x) j i a vs s c = data_fault j i x s
@@ -99,12 +99,12 @@ abbrev pub jumped : (odd : Bool) → (target : ℕ) → State → Turn
 jumped true v s = calm (with_core s (at s.core (v - 1)))
 jumped false v s = stops Usage s
 
-abbrev pub exchanged : (to_psp to_msp : Bool) → Judge → Image → (target : ℕ) → State → Turn
+abbrev pub exchanged : (to_psp to_msp : Bool) → PermissionTest → Image → (target : ℕ) → State → Turn
 exchanged true m j i v s = returns j i true s
 exchanged false true j i v s = returns j i false s
 exchanged false false j i v s = jumped (nat_eq (v % 2) 1) v s
 
-unfoldable pub perform : Judge → Image → Act → State → Turn
+unfoldable pub perform : PermissionTest → Image → Act → State → Turn
 perform j i (Changes c) s = calm (with_core s c)
 perform j i (Loads w a go) s = after_load (verdict j s.protection Read w a) j i w a s go
 perform j i (Stores w a v c) s = after_store (verdict j s.protection Write w a) j i w a v s c

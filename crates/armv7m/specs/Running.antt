@@ -11,7 +11,7 @@ use Rattle.armv7m.specs.declared.state.CoreRegisters.{CoreRegisters}
 use Rattle.armv7m.specs.declared.state.ProtectionState.{ProtectionState}
 use Rattle.armv7m.specs.declared.state.FaultStatus.{FaultStatus}
 use Rattle.armv7m.specs.declared.state.End.TheVariants.{Halt, InputEnd}
-use Rattle.armv7m.specs.State.{State, Judge}
+use Rattle.armv7m.specs.State.{State, PermissionTest}
 use Rattle.armv7m.specs.Act.{Changes, Loads, Stores, LoadsMany, StoresMany, Calls, Exchanges, Halts}
 use Rattle.armv7m.specs.Instructions.{act}
 use Rattle.armv7m.specs.declared.accesses.Verdict.TheVariants.{ToBus, Refused}
@@ -27,7 +27,7 @@ use Rattle.armv7m.specs.Events.{StepsWith, input_event, output_event, ended}
 -- the step of an instruction that stands at the program counter is what the instruction asks for, performed
 abbrev pub StepsAreActs : Type 0
 StepsAreActs =
-    (j : Judge) (i : Image) (c : CoreRegisters) (p : ProtectionState) (t : FaultStatus) (ram : List ℕ) (queues : List (List ℕ)) (x : Instr) →
+    (j : PermissionTest) (i : Image) (c : CoreRegisters) (p : ProtectionState) (t : FaultStatus) (ram : List ℕ) (queues : List (List ℕ)) (x : Instr) →
     Stands j i p c.pc x → turn j i (live c p t ram queues) ≡ perform j i (act x (c.pc + size x) c) (live c p t ram queues)
 
 -- how many bytes instructions are
@@ -38,7 +38,7 @@ code_size (x ∷ xs) = size x + code_size xs
 -- code in flash of which each byte may be fetched stands there
 abbrev pub CodeMayRun : Type 0
 CodeMayRun =
-    (j : Judge) (i : Image) (p : ProtectionState) (xs : List Instr) (pc : ℕ) →
+    (j : PermissionTest) (i : Image) (p : ProtectionState) (xs : List Instr) (pc : ℕ) →
     CodeIn i pc xs → ((a : ℕ) → pc ≤ a → a < pc + code_size xs → j p Fetch a ≡ true) → CodeAt j i p pc xs
 
 -- code is its parts, one behind the other
@@ -50,7 +50,7 @@ CodeHasParts =
 -- so is code that may run, and its size, an even number of bytes, is the sum of theirs
 abbrev pub StandingCodeHasParts : Type 0
 StandingCodeHasParts =
-    (j : Judge) (i : Image) (p : ProtectionState) (xs ys : List Instr) (pc : ℕ) →
+    (j : PermissionTest) (i : Image) (p : ProtectionState) (xs ys : List Instr) (pc : ℕ) →
     (CodeAt j i p pc (xs ++ ys) → CodeAt j i p pc xs × CodeAt j i p (pc + code_size xs) ys) × (CodeAt j i p pc xs → CodeAt j i p (pc + code_size xs) ys → CodeAt j i p pc (xs ++ ys))
 
 abbrev pub SizesAddUp : Type 0
@@ -60,12 +60,12 @@ abbrev pub SizesAreEven : Type 0
 SizesAreEven = (xs : List Instr) → code_size xs % 2 ≡ 0
 
 -- a step in front of a run, and a run behind a run
-pub record RunsGoOn (j : Judge) (i : Image) : Type 0 where
+pub record RunsGoOn (j : PermissionTest) (i : Image) : Type 0 where
   pub next_step : (k : ℕ) (s t u : State) (es : List Event) → Steps j i s t → Runs j i k t u es → Runs j i (suc k) s u es
   pub next_event : (k : ℕ) (s t u : State) (e : Event) (es : List Event) → StepsWith j i s t e → Runs j i k t u es → Runs j i (suc k) s u (e ∷ es)
   pub onward : (m k : ℕ) (s t u : State) (xs ys : List Event) → Runs j i m s t xs → Runs j i k t u ys → Runs j i (m + k) s u (xs ++ ys)
 
-module _ (j : Judge) (i : Image) (c : CoreRegisters) (p : ProtectionState) (t : FaultStatus) (ram : List ℕ) (queues : List (List ℕ)) (x : Instr) where
+module _ (j : PermissionTest) (i : Image) (c : CoreRegisters) (p : ProtectionState) (t : FaultStatus) (ram : List ℕ) (queues : List (List ℕ)) (x : Instr) where
   -- where the instruction stands at the program counter, the step leads there
   abbrev pub LeadsTo : State → Type 0
   LeadsTo s = Stands j i p c.pc x → Steps j i (live c p t ram queues) s
@@ -120,5 +120,5 @@ module _ (j : Judge) (i : Image) (c : CoreRegisters) (p : ProtectionState) (t : 
         is_thread (get_or (words_at 8 o ram) 7 0) ≡ true → LeadsTo (live (unstacked false c c.sp (words_at 8 o ram)) (record p { handler = false }) t ram queues)
 
 -- in each state, for each instruction
-abbrev pub EachLive : (Judge → Image → CoreRegisters → ProtectionState → FaultStatus → List ℕ → List (List ℕ) → Instr → Type 0) → Type 0
-EachLive P = (j : Judge) (i : Image) (c : CoreRegisters) (p : ProtectionState) (t : FaultStatus) (ram : List ℕ) (queues : List (List ℕ)) (x : Instr) → P j i c p t ram queues x
+abbrev pub EachLive : (PermissionTest → Image → CoreRegisters → ProtectionState → FaultStatus → List ℕ → List (List ℕ) → Instr → Type 0) → Type 0
+EachLive P = (j : PermissionTest) (i : Image) (c : CoreRegisters) (p : ProtectionState) (t : FaultStatus) (ram : List ℕ) (queues : List (List ℕ)) (x : Instr) → P j i c p t ram queues x

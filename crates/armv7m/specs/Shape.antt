@@ -7,7 +7,7 @@ use Rattle.device_model.specs.declared.image.Image.{Image}
 use Rattle.device_model.specs.Rules.{ObeysRules}
 use Rattle.armv7m.specs.declared.state.CoreRegisters.{CoreRegisters}
 use Rattle.armv7m.specs.declared.state.FaultStatus.{FaultStatus}
-use Rattle.armv7m.specs.State.{State, Judge}
+use Rattle.armv7m.specs.State.{State, PermissionTest}
 use Rattle.armv7m.specs.Step.{turn}
 use Rattle.armv7m.specs.Run.{after}
 
@@ -48,7 +48,7 @@ pub record StateFits (i : Image) (s : State) : Type 0 where
   pub queue_count : length s.queues ≡ length i.windows
 
 abbrev pub StepsKeepShape : Type 0
-StepsKeepShape = (j : Judge) (i : Image) (s : State) → ObeysRules i → StateFits i s → StateFits i (turn j i s).to
+StepsKeepShape = (j : PermissionTest) (i : Image) (s : State) → ObeysRules i → StateFits i s → StateFits i (turn j i s).to
 
 -- so it holds from reset on
 abbrev pub RunsKeepShape : Type 0

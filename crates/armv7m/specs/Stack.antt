@@ -5,7 +5,7 @@ use Rattle.mpu_model.specs.declared.region.Access.{Access}
 use Rattle.mpu_model.specs.declared.region.Access.TheVariants.{Read, Write}
 use Rattle.device_model.specs.declared.image.Image.{Image}
 use Rattle.armv7m.specs.declared.state.ProtectionState.{ProtectionState}
-use Rattle.armv7m.specs.State.{Judge}
+use Rattle.armv7m.specs.State.{PermissionTest}
 use Rattle.armv7m.specs.Exceptions.{frame_at}
 
 -- so many words from an address on lie in RAM, the first this many bytes behind RAM's base
@@ -30,16 +30,16 @@ AreWords [] = Unit {0}
 AreWords (v ∷ vs) = (v < 2 ^ 32) × AreWords vs
 
 -- each of them may be accessed so
-abbrev pub May : Judge → ProtectionState → Access → (address count : ℕ) → Type 0
+abbrev pub May : PermissionTest → ProtectionState → Access → (address count : ℕ) → Type 0
 May j p kind a n = (k : ℕ) → k < n → j p kind (a + 4 * k) ≡ true
 
 -- words that may be read and written
-pub record Room (j : Judge) (i : Image) (p : ProtectionState) (address offset count : ℕ) : Type 0 where
+pub record Room (j : PermissionTest) (i : Image) (p : ProtectionState) (address offset count : ℕ) : Type 0 where
   pub words : Words i address offset count
   pub reads : May j p Read address count
   pub writes : May j p Write address count
 
 -- the eight words that an exception entry pushes below a stack pointer may be written
-pub record Frame (j : Judge) (i : Image) (p : ProtectionState) (sp offset : ℕ) : Type 0 where
+pub record Frame (j : PermissionTest) (i : Image) (p : ProtectionState) (sp offset : ℕ) : Type 0 where
   pub words : Words i (frame_at sp) offset 8
   pub writes : May j p Write (frame_at sp) 8

@@ -37,11 +37,11 @@ abbrev pub is_unprivileged : ProtectionState → Bool
 is_unprivileged p = not p.handler && p.unprivileged
 
 -- the test of permission that a step is made under
-abbrev pub Judge : Type 0
-Judge = ProtectionState → Access → ℕ → Bool
+abbrev pub PermissionTest : Type 0
+PermissionTest = ProtectionState → Access → ℕ → Bool
 
 -- by the protection unit
-unfoldable pub by_mpu : Judge
+unfoldable pub by_mpu : PermissionTest
 by_mpu p kind a = permits p.mpu (is_unprivileged p) kind a
 
 -- a step without accesses

@@ -11,7 +11,7 @@ use Rattle.armv7m.specs.declared.state.End.{End}
 use Rattle.armv7m.specs.declared.state.StopReason.TheVariants.{Bus, Undefined}
 use Rattle.armv7m.specs.declared.fetching.Fetched.{Fetched}
 use Rattle.armv7m.specs.declared.fetching.Fetched.TheVariants.{Took, NotAllowed, NotMapped}
-use Rattle.armv7m.specs.State.{State, Turn, Judge, by_mpu, calm, stops}
+use Rattle.armv7m.specs.State.{State, Turn, PermissionTest, by_mpu, calm, stops}
 use Rattle.armv7m.specs.Instructions.{act}
 use Rattle.armv7m.specs.Exceptions.{fetch_fault}
 use Rattle.armv7m.specs.Perform.{perform}
@@ -31,25 +31,25 @@ first_half false h al k = NotAllowed
 first_half true None al k = NotMapped
 first_half true (Some h) al k = by_size (nat_lt h 0xE800) al k h
 
-unfoldable pub fetch : Judge → Image → State → Fetched
+unfoldable pub fetch : PermissionTest → Image → State → Fetched
 fetch j i s =
     first_half (j s.protection Fetch s.core.pc) (fetch_at (place i s.core.pc) i s.ram) (j s.protection Fetch (s.core.pc + 2)) (fetch_at (place i (s.core.pc + 2)) i s.ram)
 
-abbrev pub performed : Option Instr → Judge → Image → (next : ℕ) → State → Turn
+abbrev pub performed : Option Instr → PermissionTest → Image → (next : ℕ) → State → Turn
 performed None j i next s = stops Undefined s
 performed (Some x) j i next s = perform j i (act x next s.core) s
 
-abbrev pub fetched : Fetched → Judge → Image → State → Turn
+abbrev pub fetched : Fetched → PermissionTest → Image → State → Turn
 fetched (Took h k size) j i s = performed (decoded h k) j i (s.core.pc + size) s
 fetched NotAllowed j i s = fetch_fault j i s
 fetched NotMapped j i s = stops Bus s
 
 -- a machine that has ended stays as it is
-abbrev pub running : Option End → Judge → Image → State → Turn
+abbrev pub running : Option End → PermissionTest → Image → State → Turn
 running (Some e) j i s = calm s
 running None j i s = fetched (fetch j i s) j i s
 
-unfoldable pub turn : Judge → Image → State → Turn
+unfoldable pub turn : PermissionTest → Image → State → Turn
 turn j i s = running s.ending j i s
 
 -- the machine's own step, and its event

@@ -11,7 +11,7 @@ use Rattle.armv7m.specs.declared.accesses.Verdict.{Verdict}
 use Rattle.armv7m.specs.declared.accesses.Verdict.TheVariants.{ToBus, ToSystem, Refused, Bad}
 use Rattle.armv7m.specs.declared.several.Verdicts.{Verdicts}
 use Rattle.armv7m.specs.declared.several.Verdicts.TheVariants.{AllGood, RefusedAt, BadOne}
-use Rattle.armv7m.specs.State.{Judge, is_unprivileged}
+use Rattle.armv7m.specs.State.{PermissionTest, is_unprivileged}
 use Rattle.armv7m.specs.System.{in_system, is_system_register}
 
 abbrev pub tested : (aligned system unprivileged register allowed : Bool) → Verdict
@@ -21,7 +21,7 @@ tested true true false r al = choose r ToSystem (Bad Bus)
 tested true false u r false = Refused
 tested true false u r true = ToBus
 
-unfoldable pub verdict : Judge → ProtectionState → Access → (width address : ℕ) → Verdict
+unfoldable pub verdict : PermissionTest → ProtectionState → Access → (width address : ℕ) → Verdict
 verdict j p kind w a =
     tested (nat_eq (a % w) 0) (in_system a) (is_unprivileged p) (nat_eq w 4 && is_system_register a) (j p kind a)
 
@@ -33,12 +33,12 @@ and_then ToSystem m a v = v
 and_then Refused m a v = RefusedAt a
 and_then (Bad r) m a v = BadOne r
 
-unfoldable pub verdicts : Judge → Image → ProtectionState → Access → (address count : ℕ) → Verdicts
+unfoldable pub verdicts : PermissionTest → Image → ProtectionState → Access → (address count : ℕ) → Verdicts
 verdicts j i p kind a zero = AllGood
 verdicts j i p kind a (suc n) =
     and_then (verdict j p kind 4 a) (is_memory kind (place i a)) a (verdicts j i p kind (word (a + 4)) n)
 
 -- whether so many words of an exception's frame may be accessed: allowed, and in memory that takes such an access
-unfoldable pub all_open : Judge → Image → ProtectionState → Access → (address count : ℕ) → Bool
+unfoldable pub all_open : PermissionTest → Image → ProtectionState → Access → (address count : ℕ) → Bool
 all_open j i p kind a zero = true
 all_open j i p kind a (suc n) = (j p kind a && is_memory kind (place i a)) && all_open j i p kind (word (a + 4)) n

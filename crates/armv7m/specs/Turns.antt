@@ -10,7 +10,7 @@ use Rattle.armv7m.specs.declared.state.CoreRegisters.{CoreRegisters}
 use Rattle.armv7m.specs.declared.state.ProtectionState.{ProtectionState}
 use Rattle.armv7m.specs.declared.state.FaultStatus.{FaultStatus}
 use Rattle.armv7m.specs.declared.state.End.TheVariants.{Halt}
-use Rattle.armv7m.specs.State.{Turn, Judge, is_unprivileged, with_register, calm, ends}
+use Rattle.armv7m.specs.State.{Turn, PermissionTest, is_unprivileged, with_register, calm, ends}
 use Rattle.armv7m.specs.Act.{Changes, Loads, Stores, LoadsMany, StoresMany, GetsSpecial, SetsSpecial, Exchanges, Halts}
 use Rattle.armv7m.specs.Instructions.{act}
 use Rattle.armv7m.specs.System.{read_system, write_system, read_special, write_special}
@@ -23,7 +23,7 @@ use Rattle.armv7m.specs.Events.{input_event, output_event}
 use Rattle.armv7m.specs.Code.{size, Stands, live}
 use Rattle.armv7m.specs.Stack.{Words, words_at, May}
 
-module _ (j : Judge) (i : Image) (c : CoreRegisters) (p : ProtectionState) (t : FaultStatus) (ram : List ℕ) (queues : List (List ℕ)) (x : Instr) where
+module _ (j : PermissionTest) (i : Image) (c : CoreRegisters) (p : ProtectionState) (t : FaultStatus) (ram : List ℕ) (queues : List (List ℕ)) (x : Instr) where
   abbrev pub TurnIs : Turn → Type 0
   TurnIs u = Stands j i p c.pc x → turn j i (live c p t ram queues) ≡ u
 

@@ -4,7 +4,7 @@ ghost use Rattle.std.specs.Prelude.{ℕ, ◌≡◌, ◌+◌, List, [], ◌++◌,
 ghost use Rattle.words.specs.Runs.{run, events};
 ghost use Rattle.device_model.specs.declared.image.Image.{Image};
 ghost use Rattle.armv7m.specs.declared.state.End.{End};
-ghost use Rattle.armv7m.specs.State.{State, Judge, calm};
+ghost use Rattle.armv7m.specs.State.{State, PermissionTest, calm};
 ghost use Rattle.armv7m.specs.Step.{turn, step, event};
 ghost use Rattle.armv7m.specs.Run.{after, events_after};
 ghost use Rattle.armv7m.specs.Code.{next, told};
@@ -16,11 +16,11 @@ ghost use Rattle.armv7m.specs.Confinement.{EventsAreListed, FetchesArePermittedA
 /// A machine that has ended stays as it is: its steps change nothing, store and load nothing and have no event,
 /// and so do runs of them.
 pub fn ended_machines()
-    ensures step { (j : Judge) (i : Image) (s : State) (e : End) →
+    ensures step { (j : PermissionTest) (i : Image) (s : State) (e : End) →
         s.ending ≡ Some e → turn j i s ≡ calm s }
-    ensures run { (j : Judge) (i : Image) (n : ℕ) (s : State) (e : End) →
+    ensures run { (j : PermissionTest) (i : Image) (n : ℕ) (s : State) (e : End) →
         s.ending ≡ Some e → run (next j i) n s ≡ s }
-    ensures events { (j : Judge) (i : Image) (n : ℕ) (s : State) (e : End) →
+    ensures events { (j : PermissionTest) (i : Image) (n : ℕ) (s : State) (e : End) →
         s.ending ≡ Some e → events (next j i) (told j i) n s ≡ [] }
 {}
 

@@ -5,7 +5,7 @@ ghost use Rattle.words.specs.declared.conditions.Flags.{Flags};
 ghost use Rattle.words.specs.Bytes.{write_all};
 ghost use Rattle.device_model.specs.declared.image.Image.{Image};
 ghost use Rattle.armv7m.specs.declared.state.CoreRegisters.{CoreRegisters as Core};
-ghost use Rattle.armv7m.specs.State.{Judge};
+ghost use Rattle.armv7m.specs.State.{PermissionTest};
 ghost use Rattle.armv7m.specs.Exceptions.{frame_at, frame_of, unstacked};
 ghost use Rattle.armv7m.specs.Stack.{words_at, cut_words, AreWords};
 ghost use Rattle.armv7m.specs.Resumed.{resumed, TellsThread, saved_of};
@@ -26,7 +26,7 @@ ghost use Rattle.armv7m.specs.Running.{
 ghost use Rattle.armv7m.specs.EntryFrame.{OpenFramesAreWords};
 ghost use Rattle.armv7m.specs.Turns.{WholeTurns};
 ghost use Rattle.armv7m.specs.Accessed.{TransfersHaveWidths, NothingStops, SystemRegistersAreReached, FramesAreAligned};
-ghost use Rattle.armv7m.specs.Templates.{
+ghost use Rattle.armv7m.specs.InstructionEffects.{
   EachWorks,
   RegisterSteps,
   BranchSteps,
@@ -43,7 +43,7 @@ pub fn instructions()
     ensures by_act { EachLive ActSteps }
     ensures of_exceptions { EachLive ExceptionSteps }
     ensures by_turn { EachLive WholeTurns }
-    ensures in_runs { (j : Judge) (i : Image) → RunsGoOn j i }
+    ensures in_runs { (j : PermissionTest) (i : Image) → RunsGoOn j i }
     ensures may_run { CodeMayRun }
     ensures has_parts { CodeHasParts }
     ensures stands_by_parts { StandingCodeHasParts }

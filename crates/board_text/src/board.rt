@@ -8,7 +8,7 @@ ghost use Rattle.board_text.specs.Reading.{IsReadIn, IsFaultIn, IsRead, IsFault}
 use crate::extra::further;
 use crate::fault::BoardFault;
 use crate::fields::board_of;
-use listed::Listed;
+use list_vec::ListVec;
 use plan_model::plan::Board;
 use std::alloc::Global;
 use toml::Table;
@@ -21,7 +21,7 @@ fn read_document(alloc: Global, document: &Table) -> Result<Board, BoardFault>
     let board = board_of(document)?;
     match further(document) {
         None => Ok(board),
-        Some(key) => Err(BoardFault::Extra(Listed::new(key.path(alloc)?))),
+        Some(key) => Err(BoardFault::Extra(ListVec::new(key.path(alloc)?))),
     }
 }
 

@@ -2,7 +2,7 @@
 
 use crate::document::KeyFault;
 use crate::key::Key;
-use listed::Listed;
+use list_vec::ListVec;
 use std::alloc::AllocError;
 
 /// Why a text is no board: the first test that fails.
@@ -19,7 +19,7 @@ pub enum BoardFault {
     /// It has another value than it may have.
     Range(Key),
     /// A further key is there, printed behind its table and a point where it stands in one.
-    Extra(Listed<u8>),
+    Extra(ListVec<u8>),
 }
 
 impl From<KeyFault> for BoardFault {

@@ -6,7 +6,7 @@ ghost use Rattle.device_model.specs.Rules.{ObeysRules};
 use crate::tapes::adc;
 use device_model::image::Image;
 use device_model::tape::Tape;
-use listed::Listed;
+use list_vec::ListVec;
 use mem_bus::answer::{Loaded, Stored};
 use mem_bus::bus::{Bus, cut_to_width};
 use mpu_model::region::Access;
@@ -25,7 +25,7 @@ fn board(rt: &impl Abort, alloc: Global) -> Result<Image, AllocError>
     windows.push(window)?;
     Ok(Image {
         flash_base: 0,
-        flash: Listed::new(flash),
+        flash: ListVec::new(flash),
         ram_base: 0x2000_0000,
         ram_size: 1024,
         monitor: 0x2000_0000,
@@ -33,7 +33,7 @@ fn board(rt: &impl Abort, alloc: Global) -> Result<Image, AllocError>
         stack_size: 0,
         regions: 8,
         closed: false,
-        windows: Listed::new(windows),
+        windows: ListVec::new(windows),
     })
 }
 

@@ -8,7 +8,7 @@ use armv7m::state::End;
 use device_model::image::{Image, Window};
 use device_model::tape::Tape;
 use events::event::Event;
-use listed::Listed;
+use list_vec::ListVec;
 use names::is_name;
 use std::alloc::{AllocError, Global};
 use std::process::Abort;
@@ -22,7 +22,7 @@ fn port(rt: &impl Abort, alloc: Global) -> Result<Window, AllocError>
     let name = Vec::from_slice(alloc, b"PORT")?;
     assert!(rt; is_name(&name));
     Ok(Window {
-        name: Listed::new(name),
+        name: ListVec::new(name),
         base: 0x4000_0000,
         size: 32,
     })
@@ -50,7 +50,7 @@ fn board(rt: &impl Abort, alloc: Global) -> Result<Image, AllocError>
     windows.push(port(rt, alloc)?)?;
     Ok(Image {
         flash_base: 0,
-        flash: Listed::new(flash),
+        flash: ListVec::new(flash),
         ram_base: 0x2000_0000,
         ram_size: 1024,
         monitor: 0,
@@ -58,7 +58,7 @@ fn board(rt: &impl Abort, alloc: Global) -> Result<Image, AllocError>
         stack_size: 0,
         regions: 8,
         closed: false,
-        windows: Listed::new(windows),
+        windows: ListVec::new(windows),
     })
 }
 

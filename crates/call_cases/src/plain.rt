@@ -1,6 +1,6 @@
 //! Words, names, numbers, lists, arithmetic and bytes.
 
-use listed::Listed;
+use list_vec::ListVec;
 use names::{is_name, is_reserved, is_word, may_begin_word, may_continue_word};
 use numerals::{Numeral, read_numeral};
 use std::test::Fail;
@@ -91,9 +91,9 @@ fn reads_numbers(rt: HostRuntime) {
 
 #[test]
 fn lists_keep_their_items(rt: HostRuntime) -> Result<(), Fail> {
-    let empty: Listed<u16> = Listed::new(Vec::new(rt.alloc()));
+    let empty: ListVec<u16> = ListVec::new(Vec::new(rt.alloc()));
     assert!(rt; empty.is_empty());
-    let list = Listed::new(vec![in rt.alloc(); 3u16, 1, 2]?);
+    let list = ListVec::new(vec![in rt.alloc(); 3u16, 1, 2]?);
     assert!(rt; !list.is_empty());
     assert_eq!(rt; list.len(), 3);
     assert_eq!(rt; list.as_slice(), [3, 1, 2].as_slice());

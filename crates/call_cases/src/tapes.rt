@@ -5,7 +5,7 @@ ghost use Rattle.device_model.specs.Rules.{IsWindow};
 
 use device_model::image::Window;
 use device_model::tape::{Tape, TapeFault};
-use listed::Listed;
+use list_vec::ListVec;
 use names::is_name;
 use std::alloc::{AllocError, Global};
 use std::process::Abort;
@@ -18,7 +18,7 @@ pub(crate) fn adc(rt: &impl Abort, alloc: Global) -> Result<Window, AllocError>
     let name = Vec::from_slice(alloc, b"ADC")?;
     assert!(rt; is_name(&name));
     Ok(Window {
-        name: Listed::new(name),
+        name: ListVec::new(name),
         base: 0x4001_2000,
         size: 32,
     })

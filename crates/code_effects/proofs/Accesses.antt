@@ -10,10 +10,10 @@ use Rattle.mpu_model.specs.declared.region.Access.TheVariants.{Read, Write}
 use Rattle.device_model.specs.declared.image.Image.{Image}
 use Rattle.mem_bus.specs.Places.{InRam, InFlash, InWindow}
 use Rattle.armv7m.specs.declared.state.End.TheVariants.{InputEnd}
-use Rattle.armv7m.specs.State.{Judge}
+use Rattle.armv7m.specs.State.{PermissionTest}
 use Rattle.armv7m.specs.Code.{Stands, CodeAt, Steps}
 use Rattle.armv7m.specs.Events.{input_event, output_event, ended}
-use Rattle.armv7m.specs.Working.{works, IsLoad, IsStore}
+use Rattle.armv7m.specs.RunningCode.{works, IsLoad, IsStore}
 use Rattle.armv7m.proofs.Exec.{stay, next_step, next_event}
 use Rattle.armv7m.proofs.Transfers.{ldr_sp, str_sp, load_ram, load_flash, load_window, load_nothing, store_ram, store_window, loads_words, loads_halves, loads_bytes, stores_words, stores_halves, stores_bytes}
 use Rattle.ir_model.specs.Types.{PlainType, U8, U16, U32, Pointer, Array, Named, Callee, width_of}
@@ -52,7 +52,7 @@ store_form (Callee a r) = (0, refl, stores_words)
 pub accesses_have_widths : AccessesHaveWidths
 accesses_have_widths = record { loads = load_form; stores = store_form }
 
-module _ (j : Judge) (i : Image) (p : Point) (o n : ℕ) where
+module _ (j : PermissionTest) (i : Image) (p : Point) (o n : ℕ) where
   abbrev LoadCode : (at op to from : ℕ) → Type 0
   LoadCode at op to from = CodeAt j i p.context.protection at (load_slot 1 from ∷ TransferImmediate op 0 1 0 ∷ save to ∷ [])
 
@@ -154,7 +154,7 @@ module _ (j : Judge) (i : Image) (p : Point) (o n : ℕ) where
       (next_step (ldr_sp j i p.context (a ∷ b ∷ c ∷ rest) p.sp p.lr p.pc f p.ram p.queues 1 to o n room lt code.0)
       (next_step (ldr_sp j i p.context (a ∷ y ∷ c ∷ rest) p.sp p.lr (p.pc + 2) f p.ram p.queues 0 from o n room lf code.1.0) (stay j i))))
 
-module _ (j : Judge) (i : Image) (g : NumberedFunc) (q : Places) (labels : List (Option ℕ)) (site : Option ℕ) (p : Point) where
+module _ (j : PermissionTest) (i : Image) (g : NumberedFunc) (q : Places) (labels : List (Option ℕ)) (site : Option ℕ) (p : Point) where
   -- the code with the access as it is in the table
   loads_here : (at to from : ℕ) (t : PlainType) → HasInst j i g q labels p at site (Load to from t) → LoadCode j i p 0 0 at (load_form t).0 to from
   unfolding inst_items
@@ -180,7 +180,7 @@ module _ (j : Judge) (i : Image) (g : NumberedFunc) (q : Places) (labels : List 
       let st = subst (λ (a : ℕ). Stands j i p.context.protection a (save to)) z (loads_here at to from t code).1.1.0 in
       subst (λ (a : ℕ). Leads j i 1 (record p { registers = known (v ∷ []); pc = at + 4 }) (record p { registers = []; pc = a; ram = write 4 (o + 4 * to) v p.ram }) []) y (save_by j i p o n (at + 4) to v room lt st)
 
-pub load_effects : (j : Judge) (i : Image) (g : NumberedFunc) (q : Places) (labels : List (Option ℕ)) (site : Option ℕ) (p : Point) (o n : ℕ) → LoadEffects j i g q labels site p o n
+pub load_effects : (j : PermissionTest) (i : Image) (g : NumberedFunc) (q : Places) (labels : List (Option ℕ)) (site : Option ℕ) (p : Point) (o n : ℕ) → LoadEffects j i g q labels site p o n
 unfolding inst_size
 load_effects j i g q labels site p o n = record {
   ram = λ to from at t room lt lf code r. ram_load j i p o n (load_form t).0 (width_of t) to from at (load_form t).2 room lt lf (loads_here j i g q labels site p p.pc to from t code) r;
@@ -192,7 +192,7 @@ load_effects j i g q labels site p o n = record {
   after = after_load j i g q labels site p o n;
 }
 
-pub store_effects : (j : Judge) (i : Image) (g : NumberedFunc) (q : Places) (labels : List (Option ℕ)) (site : Option ℕ) (p : Point) (o n : ℕ) → StoreEffects j i g q labels site p o n
+pub store_effects : (j : PermissionTest) (i : Image) (g : NumberedFunc) (q : Places) (labels : List (Option ℕ)) (site : Option ℕ) (p : Point) (o n : ℕ) → StoreEffects j i g q labels site p o n
 unfolding inst_size
 store_effects j i g q labels site p o n = record {
   ram = λ to from at t room lt lf code r. ram_store j i p o n (store_form t).0 (width_of t) to from at (store_form t).2 room lt lf (stores_here j i g q labels site p p.pc to from t code) r;

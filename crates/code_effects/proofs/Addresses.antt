@@ -5,10 +5,10 @@ use Rattle.words.specs.Arithmetic.{word, add, multiply}
 use Rattle.words.specs.Flags.{result_flags, add_flags}
 use Rattle.words.specs.Bytes.{write}
 use Rattle.device_model.specs.declared.image.Image.{Image}
-use Rattle.armv7m.specs.State.{Judge}
+use Rattle.armv7m.specs.State.{PermissionTest}
 use Rattle.armv7m.specs.Code.{CodeAt}
 use Rattle.armv7m.proofs.Exec.{stay, next_step, onward}
-use Rattle.armv7m.proofs.Templates.{operation_gives}
+use Rattle.armv7m.proofs.InstructionEffects.{operation_gives}
 use Rattle.armv7m.proofs.Transfers.{ldr_sp, str_sp, add_d_sp}
 use Rattle.armv7m.proofs.Constants.{word_into, adds}
 use Rattle.ir_model.specs.Layout.{Shape}
@@ -36,7 +36,7 @@ starts_are_words from [] l h = refl
 starts_are_words from (s ∷ ss) zero h = h
 starts_are_words from (s ∷ ss) (suc l) h = starts_are_words (from + local_size s) ss l (omega arith)
 
-module _ (j : Judge) (i : Image) (p : Point) (o n : ℕ) where
+module _ (j : PermissionTest) (i : Image) (p : Point) (o n : ℕ) where
   -- the address of a word of the frame
   local_by : (to k : ℕ) → HasFrame j i p o n → to < n → k ≤ n → CodeAt j i p.context.protection p.pc (slot_address 0 k ∷ save to ∷ []) →
       Leads j i 2 p (record p { registers = []; pc = p.pc + 4; ram = write 4 (o + 4 * to) (p.sp + 4 * k) p.ram }) []
@@ -49,7 +49,7 @@ module _ (j : Judge) (i : Image) (p : Point) (o n : ℕ) where
       (next_step (add_d_sp j i p.context (a ∷ b ∷ c ∷ rest) p.sp p.lr p.pc f p.ram p.queues 0 k fits code.0)
       (next_step (str_sp j i p.context (v ∷ b ∷ c ∷ rest) p.sp p.lr (p.pc + 2) f p.ram p.queues 0 to o n room lt code.1.0) (stay j i))))
 
-module _ (j : Judge) (i : Image) (g : NumberedFunc) (q : Places) (labels : List (Option ℕ)) (site : Option ℕ) (p : Point) (o n : ℕ) where
+module _ (j : PermissionTest) (i : Image) (g : NumberedFunc) (q : Places) (labels : List (Option ℕ)) (site : Option ℕ) (p : Point) (o n : ℕ) where
   pub addr : (to : ℕ) (of : Named) → HasFrame j i p o n → to < n → CanName g q n of → HasInst j i g q labels p p.pc site (Addr to of) →
       Leads j i (addr_steps of) p (behind o p site (Addr to of) to (named_address g q p.sp of)) []
   unfolding inst_items inst_size
@@ -97,7 +97,7 @@ module _ (j : Judge) (i : Image) (g : NumberedFunc) (q : Places) (labels : List 
       (next_step (adds j i p.context (y ∷ k ∷ c ∷ rest) p.sp p.lr (p.pc + 2 + 4 + 4) f p.ram p.queues 1 0 0 code.1.1.1.0)
       (next_step (str_sp j i p.context (add y k ∷ k ∷ c ∷ rest) p.sp p.lr (p.pc + 2 + 4 + 4 + 2) (add_flags y k 0) p.ram p.queues 0 to o n room lt code.1.1.1.1.0) (stay j i))))))
 
-pub address_effects : (j : Judge) (i : Image) (g : NumberedFunc) (q : Places) (labels : List (Option ℕ)) (site : Option ℕ) (p : Point) (o n : ℕ) → AddressEffects j i g q labels site p o n
+pub address_effects : (j : PermissionTest) (i : Image) (g : NumberedFunc) (q : Places) (labels : List (Option ℕ)) (site : Option ℕ) (p : Point) (o n : ℕ) → AddressEffects j i g q labels site p o n
 address_effects j i g q labels site p o n = record {
   addr = addr j i g q labels site p o n;
   faddr = faddr j i g q labels site p o n;

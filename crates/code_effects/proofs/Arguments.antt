@@ -3,11 +3,11 @@ use Rattle.std.proofs.Common.{◌≡◌, ℕ, zero, suc, ◌+◌, ◌*◌, ◌<�
 use Rattle.words.specs.declared.conditions.Flags.{Flags}
 use Rattle.words.specs.Bytes.{read}
 use Rattle.device_model.specs.declared.image.Image.{Image}
-use Rattle.armv7m.specs.State.{Judge}
+use Rattle.armv7m.specs.State.{PermissionTest}
 use Rattle.armv7m.specs.Code.{CodeAt, Runs}
 use Rattle.armv7m.specs.Running.{code_size}
 use Rattle.armv7m.specs.Stack.{Room}
-use Rattle.armv7m.specs.Working.{Context, works}
+use Rattle.armv7m.specs.RunningCode.{Context, works}
 use Rattle.armv7m.proofs.Exec.{stay, next_step}
 use Rattle.armv7m.proofs.Transfers.{ldr_sp}
 use Rattle.lower.specs.Calls.{args_code}
@@ -17,7 +17,7 @@ use Rattle.code_effects.specs.Calls.{AllBelow, slots}
 use Rattle.code_effects.proofs.Joined.{ends_at}
 use Rattle.code_effects.proofs.Registers.{holds_known}
 
-module _ (j : Judge) (i : Image) where
+module _ (j : PermissionTest) (i : Image) where
   pub record Args (x : Context) (low : List ℕ) (k o sp lr pc : ℕ) (f : Flags) (as_ : List ℕ) (ram : List ℕ) (queues : List (List ℕ)) : Type 0 where
     pub after : List ℕ
     pub eight : length after ≡ 8

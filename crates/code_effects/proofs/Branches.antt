@@ -7,9 +7,9 @@ use Rattle.words.proofs.Bytes.{read_fits}
 use Rattle.thumb_asm.specs.Assembly.{place_of}
 use Rattle.thumb_asm.specs.Finished.{distance}
 use Rattle.device_model.specs.declared.image.Image.{Image}
-use Rattle.armv7m.specs.State.{Judge}
+use Rattle.armv7m.specs.State.{PermissionTest}
 use Rattle.armv7m.proofs.Exec.{stay, next_step}
-use Rattle.armv7m.proofs.Templates.{cmp_immediate, b_taken, b_not_taken, b_wide}
+use Rattle.armv7m.proofs.InstructionEffects.{cmp_immediate, b_taken, b_not_taken, b_wide}
 use Rattle.armv7m.proofs.Transfers.{ldr_sp}
 use Rattle.ir_model.specs.Resolved.{NumberedFunc, Jump, Branch}
 use Rattle.lower.specs.declared.places.Places.{Places}
@@ -22,7 +22,7 @@ use Rattle.code_effects.proofs.Distances.{skips, goes_to}
 use Rattle.code_effects.proofs.Joined.{landed, leads_by}
 use Rattle.code_effects.proofs.Registers.{holds_nothing}
 
-module _ (j : Judge) (i : Image) (g : NumberedFunc) (q : Places) (labels : List (Option ℕ)) (first : ℕ) (p : Point) (o n : ℕ) where
+module _ (j : PermissionTest) (i : Image) (g : NumberedFunc) (q : Places) (labels : List (Option ℕ)) (first : ℕ) (p : Point) (o n : ℕ) where
   pub jump : (b : ℕ) → p.pc < 2 ^ 30 → place_of labels (first + b) < 2 ^ 30 → HasTerm j i g q labels first p p.pc (Jump b) → Leads j i 1 p (at_block labels first p b) []
   unfolding term_items
   jump b0 low there code =
@@ -55,7 +55,7 @@ module _ (j : Judge) (i : Image) (g : NumberedFunc) (q : Places) (labels : List 
       (next_step (b_not_taken j i p.context (v ∷ b ∷ c ∷ rest) p.sp p.lr (p.pc + 2 + 2) g0 p.ram p.queues 0 (pos 2) t code.1.1.0)
       (next_step (b_wide j i p.context (v ∷ b ∷ c ∷ rest) p.sp p.lr (p.pc + 2 + 2 + 2) g0 p.ram p.queues to (distance (p.pc + 2 + 2 + 2) to) (goes_to (p.pc + 2 + 2 + 2) to (omega arith) (omega arith)) code.1.1.1.0) (stay j i))))))
 
-pub branch_effects : Conditions → (j : Judge) (i : Image) (g : NumberedFunc) (q : Places) (labels : List (Option ℕ)) (first : ℕ) (p : Point) (o n : ℕ) → BranchEffects j i g q labels first p o n
+pub branch_effects : Conditions → (j : PermissionTest) (i : Image) (g : NumberedFunc) (q : Places) (labels : List (Option ℕ)) (first : ℕ) (p : Point) (o n : ℕ) → BranchEffects j i g q labels first p o n
 branch_effects cs j i g q labels first p o n = record {
   jump = jump j i g q labels first p o n;
   branch = λ on a b room lt low la lb code. branch_by j i g q labels first p o n (nat_eq (slot o p on) 0) on a b (cs.equal (slot o p on) 0 (read_fits 4 (o + 4 * on) p.ram) (omega arith)) room lt low la lb code;

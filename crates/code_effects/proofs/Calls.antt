@@ -7,13 +7,13 @@ use Rattle.thumb_asm.specs.declared.item.Item.TheVariants.{Half}
 use Rattle.thumb_asm.specs.Assembly.{total}
 use Rattle.thumb_asm.specs.Finished.{distance}
 use Rattle.device_model.specs.declared.image.Image.{Image}
-use Rattle.armv7m.specs.State.{Judge}
+use Rattle.armv7m.specs.State.{PermissionTest}
 use Rattle.armv7m.specs.Code.{HoldsHalf, Stands, CodeAt}
 use Rattle.armv7m.specs.Running.{code_size}
-use Rattle.armv7m.specs.Working.{Context}
+use Rattle.armv7m.specs.RunningCode.{Context}
 use Rattle.armv7m.proofs.Exec.{stay, next_step, onward}
 use Rattle.armv7m.proofs.CodeParts.{code_size-append, code_at-append}
-use Rattle.armv7m.proofs.Templates.{bl, mov_to_r12}
+use Rattle.armv7m.proofs.InstructionEffects.{bl, mov_to_r12}
 use Rattle.armv7m.proofs.Transfers.{ldr_sp, blx_r12}
 use Rattle.armv7m.proofs.Constants.{word_into_r12}
 use Rattle.ir_model.specs.Resolved.{NumberedFunc, Call, ICall}
@@ -34,7 +34,7 @@ use Rattle.code_effects.proofs.Arguments.{args, args_size, holds_slots}
 use Rattle.code_effects.proofs.Joined.{arrives_at, counted, landed, leads_by}
 use Rattle.code_effects.proofs.Registers.{holds_nothing}
 
-module _ (j : Judge) (i : Image) (p : Point) (o n : ℕ) where
+module _ (j : PermissionTest) (i : Image) (p : Point) (o n : ℕ) where
   -- BL behind the arguments
   call_by : (to : ℕ) (offset : ℤ) (as_ : List ℕ) → HasFrame j i p o n → AllBelow n as_ → length as_ ≤ 4 → moved (p.pc + code_size (args_code 0 as_) + 4) offset ≡ to →
       CodeAt j i p.context.protection p.pc (call_code as_ offset) →
@@ -128,7 +128,7 @@ icross_code_size h as_ = omega (arith, code_size-append (args_code 0 as_) (super
 
 -- ---- the templates
 
-module _ (j : Judge) (i : Image) (g : NumberedFunc) (q : Places) (labels : List (Option ℕ)) (p : Point) (o n : ℕ) where
+module _ (j : PermissionTest) (i : Image) (g : NumberedFunc) (q : Places) (labels : List (Option ℕ)) (p : Point) (o n : ℕ) where
   the_call : (to : Option ℕ) (f : ℕ) (args : List ℕ) → HasFrame j i p o n → AllBelow n args → length args ≤ 4 → p.pc < 2 ^ 30 → entry_address q f < 2 ^ 30 → HasInst j i g q labels p p.pc None (Call to f args) →
       Leads j i (length args + 1) p (record p { registers = known (slots o p args); lr = p.pc + call_size false args + 1; pc = entry_address q f }) []
   unfolding inst_items
@@ -211,10 +211,10 @@ module _ (j : Judge) (i : Image) (g : NumberedFunc) (q : Places) (labels : List 
       kept_at j i p o n labels (at + code_size (icross_code h as_) + 2) (at + icall_size true as_) (at + (icall_size true as_ + save_size to)) to v (omega arith) (omega arith) room below
       (code_first j i p.context.protection labels (icross_code h as_) (Half s ∷ plain (save_code to)) at code).1.1
 
-pub call_effects : (j : Judge) (i : Image) (g : NumberedFunc) (q : Places) (labels : List (Option ℕ)) (p : Point) (o n : ℕ) → CallEffects j i g q labels p o n
+pub call_effects : (j : PermissionTest) (i : Image) (g : NumberedFunc) (q : Places) (labels : List (Option ℕ)) (p : Point) (o n : ℕ) → CallEffects j i g q labels p o n
 call_effects j i g q labels p o n = record { call = the_call j i g q labels p o n; icall = the_icall j i g q labels p o n }
 
-pub crossing_effects : (j : Judge) (i : Image) (g : NumberedFunc) (q : Places) (labels : List (Option ℕ)) (p : Point) (o n : ℕ) → CrossingEffects j i g q labels p o n
+pub crossing_effects : (j : PermissionTest) (i : Image) (g : NumberedFunc) (q : Places) (labels : List (Option ℕ)) (p : Point) (o n : ℕ) → CrossingEffects j i g q labels p o n
 crossing_effects j i g q labels p o n = record {
   call = the_cross j i g q labels p o n;
   call_stands = cross_stands j i g q labels p o n;
@@ -222,5 +222,5 @@ crossing_effects j i g q labels p o n = record {
   icall_stands = icross_stands j i g q labels p o n;
 }
 
-pub returned_effects : (j : Judge) (i : Image) (g : NumberedFunc) (q : Places) (labels : List (Option ℕ)) (p : Point) (o n : ℕ) → ReturnedEffects j i g q labels p o n
+pub returned_effects : (j : PermissionTest) (i : Image) (g : NumberedFunc) (q : Places) (labels : List (Option ℕ)) (p : Point) (o n : ℕ) → ReturnedEffects j i g q labels p o n
 returned_effects j i g q labels p o n = record { call = call_returned j i g q labels p o n; icall = icall_returned j i g q labels p o n }

@@ -7,10 +7,10 @@ use Rattle.words.specs.Flags.{holds, compare_flags, result_flags}
 use Rattle.words.specs.Bytes.{write}
 use Rattle.words.proofs.Bytes.{read_fits}
 use Rattle.device_model.specs.declared.image.Image.{Image}
-use Rattle.armv7m.specs.State.{Judge}
+use Rattle.armv7m.specs.State.{PermissionTest}
 use Rattle.armv7m.specs.Code.{CodeAt}
 use Rattle.armv7m.proofs.Exec.{stay, next_step}
-use Rattle.armv7m.proofs.Templates.{cmp, movs, b_taken, b_not_taken, b}
+use Rattle.armv7m.proofs.InstructionEffects.{cmp, movs, b_taken, b_not_taken, b}
 use Rattle.armv7m.proofs.Transfers.{ldr_sp, str_sp}
 use Rattle.ir_model.specs.declared.firmware.CmpOp.{CmpOp}
 use Rattle.ir_model.specs.declared.firmware.CmpOp.TheVariants.{Eq, Ne, Ult, Ule, Slt, Sle}
@@ -46,7 +46,7 @@ condition_is c Ule x y h l = c.at_most x y h l
 condition_is c Slt x y h l = c.signed_below x y h l
 condition_is c Sle x y h l = c.signed_at_most x y h l
 
-module _ (j : Judge) (i : Image) (p : Point) (o n : ℕ) where
+module _ (j : PermissionTest) (i : Image) (p : Point) (o n : ℕ) where
   pub cmp_by : (t : Bool) (op : CmpOp) (to a b : ℕ) → holds (condition op) (compare_flags (slot o p a) (slot o p b)) ≡ t → HasFrame j i p o n → to < n → a < n → b < n → p.pc < 2 ^ 30 →
       CodeAt j i p.context.protection p.pc (cmp_code op to a b) → Leads j i (cmp_steps t) p (record p { registers = []; pc = p.pc + 16; ram = write 4 (o + 4 * to) (bit t) p.ram }) []
   cmp_by true op to a b0 t room lt la lb low code =
@@ -75,7 +75,7 @@ module _ (j : Judge) (i : Image) (p : Point) (o n : ℕ) where
       (next_step (b j i p.context (0 ∷ vb ∷ d2 ∷ rest) p.sp p.lr (p.pc + 2 + 2 + 2 + 2 + 2) (result_flags g 0) p.ram p.queues (p.pc + 2 + 2 + 2 + 2 + 2 + 2 + 2) (pos 0) (skips (p.pc + 2 + 2 + 2 + 2 + 2 + 4) 0 _ (omega arith) (omega arith) (omega arith)) code.1.1.1.1.1.0)
       (next_step (str_sp j i p.context (0 ∷ vb ∷ d2 ∷ rest) p.sp p.lr (p.pc + 2 + 2 + 2 + 2 + 2 + 2 + 2) (result_flags g 0) p.ram p.queues 0 to o n room lt code.1.1.1.1.1.1.1.0) (stay j i)))))))))
 
-pub comparison_effects : Conditions → (j : Judge) (i : Image) (g : NumberedFunc) (q : Places) (labels : List (Option ℕ)) (site : Option ℕ) (p : Point) (o n : ℕ) → ComparisonEffects j i g q labels site p o n
+pub comparison_effects : Conditions → (j : PermissionTest) (i : Image) (g : NumberedFunc) (q : Places) (labels : List (Option ℕ)) (site : Option ℕ) (p : Point) (o n : ℕ) → ComparisonEffects j i g q labels site p o n
 unfolding inst_items inst_size
 comparison_effects cs j i g q labels site p o n op to a b room lt la lb low code =
     cmp_by j i p o n (compared op (slot o p a) (slot o p b)) op to a b (condition_is cs op (slot o p a) (slot o p b) (read_fits 4 (o + 4 * a) p.ram) (read_fits 4 (o + 4 * b) p.ram)) room lt la lb low

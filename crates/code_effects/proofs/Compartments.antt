@@ -10,7 +10,7 @@ use Rattle.thumb_asm.specs.declared.item.Item.{Item}
 use Rattle.thumb_asm.specs.Assembly.{total, put_at}
 use Rattle.device_model.specs.declared.image.Image.{Image}
 use Rattle.armv7m.specs.declared.state.ProtectionState.{ProtectionState}
-use Rattle.armv7m.specs.State.{Judge}
+use Rattle.armv7m.specs.State.{PermissionTest}
 use Rattle.ir_model.specs.Resolved.{Program, NumberedBlock, NumberedFunc, func_at}
 use Rattle.lower.specs.declared.places.Places.{Places}
 use Rattle.lower.specs.Sizes.{block_size, entry_size, place_offset}
@@ -75,7 +75,7 @@ module _ (hold : SizesHold) (even : SizesAreEven) (p : Program) (groups : CodeGr
 
   -- ---- what stands at an entry, and where labels lead
 
-  function_at : (j : Judge) (i : Image) (x : ProtectionState) (labels : List (Option ℕ)) (f base : ℕ) (all first : List ℕ) → Split all first f → base + total_size p groups first ≡ entry_of p groups places f →
+  function_at : (j : PermissionTest) (i : Image) (x : ProtectionState) (labels : List (Option ℕ)) (f base : ℕ) (all first : List ℕ) → Split all first f → base + total_size p groups first ≡ entry_of p groups places f →
       ItemsAt j i x labels base (flat_map (filled_items p groups places) all) →
       ItemsAt j i x labels (entry_of p groups places f) (function_items (func_at p f) (places_of p groups places f) (label_count p groups (before p groups f)) (entry_of p groups places f))
   function_at j i x labels f base all first s e h =

@@ -10,14 +10,14 @@ use Rattle.thumb_model.specs.declared.table.Instr.{Instr}
 use Rattle.thumb_model.specs.declared.table.Instr.TheVariants.{PushPop}
 use Rattle.device_model.specs.declared.image.Image.{Image}
 use Rattle.armv7m.specs.declared.state.ProtectionState.{ProtectionState}
-use Rattle.armv7m.specs.State.{State, Judge}
+use Rattle.armv7m.specs.State.{State, PermissionTest}
 use Rattle.armv7m.specs.Code.{Stands, CodeAt, Steps, Runs}
 use Rattle.armv7m.specs.Running.{code_size}
 use Rattle.armv7m.specs.Stack.{Room}
-use Rattle.armv7m.specs.Working.{Context, works}
+use Rattle.armv7m.specs.RunningCode.{Context, works}
 use Rattle.armv7m.proofs.Exec.{stay, next_step, onward}
 use Rattle.armv7m.proofs.CodeParts.{code_size-append, code_at-append}
-use Rattle.armv7m.proofs.Templates.{movs}
+use Rattle.armv7m.proofs.InstructionEffects.{movs}
 use Rattle.armv7m.proofs.Transfers.{str_sp, add_d_sp, sub_sp, push_lr}
 use Rattle.ir_model.specs.Resolved.{NumberedFunc}
 use Rattle.ir_model.specs.Signatures.{row_length}
@@ -141,7 +141,7 @@ lend_size (d ∷ ds) = omega (arith, lend_size ds)
 -- ---- stores into the frame
 
 -- the last of n + 1 words
-pub last_room : (j : Judge) (i : Image) (p : ProtectionState) (sp at o n : ℕ) → Room j i p sp o (n + 1) → sp + 4 * n ≡ at → Room j i p at (o + 4 * n) 1
+pub last_room : (j : PermissionTest) (i : Image) (p : ProtectionState) (sp at o n : ℕ) → Room j i p sp o (n + 1) → sp + 4 * n ≡ at → Room j i p at (o + 4 * n) 1
 last_room j i p sp at o n r e =
     let w = r.words in
     record {
@@ -150,7 +150,7 @@ last_room j i p sp at o n r e =
       writes = λ k lt. let z : at + 4 * k ≡ sp + 4 * n = omega arith in rw z (r.writes n (omega arith));
     }
 
-module _ (j : Judge) (i : Image) (x : Context) where
+module _ (j : PermissionTest) (i : Image) (x : Context) where
   puts : (low : List ℕ) (sp lr : ℕ) (f : Flags) (queues : List (List ℕ)) (o most : ℕ) (t value : ℕ → ℕ) (n k pc : ℕ) (ram : List ℕ) → Room j i x.protection sp o most → k + n ≤ most →
       ((m : ℕ) → m < k + n → get_or low (t m) 0 ≡ value m) → CodeAt j i x.protection pc (stores_code t n k) →
       Runs j i n (works x low sp lr pc f ram queues) (works x low sp lr (pc + code_size (stores_code t n k)) f (stored o value n k ram) queues) []
@@ -187,7 +187,7 @@ steps_are false n w h = omega arith
 
 -- ---- the frame
 
-module _ (j : Judge) (i : Image) (p : Point) (o to : ℕ) where
+module _ (j : PermissionTest) (i : Image) (p : Point) (o to : ℕ) where
   made : (b : Bool) (w : ℕ) (vs low : List ℕ) (f : Flags) → nat_le w 127 ≡ b → Holds (known vs) low → length vs ≤ w → to + 4 * (w + 1) ≡ p.sp → Room j i p.context.protection to o (w + 1) →
       CodeAt j i p.context.protection p.pc (frame_by b (length vs) w) →
       Runs j i (suc ((if b then 1 else 2) + (length vs + suc (w - length vs)))) (works p.context low p.sp p.lr p.pc f p.ram p.queues)
@@ -218,7 +218,7 @@ module _ (j : Judge) (i : Image) (p : Point) (o to : ℕ) where
 
 -- ---- the template
 
-module _ (j : Judge) (i : Image) (g : NumberedFunc) (q : Places) (labels : List (Option ℕ)) (p : Point) (o to : ℕ) where
+module _ (j : PermissionTest) (i : Image) (g : NumberedFunc) (q : Places) (labels : List (Option ℕ)) (p : Point) (o to : ℕ) where
   entry_code_at : (at : ℕ) → HasEntry j i g q labels p at →
       CodeAt j i p.context.protection at (frame_code (row_length g.params) (frame_shape g).words)
       × CodeAt j i p.context.protection (at + code_size (frame_code (row_length g.params) (frame_shape g).words)) (lend_code (lends_of g q))
@@ -304,7 +304,7 @@ module _ (j : Judge) (i : Image) (g : NumberedFunc) (q : Places) (labels : List 
   lend_behind : (at k : ℕ) → at + entry_size g k + 4 + 2 ≡ at + entry_size g (suc k)
   lend_behind at k = omega (arith, entry_goes_on k, entry_goes_on (suc k))
 
-pub entry_effects : (j : Judge) (i : Image) (g : NumberedFunc) (q : Places) (labels : List (Option ℕ)) (p : Point) (o to : ℕ) → EntryEffects j i g q labels p o to
+pub entry_effects : (j : PermissionTest) (i : Image) (g : NumberedFunc) (q : Places) (labels : List (Option ℕ)) (p : Point) (o to : ℕ) → EntryEffects j i g q labels p o to
 entry_effects j i g q labels p o to = record {
   frame = the_frame j i g q labels p o to;
   lend = λ at k l fits code. lend_by j i g q labels p o to (at + entry_size g k) (get_or (lends_of g q) k no_lend).slot (get_or (lends_of g q) k no_lend).number fits (this_lend j i g q labels p o to at k l code);

@@ -4,7 +4,7 @@ use Rattle.device_model.specs.declared.image.Image.{Image}
 use Rattle.thumb_asm.specs.declared.item.Item.{Item}
 use Rattle.thumb_asm.specs.Assembly.{total}
 use Rattle.armv7m.specs.declared.state.ProtectionState.{ProtectionState}
-use Rattle.armv7m.specs.State.{Judge}
+use Rattle.armv7m.specs.State.{PermissionTest}
 use Rattle.ir_model.specs.Resolved.{NumberedInst, NumberedTerm, NumberedBlock, NumberedFunc, Here, Does, Ends, here_in, no_block}
 use Rattle.lower.specs.declared.places.Places.{Places}
 use Rattle.lower.specs.declared.places.CallSite.{CallSite}
@@ -19,14 +19,14 @@ use Rattle.code_effects.specs.Functions.{PlacesStand, FunctionsStand}
 use Rattle.code_effects.proofs.Items.{parts_at, items_at}
 
 -- a piece among others
-piece_at : (j : Judge) (i : Image) (p : ProtectionState) (labels : List (Option ℕ)) (at offset : ℕ) (whole piece : List Item) → StandsAt whole offset piece → ItemsAt j i p labels at whole → ItemsAt j i p labels (at + offset) piece
+piece_at : (j : PermissionTest) (i : Image) (p : ProtectionState) (labels : List (Option ℕ)) (at offset : ℕ) (whole piece : List Item) → StandsAt whole offset piece → ItemsAt j i p labels at whole → ItemsAt j i p labels (at + offset) piece
 piece_at j i p labels at offset whole piece s h =
     let c = subst (λ (xs : List Item). ItemsAt j i p labels at xs) s.parts h in
     let d = parts_at j i p labels s.front (piece ++ s.rest) at c in
     let e = parts_at j i p labels piece s.rest (at + total s.front) d.1 in
     items_at j i p labels piece (at + total s.front) (at + offset) (ap (λ (n : ℕ). at + n) s.behind) e.0
 
-pub stand : (j : Judge) (i : Image) (p : ProtectionState) (g : NumberedFunc) (q : Places) (labels : List (Option ℕ)) (first at : ℕ) → ItemsAt j i p labels at (function_items g q first at) → PlacesStand j i p g q labels first at
+pub stand : (j : PermissionTest) (i : Image) (p : ProtectionState) (g : NumberedFunc) (q : Places) (labels : List (Option ℕ)) (first at : ℕ) → ItemsAt j i p labels at (function_items g q first at) → PlacesStand j i p g q labels first at
 stand j i p g q labels first at h = record {
   entry = items_at j i p labels (entry_items g q) (at + 0) at (omega arith) (piece_at j i p labels at 0 (function_items g q first at) (entry_items g q) (pieces_stand.entries g q first at) h);
   places = λ b k lb lk. piece_at j i p labels at (place_offset g q.sites (lent g q) b k) (function_items g q first at) _ (pieces_stand.places g q first at b k lb lk) h;

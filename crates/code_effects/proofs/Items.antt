@@ -10,7 +10,7 @@ use Rattle.thumb_asm.specs.Finished.{branch}
 use Rattle.mpu_model.specs.declared.region.Access.TheVariants.{Fetch}
 use Rattle.device_model.specs.declared.image.Image.{Image}
 use Rattle.armv7m.specs.declared.state.ProtectionState.{ProtectionState}
-use Rattle.armv7m.specs.State.{Judge}
+use Rattle.armv7m.specs.State.{PermissionTest}
 use Rattle.armv7m.specs.Code.{size, Lies, Stands, CodeAt}
 use Rattle.armv7m.specs.Running.{code_size}
 use Rattle.armv7m.proofs.Exec.{code_may_run}
@@ -55,7 +55,7 @@ module _ (i : Image) (labels : List (Option ℕ)) where
       let r = parts_in xs ys (at + 4) h.2 in
       ((h.0, h.1, r.0), in_at ys (at + 4 + total xs) _ (omega arith) r.1)
 
-module _ (j : Judge) (i : Image) (p : ProtectionState) (labels : List (Option ℕ)) where
+module _ (j : PermissionTest) (i : Image) (p : ProtectionState) (labels : List (Option ℕ)) where
   pub items_at : (xs : List Item) (a b : ℕ) → a ≡ b → ItemsAt j i p labels a xs → ItemsAt j i p labels b xs
   items_at xs a b e h = subst (λ (n : ℕ). ItemsAt j i p labels n xs) e h
 

@@ -4,14 +4,14 @@ use Rattle.words.specs.declared.conditions.Flags.{Flags}
 use Rattle.device_model.specs.declared.image.Image.{Image}
 use Rattle.events.specs.declared.event.Event.{Event}
 use Rattle.armv7m.specs.declared.state.End.{End}
-use Rattle.armv7m.specs.State.{State, Judge}
+use Rattle.armv7m.specs.State.{State, PermissionTest}
 use Rattle.armv7m.specs.Code.{Runs}
-use Rattle.armv7m.specs.Working.{Context, works}
+use Rattle.armv7m.specs.RunningCode.{Context, works}
 use Rattle.armv7m.proofs.Exec.{onward}
 use Rattle.code_effects.specs.Points.{Point, Holds, state_at, Arrives, Leads, Reaches, Finishes, RunsJoin}
 use Rattle.code_effects.proofs.Registers.{holds_nothing}
 
-module _ (j : Judge) (i : Image) where
+module _ (j : PermissionTest) (i : Image) where
   -- a run whose end is written in another way
   pub ends_at : (k : ℕ) (s : State) (x : Context) (low : List ℕ) (sp lr pc to : ℕ) (f : Flags) (ram : List ℕ) (queues : List (List ℕ)) (es : List Event) → pc ≡ to →
       Runs j i k s (works x low sp lr pc f ram queues) es → Runs j i k s (works x low sp lr to f ram queues) es
@@ -57,20 +57,20 @@ module _ (j : Judge) (i : Image) where
       by g (a ∷ b ∷ []) f h = absurd (omega arith)
       by g (a ∷ b ∷ c ∷ rest) f h = g a b c rest f (omega arith)
 
-arrives_behind : (j : Judge) (i : Image) (m n : ℕ) (s : State) (q r : Point) (xs ys : List Event) → Arrives j i m s q xs → Leads j i n q r ys → Arrives j i (m + n) s r (xs ++ ys)
+arrives_behind : (j : PermissionTest) (i : Image) (m n : ℕ) (s : State) (q r : Point) (xs ys : List Event) → Arrives j i m s q xs → Leads j i n q r ys → Arrives j i (m + n) s r (xs ++ ys)
 arrives_behind j i m n s q r xs ys a l =
     let b = l.arrives a.low a.flags a.holds in
     record { low = b.low; flags = b.flags; holds = b.holds; runs = onward j i a.runs b.runs }
 
-reaches_behind : (j : Judge) (i : Image) (m n : ℕ) (s : State) (q : Point) (e : End) (xs ys : List Event) → Arrives j i m s q xs → Finishes j i n q e ys → Reaches j i (m + n) s e (xs ++ ys)
+reaches_behind : (j : PermissionTest) (i : Image) (m n : ℕ) (s : State) (q : Point) (e : End) (xs ys : List Event) → Arrives j i m s q xs → Finishes j i n q e ys → Reaches j i (m + n) s e (xs ++ ys)
 reaches_behind j i m n s q e xs ys a l =
     let b = l.reaches a.low a.flags a.holds in
     record { last = b.last; over = b.over; runs = onward j i a.runs b.runs }
 
-pub join : (j : Judge) (i : Image) (m n : ℕ) (p q r : Point) (xs ys : List Event) → Leads j i m p q xs → Leads j i n q r ys → Leads j i (m + n) p r (xs ++ ys)
+pub join : (j : PermissionTest) (i : Image) (m n : ℕ) (p q r : Point) (xs ys : List Event) → Leads j i m p q xs → Leads j i n q r ys → Leads j i (m + n) p r (xs ++ ys)
 join j i m n p q r xs ys a b = record { arrives = λ low f h. arrives_behind j i m n (state_at p low f) q r xs ys (a.arrives low f h) b }
 
-forgets : (j : Judge) (i : Image) (n : ℕ) (s : State) (q : Point) (es : List Event) → Arrives j i n s q es → Arrives j i n s (record q { registers = [] }) es
+forgets : (j : PermissionTest) (i : Image) (n : ℕ) (s : State) (q : Point) (es : List Event) → Arrives j i n s q es → Arrives j i n s (record q { registers = [] }) es
 forgets j i n s q es a = record { low = a.low; flags = a.flags; holds = holds_nothing a.low a.holds.eight; runs = a.runs }
 
 pub runs_join : RunsJoin

@@ -2,7 +2,7 @@
 use Rattle.std.proofs.Common.{◌≡◌, ℕ, ◌+◌, ◌*◌, ◌^◌, ◌<◌, [], ◌∷◌, ◌++◌, refl, sym, subst, arith}
 use Rattle.words.specs.Bytes.{write}
 use Rattle.device_model.specs.declared.image.Image.{Image}
-use Rattle.armv7m.specs.State.{Judge}
+use Rattle.armv7m.specs.State.{PermissionTest}
 use Rattle.armv7m.specs.Code.{Stands, CodeAt}
 use Rattle.armv7m.proofs.Exec.{stay, next_step, onward}
 use Rattle.armv7m.proofs.Transfers.{str_sp}
@@ -13,7 +13,7 @@ use Rattle.code_effects.specs.Frames.{HasFrame}
 use Rattle.code_effects.proofs.Joined.{landed, leads_by, leads_from}
 use Rattle.code_effects.proofs.Registers.{holds_nothing}
 
-module _ (j : Judge) (i : Image) (p : Point) (o n : ℕ) where
+module _ (j : PermissionTest) (i : Image) (p : Point) (o n : ℕ) where
   -- a number by MOVW and MOVT
   pub number_by : (to v : ℕ) → HasFrame j i p o n → to < n → v < 2 ^ 32 → CodeAt j i p.context.protection p.pc (word_code 0 v ++ save to ∷ []) →
       Leads j i 3 p (record p { registers = []; pc = p.pc + 10; ram = write 4 (o + 4 * to) v p.ram }) []

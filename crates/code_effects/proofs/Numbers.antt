@@ -9,13 +9,13 @@ use Rattle.words.proofs.Bytes.{read_fits}
 use Rattle.thumb_model.specs.declared.table.Instr.{Instr}
 use Rattle.thumb_model.specs.declared.table.Instr.TheVariants.{AddSubRegister, DataRegister, Divide}
 use Rattle.device_model.specs.declared.image.Image.{Image}
-use Rattle.armv7m.specs.State.{Judge}
+use Rattle.armv7m.specs.State.{PermissionTest}
 use Rattle.armv7m.specs.declared.data.Outcome.TheVariants.{Gives}
 use Rattle.armv7m.specs.DataOperations.{operation as operated}
 use Rattle.armv7m.specs.Code.{size, Stands, CodeAt, Steps}
-use Rattle.armv7m.specs.Working.{works}
+use Rattle.armv7m.specs.RunningCode.{works}
 use Rattle.armv7m.proofs.Exec.{stay, next_step}
-use Rattle.armv7m.proofs.Templates.{operation_gives, udiv, sdiv}
+use Rattle.armv7m.proofs.InstructionEffects.{operation_gives, udiv, sdiv}
 use Rattle.armv7m.proofs.Transfers.{ldr_sp, str_sp}
 use Rattle.armv7m.proofs.Constants.{adds, subs}
 use Rattle.ir_model.specs.declared.firmware.BinOp.{BinOp}
@@ -33,7 +33,7 @@ use Rattle.code_effects.proofs.Moves.{number_by}
 use Rattle.code_effects.proofs.Joined.{landed, leads_by}
 use Rattle.code_effects.proofs.Registers.{holds_nothing}
 
-module _ (j : Judge) (i : Image) (g : NumberedFunc) (q : Places) (labels : List (Option ℕ)) (site : Option ℕ) (p : Point) (o n : ℕ) where
+module _ (j : PermissionTest) (i : Image) (g : NumberedFunc) (q : Places) (labels : List (Option ℕ)) (site : Option ℕ) (p : Point) (o n : ℕ) where
   pub const : (to v : ℕ) → HasFrame j i p o n → to < n → v < 2 ^ 32 → HasInst j i g q labels p p.pc site (Const to v) → Leads j i 3 p (behind o p site (Const to v) to v) []
   unfolding inst_items inst_size
   const to v room lt fits code = number_by j i p o n to v room lt fits code
@@ -130,7 +130,7 @@ module _ (j : Judge) (i : Image) (g : NumberedFunc) (q : Places) (labels : List 
   bin Sar to a b room lt la lb code = let v : ℕ = shift_right_signed (slot o p a) (slot o p b) in
       one (DataRegister 4 1 0) to a b v 8 room lt la lb refl (data_gives 4 (slot o p a) (slot o p b) v (λ f. record (result_flags f v) { carry = shifted_right_signed_carry (slot o p a) (slot o p b) f.carry }) (λ f. refl)) code
 
-pub number_effects : (j : Judge) (i : Image) (g : NumberedFunc) (q : Places) (labels : List (Option ℕ)) (site : Option ℕ) (p : Point) (o n : ℕ) → NumberEffects j i g q labels site p o n
+pub number_effects : (j : PermissionTest) (i : Image) (g : NumberedFunc) (q : Places) (labels : List (Option ℕ)) (site : Option ℕ) (p : Point) (o n : ℕ) → NumberEffects j i g q labels site p o n
 number_effects j i g q labels site p o n = record {
   const = const j i g q labels site p o n;
   move = move j i g q labels site p o n;

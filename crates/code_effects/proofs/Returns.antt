@@ -4,7 +4,7 @@ use Rattle.std.proofs.lemmas.Bool.{cases_lt}
 use Rattle.std.proofs.lemmas.Bool.Decides.{nat_tests}
 use Rattle.thumb_model.specs.declared.table.Instr.TheVariants.{PushPop}
 use Rattle.device_model.specs.declared.image.Image.{Image}
-use Rattle.armv7m.specs.State.{Judge}
+use Rattle.armv7m.specs.State.{PermissionTest}
 use Rattle.armv7m.specs.Code.{Stands, CodeAt}
 use Rattle.armv7m.specs.Running.{code_size}
 use Rattle.armv7m.proofs.Exec.{stay, next_step}
@@ -31,7 +31,7 @@ unlend_size : (ds : List Lend) → code_size (unlend_code ds) ≡ 2 * length ds
 unlend_size [] = refl
 unlend_size (d ∷ ds) = omega (arith, unlend_size ds, code_size-append (unlend_code ds) (supervisor_call 3 ∷ []))
 
-module _ (j : Judge) (i : Image) (p : Point) where
+module _ (j : PermissionTest) (i : Image) (p : Point) where
   unlend_at : (ds : List Lend) (k at : ℕ) → k < length ds → CodeAt j i p.context.protection at (unlend_code ds) → Stands j i p.context.protection (at + 2 * k) (supervisor_call 3)
   unlend_at [] k at l code = absurd (omega arith)
   unlend_at (d ∷ ds) k at l code =
@@ -44,7 +44,7 @@ module _ (j : Judge) (i : Image) (p : Point) where
             subst (λ (a : ℕ). Stands j i p.context.protection a (supervisor_call 3)) z c.1.0
       ]
 
-module _ (j : Judge) (i : Image) (p : Point) (o w : ℕ) where
+module _ (j : PermissionTest) (i : Image) (p : Point) (o w : ℕ) where
   -- the result into r0
   result_by : (at : ℕ) (r : Option ℕ) → HasFrame j i p o (w + 1) → IsBelow (w + 1) r → CodeAt j i p.context.protection at (result_code r) →
       Leads j i (keep_steps r) (record p { pc = at }) (record p { registers = result_known o p r; pc = at + code_size (result_code r) }) []
@@ -83,7 +83,7 @@ module _ (j : Judge) (i : Image) (p : Point) (o w : ℕ) where
             (next_step (pop_pc j i p.context low (p.sp + 4 * 127 + 4 * (w - 127)) p.lr (at + 2 + 2) f p.ram p.queues (o + 4 * w) to last is even code.1.1.0) (stay j i))));
       }
 
-module _ (j : Judge) (i : Image) (g : NumberedFunc) (q : Places) (labels : List (Option ℕ)) (first : ℕ) (p : Point) (o at : ℕ) where
+module _ (j : PermissionTest) (i : Image) (g : NumberedFunc) (q : Places) (labels : List (Option ℕ)) (first : ℕ) (p : Point) (o at : ℕ) where
   unlend_here : (r : Option ℕ) (k : ℕ) → k < lent g q → HasTerm j i g q labels first p at (Ret r) → Stands j i p.context.protection (at + 2 * k) (supervisor_call 3)
   unfolding term_items
   unlend_here r k l code =
@@ -111,5 +111,5 @@ module _ (j : Judge) (i : Image) (g : NumberedFunc) (q : Places) (labels : List 
       (record p { registers = result_known o p r; sp = p.sp + 4 * (w + 1); pc = to }) [] []
       (result_by j i p o w from r room below e.0) (pop_by j i p o w (nat_le w 127) (result_known o p r) (from + code_size (result_code r)) to refl room is even e.1)
 
-pub return_effects : (j : Judge) (i : Image) (g : NumberedFunc) (q : Places) (labels : List (Option ℕ)) (first : ℕ) (p : Point) (o at : ℕ) → ReturnEffects j i g q labels first p o at
+pub return_effects : (j : PermissionTest) (i : Image) (g : NumberedFunc) (q : Places) (labels : List (Option ℕ)) (first : ℕ) (p : Point) (o at : ℕ) → ReturnEffects j i g q labels first p o at
 return_effects j i g q labels first p o at = record { unlend_stands = unlend_here j i g q labels first p o at; leave = leave_here j i g q labels first p o at }

@@ -2,7 +2,7 @@
 use Rattle.std.proofs.Common.{Bool, true, false, ◌≡◌, ℕ, ◌+◌, ◌*◌, ◌^◌, ◌<◌, ◌≤◌, List, [], Option, refl, ap, ◌∙◌, subst, arith, rules}
 use Rattle.words.specs.Arithmetic.{word}
 use Rattle.device_model.specs.declared.image.Image.{Image}
-use Rattle.armv7m.specs.State.{Judge}
+use Rattle.armv7m.specs.State.{PermissionTest}
 use Rattle.ir_model.specs.declared.firmware.BinOp.{BinOp}
 use Rattle.ir_model.specs.declared.firmware.BinOp.TheVariants.{Urem, Srem}
 use Rattle.ir_model.specs.Resolved.{Value, Number, Code, Null, At, Instance, TheGlobal, ThePeriph, TheLocal, NumberedFunc, NumberedInst, Const, Move, Bin, Cmp, Addr, FAddr, Elem, Field, Load, Store, Call, ICall}
@@ -43,7 +43,7 @@ cmp_few : (b : Bool) → (1 ≤ cmp_steps b) × (cmp_steps b ≤ 7)
 cmp_few true = (omega arith, omega arith)
 cmp_few false = (omega arith, omega arith)
 
-module _ (cs : Conditions) (j : Judge) (i : Image) (g : NumberedFunc) (q : Places) (labels : List (Option ℕ)) (site : Option ℕ) (p : Point) (o n : ℕ) (address : Instance → ℕ) (fr : Frame) (r : ℕ) where
+module _ (cs : Conditions) (j : PermissionTest) (i : Image) (g : NumberedFunc) (q : Places) (labels : List (Option ℕ)) (site : Option ℕ) (p : Point) (o n : ℕ) (address : Instance → ℕ) (fr : Frame) (r : ℕ) where
   abbrev Sets1 : NumberedInst → (to v : ℕ) → Type 0
   Sets1 y to v = SetsWord j i g q labels site p o n y to v
 
@@ -135,5 +135,5 @@ module _ (cs : Conditions) (j : Judge) (i : Image) (g : NumberedFunc) (q : Place
   source_by (Call t f args) to v e ok sh le room low code = absurd ok
   source_by (ICall t f args) to v e ok sh le room low code = absurd ok
 
-pub source_effects : Conditions → (j : Judge) (i : Image) (g : NumberedFunc) (q : Places) (labels : List (Option ℕ)) (site : Option ℕ) (p : Point) (o n : ℕ) → SourceEffects j i g q labels site p o n
+pub source_effects : Conditions → (j : PermissionTest) (i : Image) (g : NumberedFunc) (q : Places) (labels : List (Option ℕ)) (site : Option ℕ) (p : Point) (o n : ℕ) → SourceEffects j i g q labels site p o n
 source_effects cs j i g q labels site p o n address fr r y to v e ok sh le room low code = source_by cs j i g q labels site p o n address fr r y to v e ok sh le room low code

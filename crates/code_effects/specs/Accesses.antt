@@ -8,10 +8,10 @@ use Rattle.mpu_model.specs.declared.region.Access.TheVariants.{Read, Write}
 use Rattle.device_model.specs.declared.image.Image.{Image}
 use Rattle.mem_bus.specs.Places.{Place, InRam, InFlash, InWindow, place}
 use Rattle.armv7m.specs.declared.state.End.TheVariants.{InputEnd}
-use Rattle.armv7m.specs.State.{Judge}
+use Rattle.armv7m.specs.State.{PermissionTest}
 use Rattle.armv7m.specs.Code.{Stands}
 use Rattle.armv7m.specs.Events.{input_event, output_event}
-use Rattle.armv7m.specs.Working.{IsLoad, IsStore}
+use Rattle.armv7m.specs.RunningCode.{IsLoad, IsStore}
 use Rattle.ir_model.specs.Types.{PlainType, width_of}
 use Rattle.ir_model.specs.Resolved.{NumberedFunc, Load, Store}
 use Rattle.lower.specs.declared.places.Places.{Places}
@@ -21,7 +21,7 @@ use Rattle.code_effects.specs.Points.{Point, known, Leads, Finishes}
 use Rattle.code_effects.specs.Frames.{HasFrame, slot, HasInst, behind}
 
 -- an access that protection allows, of an address that is a multiple of its width and leads to this place
-pub record Reach (j : Judge) (i : Image) (p : Point) (kind : Access) (width address : ℕ) (to : Place) : Type 0 where
+pub record Reach (j : PermissionTest) (i : Image) (p : Point) (kind : Access) (width address : ℕ) (to : Place) : Type 0 where
   pub aligned : address % width ≡ 0
   pub low : address < 0xE0000000
   pub allowed : j p.context.protection kind address ≡ true
@@ -31,7 +31,7 @@ pub record Reach (j : Judge) (i : Image) (p : Point) (kind : Access) (width addr
 abbrev pub behind_store : Point → (site : Option ℕ) → (to from : ℕ) → PlainType → Point
 behind_store p site to from t = record p { registers = []; pc = p.pc + inst_size (is_some site) (Store to from t) }
 
-module _ (j : Judge) (i : Image) (g : NumberedFunc) (q : Places) (labels : List (Option ℕ)) (site : Option ℕ) (p : Point) (o n : ℕ) where
+module _ (j : PermissionTest) (i : Image) (g : NumberedFunc) (q : Places) (labels : List (Option ℕ)) (site : Option ℕ) (p : Point) (o n : ℕ) where
   pub record LoadEffects : Type 0 where
     pub ram : (to from at : ℕ) (t : PlainType) → HasFrame j i p o n → to < n → from < n → HasInst j i g q labels p p.pc site (Load to from t) →
         Reach j i p Read (width_of t) (slot o p from) (InRam at) → Leads j i 3 p (behind o p site (Load to from t) to (read (width_of t) at p.ram)) []

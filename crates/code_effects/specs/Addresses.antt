@@ -3,7 +3,7 @@ use Rattle.std.specs.Prelude.{◌≡◌, ℕ, ◌+◌, ◌*◌, ◌^◌, ◌<◌
 use Rattle.std.proofs.Math.ListN.{get_or}
 use Rattle.words.specs.Arithmetic.{word}
 use Rattle.device_model.specs.declared.image.Image.{Image}
-use Rattle.armv7m.specs.State.{Judge}
+use Rattle.armv7m.specs.State.{PermissionTest}
 use Rattle.ir_model.specs.Resolved.{NumberedFunc, Named, TheGlobal, ThePeriph, TheLocal, Addr, FAddr, Elem, Field}
 use Rattle.lower.specs.declared.places.Places.{Places}
 use Rattle.lower.specs.Places.{global_address, window_address, entry_address}
@@ -29,7 +29,7 @@ abbrev pub addr_steps : Named → ℕ
 addr_steps (TheLocal l) = 2
 addr_steps _ = 3
 
-module _ (j : Judge) (i : Image) (g : NumberedFunc) (q : Places) (labels : List (Option ℕ)) (site : Option ℕ) (p : Point) (o n : ℕ) where
+module _ (j : PermissionTest) (i : Image) (g : NumberedFunc) (q : Places) (labels : List (Option ℕ)) (site : Option ℕ) (p : Point) (o n : ℕ) where
   pub record AddressEffects : Type 0 where
     pub addr : (to : ℕ) (of : Named) → HasFrame j i p o n → to < n → CanName g q n of → HasInst j i g q labels p p.pc site (Addr to of) →
         Leads j i (addr_steps of) p (behind o p site (Addr to of) to (named_address g q p.sp of)) []

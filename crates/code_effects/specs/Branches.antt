@@ -2,7 +2,7 @@
 use Rattle.std.specs.Prelude.{ℕ, ◌+◌, ◌^◌, ◌<◌, List, [], Option, nat_eq, if◌then◌else◌}
 use Rattle.device_model.specs.declared.image.Image.{Image}
 use Rattle.thumb_asm.specs.Assembly.{place_of}
-use Rattle.armv7m.specs.State.{Judge}
+use Rattle.armv7m.specs.State.{PermissionTest}
 use Rattle.ir_model.specs.Resolved.{NumberedFunc, Jump, Branch}
 use Rattle.lower.specs.declared.places.Places.{Places}
 use Rattle.code_effects.specs.Points.{Point, Leads}
@@ -12,7 +12,7 @@ use Rattle.code_effects.specs.Frames.{HasFrame, slot, HasTerm}
 abbrev pub at_block : (labels : List (Option ℕ)) → (first : ℕ) → Point → (block : ℕ) → Point
 at_block labels first p b = record p { registers = []; pc = place_of labels (first + b) }
 
-module _ (j : Judge) (i : Image) (g : NumberedFunc) (q : Places) (labels : List (Option ℕ)) (first : ℕ) (p : Point) (o n : ℕ) where
+module _ (j : PermissionTest) (i : Image) (g : NumberedFunc) (q : Places) (labels : List (Option ℕ)) (first : ℕ) (p : Point) (o n : ℕ) where
   pub record BranchEffects : Type 0 where
     pub jump : (b : ℕ) → p.pc < 2 ^ 30 → place_of labels (first + b) < 2 ^ 30 → HasTerm j i g q labels first p p.pc (Jump b) → Leads j i 1 p (at_block labels first p b) []
     pub branch : (on a b : ℕ) → HasFrame j i p o n → on < n → p.pc < 2 ^ 30 → place_of labels (first + a) < 2 ^ 30 → place_of labels (first + b) < 2 ^ 30 →

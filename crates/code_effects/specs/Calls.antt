@@ -3,7 +3,7 @@
 use Rattle.std.specs.Prelude.{◌≡◌, ℕ, ◌+◌, ◌*◌, ◌%◌, ◌^◌, ◌<◌, ◌≤◌, List, [], ◌∷◌, length, map, Option, Some, None, is_some, false}
 use Rattle.words.specs.Bytes.{write}
 use Rattle.device_model.specs.declared.image.Image.{Image}
-use Rattle.armv7m.specs.State.{Judge}
+use Rattle.armv7m.specs.State.{PermissionTest}
 use Rattle.armv7m.specs.Code.{HoldsHalf, Stands}
 use Rattle.ir_model.specs.Resolved.{NumberedFunc, Call, ICall}
 use Rattle.lower.specs.declared.places.Places.{Places}
@@ -34,10 +34,10 @@ keep_steps None = 0
 keep_steps (Some k) = 1
 
 -- SVC #0 with the number of its site behind it
-abbrev pub HasCrossing : Judge → Image → Point → (at site : ℕ) → Type 0
+abbrev pub HasCrossing : PermissionTest → Image → Point → (at site : ℕ) → Type 0
 HasCrossing j i p at s = Stands j i p.context.protection at (supervisor_call 0) × HoldsHalf i (at + 2) s
 
-module _ (j : Judge) (i : Image) (g : NumberedFunc) (q : Places) (labels : List (Option ℕ)) (p : Point) (o n : ℕ) where
+module _ (j : PermissionTest) (i : Image) (g : NumberedFunc) (q : Places) (labels : List (Option ℕ)) (p : Point) (o n : ℕ) where
   -- within the compartment: at the callee's entry, with the arguments from r0 on and the return address, its bit 0 set, in LR
   pub record CallEffects : Type 0 where
     pub call : (to : Option ℕ) (f : ℕ) (args : List ℕ) → HasFrame j i p o n → AllBelow n args → length args ≤ 4 → p.pc < 2 ^ 30 → entry_address q f < 2 ^ 30 →

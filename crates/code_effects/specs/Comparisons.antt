@@ -1,7 +1,7 @@
 -- What the code of comparisons does.
 use Rattle.std.specs.Prelude.{ℕ, ◌^◌, ◌<◌, List, [], Bool, true, false, Option}
 use Rattle.device_model.specs.declared.image.Image.{Image}
-use Rattle.armv7m.specs.State.{Judge}
+use Rattle.armv7m.specs.State.{PermissionTest}
 use Rattle.ir_model.specs.declared.firmware.CmpOp.{CmpOp}
 use Rattle.ir_model.specs.Resolved.{NumberedFunc, Cmp}
 use Rattle.ir_model.specs.Step.{compared, bit}
@@ -14,7 +14,7 @@ abbrev pub cmp_steps : Bool → ℕ
 cmp_steps true = 6
 cmp_steps false = 7
 
-module _ (j : Judge) (i : Image) (g : NumberedFunc) (q : Places) (labels : List (Option ℕ)) (site : Option ℕ) (p : Point) (o n : ℕ) where
+module _ (j : PermissionTest) (i : Image) (g : NumberedFunc) (q : Places) (labels : List (Option ℕ)) (site : Option ℕ) (p : Point) (o n : ℕ) where
   -- the result is the source's
   abbrev pub ComparisonEffects : Type 0
   ComparisonEffects = (op : CmpOp) (to a b : ℕ) → HasFrame j i p o n → to < n → a < n → b < n → p.pc < 2 ^ 30 → HasInst j i g q labels p p.pc site (Cmp op to a b) →

@@ -4,7 +4,7 @@ use Rattle.std.proofs.Math.ListN.{get_or}
 use Rattle.thumb_asm.specs.Assembly.{place_of}
 use Rattle.device_model.specs.declared.image.Image.{Image}
 use Rattle.armv7m.specs.declared.state.ProtectionState.{ProtectionState}
-use Rattle.armv7m.specs.State.{Judge}
+use Rattle.armv7m.specs.State.{PermissionTest}
 use Rattle.ir_model.specs.Resolved.{Program, func_at}
 use Rattle.lower.specs.Sizes.{place_offset}
 use Rattle.lower.specs.FunctionCode.{lent, function_items}
@@ -13,7 +13,7 @@ use Rattle.code_effects.specs.Items.{ItemsAt}
 
 pub record CompartmentsStand : Type 0 where
   -- where the code of a function's compartment stands, the function stands at its entry
-  pub functions : (j : Judge) (i : Image) (x : ProtectionState) (p : Program) (groups : CodeGroups) (places : CodePlaces) (f : ℕ) → f < length groups.compartments →
+  pub functions : (j : PermissionTest) (i : Image) (x : ProtectionState) (p : Program) (groups : CodeGroups) (places : CodePlaces) (f : ℕ) → f < length groups.compartments →
       ItemsAt j i x (compartment_labels p groups places (compartment_of p groups f)) (get_or places.bases (compartment_of p groups f) 0) (compartment_items p groups places (compartment_of p groups f)) →
       ItemsAt j i x (compartment_labels p groups places (compartment_of p groups f)) (entry_of p groups places f)
       (function_items (func_at p f) (places_of p groups places f) (label_count p groups (before p groups f)) (entry_of p groups places f))

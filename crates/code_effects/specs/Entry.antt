@@ -3,7 +3,7 @@ use Rattle.std.specs.Prelude.{◌≡◌, ℕ, suc, ◌+◌, ◌*◌, ◌^◌, �
 use Rattle.std.proofs.Math.ListN.{get_or}
 use Rattle.words.specs.Bytes.{read, cut}
 use Rattle.device_model.specs.declared.image.Image.{Image}
-use Rattle.armv7m.specs.State.{Judge}
+use Rattle.armv7m.specs.State.{PermissionTest}
 use Rattle.armv7m.specs.Code.{Stands}
 use Rattle.armv7m.specs.Stack.{Room}
 use Rattle.ir_model.specs.Resolved.{NumberedFunc}
@@ -34,12 +34,12 @@ abbrev pub no_lend : Lend
 no_lend = record { slot = 0; number = 0 }
 
 -- the frame stands from `to` on, right below the caller's stack pointer
-pub record FrameMade (j : Judge) (i : Image) (g : NumberedFunc) (p : Point) (o to : ℕ) (arguments : List ℕ) : Type 0 where
+pub record FrameMade (j : PermissionTest) (i : Image) (g : NumberedFunc) (p : Point) (o to : ℕ) (arguments : List ℕ) : Type 0 where
   pub ram : List ℕ
   pub entered : Entered o (frame_shape g).words p.lr arguments p.ram ram
   pub leads : Leads j i (entry_steps (frame_shape g).words) (record p { registers = known arguments }) (record p { registers = []; sp = to; pc = p.pc + entry_size g 0; ram = ram }) []
 
-module _ (j : Judge) (i : Image) (g : NumberedFunc) (q : Places) (labels : List (Option ℕ)) (p : Point) (o to : ℕ) where
+module _ (j : PermissionTest) (i : Image) (g : NumberedFunc) (q : Places) (labels : List (Option ℕ)) (p : Point) (o to : ℕ) where
   pub record EntryEffects : Type 0 where
     -- up to the first lend: all of it where no local is lent
     pub frame : (arguments : List ℕ) → length arguments ≡ row_length g.params → length arguments ≤ (frame_shape g).words → to + 4 * ((frame_shape g).words + 1) ≡ p.sp →

@@ -3,7 +3,7 @@
 use Rattle.std.specs.Prelude.{ℕ, ◌+◌, ◌*◌, List, [], Option, is_some}
 use Rattle.words.specs.Bytes.{read, write}
 use Rattle.device_model.specs.declared.image.Image.{Image}
-use Rattle.armv7m.specs.State.{Judge}
+use Rattle.armv7m.specs.State.{PermissionTest}
 use Rattle.armv7m.specs.Stack.{Room}
 use Rattle.ir_model.specs.Resolved.{NumberedInst, NumberedTerm, NumberedFunc}
 use Rattle.lower.specs.declared.places.Places.{Places}
@@ -13,7 +13,7 @@ use Rattle.code_effects.specs.Points.{Point}
 use Rattle.code_effects.specs.Items.{ItemsAt}
 
 -- n words from the stack pointer on may be read and written
-abbrev pub HasFrame : Judge → Image → Point → (o n : ℕ) → Type 0
+abbrev pub HasFrame : PermissionTest → Image → Point → (o n : ℕ) → Type 0
 HasFrame j i p o n = Room j i p.context.protection p.sp o n
 
 -- what word k holds: register k of the function, where it has that register
@@ -21,7 +21,7 @@ abbrev pub slot : (o : ℕ) → Point → (k : ℕ) → ℕ
 slot o p k = read 4 (o + 4 * k) p.ram
 
 -- the code of an instruction stands at an address. `site` is the site of a call that may go to another compartment
-abbrev pub HasInst : Judge → Image → NumberedFunc → Places → (labels : List (Option ℕ)) → Point → (at : ℕ) → (site : Option ℕ) → NumberedInst → Type 0
+abbrev pub HasInst : PermissionTest → Image → NumberedFunc → Places → (labels : List (Option ℕ)) → Point → (at : ℕ) → (site : Option ℕ) → NumberedInst → Type 0
 HasInst j i g q labels p at site y = ItemsAt j i p.context.protection labels at (inst_items g q at site y)
 
 -- behind it, with v in word k
@@ -29,9 +29,9 @@ abbrev pub behind : (o : ℕ) → Point → (site : Option ℕ) → NumberedInst
 behind o p site y k v = record p { registers = []; pc = p.pc + inst_size (is_some site) y; ram = write 4 (o + 4 * k) v p.ram }
 
 -- the code of a block's end stands at an address. Block b of the function is label first + b
-abbrev pub HasTerm : Judge → Image → NumberedFunc → Places → (labels : List (Option ℕ)) → (first : ℕ) → Point → (at : ℕ) → NumberedTerm → Type 0
+abbrev pub HasTerm : PermissionTest → Image → NumberedFunc → Places → (labels : List (Option ℕ)) → (first : ℕ) → Point → (at : ℕ) → NumberedTerm → Type 0
 HasTerm j i g q labels first p at t = ItemsAt j i p.context.protection labels at (term_items g q first t)
 
 -- and that of a function's entry
-abbrev pub HasEntry : Judge → Image → NumberedFunc → Places → (labels : List (Option ℕ)) → Point → (at : ℕ) → Type 0
+abbrev pub HasEntry : PermissionTest → Image → NumberedFunc → Places → (labels : List (Option ℕ)) → Point → (at : ℕ) → Type 0
 HasEntry j i g q labels p at = ItemsAt j i p.context.protection labels at (entry_items g q)

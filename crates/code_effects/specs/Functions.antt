@@ -3,7 +3,7 @@ use Rattle.std.specs.Prelude.{◌≡◌, ℕ, suc, ◌+◌, ◌<◌, ◌≤◌, 
 use Rattle.std.proofs.Math.ListN.{get_or}
 use Rattle.device_model.specs.declared.image.Image.{Image}
 use Rattle.armv7m.specs.declared.state.ProtectionState.{ProtectionState}
-use Rattle.armv7m.specs.State.{Judge}
+use Rattle.armv7m.specs.State.{PermissionTest}
 use Rattle.ir_model.specs.Resolved.{NumberedInst, NumberedFunc, Does, no_block}
 use Rattle.ir_model.specs.Signatures.{here_of}
 use Rattle.lower.specs.declared.places.Places.{Places}
@@ -14,7 +14,7 @@ use Rattle.lower.specs.Sizes.{inst_size, entry_size, place_offset}
 use Rattle.lower.specs.FunctionCode.{lent, here_items, function_items, function_labels}
 use Rattle.code_effects.specs.Items.{ItemsAt}
 
-module _ (j : Judge) (i : Image) (p : ProtectionState) (g : NumberedFunc) (q : Places) (labels : List (Option ℕ)) (first at : ℕ) where
+module _ (j : PermissionTest) (i : Image) (p : ProtectionState) (g : NumberedFunc) (q : Places) (labels : List (Option ℕ)) (first at : ℕ) where
   pub record PlacesStand : Type 0 where
     pub entry : ItemsAt j i p labels at (entry_items g q)
     pub places : (b k : ℕ) → b < length g.blocks → k ≤ length (get_or g.blocks b no_block).insts →
@@ -22,7 +22,7 @@ module _ (j : Judge) (i : Image) (p : ProtectionState) (g : NumberedFunc) (q : P
 
 pub record FunctionsStand : Type 0 where
   -- where a function stands, so does the code of each of its places
-  pub stand : (j : Judge) (i : Image) (p : ProtectionState) (g : NumberedFunc) (q : Places) (labels : List (Option ℕ)) (first at : ℕ) →
+  pub stand : (j : PermissionTest) (i : Image) (p : ProtectionState) (g : NumberedFunc) (q : Places) (labels : List (Option ℕ)) (first at : ℕ) →
       ItemsAt j i p labels at (function_items g q first at) → PlacesStand j i p g q labels first at
   -- the first block stands behind the entry, and the next place behind an instruction
   pub first_place : (g : NumberedFunc) (sites : List CallSite) (n : ℕ) → place_offset g sites n 0 0 ≡ entry_size g n

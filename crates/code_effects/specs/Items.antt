@@ -10,7 +10,7 @@ use Rattle.mpu_model.specs.declared.region.Access.TheVariants.{Fetch}
 use Rattle.device_model.specs.declared.image.Image.{Image}
 use Rattle.device_model.specs.Rules.{ObeysRules}
 use Rattle.armv7m.specs.declared.state.ProtectionState.{ProtectionState}
-use Rattle.armv7m.specs.State.{Judge}
+use Rattle.armv7m.specs.State.{PermissionTest}
 use Rattle.armv7m.specs.Code.{size, HoldsHalf, Lies, Stands, CodeAt}
 use Rattle.armv7m.specs.CodeBytes.{HoldsBytes}
 use Rattle.lower.specs.Words.{plain}
@@ -24,7 +24,7 @@ ItemsIn i labels at (Half h ∷ more) = HoldsHalf i at h × ItemsIn i labels (at
 ItemsIn i labels at (Word w ∷ more) = HoldsHalf i at (w % 2 ^ 16) × HoldsHalf i (at + 2) (w / 2 ^ 16) × ItemsIn i labels (at + 4) more
 
 -- and their instructions may be fetched
-abbrev pub ItemsAt : Judge → Image → ProtectionState → (labels : List (Option ℕ)) → (at : ℕ) → List Item → Type 0
+abbrev pub ItemsAt : PermissionTest → Image → ProtectionState → (labels : List (Option ℕ)) → (at : ℕ) → List Item → Type 0
 ItemsAt j i p labels at [] = Unit {0}
 ItemsAt j i p labels at (Plain x ∷ more) = Stands j i p at x × ItemsAt j i p labels (at + size x) more
 ItemsAt j i p labels at (Branch kind to ∷ more) = Stands j i p at (branch kind at (place_of labels to.number)) × ItemsAt j i p labels (at + branch_size kind) more
@@ -46,11 +46,11 @@ pub record ItemsStand : Type 0 where
   pub from_bytes : (i : Image) (labels : List (Option ℕ)) (offset : ℕ) (items : List Item) → ObeysRules i → InstructionsInTable labels (i.flash_base + offset) items →
       HoldsBytes i offset (bytes_from labels (i.flash_base + offset) items) → ItemsIn i labels (i.flash_base + offset) items
   -- and they may run where each of their bytes may be fetched
-  pub may_run : (j : Judge) (i : Image) (p : ProtectionState) (labels : List (Option ℕ)) (items : List Item) (at : ℕ) →
+  pub may_run : (j : PermissionTest) (i : Image) (p : ProtectionState) (labels : List (Option ℕ)) (items : List Item) (at : ℕ) →
       ItemsIn i labels at items → ((a : ℕ) → at ≤ a → a < at + total items → j p Fetch a ≡ true) → ItemsAt j i p labels at items
   -- parts stand one behind the other
   pub parts_in : (i : Image) (labels : List (Option ℕ)) (xs ys : List Item) (at : ℕ) → ItemsIn i labels at (xs ++ ys) → ItemsIn i labels at xs × ItemsIn i labels (at + total xs) ys
-  pub parts_at : (j : Judge) (i : Image) (p : ProtectionState) (labels : List (Option ℕ)) (xs ys : List Item) (at : ℕ) →
+  pub parts_at : (j : PermissionTest) (i : Image) (p : ProtectionState) (labels : List (Option ℕ)) (xs ys : List Item) (at : ℕ) →
       ItemsAt j i p labels at (xs ++ ys) → ItemsAt j i p labels at xs × ItemsAt j i p labels (at + total xs) ys
   -- instructions alone are code
-  pub plain_code : (j : Judge) (i : Image) (p : ProtectionState) (labels : List (Option ℕ)) (xs : List Instr) (at : ℕ) → ItemsAt j i p labels at (plain xs) → CodeAt j i p at xs
+  pub plain_code : (j : PermissionTest) (i : Image) (p : ProtectionState) (labels : List (Option ℕ)) (xs : List Instr) (at : ℕ) → ItemsAt j i p labels at (plain xs) → CodeAt j i p at xs

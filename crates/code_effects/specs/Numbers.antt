@@ -1,7 +1,7 @@
 -- What the code of numbers, of copies, and of operations on two numbers does.
 use Rattle.std.specs.Prelude.{ℕ, ◌^◌, ◌<◌, List, [], Option}
 use Rattle.device_model.specs.declared.image.Image.{Image}
-use Rattle.armv7m.specs.State.{Judge}
+use Rattle.armv7m.specs.State.{PermissionTest}
 use Rattle.ir_model.specs.declared.firmware.BinOp.{BinOp}
 use Rattle.ir_model.specs.declared.firmware.BinOp.TheVariants.{Urem, Srem}
 use Rattle.ir_model.specs.Resolved.{NumberedFunc, Const, Move, Bin}
@@ -16,7 +16,7 @@ bin_steps Urem = 6
 bin_steps Srem = 6
 bin_steps _ = 4
 
-module _ (j : Judge) (i : Image) (g : NumberedFunc) (q : Places) (labels : List (Option ℕ)) (site : Option ℕ) (p : Point) (o n : ℕ) where
+module _ (j : PermissionTest) (i : Image) (g : NumberedFunc) (q : Places) (labels : List (Option ℕ)) (site : Option ℕ) (p : Point) (o n : ℕ) where
   pub record NumberEffects : Type 0 where
     pub const : (to v : ℕ) → HasFrame j i p o n → to < n → v < 2 ^ 32 → HasInst j i g q labels p p.pc site (Const to v) → Leads j i 3 p (behind o p site (Const to v) to v) []
     pub move : (to from : ℕ) → HasFrame j i p o n → to < n → from < n → HasInst j i g q labels p p.pc site (Move to from) → Leads j i 2 p (behind o p site (Move to from) to (slot o p from)) []

@@ -6,10 +6,10 @@ use Rattle.device_model.specs.declared.image.Image.{Image}
 use Rattle.events.specs.declared.event.Event.{Event}
 use Rattle.device_model.specs.Rules.{ObeysRules}
 use Rattle.armv7m.specs.declared.state.End.{End}
-use Rattle.armv7m.specs.State.{State, Judge}
+use Rattle.armv7m.specs.State.{State, PermissionTest}
 use Rattle.armv7m.specs.Code.{Runs}
 use Rattle.armv7m.specs.Shape.{StateFits}
-use Rattle.armv7m.specs.Working.{Context, works}
+use Rattle.armv7m.specs.RunningCode.{Context, works}
 
 -- what is known of a thread between two of its instructions. `registers` has what r0 and the registers behind it hold, as far as that
 -- is known: no code counts on the others, nor on the flags
@@ -39,31 +39,31 @@ abbrev pub state_at : Point → (low : List ℕ) → Flags → State
 state_at p low f = works p.context low p.sp p.lr p.pc f p.ram p.queues
 
 -- so many steps lead from this state to that point
-pub record Arrives (j : Judge) (i : Image) (count : ℕ) (s : State) (q : Point) (es : List Event) : Type 0 where
+pub record Arrives (j : PermissionTest) (i : Image) (count : ℕ) (s : State) (q : Point) (es : List Event) : Type 0 where
   pub low : List ℕ
   pub flags : Flags
   pub holds : Holds q.registers low
   pub runs : Runs j i count s (state_at q low flags) es
 
 -- and from a point, whatever its other registers and its flags are
-pub record Leads (j : Judge) (i : Image) (count : ℕ) (p q : Point) (es : List Event) : Type 0 where
+pub record Leads (j : PermissionTest) (i : Image) (count : ℕ) (p q : Point) (es : List Event) : Type 0 where
   pub arrives : (low : List ℕ) (f : Flags) → Holds p.registers low → Arrives j i count (state_at p low f) q es
 
 -- so many steps lead from this state to this end
-pub record Reaches (j : Judge) (i : Image) (count : ℕ) (s : State) (e : End) (es : List Event) : Type 0 where
+pub record Reaches (j : PermissionTest) (i : Image) (count : ℕ) (s : State) (e : End) (es : List Event) : Type 0 where
   pub last : State
   pub over : last.ending ≡ Some e
   pub runs : Runs j i count s last es
 
-pub record Finishes (j : Judge) (i : Image) (count : ℕ) (p : Point) (e : End) (es : List Event) : Type 0 where
+pub record Finishes (j : PermissionTest) (i : Image) (count : ℕ) (p : Point) (e : End) (es : List Event) : Type 0 where
   pub reaches : (low : List ℕ) (f : Flags) → Holds p.registers low → Reaches j i count (state_at p low f) e es
 
 -- one run behind another; and where less need be known of registers, less is enough
 pub record RunsJoin : Type 0 where
-  pub join : (j : Judge) (i : Image) (m n : ℕ) (p q r : Point) (xs ys : List Event) → Leads j i m p q xs → Leads j i n q r ys → Leads j i (m + n) p r (xs ++ ys)
-  pub finish : (j : Judge) (i : Image) (m n : ℕ) (p q : Point) (e : End) (xs ys : List Event) → Leads j i m p q xs → Finishes j i n q e ys → Finishes j i (m + n) p e (xs ++ ys)
-  pub forget : (j : Judge) (i : Image) (n : ℕ) (p q : Point) (es : List Event) → Leads j i n p q es → Leads j i n p (record q { registers = [] }) es
+  pub join : (j : PermissionTest) (i : Image) (m n : ℕ) (p q r : Point) (xs ys : List Event) → Leads j i m p q xs → Leads j i n q r ys → Leads j i (m + n) p r (xs ++ ys)
+  pub finish : (j : PermissionTest) (i : Image) (m n : ℕ) (p q : Point) (e : End) (xs ys : List Event) → Leads j i m p q xs → Finishes j i n q e ys → Finishes j i (m + n) p e (xs ++ ys)
+  pub forget : (j : PermissionTest) (i : Image) (n : ℕ) (p q : Point) (es : List Event) → Leads j i n p q es → Leads j i n p (record q { registers = [] }) es
 
 -- a run keeps what every step keeps of a state: how many registers there are, that they hold words, and the like
 abbrev pub RunsFit : Type 0
-RunsFit = (j : Judge) (i : Image) (k : ℕ) (s t : State) (es : List Event) → ObeysRules i → StateFits i s → Runs j i k s t es → StateFits i t
+RunsFit = (j : PermissionTest) (i : Image) (k : ℕ) (s t : State) (es : List Event) → ObeysRules i → StateFits i s → Runs j i k s t es → StateFits i t

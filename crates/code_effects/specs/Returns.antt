@@ -1,7 +1,7 @@
 -- What the code of a return does. `w` words of the frame lie below the return address.
 use Rattle.std.specs.Prelude.{◌≡◌, ℕ, ◌+◌, ◌*◌, ◌%◌, ◌<◌, List, [], ◌∷◌, Option, Some, None, nat_le, if◌then◌else◌}
 use Rattle.device_model.specs.declared.image.Image.{Image}
-use Rattle.armv7m.specs.State.{Judge}
+use Rattle.armv7m.specs.State.{PermissionTest}
 use Rattle.armv7m.specs.Code.{Stands}
 use Rattle.ir_model.specs.Resolved.{NumberedFunc, Ret}
 use Rattle.lower.specs.declared.places.Places.{Places}
@@ -21,7 +21,7 @@ abbrev pub result_known : (o : ℕ) → Point → Option ℕ → List (Option �
 result_known o p None = []
 result_known o p (Some k) = known (slot o p k ∷ [])
 
-module _ (j : Judge) (i : Image) (g : NumberedFunc) (q : Places) (labels : List (Option ℕ)) (first : ℕ) (p : Point) (o at : ℕ) where
+module _ (j : PermissionTest) (i : Image) (g : NumberedFunc) (q : Places) (labels : List (Option ℕ)) (first : ℕ) (p : Point) (o at : ℕ) where
   pub record ReturnEffects : Type 0 where
     -- an SVC for each lent local
     pub unlend_stands : (r : Option ℕ) (k : ℕ) → k < lent g q → HasTerm j i g q labels first p at (Ret r) → Stands j i p.context.protection (at + 2 * k) (supervisor_call 3)

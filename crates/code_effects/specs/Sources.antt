@@ -3,7 +3,7 @@
 use Rattle.std.specs.Prelude.{◌≡◌, ℕ, ◌+◌, ◌^◌, ◌<◌, ◌≤◌, List, [], Option}
 use Rattle.words.specs.Arithmetic.{word}
 use Rattle.device_model.specs.declared.image.Image.{Image}
-use Rattle.armv7m.specs.State.{Judge}
+use Rattle.armv7m.specs.State.{PermissionTest}
 use Rattle.ir_model.specs.Resolved.{Value, Number, Code, Null, At, Instance, OfGlobal, OfPeriph, OfLocal, Named, TheGlobal, ThePeriph, TheLocal, NumberedFunc, NumberedInst, Const, Move, Bin, Cmp, Addr, FAddr, Elem, Field}
 use Rattle.ir_model.specs.State.{Frame}
 use Rattle.ir_model.specs.Step.{register, Sets, act}
@@ -47,7 +47,7 @@ IsSound g q address fr sp r n (Elem to base index size) = (to < r) × (base < r)
 IsSound g q address fr sp r n (Field to base offset) = (to < r) × (base < r) × (offset < 2 ^ 32)
 IsSound g q address fr sp r n _ = ⊥
 
-module _ (j : Judge) (i : Image) (g : NumberedFunc) (q : Places) (labels : List (Option ℕ)) (site : Option ℕ) (p : Point) (o n : ℕ) where
+module _ (j : PermissionTest) (i : Image) (g : NumberedFunc) (q : Places) (labels : List (Option ℕ)) (site : Option ℕ) (p : Point) (o n : ℕ) where
   -- in at most seven steps
   pub record SetsWord (y : NumberedInst) (to v : ℕ) : Type 0 where
     pub count : ℕ

@@ -2,7 +2,7 @@
 
 ghost use Rattle.std.specs.Prelude.{ℕ, List, Option};
 ghost use Rattle.device_model.specs.declared.image.Image.{Image};
-ghost use Rattle.armv7m.specs.State.{Judge};
+ghost use Rattle.armv7m.specs.State.{PermissionTest};
 ghost use Rattle.ir_model.specs.Resolved.{NumberedFunc};
 ghost use Rattle.lower.specs.declared.places.Places.{Places};
 ghost use Rattle.code_effects.specs.Points.{Point, RunsJoin, RunsFit};
@@ -46,13 +46,13 @@ pub fn compartments()
 
 /// Numbers, copies, and operations on two numbers.
 pub fn numbers()
-    ensures { (j : Judge) (i : Image) (g : NumberedFunc) (q : Places) (labels : List (Option ℕ)) (site : Option ℕ) (p : Point) (o n : ℕ) →
+    ensures { (j : PermissionTest) (i : Image) (g : NumberedFunc) (q : Places) (labels : List (Option ℕ)) (site : Option ℕ) (p : Point) (o n : ℕ) →
         NumberEffects j i g q labels site p o n }
 {}
 
 /// Comparisons: the code gives what the source gives.
 pub fn comparisons()
-    ensures { (j : Judge) (i : Image) (g : NumberedFunc) (q : Places) (labels : List (Option ℕ)) (site : Option ℕ) (p : Point) (o n : ℕ) →
+    ensures { (j : PermissionTest) (i : Image) (g : NumberedFunc) (q : Places) (labels : List (Option ℕ)) (site : Option ℕ) (p : Point) (o n : ℕ) →
         ComparisonEffects j i g q labels site p o n }
 {
     words::laws::comparisons();
@@ -60,14 +60,14 @@ pub fn comparisons()
 
 /// Addresses, elements and fields; and offsets in an object are added as the source adds them.
 pub fn addresses()
-    ensures effects { (j : Judge) (i : Image) (g : NumberedFunc) (q : Places) (labels : List (Option ℕ)) (site : Option ℕ) (p : Point) (o n : ℕ) →
+    ensures effects { (j : PermissionTest) (i : Image) (g : NumberedFunc) (q : Places) (labels : List (Option ℕ)) (site : Option ℕ) (p : Point) (o n : ℕ) →
         AddressEffects j i g q labels site p o n }
     ensures agree { OffsetsAgree }
 {}
 
 /// The code of an instruction that sets a register leads to the frame with the word of the source's value in it.
 pub fn sources()
-    ensures { (j : Judge) (i : Image) (g : NumberedFunc) (q : Places) (labels : List (Option ℕ)) (site : Option ℕ) (p : Point) (o n : ℕ) →
+    ensures { (j : PermissionTest) (i : Image) (g : NumberedFunc) (q : Places) (labels : List (Option ℕ)) (site : Option ℕ) (p : Point) (o n : ℕ) →
         SourceEffects j i g q labels site p o n }
 {
     words::laws::comparisons();
@@ -75,16 +75,16 @@ pub fn sources()
 
 /// Loads and stores in RAM, flash and windows, of each width; and the halves before and behind an access that a handler makes.
 pub fn accesses()
-    ensures loads { (j : Judge) (i : Image) (g : NumberedFunc) (q : Places) (labels : List (Option ℕ)) (site : Option ℕ) (p : Point) (o n : ℕ) →
+    ensures loads { (j : PermissionTest) (i : Image) (g : NumberedFunc) (q : Places) (labels : List (Option ℕ)) (site : Option ℕ) (p : Point) (o n : ℕ) →
         LoadEffects j i g q labels site p o n }
-    ensures stores { (j : Judge) (i : Image) (g : NumberedFunc) (q : Places) (labels : List (Option ℕ)) (site : Option ℕ) (p : Point) (o n : ℕ) →
+    ensures stores { (j : PermissionTest) (i : Image) (g : NumberedFunc) (q : Places) (labels : List (Option ℕ)) (site : Option ℕ) (p : Point) (o n : ℕ) →
         StoreEffects j i g q labels site p o n }
     ensures widths { AccessesHaveWidths }
 {}
 
 /// Jumps and branches.
 pub fn branches()
-    ensures { (j : Judge) (i : Image) (g : NumberedFunc) (q : Places) (labels : List (Option ℕ)) (first : ℕ) (p : Point) (o n : ℕ) →
+    ensures { (j : PermissionTest) (i : Image) (g : NumberedFunc) (q : Places) (labels : List (Option ℕ)) (first : ℕ) (p : Point) (o n : ℕ) →
         BranchEffects j i g q labels first p o n }
 {
     words::laws::comparisons();
@@ -92,22 +92,22 @@ pub fn branches()
 
 /// Calls and indirect calls: within a compartment up to the callee's entry, across up to the SVC, and from the return on.
 pub fn calls()
-    ensures within { (j : Judge) (i : Image) (g : NumberedFunc) (q : Places) (labels : List (Option ℕ)) (p : Point) (o n : ℕ) →
+    ensures within { (j : PermissionTest) (i : Image) (g : NumberedFunc) (q : Places) (labels : List (Option ℕ)) (p : Point) (o n : ℕ) →
         CallEffects j i g q labels p o n }
-    ensures across { (j : Judge) (i : Image) (g : NumberedFunc) (q : Places) (labels : List (Option ℕ)) (p : Point) (o n : ℕ) →
+    ensures across { (j : PermissionTest) (i : Image) (g : NumberedFunc) (q : Places) (labels : List (Option ℕ)) (p : Point) (o n : ℕ) →
         CrossingEffects j i g q labels p o n }
-    ensures returned { (j : Judge) (i : Image) (g : NumberedFunc) (q : Places) (labels : List (Option ℕ)) (p : Point) (o n : ℕ) →
+    ensures returned { (j : PermissionTest) (i : Image) (g : NumberedFunc) (q : Places) (labels : List (Option ℕ)) (p : Point) (o n : ℕ) →
         ReturnedEffects j i g q labels p o n }
 {}
 
 /// A function's entry: its frame, and up to the SVC of each lend.
 pub fn entry()
-    ensures { (j : Judge) (i : Image) (g : NumberedFunc) (q : Places) (labels : List (Option ℕ)) (p : Point) (o to : ℕ) →
+    ensures { (j : PermissionTest) (i : Image) (g : NumberedFunc) (q : Places) (labels : List (Option ℕ)) (p : Point) (o to : ℕ) →
         EntryEffects j i g q labels p o to }
 {}
 
 /// A return: the SVC for each lent local, and from behind the last of them to the caller.
 pub fn returns()
-    ensures { (j : Judge) (i : Image) (g : NumberedFunc) (q : Places) (labels : List (Option ℕ)) (first : ℕ) (p : Point) (o at : ℕ) →
+    ensures { (j : PermissionTest) (i : Image) (g : NumberedFunc) (q : Places) (labels : List (Option ℕ)) (first : ℕ) (p : Point) (o at : ℕ) →
         ReturnEffects j i g q labels first p o at }
 {}

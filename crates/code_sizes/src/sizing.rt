@@ -9,7 +9,7 @@ use crate::calls::{crossing_sites, lent};
 use crate::functions::{all_bytes, code_bytes};
 use crate::tables::table_bytes;
 use ir_program::program::Program;
-use listed::Listed;
+use list_vec::ListVec;
 use plan_model::graph::Final;
 use plan_model::needs::{Needs, SiteNeed};
 use plan_model::plan::Sizes;
@@ -54,7 +54,7 @@ pub fn sizes(
     };
     let code = code_sizes(alloc, program, fin, &sites, lent)?;
     Ok(Sizes {
-        code: Listed::new(code),
+        code: ListVec::new(code),
         tables,
     })
 }

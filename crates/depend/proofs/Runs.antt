@@ -4,7 +4,7 @@ use Rattle.ir_model.specs.Types.{PlainType}
 use Rattle.ir_model.specs.Layout.{cell_at}
 use Rattle.ir_model.specs.Resolved.{Program, Value, Instance, OfGlobal, OfPeriph, OfLocal, NumberedTerm, Jump, Branch, Ret, Here, Does, Ends, global_at, cells_of_global, cells_of_local, here}
 use Rattle.ir_model.specs.Resolve.{resolve}
-use Rattle.ir_model.specs.State.{Frame, Memory, SourceState, Running, Ended, Object, GlobalObject, LocalObject, object_of, Did, Nothing, Loaded, Stored, Called}
+use Rattle.ir_model.specs.State.{Frame, Memory, SourceState, Running, Ended, Object, GlobalObject, LocalObject, object_of, StepEffect, Nothing, Loaded, Stored, Called}
 use Rattle.ir_model.specs.Step.{SourceAct, Sets, Fails, Loads, Stores, Enters, act, frame_in, has_port, cut_to, load, load_cell, load_local, load_port, take_input, store, store_global, store_cell, store_local, store_port, perform, leave, back_to, turn_here, source_turn}
 use Rattle.ir_model.specs.Runs.{source_after}
 use Rattle.ir_laws.specs.Sets.{ObjectSets, CallsAt, IsExpected}
@@ -17,7 +17,7 @@ use Rattle.depend.proofs.Listed.{read_listed, written_listed, periph_read, perip
 
 -- ---- a step loads from data, and stores into what is not constant
 
-abbrev pub IsAllowed : Program → Did → Type 0
+abbrev pub IsAllowed : Program → StepEffect → Type 0
 IsAllowed p (Loaded f o) = IsData o
 IsAllowed p (Stored f o) = IsWritable p o
 IsAllowed p _ = Unit {0}
@@ -97,7 +97,7 @@ allowed p c (Ended e) = tt
 -- ---- so what it reaches is listed
 
 module _ (p : Program) (S : ObjectSets) (closed : Bool) (n : Needs) (needs : AreNeeds p S closed n) where
-  listed : (d : Did) → IsAllowed p d → IsExpected p S d → IsInNeeds n d
+  listed : (d : StepEffect) → IsAllowed p d → IsExpected p S d → IsInNeeds n d
   listed Nothing a e = tt
   listed (Loaded f o) a e = (read_listed p S closed n needs f o a e, periph_read p S closed n needs f o e)
   listed (Stored f o) a e = (written_listed p S closed n needs f o a e, periph_written p S closed n needs f o e)

@@ -2,7 +2,7 @@
 use Rattle.std.specs.Prelude.{◌≡◌, ℕ, List, Contains}
 use Rattle.ir_model.specs.declared.object.ObjId.{ObjId}
 use Rattle.ir_model.specs.Resolved.{Program}
-use Rattle.ir_model.specs.State.{Object, PeriphObject, Did, Nothing, Loaded, Stored, Called}
+use Rattle.ir_model.specs.State.{Object, PeriphObject, StepEffect, Nothing, Loaded, Stored, Called}
 use Rattle.ir_model.specs.Objects.{object_by}
 use Rattle.ir_model.specs.Step.{source_turn}
 use Rattle.ir_model.specs.Runs.{source_after}
@@ -30,7 +30,7 @@ pub record HasTarget (n : Needs) (f b k g : ℕ) : Type 0 where
 
 -- a load reaches an object that its function may read, a store one that it may write, a call goes to a target of its site,
 -- and a peripheral is one of the function's
-abbrev pub IsInNeeds : Needs → Did → Type 0
+abbrev pub IsInNeeds : Needs → StepEffect → Type 0
 IsInNeeds n Nothing = Unit {0}
 IsInNeeds n (Loaded f o) = IsListed (need_of n f).read o × ListsPeriph n f o
 IsInNeeds n (Stored f o) = IsListed (need_of n f).written o × ListsPeriph n f o

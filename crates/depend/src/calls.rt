@@ -10,11 +10,11 @@ ghost use Rattle.depend.specs.Accesses.{AnyOf, Calls, HasTargets};
 ghost use Rattle.depend.specs.Bounds.{IsBelow};
 
 use crate::uses::Use;
-use listed::Listed;
+use list_vec::ListVec;
 use object_sets::each_once;
 use std::alloc::{AllocError, Global};
 
-fn push_callees(targets: &[Listed<u32>], by: Use, callees: &mut Vec<u32>) -> Result<(), AllocError>
+fn push_callees(targets: &[ListVec<u32>], by: Use, callees: &mut Vec<u32>) -> Result<(), AllocError>
     requires { IsBelow (length targets.now) by }
     ensures { OnOk result ((p : plain.Program) (S : ObjectSets) (f : ℕ) (g : ℕ) → HasTargets p S f targets.now → Contains callees.new.items g ↔ (Contains callees.old.items g ⊎ Calls p S f g by)) }
 {
@@ -35,7 +35,7 @@ fn push_callees(targets: &[Listed<u32>], by: Use, callees: &mut Vec<u32>) -> Res
 /// The functions that a function may call, in rising order: `targets` has those that a call through each register may go to.
 pub(crate) fn callees(
     alloc: Global,
-    targets: &[Listed<u32>],
+    targets: &[ListVec<u32>],
     uses: &[Use],
 ) -> Result<Vec<u32>, AllocError>
     requires { All (IsBelow (length targets.now)) uses.now }

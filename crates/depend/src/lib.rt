@@ -22,7 +22,7 @@ mod uses;
 use ir_laws::limits::counts;
 use ir_laws::typing::places;
 use ir_program::program::Program;
-use listed::Listed;
+use list_vec::ListVec;
 use object_sets::PointsTo;
 use plan_model::needs::Needs;
 use std::alloc::{AllocError, Global};
@@ -47,9 +47,9 @@ fn all_needs(
     }
     let lendable = lending::lendable(alloc, program, funcs.as_slice(), closed)?;
     Ok(Needs {
-        funcs: Listed::new(funcs),
-        sites: Listed::new(sites),
-        lendable: Listed::new(lendable),
+        funcs: ListVec::new(funcs),
+        sites: ListVec::new(sites),
+        lendable: ListVec::new(lendable),
         closed,
     })
 }

@@ -16,7 +16,7 @@ use crate::objects::{Access, objects};
 use crate::uses::uses;
 use ir_model::object::ObjId;
 use ir_program::program::Program;
-use listed::Listed;
+use list_vec::ListVec;
 use object_sets::{PointsTo, each_once};
 use plan_model::needs::FuncNeed;
 use std::alloc::{AllocError, Global};
@@ -61,7 +61,7 @@ pub(crate) fn need(
     program: &Program,
     pts: &PointsTo,
     func: usize,
-    targets: &[Listed<u32>],
+    targets: &[ListVec<u32>],
 ) -> Result<FuncNeed, AllocError>
     requires func { func < length program.now.funcs }
     requires numbers { HasSmallNumbers (program_of program.now) }
@@ -78,9 +78,9 @@ pub(crate) fn need(
     let periphs = periphs(alloc, written.as_slice(), read.as_slice())?;
     let callees = callees(alloc, targets, uses.as_slice())?;
     Ok(FuncNeed {
-        written: Listed::new(written),
-        read: Listed::new(read),
-        periphs: Listed::new(periphs),
-        callees: Listed::new(callees),
+        written: ListVec::new(written),
+        read: ListVec::new(read),
+        periphs: ListVec::new(periphs),
+        callees: ListVec::new(callees),
     })
 }

@@ -12,7 +12,7 @@ ghost use Rattle.depend.specs.Bounds.{HasSmallNumbers, RegistersAreThere};
 ghost use Rattle.depend.specs.Sites.{CallsBelow, Adds};
 
 use ir_program::program::{Operation, Program};
-use listed::Listed;
+use list_vec::ListVec;
 use plan_model::needs::SiteNeed;
 use std::alloc::{AllocError, Global};
 
@@ -35,7 +35,7 @@ fn push(place: Place, targets: Vec<u32>, sites: &mut Vec<SiteNeed>) -> Result<()
         func: place.func,
         block: place.block,
         inst: place.inst,
-        targets: Listed::new(targets),
+        targets: ListVec::new(targets),
     })?;
     Ok(())
 }
@@ -44,7 +44,7 @@ fn push_site(
     alloc: Global,
     place: Place,
     operation: &Operation,
-    targets: &[Listed<u32>],
+    targets: &[ListVec<u32>],
     sites: &mut Vec<SiteNeed>,
 ) -> Result<(), AllocError>
     requires { CallsBelow (length targets.now) operation.now }
@@ -79,7 +79,7 @@ fn push_block_sites(
     program: &Program,
     func: usize,
     block: usize,
-    targets: &[Listed<u32>],
+    targets: &[ListVec<u32>],
     sites: &mut Vec<SiteNeed>,
 ) -> Result<(), AllocError>
     requires func { func < length program.now.funcs }
@@ -108,7 +108,7 @@ pub(crate) fn push_sites(
     alloc: Global,
     program: &Program,
     func: usize,
-    targets: &[Listed<u32>],
+    targets: &[ListVec<u32>],
     sites: &mut Vec<SiteNeed>,
 ) -> Result<(), AllocError>
     requires func { func < length program.now.funcs }

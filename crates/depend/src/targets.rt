@@ -18,7 +18,7 @@ use ir_model::callee::has_type;
 use ir_model::object::ObjId;
 use ir_model::types::Ty;
 use ir_program::program::Program;
-use listed::Listed;
+use list_vec::ListVec;
 use object_sets::{Node, PointsTo, each_once};
 use std::alloc::{AllocError, Global};
 
@@ -76,7 +76,7 @@ pub(crate) fn all_targets(
     program: &Program,
     pts: &PointsTo,
     func: usize,
-) -> Result<Vec<Listed<u32>>, AllocError>
+) -> Result<Vec<ListVec<u32>>, AllocError>
     requires func { func < length program.now.funcs }
     requires funcs { length program.now.funcs < 2 ^ 32 }
     requires registers { length (func_at (program_of program.now) func).regs < 2 ^ 32 }
@@ -88,7 +88,7 @@ pub(crate) fn all_targets(
     let mut all = Vec::new(alloc);
     for register in 0..count {
         let next = targets(alloc, program, pts, func, register)?;
-        all.push(Listed::new(next))?;
+        all.push(ListVec::new(next))?;
     }
     Ok(all)
 }

@@ -2,14 +2,14 @@
 
 ghost use Rattle.std.specs.Prelude.{◌≡◌, IfOk};
 
-use listed::Listed;
+use list_vec::ListVec;
 use std::alloc::{AllocError, Global};
 
 /// A peripheral's range of addresses. Its words are recorded input and its stores are events.
 #[derive(Drop)]
 pub struct Window {
     /// The peripheral's name.
-    pub name: Listed<u8>,
+    pub name: ListVec<u8>,
     /// The first address.
     pub base: u32,
     /// How many bytes.
@@ -22,7 +22,7 @@ pub struct Image {
     /// The first address of flash.
     pub flash_base: u32,
     /// The bytes of flash.
-    pub flash: Listed<u8>,
+    pub flash: ListVec<u8>,
     /// The first address of RAM.
     pub ram_base: u32,
     /// How many bytes of RAM.
@@ -38,7 +38,7 @@ pub struct Image {
     /// Whether it is the image of a closed board, whose compartments read only what they are given.
     pub closed: bool,
     /// The peripherals' windows, in the order of their numbers.
-    pub windows: Listed<Window>,
+    pub windows: ListVec<Window>,
 }
 
 impl Window {
@@ -48,7 +48,7 @@ impl Window {
     {
         let name = Vec::from_slice(alloc, self.name.as_slice())?;
         Ok(Window {
-            name: Listed::new(name),
+            name: ListVec::new(name),
             base: self.base,
             size: self.size,
         })
@@ -64,7 +64,7 @@ impl Image {
         let windows = copied_windows(alloc, self.windows.as_slice())?;
         Ok(Image {
             flash_base: self.flash_base,
-            flash: Listed::new(flash),
+            flash: ListVec::new(flash),
             ram_base: self.ram_base,
             ram_size: self.ram_size,
             monitor: self.monitor,
@@ -72,7 +72,7 @@ impl Image {
             stack_size: self.stack_size,
             regions: self.regions,
             closed: self.closed,
-            windows: Listed::new(windows),
+            windows: ListVec::new(windows),
         })
     }
 }

@@ -5,7 +5,7 @@ use Rattle.thumb_model.specs.declared.table.Instr.TheVariants.{DataImmediate, Br
 use Rattle.mpu_model.specs.declared.region.Access.TheVariants.{Fetch}
 use Rattle.device_model.specs.declared.image.Image.{Image}
 use Rattle.armv7m.specs.declared.state.ProtectionState.{ProtectionState}
-use Rattle.armv7m.specs.State.{Judge}
+use Rattle.armv7m.specs.State.{PermissionTest}
 use Rattle.armv7m.specs.Code.{size, CodeIn}
 use Rattle.armv7m.specs.Running.{code_size}
 use Rattle.armv7m.proofs.Exec.{code_may_run}
@@ -48,7 +48,7 @@ code_has_its_length (Halt n k) = omega (arith, code_has_its_length k)
 code_has_its_length (Return k) = omega (arith, code_has_its_length k)
 code_has_its_length (Go to link k) = omega (arith, code_has_its_length k)
 
-module _ (j : Judge) (i : Image) (Good : ProtectionState → Type 0) where
+module _ (j : PermissionTest) (i : Image) (Good : ProtectionState → Type 0) where
   -- code in flash that may be fetched under each good protection
   pub flash_has_code : (pc : ℕ) (ys : List Instr) → CodeIn i pc ys → ((p : ProtectionState) → Good p → (a : ℕ) → pc ≤ a → a < pc + code_size ys → j p Fetch a ≡ true) → HasCode j i Good pc ys
   flash_has_code pc [] has may = tt

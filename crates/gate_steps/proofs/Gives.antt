@@ -12,7 +12,7 @@ use Rattle.device_model.specs.Rules.{ObeysRules}
 use Rattle.mem_bus.specs.Places.{Place, InRam, InFlash, place}
 use Rattle.armv7m.specs.declared.state.ProtectionState.{ProtectionState}
 use Rattle.armv7m.specs.declared.accesses.Verdict.TheVariants.{ToBus}
-use Rattle.armv7m.specs.State.{Judge, is_unprivileged}
+use Rattle.armv7m.specs.State.{PermissionTest, is_unprivileged}
 use Rattle.armv7m.specs.System.{in_system, is_system_register}
 use Rattle.gate_steps.specs.declared.steps.GateOp.{GateOp}
 use Rattle.gate_steps.specs.declared.steps.GateCond.{GateCond}
@@ -53,16 +53,16 @@ in_flash i a o r e h =
     rw (l, m, u, d) refl
 
 -- data accesses are permitted
-pub record Open (j : Judge) (p : ProtectionState) : Type 0 where
+pub record Open (j : PermissionTest) (p : ProtectionState) : Type 0 where
   pub reads : (a : ℕ) → j p Read a ≡ true
   pub writes : (a : ℕ) → j p Write a ≡ true
 
-pub load_is_at : (j : Judge) (i : Image) (c : Core) (z : Width) (base off a : ℕ) (q : Place) → Open j c.protection → address_of c (byte_count z) base off ≡ a → a % byte_count z ≡ 0 → a < 0xE0000000 → place i a ≡ q → load j i z base off c ≡ load_by ToBus q i (byte_count z) a c
+pub load_is_at : (j : PermissionTest) (i : Image) (c : Core) (z : Width) (base off a : ℕ) (q : Place) → Open j c.protection → address_of c (byte_count z) base off ≡ a → a % byte_count z ≡ 0 → a < 0xE0000000 → place i a ≡ q → load j i z base off c ≡ load_by ToBus q i (byte_count z) a c
 load_is_at j i c z base off a q f e al lt p =
     let v = to_bus j c.protection Read (byte_count z) a al lt (f.reads a) in
     rw (e, v, p) refl
 
-pub store_is_at : (j : Judge) (i : Image) (c : Core) (z : Width) (from base off a : ℕ) (q : Place) → Open j c.protection → address_of c (byte_count z) base off ≡ a → a % byte_count z ≡ 0 → a < 0xE0000000 → place i a ≡ q → store j i z from base off c ≡ store_by ToBus q (byte_count z) a (low_register c from) c
+pub store_is_at : (j : PermissionTest) (i : Image) (c : Core) (z : Width) (from base off a : ℕ) (q : Place) → Open j c.protection → address_of c (byte_count z) base off ≡ a → a % byte_count z ≡ 0 → a < 0xE0000000 → place i a ≡ q → store j i z from base off c ≡ store_by ToBus q (byte_count z) a (low_register c from) c
 store_is_at j i c z from base off a q f e al lt p =
     let v = to_bus j c.protection Write (byte_count z) a al lt (f.writes a) in
     rw (e, v, p) refl
@@ -84,7 +84,7 @@ on_then (AtBranch a b c) f A B h = (tt, tt)
 on_then (Stopped r c) f A B h = (tt, tt)
 on_then Unclaimed f A B h = (tt, tt)
 
-module _ (j : Judge) (i : Image) (Good : ProtectionState → Type 0) (Allowed : Rule) where
+module _ (j : PermissionTest) (i : Image) (Good : ProtectionState → Type 0) (Allowed : Rule) where
   -- a list, and the lists that follow it
   unfoldable pub all : Steps → List Steps → Core → Outcome
   all s [] c = effect j i s c
@@ -103,7 +103,7 @@ module _ (j : Judge) (i : Image) (Good : ProtectionState → Type 0) (Allowed : 
   abbrev pub Looped : (left most : ℕ) (body : Steps) (P : ℕ → Core → Type 0) → Core → Type 0
   Looped left most body P c = (d : Core) × (turns most left (effect j i body) c ≡ Went d) × P 0 d × AreTurnsSafe most left (effect j i body) (λ d. IsSafe j i Good Allowed body d) c
 
-module _ {j : Judge} {i : Image} {Good : ProtectionState → Type 0} {Allowed : Rule} where
+module _ {j : PermissionTest} {i : Image} {Good : ProtectionState → Type 0} {Allowed : Rule} where
   pub gives_effect : {s : Steps} {c : Core} {Q : Outcome → Type 0} → Gives j i Good Allowed s [] c Q → Q (effect j i s c) × IsSafe j i Good Allowed s c
   unfolding all safe_all
   gives_effect w = (w.holds, w.sound)

@@ -28,7 +28,7 @@ use Rattle.armv7m.specs.declared.state.End.TheVariants.{Halt as Ended, Stop}
 use Rattle.armv7m.specs.declared.accesses.Verdict.{Verdict}
 use Rattle.armv7m.specs.declared.accesses.Verdict.TheVariants.{ToBus, ToSystem, Refused, Bad}
 use Rattle.armv7m.specs.declared.data.Outcome.TheVariants.{Gives}
-use Rattle.armv7m.specs.State.{State, Turn, Touched, Judge, calm, ends, stops, is_unprivileged}
+use Rattle.armv7m.specs.State.{State, Turn, Touched, PermissionTest, calm, ends, stops, is_unprivileged}
 use Rattle.armv7m.specs.Act.{Act, Changes, GetsSpecial, SetsSpecial, Halts as HaltsAt}
 use Rattle.armv7m.specs.Instructions.{act, load_into, store_from}
 use Rattle.armv7m.specs.Tests.{verdict}
@@ -38,9 +38,9 @@ use Rattle.armv7m.specs.Code.{size, Stands, live, next}
 use Rattle.armv7m.specs.Shape.{StateFits, StepsKeepShape}
 use Rattle.armv7m.specs.Events.{ended}
 use Rattle.armv7m.specs.Confinement.{Each}
-use Rattle.armv7m.specs.Working.{IsLoad, IsStore}
+use Rattle.armv7m.specs.RunningCode.{IsLoad, IsStore}
 use Rattle.armv7m.proofs.Exec.{stepped}
-use Rattle.armv7m.proofs.Templates.{register_low, with_register_low}
+use Rattle.armv7m.proofs.InstructionEffects.{register_low, with_register_low}
 use Rattle.armv7m.proofs.Transfers.{loads_words, loads_halves, loads_bytes, stores_words, stores_halves, stores_bytes}
 use Rattle.gate_steps.specs.declared.steps.GateOp.{GateOp}
 use Rattle.gate_steps.specs.declared.steps.GateOp.TheVariants.{Add, Sub, And, Or, Shl, Shr}
@@ -93,15 +93,15 @@ get_apart (x ∷ xs) zero (suc b) v h = refl
 get_apart (x ∷ xs) (suc a) zero v h = refl
 get_apart (x ∷ xs) (suc a) (suc b) v h = get_apart xs a b v (λ e. h (ap suc e))
 
-pub run_suc : (j : Judge) (i : Image) (n : ℕ) (s : State) → run (next j i) (suc n) s ≡ run (next j i) n (next j i s)
+pub run_suc : (j : PermissionTest) (i : Image) (n : ℕ) (s : State) → run (next j i) (suc n) s ≡ run (next j i) n (next j i s)
 unfolding run
 run_suc j i n s = refl
 
-pub run_none : (j : Judge) (i : Image) (s : State) → run (next j i) 0 s ≡ s
+pub run_none : (j : PermissionTest) (i : Image) (s : State) → run (next j i) 0 s ≡ s
 unfolding run
 run_none j i s = refl
 
-run_add : (j : Judge) (i : Image) (m n : ℕ) (s : State) → run (next j i) (m + n) s ≡ run (next j i) n (run (next j i) m s)
+run_add : (j : PermissionTest) (i : Image) (m n : ℕ) (s : State) → run (next j i) (m + n) s ≡ run (next j i) n (run (next j i) m s)
 unfolding run
 run_add j i zero n s = let e : 0 + n ≡ n = omega arith in ap (λ n. run (next j i) n s) e
 run_add j i (suc m) n s =
@@ -109,7 +109,7 @@ run_add j i (suc m) n s =
     ap (λ n. run (next j i) n s) e ∙ run_add j i m n (next j i s)
 
 -- the step of an instruction that stands there and asks for this
-acts : (j : Judge) (i : Image) (c : CoreRegisters) (p : ProtectionState) (t : FaultStatus) (ram : List ℕ) (queues : List (List ℕ)) (y : Instr) (a : Act) →
+acts : (j : PermissionTest) (i : Image) (c : CoreRegisters) (p : ProtectionState) (t : FaultStatus) (ram : List ℕ) (queues : List (List ℕ)) (y : Instr) (a : Act) →
     Stands j i p c.pc y → act y (c.pc + size y) c ≡ a → turn j i (live c p t ram queues) ≡ perform j i a (live c p t ram queues)
 acts j i c p t ram queues y a h e = stepped j i c p t ram queues y h ∙ ap (λ b. perform j i b (live c p t ram queues)) e
 
@@ -121,7 +121,7 @@ pub record Laws : Type 0 where
   pub below : (x y : ℕ) → x < 2 ^ 32 → y < 2 ^ 32 → holds 3 (compare_flags x y) ≡ nat_lt x y
   pub at_most : (x y : ℕ) → x < 2 ^ 32 → y < 2 ^ 32 → holds 9 (compare_flags x y) ≡ nat_le x y
 
-module _ (j : Judge) (i : Image) (lr : ℕ) (queues : List (List ℕ)) (Good : ProtectionState → Type 0) (Allowed : Rule) where
+module _ (j : PermissionTest) (i : Image) (lr : ℕ) (queues : List (List ℕ)) (Good : ProtectionState → Type 0) (Allowed : Rule) where
   abbrev registers : ℕ → Scratch → Core → CoreRegisters
   registers pc x c = registers_at lr queues pc x c
 
@@ -727,6 +727,6 @@ module _ (j : Judge) (i : Image) (lr : ℕ) (queues : List (List ℕ)) (Good : P
     code_has_effect (Go to link k) pc x c lo hi h g f sf = none (at pc x c) (Shows (AtBranch to link c) (pc + (4 + code_length k))) (pc, x, refl, g, f, h.0, h.1.0)
 
 -- the theorem as it is stated
-pub effect_of_code : (j : Judge) (i : Image) (Good : ProtectionState → Type 0) (Allowed : Rule) → Laws → CodeHasEffect j i Good Allowed
+pub effect_of_code : (j : PermissionTest) (i : Image) (Good : ProtectionState → Type 0) (Allowed : Rule) → Laws → CodeHasEffect j i Good Allowed
 effect_of_code j i Good Allowed laws lr queues s pc x c rules m =
     code_has_effect j i lr queues Good Allowed laws rules s pc x c m.registers_are_low m.below m.code_stands m.good m.fits m.safe

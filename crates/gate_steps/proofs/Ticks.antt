@@ -1,14 +1,14 @@
 -- The steps from a core are at most the list's bound.
 use Rattle.std.proofs.Common.{◌≡◌, ℕ, zero, suc, ◌+◌, ◌*◌, ◌/◌, ◌%◌, ◌≤◌, max, Bool, true, false, nat_eq, arith}
 use Rattle.device_model.specs.declared.image.Image.{Image}
-use Rattle.armv7m.specs.State.{Judge}
+use Rattle.armv7m.specs.State.{PermissionTest}
 use Rattle.gate_steps.specs.Steps.{Steps, End, Const, Copy, Load, Store, Alu, ReadPsp, WritePsp, WriteControl, Test, Repeat, Halt, Return, Go}
 use Rattle.gate_steps.specs.Core.{Core, low_register, with_low, with_psp, is_privileged_on_msp}
 use Rattle.gate_steps.specs.Accesses.{LoadResult, Value, LoadStops, LoadUnclaimed, StoreResult, Written, StoreStops, StoreUnclaimed, load, store}
 use Rattle.gate_steps.specs.Effect.{Outcome, Went, Halted, AtReturn, AtBranch, Stopped, Unclaimed, operation, compared, either, with_one_less, turns, effect}
 use Rattle.gate_steps.specs.Ticks.{load_ticks, store_ticks, then_ticks, either_ticks, zero_ticks, control_ticks, turn_ticks, ticks, most_ticks}
 
-module _ (j : Judge) (i : Image) where
+module _ (j : PermissionTest) (i : Image) where
   then_most : (o : Outcome) (f : Core → ℕ) (m : ℕ) → ((d : Core) → f d ≤ m) → then_ticks o f ≤ m
   then_most (Went d) f m h = h d
   then_most (Halted n d) f m h = omega arith

@@ -4,12 +4,12 @@ use Rattle.std.proofs.lemmas.Bool.Decides.{nat_tests}
 use Rattle.mpu_model.specs.declared.region.Access.{Access}
 use Rattle.armv7m.specs.declared.state.ProtectionState.{ProtectionState}
 use Rattle.armv7m.specs.declared.accesses.Verdict.TheVariants.{ToBus, ToSystem}
-use Rattle.armv7m.specs.State.{Judge, is_unprivileged}
+use Rattle.armv7m.specs.State.{PermissionTest, is_unprivileged}
 use Rattle.armv7m.specs.System.{in_system, is_system_register}
 use Rattle.armv7m.specs.Tests.{verdict}
 
 -- an access outside the system's part of the memory map goes to the bus
-pub to_bus : (j : Judge) (p : ProtectionState) (kind : Access) (w a : ℕ) → a % w ≡ 0 → a < 0xE0000000 → j p kind a ≡ true → verdict j p kind w a ≡ ToBus
+pub to_bus : (j : PermissionTest) (p : ProtectionState) (kind : Access) (w a : ℕ) → a % w ≡ 0 → a < 0xE0000000 → j p kind a ≡ true → verdict j p kind w a ≡ ToBus
 unfolding verdict
 to_bus j p kind w a aligned low may =
     let e : nat_eq (a % w) 0 ≡ true = search (nat_tests, arith) in
@@ -17,7 +17,7 @@ to_bus j p kind w a aligned low may =
     rw (e, s, may)
 
 -- a privileged access of a system register goes there
-pub to_system : (j : Judge) (p : ProtectionState) (kind : Access) (a : ℕ) → a % 4 ≡ 0 → in_system a ≡ true → is_unprivileged p ≡ false → is_system_register a ≡ true → verdict j p kind 4 a ≡ ToSystem
+pub to_system : (j : PermissionTest) (p : ProtectionState) (kind : Access) (a : ℕ) → a % 4 ≡ 0 → in_system a ≡ true → is_unprivileged p ≡ false → is_system_register a ≡ true → verdict j p kind 4 a ≡ ToSystem
 unfolding verdict
 to_system j p kind a aligned s u r =
     let e : nat_eq (a % 4) 0 ≡ true = search (nat_tests, arith) in

@@ -10,7 +10,7 @@ use Rattle.device_model.specs.declared.image.Image.{Image}
 use Rattle.device_model.specs.Rules.{ObeysRules}
 use Rattle.mem_bus.specs.Places.{InRam, InFlash}
 use Rattle.armv7m.specs.declared.state.ProtectionState.{ProtectionState}
-use Rattle.armv7m.specs.State.{Judge, is_unprivileged}
+use Rattle.armv7m.specs.State.{PermissionTest, is_unprivileged}
 use Rattle.armv7m.specs.System.{in_system, is_system_register}
 use Rattle.gate_steps.specs.declared.steps.GateOp.{GateOp}
 use Rattle.gate_steps.specs.declared.steps.GateCond.{GateCond}
@@ -23,7 +23,7 @@ use Rattle.gate_steps.specs.Safe.{Rule, AreTurnsSafe, IsSafe}
 use Rattle.gate_steps.proofs.Verdicts.{to_system}
 use Rattle.gate_steps.proofs.Gives.{Open, Gives, gives_effect, end_gives, next_gives, const_gives, copy_gives, alu_gives, yes_gives, no_gives, must_gives, must_not_gives, halt_gives, return_gives, loop_gives, looped, load_is_at, store_is_at, in_ram, in_flash, value_gives, wrote_gives, psp_gives}
 
-module _ (j : Judge) (i : Image) (Good : ProtectionState → Type 0) (Allowed : Rule) where
+module _ (j : PermissionTest) (i : Image) (Good : ProtectionState → Type 0) (Allowed : Rule) where
   unfoldable pub ticks_all : Steps → List Steps → Core → ℕ
   ticks_all s [] c = ticks j i s c
   ticks_all s (k ∷ ks) c = ticks j i s c + then_ticks (effect j i s c) (λ d. ticks_all k ks d)
@@ -83,7 +83,7 @@ module _ (j : Judge) (i : Image) (Good : ProtectionState → Type 0) (Allowed : 
       let sp = w.spent in
       subst (λ v. zero_ticks v 3 (ticks j i body c + 4 + then_ticks (effect j i body c) (λ d. turn_ticks most left (effect j i body) (λ d. ticks j i body d) (with_one_less left d))) ≤ B (suc n)) (sym (counts (suc n) c p)) (omega (arith, sp, f, l, s))
 
-module _ {j : Judge} {i : Image} {Good : ProtectionState → Type 0} {Allowed : Rule} where
+module _ {j : PermissionTest} {i : Image} {Good : ProtectionState → Type 0} {Allowed : Rule} where
   pub end_within : {c : Core} {Q : Outcome → Type 0} → Q (Went c) → GivesWithin j i Good Allowed 0 End [] c Q
   unfolding ticks_all
   end_within q = record { gives = end_gives q; spent = omega arith }

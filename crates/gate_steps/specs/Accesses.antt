@@ -11,7 +11,7 @@ use Rattle.armv7m.specs.declared.state.StopReason.{StopReason}
 use Rattle.armv7m.specs.declared.state.StopReason.TheVariants.{Bus}
 use Rattle.armv7m.specs.declared.accesses.Verdict.{Verdict}
 use Rattle.armv7m.specs.declared.accesses.Verdict.TheVariants.{ToBus, ToSystem, Refused, Bad}
-use Rattle.armv7m.specs.State.{Judge}
+use Rattle.armv7m.specs.State.{PermissionTest}
 use Rattle.armv7m.specs.System.{read_system}
 use Rattle.armv7m.specs.Tests.{verdict}
 use Rattle.gate_steps.specs.Core.{Core, low_register, with_ram, with_system}
@@ -60,7 +60,7 @@ store_by ToSystem here w a v c = Written (with_system c a v)
 store_by Refused here w a v c = StoreUnclaimed
 store_by (Bad reason) here w a v c = StoreStops reason
 
-module _ (j : Judge) (i : Image) where
+module _ (j : PermissionTest) (i : Image) where
   -- by the verdict of the tests on the address and by its place
   abbrev pub load_from : (width address : ℕ) → Core → LoadResult
   load_from w a c = load_by (verdict j c.protection Read w a) (place i a) i w a c

@@ -3,7 +3,7 @@ use Rattle.std.specs.Prelude.{ℕ, zero, suc, ◌/◌, ◌%◌, Bool, true, fals
 use Rattle.words.specs.Arithmetic.{add, subtract, shift_left, shift_right}
 use Rattle.device_model.specs.declared.image.Image.{Image}
 use Rattle.armv7m.specs.declared.state.StopReason.{StopReason}
-use Rattle.armv7m.specs.State.{Judge}
+use Rattle.armv7m.specs.State.{PermissionTest}
 use Rattle.gate_steps.specs.declared.steps.GateOp.{GateOp}
 use Rattle.gate_steps.specs.declared.steps.GateOp.TheVariants.{Add, Sub, And, Or, Shl, Shr}
 use Rattle.gate_steps.specs.declared.steps.GateCond.{GateCond}
@@ -90,7 +90,7 @@ abbrev pub turns : (most left : ℕ) → (body : Core → Outcome) → Core → 
 turns zero left body = λ c. by_zero (low_register c left) Went (λ c. Unclaimed) c
 turns (suc n) left body = λ c. by_zero (low_register c left) Went (λ c. then_do (body c) (λ d. turns n left body (with_one_less left d))) c
 
-module _ (j : Judge) (i : Image) where
+module _ (j : PermissionTest) (i : Image) where
   -- step by step
   abbrev pub effect : Steps → Core → Outcome
   effect End c = Went c

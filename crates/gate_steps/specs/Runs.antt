@@ -11,7 +11,7 @@ use Rattle.device_model.specs.Rules.{ObeysRules}
 use Rattle.armv7m.specs.declared.state.CoreRegisters.{CoreRegisters}
 use Rattle.armv7m.specs.declared.state.ProtectionState.{ProtectionState}
 use Rattle.armv7m.specs.declared.state.End.TheVariants.{Halt as HaltEnd, Stop}
-use Rattle.armv7m.specs.State.{State, Touched, Judge}
+use Rattle.armv7m.specs.State.{State, Touched, PermissionTest}
 use Rattle.armv7m.specs.Step.{turn}
 use Rattle.armv7m.specs.Code.{size, Stands, CodeIn, live, next}
 use Rattle.armv7m.specs.Running.{code_size}
@@ -41,7 +41,7 @@ module _ (lr : ℕ) (queues : List (List ℕ)) where
 -- ---- code
 
 -- `Good` is what holds of mode and protection at each step
-module _ (j : Judge) (i : Image) (Good : ProtectionState → Type 0) where
+module _ (j : PermissionTest) (i : Image) (Good : ProtectionState → Type 0) where
   -- an instruction that stands there under each good protection, and instructions one after another
   abbrev pub StandsWhileGood : (pc : ℕ) → Instr → Type 0
   StandsWhileGood pc y = (p : ProtectionState) → Good p → Stands j i p pc y
@@ -58,7 +58,7 @@ module _ (j : Judge) (i : Image) (Good : ProtectionState → Type 0) where
 -- ---- runs
 
 -- `Allowed` is what each access reaches
-module _ (j : Judge) (i : Image) (Good : ProtectionState → Type 0) (Allowed : Rule) where
+module _ (j : PermissionTest) (i : Image) (Good : ProtectionState → Type 0) (Allowed : Rule) where
   -- the step from this state is good, makes no event and takes no input, and its accesses are allowed
   pub record IsFine (s : State) : Type 0 where
     pub good : Good s.protection
@@ -73,7 +73,7 @@ module _ (j : Judge) (i : Image) (Good : ProtectionState → Type 0) (Allowed : 
     pub holds : Holds (run (next j i) steps s)
     pub each : (k : ℕ) → k < steps → IsFine (run (next j i) k s)
 
-module _ (j : Judge) (i : Image) (Good : ProtectionState → Type 0) (lr : ℕ) (queues : List (List ℕ)) where
+module _ (j : PermissionTest) (i : Image) (Good : ProtectionState → Type 0) (lr : ℕ) (queues : List (List ℕ)) where
   -- how the outcome of a list shows at the machine: where it goes on, protection is good and the numbers are words; `behind` is the
   -- address behind its code
   abbrev pub Shows : Outcome → (behind : ℕ) → State → Type 0
@@ -91,7 +91,7 @@ module _ (j : Judge) (i : Image) (Good : ProtectionState → Type 0) (lr : ℕ) 
 
 -- ---- the theorem
 
-module _ (j : Judge) (i : Image) (Good : ProtectionState → Type 0) (Allowed : Rule) where
+module _ (j : PermissionTest) (i : Image) (Good : ProtectionState → Type 0) (Allowed : Rule) where
   -- what is asked of a list, of the place of its code, and of the core before it
   pub record MayStart (lr : ℕ) (queues : List (List ℕ)) (s : Steps) (pc : ℕ) (x : Scratch) (c : Core) : Type 0 where
     pub registers_are_low : names_low s ≡ true
@@ -117,14 +117,14 @@ AllowedBy test kind c w a = test kind c w a ≡ true
 
 abbrev pub AllCodeHasEffect : Type 0
 AllCodeHasEffect =
-    (j : Judge) (i : Image) (good : ProtectionState → Bool) (allowed : Access → Core → (width address : ℕ) → Bool) → CodeHasEffect j i (GoodBy good) (AllowedBy allowed)
+    (j : PermissionTest) (i : Image) (good : ProtectionState → Bool) (allowed : Access → Core → (width address : ℕ) → Bool) → CodeHasEffect j i (GoodBy good) (AllowedBy allowed)
 
 abbrev pub AllFlashHasCode : Type 0
-AllFlashHasCode = (j : Judge) (i : Image) (good : ProtectionState → Bool) → FlashHasCode j i (GoodBy good)
+AllFlashHasCode = (j : PermissionTest) (i : Image) (good : ProtectionState → Bool) → FlashHasCode j i (GoodBy good)
 
 -- the code of a list is as long as is counted, and a run is no longer than the most
 abbrev pub CodeHasItsLength : Type 0
 CodeHasItsLength = (s : Steps) → code_size (code s) ≡ code_length s
 
 abbrev pub TicksAreBounded : Type 0
-TicksAreBounded = (j : Judge) (i : Image) (s : Steps) (c : Core) → ticks j i s c ≤ most_ticks s
+TicksAreBounded = (j : PermissionTest) (i : Image) (s : Steps) (c : Core) → ticks j i s c ≤ most_ticks s

@@ -5,7 +5,7 @@ use Rattle.mpu_model.specs.declared.region.Access.{Access}
 use Rattle.mpu_model.specs.declared.region.Access.TheVariants.{Read, Write}
 use Rattle.device_model.specs.declared.image.Image.{Image}
 use Rattle.armv7m.specs.declared.state.ProtectionState.{ProtectionState}
-use Rattle.armv7m.specs.State.{Judge}
+use Rattle.armv7m.specs.State.{PermissionTest}
 use Rattle.gate_steps.specs.Steps.{Steps, End, Const, Copy, Load, Store, Alu, ReadPsp, WritePsp, WriteControl, Test, Repeat, Halt, Return, Go}
 use Rattle.gate_steps.specs.Core.{Core, low_register, with_low, with_psp, with_privilege, on_process_stack, is_privileged_on_msp}
 use Rattle.gate_steps.specs.Accesses.{LoadResult, Value, LoadStops, LoadUnclaimed, StoreResult, Written, StoreStops, StoreUnclaimed, address_of, load, store}
@@ -56,7 +56,7 @@ AreTurnsSafe (suc n) left body S c =
     UnlessZero (low_register c left) (S c × OnWent (body c) (λ d. AreTurnsSafe n left body S (with_one_less left d)))
 
 -- `Good` is what has to hold of mode and protection at each step: that the code may be fetched under it
-module _ (j : Judge) (i : Image) (Good : ProtectionState → Type 0) (Allowed : Rule) where
+module _ (j : PermissionTest) (i : Image) (Good : ProtectionState → Type 0) (Allowed : Rule) where
   abbrev pub IsSafe : Steps → Core → Type 0
   IsSafe End c = Unit {0}
   IsSafe (Const to number rest) c = IsSafe rest (with_low c to number)

@@ -1,7 +1,7 @@
 -- How many steps the machine makes for a list.
 use Rattle.std.specs.Prelude.{ℕ, zero, suc, ◌+◌, ◌*◌, ◌/◌, ◌%◌, max, Bool, true, false, nat_eq}
 use Rattle.device_model.specs.declared.image.Image.{Image}
-use Rattle.armv7m.specs.State.{Judge}
+use Rattle.armv7m.specs.State.{PermissionTest}
 use Rattle.gate_steps.specs.Steps.{Steps, End, Const, Copy, Load, Store, Alu, ReadPsp, WritePsp, WriteControl, Test, Repeat, Halt, Return, Go}
 use Rattle.gate_steps.specs.Core.{Core, low_register, with_low, with_psp, with_privilege, on_process_stack, is_privileged_on_msp}
 use Rattle.gate_steps.specs.Accesses.{LoadResult, Value, LoadStops, LoadUnclaimed, StoreResult, Written, StoreStops, StoreUnclaimed, load, store}
@@ -63,7 +63,7 @@ turn_ticks zero left body count c = 3
 turn_ticks (suc n) left body count c =
     zero_ticks (low_register c left) 3 (count c + 4 + then_ticks (body c) (λ d. turn_ticks n left body count (with_one_less left d)))
 
-module _ (j : Judge) (i : Image) where
+module _ (j : PermissionTest) (i : Image) where
   -- from this core, at most: an operation counts with four steps, also where its code is shorter, and a test with four of its own
   abbrev pub ticks : Steps → Core → ℕ
   ticks End c = 0

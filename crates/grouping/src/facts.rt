@@ -10,7 +10,7 @@ ghost use Rattle.grouping.specs.Functions.{AreFunctions};
 use crate::callers::callers;
 use crate::origins::{Origin, origins};
 use ir_model::checked::Checked;
-use listed::Listed;
+use list_vec::ListVec;
 use plan_model::groups::FuncFacts;
 use plan_model::needs::Needs;
 use std::alloc::{AllocError, Global};
@@ -34,8 +34,8 @@ fn fact(
         index,
         name,
         file: origin.file,
-        periphs: Listed::new(periphs),
-        callers: Listed::new(callers),
+        periphs: ListVec::new(periphs),
+        callers: ListVec::new(callers),
     })
 }
 

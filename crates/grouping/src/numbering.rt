@@ -5,7 +5,7 @@ ghost use Rattle.std.specs.List.{All};
 ghost use Rattle.plan_model.specs.Compartments.{compartments};
 ghost use Rattle.grouping.specs.Marks.{AreMarks, AreNumbers};
 
-use listed::Listed;
+use list_vec::ListVec;
 use plan_model::groups::Groups;
 use std::alloc::{AllocError, Global};
 
@@ -54,7 +54,7 @@ pub(crate) fn numbered(alloc: Global, groups: &[u32], count: u32) -> Result<Grou
         of.push(numbers[groups[i] as usize])?;
     }
     Ok(Groups {
-        of: Listed::new(of),
+        of: ListVec::new(of),
         count: numbers[count as usize],
     })
 }

@@ -6,7 +6,7 @@ ghost use Rattle.device_model.specs.Rules.{ObeysRules};
 use armv7m::machine::Machine;
 use device_model::image::Image;
 use device_model::tape::Tape;
-use listed::Listed;
+use list_vec::ListVec;
 use monitor::tables::{CompRecord, SiteRecord, Tables, TargetRecord};
 use monitor_code::page::page;
 use mpu_model::region::Region;
@@ -44,7 +44,7 @@ fn compartment(
     let slots = vec![in alloc; first, FREE[0], FREE[1], FREE[2]]?;
     Ok(CompRecord {
         code,
-        slots: Listed::new(slots),
+        slots: ListVec::new(slots),
         mask,
         reads,
     })
@@ -124,12 +124,12 @@ fn tables(alloc: Global, closed: bool) -> Result<Tables, AllocError> {
     let targets = vec![in alloc; TARGETS[0], TARGETS[1]]?;
     Ok(Tables {
         base: 0x0800_0000,
-        comps: Listed::new(compartments(alloc, closed)?),
-        sites: Listed::new(sites),
-        targets: Listed::new(targets),
-        lends: Listed::new(vec![in alloc; 4]?),
-        inits: Listed::new(Vec::new(alloc)),
-        words: Listed::new(Vec::new(alloc)),
+        comps: ListVec::new(compartments(alloc, closed)?),
+        sites: ListVec::new(sites),
+        targets: ListVec::new(targets),
+        lends: ListVec::new(vec![in alloc; 4]?),
+        inits: ListVec::new(Vec::new(alloc)),
+        words: ListVec::new(Vec::new(alloc)),
         stack: Spot {
             base: 0x2000_0000,
             size: 2048,
@@ -189,7 +189,7 @@ fn board(alloc: Global, closed: bool, code: &[u32], second: &[u32]) -> Result<Im
     write_words(bytes, 0x2080, second);
     Ok(Image {
         flash_base: 0x0800_0000,
-        flash: Listed::new(flash),
+        flash: ListVec::new(flash),
         ram_base: 0x2000_0000,
         ram_size: 65536,
         monitor: MONITOR,
@@ -197,7 +197,7 @@ fn board(alloc: Global, closed: bool, code: &[u32], second: &[u32]) -> Result<Im
         stack_size: 0,
         regions: 8,
         closed,
-        windows: Listed::new(Vec::new(alloc)),
+        windows: ListVec::new(Vec::new(alloc)),
     })
 }
 

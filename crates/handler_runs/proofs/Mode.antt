@@ -4,7 +4,7 @@ use Rattle.device_model.specs.declared.image.Image.{Image}
 use Rattle.mem_bus.specs.Places.{Place, InRam, InFlash, InWindow, Nowhere}
 use Rattle.armv7m.specs.declared.accesses.Verdict.{Verdict}
 use Rattle.armv7m.specs.declared.accesses.Verdict.TheVariants.{ToBus, ToSystem, Refused, Bad}
-use Rattle.armv7m.specs.State.{Judge}
+use Rattle.armv7m.specs.State.{PermissionTest}
 use Rattle.gate_steps.specs.Steps.{Steps, End, Const, Copy, Load, Store, Alu, ReadPsp, WritePsp, WriteControl, Test, Repeat, Halt, Return, Go}
 use Rattle.gate_steps.specs.Core.{Core, low_register, with_low, with_psp, with_privilege, on_process_stack, is_privileged_on_msp}
 use Rattle.gate_steps.specs.Accesses.{LoadResult, Value, LoadStops, LoadUnclaimed, StoreResult, Written, StoreStops, StoreUnclaimed, store_at, store_by, load, store}
@@ -74,7 +74,7 @@ module _ (h : Bool) where
   control_keeps false true false v c f e k = tt
   control_keeps false false p v c f e k = tt
 
-  module _ (j : Judge) (i : Image) where
+  module _ (j : PermissionTest) (i : Image) where
     pub mode_kept : (s : Steps) (c : Core) → Is c → InMode h (effect j i s c)
     mode_kept End c e = e
     mode_kept (Const to n k) c e = mode_kept k (with_low c to n) e

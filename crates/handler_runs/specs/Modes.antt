@@ -1,7 +1,7 @@
 -- The mode in which a list of privileged steps ends.
 use Rattle.std.specs.Prelude.{◌≡◌, Bool}
 use Rattle.device_model.specs.declared.image.Image.{Image}
-use Rattle.armv7m.specs.State.{Judge}
+use Rattle.armv7m.specs.State.{PermissionTest}
 use Rattle.gate_steps.specs.Steps.{Steps}
 use Rattle.gate_steps.specs.Core.{Core}
 use Rattle.gate_steps.specs.Effect.{Outcome, Went, Halted, AtReturn, AtBranch, Stopped, Unclaimed, effect}
@@ -16,4 +16,4 @@ InMode h (Stopped r d) = d.protection.handler ≡ h
 InMode h Unclaimed = Unit {0}
 
 abbrev pub ListsKeepTheMode : Type 0
-ListsKeepTheMode = (h : Bool) (j : Judge) (i : Image) (s : Steps) (c : Core) → c.protection.handler ≡ h → InMode h (effect j i s c)
+ListsKeepTheMode = (h : Bool) (j : PermissionTest) (i : Image) (s : Steps) (c : Core) → c.protection.handler ≡ h → InMode h (effect j i s c)

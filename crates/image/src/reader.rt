@@ -13,7 +13,7 @@ use crate::fields::{
 };
 use crate::rules;
 use device_model::image::{Image, Window};
-use listed::Listed;
+use list_vec::ListVec;
 use std::alloc::Global;
 
 /// The memories of an image.
@@ -185,7 +185,7 @@ fn read_window(alloc: Global, bytes: &[u8], at: u32, seen: &[Window]) -> Result<
     let (base, size) = read_range(bytes, at, seen)?;
     let name = read_name(bytes, at, seen)?.to_vec(alloc)?;
     Ok(Window {
-        name: Listed::new(name),
+        name: ListVec::new(name),
         base,
         size,
     })
@@ -245,7 +245,7 @@ fn read_image(alloc: Global, bytes: &[u8]) -> Result<Image, ImageFault>
     let flash = read_flash(alloc, bytes, flash_at, memories.flash_length)?;
     Ok(Image {
         flash_base: memories.flash_base,
-        flash: Listed::new(flash),
+        flash: ListVec::new(flash),
         ram_base: memories.ram_base,
         ram_size: memories.ram_size,
         monitor: places.monitor,
@@ -253,7 +253,7 @@ fn read_image(alloc: Global, bytes: &[u8]) -> Result<Image, ImageFault>
         stack_size: places.stack_size,
         regions: protection.regions,
         closed: protection.closed,
-        windows: Listed::new(windows),
+        windows: ListVec::new(windows),
     })
 }
 

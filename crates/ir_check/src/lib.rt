@@ -13,7 +13,6 @@ mod labels;
 mod locals;
 mod lookup;
 mod new_names;
-mod outer;
 mod periphs;
 mod register_names;
 mod registers;
@@ -22,6 +21,7 @@ mod spot;
 mod structs;
 mod tables;
 mod type_names;
+mod whole_check;
 
 pub use fault::CheckFault;
-pub use outer::check;
+pub use whole_check::check;

@@ -4,7 +4,7 @@ use Rattle.std.specs.Prelude.{◌≡◌, ℕ, ◌<◌, List, length, Bool, true,
 use Rattle.std.proofs.Math.ListN.{get_or}
 use Rattle.ir_model.specs.Types.{PlainType, Pointer, Callee}
 use Rattle.ir_model.specs.Resolved.{Program, Value, Number, Code, Null, At, Named, TheGlobal, ThePeriph, TheLocal, register_type, global_at, NumberedInst, Const, Move, Bin, Cmp, Addr, FAddr, Elem, Field, Load, Store, Call, ICall, NumberedTerm, Jump, Branch, Ret, Here, Does, Ends, here}
-use Rattle.ir_model.specs.State.{Object, GlobalObject, PeriphObject, LocalObject, FunctionObject, object_of, Did, Nothing, Loaded, Stored, Called}
+use Rattle.ir_model.specs.State.{Object, GlobalObject, PeriphObject, LocalObject, FunctionObject, object_of, StepEffect, Nothing, Loaded, Stored, Called}
 use Rattle.ir_model.specs.Signatures.{signature}
 
 -- what holds values: a register of a function in any of its frames, all cells of an object, what a function gives
@@ -106,7 +106,7 @@ abbrev pub IsWritten : Program → ObjectSets → (f : ℕ) → Object → Type 
 IsWritten p S f o = (b : ℕ) × (k : ℕ) × WritesAt S f (here p f b k) o
 
 -- what a step reached is what the sets have
-abbrev pub IsExpected : Program → ObjectSets → Did → Type 0
+abbrev pub IsExpected : Program → ObjectSets → StepEffect → Type 0
 IsExpected p S Nothing = Unit {0}
 IsExpected p S (Loaded f o) = IsRead p S f o
 IsExpected p S (Stored f o) = IsWritten p S f o

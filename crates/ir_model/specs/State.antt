@@ -52,16 +52,16 @@ object_of (OfPeriph p) = PeriphObject p
 object_of (OfLocal f n l) = LocalObject f l
 
 -- what a step reached
-pub data Did : Type 0 where
-  Nothing : Did
-  Loaded : (func : ℕ) → (object : Object) → Did
-  Stored : (func : ℕ) → (object : Object) → Did
-  Called : (func block place callee : ℕ) → Did
+pub data StepEffect : Type 0 where
+  Nothing : StepEffect
+  Loaded : (func : ℕ) → (object : Object) → StepEffect
+  Stored : (func : ℕ) → (object : Object) → StepEffect
+  Called : (func block place callee : ℕ) → StepEffect
 
 pub record SourceTurn : Type 0 where
   pub to : SourceState
   pub event : Option Event
-  pub did : Did
+  pub did : StepEffect
 
 abbrev pub zero_cells : List CellPlace → List Value
 zero_cells cs = map (λ (c : CellPlace). zero_of c.ty) cs

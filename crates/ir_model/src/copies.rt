@@ -11,14 +11,14 @@ use crate::firmware::{
 };
 use crate::name::Name;
 use crate::types::Ty;
-use listed::Listed;
+use list_vec::ListVec;
 use std::alloc::{AllocError, Global};
 
-fn clone_list<T: Clone>(alloc: Global, list: &Listed<T>) -> Result<Listed<T>, AllocError>
+fn clone_list<T: Clone>(alloc: Global, list: &ListVec<T>) -> Result<ListVec<T>, AllocError>
     ensures clones { IfOk result (λ v. AllZip T.is_clone list.now v) }
     ensures same { IfOk result (λ v. ((x y : T) → T.is_clone x y → y ≡ x) → v ≡ list.now) }
 {
-    Ok(Listed::new(list.as_slice().to_vec(alloc)?))
+    Ok(ListVec::new(list.as_slice().to_vec(alloc)?))
 }
 
 fn clone_name(name: &Option<Name>) -> Result<Option<Name>, AllocError>

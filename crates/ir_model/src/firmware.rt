@@ -2,7 +2,7 @@
 
 use crate::name::Name;
 use crate::types::Ty;
-use listed::Listed;
+use list_vec::ListVec;
 
 /// A name with its type: a field, a parameter, a register or a local.
 #[derive(Drop)]
@@ -19,7 +19,7 @@ pub struct StructDecl {
     /// Its name.
     pub name: Name,
     /// Its fields in order.
-    pub fields: Listed<Slot>,
+    pub fields: ListVec<Slot>,
 }
 
 /// A peripheral.
@@ -54,7 +54,7 @@ pub struct Global {
     /// Its type.
     pub ty: Ty,
     /// The first values of its first cells.
-    pub init: Listed<Cell>,
+    pub init: ListVec<Cell>,
 }
 
 /// An operation on two numbers.
@@ -199,7 +199,7 @@ pub enum Inst {
         /// The function.
         func: Name,
         /// The arguments.
-        args: Listed<Name>,
+        args: ListVec<Name>,
     },
     /// `to = icall func ( args )`
     ICall {
@@ -208,7 +208,7 @@ pub enum Inst {
         /// The register that holds the function.
         func: Name,
         /// The arguments.
-        args: Listed<Name>,
+        args: ListVec<Name>,
     },
 }
 
@@ -236,7 +236,7 @@ pub struct Block {
     /// Its label.
     pub label: Name,
     /// Its instructions in order.
-    pub insts: Listed<Inst>,
+    pub insts: ListVec<Inst>,
     /// Its end.
     pub term: Term,
 }
@@ -247,15 +247,15 @@ pub struct Func {
     /// Its name.
     pub name: Name,
     /// Its parameters in order.
-    pub params: Listed<Slot>,
+    pub params: ListVec<Slot>,
     /// Its result's type, where it has one.
     pub result: Option<Ty>,
     /// Its locals in order.
-    pub locals: Listed<Slot>,
+    pub locals: ListVec<Slot>,
     /// Its registers in order, without the parameters.
-    pub regs: Listed<Slot>,
+    pub regs: ListVec<Slot>,
     /// Its blocks in order; it begins with the first.
-    pub blocks: Listed<Block>,
+    pub blocks: ListVec<Block>,
 }
 
 /// A file.
@@ -264,18 +264,18 @@ pub struct FileDecl {
     /// Its name.
     pub name: Name,
     /// Its functions in order.
-    pub funcs: Listed<Func>,
+    pub funcs: ListVec<Func>,
 }
 
 /// A firmware.
 #[derive(Drop)]
 pub struct Firmware {
     /// Its structs in order.
-    pub structs: Listed<StructDecl>,
+    pub structs: ListVec<StructDecl>,
     /// Its peripherals in order.
-    pub periphs: Listed<Peripheral>,
+    pub periphs: ListVec<Peripheral>,
     /// Its globals in order.
-    pub globals: Listed<Global>,
+    pub globals: ListVec<Global>,
     /// Its files in order.
-    pub files: Listed<FileDecl>,
+    pub files: ListVec<FileDecl>,
 }

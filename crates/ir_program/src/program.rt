@@ -4,7 +4,7 @@ use crate::value::Value;
 use ir_model::firmware::{BinOp, CmpOp, Func};
 use ir_model::types::Ty;
 use layouts::table::Layouts;
-use listed::Listed;
+use list_vec::ListVec;
 
 /// What a global or a local is made of. Its cells are those of its type.
 #[derive(Clone, Copy)]
@@ -129,7 +129,7 @@ pub enum Operation<'a> {
         /// The function.
         func: u16,
         /// The arguments' registers.
-        args: Listed<usize>,
+        args: ListVec<usize>,
     },
     /// `to = icall func ( args )`
     ICall {
@@ -138,7 +138,7 @@ pub enum Operation<'a> {
         /// The register that holds the function.
         func: usize,
         /// The arguments' registers.
-        args: Listed<usize>,
+        args: ListVec<usize>,
     },
 }
 
@@ -164,7 +164,7 @@ pub enum Exit {
 #[derive(Drop)]
 pub struct Sequence<'a> {
     /// Its instructions in order.
-    pub operations: Listed<Operation<'a>>,
+    pub operations: ListVec<Operation<'a>>,
     /// Its end.
     pub exit: Exit,
 }
@@ -177,7 +177,7 @@ pub struct Variable<'a> {
     /// What it is made of.
     pub storage: Storage<'a>,
     /// What its first cells hold at first; those behind them hold 0 or null.
-    pub init: Listed<Value>,
+    pub init: ListVec<Value>,
 }
 
 /// A peripheral's window.
@@ -195,11 +195,11 @@ pub struct Routine<'a> {
     /// The function as it was read.
     pub source: &'a Func,
     /// The types of its registers, the parameters first.
-    pub registers: Listed<&'a Ty>,
+    pub registers: ListVec<&'a Ty>,
     /// What each local is made of.
-    pub locals: Listed<Storage<'a>>,
+    pub locals: ListVec<Storage<'a>>,
     /// Its blocks in order; it begins with the first.
-    pub blocks: Listed<Sequence<'a>>,
+    pub blocks: ListVec<Sequence<'a>>,
 }
 
 /// A firmware with numbers for its names.
@@ -208,13 +208,13 @@ pub struct Program<'a> {
     /// The layouts of its structs.
     pub layouts: Layouts<'a>,
     /// Its globals in order.
-    pub globals: Listed<Variable<'a>>,
+    pub globals: ListVec<Variable<'a>>,
     /// Each peripheral's window.
-    pub periphs: Listed<Span>,
+    pub periphs: ListVec<Span>,
     /// The functions of all files in order.
-    pub funcs: Listed<Routine<'a>>,
+    pub funcs: ListVec<Routine<'a>>,
     /// The number of each function's file.
-    pub files: Listed<u32>,
+    pub files: ListVec<u32>,
     /// The number of `main`.
     pub main: u16,
 }

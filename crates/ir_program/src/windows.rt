@@ -5,7 +5,7 @@ ghost use Rattle.ir_program.specs.Windows.{window_of};
 
 use device_model::image::Window;
 use ir_model::firmware::Peripheral;
-use listed::Listed;
+use list_vec::ListVec;
 use std::alloc::{AllocError, Global};
 
 fn window(alloc: Global, periph: &Peripheral) -> Result<Window, AllocError>
@@ -13,7 +13,7 @@ fn window(alloc: Global, periph: &Peripheral) -> Result<Window, AllocError>
 {
     let name = Vec::from_slice(alloc, periph.name.as_slice())?;
     Ok(Window {
-        name: Listed::new(name),
+        name: ListVec::new(name),
         base: periph.base,
         size: periph.size,
     })

@@ -18,7 +18,7 @@ use crate::terminals::{behind_mark, behind_word, global_word, mark, name, number
 use crate::token::Token;
 use ir_model::firmware::{Cell, Global as GlobalDecl, Peripheral, Slot, StructDecl};
 use ir_model::token::{Keyword, Mark, TextLimit};
-use listed::Listed;
+use list_vec::ListVec;
 use std::alloc::Global;
 
 /// A struct behind the word `struct`, and the text behind it.
@@ -32,7 +32,7 @@ fn struct_behind(alloc: Global, text: &[u8]) -> Result<(StructDecl, &[u8]), Read
     Ok((
         StructDecl {
             name,
-            fields: Listed::new(fields),
+            fields: ListVec::new(fields),
         },
         rest,
     ))
@@ -169,7 +169,7 @@ fn global_behind(
 {
     let (Slot { name, ty }, rest) = slot(alloc, None, text)?;
     let (init, rest) = init(alloc, before + 1, rest)?;
-    let init = Listed::new(init);
+    let init = ListVec::new(init);
     Ok((
         GlobalDecl {
             name,

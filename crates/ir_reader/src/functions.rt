@@ -21,7 +21,7 @@ use ir_model::firmware::{Block, FileDecl, Func, Inst, Slot, Term};
 use ir_model::name::Name;
 use ir_model::token::{Keyword, Mark, TextLimit};
 use ir_model::types::Ty;
-use listed::Listed;
+use list_vec::ListVec;
 use std::alloc::Global;
 
 /// The instructions of a block behind so many others, and its end, and the text behind them.
@@ -63,7 +63,7 @@ fn block(
     Ok((
         Block {
             label,
-            insts: Listed::new(insts),
+            insts: ListVec::new(insts),
             term,
         },
         rest,
@@ -201,11 +201,11 @@ fn func_behind(alloc: Global, text: &[u8]) -> Result<(Func, &[u8]), ReadError>
     ) = function_body(alloc, params.len(), rest)?;
     let func = Func {
         name,
-        params: Listed::new(params),
+        params: ListVec::new(params),
         result: outcome,
-        locals: Listed::new(locals),
-        regs: Listed::new(regs),
-        blocks: Listed::new(blocks),
+        locals: ListVec::new(locals),
+        regs: ListVec::new(regs),
+        blocks: ListVec::new(blocks),
     };
     Ok((func, rest))
 }
@@ -246,7 +246,7 @@ fn file_behind(alloc: Global, functions: usize, text: &[u8]) -> Result<(FileDecl
     Ok((
         FileDecl {
             name,
-            funcs: Listed::new(funcs),
+            funcs: ListVec::new(funcs),
         },
         rest,
     ))

@@ -18,7 +18,7 @@ use crate::token::Token;
 use ir_model::firmware::{Inst, Term};
 use ir_model::name::Name;
 use ir_model::token::{Keyword, Mark, TextLimit};
-use listed::Listed;
+use list_vec::ListVec;
 use std::alloc::Global;
 
 /// An instruction or the end of a block.
@@ -41,13 +41,13 @@ fn two_names(alloc: Global, text: &[u8]) -> Result<((Name, Name), &[u8]), ReadEr
 }
 
 /// A function or a register, and the arguments of its call, and the text behind them.
-fn called(alloc: Global, text: &[u8]) -> Result<((Name, Listed<Name>), &[u8]), ReadError>
+fn called(alloc: Global, text: &[u8]) -> Result<((Name, ListVec<Name>), &[u8]), ReadError>
     ensures { Reads (λ x. x.0) (λ p. spelling.spell_called p.0 p.1) Expected.call_rest [] (placed text.now) (λ x. placed x.1.now) result }
 {
     let (func, rest) = name(alloc, text)?;
     let rest = mark(Mark::Open, rest)?;
     let (args, rest) = args(alloc, rest)?;
-    Ok(((func, Listed::new(args)), rest))
+    Ok(((func, ListVec::new(args)), rest))
 }
 
 /// What a register gets by a reserved word, which was read, and the text behind it.

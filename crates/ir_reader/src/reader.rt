@@ -19,7 +19,7 @@ use crate::functions::files;
 use crate::position::position;
 use ir_model::firmware::Firmware;
 use ir_model::token::Excess;
-use listed::Listed;
+use list_vec::ListVec;
 use std::alloc::Global;
 
 /// The firmware of a text, or its first fault by the bytes that are left there.
@@ -33,10 +33,10 @@ fn firmware(alloc: Global, text: &[u8]) -> Result<Firmware, ReadError>
     let (globals, rest) = globals(alloc, rest)?;
     let files = files(alloc, rest)?;
     Ok(Firmware {
-        structs: Listed::new(structs),
-        periphs: Listed::new(periphs),
-        globals: Listed::new(globals),
-        files: Listed::new(files),
+        structs: ListVec::new(structs),
+        periphs: ListVec::new(periphs),
+        globals: ListVec::new(globals),
+        files: ListVec::new(files),
     })
 }
 

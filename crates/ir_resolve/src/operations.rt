@@ -11,7 +11,7 @@ use crate::tables::{FuncTables, Scope};
 use ir_model::firmware::{Block, Inst, Term};
 use ir_model::name::Name;
 use ir_program::program::{Exit, Operation, Sequence};
-use listed::Listed;
+use list_vec::ListVec;
 use std::alloc::{AllocError, Global};
 
 fn optional_number(tables: &FuncTables, name: &Option<Name>) -> Option<usize>
@@ -28,7 +28,7 @@ fn register_numbers(
     alloc: Global,
     tables: &FuncTables,
     names: &[Name],
-) -> Result<Listed<usize>, AllocError>
+) -> Result<ListVec<usize>, AllocError>
     requires { AreTables tables.now }
     ensures { IfOk result (λ ns. ns ≡ map (resolving.register_number (named_func tables.now)) names.now) }
 {
@@ -36,7 +36,7 @@ fn register_numbers(
     for name in names {
         numbers.push(register_number(tables, name))?;
     }
-    Ok(Listed::new(numbers))
+    Ok(ListVec::new(numbers))
 }
 
 /// An instruction of a function with numbers for its names.
@@ -141,7 +141,7 @@ fn operations<'a>(
     scope: &Scope<'a>,
     tables: &FuncTables<'a>,
     insts: &[Inst],
-) -> Result<Listed<Operation<'a>>, AllocError>
+) -> Result<ListVec<Operation<'a>>, AllocError>
     requires { AreTables tables.now }
     ensures { IfOk result (λ os. map (operation_of (scope_of scope.now).known) os ≡ map (resolving.resolved_inst (scope_of scope.now) (named_func tables.now)) insts.now) }
 {
@@ -150,7 +150,7 @@ fn operations<'a>(
         let next = operation(alloc, scope, tables, &insts[i])?;
         operations.push(next)?;
     }
-    Ok(Listed::new(operations))
+    Ok(ListVec::new(operations))
 }
 
 /// The blocks of a function with numbers for their names.
@@ -158,7 +158,7 @@ pub(crate) fn sequences<'a>(
     alloc: Global,
     scope: &Scope<'a>,
     tables: &FuncTables<'a>,
-) -> Result<Listed<Sequence<'a>>, AllocError>
+) -> Result<ListVec<Sequence<'a>>, AllocError>
     requires { AreTables tables.now }
     ensures { IfOk result (λ ss. map (sequence_of (scope_of scope.now).known) ss ≡ map (resolving.resolved_block (scope_of scope.now) (named_func tables.now)) tables.now.source.now.blocks) }
 {
@@ -169,5 +169,5 @@ pub(crate) fn sequences<'a>(
         let exit = exit(tables, &blocks[i].term);
         sequences.push(Sequence { operations, exit })?;
     }
-    Ok(Listed::new(sequences))
+    Ok(ListVec::new(sequences))
 }

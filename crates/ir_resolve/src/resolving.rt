@@ -15,10 +15,10 @@ use crate::variables::variables;
 use ir_model::checked::Checked;
 use ir_model::firmware::{Firmware, Func};
 use ir_program::program::{Program, Routine, Span, Variable};
-use listed::Listed;
+use list_vec::ListVec;
 use std::alloc::{AllocError, Global};
 
-fn spans(alloc: Global, firmware: &Firmware) -> Result<Listed<Span>, AllocError>
+fn spans(alloc: Global, firmware: &Firmware) -> Result<ListVec<Span>, AllocError>
     ensures { IfOk result (λ ws. map span_of ws ≡ map definition.window_of firmware.now.periphs) }
 {
     let mut spans = Vec::new(alloc);
@@ -28,15 +28,15 @@ fn spans(alloc: Global, firmware: &Firmware) -> Result<Listed<Span>, AllocError>
             size: periph.size,
         })?;
     }
-    Ok(Listed::new(spans))
+    Ok(ListVec::new(spans))
 }
 
 /// What a program has beside the layouts of its structs.
 struct Parts<'a> {
-    globals: Listed<Variable<'a>>,
-    periphs: Listed<Span>,
-    funcs: Listed<Routine<'a>>,
-    files: Listed<u32>,
+    globals: ListVec<Variable<'a>>,
+    periphs: ListVec<Span>,
+    funcs: ListVec<Routine<'a>>,
+    files: ListVec<u32>,
     main: u16,
 }
 

@@ -18,7 +18,7 @@ use ir_model::firmware::{Firmware, Func, Slot};
 use ir_model::types::Ty;
 use ir_program::program::{Routine, Storage};
 use layouts::table::Layouts;
-use listed::Listed;
+use list_vec::ListVec;
 use std::alloc::{AllocError, Global};
 
 fn push_types<'a>(types: &mut Vec<&'a Ty>, slots: &'a [Slot]) -> Result<(), AllocError>
@@ -31,20 +31,20 @@ fn push_types<'a>(types: &mut Vec<&'a Ty>, slots: &'a [Slot]) -> Result<(), Allo
 }
 
 /// The types of a function's registers, the parameters first.
-pub(crate) fn register_types(alloc: Global, func: &Func) -> Result<Listed<&Ty>, AllocError>
+pub(crate) fn register_types(alloc: Global, func: &Func) -> Result<ListVec<&Ty>, AllocError>
     ensures { IfOk result (λ ts. map (λ t. type_of t.now) ts ≡ types_of (regs_of (func_of func.now))) }
 {
     let mut types = Vec::new(alloc);
     push_types(&mut types, func.params.as_slice())?;
     push_types(&mut types, func.regs.as_slice())?;
-    Ok(Listed::new(types))
+    Ok(ListVec::new(types))
 }
 
 fn locals<'a>(
     alloc: Global,
     layouts: &Layouts<'a>,
     slots: &'a [Slot],
-) -> Result<Listed<Storage<'a>>, AllocError>
+) -> Result<ListVec<Storage<'a>>, AllocError>
     ensures shapes { IfOk result (λ ls. map (shape_of (known (map struct_of layouts.now))) ls ≡ map (λ l. shape (known (map struct_of layouts.now)) l.ty) (map slot_of slots.now)) }
     ensures cells { IfOk result (λ ls. map (λ (s : Storage). s.cells) ls ≡ map (λ (s : Shape). length s.cells) (map (λ l. shape (known (map struct_of layouts.now)) l.ty) (map slot_of slots.now))) }
 {
@@ -52,7 +52,7 @@ fn locals<'a>(
     for slot in slots {
         locals.push(storage(layouts, &slot.ty)?)?;
     }
-    Ok(Listed::new(locals))
+    Ok(ListVec::new(locals))
 }
 
 fn routine<'a>(
@@ -79,7 +79,7 @@ pub(crate) fn routines<'a>(
     alloc: Global,
     scope: &Scope<'a>,
     funcs: &[&'a Func],
-) -> Result<Listed<Routine<'a>>, AllocError>
+) -> Result<ListVec<Routine<'a>>, AllocError>
     ensures exact { IfOk result (λ rs. map (routine_of (known (map struct_of scope.now.layouts))) rs ≡ map (resolving.resolved_func (scope_of scope.now)) (map (λ f. func_of f.now) funcs.now)) }
     ensures cells { IfOk result (λ rs. map local_counts rs ≡ map cell_counts (map (resolving.resolved_func (scope_of scope.now)) (map (λ f. func_of f.now) funcs.now))) }
 {
@@ -88,7 +88,7 @@ pub(crate) fn routines<'a>(
         let next = routine(alloc, scope, funcs[i])?;
         routines.push(next)?;
     }
-    Ok(Listed::new(routines))
+    Ok(ListVec::new(routines))
 }
 
 fn push_funcs<'a>(funcs: &mut Vec<&'a Func>, more: &'a [Func]) -> Result<(), AllocError>
@@ -126,7 +126,7 @@ fn push_times(numbers: &mut Vec<u32>, number: u32, times: usize) -> Result<(), A
 /// # Errors
 ///
 /// There is no memory for them, or a file's number has more than 32 bits.
-pub(crate) fn file_numbers(alloc: Global, firmware: &Firmware) -> Result<Listed<u32>, AllocError>
+pub(crate) fn file_numbers(alloc: Global, firmware: &Firmware) -> Result<ListVec<u32>, AllocError>
     ensures { IfOk result (λ ns. ns ≡ resolving.files_from 0 (firmware_of firmware.now).files) }
 {
     let files = firmware.files.as_slice();
@@ -137,5 +137,5 @@ pub(crate) fn file_numbers(alloc: Global, firmware: &Firmware) -> Result<Listed<
         };
         push_times(&mut numbers, number, files[i].funcs.len())?;
     }
-    Ok(Listed::new(numbers))
+    Ok(ListVec::new(numbers))
 }

@@ -3,7 +3,7 @@
 use ir_model::firmware::Func;
 use ir_model::types::Ty;
 use layouts::table::Layouts;
-use listed::Listed;
+use list_vec::ListVec;
 use name_tables::Names;
 
 /// The names of a firmware, and the layouts of its structs.
@@ -20,7 +20,7 @@ pub(crate) struct Scope<'a> {
 pub(crate) struct FuncTables<'a> {
     pub(crate) source: &'a Func,
     pub(crate) registers: Names<'a>,
-    pub(crate) types: Listed<&'a Ty>,
+    pub(crate) types: ListVec<&'a Ty>,
     pub(crate) locals: Names<'a>,
     pub(crate) labels: Names<'a>,
 }

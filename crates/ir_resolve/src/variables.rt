@@ -17,7 +17,7 @@ use ir_model::firmware::{Cell, Firmware, Global as GlobalDecl};
 use ir_model::types::Ty;
 use ir_program::program::Variable;
 use ir_program::value::Value;
-use listed::Listed;
+use list_vec::ListVec;
 use std::alloc::{AllocError, Global};
 
 /// What a cell holds that a text gives.
@@ -47,7 +47,7 @@ fn cell_value(scope: &Scope, cell: &Cell) -> Result<Value, AllocError>
 }
 
 /// What the first cells of a global hold, as many as the text gives.
-fn first_values(alloc: Global, scope: &Scope, init: &[Cell]) -> Result<Listed<Value>, AllocError>
+fn first_values(alloc: Global, scope: &Scope, init: &[Cell]) -> Result<ListVec<Value>, AllocError>
     ensures { IfOk result (λ vs. map value_of vs ≡ map (resolving.value_of (scope_of scope.now)) init.now) }
 {
     let mut values = Vec::new(alloc);
@@ -55,7 +55,7 @@ fn first_values(alloc: Global, scope: &Scope, init: &[Cell]) -> Result<Listed<Va
         let value = cell_value(scope, cell)?;
         values.push(value)?;
     }
-    Ok(Listed::new(values))
+    Ok(ListVec::new(values))
 }
 
 fn variable<'a>(
@@ -78,7 +78,7 @@ pub(crate) fn variables<'a>(
     alloc: Global,
     scope: &Scope<'a>,
     firmware: &'a Firmware,
-) -> Result<Listed<Variable<'a>>, AllocError>
+) -> Result<ListVec<Variable<'a>>, AllocError>
     ensures exact { IfOk result (λ vs. map (variable_of (known (map struct_of scope.now.layouts))) vs ≡ map (resolving.resolved_global (scope_of scope.now)) (firmware_of firmware.now).globals) }
     ensures cells { IfOk result (λ vs. map (λ (v : Variable). v.storage.cells) vs ≡ map cell_count (map (resolving.resolved_global (scope_of scope.now)) (firmware_of firmware.now).globals)) }
 {
@@ -88,5 +88,5 @@ pub(crate) fn variables<'a>(
         let next = variable(alloc, scope, &globals[i])?;
         variables.push(next)?;
     }
-    Ok(Listed::new(variables))
+    Ok(ListVec::new(variables))
 }

@@ -20,7 +20,7 @@ use ir_model::types::Ty;
 use ir_program::program::{Operation, Target};
 use ir_program::value::{Address, Instance, Value};
 use layouts::table::Layouts;
-use listed::Listed;
+use list_vec::ListVec;
 use std::alloc::{AllocError, Global};
 use words::operations;
 
@@ -39,14 +39,18 @@ fn address_of(frame: &Frame, of: Target) -> Value
     Value::at(instance, 0)
 }
 
-fn arguments(alloc: Global, frame: &Frame, registers: &[usize]) -> Result<Listed<Value>, AllocError>
+fn arguments(
+    alloc: Global,
+    frame: &Frame,
+    registers: &[usize],
+) -> Result<ListVec<Value>, AllocError>
     ensures { IfOk result (λ vs. map value_of vs ≡ map (step.register (frame_of frame.now)) registers.now) }
 {
     let mut values = Vec::new(alloc);
     for i in 0..registers.len() {
         values.push(frame.regs.at(registers[i]))?;
     }
-    Ok(Listed::new(values))
+    Ok(ListVec::new(values))
 }
 
 // What a register holds.

@@ -3,7 +3,7 @@
 use crate::outcome::FaultKind;
 use ir_model::types::Ty;
 use ir_program::value::{Address, Value};
-use listed::Listed;
+use list_vec::ListVec;
 
 /// What an instruction asks for.
 #[derive(Drop)]
@@ -30,6 +30,6 @@ pub enum Act<'a> {
     /// To enter a function.
     Enters {
         func: u16,
-        args: Listed<Value>,
+        args: ListVec<Value>,
     },
 }

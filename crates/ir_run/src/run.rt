@@ -14,7 +14,7 @@ use crate::turn::turn;
 use device_model::tape::Tape;
 use ir_laws::{events, frames};
 use ir_program::program::Program;
-use listed::Listed;
+use list_vec::ListVec;
 use std::alloc::{AllocError, Global};
 use std::marker::Model;
 
@@ -55,7 +55,7 @@ fn go_on(
 pub struct SourceRun<'a> {
     alloc: Global,
     program: Program<'a>,
-    compartments: Listed<u32>,
+    compartments: ListVec<u32>,
     phase: Phase,
     taken: u64,
 }
@@ -106,7 +106,7 @@ impl<'a> SourceRun<'a> {
         Ok(SourceRun {
             alloc,
             program,
-            compartments: Listed::new(compartments),
+            compartments: ListVec::new(compartments),
             phase: Phase::Running(parts),
             taken: 0,
         })

@@ -9,7 +9,7 @@ ghost use Rattle.layout.specs.Placing.{IsFlash, IsFlashRefusal};
 use crate::blocks::block_size;
 use crate::numbers::{first_greatest, greatest, sum, sum_above, sum_equal};
 use crate::refusal::PlaceRefusal;
-use listed::Listed;
+use list_vec::ListVec;
 use plan_model::Spot;
 use plan_model::plan::{Board, Sizes};
 use std::alloc::{AllocError, Global};
@@ -20,7 +20,7 @@ pub(crate) struct FlashPlan {
     /// The tables.
     pub(crate) tables: Spot,
     /// The code of each compartment.
-    pub(crate) code: Listed<Spot>,
+    pub(crate) code: ListVec<Spot>,
 }
 
 /// The sizes of the code blocks.
@@ -122,7 +122,7 @@ fn place_code(
     let code = code_spots(alloc, board.flash_base, &blocks, code.len())?;
     Ok(FlashPlan {
         tables,
-        code: Listed::new(code),
+        code: ListVec::new(code),
     })
 }
 

@@ -19,7 +19,7 @@ use crate::numbers::{first_greatest, least, lesser};
 use crate::ram::{Purpose, falling_blocks};
 use crate::refusal::PlaceRefusal;
 use ir_program::program::Program;
-use listed::Listed;
+use list_vec::ListVec;
 use plan_model::Spot;
 use plan_model::graph::{Final, Region};
 use plan_model::plan::{Board, Plan, Sizes};
@@ -30,7 +30,7 @@ use std::alloc::{AllocError, Global};
 pub(crate) struct RamPlan {
     stack: Spot,
     monitor: Spot,
-    regions: Listed<Spot>,
+    regions: ListVec<Spot>,
     unwritten: Option<Spot>,
 }
 
@@ -124,7 +124,7 @@ fn ram_plan(
     Ok(RamPlan {
         stack: spot_of(memory, Purpose::Stack),
         monitor: spot_of(memory, Purpose::Monitor),
-        regions: Listed::new(regions),
+        regions: ListVec::new(regions),
         unwritten: memory.spot_for(Purpose::Unwritten),
     })
 }

@@ -25,7 +25,7 @@ use device_model::image::Image;
 use ir_model::firmware::Peripheral;
 use ir_program::program::Program;
 use ir_program::windows::windows;
-use listed::Listed;
+use list_vec::ListVec;
 use monitor::{InitRecord, SiteRecord, Tables, TargetRecord};
 use plan_model::graph::Final;
 use plan_model::needs::{Needs, SiteNeed};
@@ -52,9 +52,9 @@ fn addresses(
     let globals = global_addresses(alloc, program, graph, plan)?;
     let windows = window_addresses(alloc, program)?;
     Ok(Addresses {
-        globals: Listed::new(globals),
-        windows: Listed::new(windows),
-        entries: Listed::new(entries),
+        globals: ListVec::new(globals),
+        windows: ListVec::new(windows),
+        entries: ListVec::new(entries),
     })
 }
 
@@ -171,12 +171,12 @@ fn tables(
     let comps = comp_records(alloc, program, graph, plan, slots)?;
     Ok(Tables {
         base: plan.tables.base,
-        comps: Listed::new(comps),
-        sites: Listed::new(x.sites),
-        targets: Listed::new(x.targets),
-        lends: Listed::new(x.lends),
-        inits: Listed::new(filled.inits),
-        words: Listed::new(filled.words),
+        comps: ListVec::new(comps),
+        sites: ListVec::new(x.sites),
+        targets: ListVec::new(x.targets),
+        lends: ListVec::new(x.lends),
+        inits: ListVec::new(filled.inits),
+        words: ListVec::new(filled.words),
         stack: plan.stack,
         monitor: plan.monitor.base,
         main,
@@ -235,7 +235,7 @@ pub fn link(
     let windows = windows(alloc, periphs)?;
     Ok(Image {
         flash_base: board.flash_base,
-        flash: Listed::new(flash),
+        flash: ListVec::new(flash),
         ram_base: board.ram_base,
         ram_size: board.ram_size,
         monitor: plan.monitor.base,
@@ -243,6 +243,6 @@ pub fn link(
         stack_size: plan.stack.size,
         regions: board.regions,
         closed: board.closed,
-        windows: Listed::new(windows),
+        windows: ListVec::new(windows),
     })
 }

@@ -5,23 +5,23 @@ ghost use Rattle.std.proofs.Math.ListN.{get_or};
 ghost use Rattle.linker.specs.Grouped.{places_in};
 
 use crate::numbers::Numbers;
-use listed::Listed;
+use list_vec::ListVec;
 use lower::{CallSite, Places};
 use std::alloc::{AllocError, Global};
 
 /// The addresses of all globals, windows and functions.
 #[derive(Drop)]
 pub(crate) struct Addresses {
-    pub(crate) globals: Listed<u32>,
-    pub(crate) windows: Listed<u32>,
-    pub(crate) entries: Listed<u32>,
+    pub(crate) globals: ListVec<u32>,
+    pub(crate) windows: ListVec<u32>,
+    pub(crate) entries: ListVec<u32>,
 }
 
 /// The same numbers.
-fn copied(alloc: Global, numbers: &Listed<u32>) -> Result<Listed<u32>, AllocError>
+fn copied(alloc: Global, numbers: &ListVec<u32>) -> Result<ListVec<u32>, AllocError>
     ensures { IfOk result (λ copy. copy ≡ numbers.now) }
 {
-    Ok(Listed::new(Vec::from_slice(alloc, numbers.as_slice())?))
+    Ok(ListVec::new(Vec::from_slice(alloc, numbers.as_slice())?))
 }
 
 /// The calls of a function that may go to another compartment.
@@ -59,7 +59,7 @@ pub(crate) fn places_for(
         globals: copied(alloc, &addresses.globals)?,
         windows: copied(alloc, &addresses.windows)?,
         entries: copied(alloc, &addresses.entries)?,
-        sites: Listed::new(sites),
-        lends: Listed::new(lends),
+        sites: ListVec::new(sites),
+        lends: ListVec::new(lends),
     })
 }

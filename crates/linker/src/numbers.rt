@@ -13,7 +13,7 @@ ghost use Rattle.linker.specs.Grouped.{AreNumbers, AreSmall};
 
 use crate::sites::{call_sites, lend_numbers};
 use ir_program::program::Program;
-use listed::Listed;
+use list_vec::ListVec;
 use lower::CallSite;
 use plan_model::needs::SiteNeed;
 use std::alloc::{AllocError, Global};
@@ -21,8 +21,8 @@ use std::alloc::{AllocError, Global};
 /// Of each function, its calls that may go to another compartment, and the number of each of its locals that is lent.
 #[derive(Drop)]
 pub(crate) struct Numbers {
-    pub(crate) sites: Listed<Listed<CallSite>>,
-    pub(crate) lends: Listed<Listed<Option<u32>>>,
+    pub(crate) sites: ListVec<ListVec<CallSite>>,
+    pub(crate) lends: ListVec<ListVec<Option<u32>>>,
 }
 
 /// The calls of each of so many functions among crossing sites.
@@ -30,14 +30,14 @@ fn all_sites(
     alloc: Global,
     sites: &[&SiteNeed],
     funcs: usize,
-) -> Result<Vec<Listed<CallSite>>, AllocError>
+) -> Result<Vec<ListVec<CallSite>>, AllocError>
     requires { length sites.now ≤ 4096 }
     ensures exact { IfOk result (λ all. all.items ≡ map (call_sites_among 0 (lent_sites sites.now)) (numbers_below funcs)) }
     ensures small { IfOk result (λ all. All (λ ss. All (λ (s : call_site.CallSite). s.number < 4096) ss) all.items) }
 {
     let mut all = Vec::new(alloc);
     for func in 0..funcs {
-        all.push(Listed::new(call_sites(alloc, sites, func)?))?;
+        all.push(ListVec::new(call_sites(alloc, sites, func)?))?;
     }
     Ok(all)
 }
@@ -57,7 +57,7 @@ fn all_lends(
     alloc: Global,
     program: &Program,
     lent: &[(u32, u32)],
-) -> Result<Vec<Listed<Option<u32>>>, AllocError>
+) -> Result<Vec<ListVec<Option<u32>>>, AllocError>
     requires { length lent.now ≤ 32 }
     ensures exact { IfOk result (λ all. all.items ≡ map (λ h. map (λ k. position (is_local h k) lent.now) (numbers_below (length (func_at (program_of program.now) h).locals))) (numbers_below (length program.now.funcs))) }
     ensures small { IfOk result (λ all. All (λ ns. All (λ n. IfSome n (λ k. k < 32)) ns) all.items) }
@@ -65,7 +65,7 @@ fn all_lends(
     let mut all = Vec::new(alloc);
     for func in 0..program.funcs.len() {
         let locals = local_count(program, func);
-        all.push(Listed::new(lend_numbers(alloc, lent, func, locals)?))?;
+        all.push(ListVec::new(lend_numbers(alloc, lent, func, locals)?))?;
     }
     Ok(all)
 }
@@ -86,7 +86,7 @@ pub(crate) fn numbered(
     let calls = all_sites(alloc, sites, program.funcs.len())?;
     let lends = all_lends(alloc, program, lent)?;
     Ok(Numbers {
-        sites: Listed::new(calls),
-        lends: Listed::new(lends),
+        sites: ListVec::new(calls),
+        lends: ListVec::new(lends),
     })
 }

@@ -12,7 +12,7 @@ ghost use Rattle.linker.specs.Uses.{use_of, slots_left};
 
 use crate::places::{extent_of, region_spot, rounded_up};
 use ir_program::program::Program;
-use listed::Listed;
+use list_vec::ListVec;
 use monitor::CompRecord;
 use mpu_model::power::Pow2;
 use mpu_model::region::Region;
@@ -241,7 +241,7 @@ fn comp_record(
     let uses = slot_uses(alloc, program, graph, plan, compartment)?;
     Ok(CompRecord {
         code,
-        slots: Listed::new(slot_regions(alloc, &uses, slots)?),
+        slots: ListVec::new(slot_regions(alloc, &uses, slots)?),
         mask: kept_mask(graph, graph.masks.as_slice(), compartment),
         reads: kept_mask(graph, graph.reads.as_slice(), compartment),
     })

@@ -1,6 +1,6 @@
 //! What the code of a function needs from outside.
 
-use listed::Listed;
+use list_vec::ListVec;
 
 /// A call of a function that may go to another compartment.
 #[derive(Clone, Copy, PartialEq, Eq, Debug)]
@@ -17,13 +17,13 @@ pub struct CallSite {
 #[derive(Drop)]
 pub struct Places {
     /// The first address of each global.
-    pub globals: Listed<u32>,
+    pub globals: ListVec<u32>,
     /// The first address of each peripheral's window.
-    pub windows: Listed<u32>,
+    pub windows: ListVec<u32>,
     /// The entry of each function of the firmware: the address of its first instruction.
-    pub entries: Listed<u32>,
+    pub entries: ListVec<u32>,
     /// The function's calls that may go to another compartment.
-    pub sites: Listed<CallSite>,
+    pub sites: ListVec<CallSite>,
     /// Of each local of the function, the number by which it is lent to other compartments, if it is.
-    pub lends: Listed<Option<u32>>,
+    pub lends: ListVec<Option<u32>>,
 }

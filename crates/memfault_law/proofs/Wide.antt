@@ -13,7 +13,7 @@ use Rattle.armv7m.specs.declared.state.ProtectionState.{ProtectionState}
 use Rattle.armv7m.specs.declared.state.StopReason.{StopReason}
 use Rattle.armv7m.specs.declared.state.StopReason.TheVariants.{Unaligned}
 use Rattle.armv7m.specs.declared.accesses.Verdict.TheVariants.{Bad}
-use Rattle.armv7m.specs.State.{Judge}
+use Rattle.armv7m.specs.State.{PermissionTest}
 use Rattle.armv7m.specs.Tests.{verdict}
 use Rattle.gate_steps.specs.declared.steps.GateCond.{GateCond}
 use Rattle.gate_steps.specs.Steps.{Steps, Load, Store, Test}
@@ -25,11 +25,11 @@ use Rattle.gate_steps.specs.Safe.{Rule, OnValue, OnWritten, OnWent, IsSafe}
 use Rattle.gate_steps.proofs.Gives.{Open, in_ram, load_is_at, store_is_at, all, safe_all}
 use Rattle.gate_steps.proofs.Within.{GivesWithin, ticks_all, yes_within, no_within, value_within, wrote_within}
 
-bad_verdict : (j : Judge) (p : ProtectionState) (kind : Access) (w a : ℕ) → nat_eq (a % w) 0 ≡ false → verdict j p kind w a ≡ Bad Unaligned
+bad_verdict : (j : PermissionTest) (p : ProtectionState) (kind : Access) (w a : ℕ) → nat_eq (a % w) 0 ≡ false → verdict j p kind w a ≡ Bad Unaligned
 unfolding verdict
 bad_verdict j p kind w a e = rw e refl
 
-module _ {j : Judge} {i : Image} {Good : ProtectionState → Type 0} {Allowed : Rule} where
+module _ {j : PermissionTest} {i : Image} {Good : ProtectionState → Type 0} {Allowed : Rule} where
   -- both answers
   pub test_within : {m : ℕ} {t : GateCond} {a b : ℕ} {ys ns k : Steps} {ks : List Steps} {c : Core} {Q : Outcome → Type 0} → (compared t (low_register c a) (low_register c b) ≡ true → GivesWithin j i Good Allowed m ys (k ∷ ks) c Q) →
       (compared t (low_register c a) (low_register c b) ≡ false → GivesWithin j i Good Allowed m ns (k ∷ ks) c Q) → GivesWithin j i Good Allowed (4 + m) (Test t a b ys ns k) ks c Q

@@ -22,7 +22,7 @@ use Rattle.armv7m.specs.Code.{size, Lies}
 use Rattle.armv7m.specs.Confinement.{AnyOf}
 use Rattle.armv7m.specs.Exceptions.{is_frame_open}
 use Rattle.armv7m.specs.Step.{turn, step, event}
-use Rattle.armv7m.specs.Working.{IsStore, IsLoad}
+use Rattle.armv7m.specs.RunningCode.{IsStore, IsLoad}
 use Rattle.monitor.specs.declared.tables.Tables.{Tables}
 use Rattle.monitor.specs.Block.{Block, Loan}
 use Rattle.monitor.specs.BlockWords.{words_end}

@@ -4,7 +4,7 @@ use Rattle.std.specs.Prelude.{◌≡◌, ℕ, ◌+◌, ◌*◌, ◌%◌, ◌<◌
 use Rattle.device_model.specs.declared.image.Image.{Image}
 use Rattle.device_model.specs.Rules.{block_size}
 use Rattle.armv7m.specs.State.{State}
-use Rattle.armv7m.specs.Working.{Context}
+use Rattle.armv7m.specs.RunningCode.{Context}
 use Rattle.armv7m.specs.Shape.{StateFits}
 use Rattle.armv7m.specs.Confinement.{Each}
 use Rattle.monitor.specs.declared.tables.Tables.{Tables}

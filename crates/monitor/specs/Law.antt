@@ -14,7 +14,7 @@ use Rattle.armv7m.specs.State.{State, by_mpu}
 use Rattle.armv7m.specs.Exceptions.{is_thread}
 use Rattle.armv7m.specs.Code.{HoldsHalf, Runs}
 use Rattle.armv7m.specs.Shape.{StateFits}
-use Rattle.armv7m.specs.Working.{Context, works, IsStore, IsLoad}
+use Rattle.armv7m.specs.RunningCode.{Context, works, IsStore, IsLoad}
 use Rattle.monitor.specs.Block.{Block, Loan, entered, lent}
 use Rattle.monitor.specs.BlockWords.{words_end}
 use Rattle.monitor.specs.Setting.{Setting}

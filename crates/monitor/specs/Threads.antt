@@ -12,7 +12,7 @@ use Rattle.armv7m.specs.Exceptions.{is_thread}
 use Rattle.armv7m.specs.Code.{Lies, Runs}
 use Rattle.armv7m.specs.Confinement.{Each, AnyOf}
 use Rattle.armv7m.specs.Shape.{StateFits}
-use Rattle.armv7m.specs.Working.{Context, works}
+use Rattle.armv7m.specs.RunningCode.{Context, works}
 use Rattle.armv7m.specs.Run.{start}
 use Rattle.monitor.specs.declared.tables.InitRecord.{InitRecord}
 use Rattle.monitor.specs.Block.{Block, Loan}

@@ -1,6 +1,6 @@
 //! The tables by which the monitor decides, as they stand in flash behind its code.
 
-use listed::Listed;
+use list_vec::ListVec;
 use mpu_model::region::Region;
 use plan_model::Spot;
 
@@ -10,7 +10,7 @@ pub struct CompRecord {
     /// Region 2: the compartment's code.
     pub code: Region,
     /// The regions from number 4 on, free ones too; all compartments have the same number of them.
-    pub slots: Listed<Region>,
+    pub slots: ListVec<Region>,
     /// Bit n is set where the compartment may write lendable local n.
     pub mask: u32,
     /// Bit n is set where the compartment may read lendable local n. 0 on an open board.
@@ -54,17 +54,17 @@ pub struct Tables {
     /// The first address of the tables' block, which begins with the vectors and the monitor's code.
     pub base: u32,
     /// A record for each compartment.
-    pub comps: Listed<CompRecord>,
+    pub comps: ListVec<CompRecord>,
     /// A record for each crossing site.
-    pub sites: Listed<SiteRecord>,
+    pub sites: ListVec<SiteRecord>,
     /// The targets of all sites, one site's behind the other's.
-    pub targets: Listed<TargetRecord>,
+    pub targets: ListVec<TargetRecord>,
     /// The size in bytes of each lendable local.
-    pub lends: Listed<u32>,
+    pub lends: ListVec<u32>,
     /// The ranges that start-up fills.
-    pub inits: Listed<InitRecord>,
+    pub inits: ListVec<InitRecord>,
     /// The initial words of all ranges, one range's behind the other's.
-    pub words: Listed<u32>,
+    pub words: ListVec<u32>,
     /// The stack of all compartments.
     pub stack: Spot,
     /// The first address of the monitor's block in RAM.

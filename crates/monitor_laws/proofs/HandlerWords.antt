@@ -8,7 +8,7 @@ use Rattle.mpu_model.specs.declared.region.Access.TheVariants.{Read, Write}
 use Rattle.device_model.specs.declared.image.Image.{Image}
 use Rattle.device_model.specs.Rules.{ObeysRules}
 use Rattle.armv7m.specs.declared.state.ProtectionState.{ProtectionState}
-use Rattle.armv7m.specs.State.{Judge, by_mpu}
+use Rattle.armv7m.specs.State.{PermissionTest, by_mpu}
 use Rattle.gate_steps.specs.Steps.{Steps, Load, Store, WritePsp}
 use Rattle.gate_steps.specs.Core.{Core, low_register, with_low, with_ram, with_psp, is_privileged_on_msp}
 use Rattle.gate_steps.specs.Effect.{Outcome, Unclaimed, either, effect}
@@ -25,7 +25,7 @@ use Rattle.monitor_laws.proofs.Opened.{Handles}
 use Rattle.monitor_laws.proofs.Placement.{writable}
 
 -- PSP, with steps behind it
-pub write_psp_within : {j : Judge} {i : Image} {Good : ProtectionState → Type 0} {Allowed : Rule} {n from : ℕ} {k : Steps} {ks : List Steps} {c : Core} {Q : Outcome → Type 0} → is_privileged_on_msp c ≡ true → GivesWithin j i Good Allowed n k ks (with_psp c (low_register c from)) Q → GivesWithin j i Good Allowed (1 + n) (WritePsp from k) ks c Q
+pub write_psp_within : {j : PermissionTest} {i : Image} {Good : ProtectionState → Type 0} {Allowed : Rule} {n from : ℕ} {k : Steps} {ks : List Steps} {c : Core} {Q : Outcome → Type 0} → is_privileged_on_msp c ≡ true → GivesWithin j i Good Allowed n k ks (with_psp c (low_register c from)) Q → GivesWithin j i Good Allowed (1 + n) (WritePsp from k) ks c Q
 unfolding ticks_all
 write_psp_within {j} {i} {Good} {Allowed} {n} {from} {k} {ks = []} {c} {Q} e w = record {
   gives = set_psp_gives e w.gives;

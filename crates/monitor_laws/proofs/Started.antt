@@ -21,8 +21,8 @@ use Rattle.armv7m.specs.Run.{start, after}
 use Rattle.armv7m.specs.Shape.{StateFits, RunsKeepShape}
 use Rattle.armv7m.specs.Code.{size, Stands, CodeIn, CodeAt, Steps as OneStep, next}
 use Rattle.armv7m.specs.Running.{code_size}
-use Rattle.armv7m.specs.Working.{Context, body, works}
-use Rattle.armv7m.specs.Templates.{EachWorks, RegisterSteps, BranchSteps, SpecialSteps}
+use Rattle.armv7m.specs.RunningCode.{Context, body, works}
+use Rattle.armv7m.specs.InstructionEffects.{EachWorks, RegisterSteps, BranchSteps, SpecialSteps}
 use Rattle.armv7m.specs.Instructions.{act}
 use Rattle.armv7m.specs.Confinement.{Each}
 use Rattle.armv7m.proofs.Exec.{code_may_run, code_parts}

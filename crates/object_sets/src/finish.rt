@@ -17,7 +17,7 @@ use crate::rows::Rows;
 use crate::unique::each_once;
 use ir_model::object::ObjId;
 use ir_program::program::Program;
-use listed::Listed;
+use list_vec::ListVec;
 use std::alloc::{AllocError, Global};
 
 /// The objects at places of a table, in rising order.
@@ -44,7 +44,7 @@ pub(crate) fn finish(alloc: Global, program: &Program, lists: &Rows) -> Result<P
     let mut rows = Vec::new(alloc);
     for node in 0..lists.len() {
         let objects = named(alloc, table.as_slice(), lists.items(node))?;
-        rows.push(Listed::new(objects))?;
+        rows.push(ListVec::new(objects))?;
     }
     Ok(PointsTo { numbering, rows })
 }

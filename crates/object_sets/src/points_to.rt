@@ -10,14 +10,14 @@ ghost use Rattle.object_sets.specs.Sets.{sets_of};
 use crate::node::Node;
 use crate::numbering::Numbering;
 use ir_model::object::ObjId;
-use listed::Listed;
+use list_vec::ListVec;
 use std::marker::Model;
 
 /// A set of objects for each node.
 #[derive(Drop)]
 pub struct PointsTo {
     pub(crate) numbering: Numbering,
-    pub(crate) rows: Vec<Listed<ObjId>>,
+    pub(crate) rows: Vec<ListVec<ObjId>>,
 }
 
 impl Model for PointsTo {

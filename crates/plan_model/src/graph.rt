@@ -1,17 +1,17 @@
 //! The graph of compartments and regions: who writes and reads which globals, and which peripherals each compartment has.
 
 use crate::groups::Groups;
-use listed::Listed;
+use list_vec::ListVec;
 
 /// Globals that lie together in one block, because the same compartments reach them. Each list is in rising order.
 #[derive(Drop)]
 pub struct Region {
     /// The numbers of the globals.
-    pub globals: Listed<u32>,
+    pub globals: ListVec<u32>,
     /// The compartments that may write them.
-    pub writers: Listed<u32>,
+    pub writers: ListVec<u32>,
     /// The compartments that may read them on a closed board; on an open board there are none.
-    pub readers: Listed<u32>,
+    pub readers: ListVec<u32>,
 }
 
 /// A range of addresses that holds windows of peripherals: a power of two of bytes, from a multiple of that on.
@@ -29,15 +29,15 @@ pub struct Graph {
     /// The compartments.
     pub groups: Groups,
     /// The data regions.
-    pub regions: Listed<Region>,
+    pub regions: ListVec<Region>,
     /// The globals of no data region, in rising order.
-    pub unwritten: Listed<u32>,
+    pub unwritten: ListVec<u32>,
     /// The covers of each compartment, in order of their bases.
-    pub covers: Listed<Listed<Cover>>,
+    pub covers: ListVec<ListVec<Cover>>,
     /// The mask of each compartment: bit i is set where it may write lendable local i.
-    pub masks: Listed<u32>,
+    pub masks: ListVec<u32>,
     /// The read mask of each compartment: bit i is set where it may read lendable local i. 0 on an open board.
-    pub reads: Listed<u32>,
+    pub reads: ListVec<u32>,
 }
 
 /// A graph in which no compartment has more data regions and covers than the protection unit has slots.
@@ -46,13 +46,13 @@ pub struct Final {
     /// The compartments.
     pub groups: Groups,
     /// The data regions.
-    pub regions: Listed<Region>,
+    pub regions: ListVec<Region>,
     /// The globals of no data region, in rising order.
-    pub unwritten: Listed<u32>,
+    pub unwritten: ListVec<u32>,
     /// The covers of each compartment, in order of their bases.
-    pub covers: Listed<Listed<Cover>>,
+    pub covers: ListVec<ListVec<Cover>>,
     /// The mask of each compartment: bit i is set where it may write lendable local i.
-    pub masks: Listed<u32>,
+    pub masks: ListVec<u32>,
     /// The read mask of each compartment: bit i is set where it may read lendable local i. 0 on an open board.
-    pub reads: Listed<u32>,
+    pub reads: ListVec<u32>,
 }

@@ -1,7 +1,7 @@
 //! What a policy knows of a function, and the compartments that it makes.
 
 use ir_model::name::Name;
-use listed::Listed;
+use list_vec::ListVec;
 
 /// What a policy knows of a function.
 #[derive(Drop)]
@@ -13,16 +13,16 @@ pub struct FuncFacts {
     /// The number of its file.
     pub file: u32,
     /// The peripherals that it may use, in rising order.
-    pub periphs: Listed<u32>,
+    pub periphs: ListVec<u32>,
     /// The other functions that may call it, in rising order.
-    pub callers: Listed<u32>,
+    pub callers: ListVec<u32>,
 }
 
 /// The compartments of a firmware.
 #[derive(Drop)]
 pub struct Groups {
     /// The compartment of each function.
-    pub of: Listed<u32>,
+    pub of: ListVec<u32>,
     /// How many compartments there are.
     pub count: u32,
 }

@@ -1,19 +1,19 @@
 //! What the functions of a firmware may reach.
 
 use ir_model::object::ObjId;
-use listed::Listed;
+use list_vec::ListVec;
 
 /// What a function may reach by its own instructions. Each list is in rising order, without repeats.
 #[derive(Drop)]
 pub struct FuncNeed {
     /// The objects that its stores may write: globals that are not constant, peripherals and locals.
-    pub written: Listed<ObjId>,
+    pub written: ListVec<ObjId>,
     /// The objects that its loads may read: globals, peripherals and locals.
-    pub read: Listed<ObjId>,
+    pub read: ListVec<ObjId>,
     /// The numbers of the peripherals among both.
-    pub periphs: Listed<u32>,
+    pub periphs: ListVec<u32>,
     /// The functions that its calls may go to, without those that these call in turn.
-    pub callees: Listed<u32>,
+    pub callees: ListVec<u32>,
 }
 
 /// A call or an indirect call.
@@ -26,18 +26,18 @@ pub struct SiteNeed {
     /// Its place among the instructions of that block.
     pub inst: u32,
     /// The functions that it may go to, in rising order, without repeats.
-    pub targets: Listed<u32>,
+    pub targets: ListVec<u32>,
 }
 
 /// What the functions of a firmware may reach.
 #[derive(Drop)]
 pub struct Needs {
     /// What each function may reach.
-    pub funcs: Listed<FuncNeed>,
+    pub funcs: ListVec<FuncNeed>,
     /// The calls and indirect calls of all functions, in the order of the text.
-    pub sites: Listed<SiteNeed>,
+    pub sites: ListVec<SiteNeed>,
     /// The locals that are lent while their function is live, each as its function's number and its own, in rising order.
-    pub lendable: Listed<(u32, u32)>,
+    pub lendable: ListVec<(u32, u32)>,
     /// Whether they are the needs of a closed board, on which loads are confined as stores are.
     pub closed: bool,
 }

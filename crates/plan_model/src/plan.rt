@@ -1,6 +1,6 @@
 //! A board, and where the blocks of an image lie on it.
 
-use listed::Listed;
+use list_vec::ListVec;
 
 /// A block of memory.
 #[derive(Clone, Copy, PartialEq, Eq, Debug)]
@@ -34,7 +34,7 @@ pub struct Board {
 #[derive(Drop)]
 pub struct Sizes {
     /// The code of each compartment.
-    pub code: Listed<u32>,
+    pub code: ListVec<u32>,
     /// The vectors, the monitor's code and its tables.
     pub tables: u32,
 }
@@ -45,13 +45,13 @@ pub struct Plan {
     /// The vectors, the monitor's code and its tables, in flash.
     pub tables: Spot,
     /// The code of each compartment, in flash.
-    pub code: Listed<Spot>,
+    pub code: ListVec<Spot>,
     /// The stack, in RAM.
     pub stack: Spot,
     /// The monitor's block, in RAM.
     pub monitor: Spot,
     /// The data regions, in RAM.
-    pub regions: Listed<Spot>,
+    pub regions: ListVec<Spot>,
     /// The globals of no data region, in RAM, where there are any.
     pub unwritten: Option<Spot>,
 }

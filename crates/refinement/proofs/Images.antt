@@ -1,6 +1,6 @@
 -- Linked images refine their firmwares.
 use Rattle.std.proofs.Common.{ℕ, ◌*◌, List}
-use Rattle.armv7m.specs.Working.{Context}
+use Rattle.armv7m.specs.RunningCode.{Context}
 use Rattle.ir_model.specs.Plain.{PlainFirmware}
 use Rattle.ir_model.specs.Resolve.{resolve}
 use Rattle.ir_model.specs.Canonical.{IsWithinLimits}

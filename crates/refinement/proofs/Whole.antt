@@ -6,7 +6,7 @@ use Rattle.words.proofs.Runs.{run-add, stay, next}
 use Rattle.armv7m.specs.declared.state.End.{End}
 use Rattle.armv7m.specs.declared.state.End.TheVariants.{Halt, InputEnd}
 use Rattle.armv7m.specs.State.{State, by_mpu}
-use Rattle.armv7m.specs.Working.{Context}
+use Rattle.armv7m.specs.RunningCode.{Context}
 use Rattle.armv7m.proofs.Runs.{next_ended, told_ended}
 use Rattle.ir_model.specs.Types.{PlainType}
 use Rattle.ir_model.specs.State.{Frame, Memory, SourceState, Running, Ended, SourceEnd, Returned, OutOfInput, Faulted, frame_of}

@@ -8,7 +8,7 @@ ghost use Rattle.plan_model.specs.Needs.{need_of};
 ghost use Rattle.ir_program.specs.Seen.{program_of};
 
 use ir_program::program::Program;
-use listed::Listed;
+use list_vec::ListVec;
 use plan_model::graph::Cover;
 use plan_model::groups::Groups;
 use plan_model::needs::Needs;
@@ -94,13 +94,13 @@ pub(crate) fn all_covers(
     program: &Program,
     needs: &Needs,
     groups: &Groups,
-) -> Result<Vec<Listed<Cover>>, AllocError>
+) -> Result<Vec<ListVec<Cover>>, AllocError>
     requires { length groups.now.of ≡ length needs.now.funcs }
     ensures { IfOk result (λ all. all.items ≡ map (initial.covers_of (program_of program.now) needs.now groups.now) (numbers_below groups.now.count)) }
 {
     let mut all = Vec::new(alloc);
     for compartment in 0..groups.count {
-        all.push(Listed::new(covers(alloc, program, needs, groups, compartment)?))?;
+        all.push(ListVec::new(covers(alloc, program, needs, groups, compartment)?))?;
     }
     Ok(all)
 }

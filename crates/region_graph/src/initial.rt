@@ -9,7 +9,7 @@ use crate::masks::{masks, read_masks};
 use crate::regions::{regions, unwritten};
 use crate::users::all_users;
 use ir_program::program::Program;
-use listed::Listed;
+use list_vec::ListVec;
 use plan_model::graph::Graph;
 use plan_model::groups::Groups;
 use plan_model::needs::Needs;
@@ -41,10 +41,10 @@ pub fn initial(
     let reads = read_masks(alloc, needs, &groups)?;
     Ok(Graph {
         groups,
-        regions: Listed::new(regions),
-        unwritten: Listed::new(unwritten),
-        covers: Listed::new(covers),
-        masks: Listed::new(masks),
-        reads: Listed::new(reads),
+        regions: ListVec::new(regions),
+        unwritten: ListVec::new(unwritten),
+        covers: ListVec::new(covers),
+        masks: ListVec::new(masks),
+        reads: ListVec::new(reads),
     })
 }

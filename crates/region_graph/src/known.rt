@@ -7,7 +7,7 @@ ghost use Rattle.region_graph.specs.Known.{IsKnown, exposure_of};
 
 use crate::flags::{count_unflagged, flags, united};
 use ir_program::program::Program;
-use listed::Listed;
+use list_vec::ListVec;
 use plan_model::graph::Region;
 use std::alloc::{AllocError, Global};
 
@@ -17,13 +17,13 @@ pub(crate) struct Known {
     /// The bytes of its globals together.
     pub(crate) size: u64,
     /// The compartments that write it.
-    pub(crate) writers: Listed<u32>,
+    pub(crate) writers: ListVec<u32>,
     /// The compartments that write or read it.
-    pub(crate) users: Listed<u32>,
+    pub(crate) users: ListVec<u32>,
     /// Which compartments write it.
-    pub(crate) writes: Listed<bool>,
+    pub(crate) writes: ListVec<bool>,
     /// Which compartments write or read it.
-    pub(crate) uses: Listed<bool>,
+    pub(crate) uses: ListVec<bool>,
 }
 
 /// The bytes of a global.
@@ -71,10 +71,10 @@ pub(crate) fn known_of(
     let uses = flags(alloc, &users)?;
     Ok(Known {
         size,
-        writers: Listed::new(writers),
-        users: Listed::new(users),
-        writes: Listed::new(writes),
-        uses: Listed::new(uses),
+        writers: ListVec::new(writers),
+        users: ListVec::new(users),
+        writes: ListVec::new(writes),
+        uses: ListVec::new(uses),
     })
 }
 

@@ -15,7 +15,7 @@ use crate::flags::{is_flagged, united};
 use crate::joined::{cover_pair, joined, with_cover};
 use crate::known::{Known, exposure, known_of};
 use ir_program::program::Program;
-use listed::Listed;
+use list_vec::ListVec;
 use plan_model::graph::{Cover, Graph, Region};
 use std::alloc::{AllocError, Global};
 use std::mem::replace;
@@ -30,7 +30,7 @@ pub(crate) struct Merging<'a, 'b> {
     /// What is known of each data region that there ever was.
     pub(crate) known: Vec<Known>,
     /// For each of these what its joins with the earlier ones and itself cost.
-    pub(crate) costs: Vec<Listed<u64>>,
+    pub(crate) costs: Vec<ListVec<u64>>,
     /// The number of each data region of the graph among these.
     pub(crate) numbers: Vec<usize>,
 }
@@ -55,7 +55,7 @@ fn learn(
     alloc: Global,
     program: &Program,
     known: &mut Vec<Known>,
-    costs: &mut Vec<Listed<u64>>,
+    costs: &mut Vec<ListVec<u64>>,
     region: &Region,
 ) -> Result<usize, AllocError>
     requires { AreCosts known.old.items costs.old.items }
@@ -66,7 +66,7 @@ fn learn(
     let number = known.len();
     known.push(known_of(alloc, program, region)?)?;
     let row = row(alloc, known, number)?;
-    costs.push(Listed::new(row))?;
+    costs.push(ListVec::new(row))?;
     Ok(number)
 }
 
@@ -78,9 +78,9 @@ fn joined_region(alloc: Global, one: &Region, other: &Region) -> Result<Region, 
     let writers = united(alloc, one.writers.as_slice(), other.writers.as_slice())?;
     let readers = united(alloc, one.readers.as_slice(), other.readers.as_slice())?;
     Ok(Region {
-        globals: Listed::new(globals),
-        writers: Listed::new(writers),
-        readers: Listed::new(readers),
+        globals: ListVec::new(globals),
+        writers: ListVec::new(writers),
+        readers: ListVec::new(readers),
     })
 }
 
@@ -245,10 +245,13 @@ impl Merging<'_, '_> {
             &mut self.costs,
             &region,
         )?;
-        let mut regions = replace(&mut self.graph.regions, Listed::new(Vec::new(alloc))).into_vec();
+        let mut regions = replace(
+            &mut self.graph.regions,
+            ListVec::new(Vec::new(alloc)),
+        ).into_vec();
         regions[first] = region;
         regions.remove(second);
-        self.graph.regions = Listed::new(regions);
+        self.graph.regions = ListVec::new(regions);
         self.numbers[first] = number;
         self.numbers.remove(second);
         Ok(())
@@ -269,9 +272,9 @@ impl Merging<'_, '_> {
             return Err(AllocError);
         };
         let covers = with_cover(alloc, covers, cover)?;
-        let mut all = replace(&mut self.graph.covers, Listed::new(Vec::new(alloc))).into_vec();
-        all[compartment as usize] = Listed::new(covers);
-        self.graph.covers = Listed::new(all);
+        let mut all = replace(&mut self.graph.covers, ListVec::new(Vec::new(alloc))).into_vec();
+        all[compartment as usize] = ListVec::new(covers);
+        self.graph.covers = ListVec::new(all);
         Ok(true)
     }
 

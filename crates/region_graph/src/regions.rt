@@ -7,7 +7,7 @@ ghost use Rattle.plan_model.specs.Lists.{distinct};
 ghost use Rattle.region_graph.specs.UserLists.{users_seen, members, without_users, region_seen};
 
 use crate::users::UserLists;
-use listed::Listed;
+use list_vec::ListVec;
 use plan_model::graph::Region;
 use std::alloc::{AllocError, Global};
 
@@ -103,9 +103,9 @@ fn region(alloc: Global, all: &[UserLists], kind: &UserLists) -> Result<Region, 
     let writers = Vec::from_slice(alloc, kind.writers.as_slice())?;
     let readers = Vec::from_slice(alloc, kind.readers.as_slice())?;
     Ok(Region {
-        globals: Listed::new(globals),
-        writers: Listed::new(writers),
-        readers: Listed::new(readers),
+        globals: ListVec::new(globals),
+        writers: ListVec::new(writers),
+        readers: ListVec::new(readers),
     })
 }
 

@@ -4,7 +4,7 @@ use Rattle.device_model.specs.declared.image.Image.{Image}
 use Rattle.events.specs.declared.event.Event.{Event}
 use Rattle.armv7m.specs.State.{State, by_mpu}
 use Rattle.armv7m.specs.Code.{Runs}
-use Rattle.armv7m.specs.Working.{Context}
+use Rattle.armv7m.specs.RunningCode.{Context}
 use Rattle.ir_model.specs.Types.{PlainType}
 use Rattle.ir_model.specs.Resolved.{Here, here}
 use Rattle.ir_model.specs.State.{Frame, Memory, SourceState, Running, Ended}

@@ -7,7 +7,7 @@ use Rattle.words.specs.Arithmetic.{word}
 use Rattle.armv7m.specs.State.{State}
 use Rattle.armv7m.specs.Exceptions.{is_thread}
 use Rattle.armv7m.specs.Shape.{StateFits}
-use Rattle.armv7m.specs.Working.{Context, works}
+use Rattle.armv7m.specs.RunningCode.{Context, works}
 use Rattle.ir_model.specs.Types.{width_of}
 use Rattle.ir_model.specs.Layout.{CellPlace, Shape}
 use Rattle.ir_model.specs.Resolved.{Instance, OfGlobal, OfPeriph, OfLocal, Value, Number, Code, Null, At}

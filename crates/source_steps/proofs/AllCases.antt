@@ -1,7 +1,7 @@
 -- All cases of a source step.
 use Rattle.std.proofs.Common.{◌≡◌, ℕ, List, ◌∷◌, refl}
 use Rattle.armv7m.specs.State.{State}
-use Rattle.armv7m.specs.Working.{Context}
+use Rattle.armv7m.specs.RunningCode.{Context}
 use Rattle.ir_model.specs.Types.{PlainType}
 use Rattle.ir_model.specs.Resolved.{Here, Does, Ends, here, Const, Move, Bin, Cmp, Addr, FAddr, Elem, Field, Load, Store, Call, ICall, Jump, Branch, Ret}
 use Rattle.ir_model.specs.State.{Frame, Memory, Running}

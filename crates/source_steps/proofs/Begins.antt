@@ -4,7 +4,7 @@ use Rattle.words.specs.Bytes.{read, cut}
 use Rattle.armv7m.specs.State.{by_mpu}
 use Rattle.armv7m.specs.Run as machine
 use Rattle.armv7m.specs.Confinement.{AnyOf}
-use Rattle.armv7m.specs.Working.{Context, works}
+use Rattle.armv7m.specs.RunningCode.{Context, works}
 use Rattle.armv7m.proofs.Exec.{onward}
 use Rattle.ir_model.specs.Types.{PlainType, none}
 use Rattle.ir_model.specs.Resolved.{Value, NumberedGlobal}

@@ -1,7 +1,7 @@
 -- Ends of blocks that stay in their function.
 use Rattle.std.proofs.Common.{◌≡◌, ℕ, ◌+◌, ◌^◌, ◌<◌, ◌≤◌, Bool, true, false, if◌then◌else◌, nat_eq, List, [], ◌∷◌, length, refl, sym, ap, ◌∙◌, subst, arith}
 use Rattle.armv7m.specs.State.{State, by_mpu}
-use Rattle.armv7m.specs.Working.{Context}
+use Rattle.armv7m.specs.RunningCode.{Context}
 use Rattle.thumb_asm.specs.Assembly.{place_of}
 use Rattle.ir_model.specs.Types.{PlainType}
 use Rattle.ir_model.specs.Resolved.{Value, NumberedTerm, Jump, Branch, Ends, here}

@@ -3,7 +3,7 @@ use Rattle.std.proofs.Common.{◌≡◌, ℕ, suc, ◌+◌, ◌-◌, ◌*◌, �
 use Rattle.std.proofs.Math.Nat.{div-mul-le_self}
 use Rattle.words.specs.Bytes.{read}
 use Rattle.armv7m.specs.State.{State}
-use Rattle.armv7m.specs.Working.{Context}
+use Rattle.armv7m.specs.RunningCode.{Context}
 use Rattle.ir_model.specs.Types.{PlainType, PlainTypes, Callee}
 use Rattle.ir_model.specs.Resolved.{Value, Number, Code, Null, At, Call, ICall, Here, Does, here}
 use Rattle.ir_model.specs.Signatures.{in_row, row_length, signature}

@@ -5,7 +5,7 @@ use Rattle.std.proofs.lemmas.List.{length-map}
 use Rattle.words.specs.Bytes.{read, cut}
 use Rattle.words.proofs.Bytes.{read_fits}
 use Rattle.armv7m.specs.State.{State}
-use Rattle.armv7m.specs.Working.{Context, works}
+use Rattle.armv7m.specs.RunningCode.{Context, works}
 use Rattle.ir_model.specs.Types.{PlainType, PlainTypes}
 use Rattle.ir_model.specs.Resolved.{NumberedFunc, Call, Here, Does, here}
 use Rattle.ir_model.specs.Signatures.{in_row, row_length}

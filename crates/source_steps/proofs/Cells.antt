@@ -8,7 +8,7 @@ use Rattle.mem_bus.specs.Places.{place, InRam}
 use Rattle.mem_bus.proofs.Offsets.{in_ram}
 use Rattle.armv7m.specs.declared.state.ProtectionState.{ProtectionState}
 use Rattle.armv7m.specs.State.{State}
-use Rattle.armv7m.specs.Working.{Context}
+use Rattle.armv7m.specs.RunningCode.{Context}
 use Rattle.ir_model.specs.Types.{PlainType, U8, U16, U32, Pointer, Array, Callee, width_of, is_integer}
 use Rattle.ir_model.specs.Types as types
 use Rattle.ir_model.specs.Layout.{CellPlace}

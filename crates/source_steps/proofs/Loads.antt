@@ -14,10 +14,10 @@ use Rattle.device_model.specs.declared.image.Image.{Image}
 use Rattle.events.specs.declared.event.Event.{Event}
 use Rattle.mem_bus.specs.Places.{InRam, InWindow}
 use Rattle.armv7m.specs.declared.state.ProtectionState.{ProtectionState}
-use Rattle.armv7m.specs.State.{State, Judge, by_mpu}
+use Rattle.armv7m.specs.State.{State, PermissionTest, by_mpu}
 use Rattle.armv7m.specs.Code.{MayFetch, Stands as CodeStands, Lies, Runs}
 use Rattle.armv7m.specs.Events.{input_event}
-use Rattle.armv7m.specs.Working.{Context, works}
+use Rattle.armv7m.specs.RunningCode.{Context, works}
 use Rattle.armv7m.proofs.Exec.{onward as behind_run}
 use Rattle.ir_model.specs.Types.{PlainType, width_of, is_integer}
 use Rattle.ir_model.specs.Layout.{CellPlace, Shape, cell_at, empty}
@@ -61,11 +61,11 @@ use Rattle.source_steps.proofs.Cells.{each_at, aligned_sum, Found, found_cell, c
 use Rattle.source_steps.proofs.Reaching.{LiesAt, cell_lies, lent_cell, open_cell}
 
 -- the first halfword of an instruction may be fetched
-first_fetched : (j : Judge) (p : ProtectionState) (pc : ℕ) (c : Halves) → MayFetch j p pc c → j p Fetch pc ≡ true
+first_fetched : (j : PermissionTest) (p : ProtectionState) (pc : ℕ) (c : Halves) → MayFetch j p pc c → j p Fetch pc ≡ true
 first_fetched j p pc (halves.Half h) m = m
 first_fetched j p pc (halves.Pair h n) m = m.0
 
-pub own_code : (j : Judge) (i : Image) (p : ProtectionState) (pc : ℕ) (x : Instr) → CodeStands j i p pc x → j p Fetch pc ≡ true
+pub own_code : (j : PermissionTest) (i : Image) (p : ProtectionState) (pc : ℕ) (x : Instr) → CodeStands j i p pc x → j p Fetch pc ≡ true
 own_code j i p pc x s = first_fetched j p pc (encode x) s.may_fetch
 
 -- a frame that is found fits

@@ -1,6 +1,6 @@
 -- What the cases of a source step rest on.
 use Rattle.std.proofs.Common.{ℕ, List}
-use Rattle.armv7m.specs.Working.{Context}
+use Rattle.armv7m.specs.RunningCode.{Context}
 use Rattle.ir_model.specs.Types.{PlainType}
 use Rattle.ir_model.specs.Resolved.{global_at, local_at, cells_of_global, cells_of_local}
 use Rattle.ir_laws.specs.Cells.{HasCells, CellsAreFound}

@@ -3,7 +3,7 @@ use Rattle.std.proofs.Common.{◌≡◌, ℕ, zero, suc, ◌+◌, ◌/◌, ◌%�
 use Rattle.std.specs.Prelude.{Contains}
 use Rattle.std.proofs.lemmas.List.FromFn.{get_or-map-range_with_len}
 use Rattle.armv7m.specs.State.{State}
-use Rattle.armv7m.specs.Working.{Context}
+use Rattle.armv7m.specs.RunningCode.{Context}
 use Rattle.ir_model.specs.Types.{PlainType, width_of}
 use Rattle.ir_model.specs.Resolved.{OfLocal, cells_of_local, local_at}
 use Rattle.ir_model.specs.Signatures.{cell_in}

@@ -7,7 +7,7 @@ use Rattle.words.specs.Arithmetic.{word}
 use Rattle.words.proofs.Bytes.{cut_small}
 use Rattle.armv7m.specs.declared.state.ProtectionState.{ProtectionState}
 use Rattle.armv7m.specs.State.{State, by_mpu}
-use Rattle.armv7m.specs.Working.{Context}
+use Rattle.armv7m.specs.RunningCode.{Context}
 use Rattle.ir_model.specs.Types.{PlainType, U8, U16, U32, Pointer, Array, Callee, width_of, is_integer}
 use Rattle.ir_model.specs.Types as types
 use Rattle.ir_model.specs.declared.firmware.BinOp.{BinOp}

@@ -8,7 +8,7 @@ use Rattle.words.proofs.Bytes.{cut_small}
 use Rattle.armv7m.specs.State.{State, by_mpu}
 use Rattle.armv7m.specs.Code.{Runs}
 use Rattle.armv7m.specs.Shape.{StateFits}
-use Rattle.armv7m.specs.Working.{Context, works}
+use Rattle.armv7m.specs.RunningCode.{Context, works}
 use Rattle.armv7m.proofs.Exec.{onward}
 use Rattle.ir_model.specs.Types.{PlainType}
 use Rattle.ir_model.specs.Resolved.{Value, Call, ICall, Ret, Here, Does, Ends, here}

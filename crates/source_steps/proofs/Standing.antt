@@ -12,7 +12,7 @@ use Rattle.device_model.specs.declared.image.Image.{Image}
 use Rattle.device_model.specs.Rules.{ObeysRules}
 use Rattle.mem_bus.proofs.Offsets.{flash_at}
 use Rattle.armv7m.specs.declared.state.ProtectionState.{ProtectionState}
-use Rattle.armv7m.specs.State.{Judge}
+use Rattle.armv7m.specs.State.{PermissionTest}
 use Rattle.armv7m.specs.Code.{HoldsCode}
 use Rattle.ir_model.specs.Resolved as ir
 use Rattle.ir_model.specs.Resolved.{Program, NumberedFunc, NumberedInst, NumberedTerm, Here, Does, Ends, Named, TheGlobal, ThePeriph, TheLocal, here, block_at, no_block}
@@ -89,7 +89,7 @@ code_low i pc (code.Pair h k) r x =
     let t = r.flash_highest in
     omega (arith, e.0, e.1)
 
-items_low : (j : Judge) (i : Image) (p : ProtectionState) (labels : List (Option ℕ)) (at : ℕ) (items : List Item) → ObeysRules i → BeginsWithCode items → ItemsAt j i p labels at items → at < 2 ^ 30
+items_low : (j : PermissionTest) (i : Image) (p : ProtectionState) (labels : List (Option ℕ)) (at : ℕ) (items : List Item) → ObeysRules i → BeginsWithCode items → ItemsAt j i p labels at items → at < 2 ^ 30
 items_low j i p labels at [] r b h = absurd b
 items_low j i p labels at (Plain x ∷ more) r b h = code_low i at (encode x) r h.0.lies.code
 items_low j i p labels at (Branch kind to ∷ more) r b h = code_low i at (encode _) r h.0.lies.code

@@ -13,7 +13,7 @@ use Rattle.mem_bus.specs.Places.{InRam, InWindow}
 use Rattle.armv7m.specs.State.{State, by_mpu}
 use Rattle.armv7m.specs.Code.{Lies, Runs}
 use Rattle.armv7m.specs.Events.{output_event}
-use Rattle.armv7m.specs.Working.{Context, works}
+use Rattle.armv7m.specs.RunningCode.{Context, works}
 use Rattle.armv7m.proofs.Exec.{onward as behind_run}
 use Rattle.ir_model.specs.Types.{PlainType, U32, width_of, is_integer}
 use Rattle.ir_model.specs.Layout.{CellPlace, Shape, cell_at, empty}

@@ -8,7 +8,7 @@ use Rattle.armv7m.specs.State.{State, by_mpu}
 use Rattle.armv7m.specs.Exceptions.{is_thread}
 use Rattle.armv7m.specs.Code.{Lies, HoldsHalf}
 use Rattle.armv7m.specs.Shape.{StateFits}
-use Rattle.armv7m.specs.Working.{Context, works}
+use Rattle.armv7m.specs.RunningCode.{Context, works}
 use Rattle.armv7m.proofs.Exec.{onward}
 use Rattle.ir_model.specs.Resolved.{NumberedFunc, Call, ICall}
 use Rattle.ir_model.specs.Signatures.{row_length}

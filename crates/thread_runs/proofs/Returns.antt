@@ -7,7 +7,7 @@ use Rattle.armv7m.specs.State.{State, by_mpu}
 use Rattle.armv7m.specs.Exceptions.{is_thread}
 use Rattle.armv7m.specs.Shape.{StateFits}
 use Rattle.armv7m.specs.Stack.{Room}
-use Rattle.armv7m.specs.Working.{Context, works}
+use Rattle.armv7m.specs.RunningCode.{Context, works}
 use Rattle.armv7m.proofs.Exec.{stay, onward}
 use Rattle.ir_model.specs.Resolved.{NumberedFunc, Ret}
 use Rattle.lower.specs.declared.places.Places.{Places}

@@ -15,11 +15,11 @@ use Rattle.mpu_model.specs.declared.region.Access.TheVariants.{Fetch}
 use Rattle.device_model.specs.declared.image.Image.{Image}
 use Rattle.events.specs.declared.event.Event.{Event}
 use Rattle.armv7m.specs.declared.state.ProtectionState.{ProtectionState}
-use Rattle.armv7m.specs.State.{State, Judge, by_mpu}
+use Rattle.armv7m.specs.State.{State, PermissionTest, by_mpu}
 use Rattle.armv7m.specs.Code.{size, MayFetch, Stands, Runs}
 use Rattle.armv7m.specs.Shape.{StateFits}
 use Rattle.armv7m.specs.Stack.{Room}
-use Rattle.armv7m.specs.Working.{Context, works}
+use Rattle.armv7m.specs.RunningCode.{Context, works}
 use Rattle.monitor.specs.Block.{Block}
 use Rattle.monitor.specs.Setting.{Setting}
 use Rattle.monitor.specs.Threads.{svc, Stays, KeepsOff, base, stack_end}
@@ -69,14 +69,14 @@ pub started : (g : Setting) (n : ℕ) (t s u : State) (es : List Event) → t �
 started g n t s u es e r = rw e r
 
 -- where one judge lets fetch what another does, pieces that may run by the one may run by the other
-judged_code : (j u : Judge) (p q : ProtectionState) (pc : ℕ) (c : Code) → ((a : ℕ) → j p Fetch a ≡ true → u q Fetch a ≡ true) → MayFetch j p pc c → MayFetch u q pc c
+judged_code : (j u : PermissionTest) (p q : ProtectionState) (pc : ℕ) (c : Code) → ((a : ℕ) → j p Fetch a ≡ true → u q Fetch a ≡ true) → MayFetch j p pc c → MayFetch u q pc c
 judged_code j u p q pc (code.Half h) m f = m pc f
 judged_code j u p q pc (code.Pair h k) m f = (m pc f.0, m (pc + 2) f.1)
 
-judged_one : (j u : Judge) (i : Image) (p q : ProtectionState) (pc : ℕ) (x : Instr) → ((a : ℕ) → j p Fetch a ≡ true → u q Fetch a ≡ true) → Stands j i p pc x → Stands u i q pc x
+judged_one : (j u : PermissionTest) (i : Image) (p q : ProtectionState) (pc : ℕ) (x : Instr) → ((a : ℕ) → j p Fetch a ≡ true → u q Fetch a ≡ true) → Stands j i p pc x → Stands u i q pc x
 judged_one j u i p q pc x m s = record { lies = s.lies; may_fetch = judged_code j u p q pc (encode x) m s.may_fetch }
 
-pub judged : (j u : Judge) (i : Image) (p q : ProtectionState) (labels : List (Option ℕ)) (items : List Item) (at : ℕ) → ((a : ℕ) → j p Fetch a ≡ true → u q Fetch a ≡ true) → ItemsAt j i p labels at items → ItemsAt u i q labels at items
+pub judged : (j u : PermissionTest) (i : Image) (p q : ProtectionState) (labels : List (Option ℕ)) (items : List Item) (at : ℕ) → ((a : ℕ) → j p Fetch a ≡ true → u q Fetch a ≡ true) → ItemsAt j i p labels at items → ItemsAt u i q labels at items
 judged j u i p q labels [] at m h = tt
 judged j u i p q labels (Plain x ∷ more) at m h = (judged_one j u i p q at x m h.0, judged j u i p q labels more (at + size x) m h.1)
 judged j u i p q labels (Branch kind to ∷ more) at m h = (judged_one j u i p q at (branch kind at (place_of labels to.number)) m h.0, judged j u i p q labels more (at + branch_size kind) m h.1)

@@ -1,7 +1,7 @@
 -- The laws of generated code and of its sizes that runs of threads rest on.
 use Rattle.std.specs.Prelude.{ℕ, List, Option}
 use Rattle.device_model.specs.declared.image.Image.{Image}
-use Rattle.armv7m.specs.State.{Judge}
+use Rattle.armv7m.specs.State.{PermissionTest}
 use Rattle.ir_model.specs.Resolved.{NumberedFunc}
 use Rattle.lower.specs.declared.places.Places.{Places}
 use Rattle.lower.specs.Laws.{CompartmentsHold, SitesAgree, SizesAreEven}
@@ -27,13 +27,13 @@ pub record CodeLaws : Type 0 where
   -- what every run keeps
   pub fit : RunsFit
   -- what each template does
-  pub sources : (j : Judge) (i : Image) (g : NumberedFunc) (q : Places) (labels : List (Option ℕ)) (site : Option ℕ) (p : Point) (o n : ℕ) → SourceEffects j i g q labels site p o n
-  pub loads : (j : Judge) (i : Image) (g : NumberedFunc) (q : Places) (labels : List (Option ℕ)) (site : Option ℕ) (p : Point) (o n : ℕ) → LoadEffects j i g q labels site p o n
-  pub stores : (j : Judge) (i : Image) (g : NumberedFunc) (q : Places) (labels : List (Option ℕ)) (site : Option ℕ) (p : Point) (o n : ℕ) → StoreEffects j i g q labels site p o n
+  pub sources : (j : PermissionTest) (i : Image) (g : NumberedFunc) (q : Places) (labels : List (Option ℕ)) (site : Option ℕ) (p : Point) (o n : ℕ) → SourceEffects j i g q labels site p o n
+  pub loads : (j : PermissionTest) (i : Image) (g : NumberedFunc) (q : Places) (labels : List (Option ℕ)) (site : Option ℕ) (p : Point) (o n : ℕ) → LoadEffects j i g q labels site p o n
+  pub stores : (j : PermissionTest) (i : Image) (g : NumberedFunc) (q : Places) (labels : List (Option ℕ)) (site : Option ℕ) (p : Point) (o n : ℕ) → StoreEffects j i g q labels site p o n
   pub widths : AccessesHaveWidths
-  pub branches : (j : Judge) (i : Image) (g : NumberedFunc) (q : Places) (labels : List (Option ℕ)) (first : ℕ) (p : Point) (o n : ℕ) → BranchEffects j i g q labels first p o n
-  pub entry : (j : Judge) (i : Image) (g : NumberedFunc) (q : Places) (labels : List (Option ℕ)) (p : Point) (o to : ℕ) → EntryEffects j i g q labels p o to
-  pub within : (j : Judge) (i : Image) (g : NumberedFunc) (q : Places) (labels : List (Option ℕ)) (p : Point) (o n : ℕ) → CallEffects j i g q labels p o n
-  pub across : (j : Judge) (i : Image) (g : NumberedFunc) (q : Places) (labels : List (Option ℕ)) (p : Point) (o n : ℕ) → CrossingEffects j i g q labels p o n
-  pub returned : (j : Judge) (i : Image) (g : NumberedFunc) (q : Places) (labels : List (Option ℕ)) (p : Point) (o n : ℕ) → ReturnedEffects j i g q labels p o n
-  pub returns : (j : Judge) (i : Image) (g : NumberedFunc) (q : Places) (labels : List (Option ℕ)) (first : ℕ) (p : Point) (o at : ℕ) → ReturnEffects j i g q labels first p o at
+  pub branches : (j : PermissionTest) (i : Image) (g : NumberedFunc) (q : Places) (labels : List (Option ℕ)) (first : ℕ) (p : Point) (o n : ℕ) → BranchEffects j i g q labels first p o n
+  pub entry : (j : PermissionTest) (i : Image) (g : NumberedFunc) (q : Places) (labels : List (Option ℕ)) (p : Point) (o to : ℕ) → EntryEffects j i g q labels p o to
+  pub within : (j : PermissionTest) (i : Image) (g : NumberedFunc) (q : Places) (labels : List (Option ℕ)) (p : Point) (o n : ℕ) → CallEffects j i g q labels p o n
+  pub across : (j : PermissionTest) (i : Image) (g : NumberedFunc) (q : Places) (labels : List (Option ℕ)) (p : Point) (o n : ℕ) → CrossingEffects j i g q labels p o n
+  pub returned : (j : PermissionTest) (i : Image) (g : NumberedFunc) (q : Places) (labels : List (Option ℕ)) (p : Point) (o n : ℕ) → ReturnedEffects j i g q labels p o n
+  pub returns : (j : PermissionTest) (i : Image) (g : NumberedFunc) (q : Places) (labels : List (Option ℕ)) (first : ℕ) (p : Point) (o at : ℕ) → ReturnEffects j i g q labels first p o at

@@ -4,7 +4,7 @@ use Rattle.std.proofs.Math.ListN.{get_or}
 use Rattle.thumb_asm.specs.declared.item.Item.{Item}
 use Rattle.device_model.specs.Rules.{ObeysRules, block_size}
 use Rattle.armv7m.specs.declared.state.ProtectionState.{ProtectionState}
-use Rattle.armv7m.specs.State.{Judge}
+use Rattle.armv7m.specs.State.{PermissionTest}
 use Rattle.lower.specs.Places.{Lend}
 use Rattle.monitor.specs.Block.{Block, Loan, lent}
 use Rattle.monitor.specs.Setting.{Setting}
@@ -12,7 +12,7 @@ use Rattle.monitor.specs.Threads.{base, stack_end}
 use Rattle.code_effects.specs.Items.{ItemsAt}
 
 -- a judge that lets a compartment's own code be fetched
-abbrev pub owner : Setting → (compartment : ℕ) → Judge
+abbrev pub owner : Setting → (compartment : ℕ) → PermissionTest
 owner g c = λ p kind a. g.has_code c a
 
 -- these pieces stand in flash from an address on, and are code of a compartment

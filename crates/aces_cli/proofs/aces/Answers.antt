@@ -3,7 +3,7 @@ use Rattle.aces_words.specs.Commands.{request_of}
 use Rattle.aces_cli.specs.Known.{Holds, Exceeds, WasRead, WasTooLarge, IsKnown, IsKnownLarge}
 use Rattle.aces_cli.specs.Answer.{Answer}
 use Rattle.aces_reports.specs.Sinks.{sink}
-use Rattle.aces_cli.specs.Did.{world}
+use Rattle.aces_cli.specs.Effects.{world}
 use Rattle.aces_cli.proofs.Ends.{did_also}
 use Rattle.aces_cli.proofs.Answered.{answer_also, usage_answered, answered, partly, printed_in_part}
 use Rattle.aces_cli.proofs.Kept.{held_stays}

@@ -1,10 +1,10 @@
 use Rattle.std.proofs.Common.{◌∙◌, inl, Some, [], refl, sym, subst, append-nil}
 use Rattle.std.proofs.lemmas.Result.{err_from_is_err_and}
-use Rattle.aces_reports.specs.declared.failure.Done.TheVariants.{Well}
+use Rattle.aces_reports.specs.declared.failure.Done.TheVariants.{Completed}
 use Rattle.aces_words.specs.Requests.{Bin, file_origin}
 use Rattle.aces_cli.specs.Known.{IsKnown, IsKnownLarge}
 use Rattle.aces_cli.specs.Answer.{Answer, IsNoImage, no_image, wrote, bin_image_large, bin_read, done}
-use Rattle.aces_cli.specs.Did.{Does, world}
+use Rattle.aces_cli.specs.Effects.{Does, world}
 use Rattle.aces_cli.specs.Loads.{IsLoadFailure, IsContentFailure}
 use Rattle.aces_cli.proofs.Ends.{load_failed, content_failed, did_end}
 use Rattle.aces_cli.proofs.bin.bin.Goals as goal
@@ -46,7 +46,7 @@ returns-in-Ok g c out =
     let i = c.in_ok-image.image in
     let all = Answer (IsKnown g.F.Files c.args.files.now) (IsKnownLarge g.F.Files c.args.files.now) (Bin image file) in
     did_end all (Bin image file) (world g.F.Files c.args.files.now out) (world g.F.Files c.write.new.files out)
-    (done 0 [] (Some (record { name = file; bytes = i.flash }))) Well
+    (done 0 [] (Some (record { name = file; bytes = i.flash }))) Completed
     (bin_read image file c.in_ok-bytes.bytes.items _ c.in_ok-bytes.ensures.ok (wrote i (rw c.as_slice.ensures.value at c.in_ok-image.ensures.ok)))
     refl refl
     (record {

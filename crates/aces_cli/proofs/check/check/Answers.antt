@@ -1,13 +1,13 @@
 use Rattle.std.proofs.Common.{inl, None, refl, sym, subst}
 use Rattle.std.proofs.lemmas.Result.{err_from_is_err_and}
 use Rattle.ir_model.specs.Plain.{firmware_of}
-use Rattle.aces_reports.specs.declared.failure.Done.TheVariants.{Well}
+use Rattle.aces_reports.specs.declared.failure.Done.TheVariants.{Completed}
 use Rattle.aces_words.specs.Requests.{Check, firmware_origin}
 use Rattle.aces_cli.specs.Known.{IsKnown, IsKnownLarge}
 use Rattle.aces_cli.specs.Answer.{Answer, IsNoFirmware, no_firmware, checked, check_large, check_read, done}
 use Rattle.aces_cli.specs.Counts.{count_line}
 use Rattle.aces_reports.specs.Sinks.{sink}
-use Rattle.aces_cli.specs.Did.{Does, world}
+use Rattle.aces_cli.specs.Effects.{Does, world}
 use Rattle.aces_cli.specs.Loads.{IsLoadFailure, IsContentFailure}
 use Rattle.aces_cli.proofs.Ends.{load_failed, content_failed, did_end}
 use Rattle.aces_cli.proofs.check.check.Goals as goal
@@ -48,7 +48,7 @@ returns-in-Ok g c =
     let w = firmware_of c.in_ok-checked.checked in
     let all = Answer (IsKnown g.F.Files c.args.files.now) (IsKnownLarge g.F.Files c.args.files.now) (Check firmware) in
     did_end all (Check firmware) (world g.F.Files c.args.files.now (sink g.O.Sink c.args.out.now)) (world g.F.Files c.load_firmware.new.files (sink g.O.Sink c.print_counts.new.out))
-    (done 0 (count_line w) None) Well
+    (done 0 (count_line w) None) Completed
     (check_read firmware c.in_ok-bytes.bytes.items _ c.in_ok-bytes.ensures.ok (checked w (rw c.as_slice.ensures.value at c.in_ok-checked.ensures.ok)))
     refl refl
     (record {

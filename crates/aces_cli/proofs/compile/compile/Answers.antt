@@ -1,10 +1,10 @@
 use Rattle.std.proofs.Common.{◌∙◌, inl, inr, IsTrue, Some, [], refl, sym, subst, append-nil}
 use Rattle.std.proofs.lemmas.Result.{err_from_is_err_and}
-use Rattle.aces_reports.specs.declared.failure.Done.TheVariants.{Well}
+use Rattle.aces_reports.specs.declared.failure.Done.TheVariants.{Completed}
 use Rattle.aces_words.specs.Requests.{Compile, Origin, file_origin, firmware_origin}
 use Rattle.aces_cli.specs.Known.{Held, Exceeds, WasTooLarge, IsKnown, IsKnownLarge}
 use Rattle.aces_cli.specs.Answer.{Answer, CompileAnswer, compile_firmware_large, compile_board_large, compile_read, done}
-use Rattle.aces_cli.specs.Did.{Does, world}
+use Rattle.aces_cli.specs.Effects.{Does, world}
 use Rattle.aces_cli.specs.Loads.{IsLoadFailure, IsRefusal}
 use Rattle.aces_cli.proofs.Ends.{load_failed, refusal_did, refusal_also, did_end}
 use Rattle.aces_cli.proofs.compile.compile.Goals as goal
@@ -84,7 +84,7 @@ returns-in-Ok g c out =
     let all = Answer (IsKnown g.F.Files c.args.files.now) (IsKnownLarge g.F.Files c.args.files.now) r in
     let known = rw c.load_firmware.ensures.same at c.in_ok-text.ensures.ok in
     did_end all r (world g.F.Files c.args.files.now out) (world g.F.Files c.write.new.files out)
-    (done 0 [] (Some (record { name = image; bytes = written }))) Well
+    (done 0 [] (Some (record { name = image; bytes = written }))) Completed
     (compile_read firmware board policy image bytes text _ c.in_ok-bytes.ensures.ok known
     (let here = rw (c.as_slice.ensures.value, c.as_slice-2.ensures.value) at c.in_ok-compiled.ensures.ok in here image))
     refl refl

@@ -1,11 +1,11 @@
 use Rattle.std.proofs.Common.{◌∙◌, inl, inr, IsTrue, None, refl, sym, subst}
 use Rattle.std.proofs.lemmas.Result.{err_from_is_err_and}
-use Rattle.aces_reports.specs.declared.failure.Done.TheVariants.{Well}
+use Rattle.aces_reports.specs.declared.failure.Done.TheVariants.{Completed}
 use Rattle.aces_words.specs.Requests.{Listing, Origin, file_origin, firmware_origin}
 use Rattle.aces_cli.specs.Known.{Held, Exceeds, WasTooLarge, IsKnown, IsKnownLarge}
 use Rattle.aces_cli.specs.Answer.{Answer, ListAnswer, list_firmware_large, list_board_large, list_read, done}
 use Rattle.aces_reports.specs.Sinks.{sink}
-use Rattle.aces_cli.specs.Did.{Does, world}
+use Rattle.aces_cli.specs.Effects.{Does, world}
 use Rattle.aces_cli.specs.Loads.{IsLoadFailure, IsRefusal}
 use Rattle.aces_cli.proofs.Ends.{load_failed, refusal_did, refusal_also, did_end}
 use Rattle.aces_cli.proofs.list.list.Goals as goal
@@ -81,7 +81,7 @@ returns-in-Ok g c =
     let files = c.args.files.now in
     let known = rw c.load_firmware.ensures.same at c.in_ok-text.ensures.ok in
     did_end (Answer (IsKnown of files) (IsKnownLarge of files) r) r (world of files (sink g.O.Sink c.args.out.now)) (world of c.load.new.files (sink g.O.Sink c.put.new.self))
-    (done 0 c.in_ok-lines.lines.items None) Well
+    (done 0 c.in_ok-lines.lines.items None) Completed
     (list_read firmware board policy c.in_ok-bytes.bytes.items c.in_ok-text.text.items _ c.in_ok-bytes.ensures.ok known
     (rw (c.as_slice.ensures.value, c.as_slice-2.ensures.value) at c.in_ok-lines.ensures.ok))
     refl refl

@@ -4,7 +4,7 @@ use Rattle.aces_words.specs.Requests.{Run, Origin, file_origin}
 use Rattle.aces_cli.specs.Known.{Held, Exceeds, WasTooLarge, IsKnown, IsKnownLarge}
 use Rattle.aces_cli.specs.Answer.{Answer, RunAnswer, run_image_large, run_tape_large, run_read}
 use Rattle.aces_reports.specs.Sinks.{sink}
-use Rattle.aces_cli.specs.Did.{Does, world}
+use Rattle.aces_cli.specs.Effects.{Does, world}
 use Rattle.aces_cli.specs.Loads.{IsLoadFailure}
 use Rattle.aces_cli.proofs.Ends.{load_failed, did_also, did_then}
 use Rattle.aces_cli.proofs.run.run.Goals as goal

@@ -7,7 +7,7 @@ use Rattle.aces_words.specs.Requests.{Run}
 use Rattle.aces_cli.specs.Answer.{RunAnswer, IsNoImage, IsNoTape, no_image, no_tape, ran, run_outcome}
 use Rattle.machine_output.specs.Runs.{fill, end_of, run_lines, end_status}
 use Rattle.aces_reports.specs.Sinks.{sink}
-use Rattle.aces_cli.specs.Did.{Does, World}
+use Rattle.aces_cli.specs.Effects.{Does, World}
 use Rattle.aces_cli.specs.Loads.{IsContentFailure}
 use Rattle.aces_cli.proofs.Ends.{content_failed, did_end}
 use Rattle.aces_cli.proofs.Starting.{queue_count, begins}

@@ -4,7 +4,7 @@ use Rattle.aces_words.specs.Requests.{Source, Origin, file_origin, firmware_orig
 use Rattle.aces_cli.specs.Known.{Held, Exceeds, WasTooLarge, IsKnown, IsKnownLarge}
 use Rattle.aces_cli.specs.Answer.{Answer, SourceAnswer, source_firmware_large, source_tape_large, source_read}
 use Rattle.aces_reports.specs.Sinks.{sink}
-use Rattle.aces_cli.specs.Did.{Does, world}
+use Rattle.aces_cli.specs.Effects.{Does, world}
 use Rattle.aces_cli.specs.Loads.{IsLoadFailure}
 use Rattle.aces_cli.proofs.Ends.{load_failed, did_also, did_then}
 use Rattle.aces_cli.proofs.source.source.Goals as goal

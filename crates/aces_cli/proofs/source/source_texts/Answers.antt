@@ -6,7 +6,7 @@ use Rattle.source_output.specs.SourceRuns.{source_end, source_lines, end_status}
 use Rattle.aces_words.specs.Requests.{Source}
 use Rattle.aces_cli.specs.Answer.{SourceAnswer, IsNoFirmware, IsNoTape, no_firmware, no_tape, source_outcome}
 use Rattle.aces_reports.specs.Sinks.{sink}
-use Rattle.aces_cli.specs.Did.{Does, World}
+use Rattle.aces_cli.specs.Effects.{Does, World}
 use Rattle.aces_cli.specs.Loads.{IsContentFailure}
 use Rattle.aces_cli.proofs.Ends.{content_failed, did_end}
 use Rattle.aces_cli.proofs.Sourcing.{windows_made, has_run}

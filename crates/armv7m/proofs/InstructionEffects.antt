@@ -9,14 +9,14 @@ use Rattle.thumb_model.specs.declared.table.Instr.TheVariants.{ShiftImmediate, A
 use Rattle.device_model.specs.declared.image.Image.{Image}
 use Rattle.armv7m.specs.declared.state.CoreRegisters.{CoreRegisters}
 use Rattle.armv7m.specs.declared.state.End.TheVariants.{Halt}
-use Rattle.armv7m.specs.State.{Judge, register, with_register, with_low}
+use Rattle.armv7m.specs.State.{PermissionTest, register, with_register, with_low}
 use Rattle.armv7m.specs.Act.{Changes}
 use Rattle.armv7m.specs.declared.data.Outcome.TheVariants.{Gives, Tests}
 use Rattle.armv7m.specs.DataOperations.{shift_by, immediate_amount, add_or_subtract, immediate, operation}
 use Rattle.armv7m.specs.Instructions.{act}
 use Rattle.armv7m.specs.Code.{size, Stands, live, Steps}
 use Rattle.armv7m.specs.Events.{ended}
-use Rattle.armv7m.specs.Working.{Context, body, works}
+use Rattle.armv7m.specs.RunningCode.{Context, body, works}
 use Rattle.armv7m.proofs.Acts.{changes, halts}
 
 -- ---- registers
@@ -27,7 +27,7 @@ register_low c k h = let e : nat_lt k 8 ≡ true = search (nat_tests, arith) in 
 pub with_register_low : (c : CoreRegisters) (k v : ℕ) → k < 8 → with_register c k v ≡ with_low c k v
 with_register_low c k v h = let e : nat_lt k 8 ≡ true = search (nat_tests, arith) in rw e
 
-module _ (j : Judge) (i : Image) (x : Context) (low : List ℕ) (sp lr pc : ℕ) (f : Flags) (ram : List ℕ) (queues : List (List ℕ)) where
+module _ (j : PermissionTest) (i : Image) (x : Context) (low : List ℕ) (sp lr pc : ℕ) (f : Flags) (ram : List ℕ) (queues : List (List ℕ)) where
   abbrev goes : Instr → (d : CoreRegisters) → Type 0
   goes y d = Stands j i x.protection pc y → Steps j i (works x low sp lr pc f ram queues) (live d x.protection x.status ram queues)
 

@@ -13,7 +13,7 @@ use Rattle.device_model.specs.declared.image.Image.{Image}
 use Rattle.events.specs.declared.event.Event.{Event}
 use Rattle.mem_bus.specs.Places.{InRam, InFlash, InWindow, place}
 use Rattle.armv7m.specs.declared.state.End.TheVariants.{Halt, InputEnd}
-use Rattle.armv7m.specs.State.{State, Judge, is_unprivileged, bit_of}
+use Rattle.armv7m.specs.State.{State, PermissionTest, is_unprivileged, bit_of}
 use Rattle.armv7m.specs.Act.{Loads, Stores}
 use Rattle.armv7m.specs.Instructions.{act}
 use Rattle.armv7m.specs.declared.data.Outcome.TheVariants.{Gives, Tests}
@@ -25,9 +25,9 @@ use Rattle.armv7m.specs.Exceptions.{frame_at, frame_of, vector, supervisor_call,
 use Rattle.armv7m.specs.Code.{Stands, Steps, Runs}
 use Rattle.armv7m.specs.Stack.{Words, words_at, May, Room, Frame}
 use Rattle.armv7m.specs.Events.{StepsWith, input_event, output_event, ended}
-use Rattle.armv7m.specs.Working.{Context, body, works, IsLoad, IsStore}
+use Rattle.armv7m.specs.RunningCode.{Context, body, works, IsLoad, IsStore}
 
-module _ (j : Judge) (i : Image) (x : Context) (low : List ℕ) (sp lr pc : ℕ) (f : Flags) (ram : List ℕ) (queues : List (List ℕ)) where
+module _ (j : PermissionTest) (i : Image) (x : Context) (low : List ℕ) (sp lr pc : ℕ) (f : Flags) (ram : List ℕ) (queues : List (List ℕ)) where
   -- an instruction that stands at the program counter leads there, without an event or with this one
   abbrev pub Makes : Instr → State → Type 0
   Makes y t = Stands j i x.protection pc y → Steps j i (works x low sp lr pc f ram queues) t
@@ -164,5 +164,5 @@ module _ (j : Judge) (i : Image) (x : Context) (low : List ℕ) (sp lr pc : ℕ)
         (with_pad (nat_eq (status / 2 ^ 9 % 2) 1) (word (sp + 32))) link (ret / 2 * 2) (flags_of status) ram queues)
 
 -- in each such state
-abbrev pub EachWorks : (Judge → Image → Context → List ℕ → ℕ → ℕ → ℕ → Flags → List ℕ → List (List ℕ) → Type 0) → Type 0
-EachWorks P = (j : Judge) (i : Image) (x : Context) (low : List ℕ) (sp lr pc : ℕ) (f : Flags) (ram : List ℕ) (queues : List (List ℕ)) → P j i x low sp lr pc f ram queues
+abbrev pub EachWorks : (PermissionTest → Image → Context → List ℕ → ℕ → ℕ → ℕ → Flags → List ℕ → List (List ℕ) → Type 0) → Type 0
+EachWorks P = (j : PermissionTest) (i : Image) (x : Context) (low : List ℕ) (sp lr pc : ℕ) (f : Flags) (ram : List ℕ) (queues : List (List ℕ)) → P j i x low sp lr pc f ram queues

@@ -3,7 +3,7 @@ use Rattle.ir_model.specs.Plain.{firmware_of}
 use Rattle.ir_model.specs.Typing.{checks}
 use Rattle.ir_check.proofs.Order.{told}
 use Rattle.ir_check.proofs.Whole.{all_left, all_behind}
-use Rattle.ir_check.proofs.outer.all.Goals as goal
+use Rattle.ir_check.proofs.whole_check.all.Goals as goal
 
 pub returns-in_err-scope : goal.returns-in_err-scope
 returns-in_err-scope c =

@@ -9,22 +9,22 @@ use std::marker::Model;
 ///
 /// A `Vec` in a field would be compared with its capacity; a field of this type is the list alone.
 #[derive(Drop)]
-pub struct Listed<T: Drop> {
+pub struct ListVec<T: Drop> {
     items: Vec<T>,
 }
 
-impl<T: Drop> Model for Listed<T> {
+impl<T: Drop> Model for ListVec<T> {
     ghost Value = { List T };
 
     ghost view = { λ s. s.items.items };
 }
 
-impl<T: Drop> Listed<T> {
+impl<T: Drop> ListVec<T> {
     /// The list of a vector's items. Takes no memory.
     pub fn new(items: Vec<T>) -> Self
         ensures { result ≡ items.items }
     {
-        Listed { items }
+        ListVec { items }
     }
 
     /// The items, lent as a slice.
@@ -52,7 +52,7 @@ impl<T: Drop> Listed<T> {
     pub fn into_vec(self) -> Vec<T>
         ensures { result.items ≡ self }
     {
-        let Listed { items } = self;
+        let ListVec { items } = self;
         items
     }
 }
