@@ -1,0 +1,67 @@
+//! Images of firmwares whose functions are grouped by their numbers, by a callback that is given to `compile`.
+
+ghost use Rattle.std.specs.Prelude.{◌≡◌, ◌<◌, ◌≤◌, ◌%◌, length};
+ghost use Rattle.plan_model.specs.Boards.{IsBoard};
+
+use anyhow::{Result, bail};
+use board_text::read_board;
+use compiler::compile;
+use firmware_plans::needs_of;
+use grouping::grouping::Grouping;
+use ir_check::check;
+use ir_model::checked::Checked;
+use ir_resolve::resolving::resolve;
+use plan_model::groups::FuncFacts;
+use plan_model::plan::Board;
+use std::alloc::Global;
+
+/// The most groups, and the most functions of a firmware.
+const MOST: u32 = 1024;
+
+/// The text of the image of a firmware for a board, its functions in so many groups.
+pub(crate) fn divided_image(
+    alloc: Global,
+    firmware: &[u8],
+    board: &[u8],
+    count: u32,
+) -> Result<Vec<u8>>
+    requires { length firmware.now ≤ 4194304 }
+{
+    let Ok(firmware) = ir_reader::read(alloc, firmware) else {
+        bail!("no firmware");
+    };
+    let Ok(checked) = check(alloc, firmware) else {
+        bail!("not typed");
+    };
+    let Ok(board) = read_board(alloc, board) else {
+        bail!("no board");
+    };
+    divided(alloc, &checked, &board, count)
+}
+
+/// The text of the image of a checked firmware.
+fn divided(alloc: Global, firmware: &Checked, board: &Board, count: u32) -> Result<Vec<u8>>
+    requires { IsBoard board.now }
+{
+    let program = resolve(alloc, firmware)?;
+    let needs = needs_of(alloc, firmware, &program, board.closed)?;
+    let functions = needs.funcs.len();
+    if functions == 0 || functions > MOST as usize || count == 0 || count > MOST {
+        bail!("no grouping");
+    }
+    let by_number = |facts: &FuncFacts| -> u32
+        requires { 0 < count }
+        ensures { result ≡ facts.now.index % count }
+    { facts.index % count };
+    let grouping = Grouping::new(by_number, functions as u32, count);
+    let made = compile(alloc, firmware, &program, &needs, board, &grouping);
+    let Grouping {
+        callback: _callback,
+        functions: _functions,
+        count: _count,
+    } = grouping;
+    match made {
+        Ok(image) => Ok(image::write(alloc, &image)?),
+        Err(_) => bail!("refused"),
+    }
+}
