@@ -15,7 +15,7 @@ use Rattle.armv7m.specs.Code.{size, Lies, Stands, CodeAt}
 use Rattle.armv7m.specs.Running.{code_size}
 use Rattle.armv7m.proofs.Exec.{code_may_run}
 use Rattle.armv7m.proofs.CodeParts.{width-encode}
-use Rattle.lower.specs.Words.{plain}
+use Rattle.code_model.specs.Words.{plain}
 use Rattle.code_effects.specs.Items.{ItemsIn, ItemsAt}
 
 -- ---- sizes

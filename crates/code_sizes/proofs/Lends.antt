@@ -4,8 +4,8 @@ use Rattle.std.specs.List.{list_any, position_from}
 use Rattle.std.proofs.lemmas.List.Sums.{sum_by-cons}
 use Rattle.std.proofs.lemmas.Iterator.Adapters.{position_from-zero}
 use Rattle.ir_model.specs.Layout.{Shape}
-use Rattle.lower.specs.FrameShape.{local_size, starts_from}
-use Rattle.lower.specs.Places.{lends_among}
+use Rattle.code_model.specs.FrameShape.{local_size, starts_from}
+use Rattle.code_model.specs.Places.{lends_among}
 
 from_there : {X : Type 0} (p : X → Bool) (i : ℕ) (xs : List X) → is_some (position_from p i xs) ≡ list_any p xs
 from_there p i [] = refl

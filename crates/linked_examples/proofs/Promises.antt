@@ -22,10 +22,10 @@ use Rattle.plan_model.specs.Lending.{lend_number}
 use Rattle.plan_model.specs.Crossing.{site_number}
 use Rattle.plan_model.specs.Needs.{need_of}
 use Rattle.depend.specs.Reached.{IsListed, HasTarget}
-use Rattle.lower.specs.Entry.{frame_code}
-use Rattle.lower.specs.Templates.{inst_items, term_items}
-use Rattle.lower.specs.Sizes.{inst_size, term_size, entry_size}
-use Rattle.lower.specs.CompartmentCode.{compartment_items, compartment_labels, compartment_size}
+use Rattle.code_model.specs.Entry.{frame_code}
+use Rattle.code_model.specs.Templates.{inst_items, term_items}
+use Rattle.code_model.specs.Sizes.{inst_size, term_size, entry_size}
+use Rattle.code_model.specs.CompartmentCode.{compartment_items, compartment_labels, compartment_size}
 use Rattle.code_effects.specs.Items.{ItemsIn, ItemsStand}
 use Rattle.monitor.specs.Setting.{may_store, may_load, has_target}
 use Rattle.monitor.specs.Records.{compartment_at}

@@ -23,9 +23,9 @@ use Rattle.thumb_asm.specs.Assembly.{branch_size, size_of, total, place_of}
 use Rattle.thumb_asm.specs.Finished.{branch, bytes_at, bytes_from}
 use Rattle.thumb_model.specs.Table.{encode, width_of}
 use Rattle.thumb_model.proofs.Codes.{length-bytes_of_code}
-use Rattle.lower.specs.Laws.{CompartmentsHold}
-use Rattle.lower.specs.CompartmentCode.{compartment_size, compartment_items, compartment_labels}
-use Rattle.lower.specs.Planned.{code_groups, code_places, planned_code}
+use Rattle.code_model.specs.Laws.{CompartmentsHold}
+use Rattle.code_model.specs.CompartmentCode.{compartment_size, compartment_items, compartment_labels}
+use Rattle.code_model.specs.Planned.{code_groups, code_places, planned_code}
 use Rattle.monitor.specs.CodeSize.{PagesAreFull}
 use Rattle.monitor.specs.Layout.{head_at}
 use Rattle.monitor.specs.Area.{area}

@@ -17,7 +17,7 @@ use Rattle.thumb_asm.specs.Assembly.{branch_size, size_of, total, place_of}
 use Rattle.thumb_asm.specs.Finished.{distance, branch, reach, is_near, first_far, bytes_from}
 use Rattle.armv7m.specs.Code.{size}
 use Rattle.armv7m.proofs.CodeParts.{width-encode, code_size-even}
-use Rattle.lower.specs.Words.{plain}
+use Rattle.code_model.specs.Words.{plain}
 use Rattle.code_effects.specs.Items.{InstructionsInTable}
 use Rattle.linked_promises.proofs.ByteLists.{EachBelow, below-append, half_below, encoded_below}
 

@@ -24,8 +24,8 @@ use Rattle.plan_model.specs.Regions.{global_size}
 use Rattle.plan_model.specs.Blocks.{offset_in_region, region_bytes}
 use Rattle.plan_model.specs.TableSize.{words_in}
 use Rattle.plan_model.specs.Placement.{global_address}
-use Rattle.lower.specs.declared.places.Places.{Places}
-use Rattle.lower.specs.Planned.{planned_entry, code_places}
+use Rattle.code_model.specs.declared.places.Places.{Places}
+use Rattle.code_model.specs.Planned.{planned_entry, code_places}
 use Rattle.monitor.specs.declared.tables.InitRecord.{InitRecord}
 use Rattle.monitor.specs.declared.tables.Tables.{Tables}
 use Rattle.monitor.specs.MonitorCode.{MonitorCode}

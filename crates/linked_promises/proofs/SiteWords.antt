@@ -21,9 +21,9 @@ use Rattle.plan_model.specs.Crossing.{crossing_sites, target_count}
 use Rattle.plan_model.specs.Groups.{compartment_of}
 use Rattle.plan_model.specs.Placement.{no_spot, compartment_spot}
 use Rattle.plan_model.specs.TableSize.{table_bytes}
-use Rattle.lower.specs.FunctionCode.{lent}
-use Rattle.lower.specs.CompartmentCode.{compartment_size}
-use Rattle.lower.specs.Planned.{code_groups, code_places, planned_entry}
+use Rattle.code_model.specs.FunctionCode.{lent}
+use Rattle.code_model.specs.CompartmentCode.{compartment_size}
+use Rattle.code_model.specs.Planned.{code_groups, code_places, planned_entry}
 use Rattle.monitor.specs.declared.tables.TargetRecord.{TargetRecord}
 use Rattle.monitor.specs.Area.{site_words, target_words}
 use Rattle.link_model.specs.LinkedTables.{planned_places, return_address, site_records, target_record, target_records, tables_of}

@@ -13,8 +13,8 @@ use Rattle.plan_model.specs.declared.plan.Board.{Board}
 use Rattle.plan_model.specs.declared.plan.Plan.{Plan}
 use Rattle.plan_model.specs.Groups.{compartment_of}
 use Rattle.plan_model.specs.Crossing.{crossing_sites}
-use Rattle.lower.specs.Laws.{CompartmentsHold}
-use Rattle.lower.specs.Planned.{code_groups, code_places, planned_entry}
+use Rattle.code_model.specs.Laws.{CompartmentsHold}
+use Rattle.code_model.specs.Planned.{code_groups, code_places, planned_entry}
 use Rattle.monitor.specs.declared.tables.Tables.{Tables}
 use Rattle.monitor.specs.Layout.{sites_at, targets_at}
 use Rattle.monitor.specs.Checks.{is_site, is_entry, is_target}

@@ -8,7 +8,7 @@ use Rattle.armv7m.specs.Confinement.{AnyOf}
 use Rattle.armv7m.specs.Stack.{words_at}
 use Rattle.ir_model.specs.Resolved.{Program}
 use Rattle.plan_model.specs.TableSize.{words_in}
-use Rattle.lower.specs.declared.places.Places.{Places}
+use Rattle.code_model.specs.declared.places.Places.{Places}
 use Rattle.monitor.specs.declared.tables.InitRecord.{InitRecord}
 use Rattle.link_model.specs.FirstWords.{first_bytes, first_words}
 use Rattle.link_model.specs.LinkedTables.{Filled, init_records}

@@ -10,19 +10,19 @@ use Rattle.ir_model.specs.Resolved.{NumberedInst, NumberedTerm, NumberedBlock, N
 use Rattle.ir_program.specs.declared.program.Operation.{Operation}
 use Rattle.ir_program.specs.declared.program.Sequence.{Sequence}
 use Rattle.ir_program.specs.Seen.{known_of, operation_of, sequence_of}
-use Rattle.lower.specs.declared.places.Places.{Places}
+use Rattle.code_model.specs.declared.places.Places.{Places}
 use Rattle.lower.specs.declared.subject.Subject.{Subject}
-use Rattle.lower.specs.Places.{site_in, crosses}
-use Rattle.lower.specs.Templates.{inst_items, term_items}
-use Rattle.lower.specs.Sizes.{inst_size, block_size}
-use Rattle.lower.specs.FunctionCode.{lent, block_pieces, blocks_pieces, blocks_labels}
-use Rattle.lower.specs.Fitting.{InstFits, BlockFits}
+use Rattle.code_model.specs.Places.{site_in, crosses}
+use Rattle.code_model.specs.Templates.{inst_items, term_items}
+use Rattle.code_model.specs.Sizes.{inst_size, block_size}
+use Rattle.code_model.specs.FunctionCode.{lent, block_pieces, blocks_pieces, blocks_labels}
+use Rattle.code_model.specs.Fitting.{InstFits, BlockFits}
 use Rattle.lower.specs.Subjects.{func_of, block_in, inst_of, items_of, IsSubject}
-use Rattle.lower.specs.Emitted.{with_more, HasRoom, IsNear, AreNear}
-use Rattle.lower.proofs.Totals.{total-append}
-use Rattle.lower.proofs.PieceSizes.{inst_total}
-use Rattle.lower.proofs.FunctionSizes.{block_total}
-use Rattle.lower.proofs.Even.{inst_even, insts_even, term_even}
+use Rattle.code_model.specs.Emitted.{with_more, HasRoom, IsNear, AreNear}
+use Rattle.code_model.proofs.Totals.{total-append}
+use Rattle.code_model.proofs.PieceSizes.{inst_total}
+use Rattle.code_model.proofs.FunctionSizes.{block_total}
+use Rattle.code_model.proofs.Even.{inst_even, insts_even, term_even}
 use Rattle.lower.proofs.Putting.{here_more, first_fits, rest_fits, both_put}
 
 -- entries that are near all of some code are near each part of it

@@ -6,9 +6,9 @@ use Rattle.thumb_model.specs.Table.{InTable, encode, width_of}
 use Rattle.thumb_asm.specs.declared.item.Item.{Item}
 use Rattle.thumb_asm.specs.declared.item.Item.TheVariants.{Plain}
 use Rattle.thumb_asm.specs.Assembly.{Assembly, here, total}
-use Rattle.lower.specs.Words.{plain}
-use Rattle.lower.specs.Emitted.{with_more, HasRoom, AreInTable}
-use Rattle.lower.proofs.Totals.{total-append}
+use Rattle.code_model.specs.Words.{plain}
+use Rattle.code_model.specs.Emitted.{with_more, HasRoom, AreInTable}
+use Rattle.code_model.proofs.Totals.{total-append}
 
 pub here_more : (a : Assembly) (xs : List Item) → here (with_more a xs) ≡ here a + total xs
 here_more a xs = let e = total-append a.items xs in omega arith

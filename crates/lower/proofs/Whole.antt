@@ -9,20 +9,20 @@ use Rattle.ir_model.specs.Plain.{PlainSlot}
 use Rattle.ir_model.specs.Resolve.{row_from}
 use Rattle.ir_model.specs.Resolved.{NumberedFunc}
 use Rattle.ir_model.specs.Signatures.{row_length}
-use Rattle.lower.specs.declared.places.Places.{Places}
+use Rattle.code_model.specs.declared.places.Places.{Places}
 use Rattle.lower.specs.declared.subject.Subject.{Subject}
-use Rattle.lower.specs.FrameShape.{locals_size, frame_size, frame_shape}
-use Rattle.lower.specs.Places.{entry_address}
-use Rattle.lower.specs.Templates.{entry_items}
-use Rattle.lower.specs.Sizes.{entry_size, function_size}
-use Rattle.lower.specs.FunctionCode.{lent, function_items, function_labels}
-use Rattle.lower.specs.Fitting.{FuncFits}
+use Rattle.code_model.specs.FrameShape.{locals_size, frame_size, frame_shape}
+use Rattle.code_model.specs.Places.{entry_address}
+use Rattle.code_model.specs.Templates.{entry_items}
+use Rattle.code_model.specs.Sizes.{entry_size, function_size}
+use Rattle.code_model.specs.FunctionCode.{lent, function_items, function_labels}
+use Rattle.code_model.specs.Fitting.{FuncFits}
 use Rattle.lower.specs.Subjects.{func_of, first_label, rest_items, rest_labels}
-use Rattle.lower.specs.Emitted.{with_more, with_function, size_in, HasRoom, IsNear, AreNear}
-use Rattle.lower.proofs.Totals.{total-append}
-use Rattle.lower.proofs.PieceSizes.{entry_total}
-use Rattle.lower.proofs.FunctionSizes.{function_total}
-use Rattle.lower.proofs.Even.{entry_even}
+use Rattle.code_model.specs.Emitted.{with_more, with_function, size_in, HasRoom, IsNear, AreNear}
+use Rattle.code_model.proofs.Totals.{total-append}
+use Rattle.code_model.proofs.PieceSizes.{entry_total}
+use Rattle.code_model.proofs.FunctionSizes.{function_total}
+use Rattle.code_model.proofs.Even.{entry_even}
 use Rattle.lower.proofs.Blocks.{narrow}
 
 pub rows_length : (ps : List PlainSlot) → row_length (row_from ps) ≡ length ps

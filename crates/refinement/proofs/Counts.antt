@@ -5,7 +5,7 @@ use Rattle.std.specs.List.{position_from, range_with_len, list_any}
 use Rattle.std.proofs.lemmas.Bool.Decides.{nat_tests}
 use Rattle.std.proofs.lemmas.List.Recursion.{is_count_by}
 use Rattle.std.proofs.lemmas.Iterator.Adapters.{position_from-zero}
-use Rattle.lower.specs.Places.{lends_among}
+use Rattle.code_model.specs.Places.{lends_among}
 use Rattle.plan_model.specs.Lending.{is_local}
 
 -- how many numbers pass a test

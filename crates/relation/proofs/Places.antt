@@ -1,7 +1,7 @@
 -- One fixed place for each frame of a run: where it was entered.
 use Rattle.std.proofs.Common.{◌≡◌, ◌≢◌, ℕ, zero, suc, ◌+◌, ◌-◌, ◌<◌, ◌≤◌, List, [], ◌∷◌, ◌++◌, length, get_or, refl, sym, ap, ◌∙◌, subst, arith, length-append}
 use Rattle.ir_laws.specs.Moves.{Where, Moves, Moved, Pushed, Popped}
-use Rattle.lower.specs.FrameShape.{frame_size}
+use Rattle.code_model.specs.FrameShape.{frame_size}
 use Rattle.simulate.specs.StackLimit as limit
 use Rattle.relation.specs.Builds.{Build, func}
 use Rattle.relation.specs.Relation.{site_of}
