@@ -19,8 +19,9 @@ use Rattle.code_model.specs.CompartmentCode.{CodeGroups, CodePlaces, members_fro
 use Rattle.code_model.specs.Laws.{SizesHold, SizesAreEven}
 use Rattle.code_effects.specs.Items.{ItemsAt}
 use Rattle.code_effects.specs.Compartments.{CompartmentsStand}
-use Rattle.code_effects.proofs.Items.{total-append, parts_at, items_at}
+use Rattle.code_effects.proofs.Items.{parts_at, items_at}
 use Rattle.code_effects.proofs.Functions.{functions_stand}
+use Rattle.thumb_asm.proofs.Items.{total-append}
 
 -- ---- a function among those of its compartment
 

@@ -30,10 +30,6 @@ pub total-plain : (xs : List Instr) → total (plain xs) ≡ code_size xs
 total-plain [] = refl
 total-plain (x ∷ xs) = omega (arith, width-encode x, total-plain xs)
 
-pub total-append : (xs ys : List Item) → total (xs ++ ys) ≡ total xs + total ys
-total-append [] ys = omega arith
-total-append (x ∷ xs) ys = omega (arith, total-append xs ys)
-
 -- ---- parts
 
 module _ (i : Image) (labels : List (Option ℕ)) where

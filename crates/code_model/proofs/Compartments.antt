@@ -10,9 +10,9 @@ use Rattle.code_model.specs.Places.{lends_among}
 use Rattle.code_model.specs.FunctionCode.{function_items}
 use Rattle.code_model.specs.CompartmentCode.{CodeGroups, CodePlaces, filled_size, filling, members, before, sites_of, lends_of, size_of, total_size, label_count, entry_of, places_of, filled_items}
 use Rattle.code_model.specs.Laws.{CompartmentsHold}
-use Rattle.code_model.proofs.Totals.{total-append}
 use Rattle.code_model.proofs.FunctionSizes.{function_total}
 use Rattle.code_model.proofs.Even.{function_even}
+use Rattle.thumb_asm.proofs.Items.{total-append}
 
 filling_by : (n : ℕ) (b : Bool) → nat_eq (n % 4) 0 ≡ b → n % 2 ≡ 0 → n + total (filling n) ≡ filled_size n
 unfolding encode

@@ -10,8 +10,8 @@ use Rattle.code_model.specs.Templates.{entry_items, inst_items, term_items}
 use Rattle.code_model.specs.Sizes.{inst_size, term_size, insts_size, block_size, blocks_size, function_size, entry_size}
 use Rattle.code_model.specs.FunctionCode.{lent, block_pieces, blocks_pieces, function_items}
 use Rattle.code_model.specs.Laws.{SizesHold}
-use Rattle.code_model.proofs.Totals.{total-append}
 use Rattle.code_model.proofs.PieceSizes.{inst_total, term_total, entry_total}
+use Rattle.thumb_asm.proofs.Items.{total-append}
 
 module _ (g : NumberedFunc) (q : Places) where
   pub block_total : (first at b k : ℕ) (is : List NumberedInst) (t : NumberedTerm) →

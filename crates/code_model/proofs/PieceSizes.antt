@@ -24,7 +24,8 @@ use Rattle.code_model.specs.Entry.{sub_by, sub_code, add_by, add_code, stores_co
 use Rattle.code_model.specs.Templates.{lends_of, entry_items, inst_items, term_items}
 use Rattle.code_model.specs.Sizes.{bin_size, addr_size, save_size, call_size, icall_size, inst_size, adjust_size, term_size, entry_size}
 use Rattle.code_model.specs.FunctionCode.{lent}
-use Rattle.code_model.proofs.Totals.{total-append, total-plain-append}
+use Rattle.code_model.proofs.Totals.{total-plain-append}
+use Rattle.thumb_asm.proofs.Items.{total-append}
 
 bin_total : (op : BinOp) (to a b : ℕ) → total (plain (bin_code op to a b)) ≡ bin_size op
 unfolding encode

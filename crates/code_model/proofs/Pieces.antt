@@ -14,9 +14,9 @@ use Rattle.code_model.specs.Templates.{entry_items, inst_items, term_items}
 use Rattle.code_model.specs.Sizes.{inst_size, insts_size, block_size, blocks_size, entry_size, place_offset, resume_size, site_offset}
 use Rattle.code_model.specs.FunctionCode.{lent, here_items, block_pieces, blocks_pieces, function_items}
 use Rattle.code_model.specs.Laws.{StandsAt, IsCall, PiecesStand}
-use Rattle.code_model.proofs.Totals.{total-append}
 use Rattle.code_model.proofs.PieceSizes.{cross_total, icross_total, inst_total, entry_total}
 use Rattle.code_model.proofs.FunctionSizes.{block_total}
+use Rattle.thumb_asm.proofs.Items.{total-append}
 
 -- it stands so with more in front and behind
 pub among : (front whole behind piece : List Item) (n m : ℕ) → total front + n ≡ m → StandsAt whole n piece → StandsAt (front ++ (whole ++ behind)) m piece

@@ -1,13 +1,8 @@
 -- Sizes of pieces one behind the other.
 use Rattle.std.proofs.Common.{◌≡◌, ◌+◌, List, [], ◌∷◌, ◌++◌, arith}
 use Rattle.thumb_model.specs.declared.table.Instr.{Instr}
-use Rattle.thumb_asm.specs.declared.item.Item.{Item}
 use Rattle.thumb_asm.specs.Assembly.{total}
 use Rattle.code_model.specs.Words.{plain}
-
-pub total-append : (xs ys : List Item) → total (xs ++ ys) ≡ total xs + total ys
-total-append [] ys = omega arith
-total-append (x ∷ xs) ys = let h = total-append xs ys in omega arith
 
 pub total-plain-append : (xs ys : List Instr) → total (plain (xs ++ ys)) ≡ total (plain xs) + total (plain ys)
 total-plain-append [] ys = omega arith

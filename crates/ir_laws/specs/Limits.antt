@@ -7,7 +7,8 @@ use Rattle.ir_model.specs.Layout.{known, shape}
 use Rattle.ir_model.specs.Resolved.{Program, NumberedBlock, NumberedFunc, NumberedWindow, func_at, global_at, local_at, window_at, file_of}
 use Rattle.ir_model.specs.Resolve.{resolve}
 use Rattle.ir_model.specs.Extents.{layout_of}
-use Rattle.ir_model.specs.Canonical.{Each, IsWithinLimits}
+use Rattle.ir_model.specs.Canonical.{IsWithinLimits}
+use Rattle.common_laws.specs.Lists.{Each}
 use Rattle.ir_model.specs.TextLimits.{struct_limit, periph_limit, global_limit, file_limit, function_limit, parameter_limit, register_limit, local_limit, block_limit, instruction_limit}
 use Rattle.ir_model.specs.Typing.{object_limit, IsTyped}
 use Rattle.ir_model.specs.Signatures.{row_length}

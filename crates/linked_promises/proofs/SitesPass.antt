@@ -1,7 +1,7 @@
 -- The check of sites passes.
 use Rattle.std.proofs.Common.{◌≡◌, ℕ, ◌+◌, ◌%◌, ◌<◌, true, length, refl, arith}
 use Rattle.std.specs.Prelude.{Contains}
-use Rattle.armv7m.specs.Confinement.{Each}
+use Rattle.common_laws.specs.Lists.{Each}
 use Rattle.ir_model.specs.Plain.{PlainFirmware}
 use Rattle.ir_model.specs.Resolve.{resolve}
 use Rattle.ir_model.specs.Resolved.{Program}

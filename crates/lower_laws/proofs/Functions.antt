@@ -21,7 +21,8 @@ use Rattle.code_model.specs.Sizes.{inst_size, term_size, entry_size, insts_size,
 use Rattle.code_model.specs.FunctionCode.{lent, block_pieces, blocks_pieces, blocks_labels, function_items, function_labels}
 use Rattle.code_model.specs.Laws.{SizesHold}
 use Rattle.lower_laws.specs.Reaching.{StandFrom, GoesInside, JumpsInside, FunctionsReach}
-use Rattle.lower_laws.proofs.Reaching.{total-append, far-append, plain_near, both_near, half_near, long_near}
+use Rattle.lower_laws.proofs.Reaching.{far-append, plain_near, both_near, half_near, long_near}
+use Rattle.thumb_asm.proofs.Items.{total-append}
 
 abbrev joined : List (List Item) → List Item
 joined xs = flat_map (λ (piece : List Item). piece) xs

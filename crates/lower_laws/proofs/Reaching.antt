@@ -12,10 +12,6 @@ use Rattle.thumb_asm.specs.Finished.{reach, is_near, first_far}
 use Rattle.code_model.specs.Words.{plain}
 use Rattle.code_model.specs.Templates.{jump_items}
 
-pub total-append : (xs ys : List Item) → total (xs ++ ys) ≡ total xs + total ys
-total-append [] ys = omega arith
-total-append (x ∷ xs) ys = let h = total-append xs ys in omega arith
-
 then_on : (b : Bool) (o p : Option AsmRefusal) (e : AsmRefusal) → (o ≡ None → p ≡ None) → (if b then o else Some e) ≡ None → (if b then p else Some e) ≡ None
 then_on true o p e on h = on h
 then_on false o p e on h = absurd (none-some _ (sym h))

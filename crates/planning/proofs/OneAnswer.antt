@@ -31,6 +31,7 @@ use Rattle.planning.specs.Planned.{IsPlannedFor}
 use Rattle.planning.specs.Refusals.{AreRefused, HasNoRoom, IsPlanningRefusal, of_place}
 use Rattle.planning.specs.Laws.{PlansAreOne, PlansAreNotRefused, PlanningRefusalsAreOne}
 use Rattle.planning.proofs.Refusing.{tried}
+use Rattle.common_laws.proofs.Options.{one_some as one_passed}
 
 -- ---- blocks that fit are placed
 
@@ -90,9 +91,6 @@ plans_are_not_refused one p n g b x r k h = not_refused one p n g b x r k h
 
 one_error : {X E : Type 0} (r : Result X E) (e f : E) → r ≡ Err e → r ≡ Err f → e ≡ f
 one_error r e f a b = cc
-
-one_passed : {X : Type 0} (o : Option X) (x y : X) → o ≡ Some x → o ≡ Some y → x ≡ y
-one_passed o x y a b = cc
 
 module _ (one : GraphsAreOne) (p : Program) (n : Needs) (g : Groups) (b : Board) where
   same_limit : (w v : LimitKind) (c d : ℕ) → IsPlanningRefusal p n g b (Limit w c) → IsPlanningRefusal p n g b (Limit v d) → Limit w c ≡ Limit v d
