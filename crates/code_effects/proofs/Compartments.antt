@@ -12,15 +12,16 @@ use Rattle.device_model.specs.declared.image.Image.{Image}
 use Rattle.armv7m.specs.declared.state.ProtectionState.{ProtectionState}
 use Rattle.armv7m.specs.State.{PermissionTest}
 use Rattle.ir_model.specs.Resolved.{Program, NumberedBlock, NumberedFunc, func_at}
-use Rattle.lower.specs.declared.places.Places.{Places}
-use Rattle.lower.specs.Sizes.{block_size, entry_size, place_offset}
-use Rattle.lower.specs.FunctionCode.{lent, function_items, blocks_labels, function_labels}
-use Rattle.lower.specs.CompartmentCode.{CodeGroups, CodePlaces, members_from, filled_size, filling, compartment_of, members, before, sites_of, size_of, total_size, label_count, entry_of, places_of, filled_items}
-use Rattle.lower.specs.Laws.{SizesHold, SizesAreEven}
+use Rattle.code_model.specs.declared.places.Places.{Places}
+use Rattle.code_model.specs.Sizes.{block_size, entry_size, place_offset}
+use Rattle.code_model.specs.FunctionCode.{lent, function_items, blocks_labels, function_labels}
+use Rattle.code_model.specs.CompartmentCode.{CodeGroups, CodePlaces, members_from, filled_size, filling, compartment_of, members, before, sites_of, size_of, total_size, label_count, entry_of, places_of, filled_items}
+use Rattle.code_model.specs.Laws.{SizesHold, SizesAreEven}
 use Rattle.code_effects.specs.Items.{ItemsAt}
 use Rattle.code_effects.specs.Compartments.{CompartmentsStand}
-use Rattle.code_effects.proofs.Items.{total-append, parts_at, items_at}
+use Rattle.code_effects.proofs.Items.{parts_at, items_at}
 use Rattle.code_effects.proofs.Functions.{functions_stand}
+use Rattle.thumb_asm.proofs.Items.{total-append}
 
 -- ---- a function among those of its compartment
 

@@ -11,10 +11,10 @@ use Rattle.ir_program.specs.declared.program.Storage.{Storage}
 use Rattle.ir_program.specs.declared.program.Routine.{Routine}
 use Rattle.ir_program.specs.Storages.{shape_of}
 use Rattle.ir_program.specs.Seen.{operation_of, exit_of, sequence_of, routine_of}
-use Rattle.lower.specs.declared.places.CallSite.{CallSite}
-use Rattle.lower.specs.Places.{crosses}
-use Rattle.lower.specs.FrameShape.{local_size, locals_size, frame_shape}
-use Rattle.lower.specs.Sizes.{inst_size, term_size, entry_size, adjust_size, save_size, insts_size, blocks_size, function_size}
+use Rattle.code_model.specs.declared.places.CallSite.{CallSite}
+use Rattle.code_model.specs.Places.{crosses}
+use Rattle.code_model.specs.FrameShape.{local_size, locals_size, frame_shape}
+use Rattle.code_model.specs.Sizes.{inst_size, term_size, entry_size, adjust_size, save_size, insts_size, blocks_size, function_size}
 
 same_sizes : (ks : List Known) (ss : List Storage) → locals_size (map (shape_of ks) ss) ≡ locals_size (map (shape_of []) ss)
 same_sizes ks [] = refl

@@ -26,18 +26,13 @@ use Rattle.depend.specs.Bounds.{IsBelow}
 use Rattle.depend.specs.Sites.{CallsBelow, Adds}
 use Rattle.object_sets.proofs.Parts.{head, cases, in_none}
 use Rattle.depend.proofs.Funcs.{func_read}
+use Rattle.common_laws.proofs.Lists.{zip_pushed}
 
 pub adds_none : (p : Program) (S : ObjectSets) (old : List SiteNeed) → Adds p S old old []
 adds_none p S old before h = subst (λ l. AllZip (IsSiteOf p S) l old) (sym (append-nil before)) h
 
 pub adds_more : (p : Program) (S : ObjectSets) (old mid new : List SiteNeed) (a b : List CallPlace) → Adds p S old mid a → Adds p S mid new b → Adds p S old new (a ++ b)
 adds_more p S old mid new a b x y before h = subst (λ l. AllZip (IsSiteOf p S) l new) (append_assoc before a b) (y (before ++ a) (x before h))
-
-zip_pushed : {X Y : Type 0} (R : X → Y → Type 0) (xs : List X) (ys : List Y) (x : X) (y : Y) → AllZip R xs ys → R x y → AllZip R (xs ++ x ∷ []) (ys ++ y ∷ [])
-zip_pushed R [] [] x y a r = (r, tt)
-zip_pushed R [] (z ∷ zs) x y a r = absurd a
-zip_pushed R (z ∷ zs) [] x y a r = absurd a
-zip_pushed R (v ∷ vs) (z ∷ zs) x y a r = (a.0, zip_pushed R vs zs x y a.1 r)
 
 pub adds_one : (p : Program) (S : ObjectSets) (old new : List SiteNeed) (c : CallPlace) (s : SiteNeed) → new ≡ old ++ s ∷ [] → IsSiteOf p S c s → Adds p S old new (c ∷ [])
 adds_one p S old new c s e i before h = subst (λ l. AllZip (IsSiteOf p S) (before ++ c ∷ []) l) (sym e) (zip_pushed (IsSiteOf p S) before old c s h i)

@@ -1,5 +1,5 @@
 -- The numbers of groups are below the number of files, or of functions.
-use Rattle.std.proofs.Common.{◌≡◌, ℕ, suc, ◌<◌, ◌≤◌, ◌+◌, Bool, true, false, not, ◌&&◌, List, [], ◌∷◌, cond, nat_eq, length, map, filter, get_or, replicate, flat_map, Some, None, refl, sym, ap, subst, ◌∙◌, arith, length-append}
+use Rattle.std.proofs.Common.{◌≡◌, ℕ, suc, ◌<◌, ◌≤◌, ◌+◌, Bool, true, false, not, ◌&&◌, List, [], ◌∷◌, cond, nat_eq, length, map, get_or, replicate, flat_map, Some, None, refl, sym, ap, subst, ◌∙◌, arith, length-append}
 use Rattle.std.specs.List.{All, fold, list_any, list_all, position_or_len}
 use Rattle.std.proofs.lemmas.Bool.{eq-eqb, cases_eq}
 use Rattle.std.proofs.lemmas.List.{get_or-map, length-map, length-replicate}
@@ -18,6 +18,7 @@ use Rattle.grouping.specs.Functions.{AreFunctions, HasCallersBelow}
 use Rattle.grouping.proofs.Distinct.{any_distinct, found_any}
 use Rattle.grouping.proofs.Moves.{length_moved}
 use Rattle.grouping.proofs.Periphs.{same_through}
+use Rattle.common_laws.proofs.Lists.{few_kept as at_most}
 
 -- ---- files
 
@@ -103,14 +104,6 @@ optimized_below count fs functions h =
 same_itself : (ns : List ℕ) → same_numbers ns ns ≡ true
 same_itself [] = refl
 same_itself (n ∷ ns) = ap (λ b. b && same_numbers ns ns) (eq-eqb n n refl) ∙ same_itself ns
-
-at_most : {X : Type 0} (p : X → Bool) (xs : List X) → length (filter p xs) ≤ length xs
-at_most p [] = omega arith
-at_most p (x ∷ xs) = by (p x) (at_most p xs)
-  where
-    by : (b : Bool) → length (filter p xs) ≤ length xs → length (cond b (x ∷ filter p xs) (filter p xs)) ≤ suc (length xs)
-    by true ih = omega arith
-    by false ih = omega arith
 
 fewer_distinct : {X : Type 0} (same : X → X → Bool) (xs : List X) → length (distinct same xs) ≤ length xs
 fewer_distinct same [] = omega arith

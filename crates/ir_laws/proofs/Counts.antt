@@ -7,11 +7,13 @@ use Rattle.ir_model.specs.Plain.{PlainSlot, PlainFunc, PlainFile, PlainFirmware,
 use Rattle.ir_model.specs.Layout.{known, shape}
 use Rattle.ir_model.specs.Resolved.{no_func, file_of}
 use Rattle.ir_model.specs.Resolve.{Scope, scope_of, row_from, resolved_func, resolved_global, resolved_block, resolved_inst, window_of, files_from, resolve}
-use Rattle.ir_model.specs.Canonical.{Each, IsWithinLimits}
+use Rattle.ir_model.specs.Canonical.{IsWithinLimits}
+use Rattle.common_laws.specs.Lists.{Each}
 use Rattle.ir_model.specs.Signatures.{row_length}
-use Rattle.ir_model.proofs.ForEach.{each_both, each_weaker}
+use Rattle.ir_model.proofs.ForEach.{each_weaker}
 use Rattle.ir_model.proofs.Limits.{Limited, limited, insts_in, few_structs, few_periphs, few_globals, few_files, few_functions}
 use Rattle.ir_laws.specs.Limits.{inst_count, IsFew, AreFew, CountsOf}
+use Rattle.common_laws.proofs.Lists.{each_both}
 
 -- ---- the files of functions
 

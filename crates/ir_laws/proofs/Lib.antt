@@ -14,7 +14,8 @@ mod Counts
 mod Sizes
 mod Windows
 mod Declared
-mod Aligned
+pub mod Aligned
+pub mod GlobalShapes
 pub mod Moving
 mod Steps
 mod Facts

@@ -14,6 +14,7 @@ use Rattle.ir_model.specs.Typing.{Checks, check, is_new, is_power_from, is_windo
 use Rattle.ir_model.proofs.Passing.{Pass, left, right, holds, behind}
 use Rattle.ir_model.proofs.Typed.{parts_pass}
 use Rattle.ir_laws.specs.Limits.{IsWindow, AreDisjoint, HasWindows}
+use Rattle.common_laws.proofs.Tests.{neither as not_any}
 
 -- a power of two that is found
 record IsPower (n : ℕ) (from to : ℕ) : Type 0 where
@@ -57,10 +58,6 @@ apart_by : (a b c d : ℕ) (x y : Bool) → nat_lt a d ≡ x → nat_lt c b ≡ 
 apart_by a b c d true true e f h = cc
 apart_by a b c d true false e f h = inl (grind (arith, nat_tests))
 apart_by a b c d false y e f h = inr (grind (arith, nat_tests))
-
-not_any : (b c : Bool) → not (b || c) ≡ true → (not b ≡ true) × (not c ≡ true)
-not_any true c h = cc
-not_any false c h = (refl, h)
 
 abbrev Apart : Peripheral → Peripheral → Type 0
 Apart q e = AreDisjoint (window_of q) (window_of e)

@@ -22,7 +22,7 @@ use Rattle.plan_model.specs.Placement.{compartment_spot}
 use Rattle.layout_laws.specs.FlashLaws.{FlashIsLaid, IsFlashLaid, IsIn, IsAligned}
 use Rattle.layout_laws.specs.RamLaws.{RamIsApart}
 use Rattle.layout_laws.specs.RamPlaces.{RamIsThere, RamIsInside}
-use Rattle.lower.specs.Planned.{planned_code}
+use Rattle.code_model.specs.Planned.{planned_code}
 use Rattle.monitor.specs.Layout.{head_at}
 use Rattle.monitor.specs.Area.{area}
 use Rattle.monitor.specs.Page.{page}

@@ -4,7 +4,7 @@ use Rattle.std.specs.Prelude.{find}
 use Rattle.std.specs.Bool.{then_some}
 use Rattle.std.proofs.lemmas.Bool.Decides.{nat_tests}
 use Rattle.std.proofs.lemmas.List.Sums.{sum_by-cons}
-use Rattle.armv7m.specs.Confinement.{Each}
+use Rattle.common_laws.specs.Lists.{Each}
 use Rattle.plan_model.specs.declared.needs.SiteNeed.{SiteNeed}
 use Rattle.plan_model.specs.declared.needs.Needs.{Needs}
 use Rattle.plan_model.specs.declared.groups.Groups.{Groups}
@@ -14,6 +14,7 @@ use Rattle.plan_model.specs.Choices.{first_some}
 use Rattle.plan_model.specs.CompileLimits.{above, wide_site, first_passed, KeepsLimits}
 use Rattle.plan_model.specs.Crossing.{crossing_sites, target_count}
 use Rattle.plan_model.specs.Lending.{lent}
+use Rattle.common_laws.proofs.Options.{none_mapped as unmapped}
 
 none_of : {X : Type 0} (o : Option X) (os : List (Option X)) → first_some (o ∷ os) ≡ None → (o ≡ None) × (first_some os ≡ None)
 none_of None os h = (refl, h)
@@ -25,10 +26,6 @@ kept most count kind h = by (nat_lt most count) refl h
     by : (b : Bool) → nat_lt most count ≡ b → then_some {T = LimitKind × ℕ} b (kind, count) ≡ None → count ≤ most
     by true e h = cc
     by false e h = grind (arith, nat_tests, e)
-
-unmapped : {X Y : Type 0} (f : X → Y) (o : Option X) → option_map f o ≡ None → o ≡ None
-unmapped f None h = refl
-unmapped f (Some x) h = cc
 
 found_none : (ss : List SiteNeed) → find (λ (s : SiteNeed). nat_lt 64 (length s.targets)) ss ≡ None → Each (λ (s : SiteNeed). length s.targets ≤ 64) ss
 found_none [] h = tt

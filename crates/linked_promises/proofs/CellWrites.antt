@@ -17,9 +17,9 @@ use Rattle.plan_model.specs.Regions.{global_size}
 use Rattle.plan_model.specs.Blocks.{offset_in_region, region_bytes}
 use Rattle.plan_model.specs.TableSize.{words_in}
 use Rattle.layout_laws.specs.GlobalLaws.{AreLaid}
-use Rattle.lower.specs.declared.places.Places.{Places}
+use Rattle.code_model.specs.declared.places.Places.{Places}
 use Rattle.link_model.specs.FirstWords.{first_word, with_cells, with_global, first_bytes}
-use Rattle.armv7m.specs.Confinement.{Each}
+use Rattle.common_laws.specs.Lists.{Each}
 
 -- cells end at or before the last bound
 pub last_end : (a size : ℕ) (ds : List CellPlace) → IsLaidOut a size ds → a ≤ size

@@ -20,8 +20,8 @@ use Rattle.plan_model.specs.declared.plan.Spot.{Spot}
 use Rattle.plan_model.specs.declared.plan.Sizes.{Sizes}
 use Rattle.plan_model.specs.Placement.{compartment_spot, no_spot}
 use Rattle.plan_model.specs.Blocks.{block}
-use Rattle.lower.specs.CompartmentCode.{compartment_size}
-use Rattle.lower.specs.Planned.{code_groups}
+use Rattle.code_model.specs.CompartmentCode.{compartment_size}
+use Rattle.code_model.specs.Planned.{code_groups}
 use Rattle.monitor.specs.declared.tables.CompRecord.{CompRecord}
 use Rattle.monitor.specs.Setting.{has_code}
 use Rattle.link_model.specs.LinkedTables.{tables_of}

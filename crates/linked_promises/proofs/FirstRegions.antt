@@ -16,9 +16,11 @@ use Rattle.plan_model.specs.Regions.{region_at, no_region}
 use Rattle.plan_model.specs.InitialGraph.{Users, users_of, has_users, same_users, kinds_of_users, region_for, data_regions, unwritten}
 use Rattle.grouping.proofs.Distinct.{any_distinct, any_seen}
 use Rattle.linked_promises.proofs.CoverParts.{each_map}
-use Rattle.linked_promises.proofs.Reach.{any_filtered, one_passes, both}
+use Rattle.linked_promises.proofs.Reach.{one_passes}
 use Rattle.linked_promises.proofs.Lists.{not_true, any_index, passing_among, among_passing, each_passing, each_at, below_all}
 use Rattle.linked_promises.proofs.Joins.{EachRegion, SomeRegion, AreApart}
+use Rattle.common_laws.proofs.Tests.{true_both as both}
+use Rattle.common_laws.proofs.Lists.{any_kept as any_filtered}
 
 -- ---- lists without repeats
 

@@ -15,22 +15,23 @@ use Rattle.ir_model.specs.Resolved as ir
 use Rattle.ir_model.specs.Resolved.{Program, NumberedInst, NumberedTerm, NumberedBlock, NumberedFunc, TheGlobal, ThePeriph, TheLocal, Does, Ends, here_in, no_block}
 use Rattle.ir_model.specs.Signatures.{row_length}
 use Rattle.ir_laws.specs.Typed.{KeepsResult, CallTyped, InstTyped, EndTyped, HereTyped, FuncTyped}
-use Rattle.lower.specs.declared.places.Places.{Places}
-use Rattle.lower.specs.FrameShape.{frame_shape, local_starts}
-use Rattle.lower.specs.Places.{global_address, window_address, entry_address, site_in, crosses}
-use Rattle.lower.specs.Words.{plain, save_code, word_into, supervisor_call}
-use Rattle.lower.specs.Numbers.{const_code, move_code, bin_code}
-use Rattle.lower.specs.Comparisons.{cmp_code}
-use Rattle.lower.specs.Addresses.{named_into, addr_code, faddr_code, elem_code, field_code, load_code, store_code}
-use Rattle.lower.specs.Entry.{enter_code, leave_code}
-use Rattle.lower.specs.Calls.{args_code, call_code, callee_code, icall_code, call_items, icall_items}
-use Rattle.lower.specs.Templates.{lends_of, entry_items, inst_items, term_items}
-use Rattle.lower.specs.Sizes.{inst_size, insts_size, term_size, block_size, entry_size}
-use Rattle.lower.specs.FunctionCode.{lent, block_pieces, blocks_pieces, function_items}
-use Rattle.lower.specs.Laws.{SizesHold}
+use Rattle.code_model.specs.declared.places.Places.{Places}
+use Rattle.code_model.specs.FrameShape.{frame_shape, local_starts}
+use Rattle.code_model.specs.Places.{global_address, window_address, entry_address, site_in, crosses}
+use Rattle.code_model.specs.Words.{plain, save_code, word_into, supervisor_call}
+use Rattle.code_model.specs.Numbers.{const_code, move_code, bin_code}
+use Rattle.code_model.specs.Comparisons.{cmp_code}
+use Rattle.code_model.specs.Addresses.{named_into, addr_code, faddr_code, elem_code, field_code, load_code, store_code}
+use Rattle.code_model.specs.Entry.{enter_code, leave_code}
+use Rattle.code_model.specs.Calls.{args_code, call_code, callee_code, icall_code, call_items, icall_items}
+use Rattle.code_model.specs.Templates.{lends_of, entry_items, inst_items, term_items}
+use Rattle.code_model.specs.Sizes.{inst_size, insts_size, term_size, block_size, entry_size}
+use Rattle.code_model.specs.FunctionCode.{lent, block_pieces, blocks_pieces, function_items}
+use Rattle.code_model.specs.Laws.{SizesHold}
 use Rattle.linked_images.proofs.Passing.{and_yes, le_yes, lt_yes}
-use Rattle.linked_promises.proofs.Encodable.{Encodable, encodable-append, plain_encodable, total-append, total_even, offset_in}
+use Rattle.linked_promises.proofs.Encodable.{Encodable, encodable-append, plain_encodable, total_even, offset_in}
 use Rattle.linked_promises.proofs.TemplateCode.{LendsFit, load_in, store_in, address_in, supervisor_in, word_in, save_in, const_in, move_in, bin_in, cmp_in, two_offset, elem_in, field_in, loads_in, stores_to_in, args_in, callee_in, enter_in, leave_in}
+use Rattle.thumb_asm.proofs.Items.{total-append}
 
 -- what a function's code finds outside: addresses are words, entries stand between two addresses, and sites have small numbers
 pub record PlacesFit (low high count : ℕ) (q : Places) : Type 0 where

@@ -5,7 +5,8 @@ use Rattle.std.proofs.lemmas.List.{get_or-map}
 use Rattle.std.proofs.lemmas.List.FromFn.{length-map-range_with_len, get_or-map-range_with_len}
 use Rattle.words.specs.Bytes.{read, cut}
 use Rattle.words.specs.Arithmetic.{word}
-use Rattle.armv7m.specs.Confinement.{Each, AnyOf}
+use Rattle.armv7m.specs.Confinement.{AnyOf}
+use Rattle.common_laws.specs.Lists.{Each}
 use Rattle.ir_model.specs.Types.{width_of}
 use Rattle.ir_model.specs.Plain.{PlainFirmware}
 use Rattle.ir_model.specs.Layout.{CellPlace, rounded_up}
@@ -24,8 +25,8 @@ use Rattle.plan_model.specs.Regions.{global_size}
 use Rattle.plan_model.specs.Blocks.{offset_in_region, region_bytes}
 use Rattle.plan_model.specs.TableSize.{words_in}
 use Rattle.plan_model.specs.Placement.{global_address}
-use Rattle.lower.specs.declared.places.Places.{Places}
-use Rattle.lower.specs.Planned.{planned_entry, code_places}
+use Rattle.code_model.specs.declared.places.Places.{Places}
+use Rattle.code_model.specs.Planned.{planned_entry, code_places}
 use Rattle.monitor.specs.declared.tables.InitRecord.{InitRecord}
 use Rattle.monitor.specs.declared.tables.Tables.{Tables}
 use Rattle.monitor.specs.MonitorCode.{MonitorCode}

@@ -42,8 +42,9 @@ use Rattle.linked_images.specs.Planned.{IsPlanned, plan, planned_tables, planned
 use Rattle.linked_promises.specs.Parts.{linked_build, LoansAreKept, KindsAgree}
 use Rattle.linked_promises.proofs.Bits.{mask_bit}
 use Rattle.linked_promises.proofs.Kept.{kept_final}
-use Rattle.linked_promises.proofs.Reach.{one_of, has_listed, both}
+use Rattle.linked_promises.proofs.Reach.{one_of, has_listed}
 use Rattle.linked_promises.proofs.Compartments.{in_compartment}
+use Rattle.common_laws.proofs.Tests.{both_true as and_parts, true_both as both}
 
 -- ---- limits
 
@@ -72,10 +73,6 @@ pub record IsLent (n : Needs) (g : Groups) (h l k : ℕ) : Type 0 where
   pub below : k < length n.lendable
   pub func : (get_or n.lendable k (0, 0)).0 ≡ h
   pub local : (get_or n.lendable k (0, 0)).1 ≡ l
-
-and_parts : (a b : Bool) → (a && b) ≡ true → (a ≡ true) × (b ≡ true)
-and_parts true b e = (refl, e)
-and_parts false b e = absurd (let f : false ≡ true = e in cc)
 
 is_lent : (n : Needs) (g : Groups) (h l k : ℕ) → lend_number n g h l ≡ Some k → IsLent n g h l k
 unfolding lend_number

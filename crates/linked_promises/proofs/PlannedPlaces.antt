@@ -18,11 +18,11 @@ use Rattle.plan_model.specs.Crossing.{crossing_sites, stands_at, site_number}
 use Rattle.plan_model.specs.Lending.{lent, is_local, lend_number, lend_numbers_in}
 use Rattle.plan_model.specs.Placement.{global_address}
 use Rattle.layout.proofs.Searches.{position_is}
-use Rattle.lower.specs.FrameShape.{local_starts}
-use Rattle.lower.specs.Places.{site_in}
-use Rattle.lower.specs.CompartmentCode.{CodeGroups, CodePlaces, sites_of, lends_of, entry_of, places_of}
-use Rattle.lower.specs.Planned.{call_sites, code_groups, code_places}
-use Rattle.lower.specs.Laws.{SitesAgree}
+use Rattle.code_model.specs.FrameShape.{local_starts}
+use Rattle.code_model.specs.Places.{site_in}
+use Rattle.code_model.specs.CompartmentCode.{CodeGroups, CodePlaces, sites_of, lends_of, entry_of, places_of}
+use Rattle.code_model.specs.Planned.{call_sites, code_groups, code_places}
+use Rattle.code_model.specs.Laws.{SitesAgree}
 use Rattle.lower_laws.specs.Fitting.{TypedFunctionsFit}
 use Rattle.monitor.specs.TheCode.{monitor_code}
 use Rattle.linked_images.specs.Planned.{IsPlanned, plan}

@@ -2,8 +2,7 @@
 use Rattle.std.proofs.Common.{◌≡◌, ℕ, zero, suc, ◌+◌, ◌^◌, ◌<◌, ◌≤◌, Bool, true, false, ◌||◌, List, [], ◌∷◌, length, map, filter, get_or, cond, None, refl, ap₂, sym, ◌∙◌, subst, lit<, arith}
 use Rattle.std.specs.List.{range_with_len}
 use mathlib.Core.Logic.{⊎_elim}
-use Rattle.ir_model.specs.Canonical.{Each}
-use Rattle.ir_model.proofs.ForEach.{each_both}
+use Rattle.common_laws.specs.Lists.{Each}
 use Rattle.device_model.specs.declared.image.Image.{Image}
 use Rattle.device_model.specs.Rules.{IsPowerBetween}
 use Rattle.mpu_model.specs.declared.words.Rights.TheVariants.{Background, Code, Ram}
@@ -46,6 +45,7 @@ use Rattle.linked_promises.proofs.CoverSlots.{covers_are_parts, cover_passes}
 use Rattle.linked_promises.proofs.DataSlotForms.{written_passes, read_passes}
 use Rattle.linked_promises.proofs.DataRanges as ranges
 use Rattle.linked_promises.proofs.DataRanges.{below_top, holds_data}
+use Rattle.common_laws.proofs.Lists.{each_both}
 
 -- ---- lists of slots
 

@@ -1,5 +1,5 @@
 -- The windows of a firmware that passes the checks obey the rules of an image's windows.
-use Rattle.std.proofs.Common.{◌≡◌, ◌≢◌, ℕ, suc, ◌+◌, ◌<◌, ◌≤◌, ◌⊎◌, inl, inr, Bool, true, false, not, ◌&&◌, ◌||◌, List, [], ◌∷◌, ◌++◌, length, get_or, map, nat_lt, refl, arith}
+use Rattle.std.proofs.Common.{◌≡◌, ◌≢◌, ℕ, suc, ◌+◌, ◌<◌, ◌≤◌, ◌⊎◌, inl, inr, Bool, true, false, not, ◌&&◌, List, [], ◌∷◌, ◌++◌, length, get_or, map, nat_lt, refl, arith}
 use Rattle.std.specs.Prelude.{bytes_eq, if◌then◌else◌, IsTrue}
 use Rattle.std.specs.List.{list_any}
 use Rattle.std.proofs.lemmas.Bool.Decides.{nat_tests, not_from_Decides}
@@ -15,7 +15,8 @@ use Rattle.ir_model.specs.Plain.{PlainFirmware}
 use Rattle.ir_model.specs.Resolved.{no_window}
 use Rattle.ir_model.specs.Resolve as numbers
 use Rattle.ir_model.specs.Resolve.{has, resolve}
-use Rattle.ir_model.specs.Canonical.{Each, IsWithinLimits}
+use Rattle.ir_model.specs.Canonical.{IsWithinLimits}
+use Rattle.common_laws.specs.Lists.{Each}
 use Rattle.ir_model.specs.Typing.{Checks, check, is_new, is_window, overlaps, periph_checks, IsTyped}
 use Rattle.ir_model.proofs.ForEach.{each_left, each_right}
 use Rattle.ir_model.proofs.Passing.{Pass, left, right, holds, behind}
@@ -24,6 +25,7 @@ use Rattle.ir_model.proofs.Limits.{named_periphs}
 use Rattle.ir_laws.specs.Limits as limits
 use Rattle.ir_laws.specs.Limits.{WindowsLieApart}
 use Rattle.ir_program.specs.Windows.{window_of, windows_of}
+use Rattle.common_laws.proofs.Tests.{neither}
 
 -- ---- one window
 
@@ -35,10 +37,6 @@ window_rules q n i = let a = i.to in record { named = n; size = (i.power, i.leas
 not_either : (a b : Bool) → not (if a then true else b) ≡ true → (a ≡ false) × (not b ≡ true)
 not_either true b h = cc
 not_either false b h = (refl, h)
-
-neither : (a b : Bool) → not (a || b) ≡ true → (not a ≡ true) × (not b ≡ true)
-neither true b h = cc
-neither false b h = (refl, h)
 
 apart_by : (a b c d : ℕ) (x y : Bool) → nat_lt a d ≡ x → nat_lt c b ≡ y → not (x && y) ≡ true → (d ≤ a) ⊎ (b ≤ c)
 apart_by a b c d true true e f h = cc

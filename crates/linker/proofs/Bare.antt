@@ -13,10 +13,10 @@ use Rattle.ir_program.specs.declared.program.Routine.{Routine}
 use Rattle.ir_program.specs.declared.program.Program.{Program}
 use Rattle.ir_program.specs.Storages.{shape_of}
 use Rattle.ir_program.specs.Seen.{operation_of, exit_of, sequence_of, routine_of, known_of, program_of}
-use Rattle.lower.specs.declared.places.CallSite.{CallSite}
-use Rattle.lower.specs.FrameShape.{local_size, locals_size, starts_from, local_starts, frame_shape}
-use Rattle.lower.specs.Places.{crosses, lends_among}
-use Rattle.lower.specs.Sizes.{inst_size, term_size, entry_size, adjust_size, save_size, resume_size, insts_size, blocks_size, function_size, site_offset}
+use Rattle.code_model.specs.declared.places.CallSite.{CallSite}
+use Rattle.code_model.specs.FrameShape.{local_size, locals_size, starts_from, local_starts, frame_shape}
+use Rattle.code_model.specs.Places.{crosses, lends_among}
+use Rattle.code_model.specs.Sizes.{inst_size, term_size, entry_size, adjust_size, save_size, resume_size, insts_size, blocks_size, function_size, site_offset}
 
 -- ---- how many locals are lent
 

@@ -8,12 +8,12 @@ use Rattle.ir_model.specs.Resolved.{no_func, func_at}
 use Rattle.ir_program.specs.declared.program.Routine.{Routine}
 use Rattle.ir_program.specs.declared.program.Program.{Program}
 use Rattle.ir_program.specs.Seen.{known_of, routine_of, program_of}
-use Rattle.lower.specs.declared.places.Places.{Places}
+use Rattle.code_model.specs.declared.places.Places.{Places}
 use Rattle.lower.specs.declared.subject.Subject.{Subject}
-use Rattle.lower.specs.FrameShape.{local_size, starts_from, local_starts, frame_size}
-use Rattle.lower.specs.Fitting.{FuncFits}
+use Rattle.code_model.specs.FrameShape.{local_size, starts_from, local_starts, frame_size}
+use Rattle.code_model.specs.Fitting.{FuncFits}
 use Rattle.lower.proofs.Sizing.{same_frame_size, same_local_starts}
-use Rattle.lower.specs.Places.{lends_among}
+use Rattle.code_model.specs.Places.{lends_among}
 use Rattle.lower.specs.Subjects.{func_of, labels_from, first_label, IsSubject}
 
 pub label_at : (first n b : ℕ) (d : Label) → b < n → get_or (labels_from first n) b d ≡ record { number = first + b }

@@ -6,7 +6,7 @@ use Rattle.ir_program.specs.declared.program.Storage.{Storage}
 use Rattle.ir_program.specs.declared.program.Routine.{Routine}
 use Rattle.ir_program.specs.Storages.{shape_of}
 use Rattle.ir_program.specs.Seen.{routine_of}
-use Rattle.lower.specs.FrameShape.{local_size, locals_size, starts_from, frame_size, local_starts, frame_shape}
+use Rattle.code_model.specs.FrameShape.{local_size, locals_size, starts_from, frame_size, local_starts, frame_shape}
 
 abbrev pub shapes : List Storage → List Shape
 shapes ss = map (shape_of []) ss

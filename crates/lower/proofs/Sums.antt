@@ -9,9 +9,9 @@ use Rattle.ir_program.specs.declared.program.Operation.TheVariants as operation
 use Rattle.ir_program.specs.declared.program.Sequence.{Sequence}
 use Rattle.ir_program.specs.declared.program.Routine.{Routine}
 use Rattle.ir_program.specs.Seen.{operation_of, exit_of, sequence_of, routine_of}
-use Rattle.lower.specs.declared.places.CallSite.{CallSite}
-use Rattle.lower.specs.Places.{crosses}
-use Rattle.lower.specs.Sizes.{inst_size, term_size, entry_size, adjust_size, save_size, insts_size, blocks_size, function_size}
+use Rattle.code_model.specs.declared.places.CallSite.{CallSite}
+use Rattle.code_model.specs.Places.{crosses}
+use Rattle.code_model.specs.Sizes.{inst_size, term_size, entry_size, adjust_size, save_size, insts_size, blocks_size, function_size}
 use Rattle.lower.proofs.Sizing.{same_words}
 
 module _ (g : NumberedFunc) (sites : List CallSite) (lent : ℕ) where

@@ -9,13 +9,14 @@ use Rattle.thumb_asm.specs.declared.item.Item.{Item}
 use Rattle.thumb_asm.specs.Assembly.{total}
 use Rattle.thumb_asm.specs.Finished.{first_far}
 use Rattle.ir_model.specs.Resolved.{Program, func_at}
-use Rattle.lower.specs.Sizes.{entry_size}
-use Rattle.lower.specs.FunctionCode.{lent, function_items, function_labels}
-use Rattle.lower.specs.CompartmentCode.{CodeGroups, CodePlaces, members_from, filled_size, filling, compartment_of, members, before, sites_of, size_of, total_size, label_count, entry_of, places_of, filled_items, compartment_labels}
-use Rattle.lower.specs.Laws.{SizesHold, SizesAreEven}
+use Rattle.code_model.specs.Sizes.{entry_size}
+use Rattle.code_model.specs.FunctionCode.{lent, function_items, function_labels}
+use Rattle.code_model.specs.CompartmentCode.{CodeGroups, CodePlaces, members_from, filled_size, filling, compartment_of, members, before, sites_of, size_of, total_size, label_count, entry_of, places_of, filled_items, compartment_labels}
+use Rattle.code_model.specs.Laws.{SizesHold, SizesAreEven}
 use Rattle.lower_laws.specs.Reaching.{StandFrom, JumpsInside, FunctionsReach, CompartmentsReach}
-use Rattle.lower_laws.proofs.Reaching.{total-append, far-append}
+use Rattle.lower_laws.proofs.Reaching.{far-append}
 use Rattle.lower_laws.proofs.Functions.{labels_length}
+use Rattle.thumb_asm.proofs.Items.{total-append}
 
 filling_by : (n : ℕ) (b : Bool) → nat_eq (n % 4) 0 ≡ b → n % 2 ≡ 0 → n + total (filling n) ≡ filled_size n
 unfolding encode

@@ -14,10 +14,10 @@ use Rattle.ir_model.specs.Typing.{IsTyped}
 use Rattle.ir_model.specs.Signatures.{row_length}
 use Rattle.ir_laws.specs.Typed.{KeepsResult, CallTyped, IsThere, InstTyped, EndTyped, HereTyped, FuncTyped, Typed, TypedOverNumbers, sizes_of}
 use Rattle.ir_laws.specs.Limits.{IsFew, CountsAreLimited}
-use Rattle.lower.specs.declared.places.Places.{Places}
-use Rattle.lower.specs.FrameShape.{frame_size}
-use Rattle.lower.specs.Fitting.{IsRegister, IsKept, IsNamed, AreArguments, InstFits, TermFits, BlockFits, FuncFits}
-use Rattle.lower.specs.Laws.{FramesAgree}
+use Rattle.code_model.specs.declared.places.Places.{Places}
+use Rattle.code_model.specs.FrameShape.{frame_size}
+use Rattle.code_model.specs.Fitting.{IsRegister, IsKept, IsNamed, AreArguments, InstFits, TermFits, BlockFits, FuncFits}
+use Rattle.code_model.specs.Laws.{FramesAgree}
 use Rattle.lower_laws.specs.Reaching.{GoesInside, JumpsInside}
 use Rattle.lower_laws.specs.Fitting.{HasEach, TypedFunctionsFit, TypedJumpsInside}
 

@@ -1,5 +1,5 @@
 -- A list in order has exactly its objects.
-use Rattle.std.proofs.Common.{◌≡◌, ℕ, zero, suc, ◌<◌, Bool, true, false, ◌||◌, ◌&&◌, List, [], ◌∷◌, length, get_or, refl, sym, ap, ◌∙◌, subst, arith, nat_eq, ◌⊎◌, inl, inr, Contains, Option, Some, None}
+use Rattle.std.proofs.Common.{◌≡◌, ℕ, zero, suc, ◌<◌, Bool, true, false, ◌||◌, ◌&&◌, List, [], ◌∷◌, length, get_or, refl, sym, ap, ◌∙◌, subst, arith, nat_eq, inl, inr, Contains, Option, Some, None}
 use Rattle.std.specs.List.{list_any}
 use Rattle.std.specs.List.Sorted.{IsStrictlySortedBy}
 use Rattle.std.proofs.lemmas.Bool.{false≢true, eqb-true, eq-eqb}
@@ -12,6 +12,7 @@ use Rattle.ir_laws.specs.Sets.{Node}
 use Rattle.object_sets.specs.declared.numbering.Numbering.{Numbering}
 use Rattle.object_sets.specs.Numbers.{node_number}
 use Rattle.object_sets.specs.Sets.{Sets, same_object, row_at, row_of, sets_of}
+use Rattle.common_laws.proofs.Tests.{either_true as or_cases}
 
 and_left : (a b : Bool) → a && b ≡ true → a ≡ true
 and_left true b e = refl
@@ -68,10 +69,6 @@ object_by_is (Func g) (Local h l) e = cc
 or_true : (a b : Bool) → b ≡ true → a || b ≡ true
 or_true true b e = refl
 or_true false b e = e
-
-or_cases : (a b : Bool) → a || b ≡ true → (a ≡ true) ⊎ (b ≡ true)
-or_cases true b e = inl refl
-or_cases false b e = inr e
 
 abbrev among : List ObjId → ObjId → Bool
 among xs o = list_any (λ x. same_object (object_by x) (object_by o)) xs

@@ -7,9 +7,9 @@ use Rattle.ir_model.specs.Resolve.{row_from}
 use Rattle.ir_model.specs.Resolved.{NumberedFunc, NumberedTerm, Does, here_in}
 use Rattle.ir_program.specs.declared.program.Operation.{Operation}
 use Rattle.ir_program.specs.Seen.{operation_of}
-use Rattle.lower.specs.declared.places.CallSite.{CallSite}
-use Rattle.lower.specs.Places.{crosses}
-use Rattle.lower.specs.Sizes.{inst_size, insts_size}
+use Rattle.code_model.specs.declared.places.CallSite.{CallSite}
+use Rattle.code_model.specs.Places.{crosses}
+use Rattle.code_model.specs.Sizes.{inst_size, insts_size}
 
 pub rows_length : (ps : List PlainSlot) → row_length (row_from ps) ≡ length ps
 rows_length [] = refl

@@ -15,7 +15,7 @@ use Rattle.plan_model.specs.FlashPlacement.{flash_needed}
 use Rattle.plan_model.specs.RamPlacement.{ram_needed}
 use Rattle.plan_model.specs.Placement.{Fits, plan_of}
 use Rattle.compile_limits.specs.Told.{told}
-use Rattle.lower.specs.Planned.{sizes_of}
+use Rattle.code_model.specs.Planned.{sizes_of}
 use Rattle.layout.specs.declared.refusal.PlaceRefusal.{PlaceRefusal}
 use Rattle.layout.specs.Placing.{flash_refusal, ram_refusal}
 use Rattle.layout.specs.Placing as placing

@@ -11,8 +11,9 @@ use Rattle.ir_laws.specs.Sets.{Node, Register, Content, Outcome, carries}
 use Rattle.object_sets.specs.declared.numbering.Numbering.{Numbering}
 use Rattle.object_sets.specs.Groups.{place_of, start_of}
 use Rattle.object_sets.specs.Numbers.{object_number, node_number, content_number, object_groups, node_groups, numbering_of}
-use Rattle.object_sets.proofs.Numbered.{some_is, none_is, guarded, place_at}
+use Rattle.object_sets.proofs.Numbered.{some_is, none_is, place_at}
 use Rattle.points_to.specs.Rules.{callee_of}
+use Rattle.common_laws.proofs.Options.{guarded}
 
 -- a group, and a place in it
 pub record Spot : Type 0 where

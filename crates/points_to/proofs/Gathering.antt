@@ -8,11 +8,11 @@ use Rattle.std.proofs.lemmas.List.Elements.{Contains-append_left, Contains-appen
 use Rattle.std.proofs.lemmas.List.FromFn.{map-range_with_len_more}
 use Rattle.std.proofs.lemmas.List.Sums.{sum_by-append}
 use Rattle.object_sets.specs.declared.numbering.Numbering.{Numbering}
-use Rattle.object_sets.proofs.Parts.{only}
 use Rattle.points_to.specs.declared.rules.Rules.{Rules}
 use Rattle.points_to.specs.declared.rules.Trigger.TheVariants as trigger
 use Rattle.points_to.specs.Demands.{Demand, HasObject, PassesOn, LoadsTo, StoresFrom, GivesTo, TakesFrom, where_carried}
 use Rattle.points_to.specs.Gathered.{Item, Fact, Copy, Asks, IsNumbered, is_fact, IsAdded, names_object, IsMet, IsAskedBy, Represents, Gathers}
+use Rattle.common_laws.proofs.Lists.{only_one as only}
 
 pub gathers_none : (c : Numbering) (r : Rules) → Gathers c r r []
 gathers_none c r = record { more = λ before h. subst (Represents c r) (sym (append-nil before)) h }

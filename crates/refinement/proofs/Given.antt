@@ -14,9 +14,9 @@ use Rattle.ir_model.specs.Canonical.{IsWithinLimits}
 use Rattle.ir_model.specs.Typing.{IsTyped}
 use Rattle.ir_laws.specs.Laws.{IsLaidOut, CellsOfTypes}
 use Rattle.plan_model.specs.Lending.{lend_number, lend_numbers_in, lend_count, lent}
-use Rattle.lower.specs.declared.places.Places.{Places}
-use Rattle.lower.specs.FrameShape.{local_size, locals_size, frame_size, starts_from, local_starts}
-use Rattle.lower.specs.Places.{lends_among}
+use Rattle.code_model.specs.declared.places.Places.{Places}
+use Rattle.code_model.specs.FrameShape.{local_size, locals_size, frame_size, starts_from, local_starts}
+use Rattle.code_model.specs.Places.{lends_among}
 use Rattle.lower_laws.specs.Fitting.{TypedFunctionsFit}
 use Rattle.monitor.specs.Setting.{Setting}
 use Rattle.thread_runs.specs.Owned.{Lendable}

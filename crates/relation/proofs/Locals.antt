@@ -13,7 +13,7 @@ use Rattle.ir_model.specs.State.{Frame}
 use Rattle.ir_model.specs.Step.{with_local, frame_in, is_frame, cut_to}
 use Rattle.ir_laws.specs.Moves.{Where, where_of, wheres}
 use Rattle.ir_laws.specs.States.{Alike, global_shapes}
-use Rattle.lower.specs.Places.{Lend}
+use Rattle.code_model.specs.Places.{Lend}
 use Rattle.monitor.specs.Block.{Block, Loan, lent}
 use Rattle.monitor.specs.Setting.{Setting}
 use Rattle.thread_runs.specs.Areas.{Area, Spot}

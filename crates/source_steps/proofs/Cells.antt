@@ -25,7 +25,8 @@ use Rattle.plan_model.specs.declared.needs.SiteNeed.{SiteNeed}
 use Rattle.plan_model.specs.Crossing.{crosses, stands_at, site_number}
 use Rattle.monitor.specs.Block.{Block}
 use Rattle.monitor.specs.Threads.{base, stack_end, OffFrame}
-use Rattle.thread_runs.specs.Areas.{Area, Each, IsAt}
+use Rattle.thread_runs.specs.Areas.{Area, IsAt}
+use Rattle.common_laws.specs.Lists.{Each}
 use Rattle.thread_runs.proofs.Areas.{fits_at, cut_zero}
 use Rattle.thread_runs.proofs.Thread.{IsSafe}
 use Rattle.relation.specs.Builds.{Build, compartment_of, words_at, lends_at, site_at}

@@ -19,8 +19,8 @@ use Rattle.ir_laws.specs.Moves.{where_of, wheres}
 use Rattle.ir_laws.specs.Sets.{ObjectSets, Register}
 use Rattle.ir_laws.specs.Typed.{Has, InstTyped, Fits, number, null, at, code}
 use Rattle.ir_laws.specs.States.{FrameFits}
-use Rattle.lower.specs.Places.{global_address, window_address}
-use Rattle.lower.specs.Templates.{inst_items}
+use Rattle.code_model.specs.Places.{global_address, window_address}
+use Rattle.code_model.specs.Templates.{inst_items}
 use Rattle.monitor.specs.Block.{Block}
 use Rattle.monitor.specs.Threads.{base}
 use Rattle.code_effects.specs.Points.{Point}

@@ -28,9 +28,9 @@ use Rattle.ir_laws.specs.States.{FrameFits, StateFits, global_shapes}
 use Rattle.plan_model.specs.Lending.{lend_number}
 use Rattle.plan_model.specs.Needs.{need_of}
 use Rattle.depend.specs.Reached.{IsListed, ListsPeriph}
-use Rattle.lower.specs.Addresses.{store_at}
-use Rattle.lower.specs.Sizes.{inst_size}
-use Rattle.lower.specs.Templates.{inst_items}
+use Rattle.code_model.specs.Addresses.{store_at}
+use Rattle.code_model.specs.Sizes.{inst_size}
+use Rattle.code_model.specs.Templates.{inst_items}
 use Rattle.monitor.specs.Block.{Block}
 use Rattle.monitor.specs.Threads.{base, OffFrame, IsLentTo}
 use Rattle.code_effects.specs.Points.{Point}

@@ -1,7 +1,7 @@
 use Rattle.std.proofs.Common.{◌≡◌, length, map, ap, ◌∙◌, arith}
 use Rattle.ir_program.specs.Seen.{program_of}
 use Rattle.plan_model.specs.Lists.{numbers_below}
-use Rattle.lower.specs.CompartmentCode as compartments
+use Rattle.code_model.specs.CompartmentCode as compartments
 use Rattle.linker.specs.Grouped.{groups_in}
 use Rattle.linker.proofs.Loops.{mapped_more}
 use Rattle.linker.proofs.entries.sizes.Goals as goal

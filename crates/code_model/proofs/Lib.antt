@@ -1,0 +1,8 @@
+mod Frames
+pub mod Totals
+pub mod PieceSizes
+pub mod FunctionSizes
+pub mod Even
+pub mod Pieces
+mod Compartments
+mod Sites
