@@ -1,6 +1,7 @@
 //! The types of the firmware language.
 
 use crate::name::Name;
+use list_vec::ListVec;
 
 /// A type.
 #[cycle(types)]
@@ -27,15 +28,7 @@ pub enum Ty {
 #[derive(Drop)]
 pub struct Signature {
     /// The parameters' types.
-    pub params: Tys,
+    pub params: ListVec<Ty>,
     /// The result's type, where there is one.
     pub result: Option<Box<Ty>>,
-}
-
-/// Types one after another.
-#[cycle(types)]
-#[derive(Drop)]
-pub struct Tys {
-    /// The types in order.
-    pub items: Vec<Ty>,
 }
