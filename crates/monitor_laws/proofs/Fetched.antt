@@ -48,18 +48,6 @@ fetches_more g false h =
     let e = p.1 in
     rw (r, e) refl
 
-    small_by : (j : ℕ) → j + k ≡ 20 → b % 2 ^ k ≡ 0
-    small_by j e = sym (mod-mod-pow b j k) ∙ ap (λ n. b % 2 ^ n % 2 ^ k) e ∙ ap (λ n. n % 2 ^ k) h ∙ zero-mod (2 ^ k)
-
-    small : k < 20 → b % 2 ^ k ≡ 0
-    small lt = small_by (20 - k) (omega (arith, lt))
-
-    same : k ≡ 20 → b % 2 ^ k ≡ 0
-    same e = small_by 0 (omega (arith, e))
-
-    large : 20 < k → b % 2 ^ k ≡ 0
-    large lt = absurd (let more = pow_below 20 k lt in let e = p.1 in omega (arith, more, e, le))
-
 module _ (laws : UnitLaws) (i : Image) (t : Tables) (p : Placed i t) (room : 4096 ≤ tables_size t) (cur top : ℕ) (inside : cur < length t.comps) (a : ℕ) (low : i.flash_base ≤ a) (high : a < i.flash_base + 4096) where
   abbrev c : CompRecord
   c = compartment_at t cur
