@@ -7,7 +7,7 @@ use Rattle.std.proofs.lemmas.Nat.Bits.{bit_at-trailing_zeros, bit_at-pow_other}
 use Rattle.std.proofs.Math.Nat.{mul-mod_left}
 use Rattle.std.proofs.Math.Pow.{pow-lt}
 use mathlib.Core.Logic.{⊎_elim}
-use Rattle.device_model.specs.Rules.{IsPowerBetween}
+use Rattle.windows.specs.Ranges.{IsPowerBetween}
 use Rattle.mpu_model.specs.declared.region.Region.{Region}
 use Rattle.mpu_model.specs.declared.words.Rights.{Rights}
 use Rattle.mpu_model.specs.declared.words.Rights.TheVariants.{Background, Code, Stack, Ram, Device}

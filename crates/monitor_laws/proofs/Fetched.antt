@@ -18,7 +18,7 @@ use Rattle.mpu_model.specs.Protection.{permits, deciding, or_this, decided}
 use Rattle.mpu_model.specs.Laws.{kept_region, RegionsAreKept, RegionsHoldTheirBlocks, RegionsGiveTheirRights}
 use Rattle.mpu_model.specs.Configured.{closed_from, OpenEighthsAreHeld}
 use Rattle.device_model.specs.declared.image.Image.{Image}
-use Rattle.device_model.specs.Rules.{IsPowerBetween}
+use Rattle.windows.specs.Ranges.{IsPowerBetween}
 use Rattle.armv7m.specs.declared.state.ProtectionState.{ProtectionState}
 use Rattle.armv7m.specs.State.{by_mpu, is_unprivileged}
 use Rattle.armv7m.specs.Confinement.{Each}

@@ -3,7 +3,8 @@ use Rattle.std.proofs.Common.{◌≡◌, ◌≢◌, ℕ, zero, suc, ◌+◌, ◌
 use Rattle.std.proofs.lemmas.List.Sums.{sum_by-cons}
 use Rattle.std.specs.Prelude.{sum_by}
 use Rattle.device_model.specs.declared.image.Image.{Image}
-use Rattle.device_model.specs.Rules.{ObeysRules, IsStack, IsMonitor, IsInside, AreApart, block_size}
+use Rattle.windows.specs.Ranges.{IsInside, AreApart, is_inside, are_apart}
+use Rattle.device_model.specs.Rules.{ObeysRules, IsStack, IsMonitor, block_size}
 use Rattle.armv7m.specs.Confinement.{Each}
 use Rattle.monitor.specs.declared.tables.CompRecord.{CompRecord}
 use Rattle.monitor.specs.declared.tables.InitRecord.{InitRecord}
@@ -13,7 +14,7 @@ use Rattle.monitor.specs.Layout.{initial_words_at, initial_word_count, inits_at,
 use Rattle.monitor.specs.Area.{HasTables}
 use Rattle.monitor.specs.MonitorCode.{MonitorCode}
 use Rattle.monitor.specs.FromFlash.{tables_of}
-use Rattle.monitor.specs.RegionChecks.{is_data_range, is_inside, are_apart, is_compartment}
+use Rattle.monitor.specs.RegionChecks.{is_data_range, is_compartment}
 use Rattle.monitor.specs.Checks.{must, inits_from, inits_fail, is_init}
 use Rattle.monitor.specs.Sound.{Sound}
 use Rattle.monitor.specs.Placed.{Placed, IsCompartment, SoundImagesArePlaced}

@@ -162,7 +162,7 @@ module _ (k : Build) (Inv : Block → Context → List ℕ → Type 0) (sizes : 
       let g : window_address (places_at k fr.func) q ≡ get_or k.places.windows q 0 = ap (λ (xs : List ℕ). get_or xs q 0) (looked_up fr.func).1 in
       let b = w.linked.windows.bases q h in
       let u = w.windows.each q h in
-      let e = u.to in
+      let e = u.place.1 in
       (omega arith, omega arith, sym g)
   can_name fr rest m t st (TheLocal l) h =
       let i = (w.facts.shapes fr.func).local_inside l h in

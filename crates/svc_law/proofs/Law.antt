@@ -105,7 +105,7 @@ sound_is_fit i t rules s =
 
 none_holds : (ws : List Window) (a : ℕ) → AreWindows ws → a < 0x40000000 → AnyHolds ws a 1 → ⊥
 none_holds [] a h lt x = x
-none_holds (w ∷ ws) a h lt (inl x) = let l = h.0.place.0 in let y = x.0 in omega (arith, l, y, lt)
+none_holds (w ∷ ws) a h lt (inl x) = let l = h.0.range.place.0 in let y = x.0 in omega (arith, l, y, lt)
 none_holds (w ∷ ws) a h lt (inr x) = none_holds ws a h.2 lt x
 
 behind_flash : (i : Image) (a : ℕ) → ObeysRules i → i.flash_base + length i.flash ≤ a → a < 0x20000000 → place i a ≡ Nowhere
