@@ -1,8 +1,5 @@
 -- While a compartment's regions are written and the unit is on, the page's code may be fetched.
 use Rattle.std.proofs.Common.{◌≡◌, ℕ, ◌+◌, ◌-◌, ◌/◌, ◌%◌, ◌^◌, ◌<◌, ◌≤◌, Bool, true, false, List, [], ◌∷◌, map, length, Some, None, refl, sym, ap, ap₂, ◌∙◌, subst, arith, pow_pos}
-use Rattle.std.proofs.lemmas.Nat.{pow_below}
-use Rattle.std.proofs.Math.Nat.{zero-mod}
-use Rattle.std.proofs.Math.Pow.{mod-mod-pow}
 use Rattle.std.proofs.lemmas.Nat.Bits.{bit_at-zero}
 use Rattle.std.proofs.lemmas.Bool.Decides.{nat_tests}
 use Rattle.std.specs.Int.{IsPowerOfTwo, bit_at}
@@ -15,7 +12,7 @@ use Rattle.mpu_model.specs.Protection.{permits, deciding}
 use Rattle.mpu_model.specs.Laws.{kept_region, RegionsAreKept, RegionsHoldTheirBlocks, RegionsGiveTheirRights}
 use Rattle.mpu_model.specs.Configured.{closed_from}
 use Rattle.device_model.specs.declared.image.Image.{Image}
-use Rattle.device_model.specs.Rules.{IsPowerBetween}
+use Rattle.windows.specs.Ranges.{IsPowerBetween}
 use Rattle.armv7m.specs.declared.state.ProtectionState.{ProtectionState}
 use Rattle.armv7m.specs.State.{by_mpu, is_unprivileged}
 use Rattle.common_laws.specs.Lists.{Each}
