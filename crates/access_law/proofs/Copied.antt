@@ -4,8 +4,8 @@ use Rattle.std.proofs.lemmas.Bool.{cases_lt}
 use Rattle.words.specs.Bytes.{read, write, write_all}
 use Rattle.words.proofs.Bytes.{length-write, length-write_all, byte_inside, byte_apart_all}
 use Rattle.device_model.specs.declared.image.Image.{Image}
-use Rattle.device_model.specs.Rules.{AreApart}
 use Rattle.common_laws.specs.Lists.{Each}
+use Rattle.windows.specs.Ranges.{AreApart}
 use Rattle.armv7m.specs.Stack.{words_at}
 use Rattle.monitor.specs.declared.tables.InitRecord.{InitRecord}
 use Rattle.monitor.specs.declared.tables.Tables.{Tables}

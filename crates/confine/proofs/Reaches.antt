@@ -93,18 +93,6 @@ no_slot_code i t [] a h f = f
 no_slot_code i t (g ∷ gs) a h (inl f) = false≢true (sym (h.0 a f.0).no_code ∙ f.1)
 no_slot_code i t (g ∷ gs) a h (inr f) = no_slot_code i t gs a h.1 f
 
-    small_by : (j : ℕ) → j + k ≡ 20 → b % 2 ^ k ≡ 0
-    small_by j e = sym (mod-mod-pow b j k) ∙ ap (λ n. b % 2 ^ n % 2 ^ k) e ∙ ap (λ n. n % 2 ^ k) h ∙ zero-mod (2 ^ k)
-
-    small : k < 20 → b % 2 ^ k ≡ 0
-    small lt = small_by (20 - k) (omega (arith, lt))
-
-    same : k ≡ 20 → b % 2 ^ k ≡ 0
-    same e = small_by 0 (omega (arith, e))
-
-    large : 20 < k → b % 2 ^ k ≡ 0
-    large lt = absurd (let more = pow_below 20 k lt in let e = p.1 in omega (arith, more, e, le))
-
 -- the stack's size is some power of two
 stack_eighth : (k : ℕ) → 9 ≤ k → k ≤ 16 → (2 ^ 8 ≤ 2 ^ k) × (2 ^ k < 2 ^ 32) × (0 < 2 ^ k / 8)
 stack_eighth k lo hi =

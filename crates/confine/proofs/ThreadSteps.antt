@@ -8,7 +8,8 @@ use Rattle.mpu_model.specs.declared.region.Access.TheVariants.{Read, Write, Fetc
 use Rattle.mpu_model.specs.Regions.{holds, permission}
 use Rattle.mpu_model.specs.Protection.{permits}
 use Rattle.device_model.specs.declared.image.Image.{Image}
-use Rattle.device_model.specs.Rules.{AreApart, block_size}
+use Rattle.windows.specs.Ranges.{AreApart}
+use Rattle.device_model.specs.Rules.{block_size}
 use Rattle.mem_bus.specs.Places.{Place, InRam, InFlash, InWindow, Nowhere, place}
 use Rattle.mem_bus.specs.Access.{further}
 use Rattle.mem_bus.specs.Bus.{fetch_at}

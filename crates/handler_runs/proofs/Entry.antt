@@ -5,7 +5,8 @@ use Rattle.words.proofs.Bytes.{length-write_all, read_apart_all, read_all, cut_s
 use Rattle.mpu_model.specs.declared.region.Access.TheVariants.{Write}
 use Rattle.mpu_model.specs.Protection.{permits}
 use Rattle.device_model.specs.declared.image.Image.{Image}
-use Rattle.device_model.specs.Rules.{AreApart, block_size}
+use Rattle.windows.specs.Ranges.{AreApart}
+use Rattle.device_model.specs.Rules.{block_size}
 use Rattle.mem_bus.specs.Places.{choose}
 use Rattle.armv7m.specs.declared.state.ProtectionState.{ProtectionState}
 use Rattle.armv7m.specs.declared.state.FaultStatus.{FaultStatus}

@@ -1,10 +1,11 @@
 -- Beyond the program's claim: only laws, proofs and functions inside the tool cite this file.
 -- The limits of a program: how many items it has, how large its objects are, and where its windows lie.
-use Rattle.std.specs.Prelude.{◌≡◌, ◌≢◌, ℕ, ◌+◌, ◌%◌, ◌^◌, ◌<◌, ◌≤◌, ◌⊎◌, List, [], ◌∷◌, length, Some}
+use Rattle.std.specs.Prelude.{◌≡◌, ◌≢◌, ℕ, ◌+◌, ◌<◌, ◌≤◌, List, [], ◌∷◌, length, Some}
+use Rattle.windows.specs.Ranges.{AreApart, IsWindowRange}
 use Rattle.ir_model.specs.Types.{PlainType}
 use Rattle.ir_model.specs.Plain.{PlainSlot, PlainGlobal, PlainFunc, PlainFirmware, funcs_of}
 use Rattle.ir_model.specs.Layout.{known, shape}
-use Rattle.ir_model.specs.Resolved.{Program, NumberedBlock, NumberedFunc, NumberedWindow, func_at, global_at, local_at, window_at, file_of}
+use Rattle.ir_model.specs.Resolved.{Program, NumberedBlock, NumberedFunc, func_at, global_at, local_at, window_at, file_of}
 use Rattle.ir_model.specs.Resolve.{resolve}
 use Rattle.ir_model.specs.Extents.{layout_of}
 use Rattle.ir_model.specs.Canonical.{IsWithinLimits}
@@ -39,22 +40,10 @@ pub record HasSmallObjects (p : Program) : Type 0 where
   pub globals : (g : ℕ) → (global_at p g).shape.size ≤ object_limit
   pub locals : (f l : ℕ) → (local_at p f l).size ≤ object_limit
 
--- a window: an aligned power of two from 32 to 65,536 bytes, from 0x40000000 to 0x5FFFFFFF
-pub record IsWindow (q : NumberedWindow) : Type 0 where
-  pub power : ℕ
-  pub least : 5 ≤ power
-  pub most : power ≤ 16
-  pub size : q.size ≡ 2 ^ power
-  pub aligned : q.base % q.size ≡ 0
-  pub from : 0x40000000 ≤ q.base
-  pub to : q.base + q.size ≤ 0x60000000
-
-abbrev pub AreDisjoint : NumberedWindow → NumberedWindow → Type 0
-AreDisjoint q r = (q.base + q.size ≤ r.base) ⊎ (r.base + r.size ≤ q.base)
-
+-- the windows lie where a window may, apart from one another
 pub record HasWindows (p : Program) : Type 0 where
-  pub each : (q : ℕ) → q < length p.periphs → IsWindow (window_at p q)
-  pub apart : (q r : ℕ) → q < length p.periphs → r < length p.periphs → q ≢ r → AreDisjoint (window_at p q) (window_at p r)
+  pub each : (q : ℕ) → q < length p.periphs → IsWindowRange (window_at p q).base (window_at p q).size
+  pub apart : (q r : ℕ) → q < length p.periphs → r < length p.periphs → q ≢ r → AreApart (window_at p q).base (window_at p q).size (window_at p r).base (window_at p r).size
 
 -- the layout of a type is that of its shape
 abbrev pub HasLayout : PlainFirmware → PlainType → Type 0

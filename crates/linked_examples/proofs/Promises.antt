@@ -40,7 +40,7 @@ use Rattle.common_laws.proofs.Lists.{only_one as only}
 
 window_name : IsWindow (record { name = 84 ∷ 73 ∷ 77 ∷ []; base = 0x40010000; size = 128 })
 unfolding is_name is_reserved reserved declaration_words instruction_words type_words operation_words comparison_words
-window_name = record { named = refl; size = (7, omega arith, omega arith, refl); aligned = refl; place = (omega arith, omega arith) }
+window_name = record { named = refl; range = record { power = (7, omega arith, omega arith, refl); aligned = refl; place = (omega arith, omega arith) } }
 
 flash_length : length flash ≡ 1148
 unfolding encode frame_code inst_items term_items inst_size term_size entry_size site_number lend_number

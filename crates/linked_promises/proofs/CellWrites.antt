@@ -6,7 +6,7 @@ use Rattle.std.proofs.lemmas.List.{length-replicate}
 use mathlib.Core.Logic.{⊎_elim}
 use Rattle.words.specs.Bytes.{read, write, cut}
 use Rattle.words.proofs.Bytes.{length-write, read_below, read_above, read_same}
-use Rattle.device_model.specs.Rules.{AreApart}
+use Rattle.windows.specs.Ranges.{AreApart}
 use Rattle.ir_model.specs.Types.{width_of}
 use Rattle.ir_model.specs.Layout.{CellPlace, rounded_up}
 use Rattle.ir_model.specs.Resolved.{Program, Value, global_at}

@@ -46,8 +46,9 @@ module _ (p : Program) (n : Needs) (windows : HasWindows p) where
   window_part : (q : ℕ) → q < length p.periphs → IsPart (cover_of p q)
   window_part q l =
       let i = windows.each q l in
-      let m = i.most in
-      record { power = i.power; least = i.least; most = omega (arith, m); size = i.size; aligned = subst (λ s. (window_at p q).base % s ≡ 0) i.size i.aligned; from = i.from; to = i.to }
+      let k = i.power in
+      let m = k.2 in
+      record { power = k.0; least = k.1; most = omega (arith, m); size = k.3; aligned = subst (λ s. (window_at p q).base % s ≡ 0) k.3 i.aligned; from = i.place.0; to = i.place.1 }
 
   first_parts : (g : Groups) (c : ℕ) → AreParts (covers_of p n g c)
   first_parts g c =

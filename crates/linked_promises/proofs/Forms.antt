@@ -2,7 +2,7 @@
 use Rattle.std.proofs.Common.{◌≡◌, ℕ, ◌+◌, ◌-◌, ◌*◌, ◌/◌, ◌%◌, ◌^◌, ◌<◌, ◌≤◌, true, refl, ap, ap₂, sym, ◌∙◌, subst, arith}
 use Rattle.std.proofs.lemmas.Nat.{div-add-mod'}
 use Rattle.std.proofs.Math.Nat.{mul-mod_left}
-use Rattle.device_model.specs.Rules.{IsPowerBetween}
+use Rattle.windows.specs.Ranges.{IsPowerBetween}
 use Rattle.mpu_model.specs.declared.region.Region.{Region}
 use Rattle.mpu_model.specs.declared.words.Rights.{Rights}
 use Rattle.mpu_model.specs.declared.words.Rights.TheVariants.{Background, Code, Stack, Ram, Device}

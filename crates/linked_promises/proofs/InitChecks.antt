@@ -3,7 +3,8 @@ use Rattle.std.proofs.Common.{◌||◌, eq-eqb, ◌≡◌, ◌≢◌, ℕ, ◌+�
 use Rattle.std.specs.Prelude.{unwrap_or}
 use Rattle.common_laws.specs.Lists.{Each}
 use Rattle.device_model.specs.declared.image.Image.{Image}
-use Rattle.device_model.specs.Rules.{IsInside, AreApart, block_size}
+use Rattle.windows.specs.Ranges.{IsInside, AreApart}
+use Rattle.device_model.specs.Rules.{block_size}
 use Rattle.ir_model.specs.Plain.{PlainFirmware}
 use Rattle.ir_model.specs.Resolved.{Program}
 use Rattle.ir_model.specs.Resolve.{resolve}

@@ -63,7 +63,7 @@ module _ (law : ReadLaws) (placed : CodeIsPlaced) (fits : TypedFunctionsFit) (ag
       inner : q < length p.periphs → get_or places.windows q 0 < 2 ^ 32
       inner h =
           let e = get_or-map (λ (x : NumberedWindow). x.base) p.periphs q no_window 0 h in
-          let t = ((windows w ok.typed).each q h).to in
+          let t = ((windows w ok.typed).each q h).place.1 in
           omega (arith, e, t)
 
       outer : length p.periphs ≤ q → get_or places.windows q 0 < 2 ^ 32

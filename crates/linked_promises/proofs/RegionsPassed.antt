@@ -4,7 +4,7 @@ use Rattle.std.specs.List.{range_with_len}
 use mathlib.Core.Logic.{⊎_elim}
 use Rattle.common_laws.specs.Lists.{Each}
 use Rattle.device_model.specs.declared.image.Image.{Image}
-use Rattle.device_model.specs.Rules.{IsPowerBetween}
+use Rattle.windows.specs.Ranges.{IsPowerBetween, is_inside}
 use Rattle.mpu_model.specs.declared.words.Rights.TheVariants.{Background, Code, Ram}
 use Rattle.mpu_model.specs.RegionWords.{region_of}
 use Rattle.ir_model.specs.Plain.{PlainFirmware}
@@ -27,7 +27,7 @@ use Rattle.plan_model.specs.Slots.{SlotUse, data_slot, cover_slot, slot_uses, sl
 use Rattle.monitor.specs.declared.tables.Tables.{Tables}
 use Rattle.monitor.specs.declared.tables.CompRecord.{CompRecord}
 use Rattle.monitor.specs.Layout.{compartments_at, compartment_size}
-use Rattle.monitor.specs.RegionChecks.{is_inside, is_code, is_free, is_data, is_read_only, is_cover, is_slot, are_slots, is_mask, is_compartment}
+use Rattle.monitor.specs.RegionChecks.{is_code, is_free, is_data, is_read_only, is_cover, is_slot, are_slots, is_mask, is_compartment}
 use Rattle.monitor.specs.Checks.{regions_fail}
 use Rattle.link_model.specs.LinkedTables.{comp_record, tables_of}
 use Rattle.link_model.specs.LinkedImage.{linked}

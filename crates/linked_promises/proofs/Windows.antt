@@ -80,7 +80,7 @@ module _ (law : PlanLaws) (apart : WindowsLieApart) (w : PlainFirmware) (n : Nee
   unfolding place linked
   leads q at l m =
       let i = windows.each q l in
-      let from = i.from in
+      let from = i.place.0 in
       let base : ℕ = (window_at (resolve w) q).base in
       let a : ℕ = base + at in
       let high = is.board.ram_highest in
@@ -106,7 +106,7 @@ module _ (law : PlanLaws) (apart : WindowsLieApart) (w : PlainFirmware) (n : Nee
   aligned : (q : ℕ) → q < length (resolve w).periphs → get_or (map (λ (x : NumberedWindow). x.base) (resolve w).periphs) q 0 % 4 ≡ 0
   aligned q l =
       let i = windows.each q l in
-      ap (λ x. x % 4) (bases q l) ∙ multiple_of_four (window_at (resolve w) q).base i.power i.least (subst (λ s. (window_at (resolve w) q).base % s ≡ 0) i.size i.aligned)
+      ap (λ x. x % 4) (bases q l) ∙ multiple_of_four (window_at (resolve w) q).base i.power.0 i.power.1 (subst (λ s. (window_at (resolve w) q).base % s ≡ 0) i.power.3 i.aligned)
 
 pub windows_are_promised : PlanLaws → RegionsHoldTheirBlocks → RegionsGiveTheirRights → WindowsLieApart → FitsSlots → WindowsArePromised
 unfolding linked

@@ -49,10 +49,10 @@ multiple_aligned b n m e h =
 
 window_aligned : (w : Window) → IsWindow w → IsAligned w.base w.size
 window_aligned w h =
-    let size = power_aligned w.size h.size.0 h.size.3 h.size.1 in
+    let size = power_aligned w.size h.range.power.0 h.range.power.3 h.range.power.1 in
     record {
-      base = multiple_aligned w.base w.size (2 ^ (h.size.0 - 2)) size h.aligned;
-      size = rw size (mul-mod_right 4 (2 ^ (h.size.0 - 2)));
+      base = multiple_aligned w.base w.size (2 ^ (h.range.power.0 - 2)) size h.range.aligned;
+      size = rw size (mul-mod_right 4 (2 ^ (h.range.power.0 - 2)));
     }
 
 ram_aligned : (i : Image) → ObeysRules i → IsAligned i.ram_base i.ram_size

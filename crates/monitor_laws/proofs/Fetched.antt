@@ -1,8 +1,5 @@
 -- While a compartment's regions are written and the unit is on, the page's code may be fetched.
 use Rattle.std.proofs.Common.{◌≡◌, ℕ, ◌+◌, ◌-◌, ◌/◌, ◌%◌, ◌^◌, ◌<◌, ◌≤◌, Bool, true, false, List, [], ◌∷◌, map, length, Some, None, refl, sym, ap, ap₂, ◌∙◌, subst, arith, pow_pos}
-use Rattle.std.proofs.lemmas.Nat.{pow_below}
-use Rattle.std.proofs.Math.Nat.{zero-mod}
-use Rattle.std.proofs.Math.Pow.{mod-mod-pow}
 use Rattle.std.proofs.lemmas.Nat.Bits.{bit_at-zero}
 use Rattle.std.proofs.lemmas.Bool.Decides.{nat_tests}
 use Rattle.std.specs.Int.{IsPowerOfTwo, bit_at}
@@ -15,7 +12,7 @@ use Rattle.mpu_model.specs.Protection.{permits, deciding}
 use Rattle.mpu_model.specs.Laws.{kept_region, RegionsAreKept, RegionsHoldTheirBlocks, RegionsGiveTheirRights}
 use Rattle.mpu_model.specs.Configured.{closed_from}
 use Rattle.device_model.specs.declared.image.Image.{Image}
-use Rattle.device_model.specs.Rules.{IsPowerBetween}
+use Rattle.windows.specs.Ranges.{IsPowerBetween}
 use Rattle.armv7m.specs.declared.state.ProtectionState.{ProtectionState}
 use Rattle.armv7m.specs.State.{by_mpu, is_unprivileged}
 use Rattle.common_laws.specs.Lists.{Each}
@@ -47,18 +44,6 @@ fetches_more g false h =
     let r = reads_more (permission g) p.0 in
     let e = p.1 in
     rw (r, e) refl
-
-    small_by : (j : ℕ) → j + k ≡ 20 → b % 2 ^ k ≡ 0
-    small_by j e = sym (mod-mod-pow b j k) ∙ ap (λ n. b % 2 ^ n % 2 ^ k) e ∙ ap (λ n. n % 2 ^ k) h ∙ zero-mod (2 ^ k)
-
-    small : k < 20 → b % 2 ^ k ≡ 0
-    small lt = small_by (20 - k) (omega (arith, lt))
-
-    same : k ≡ 20 → b % 2 ^ k ≡ 0
-    same e = small_by 0 (omega (arith, e))
-
-    large : 20 < k → b % 2 ^ k ≡ 0
-    large lt = absurd (let more = pow_below 20 k lt in let e = p.1 in omega (arith, more, e, le))
 
 module _ (laws : UnitLaws) (i : Image) (t : Tables) (p : Placed i t) (room : 4096 ≤ tables_size t) (cur top : ℕ) (inside : cur < length t.comps) (a : ℕ) (low : i.flash_base ≤ a) (high : a < i.flash_base + 4096) where
   abbrev c : CompRecord

@@ -12,11 +12,12 @@ use Rattle.mpu_model.specs.Regions.{holds, size_log, is_enabled, is_of_legal_siz
 use Rattle.mpu_model.specs.RegionWords.{rights_word}
 use Rattle.mpu_model.specs.Configured.{AreNumbered}
 use Rattle.device_model.specs.declared.image.Image.{Image}
-use Rattle.device_model.specs.Rules.{ObeysRules, IsInside, AreApart, block_size}
+use Rattle.windows.specs.Ranges.{IsInside, AreApart, is_inside, are_apart}
+use Rattle.device_model.specs.Rules.{ObeysRules, block_size}
 use Rattle.monitor.specs.declared.tables.CompRecord.{CompRecord}
 use Rattle.monitor.specs.declared.tables.Tables.{Tables}
 use Rattle.common_laws.specs.Lists.{Each}
-use Rattle.monitor.specs.RegionChecks.{is_inside, are_apart, is_data_range, base_of, size_of, taken_out, has_form, eighths_hold_data, holds_data, is_code, is_free, is_data, is_read_only, is_cover, is_slot, are_slots, is_mask, is_compartment}
+use Rattle.monitor.specs.RegionChecks.{is_data_range, base_of, size_of, taken_out, has_form, eighths_hold_data, holds_data, is_code, is_free, is_data, is_read_only, is_cover, is_slot, are_slots, is_mask, is_compartment}
 use Rattle.monitor.specs.Placed.{IsCode, IsSlot, IsSlotByte, InFlashOf}
 use Rattle.monitor_laws.proofs.Checked.{le_is, lt_is, eq_is, apart_is, inside_is}
 use Rattle.common_laws.proofs.Tests.{both_true as both}

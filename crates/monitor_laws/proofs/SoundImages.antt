@@ -3,8 +3,9 @@ use Rattle.std.proofs.Common.{◌≡◌, ℕ, ◌+◌, ◌-◌, ◌*◌, ◌/◌
 use Rattle.std.proofs.lemmas.List.Sums.{sum_by-cons}
 use Rattle.std.specs.Prelude.{sum_by}
 use Rattle.device_model.specs.declared.image.Image.{Image}
-use Rattle.device_model.specs.Rules.{ObeysRules, IsStack, IsInside, AreApart, block_size}
+use Rattle.device_model.specs.Rules.{ObeysRules, IsStack, block_size}
 use Rattle.common_laws.specs.Lists.{Each}
+use Rattle.windows.specs.Ranges.{IsInside, AreApart, is_inside, are_apart}
 use Rattle.monitor.specs.declared.tables.CompRecord.{CompRecord}
 use Rattle.monitor.specs.declared.tables.InitRecord.{InitRecord}
 use Rattle.monitor.specs.declared.tables.Tables.{Tables}
@@ -13,7 +14,7 @@ use Rattle.monitor.specs.Layout.{initial_words_at, initial_word_count, inits_at,
 use Rattle.monitor.specs.Area.{HasTables}
 use Rattle.monitor.specs.MonitorCode.{MonitorCode}
 use Rattle.monitor.specs.FromFlash.{tables_of}
-use Rattle.monitor.specs.RegionChecks.{is_data_range, is_inside, are_apart, is_compartment}
+use Rattle.monitor.specs.RegionChecks.{is_data_range, is_compartment}
 use Rattle.monitor.specs.Checks.{must, inits_from, is_init}
 use Rattle.monitor.specs.Sound.{Sound}
 use Rattle.monitor.specs.Placed.{Placed, IsCompartment, SoundImagesArePlaced}

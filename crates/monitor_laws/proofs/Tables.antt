@@ -10,8 +10,9 @@ use Rattle.mpu_model.specs.Laws.{kept_region}
 use Rattle.mpu_model.specs.Configured.{closed_from, AreNumbered, written, AreWritten}
 use Rattle.mpu_model.proofs.Configured.{lists_are_written, eighths_are_closed}
 use Rattle.device_model.specs.declared.image.Image.{Image}
-use Rattle.device_model.specs.Rules.{ObeysRules, IsPowerBetween}
+use Rattle.device_model.specs.Rules.{ObeysRules}
 use Rattle.common_laws.specs.Lists.{Each}
+use Rattle.windows.specs.Ranges.{IsPowerBetween}
 use Rattle.monitor.specs.declared.tables.CompRecord.{CompRecord}
 use Rattle.monitor.specs.declared.tables.Tables.{Tables}
 use Rattle.monitor.specs.Records.{nobody, compartment_at, number_of_slots, eighth}

@@ -5,7 +5,7 @@ use Rattle.std.proofs.Math.Nat.{pow-le-pow_right}
 use Rattle.std.proofs.lemmas.Nat.{pow_below}
 use Rattle.std.proofs.lemmas.Grind.{pow_more}
 use Rattle.std.proofs.lemmas.Bool.{cases_order}
-use Rattle.std.proofs.lemmas.Nat.Bits.{bit_at-trailing_zeros}
+use Rattle.std.proofs.lemmas.Nat.Bits.{bit_at-trailing_zeros, bit_at-pow_other}
 
 -- 0 is no power of two
 pub zero_is_none : (n : ℕ) → n ≡ 0 → IsPowerOfTwo n → ⊥
@@ -30,3 +30,6 @@ trailing_zeros-pow k lt = ⊎_elim (λ e. e) (λ other. absurd (apart (⊎_elim 
   where
     found : bit_at (2 ^ k) (trailing_zeros w32 (2 ^ k)) ≡ 1
     found = (bit_at-trailing_zeros w32 (2 ^ k) (pow_pos k) (pow_below k 32 lt)).1
+
+    apart : trailing_zeros w32 (2 ^ k) ≢ k → ⊥
+    apart ne = let none = bit_at-pow_other k (trailing_zeros w32 (2 ^ k)) ne in omega (arith, found, none)

@@ -16,9 +16,6 @@ use Rattle.mpu_model.specs.Laws.{RegionsHoldTheirBlocks, RegionsGiveTheirRights}
 use Rattle.mpu_model.specs.RegionWords.{rights_word, size_field, region_of, IsHeld, may}
 use Rattle.mpu_model.proofs.Powers.{trailing_zeros-pow}
 
-    apart : trailing_zeros w32 (2 ^ k) ≢ k → ⊥
-    apart ne = let none = bit_at-pow_other k (trailing_zeros w32 (2 ^ k)) ne in omega (arith, found, none)
-
 -- the parts of MPU_RASR
 pub record Parts (rights : Rights) (srd s r : ℕ) : Type 0 where
   pub enabled : r % 2 ≡ 1

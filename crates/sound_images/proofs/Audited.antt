@@ -4,17 +4,19 @@ use Rattle.std.proofs.lemmas.Bool.Decides.{nat_tests}
 use Rattle.device_model.specs.declared.image.Image.{Image}
 use Rattle.device_model.specs.Rules.{block_size}
 use Rattle.common_laws.specs.Lists.{Each}
+use Rattle.windows.specs.Ranges.{is_inside, are_apart}
+use Rattle.windows.proofs.Decisions.{decides_inside, decides_apart}
 use Rattle.monitor.specs.declared.sound.AuditCheck.TheVariants as check
 use Rattle.monitor.specs.declared.tables.InitRecord.{InitRecord}
 use Rattle.monitor.specs.declared.tables.Tables.{Tables}
 use Rattle.monitor.specs.Layout.{area_end, tables_size, initial_words_at, inits_at, head_at}
-use Rattle.monitor.specs.RegionChecks.{are_apart, is_inside, is_data_range}
+use Rattle.monitor.specs.RegionChecks.{is_data_range}
 use Rattle.monitor.specs.Checks.{must, header_fails, tables_fail, code_fails, regions_fail, sites_fail, lends_fail, is_init, inits_from, inits_fail}
 use Rattle.monitor.specs.MonitorCode.{MonitorCode}
 use Rattle.monitor.specs.Sound.{first_failure, Sound}
 use Rattle.access_law.specs.Simulation.{IsRange}
 use Rattle.common_laws.proofs.Tests.{both_true as both}
-use Rattle.monitor_laws.proofs.Checked.{apart_is, inside_is, must_none, and_none, unless_none, begins_with}
+use Rattle.monitor_laws.proofs.Checked.{must_none, and_none, unless_none, begins_with}
 
 le_is : (a b : ℕ) → nat_le a b ≡ true → a ≤ b
 le_is a b h = grind (arith, nat_tests)
@@ -36,8 +38,8 @@ module _ (i : Image) (t : Tables) where
       let f = both (are_apart n.at (n.end - n.at) t.stack.base t.stack.size) (are_apart n.at (n.end - n.at) t.monitor block_size) e.1 in
       record {
         whole = whole n.end n.at (eq_is (n.end % 4) 0 b.0) (eq_is (n.at % 4) 0 a.0);
-        in_ram = inside_is n.at (n.end - n.at) i.ram_base i.ram_size e.0;
-        off_block = apart_is n.at (n.end - n.at) t.monitor block_size f.1;
+        in_ram = (decides_inside n.at (n.end - n.at) i.ram_base i.ram_size).0 e.0;
+        off_block = (decides_apart n.at (n.end - n.at) t.monitor block_size).0 f.1;
       }
 
   ranges_are : (w a : ℕ) (ns : List InitRecord) → inits_from i t w a ns ≡ None → Each (IsRange i t) ns

@@ -225,7 +225,7 @@ module _ (k : Build) (Inv : Block → Context → List ℕ → Type 0) (sizes : 
           sent i al ins =
               let b = w.linked.windows.bases q h in
               let u = w.windows.each q h in
-              let ut = u.to in
+              let ut = u.place.1 in
               let wp = width_some ty in
               let addr : address_of k places (OfPeriph q) + c ≡ (window_at k.program q).base + c = omega arith in
               let pa = address (OfPeriph q) c ((window_at k.program q).base + c) points addr (omega arith) in
