@@ -1,7 +1,5 @@
 -- The code of a compartment has its size, and entries stand at multiples of four.
-use Rattle.std.proofs.Common.{◌≡◌, ℕ, ◌+◌, ◌%◌, ◌≢◌, List, [], ◌∷◌, length, get_or, flat_map, Bool, true, false, nat_eq, refl, arith}
-use Rattle.std.proofs.lemmas.Bool.{eqb-true, eqb-false}
-use Rattle.thumb_model.specs.Table.{encode}
+use Rattle.std.proofs.Common.{◌≡◌, ℕ, ◌%◌, List, [], ◌∷◌, length, get_or, flat_map, nat_eq, refl, arith}
 use Rattle.thumb_asm.specs.declared.item.Item.{Item}
 use Rattle.thumb_asm.specs.Assembly.{total}
 use Rattle.ir_model.specs.Resolved.{Program, func_at}
@@ -13,11 +11,7 @@ use Rattle.code_model.specs.Laws.{CompartmentsHold}
 use Rattle.code_model.proofs.FunctionSizes.{function_total}
 use Rattle.code_model.proofs.Even.{function_even}
 use Rattle.thumb_asm.proofs.Items.{total-append}
-
-filling_by : (n : ℕ) (b : Bool) → nat_eq (n % 4) 0 ≡ b → n % 2 ≡ 0 → n + total (filling n) ≡ filled_size n
-unfolding encode
-filling_by n true h e = let z : n % 4 ≡ 0 = eqb-true (n % 4) 0 h in rw h (omega arith)
-filling_by n false h e = let z : n % 4 ≢ 0 = eqb-false (n % 4) 0 h in rw h (omega arith)
+use Rattle.code_model.proofs.Filling.{filling_by}
 
 module _ (p : Program) (groups : CodeGroups) where
   size_even : (f : ℕ) → size_of p groups f % 2 ≡ 0

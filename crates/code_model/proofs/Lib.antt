@@ -1,4 +1,4 @@
-mod Frames
+pub mod Frames
 pub mod Totals
 pub mod PieceSizes
 pub mod FunctionSizes
@@ -6,3 +6,7 @@ pub mod Even
 pub mod Pieces
 mod Compartments
 mod Sites
+pub mod Filling
+pub mod Labels
+pub mod Bare
+pub mod Rows

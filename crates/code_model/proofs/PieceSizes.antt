@@ -26,6 +26,7 @@ use Rattle.code_model.specs.Sizes.{bin_size, addr_size, save_size, call_size, ic
 use Rattle.code_model.specs.FunctionCode.{lent}
 use Rattle.code_model.proofs.Totals.{total-plain-append}
 use Rattle.thumb_asm.proofs.Items.{total-append}
+use Rattle.code_model.proofs.Filling.{args_total}
 
 bin_total : (op : BinOp) (to a b : ℕ) → total (plain (bin_code op to a b)) ≡ bin_size op
 unfolding encode
@@ -74,11 +75,6 @@ save_total : (to : Option ℕ) → total (plain (save_code to)) ≡ save_size to
 unfolding encode
 save_total None = refl
 save_total (Some k) = refl
-
-pub args_total : (r : ℕ) (as_ : List ℕ) → total (plain (args_code r as_)) ≡ 2 * length as_
-unfolding encode
-args_total r [] = refl
-args_total r (a ∷ more) = let h = args_total (suc r) more in omega arith
 
 call_total : (as_ : List ℕ) (d : ℤ) → total (plain (call_code as_ d)) ≡ 2 * length as_ + 4
 unfolding encode

@@ -1,7 +1,8 @@
 -- Lists: what holds of each element, elements of joined lists, maps, filters and sums.
-use Rattle.std.proofs.Common.{◌≡◌, ℕ, zero, suc, ◌+◌, ◌<◌, ◌≤◌, Bool, true, false, ◌&&◌, ◌||◌, cond, List, [], ◌∷◌, ◌++◌, length, map, filter, take, drop, get_or, Some, is_some, refl, ap, arith}
+use Rattle.std.proofs.Common.{◌≡◌, ℕ, zero, suc, ◌+◌, ◌<◌, ◌≤◌, Bool, true, false, ◌&&◌, ◌||◌, cond, List, [], ◌∷◌, ◌++◌, length, map, filter, take, drop, get_or, Some, is_some, refl, ap, arith, sym, sum}
 use Rattle.std.specs.List.{list_any, position_from, AllZip, Contains}
 use Rattle.common_laws.specs.Lists.{Each}
+use Rattle.std.proofs.lemmas.List.Sums.{sum_by-cons}
 
 pub each_to : {A : Type 0} (P Q : A → Type 0) (xs : List A) → ((x : A) → P x → Q x) → Each P xs → Each Q xs
 each_to P Q [] f h = tt
@@ -67,3 +68,17 @@ position_there {X} p i (x ∷ xs) = by (p x) (position_there p (i + 1) xs)
 pub only_one : {X : Type 0} (x y : X) → Contains (x ∷ []) y → x ≡ y
 only_one x y (zero, l, e) = e
 only_one x y (suc k, l, e) = absurd (omega arith)
+
+pub take_next : {A : Type 0} (xs : List A) (i : ℕ) (x : A) → i < length xs → x ≡ get_or xs i x → take (i + 1) xs ≡ take i xs ++ x ∷ []
+take_next [] i x l e = absurd (omega arith)
+take_next (y ∷ xs) zero x l e = ap (λ z. z ∷ []) (sym e)
+take_next (y ∷ xs) (suc i) x l e = let q : suc i + 1 ≡ suc (i + 1) = omega arith in rw q (ap (λ zs. y ∷ zs) (take_next xs i x (omega arith) e))
+
+-- the first number, and the others
+pub sum_first : (x : ℕ) (xs : List ℕ) → sum (x ∷ xs) ≡ x + sum xs
+sum_first x xs = sum_by-cons (λ (n : ℕ). n) x xs
+
+pub sum_below : (counts : List ℕ) (g i : ℕ) → i < get_or counts g 0 → sum (take g counts) + i < sum counts
+sum_below [] g i l = absurd (omega arith)
+sum_below (c ∷ cs) zero i l = let e = sum_by-cons (λ x. x) c cs in omega arith
+sum_below (c ∷ cs) (suc g) i l = let h = sum_below cs g i l in let e = sum_by-cons (λ x. x) c cs in let f = sum_by-cons (λ x. x) c (take g cs) in omega arith

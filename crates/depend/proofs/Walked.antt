@@ -1,11 +1,10 @@
 -- Calls that a walk over a function lists, one instruction, one block and one function more.
 use Rattle.std.proofs.Common.{◌≡◌, ℕ, zero, suc, ◌+◌, ◌<◌, ◌≤◌, List, [], ◌∷◌, ◌++◌, length, map, take, get_or, refl, sym, ap, subst, ◌∙◌, inl, inr, arith}
 use Rattle.std.specs.Prelude.{◌⊎◌, Contains}
-use Rattle.std.specs.List.{AllZip, flat_map, range_with_len}
+use Rattle.std.specs.List.{AllZip, range_with_len}
 use Rattle.std.specs.List.Sorted.{IsStrictlySortedBy}
 use Rattle.std.specs.Ordering.{nat_cmp}
 use Rattle.std.proofs.lemmas.List.{append_assoc, append-nil, map-id, map_more, length-take-le, length-map, get_or-map}
-use Rattle.std.proofs.lemmas.List.Concat.{flat_map-append}
 use Rattle.std.proofs.lemmas.List.FromFn.{map-range_with_len_more}
 use Rattle.ir_model.specs.Layout.{Known}
 use Rattle.ir_model.specs.Resolved.{Program, NumberedInst, Const, Move, Bin, Cmp, Addr, FAddr, Elem, Field, Load, Store, Call, ICall, NumberedTerm, NumberedBlock, NumberedFunc, no_block, Here, Does, here_in, here, func_at, block_at}
@@ -76,10 +75,6 @@ here_there h (y ∷ ys) t (suc i) x l e = here_there h ys t i x (omega arith) e
 pub numbers_more : (n : ℕ) → range_with_len 0 (n + 1) ≡ range_with_len 0 n ++ n ∷ []
 numbers_more n =
     sym (map-id (range_with_len 0 (n + 1))) ∙ (map-range_with_len_more (λ (x : ℕ). x) 0 n n (omega arith) ∙ ap (λ l. l ++ n ∷ []) (map-id (range_with_len 0 n)))
-
-pub flat_numbers : {Y : Type 0} (g : ℕ → List Y) (n : ℕ) → flat_map g (range_with_len 0 n) ++ g n ≡ flat_map g (range_with_len 0 (n + 1))
-flat_numbers g n =
-    sym (ap (flat_map g) (numbers_more n) ∙ (flat_map-append g (range_with_len 0 n) (n ∷ []) ∙ ap (λ l. flat_map g (range_with_len 0 n) ++ l) (append-nil (g n))))
 
 -- ---- one instruction
 

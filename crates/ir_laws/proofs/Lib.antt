@@ -21,3 +21,5 @@ mod Steps
 mod Facts
 mod Fitting
 pub mod Walk
+pub mod Resolved
+pub mod Objects

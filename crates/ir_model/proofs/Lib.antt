@@ -14,3 +14,5 @@ pub mod ObjectOrder
 pub mod NoExcess
 pub mod Locals
 pub mod Arrays
+pub mod Rows
+pub mod Alignments

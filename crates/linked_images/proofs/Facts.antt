@@ -31,8 +31,9 @@ use Rattle.link_model.specs.LinkedTables.{tables_of}
 use Rattle.linked_images.specs.Planned.{IsPlanned, planned_sizes, plan, planned_image}
 use Rattle.linked_images.proofs.FlashBack.{length-puts}
 use Rattle.linked_images.proofs.Powers.{block_is}
-use Rattle.linked_images.proofs.Flash.{size_is, sum_cons, one_of_sum}
+use Rattle.linked_images.proofs.Flash.{size_is, one_of_sum}
 use Rattle.linked_images.proofs.Passing.{apart_from}
+use Rattle.common_laws.proofs.Lists.{sum_first as sum_cons}
 
 -- the laws of plans
 pub record PlanLaws : Type 0 where

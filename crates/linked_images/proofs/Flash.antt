@@ -16,16 +16,13 @@ use Rattle.plan_model.specs.Placement.{plan_of, compartment_spot, no_spot}
 use Rattle.ir_model.specs.Resolved.{Program}
 use Rattle.layout.proofs.Before.{before_fits}
 use Rattle.link_model.specs.LinkedImage.{flash_size}
-use Rattle.common_laws.proofs.Lists.{mapped_twice}
+use Rattle.common_laws.proofs.Lists.{mapped_twice, sum_first as sum_cons}
 
 -- ---- sums
 
 sum_from : (a : ℕ) (xs : List ℕ) → fold ◌+◌ a xs ≡ a + fold ◌+◌ 0 xs
 sum_from a [] = omega arith
 sum_from a (x ∷ xs) = let h = sum_from (a + x) xs in let k = sum_from (0 + x) xs in omega (arith, h, k)
-
-pub sum_cons : (x : ℕ) (xs : List ℕ) → sum (x ∷ xs) ≡ x + sum xs
-sum_cons x xs = let h = sum_from (0 + x) xs in omega (arith, h)
 
 summed : {A : Type 0} (f : A → ℕ) (xs : List A) → sum_by f xs ≡ sum (map f xs)
 summed f [] = refl

@@ -20,11 +20,7 @@ use Rattle.layout_laws.specs.GlobalLaws.{AreLaid}
 use Rattle.code_model.specs.declared.places.Places.{Places}
 use Rattle.link_model.specs.FirstWords.{first_word, with_cells, with_global, first_bytes}
 use Rattle.common_laws.specs.Lists.{Each}
-
--- cells end at or before the last bound
-pub last_end : (a size : ℕ) (ds : List CellPlace) → IsLaidOut a size ds → a ≤ size
-last_end a size [] l = l
-last_end a size (d ∷ ds) l = let e = last_end (d.at + width_of d.ty) size ds l.1 in let z = l.0 in omega (arith, e, z)
+use Rattle.ir_laws.proofs.Layouts.{last_end}
 
 module _ (q : Places) where
   -- a memory has these values in cells that lie so many bytes behind an offset

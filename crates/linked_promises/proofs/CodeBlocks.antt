@@ -30,9 +30,10 @@ use Rattle.linked_images.specs.Planned.{IsPlanned, plan, planned_sizes, planned_
 use Rattle.linked_images.proofs.Facts.{PlanLaws, laid, code_block_is, code_blocks_count}
 use Rattle.linked_images.proofs.Flash.{code_count, code_size_is}
 use Rattle.linked_promises.specs.Parts.{CodeIsPlaced}
-use Rattle.linked_promises.proofs.Compartments.{in_compartment, all_placed}
+use Rattle.linked_promises.proofs.Compartments.{in_compartment}
 use Rattle.linked_promises.proofs.Loans.{record_of}
 use Rattle.linked_promises.proofs.Windows.{multiple_of, power_split}
+use Rattle.plan_model.proofs.Compartments.{each_compartment as all_placed}
 
 module _ (law : PlanLaws) (held : RegionsHoldTheirBlocks) (w : PlainFirmware) (n : Needs) (f : Final) (b : Board) (is : IsPlanned w n f b) where
   abbrev p : Program

@@ -45,9 +45,10 @@ use Rattle.linked_promises.proofs.CellWidths.{global_shaped}
 use Rattle.linked_promises.proofs.GlobalPlaces.{GlobalLaws, placed, in_ram, aligns}
 use Rattle.linked_promises.proofs.FilledBlocks.{is_filled}
 use Rattle.linked_promises.proofs.FirstValues.{IsKnown, values_known}
-use Rattle.linked_promises.proofs.CellWrites.{HasCells, last_end, cells_alike, block_holds}
+use Rattle.linked_promises.proofs.CellWrites.{HasCells, cells_alike, block_holds}
 use Rattle.linked_promises.proofs.WordsBack.{IsBrought, brought, reads_back}
 use Rattle.linked_promises.proofs.InitialFlash.{words_stand, from_base}
+use Rattle.ir_laws.proofs.Layouts.{last_end}
 
 any_weaker : {A : Type 0} (P Q : A → Type 0) → ((x : A) → P x → Q x) → (xs : List A) → AnyOf P xs → AnyOf Q xs
 any_weaker P Q f [] h = h

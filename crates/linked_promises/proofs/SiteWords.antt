@@ -33,11 +33,12 @@ use Rattle.linked_images.proofs.Flash.{code_count}
 use Rattle.linked_images.proofs.ReadBack.{ReadLaws, code_length, code_fits}
 use Rattle.linked_images.proofs.Limits.{few}
 use Rattle.linked_images.proofs.TablesPass.{some}
-use Rattle.linked_promises.proofs.Compartments.{in_compartment, all_placed}
+use Rattle.linked_promises.proofs.Compartments.{in_compartment}
 use Rattle.linked_promises.proofs.WordLists.{IsWord, AreWords, each_map, each_flat}
 use Rattle.linked_promises.proofs.CodeEnds.{site_reaches, entry_reaches, function_reaches}
 use Rattle.linked_promises.proofs.SiteNeeds.{sites_inside}
 use Rattle.common_laws.proofs.Lists.{each_of}
+use Rattle.plan_model.proofs.Compartments.{each_compartment as all_placed}
 
 module _ (law : ReadLaws) (typing : TypedOverNumbers) (w : PlainFirmware) (n : Needs) (f : Final) (b : Board) (ok : IsPlanned w n f b) where
   abbrev p : Program

@@ -49,10 +49,11 @@ use Rattle.linked_promises.proofs.Bearing.{Bears, Lets, Harmless, Borne, here, t
 use Rattle.linked_promises.proofs.Covers.{any_in_order, stays_all}
 use Rattle.linked_promises.proofs.CoverParts.{IsPart, AreParts, parts_all, each_in_order, each_map}
 use Rattle.linked_promises.proofs.Compartments.{in_compartment}
-use Rattle.linked_promises.proofs.Reach.{one_passes, one_of}
+use Rattle.linked_promises.proofs.Reach.{one_of}
 use Rattle.linked_promises.proofs.Loans.{record_of}
 use Rattle.common_laws.proofs.Tests.{true_both as both}
 use Rattle.common_laws.proofs.Lists.{any_kept as any_filtered}
+use Rattle.plan_model.proofs.Numbers.{one_passes}
 
 -- ---- needs
 

@@ -11,12 +11,9 @@ use Rattle.code_model.specs.FunctionCode.{lent, function_items, blocks_labels, f
 use Rattle.code_model.specs.CompartmentCode.{filling, label_count, before, size_of, entry_of, places_of, filled_items}
 use Rattle.linker.specs.declared.making.Making.{Making}
 use Rattle.linker.specs.Making.{program_in, grouped, places_at, with_filled, standing}
+use Rattle.code_model.proofs.Labels.{labels_length}
 
 -- ---- labels
-
-labels_length : (g : NumberedFunc) (q : Places) (at b : ℕ) (xs : List NumberedBlock) → length (blocks_labels g q at b xs) ≡ length xs
-labels_length g q at b [] = refl
-labels_length g q at b (x ∷ xs) = ap suc (labels_length g q (at + block_size g q.sites (lent g q) b x) (suc b) xs)
 
 -- a compartment's functions have as many labels as blocks
 pub labels_counted : (m : Making) (c : ℕ) (fs : List ℕ) → length (standing m c fs).places ≡ label_count (program_in m) (grouped m) fs

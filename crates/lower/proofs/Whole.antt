@@ -1,11 +1,9 @@
 -- A whole function is its entry and its blocks.
-use Rattle.std.proofs.Common.{◌≡◌, ℕ, suc, ◌+◌, ◌%◌, ◌<◌, ◌≤◌, ◌^◌, List, [], ◌∷◌, ◌++◌, length, take, drop, replicate, Option, None, refl, ap, sym, ◌∙◌, append_assoc, arith}
+use Rattle.std.proofs.Common.{◌≡◌, ℕ, ◌+◌, ◌%◌, ◌<◌, ◌≤◌, ◌^◌, List, ◌++◌, length, take, drop, replicate, Option, None, ap, sym, ◌∙◌, append_assoc, arith}
 use Rattle.std.proofs.lemmas.List.{take_at, drop_at}
 use Rattle.std.proofs.lemmas.List.Elements.{All-get_or}
 use Rattle.thumb_asm.specs.declared.item.Item.{Item}
 use Rattle.thumb_asm.specs.Assembly.{Assembly, here, total}
-use Rattle.ir_model.specs.Plain.{PlainSlot}
-use Rattle.ir_model.specs.Resolve.{row_from}
 use Rattle.ir_model.specs.Resolved.{NumberedFunc}
 use Rattle.ir_model.specs.Signatures.{row_length}
 use Rattle.code_model.specs.declared.places.Places.{Places}
@@ -23,10 +21,6 @@ use Rattle.code_model.proofs.FunctionSizes.{function_total}
 use Rattle.code_model.proofs.Even.{entry_even}
 use Rattle.lower.proofs.Blocks.{narrow}
 use Rattle.thumb_asm.proofs.Items.{total-append}
-
-pub rows_length : (ps : List PlainSlot) → row_length (row_from ps) ≡ length ps
-rows_length [] = refl
-rows_length (p ∷ ps) = ap (λ n. suc n) (rows_length ps)
 
 -- the words of a frame that is small enough: at least as many as registers
 pub words_few : (q : Places) (g : NumberedFunc) → FuncFits q g → (frame_shape g).words < 255

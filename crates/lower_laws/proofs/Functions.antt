@@ -23,15 +23,12 @@ use Rattle.code_model.specs.Laws.{SizesHold}
 use Rattle.lower_laws.specs.Reaching.{StandFrom, GoesInside, JumpsInside, FunctionsReach}
 use Rattle.lower_laws.proofs.Reaching.{far-append, plain_near, both_near, half_near, long_near}
 use Rattle.thumb_asm.proofs.Items.{total-append}
+use Rattle.code_model.proofs.Labels.{labels_length}
 
 abbrev joined : List (List Item) → List Item
 joined xs = flat_map (λ (piece : List Item). piece) xs
 
 -- ---- labels
-
-pub labels_length : (g : NumberedFunc) (q : Places) (at b : ℕ) (xs : List NumberedBlock) → length (blocks_labels g q at b xs) ≡ length xs
-labels_length g q at b [] = refl
-labels_length g q at b (x ∷ xs) = ap suc (labels_length g q (at + block_size g q.sites (lent g q) b x) (suc b) xs)
 
 -- a block begins inside the code of the blocks
 label_inside : (g : NumberedFunc) (q : Places) (at b : ℕ) (xs : List NumberedBlock) (i : ℕ) → i < length xs →

@@ -30,8 +30,8 @@ use Rattle.planning.specs.declared.refusal.PlanningRefusal.TheVariants.{NoMemory
 use Rattle.planning.specs.Planned.{IsPlannedFor}
 use Rattle.planning.specs.Refusals.{AreRefused, HasNoRoom, IsPlanningRefusal, of_place}
 use Rattle.planning.specs.Laws.{PlansAreOne, PlansAreNotRefused, PlanningRefusalsAreOne}
-use Rattle.planning.proofs.Refusing.{tried}
 use Rattle.common_laws.proofs.Options.{one_some as one_passed}
+use Rattle.layout.proofs.Tried.{tried}
 
 -- ---- blocks that fit are placed
 

@@ -11,8 +11,9 @@ use Rattle.code_model.specs.Entry.{enter_code}
 use Rattle.code_model.specs.Templates.{entry_items, lends_of}
 use Rattle.lower.specs.Subjects.{func_of, lend_of}
 use Rattle.code_model.specs.Emitted.{with_more, HasRoom}
-use Rattle.lower.proofs.Whole.{rows_length, words_few, words_more}
+use Rattle.lower.proofs.Whole.{words_few, words_more}
 use Rattle.lower.proofs.templates.put_entry.Goals as goal
+use Rattle.code_model.proofs.Rows.{rows_length}
 
 pub put_enter-requires-clause-few : goal.put_enter-requires-clause-few
 put_enter-requires-clause-few c =
