@@ -8,5 +8,4 @@ mod Compartments
 mod Sites
 pub mod Filling
 pub mod Labels
-pub mod Bare
 pub mod Rows

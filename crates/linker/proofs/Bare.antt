@@ -1,24 +1,13 @@
--- Sizes are those without the cells of structs, and as many locals are lent as have a number.
-use Rattle.std.proofs.Common.{◌≡◌, ℕ, zero, suc, ◌+◌, ◌-◌, ◌*◌, ◌<◌, List, [], ◌∷◌, cond, length, map, take, get_or, fold, count_by, is_some, Bool, Option, Some, None, refl, ap, sym, ◌∙◌, arith}
-use Rattle.std.proofs.lemmas.List.{get_or-map, take-map}
-use Rattle.ir_model.specs.Layout.{Known}
-use Rattle.ir_model.specs.Resolved as ir
-use Rattle.ir_model.specs.Resolved.{NumberedTerm, NumberedBlock, NumberedFunc, no_block, no_func, func_at, here_in}
-use Rattle.ir_model.specs.Signatures.{row_length}
-use Rattle.ir_program.specs.declared.program.Operation.{Operation}
-use Rattle.ir_program.specs.declared.program.Operation.TheVariants as operation
-use Rattle.ir_program.specs.declared.program.Sequence.{Sequence}
+-- As many locals are lent as have a number; the function of a number.
+use Rattle.std.proofs.Common.{◌≡◌, ℕ, ◌+◌, ◌*◌, ◌<◌, List, [], ◌∷◌, cond, length, get_or, fold, count_by, is_some, Option, Some, None, refl, ap, sym, ◌∙◌, arith}
+use Rattle.std.proofs.lemmas.List.{get_or-map}
+use Rattle.ir_model.specs.Resolved.{NumberedFunc, no_func, func_at}
 use Rattle.ir_program.specs.declared.program.Routine.{Routine}
 use Rattle.ir_program.specs.declared.program.Program.{Program}
-use Rattle.ir_program.specs.Seen.{operation_of, exit_of, sequence_of, routine_of, known_of, program_of}
-use Rattle.code_model.specs.declared.places.CallSite.{CallSite}
+use Rattle.ir_program.specs.Seen.{routine_of, known_of, program_of}
 use Rattle.code_model.specs.FrameShape.{local_starts}
-use Rattle.code_model.specs.Places.{crosses, lends_among}
-use Rattle.code_model.specs.Sizes.{term_size, entry_size, adjust_size, save_size, resume_size, insts_size, blocks_size, function_size, site_offset}
+use Rattle.code_model.specs.Places.{lends_among}
 use Rattle.code_model.proofs.Frames.{starts_length}
-use Rattle.code_model.proofs.Bare.{same_words, same_inst}
-
--- ---- how many locals are lent
 
 lent_from : (a : ℕ) (ss : List ℕ) (ns : List (Option ℕ)) → length ss ≡ length ns → a + length (lends_among ss ns) ≡ fold (λ k n. k + cond (is_some n) 1 0) a ns
 lent_from a [] [] e = omega arith
@@ -33,87 +22,6 @@ lent_counted g ns e =
     let l = starts_length (4 * length g.regs) g.locals in
     let h = lent_from 0 (local_starts g) ns (l ∙ sym e) in
     omega (arith, h)
-
--- ---- the same with the cells of structs or without
-
-same_resume : (ks : List Known) (x : Bool) (t : NumberedTerm) (k : ℕ) (os : List Operation) →
-    resume_size x (here_in (map (operation_of ks) os) t k) ≡ resume_size x (here_in (map (operation_of []) os) t k)
-same_resume ks x t k [] = refl
-same_resume ks x t zero (operation.Const to v ∷ os) = refl
-same_resume ks x t zero (operation.Move to from ∷ os) = refl
-same_resume ks x t zero (operation.Bin op to a b ∷ os) = refl
-same_resume ks x t zero (operation.Cmp op to a b ∷ os) = refl
-same_resume ks x t zero (operation.Addr to of ∷ os) = refl
-same_resume ks x t zero (operation.FAddr to f ∷ os) = refl
-same_resume ks x t zero (operation.Elem to base index u ∷ os) = refl
-same_resume ks x t zero (operation.Field to base offset ∷ os) = refl
-same_resume ks x t zero (operation.Load to from u ∷ os) = refl
-same_resume ks x t zero (operation.Store to from u ∷ os) = refl
-same_resume ks x t zero (operation.Call to f as_ ∷ os) = refl
-same_resume ks x t zero (operation.ICall to f as_ ∷ os) = refl
-same_resume ks x t (suc k) (o ∷ os) = same_resume ks x t k os
-
-module _ (ks : List Known) (r : Routine) (sites : List CallSite) (lent : ℕ) where
-  abbrev g : NumberedFunc
-  g = routine_of ks r
-
-  abbrev bare : NumberedFunc
-  bare = routine_of [] r
-
-  same_term : (t : NumberedTerm) → term_size g lent t ≡ term_size bare lent t
-  unfolding term_size
-  same_term (ir.Jump b) = refl
-  same_term (ir.Branch on a b) = refl
-  same_term (ir.Ret v) = ap (λ w. 2 * lent + (save_size v + (adjust_size w + 2))) (same_words ks r)
-
-  same_entry : entry_size g lent ≡ entry_size bare lent
-  unfolding entry_size
-  same_entry = ap (λ w. 2 + adjust_size w + (2 * row_length bare.params + (2 + 2 * (w - row_length bare.params))) + 6 * lent) (same_words ks r)
-
-  same_insts : (b k : ℕ) (os : List Operation) → insts_size g sites lent b k (map (operation_of ks) os) ≡ insts_size bare sites lent b k (map (operation_of []) os)
-  same_insts b k [] = refl
-  same_insts b k (o ∷ os) =
-      let e = same_inst ks (crosses sites b k) o in
-      let h = same_insts b (suc k) os in
-      omega arith
-
-  same_blocks : (b : ℕ) (xs : List Sequence) → blocks_size g sites lent b (map (sequence_of ks) xs) ≡ blocks_size bare sites lent b (map (sequence_of []) xs)
-  same_blocks b [] = refl
-  same_blocks b (x ∷ xs) =
-      let e = same_insts b 0 x.operations in
-      let t = same_term (exit_of x.exit) in
-      let h = same_blocks (suc b) xs in
-      omega arith
-
-  pub same_function_size : function_size g sites lent ≡ function_size bare sites lent
-  same_function_size = let e = same_entry in let h = same_blocks 0 r.blocks in omega arith
-
-  -- up to a place in a block, and from there to where a call returns
-  abbrev up_to : NumberedFunc → (b k : ℕ) → NumberedBlock → ℕ
-  up_to f b k x = insts_size f sites lent b 0 (take k x.insts) + resume_size (crosses sites b k) (here_in x.insts x.term k)
-
-  same_in : (b k : ℕ) (x : Sequence) → up_to g b k (sequence_of ks x) ≡ up_to bare b k (sequence_of [] x)
-  same_in b k x =
-      let one = ap (λ is. insts_size g sites lent b 0 is) (take-map (operation_of ks) k x.operations) in
-      let two = same_insts b 0 (take k x.operations) in
-      let three = ap (λ is. insts_size bare sites lent b 0 is) (take-map (operation_of []) k x.operations) in
-      let four = same_resume ks (crosses sites b k) (exit_of x.exit) k x.operations in
-      omega (arith, one, two, three, four)
-
-  same_at : (b k i : ℕ) (xs : List Sequence) → up_to g b k (get_or (map (sequence_of ks) xs) i no_block) ≡ up_to bare b k (get_or (map (sequence_of []) xs) i no_block)
-  same_at b zero i [] = refl
-  same_at b (suc k) i [] = refl
-  same_at b k zero (x ∷ xs) = same_in b k x
-  same_at b k (suc i) (x ∷ xs) = same_at b k i xs
-
-  pub same_site_offset : (b k : ℕ) → site_offset g sites lent b k ≡ site_offset bare sites lent b k
-  same_site_offset b k =
-      let e = same_entry in
-      let one = ap (λ ys. blocks_size g sites lent 0 ys) (take-map (sequence_of ks) b r.blocks) in
-      let two = same_blocks 0 (take b r.blocks) in
-      let three = ap (λ ys. blocks_size bare sites lent 0 ys) (take-map (sequence_of []) b r.blocks) in
-      let four = same_at b k b r.blocks in
-      omega (arith, e, one, two, three, four)
 
 -- the function of a number
 pub func_is : (p : Program) (f : ℕ) (r : Routine) → f < length p.funcs → r ≡ get_or p.funcs f r → func_at (program_of p) f ≡ routine_of (known_of p) r

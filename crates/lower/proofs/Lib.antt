@@ -1,5 +1,6 @@
 mod Putting
 mod Calling
+mod Bare
 mod Sizing
 mod Sums
 mod Preparing

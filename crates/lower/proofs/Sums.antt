@@ -11,7 +11,7 @@ use Rattle.ir_program.specs.Seen.{operation_of, exit_of, sequence_of, routine_of
 use Rattle.code_model.specs.declared.places.CallSite.{CallSite}
 use Rattle.code_model.specs.Places.{crosses}
 use Rattle.code_model.specs.Sizes.{term_size, entry_size, adjust_size, save_size, insts_size, blocks_size, function_size}
-use Rattle.code_model.proofs.Bare.{same_words, same_inst}
+use Rattle.lower.proofs.Bare.{same_words, same_inst}
 
 module _ (g : NumberedFunc) (sites : List CallSite) (lent : ℕ) where
   -- operations of a block from a place on

@@ -1,3 +1,4 @@
+-- Sizes of frames and instructions do not depend on the cells of structs.
 use Rattle.std.proofs.Common.{◌≡◌, ◌+◌, ◌-◌, ◌*◌, ◌/◌, List, [], ◌∷◌, map, length, Bool, refl, ap}
 use Rattle.ir_model.specs.Layout.{Known, rounded_up}
 use Rattle.ir_program.specs.declared.program.Operation.{Operation}
