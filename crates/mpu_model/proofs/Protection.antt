@@ -13,7 +13,7 @@ abbrev Says : List Region → ℕ → Option Region → Type 0
 Says gs a None = NoneHolds gs a
 Says gs a (Some g) = (i : ℕ) × Decides gs a i g
 
-pub says_more : (g : Region) (gs : List Region) (a : ℕ) (b : Bool) → holds g a ≡ b → (o : Option Region) → Says gs a o → Says (g ∷ gs) a (or_this b g o)
+says_more : (g : Region) (gs : List Region) (a : ℕ) (b : Bool) → holds g a ≡ b → (o : Option Region) → Says gs a o → Says (g ∷ gs) a (or_this b g o)
 says_more g gs a b e (Some q) s = (suc s.0, record { stands = s.1.stands; holds_it = s.1.holds_it; highest = λ j h. later j h })
   where
     later : (j : ℕ) (h : Region) → suc s.0 < j → slice_get (g ∷ gs) j ≡ Some h → holds h a ≡ false
@@ -31,7 +31,7 @@ says_more g gs a false e None s = λ j h. later j h
     later (suc j) h at = s j h at
 
 -- the scan's answer is what the regions say
-pub deciding_says : (gs : List Region) (a : ℕ) → Says gs a (deciding gs a)
+deciding_says : (gs : List Region) (a : ℕ) → Says gs a (deciding gs a)
 unfolding deciding
 deciding_says [] a = λ j h at. cc
 deciding_says (g ∷ gs) a = says_more g gs a (holds g a) refl (deciding gs a) (deciding_says gs a)
