@@ -9,3 +9,5 @@ mod Sites
 pub mod Filling
 pub mod Labels
 pub mod Rows
+pub mod Members
+pub mod Lends

@@ -10,7 +10,8 @@ use Rattle.code_model.specs.Sizes.{function_size}
 use Rattle.code_model.specs.CompartmentCode as compartments
 use Rattle.linker.specs.Grouped.{groups_in}
 use Rattle.offsets.proofs.Bare.{same_function_size}
-use Rattle.linker.proofs.Bare.{lent_counted, func_is}
+use Rattle.code_model.proofs.Lends.{lent_counted}
+use Rattle.linker.proofs.Bare.{func_is}
 use Rattle.linker.proofs.entries.size_of.Goals as goal
 
 pub returns : goal.returns

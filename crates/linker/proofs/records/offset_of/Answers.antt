@@ -9,7 +9,8 @@ use Rattle.code_model.specs.Places.{lends_among}
 use Rattle.code_model.specs.Sizes.{site_offset}
 use Rattle.linker.specs.Recorded.{offset_with}
 use Rattle.offsets.proofs.Bare.{same_site_offset}
-use Rattle.linker.proofs.Bare.{lent_counted, func_is}
+use Rattle.code_model.proofs.Lends.{lent_counted}
+use Rattle.linker.proofs.Bare.{func_is}
 use Rattle.linker.proofs.records.offset_of.Goals as goal
 
 pub returns : goal.returns
