@@ -14,11 +14,11 @@ use Rattle.ir_printer.specs.Pieces.{next, as_bytes}
 use Rattle.ir_model.proofs.SameTypes.{rows}
 
 -- the type of a function, as the code holds it
-callee_is : (s : Signature) → type_of (code.Callee s) ≡ Callee (types_from (map type_of s.params.items.items)) (boxed_result_of s.«result»)
+callee_is : (s : Signature) → type_of (code.Callee s) ≡ Callee (types_from (map type_of s.params)) (boxed_result_of s.«result»)
 callee_is s = search (rules, code.the_lemmas, rows)
 
 pub callee_text : (s : Signature) → spell_type as_bytes (type_of (code.Callee s))
-    ≡ next (Key key.Fn) ++ (next (Sign Open) ++ (spell_row as_bytes (types_from (map type_of s.params.items.items)) ++ spell_gives as_bytes (boxed_result_of s.«result»)))
+    ≡ next (Key key.Fn) ++ (next (Sign Open) ++ (spell_row as_bytes (types_from (map type_of s.params)) ++ spell_gives as_bytes (boxed_result_of s.«result»)))
 callee_text s = ap (spell_type as_bytes) (callee_is s)
 
 pub row_end : (ts : List Ty) (i : ℕ) (start before after : List ℕ) → length ts ≤ i → before ≡ start ++ separated as_bytes (spell_type as_bytes) (map type_of (take i ts)) → after ≡ before ++ next (Sign Close)

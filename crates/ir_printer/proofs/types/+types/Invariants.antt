@@ -5,4 +5,4 @@ use Rattle.ir_printer.specs.Pieces.{as_bytes}
 use Rattle.ir_printer.proofs.types.+types.Given as goal
 
 abbrev pub invariant-put_row-loop-i : goal.invariant-put_row-loop-i
-invariant-put_row-loop-i l = l.out.items ≡ l.initial.out.items ++ separated as_bytes (spell_type as_bytes) (map type_of (take l.i l.types.items))
+invariant-put_row-loop-i l = l.out.items ≡ l.initial.out.items ++ separated as_bytes (spell_type as_bytes) (map type_of (take l.i l.types))
