@@ -1,5 +1,5 @@
 -- Lists with a comma between two things.
-use Rattle.std.proofs.Common.{◌≡◌, ◌<◌, [], ◌∷◌, ◌++◌, List, refl, sym, length, arith, append_assoc}
+use Rattle.std.proofs.Common.{◌≡◌, ◌<◌, [], ◌∷◌, ◌++◌, List, refl, length, arith, append_assoc}
 use Rattle.ir_model.specs.declared.token.Mark.TheVariants.{Comma, Close}
 use Rattle.ir_model.specs.Types.{PlainType, types_from}
 use Rattle.ir_model.specs.Tokens.{Sign}

@@ -18,8 +18,8 @@ use Rattle.ir_model.specs.Types.{PlainType, U8, U16, U32, Pointer, Array, Named,
 use Rattle.ir_model.specs.Plain.{PlainSlot, PlainStruct, PlainGlobal, PlainFunc, PlainFile, PlainFirmware}
 use Rattle.ir_model.specs.Tokens.{Marked, Token, Name, Number, Key, Sign}
 use Rattle.ir_model.specs.TextLimits.{field_limit, parameter_limit}
-use Rattle.ir_model.specs.Lines.{Line, marked, plain, name, type_tokens, row_tokens, more_tokens, result_tokens, slot_tokens, counted, more_slots, slots_tokens, cell_tokens, more_cells, init_tokens, arguments, more_arguments, inst_line, inst_lines, term_line, block_lines, local_lines, reg_lines, close_line, func_line, func_lines, funcs_lines, file_lines, struct_line, struct_lines, periph_lines, global_line, global_lines, global_start, lines_of}
-use Rattle.ir_grammar.specs.Spelling.{Glyphs, separated, spell_type, spell_row, spell_more_row, spell_gives, spell_slot, spell_struct, spell_structs, spell_periphs, spell_cell, spell_cells, spell_init, spell_constant, spell_global, spell_globals, spell_word, spell_args, spell_assigned, spell_inst, spell_term, spell_block, spell_head, spell_locals, spell_regs, spell_func, spell_file, spell_firmware}
+use Rattle.ir_model.specs.Lines.{Line, plain, name, type_tokens, row_tokens, more_tokens, result_tokens, slot_tokens, counted, more_slots, slots_tokens, cell_tokens, more_cells, init_tokens, arguments, more_arguments, inst_line, inst_lines, term_line, block_lines, local_lines, reg_lines, close_line, func_line, func_lines, funcs_lines, file_lines, struct_line, struct_lines, periph_lines, global_line, global_lines, global_start, lines_of}
+use Rattle.ir_grammar.specs.Spelling.{Glyphs, separated, spell_type, spell_row, spell_more_row, spell_gives, spell_slot, spell_struct, spell_structs, spell_periphs, spell_cell, spell_cells, spell_init, spell_constant, spell_global, spell_globals, spell_args, spell_assigned, spell_inst, spell_term, spell_block, spell_head, spell_locals, spell_regs, spell_func, spell_file, spell_firmware}
 
 module _ {X : Type 0} (g : Glyphs X) where
   -- tokens behind another, and then the rest

@@ -1,5 +1,5 @@
 -- Lists with commas, one element after another.
-use Rattle.std.proofs.Common.{◌≡◌, ◌<◌, ℕ, ◌+◌, ◌++◌, List, [], ◌∷◌, map, length, take, get_or, refl, ap, sym, ◌∙◌, append_assoc, append-nil, arith, length-take-le}
+use Rattle.std.proofs.Common.{◌≡◌, ◌<◌, ℕ, ◌+◌, ◌++◌, List, [], ◌∷◌, map, length, take, get_or, refl, ap, sym, ◌∙◌, append_assoc, arith, length-take-le}
 use Rattle.std.proofs.lemmas.Bool.Decides.{nat_tests}
 use Rattle.std.proofs.lemmas.List.{take_more, length-map, take-map, get_or-map}
 use Rattle.ir_model.specs.declared.firmware.Cell.{Cell}

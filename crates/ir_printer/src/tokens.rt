@@ -1,11 +1,11 @@
 //! Tokens of the canonical text: the first of a line stands alone, each other behind a space.
 
-ghost use Rattle.std.specs.Prelude.{◌≡◌, ◌++◌, [], ◌∷◌, OnOk};
+ghost use Rattle.std.specs.Prelude.{◌≡◌, ◌++◌, OnOk};
 ghost use Rattle.ir_model.specs.declared.token.Mark.TheVariants as mark;
 ghost use Rattle.ir_model.specs.Tokens as token;
 ghost use Rattle.ir_printer.specs.Pieces.{first, next, line_end, separator};
 
-use ir_grammar::words::{comparison_text, keyword_text, mark_text, operation_text};
+use ir_grammar::vocabulary::{comparison_text, keyword_text, mark_text, operation_text};
 use ir_model::firmware::{BinOp, CmpOp};
 use ir_model::name::Name;
 use ir_model::token::{Keyword, Mark};

@@ -2,7 +2,7 @@
 -- Which reserved word bytes are.
 use Rattle.std.specs.Prelude.{ℕ, List, Option, Some, None, find}
 use Rattle.std.specs.Str.{bytes_eq}
-use Rattle.ir_grammar.specs.declared.words.TheConstants.{KEYWORDS, OPERATIONS, COMPARISONS}
+use Rattle.ir_grammar.specs.declared.vocabulary.TheConstants.{KEYWORDS, OPERATIONS, COMPARISONS}
 use Rattle.ir_model.specs.declared.firmware.BinOp.{BinOp}
 use Rattle.ir_model.specs.declared.firmware.CmpOp.{CmpOp}
 use Rattle.ir_model.specs.declared.token.Keyword.{Keyword}

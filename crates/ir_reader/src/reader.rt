@@ -7,7 +7,6 @@ ghost use Rattle.ir_reader.specs.Parts.{AllHaveBlocks};
 ghost use Rattle.ir_reader.specs.Reading.{Reads, HasFields};
 ghost use Rattle.ir_reader.specs.Scan.{placed};
 ghost use Rattle.ir_grammar.specs.Spelling as grammar;
-ghost use Rattle.ir_reader.specs.Spelling as spelling;
 ghost use Rattle.ir_reader.specs.Spelling.{as_found};
 ghost use Rattle.std.specs.Prelude.{◌≤◌, length, OnOk, IfErr, IsUtf8};
 ghost use Rattle.ir_model.specs.Texts.{IsText};

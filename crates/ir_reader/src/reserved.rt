@@ -1,14 +1,13 @@
 //! The reserved words.
 
 ghost use Rattle.std.specs.Prelude.{◌≡◌};
-ghost use Rattle.std.specs.Str.{bytes_eq};
 ghost use Rattle.ir_reader.specs.Words as words;
 ghost use Rattle.ir_reader.specs.Found.{found_of};
 ghost use Rattle.ir_reader.specs.Words.{word_token};
 ghost use Rattle.ir_reader.specs.Found.{Is};
 
 use crate::token::Token;
-use ir_grammar::words::{
+use ir_grammar::vocabulary::{
     COMPARISONS, KEYWORDS, OPERATIONS, comparison_text, keyword_text, operation_text,
 };
 use ir_model::firmware::{BinOp, CmpOp};

@@ -8,7 +8,6 @@ ghost use Rattle.ir_reader.specs.Machine as Expected;
 ghost use Rattle.ir_reader.specs.Reading.{Reads, ReadsTo};
 ghost use Rattle.ir_reader.specs.Scan.{placed};
 ghost use Rattle.ir_grammar.specs.Spelling as grammar;
-ghost use Rattle.ir_reader.specs.Spelling as spelling;
 ghost use Rattle.ir_reader.specs.Spelling.{as_found};
 
 use crate::error::ReadError;
