@@ -5,12 +5,12 @@ ghost use Rattle.ir_model.specs.declared.token.Keyword.TheVariants as key;
 ghost use Rattle.ir_model.specs.Plain.{slot_of, func_of};
 ghost use Rattle.ir_model.specs.Tokens as token;
 ghost use Rattle.ir_model.specs.Types.{result_of};
-ghost use Rattle.ir_grammar.specs.Spelling.{spell_inst, spell_block, spell_local, spell_locals, spell_reg, spell_regs, spell_head, spell_func};
+ghost use Rattle.ir_grammar.specs.Spelling.{spell_inst, spell_block, spell_local, spell_locals, spell_reg, spell_regs, spell_params, spell_head, spell_func};
 ghost use Rattle.ir_printer.specs.Pieces.{first, as_bytes};
 
 use crate::declarations::{put_slot, put_slots};
 use crate::insts::{put_inst, put_term};
-use crate::tokens::{close, end_line, put_mark, put_word, start_keyword, start_word};
+use crate::tokens::{close, end_line, open, put_mark, put_word, start_keyword, start_word};
 use crate::types::put_result;
 use ir_model::firmware::{Block, Func, Inst, Slot};
 use ir_model::token::{Keyword, Mark};
@@ -78,17 +78,23 @@ fn put_regs(out: &mut Vec<u8>, regs: &[Slot]) -> Result<(), AllocError>
     Ok(())
 }
 
+// Parameters and the closing bracket.
+fn put_params(out: &mut Vec<u8>, params: &[Slot]) -> Result<(), AllocError>
+    ensures { OnOk result (out.new.items ≡ out.old.items ++ spell_params as_bytes (map slot_of params.now)) }
+{
+    put_slots(out, params)?;
+    put_mark(out, Mark::Close)
+}
+
 fn put_func_head(out: &mut Vec<u8>, func: &Func) -> Result<(), AllocError>
     ensures { OnOk result (out.new.items ≡ out.old.items ++ (first (token.Key key.Func) ++ spell_head as_bytes func.now.name (map slot_of func.now.params) (result_of func.now.«result»))) }
 {
     start_keyword(out, Keyword::Func)?;
     put_word(out, &func.name)?;
     put_mark(out, Mark::Open)?;
-    put_slots(out, func.params.as_slice())?;
-    put_mark(out, Mark::Close)?;
+    put_params(out, func.params.as_slice())?;
     put_result(out, &func.result)?;
-    put_mark(out, Mark::OpenBrace)?;
-    end_line(out)
+    open(out)
 }
 
 /// Writes a function.

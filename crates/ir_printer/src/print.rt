@@ -8,9 +8,9 @@ ghost use Rattle.ir_printer.specs.Pieces.{as_bytes};
 
 use crate::declarations::{put_global, put_periph, put_struct};
 use crate::functions::put_func;
-use crate::tokens::{close, end_line, put_mark, put_word, start_keyword};
+use crate::tokens::{close, open, put_word, start_keyword};
 use ir_model::firmware::{FileDecl, Firmware, Func, Global as GlobalDecl, Peripheral, StructDecl};
-use ir_model::token::{Keyword, Mark};
+use ir_model::token::Keyword;
 use std::alloc::{AllocError, Global};
 
 fn put_structs(out: &mut Vec<u8>, structs: &[StructDecl]) -> Result<(), AllocError>
@@ -54,8 +54,7 @@ fn put_file(out: &mut Vec<u8>, file: &FileDecl) -> Result<(), AllocError>
 {
     start_keyword(out, Keyword::File)?;
     put_word(out, &file.name)?;
-    put_mark(out, Mark::OpenBrace)?;
-    end_line(out)?;
+    open(out)?;
     put_funcs(out, file.funcs.as_slice())?;
     close(out)
 }

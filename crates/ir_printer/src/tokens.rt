@@ -38,6 +38,14 @@ pub fn close(out: &mut Vec<u8>) -> Result<(), AllocError>
     end_line(out)
 }
 
+/// Writes the brace that opens a function or a file, and ends its line.
+pub fn open(out: &mut Vec<u8>) -> Result<(), AllocError>
+    ensures { OnOk result (out.new.items ≡ out.old.items ++ (next (token.Sign mark.OpenBrace) ++ line_end)) }
+{
+    put_mark(out, Mark::OpenBrace)?;
+    end_line(out)
+}
+
 /// Ends a line.
 pub fn end_line(out: &mut Vec<u8>) -> Result<(), AllocError>
     ensures { OnOk result (out.new.items ≡ out.old.items ++ line_end) }

@@ -77,11 +77,11 @@ free_name w h = is_name w (keyword_of w) (operation_of w) (comparison_of w) (sym
 -- what is found of a table is spelled so
 of_table : {A : Type 0} (f : A → List ℕ) (t : List A) (w : List ℕ) (x : A) → spelled_so f t w ≡ Some x → w ≡ f x
 of_table f [] w x e = cc
-of_table f (y ∷ ys) w x e = by_test (bytes_eq w (f y)) (bytes_eq-Decides w (f y)).0 e
+of_table f (y ∷ ys) w x e = by_test (bytes_eq w (f y)) (bytes_eq-Decides w (f y)).0 (λ i. of_table f ys w x i) e
   where
-    by_test : (b : Bool) → (b ≡ true → w ≡ f y) → cond b (Some y) (spelled_so f ys w) ≡ Some x → w ≡ f x
-    by_test true i e = let same : y ≡ x = cc in i refl ∙ ap f same
-    by_test false i e = of_table f ys w x e
+    by_test : (b : Bool) → (b ≡ true → w ≡ f y) → (spelled_so f ys w ≡ Some x → w ≡ f x) → cond b (Some y) (spelled_so f ys w) ≡ Some x → w ≡ f x
+    by_test true i again e = let same : y ≡ x = cc in i refl ∙ ap f same
+    by_test false i again e = again e
 
 -- the bytes spell the token
 abbrev pub IsSpelled : List ℕ → Token → Type 0
