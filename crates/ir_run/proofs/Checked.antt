@@ -13,7 +13,7 @@ use Rattle.ir_laws.specs.Runs.{ValuesFitTypes, ElementsAreSmall}
 use Rattle.ir_laws.specs.Sets.{everything}
 use Rattle.ir_laws.specs.States.{FrameFits, StateFits}
 use Rattle.ir_laws.specs.Typed.{sizes_of, InstTyped, HereTyped, Typed, TypedOverNumbers}
-use Rattle.ir_run.specs.Elements.{IsNear, IsNearHere, HasNearElements}
+use Rattle.ir_run.specs.Elements.{HasSmallElement, HasSmallElementHere, HasSmallElements}
 use Rattle.ir_run.specs.Runs.{RunState, IsChecked, HasMade, IsRun}
 
 -- ---- frames that were made
@@ -74,36 +74,36 @@ next_run frames moves r s n run e count few =
 
 -- ---- elements
 
-module _ (small : ElementsAreSmall) (p : Program) (sizes : PlainType → ℕ) (fr : Frame) (fits : FrameFits p sizes everything fr) where
-  near : (i : NumberedInst) → InstTyped p sizes (func_at p fr.func) i → IsNear fr i
-  near (Elem to base index size) h = λ o k e. small p sizes everything fr to base index size o k fits h e
-  near (Const to v) h = tt
-  near (Move to from) h = tt
-  near (Bin op to a b) h = tt
-  near (Cmp op to a b) h = tt
-  near (Addr to of) h = tt
-  near (FAddr to f) h = tt
-  near (Field to base offset) h = tt
-  near (Load to from t) h = tt
-  near (Store to from t) h = tt
-  near (Call to f args) h = tt
-  near (ICall to r args) h = tt
+module _ (law : ElementsAreSmall) (p : Program) (sizes : PlainType → ℕ) (fr : Frame) (fits : FrameFits p sizes everything fr) where
+  small : (i : NumberedInst) → InstTyped p sizes (func_at p fr.func) i → HasSmallElement fr i
+  small (Elem to base index size) h = λ o k e. law p sizes everything fr to base index size o k fits h e
+  small (Const to v) h = tt
+  small (Move to from) h = tt
+  small (Bin op to a b) h = tt
+  small (Cmp op to a b) h = tt
+  small (Addr to of) h = tt
+  small (FAddr to f) h = tt
+  small (Field to base offset) h = tt
+  small (Load to from t) h = tt
+  small (Store to from t) h = tt
+  small (Call to f args) h = tt
+  small (ICall to r args) h = tt
 
-  near_here : (h : Here) → HereTyped p sizes (func_at p fr.func) h → IsNearHere fr h
-  near_here (Does i) t = near i t
-  near_here (Ends e) t = tt
+  small_here : (h : Here) → HereTyped p sizes (func_at p fr.func) h → HasSmallElementHere fr h
+  small_here (Does i) t = small i t
+  small_here (Ends e) t = tt
 
-near_in : ElementsAreSmall → (p : Program) (sizes : PlainType → ℕ) → Typed p sizes → (s : SourceState) → StateFits p sizes everything s → HasNearElements p s
-near_in small p sizes typed (Running [] m) fits = tt
-near_in small p sizes typed (Running (fr ∷ rest) m) fits = near_here small p sizes fr fits.0.0 (here p fr.func fr.block fr.place) ((typed.funcs fr.func).code fr.block fr.place)
-near_in small p sizes typed (Ended e) fits = tt
+small_in : ElementsAreSmall → (p : Program) (sizes : PlainType → ℕ) → Typed p sizes → (s : SourceState) → StateFits p sizes everything s → HasSmallElements p s
+small_in law p sizes typed (Running [] m) fits = tt
+small_in law p sizes typed (Running (fr ∷ rest) m) fits = small_here law p sizes fr fits.0.0 (here p fr.func fr.block fr.place) ((typed.funcs fr.func).code fr.block fr.place)
+small_in law p sizes typed (Ended e) fits = tt
 
 -- a run of a checked firmware goes to no element that is larger than an object
-pub all_near : TypedOverNumbers → ValuesFitTypes → ElementsAreSmall → (p : Program) (c : List ℕ) (queues : List (List ℕ)) (n : ℕ) (s : SourceState)
-    → IsChecked p → s ≡ source_after p c queues n → HasNearElements p s
-all_near places values small p c queues n s checked reached =
+pub all_small : TypedOverNumbers → ValuesFitTypes → ElementsAreSmall → (p : Program) (c : List ℕ) (queues : List (List ℕ)) (n : ℕ) (s : SourceState)
+    → IsChecked p → s ≡ source_after p c queues n → HasSmallElements p s
+all_small places values law p c queues n s checked reached =
     let w = checked.firmware in
     let typed : Typed (resolve w) (sizes_of w) = places w checked.typed checked.within in
     let fits : StateFits (resolve w) (sizes_of w) everything (source_after (resolve w) c queues n) = (values w checked.typed checked.within).states c queues n in
-    let at : HasNearElements (resolve w) (source_after (resolve w) c queues n) = near_in small (resolve w) (sizes_of w) typed (source_after (resolve w) c queues n) fits in
-    subst (HasNearElements p) (sym reached) (subst (λ q. HasNearElements q (source_after q c queues n)) (sym checked.is) at)
+    let at : HasSmallElements (resolve w) (source_after (resolve w) c queues n) = small_in law (resolve w) (sizes_of w) typed (source_after (resolve w) c queues n) fits in
+    subst (HasSmallElements p) (sym reached) (subst (λ q. HasSmallElements q (source_after q c queues n)) (sym checked.is) at)

@@ -7,16 +7,16 @@ use Rattle.ir_model.specs.State.{Frame, SourceState, Running, Ended}
 use Rattle.ir_model.specs.Step.{register}
 
 -- where the base of `elem` is not null, an element is no larger than an object
-abbrev pub IsNear : Frame → NumberedInst → Type 0
-IsNear fr (Elem to base index size) = (o : Instance) (k : ℕ) → register fr base ≡ At o k → size ≤ object_limit
-IsNear fr _ = Unit {0}
+abbrev pub HasSmallElement : Frame → NumberedInst → Type 0
+HasSmallElement fr (Elem to base index size) = (o : Instance) (k : ℕ) → register fr base ≡ At o k → size ≤ object_limit
+HasSmallElement fr _ = Unit {0}
 
-abbrev pub IsNearHere : Frame → Here → Type 0
-IsNearHere fr (Does i) = IsNear fr i
-IsNearHere fr (Ends t) = Unit {0}
+abbrev pub HasSmallElementHere : Frame → Here → Type 0
+HasSmallElementHere fr (Does i) = HasSmallElement fr i
+HasSmallElementHere fr (Ends t) = Unit {0}
 
 -- so it is at the place of the running frame
-abbrev pub HasNearElements : Program → SourceState → Type 0
-HasNearElements p (Running [] m) = Unit {0}
-HasNearElements p (Running (fr ∷ rest) m) = IsNearHere fr (here p fr.func fr.block fr.place)
-HasNearElements p (Ended e) = Unit {0}
+abbrev pub HasSmallElements : Program → SourceState → Type 0
+HasSmallElements p (Running [] m) = Unit {0}
+HasSmallElements p (Running (fr ∷ rest) m) = HasSmallElementHere fr (here p fr.func fr.block fr.place)
+HasSmallElements p (Ended e) = Unit {0}

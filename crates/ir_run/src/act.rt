@@ -9,7 +9,7 @@ ghost use Rattle.ir_program.specs.Values.{value_of};
 ghost use Rattle.ir_program.specs.Storages.{pointee_of};
 ghost use Rattle.ir_program.specs.Seen.{operation_of, target_of};
 ghost use Rattle.ir_run.specs.Acts.{frame_of, act_of, IsEntry};
-ghost use Rattle.ir_run.specs.Elements.{IsNear};
+ghost use Rattle.ir_run.specs.Elements.{HasSmallElement};
 
 use crate::arithmetic::{binary, bit, compared, number_in};
 use crate::frame::Frame;
@@ -69,7 +69,7 @@ fn element_at<'a>(
     index: usize,
     element: Option<&Ty>,
 ) -> Act<'a>
-    requires { IsNear (frame_of frame.now) (plain.Elem to base index (shape (known (map struct_of layouts.now)) (pointee_of element)).size) }
+    requires { HasSmallElement (frame_of frame.now) (plain.Elem to base index (shape (known (map struct_of layouts.now)) (pointee_of element)).size) }
     ensures { act_of result ≡ step.act (frame_of frame.now) (plain.Elem to base index (shape (known (map struct_of layouts.now)) (pointee_of element.entry)).size) }
 {
     match register(frame, base).address() {
@@ -130,7 +130,7 @@ fn indirect<'a>(
     args: &[usize],
 ) -> Result<Act<'a>, AllocError>
     ensures ok { IfOk result (λ a. act_of a ≡ step.with_code (step.register (frame_of frame.now) callee) (λ g. step.Enters g (map (step.register (frame_of frame.now)) args.now))) }
-    ensures err { OnErr result (IsEntry (step.with_code (step.register (frame_of frame.now) callee) (λ g. step.Enters g (map (step.register (frame_of frame.now)) args.now)))) }
+    ensures memory { OnErr result (IsEntry (step.with_code (step.register (frame_of frame.now) callee) (λ g. step.Enters g (map (step.register (frame_of frame.now)) args.now)))) }
 {
     match register(frame, callee) {
         Value::Code(func) => Ok(Act::Enters {
@@ -163,9 +163,9 @@ pub fn act<'a>(
     frame: &Frame,
     operation: &Operation<'a>,
 ) -> Result<Act<'a>, AllocError>
-    requires { IsNear (frame_of frame.now) (operation_of (known (map struct_of layouts.now)) operation.now) }
+    requires { HasSmallElement (frame_of frame.now) (operation_of (known (map struct_of layouts.now)) operation.now) }
     ensures ok { IfOk result (λ a. act_of a ≡ step.act (frame_of frame.now) (operation_of (known (map struct_of layouts.now)) operation.now)) }
-    ensures err { OnErr result (IsEntry (step.act (frame_of frame.now) (operation_of (known (map struct_of layouts.now)) operation.now))) }
+    ensures memory { OnErr result (IsEntry (step.act (frame_of frame.now) (operation_of (known (map struct_of layouts.now)) operation.now))) }
 {
     match operation {
         Operation::Const { to, value } => Ok(sets(*to, Value::Number(*value))),

@@ -5,7 +5,7 @@ ghost use Rattle.ir_laws.specs.Laws.{HasOrderedFrames};
 ghost use Rattle.ir_model.specs.Step.{source_turn, source_step};
 ghost use Rattle.ir_program.specs.Seen.{program_of, HasCounts};
 ghost use Rattle.ir_run.specs.Acts.{IsCall};
-ghost use Rattle.ir_run.specs.Elements.{HasNearElements};
+ghost use Rattle.ir_run.specs.Elements.{HasSmallElements};
 ghost use Rattle.ir_run.specs.Runs.{IsAnswer, HasMade};
 ghost use Rattle.ir_run.specs.Phases.{state_of};
 
@@ -41,7 +41,7 @@ fn go_on(
 ) -> Result<SourceStep, AllocError>
     requires ordered { HasOrderedFrames (state_of phase.old) }
     requires counts { HasCounts program.now }
-    requires near { HasNearElements (program_of program.now) (state_of phase.old) }
+    requires small { HasSmallElements (program_of program.now) (state_of phase.old) }
     requires few { HasMade (2 ^ 64 - 1) (state_of phase.old) }
     ensures says { IfOk result (λ answer. IsAnswer (source_turn (program_of program.now) compartments.now (state_of phase.old)) answer) }
     ensures goes { OnOk result (state_of phase.new ≡ source_step (program_of program.now) compartments.now (state_of phase.old)) }

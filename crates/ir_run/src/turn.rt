@@ -8,7 +8,7 @@ ghost use Rattle.ir_program.specs.Values.{value_of, instance_of};
 ghost use Rattle.ir_program.specs.Storages.{pointee_of};
 ghost use Rattle.ir_program.specs.Seen.{program_of, HasCounts};
 ghost use Rattle.ir_run.specs.Acts.{frame_of, act_of, IsEntry, IsCall};
-ghost use Rattle.ir_run.specs.Elements.{HasNearElements};
+ghost use Rattle.ir_run.specs.Elements.{HasSmallElements};
 ghost use Rattle.ir_run.specs.Places.{HasNext};
 ghost use Rattle.ir_run.specs.States.{running_of, memory_of, Answers};
 
@@ -157,7 +157,7 @@ pub fn turn(
 ) -> Result<SourceStep, AllocError>
     requires ordered { HasOrderedFrames (running_of parts.old) }
     requires counts { HasCounts program.now }
-    requires near { HasNearElements (program_of program.now) (running_of parts.old) }
+    requires small { HasSmallElements (program_of program.now) (running_of parts.old) }
     requires few { parts.old.newest < 2 ^ 64 - 1 }
     ensures ok { IfOk result (λ a. Answers (step.source_turn (program_of program.now) compartments.now (running_of parts.old)) a parts.new) }
     ensures memory { OnErr result (IsCall (step.source_turn (program_of program.now) compartments.now (running_of parts.old))) }
