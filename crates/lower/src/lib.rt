@@ -9,9 +9,7 @@ mod frame;
 pub mod function;
 mod instructions;
 mod numbers;
-pub mod sizes;
 mod subject;
 mod templates;
 
 pub use function::lower;
-pub use sizes::size_of;
