@@ -1,4 +1,4 @@
-//! The code of functions, put into an assembler, and how long it is.
+//! The code of functions, put into an assembler.
 #![tactic(auto)]
 
 mod addresses;
