@@ -1,14 +1,6 @@
 -- Calls one behind another.
-use Rattle.std.proofs.Common.{◌≡◌, List, All, [], ◌∷◌, ◌++◌, refl, subst, sym}
-use Rattle.std.proofs.lemmas.List.Elements.{All-nil, All-push, All-append}
+use Rattle.std.proofs.Common.{◌≡◌, ◌∙◌, List, [], ◌∷◌, ◌++◌, refl, ap, subst, sym, append-nil, append_assoc}
 use Rattle.outside.specs.Calls.{Call, Calls}
-
--- what holds of one call holds of it alone, and of it before others
-pub alone : (P : Call → Type 0) (call : Call) → P call → All P (call ∷ [])
-alone P call k = All-push P [] call (All-nil P) k
-
-pub also_first : (P : Call → Type 0) (call : Call) (calls : List Call) → P call → All P calls → All P (call ∷ calls)
-also_first P call calls k h = All-append P (call ∷ []) calls (alone P call k) h
 
 module _ {F : Type 0} (called : F → Call → F → Type 0) where
   -- one call
@@ -25,3 +17,12 @@ module _ {F : Type 0} (called : F → Call → F → Type 0) where
   pub calls_more : (first middle last : F) (calls : List Call) (call : Call) → Calls called first calls middle → called middle call last
       → Calls called first (calls ++ call ∷ []) last
   calls_more first middle last calls call h k = calls_joined first middle last calls (call ∷ []) h (calls_one middle last call k)
+
+  -- Files that keep a record of their calls have these calls at its end, and no others: what a clause says of the calls that lead from files to
+  -- files, it says of the calls that were made.
+  pub calls_recorded : (record_of : F → List Call) → ((before after : F) (call : Call) → called before call after → record_of after ≡ record_of before ++ call ∷ [])
+      → (first last : F) (calls : List Call) → Calls called first calls last → record_of last ≡ record_of first ++ calls
+  calls_recorded record_of keeps first last [] h = ap record_of (sym h) ∙ sym (append-nil (record_of first))
+  calls_recorded record_of keeps first last (call ∷ calls) h =
+      calls_recorded record_of keeps h.0 last calls h.2
+      ∙ (ap (λ x. x ++ calls) (keeps first h.0 call h.1) ∙ append_assoc (record_of first) (call ∷ []) calls)

@@ -1,5 +1,5 @@
 -- Reading a file whole, by calls that each give some bytes.
-use Rattle.std.specs.Prelude.{◌≡◌, ◌<◌, ◌≤◌, ℕ, List, [], ◌∷◌, ◌++◌, length, Option, Some}
+use Rattle.std.specs.Prelude.{◌≡◌, ◌<◌, ◌≤◌, ℕ, List, [], ◌∷◌, ◌++◌, length, Some}
 use Rattle.outside.specs.Calls.{Call, Size, Read, Create, Append}
 
 -- a call that reads this name, whether or not it fails
