@@ -1,11 +1,13 @@
 //! Reading the files of a command.
 
-ghost use Rattle.std.specs.Prelude.{◌≡◌, ◌≤◌, ◌<◌, ◌-◌, ◌^◌, length, None, IfOk, IfErr, OnOk};
+ghost use Rattle.std.specs.Prelude.{◌≡◌, ◌≤◌, ◌<◌, ◌-◌, ◌^◌, List, All, length, None, IfOk, IfErr, OnOk};
 ghost use Rattle.image.specs.Text.{IsText};
 ghost use Rattle.ir_model.specs.Plain as plain;
 ghost use Rattle.device_model.specs.Tape as tapes;
+ghost use Rattle.outside.specs.Calls.{Call, Calls};
+ghost use Rattle.outside.specs.Reading.{Reads};
 ghost use Rattle.aces_words.specs.Requests.{file_origin, firmware_origin, file_limit, firmware_limit};
-ghost use Rattle.aces_cli.specs.Known.{IsKnown, IsKnownLarge};
+ghost use Rattle.aces_cli.specs.Did.{IsKnown, IsKnownLarge};
 ghost use Rattle.plan_model.specs.Boards.{IsBoard};
 ghost use Rattle.board_text.specs.Reading as boards;
 ghost use Rattle.aces_cli.specs.Answer.{IsNoImage, IsNoTape, IsNoFirmware, IsFirmware, IsNoBoard};
@@ -34,12 +36,11 @@ pub(crate) fn load<'a, F: Files>(
     files: &mut F,
     name: &'a str,
 ) -> Result<Vec<u8>, Failure<'a>>
-    ensures ok { IfOk result (λ bytes.
-        IsKnown F.Files files.old (file_origin name.now) bytes.items) }
     ensures few { IfOk result (λ bytes. length bytes.items ≤ file_limit) }
-    ensures err { IfErr result (λ e.
-        IsLoadFailure (IsKnownLarge F.Files files.old) F.told (F.held files.old) (file_origin name.now)
-        (F.read_faults files.old) (F.read_faults files.new) e) }
+    ensures calls { (calls : List Call) × Calls F.called files.old calls files.new × All (Reads name.now) calls
+        × IfOk result (λ bytes. IsKnown F.told (F.held files.old) calls (file_origin name.now) bytes.items)
+        × IfErr result (IsLoadFailure (IsKnownLarge F.told (F.held files.old) calls) F.told (F.held files.old)
+        (file_origin name.now) (F.read_faults files.old) (F.read_faults files.new)) }
     ensures same { F.held files.new ≡ F.held files.old }
     ensures reads { OnOk result (F.read_faults files.new ≡ F.read_faults files.old) }
     ensures writes { F.write_faults files.new ≡ F.write_faults files.old }
@@ -53,12 +54,11 @@ pub(crate) fn load_firmware<'a, F: Files>(
     files: &mut F,
     name: &'a str,
 ) -> Result<Vec<u8>, Failure<'a>>
-    ensures ok { IfOk result (λ bytes.
-        IsKnown F.Files files.old (firmware_origin name.now) bytes.items) }
     ensures few { IfOk result (λ bytes. length bytes.items ≤ firmware_limit) }
-    ensures err { IfErr result (λ e.
-        IsLoadFailure (IsKnownLarge F.Files files.old) F.told (F.held files.old) (firmware_origin name.now)
-        (F.read_faults files.old) (F.read_faults files.new) e) }
+    ensures calls { (calls : List Call) × Calls F.called files.old calls files.new × All (Reads name.now) calls
+        × IfOk result (λ bytes. IsKnown F.told (F.held files.old) calls (firmware_origin name.now) bytes.items)
+        × IfErr result (IsLoadFailure (IsKnownLarge F.told (F.held files.old) calls) F.told (F.held files.old)
+        (firmware_origin name.now) (F.read_faults files.old) (F.read_faults files.new)) }
     ensures same { F.held files.new ≡ F.held files.old }
     ensures reads { OnOk result (F.read_faults files.new ≡ F.read_faults files.old) }
     ensures writes { F.write_faults files.new ≡ F.write_faults files.old }
@@ -73,12 +73,11 @@ fn load_within<'a, F: Files>(
     name: &'a str,
     limit: u32,
 ) -> Result<Vec<u8>, Failure<'a>>
-    ensures ok { IfOk result (λ bytes.
-        IsKnown F.Files files.old (record { name = name.now; limit = limit }) bytes.items) }
     ensures few { IfOk result (λ bytes. length bytes.items ≤ limit) }
-    ensures err { IfErr result (λ e.
-        IsLoadFailure (IsKnownLarge F.Files files.old) F.told (F.held files.old) (record { name = name.now; limit = limit })
-        (F.read_faults files.old) (F.read_faults files.new) e) }
+    ensures calls { (calls : List Call) × Calls F.called files.old calls files.new × All (Reads name.now) calls
+        × IfOk result (λ bytes. IsKnown F.told (F.held files.old) calls (record { name = name.now; limit = limit }) bytes.items)
+        × IfErr result (IsLoadFailure (IsKnownLarge F.told (F.held files.old) calls) F.told (F.held files.old)
+        (record { name = name.now; limit = limit }) (F.read_faults files.old) (F.read_faults files.new)) }
     ensures same { F.held files.new ≡ F.held files.old }
     ensures reads { OnOk result (F.read_faults files.new ≡ F.read_faults files.old) }
     ensures writes { F.write_faults files.new ≡ F.write_faults files.old }
