@@ -20,15 +20,13 @@ use device_model::image::{Image, Window};
 use device_model::tape::Tape;
 use ir_check::check;
 use ir_model::checked::Checked;
+use ir_model::text_limits::TEXT_LIMIT;
 use outside::{Files, ReadRefusal, read_whole};
 use plan_model::plan::Board;
 use std::alloc::Global;
 
 /// How many bytes an image, a tape or a board may have.
 const FILE_LIMIT: u32 = 16_777_216;
-
-/// How many bytes a firmware may have.
-const FIRMWARE_LIMIT: u32 = 4_194_304;
 
 /// The bytes of an image, of a tape or of a board.
 pub(crate) fn load<'a, F: Files>(
@@ -63,7 +61,7 @@ pub(crate) fn load_firmware<'a, F: Files>(
     ensures reads { OnOk result (F.read_faults files.new ≡ F.read_faults files.old) }
     ensures writes { F.write_faults files.new ≡ F.write_faults files.old }
 {
-    load_within(alloc, files, name, FIRMWARE_LIMIT)
+    load_within(alloc, files, name, TEXT_LIMIT)
 }
 
 /// The bytes of a file that may have so many.

@@ -21,17 +21,17 @@ returns-in-None-clause-answer g c told plain =
 
 pub returns-in-None-clause-calls : goal.returns-in-None-clause-calls
 returns-in-None-clause-calls g c = (
-      [],
-      refl,
-      record {
-        asked = All-nil _;
-        answered = λ plain. usage_answered (WasRead []) (WasTooLarge []) (map (string_bytes {Z = Global}) c.args.words.now)
-            (world g.F.Files c.args.files.now (sink g.O.Sink c.args.out.now)) (sink g.E.Sink c.args.err.now) (sink g.E.Sink c.say.new.err)
-            c.in-None.ensures.usage c.say.ensures;
-        partly = λ five. let f : ⊥ = omega (arith, five) in absurd f;
-        printed_in_part = λ six. inl refl;
-      },
-    )
+  [],
+  refl,
+  record {
+    asked = All-nil _;
+    answered = λ plain. usage_answered (WasRead []) (WasTooLarge []) (map (string_bytes {Z = Global}) c.args.words.now)
+        (world g.F.Files c.args.files.now (sink g.O.Sink c.args.out.now)) (sink g.E.Sink c.args.err.now) (sink g.E.Sink c.say.new.err)
+        c.in-None.ensures.usage c.say.ensures;
+    partly = λ five. let f : ⊥ = omega (arith, five) in absurd f;
+    printed_in_part = λ six. inl refl;
+  },
+)
 
 pub returns-in-Some-clause-answer : goal.returns-in-Some-clause-answer
 returns-in-Some-clause-answer g c told plain =
