@@ -8,17 +8,10 @@ use Rattle.ir_model.specs.Resolved.{NumberedInst, NumberedTerm, NumberedBlock, N
 use Rattle.ir_model.specs.Signatures.{row_length}
 use Rattle.ir_model.specs.TextLimits.{register_limit, parameter_limit}
 use Rattle.ir_model.specs.Typing.{frame_limit}
+use Rattle.plan_model.specs.CompileLimits.{lent_limit, site_limit}
 use Rattle.code_model.specs.declared.places.CallSite.{CallSite}
 use Rattle.code_model.specs.declared.places.Places.{Places}
 use Rattle.code_model.specs.FrameShape.{frame_size}
-
--- no site has this number or a greater one
-abbrev pub site_limit : ℕ
-site_limit = 4096
-
--- no loan has this number or a greater one
-abbrev pub loan_limit : ℕ
-loan_limit = 32
 
 module _ (q : Places) (g : NumberedFunc) where
   abbrev pub IsRegister : ℕ → Type 0
@@ -69,4 +62,4 @@ module _ (q : Places) (g : NumberedFunc) where
     pub blocks : All BlockFits g.blocks
     pub sites : All (λ (s : CallSite). s.number < site_limit) q.sites
     pub lends : length q.lends ≡ length g.locals
-    pub lend_numbers : All (λ (n : Option ℕ). IfSome n (λ k. k < loan_limit)) q.lends
+    pub lend_numbers : All (λ (n : Option ℕ). IfSome n (λ k. k < lent_limit)) q.lends

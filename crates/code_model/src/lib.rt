@@ -4,4 +4,4 @@
 pub mod laws;
 pub mod places;
 
-pub use places::{CallSite, Places};
+pub use places::{Addresses, CallSite, Places};

@@ -13,6 +13,17 @@ pub struct CallSite {
     pub number: u32,
 }
 
+/// The addresses of all globals, windows and functions of a firmware. They are absolute and in bytes.
+#[derive(Drop)]
+pub struct Addresses {
+    /// The first address of each global.
+    pub globals: ListVec<u32>,
+    /// The first address of each peripheral's window.
+    pub windows: ListVec<u32>,
+    /// The entry of each function: the address of its first instruction.
+    pub entries: ListVec<u32>,
+}
+
 /// What the code of one function needs from outside. Addresses are absolute and in bytes.
 #[derive(Drop)]
 pub struct Places {

@@ -53,7 +53,7 @@ slots_fit n (suc k) (u ∷ us) h e =
 
 -- ---- masks
 
-bits_below : (bs : List Bool) → number_of_bits bs < 2 ^ length bs
+pub bits_below : (bs : List Bool) → number_of_bits bs < 2 ^ length bs
 bits_below [] = lit< tt
 bits_below (b ∷ bs) = by b (bits_below bs)
   where

@@ -9,12 +9,12 @@ use Rattle.ir_model.specs.Resolve.{resolve}
 use Rattle.ir_model.specs.Canonical.{IsWithinLimits}
 use Rattle.ir_model.specs.Typing.{IsTyped}
 use Rattle.plan_model.specs.declared.needs.SiteNeed.{SiteNeed}
+use Rattle.plan_model.specs.CompileLimits.{lent_limit, site_limit}
 use Rattle.plan_model.specs.Lists.{numbers_below}
 use Rattle.plan_model.specs.Lending.{is_local}
 use Rattle.code_model.specs.declared.places.CallSite.{CallSite}
 use Rattle.code_model.specs.declared.places.Places.{Places}
 use Rattle.code_model.specs.CompartmentCode.{CodeGroups}
-use Rattle.code_model.specs.Fitting.{site_limit, loan_limit}
 use Rattle.code_model.specs.Planned.{call_sites_among}
 use Rattle.linker.specs.declared.numbers.Numbers.{Numbers}
 use Rattle.linker.specs.declared.needed.Addresses.{Addresses}
@@ -27,7 +27,7 @@ pub record AreNumbers (p : Program) (sites : List SiteNeed) (lent : List (ℕ ×
 -- site numbers and the numbers of loans are below their limits
 pub record AreSmall (x : Numbers) : Type 0 where
   pub sites : All (λ (ss : List CallSite). All (λ (s : CallSite). s.number < site_limit) ss) x.sites
-  pub lends : All (λ (ns : List (Option ℕ)). All (λ n. IfSome n (λ k. k < loan_limit)) ns) x.lends
+  pub lends : All (λ (ns : List (Option ℕ)). All (λ n. IfSome n (λ k. k < lent_limit)) ns) x.lends
 
 abbrev pub groups_in : (compartments : List ℕ) → Numbers → CodeGroups
 groups_in cs x = record { compartments = cs; sites = x.sites; lends = x.lends }

@@ -17,7 +17,6 @@ use Rattle.mpu_model.specs.Laws.{kept_region}
 use Rattle.mpu_model.specs.Configured.{NoneOf, IsLast, KeptListsDecide, KeptListsPermit, KeptUnitsPermitTheSame, closed_from, EighthsAreClosed, OpenEighthsAreHeld, EachWriteIs, written, AreNumbered, ListsAreWritten}
 use Rattle.mpu_model.proofs.Writes.{regions_are_kept, regions_are_written}
 use Rattle.mpu_model.proofs.RegionWords.{held}
-use Rattle.mpu_model.proofs.Protection.{deciding_says as says}
 
 -- ---- which region decides
 
@@ -43,6 +42,16 @@ kept_decides (g ∷ gs) a =
 abbrev Says : List Region → ℕ → Option Region → Type 0
 Says gs a None = NoneOf gs a
 Says gs a (Some g) = IsLast gs a g
+
+says_more : (g : Region) (gs : List Region) (a : ℕ) (b : Bool) → holds g a ≡ b → (o : Option Region) → Says gs a o → Says (g ∷ gs) a (or_this b g o)
+says_more g gs a b e (Some x) h = inl h
+says_more g gs a true e None h = inr (refl, e, h)
+says_more g gs a false e None h = (e, h)
+
+says : (gs : List Region) (a : ℕ) → Says gs a (deciding gs a)
+unfolding deciding
+says [] a = tt
+says (g ∷ gs) a = says_more g gs a (holds g a) refl (deciding gs a) (says gs a)
 
 none_decides : (gs : List Region) (a : ℕ) → NoneOf gs a → deciding gs a ≡ None
 unfolding deciding

@@ -21,12 +21,6 @@ code_even : (c : Code) → width_of c % 2 ≡ 0
 code_even (code.Half h) = refl
 code_even (code.Pair h k) = refl
 
-branch_even : (k : BranchKind) → branch_size k % 2 ≡ 0
-branch_even (Cond c) = refl
-branch_even Short = refl
-branch_even Long = refl
-branch_even Link = refl
-
 pub size_even : (i : Item) → size_of i % 2 ≡ 0
 size_even (Plain x) = code_even (encode x)
 size_even (Branch k to) = branch_even k

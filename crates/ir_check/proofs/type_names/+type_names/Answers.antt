@@ -1,4 +1,4 @@
-use Rattle.std.proofs.Common.{◌≡◌, ◌<◌, length, subst, sym, ◌∙◌, ap, map, refl, arith, List, rules}
+use Rattle.std.proofs.Common.{◌≡◌, subst, sym, ◌∙◌, ap, map, refl, arith, List, rules}
 use Rattle.ir_model.specs.declared.types.Ty as code
 use Rattle.ir_model.specs.Types.{Callee, type_of, types_from, boxed_result_of}
 use Rattle.ir_model.specs.Typing.{row_checks, type_checks, result_checks, first_failing}
@@ -14,14 +14,14 @@ row_names-returns-in_err-type_names t c =
     (stop_at (λ (ts : List code.Ty). row_checks c.args.declared.now (place_of c.args.spot) (types_from (map type_of ts)))
     (λ (ts : List code.Ty). row_checks c.args.declared.now (place_of c.args.spot) (types_from (map type_of ts)))
     (row_checks c.args.declared.now (place_of c.args.spot) (types_from (map type_of c.args.types.now))) (c.args.types.now) c.loop-ty.ty-index c.ty-item.result (type_checks c.args.declared.now c.args.declared.now (place_of c.args.spot) (type_of c.ty-item.result)) c.in_err-type_names.field-0.0
-    (let l : c.loop-ty.ty-index < length c.deref-ty-items.result.now = omega arith in rw c.deref-ty-items.ensures.value at l) (rw c.deref-ty-items.ensures.value at c.ty-item.is) (λ r. refl) c.loop-ty.invariant c.in_err-type_names.ensures)
+    (omega arith) c.ty-item.is (λ r. refl) c.loop-ty.invariant c.in_err-type_names.ensures)
 
 pub row_names-loop-ty-preserved : goal.row_names-loop-ty-preserved
 row_names-loop-ty-preserved t c =
     (go_on (λ (ts : List code.Ty). row_checks c.args.declared.now (place_of c.args.spot) (types_from (map type_of ts)))
     (λ (ts : List code.Ty). row_checks c.args.declared.now (place_of c.args.spot) (types_from (map type_of ts)))
     (row_checks c.args.declared.now (place_of c.args.spot) (types_from (map type_of c.args.types.now))) (c.args.types.now) c.loop-ty.ty-index c.ty-item.result (type_checks c.args.declared.now c.args.declared.now (place_of c.args.spot) (type_of c.ty-item.result))
-    (let l : c.loop-ty.ty-index < length c.deref-ty-items.result.now = omega arith in rw c.deref-ty-items.ensures.value at l) (rw c.deref-ty-items.ensures.value at c.ty-item.is) (λ r. refl) c.loop-ty.invariant c.in_ok-type_names.ensures)
+    (omega arith) c.ty-item.is (λ r. refl) c.loop-ty.invariant c.in_ok-type_names.ensures)
 
 pub type_names-returns-in_err-row_names-in-Callee :
     goal.type_names-returns-in_err-row_names-in-Callee

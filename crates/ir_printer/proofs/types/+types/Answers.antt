@@ -16,7 +16,7 @@ put_type-returns-in_ok-put_row-in-Callee t c =
 pub put_row-loop-i-preserved : goal.put_row-loop-i-preserved
 unfolding ty_text
 put_row-loop-i-preserved t c =
-    separated_step ty_text c.args.types.now c.loop-i.i c.ty-item.result c.args.out.now.items _ _ _
+    separated_step ty_text c.args.types.now c.loop-i.i c.index-types-i.result c.args.out.now.items _ _ _
     (omega arith) (cc) c.loop-i.invariant c.in_ok-put_separator.ensures c.in_ok-put_type.ensures
 
 pub put_row-returns : goal.put_row-returns
