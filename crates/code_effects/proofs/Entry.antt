@@ -21,13 +21,13 @@ use Rattle.armv7m.proofs.InstructionEffects.{movs}
 use Rattle.armv7m.proofs.Transfers.{str_sp, add_d_sp, sub_sp, push_lr}
 use Rattle.ir_model.specs.Resolved.{NumberedFunc}
 use Rattle.ir_model.specs.Signatures.{row_length}
-use Rattle.lower.specs.declared.places.Places.{Places}
-use Rattle.lower.specs.FrameShape.{frame_shape}
-use Rattle.lower.specs.Places.{Lend}
-use Rattle.lower.specs.Words.{byte_into, slot_address, supervisor_call}
-use Rattle.lower.specs.Entry.{sub_by, stores_code, frame_code, lend_code, enter_code}
-use Rattle.lower.specs.Templates.{lends_of}
-use Rattle.lower.specs.Sizes.{adjust_size, entry_size}
+use Rattle.code_model.specs.declared.places.Places.{Places}
+use Rattle.code_model.specs.FrameShape.{frame_shape}
+use Rattle.code_model.specs.Places.{Lend}
+use Rattle.code_model.specs.Words.{byte_into, slot_address, supervisor_call}
+use Rattle.code_model.specs.Entry.{sub_by, stores_code, frame_code, lend_code, enter_code}
+use Rattle.code_model.specs.Templates.{lends_of}
+use Rattle.code_model.specs.Sizes.{adjust_size, entry_size}
 use Rattle.code_effects.specs.Points.{Point, Holds, known, Leads}
 use Rattle.code_effects.specs.Frames.{HasEntry}
 use Rattle.code_effects.specs.Entry.{Entered, no_lend, FrameMade, EntryEffects}

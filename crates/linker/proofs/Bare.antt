@@ -1,28 +1,24 @@
 -- Sizes are those without the cells of structs, and as many locals are lent as have a number.
-use Rattle.std.proofs.Common.{◌≡◌, ℕ, zero, suc, ◌+◌, ◌-◌, ◌*◌, ◌/◌, ◌<◌, List, [], ◌∷◌, cond, length, map, take, get_or, fold, count_by, is_some, Bool, Option, Some, None, refl, ap, sym, ◌∙◌, arith}
+use Rattle.std.proofs.Common.{◌≡◌, ℕ, zero, suc, ◌+◌, ◌-◌, ◌*◌, ◌<◌, List, [], ◌∷◌, cond, length, map, take, get_or, fold, count_by, is_some, Bool, Option, Some, None, refl, ap, sym, ◌∙◌, arith}
 use Rattle.std.proofs.lemmas.List.{get_or-map, take-map}
-use Rattle.ir_model.specs.Layout.{Known, Shape, rounded_up}
+use Rattle.ir_model.specs.Layout.{Known}
 use Rattle.ir_model.specs.Resolved as ir
 use Rattle.ir_model.specs.Resolved.{NumberedTerm, NumberedBlock, NumberedFunc, no_block, no_func, func_at, here_in}
 use Rattle.ir_model.specs.Signatures.{row_length}
 use Rattle.ir_program.specs.declared.program.Operation.{Operation}
 use Rattle.ir_program.specs.declared.program.Operation.TheVariants as operation
 use Rattle.ir_program.specs.declared.program.Sequence.{Sequence}
-use Rattle.ir_program.specs.declared.program.Storage.{Storage}
 use Rattle.ir_program.specs.declared.program.Routine.{Routine}
 use Rattle.ir_program.specs.declared.program.Program.{Program}
-use Rattle.ir_program.specs.Storages.{shape_of}
 use Rattle.ir_program.specs.Seen.{operation_of, exit_of, sequence_of, routine_of, known_of, program_of}
-use Rattle.lower.specs.declared.places.CallSite.{CallSite}
-use Rattle.lower.specs.FrameShape.{local_size, locals_size, starts_from, local_starts, frame_shape}
-use Rattle.lower.specs.Places.{crosses, lends_among}
-use Rattle.lower.specs.Sizes.{inst_size, term_size, entry_size, adjust_size, save_size, resume_size, insts_size, blocks_size, function_size, site_offset}
+use Rattle.code_model.specs.declared.places.CallSite.{CallSite}
+use Rattle.code_model.specs.FrameShape.{local_starts}
+use Rattle.code_model.specs.Places.{crosses, lends_among}
+use Rattle.code_model.specs.Sizes.{term_size, entry_size, adjust_size, save_size, resume_size, insts_size, blocks_size, function_size, site_offset}
+use Rattle.code_model.proofs.Frames.{starts_length}
+use Rattle.code_model.proofs.Bare.{same_words, same_inst}
 
 -- ---- how many locals are lent
-
-starts_length : (n : ℕ) (ss : List Shape) → length (starts_from n ss) ≡ length ss
-starts_length n [] = refl
-starts_length n (s ∷ ss) = ap (λ k. suc k) (starts_length (n + local_size s) ss)
 
 lent_from : (a : ℕ) (ss : List ℕ) (ns : List (Option ℕ)) → length ss ≡ length ns → a + length (lends_among ss ns) ≡ fold (λ k n. k + cond (is_some n) 1 0) a ns
 lent_from a [] [] e = omega arith
@@ -39,28 +35,6 @@ lent_counted g ns e =
     omega (arith, h)
 
 -- ---- the same with the cells of structs or without
-
-same_locals : (ks : List Known) (ss : List Storage) → locals_size (map (shape_of ks) ss) ≡ locals_size (map (shape_of []) ss)
-same_locals ks [] = refl
-same_locals ks (s ∷ ss) = ap (λ n. local_size (shape_of [] s) + n) (same_locals ks ss)
-
-same_words : (ks : List Known) (r : Routine) → (frame_shape (routine_of ks r)).words ≡ (frame_shape (routine_of [] r)).words
-same_words ks r = ap (λ n. (rounded_up (4 * length (routine_of [] r).regs + n + 4) 8 - 4) / 4) (same_locals ks r.locals)
-
-same_inst : (ks : List Known) (x : Bool) (o : Operation) → inst_size x (operation_of ks o) ≡ inst_size x (operation_of [] o)
-unfolding inst_size
-same_inst ks x (operation.Const to v) = refl
-same_inst ks x (operation.Move to from) = refl
-same_inst ks x (operation.Bin op to a b) = refl
-same_inst ks x (operation.Cmp op to a b) = refl
-same_inst ks x (operation.Addr to of) = refl
-same_inst ks x (operation.FAddr to f) = refl
-same_inst ks x (operation.Elem to base index t) = refl
-same_inst ks x (operation.Field to base offset) = refl
-same_inst ks x (operation.Load to from t) = refl
-same_inst ks x (operation.Store to from t) = refl
-same_inst ks x (operation.Call to f as_) = refl
-same_inst ks x (operation.ICall to f as_) = refl
 
 same_resume : (ks : List Known) (x : Bool) (t : NumberedTerm) (k : ℕ) (os : List Operation) →
     resume_size x (here_in (map (operation_of ks) os) t k) ≡ resume_size x (here_in (map (operation_of []) os) t k)

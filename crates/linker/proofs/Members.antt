@@ -1,7 +1,7 @@
 -- The functions of a compartment among the first so many, one more.
 use Rattle.std.proofs.Common.{◌≡◌, ℕ, zero, suc, ◌+◌, ◌<◌, Bool, true, false, List, [], ◌∷◌, ◌++◌, cond, length, take, get_or, nat_eq, refl, ap, ◌∙◌, add-one, arith}
 use Rattle.std.proofs.lemmas.List.{append-nil}
-use Rattle.lower.specs.CompartmentCode.{members_from, filled_size}
+use Rattle.code_model.specs.CompartmentCode.{members_from, filled_size}
 use Rattle.linker.specs.Bases.{filled_total}
 
 in_front : (b : Bool) (n : ℕ) (xs ys : List ℕ) → cond b (n ∷ (xs ++ ys)) (xs ++ ys) ≡ cond b (n ∷ xs) xs ++ ys

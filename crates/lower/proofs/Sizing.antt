@@ -1,12 +1,12 @@
 -- The locals of a frame, one behind the other.
-use Rattle.std.proofs.Common.{◌≡◌, ℕ, ◌+◌, ◌-◌, ◌*◌, ◌/◌, ◌<◌, List, [], ◌∷◌, length, map, get_or, drop, refl, ap}
+use Rattle.std.proofs.Common.{◌≡◌, ℕ, ◌+◌, ◌-◌, ◌*◌, ◌<◌, List, [], ◌∷◌, length, map, get_or, drop, refl, ap}
 use Rattle.std.proofs.lemmas.List.{drop_more}
 use Rattle.ir_model.specs.Layout.{Known, Shape, rounded_up}
 use Rattle.ir_program.specs.declared.program.Storage.{Storage}
 use Rattle.ir_program.specs.declared.program.Routine.{Routine}
 use Rattle.ir_program.specs.Storages.{shape_of}
 use Rattle.ir_program.specs.Seen.{routine_of}
-use Rattle.lower.specs.FrameShape.{local_size, locals_size, starts_from, frame_size, local_starts, frame_shape}
+use Rattle.code_model.specs.FrameShape.{local_size, locals_size, starts_from, frame_size, local_starts}
 
 abbrev pub shapes : List Storage → List Shape
 shapes ss = map (shape_of []) ss
@@ -32,6 +32,3 @@ same_frame_size ks r = ap (λ n. rounded_up (4 * length (routine_of [] r).regs +
 
 pub same_local_starts : (ks : List Known) (r : Routine) → local_starts (routine_of ks r) ≡ local_starts (routine_of [] r)
 same_local_starts ks r = same_starts ks (4 * length (routine_of [] r).regs) r.locals
-
-pub same_words : (ks : List Known) (r : Routine) → (frame_shape (routine_of ks r)).words ≡ (frame_shape (routine_of [] r)).words
-same_words ks r = ap (λ n. (n - 4) / 4) (same_frame_size ks r)

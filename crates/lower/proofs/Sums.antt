@@ -1,18 +1,17 @@
 -- Sizes of what is summed up one by one, and of whole functions: the cells of structs do not matter.
-use Rattle.std.proofs.Common.{◌≡◌, ℕ, suc, ◌+◌, ◌-◌, ◌*◌, List, [], ◌∷◌, map, Bool, refl, ap, arith}
+use Rattle.std.proofs.Common.{◌≡◌, ℕ, suc, ◌+◌, ◌-◌, ◌*◌, List, [], ◌∷◌, map, refl, ap, arith}
 use Rattle.ir_model.specs.Layout.{Known}
 use Rattle.ir_model.specs.Resolved as ir
 use Rattle.ir_model.specs.Signatures.{row_length}
 use Rattle.ir_model.specs.Resolved.{NumberedTerm, NumberedFunc}
 use Rattle.ir_program.specs.declared.program.Operation.{Operation}
-use Rattle.ir_program.specs.declared.program.Operation.TheVariants as operation
 use Rattle.ir_program.specs.declared.program.Sequence.{Sequence}
 use Rattle.ir_program.specs.declared.program.Routine.{Routine}
 use Rattle.ir_program.specs.Seen.{operation_of, exit_of, sequence_of, routine_of}
-use Rattle.lower.specs.declared.places.CallSite.{CallSite}
-use Rattle.lower.specs.Places.{crosses}
-use Rattle.lower.specs.Sizes.{inst_size, term_size, entry_size, adjust_size, save_size, insts_size, blocks_size, function_size}
-use Rattle.lower.proofs.Sizing.{same_words}
+use Rattle.code_model.specs.declared.places.CallSite.{CallSite}
+use Rattle.code_model.specs.Places.{crosses}
+use Rattle.code_model.specs.Sizes.{term_size, entry_size, adjust_size, save_size, insts_size, blocks_size, function_size}
+use Rattle.code_model.proofs.Bare.{same_words, same_inst}
 
 module _ (g : NumberedFunc) (sites : List CallSite) (lent : ℕ) where
   -- operations of a block from a place on
@@ -22,22 +21,6 @@ module _ (g : NumberedFunc) (sites : List CallSite) (lent : ℕ) where
   -- blocks from a number on
   abbrev pub sequences_size : (block : ℕ) → List Sequence → ℕ
   sequences_size b xs = blocks_size g sites lent b (map (sequence_of []) xs)
-
--- the same with the cells of structs or without
-same_inst : (ks : List Known) (x : Bool) (o : Operation) → inst_size x (operation_of ks o) ≡ inst_size x (operation_of [] o)
-unfolding inst_size
-same_inst ks x (operation.Const to v) = refl
-same_inst ks x (operation.Move to from) = refl
-same_inst ks x (operation.Bin op to a b) = refl
-same_inst ks x (operation.Cmp op to a b) = refl
-same_inst ks x (operation.Addr to of) = refl
-same_inst ks x (operation.FAddr to f) = refl
-same_inst ks x (operation.Elem to base index t) = refl
-same_inst ks x (operation.Field to base offset) = refl
-same_inst ks x (operation.Load to from t) = refl
-same_inst ks x (operation.Store to from t) = refl
-same_inst ks x (operation.Call to f as_) = refl
-same_inst ks x (operation.ICall to f as_) = refl
 
 module _ (ks : List Known) (r : Routine) (sites : List CallSite) (lent : ℕ) where
   abbrev g : NumberedFunc

@@ -4,13 +4,13 @@ ghost use Rattle.std.specs.Prelude.{◌≡◌, ◌<◌, ◌≤◌, ◌^◌, [], 
 ghost use Rattle.ir_model.specs.Resolved.{func_at};
 ghost use Rattle.ir_model.specs.Signatures.{row_length};
 ghost use Rattle.ir_program.specs.Seen.{target_of, operation_of, exit_of, sequence_of, routine_of, program_of};
-ghost use Rattle.lower.specs.FrameShape.{frame_size};
-ghost use Rattle.lower.specs.Sizes as sizes;
+ghost use Rattle.code_model.specs.FrameShape.{frame_size};
+ghost use Rattle.code_model.specs.Sizes as sizes;
 
 use crate::frame::frame_words;
 use crate::function::site_in;
-use crate::places::CallSite;
 use crate::subject::routine_at;
+use code_model::CallSite;
 use ir_model::firmware::BinOp;
 use ir_program::program::{Exit, Operation, Program, Routine, Sequence, Target};
 
@@ -80,7 +80,7 @@ fn icall_size(crosses: bool, args: &[usize]) -> u32
 }
 
 /// The bytes of an instruction; `crosses` tells whether it is a call that may go to another compartment.
-#[tactic(auto, unfolding(crate::specs::Sizes::inst_size))]
+#[tactic(auto, unfolding(code_model::specs::Sizes::inst_size))]
 fn inst_size(crosses: bool, operation: &Operation) -> u32
     requires { sizes.inst_size crosses (operation_of [] operation.now) < 2 ^ 32 }
     ensures { result ≡ sizes.inst_size crosses (operation_of [] operation.now) }
@@ -108,7 +108,7 @@ fn adjust_size(words: usize) -> u32
 }
 
 /// The bytes of a block's end, in a function of whose locals so many are lent.
-#[tactic(auto, unfolding(crate::specs::Sizes::term_size))]
+#[tactic(auto, unfolding(code_model::specs::Sizes::term_size))]
 fn exit_size(routine: &Routine, lent: u32, exit: Exit) -> u32
     requires frame { frame_size (routine_of [] routine.now) ≤ 992 }
     requires small { sizes.term_size (routine_of [] routine.now) lent (exit_of exit) < 2 ^ 32 }
@@ -131,7 +131,7 @@ fn param_count(routine: &Routine) -> usize
 }
 
 /// The bytes of an entry, in a function of whose locals so many are lent.
-#[tactic(auto, unfolding(crate::specs::Sizes::entry_size))]
+#[tactic(auto, unfolding(code_model::specs::Sizes::entry_size))]
 fn entry_size(routine: &Routine, lent: u32) -> u32
     requires frame { frame_size (routine_of [] routine.now) ≤ 992 }
     requires small { sizes.entry_size (routine_of [] routine.now) lent < 2 ^ 32 }

@@ -3,8 +3,7 @@ use Rattle.std.proofs.Common.{◌≡◌, ℕ, zero, suc, ◌<◌, Bool, true, fa
 use Rattle.std.specs.Prelude.{◌⊎◌}
 use mathlib.Core.Logic.{inl, inr}
 use Rattle.std.specs.Ordering.{nat_cmp}
-use Rattle.ir_model.specs.declared.object.ObjId.{ObjId}
-use Rattle.ir_model.specs.declared.object.ObjId.TheVariants.{Global, Periph, Local, Func}
+use Rattle.ir_model.specs.declared.object.ObjId.TheVariants.{Periph, Local}
 use Rattle.ir_model.specs.Resolved.{here, func_at}
 use Rattle.ir_model.specs.State.{Object, PeriphObject, LocalObject}
 use Rattle.ir_model.specs.Objects.{object_by, compare_objects}
@@ -14,15 +13,9 @@ use Rattle.plan_model.specs.Lendable.{IsLendable, OthersWrite, compare_locals}
 use Rattle.plan_model.specs.Needs.{IsWritable, IsData, IsNeedOf, need_of, AreNeeds}
 use Rattle.plan_examples.proofs.OneItem.{one_item, no_item}
 use Rattle.plan_examples.specs.LentLocal.{program, sets, needs, HasNeeds}
+use Rattle.ir_laws.proofs.Objects.{same_id}
 
 -- ---- objects by their numbers
-
-same_id : (x y : ObjId) → object_by x ≡ object_by y → x ≡ y
-same_id (Global a) (Global b) e = cc
-same_id (Periph a) (Periph b) e = cc
-same_id (Local f a) (Local g b) e = cc
-same_id (Func a) (Func b) e = cc
-same_id _ _ e = cc
 
 -- ---- what each function writes, reads and calls
 

@@ -10,11 +10,11 @@ use Rattle.armv7m.specs.RunningCode.{Context, works}
 use Rattle.armv7m.proofs.Exec.{stay, onward}
 use Rattle.ir_model.specs.Resolved.{NumberedFunc}
 use Rattle.ir_model.specs.Signatures.{row_length}
-use Rattle.lower.specs.declared.places.Places.{Places}
-use Rattle.lower.specs.FrameShape.{frame_shape}
-use Rattle.lower.specs.Places.{Lend}
-use Rattle.lower.specs.Sizes.{entry_size}
-use Rattle.lower.specs.Templates.{lends_of, entry_items}
+use Rattle.code_model.specs.declared.places.Places.{Places}
+use Rattle.code_model.specs.FrameShape.{frame_shape}
+use Rattle.code_model.specs.Places.{Lend}
+use Rattle.code_model.specs.Sizes.{entry_size}
+use Rattle.code_model.specs.Templates.{lends_of, entry_items}
 use Rattle.monitor.specs.Block.{Block, lent}
 use Rattle.monitor.specs.Setting.{Setting}
 use Rattle.monitor.specs.Threads.{svc, lend_steps, base, Stays, HasRoom, AtInstr}

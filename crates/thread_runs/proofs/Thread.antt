@@ -25,7 +25,8 @@ use Rattle.monitor.specs.Setting.{Setting}
 use Rattle.monitor.specs.Threads.{svc, Stays, KeepsOff, base, stack_end}
 use Rattle.monitor.specs.Law.{Law}
 use Rattle.code_effects.specs.Items.{ItemsAt}
-use Rattle.thread_runs.specs.Areas.{Area, Each, Has}
+use Rattle.thread_runs.specs.Areas.{Area, Has}
+use Rattle.common_laws.specs.Lists.{Each}
 use Rattle.thread_runs.specs.CodeLaws.{CodeLaws}
 use Rattle.thread_runs.specs.Owned.{owner, Owns, MemoryRules}
 use Rattle.thread_runs.proofs.Areas.{has_alike}

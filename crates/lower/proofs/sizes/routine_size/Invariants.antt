@@ -1,6 +1,6 @@
 use Rattle.std.proofs.Common.{◌≡◌, ◌+◌, [], drop}
 use Rattle.ir_program.specs.Seen.{routine_of}
-use Rattle.lower.specs.Sizes.{function_size}
+use Rattle.code_model.specs.Sizes.{function_size}
 use Rattle.lower.proofs.Sums.{sequences_size}
 use Rattle.lower.proofs.sizes.routine_size.Given as goal
 

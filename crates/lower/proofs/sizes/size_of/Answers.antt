@@ -1,8 +1,8 @@
 use Rattle.std.proofs.Common.{◌≤◌, sym, ap, ◌∙◌, arith}
 use Rattle.ir_model.specs.Resolved.{NumberedFunc}
 use Rattle.ir_program.specs.Seen.{known_of, routine_of}
-use Rattle.lower.specs.FrameShape.{frame_size}
-use Rattle.lower.specs.Sizes.{function_size}
+use Rattle.code_model.specs.FrameShape.{frame_size}
+use Rattle.code_model.specs.Sizes.{function_size}
 use Rattle.lower.proofs.Sizing.{same_frame_size}
 use Rattle.lower.proofs.Sums.{same_function_size}
 use Rattle.lower.proofs.sizes.size_of.Goals as goal
