@@ -8,7 +8,6 @@ use Rattle.ir_model.specs.Resolved.{NumberedGlobal, NumberedFunc, no_global, no_
 use Rattle.ir_model.specs.Resolve.{scope_of, resolved_global, resolved_func, resolve}
 use Rattle.ir_model.proofs.Counting.{rounded_at_least}
 use Rattle.ir_laws.specs.Laws.{IsLaidOut, CellsOfTypes, AreApart, CellsOfFirmwares}
-use Rattle.plan_model.specs.Lists.{has}
 
 -- a cell has a byte at least
 pub positive_width : (t : PlainType) → 0 < width_of t
