@@ -1,4 +1,7 @@
+mod Checked
+mod Counts
 mod Elements
+mod Entering
 mod Filling
 mod Rising
 mod Standing
