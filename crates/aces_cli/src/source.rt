@@ -18,7 +18,7 @@ use aces_reports::{Done, Failure};
 use aces_words::Policy;
 use compartments::analysis::open_compartments;
 use ir_model::checked::Checked;
-use ir_program::windows::windows;
+use ir_program::peripherals::windows;
 use ir_resolve::resolving::resolve;
 use ir_run::outcome::SourceEnd;
 use outside::{Files, Sink};

@@ -1,12 +1,13 @@
 -- The functions of a firmware within the limits are small.
-use Rattle.std.proofs.Common.{length-append, ◌≡◌, ◌++◌, ◌≤◌, ◌∙◌, List, [], ◌∷◌, length, map, subst, sym, ap, arith, Bor}
+use Rattle.std.proofs.Common.{length-append, ◌≡◌, ◌≤◌, List, [], ◌∷◌, length, map, subst, sym, arith, Bor}
 use Rattle.std.proofs.lemmas.List.{length-map}
 use Rattle.std.proofs.lemmas.List.Elements.{All-nil, All-cons}
 use Rattle.std.specs.List.{All}
 use Rattle.ir_model.specs.declared.firmware.Block.{Block}
 use Rattle.ir_model.specs.declared.firmware.Func.{Func}
-use Rattle.ir_model.specs.Plain.{PlainFunc, PlainFirmware, func_of, funcs_of, slot_of, firmware_of}
-use Rattle.ir_model.specs.Canonical.{Each, IsWithinLimits}
+use Rattle.ir_model.specs.Plain.{PlainFirmware, func_of, funcs_of, slot_of}
+use Rattle.ir_model.specs.Canonical.{IsWithinLimits}
+use Rattle.common_laws.specs.Lists.{Each}
 use Rattle.ir_model.proofs.Limits.{Limited, limited, insts_in}
 use Rattle.ir_check.specs.Scopes.{IsSmall, AreSmall, lent_funcs}
 

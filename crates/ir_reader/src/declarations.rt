@@ -1,7 +1,7 @@
 //! Structs, peripherals and globals at the front of a text.
 
 ghost use Rattle.std.specs.Prelude.{◌≡◌, ◌<◌, ◌≤◌, ◌+◌, [], ◌∷◌, ◌++◌, map, flat_map, length, OnOk, IfOk, None};
-ghost use Rattle.ir_model.specs.Canonical.{Each};
+ghost use Rattle.common_laws.specs.Lists.{Each};
 ghost use Rattle.ir_model.specs.Plain.{struct_of, global_of};
 ghost use Rattle.ir_model.specs.declared.token.Keyword.TheVariants as key;
 ghost use Rattle.ir_model.specs.declared.token.Mark.TheVariants as mark;

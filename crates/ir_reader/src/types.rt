@@ -15,7 +15,8 @@ use crate::terminals::{behind_mark, mark, syntax};
 use crate::token::Token;
 use ir_model::name::Name;
 use ir_model::token::{Excess, Keyword, Mark, TextLimit};
-use ir_model::types::{Signature, Ty, Tys};
+use ir_model::types::{Signature, Ty};
+use list_vec::ListVec;
 use std::alloc::Global;
 
 /// An array's length, and the text behind it.
@@ -138,7 +139,7 @@ fn callee(params: Vec<Ty>, outcome: Option<Box<Ty>>) -> Ty
     ensures { type_of result ≡ types.Callee (types_from (map type_of params.items)) (boxed_result_of outcome) }
 {
     Ty::Callee(Signature {
-        params: Tys { items: params },
+        params: ListVec::new(params),
         result: outcome,
     })
 }

@@ -16,7 +16,8 @@ use Rattle.plan_model.specs.declared.plan.Board.{Board}
 use Rattle.plan_model.specs.declared.plan.Plan.{Plan}
 use Rattle.plan_model.specs.Lists.{numbers_below}
 use Rattle.plan_model.specs.Regions.{global_size}
-use Rattle.thread_runs.specs.Areas.{Area, Each, Beside, Laid}
+use Rattle.thread_runs.specs.Areas.{Area, Beside, Laid}
+use Rattle.common_laws.specs.Lists.{Each}
 use Rattle.relation.specs.Relation.{cells_at, objects_at}
 use Rattle.linked_images.specs.Planned.{IsPlanned, plan}
 use Rattle.linked_images.proofs.Facts.{stack_in, stack_size_is, stack_least, monitor_in, monitor_size_is}

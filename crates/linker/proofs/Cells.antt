@@ -9,7 +9,7 @@ use Rattle.ir_model.specs.Resolve.{zero_of, filled}
 use Rattle.ir_model.specs.Resolved.{Value}
 use Rattle.plan_model.specs.declared.plan.Plan.{Plan}
 use Rattle.plan_model.specs.Placement.{no_spot}
-use Rattle.lower.specs.declared.places.Places.{Places}
+use Rattle.code_model.specs.declared.places.Places.{Places}
 use Rattle.link_model.specs.FirstWords.{first_word, with_cells}
 use Rattle.link_model.specs.LinkedTables.{filled_unwritten}
 use Rattle.linker.specs.Filling.{first_in}

@@ -8,7 +8,7 @@ use Rattle.plan_model.specs.declared.needs.SiteNeed.{SiteNeed}
 use Rattle.plan_model.specs.declared.graph.Final.{Final}
 use Rattle.plan_model.specs.Lists.{numbers_below}
 use Rattle.plan_model.specs.Lending.{is_local}
-use Rattle.lower.specs.CompartmentCode.{CodePlaces, entry_of}
+use Rattle.code_model.specs.CompartmentCode.{CodePlaces, entry_of}
 use Rattle.linker.specs.declared.numbers.Numbers.{Numbers}
 use Rattle.link_model.specs.FirstWords.{first_words}
 use Rattle.link_model.specs.LinkedTables.{Filled}

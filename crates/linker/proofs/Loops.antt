@@ -1,10 +1,8 @@
 -- Lists that grow item by item.
-use Rattle.std.proofs.Common.{◌≡◌, ℕ, zero, suc, ◌+◌, ◌*◌, ◌-◌, ◌%◌, ◌^◌, ◌<◌, ◌≤◌, Bool, true, false, not, List, [], ◌∷◌, ◌++◌, cond, filter, map, length, drop, fold, append_assoc, get_or, set, position, Some, None, nat_lt, refl, ap, sym, ◌∙◌, add-one, arith}
+use Rattle.std.proofs.Common.{◌≡◌, ℕ, zero, suc, ◌+◌, ◌*◌, ◌-◌, ◌%◌, ◌^◌, ◌<◌, ◌≤◌, Bool, true, false, not, List, [], ◌∷◌, ◌++◌, cond, length, drop, fold, append_assoc, get_or, set, position, Some, None, nat_lt, refl, ap, sym, ◌∙◌, add-one, arith}
 use Rattle.std.specs.List.{position_or_len}
 use Rattle.std.proofs.Math.Pow.{pow_mono}
-use Rattle.std.proofs.lemmas.List.{map-id, append-nil, map-append, drop_more, drop_all, get_or_default}
-use Rattle.std.proofs.lemmas.List.FromFn.{map-range_with_len_more}
-use Rattle.std.proofs.lemmas.List.Elements.{filter-append}
+use Rattle.std.proofs.lemmas.List.{drop_more, drop_all, get_or_default}
 use Rattle.std.proofs.lemmas.List.Sums.{fold-append}
 use Rattle.std.proofs.lemmas.Bool.{lt-ltb, le-ltb}
 use Rattle.words.specs.Bytes.{read, write, write_all}
@@ -12,30 +10,7 @@ use Rattle.plan_model.specs.declared.graph.Region.{Region}
 use Rattle.plan_model.specs.Regions.{no_region, region_at}
 use Rattle.armv7m.specs.Stack.{words_at}
 use Rattle.plan_model.specs.Lists.{numbers_below}
-
--- what a function makes of the numbers below k, and of k
-pub mapped_more : {X : Type 0} (f : ℕ → X) (k : ℕ) (old new : List X) (x : X) → old ≡ map f (numbers_below k) → x ≡ f k → new ≡ old ++ x ∷ [] →
-    new ≡ map f (numbers_below (k + 1))
-mapped_more f k old new x h e p = p ∙ ap (λ ys. ys ++ x ∷ []) h ∙ ap (λ y. map f (numbers_below k) ++ y ∷ []) e ∙ sym (map-range_with_len_more f 0 k k (omega arith))
-
-numbers_more : (n : ℕ) → numbers_below (n + 1) ≡ numbers_below n ++ n ∷ []
-numbers_more n = sym (map-id (numbers_below (n + 1))) ∙ (map-range_with_len_more (λ (k : ℕ). k) 0 n n (omega arith) ∙ ap (λ ns. ns ++ n ∷ []) (map-id (numbers_below n)))
-
-passed_more : {X : Type 0} (f : ℕ → X) (p : ℕ → Bool) (k : ℕ) → map f (filter p (numbers_below (k + 1))) ≡ map f (filter p (numbers_below k)) ++ map f (cond (p k) (k ∷ []) [])
-passed_more f p k = ap (λ ns. map f (filter p ns)) (numbers_more k) ∙ ap (map f) (filter-append p (numbers_below k) (k ∷ [])) ∙ map-append f (filter p (numbers_below k)) (cond (p k) (k ∷ []) [])
-
--- the same of those numbers that pass a test: one that does
-pub kept_more : {X : Type 0} (f : ℕ → X) (p : ℕ → Bool) (k : ℕ) (old new : List X) (x : X) → p k ≡ true → old ≡ map f (filter p (numbers_below k)) → x ≡ f k → new ≡ old ++ x ∷ [] →
-    new ≡ map f (filter p (numbers_below (k + 1)))
-kept_more f p k old new x t h e n =
-    n ∙ ap (λ ys. ys ++ x ∷ []) h ∙ ap (λ y. map f (filter p (numbers_below k)) ++ y ∷ []) e
-    ∙ sym (passed_more f p k ∙ ap (λ b. map f (filter p (numbers_below k)) ++ map f (cond b (k ∷ []) [])) t)
-
--- and one that does not
-pub dropped_more : {X : Type 0} (f : ℕ → X) (p : ℕ → Bool) (k : ℕ) (old new : List X) → p k ≡ false → old ≡ map f (filter p (numbers_below k)) → new ≡ old →
-    new ≡ map f (filter p (numbers_below (k + 1)))
-dropped_more f p k old new t h n =
-    n ∙ h ∙ sym (passed_more f p k ∙ ap (λ b. map f (filter p (numbers_below k)) ++ map f (cond b (k ∷ []) [])) t ∙ append-nil (map f (filter p (numbers_below k))))
+use Rattle.plan_model.proofs.Numbers.{numbers_more}
 
 -- the same of a fold
 pub folded_more : {B : Type 0} (F : B → ℕ → B) (k : ℕ) (b old new : B) → old ≡ fold F b (numbers_below k) → new ≡ F old k → new ≡ fold F b (numbers_below (k + 1))

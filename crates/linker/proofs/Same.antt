@@ -17,13 +17,13 @@ use Rattle.plan_model.specs.Lending.{lent, lend_number}
 use Rattle.plan_model.specs.Boards.{slots_of}
 use Rattle.plan_model.specs.Placement.{no_spot, compartment_spot}
 use Rattle.plan_model.specs.TableSize.{unless_empty, filled_blocks, table_bytes}
-use Rattle.lower.specs.declared.places.CallSite.{CallSite}
-use Rattle.lower.specs.declared.places.Places.{Places}
-use Rattle.lower.specs.FrameShape.{local_starts}
-use Rattle.lower.specs.Places.{lends_among}
-use Rattle.lower.specs.Sizes.{site_offset}
-use Rattle.lower.specs.CompartmentCode.{CodeGroups, CodePlaces, entry_of, compartment_bytes}
-use Rattle.lower.specs.Planned.{code_groups, code_places, call_sites}
+use Rattle.code_model.specs.declared.places.CallSite.{CallSite}
+use Rattle.code_model.specs.declared.places.Places.{Places}
+use Rattle.code_model.specs.FrameShape.{local_starts}
+use Rattle.code_model.specs.Places.{lends_among}
+use Rattle.code_model.specs.Sizes.{site_offset}
+use Rattle.code_model.specs.CompartmentCode.{CodeGroups, CodePlaces, entry_of, compartment_bytes}
+use Rattle.code_model.specs.Planned.{code_groups, code_places, call_sites}
 use Rattle.monitor.specs.declared.tables.SiteRecord.{SiteRecord}
 use Rattle.monitor.specs.declared.tables.TargetRecord.{TargetRecord}
 use Rattle.monitor.specs.declared.tables.Tables.{Tables}

@@ -9,7 +9,7 @@ use Rattle.plan_model.specs.declared.graph.Final.{Final}
 use Rattle.plan_model.specs.declared.plan.Plan.{Plan}
 use Rattle.plan_model.specs.declared.plan.Spot.{Spot}
 use Rattle.plan_model.specs.Lists.{numbers_below}
-use Rattle.lower.specs.CompartmentCode.{CodeGroups, CodePlaces, members_from, filled_size, total_size, size_of, entry_of}
+use Rattle.code_model.specs.CompartmentCode.{CodeGroups, CodePlaces, members_from, filled_size, total_size, size_of, entry_of}
 use Rattle.linker.specs.declared.numbers.Numbers.{Numbers}
 use Rattle.linker.specs.Grouped.{groups_in}
 use Rattle.linker.specs.Parts.{planned_places}

@@ -5,7 +5,7 @@ use Rattle.std.proofs.Math.ListN.{get_or, take}
 use Rattle.plan_model.specs.declared.plan.Spot.{Spot}
 use Rattle.plan_model.specs.declared.plan.Plan.{Plan}
 use Rattle.plan_model.specs.Lists.{numbers_below}
-use Rattle.lower.specs.CompartmentCode.{members_from, filled_size}
+use Rattle.code_model.specs.CompartmentCode.{members_from, filled_size}
 
 -- the first address of a compartment's code
 abbrev pub base_in : Plan → (compartment : ℕ) → ℕ

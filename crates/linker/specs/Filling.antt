@@ -8,7 +8,7 @@ use Rattle.ir_model.specs.Resolve.{zero_of, filled}
 use Rattle.ir_model.specs.Resolved.{Value}
 use Rattle.ir_program.specs.declared.program.Variable.{Variable}
 use Rattle.ir_program.specs.Values.{value_of}
-use Rattle.lower.specs.declared.places.Places.{Places}
+use Rattle.code_model.specs.declared.places.Places.{Places}
 use Rattle.linker.specs.declared.needed.Addresses.{Addresses}
 use Rattle.linker.specs.declared.fill.Filled as blocks
 use Rattle.link_model.specs.LinkedTables as records

@@ -9,12 +9,13 @@ use Rattle.ir_model.specs.Resolve.{resolve}
 use Rattle.ir_model.specs.Canonical.{IsWithinLimits}
 use Rattle.ir_model.specs.Typing.{IsTyped}
 use Rattle.plan_model.specs.declared.needs.SiteNeed.{SiteNeed}
+use Rattle.plan_model.specs.CompileLimits.{lent_limit, site_limit}
 use Rattle.plan_model.specs.Lists.{numbers_below}
 use Rattle.plan_model.specs.Lending.{is_local}
-use Rattle.lower.specs.declared.places.CallSite.{CallSite}
-use Rattle.lower.specs.declared.places.Places.{Places}
-use Rattle.lower.specs.CompartmentCode.{CodeGroups}
-use Rattle.lower.specs.Planned.{call_sites_among}
+use Rattle.code_model.specs.declared.places.CallSite.{CallSite}
+use Rattle.code_model.specs.declared.places.Places.{Places}
+use Rattle.code_model.specs.CompartmentCode.{CodeGroups}
+use Rattle.code_model.specs.Planned.{call_sites_among}
 use Rattle.linker.specs.declared.numbers.Numbers.{Numbers}
 use Rattle.linker.specs.declared.needed.Addresses.{Addresses}
 
@@ -23,10 +24,10 @@ pub record AreNumbers (p : Program) (sites : List SiteNeed) (lent : List (ℕ ×
   pub sites_are : x.sites ≡ map (call_sites_among 0 sites) (numbers_below (length p.funcs))
   pub lends_are : x.lends ≡ map (λ h. map (λ k. position (is_local h k) lent) (numbers_below (length (func_at p h).locals))) (numbers_below (length p.funcs))
 
--- site numbers are below 4,096, and the numbers of loans below 32
+-- site numbers and the numbers of loans are below their limits
 pub record AreSmall (x : Numbers) : Type 0 where
-  pub sites : All (λ (ss : List CallSite). All (λ (s : CallSite). s.number < 4096) ss) x.sites
-  pub lends : All (λ (ns : List (Option ℕ)). All (λ n. IfSome n (λ k. k < 32)) ns) x.lends
+  pub sites : All (λ (ss : List CallSite). All (λ (s : CallSite). s.number < site_limit) ss) x.sites
+  pub lends : All (λ (ns : List (Option ℕ)). All (λ n. IfSome n (λ k. k < lent_limit)) ns) x.lends
 
 abbrev pub groups_in : (compartments : List ℕ) → Numbers → CodeGroups
 groups_in cs x = record { compartments = cs; sites = x.sites; lends = x.lends }

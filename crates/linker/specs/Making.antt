@@ -8,11 +8,11 @@ use Rattle.ir_model.specs.Resolved.{Program, NumberedFunc, func_at}
 use Rattle.ir_program.specs.Seen.{program_of}
 use Rattle.plan_model.specs.declared.plan.Spot.{Spot}
 use Rattle.plan_model.specs.Lists.{numbers_below}
-use Rattle.lower.specs.declared.places.Places.{Places}
-use Rattle.lower.specs.Places.{entry_address}
-use Rattle.lower.specs.FunctionCode.{function_items, function_labels}
-use Rattle.lower.specs.CompartmentCode.{CodeGroups, CodePlaces, members_from, filling, entry_of, places_of, filled_items, compartment_bytes}
-use Rattle.lower.specs.Emitted.{AreNear}
+use Rattle.code_model.specs.declared.places.Places.{Places}
+use Rattle.code_model.specs.Places.{entry_address}
+use Rattle.code_model.specs.FunctionCode.{function_items, function_labels}
+use Rattle.code_model.specs.CompartmentCode.{CodeGroups, CodePlaces, members_from, filling, entry_of, places_of, filled_items, compartment_bytes}
+use Rattle.code_model.specs.Emitted.{AreNear}
 use Rattle.linker.specs.declared.making.Making.{Making}
 use Rattle.linker.specs.Grouped.{AreSmall, HasEachLend, IsProgram, groups_in}
 

@@ -12,7 +12,7 @@ use Rattle.plan_model.specs.declared.plan.Board.{Board}
 use Rattle.plan_model.specs.Lists.{numbers_below}
 use Rattle.plan_model.specs.Boards.{slots_of}
 use Rattle.plan_model.specs.Placement.{global_address}
-use Rattle.lower.specs.CompartmentCode.{CodePlaces, entry_of}
+use Rattle.code_model.specs.CompartmentCode.{CodePlaces, entry_of}
 use Rattle.monitor.specs.declared.tables.Tables.{Tables}
 use Rattle.linker.specs.declared.numbers.Numbers.{Numbers}
 use Rattle.linker.specs.declared.needed.Addresses.{Addresses}

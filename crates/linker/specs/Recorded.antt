@@ -5,12 +5,12 @@ use Rattle.std.specs.List.{flat_map}
 use Rattle.std.proofs.Math.ListN.{get_or}
 use Rattle.ir_model.specs.Resolved.{Program, func_at}
 use Rattle.plan_model.specs.declared.needs.SiteNeed.{SiteNeed}
-use Rattle.lower.specs.declared.places.Places.{Places}
-use Rattle.lower.specs.FrameShape.{local_starts}
-use Rattle.lower.specs.Places.{lends_among}
-use Rattle.lower.specs.Sizes.{site_offset}
-use Rattle.lower.specs.FunctionCode.{lent}
-use Rattle.lower.specs.CompartmentCode.{entry_of}
+use Rattle.code_model.specs.declared.places.Places.{Places}
+use Rattle.code_model.specs.FrameShape.{local_starts}
+use Rattle.code_model.specs.Places.{lends_among}
+use Rattle.code_model.specs.Sizes.{site_offset}
+use Rattle.code_model.specs.FunctionCode.{lent}
+use Rattle.code_model.specs.CompartmentCode.{entry_of}
 use Rattle.monitor.specs.declared.tables.SiteRecord.{SiteRecord}
 use Rattle.monitor.specs.declared.tables.TargetRecord.{TargetRecord}
 use Rattle.linker.specs.declared.numbers.Numbers.{Numbers}

@@ -4,8 +4,8 @@ ghost use Rattle.std.specs.Prelude.{◌≡◌, ◌<◌, ◌≤◌, ℕ, List, le
 ghost use Rattle.std.proofs.Math.ListN.{take};
 ghost use Rattle.ir_program.specs.Seen.{program_of};
 ghost use Rattle.plan_model.specs.Lists.{numbers_below};
-ghost use Rattle.lower.specs.CompartmentCode as compartments;
-ghost use Rattle.lower.specs.CompartmentCode.{members_from};
+ghost use Rattle.code_model.specs.CompartmentCode as compartments;
+ghost use Rattle.code_model.specs.CompartmentCode.{members_from};
 ghost use Rattle.linker.specs.Bases.{base_in, filled_total, entry_in, entries_in};
 ghost use Rattle.linker.specs.Grouped.{groups_in, HasEachLend};
 

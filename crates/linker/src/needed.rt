@@ -5,8 +5,8 @@ ghost use Rattle.std.proofs.Math.ListN.{get_or};
 ghost use Rattle.linker.specs.Grouped.{places_in};
 
 use crate::numbers::Numbers;
+use code_model::{CallSite, Places};
 use list_vec::ListVec;
-use lower::{CallSite, Places};
 use std::alloc::{AllocError, Global};
 
 /// The addresses of all globals, windows and functions.

@@ -6,15 +6,15 @@ ghost use Rattle.ir_model.specs.Resolved.{func_at};
 ghost use Rattle.ir_program.specs.Seen.{program_of};
 ghost use Rattle.plan_model.specs.Lists.{numbers_below};
 ghost use Rattle.plan_model.specs.Lending.{is_local};
-ghost use Rattle.lower.specs.declared.places.CallSite as call_site;
-ghost use Rattle.lower.specs.Planned.{call_sites_among};
+ghost use Rattle.code_model.specs.declared.places.CallSite as call_site;
+ghost use Rattle.code_model.specs.Planned.{call_sites_among};
 ghost use Rattle.linker.specs.Lent.{lent_sites};
 ghost use Rattle.linker.specs.Grouped.{AreNumbers, AreSmall};
 
 use crate::sites::{call_sites, lend_numbers};
+use code_model::CallSite;
 use ir_program::program::Program;
 use list_vec::ListVec;
-use lower::CallSite;
 use plan_model::needs::SiteNeed;
 use std::alloc::{AllocError, Global};
 

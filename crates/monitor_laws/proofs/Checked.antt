@@ -1,30 +1,23 @@
 -- What the checks of an image tell where none of them fails.
-use Rattle.std.proofs.Common.{◌≡◌, ◌≢◌, ℕ, zero, suc, ◌+◌, ◌-◌, ◌*◌, ◌/◌, ◌%◌, ◌^◌, ◌<◌, ◌≤◌, ◌⊎◌, inl, inr, Bool, true, false, not, ◌&&◌, ◌||◌, List, [], ◌∷◌, ◌++◌, length, nat_eq, nat_lt, nat_le, Option, Some, None, refl, sym, ap, ap₂, ◌∙◌, subst, arith}
+use Rattle.std.proofs.Common.{◌≡◌, ◌≢◌, ℕ, ◌+◌, ◌-◌, ◌*◌, ◌%◌, ◌<◌, ◌≤◌, ◌⊎◌, inl, inr, Bool, true, false, not, ◌&&◌, List, [], ◌∷◌, ◌++◌, length, nat_eq, nat_lt, nat_le, Option, Some, None, refl, sym, ap₂, arith}
 use Rattle.std.proofs.lemmas.Bool.Decides.{nat_tests}
 use Rattle.device_model.specs.declared.image.Image.{Image}
-use Rattle.device_model.specs.Rules.{ObeysRules, IsStack, IsInside, AreApart, block_size}
-use Rattle.armv7m.specs.Confinement.{Each}
+use Rattle.device_model.specs.Rules.{block_size}
+use Rattle.common_laws.specs.Lists.{Each}
+use Rattle.windows.specs.Ranges.{IsInside, AreApart, are_apart, is_inside}
 use Rattle.monitor.specs.declared.sound.AuditCheck.{AuditCheck}
 use Rattle.monitor.specs.declared.sound.AuditCheck.TheVariants as check
-use Rattle.monitor.specs.declared.tables.CompRecord.{CompRecord}
 use Rattle.monitor.specs.declared.tables.TargetRecord.{TargetRecord}
-use Rattle.monitor.specs.declared.tables.SiteRecord.{SiteRecord}
-use Rattle.monitor.specs.declared.tables.InitRecord.{InitRecord}
 use Rattle.monitor.specs.declared.tables.Tables.{Tables}
 use Rattle.monitor.specs.Records.{compartment_at}
-use Rattle.monitor.specs.Layout.{page_size, head_size, head_at, compartment_size, compartments_at, sites_at, targets_at, lends_at, inits_at, initial_words_at, area_end, tables_size}
-use Rattle.monitor.specs.RegionChecks.{are_apart, is_inside, is_data_range, is_compartment}
-use Rattle.monitor.specs.Checks.{must, and_then, each_record, header_fails, tables_fail, difference, code_fails, regions_fail, is_entry, is_target, is_site, sites_fail, lends_fail, is_init, inits_from, inits_fail}
+use Rattle.monitor.specs.Layout.{page_size, head_size, head_at, compartment_size, compartments_at, sites_at, targets_at, area_end, tables_size}
+use Rattle.monitor.specs.RegionChecks.{is_compartment}
+use Rattle.monitor.specs.Checks.{must, and_then, each_record, header_fails, tables_fail, difference, code_fails, regions_fail, is_entry, is_target, is_site, sites_fail, lends_fail, inits_fail}
 use Rattle.monitor.specs.MonitorCode.{MonitorCode}
 use Rattle.monitor.specs.Sound.{Failure, unless, first_failure, Sound}
 use Rattle.monitor.specs.Placed.{IsEntry}
 use Rattle.mpu_model.specs.Regions.{holds}
-use Rattle.monitor_laws.specs.StartUp.{IsInit}
-
-pub both : (a b : Bool) → (a && b) ≡ true → (a ≡ true) × (b ≡ true)
-both true true h = (refl, refl)
-both true false h = cc
-both false b h = cc
+use Rattle.common_laws.proofs.Tests.{either_true as either_is, both_true as both}
 
 pub le_is : (a b : ℕ) → nat_le a b ≡ true → a ≤ b
 le_is a b h = grind (arith, nat_tests)
@@ -37,10 +30,6 @@ eq_is a b h = grind (arith, nat_tests)
 
 pub is_not : (a b : ℕ) → not (nat_eq a b) ≡ true → a ≢ b
 is_not a b h = grind (arith, nat_tests)
-
-either_is : (a b : Bool) → (a || b) ≡ true → (a ≡ true) ⊎ (b ≡ true)
-either_is true b h = inl refl
-either_is false b h = inr h
 
 pub apart_is : (b n c m : ℕ) → are_apart b n c m ≡ true → AreApart b n c m
 apart_is b n c m h = go (either_is (nat_le (b + n) c) (nat_le (c + m) b) h)
@@ -62,7 +51,7 @@ pub and_none : (o p : Option ℕ) → and_then o p ≡ None → (o ≡ None) × 
 and_none (Some a) p h = cc
 and_none None p h = (refl, h)
 
-unless_none : (c : AuditCheck) (o : Option ℕ) (l : Option Failure) → unless c o l ≡ None → (o ≡ None) × (l ≡ None)
+pub unless_none : (c : AuditCheck) (o : Option ℕ) (l : Option Failure) → unless c o l ≡ None → (o ≡ None) × (l ≡ None)
 unless_none c (Some a) l h = cc
 unless_none c None l h = (refl, h)
 

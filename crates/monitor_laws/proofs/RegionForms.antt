@@ -1,26 +1,26 @@
 -- What the check of regions tells of the addresses that a compartment's regions hold.
-use Rattle.std.proofs.Common.{◌≡◌, ◌≢◌, ℕ, zero, suc, ◌+◌, ◌-◌, ◌*◌, ◌/◌, ◌%◌, ◌^◌, ◌<◌, ◌≤◌, ◌⊎◌, inl, inr, ⊎_elim, Bool, true, false, not, ◌&&◌, ◌||◌, List, [], ◌∷◌, length, nat_eq, nat_lt, refl, sym, ap, ap₂, ◌∙◌, subst, arith, pow_pos}
+use Rattle.std.proofs.Common.{◌≡◌, ℕ, zero, suc, ◌+◌, ◌-◌, ◌*◌, ◌/◌, ◌%◌, ◌^◌, ◌<◌, ◌≤◌, ◌⊎◌, inl, inr, ⊎_elim, Bool, true, false, not, ◌&&◌, ◌||◌, List, [], ◌∷◌, length, nat_eq, nat_lt, refl, sym, ap, ap₂, ◌∙◌, subst, arith, pow_pos}
 use Rattle.std.proofs.lemmas.Bool.Decides.{nat_tests}
 use Rattle.std.proofs.lemmas.Nat.{div-mul-add}
 use Rattle.std.proofs.Math.Nat.{div-div-eq-div-mul}
 use Rattle.std.proofs.lemmas.Nat.{pow-add}
 use Rattle.std.specs.Int.{bit_at}
 use Rattle.mpu_model.specs.declared.region.Region.{Region}
-use Rattle.mpu_model.specs.declared.region.Access.{Access}
-use Rattle.mpu_model.specs.declared.region.Access.TheVariants.{Read, Write, Fetch}
 use Rattle.mpu_model.specs.declared.words.Rights.{Rights}
 use Rattle.mpu_model.specs.declared.words.Rights.TheVariants.{Background, Code, Ram, Device}
-use Rattle.mpu_model.specs.Regions.{holds, allows, size_log, is_enabled, is_of_legal_size, is_in_block, is_taken_out, permission}
+use Rattle.mpu_model.specs.Regions.{holds, size_log, is_enabled, is_of_legal_size, is_in_block, is_taken_out, permission}
 use Rattle.mpu_model.specs.RegionWords.{rights_word}
 use Rattle.mpu_model.specs.Configured.{AreNumbered}
 use Rattle.device_model.specs.declared.image.Image.{Image}
-use Rattle.device_model.specs.Rules.{ObeysRules, IsInside, AreApart, block_size}
+use Rattle.windows.specs.Ranges.{IsInside, AreApart, is_inside, are_apart}
+use Rattle.device_model.specs.Rules.{ObeysRules, block_size}
 use Rattle.monitor.specs.declared.tables.CompRecord.{CompRecord}
 use Rattle.monitor.specs.declared.tables.Tables.{Tables}
-use Rattle.armv7m.specs.Confinement.{Each}
-use Rattle.monitor.specs.RegionChecks.{is_inside, are_apart, is_data_range, base_of, size_of, taken_out, has_form, eighths_hold_data, holds_data, is_code, is_free, is_data, is_read_only, is_cover, is_slot, are_slots, is_mask, is_compartment}
+use Rattle.common_laws.specs.Lists.{Each}
+use Rattle.monitor.specs.RegionChecks.{is_data_range, base_of, size_of, taken_out, has_form, eighths_hold_data, holds_data, is_code, is_free, is_data, is_read_only, is_cover, is_slot, are_slots, is_mask, is_compartment}
 use Rattle.monitor.specs.Placed.{IsCode, IsSlot, IsSlotByte, InFlashOf}
-use Rattle.monitor_laws.proofs.Checked.{both, le_is, lt_is, eq_is, apart_is, inside_is}
+use Rattle.monitor_laws.proofs.Checked.{le_is, lt_is, eq_is, apart_is, inside_is}
+use Rattle.common_laws.proofs.Tests.{both_true as both}
 
 -- ---- forms
 

@@ -4,7 +4,7 @@ ghost use Rattle.std.specs.Prelude.{◌≡◌, ◌<◌, [], map, IfSome};
 ghost use Rattle.ir_model.specs.Layout.{rounded_up as rounded};
 ghost use Rattle.ir_program.specs.Storages.{shape_of};
 ghost use Rattle.ir_program.specs.Seen.{routine_of};
-ghost use Rattle.lower.specs.FrameShape as frames;
+ghost use Rattle.code_model.specs.FrameShape as frames;
 
 use ir_program::program::{Routine, Storage};
 

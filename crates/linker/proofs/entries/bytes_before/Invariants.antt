@@ -1,5 +1,5 @@
 use Rattle.std.proofs.Common.{◌≡◌, take}
-use Rattle.lower.specs.CompartmentCode.{members_from}
+use Rattle.code_model.specs.CompartmentCode.{members_from}
 use Rattle.linker.specs.Bases.{filled_total}
 use Rattle.linker.proofs.entries.bytes_before.Given as goal
 

@@ -1,6 +1,6 @@
 use Rattle.linker.specs.Bases.{entry_in}
-use Rattle.linker.proofs.Loops.{mapped_more}
 use Rattle.linker.proofs.entries.entries.Goals as goal
+use Rattle.plan_model.proofs.Numbers.{mapped_more}
 
 pub loop-func-preserved : goal.loop-func-preserved
 loop-func-preserved c =

@@ -1,10 +1,10 @@
 use Rattle.std.proofs.Common.{◌≡◌, length, map, ap, ◌∙◌, arith}
 use Rattle.ir_program.specs.Seen.{program_of}
 use Rattle.plan_model.specs.Lists.{numbers_below}
-use Rattle.lower.specs.CompartmentCode as compartments
+use Rattle.code_model.specs.CompartmentCode as compartments
 use Rattle.linker.specs.Grouped.{groups_in}
-use Rattle.linker.proofs.Loops.{mapped_more}
 use Rattle.linker.proofs.entries.sizes.Goals as goal
+use Rattle.plan_model.proofs.Numbers.{mapped_more}
 
 pub loop-func-preserved : goal.loop-func-preserved
 loop-func-preserved c = λ cs.

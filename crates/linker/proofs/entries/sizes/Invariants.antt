@@ -1,7 +1,7 @@
 use Rattle.std.proofs.Common.{◌≡◌, ℕ, List, map}
 use Rattle.ir_program.specs.Seen.{program_of}
 use Rattle.plan_model.specs.Lists.{numbers_below}
-use Rattle.lower.specs.CompartmentCode as compartments
+use Rattle.code_model.specs.CompartmentCode as compartments
 use Rattle.linker.specs.Grouped.{groups_in}
 use Rattle.linker.proofs.entries.sizes.Given as goal
 

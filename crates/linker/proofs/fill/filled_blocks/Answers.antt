@@ -6,8 +6,8 @@ use Rattle.plan_model.specs.Regions.{no_region, region_at}
 use Rattle.plan_model.specs.Placement.{region_spot}
 use Rattle.link_model.specs.LinkedTables.{Filled}
 use Rattle.linker.specs.Filling.{filled_of}
-use Rattle.linker.proofs.Loops.{mapped_more}
 use Rattle.linker.proofs.fill.filled_blocks.Goals as goal
+use Rattle.plan_model.proofs.Numbers.{mapped_more}
 
 pub loop-number-preserved : goal.loop-number-preserved
 loop-number-preserved c =

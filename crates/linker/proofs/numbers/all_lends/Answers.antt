@@ -4,8 +4,8 @@ use Rattle.plan_model.specs.Lists.{numbers_below}
 use Rattle.plan_model.specs.Lending.{is_local}
 use Rattle.ir_model.specs.Resolved.{func_at}
 use Rattle.ir_program.specs.Seen.{program_of}
-use Rattle.linker.proofs.Loops.{mapped_more}
 use Rattle.linker.proofs.numbers.all_lends.Goals as goal
+use Rattle.plan_model.proofs.Numbers.{mapped_more}
 
 pub loop-func-preserved : goal.loop-func-preserved
 loop-func-preserved c = record {

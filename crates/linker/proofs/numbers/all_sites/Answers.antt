@@ -1,10 +1,10 @@
 use Rattle.std.proofs.Common.{◌<◌, List, All, sym, ◌∙◌, subst}
 use Rattle.std.proofs.lemmas.List.Elements.{All-push}
-use Rattle.lower.specs.declared.places.CallSite.{CallSite}
-use Rattle.lower.specs.Planned.{call_sites_among}
+use Rattle.code_model.specs.declared.places.CallSite.{CallSite}
+use Rattle.code_model.specs.Planned.{call_sites_among}
 use Rattle.linker.specs.Lent.{lent_sites}
-use Rattle.linker.proofs.Loops.{mapped_more}
 use Rattle.linker.proofs.numbers.all_sites.Goals as goal
+use Rattle.plan_model.proofs.Numbers.{mapped_more}
 
 pub loop-func-preserved : goal.loop-func-preserved
 loop-func-preserved c = record {

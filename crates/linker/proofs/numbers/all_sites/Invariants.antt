@@ -1,8 +1,8 @@
 use Rattle.std.proofs.Common.{◌≡◌, ◌<◌, List, map, All}
 use Rattle.linker.specs.Lent.{lent_sites}
 use Rattle.plan_model.specs.Lists.{numbers_below}
-use Rattle.lower.specs.Planned.{call_sites_among}
-use Rattle.lower.specs.declared.places.CallSite.{CallSite}
+use Rattle.code_model.specs.Planned.{call_sites_among}
+use Rattle.code_model.specs.declared.places.CallSite.{CallSite}
 use Rattle.linker.proofs.numbers.all_sites.Given as goal
 
 abbrev pub invariant-loop-func : goal.invariant-loop-func

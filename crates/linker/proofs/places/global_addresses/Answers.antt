@@ -1,7 +1,7 @@
 use Rattle.ir_program.specs.Seen.{program_of}
 use Rattle.plan_model.specs.Placement as placement
-use Rattle.linker.proofs.Loops.{mapped_more}
 use Rattle.linker.proofs.places.global_addresses.Goals as goal
+use Rattle.plan_model.proofs.Numbers.{mapped_more}
 
 pub loop-global-preserved : goal.loop-global-preserved
 loop-global-preserved c =

@@ -1,7 +1,7 @@
 use Rattle.std.proofs.Common.{◌<◌, length, get_or, ap, ◌∙◌, arith}
 use Rattle.std.proofs.lemmas.List.FromFn.{get_or-map-range_with_len, length-map-range_with_len}
 use Rattle.linker.specs.Making.{program_in, grouped, places_at}
-use Rattle.lower.specs.CompartmentCode.{entry_of}
+use Rattle.code_model.specs.CompartmentCode.{entry_of}
 use Rattle.linker.proofs.records.entry_at.Goals as goal
 
 pub returns : goal.returns

@@ -3,12 +3,14 @@ use Rattle.std.proofs.lemmas.Option.{IfSome_then}
 use Rattle.std.proofs.lemmas.List.{length-map}
 use Rattle.ir_model.specs.Resolved.{NumberedFunc, func_at}
 use Rattle.ir_program.specs.Seen.{program_of, known_of, routine_of}
-use Rattle.lower.specs.declared.places.CallSite.{CallSite}
-use Rattle.lower.specs.FrameShape.{local_starts}
-use Rattle.lower.specs.Places.{lends_among}
-use Rattle.lower.specs.Sizes.{site_offset}
+use Rattle.code_model.specs.declared.places.CallSite.{CallSite}
+use Rattle.code_model.specs.FrameShape.{local_starts}
+use Rattle.code_model.specs.Places.{lends_among}
+use Rattle.code_model.specs.Sizes.{site_offset}
 use Rattle.linker.specs.Recorded.{offset_with}
-use Rattle.linker.proofs.Bare.{lent_counted, same_site_offset, func_is}
+use Rattle.offsets.proofs.Bare.{same_site_offset}
+use Rattle.code_model.proofs.Lends.{lent_counted}
+use Rattle.linker.proofs.Bare.{func_is}
 use Rattle.linker.proofs.records.offset_of.Goals as goal
 
 pub returns : goal.returns

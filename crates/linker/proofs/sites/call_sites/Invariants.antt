@@ -1,7 +1,7 @@
 use Rattle.std.proofs.Common.{◌≡◌, ◌++◌, ◌<◌, drop, All}
 use Rattle.linker.specs.Lent.{lent_sites}
-use Rattle.lower.specs.Planned.{call_sites_among}
-use Rattle.lower.specs.declared.places.CallSite.{CallSite}
+use Rattle.code_model.specs.Planned.{call_sites_among}
+use Rattle.code_model.specs.declared.places.CallSite.{CallSite}
 use Rattle.linker.proofs.sites.call_sites.Given as goal
 
 -- what was made and what is left are the whole

@@ -1,8 +1,8 @@
 use Rattle.std.proofs.Common.{◌<◌, ℕ, position, All, IfSome, Option, sym, subst}
 use Rattle.std.proofs.lemmas.List.Elements.{All-push}
 use Rattle.plan_model.specs.Lending.{is_local}
-use Rattle.linker.proofs.Loops.{mapped_more}
 use Rattle.linker.proofs.sites.lend_numbers.Goals as goal
+use Rattle.plan_model.proofs.Numbers.{mapped_more}
 
 pub loop-local-preserved : goal.loop-local-preserved
 loop-local-preserved c = record {

@@ -1,7 +1,7 @@
 use Rattle.ir_program.specs.Seen.{program_of}
 use Rattle.link_model.specs.LinkedTables as records
-use Rattle.linker.proofs.Loops.{mapped_more}
 use Rattle.linker.proofs.slots.comp_records.Goals as goal
+use Rattle.plan_model.proofs.Numbers.{mapped_more}
 
 pub loop-compartment-preserved : goal.loop-compartment-preserved
 loop-compartment-preserved c =

@@ -9,9 +9,9 @@ use Rattle.plan_model.specs.Slots as slots
 use Rattle.plan_model.specs.Placement.{region_spot}
 use Rattle.linker.specs.declared.slots.SlotUse.{SlotUse}
 use Rattle.linker.specs.Uses.{use_of}
-use Rattle.linker.proofs.Loops.{kept_more, dropped_more}
 use Rattle.linker.proofs.slots.data_slots.Goals as goal
 use Rattle.linker.proofs.slots.data_slots.Goals.{then-is_user+in-Some+in_ok-push, else-is_user}
+use Rattle.plan_model.proofs.Numbers.{kept_more, dropped_more}
 
 pub loop-number-preserved : goal.loop-number-preserved
 loop-number-preserved c =
