@@ -8,5 +8,6 @@ mod Compartments
 mod Sites
 pub mod Filling
 pub mod Labels
-pub mod Bare
 pub mod Rows
+pub mod Members
+pub mod Lends

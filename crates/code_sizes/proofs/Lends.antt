@@ -1,9 +1,8 @@
--- How many locals of a function are lent.
+-- How many items of a list have a place or a number.
 use Rattle.std.proofs.Common.{◌≡◌, ℕ, Bool, List, [], ◌∷◌, cond, length, map, count_by, position, is_some, Option, Some, None, refl, ap, ◌∙◌, arith}
 use Rattle.std.specs.List.{list_any}
 use Rattle.std.proofs.lemmas.List.Sums.{sum_by-cons}
 use Rattle.std.proofs.lemmas.Iterator.Adapters.{position_from-zero}
-use Rattle.code_model.specs.Places.{lends_among}
 use Rattle.common_laws.proofs.Lists.{position_there as from_there}
 
 -- what passes has a place
@@ -18,17 +17,3 @@ some_counted f p h (k ∷ ks) =
     let c = ap {B = ℕ} (λ t. cond t 1 0) (h k) in
     let r = some_counted f p h ks in
     omega (arith, a, b, c, r)
-
--- each number of a local that has a place in the frame
-pub lends_counted : (starts : List ℕ) (ns : List (Option ℕ)) → length starts ≡ length ns → length (lends_among starts ns) ≡ count_by is_some ns
-lends_counted [] [] e = refl
-lends_counted [] (n ∷ ns) e = absurd (omega arith)
-lends_counted (s ∷ ss) [] e = absurd (omega arith)
-lends_counted (s ∷ ss) (None ∷ ns) e =
-    let r = lends_counted ss ns (omega arith) in
-    let a = sum_by-cons (λ (o : Option ℕ). cond (is_some o) 1 0) None ns in
-    omega (arith, r, a)
-lends_counted (s ∷ ss) (Some n ∷ ns) e =
-    let r = lends_counted ss ns (omega arith) in
-    let a = sum_by-cons (λ (o : Option ℕ). cond (is_some o) 1 0) (Some n) ns in
-    omega (arith, r, a)

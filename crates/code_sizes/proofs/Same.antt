@@ -20,8 +20,9 @@ use Rattle.code_model.specs.Sizes.{function_size}
 use Rattle.code_model.specs.CompartmentCode.{members_from, filled_size, total_size, size_of, lends_of, code_sizes}
 use Rattle.code_model.specs.Planned.{call_sites, code_groups}
 use Rattle.code_sizes.specs.Parts.{function_bytes, filled_total, code_with, region_words, block_count, record_bytes}
-use Rattle.code_sizes.proofs.Lends.{has_place, some_counted, lends_counted}
+use Rattle.code_sizes.proofs.Lends.{has_place, some_counted}
 use Rattle.code_model.proofs.Frames.{starts_length}
+use Rattle.code_model.proofs.Lends.{lends_counted}
 
 -- ---- code
 

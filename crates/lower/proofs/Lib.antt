@@ -1,7 +1,6 @@
 mod Putting
 mod Calling
 mod Sizing
-mod Sums
 mod Preparing
 mod Entering
 mod Blocks

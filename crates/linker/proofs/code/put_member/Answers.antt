@@ -11,7 +11,7 @@ use Rattle.code_model.specs.CompartmentCode.{members_from, before, size_of, entr
 use Rattle.code_model.specs.Emitted.{size_in}
 use Rattle.linker.specs.Grouped.{places_in}
 use Rattle.linker.specs.Making.{program_in, grouped, places_at, standing, first_members}
-use Rattle.linker.proofs.Members.{member_kept, member_dropped}
+use Rattle.code_model.proofs.Members.{member_kept, member_dropped}
 use Rattle.linker.proofs.Standing.{function_more}
 use Rattle.linker.proofs.code.put_member.Goals as goal
 

@@ -2,7 +2,8 @@ use Rattle.std.proofs.Common.{◌<◌, length, take, get_or, ap, arith}
 use Rattle.std.proofs.lemmas.Bool.{eq-eqb, ne_eqb}
 use Rattle.code_model.specs.CompartmentCode.{members_from}
 use Rattle.linker.specs.Bases.{filled_total}
-use Rattle.linker.proofs.Members.{member_kept, member_dropped, total-append}
+use Rattle.code_model.proofs.Members.{member_kept, member_dropped}
+use Rattle.linker.proofs.Members.{total-append}
 use Rattle.linker.proofs.entries.bytes_before.Goals as goal
 use Rattle.linker.proofs.entries.bytes_before.Goals.{then-compartments-other+in_ok-rounded_up+in_ok-total, else-compartments-other}
 

@@ -9,7 +9,9 @@ use Rattle.code_model.specs.Places.{lends_among}
 use Rattle.code_model.specs.Sizes.{function_size}
 use Rattle.code_model.specs.CompartmentCode as compartments
 use Rattle.linker.specs.Grouped.{groups_in}
-use Rattle.linker.proofs.Bare.{lent_counted, same_function_size, func_is}
+use Rattle.offsets.proofs.Bare.{same_function_size}
+use Rattle.code_model.proofs.Lends.{lent_counted}
+use Rattle.linker.proofs.Bare.{func_is}
 use Rattle.linker.proofs.entries.size_of.Goals as goal
 
 pub returns : goal.returns

@@ -8,7 +8,9 @@ use Rattle.code_model.specs.FrameShape.{local_starts}
 use Rattle.code_model.specs.Places.{lends_among}
 use Rattle.code_model.specs.Sizes.{site_offset}
 use Rattle.linker.specs.Recorded.{offset_with}
-use Rattle.linker.proofs.Bare.{lent_counted, same_site_offset, func_is}
+use Rattle.offsets.proofs.Bare.{same_site_offset}
+use Rattle.code_model.proofs.Lends.{lent_counted}
+use Rattle.linker.proofs.Bare.{func_is}
 use Rattle.linker.proofs.records.offset_of.Goals as goal
 
 pub returns : goal.returns
