@@ -22,12 +22,16 @@ returns-in_err-bytes g c out =
     let all = Answer (IsKnown g.F.Files.told (g.F.Files.held c.args.files.now) made.0) large r in
     let old = world g.F.Files c.args.files.now out in
     let new = world g.F.Files c.load_firmware.new.files out in
-    let x = err_from_is_err_and c.from_residual.result c.from_residual.ensures.1 in
-    (made.0, made.1, reads_of r firmware (inl refl) made.0 made.2, subst (Does all r old new) (sym x.1)
-    (load_failed all large r (firmware_origin firmware) old new
-    (record { held = c.load_firmware.ensures.same; write_faults = c.load_firmware.ensures.writes; out = refl })
-    (inl refl) (λ t n. inl (refl, n)) (λ e. compile_firmware_large firmware c.args.board.now c.args.policy c.args.image.now e) x.0
-    (subst (IsLoadFailure large old.told old.held (firmware_origin firmware) old.read_faults new.read_faults) (sym x.2) made.4)))
+    let x = err_from_is_err_and c.from_residual.result c.from_residual.ensures.1 in (
+      made.0,
+      made.1,
+      reads_of r firmware (inl refl) made.0 made.2,
+      subst (Does all r old new) (sym x.1)
+          (load_failed all large r (firmware_origin firmware) old new
+          (record { held = c.load_firmware.ensures.same; write_faults = c.load_firmware.ensures.writes; out = refl })
+          (inl refl) (λ t n. inl (refl, n)) (λ e. compile_firmware_large firmware c.args.board.now c.args.policy c.args.image.now e) x.0
+          (subst (IsLoadFailure large old.told old.held (firmware_origin firmware) old.read_faults new.read_faults) (sym x.2) made.4)),
+    )
 
 pub returns-in_err-text : goal.returns-in_err-text
 returns-in_err-text g c out =
@@ -50,14 +54,16 @@ returns-in_err-text g c out =
     let failed = subst (IsLoadFailure (large mid.held) told mid.held (file_origin board) mid.read_faults new.read_faults) (sym x.2) second.4 in
     let held_too = subst (λ h. IsLoadFailure (large h) told h (file_origin board) mid.read_faults new.read_faults x.0) c.load_firmware.ensures.same failed in
     let reads_too = subst (λ k. IsLoadFailure (large old.held) told old.held (file_origin board) k new.read_faults x.0) c.in_ok-bytes.ensures.reads held_too in
-    let known = known_before told old.held first.0 second.0 (firmware_origin firmware) bytes first.3 in
-    (made, calls_joined g.F.Files.called c.args.files.now c.load_firmware.new.files c.load.new.files first.0 second.0 first.1 second.1,
-    All-append (IsCallOf r) first.0 second.0 (reads_of r firmware (inl refl) first.0 first.2) (reads_of r board (inr (inl refl)) second.0 second.2),
-    subst (Does all r old new) (sym x.1)
-    (load_failed all (large old.held) r (file_origin board) old new
-    (record { held = c.load.ensures.same ∙ c.load_firmware.ensures.same; write_faults = c.load.ensures.writes ∙ c.load_firmware.ensures.writes; out = refl })
-    (inr (inl refl)) (λ t n. inr ((bytes, first.3.1 t), inl (refl, n)))
-    (λ e. compile_board_large firmware board policy image bytes known (large_behind told old.held first.0 second.0 (file_origin board) e)) x.0 reads_too))
+    let known = known_before told old.held first.0 second.0 (firmware_origin firmware) bytes first.3 in (
+      made,
+      calls_joined g.F.Files.called c.args.files.now c.load_firmware.new.files c.load.new.files first.0 second.0 first.1 second.1,
+      All-append (IsCallOf r) first.0 second.0 (reads_of r firmware (inl refl) first.0 first.2) (reads_of r board (inr (inl refl)) second.0 second.2),
+      subst (Does all r old new) (sym x.1)
+          (load_failed all (large old.held) r (file_origin board) old new
+          (record { held = c.load.ensures.same ∙ c.load_firmware.ensures.same; write_faults = c.load.ensures.writes ∙ c.load_firmware.ensures.writes; out = refl })
+          (inr (inl refl)) (λ t n. inr ((bytes, first.3.1 t), inl (refl, n)))
+          (λ e. compile_board_large firmware board policy image bytes known (large_behind told old.held first.0 second.0 (file_origin board) e)) x.0 reads_too),
+    )
 
 pub returns-in_err-compiled : goal.returns-in_err-compiled
 returns-in_err-compiled g c out =
@@ -80,15 +86,17 @@ returns-in_err-compiled g c out =
     let known_first = known_before of.told (of.held files) first.0 second.0 (firmware_origin firmware) bytes first.3 in
     let known = known_behind of.told (of.held files) first.0 second.0 (file_origin board) text (rw c.load_firmware.ensures.same at second.3) in
     let x = err_from_is_err_and c.from_residual-in_err-compiled.result c.from_residual-in_err-compiled.ensures.1 in
-    let here = rw (c.as_slice.ensures.value, c.as_slice-2.ensures.value) at c.in_err-compiled.ensures.err in
-    (made, calls_joined of.called files c.load_firmware.new.files c.load.new.files first.0 second.0 first.1 second.1,
-    All-append (IsCallOf r) first.0 second.0 (reads_of r firmware (inl refl) first.0 first.2) (reads_of r board (inr (inl refl)) second.0 second.2),
-    subst (Does all r old new) (sym x.1)
-    (refusal_did all r old new
-    (record { held = c.load.ensures.same ∙ c.load_firmware.ensures.same; write_faults = c.load.ensures.writes ∙ c.load_firmware.ensures.writes; out = refl })
-    (c.in_ok-text.ensures.reads ∙ c.in_ok-bytes.ensures.reads) x.0
-    (refusal_also some all (λ o a. compile_read firmware board policy image bytes text o known_first known a) x.0
-    (subst (IsRefusal some) (sym x.2) (here image)))))
+    let here = rw (c.as_slice.ensures.value, c.as_slice-2.ensures.value) at c.in_err-compiled.ensures.err in (
+      made,
+      calls_joined of.called files c.load_firmware.new.files c.load.new.files first.0 second.0 first.1 second.1,
+      All-append (IsCallOf r) first.0 second.0 (reads_of r firmware (inl refl) first.0 first.2) (reads_of r board (inr (inl refl)) second.0 second.2),
+      subst (Does all r old new) (sym x.1)
+          (refusal_did all r old new
+          (record { held = c.load.ensures.same ∙ c.load_firmware.ensures.same; write_faults = c.load.ensures.writes ∙ c.load_firmware.ensures.writes; out = refl })
+          (c.in_ok-text.ensures.reads ∙ c.in_ok-bytes.ensures.reads) x.0
+          (refusal_also some all (λ o a. compile_read firmware board policy image bytes text o known_first known a) x.0
+          (subst (IsRefusal some) (sym x.2) (here image)))),
+    )
 
 pub returns-in-Ok : goal.returns-in-Ok
 returns-in-Ok g c out =
@@ -111,21 +119,23 @@ returns-in-Ok g c out =
     let known_first = known_before of.told (of.held files) read last.0 (firmware_origin firmware) bytes
     (known_before of.told (of.held files) first.0 second.0 (firmware_origin firmware) bytes first.3) in
     let known = known_before of.told (of.held files) read last.0 (file_origin board) text
-    (known_behind of.told (of.held files) first.0 second.0 (file_origin board) text (rw c.load_firmware.ensures.same at second.3)) in
-    (made, calls_joined of.called files c.load.new.files c.write.new.files read last.0 (calls_joined of.called files c.load_firmware.new.files c.load.new.files first.0 second.0 first.1 second.1) last.1,
-    All-append (IsCallOf r) read last.0 (All-append (IsCallOf r) first.0 second.0 (reads_of r firmware (inl refl) first.0 first.2) (reads_of r board (inr (inl refl)) second.0 second.2)) (writes_of r image c.as_slice-3.result.now refl last.0 last.2),
-    did_end all r (world g.F.Files c.args.files.now out) (world g.F.Files c.write.new.files out)
-    (done 0 [] (Some (record { name = image; bytes = written }))) Completed
-    (compile_read firmware board policy image bytes text _ known_first known
-    (let here = rw (c.as_slice.ensures.value, c.as_slice-2.ensures.value) at c.in_ok-compiled.ensures.ok in here image))
-    refl refl
-    (record {
-      printed = λ t. sym (append-nil out.written);
-      held = rw (c.as_slice-3.ensures.value, c.load.ensures.same, c.load_firmware.ensures.same) at c.in-Ok.ensures.ok;
-      read_faults = c.write.ensures.reads ∙ (c.in_ok-text.ensures.reads ∙ c.in_ok-bytes.ensures.reads);
-      write_faults = c.in-Ok.ensures.writes ∙ (c.load.ensures.writes ∙ c.load_firmware.ensures.writes);
-      faults = refl;
-    }))
+    (known_behind of.told (of.held files) first.0 second.0 (file_origin board) text (rw c.load_firmware.ensures.same at second.3)) in (
+      made,
+      calls_joined of.called files c.load.new.files c.write.new.files read last.0 (calls_joined of.called files c.load_firmware.new.files c.load.new.files first.0 second.0 first.1 second.1) last.1,
+      All-append (IsCallOf r) read last.0 (All-append (IsCallOf r) first.0 second.0 (reads_of r firmware (inl refl) first.0 first.2) (reads_of r board (inr (inl refl)) second.0 second.2)) (writes_of r image c.as_slice-3.result.now refl last.0 last.2),
+      did_end all r (world g.F.Files c.args.files.now out) (world g.F.Files c.write.new.files out)
+          (done 0 [] (Some (record { name = image; bytes = written }))) Completed
+          (compile_read firmware board policy image bytes text _ known_first known
+          (let here = rw (c.as_slice.ensures.value, c.as_slice-2.ensures.value) at c.in_ok-compiled.ensures.ok in here image))
+          refl refl
+          (record {
+            printed = λ t. sym (append-nil out.written);
+            held = rw (c.as_slice-3.ensures.value, c.load.ensures.same, c.load_firmware.ensures.same) at c.in-Ok.ensures.ok;
+            read_faults = c.write.ensures.reads ∙ (c.in_ok-text.ensures.reads ∙ c.in_ok-bytes.ensures.reads);
+            write_faults = c.in-Ok.ensures.writes ∙ (c.load.ensures.writes ∙ c.load_firmware.ensures.writes);
+            faults = refl;
+          }),
+    )
 
 pub returns : goal.returns
 returns g c out =

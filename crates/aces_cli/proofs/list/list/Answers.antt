@@ -23,12 +23,16 @@ returns-in_err-bytes g c =
     let all = Answer (IsKnown g.F.Files.told (g.F.Files.held c.args.files.now) made.0) large r in
     let old = world g.F.Files c.args.files.now (sink g.O.Sink c.args.out.now) in
     let new = world g.F.Files c.load_firmware.new.files (sink g.O.Sink c.args.out.now) in
-    let x = err_from_is_err_and c.from_residual.result c.from_residual.ensures.1 in
-    (made.0, made.1, reads_of r firmware (inl refl) made.0 made.2, subst (Does all r old new) (sym x.1)
-    (load_failed all large r (firmware_origin firmware) old new
-    (record { held = c.load_firmware.ensures.same; write_faults = c.load_firmware.ensures.writes; out = refl })
-    (inl refl) (λ t n. inl (refl, n)) (λ e. list_firmware_large firmware c.args.board.now c.args.policy e) x.0
-    (subst (IsLoadFailure large old.told old.held (firmware_origin firmware) old.read_faults new.read_faults) (sym x.2) made.4)))
+    let x = err_from_is_err_and c.from_residual.result c.from_residual.ensures.1 in (
+      made.0,
+      made.1,
+      reads_of r firmware (inl refl) made.0 made.2,
+      subst (Does all r old new) (sym x.1)
+          (load_failed all large r (firmware_origin firmware) old new
+          (record { held = c.load_firmware.ensures.same; write_faults = c.load_firmware.ensures.writes; out = refl })
+          (inl refl) (λ t n. inl (refl, n)) (λ e. list_firmware_large firmware c.args.board.now c.args.policy e) x.0
+          (subst (IsLoadFailure large old.told old.held (firmware_origin firmware) old.read_faults new.read_faults) (sym x.2) made.4)),
+    )
 
 pub returns-in_err-text : goal.returns-in_err-text
 returns-in_err-text g c =
@@ -49,14 +53,16 @@ returns-in_err-text g c =
     let failed = subst (IsLoadFailure (large mid.held) told mid.held (file_origin board) mid.read_faults new.read_faults) (sym x.2) second.4 in
     let held_too = subst (λ h. IsLoadFailure (large h) told h (file_origin board) mid.read_faults new.read_faults x.0) c.load_firmware.ensures.same failed in
     let reads_too = subst (λ k. IsLoadFailure (large old.held) told old.held (file_origin board) k new.read_faults x.0) c.in_ok-bytes.ensures.reads held_too in
-    let known = known_before told old.held first.0 second.0 (firmware_origin firmware) bytes first.3 in
-    (made, calls_joined g.F.Files.called c.args.files.now c.load_firmware.new.files c.load.new.files first.0 second.0 first.1 second.1,
-    All-append (IsCallOf r) first.0 second.0 (reads_of r firmware (inl refl) first.0 first.2) (reads_of r board (inr (inl refl)) second.0 second.2),
-    subst (Does all r old new) (sym x.1)
-    (load_failed all (large old.held) r (file_origin board) old new
-    (record { held = c.load.ensures.same ∙ c.load_firmware.ensures.same; write_faults = c.load.ensures.writes ∙ c.load_firmware.ensures.writes; out = refl })
-    (inr (inl refl)) (λ t n. inr ((bytes, first.3.1 t), inl (refl, n)))
-    (λ e. list_board_large firmware board c.args.policy bytes known (large_behind told old.held first.0 second.0 (file_origin board) e)) x.0 reads_too))
+    let known = known_before told old.held first.0 second.0 (firmware_origin firmware) bytes first.3 in (
+      made,
+      calls_joined g.F.Files.called c.args.files.now c.load_firmware.new.files c.load.new.files first.0 second.0 first.1 second.1,
+      All-append (IsCallOf r) first.0 second.0 (reads_of r firmware (inl refl) first.0 first.2) (reads_of r board (inr (inl refl)) second.0 second.2),
+      subst (Does all r old new) (sym x.1)
+          (load_failed all (large old.held) r (file_origin board) old new
+          (record { held = c.load.ensures.same ∙ c.load_firmware.ensures.same; write_faults = c.load.ensures.writes ∙ c.load_firmware.ensures.writes; out = refl })
+          (inr (inl refl)) (λ t n. inr ((bytes, first.3.1 t), inl (refl, n)))
+          (λ e. list_board_large firmware board c.args.policy bytes known (large_behind told old.held first.0 second.0 (file_origin board) e)) x.0 reads_too),
+    )
 
 pub returns-in_err-lines : goal.returns-in_err-lines
 returns-in_err-lines g c =
@@ -78,15 +84,17 @@ returns-in_err-lines g c =
     let known_first = known_before of.told (of.held files) first.0 second.0 (firmware_origin firmware) bytes first.3 in
     let known = known_behind of.told (of.held files) first.0 second.0 (file_origin board) text (rw c.load_firmware.ensures.same at second.3) in
     let x = err_from_is_err_and c.from_residual-in_err-lines.result c.from_residual-in_err-lines.ensures.1 in
-    let here = rw (c.as_slice.ensures.value, c.as_slice-2.ensures.value) at c.in_err-lines.ensures.err in
-    (made, calls_joined of.called files c.load_firmware.new.files c.load.new.files first.0 second.0 first.1 second.1,
-    All-append (IsCallOf r) first.0 second.0 (reads_of r firmware (inl refl) first.0 first.2) (reads_of r board (inr (inl refl)) second.0 second.2),
-    subst (Does all r old new) (sym x.1)
-    (refusal_did all r old new
-    (record { held = c.load.ensures.same ∙ c.load_firmware.ensures.same; write_faults = c.load.ensures.writes ∙ c.load_firmware.ensures.writes; out = refl })
-    (c.in_ok-text.ensures.reads ∙ c.in_ok-bytes.ensures.reads) x.0
-    (refusal_also some all (λ o a. list_read firmware board policy bytes text o known_first known a) x.0
-    (subst (IsRefusal some) (sym x.2) here))))
+    let here = rw (c.as_slice.ensures.value, c.as_slice-2.ensures.value) at c.in_err-lines.ensures.err in (
+      made,
+      calls_joined of.called files c.load_firmware.new.files c.load.new.files first.0 second.0 first.1 second.1,
+      All-append (IsCallOf r) first.0 second.0 (reads_of r firmware (inl refl) first.0 first.2) (reads_of r board (inr (inl refl)) second.0 second.2),
+      subst (Does all r old new) (sym x.1)
+          (refusal_did all r old new
+          (record { held = c.load.ensures.same ∙ c.load_firmware.ensures.same; write_faults = c.load.ensures.writes ∙ c.load_firmware.ensures.writes; out = refl })
+          (c.in_ok-text.ensures.reads ∙ c.in_ok-bytes.ensures.reads) x.0
+          (refusal_also some all (λ o a. list_read firmware board policy bytes text o known_first known a) x.0
+          (subst (IsRefusal some) (sym x.2) here))),
+    )
 
 pub returns-in-Ok : goal.returns-in-Ok
 returns-in-Ok g c =
@@ -102,21 +110,23 @@ returns-in-Ok g c =
     let second = c.in_ok-text.ensures.calls in
     let made = first.0 ++ second.0 in
     let known_first = known_before of.told (of.held files) first.0 second.0 (firmware_origin firmware) bytes first.3 in
-    let known = known_behind of.told (of.held files) first.0 second.0 (file_origin board) text (rw c.load_firmware.ensures.same at second.3) in
-    (made, calls_joined of.called files c.load_firmware.new.files c.load.new.files first.0 second.0 first.1 second.1,
-    All-append (IsCallOf r) first.0 second.0 (reads_of r firmware (inl refl) first.0 first.2) (reads_of r board (inr (inl refl)) second.0 second.2),
-    did_end (Answer (IsKnown of.told (of.held files) made) (IsKnownLarge of.told (of.held files) made) r) r (world of files (sink g.O.Sink c.args.out.now)) (world of c.load.new.files (sink g.O.Sink c.put.new.self))
-    (done 0 c.in_ok-lines.lines.items None) Completed
-    (list_read firmware board policy bytes text _ known_first known
-    (rw (c.as_slice.ensures.value, c.as_slice-2.ensures.value) at c.in_ok-lines.ensures.ok))
-    refl refl
-    (record {
-      printed = λ t. rw c.as_slice-3.ensures.value at (c.in-Ok.ensures.bytes t);
-      held = c.load.ensures.same ∙ c.load_firmware.ensures.same;
-      read_faults = c.in_ok-text.ensures.reads ∙ c.in_ok-bytes.ensures.reads;
-      write_faults = c.load.ensures.writes ∙ c.load_firmware.ensures.writes;
-      faults = c.in-Ok.ensures.counts.only_failed;
-    }))
+    let known = known_behind of.told (of.held files) first.0 second.0 (file_origin board) text (rw c.load_firmware.ensures.same at second.3) in (
+      made,
+      calls_joined of.called files c.load_firmware.new.files c.load.new.files first.0 second.0 first.1 second.1,
+      All-append (IsCallOf r) first.0 second.0 (reads_of r firmware (inl refl) first.0 first.2) (reads_of r board (inr (inl refl)) second.0 second.2),
+      did_end (Answer (IsKnown of.told (of.held files) made) (IsKnownLarge of.told (of.held files) made) r) r (world of files (sink g.O.Sink c.args.out.now)) (world of c.load.new.files (sink g.O.Sink c.put.new.self))
+          (done 0 c.in_ok-lines.lines.items None) Completed
+          (list_read firmware board policy bytes text _ known_first known
+          (rw (c.as_slice.ensures.value, c.as_slice-2.ensures.value) at c.in_ok-lines.ensures.ok))
+          refl refl
+          (record {
+            printed = λ t. rw c.as_slice-3.ensures.value at (c.in-Ok.ensures.bytes t);
+            held = c.load.ensures.same ∙ c.load_firmware.ensures.same;
+            read_faults = c.in_ok-text.ensures.reads ∙ c.in_ok-bytes.ensures.reads;
+            write_faults = c.load.ensures.writes ∙ c.load_firmware.ensures.writes;
+            faults = c.in-Ok.ensures.counts.only_failed;
+          }),
+    )
 
 pub returns : goal.returns
 returns g c =
