@@ -1,7 +1,7 @@
+mod Called
 mod Checked
 mod Counts
 mod Elements
-mod Entering
 mod Filling
 mod Rising
 mod Standing

@@ -1,11 +1,11 @@
 use Rattle.std.proofs.Common.{◌≡◌, ◌+◌, ◌*◌, map, sym, ap, ◌∙◌}
 use Rattle.ir_model.specs.Plain.{struct_of}
 use Rattle.ir_model.specs.Layout.{known, shape}
-use Rattle.ir_model.specs.Resolved.{Value, At}
+use Rattle.ir_model.specs.Resolved.{At}
 use Rattle.ir_model.specs.Step.{act, with_pointer, register, number_in, Sets}
 use Rattle.words.specs.Arithmetic.{word}
 use Rattle.ir_program.specs.Storages.{pointee_of}
-use Rattle.ir_program.specs.Values.{instance_of, value_of}
+use Rattle.ir_program.specs.Values.{instance_of}
 use Rattle.ir_run.specs.Acts.{frame_of}
 use Rattle.ir_run.proofs.Elements.{offset_word}
 use Rattle.ir_run.proofs.act.element_at.Goals as goal

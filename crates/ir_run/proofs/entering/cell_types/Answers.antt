@@ -1,4 +1,4 @@
-use Rattle.std.proofs.Common.{◌≡◌, ◌++◌, ◌≤◌, ap, ◌∙◌, map, length, take, arith}
+use Rattle.std.proofs.Common.{◌++◌, ◌≤◌, ap, ◌∙◌, map, length, take, arith}
 use Rattle.std.proofs.lemmas.List.{length-map, take_all}
 use Rattle.ir_model.specs.Plain.{struct_of}
 use Rattle.ir_model.specs.Layout.{known, CellPlace}

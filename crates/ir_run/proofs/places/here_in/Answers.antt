@@ -1,4 +1,4 @@
-use Rattle.std.proofs.Common.{sym, ap, ◌∙◌, map, get_or, length, subst, arith}
+use Rattle.std.proofs.Common.{sym, ap, ◌∙◌, map}
 use Rattle.ir_model.specs.Resolved as plain
 use Rattle.ir_program.specs.Seen.{operation_of, exit_of}
 use Rattle.ir_run.proofs.Standing.{here_before, here_behind}

@@ -1,13 +1,11 @@
-use Rattle.std.proofs.Common.{◌≡◌, map, Result, Ok, Err, sym, subst}
+use Rattle.std.proofs.Common.{map, Ok, Err, subst}
 use Rattle.std.proofs.lemmas.Result.{on_err_weaker}
 use Rattle.std.specs.Result.{OnErr}
-use Rattle.ir_model.specs.Resolved as plain
 use Rattle.ir_model.specs.Step as step
 use Rattle.ir_program.specs.Seen.{program_of, known_of, operation_of}
 use Rattle.ir_run.specs.Acts.{frame_of, act_of, IsEntry, IsCall}
 use Rattle.ir_run.specs.States.{running_of, memory_of}
-use Rattle.ir_run.specs.Standing.{here_of}
-use Rattle.ir_run.proofs.Entering.{calls}
+use Rattle.ir_run.proofs.Called.{calls}
 use Rattle.ir_run.proofs.turn.turn.Goals as goal
 
 pub returns-in_err-asked-in-Does-clause-memory : goal.returns-in_err-asked-in-Does-clause-memory
