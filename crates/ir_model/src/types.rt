@@ -23,12 +23,15 @@ pub enum Ty {
     Callee(Signature),
 }
 
+/// Types one after another, seen as a list.
+pub type Tys = ListVec<Ty>;
+
 /// What a function takes and gives.
 #[cycle(types)]
 #[derive(Drop)]
 pub struct Signature {
     /// The parameters' types.
-    pub params: ListVec<Ty>,
+    pub params: Tys,
     /// The result's type, where there is one.
     pub result: Option<Box<Ty>>,
 }

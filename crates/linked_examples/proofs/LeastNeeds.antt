@@ -16,12 +16,9 @@ use Rattle.plan_model.specs.Lendable.{IsLendable, OthersWrite, compare_locals}
 use Rattle.plan_model.specs.Needs.{IsWritable, IsData, IsNeedOf, need_of, AreNeeds}
 use Rattle.linked_examples.specs.TwoCompartments.{program, needs, sets, AreItsNeeds}
 use Rattle.ir_laws.proofs.Objects.{same_id}
+use Rattle.plan_examples.proofs.OneItem.{number_of_periph, one_argument}
 
 -- ---- the least sets
-
-one_argument : (P : ℕ → Type 0) → P 0 → (k : ℕ) → k < 1 → P k
-one_argument P h zero l = h
-one_argument P h (suc k) l = absurd (omega arith)
 
 main_to_writer : (o : Object) → sets (Register 0 0) o ≡ true → sets (Register 1 0) o ≡ true
 main_to_writer (LocalObject zero zero) e = refl
@@ -127,9 +124,6 @@ writer_calls g zero (suc (suc (suc (suc zero)))) w = w
 writer_calls g _ _ w = w
 
 -- ---- the needs of each function
-
-number_of_periph : (q r : ℕ) → PeriphObject q ≡ PeriphObject r → q ≡ r
-number_of_periph q r e = cc
 
 main_need : IsNeedOf program sets 0 (need_of needs 0)
 main_need = record {

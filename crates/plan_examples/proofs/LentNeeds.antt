@@ -11,11 +11,9 @@ use Rattle.ir_laws.specs.Sets.{Register, ReadsAt, WritesAt, CallsAt, IsRead, IsW
 use Rattle.plan_model.specs.Calls.{IsCallee}
 use Rattle.plan_model.specs.Lendable.{IsLendable, OthersWrite, compare_locals}
 use Rattle.plan_model.specs.Needs.{IsWritable, IsData, IsNeedOf, need_of, AreNeeds}
-use Rattle.plan_examples.proofs.OneItem.{one_item, no_item}
+use Rattle.plan_examples.proofs.OneItem.{one_item, no_item, number_of_periph}
 use Rattle.plan_examples.specs.LentLocal.{program, sets, needs, HasNeeds}
 use Rattle.ir_laws.proofs.Objects.{same_id}
-
--- ---- objects by their numbers
 
 -- ---- what each function writes, reads and calls
 
@@ -70,9 +68,6 @@ writer_calls g zero (suc zero) w = w
 writer_calls g _ _ w = w
 
 -- ---- the needs of each function
-
-number_of_periph : (q r : ℕ) → PeriphObject q ≡ PeriphObject r → q ≡ r
-number_of_periph q r e = cc
 
 main_need : IsNeedOf program sets 0 (need_of (needs false) 0)
 main_need = record {
