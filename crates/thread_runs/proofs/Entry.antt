@@ -24,7 +24,8 @@ use Rattle.code_effects.specs.Entry.{Entered, entry_steps, no_lend}
 use Rattle.code_effects.proofs.Registers.{holds_nothing, holds_known, known_holds}
 use Rattle.thread_runs.specs.CodeLaws.{CodeLaws}
 use Rattle.thread_runs.specs.Owned.{owner, Owns, MemoryRules, loan_of, all_lent, Lendable}
-use Rattle.thread_runs.proofs.Thread.{call_owned, Kept, at_pc, fits_pc, fits_after, runs_here, room, inv_kept, stays_kept, stays_none, stays_on}
+use Rattle.code_effects.proofs.Kept.{Kept}
+use Rattle.thread_runs.proofs.Thread.{call_owned, at_pc, fits_pc, fits_after, runs_here, room, inv_kept, stays_kept, stays_none, stays_on}
 
 -- a frame o bytes behind RAM's base, of w words below the return address: the arguments are in its first words, the others are clear
 pub record Filled (o w link : ℕ) (arguments : List ℕ) (ram : List ℕ) : Type 0 where
