@@ -1,8 +1,9 @@
 //! The names of a firmware and of a function.
 
-ghost use Rattle.std.specs.Prelude.{◌≡◌, ◌≤◌, map, length, IfOk};
+ghost use Rattle.std.specs.Prelude.{◌≡◌, map, IfOk};
 ghost use Rattle.ir_model.specs.Plain.{firmware_of, func_of, funcs_of};
 ghost use Rattle.ir_model.specs.Resolve as resolving;
+ghost use Rattle.ir_model.specs.FewItems.{HasFewLocals};
 ghost use Rattle.ir_program.specs.Seen.{target_of};
 ghost use Rattle.ir_program.specs.Storages.{pointee_of};
 ghost use Rattle.ir_resolve.specs.Scopes.{scope_of, named_func, AreTables, AreFew};
@@ -59,7 +60,7 @@ pub(crate) fn named_scope<'a>(
 ///
 /// There is no memory for them.
 pub(crate) fn func_tables(alloc: Global, source: &Func) -> Result<FuncTables<'_>, AllocError>
-    requires { length source.now.locals ≤ 64 }
+    requires { HasFewLocals source.now }
     ensures tables { IfOk result AreTables }
     ensures same { IfOk result (λ t. t.source.now ≡ source.now) }
 {
