@@ -4,8 +4,8 @@ use Rattle.std.proofs.lemmas.Bool.{cases_lt}
 use Rattle.words.specs.Bytes.{read, write, write_all}
 use Rattle.words.proofs.Bytes.{length-write, length-write_all, byte_inside, byte_apart_all}
 use Rattle.device_model.specs.declared.image.Image.{Image}
-use Rattle.device_model.specs.Rules.{AreApart}
-use Rattle.armv7m.specs.Confinement.{Each}
+use Rattle.common_laws.specs.Lists.{Each}
+use Rattle.windows.specs.Ranges.{AreApart}
 use Rattle.armv7m.specs.Stack.{words_at}
 use Rattle.monitor.specs.declared.tables.InitRecord.{InitRecord}
 use Rattle.monitor.specs.declared.tables.Tables.{Tables}
@@ -14,11 +14,7 @@ use Rattle.monitor.specs.Promises.{RangesAreApart}
 use Rattle.monitor.specs.Starts.{with_words, with_all_words}
 use Rattle.access_law.specs.Simulation.{IsRange}
 use Rattle.access_law.proofs.Memory.{Off, read_off_all}
-
-length-words : (n o : ℕ) (mem : List ℕ) → length (words_at n o mem) ≡ n
-unfolding words_at
-length-words zero o mem = refl
-length-words (suc n) o mem = ap suc (length-words n (o + 4) mem)
+use Rattle.armv7m.proofs.StackWords.{length-words_at as length-words}
 
 -- reads of equal bytes
 read_moved : (w a b : ℕ) (xs ys : List ℕ) → ((k : ℕ) → k < w → get_or xs (a + k) 0 % 256 ≡ get_or ys (b + k) 0 % 256) → read w a xs ≡ read w b ys

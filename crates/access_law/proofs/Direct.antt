@@ -19,16 +19,16 @@ use Rattle.armv7m.specs.declared.state.FaultStatus.{FaultStatus}
 use Rattle.armv7m.specs.declared.state.ProtectionState.{ProtectionState}
 use Rattle.armv7m.specs.declared.state.CoreRegisters.{CoreRegisters}
 use Rattle.armv7m.specs.declared.fetching.Fetched.TheVariants.{Took}
-use Rattle.armv7m.specs.State.{State, Touched, Turn, PermissionTest, by_mpu, register}
+use Rattle.armv7m.specs.State.{State, Touched, Turn, by_mpu, register}
 use Rattle.armv7m.specs.Act.{Act, Changes, Loads, Stores, LoadsMany, StoresMany, GetsSpecial, SetsSpecial, Exchanges, Calls, Halts, Stops}
 use Rattle.armv7m.specs.AccessLaw.{free, IsAllowed, AreAllowed}
 use Rattle.armv7m.specs.Instructions.{act}
 use Rattle.armv7m.specs.Exceptions.{words_from, entered, supervisor_call, mem_manage}
-use Rattle.armv7m.specs.Code.{size, HoldsCode, MayFetch, Lies, Stands}
-use Rattle.armv7m.specs.Step.{turn, fetch}
+use Rattle.armv7m.specs.Code.{size, HoldsCode, MayFetch, Lies}
+use Rattle.armv7m.specs.Step.{turn}
 use Rattle.armv7m.specs.Asked.{asked_loads, asked_stores, IsFirstRefused, DoesAct, Stopped, Completed, Called, Faulted}
 use Rattle.armv7m.specs.ThreadStep.{ThreadStep, Ends as StepEnds, Goes as StepGoes, Calls as StepCalls, Faults as StepFaults}
-use Rattle.armv7m.proofs.Exec.{HasForm, encode_form, taken_of}
+use Rattle.armv7m.proofs.Exec.{HasForm, encode_form, taken_of, fetches as fetches_halves}
 use Rattle.monitor.specs.declared.tables.Tables.{Tables}
 use Rattle.monitor.specs.Placed.{Placed}
 use Rattle.monitor.specs.Block.{Block}
@@ -40,23 +40,6 @@ use Rattle.access_law.proofs.ThreadLaws.{ThreadLaws, done_at}
 use Rattle.access_law.proofs.Permits.{user, reads_stack, writes_stack, fetches, loads, stores}
 
 -- ---- what is fetched of an instruction that lies there
-
-fetches_halves : (j : PermissionTest) (i : Image) (s : State) (c : Code) (n : ℕ) → HoldsCode i s.core.pc c → MayFetch j s.protection s.core.pc c → HasForm c n → fetch j i s ≡ taken_of c
-unfolding fetch
-fetches_halves j i s (Half h) n c m f =
-    let p = c.is_in_flash in
-    let r = c.is_half in
-    let t = f.0 in
-    rw (m, p, r, t)
-fetches_halves j i s (Pair h k) n c m f =
-    let p = c.0.is_in_flash in
-    let r = c.0.is_half in
-    let q = c.1.is_in_flash in
-    let u = c.1.is_half in
-    let t = f.0 in
-    let a = m.0 in
-    let b = m.1 in
-    rw (a, b, p, r, q, u, t)
 
 taken_is : (c : Code) (n : ℕ) (x : Instr) → HasForm c n → decoded_code c 0 ≡ Some x → (h k m : ℕ) (y : Instr) → taken_of c ≡ Took h k m → decoded h k ≡ Some y → (x ≡ y) × (n ≡ m)
 taken_is (Half g) n x f d h k m y e q =

@@ -1,5 +1,5 @@
 -- Enter, in the words of a simulation: to the callee's first instruction, the call's frame waiting.
-use Rattle.std.proofs.Common.{◌≡◌, ℕ, zero, suc, ◌+◌, ◌-◌, ◌*◌, ◌/◌, ◌%◌, ◌^◌, ◌<◌, ◌≤◌, ◌⊎◌, inl, inr, Bool, true, false, ◌&&◌, List, length, drop, get_or, Option, Some, None, nat_eq, nat_lt, refl, sym, ap, ◌∙◌, subst, arith}
+use Rattle.std.proofs.Common.{◌≡◌, ℕ, zero, suc, ◌+◌, ◌-◌, ◌*◌, ◌/◌, ◌%◌, ◌^◌, ◌<◌, ◌≤◌, ◌⊎◌, inl, inr, true, false, ◌&&◌, List, length, drop, get_or, Option, Some, None, nat_eq, nat_lt, refl, sym, ap, ◌∙◌, subst, arith}
 use Rattle.std.proofs.lemmas.Bool.{false≢true}
 use Rattle.std.proofs.lemmas.Bool.Decides.{nat_tests}
 use Rattle.words.specs.declared.conditions.Flags.{Flags}
@@ -29,12 +29,12 @@ use Rattle.monitor.specs.Outcomes.{Resumes as OutcomeResumes, frame_in, stacked,
 use Rattle.monitor.specs.SvcOutcome.{word, callee_frame, new_top, enter_at, svc_outcome}
 use Rattle.monitor.specs.Setting.{Setting, setting_of, leads_to, has_target}
 use Rattle.monitor.specs.Threads.{svc, call_steps, KeepsOff, AtInstr, Enters}
-use Rattle.confine.proofs.EnterLaw.{both, enter_change, callee_words, entry_low, rounded_below, IsFound, found_in, each_drop, each_take}
+use Rattle.confine.proofs.EnterLaw.{both, enter_change, callee_words, entry_low, rounded_below, IsFound, found_in}
 use Rattle.confine.proofs.EntryWords.{entered_length, frame, frame_offset}
 use Rattle.access_law.specs.Accesses.{StubStands}
 use Rattle.access_law.proofs.ThreadLaws.{ThreadLaws}
 use Rattle.access_law.proofs.Permits.{fetches, top_inside}
-use Rattle.access_law.proofs.Memory.{Off, read_off, read_off_all, word_at}
+use Rattle.access_law.proofs.Memory.{Off, read_off, read_off_all}
 use Rattle.access_law.proofs.Frames.{moved}
 use Rattle.access_law.proofs.Outcomes.{enters_at, enters}
 use Rattle.access_law.proofs.Behind.{Behind, pc_is, sp_is, lr_is, low_at}
@@ -42,6 +42,8 @@ use Rattle.access_law.proofs.Room.{Pushed, open_frame, is_svc}
 use Rattle.access_law.proofs.Places.{ram_low, whole_top}
 use Rattle.access_law.proofs.Resumed.{resumed}
 use Rattle.access_law.proofs.CallRules.{at, psp, memory, held, room, words, up, lowest, highest, no_pad, reads_off, called}
+use Rattle.armv7m.proofs.StackWords.{get_or-words_at as word_at}
+use Rattle.common_laws.proofs.Lists.{each_drop, each_take}
 
 -- the target that the setting speaks of
 pub record HasTarget (t : Tables) (n ret entry c : ℕ) : Type 0 where

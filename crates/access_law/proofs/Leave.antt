@@ -31,13 +31,14 @@ use Rattle.confine.proofs.EntryWords.{entered_length}
 use Rattle.access_law.specs.Accesses.{StubStands}
 use Rattle.access_law.proofs.ThreadLaws.{ThreadLaws}
 use Rattle.access_law.proofs.Permits.{fetches_tables}
-use Rattle.access_law.proofs.Memory.{Off, read_off, words_set, word_at}
+use Rattle.access_law.proofs.Memory.{Off, read_off, words_set}
 use Rattle.access_law.proofs.Outcomes.{leaves, ends}
 use Rattle.access_law.proofs.Behind.{Behind, pc_is, sp_is, low_at}
 use Rattle.access_law.proofs.Room.{Pushed, open_frame, is_svc, svc_turn, stack_places}
 use Rattle.access_law.proofs.Places.{ram_low, base_aligned, whole, least}
 use Rattle.access_law.proofs.Resumed.{resumed, quiet_there}
 use Rattle.access_law.proofs.CallRules.{at, psp, memory, held, room, words, lowest, highest, no_pad, reads_off, called}
+use Rattle.armv7m.proofs.StackWords.{get_or-words_at as word_at}
 
 even_is : (n : ℕ) → n % 2 ≡ 0 → n / 2 * 2 ≡ n
 even_is n h = omega arith

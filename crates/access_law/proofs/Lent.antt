@@ -50,11 +50,9 @@ use Rattle.access_law.proofs.Outcomes.{IsStoreForm, IsLoadForm, IsWidth, IsCover
 use Rattle.access_law.proofs.Behind.{even_back, Behind, behind, pc_is, sp_is, lr_is, flags_are, on_psp, other_is, low_at, r12_is, holds_again}
 use Rattle.access_law.proofs.Room.{Pushed, stack_places, sp_low, from_base, below_top, back_up, open_frame, pushed, store_refused, load_refused, tells}
 use Rattle.access_law.proofs.Frames.{off_frame, moved, with_first}
+use Rattle.armv7m.proofs.Frames.{core_of}
 
 -- ---- parts of states
-
-abbrev core_of : (low high : List ℕ) (sp other : ℕ) (psp : Bool) (lr pc : ℕ) (f : Flags) → CoreRegisters
-core_of low high sp other psp lr pc f = record { low = low; high = high; sp = sp; other_sp = other; on_psp = psp; lr = lr; pc = pc; flags = f }
 
 join_core : (low high : List ℕ) (sp other : ℕ) (psp : Bool) (lr pc : ℕ) (f : Flags) (sp' other' : ℕ) (psp' : Bool) (lr' pc' : ℕ) (f' : Flags) →
     sp ≡ sp' → other ≡ other' → psp ≡ psp' → lr ≡ lr' → pc ≡ pc' → f ≡ f' → core_of low high sp other psp lr pc f ≡ core_of low high sp' other' psp' lr' pc' f'

@@ -1,5 +1,5 @@
 -- Words of RAM behind writes.
-use Rattle.std.proofs.Common.{◌≡◌, ◌≢◌, ℕ, zero, suc, ◌+◌, ◌*◌, ◌<◌, ◌≤◌, ◌⊎◌, inl, inr, List, [], ◌∷◌, length, get_or, set, refl, ap, ◌∙◌, arith}
+use Rattle.std.proofs.Common.{◌≡◌, ◌≢◌, ℕ, zero, suc, ◌+◌, ◌*◌, ◌<◌, ◌≤◌, ◌⊎◌, inl, inr, List, [], ◌∷◌, length, set, refl, ap, ◌∙◌, arith}
 use Rattle.words.specs.Bytes.{read, write, cut, write_all}
 use Rattle.words.proofs.Bytes.{read_same, read_below, read_above, read_below_all, read_above_all, write_apart}
 use Rattle.armv7m.specs.Stack.{words_at}
@@ -63,9 +63,3 @@ write_past w c v o [] mem h = refl
 write_past w c v o (x ∷ vs) mem h =
     write_past w c v (o + 4) vs (write 4 o x mem) (behind c w o (length vs) h)
     ∙ ap (λ (m : List ℕ). write_all 4 (o + 4) vs m) (write_apart w c v 4 o x mem (apart w c o 4 (narrower c w o (length vs) h)))
-
-pub word_at : (n o k : ℕ) (mem : List ℕ) → k < n → get_or (words_at n o mem) k 0 ≡ read 4 (o + 4 * k) mem
-unfolding words_at
-word_at zero o k mem lt = absurd (omega (arith, lt))
-word_at (suc n) o zero mem lt = let z : o + 4 * 0 ≡ o = omega arith in rw z refl
-word_at (suc n) o (suc k) mem lt = let z : o + 4 * suc k ≡ o + 4 + 4 * k = omega arith in rw z (word_at n (o + 4) k mem (omega (arith, lt)))

@@ -10,7 +10,8 @@ use Rattle.mem_bus.specs.Places.{Place, InFlash, place}
 use Rattle.armv7m.specs.declared.state.CoreRegisters.{CoreRegisters}
 use Rattle.armv7m.specs.Act.{Stores, Loads}
 use Rattle.armv7m.specs.Instructions.{transfer_immediate, store_from, load_into}
-use Rattle.armv7m.specs.Confinement.{Each, AnyOf}
+use Rattle.armv7m.specs.Confinement.{AnyOf}
+use Rattle.common_laws.specs.Lists.{Each}
 use Rattle.armv7m.specs.RunningCode.{IsStore, IsLoad}
 use Rattle.monitor.specs.declared.tables.TargetRecord.{TargetRecord}
 use Rattle.monitor.specs.declared.tables.Tables.{Tables}

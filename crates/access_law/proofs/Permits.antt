@@ -1,9 +1,8 @@
 -- What the regions of the invariant permit to the running compartment.
-use Rattle.std.proofs.Common.{◌≡◌, ℕ, ◌+◌, ◌-◌, ◌*◌, ◌/◌, ◌%◌, ◌^◌, ◌<◌, ◌≤◌, ◌⊎◌, inl, inr, ⊎_elim, Bool, true, false, not, ◌&&◌, ◌||◌, List, [], ◌∷◌, length, Option, Some, None, nat_eq, nat_lt, refl, sym, ap, ap₂, ◌∙◌, subst, arith, mul-div_cancel}
+use Rattle.std.proofs.Common.{◌≡◌, ℕ, ◌+◌, ◌-◌, ◌*◌, ◌/◌, ◌%◌, ◌^◌, ◌<◌, ◌≤◌, ◌⊎◌, inl, inr, ⊎_elim, Bool, true, false, not, ◌&&◌, ◌||◌, List, [], ◌∷◌, length, Option, Some, None, nat_eq, refl, sym, ap, ap₂, ◌∙◌, subst, arith, mul-div_cancel}
 use Rattle.std.specs.Int.{IsPowerOfTwo}
 use Rattle.std.specs.List.{list_any}
 use Rattle.std.proofs.lemmas.Bool.{false≢true}
-use Rattle.std.proofs.lemmas.Bool.Decides.{nat_tests}
 use Rattle.std.proofs.lemmas.Nat.Bits.{bit_at-zero}
 use Rattle.mpu_model.specs.declared.region.Region.{Region}
 use Rattle.mpu_model.specs.declared.region.Access.{Access}
@@ -16,7 +15,7 @@ use Rattle.mpu_model.specs.Configured.{NoneOf, IsLast, closed_from}
 use Rattle.device_model.specs.declared.image.Image.{Image}
 use Rattle.mem_bus.specs.Places.{choose, inside}
 use Rattle.armv7m.specs.State.{by_mpu, is_unprivileged}
-use Rattle.armv7m.specs.Confinement.{Each}
+use Rattle.common_laws.specs.Lists.{Each}
 use Rattle.armv7m.specs.RunningCode.{Context}
 use Rattle.monitor.specs.declared.tables.CompRecord.{CompRecord}
 use Rattle.monitor.specs.declared.tables.Tables.{Tables}
@@ -27,9 +26,13 @@ use Rattle.monitor.specs.Placed.{Placed, IsCompartment, IsSlot, InFlashOf}
 use Rattle.monitor.specs.Block.{Block}
 use Rattle.monitor.specs.Invariant.{IsTop, Invariant}
 use Rattle.monitor.specs.Setting.{has_code, allows_stores, may_store, may_load}
-use Rattle.confine.proofs.Reaches.{UnitLaws, each_at, divides, byte, stack_some}
+use Rattle.confine.proofs.Reaches.{UnitLaws, byte, stack_some}
 use Rattle.confine.proofs.Changes.{top_below}
 use Rattle.confine.proofs.EnterLaw.{both}
+use Rattle.common_laws.proofs.Tests.{either_true as either}
+use Rattle.mem_bus.proofs.Ranges.{inside_true as inside_is}
+use Rattle.common_laws.proofs.Lists.{each_at}
+use Rattle.monitor.proofs.Multiples.{divides}
 
 -- ---- which of a list of regions is the last that holds an address
 
@@ -89,20 +92,9 @@ some_slot (g ∷ gs) a e n = by (holds g a) refl (λ z. some_slot gs a z n.1) e
     by true h ih z = false≢true (sym n.0 ∙ h)
     by false h ih z = ih z
 
-either : (a b : Bool) → (a || b) ≡ true → (a ≡ true) ⊎ (b ≡ true)
-either true b h = inl refl
-either false b h = inr h
-
 negated : (b : Bool) → not b ≡ true → b ≡ false
 negated true e = absurd (false≢true e)
 negated false e = refl
-
-pub inside_is : (b z a : ℕ) → inside b z a ≡ true → (b ≤ a) × (a < b + z)
-inside_is b z a e =
-    let p = both (not (nat_lt a b)) (nat_lt a (b + z)) e in
-    let x : nat_lt a b ≡ false = negated (nat_lt a b) p.0 in
-    let y = p.1 in
-    (search (nat_tests, arith), search (nat_tests, arith))
 
 -- ---- the regions of placed tables
 

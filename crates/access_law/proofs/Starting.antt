@@ -7,7 +7,7 @@ use Rattle.words.specs.Runs.{run}
 use Rattle.device_model.specs.declared.image.Image.{Image}
 use Rattle.device_model.specs.Rules.{block_size}
 use Rattle.armv7m.specs.State.{State}
-use Rattle.armv7m.specs.Confinement.{Each}
+use Rattle.common_laws.specs.Lists.{Each}
 use Rattle.armv7m.specs.Run.{start}
 use Rattle.armv7m.specs.Shape.{StateFits}
 use Rattle.armv7m.specs.Step.{step, event}

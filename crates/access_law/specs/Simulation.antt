@@ -2,8 +2,9 @@
 -- The law that a simulation takes, of placed tables.
 use Rattle.std.specs.Prelude.{◌≡◌, ◌-◌, ◌%◌}
 use Rattle.device_model.specs.declared.image.Image.{Image}
-use Rattle.device_model.specs.Rules.{IsInside, AreApart, block_size}
-use Rattle.armv7m.specs.Confinement.{Each}
+use Rattle.device_model.specs.Rules.{block_size}
+use Rattle.common_laws.specs.Lists.{Each}
+use Rattle.windows.specs.Ranges.{IsInside, AreApart}
 use Rattle.monitor.specs.declared.tables.InitRecord.{InitRecord}
 use Rattle.monitor.specs.declared.tables.Tables.{Tables}
 use Rattle.monitor.specs.MonitorCode.{MonitorCode}

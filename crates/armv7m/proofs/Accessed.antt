@@ -22,7 +22,7 @@ use Rattle.armv7m.specs.Exceptions.{has_pad}
 use Rattle.armv7m.specs.Perform.{after_loads, after_stores, perform}
 use Rattle.armv7m.specs.Step.{fetch, fetched, running, turn}
 use Rattle.armv7m.specs.Accessed.{StopsAtNothing, NothingStops, SystemRegistersAreReached, FramesAreAligned, TransfersHaveWidths}
-use Rattle.armv7m.proofs.Special.{to_system}
+use Rattle.armv7m.proofs.ToSystem.{to_system}
 
 -- ---- where nothing lies
 

@@ -1,10 +1,8 @@
 -- The step of an instruction by what it asks for.
-use Rattle.std.proofs.Common.{◌≡◌, ℕ, ◌+◌, ◌%◌, ◌<◌, true, false, List, [], ◌∷◌, nat_eq, refl, ap, ◌∙◌, arith}
+use Rattle.std.proofs.Common.{◌≡◌, ℕ, ◌+◌, List, [], ◌∷◌, refl, ap, ◌∙◌}
 use Rattle.std.proofs.Math.ListN.{get_or, set}
-use Rattle.std.proofs.lemmas.Bool.Decides.{nat_tests}
 use Rattle.words.specs.Bytes.{read, write, cut}
 use Rattle.thumb_model.specs.declared.table.Instr.{Instr}
-use Rattle.mpu_model.specs.declared.region.Access.{Access}
 use Rattle.mpu_model.specs.declared.region.Access.TheVariants.{Read, Write}
 use Rattle.device_model.specs.declared.image.Image.{Image}
 use Rattle.mem_bus.specs.Places.{InRam, InFlash, InWindow, place}
@@ -15,7 +13,7 @@ use Rattle.armv7m.specs.declared.state.End.TheVariants.{Halt, InputEnd}
 use Rattle.armv7m.specs.State.{PermissionTest, is_unprivileged, with_register}
 use Rattle.armv7m.specs.Act.{Act, Changes, Loads, Stores, GetsSpecial, SetsSpecial, Halts}
 use Rattle.armv7m.specs.Instructions.{act}
-use Rattle.armv7m.specs.System.{in_system, read_special, write_special}
+use Rattle.armv7m.specs.System.{read_special, write_special}
 use Rattle.armv7m.specs.declared.accesses.Verdict.TheVariants.{ToBus}
 use Rattle.armv7m.specs.Tests.{verdict}
 use Rattle.armv7m.specs.Perform.{perform}
@@ -23,14 +21,6 @@ use Rattle.armv7m.specs.Step.{turn}
 use Rattle.armv7m.specs.Code.{size, Stands, live, Steps}
 use Rattle.armv7m.specs.Events.{StepsWith, input_event, output_event, ended}
 use Rattle.armv7m.proofs.Exec.{stepped, steps_from, steps_with_from}
-
--- an access outside the system's part of the memory map goes to the bus
-pub to_bus : (j : PermissionTest) (p : ProtectionState) (kind : Access) (w a : ℕ) → a % w ≡ 0 → a < 0xE0000000 → j p kind a ≡ true → verdict j p kind w a ≡ ToBus
-unfolding verdict
-to_bus j p kind w a aligned low may =
-    let e : nat_eq (a % w) 0 ≡ true = search (nat_tests, arith) in
-    let s : in_system a ≡ false = search (nat_tests, arith) in
-    rw (e, s, may)
 
 module _ (j : PermissionTest) (i : Image) (c : CoreRegisters) (p : ProtectionState) (t : FaultStatus) (ram : List ℕ) (queues : List (List ℕ)) (x : Instr) where
   pub turns : (a : Act) → Stands j i p c.pc x → act x (c.pc + size x) c ≡ a → turn j i (live c p t ram queues) ≡ perform j i a (live c p t ram queues)

@@ -28,7 +28,8 @@ use Rattle.armv7m.specs.Perform.{loaded, after_load, stored, after_store, word_t
 use Rattle.armv7m.specs.declared.fetching.Fetched.{Fetched}
 use Rattle.armv7m.specs.declared.fetching.Fetched.TheVariants.{Took, NotAllowed, NotMapped}
 use Rattle.armv7m.specs.Step.{fetch, performed, fetched, running, turn}
-use Rattle.armv7m.specs.Confinement.{Each, AnyOf, Misses}
+use Rattle.armv7m.specs.Confinement.{AnyOf, Misses}
+use Rattle.common_laws.specs.Lists.{Each}
 use Rattle.armv7m.proofs.Tested.{put_kept, push_kept, verdict_to_system}
 use Rattle.events.specs.declared.event.Event.{Event}
 use Rattle.armv7m.specs.AnyStep.{AnyStep}

@@ -77,7 +77,7 @@ holds_code i o (Pair h k) r f b =
       rw w (holds_half i (o + 2) k r (omega arith) f.1 (b.holds 2 (omega arith)) (rw y (b.holds 3 (omega arith)))),
     )
 
-bytes_first : (i : Image) (o : ℕ) (xs ys : List ℕ) → HoldsBytes i o (xs ++ ys) → HoldsBytes i o xs
+pub bytes_first : (i : Image) (o : ℕ) (xs ys : List ℕ) → HoldsBytes i o (xs ++ ys) → HoldsBytes i o xs
 bytes_first i o xs ys h =
     let e = length-append xs ys in
     let r = h.fits in

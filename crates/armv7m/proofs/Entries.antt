@@ -25,7 +25,8 @@ use Rattle.armv7m.specs.Code.{size, Stands, live, Steps}
 use Rattle.armv7m.specs.Stack.{Words, words_at, May, Frame}
 use Rattle.armv7m.proofs.Exec.{steps_from}
 use Rattle.armv7m.proofs.Acts.{turns}
-use Rattle.armv7m.proofs.Stack.{open_in_ram, stacked_are, pushed_are}
+use Rattle.armv7m.proofs.Stack.{open_in_ram, pushed_are}
+use Rattle.armv7m.proofs.StackWords.{stacked_are}
 
 -- a refused access
 pub refused : (j : PermissionTest) (p : ProtectionState) (kind : Access) (w a : ℕ) → a % w ≡ 0 → a < 0xE0000000 → j p kind a ≡ false → verdict j p kind w a ≡ Refused

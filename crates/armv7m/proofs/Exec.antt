@@ -91,7 +91,7 @@ abbrev pub taken_of : Code → Fetched
 taken_of (Half h) = Took h 0 2
 taken_of (Pair h k) = Took h k 4
 
-fetches : (j : PermissionTest) (i : Image) (s : State) (c : Code) (n : ℕ) → HoldsCode i s.core.pc c → MayFetch j s.protection s.core.pc c → HasForm c n → fetch j i s ≡ taken_of c
+pub fetches : (j : PermissionTest) (i : Image) (s : State) (c : Code) (n : ℕ) → HoldsCode i s.core.pc c → MayFetch j s.protection s.core.pc c → HasForm c n → fetch j i s ≡ taken_of c
 unfolding fetch
 fetches j i s (Half h) n c m f =
     let p = c.is_in_flash in let r = c.is_half in let t = f.0 in

@@ -33,8 +33,9 @@ use Rattle.armv7m.specs.Perform.{loaded, after_load, stored, after_store, get_wo
 use Rattle.armv7m.specs.declared.fetching.Fetched.{Fetched}
 use Rattle.armv7m.specs.declared.fetching.Fetched.TheVariants.{Took, NotAllowed, NotMapped}
 use Rattle.armv7m.specs.Step.{fetch, performed, fetched, running, turn}
-use Rattle.armv7m.specs.Confinement.{Each}
+use Rattle.common_laws.specs.Lists.{Each}
 use Rattle.armv7m.proofs.Tested.{open_tests}
+use Rattle.mem_bus.proofs.Ranges.{outside_behind as outside_below}
 
 -- an access that does not lead to flash
 abbrev pub NotFlash : Image → Touched → Type 0
@@ -69,9 +70,6 @@ choose_place false false p q o l out h e = h e
 
 system_high : (a : ℕ) → in_system a ≡ true → 0xE0000000 ≤ a
 system_high a h = grind (arith, nat_tests)
-
-outside_below : (base size a : ℕ) → base + size ≤ a → inside base size a ≡ false
-outside_below base size a h = grind (arith, nat_tests)
 
 -- flash ends below the system control space
 system_not_flash : (i : Image) (a o : ℕ) → ObeysRules i → in_system a ≡ true → place i a ≢ InFlash o

@@ -58,7 +58,7 @@ pub sp_back : (sp : ℕ) → sp % 4 ≡ 0 → 36 ≤ sp → sp < 2 ^ 32 → with
 sp_back sp aligned room fits = sp_back_by sp (nat_eq (sp % 8) 0) refl aligned room fits
 
 -- the words that an entry pushes, taken back, are the thread
-abbrev core_of : (low high : List ℕ) (sp other : ℕ) (psp : Bool) (lr pc : ℕ) (f : Flags) → CoreRegisters
+abbrev pub core_of : (low high : List ℕ) (sp other : ℕ) (psp : Bool) (lr pc : ℕ) (f : Flags) → CoreRegisters
 core_of low high sp other psp lr pc f = record { low = low; high = high; sp = sp; other_sp = other; on_psp = psp; lr = lr; pc = pc; flags = f }
 
 join_core : (low high : List ℕ) (other lr pc : ℕ) (psp : Bool) (s u : ℕ) (f g : Flags) → s ≡ u → f ≡ g →

@@ -10,7 +10,7 @@ pub mod InstructionEffects
 pub mod Transfers
 mod Special
 mod Entries
-mod Frames
+pub mod Frames
 mod Gathered
 mod Threads
 pub mod Constants
@@ -34,3 +34,5 @@ pub mod EntryFrame
 mod SameBytes
 mod Locality
 mod Accessed
+pub mod StackWords
+pub mod ToSystem

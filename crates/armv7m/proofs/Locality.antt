@@ -37,7 +37,8 @@ use Rattle.armv7m.specs.Tests.{verdict, verdicts, all_open}
 use Rattle.armv7m.specs.Exceptions.{stacked_words, push_words, words_from, frame_at, frame_of, mem_manage, supervisor_call, entered, is_frame_open, call, is_fault_enabled, fault_by, is_thread, leaves}
 use Rattle.armv7m.specs.Perform.{loaded, after_load, stored, after_store, word_from, word_to, get_words, put_words, or_usage, after_loads, after_stores, jumped, exchanged, perform}
 use Rattle.armv7m.specs.Step.{second_half, by_size, first_half, fetch, performed, fetched, running, turn}
-use Rattle.armv7m.specs.Confinement.{Each, AnyOf}
+use Rattle.armv7m.specs.Confinement.{AnyOf}
+use Rattle.common_laws.specs.Lists.{Each}
 use Rattle.armv7m.specs.Asked.{frame_loads, asked_loads}
 use Rattle.armv7m.specs.Locality.{Agree, AgreeOnReads, Hits, StepsReadWhatTheyList}
 use Rattle.armv7m.proofs.SameBytes.{put_lengths, put_keeps, put_hits, read_agrees, word_agrees}

@@ -4,14 +4,12 @@ use Rattle.std.proofs.lemmas.Bool.Decides.{nat_tests}
 use Rattle.words.specs.declared.conditions.Flags.{Flags}
 use Rattle.words.specs.Arithmetic.{word}
 use Rattle.thumb_model.specs.declared.table.Instr.TheVariants.{TransferImmediate, SpecialRegister}
-use Rattle.mpu_model.specs.declared.region.Access.{Access}
 use Rattle.mpu_model.specs.declared.region.Access.TheVariants.{Read, Write}
 use Rattle.device_model.specs.declared.image.Image.{Image}
-use Rattle.armv7m.specs.declared.state.ProtectionState.{ProtectionState}
 use Rattle.armv7m.specs.State.{PermissionTest, is_unprivileged, bit_of}
 use Rattle.armv7m.specs.Act.{Loads, Stores, GetsSpecial, SetsSpecial}
 use Rattle.armv7m.specs.Instructions.{act}
-use Rattle.armv7m.specs.System.{in_system, is_system_register, read_system, write_status}
+use Rattle.armv7m.specs.System.{read_system, write_status}
 use Rattle.mpu_model.specs.Registers.{write_register}
 use Rattle.armv7m.specs.declared.accesses.Verdict.TheVariants.{ToSystem}
 use Rattle.armv7m.specs.Tests.{verdict}
@@ -21,13 +19,6 @@ use Rattle.armv7m.specs.RunningCode.{Context, body, works}
 use Rattle.armv7m.proofs.Exec.{steps_from}
 use Rattle.armv7m.proofs.Acts.{turns}
 use Rattle.armv7m.proofs.InstructionEffects.{register_low, with_register_low}
-
--- an access of the system's registers
-pub to_system : (j : PermissionTest) (p : ProtectionState) (kind : Access) (a : ℕ) → a % 4 ≡ 0 → in_system a ≡ true → is_unprivileged p ≡ false → is_system_register a ≡ true → verdict j p kind 4 a ≡ ToSystem
-unfolding verdict
-to_system j p kind a aligned s u r =
-    let e : nat_eq (a % 4) 0 ≡ true = search (nat_tests, arith) in
-    rw (e, s, u, r)
 
 module _ (j : PermissionTest) (i : Image) (x : Context) (low : List ℕ) (sp lr pc : ℕ) (f : Flags) (ram : List ℕ) (queues : List (List ℕ)) where
   -- MRS d, PSP and MSR PSP, n where MSP is in use

@@ -1,15 +1,13 @@
 -- Words of RAM by their addresses: pushes, pops and frames.
-use Rattle.std.proofs.Common.{◌≡◌, ℕ, zero, suc, ◌+◌, ◌*◌, ◌<◌, ◌≤◌, true, false, List, [], ◌∷◌, Option, Some, get_or, refl, ap, ◌∙◌, arith, length}
+use Rattle.std.proofs.Common.{◌≡◌, ℕ, zero, suc, ◌+◌, ◌*◌, ◌<◌, ◌≤◌, true, false, List, [], ◌∷◌, Option, Some, refl, ◌∙◌, arith, length}
 use Rattle.std.proofs.lemmas.Bool.Decides.{nat_tests}
 use Rattle.words.specs.Arithmetic.{word}
-use Rattle.words.specs.Bytes.{read, write, write_all}
+use Rattle.words.specs.Bytes.{write, write_all}
 use Rattle.words.proofs.Bytes.{length-write, cut_small, read_same, read_below_all, read_above_all, read_below, read_above}
 use Rattle.thumb_model.specs.declared.table.Instr.{Instr}
 use Rattle.mpu_model.specs.declared.region.Access.{Access}
 use Rattle.mpu_model.specs.declared.region.Access.TheVariants.{Read, Write}
 use Rattle.device_model.specs.declared.image.Image.{Image}
-use Rattle.mem_bus.specs.Places.{InRam, place}
-use Rattle.mem_bus.proofs.Offsets.{in_ram}
 use Rattle.armv7m.specs.declared.state.CoreRegisters.{CoreRegisters}
 use Rattle.armv7m.specs.declared.state.ProtectionState.{ProtectionState}
 use Rattle.armv7m.specs.declared.state.FaultStatus.{FaultStatus}
@@ -20,20 +18,14 @@ use Rattle.armv7m.specs.System.{in_system}
 use Rattle.armv7m.specs.declared.accesses.Verdict.TheVariants.{ToBus}
 use Rattle.armv7m.specs.declared.several.Verdicts.TheVariants.{AllGood}
 use Rattle.armv7m.specs.Tests.{verdict, verdicts, all_open}
-use Rattle.armv7m.specs.Exceptions.{stacked_words, push_words}
+use Rattle.armv7m.specs.Exceptions.{push_words}
 use Rattle.armv7m.specs.Perform.{perform, get_words, put_words}
 use Rattle.armv7m.specs.Stack.{Words, words_at, cut_words, AreWords, May}
 use Rattle.armv7m.specs.Code.{size, Stands, live, Steps}
 use Rattle.armv7m.proofs.Exec.{steps_from}
-use Rattle.armv7m.proofs.Acts.{to_bus, turns}
-
-pub behind : (i : Image) (a o n : ℕ) → Words i a o (suc n) → Words i (word (a + 4)) (o + 4) n
-behind i a o n w =
-    let e : word (a + 4) ≡ a + 4 = omega (arith, w.is_at, w.fits, w.low) in
-    rw e (record { is_at = omega (arith, w.is_at); aligned = omega (arith, w.aligned); fits = omega (arith, w.fits); low = w.low })
-
-pub head_place : (i : Image) (a o n : ℕ) → Words i a o (suc n) → place i a ≡ InRam o
-head_place i a o n w = in_ram i a o w.is_at (omega (arith, w.fits))
+use Rattle.armv7m.proofs.Acts.{turns}
+use Rattle.armv7m.proofs.StackWords.{behind, head_place}
+use Rattle.armv7m.proofs.ToSystem.{to_bus}
 
 pub head_low : (i : Image) (a o n : ℕ) → Words i a o (suc n) → in_system a ≡ false
 head_low i a o n w =
@@ -73,14 +65,6 @@ open_in_ram j i p kind (suc n) a o w m =
     rw (e, f, g)
 
 -- ---- reads and writes
-
-pub stacked_are : (i : Image) (n a o : ℕ) (ram : List ℕ) → Words i a o n → stacked_words i a n ram ≡ words_at n o ram
-unfolding stacked_words words_at
-stacked_are i zero a o ram w = refl
-stacked_are i (suc n) a o ram w =
-    let e = head_place i a o n w in
-    let f = stacked_are i n (word (a + 4)) (o + 4) ram (behind i a o n w) in
-    rw (e, f)
 
 pub pushed_are : (i : Image) (vs : List ℕ) (a o : ℕ) (ram : List ℕ) → Words i a o (length vs) → push_words i a vs ram ≡ write_all 4 o vs ram
 unfolding push_words write_all
@@ -156,17 +140,6 @@ words_above_all (suc n) b o vs ram h =
     let e = read_above_all 4 b 4 o vs ram h in
     let f = words_above_all n (b + 4) o vs ram (omega arith) in
     rw (e, f)
-
-pub length-words_at : (n o : ℕ) (ram : List ℕ) → length (words_at n o ram) ≡ n
-unfolding words_at
-length-words_at zero o ram = refl
-length-words_at (suc n) o ram = ap suc (length-words_at n (o + 4) ram)
-
-pub get_or-words_at : (n o k : ℕ) (ram : List ℕ) → k < n → get_or (words_at n o ram) k 0 ≡ read 4 (o + 4 * k) ram
-unfolding words_at
-get_or-words_at zero o k ram h = absurd (omega arith)
-get_or-words_at (suc n) o zero ram h = let z : o + 4 * 0 ≡ o = omega arith in rw z
-get_or-words_at (suc n) o (suc k) ram h = let z : o + 4 * suc k ≡ o + 4 + 4 * k = omega arith in rw z (get_or-words_at n (o + 4) k ram (omega arith))
 
 -- ---- PUSH, POP, STMIA and LDMIA
 

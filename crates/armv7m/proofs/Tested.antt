@@ -4,7 +4,8 @@ use Rattle.std.proofs.lemmas.Bool.{false≢true, and_parts}
 use Rattle.std.proofs.lemmas.Bool.Decides.{nat_tests}
 use Rattle.words.specs.Arithmetic.{word}
 use Rattle.words.proofs.Bytes.{byte_apart}
-use Rattle.armv7m.specs.Confinement.{Each, Misses}
+use Rattle.armv7m.specs.Confinement.{Misses}
+use Rattle.common_laws.specs.Lists.{Each}
 use Rattle.mpu_model.specs.declared.region.Access.{Access}
 use Rattle.device_model.specs.declared.image.Image.{Image}
 use Rattle.mem_bus.specs.Places.{Place, InRam, InFlash, InWindow, Nowhere, place, is_memory, choose}

@@ -35,7 +35,8 @@ use Rattle.armv7m.specs.Perform.{loaded, after_load, stored, after_store, put_wo
 use Rattle.armv7m.specs.declared.fetching.Fetched.{Fetched}
 use Rattle.armv7m.specs.declared.fetching.Fetched.TheVariants.{Took, NotAllowed, NotMapped}
 use Rattle.armv7m.specs.Step.{second_half, by_size, first_half, fetch, performed, fetched, running, turn}
-use Rattle.armv7m.specs.Confinement.{Each, IsVectorRead}
+use Rattle.armv7m.specs.Confinement.{IsVectorRead}
+use Rattle.common_laws.specs.Lists.{Each}
 use Rattle.armv7m.proofs.Tested.{frame_aligned, put_kept, push_kept, open_tests, verdict_refused, verdict_to_bus, verdict_system, first_refused_word}
 use Rattle.armv7m.specs.ThreadStep.{IsReached, KeepsStacks, Plain, IsFetchFault, IsDataFault, ThreadStep, Ends, Goes, Calls, Faults, AccessesAreReached, UnprivilegedAccessesAreReached, VectorReadsAreAligned}
 use Rattle.device_model.specs.Rules.{ObeysRules}

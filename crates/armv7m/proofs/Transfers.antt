@@ -24,8 +24,10 @@ use Rattle.armv7m.specs.Stack.{Words, words_at, May, Room}
 use Rattle.armv7m.specs.Events.{StepsWith, input_event, output_event, ended}
 use Rattle.armv7m.specs.RunningCode.{Context, body, works, IsLoad, IsStore}
 use Rattle.armv7m.proofs.Exec.{steps_from}
-use Rattle.armv7m.proofs.Acts.{turns, changes, loads_ram, loads_flash, loads_window, loads_nothing, stores_ram, stores_window, to_bus}
-use Rattle.armv7m.proofs.Stack.{word_verdict, head_place, stores_many, loads_many}
+use Rattle.armv7m.proofs.Acts.{turns, changes, loads_ram, loads_flash, loads_window, loads_nothing, stores_ram, stores_window}
+use Rattle.armv7m.proofs.Stack.{word_verdict, stores_many, loads_many}
+use Rattle.armv7m.proofs.StackWords.{head_place}
+use Rattle.armv7m.proofs.ToSystem.{to_bus}
 
 -- ---- words below a stack pointer
 

@@ -24,7 +24,8 @@ use Rattle.armv7m.specs.Stack.{Words, words_at, May}
 use Rattle.armv7m.specs.Running.{EachLive}
 use Rattle.armv7m.specs.Turns.{WholeTurns}
 use Rattle.armv7m.proofs.Acts.{turns}
-use Rattle.armv7m.proofs.Stack.{open_in_ram, stacked_are, words_verdict, got_are, put_are}
+use Rattle.armv7m.proofs.Stack.{open_in_ram, words_verdict, got_are, put_are}
+use Rattle.armv7m.proofs.StackWords.{stacked_are}
 
 module _ (j : PermissionTest) (i : Image) (c : CoreRegisters) (p : ProtectionState) (t : FaultStatus) (ram : List ℕ) (queues : List (List ℕ)) (x : Instr) (h : Stands j i p c.pc x) where
   abbrev At : State

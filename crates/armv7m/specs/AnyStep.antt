@@ -6,7 +6,8 @@ use Rattle.device_model.specs.declared.image.Image.{Image}
 use Rattle.armv7m.specs.State.{State, Touched, Turn, PermissionTest}
 use Rattle.armv7m.specs.System.{in_system}
 use Rattle.armv7m.specs.Step.{turn}
-use Rattle.armv7m.specs.Confinement.{Each, AnyOf, Misses, HasEntered}
+use Rattle.armv7m.specs.Confinement.{AnyOf, Misses, HasEntered}
+use Rattle.common_laws.specs.Lists.{Each}
 
 -- a store to the private peripheral bus is listed
 abbrev pub ListsSystemStore : Turn → Type 0

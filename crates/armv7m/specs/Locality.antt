@@ -15,7 +15,8 @@ use Rattle.armv7m.specs.declared.fetching.Fetched.TheVariants.{Took}
 use Rattle.armv7m.specs.State.{State, Touched, Turn, PermissionTest}
 use Rattle.armv7m.specs.Instructions.{act}
 use Rattle.armv7m.specs.Step.{fetch, turn}
-use Rattle.armv7m.specs.Confinement.{Each, AnyOf, Misses}
+use Rattle.armv7m.specs.Confinement.{AnyOf, Misses}
+use Rattle.common_laws.specs.Lists.{Each}
 use Rattle.armv7m.specs.Asked.{asked_loads, IsFetched}
 
 -- two RAMs hold the same bytes at an access, where it leads to RAM

@@ -17,7 +17,8 @@ use Rattle.armv7m.specs.State.{State, Touched, Turn, by_mpu, is_unprivileged, en
 use Rattle.armv7m.specs.Instructions.{act}
 use Rattle.armv7m.specs.Exceptions.{words_from, mem_manage, supervisor_call, vector_offset, frame_at, entered, is_frame_open, is_fault_enabled, fetch_status, data_status}
 use Rattle.armv7m.specs.Step.{turn}
-use Rattle.armv7m.specs.Confinement.{Each, Misses, IsVectorRead}
+use Rattle.armv7m.specs.Confinement.{Misses, IsVectorRead}
+use Rattle.common_laws.specs.Lists.{Each}
 use Rattle.armv7m.specs.Asked.{RefusesFirst, IsFetched, IsTaken}
 
 -- an access of which each byte is permitted to unprivileged code, at a place that is mapped

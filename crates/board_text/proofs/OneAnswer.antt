@@ -1,5 +1,5 @@
 -- A text has one document, and a document has one answer.
-use Rattle.std.proofs.Common.{◌≡◌, ℕ, List, Option, Some, Result, Ok, Err, refl, sym, ap, ◌∙◌}
+use Rattle.std.proofs.Common.{◌≡◌, ℕ, List, Result, Ok, Err, refl, sym, ap, ◌∙◌}
 use Rattle.plan_model.specs.declared.plan.Board.{Board}
 use Rattle.toml.specs.Data.{Members}
 use Rattle.toml.specs.Parse.{parse_document}
@@ -7,9 +7,7 @@ use Rattle.board_text.specs.declared.fault.BoardFault.{BoardFault}
 use Rattle.board_text.specs.declared.fault.BoardFault.TheVariants.{NoMemory, NotToml, Missing, Kind, Range, Extra}
 use Rattle.board_text.specs.Laws.{BoardsAreOne, BoardsAreNotRefused}
 use Rattle.board_text.specs.Reading.{reading, IsDocument, IsRead, IsRefused}
-
-one_some : {X : Type 0} (o : Option X) (x y : X) → o ≡ Some x → o ≡ Some y → x ≡ y
-one_some o x y a b = cc
+use Rattle.common_laws.proofs.Options.{one_some}
 
 one_ok : {X E : Type 0} (r : Result X E) (x y : X) → r ≡ Ok x → r ≡ Ok y → x ≡ y
 one_ok r x y a b = cc

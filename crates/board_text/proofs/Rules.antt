@@ -1,9 +1,9 @@
 -- A board that is read obeys the rules of boards.
-use Rattle.std.proofs.Common.{◌≡◌, ℕ, zero, suc, ◌+◌, ◌%◌, ◌^◌, ◌≤◌, ◌<◌, ◌⊎◌, inl, inr, ℤ, pos, negsuc, Bool, true, false, cond, List, Option, Some, None, Result, Ok, Err, refl, ap, subst, ◌∙◌, arith, nat_eq}
-use Rattle.std.specs.List.{range_with_len, list_any}
+use Rattle.std.proofs.Common.{◌≡◌, ℕ, ◌%◌, ◌≤◌, ◌⊎◌, inl, inr, ℤ, pos, negsuc, Bool, true, false, cond, List, Option, Some, None, Result, Ok, Err, refl, ap, subst, ◌∙◌}
 use Rattle.std.proofs.lemmas.Bool.{and_parts, or_cases, leb-true, eqb-true}
 use mathlib.Core.Logic.{⊎_elim}
-use Rattle.device_model.specs.Rules.{IsPowerBetween}
+use Rattle.windows.proofs.Decisions.{decides_power}
+use Rattle.device_model.specs.Rules.{least_stack, greatest_stack, memory_limit, last_flash_base, first_ram_base, last_ram_base, least_ram, ram_unit}
 use Rattle.plan_model.specs.declared.plan.Board.{Board}
 use Rattle.plan_model.specs.declared.plan.Spot.{Spot}
 use Rattle.plan_model.specs.Boards.{IsBoard, IsMemorySize}
@@ -13,7 +13,7 @@ use Rattle.board_text.specs.declared.key.Key.TheVariants.{Flash, FlashBase, Flas
 use Rattle.board_text.specs.declared.document.KeyFault.{KeyFault}
 use Rattle.board_text.specs.declared.document.KeyFault.TheVariants.{Range}
 use Rattle.board_text.specs.declared.fields.Unit.{Unit as Protection}
-use Rattle.board_text.specs.Keys.{word_of, allows, is_base, is_size, is_stack}
+use Rattle.board_text.specs.Keys.{word_of, allows, is_base, is_size}
 use Rattle.board_text.specs.Fields.{and_then, of_kind, allowed, number_of, value_at, number_at, table_at, table_of, flash_of, regions_by, regions_of, closed_of, unit_in, unit_by, unit_of, board_of}
 use Rattle.board_text.specs.Extra.{extra_of}
 use Rattle.board_text.specs.Reading.{reading, reading_by}
@@ -42,30 +42,17 @@ number_at_is k ms n e = let (d, f, g) = passed (value_at k ms) (number_of k) n e
 
 -- ---- what the numbers of a key are
 
-base_is : (least most n : ℕ) → is_base least most n ≡ true → (least ≤ n) × (n ≤ most) × (n % 0x100000 ≡ 0)
+base_is : (least most n : ℕ) → is_base least most n ≡ true → (least ≤ n) × (n ≤ most) × (n % memory_limit ≡ 0)
 base_is least most n e =
     let (a, f) = and_parts _ _ e in
     let (b, c) = and_parts _ _ f in
-    (leb-true least n a, leb-true n most b, eqb-true (n % 0x100000) 0 c)
+    (leb-true least n a, leb-true n most b, eqb-true (n % memory_limit) 0 c)
 
 size_is : (n : ℕ) → is_size n ≡ true → IsMemorySize n
 size_is n e =
     let (a, f) = and_parts _ _ e in
     let (b, c) = and_parts _ _ f in
-    record { least = leb-true 1024 n a; most = leb-true n 0x100000 b; blocks = eqb-true (n % 32) 0 c }
-
-power_is : (a m n : ℕ) → list_any (λ k. nat_eq n (2 ^ k)) (range_with_len a m) ≡ true → (k : ℕ) × (a ≤ k) × (k < a + m) × (n ≡ 2 ^ k)
-power_is a zero n e = cc
-power_is a (suc m) n e = ⊎_elim here (later (power_is (a + 1) m n)) (or_cases _ _ e)
-  where
-    here : nat_eq n (2 ^ a) ≡ true → (k : ℕ) × (a ≤ k) × (k < a + suc m) × (n ≡ 2 ^ k)
-    here t = (a, omega arith, omega arith, eqb-true n (2 ^ a) t)
-
-    later : (list_any (λ k. nat_eq n (2 ^ k)) (range_with_len (a + 1) m) ≡ true → (k : ℕ) × (a + 1 ≤ k) × (k < a + 1 + m) × (n ≡ 2 ^ k)) → list_any (λ k. nat_eq n (2 ^ k)) (range_with_len (a + 1) m) ≡ true → (k : ℕ) × (a ≤ k) × (k < a + suc m) × (n ≡ 2 ^ k)
-    later ih t = let (k, l, h, p) = ih t in (k, omega arith, omega arith, p)
-
-stack_is : (n : ℕ) → is_stack n ≡ true → IsPowerBetween 9 16 n
-stack_is n e = let (k, l, h, p) = power_is 9 8 n e in (k, l, omega arith, p)
+    record { least = leb-true least_ram n a; most = leb-true n memory_limit b; blocks = eqb-true (n % ram_unit) 0 c }
 
 regions_is : (n : ℕ) → allows MpuRegions n ≡ true → (n ≡ 8) ⊎ (n ≡ 16)
 regions_is n e = ⊎_elim (λ t. inl (eqb-true n 8 t)) (λ t. inr (eqb-true n 16 t)) (or_cases _ _ e)
@@ -109,8 +96,8 @@ board_is ms b e =
     let (stack, f4, e4) = passed (number_at RamStack ram) _ b e3 in
     let (unit, f5, e5) = passed (unit_of ms) _ b e4 in
     let flash_parts = flash_is ms flash f0 in
-    let flash_place = base_is 0 0x1FE00000 flash.base flash_parts.0 in
-    let ram_place = base_is 0x20000000 0x3FF00000 ram_base (number_at_is RamBase ram ram_base f2) in
+    let flash_place = base_is 0 last_flash_base flash.base flash_parts.0 in
+    let ram_place = base_is first_ram_base last_ram_base ram_base (number_at_is RamBase ram ram_base f2) in
     let same : (let c : Board = record { flash_base = flash.base; flash_size = flash.size; ram_base = ram_base; ram_size = ram_size; stack = stack; regions = unit.regions; closed = unit.closed } in c) ≡ b = cc in
     subst IsBoard same (record {
       flash_aligned = flash_place.2;
@@ -120,7 +107,7 @@ board_is ms b e =
       ram_lowest = ram_place.0;
       ram_highest = ram_place.1;
       ram_size = size_is ram_size (number_at_is RamSize ram ram_size f3);
-      stack = stack_is stack (number_at_is RamStack ram stack f4);
+      stack = (decides_power least_stack greatest_stack stack).0 (number_at_is RamStack ram stack f4);
       regions = unit_by_is (get_member (word_of Mpu) ms) unit f5;
     })
 

@@ -1,6 +1,7 @@
 -- The tables and keys of a board's document: their names, and the numbers that a key may have.
-use Rattle.std.specs.Prelude.{ℕ, ◌%◌, ◌^◌, List, ◌++◌, Bool, false, ◌&&◌, ◌||◌, nat_eq, nat_le, codes}
-use Rattle.std.specs.List.{range_with_len, list_any}
+use Rattle.std.specs.Prelude.{ℕ, ◌%◌, List, ◌++◌, Bool, false, ◌&&◌, ◌||◌, nat_eq, nat_le, codes}
+use Rattle.windows.specs.Ranges.{is_power_between}
+use Rattle.device_model.specs.Rules.{least_stack, greatest_stack, memory_limit, last_flash_base, first_ram_base, last_ram_base, least_ram, ram_unit}
 use Rattle.board_text.specs.declared.key.Key.{Key}
 use Rattle.board_text.specs.declared.key.Key.TheVariants.{Flash, FlashBase, FlashSize, Ram, RamBase, RamSize, RamStack, Mpu, MpuRegions, MpuReads}
 
@@ -40,23 +41,19 @@ path_of MpuReads = codes "mpu.reads"
 
 -- a multiple of a MiB in a range
 abbrev pub is_base : (least most number : ℕ) → Bool
-is_base least most n = nat_le least n && (nat_le n most && nat_eq (n % 0x100000) 0)
+is_base least most n = nat_le least n && (nat_le n most && nat_eq (n % memory_limit) 0)
 
 -- a multiple of 32 from 1,024 to 1,048,576
 abbrev pub is_size : (number : ℕ) → Bool
-is_size n = nat_le 1024 n && (nat_le n 0x100000 && nat_eq (n % 32) 0)
-
--- a power of two from 512 to 65,536
-abbrev pub is_stack : (number : ℕ) → Bool
-is_stack n = list_any (λ k. nat_eq n (2 ^ k)) (range_with_len 9 8)
+is_size n = nat_le least_ram n && (nat_le n memory_limit && nat_eq (n % ram_unit) 0)
 
 -- the numbers that a key may have
 abbrev pub allows : Key → (number : ℕ) → Bool
-allows FlashBase n = is_base 0 0x1FE00000 n
+allows FlashBase n = is_base 0 last_flash_base n
 allows FlashSize n = is_size n
-allows RamBase n = is_base 0x20000000 0x3FF00000 n
+allows RamBase n = is_base first_ram_base last_ram_base n
 allows RamSize n = is_size n
-allows RamStack n = is_stack n
+allows RamStack n = is_power_between least_stack greatest_stack n
 allows MpuRegions n = nat_eq n 8 || nat_eq n 16
 allows Flash n = false
 allows Ram n = false

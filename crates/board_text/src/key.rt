@@ -3,6 +3,10 @@
 ghost use Rattle.std.specs.Prelude.{◌≡◌};
 ghost use Rattle.board_text.specs.Keys as keys;
 
+use device_model::limits::{
+    FIRST_RAM_BASE, LAST_FLASH_BASE, LAST_RAM_BASE, LEAST_RAM, MEMORY_LIMIT, RAM_UNIT,
+    is_stack_size,
+};
 use std::fmt;
 
 /// A table of a board's document, or a key of one of its tables.
@@ -70,17 +74,14 @@ impl Key {
         ensures { result ≡ keys.allows self number }
     {
         match self {
-            Key::FlashBase => number <= 0x1FE0_0000 && number % 0x10_0000 == 0,
+            Key::FlashBase => number <= LAST_FLASH_BASE && number % MEMORY_LIMIT == 0,
             Key::RamBase => {
-                number >= 0x2000_0000 && number <= 0x3FF0_0000 && number % 0x10_0000 == 0
+                number >= FIRST_RAM_BASE && number <= LAST_RAM_BASE && number % MEMORY_LIMIT == 0
             }
             Key::FlashSize | Key::RamSize => {
-                number >= 1024 && number <= 0x10_0000 && number % 32 == 0
+                number >= LEAST_RAM && number <= MEMORY_LIMIT && number % RAM_UNIT == 0
             }
-            Key::RamStack => matches!(
-                number,
-                512 | 1024 | 2048 | 4096 | 8192 | 16384 | 32768 | 65536
-            ),
+            Key::RamStack => is_stack_size(number),
             Key::MpuRegions => number == 8 || number == 16,
             Key::Flash | Key::Ram | Key::Mpu | Key::MpuReads => false,
         }

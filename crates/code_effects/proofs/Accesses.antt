@@ -18,11 +18,11 @@ use Rattle.armv7m.proofs.Exec.{stay, next_step, next_event}
 use Rattle.armv7m.proofs.Transfers.{ldr_sp, str_sp, load_ram, load_flash, load_window, load_nothing, store_ram, store_window, loads_words, loads_halves, loads_bytes, stores_words, stores_halves, stores_bytes}
 use Rattle.ir_model.specs.Types.{PlainType, U8, U16, U32, Pointer, Array, Named, Callee, width_of}
 use Rattle.ir_model.specs.Resolved.{NumberedFunc, Load, Store}
-use Rattle.lower.specs.declared.places.Places.{Places}
-use Rattle.lower.specs.Words.{load_slot, save}
-use Rattle.lower.specs.Addresses.{load_at, store_at, load_code, store_code}
-use Rattle.lower.specs.Templates.{inst_items}
-use Rattle.lower.specs.Sizes.{inst_size}
+use Rattle.code_model.specs.declared.places.Places.{Places}
+use Rattle.code_model.specs.Words.{load_slot, save}
+use Rattle.code_model.specs.Addresses.{load_at, store_at, load_code, store_code}
+use Rattle.code_model.specs.Templates.{inst_items}
+use Rattle.code_model.specs.Sizes.{inst_size}
 use Rattle.code_effects.specs.Points.{Point, known, Leads, Finishes}
 use Rattle.code_effects.specs.Frames.{HasFrame, slot, HasInst}
 use Rattle.code_effects.specs.Accesses.{Reach, LoadEffects, StoreEffects, AccessesHaveWidths}

@@ -13,13 +13,13 @@ use Rattle.armv7m.proofs.Transfers.{ldr_sp, str_sp, add_d_sp}
 use Rattle.armv7m.proofs.Constants.{word_into, adds}
 use Rattle.ir_model.specs.Layout.{Shape}
 use Rattle.ir_model.specs.Resolved.{NumberedFunc, Named, TheGlobal, ThePeriph, TheLocal, Addr, FAddr, Elem, Field}
-use Rattle.lower.specs.declared.places.Places.{Places}
-use Rattle.lower.specs.FrameShape.{local_size, starts_from, local_starts}
-use Rattle.lower.specs.Places.{global_address, window_address, entry_address}
-use Rattle.lower.specs.Words.{save, slot_address}
-use Rattle.lower.specs.Addresses.{scale_of}
-use Rattle.lower.specs.Templates.{inst_items}
-use Rattle.lower.specs.Sizes.{inst_size}
+use Rattle.code_model.specs.declared.places.Places.{Places}
+use Rattle.code_model.specs.FrameShape.{local_size, starts_from, local_starts}
+use Rattle.code_model.specs.Places.{global_address, window_address, entry_address}
+use Rattle.code_model.specs.Words.{save, slot_address}
+use Rattle.code_model.specs.Addresses.{scale_of}
+use Rattle.code_model.specs.Templates.{inst_items}
+use Rattle.code_model.specs.Sizes.{inst_size}
 use Rattle.code_effects.specs.Points.{Point, Leads}
 use Rattle.code_effects.specs.Frames.{HasFrame, slot, HasInst, behind}
 use Rattle.code_effects.specs.Addresses.{named_address, CanName, addr_steps, AddressEffects, OffsetsAgree}

@@ -10,7 +10,7 @@ use Rattle.armv7m.specs.Stack.{Room}
 use Rattle.armv7m.specs.RunningCode.{Context, works}
 use Rattle.armv7m.proofs.Exec.{stay, next_step}
 use Rattle.armv7m.proofs.Transfers.{ldr_sp}
-use Rattle.lower.specs.Calls.{args_code}
+use Rattle.code_model.specs.Calls.{args_code}
 use Rattle.code_effects.specs.Points.{Point, Holds, known}
 use Rattle.code_effects.specs.Frames.{slot}
 use Rattle.code_effects.specs.Calls.{AllBelow, slots}

@@ -12,8 +12,8 @@ use Rattle.armv7m.proofs.Exec.{stay, next_step}
 use Rattle.armv7m.proofs.InstructionEffects.{cmp_immediate, b_taken, b_not_taken, b_wide}
 use Rattle.armv7m.proofs.Transfers.{ldr_sp}
 use Rattle.ir_model.specs.Resolved.{NumberedFunc, Jump, Branch}
-use Rattle.lower.specs.declared.places.Places.{Places}
-use Rattle.lower.specs.Templates.{term_items}
+use Rattle.code_model.specs.declared.places.Places.{Places}
+use Rattle.code_model.specs.Templates.{term_items}
 use Rattle.code_effects.specs.Points.{Point, Leads}
 use Rattle.code_effects.specs.Frames.{HasFrame, slot, HasTerm}
 use Rattle.code_effects.specs.Branches.{at_block, BranchEffects}

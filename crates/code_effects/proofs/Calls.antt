@@ -17,12 +17,12 @@ use Rattle.armv7m.proofs.InstructionEffects.{bl, mov_to_r12}
 use Rattle.armv7m.proofs.Transfers.{ldr_sp, blx_r12}
 use Rattle.armv7m.proofs.Constants.{word_into_r12}
 use Rattle.ir_model.specs.Resolved.{NumberedFunc, Call, ICall}
-use Rattle.lower.specs.declared.places.Places.{Places}
-use Rattle.lower.specs.Places.{entry_address}
-use Rattle.lower.specs.Words.{save_code, supervisor_call, plain}
-use Rattle.lower.specs.Calls.{args_code, call_code, cross_code, icall_code, icross_code}
-use Rattle.lower.specs.Templates.{inst_items}
-use Rattle.lower.specs.Sizes.{save_size, call_size, icall_size, inst_size}
+use Rattle.code_model.specs.declared.places.Places.{Places}
+use Rattle.code_model.specs.Places.{entry_address}
+use Rattle.code_model.specs.Words.{save_code, supervisor_call, plain}
+use Rattle.code_model.specs.Calls.{args_code, call_code, cross_code, icall_code, icross_code}
+use Rattle.code_model.specs.Templates.{inst_items}
+use Rattle.code_model.specs.Sizes.{save_size, call_size, icall_size, inst_size}
 use Rattle.code_effects.specs.Points.{Point, known, with_r12, Leads}
 use Rattle.code_effects.specs.Items.{ItemsAt}
 use Rattle.code_effects.specs.Frames.{HasFrame, slot, HasInst}

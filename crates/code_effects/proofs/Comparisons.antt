@@ -16,10 +16,10 @@ use Rattle.ir_model.specs.declared.firmware.CmpOp.{CmpOp}
 use Rattle.ir_model.specs.declared.firmware.CmpOp.TheVariants.{Eq, Ne, Ult, Ule, Slt, Sle}
 use Rattle.ir_model.specs.Resolved.{NumberedFunc}
 use Rattle.ir_model.specs.Step.{compared, bit}
-use Rattle.lower.specs.declared.places.Places.{Places}
-use Rattle.lower.specs.Comparisons.{condition, cmp_code}
-use Rattle.lower.specs.Templates.{inst_items}
-use Rattle.lower.specs.Sizes.{inst_size}
+use Rattle.code_model.specs.declared.places.Places.{Places}
+use Rattle.code_model.specs.Comparisons.{condition, cmp_code}
+use Rattle.code_model.specs.Templates.{inst_items}
+use Rattle.code_model.specs.Sizes.{inst_size}
 use Rattle.code_effects.specs.Points.{Point, Leads}
 use Rattle.code_effects.specs.Frames.{HasFrame, slot}
 use Rattle.code_effects.specs.Comparisons.{cmp_steps, ComparisonEffects}

@@ -1,26 +1,27 @@
 -- The code of a compartment.
-use Rattle.std.proofs.Common.{◌≡◌, ◌≢◌, ℕ, zero, suc, ◌+◌, ◌%◌, ◌<◌, List, [], ◌∷◌, ◌++◌, length, take, get_or, flat_map, Bool, true, false, if◌then◌else◌, nat_eq, Option, Some, None, refl, sym, ap, ◌∙◌, subst, arith, length-append}
+use Rattle.std.proofs.Common.{◌≡◌, ℕ, zero, suc, ◌+◌, ◌%◌, ◌<◌, List, [], ◌∷◌, ◌++◌, length, take, get_or, flat_map, Bool, true, false, if◌then◌else◌, nat_eq, Option, Some, None, refl, sym, ap, ◌∙◌, subst, arith, length-append}
 use Rattle.std.proofs.Math.ListN.{get_or-append}
-use Rattle.std.proofs.lemmas.Bool.{eqb-true, eqb-false}
 use Rattle.std.proofs.lemmas.Bool.Decides.{nat_tests}
 use Rattle.std.proofs.lemmas.List.{get_or-append-add}
 use Rattle.std.proofs.lemmas.List.Concat.{flat_map-append}
-use Rattle.thumb_model.specs.Table.{encode}
 use Rattle.thumb_asm.specs.declared.item.Item.{Item}
 use Rattle.thumb_asm.specs.Assembly.{total, put_at}
 use Rattle.device_model.specs.declared.image.Image.{Image}
 use Rattle.armv7m.specs.declared.state.ProtectionState.{ProtectionState}
 use Rattle.armv7m.specs.State.{PermissionTest}
-use Rattle.ir_model.specs.Resolved.{Program, NumberedBlock, NumberedFunc, func_at}
-use Rattle.lower.specs.declared.places.Places.{Places}
-use Rattle.lower.specs.Sizes.{block_size, entry_size, place_offset}
-use Rattle.lower.specs.FunctionCode.{lent, function_items, blocks_labels, function_labels}
-use Rattle.lower.specs.CompartmentCode.{CodeGroups, CodePlaces, members_from, filled_size, filling, compartment_of, members, before, sites_of, size_of, total_size, label_count, entry_of, places_of, filled_items}
-use Rattle.lower.specs.Laws.{SizesHold, SizesAreEven}
+use Rattle.ir_model.specs.Resolved.{Program, func_at}
+use Rattle.code_model.specs.declared.places.Places.{Places}
+use Rattle.code_model.specs.Sizes.{entry_size, place_offset}
+use Rattle.code_model.specs.FunctionCode.{lent, function_items, function_labels}
+use Rattle.code_model.specs.CompartmentCode.{CodeGroups, CodePlaces, members_from, filled_size, filling, compartment_of, members, before, sites_of, size_of, total_size, label_count, entry_of, places_of, filled_items}
+use Rattle.code_model.specs.Laws.{SizesHold, SizesAreEven}
 use Rattle.code_effects.specs.Items.{ItemsAt}
 use Rattle.code_effects.specs.Compartments.{CompartmentsStand}
-use Rattle.code_effects.proofs.Items.{total-append, parts_at, items_at}
+use Rattle.code_effects.proofs.Items.{parts_at, items_at}
 use Rattle.code_effects.proofs.Functions.{functions_stand}
+use Rattle.thumb_asm.proofs.Items.{total-append}
+use Rattle.code_model.proofs.Filling.{filling_by}
+use Rattle.code_model.proofs.Labels.{labels_length}
 
 -- ---- a function among those of its compartment
 
@@ -41,15 +42,6 @@ split_at n f zero c (d ∷ ds) l e h = let t : nat_eq d c ≡ true = search (nat
 split_at n f (suc k) c (d ∷ ds) l e h = one_more (nat_eq d c) n f (members_from (suc n) ds c) (members_from (suc n) (take k ds) c) (split_at (suc n) f k c ds (omega arith) (omega arith) h)
 
 -- ---- sizes
-
-filling_by : (n : ℕ) (b : Bool) → nat_eq (n % 4) 0 ≡ b → n % 2 ≡ 0 → n + total (filling n) ≡ filled_size n
-unfolding encode
-filling_by n true h e = let z : n % 4 ≡ 0 = eqb-true (n % 4) 0 h in rw h (omega arith)
-filling_by n false h e = let z : n % 4 ≢ 0 = eqb-false (n % 4) 0 h in rw h (omega arith)
-
-labels_length : (g : NumberedFunc) (q : Places) (at b : ℕ) (xs : List NumberedBlock) → length (blocks_labels g q at b xs) ≡ length xs
-labels_length g q at b [] = refl
-labels_length g q at b (x ∷ xs) = ap suc (labels_length g q (at + block_size g q.sites (lent g q) b x) (suc b) xs)
 
 module _ (hold : SizesHold) (even : SizesAreEven) (p : Program) (groups : CodeGroups) (places : CodePlaces) where
   filled_total : (f : ℕ) → total (filled_items p groups places f) ≡ filled_size (size_of p groups f)

@@ -3,7 +3,7 @@ use Rattle.std.proofs.Common.{◌≡◌, ℕ, zero, suc, ◌+◌, ◌-◌, ◌*�
 use Rattle.std.proofs.lemmas.Bool.{cases_lt}
 use Rattle.std.proofs.lemmas.Bool.Decides.{nat_tests}
 use Rattle.words.specs.Bytes.{read, write, cut}
-use Rattle.words.proofs.Bytes.{length-write, read_same, read_below, read_above}
+use Rattle.words.proofs.Bytes.{length-write, read_same}
 use Rattle.words.specs.declared.conditions.Flags.{Flags}
 use Rattle.words.specs.Flags.{result_flags}
 use Rattle.thumb_model.specs.declared.table.Instr.{Instr}
@@ -21,34 +21,22 @@ use Rattle.armv7m.proofs.InstructionEffects.{movs}
 use Rattle.armv7m.proofs.Transfers.{str_sp, add_d_sp, sub_sp, push_lr}
 use Rattle.ir_model.specs.Resolved.{NumberedFunc}
 use Rattle.ir_model.specs.Signatures.{row_length}
-use Rattle.lower.specs.declared.places.Places.{Places}
-use Rattle.lower.specs.FrameShape.{frame_shape}
-use Rattle.lower.specs.Places.{Lend}
-use Rattle.lower.specs.Words.{byte_into, slot_address, supervisor_call}
-use Rattle.lower.specs.Entry.{sub_by, stores_code, frame_code, lend_code, enter_code}
-use Rattle.lower.specs.Templates.{lends_of}
-use Rattle.lower.specs.Sizes.{adjust_size, entry_size}
+use Rattle.code_model.specs.declared.places.Places.{Places}
+use Rattle.code_model.specs.FrameShape.{frame_shape}
+use Rattle.code_model.specs.Places.{Lend}
+use Rattle.code_model.specs.Words.{byte_into, slot_address, supervisor_call}
+use Rattle.code_model.specs.Entry.{sub_by, stores_code, frame_code, lend_code, enter_code}
+use Rattle.code_model.specs.Templates.{lends_of}
+use Rattle.code_model.specs.Sizes.{adjust_size, entry_size}
 use Rattle.code_effects.specs.Points.{Point, Holds, known, Leads}
 use Rattle.code_effects.specs.Frames.{HasEntry}
 use Rattle.code_effects.specs.Entry.{Entered, no_lend, FrameMade, EntryEffects}
 use Rattle.code_effects.proofs.Items.{plain_code}
 use Rattle.code_effects.proofs.Joined.{arrives_at, counted, ends_at, landed, leads_by}
 use Rattle.code_effects.proofs.Registers.{holds_by, holds_nothing, known_holds}
+use Rattle.code_effects.proofs.Kept.{Kept, kept_none, kept_write}
 
 -- ---- memory outside of a range stays
-
-record Kept (lo hi : ℕ) (old new : List ℕ) : Type 0 where
-  reads : (w a : ℕ) → (a + w ≤ lo) ⊎ (hi ≤ a) → read w a new ≡ read w a old
-  as_long : length new ≡ length old
-
-kept_none : (lo hi : ℕ) (m : List ℕ) → Kept lo hi m m
-kept_none lo hi m = record { reads = λ w a h. refl; as_long = refl }
-
-kept_write : (lo hi : ℕ) (m n : List ℕ) (w a v : ℕ) → Kept lo hi m n → lo ≤ a → a + w ≤ hi → Kept lo hi m (write w a v n)
-kept_write lo hi m n w a v k l h = record {
-  reads = λ u c g. ⊎_elim (λ x. read_below u c w a v n (omega arith)) (λ x. read_above u c w a v n (omega arith)) g ∙ k.reads u c g;
-  as_long = length-write w a v n ∙ k.as_long;
-}
 
 kept_on : (lo hi lo2 hi2 : ℕ) (m n p : List ℕ) → Kept lo hi m n → Kept lo2 hi2 n p → lo ≤ lo2 → hi2 ≤ hi → Kept lo hi m p
 kept_on lo hi lo2 hi2 m n p k l a c = record {

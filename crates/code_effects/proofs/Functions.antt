@@ -6,14 +6,14 @@ use Rattle.thumb_asm.specs.Assembly.{total}
 use Rattle.armv7m.specs.declared.state.ProtectionState.{ProtectionState}
 use Rattle.armv7m.specs.State.{PermissionTest}
 use Rattle.ir_model.specs.Resolved.{NumberedInst, NumberedTerm, NumberedBlock, NumberedFunc, Here, Does, Ends, here_in, no_block}
-use Rattle.lower.specs.declared.places.Places.{Places}
-use Rattle.lower.specs.declared.places.CallSite.{CallSite}
-use Rattle.lower.specs.Places.{crosses}
-use Rattle.lower.specs.Templates.{entry_items}
-use Rattle.lower.specs.Sizes.{inst_size, insts_size, block_size, blocks_size, entry_size, place_offset}
-use Rattle.lower.specs.FunctionCode.{lent, function_items, blocks_labels}
-use Rattle.lower.specs.Laws.{StandsAt}
-use Rattle.lower.proofs.Pieces.{pieces_stand}
+use Rattle.code_model.specs.declared.places.Places.{Places}
+use Rattle.code_model.specs.declared.places.CallSite.{CallSite}
+use Rattle.code_model.specs.Places.{crosses}
+use Rattle.code_model.specs.Templates.{entry_items}
+use Rattle.code_model.specs.Sizes.{inst_size, insts_size, block_size, blocks_size, entry_size, place_offset}
+use Rattle.code_model.specs.FunctionCode.{lent, function_items, blocks_labels}
+use Rattle.code_model.specs.Laws.{StandsAt}
+use Rattle.code_model.proofs.Pieces.{pieces_stand}
 use Rattle.code_effects.specs.Items.{ItemsAt}
 use Rattle.code_effects.specs.Functions.{PlacesStand, FunctionsStand}
 use Rattle.code_effects.proofs.Items.{parts_at, items_at}

@@ -1,6 +1,5 @@
 -- Where flash holds the bytes of pieces, they stand there.
 use Rattle.std.proofs.Common.{◌≡◌, ℕ, ◌+◌, ◌/◌, ◌%◌, ◌^◌, ◌<◌, List, [], ◌∷◌, ◌++◌, length, Option, get_or, refl, sym, ◌∙◌, arith, subst, length-append}
-use Rattle.std.proofs.Math.ListN.{get_or-append}
 use Rattle.std.proofs.lemmas.List.{get_or-append-add, append-nil}
 use Rattle.words.specs.Bytes.{read}
 use Rattle.thumb_model.specs.declared.table.Instr.{Instr}
@@ -17,16 +16,10 @@ use Rattle.mem_bus.proofs.Offsets.{in_flash}
 use Rattle.armv7m.specs.Code.{size, HoldsHalf, Lies}
 use Rattle.armv7m.specs.CodeBytes.{HoldsBytes}
 use Rattle.armv7m.proofs.CodeParts.{width-encode}
-use Rattle.armv7m.proofs.CodeBytes.{bytes_are_code}
+use Rattle.armv7m.proofs.CodeBytes.{bytes_are_code, bytes_first as first_bytes}
 use Rattle.code_effects.specs.Items.{ItemsIn, InstructionsInTable, ItemsStand}
 use Rattle.code_effects.proofs.Assembled.{in_table}
 use Rattle.code_effects.proofs.Items.{branch_size_is, parts_in, parts_at, plain_code, may_run}
-
-first_bytes : (i : Image) (o : ℕ) (xs ys : List ℕ) → HoldsBytes i o (xs ++ ys) → HoldsBytes i o xs
-first_bytes i o xs ys h =
-    let e = length-append xs ys in
-    let r = h.fits in
-    record { fits = omega arith; holds = λ k l. h.holds k (omega arith) ∙ get_or-append xs ys 0 k l }
 
 more_bytes : (i : Image) (o n : ℕ) (xs ys : List ℕ) → length xs ≡ n → HoldsBytes i o (xs ++ ys) → HoldsBytes i (o + n) ys
 more_bytes i o n xs ys w h =

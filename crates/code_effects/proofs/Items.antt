@@ -15,7 +15,7 @@ use Rattle.armv7m.specs.Code.{size, Lies, Stands, CodeAt}
 use Rattle.armv7m.specs.Running.{code_size}
 use Rattle.armv7m.proofs.Exec.{code_may_run}
 use Rattle.armv7m.proofs.CodeParts.{width-encode}
-use Rattle.lower.specs.Words.{plain}
+use Rattle.code_model.specs.Words.{plain}
 use Rattle.code_effects.specs.Items.{ItemsIn, ItemsAt}
 
 -- ---- sizes
@@ -29,10 +29,6 @@ branch_size_is Link from to = refl
 pub total-plain : (xs : List Instr) → total (plain xs) ≡ code_size xs
 total-plain [] = refl
 total-plain (x ∷ xs) = omega (arith, width-encode x, total-plain xs)
-
-pub total-append : (xs ys : List Item) → total (xs ++ ys) ≡ total xs + total ys
-total-append [] ys = omega arith
-total-append (x ∷ xs) ys = omega (arith, total-append xs ys)
 
 -- ---- parts
 

@@ -2,6 +2,7 @@ pub mod Registers
 pub mod Joined
 mod Moves
 pub mod Items
+pub mod Kept
 mod ItemBytes
 mod Assembled
 mod Functions

@@ -7,7 +7,7 @@ use Rattle.armv7m.specs.Code.{Stands, CodeAt}
 use Rattle.armv7m.proofs.Exec.{stay, next_step, onward}
 use Rattle.armv7m.proofs.Transfers.{str_sp}
 use Rattle.armv7m.proofs.Constants.{word_into}
-use Rattle.lower.specs.Words.{word_into as word_code, save}
+use Rattle.code_model.specs.Words.{word_into as word_code, save}
 use Rattle.code_effects.specs.Points.{Point, known, Leads, Arrives, state_at}
 use Rattle.code_effects.specs.Frames.{HasFrame}
 use Rattle.code_effects.proofs.Joined.{landed, leads_by, leads_from}

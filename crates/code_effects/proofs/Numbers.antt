@@ -22,10 +22,10 @@ use Rattle.ir_model.specs.declared.firmware.BinOp.{BinOp}
 use Rattle.ir_model.specs.declared.firmware.BinOp.TheVariants.{Add, Sub, Mul, Udiv, Sdiv, Urem, Srem, And, Or, Xor, Bic, Shl, Shr, Sar}
 use Rattle.ir_model.specs.Resolved.{NumberedFunc, Const, Move, Bin}
 use Rattle.ir_model.specs.Step.{binary}
-use Rattle.lower.specs.declared.places.Places.{Places}
-use Rattle.lower.specs.Words.{load_slot, save}
-use Rattle.lower.specs.Templates.{inst_items}
-use Rattle.lower.specs.Sizes.{inst_size}
+use Rattle.code_model.specs.declared.places.Places.{Places}
+use Rattle.code_model.specs.Words.{load_slot, save}
+use Rattle.code_model.specs.Templates.{inst_items}
+use Rattle.code_model.specs.Sizes.{inst_size}
 use Rattle.code_effects.specs.Points.{Point, Leads}
 use Rattle.code_effects.specs.Frames.{HasFrame, slot, HasInst, behind}
 use Rattle.code_effects.specs.Numbers.{bin_steps, NumberEffects}

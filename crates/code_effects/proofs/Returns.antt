@@ -11,13 +11,13 @@ use Rattle.armv7m.proofs.Exec.{stay, next_step}
 use Rattle.armv7m.proofs.CodeParts.{code_size-append, code_at-append}
 use Rattle.armv7m.proofs.Transfers.{ldr_sp, add_sp, pop_pc}
 use Rattle.ir_model.specs.Resolved.{NumberedFunc, Ret}
-use Rattle.lower.specs.declared.places.Places.{Places}
-use Rattle.lower.specs.FrameShape.{frame_shape}
-use Rattle.lower.specs.Places.{Lend}
-use Rattle.lower.specs.Words.{supervisor_call}
-use Rattle.lower.specs.Entry.{add_by, add_code, unlend_code, result_code, leave_code}
-use Rattle.lower.specs.Templates.{lends_of, term_items}
-use Rattle.lower.specs.FunctionCode.{lent}
+use Rattle.code_model.specs.declared.places.Places.{Places}
+use Rattle.code_model.specs.FrameShape.{frame_shape}
+use Rattle.code_model.specs.Places.{Lend}
+use Rattle.code_model.specs.Words.{supervisor_call}
+use Rattle.code_model.specs.Entry.{add_by, add_code, unlend_code, result_code, leave_code}
+use Rattle.code_model.specs.Templates.{lends_of, term_items}
+use Rattle.code_model.specs.FunctionCode.{lent}
 use Rattle.code_effects.specs.Points.{Point, known, Leads}
 use Rattle.code_effects.specs.Frames.{HasFrame, slot, HasTerm}
 use Rattle.code_effects.specs.Calls.{IsBelow, keep_steps}

@@ -8,8 +8,8 @@ use Rattle.ir_model.specs.declared.firmware.BinOp.TheVariants.{Urem, Srem}
 use Rattle.ir_model.specs.Resolved.{Value, Number, Code, Null, At, Instance, TheGlobal, ThePeriph, TheLocal, NumberedFunc, NumberedInst, Const, Move, Bin, Cmp, Addr, FAddr, Elem, Field, Load, Store, Call, ICall}
 use Rattle.ir_model.specs.State.{Frame}
 use Rattle.ir_model.specs.Step.{register, number_in, binary, compared, bit, SourceAct, Sets, act, address_of, with_pointer}
-use Rattle.lower.specs.declared.places.Places.{Places}
-use Rattle.lower.specs.Addresses.{scale_of}
+use Rattle.code_model.specs.declared.places.Places.{Places}
+use Rattle.code_model.specs.Addresses.{scale_of}
 use Rattle.code_effects.specs.Points.{Point, Leads}
 use Rattle.code_effects.specs.Frames.{HasFrame, slot, HasInst, behind}
 use Rattle.code_effects.specs.Numbers.{bin_steps}

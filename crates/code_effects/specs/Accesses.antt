@@ -15,9 +15,9 @@ use Rattle.armv7m.specs.Events.{input_event, output_event}
 use Rattle.armv7m.specs.RunningCode.{IsLoad, IsStore}
 use Rattle.ir_model.specs.Types.{PlainType, width_of}
 use Rattle.ir_model.specs.Resolved.{NumberedFunc, Load, Store}
-use Rattle.lower.specs.declared.places.Places.{Places}
-use Rattle.lower.specs.Addresses.{load_at, store_at}
-use Rattle.lower.specs.Sizes.{inst_size}
+use Rattle.code_model.specs.declared.places.Places.{Places}
+use Rattle.code_model.specs.Addresses.{load_at, store_at}
+use Rattle.code_model.specs.Sizes.{inst_size}
 use Rattle.code_effects.specs.Points.{Point, known, Leads, Finishes}
 use Rattle.code_effects.specs.Frames.{HasFrame, slot, HasInst, behind}
 

@@ -6,10 +6,10 @@ use Rattle.words.specs.Arithmetic.{word}
 use Rattle.device_model.specs.declared.image.Image.{Image}
 use Rattle.armv7m.specs.State.{PermissionTest}
 use Rattle.ir_model.specs.Resolved.{NumberedFunc, Named, TheGlobal, ThePeriph, TheLocal, Addr, FAddr, Elem, Field}
-use Rattle.lower.specs.declared.places.Places.{Places}
-use Rattle.lower.specs.Places.{global_address, window_address, entry_address}
-use Rattle.lower.specs.FrameShape.{local_starts}
-use Rattle.lower.specs.Addresses.{scale_of}
+use Rattle.code_model.specs.declared.places.Places.{Places}
+use Rattle.code_model.specs.Places.{global_address, window_address, entry_address}
+use Rattle.code_model.specs.FrameShape.{local_starts}
+use Rattle.code_model.specs.Addresses.{scale_of}
 use Rattle.code_effects.specs.Points.{Point, Leads}
 use Rattle.code_effects.specs.Frames.{HasFrame, slot, HasInst, behind}
 

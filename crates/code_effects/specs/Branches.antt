@@ -5,7 +5,7 @@ use Rattle.device_model.specs.declared.image.Image.{Image}
 use Rattle.thumb_asm.specs.Assembly.{place_of}
 use Rattle.armv7m.specs.State.{PermissionTest}
 use Rattle.ir_model.specs.Resolved.{NumberedFunc, Jump, Branch}
-use Rattle.lower.specs.declared.places.Places.{Places}
+use Rattle.code_model.specs.declared.places.Places.{Places}
 use Rattle.code_effects.specs.Points.{Point, Leads}
 use Rattle.code_effects.specs.Frames.{HasFrame, slot, HasTerm}
 

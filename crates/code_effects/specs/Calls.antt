@@ -7,10 +7,10 @@ use Rattle.device_model.specs.declared.image.Image.{Image}
 use Rattle.armv7m.specs.State.{PermissionTest}
 use Rattle.armv7m.specs.Code.{HoldsHalf, Stands}
 use Rattle.ir_model.specs.Resolved.{NumberedFunc, Call, ICall}
-use Rattle.lower.specs.declared.places.Places.{Places}
-use Rattle.lower.specs.Places.{entry_address}
-use Rattle.lower.specs.Words.{supervisor_call}
-use Rattle.lower.specs.Sizes.{call_size, icall_size, inst_size}
+use Rattle.code_model.specs.declared.places.Places.{Places}
+use Rattle.code_model.specs.Places.{entry_address}
+use Rattle.code_model.specs.Words.{supervisor_call}
+use Rattle.code_model.specs.Sizes.{call_size, icall_size, inst_size}
 use Rattle.code_effects.specs.Points.{Point, known, with_r12, Leads}
 use Rattle.code_effects.specs.Frames.{HasFrame, slot, HasInst}
 

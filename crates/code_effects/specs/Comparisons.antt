@@ -6,7 +6,7 @@ use Rattle.armv7m.specs.State.{PermissionTest}
 use Rattle.ir_model.specs.declared.firmware.CmpOp.{CmpOp}
 use Rattle.ir_model.specs.Resolved.{NumberedFunc, Cmp}
 use Rattle.ir_model.specs.Step.{compared, bit}
-use Rattle.lower.specs.declared.places.Places.{Places}
+use Rattle.code_model.specs.declared.places.Places.{Places}
 use Rattle.code_effects.specs.Points.{Point, Leads}
 use Rattle.code_effects.specs.Frames.{HasFrame, slot, HasInst, behind}
 

@@ -7,9 +7,9 @@ use Rattle.device_model.specs.declared.image.Image.{Image}
 use Rattle.armv7m.specs.declared.state.ProtectionState.{ProtectionState}
 use Rattle.armv7m.specs.State.{PermissionTest}
 use Rattle.ir_model.specs.Resolved.{Program, func_at}
-use Rattle.lower.specs.Sizes.{place_offset}
-use Rattle.lower.specs.FunctionCode.{lent, function_items}
-use Rattle.lower.specs.CompartmentCode.{CodeGroups, CodePlaces, compartment_of, before, sites_of, label_count, entry_of, places_of, compartment_items, compartment_labels}
+use Rattle.code_model.specs.Sizes.{place_offset}
+use Rattle.code_model.specs.FunctionCode.{lent, function_items}
+use Rattle.code_model.specs.CompartmentCode.{CodeGroups, CodePlaces, compartment_of, before, sites_of, label_count, entry_of, places_of, compartment_items, compartment_labels}
 use Rattle.code_effects.specs.Items.{ItemsAt}
 
 pub record CompartmentsStand : Type 0 where

@@ -9,12 +9,12 @@ use Rattle.armv7m.specs.Code.{Stands}
 use Rattle.armv7m.specs.Stack.{Room}
 use Rattle.ir_model.specs.Resolved.{NumberedFunc}
 use Rattle.ir_model.specs.Signatures.{row_length}
-use Rattle.lower.specs.declared.places.Places.{Places}
-use Rattle.lower.specs.FrameShape.{frame_shape}
-use Rattle.lower.specs.Places.{Lend}
-use Rattle.lower.specs.Words.{supervisor_call}
-use Rattle.lower.specs.Templates.{lends_of}
-use Rattle.lower.specs.Sizes.{entry_size}
+use Rattle.code_model.specs.declared.places.Places.{Places}
+use Rattle.code_model.specs.FrameShape.{frame_shape}
+use Rattle.code_model.specs.Places.{Lend}
+use Rattle.code_model.specs.Words.{supervisor_call}
+use Rattle.code_model.specs.Templates.{lends_of}
+use Rattle.code_model.specs.Sizes.{entry_size}
 use Rattle.code_effects.specs.Points.{Point, known, Leads}
 use Rattle.code_effects.specs.Frames.{HasEntry}
 

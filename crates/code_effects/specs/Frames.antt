@@ -7,9 +7,9 @@ use Rattle.device_model.specs.declared.image.Image.{Image}
 use Rattle.armv7m.specs.State.{PermissionTest}
 use Rattle.armv7m.specs.Stack.{Room}
 use Rattle.ir_model.specs.Resolved.{NumberedInst, NumberedTerm, NumberedFunc}
-use Rattle.lower.specs.declared.places.Places.{Places}
-use Rattle.lower.specs.Templates.{entry_items, inst_items, term_items}
-use Rattle.lower.specs.Sizes.{inst_size}
+use Rattle.code_model.specs.declared.places.Places.{Places}
+use Rattle.code_model.specs.Templates.{entry_items, inst_items, term_items}
+use Rattle.code_model.specs.Sizes.{inst_size}
 use Rattle.code_effects.specs.Points.{Point}
 use Rattle.code_effects.specs.Items.{ItemsAt}
 

@@ -7,12 +7,12 @@ use Rattle.armv7m.specs.declared.state.ProtectionState.{ProtectionState}
 use Rattle.armv7m.specs.State.{PermissionTest}
 use Rattle.ir_model.specs.Resolved.{NumberedInst, NumberedFunc, Does, no_block}
 use Rattle.ir_model.specs.Signatures.{here_of}
-use Rattle.lower.specs.declared.places.Places.{Places}
-use Rattle.lower.specs.declared.places.CallSite.{CallSite}
-use Rattle.lower.specs.Places.{crosses}
-use Rattle.lower.specs.Templates.{entry_items}
-use Rattle.lower.specs.Sizes.{inst_size, entry_size, place_offset}
-use Rattle.lower.specs.FunctionCode.{lent, here_items, function_items, function_labels}
+use Rattle.code_model.specs.declared.places.Places.{Places}
+use Rattle.code_model.specs.declared.places.CallSite.{CallSite}
+use Rattle.code_model.specs.Places.{crosses}
+use Rattle.code_model.specs.Templates.{entry_items}
+use Rattle.code_model.specs.Sizes.{inst_size, entry_size, place_offset}
+use Rattle.code_model.specs.FunctionCode.{lent, here_items, function_items, function_labels}
 use Rattle.code_effects.specs.Items.{ItemsAt}
 
 module _ (j : PermissionTest) (i : Image) (p : ProtectionState) (g : NumberedFunc) (q : Places) (labels : List (Option ℕ)) (first at : ℕ) where

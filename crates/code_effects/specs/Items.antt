@@ -14,7 +14,7 @@ use Rattle.armv7m.specs.declared.state.ProtectionState.{ProtectionState}
 use Rattle.armv7m.specs.State.{PermissionTest}
 use Rattle.armv7m.specs.Code.{size, HoldsHalf, Lies, Stands, CodeAt}
 use Rattle.armv7m.specs.CodeBytes.{HoldsBytes}
-use Rattle.lower.specs.Words.{plain}
+use Rattle.code_model.specs.Words.{plain}
 
 -- flash holds them, each branch being one to its label
 abbrev pub ItemsIn : Image → (labels : List (Option ℕ)) → (at : ℕ) → List Item → Type 0

@@ -7,7 +7,7 @@ use Rattle.ir_model.specs.declared.firmware.BinOp.{BinOp}
 use Rattle.ir_model.specs.declared.firmware.BinOp.TheVariants.{Urem, Srem}
 use Rattle.ir_model.specs.Resolved.{NumberedFunc, Const, Move, Bin}
 use Rattle.ir_model.specs.Step.{binary}
-use Rattle.lower.specs.declared.places.Places.{Places}
+use Rattle.code_model.specs.declared.places.Places.{Places}
 use Rattle.code_effects.specs.Points.{Point, Leads}
 use Rattle.code_effects.specs.Frames.{HasFrame, slot, HasInst, behind}
 

@@ -5,10 +5,10 @@ use Rattle.device_model.specs.declared.image.Image.{Image}
 use Rattle.armv7m.specs.State.{PermissionTest}
 use Rattle.armv7m.specs.Code.{Stands}
 use Rattle.ir_model.specs.Resolved.{NumberedFunc, Ret}
-use Rattle.lower.specs.declared.places.Places.{Places}
-use Rattle.lower.specs.FrameShape.{frame_shape}
-use Rattle.lower.specs.Words.{supervisor_call}
-use Rattle.lower.specs.FunctionCode.{lent}
+use Rattle.code_model.specs.declared.places.Places.{Places}
+use Rattle.code_model.specs.FrameShape.{frame_shape}
+use Rattle.code_model.specs.Words.{supervisor_call}
+use Rattle.code_model.specs.FunctionCode.{lent}
 use Rattle.code_effects.specs.Points.{Point, known, Leads}
 use Rattle.code_effects.specs.Frames.{HasFrame, slot, HasTerm}
 use Rattle.code_effects.specs.Calls.{IsBelow, keep_steps}

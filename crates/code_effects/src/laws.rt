@@ -4,7 +4,7 @@ ghost use Rattle.std.specs.Prelude.{ℕ, List, Option};
 ghost use Rattle.device_model.specs.declared.image.Image.{Image};
 ghost use Rattle.armv7m.specs.State.{PermissionTest};
 ghost use Rattle.ir_model.specs.Resolved.{NumberedFunc};
-ghost use Rattle.lower.specs.declared.places.Places.{Places};
+ghost use Rattle.code_model.specs.declared.places.Places.{Places};
 ghost use Rattle.code_effects.specs.Points.{Point, RunsJoin, RunsFit};
 ghost use Rattle.code_effects.specs.Items.{ItemsStand};
 ghost use Rattle.code_effects.specs.Functions.{FunctionsStand};
@@ -41,7 +41,7 @@ pub fn functions()
 pub fn compartments()
     ensures { CompartmentsStand }
 {
-    lower::laws::sizes();
+    code_model::laws::sizes();
 }
 
 /// Numbers, copies, and operations on two numbers.

@@ -1,8 +1,8 @@
 -- The code of entries and returns.
 use Rattle.std.proofs.Common.{refl}
 use Rattle.thumb_model.specs.Table.{encode}
-use Rattle.lower.specs.Entry.{frame_code}
-use Rattle.lower.specs.Sizes.{entry_size}
+use Rattle.code_model.specs.Entry.{frame_code}
+use Rattle.code_model.specs.Sizes.{entry_size}
 use Rattle.code_examples.specs.Frames.{ComputesFrames}
 
 pub computes_frames : ComputesFrames

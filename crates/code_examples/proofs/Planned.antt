@@ -4,7 +4,7 @@ use Rattle.plan_model.specs.Lending.{lend_number}
 use Rattle.plan_model.specs.Blocks.{region_bytes, offset_in_region}
 use Rattle.plan_model.specs.Placement.{global_address}
 use Rattle.plan_model.specs.TableSize.{table_bytes}
-use Rattle.lower.specs.Sizes.{inst_size, term_size, entry_size}
+use Rattle.code_model.specs.Sizes.{inst_size, term_size, entry_size}
 use Rattle.code_examples.specs.Planned.{ComputesPlanned}
 
 pub computes_planned : ComputesPlanned

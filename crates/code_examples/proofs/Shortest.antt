@@ -1,9 +1,9 @@
 -- The code of the shortest firmware.
 use Rattle.std.proofs.Common.{refl}
 use Rattle.thumb_model.specs.Table.{encode}
-use Rattle.lower.specs.Entry.{frame_code}
-use Rattle.lower.specs.Templates.{inst_items, term_items}
-use Rattle.lower.specs.Sizes.{inst_size, term_size, entry_size}
+use Rattle.code_model.specs.Entry.{frame_code}
+use Rattle.code_model.specs.Templates.{inst_items, term_items}
+use Rattle.code_model.specs.Sizes.{inst_size, term_size, entry_size}
 use Rattle.code_examples.specs.Shortest.{ComputesShortest}
 
 pub computes_shortest : ComputesShortest

@@ -4,9 +4,9 @@ use Rattle.std.specs.Prelude.{◌≡◌, [], ◌∷◌}
 use Rattle.thumb_model.specs.Bytes.{code_bytes}
 use Rattle.ir_model.specs.Types.{U8, U16, U32, Pointer}
 use Rattle.ir_model.specs.Resolved.{TheGlobal, ThePeriph, TheLocal}
-use Rattle.lower.specs.declared.places.Places.{Places}
-use Rattle.lower.specs.FrameShape.{FrameShape}
-use Rattle.lower.specs.Addresses.{addr_code, faddr_code, elem_code, field_code, load_code, store_code}
+use Rattle.code_model.specs.declared.places.Places.{Places}
+use Rattle.code_model.specs.FrameShape.{FrameShape}
+use Rattle.code_model.specs.Addresses.{addr_code, faddr_code, elem_code, field_code, load_code, store_code}
 use Rattle.code_examples.specs.Written.{halves}
 
 abbrev pub shape : FrameShape

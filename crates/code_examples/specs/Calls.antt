@@ -3,7 +3,7 @@
 use Rattle.std.specs.Prelude.{◌≡◌, ℕ, List, [], ◌∷◌, Some, None}
 use Rattle.thumb_asm.specs.Finished.{bytes_from}
 use Rattle.thumb_asm.specs.declared.item.Item.{Item}
-use Rattle.lower.specs.Calls.{call_items, icall_items}
+use Rattle.code_model.specs.Calls.{call_items, icall_items}
 use Rattle.code_examples.specs.Written.{halves}
 
 -- these are the halfwords of code there

@@ -5,10 +5,10 @@ use Rattle.thumb_model.specs.Bytes.{code_bytes}
 use Rattle.ir_model.specs.Types.{U8, U16, U32, Pointer, none, more, nothing}
 use Rattle.ir_model.specs.Layout.{one_cell, array_of}
 use Rattle.ir_model.specs.Resolved.{NumberedFunc}
-use Rattle.lower.specs.FrameShape.{frame_size, frame_shape}
-use Rattle.lower.specs.Places.{lends_among}
-use Rattle.lower.specs.Entry.{enter_code, leave_code}
-use Rattle.lower.specs.Sizes.{entry_size}
+use Rattle.code_model.specs.FrameShape.{frame_size, frame_shape}
+use Rattle.code_model.specs.Places.{lends_among}
+use Rattle.code_model.specs.Entry.{enter_code, leave_code}
+use Rattle.code_model.specs.Sizes.{entry_size}
 use Rattle.code_examples.specs.Written.{halves, func}
 
 abbrev pub with_bytes : ℕ → NumberedFunc

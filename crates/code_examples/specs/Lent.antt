@@ -4,8 +4,8 @@ use Rattle.std.specs.Prelude.{◌≡◌, [], ◌∷◌, Some, None}
 use Rattle.ir_model.specs.Types.{U32, Pointer, none, more, nothing}
 use Rattle.ir_model.specs.Layout.{one_cell}
 use Rattle.ir_model.specs.Resolved.{Program, NumberedFunc, Const, Addr, Load, Store, Call, Ret, ThePeriph, TheLocal}
-use Rattle.lower.specs.FrameShape.{frame_size, frame_shape}
-use Rattle.lower.specs.CompartmentCode.{CodeGroups, CodePlaces, code_sizes, compartment_bytes}
+use Rattle.code_model.specs.FrameShape.{frame_size, frame_shape}
+use Rattle.code_model.specs.CompartmentCode.{CodeGroups, CodePlaces, code_sizes, compartment_bytes}
 use Rattle.code_examples.specs.Written.{halves, func, block, site}
 
 -- local x; registers p, t, v

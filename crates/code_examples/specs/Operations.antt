@@ -6,8 +6,8 @@ use Rattle.ir_model.specs.declared.firmware.BinOp.{BinOp}
 use Rattle.ir_model.specs.declared.firmware.BinOp.TheVariants.{Add, Sub, Mul, Udiv, Sdiv, Urem, Srem, And, Or, Xor, Bic, Shl, Shr, Sar}
 use Rattle.ir_model.specs.declared.firmware.CmpOp.{CmpOp}
 use Rattle.ir_model.specs.declared.firmware.CmpOp.TheVariants.{Eq, Ne, Ult, Ule, Slt, Sle}
-use Rattle.lower.specs.Numbers.{const_code, move_code, bin_code}
-use Rattle.lower.specs.Comparisons.{cmp_code}
+use Rattle.code_model.specs.Numbers.{const_code, move_code, bin_code}
+use Rattle.code_model.specs.Comparisons.{cmp_code}
 use Rattle.code_examples.specs.Written.{halves}
 
 -- register 2 = register 0 op register 1: LDR r0, [SP]; LDR r1, [SP, #4]; the operation's halfwords; STR r0, [SP, #8]

@@ -6,8 +6,8 @@ use Rattle.plan_model.specs.declared.needs.Needs.{Needs}
 use Rattle.plan_model.specs.declared.groups.Groups.{Groups}
 use Rattle.plan_model.specs.declared.graph.Final.{Final}
 use Rattle.plan_model.specs.declared.plan.Plan.{Plan}
-use Rattle.lower.specs.CompartmentCode.{CodeGroups}
-use Rattle.lower.specs.Planned.{code_groups, code_places, sizes_of, planned_entry}
+use Rattle.code_model.specs.CompartmentCode.{CodeGroups}
+use Rattle.code_model.specs.Planned.{code_groups, code_places, sizes_of, planned_entry}
 use Rattle.code_examples.specs.Sensor.{sensor, by_file, clamp_moved, by_peripherals, at_files}
 use Rattle.code_examples.specs.Lent.{lending}
 

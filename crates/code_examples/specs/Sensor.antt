@@ -7,7 +7,7 @@ use Rattle.ir_model.specs.declared.firmware.CmpOp.TheVariants.{Ult}
 use Rattle.ir_model.specs.Types.{PlainType, U32, Pointer, none, more, nothing, gives}
 use Rattle.ir_model.specs.Layout.{one_cell}
 use Rattle.ir_model.specs.Resolved.{Program, NumberedFunc, Number, Const, Bin, Cmp, Addr, Elem, Load, Store, Call, Jump, Branch, Ret, TheGlobal, ThePeriph}
-use Rattle.lower.specs.CompartmentCode.{CodeGroups, CodePlaces, size_of, code_sizes, entry_of, compartment_bytes}
+use Rattle.code_model.specs.CompartmentCode.{CodeGroups, CodePlaces, size_of, code_sizes, entry_of, compartment_bytes}
 use Rattle.code_examples.specs.Written.{halves, func, block, site}
 
 abbrev pub pointer : PlainType

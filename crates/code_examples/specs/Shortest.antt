@@ -4,9 +4,9 @@ use Rattle.std.specs.Prelude.{◌≡◌, [], ◌∷◌, None}
 use Rattle.thumb_asm.specs.Finished.{bytes_from}
 use Rattle.ir_model.specs.Types.{none, nothing}
 use Rattle.ir_model.specs.Resolved.{NumberedFunc, Ret}
-use Rattle.lower.specs.declared.places.Places.{Places}
-use Rattle.lower.specs.Sizes.{function_size}
-use Rattle.lower.specs.FunctionCode.{function_items, function_labels}
+use Rattle.code_model.specs.declared.places.Places.{Places}
+use Rattle.code_model.specs.Sizes.{function_size}
+use Rattle.code_model.specs.FunctionCode.{function_items, function_labels}
 use Rattle.code_examples.specs.Written.{func, block}
 
 abbrev pub shortest : NumberedFunc

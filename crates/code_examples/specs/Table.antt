@@ -6,7 +6,7 @@ use Rattle.ir_model.specs.declared.firmware.BinOp.TheVariants.{Add, Mul}
 use Rattle.ir_model.specs.Types.{PlainType, U32, Pointer, Array, Callee, none, more, nothing, gives}
 use Rattle.ir_model.specs.Layout.{array_of, one_cell}
 use Rattle.ir_model.specs.Resolved.{Program, NumberedFunc, Code, Null, Const, Bin, Addr, Elem, Load, Store, ICall, Jump, Ret, TheGlobal, ThePeriph}
-use Rattle.lower.specs.CompartmentCode.{CodeGroups, CodePlaces, code_sizes, entry_of, compartment_bytes}
+use Rattle.code_model.specs.CompartmentCode.{CodeGroups, CodePlaces, code_sizes, entry_of, compartment_bytes}
 use Rattle.code_examples.specs.Written.{halves, func, block, site}
 
 abbrev pub callee : PlainType

@@ -6,7 +6,7 @@ use Rattle.thumb_model.specs.Bytes.{bytes_of_half}
 use Rattle.ir_model.specs.Types.{PlainType, PlainTypes, PlainResult}
 use Rattle.ir_model.specs.Layout.{Shape}
 use Rattle.ir_model.specs.Resolved.{NumberedInst, NumberedTerm, NumberedBlock, NumberedFunc}
-use Rattle.lower.specs.declared.places.CallSite.{CallSite}
+use Rattle.code_model.specs.declared.places.CallSite.{CallSite}
 
 -- the bytes of halfwords
 abbrev pub halves : List ℕ → List ℕ

@@ -1,19 +1,9 @@
--- How many locals of a function are lent.
-use Rattle.std.proofs.Common.{◌≡◌, ℕ, ◌+◌, Bool, true, false, ◌||◌, List, [], ◌∷◌, cond, length, map, count_by, position, is_some, Option, Some, None, refl, ap, ◌∙◌, arith}
-use Rattle.std.specs.List.{list_any, position_from}
+-- How many items of a list have a place or a number.
+use Rattle.std.proofs.Common.{◌≡◌, ℕ, Bool, List, [], ◌∷◌, cond, length, map, count_by, position, is_some, Option, Some, None, refl, ap, ◌∙◌, arith}
+use Rattle.std.specs.List.{list_any}
 use Rattle.std.proofs.lemmas.List.Sums.{sum_by-cons}
 use Rattle.std.proofs.lemmas.Iterator.Adapters.{position_from-zero}
-use Rattle.ir_model.specs.Layout.{Shape}
-use Rattle.lower.specs.FrameShape.{local_size, starts_from}
-use Rattle.lower.specs.Places.{lends_among}
-
-from_there : {X : Type 0} (p : X → Bool) (i : ℕ) (xs : List X) → is_some (position_from p i xs) ≡ list_any p xs
-from_there p i [] = refl
-from_there {X} p i (x ∷ xs) = by (p x) (from_there p (i + 1) xs)
-  where
-    by : (b : Bool) → is_some (position_from p (i + 1) xs) ≡ list_any p xs → is_some (cond b (Some i) (position_from p (i + 1) xs)) ≡ (b || list_any p xs)
-    by true h = refl
-    by false h = h
+use Rattle.common_laws.proofs.Lists.{position_there as from_there}
 
 -- what passes has a place
 pub has_place : {X : Type 0} (p : X → Bool) (xs : List X) → is_some (position p xs) ≡ list_any p xs
@@ -27,21 +17,3 @@ some_counted f p h (k ∷ ks) =
     let c = ap {B = ℕ} (λ t. cond t 1 0) (h k) in
     let r = some_counted f p h ks in
     omega (arith, a, b, c, r)
-
--- each number of a local that has a place in the frame
-pub lends_counted : (starts : List ℕ) (ns : List (Option ℕ)) → length starts ≡ length ns → length (lends_among starts ns) ≡ count_by is_some ns
-lends_counted [] [] e = refl
-lends_counted [] (n ∷ ns) e = absurd (omega arith)
-lends_counted (s ∷ ss) [] e = absurd (omega arith)
-lends_counted (s ∷ ss) (None ∷ ns) e =
-    let r = lends_counted ss ns (omega arith) in
-    let a = sum_by-cons (λ (o : Option ℕ). cond (is_some o) 1 0) None ns in
-    omega (arith, r, a)
-lends_counted (s ∷ ss) (Some n ∷ ns) e =
-    let r = lends_counted ss ns (omega arith) in
-    let a = sum_by-cons (λ (o : Option ℕ). cond (is_some o) 1 0) (Some n) ns in
-    omega (arith, r, a)
-
-pub starts_length : (n : ℕ) (ss : List Shape) → length (starts_from n ss) ≡ length ss
-starts_length n [] = refl
-starts_length n (s ∷ ss) = let r = starts_length (n + local_size s) ss in omega (arith, r)

@@ -1,4 +1,3 @@
-mod Bare
 mod Grown
 mod Lends
 mod Same

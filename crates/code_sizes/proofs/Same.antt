@@ -14,13 +14,15 @@ use Rattle.plan_model.specs.Blocks.{region_bytes}
 use Rattle.plan_model.specs.Crossing.{crossing_sites}
 use Rattle.plan_model.specs.Lending.{lent, is_local, lend_number, lend_numbers_in}
 use Rattle.plan_model.specs.TableSize.{unless_empty, filled_blocks, words_in, initial_words, table_bytes}
-use Rattle.lower.specs.FrameShape.{local_starts}
-use Rattle.lower.specs.Places.{lends_among}
-use Rattle.lower.specs.Sizes.{function_size}
-use Rattle.lower.specs.CompartmentCode.{members_from, filled_size, total_size, size_of, lends_of, code_sizes}
-use Rattle.lower.specs.Planned.{call_sites, code_groups}
+use Rattle.code_model.specs.FrameShape.{local_starts}
+use Rattle.code_model.specs.Places.{lends_among}
+use Rattle.code_model.specs.Sizes.{function_size}
+use Rattle.code_model.specs.CompartmentCode.{members_from, filled_size, total_size, size_of, lends_of, code_sizes}
+use Rattle.code_model.specs.Planned.{call_sites, code_groups}
 use Rattle.code_sizes.specs.Parts.{function_bytes, filled_total, code_with, region_words, block_count, record_bytes}
-use Rattle.code_sizes.proofs.Lends.{has_place, some_counted, lends_counted, starts_length}
+use Rattle.code_sizes.proofs.Lends.{has_place, some_counted}
+use Rattle.code_model.proofs.Frames.{starts_length}
+use Rattle.code_model.proofs.Lends.{lends_counted}
 
 -- ---- code
 

@@ -13,10 +13,10 @@ use Rattle.plan_model.specs.Lists.{numbers_below}
 use Rattle.plan_model.specs.Crossing.{target_count}
 use Rattle.plan_model.specs.Lending.{is_local}
 use Rattle.plan_model.specs.TableSize.{words_in, unless_empty}
-use Rattle.lower.specs.declared.places.CallSite.{CallSite}
-use Rattle.lower.specs.Sizes as sizes
-use Rattle.lower.specs.CompartmentCode.{members_from, filled_size}
-use Rattle.lower.specs.Planned.{call_sites_among}
+use Rattle.code_model.specs.declared.places.CallSite.{CallSite}
+use Rattle.code_model.specs.Sizes as sizes
+use Rattle.code_model.specs.CompartmentCode.{members_from, filled_size}
+use Rattle.code_model.specs.Planned.{call_sites_among}
 
 -- sites that are borrowed from the needs
 abbrev pub seen_sites : List (Bor SiteNeed) → List SiteNeed

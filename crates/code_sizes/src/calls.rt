@@ -7,10 +7,10 @@ ghost use Rattle.plan_model.specs.Groups as groups_of;
 ghost use Rattle.plan_model.specs.Crossing as crossing;
 ghost use Rattle.plan_model.specs.Lending as lending;
 ghost use Rattle.plan_model.specs.Lending.{is_local};
-ghost use Rattle.lower.specs.Planned.{call_sites_among};
+ghost use Rattle.code_model.specs.Planned.{call_sites_among};
 ghost use Rattle.code_sizes.specs.Parts.{seen_sites};
 
-use lower::CallSite;
+use code_model::CallSite;
 use plan_model::groups::Groups;
 use plan_model::needs::{Needs, SiteNeed};
 use std::alloc::{AllocError, Global};

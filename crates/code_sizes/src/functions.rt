@@ -4,13 +4,13 @@ ghost use Rattle.std.specs.Prelude.{◌≡◌, ◌<◌, length, map, IfOk, IfSom
 ghost use Rattle.ir_model.specs.Resolved.{func_at};
 ghost use Rattle.ir_program.specs.Seen.{known_of, program_of, routine_of};
 ghost use Rattle.plan_model.specs.Lists.{numbers_below};
-ghost use Rattle.lower.specs.CompartmentCode.{members_from, filled_size};
-ghost use Rattle.lower.specs.Planned.{call_sites_among};
+ghost use Rattle.code_model.specs.CompartmentCode.{members_from, filled_size};
+ghost use Rattle.code_model.specs.Planned.{call_sites_among};
 ghost use Rattle.code_sizes.specs.Parts.{seen_sites, size_with, function_bytes, filled_total};
 
 use crate::calls::{call_sites, lent_count};
+use code_model::CallSite;
 use ir_program::program::{Program, Routine};
-use lower::CallSite;
 use offsets::sizes::function_size;
 use plan_model::needs::SiteNeed;
 use std::alloc::{AllocError, Global};

@@ -2,7 +2,7 @@
 
 ghost use Rattle.std.specs.Prelude.{◌≡◌, ◌≤◌, length, IfOk};
 ghost use Rattle.ir_program.specs.Seen.{program_of};
-ghost use Rattle.lower.specs.Planned.{sizes_of};
+ghost use Rattle.code_model.specs.Planned.{sizes_of};
 ghost use Rattle.code_sizes.specs.Parts.{seen_sites, code_with};
 
 use crate::calls::{crossing_sites, lent};

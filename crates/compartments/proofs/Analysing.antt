@@ -4,7 +4,6 @@ use Rattle.ir_model.specs.Plain.{PlainFirmware, funcs_of}
 use Rattle.ir_model.specs.Canonical.{IsWithinLimits}
 use Rattle.ir_model.specs.Typing.{IsTyped}
 use Rattle.ir_model.specs.Resolved.{Program}
-use Rattle.ir_model.specs.Resolve as definition
 use Rattle.ir_model.specs.Resolve.{resolve}
 use Rattle.ir_laws.specs.Sets.{ObjectSets}
 use Rattle.plan_model.specs.declared.needs.Needs.{Needs}
@@ -12,7 +11,7 @@ use Rattle.plan_model.specs.Needs.{AreNeeds}
 use Rattle.plan_model.specs.PointsTo.{IsLeast}
 use Rattle.depend.specs.Checked.{IsChecked}
 use Rattle.compartments.specs.Analyses.{AreNeedsOf}
-use Rattle.std.proofs.lemmas.List.{length-map}
+use Rattle.ir_laws.proofs.Resolved.{as_many}
 
 pub checked : (p : Program) (w : PlainFirmware) → IsTyped w → IsWithinLimits w → p ≡ resolve w → IsChecked p
 checked p w t l e = record { source = w; typed = t; limits = l; same = e }
@@ -20,11 +19,6 @@ checked p w t l e = record { source = w; typed = t; limits = l; same = e }
 pub needs_of : (p : Program) (w : PlainFirmware) (S : ObjectSets) (closed : Bool) (n : Needs) → p ≡ resolve w → IsLeast p S → AreNeeds p S closed n
     → AreNeedsOf w closed n
 needs_of p w S closed n e h k = record { sets = S; least = subst (λ q. IsLeast q S) e h; needs = subst (λ q. AreNeeds q S closed n) e k }
-
--- a program has the functions of its firmware
-pub as_many : (w : PlainFirmware) → length (resolve w).funcs ≡ length (funcs_of w)
-unfolding resolve
-as_many w = length-map (funcs_of w) (definition.resolved_func _)
 
 pub each_need : (p : Program) (w : PlainFirmware) (S : ObjectSets) (closed : Bool) (n : Needs) → p ≡ resolve w → AreNeeds p S closed n
     → length n.funcs ≡ length (funcs_of w)

@@ -1,7 +1,7 @@
 -- There is a compartment for each function, under each policy.
-use Rattle.std.proofs.Common.{◌≡◌, ℕ, Bool, true, false, cond, List, [], ◌∷◌, length, map, Option, Some, None, refl, sym, ◌∙◌}
+use Rattle.std.proofs.Common.{◌≡◌, ℕ, List, [], ◌∷◌, length, map, refl, sym, ◌∙◌}
 use Rattle.std.specs.List.{fold}
-use Rattle.std.proofs.lemmas.List.{length-set, length-map}
+use Rattle.std.proofs.lemmas.List.{length-map}
 use Rattle.std.proofs.lemmas.List.FromFn.{length-map-range_with_len}
 use Rattle.ir_model.specs.Plain.{PlainFirmware, PlainFunc, funcs_of}
 use Rattle.ir_model.specs.Resolve.{resolve, files_from}
@@ -10,25 +10,16 @@ use Rattle.plan_model.specs.declared.needs.Needs.{Needs}
 use Rattle.plan_model.specs.declared.groups.Groups.{Groups}
 use Rattle.plan_model.specs.Compartments.{AreCompartments}
 use Rattle.plan_model.specs.Facts.{facts, facts_of}
-use Rattle.plan_model.specs.Lists.{is_empty}
-use Rattle.plan_model.specs.Policies.{filename_groups, optimized_groups, peripheral_groups, by_name, move, moved_to, common_group}
+use Rattle.plan_model.specs.Policies.{filename_groups, optimized_groups, peripheral_groups, by_name, move}
 use Rattle.aces_words.specs.declared.policy.Policy.{Policy}
 use Rattle.aces_words.specs.declared.policy.Policy.TheVariants.{Filename, Optimized, Peripheral}
 use Rattle.compartments.specs.Divisions.{division, groups_by}
-use Rattle.compartments.proofs.Analysing.{as_many}
+use Rattle.ir_laws.proofs.Resolved.{as_many}
+use Rattle.grouping.proofs.Moves.{length_moved as each_moved}
 
 each_fact : (w : PlainFirmware) (n : Needs) → length (facts w n) ≡ length n.funcs
 unfolding facts
 each_fact w n = length-map-range_with_len (facts_of (map (λ (f : PlainFunc). f.name) (funcs_of w)) (files_from 0 w.files) n) 0 (length n.funcs)
-
--- a function that moves leaves as many groups
-each_moved : (groups : List ℕ) (f : FuncFacts) → length (move groups f) ≡ length groups
-each_moved groups f = by (is_empty f.periphs) (common_group groups f.callers)
-  where
-    by : (b : Bool) (o : Option ℕ) → length (cond b (moved_to groups f.index o) groups) ≡ length groups
-    by true (Some g) = length-set groups f.index g
-    by true None = refl
-    by false o = refl
 
 all_moved : (fs : List FuncFacts) (groups : List ℕ) → length (fold move groups fs) ≡ length groups
 all_moved [] groups = refl

@@ -1,5 +1,5 @@
 -- The first crossing site with too many targets, one site after another.
-use Rattle.std.proofs.Common.{◌≡◌, ℕ, zero, suc, ◌+◌, ◌<◌, ◌≤◌, Bool, true, false, cond, List, [], ◌∷◌, ◌++◌, length, get_or, take, Some, None, refl, sym, ap, ◌∙◌, arith}
+use Rattle.std.proofs.Common.{◌≡◌, ℕ, zero, suc, ◌+◌, ◌<◌, Bool, true, false, cond, List, [], ◌∷◌, ◌++◌, length, get_or, take, Some, None, refl, sym, ap, ◌∙◌, arith}
 use Rattle.std.specs.Prelude.{filter, find}
 use Rattle.std.specs.Option.{option_or}
 use Rattle.std.proofs.lemmas.List.Elements.{filter_more}
@@ -32,12 +32,3 @@ not_wide {X} p q xs i d l n e = ap (find p) (filter_more q xs i d l) ∙ (find-a
     by : (b : Bool) → find p (cond b (get_or xs i d ∷ []) []) ≡ None
     by true = ap (λ c. cond c (Some (get_or xs i d)) None) e
     by false = refl
-
--- no more than all
-pub few : {X : Type 0} (q : X → Bool) (xs : List X) → length (filter q xs) ≤ length xs
-few q [] = omega arith
-few {X} q (x ∷ xs) = by (q x) (few q xs)
-  where
-    by : (b : Bool) → length (filter q xs) ≤ length xs → length (cond b (x ∷ filter q xs) (filter q xs)) ≤ length (x ∷ xs)
-    by true ih = omega arith
-    by false ih = omega arith

@@ -6,7 +6,6 @@ use Rattle.ir_model.specs.Plain.{PlainFirmware, funcs_of}
 use Rattle.ir_model.specs.Canonical.{IsWithinLimits}
 use Rattle.ir_model.specs.Typing.{IsTyped}
 use Rattle.ir_model.specs.Resolved.{Program}
-use Rattle.ir_model.specs.Resolve as definition
 use Rattle.ir_model.specs.Resolve.{resolve}
 use Rattle.ir_program.specs.declared.program.Program as programs
 use Rattle.ir_program.specs.Seen.{program_of, routine_of, known_of}
@@ -16,7 +15,7 @@ use Rattle.plan_model.specs.declared.needs.Needs.{Needs}
 use Rattle.plan_model.specs.declared.plan.Board.{Board}
 use Rattle.plan_model.specs.declared.plan.Sizes.{Sizes}
 use Rattle.plan_model.specs.Boards.{IsBoard, slots_of}
-use Rattle.plan_model.specs.Compartments.{AreCompartments, compartment_number, compartments}
+use Rattle.plan_model.specs.Compartments.{AreCompartments, compartments}
 use Rattle.plan_model.specs.CompileLimits.{KeepsLimits}
 use Rattle.plan_model.specs.FinalGraph.{IsFinal}
 use Rattle.plan_model.specs.Placement.{Fits, plan_of}
@@ -35,24 +34,15 @@ use Rattle.planned_images.specs.Whole.{IsForBoard, PlannedImagesAreForBoards, Pl
 use Rattle.planning.specs.declared.planner.PlannedFirmware.{PlannedFirmware}
 use Rattle.planning.specs.Planned.{IsPlannedFor}
 use Rattle.compiler.specs.Compiled.{IsImageFor}
+use Rattle.ir_laws.proofs.Resolved.{as_many}
 
 -- ---- how many functions there are
-
--- as many in the program as in the firmware
-as_many : (w : PlainFirmware) → length (resolve w).funcs ≡ length (funcs_of w)
-unfolding resolve
-as_many w = length-map (funcs_of w) (definition.resolved_func _)
 
 pub routines : (p : programs.Program) (w : PlainFirmware) → program_of p ≡ resolve w → length p.funcs ≡ length (resolve w).funcs
 routines p w e = sym (length-map p.funcs (routine_of (known_of p))) ∙ ap (λ (q : Program). length q.funcs) e
 
 pub each_need : (w : PlainFirmware) (b : Board) (n : Needs) → AreNeedsOf w b.closed n → length n.funcs ≡ length (funcs_of w)
 each_need w b n h = h.needs.count ∙ as_many w
-
--- and each has its compartment
-pub each_compartment : (p : Program) (g : Groups) → AreCompartments p g → length g.of ≡ length p.funcs
-unfolding compartments
-each_compartment p g h = ap (λ (x : Groups). length x.of) h.are ∙ (length-map h.groups (compartment_number h.groups) ∙ h.each)
 
 -- by the answers of a callback
 pub answered_compartments : (w : PlainFirmware) (n : Needs) (answers : FuncFacts → ℕ → Type 0) (fs : List FuncFacts) (g : Groups) → length fs ≡ length (funcs_of w)

@@ -3,7 +3,7 @@ use Rattle.std.proofs.Common.{◌≡◌, ℕ, zero, suc, ◌+◌, ◌-◌, ◌*�
 use Rattle.device_model.specs.declared.image.Image.{Image}
 use Rattle.armv7m.specs.State.{State}
 use Rattle.armv7m.specs.Exceptions.{frame_at}
-use Rattle.armv7m.specs.Confinement.{Each}
+use Rattle.common_laws.specs.Lists.{Each}
 use Rattle.armv7m.proofs.Tested.{frame_aligned}
 use Rattle.monitor.specs.declared.tables.Tables.{Tables}
 use Rattle.monitor.specs.Records.{eighth, rounded}

@@ -1,6 +1,6 @@
 -- Enter makes a change of the block: the call of a site, to one of its targets.
-use Rattle.std.specs.Prelude.{if◌then◌else◌, take, Contains}
-use Rattle.std.proofs.Common.{◌≡◌, ℕ, zero, suc, ◌+◌, ◌-◌, ◌*◌, ◌/◌, ◌%◌, ◌^◌, ◌<◌, ◌≤◌, Bool, true, false, ◌&&◌, List, [], ◌∷◌, length, drop, get_or, Option, Some, None, nat_eq, nat_lt, refl, sym, ap, ap₂, ◌∙◌, subst, arith, div-mul-le_self}
+use Rattle.std.specs.Prelude.{if◌then◌else◌, Contains}
+use Rattle.std.proofs.Common.{◌≡◌, ℕ, suc, ◌+◌, ◌-◌, ◌*◌, ◌/◌, ◌%◌, ◌^◌, ◌<◌, ◌≤◌, Bool, true, false, ◌&&◌, List, [], ◌∷◌, length, drop, get_or, Option, Some, None, nat_eq, nat_lt, refl, sym, ap, ap₂, ◌∙◌, subst, arith, div-mul-le_self}
 use Rattle.std.proofs.lemmas.Option.{slice_get-get_or}
 use Rattle.std.proofs.lemmas.Bool.Decides.{nat_tests}
 use Rattle.words.specs.Bytes.{read, write_all}
@@ -9,7 +9,7 @@ use Rattle.device_model.specs.declared.image.Image.{Image}
 use Rattle.mem_bus.specs.Places.{Place, InRam, InFlash, InWindow, Nowhere, place}
 use Rattle.armv7m.specs.declared.state.CoreRegisters.{CoreRegisters}
 use Rattle.armv7m.specs.State.{State, by_mpu}
-use Rattle.armv7m.specs.Confinement.{Each}
+use Rattle.common_laws.specs.Lists.{Each}
 use Rattle.armv7m.specs.Exceptions.{supervisor_call, frame_at, is_frame_open}
 use Rattle.armv7m.specs.Stack.{cut_words}
 use Rattle.armv7m.specs.Code.{HoldsHalf}
@@ -26,8 +26,8 @@ use Rattle.monitor.specs.Handlers.{FrameIsOpen, Change, Enters, at_svc}
 use Rattle.monitor.specs.Outcomes.{Outcome, Halts, Resumes, r12_place, return_place, frame_in, moved_on}
 use Rattle.monitor.specs.SvcOutcome.{word, callee_frame, new_top, enter_to, enter_by, enter_at}
 use Rattle.monitor.specs.MonitorLaw.{GoesOn}
-use Rattle.confine.proofs.Reaches.{each_at}
 use Rattle.confine.proofs.EntryWords.{FrameLaws, flash_low, entered_length, frame_word}
+use Rattle.common_laws.proofs.Lists.{each_at, each_drop, each_take}
 
 pub if_resumes : (b : Bool) (x : Outcome) (k : ℕ) (n : Block) (q : ℕ) (fr : List ℕ) → (if b then x else Halts k) ≡ Resumes n q fr → (b ≡ true) × (x ≡ Resumes n q fr)
 if_resumes true x k n q fr e = (refl, e)
@@ -46,16 +46,6 @@ same_parts a b p q x y e =
     (f, g, h)
 
 -- ---- targets
-
-pub each_drop : (P : TargetRecord → Type 0) (n : ℕ) (xs : List TargetRecord) → Each P xs → Each P (drop n xs)
-each_drop P zero xs h = h
-each_drop P (suc n) [] h = tt
-each_drop P (suc n) (x ∷ xs) h = each_drop P n xs h.1
-
-pub each_take : (P : TargetRecord → Type 0) (n : ℕ) (xs : List TargetRecord) → Each P xs → Each P (take n xs)
-each_take P zero xs h = tt
-each_take P (suc n) [] h = tt
-each_take P (suc n) (x ∷ xs) h = (h.0, each_take P n xs h.1)
 
 -- the target that was found is one of them, with this entry, and is what all of them are
 pub record IsFound (P : TargetRecord → Type 0) (xs : List TargetRecord) (e : ℕ) (g : TargetRecord) : Type 0 where

@@ -9,7 +9,7 @@ use Rattle.armv7m.specs.State.{State, Turn, by_mpu, ends}
 use Rattle.armv7m.specs.Step.{turn, step}
 use Rattle.armv7m.specs.Run.{start}
 use Rattle.armv7m.specs.Shape.{StateFits, StepsKeepShape}
-use Rattle.armv7m.specs.Confinement.{Each}
+use Rattle.common_laws.specs.Lists.{Each}
 use Rattle.armv7m.proofs.Runs.{turn_ended}
 use Rattle.monitor.specs.declared.tables.Tables.{Tables}
 use Rattle.monitor.specs.Placed.{Placed}

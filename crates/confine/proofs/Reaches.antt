@@ -1,10 +1,9 @@
 -- Which addresses the regions of the invariant leave to unprivileged code.
-use Rattle.std.proofs.Common.{◌≡◌, ℕ, zero, suc, ◌+◌, ◌-◌, ◌*◌, ◌/◌, ◌%◌, ◌^◌, ◌<◌, ◌≤◌, ◌⊎◌, inl, inr, ⊎_elim, Bool, true, false, List, [], ◌∷◌, length, map, nat_eq, refl, sym, ap, ap₂, ◌∙◌, subst, arith, pow_pos, mul-div_cancel}
+use Rattle.std.proofs.Common.{◌≡◌, ℕ, ◌+◌, ◌-◌, ◌*◌, ◌/◌, ◌%◌, ◌^◌, ◌<◌, ◌≤◌, ◌⊎◌, inl, inr, Bool, true, false, List, [], ◌∷◌, length, map, nat_eq, refl, sym, ap, ap₂, ◌∙◌, subst, arith, pow_pos, mul-div_cancel}
 use Rattle.std.specs.Int.{IsPowerOfTwo}
-use Rattle.std.proofs.Math.ListN.{get_or}
 use Rattle.std.proofs.Math.Nat.{zero-mod}
 use Rattle.std.proofs.Math.Pow.{mod-mod-pow}
-use Rattle.std.proofs.lemmas.Bool.{false≢true, cases_order}
+use Rattle.std.proofs.lemmas.Bool.{false≢true}
 use Rattle.std.proofs.lemmas.Bool.Decides.{nat_tests}
 use Rattle.std.proofs.lemmas.Nat.{pow_below}
 use Rattle.mpu_model.specs.declared.region.Region.{Region}
@@ -21,7 +20,8 @@ use Rattle.mpu_model.specs.Configured.{IsLast, KeptListsPermit, closed_from, Ope
 use Rattle.device_model.specs.declared.image.Image.{Image}
 use Rattle.mem_bus.specs.Places.{choose}
 use Rattle.armv7m.specs.State.{State}
-use Rattle.armv7m.specs.Confinement.{Each, AnyOf}
+use Rattle.armv7m.specs.Confinement.{AnyOf}
+use Rattle.common_laws.specs.Lists.{Each}
 use Rattle.monitor.specs.declared.tables.CompRecord.{CompRecord}
 use Rattle.monitor.specs.declared.tables.Tables.{Tables}
 use Rattle.monitor.specs.Records.{compartment_at, nobody, eighth}
@@ -32,6 +32,8 @@ use Rattle.monitor.specs.Block.{Block}
 use Rattle.monitor.specs.BlockWords.{current, top}
 use Rattle.monitor.specs.Invariant.{IsTop, InvariantHolds}
 use Rattle.confine.specs.Reaches.{ThreadsReach}
+use Rattle.common_laws.proofs.Lists.{each_at}
+use Rattle.monitor.proofs.Multiples.{divides}
 
 -- the laws of the protection unit
 pub record UnitLaws : Type 0 where
@@ -76,11 +78,6 @@ writes_at g e = search (nat_tests, arith)
 
 -- ---- lists
 
-pub each_at : {A : Type 0} (P : A → Type 0) (xs : List A) (d : A) (k : ℕ) → Each P xs → k < length xs → P (get_or xs k d)
-each_at P [] d k e lt = absurd (omega arith)
-each_at P (x ∷ xs) d zero e lt = e.0
-each_at P (x ∷ xs) d (suc k) e lt = each_at P xs d k e.1 (omega arith)
-
 written_slots : (gs : List Region) (a : ℕ) → AnyOf (Opens Write a) gs → AnyOf (λ (g : Region). (holds g a ≡ true) × (permission g ≡ 3)) gs
 written_slots [] a f = f
 written_slots (g ∷ gs) a (inl f) = inl (f.0, writes_at g f.1)
@@ -95,25 +92,6 @@ no_slot_code : (i : Image) (t : Tables) (gs : List Region) (a : ℕ) → Each (I
 no_slot_code i t [] a h f = f
 no_slot_code i t (g ∷ gs) a h (inl f) = false≢true (sym (h.0 a f.0).no_code ∙ f.1)
 no_slot_code i t (g ∷ gs) a h (inr f) = no_slot_code i t gs a h.1 f
-
--- a power of two divides a greater one
-pub divides : (b z : ℕ) → IsPowerOfTwo z → z ≤ 2 ^ 20 → b % 2 ^ 20 ≡ 0 → b % z ≡ 0
-divides b z p le h = ap (λ z. b % z) p.1 ∙ ⊎_elim same (λ o. ⊎_elim small large o) (cases_order p.0 20)
-  where
-    k : ℕ
-    k = p.0
-
-    small_by : (j : ℕ) → j + k ≡ 20 → b % 2 ^ k ≡ 0
-    small_by j e = sym (mod-mod-pow b j k) ∙ ap (λ n. b % 2 ^ n % 2 ^ k) e ∙ ap (λ n. n % 2 ^ k) h ∙ zero-mod (2 ^ k)
-
-    small : k < 20 → b % 2 ^ k ≡ 0
-    small lt = small_by (20 - k) (omega (arith, lt))
-
-    same : k ≡ 20 → b % 2 ^ k ≡ 0
-    same e = small_by 0 (omega (arith, e))
-
-    large : 20 < k → b % 2 ^ k ≡ 0
-    large lt = absurd (let more = pow_below 20 k lt in let e = p.1 in omega (arith, more, e, le))
 
 -- the stack's size is some power of two
 stack_eighth : (k : ℕ) → 9 ≤ k → k ≤ 16 → (2 ^ 8 ≤ 2 ^ k) × (2 ^ k < 2 ^ 32) × (0 < 2 ^ k / 8)

@@ -8,7 +8,8 @@ use Rattle.mpu_model.specs.declared.region.Access.TheVariants.{Read, Write, Fetc
 use Rattle.mpu_model.specs.Regions.{holds, permission}
 use Rattle.mpu_model.specs.Protection.{permits}
 use Rattle.device_model.specs.declared.image.Image.{Image}
-use Rattle.device_model.specs.Rules.{AreApart, block_size}
+use Rattle.windows.specs.Ranges.{AreApart}
+use Rattle.device_model.specs.Rules.{block_size}
 use Rattle.mem_bus.specs.Places.{Place, InRam, InFlash, InWindow, Nowhere, place}
 use Rattle.mem_bus.specs.Access.{further}
 use Rattle.mem_bus.specs.Bus.{fetch_at}
@@ -20,7 +21,8 @@ use Rattle.armv7m.specs.Exceptions.{vector_offset, mem_manage, supervisor_call}
 use Rattle.armv7m.specs.Step.{turn}
 use Rattle.armv7m.specs.Code.{HoldsHalf}
 use Rattle.armv7m.specs.Shape.{StateFits, StepsKeepShape}
-use Rattle.armv7m.specs.Confinement.{Each, AnyOf, Misses, IsVectorRead}
+use Rattle.armv7m.specs.Confinement.{AnyOf, Misses, IsVectorRead}
+use Rattle.common_laws.specs.Lists.{Each}
 use Rattle.armv7m.specs.Asked.{IsFetched}
 use Rattle.armv7m.specs.ThreadStep.{IsReached, Plain, IsFetchFault, IsDataFault, ThreadStep, Ends, Goes, Calls, Faults, UnprivilegedStepsAreThreadSteps, UnprivilegedAccessesAreReached}
 use Rattle.monitor.specs.declared.tables.Tables.{Tables}
@@ -34,11 +36,8 @@ use Rattle.monitor.specs.Confined.{IsProtected}
 use Rattle.monitor.specs.Handlers.{IsFault}
 use Rattle.confine.specs.Reaches.{ThreadsReach, Reaches}
 use Rattle.confine.specs.ThreadSteps.{ThreadStepsAreConfined, ThreadStepsLead, LeadsOn, Ends as LeadsToEnd, Goes as LeadsToThread, Calls as LeadsToSvc, Faults as LeadsToFault}
-use Rattle.confine.proofs.Reaches.{each_at, top_word, current_word, regions_word}
-
-each_to : {A : Type 0} (P Q : A → Type 0) (xs : List A) → ((x : A) → P x → Q x) → Each P xs → Each Q xs
-each_to P Q [] f h = tt
-each_to P Q (x ∷ xs) f h = (f x h.0, each_to P Q xs f h.1)
+use Rattle.confine.proofs.Reaches.{top_word, current_word, regions_word}
+use Rattle.common_laws.proofs.Lists.{each_to, each_at}
 
 further_mapped : (l : Place) (k : ℕ) → l ≢ Nowhere → further k l ≢ Nowhere
 further_mapped (InRam o) k h e = cc
@@ -46,7 +45,7 @@ further_mapped (InFlash o) k h e = cc
 further_mapped (InWindow q o) k h e = cc
 further_mapped Nowhere k h e = absurd (h refl)
 
-slot_off : (i : Image) (t : Tables) (gs : List Region) (a : ℕ) → Each (IsSlot i t) gs →
+pub slot_off : (i : Image) (t : Tables) (gs : List Region) (a : ℕ) → Each (IsSlot i t) gs →
     AnyOf (λ (g : Region). (holds g a ≡ true) × (permission g ≡ 3)) gs → AreApart a 1 t.monitor block_size
 slot_off i t [] a h f = absurd f
 slot_off i t (g ∷ gs) a h (inl f) = (h.0 a f.0).off_block

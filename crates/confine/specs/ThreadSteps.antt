@@ -7,7 +7,7 @@ use Rattle.armv7m.specs.declared.state.End.{End}
 use Rattle.armv7m.specs.State.{State, by_mpu, ends}
 use Rattle.armv7m.specs.Exceptions.{is_frame_open}
 use Rattle.armv7m.specs.Step.{turn}
-use Rattle.armv7m.specs.Confinement.{Each}
+use Rattle.common_laws.specs.Lists.{Each}
 use Rattle.monitor.specs.declared.tables.Tables.{Tables}
 use Rattle.monitor.specs.Placed.{Placed}
 use Rattle.monitor.specs.Block.{Block}

@@ -1,10 +1,11 @@
 -- What holds of one of the items that a loop has passed.
 use Rattle.std.proofs.Common.{◌≡◌, ◌↔◌, ℕ, ◌+◌, ◌<◌, ◌≤◌, List, [], ◌∷◌, ◌++◌, length, take, get_or, sym, subst, inl, inr}
 use Rattle.std.specs.Prelude.{◌⊎◌, Contains}
-use Rattle.std.proofs.lemmas.List.{take_more, take_all}
+use Rattle.std.proofs.lemmas.List.{take_all}
 use Rattle.std.proofs.lemmas.List.Elements.{Contains-append_left, Contains-push, Contains-push_cases}
 use Rattle.depend.specs.Accesses.{AnyOf}
 use Rattle.object_sets.proofs.Parts.{in_none}
+use Rattle.common_laws.proofs.Lists.{take_next as same_take}
 
 pub any_none : {X : Type 0} (P : X → Type 0) → AnyOf P [] → ⊥
 any_none P a = in_none a.item a.listed
@@ -19,9 +20,6 @@ behind {X} P xs x a = by (Contains-push_cases xs x a.item a.listed)
 kept : {X : Type 0} (P : X → Type 0) (xs : List X) (x : X) → AnyOf P xs ⊎ P x → AnyOf P (xs ++ x ∷ [])
 kept P xs x (inl a) = record { item = a.item; listed = Contains-append_left xs (x ∷ []) a.item a.listed; holds = a.holds }
 kept P xs x (inr h) = record { item = x; listed = Contains-push xs x; holds = h }
-
-same_take : {X : Type 0} (xs : List X) (i : ℕ) (x : X) → i < length xs → x ≡ get_or xs i x → take (i + 1) xs ≡ take i xs ++ x ∷ []
-same_take xs i x h e = subst (λ y. take (i + 1) xs ≡ take i xs ++ y ∷ []) (sym e) (take_more xs i x h)
 
 -- one item more: `D` holds where `C` did, or of this item
 pub any_step : {X : Type 0} (P : X → Type 0) (C D : Type 0) (xs : List X) (i : ℕ) (x : X) → i < length xs → x ≡ get_or xs i x

@@ -7,8 +7,9 @@ use Rattle.std.specs.declared.cmp.Ordering.{Ordering}
 use Rattle.std.proofs.lemmas.List.Kept.{IsStrictlySortedBy-filter}
 use Rattle.std.proofs.lemmas.List.Elements.{Contains-append_left, Contains-append_right, Contains-append_cases}
 use Rattle.plan_model.specs.Lists.{ListsExactly}
-use Rattle.object_sets.proofs.Parts.{cases, head, in_none}
+use Rattle.object_sets.proofs.Parts.{head}
 use Rattle.depend.proofs.Members.{filtered, from_filter}
+use Rattle.common_laws.proofs.Lists.{only_one as only}
 
 pub exactly_by : {X : Type 0} (cmp : X → X → Ordering) (P Q : X → Type 0) (xs : List X) → ((x : X) → P x ↔ Q x) → ListsExactly cmp P xs → ListsExactly cmp Q xs
 exactly_by cmp P Q xs same e = record { rising = e.rising; each = λ x h. (same x).0 (e.each x h); all = λ x h. e.all x ((same x).1 h) }
@@ -20,13 +21,6 @@ kept_exactly cmp P p xs e =
       each = λ x h. let f = from_filter p x xs h in (f.1, e.each x f.0);
       all = λ x h. filtered p x xs (e.all x h.1) h.0;
     }
-
-only : {X : Type 0} (x h : X) → Contains (x ∷ []) h → x ≡ h
-only x h i = by (cases x h [] i)
-  where
-    by : (x ≡ h) ⊎ Contains [] h → x ≡ h
-    by (inl e) = e
-    by (inr r) = absurd (in_none h r)
 
 -- behind items others were put, which are those that have a property
 pub appended : {X : Type 0} (xs ys zs : List X) (h : X) (P : Type 0) → ys ≡ xs ++ zs → Contains zs h ↔ P → Contains ys h ↔ (Contains xs h ⊎ P)

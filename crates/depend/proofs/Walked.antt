@@ -1,11 +1,10 @@
 -- Calls that a walk over a function lists, one instruction, one block and one function more.
 use Rattle.std.proofs.Common.{◌≡◌, ℕ, zero, suc, ◌+◌, ◌<◌, ◌≤◌, List, [], ◌∷◌, ◌++◌, length, map, take, get_or, refl, sym, ap, subst, ◌∙◌, inl, inr, arith}
 use Rattle.std.specs.Prelude.{◌⊎◌, Contains}
-use Rattle.std.specs.List.{AllZip, flat_map, range_with_len}
+use Rattle.std.specs.List.{AllZip, range_with_len}
 use Rattle.std.specs.List.Sorted.{IsStrictlySortedBy}
 use Rattle.std.specs.Ordering.{nat_cmp}
 use Rattle.std.proofs.lemmas.List.{append_assoc, append-nil, map-id, map_more, length-take-le, length-map, get_or-map}
-use Rattle.std.proofs.lemmas.List.Concat.{flat_map-append}
 use Rattle.std.proofs.lemmas.List.FromFn.{map-range_with_len_more}
 use Rattle.ir_model.specs.Layout.{Known}
 use Rattle.ir_model.specs.Resolved.{Program, NumberedInst, Const, Move, Bin, Cmp, Addr, FAddr, Elem, Field, Load, Store, Call, ICall, NumberedTerm, NumberedBlock, NumberedFunc, no_block, Here, Does, here_in, here, func_at, block_at}
@@ -26,18 +25,13 @@ use Rattle.depend.specs.Bounds.{IsBelow}
 use Rattle.depend.specs.Sites.{CallsBelow, Adds}
 use Rattle.object_sets.proofs.Parts.{head, cases, in_none}
 use Rattle.depend.proofs.Funcs.{func_read}
+use Rattle.common_laws.proofs.Lists.{zip_pushed}
 
 pub adds_none : (p : Program) (S : ObjectSets) (old : List SiteNeed) → Adds p S old old []
 adds_none p S old before h = subst (λ l. AllZip (IsSiteOf p S) l old) (sym (append-nil before)) h
 
 pub adds_more : (p : Program) (S : ObjectSets) (old mid new : List SiteNeed) (a b : List CallPlace) → Adds p S old mid a → Adds p S mid new b → Adds p S old new (a ++ b)
 adds_more p S old mid new a b x y before h = subst (λ l. AllZip (IsSiteOf p S) l new) (append_assoc before a b) (y (before ++ a) (x before h))
-
-zip_pushed : {X Y : Type 0} (R : X → Y → Type 0) (xs : List X) (ys : List Y) (x : X) (y : Y) → AllZip R xs ys → R x y → AllZip R (xs ++ x ∷ []) (ys ++ y ∷ [])
-zip_pushed R [] [] x y a r = (r, tt)
-zip_pushed R [] (z ∷ zs) x y a r = absurd a
-zip_pushed R (z ∷ zs) [] x y a r = absurd a
-zip_pushed R (v ∷ vs) (z ∷ zs) x y a r = (a.0, zip_pushed R vs zs x y a.1 r)
 
 pub adds_one : (p : Program) (S : ObjectSets) (old new : List SiteNeed) (c : CallPlace) (s : SiteNeed) → new ≡ old ++ s ∷ [] → IsSiteOf p S c s → Adds p S old new (c ∷ [])
 adds_one p S old new c s e i before h = subst (λ l. AllZip (IsSiteOf p S) (before ++ c ∷ []) l) (sym e) (zip_pushed (IsSiteOf p S) before old c s h i)
@@ -81,10 +75,6 @@ here_there h (y ∷ ys) t (suc i) x l e = here_there h ys t i x (omega arith) e
 pub numbers_more : (n : ℕ) → range_with_len 0 (n + 1) ≡ range_with_len 0 n ++ n ∷ []
 numbers_more n =
     sym (map-id (range_with_len 0 (n + 1))) ∙ (map-range_with_len_more (λ (x : ℕ). x) 0 n n (omega arith) ∙ ap (λ l. l ++ n ∷ []) (map-id (range_with_len 0 n)))
-
-pub flat_numbers : {Y : Type 0} (g : ℕ → List Y) (n : ℕ) → flat_map g (range_with_len 0 n) ++ g n ≡ flat_map g (range_with_len 0 (n + 1))
-flat_numbers g n =
-    sym (ap (flat_map g) (numbers_more n) ∙ (flat_map-append g (range_with_len 0 n) (n ∷ []) ∙ ap (λ l. flat_map g (range_with_len 0 n) ++ l) (append-nil (g n))))
 
 -- ---- one instruction
 

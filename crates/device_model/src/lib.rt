@@ -2,5 +2,6 @@
 #![tactic(auto)]
 
 pub mod image;
+pub mod limits;
 mod line;
 pub mod tape;

@@ -1,5 +1,5 @@
 -- Tests and loops: what may be put of their lists, and how their code is put together.
-use Rattle.std.proofs.Common.{◌≡◌, ℕ, pos, ◌+◌, ◌%◌, ◌<◌, true, ◌&&◌, List, [], ◌∷◌, ◌++◌, length, get_or, take, subst, ap, sym, arith, append_assoc, append-nil, Result, Ok, Err, OnOk}
+use Rattle.std.proofs.Common.{◌≡◌, ℕ, pos, ◌+◌, ◌%◌, ◌<◌, true, ◌&&◌, List, [], ◌∷◌, ◌++◌, length, get_or, take, subst, ap, sym, arith, append_assoc, append-nil}
 use Rattle.thumb_model.specs.declared.table.Instr.TheVariants.{BranchWide}
 use Rattle.thumb_asm.specs.Assembly.{Assembly, here}
 use Rattle.armv7m.proofs.CodeParts.{code_size-even}
@@ -11,7 +11,8 @@ use Rattle.gate_steps.specs.Code.{code, code_length}
 use Rattle.gate_steps.proofs.CodeParts.{code_has_its_length}
 use Rattle.gate_assembler.specs.Emitted.{MayPut, HasPut, has_near_offsets, choice_code, loop_head, loop_end}
 use Rattle.gate_assembler.proofs.Puts.{put_both}
-use Rattle.gate_assembler.proofs.Splits.{both_are, low-at, near-at, length-take_more, length-take-le, code-take_more}
+use Rattle.gate_assembler.proofs.Splits.{low-at, near-at, length-take_more, length-take-le, code-take_more}
+use Rattle.common_laws.proofs.Tests.{both_true as both_are}
 
 pub length-even : (s : Steps) → code_length s % 2 ≡ 0
 length-even s = subst (λ n. n % 2 ≡ 0) (code_has_its_length s) (code_size-even (code s))
@@ -92,7 +93,3 @@ loop_is_put a b c d left most body p q r =
     subst (HasPut a d) i all
 
 -- ---- answers
-
-pub on_ok : {T E P Q : Type 0} (r : Result T E) → (P → Q) → OnOk r P → OnOk r Q
-on_ok (Ok x) f p = f p
-on_ok (Err e) f p = p

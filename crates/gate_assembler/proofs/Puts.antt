@@ -3,21 +3,17 @@ use Rattle.std.proofs.Common.{◌≡◌, ℕ, ◌+◌, ◌<◌, ◌≤◌, List,
 use Rattle.thumb_model.specs.declared.table.Instr.{Instr}
 use Rattle.thumb_model.specs.Table.{InTable}
 use Rattle.thumb_model.specs.Bytes.{EachInTable}
-use Rattle.thumb_asm.specs.declared.item.Item.{Item}
 use Rattle.thumb_asm.specs.declared.item.Item.TheVariants.{Plain}
-use Rattle.thumb_asm.specs.Assembly.{Assembly, here, total}
+use Rattle.thumb_asm.specs.Assembly.{Assembly, here}
 use Rattle.armv7m.specs.Code.{size}
 use Rattle.armv7m.specs.Running.{code_size}
 use Rattle.armv7m.proofs.CodeParts.{code_size-append, width-encode}
 use Rattle.gate_assembler.specs.Emitted.{HasPut}
+use Rattle.thumb_asm.proofs.Items.{total-append}
 
 map-append : (xs ys : List Instr) → map Plain (xs ++ ys) ≡ map Plain xs ++ map Plain ys
 map-append [] ys = refl
 map-append (x ∷ xs) ys = ap (λ zs. Plain x ∷ zs) (map-append xs ys)
-
-total-append : (xs ys : List Item) → total (xs ++ ys) ≡ total xs + total ys
-total-append [] ys = omega arith
-total-append (x ∷ xs) ys = omega (arith, total-append xs ys)
 
 -- nothing yet
 pub none_put : (a : Assembly) → HasPut a a []

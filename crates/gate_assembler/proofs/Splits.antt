@@ -10,6 +10,7 @@ use Rattle.gate_steps.specs.Lists.{chain, step_before, before, all_before, steps
 use Rattle.gate_steps.specs.Code.{code, code_length}
 use Rattle.gate_steps.proofs.Views.{all_before-append}
 use Rattle.gate_assembler.specs.Emitted.{has_near_offsets}
+use Rattle.common_laws.proofs.Tests.{both_true as both_are}
 
 -- ---- lengths
 
@@ -122,11 +123,6 @@ layer_near f x e k = ap (λ g. has_near_offsets (g k)) e ∙ step_near x k ∙ a
 
 pub near-before : (s : GateStep) (k : Steps) → has_near_offsets (before s k) ≡ (has_near_offsets (before s End) && has_near_offsets k)
 near-before s k = layer_near (before s) _ (fold_out-GateStep (Steps → Steps) step_before s) k
-
--- what holds behind some steps holds of each of them and of what follows
-pub both_are : (x y : Bool) → (x && y) ≡ true → (x ≡ true) × (y ≡ true)
-both_are true y h = (refl, h)
-both_are false y h = absurd cc
 
 pub low-at : (ss : List GateStep) (i : ℕ) (d : GateStep) → i < length ss → names_low (steps_of ss) ≡ true → names_low (before (get_or ss i d) End) ≡ true
 low-at [] i d lt h = absurd (omega arith)

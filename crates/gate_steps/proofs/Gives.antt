@@ -21,7 +21,7 @@ use Rattle.gate_steps.specs.Core.{Core, low_register, with_low, with_ram, with_s
 use Rattle.gate_steps.specs.Accesses.{Value, Written, address_of, load_by, store_by, load, store}
 use Rattle.gate_steps.specs.Effect.{Outcome, Went, Halted, AtReturn, AtBranch, Stopped, Unclaimed, then_do, operation, compared, either, by_zero, after_load, after_store, with_one_less, turns, effect}
 use Rattle.gate_steps.specs.Safe.{Rule, OnValue, OnWritten, OnWent, Either, UnlessZero, AreTurnsSafe, IsSafe}
-use Rattle.gate_steps.proofs.Verdicts.{to_bus, to_system}
+use Rattle.armv7m.proofs.ToSystem.{to_system, to_bus}
 
 -- ---- memory
 

@@ -37,7 +37,7 @@ use Rattle.armv7m.specs.Step.{turn}
 use Rattle.armv7m.specs.Code.{size, Stands, live, next}
 use Rattle.armv7m.specs.Shape.{StateFits, StepsKeepShape}
 use Rattle.armv7m.specs.Events.{ended}
-use Rattle.armv7m.specs.Confinement.{Each}
+use Rattle.common_laws.specs.Lists.{Each}
 use Rattle.armv7m.specs.RunningCode.{IsLoad, IsStore}
 use Rattle.armv7m.proofs.Exec.{stepped}
 use Rattle.armv7m.proofs.InstructionEffects.{register_low, with_register_low}
@@ -55,17 +55,13 @@ use Rattle.gate_steps.specs.Ticks.{load_ticks, store_ticks, then_ticks, either_t
 use Rattle.gate_steps.specs.Safe.{Rule, OnValue, OnWritten, OnWent, Either, UnlessZero, OnControl, AreTurnsSafe, IsSafe}
 use Rattle.gate_steps.proofs.CodeParts.{operation_has_its_length, has_front, has_back, behind}
 use Rattle.gate_steps.specs.Runs.{Scratch, registers as registers_at, at as state_at, StandsWhileGood as AlwaysStands, HasCode as AlwaysHasCode, IsFine as StepIsFine, Leads as RunLeads, Shows as OutcomeShows, CodeHasEffect}
+use Rattle.common_laws.proofs.Tests.{both_true as both}
 
 forward : (a n : ℕ) → a + n < 2 ^ 31 → moved a (pos n) ≡ a + n
 forward a n h = omega (arith, ints)
 
 backward : (a n b : ℕ) → a < 2 ^ 31 → b + suc n ≡ a → moved a (negsuc n) ≡ b
 backward a n b h e = omega (arith, ints)
-
-both : (a b : Bool) → (a && b) ≡ true → (a ≡ true) × (b ≡ true)
-both true true h = (refl, refl)
-both true false h = cc
-both false b h = cc
 
 is_below : (a b : ℕ) → nat_lt a b ≡ true → a < b
 is_below a b h = grind (arith, nat_tests)

@@ -20,8 +20,8 @@ use Rattle.gate_steps.specs.Accesses.{Value, Written, address_of, load, store}
 use Rattle.gate_steps.specs.Effect.{Outcome, Went, Halted, AtReturn, AtBranch, Stopped, Unclaimed, then_do, operation, compared, either, after_load, after_store, with_one_less, turns, effect}
 use Rattle.gate_steps.specs.Ticks.{load_ticks, store_ticks, then_ticks, either_ticks, zero_ticks, turn_ticks, ticks}
 use Rattle.gate_steps.specs.Safe.{Rule, AreTurnsSafe, IsSafe}
-use Rattle.gate_steps.proofs.Verdicts.{to_system}
 use Rattle.gate_steps.proofs.Gives.{Open, Gives, gives_effect, end_gives, next_gives, const_gives, copy_gives, alu_gives, yes_gives, no_gives, must_gives, must_not_gives, halt_gives, return_gives, loop_gives, looped, load_is_at, store_is_at, in_ram, in_flash, value_gives, wrote_gives, psp_gives}
+use Rattle.armv7m.proofs.ToSystem.{to_system}
 
 module _ (j : PermissionTest) (i : Image) (Good : ProtectionState → Type 0) (Allowed : Rule) where
   unfoldable pub ticks_all : Steps → List Steps → Core → ℕ

@@ -18,7 +18,7 @@ use Rattle.armv7m.specs.Code.{size, Stands, CodeIn, live, next}
 use Rattle.armv7m.specs.Running.{code_size}
 use Rattle.armv7m.specs.Shape.{StateFits}
 use Rattle.armv7m.specs.Events.{ended}
-use Rattle.armv7m.specs.Confinement.{Each}
+use Rattle.common_laws.specs.Lists.{Each}
 use Rattle.gate_steps.specs.Steps.{Steps, names_low}
 use Rattle.gate_steps.specs.Core.{Core, core_of}
 use Rattle.gate_steps.specs.Effect.{Outcome, Went, Halted, AtReturn, AtBranch, Stopped, Unclaimed, effect}

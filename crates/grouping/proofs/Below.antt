@@ -1,8 +1,8 @@
 -- The numbers of groups are below the number of files, or of functions.
-use Rattle.std.proofs.Common.{◌≡◌, ℕ, suc, ◌<◌, ◌≤◌, ◌+◌, Bool, true, false, not, ◌&&◌, List, [], ◌∷◌, cond, nat_eq, length, map, filter, get_or, replicate, flat_map, Some, None, refl, sym, ap, subst, ◌∙◌, arith, length-append}
+use Rattle.std.proofs.Common.{◌≡◌, ℕ, suc, ◌<◌, ◌≤◌, ◌+◌, Bool, true, false, not, ◌&&◌, List, [], ◌∷◌, cond, nat_eq, length, map, get_or, replicate, Some, None, refl, sym, ap, subst, ◌∙◌, arith}
 use Rattle.std.specs.List.{All, fold, list_any, list_all, position_or_len}
 use Rattle.std.proofs.lemmas.Bool.{eq-eqb, cases_eq}
-use Rattle.std.proofs.lemmas.List.{get_or-map, length-map, length-replicate}
+use Rattle.std.proofs.lemmas.List.{get_or-map, length-map}
 use Rattle.std.proofs.lemmas.List.Folds.{list_any_at}
 use Rattle.std.proofs.lemmas.List.FromFn.{length-range_with_len, get_or-range_with_len}
 use Rattle.std.proofs.lemmas.List.Elements.{All-nil, All-cons, All-head, All-tail, All-append, All-map, All-set, All-weaker, All-get_or, All-from_get_or, All-replicate}
@@ -18,6 +18,8 @@ use Rattle.grouping.specs.Functions.{AreFunctions, HasCallersBelow}
 use Rattle.grouping.proofs.Distinct.{any_distinct, found_any}
 use Rattle.grouping.proofs.Moves.{length_moved}
 use Rattle.grouping.proofs.Periphs.{same_through}
+use Rattle.common_laws.proofs.Lists.{few_kept as at_most}
+use Rattle.ir_laws.proofs.Resolved.{files_count as length_files}
 
 -- ---- files
 
@@ -27,13 +29,6 @@ files_below k (f ∷ fs) =
     All-append (λ x. x < k + suc (length fs)) (replicate (length f.funcs) k) (files_from (suc k) fs)
     (All-replicate (λ x. x < k + suc (length fs)) (length f.funcs) k (omega arith))
     (All-weaker (λ x. x < suc k + length fs) (λ x. x < k + suc (length fs)) (λ x h. omega (arith, h)) (files_from (suc k) fs) (files_below (suc k) fs))
-
-length_files : (k : ℕ) (fs : List PlainFile) → length (files_from k fs) ≡ length (flat_map (λ (f : PlainFile). f.funcs) fs)
-length_files k [] = refl
-length_files k (f ∷ fs) =
-    length-append (replicate (length f.funcs) k) (files_from (suc k) fs)
-    ∙ (ap (λ n. n + length (files_from (suc k) fs)) (length-replicate (length f.funcs) k)
-    ∙ (ap (λ n. length f.funcs + n) (length_files (suc k) fs) ∙ sym (length-append f.funcs (flat_map (λ (f : PlainFile). f.funcs) fs))))
 
 -- each function's file is one of the firmware's
 pub facts_below : (w : PlainFirmware) (n : Needs) → length n.funcs ≡ length (funcs_of w) → All (λ (f : FuncFacts). f.file < length w.files) (facts w n)
@@ -103,14 +98,6 @@ optimized_below count fs functions h =
 same_itself : (ns : List ℕ) → same_numbers ns ns ≡ true
 same_itself [] = refl
 same_itself (n ∷ ns) = ap (λ b. b && same_numbers ns ns) (eq-eqb n n refl) ∙ same_itself ns
-
-at_most : {X : Type 0} (p : X → Bool) (xs : List X) → length (filter p xs) ≤ length xs
-at_most p [] = omega arith
-at_most p (x ∷ xs) = by (p x) (at_most p xs)
-  where
-    by : (b : Bool) → length (filter p xs) ≤ length xs → length (cond b (x ∷ filter p xs) (filter p xs)) ≤ suc (length xs)
-    by true ih = omega arith
-    by false ih = omega arith
 
 fewer_distinct : {X : Type 0} (same : X → X → Bool) (xs : List X) → length (distinct same xs) ≤ length xs
 fewer_distinct same [] = omega arith

@@ -2,7 +2,7 @@ mod Below
 mod ByName
 pub mod Distinct
 mod Files
-mod Moves
+pub mod Moves
 mod NextNumber
 pub mod Numbers
 mod Periphs

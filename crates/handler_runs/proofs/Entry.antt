@@ -2,12 +2,11 @@
 use Rattle.std.proofs.Common.{◌≡◌, ℕ, ◌+◌, ◌-◌, ◌*◌, ◌/◌, ◌%◌, ◌^◌, ◌<◌, ◌≤◌, inl, inr, ⊎_elim, Bool, true, false, not, ◌&&◌, List, [], ◌∷◌, length, get_or, None, refl, sym, ap, ap₂, ◌∙◌, subst, arith}
 use Rattle.words.specs.Bytes.{read, write_all}
 use Rattle.words.proofs.Bytes.{length-write_all, read_apart_all, read_all, cut_small}
-use Rattle.mpu_model.specs.declared.region.Region.{Region}
 use Rattle.mpu_model.specs.declared.region.Access.TheVariants.{Write}
-use Rattle.mpu_model.specs.Regions.{holds, permission}
 use Rattle.mpu_model.specs.Protection.{permits}
 use Rattle.device_model.specs.declared.image.Image.{Image}
-use Rattle.device_model.specs.Rules.{AreApart, block_size}
+use Rattle.windows.specs.Ranges.{AreApart}
+use Rattle.device_model.specs.Rules.{block_size}
 use Rattle.mem_bus.specs.Places.{choose}
 use Rattle.armv7m.specs.declared.state.ProtectionState.{ProtectionState}
 use Rattle.armv7m.specs.declared.state.FaultStatus.{FaultStatus}
@@ -16,30 +15,25 @@ use Rattle.armv7m.specs.Exceptions.{entered as entry, frame_at, frame_of, vector
 use Rattle.armv7m.specs.EntryFrame.{OpenFrame, OpenFramesAreWords}
 use Rattle.armv7m.specs.Shape.{StateFits, StatusFits}
 use Rattle.armv7m.specs.Code.{live}
-use Rattle.armv7m.specs.Confinement.{Each, AnyOf}
 use Rattle.gate_steps.specs.Runs.{Scratch, at}
 use Rattle.monitor.specs.declared.tables.Tables.{Tables}
 use Rattle.monitor.specs.Records.{nobody, eighth}
-use Rattle.monitor.specs.Placed.{Placed, IsCompartment, IsSlot}
+use Rattle.monitor.specs.Placed.{Placed, IsCompartment}
 use Rattle.monitor.specs.Block.{Block}
 use Rattle.monitor.specs.BlockWords.{block_word, IsBlock, current, top}
 use Rattle.monitor.specs.Invariant.{IsTop, InvariantHolds}
 use Rattle.monitor.specs.Reach.{running}
 use Rattle.confine.specs.Reaches.{ThreadsReach}
-use Rattle.monitor_laws.proofs.FlashWords.{each_at}
 use Rattle.monitor_laws.proofs.Effects.{eight}
 use Rattle.monitor_laws.proofs.Off.{core}
 use Rattle.handler_runs.proofs.Blocks.{block_stays}
+use Rattle.common_laws.proofs.Lists.{each_at}
+use Rattle.confine.proofs.ThreadSteps.{slot_off}
 
 -- the laws of lower crates that the entry rests on
 pub record EntryLaws : Type 0 where
   pub frames : OpenFramesAreWords
   pub reach : ThreadsReach
-
-slot_off : (i : Image) (t : Tables) (gs : List Region) (a : ℕ) → Each (IsSlot i t) gs → AnyOf (λ (g : Region). (holds g a ≡ true) × (permission g ≡ 3)) gs → AreApart a 1 t.monitor block_size
-slot_off i t [] a h f = absurd f
-slot_off i t (g ∷ gs) a h (inl f) = (h.0 a f.0).off_block
-slot_off i t (g ∷ gs) a h (inr f) = slot_off i t gs a h.1 f
 
 module _ (laws : EntryLaws) (i : Image) (t : Tables) (p : Placed i t) (s : State) (m : Block) (inv : InvariantHolds i t m s) (alive : s.ending ≡ None) (opened : is_frame_open by_mpu i s ≡ true) where
   s_is : s ≡ live s.core s.protection s.status s.ram s.queues

@@ -14,8 +14,6 @@ use Rattle.mpu_model.specs.Protection.{permits}
 use Rattle.mpu_model.specs.Laws.{RegionsGiveTheirRights}
 use Rattle.mpu_model.specs.Configured.{NoneOf, KeptListsPermit, closed_from, OpenEighthsAreHeld}
 use Rattle.device_model.specs.declared.image.Image.{Image}
-use Rattle.mem_bus.specs.Places.{InRam, place}
-use Rattle.mem_bus.proofs.Offsets.{in_ram}
 use Rattle.armv7m.specs.declared.state.CoreRegisters.{CoreRegisters}
 use Rattle.armv7m.specs.declared.state.ProtectionState.{ProtectionState}
 use Rattle.armv7m.specs.declared.state.FaultStatus.{FaultStatus}
@@ -23,13 +21,13 @@ use Rattle.armv7m.specs.State.{by_mpu}
 use Rattle.armv7m.specs.Act.{Exchanges}
 use Rattle.armv7m.specs.Instructions.{act}
 use Rattle.armv7m.specs.Tests.{all_open}
-use Rattle.armv7m.specs.Exceptions.{stacked_words, return_on_psp, is_thread, leaves}
+use Rattle.armv7m.specs.Exceptions.{return_on_psp, is_thread, leaves}
 use Rattle.armv7m.specs.Perform.{perform}
 use Rattle.armv7m.specs.Step.{turn}
 use Rattle.armv7m.specs.Code.{size, Stands, live}
 use Rattle.armv7m.specs.Stack.{Words, words_at, May}
 use Rattle.armv7m.specs.Running.{StepsAreActs}
-use Rattle.armv7m.specs.Confinement.{Each}
+use Rattle.common_laws.specs.Lists.{Each}
 use Rattle.monitor.specs.declared.tables.CompRecord.{CompRecord}
 use Rattle.monitor.specs.declared.tables.Tables.{Tables}
 use Rattle.monitor.specs.Records.{compartment_at, nobody, eighth, stack_end}
@@ -37,17 +35,12 @@ use Rattle.monitor.specs.Regions.{background, tables_region, stack_region, regio
 use Rattle.monitor.specs.Placed.{Placed, IsCompartment, IsSlot}
 use Rattle.monitor.specs.Invariant.{IsTop}
 use Rattle.monitor.specs.Outcomes.{stacked}
-use Rattle.monitor_laws.proofs.FlashWords.{each_at}
 use Rattle.monitor_laws.proofs.Numbers.{times_over}
 use Rattle.monitor_laws.proofs.Tables.{StackSize, stack_size}
+use Rattle.armv7m.proofs.StackWords.{get_or-words_at as nth_word, behind, head_place, stacked_are}
+use Rattle.common_laws.proofs.Lists.{each_at}
 
 -- ---- words
-
-pub nth_word : (n o k : ℕ) (ram : List ℕ) → k < n → get_or (words_at n o ram) k 0 ≡ read 4 (o + 4 * k) ram
-unfolding words_at
-nth_word zero o k ram h = absurd (omega (arith, h))
-nth_word (suc n) o zero ram h = let z : o ≡ o + 4 * 0 = omega arith in ap (λ o. read 4 o ram) z
-nth_word (suc n) o (suc k) ram h = let z : o + 4 + 4 * k ≡ o + 4 * suc k = omega arith in nth_word n (o + 4) k ram (omega (arith, h)) ∙ ap (λ o. read 4 o ram) z
 
 pub words_same : (n o : ℕ) (a b : List ℕ) → ((k : ℕ) → k < n → read 4 (o + 4 * k) a ≡ read 4 (o + 4 * k) b) → words_at n o a ≡ words_at n o b
 unfolding words_at
@@ -65,14 +58,6 @@ stacked_is i psp o k memory e lt = let z : psp - i.ram_base ≡ o = omega (arith
 
 -- ---- words that lie in RAM and may be accessed
 
-behind : (i : Image) (a o n : ℕ) → Words i a o (suc n) → Words i (word (a + 4)) (o + 4) n
-behind i a o n w =
-    let e : word (a + 4) ≡ a + 4 = omega (arith, w.is_at, w.fits, w.low) in
-    rw e (record { is_at = omega (arith, w.is_at); aligned = omega (arith, w.aligned); fits = omega (arith, w.fits); low = w.low })
-
-head_place : (i : Image) (a o n : ℕ) → Words i a o (suc n) → place i a ≡ InRam o
-head_place i a o n w = in_ram i a o w.is_at (omega (arith, w.fits))
-
 may_rest : (i : Image) (q : ProtectionState) (a o n : ℕ) → Words i a o (suc n) → May by_mpu q Read a (suc n) → May by_mpu q Read (word (a + 4)) n
 may_rest i q a o n w m = λ k lt.
     let e : word (a + 4) ≡ a + 4 = omega (arith, w.is_at, w.fits, w.low) in
@@ -87,14 +72,6 @@ open_in_ram i q (suc n) a o w m =
     let f : by_mpu q Read a ≡ true = let z : a + 4 * 0 ≡ a = omega arith in subst (λ a. by_mpu q Read a ≡ true) z (m 0 (omega arith)) in
     let g = open_in_ram i q n (word (a + 4)) (o + 4) (behind i a o n w) (may_rest i q a o n w m) in
     rw (e, f, g)
-
-stacked_are : (i : Image) (n a o : ℕ) (ram : List ℕ) → Words i a o n → stacked_words i a n ram ≡ words_at n o ram
-unfolding stacked_words words_at
-stacked_are i zero a o ram w = refl
-stacked_are i (suc n) a o ram w =
-    let e = head_place i a o n w in
-    let f = stacked_are i n (word (a + 4)) (o + 4) ram (behind i a o n w) in
-    rw (e, f)
 
 -- ---- the return
 
@@ -120,7 +97,7 @@ pub record StackLaws : Type 0 where
 
 module _ (laws : StackLaws) (i : Image) (t : Tables) (p : Placed i t) where
   size_is : StackSize t.stack.size
-  size_is = stack_size t.stack.size (subst (λ z. Rattle.device_model.specs.Rules.IsPowerBetween 9 16 z) (sym p.stack_size) p.stack.size)
+  size_is = stack_size t.stack.size (subst (λ z. Rattle.windows.specs.Ranges.IsPowerBetween 9 16 z) (sym p.stack_size) p.stack.size)
 
   no_slot_holds : (gs : List Region) → Each (IsSlot i t) gs → (a : ℕ) → t.stack.base ≤ a → a < stack_end t → NoneOf gs a
   no_slot_holds [] e a lo hi = tt

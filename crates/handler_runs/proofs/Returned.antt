@@ -20,7 +20,7 @@ use Rattle.armv7m.specs.Step.{turn, step}
 use Rattle.armv7m.specs.Code.{size, Stands}
 use Rattle.armv7m.specs.Stack.{Words, words_at, May}
 use Rattle.armv7m.specs.Running.{StepsAreActs}
-use Rattle.armv7m.specs.Confinement.{Each}
+use Rattle.common_laws.specs.Lists.{Each}
 use Rattle.armv7m.specs.Events.{ended}
 use Rattle.gate_steps.specs.Core.{Core}
 use Rattle.gate_steps.specs.Effect.{Outcome as GateOutcome, Halted, AtReturn, Stopped}

@@ -8,14 +8,16 @@ use Rattle.std.proofs.lemmas.List.Edits.{length-between}
 use Rattle.std.proofs.lemmas.List.Folds.{drop_split}
 use Rattle.std.proofs.lemmas.Slice.Eq.{bytes_eq-Decides}
 use Rattle.names.proofs.Lengths.{name_lengths}
+use Rattle.windows.specs.Ranges.{AreApart, are_apart}
+use Rattle.windows.proofs.Decisions.{decides_apart}
 use Rattle.device_model.specs.declared.image.Window.{Window}
-use Rattle.device_model.specs.Rules.{IsWindow, IsApart, AreWindows, AreApart}
+use Rattle.device_model.specs.Rules.{IsWindow, IsApart, AreWindows}
 use Rattle.image.specs.Text.{word_bytes, window_bytes}
 use Rattle.image.specs.Parts.{number, window_at, behind_window, windows_from, behind_windows}
-use Rattle.image.specs.Faults.{first_of, are_apart, range_checks, name_checks, window_checks, windows_checks}
+use Rattle.image.specs.Faults.{first_of, range_checks, name_checks, window_checks, windows_checks}
 use Rattle.image.proofs.Passing.{AllPass-from_first_of, first_of-from_AllPass, first_of-none_in, room, whole-none, kept, rule-none}
 use Rattle.image.proofs.Steps.{first_of-nil, first_of-pass_all}
-use Rattle.image.proofs.Decisions.{Decides-are_apart, Decides-is_window_size, Decides-is_window_base, Decides-is_name_length, Decides-is_new_name}
+use Rattle.image.proofs.Decisions.{Decides-is_window_size, Decides-is_window_base, Decides-is_name_length, Decides-is_new_name}
 use Rattle.image.proofs.Bytes.{AreBytes, word_at, begins, begins_word}
 
 -- a window shares neither name nor address with earlier ones
@@ -48,13 +50,13 @@ IsClear-from_tests [] x apart new = tt
 IsClear-from_tests (w ∷ seen) x apart new =
     let a = and_parts (are_apart w.base w.size x.base x.size) (list_all (λ w. are_apart w.base w.size x.base x.size) seen) apart in
     let n = neither (bytes_eq w.name x.name) (list_any (λ w. bytes_eq w.name x.name) seen) new in
-    (differ w.name x.name n.0, (Decides-are_apart w.base w.size x.base x.size).0 a.0, IsClear-from_tests seen x a.1 n.1)
+    (differ w.name x.name n.0, (decides_apart w.base w.size x.base x.size).0 a.0, IsClear-from_tests seen x a.1 n.1)
 
 pub tests_from_IsClear : (seen : List Window) (x : Window) → IsClear seen x → (list_all (λ w. are_apart w.base w.size x.base x.size) seen ≡ true) × (not (list_any (λ w. bytes_eq w.name x.name) seen) ≡ true)
 tests_from_IsClear [] x h = (refl, refl)
 tests_from_IsClear (w ∷ seen) x h =
     let more = tests_from_IsClear seen x h.2 in
-    (and_from _ _ ((Decides-are_apart w.base w.size x.base x.size).1 h.1) more.0, neither_join _ _ (not_equal w.name x.name _ refl h.0) more.1)
+    (and_from _ _ ((decides_apart w.base w.size x.base x.size).1 h.1) more.0, neither_join _ _ (not_equal w.name x.name _ refl h.0) more.1)
 
 AreBehind-nil : (seen : List Window) → AreBehind seen []
 AreBehind-nil [] = tt
@@ -99,8 +101,8 @@ passed b at seen h =
     let base = (Decides-is_window_base (number b at) (number b (at + 4)) seen).0 (kept _ at r.1.1.1.0) in
     let name = (Decides-is_new_name (window_at b at).name seen).0 (kept _ (at + 12) n.1.1.1.0) in
     record {
-      window = record { named = name.0; size = size; aligned = base.0; place = base.1.0 };
-      clear = IsClear-from_tests seen (window_at b at) base.1.1 name.1;
+      window = record { named = name.0; range = record { power = size; aligned = base.0.0; place = base.0.1 } };
+      clear = IsClear-from_tests seen (window_at b at) base.1 name.1;
       within = room b (at + 12) (number b (at + 8)) n.1.1.0;
     }
 
@@ -175,7 +177,7 @@ record FoundOne (b : List ℕ) (at : ℕ) (seen : List Window) (w : Window) (res
 
 pub window_fits : (w : Window) → IsWindow w → (w.base < 2 ^ 32) × (w.size < 2 ^ 32) × (1 ≤ length w.name) × (length w.name ≤ 64)
 window_fits w h =
-    let place = h.place in
+    let place = h.range.place in
     let name = name_lengths w.name h.named in
     (omega arith, omega arith, name.0, name.1)
 
@@ -190,7 +192,7 @@ window_checks-none b at seen w same long rules clear within =
     let window : IsWindow x = subst IsWindow (sym same) rules in
     let tests = tests_from_IsClear seen x (subst (IsClear seen) (sym same) clear) in
     let fits = window_fits w rules in
-    let range = first_of-from_AllPass (range_checks b at seen) (whole-none b at 4 (omega arith), (whole-none b (at + 4) 4 (omega arith), (rule-none _ (at + 4) ((Decides-is_window_size (number b (at + 4))).1 window.size), (rule-none _ at ((Decides-is_window_base (number b at) (number b (at + 4)) seen).1 (window.aligned, (window.place, tests.0))), tt)))) in
+    let range = first_of-from_AllPass (range_checks b at seen) (whole-none b at 4 (omega arith), (whole-none b (at + 4) 4 (omega arith), (rule-none _ (at + 4) ((Decides-is_window_size (number b (at + 4))).1 window.range.power), (rule-none _ at ((Decides-is_window_base (number b at) (number b (at + 4)) seen).1 ((window.range.aligned, window.range.place), tests.0)), tt)))) in
     let name = first_of-from_AllPass (name_checks b at seen) (whole-none b (at + 8) 4 (omega arith), (rule-none _ (at + 8) ((Decides-is_name_length (number b (at + 8))).1 (omega arith, omega arith)), (whole-none b (at + 12) (number b (at + 8)) within, (rule-none _ (at + 12) ((Decides-is_new_name x.name seen).1 (window.named, tests.1)), tt)))) in
     first_of-pass_all (range_checks b at seen) (name_checks b at seen) range ∙ name
 

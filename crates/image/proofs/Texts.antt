@@ -8,13 +8,15 @@ use Rattle.std.proofs.lemmas.List.Folds.{drop_split}
 use Rattle.std.proofs.lemmas.Slice.Eq.{bytes_eq-Decides}
 use Rattle.device_model.specs.declared.image.Image.{Image}
 use Rattle.device_model.specs.declared.image.Window.{Window}
-use Rattle.device_model.specs.Rules.{ObeysRules, IsStack, IsMonitor, IsInside, block_size}
+use Rattle.windows.specs.Ranges.{IsInside}
+use Rattle.windows.proofs.Decisions.{decides_order}
+use Rattle.device_model.specs.Rules.{ObeysRules, IsStack, IsMonitor, window_limit, block_size, memory_limit, last_flash_base, least_flash, first_ram_base, last_ram_base, least_ram, ram_unit}
 use Rattle.image.specs.Text.{magic, version, word_bytes, protection_bytes, window_bytes, header_bytes, image_bytes, IsText}
 use Rattle.image.specs.Parts.{number, regions, closed, windows_from, behind_windows, windows_place, flash_place, spelled_image}
 use Rattle.image.specs.Faults.{first_of, first_fault, start_checks, magic_check, version_check, memory_checks, place_checks, count_checks, protection_checks, windows_checks, flash_checks, end_check}
 use Rattle.image.proofs.Steps.{first_of-pass_all}
 use Rattle.image.proofs.Passing.{AllPass-from_first_of, first_of-from_AllPass, first_of-none_in, room, whole-none, kept, rule-none}
-use Rattle.image.proofs.Decisions.{Decides-nat_le, Decides-is_flash_base, Decides-is_flash_length, Decides-is_ram_base, Decides-is_ram_size, Decides-is_monitor, KeepsStackRule, stack_rule, stack_tests}
+use Rattle.image.proofs.Decisions.{Decides-is_flash_base, Decides-is_flash_length, Decides-is_ram_base, Decides-is_ram_size, Decides-is_monitor, KeepsStackRule, stack_rule, stack_tests}
 use Rattle.image.proofs.Bytes.{AreBytes, word_at, begins, begins_word}
 use Rattle.image.proofs.Protection.{protects, protects_rule, Protected, protected, small_version}
 use Rattle.image.proofs.Rows.{AreWindows-from_checks, length-windows_from, windows_spelled, found}
@@ -81,10 +83,10 @@ starts-none b long s =
     first_of-from_AllPass (start_checks b) (whole-none b 0 4 (omega arith), (rw l refl, (whole-none b 4 4 (omega arith), (rw v refl, tt))))
 
 record Memories (flash_base flash_length ram_base ram_size : ℕ) : Type 0 where
-  flash_start : (flash_base % 0x100000 ≡ 0) × (flash_base ≤ 0x1FE00000)
-  flash_bytes : (64 ≤ flash_length) × ((flash_length ≤ 0x100000) × (flash_length % 4 ≡ 0))
-  ram_start : (ram_base % 0x100000 ≡ 0) × ((0x20000000 ≤ ram_base) × (ram_base ≤ 0x3FF00000))
-  ram_bytes : (ram_size % 32 ≡ 0) × ((1024 ≤ ram_size) × (ram_size ≤ 0x100000))
+  flash_start : (flash_base % memory_limit ≡ 0) × (flash_base ≤ last_flash_base)
+  flash_bytes : (least_flash ≤ flash_length) × ((flash_length ≤ memory_limit) × (flash_length % 4 ≡ 0))
+  ram_start : (ram_base % memory_limit ≡ 0) × ((first_ram_base ≤ ram_base) × (ram_base ≤ last_ram_base))
+  ram_bytes : (ram_size % ram_unit ≡ 0) × ((least_ram ≤ ram_size) × (ram_size ≤ memory_limit))
 
 memories : (b : List ℕ) → first_of (memory_checks b) ≡ None → Memories (number b 8) (number b 12) (number b 16) (number b 20)
 unfolding memory_checks
@@ -151,16 +153,16 @@ places-none b long p =
       ),
     )
 
-count : (b : List ℕ) → first_of (count_checks b) ≡ None → (40 ≤ length b) × (number b 36 ≤ 64)
+count : (b : List ℕ) → first_of (count_checks b) ≡ None → (40 ≤ length b) × (number b 36 ≤ window_limit)
 unfolding count_checks
 count b h =
     let p = AllPass-from_first_of (count_checks b) h in
-    (room b 36 4 p.0, (Decides-nat_le (number b 36) 64).0 (kept _ 36 p.1.0))
+    (room b 36 4 p.0, (decides_order (number b 36) window_limit).0 (kept _ 36 p.1.0))
 
-count-none : (b : List ℕ) → 40 ≤ length b → number b 36 ≤ 64 → first_of (count_checks b) ≡ None
+count-none : (b : List ℕ) → 40 ≤ length b → number b 36 ≤ window_limit → first_of (count_checks b) ≡ None
 unfolding count_checks
 count-none b long h =
-    first_of-from_AllPass (count_checks b) (whole-none b 36 4 long, (rule-none _ 36 ((Decides-nat_le (number b 36) 64).1 h), tt))
+    first_of-from_AllPass (count_checks b) (whole-none b 36 4 long, (rule-none _ 36 ((decides_order (number b 36) window_limit).1 h), tt))
 
 flash : (b : List ℕ) (at : ℕ) → first_of (flash_checks b at) ≡ None → length b ≡ at + number b 12
 unfolding flash_checks end_check
@@ -226,8 +228,8 @@ spelled_rules b h =
     record {
       flash_aligned = m.flash_start.0;
       flash_highest = m.flash_start.1;
-      flash_least = subst (λ (n : ℕ). 64 ≤ n) (sym long) m.flash_bytes.0;
-      flash_most = subst (λ (n : ℕ). n ≤ 0x100000) (sym long) m.flash_bytes.1.0;
+      flash_least = subst (λ (n : ℕ). least_flash ≤ n) (sym long) m.flash_bytes.0;
+      flash_most = subst (λ (n : ℕ). n ≤ memory_limit) (sym long) m.flash_bytes.1.0;
       flash_words = ap (λ n. n % 4) long ∙ m.flash_bytes.1.1;
       ram_aligned = m.ram_start.0;
       ram_lowest = m.ram_start.1.0;
@@ -238,7 +240,7 @@ spelled_rules b h =
       monitor = p.block;
       regions = protects_rule b (starts b h.start).edition h.protection;
       stack = is_stack b p.stack;
-      count = subst (λ (n : ℕ). n ≤ 64) (sym many) c;
+      count = subst (λ (n : ℕ). n ≤ window_limit) (sym many) c;
       windows = w.0;
     }
   where
@@ -410,7 +412,7 @@ pub text_is_faultless : (i : Image) (b : List ℕ) → IsText i b → first_faul
 text_is_faultless i b h =
     let s = spelled i b h in
     let t = tail i b h.rules s in
-    let few : number b 36 ≤ 64 = let c = h.rules.count in let e = s.count in omega arith in
+    let few : number b 36 ≤ window_limit = let c = h.rules.count in let e = s.count in omega arith in
     let w = s.within in
     first_fault-none b (record {
       start = starts-none b (omega arith) (record { letters = s.letters; edition = t.protection.edition });

@@ -4,9 +4,11 @@ use Rattle.std.specs.Prelude.{◌≡◌, ℕ, zero, suc, ◌+◌, ◌%◌, ◌^�
 use Rattle.std.specs.List.{list_any, list_all}
 use Rattle.std.specs.Str.{bytes_eq}
 use Rattle.names.specs.Names.{is_name}
+use Rattle.windows.specs.Ranges as ranges
+use Rattle.windows.specs.Ranges.{is_power_between, is_inside, are_apart, is_window_place}
 use Rattle.device_model.specs.declared.image.Image.{Image}
 use Rattle.device_model.specs.declared.image.Window.{Window}
-use Rattle.device_model.specs.Rules.{block_size}
+use Rattle.device_model.specs.Rules.{window_limit, block_size, least_stack, greatest_stack, memory_limit, last_flash_base, least_flash, first_ram_base, last_ram_base, least_ram, ram_unit}
 use Rattle.image.specs.declared.fault.ImageFault.{ImageFault}
 use Rattle.image.specs.declared.fault.ImageFault.TheVariants.{NoMemory, Short, Magic, Version, Field, Trailing}
 use Rattle.image.specs.Text.{magic, IsText}
@@ -31,34 +33,23 @@ rule keeps at = if keeps then None else Some (Field at)
 
 -- the rules of the fields, as tests
 
--- 2 ^ low, or one of the next `count` powers of two
-abbrev pub is_power_between : (low count : ℕ) → (n : ℕ) → Bool
-is_power_between low zero n = nat_eq n (2 ^ low)
-is_power_between low (suc k) n = nat_eq n (2 ^ low) || is_power_between (low + 1) k n
-
-abbrev pub is_inside : (base size outer outer_size : ℕ) → Bool
-is_inside base size outer outer_size = nat_le outer base && nat_le (base + size) (outer + outer_size)
-
-abbrev pub are_apart : (base size other other_size : ℕ) → Bool
-are_apart b n c m = nat_le (b + n) c || nat_le (c + m) b
-
 unfoldable pub is_flash_base : ℕ → Bool
-is_flash_base n = nat_eq (n % 0x100000) 0 && nat_le n 0x1FE00000
+is_flash_base n = nat_eq (n % memory_limit) 0 && nat_le n last_flash_base
 
 unfoldable pub is_flash_length : ℕ → Bool
-is_flash_length n = nat_le 64 n && (nat_le n 0x100000 && nat_eq (n % 4) 0)
+is_flash_length n = nat_le least_flash n && (nat_le n memory_limit && nat_eq (n % 4) 0)
 
 unfoldable pub is_ram_base : ℕ → Bool
-is_ram_base n = nat_eq (n % 0x100000) 0 && (nat_le 0x20000000 n && nat_le n 0x3FF00000)
+is_ram_base n = nat_eq (n % memory_limit) 0 && (nat_le first_ram_base n && nat_le n last_ram_base)
 
 unfoldable pub is_ram_size : ℕ → Bool
-is_ram_size n = nat_eq (n % 32) 0 && (nat_le 1024 n && nat_le n 0x100000)
+is_ram_size n = nat_eq (n % ram_unit) 0 && (nat_le least_ram n && nat_le n memory_limit)
 
 unfoldable pub is_monitor : (n ram_base ram_size : ℕ) → Bool
 is_monitor n b s = nat_eq n 0 || (nat_eq (n % block_size) 0 && is_inside n block_size b s)
 
 unfoldable pub is_stack_size : ℕ → Bool
-is_stack_size n = nat_eq n 0 || is_power_between 9 7 n
+is_stack_size n = nat_eq n 0 || is_power_between least_stack greatest_stack n
 
 unfoldable pub is_stack_base : (n size ram_base ram_size : ℕ) → Bool
 is_stack_base n s b r = if nat_eq s 0 then nat_eq n 0 else (nat_eq (n % s) 0 && is_inside n s b r)
@@ -71,11 +62,10 @@ unfoldable pub is_closed_word : (n regions : ℕ) → Bool
 is_closed_word n r = nat_eq n 1 || (nat_eq n 0 && nat_eq r 16)
 
 unfoldable pub is_window_size : ℕ → Bool
-is_window_size n = is_power_between 5 11 n
+is_window_size n = ranges.is_window_size n
 
 unfoldable pub is_window_base : (n size : ℕ) → List Window → Bool
-is_window_base n s seen =
-    nat_eq (n % s) 0 && (is_inside n s 0x40000000 0x20000000 && list_all (λ w. are_apart w.base w.size n s) seen)
+is_window_base n s seen = is_window_place n s && list_all (λ w. are_apart w.base w.size n s) seen
 
 unfoldable pub is_name_length : ℕ → Bool
 is_name_length n = nat_le 1 n && nat_le n 64
@@ -110,7 +100,7 @@ place_checks b =
     ∷ []
 
 unfoldable pub count_checks : List ℕ → Checks
-count_checks b = whole b 36 4 ∷ rule (nat_le (number b 36) 64) 36 ∷ []
+count_checks b = whole b 36 4 ∷ rule (nat_le (number b 36) window_limit) 36 ∷ []
 
 -- the checks of the fields that version 2 alone has
 unfoldable pub protection_checks : List ℕ → Checks

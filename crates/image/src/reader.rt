@@ -2,6 +2,7 @@
 
 ghost use Rattle.std.specs.Prelude.{◌≡◌, ◌+◌, ◌*◌, ◌<◌, ◌≤◌, ◌^◌, [], length, IfOk, IfErr, OnOk, Some, None, slice_range, ◌⊎◌};
 ghost use Rattle.std.specs.Result.{result_err};
+ghost use Rattle.device_model.specs.Rules.{window_limit, memory_limit};
 ghost use Rattle.image.specs.Faults as faults;
 ghost use Rattle.image.specs.Parts as parts;
 ghost use Rattle.image.specs.Parts.{number, window_at, windows_from, behind_windows, spelled_image};
@@ -13,6 +14,7 @@ use crate::fields::{
 };
 use crate::rules;
 use device_model::image::{Image, Window};
+use device_model::limits::WINDOW_LIMIT;
 use list_vec::ListVec;
 use std::alloc::Global;
 
@@ -63,7 +65,7 @@ fn read_memories(bytes: &[u8]) -> Result<Memories, ImageFault>
     ensures values { IfOk result (λ m. (m.flash_base ≡ number bytes.now 8)
         × (m.flash_length ≡ number bytes.now 12) × (m.ram_base ≡ number bytes.now 16)
         × (m.ram_size ≡ number bytes.now 20)) }
-    ensures most { IfOk result (λ m. m.flash_length ≤ 0x100000) }
+    ensures most { IfOk result (λ m. m.flash_length ≤ memory_limit) }
 {
     let flash_base = read_number(bytes, 8)?;
     require(rules::is_flash_base(flash_base), 8)?;
@@ -110,10 +112,10 @@ fn read_places(bytes: &[u8], memories: &Memories) -> Result<Places, ImageFault>
 fn read_count(bytes: &[u8]) -> Result<u32, ImageFault>
     ensures faults { result_err result ≡ faults.first_of (faults.count_checks bytes.now) }
     ensures value { IfOk result (λ n. n ≡ number bytes.now 36) }
-    ensures most { IfOk result (λ n. n ≤ 64) }
+    ensures most { IfOk result (λ n. n ≤ window_limit) }
 {
     let count = read_number(bytes, 36)?;
-    require(count <= 64, 36)?;
+    require(count <= WINDOW_LIMIT, 36)?;
     Ok(count)
 }
 
@@ -198,12 +200,12 @@ fn read_windows(
     count: u32,
 ) -> Result<(Vec<Window>, u32), ImageFault>
     requires place { start ≤ 48 }
-    requires few { count ≤ 64 }
+    requires few { count ≤ window_limit }
     ensures passed { OnOk result (faults.first_of (faults.windows_checks bytes.now start [] count) ≡ None) }
     ensures fault { IfErr result (faults.IsFirst (faults.windows_checks bytes.now start [] count)) }
     ensures windows { IfOk result (λ r. r.0.items ≡ windows_from bytes.now start count) }
     ensures place { IfOk result (λ r. r.1 ≡ behind_windows bytes.now start count) }
-    ensures most { IfOk result (λ r. r.1 ≤ 48 + 76 * 64) }
+    ensures most { IfOk result (λ r. r.1 ≤ 48 + 76 * window_limit) }
 {
     let mut windows = Vec::new(alloc);
     let mut at = start;
@@ -219,7 +221,7 @@ fn read_windows(
 fn read_flash(alloc: Global, bytes: &[u8], at: u32, length: u32) -> Result<Vec<u8>, ImageFault>
     requires place { at < 2 ^ 31 }
     requires count { length ≡ number bytes.now 12 }
-    requires most { length ≤ 0x100000 }
+    requires most { length ≤ memory_limit }
     ensures passed { OnOk result (faults.first_of (faults.flash_checks bytes.now at) ≡ None) }
     ensures fault { IfErr result (faults.IsFirst (faults.flash_checks bytes.now at)) }
     ensures value { IfOk result (λ flash. flash.items ≡ slice_range bytes.now at (at + number bytes.now 12)) }

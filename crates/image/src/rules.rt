@@ -3,39 +3,33 @@
 ghost use Rattle.std.specs.Prelude.{◌≡◌, ◌<◌, ◌≤◌, IsTrue};
 ghost use Rattle.std.specs.List.{list_any, list_all};
 ghost use Rattle.std.specs.Str.{bytes_eq};
+ghost use Rattle.windows.specs.Ranges as ranges;
+ghost use Rattle.device_model.specs.Rules.{memory_limit};
 ghost use Rattle.image.specs.Faults as faults;
 
 use device_model::image::Window;
-use names::is_name;
-
-fn is_inside(base: u32, size: u32, outer: u32, outer_size: u32) -> bool
-    ensures { result ≡ faults.is_inside base size outer outer_size }
-{
-    outer <= base && u64::from(base) + u64::from(size) <= u64::from(outer) + u64::from(outer_size)
-}
-
-fn are_apart(base: u32, size: u32, other: u32, other_size: u32) -> bool
-    ensures { result ≡ faults.are_apart base size other other_size }
-{
-    u64::from(base) + u64::from(size) <= u64::from(other)
-        || u64::from(other) + u64::from(other_size) <= u64::from(base)
-}
+use device_model::limits::{
+    self, BLOCK_SIZE, FIRST_RAM_BASE, LAST_FLASH_BASE, LAST_RAM_BASE, LEAST_FLASH, LEAST_RAM,
+    MEMORY_LIMIT, RAM_UNIT,
+};
+use names::{NAME_LIMIT, is_name};
+use windows::{are_apart, is_inside, is_window_place};
 
 /// Whether flash may begin there.
 #[tactic(auto, unfolding(crate::specs::Faults::is_flash_base))]
 pub fn is_flash_base(address: u32) -> bool
     ensures { result ≡ faults.is_flash_base address }
 {
-    address % 0x10_0000 == 0 && address <= 0x1FE0_0000
+    address % MEMORY_LIMIT == 0 && address <= LAST_FLASH_BASE
 }
 
 /// Whether flash may have so many bytes.
 #[tactic(auto, unfolding(crate::specs::Faults::is_flash_length))]
 pub fn is_flash_length(length: u32) -> bool
     ensures test { result ≡ faults.is_flash_length length }
-    ensures most { IsTrue result → length ≤ 0x100000 }
+    ensures most { IsTrue result → length ≤ memory_limit }
 {
-    64 <= length && length <= 0x10_0000 && length % 4 == 0
+    LEAST_FLASH <= length && length <= MEMORY_LIMIT && length % 4 == 0
 }
 
 /// Whether RAM may begin there.
@@ -43,7 +37,7 @@ pub fn is_flash_length(length: u32) -> bool
 pub fn is_ram_base(address: u32) -> bool
     ensures { result ≡ faults.is_ram_base address }
 {
-    address % 0x10_0000 == 0 && 0x2000_0000 <= address && address <= 0x3FF0_0000
+    address % MEMORY_LIMIT == 0 && FIRST_RAM_BASE <= address && address <= LAST_RAM_BASE
 }
 
 /// Whether RAM may have so many bytes.
@@ -51,7 +45,7 @@ pub fn is_ram_base(address: u32) -> bool
 pub fn is_ram_size(size: u32) -> bool
     ensures { result ≡ faults.is_ram_size size }
 {
-    size % 32 == 0 && 1024 <= size && size <= 0x10_0000
+    size % RAM_UNIT == 0 && LEAST_RAM <= size && size <= MEMORY_LIMIT
 }
 
 /// Whether the monitor's block may stand there, or the address is the 0 of no monitor.
@@ -59,7 +53,8 @@ pub fn is_ram_size(size: u32) -> bool
 pub fn is_monitor(address: u32, ram_base: u32, ram_size: u32) -> bool
     ensures { result ≡ faults.is_monitor address ram_base ram_size }
 {
-    address == 0 || (address % 1024 == 0 && is_inside(address, 1024, ram_base, ram_size))
+    address == 0
+        || (address % BLOCK_SIZE == 0 && is_inside(address, BLOCK_SIZE, ram_base, ram_size))
 }
 
 /// Whether the stack may have so many bytes, or the size is the 0 of no stack.
@@ -67,10 +62,7 @@ pub fn is_monitor(address: u32, ram_base: u32, ram_size: u32) -> bool
 pub fn is_stack_size(size: u32) -> bool
     ensures { result ≡ faults.is_stack_size size }
 {
-    matches!(
-        size,
-        0 | 512 | 1024 | 2048 | 4096 | 8192 | 16384 | 32768 | 65536
-    )
+    size == 0 || limits::is_stack_size(size)
 }
 
 /// Whether a stack of this size may begin there.
@@ -102,19 +94,16 @@ pub fn is_closed_word(word: u32, regions: u32) -> bool
 }
 
 /// Whether a window may have so many bytes.
-#[tactic(auto, unfolding(crate::specs::Faults::is_window_size))]
+#[tactic(auto, using(windows::proofs::Decisions::size_is_some), unfolding(crate::specs::Faults::is_window_size))]
 pub fn is_window_size(size: u32) -> bool
     ensures test { result ≡ faults.is_window_size size }
     ensures least { IsTrue result → 0 < size }
 {
-    matches!(
-        size,
-        32 | 64 | 128 | 256 | 512 | 1024 | 2048 | 4096 | 8192 | 16384 | 32768 | 65536
-    )
+    windows::is_window_size(size)
 }
 
 fn is_apart_from_all(address: u32, size: u32, seen: &[Window]) -> bool
-    ensures { result ≡ list_all (λ w. faults.are_apart w.base w.size address size) seen.now }
+    ensures { result ≡ list_all (λ w. ranges.are_apart w.base w.size address size) seen.now }
 {
     seen.iter().all(|window| are_apart(window.base, window.size, address, size))
 }
@@ -125,9 +114,7 @@ pub fn is_window_base(address: u32, size: u32, seen: &[Window]) -> bool
     requires { 0 < size }
     ensures { result ≡ faults.is_window_base address size seen.now }
 {
-    address % size == 0
-        && is_inside(address, size, 0x4000_0000, 0x2000_0000)
-        && is_apart_from_all(address, size, seen)
+    is_window_place(address, size) && is_apart_from_all(address, size, seen)
 }
 
 /// Whether a name may have so many bytes.
@@ -136,7 +123,7 @@ pub fn is_name_length(length: u32) -> bool
     ensures test { result ≡ faults.is_name_length length }
     ensures most { IsTrue result → length ≤ 64 }
 {
-    1 <= length && length <= 64
+    1 <= length && length as usize <= NAME_LIMIT
 }
 
 pub fn is_text(bytes: &[u8], text: &[u8]) -> bool

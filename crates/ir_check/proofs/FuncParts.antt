@@ -11,8 +11,8 @@ use Rattle.ir_model.specs.Frames.{locals_size, frame_size}
 use Rattle.ir_model.specs.Typing.{check, func_checks, label_checks, blocks_checks, frame_limit}
 use Rattle.ir_model.proofs.Locals.{locals_last}
 use Rattle.ir_check.specs.Parts.{slots_part, func_part}
-use Rattle.ir_check.proofs.Slots.{take_next}
 use Rattle.ir_check.proofs.Regrouped.{regroup}
+use Rattle.common_laws.proofs.Lists.{take_next}
 
 pub func_parts : (w : PlainFirmware) (f : PlainFunc) (ds : List (List ℕ)) → ds ≡ map (λ (s : PlainStruct). s.name) w.structs → func_checks w f ≡ func_part ds w f
 func_parts w f ds e =

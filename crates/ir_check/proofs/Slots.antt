@@ -1,13 +1,9 @@
 -- Lists of names that grow along a list.
-use Rattle.std.proofs.Common.{◌≡◌, ℕ, zero, suc, ◌+◌, ◌<◌, List, [], ◌∷◌, ◌++◌, map, take, get_or, length, refl, sym, ap, ◌∙◌, arith, append_assoc}
+use Rattle.std.proofs.Common.{◌≡◌, ℕ, ◌+◌, ◌<◌, List, [], ◌∷◌, ◌++◌, map, take, get_or, length, refl, sym, ap, ◌∙◌, append_assoc}
 use Rattle.std.proofs.lemmas.List.{map-append}
 use Rattle.ir_model.specs.declared.firmware.Slot.{Slot}
 use Rattle.ir_model.specs.Plain.{slot_of, names_of}
-
-pub take_next : {A : Type 0} (xs : List A) (i : ℕ) (x : A) → i < length xs → x ≡ get_or xs i x → take (i + 1) xs ≡ take i xs ++ x ∷ []
-take_next [] i x l e = absurd (omega arith)
-take_next (y ∷ xs) zero x l e = ap (λ z. z ∷ []) (sym e)
-take_next (y ∷ xs) (suc i) x l e = let q : suc i + 1 ≡ suc (i + 1) = omega arith in rw q (ap (λ zs. y ∷ zs) (take_next xs i x (omega arith) e))
+use Rattle.common_laws.proofs.Lists.{take_next}
 
 pub more_mapped : {A B : Type 0} (f : A → B) (old new : List B) (xs : List A) (i : ℕ) (x : A) → i < length xs → x ≡ get_or xs i x → old ≡ map f (take i xs) → new ≡ old ++ f x ∷ [] → new ≡ map f (take (i + 1) xs)
 more_mapped f old new xs i x l e h g = g ∙ (ap (λ zs. zs ++ f x ∷ []) h ∙ (sym (map-append f (take i xs) (x ∷ [])) ∙ ap (map f) (sym (take_next xs i x l e))))

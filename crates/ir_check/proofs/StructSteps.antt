@@ -12,9 +12,9 @@ use Rattle.ir_check.specs.declared.fault.CheckFault.{CheckFault}
 use Rattle.ir_check.specs.declared.fault.CheckFault.TheVariants.{NoMemory, At}
 use Rattle.ir_check.specs.Found.{Refused, IsFault}
 use Rattle.ir_check.specs.Parts.{fields_part}
-use Rattle.ir_check.proofs.Slots.{take_next}
 use Rattle.ir_check.proofs.Order.{refused_left, refused_right, first_append}
 use Rattle.layouts.specs.Measures.{struct_shape, IsTooLarge}
+use Rattle.common_laws.proofs.Lists.{take_next}
 
 pub more_structs : (ss : List StructDecl) (i : ℕ) (s : StructDecl) → i < length ss → s ≡ get_or ss i s → map struct_of (take (i + 1) ss) ≡ map struct_of (take i ss) ++ struct_of s ∷ []
 more_structs ss i s l e = ap (map struct_of) (take_next ss i s l e) ∙ map-append struct_of (take i ss) (s ∷ [])

@@ -1,7 +1,6 @@
 -- Beyond the program's claim: only laws, proofs and functions inside the tool cite this file.
 -- The checks of one part among others.
 use Rattle.std.specs.Prelude.{ℕ, List, [], ◌∷◌, ◌++◌, map, nat_le, not, length, Bool, if◌then◌else◌}
-use Rattle.std.specs.List.{list_any}
 use Rattle.ir_model.specs.declared.check.CheckKind.TheVariants.{IllTyped, BadWindow, WindowOverlap, ObjectTooLarge, FrameTooLarge, BadInit, NoMain}
 use Rattle.ir_model.specs.declared.check.Place.{Place}
 use Rattle.ir_model.specs.declared.check.Place.TheVariants as place
@@ -15,7 +14,7 @@ use Rattle.ir_model.specs.Layout.{known, shape}
 use Rattle.ir_model.specs.Frames.{frame_size}
 use Rattle.ir_model.specs.Resolve.{has}
 use Rattle.ir_model.specs.Rules.{inst_fits, term_fits, is_port, is_address, global_type}
-use Rattle.ir_model.specs.Typing.{structs_checks, periph_checks, globals_checks, file_checks, funcs_checks, has_main, init_checks, cell_checks, func_name_checks, field_checks, inst_names, term_names, register_checks, outcome_checks, local_checks, label_checks, blocks_checks, frame_limit, Checks, check, is_new, type_checks, is_window, overlaps, object_limit}
+use Rattle.ir_model.specs.Typing.{structs_checks, periph_checks, globals_checks, file_checks, funcs_checks, has_main, init_checks, cell_checks, func_name_checks, field_checks, inst_names, term_names, register_checks, outcome_checks, local_checks, label_checks, blocks_checks, frame_limit, Checks, check, is_new, type_checks, is_window, is_apart, object_limit}
 
 abbrev pub register_check : (declared : List (List ℕ)) → Place → (seen : List (List ℕ)) → PlainSlot → Checks
 register_check ds p seen s = (is_new seen s.name p ∷ type_checks ds ds p s.ty) ++ check (is_register_type s.ty) IllTyped p ∷ []
@@ -33,7 +32,7 @@ abbrev pub periph_check : (earlier : List Peripheral) → Peripheral → Checks
 periph_check es q =
     is_new (map (λ (e : Peripheral). e.name) es) q.name (place.Periph q.name)
     ∷ check (is_window q) BadWindow (place.Periph q.name)
-    ∷ check (not (list_any (overlaps q) es)) WindowOverlap (place.Periph q.name)
+    ∷ check (is_apart es q) WindowOverlap (place.Periph q.name)
     ∷ []
 
 abbrev pub inst_check : PlainFirmware → PlainFunc → Place → Inst → Checks

@@ -88,7 +88,7 @@ pub fn is_icall(func: &FuncScope, callee: &Ty, args: &[Name], to: &Option<Name>)
     ensures { result ≡ rules.is_call (Some (type_of callee.now)) (map (type_named (func_of func.now.func.now)) args.now) (rules.kept_type (func_of func.now.func.now) to.now) }
 {
     match callee {
-        Ty::Callee(signature) => fit_types(func, &signature.params.items, args)
+        Ty::Callee(signature) => fit_types(func, signature.params.as_slice(), args)
             && takes_boxed(func, &signature.result, to),
         Ty::U8 => false,
         Ty::U16 => false,

@@ -7,7 +7,7 @@ use std::alloc::{AllocError, AllocFailed};
 #[derive(Debug, Drop, thiserror::Error)]
 pub enum CheckFault {
     /// A check fails, the first in their order.
-    #[error("{kind:?} in {place:?}")]
+    #[error("{kind} in {place}")]
     At {
         /// What is wrong.
         kind: CheckKind,

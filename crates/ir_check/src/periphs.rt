@@ -1,8 +1,8 @@
 //! Peripherals.
 
 ghost use Rattle.std.specs.Prelude.{◌≡◌, ◌∷◌, [], ◌++◌, map, take, IfOk, OnOk, ◌+◌, ◌<◌, ◌^◌};
-ghost use Rattle.std.specs.List.{list_any};
-ghost use Rattle.ir_model.specs.Typing.{is_power_from, is_window, overlaps, periph_checks};
+ghost use Rattle.ir_model.specs.Typing as typing;
+ghost use Rattle.ir_model.specs.Typing.{periph_checks};
 ghost use Rattle.ir_check.specs.Found.{Finds};
 ghost use Rattle.ir_check.specs.Parts.{periph_check};
 
@@ -14,36 +14,19 @@ use ir_model::check::CheckKind;
 use ir_model::firmware::Peripheral;
 use name_tables::Names;
 use std::alloc::Global;
+use windows::{are_apart, is_window_place, is_window_size};
 
-fn is_power(size: u32) -> bool
-    ensures { result ≡ is_power_from 12 size 32 }
-{
-    matches!(
-        size,
-        32 | 64 | 128 | 256 | 512 | 1_024 | 2_048 | 4_096 | 8_192 | 16_384 | 32_768 | 65_536
-    )
-}
-
+#[tactic(auto, using(windows::proofs::Decisions::size_is_some))]
 fn is_window(periph: &Peripheral) -> bool
-    ensures { result ≡ is_window periph.now }
+    ensures { result ≡ typing.is_window periph.now }
 {
-    is_power(periph.size)
-        && periph.base % periph.size == 0
-        && 0x4000_0000 <= periph.base
-        && u64::from(periph.base) + u64::from(periph.size) <= 0x6000_0000
+    is_window_size(periph.size) && is_window_place(periph.base, periph.size)
 }
 
-fn overlaps(periph: &Peripheral, other: &Peripheral) -> bool
-    ensures { result ≡ overlaps periph.now other.now }
+fn is_apart(earlier: &[Peripheral], periph: &Peripheral) -> bool
+    ensures { result ≡ typing.is_apart earlier.now periph.now }
 {
-    u64::from(periph.base) < u64::from(other.base) + u64::from(other.size)
-        && u64::from(other.base) < u64::from(periph.base) + u64::from(periph.size)
-}
-
-fn overlaps_one(periph: &Peripheral, earlier: &[Peripheral]) -> bool
-    ensures { result ≡ list_any (overlaps periph.now) earlier.now }
-{
-    earlier.iter().any(|other| overlaps(periph, other))
+    earlier.iter().all(|other| are_apart(other.base, other.size, periph.base, periph.size))
 }
 
 #[tactic(auto, using(crate::proofs::Order::refused_left, crate::proofs::Order::refused_right, crate::proofs::Order::first_stays, crate::proofs::Order::first_append, crate::proofs::Order::refused_one, crate::proofs::Order::refused_behind, crate::proofs::Order::first_behind))]
@@ -59,11 +42,7 @@ fn periph<'a>(
     let spot = Spot::Periph(&periph.name);
     add_new(seen, &periph.name, spot)?;
     require(is_window(periph), CheckKind::BadWindow, spot)?;
-    require(
-        !overlaps_one(periph, earlier),
-        CheckKind::WindowOverlap,
-        spot,
-    )?;
+    require(is_apart(earlier, periph), CheckKind::WindowOverlap, spot)?;
     Ok(())
 }
 

@@ -31,7 +31,7 @@ pub fn type_names<'n>(
         Ty::Array(_, element) => type_names(declared, earlier, spot, element),
         Ty::Named(name) => require_known(earlier.has(name), name, spot),
         Ty::Callee(signature) => {
-            row_names(declared, spot, &signature.params.items)?;
+            row_names(declared, spot, signature.params.as_slice())?;
             result_names(declared, spot, &signature.result)?;
             Ok(())
         }
@@ -39,8 +39,8 @@ pub fn type_names<'n>(
 }
 
 #[cycle(type_names)]
-fn row_names(declared: &Names, spot: Spot, types: &Vec<Ty>) -> Result<(), CheckFault>
-    ensures { Finds (row_checks declared.now (place_of spot.entry) (types_from (map type_of types.now.items))) result }
+fn row_names(declared: &Names, spot: Spot, types: &[Ty]) -> Result<(), CheckFault>
+    ensures { Finds (row_checks declared.now (place_of spot.entry) (types_from (map type_of types.now))) result }
 {
     for ty in types {
         type_names(declared, declared, spot, ty)?;

@@ -14,18 +14,18 @@ use Rattle.ir_laws.specs.Typed.{IsCellType}
 use Rattle.ir_laws.specs.Cells.{IsCell, AreCells, HasCells, IsFound}
 
 -- n is a multiple of w
-record Divides (w n : ℕ) : Type 0 where
-  times : ℕ
-  is : n ≡ times * w
+pub record Divides (w n : ℕ) : Type 0 where
+  pub times : ℕ
+  pub is : n ≡ times * w
 
-through : (w a n : ℕ) → Divides w a → Divides a n → Divides w n
+pub through : (w a n : ℕ) → Divides w a → Divides a n → Divides w n
 through w a n d e = record { times = e.times * d.times; is = e.is ∙ (ap (λ x. e.times * x) d.is ∙ sym (mul_assoc e.times d.times w)) }
 
-plus : (w m n : ℕ) → Divides w m → Divides w n → Divides w (m + n)
+pub plus : (w m n : ℕ) → Divides w m → Divides w n → Divides w (m + n)
 plus w m n d e = record { times = d.times + e.times; is = ap (λ x. x + n) d.is ∙ (ap (λ x. d.times * w + x) e.is ∙ sym (add-mul d.times e.times w)) }
 
 -- the widths of cells, which are the alignments of types
-data Small : ℕ → Type 0 where
+pub data Small : ℕ → Type 0 where
   one_byte : Small 1
   two_bytes : Small 2
   four_bytes : Small 4
@@ -64,7 +64,7 @@ max_small a b four_bytes two_bytes = four_bytes
 max_small a b four_bytes four_bytes = four_bytes
 
 -- cells whose widths divide an alignment and their offsets
-data Aligned (a : ℕ) : List CellPlace → Type 0 where
+pub data Aligned (a : ℕ) : List CellPlace → Type 0 where
   none : Aligned a []
   more : {c : CellPlace} {cs : List CellPlace} → IsCellType c.ty → Divides (width_of c.ty) a → Divides (width_of c.ty) c.at → Aligned a cs → Aligned a (c ∷ cs)
 
@@ -85,13 +85,13 @@ copied a zero at step cs d e h = none
 copied a (suc n) at step cs d e h = joined a (shifted at cs) (copies n (at + step) step cs) (moved a at cs d h) (copied a n (at + step) step cs (plus a at step d e) e h)
 
 -- a shape whose cells are aligned, and one that is a multiple of its alignment too
-record Fair (s : Shape) : Type 0 where
-  small : Small s.align
-  cells : Aligned s.align s.cells
+pub record Fair (s : Shape) : Type 0 where
+  pub small : Small s.align
+  pub cells : Aligned s.align s.cells
 
-record Whole (s : Shape) : Type 0 where
-  fair : Fair s
-  size : Divides s.align s.size
+pub record Whole (s : Shape) : Type 0 where
+  pub fair : Fair s
+  pub size : Divides s.align s.size
 
 itself : (a : ℕ) → Divides a a
 itself a = record { times = 1; is = omega arith }
@@ -148,13 +148,13 @@ whole_structs ks (s ∷ ss) h =
     whole_structs (with_struct ks s) ss
     (whole_more ks (record { name = s.name; shape = laid_out ks empty s.fields; fields = field_places ks empty s.fields }) h (laid_whole ks empty s.fields h (record { small = one_byte; cells = none })))
 
-whole_type : (ss : List PlainStruct) (t : PlainType) → Whole (shape (known ss) t)
+pub whole_type : (ss : List PlainStruct) (t : PlainType) → Whole (shape (known ss) t)
 unfolding known
 whole_type ss t = shape_whole (known_behind [] ss) t (whole_structs [] ss tt)
 
 -- ---- the cells of a program
 
-multiple : (w n : ℕ) → Divides w n → n % w ≡ 0
+pub multiple : (w n : ℕ) → Divides w n → n % w ≡ 0
 multiple w n d = ap (λ x. x % w) d.is ∙ mul-mod_left d.times w
 
 aligned_in : (a : ℕ) (cs : List CellPlace) (k : ℕ) → Aligned a cs → IsCell (cell_in cs k)

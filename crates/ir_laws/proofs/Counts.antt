@@ -1,17 +1,19 @@
 -- A firmware within the limits has few items of each kind, over numbers.
 use Rattle.std.proofs.Common.{length-append, ap, ◌≡◌, ℕ, zero, suc, ◌+◌, ◌<◌, List, [], ◌∷◌, length, replicate, refl, get_or, map, arith}
-use Rattle.std.specs.Prelude.{flat_map}
-use Rattle.std.proofs.lemmas.List.{length-map, length-replicate}
+use Rattle.std.proofs.lemmas.List.{length-map}
 use Rattle.ir_model.specs.declared.firmware.Block.{Block}
 use Rattle.ir_model.specs.Plain.{PlainSlot, PlainFunc, PlainFile, PlainFirmware, funcs_of, regs_of}
 use Rattle.ir_model.specs.Layout.{known, shape}
 use Rattle.ir_model.specs.Resolved.{no_func, file_of}
 use Rattle.ir_model.specs.Resolve.{Scope, scope_of, row_from, resolved_func, resolved_global, resolved_block, resolved_inst, window_of, files_from, resolve}
-use Rattle.ir_model.specs.Canonical.{Each, IsWithinLimits}
+use Rattle.ir_model.specs.Canonical.{IsWithinLimits}
+use Rattle.common_laws.specs.Lists.{Each}
 use Rattle.ir_model.specs.Signatures.{row_length}
-use Rattle.ir_model.proofs.ForEach.{each_both, each_weaker}
+use Rattle.ir_model.proofs.ForEach.{each_weaker}
 use Rattle.ir_model.proofs.Limits.{Limited, limited, insts_in, few_structs, few_periphs, few_globals, few_files, few_functions}
 use Rattle.ir_laws.specs.Limits.{inst_count, IsFew, AreFew, CountsOf}
+use Rattle.common_laws.proofs.Lists.{each_both}
+use Rattle.ir_laws.proofs.Resolved.{files_count}
 
 -- ---- the files of functions
 
@@ -25,15 +27,6 @@ files_below k (f ∷ fs) =
     each_both (λ (n : ℕ). n < k + length (f ∷ fs)) (replicate (length f.funcs) k) (files_from (suc k) fs)
     (each_copy (λ (n : ℕ). n < k + length (f ∷ fs)) (length f.funcs) k (omega arith))
     (each_weaker (λ (n : ℕ). n < suc k + length fs) (λ (n : ℕ). n < k + length (f ∷ fs)) (λ n h. omega arith) (files_from (suc k) fs) (files_below (suc k) fs))
-
-files_count : (k : ℕ) (fs : List PlainFile) → length (files_from k fs) ≡ length (flat_map (λ (f : PlainFile). f.funcs) fs)
-files_count k [] = refl
-files_count k (f ∷ fs) =
-    let a = length-append (replicate (length f.funcs) k) (files_from (suc k) fs) in
-    let b = length-replicate (length f.funcs) k in
-    let c = length-append f.funcs (flat_map (λ (f : PlainFile). f.funcs) fs) in
-    let r = files_count (suc k) fs in
-    omega arith
 
 at_or : (P : ℕ → Type 0) (xs : List ℕ) (n : ℕ) → P 0 → Each P xs → P (get_or xs n 0)
 at_or P [] n d h = d

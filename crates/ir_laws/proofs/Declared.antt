@@ -14,15 +14,16 @@ use Rattle.ir_model.specs.Plain.{PlainSlot, PlainStruct, PlainGlobal, PlainFunc,
 use Rattle.ir_model.specs.Layout.{Shape, known, shape, laid_out, empty}
 use Rattle.ir_model.specs.Resolve.{has}
 use Rattle.ir_model.specs.Extents.{Counted, counted_named, is_counted, are_counted, counted_behind, counted, HasElements, extent, sized, pair_of}
-use Rattle.ir_model.specs.Canonical.{Each, IsWithinLimits}
+use Rattle.ir_model.specs.Canonical.{IsWithinLimits}
+use Rattle.common_laws.specs.Lists.{Each}
 use Rattle.ir_model.specs.Typing.{Checks, check, is_new, type_checks, object_limit, field_checks, struct_checks, structs_checks, local_checks, init_checks, global_checks, globals_checks, func_checks, funcs_checks, IsTyped}
 use Rattle.ir_model.proofs.Passing.{Pass, left, right, holds}
 use Rattle.ir_model.proofs.Counting.{Tied, extent_tied}
 use Rattle.ir_model.proofs.Elements.{firmware_elements}
 use Rattle.ir_model.proofs.Limits.{Limited, HasParts, limited, global_elements}
 use Rattle.ir_model.proofs.Typed.{structs_named, parts_pass, by_parts}
-use Rattle.ir_model.proofs.ForEach.{each_both}
 use Rattle.ir_laws.specs.Limits.{HasLayout, HasLayouts}
+use Rattle.common_laws.proofs.Lists.{each_both}
 
 abbrev Counts : Counted → Type 0
 Counts k = k.counts ≡ true

@@ -24,7 +24,7 @@ earlier : (m n to : ℕ) (cs : List CellPlace) → m ≤ n → IsLaidOut n to cs
 earlier m n to [] l h = omega arith
 earlier m n to (c ∷ cs) l h = (omega (arith, h.0), h.1)
 
-longer : (from m n : ℕ) (cs : List CellPlace) → m ≤ n → IsLaidOut from m cs → IsLaidOut from n cs
+pub longer : (from m n : ℕ) (cs : List CellPlace) → m ≤ n → IsLaidOut from m cs → IsLaidOut from n cs
 longer from m n [] l h = omega arith
 longer from m n (c ∷ cs) l h = (h.0, longer (c.at + width_of c.ty) m n cs l h.1)
 
@@ -151,3 +151,8 @@ cells_of_firmwares w =
       globals = λ g. at_each (λ (o : NumberedGlobal). AreApart o.shape.cells) (resolved_global (scope_of w)) w.globals g no_global none_apart (λ o. type_apart w.structs o.ty);
       locals = λ f. at_each HasLocalsApart (resolved_func (scope_of w)) (funcs_of w) f no_func (λ l. none_apart) (locals_apart w);
     }
+
+-- cells end at or before the last bound
+pub last_end : (a size : ℕ) (ds : List CellPlace) → IsLaidOut a size ds → a ≤ size
+last_end a size [] l = l
+last_end a size (d ∷ ds) l = let e = last_end (d.at + width_of d.ty) size ds l.1 in let z = l.0 in omega (arith, e, z)

@@ -14,9 +14,12 @@ mod Counts
 mod Sizes
 mod Windows
 mod Declared
-mod Aligned
+pub mod Aligned
+pub mod GlobalShapes
 pub mod Moving
 mod Steps
 mod Facts
 mod Fitting
 pub mod Walk
+pub mod Resolved
+pub mod Objects

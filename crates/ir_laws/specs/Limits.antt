@@ -1,13 +1,16 @@
 -- Beyond the program's claim: only laws, proofs and functions inside the tool cite this file.
 -- The limits of a program: how many items it has, how large its objects are, and where its windows lie.
-use Rattle.std.specs.Prelude.{◌≡◌, ◌≢◌, ℕ, ◌+◌, ◌%◌, ◌^◌, ◌<◌, ◌≤◌, ◌⊎◌, List, [], ◌∷◌, length, Some}
+use Rattle.std.specs.Prelude.{◌≡◌, ◌≢◌, ℕ, ◌+◌, ◌<◌, ◌≤◌, List, [], ◌∷◌, length, Some}
+use Rattle.windows.specs.Ranges.{AreApart, IsWindowRange}
 use Rattle.ir_model.specs.Types.{PlainType}
 use Rattle.ir_model.specs.Plain.{PlainSlot, PlainGlobal, PlainFunc, PlainFirmware, funcs_of}
 use Rattle.ir_model.specs.Layout.{known, shape}
-use Rattle.ir_model.specs.Resolved.{Program, NumberedBlock, NumberedFunc, NumberedWindow, func_at, global_at, local_at, window_at, file_of}
+use Rattle.ir_model.specs.Resolved.{Program, NumberedBlock, NumberedFunc, func_at, global_at, local_at, window_at, file_of}
 use Rattle.ir_model.specs.Resolve.{resolve}
 use Rattle.ir_model.specs.Extents.{layout_of}
-use Rattle.ir_model.specs.Canonical.{Each, IsWithinLimits}
+use Rattle.ir_model.specs.Canonical.{IsWithinLimits}
+use Rattle.common_laws.specs.Lists.{Each}
+use Rattle.ir_model.specs.TextLimits.{struct_limit, periph_limit, global_limit, file_limit, function_limit, parameter_limit, register_limit, local_limit, block_limit, instruction_limit}
 use Rattle.ir_model.specs.Typing.{object_limit, IsTyped}
 use Rattle.ir_model.specs.Signatures.{row_length}
 
@@ -17,42 +20,30 @@ inst_count (b ∷ bs) = length b.insts + inst_count bs
 
 -- a function's parameters, registers with parameters, locals, blocks, and instructions in all blocks
 pub record IsFew (g : NumberedFunc) : Type 0 where
-  pub params : row_length g.params ≤ 4
-  pub registers : length g.regs ≤ 120
-  pub locals : length g.locals ≤ 64
-  pub blocks : length g.blocks ≤ 1024
-  pub insts : inst_count g.blocks ≤ 16384
+  pub params : row_length g.params ≤ parameter_limit
+  pub registers : length g.regs ≤ register_limit
+  pub locals : length g.locals ≤ local_limit
+  pub blocks : length g.blocks ≤ block_limit
+  pub insts : inst_count g.blocks ≤ instruction_limit
 
 -- the counts of a program; files are numbered from 0, and each function is of one
 pub record AreFew (p : Program) : Type 0 where
-  pub periphs : length p.periphs ≤ 64
-  pub globals : length p.globals ≤ 1024
-  pub funcs : length p.funcs ≤ 1024
+  pub periphs : length p.periphs ≤ periph_limit
+  pub globals : length p.globals ≤ global_limit
+  pub funcs : length p.funcs ≤ function_limit
   pub files : length p.files ≡ length p.funcs
   pub each : (f : ℕ) → IsFew (func_at p f)
-  pub each_file : (f : ℕ) → file_of p f < 1024
+  pub each_file : (f : ℕ) → file_of p f < file_limit
 
 -- no global and no local is larger than 65,536 bytes
 pub record HasSmallObjects (p : Program) : Type 0 where
   pub globals : (g : ℕ) → (global_at p g).shape.size ≤ object_limit
   pub locals : (f l : ℕ) → (local_at p f l).size ≤ object_limit
 
--- a window: an aligned power of two from 32 to 65,536 bytes, from 0x40000000 to 0x5FFFFFFF
-pub record IsWindow (q : NumberedWindow) : Type 0 where
-  pub power : ℕ
-  pub least : 5 ≤ power
-  pub most : power ≤ 16
-  pub size : q.size ≡ 2 ^ power
-  pub aligned : q.base % q.size ≡ 0
-  pub from : 0x40000000 ≤ q.base
-  pub to : q.base + q.size ≤ 0x60000000
-
-abbrev pub AreDisjoint : NumberedWindow → NumberedWindow → Type 0
-AreDisjoint q r = (q.base + q.size ≤ r.base) ⊎ (r.base + r.size ≤ q.base)
-
+-- the windows lie where a window may, apart from one another
 pub record HasWindows (p : Program) : Type 0 where
-  pub each : (q : ℕ) → q < length p.periphs → IsWindow (window_at p q)
-  pub apart : (q r : ℕ) → q < length p.periphs → r < length p.periphs → q ≢ r → AreDisjoint (window_at p q) (window_at p r)
+  pub each : (q : ℕ) → q < length p.periphs → IsWindowRange (window_at p q).base (window_at p q).size
+  pub apart : (q r : ℕ) → q < length p.periphs → r < length p.periphs → q ≢ r → AreApart (window_at p q).base (window_at p q).size (window_at p r).base (window_at p r).size
 
 -- the layout of a type is that of its shape
 abbrev pub HasLayout : PlainFirmware → PlainType → Type 0
@@ -64,8 +55,8 @@ pub record HasLayouts (w : PlainFirmware) : Type 0 where
 
 -- the counts of a firmware that is within the limits, typed or not
 pub record CountsOf (w : PlainFirmware) : Type 0 where
-  pub structs : length w.structs ≤ 256
-  pub files : length w.files ≤ 1024
+  pub structs : length w.structs ≤ struct_limit
+  pub files : length w.files ≤ file_limit
   pub each_file : (f : ℕ) → f < length (funcs_of w) → file_of (resolve w) f < length w.files
   pub program : AreFew (resolve w)
 

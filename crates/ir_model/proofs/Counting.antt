@@ -9,6 +9,7 @@ use Rattle.ir_model.specs.Types.{PlainType, U8, U16, U32, Pointer, Array, Named,
 use Rattle.ir_model.specs.Plain.{PlainSlot, PlainStruct}
 use Rattle.ir_model.specs.Layout.{Shape, Known, empty, shape, shape_named, array_of, rounded_up, with_field, laid_out, field_places, known, known_behind}
 use Rattle.ir_model.specs.Extents.{Sized, extent_named, limited, of_many, extent, behind, closed, extent_behind, fields_extent, nothing_yet, sized_behind, sized, layout_of, pair_of, Counted, counted_named, is_counted, are_counted, counted_behind, counted, HasElements, EachHasElements, AllHaveElements, IsSized}
+use Rattle.ir_model.proofs.Alignments.{positive_first}
 
 abbrev extent_of : Shape → Extent
 extent_of s = record { size = s.size; align = s.align }
@@ -128,10 +129,6 @@ tie_named (k ∷ ks) (m ∷ ms) [] n h = absurd h
 tie_named (k ∷ ks) (m ∷ ms) (c ∷ cs) n h =
     tie_first (bytes_eq k.name n) (bytes_eq m.name n) (bytes_eq c.name n) k.extent (extent_named ks n) m.shape (shape_named ms n) c.counts (counted_named cs n)
     (ap (λ w. bytes_eq w n) h.0) (ap (λ w. bytes_eq w n) h.1) h.2 (tie_named ks ms cs n h.4)
-
-positive_first : (b : Bool) (s t : Shape) → 0 < s.align → 0 < t.align → 0 < (if b then s else t).align
-positive_first true s t h g = h
-positive_first false s t h g = g
 
 positive_named : (ks : List Sized) (ms : List Known) (cs : List Counted) (n : List ℕ) → Tables ks ms cs → 0 < (shape_named ms n).align
 positive_named [] [] [] n h = omega arith

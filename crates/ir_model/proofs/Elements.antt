@@ -10,7 +10,8 @@ use Rattle.ir_model.specs.Plain.{PlainSlot, PlainStruct, PlainFirmware, struct_o
 use Rattle.ir_model.specs.declared.token.Excess.{Excess}
 use Rattle.ir_model.specs.Tokens.{Key, Sign}
 use Rattle.ir_model.specs.Lines.{Line, marked, plain, name, counted, length_excess, type_tokens, slot_tokens, more_slots, slots_tokens, struct_lines, periph_lines, global_lines, file_lines, lines_of}
-use Rattle.ir_model.specs.Canonical.{Each, PassesNothing, IsWithinLimits}
+use Rattle.ir_model.specs.Canonical.{PassesNothing, IsWithinLimits}
+use Rattle.common_laws.specs.Lists.{Each}
 use Rattle.ir_model.specs.Extents.{HasElements, EachHasElements, AllHaveElements}
 use Rattle.ir_model.proofs.ForEach.{each_left, each_right}
 

@@ -2,7 +2,7 @@
 use Rattle.std.proofs.Common.{◌≡◌, ℕ, zero, suc, ◌<◌, Bool, true, List, [], ◌∷◌, ◌++◌, length, slice_index_or, subst, refl, arith}
 use Rattle.std.specs.List.{Contains, list_all}
 use Rattle.std.proofs.lemmas.Bool.{and_parts}
-use Rattle.ir_model.specs.Canonical.{Each}
+use Rattle.common_laws.specs.Lists.{Each}
 
 -- the front of two lists that are joined
 pub each_left : {A : Type 0} (P : A → Type 0) (xs ys : List A) → Each P (xs ++ ys) → Each P xs
@@ -13,11 +13,6 @@ each_left P (x ∷ xs) ys h = (h.0, each_left P xs ys h.1)
 pub each_right : {A : Type 0} (P : A → Type 0) (xs ys : List A) → Each P (xs ++ ys) → Each P ys
 each_right P [] ys h = h
 each_right P (x ∷ xs) ys h = each_right P xs ys h.1
-
--- two lists that are joined
-pub each_both : {A : Type 0} (P : A → Type 0) (xs ys : List A) → Each P xs → Each P ys → Each P (xs ++ ys)
-each_both P [] ys h g = g
-each_both P (x ∷ xs) ys h g = (h.0, each_both P xs ys h.1 g)
 
 -- the element at a place
 pub each_at : {A : Type 0} (P : A → Type 0) (xs : List A) (k : ℕ) (d x : A) → k < length xs → slice_index_or xs k d ≡ x → Each P xs → P x

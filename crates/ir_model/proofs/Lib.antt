@@ -10,6 +10,9 @@ pub mod ForEach
 pub mod Limits
 pub mod Typed
 pub mod Numbers
+pub mod ObjectOrder
 pub mod NoExcess
 pub mod Locals
 pub mod Arrays
+pub mod Rows
+pub mod Alignments

@@ -9,19 +9,21 @@ use Rattle.ir_model.specs.declared.firmware.Inst.TheVariants as inst
 use Rattle.ir_model.specs.declared.firmware.Block.{Block}
 use Rattle.ir_model.specs.declared.firmware.Peripheral.{Peripheral}
 use Rattle.ir_model.specs.declared.token.Excess.{Excess}
-use Rattle.ir_model.specs.declared.token.Mark.TheVariants.{Colon, Open, Close, OpenBrace, Comma}
+use Rattle.ir_model.specs.declared.token.Mark.TheVariants.{Colon, Close, OpenBrace, Comma}
 use Rattle.ir_model.specs.declared.token.TextLimit.{TextLimit}
 use Rattle.ir_model.specs.declared.token.TextLimit.TheVariants as limit
 use Rattle.ir_model.specs.Plain.{PlainSlot, PlainStruct, PlainGlobal, PlainFunc, PlainFile, PlainFirmware, funcs_of, regs_of}
 use Rattle.ir_model.specs.declared.token.Keyword.TheVariants as key
 use Rattle.ir_model.specs.Types.{PlainType, U8, U16, U32, Pointer, Array, Named, Callee, target_of}
 use Rattle.ir_model.specs.Tokens.{Token, Key, Marked, Sign}
-use Rattle.ir_model.specs.Lines.{Line, marked, name, register, arguments, more_arguments, kept, type_tokens, init_tokens, counted, word_excess, plain, slot_tokens, more_slots, slots_tokens, result_tokens, global_start, func_line, close_line, term_line, label_line, inst_line, inst_lines, block_lines, local_lines, reg_lines, func_lines, funcs_lines, file_lines, struct_lines, periph_lines, global_line, global_lines, lines_of}
-use Rattle.ir_model.specs.Canonical.{Each, PassesNothing, IsProper, IsWithinLimits}
+use Rattle.ir_model.specs.Lines.{Line, name, register, arguments, more_arguments, kept, type_tokens, init_tokens, counted, word_excess, plain, slot_tokens, more_slots, slots_tokens, result_tokens, global_start, func_line, close_line, term_line, label_line, inst_line, inst_lines, block_lines, local_lines, reg_lines, func_lines, funcs_lines, file_lines, struct_lines, periph_lines, global_lines, lines_of}
+use Rattle.ir_model.specs.Canonical.{PassesNothing, IsProper, IsWithinLimits}
+use Rattle.common_laws.specs.Lists.{Each}
 use Rattle.ir_model.specs.Extents.{HasElements}
 use Rattle.ir_model.proofs.Elements.{type_elements}
-use Rattle.ir_model.proofs.ForEach.{each_left, each_right, each_both, each_contained}
+use Rattle.ir_model.proofs.ForEach.{each_left, each_right, each_contained}
 use Rattle.ir_model.proofs.NoExcess.{first_none, counted_none, number_fits}
+use Rattle.common_laws.proofs.Lists.{each_both}
 
 abbrev Quiet : Line → Type 0
 Quiet l = Each PassesNothing l

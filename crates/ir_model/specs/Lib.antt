@@ -13,6 +13,7 @@ pub mod Tokens
 pub mod TextLimits
 pub mod Lines
 pub mod Canonical
+pub mod FewItems
 pub mod Frames
 pub mod Rules
 pub mod Typing

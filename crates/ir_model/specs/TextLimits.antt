@@ -1,6 +1,10 @@
 -- The limits of a firmware's text: how much of each there may be at most.
 use Rattle.std.specs.Prelude.{ℕ}
 
+-- bytes of the text
+abbrev pub text_limit : ℕ
+text_limit = 4194304
+
 -- bytes of a word
 abbrev pub word_limit : ℕ
 word_limit = 64

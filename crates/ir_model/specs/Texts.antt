@@ -13,7 +13,8 @@ use Rattle.ir_model.specs.declared.token.Pos.{Pos}
 use Rattle.ir_model.specs.Plain.{PlainStruct, PlainFunc, PlainFirmware, funcs_of}
 use Rattle.ir_model.specs.Tokens.{Token, Name, Number, Key, Operation, Comparison, Sign, Marked, keyword_bytes, operation_bytes, comparison_bytes, mark_bytes}
 use Rattle.ir_model.specs.Lines.{Line, lines_of, marked}
-use Rattle.ir_model.specs.Canonical.{Each, PassesNothing, IsWithinLimits}
+use Rattle.ir_model.specs.Canonical.{PassesNothing, IsWithinLimits}
+use Rattle.common_laws.specs.Lists.{Each}
 
 -- space, tab, CR or LF
 abbrev pub is_blank : ℕ → Bool

@@ -1,7 +1,8 @@
 -- The checks of a firmware, in the order in which they are made, each with its place. A firmware is typed where none
 -- fails, and its fault is the first that fails.
-use Rattle.std.specs.Prelude.{◌≡◌, ℕ, zero, suc, ◌+◌, ◌*◌, ◌%◌, ◌^◌, List, [], ◌∷◌, ◌++◌, map, length, Bool, true, false, not, ◌&&◌, ◌||◌, Option, Some, None, nat_eq, nat_lt, nat_le, if◌then◌else◌}
-use Rattle.std.specs.List.{list_any}
+use Rattle.std.specs.Prelude.{◌≡◌, ℕ, suc, ◌*◌, ◌^◌, List, [], ◌∷◌, ◌++◌, map, length, Bool, true, false, not, ◌&&◌, ◌||◌, Option, Some, None, nat_lt, nat_le, if◌then◌else◌}
+use Rattle.std.specs.List.{list_all}
+use Rattle.windows.specs.Ranges.{are_apart, is_window_size, is_window_place}
 use Rattle.ir_model.specs.declared.check.CheckKind.{CheckKind}
 use Rattle.ir_model.specs.declared.check.CheckKind.TheVariants.{Unknown, Twice, IllTyped, NoMain, BadWindow, WindowOverlap, BadInit, ObjectTooLarge, FrameTooLarge}
 use Rattle.ir_model.specs.declared.check.Place.{Place}
@@ -83,23 +84,19 @@ abbrev pub structs_checks : (declared : List (List ℕ)) → (earlier structs : 
 structs_checks ds es [] = []
 structs_checks ds es (s ∷ ss) = struct_checks ds es s ++ structs_checks ds (es ++ s ∷ []) ss
 
--- peripherals: a power of two from 32 to 65,536 bytes, aligned, from 0x40000000 to 0x5FFFFFFF, apart from the earlier ones
-abbrev pub is_power_from : (count n power : ℕ) → Bool
-is_power_from zero n k = false
-is_power_from (suc c) n k = nat_eq n k || is_power_from c n (k + k)
-
+-- peripherals: each a window, apart from the earlier ones
 abbrev pub is_window : Peripheral → Bool
-is_window q = is_power_from 12 q.size 32 && (nat_eq (q.base % q.size) 0 && (nat_le 0x40000000 q.base && nat_le (q.base + q.size) 0x60000000))
+is_window q = is_window_size q.size && is_window_place q.base q.size
 
-abbrev pub overlaps : Peripheral → Peripheral → Bool
-overlaps q e = nat_lt q.base (e.base + e.size) && nat_lt e.base (q.base + q.size)
+abbrev pub is_apart : (earlier : List Peripheral) → Peripheral → Bool
+is_apart es q = list_all (λ e. are_apart e.base e.size q.base q.size) es
 
 abbrev pub periph_checks : (earlier periphs : List Peripheral) → Checks
 periph_checks es [] = []
 periph_checks es (q ∷ qs) =
     (is_new (map (λ (e : Peripheral). e.name) es) q.name (place.Periph q.name)
     ∷ check (is_window q) BadWindow (place.Periph q.name)
-    ∷ check (not (list_any (overlaps q) es)) WindowOverlap (place.Periph q.name)
+    ∷ check (is_apart es q) WindowOverlap (place.Periph q.name)
     ∷ []) ++ periph_checks (es ++ q ∷ []) qs
 
 -- globals: the name, the type, the size, and the cells

@@ -41,7 +41,7 @@ pub fn is_callee(func: &Func, ty: &Ty) -> bool
     ensures { result ≡ same (Callee (row_from (func_of func.now).params) (func_of func.now).outcome) (type_of ty.now) }
 {
     match ty {
-        Ty::Callee(signature) => is_row(func.params.as_slice(), &signature.params.items)
+        Ty::Callee(signature) => is_row(func.params.as_slice(), signature.params.as_slice())
             && is_result(&func.result, &signature.result),
         Ty::U8 => false,
         Ty::U16 => false,

@@ -1,6 +1,7 @@
 //! What can be wrong with a firmware, and where.
 
 use crate::name::Name;
+use std::fmt;
 
 /// A check that fails.
 #[derive(Drop, Debug)]
@@ -52,4 +53,37 @@ pub enum Place {
     },
     /// In no single part.
     Whole,
+}
+
+impl fmt::Display for CheckKind {
+    fn fmt<W: fmt::Write>(&self, f: &mut fmt::Formatter<W>) -> fmt::Result {
+        match self {
+            CheckKind::Unknown(name) => write!(f, "unknown {name}"),
+            CheckKind::Twice(name) => write!(f, "twice {name}"),
+            CheckKind::IllTyped => f.write_str("type"),
+            CheckKind::NoMain => f.write_str("no main"),
+            CheckKind::BadWindow => f.write_str("bad window"),
+            CheckKind::WindowOverlap => f.write_str("windows overlap"),
+            CheckKind::BadInit => f.write_str("bad init"),
+            CheckKind::ObjectTooLarge => f.write_str("object too large"),
+            CheckKind::FrameTooLarge { bytes } => write!(f, "frame of {bytes} bytes"),
+        }
+    }
+}
+
+impl fmt::Display for Place {
+    fn fmt<W: fmt::Write>(&self, f: &mut fmt::Formatter<W>) -> fmt::Result {
+        match self {
+            Place::Struct(name) => write!(f, "struct {name}"),
+            Place::Periph(name) => write!(f, "peripheral {name}"),
+            Place::Global(name) => write!(f, "global {name}"),
+            Place::File(name) => write!(f, "file {name}"),
+            Place::Func(name) => write!(f, "function {name}"),
+            Place::Inst { func, block, inst } => write!(
+                f,
+                "{func} block {block} instruction {inst}"
+            ),
+            Place::Whole => f.write_str("firmware"),
+        }
+    }
 }

@@ -3,7 +3,8 @@
 ghost use Rattle.std.specs.Prelude.{◌≡◌, length, map, IfOk};
 ghost use Rattle.ir_model.specs.Types.{Callee, types_from, type_of, boxed_result_of};
 
-use crate::types::{Signature, Ty, Tys};
+use crate::types::{Signature, Ty};
+use list_vec::ListVec;
 use std::alloc::{AllocError, Global};
 
 /// The type of a function that takes these parameters and gives this result.
@@ -11,7 +12,7 @@ pub fn callee_type(params: Vec<Ty>, outcome: Option<Box<Ty>>) -> Ty
     ensures { type_of result ≡ Callee (types_from (map type_of params.items)) (boxed_result_of outcome) }
 {
     Ty::Callee(Signature {
-        params: Tys { items: params },
+        params: ListVec::new(params),
         result: outcome,
     })
 }
@@ -48,7 +49,7 @@ fn clone_type(ty: &Ty) -> Result<Ty, AllocError>
         )),
         Ty::Named(name) => Ok(Ty::Named(name.clone()?)),
         Ty::Callee(signature) => {
-            let params = clone_row(&signature.params.items)?;
+            let params = clone_row(signature.params.allocator(), signature.params.as_slice())?;
             let outcome = clone_result(&signature.result)?;
             Ok(callee_type(params, outcome))
         }
@@ -56,10 +57,10 @@ fn clone_type(ty: &Ty) -> Result<Ty, AllocError>
 }
 
 #[cycle(clone)]
-fn clone_row(types: &Vec<Ty>) -> Result<Vec<Ty>, AllocError>
-    ensures { IfOk result (λ v. map type_of v.items ≡ map type_of types.now.items) }
+fn clone_row(alloc: Global, types: &[Ty]) -> Result<Vec<Ty>, AllocError>
+    ensures { IfOk result (λ v. map type_of v.items ≡ map type_of types.now) }
 {
-    let mut clones = Vec::new(*types.allocator());
+    let mut clones = Vec::new(alloc);
     for ty in types {
         clones.push(clone_type(ty)?)?;
     }

@@ -45,7 +45,7 @@ fn is_same(a: &Ty, b: &Ty) -> bool
             Ty::U8 | Ty::U16 | Ty::U32 | Ty::Ptr(_) | Ty::Array(_, _) | Ty::Callee(_) => false,
         },
         Ty::Callee(s) => match b {
-            Ty::Callee(t) => is_same_row(&s.params.items, &t.params.items)
+            Ty::Callee(t) => is_same_row(s.params.as_slice(), t.params.as_slice())
                 && is_same_result(&s.result, &t.result),
             Ty::U8 | Ty::U16 | Ty::U32 | Ty::Ptr(_) | Ty::Array(_, _) | Ty::Named(_) => false,
         },

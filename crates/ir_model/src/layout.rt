@@ -4,7 +4,8 @@ ghost use Rattle.std.specs.Prelude.{◌≡◌, ◌↔◌, ◌+◌, ◌<◌, ◌�
 ghost use Rattle.ir_model.specs.Types.{type_of};
 ghost use Rattle.ir_model.specs.Plain.{slot_of, struct_of, firmware_of};
 ghost use Rattle.ir_model.specs.Lines.{type_tokens};
-ghost use Rattle.ir_model.specs.Canonical.{Each, PassesNothing, IsWithinLimits};
+ghost use Rattle.ir_model.specs.Canonical.{PassesNothing, IsWithinLimits};
+ghost use Rattle.common_laws.specs.Lists.{Each};
 ghost use Rattle.ir_model.specs.Layout.{known, shape, rounded_up};
 ghost use Rattle.ir_model.specs.Extents as extents;
 ghost use Rattle.ir_model.specs.Extents.{IsOf, IsSized, IsSmall, layout_of, sized};

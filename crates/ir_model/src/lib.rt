@@ -12,5 +12,6 @@ pub mod firmware;
 pub mod layout;
 pub mod name;
 pub mod object;
+pub mod text_limits;
 pub mod token;
 pub mod types;

@@ -8,11 +8,12 @@ ghost use Rattle.names.specs.Names.{is_name, IsName};
 
 use std::alloc::{AllocError, Global};
 use std::cmp::Ordering;
+use std::fmt;
 use std::marker::Model;
 use thiserror::Error;
 
 /// A word of 1 to 64 bytes that is not reserved, seen as the list of its bytes.
-#[derive(Drop, Debug)]
+#[derive(Drop)]
 pub struct Name {
     word: Vec<u8>,
 }
@@ -104,5 +105,20 @@ impl Clone for Name {
     fn clone(&self) -> Result<Self, AllocError> {
         let word = self.word.clone()?;
         Ok(Name { word })
+    }
+}
+
+impl fmt::Display for Name {
+    fn fmt<W: fmt::Write>(&self, f: &mut fmt::Formatter<W>) -> fmt::Result {
+        for byte in self.word.as_slice() {
+            f.write_char(char::from(*byte))?;
+        }
+        Ok(())
+    }
+}
+
+impl fmt::Debug for Name {
+    fn fmt<W: fmt::Write>(&self, f: &mut fmt::Formatter<W>) -> fmt::Result {
+        write!(f, "\"{self}\"")
     }
 }

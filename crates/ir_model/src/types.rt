@@ -1,6 +1,7 @@
 //! The types of the firmware language.
 
 use crate::name::Name;
+use list_vec::ListVec;
 
 /// A type.
 #[cycle(types)]
@@ -22,6 +23,9 @@ pub enum Ty {
     Callee(Signature),
 }
 
+/// Types one after another, seen as a list.
+pub type Tys = ListVec<Ty>;
+
 /// What a function takes and gives.
 #[cycle(types)]
 #[derive(Drop)]
@@ -30,12 +34,4 @@ pub struct Signature {
     pub params: Tys,
     /// The result's type, where there is one.
     pub result: Option<Box<Ty>>,
-}
-
-/// Types one after another.
-#[cycle(types)]
-#[derive(Drop)]
-pub struct Tys {
-    /// The types in order.
-    pub items: Vec<Ty>,
 }

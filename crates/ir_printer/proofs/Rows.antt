@@ -36,11 +36,11 @@ row_by_types (t ∷ ts) =
     ∙ sym (append_assoc (type_text (type_of t)) (separated ty_text 1 ts) (next (Sign Close)))
 
 -- the type of a function, as the code holds it
-callee_is : (s : Signature) → type_of (code.Callee s) ≡ Callee (types_from (map type_of s.params.items.items)) (boxed_result_of s.«result»)
+callee_is : (s : Signature) → type_of (code.Callee s) ≡ Callee (types_from (map type_of s.params)) (boxed_result_of s.«result»)
 callee_is s = search (rules, code.the_lemmas, rows)
 
 pub callee_text : (s : Signature) → type_text (type_of (code.Callee s))
-    ≡ next (Key key.Fn) ++ next (Sign Open) ++ row_text (types_from (map type_of s.params.items.items)) ++ result_text (boxed_result_of s.«result»)
+    ≡ next (Key key.Fn) ++ next (Sign Open) ++ row_text (types_from (map type_of s.params)) ++ result_text (boxed_result_of s.«result»)
 callee_text s = ap type_text (callee_is s)
 
 pub row_end : (ts : List Ty) (i : ℕ) (start before after : List ℕ) → length ts ≤ i → before ≡ start ++ separated ty_text 0 (take i ts) → after ≡ before ++ next (Sign Close)

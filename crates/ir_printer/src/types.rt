@@ -32,7 +32,7 @@ pub fn put_type(out: &mut Vec<u8>, ty: &Ty) -> Result<(), AllocError>
         Ty::Callee(signature) => {
             put_keyword(out, Keyword::Fn)?;
             put_mark(out, Mark::Open)?;
-            put_row(out, &signature.params.items)?;
+            put_row(out, signature.params.as_slice())?;
             put_boxed_result(out, &signature.result)
         }
     }
@@ -40,8 +40,8 @@ pub fn put_type(out: &mut Vec<u8>, ty: &Ty) -> Result<(), AllocError>
 
 // Types between brackets, with the closing one.
 #[cycle(types)]
-fn put_row(out: &mut Vec<u8>, types: &Vec<Ty>) -> Result<(), AllocError>
-    ensures { OnOk result (out.new.items ≡ out.old.items ++ row_text (types_from (map type_of types.now.items))) }
+fn put_row(out: &mut Vec<u8>, types: &[Ty]) -> Result<(), AllocError>
+    ensures { OnOk result (out.new.items ≡ out.old.items ++ row_text (types_from (map type_of types.now))) }
 {
     for (i, ty) in types.iter().enumerate() {
         put_separator(out, i)?;

@@ -7,7 +7,7 @@ use Rattle.ir_model.specs.declared.firmware.Inst.{Inst}
 use Rattle.ir_model.specs.declared.firmware.Term.TheVariants as term
 use Rattle.ir_model.specs.declared.token.Excess.{Excess}
 use Rattle.ir_model.specs.declared.token.Mark.TheVariants as mark
-use Rattle.ir_model.specs.Canonical.{Each}
+use Rattle.common_laws.specs.Lists.{Each}
 use Rattle.ir_model.specs.Types.{U8, nothing, gives}
 use Rattle.ir_model.specs.Types as types
 use Rattle.ir_model.specs.Plain.{PlainSlot, PlainFunc, PlainFile}
@@ -15,12 +15,12 @@ use Rattle.ir_model.specs.Tokens.{Token, Name, Sign, Marked}
 use Rattle.ir_model.specs.Lines.{Line}
 use Rattle.ir_model.specs.Texts.{tokens, begins_colon, is_colon, IsFree}
 use Rattle.ir_reader.specs.Machine
-use Rattle.ir_reader.specs.Machine.{Symbol, Move, Go, move, is_last}
+use Rattle.ir_reader.specs.Machine.{Symbol, Go, move, is_last}
 use Rattle.ir_reader.proofs.Derive.{follows}
 use Rattle.ir_reader.proofs.Lang
 use Rattle.ir_reader.proofs.Lang.{Langs, none, some, Follows, next, ends, skips}
-use Rattle.ir_model.proofs.ForEach.{each_both}
 use Rattle.ir_reader.proofs.Theorem.{split}
+use Rattle.common_laws.proofs.Lists.{each_both}
 
 abbrev pub Free : Marked → Type 0
 Free m = IsFree m.token

@@ -7,11 +7,11 @@ use Rattle.ir_model.specs.declared.token.Excess.TheVariants as excess
 use Rattle.ir_model.specs.declared.token.Mark.TheVariants as mark
 use Rattle.ir_model.specs.declared.token.Pos.{Pos}
 use Rattle.ir_model.specs.declared.firmware.Firmware.{Firmware}
-use Rattle.ir_model.specs.Canonical.{Each}
+use Rattle.common_laws.specs.Lists.{Each}
 use Rattle.ir_model.specs.Plain.{PlainFirmware, funcs_of}
 use Rattle.ir_model.specs.Tokens.{Token, Sign, Marked}
 use Rattle.ir_model.specs.Lines.{Line, marked, lines_of}
-use Rattle.ir_model.specs.Texts.{joined, tokens, Spells, IsApart, Leads, here, blank, comment, token, is_blank, opens_comment, IsFree, Begins, NoneBegins, NoneIs, Reaches, BeginsNothing, IsUnexpected, end, nothing, IsSyntaxFault, HasColon, begins_colon, is_colon, Agrees, same, none, IsPlace, SyntaxAt, PassesAt}
+use Rattle.ir_model.specs.Texts.{joined, tokens, Spells, IsApart, Leads, here, blank, comment, token, IsFree, Begins, NoneBegins, NoneIs, Reaches, BeginsNothing, IsUnexpected, end, nothing, HasColon, begins_colon, Agrees, same, none, IsPlace, SyntaxAt, PassesAt}
 use Rattle.ir_model.specs.Texts as texts
 use Rattle.ir_reader.specs.declared.error.Fault.{Fault}
 use Rattle.ir_reader.specs.declared.error.FaultKind.{FaultKind}
@@ -31,12 +31,12 @@ use Rattle.ir_reader.proofs.Lang
 use Rattle.ir_reader.proofs.Lang.{Langs, well}
 use Rattle.ir_reader.proofs.Pieces.{Reached, reached, spelled_lexeme, at_token, nothing_left}
 use Rattle.ir_reader.proofs.Proper.{leads_free, free_token}
-use Rattle.ir_model.proofs.ForEach.{each_both}
 use Rattle.ir_reader.proofs.Scanning.{placed_nil}
 use Rattle.ir_reader.proofs.Stops.{stopped, Stopped, Why, stuck, bad, short, over}
 use Rattle.ir_reader.proofs.Texts.{all_functions}
 use Rattle.ir_reader.proofs.Verdicts.{begun, taken, none_there, none_ends, each_there}
 use Rattle.ir_reader.proofs.Whole.{finds_some, finds_from}
+use Rattle.common_laws.proofs.Lists.{each_both}
 
 -- what stands where a text begins is a firmware's
 pub record Made (l : Line) : Type 0 where

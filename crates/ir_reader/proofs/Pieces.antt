@@ -10,7 +10,7 @@ use Rattle.numerals.specs.Numerals.{numeral}
 use Rattle.names.specs.Names.{begins_word, continues_word, is_word}
 use Rattle.ir_model.specs.declared.token.Mark.{Mark}
 use Rattle.ir_model.specs.declared.token.Mark.TheVariants as mark
-use Rattle.ir_model.specs.Canonical.{Each}
+use Rattle.common_laws.specs.Lists.{Each}
 use Rattle.ir_model.specs.Tokens.{Token, Name, Number, Key, Operation, Comparison, Sign, mark_bytes}
 use Rattle.ir_model.specs.Texts.{is_blank, opens_comment, is_inside_line, EndsLine, Spells, EndsWord, IsApart, Leads, here, blank, comment, token}
 use Rattle.ir_reader.specs.Found.{Found, Is, Bad, End, Placed, finds}

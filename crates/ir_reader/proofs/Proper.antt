@@ -2,19 +2,21 @@
 use Rattle.std.proofs.Common.{◌≡◌, ◌<◌, ℕ, [], ◌∷◌, ◌++◌, List, Bool, true, false, refl, sym, ap, ◌∙◌, Option, Some, None, ◌^◌}
 use Rattle.ir_model.specs.declared.token.Excess.{Excess}
 use Rattle.ir_model.specs.declared.token.TextLimit.TheVariants as limit
-use Rattle.ir_model.specs.Canonical.{Each, PassesNothing, IsProper}
+use Rattle.ir_model.specs.Canonical.{PassesNothing, IsProper}
+use Rattle.common_laws.specs.Lists.{Each}
 use Rattle.ir_model.specs.Tokens.{Token, Name, Number, Key, Operation, Comparison, Sign, Marked}
 use Rattle.ir_model.specs.Lines.{Line, word_excess, number_excess, length_excess, counted, depth_excess, or_else}
 use Rattle.ir_model.specs.Texts.{joined, tokens, IsFree, Leads, here, blank, comment, token, Spells}
 use Rattle.ir_reader.specs.Found.{Is, Placed, finds}
 use Rattle.ir_reader.specs.Machine
-use Rattle.ir_reader.specs.Machine.{Symbol, Move, Go, Stop, Skip, Step, To, Stuck, step, fault, move}
+use Rattle.ir_reader.specs.Machine.{Symbol, Move, Go, Stop, Skip, To, step, fault, move}
 use Rattle.ir_model.proofs.NoExcess.{second_none, name_of_short, depth_behind, number_fits, length_fits, IsNarrow}
 use Rattle.ir_reader.proofs.Lang.{Langs, well}
 use Rattle.ir_reader.proofs.Theorem.{steps, text_of, colon_same, fault_token, kept}
 use Rattle.ir_reader.proofs.Ends.{after}
 use Rattle.ir_reader.proofs.Values.{stepped}
-use Rattle.ir_model.proofs.ForEach.{each_left, each_right, each_both}
+use Rattle.ir_model.proofs.ForEach.{each_left, each_right}
+use Rattle.common_laws.proofs.Lists.{each_both}
 
 abbrev pub IsShort : Token → Type 0
 IsShort (Name w) = word_excess w ≡ None

@@ -2,7 +2,7 @@
 use Rattle.std.proofs.Common.{◌≡◌, ◌<◌, [], ◌∷◌, ◌++◌, map, List, refl, sym, ◌∙◌, append_assoc, length, arith}
 use Rattle.ir_model.specs.declared.token.Mark.TheVariants.{Comma, Close, Equal, OpenBrace}
 use Rattle.ir_model.specs.Types.{PlainType, types_from}
-use Rattle.ir_model.specs.Canonical.{Each}
+use Rattle.common_laws.specs.Lists.{Each}
 use Rattle.ir_reader.specs.Spelling.{Spelling, Sign, separated, spell_type, spell_row, spell_more_row, spell_init, spell_cells}
 use Rattle.ir_model.specs.declared.firmware.Cell.{Cell}
 use Rattle.std.proofs.lemmas.List.{length-map, map_push}

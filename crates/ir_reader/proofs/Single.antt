@@ -5,7 +5,7 @@ use Rattle.std.specs.List.{suffix_len}
 use Rattle.ir_model.specs.declared.token.Excess.{Excess}
 use Rattle.ir_model.specs.declared.token.Excess.TheVariants as excess
 use Rattle.ir_model.specs.declared.token.Pos.{Pos}
-use Rattle.ir_model.specs.Canonical.{Each}
+use Rattle.common_laws.specs.Lists.{Each}
 use Rattle.ir_model.specs.Plain.{PlainFirmware}
 use Rattle.ir_model.specs.Tokens.{Token, Name, Number, Key, Operation, Comparison, Sign, Marked}
 use Rattle.ir_model.specs.Lines.{Line, marked, lines_of, number_excess, length_excess}
@@ -13,7 +13,7 @@ use Rattle.ir_model.specs.Texts.{joined, tokens, IsText, Begins, NoneBegins, IsU
 use Rattle.ir_reader.specs.Laws.{FaultsAreSingle, TextsAreFaultless}
 use Rattle.ir_reader.specs.Found.{Is, End, Placed, colon_first}
 use Rattle.ir_reader.specs.Machine
-use Rattle.ir_reader.specs.Machine.{Symbol, Move, Go, Stop, Skip, Step, To, Stuck, step, move, Structs}
+use Rattle.ir_reader.specs.Machine.{Symbol, Move, Go, Stop, Skip, To, step, move, Structs}
 use Rattle.ir_reader.specs.Scan.{placed, StartsToken}
 use Rattle.ir_reader.proofs.Allow.{stands}
 use Rattle.ir_reader.proofs.Firsts.{spelled_at, left_of, has_colon, begins_from}

@@ -4,7 +4,8 @@ use Rattle.std.proofs.lemmas.Option.{same_Some}
 use Rattle.ir_model.specs.declared.token.Excess.{Excess}
 use Rattle.ir_model.specs.declared.token.Mark.TheVariants as mark
 use Rattle.ir_model.specs.Tokens.{Token, Name, Number, Key, Operation, Comparison, Sign, Marked}
-use Rattle.ir_model.specs.Canonical.{Each, PassesNothing}
+use Rattle.ir_model.specs.Canonical.{PassesNothing}
+use Rattle.common_laws.specs.Lists.{Each}
 use Rattle.ir_model.specs.Lines.{Line, marked}
 use Rattle.ir_model.specs.Texts.{tokens, begins_colon}
 use Rattle.ir_reader.specs.declared.error.Fault.{Fault}

@@ -12,7 +12,7 @@ use Rattle.ir_model.specs.declared.token.Keyword.TheVariants as key
 use Rattle.ir_model.specs.declared.firmware.BinOp.TheVariants as op
 use Rattle.ir_model.specs.declared.firmware.CmpOp.TheVariants as cmp
 use Rattle.ir_model.specs.Tokens.{Token, Name, Number, Key, Operation, Comparison, Sign, keyword_bytes, operation_bytes, comparison_bytes}
-use Rattle.ir_model.specs.Canonical.{Each}
+use Rattle.common_laws.specs.Lists.{Each}
 use Rattle.ir_reader.specs.Words.{first_of, or_else, declarations, operands, controls, arithmetic, bits, comparisons, word_token}
 
 abbrev words_of : {A : Type 0} → List (List ℕ × A) → List (List ℕ)

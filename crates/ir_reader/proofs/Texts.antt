@@ -5,7 +5,7 @@ use Rattle.ir_reader.specs.declared.fault.TextFault.{TextFault}
 use Rattle.ir_reader.specs.declared.fault.TextFault.TheVariants as text
 use Rattle.ir_reader.specs.First.{IsAccepted}
 use Rattle.ir_reader.specs.Refusals.{Refuses}
-use Rattle.ir_model.specs.Canonical.{Each, PassesNothing, IsProper}
+use Rattle.ir_model.specs.Canonical.{PassesNothing, IsProper}
 use Rattle.ir_model.specs.Plain.{PlainFirmware, PlainFile, firmware_of, funcs_of}
 use Rattle.ir_model.specs.Tokens.{Marked}
 use Rattle.ir_model.specs.Lines.{lines_of, struct_lines, periph_lines, global_lines, file_lines}
@@ -25,7 +25,8 @@ use Rattle.ir_reader.proofs.Scanning.{placed_nil}
 use Rattle.ir_reader.proofs.Unique.{firmware_unique}
 use Rattle.ir_reader.proofs.Whole.{finds_from}
 use Rattle.ir_reader.proofs.Theorem.{sound_from, none_from, text_of}
-use Rattle.ir_model.proofs.ForEach.{each_left, each_right, each_both}
+use Rattle.ir_model.proofs.ForEach.{each_left, each_right}
+use Rattle.common_laws.proofs.Lists.{each_both}
 
 -- the marks of a firmware stand where a text begins
 pub firmware_is : (w : PlainFirmware) → HasFields w.structs → AllHaveBlocks w.files → Langs (Structs 0 ∷ []) (joined (lines_of w))

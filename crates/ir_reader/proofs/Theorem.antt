@@ -3,13 +3,14 @@ use Rattle.std.proofs.Common.{◌≡◌, ℕ, [], ◌∷◌, ◌++◌, List, Boo
 use Rattle.std.proofs.lemmas.Bool.{and_parts, and_from, not-true}
 use Rattle.ir_model.specs.declared.token.Excess.{Excess}
 use Rattle.ir_model.specs.declared.token.Mark.TheVariants as mark
-use Rattle.ir_model.specs.Canonical.{Each, PassesNothing}
+use Rattle.ir_model.specs.Canonical.{PassesNothing}
+use Rattle.common_laws.specs.Lists.{Each}
 use Rattle.ir_model.specs.Tokens.{Token, Sign, Marked}
 use Rattle.ir_model.specs.Lines.{Line}
 use Rattle.ir_model.specs.Texts.{tokens, begins_colon}
 use Rattle.ir_reader.specs.Found.{Found, Is, End, Placed, finds, colon_first}
 use Rattle.ir_reader.specs.Machine
-use Rattle.ir_reader.specs.Machine.{Symbol, Move, Go, Stop, Skip, Step, To, Stuck, step, fault, move, is_last, may_end}
+use Rattle.ir_reader.specs.Machine.{Symbol, Go, Stop, To, Stuck, step, fault, move, is_last, may_end}
 use Rattle.ir_reader.proofs.Lang
 use Rattle.ir_reader.proofs.Lang.{Langs, none, some, at_bottom, takes_arrow, below, well, inner, inner_top, fits, Follows, next, ends, skips}
 use Rattle.ir_reader.proofs.Derive.{follows}

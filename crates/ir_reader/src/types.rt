@@ -14,8 +14,10 @@ use crate::limits::{counted, depth_excess, keep, length_excess, or_else, word_ex
 use crate::terminals::{behind_mark, mark, syntax};
 use crate::token::Token;
 use ir_model::name::Name;
+use ir_model::text_limits::PARAMETER_LIMIT;
 use ir_model::token::{Excess, Keyword, Mark, TextLimit};
-use ir_model::types::{Signature, Ty, Tys};
+use ir_model::types::{Signature, Ty};
+use list_vec::ListVec;
 use std::alloc::Global;
 
 /// An array's length, and the text behind it.
@@ -124,7 +126,7 @@ fn row(alloc: Global, around: u32, text: &[u8]) -> Result<(Vec<Ty>, &[u8]), Read
     let (first, mut rest) = ty(alloc, None, around, text)?;
     types.push(first)?;
     while let Some(behind) = behind_mark(Mark::Comma, rest) {
-        let first = counted(types.len(), 4, TextLimit::Param);
+        let first = counted(types.len(), PARAMETER_LIMIT, TextLimit::Param);
         let (next, behind) = ty(alloc, first, around, behind)?;
         types.push(next)?;
         rest = behind;
@@ -138,7 +140,7 @@ fn callee(params: Vec<Ty>, outcome: Option<Box<Ty>>) -> Ty
     ensures { type_of result ≡ types.Callee (types_from (map type_of params.items)) (boxed_result_of outcome) }
 {
     Ty::Callee(Signature {
-        params: Tys { items: params },
+        params: ListVec::new(params),
         result: outcome,
     })
 }

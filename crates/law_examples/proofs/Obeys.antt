@@ -21,9 +21,7 @@ is_window : IsWindow timer
 unfolding is_name is_reserved reserved declaration_words instruction_words type_words operation_words comparison_words
 is_window = record {
   named = refl;
-  size = (10, (omega arith), (omega arith), refl);
-  aligned = refl;
-  place = (omega arith, omega arith);
+  range = record { power = (10, (omega arith), (omega arith), refl); aligned = refl; place = (omega arith, omega arith) };
 }
 
 pub obeys_rules : ObeysRules whole_image

@@ -1,12 +1,9 @@
 -- Sums of the numbers of a list that pass a test.
 use Rattle.std.proofs.Common.{◌≡◌, ℕ, zero, suc, ◌+◌, ◌<◌, ◌≤◌, Bool, true, false, cond, List, [], ◌∷◌, length, get_or, take, sum, nat_lt, nat_eq, refl, sym, ap, ◌∙◌, ltb-true, eq-eqb, eqb-true, arith}
 use Rattle.std.specs.Prelude.{filter}
-use Rattle.std.proofs.lemmas.List.Sums.{sum_by-cons, sum_by_more_le}
+use Rattle.std.proofs.lemmas.List.Sums.{sum_by_more_le}
 use Rattle.plan_model.specs.FlashPlacement.{bytes_before}
-
--- the first number, and the others
-first_added : (x : ℕ) (xs : List ℕ) → sum (x ∷ xs) ≡ x + sum xs
-first_added x xs = sum_by-cons (λ (n : ℕ). n) x xs
+use Rattle.common_laws.proofs.Lists.{sum_first as first_added}
 
 -- two tests that no number passes together, where each number that passes one passes a third
 pub two_in_one : (p q r : ℕ → Bool) → ((x : ℕ) → p x ≡ true → q x ≡ true → ⊥) → ((x : ℕ) → p x ≡ true → r x ≡ true) → ((x : ℕ) → q x ≡ true → r x ≡ true) → (xs : List ℕ)

@@ -6,3 +6,4 @@ mod Smallest
 mod Sorted
 mod Steps
 mod Whole
+pub mod Tried

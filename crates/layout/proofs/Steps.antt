@@ -17,10 +17,6 @@ use Rattle.layout.specs.declared.ram.Tail.{Tail}
 use Rattle.layout.specs.Filling.{block_seen, tail_seen}
 use Rattle.layout.proofs.Searches.{position_is}
 
--- what is made of each number, one more
-pub mapped_next : {X : Type 0} (f : ℕ → X) (n : ℕ) (before after : List X) (x : X) → before ≡ map f (numbers_below n) → x ≡ f n → after ≡ before ++ x ∷ [] → after ≡ map f (numbers_below (n + 1))
-mapped_next f n before after x b e a = a ∙ (ap (λ xs. xs ++ x ∷ []) b ∙ (ap (λ y. map f (numbers_below n) ++ y ∷ []) e ∙ sym (map-range_with_len_more f 0 n n (omega arith))))
-
 -- the same behind other items
 pub mapped_behind : {X : Type 0} (first : List X) (f : ℕ → X) (n : ℕ) (before after : List X) (x : X) → before ≡ first ++ map f (numbers_below n) → x ≡ f n → after ≡ before ++ x ∷ [] → after ≡ first ++ map f (numbers_below (n + 1))
 mapped_behind first f n before after x b e a =

@@ -1,5 +1,5 @@
 -- Flash and RAM together.
-use Rattle.std.proofs.Common.{◌≡◌, ◌≤◌, Bool, true, false, cond, Result, Ok, Err, nat_lt, refl, sym, ap, ◌∙◌, lt-ltb, le-ltb}
+use Rattle.std.proofs.Common.{◌≡◌, ◌≤◌, Bool, true, false, Result, Ok, Err, nat_lt, refl, sym, ap, ◌∙◌, lt-ltb, le-ltb}
 use Rattle.ir_model.specs.Resolved.{Program}
 use Rattle.plan_model.specs.declared.graph.Final.{Final}
 use Rattle.plan_model.specs.declared.plan.Board.{Board}
@@ -13,11 +13,9 @@ use Rattle.layout.specs.declared.refusal.PlaceRefusal.TheVariants.{NoMemory, Fla
 use Rattle.layout.specs.declared.flash.FlashPlan.{FlashPlan}
 use Rattle.layout.specs.declared.place.RamPlan.{RamPlan}
 use Rattle.layout.specs.Placing.{flash_refusal, ram_refusal, placed, IsPlaceRefusal, IsFlash, IsFlashRefusal, IsRam, IsRamRefusal}
+use Rattle.layout.proofs.Tried.{tried}
 
 -- ---- two tests, one behind the other
-
-abbrev tried : (a b : Bool) → (x y : PlaceRefusal) → Plan → Result Plan PlaceRefusal
-tried a b x y l = cond a (Err x) (cond b (Err y) (Ok l))
 
 first : (a b : Bool) (x y : PlaceRefusal) (l : Plan) → a ≡ true → tried a b x y l ≡ Err x
 first true b x y l e = refl

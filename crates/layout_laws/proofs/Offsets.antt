@@ -3,7 +3,7 @@ use Rattle.std.proofs.Common.{◌≡◌, ◌≢◌, ℕ, suc, ◌+◌, ◌-◌, 
 use Rattle.std.specs.List.{position_or_len}
 use Rattle.std.proofs.Math.Nat.{mul-mod_left}
 use mathlib.Core.Logic.{⊎_elim}
-use Rattle.device_model.specs.Rules.{AreApart}
+use Rattle.windows.specs.Ranges.{AreApart}
 use Rattle.ir_model.specs.Resolved.{Program, global_at}
 use Rattle.plan_model.specs.Lists.{has}
 use Rattle.plan_model.specs.Regions.{global_size}

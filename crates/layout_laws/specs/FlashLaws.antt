@@ -1,7 +1,7 @@
 -- Beyond the program's claim: only laws, proofs and functions inside the tool cite this file.
 -- Where the blocks of flash lie, for those that use a plan.
 use Rattle.std.specs.Prelude.{◌≡◌, ◌≢◌, ℕ, ◌%◌, ◌<◌, length}
-use Rattle.device_model.specs.Rules.{IsInside, AreApart}
+use Rattle.windows.specs.Ranges.{IsInside, AreApart}
 use Rattle.ir_model.specs.Resolved.{Program}
 use Rattle.plan_model.specs.declared.graph.Final.{Final}
 use Rattle.plan_model.specs.declared.plan.Board.{Board}

@@ -1,7 +1,7 @@
 -- Beyond the program's claim: only laws, proofs and functions inside the tool cite this file.
 -- Where globals lie, for those that use a plan.
 use Rattle.std.specs.Prelude.{◌≡◌, ◌≢◌, ℕ, ◌+◌, ◌%◌, ◌<◌, ◌≤◌, List, Some, None, true}
-use Rattle.device_model.specs.Rules.{AreApart}
+use Rattle.windows.specs.Ranges.{AreApart}
 use Rattle.ir_model.specs.Resolved.{Program, global_at}
 use Rattle.plan_model.specs.declared.graph.Final.{Final}
 use Rattle.plan_model.specs.declared.plan.Board.{Board}

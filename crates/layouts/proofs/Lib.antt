@@ -1,4 +1,5 @@
 mod Cases
+pub mod SmallStructs
 mod Places
 mod Sizes
 mod Pieces

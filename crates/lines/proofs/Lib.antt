@@ -1,2 +1,2 @@
-mod Digits
+pub mod Digits
 mod Joined

@@ -10,7 +10,7 @@ use Rattle.plan_model.specs.Blocks.{block, region_bytes, offset_in_region, open_
 use Rattle.plan_model.specs.Placement.{global_address}
 use Rattle.plan_model.specs.Slots.{slot_regions}
 use Rattle.plan_model.specs.TableSize.{table_bytes}
-use Rattle.lower.specs.Sizes.{inst_size, term_size, entry_size}
+use Rattle.code_model.specs.Sizes.{inst_size, term_size, entry_size}
 use Rattle.link_model.specs.FirstWords.{first_words}
 use Rattle.link_model.specs.LinkedTables.{tables_of}
 use Rattle.link_examples.specs.LentTables.{ComputesLent}

@@ -1,9 +1,8 @@
 -- How many records the tables have.
-use Rattle.std.proofs.Common.{◌≡◌, ℕ, zero, suc, ◌+◌, ◌*◌, List, [], ◌∷◌, ◌++◌, length, map, sum_by, refl, ap, sym, ◌∙◌, length-append, arith}
+use Rattle.std.proofs.Common.{◌≡◌, ℕ, suc, ◌+◌, ◌*◌, List, [], ◌∷◌, ◌++◌, length, map, sum_by, refl, ap, sym, ◌∙◌, length-append, arith}
 use Rattle.std.proofs.lemmas.List.{length-map, map-append, get_or-map}
 use Rattle.std.proofs.lemmas.List.FromFn.{length-map-range_with_len, fill_by_all}
 use Rattle.std.proofs.lemmas.List.Sums.{sum_by-cons}
-use Rattle.armv7m.specs.Stack.{words_at}
 use Rattle.ir_model.specs.Resolved.{Program}
 use Rattle.plan_model.specs.declared.needs.SiteNeed.{SiteNeed}
 use Rattle.plan_model.specs.declared.needs.Needs.{Needs}
@@ -18,6 +17,8 @@ use Rattle.plan_model.specs.TableSize.{words_in, filled_blocks, unless_empty}
 use Rattle.link_model.specs.FirstWords.{first_bytes, first_words}
 use Rattle.link_model.specs.LinkedTables.{Filled, object_places, site_records, target_record, target_records, filled, filled_unwritten, init_records, words_of, tables_of}
 use Rattle.link_model.specs.Laws.{CountsAgree}
+use Rattle.armv7m.proofs.StackWords.{length-words_at as words_at_length}
+use Rattle.common_laws.proofs.Lists.{mapped_twice}
 
 sites_counted : (p : Program) (n : Needs) (f : Final) (l : Plan) (k : ℕ) (ss : List SiteNeed) → length (site_records p n f l k ss) ≡ length ss
 sites_counted p n f l k [] = refl
@@ -45,11 +46,6 @@ blocks_counted f l =
     let b = length-append (map h f.regions) (unless_empty f.unwritten) in
     omega (arith, a, b, length-map-range_with_len g 0 (length f.regions), length-map f.regions h, unwritten_counted l f.unwritten)
 
-pub words_at_length : (n o : ℕ) (mem : List ℕ) → length (words_at n o mem) ≡ n
-unfolding words_at
-words_at_length zero o mem = refl
-words_at_length (suc n) o mem = ap suc (words_at_length n (o + 4) mem)
-
 -- and as many words
 words_counted : (p : Program) (n : Needs) (f : Final) (l : Plan) (bs : List Filled) → length (words_of p n f l bs) ≡ sum_by (λ (b : Filled). words_in p b.globals) bs
 unfolding first_words
@@ -57,10 +53,6 @@ words_counted p n f l [] = refl
 words_counted p n f l (b ∷ bs) =
     let q = object_places p n f l in
     omega (arith, length-append (first_words p q b.globals) (words_of p n f l bs), words_at_length (words_in p b.globals) 0 (first_bytes p q b.globals), words_counted p n f l bs, sum_by-cons (λ (x : Filled). words_in p x.globals) b bs)
-
-mapped_twice : {X Y Z : Type 0} (f : Y → Z) (g : X → Y) (xs : List X) → map f (map g xs) ≡ map (λ x. f (g x)) xs
-mapped_twice f g [] = refl
-mapped_twice f g (x ∷ xs) = ap (λ ys. f (g x) ∷ ys) (mapped_twice f g xs)
 
 unwritten_are : (l : Plan) (xs : List ℕ) → map (λ (b : Filled). b.globals) (filled_unwritten l xs) ≡ unless_empty xs
 unwritten_are l [] = refl

@@ -9,8 +9,8 @@ use Rattle.ir_model.specs.Layout.{CellPlace}
 use Rattle.ir_model.specs.Resolved.{Program, global_at, Value, Number, Code, Null, At, OfGlobal, OfPeriph, OfLocal}
 use Rattle.plan_model.specs.Blocks.{offset_in_region}
 use Rattle.plan_model.specs.TableSize.{words_in}
-use Rattle.lower.specs.declared.places.Places.{Places}
-use Rattle.lower.specs.Places.{global_address, window_address, entry_address}
+use Rattle.code_model.specs.declared.places.Places.{Places}
+use Rattle.code_model.specs.Places.{global_address, window_address, entry_address}
 
 -- the word of a value: of a function it is the entry with bit 0 set. No global holds the address of a local at first
 abbrev pub first_word : Places → Value → ℕ

@@ -12,7 +12,7 @@ use Rattle.plan_model.specs.declared.plan.Plan.{Plan}
 use Rattle.plan_model.specs.declared.plan.Board.{Board}
 use Rattle.plan_model.specs.Lists.{numbers_below}
 use Rattle.plan_model.specs.Placement.{compartment_spot}
-use Rattle.lower.specs.Planned.{planned_code}
+use Rattle.code_model.specs.Planned.{planned_code}
 use Rattle.monitor.specs.declared.tables.Tables.{Tables}
 use Rattle.monitor.specs.Layout.{head_at}
 use Rattle.monitor.specs.Area.{area}

@@ -16,11 +16,11 @@ use Rattle.plan_model.specs.Boards.{slots_of}
 use Rattle.plan_model.specs.Placement.{no_spot, region_spot}
 use Rattle.plan_model.specs.Slots.{slot_regions, code_region, lend_mask, read_mask}
 use Rattle.plan_model.specs.TableSize.{words_in, initial_words, table_bytes}
-use Rattle.lower.specs.declared.places.Places.{Places}
-use Rattle.lower.specs.Sizes.{site_offset}
-use Rattle.lower.specs.FunctionCode as code
-use Rattle.lower.specs.CompartmentCode.{places_of}
-use Rattle.lower.specs.Planned.{code_groups, code_places, planned_entry}
+use Rattle.code_model.specs.declared.places.Places.{Places}
+use Rattle.code_model.specs.Sizes.{site_offset}
+use Rattle.code_model.specs.FunctionCode as code
+use Rattle.code_model.specs.CompartmentCode.{places_of}
+use Rattle.code_model.specs.Planned.{code_groups, code_places, planned_entry}
 use Rattle.monitor.specs.declared.tables.CompRecord.{CompRecord}
 use Rattle.monitor.specs.declared.tables.SiteRecord.{SiteRecord}
 use Rattle.monitor.specs.declared.tables.TargetRecord.{TargetRecord}

@@ -9,6 +9,7 @@ use Rattle.thumb_asm.specs.declared.item.Item.{Item}
 use Rattle.thumb_asm.specs.declared.item.Item.TheVariants.{Plain, Branch, Half, Word}
 use Rattle.armv7m.specs.Code.{size}
 use Rattle.code_effects.specs.Items.{InstructionsInTable}
+use Rattle.common_laws.proofs.Tests.{both_true as both}
 
 -- the instructions of code without operations and branches
 abbrev is_listed : Instr → Bool
@@ -25,11 +26,6 @@ is_listed (CallBranch zero imm8 (pos zero)) = nat_lt imm8 256
 is_listed (MoveWide d value) = nat_lt d 13 && nat_lt value 65536
 is_listed (MoveTop d value) = nat_lt d 13 && nat_lt value 65536
 is_listed _ = false
-
-both : (a b : Bool) → (a && b) ≡ true → (a ≡ true) × (b ≡ true)
-both true true e = (refl, refl)
-both true false e = cc
-both false b e = cc
 
 below : (a b : ℕ) → nat_lt a b ≡ true → a < b
 below a b e = grind (arith, nat_tests)

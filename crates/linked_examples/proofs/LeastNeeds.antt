@@ -5,7 +5,7 @@ use Rattle.std.specs.declared.cmp.Ordering.{Ordering}
 use Rattle.std.specs.List.Sorted.{IsStrictlySortedBy}
 use Rattle.std.specs.Ordering.{nat_cmp}
 use Rattle.ir_model.specs.declared.object.ObjId.{ObjId}
-use Rattle.ir_model.specs.declared.object.ObjId.TheVariants.{Global, Periph, Local, Func}
+use Rattle.ir_model.specs.declared.object.ObjId.TheVariants.{Global, Periph, Local}
 use Rattle.ir_model.specs.Resolved.{Number, global_at, here, func_at, register_type}
 use Rattle.ir_model.specs.State.{Object, GlobalObject, PeriphObject, LocalObject}
 use Rattle.ir_model.specs.Objects.{object_by, compare_objects}
@@ -15,12 +15,10 @@ use Rattle.plan_model.specs.Calls.{IsCallee}
 use Rattle.plan_model.specs.Lendable.{IsLendable, OthersWrite, compare_locals}
 use Rattle.plan_model.specs.Needs.{IsWritable, IsData, IsNeedOf, need_of, AreNeeds}
 use Rattle.linked_examples.specs.TwoCompartments.{program, needs, sets, AreItsNeeds}
+use Rattle.ir_laws.proofs.Objects.{same_id}
+use Rattle.plan_examples.proofs.OneItem.{number_of_periph, one_argument}
 
 -- ---- the least sets
-
-one_argument : (P : ℕ → Type 0) → P 0 → (k : ℕ) → k < 1 → P k
-one_argument P h zero l = h
-one_argument P h (suc k) l = absurd (omega arith)
 
 main_to_writer : (o : Object) → sets (Register 0 0) o ≡ true → sets (Register 1 0) o ≡ true
 main_to_writer (LocalObject zero zero) e = refl
@@ -70,13 +68,6 @@ module _ {X : Type 0} (cmp : X → X → Ordering) (P : X → Type 0) where
   no_item none = record { rising = tt; each = λ y k. absurd (omega arith); all = λ y k. absurd (none y k) }
 
 -- ---- objects by their numbers
-
-same_id : (x y : ObjId) → object_by x ≡ object_by y → x ≡ y
-same_id (Global a) (Global b) e = cc
-same_id (Periph a) (Periph b) e = cc
-same_id (Local f a) (Local g b) e = cc
-same_id (Func a) (Func b) e = cc
-same_id _ _ e = cc
 
 -- ---- what each function writes, reads and calls
 
@@ -133,9 +124,6 @@ writer_calls g zero (suc (suc (suc (suc zero)))) w = w
 writer_calls g _ _ w = w
 
 -- ---- the needs of each function
-
-number_of_periph : (q r : ℕ) → PeriphObject q ≡ PeriphObject r → q ≡ r
-number_of_periph q r e = cc
 
 main_need : IsNeedOf program sets 0 (need_of needs 0)
 main_need = record {

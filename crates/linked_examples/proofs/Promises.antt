@@ -1,7 +1,6 @@
 -- The linker's promises hold of the image of two compartments.
 use Rattle.std.proofs.Common.{◌≡◌, ℕ, zero, suc, ◌+◌, ◌-◌, ◌/◌, ◌%◌, ◌<◌, ◌≤◌, Bool, true, false, ◌&&◌, ◌||◌, nat_eq, List, [], ◌∷◌, ◌++◌, length, get_or, Some, refl, sym, ap, ◌∙◌, subst, arith, inl, inr, length-append}
 use Rattle.std.specs.Prelude.{Contains, replicate}
-use Rattle.std.proofs.lemmas.Bool.Decides.{nat_tests}
 use Rattle.std.proofs.lemmas.List.{get_or-append-add}
 use Rattle.std.proofs.Math.ListN.{get_or-append}
 use Rattle.words.specs.Bytes.{read, cut}
@@ -22,10 +21,10 @@ use Rattle.plan_model.specs.Lending.{lend_number}
 use Rattle.plan_model.specs.Crossing.{site_number}
 use Rattle.plan_model.specs.Needs.{need_of}
 use Rattle.depend.specs.Reached.{IsListed, HasTarget}
-use Rattle.lower.specs.Entry.{frame_code}
-use Rattle.lower.specs.Templates.{inst_items, term_items}
-use Rattle.lower.specs.Sizes.{inst_size, term_size, entry_size}
-use Rattle.lower.specs.CompartmentCode.{compartment_items, compartment_labels, compartment_size}
+use Rattle.code_model.specs.Entry.{frame_code}
+use Rattle.code_model.specs.Templates.{inst_items, term_items}
+use Rattle.code_model.specs.Sizes.{inst_size, term_size, entry_size}
+use Rattle.code_model.specs.CompartmentCode.{compartment_items, compartment_labels, compartment_size}
 use Rattle.code_effects.specs.Items.{ItemsIn, ItemsStand}
 use Rattle.monitor.specs.Setting.{may_store, may_load, has_target}
 use Rattle.monitor.specs.Records.{compartment_at}
@@ -34,12 +33,14 @@ use Rattle.relation.specs.Builds.{func, groups_of, site_at, half_at, entry_at, c
 use Rattle.relation.specs.Linked.{Linked, HasCode, HasGlobals, HasWindows, HasLoans}
 use Rattle.linked_examples.specs.TwoCompartments.{program, needs, groups, places, bytes_of, flash, image, setting, tables, build}
 use Rattle.linked_examples.proofs.InTable.{pieces_in_table}
+use Rattle.mem_bus.proofs.Ranges.{outside_behind as below_range, inside_yes as in_range}
+use Rattle.common_laws.proofs.Lists.{only_one as only}
 
 -- ---- the image
 
 window_name : IsWindow (record { name = 84 ∷ 73 ∷ 77 ∷ []; base = 0x40010000; size = 128 })
 unfolding is_name is_reserved reserved declaration_words instruction_words type_words operation_words comparison_words
-window_name = record { named = refl; size = (7, omega arith, omega arith, refl); aligned = refl; place = (omega arith, omega arith) }
+window_name = record { named = refl; range = record { power = (7, omega arith, omega arith, refl); aligned = refl; place = (omega arith, omega arith) } }
 
 flash_length : length flash ≡ 1148
 unfolding encode frame_code inst_items term_items inst_size term_size entry_size site_number lend_number
@@ -103,9 +104,6 @@ module _ (items : ItemsStand) where
       (pieces_in_table (compartment_labels program (groups_of build) places 1) 0x08000440 (compartment_items program (groups_of build) places 1) refl)
       (holds_part (replicate 1016 0 ++ (7 ∷ replicate 7 0 ++ (bytes_of 0 ++ replicate 16 255))) (bytes_of 1) [] 1088 refl refl)
   lies (suc (suc c)) h = absurd (omega arith)
-
-in_range : (from size a : ℕ) → from ≤ a → a < from + size → inside from size a ≡ true
-in_range from size a l h = grind (arith, nat_tests)
 
 first_size : compartment_size program (groups_of build) 0 ≡ 48
 unfolding inst_size term_size entry_size site_number lend_number
@@ -171,10 +169,6 @@ each_grouped : (f : ℕ) → f < 2 → compartment_of build f < 2
 each_grouped zero h = omega arith
 each_grouped (suc zero) h = omega arith
 each_grouped (suc (suc f)) h = absurd (omega arith)
-
-only : {X : Type 0} (x y : X) → Contains (x ∷ []) y → x ≡ y
-only x y (zero, l, e) = e
-only x y (suc k, l, e) = absurd (omega arith)
 
 none_in : {X : Type 0} (y : X) → Contains [] y → ⊥
 none_in y (k, l, e) = omega arith
@@ -292,9 +286,6 @@ globals = record {
 
 in_window : (j : ℕ) → j < 128 → inside 0x40010000 128 (0x40010000 + j) ≡ true
 in_window j h = in_range 0x40010000 128 (0x40010000 + j) (omega arith) (omega arith)
-
-below_range : (from size a : ℕ) → from + size ≤ a → inside from size a ≡ false
-below_range from size a h = grind (arith, nat_tests)
 
 windows : HasWindows build
 unfolding place find_window

@@ -13,8 +13,8 @@ use Rattle.plan_model.specs.declared.needs.Needs.{Needs}
 use Rattle.plan_model.specs.declared.groups.Groups.{Groups}
 use Rattle.plan_model.specs.PointsTo.{IsLeast}
 use Rattle.plan_model.specs.Needs.{AreNeeds}
-use Rattle.lower.specs.CompartmentCode.{CodePlaces, compartment_bytes}
-use Rattle.lower.specs.Planned.{code_groups}
+use Rattle.code_model.specs.CompartmentCode.{CodePlaces, compartment_bytes}
+use Rattle.code_model.specs.Planned.{code_groups}
 use Rattle.monitor.specs.declared.tables.Tables.{Tables}
 use Rattle.monitor.specs.MonitorCode.{MonitorCode}
 use Rattle.monitor.specs.Setting.{Setting, setting_of}

@@ -20,6 +20,7 @@ use Rattle.link_model.specs.Laws.{CountsAgree}
 use Rattle.link_model.specs.FirstWords.{first_bytes, first_words}
 use Rattle.link_model.specs.LinkedTables.{Filled, object_places, comp_record, init_records, words_of, words_begin, filled, tables_of}
 use Rattle.linked_images.proofs.AreaSize.{slot_count}
+use Rattle.armv7m.proofs.StackWords.{length-words_at as word_count}
 
 -- there is a compartment where there is a function
 pub some_compartment : (p : Program) (g : Groups) → AreCompartments p g → 0 < length p.funcs → 0 < g.count
@@ -39,11 +40,6 @@ slots_are p n f l b some = first f.groups.count some
     first (suc k) lt = slot_count p f l (slots_of b) 0
 
 -- ---- initial words
-
-word_count : (k o : ℕ) (mem : List ℕ) → length (words_at k o mem) ≡ k
-unfolding words_at
-word_count zero o mem = refl
-word_count (suc k) o mem = ap suc (word_count k (o + 4) mem)
 
 words_counted : (p : Program) (n : Needs) (f : Final) (l : Plan) (a : ℕ) (bs : List Filled) → sum_by records.words_in (init_records p a bs) ≡ length (words_of p n f l bs)
 unfolding first_words

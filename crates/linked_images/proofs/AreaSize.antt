@@ -1,6 +1,6 @@
 -- How many words the tables of a planned image have behind the page.
 use Rattle.std.proofs.Common.{◌≡◌, ℕ, zero, suc, ◌+◌, ◌*◌, List, [], ◌∷◌, ◌++◌, length, map, flat_map, refl, ap, subst, arith, length-append}
-use Rattle.armv7m.specs.Confinement.{Each}
+use Rattle.common_laws.specs.Lists.{Each}
 use Rattle.mpu_model.specs.declared.region.Region.{Region}
 use Rattle.ir_model.specs.Resolved.{Program}
 use Rattle.plan_model.specs.declared.needs.Needs.{Needs}
@@ -19,6 +19,7 @@ use Rattle.monitor.specs.Area.{region_words, compartment_words, site_words, targ
 use Rattle.monitor_laws.proofs.FlashWords.{records_length}
 use Rattle.link_model.specs.Laws.{CountsAgree}
 use Rattle.link_model.specs.LinkedTables.{comp_record, tables_of}
+use Rattle.common_laws.proofs.Lists.{each_of as each}
 
 slots_counted : (n k : ℕ) (us : List SlotUse) → length (slots_from n k us) ≡ k
 slots_counted n zero us = refl
@@ -28,10 +29,6 @@ slots_counted n (suc k) (u ∷ us) = ap suc (slots_counted (suc n) k us)
 pub slot_count : (p : Program) (f : Final) (l : Plan) (slots c : ℕ) → length (comp_record p f l slots c).slots ≡ slots
 unfolding slot_regions
 slot_count p f l slots c = slots_counted 4 slots (slot_uses p f l c)
-
-each : {A : Type 0} (P : A → Type 0) → ((x : A) → P x) → (xs : List A) → Each P xs
-each P h [] = tt
-each P h (x ∷ xs) = (h x, each P h xs)
 
 each_mapped : {A : Type 0} (P : A → Type 0) (g : ℕ → A) → ((k : ℕ) → P (g k)) → (xs : List ℕ) → Each P (map g xs)
 each_mapped P g h [] = tt

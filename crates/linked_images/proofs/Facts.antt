@@ -4,7 +4,7 @@ use Rattle.std.proofs.lemmas.List.{get_or-map, length-replicate}
 use Rattle.std.proofs.lemmas.List.FromFn.{length-map-range_with_len}
 use Rattle.std.proofs.Math.Pow.{pow_mono}
 use Rattle.words.proofs.Bytes.{length-write_all}
-use Rattle.device_model.specs.Rules.{AreApart, IsPowerBetween}
+use Rattle.windows.specs.Ranges.{AreApart, IsPowerBetween}
 use Rattle.ir_model.specs.Plain.{PlainFirmware}
 use Rattle.ir_model.specs.Resolved.{Program}
 use Rattle.ir_model.specs.Resolve.{resolve}
@@ -22,7 +22,7 @@ use Rattle.plan_model.specs.Placement.{compartment_spot}
 use Rattle.layout_laws.specs.FlashLaws.{FlashIsLaid, IsFlashLaid, IsIn, IsAligned}
 use Rattle.layout_laws.specs.RamLaws.{RamIsApart}
 use Rattle.layout_laws.specs.RamPlaces.{RamIsThere, RamIsInside}
-use Rattle.lower.specs.Planned.{planned_code}
+use Rattle.code_model.specs.Planned.{planned_code}
 use Rattle.monitor.specs.Layout.{head_at}
 use Rattle.monitor.specs.Area.{area}
 use Rattle.monitor.specs.Page.{page}
@@ -31,8 +31,9 @@ use Rattle.link_model.specs.LinkedTables.{tables_of}
 use Rattle.linked_images.specs.Planned.{IsPlanned, planned_sizes, plan, planned_image}
 use Rattle.linked_images.proofs.FlashBack.{length-puts}
 use Rattle.linked_images.proofs.Powers.{block_is}
-use Rattle.linked_images.proofs.Flash.{size_is, sum_cons, one_of_sum}
+use Rattle.linked_images.proofs.Flash.{size_is, one_of_sum}
 use Rattle.linked_images.proofs.Passing.{apart_from}
+use Rattle.common_laws.proofs.Lists.{sum_first as sum_cons}
 
 -- the laws of plans
 pub record PlanLaws : Type 0 where

@@ -16,6 +16,7 @@ use Rattle.plan_model.specs.Placement.{plan_of, compartment_spot, no_spot}
 use Rattle.ir_model.specs.Resolved.{Program}
 use Rattle.layout.proofs.Before.{before_fits}
 use Rattle.link_model.specs.LinkedImage.{flash_size}
+use Rattle.common_laws.proofs.Lists.{mapped_twice, sum_first as sum_cons}
 
 -- ---- sums
 
@@ -23,16 +24,9 @@ sum_from : (a : ℕ) (xs : List ℕ) → fold ◌+◌ a xs ≡ a + fold ◌+◌ 
 sum_from a [] = omega arith
 sum_from a (x ∷ xs) = let h = sum_from (a + x) xs in let k = sum_from (0 + x) xs in omega (arith, h, k)
 
-pub sum_cons : (x : ℕ) (xs : List ℕ) → sum (x ∷ xs) ≡ x + sum xs
-sum_cons x xs = let h = sum_from (0 + x) xs in omega (arith, h)
-
 summed : {A : Type 0} (f : A → ℕ) (xs : List A) → sum_by f xs ≡ sum (map f xs)
 summed f [] = refl
 summed f (x ∷ xs) = sum_by-cons f x xs ∙ (ap (λ n. f x + n) (summed f xs) ∙ sym (sum_cons (f x) (map f xs)))
-
-mapped_twice : {X Y Z : Type 0} (f : Y → Z) (g : X → Y) (xs : List X) → map f (map g xs) ≡ map (λ x. f (g x)) xs
-mapped_twice f g [] = refl
-mapped_twice f g (x ∷ xs) = ap (λ ys. f (g x) ∷ ys) (mapped_twice f g xs)
 
 -- a list by its numbers
 by_numbers : (xs : List ℕ) → map (λ k. get_or xs k 0) (numbers_below (length xs)) ≡ xs

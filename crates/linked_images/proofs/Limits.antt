@@ -1,23 +1,20 @@
 -- The limits of what is compiled, one by one.
-use Rattle.std.proofs.Common.{◌≡◌, ℕ, ◌*◌, ◌≤◌, Bool, true, false, cond, List, [], ◌∷◌, length, Option, Some, None, option_map, nat_lt, refl, arith}
+use Rattle.std.proofs.Common.{◌≡◌, ℕ, ◌*◌, ◌≤◌, Bool, true, false, cond, List, [], ◌∷◌, length, Some, None, option_map, nat_lt, refl, arith}
 use Rattle.std.specs.Prelude.{find}
 use Rattle.std.specs.Bool.{then_some}
 use Rattle.std.proofs.lemmas.Bool.Decides.{nat_tests}
 use Rattle.std.proofs.lemmas.List.Sums.{sum_by-cons}
-use Rattle.armv7m.specs.Confinement.{Each}
+use Rattle.common_laws.specs.Lists.{Each}
 use Rattle.plan_model.specs.declared.needs.SiteNeed.{SiteNeed}
 use Rattle.plan_model.specs.declared.needs.Needs.{Needs}
 use Rattle.plan_model.specs.declared.groups.Groups.{Groups}
 use Rattle.plan_model.specs.declared.limits.LimitKind.{LimitKind}
 use Rattle.plan_model.specs.declared.limits.LimitKind.TheVariants.{Compartments, Lent, Sites, Targets}
-use Rattle.plan_model.specs.Choices.{first_some}
 use Rattle.plan_model.specs.CompileLimits.{above, wide_site, first_passed, KeepsLimits}
 use Rattle.plan_model.specs.Crossing.{crossing_sites, target_count}
 use Rattle.plan_model.specs.Lending.{lent}
-
-none_of : {X : Type 0} (o : Option X) (os : List (Option X)) → first_some (o ∷ os) ≡ None → (o ≡ None) × (first_some os ≡ None)
-none_of None os h = (refl, h)
-none_of (Some x) os h = cc
+use Rattle.common_laws.proofs.Options.{none_mapped as unmapped}
+use Rattle.plan_model.proofs.Choices.{none_first as none_of}
 
 kept : (most count : ℕ) (kind : LimitKind) → above most kind count ≡ None → count ≤ most
 kept most count kind h = by (nat_lt most count) refl h
@@ -25,10 +22,6 @@ kept most count kind h = by (nat_lt most count) refl h
     by : (b : Bool) → nat_lt most count ≡ b → then_some {T = LimitKind × ℕ} b (kind, count) ≡ None → count ≤ most
     by true e h = cc
     by false e h = grind (arith, nat_tests, e)
-
-unmapped : {X Y : Type 0} (f : X → Y) (o : Option X) → option_map f o ≡ None → o ≡ None
-unmapped f None h = refl
-unmapped f (Some x) h = cc
 
 found_none : (ss : List SiteNeed) → find (λ (s : SiteNeed). nat_lt 64 (length s.targets)) ss ≡ None → Each (λ (s : SiteNeed). length s.targets ≤ 64) ss
 found_none [] h = tt

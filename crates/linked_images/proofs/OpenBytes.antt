@@ -8,8 +8,9 @@ use Rattle.ir_model.specs.Layout.{rounded_up}
 use Rattle.plan_model.specs.Covers.{least_power}
 use Rattle.plan_model.specs.Blocks.{block, has_eighths, open_eighths}
 use Rattle.layout_laws.specs.RamLaws.{open_bytes}
-use Rattle.monitor_laws.proofs.Checked.{both, le_is}
+use Rattle.monitor_laws.proofs.Checked.{le_is}
 use Rattle.linked_images.proofs.Powers.{block_is}
+use Rattle.common_laws.proofs.Tests.{both_true as both}
 
 split : (a z : ℕ) → 0 < z → (a ≡ a / z * z + a % z) × (a % z < z)
 split a z h = (grind (arith, h), grind (arith, h))

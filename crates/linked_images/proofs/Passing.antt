@@ -1,11 +1,13 @@
 -- Checks that do not fail.
 use Rattle.std.proofs.Common.{◌≡◌, ◌≢◌, ℕ, ◌+◌, ◌<◌, ◌≤◌, inl, inr, Bool, true, false, not, ◌&&◌, ◌||◌, List, [], ◌∷◌, nat_eq, nat_lt, nat_le, Option, Some, None, refl, arith}
 use Rattle.std.proofs.lemmas.Bool.Decides.{nat_tests}
-use Rattle.armv7m.specs.Confinement.{Each}
+use Rattle.common_laws.specs.Lists.{Each}
 use Rattle.device_model.specs.declared.image.Image.{Image}
-use Rattle.device_model.specs.Rules.{IsInside, AreApart, block_size}
+use Rattle.windows.specs.Ranges.{IsInside, AreApart, are_apart, is_inside}
+use Rattle.windows.proofs.Decisions.{decides_inside, decides_apart}
+use Rattle.device_model.specs.Rules.{block_size}
 use Rattle.monitor.specs.declared.tables.Tables.{Tables}
-use Rattle.monitor.specs.RegionChecks.{are_apart, is_inside, is_data_range}
+use Rattle.monitor.specs.RegionChecks.{is_data_range}
 use Rattle.monitor.specs.Checks.{must, and_then, each_record}
 
 pub and_yes : {a b : Bool} → a ≡ true → b ≡ true → (a && b) ≡ true
@@ -34,11 +36,10 @@ pub ne_yes : {a b : ℕ} → a ≢ b → not (nat_eq a b) ≡ true
 ne_yes {a = a} {b = b} h = grind (arith, nat_tests, h)
 
 pub apart_yes : (b n c m : ℕ) → AreApart b n c m → are_apart b n c m ≡ true
-apart_yes b n c m (inl h) = or_left (nat_le (b + n) c) (nat_le (c + m) b) (le_yes h)
-apart_yes b n c m (inr h) = or_right (nat_le (b + n) c) (nat_le (c + m) b) (le_yes h)
+apart_yes b n c m h = (decides_apart b n c m).1 h
 
 pub inside_yes : (b n o m : ℕ) → IsInside b n o m → is_inside b n o m ≡ true
-inside_yes b n o m h = and_yes (le_yes h.0) (le_yes h.1)
+inside_yes b n o m h = (decides_inside b n o m).1 h
 
 pub data_yes : (i : Image) (t : Tables) (b n : ℕ) → IsInside b n i.ram_base i.ram_size → AreApart b n t.stack.base t.stack.size → AreApart b n t.monitor block_size → is_data_range i t b n ≡ true
 data_yes i t b n h a c = and_yes (inside_yes b n i.ram_base i.ram_size h) (and_yes (apart_yes b n t.stack.base t.stack.size a) (apart_yes b n t.monitor block_size c))

@@ -3,7 +3,7 @@ use Rattle.std.proofs.Common.{◌≡◌, ℕ, zero, suc, ◌+◌, ◌^◌, ◌<�
 use Rattle.std.specs.List.{range_with_len}
 use Rattle.std.specs.Prelude.{find, unwrap_or}
 use Rattle.monitor_laws.proofs.Checked.{le_is}
-use Rattle.device_model.specs.Rules.{IsPowerBetween}
+use Rattle.windows.specs.Ranges.{IsPowerBetween}
 use Rattle.plan_model.specs.Covers.{powers_of_two, least_power}
 use Rattle.plan_model.specs.Blocks.{block}
 

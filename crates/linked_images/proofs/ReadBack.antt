@@ -1,5 +1,5 @@
 -- The flash of a planned image, read back: its page, the words of its tables, and the code of its compartments.
-use Rattle.std.proofs.Common.{◌≡◌, ◌≢◌, ℕ, zero, suc, ◌+◌, ◌-◌, ◌*◌, ◌%◌, ◌^◌, ◌<◌, ◌≤◌, ◌⊎◌, inl, inr, List, [], ◌∷◌, ◌++◌, length, map, get_or, max, replicate, Option, refl, sym, ap, ◌∙◌, subst, lit<, arith, length-append}
+use Rattle.std.proofs.Common.{◌≡◌, ◌≢◌, ℕ, zero, suc, ◌+◌, ◌-◌, ◌*◌, ◌%◌, ◌<◌, ◌≤◌, ◌⊎◌, inl, inr, List, [], ◌∷◌, length, get_or, replicate, refl, sym, ap, ◌∙◌, subst, lit<, arith}
 use Rattle.std.specs.Prelude.{slice_index}
 use Rattle.std.proofs.lemmas.List.FromFn.{get_or-map-range_with_len}
 use Rattle.std.proofs.lemmas.List.{length-replicate}
@@ -15,17 +15,9 @@ use Rattle.plan_model.specs.declared.plan.Board.{Board}
 use Rattle.plan_model.specs.declared.plan.Sizes.{Sizes}
 use Rattle.plan_model.specs.declared.plan.Plan.{Plan}
 use Rattle.plan_model.specs.Placement.{compartment_spot}
-use Rattle.thumb_asm.specs.declared.item.Item.{Item}
-use Rattle.thumb_asm.specs.declared.item.Item.TheVariants.{Plain, Branch, Half, Word}
-use Rattle.thumb_asm.specs.declared.item.BranchKind.{BranchKind}
-use Rattle.thumb_asm.specs.declared.item.BranchKind.TheVariants.{Cond, Short, Long, Link}
-use Rattle.thumb_asm.specs.Assembly.{branch_size, size_of, total, place_of}
-use Rattle.thumb_asm.specs.Finished.{branch, bytes_at, bytes_from}
-use Rattle.thumb_model.specs.Table.{encode, width_of}
-use Rattle.thumb_model.proofs.Codes.{length-bytes_of_code}
-use Rattle.lower.specs.Laws.{CompartmentsHold}
-use Rattle.lower.specs.CompartmentCode.{compartment_size, compartment_items, compartment_labels}
-use Rattle.lower.specs.Planned.{code_groups, code_places, planned_code}
+use Rattle.code_model.specs.Laws.{CompartmentsHold}
+use Rattle.code_model.specs.CompartmentCode.{compartment_size, compartment_items, compartment_labels}
+use Rattle.code_model.specs.Planned.{code_groups, code_places, planned_code}
 use Rattle.monitor.specs.CodeSize.{PagesAreFull}
 use Rattle.monitor.specs.Layout.{head_at}
 use Rattle.monitor.specs.Area.{area}
@@ -39,25 +31,9 @@ use Rattle.linked_images.proofs.FlashBack.{IsOff, puts, puts_off, puts_in, in_al
 use Rattle.linked_images.proofs.Flash.{code_ends, tables_end, code_count, code_size_is, tables_size_is, size_is}
 use Rattle.linked_images.proofs.AreaSize.{area_size}
 use Rattle.linked_images.proofs.Facts.{PlanLaws, laid, code_blocks_count, tables_block_is, code_block_is}
+use Rattle.thumb_asm.proofs.Decoded.{total_bytes}
 
 -- ---- lengths of code
-
-branch_width : (kind : BranchKind) (at to : ℕ) → width_of (encode (branch kind at to)) ≡ branch_size kind
-unfolding encode
-branch_width (Cond c) at to = refl
-branch_width Short at to = refl
-branch_width Long at to = refl
-branch_width Link at to = refl
-
-bytes_length : (ps : List (Option ℕ)) (at : ℕ) (i : Item) → length (bytes_at ps at i) ≡ size_of i
-bytes_length ps at (Plain x) = length-bytes_of_code (encode x)
-bytes_length ps at (Branch kind to) = length-bytes_of_code (encode (branch kind at (place_of ps to.number))) ∙ branch_width kind at (place_of ps to.number)
-bytes_length ps at (Half h) = refl
-bytes_length ps at (Word w) = refl
-
-pub total_bytes : (ps : List (Option ℕ)) (at : ℕ) (is : List Item) → length (bytes_from ps at is) ≡ total is
-total_bytes ps at [] = refl
-total_bytes ps at (i ∷ is) = omega (arith, length-append (bytes_at ps at i) (bytes_from ps (at + size_of i) is), bytes_length ps at i, total_bytes ps (at + size_of i) is)
 
 -- ---- bytes
 

@@ -10,7 +10,7 @@ use Rattle.device_model.specs.declared.image.Image.{Image}
 use Rattle.monitor.specs.declared.tables.Tables.{Tables}
 use Rattle.ir_model.specs.Resolve.{resolve}
 use Rattle.plan_model.specs.Placement.{compartment_spot}
-use Rattle.lower.specs.Planned.{planned_code}
+use Rattle.code_model.specs.Planned.{planned_code}
 use Rattle.monitor.specs.Area.{area}
 use Rattle.monitor.specs.Page as first
 use Rattle.monitor.specs.Layout.{page_size}

@@ -2,10 +2,10 @@
 
 ghost use Rattle.linked_images.specs.Laws.{FlashReadsBack, HeadersPass, PlannedRangesAreApart, TablesPass};
 
+use code_model::laws::compartments;
 use ir_laws::typing::places as typed_places;
 use layout_laws::{flash, places, ram};
 use link_model::laws::counts;
-use lower::laws::compartments;
 use monitor::code_size::page_is_full;
 
 /// No two ranges that start-up fills share an address.

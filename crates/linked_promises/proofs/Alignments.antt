@@ -1,19 +1,16 @@
 -- No global of a firmware has the alignment 0.
-use Rattle.std.proofs.Common.{ℕ, zero, suc, ◌<◌, Bool, true, false, List, [], ◌∷◌, ◌++◌, map, get_or, bytes_eq, if◌then◌else◌, arith}
+use Rattle.std.proofs.Common.{ℕ, zero, suc, ◌<◌, List, [], ◌∷◌, ◌++◌, map, get_or, bytes_eq, arith}
 use Rattle.ir_model.specs.Types.{PlainType, U8, U16, U32, Pointer, Array, Named, Callee}
 use Rattle.ir_model.specs.Plain.{PlainSlot, PlainStruct, PlainGlobal, PlainFirmware}
 use Rattle.ir_model.specs.Layout.{Shape, Known, empty, shape_named, shape, with_field, laid_out, with_struct, known_behind, known}
 use Rattle.ir_model.specs.Resolved.{no_global}
 use Rattle.ir_model.specs.Resolve.{Scope, scope_of, resolved_global, resolve}
 use Rattle.layout_laws.specs.GlobalLaws.{HasAlignments}
+use Rattle.ir_model.proofs.Alignments.{positive_first as one_of}
 
 abbrev AllAligned : List Known → Type 0
 AllAligned [] = Unit {0}
 AllAligned (k ∷ ks) = (0 < k.shape.align) × AllAligned ks
-
-one_of : (t : Bool) (s u : Shape) → 0 < s.align → 0 < u.align → 0 < (if t then s else u).align
-one_of true s u h g = h
-one_of false s u h g = g
 
 named : (ks : List Known) (n : List ℕ) → AllAligned ks → 0 < (shape_named ks n).align
 named [] n h = omega arith

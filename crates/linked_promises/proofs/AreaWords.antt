@@ -3,7 +3,7 @@ use Rattle.std.proofs.Common.{◌≡◌, ℕ, zero, suc, ◌+◌, ◌-◌, ◌*�
 use Rattle.std.specs.Prelude.{slice_index}
 use Rattle.words.specs.Bytes.{read}
 use Rattle.words.proofs.Bytes.{cut_small}
-use Rattle.armv7m.specs.Confinement.{Each}
+use Rattle.common_laws.specs.Lists.{Each}
 use Rattle.ir_model.specs.Plain.{PlainFirmware}
 use Rattle.ir_model.specs.Resolve.{resolve}
 use Rattle.ir_model.specs.Resolved.{Program}
@@ -30,12 +30,13 @@ use Rattle.linked_images.proofs.ReadBack.{ReadLaws}
 use Rattle.linked_images.proofs.AreaSize.{slot_count}
 use Rattle.linked_images.proofs.AreaEnd.{initial_words_are}
 use Rattle.linked_promises.specs.TablesInFlash.{WordsFit, WordsStand, TablesReadBack}
-use Rattle.linked_promises.proofs.WordLists.{AreWords, each_map, each_of, both_words}
+use Rattle.linked_promises.proofs.WordLists.{AreWords, each_map, both_words}
 use Rattle.linked_promises.proofs.CompartmentWords.{comps_fit}
 use Rattle.linked_promises.proofs.SiteWords.{tables_most, sites_fit, targets_fit}
 use Rattle.linked_promises.proofs.InitWords.{lends_fit, inits_fit, words_fit}
 use Rattle.linked_promises.proofs.Reading.{Reads, each_word, behind_page}
 use Rattle.linked_promises.proofs.ReadTables.{same_tables}
+use Rattle.common_laws.proofs.Lists.{each_of}
 
 -- what is known of plans, of code and of firmwares
 pub record WordLaws : Type 0 where

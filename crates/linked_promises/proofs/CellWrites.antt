@@ -6,7 +6,7 @@ use Rattle.std.proofs.lemmas.List.{length-replicate}
 use mathlib.Core.Logic.{⊎_elim}
 use Rattle.words.specs.Bytes.{read, write, cut}
 use Rattle.words.proofs.Bytes.{length-write, read_below, read_above, read_same}
-use Rattle.device_model.specs.Rules.{AreApart}
+use Rattle.windows.specs.Ranges.{AreApart}
 use Rattle.ir_model.specs.Types.{width_of}
 use Rattle.ir_model.specs.Layout.{CellPlace, rounded_up}
 use Rattle.ir_model.specs.Resolved.{Program, Value, global_at}
@@ -17,14 +17,10 @@ use Rattle.plan_model.specs.Regions.{global_size}
 use Rattle.plan_model.specs.Blocks.{offset_in_region, region_bytes}
 use Rattle.plan_model.specs.TableSize.{words_in}
 use Rattle.layout_laws.specs.GlobalLaws.{AreLaid}
-use Rattle.lower.specs.declared.places.Places.{Places}
+use Rattle.code_model.specs.declared.places.Places.{Places}
 use Rattle.link_model.specs.FirstWords.{first_word, with_cells, with_global, first_bytes}
-use Rattle.armv7m.specs.Confinement.{Each}
-
--- cells end at or before the last bound
-pub last_end : (a size : ℕ) (ds : List CellPlace) → IsLaidOut a size ds → a ≤ size
-last_end a size [] l = l
-last_end a size (d ∷ ds) l = let e = last_end (d.at + width_of d.ty) size ds l.1 in let z = l.0 in omega (arith, e, z)
+use Rattle.common_laws.specs.Lists.{Each}
+use Rattle.ir_laws.proofs.Layouts.{last_end}
 
 module _ (q : Places) where
   -- a memory has these values in cells that lie so many bytes behind an offset

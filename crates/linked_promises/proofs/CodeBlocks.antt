@@ -20,8 +20,8 @@ use Rattle.plan_model.specs.declared.plan.Spot.{Spot}
 use Rattle.plan_model.specs.declared.plan.Sizes.{Sizes}
 use Rattle.plan_model.specs.Placement.{compartment_spot, no_spot}
 use Rattle.plan_model.specs.Blocks.{block}
-use Rattle.lower.specs.CompartmentCode.{compartment_size}
-use Rattle.lower.specs.Planned.{code_groups}
+use Rattle.code_model.specs.CompartmentCode.{compartment_size}
+use Rattle.code_model.specs.Planned.{code_groups}
 use Rattle.monitor.specs.declared.tables.CompRecord.{CompRecord}
 use Rattle.monitor.specs.Setting.{has_code}
 use Rattle.link_model.specs.LinkedTables.{tables_of}
@@ -30,9 +30,10 @@ use Rattle.linked_images.specs.Planned.{IsPlanned, plan, planned_sizes, planned_
 use Rattle.linked_images.proofs.Facts.{PlanLaws, laid, code_block_is, code_blocks_count}
 use Rattle.linked_images.proofs.Flash.{code_count, code_size_is}
 use Rattle.linked_promises.specs.Parts.{CodeIsPlaced}
-use Rattle.linked_promises.proofs.Compartments.{in_compartment, all_placed}
+use Rattle.linked_promises.proofs.Compartments.{in_compartment}
 use Rattle.linked_promises.proofs.Loans.{record_of}
 use Rattle.linked_promises.proofs.Windows.{multiple_of, power_split}
+use Rattle.plan_model.proofs.Compartments.{each_compartment as all_placed}
 
 module _ (law : PlanLaws) (held : RegionsHoldTheirBlocks) (w : PlainFirmware) (n : Needs) (f : Final) (b : Board) (is : IsPlanned w n f b) where
   abbrev p : Program

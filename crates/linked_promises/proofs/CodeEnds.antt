@@ -3,10 +3,10 @@ use Rattle.std.proofs.Common.{◌≡◌, ℕ, zero, suc, ◌+◌, ◌<◌, ◌�
 use Rattle.ir_model.specs.Resolved as ir
 use Rattle.ir_model.specs.Resolved.{Program, NumberedInst, NumberedTerm, NumberedBlock, NumberedFunc, Does, Ends, here_in, no_block, func_at}
 use Rattle.ir_model.proofs.Counting.{rounded_at_least}
-use Rattle.lower.specs.declared.places.CallSite.{CallSite}
-use Rattle.lower.specs.Places.{crosses}
-use Rattle.lower.specs.Sizes.{inst_size, resume_size, insts_size, blocks_size, function_size, site_offset}
-use Rattle.lower.specs.CompartmentCode.{CodeGroups, CodePlaces, members_from, filled_size, compartment_of, size_of, total_size, compartment_size, entry_of}
+use Rattle.code_model.specs.declared.places.CallSite.{CallSite}
+use Rattle.code_model.specs.Places.{crosses}
+use Rattle.code_model.specs.Sizes.{inst_size, resume_size, insts_size, blocks_size, function_size, site_offset}
+use Rattle.code_model.specs.CompartmentCode.{CodeGroups, CodePlaces, members_from, filled_size, compartment_of, size_of, total_size, compartment_size, entry_of}
 
 -- ---- a call is no longer than its code
 

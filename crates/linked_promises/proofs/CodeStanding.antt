@@ -14,8 +14,8 @@ use Rattle.plan_model.specs.declared.plan.Plan.{Plan}
 use Rattle.plan_model.specs.declared.plan.Sizes.{Sizes}
 use Rattle.plan_model.specs.Placement.{compartment_spot}
 use Rattle.thumb_asm.specs.Finished.{bytes_from}
-use Rattle.lower.specs.CompartmentCode.{CodeGroups, CodePlaces, compartment_items, compartment_labels}
-use Rattle.lower.specs.Planned.{code_groups, code_places, planned_code}
+use Rattle.code_model.specs.CompartmentCode.{CodeGroups, CodePlaces, compartment_items, compartment_labels}
+use Rattle.code_model.specs.Planned.{code_groups, code_places, planned_code}
 use Rattle.code_effects.specs.Items.{ItemsIn, InstructionsInTable, ItemsStand}
 use Rattle.link_model.specs.LinkedImage.{linked}
 use Rattle.monitor.specs.TheCode.{monitor_code}

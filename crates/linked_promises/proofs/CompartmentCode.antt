@@ -13,12 +13,12 @@ use Rattle.plan_model.specs.declared.needs.Needs.{Needs}
 use Rattle.plan_model.specs.declared.graph.Final.{Final}
 use Rattle.plan_model.specs.declared.plan.Board.{Board}
 use Rattle.plan_model.specs.declared.plan.Plan.{Plan}
-use Rattle.lower.specs.declared.places.Places.{Places}
-use Rattle.lower.specs.Words.{plain}
-use Rattle.lower.specs.FunctionCode.{function_items, function_labels}
-use Rattle.lower.specs.CompartmentCode.{CodeGroups, CodePlaces, compartment_of, before, filling, size_of, label_count, entry_of, places_of, filled_items, compartment_items, compartment_labels}
-use Rattle.lower.specs.Planned.{code_groups, code_places, planned_code}
-use Rattle.lower.specs.Laws.{SizesHold, SitesAgree}
+use Rattle.code_model.specs.declared.places.Places.{Places}
+use Rattle.code_model.specs.Words.{plain}
+use Rattle.code_model.specs.FunctionCode.{function_items, function_labels}
+use Rattle.code_model.specs.CompartmentCode.{CodeGroups, CodePlaces, compartment_of, before, filling, size_of, label_count, entry_of, places_of, filled_items, compartment_items, compartment_labels}
+use Rattle.code_model.specs.Planned.{code_groups, code_places, planned_code}
+use Rattle.code_model.specs.Laws.{SizesHold, SitesAgree}
 use Rattle.lower_laws.specs.Fitting.{TypedFunctionsFit, TypedJumpsInside}
 use Rattle.lower_laws.specs.Reaching.{CompartmentsReach}
 use Rattle.code_effects.specs.Items.{InstructionsInTable}

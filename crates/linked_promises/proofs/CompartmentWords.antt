@@ -4,7 +4,7 @@ use Rattle.std.proofs.lemmas.Bool.{cases_lt}
 use Rattle.std.proofs.lemmas.List.{get_or_past}
 use Rattle.std.proofs.lemmas.List.FromFn.{get_or-map-range_with_len, length-map-range_with_len}
 use mathlib.Core.Logic.{⊎_elim}
-use Rattle.armv7m.specs.Confinement.{Each}
+use Rattle.common_laws.specs.Lists.{Each}
 use Rattle.mpu_model.specs.declared.words.Rights.TheVariants.{Code}
 use Rattle.ir_model.specs.Plain.{PlainFirmware}
 use Rattle.ir_model.specs.Resolve.{resolve}
@@ -36,8 +36,9 @@ use Rattle.linked_images.proofs.Flash.{code_count}
 use Rattle.linked_images.proofs.Ranges.{block_in}
 use Rattle.linked_promises.proofs.Kept.{kept_final}
 use Rattle.linked_promises.proofs.CoverParts.{IsPart, AreParts, parts_all, each_in_order}
-use Rattle.linked_promises.proofs.WordLists.{IsWord, AreWords, each_map, each_both, each_kept, each_below, each_flat, both_words}
+use Rattle.linked_promises.proofs.WordLists.{IsWord, AreWords, each_map, each_kept, each_below, each_flat, both_words}
 use Rattle.linked_promises.proofs.RegionWords.{IsLow, region_fits, out_is_byte, slots_fit, mask_fits}
+use Rattle.common_laws.proofs.Lists.{each_both}
 
 -- ---- covers lie among the peripherals
 
@@ -45,8 +46,9 @@ module _ (p : Program) (n : Needs) (windows : HasWindows p) where
   window_part : (q : ℕ) → q < length p.periphs → IsPart (cover_of p q)
   window_part q l =
       let i = windows.each q l in
-      let m = i.most in
-      record { power = i.power; least = i.least; most = omega (arith, m); size = i.size; aligned = subst (λ s. (window_at p q).base % s ≡ 0) i.size i.aligned; from = i.from; to = i.to }
+      let k = i.power in
+      let m = k.2 in
+      record { power = k.0; least = k.1; most = omega (arith, m); size = k.3; aligned = subst (λ s. (window_at p q).base % s ≡ 0) k.3 i.aligned; from = i.place.0; to = i.place.1 }
 
   first_parts : (g : Groups) (c : ℕ) → AreParts (covers_of p n g c)
   first_parts g c =

@@ -57,7 +57,3 @@ in_compartment p g a h l =
     ap (λ (y : Groups). get_or y.of h 0) a.are ∙ get_or-map (compartment_number a.groups) a.groups h 0 0 there in
     let count : g.count ≡ length (used_groups a.groups) = ap (λ (y : Groups). y.count) a.are in
     record { listed = omega (arith, size, len, there); below = omega (arith, few, number, count) }
-
-pub all_placed : (p : Program) (g : Groups) → AreCompartments p g → length g.of ≡ length p.funcs
-unfolding compartments
-all_placed p g a = ap (λ (x : Groups). length x.of) a.are ∙ (length-map a.groups (compartment_number a.groups) ∙ a.each)

@@ -18,7 +18,7 @@ use Rattle.plan_model.specs.Covers.{least_power, lowest, highest, joined_size, j
 use Rattle.plan_model.specs.FinalGraph.{Merges, stays, joins}
 use Rattle.plan_model.specs.Merging.{covers_at, cover_cost, cover_pair, with_joined_cover, next}
 use Rattle.linked_promises.proofs.Kept.{by_next}
-use Rattle.linked_promises.proofs.Reach.{both}
+use Rattle.common_laws.proofs.Tests.{true_both as both}
 
 pub record IsPart (d : Cover) : Type 0 where
   pub power : ℕ

@@ -5,6 +5,7 @@ use Rattle.std.proofs.lemmas.List.{get_or_past}
 use Rattle.std.proofs.lemmas.List.FromFn.{get_or-map-range_with_len, length-map-range_with_len}
 use mathlib.Core.Logic.{⊎_elim}
 use Rattle.thread_runs.specs.Areas as areas
+use Rattle.windows.specs.Ranges.{is_inside}
 use Rattle.device_model.specs.declared.image.Image.{Image}
 use Rattle.mpu_model.specs.declared.words.Rights.TheVariants.{Device}
 use Rattle.ir_model.specs.Resolved.{Program, window_at}
@@ -20,7 +21,7 @@ use Rattle.plan_model.specs.InitialGraph.{cover_of, covers_of, initial_graph}
 use Rattle.plan_model.specs.FinalGraph.{IsFinal}
 use Rattle.plan_model.specs.Slots.{cover_slot}
 use Rattle.monitor.specs.declared.tables.Tables.{Tables}
-use Rattle.monitor.specs.RegionChecks.{is_inside, is_free, is_data, is_read_only, is_cover, is_slot}
+use Rattle.monitor.specs.RegionChecks.{is_free, is_data, is_read_only, is_cover, is_slot}
 use Rattle.linked_images.proofs.Passing.{and_yes, or_right, inside_yes}
 use Rattle.linked_promises.proofs.CoverParts.{IsPart, AreParts, joined_part, covers_all, each_in_order, each_map}
 use Rattle.linked_promises.proofs.Bearing.{use_region}
@@ -33,8 +34,9 @@ use Rattle.linked_promises.proofs.Lists.{below_all}
 pub window_part : (p : Program) → HasWindows p → (q : ℕ) → q < length p.periphs → IsPart (cover_of p q)
 window_part p windows q l =
     let i = windows.each q l in
-    let m = i.most in
-    record { power = i.power; least = i.least; most = omega (arith, m); size = i.size; aligned = subst (λ s. (window_at p q).base % s ≡ 0) i.size i.aligned; from = i.from; to = i.to }
+    let k = i.power in
+    let m = k.2 in
+    record { power = k.0; least = k.1; most = omega (arith, m); size = k.3; aligned = subst (λ s. (window_at p q).base % s ≡ 0) k.3 i.aligned; from = i.place.0; to = i.place.1 }
 
 -- ---- what each window has, and a join from both of its covers
 

@@ -1,5 +1,5 @@
 -- Each cover of the final graph holds whole windows: a window that has an address in it lies inside it.
-use Rattle.std.proofs.Common.{◌≡◌, ℕ, ◌+◌, ◌*◌, ◌-◌, ◌/◌, ◌^◌, ◌<◌, ◌≤◌, Bool, true, false, ◌&&◌, [], length, get_or, nat_le, refl, sym, subst, le-leb, pow_pos, arith}
+use Rattle.std.proofs.Common.{◌≡◌, ℕ, ◌+◌, ◌*◌, ◌-◌, ◌/◌, ◌^◌, ◌<◌, ◌≤◌, true, [], length, get_or, nat_le, sym, subst, le-leb, pow_pos, arith}
 use Rattle.std.proofs.lemmas.Bool.{leb-true, cases_lt, cases_eq}
 use Rattle.std.proofs.lemmas.Nat.{div-add-mod'}
 use mathlib.Core.Logic.{⊎_elim}
@@ -14,20 +14,16 @@ use Rattle.plan_model.specs.InitialGraph.{cover_of}
 use Rattle.plan_model.specs.FinalGraph.{IsFinal}
 use Rattle.linked_images.proofs.OpenBytes.{multiple}
 use Rattle.linked_promises.specs.Permissions.{IsOf}
-use Rattle.linked_promises.proofs.Reach.{both}
 use Rattle.linked_promises.proofs.Forms.{in_whole}
 use Rattle.linked_promises.proofs.Covers.{inside_through}
 use Rattle.linked_promises.proofs.CoverParts.{IsPart, joined_part, joined_holds}
 use Rattle.linked_promises.proofs.CoverSlots.{window_part, final_covers}
+use Rattle.common_laws.proofs.Tests.{both_true as and_parts, true_both as both}
 
 -- ---- a range inside another
 
 inside : (x d : Cover) → d.base ≤ x.base → end_of x ≤ end_of d → is_inside x d ≡ true
 inside x d low high = both (nat_le d.base x.base) (nat_le (end_of x) (end_of d)) (le-leb d.base x.base low) (le-leb (end_of x) (end_of d) high)
-
-and_parts : (a b : Bool) → (a && b) ≡ true → (a ≡ true) × (b ≡ true)
-and_parts true b e = (refl, e)
-and_parts false b e = absurd (let f : false ≡ true = e in cc)
 
 inside_parts : (x d : Cover) → is_inside x d ≡ true → (d.base ≤ x.base) × (end_of x ≤ end_of d)
 inside_parts x d e =

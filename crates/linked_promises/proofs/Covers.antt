@@ -12,14 +12,10 @@ use Rattle.plan_model.specs.Merging.{covers_at, with_joined_cover, next}
 use Rattle.ir_model.specs.Resolved.{Program}
 use Rattle.plan_model.specs.FinalGraph.{Merges, stays, joins}
 use Rattle.linked_promises.proofs.Kept.{by_next}
-use Rattle.linked_promises.proofs.Reach.{any_filtered, both}
+use Rattle.common_laws.proofs.Tests.{both_true as and_parts, true_both as both, turned}
+use Rattle.common_laws.proofs.Lists.{any_kept as any_filtered}
 
 -- ---- tests over lists in an order
-
-turned : (a b c : Bool) → (a || (b || c)) ≡ (b || (a || c))
-turned true true c = refl
-turned true false c = refl
-turned false b c = refl
 
 any_placed : {X : Type 0} (p : X → Bool) (lt : X → X → Bool) (x : X) (ys : List X) → list_any p (placed lt x ys) ≡ (p x || list_any p ys)
 any_placed p lt x [] = refl
@@ -34,10 +30,6 @@ any_in_order p lt [] = refl
 any_in_order p lt (x ∷ xs) = any_placed p lt x (in_order lt xs) ∙ ap (λ b. p x || b) (any_in_order p lt xs)
 
 -- ---- a cover inside another
-
-and_parts : (a b : Bool) → (a && b) ≡ true → (a ≡ true) × (b ≡ true)
-and_parts true b e = (refl, e)
-and_parts false b e = absurd (let f : false ≡ true = e in cc)
 
 pub inside_through : (x c d : Cover) → is_inside x c ≡ true → is_inside c d ≡ true → is_inside x d ≡ true
 inside_through x c d e f =

@@ -13,7 +13,7 @@ use Rattle.mpu_model.specs.Regions.{size_log}
 use Rattle.mpu_model.specs.RegionWords.{region_of}
 use Rattle.mpu_model.specs.Configured.{closed_from}
 use Rattle.device_model.specs.declared.image.Image.{Image}
-use Rattle.device_model.specs.Rules.{IsPowerBetween}
+use Rattle.windows.specs.Ranges.{IsPowerBetween}
 use Rattle.monitor.specs.declared.tables.Tables.{Tables}
 use Rattle.monitor.specs.RegionChecks.{is_data_range, base_of, size_of, taken_out, has_form, eighths_hold_data, holds_data, is_free, is_data, is_read_only, is_cover, is_slot}
 use Rattle.plan_model.specs.Blocks.{has_eighths, open_eighths, subregions_out}

@@ -1,8 +1,7 @@
 -- Pieces of an assembly that have an encoding: their instructions are in the table, and their branches go wherever code of flash goes.
-use Rattle.std.proofs.Common.{◌≡◌, ℕ, ◌+◌, ◌/◌, ◌%◌, ◌^◌, ◌<◌, Bool, true, false, List, [], ◌∷◌, ◌++◌, if◌then◌else◌, Option, Some, None, refl, sym, ◌∙◌, subst, arith}
+use Rattle.std.proofs.Common.{◌≡◌, ℕ, ◌+◌, ◌/◌, ◌%◌, ◌^◌, ◌<◌, true, List, [], ◌∷◌, ◌++◌, Option, None, refl, sym, ◌∙◌, subst, arith}
 use Rattle.std.proofs.lemmas.Bool.Decides.{nat_tests}
 use Rattle.std.proofs.lemmas.Int.{ints}
-use Rattle.std.proofs.lemmas.Option.{none-some}
 use Rattle.thumb_model.specs.declared.table.Instr.{Instr}
 use Rattle.thumb_model.specs.Table.{InTable, IsOffset, encode}
 use Rattle.thumb_model.specs.Bytes.{bytes_of_half, bytes_of_code, EachInTable}
@@ -11,15 +10,15 @@ use Rattle.thumb_asm.specs.declared.item.BranchKind.{BranchKind}
 use Rattle.thumb_asm.specs.declared.item.BranchKind.TheVariants.{Cond, Short, Long, Link}
 use Rattle.thumb_asm.specs.declared.item.Item.{Item}
 use Rattle.thumb_asm.specs.declared.item.Item.TheVariants.{Plain, Branch, Half, Word}
-use Rattle.thumb_asm.specs.declared.item.Label.{Label}
-use Rattle.thumb_asm.specs.declared.refusal.AsmRefusal.TheVariants.{FarBranch}
 use Rattle.thumb_asm.specs.Assembly.{branch_size, size_of, total, place_of}
 use Rattle.thumb_asm.specs.Finished.{distance, branch, reach, is_near, first_far, bytes_from}
 use Rattle.armv7m.specs.Code.{size}
 use Rattle.armv7m.proofs.CodeParts.{width-encode, code_size-even}
-use Rattle.lower.specs.Words.{plain}
+use Rattle.code_model.specs.Words.{plain}
 use Rattle.code_effects.specs.Items.{InstructionsInTable}
 use Rattle.linked_promises.proofs.ByteLists.{EachBelow, below-append, half_below, encoded_below}
+use Rattle.thumb_asm.proofs.Items.{branch_even}
+use Rattle.thumb_asm.proofs.Reaching.{near_first}
 
 abbrev IsLong : BranchKind → Type 0
 IsLong Long = Unit {0}
@@ -45,16 +44,6 @@ plain_encodable (x ∷ xs) h = (h.0, plain_encodable xs h.1)
 
 -- ---- sizes
 
-pub total-append : (xs ys : List Item) → total (xs ++ ys) ≡ total xs + total ys
-total-append [] ys = omega arith
-total-append (x ∷ xs) ys = let h = total-append xs ys in omega (arith, h)
-
-branch_even : (kind : BranchKind) → branch_size kind % 2 ≡ 0
-branch_even (Cond c) = refl
-branch_even Short = refl
-branch_even Long = refl
-branch_even Link = refl
-
 item_even : (x : Item) → size_of x % 2 ≡ 0
 item_even (Plain x) = omega (arith, width-encode x, code_size-even (x ∷ []))
 item_even (Branch kind to) = branch_even kind
@@ -70,14 +59,6 @@ total_even (x ∷ xs) = omega (arith, item_even x, total_even xs)
 -- from and to addresses in a MiB
 pub offset_in : (from to : ℕ) → from < 2 ^ 31 → to < 2 ^ 31 → is_near (2 ^ 24) from to ≡ true → to % 2 ≡ from % 2 → IsOffset (2 ^ 24) (distance from to)
 offset_in from to a t near even = grind (arith, ints, nat_tests)
-
-near_first : (labels : List (Option ℕ)) (at : ℕ) (kind : BranchKind) (to : Label) (more : List Item) → first_far labels at (Branch kind to ∷ more) ≡ None →
-    (is_near (reach kind) at (place_of labels to.number) ≡ true) × (first_far labels (at + branch_size kind) more ≡ None)
-near_first labels at kind to more h = by (is_near (reach kind) at (place_of labels to.number)) h
-  where
-    by : (b : Bool) → (if b then first_far labels (at + branch_size kind) more else Some (FarBranch at (place_of labels to.number))) ≡ None → (b ≡ true) × (first_far labels (at + branch_size kind) more ≡ None)
-    by true h = (refl, h)
-    by false h = absurd (none-some _ (sym h))
 
 -- labels lead to even addresses
 abbrev pub LeadEven : List (Option ℕ) → Type 0

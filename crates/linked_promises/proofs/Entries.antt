@@ -2,10 +2,10 @@
 use Rattle.std.proofs.Common.{◌≡◌, ℕ, zero, suc, ◌+◌, ◌<◌, ◌≤◌, Bool, true, false, List, [], ◌∷◌, ◌++◌, length, take, get_or, nat_eq, if◌then◌else◌, refl, ap, ◌∙◌, eq-eqb, lit<, arith}
 use Rattle.ir_model.specs.Resolved.{Program, NumberedFunc, func_at}
 use Rattle.ir_model.proofs.Counting.{rounded_at_least}
-use Rattle.lower.specs.FrameShape.{local_starts}
-use Rattle.lower.specs.Places.{lends_among}
-use Rattle.lower.specs.Sizes.{entry_size}
-use Rattle.lower.specs.CompartmentCode.{CodeGroups, members_from, filled_size, before, lends_of, size_of, total_size, compartment_size}
+use Rattle.code_model.specs.FrameShape.{local_starts}
+use Rattle.code_model.specs.Places.{lends_among}
+use Rattle.code_model.specs.Sizes.{entry_size}
+use Rattle.code_model.specs.CompartmentCode.{CodeGroups, members_from, filled_size, before, lends_of, size_of, total_size, compartment_size}
 
 -- a function stands behind those before it, and others behind it
 members_split : (k f j : ℕ) (cs : List ℕ) (c : ℕ) → j ≡ k + f → f < length cs → get_or cs f 0 ≡ c → (rest : List ℕ) × (members_from k cs c ≡ members_from k (take f cs) c ++ j ∷ rest)

@@ -11,8 +11,8 @@ use Rattle.plan_model.specs.declared.plan.Spot.{Spot}
 use Rattle.plan_model.specs.declared.plan.Plan.{Plan}
 use Rattle.plan_model.specs.declared.plan.Sizes.{Sizes}
 use Rattle.plan_model.specs.Placement.{compartment_spot, no_spot}
-use Rattle.lower.specs.CompartmentCode.{CodeGroups, CodePlaces, compartment_of, members_from, before, total_size, compartment_size, entry_of}
-use Rattle.lower.specs.Planned.{code_groups, code_places}
+use Rattle.code_model.specs.CompartmentCode.{CodeGroups, CodePlaces, compartment_of, members_from, before, total_size, compartment_size, entry_of}
+use Rattle.code_model.specs.Planned.{code_groups, code_places}
 use Rattle.monitor.specs.MonitorCode.{MonitorCode}
 use Rattle.linked_images.specs.Planned.{IsPlanned, plan, planned_sizes}
 use Rattle.linked_images.proofs.Facts.{laid, code_blocks_count, needed_most}

@@ -1,12 +1,12 @@
 -- The labels of a function lead to even addresses in its code.
 use Rattle.std.proofs.Common.{◌≡◌, ℕ, zero, suc, ◌+◌, ◌%◌, ◌^◌, ◌<◌, List, [], ◌∷◌, ◌++◌, Option, Some, None, refl, arith}
 use Rattle.ir_model.specs.Resolved.{NumberedInst, NumberedBlock, NumberedFunc}
-use Rattle.lower.specs.declared.places.Places.{Places}
-use Rattle.lower.specs.Places.{site_in}
-use Rattle.lower.specs.Templates.{entry_items, inst_items, term_items}
-use Rattle.lower.specs.Sizes.{entry_size, insts_size, block_size, blocks_size, function_size}
-use Rattle.lower.specs.FunctionCode.{lent, blocks_labels, function_labels}
-use Rattle.lower.specs.Laws.{SizesHold}
+use Rattle.code_model.specs.declared.places.Places.{Places}
+use Rattle.code_model.specs.Places.{site_in}
+use Rattle.code_model.specs.Templates.{entry_items, inst_items, term_items}
+use Rattle.code_model.specs.Sizes.{entry_size, insts_size, block_size, blocks_size, function_size}
+use Rattle.code_model.specs.FunctionCode.{lent, blocks_labels, function_labels}
+use Rattle.code_model.specs.Laws.{SizesHold}
 use Rattle.linked_promises.proofs.Encodable.{LeadEven, total_even}
 
 abbrev pub EvenLabels : List (Option ℕ) → Type 0

@@ -20,12 +20,9 @@ use Rattle.linked_promises.proofs.Kept.{kept_final}
 use Rattle.linked_promises.proofs.Joins.{EachRegion, SomeRegion, AreApart, StaysOfBoth, StaysOfOne, each_all, some_all, apart_all}
 use Rattle.linked_promises.proofs.Lists.{passing_among}
 use Rattle.linked_promises.proofs.FirstRegions.{first_some, first_apart, first_filled, first_below, first_used, first_writers, first_readers, free_are, are_free}
+use Rattle.common_laws.proofs.Tests.{either_true as either}
 
 -- ---- what joins keep
-
-either : (a b : Bool) → (a || b) ≡ true → (a ≡ true) ⊎ (b ≡ true)
-either true b e = inl refl
-either false b e = inr e
 
 or_of : (a b : Bool) → (a ≡ true) ⊎ (b ≡ true) → (a || b) ≡ true
 or_of true b e = refl

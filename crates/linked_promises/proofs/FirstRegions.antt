@@ -16,9 +16,12 @@ use Rattle.plan_model.specs.Regions.{region_at, no_region}
 use Rattle.plan_model.specs.InitialGraph.{Users, users_of, has_users, same_users, kinds_of_users, region_for, data_regions, unwritten}
 use Rattle.grouping.proofs.Distinct.{any_distinct, any_seen}
 use Rattle.linked_promises.proofs.CoverParts.{each_map}
-use Rattle.linked_promises.proofs.Reach.{any_filtered, one_passes, both}
 use Rattle.linked_promises.proofs.Lists.{not_true, any_index, passing_among, among_passing, each_passing, each_at, below_all}
 use Rattle.linked_promises.proofs.Joins.{EachRegion, SomeRegion, AreApart}
+use Rattle.common_laws.proofs.Tests.{true_both as both}
+use Rattle.common_laws.proofs.Lists.{any_kept as any_filtered}
+use Rattle.plan_model.proofs.Numbers.{one_passes}
+use Rattle.plan_model.proofs.SameUsers.{same_through}
 
 -- ---- lists without repeats
 
@@ -68,12 +71,6 @@ agree_users : (u v : Users) → u.writers ≡ v.writers → u.readers ≡ v.read
 agree_users u v e f =
     both (same_numbers u.writers v.writers) (same_numbers u.readers v.readers)
     (ap (λ ns. same_numbers u.writers ns) (sym e) ∙ nat_list_eq_equiv.refl u.writers) (ap (λ ns. same_numbers u.readers ns) (sym f) ∙ nat_list_eq_equiv.refl u.readers)
-
-same_through : (x z y : Users) → same_users x z ≡ true → same_users z y ≡ true → same_users x y ≡ true
-same_through x z y e f =
-    let one = users_agree x z e in
-    let two = users_agree z y f in
-    agree_users x y (one.0 ∙ two.0) (one.1 ∙ two.1)
 
 -- of a kind that is not there
 abbrev nobody : Users

@@ -1,7 +1,7 @@
 -- The words of the values that globals have at first, by the places of the linker and by those of what is built.
 use Rattle.std.proofs.Common.{ℕ, zero, suc, ◌<◌, Bool, true, false, List, [], ◌∷◌, length, map, get_or}
 use Rattle.std.specs.Prelude.{if◌then◌else◌}
-use Rattle.armv7m.specs.Confinement.{Each}
+use Rattle.common_laws.specs.Lists.{Each}
 use Rattle.ir_model.specs.declared.firmware.Cell.{Cell}
 use Rattle.ir_model.specs.declared.firmware.Cell.TheVariants.{Word, Function, Address}
 use Rattle.ir_model.specs.Types.{PlainType, is_integer}

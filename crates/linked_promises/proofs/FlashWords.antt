@@ -7,8 +7,8 @@ use Rattle.plan_model.specs.Choices.{greatest}
 use Rattle.plan_model.specs.Covers.{least_power}
 use Rattle.plan_model.specs.Blocks.{block}
 use Rattle.plan_model.specs.FlashPlacement.{flash_blocks, code_blocks, tables_block, flash_needed}
-use Rattle.linked_images.proofs.Flash.{sum_cons}
 use Rattle.linked_images.proofs.OpenBytes.{multiple}
+use Rattle.common_laws.proofs.Lists.{sum_first as sum_cons}
 
 found_fours : (test : ℕ → Bool) (a n : ℕ) → 2 ≤ a → unwrap_or (find test (map (λ k. 2 ^ k) (range_with_len a n))) (2 ^ 32) % 4 ≡ 0
 found_fours test a zero h = refl

@@ -1,13 +1,8 @@
 -- The words of the region that is made for a block, read back as the check of regions reads them.
-use Rattle.std.proofs.Common.{◌≡◌, ◌≢◌, ℕ, ◌+◌, ◌-◌, ◌*◌, ◌/◌, ◌%◌, ◌^◌, ◌<◌, ◌≤◌, true, refl, ap, ap₂, sym, ◌∙◌, subst, pow_pos, arith}
-use Rattle.std.specs.Int.{trailing_zeros, w32}
-use Rattle.std.proofs.lemmas.Bool.{cases_lt}
+use Rattle.std.proofs.Common.{◌≡◌, ℕ, ◌+◌, ◌-◌, ◌*◌, ◌/◌, ◌%◌, ◌^◌, ◌<◌, ◌≤◌, true, refl, ap, ap₂, sym, ◌∙◌, subst, arith}
 use Rattle.std.proofs.lemmas.Nat.{div-add-mod'}
-use Rattle.std.proofs.lemmas.Nat.Bits.{bit_at-trailing_zeros, bit_at-pow_other}
 use Rattle.std.proofs.Math.Nat.{mul-mod_left}
-use Rattle.std.proofs.Math.Pow.{pow-lt}
-use mathlib.Core.Logic.{⊎_elim}
-use Rattle.device_model.specs.Rules.{IsPowerBetween}
+use Rattle.windows.specs.Ranges.{IsPowerBetween}
 use Rattle.mpu_model.specs.declared.region.Region.{Region}
 use Rattle.mpu_model.specs.declared.words.Rights.{Rights}
 use Rattle.mpu_model.specs.declared.words.Rights.TheVariants.{Background, Code, Stack, Ram, Device}
@@ -16,16 +11,7 @@ use Rattle.mpu_model.specs.RegionWords.{rights_word, size_field, region_of}
 use Rattle.monitor.specs.RegionChecks.{base_of, size_of, taken_out, has_form}
 use Rattle.linked_images.proofs.Passing.{and_yes, lt_yes, eq_yes}
 use Rattle.linked_images.proofs.OpenBytes.{multiple}
-
--- the number of zeros at the end of a power of two is its exponent
-zeros : (k : ℕ) → k < 32 → trailing_zeros w32 (2 ^ k) ≡ k
-zeros k lt = ⊎_elim (λ l. absurd (apart (λ e. absurd (omega (arith, l, e))))) (λ le. ⊎_elim (λ l. absurd (apart (λ e. absurd (omega (arith, l, e))))) (λ h. omega (arith, le, h)) (cases_lt k (trailing_zeros w32 (2 ^ k)))) (cases_lt (trailing_zeros w32 (2 ^ k)) k)
-  where
-    apart : trailing_zeros w32 (2 ^ k) ≢ k → ⊥
-    apart ne =
-        let found = (bit_at-trailing_zeros w32 (2 ^ k) (pow_pos k) (pow-lt {i = k} {j = 32} lt)).1 in
-        let none = bit_at-pow_other k (trailing_zeros w32 (2 ^ k)) ne in
-        omega (arith, found, none)
+use Rattle.mpu_model.proofs.Powers.{trailing_zeros-pow as zeros}
 
 -- the fields of the word of attributes
 record Fields (srd s word : ℕ) : Type 0 where

@@ -10,10 +10,10 @@ use Rattle.ir_model.specs.Resolve.{resolve}
 use Rattle.ir_model.specs.Canonical.{IsWithinLimits}
 use Rattle.ir_model.specs.Typing.{IsTyped}
 use Rattle.ir_model.specs.Signatures.{row_length}
-use Rattle.lower.specs.declared.places.CallSite.{CallSite}
-use Rattle.lower.specs.declared.places.Places.{Places}
-use Rattle.lower.specs.FrameShape.{local_size, locals_size, frame_size, starts_from, local_starts, frame_shape}
-use Rattle.lower.specs.Places.{lends_among}
+use Rattle.code_model.specs.declared.places.CallSite.{CallSite}
+use Rattle.code_model.specs.declared.places.Places.{Places}
+use Rattle.code_model.specs.FrameShape.{local_size, locals_size, frame_size, starts_from, local_starts, frame_shape}
+use Rattle.code_model.specs.Places.{lends_among}
 use Rattle.lower_laws.specs.Fitting.{HasEach, TypedFunctionsFit}
 use Rattle.linked_promises.proofs.TemplateCode.{LendsFit}
 

@@ -1,9 +1,9 @@
 -- The code of a typed function has an encoding, where its places are those of a plan.
-use Rattle.std.proofs.Common.{◌≡◌, ℕ, ℤ, zero, suc, ◌+◌, ◌*◌, ◌/◌, ◌%◌, ◌^◌, ◌<◌, ◌≤◌, true, List, [], ◌∷◌, ◌++◌, length, get_or, flat_map, nat_le, nat_lt, Option, Some, None, refl, sym, ap, ◌∙◌, subst, arith}
+use Rattle.std.proofs.Common.{◌≡◌, ℕ, ℤ, suc, ◌+◌, ◌/◌, ◌%◌, ◌^◌, ◌<◌, ◌≤◌, true, List, [], ◌∷◌, ◌++◌, length, get_or, flat_map, nat_le, nat_lt, Option, Some, None, refl, sym, ap, ◌∙◌, subst, arith}
 use Rattle.std.proofs.lemmas.List.Concat.{flat_map-append}
 use Rattle.thumb_model.specs.declared.table.Instr.{Instr}
 use Rattle.thumb_model.specs.declared.table.Instr.TheVariants.{BranchLink}
-use Rattle.thumb_model.specs.Table.{IsOffset, encode}
+use Rattle.thumb_model.specs.Table.{IsOffset}
 use Rattle.thumb_model.specs.Bytes.{EachInTable}
 use Rattle.thumb_model.proofs.Codes.{in_table-append}
 use Rattle.thumb_asm.specs.declared.item.Item.{Item}
@@ -12,25 +12,28 @@ use Rattle.thumb_asm.specs.Assembly.{total}
 use Rattle.thumb_asm.specs.Finished.{distance}
 use Rattle.ir_model.specs.Types.{PlainType, PlainResult, PlainTypes}
 use Rattle.ir_model.specs.Resolved as ir
-use Rattle.ir_model.specs.Resolved.{Program, NumberedInst, NumberedTerm, NumberedBlock, NumberedFunc, TheGlobal, ThePeriph, TheLocal, Does, Ends, here_in, no_block}
+use Rattle.ir_model.specs.Resolved.{Program, NumberedInst, NumberedTerm, NumberedBlock, NumberedFunc, TheGlobal, ThePeriph, TheLocal, no_block}
 use Rattle.ir_model.specs.Signatures.{row_length}
 use Rattle.ir_laws.specs.Typed.{KeepsResult, CallTyped, InstTyped, EndTyped, HereTyped, FuncTyped}
-use Rattle.lower.specs.declared.places.Places.{Places}
-use Rattle.lower.specs.FrameShape.{frame_shape, local_starts}
-use Rattle.lower.specs.Places.{global_address, window_address, entry_address, site_in, crosses}
-use Rattle.lower.specs.Words.{plain, save_code, word_into, supervisor_call}
-use Rattle.lower.specs.Numbers.{const_code, move_code, bin_code}
-use Rattle.lower.specs.Comparisons.{cmp_code}
-use Rattle.lower.specs.Addresses.{named_into, addr_code, faddr_code, elem_code, field_code, load_code, store_code}
-use Rattle.lower.specs.Entry.{enter_code, leave_code}
-use Rattle.lower.specs.Calls.{args_code, call_code, callee_code, icall_code, call_items, icall_items}
-use Rattle.lower.specs.Templates.{lends_of, entry_items, inst_items, term_items}
-use Rattle.lower.specs.Sizes.{inst_size, insts_size, term_size, block_size, entry_size}
-use Rattle.lower.specs.FunctionCode.{lent, block_pieces, blocks_pieces, function_items}
-use Rattle.lower.specs.Laws.{SizesHold}
+use Rattle.code_model.specs.declared.places.Places.{Places}
+use Rattle.code_model.specs.FrameShape.{frame_shape, local_starts}
+use Rattle.code_model.specs.Places.{global_address, window_address, entry_address, site_in, crosses}
+use Rattle.code_model.specs.Words.{plain, save_code, word_into, supervisor_call}
+use Rattle.code_model.specs.Numbers.{const_code, move_code, bin_code}
+use Rattle.code_model.specs.Comparisons.{cmp_code}
+use Rattle.code_model.specs.Addresses.{named_into, addr_code, faddr_code, elem_code, field_code, load_code, store_code}
+use Rattle.code_model.specs.Entry.{enter_code, leave_code}
+use Rattle.code_model.specs.Calls.{args_code, call_code, callee_code, icall_code, call_items, icall_items}
+use Rattle.code_model.specs.Templates.{lends_of, entry_items, inst_items, term_items}
+use Rattle.code_model.specs.Sizes.{inst_size, insts_size, term_size, block_size, entry_size}
+use Rattle.code_model.specs.FunctionCode.{lent, block_pieces, blocks_pieces, function_items}
+use Rattle.code_model.specs.Laws.{SizesHold}
 use Rattle.linked_images.proofs.Passing.{and_yes, le_yes, lt_yes}
-use Rattle.linked_promises.proofs.Encodable.{Encodable, encodable-append, plain_encodable, total-append, total_even, offset_in}
+use Rattle.linked_promises.proofs.Encodable.{Encodable, encodable-append, plain_encodable, total_even, offset_in}
 use Rattle.linked_promises.proofs.TemplateCode.{LendsFit, load_in, store_in, address_in, supervisor_in, word_in, save_in, const_in, move_in, bin_in, cmp_in, two_offset, elem_in, field_in, loads_in, stores_to_in, args_in, callee_in, enter_in, leave_in}
+use Rattle.thumb_asm.proofs.Items.{total-append}
+use Rattle.code_model.proofs.Filling.{args_total}
+use Rattle.lower_laws.proofs.Here.{does_at, ends_at}
 
 -- what a function's code finds outside: addresses are words, entries stand between two addresses, and sites have small numbers
 pub record PlacesFit (low high count : ℕ) (q : Places) : Type 0 where
@@ -48,20 +51,6 @@ pub record FrameFits (g : NumberedFunc) (q : Places) : Type 0 where
   pub words : (frame_shape g).words ≤ 254
   pub starts : (l : ℕ) → get_or (local_starts g) l 0 / 4 < 256
   pub lends : LendsFit (lends_of g q)
-
-does_at : (is : List NumberedInst) (t : NumberedTerm) (k : ℕ) (d : NumberedInst) → k < length is → here_in is t k ≡ Does (get_or is k d)
-does_at [] t k d l = absurd (omega (arith, l))
-does_at (i ∷ is) t zero d l = refl
-does_at (i ∷ is) t (suc k) d l = does_at is t k d (omega (arith, l))
-
-ends_at : (is : List NumberedInst) (t : NumberedTerm) → here_in is t (length is) ≡ Ends t
-ends_at [] t = refl
-ends_at (i ∷ is) t = ends_at is t
-
-args_total : (r : ℕ) (as_ : List ℕ) → total (plain (args_code r as_)) ≡ 2 * length as_
-unfolding encode
-args_total r [] = refl
-args_total r (a ∷ more) = let h = args_total (suc r) more in omega (arith, h)
 
 -- arguments stand before the branch
 args_before : (r : ℕ) (as_ : List ℕ) (offset : ℤ) → total (plain (args_code r as_)) ≤ total (plain (args_code r as_ ++ BranchLink offset ∷ []))

@@ -5,7 +5,8 @@ use Rattle.std.proofs.lemmas.List.{get_or-map}
 use Rattle.std.proofs.lemmas.List.FromFn.{length-map-range_with_len, get_or-map-range_with_len}
 use Rattle.words.specs.Bytes.{read, cut}
 use Rattle.words.specs.Arithmetic.{word}
-use Rattle.armv7m.specs.Confinement.{Each, AnyOf}
+use Rattle.armv7m.specs.Confinement.{AnyOf}
+use Rattle.common_laws.specs.Lists.{Each}
 use Rattle.ir_model.specs.Types.{width_of}
 use Rattle.ir_model.specs.Plain.{PlainFirmware}
 use Rattle.ir_model.specs.Layout.{CellPlace, rounded_up}
@@ -24,8 +25,8 @@ use Rattle.plan_model.specs.Regions.{global_size}
 use Rattle.plan_model.specs.Blocks.{offset_in_region, region_bytes}
 use Rattle.plan_model.specs.TableSize.{words_in}
 use Rattle.plan_model.specs.Placement.{global_address}
-use Rattle.lower.specs.declared.places.Places.{Places}
-use Rattle.lower.specs.Planned.{planned_entry, code_places}
+use Rattle.code_model.specs.declared.places.Places.{Places}
+use Rattle.code_model.specs.Planned.{planned_entry, code_places}
 use Rattle.monitor.specs.declared.tables.InitRecord.{InitRecord}
 use Rattle.monitor.specs.declared.tables.Tables.{Tables}
 use Rattle.monitor.specs.MonitorCode.{MonitorCode}
@@ -40,13 +41,14 @@ use Rattle.link_model.specs.LinkedImage.{linked}
 use Rattle.linked_images.specs.Planned.{IsPlanned, plan, planned_tables, planned_image}
 use Rattle.linked_images.specs.Laws.{FlashReadsBack}
 use Rattle.linked_promises.specs.Parts.{linked_build}
-use Rattle.linked_promises.proofs.CellWidths.{global_shaped}
+use Rattle.ir_laws.proofs.GlobalShapes.{global_shaped}
 use Rattle.linked_promises.proofs.GlobalPlaces.{GlobalLaws, placed, in_ram, aligns}
 use Rattle.linked_promises.proofs.FilledBlocks.{is_filled}
 use Rattle.linked_promises.proofs.FirstValues.{IsKnown, values_known}
-use Rattle.linked_promises.proofs.CellWrites.{HasCells, last_end, cells_alike, block_holds}
+use Rattle.linked_promises.proofs.CellWrites.{HasCells, cells_alike, block_holds}
 use Rattle.linked_promises.proofs.WordsBack.{IsBrought, brought, reads_back}
 use Rattle.linked_promises.proofs.InitialFlash.{words_stand, from_base}
+use Rattle.ir_laws.proofs.Layouts.{last_end}
 
 any_weaker : {A : Type 0} (P Q : A → Type 0) → ((x : A) → P x → Q x) → (xs : List A) → AnyOf P xs → AnyOf Q xs
 any_weaker P Q f [] h = h

@@ -1,11 +1,10 @@
 -- The check of the blocks that start-up fills passes.
 use Rattle.std.proofs.Common.{◌||◌, eq-eqb, ◌≡◌, ◌≢◌, ℕ, ◌+◌, ◌-◌, ◌*◌, ◌/◌, ◌%◌, ◌^◌, ◌<◌, ◌≤◌, inl, inr, true, List, [], ◌∷◌, length, map, None, refl, sym, ap, ◌∙◌, subst, lit<, arith}
 use Rattle.std.specs.Prelude.{unwrap_or}
-use Rattle.std.proofs.Math.Nat.{mul-mod_left}
-use Rattle.std.proofs.lemmas.Nat.{div-add-mod'}
-use Rattle.armv7m.specs.Confinement.{Each}
+use Rattle.common_laws.specs.Lists.{Each}
 use Rattle.device_model.specs.declared.image.Image.{Image}
-use Rattle.device_model.specs.Rules.{IsInside, AreApart, block_size}
+use Rattle.windows.specs.Ranges.{IsInside, AreApart}
+use Rattle.device_model.specs.Rules.{block_size}
 use Rattle.ir_model.specs.Plain.{PlainFirmware}
 use Rattle.ir_model.specs.Resolved.{Program}
 use Rattle.ir_model.specs.Resolve.{resolve}
@@ -41,18 +40,12 @@ use Rattle.linked_images.proofs.AreaEnd.{initial_words_are, end_is}
 use Rattle.linked_images.proofs.ReadBack.{ReadLaws}
 use Rattle.linked_images.proofs.TablesPass.{some}
 use Rattle.linked_promises.proofs.ObjectSizes.{global_is_large}
-use Rattle.linked_promises.proofs.CellWidths.{global_shaped}
+use Rattle.ir_laws.proofs.GlobalShapes.{global_shaped}
 use Rattle.linked_promises.proofs.FinalRegions as regions
+use Rattle.mem_bus.proofs.Placed.{multiple_aligned as by_four}
 
 grouped : (a b c : ℕ) → a * (b * c) ≡ a * c * b
 grouped a b c = grind arith
-
--- multiples of a multiple of 4
-by_four : (x z m : ℕ) → z ≡ 4 * m → x % z ≡ 0 → x % 4 ≡ 0
-by_four x z m split e =
-    let d = div-add-mod' x z in
-    let whole : x ≡ x / z * z = omega (arith, d, e) in
-    ap (λ y. y % 4) (whole ∙ (ap (λ y. x / z * y) split ∙ grouped (x / z) 4 m)) ∙ mul-mod_left (x / z * m) 4
 
 shrink : (a n m c k : ℕ) → n ≤ m → AreApart a m c k → AreApart a n c k
 shrink a n m c k h (inl e) = inl (omega (arith, h, e))

@@ -1,7 +1,7 @@
 -- The words of lent locals and of the blocks that start-up fills, and the initial words.
 use Rattle.std.proofs.Common.{◌≡◌, ℕ, ◌+◌, ◌*◌, ◌^◌, ◌<◌, ◌≤◌, List, [], ◌∷◌, flat_map, sum_by, sym, ◌∙◌, subst, arith}
 use Rattle.std.proofs.lemmas.List.Sums.{sum_by-cons}
-use Rattle.armv7m.specs.Confinement.{Each}
+use Rattle.common_laws.specs.Lists.{Each}
 use Rattle.ir_model.specs.Plain.{PlainFirmware}
 use Rattle.ir_model.specs.Resolve.{resolve}
 use Rattle.ir_model.specs.Resolved.{Program, local_at}
@@ -28,7 +28,8 @@ use Rattle.linked_images.proofs.Powers.{block_is}
 use Rattle.linked_images.proofs.Ranges.{IsUse, uses, uses_are, filled_for, filled_is, globals_for, block_in, small}
 use Rattle.linked_images.proofs.ReadBack.{ReadLaws}
 use Rattle.linked_images.proofs.AreaEnd.{initial_words_are}
-use Rattle.linked_promises.proofs.WordLists.{IsWord, AreWords, each_map, each_of, each_flat, read_words}
+use Rattle.linked_promises.proofs.WordLists.{IsWord, AreWords, each_map, each_flat, read_words}
+use Rattle.common_laws.proofs.Lists.{each_of}
 
 -- ---- blocks whose words stand from an address on
 

@@ -1,9 +1,9 @@
 -- What is done with lists keeps what each item has.
 use Rattle.std.proofs.Common.{ℕ, zero, suc, Bool, true, false, not, List, [], ◌∷◌, map, filter, get_or, set, take, drop, cond}
 use Rattle.std.specs.List.{remove}
-use Rattle.ir_model.specs.Canonical.{Each}
-use Rattle.ir_model.proofs.ForEach.{each_both}
+use Rattle.common_laws.specs.Lists.{Each}
 use Rattle.plan_model.specs.Lists.{distinct}
+use Rattle.common_laws.proofs.Lists.{each_both}
 
 module _ {X : Type 0} (P : X → Type 0) where
   pub each_filter : (test : X → Bool) (xs : List X) → Each P xs → Each P (filter test xs)
@@ -44,7 +44,3 @@ module _ {X : Type 0} (P : X → Type 0) where
 pub each_mapped : {X Y : Type 0} (P : Y → Type 0) (f : X → Y) (Q : X → Type 0) → ((x : X) → Q x → P (f x)) → (xs : List X) → Each Q xs → Each P (map f xs)
 each_mapped P f Q h [] e = tt
 each_mapped P f Q h (x ∷ xs) e = (h x e.0, each_mapped P f Q h xs e.1)
-
-pub each_anyway : {X : Type 0} (P : X → Type 0) → ((x : X) → P x) → (xs : List X) → Each P xs
-each_anyway P h [] = tt
-each_anyway P h (x ∷ xs) = (h x, each_anyway P h xs)

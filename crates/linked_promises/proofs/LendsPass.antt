@@ -1,7 +1,7 @@
 -- The check of lent locals passes.
 use Rattle.std.proofs.Common.{◌≡◌, ℕ, ◌<◌, ◌≤◌, Bool, true, false, List, [], ◌∷◌, cond, nat_lt}
 use Rattle.std.specs.Prelude.{Contains}
-use Rattle.armv7m.specs.Confinement.{Each}
+use Rattle.common_laws.specs.Lists.{Each}
 use Rattle.ir_model.specs.Resolve.{resolve}
 use Rattle.ir_model.specs.Resolved.{Program, local_at}
 use Rattle.ir_laws.specs.Limits.{SizesAreLimited}

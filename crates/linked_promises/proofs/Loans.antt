@@ -20,7 +20,6 @@ use Rattle.plan_model.specs.declared.graph.Final.{Final}
 use Rattle.plan_model.specs.declared.plan.Plan.{Plan}
 use Rattle.plan_model.specs.declared.plan.Board.{Board}
 use Rattle.plan_model.specs.Boards.{slots_of}
-use Rattle.plan_model.specs.Choices.{first_some}
 use Rattle.plan_model.specs.CompileLimits.{KeepsLimits, first_passed, above, wide_site}
 use Rattle.plan_model.specs.Crossing.{crossing_sites}
 use Rattle.plan_model.specs.Groups.{compartment_of, writes, reads}
@@ -42,14 +41,12 @@ use Rattle.linked_images.specs.Planned.{IsPlanned, plan, planned_tables, planned
 use Rattle.linked_promises.specs.Parts.{linked_build, LoansAreKept, KindsAgree}
 use Rattle.linked_promises.proofs.Bits.{mask_bit}
 use Rattle.linked_promises.proofs.Kept.{kept_final}
-use Rattle.linked_promises.proofs.Reach.{one_of, has_listed, both}
+use Rattle.linked_promises.proofs.Reach.{one_of, has_listed}
 use Rattle.linked_promises.proofs.Compartments.{in_compartment}
+use Rattle.common_laws.proofs.Tests.{both_true as and_parts, true_both as both}
+use Rattle.plan_model.proofs.Choices.{none_first}
 
 -- ---- limits
-
-none_first : {X : Type 0} (o : Option X) (os : List (Option X)) → first_some (o ∷ os) ≡ None → (o ≡ None) × (first_some os ≡ None)
-none_first None os e = (refl, e)
-none_first (Some x) os e = absurd (let f : Some x ≡ None = e in cc)
 
 not_above : {X : Type 0} (b : Bool) (x : X) → then_some b x ≡ None → b ≡ false
 not_above true x e = absurd (let f : Some x ≡ None = e in cc)
@@ -72,10 +69,6 @@ pub record IsLent (n : Needs) (g : Groups) (h l k : ℕ) : Type 0 where
   pub below : k < length n.lendable
   pub func : (get_or n.lendable k (0, 0)).0 ≡ h
   pub local : (get_or n.lendable k (0, 0)).1 ≡ l
-
-and_parts : (a b : Bool) → (a && b) ≡ true → (a ≡ true) × (b ≡ true)
-and_parts true b e = (refl, e)
-and_parts false b e = absurd (let f : false ≡ true = e in cc)
 
 is_lent : (n : Needs) (g : Groups) (h l k : ℕ) → lend_number n g h l ≡ Some k → IsLent n g h l k
 unfolding lend_number

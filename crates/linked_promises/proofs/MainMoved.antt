@@ -8,7 +8,7 @@ use Rattle.plan_model.specs.declared.needs.Needs.{Needs}
 use Rattle.plan_model.specs.declared.graph.Final.{Final}
 use Rattle.plan_model.specs.declared.plan.Board.{Board}
 use Rattle.plan_model.specs.Groups.{compartment_of}
-use Rattle.lower.specs.Planned.{planned_entry}
+use Rattle.code_model.specs.Planned.{planned_entry}
 use Rattle.monitor.specs.TheCode.{monitor_code}
 use Rattle.link_model.specs.LinkedTables.{tables_of}
 use Rattle.linked_images.specs.Planned.{IsPlanned, plan, planned_tables, planned_image}

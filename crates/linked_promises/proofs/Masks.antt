@@ -1,6 +1,5 @@
 -- The masks of compartments have no bit that is no lent local's.
-use Rattle.std.proofs.Common.{◌≡◌, ℕ, suc, ◌+◌, ◌*◌, ◌^◌, ◌<◌, Bool, true, false, cond, List, [], ◌∷◌, length, map, take, get_or, nat_lt, ap, sym, ◌∙◌, subst, lit<, arith}
-use Rattle.std.proofs.Math.Nat.{pow-suc}
+use Rattle.std.proofs.Common.{◌≡◌, ℕ, ◌+◌, ◌^◌, ◌<◌, Bool, true, false, cond, List, [], length, map, take, get_or, nat_lt, ap, sym, ◌∙◌, subst, lit<, arith}
 use Rattle.std.proofs.Math.Pow.{pow_mono}
 use Rattle.std.proofs.lemmas.List.{length-map, length-take}
 use Rattle.std.proofs.lemmas.List.FromFn.{get_or-map-range_with_len}
@@ -8,20 +7,12 @@ use Rattle.ir_model.specs.Resolved.{Program, local_at}
 use Rattle.plan_model.specs.declared.needs.Needs.{Needs}
 use Rattle.plan_model.specs.declared.graph.Final.{Final}
 use Rattle.plan_model.specs.Lending.{lent}
-use Rattle.plan_model.specs.InitialGraph.{number_of_bits, mask_where, mask_of, read_mask_of, initial_graph}
+use Rattle.plan_model.specs.InitialGraph.{mask_where, mask_of, read_mask_of, initial_graph}
 use Rattle.plan_model.specs.FinalGraph.{IsFinal}
 use Rattle.plan_model.specs.Slots.{lend_mask, read_mask}
 use Rattle.link_model.specs.LinkedTables.{lend_sizes}
 use Rattle.linked_promises.proofs.Kept.{kept_final}
-
--- a number of so many bits
-bits_below : (bs : List Bool) → number_of_bits bs < 2 ^ length bs
-bits_below [] = lit< tt
-bits_below (b ∷ bs) = by b (bits_below bs)
-  where
-    by : (b : Bool) → number_of_bits bs < 2 ^ length bs → cond b 1 0 + 2 * number_of_bits bs < 2 ^ suc (length bs)
-    by true h = let e = pow-suc 2 (length bs) in omega (arith, e, h)
-    by false h = let e = pow-suc 2 (length bs) in omega (arith, e, h)
+use Rattle.linked_promises.proofs.RegionWords.{bits_below}
 
 mask_below : (n : Needs) (does : ℕ × ℕ → Bool) → mask_where n does < 2 ^ length n.lendable
 mask_below n does =

@@ -1,7 +1,7 @@
 -- The functions of a compartment: each has room in its code, and what holds of the pieces of each holds of all together.
 use Rattle.std.proofs.Common.{◌≡◌, ℕ, zero, suc, ◌+◌, ◌<◌, ◌≤◌, Bool, true, false, List, [], ◌∷◌, ◌++◌, length, take, get_or, flat_map, nat_eq, if◌then◌else◌, refl, subst, eq-eqb, arith}
 use Rattle.ir_model.specs.Resolved.{Program}
-use Rattle.lower.specs.CompartmentCode.{CodeGroups, compartment_of, members_from, before, filled_size, size_of, total_size, compartment_size}
+use Rattle.code_model.specs.CompartmentCode.{CodeGroups, compartment_of, members_from, before, filled_size, size_of, total_size, compartment_size}
 
 -- ---- lists of pieces
 

@@ -9,15 +9,16 @@ use Rattle.ir_model.specs.Plain.{PlainSlot, PlainStruct, PlainGlobal, PlainFunc,
 use Rattle.ir_model.specs.Layout.{Shape, Known, empty, shape_named, shape, with_field, laid_out, field_places, with_struct, known_behind, known}
 use Rattle.ir_model.specs.Resolved.{no_global, no_func, func_at, global_at, local_at}
 use Rattle.ir_model.specs.Resolve.{scope_of, has, resolved_func, resolved_global, resolve}
-use Rattle.ir_model.specs.Canonical.{Each, IsWithinLimits}
+use Rattle.ir_model.specs.Canonical.{IsWithinLimits}
+use Rattle.common_laws.specs.Lists.{Each}
 use Rattle.ir_model.specs.Extents.{HasElements, EachHasElements, AllHaveElements}
 use Rattle.ir_model.specs.Typing.{Checks, check, is_new, type_checks, field_checks, struct_checks, structs_checks, object_limit, init_checks, global_checks, globals_checks, local_checks, func_checks, funcs_checks, IsTyped}
 use Rattle.ir_model.proofs.Passing.{Pass, left, right, holds}
 use Rattle.ir_model.proofs.Counting.{many_at_least, rounded_at_least}
 use Rattle.ir_model.proofs.Elements.{firmware_elements}
-use Rattle.ir_model.proofs.ForEach.{each_both}
 use Rattle.ir_model.proofs.Limits.{HasParts, Limited, global_elements, limited}
 use Rattle.ir_model.proofs.Typed.{structs_named, periphs_named, parts_pass, by_parts}
+use Rattle.common_laws.proofs.Lists.{each_both}
 
 -- ---- types
 

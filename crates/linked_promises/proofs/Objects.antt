@@ -4,7 +4,8 @@ use Rattle.ir_model.specs.Types.{width_of}
 use Rattle.ir_model.specs.Layout.{CellPlace, Shape, empty}
 use Rattle.ir_laws.specs.Laws.{IsLaidOut}
 use Rattle.ir_laws.proofs.Layouts.{positive_width}
-use Rattle.thread_runs.specs.Areas.{Area, Each, Beside, Laid}
+use Rattle.thread_runs.specs.Areas.{Area, Beside, Laid}
+use Rattle.common_laws.specs.Lists.{Each}
 use Rattle.relation.specs.Relation.{cells_at, objects_at}
 use Rattle.linked_promises.proofs.Lists.{each_behind, each_weaker}
 

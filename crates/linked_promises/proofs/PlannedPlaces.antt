@@ -18,11 +18,11 @@ use Rattle.plan_model.specs.Crossing.{crossing_sites, stands_at, site_number}
 use Rattle.plan_model.specs.Lending.{lent, is_local, lend_number, lend_numbers_in}
 use Rattle.plan_model.specs.Placement.{global_address}
 use Rattle.layout.proofs.Searches.{position_is}
-use Rattle.lower.specs.FrameShape.{local_starts}
-use Rattle.lower.specs.Places.{site_in}
-use Rattle.lower.specs.CompartmentCode.{CodeGroups, CodePlaces, sites_of, lends_of, entry_of, places_of}
-use Rattle.lower.specs.Planned.{call_sites, code_groups, code_places}
-use Rattle.lower.specs.Laws.{SitesAgree}
+use Rattle.code_model.specs.FrameShape.{local_starts}
+use Rattle.code_model.specs.Places.{site_in}
+use Rattle.code_model.specs.CompartmentCode.{CodeGroups, CodePlaces, sites_of, lends_of, entry_of, places_of}
+use Rattle.code_model.specs.Planned.{call_sites, code_groups, code_places}
+use Rattle.code_model.specs.Laws.{SitesAgree}
 use Rattle.lower_laws.specs.Fitting.{TypedFunctionsFit}
 use Rattle.monitor.specs.TheCode.{monitor_code}
 use Rattle.linked_images.specs.Planned.{IsPlanned, plan}
@@ -63,7 +63,7 @@ module _ (law : ReadLaws) (placed : CodeIsPlaced) (fits : TypedFunctionsFit) (ag
       inner : q < length p.periphs → get_or places.windows q 0 < 2 ^ 32
       inner h =
           let e = get_or-map (λ (x : NumberedWindow). x.base) p.periphs q no_window 0 h in
-          let t = ((windows w ok.typed).each q h).to in
+          let t = ((windows w ok.typed).each q h).place.1 in
           omega (arith, e, t)
 
       outer : length p.periphs ≤ q → get_or places.windows q 0 < 2 ^ 32

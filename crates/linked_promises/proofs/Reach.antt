@@ -1,39 +1,22 @@
 -- What the needs of a function list, its compartment may reach.
-use Rattle.std.proofs.Common.{◌≡◌, ℕ, ◌<◌, ◌+◌, Bool, true, false, ◌&&◌, ◌||◌, List, [], ◌∷◌, length, cond, nat_eq, filter, refl, ap, ◌∙◌, subst, eq-eqb, arith}
+use Rattle.std.proofs.Common.{◌≡◌, ℕ, ◌<◌, Bool, true, ◌&&◌, List, length, nat_eq, refl, ap, ◌∙◌, subst, eq-eqb}
 use Rattle.std.specs.List.{list_any}
 use Rattle.std.specs.Ordering.{eq_by_cmp}
-use Rattle.std.specs.Cmp.{IsTotalOrder}
-use Rattle.std.proofs.lemmas.Cmp.{nat_cmp_total, on_total, then_total, eq_by_cmp_equiv}
-use Rattle.std.proofs.lemmas.List.Folds.{list_any-from_Any, list_any_at}
-use Rattle.std.proofs.lemmas.List.FromFn.{length-range_with_len, get_or-range_with_len}
+use Rattle.std.proofs.lemmas.Cmp.{eq_by_cmp_equiv}
+use Rattle.std.proofs.lemmas.List.Folds.{list_any-from_Any}
 use Rattle.ir_model.specs.declared.object.ObjId.{ObjId}
 use Rattle.ir_model.specs.declared.object.ObjId.TheVariants.{Global, Periph, Local, Func}
 use Rattle.ir_model.specs.State.{Object, GlobalObject, PeriphObject, LocalObject, FunctionObject}
-use Rattle.ir_model.specs.Objects.{object_by, compare_objects, kind_of, number_of, local_of}
+use Rattle.ir_model.specs.Objects.{object_by, compare_objects}
+use Rattle.ir_model.proofs.ObjectOrder.{objects_total}
 use Rattle.plan_model.specs.declared.groups.Groups.{Groups}
 use Rattle.plan_model.specs.Lists.{numbers_below}
 use Rattle.plan_model.specs.Groups.{compartment_of, functions_of}
 use Rattle.plan_model.specs.Needs.{has_object}
 use Rattle.depend.specs.Reached.{IsListed}
-
--- of the items that pass one test, one passes another
-pub any_filtered : {X : Type 0} (p q : X → Bool) (xs : List X) → list_any p (filter q xs) ≡ list_any (λ x. q x && p x) xs
-any_filtered p q [] = refl
-any_filtered p q (x ∷ xs) = by (q x) (any_filtered p q xs)
-  where
-    by : (b : Bool) → list_any p (filter q xs) ≡ list_any (λ x. q x && p x) xs → list_any p (cond b (x ∷ filter q xs) (filter q xs)) ≡ (b && p x || list_any (λ x. q x && p x) xs)
-    by true ih = ap (λ c. p x || c) ih
-    by false ih = ih
-
--- one number that passes is enough
-pub one_passes : (test : ℕ → Bool) (i n : ℕ) → i < n → test i ≡ true → list_any test (numbers_below n) ≡ true
-one_passes test i n l e =
-    let there = length-range_with_len 0 n in
-    let place : 0 + i ≡ i = omega arith in
-    list_any_at test (numbers_below n) i 0 (omega arith) (ap test (get_or-range_with_len 0 n i 0 l ∙ place) ∙ e)
-
-pub both : (a b : Bool) → a ≡ true → b ≡ true → (a && b) ≡ true
-both a b e f = ap (λ c. c && b) e ∙ f
+use Rattle.common_laws.proofs.Tests.{true_both as both}
+use Rattle.common_laws.proofs.Lists.{any_kept as any_filtered}
+use Rattle.plan_model.proofs.Numbers.{one_passes}
 
 -- one function of a compartment that passes is enough
 pub one_of : (g : Groups) (test : ℕ → Bool) (h : ℕ) → h < length g.of → test h ≡ true → list_any test (functions_of g (compartment_of g h)) ≡ true
@@ -55,9 +38,6 @@ same_object (Global x) = refl
 same_object (Periph q) = refl
 same_object (Local h l) = refl
 same_object (Func h) = refl
-
-objects_total : IsTotalOrder compare_objects
-objects_total = then_total (on_total kind_of nat_cmp_total) (then_total (on_total number_of nat_cmp_total) (on_total local_of nat_cmp_total))
 
 itself : (x : ObjId) → eq_by_cmp compare_objects x x ≡ true
 itself x = (eq_by_cmp_equiv objects_total).refl x

@@ -1,6 +1,6 @@
 -- Tables that are read from the flash of an image are those whose words stand there.
 use Rattle.std.proofs.Common.{◌≡◌, ℕ, ◌+◌, ◌-◌, ◌*◌, List, [], ◌∷◌, ◌++◌, length, drop, flat_map, sum_by, refl, sym, ap, ap₂, ◌∙◌, arith, length-append}
-use Rattle.armv7m.specs.Confinement.{Each}
+use Rattle.common_laws.specs.Lists.{Each}
 use Rattle.device_model.specs.declared.image.Image.{Image}
 use Rattle.monitor.specs.declared.tables.CompRecord.{CompRecord}
 use Rattle.monitor.specs.declared.tables.SiteRecord.{SiteRecord}

@@ -1,7 +1,7 @@
 -- On an open board no region has a reader, before joins and behind them.
 use Rattle.std.proofs.Common.{◌≡◌, ℕ, Bool, true, false, ◌||◌, List, [], length, map, filter, set, cond, Some, refl, ap, ap₂, sym, ◌∙◌, subst}
 use Rattle.ir_model.specs.Resolved.{Program}
-use Rattle.ir_model.specs.Canonical.{Each}
+use Rattle.common_laws.specs.Lists.{Each}
 use Rattle.plan_model.specs.declared.needs.Needs.{Needs}
 use Rattle.plan_model.specs.declared.groups.Groups.{Groups}
 use Rattle.plan_model.specs.declared.graph.Region.{Region}
@@ -16,7 +16,8 @@ use Rattle.plan_model.specs.FinalGraph.{Merges, stays, joins, IsFinal}
 use Rattle.plan_model.specs.Groups.{reads}
 use Rattle.ir_model.specs.declared.object.ObjId.TheVariants.{Global}
 use Rattle.linked_promises.proofs.Kept.{by_next}
-use Rattle.linked_promises.proofs.KeptItems.{each_filter, each_distinct, each_set, each_remove, each_or, each_mapped, each_anyway}
+use Rattle.linked_promises.proofs.KeptItems.{each_filter, each_distinct, each_set, each_remove, each_or, each_mapped}
+use Rattle.common_laws.proofs.Lists.{each_of as each_anyway}
 
 -- ---- no readers
 

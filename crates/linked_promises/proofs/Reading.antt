@@ -4,7 +4,7 @@ use Rattle.std.specs.Prelude.{slice_index}
 use Rattle.std.proofs.lemmas.List.{take-append-drop, length-take}
 use Rattle.words.specs.Bytes.{read}
 use Rattle.words.proofs.Bytes.{read-append_right}
-use Rattle.armv7m.specs.Confinement.{Each}
+use Rattle.common_laws.specs.Lists.{Each}
 use Rattle.mpu_model.specs.declared.region.Region.{Region}
 use Rattle.monitor.specs.declared.tables.CompRecord.{CompRecord}
 use Rattle.monitor.specs.declared.tables.SiteRecord.{SiteRecord}
@@ -12,12 +12,9 @@ use Rattle.monitor.specs.declared.tables.TargetRecord.{TargetRecord}
 use Rattle.monitor.specs.declared.tables.InitRecord.{InitRecord}
 use Rattle.monitor.specs.Area.{region_words, compartment_words, site_words, target_words, init_words}
 use Rattle.monitor.specs.FromFlash.{records, word_at, region_at, comp_record_at, site_record_at, target_record_at, init_record_at}
+use Rattle.monitor_laws.proofs.Tables.{slot_words as regions_long}
 
 -- ---- how many words records have
-
-regions_long : (gs : List Region) → length (flat_map region_words gs) ≡ 2 * length gs
-regions_long [] = refl
-regions_long (g ∷ gs) = let h = regions_long gs in omega (arith, h)
 
 comp_long : (slots : ℕ) (c : CompRecord) → length c.slots ≡ slots → 4 * length (compartment_words c) ≡ 8 * slots + 16
 comp_long slots c e =

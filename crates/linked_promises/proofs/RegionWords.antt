@@ -4,7 +4,7 @@ use Rattle.std.proofs.lemmas.Nat.{trailing_le}
 use Rattle.std.proofs.lemmas.List.{length-map, length-take}
 use Rattle.std.proofs.Math.Nat.{pow-suc}
 use Rattle.std.proofs.Math.Pow.{pow_mono}
-use Rattle.armv7m.specs.Confinement.{Each}
+use Rattle.common_laws.specs.Lists.{Each}
 use Rattle.mpu_model.specs.declared.words.Rights.{Rights}
 use Rattle.mpu_model.specs.declared.words.Rights.TheVariants.{Background, Code, Stack, Ram, Device}
 use Rattle.mpu_model.specs.RegionWords.{rights_word, region_of}
@@ -53,7 +53,7 @@ slots_fit n (suc k) (u ∷ us) h e =
 
 -- ---- masks
 
-bits_below : (bs : List Bool) → number_of_bits bs < 2 ^ length bs
+pub bits_below : (bs : List Bool) → number_of_bits bs < 2 ^ length bs
 bits_below [] = lit< tt
 bits_below (b ∷ bs) = by b (bits_below bs)
   where

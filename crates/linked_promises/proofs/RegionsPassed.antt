@@ -2,10 +2,9 @@
 use Rattle.std.proofs.Common.{◌≡◌, ℕ, zero, suc, ◌+◌, ◌^◌, ◌<◌, ◌≤◌, Bool, true, false, ◌||◌, List, [], ◌∷◌, length, map, filter, get_or, cond, None, refl, ap₂, sym, ◌∙◌, subst, lit<, arith}
 use Rattle.std.specs.List.{range_with_len}
 use mathlib.Core.Logic.{⊎_elim}
-use Rattle.ir_model.specs.Canonical.{Each}
-use Rattle.ir_model.proofs.ForEach.{each_both}
+use Rattle.common_laws.specs.Lists.{Each}
 use Rattle.device_model.specs.declared.image.Image.{Image}
-use Rattle.device_model.specs.Rules.{IsPowerBetween}
+use Rattle.windows.specs.Ranges.{IsPowerBetween, is_inside}
 use Rattle.mpu_model.specs.declared.words.Rights.TheVariants.{Background, Code, Ram}
 use Rattle.mpu_model.specs.RegionWords.{region_of}
 use Rattle.ir_model.specs.Plain.{PlainFirmware}
@@ -28,7 +27,7 @@ use Rattle.plan_model.specs.Slots.{SlotUse, data_slot, cover_slot, slot_uses, sl
 use Rattle.monitor.specs.declared.tables.Tables.{Tables}
 use Rattle.monitor.specs.declared.tables.CompRecord.{CompRecord}
 use Rattle.monitor.specs.Layout.{compartments_at, compartment_size}
-use Rattle.monitor.specs.RegionChecks.{is_inside, is_code, is_free, is_data, is_read_only, is_cover, is_slot, are_slots, is_mask, is_compartment}
+use Rattle.monitor.specs.RegionChecks.{is_code, is_free, is_data, is_read_only, is_cover, is_slot, are_slots, is_mask, is_compartment}
 use Rattle.monitor.specs.Checks.{regions_fail}
 use Rattle.link_model.specs.LinkedTables.{comp_record, tables_of}
 use Rattle.link_model.specs.LinkedImage.{linked}
@@ -46,6 +45,7 @@ use Rattle.linked_promises.proofs.CoverSlots.{covers_are_parts, cover_passes}
 use Rattle.linked_promises.proofs.DataSlotForms.{written_passes, read_passes}
 use Rattle.linked_promises.proofs.DataRanges as ranges
 use Rattle.linked_promises.proofs.DataRanges.{below_top, holds_data}
+use Rattle.common_laws.proofs.Lists.{each_both}
 
 -- ---- lists of slots
 

@@ -1,7 +1,8 @@
 -- The image of a planned firmware obeys the rules of images.
 use Rattle.std.proofs.Common.{◌≡◌, ◌%◌, ◌≤◌, inr, length, ap, sym, ◌∙◌, subst, arith}
 use Rattle.std.proofs.lemmas.List.{length-map}
-use Rattle.device_model.specs.Rules.{IsPowerBetween, IsStack, IsMonitor, ObeysRules}
+use Rattle.windows.specs.Ranges.{IsPowerBetween}
+use Rattle.device_model.specs.Rules.{IsStack, IsMonitor, ObeysRules}
 use Rattle.ir_model.specs.Plain.{PlainFirmware}
 use Rattle.ir_model.proofs.Limits.{few_periphs}
 use Rattle.ir_laws.specs.Limits.{WindowsLieApart}

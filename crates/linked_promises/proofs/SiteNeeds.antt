@@ -1,7 +1,7 @@
 -- The sites of a program's needs are calls of its functions.
 use Rattle.std.proofs.Common.{◌≡◌, ℕ, suc, ◌<◌, Bool, List, [], ◌∷◌, length, refl, arith}
 use Rattle.std.specs.List.{AllZip}
-use Rattle.armv7m.specs.Confinement.{Each}
+use Rattle.common_laws.specs.Lists.{Each}
 use Rattle.ir_model.specs.Resolved as ir
 use Rattle.ir_model.specs.Resolved.{Program, NumberedInst, block_at, func_at}
 use Rattle.ir_laws.specs.Sets.{ObjectSets}
@@ -12,7 +12,8 @@ use Rattle.plan_model.specs.Lists.{numbers_below}
 use Rattle.plan_model.specs.Calls.{CallPlace, calls_from, calls_of, call_places, IsSiteOf}
 use Rattle.plan_model.specs.Needs.{AreNeeds}
 use Rattle.plan_model.specs.Crossing.{crosses, crossing_sites}
-use Rattle.linked_promises.proofs.WordLists.{each_of, each_below, each_flat, each_kept}
+use Rattle.linked_promises.proofs.WordLists.{each_below, each_flat, each_kept}
+use Rattle.common_laws.proofs.Lists.{each_of}
 
 abbrev IsOf : ℕ → CallPlace → Type 0
 IsOf f c = c.func ≡ f

@@ -4,7 +4,7 @@ use Rattle.std.proofs.lemmas.Bool.{cases_lt}
 use Rattle.std.proofs.lemmas.List.{get_or-map, get_or_past}
 use Rattle.std.proofs.lemmas.List.Sums.{sum_by-cons}
 use mathlib.Core.Logic.{⊎_elim}
-use Rattle.armv7m.specs.Confinement.{Each}
+use Rattle.common_laws.specs.Lists.{Each}
 use Rattle.ir_model.specs.Plain.{PlainFirmware}
 use Rattle.ir_model.specs.Resolve.{resolve}
 use Rattle.ir_model.specs.Resolved.{Program, func_at}
@@ -21,9 +21,9 @@ use Rattle.plan_model.specs.Crossing.{crossing_sites, target_count}
 use Rattle.plan_model.specs.Groups.{compartment_of}
 use Rattle.plan_model.specs.Placement.{no_spot, compartment_spot}
 use Rattle.plan_model.specs.TableSize.{table_bytes}
-use Rattle.lower.specs.FunctionCode.{lent}
-use Rattle.lower.specs.CompartmentCode.{compartment_size}
-use Rattle.lower.specs.Planned.{code_groups, code_places, planned_entry}
+use Rattle.code_model.specs.FunctionCode.{lent}
+use Rattle.code_model.specs.CompartmentCode.{compartment_size}
+use Rattle.code_model.specs.Planned.{code_groups, code_places, planned_entry}
 use Rattle.monitor.specs.declared.tables.TargetRecord.{TargetRecord}
 use Rattle.monitor.specs.Area.{site_words, target_words}
 use Rattle.link_model.specs.LinkedTables.{planned_places, return_address, site_records, target_record, target_records, tables_of}
@@ -33,10 +33,12 @@ use Rattle.linked_images.proofs.Flash.{code_count}
 use Rattle.linked_images.proofs.ReadBack.{ReadLaws, code_length, code_fits}
 use Rattle.linked_images.proofs.Limits.{few}
 use Rattle.linked_images.proofs.TablesPass.{some}
-use Rattle.linked_promises.proofs.Compartments.{in_compartment, all_placed}
-use Rattle.linked_promises.proofs.WordLists.{IsWord, AreWords, each_map, each_of, each_flat}
+use Rattle.linked_promises.proofs.Compartments.{in_compartment}
+use Rattle.linked_promises.proofs.WordLists.{IsWord, AreWords, each_map, each_flat}
 use Rattle.linked_promises.proofs.CodeEnds.{site_reaches, entry_reaches, function_reaches}
 use Rattle.linked_promises.proofs.SiteNeeds.{sites_inside}
+use Rattle.common_laws.proofs.Lists.{each_of}
+use Rattle.plan_model.proofs.Compartments.{each_compartment as all_placed}
 
 module _ (law : ReadLaws) (typing : TypedOverNumbers) (w : PlainFirmware) (n : Needs) (f : Final) (b : Board) (ok : IsPlanned w n f b) where
   abbrev p : Program

@@ -1,7 +1,7 @@
 -- The check of sites passes.
 use Rattle.std.proofs.Common.{◌≡◌, ℕ, ◌+◌, ◌%◌, ◌<◌, true, length, refl, arith}
 use Rattle.std.specs.Prelude.{Contains}
-use Rattle.armv7m.specs.Confinement.{Each}
+use Rattle.common_laws.specs.Lists.{Each}
 use Rattle.ir_model.specs.Plain.{PlainFirmware}
 use Rattle.ir_model.specs.Resolve.{resolve}
 use Rattle.ir_model.specs.Resolved.{Program}
@@ -13,8 +13,8 @@ use Rattle.plan_model.specs.declared.plan.Board.{Board}
 use Rattle.plan_model.specs.declared.plan.Plan.{Plan}
 use Rattle.plan_model.specs.Groups.{compartment_of}
 use Rattle.plan_model.specs.Crossing.{crossing_sites}
-use Rattle.lower.specs.Laws.{CompartmentsHold}
-use Rattle.lower.specs.Planned.{code_groups, code_places, planned_entry}
+use Rattle.code_model.specs.Laws.{CompartmentsHold}
+use Rattle.code_model.specs.Planned.{code_groups, code_places, planned_entry}
 use Rattle.monitor.specs.declared.tables.Tables.{Tables}
 use Rattle.monitor.specs.Layout.{sites_at, targets_at}
 use Rattle.monitor.specs.Checks.{is_site, is_entry, is_target}

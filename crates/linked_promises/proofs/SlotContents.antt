@@ -46,7 +46,6 @@ use Rattle.linked_images.specs.Planned.{IsPlanned, plan, planned_sizes, planned_
 use Rattle.linked_images.proofs.Passing.{or_left, or_right}
 use Rattle.linked_images.proofs.Ranges.{globals_for}
 use Rattle.linked_promises.specs.Permissions.{IsOf, IsByteOf, IsOnPeripherals, IsInData, IsPermitted, OnPeripherals, InData, SlotsArePermitted, SlotsHoldPermissions}
-use Rattle.linked_promises.proofs.Reach.{both}
 use Rattle.linked_promises.proofs.Lists.{each_behind, each_weaker, each_passing, below_all}
 use Rattle.linked_promises.proofs.Bearing.{use_region}
 use Rattle.linked_promises.proofs.CoverParts.{each_map}
@@ -55,6 +54,7 @@ use Rattle.linked_promises.proofs.GlobalPlaces.{placed, byte_held, same_or_other
 use Rattle.linked_promises.proofs.DataSlots.{few_bits, slot_holds}
 use Rattle.linked_promises.proofs.DataRanges as ranges
 use Rattle.linked_promises.proofs.Opened.{SlotLaws, slots_are, slots_at}
+use Rattle.common_laws.proofs.Tests.{true_both as both}
 
 -- ---- lists
 

@@ -23,10 +23,10 @@ use Rattle.plan_model.specs.Placement.{compartment_spot, no_spot}
 use Rattle.plan_model.specs.Groups.{compartment_of}
 use Rattle.plan_model.specs.Crossing.{crossing_sites, stands_at, site_number, target_count}
 use Rattle.depend.specs.Reached.{HasTarget}
-use Rattle.lower.specs.Sizes.{site_offset}
-use Rattle.lower.specs.FunctionCode as code
-use Rattle.lower.specs.CompartmentCode.{compartment_size}
-use Rattle.lower.specs.Planned.{code_groups, planned_entry}
+use Rattle.code_model.specs.Sizes.{site_offset}
+use Rattle.code_model.specs.FunctionCode as code
+use Rattle.code_model.specs.CompartmentCode.{compartment_size}
+use Rattle.code_model.specs.Planned.{code_groups, planned_entry}
 use Rattle.monitor.specs.declared.tables.Tables.{Tables}
 use Rattle.monitor.specs.declared.tables.SiteRecord.{SiteRecord}
 use Rattle.monitor.specs.Records.{no_site, last_with_entry, targets_of}

@@ -11,13 +11,13 @@ use Rattle.ir_model.specs.declared.firmware.BinOp.{BinOp}
 use Rattle.ir_model.specs.declared.firmware.BinOp.TheVariants as bin
 use Rattle.ir_model.specs.declared.firmware.CmpOp.{CmpOp}
 use Rattle.ir_model.specs.declared.firmware.CmpOp.TheVariants as cmp
-use Rattle.lower.specs.Places.{Lend}
-use Rattle.lower.specs.Words.{load_slot, store_slot, save_code, slot_address, byte_into, word_into, supervisor_call}
-use Rattle.lower.specs.Numbers.{const_code, move_code, operation, bin_code}
-use Rattle.lower.specs.Comparisons.{condition, cmp_code}
-use Rattle.lower.specs.Addresses.{scale_of, elem_code, field_code, load_at, store_at, load_code, store_code}
-use Rattle.lower.specs.Calls.{args_code, callee_code}
-use Rattle.lower.specs.Entry.{sub_by, sub_code, add_by, add_code, stores_code, frame_code, lend_code, enter_code, unlend_code, result_code, leave_code}
+use Rattle.code_model.specs.Places.{Lend}
+use Rattle.code_model.specs.Words.{load_slot, store_slot, save_code, slot_address, byte_into, word_into, supervisor_call}
+use Rattle.code_model.specs.Numbers.{const_code, move_code, operation, bin_code}
+use Rattle.code_model.specs.Comparisons.{condition, cmp_code}
+use Rattle.code_model.specs.Addresses.{scale_of, elem_code, field_code, load_at, store_at, load_code, store_code}
+use Rattle.code_model.specs.Calls.{args_code, callee_code}
+use Rattle.code_model.specs.Entry.{sub_by, sub_code, add_by, add_code, stores_code, frame_code, lend_code, enter_code, unlend_code, result_code, leave_code}
 
 -- ---- single instructions
 

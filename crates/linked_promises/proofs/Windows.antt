@@ -1,6 +1,5 @@
 -- Where addresses of the windows of peripherals lead in the linked image.
-use Rattle.std.proofs.Common.{◌≡◌, ℕ, zero, suc, ◌<◌, ◌≤◌, ◌+◌, ◌-◌, ◌*◌, ◌/◌, ◌%◌, ◌^◌, true, false, not, ◌&&◌, List, [], ◌∷◌, length, map, get_or, nat_lt, refl, ap, sym, ◌∙◌, subst, lt-ltb, le-ltb, arith}
-use Rattle.std.proofs.Math.Bool.{and-false}
+use Rattle.std.proofs.Common.{◌≡◌, ℕ, zero, suc, ◌<◌, ◌≤◌, ◌+◌, ◌-◌, ◌*◌, ◌/◌, ◌%◌, ◌^◌, true, false, not, ◌&&◌, List, [], ◌∷◌, length, map, get_or, nat_lt, refl, ap, sym, ◌∙◌, subst, lt-ltb, arith}
 use Rattle.std.proofs.Math.Nat.{mul-mod_left}
 use Rattle.std.proofs.lemmas.Nat.{div-add-mod', pow-add}
 use Rattle.std.proofs.lemmas.List.{get_or-map, length-map}
@@ -21,17 +20,11 @@ use Rattle.link_model.specs.LinkedImage.{linked}
 use Rattle.linked_images.specs.Planned.{IsPlanned, planned_image}
 use Rattle.linked_images.proofs.Facts.{PlanLaws, length_is, needed_most}
 use Rattle.linked_promises.specs.Parts.{WindowsArePromised}
-use Rattle.linked_promises.proofs.Reach.{both}
 use Rattle.linked_promises.proofs.WindowsOpen.{FitsSlots, windows_are_open}
+use Rattle.mem_bus.proofs.Ranges.{outside_behind as behind_it, inside_yes as in_it}
 
 below_it : (base size a : ℕ) → a < base → inside base size a ≡ false
 below_it base size a l = ap (λ b. not b && nat_lt a (base + size)) (lt-ltb a base l)
-
-behind_it : (base size a : ℕ) → base + size ≤ a → inside base size a ≡ false
-behind_it base size a l = ap (λ b. not (nat_lt a base) && b) (le-ltb a (base + size) l) ∙ and-false (not (nat_lt a base))
-
-in_it : (base size a : ℕ) → base ≤ a → a < base + size → inside base size a ≡ true
-in_it base size a l h = both (not (nat_lt a base)) (nat_lt a (base + size)) (ap not (le-ltb a base l)) (lt-ltb a (base + size) h)
 
 -- ---- among windows
 
@@ -87,7 +80,7 @@ module _ (law : PlanLaws) (apart : WindowsLieApart) (w : PlainFirmware) (n : Nee
   unfolding place linked
   leads q at l m =
       let i = windows.each q l in
-      let from = i.from in
+      let from = i.place.0 in
       let base : ℕ = (window_at (resolve w) q).base in
       let a : ℕ = base + at in
       let high = is.board.ram_highest in
@@ -113,7 +106,7 @@ module _ (law : PlanLaws) (apart : WindowsLieApart) (w : PlainFirmware) (n : Nee
   aligned : (q : ℕ) → q < length (resolve w).periphs → get_or (map (λ (x : NumberedWindow). x.base) (resolve w).periphs) q 0 % 4 ≡ 0
   aligned q l =
       let i = windows.each q l in
-      ap (λ x. x % 4) (bases q l) ∙ multiple_of_four (window_at (resolve w) q).base i.power i.least (subst (λ s. (window_at (resolve w) q).base % s ≡ 0) i.size i.aligned)
+      ap (λ x. x % 4) (bases q l) ∙ multiple_of_four (window_at (resolve w) q).base i.power.0 i.power.1 (subst (λ s. (window_at (resolve w) q).base % s ≡ 0) i.power.3 i.aligned)
 
 pub windows_are_promised : PlanLaws → RegionsHoldTheirBlocks → RegionsGiveTheirRights → WindowsLieApart → FitsSlots → WindowsArePromised
 unfolding linked

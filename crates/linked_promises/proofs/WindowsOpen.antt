@@ -49,8 +49,11 @@ use Rattle.linked_promises.proofs.Bearing.{Bears, Lets, Harmless, Borne, here, t
 use Rattle.linked_promises.proofs.Covers.{any_in_order, stays_all}
 use Rattle.linked_promises.proofs.CoverParts.{IsPart, AreParts, parts_all, each_in_order, each_map}
 use Rattle.linked_promises.proofs.Compartments.{in_compartment}
-use Rattle.linked_promises.proofs.Reach.{any_filtered, one_passes, one_of, both}
+use Rattle.linked_promises.proofs.Reach.{one_of}
 use Rattle.linked_promises.proofs.Loans.{record_of}
+use Rattle.common_laws.proofs.Tests.{true_both as both}
+use Rattle.common_laws.proofs.Lists.{any_kept as any_filtered}
+use Rattle.plan_model.proofs.Numbers.{one_passes}
 
 -- ---- needs
 
@@ -93,8 +96,9 @@ module _ (p : Program) (n : Needs) (g : Groups) (c : ℕ) where
   window_part : HasWindows p → (q : ℕ) → q < length p.periphs → IsPart (cover_of p q)
   window_part h q l =
       let i = h.each q l in
-      let m = i.most in
-      record { power = i.power; least = i.least; most = omega (arith, m); size = i.size; aligned = subst (λ s. (window_at p q).base % s ≡ 0) i.size i.aligned; from = i.from; to = i.to }
+      let k = i.power in
+      let m = k.2 in
+      record { power = k.0; least = k.1; most = omega (arith, m); size = k.3; aligned = subst (λ s. (window_at p q).base % s ≡ 0) k.3 i.aligned; from = i.place.0; to = i.place.1 }
 
   below_all : (a m : ℕ) (k : ℕ) → a + m ≤ k → areas.Each (λ j. j < k) (range_with_len a m)
   below_all a zero k l = tt

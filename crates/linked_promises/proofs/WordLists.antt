@@ -2,22 +2,15 @@
 use Rattle.std.proofs.Common.{ℕ, zero, suc, ◌+◌, ◌^◌, ◌<◌, ◌≤◌, Bool, true, false, List, [], ◌∷◌, ◌++◌, map, filter, flat_map, cond, arith}
 use Rattle.std.specs.List.{range_with_len}
 use Rattle.words.proofs.Bytes.{read_fits}
-use Rattle.armv7m.specs.Confinement.{Each}
+use Rattle.common_laws.specs.Lists.{Each}
 use Rattle.armv7m.specs.Stack.{words_at}
+use Rattle.common_laws.proofs.Lists.{each_both}
 
 -- ---- each item
 
 pub each_map : {X Y : Type 0} (P : Y → Type 0) (f : X → Y) (Q : X → Type 0) (xs : List X) → ((x : X) → Q x → P (f x)) → Each Q xs → Each P (map f xs)
 each_map P f Q [] h e = tt
 each_map P f Q (x ∷ xs) h e = (h x e.0, each_map P f Q xs h e.1)
-
-pub each_of : {X : Type 0} (P : X → Type 0) → ((x : X) → P x) → (xs : List X) → Each P xs
-each_of P h [] = tt
-each_of P h (x ∷ xs) = (h x, each_of P h xs)
-
-pub each_both : {X : Type 0} (P : X → Type 0) (xs ys : List X) → Each P xs → Each P ys → Each P (xs ++ ys)
-each_both P [] ys e f = f
-each_both P (x ∷ xs) ys e f = (e.0, each_both P xs ys e.1 f)
 
 pub each_kept : {X : Type 0} (P : X → Type 0) (test : X → Bool) (xs : List X) → Each P xs → Each P (filter test xs)
 each_kept P test [] e = tt

@@ -8,10 +8,11 @@ use Rattle.armv7m.specs.Confinement.{AnyOf}
 use Rattle.armv7m.specs.Stack.{words_at}
 use Rattle.ir_model.specs.Resolved.{Program}
 use Rattle.plan_model.specs.TableSize.{words_in}
-use Rattle.lower.specs.declared.places.Places.{Places}
+use Rattle.code_model.specs.declared.places.Places.{Places}
 use Rattle.monitor.specs.declared.tables.InitRecord.{InitRecord}
 use Rattle.link_model.specs.FirstWords.{first_bytes, first_words}
 use Rattle.link_model.specs.LinkedTables.{Filled, init_records}
+use Rattle.armv7m.proofs.StackWords.{length-words_at as words_long}
 
 -- ---- reads of two memories that have the same bytes
 
@@ -49,11 +50,6 @@ bytes_of (suc w) a b m n e (suc i) lt =
     subst (λ x. slice_index m x % 256 ≡ slice_index n (b + suc i) % 256) s (subst (λ x. slice_index m (a + 1 + i) % 256 ≡ slice_index n x % 256) t r)
 
 -- ---- the words of a memory
-
-pub words_long : (k o : ℕ) (mem : List ℕ) → length (words_at k o mem) ≡ k
-unfolding words_at
-words_long zero o mem = refl
-words_long (suc k) o mem = ap suc (words_long k (o + 4) mem)
 
 word_there : (k o : ℕ) (mem : List ℕ) (j : ℕ) → j < k → slice_index (words_at k o mem) j ≡ read 4 (o + 4 * j) mem
 unfolding words_at

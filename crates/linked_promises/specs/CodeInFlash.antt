@@ -10,8 +10,8 @@ use Rattle.plan_model.specs.declared.needs.Needs.{Needs}
 use Rattle.plan_model.specs.declared.graph.Final.{Final}
 use Rattle.plan_model.specs.declared.plan.Board.{Board}
 use Rattle.plan_model.specs.Placement.{compartment_spot}
-use Rattle.lower.specs.CompartmentCode.{compartment_items, compartment_labels}
-use Rattle.lower.specs.Planned.{planned_code}
+use Rattle.code_model.specs.CompartmentCode.{compartment_items, compartment_labels}
+use Rattle.code_model.specs.Planned.{planned_code}
 use Rattle.code_effects.specs.Items.{ItemsIn}
 use Rattle.monitor.specs.declared.tables.Tables.{Tables}
 use Rattle.monitor.specs.Layout.{page_size}

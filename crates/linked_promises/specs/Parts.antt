@@ -6,7 +6,7 @@ use Rattle.ir_model.specs.Resolve.{resolve}
 use Rattle.plan_model.specs.declared.needs.Needs.{Needs}
 use Rattle.plan_model.specs.declared.graph.Final.{Final}
 use Rattle.plan_model.specs.declared.plan.Board.{Board}
-use Rattle.lower.specs.Planned.{code_places}
+use Rattle.code_model.specs.Planned.{code_places}
 use Rattle.monitor.specs.MonitorCode.{MonitorCode}
 use Rattle.device_model.specs.Rules.{block_size}
 use Rattle.monitor.specs.Setting.{Setting, setting_of}
@@ -19,7 +19,7 @@ use Rattle.ir_model.specs.State.{PeriphObject}
 use Rattle.ir_model.specs.Resolved.{window_at}
 use Rattle.relation.specs.Builds.{groups_of, compartment_of, entry_at}
 use Rattle.std.proofs.Math.ListN.{get_or}
-use Rattle.lower.specs.CompartmentCode.{compartment_size}
+use Rattle.code_model.specs.CompartmentCode.{compartment_size}
 use Rattle.linked_images.specs.Planned.{IsPlanned, plan, planned_tables, planned_image}
 
 -- what is linked of a planned firmware, with the monitor's code

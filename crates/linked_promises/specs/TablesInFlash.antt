@@ -2,7 +2,7 @@
 -- What flash has of the tables of every planned firmware: statements of laws.
 use Rattle.std.specs.Prelude.{◌≡◌, ℕ, ◌+◌, ◌*◌, ◌^◌, ◌<◌, length, slice_index}
 use Rattle.words.specs.Bytes.{read}
-use Rattle.armv7m.specs.Confinement.{Each}
+use Rattle.common_laws.specs.Lists.{Each}
 use Rattle.monitor.specs.Area.{area}
 use Rattle.monitor.specs.Layout.{page_size}
 use Rattle.monitor.specs.TheCode.{monitor_code}

@@ -4,12 +4,12 @@ ghost use Rattle.linked_promises.specs.CodeInFlash.{CodeIsExact, CodeLies, CodeP
 
 use crate::laws::code as placed;
 use code_effects::laws::items;
+use code_model::laws::{compartments, sites, sizes};
 use ir_laws::limits::windows;
 use ir_laws::typing::places as typed_places;
 use layout_laws::{flash, places, ram};
 use link_model::laws::counts;
 use linked_images::laws::flash_has;
-use lower::laws::{compartments, sites, sizes};
 use lower_laws::laws::{compartments as branches, typed};
 use monitor::code_size::page_is_full;
 use thumb_model::laws::{decoding_undoes_encoding, first_halfword_shows_length};

@@ -2,11 +2,11 @@
 
 ghost use Rattle.linked_promises.specs.InitialWords.{GlobalsBegin, InitsPass};
 
+use code_model::laws::compartments;
 use ir_laws::typing::places as typed_places;
 use layout_laws::{flash, globals, places, ram};
 use link_model::laws::counts;
 use linked_images::laws::flash_has;
-use lower::laws::compartments;
 use monitor::code_size::page_is_full;
 
 /// The check of the blocks that start-up fills passes: each begins and ends at a multiple of 4, is not empty, and lies in RAM apart

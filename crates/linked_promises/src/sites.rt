@@ -3,11 +3,11 @@
 ghost use Rattle.linked_promises.specs.Sites.{LendsPass, SitesPass, TargetsAreThere};
 
 use crate::laws::code;
+use code_model::laws::compartments;
 use ir_laws::limits::sizes;
 use ir_laws::typing::places as typed_places;
 use layout_laws::{flash, places, ram};
 use link_model::laws::counts;
-use lower::laws::compartments;
 
 /// The check of lent locals passes: each has 1 to 65,536 bytes.
 pub fn lends()

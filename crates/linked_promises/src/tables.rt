@@ -2,12 +2,12 @@
 
 ghost use Rattle.linked_promises.specs.TablesInFlash.{TablesReadBack, WordsFit, WordsStand};
 
+use code_model::laws::compartments;
 use ir_laws::limits::{sizes, windows};
 use ir_laws::typing::places as typed_places;
 use layout_laws::{flash, places, ram};
 use link_model::laws::counts;
 use linked_images::laws::flash_has;
-use lower::laws::compartments;
 use monitor::code_size::page_is_full;
 
 /// Each word of the tables of a planned image has 32 bits, so behind the page its flash has them as they are.

@@ -5,13 +5,13 @@ use Rattle.std.proofs.lemmas.List.FromFn.{length-map-range_with_len}
 use Rattle.std.proofs.lemmas.List.Elements.{All-nil, All-get_or}
 use Rattle.ir_model.specs.Resolved.{Program, func_at}
 use Rattle.ir_program.specs.Seen.{known_of, routine_of, variable_of, span_of}
-use Rattle.lower.specs.declared.places.CallSite.{CallSite}
-use Rattle.lower.specs.CompartmentCode.{entry_of}
-use Rattle.lower.specs.Fitting.{FuncFits}
+use Rattle.code_model.specs.declared.places.CallSite.{CallSite}
+use Rattle.code_model.specs.CompartmentCode.{entry_of}
+use Rattle.code_model.specs.Fitting.{FuncFits}
 use Rattle.lower_laws.specs.Fitting.{HasEach, TypedFunctionsFit}
-use Rattle.linker.specs.declared.making.Making.{Making}
-use Rattle.linker.specs.Grouped.{places_in}
-use Rattle.linker.specs.Making.{program_in, grouped, places_at, IsReady}
+use Rattle.link_entries.specs.declared.making.Making.{Making}
+use Rattle.link_entries.specs.Grouped.{places_in}
+use Rattle.link_entries.specs.Making.{program_in, grouped, places_at, IsReady}
 
 all_at : {X : Type 0} (P : X → Type 0) (xs : List (List X)) (k : ℕ) → ((j : ℕ) → j < length xs → All P (get_or xs j [])) → All P (get_or xs k [])
 all_at P [] k h = All-nil P

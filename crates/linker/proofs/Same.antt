@@ -17,13 +17,13 @@ use Rattle.plan_model.specs.Lending.{lent, lend_number}
 use Rattle.plan_model.specs.Boards.{slots_of}
 use Rattle.plan_model.specs.Placement.{no_spot, compartment_spot}
 use Rattle.plan_model.specs.TableSize.{unless_empty, filled_blocks, table_bytes}
-use Rattle.lower.specs.declared.places.CallSite.{CallSite}
-use Rattle.lower.specs.declared.places.Places.{Places}
-use Rattle.lower.specs.FrameShape.{local_starts}
-use Rattle.lower.specs.Places.{lends_among}
-use Rattle.lower.specs.Sizes.{site_offset}
-use Rattle.lower.specs.CompartmentCode.{CodeGroups, CodePlaces, entry_of, compartment_bytes}
-use Rattle.lower.specs.Planned.{code_groups, code_places, call_sites}
+use Rattle.code_model.specs.declared.places.CallSite.{CallSite}
+use Rattle.code_model.specs.declared.places.Places.{Places}
+use Rattle.code_model.specs.FrameShape.{local_starts}
+use Rattle.code_model.specs.Places.{lends_among}
+use Rattle.code_model.specs.Sizes.{site_offset}
+use Rattle.code_model.specs.CompartmentCode.{CodeGroups, CodePlaces, entry_of, compartment_bytes}
+use Rattle.code_model.specs.Planned.{code_groups, code_places, call_sites}
 use Rattle.monitor.specs.declared.tables.SiteRecord.{SiteRecord}
 use Rattle.monitor.specs.declared.tables.TargetRecord.{TargetRecord}
 use Rattle.monitor.specs.declared.tables.Tables.{Tables}
@@ -31,12 +31,13 @@ use Rattle.link_model.specs.FirstWords.{first_words}
 use Rattle.link_model.specs.LinkedTables as defined
 use Rattle.link_model.specs.LinkedTables.{Filled}
 use Rattle.link_model.specs.LinkedImage.{flash_size, erased, with_tables, with_code, flash_of}
-use Rattle.linker.specs.declared.making.Making.{Making}
-use Rattle.linker.specs.Grouped.{AreNumbers, groups_in}
-use Rattle.linker.specs.Bases.{base_in}
-use Rattle.linker.specs.Making.{program_in, grouped, places_at, bytes_in}
-use Rattle.linker.specs.Recorded.{site_records_in, target_in, target_records_in}
-use Rattle.linker.specs.Filling.{object_places}
+use Rattle.link_entries.specs.declared.making.Making.{Making}
+use Rattle.link_entries.specs.Grouped.{AreNumbers, groups_in}
+use Rattle.link_entries.specs.Bases.{base_in}
+use Rattle.link_entries.specs.Making.{program_in, grouped, places_at}
+use Rattle.linker.specs.Standing.{bytes_in}
+use Rattle.link_entries.specs.Recorded.{site_records_in, target_in, target_records_in}
+use Rattle.link_blocks.specs.Filling.{object_places}
 use Rattle.linker.specs.Placing.{with_code_of, flash_with}
 use Rattle.linker.specs.Parts.{AreAddresses, planned_places, one_if_any, words_at_counts, words_in_blocks, tables_in}
 use Rattle.linker.proofs.Linked.{places_are}

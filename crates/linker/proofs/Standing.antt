@@ -3,24 +3,18 @@ use Rattle.std.proofs.Common.{◌≡◌, ℕ, zero, suc, ◌+◌, ◌<◌, List,
 use Rattle.std.proofs.lemmas.List.Concat.{flat_map-append}
 use Rattle.thumb_asm.specs.declared.item.Item.{Item}
 use Rattle.thumb_asm.specs.declared.item.Item.TheVariants.{Plain, Branch, Half, Word}
-use Rattle.thumb_asm.specs.Assembly.{Assembly, AreItems, ArePut, here, total}
+use Rattle.thumb_asm.specs.Assembly.{Assembly, AreItems, ArePut, here}
 use Rattle.ir_model.specs.Resolved.{NumberedBlock, NumberedFunc, func_at}
-use Rattle.lower.specs.declared.places.Places.{Places}
-use Rattle.lower.specs.Sizes.{entry_size, block_size}
-use Rattle.lower.specs.FunctionCode.{lent, function_items, blocks_labels, function_labels}
-use Rattle.lower.specs.CompartmentCode.{filling, label_count, before, size_of, entry_of, places_of, filled_items}
-use Rattle.linker.specs.declared.making.Making.{Making}
-use Rattle.linker.specs.Making.{program_in, grouped, places_at, with_filled, standing}
-
-pub total-append : (xs ys : List Item) → total (xs ++ ys) ≡ total xs + total ys
-total-append [] ys = omega arith
-total-append (x ∷ xs) ys = let h = total-append xs ys in omega arith
+use Rattle.code_model.specs.declared.places.Places.{Places}
+use Rattle.code_model.specs.Sizes.{entry_size, block_size}
+use Rattle.code_model.specs.FunctionCode.{lent, function_items, blocks_labels, function_labels}
+use Rattle.code_model.specs.CompartmentCode.{filling, label_count, before, size_of, entry_of, places_of, filled_items}
+use Rattle.link_entries.specs.declared.making.Making.{Making}
+use Rattle.link_entries.specs.Making.{program_in, grouped, places_at}
+use Rattle.linker.specs.Standing.{with_filled, standing}
+use Rattle.code_model.proofs.Labels.{labels_length}
 
 -- ---- labels
-
-labels_length : (g : NumberedFunc) (q : Places) (at b : ℕ) (xs : List NumberedBlock) → length (blocks_labels g q at b xs) ≡ length xs
-labels_length g q at b [] = refl
-labels_length g q at b (x ∷ xs) = ap suc (labels_length g q (at + block_size g q.sites (lent g q) b x) (suc b) xs)
 
 -- a compartment's functions have as many labels as blocks
 pub labels_counted : (m : Making) (c : ℕ) (fs : List ℕ) → length (standing m c fs).places ≡ label_count (program_in m) (grouped m) fs

@@ -5,18 +5,20 @@ ghost use Rattle.thumb_asm.specs.Assembly.{here, ArePut};
 ghost use Rattle.thumb_asm.specs.Finished.{assembled};
 ghost use Rattle.ir_model.specs.Resolved.{func_at};
 ghost use Rattle.ir_program.specs.Seen.{program_of};
-ghost use Rattle.lower.specs.Places.{entry_address};
-ghost use Rattle.lower.specs.CompartmentCode.{filling};
-ghost use Rattle.lower.specs.Emitted.{IsNear, AreNear, size_in, with_more};
-ghost use Rattle.lower.specs.Fitting.{FuncFits};
-ghost use Rattle.linker.specs.Grouped.{places_in};
-ghost use Rattle.linker.specs.Making.{MayStand, with_filled, program_in, IsReady, standing, first_members, bytes_in};
+ghost use Rattle.code_model.specs.Places.{entry_address};
+ghost use Rattle.code_model.specs.CompartmentCode.{filling};
+ghost use Rattle.code_model.specs.Emitted.{IsNear, AreNear, size_in, with_more};
+ghost use Rattle.code_model.specs.Fitting.{FuncFits};
+ghost use Rattle.link_entries.specs.Grouped.{places_in};
+ghost use Rattle.link_entries.specs.Making.{program_in, IsReady};
+ghost use Rattle.linker.specs.Standing.{MayStand, with_filled, standing, first_members, bytes_in};
 
-use crate::entries::{base_of, size_of};
-use crate::making::Making;
-use crate::needed::places_for;
+use code_model::Places;
 use ir_program::program::Program;
-use lower::{Places, lower};
+use link_entries::entries::{base_of, size_of};
+use link_entries::making::Making;
+use link_entries::needed::places_for;
+use lower::lower;
 use std::alloc::{AllocError, Global};
 use thumb_asm::Asm;
 use thumb_model::Instr;
@@ -85,7 +87,7 @@ fn put_standing(
     requires size { size ≡ size_in places.now (func_at (program_of program.now) func) }
     ensures { OnOk result (asm.new ≡ with_filled asm.old (func_at (program_of program.now) func) places.now size) }
 {
-    lower::laws::sizes();
+    code_model::laws::sizes();
     lower(alloc, program, func, places, asm)?;
     put_filling(asm, size)
 }

@@ -3,6 +3,7 @@
 
 ghost use Rattle.std.specs.Prelude.{◌≡◌, ◌==◌, List, length};
 
+use std::alloc::Global;
 use std::marker::Model;
 
 /// A vector that contracts see, and compare, as the list of its items.
@@ -32,6 +33,11 @@ impl<T: Drop> ListVec<T> {
         ensures { result.now ≡ self.now }
     {
         self.items.as_slice()
+    }
+
+    /// Where the items lie.
+    pub fn allocator(&self) -> Global {
+        *self.items.allocator()
     }
 
     /// The number of items.

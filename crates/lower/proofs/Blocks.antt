@@ -1,6 +1,5 @@
 -- Blocks that are put piece by piece: what was put, and what is left.
 use Rattle.std.proofs.Common.{◌≡◌, ℕ, suc, ◌+◌, ◌-◌, ◌%◌, ◌<◌, ◌≤◌, Option, Some, List, [], ◌∷◌, ◌++◌, length, get_or, take, drop, set, replicate, flat_map, None, refl, ap, sym, ◌∙◌, append_assoc, arith}
-use Rattle.std.specs.List.{All}
 use Rattle.std.proofs.lemmas.List.{append-nil, drop_more, drop_all, length-map, get_or-map, length-drop, length-replicate, get_or-drop, get_or-replicate, drop-set-lt, drop-drop, drop-replicate, take_more_set}
 use Rattle.std.proofs.lemmas.List.Elements.{All-weaker, All-get_or}
 use Rattle.std.proofs.lemmas.List.Concat.{flat_map-append}
@@ -10,20 +9,20 @@ use Rattle.ir_model.specs.Resolved.{NumberedInst, NumberedTerm, NumberedBlock, N
 use Rattle.ir_program.specs.declared.program.Operation.{Operation}
 use Rattle.ir_program.specs.declared.program.Sequence.{Sequence}
 use Rattle.ir_program.specs.Seen.{known_of, operation_of, sequence_of}
-use Rattle.lower.specs.declared.places.Places.{Places}
+use Rattle.code_model.specs.declared.places.Places.{Places}
 use Rattle.lower.specs.declared.subject.Subject.{Subject}
-use Rattle.lower.specs.Places.{site_in, crosses}
-use Rattle.lower.specs.Templates.{inst_items, term_items}
-use Rattle.lower.specs.Sizes.{inst_size, block_size}
-use Rattle.lower.specs.FunctionCode.{lent, block_pieces, blocks_pieces, blocks_labels}
-use Rattle.lower.specs.Fitting.{InstFits, BlockFits}
+use Rattle.code_model.specs.Places.{site_in, crosses}
+use Rattle.code_model.specs.Templates.{inst_items, term_items}
+use Rattle.code_model.specs.Sizes.{block_size}
+use Rattle.code_model.specs.FunctionCode.{lent, block_pieces, blocks_pieces, blocks_labels}
+use Rattle.code_model.specs.Fitting.{InstFits, BlockFits}
 use Rattle.lower.specs.Subjects.{func_of, block_in, inst_of, items_of, IsSubject}
-use Rattle.lower.specs.Emitted.{with_more, HasRoom, IsNear, AreNear}
-use Rattle.lower.proofs.Totals.{total-append}
-use Rattle.lower.proofs.PieceSizes.{inst_total}
-use Rattle.lower.proofs.FunctionSizes.{block_total}
-use Rattle.lower.proofs.Even.{inst_even, insts_even, term_even}
+use Rattle.code_model.specs.Emitted.{with_more, HasRoom, IsNear, AreNear}
+use Rattle.code_model.proofs.PieceSizes.{inst_total}
+use Rattle.code_model.proofs.FunctionSizes.{block_total}
+use Rattle.code_model.proofs.Even.{inst_even, insts_even, term_even}
 use Rattle.lower.proofs.Putting.{here_more, first_fits, rest_fits, both_put}
+use Rattle.thumb_asm.proofs.Items.{total-append}
 
 -- entries that are near all of some code are near each part of it
 pub narrow : (from to low high : ℕ) (es : List ℕ) → from ≤ low → high ≤ to → AreNear from to es → AreNear low high es

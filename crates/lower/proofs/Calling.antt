@@ -6,11 +6,12 @@ use Rattle.thumb_model.specs.declared.table.Instr.{Instr}
 use Rattle.thumb_asm.specs.declared.item.Item.{Item}
 use Rattle.thumb_asm.specs.declared.item.Item.TheVariants.{Half}
 use Rattle.thumb_asm.specs.Assembly.{Assembly, here, total}
-use Rattle.lower.specs.Words.{plain, load_slot, save_code, word_into, supervisor_call}
-use Rattle.lower.specs.Calls.{args_code, call_code, cross_code, callee_code, icall_code, icross_code, call_items}
-use Rattle.lower.specs.Emitted.{with_more, HasRoom, IsNear}
-use Rattle.lower.proofs.PieceSizes.{args_total, call_items_total}
+use Rattle.code_model.specs.Words.{plain, load_slot, save_code, word_into, supervisor_call}
+use Rattle.code_model.specs.Calls.{args_code, call_code, cross_code, callee_code, icall_code, icross_code, call_items}
+use Rattle.code_model.specs.Emitted.{with_more, HasRoom, IsNear}
+use Rattle.code_model.proofs.PieceSizes.{call_items_total}
 use Rattle.lower.proofs.Putting.{more_more, room_first, room_rest, plain-append}
+use Rattle.code_model.proofs.Filling.{args_total}
 
 module _ (as_ : List ℕ) (i : ℕ) (d : ℕ) (l : i < length as_) where
   abbrev next_arg : List Instr

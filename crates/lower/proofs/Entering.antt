@@ -4,9 +4,9 @@ use Rattle.std.proofs.lemmas.List.{drop_more}
 use Rattle.thumb_model.specs.declared.table.Instr.{Instr}
 use Rattle.thumb_model.specs.declared.table.Instr.TheVariants.{PushPop}
 use Rattle.lower.specs.declared.subject.Lent.{Lent}
-use Rattle.lower.specs.Places.{Lend}
-use Rattle.lower.specs.Words.{plain, store_slot, slot_address, byte_into, supervisor_call}
-use Rattle.lower.specs.Entry.{sub_code, add_code, stores_code, frame_code, lend_code, unlend_code, result_code, leave_code}
+use Rattle.code_model.specs.Places.{Lend}
+use Rattle.code_model.specs.Words.{plain, store_slot, slot_address, byte_into, supervisor_call}
+use Rattle.code_model.specs.Entry.{sub_code, add_code, stores_code, frame_code, lend_code, unlend_code, result_code, leave_code}
 use Rattle.lower.specs.Subjects.{lend_of}
 use Rattle.lower.proofs.Putting.{plain-append}
 

@@ -3,18 +3,18 @@ use Rattle.std.proofs.Common.{◌≡◌, ℕ, zero, suc, ◌+◌, ◌*◌, ◌<�
 use Rattle.std.proofs.lemmas.List.{drop_more, drop_all, get_or-map}
 use Rattle.std.proofs.lemmas.List.FromFn.{get_or-map-range_with_len, length-map-range_with_len}
 use Rattle.thumb_asm.specs.declared.item.Label.{Label}
-use Rattle.ir_model.specs.Layout.{Shape}
 use Rattle.ir_model.specs.Resolved.{no_func, func_at}
 use Rattle.ir_program.specs.declared.program.Routine.{Routine}
 use Rattle.ir_program.specs.declared.program.Program.{Program}
 use Rattle.ir_program.specs.Seen.{known_of, routine_of, program_of}
-use Rattle.lower.specs.declared.places.Places.{Places}
+use Rattle.code_model.specs.declared.places.Places.{Places}
 use Rattle.lower.specs.declared.subject.Subject.{Subject}
-use Rattle.lower.specs.FrameShape.{local_size, starts_from, local_starts, frame_size}
-use Rattle.lower.specs.Fitting.{FuncFits}
+use Rattle.code_model.specs.FrameShape.{local_starts, frame_size}
+use Rattle.code_model.specs.Fitting.{FuncFits}
 use Rattle.lower.proofs.Sizing.{same_frame_size, same_local_starts}
-use Rattle.lower.specs.Places.{lends_among}
+use Rattle.code_model.specs.Places.{lends_among}
 use Rattle.lower.specs.Subjects.{func_of, labels_from, first_label, IsSubject}
+use Rattle.code_model.proofs.Frames.{starts_length}
 
 pub label_at : (first n b : ℕ) (d : Label) → b < n → get_or (labels_from first n) b d ≡ record { number = first + b }
 label_at first n b d h = let f : ℕ → Label = λ i. record { number = i } in get_or-map-range_with_len f first n b (first + b) d h refl
@@ -33,10 +33,6 @@ pub label_is : (s : Subject) (b : ℕ) (d : Label) → IsSubject s → b < lengt
 label_is s b d h l =
     ap (λ (ls : List Label). (get_or ls b d).number) h.labels
     ∙ ap (λ (x : Label). x.number) (label_at (first_label s.labels.items) (length (func_of s).blocks) b d l)
-
-starts_length : (n : ℕ) (ss : List Shape) → length (starts_from n ss) ≡ length ss
-starts_length n [] = refl
-starts_length n (s ∷ ss) = ap (λ k. suc k) (starts_length (n + local_size s) ss)
 
 pub locals_length : (s : Subject) → IsSubject s → length s.starts.items ≡ length (func_of s).locals
 locals_length s h = ap length h.starts ∙ starts_length (4 * length (func_of s).regs) (func_of s).locals

@@ -1,14 +1,14 @@
 -- Pieces that are put one behind the other, and the room that they take.
-use Rattle.std.proofs.Common.{◌≡◌, ℕ, ◌+◌, ◌<◌, ◌^◌, List, [], ◌∷◌, ◌++◌, map, length, get_or, drop, refl, sym, ap, ◌∙◌, arith, append_assoc}
-use Rattle.std.proofs.lemmas.List.{append-nil, drop_more, drop_all}
+use Rattle.std.proofs.Common.{◌≡◌, ℕ, ◌+◌, ◌<◌, ◌^◌, List, [], ◌∷◌, ◌++◌, length, get_or, drop, refl, sym, ap, ◌∙◌, arith, append_assoc}
+use Rattle.std.proofs.lemmas.List.{append-nil, drop_more}
 use Rattle.thumb_model.specs.declared.table.Instr.{Instr}
 use Rattle.thumb_model.specs.Table.{InTable, encode, width_of}
 use Rattle.thumb_asm.specs.declared.item.Item.{Item}
 use Rattle.thumb_asm.specs.declared.item.Item.TheVariants.{Plain}
 use Rattle.thumb_asm.specs.Assembly.{Assembly, here, total}
-use Rattle.lower.specs.Words.{plain}
-use Rattle.lower.specs.Emitted.{with_more, HasRoom, AreInTable}
-use Rattle.lower.proofs.Totals.{total-append}
+use Rattle.code_model.specs.Words.{plain}
+use Rattle.code_model.specs.Emitted.{with_more, HasRoom, AreInTable}
+use Rattle.thumb_asm.proofs.Items.{total-append}
 
 pub here_more : (a : Assembly) (xs : List Item) → here (with_more a xs) ≡ here a + total xs
 here_more a xs = let e = total-append a.items xs in omega arith

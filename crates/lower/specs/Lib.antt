@@ -1,17 +1,1 @@
-pub mod FrameShape
-pub mod Places
-pub mod Words
-pub mod Numbers
-pub mod Comparisons
-pub mod Addresses
-pub mod Calls
-pub mod Entry
-pub mod Templates
-pub mod Sizes
-pub mod FunctionCode
-pub mod CompartmentCode
-pub mod Emitted
-pub mod Fitting
 pub mod Subjects
-pub mod Laws
-pub mod Planned

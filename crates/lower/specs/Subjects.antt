@@ -11,12 +11,12 @@ use Rattle.ir_program.specs.declared.program.Operation.{Operation}
 use Rattle.ir_program.specs.Seen.{known_of, operation_of, routine_of}
 use Rattle.lower.specs.declared.subject.Lent.{Lent}
 use Rattle.lower.specs.declared.subject.Subject.{Subject}
-use Rattle.lower.specs.FrameShape.{frame_shape, local_starts}
-use Rattle.lower.specs.Places.{Lend}
-use Rattle.lower.specs.Words.{plain}
-use Rattle.lower.specs.Templates.{lends_of, inst_items, jump_items, test_code}
-use Rattle.lower.specs.FunctionCode.{block_pieces, blocks_pieces, blocks_labels}
-use Rattle.lower.specs.Fitting.{FuncFits}
+use Rattle.code_model.specs.FrameShape.{frame_shape, local_starts}
+use Rattle.code_model.specs.Places.{Lend}
+use Rattle.code_model.specs.Words.{plain}
+use Rattle.code_model.specs.Templates.{lends_of, inst_items, jump_items, test_code}
+use Rattle.code_model.specs.FunctionCode.{block_pieces, blocks_pieces, blocks_labels}
+use Rattle.code_model.specs.Fitting.{FuncFits}
 
 abbrev pub lend_of : Lent → Lend
 lend_of l = record { slot = l.slot; number = l.number }

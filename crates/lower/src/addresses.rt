@@ -6,11 +6,11 @@ ghost use Rattle.thumb_model.specs.declared.table.Instr.TheVariants.{AddSubRegis
 ghost use Rattle.ir_model.specs.Plain.{struct_of};
 ghost use Rattle.ir_model.specs.Layout.{known, shape};
 ghost use Rattle.ir_program.specs.Storages.{pointee_of};
-ghost use Rattle.lower.specs.Words as word;
-ghost use Rattle.lower.specs.Words.{plain};
-ghost use Rattle.lower.specs.Addresses as address;
-ghost use Rattle.lower.specs.Addresses.{elem_code, field_code, load_code, store_code};
-ghost use Rattle.lower.specs.Emitted.{with_more, HasRoom};
+ghost use Rattle.code_model.specs.Words as word;
+ghost use Rattle.code_model.specs.Words.{plain};
+ghost use Rattle.code_model.specs.Addresses as address;
+ghost use Rattle.code_model.specs.Addresses.{elem_code, field_code, load_code, store_code};
+ghost use Rattle.code_model.specs.Emitted.{with_more, HasRoom};
 
 use crate::instructions::{load_slot, put, save, slot_address, word_into};
 use ir_model::types::Ty;

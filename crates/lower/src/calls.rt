@@ -7,10 +7,10 @@ ghost use Rattle.thumb_model.specs.declared.table.Instr.TheVariants.{BranchLink}
 ghost use Rattle.thumb_asm.specs.declared.item.Item.TheVariants.{Half};
 ghost use Rattle.thumb_asm.specs.Assembly.{here, total};
 ghost use Rattle.thumb_asm.specs.Finished as finished;
-ghost use Rattle.lower.specs.Words as word;
-ghost use Rattle.lower.specs.Words.{plain, save_code};
-ghost use Rattle.lower.specs.Calls.{args_code, cross_code, callee_code, icall_code, icross_code, call_items, icall_items};
-ghost use Rattle.lower.specs.Emitted.{with_more, HasRoom, IsNear};
+ghost use Rattle.code_model.specs.Words as word;
+ghost use Rattle.code_model.specs.Words.{plain, save_code};
+ghost use Rattle.code_model.specs.Calls.{args_code, cross_code, callee_code, icall_code, icross_code, call_items, icall_items};
+ghost use Rattle.code_model.specs.Emitted.{with_more, HasRoom, IsNear};
 
 use crate::instructions::{load_slot, put, save, supervisor_call, word_into};
 use std::alloc::AllocError;

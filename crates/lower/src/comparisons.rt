@@ -1,10 +1,10 @@
 //! The code of comparisons.
 
 ghost use Rattle.std.specs.Prelude.{◌≡◌, ◌<◌, OnOk};
-ghost use Rattle.lower.specs.Words.{plain};
-ghost use Rattle.lower.specs.Comparisons as comparison;
-ghost use Rattle.lower.specs.Comparisons.{cmp_code};
-ghost use Rattle.lower.specs.Emitted.{with_more, HasRoom};
+ghost use Rattle.code_model.specs.Words.{plain};
+ghost use Rattle.code_model.specs.Comparisons as comparison;
+ghost use Rattle.code_model.specs.Comparisons.{cmp_code};
+ghost use Rattle.code_model.specs.Emitted.{with_more, HasRoom};
 
 use crate::instructions::{byte_into, load_slot, put, save};
 use ir_model::firmware::CmpOp;

@@ -4,10 +4,10 @@ ghost use Rattle.std.specs.Prelude.{◌≡◌, ◌-◌, ◌<◌, ◌≤◌, map,
 ghost use Rattle.std.specs.List.{All};
 ghost use Rattle.thumb_model.specs.Table.{InTable};
 ghost use Rattle.thumb_model.specs.declared.table.Instr.TheVariants.{AdjustStack};
-ghost use Rattle.lower.specs.Words.{plain};
-ghost use Rattle.lower.specs.Entry.{sub_code, add_code, stores_code, frame_code, lend_code, enter_code, unlend_code, result_code, leave_code};
+ghost use Rattle.code_model.specs.Words.{plain};
+ghost use Rattle.code_model.specs.Entry.{sub_code, add_code, stores_code, frame_code, lend_code, enter_code, unlend_code, result_code, leave_code};
 ghost use Rattle.lower.specs.Subjects.{lend_of, IsSmallLend};
-ghost use Rattle.lower.specs.Emitted.{with_more, HasRoom};
+ghost use Rattle.code_model.specs.Emitted.{with_more, HasRoom};
 
 use crate::instructions::{byte_into, load_slot, put, slot_address, store_slot, supervisor_call};
 use crate::subject::Lent;

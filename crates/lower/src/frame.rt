@@ -4,7 +4,7 @@ ghost use Rattle.std.specs.Prelude.{◌≡◌, ◌<◌, ◌≤◌, [], map, IfOk
 ghost use Rattle.std.specs.List.{All};
 ghost use Rattle.ir_program.specs.Storages.{shape_of};
 ghost use Rattle.ir_program.specs.Seen.{routine_of};
-ghost use Rattle.lower.specs.FrameShape as frames;
+ghost use Rattle.code_model.specs.FrameShape as frames;
 
 use ir_program::program::{Routine, Storage};
 use std::alloc::{AllocError, Global};

@@ -2,9 +2,9 @@
 
 ghost use Rattle.std.specs.Prelude.{◌≡◌, ◌<◌, OnOk};
 ghost use Rattle.thumb_model.specs.Table.{InTable};
-ghost use Rattle.lower.specs.Words as word;
-ghost use Rattle.lower.specs.Words.{plain};
-ghost use Rattle.lower.specs.Emitted.{with_more, HasRoom, AreInTable};
+ghost use Rattle.code_model.specs.Words as word;
+ghost use Rattle.code_model.specs.Words.{plain};
+ghost use Rattle.code_model.specs.Emitted.{with_more, HasRoom, AreInTable};
 
 use std::alloc::AllocError;
 use thumb_asm::Asm;

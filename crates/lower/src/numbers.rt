@@ -1,10 +1,10 @@
 //! The code of numbers, of copies, and of operations on two numbers.
 
 ghost use Rattle.std.specs.Prelude.{◌≡◌, ◌≢◌, ◌<◌, [], ◌∷◌, OnOk};
-ghost use Rattle.lower.specs.Words.{plain};
-ghost use Rattle.lower.specs.Numbers as number;
-ghost use Rattle.lower.specs.Numbers.{const_code, move_code, bin_code};
-ghost use Rattle.lower.specs.Emitted.{with_more, HasRoom, AreInTable};
+ghost use Rattle.code_model.specs.Words.{plain};
+ghost use Rattle.code_model.specs.Numbers as number;
+ghost use Rattle.code_model.specs.Numbers.{const_code, move_code, bin_code};
+ghost use Rattle.code_model.specs.Emitted.{with_more, HasRoom, AreInTable};
 ghost use Rattle.thumb_model.specs.Table.{InTable};
 ghost use Rattle.thumb_model.specs.declared.table.Instr.TheVariants.{Divide, DataRegister, AddSubRegister};
 ghost use Rattle.ir_model.specs.declared.firmware.BinOp.TheVariants as ops;

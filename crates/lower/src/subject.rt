@@ -5,13 +5,13 @@ ghost use Rattle.std.specs.List.{All};
 ghost use Rattle.ir_model.specs.Resolved.{func_at};
 ghost use Rattle.ir_program.specs.Seen.{known_of, routine_of, sequence_of, program_of};
 ghost use Rattle.std.proofs.Math.ListN.{get_or};
-ghost use Rattle.lower.specs.FrameShape.{frame_shape};
-ghost use Rattle.lower.specs.Places.{lends_among};
+ghost use Rattle.code_model.specs.FrameShape.{frame_shape};
+ghost use Rattle.code_model.specs.Places.{lends_among};
 ghost use Rattle.lower.specs.Subjects.{func_of, block_in, lend_of, labels_from, first_label, IsSubject, IsSmallLend};
-ghost use Rattle.lower.specs.Fitting.{FuncFits};
+ghost use Rattle.code_model.specs.Fitting.{FuncFits};
 
 use crate::frame::{frame_words, local_starts};
-use crate::places::Places;
+use code_model::Places;
 use ir_program::program::{Program, Routine, Sequence};
 use std::alloc::{AllocError, Global};
 use thumb_asm::{Asm, Label};

@@ -4,13 +4,13 @@ ghost use Rattle.std.specs.Prelude.{◌≡◌, ◌+◌, ◌%◌, ◌<◌, length
 ghost use Rattle.thumb_asm.specs.Assembly.{here, total};
 ghost use Rattle.ir_program.specs.Seen.{target_of, exit_of};
 ghost use Rattle.ir_model.specs.Resolved as resolved;
-ghost use Rattle.lower.specs.Words.{plain};
-ghost use Rattle.lower.specs.Addresses as address;
-ghost use Rattle.lower.specs.Templates as template;
-ghost use Rattle.lower.specs.Fitting.{InstFits, TermFits};
+ghost use Rattle.code_model.specs.Words.{plain};
+ghost use Rattle.code_model.specs.Addresses as address;
+ghost use Rattle.code_model.specs.Templates as template;
+ghost use Rattle.code_model.specs.Fitting.{InstFits, TermFits};
 ghost use Rattle.lower.specs.Subjects.{func_of, inst_of, items_of, branch_items, first_label, IsSubject, HasLabels};
-ghost use Rattle.lower.specs.FrameShape.{frame_shape};
-ghost use Rattle.lower.specs.Emitted.{with_more, HasRoom, AreNear};
+ghost use Rattle.code_model.specs.FrameShape.{frame_shape};
+ghost use Rattle.code_model.specs.Emitted.{with_more, HasRoom, AreNear};
 
 use crate::addresses::{put_elem, put_field, put_load, put_local_address, put_store};
 use crate::calls::{put_call, put_icall};
@@ -45,7 +45,7 @@ fn put_addr(asm: &mut Asm, subject: &Subject, to: usize, of: Target) -> Result<(
 }
 
 /// An instruction; `site` is the number of the call's site, where it is a call that may go to another compartment.
-#[tactic(auto, unfolding(crate::specs::Templates::inst_items))]
+#[tactic(auto, unfolding(code_model::specs::Templates::inst_items))]
 pub(crate) fn put_inst(
     asm: &mut Asm,
     subject: &Subject,
@@ -115,7 +115,7 @@ fn put_branch(
 }
 
 /// A block's end.
-#[tactic(auto, unfolding(crate::specs::Templates::term_items))]
+#[tactic(auto, unfolding(code_model::specs::Templates::term_items))]
 pub(crate) fn put_exit(asm: &mut Asm, subject: &Subject, exit: Exit) -> Result<(), AllocError>
     requires subject { IsSubject subject.now }
     requires fits { TermFits subject.now.places.now (func_of subject.now) (exit_of exit) }

@@ -1,26 +1,22 @@
 -- Every branch of a compartment's code reaches its label.
-use Rattle.std.proofs.Common.{◌≡◌, ◌≢◌, ℕ, suc, ◌+◌, ◌%◌, ◌<◌, ◌≤◌, ◌^◌, List, [], ◌∷◌, ◌++◌, length, take, drop, get_or, flat_map, Bool, true, false, if◌then◌else◌, nat_eq, Option, None, refl, sym, ap, subst, ◌∙◌, arith, append_assoc, length-append}
+use Rattle.std.proofs.Common.{◌≡◌, ℕ, suc, ◌+◌, ◌%◌, ◌<◌, ◌≤◌, ◌^◌, List, [], ◌∷◌, ◌++◌, length, take, drop, get_or, flat_map, Bool, true, false, if◌then◌else◌, nat_eq, Option, None, refl, sym, ap, subst, ◌∙◌, arith, append_assoc, length-append}
 use Rattle.std.proofs.Math.ListN.{get_or-append}
-use Rattle.std.proofs.lemmas.Bool.{eqb-true, eqb-false}
+use Rattle.std.proofs.lemmas.Bool.{eqb-true}
 use Rattle.std.proofs.lemmas.List.{get_or-append-add}
 use Rattle.std.proofs.lemmas.List.Concat.{flat_map-append}
-use Rattle.thumb_model.specs.Table.{encode}
 use Rattle.thumb_asm.specs.declared.item.Item.{Item}
 use Rattle.thumb_asm.specs.Assembly.{total}
 use Rattle.thumb_asm.specs.Finished.{first_far}
 use Rattle.ir_model.specs.Resolved.{Program, func_at}
-use Rattle.lower.specs.Sizes.{entry_size}
-use Rattle.lower.specs.FunctionCode.{lent, function_items, function_labels}
-use Rattle.lower.specs.CompartmentCode.{CodeGroups, CodePlaces, members_from, filled_size, filling, compartment_of, members, before, sites_of, size_of, total_size, label_count, entry_of, places_of, filled_items, compartment_labels}
-use Rattle.lower.specs.Laws.{SizesHold, SizesAreEven}
+use Rattle.code_model.specs.Sizes.{entry_size}
+use Rattle.code_model.specs.FunctionCode.{lent, function_items, function_labels}
+use Rattle.code_model.specs.CompartmentCode.{CodeGroups, CodePlaces, members_from, filled_size, filling, compartment_of, members, before, sites_of, size_of, total_size, label_count, entry_of, places_of, filled_items, compartment_labels}
+use Rattle.code_model.specs.Laws.{SizesHold, SizesAreEven}
 use Rattle.lower_laws.specs.Reaching.{StandFrom, JumpsInside, FunctionsReach, CompartmentsReach}
-use Rattle.lower_laws.proofs.Reaching.{total-append, far-append}
-use Rattle.lower_laws.proofs.Functions.{labels_length}
-
-filling_by : (n : ℕ) (b : Bool) → nat_eq (n % 4) 0 ≡ b → n % 2 ≡ 0 → n + total (filling n) ≡ filled_size n
-unfolding encode
-filling_by n true h e = let z : n % 4 ≡ 0 = eqb-true (n % 4) 0 h in rw h (omega arith)
-filling_by n false h e = let z : n % 4 ≢ 0 = eqb-false (n % 4) 0 h in rw h (omega arith)
+use Rattle.lower_laws.proofs.Reaching.{far-append}
+use Rattle.thumb_asm.proofs.Items.{total-append}
+use Rattle.code_model.proofs.Filling.{filling_by}
+use Rattle.code_model.proofs.Labels.{labels_length}
 
 filling_near : (ps : List (Option ℕ)) (at n : ℕ) (b : Bool) → nat_eq (n % 4) 0 ≡ b → first_far ps at (filling n) ≡ None
 filling_near ps at n true h = rw h refl

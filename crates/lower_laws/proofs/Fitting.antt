@@ -1,5 +1,5 @@
 -- Functions of typed firmwares are functions that code is made for.
-use Rattle.std.proofs.Common.{◌≡◌, ℕ, zero, suc, ◌<◌, ◌≤◌, List, [], ◌∷◌, length, get_or, map, Option, Some, None, refl, sym, subst, arith}
+use Rattle.std.proofs.Common.{◌≡◌, ℕ, zero, suc, ◌<◌, ◌≤◌, List, [], ◌∷◌, length, get_or, map, Option, Some, None, sym, subst, arith}
 use Rattle.std.specs.List.{All, Contains}
 use Rattle.std.proofs.lemmas.List.{get_or-map, length-map}
 use Rattle.std.proofs.lemmas.List.Elements.{All-from_get_or, Contains-get_or}
@@ -8,27 +8,19 @@ use Rattle.ir_model.specs.Plain.{PlainFunc, PlainFirmware, funcs_of}
 use Rattle.ir_model.specs.Layout.{known}
 use Rattle.ir_model.specs.Frames as frames
 use Rattle.ir_model.specs.Resolved as ir
-use Rattle.ir_model.specs.Resolved.{Program, NumberedInst, NumberedTerm, NumberedBlock, NumberedFunc, Named, TheGlobal, ThePeriph, TheLocal, Here, Does, Ends, func_at, here_in, no_block, no_func}
+use Rattle.ir_model.specs.Resolved.{Program, NumberedInst, NumberedTerm, NumberedFunc, Named, TheGlobal, ThePeriph, TheLocal, func_at, no_block, no_func}
 use Rattle.ir_model.specs.Resolve.{Scope, scope_of, resolved_func, resolve}
 use Rattle.ir_model.specs.Typing.{IsTyped}
 use Rattle.ir_model.specs.Signatures.{row_length}
 use Rattle.ir_laws.specs.Typed.{KeepsResult, CallTyped, IsThere, InstTyped, EndTyped, HereTyped, FuncTyped, Typed, TypedOverNumbers, sizes_of}
 use Rattle.ir_laws.specs.Limits.{IsFew, CountsAreLimited}
-use Rattle.lower.specs.declared.places.Places.{Places}
-use Rattle.lower.specs.FrameShape.{frame_size}
-use Rattle.lower.specs.Fitting.{IsRegister, IsKept, IsNamed, AreArguments, InstFits, TermFits, BlockFits, FuncFits}
-use Rattle.lower.specs.Laws.{FramesAgree}
+use Rattle.code_model.specs.declared.places.Places.{Places}
+use Rattle.code_model.specs.FrameShape.{frame_size}
+use Rattle.code_model.specs.Fitting.{IsRegister, IsKept, IsNamed, AreArguments, InstFits, TermFits, BlockFits, FuncFits}
+use Rattle.code_model.specs.Laws.{FramesAgree}
 use Rattle.lower_laws.specs.Reaching.{GoesInside, JumpsInside}
 use Rattle.lower_laws.specs.Fitting.{HasEach, TypedFunctionsFit, TypedJumpsInside}
-
-does_at : (is : List NumberedInst) (t : NumberedTerm) (k : ℕ) (d : NumberedInst) → k < length is → here_in is t k ≡ Does (get_or is k d)
-does_at [] t k d l = absurd (omega arith)
-does_at (i ∷ is) t zero d l = refl
-does_at (i ∷ is) t (suc k) d l = does_at is t k d (omega arith)
-
-ends_at : (is : List NumberedInst) (t : NumberedTerm) → here_in is t (length is) ≡ Ends t
-ends_at [] t = refl
-ends_at (i ∷ is) t = ends_at is t
+use Rattle.lower_laws.proofs.Here.{does_at, ends_at}
 
 as_many : (n m : ℕ) → ((k : ℕ) → k < n → k < m) → n ≤ m
 as_many zero m h = omega arith

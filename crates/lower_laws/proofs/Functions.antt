@@ -7,30 +7,28 @@ use Rattle.thumb_asm.specs.Finished.{distance, first_far}
 use Rattle.ir_model.specs.Resolved as ir
 use Rattle.ir_model.specs.Resolved.{NumberedInst, NumberedTerm, NumberedBlock, NumberedFunc, no_block}
 use Rattle.ir_model.specs.Signatures.{row_length}
-use Rattle.lower.specs.declared.places.Places.{Places}
-use Rattle.lower.specs.FrameShape.{frame_shape}
-use Rattle.lower.specs.Places.{entry_address, site_in, crosses}
-use Rattle.lower.specs.Words.{plain, save_code}
-use Rattle.lower.specs.Numbers.{const_code, move_code, bin_code}
-use Rattle.lower.specs.Comparisons.{cmp_code}
-use Rattle.lower.specs.Addresses.{addr_code, faddr_code, elem_code, field_code, load_code, store_code}
-use Rattle.lower.specs.Calls.{args_code, call_code, cross_code, icall_code, icross_code, call_items, icall_items}
-use Rattle.lower.specs.Entry.{leave_code, enter_code}
-use Rattle.lower.specs.Templates.{lends_of, entry_items, inst_items, jump_items, test_code, term_items}
-use Rattle.lower.specs.Sizes.{inst_size, term_size, entry_size, insts_size, block_size, blocks_size, function_size}
-use Rattle.lower.specs.FunctionCode.{lent, block_pieces, blocks_pieces, blocks_labels, function_items, function_labels}
-use Rattle.lower.specs.Laws.{SizesHold}
+use Rattle.code_model.specs.declared.places.Places.{Places}
+use Rattle.code_model.specs.FrameShape.{frame_shape}
+use Rattle.code_model.specs.Places.{entry_address, site_in, crosses}
+use Rattle.code_model.specs.Words.{plain, save_code}
+use Rattle.code_model.specs.Numbers.{const_code, move_code, bin_code}
+use Rattle.code_model.specs.Comparisons.{cmp_code}
+use Rattle.code_model.specs.Addresses.{addr_code, faddr_code, elem_code, field_code, load_code, store_code}
+use Rattle.code_model.specs.Calls.{args_code, call_code, cross_code, icall_code, icross_code, call_items, icall_items}
+use Rattle.code_model.specs.Entry.{leave_code, enter_code}
+use Rattle.code_model.specs.Templates.{lends_of, entry_items, inst_items, jump_items, test_code, term_items}
+use Rattle.code_model.specs.Sizes.{inst_size, term_size, entry_size, insts_size, block_size, blocks_size, function_size}
+use Rattle.code_model.specs.FunctionCode.{lent, block_pieces, blocks_pieces, blocks_labels, function_items, function_labels}
+use Rattle.code_model.specs.Laws.{SizesHold}
 use Rattle.lower_laws.specs.Reaching.{StandFrom, GoesInside, JumpsInside, FunctionsReach}
-use Rattle.lower_laws.proofs.Reaching.{total-append, far-append, plain_near, both_near, half_near, long_near}
+use Rattle.lower_laws.proofs.Reaching.{far-append, plain_near, both_near, half_near, long_near}
+use Rattle.thumb_asm.proofs.Items.{total-append}
+use Rattle.code_model.proofs.Labels.{labels_length}
 
 abbrev joined : List (List Item) → List Item
 joined xs = flat_map (λ (piece : List Item). piece) xs
 
 -- ---- labels
-
-pub labels_length : (g : NumberedFunc) (q : Places) (at b : ℕ) (xs : List NumberedBlock) → length (blocks_labels g q at b xs) ≡ length xs
-labels_length g q at b [] = refl
-labels_length g q at b (x ∷ xs) = ap suc (labels_length g q (at + block_size g q.sites (lent g q) b x) (suc b) xs)
 
 -- a block begins inside the code of the blocks
 label_inside : (g : NumberedFunc) (q : Places) (at b : ℕ) (xs : List NumberedBlock) (i : ℕ) → i < length xs →

@@ -2,3 +2,4 @@ mod Reaching
 mod Functions
 mod Compartments
 mod Fitting
+pub mod Here

@@ -9,12 +9,8 @@ use Rattle.thumb_asm.specs.declared.refusal.AsmRefusal.{AsmRefusal}
 use Rattle.thumb_asm.specs.declared.refusal.AsmRefusal.TheVariants.{FarBranch}
 use Rattle.thumb_asm.specs.Assembly.{branch_size, size_of, total, place_of}
 use Rattle.thumb_asm.specs.Finished.{reach, is_near, first_far}
-use Rattle.lower.specs.Words.{plain}
-use Rattle.lower.specs.Templates.{jump_items}
-
-pub total-append : (xs ys : List Item) → total (xs ++ ys) ≡ total xs + total ys
-total-append [] ys = omega arith
-total-append (x ∷ xs) ys = let h = total-append xs ys in omega arith
+use Rattle.code_model.specs.Words.{plain}
+use Rattle.code_model.specs.Templates.{jump_items}
 
 then_on : (b : Bool) (o p : Option AsmRefusal) (e : AsmRefusal) → (o ≡ None → p ≡ None) → (if b then o else Some e) ≡ None → (if b then p else Some e) ≡ None
 then_on true o p e on h = on h

@@ -5,10 +5,10 @@ use Rattle.std.proofs.Math.ListN.{get_or}
 use Rattle.thumb_asm.specs.Finished.{first_far}
 use Rattle.ir_model.specs.Resolved as ir
 use Rattle.ir_model.specs.Resolved.{Program, NumberedTerm, NumberedFunc, func_at, no_block}
-use Rattle.lower.specs.declared.places.Places.{Places}
-use Rattle.lower.specs.Sizes.{function_size}
-use Rattle.lower.specs.FunctionCode.{lent, function_items, function_labels}
-use Rattle.lower.specs.CompartmentCode.{CodeGroups, CodePlaces, compartment_size, compartment_items, compartment_labels}
+use Rattle.code_model.specs.declared.places.Places.{Places}
+use Rattle.code_model.specs.Sizes.{function_size}
+use Rattle.code_model.specs.FunctionCode.{lent, function_items, function_labels}
+use Rattle.code_model.specs.CompartmentCode.{CodeGroups, CodePlaces, compartment_size, compartment_items, compartment_labels}
 
 -- labels stand among others, from this number on
 abbrev pub StandFrom : (places : List (Option ℕ)) → (first : ℕ) → (labels : List (Option ℕ)) → Type 0

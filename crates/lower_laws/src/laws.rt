@@ -7,14 +7,14 @@ ghost use Rattle.lower_laws.specs.Fitting.{TypedFunctionsFit, TypedJumpsInside};
 pub fn functions()
     ensures { FunctionsReach }
 {
-    lower::laws::sizes();
+    code_model::laws::sizes();
 }
 
 /// Every branch of a compartment's code reaches its label.
 pub fn compartments()
     ensures { CompartmentsReach }
 {
-    lower::laws::sizes();
+    code_model::laws::sizes();
     functions();
 }
 
@@ -25,6 +25,6 @@ pub fn typed()
 {
     ir_laws::typing::places();
     ir_laws::limits::counts();
-    lower::laws::frames();
+    code_model::laws::frames();
     frames::laws::checked();
 }

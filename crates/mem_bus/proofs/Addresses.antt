@@ -4,7 +4,8 @@ use Rattle.std.specs.Prelude.{slice_get}
 use Rattle.std.proofs.lemmas.Bool.Decides.{nat_tests}
 use Rattle.device_model.specs.declared.image.Image.{Image}
 use Rattle.device_model.specs.declared.image.Window.{Window}
-use Rattle.device_model.specs.Rules.{ObeysRules, IsWindow, IsApart, AreApart, AreWindows, IsMonitor}
+use Rattle.windows.specs.Ranges.{AreApart}
+use Rattle.device_model.specs.Rules.{ObeysRules, IsWindow, IsApart, AreWindows, IsMonitor}
 use Rattle.mem_bus.specs.Places.{InRam, InFlash, InWindow, inside, find_window, place}
 use Rattle.mem_bus.proofs.Ranges.{inside_yes, inside_no}
 
@@ -55,7 +56,7 @@ pub place-window : (i : Image) (a k : ℕ) (w : Window) → ObeysRules i → sli
     → place i a ≡ InWindow k (a - w.base)
 unfolding place
 place-window i a k w r e l g =
-    let p = (window_at i.windows k w r.windows e).place in
+    let p = (window_at i.windows k w r.windows e).range.place in
     let ram = inside_no i.ram_base i.ram_size a (inr (omega (arith, p.0, r.ram_highest, r.ram_most))) in
     let flash = inside_no i.flash_base (length i.flash) a (inr (omega (arith, p.0, r.flash_highest, r.flash_most))) in
     let none : 0 + k ≡ k = omega arith in

@@ -1,4 +1,4 @@
-mod Ranges
+pub mod Ranges
 pub mod Addresses
 pub mod Placed
 mod Searches

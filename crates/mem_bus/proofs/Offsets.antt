@@ -87,9 +87,9 @@ flash_offsets i a o r = (flash_at i a o, λ h. in_flash i a o r h.0 h.1)
 
 -- ---- the mebibyte of flash
 
-no_window : (ws : List Window) (a : ℕ) → AreWindows ws → a < 0x40000000 → AnyHolds ws a 1 → ⊥
+pub no_window : (ws : List Window) (a : ℕ) → AreWindows ws → a < 0x40000000 → AnyHolds ws a 1 → ⊥
 no_window [] a w lt h = h
-no_window (x ∷ xs) a w lt (inl h) = let lo = w.0.place.0 in let b = h.0 in omega arith
+no_window (x ∷ xs) a w lt (inl h) = let lo = w.0.range.place.0 in let b = h.0 in omega arith
 no_window (x ∷ xs) a w lt (inr h) = no_window xs a w.2 lt h
 
 pub flash_alone : (i : Image) (a : ℕ) → ObeysRules i → i.flash_base ≤ a → a < i.flash_base + 0x100000 → place i a ≢ Nowhere → place i a ≡ InFlash (a - i.flash_base)

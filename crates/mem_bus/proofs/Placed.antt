@@ -1,5 +1,5 @@
 -- The place of an aligned access.
-use Rattle.std.proofs.Common.{◌≡◌, ◌<◌, ◌≤◌, inl, inr, ℕ, ◌+◌, ◌-◌, ◌*◌, ◌/◌, ◌%◌, ◌^◌, List, [], ◌∷◌, refl, ap, sym, ◌∙◌, Bool, true, false, length, suc, arith}
+use Rattle.std.proofs.Common.{◌≡◌, ◌<◌, ◌≤◌, inl, inr, ℕ, ◌+◌, ◌-◌, ◌*◌, ◌/◌, ◌%◌, ◌^◌, List, [], ◌∷◌, refl, ap, ◌∙◌, Bool, true, false, length, suc, arith}
 use Rattle.std.specs.Prelude.{◌↔◌}
 use Rattle.std.proofs.lemmas.Nat.{pow-add}
 use Rattle.std.proofs.Math.Nat.{mul-mod_right, mul_assoc, div-add-mod}
@@ -10,6 +10,7 @@ use Rattle.mem_bus.specs.Places.{Place, InRam, InFlash, InWindow, Nowhere, insid
 use Rattle.device_model.specs.Rules.{ObeysRules, IsWindow, AreWindows}
 use Rattle.mem_bus.proofs.Ranges.{inside_true, inside_yes}
 use Rattle.mem_bus.specs.Access.{further, HasBytes, Fits, AnyHolds, Holds}
+use Rattle.common_laws.proofs.Tests.{same_tests}
 
 -- a range that begins and ends at multiples of 4
 record IsAligned (b n : ℕ) : Type 0 where
@@ -28,11 +29,6 @@ inside_begins b s a w j r (inl e) m l h = omega arith
 inside_begins b s a w j r (inr (inl e)) m l h = (let n : a % 2 ≡ 0 = rw e at m in omega arith)
 inside_begins b s a w j r (inr (inr e)) m l h = (let n : a % 4 ≡ 0 = rw e at m in omega arith)
 
-same_tests : (x y : Bool) → (x ≡ true → y ≡ true) → (y ≡ true → x ≡ true) → x ≡ y
-same_tests true y h k = sym (h refl)
-same_tests false true h k = k refl
-same_tests false false h k = refl
-
 -- all bytes of an aligned access pass the test of an aligned range, or none does
 inside_further : (b s a w j : ℕ) → IsAligned b s → IsAccessWidth w → a % w ≡ 0 → j < w → inside b s (a + j) ≡ inside b s a
 inside_further b s a w j r v m l =
@@ -46,17 +42,17 @@ power_aligned n k e l =
     let split : k ≡ 2 + (k - 2) = omega arith in
     e ∙ (ap (λ x. 2 ^ x) split ∙ pow-add 2 2 (k - 2))
 
-multiple_aligned : (b n m : ℕ) → n ≡ 4 * m → b % n ≡ 0 → b % 4 ≡ 0
+pub multiple_aligned : (b n m : ℕ) → n ≡ 4 * m → b % n ≡ 0 → b % 4 ≡ 0
 multiple_aligned b n m e h =
     let f : n * (b / n) ≡ 4 * (m * (b / n)) = ap (λ x. x * (b / n)) e ∙ mul_assoc 4 m (b / n) in
     omega (arith, div-add-mod b n, f)
 
 window_aligned : (w : Window) → IsWindow w → IsAligned w.base w.size
 window_aligned w h =
-    let size = power_aligned w.size h.size.0 h.size.3 h.size.1 in
+    let size = power_aligned w.size h.range.power.0 h.range.power.3 h.range.power.1 in
     record {
-      base = multiple_aligned w.base w.size (2 ^ (h.size.0 - 2)) size h.aligned;
-      size = rw size (mul-mod_right 4 (2 ^ (h.size.0 - 2)));
+      base = multiple_aligned w.base w.size (2 ^ (h.range.power.0 - 2)) size h.range.aligned;
+      size = rw size (mul-mod_right 4 (2 ^ (h.range.power.0 - 2)));
     }
 
 ram_aligned : (i : Image) → ObeysRules i → IsAligned i.ram_base i.ram_size

@@ -1,5 +1,5 @@
 -- The test whether an address lies in a range.
-use Rattle.std.proofs.Common.{◌≡◌, ◌<◌, ◌≤◌, ◌⊎◌, ℕ, ◌+◌, true, false, arith}
+use Rattle.std.proofs.Common.{◌≡◌, ◌<◌, ◌≤◌, ◌⊎◌, ℕ, ◌+◌, true, false, arith, ◌-◌}
 use Rattle.std.proofs.lemmas.Bool.Decides.{nat_tests}
 use Rattle.mem_bus.specs.Places.{inside}
 
@@ -15,3 +15,6 @@ inside_yes b s a h k = grind (arith, nat_tests)
 
 pub inside_no : (b s a : ℕ) → (a < b) ⊎ (b + s ≤ a) → inside b s a ≡ false
 inside_no b s a h = grind (arith, nat_tests)
+
+pub outside_behind : (base size a : ℕ) → base + size ≤ a → inside base size a ≡ false
+outside_behind base size a h = grind (arith, nat_tests)

@@ -4,7 +4,7 @@ use Rattle.std.specs.Prelude.{◌≡◌, ℕ, ◌+◌, ◌≤◌, ◌⊎◌, Lis
 use Rattle.device_model.specs.declared.image.Image.{Image}
 use Rattle.device_model.specs.declared.image.Window.{Window}
 use Rattle.mem_bus.specs.Places.{Place, InRam, InFlash, InWindow, Nowhere}
-use Rattle.device_model.specs.Rules.{IsInside}
+use Rattle.windows.specs.Ranges.{IsInside}
 
 -- the place that lies further on
 abbrev pub further : ℕ → Place → Place

@@ -1,5 +1,5 @@
 -- The code of the handler of MemManage has an encoding, and names r0 to r7 alone.
-use Rattle.std.proofs.Common.{◌≡◌, ℕ, ◌+◌, ◌^◌, ◌<◌, ◌≤◌, Bool, true, false, List, [], ◌∷◌, nat_lt, refl, ◌∙◌, arith}
+use Rattle.std.proofs.Common.{◌≡◌, ℕ, ◌+◌, ◌^◌, ◌<◌, ◌≤◌, Bool, true, false, nat_lt, refl, ◌∙◌, arith}
 use Rattle.std.proofs.lemmas.Bool.Decides.{nat_tests}
 use Rattle.thumb_model.specs.Bytes.{EachInTable}
 use Rattle.words.specs.declared.memory.Width.TheVariants.{Word}
@@ -7,18 +7,14 @@ use Rattle.gate_steps.specs.Steps.{Steps, End, Load, Store, Halt, names_low}
 use Rattle.gate_steps.specs.Code.{code_length, code}
 use Rattle.monitor.specs.declared.tables.Tables.{Tables}
 use Rattle.monitor.specs.Constants.{Constants, constants_with}
-use Rattle.monitor.specs.Opening.{times, bits_of}
+use Rattle.monitor.specs.Opening.{bits_of}
 use Rattle.monitor.specs.Offsets.{record_mask, record_reads}
 use Rattle.monitor.specs.MemFault.{loan_turn, scan, by_width, finished, widths, stores, loads, memfault}
 use Rattle.handler_runs.proofs.Encodable.{Words, words_fit, times_words}
 use Rattle.monitor_laws.proofs.Encoded.{fits_fields, times_fields, in_table}
+use Rattle.monitor_laws.proofs.Appended.{times_low}
 
 -- ---- products
-
-times_low : (bs : List Bool) (k : Steps) → names_low (times 6 5 bs k) ≡ names_low k
-times_low [] k = refl
-times_low (true ∷ bs) k = times_low bs k
-times_low (false ∷ bs) k = times_low bs k
 
 -- ---- the handler
 

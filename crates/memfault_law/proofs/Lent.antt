@@ -9,7 +9,7 @@ use Rattle.mpu_model.specs.declared.region.Access.TheVariants.{Read, Write}
 use Rattle.device_model.specs.declared.image.Image.{Image}
 use Rattle.mem_bus.specs.Places.{choose}
 use Rattle.armv7m.specs.State.{State}
-use Rattle.armv7m.specs.Confinement.{Each}
+use Rattle.common_laws.specs.Lists.{Each}
 use Rattle.gate_steps.specs.Core.{Core}
 use Rattle.monitor.specs.declared.tables.Tables.{Tables}
 use Rattle.monitor.specs.Records.{compartment_at, stack_end}

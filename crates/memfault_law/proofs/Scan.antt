@@ -22,7 +22,7 @@ use Rattle.monitor.specs.Placed.{Placed, IsCompartment}
 use Rattle.monitor.specs.BlockWords.{loan_address, loan_end, loan_number}
 use Rattle.monitor.specs.Constants.{Constants, constants_with}
 use Rattle.monitor.specs.MemFault.{loan_turn, scan}
-use Rattle.monitor_laws.proofs.FlashWords.{Has, has_back, has_record, each_at}
+use Rattle.monitor_laws.proofs.FlashWords.{Has, has_back, has_record}
 use Rattle.monitor_laws.proofs.Tables.{slot_words, record_at, slots_are, behind_head, counts, has_compartment}
 use Rattle.monitor_laws.proofs.Placement.{writable, loans_at_is}
 use Rattle.monitor_laws.proofs.Written.{record_of_within}
@@ -32,6 +32,7 @@ use Rattle.monitor_laws.proofs.HandlerRule.{HandlerRule, handlers_reach}
 use Rattle.monitor_laws.proofs.HandlerWords.{InStack, frame_load_within}
 use Rattle.memfault_law.proofs.Wide.{test_within}
 use Rattle.memfault_law.proofs.Lent.{one_or, by_words, hits}
+use Rattle.common_laws.proofs.Lists.{each_at}
 
 -- what the number 1 or 0 says
 chosen : (b : Bool) → nat_eq (one_or b 0) 1 ≡ true → b ≡ true

@@ -44,7 +44,7 @@ zeros = record {
   closed = false;
 }
 
-abbrev of_kind : Constants → (slots : ℕ) → (closed : Bool) → Constants
+abbrev pub of_kind : Constants → (slots : ℕ) → (closed : Bool) → Constants
 of_kind c n b = record c { slots = n; closed = b }
 
 -- no other number counts

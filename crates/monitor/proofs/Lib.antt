@@ -1,1 +1,2 @@
-mod Lengths
+pub mod Lengths
+pub mod Multiples

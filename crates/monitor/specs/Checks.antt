@@ -1,6 +1,7 @@
 -- Beyond the program's claim: only laws, proofs and functions inside the tool cite this file.
 -- The seven checks of an image whose tables are these, each with the address at which it fails first.
 use Rattle.std.specs.Prelude.{ℕ, ◌+◌, ◌-◌, ◌*◌, ◌%◌, Bool, true, false, ◌&&◌, not, List, [], ◌∷◌, length, Option, Some, None, nat_eq, nat_lt, nat_le}
+use Rattle.windows.specs.Ranges.{are_apart, is_inside}
 use Rattle.mpu_model.specs.Regions.{holds}
 use Rattle.device_model.specs.declared.image.Image.{Image}
 use Rattle.device_model.specs.Rules.{block_size}
@@ -10,7 +11,7 @@ use Rattle.monitor.specs.declared.tables.InitRecord.{InitRecord}
 use Rattle.monitor.specs.declared.tables.Tables.{Tables}
 use Rattle.monitor.specs.Records.{compartment_at}
 use Rattle.monitor.specs.Layout.{page_size, head_size, head_at, compartment_size, compartments_at, sites_at, targets_at, lends_at, inits_at, initial_words_at, area_end, tables_size}
-use Rattle.monitor.specs.RegionChecks.{are_apart, is_inside, is_data_range, is_compartment}
+use Rattle.monitor.specs.RegionChecks.{is_data_range, is_compartment}
 
 -- ---- where a check fails
 

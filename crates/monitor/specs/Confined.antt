@@ -5,7 +5,7 @@ use Rattle.device_model.specs.declared.image.Image.{Image}
 use Rattle.armv7m.specs.State.{State, by_mpu, is_unprivileged}
 use Rattle.armv7m.specs.Step.{turn, step, event}
 use Rattle.armv7m.specs.Run.{start}
-use Rattle.armv7m.specs.Confinement.{Each}
+use Rattle.common_laws.specs.Lists.{Each}
 use Rattle.armv7m.specs.Code.{HoldsHalf}
 use Rattle.monitor.specs.declared.tables.SiteRecord.{SiteRecord}
 use Rattle.monitor.specs.declared.tables.TargetRecord.{TargetRecord}

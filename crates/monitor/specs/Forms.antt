@@ -7,7 +7,8 @@ use Rattle.mpu_model.specs.declared.words.Rights.TheVariants.{Background, Code, 
 use Rattle.mpu_model.specs.Regions.{holds}
 use Rattle.mpu_model.specs.RegionWords.{region_of, IsHeld}
 use Rattle.device_model.specs.declared.image.Image.{Image}
-use Rattle.device_model.specs.Rules.{IsInside, AreApart, block_size}
+use Rattle.windows.specs.Ranges.{IsInside, AreApart, peripherals_base, peripherals_size}
+use Rattle.device_model.specs.Rules.{block_size}
 use Rattle.monitor.specs.declared.tables.Tables.{Tables}
 
 -- what `region` asks of a block
@@ -45,7 +46,7 @@ pub data SlotForm (i : Image) (t : Tables) (number : ℕ) (g : Region) : Type 0 
   ReadOnly : (base size srd : ℕ) → i.closed ≡ true → IsRegionBlock number base size srd → g ≡ region_of number base size srd Background →
       HoldsData i t base size srd → SlotForm i t number g
   -- a range in the peripherals' part of the memory map
-  Cover : (base size : ℕ) → IsRegionBlock number base size 0 → g ≡ region_of number base size 0 Device → IsInside base size 0x40000000 0x20000000 →
+  Cover : (base size : ℕ) → IsRegionBlock number base size 0 → g ≡ region_of number base size 0 Device → IsInside base size peripherals_base peripherals_size →
       SlotForm i t number g
 
 abbrev pub SlotForms : Image → Tables → (number : ℕ) → List Region → Type 0

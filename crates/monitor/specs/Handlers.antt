@@ -9,7 +9,7 @@ use Rattle.armv7m.specs.declared.state.End.{End}
 use Rattle.armv7m.specs.State.{State, by_mpu}
 use Rattle.armv7m.specs.Step.{turn, step}
 use Rattle.armv7m.specs.Exceptions.{mem_manage, supervisor_call, entered as entry, is_frame_open, frame_at}
-use Rattle.armv7m.specs.Confinement.{Each}
+use Rattle.common_laws.specs.Lists.{Each}
 use Rattle.armv7m.specs.Code.{HoldsHalf}
 use Rattle.monitor.specs.declared.tables.Tables.{Tables}
 use Rattle.monitor.specs.Records.{rounded, lend_size}

@@ -7,7 +7,7 @@ use Rattle.device_model.specs.Rules.{block_size}
 use Rattle.armv7m.specs.State.{State}
 use Rattle.armv7m.specs.RunningCode.{Context}
 use Rattle.armv7m.specs.Shape.{StateFits}
-use Rattle.armv7m.specs.Confinement.{Each}
+use Rattle.common_laws.specs.Lists.{Each}
 use Rattle.monitor.specs.declared.tables.Tables.{Tables}
 use Rattle.monitor.specs.Records.{eighth, stack_end, lend_size}
 use Rattle.monitor.specs.Regions.{regions_for}

@@ -7,8 +7,9 @@ use Rattle.mpu_model.specs.declared.region.Access.TheVariants.{Read, Write, Fetc
 use Rattle.mpu_model.specs.Regions.{holds, allows}
 use Rattle.mpu_model.specs.Configured.{AreNumbered}
 use Rattle.device_model.specs.declared.image.Image.{Image}
-use Rattle.device_model.specs.Rules.{ObeysRules, IsStack, IsInside, AreApart, block_size}
-use Rattle.armv7m.specs.Confinement.{Each}
+use Rattle.device_model.specs.Rules.{ObeysRules, IsStack, block_size}
+use Rattle.common_laws.specs.Lists.{Each}
+use Rattle.windows.specs.Ranges.{IsInside, AreApart}
 use Rattle.monitor.specs.declared.tables.CompRecord.{CompRecord}
 use Rattle.monitor.specs.declared.tables.TargetRecord.{TargetRecord}
 use Rattle.monitor.specs.declared.tables.Tables.{Tables}

@@ -2,8 +2,9 @@
 -- What is promised of the monitor, each as one statement, and how they rest on one another. `code` is the monitor's own code.
 use Rattle.std.specs.Prelude.{List, [], ◌∷◌, ◌-◌}
 use Rattle.device_model.specs.declared.image.Image.{Image}
-use Rattle.device_model.specs.Rules.{ObeysRules, AreApart}
-use Rattle.armv7m.specs.Confinement.{Each}
+use Rattle.device_model.specs.Rules.{ObeysRules}
+use Rattle.common_laws.specs.Lists.{Each}
+use Rattle.windows.specs.Ranges.{AreApart}
 use Rattle.monitor.specs.declared.tables.InitRecord.{InitRecord}
 use Rattle.monitor.specs.declared.tables.Tables.{Tables}
 use Rattle.monitor.specs.MonitorCode.{MonitorCode}

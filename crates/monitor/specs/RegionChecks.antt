@@ -7,18 +7,13 @@ use Rattle.mpu_model.specs.declared.words.Rights.{Rights}
 use Rattle.mpu_model.specs.declared.words.Rights.TheVariants.{Background, Code, Ram, Device}
 use Rattle.mpu_model.specs.Regions.{size_log, is_of_legal_size}
 use Rattle.mpu_model.specs.RegionWords.{rights_word}
+use Rattle.windows.specs.Ranges.{is_inside, are_apart, peripherals_base, peripherals_size}
 use Rattle.device_model.specs.declared.image.Image.{Image}
 use Rattle.device_model.specs.Rules.{block_size}
 use Rattle.monitor.specs.declared.tables.CompRecord.{CompRecord}
 use Rattle.monitor.specs.declared.tables.Tables.{Tables}
 
 -- ---- ranges of addresses
-
-abbrev pub is_inside : (base size outer outer_size : ℕ) → Bool
-is_inside b n o m = nat_le o b && nat_le (b + n) (o + m)
-
-abbrev pub are_apart : (base size other other_size : ℕ) → Bool
-are_apart b n c m = nat_le (b + n) c || nat_le (c + m) b
 
 -- in RAM, apart from the stack and from the monitor's block
 abbrev pub is_data_range : Image → Tables → (base size : ℕ) → Bool
@@ -74,7 +69,7 @@ is_read_only i t n g = i.closed && (has_form n (taken_out g) Background g && hol
 
 -- in the peripherals' part of the memory map
 abbrev pub is_cover : (number : ℕ) → Region → Bool
-is_cover n g = has_form n 0 Device g && is_inside (base_of g) (size_of g) 0x40000000 0x20000000
+is_cover n g = has_form n 0 Device g && is_inside (base_of g) (size_of g) peripherals_base peripherals_size
 
 abbrev pub is_slot : Image → Tables → (number : ℕ) → Region → Bool
 is_slot i t n g = is_free n g || (is_data i t n g || (is_read_only i t n g || is_cover n g))

@@ -11,7 +11,8 @@ use Rattle.device_model.specs.Rules.{block_size}
 use Rattle.armv7m.specs.State.{State, by_mpu}
 use Rattle.armv7m.specs.Exceptions.{is_thread}
 use Rattle.armv7m.specs.Code.{Lies, Runs}
-use Rattle.armv7m.specs.Confinement.{Each, AnyOf}
+use Rattle.armv7m.specs.Confinement.{AnyOf}
+use Rattle.common_laws.specs.Lists.{Each}
 use Rattle.armv7m.specs.Shape.{StateFits}
 use Rattle.armv7m.specs.RunningCode.{Context, works}
 use Rattle.armv7m.specs.Run.{start}

@@ -1,7 +1,6 @@
 -- Sizes that are counted as far as they fit 64 bits, and the block for them; words that wrap.
-use Rattle.std.proofs.Common.{◌≡◌, ℕ, zero, suc, ◌+◌, ◌-◌, ◌*◌, ◌/◌, ◌%◌, ◌^◌, ◌≤◌, ◌<◌, Bool, true, false, cond, List, Some, None, min, max, nat_le, length, drop, get_or, refl, sym, ap, ◌∙◌, arith}
-use Rattle.std.specs.Prelude.{find, map, unwrap_or}
-use Rattle.std.specs.List.{range_with_len}
+use Rattle.std.proofs.Common.{◌≡◌, ℕ, zero, suc, ◌+◌, ◌-◌, ◌*◌, ◌/◌, ◌%◌, ◌^◌, ◌≤◌, ◌<◌, Bool, true, false, List, min, max, nat_le, length, drop, get_or, refl, sym, ap, ◌∙◌, arith}
+use Rattle.std.specs.Prelude.{unwrap_or}
 use Rattle.std.specs.Int.{IsPowerOfTwo, trailing_zeros, w32}
 use lib.Count.{count_trailing_zeros}
 use Rattle.std.proofs.Math.Pow.{pow_mono}
@@ -22,6 +21,7 @@ use Rattle.monitor.specs.declared.tables.CompRecord.{CompRecord}
 use Rattle.monitor.specs.Layout.{greatest_code}
 use Rattle.monitor.specs.Constants.{background_of, region_words}
 use Rattle.monitor_code.specs.Sizes.{most}
+use Rattle.common_laws.proofs.Powers.{none_found as find_none}
 
 -- ---- as far as they fit
 
@@ -52,13 +52,6 @@ pub record_size : (n a r : ℕ) → a ≡ min (8 * n) most → r ≡ min (a + 16
 record_size n a r e g = omega arith
 
 -- ---- blocks
-
--- none of these powers passes
-find_none : (test : ℕ → Bool) (a n : ℕ) → ((i : ℕ) → a ≤ i → i < a + n → test (2 ^ i) ≡ false) → find test (map (λ k. 2 ^ k) (range_with_len a n)) ≡ None
-find_none test a zero f = refl
-find_none test a (suc n) f =
-    ap (λ b. cond b (Some (2 ^ a)) (find test (map (λ k. 2 ^ k) (range_with_len (a + 1) n)))) (f a (omega arith) (omega arith))
-    ∙ find_none test (a + 1) n (λ i u v. f i (omega arith) (omega arith))
 
 -- of more bytes than a power holds the block is the greatest
 block_of_more : (n : ℕ) → 2 ^ 32 < n → block n ≡ 2 ^ 32

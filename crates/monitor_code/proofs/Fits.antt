@@ -5,9 +5,7 @@ use Rattle.monitor.specs.Svc.{svc}
 use Rattle.monitor.specs.MemFault.{memfault}
 use Rattle.monitor.specs.Reset.{reset}
 use Rattle.monitor_code.specs.Whole.{fits}
-
-abbrev of_kind : Constants → (slots : ℕ) → (closed : Bool) → Constants
-of_kind c n b = record c { slots = n; closed = b }
+use Rattle.monitor.proofs.Lengths.{of_kind}
 
 all_fit : (n : ℕ) (b : Bool) (c : Constants) → n ≤ most_slots → (fits (reset (of_kind c n b)) && (fits (svc (of_kind c n b)) && fits (memfault (of_kind c n b)))) ≡ true
 all_fit zero true c h = refl

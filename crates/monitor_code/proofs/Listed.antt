@@ -1,5 +1,5 @@
 -- One step behind others, for each variant.
-use Rattle.std.proofs.Common.{◌≡◌, ℕ, suc, ◌+◌, ◌*◌, ◌/◌, List, [], ◌∷◌, ◌++◌, Result, Ok, Err, OnOk, refl, ap, ◌∙◌, arith}
+use Rattle.std.proofs.Common.{◌≡◌, ℕ, suc, ◌+◌, ◌*◌, ◌/◌, List, [], ◌∷◌, ◌++◌, refl, ap, ◌∙◌, arith}
 use Rattle.words.specs.declared.memory.Width.{Width}
 use Rattle.words.specs.declared.memory.Width.TheVariants.{Byte, Half, Word}
 use Rattle.words.specs.Width.{byte_count}
@@ -13,10 +13,6 @@ use Rattle.gate_steps.proofs.Views.{all_before-append, before-Load, before-Store
 
 pub one_more : (old new : List GateStep) (s : GateStep) (f : Steps → Steps) → new ≡ old ++ s ∷ [] → ((rest : Steps) → before s rest ≡ f rest) → (rest : Steps) → all_before new rest ≡ all_before old (f rest)
 one_more old new s f e g rest = ap (λ x. all_before x rest) e ∙ all_before-append old (s ∷ []) rest ∙ ap (all_before old) (g rest)
-
-pub on_ok : {T E P Q : Type 0} (r : Result T E) → (P → Q) → OnOk r P → OnOk r Q
-on_ok (Ok x) f p = f p
-on_ok (Err e) f p = p
 
 -- at the address itself
 no_widths : (width : Width) → 0 / byte_count width ≡ 0

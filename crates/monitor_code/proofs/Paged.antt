@@ -1,12 +1,12 @@
 -- The bytes of words and of instructions behind them, when no branch to a label is among them; and what the page is made of.
-use Rattle.std.proofs.Common.{◌≡◌, ℕ, ◌+◌, ◌-◌, ◌/◌, ◌%◌, ◌^◌, ◌<◌, ◌≤◌, Bool, true, false, ◌&&◌, List, [], ◌∷◌, ◌++◌, Option, None, map, length, length-append, take, get_or, replicate, Result, Ok, Err, IfOk, refl, ap, ap₂, sym, ◌∙◌, arith, append_assoc, append-nil}
+use Rattle.std.proofs.Common.{◌≡◌, ℕ, ◌+◌, ◌-◌, ◌/◌, ◌%◌, ◌^◌, ◌<◌, ◌≤◌, true, ◌&&◌, List, [], ◌∷◌, ◌++◌, Option, None, map, length, length-append, take, get_or, replicate, Result, Ok, Err, IfOk, refl, ap, ap₂, sym, ◌∙◌, arith, append_assoc, append-nil}
 use Rattle.std.proofs.lemmas.List.{take_more, length-replicate}
 use Rattle.thumb_model.specs.declared.table.Instr.{Instr}
 use Rattle.thumb_model.specs.Table.{encode, width_of}
 use Rattle.thumb_model.specs.Bytes.{bytes_of_half, bytes_of_code, code_bytes}
 use Rattle.thumb_asm.specs.declared.item.Item.{Item}
 use Rattle.thumb_asm.specs.declared.item.Item.TheVariants.{Plain, Word}
-use Rattle.thumb_asm.specs.Assembly.{Assembly, ArePut, total, here}
+use Rattle.thumb_asm.specs.Assembly.{Assembly, ArePut, here}
 use Rattle.thumb_asm.specs.Finished.{bytes_from, first_far, assembled}
 use Rattle.gate_steps.specs.Steps.{Steps, names_low}
 use Rattle.gate_steps.specs.Lists.{steps_of}
@@ -22,6 +22,8 @@ use Rattle.monitor.specs.Page.{bytes_of_words, stub_offset, svc_offset, memfault
 use Rattle.monitor_code.specs.declared.calls.Lists.{Lists}
 use Rattle.monitor_code.specs.Whole.{fits, HasWords, AreLists, CanPut, lists_code, vector_words}
 use Rattle.monitor_code.proofs.Fits.{lists_fit}
+use Rattle.thumb_asm.proofs.Items.{total-append}
+use Rattle.common_laws.proofs.Tests.{both_true as parts_of}
 
 word_bytes : (w : ℕ) → bytes_of_half (w % 2 ^ 16) ++ bytes_of_half (w / 2 ^ 16) ≡ w % 256 ∷ w / 2 ^ 8 % 256 ∷ w / 2 ^ 16 % 256 ∷ w / 2 ^ 24 ∷ []
 word_bytes w =
@@ -63,10 +65,6 @@ words-append : (xs ys : List ℕ) → map Word (xs ++ ys) ≡ map Word xs ++ map
 words-append [] ys = refl
 words-append (x ∷ xs) ys = ap (λ zs. Word x ∷ zs) (words-append xs ys)
 
-total-append : (xs ys : List Item) → total (xs ++ ys) ≡ total xs + total ys
-total-append [] ys = omega arith
-total-append (x ∷ xs) ys = omega (arith, total-append xs ys)
-
 -- one word more
 pub one_word : (a m b : Assembly) (ws : List ℕ) (i d : ℕ) → i < length ws → HasWords a m (take i ws) → b ≡ record m { items = m.items ++ Word (get_or ws i d) ∷ [] }
     → HasWords a b (take (i + 1) ws)
@@ -82,10 +80,6 @@ pub no_word : (a : Assembly) → HasWords a a []
 no_word a = record { code = simp append-nil; next = omega arith }
 
 -- ---- lists that may be put
-
-parts_of : (x y : Bool) → (x && y) ≡ true → (x ≡ true) × (y ≡ true)
-parts_of true y h = (refl, h)
-parts_of false y h = absurd cc
 
 pub may_put : (a : Assembly) (s : Steps) → fits s ≡ true → here a + code_length s < 2 ^ 24 → MayPut a s
 may_put a s h room = record {

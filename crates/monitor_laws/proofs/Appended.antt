@@ -1,7 +1,6 @@
 -- A list with another behind it, and its code.
-use Rattle.std.proofs.Common.{◌≡◌, ℕ, zero, suc, ◌+◌, Bool, true, false, ◌&&◌, List, [], ◌∷◌, ◌++◌, refl, sym, ap, ap₂, ◌∙◌, append_assoc}
-use Rattle.thumb_model.specs.declared.table.Instr.{Instr}
-use Rattle.thumb_model.specs.declared.table.Instr.TheVariants.{DataImmediate, DataRegister, BranchConditional, BranchWide}
+use Rattle.std.proofs.Common.{◌≡◌, ℕ, zero, suc, ◌+◌, Bool, true, false, List, [], ◌∷◌, ◌++◌, refl, sym, ap, ◌∙◌, append_assoc}
+use Rattle.thumb_model.specs.declared.table.Instr.TheVariants.{DataImmediate, BranchWide}
 use Rattle.gate_steps.specs.Steps.{Steps, End, Const, Copy, Load, Store, Alu, ReadPsp, WritePsp, WriteControl, Test, Repeat, Halt, Return, Go, names_low}
 use Rattle.gate_steps.specs.Code.{operation_code, code_length, code}
 use Rattle.monitor.specs.Constants.{Constants}
@@ -65,7 +64,7 @@ tables_followed c k r =
     ∙ ap (λ s. record_of c (Const 0 Rattle.mpu_model.specs.declared.TheConstants.MPU_RBAR (regions 1 0 (stack_region c s)))) (regions_followed c.slots 2 k r)
 
 -- they name r0 to r7
-times_low : (bs : List Bool) (k : Steps) → names_low (times 6 5 bs k) ≡ names_low k
+pub times_low : (bs : List Bool) (k : Steps) → names_low (times 6 5 bs k) ≡ names_low k
 times_low [] k = refl
 times_low (true ∷ bs) k = times_low bs k
 times_low (false ∷ bs) k = times_low bs k

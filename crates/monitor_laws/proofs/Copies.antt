@@ -1,5 +1,5 @@
 -- The copying of initial words, with its steps.
-use Rattle.std.proofs.Common.{◌≡◌, ℕ, zero, suc, ◌+◌, ◌-◌, ◌*◌, ◌/◌, ◌%◌, ◌^◌, ◌<◌, ◌≤◌, Bool, true, false, List, [], ◌∷◌, length, get_or, refl, sym, ap, ◌∙◌, subst, arith}
+use Rattle.std.proofs.Common.{◌≡◌, ℕ, zero, suc, ◌+◌, ◌-◌, ◌*◌, ◌%◌, ◌^◌, ◌<◌, ◌≤◌, List, [], ◌∷◌, length, get_or, refl, sym, ap, ◌∙◌, subst, arith}
 use Rattle.std.specs.Prelude.{flat_map, sum_by}
 use Rattle.std.proofs.lemmas.List.Sums.{sum_by-cons}
 use Rattle.words.specs.Arithmetic.{word, add, subtract, shift_right}
@@ -12,7 +12,7 @@ use Rattle.armv7m.specs.declared.state.ProtectionState.{ProtectionState}
 use Rattle.armv7m.specs.declared.state.FaultStatus.{FaultStatus}
 use Rattle.armv7m.specs.State.{by_mpu}
 use Rattle.armv7m.specs.Stack.{words_at}
-use Rattle.armv7m.specs.Confinement.{Each}
+use Rattle.common_laws.specs.Lists.{Each}
 use Rattle.gate_steps.specs.Steps.{Steps, Repeat}
 use Rattle.gate_steps.specs.Core.{Core, low_register}
 use Rattle.gate_steps.specs.Effect.{Outcome, Went, with_one_less}
@@ -27,7 +27,7 @@ use Rattle.monitor.specs.Constants.{Constants}
 use Rattle.monitor.specs.Reset.{word_turn, init_turn}
 use Rattle.monitor_laws.proofs.Numbers.{quarter}
 use Rattle.monitor_laws.proofs.Off.{core}
-use Rattle.monitor_laws.proofs.FlashWords.{Has, has_front, has_back}
+use Rattle.monitor_laws.proofs.FlashWords.{Has}
 
 abbrev pub nothing : InitRecord
 nothing = record { at = 0; end = 0; from = 0 }

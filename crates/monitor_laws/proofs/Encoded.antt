@@ -1,11 +1,9 @@
 -- The code of start-up has an encoding.
-use Rattle.std.proofs.Common.{◌≡◌, ◌≢◌, ℕ, zero, suc, pos, negsuc, ◌+◌, ◌*◌, ◌/◌, ◌%◌, ◌^◌, ◌<◌, ◌≤◌, ◌⊎◌, inl, inr, Bool, true, false, ◌&&◌, List, [], ◌∷◌, ◌++◌, nat_lt, nat_eq, refl, sym, ap, ◌∙◌, subst, arith}
+use Rattle.std.proofs.Common.{◌≡◌, ℕ, zero, suc, pos, negsuc, ◌+◌, ◌*◌, ◌^◌, ◌<◌, ◌≤◌, inl, inr, Bool, true, false, ◌&&◌, List, [], ◌∷◌, nat_lt, nat_eq, refl, ◌∙◌, arith}
 use Rattle.std.proofs.lemmas.Bool.Decides.{nat_tests}
 use Rattle.std.proofs.lemmas.Nat.{trailing_le}
 use Rattle.std.specs.Int.Signed.{le_z_yes, lt_z_yes}
-use Rattle.thumb_model.specs.declared.table.Instr.{Instr}
-use Rattle.thumb_model.specs.declared.table.Instr.TheVariants.{AddSubRegister, DataImmediate, DataRegister, HighRegister, BranchExchange, TransferImmediate, BreakpointNop, BranchConditional, BranchWide, MoveWide, MoveTop, SpecialRegister, Barrier}
-use Rattle.thumb_model.specs.Table.{InTable, IsGeneral, IsOffset}
+use Rattle.thumb_model.specs.Table.{IsGeneral, IsOffset}
 use Rattle.thumb_model.specs.Bytes.{EachInTable}
 use Rattle.words.specs.declared.memory.Width.{Width}
 use Rattle.words.specs.declared.memory.Width.TheVariants.{Byte, Half, Word}
@@ -20,6 +18,8 @@ use Rattle.monitor.specs.Constants.{Constants, constants_with}
 use Rattle.monitor.specs.Opening.{times, bits_of, regions, tables_of}
 use Rattle.monitor.specs.Reset.{init_turn}
 use Rattle.monitor_laws.proofs.ResetList.{last_part, before_control, control_and_go}
+use Rattle.common_laws.proofs.Tests.{both_true as both}
+use Rattle.thumb_model.proofs.Codes.{in_table-append as each_append}
 
 -- registers, offsets and numbers of halts fit into their fields
 abbrev pub fits_fields : Steps → Bool
@@ -55,11 +55,6 @@ Fits (Halt c k) = Fits k
 Fits (Return k) = Fits k
 Fits (Go to link k) = Fits k
 
-both : (a b : Bool) → (a && b) ≡ true → (a ≡ true) × (b ≡ true)
-both true true h = (refl, refl)
-both true false h = cc
-both false b h = cc
-
 below : (a b : ℕ) → nat_lt a b ≡ true → a < b
 below a b h = grind (arith, nat_tests)
 
@@ -68,10 +63,6 @@ low a h = below a 8 h
 
 general : (a : ℕ) → a < 8 → IsGeneral a
 general a h = (omega (arith, h), λ e. absurd (omega (arith, h, e)))
-
-each_append : (xs ys : List Instr) → EachInTable xs → EachInTable ys → EachInTable (xs ++ ys)
-each_append [] ys a b = b
-each_append (x ∷ xs) ys a b = (a.0, each_append xs ys a.1 b)
 
 moves_in : (h t : Bool) (op to a b : ℕ) → op < 16 → to < 8 → a < 8 → b < 8 → EachInTable (by_moves op to a b h t)
 moves_in true t op to a b o x y z = ((o, z, x), tt)

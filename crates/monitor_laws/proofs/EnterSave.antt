@@ -19,10 +19,9 @@ use Rattle.monitor.specs.Constants.{Constants, constants_with}
 use Rattle.monitor.specs.Svc.{raise, save, entered}
 use Rattle.monitor_laws.proofs.Numbers.{shl4}
 use Rattle.monitor_laws.proofs.Off.{core, IsOff}
-use Rattle.monitor_laws.proofs.Opened.{Handles, block_load_within, block_store_within}
+use Rattle.monitor_laws.proofs.Opened.{Handles, block_load_within, block_store_within, on_msp}
 use Rattle.monitor_laws.proofs.HandlerWords.{write_psp_within, Changed, changed_in, changed_none, InStack, entry_store_within, frame_load_within, frame_store_within}
 use Rattle.monitor_laws.proofs.LeaveWords.{entry_is, whole_word}
-use Rattle.monitor_laws.proofs.Leave.{on_msp}
 
 -- a word beside a store is that before it
 pub beside : (a o v : ℕ) (m n : List ℕ) → n ≡ write 4 o v m → (a + 4 ≤ o) ⊎ (o + 4 ≤ a) → read 4 a n ≡ read 4 a m

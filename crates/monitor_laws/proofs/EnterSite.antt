@@ -10,7 +10,7 @@ use Rattle.device_model.specs.Rules.{ObeysRules}
 use Rattle.armv7m.specs.declared.state.ProtectionState.{ProtectionState}
 use Rattle.armv7m.specs.declared.state.FaultStatus.{FaultStatus}
 use Rattle.armv7m.specs.State.{by_mpu}
-use Rattle.armv7m.specs.Confinement.{Each}
+use Rattle.common_laws.specs.Lists.{Each}
 use Rattle.gate_steps.specs.Steps.{Steps, Load}
 use Rattle.gate_steps.specs.Core.{Core, low_register, with_low}
 use Rattle.gate_steps.specs.Effect.{Outcome, Halted}
@@ -27,15 +27,12 @@ use Rattle.monitor.specs.Svc.{site}
 use Rattle.monitor_laws.proofs.Numbers.{shl2}
 use Rattle.monitor_laws.proofs.Off.{core, IsOff, open_while_off}
 use Rattle.monitor_laws.proofs.FlashWords.{Has, flash_has, has_front, has_back, has_record, records_length}
-use Rattle.monitor_laws.proofs.Tables.{counts}
+use Rattle.monitor_laws.proofs.Tables.{counts, product}
 use Rattle.monitor_laws.proofs.Opened.{Handles, eq_true, eq_false}
 use Rattle.monitor_laws.proofs.Placement.{writable}
 
 twelve : (x a b c at v : ℕ) → a ≡ 4 * x → b ≡ add a a → c ≡ add b a → v ≡ add c at → x < 2 ^ 16 → at < 2 ^ 31 → v ≡ at + 12 * x
 twelve x a b c at v h1 h2 h3 h4 l1 l2 = omega (arith, h1, h2, h3, h4, l1, l2)
-
-product : (s c : ℕ) → (8 * s + 16) * c ≡ 4 * ((2 * s + 4) * c)
-product s c = grind arith
 
 lt_true : (x y : ℕ) → nat_lt x y ≡ true → x < y
 lt_true x y h = grind (arith, nat_tests)
@@ -43,7 +40,7 @@ lt_true x y h = grind (arith, nat_tests)
 lt_false : (x y : ℕ) → nat_lt x y ≡ false → y ≤ x
 lt_false x y h = grind (arith, nat_tests)
 
-three_words : (xs : List SiteRecord) → Each (λ x. length (site_words x) ≡ 3) xs
+pub three_words : (xs : List SiteRecord) → Each (λ x. length (site_words x) ≡ 3) xs
 three_words [] = tt
 three_words (x ∷ xs) = (refl, three_words xs)
 

@@ -1,36 +1,31 @@
 -- While a compartment's regions are written and the unit is on, the page's code may be fetched.
-use Rattle.std.proofs.Common.{◌≡◌, ◌≢◌, ℕ, zero, suc, ◌+◌, ◌-◌, ◌*◌, ◌/◌, ◌%◌, ◌^◌, ◌<◌, ◌≤◌, ◌⊎◌, inl, inr, ⊎_elim, Bool, true, false, not, ◌&&◌, ◌||◌, List, [], ◌∷◌, map, length, nat_eq, nat_lt, Option, Some, None, refl, sym, ap, ap₂, ◌∙◌, subst, arith, pow_pos}
-use Rattle.std.proofs.lemmas.Nat.{pow_below}
-use Rattle.std.proofs.Math.Nat.{zero-mod}
-use Rattle.std.proofs.Math.Pow.{mod-mod-pow}
+use Rattle.std.proofs.Common.{◌≡◌, ℕ, ◌+◌, ◌-◌, ◌/◌, ◌%◌, ◌^◌, ◌<◌, ◌≤◌, Bool, true, false, List, [], ◌∷◌, map, length, Some, None, refl, sym, ap, ap₂, ◌∙◌, subst, arith, pow_pos}
 use Rattle.std.proofs.lemmas.Nat.Bits.{bit_at-zero}
-use Rattle.std.proofs.lemmas.Bool.{cases_order}
 use Rattle.std.proofs.lemmas.Bool.Decides.{nat_tests}
 use Rattle.std.specs.Int.{IsPowerOfTwo, bit_at}
-use Rattle.std.specs.Prelude.{IsTrue, ◌↔◌}
 use Rattle.mpu_model.specs.declared.region.Region.{Region}
-use Rattle.mpu_model.specs.declared.region.Access.{Access}
 use Rattle.mpu_model.specs.declared.region.Access.TheVariants.{Fetch}
 use Rattle.mpu_model.specs.declared.words.Rights.TheVariants.{Code, Stack}
 use Rattle.mpu_model.specs.Regions.{holds, allows, ap_reads, permission, is_executable}
-use Rattle.mpu_model.specs.RegionWords.{region_of, IsHeld, may}
-use Rattle.mpu_model.specs.Protection.{permits, deciding, or_this, decided}
+use Rattle.mpu_model.specs.RegionWords.{IsHeld, may}
+use Rattle.mpu_model.specs.Protection.{permits, deciding}
 use Rattle.mpu_model.specs.Laws.{kept_region, RegionsAreKept, RegionsHoldTheirBlocks, RegionsGiveTheirRights}
-use Rattle.mpu_model.specs.Configured.{closed_from, OpenEighthsAreHeld}
+use Rattle.mpu_model.specs.Configured.{closed_from}
 use Rattle.device_model.specs.declared.image.Image.{Image}
-use Rattle.device_model.specs.Rules.{IsPowerBetween}
+use Rattle.windows.specs.Ranges.{IsPowerBetween}
 use Rattle.armv7m.specs.declared.state.ProtectionState.{ProtectionState}
 use Rattle.armv7m.specs.State.{by_mpu, is_unprivileged}
-use Rattle.armv7m.specs.Confinement.{Each}
+use Rattle.common_laws.specs.Lists.{Each}
 use Rattle.monitor.specs.declared.tables.CompRecord.{CompRecord}
 use Rattle.monitor.specs.declared.tables.Tables.{Tables}
 use Rattle.monitor.specs.Records.{compartment_at, nobody, eighth}
 use Rattle.monitor.specs.Layout.{tables_size}
-use Rattle.monitor.specs.Regions.{background, tables_region, stack_region, regions_for}
-use Rattle.monitor.specs.Placed.{Placed, IsCompartment, IsSlot, IsSlotByte, InFlashOf}
-use Rattle.monitor_laws.proofs.FlashWords.{each_at}
-use Rattle.monitor_laws.proofs.Numbers.{times_over, below_256}
+use Rattle.monitor.specs.Regions.{tables_region, stack_region, regions_for}
+use Rattle.monitor.specs.Placed.{Placed, IsCompartment, IsSlot, InFlashOf}
 use Rattle.monitor_laws.proofs.Tables.{stack_size}
+use Rattle.common_laws.proofs.Tests.{both_true}
+use Rattle.common_laws.proofs.Lists.{each_at}
+use Rattle.monitor.proofs.Multiples.{divides}
 
 -- the laws of the protection unit
 pub record UnitLaws : Type 0 where
@@ -42,11 +37,6 @@ pub record UnitLaws : Type 0 where
 reads_more : (n : ℕ) → ap_reads true n ≡ true → ap_reads false n ≡ true
 reads_more n h = search (nat_tests, arith)
 
-both_true : (a b : Bool) → (a && b) ≡ true → (a ≡ true) × (b ≡ true)
-both_true true true h = (refl, refl)
-both_true true false h = cc
-both_true false b h = cc
-
 fetches_more : (g : Region) (u : Bool) → allows g true Fetch ≡ true → allows g u Fetch ≡ true
 fetches_more g true h = h
 fetches_more g false h =
@@ -54,25 +44,6 @@ fetches_more g false h =
     let r = reads_more (permission g) p.0 in
     let e = p.1 in
     rw (r, e) refl
-
--- a power of two divides a greater one
-divides : (b z : ℕ) → IsPowerOfTwo z → z ≤ 2 ^ 20 → b % 2 ^ 20 ≡ 0 → b % z ≡ 0
-divides b z p le h = ap (λ z. b % z) p.1 ∙ ⊎_elim same (λ o. ⊎_elim small large o) (cases_order p.0 20)
-  where
-    k : ℕ
-    k = p.0
-
-    small_by : (j : ℕ) → j + k ≡ 20 → b % 2 ^ k ≡ 0
-    small_by j e = sym (mod-mod-pow b j k) ∙ ap (λ n. b % 2 ^ n % 2 ^ k) e ∙ ap (λ n. n % 2 ^ k) h ∙ zero-mod (2 ^ k)
-
-    small : k < 20 → b % 2 ^ k ≡ 0
-    small lt = small_by (20 - k) (omega (arith, lt))
-
-    same : k ≡ 20 → b % 2 ^ k ≡ 0
-    same e = small_by 0 (omega (arith, e))
-
-    large : 20 < k → b % 2 ^ k ≡ 0
-    large lt = absurd (let more = pow_below 20 k lt in let e = p.1 in omega (arith, more, e, le))
 
 module _ (laws : UnitLaws) (i : Image) (t : Tables) (p : Placed i t) (room : 4096 ≤ tables_size t) (cur top : ℕ) (inside : cur < length t.comps) (a : ℕ) (low : i.flash_base ≤ a) (high : a < i.flash_base + 4096) where
   abbrev c : CompRecord

@@ -1,11 +1,11 @@
 -- The words of the tables in flash, part by part.
-use Rattle.std.proofs.Common.{◌≡◌, ℕ, zero, suc, ◌+◌, ◌-◌, ◌*◌, ◌%◌, ◌<◌, ◌≤◌, List, [], ◌∷◌, ◌++◌, length, get_or, refl, sym, ap, ◌∙◌, subst, arith}
+use Rattle.std.proofs.Common.{◌≡◌, ℕ, zero, suc, ◌+◌, ◌-◌, ◌*◌, ◌<◌, ◌≤◌, List, [], ◌∷◌, ◌++◌, length, get_or, ap, subst, arith}
 use Rattle.std.specs.Prelude.{flat_map}
 use Rattle.words.specs.Bytes.{read}
 use Rattle.mpu_model.specs.declared.region.Region.{Region}
 use Rattle.device_model.specs.declared.image.Image.{Image}
 use Rattle.armv7m.specs.Stack.{words_at}
-use Rattle.armv7m.specs.Confinement.{Each}
+use Rattle.common_laws.specs.Lists.{Each}
 use Rattle.monitor.specs.Area.{region_words, FlashHas}
 use Rattle.monitor_laws.proofs.Written.{HasRegions}
 
@@ -64,15 +64,6 @@ has_regions i (g ∷ gs) rest o h =
     let e : o + 4 + 4 ≡ o + 8 = omega arith in
     let s = h.2 in
     (h.0, s.0, omega (arith, s.1), subst (λ n. HasRegions i gs n) e (has_regions i gs rest (o + 4 + 4) s.2))
-
-pub each_at : {A : Type 0} (P : A → Type 0) (xs : List A) (d : A) (k : ℕ) → Each P xs → k < length xs → P (get_or xs k d)
-each_at P [] d k e lt = absurd (omega arith)
-each_at P (x ∷ xs) d zero e lt = e.0
-each_at P (x ∷ xs) d (suc k) e lt = each_at P xs d k e.1 (omega arith)
-
-pub each_to : {A : Type 0} (P Q : A → Type 0) (xs : List A) → ((x : A) → P x → Q x) → Each P xs → Each Q xs
-each_to P Q [] f e = tt
-each_to P Q (x ∷ xs) f e = (f x e.0, each_to P Q xs f e.1)
 
 -- a word of a list by its number
 pub has_word : (i : Image) (o : ℕ) (ws : List ℕ) (k : ℕ) → Has i o ws → k < length ws → (read 4 (o + 4 * k) i.flash ≡ get_or ws k 0) × (o + 4 * k + 4 ≤ length i.flash)

@@ -1,12 +1,11 @@
 -- What the steps of a handler may access, as a rule of the language: the kinds of confinement, at any state with the core's RAM and
 -- protection.
-use Rattle.std.proofs.Common.{◌≡◌, ℕ, ◌+◌, ◌-◌, ◌%◌, ◌<◌, ◌≤◌, Bool, true, false, List, length, nat_lt, nat_le, refl, sym, ap, ◌∙◌, subst, arith}
+use Rattle.std.proofs.Common.{◌≡◌, ℕ, ◌+◌, ◌-◌, ◌%◌, ◌<◌, ◌≤◌, true, refl, sym, ap, ◌∙◌, subst, arith}
 use Rattle.std.proofs.lemmas.Bool.Decides.{nat_tests}
 use Rattle.words.specs.Bytes.{read}
 use Rattle.mpu_model.specs.declared.region.Access.{Access}
 use Rattle.mpu_model.specs.declared.region.Access.TheVariants.{Read, Write, Fetch}
 use Rattle.device_model.specs.declared.image.Image.{Image}
-use Rattle.device_model.specs.Rules.{ObeysRules}
 use Rattle.words.specs.Runs.{run}
 use Rattle.armv7m.specs.declared.state.ProtectionState.{ProtectionState}
 use Rattle.armv7m.specs.State.{State, Touched, by_mpu}
@@ -18,12 +17,10 @@ use Rattle.gate_steps.specs.Safe.{Rule}
 use Rattle.gate_steps.proofs.Gives.{in_flash}
 use Rattle.monitor.specs.declared.tables.Tables.{Tables}
 use Rattle.monitor.specs.Reach.{AllBytes, InBlock, StoreKind, ByStack, ByBlock, BySystem, LoadKind, OfFlash, OfStack, OfBlock}
-use Rattle.monitor.specs.Area.{HasTables}
 use Rattle.monitor.specs.Placed.{Placed}
 use Rattle.monitor.specs.Handlers.{Handles as IsHandlers, Leads as HandlerLeads}
-use Rattle.monitor_laws.proofs.FlashWords.{each_to}
-use Rattle.monitor_laws.proofs.Off.{Allows}
 use Rattle.monitor_laws.proofs.Opened.{Handles}
+use Rattle.common_laws.proofs.Lists.{each_to}
 
 -- a state that accesses as this core does
 pub record IsAt (c : Core) (u : State) : Type 0 where

@@ -1,5 +1,5 @@
 -- The list of leave: halt 0 where no call waits; else the caller goes on with the callee's result.
-use Rattle.std.proofs.Common.{◌≡◌, ℕ, suc, ◌+◌, ◌-◌, ◌*◌, ◌/◌, ◌^◌, ◌<◌, ◌≤◌, true, false, not, ◌&&◌, List, ◌∷◌, length, refl, ap, ◌∙◌, arith}
+use Rattle.std.proofs.Common.{◌≡◌, ℕ, suc, ◌+◌, ◌-◌, ◌*◌, ◌/◌, ◌^◌, ◌<◌, ◌≤◌, true, List, ◌∷◌, length, refl, ap, ◌∙◌, arith}
 use Rattle.words.specs.Bytes.{read}
 use Rattle.mpu_model.specs.declared.region.Region.{Region}
 use Rattle.mpu_model.specs.declared.TheConstants.{MPU_CTRL, MPU_RBAR}
@@ -9,7 +9,7 @@ use Rattle.mpu_model.specs.Configured.{written}
 use Rattle.device_model.specs.declared.image.Image.{Image}
 use Rattle.armv7m.specs.declared.state.ProtectionState.{ProtectionState}
 use Rattle.armv7m.specs.declared.state.FaultStatus.{FaultStatus}
-use Rattle.armv7m.specs.State.{by_mpu, is_unprivileged}
+use Rattle.armv7m.specs.State.{by_mpu}
 use Rattle.gate_steps.specs.Steps.{Steps}
 use Rattle.gate_steps.specs.Core.{Core}
 use Rattle.gate_steps.specs.Effect.{Outcome, Halted, AtReturn}
@@ -28,13 +28,10 @@ use Rattle.monitor_laws.proofs.Off.{core, with_unit, IsOff}
 use Rattle.monitor_laws.proofs.Written.{open_stack, tables_within}
 use Rattle.monitor_laws.proofs.Tables.{shaped, has_compartment, record_at, top_is, unit_is}
 use Rattle.monitor_laws.proofs.Placement.{writable}
-use Rattle.monitor_laws.proofs.Opened.{Handles, eq_true, eq_false, block_load_within, block_store_within}
+use Rattle.monitor_laws.proofs.Opened.{Handles, eq_true, eq_false, block_load_within, block_store_within, on_msp}
 use Rattle.monitor_laws.proofs.Unlend.{closed_within}
 use Rattle.monitor_laws.proofs.HandlerWords.{write_psp_within, InStack, entry_load_within, frame_load_within, frame_store_within}
 use Rattle.monitor_laws.proofs.LeaveWords.{Leaving, HasLeft, Five, FiveSay, five_others, one_less, entry_is, whole_word, five_say, all_left}
-
-pub on_msp : (p : ProtectionState) → is_unprivileged p ≡ false → (not (is_unprivileged p) && true) ≡ true
-on_msp p e = rw e refl
 
 -- regions 0 and 1 are those of the tables, and there are as many others as a compartment has
 pub record HasFirstRegions (i : Image) (t : Tables) (u : Registers) : Type 0 where

@@ -1,22 +1,21 @@
 -- What placed tables give to the lists: the numbers that the code takes of them, and where their records stand.
-use Rattle.std.proofs.Common.{◌≡◌, ℕ, zero, suc, ◌+◌, ◌-◌, ◌*◌, ◌/◌, ◌%◌, ◌^◌, ◌<◌, ◌≤◌, ◌⊎◌, inl, inr, Bool, true, false, List, [], ◌∷◌, ◌++◌, map, length, replicate, min, get_or, refl, sym, ap, ap₂, ◌∙◌, subst, arith, length-append}
+use Rattle.std.proofs.Common.{◌≡◌, ℕ, ◌+◌, ◌-◌, ◌*◌, ◌/◌, ◌%◌, ◌^◌, ◌<◌, ◌≤◌, ◌⊎◌, inl, inr, Bool, true, false, List, [], ◌∷◌, ◌++◌, map, length, replicate, refl, sym, ap, ap₂, ◌∙◌, subst, arith, length-append}
 use Rattle.std.proofs.lemmas.List.{length-replicate}
 use Rattle.std.specs.Prelude.{flat_map}
-use Rattle.std.specs.Int.{trailing_zeros, w32}
 use Rattle.std.specs.Int.Count.{count_trailing_zeros}
 use Rattle.std.proofs.lemmas.Nat.{trailing_le}
 use Rattle.words.specs.Arithmetic.{word}
 use Rattle.mpu_model.specs.declared.region.Region.{Region}
 use Rattle.mpu_model.specs.declared.words.Rights.TheVariants.{Background, Code}
 use Rattle.mpu_model.specs.RegionWords.{region_of, size_field}
-use Rattle.mpu_model.specs.Registers.{Registers, blank, at_reset}
+use Rattle.mpu_model.specs.Registers.{blank, at_reset}
 use Rattle.mpu_model.specs.Laws.{kept_region}
 use Rattle.mpu_model.specs.Configured.{AreNumbered, written, AreWritten}
 use Rattle.mpu_model.proofs.Configured.{lists_are_written}
 use Rattle.device_model.specs.declared.image.Image.{Image}
 use Rattle.device_model.specs.Rules.{ObeysRules}
 use Rattle.mem_bus.specs.Places.{choose}
-use Rattle.armv7m.specs.Confinement.{Each}
+use Rattle.common_laws.specs.Lists.{Each}
 use Rattle.monitor.specs.declared.tables.CompRecord.{CompRecord}
 use Rattle.monitor.specs.declared.tables.InitRecord.{InitRecord}
 use Rattle.monitor.specs.declared.tables.SiteRecord.{SiteRecord}
@@ -25,13 +24,14 @@ use Rattle.monitor.specs.declared.tables.Tables.{Tables}
 use Rattle.monitor.specs.Records.{compartment_at, number_of_slots, stack_end}
 use Rattle.monitor.specs.Layout.{head_at, tables_size, inits_at}
 use Rattle.monitor.specs.Area.{HasTables, compartment_words, site_words, target_words, init_words, head, area}
-use Rattle.monitor.specs.Regions.{background, tables_region, stack_region, regions_for}
+use Rattle.monitor.specs.Regions.{background, tables_region, regions_for}
 use Rattle.monitor.specs.Placed.{Placed, IsCompartment}
 use Rattle.monitor.specs.Constants.{Constants, constants_with, background_of, region_words}
 use Rattle.monitor_laws.specs.RegionsWritten.{IsNumbered, Writable}
-use Rattle.monitor_laws.proofs.FlashWords.{Has, flash_has, has_front, has_back, records_length, each_at, each_to}
+use Rattle.monitor_laws.proofs.FlashWords.{Has, flash_has, has_front, has_back, records_length}
 use Rattle.monitor_laws.proofs.Written.{open_stack}
 use Rattle.monitor_laws.proofs.Tables.{counts, same_stack, numbered}
+use Rattle.common_laws.proofs.Lists.{each_to, each_at}
 
 four_or_twelve : (r s : ℕ) → (r ≡ 8) ⊎ (r ≡ 16) → r ≡ 4 + s → (4 ≤ s) × (s ≤ 12)
 four_or_twelve r s (inl e) h = (omega (arith, e, h), omega (arith, e, h))
@@ -76,7 +76,7 @@ module _ (i : Image) (t : Tables) (p : Placed i t) (has : HasTables i t) (stub :
     most = slots_between.1;
     few = p.most;
     comps = each_to (IsCompartment i t) (IsNumbered t) t.comps (λ c m. record { count = m.count; code = m.code_numbered; slots = m.slots_numbered }) p.comps;
-    stack_size = subst (λ z. Rattle.device_model.specs.Rules.IsPowerBetween 9 16 z) (sym p.stack_size) p.stack.size;
+    stack_size = subst (λ z. Rattle.windows.specs.Ranges.IsPowerBetween 9 16 z) (sym p.stack_size) p.stack.size;
     stack_aligned = ap₂ (λ b z. b % z) p.stack_base p.stack_size ∙ p.stack.aligned;
     stack_inside = (let a = p.stack.place.0 in let b = p.stack_base in omega (arith, a, b), let a = p.stack.place.1 in let b = p.stack_base in let z = p.stack_size in omega (arith, a, b, z));
   }

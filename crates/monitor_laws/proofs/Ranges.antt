@@ -1,13 +1,13 @@
 -- The ranges that start-up fills, as the copying takes them.
-use Rattle.std.proofs.Common.{◌≡◌, ℕ, zero, suc, ◌+◌, ◌-◌, ◌*◌, ◌/◌, ◌%◌, ◌^◌, ◌<◌, ◌≤◌, ◌⊎◌, inl, inr, Bool, true, false, List, [], ◌∷◌, length, refl, sym, ap, ◌∙◌, subst, arith}
+use Rattle.std.proofs.Common.{◌≡◌, ℕ, ◌+◌, ◌-◌, ◌*◌, ◌/◌, ◌%◌, ◌<◌, ◌≤◌, inl, inr, true, false, List, [], ◌∷◌, length, arith}
 use Rattle.std.proofs.lemmas.Bool.Decides.{nat_tests}
 use Rattle.std.proofs.lemmas.List.Sums.{sum_by-cons}
 use Rattle.std.specs.Prelude.{sum_by}
-use Rattle.mpu_model.specs.declared.region.Access.{Access}
 use Rattle.mpu_model.specs.declared.region.Access.TheVariants.{Read, Write, Fetch}
 use Rattle.device_model.specs.declared.image.Image.{Image}
 use Rattle.armv7m.specs.System.{in_system}
-use Rattle.armv7m.specs.Confinement.{Each, AnyOf}
+use Rattle.armv7m.specs.Confinement.{AnyOf}
+use Rattle.common_laws.specs.Lists.{Each}
 use Rattle.gate_steps.specs.Core.{Core}
 use Rattle.gate_steps.specs.Safe.{Rule}
 use Rattle.monitor.specs.declared.tables.InitRecord.{InitRecord}

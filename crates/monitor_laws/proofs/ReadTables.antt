@@ -1,15 +1,11 @@
 -- The tables that are read from an image's flash stand there.
-use Rattle.std.proofs.Common.{◌≡◌, ℕ, zero, suc, ◌+◌, ◌-◌, ◌*◌, ◌/◌, ◌%◌, ◌^◌, ◌<◌, ◌≤◌, List, [], ◌∷◌, ◌++◌, length, min, take, drop, refl, sym, ap, ap₂, ◌∙◌, subst, arith, length-append}
+use Rattle.std.proofs.Common.{◌≡◌, ℕ, zero, suc, ◌+◌, ◌-◌, ◌*◌, ◌≤◌, List, [], ◌∷◌, ◌++◌, length, min, take, drop, refl, sym, ap, ap₂, ◌∙◌, subst, arith, length-append}
 use Rattle.std.specs.Prelude.{flat_map, sum_by}
 use Rattle.words.specs.Bytes.{read}
-use Rattle.mpu_model.specs.declared.region.Region.{Region}
 use Rattle.device_model.specs.declared.image.Image.{Image}
 use Rattle.armv7m.specs.Stack.{words_at}
-use Rattle.armv7m.specs.Confinement.{Each}
+use Rattle.common_laws.specs.Lists.{Each}
 use Rattle.monitor.specs.declared.tables.CompRecord.{CompRecord}
-use Rattle.monitor.specs.declared.tables.SiteRecord.{SiteRecord}
-use Rattle.monitor.specs.declared.tables.TargetRecord.{TargetRecord}
-use Rattle.monitor.specs.declared.tables.InitRecord.{InitRecord}
 use Rattle.monitor.specs.declared.tables.Tables.{Tables}
 use Rattle.std.proofs.lemmas.List.{take-append-drop, length-take}
 use Rattle.std.proofs.lemmas.Bool.Decides.{nat_tests}
@@ -19,7 +15,7 @@ use Rattle.monitor.specs.Layout.{head_at, compartment_size, area_end, initial_wo
 use Rattle.monitor.specs.Area.{HasTables}
 use Rattle.monitor_laws.proofs.Tables.{least_of}
 use Rattle.monitor.specs.Area.{region_words, compartment_words, site_words, target_words, init_words, head, area}
-use Rattle.monitor.specs.FromFlash.{records, word_at, region_at, comp_record_at, site_record_at, target_record_at, init_record_at, comp_count, site_count, target_count, lend_count, init_count, sites_offset, targets_offset, lends_offset, inits_offset, inits_read, tables_behind}
+use Rattle.monitor.specs.FromFlash.{records, word_at, region_at, comp_record_at, site_record_at, target_record_at, init_record_at, comp_count, site_count, target_count, lend_count, init_count, sites_offset, targets_offset, lends_offset, inits_offset, tables_behind}
 use Rattle.monitor.specs.MonitorCode.{MonitorCode}
 
 pub length-records : {A : Type 0} (f : ℕ → A) (z n o : ℕ) → length (records f z n o) ≡ n

@@ -1,12 +1,10 @@
 -- Start-up up to the write of CONTROL.
-use Rattle.std.proofs.Common.{◌≡◌, ℕ, zero, suc, ◌+◌, ◌-◌, ◌*◌, ◌/◌, ◌%◌, ◌^◌, ◌<◌, ◌≤◌, ◌⊎◌, inl, inr, Bool, true, false, not, ◌&&◌, List, [], ◌∷◌, ◌++◌, length, get_or, refl, sym, ap, ◌∙◌, subst, arith}
-use Rattle.std.specs.Prelude.{sum_by}
-use Rattle.words.specs.Bytes.{read, write}
+use Rattle.std.proofs.Common.{◌≡◌, ℕ, ◌+◌, ◌-◌, ◌*◌, ◌/◌, ◌%◌, ◌^◌, ◌<◌, ◌≤◌, ◌⊎◌, inl, inr, true, false, not, ◌&&◌, List, [], ◌∷◌, length, refl, sym, ap, ◌∙◌, subst, arith}
+use Rattle.words.specs.Bytes.{write}
 use Rattle.words.specs.declared.memory.Width.TheVariants.{Word}
-use Rattle.mpu_model.specs.declared.region.Access.{Access}
 use Rattle.mpu_model.specs.declared.region.Access.TheVariants.{Read, Write, Fetch}
 use Rattle.mpu_model.specs.declared.region.Region.{Region}
-use Rattle.mpu_model.specs.declared.TheConstants.{MPU_CTRL, MPU_RBAR, MPU_RASR}
+use Rattle.mpu_model.specs.declared.TheConstants.{MPU_RBAR, MPU_RASR}
 use Rattle.mpu_model.specs.Registers.{Registers, at_reset, write_register}
 use Rattle.mpu_model.specs.Configured.{written}
 use Rattle.device_model.specs.declared.image.Image.{Image}
@@ -16,18 +14,16 @@ use Rattle.armv7m.specs.declared.state.FaultStatus.{FaultStatus}
 use Rattle.armv7m.specs.declared.TheConstants.{CCR, SHCSR}
 use Rattle.armv7m.specs.State.{by_mpu, is_unprivileged}
 use Rattle.armv7m.specs.System.{write_status}
-use Rattle.armv7m.specs.Confinement.{Each}
+use Rattle.common_laws.specs.Lists.{Each}
 use Rattle.gate_steps.specs.Steps.{Steps, End, Const, Store, WritePsp, WriteControl, Go, ◌▸◌}
 use Rattle.gate_steps.specs.Core.{Core, low_register, with_psp, with_system, is_privileged_on_msp}
-use Rattle.gate_steps.specs.Effect.{Outcome, Went, Unclaimed, either, effect}
+use Rattle.gate_steps.specs.Effect.{Outcome, Went}
 use Rattle.gate_steps.specs.Ticks.{either_ticks, ticks}
 use Rattle.gate_steps.specs.Safe.{Rule}
-use Rattle.gate_steps.proofs.Gives.{Open, set_psp_gives}
-use Rattle.gate_steps.proofs.Within.{GivesWithin, ticks_all, end_within, const_within, copy_within, alu_within, at_within, more_within, store_within, system_within}
-use Rattle.monitor.specs.declared.tables.InitRecord.{InitRecord}
+use Rattle.gate_steps.proofs.Gives.{set_psp_gives}
+use Rattle.gate_steps.proofs.Within.{GivesWithin, ticks_all, end_within, const_within, copy_within, at_within, more_within, store_within, system_within}
 use Rattle.monitor.specs.declared.tables.Tables.{Tables}
 use Rattle.monitor.specs.Records.{words_in, stack_end, compartment_at}
-use Rattle.monitor.specs.Layout.{initial_word_count}
 use Rattle.monitor.specs.Area.{HasTables}
 use Rattle.monitor.specs.Regions.{regions_for}
 use Rattle.monitor.specs.Placed.{Placed}
@@ -38,8 +34,8 @@ use Rattle.monitor.specs.Reset.{main_words, copied, first_block, traps, first_re
 use Rattle.monitor_laws.proofs.Off.{core, with_unit, IsOff, Allows, open_while_off, status_stays, rbar_control, rasr_control, unit_within, set_control_within}
 use Rattle.monitor_laws.proofs.Written.{open_stack, tables_within}
 use Rattle.monitor_laws.proofs.Tables.{shaped, has_compartment, record_at, top_is, StackSize, stack_size}
-use Rattle.monitor_laws.proofs.Copies.{IsCopied, last_steps, copying_is_short, fill_within}
-use Rattle.monitor_laws.proofs.Placement.{writable, block_is, stack_end_is, all_written, inits_is, few_inits, inits_at_is, inits_aligned, inits_offset, has_inits, words_is}
+use Rattle.monitor_laws.proofs.Copies.{IsCopied, last_steps, fill_within}
+use Rattle.monitor_laws.proofs.Placement.{writable, block_is, stack_end_is, all_written, inits_is, few_inits, inits_at_is, inits_aligned, inits_offset, has_inits}
 use Rattle.monitor_laws.proofs.Appended.{followed_by, tables_followed}
 
 -- the list up to the write of CONTROL, and what follows

@@ -1,10 +1,12 @@
 -- Sound images are placed, and they start.
-use Rattle.std.proofs.Common.{◌≡◌, ◌≢◌, ℕ, zero, suc, ◌+◌, ◌-◌, ◌*◌, ◌/◌, ◌%◌, ◌^◌, ◌<◌, ◌≤◌, ◌⊎◌, inl, inr, ⊎_elim, Bool, true, false, ◌&&◌, List, [], ◌∷◌, ◌++◌, length, nat_eq, nat_lt, None, refl, sym, ap, ap₂, ◌∙◌, subst, arith}
+use Rattle.std.proofs.Common.{◌≡◌, ℕ, ◌+◌, ◌-◌, ◌*◌, ◌/◌, ◌%◌, ◌<◌, ◌≤◌, ◌⊎◌, inl, inr, ⊎_elim, true, ◌&&◌, List, [], ◌∷◌, length, nat_eq, nat_lt, None, refl, sym, ap, ◌∙◌, subst, arith}
 use Rattle.std.proofs.lemmas.List.Sums.{sum_by-cons}
 use Rattle.std.specs.Prelude.{sum_by}
 use Rattle.device_model.specs.declared.image.Image.{Image}
-use Rattle.device_model.specs.Rules.{ObeysRules, IsStack, IsMonitor, IsInside, AreApart, block_size}
-use Rattle.armv7m.specs.Confinement.{Each}
+use Rattle.device_model.specs.Rules.{ObeysRules, IsStack, block_size}
+use Rattle.common_laws.specs.Lists.{Each}
+use Rattle.windows.specs.Ranges.{IsInside, AreApart, is_inside, are_apart}
+use Rattle.windows.proofs.Decisions.{decides_inside}
 use Rattle.monitor.specs.declared.tables.CompRecord.{CompRecord}
 use Rattle.monitor.specs.declared.tables.InitRecord.{InitRecord}
 use Rattle.monitor.specs.declared.tables.Tables.{Tables}
@@ -13,17 +15,18 @@ use Rattle.monitor.specs.Layout.{initial_words_at, initial_word_count, inits_at,
 use Rattle.monitor.specs.Area.{HasTables}
 use Rattle.monitor.specs.MonitorCode.{MonitorCode}
 use Rattle.monitor.specs.FromFlash.{tables_of}
-use Rattle.monitor.specs.RegionChecks.{is_data_range, is_inside, are_apart, is_compartment}
-use Rattle.monitor.specs.Checks.{must, inits_from, inits_fail, is_init}
+use Rattle.monitor.specs.RegionChecks.{is_data_range, is_compartment}
+use Rattle.monitor.specs.Checks.{must, inits_from, is_init}
 use Rattle.monitor.specs.Sound.{Sound}
 use Rattle.monitor.specs.Placed.{Placed, IsCompartment, SoundImagesArePlaced}
 use Rattle.monitor.specs.Promises.{ImagesStart}
 use Rattle.monitor.specs.TheCode.{monitor_code}
 use Rattle.monitor_laws.specs.StartUp.{IsInit, IsReady, ReadyImagesStart}
-use Rattle.monitor_laws.proofs.Checked.{both, lt_is, eq_is, inside_is, must_none, and_none, begins_with, NoneFails, none_fails, Header, header_is, TableHead, head_is, regions_are, Entries, entries_are}
-use Rattle.monitor_laws.proofs.RegionForms.{Grounds, CompFacts, comp_is}
+use Rattle.monitor_laws.proofs.Checked.{lt_is, eq_is, must_none, and_none, begins_with, NoneFails, none_fails, Header, header_is, TableHead, head_is, regions_are, entries_are}
+use Rattle.monitor_laws.proofs.RegionForms.{Grounds, comp_is}
 use Rattle.monitor_laws.proofs.Sizes.{IsSize, tables_size_is}
 use Rattle.monitor_laws.proofs.ReadTables.{read_from, has_tables, slot_count, each_count, word_total}
+use Rattle.common_laws.proofs.Tests.{both_true as both}
 
 four_more : (r : ℕ) → (r ≡ 8) ⊎ (r ≡ 16) → (r ≡ 4 + (r - 4)) × (r - 4 ≤ 12)
 four_more r (inl e) = (omega (arith, e), omega (arith, e))
@@ -134,7 +137,7 @@ module _ (code : MonitorCode) (i : Image) (rules : ObeysRules i) (nf : NoneFails
             at_aligned = x;
             end_aligned = y;
             some = lt;
-            in_ram = inside_is n.at (n.end - n.at) i.ram_base i.ram_size r.0;
+            in_ram = (decides_inside n.at (n.end - n.at) i.ram_base i.ram_size).0 r.0;
             from_aligned = ap (λ x. x % 4) e ∙ al;
             in_flash = subst (λ f. IsInside f (n.end - n.at) i.flash_base (length i.flash)) (sym e) (lo, room n.at n.end (sum_by words_in ns) x y lt (sums hi));
           }

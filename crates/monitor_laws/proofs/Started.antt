@@ -1,63 +1,59 @@
 -- Start-up on the machine: from reset to the first instruction of `main`.
-use Rattle.std.proofs.Common.{◌≡◌, ℕ, zero, suc, ◌+◌, ◌-◌, ◌*◌, ◌/◌, ◌%◌, ◌^◌, ◌<◌, ◌≤◌, ◌⊎◌, inl, inr, ⊎_elim, Bool, true, false, not, ◌&&◌, List, [], ◌∷◌, ◌++◌, length, replicate, get_or, nat_eq, Some, None, refl, sym, ap, ◌∙◌, subst, arith}
+use Rattle.std.proofs.Common.{◌≡◌, ℕ, ◌+◌, ◌-◌, ◌*◌, ◌/◌, ◌%◌, ◌^◌, ◌<◌, ◌≤◌, ◌⊎◌, inl, inr, ⊎_elim, true, false, List, [], ◌∷◌, ◌++◌, length, replicate, None, refl, sym, ap, ◌∙◌, subst, arith}
 use Rattle.std.specs.Prelude.{sum_by}
 use Rattle.words.specs.declared.conditions.Flags.{Flags}
-use Rattle.words.specs.Arithmetic.{word}
 use Rattle.words.specs.Bytes.{read}
 use Rattle.words.specs.Runs.{run}
 use Rattle.words.proofs.Runs.{run-add}
-use Rattle.thumb_model.specs.declared.table.Instr.{Instr}
-use Rattle.thumb_model.specs.declared.table.Instr.TheVariants.{BranchExchange, HighRegister, SpecialRegister, Barrier}
+use Rattle.thumb_model.specs.declared.table.Instr.TheVariants.{SpecialRegister}
 use Rattle.mpu_model.specs.declared.region.Access.TheVariants.{Fetch}
 use Rattle.mpu_model.specs.Registers.{at_reset}
 use Rattle.device_model.specs.declared.image.Image.{Image}
 use Rattle.device_model.specs.Rules.{ObeysRules}
-use Rattle.armv7m.specs.declared.state.CoreRegisters.{CoreRegisters}
 use Rattle.armv7m.specs.declared.state.ProtectionState.{ProtectionState}
 use Rattle.armv7m.specs.declared.state.FaultStatus.{FaultStatus}
-use Rattle.armv7m.specs.State.{State, Turn, by_mpu, is_unprivileged, calm}
+use Rattle.armv7m.specs.State.{State, by_mpu, is_unprivileged}
 use Rattle.armv7m.specs.Step.{turn, step, event}
-use Rattle.armv7m.specs.Run.{start, after}
+use Rattle.armv7m.specs.Run.{start}
 use Rattle.armv7m.specs.Shape.{StateFits, RunsKeepShape}
-use Rattle.armv7m.specs.Code.{size, Stands, CodeIn, CodeAt, Steps as OneStep, next}
+use Rattle.armv7m.specs.Code.{size, CodeIn, CodeAt, Steps as OneStep, next}
 use Rattle.armv7m.specs.Running.{code_size}
-use Rattle.armv7m.specs.RunningCode.{Context, body, works}
+use Rattle.armv7m.specs.RunningCode.{body, works}
 use Rattle.armv7m.specs.InstructionEffects.{EachWorks, RegisterSteps, BranchSteps, SpecialSteps}
 use Rattle.armv7m.specs.Instructions.{act}
-use Rattle.armv7m.specs.Confinement.{Each}
+use Rattle.common_laws.specs.Lists.{Each}
 use Rattle.armv7m.proofs.Exec.{code_may_run, code_parts}
 use Rattle.armv7m.proofs.Turns.{sets_turn}
 use Rattle.gate_steps.specs.Steps.{names_low}
 use Rattle.gate_steps.specs.Core.{Core}
-use Rattle.gate_steps.specs.Effect.{Outcome, Went, effect}
+use Rattle.gate_steps.specs.Effect.{Went, effect}
 use Rattle.gate_steps.specs.Code.{code, code_length}
 use Rattle.gate_steps.specs.Ticks.{ticks}
-use Rattle.gate_steps.specs.Runs.{Scratch, at, Leads, IsFine, Shows, MayStart}
+use Rattle.gate_steps.specs.Runs.{Scratch, at, Leads, Shows, MayStart}
 use Rattle.gate_steps.proofs.Runs.{Laws, effect_of_code}
 use Rattle.gate_steps.proofs.Gives.{gives_effect}
 use Rattle.gate_steps.proofs.CodeParts.{flash_has_code, code_has_its_length}
 use Rattle.gate_steps.proofs.Within.{GivesWithin}
 use Rattle.monitor.specs.declared.tables.Tables.{Tables}
-use Rattle.monitor.specs.Records.{words_in, stack_end, nobody, compartment_at, number_of_slots}
-use Rattle.monitor.specs.Layout.{initial_word_count, tables_size, area_end, initial_words_at}
+use Rattle.monitor.specs.Records.{words_in, stack_end, nobody}
+use Rattle.monitor.specs.Layout.{initial_word_count, tables_size}
 use Rattle.monitor.specs.Regions.{regions_for}
 use Rattle.monitor.specs.Block.{first_block}
-use Rattle.monitor.specs.Placed.{Placed, IsCompartment}
-use Rattle.monitor.specs.Page.{page, stub_address, constants, stub_offset}
+use Rattle.monitor.specs.Placed.{IsCompartment}
+use Rattle.monitor.specs.Page.{stub_address, constants}
 use Rattle.monitor.specs.CodeSize.{CodeFits, StubIsThere}
 use Rattle.monitor.specs.Constants.{Constants}
-use Rattle.monitor.specs.Invariant.{Invariant, InvariantHolds, context_of}
-use Rattle.monitor.specs.Confined.{StartUp, later}
+use Rattle.monitor.specs.Invariant.{Invariant, context_of}
+use Rattle.monitor.specs.Confined.{StartUp}
 use Rattle.monitor.specs.Reach.{AllBytes, StartKind}
 use Rattle.monitor.specs.MonitorLaw.{IsMemory}
-use Rattle.monitor.specs.Starts.{with_all_words, AtMain, HasBegun, StartsFrom, Starts}
+use Rattle.monitor.specs.Starts.{with_all_words, HasBegun, StartsFrom, Starts}
 use Rattle.monitor_laws.specs.StartUp.{IsReady, ReadyImagesStart}
-use Rattle.monitor_laws.proofs.Off.{core, IsOff, Allows, fetched_while_off}
+use Rattle.monitor_laws.proofs.Off.{core, IsOff, fetched_while_off}
 use Rattle.monitor_laws.proofs.Effects.{ticks_of}
 use Rattle.monitor_laws.proofs.Copies.{last_steps, copying_is_short}
 use Rattle.monitor_laws.proofs.Placement.{block_end_is, writable, stack_end_is}
 use Rattle.monitor_laws.proofs.Tables.{slots_are, stack_size}
-use Rattle.monitor_laws.proofs.FlashWords.{each_at}
 use Rattle.monitor_laws.proofs.Appended.{tables_low}
 use Rattle.monitor_laws.proofs.ResetList.{before_control, control_and_go, last_part, with_block, IsGood, AtControl, reset_within}
 use Rattle.monitor_laws.proofs.Encoded.{before_control_in}
@@ -65,6 +61,7 @@ use Rattle.monitor_laws.proofs.PageCode.{has_reset, first_vector, reset_vector, 
 use Rattle.monitor_laws.proofs.Fetched.{UnitLaws, page_is_fetched}
 use Rattle.monitor_laws.proofs.FirstBlock.{block_length, block_outside, first_is_block}
 use Rattle.monitor_laws.proofs.Ranges.{StartRule, starts_allow, starts_write_block, all_copied, all_small}
+use Rattle.common_laws.proofs.Lists.{each_at}
 
 -- the laws of lower crates that start-up rests on
 pub record StartLaws : Type 0 where

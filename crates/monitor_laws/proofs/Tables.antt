@@ -1,19 +1,18 @@
 -- The tables in flash, as the steps that write a compartment's regions take them.
-use Rattle.std.proofs.Common.{◌≡◌, ℕ, zero, suc, ◌+◌, ◌-◌, ◌*◌, ◌/◌, ◌%◌, ◌^◌, ◌<◌, ◌≤◌, ◌⊎◌, inl, inr, Bool, true, false, List, [], ◌∷◌, ◌++◌, map, length, min, get_or, refl, sym, ap, ap₂, ◌∙◌, subst, arith}
+use Rattle.std.proofs.Common.{◌≡◌, ℕ, ◌+◌, ◌-◌, ◌*◌, ◌/◌, ◌%◌, ◌^◌, ◌<◌, ◌≤◌, ◌⊎◌, inl, inr, Bool, List, [], ◌∷◌, ◌++◌, map, length, min, refl, sym, ap, ap₂, ◌∙◌, subst, arith}
 use Rattle.std.specs.Prelude.{flat_map, ◌↔◌}
 use Rattle.std.specs.Int.{trailing_zeros, w32, bit_at}
 use Rattle.std.specs.Int.Count.{count_trailing_zeros}
-use Rattle.words.specs.Arithmetic.{word}
 use Rattle.mpu_model.specs.declared.region.Region.{Region}
-use Rattle.mpu_model.specs.declared.words.Rights.TheVariants.{Stack}
 use Rattle.mpu_model.specs.RegionWords.{region_of, size_field}
 use Rattle.mpu_model.specs.Registers.{Registers}
 use Rattle.mpu_model.specs.Laws.{kept_region}
 use Rattle.mpu_model.specs.Configured.{closed_from, AreNumbered, written, AreWritten}
 use Rattle.mpu_model.proofs.Configured.{lists_are_written, eighths_are_closed}
 use Rattle.device_model.specs.declared.image.Image.{Image}
-use Rattle.device_model.specs.Rules.{ObeysRules, IsPowerBetween}
-use Rattle.armv7m.specs.Confinement.{Each}
+use Rattle.device_model.specs.Rules.{ObeysRules}
+use Rattle.common_laws.specs.Lists.{Each}
+use Rattle.windows.specs.Ranges.{IsPowerBetween}
 use Rattle.monitor.specs.declared.tables.CompRecord.{CompRecord}
 use Rattle.monitor.specs.declared.tables.Tables.{Tables}
 use Rattle.monitor.specs.Records.{nobody, compartment_at, number_of_slots, eighth}
@@ -23,9 +22,9 @@ use Rattle.monitor.specs.Regions.{background, tables_region, stack_region, regio
 use Rattle.monitor.specs.Constants.{Constants, constants_with}
 use Rattle.monitor_laws.specs.RegionsWritten.{IsNumbered, Writable, StackIsClosedAboveTop}
 use Rattle.monitor_laws.proofs.Numbers.{times_over, below_256}
-use Rattle.monitor_laws.proofs.Off.{IsOff}
 use Rattle.monitor_laws.proofs.Written.{HasRegions, HasRecord, Shaped, open_stack}
-use Rattle.monitor_laws.proofs.FlashWords.{Has, flash_has, has_front, has_back, has_record, has_regions, each_at, each_to}
+use Rattle.monitor_laws.proofs.FlashWords.{Has, flash_has, has_front, has_back, has_record, has_regions}
+use Rattle.common_laws.proofs.Lists.{each_to, each_at}
 
 -- ---- the stack's size
 
@@ -68,7 +67,7 @@ record_length s c e =
     let b = slot_words c.slots in
     omega (arith, a, b, e)
 
-product : (s c : ℕ) → (8 * s + 16) * c ≡ 4 * ((2 * s + 4) * c)
+pub product : (s c : ℕ) → (8 * s + 16) * c ≡ 4 * ((2 * s + 4) * c)
 product s c = grind arith
 
 pub least_of : (a b : ℕ) → b ≤ a → min a b ≡ b

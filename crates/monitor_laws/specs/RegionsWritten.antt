@@ -7,9 +7,10 @@ use Rattle.mpu_model.specs.declared.region.Region.{Region}
 use Rattle.mpu_model.specs.Laws.{kept_region}
 use Rattle.mpu_model.specs.Configured.{AreNumbered}
 use Rattle.device_model.specs.declared.image.Image.{Image}
-use Rattle.device_model.specs.Rules.{ObeysRules, IsPowerBetween, IsInside}
+use Rattle.windows.specs.Ranges.{IsPowerBetween, IsInside}
+use Rattle.device_model.specs.Rules.{ObeysRules}
 use Rattle.armv7m.specs.State.{by_mpu, is_unprivileged}
-use Rattle.armv7m.specs.Confinement.{Each}
+use Rattle.common_laws.specs.Lists.{Each}
 use Rattle.gate_steps.specs.Steps.{End}
 use Rattle.gate_steps.specs.Core.{Core, low_register}
 use Rattle.gate_steps.specs.Effect.{Went, effect}

@@ -3,6 +3,6 @@ mod Scan
 mod Selected
 pub mod Alike
 mod RegionWords
-mod Powers
+pub mod Powers
 mod Writes
 pub mod Configured

@@ -3,8 +3,8 @@ use Rattle.std.proofs.Common.{◌≡◌, ◌≢◌, ℕ, ◌+◌, ◌-◌, ◌*�
 use Rattle.std.specs.Int.{bit_at, trailing_zeros, IsPowerOfTwo}
 use Rattle.std.proofs.Math.Nat.{pow-le-pow_right, add-mul-div_right, div-div-eq-div-mul}
 use Rattle.std.proofs.lemmas.Nat.{trailing_le, pow-add, pow_below, div-mul-add}
-use Rattle.std.proofs.lemmas.Nat.Bits.{bit_at-trailing_zeros, bit_at-pow_other, bit_at-lt}
-use Rattle.std.proofs.lemmas.Bool.{cases_order, cases_lt}
+use Rattle.std.proofs.lemmas.Nat.Bits.{bit_at-pow_other, bit_at-lt}
+use Rattle.std.proofs.lemmas.Bool.{cases_lt}
 use Rattle.std.proofs.lemmas.Bool.Decides.{nat_tests}
 use Rattle.mpu_model.specs.declared.region.Region.{Region}
 use Rattle.mpu_model.specs.declared.region.Access.{Access}
@@ -14,16 +14,7 @@ use Rattle.mpu_model.specs.declared.words.Rights.TheVariants.{Background, Code, 
 use Rattle.mpu_model.specs.Regions.{ap_reads, ap_writes, holds, allows, size_log, permission}
 use Rattle.mpu_model.specs.Laws.{RegionsHoldTheirBlocks, RegionsGiveTheirRights}
 use Rattle.mpu_model.specs.RegionWords.{rights_word, size_field, region_of, IsHeld, may}
-
--- a power of two below 2 ^ 32 has its exponent as the number of zeros at its end
-pub trailing_zeros-pow : (k : ℕ) → k < 32 → trailing_zeros w32 (2 ^ k) ≡ k
-trailing_zeros-pow k lt = ⊎_elim (λ e. e) (λ other. absurd (apart (⊎_elim (λ h. omega arith) (λ h. omega arith) other))) (cases_order (trailing_zeros w32 (2 ^ k)) k)
-  where
-    found : bit_at (2 ^ k) (trailing_zeros w32 (2 ^ k)) ≡ 1
-    found = (bit_at-trailing_zeros w32 (2 ^ k) (pow_pos k) (pow_below k 32 lt)).1
-
-    apart : trailing_zeros w32 (2 ^ k) ≢ k → ⊥
-    apart ne = let none = bit_at-pow_other k (trailing_zeros w32 (2 ^ k)) ne in omega (arith, found, none)
+use Rattle.mpu_model.proofs.Powers.{trailing_zeros-pow}
 
 -- the parts of MPU_RASR
 pub record Parts (rights : Rights) (srd s r : ℕ) : Type 0 where

@@ -1,13 +1,7 @@
 -- Places in groups.
-use Rattle.std.proofs.Common.{◌≡◌, ℕ, zero, suc, ◌+◌, ◌^◌, ◌<◌, List, [], ◌∷◌, take, get_or, arith, length, ◌∙◌}
-use Rattle.std.specs.List.{sum}
-use Rattle.std.proofs.lemmas.List.Sums.{sum_by-cons}
+use Rattle.std.proofs.Common.{◌≡◌, ℕ, zero, suc, ◌+◌, ◌^◌, ◌<◌, List, [], ◌∷◌, get_or, arith, length, ◌∙◌}
 use Rattle.object_sets.specs.Groups.{AreNumbered}
-
-pub place_below : (counts : List ℕ) (g i : ℕ) → i < get_or counts g 0 → sum (take g counts) + i < sum counts
-place_below [] g i l = absurd (omega arith)
-place_below (c ∷ cs) zero i l = let e = sum_by-cons (λ x. x) c cs in omega arith
-place_below (c ∷ cs) (suc g) i l = let h = place_below cs g i l in let e = sum_by-cons (λ x. x) c cs in let f = sum_by-cons (λ x. x) c (take g cs) in omega arith
+use Rattle.common_laws.proofs.Lists.{sum_below as place_below}
 
 index_is : (xs : List ℕ) (k x : ℕ) → k < length xs → x ≡ get_or xs k x → x ≡ get_or xs k 0
 index_is [] k x l e = absurd (omega arith)

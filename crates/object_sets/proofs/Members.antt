@@ -1,10 +1,9 @@
 -- A list in order has exactly its objects.
-use Rattle.std.proofs.Common.{◌≡◌, ℕ, zero, suc, ◌<◌, Bool, true, false, ◌||◌, ◌&&◌, List, [], ◌∷◌, length, get_or, refl, sym, ap, ◌∙◌, subst, arith, nat_eq, ◌⊎◌, inl, inr, Contains, Option, Some, None}
+use Rattle.std.proofs.Common.{◌≡◌, ℕ, zero, suc, ◌<◌, Bool, true, false, ◌||◌, ◌&&◌, List, [], ◌∷◌, length, get_or, refl, sym, ap, ◌∙◌, subst, arith, nat_eq, inl, inr, Contains, Option, Some, None}
 use Rattle.std.specs.List.{list_any}
 use Rattle.std.specs.List.Sorted.{IsStrictlySortedBy}
 use Rattle.std.proofs.lemmas.Bool.{false≢true, eqb-true, eq-eqb}
 use Rattle.ir_model.specs.declared.object.ObjId.{ObjId}
-use Rattle.ir_model.specs.declared.object.ObjId.TheVariants.{Global, Periph, Local, Func}
 use Rattle.ir_model.specs.Objects.{object_by, compare_objects}
 use Rattle.ir_model.specs.State.{Object, GlobalObject, PeriphObject, LocalObject, FunctionObject}
 use Rattle.plan_model.specs.Lists.{ListsExactly}
@@ -12,6 +11,8 @@ use Rattle.ir_laws.specs.Sets.{Node}
 use Rattle.object_sets.specs.declared.numbering.Numbering.{Numbering}
 use Rattle.object_sets.specs.Numbers.{node_number}
 use Rattle.object_sets.specs.Sets.{Sets, same_object, row_at, row_of, sets_of}
+use Rattle.common_laws.proofs.Tests.{either_true as or_cases}
+use Rattle.ir_laws.proofs.Objects.{same_id as object_by_is}
 
 and_left : (a b : Bool) → a && b ≡ true → a ≡ true
 and_left true b e = refl
@@ -47,31 +48,9 @@ same_self (PeriphObject g) = eq-eqb g g refl
 same_self (LocalObject f l) = subst (λ b. b && nat_eq l l ≡ true) (sym (eq-eqb f f refl)) (eq-eqb l l refl)
 same_self (FunctionObject g) = eq-eqb g g refl
 
-pub object_by_is : (a b : ObjId) → object_by a ≡ object_by b → a ≡ b
-object_by_is (Global g) (Global h) e = cc
-object_by_is (Periph g) (Periph h) e = cc
-object_by_is (Local g l) (Local h m) e = cc
-object_by_is (Func g) (Func h) e = cc
-object_by_is (Global g) (Periph h) e = cc
-object_by_is (Global g) (Local h l) e = cc
-object_by_is (Global g) (Func h) e = cc
-object_by_is (Periph g) (Global h) e = cc
-object_by_is (Periph g) (Local h l) e = cc
-object_by_is (Periph g) (Func h) e = cc
-object_by_is (Local g k) (Global h) e = cc
-object_by_is (Local g k) (Periph h) e = cc
-object_by_is (Local g k) (Func h) e = cc
-object_by_is (Func g) (Global h) e = cc
-object_by_is (Func g) (Periph h) e = cc
-object_by_is (Func g) (Local h l) e = cc
-
 or_true : (a b : Bool) → b ≡ true → a || b ≡ true
 or_true true b e = refl
 or_true false b e = e
-
-or_cases : (a b : Bool) → a || b ≡ true → (a ≡ true) ⊎ (b ≡ true)
-or_cases true b e = inl refl
-or_cases false b e = inr e
 
 abbrev among : List ObjId → ObjId → Bool
 among xs o = list_any (λ x. same_object (object_by x) (object_by o)) xs

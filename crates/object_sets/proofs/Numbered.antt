@@ -1,5 +1,5 @@
 -- What has a number has it alone, and objects at the places of a list's numbers are those whose numbers the list has.
-use Rattle.std.proofs.Common.{◌≡◌, ℕ, zero, suc, ◌+◌, ◌<◌, Bool, true, false, List, [], ◌∷◌, take, map, get_or, length, Option, Some, None, refl, sym, ap, ◌∙◌, subst, arith, nat_lt, nat_eq, if◌then◌else◌, Contains}
+use Rattle.std.proofs.Common.{◌≡◌, ℕ, zero, suc, ◌+◌, ◌<◌, Bool, true, false, List, [], ◌∷◌, take, map, get_or, length, Option, Some, None, refl, sym, ap, ◌∙◌, subst, arith, nat_lt, nat_eq, Contains}
 use Rattle.std.specs.List.{sum, list_any}
 use Rattle.std.proofs.lemmas.Bool.{false≢true, ltb-true, eqb-true, eq-eqb}
 use Rattle.std.proofs.lemmas.List.{length-map, get_or-map, get_or_default}
@@ -16,6 +16,8 @@ use Rattle.object_sets.specs.Numbers.{object_number, IsTable}
 use Rattle.object_sets.specs.Sets.{same_object}
 use Rattle.object_sets.specs.Tables.{has_number, object_at}
 use Rattle.object_sets.proofs.Members.{same_is, same_self}
+use Rattle.common_laws.proofs.Tests.{same_tests as same_truth}
+use Rattle.common_laws.proofs.Options.{guarded}
 
 -- an item of a group that ends before another begins
 sum_more : (cs : List ℕ) (g i : ℕ) → i < get_or cs g 0 → i < sum cs
@@ -38,10 +40,6 @@ some_is x y e = cc
 
 pub none_is : (r : Option ℕ) (x : ℕ) → r ≡ None → r ≡ Some x → ⊥
 none_is r x n e = cc
-
-pub guarded : (b : Bool) (r : Option ℕ) (k : ℕ) → (if b then r else None) ≡ Some k → (b ≡ true) × (r ≡ Some k)
-guarded true r k e = (refl, e)
-guarded false r k e = absurd (none_is None k refl e)
 
 pub place_at : (cs : List ℕ) (g i k : ℕ) → place_of cs g i ≡ Some k → (i < get_or cs g 0) × (sum (take g cs) + i ≡ k)
 place_at cs g i k e =
@@ -84,11 +82,6 @@ same_number c (FunctionObject g) (LocalObject h m) k e f =
     let r = (alone c.objects (2 + c.funcs) (2 + h) g m k e b.1).0 in
     let s = b.0 in absurd (omega arith)
 same_number c (FunctionObject g) (FunctionObject h) k e f = ap FunctionObject (alone c.objects (2 + c.funcs) (2 + c.funcs) g h k e f).1
-
-same_truth : (a b : Bool) → (a ≡ true → b ≡ true) → (b ≡ true → a ≡ true) → a ≡ b
-same_truth true b h k = sym (h refl)
-same_truth false true h k = k refl
-same_truth false false h k = refl
 
 abbrev lists : List ObjId → Object → Bool
 lists xs o = list_any (λ x. same_object (object_by x) o) xs

@@ -21,13 +21,6 @@ cases x y xs h = cases_by x y xs h.0 h.1 h.2
 pub in_none : {X : Type 0} (y : X) → Contains [] y → ⊥
 in_none y h = let l = h.1 in omega arith
 
-pub only : {X : Type 0} (x y : X) → Contains (x ∷ []) y → x ≡ y
-only x y h = by (cases x y [] h)
-  where
-    by : (x ≡ y) ⊎ Contains [] y → x ≡ y
-    by (inl e) = e
-    by (inr r) = absurd (in_none y r)
-
 pub joined : {X Y : Type 0} (f : X → List Y) (x : X) (y : Y) (xs : List X) → Contains xs x → Contains (f x) y → Contains (flat_map f xs) y
 joined f x y [] h i = absurd (in_none x h)
 joined {X} {Y} f x y (z ∷ zs) h i = by (cases z x zs h) (λ r. joined f x y zs r i)

@@ -1,1 +1,2 @@
 mod Offsets
+pub mod Bare

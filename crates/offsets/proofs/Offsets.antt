@@ -1,19 +1,12 @@
 -- Sizes of what stands in front of a place.
 use Rattle.std.proofs.Common.{◌≡◌, ℕ, suc, ◌+◌, ◌<◌, List, [], ◌∷◌, map, length, drop, get_or, zero, refl, ap, sym, ◌∙◌, add-one, arith}
 use Rattle.std.proofs.lemmas.List.{drop_more}
-use Rattle.ir_model.specs.Plain.{PlainSlot}
-use Rattle.ir_model.specs.Signatures.{row_length}
-use Rattle.ir_model.specs.Resolve.{row_from}
 use Rattle.ir_model.specs.Resolved.{NumberedFunc, NumberedTerm, Does, here_in}
 use Rattle.ir_program.specs.declared.program.Operation.{Operation}
 use Rattle.ir_program.specs.Seen.{operation_of}
-use Rattle.lower.specs.declared.places.CallSite.{CallSite}
-use Rattle.lower.specs.Places.{crosses}
-use Rattle.lower.specs.Sizes.{inst_size, insts_size}
-
-pub rows_length : (ps : List PlainSlot) → row_length (row_from ps) ≡ length ps
-rows_length [] = refl
-rows_length (p ∷ ps) = ap (λ n. suc n) (rows_length ps)
+use Rattle.code_model.specs.declared.places.CallSite.{CallSite}
+use Rattle.code_model.specs.Places.{crosses}
+use Rattle.code_model.specs.Sizes.{inst_size, insts_size}
 
 -- the first of the instructions from a place on, and the others
 pub insts_next : (g : NumberedFunc) (sites : List CallSite) (n b i : ℕ) (os : List Operation) (d : Operation) → i < length os →

@@ -4,12 +4,12 @@ ghost use Rattle.std.specs.Prelude.{◌≡◌, ◌<◌, [], map, IfSome};
 ghost use Rattle.ir_model.specs.Layout.{rounded_up as rounded};
 ghost use Rattle.ir_program.specs.Storages.{shape_of};
 ghost use Rattle.ir_program.specs.Seen.{routine_of};
-ghost use Rattle.lower.specs.FrameShape as frames;
+ghost use Rattle.code_model.specs.FrameShape as frames;
 
 use ir_program::program::{Routine, Storage};
 
 /// A number of bytes, rounded up to a multiple of another; none where that takes more than 32 bits.
-fn rounded_up(bytes: u32, to: u32) -> Option<u32>
+pub fn rounded_up(bytes: u32, to: u32) -> Option<u32>
     requires { 0 < to }
     ensures { IfSome result (λ n. n ≡ rounded bytes to) }
 {

@@ -5,13 +5,13 @@ ghost use Rattle.std.specs.Prelude.{◌≡◌, ◌+◌, ◌*◌, ◌<◌, ◌≤
 ghost use Rattle.ir_model.specs.Resolved.{NumberedFunc, Does, here_in};
 ghost use Rattle.ir_model.specs.Signatures.{row_length};
 ghost use Rattle.ir_program.specs.Seen.{target_of, operation_of, exit_of, sequence_of, routine_of};
-ghost use Rattle.lower.specs.Places.{crosses};
-ghost use Rattle.lower.specs.Sizes as sizes;
+ghost use Rattle.code_model.specs.Places.{crosses};
+ghost use Rattle.code_model.specs.Sizes as sizes;
 
 use crate::frame::frame_words;
+use code_model::CallSite;
 use ir_model::firmware::BinOp;
 use ir_program::program::{Exit, Operation, Routine, Sequence, Target};
-use lower::CallSite;
 
 /// Whether the call at a place may go to another compartment.
 fn is_crossing(sites: &[CallSite], block: usize, place: usize) -> bool
@@ -87,7 +87,7 @@ fn resume_size(crosses: bool, operation: &Operation) -> Option<u32>
 }
 
 /// The bytes of an instruction; `crosses` tells whether it is a call that may go to another compartment.
-#[tactic(auto, unfolding(lower::specs::Sizes::inst_size))]
+#[tactic(auto, unfolding(code_model::specs::Sizes::inst_size))]
 fn inst_size(crosses: bool, operation: &Operation) -> Option<u32>
     ensures { IfSome result (λ n. n ≡ sizes.inst_size crosses (operation_of [] operation.now)) }
 {
@@ -127,7 +127,7 @@ fn adjust_size(words: u32) -> u32
 }
 
 /// The bytes of a block's end, in a function of whose locals so many are lent.
-#[tactic(auto, unfolding(lower::specs::Sizes::term_size))]
+#[tactic(auto, unfolding(code_model::specs::Sizes::term_size))]
 fn exit_size(routine: &Routine, lent: u32, exit: Exit) -> Option<u32>
     ensures { IfSome result (λ n. n ≡ sizes.term_size (routine_of [] routine.now) lent (exit_of exit)) }
 {
@@ -149,7 +149,7 @@ fn param_count(routine: &Routine) -> usize
 }
 
 /// The bytes of an entry, in a function of whose locals so many are lent.
-#[tactic(auto, unfolding(lower::specs::Sizes::entry_size))]
+#[tactic(auto, unfolding(code_model::specs::Sizes::entry_size))]
 fn entry_size(routine: &Routine, lent: u32) -> Option<u32>
     ensures { IfSome result (λ n. n ≡ sizes.entry_size (routine_of [] routine.now) lent) }
 {

@@ -1,14 +1,10 @@
 -- The sets are closed, and contained in all that are.
-use Rattle.std.proofs.Common.{◌≡◌, ℕ, zero, suc, ◌<◌, [], ◌∷◌, true, get_or, refl, arith}
+use Rattle.std.proofs.Common.{◌≡◌, ℕ, zero, suc, [], ◌∷◌, true, get_or, refl, arith}
 use Rattle.ir_model.specs.Resolved.{Number, global_at, here, register_type}
 use Rattle.ir_model.specs.State.{Object, GlobalObject, PeriphObject, LocalObject}
 use Rattle.ir_laws.specs.Sets.{Node, Register, Content, ObjectSets, Flows, HereFlows, IsOf, Closed}
 use Rattle.plan_examples.specs.LentLocal.{program, sets, HasLeastSets}
-
--- the one argument of a call
-one_argument : (P : ℕ → Type 0) → P 0 → (k : ℕ) → k < 1 → P k
-one_argument P h zero l = h
-one_argument P h (suc k) l = absurd (omega arith)
+use Rattle.plan_examples.proofs.OneItem.{one_argument}
 
 main_to_between : (o : Object) → sets (Register 0 0) o ≡ true → sets (Register 1 0) o ≡ true
 main_to_between (LocalObject zero zero) e = refl

@@ -3,8 +3,7 @@ use Rattle.std.proofs.Common.{◌≡◌, ℕ, zero, suc, ◌<◌, Bool, true, fa
 use Rattle.std.specs.Prelude.{◌⊎◌}
 use mathlib.Core.Logic.{inl, inr}
 use Rattle.std.specs.Ordering.{nat_cmp}
-use Rattle.ir_model.specs.declared.object.ObjId.{ObjId}
-use Rattle.ir_model.specs.declared.object.ObjId.TheVariants.{Global, Periph, Local, Func}
+use Rattle.ir_model.specs.declared.object.ObjId.TheVariants.{Periph, Local}
 use Rattle.ir_model.specs.Resolved.{here, func_at}
 use Rattle.ir_model.specs.State.{Object, PeriphObject, LocalObject}
 use Rattle.ir_model.specs.Objects.{object_by, compare_objects}
@@ -12,17 +11,9 @@ use Rattle.ir_laws.specs.Sets.{Register, ReadsAt, WritesAt, CallsAt, IsRead, IsW
 use Rattle.plan_model.specs.Calls.{IsCallee}
 use Rattle.plan_model.specs.Lendable.{IsLendable, OthersWrite, compare_locals}
 use Rattle.plan_model.specs.Needs.{IsWritable, IsData, IsNeedOf, need_of, AreNeeds}
-use Rattle.plan_examples.proofs.OneItem.{one_item, no_item}
+use Rattle.plan_examples.proofs.OneItem.{one_item, no_item, number_of_periph}
 use Rattle.plan_examples.specs.LentLocal.{program, sets, needs, HasNeeds}
-
--- ---- objects by their numbers
-
-same_id : (x y : ObjId) → object_by x ≡ object_by y → x ≡ y
-same_id (Global a) (Global b) e = cc
-same_id (Periph a) (Periph b) e = cc
-same_id (Local f a) (Local g b) e = cc
-same_id (Func a) (Func b) e = cc
-same_id _ _ e = cc
+use Rattle.ir_laws.proofs.Objects.{same_id}
 
 -- ---- what each function writes, reads and calls
 
@@ -77,9 +68,6 @@ writer_calls g zero (suc zero) w = w
 writer_calls g _ _ w = w
 
 -- ---- the needs of each function
-
-number_of_periph : (q r : ℕ) → PeriphObject q ≡ PeriphObject r → q ≡ r
-number_of_periph q r e = cc
 
 main_need : IsNeedOf program sets 0 (need_of (needs false) 0)
 main_need = record {

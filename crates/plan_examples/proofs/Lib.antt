@@ -1,7 +1,7 @@
 mod ControlLoop
 mod Joining
 mod Placing
-mod OneItem
+pub mod OneItem
 mod LeastSets
 mod LentNeeds
 mod Loans

@@ -1,2 +1,6 @@
 pub mod Orders
 pub mod Powers
+pub mod Numbers
+pub mod Compartments
+pub mod Choices
+pub mod SameUsers

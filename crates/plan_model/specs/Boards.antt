@@ -1,25 +1,26 @@
 -- The rules that a board obeys.
 use Rattle.std.specs.Prelude.{◌≡◌, ℕ, ◌-◌, ◌%◌, ◌≤◌, ◌⊎◌}
-use Rattle.device_model.specs.Rules.{IsPowerBetween}
+use Rattle.windows.specs.Ranges.{IsPowerBetween}
+use Rattle.device_model.specs.Rules.{least_stack, greatest_stack, memory_limit, last_flash_base, first_ram_base, last_ram_base, least_ram, ram_unit}
 use Rattle.plan_model.specs.declared.plan.Board.{Board}
 
--- a multiple of 32 from 1,024 to 1,048,576
+-- a multiple of 32 from 1,024 to 1,048,576: flash has a size that RAM may have
 pub record IsMemorySize (n : ℕ) : Type 0 where
-  pub least : 1024 ≤ n
-  pub most : n ≤ 0x100000
-  pub blocks : n % 32 ≡ 0
+  pub least : least_ram ≤ n
+  pub most : n ≤ memory_limit
+  pub blocks : n % ram_unit ≡ 0
 
 -- flash begins at a multiple of a MiB from 0 to 0x1FE00000, RAM at one from 0x20000000 to 0x3FF00000, so that each has its own
 -- MiB; the stack is a power of two from 512 to 65,536
 pub record IsBoard (b : Board) : Type 0 where
-  pub flash_aligned : b.flash_base % 0x100000 ≡ 0
-  pub flash_highest : b.flash_base ≤ 0x1FE00000
+  pub flash_aligned : b.flash_base % memory_limit ≡ 0
+  pub flash_highest : b.flash_base ≤ last_flash_base
   pub flash_size : IsMemorySize b.flash_size
-  pub ram_aligned : b.ram_base % 0x100000 ≡ 0
-  pub ram_lowest : 0x20000000 ≤ b.ram_base
-  pub ram_highest : b.ram_base ≤ 0x3FF00000
+  pub ram_aligned : b.ram_base % memory_limit ≡ 0
+  pub ram_lowest : first_ram_base ≤ b.ram_base
+  pub ram_highest : b.ram_base ≤ last_ram_base
   pub ram_size : IsMemorySize b.ram_size
-  pub stack : IsPowerBetween 9 16 b.stack
+  pub stack : IsPowerBetween least_stack greatest_stack b.stack
   pub regions : (b.regions ≡ 8) ⊎ (b.regions ≡ 16)
 
 -- regions 0 to 3 of the unit are for the background, the tables, the code and the stack; the others are slots

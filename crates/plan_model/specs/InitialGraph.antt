@@ -9,6 +9,7 @@ use Rattle.plan_model.specs.declared.graph.Cover.{Cover}
 use Rattle.plan_model.specs.declared.graph.Graph.{Graph}
 use Rattle.plan_model.specs.Lists.{numbers_below, is_empty, same_numbers, in_order, distinct}
 use Rattle.plan_model.specs.Groups.{writes, reads, uses}
+use Rattle.plan_model.specs.CompileLimits.{lent_limit}
 
 -- ---- data regions
 
@@ -79,9 +80,9 @@ abbrev pub number_of_bits : List Bool → ℕ
 number_of_bits [] = 0
 number_of_bits (b ∷ bs) = (if b then 1 else 0) + 2 * number_of_bits bs
 
--- bit i tells whether lendable local i passes the test; there are 32 bits
+-- bit i tells whether lendable local i passes the test
 abbrev pub mask_where : Needs → (does : ℕ × ℕ → Bool) → ℕ
-mask_where n does = number_of_bits (map does (take 32 n.lendable))
+mask_where n does = number_of_bits (map does (take lent_limit n.lendable))
 
 -- the lendable locals that the compartment's functions may write
 abbrev pub mask_of : Needs → Groups → (compartment : ℕ) → ℕ

@@ -26,12 +26,16 @@ words_in p xs = rounded_up (region_bytes p xs) 4 / 4
 abbrev pub initial_words : Program → Final → ℕ
 initial_words p f = sum_by (words_in p) (filled_blocks f)
 
--- 4,096 bytes of vectors and code; 8 words of counts and places; for each compartment the words of 1 + slots regions and two
+-- bytes of the page that has the vectors and the monitor's code
+abbrev pub page_bytes : ℕ
+page_bytes = 4096
+
+-- the page; 8 words of counts and places; for each compartment the words of 1 + slots regions and two
 -- masks; 3 words for each crossing site, 2 for each of its targets, 1 for each lent local, 3 for each block that start-up fills;
 -- and the initial words
 unfoldable pub table_bytes : Program → Needs → Final → (slots : ℕ) → ℕ
 table_bytes p n f slots =
-    4096
+    page_bytes
     + 4 * 8
     + (8 * slots + 16) * f.groups.count
     + 12 * length (crossing_sites n f.groups)

@@ -3,7 +3,7 @@ use Rattle.std.proofs.Common.{◌≡◌, ℕ, sym, subst}
 use Rattle.device_model.specs.Rules.{ObeysRules}
 use Rattle.ir_model.specs.Resolve.{resolve}
 use Rattle.plan_model.specs.Needs.{AreNeeds}
-use Rattle.lower.specs.Planned.{code_places}
+use Rattle.code_model.specs.Planned.{code_places}
 use Rattle.monitor.specs.FromFlash.{tables_of}
 use Rattle.monitor.specs.Invariant.{Invariant}
 use Rattle.monitor.specs.Law.{Law}

@@ -19,7 +19,7 @@ use Rattle.plan_model.specs.InitialGraph.{initial_graph}
 use Rattle.plan_model.specs.RamPlacement.{ram_needed}
 use Rattle.plan_model.specs.Placement.{Fits, plan_of}
 use Rattle.compile_limits.specs.Told.{told}
-use Rattle.lower.specs.Planned.{sizes_of}
+use Rattle.code_model.specs.Planned.{sizes_of}
 use Rattle.layout.specs.declared.refusal.PlaceRefusal.{PlaceRefusal}
 use Rattle.layout.specs.declared.refusal.PlaceRefusal.TheVariants as place
 use Rattle.layout.specs.Placing.{flash_refusal, ram_refusal}
@@ -30,7 +30,8 @@ use Rattle.planning.specs.declared.refusal.PlanningRefusal.TheVariants.{NoMemory
 use Rattle.planning.specs.Planned.{IsPlannedFor}
 use Rattle.planning.specs.Refusals.{AreRefused, HasNoRoom, IsPlanningRefusal, of_place}
 use Rattle.planning.specs.Laws.{PlansAreOne, PlansAreNotRefused, PlanningRefusalsAreOne}
-use Rattle.planning.proofs.Refusing.{tried}
+use Rattle.common_laws.proofs.Options.{one_some as one_passed}
+use Rattle.layout.proofs.Tried.{tried}
 
 -- ---- blocks that fit are placed
 
@@ -90,9 +91,6 @@ plans_are_not_refused one p n g b x r k h = not_refused one p n g b x r k h
 
 one_error : {X E : Type 0} (r : Result X E) (e f : E) → r ≡ Err e → r ≡ Err f → e ≡ f
 one_error r e f a b = cc
-
-one_passed : {X : Type 0} (o : Option X) (x y : X) → o ≡ Some x → o ≡ Some y → x ≡ y
-one_passed o x y a b = cc
 
 module _ (one : GraphsAreOne) (p : Program) (n : Needs) (g : Groups) (b : Board) where
   same_limit : (w v : LimitKind) (c d : ℕ) → IsPlanningRefusal p n g b (Limit w c) → IsPlanningRefusal p n g b (Limit v d) → Limit w c ≡ Limit v d

@@ -1,5 +1,5 @@
 -- What the parts of planning answer, as what planning does.
-use Rattle.std.proofs.Common.{◌≡◌, ℕ, Bool, true, false, cond, Option, Some, None, option_map, Result, Ok, Err, IfOk, IfErr, nat_lt, refl, sym, ap, subst, ◌∙◌, ltb-false}
+use Rattle.std.proofs.Common.{◌≡◌, ℕ, Bool, true, false, Option, Some, None, option_map, Result, Ok, Err, IfOk, IfErr, nat_lt, refl, sym, ap, subst, ◌∙◌, ltb-false}
 use Rattle.ir_model.specs.Resolved.{Program}
 use Rattle.plan_model.specs.declared.needs.Needs.{Needs}
 use Rattle.plan_model.specs.declared.groups.Groups.{Groups}
@@ -15,7 +15,7 @@ use Rattle.plan_model.specs.FlashPlacement.{flash_needed}
 use Rattle.plan_model.specs.RamPlacement.{ram_needed}
 use Rattle.plan_model.specs.Placement.{Fits, plan_of}
 use Rattle.compile_limits.specs.Told.{told}
-use Rattle.lower.specs.Planned.{sizes_of}
+use Rattle.code_model.specs.Planned.{sizes_of}
 use Rattle.layout.specs.declared.refusal.PlaceRefusal.{PlaceRefusal}
 use Rattle.layout.specs.Placing.{flash_refusal, ram_refusal}
 use Rattle.layout.specs.Placing as placing
@@ -25,12 +25,9 @@ use Rattle.planning.specs.declared.refusal.PlanningRefusal.TheVariants.{NoMemory
 use Rattle.planning.specs.Planned.{IsPlaced, IsPlannedFor}
 use Rattle.planning.specs.Refusals.{IsRoomRefusal, IsPlanningRefusal}
 use Rattle.planning.proofs.Kept.{final_groups}
+use Rattle.layout.proofs.Tried.{tried}
 
 -- ---- a plan that is given
-
--- two tests, one behind the other
-abbrev pub tried : (a b : Bool) → (x y : PlaceRefusal) → Plan → Result Plan PlaceRefusal
-tried a b x y l = cond a (Err x) (cond b (Err y) (Ok l))
 
 record ArePassed (a b : Bool) (l m : Plan) : Type 0 where
   first : a ≡ false

@@ -8,7 +8,7 @@ use Rattle.plan_model.specs.Boards.{slots_of}
 use Rattle.plan_model.specs.CompileLimits.{KeepsLimits}
 use Rattle.plan_model.specs.FinalGraph.{IsFinal}
 use Rattle.plan_model.specs.Placement.{Fits, plan_of}
-use Rattle.lower.specs.Planned.{sizes_of}
+use Rattle.code_model.specs.Planned.{sizes_of}
 use Rattle.planning.specs.declared.planner.PlannedFirmware.{PlannedFirmware}
 
 -- its sizes and its plan are those of its graph, and the board has room for its blocks

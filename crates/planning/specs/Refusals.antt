@@ -9,7 +9,7 @@ use Rattle.plan_model.specs.Boards.{slots_of}
 use Rattle.plan_model.specs.CompileLimits.{KeepsLimits, first_passed}
 use Rattle.plan_model.specs.FinalGraph.{IsFinal}
 use Rattle.compile_limits.specs.Told.{told}
-use Rattle.lower.specs.Planned.{sizes_of}
+use Rattle.code_model.specs.Planned.{sizes_of}
 use Rattle.layout.specs.declared.refusal.PlaceRefusal.{PlaceRefusal}
 use Rattle.layout.specs.declared.refusal.PlaceRefusal.TheVariants as place
 use Rattle.layout.specs.Placing as placing

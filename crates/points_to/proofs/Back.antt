@@ -11,8 +11,10 @@ use Rattle.ir_laws.specs.Sets.{Node, Register, Content, Outcome, carries}
 use Rattle.object_sets.specs.declared.numbering.Numbering.{Numbering}
 use Rattle.object_sets.specs.Groups.{place_of, start_of}
 use Rattle.object_sets.specs.Numbers.{object_number, node_number, content_number, object_groups, node_groups, numbering_of}
-use Rattle.object_sets.proofs.Numbered.{some_is, none_is, guarded, place_at}
+use Rattle.object_sets.proofs.Numbered.{some_is, none_is, place_at}
 use Rattle.points_to.specs.Rules.{callee_of}
+use Rattle.common_laws.proofs.Options.{guarded}
+use Rattle.common_laws.proofs.Lists.{sum_below as sum_more}
 
 -- a group, and a place in it
 pub record Spot : Type 0 where
@@ -123,11 +125,6 @@ registers_group p n f l =
 
 place_there : (cs : List ℕ) (g i : ℕ) → i < get_or cs g 0 → place_of cs g i ≡ Some (start_of cs g + i)
 place_there cs g i l = test_true (nat_lt i (get_or cs g 0)) (Some (start_of cs g + i)) None (lt-ltb i (get_or cs g 0) l)
-
-sum_more : (cs : List ℕ) (g i : ℕ) → i < get_or cs g 0 → sum (take g cs) + i < sum cs
-sum_more [] g i l = absurd (omega arith)
-sum_more (c ∷ cs) zero i l = let e = sum_by-cons (λ x. x) c cs in omega arith
-sum_more (c ∷ cs) (suc g) i l = let e = sum_by-cons (λ x. x) c cs in let s = sum_by-cons (λ x. x) c (take g cs) in let h = sum_more cs g i l in omega arith
 
 place_within : (cs : List ℕ) (g i k : ℕ) → place_of cs g i ≡ Some k → k < sum cs
 place_within cs g i k e = let h = place_at cs g i k e in let b = sum_more cs g i h.0 in let q = h.1 in omega arith

@@ -14,7 +14,7 @@ use Rattle.object_sets.specs.Groups.{place_of}
 use Rattle.object_sets.specs.Numbers.{object_number, node_number, content_number, numbering_of}
 use Rattle.object_sets.specs.Rows.{Lists}
 use Rattle.object_sets.specs.Tables.{is_pair, sets_by}
-use Rattle.object_sets.proofs.Numbered.{some_is, none_is, guarded}
+use Rattle.object_sets.proofs.Numbered.{some_is, none_is}
 use Rattle.points_to.specs.declared.rules.Pair.{Pair}
 use Rattle.points_to.specs.declared.rules.Trigger.{Trigger}
 use Rattle.points_to.specs.declared.rules.Trigger.TheVariants as trigger
@@ -24,6 +24,7 @@ use Rattle.points_to.specs.Searching.{is_in, lists_in}
 use Rattle.points_to.specs.Demands.{Demand, HasObject, PassesOn, LoadsTo, StoresFrom, GivesTo, TakesFrom, Meets, demands_of}
 use Rattle.points_to.specs.Gathered.{Item, Fact, Copy, Asks, HasItem, IsNumbered, Represents}
 use Rattle.points_to.proofs.Back.{object_from, node_from, object_back, node_back, content_back, content_there, register_there, callee_there, callee_back}
+use Rattle.common_laws.proofs.Options.{guarded}
 
 abbrev pub ItemObeyed : Program → Says → Item → Type 0
 ItemObeyed p Q (Fact x) = Q x.node x.object ≡ true

@@ -13,6 +13,7 @@ use Rattle.points_to.specs.declared.rules.Trigger.{Trigger}
 use Rattle.points_to.specs.Searching.{ObeysAll, asked, pair_at, is_in, IsAsked, IsSound, Holds, Grown, IsPut, IsCopied, IsFound}
 use Rattle.points_to.proofs.Lists.{added_other, has_at, at_has, added_cases, added_kept, added_new, added_count, added_distinct}
 use Rattle.points_to.proofs.Putting.{holds_put, grown_put, has_put, grown_none, grown_both}
+use Rattle.points_to.proofs.Firing.{on_some}
 
 pub record IsCopying (w : System) (s t : State) (e : Edge) (k : ℕ) : Type 0 where
   pub holds : Holds w t
@@ -70,9 +71,6 @@ at_default : {X : Type 0} (xs : List X) (k : ℕ) (x d : X) → k < length xs �
 at_default [] k x d l e = absurd (omega arith)
 at_default (y ∷ ys) zero x d l e = e
 at_default (y ∷ ys) (suc k) x d l e = at_default ys k x d (omega arith) e
-
-on_some : (o : Option Edge) (e : Edge) (P : Edge → Type 0) → o ≡ Some e → OnEdge o P → P e
-on_some o e P q h = subst (λ x. OnEdge x P) q h
 
 -- what is asked for is passed on by all sets that obey
 pub asked_allowed : (w : System) (rows : Lists) (objects : ℕ) (l : List Pair) (edges : Lists) (next : ℕ) (e : Edge) → IsSound w rows objects l edges next → IsAsked w rows e → (Q : Says) → ObeysAll w Q → Passes Q e

@@ -1,5 +1,5 @@
 -- The edges of a search are those of the program.
-use Rattle.std.proofs.Common.{◌≡◌, ◌≢◌, ℕ, ◌<◌, Bool, true, false, ◌&&◌, length, Option, Some, None, refl, sym, ap, ◌∙◌, subst, nat_eq, nat_lt, if◌then◌else◌, inl, inr}
+use Rattle.std.proofs.Common.{◌≡◌, ◌≢◌, ℕ, ◌<◌, Bool, true, false, ◌&&◌, length, Option, Some, None, refl, sym, ap, ◌∙◌, subst, nat_eq, nat_lt, inl, inr}
 use Rattle.std.specs.Prelude.{Contains}
 use Rattle.std.proofs.lemmas.Bool.{false≢true, eqb-true, eq-eqb, ltb-true, and_parts}
 use Rattle.ir_model.proofs.SameTypes.{same_exactly}
@@ -14,7 +14,7 @@ use Rattle.object_sets.specs.Groups.{place_of}
 use Rattle.object_sets.specs.Numbers.{object_number, node_number, content_number, numbering_of}
 use Rattle.object_sets.specs.Rows.{Lists}
 use Rattle.object_sets.specs.Tables.{is_pair, sets_by}
-use Rattle.object_sets.proofs.Numbered.{some_is, none_is, guarded}
+use Rattle.object_sets.proofs.Numbered.{some_is, none_is}
 use Rattle.points_to.specs.declared.rules.Edge.{Edge}
 use Rattle.points_to.specs.declared.rules.Trigger.{Trigger}
 use Rattle.points_to.specs.declared.rules.Trigger.TheVariants as trigger
@@ -27,6 +27,7 @@ use Rattle.points_to.specs.Gathered.{Item, Fact, Copy, Asks, IsNumbered, Represe
 use Rattle.points_to.specs.Edges.{IsEdge}
 use Rattle.points_to.proofs.Back.{object_from, object_back, callee_back}
 use Rattle.points_to.proofs.Bridge.{ItemObeyed, obeys_from}
+use Rattle.common_laws.proofs.Options.{guarded, guarded as tested}
 
 abbrev pub is_number : Option ℕ → ℕ → Bool
 is_number None j = false
@@ -50,10 +51,6 @@ from_made (Some a) b e q = let x = some_edge (record { from = a; to = b }) e q i
 to_made : (a : ℕ) (r : Option ℕ) (e : Edge) → edge_to a r ≡ Some e → (a ≡ e.from) × (r ≡ Some e.to)
 to_made a None e q = absurd (no_edge_is e q)
 to_made a (Some b) e q = let x = some_edge (record { from = a; to = b }) e q in (ap (λ (y : Edge). y.from) x, ap (λ (y : Edge). Some y.to) x)
-
-tested : (b : Bool) (r : Option ℕ) (k : ℕ) → (if b then r else None) ≡ Some k → (b ≡ true) × (r ≡ Some k)
-tested true r k e = (refl, e)
-tested false r k e = absurd (none_is None k refl e)
 
 of_made : (r : Option ℕ) (h : ℕ → Option ℕ) (k : ℕ) → of_callee r h ≡ Some k → (g : ℕ) × (r ≡ Some g) × (h g ≡ Some k)
 of_made None h k e = absurd (none_is None k refl e)

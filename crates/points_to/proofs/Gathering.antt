@@ -2,17 +2,17 @@
 use Rattle.std.proofs.Common.{◌≡◌, ℕ, ◌+◌, ◌<◌, ◌≤◌, Bool, true, false, cond, List, [], ◌∷◌, ◌++◌, length, get_or, take, map, refl, sym, ap, ◌∙◌, subst, arith, inl, inr, append_assoc}
 use Rattle.std.specs.Prelude.{count_by}
 use Rattle.std.specs.List.{flat_map, range_with_len}
-use Rattle.std.proofs.lemmas.List.{append-nil, map_more, map-id, take_all}
+use Rattle.std.proofs.lemmas.List.{append-nil, map_more, take_all}
 use Rattle.std.proofs.lemmas.List.Concat.{flat_map-append}
 use Rattle.std.proofs.lemmas.List.Elements.{Contains-append_left, Contains-append_cases, Contains-push}
-use Rattle.std.proofs.lemmas.List.FromFn.{map-range_with_len_more}
 use Rattle.std.proofs.lemmas.List.Sums.{sum_by-append}
 use Rattle.object_sets.specs.declared.numbering.Numbering.{Numbering}
-use Rattle.object_sets.proofs.Parts.{only}
 use Rattle.points_to.specs.declared.rules.Rules.{Rules}
 use Rattle.points_to.specs.declared.rules.Trigger.TheVariants as trigger
 use Rattle.points_to.specs.Demands.{Demand, HasObject, PassesOn, LoadsTo, StoresFrom, GivesTo, TakesFrom, where_carried}
 use Rattle.points_to.specs.Gathered.{Item, Fact, Copy, Asks, IsNumbered, is_fact, IsAdded, names_object, IsMet, IsAskedBy, Represents, Gathers}
+use Rattle.common_laws.proofs.Lists.{only_one as only}
+use Rattle.plan_model.proofs.Numbers.{flat_numbers}
 
 pub gathers_none : (c : Numbering) (r : Rules) → Gathers c r r []
 gathers_none c r = record { more = λ before h. subst (Represents c r) (sym (append-nil before)) h }
@@ -56,12 +56,6 @@ pub gathers_idle : (c : Numbering) (r : Rules) (b : Bool) (d : Demand) → b ≡
 gathers_idle c r b d e = subst (λ y. Gathers c r r (where_carried y d)) (sym e) (gathers_none c r)
 
 -- ---- loops
-
-pub flat_numbers : {Y : Type 0} (g : ℕ → List Y) (n : ℕ) → flat_map g (range_with_len 0 n) ++ g n ≡ flat_map g (range_with_len 0 (n + 1))
-flat_numbers g n = sym (ap (flat_map g) numbers ∙ (flat_map-append g (range_with_len 0 n) (n ∷ []) ∙ ap (λ l. flat_map g (range_with_len 0 n) ++ l) (append-nil (g n))))
-  where
-    numbers : range_with_len 0 (n + 1) ≡ range_with_len 0 n ++ n ∷ []
-    numbers = sym (map-id (range_with_len 0 (n + 1))) ∙ (map-range_with_len_more (λ (x : ℕ). x) 0 n n (omega arith) ∙ ap (λ l. l ++ n ∷ []) (map-id (range_with_len 0 n)))
 
 -- a loop over numbers gathers what each asks
 pub numbers_more : (c : Numbering) (r s t : Rules) (g : ℕ → List Demand) (n : ℕ) → Gathers c r s (flat_map g (range_with_len 0 n)) → Gathers c s t (g n) → Gathers c r t (flat_map g (range_with_len 0 (n + 1)))

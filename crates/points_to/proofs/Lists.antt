@@ -7,6 +7,7 @@ use Rattle.std.proofs.lemmas.Map.Keys.{IsDistinct-push}
 use Rattle.std.specs.Cmp.{nat_eq_equiv}
 use Rattle.object_sets.specs.Rows.{Lists, has, row, added}
 use Rattle.points_to.specs.Searching.{is_in}
+use Rattle.common_laws.proofs.Tests.{either_true as or_cases}
 
 pub set_each : (P : ℕ → List ℕ → Type 0) (s : Lists) (n : ℕ) (r : List ℕ) → ((i : ℕ) → P i (row s i)) → P n r → (i : ℕ) → P i (row (set s n r) i)
 set_each P [] n r h e i = h i
@@ -14,10 +15,6 @@ set_each P (x ∷ s) zero r h e zero = e
 set_each P (x ∷ s) zero r h e (suc i) = h (suc i)
 set_each P (x ∷ s) (suc n) r h e zero = h zero
 set_each P (x ∷ s) (suc n) r h e (suc i) = set_each (λ j. P (suc j)) s n r (λ j. h (suc j)) e i
-
-or_cases : (a b : Bool) → a || b ≡ true → (a ≡ true) ⊎ (b ≡ true)
-or_cases true b e = inl refl
-or_cases false b e = inr e
 
 or_true : (a b : Bool) → b ≡ true → a || b ≡ true
 or_true true b e = refl

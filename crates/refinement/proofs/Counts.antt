@@ -1,12 +1,13 @@
 -- No more locals of a function are lent than its count of lent locals.
 use Rattle.std.proofs.Common.{◌≡◌, ℕ, zero, suc, ◌+◌, ◌≤◌, ◌<◌, Bool, true, false, if◌then◌else◌, ◌&&◌, ◌||◌, nat_eq, Option, Some, None, is_some, List, [], ◌∷◌, length, map, refl, ap, ◌∙◌, arith}
 use Rattle.std.specs.Prelude.{position, count_by, cond}
-use Rattle.std.specs.List.{position_from, range_with_len, list_any}
+use Rattle.std.specs.List.{range_with_len, list_any}
 use Rattle.std.proofs.lemmas.Bool.Decides.{nat_tests}
 use Rattle.std.proofs.lemmas.List.Recursion.{is_count_by}
 use Rattle.std.proofs.lemmas.Iterator.Adapters.{position_from-zero}
-use Rattle.lower.specs.Places.{lends_among}
+use Rattle.code_model.specs.Places.{lends_among}
 use Rattle.plan_model.specs.Lending.{is_local}
+use Rattle.common_laws.proofs.Lists.{position_there as found_is}
 
 -- how many numbers pass a test
 hits : (ℕ → Bool) → List ℕ → ℕ
@@ -77,14 +78,6 @@ local_hits f a n (x ∷ xs) = by (nat_eq x.0 f) (local_hits f a n xs)
         hits (λ l. (b && nat_eq x.1 l) || list_any (is_local f l) xs) (range_with_len a n) ≤ cond b (1 + pairs f xs) (pairs f xs)
     by false h = h
     by true h = let e = either_hits (λ l. nat_eq x.1 l) (λ l. list_any (is_local f l) xs) (range_with_len a n) in let o = one_hit x.1 a n in omega arith
-
-found_is : {X : Type 0} (p : X → Bool) (k : ℕ) (xs : List X) → is_some (position_from p k xs) ≡ list_any p xs
-found_is p k [] = refl
-found_is p k (x ∷ xs) = by (p x) (found_is p (k + 1) xs)
-  where
-    by : (b : Bool) → is_some (position_from p (k + 1) xs) ≡ list_any p xs → is_some (if b then Some k else position_from p (k + 1) xs) ≡ (b || list_any p xs)
-    by true h = refl
-    by false h = h
 
 pub lends_counted : (ss : List ℕ) (f n : ℕ) (xs : List (ℕ × ℕ)) → length (lends_among ss (map (λ l. position (is_local f l) xs) (range_with_len 0 n))) ≤ count_by (λ (x : ℕ × ℕ). nat_eq x.0 f) xs
 lends_counted ss f n xs =

@@ -5,18 +5,17 @@ use Rattle.std.proofs.lemmas.List.{length-map}
 use Rattle.std.proofs.lemmas.List.Elements.{All-map}
 use Rattle.std.proofs.lemmas.List.FromFn.{get_or-map-range_with_len}
 use Rattle.std.specs.Prelude.{IfSome}
-use Rattle.ir_model.specs.Types.{width_of}
 use Rattle.ir_model.specs.Plain.{PlainFirmware, PlainSlot, PlainGlobal, PlainFunc, funcs_of}
-use Rattle.ir_model.specs.Layout.{CellPlace, Shape, empty, rounded_up, known, shape}
+use Rattle.ir_model.specs.Layout.{Shape, empty, rounded_up, known, shape}
 use Rattle.ir_model.specs.Resolved.{Program, NumberedFunc, NumberedGlobal, NumberedWindow, func_at, global_at, local_at, cells_of_global, cells_of_local, no_func, no_global}
 use Rattle.ir_model.specs.Resolve.{resolve, scope_of, resolved_func, resolved_global}
 use Rattle.ir_model.specs.Canonical.{IsWithinLimits}
 use Rattle.ir_model.specs.Typing.{IsTyped}
 use Rattle.ir_laws.specs.Laws.{IsLaidOut, CellsOfTypes}
 use Rattle.plan_model.specs.Lending.{lend_number, lend_numbers_in, lend_count, lent}
-use Rattle.lower.specs.declared.places.Places.{Places}
-use Rattle.lower.specs.FrameShape.{local_size, locals_size, frame_size, starts_from, local_starts}
-use Rattle.lower.specs.Places.{lends_among}
+use Rattle.code_model.specs.declared.places.Places.{Places}
+use Rattle.code_model.specs.FrameShape.{local_size, locals_size, frame_size, starts_from, local_starts}
+use Rattle.code_model.specs.Places.{lends_among}
 use Rattle.lower_laws.specs.Fitting.{TypedFunctionsFit}
 use Rattle.monitor.specs.Setting.{Setting}
 use Rattle.thread_runs.specs.Owned.{Lendable}
@@ -26,6 +25,8 @@ use Rattle.relation.proofs.Facts.{GoodShape, Facts}
 use Rattle.relation.proofs.Limits.{frame_bytes}
 use Rattle.relation.proofs.Shapes.{Rows, frame_lies}
 use Rattle.refinement.proofs.Counts.{lends_counted}
+use Rattle.code_model.proofs.Frames.{starts_length as count_starts}
+use Rattle.ir_laws.proofs.Layouts.{longer as wider}
 
 -- ---- cells lie inside their objects
 
@@ -55,20 +56,12 @@ module _ (cells : CellsOfTypes) (w : PlainFirmware) where
 
 -- ---- one function
 
-wider : (from to more : ℕ) (cs : List CellPlace) → to ≤ more → IsLaidOut from to cs → IsLaidOut from more cs
-wider from to more [] h l = omega arith
-wider from to more (c ∷ cs) h l = (l.0, wider (c.at + width_of c.ty) to more cs h l.1)
-
 in_words : (s : Shape) → s.size ≤ local_size s
 in_words s = omega arith
 
 rows : (n to : ℕ) (hs : List Shape) → ((l : ℕ) → IsLaidOut 0 (get_or hs l empty).size (get_or hs l empty).cells) → n + locals_size hs ≤ to → Rows n to (starts_from n hs) (map local_size hs) hs
 rows n to [] each h = omega arith
 rows n to (s ∷ ss) each h = (omega arith, wider 0 s.size (local_size s) s.cells (in_words s) (each 0), rows (n + local_size s) to ss (λ l. each (suc l)) (omega arith))
-
-count_starts : (n : ℕ) (hs : List Shape) → length (starts_from n hs) ≡ length hs
-count_starts n [] = refl
-count_starts n (s ∷ ss) = ap suc (count_starts (n + local_size s) ss)
 
 start_aligned : (n : ℕ) (hs : List Shape) (l : ℕ) → n % 4 ≡ 0 → l < length hs → get_or (starts_from n hs) l 0 % 4 ≡ 0
 start_aligned n [] l a h = absurd (omega arith)

@@ -11,7 +11,7 @@ use Rattle.plan_model.specs.declared.needs.Needs.{Needs}
 use Rattle.plan_model.specs.declared.groups.Groups.{Groups}
 use Rattle.plan_model.specs.PointsTo.{IsLeast}
 use Rattle.plan_model.specs.Needs.{AreNeeds}
-use Rattle.lower.specs.CompartmentCode.{CodePlaces}
+use Rattle.code_model.specs.CompartmentCode.{CodePlaces}
 use Rattle.monitor.specs.declared.tables.Tables.{Tables}
 use Rattle.monitor.specs.Records.{eighth}
 use Rattle.monitor.specs.Layout.{initial_word_count}

@@ -8,6 +8,7 @@ use code_effects::laws::{
     accesses, branches, calls, compartments, entry, functions, items, returns, runs,
     sources as set_registers,
 };
+use code_model::laws::{compartments as placed, sites, sizes};
 use depend::laws::{accesses as needed, compartments as grouped, locals};
 use ir_laws::limits::windows;
 use ir_laws::runs::{
@@ -15,7 +16,6 @@ use ir_laws::runs::{
 };
 use ir_laws::typing::places;
 use ir_laws::{alignment, cells};
-use lower::laws::{compartments as placed, sites, sizes};
 use lower_laws::laws::typed;
 
 /// What generated code does, and where it stands.

@@ -1,26 +1,18 @@
 -- The different users of globals, global by global.
 use Rattle.std.proofs.Common.{◌≡◌, ℕ, ◌<◌, ◌+◌, Bool, true, false, not, ◌&&◌, List, [], ◌∷◌, ◌++◌, cond, length, map, filter, get_or, take, Bor, refl, sym, ap, ◌∙◌}
 use Rattle.std.specs.List.{list_any}
-use Rattle.std.specs.Cmp.Lexicographic.{same_text}
-use Rattle.std.proofs.lemmas.Bool.{and_parts}
 use Rattle.std.proofs.lemmas.List.{append-nil, map_more, get_or-map}
 use Rattle.std.proofs.lemmas.List.Elements.{filter-append}
 use Rattle.plan_model.specs.InitialGraph.{Users, has_users, same_users}
-use Rattle.plan_model.specs.Lists.{distinct, same_numbers}
+use Rattle.plan_model.specs.Lists.{distinct}
 use Rattle.grouping.proofs.Distinct.{distinct_more, any_distinct, any_seen}
 use Rattle.region_graph.specs.declared.users.UserLists.{UserLists}
 use Rattle.region_graph.specs.UserLists.{users_seen, users_at, no_users}
+use Rattle.plan_model.proofs.SameUsers.{same_through}
 
 -- what stands at a place
 pub users_read : (all : List UserLists) (x : ℕ) (r : UserLists) → x < length all → r ≡ get_or all x r → users_at all x ≡ users_seen r
 users_read all x r l e = get_or-map users_seen all x r no_users l ∙ ap users_seen (sym e)
-
-same_through : (x z y : Users) → same_users x z ≡ true → same_users z y ≡ true → same_users x y ≡ true
-same_through x z y e f =
-    let parts = and_parts (same_numbers x.writers z.writers) (same_numbers x.readers z.readers) e in
-    let writers : x.writers ≡ z.writers = same_text x.writers z.writers (sym parts.0) in
-    let readers : x.readers ≡ z.readers = same_text x.readers z.readers (sym parts.1) in
-    ap (λ ws. same_numbers ws y.writers && same_numbers x.readers y.readers) writers ∙ (ap (λ rs. same_numbers z.writers y.writers && same_numbers rs y.readers) readers ∙ f)
 
 abbrev pub kinds_seen : List (Bor UserLists) → List Users
 kinds_seen ks = map (λ (k : Bor UserLists). users_seen k.now) ks

@@ -1,6 +1,6 @@
 -- Where no further join applies, each compartment has at most as many data regions and covers as there are slots.
 use Rattle.std.proofs.Common.{◌≡◌, ℕ, ◌<◌, ◌≤◌, ◌+◌, true, List, [], ◌∷◌, length, get_or, Option, Some, None, refl, sym, subst, arith}
-use Rattle.std.specs.Prelude.{option_map, IfSome}
+use Rattle.std.specs.Prelude.{IfSome}
 use Rattle.std.proofs.lemmas.Bool.{ltb-false, ltb-true}
 use Rattle.std.proofs.lemmas.List.FromFn.{length-range_with_len}
 use Rattle.ir_model.specs.Resolved.{Program}
@@ -12,15 +12,12 @@ use Rattle.plan_model.specs.Lists.{numbers_below}
 use Rattle.plan_model.specs.Regions.{regions_used}
 use Rattle.plan_model.specs.Merging.{first_too_rich, is_too_rich, region_cost, region_pair, cover_cost, cover_pair, covers_at, with_joined_regions, with_joined_covers, relieved_if, relieved, next}
 use Rattle.region_graph.proofs.Found.{none_passes, found_passes}
+use Rattle.common_laws.proofs.Options.{none_mapped}
 
 at_most_one : (cost : Pair → ℕ) (ns : List ℕ) → cheapest cost (pairs ns) ≡ None → length ns ≤ 1
 at_most_one cost [] e = omega arith
 at_most_one cost (n ∷ []) e = omega arith
 at_most_one cost (n ∷ m ∷ ns) e = let wrong : Some _ ≡ None = e in cc
-
-none_mapped : {X Y : Type 0} (f : X → Y) (o : Option X) → option_map f o ≡ None → o ≡ None
-none_mapped f None e = refl
-none_mapped f (Some x) e = let wrong : Some (f x) ≡ None = e in cc
 
 module _ (p : Program) (slots : ℕ) (g : Graph) (two : 2 ≤ slots) where
   never : (c : ℕ) → is_too_rich slots g c ≡ true → region_pair p g.regions c ≡ None → cover_pair (covers_at g c) ≡ None → ⊥

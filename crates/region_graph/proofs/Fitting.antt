@@ -1,5 +1,5 @@
 -- The join of two covers that fit 32 bits holds both and fits too, and each join leaves a graph that fits with fewer parts.
-use Rattle.std.proofs.Common.{◌≡◌, ℕ, zero, suc, ◌<◌, ◌≤◌, ◌+◌, ◌-◌, ◌*◌, ◌/◌, ◌^◌, Bool, true, false, not, ◌&&◌, cond, List, [], ◌∷◌, length, get_or, filter, map, nat_lt, nat_le, nat_eq, Option, Some, None, refl, sym, ap, subst, ◌∙◌, arith}
+use Rattle.std.proofs.Common.{◌≡◌, ℕ, zero, suc, ◌<◌, ◌≤◌, ◌+◌, ◌-◌, ◌*◌, ◌/◌, ◌^◌, Bool, true, false, not, cond, List, [], ◌∷◌, length, get_or, filter, map, nat_lt, nat_le, nat_eq, Option, Some, None, refl, sym, ap, subst, ◌∙◌, arith}
 use Rattle.std.specs.Prelude.{find, unwrap_or, option_map, IfSome}
 use Rattle.std.specs.List.{All, range_with_len}
 use Rattle.std.proofs.Math.Nat.{mul-le-mul_left}
@@ -26,9 +26,7 @@ use Rattle.region_graph.proofs.Ending.{Comes, a_final}
 use Rattle.region_graph.proofs.FewerCovers.{fewer_covers}
 use Rattle.region_graph.proofs.Pairs.{AreRegions, AreCovers, all_below, region_pair_among, cover_pair_among}
 use Rattle.region_graph.proofs.Steps.{fewer_regions, fewer_parts}
-
-both : (b c : Bool) → b ≡ true → c ≡ true → (b && c) ≡ true
-both b c h k = ap (λ x. x && c) h ∙ k
+use Rattle.common_laws.proofs.Tests.{true_both as both}
 
 -- where first and last address lie in one aligned range, it holds both
 pub inside_joined : (c d : Cover) (n : ℕ) → 0 < n → lowest c d / n ≡ highest c d / n

@@ -1,7 +1,6 @@
 -- The least power of two, where none below 2 ^ 32 passes.
-use Rattle.std.proofs.Common.{◌≡◌, ℕ, zero, suc, ◌<◌, ◌≤◌, ◌+◌, ◌*◌, ◌/◌, ◌%◌, ◌^◌, Bool, true, false, cond, nat_eq, Some, None, refl, sym, subst, ap, ◌∙◌, arith}
-use Rattle.std.specs.Prelude.{find, map, unwrap_or}
-use Rattle.std.specs.List.{range_with_len}
+use Rattle.std.proofs.Common.{◌≡◌, ℕ, ◌<◌, ◌≤◌, ◌+◌, ◌*◌, ◌/◌, ◌%◌, ◌^◌, Bool, true, false, nat_eq, refl, sym, subst, ap, ◌∙◌, arith}
+use Rattle.std.specs.Prelude.{unwrap_or}
 use Rattle.std.proofs.lemmas.Bool.{cases_lt}
 use mathlib.Core.Logic.{⊎_elim}
 use Rattle.std.proofs.lemmas.Nat.{one_shl}
@@ -9,12 +8,7 @@ use Rattle.std.proofs.lemmas.Bool.{eq-eqb}
 use Rattle.plan_model.specs.declared.graph.Cover.{Cover}
 use Rattle.plan_model.specs.Covers.{least_power, lowest, highest, joined_size}
 use Rattle.plan_model.proofs.Powers.{least_power_is}
-
-none_found : (test : ℕ → Bool) (a n : ℕ) → ((i : ℕ) → a ≤ i → i < a + n → test (2 ^ i) ≡ false) → find test (map (λ k. 2 ^ k) (range_with_len a n)) ≡ None
-none_found test a zero f = refl
-none_found test a (suc n) f =
-    ap (λ b. cond b (Some (2 ^ a)) (find test (map (λ k. 2 ^ k) (range_with_len (a + 1) n)))) (f a (omega arith) (omega arith))
-    ∙ none_found test (a + 1) n (λ i u v. f i (omega arith) (omega arith))
+use Rattle.common_laws.proofs.Powers.{none_found}
 
 pub least_power_last : (test : ℕ → Bool) → ((i : ℕ) → 5 ≤ i → i < 32 → test (2 ^ i) ≡ false) → least_power test ≡ 2 ^ 32
 unfolding least_power

@@ -4,13 +4,8 @@ use Rattle.std.specs.List.{list_any}
 use Rattle.std.proofs.lemmas.Bool.{eqb-true}
 use Rattle.std.proofs.lemmas.List.Folds.{list_any-append}
 use Rattle.plan_model.specs.Lists.{has, without, placed, in_order, union}
-use Rattle.region_graph.proofs.Reached.{any_filtered}
-
-turned : (a b c : Bool) → (a || (b || c)) ≡ (b || (a || c))
-turned true true c = refl
-turned true false c = refl
-turned false true c = refl
-turned false false c = refl
+use Rattle.common_laws.proofs.Tests.{turned}
+use Rattle.common_laws.proofs.Lists.{any_kept as any_filtered}
 
 any_placed : (p : ℕ → Bool) (lt : ℕ → ℕ → Bool) (x : ℕ) (ys : List ℕ) → list_any p (placed lt x ys) ≡ (p x || list_any p ys)
 any_placed p lt x [] = refl

@@ -6,7 +6,7 @@ use Rattle.ir_model.specs.Resolved.{Value, Number}
 use Rattle.ir_model.specs.State.{Frame}
 use Rattle.ir_model.specs.Step.{register}
 use Rattle.ir_laws.specs.Moves.{Where, wheres}
-use Rattle.lower.specs.Places.{Lend}
+use Rattle.code_model.specs.Places.{Lend}
 use Rattle.monitor.specs.Block.{Block, lent}
 use Rattle.monitor.specs.Setting.{Setting}
 use Rattle.monitor.specs.Threads.{base, HasRoom}

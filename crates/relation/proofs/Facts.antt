@@ -4,7 +4,8 @@ use Rattle.ir_model.specs.Layout.{rounded_up}
 use Rattle.ir_model.specs.Resolved.{local_at}
 use Rattle.plan_model.specs.Lending.{lend_count}
 use Rattle.monitor.specs.Threads.{stack_end, KeepsOff}
-use Rattle.thread_runs.specs.Areas.{Area, Each, Laid, Inside}
+use Rattle.thread_runs.specs.Areas.{Area, Laid, Inside}
+use Rattle.common_laws.specs.Lists.{Each}
 use Rattle.thread_runs.specs.Owned.{MemoryRules, Lendable}
 use Rattle.relation.specs.Builds.{Build, func, words_at, starts_at, lends_at}
 use Rattle.relation.specs.Relation.{own, objects_at, global_areas}

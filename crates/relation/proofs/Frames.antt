@@ -15,7 +15,8 @@ use Rattle.ir_laws.specs.Moves.{Where, wheres}
 use Rattle.ir_laws.specs.States.{Alike}
 use Rattle.monitor.specs.Setting.{Setting}
 use Rattle.monitor.specs.Threads.{stack_end}
-use Rattle.thread_runs.specs.Areas.{Area, Each, Laid, Has, IsAt, Inside, Off, Spot}
+use Rattle.thread_runs.specs.Areas.{Area, Laid, Has, IsAt, Inside, Off, Spot}
+use Rattle.common_laws.specs.Lists.{Each}
 use Rattle.thread_runs.proofs.Areas.{each_join, each_as, each_front, each_rest, laid_join, has_join, read_zero, cut_zero, spot_front, spot_back}
 use Rattle.thread_runs.proofs.Thread.{IsSafe}
 use Rattle.relation.specs.Builds.{Build, func, words_at, starts_at}

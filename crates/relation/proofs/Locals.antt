@@ -11,9 +11,9 @@ use Rattle.ir_model.specs.Resolved.{Value, Number, Code, Null, At, cells_of_loca
 use Rattle.ir_model.specs.Signatures.{cell_in}
 use Rattle.ir_model.specs.State.{Frame}
 use Rattle.ir_model.specs.Step.{with_local, frame_in, is_frame, cut_to}
-use Rattle.ir_laws.specs.Moves.{Where, where_of, wheres}
+use Rattle.ir_laws.specs.Moves.{Where, wheres}
 use Rattle.ir_laws.specs.States.{Alike, global_shapes}
-use Rattle.lower.specs.Places.{Lend}
+use Rattle.code_model.specs.Places.{Lend}
 use Rattle.monitor.specs.Block.{Block, Loan, lent}
 use Rattle.monitor.specs.Setting.{Setting}
 use Rattle.thread_runs.specs.Areas.{Area, Spot}
@@ -23,6 +23,7 @@ use Rattle.relation.specs.Builds.{Build, func, words_at, starts_at, lends_at, gl
 use Rattle.relation.specs.Relation.{own, objects_at, slots, object_words, word_of, words_of, site_of, waiting_by, waiting_words, statuses_behind, first_or_zero, areas, held, own_words, link, beneath, block_of, IsWhole, AllWhole}
 use Rattle.relation.proofs.Facts.{Facts}
 use Rattle.relation.proofs.Frames.{own_length, length_slots, length_objects, object_spot}
+use Rattle.ir_laws.proofs.Moving.{wheres_stay}
 
 pub is_it : (fr : Frame) (f n : ℕ) → is_frame fr f n ≡ true → (fr.number ≡ n) × (fr.func ≡ f)
 is_it fr f n h = by (nat_eq fr.number n) (nat_eq fr.func f) refl refl h
@@ -31,15 +32,6 @@ is_it fr f n h = by (nat_eq fr.number n) (nat_eq fr.func f) refl refl h
     by true true p q h = (grind (arith, nat_tests), grind (arith, nat_tests))
     by true false p q h = cc
     by false b p q h = cc
-
--- a store into a local moves no frame
-pub wheres_stay : (fs : List Frame) (f n l : ℕ) (vs : List Value) → wheres (with_local fs f n l vs) ≡ wheres fs
-wheres_stay [] f n l vs = refl
-wheres_stay (fr ∷ rest) f n l vs = by (is_frame fr f n) (wheres_stay rest f n l vs)
-  where
-    by : (b : Bool) → wheres (with_local rest f n l vs) ≡ wheres rest → wheres (if b then record fr { locals = set fr.locals l vs } ∷ rest else fr ∷ with_local rest f n l vs) ≡ wheres (fr ∷ rest)
-    by true ih = refl
-    by false ih = ap (λ (ws : List Where). where_of fr ∷ ws) ih
 
 abbrev pub IsLend : Lend → List Lend → Type 0
 IsLend d [] = ⊥

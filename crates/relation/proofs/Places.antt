@@ -1,16 +1,12 @@
 -- One fixed place for each frame of a run: where it was entered.
 use Rattle.std.proofs.Common.{◌≡◌, ◌≢◌, ℕ, zero, suc, ◌+◌, ◌-◌, ◌<◌, ◌≤◌, List, [], ◌∷◌, ◌++◌, length, get_or, refl, sym, ap, ◌∙◌, subst, arith, length-append}
 use Rattle.ir_laws.specs.Moves.{Where, Moves, Moved, Pushed, Popped}
-use Rattle.lower.specs.FrameShape.{frame_size}
+use Rattle.code_model.specs.FrameShape.{frame_size}
 use Rattle.simulate.specs.StackLimit as limit
 use Rattle.relation.specs.Builds.{Build, func}
 use Rattle.relation.specs.Relation.{site_of}
 use Rattle.relation.proofs.Limits.{stack_size, position, Placed}
-
-get_front : (xs ys : List ℕ) (n : ℕ) → n < length xs → get_or (xs ++ ys) n 0 ≡ get_or xs n 0
-get_front [] ys n h = absurd (omega arith)
-get_front (x ∷ xs) ys zero h = refl
-get_front (x ∷ xs) ys (suc n) h = get_front xs ys n (omega arith)
+use Rattle.thread_runs.proofs.Joined.{get_front}
 
 get_next : (xs : List ℕ) (y : ℕ) → get_or (xs ++ y ∷ []) (length xs) 0 ≡ y
 get_next [] y = refl

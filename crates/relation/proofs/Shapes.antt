@@ -3,7 +3,8 @@ use Rattle.std.proofs.Common.{◌≡◌, ℕ, zero, suc, ◌+◌, ◌*◌, ◌�
 use Rattle.ir_model.specs.Types.{width_of}
 use Rattle.ir_model.specs.Layout.{CellPlace, Shape}
 use Rattle.ir_laws.specs.Laws.{IsLaidOut}
-use Rattle.thread_runs.specs.Areas.{Area, Each, Beside, Laid, Inside, Off}
+use Rattle.thread_runs.specs.Areas.{Area, Beside, Laid, Inside, Off}
+use Rattle.common_laws.specs.Lists.{Each}
 use Rattle.thread_runs.proofs.Areas.{each_join, each_as, laid_join}
 use Rattle.relation.specs.Relation.{slots, cells_at, objects_at}
 

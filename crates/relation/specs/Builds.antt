@@ -6,13 +6,13 @@ use Rattle.ir_model.specs.Resolved.{Program, NumberedFunc, func_at}
 use Rattle.plan_model.specs.declared.needs.Needs.{Needs}
 use Rattle.plan_model.specs.declared.groups.Groups.{Groups}
 use Rattle.plan_model.specs.Crossing.{site_number}
-use Rattle.lower.specs.declared.places.Places.{Places}
-use Rattle.lower.specs.FrameShape.{frame_shape, local_starts}
-use Rattle.lower.specs.Places.{Lend}
-use Rattle.lower.specs.Templates.{lends_of}
-use Rattle.lower.specs.Sizes.{place_offset, resume_offset, site_offset}
-use Rattle.lower.specs.CompartmentCode.{CodeGroups, CodePlaces, before, label_count, entry_of, places_of, compartment_labels}
-use Rattle.lower.specs.Planned.{code_groups}
+use Rattle.code_model.specs.declared.places.Places.{Places}
+use Rattle.code_model.specs.FrameShape.{frame_shape, local_starts}
+use Rattle.code_model.specs.Places.{Lend}
+use Rattle.code_model.specs.Templates.{lends_of}
+use Rattle.code_model.specs.Sizes.{place_offset, resume_offset, site_offset}
+use Rattle.code_model.specs.CompartmentCode.{CodeGroups, CodePlaces, before, label_count, entry_of, places_of, compartment_labels}
+use Rattle.code_model.specs.Planned.{code_groups}
 use Rattle.monitor.specs.Setting.{Setting}
 use Rattle.monitor.specs.Threads.{base}
 

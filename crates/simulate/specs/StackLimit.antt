@@ -11,7 +11,7 @@ use Rattle.plan_model.specs.declared.needs.Needs.{Needs}
 use Rattle.plan_model.specs.declared.groups.Groups.{Groups}
 use Rattle.plan_model.specs.Crossing.{site_number}
 use Rattle.plan_model.specs.Lending.{lend_count}
-use Rattle.lower.specs.FrameShape.{frame_size}
+use Rattle.code_model.specs.FrameShape.{frame_size}
 
 -- what the entry of an exception pushes: so much has to be left below each frame
 abbrev pub exception_bytes : ℕ

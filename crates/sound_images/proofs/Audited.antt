@@ -1,66 +1,28 @@
 -- What the checks of the page, of the tables' size and of the ranges with initial words tell of a sound image.
-use Rattle.std.proofs.Common.{◌≡◌, ℕ, ◌+◌, ◌-◌, ◌*◌, ◌%◌, ◌≤◌, ◌⊎◌, inl, inr, Bool, true, false, ◌&&◌, ◌||◌, List, [], ◌∷◌, ◌++◌, length, nat_eq, nat_lt, nat_le, Option, Some, None, refl, sym, ap₂, arith}
+use Rattle.std.proofs.Common.{◌≡◌, ℕ, ◌+◌, ◌-◌, ◌*◌, ◌%◌, ◌≤◌, true, ◌&&◌, List, [], ◌∷◌, ◌++◌, length, nat_eq, nat_lt, nat_le, None, arith}
 use Rattle.std.proofs.lemmas.Bool.Decides.{nat_tests}
 use Rattle.device_model.specs.declared.image.Image.{Image}
-use Rattle.device_model.specs.Rules.{IsInside, AreApart, block_size}
-use Rattle.armv7m.specs.Confinement.{Each}
-use Rattle.monitor.specs.declared.sound.AuditCheck.{AuditCheck}
+use Rattle.device_model.specs.Rules.{block_size}
+use Rattle.common_laws.specs.Lists.{Each}
+use Rattle.windows.specs.Ranges.{is_inside, are_apart}
+use Rattle.windows.proofs.Decisions.{decides_inside, decides_apart}
 use Rattle.monitor.specs.declared.sound.AuditCheck.TheVariants as check
 use Rattle.monitor.specs.declared.tables.InitRecord.{InitRecord}
 use Rattle.monitor.specs.declared.tables.Tables.{Tables}
 use Rattle.monitor.specs.Layout.{area_end, tables_size, initial_words_at, inits_at, head_at}
-use Rattle.monitor.specs.RegionChecks.{are_apart, is_inside, is_data_range}
-use Rattle.monitor.specs.Checks.{must, and_then, header_fails, tables_fail, difference, code_fails, regions_fail, sites_fail, lends_fail, is_init, inits_from, inits_fail}
+use Rattle.monitor.specs.RegionChecks.{is_data_range}
+use Rattle.monitor.specs.Checks.{must, header_fails, tables_fail, code_fails, regions_fail, sites_fail, lends_fail, is_init, inits_from, inits_fail}
 use Rattle.monitor.specs.MonitorCode.{MonitorCode}
-use Rattle.monitor.specs.Sound.{Failure, unless, first_failure, Sound}
+use Rattle.monitor.specs.Sound.{first_failure, Sound}
 use Rattle.access_law.specs.Simulation.{IsRange}
-
-both : (a b : Bool) → (a && b) ≡ true → (a ≡ true) × (b ≡ true)
-both true true h = (refl, refl)
-both true false h = cc
-both false b h = cc
+use Rattle.common_laws.proofs.Tests.{both_true as both}
+use Rattle.monitor_laws.proofs.Checked.{must_none, and_none, unless_none, begins_with}
 
 le_is : (a b : ℕ) → nat_le a b ≡ true → a ≤ b
 le_is a b h = grind (arith, nat_tests)
 
 eq_is : (a b : ℕ) → nat_eq a b ≡ true → a ≡ b
 eq_is a b h = grind (arith, nat_tests)
-
-either_is : (a b : Bool) → (a || b) ≡ true → (a ≡ true) ⊎ (b ≡ true)
-either_is true b h = inl refl
-either_is false b h = inr h
-
-apart_is : (b n c m : ℕ) → are_apart b n c m ≡ true → AreApart b n c m
-apart_is b n c m h = go (either_is (nat_le (b + n) c) (nat_le (c + m) b) h)
-  where
-    go : (nat_le (b + n) c ≡ true) ⊎ (nat_le (c + m) b ≡ true) → AreApart b n c m
-    go (inl e) = inl (le_is (b + n) c e)
-    go (inr e) = inr (le_is (c + m) b e)
-
-inside_is : (b n o m : ℕ) → is_inside b n o m ≡ true → IsInside b n o m
-inside_is b n o m h = let p = both (nat_le o b) (nat_le (b + n) (o + m)) h in (le_is o b p.0, le_is (b + n) (o + m) p.1)
-
-must_none : (b : Bool) (a : ℕ) → must b a ≡ None → b ≡ true
-must_none true a h = refl
-must_none false a h = cc
-
-and_none : (o p : Option ℕ) → and_then o p ≡ None → (o ≡ None) × (p ≡ None)
-and_none (Some a) p h = cc
-and_none None p h = (refl, h)
-
-unless_none : (c : AuditCheck) (o : Option ℕ) (l : Option Failure) → unless c o l ≡ None → (o ≡ None) × (l ≡ None)
-unless_none c (Some a) l h = cc
-unless_none c None l h = (refl, h)
-
--- the first list stands at the beginning of the second
-begins_with : (xs ys : List ℕ) (a : ℕ) → difference xs ys a ≡ None → (zs : List ℕ) × (ys ≡ xs ++ zs)
-begins_with [] ys a h = (ys, refl)
-begins_with (x ∷ xs) [] a h = cc
-begins_with (x ∷ xs) (y ∷ ys) a h =
-    let p = and_none (must (nat_eq x y) a) (difference xs ys (a + 1)) h in
-    let e : x ≡ y = eq_is x y (must_none (nat_eq x y) a p.0) in
-    let r = begins_with xs ys (a + 1) p.1 in
-    (r.0, ap₂ (λ a b. a ∷ b) (sym e) r.1)
 
 whole : (e a : ℕ) → e % 4 ≡ 0 → a % 4 ≡ 0 → (e - a) % 4 ≡ 0
 whole e a h k = omega arith
@@ -76,8 +38,8 @@ module _ (i : Image) (t : Tables) where
       let f = both (are_apart n.at (n.end - n.at) t.stack.base t.stack.size) (are_apart n.at (n.end - n.at) t.monitor block_size) e.1 in
       record {
         whole = whole n.end n.at (eq_is (n.end % 4) 0 b.0) (eq_is (n.at % 4) 0 a.0);
-        in_ram = inside_is n.at (n.end - n.at) i.ram_base i.ram_size e.0;
-        off_block = apart_is n.at (n.end - n.at) t.monitor block_size f.1;
+        in_ram = (decides_inside n.at (n.end - n.at) i.ram_base i.ram_size).0 e.0;
+        off_block = (decides_apart n.at (n.end - n.at) t.monitor block_size).0 f.1;
       }
 
   ranges_are : (w a : ℕ) (ns : List InitRecord) → inits_from i t w a ns ≡ None → Each (IsRange i t) ns

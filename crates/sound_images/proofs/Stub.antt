@@ -1,6 +1,5 @@
 -- The leave stub of a sound image stands in flash, in the tables' block.
-use Rattle.std.proofs.Common.{◌≡◌, ℕ, pos, ◌+◌, ◌-◌, ◌<◌, ◌≤◌, List, ◌++◌, length, get_or, replicate, refl, sym, ap, ap₂, ◌∙◌, subst, arith, length-append, append_assoc, get_or-append-add}
-use Rattle.std.proofs.lemmas.List.{get_or_append_left}
+use Rattle.std.proofs.Common.{◌≡◌, ℕ, pos, ◌+◌, ◌-◌, ◌≤◌, List, ◌++◌, length, get_or, replicate, refl, sym, ap, ap₂, ◌∙◌, subst, arith, length-append, append_assoc}
 use Rattle.std.specs.Int.Signed.{le_z_yes, lt_z_yes}
 use Rattle.thumb_model.specs.Table.{IsOffset}
 use Rattle.thumb_model.specs.Bytes.{code_bytes, EachInTable}
@@ -25,16 +24,13 @@ use Rattle.monitor.specs.TheCode.{monitor_code}
 use Rattle.monitor.specs.Threads as threads
 use Rattle.access_law.specs.Accesses.{StubStands}
 use Rattle.sound_images.proofs.Audited.{Audited}
+use Rattle.monitor_laws.proofs.PageCode.{middle}
 
 no_offset : IsOffset 2048 (pos 0)
 no_offset = record { from = le_z_yes tt; below = lt_z_yes tt; even = refl }
 
 stub_in : EachInTable leave_stub
 stub_in = ((omega arith, omega arith, no_offset, λ e. refl, λ e. absurd (omega (arith, e))), tt)
-
--- a part in the middle
-middle : (xs ys zs : List ℕ) (k : ℕ) → k < length ys → get_or (xs ++ (ys ++ zs)) (length xs + k) 0 ≡ get_or ys k 0
-middle xs ys zs k h = get_or-append-add xs (ys ++ zs) k 0 ∙ get_or_append_left ys zs 0 k h
 
 -- lists joined in another order
 four_joined : (f a b c s g r : List ℕ) → ((f ++ (a ++ (b ++ (c ++ s)))) ++ g) ++ r ≡ (f ++ (a ++ (b ++ c))) ++ (s ++ (g ++ r))

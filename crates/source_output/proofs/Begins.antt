@@ -3,10 +3,10 @@ use Rattle.std.proofs.Common.{◌≡◌, ℕ, zero, suc, ◌+◌, ◌≤◌, Lis
 use Rattle.std.proofs.lemmas.List.{length-map}
 use Rattle.device_model.specs.declared.image.Window.{Window}
 use Rattle.ir_model.specs.declared.firmware.Peripheral.{Peripheral}
-use Rattle.ir_model.specs.declared.token.TextLimit.TheVariants as limit
 use Rattle.ir_model.specs.Plain.{PlainFirmware}
 use Rattle.ir_model.specs.Lines.{Line, struct_lines, periph_lines, global_lines, file_lines, lines_of}
-use Rattle.ir_model.specs.Canonical.{Each, PassesNothing, IsWithinLimits}
+use Rattle.ir_model.specs.Canonical.{PassesNothing, IsWithinLimits}
+use Rattle.common_laws.specs.Lists.{Each}
 use Rattle.ir_model.proofs.ForEach.{each_left, each_right}
 use Rattle.ir_model.specs.Resolved.{Program}
 use Rattle.ir_model.specs.Resolve as spans

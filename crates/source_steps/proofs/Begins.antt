@@ -12,8 +12,8 @@ use Rattle.ir_model.specs.Signatures.{row_length}
 use Rattle.ir_model.specs.State.{Frame, frame_of, start}
 use Rattle.ir_laws.specs.Moves.{where_of}
 use Rattle.ir_laws.specs.Sets.{ObjectSets}
-use Rattle.lower.specs.Sizes.{entry_size}
-use Rattle.lower.specs.Templates.{entry_items}
+use Rattle.code_model.specs.Sizes.{entry_size}
+use Rattle.code_model.specs.Templates.{entry_items}
 use Rattle.monitor.specs.declared.tables.InitRecord.{InitRecord}
 use Rattle.monitor.specs.Block.{Block}
 use Rattle.monitor.specs.Setting.{Setting}

@@ -11,7 +11,7 @@ use Rattle.ir_laws.specs.Moves.{where_of, wheres}
 use Rattle.ir_laws.specs.Sets.{ObjectSets}
 use Rattle.ir_laws.specs.Typed.{EndTyped}
 use Rattle.ir_laws.specs.States.{FrameFits}
-use Rattle.lower.specs.Templates.{term_items}
+use Rattle.code_model.specs.Templates.{term_items}
 use Rattle.monitor.specs.Block.{Block}
 use Rattle.code_effects.specs.Points.{Point, Leads}
 use Rattle.code_effects.specs.Frames.{slot}

@@ -13,9 +13,9 @@ use Rattle.ir_laws.specs.Moves.{where_of, wheres}
 use Rattle.ir_laws.specs.Sets.{ObjectSets, CallsAt}
 use Rattle.ir_laws.specs.Typed.{Has, InstTyped, CallTyped, ICallTyped}
 use Rattle.ir_laws.specs.States.{FrameFits}
-use Rattle.lower.specs.Places.{entry_address}
-use Rattle.lower.specs.Sizes.{call_size, icall_size}
-use Rattle.lower.specs.Templates.{inst_items}
+use Rattle.code_model.specs.Places.{entry_address}
+use Rattle.code_model.specs.Sizes.{call_size, icall_size}
+use Rattle.code_model.specs.Templates.{inst_items}
 use Rattle.monitor.specs.Block.{Block, entered}
 use Rattle.monitor.specs.Threads.{base}
 use Rattle.code_effects.specs.Calls.{AllBelow}

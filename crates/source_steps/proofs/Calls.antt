@@ -15,9 +15,9 @@ use Rattle.ir_laws.specs.Moves.{where_of, wheres}
 use Rattle.ir_laws.specs.Sets.{ObjectSets, CallsAt}
 use Rattle.ir_laws.specs.Typed.{Has, CallTyped}
 use Rattle.ir_laws.specs.States.{FrameFits}
-use Rattle.lower.specs.Places.{entry_address}
-use Rattle.lower.specs.Sizes.{entry_size, call_size}
-use Rattle.lower.specs.Templates.{inst_items, entry_items}
+use Rattle.code_model.specs.Places.{entry_address}
+use Rattle.code_model.specs.Sizes.{entry_size, call_size}
+use Rattle.code_model.specs.Templates.{inst_items, entry_items}
 use Rattle.monitor.specs.Block.{Block, entered}
 use Rattle.monitor.specs.Setting.{Setting}
 use Rattle.monitor.specs.Threads.{base}

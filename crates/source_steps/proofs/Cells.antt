@@ -25,7 +25,8 @@ use Rattle.plan_model.specs.declared.needs.SiteNeed.{SiteNeed}
 use Rattle.plan_model.specs.Crossing.{crosses, stands_at, site_number}
 use Rattle.monitor.specs.Block.{Block}
 use Rattle.monitor.specs.Threads.{base, stack_end, OffFrame}
-use Rattle.thread_runs.specs.Areas.{Area, Each, IsAt}
+use Rattle.thread_runs.specs.Areas.{Area, IsAt}
+use Rattle.common_laws.specs.Lists.{Each}
 use Rattle.thread_runs.proofs.Areas.{fits_at, cut_zero}
 use Rattle.thread_runs.proofs.Thread.{IsSafe}
 use Rattle.relation.specs.Builds.{Build, compartment_of, words_at, lends_at, site_at}
@@ -36,6 +37,7 @@ use Rattle.relation.proofs.Locals.{is_it}
 use Rattle.source_steps.proofs.Premises.{Premises}
 use Rattle.source_steps.proofs.Steps.{Here as HereStands}
 use Rattle.source_steps.proofs.Registers.{fits_word}
+use Rattle.ir_laws.proofs.Layouts.{last_end as after_least}
 
 -- ---- alignment, and where cells end
 
@@ -47,10 +49,6 @@ aligned_sum (Pointer t) a b h g = omega arith
 aligned_sum (Array n t) a b h g = omega arith
 aligned_sum (types.Named n) a b h g = omega arith
 aligned_sum (Callee x r) a b h g = omega arith
-
-after_least : (from to : ℕ) (cs : List CellPlace) → IsLaidOut from to cs → from ≤ to
-after_least from to [] l = l
-after_least from to (c ∷ cs) l = let r = after_least (c.at + width_of c.ty) to cs l.1 in let f = l.0 in omega arith
 
 pub cell_ends : (from to : ℕ) (cs : List CellPlace) (j : ℕ) → IsLaidOut from to cs → j < length cs → (cell_in cs j).at + width_of (cell_in cs j).ty ≤ to
 cell_ends from to [] j l h = absurd (omega arith)

@@ -21,20 +21,20 @@ use Rattle.armv7m.specs.RunningCode.{Context, works}
 use Rattle.armv7m.proofs.Exec.{onward as behind_run}
 use Rattle.ir_model.specs.Types.{PlainType, width_of, is_integer}
 use Rattle.ir_model.specs.Layout.{CellPlace, Shape, cell_at, empty}
-use Rattle.ir_model.specs.Resolved.{Value, Number, Code, Null, At, Instance, OfGlobal, OfPeriph, OfLocal, NumberedGlobal, NumberedInst, Load, Here, Does, here, global_at, window_at, cells_of_global, cells_of_local, local_at}
+use Rattle.ir_model.specs.Resolved.{Value, Number, At, Instance, OfGlobal, OfPeriph, OfLocal, NumberedGlobal, NumberedInst, Load, Does, here, global_at, window_at, cells_of_global, cells_of_local, local_at}
 use Rattle.ir_model.specs.Signatures.{cell_in}
 use Rattle.ir_model.specs.State.{Frame, Memory, SourceTurn, Running, Object, GlobalObject, LocalObject}
-use Rattle.ir_model.specs.Step.{register, SourceAct, Loads, with_pointer, act, perform, turn_here, with_register, frame_in, is_frame, has_port, load, load_cell, load_local, load_port, take_input, onward}
+use Rattle.ir_model.specs.Step.{register, Loads, with_pointer, act, perform, with_register, frame_in, is_frame, has_port, load, load_cell, load_local, load_port, take_input, onward}
 use Rattle.ir_laws.specs.Moves.{where_of, wheres}
 use Rattle.ir_laws.specs.Sets.{ObjectSets, Content}
-use Rattle.ir_laws.specs.Typed.{CellTyped, InstTyped, Fits, Has}
+use Rattle.ir_laws.specs.Typed.{CellTyped, Fits}
 use Rattle.ir_laws.specs.States.{FrameFits, FramesFit, StateFits, global_shapes}
 use Rattle.plan_model.specs.Lending.{lend_number}
 use Rattle.plan_model.specs.Needs.{need_of}
 use Rattle.depend.specs.Reached.{IsListed, ListsPeriph}
-use Rattle.lower.specs.Addresses.{load_at}
-use Rattle.lower.specs.Sizes.{inst_size}
-use Rattle.lower.specs.Templates.{inst_items}
+use Rattle.code_model.specs.Addresses.{load_at}
+use Rattle.code_model.specs.Sizes.{inst_size}
+use Rattle.code_model.specs.Templates.{inst_items}
 use Rattle.monitor.specs.Block.{Block}
 use Rattle.monitor.specs.Threads.{base, OffFrame, IsLentTo}
 use Rattle.code_effects.specs.Points.{Point}
@@ -222,7 +222,7 @@ module _ (k : Build) (Inv : Block → Context → List ℕ → Type 0) (sizes : 
           reached al ins =
               let b = w.linked.windows.bases q h in
               let u = w.windows.each q h in
-              let ut = u.to in
+              let ut = u.place.1 in
               let wp = width_some ty in
               let addr : address_of k places (OfPeriph q) + c ≡ (window_at k.program q).base + c = omega arith in
               let pa = address (OfPeriph q) c ((window_at k.program q).base + c) points addr (omega arith) in

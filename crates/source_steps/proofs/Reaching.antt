@@ -13,7 +13,7 @@ use Rattle.ir_laws.specs.Moves.{wheres}
 use Rattle.ir_laws.specs.Sets.{ObjectSets}
 use Rattle.depend.specs.Laws.{IsOwn}
 use Rattle.plan_model.specs.Lending.{lend_number, lend_numbers_in}
-use Rattle.lower.specs.Places.{Lend, lends_among}
+use Rattle.code_model.specs.Places.{Lend, lends_among}
 use Rattle.monitor.specs.Block.{Block, Loan}
 use Rattle.monitor.specs.Threads.{base, stack_end, IsLentTo}
 use Rattle.thread_runs.specs.Areas.{Area}

@@ -14,13 +14,13 @@ use Rattle.ir_model.specs.declared.firmware.BinOp.{BinOp}
 use Rattle.ir_model.specs.declared.firmware.CmpOp.{CmpOp}
 use Rattle.ir_model.specs.Resolved.{Value, Number, Code, Null, At, Instance, OfGlobal, Named, TheGlobal, ThePeriph, TheLocal, NumberedInst, Const, Move, Bin, Cmp, Addr, FAddr, Elem, Field, Does, here, register_type}
 use Rattle.ir_model.specs.State.{Frame, Memory, Object}
-use Rattle.ir_model.specs.Step.{register, number_in, SourceAct, Sets, Fails, with_pointer, act, perform, turn_here, with_register, onward}
+use Rattle.ir_model.specs.Step.{register, number_in, SourceAct, Sets, with_pointer, act, perform, turn_here}
 use Rattle.ir_laws.specs.Moves.{where_of, wheres}
 use Rattle.ir_laws.specs.Sets.{ObjectSets, Register}
 use Rattle.ir_laws.specs.Typed.{Has, InstTyped, Fits, number, null, at, code}
 use Rattle.ir_laws.specs.States.{FrameFits}
-use Rattle.lower.specs.Places.{global_address, window_address}
-use Rattle.lower.specs.Templates.{inst_items}
+use Rattle.code_model.specs.Places.{global_address, window_address}
+use Rattle.code_model.specs.Templates.{inst_items}
 use Rattle.monitor.specs.Block.{Block}
 use Rattle.monitor.specs.Threads.{base}
 use Rattle.code_effects.specs.Points.{Point}
@@ -162,7 +162,7 @@ module _ (k : Build) (Inv : Block → Context → List ℕ → Type 0) (sizes : 
       let g : window_address (places_at k fr.func) q ≡ get_or k.places.windows q 0 = ap (λ (xs : List ℕ). get_or xs q 0) (looked_up fr.func).1 in
       let b = w.linked.windows.bases q h in
       let u = w.windows.each q h in
-      let e = u.to in
+      let e = u.place.1 in
       (omega arith, omega arith, sym g)
   can_name fr rest m t st (TheLocal l) h =
       let i = (w.facts.shapes fr.func).local_inside l h in

@@ -18,8 +18,8 @@ use Rattle.ir_laws.specs.Moves.{where_of, wheres}
 use Rattle.ir_laws.specs.Sets.{ObjectSets}
 use Rattle.ir_laws.specs.Typed.{EndTyped}
 use Rattle.ir_laws.specs.States.{FrameFits, FramesFit, Agrees}
-use Rattle.lower.specs.Sizes.{call_size, icall_size, inst_size}
-use Rattle.lower.specs.Templates.{term_items}
+use Rattle.code_model.specs.Sizes.{call_size, icall_size, inst_size}
+use Rattle.code_model.specs.Templates.{term_items}
 use Rattle.monitor.specs.Block.{Block, entered}
 use Rattle.monitor.specs.Setting.{Setting}
 use Rattle.monitor.specs.Threads.{base, stack_end, first_block, HasRoom}

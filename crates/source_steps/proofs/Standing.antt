@@ -16,15 +16,15 @@ use Rattle.armv7m.specs.State.{PermissionTest}
 use Rattle.armv7m.specs.Code.{HoldsCode}
 use Rattle.ir_model.specs.Resolved as ir
 use Rattle.ir_model.specs.Resolved.{Program, NumberedFunc, NumberedInst, NumberedTerm, Here, Does, Ends, Named, TheGlobal, ThePeriph, TheLocal, here, block_at, no_block}
-use Rattle.lower.specs.declared.places.Places.{Places}
-use Rattle.lower.specs.Places.{site_in, entry_address}
-use Rattle.lower.specs.Words.{plain}
-use Rattle.lower.specs.Entry.{frame_code, unlend_code, result_code, add_code}
-use Rattle.lower.specs.Templates.{lends_of, entry_items, inst_items, term_items}
-use Rattle.lower.specs.FunctionCode.{here_items}
-use Rattle.lower.specs.Sizes.{inst_size, entry_size, resume_size}
-use Rattle.lower.specs.CompartmentCode.{entry_of, compartment_labels, compartment_items}
-use Rattle.lower.specs.Planned.{call_sites}
+use Rattle.code_model.specs.declared.places.Places.{Places}
+use Rattle.code_model.specs.Places.{site_in, entry_address}
+use Rattle.code_model.specs.Words.{plain}
+use Rattle.code_model.specs.Entry.{frame_code, unlend_code, result_code, add_code}
+use Rattle.code_model.specs.Templates.{lends_of, entry_items, inst_items, term_items}
+use Rattle.code_model.specs.FunctionCode.{here_items}
+use Rattle.code_model.specs.Sizes.{inst_size, entry_size, resume_size}
+use Rattle.code_model.specs.CompartmentCode.{entry_of, compartment_labels, compartment_items}
+use Rattle.code_model.specs.Planned.{call_sites}
 use Rattle.code_effects.specs.Items.{ItemsAt}
 use Rattle.code_effects.specs.Functions.{PlacesStand}
 use Rattle.thread_runs.specs.CodeLaws.{CodeLaws}
@@ -67,7 +67,7 @@ term_begins : (g : NumberedFunc) (q : Places) (first : ℕ) (t : NumberedTerm) �
 unfolding term_items
 term_begins g q first (ir.Jump b) = tt
 term_begins g q first (ir.Branch on a b) = tt
-term_begins g q first (ir.Ret r) = plain_begins (unlend_code (lends_of g q)) _ (plain_begins (result_code r) _ (plain_begins (add_code (Rattle.lower.specs.FrameShape.frame_shape g).words) _ tt))
+term_begins g q first (ir.Ret r) = plain_begins (unlend_code (lends_of g q)) _ (plain_begins (result_code r) _ (plain_begins (add_code (Rattle.code_model.specs.FrameShape.frame_shape g).words) _ tt))
 
 entry_begins : (g : NumberedFunc) (q : Places) → BeginsWithCode (entry_items g q)
 unfolding frame_code

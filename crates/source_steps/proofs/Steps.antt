@@ -21,7 +21,8 @@ use Rattle.monitor.specs.Threads.{base}
 use Rattle.code_effects.specs.Points.{Point}
 use Rattle.thread_runs.specs.Areas.{Has}
 use Rattle.thread_runs.proofs.Areas.{stored_spot}
-use Rattle.thread_runs.proofs.Thread.{at_pc, fits_pc, kept_write, kept_none, inv_kept, room}
+use Rattle.code_effects.proofs.Kept.{kept_write, kept_none}
+use Rattle.thread_runs.proofs.Thread.{at_pc, fits_pc, inv_kept, room}
 use Rattle.relation.specs.Builds.{Build, func, words_at, code_at}
 use Rattle.relation.specs.Relation.{word_of, areas, held, block_of, AllFit, Wait, IsWhole, Stands, Related}
 use Rattle.relation.specs.Cases.{Follows}

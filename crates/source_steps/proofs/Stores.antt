@@ -28,9 +28,9 @@ use Rattle.ir_laws.specs.States.{FrameFits, StateFits, global_shapes}
 use Rattle.plan_model.specs.Lending.{lend_number}
 use Rattle.plan_model.specs.Needs.{need_of}
 use Rattle.depend.specs.Reached.{IsListed, ListsPeriph}
-use Rattle.lower.specs.Addresses.{store_at}
-use Rattle.lower.specs.Sizes.{inst_size}
-use Rattle.lower.specs.Templates.{inst_items}
+use Rattle.code_model.specs.Addresses.{store_at}
+use Rattle.code_model.specs.Sizes.{inst_size}
+use Rattle.code_model.specs.Templates.{inst_items}
 use Rattle.monitor.specs.Block.{Block}
 use Rattle.monitor.specs.Threads.{base, OffFrame, IsLentTo}
 use Rattle.code_effects.specs.Points.{Point}
@@ -48,7 +48,7 @@ use Rattle.relation.specs.Relation.{word_of, address_of, areas, held, block_of, 
 use Rattle.relation.specs.Cases.{Follows, CaseFollows}
 use Rattle.relation.proofs.Frames.{safe, all_laid}
 use Rattle.relation.proofs.Blocks.{is_open}
-use Rattle.relation.proofs.Locals.{local_spot, global_spot, width_some, stored_value, wheres_stay}
+use Rattle.relation.proofs.Locals.{local_spot, global_spot, width_some, stored_value}
 use Rattle.source_steps.proofs.Premises.{Premises}
 use Rattle.source_steps.proofs.Standing.{next_code}
 use Rattle.source_steps.proofs.Steps.{frame_room, goes_on, Here as HereStands, point_of, state_of}
@@ -56,6 +56,7 @@ use Rattle.source_steps.proofs.Registers.{register_word, inst_runs, owned_by, po
 use Rattle.source_steps.proofs.Cells.{each_at, aligned_sum, Found, found_cell, placed_area}
 use Rattle.source_steps.proofs.Reaching.{LiesAt, cell_lies, lent_cell, open_cell}
 use Rattle.source_steps.proofs.Loads.{own_code, found_fits, all_whole}
+use Rattle.ir_laws.proofs.Moving.{wheres_stay}
 
 -- the running frame moves on, and is the same otherwise
 moved_on : (fr : Frame) (rest : List Frame) (f n : ℕ) (h : Frame) → frame_in (fr ∷ rest) f n ≡ Some h → (g : Frame) × (frame_in (onward fr ∷ rest) f n ≡ Some g) × (g.locals ≡ h.locals)
@@ -224,7 +225,7 @@ module _ (k : Build) (Inv : Block → Context → List ℕ → Type 0) (sizes : 
           sent i al ins =
               let b = w.linked.windows.bases q h in
               let u = w.windows.each q h in
-              let ut = u.to in
+              let ut = u.place.1 in
               let wp = width_some ty in
               let addr : address_of k places (OfPeriph q) + c ≡ (window_at k.program q).base + c = omega arith in
               let pa = address (OfPeriph q) c ((window_at k.program q).base + c) points addr (omega arith) in

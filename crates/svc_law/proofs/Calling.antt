@@ -35,6 +35,7 @@ use Rattle.handler_runs.proofs.Frames.{stacked_is}
 use Rattle.handler_runs.proofs.Blocks.{saved_stay, loans_stay}
 use Rattle.handler_runs.proofs.Returned.{LeavesRam, Resuming, Answers}
 use Rattle.svc_law.proofs.Targets.{SiteFits}
+use Rattle.common_laws.proofs.Tests.{both_true as both, true_both}
 
 -- in Handler mode, and the page's code may be fetched
 pub record IsGood (i : Image) (q : ProtectionState) : Type 0 where
@@ -53,13 +54,6 @@ pub record Calling (i : Image) (t : Tables) (s : State) (m : Block) (psp o : ℕ
   pub fits : o + 32 ≤ i.ram_size
   pub is_block : IsBlock i t memory m
   pub as_long : length memory ≡ i.ram_size
-
-pub true_both : (a b : Bool) → a ≡ true → b ≡ true → (a && b) ≡ true
-true_both a b x y = rw (x, y) refl
-
-pub both : (a b : Bool) → (a && b) ≡ true → (a ≡ true) × (b ≡ true)
-both true b h = (refl, h)
-both false b h = cc
 
 pub is_le : (x y : ℕ) → x ≤ y → nat_le x y ≡ true
 is_le x y h = search (nat_tests, arith)

@@ -25,7 +25,6 @@ use Rattle.monitor.specs.Invariant.{IsSaved, AreSaved}
 use Rattle.monitor.specs.Outcomes.{Outcome, Halts, Resumes, stacked, with_stacked, moved_on, return_place, r12_place}
 use Rattle.monitor.specs.SvcOutcome.{word, callee_frame, enter_to, enter_by, enter_at, leave_to}
 use Rattle.monitor.specs.Constants.{Constants, constants_with}
-use Rattle.monitor_laws.proofs.FlashWords.{each_at}
 use Rattle.monitor_laws.proofs.Off.{core, with_unit}
 use Rattle.monitor_laws.proofs.Opened.{FrameIsOpen, eq_true}
 use Rattle.monitor_laws.proofs.HandlerWords.{InStack, Changed, changed_write, apart_from_block}
@@ -36,7 +35,9 @@ use Rattle.handler_runs.proofs.Frames.{stacked_is}
 use Rattle.handler_runs.proofs.Blocks.{saved_stay, loans_stay, loans_dropped}
 use Rattle.handler_runs.proofs.Returned.{LeavesRam, Answers}
 use Rattle.svc_law.proofs.Enter.{HasEntered, NewTop}
-use Rattle.svc_law.proofs.Calling.{Calling, IsGood, A, off, halted, frame, top_word, true_both, is_lt, is_eq, lt_of, both}
+use Rattle.svc_law.proofs.Calling.{Calling, off, halted, frame, is_lt, is_eq, lt_of}
+use Rattle.common_laws.proofs.Tests.{both_true as both, true_both}
+use Rattle.common_laws.proofs.Lists.{each_at}
 
 module _ (i : Image) (t : Tables) (stub : ℕ) (s : State) (m : Block) (psp o : ℕ) (memory : List ℕ) (c : Calling i t s m psp o memory) where
   abbrev k : Constants

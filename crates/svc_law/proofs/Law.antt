@@ -1,15 +1,13 @@
 -- The handler of SVC on every sound image.
 use Rattle.std.specs.Prelude.{if◌then◌else◌}
-use Rattle.std.proofs.Common.{◌≡◌, ℕ, ◌+◌, ◌%◌, ◌<◌, ◌≤◌, ◌⊎◌, inl, inr, ⊎_elim, true, false, List, [], ◌∷◌, ◌++◌, length, nat_lt, None, refl, sym, ap, ◌∙◌, subst, arith}
+use Rattle.std.proofs.Common.{◌≡◌, ℕ, ◌+◌, ◌%◌, ◌<◌, ◌≤◌, ◌⊎◌, inl, inr, ⊎_elim, true, false, List, [], ◌++◌, length, nat_lt, None, refl, sym, ap, ◌∙◌, subst, arith}
 use Rattle.std.proofs.lemmas.Bool.{cases_lt}
 use Rattle.words.specs.Flags.{holds, compare_flags}
 use Rattle.words.specs.Bytes.{read}
 use Rattle.device_model.specs.declared.image.Image.{Image}
-use Rattle.device_model.specs.declared.image.Window.{Window}
-use Rattle.device_model.specs.Rules.{ObeysRules, AreWindows}
-use Rattle.mem_bus.specs.Access.{AnyHolds}
+use Rattle.device_model.specs.Rules.{ObeysRules}
 use Rattle.mem_bus.specs.Places.{Nowhere, place}
-use Rattle.mem_bus.proofs.Offsets.{flash_at, in_flash}
+use Rattle.mem_bus.proofs.Offsets.{flash_at, in_flash, no_window as none_holds}
 use Rattle.mem_bus.proofs.Placed.{holds_nowhere}
 use Rattle.armv7m.specs.State.{State, by_mpu}
 use Rattle.armv7m.specs.Accessed.{NothingStops}
@@ -49,7 +47,6 @@ use Rattle.monitor.specs.MonitorLaw.{Shows, svc_steps}
 use Rattle.monitor_laws.proofs.Checked.{none_fails, begins_with, head_is}
 use Rattle.monitor_laws.proofs.Effects.{ticks_of}
 use Rattle.monitor_laws.proofs.Fetched.{UnitLaws}
-use Rattle.monitor_laws.proofs.FlashWords.{each_at}
 use Rattle.monitor_laws.proofs.HandlerRule.{HandlerRule, runs_handle}
 use Rattle.monitor_laws.proofs.Opened.{FrameIsOpen}
 use Rattle.monitor_laws.proofs.Placement.{writable}
@@ -67,6 +64,7 @@ use Rattle.handler_runs.proofs.Returned.{ReturnLaws, concluded}
 use Rattle.svc_law.proofs.Calling.{Calling, IsGood, good_entry, outcome_open, outcome_shut, not_lt, not_eq}
 use Rattle.svc_law.proofs.Numbers as by
 use Rattle.svc_law.proofs.Bus as bus
+use Rattle.common_laws.proofs.Lists.{each_at}
 
 -- the laws of lower crates that the law rests on
 pub record CallLaws : Type 0 where
@@ -102,11 +100,6 @@ sound_is_fit i t rules s =
     }
 
 -- ---- behind flash nothing lies
-
-none_holds : (ws : List Window) (a : ℕ) → AreWindows ws → a < 0x40000000 → AnyHolds ws a 1 → ⊥
-none_holds [] a h lt x = x
-none_holds (w ∷ ws) a h lt (inl x) = let l = h.0.place.0 in let y = x.0 in omega (arith, l, y, lt)
-none_holds (w ∷ ws) a h lt (inr x) = none_holds ws a h.2 lt x
 
 behind_flash : (i : Image) (a : ℕ) → ObeysRules i → i.flash_base + length i.flash ≤ a → a < 0x20000000 → place i a ≡ Nowhere
 behind_flash i a rules hi lt = holds_nowhere i a 1 rules (inl refl) (omega arith) (λ h. elim h [

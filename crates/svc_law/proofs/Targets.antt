@@ -4,7 +4,7 @@ use Rattle.std.specs.Prelude.{flat_map}
 use Rattle.words.specs.Bytes.{read}
 use Rattle.device_model.specs.declared.image.Image.{Image}
 use Rattle.mem_bus.specs.Places.{choose}
-use Rattle.armv7m.specs.Confinement.{Each}
+use Rattle.common_laws.specs.Lists.{Each}
 use Rattle.monitor.specs.declared.tables.SiteRecord.{SiteRecord}
 use Rattle.monitor.specs.declared.tables.TargetRecord.{TargetRecord}
 use Rattle.monitor.specs.declared.tables.Tables.{Tables}
@@ -14,15 +14,18 @@ use Rattle.monitor.specs.Area.{HasTables, compartment_words, site_words, target_
 use Rattle.monitor.specs.Checks.{must, and_then, each_record, is_site, is_target, is_entry, sites_fail}
 use Rattle.monitor.specs.Placed.{Placed, IsEntry}
 use Rattle.monitor.specs.Constants.{Constants, constants_with}
-use Rattle.monitor_laws.proofs.Checked.{both, le_is, must_none, and_none}
+use Rattle.monitor_laws.proofs.Checked.{le_is, must_none, and_none}
 use Rattle.monitor_laws.proofs.FlashWords.{Has, flash_has, has_front, has_back, has_record, records_length}
-use Rattle.monitor_laws.proofs.Tables.{counts}
+use Rattle.monitor_laws.proofs.Tables.{counts, product}
 use Rattle.monitor_laws.proofs.Placement.{writable}
 use Rattle.armv7m.specs.declared.state.ProtectionState.{ProtectionState}
 use Rattle.gate_steps.specs.Safe.{Rule}
 use Rattle.monitor_laws.proofs.Off.{IsOff}
 use Rattle.monitor_laws.proofs.Opened.{Handles}
 use Rattle.monitor_laws.proofs.EnterTarget.{chosen, HasTargets}
+use Rattle.common_laws.proofs.Tests.{both_true as both}
+use Rattle.common_laws.proofs.Lists.{each_drop, each_take}
+use Rattle.monitor_laws.proofs.EnterSite.{three_words}
 
 -- ---- the checks of sites
 
@@ -97,16 +100,6 @@ chosen_is flash o e xs (suc n) le h =
 
 -- ---- it is one of the targets
 
-each_take : (P : TargetRecord → Type 0) (n : ℕ) (xs : List TargetRecord) → Each P xs → Each P (take n xs)
-each_take P zero xs e = tt
-each_take P (suc n) [] e = tt
-each_take P (suc n) (x ∷ xs) e = (e.0, each_take P n xs e.1)
-
-each_drop : (P : TargetRecord → Type 0) (n : ℕ) (xs : List TargetRecord) → Each P xs → Each P (drop n xs)
-each_drop P zero xs e = e
-each_drop P (suc n) [] e = tt
-each_drop P (suc n) (x ∷ xs) e = each_drop P n xs e.1
-
 last_is : (P : TargetRecord → Type 0) (e : ℕ) (xs : List TargetRecord) (g : TargetRecord) → Each P xs → last_with_entry e xs ≡ Some g → (g.entry ≡ e) × P g
 last_is P e [] g ps h = absurd (let z : ⊥ = cc in z)
 last_is P e (x ∷ xs) g ps h = by (λ l. last_is P e xs g ps.1 l) (last_with_entry e xs) refl (nat_eq x.entry e) refl h
@@ -121,16 +114,9 @@ target_is t s e g ps h = last_is (λ (g : TargetRecord). IsEntry t g.entry g.com
 
 -- ---- in flash
 
-three_words : (xs : List SiteRecord) → Each (λ x. length (site_words x) ≡ 3) xs
-three_words [] = tt
-three_words (x ∷ xs) = (refl, three_words xs)
-
 two_words : (xs : List TargetRecord) → Each (λ x. length (target_words x) ≡ 2) xs
 two_words [] = tt
 two_words (x ∷ xs) = (refl, two_words xs)
-
-product : (s c : ℕ) → (8 * s + 16) * c ≡ 4 * ((2 * s + 4) * c)
-product s c = grind arith
 
 dropped : (xs : List TargetRecord) (n k : ℕ) → get_or (drop n xs) k no_target ≡ get_or xs (n + k) no_target
 dropped xs zero k = let z : k ≡ 0 + k = omega arith in ap (λ k. get_or xs k no_target) z

@@ -4,7 +4,8 @@ use Rattle.std.proofs.lemmas.Str.{IsUtf8-from_ascii}
 use Rattle.ir_model.specs.Plain.{PlainFirmware}
 use Rattle.ir_model.specs.Tokens.{Token, Name, Number, Key, Operation, Comparison, Sign, Marked}
 use Rattle.ir_model.specs.Lines.{Line, lines_of}
-use Rattle.ir_model.specs.Canonical.{Each, PassesNothing, IsProper, line_bytes, canonical, IsWithinLimits}
+use Rattle.ir_model.specs.Canonical.{PassesNothing, IsProper, line_bytes, canonical, IsWithinLimits}
+use Rattle.common_laws.specs.Lists.{Each}
 use Rattle.ir_model.specs.Texts.{IsText}
 use Rattle.ir_model.proofs.NoExcess.{IsNarrow}
 use Rattle.text_laws.proofs.Spelled.{AreSpelled, token_spelled, lines_lead, lines_ascii}

@@ -19,7 +19,8 @@ use Rattle.ir_model.specs.declared.token.Mark.{Mark}
 use Rattle.ir_model.specs.declared.token.Mark.TheVariants as mark
 use Rattle.ir_model.specs.Tokens.{Token, Name, Number, Key, Operation, Comparison, Sign, Marked, token_bytes, keyword_bytes, operation_bytes, comparison_bytes, mark_bytes}
 use Rattle.ir_model.specs.Lines.{Line}
-use Rattle.ir_model.specs.Canonical.{Each, IsProper, line_bytes}
+use Rattle.ir_model.specs.Canonical.{IsProper, line_bytes}
+use Rattle.common_laws.specs.Lists.{Each}
 use Rattle.ir_model.specs.Texts.{StandsFor, Spells, IsApart, Leads, here, blank, token, joined, tokens}
 use Rattle.ir_model.proofs.NoExcess.{IsNarrow}
 use Rattle.std.proofs.lemmas.Bool.{and_parts, not-true}

@@ -16,9 +16,9 @@ use Rattle.ir_model.specs.Types.{PlainType, U8, U16, U32, Pointer, Array, Named,
 use Rattle.ir_model.specs.Plain.{PlainSlot, PlainStruct, PlainGlobal, PlainFunc, PlainFile, PlainFirmware}
 use Rattle.ir_model.specs.Tokens.{Token, Number, Sign, Marked}
 use Rattle.ir_model.specs.Lines.{Line, counted, plain, name, type_tokens, row_tokens, more_tokens, result_tokens, slot_tokens, more_slots, slots_tokens, struct_line, struct_lines, periph_line, periph_lines, cell_tokens, more_cells, init_tokens, global_start, global_line, global_lines, arguments, more_arguments, inst_line, inst_lines, term_line, block_lines, local_lines, reg_lines, func_line, func_lines, funcs_lines, close_line, file_lines, lines_of}
-use Rattle.ir_model.specs.Canonical.{Each}
-use Rattle.ir_model.proofs.ForEach.{each_both}
+use Rattle.common_laws.specs.Lists.{Each}
 use Rattle.ir_model.proofs.NoExcess.{number_fits, length_fits}
+use Rattle.common_laws.proofs.Lists.{each_both}
 
 -- a number that passes nothing has 32 bits
 abbrev pub IsKept : Token → Option Excess → Type 0

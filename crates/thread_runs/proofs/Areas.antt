@@ -3,7 +3,9 @@ use Rattle.std.proofs.Common.{◌≡◌, ℕ, zero, suc, ◌+◌, ◌<◌, ◌�
 use Rattle.std.proofs.lemmas.Bool.{cases_lt}
 use Rattle.words.specs.Bytes.{read, write, cut}
 use Rattle.words.proofs.Bytes.{length-write, read_below, read_above, read_same}
-use Rattle.thread_runs.specs.Areas.{Area, Each, Beside, Laid, Has, IsAt, Inside, Off, Spot}
+use Rattle.thread_runs.specs.Areas.{Area, Beside, Laid, Has, IsAt, Inside, Off, Spot}
+use Rattle.common_laws.specs.Lists.{Each}
+use Rattle.thread_runs.proofs.Joined.{get_front as get_join}
 
 -- ---- words stay where what changes keeps off
 
@@ -125,11 +127,6 @@ set_join : (vs xs : List ℕ) (k v : ℕ) → k < length vs → set (vs ++ xs) k
 set_join [] xs k v h = absurd (omega arith)
 set_join (x ∷ vs) xs zero v h = refl
 set_join (x ∷ vs) xs (suc k) v h = ap (λ l. x ∷ l) (set_join vs xs k v (omega arith))
-
-get_join : (vs xs : List ℕ) (k : ℕ) → k < length vs → get_or (vs ++ xs) k 0 ≡ get_or vs k 0
-get_join [] xs k h = absurd (omega arith)
-get_join (x ∷ vs) xs zero h = refl
-get_join (x ∷ vs) xs (suc k) h = get_join vs xs k (omega arith)
 
 set_skip : (xs ys : List ℕ) (i v : ℕ) → set (xs ++ ys) (length xs + i) v ≡ xs ++ set ys i v
 set_skip [] ys i v = let e : 0 + i ≡ i = omega arith in ap (λ (n : ℕ). set ys n v) e

@@ -12,11 +12,11 @@ use Rattle.armv7m.specs.RunningCode.{Context, works}
 use Rattle.armv7m.proofs.Exec.{onward}
 use Rattle.ir_model.specs.Resolved.{NumberedFunc, Call, ICall}
 use Rattle.ir_model.specs.Signatures.{row_length}
-use Rattle.lower.specs.declared.places.Places.{Places}
-use Rattle.lower.specs.FrameShape.{frame_shape}
-use Rattle.lower.specs.Places.{entry_address}
-use Rattle.lower.specs.Sizes.{entry_size, call_size, icall_size}
-use Rattle.lower.specs.Templates.{lends_of, entry_items, inst_items}
+use Rattle.code_model.specs.declared.places.Places.{Places}
+use Rattle.code_model.specs.FrameShape.{frame_shape}
+use Rattle.code_model.specs.Places.{entry_address}
+use Rattle.code_model.specs.Sizes.{entry_size, call_size, icall_size}
+use Rattle.code_model.specs.Templates.{lends_of, entry_items, inst_items}
 use Rattle.monitor.specs.Block.{Block, entered}
 use Rattle.monitor.specs.Setting.{Setting}
 use Rattle.monitor.specs.Threads.{svc, base, HasRoom}

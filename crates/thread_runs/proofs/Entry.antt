@@ -10,11 +10,11 @@ use Rattle.armv7m.specs.RunningCode.{Context, works}
 use Rattle.armv7m.proofs.Exec.{stay, onward}
 use Rattle.ir_model.specs.Resolved.{NumberedFunc}
 use Rattle.ir_model.specs.Signatures.{row_length}
-use Rattle.lower.specs.declared.places.Places.{Places}
-use Rattle.lower.specs.FrameShape.{frame_shape}
-use Rattle.lower.specs.Places.{Lend}
-use Rattle.lower.specs.Sizes.{entry_size}
-use Rattle.lower.specs.Templates.{lends_of, entry_items}
+use Rattle.code_model.specs.declared.places.Places.{Places}
+use Rattle.code_model.specs.FrameShape.{frame_shape}
+use Rattle.code_model.specs.Places.{Lend}
+use Rattle.code_model.specs.Sizes.{entry_size}
+use Rattle.code_model.specs.Templates.{lends_of, entry_items}
 use Rattle.monitor.specs.Block.{Block, lent}
 use Rattle.monitor.specs.Setting.{Setting}
 use Rattle.monitor.specs.Threads.{svc, lend_steps, base, Stays, HasRoom, AtInstr}
@@ -24,7 +24,8 @@ use Rattle.code_effects.specs.Entry.{Entered, entry_steps, no_lend}
 use Rattle.code_effects.proofs.Registers.{holds_nothing, holds_known, known_holds}
 use Rattle.thread_runs.specs.CodeLaws.{CodeLaws}
 use Rattle.thread_runs.specs.Owned.{owner, Owns, MemoryRules, loan_of, all_lent, Lendable}
-use Rattle.thread_runs.proofs.Thread.{call_owned, Kept, at_pc, fits_pc, fits_after, runs_here, room, inv_kept, stays_kept, stays_none, stays_on}
+use Rattle.code_effects.proofs.Kept.{Kept}
+use Rattle.thread_runs.proofs.Thread.{call_owned, at_pc, fits_pc, fits_after, runs_here, room, inv_kept, stays_kept, stays_none, stays_on}
 
 -- a frame o bytes behind RAM's base, of w words below the return address: the arguments are in its first words, the others are clear
 pub record Filled (o w link : ℕ) (arguments : List ℕ) (ram : List ℕ) : Type 0 where

@@ -3,3 +3,4 @@ pub mod Thread
 pub mod Entry
 pub mod Calls
 pub mod Returns
+pub mod Joined

@@ -10,10 +10,10 @@ use Rattle.armv7m.specs.Stack.{Room}
 use Rattle.armv7m.specs.RunningCode.{Context, works}
 use Rattle.armv7m.proofs.Exec.{stay, onward}
 use Rattle.ir_model.specs.Resolved.{NumberedFunc, Ret}
-use Rattle.lower.specs.declared.places.Places.{Places}
-use Rattle.lower.specs.FrameShape.{frame_shape}
-use Rattle.lower.specs.Places.{Lend}
-use Rattle.lower.specs.Templates.{lends_of, term_items}
+use Rattle.code_model.specs.declared.places.Places.{Places}
+use Rattle.code_model.specs.FrameShape.{frame_shape}
+use Rattle.code_model.specs.Places.{Lend}
+use Rattle.code_model.specs.Templates.{lends_of, term_items}
 use Rattle.monitor.specs.Block.{Block, lent, entered}
 use Rattle.monitor.specs.Setting.{Setting}
 use Rattle.monitor.specs.Threads.{lend_steps, base, stack_end, HasRoom}

@@ -1,7 +1,6 @@
 -- What the law gives a running thread: code that may be fetched, stack that may be used, and what stays.
-use Rattle.std.proofs.Common.{◌≡◌, ℕ, ◌+◌, ◌*◌, ◌%◌, ◌≤◌, List, [], ◌∷◌, length, true, Option, refl, ◌∙◌, subst, arith, ◌⊎◌, inl, inr, ⊎_elim}
-use Rattle.words.specs.Bytes.{read, write}
-use Rattle.words.proofs.Bytes.{length-write, read_below, read_above}
+use Rattle.std.proofs.Common.{◌≡◌, ℕ, ◌+◌, ◌*◌, ◌%◌, ◌≤◌, List, [], ◌∷◌, true, Option, refl, ◌∙◌, subst, arith, ◌⊎◌, inl, inr, ⊎_elim}
+use Rattle.words.specs.Bytes.{read}
 use Rattle.words.specs.declared.conditions.Flags.{Flags}
 use Rattle.thumb_model.specs.declared.table.Code.{Code}
 use Rattle.thumb_model.specs.declared.table.Code.TheVariants as code
@@ -25,24 +24,12 @@ use Rattle.monitor.specs.Setting.{Setting}
 use Rattle.monitor.specs.Threads.{svc, Stays, KeepsOff, base, stack_end}
 use Rattle.monitor.specs.Law.{Law}
 use Rattle.code_effects.specs.Items.{ItemsAt}
-use Rattle.thread_runs.specs.Areas.{Area, Each, Has}
+use Rattle.thread_runs.specs.Areas.{Area, Has}
+use Rattle.common_laws.specs.Lists.{Each}
 use Rattle.thread_runs.specs.CodeLaws.{CodeLaws}
 use Rattle.thread_runs.specs.Owned.{owner, Owns, MemoryRules}
 use Rattle.thread_runs.proofs.Areas.{has_alike}
-
--- memory outside of a range stays
-pub record Kept (lo hi : ℕ) (old new : List ℕ) : Type 0 where
-  pub reads : (w a : ℕ) → (a + w ≤ lo) ⊎ (hi ≤ a) → read w a new ≡ read w a old
-  pub as_long : length new ≡ length old
-
-pub kept_none : (lo hi : ℕ) (m : List ℕ) → Kept lo hi m m
-kept_none lo hi m = record { reads = λ w a h. refl; as_long = refl }
-
-pub kept_write : (lo hi : ℕ) (m n : List ℕ) (w a v : ℕ) → Kept lo hi m n → lo ≤ a → a + w ≤ hi → Kept lo hi m (write w a v n)
-kept_write lo hi m n w a v k l h = record {
-  reads = λ u c g. ⊎_elim (λ x. read_below u c w a v n (omega arith)) (λ x. read_above u c w a v n (omega arith)) g ∙ k.reads u c g;
-  as_long = length-write w a v n ∙ k.as_long;
-}
+use Rattle.code_effects.proofs.Kept.{Kept}
 
 -- parts of a state written in another way
 pub at_pc : (g : Setting) (k : ℕ) (s : State) (x : Context) (low : List ℕ) (sp lr pc to : ℕ) (f : Flags) (ram : List ℕ) (queues : List (List ℕ)) (es : List Event) → pc ≡ to →

@@ -4,8 +4,8 @@ use Rattle.std.specs.Prelude.{ℕ, List, Option}
 use Rattle.device_model.specs.declared.image.Image.{Image}
 use Rattle.armv7m.specs.State.{PermissionTest}
 use Rattle.ir_model.specs.Resolved.{NumberedFunc}
-use Rattle.lower.specs.declared.places.Places.{Places}
-use Rattle.lower.specs.Laws.{CompartmentsHold, SitesAgree, SizesAreEven}
+use Rattle.code_model.specs.declared.places.Places.{Places}
+use Rattle.code_model.specs.Laws.{CompartmentsHold, SitesAgree, SizesAreEven}
 use Rattle.code_effects.specs.Points.{Point, RunsFit}
 use Rattle.code_effects.specs.Items.{ItemsStand}
 use Rattle.code_effects.specs.Functions.{FunctionsStand}

@@ -6,7 +6,7 @@ use Rattle.thumb_asm.specs.declared.item.Item.{Item}
 use Rattle.device_model.specs.Rules.{ObeysRules, block_size}
 use Rattle.armv7m.specs.declared.state.ProtectionState.{ProtectionState}
 use Rattle.armv7m.specs.State.{PermissionTest}
-use Rattle.lower.specs.Places.{Lend}
+use Rattle.code_model.specs.Places.{Lend}
 use Rattle.monitor.specs.Block.{Block, Loan, lent}
 use Rattle.monitor.specs.Setting.{Setting}
 use Rattle.monitor.specs.Threads.{base, stack_end}

@@ -21,10 +21,10 @@ use Rattle.thumb_asm.specs.Finished.{distance, branch, reach, is_near, first_far
 use Rattle.thumb_asm.specs.Decodes.{half_at, instruction_of, BytesDecode, BytesFill}
 use Rattle.thumb_asm.proofs.Reaching.{size_even, goes, first_put, near_by, far-split}
 
-offset_near : (limit at to : ℕ) → 0 < limit → limit ≤ 2 ^ 24 → at < 2 ^ 31 → to < 2 ^ 31 → is_near limit at to ≡ true → to % 2 ≡ at % 2 → IsOffset limit (distance at to)
+pub offset_near : (limit at to : ℕ) → 0 < limit → limit ≤ 2 ^ 24 → at < 2 ^ 31 → to < 2 ^ 31 → is_near limit at to ≡ true → to % 2 ≡ at % 2 → IsOffset limit (distance at to)
 offset_near limit at to some few a t near even = grind (arith, ints, nat_tests)
 
-branch_in_table : (kind : BranchKind) (at to : ℕ) → HasCondition kind → at < 2 ^ 31 → to < 2 ^ 31 → is_near (reach kind) at to ≡ true → to % 2 ≡ at % 2 → InTable (branch kind at to)
+pub branch_in_table : (kind : BranchKind) (at to : ℕ) → HasCondition kind → at < 2 ^ 31 → to < 2 ^ 31 → is_near (reach kind) at to ≡ true → to % 2 ≡ at % 2 → InTable (branch kind at to)
 branch_in_table (Cond c) at to h a t near even = (h, offset_near 256 at to (omega arith) (omega arith) a t near even)
 branch_in_table Short at to h a t near even = (omega arith, omega arith, offset_near 2048 at to (omega arith) (omega arith) a t near even, λ e. absurd (omega arith), λ e. refl)
 branch_in_table Long at to h a t near even = offset_near (2 ^ 24) at to (omega arith) (omega arith) a t near even
@@ -32,14 +32,14 @@ branch_in_table Link at to h a t near even = offset_near (2 ^ 24) at to (omega a
 
 -- ---- lengths
 
-branch_width : (kind : BranchKind) (at to : ℕ) → width_of (encode (branch kind at to)) ≡ branch_size kind
+pub branch_width : (kind : BranchKind) (at to : ℕ) → width_of (encode (branch kind at to)) ≡ branch_size kind
 unfolding encode
 branch_width (Cond c) at to = refl
 branch_width Short at to = refl
 branch_width Long at to = refl
 branch_width Link at to = refl
 
-bytes_length : (ps : List (Option ℕ)) (at : ℕ) (i : Item) → length (bytes_at ps at i) ≡ size_of i
+pub bytes_length : (ps : List (Option ℕ)) (at : ℕ) (i : Item) → length (bytes_at ps at i) ≡ size_of i
 bytes_length ps at (Plain x) = length-bytes_of_code (encode x)
 bytes_length ps at (Branch kind to) = length-bytes_of_code (encode (branch kind at (place_of ps to.number))) ∙ branch_width kind at (place_of ps to.number)
 bytes_length ps at (Half h) = refl

@@ -1,3 +1,4 @@
 mod Pieces
-mod Reaching
-mod Decoded
+pub mod Reaching
+pub mod Decoded
+pub mod Items

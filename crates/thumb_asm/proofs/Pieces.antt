@@ -4,10 +4,7 @@ use Rattle.std.proofs.Math.ListN.{get_or}
 use Rattle.thumb_asm.specs.declared.item.Item.{Item}
 use Rattle.thumb_asm.specs.declared.item.Item.TheVariants.{Plain, Branch, Half, Word}
 use Rattle.thumb_asm.specs.Assembly.{Assembly, size_of, total, here, IsItem, AreItems, IsAssembly}
-
-pub total-append : (xs ys : List Item) → total (xs ++ ys) ≡ total xs + total ys
-total-append [] ys = omega arith
-total-append (x ∷ xs) ys = let h = total-append xs ys in omega arith
+use Rattle.thumb_asm.proofs.Items.{total-append}
 
 pub items-append : (n : ℕ) (xs ys : List Item) → AreItems n xs → AreItems n ys → AreItems n (xs ++ ys)
 items-append n [] ys a b = b

@@ -1,5 +1,5 @@
 -- Pieces that are put one behind the other.
-use Rattle.std.proofs.Common.{◌≡◌, ℕ, zero, suc, ◌+◌, ◌%◌, ◌<◌, ◌≤◌, ◌^◌, Bool, true, false, List, [], ◌∷◌, length, take, if◌then◌else◌, Option, Some, None, IsSome, rules, refl, sym, ◌∙◌, arith}
+use Rattle.std.proofs.Common.{◌≡◌, ℕ, zero, suc, ◌+◌, ◌%◌, ◌<◌, ◌≤◌, ◌^◌, Bool, true, false, List, [], ◌∷◌, length, take, if◌then◌else◌, Option, Some, None, refl, sym, ◌∙◌, arith}
 use Rattle.std.proofs.Math.ListN.{get_or}
 use Rattle.std.proofs.lemmas.Option.{none-some}
 use Rattle.thumb_model.specs.Table.{width_of, encode}
@@ -13,17 +13,13 @@ use Rattle.thumb_asm.specs.declared.item.Item.TheVariants.{Plain, Branch, Half, 
 use Rattle.thumb_asm.specs.declared.refusal.AsmRefusal.{AsmRefusal}
 use Rattle.thumb_asm.specs.declared.refusal.AsmRefusal.TheVariants.{FarBranch}
 use Rattle.thumb_asm.specs.Assembly.{Assembly, branch_size, size_of, total, place_of, IsItem, AreItems, ArePut, GoesSomewhere, IsAssembly}
-use Rattle.thumb_asm.specs.Finished.{reach, is_near, first_far}
+use Rattle.thumb_asm.specs.Finished.{reach, is_near, first_far, distance}
+use Rattle.common_laws.proofs.Options.{some_is}
+use Rattle.thumb_asm.proofs.Items.{total_within, branch_even}
 
 code_even : (c : Code) → width_of c % 2 ≡ 0
 code_even (code.Half h) = refl
 code_even (code.Pair h k) = refl
-
-branch_even : (k : BranchKind) → branch_size k % 2 ≡ 0
-branch_even (Cond c) = refl
-branch_even Short = refl
-branch_even Long = refl
-branch_even Link = refl
 
 pub size_even : (i : Item) → size_of i % 2 ≡ 0
 size_even (Plain x) = code_even (encode x)
@@ -39,17 +35,8 @@ code_some : (c : Code) → 2 ≤ width_of c
 code_some (code.Half h) = omega arith
 code_some (code.Pair h k) = omega arith
 
-total_within : (is : List Item) (k : ℕ) → total (take k is) ≤ total is
-total_within [] zero = omega arith
-total_within [] (suc k) = omega arith
-total_within (i ∷ is) zero = omega arith
-total_within (i ∷ is) (suc k) = let h = total_within is k in omega arith
-
-some_is : {A : Type 0} (o : Option A) → IsSome o → (x : A) × (o ≡ Some x)
-some_is o h = search (rules)
-
 -- where a label was put: at an even distance from the base, and below 2^31
-even_place : (a : Assembly) (l p : ℕ) → IsAssembly a → get_or a.places l None ≡ Some p → (p % 2 ≡ a.base % 2) × (p < 2 ^ 31)
+pub even_place : (a : Assembly) (l p : ℕ) → IsAssembly a → get_or a.places l None ≡ Some p → (p % 2 ≡ a.base % 2) × (p < 2 ^ 31)
 even_place a l p h e =
     let b = h.places l p e in
     let x = total_even (take b.0 a.items) in
@@ -127,3 +114,11 @@ far-split ps at (Branch kind to) is h = by_test (is_near (reach kind) at (place_
     by_test false h = absurd (none-some _ (sym h))
 far-split ps at (Half w) is h = (refl, h)
 far-split ps at (Word w) is h = (refl, h)
+
+pub near_first : (places : List (Option ℕ)) (at : ℕ) (kind : BranchKind) (to : Label) (more : List Item) → first_far places at (Branch kind to ∷ more) ≡ None →
+    (is_near (reach kind) at (place_of places to.number) ≡ true) × (first_far places (at + branch_size kind) more ≡ None)
+near_first places at kind to more h = by_test (is_near (reach kind) at (place_of places to.number)) h
+  where
+    by_test : (b : Bool) → (if b then first_far places (at + branch_size kind) more else Some (FarBranch at (place_of places to.number))) ≡ None → (b ≡ true) × (first_far places (at + branch_size kind) more ≡ None)
+    by_test true h = (refl, h)
+    by_test false h = absurd (none-some _ (sym h))

@@ -1,8 +1,8 @@
 use Rattle.std.proofs.Common.{take, arith}
 use Rattle.std.proofs.lemmas.List.{length-take}
 use Rattle.plan_model.specs.Crossing.{crosses}
-use Rattle.compile_limits.proofs.Wide.{few}
 use Rattle.compile_limits.proofs.site_count.Goals as goal
+use Rattle.common_laws.proofs.Lists.{few_kept as few}
 
 pub overflow_add-count : goal.overflow_add-count
 overflow_add-count c =

@@ -9,9 +9,9 @@ use Rattle.plan_model.specs.Needs.{no_need, IsNeedOf}
 use Rattle.std.proofs.lemmas.List.{length-map}
 use Rattle.depend.specs.Accesses.{HasTargets}
 use Rattle.depend.proofs.Exact.{each_pushed}
-use Rattle.depend.proofs.Walked.{flat_numbers}
 use Rattle.depend.proofs.Gathered.{gathered}
 use Rattle.depend.proofs.all_needs.Goals as goal
+use Rattle.plan_model.proofs.Numbers.{flat_numbers}
 
 pub loop-func-init : goal.loop-func-init
 loop-func-init c =

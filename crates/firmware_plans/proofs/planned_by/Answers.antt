@@ -2,8 +2,10 @@ use Rattle.std.proofs.Common.{◌∙◌, ap, sym, length}
 use Rattle.ir_model.specs.Plain.{firmware_of}
 use Rattle.ir_model.specs.Resolve.{resolve}
 use Rattle.plan_model.specs.declared.groups.Groups.{Groups}
-use Rattle.firmware_plans.proofs.Counting.{as_many, each_compartment, each_resolved}
+use Rattle.firmware_plans.proofs.Counting.{each_resolved}
 use Rattle.firmware_plans.proofs.planned_by.Goals as goal
+use Rattle.ir_laws.proofs.Resolved.{as_many}
+use Rattle.plan_model.proofs.Compartments.{each_compartment}
 
 pub planned-requires-clause-needs : goal.planned-requires-clause-needs
 planned-requires-clause-needs c =

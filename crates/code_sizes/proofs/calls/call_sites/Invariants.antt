@@ -1,5 +1,5 @@
 use Rattle.std.proofs.Common.{◌≡◌, ◌++◌, drop}
-use Rattle.lower.specs.Planned.{call_sites_among}
+use Rattle.code_model.specs.Planned.{call_sites_among}
 use Rattle.code_sizes.specs.Parts.{seen_sites}
 use Rattle.code_sizes.proofs.calls.call_sites.Given as goal
 

@@ -1,7 +1,7 @@
 use Rattle.ir_program.specs.Seen.{program_of}
 use Rattle.code_sizes.specs.Parts.{seen_sites, function_bytes}
-use Rattle.code_sizes.proofs.Grown.{mapped_more}
 use Rattle.code_sizes.proofs.functions.all_bytes.Goals as goal
+use Rattle.plan_model.proofs.Numbers.{mapped_more}
 
 pub loop-func-preserved : goal.loop-func-preserved
 loop-func-preserved c =

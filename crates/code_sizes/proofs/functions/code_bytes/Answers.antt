@@ -1,7 +1,7 @@
-use Rattle.lower.specs.CompartmentCode.{members_from}
+use Rattle.code_model.specs.CompartmentCode.{members_from}
 use Rattle.code_sizes.specs.Parts.{filled_total}
-use Rattle.code_sizes.proofs.Grown.{mapped_more}
 use Rattle.code_sizes.proofs.functions.code_bytes.Goals as goal
+use Rattle.plan_model.proofs.Numbers.{mapped_more}
 
 pub loop-compartment-preserved : goal.loop-compartment-preserved
 loop-compartment-preserved c =

@@ -1,6 +1,6 @@
 use Rattle.std.proofs.Common.{◌≡◌, map}
 use Rattle.plan_model.specs.Lists.{numbers_below}
-use Rattle.lower.specs.CompartmentCode.{members_from}
+use Rattle.code_model.specs.CompartmentCode.{members_from}
 use Rattle.code_sizes.specs.Parts.{filled_total}
 use Rattle.code_sizes.proofs.functions.code_bytes.Given as goal
 

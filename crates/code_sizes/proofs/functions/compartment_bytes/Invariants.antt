@@ -1,5 +1,5 @@
 use Rattle.std.proofs.Common.{◌≡◌, ◌+◌, drop}
-use Rattle.lower.specs.CompartmentCode.{members_from}
+use Rattle.code_model.specs.CompartmentCode.{members_from}
 use Rattle.code_sizes.specs.Parts.{filled_total}
 use Rattle.code_sizes.proofs.functions.compartment_bytes.Given as goal
 

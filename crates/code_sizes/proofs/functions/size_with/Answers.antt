@@ -6,8 +6,8 @@ use Rattle.ir_program.specs.Storages.{shape_of}
 use Rattle.ir_program.specs.Seen.{known_of, program_of}
 use Rattle.plan_model.specs.Lists.{numbers_below}
 use Rattle.plan_model.specs.Lending.{is_local}
-use Rattle.lower.specs.Sizes.{function_size}
-use Rattle.code_sizes.proofs.Bare.{same_function_size}
+use Rattle.code_model.specs.Sizes.{function_size}
+use Rattle.offsets.proofs.Bare.{same_function_size}
 use Rattle.code_sizes.proofs.functions.size_with.Goals as goal
 
 pub returns : goal.returns

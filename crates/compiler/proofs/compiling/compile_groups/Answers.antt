@@ -3,8 +3,9 @@ use Rattle.ir_model.specs.Plain.{firmware_of}
 use Rattle.ir_model.specs.Resolve.{resolve}
 use Rattle.ir_model.specs.Resolved.{Program}
 use Rattle.planning.specs.Planned.{IsPlannedFor}
-use Rattle.compiler.proofs.Parts.{each_compartment, routines, plan_is, is_planned, is_image}
+use Rattle.compiler.proofs.Parts.{routines, plan_is, is_planned, is_image}
 use Rattle.compiler.proofs.compiling.compile_groups.Goals as goal
+use Rattle.plan_model.proofs.Compartments.{each_compartment}
 
 pub planned-requires-clause-needs : goal.planned-requires-clause-needs
 planned-requires-clause-needs c =

@@ -4,8 +4,9 @@ use Rattle.ir_model.specs.Resolved.{block_at}
 use Rattle.ir_program.specs.Seen.{program_of}
 use Rattle.plan_model.specs.Lists.{numbers_below}
 use Rattle.plan_model.specs.Calls.{calls_from}
-use Rattle.depend.proofs.Walked.{adds_none, adds_more, same_adds, flat_numbers}
+use Rattle.depend.proofs.Walked.{adds_none, adds_more, same_adds}
 use Rattle.depend.proofs.sites.push_sites.Goals as goal
+use Rattle.plan_model.proofs.Numbers.{flat_numbers}
 
 pub loop-block-init : goal.loop-block-init
 loop-block-init c = λ S h. adds_none (program_of c.args.program.now) S c.args.sites.now.items

@@ -7,8 +7,9 @@ use Rattle.gate_steps.proofs.CodeParts.{code_has_its_length}
 use Rattle.gate_assembler.specs.Emitted.{MayPut, HasPut, choice_code, loop_head, loop_end}
 use Rattle.gate_assembler.proofs.Alone.{alone-Test, alone-Repeat}
 use Rattle.gate_assembler.proofs.Splits.{length-take_more, length-take-le}
-use Rattle.gate_assembler.proofs.Nested.{length-even, may_put_step, step_is_put, may_put_first, may_put_second, test_is_put, may_put_body, loop_is_put, on_ok}
+use Rattle.gate_assembler.proofs.Nested.{length-even, may_put_step, step_is_put, may_put_first, may_put_second, test_is_put, may_put_body, loop_is_put}
 use Rattle.gate_assembler.proofs.assembling.+assembling.Goals as goal
+use Rattle.common_laws.proofs.Options.{on_ok}
 
 pub assemble-put_step-requires : goal.assemble-put_step-requires
 assemble-put_step-requires t c =

@@ -7,10 +7,10 @@ use Rattle.plan_model.specs.declared.groups.FuncFacts.{FuncFacts}
 use Rattle.grouping.specs.Functions.{AreFunctions}
 use Rattle.grouping.proofs.Below.{facts_below}
 use Rattle.grouping.specs.declared.origins.Origin.{Origin}
-use Rattle.grouping.proofs.Numbers.{mapped_more}
 use Rattle.ir_model.specs.Resolve.{files_from}
 use Rattle.grouping.proofs.Told.{names_of, files_of, fact_read, told_are_functions, length_told, all_told}
 use Rattle.grouping.proofs.facts.facts.Goals as goal
+use Rattle.plan_model.proofs.Numbers.{mapped_more}
 
 each_origin : (os : List Origin) (fs : List PlainFunc) (n : ℕ) → map (λ (o : Origin). o.name.now) os ≡ map (λ (f : PlainFunc). f.name) fs → n ≡ length fs → n ≡ length os
 each_origin os fs n e l =

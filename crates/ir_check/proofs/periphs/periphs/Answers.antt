@@ -3,8 +3,9 @@ use Rattle.ir_model.specs.declared.firmware.Peripheral.{Peripheral}
 use Rattle.ir_model.specs.Typing.{periph_checks, first_failing}
 use Rattle.ir_check.specs.Parts.{periph_check}
 use Rattle.ir_check.proofs.Order.{told, stop_at, go_on}
-use Rattle.ir_check.proofs.Slots.{take_next, more_mapped}
+use Rattle.ir_check.proofs.Slots.{more_mapped}
 use Rattle.ir_check.proofs.periphs.periphs.Goals as goal
+use Rattle.common_laws.proofs.Lists.{take_next}
 
 pub returns-in_err-periph-clause-finds : goal.returns-in_err-periph-clause-finds
 returns-in_err-periph-clause-finds c =

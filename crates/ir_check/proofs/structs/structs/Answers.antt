@@ -4,9 +4,9 @@ use Rattle.ir_model.specs.Plain.{struct_of}
 use Rattle.ir_model.specs.Typing.{struct_checks, structs_checks, first_failing}
 use Rattle.ir_check.specs.Found.{Refused}
 use Rattle.ir_check.proofs.Order.{told, stop_at, go_on}
-use Rattle.ir_check.proofs.Slots.{take_next}
 use Rattle.ir_check.proofs.StructSteps.{more_structs}
 use Rattle.ir_check.proofs.structs.structs.Goals as goal
+use Rattle.common_laws.proofs.Lists.{take_next}
 
 pub returns-in_err-structure-clause-finds : goal.returns-in_err-structure-clause-finds
 returns-in_err-structure-clause-finds c =

@@ -1,15 +1,6 @@
-use Rattle.std.proofs.Common.{◌≡◌, ◌<◌, List, [], ◌∷◌, length, false, arith, map, refl}
-use Rattle.ir_model.specs.declared.types.Ty as code
-use Rattle.ir_model.specs.declared.firmware.Slot.{Slot}
-use Rattle.ir_model.specs.Plain.{slot_of}
-use Rattle.ir_model.specs.Resolve.{row_from}
-use Rattle.ir_model.specs.Types.{same_row, type_of, types_from}
+use Rattle.std.proofs.Common.{arith}
 use Rattle.ir_model.proofs.callee.+is_row.Goals as goal
-
-more_types : (ps : List Slot) (ts : List code.Ty) → length ps < 1 → 0 < length ts → false ≡ same_row (row_from (map slot_of ps)) (types_from (map type_of ts))
-more_types [] [] l h = absurd (omega arith)
-more_types [] (t ∷ ts) l h = refl
-more_types (p ∷ ps) ts l h = absurd (omega arith)
+use Rattle.ir_model.proofs.Rows.{more_types}
 
 pub returns-in-len1-up-types : goal.returns-in-len1-up-types
 returns-in-len1-up-types t c = more_types c.args.params.now c.args.types.now (omega arith) (omega arith)

@@ -1,4 +1,4 @@
-use Rattle.std.proofs.Common.{arith, ap, length, ◌∙◌}
+use Rattle.std.proofs.Common.{arith, ap, ◌∙◌}
 use Rattle.std.proofs.lemmas.Grind.{common_steps}
 use Rattle.std.proofs.lemmas.Result.{on_ok_weaker}
 use Rattle.ir_model.specs.declared.types.Ty as code
@@ -16,11 +16,9 @@ put_type-returns-in_ok-put_row-in-Callee t c =
 pub put_row-loop-i-preserved : goal.put_row-loop-i-preserved
 unfolding ty_text
 put_row-loop-i-preserved t c =
-    let e = ap length c.deref-ty-items.ensures.value in
-    separated_step ty_text c.args.types.now.items c.loop-i.i c.ty-item.result c.args.out.now.items _ _ _
+    separated_step ty_text c.args.types.now c.loop-i.i c.index-types-i.result c.args.out.now.items _ _ _
     (omega arith) (cc) c.loop-i.invariant c.in_ok-put_separator.ensures c.in_ok-put_type.ensures
 
 pub put_row-returns : goal.put_row-returns
 put_row-returns t c =
-    let e = ap length c.deref-ty-items.ensures.value in
-    on_ok_weaker c.put_mark.result (row_end c.args.types.now.items c.loop-i.i c.args.out.now.items _ _ (omega arith) c.loop-i.invariant) c.put_mark.ensures
+    on_ok_weaker c.put_mark.result (row_end c.args.types.now c.loop-i.i c.args.out.now.items _ _ (omega arith) c.loop-i.invariant) c.put_mark.ensures

@@ -1,7 +1,7 @@
 use Rattle.std.proofs.Common.{◌+◌}
 use Rattle.plan_model.specs.FlashPlacement.{flash_spot}
-use Rattle.layout.proofs.Steps.{mapped_next}
 use Rattle.layout.proofs.flash.code_spots.Goals as goal
+use Rattle.plan_model.proofs.Numbers.{mapped_more as mapped_next}
 
 pub loop-number-preserved : goal.loop-number-preserved
 loop-number-preserved c =

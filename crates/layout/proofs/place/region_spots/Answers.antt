@@ -1,8 +1,8 @@
 use Rattle.plan_model.specs.RamBlocks.{ForRegion}
 use Rattle.plan_model.specs.Placement.{placed_for}
 use Rattle.layout.specs.Filling.{ram_seen}
-use Rattle.layout.proofs.Steps.{mapped_next}
 use Rattle.layout.proofs.place.region_spots.Goals as goal
+use Rattle.plan_model.proofs.Numbers.{mapped_more as mapped_next}
 
 pub loop-number-preserved : goal.loop-number-preserved
 loop-number-preserved c =

@@ -1,5 +1,5 @@
 use Rattle.std.proofs.Common.{◌<◌, ℕ, get_or}
-use Rattle.lower.specs.Emitted.{IsNear}
+use Rattle.code_model.specs.Emitted.{IsNear}
 use Rattle.linker.proofs.code.are_near.Given as goal
 
 abbrev pub invariant-loop-entry : goal.invariant-loop-entry

@@ -6,12 +6,13 @@ use Rattle.thumb_asm.specs.Assembly.{here}
 use Rattle.ir_model.specs.Resolved.{func_at}
 use Rattle.ir_program.specs.Seen.{known_of, routine_of}
 use Rattle.plan_model.specs.Lists.{numbers_below}
-use Rattle.lower.specs.declared.places.Places.{Places}
-use Rattle.lower.specs.CompartmentCode.{members_from, before, size_of, entry_of, places_of}
-use Rattle.lower.specs.Emitted.{size_in}
-use Rattle.linker.specs.Grouped.{places_in}
-use Rattle.linker.specs.Making.{program_in, grouped, places_at, standing, first_members}
-use Rattle.linker.proofs.Members.{member_kept, member_dropped}
+use Rattle.code_model.specs.declared.places.Places.{Places}
+use Rattle.code_model.specs.CompartmentCode.{members_from, before, size_of, entry_of, places_of}
+use Rattle.code_model.specs.Emitted.{size_in}
+use Rattle.link_entries.specs.Grouped.{places_in}
+use Rattle.link_entries.specs.Making.{program_in, grouped, places_at}
+use Rattle.linker.specs.Standing.{standing, first_members}
+use Rattle.code_model.proofs.Members.{member_kept, member_dropped}
 use Rattle.linker.proofs.Standing.{function_more}
 use Rattle.linker.proofs.code.put_member.Goals as goal
 

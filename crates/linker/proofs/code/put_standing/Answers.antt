@@ -2,9 +2,9 @@ use Rattle.std.proofs.Common.{length, ap, arith}
 use Rattle.thumb_asm.specs.Assembly.{here}
 use Rattle.ir_model.specs.Resolved.{func_at}
 use Rattle.ir_program.specs.Seen.{program_of}
-use Rattle.lower.specs.FunctionCode.{function_items}
-use Rattle.linker.proofs.Standing.{total-append}
+use Rattle.code_model.specs.FunctionCode.{function_items}
 use Rattle.linker.proofs.code.put_standing.Goals as goal
+use Rattle.thumb_asm.proofs.Items.{total-append}
 
 pub put_filling-requires : goal.put_filling-requires
 put_filling-requires c =

@@ -1,8 +1,8 @@
 use Rattle.std.proofs.Common.{List, [], ◌∷◌, refl}
 use Rattle.thumb_model.specs.declared.table.Instr.TheVariants.{HighRegister}
 use Rattle.thumb_asm.specs.declared.item.Item.{Item}
-use Rattle.lower.specs.Words.{plain, load_slot}
-use Rattle.lower.specs.Calls.{args_code, callee_code}
+use Rattle.code_model.specs.Words.{plain, load_slot}
+use Rattle.code_model.specs.Calls.{args_code, callee_code}
 use Rattle.lower.proofs.Putting.{rest_fits}
 use Rattle.lower.proofs.calls.put_callee.Goals as goal
 

@@ -1,7 +1,7 @@
 use Rattle.std.proofs.Common.{List, [], ◌∷◌, arith}
 use Rattle.thumb_asm.specs.declared.item.Item.{Item}
 use Rattle.thumb_asm.specs.declared.item.Item.TheVariants.{Half}
-use Rattle.lower.specs.Words.{plain, supervisor_call}
+use Rattle.code_model.specs.Words.{plain, supervisor_call}
 use Rattle.lower.proofs.Putting.{room_rest}
 use Rattle.lower.proofs.calls.put_crossing.Goals as goal
 

@@ -1,8 +1,8 @@
 use Rattle.std.proofs.Common.{List, [], ◌∷◌, ◌++◌, refl}
 use Rattle.thumb_asm.specs.declared.item.Item.{Item}
 use Rattle.thumb_asm.specs.declared.item.Item.TheVariants.{Half}
-use Rattle.lower.specs.Words.{plain, save_code, supervisor_call}
-use Rattle.lower.specs.Calls.{callee_code, icross_code}
+use Rattle.code_model.specs.Words.{plain, save_code, supervisor_call}
+use Rattle.code_model.specs.Calls.{callee_code, icross_code}
 use Rattle.lower.proofs.Putting.{first_fits, rest_fits}
 use Rattle.lower.proofs.Calling.{far_icall_parts, crossing}
 use Rattle.lower.proofs.calls.put_far_icall.Goals as goal

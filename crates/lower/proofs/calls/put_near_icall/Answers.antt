@@ -1,8 +1,8 @@
 use Rattle.std.proofs.Common.{List, [], ◌∷◌, ◌++◌, refl}
 use Rattle.thumb_model.specs.declared.table.Instr.TheVariants.{BranchExchange}
 use Rattle.thumb_asm.specs.declared.item.Item.{Item}
-use Rattle.lower.specs.Words.{plain, save_code}
-use Rattle.lower.specs.Calls.{callee_code, icall_code}
+use Rattle.code_model.specs.Words.{plain, save_code}
+use Rattle.code_model.specs.Calls.{callee_code, icall_code}
 use Rattle.lower.proofs.Putting.{first_fits, rest_fits}
 use Rattle.lower.proofs.Calling.{near_icall_parts}
 use Rattle.lower.proofs.calls.put_near_icall.Goals as goal

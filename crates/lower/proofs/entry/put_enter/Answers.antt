@@ -1,8 +1,8 @@
 use Rattle.std.proofs.Common.{List, map}
 use Rattle.std.proofs.lemmas.Result.{on_ok_weaker}
 use Rattle.thumb_model.specs.declared.table.Instr.{Instr}
-use Rattle.lower.specs.Words.{plain}
-use Rattle.lower.specs.Entry.{frame_code, lend_code, enter_code}
+use Rattle.code_model.specs.Words.{plain}
+use Rattle.code_model.specs.Entry.{frame_code, lend_code, enter_code}
 use Rattle.lower.specs.Subjects.{lend_of}
 use Rattle.lower.proofs.Putting.{first_fits, rest_fits, both_put, plain-append}
 use Rattle.lower.proofs.entry.put_enter.Goals as goal

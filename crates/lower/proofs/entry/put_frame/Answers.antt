@@ -2,9 +2,9 @@ use Rattle.std.proofs.Common.{ℕ, ◌-◌, List, [], ◌∷◌, ◌++◌}
 use Rattle.std.proofs.lemmas.Result.{on_ok_weaker}
 use Rattle.thumb_model.specs.declared.table.Instr.TheVariants.{PushPop}
 use Rattle.thumb_asm.specs.declared.item.Item.{Item}
-use Rattle.lower.specs.Words.{plain, byte_into}
-use Rattle.lower.specs.Entry.{sub_code, stores_code}
-use Rattle.lower.specs.Emitted.{HasRoom}
+use Rattle.code_model.specs.Words.{plain, byte_into}
+use Rattle.code_model.specs.Entry.{sub_code, stores_code}
+use Rattle.code_model.specs.Emitted.{HasRoom}
 use Rattle.lower.proofs.Putting.{room_first, left_fits, joined}
 use Rattle.lower.proofs.Entering.{frame_parts}
 use Rattle.lower.proofs.entry.put_frame.Goals as goal

@@ -2,11 +2,11 @@ use Rattle.std.proofs.Common.{List, [], ◌∷◌, ◌++◌, map}
 use Rattle.std.proofs.lemmas.Result.{on_ok_weaker}
 use Rattle.thumb_model.specs.declared.table.Instr.TheVariants.{PushPop}
 use Rattle.thumb_asm.specs.declared.item.Item.{Item}
-use Rattle.lower.specs.Places.{Lend}
-use Rattle.lower.specs.Words.{plain}
-use Rattle.lower.specs.Entry.{unlend_code, result_code, add_code}
+use Rattle.code_model.specs.Places.{Lend}
+use Rattle.code_model.specs.Words.{plain}
+use Rattle.code_model.specs.Entry.{unlend_code, result_code, add_code}
 use Rattle.lower.specs.Subjects.{lend_of}
-use Rattle.lower.specs.Emitted.{HasRoom}
+use Rattle.code_model.specs.Emitted.{HasRoom}
 use Rattle.lower.proofs.Putting.{room_first, left_fits, joined}
 use Rattle.lower.proofs.Entering.{leave_parts}
 use Rattle.lower.proofs.entry.put_leave.Goals as goal

@@ -1,7 +1,7 @@
 use Rattle.std.proofs.Common.{◌≡◌, ◌+◌, ◌∙◌, List, [], ◌∷◌, map, drop, get_or, arith}
 use Rattle.thumb_model.specs.declared.table.Instr.{Instr}
 use Rattle.lower.specs.declared.subject.Lent.{Lent}
-use Rattle.lower.specs.Entry.{lend_code}
+use Rattle.code_model.specs.Entry.{lend_code}
 use Rattle.lower.specs.Subjects.{lend_of}
 use Rattle.lower.proofs.Putting.{step_first, step_rest, step_whole}
 use Rattle.lower.proofs.Entering.{loan_code, lends_next}

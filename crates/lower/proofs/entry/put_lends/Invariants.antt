@@ -1,7 +1,7 @@
 use Rattle.std.proofs.Common.{◌≡◌, map, drop}
-use Rattle.lower.specs.Words.{plain}
-use Rattle.lower.specs.Entry.{lend_code}
-use Rattle.lower.specs.Emitted.{with_more, HasRoom}
+use Rattle.code_model.specs.Words.{plain}
+use Rattle.code_model.specs.Entry.{lend_code}
+use Rattle.code_model.specs.Emitted.{with_more, HasRoom}
 use Rattle.lower.specs.Subjects.{lend_of}
 use Rattle.lower.proofs.entry.put_lends.Given as goal
 

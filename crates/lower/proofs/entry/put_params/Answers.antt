@@ -1,7 +1,7 @@
 use Rattle.std.proofs.Common.{◌≡◌, ℕ, ◌-◌, ◌+◌, ◌∙◌, List, [], ◌∷◌, arith}
 use Rattle.thumb_model.specs.declared.table.Instr.{Instr}
-use Rattle.lower.specs.Words.{store_slot}
-use Rattle.lower.specs.Entry.{stores_code}
+use Rattle.code_model.specs.Words.{store_slot}
+use Rattle.code_model.specs.Entry.{stores_code}
 use Rattle.lower.proofs.Putting.{step_first, step_rest, step_whole}
 use Rattle.lower.proofs.Entering.{stores_next}
 use Rattle.lower.proofs.entry.put_params.Goals as goal

@@ -1,7 +1,7 @@
 use Rattle.std.proofs.Common.{◌≡◌, ◌-◌}
-use Rattle.lower.specs.Words.{plain}
-use Rattle.lower.specs.Entry.{stores_code}
-use Rattle.lower.specs.Emitted.{with_more, HasRoom}
+use Rattle.code_model.specs.Words.{plain}
+use Rattle.code_model.specs.Entry.{stores_code}
+use Rattle.code_model.specs.Emitted.{with_more, HasRoom}
 use Rattle.lower.proofs.entry.put_params.Given as goal
 
 -- what was put and what is left are the whole

@@ -1,8 +1,8 @@
 use Rattle.std.proofs.Common.{◌≡◌, ◌+◌, ◌∙◌, List, [], ◌∷◌, map, drop, get_or, arith}
 use Rattle.thumb_model.specs.declared.table.Instr.{Instr}
-use Rattle.lower.specs.Words.{supervisor_call}
+use Rattle.code_model.specs.Words.{supervisor_call}
 use Rattle.lower.specs.declared.subject.Lent.{Lent}
-use Rattle.lower.specs.Entry.{unlend_code}
+use Rattle.code_model.specs.Entry.{unlend_code}
 use Rattle.lower.specs.Subjects.{lend_of}
 use Rattle.lower.proofs.Putting.{step_first, step_rest, step_whole}
 use Rattle.lower.proofs.Entering.{unlends_next}

@@ -2,7 +2,7 @@ use Rattle.std.proofs.Common.{◌≡◌, ℕ, ◌+◌, ◌<◌, ◌≤◌, ◌++
 use Rattle.std.specs.List.{All}
 use Rattle.ir_program.specs.Storages.{shape_of}
 use Rattle.ir_program.specs.Seen.{routine_of}
-use Rattle.lower.specs.FrameShape as frames
+use Rattle.code_model.specs.FrameShape as frames
 use Rattle.lower.proofs.frame.local_starts.Given as goal
 
 -- what was listed and what is left are the whole

@@ -1,6 +1,6 @@
 use Rattle.std.proofs.Common.{◌≡◌, ◌+◌, [], map, drop}
 use Rattle.ir_program.specs.Storages.{shape_of}
-use Rattle.lower.specs.FrameShape as frames
+use Rattle.code_model.specs.FrameShape as frames
 use Rattle.lower.proofs.frame.locals_size.Given as goal
 
 -- what was counted and what is left are the whole

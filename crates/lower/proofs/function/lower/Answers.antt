@@ -3,11 +3,11 @@ use Rattle.std.proofs.lemmas.Result.{on_ok_weaker}
 use Rattle.thumb_asm.specs.Assembly.{Assembly, here}
 use Rattle.ir_model.specs.Resolved.{NumberedFunc, func_at}
 use Rattle.ir_program.specs.Seen.{program_of}
-use Rattle.lower.specs.declared.places.Places.{Places}
-use Rattle.lower.specs.Places.{entry_address}
-use Rattle.lower.specs.Templates.{entry_items}
+use Rattle.code_model.specs.declared.places.Places.{Places}
+use Rattle.code_model.specs.Places.{entry_address}
+use Rattle.code_model.specs.Templates.{entry_items}
 use Rattle.lower.specs.Subjects.{func_of}
-use Rattle.lower.specs.Emitted.{with_function, size_in, AreNear}
+use Rattle.code_model.specs.Emitted.{with_function, size_in, AreNear}
 use Rattle.lower.proofs.Whole.{entry_room, blocks_room, blocks_near, blocks_even, whole_put}
 use Rattle.lower.proofs.function.lower.Goals as goal
 

@@ -2,8 +2,8 @@ use Rattle.std.proofs.Common.{◌∙◌, List, length, get_or, ap, arith}
 use Rattle.ir_program.specs.declared.program.Operation.{Operation}
 use Rattle.thumb_asm.specs.declared.item.Item.{Item}
 use Rattle.thumb_asm.specs.Assembly.{here}
-use Rattle.lower.specs.declared.places.CallSite.{CallSite}
-use Rattle.lower.specs.Places.{site_in}
+use Rattle.code_model.specs.declared.places.CallSite.{CallSite}
+use Rattle.code_model.specs.Places.{site_in}
 use Rattle.lower.specs.Subjects.{func_of, first_label, block_in, inst_of, items_of}
 use Rattle.lower.proofs.Blocks.{code_is, count_is, inst_fits, piece_room, piece_near, rest_room, rest_near, rest_whole, rest_even}
 use Rattle.lower.proofs.function.put_block.Goals as goal

@@ -1,7 +1,7 @@
 use Rattle.std.proofs.Common.{◌≡◌, ◌+◌, ◌%◌}
 use Rattle.thumb_asm.specs.Assembly.{here, total}
 use Rattle.lower.specs.Subjects.{block_rest}
-use Rattle.lower.specs.Emitted.{with_more, HasRoom, AreNear}
+use Rattle.code_model.specs.Emitted.{with_more, HasRoom, AreNear}
 use Rattle.lower.proofs.function.put_block.Given as goal
 
 -- what was put and what is left are the whole

@@ -1,5 +1,5 @@
 use Rattle.std.proofs.Common.{◌≡◌, drop}
-use Rattle.lower.specs.Places as definition
+use Rattle.code_model.specs.Places as definition
 use Rattle.lower.proofs.function.site_in.Given as goal
 
 -- the call is among the sites that are left, if it is among all

@@ -1,6 +1,6 @@
 use Rattle.std.proofs.Common.{◌≡◌, drop}
-use Rattle.lower.specs.Words.{plain}
-use Rattle.lower.specs.Emitted.{with_more, HasRoom, AreInTable}
+use Rattle.code_model.specs.Words.{plain}
+use Rattle.code_model.specs.Emitted.{with_more, HasRoom, AreInTable}
 use Rattle.lower.proofs.instructions.put.Given as goal
 
 -- what was put and what is left are the whole

@@ -1,8 +1,8 @@
 use Rattle.std.proofs.Common.{List, [], ◌∷◌, ◌++◌}
 use Rattle.thumb_asm.specs.declared.item.Item.{Item}
-use Rattle.lower.specs.Words.{plain, load_slot, save}
-use Rattle.lower.specs.Numbers.{operation}
-use Rattle.lower.specs.Emitted.{with_more, HasRoom}
+use Rattle.code_model.specs.Words.{plain, load_slot, save}
+use Rattle.code_model.specs.Numbers.{operation}
+use Rattle.code_model.specs.Emitted.{with_more, HasRoom}
 use Rattle.lower.proofs.Putting.{room_rest, plain-append}
 use Rattle.lower.proofs.numbers.put_bin.Goals as goal
 

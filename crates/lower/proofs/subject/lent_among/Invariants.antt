@@ -1,6 +1,6 @@
 use Rattle.std.proofs.Common.{◌≡◌, ◌++◌, map, drop}
 use Rattle.std.specs.List.{All}
-use Rattle.lower.specs.Places.{lends_among}
+use Rattle.code_model.specs.Places.{lends_among}
 use Rattle.lower.specs.Subjects.{lend_of, IsSmallLend}
 use Rattle.lower.proofs.subject.lent_among.Given as goal
 

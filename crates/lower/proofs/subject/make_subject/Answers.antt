@@ -1,14 +1,15 @@
-use Rattle.std.proofs.Common.{◌≡◌, ℕ, List, length, map, sym, ap, ◌∙◌, Option}
+use Rattle.std.proofs.Common.{◌≡◌, ℕ, List, length, sym, ap, ◌∙◌, Option}
 use Rattle.std.proofs.lemmas.List.{length-map}
 use Rattle.ir_model.specs.Resolved.{NumberedFunc}
 use Rattle.ir_program.specs.Seen.{known_of, routine_of, sequence_of}
-use Rattle.lower.specs.FrameShape.{local_starts}
-use Rattle.lower.specs.Places.{lends_among}
+use Rattle.code_model.specs.FrameShape.{local_starts}
+use Rattle.code_model.specs.Places.{lends_among}
 use Rattle.lower.specs.Subjects.{first_label, labels_from}
-use Rattle.lower.specs.Fitting.{FuncFits}
-use Rattle.lower.proofs.Sizing.{same_words, same_local_starts}
+use Rattle.code_model.specs.Fitting.{FuncFits}
+use Rattle.lower.proofs.Sizing.{same_local_starts}
 use Rattle.lower.proofs.Preparing.{bare_frame, starts_count, first_is}
 use Rattle.lower.proofs.subject.make_subject.Goals as goal
+use Rattle.offsets.proofs.Bare.{same_words}
 
 pub local_starts-requires : goal.local_starts-requires
 local_starts-requires c =

@@ -3,8 +3,8 @@ use Rattle.thumb_asm.specs.declared.item.Item.{Item}
 use Rattle.thumb_asm.specs.declared.item.Item.TheVariants.{Branch}
 use Rattle.thumb_asm.specs.declared.item.BranchKind.TheVariants.{Long}
 use Rattle.thumb_asm.specs.Assembly.{here}
-use Rattle.lower.specs.Words.{plain}
-use Rattle.lower.specs.Templates.{test_code, jump_items}
+use Rattle.code_model.specs.Words.{plain}
+use Rattle.code_model.specs.Templates.{test_code, jump_items}
 use Rattle.lower.specs.Subjects.{first_label}
 use Rattle.lower.proofs.Putting.{left_fits, here_more}
 use Rattle.lower.proofs.templates.put_branch.Goals as goal

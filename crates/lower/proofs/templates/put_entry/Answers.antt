@@ -4,15 +4,16 @@ use Rattle.std.proofs.lemmas.Result.{on_ok_weaker}
 use Rattle.ir_model.specs.Signatures.{row_length}
 use Rattle.ir_model.specs.Plain.{slot_of}
 use Rattle.thumb_model.specs.declared.table.Instr.{Instr}
-use Rattle.lower.specs.FrameShape.{frame_shape}
-use Rattle.lower.specs.Places.{Lend}
-use Rattle.lower.specs.Words.{plain}
-use Rattle.lower.specs.Entry.{enter_code}
-use Rattle.lower.specs.Templates.{entry_items, lends_of}
+use Rattle.code_model.specs.FrameShape.{frame_shape}
+use Rattle.code_model.specs.Places.{Lend}
+use Rattle.code_model.specs.Words.{plain}
+use Rattle.code_model.specs.Entry.{enter_code}
+use Rattle.code_model.specs.Templates.{entry_items, lends_of}
 use Rattle.lower.specs.Subjects.{func_of, lend_of}
-use Rattle.lower.specs.Emitted.{with_more, HasRoom}
-use Rattle.lower.proofs.Whole.{rows_length, words_few, words_more}
+use Rattle.code_model.specs.Emitted.{with_more, HasRoom}
+use Rattle.lower.proofs.Whole.{words_few, words_more}
 use Rattle.lower.proofs.templates.put_entry.Goals as goal
+use Rattle.code_model.proofs.Rows.{rows_length}
 
 pub put_enter-requires-clause-few : goal.put_enter-requires-clause-few
 put_enter-requires-clause-few c =

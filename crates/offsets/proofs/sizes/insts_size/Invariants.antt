@@ -1,7 +1,7 @@
 use Rattle.std.proofs.Common.{◌≡◌, ◌+◌, ℕ, [], map, drop}
 use Rattle.ir_model.specs.Resolved.{NumberedFunc}
 use Rattle.ir_program.specs.Seen.{operation_of}
-use Rattle.lower.specs.Sizes as sizes
+use Rattle.code_model.specs.Sizes as sizes
 use Rattle.offsets.proofs.sizes.insts_size.Given as goal
 
 -- what was counted and what is left are the whole

@@ -1,5 +1,5 @@
 use Rattle.std.proofs.Common.{◌≡◌, drop}
-use Rattle.lower.specs.Places.{crosses}
+use Rattle.code_model.specs.Places.{crosses}
 use Rattle.offsets.proofs.sizes.is_crossing.Given as goal
 
 -- the call is among the sites that are left, if it is among all

@@ -2,8 +2,8 @@ use Rattle.std.proofs.Common.{[], ap, arith}
 use Rattle.std.proofs.lemmas.List.{take-map}
 use Rattle.ir_model.specs.Resolved.{Here}
 use Rattle.ir_program.specs.Seen.{operation_of, exit_of}
-use Rattle.lower.specs.Places.{crosses}
-use Rattle.lower.specs.Sizes as sizes
+use Rattle.code_model.specs.Places.{crosses}
+use Rattle.code_model.specs.Sizes as sizes
 use Rattle.offsets.proofs.Offsets.{here_there}
 use Rattle.offsets.proofs.sizes.resume_in.Goals as goal
 

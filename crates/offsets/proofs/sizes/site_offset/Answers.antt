@@ -2,8 +2,8 @@ use Rattle.std.proofs.Common.{◌≡◌, ◌+◌, [], take, get_or, length, ap, 
 use Rattle.std.proofs.lemmas.List.{take-map, get_or-map}
 use Rattle.ir_model.specs.Resolved.{NumberedBlock, no_block, here_in}
 use Rattle.ir_program.specs.Seen.{routine_of, sequence_of}
-use Rattle.lower.specs.Places.{crosses}
-use Rattle.lower.specs.Sizes as sizes
+use Rattle.code_model.specs.Places.{crosses}
+use Rattle.code_model.specs.Sizes as sizes
 use Rattle.offsets.proofs.sizes.site_offset.Goals as goal
 
 pub returns : goal.returns

@@ -1,6 +1,6 @@
 use Rattle.std.proofs.Common.{◌≡◌, ◌+◌, [], map, drop}
 use Rattle.ir_program.specs.Seen.{routine_of, sequence_of}
-use Rattle.lower.specs.Sizes as sizes
+use Rattle.code_model.specs.Sizes as sizes
 use Rattle.offsets.proofs.sizes.size_with.Given as goal
 
 -- what was counted and what is left are the whole

@@ -1,6 +1,6 @@
 use Rattle.std.proofs.Common.{ap, ◌∙◌}
 use Rattle.ir_program.specs.Seen.{program_of}
-use Rattle.lower.specs.Planned.{sizes_of}
+use Rattle.code_model.specs.Planned.{sizes_of}
 use Rattle.planning.proofs.Refusing.{placed_is}
 use Rattle.planning.proofs.planner.placed.Goals as goal
 

@@ -1,8 +1,8 @@
 use Rattle.std.proofs.Common.{◌∙◌}
 use Rattle.ir_program.specs.Seen.{program_of}
 use Rattle.plan_model.specs.InitialGraph.{covers_of}
-use Rattle.grouping.proofs.Numbers.{mapped_more}
 use Rattle.region_graph.proofs.covers.all_covers.Goals as goal
+use Rattle.plan_model.proofs.Numbers.{mapped_more}
 
 pub loop-compartment-preserved : goal.loop-compartment-preserved
 loop-compartment-preserved c =

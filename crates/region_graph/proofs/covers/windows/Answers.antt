@@ -4,9 +4,10 @@ use Rattle.ir_program.specs.Seen.{program_of, span_of}
 use Rattle.plan_model.specs.Groups.{uses}
 use Rattle.plan_model.specs.InitialGraph.{cover_of}
 use Rattle.plan_model.specs.Lists.{numbers_below}
-use Rattle.region_graph.proofs.Windows.{window_kept, window_dropped, cover_read}
+use Rattle.region_graph.proofs.Windows.{cover_read}
 use Rattle.region_graph.proofs.covers.windows.Goals as goal
 use Rattle.region_graph.proofs.covers.windows.Goals.{then-uses+in_ok-push, else-uses}
+use Rattle.plan_model.proofs.Numbers.{kept_more as window_kept, dropped_more as window_dropped}
 
 pub loop-periph-preserved : goal.loop-periph-preserved
 loop-periph-preserved c =

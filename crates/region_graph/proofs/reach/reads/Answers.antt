@@ -3,8 +3,10 @@ use Rattle.std.specs.List.{list_any}
 use Rattle.plan_model.specs.Groups.{compartment_of}
 use Rattle.plan_model.specs.Lists.{numbers_below}
 use Rattle.plan_model.specs.Needs.{has_object, need_of}
-use Rattle.region_graph.proofs.Reached.{any_filtered, none_more, one_passes}
+use Rattle.region_graph.proofs.Reached.{none_more}
 use Rattle.region_graph.proofs.reach.reads.Goals as goal
+use Rattle.common_laws.proofs.Lists.{any_kept as any_filtered}
+use Rattle.plan_model.proofs.Numbers.{one_passes}
 
 pub returns-then-reads_there : goal.returns-then-reads_there
 returns-then-reads_there c =

@@ -1,9 +1,9 @@
 use Rattle.std.proofs.Common.{map, ap, ◌∙◌}
 use Rattle.std.proofs.lemmas.List.{map_push}
 use Rattle.plan_model.specs.InitialGraph.{users_of}
-use Rattle.grouping.proofs.Numbers.{mapped_more}
 use Rattle.region_graph.specs.UserLists.{users_seen}
 use Rattle.region_graph.proofs.users.all_users.Goals as goal
+use Rattle.plan_model.proofs.Numbers.{mapped_more}
 
 pub loop-global-preserved : goal.loop-global-preserved
 loop-global-preserved c =

@@ -1,12 +1,12 @@
 use Rattle.std.proofs.Common.{ℕ, Bool, nat_eq, sym, ◌∙◌}
 use Rattle.plan_model.specs.Groups.{compartment_of}
-use Rattle.grouping.proofs.Numbers.{numbers_more}
 use Rattle.plan_model.specs.Lists.{numbers_below}
 use Rattle.report.specs.Subjects.{subject_of}
 use Rattle.report.specs.CompartmentLines.{function_line}
 use Rattle.report.proofs.Growing.{put_kept, put_dropped}
 use Rattle.report.proofs.compartment.put_functions.Goals as goal
 use Rattle.report.proofs.compartment.put_functions.Goals.{then-stands_in+in_ok-put_function, else-stands_in}
+use Rattle.plan_model.proofs.Numbers.{numbers_more}
 
 pub loop-func-preserved : goal.loop-func-preserved
 loop-func-preserved c =

@@ -1,11 +1,11 @@
 use Rattle.std.proofs.Common.{ℕ, ◌++◌, get_or, codes, ap, sym, ◌∙◌}
-use Rattle.grouping.proofs.Numbers.{numbers_more}
 use Rattle.plan_model.specs.Lists.{numbers_below}
 use Rattle.report.specs.Subjects.{subject_of}
 use Rattle.report.specs.CompartmentLines.{lent_line, is_read_alone}
 use Rattle.report.proofs.Growing.{made_kept, made_dropped}
 use Rattle.report.proofs.lent.put_read.Goals as goal
 use Rattle.report.proofs.lent.put_read.Goals.{then-is_read_alone+in_ok-put_lent, else-is_read_alone}
+use Rattle.plan_model.proofs.Numbers.{numbers_more}
 
 pub loop-i-preserved : goal.loop-i-preserved
 loop-i-preserved c =

@@ -1,9 +1,9 @@
-use Rattle.grouping.proofs.Numbers.{numbers_more}
 use Rattle.plan_model.specs.Lists.{numbers_below}
 use Rattle.report.specs.Subjects.{subject_of}
 use Rattle.report.specs.CompartmentLines.{compartment_lines}
 use Rattle.report.proofs.Growing.{put_each}
 use Rattle.report.proofs.listing.put_compartments.Goals as goal
+use Rattle.plan_model.proofs.Numbers.{numbers_more}
 
 pub loop-compartment-preserved : goal.loop-compartment-preserved
 loop-compartment-preserved c =

@@ -1,12 +1,12 @@
 use Rattle.std.proofs.Common.{ℕ, ◌+◌, ◌++◌, ap, ◌∙◌}
 use Rattle.plan_model.specs.declared.graph.Cover.{Cover}
 use Rattle.plan_model.specs.Covers.{cover_at}
-use Rattle.grouping.proofs.Numbers.{numbers_more}
 use Rattle.plan_model.specs.Lists.{numbers_below}
 use Rattle.report.specs.Subjects.{subject_of}
 use Rattle.report.specs.CompartmentLines.{cover_line, covers}
 use Rattle.report.proofs.Growing.{put_each}
 use Rattle.report.proofs.slots.put_covers.Goals as goal
+use Rattle.plan_model.proofs.Numbers.{numbers_more}
 
 pub loop-i-preserved : goal.loop-i-preserved
 loop-i-preserved c =

@@ -3,12 +3,12 @@ use Rattle.ir_model.specs.Plain.{firmware_of}
 use Rattle.ir_program.specs.Seen.{program_of}
 use Rattle.plan_model.specs.InitialGraph.{cover_of}
 use Rattle.plan_model.specs.Covers.{is_inside}
-use Rattle.grouping.proofs.Numbers.{numbers_more}
 use Rattle.plan_model.specs.Lists.{numbers_below}
 use Rattle.report.specs.Names.{periph_name}
 use Rattle.report.proofs.Growing.{made_kept, made_dropped}
 use Rattle.report.proofs.slots.put_periphs.Goals as goal
 use Rattle.report.proofs.slots.put_periphs.Goals.{then-holds_periph+in_ok-put_periph, else-holds_periph}
+use Rattle.plan_model.proofs.Numbers.{numbers_more}
 
 pub loop-i-preserved : goal.loop-i-preserved
 loop-i-preserved c =

@@ -1,5 +1,4 @@
 use Rattle.std.proofs.Common.{ℕ, ◌+◌, ◌<◌, get_or, length, subst, sym}
-use Rattle.grouping.proofs.Numbers.{numbers_more}
 use Rattle.plan_model.specs.Lists.{numbers_below}
 use Rattle.plan_model.specs.Regions.{is_user, region_at}
 use Rattle.report.specs.Subjects.{subject_of}
@@ -7,6 +6,7 @@ use Rattle.report.specs.CompartmentLines.{region_line}
 use Rattle.report.proofs.Growing.{put_each}
 use Rattle.report.proofs.Named.{used_below}
 use Rattle.report.proofs.slots.put_regions.Goals as goal
+use Rattle.plan_model.proofs.Numbers.{numbers_more}
 
 pub put_region-requires : goal.put_region-requires
 put_region-requires c =

@@ -2,8 +2,9 @@ use Rattle.std.proofs.Common.{◌≡◌, [], ◌∷◌, ◌++◌}
 use Rattle.gate_steps.specs.declared.steps.GateStep.TheBlock.{Go}
 use Rattle.gate_steps.specs.Steps as list
 use Rattle.gate_steps.proofs.Views.{before-Go}
-use Rattle.monitor_code.proofs.Listed.{one_more, on_ok}
+use Rattle.monitor_code.proofs.Listed.{one_more}
 use Rattle.monitor_code.proofs.list.StepList.go.Goals as goal
+use Rattle.common_laws.proofs.Options.{on_ok}
 
 pub returns : goal.returns
 returns c =

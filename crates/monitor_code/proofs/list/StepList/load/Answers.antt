@@ -1,8 +1,9 @@
 use Rattle.std.proofs.Common.{◌≡◌, [], ◌∷◌, ◌++◌}
 use Rattle.gate_steps.specs.declared.steps.GateStep.TheBlock.{Load}
 use Rattle.gate_steps.specs.Steps as list
-use Rattle.monitor_code.proofs.Listed.{one_more, on_ok, load_at_once}
+use Rattle.monitor_code.proofs.Listed.{one_more, load_at_once}
 use Rattle.monitor_code.proofs.list.StepList.load.Goals as goal
+use Rattle.common_laws.proofs.Options.{on_ok}
 
 pub returns : goal.returns
 returns c =

@@ -2,8 +2,9 @@ use Rattle.std.proofs.Common.{◌≡◌, ◌*◌, [], ◌∷◌, ◌++◌}
 use Rattle.words.specs.declared.memory.Width.TheVariants.{Word}
 use Rattle.gate_steps.specs.declared.steps.GateStep.TheBlock.{Load}
 use Rattle.gate_steps.specs.Steps as list
-use Rattle.monitor_code.proofs.Listed.{one_more, on_ok, load_words}
+use Rattle.monitor_code.proofs.Listed.{one_more, load_words}
 use Rattle.monitor_code.proofs.list.StepList.load_word.Goals as goal
+use Rattle.common_laws.proofs.Options.{on_ok}
 
 pub returns : goal.returns
 returns c =

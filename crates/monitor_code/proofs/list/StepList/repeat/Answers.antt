@@ -3,8 +3,9 @@ use Rattle.gate_steps.specs.declared.steps.GateStep.TheViews.{Repeat}
 use Rattle.gate_steps.specs.Steps as list
 use Rattle.gate_steps.specs.Lists.{steps_of}
 use Rattle.gate_steps.proofs.Views.{before-Repeat}
-use Rattle.monitor_code.proofs.Listed.{one_more, on_ok}
+use Rattle.monitor_code.proofs.Listed.{one_more}
 use Rattle.monitor_code.proofs.list.StepList.repeat.Goals as goal
+use Rattle.common_laws.proofs.Options.{on_ok}
 
 pub returns : goal.returns
 returns c =

@@ -1,0 +1,13 @@
+pub mod Frames
+pub mod Totals
+pub mod PieceSizes
+pub mod FunctionSizes
+pub mod Even
+pub mod Pieces
+mod Compartments
+mod Sites
+pub mod Filling
+pub mod Labels
+pub mod Rows
+pub mod Members
+pub mod Lends

@@ -1,0 +1,16 @@
+pub mod FrameShape
+pub mod Places
+pub mod Words
+pub mod Numbers
+pub mod Comparisons
+pub mod Addresses
+pub mod Calls
+pub mod Entry
+pub mod Templates
+pub mod Sizes
+pub mod FunctionCode
+pub mod CompartmentCode
+pub mod Planned
+pub mod Emitted
+pub mod Fitting
+pub mod Laws

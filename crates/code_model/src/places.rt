@@ -1,0 +1,40 @@
+//! What the code of a function needs from outside.
+
+use list_vec::ListVec;
+
+/// A call of a function that may go to another compartment.
+#[derive(Clone, Copy, PartialEq, Eq, Debug)]
+pub struct CallSite {
+    /// The number of its block in the function.
+    pub block: u32,
+    /// Its place in the block.
+    pub place: u32,
+    /// The number of the site in the image's tables.
+    pub number: u32,
+}
+
+/// The addresses of all globals, windows and functions of a firmware. They are absolute and in bytes.
+#[derive(Drop)]
+pub struct Addresses {
+    /// The first address of each global.
+    pub globals: ListVec<u32>,
+    /// The first address of each peripheral's window.
+    pub windows: ListVec<u32>,
+    /// The entry of each function: the address of its first instruction.
+    pub entries: ListVec<u32>,
+}
+
+/// What the code of one function needs from outside. Addresses are absolute and in bytes.
+#[derive(Drop)]
+pub struct Places {
+    /// The first address of each global.
+    pub globals: ListVec<u32>,
+    /// The first address of each peripheral's window.
+    pub windows: ListVec<u32>,
+    /// The entry of each function of the firmware: the address of its first instruction.
+    pub entries: ListVec<u32>,
+    /// The function's calls that may go to another compartment.
+    pub sites: ListVec<CallSite>,
+    /// Of each local of the function, the number by which it is lent to other compartments, if it is.
+    pub lends: ListVec<Option<u32>>,
+}
