@@ -1,5 +1,5 @@
 #!/usr/bin/env python3
-"""Shows how far a run of the gate is: `rt ci | tools/progress.py`, or `rt ci aces | tools/progress.py` for the program alone.
+"""Shows how far a run of the gate is: `rt ci 2>&1 | tools/progress.py`, or `rt ci aces 2>&1 | tools/progress.py` for the program alone.
 
 Prints a line for each crate that is proved or kept, with how many of them are done and for how long the run has gone on, and a line
 for each thing that is refused; the prover's log is left out. It ends with the gate's last line, and with status 0 where nothing failed.

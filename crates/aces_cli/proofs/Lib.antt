@@ -5,6 +5,6 @@ mod Firmwares
 mod Sourcing
 mod Planning
 mod Kept
-mod Requests
+mod Asked
 mod Good
 mod Settled

@@ -11,7 +11,7 @@ use Rattle.aces_cli.specs.Known.{Held, Holds, Exceeds, IsMissing}
 use Rattle.aces_cli.specs.Answer.{Outcome, Answer, refused, past_limit, no_room}
 use Rattle.aces_cli.specs.Effects.{World, Does, IsPlain, IsUnread}
 use Rattle.aces_cli.specs.Complete.{NoneFailed, AreThere, HasFiles, IsGood, run, bin, compile, check, source, list, IsDoneBy, GoodRequestsAreDone}
-use Rattle.aces_cli.proofs.Requests.{requests_are_one}
+use Rattle.aces_words.proofs.Requests.{requests_are_one}
 
 pub is_plain : (s : ℕ) → (s < 4) ⊎ (6 < s) → IsPlain s
 is_plain s (inl h) = record {

@@ -1,7 +1,8 @@
 -- What a command did to the outside, by how it ended.
-use Rattle.std.specs.Prelude.{◌≡◌, ◌≢◌, ℕ, ◌⊎◌, List, [], ◌++◌, take, Bool, Option, Some, None, Result, Ok, Err, IsTrue}
+use Rattle.std.specs.Prelude.{◌≡◌, ◌≢◌, ℕ, ◌⊎◌, List, All, [], ◌++◌, take, Bool, Option, Some, None, Result, Ok, Err, IsTrue}
 use Rattle.outside.specs.declared.files.Files as files
 use Rattle.outside.specs.Counts.{Rose}
+use Rattle.outside.specs.Calls.{Call}
 use Rattle.outside.specs.Contents.{AddsPrefix}
 use Rattle.aces_reports.specs.declared.failure.Done.{Done}
 use Rattle.aces_reports.specs.declared.failure.Done.TheVariants.{Completed, RunFailed}
@@ -9,7 +10,7 @@ use Rattle.aces_reports.specs.declared.failure.Failure.{Failure}
 use Rattle.aces_reports.specs.declared.failure.Failure.TheVariants.{Refused, PastLimit, NoRoom, Unread, Unwritten, Unprinted, NoMemory}
 use Rattle.aces_words.specs.declared.policy.Policy.{Policy}
 use Rattle.aces_words.specs.Requests.{Request, Source, Asks, Origin, origins, target}
-use Rattle.aces_cli.specs.Known.{Held, IsMissing, IsNamed}
+use Rattle.aces_cli.specs.Known.{Held, IsMissing, IsNamed, WasRead, WasTooLarge, IsCallOf}
 use Rattle.aces_reports.specs.FaultLines.{unread_line, unwritten_line, unprinted_line, memory_line}
 use Rattle.aces_reports.specs.Sinks.{SinkState, Says}
 use Rattle.aces_cli.specs.Answer.{Outcome, Written, Answers, refused, past_limit, no_room}
@@ -145,6 +146,14 @@ pub record IsPartly (Has : Origin → List ℕ → Type 0) (Exceeds : Origin →
   pub outcome : Outcome
   pub answer : Answers Has Exceeds words outcome
   pub part : IsBrokenOff old new outcome
+
+-- what was done by the answers of these calls, all of which read a file that the words name for reading or write the one that they name
+-- for writing: what the words ask, and the first part of it after status 5 or 6
+pub record IsByCalls (calls : List Call) (words : List (List ℕ)) (old new : World) (err_old err_new : SinkState) (status : ℕ) : Type 0 where
+  pub asked : All (λ call. (r : Request) × Asks words r × IsCallOf r call) calls
+  pub answered : IsPlain status → IsAnswered (WasRead calls) (WasTooLarge calls) words old new err_old err_new status
+  pub partly : status ≡ 5 → IsPartly (WasRead calls) (WasTooLarge calls) words old new
+  pub printed_in_part : status ≡ 6 → (new.out ≡ old.out) ⊎ IsPartly (WasRead calls) (WasTooLarge calls) words old new
 
 -- a file that the words name for reading was not read, and the line says so
 pub record TellsUnread (words : List (List ℕ)) (old new : World) (err_old err_new : SinkState) : Type 0 where

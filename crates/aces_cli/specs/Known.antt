@@ -1,9 +1,8 @@
--- What is known of the files that a command reads: what a name holds, where the contents are told, and what the calls
--- answered.
-use Rattle.std.specs.Prelude.{◌≡◌, ℕ, ◌<◌, ◌≤◌, ◌⊎◌, List, [], ◌∷◌, length, Option, Some, IsTrue, IsNone, IsSomeAnd}
-use Rattle.outside.specs.declared.files.Files as files
-use Rattle.outside.specs.Reading.{AllPieces}
-use Rattle.aces_words.specs.Requests.{Origin}
+-- What is known of the files that a command reads: what a name holds, where the contents are told, and what its calls answered.
+use Rattle.std.specs.Prelude.{◌≡◌, ℕ, ◌<◌, ◌≤◌, ◌⊎◌, List, [], ◌∷◌, ◌++◌, length, Option, Some, IsNone, IsSomeAnd}
+use Rattle.outside.specs.Calls.{Call, Size, Read, Create, Append}
+use Rattle.outside.specs.Reading.{ReadsWhole}
+use Rattle.aces_words.specs.Requests.{Request, Origin, origins, target}
 
 -- the bytes that are held under each name that is there
 abbrev pub Held : Type 0
@@ -29,24 +28,24 @@ abbrev pub IsNamed : List Origin → (name : List ℕ) → Type 0
 IsNamed [] name = ⊥
 IsNamed (s ∷ more) name = (s.name ≡ name) ⊎ IsNamed more name
 
--- a call answered a size within the limit, and calls gave these bytes, up to that size or their end
-pub record WasRead {F : Type 0} (of : files.Ghosts F) (s : Origin) (bytes : List ℕ) : Type 0 where
-  pub size : ℕ
-  pub asked : F
-  pub answered : of.sized asked s.name size
-  pub within : size ≤ s.limit
-  pub pieces : AllPieces of.gave s.name size bytes
+-- among these calls are those that read the source whole, one behind another, within its limit
+pub record WasRead (calls : List Call) (s : Origin) (bytes : List ℕ) : Type 0 where
+  pub before : List Call
+  pub reads : List Call
+  pub after : List Call
+  pub among : calls ≡ before ++ reads ++ after
+  pub whole : ReadsWhole s.name s.limit reads bytes
 
--- a call answered a size above the limit
-pub record WasTooLarge {F : Type 0} (of : files.Ghosts F) (s : Origin) : Type 0 where
+-- the last of these calls asked for the source's size, and the answer was above the limit
+pub record WasTooLarge (calls : List Call) (s : Origin) : Type 0 where
+  pub before : List Call
   pub size : ℕ
-  pub asked : F
-  pub answered : of.sized asked s.name size
+  pub last : calls ≡ before ++ Size s.name (Some size) ∷ []
   pub exceeds : s.limit < size
 
--- both: what the calls answered, and what these files hold where that is told
-abbrev pub IsKnown : {F : Type 0} → files.Ghosts F → F → Origin → List ℕ → Type 0
-IsKnown of fs s bytes = WasRead of s bytes × (IsTrue of.told → Holds (of.held fs) s bytes)
-
-abbrev pub IsKnownLarge : {F : Type 0} → files.Ghosts F → F → Origin → Type 0
-IsKnownLarge of fs s = WasTooLarge of s × (IsTrue of.told → Exceeds (of.held fs) s)
+-- a call that a request makes reads one of its sources, or writes its target
+abbrev pub IsCallOf : Request → Call → Type 0
+IsCallOf r (Size name size) = IsNamed (origins r) name
+IsCallOf r (Read name place bytes) = IsNamed (origins r) name
+IsCallOf r (Create name made) = target r ≡ Some name
+IsCallOf r (Append name piece made) = target r ≡ Some name

@@ -1,10 +1,8 @@
 //! `bin`: the flash bytes of an image, written to a file.
 
 ghost use Rattle.aces_words.specs.Requests.{Bin};
-ghost use Rattle.aces_cli.specs.Known.{IsKnown, IsKnownLarge};
-ghost use Rattle.aces_cli.specs.Answer.{Answer};
 ghost use Rattle.aces_reports.specs.Sinks.{SinkState};
-ghost use Rattle.aces_cli.specs.Effects.{Does, world};
+ghost use Rattle.aces_cli.specs.Did.{Did};
 
 use crate::loading::{image_of, load};
 use crate::writing::write;
@@ -19,9 +17,7 @@ pub(crate) fn bin<'a, F: Files>(
     file: &'a str,
     files: &mut F,
 ) -> Result<Done, Failure<'a>>
-    ensures { (out : SinkState) → Does
-        (Answer (IsKnown F.Files files.old) (IsKnownLarge F.Files files.old) (Bin image.now file.now))
-        (Bin image.now file.now) (world F.Files files.old out) (world F.Files files.new out) result }
+    ensures { (out : SinkState) → Did F.Files files.old files.new (Bin image.now file.now) out out result }
 {
     let bytes = load(alloc, files, image)?;
     let image = image_of(alloc, image, bytes.as_slice())?;

@@ -6,11 +6,9 @@ ghost use Rattle.outside.specs.Contents.{AddsPrefix};
 ghost use Rattle.ir_model.specs.declared.firmware.FileDecl.{FileDecl as SourceFile};
 ghost use Rattle.ir_model.specs.Plain as plain;
 ghost use Rattle.aces_words.specs.Requests.{Check};
-ghost use Rattle.aces_cli.specs.Known.{IsKnown, IsKnownLarge};
-ghost use Rattle.aces_cli.specs.Answer.{Answer};
 ghost use Rattle.aces_cli.specs.Counts as counts;
 ghost use Rattle.aces_reports.specs.Sinks.{sink};
-ghost use Rattle.aces_cli.specs.Effects.{Does, world};
+ghost use Rattle.aces_cli.specs.Did.{Did};
 
 use crate::loading::{firmware_of, load_firmware};
 use aces_reports::{Done, Failure};
@@ -27,11 +25,7 @@ pub(crate) fn check<'a, F: Files, O: Sink>(
     files: &mut F,
     out: &mut O,
 ) -> Result<Done, Failure<'a>>
-    ensures { Does
-        (Answer (IsKnown F.Files files.old) (IsKnownLarge F.Files files.old) (Check firmware.now))
-        (Check firmware.now)
-        (world F.Files files.old (sink O.Sink out.old))
-        (world F.Files files.new (sink O.Sink out.new)) result }
+    ensures { Did F.Files files.old files.new (Check firmware.now) (sink O.Sink out.old) (sink O.Sink out.new) result }
 {
     let bytes = load_firmware(alloc, files, firmware)?;
     let checked = firmware_of(alloc, firmware, bytes.as_slice())?;

@@ -5,12 +5,11 @@ ghost use Rattle.ir_model.specs.Plain as plain;
 ghost use Rattle.plan_model.specs.Boards.{IsBoard};
 ghost use Rattle.firmware_plans.specs.Unplanned.{IsUnplanned};
 ghost use Rattle.aces_words.specs.Requests.{Compile, firmware_limit};
-ghost use Rattle.aces_cli.specs.Known.{IsKnown, IsKnownLarge};
-ghost use Rattle.aces_cli.specs.Answer.{Answer, CompileAnswer, done};
+ghost use Rattle.aces_cli.specs.Answer.{CompileAnswer, done};
 ghost use Rattle.aces_cli.specs.Compiled.{IsImageText};
 ghost use Rattle.aces_cli.specs.Loads.{IsRefusal};
 ghost use Rattle.aces_reports.specs.Sinks.{SinkState};
-ghost use Rattle.aces_cli.specs.Effects.{Does, world};
+ghost use Rattle.aces_cli.specs.Did.{Did};
 
 use crate::failure::planning_failure;
 use crate::loading::{board_of, firmware_of, load, load_firmware};
@@ -32,9 +31,7 @@ pub(crate) fn compile<'a, F: Files>(
     image: &'a str,
     files: &mut F,
 ) -> Result<Done, Failure<'a>>
-    ensures { (out : SinkState) → Does
-        (Answer (IsKnown F.Files files.old) (IsKnownLarge F.Files files.old) (Compile firmware.now board.now policy image.now))
-        (Compile firmware.now board.now policy image.now) (world F.Files files.old out) (world F.Files files.new out) result }
+    ensures { (out : SinkState) → Did F.Files files.old files.new (Compile firmware.now board.now policy image.now) out out result }
 {
     let bytes = load_firmware(alloc, files, firmware)?;
     let text = load(alloc, files, board)?;

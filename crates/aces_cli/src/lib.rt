@@ -12,14 +12,15 @@ mod run;
 mod source;
 mod writing;
 
-ghost use Rattle.std.specs.Prelude.{◌≡◌, ◌≢◌, ◌↔◌, ◌⊎◌, map, IsTrue, string_bytes};
+ghost use Rattle.std.specs.Prelude.{◌≡◌, ◌≢◌, ◌↔◌, ◌⊎◌, List, map, IsTrue, string_bytes};
+ghost use Rattle.outside.specs.Calls.{Call, Calls};
 ghost use Rattle.aces_words.specs.Requests.{Request, Asks, IsUsage};
 ghost use Rattle.aces_words.specs.Commands.{request_of};
-ghost use Rattle.aces_cli.specs.Known.{Holds, Exceeds, WasRead, WasTooLarge, IsKnown, IsKnownLarge};
-ghost use Rattle.aces_cli.specs.Answer.{Answer};
+ghost use Rattle.aces_cli.specs.Known.{Holds, Exceeds};
 ghost use Rattle.aces_cli.specs.Complete.{NoneFailed, HasFiles, IsGood, IsDoneBy};
 ghost use Rattle.aces_reports.specs.Sinks.{sink};
-ghost use Rattle.aces_cli.specs.Effects.{world, Does, IsPlain, IsAnswered, IsPartly, TellsUnread, TellsUnwritten, TellsUnprinted, TellsOutOfMemory};
+ghost use Rattle.aces_cli.specs.Did.{Did};
+ghost use Rattle.aces_cli.specs.Effects.{world, IsPlain, IsAnswered, IsPartly, IsByCalls, TellsUnread, TellsUnwritten, TellsUnprinted, TellsOutOfMemory};
 
 use aces_reports::{Done, Failure, report, say};
 pub use aces_reports::{WordsRefusal, refuse_words};
@@ -42,7 +43,7 @@ pub fn aces<F: Files, O: Sink, E: Sink>(
 ) -> u8
     ensures usage { (result ≡ 2) ↔ IsUsage (map string_bytes words.now) }
 
-    // The call did what the words ask, of the contents where these are told, and else of the bytes that the calls gave. So the
+    // The call did what the words ask, of the contents where these are told, and else of the bytes that its own calls gave. So the
     // status is 3 exactly where a listing was asked, both texts are read, no limit is passed, and the blocks of flash, or else
     // those of RAM, have more bytes than it has (`ListAnswer`).
     ensures answer { IsTrue F.told → IsPlain result →
@@ -50,8 +51,8 @@ pub fn aces<F: Files, O: Sink, E: Sink>(
         (world F.Files files.old (sink O.Sink out.old))
         (world F.Files files.new (sink O.Sink out.new))
         (sink E.Sink err.old) (sink E.Sink err.new) result }
-    ensures answer_to_reads { IsPlain result →
-        IsAnswered (WasRead F.Files) (WasTooLarge F.Files) (map string_bytes words.now)
+    ensures calls { (calls : List Call) × Calls F.called files.old calls files.new
+        × IsByCalls calls (map string_bytes words.now)
         (world F.Files files.old (sink O.Sink out.old))
         (world F.Files files.new (sink O.Sink out.new))
         (sink E.Sink err.old) (sink E.Sink err.new) result }
@@ -78,10 +79,6 @@ pub fn aces<F: Files, O: Sink, E: Sink>(
         IsPartly (Holds (F.held files.old)) (Exceeds (F.held files.old)) (map string_bytes words.now)
         (world F.Files files.old (sink O.Sink out.old))
         (world F.Files files.new (sink O.Sink out.new)) }
-    ensures partly_of_reads { result ≡ 5 →
-        IsPartly (WasRead F.Files) (WasTooLarge F.Files) (map string_bytes words.now)
-        (world F.Files files.old (sink O.Sink out.old))
-        (world F.Files files.new (sink O.Sink out.new)) }
 
     // After want of memory nothing was printed, but of a run of the source the first lines.
     ensures memory { result ≡ 6 → TellsOutOfMemory (map string_bytes words.now)
@@ -90,10 +87,6 @@ pub fn aces<F: Files, O: Sink, E: Sink>(
         (sink E.Sink err.old) (sink E.Sink err.new) }
     ensures printed_in_part { IsTrue F.told → result ≡ 6 → (sink O.Sink out.new ≡ sink O.Sink out.old)
         ⊎ IsPartly (Holds (F.held files.old)) (Exceeds (F.held files.old)) (map string_bytes words.now)
-        (world F.Files files.old (sink O.Sink out.old))
-        (world F.Files files.new (sink O.Sink out.new)) }
-    ensures printed_in_part_of_reads { result ≡ 6 → (sink O.Sink out.new ≡ sink O.Sink out.old)
-        ⊎ IsPartly (WasRead F.Files) (WasTooLarge F.Files) (map string_bytes words.now)
         (world F.Files files.old (sink O.Sink out.old))
         (world F.Files files.new (sink O.Sink out.new)) }
 
@@ -130,9 +123,7 @@ fn perform<'a, F: Files, O: Sink>(
     files: &mut F,
     out: &mut O,
 ) -> Result<Done, Failure<'a>>
-    ensures { Does (Answer (IsKnown F.Files files.old) (IsKnownLarge F.Files files.old) (request_of command.entry)) (request_of command.entry)
-        (world F.Files files.old (sink O.Sink out.old))
-        (world F.Files files.new (sink O.Sink out.new)) result }
+    ensures { Did F.Files files.old files.new (request_of command.entry) (sink O.Sink out.old) (sink O.Sink out.new) result }
 {
     match command {
         Command::Run { image, tape, steps } => run::run(alloc, image, tape, steps, files, out),

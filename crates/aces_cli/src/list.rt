@@ -2,11 +2,10 @@
 
 ghost use Rattle.std.specs.Prelude.{◌≤◌, None, IfOk, IfErr, length};
 ghost use Rattle.aces_words.specs.Requests.{Listing, firmware_limit};
-ghost use Rattle.aces_cli.specs.Known.{IsKnown, IsKnownLarge};
-ghost use Rattle.aces_cli.specs.Answer.{Answer, ListAnswer, done};
+ghost use Rattle.aces_cli.specs.Answer.{ListAnswer, done};
 ghost use Rattle.aces_cli.specs.Loads.{IsRefusal};
 ghost use Rattle.aces_reports.specs.Sinks.{sink};
-ghost use Rattle.aces_cli.specs.Effects.{Does, world};
+ghost use Rattle.aces_cli.specs.Did.{Did};
 
 use crate::failure::planning_failure;
 use crate::loading::{board_of, firmware_of, load, load_firmware};
@@ -25,11 +24,7 @@ pub(crate) fn list<'a, F: Files, O: Sink>(
     files: &mut F,
     out: &mut O,
 ) -> Result<Done, Failure<'a>>
-    ensures { Does
-        (Answer (IsKnown F.Files files.old) (IsKnownLarge F.Files files.old) (Listing firmware.now board.now policy))
-        (Listing firmware.now board.now policy)
-        (world F.Files files.old (sink O.Sink out.old))
-        (world F.Files files.new (sink O.Sink out.new)) result }
+    ensures { Did F.Files files.old files.new (Listing firmware.now board.now policy) (sink O.Sink out.old) (sink O.Sink out.new) result }
 {
     let bytes = load_firmware(alloc, files, firmware)?;
     let text = load(alloc, files, board)?;

@@ -1,11 +1,13 @@
 //! Reading the files of a command.
 
-ghost use Rattle.std.specs.Prelude.{◌≡◌, ◌≤◌, ◌<◌, ◌-◌, ◌^◌, length, None, IfOk, IfErr, OnOk};
+ghost use Rattle.std.specs.Prelude.{◌≡◌, ◌≤◌, ◌<◌, ◌-◌, ◌^◌, List, All, length, None, IfOk, IfErr, OnOk};
 ghost use Rattle.image.specs.Text.{IsText};
 ghost use Rattle.ir_model.specs.Plain as plain;
 ghost use Rattle.device_model.specs.Tape as tapes;
+ghost use Rattle.outside.specs.Calls.{Call, Calls};
+ghost use Rattle.outside.specs.Reading.{Reads};
 ghost use Rattle.aces_words.specs.Requests.{file_origin, firmware_origin, file_limit, firmware_limit};
-ghost use Rattle.aces_cli.specs.Known.{IsKnown, IsKnownLarge};
+ghost use Rattle.aces_cli.specs.Did.{IsKnown, IsKnownLarge};
 ghost use Rattle.plan_model.specs.Boards.{IsBoard};
 ghost use Rattle.board_text.specs.Reading as boards;
 ghost use Rattle.aces_cli.specs.Answer.{IsNoImage, IsNoTape, IsNoFirmware, IsFirmware, IsNoBoard};
@@ -18,6 +20,7 @@ use device_model::image::{Image, Window};
 use device_model::tape::Tape;
 use ir_check::check;
 use ir_model::checked::Checked;
+use ir_model::text_limits::TEXT_LIMIT;
 use outside::{Files, ReadRefusal, read_whole};
 use plan_model::plan::Board;
 use std::alloc::Global;
@@ -25,21 +28,17 @@ use std::alloc::Global;
 /// How many bytes an image, a tape or a board may have.
 const FILE_LIMIT: u32 = 16_777_216;
 
-/// How many bytes a firmware may have.
-const FIRMWARE_LIMIT: u32 = 4_194_304;
-
 /// The bytes of an image, of a tape or of a board.
 pub(crate) fn load<'a, F: Files>(
     alloc: Global,
     files: &mut F,
     name: &'a str,
 ) -> Result<Vec<u8>, Failure<'a>>
-    ensures ok { IfOk result (λ bytes.
-        IsKnown F.Files files.old (file_origin name.now) bytes.items) }
     ensures few { IfOk result (λ bytes. length bytes.items ≤ file_limit) }
-    ensures err { IfErr result (λ e.
-        IsLoadFailure (IsKnownLarge F.Files files.old) F.told (F.held files.old) (file_origin name.now)
-        (F.read_faults files.old) (F.read_faults files.new) e) }
+    ensures calls { (calls : List Call) × Calls F.called files.old calls files.new × All (Reads name.now) calls
+        × IfOk result (λ bytes. IsKnown F.told (F.held files.old) calls (file_origin name.now) bytes.items)
+        × IfErr result (IsLoadFailure (IsKnownLarge F.told (F.held files.old) calls) F.told (F.held files.old)
+        (file_origin name.now) (F.read_faults files.old) (F.read_faults files.new)) }
     ensures same { F.held files.new ≡ F.held files.old }
     ensures reads { OnOk result (F.read_faults files.new ≡ F.read_faults files.old) }
     ensures writes { F.write_faults files.new ≡ F.write_faults files.old }
@@ -53,17 +52,16 @@ pub(crate) fn load_firmware<'a, F: Files>(
     files: &mut F,
     name: &'a str,
 ) -> Result<Vec<u8>, Failure<'a>>
-    ensures ok { IfOk result (λ bytes.
-        IsKnown F.Files files.old (firmware_origin name.now) bytes.items) }
     ensures few { IfOk result (λ bytes. length bytes.items ≤ firmware_limit) }
-    ensures err { IfErr result (λ e.
-        IsLoadFailure (IsKnownLarge F.Files files.old) F.told (F.held files.old) (firmware_origin name.now)
-        (F.read_faults files.old) (F.read_faults files.new) e) }
+    ensures calls { (calls : List Call) × Calls F.called files.old calls files.new × All (Reads name.now) calls
+        × IfOk result (λ bytes. IsKnown F.told (F.held files.old) calls (firmware_origin name.now) bytes.items)
+        × IfErr result (IsLoadFailure (IsKnownLarge F.told (F.held files.old) calls) F.told (F.held files.old)
+        (firmware_origin name.now) (F.read_faults files.old) (F.read_faults files.new)) }
     ensures same { F.held files.new ≡ F.held files.old }
     ensures reads { OnOk result (F.read_faults files.new ≡ F.read_faults files.old) }
     ensures writes { F.write_faults files.new ≡ F.write_faults files.old }
 {
-    load_within(alloc, files, name, FIRMWARE_LIMIT)
+    load_within(alloc, files, name, TEXT_LIMIT)
 }
 
 /// The bytes of a file that may have so many.
@@ -73,12 +71,11 @@ fn load_within<'a, F: Files>(
     name: &'a str,
     limit: u32,
 ) -> Result<Vec<u8>, Failure<'a>>
-    ensures ok { IfOk result (λ bytes.
-        IsKnown F.Files files.old (record { name = name.now; limit = limit }) bytes.items) }
     ensures few { IfOk result (λ bytes. length bytes.items ≤ limit) }
-    ensures err { IfErr result (λ e.
-        IsLoadFailure (IsKnownLarge F.Files files.old) F.told (F.held files.old) (record { name = name.now; limit = limit })
-        (F.read_faults files.old) (F.read_faults files.new) e) }
+    ensures calls { (calls : List Call) × Calls F.called files.old calls files.new × All (Reads name.now) calls
+        × IfOk result (λ bytes. IsKnown F.told (F.held files.old) calls (record { name = name.now; limit = limit }) bytes.items)
+        × IfErr result (IsLoadFailure (IsKnownLarge F.told (F.held files.old) calls) F.told (F.held files.old)
+        (record { name = name.now; limit = limit }) (F.read_faults files.old) (F.read_faults files.new)) }
     ensures same { F.held files.new ≡ F.held files.old }
     ensures reads { OnOk result (F.read_faults files.new ≡ F.read_faults files.old) }
     ensures writes { F.write_faults files.new ≡ F.write_faults files.old }

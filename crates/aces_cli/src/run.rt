@@ -2,12 +2,13 @@
 
 ghost use Rattle.std.specs.Prelude.{◌≡◌, ◌≤◌, ℕ, Bool, Ok, length};
 ghost use Rattle.aces_words.specs.Requests.{Run, file_limit};
-ghost use Rattle.aces_cli.specs.Known.{Held, IsKnown, IsKnownLarge};
-ghost use Rattle.aces_cli.specs.Answer.{Answer, RunAnswer};
+ghost use Rattle.aces_cli.specs.Known.{Held};
+ghost use Rattle.aces_cli.specs.Answer.{RunAnswer};
 ghost use Rattle.machine_output.specs.Runs.{end_status};
 ghost use Rattle.aces_reports.specs.Sinks.{sink};
 ghost use Rattle.aces_reports.specs.Ends.{status_of};
-ghost use Rattle.aces_cli.specs.Effects.{Does, world};
+ghost use Rattle.aces_cli.specs.Did.{Did};
+ghost use Rattle.aces_cli.specs.Effects.{Does};
 
 use crate::loading::{image_of, load, tape_of};
 use aces_reports::{Done, Failure};
@@ -29,11 +30,7 @@ pub(crate) fn run<'a, F: Files, O: Sink>(
     files: &mut F,
     out: &mut O,
 ) -> Result<Done, Failure<'a>>
-    ensures { Does
-        (Answer (IsKnown F.Files files.old) (IsKnownLarge F.Files files.old) (Run image.now tape.now steps))
-        (Run image.now tape.now steps)
-        (world F.Files files.old (sink O.Sink out.old))
-        (world F.Files files.new (sink O.Sink out.new)) result }
+    ensures { Did F.Files files.old files.new (Run image.now tape.now steps) (sink O.Sink out.old) (sink O.Sink out.new) result }
 {
     let bytes = load(alloc, files, image)?;
     let text = load(alloc, files, tape)?;

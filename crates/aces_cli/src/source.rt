@@ -6,11 +6,12 @@ ghost use Rattle.compartments.specs.Analyses.{AreCompartmentsBy};
 ghost use Rattle.source_output.specs.Ends.{seen_end};
 ghost use Rattle.source_output.specs.SourceRuns.{end_status};
 ghost use Rattle.aces_words.specs.Requests.{Source, file_limit, firmware_limit};
-ghost use Rattle.aces_cli.specs.Known.{Held, IsKnown, IsKnownLarge};
-ghost use Rattle.aces_cli.specs.Answer.{Answer, SourceAnswer};
+ghost use Rattle.aces_cli.specs.Known.{Held};
+ghost use Rattle.aces_cli.specs.Answer.{SourceAnswer};
 ghost use Rattle.aces_reports.specs.Sinks.{sink};
 ghost use Rattle.aces_reports.specs.Ends.{status_of};
-ghost use Rattle.aces_cli.specs.Effects.{Does, world};
+ghost use Rattle.aces_cli.specs.Did.{Did};
+ghost use Rattle.aces_cli.specs.Effects.{Does};
 
 use crate::loading::{firmware_of, load, load_firmware, tape_of};
 use aces_reports::{Done, Failure};
@@ -36,11 +37,7 @@ pub(crate) fn source<'a, F: Files, O: Sink>(
     files: &mut F,
     out: &mut O,
 ) -> Result<Done, Failure<'a>>
-    ensures { Does
-        (Answer (IsKnown F.Files files.old) (IsKnownLarge F.Files files.old) (Source firmware.now policy tape.now steps))
-        (Source firmware.now policy tape.now steps)
-        (world F.Files files.old (sink O.Sink out.old))
-        (world F.Files files.new (sink O.Sink out.new)) result }
+    ensures { Did F.Files files.old files.new (Source firmware.now policy tape.now steps) (sink O.Sink out.old) (sink O.Sink out.new) result }
 {
     let bytes = load_firmware(alloc, files, firmware)?;
     let text = load(alloc, files, tape)?;

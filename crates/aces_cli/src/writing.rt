@@ -1,7 +1,9 @@
 //! Writing the file of a command.
 
-ghost use Rattle.std.specs.Prelude.{◌≡◌, Some, OnOk, OnErr};
+ghost use Rattle.std.specs.Prelude.{◌≡◌, List, All, Some, OnOk, OnErr};
 ghost use Rattle.outside.specs.Counts.{Rose};
+ghost use Rattle.outside.specs.Calls.{Call, Calls};
+ghost use Rattle.aces_cli.specs.Did.{Writes};
 ghost use Rattle.aces_cli.specs.Effects.{IsRewritten, IsCutShort};
 
 use outside::{Failed, Files};
@@ -12,6 +14,7 @@ pub(crate) fn write<F: Files>(files: &mut F, name: &str, bytes: &[u8]) -> Result
         (F.held files.old) (F.held files.new)) }
     ensures err { OnErr result (IsCutShort F.told (Some (record { name = name.now; bytes = bytes.now }))
         (F.held files.old) (F.held files.new)) }
+    ensures calls { (calls : List Call) × Calls F.called files.old calls files.new × All (Writes name.now bytes.now) calls }
     ensures rose { OnErr result (Rose (F.write_faults files.old) (F.write_faults files.new)) }
     ensures writes { OnOk result (F.write_faults files.new ≡ F.write_faults files.old) }
     ensures reads { F.read_faults files.new ≡ F.read_faults files.old }

@@ -1,2 +1,3 @@
 mod Digits
 mod Words
+pub mod Requests

@@ -1,6 +1,7 @@
 -- What the words behind the program's name ask for.
 use Rattle.std.specs.Prelude.{◌≡◌, ℕ, ◌^◌, ◌<◌, List, [], ◌∷◌, Option, Some, None, codes}
 use Rattle.std.specs.Fmt.{decimal}
+use Rattle.ir_model.specs.TextLimits.{text_limit}
 use Rattle.aces_words.specs.declared.policy.Policy.{Policy}
 use Rattle.aces_words.specs.declared.policy.Policy.TheVariants.{Filename, Optimized, Peripheral}
 
@@ -57,7 +58,7 @@ file_limit = 16777216
 
 -- how many bytes a firmware may have
 abbrev pub firmware_limit : ℕ
-firmware_limit = 4194304
+firmware_limit = text_limit
 
 -- a file that is read, and how many bytes it may have
 pub record Origin : Type 0 where

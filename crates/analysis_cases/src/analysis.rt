@@ -18,6 +18,7 @@ use compartments::analysis::firmware_needs;
 use compartments::division::division;
 use ir_check::check;
 use ir_model::checked::Checked;
+use ir_model::text_limits::TEXT_LIMIT;
 use ir_program::program::Program;
 use ir_resolve::resolving::resolve;
 use object_sets::PointsTo;
@@ -29,9 +30,6 @@ use points_to::solve;
 use region_graph::initial::initial;
 use region_graph::merge::merge;
 use std::alloc::Global;
-
-/// The most bytes of a file.
-const LIMIT: u64 = 4_194_304;
 
 /// The analyses.
 pub(crate) struct Analysis;
@@ -60,7 +58,7 @@ fn answer(alloc: Global, words: &[String], files: &mut MemFiles) -> Result<Strin
     if words.len() != 5 {
         bail!("not five words");
     }
-    let Ok(bytes) = read_whole(alloc, files, words[1].as_str(), LIMIT) else {
+    let Ok(bytes) = read_whole(alloc, files, words[1].as_str(), u64::from(TEXT_LIMIT)) else {
         bail!("not read");
     };
     if words[0].as_str() == "board" {

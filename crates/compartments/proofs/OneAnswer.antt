@@ -7,7 +7,8 @@ use Rattle.ir_model.specs.Plain.{PlainFirmware}
 use Rattle.ir_model.specs.Resolved.{Program, here}
 use Rattle.ir_model.specs.Resolve.{resolve}
 use Rattle.ir_model.specs.State.{PeriphObject}
-use Rattle.ir_model.specs.Objects.{object_by, compare_objects, kind_of, number_of, local_of}
+use Rattle.ir_model.specs.Objects.{object_by}
+use Rattle.ir_model.proofs.ObjectOrder.{objects_total}
 use Rattle.ir_laws.specs.Sets.{ObjectSets, CallsAt, IsRead, IsWritten}
 use Rattle.plan_model.specs.declared.needs.FuncNeed.{FuncNeed}
 use Rattle.plan_model.specs.declared.needs.SiteNeed.{SiteNeed}
@@ -25,9 +26,6 @@ use Rattle.compartments.proofs.OneList.{one_list, one_by_one, one_partner}
 use Rattle.compartments.proofs.Wider.{AreWithin, called_at, read, written, callee, lendable}
 
 -- ---- orders
-
-objects_total : IsTotalOrder compare_objects
-objects_total = then_total (on_total kind_of nat_cmp_total) (then_total (on_total number_of nat_cmp_total) (on_total local_of nat_cmp_total))
 
 locals_total : IsTotalOrder compare_locals
 locals_total = then_total (on_total (λ (x : ℕ × ℕ). x.0) nat_cmp_total) (on_total (λ (x : ℕ × ℕ). x.1) nat_cmp_total)

@@ -4,6 +4,7 @@ ghost use Rattle.std.specs.Prelude.{◌≡◌, ◌<◌, length, get_or, nat_lt, 
 ghost use Rattle.std.specs.List.{list_all};
 ghost use Rattle.ir_model.specs.Plain.{firmware_of, funcs_of};
 ghost use Rattle.ir_model.specs.Resolve.{resolve};
+ghost use Rattle.ir_model.specs.TextLimits.{function_limit};
 ghost use Rattle.plan_model.specs.Compartments.{AreCompartments, compartments};
 ghost use Rattle.grouping.specs.Functions.{AreFunctions};
 ghost use Rattle.compartments.specs.Divisions as divisions;
@@ -13,12 +14,13 @@ use grouping::facts::facts;
 use grouping::grouping::{Grouping, groups};
 use grouping::tables::{filename_table, optimized_table, peripheral_table};
 use ir_model::checked::Checked;
+use ir_model::text_limits::FUNCTION_LIMIT;
 use plan_model::groups::{FuncFacts, Groups};
 use plan_model::needs::Needs;
 use std::alloc::{AllocError, Global};
 
 /// More than the number of any group, and as many functions as there may be.
-const MOST: u32 = 1024;
+const MOST: u32 = FUNCTION_LIMIT as u32;
 
 /// The group of each function by a policy.
 fn table(alloc: Global, facts: &[FuncFacts], policy: Policy) -> Result<Vec<u32>, AllocError>
@@ -34,7 +36,7 @@ fn table(alloc: Global, facts: &[FuncFacts], policy: Policy) -> Result<Vec<u32>,
 
 /// Whether each number is that of a group.
 fn are_groups(table: &[u32]) -> bool
-    ensures { result ≡ list_all (λ g. nat_lt g 1024) table.now }
+    ensures { result ≡ list_all (λ g. nat_lt g function_limit) table.now }
 {
     table.iter().all(|group| *group < MOST)
 }

@@ -1,16 +1,15 @@
 //! What the cases call: the program, and `divide`, `patch` and `same` beside its commands.
 
 ghost use Rattle.std.specs.Prelude.{◌≡◌, ◌≤◌, length, IfOk};
+ghost use Rattle.ir_model.specs.TextLimits.{text_limit};
 
 use crate::divide::divided_image;
 use aces_cli::aces;
 use anyhow::{Result, bail};
 use case_files::Program;
+use ir_model::text_limits::TEXT_LIMIT;
 use outside::{Files, MemFiles, MemSink, read_whole};
 use std::alloc::Global;
-
-/// The most bytes of a file.
-const LIMIT: u64 = 4_194_304;
 
 /// The calls.
 pub(crate) struct Calls;
@@ -78,9 +77,9 @@ fn divide(alloc: Global, words: &[String], files: &mut MemFiles) -> Result<()>
 }
 
 fn bytes_of(alloc: Global, files: &mut MemFiles, name: &str) -> Result<Vec<u8>>
-    ensures { IfOk result (λ bytes. length bytes.items ≤ 4194304) }
+    ensures { IfOk result (λ bytes. length bytes.items ≤ text_limit) }
 {
-    match read_whole(alloc, files, name, LIMIT) {
+    match read_whole(alloc, files, name, u64::from(TEXT_LIMIT)) {
         Ok(bytes) => Ok(bytes),
         Err(_) => bail!("not read"),
     }

@@ -1,6 +1,7 @@
 //! Images of firmwares whose functions are grouped by their numbers, by a callback that is given to `compile`.
 
 ghost use Rattle.std.specs.Prelude.{◌≡◌, ◌<◌, ◌≤◌, ◌%◌, length};
+ghost use Rattle.ir_model.specs.TextLimits.{text_limit};
 ghost use Rattle.plan_model.specs.Boards.{IsBoard};
 
 use anyhow::{Result, bail};
@@ -10,13 +11,14 @@ use firmware_plans::needs_of;
 use grouping::grouping::Grouping;
 use ir_check::check;
 use ir_model::checked::Checked;
+use ir_model::text_limits::FUNCTION_LIMIT;
 use ir_resolve::resolving::resolve;
 use plan_model::groups::FuncFacts;
 use plan_model::plan::Board;
 use std::alloc::Global;
 
 /// The most groups, and the most functions of a firmware.
-const MOST: u32 = 1024;
+const MOST: u32 = FUNCTION_LIMIT as u32;
 
 /// The text of the image of a firmware for a board, its functions in so many groups.
 pub(crate) fn divided_image(
@@ -25,7 +27,7 @@ pub(crate) fn divided_image(
     board: &[u8],
     count: u32,
 ) -> Result<Vec<u8>>
-    requires { length firmware.now ≤ 4194304 }
+    requires { length firmware.now ≤ text_limit }
 {
     let Ok(firmware) = ir_reader::read(alloc, firmware) else {
         bail!("no firmware");

@@ -10,20 +10,8 @@ ghost use Rattle.plan_model.specs.Lending as lending;
 ghost use Rattle.compile_limits.specs.Told.{told};
 
 use plan_model::groups::Groups;
-use plan_model::limits::LimitKind;
+use plan_model::limits::{COMPARTMENT_LIMIT, LENT_LIMIT, LimitKind, SITE_LIMIT, TARGET_LIMIT};
 use plan_model::needs::{Needs, SiteNeed};
-
-/// The most compartments.
-const COMPARTMENTS: u32 = 64;
-
-/// The most lendable locals, where there are two compartments or more.
-const LENT: usize = 32;
-
-/// The most crossing sites.
-const SITES: usize = 4096;
-
-/// The most targets of a crossing site.
-const TARGETS: usize = 64;
 
 /// The compartment of a function.
 fn compartment(groups: &Groups, func: u32) -> u32
@@ -64,7 +52,7 @@ fn wide_count(needs: &Needs, groups: &Groups) -> Option<usize>
     ensures { result ≡ option_map (λ s. length s.targets) (wide_site needs.now groups.now) }
 {
     for site in needs.sites.as_slice() {
-        if crosses(groups, site) && site.targets.len() > TARGETS {
+        if crosses(groups, site) && site.targets.len() > TARGET_LIMIT {
             return Some(site.targets.len());
         }
     }
@@ -95,15 +83,15 @@ fn counted(count: usize) -> u32
 pub fn passed(needs: &Needs, groups: &Groups) -> Option<(LimitKind, u32)>
     ensures { result ≡ option_map told (first_passed needs.now groups.now) }
 {
-    if groups.count > COMPARTMENTS {
+    if groups.count > COMPARTMENT_LIMIT {
         return Some((LimitKind::Compartments, groups.count));
     }
     let lent = lent_count(needs, groups);
-    if lent > LENT {
+    if lent > LENT_LIMIT {
         return Some((LimitKind::Lent, counted(lent)));
     }
     let sites = site_count(needs, groups);
-    if sites > SITES {
+    if sites > SITE_LIMIT {
         return Some((LimitKind::Sites, counted(sites)));
     }
     match wide_count(needs, groups) {

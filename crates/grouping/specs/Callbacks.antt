@@ -3,15 +3,16 @@
 use Rattle.std.specs.Prelude.{◌≡◌, ℕ, ◌<◌, ◌≤◌, List}
 use Rattle.std.specs.List.{AllZip}
 use Rattle.std.specs.Borrow.{Bor}
+use Rattle.ir_model.specs.TextLimits.{function_limit}
 use Rattle.plan_model.specs.declared.groups.FuncFacts.{FuncFacts}
 
 -- by when it may be called, and by which answers it gives for facts: for the facts of so many functions it may be called, its
--- answers are below a bound, and it answers equal facts equally; both numbers are from 1 to 1,024
+-- answers are below a bound, and it answers equal facts equally; both numbers are from 1 to that of the functions that a firmware may have
 pub record IsGrouping (functions count : ℕ) (may : Bor FuncFacts → Type 0) (answers : FuncFacts → ℕ → Type 0) : Type 0 where
   pub some_functions : 0 < functions
-  pub few_functions : functions ≤ 1024
+  pub few_functions : functions ≤ function_limit
   pub some_groups : 0 < count
-  pub few_groups : count ≤ 1024
+  pub few_groups : count ≤ function_limit
   pub callable : (f : Bor FuncFacts) → f.now.index < functions → may f
   pub below : (f : FuncFacts) (g : ℕ) → f.index < functions → answers f g → g < count
   pub equally : (f : FuncFacts) (g h : ℕ) → f.index < functions → answers f g → answers f h → g ≡ h

@@ -97,7 +97,7 @@ pub record StackLaws : Type 0 where
 
 module _ (laws : StackLaws) (i : Image) (t : Tables) (p : Placed i t) where
   size_is : StackSize t.stack.size
-  size_is = stack_size t.stack.size (subst (λ z. Rattle.device_model.specs.Rules.IsPowerBetween 9 16 z) (sym p.stack_size) p.stack.size)
+  size_is = stack_size t.stack.size (subst (λ z. Rattle.windows.specs.Ranges.IsPowerBetween 9 16 z) (sym p.stack_size) p.stack.size)
 
   no_slot_holds : (gs : List Region) → Each (IsSlot i t) gs → (a : ℕ) → t.stack.base ≤ a → a < stack_end t → NoneOf gs a
   no_slot_holds [] e a lo hi = tt

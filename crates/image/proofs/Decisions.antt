@@ -8,10 +8,10 @@ use Rattle.std.specs.List.{list_any, list_all}
 use Rattle.std.specs.Str.{bytes_eq}
 use Rattle.names.specs.Names.{is_name}
 use Rattle.device_model.specs.declared.image.Window.{Window}
-use Rattle.windows.specs.Ranges.{IsPowerBetween, IsInside, is_inside, are_apart, peripherals_base, peripherals_size}
-use Rattle.windows.proofs.Decisions.{decides_order, decides_inside, decides_power, decides_place}
+use Rattle.windows.specs.Ranges.{IsPowerBetween, IsInside, is_inside, are_apart, peripherals_base, peripherals_size, least_window, greatest_window}
+use Rattle.windows.proofs.Decisions.{decides_order, decides_inside, decides_power, decides_size, decides_place}
 use Rattle.device_model.specs.Rules.{block_size, least_stack, greatest_stack, memory_limit, last_flash_base, least_flash, first_ram_base, last_ram_base, least_ram, ram_unit}
-use Rattle.image.specs.Faults.{is_flash_base, is_flash_length, is_ram_base, is_ram_size, is_monitor, is_stack_size, is_stack_base, is_window_base, is_name_length, is_new_name}
+use Rattle.image.specs.Faults.{is_flash_base, is_flash_length, is_ram_base, is_ram_size, is_monitor, is_stack_size, is_stack_base, is_window_size, is_window_base, is_name_length, is_new_name}
 
 pub Decides-is_flash_base : (n : ℕ) → Decides (is_flash_base n) ((n % memory_limit ≡ 0) × (n ≤ last_flash_base))
 unfolding is_flash_base
@@ -40,6 +40,10 @@ Decides-is_monitor n b s =
 pub Decides-is_stack_size : (n : ℕ) → Decides (is_stack_size n) ((n ≡ 0) ⊎ IsPowerBetween least_stack greatest_stack n)
 unfolding is_stack_size
 Decides-is_stack_size n = Decides-or _ _ (Decides-eqb n 0) (decides_power least_stack greatest_stack n)
+
+pub Decides-is_window_size : (n : ℕ) → Decides (is_window_size n) (IsPowerBetween least_window greatest_window n)
+unfolding is_window_size
+Decides-is_window_size n = decides_size n
 
 pub Decides-is_name_length : (n : ℕ) → Decides (is_name_length n) ((1 ≤ n) × (n ≤ 64))
 unfolding is_name_length

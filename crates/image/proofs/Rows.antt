@@ -9,7 +9,7 @@ use Rattle.std.proofs.lemmas.List.Folds.{drop_split}
 use Rattle.std.proofs.lemmas.Slice.Eq.{bytes_eq-Decides}
 use Rattle.names.proofs.Lengths.{name_lengths}
 use Rattle.windows.specs.Ranges.{AreApart, are_apart}
-use Rattle.windows.proofs.Decisions.{decides_apart, decides_size}
+use Rattle.windows.proofs.Decisions.{decides_apart}
 use Rattle.device_model.specs.declared.image.Window.{Window}
 use Rattle.device_model.specs.Rules.{IsWindow, IsApart, AreWindows}
 use Rattle.image.specs.Text.{word_bytes, window_bytes}
@@ -17,7 +17,7 @@ use Rattle.image.specs.Parts.{number, window_at, behind_window, windows_from, be
 use Rattle.image.specs.Faults.{first_of, range_checks, name_checks, window_checks, windows_checks}
 use Rattle.image.proofs.Passing.{AllPass-from_first_of, first_of-from_AllPass, first_of-none_in, room, whole-none, kept, rule-none}
 use Rattle.image.proofs.Steps.{first_of-nil, first_of-pass_all}
-use Rattle.image.proofs.Decisions.{Decides-is_window_base, Decides-is_name_length, Decides-is_new_name}
+use Rattle.image.proofs.Decisions.{Decides-is_window_size, Decides-is_window_base, Decides-is_name_length, Decides-is_new_name}
 use Rattle.image.proofs.Bytes.{AreBytes, word_at, begins, begins_word}
 
 -- a window shares neither name nor address with earlier ones
@@ -97,7 +97,7 @@ passed b at seen h =
     let both = first_of-none_in (range_checks b at seen) (name_checks b at seen) h in
     let r = AllPass-from_first_of (range_checks b at seen) both.0 in
     let n = AllPass-from_first_of (name_checks b at seen) both.1 in
-    let size = (decides_size (number b (at + 4))).0 (kept _ (at + 4) r.1.1.0) in
+    let size = (Decides-is_window_size (number b (at + 4))).0 (kept _ (at + 4) r.1.1.0) in
     let base = (Decides-is_window_base (number b at) (number b (at + 4)) seen).0 (kept _ at r.1.1.1.0) in
     let name = (Decides-is_new_name (window_at b at).name seen).0 (kept _ (at + 12) n.1.1.1.0) in
     record {
@@ -192,7 +192,7 @@ window_checks-none b at seen w same long rules clear within =
     let window : IsWindow x = subst IsWindow (sym same) rules in
     let tests = tests_from_IsClear seen x (subst (IsClear seen) (sym same) clear) in
     let fits = window_fits w rules in
-    let range = first_of-from_AllPass (range_checks b at seen) (whole-none b at 4 (omega arith), (whole-none b (at + 4) 4 (omega arith), (rule-none _ (at + 4) ((decides_size (number b (at + 4))).1 window.range.power), (rule-none _ at ((Decides-is_window_base (number b at) (number b (at + 4)) seen).1 ((window.range.aligned, window.range.place), tests.0)), tt)))) in
+    let range = first_of-from_AllPass (range_checks b at seen) (whole-none b at 4 (omega arith), (whole-none b (at + 4) 4 (omega arith), (rule-none _ (at + 4) ((Decides-is_window_size (number b (at + 4))).1 window.range.power), (rule-none _ at ((Decides-is_window_base (number b at) (number b (at + 4)) seen).1 ((window.range.aligned, window.range.place), tests.0)), tt)))) in
     let name = first_of-from_AllPass (name_checks b at seen) (whole-none b (at + 8) 4 (omega arith), (rule-none _ (at + 8) ((Decides-is_name_length (number b (at + 8))).1 (omega arith, omega arith)), (whole-none b (at + 12) (number b (at + 8)) within, (rule-none _ (at + 12) ((Decides-is_new_name x.name seen).1 (window.named, tests.1)), tt)))) in
     first_of-pass_all (range_checks b at seen) (name_checks b at seen) range ∙ name
 

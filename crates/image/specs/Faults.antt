@@ -4,7 +4,8 @@ use Rattle.std.specs.Prelude.{◌≡◌, ℕ, zero, suc, ◌+◌, ◌%◌, ◌^�
 use Rattle.std.specs.List.{list_any, list_all}
 use Rattle.std.specs.Str.{bytes_eq}
 use Rattle.names.specs.Names.{is_name}
-use Rattle.windows.specs.Ranges.{is_power_between, is_inside, are_apart, is_window_size, is_window_place}
+use Rattle.windows.specs.Ranges as ranges
+use Rattle.windows.specs.Ranges.{is_power_between, is_inside, are_apart, is_window_place}
 use Rattle.device_model.specs.declared.image.Image.{Image}
 use Rattle.device_model.specs.declared.image.Window.{Window}
 use Rattle.device_model.specs.Rules.{window_limit, block_size, least_stack, greatest_stack, memory_limit, last_flash_base, least_flash, first_ram_base, last_ram_base, least_ram, ram_unit}
@@ -59,6 +60,9 @@ is_regions n = nat_eq n 8 || nat_eq n 16
 -- 1 is for closed, and 0 for open, which 8 regions leave to version 1
 unfoldable pub is_closed_word : (n regions : ℕ) → Bool
 is_closed_word n r = nat_eq n 1 || (nat_eq n 0 && nat_eq r 16)
+
+unfoldable pub is_window_size : ℕ → Bool
+is_window_size n = ranges.is_window_size n
 
 unfoldable pub is_window_base : (n size : ℕ) → List Window → Bool
 is_window_base n s seen = is_window_place n s && list_all (λ w. are_apart w.base w.size n s) seen

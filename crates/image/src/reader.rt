@@ -17,7 +17,6 @@ use device_model::image::{Image, Window};
 use device_model::limits::WINDOW_LIMIT;
 use list_vec::ListVec;
 use std::alloc::Global;
-use windows::is_window_size;
 
 /// The memories of an image.
 #[derive(Clone, Copy)]
@@ -146,7 +145,7 @@ fn read_protection(bytes: &[u8], version: u32) -> Result<Protection, ImageFault>
     })
 }
 
-#[tactic(auto, using(crate::proofs::Steps::steps, windows::proofs::Decisions::size_is_some), unfolding(crate::specs::Faults::range_checks))]
+#[tactic(auto, using(crate::proofs::Steps::steps), unfolding(crate::specs::Faults::range_checks))]
 fn read_range(bytes: &[u8], at: u32, seen: &[Window]) -> Result<(u32, u32), ImageFault>
     requires { at < 2 ^ 31 }
     ensures faults { result_err result ≡ faults.first_of (faults.range_checks bytes.now at seen.now) }
@@ -154,7 +153,7 @@ fn read_range(bytes: &[u8], at: u32, seen: &[Window]) -> Result<(u32, u32), Imag
 {
     let base = read_number(bytes, at)?;
     let size = read_number(bytes, at + 4)?;
-    require(is_window_size(size), at + 4)?;
+    require(rules::is_window_size(size), at + 4)?;
     require(rules::is_window_base(base, size, seen), at)?;
     Ok((base, size))
 }

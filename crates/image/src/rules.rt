@@ -93,6 +93,15 @@ pub fn is_closed_word(word: u32, regions: u32) -> bool
     word == 1 || (word == 0 && regions == 16)
 }
 
+/// Whether a window may have so many bytes.
+#[tactic(auto, using(windows::proofs::Decisions::size_is_some), unfolding(crate::specs::Faults::is_window_size))]
+pub fn is_window_size(size: u32) -> bool
+    ensures test { result ≡ faults.is_window_size size }
+    ensures least { IsTrue result → 0 < size }
+{
+    windows::is_window_size(size)
+}
+
 fn is_apart_from_all(address: u32, size: u32, seen: &[Window]) -> bool
     ensures { result ≡ list_all (λ w. ranges.are_apart w.base w.size address size) seen.now }
 {

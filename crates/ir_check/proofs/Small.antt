@@ -8,14 +8,16 @@ use Rattle.ir_model.specs.declared.firmware.Func.{Func}
 use Rattle.ir_model.specs.Plain.{PlainFirmware, func_of, funcs_of, slot_of}
 use Rattle.ir_model.specs.Canonical.{IsWithinLimits}
 use Rattle.common_laws.specs.Lists.{Each}
+use Rattle.ir_model.specs.TextLimits.{instruction_limit}
+use Rattle.ir_model.specs.FewItems.{HasFewItems}
 use Rattle.ir_model.proofs.Limits.{Limited, limited, insts_in}
-use Rattle.ir_check.specs.Scopes.{IsSmall, AreSmall, lent_funcs}
+use Rattle.ir_check.specs.Scopes.{AreSmall, lent_funcs}
 
-few_insts : (bs : List Block) → insts_in bs ≤ 16384 → All (λ (b : Block). length b.insts ≤ 16384) bs
-few_insts [] h = All-nil (λ (b : Block). length b.insts ≤ 16384)
-few_insts (b ∷ bs) h = All-cons (λ (b : Block). length b.insts ≤ 16384) b bs (omega arith) (few_insts bs (omega arith))
+few_insts : (bs : List Block) → insts_in bs ≤ instruction_limit → All (λ (b : Block). length b.insts ≤ instruction_limit) bs
+few_insts [] h = All-nil (λ (b : Block). length b.insts ≤ instruction_limit)
+few_insts (b ∷ bs) h = All-cons (λ (b : Block). length b.insts ≤ instruction_limit) b bs (omega arith) (few_insts bs (omega arith))
 
-small_func : (f : Func) → Limited (func_of f) → IsSmall f
+small_func : (f : Func) → Limited (func_of f) → HasFewItems f
 small_func f h =
     let a = length-append (map slot_of f.params) (map slot_of f.regs) in
     let p = length-map f.params slot_of in
@@ -26,8 +28,8 @@ small_func f h =
     record { registers = omega arith; locals = omega arith; insts = few_insts f.blocks h.insts }
 
 small_funcs : (fs : List (Bor Func)) → Each Limited (lent_funcs fs) → AreSmall fs
-small_funcs [] h = All-nil (λ (f : Bor Func). IsSmall f.now)
-small_funcs (f ∷ fs) h = All-cons (λ (f : Bor Func). IsSmall f.now) f fs (small_func f.now h.0) (small_funcs fs h.1)
+small_funcs [] h = All-nil (λ (f : Bor Func). HasFewItems f.now)
+small_funcs (f ∷ fs) h = All-cons (λ (f : Bor Func). HasFewItems f.now) f fs (small_func f.now h.0) (small_funcs fs h.1)
 
 pub are_small : (w : PlainFirmware) (fs : List (Bor Func)) → IsWithinLimits w → lent_funcs fs ≡ funcs_of w → AreSmall fs
 are_small w fs h e = small_funcs fs (subst (Each Limited) (sym e) (limited w h))

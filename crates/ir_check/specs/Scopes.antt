@@ -1,14 +1,14 @@
 -- Beyond the program's claim: only laws, proofs and functions inside the tool cite this file.
 -- The tables of a firmware and of a function.
-use Rattle.std.specs.Prelude.{◌≡◌, ◌+◌, ◌≤◌, List, map, length}
+use Rattle.std.specs.Prelude.{◌≡◌, List, map}
 use Rattle.std.specs.List.{All}
 use Rattle.std.proofs.Common.{Bor}
 use Rattle.ir_model.specs.declared.firmware.Peripheral.{Peripheral}
-use Rattle.ir_model.specs.declared.firmware.Block.{Block}
 use Rattle.ir_model.specs.declared.firmware.Func.{Func}
 use Rattle.ir_model.specs.declared.types.Ty.{U32}
 use Rattle.ir_model.specs.Plain.{PlainStruct, PlainGlobal, PlainFunc, firmware_of, func_of, funcs_of, names_of, regs_of}
 use Rattle.ir_model.specs.Resolve.{labels_of}
+use Rattle.ir_model.specs.FewItems.{HasFewItems}
 use Rattle.ir_check.specs.declared.scope.Scope.{Scope}
 use Rattle.ir_check.specs.declared.scope.FuncScope.{FuncScope}
 
@@ -31,11 +31,5 @@ pub record IsFuncScope (s : FuncScope) : Type 0 where
   pub labels : s.labels ≡ labels_of (func_of s.func.now)
   pub number : s.number ≡ U32
 
--- a function within the limits: its registers with the parameters, its locals, and the instructions of each block
-pub record IsSmall (f : Func) : Type 0 where
-  pub registers : length f.params + length f.regs ≤ 120
-  pub locals : length f.locals ≤ 64
-  pub insts : All (λ (b : Block). length b.insts ≤ 16384) f.blocks
-
 abbrev pub AreSmall : List (Bor Func) → Type 0
-AreSmall fs = All (λ (f : Bor Func). IsSmall f.now) fs
+AreSmall fs = All (λ (f : Bor Func). HasFewItems f.now) fs

@@ -4,6 +4,7 @@ ghost use Rattle.std.specs.Prelude.{◌≡◌, ◌∷◌, ◌++◌, ◌≤◌, [
 ghost use Rattle.std.specs.List.{All};
 ghost use Rattle.ir_model.specs.declared.firmware.Block.{Block as Code};
 ghost use Rattle.ir_model.specs.Plain.{func_of, firmware_of};
+ghost use Rattle.ir_model.specs.TextLimits.{instruction_limit};
 ghost use Rattle.ir_model.specs.Typing.{blocks_checks, code_checks};
 ghost use Rattle.ir_check.specs.Found.{Finds};
 ghost use Rattle.ir_check.specs.Parts.{inst_check, term_check};
@@ -43,7 +44,7 @@ fn term(func: &FuncScope, spot: Spot, term: &Term) -> Result<(), CheckFault>
 fn block(scope: &Scope, func: &FuncScope, block: &Block) -> Result<(), CheckFault>
     requires scope { IsScope scope.now }
     requires func { IsFuncScope func.now }
-    requires few { length block.now.insts ≤ 16384 }
+    requires few { length block.now.insts ≤ instruction_limit }
     ensures { Finds (code_checks (firmware_of scope.now.firmware.now) (func_of func.now.func.now) block.now.label 0 block.now.insts block.now.term) result }
 {
     let insts = block.insts.as_slice();
@@ -60,7 +61,7 @@ fn block(scope: &Scope, func: &FuncScope, block: &Block) -> Result<(), CheckFaul
 pub fn blocks(scope: &Scope, func: &FuncScope, blocks: &[Block]) -> Result<(), CheckFault>
     requires scope { IsScope scope.now }
     requires func { IsFuncScope func.now }
-    requires few { All (λ (b : Code). length b.insts ≤ 16384) blocks.now }
+    requires few { All (λ (b : Code). length b.insts ≤ instruction_limit) blocks.now }
     ensures { Finds (blocks_checks (firmware_of scope.now.firmware.now) (func_of func.now.func.now) blocks.now) result }
 {
     for code in blocks {

@@ -5,7 +5,8 @@ ghost use Rattle.ir_model.specs.Types.{type_of};
 ghost use Rattle.ir_model.specs.Plain.{slot_of, names_of, firmware_of};
 ghost use Rattle.ir_model.specs.Layout.{known, shape, rounded_up};
 ghost use Rattle.ir_model.specs.Frames.{locals_size};
-ghost use Rattle.ir_model.specs.Typing.{local_checks};
+ghost use Rattle.ir_model.specs.TextLimits.{local_limit};
+ghost use Rattle.ir_model.specs.Typing.{object_limit, local_checks};
 ghost use Rattle.ir_check.specs.Found.{Finds};
 ghost use Rattle.ir_check.specs.Spots.{place_of};
 ghost use Rattle.ir_check.specs.Parts.{local_check, slot_check, size_check};
@@ -43,7 +44,7 @@ pub fn object_size(scope: &Scope, spot: Spot, ty: &Ty) -> Result<u32, CheckFault
     requires { IsScope scope.now }
     ensures finds { Finds (size_check (firmware_of scope.now.firmware.now) (place_of spot.entry) (type_of ty.now)) result }
     ensures size { IfOk result (λ n. n ≡ (shape (known (firmware_of scope.now.firmware.now).structs) (type_of ty.now)).size) }
-    ensures small { IfOk result (λ n. n ≤ 65536) }
+    ensures small { IfOk result (λ n. n ≤ object_limit) }
 {
     let size = scope.layouts.measure(ty).size;
     require(
@@ -65,7 +66,7 @@ fn local<'a>(
     ensures finds { Finds (local_check (firmware_of scope.now.firmware.now) scope.now.structs (place_of spot.entry) seen.old (slot_of slot.now)) result }
     ensures grows { OnOk result (seen.new ≡ seen.old ++ slot.now.name ∷ []) }
     ensures size { IfOk result (λ n. n ≡ (shape (known (firmware_of scope.now.firmware.now).structs) (type_of slot.now.ty)).size) }
-    ensures small { IfOk result (λ n. n ≤ 65536) }
+    ensures small { IfOk result (λ n. n ≤ object_limit) }
 {
     named_slot(scope, spot, seen, slot)?;
     let size = object_size(scope, spot, &slot.ty)?;
@@ -73,10 +74,10 @@ fn local<'a>(
 }
 
 fn with_local(total: u64, size: u32) -> u64
-    requires total { total ≤ 64 * 65536 }
-    requires size { size ≤ 65536 }
+    requires total { total ≤ local_limit * object_limit }
+    requires size { size ≤ object_limit }
     ensures exact { result ≡ total + rounded_up size 4 }
-    ensures most { result ≤ total + 65536 }
+    ensures most { result ≤ total + object_limit }
 {
     total + (u64::from(size) + 3) / 4 * 4
 }
@@ -89,11 +90,11 @@ pub fn locals<'a>(
     slots: &'a [Slot],
 ) -> Result<u64, CheckFault>
     requires scope { IsScope scope.now }
-    requires few { length slots.now ≤ 64 }
+    requires few { length slots.now ≤ local_limit }
     ensures finds { Finds (local_checks (firmware_of scope.now.firmware.now) scope.now.structs (place_of spot.entry) seen.old (map slot_of slots.now)) result }
     ensures grows { OnOk result (seen.new ≡ seen.old ++ names_of (map slot_of slots.now)) }
     ensures size { IfOk result (λ n. n ≡ locals_size (known (firmware_of scope.now.firmware.now).structs) (map slot_of slots.now)) }
-    ensures most { IfOk result (λ n. n ≤ 64 * 65536) }
+    ensures most { IfOk result (λ n. n ≤ local_limit * object_limit) }
 {
     let mut total = 0;
     for slot in slots {

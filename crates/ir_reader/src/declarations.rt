@@ -3,6 +3,7 @@
 ghost use Rattle.std.specs.Prelude.{◌≡◌, ◌<◌, ◌≤◌, ◌+◌, [], ◌∷◌, ◌++◌, map, flat_map, length, OnOk, IfOk, None};
 ghost use Rattle.common_laws.specs.Lists.{Each};
 ghost use Rattle.ir_model.specs.Plain.{struct_of, global_of};
+ghost use Rattle.ir_model.specs.TextLimits.{global_limit, cell_limit};
 ghost use Rattle.ir_model.specs.declared.token.Keyword.TheVariants as key;
 ghost use Rattle.ir_model.specs.declared.token.Mark.TheVariants as mark;
 ghost use Rattle.ir_reader.specs.Machine as Expected;
@@ -19,6 +20,7 @@ use crate::slots::{fields, slot};
 use crate::terminals::{behind_mark, behind_word, global_word, mark, name, number, syntax};
 use crate::token::Token;
 use ir_model::firmware::{Cell, Global as GlobalDecl, Peripheral, Slot, StructDecl};
+use ir_model::text_limits::{CELL_LIMIT, GLOBAL_LIMIT, PERIPH_LIMIT, STRUCT_LIMIT};
 use ir_model::token::{Keyword, Mark, TextLimit};
 use list_vec::ListVec;
 use std::alloc::Global;
@@ -49,7 +51,10 @@ pub fn structs(alloc: Global, text: &[u8]) -> Result<(Vec<StructDecl>, &[u8]), R
     let mut structs = Vec::new(alloc);
     let mut rest = text;
     while let Some((left, behind)) = behind_word(Keyword::Struct, rest) {
-        keep(counted(structs.len(), 256, TextLimit::Struct), left)?;
+        keep(
+            counted(structs.len(), STRUCT_LIMIT, TextLimit::Struct),
+            left,
+        )?;
         let (next, behind) = struct_behind(alloc, behind)?;
         structs.push(next)?;
         rest = behind;
@@ -75,7 +80,10 @@ pub fn periphs(alloc: Global, text: &[u8]) -> Result<(Vec<Peripheral>, &[u8]), R
     let mut periphs = Vec::new(alloc);
     let mut rest = text;
     while let Some((left, behind)) = behind_word(Keyword::Periph, rest) {
-        keep(counted(periphs.len(), 64, TextLimit::Periph), left)?;
+        keep(
+            counted(periphs.len(), PERIPH_LIMIT, TextLimit::Periph),
+            left,
+        )?;
         let (next, behind) = periph_behind(alloc, behind)?;
         periphs.push(next)?;
         rest = behind;
@@ -86,25 +94,25 @@ pub fn periphs(alloc: Global, text: &[u8]) -> Result<(Vec<Peripheral>, &[u8]), R
 /// A cell behind so many others, and the text behind it.
 #[tactic(auto, using(ir_model::proofs::NoExcess::number_fits, crate::proofs::Kept::cell_counted, ir_model::proofs::NoExcess::counted_none))]
 fn cell(alloc: Global, before: usize, text: &[u8]) -> Result<(Cell, &[u8]), ReadError>
-    ensures limit { OnOk result (before < 65536) }
+    ensures limit { OnOk result (before < cell_limit) }
     ensures read { Reads (λ x. x.0) (grammar.spell_cell as_found) (Expected.CellAt before ∷ []) [] (placed text.now) (λ x. placed x.1.now) result }
 {
     let (token, left, rest) = lex(text);
     match token {
         Token::Number(number) => {
             keep(
-                number_excess(number, counted(before, 65536, TextLimit::Cell)),
+                number_excess(number, counted(before, CELL_LIMIT, TextLimit::Cell)),
                 left,
             )?;
             Ok((Cell::Word(number as u32), rest))
         }
         Token::Key(Keyword::Fn) => {
-            keep(counted(before, 65536, TextLimit::Cell), left)?;
+            keep(counted(before, CELL_LIMIT, TextLimit::Cell), left)?;
             let (function, rest) = name(alloc, rest)?;
             Ok((Cell::Function(function), rest))
         }
         Token::Key(Keyword::Addr) => {
-            keep(counted(before, 65536, TextLimit::Cell), left)?;
+            keep(counted(before, CELL_LIMIT, TextLimit::Cell), left)?;
             let (object, rest) = name(alloc, rest)?;
             Ok((Cell::Address(object), rest))
         }
@@ -148,12 +156,12 @@ fn constant(before: usize, text: &[u8]) -> Result<Option<(bool, &[u8])>, ReadErr
     ensures { Starts before (placed text.now) placed result }
 {
     if let Some((left, behind)) = behind_word(Keyword::Const, text) {
-        keep(counted(before, 1024, TextLimit::Global), left)?;
+        keep(counted(before, GLOBAL_LIMIT, TextLimit::Global), left)?;
         let rest = global_word(behind)?;
         return Ok(Some((true, rest)));
     }
     if let Some((left, behind)) = behind_word(Keyword::Global, text) {
-        keep(counted(before, 1024, TextLimit::Global), left)?;
+        keep(counted(before, GLOBAL_LIMIT, TextLimit::Global), left)?;
         return Ok(Some((false, behind)));
     }
     Ok(None)
@@ -166,7 +174,7 @@ fn global_behind(
     before: usize,
     text: &[u8],
 ) -> Result<(GlobalDecl, &[u8]), ReadError>
-    requires { before < 1024 }
+    requires { before < global_limit }
     ensures { ReadsBehind (grammar.spell_constant as_found constant) (λ x. global_of x.0) (grammar.spell_global as_found) (Expected.global_rest before) (Expected.Globals (before + 1) ∷ []) (placed text.now) (λ x. placed x.1.now) result }
 {
     let (Slot { name, ty }, rest) = slot(alloc, None, text)?;

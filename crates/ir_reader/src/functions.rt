@@ -3,6 +3,7 @@
 ghost use Rattle.std.specs.Prelude.{◌≡◌, ◌<◌, ◌≤◌, ◌+◌, [], ◌∷◌, ◌++◌, map, flat_map, length, OnOk, IfOk, None, ℕ};
 ghost use Rattle.ir_model.specs.Types.{result_of};
 ghost use Rattle.ir_model.specs.Plain.{slot_of, func_of, file_of};
+ghost use Rattle.ir_model.specs.TextLimits.{function_limit, parameter_limit, block_limit, instruction_limit};
 ghost use Rattle.ir_model.specs.declared.token.Keyword.TheVariants as key;
 ghost use Rattle.ir_reader.specs.Machine as Expected;
 ghost use Rattle.ir_reader.specs.Reading.{Reads, ReadsBehind, ReadsTo};
@@ -21,6 +22,7 @@ use crate::terminals::{behind_mark, behind_word, mark, name, name_behind, syntax
 use crate::token::Token;
 use ir_model::firmware::{Block, FileDecl, Func, Inst, Slot, Term};
 use ir_model::name::Name;
+use ir_model::text_limits::{BLOCK_LIMIT, FILE_LIMIT, FUNCTION_LIMIT, LOCAL_LIMIT, REGISTER_LIMIT};
 use ir_model::token::{Keyword, Mark, TextLimit};
 use ir_model::types::Ty;
 use list_vec::ListVec;
@@ -28,8 +30,8 @@ use std::alloc::Global;
 
 /// The instructions of a block behind so many others, and its end, and the text behind them.
 fn lines(alloc: Global, before: usize, text: &[u8]) -> Result<((Vec<Inst>, Term), &[u8]), ReadError>
-    requires { before ≤ 16384 }
-    ensures limit { IfOk result (λ x. before + length x.0.0.items ≤ 16384) }
+    requires { before ≤ instruction_limit }
+    ensures limit { IfOk result (λ x. before + length x.0.0.items ≤ instruction_limit) }
     ensures read { ReadsLines before (placed text.now) placed result }
 {
     let mut insts = Vec::new(alloc);
@@ -54,12 +56,12 @@ fn block(
     instructions: usize,
     text: &[u8],
 ) -> Result<(Block, &[u8]), ReadError>
-    requires { instructions ≤ 16384 }
-    ensures limit { OnOk result (before < 1024) }
-    ensures instructions { IfOk result (λ x. instructions + length x.0.insts ≤ 16384) }
+    requires { instructions ≤ instruction_limit }
+    ensures limit { OnOk result (before < block_limit) }
+    ensures instructions { IfOk result (λ x. instructions + length x.0.insts ≤ instruction_limit) }
     ensures read { ReadsTo (λ x. x.0) (grammar.spell_block as_found) (Expected.First before instructions ∷ []) (λ x. Expected.Blocks (before + 1) (instructions + length x.0.insts) ∷ []) (placed text.now) (λ x. placed x.1.now) result }
 {
-    let (label, rest) = name_behind(alloc, counted(before, 1024, TextLimit::Block), text)?;
+    let (label, rest) = name_behind(alloc, counted(before, BLOCK_LIMIT, TextLimit::Block), text)?;
     let rest = mark(Mark::Colon, rest)?;
     let ((insts, term), rest) = lines(alloc, instructions, rest)?;
     Ok((
@@ -100,7 +102,7 @@ fn locals(alloc: Global, params: usize, text: &[u8]) -> Result<(Vec<Slot>, &[u8]
     let mut locals = Vec::new(alloc);
     let mut rest = text;
     while let Some((left, behind)) = behind_word(Keyword::Local, rest) {
-        keep(counted(locals.len(), 64, TextLimit::Local), left)?;
+        keep(counted(locals.len(), LOCAL_LIMIT, TextLimit::Local), left)?;
         let (next, behind) = slot(alloc, None, behind)?;
         locals.push(next)?;
         rest = behind;
@@ -111,13 +113,16 @@ fn locals(alloc: Global, params: usize, text: &[u8]) -> Result<(Vec<Slot>, &[u8]
 /// The registers of a function, and the text behind them.
 #[tactic(auto, using(crate::proofs::Ends::regs_end, ir_model::proofs::NoExcess::counted_none))]
 fn regs(alloc: Global, params: usize, text: &[u8]) -> Result<(Vec<Slot>, &[u8]), ReadError>
-    requires { params ≤ 4 }
+    requires { params ≤ parameter_limit }
     ensures { Reads (λ x. map slot_of x.0.items) (grammar.spell_regs as_found) (Expected.Regs params ∷ []) (Expected.First 0 0 ∷ []) (placed text.now) (λ x. placed x.1.now) result }
 {
     let mut regs = Vec::new(alloc);
     let mut rest = text;
     while let Some((left, behind)) = behind_word(Keyword::Reg, rest) {
-        keep(counted(params + regs.len(), 120, TextLimit::Register), left)?;
+        keep(
+            counted(params + regs.len(), REGISTER_LIMIT, TextLimit::Register),
+            left,
+        )?;
         let (next, behind) = slot(alloc, None, behind)?;
         regs.push(next)?;
         rest = behind;
@@ -143,7 +148,7 @@ struct Head {
 
 /// A function behind the word `func`, up to its opening brace, and the text behind it.
 fn function_head(alloc: Global, text: &[u8]) -> Result<(Head, &[u8]), ReadError>
-    ensures limit { IfOk result (λ x. length x.0.params.items ≤ 4) }
+    ensures limit { IfOk result (λ x. length x.0.params.items ≤ parameter_limit) }
     ensures read { ReadsTo (λ x. x.0) (λ h. grammar.spell_head as_found h.name (map slot_of h.params.items) (result_of h.outcome)) Expected.func_rest (λ x. Expected.Locals 0 (length x.0.params.items) ∷ []) (placed text.now) (λ x. placed x.1.now) result }
 {
     let (name, rest) = name(alloc, text)?;
@@ -163,7 +168,7 @@ fn function_head(alloc: Global, text: &[u8]) -> Result<(Head, &[u8]), ReadError>
 
 /// A function behind its opening brace, and the text behind it.
 fn function_body(alloc: Global, params: usize, text: &[u8]) -> Result<(Body, &[u8]), ReadError>
-    requires { params ≤ 4 }
+    requires { params ≤ parameter_limit }
     ensures some { IfOk result (λ x. 0 < length x.0.blocks.items) }
     ensures read { Reads (λ x. x.0) (λ b. grammar.spell_body as_found (map slot_of b.locals.items) (map slot_of b.regs.items) b.blocks.items) (Expected.Locals 0 params ∷ []) [] (placed text.now) (λ x. placed x.1.now) result }
 {
@@ -215,8 +220,8 @@ fn func_behind(alloc: Global, text: &[u8]) -> Result<(Func, &[u8]), ReadError>
 /// The functions of a file behind so many others and the closing brace, and the text behind it.
 #[tactic(auto, using(crate::proofs::Ends::funcs_end, ir_model::proofs::NoExcess::counted_none, crate::proofs::Separated::each_push))]
 fn funcs(alloc: Global, before: usize, text: &[u8]) -> Result<(Vec<Func>, &[u8]), ReadError>
-    requires { before ≤ 1024 }
-    ensures limit { IfOk result (λ x. before + length x.0.items ≤ 1024) }
+    requires { before ≤ function_limit }
+    ensures limit { IfOk result (λ x. before + length x.0.items ≤ function_limit) }
     ensures blocks { IfOk result (λ x. HasBlocks (map func_of x.0.items)) }
     ensures read { ReadsFuncs before (placed text.now) placed result }
 {
@@ -224,7 +229,7 @@ fn funcs(alloc: Global, before: usize, text: &[u8]) -> Result<(Vec<Func>, &[u8])
     let mut rest = text;
     while let Some((left, behind)) = behind_word(Keyword::Func, rest) {
         keep(
-            counted(before + funcs.len(), 1024, TextLimit::Function),
+            counted(before + funcs.len(), FUNCTION_LIMIT, TextLimit::Function),
             left,
         )?;
         let (next, behind) = func_behind(alloc, behind)?;
@@ -237,8 +242,8 @@ fn funcs(alloc: Global, before: usize, text: &[u8]) -> Result<(Vec<Func>, &[u8])
 
 /// A file behind the word `file`, behind so many functions, and the text behind it.
 fn file_behind(alloc: Global, functions: usize, text: &[u8]) -> Result<(FileDecl, &[u8]), ReadError>
-    requires { functions ≤ 1024 }
-    ensures limit { IfOk result (λ x. functions + length x.0.funcs ≤ 1024) }
+    requires { functions ≤ function_limit }
+    ensures limit { IfOk result (λ x. functions + length x.0.funcs ≤ function_limit) }
     ensures blocks { IfOk result (λ x. HasBlocks (map func_of x.0.funcs)) }
     ensures read { ReadsFile functions (placed text.now) placed result }
 {
@@ -276,7 +281,7 @@ pub fn files(alloc: Global, text: &[u8]) -> Result<Vec<FileDecl>, ReadError>
     let mut functions = 0;
     let mut rest = text;
     while let Some((left, behind)) = next_file(rest)? {
-        keep(counted(files.len(), 1024, TextLimit::File), left)?;
+        keep(counted(files.len(), FILE_LIMIT, TextLimit::File), left)?;
         let (next, behind) = file_behind(alloc, functions, behind)?;
         functions += next.funcs.len();
         files.push(next)?;

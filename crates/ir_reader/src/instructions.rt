@@ -19,6 +19,7 @@ use crate::terminals::{mark, name, syntax};
 use crate::token::Token;
 use ir_model::firmware::{Inst, Term};
 use ir_model::name::Name;
+use ir_model::text_limits::INSTRUCTION_LIMIT;
 use ir_model::token::{Keyword, Mark, TextLimit};
 use list_vec::ListVec;
 use std::alloc::Global;
@@ -197,7 +198,7 @@ pub fn line(alloc: Global, before: usize, text: &[u8]) -> Result<(Step, &[u8]), 
         Token::Name(word) => {
             keep(
                 or_else(
-                    counted(before, 16384, TextLimit::Instruction),
+                    counted(before, INSTRUCTION_LIMIT, TextLimit::Instruction),
                     word_excess(word),
                 ),
                 left,
@@ -208,12 +209,18 @@ pub fn line(alloc: Global, before: usize, text: &[u8]) -> Result<(Step, &[u8]), 
             Ok((Step::Inst(inst), rest))
         }
         Token::Key(Keyword::Store) => {
-            keep(counted(before, 16384, TextLimit::Instruction), left)?;
+            keep(
+                counted(before, INSTRUCTION_LIMIT, TextLimit::Instruction),
+                left,
+            )?;
             let ((to, from), rest) = two_names(alloc, rest)?;
             Ok((Step::Inst(Inst::Store { to, from }), rest))
         }
         Token::Key(Keyword::Call) => {
-            keep(counted(before, 16384, TextLimit::Instruction), left)?;
+            keep(
+                counted(before, INSTRUCTION_LIMIT, TextLimit::Instruction),
+                left,
+            )?;
             let ((func, args), rest) = called(alloc, rest)?;
             Ok((
                 Step::Inst(Inst::Call {
@@ -225,7 +232,10 @@ pub fn line(alloc: Global, before: usize, text: &[u8]) -> Result<(Step, &[u8]), 
             ))
         }
         Token::Key(Keyword::Icall) => {
-            keep(counted(before, 16384, TextLimit::Instruction), left)?;
+            keep(
+                counted(before, INSTRUCTION_LIMIT, TextLimit::Instruction),
+                left,
+            )?;
             let ((func, args), rest) = called(alloc, rest)?;
             Ok((
                 Step::Inst(Inst::ICall {

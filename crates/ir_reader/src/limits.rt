@@ -5,6 +5,7 @@ ghost use Rattle.ir_model.specs.Lines as lines;
 ghost use Rattle.ir_reader.specs.Reading.{Keeps};
 
 use crate::error::{Fault, FaultKind, ReadError};
+use ir_model::text_limits::{ARRAY_LIMIT, DEPTH_LIMIT, WORD_LIMIT};
 use ir_model::token::{Excess, TextLimit};
 
 /// Where so many of a kind stand before, and at most so many may.
@@ -18,11 +19,11 @@ pub fn counted(before: usize, most: usize, limit: TextLimit) -> Option<Excess>
     }
 }
 
-/// A word of more than 64 bytes.
+/// A word of too many bytes.
 pub fn word_excess(word: &[u8]) -> Option<Excess>
     ensures { result ≡ lines.word_excess word.now }
 {
-    if word.len() <= 64 {
+    if word.len() <= WORD_LIMIT {
         None
     } else {
         Some(Excess::Passes(TextLimit::Name))
@@ -40,11 +41,11 @@ pub fn number_excess(number: u64, otherwise: Option<Excess>) -> Option<Excess>
     }
 }
 
-/// An array's length outside 1 to 65,536.
+/// An array's length of 0, or of too many elements.
 pub fn length_excess(number: u64) -> Option<Excess>
     ensures { result ≡ lines.length_excess number }
 {
-    let excess = if 0 < number && number <= 65536 {
+    let excess = if 0 < number && number <= ARRAY_LIMIT {
         None
     } else {
         Some(Excess::Passes(TextLimit::Array))
@@ -52,11 +53,11 @@ pub fn length_excess(number: u64) -> Option<Excess>
     number_excess(number, excess)
 }
 
-/// A type in more than 7 others, or else something else.
+/// A type in too many others, or else something else.
 pub fn depth_excess(around: u32, otherwise: Option<Excess>) -> Option<Excess>
     ensures { result ≡ lines.depth_excess around otherwise }
 {
-    if around < 8 {
+    if around < DEPTH_LIMIT {
         otherwise
     } else {
         Some(Excess::Passes(TextLimit::Depth))

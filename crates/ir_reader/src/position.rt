@@ -2,6 +2,7 @@
 
 ghost use Rattle.std.specs.Prelude.{◌≡◌, ◌≤◌, ◌+◌, length, take, count_by, ◌==◌};
 ghost use Rattle.std.specs.List.{suffix_len};
+ghost use Rattle.ir_model.specs.TextLimits.{text_limit};
 ghost use Rattle.ir_model.specs.Texts.{is_inside_line};
 
 use ir_model::token::Pos;
@@ -22,7 +23,7 @@ fn line_bytes(front: &[u8]) -> usize
 /// The place behind so many bytes: lines and columns count from 1, columns in bytes.
 pub fn position(text: &[u8], at: usize) -> Pos
     requires within { at ≤ length text.now }
-    requires short { length text.now ≤ 4194304 }
+    requires short { length text.now ≤ text_limit }
     ensures line { result.line ≡ 1 + count_by (λ b. b == 10) (take at text.now) }
     ensures col { result.col ≡ 1 + suffix_len is_inside_line (take at text.now) }
 {

@@ -9,6 +9,7 @@ ghost use Rattle.ir_reader.specs.Scan.{placed};
 ghost use Rattle.ir_grammar.specs.Spelling as grammar;
 ghost use Rattle.ir_reader.specs.Spelling.{as_found};
 ghost use Rattle.std.specs.Prelude.{◌≤◌, length, OnOk, IfErr, IsUtf8};
+ghost use Rattle.ir_model.specs.TextLimits.{text_limit};
 ghost use Rattle.ir_model.specs.Texts.{IsText};
 ghost use Rattle.ir_reader.specs.First.{IsFirst, IsAccepted};
 ghost use Rattle.ir_reader.specs.Refusals.{IsPlacedFault, IsNotUtf8, Refuses};
@@ -44,7 +45,7 @@ fn firmware(alloc: Global, text: &[u8]) -> Result<Firmware, ReadError>
 /// A fault at its place.
 fn placed_fault(text: &[u8], fault: Fault) -> TextFault
     requires within { fault.left ≤ length text.now }
-    requires short { length text.now ≤ 4194304 }
+    requires short { length text.now ≤ text_limit }
     ensures { IsPlacedFault text.now fault result }
 {
     let pos = position(text, text.len() - fault.left);
@@ -57,7 +58,7 @@ fn placed_fault(text: &[u8], fault: Fault) -> TextFault
 
 /// The bytes as UTF-8, or the first that are not.
 fn utf8(text: &[u8]) -> Result<(), TextFault>
-    requires { length text.now ≤ 4194304 }
+    requires { length text.now ≤ text_limit }
     ensures ok { OnOk result (IsUtf8 text.now) }
     ensures err { IfErr result (IsNotUtf8 text.now) }
 {
@@ -71,7 +72,7 @@ fn utf8(text: &[u8]) -> Result<(), TextFault>
 
 /// The firmware of a text in UTF-8, or a fault.
 fn read_utf8(alloc: Global, text: &[u8]) -> Result<Firmware, TextFault>
-    requires short { length text.now ≤ 4194304 }
+    requires short { length text.now ≤ text_limit }
     requires utf8 { IsUtf8 text.now }
     ensures found { IfOk result (λ w. IsText (firmware_of w) text.now) }
     ensures refused { IfErr result (Refuses text.now) }
@@ -86,7 +87,7 @@ fn read_utf8(alloc: Global, text: &[u8]) -> Result<Firmware, TextFault>
 /// The firmware of a text, or the first fault of the text.
 #[tactic(auto, using(crate::proofs::Texts::accepted, crate::proofs::Texts::read_same))]
 pub fn read(alloc: Global, text: &[u8]) -> Result<Firmware, TextFault>
-    requires { length text.now ≤ 4194304 }
+    requires { length text.now ≤ text_limit }
     // What is read is what the text says.
     ensures found { IfOk result (λ w. IsText (firmware_of w) text.now) }
     // A text is read, unless memory runs out.

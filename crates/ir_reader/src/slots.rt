@@ -3,6 +3,7 @@
 ghost use Rattle.std.specs.Prelude.{◌≡◌, ◌<◌, ◌≤◌, [], ◌∷◌, ◌++◌, map, length, OnOk, IfOk, None};
 ghost use Rattle.ir_model.specs.Types.{type_of, result_of};
 ghost use Rattle.ir_model.specs.Plain.{slot_of};
+ghost use Rattle.ir_model.specs.TextLimits.{parameter_limit};
 ghost use Rattle.ir_model.specs.declared.token.Mark.TheVariants as mark;
 ghost use Rattle.ir_reader.specs.Machine as Expected;
 ghost use Rattle.ir_reader.specs.Reading.{Reads, ReadsTo};
@@ -16,6 +17,7 @@ use crate::terminals::{behind_mark, mark, name, name_behind};
 use crate::types::ty;
 use ir_model::firmware::Slot;
 use ir_model::name::Name;
+use ir_model::text_limits::{FIELD_LIMIT, PARAMETER_LIMIT};
 use ir_model::token::{Excess, Mark, TextLimit};
 use ir_model::types::Ty;
 use std::alloc::Global;
@@ -41,7 +43,7 @@ pub fn fields(alloc: Global, text: &[u8]) -> Result<(Vec<Slot>, &[u8]), ReadErro
     let (first, mut rest) = slot(alloc, None, text)?;
     fields.push(first)?;
     while let Some(behind) = behind_mark(Mark::Comma, rest) {
-        let first = counted(fields.len(), 64, TextLimit::Field);
+        let first = counted(fields.len(), FIELD_LIMIT, TextLimit::Field);
         let (next, behind) = slot(alloc, first, behind)?;
         fields.push(next)?;
         rest = behind;
@@ -53,7 +55,7 @@ pub fn fields(alloc: Global, text: &[u8]) -> Result<(Vec<Slot>, &[u8]), ReadErro
 /// The parameters of a function and the closing bracket, and the text behind it.
 #[tactic(auto, using(ir_model::proofs::NoExcess::counted_none, crate::proofs::Ends::params_begin, crate::proofs::Ends::params_end))]
 pub fn params(alloc: Global, text: &[u8]) -> Result<(Vec<Slot>, &[u8]), ReadError>
-    ensures limit { IfOk result (λ x. length x.0.items ≤ 4) }
+    ensures limit { IfOk result (λ x. length x.0.items ≤ parameter_limit) }
     ensures read { ReadsTo (λ x. map slot_of x.0.items) (grammar.spell_params as_found) (Expected.Params ∷ []) (λ x. Expected.body (length x.0.items)) (placed text.now) (λ x. placed x.1.now) result }
 {
     let mut params = Vec::new(alloc);
@@ -63,7 +65,7 @@ pub fn params(alloc: Global, text: &[u8]) -> Result<(Vec<Slot>, &[u8]), ReadErro
     let (first, mut rest) = slot(alloc, None, text)?;
     params.push(first)?;
     while let Some(behind) = behind_mark(Mark::Comma, rest) {
-        let first = counted(params.len(), 4, TextLimit::Param);
+        let first = counted(params.len(), PARAMETER_LIMIT, TextLimit::Param);
         let (next, behind) = slot(alloc, first, behind)?;
         params.push(next)?;
         rest = behind;
@@ -84,7 +86,7 @@ pub fn args(alloc: Global, text: &[u8]) -> Result<(Vec<Name>, &[u8]), ReadError>
     let (first, mut rest) = name(alloc, text)?;
     args.push(first)?;
     while let Some(behind) = behind_mark(Mark::Comma, rest) {
-        let first = counted(args.len(), 4, TextLimit::Param);
+        let first = counted(args.len(), PARAMETER_LIMIT, TextLimit::Param);
         let (next, behind) = name_behind(alloc, first, behind)?;
         args.push(next)?;
         rest = behind;

@@ -16,6 +16,7 @@ use crate::limits::{counted, depth_excess, keep, length_excess, or_else, word_ex
 use crate::terminals::{behind_mark, mark, syntax};
 use crate::token::Token;
 use ir_model::name::Name;
+use ir_model::text_limits::PARAMETER_LIMIT;
 use ir_model::token::{Excess, Keyword, Mark, TextLimit};
 use ir_model::types::{Signature, Ty};
 use list_vec::ListVec;
@@ -127,7 +128,7 @@ fn row(alloc: Global, around: u32, text: &[u8]) -> Result<(Vec<Ty>, &[u8]), Read
     let (first, mut rest) = ty(alloc, None, around, text)?;
     types.push(first)?;
     while let Some(behind) = behind_mark(Mark::Comma, rest) {
-        let first = counted(types.len(), 4, TextLimit::Param);
+        let first = counted(types.len(), PARAMETER_LIMIT, TextLimit::Param);
         let (next, behind) = ty(alloc, first, around, behind)?;
         types.push(next)?;
         rest = behind;

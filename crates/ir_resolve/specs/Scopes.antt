@@ -10,6 +10,8 @@ use Rattle.ir_model.specs.declared.types.Ty.{Ty}
 use Rattle.ir_model.specs.Types.{type_of}
 use Rattle.ir_model.specs.Plain.{PlainFunc, struct_of, func_of, names_of, types_of, regs_of}
 use Rattle.ir_model.specs.Layout.{Known, known, shape}
+use Rattle.ir_model.specs.TextLimits.{periph_limit, global_limit, function_limit, local_limit}
+use Rattle.ir_model.specs.FewItems.{HasFewLocals}
 use Rattle.ir_model.specs.Typing.{object_limit}
 use Rattle.ir_model.specs.Resolve as resolving
 use Rattle.ir_model.specs.Resolve.{labels_of}
@@ -28,14 +30,14 @@ pub record AreTables (t : FuncTables) : Type 0 where
   pub registers : t.registers ≡ names_of (regs_of (named_func t))
   pub types : map (λ u. type_of u.now) t.types ≡ types_of (regs_of (named_func t))
   pub locals : t.locals ≡ names_of (named_func t).locals
-  pub few : length t.locals ≤ 64
+  pub few : length t.locals ≤ local_limit
   pub labels : t.labels ≡ labels_of (named_func t)
 
 -- names that are as few as the limits of a text allow
 pub record AreFew (s : code.Scope) : Type 0 where
-  pub funcs : length s.funcs ≤ 1024
-  pub globals : length s.globals ≤ 1024
-  pub periphs : length s.periphs ≤ 64
+  pub funcs : length s.funcs ≤ function_limit
+  pub globals : length s.globals ≤ global_limit
+  pub periphs : length s.periphs ≤ periph_limit
 
 -- a type of which an object may be
 abbrev pub IsSmall : List Known → Ty → Type 0
@@ -49,7 +51,7 @@ AreSmallSlots ks ss = All (λ (s : Slot). IsSmall ks s.ty) ss
 
 -- a function with few locals, and small ones
 pub record IsSmallFunc (ks : List Known) (f : Func) : Type 0 where
-  pub few : length f.locals ≤ 64
+  pub few : HasFewLocals f
   pub small : AreSmallSlots ks f.locals
 
 abbrev pub AreSmallFuncs : List Known → List (Bor Func) → Type 0

@@ -5,6 +5,7 @@ ghost use Rattle.ir_model.specs.Layout.{known};
 ghost use Rattle.ir_model.specs.Plain.{firmware_of, func_of, struct_of};
 ghost use Rattle.ir_model.specs.Canonical.{IsWithinLimits};
 ghost use Rattle.ir_model.specs.Typing.{IsTyped};
+ghost use Rattle.ir_model.specs.TextLimits.{file_limit};
 ghost use Rattle.ir_model.specs.Resolve as definition;
 ghost use Rattle.ir_program.specs.Seen.{program_of, variable_of, span_of, routine_of, cell_count, cell_counts, local_counts, HasCounts};
 ghost use Rattle.ir_program.specs.declared.program.Variable.{Variable as VariableOf};
@@ -51,7 +52,7 @@ fn numbered<'a>(
     sources: &[&'a Func],
 ) -> Result<Parts<'a>, AllocError>
     requires few { AreFew scope.now }
-    requires files { length firmware.now.files ≤ 1024 }
+    requires files { length firmware.now.files ≤ file_limit }
     requires globals { AreSmallGlobals (known (map struct_of scope.now.layouts)) firmware.now.globals }
     requires funcs { AreSmallFuncs (known (map struct_of scope.now.layouts)) sources.now }
     ensures globals { IfOk result (λ p. map (variable_of (known (map struct_of scope.now.layouts))) p.globals ≡ map (definition.resolved_global (scope_of scope.now)) (firmware_of firmware.now).globals) }

@@ -4,6 +4,7 @@ ghost use Rattle.std.specs.Prelude.{◌≡◌, ◌≤◌, ◌++◌, length, map,
 ghost use Rattle.ir_model.specs.Types.{type_of};
 ghost use Rattle.ir_model.specs.Layout.{known, shape, Shape};
 ghost use Rattle.ir_model.specs.Plain.{PlainFunc, PlainFile, struct_of, slot_of, func_of, file_of, firmware_of, types_of, regs_of, funcs_of};
+ghost use Rattle.ir_model.specs.TextLimits.{file_limit};
 ghost use Rattle.ir_model.specs.Resolve as resolving;
 ghost use Rattle.ir_program.specs.Seen.{routine_of, local_counts, cell_counts};
 ghost use Rattle.ir_program.specs.Storages.{shape_of};
@@ -132,7 +133,7 @@ fn push_times(numbers: &mut Vec<u32>, number: u32, times: usize) -> Result<(), A
 ///
 /// There is no memory for them.
 pub(crate) fn file_numbers(alloc: Global, firmware: &Firmware) -> Result<ListVec<u32>, AllocError>
-    requires { length firmware.now.files ≤ 1024 }
+    requires { length firmware.now.files ≤ file_limit }
     ensures { IfOk result (λ ns. ns ≡ resolving.files_from 0 (firmware_of firmware.now).files) }
 {
     let files = firmware.files.as_slice();

@@ -1,8 +1,10 @@
 //! The names of a firmware and of a function.
 
-ghost use Rattle.std.specs.Prelude.{◌≡◌, ◌≤◌, map, length, IfOk};
+ghost use Rattle.std.specs.Prelude.{◌≡◌, map, IfOk};
 ghost use Rattle.ir_model.specs.Plain.{firmware_of, func_of, funcs_of};
 ghost use Rattle.ir_model.specs.Resolve as resolving;
+ghost use Rattle.ir_model.specs.Typing.{IsTyped};
+ghost use Rattle.ir_model.specs.FewItems.{HasFewLocals};
 ghost use Rattle.ir_program.specs.Seen.{target_of};
 ghost use Rattle.ir_program.specs.Storages.{pointee_of};
 ghost use Rattle.ir_resolve.specs.Scopes.{scope_of, named_func, AreTables, AreFew};
@@ -13,6 +15,7 @@ use ir_model::firmware::{Firmware, Func};
 use ir_model::name::Name;
 use ir_model::types::Ty;
 use ir_program::program::Target;
+use layouts::fault::LayoutFault;
 use layouts::table::Layouts;
 use name_tables::{
     func_names, global_names, label_names, local_names, periph_names, register_names,
@@ -20,25 +23,28 @@ use name_tables::{
 use std::alloc::{AllocError, Global};
 
 fn struct_layouts(alloc: Global, firmware: &Firmware) -> Result<Layouts<'_>, AllocError>
+    requires { IsTyped (firmware_of firmware.now) }
     ensures { IfOk result (λ l. l ≡ firmware.now.structs) }
 {
     match Layouts::of(alloc, firmware.structs.as_slice()) {
         Ok(layouts) => Ok(layouts),
-        Err(_) => Err(AllocError),
+        Err(LayoutFault::NoMemory) => Err(AllocError),
+        Err(LayoutFault::TooLarge) => unreachable!(),
     }
 }
 
-/// The names of a firmware that has these functions.
+/// The names of a typed firmware that has these functions.
 ///
 /// # Errors
 ///
-/// There is no memory for them, or a struct has more than 65,536 bytes.
+/// There is no memory for them.
 pub(crate) fn named_scope<'a>(
     alloc: Global,
     firmware: &'a Firmware,
     funcs: &[&'a Func],
 ) -> Result<Scope<'a>, AllocError>
-    requires { map (λ f. func_of f.now) funcs.now ≡ funcs_of (firmware_of firmware.now) }
+    requires typed { IsTyped (firmware_of firmware.now) }
+    requires funcs { map (λ f. func_of f.now) funcs.now ≡ funcs_of (firmware_of firmware.now) }
     ensures { IfOk result (λ s. scope_of s ≡ resolving.scope_of (firmware_of firmware.now)) }
 {
     let globals = global_names(alloc, firmware.globals.as_slice())?;
@@ -59,7 +65,7 @@ pub(crate) fn named_scope<'a>(
 ///
 /// There is no memory for them.
 pub(crate) fn func_tables(alloc: Global, source: &Func) -> Result<FuncTables<'_>, AllocError>
-    requires { length source.now.locals ≤ 64 }
+    requires { HasFewLocals source.now }
     ensures tables { IfOk result AreTables }
     ensures same { IfOk result (λ t. t.source.now ≡ source.now) }
 {

@@ -1,17 +1,11 @@
 -- What cells hold before they are written, by their types.
-use Rattle.std.proofs.Common.{◌≡◌, ℕ, zero, suc, ◌+◌, ◌<◌, List, [], ◌∷◌, ◌++◌, length, map, take, get_or, refl, ap, sym, ◌∙◌, arith}
+use Rattle.std.proofs.Common.{◌≡◌, ℕ, ◌+◌, ◌<◌, List, [], ◌∷◌, ◌++◌, length, map, take, get_or, refl, ap, sym, ◌∙◌}
 use Rattle.std.proofs.lemmas.List.{map-append, take_more}
 use Rattle.ir_model.specs.Layout.{CellPlace}
 use Rattle.ir_model.specs.Resolved.{Value}
 use Rattle.ir_model.specs.Resolve.{filled, zero_of}
 use Rattle.ir_model.specs.State.{entered, zero_cells}
 use Rattle.layouts.specs.Cells.{types_of}
-
--- a list of which less than all that was asked for is there is whole
-pub take_all : {A : Type 0} (m : ℕ) (xs : List A) → length (take m xs) < m → take m xs ≡ xs
-take_all zero xs l = absurd (omega arith)
-take_all (suc m) [] l = refl
-take_all (suc m) (x ∷ xs) l = ap (λ ys. x ∷ ys) (take_all m xs (omega arith))
 
 pub filled_entered : (cs : List CellPlace) (vs : List Value) → filled cs vs ≡ entered vs (types_of cs)
 filled_entered [] vs = refl

@@ -1,3 +1,6 @@
+mod Called
+mod Checked
+mod Counts
 mod Elements
 mod Filling
 mod Rising

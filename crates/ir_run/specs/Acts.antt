@@ -2,7 +2,7 @@
 -- Frames, ends and what instructions ask for, as the definition's.
 use Rattle.std.specs.Prelude.{map}
 use Rattle.ir_model.specs.State as state
-use Rattle.ir_model.specs.State.{SourceFault, SourceEnd}
+use Rattle.ir_model.specs.State.{SourceFault, SourceEnd, StepEffect, SourceTurn}
 use Rattle.ir_model.specs.Step as step
 use Rattle.ir_program.specs.Values.{value_of, instance_of}
 use Rattle.ir_program.specs.Storages.{pointee_of}
@@ -42,3 +42,16 @@ act_of (Fails f) = step.Fails (fault_of f)
 act_of (Loads to a t) = step.Loads to (instance_of a.instance) a.offset (pointee_of t)
 act_of (Stores a t v) = step.Stores (instance_of a.instance) a.offset (pointee_of t) (value_of v)
 act_of (Enters f vs) = step.Enters f (map value_of vs)
+
+-- a function is entered
+abbrev pub IsEntry : step.SourceAct → Type 0
+IsEntry (step.Enters f vs) = Unit {0}
+IsEntry _ = ⊥
+
+abbrev pub IsCalled : StepEffect → Type 0
+IsCalled (state.Called f b k g) = Unit {0}
+IsCalled _ = ⊥
+
+-- a step calls a function
+abbrev pub IsCall : SourceTurn → Type 0
+IsCall t = IsCalled t.did

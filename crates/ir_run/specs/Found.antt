@@ -1,6 +1,6 @@
 -- Beyond the program's claim: only laws, proofs and functions inside the tool cite this file.
 -- Where the frame of a number stands among those that wait.
-use Rattle.std.specs.Prelude.{◌≡◌, ℕ, suc, ◌<◌, List, [], ◌∷◌, length, map, reverse, Option, Some, None}
+use Rattle.std.specs.Prelude.{◌≡◌, ℕ, ◌<◌, List, length, map, reverse, Option, Some, None}
 use Rattle.std.proofs.Math.ListN.{get_or, set}
 use Rattle.ir_model.specs.Resolved.{Value}
 use Rattle.ir_model.specs.State as state

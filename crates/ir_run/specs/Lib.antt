@@ -1,8 +1,11 @@
 pub mod Acts
 pub mod Cells
 pub mod Codes
+pub mod Counts
+pub mod Elements
 pub mod Found
 pub mod Phases
+pub mod Places
 pub mod Runs
 pub mod Standing
 pub mod States

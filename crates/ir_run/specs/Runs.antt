@@ -1,6 +1,11 @@
 -- Beyond the program's claim: only laws, proofs and functions inside the tool cite this file.
 -- Runs of a source as callers see them, and what a step answers.
-use Rattle.std.specs.Prelude.{◌≡◌, ℕ, suc, ◌<◌, ◌^◌, List, Some, None}
+use Rattle.std.specs.Prelude.{◌≡◌, ℕ, suc, ◌<◌, ◌≤◌, ◌^◌, List, Some, None}
+use Rattle.ir_model.specs.Canonical.{IsWithinLimits}
+use Rattle.ir_model.specs.Plain.{PlainFirmware}
+use Rattle.ir_model.specs.Resolve.{resolve}
+use Rattle.ir_model.specs.Runs.{source_after}
+use Rattle.ir_model.specs.Typing.{IsTyped}
 use Rattle.ir_model.specs.Resolved.{Program}
 use Rattle.ir_model.specs.State.{SourceState, Running, SourceTurn}
 use Rattle.ir_model.specs.State as state
@@ -17,9 +22,25 @@ pub record RunState : Type 0 where
   pub state : SourceState
   pub taken : ℕ
 
--- what is so of every run
+-- the program of a firmware that passes the checks and is within the limits
+pub record IsChecked (p : Program) : Type 0 where
+  pub firmware : PlainFirmware
+  pub typed : IsTyped firmware
+  pub within : IsWithinLimits firmware
+  pub is : p ≡ resolve firmware
+
+-- no more frames than so many were made
+abbrev pub HasMade : ℕ → SourceState → Type 0
+HasMade n (Running frames m) = m.made ≤ n
+HasMade n (state.Ended e) = Unit {0}
+
+-- what is so of every run: it is where its steps lead from the start, on some recorded input, and each made at most one frame
 pub record IsRun (r : RunState) : Type 0 where
+  pub queues : List (List ℕ)
+  pub checked : IsChecked r.program
+  pub reached : r.state ≡ source_after r.program r.compartments queues r.taken
   pub frames : HasOrderedFrames r.state
+  pub made : HasMade (suc r.taken) r.state
   pub few : r.taken < 2 ^ 64
 
 abbrev pub IsRunning : SourceState → Type 0

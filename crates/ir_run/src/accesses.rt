@@ -1,6 +1,6 @@
 //! Accesses of globals.
 
-ghost use Rattle.std.specs.Prelude.{◌≡◌, ◌∷◌, [], map, IfOk, OnOk, OnErr};
+ghost use Rattle.std.specs.Prelude.{◌≡◌, ◌∷◌, [], map};
 ghost use Rattle.std.proofs.Math.ListN.{get_or, set};
 ghost use Rattle.ir_model.specs.Layout.{cell_at};
 ghost use Rattle.ir_model.specs.Resolved.{cells_of_global};
@@ -10,6 +10,7 @@ ghost use Rattle.ir_program.specs.Values.{value_of};
 ghost use Rattle.ir_program.specs.Storages.{pointee_of};
 ghost use Rattle.ir_program.specs.Seen.{program_of};
 ghost use Rattle.ir_run.specs.Acts.{frame_of};
+ghost use Rattle.ir_run.specs.Places.{HasNext};
 ghost use Rattle.ir_run.specs.States.{running_of, memory_of, Answers};
 
 use crate::cells::cell_number;
@@ -19,20 +20,14 @@ use crate::registers::{advance, write_register};
 use ir_model::types::Ty;
 use ir_program::program::Program;
 use ir_program::value::Value;
-use std::alloc::AllocError;
 
 /// Writes a register of the running frame, and goes on.
-///
-/// # Errors
-///
-/// There is no number for the next place; the state is as before.
-pub fn keep(parts: &mut Parts, to: usize, value: Value) -> Result<(), AllocError>
-    ensures ok { OnOk result (running_of parts.new ≡ state.Running (step.onward (step.with_register (frame_of parts.old.top) to (value_of value)) ∷ map frame_of parts.old.below) (memory_of parts.old)) }
-    ensures err { OnErr result (running_of parts.new ≡ running_of parts.old) }
+pub fn keep(parts: &mut Parts, to: usize, value: Value)
+    requires { HasNext parts.old.top.place }
+    ensures { running_of parts.new ≡ state.Running (step.onward (step.with_register (frame_of parts.old.top) to (value_of value)) ∷ map frame_of parts.old.below) (memory_of parts.old) }
 {
-    advance(&mut parts.top)?;
+    advance(&mut parts.top);
     write_register(&mut parts.top, to, value);
-    Ok(())
 }
 
 /// The number of the cell of a type at an offset of a global.
@@ -50,66 +45,47 @@ pub fn global_cell(program: &Program, global: u32, at: u32, ty: Option<&Ty>) -> 
 
 /// A load of a cell of a global.
 #[tactic(auto, using(crate::proofs::Writing::seen_cell))]
-pub fn load_global(
-    parts: &mut Parts,
-    to: usize,
-    global: u32,
-    cell: Option<u32>,
-) -> Result<SourceStep, AllocError>
-    ensures ok { IfOk result (λ a. Answers (step.load_cell (frame_of parts.old.top) (map frame_of parts.old.below) (memory_of parts.old) to (state.GlobalObject global) (get_or (memory_of parts.old).globals global []) cell) a parts.new) }
-    ensures err { OnErr result (running_of parts.new ≡ running_of parts.old) }
+pub fn load_global(parts: &mut Parts, to: usize, global: u32, cell: Option<u32>) -> SourceStep
+    requires { HasNext parts.old.top.place }
+    ensures { Answers (step.load_cell (frame_of parts.old.top) (map frame_of parts.old.below) (memory_of parts.old) to (state.GlobalObject global) (get_or (memory_of parts.old).globals global []) cell) result parts.new }
 {
     match cell {
-        None => Ok(SourceStep::Ended(SourceEnd::Fault(FaultKind::NoCell))),
+        None => SourceStep::Ended(SourceEnd::Fault(FaultKind::NoCell)),
         Some(cell) => {
             let value = parts.globals.at(global as usize, cell as usize);
-            keep(parts, to, value)?;
-            Ok(SourceStep::Ran)
+            keep(parts, to, value);
+            SourceStep::Ran
         }
     }
 }
 
 /// Writes a cell of a global, and goes on.
-///
-/// # Errors
-///
-/// There is no number for the next place; the state is as before.
 #[tactic(auto, using(crate::proofs::Writing::written_global))]
-pub fn write_global(
-    parts: &mut Parts,
-    global: u32,
-    cell: u32,
-    value: Value,
-) -> Result<(), AllocError>
-    ensures ok { OnOk result (running_of parts.new ≡ state.Running (step.onward (frame_of parts.old.top) ∷ map frame_of parts.old.below) (record (memory_of parts.old) { globals = set (memory_of parts.old).globals global (set (get_or (memory_of parts.old).globals global []) cell (value_of value)) })) }
-    ensures err { OnErr result (running_of parts.new ≡ running_of parts.old) }
+pub fn write_global(parts: &mut Parts, global: u32, cell: u32, value: Value)
+    requires { HasNext parts.old.top.place }
+    ensures { running_of parts.new ≡ state.Running (step.onward (frame_of parts.old.top) ∷ map frame_of parts.old.below) (record (memory_of parts.old) { globals = set (memory_of parts.old).globals global (set (get_or (memory_of parts.old).globals global []) cell (value_of value)) }) }
 {
-    advance(&mut parts.top)?;
+    advance(&mut parts.top);
     parts.globals.put(global as usize, cell as usize, value);
-    Ok(())
 }
 
 /// A store into a cell of a global.
-///
-/// # Errors
-///
-/// There is no number for the next place; the state is as before.
 pub fn store_global(
     parts: &mut Parts,
     global: u32,
     constant: bool,
     value: Value,
     cell: Option<u32>,
-) -> Result<SourceStep, AllocError>
-    ensures ok { IfOk result (λ a. Answers (step.store_global (frame_of parts.old.top) (map frame_of parts.old.below) (memory_of parts.old) global constant (value_of value) cell) a parts.new) }
-    ensures err { OnErr result (running_of parts.new ≡ running_of parts.old) }
+) -> SourceStep
+    requires { HasNext parts.old.top.place }
+    ensures { Answers (step.store_global (frame_of parts.old.top) (map frame_of parts.old.below) (memory_of parts.old) global constant (value_of value) cell) result parts.new }
 {
     match (cell, constant) {
-        (None, _) => Ok(SourceStep::Ended(SourceEnd::Fault(FaultKind::NoCell))),
-        (Some(_), true) => Ok(SourceStep::Ended(SourceEnd::Fault(FaultKind::Constant))),
+        (None, _) => SourceStep::Ended(SourceEnd::Fault(FaultKind::NoCell)),
+        (Some(_), true) => SourceStep::Ended(SourceEnd::Fault(FaultKind::Constant)),
         (Some(cell), false) => {
-            write_global(parts, global, cell, value)?;
-            Ok(SourceStep::Ran)
+            write_global(parts, global, cell, value);
+            SourceStep::Ran
         }
     }
 }

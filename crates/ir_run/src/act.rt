@@ -1,21 +1,21 @@
 //! What an instruction asks for.
 
-ghost use Rattle.std.specs.Prelude.{◌≡◌, ℕ, map, IfOk};
-ghost use Rattle.words.specs.Arithmetic.{word};
+ghost use Rattle.std.specs.Prelude.{◌≡◌, map, IfOk, OnErr};
 ghost use Rattle.ir_model.specs.Plain.{struct_of};
-ghost use Rattle.ir_model.specs.Layout.{known};
+ghost use Rattle.ir_model.specs.Layout.{known, shape};
 ghost use Rattle.ir_model.specs.Step as step;
 ghost use Rattle.ir_model.specs.Resolved as plain;
 ghost use Rattle.ir_program.specs.Values.{value_of};
 ghost use Rattle.ir_program.specs.Storages.{pointee_of};
 ghost use Rattle.ir_program.specs.Seen.{operation_of, target_of};
-ghost use Rattle.ir_run.specs.Acts.{frame_of, act_of};
+ghost use Rattle.ir_run.specs.Acts.{frame_of, act_of, IsEntry};
+ghost use Rattle.ir_run.specs.Elements.{HasSmallElement};
 
 use crate::arithmetic::{binary, bit, compared, number_in};
 use crate::frame::Frame;
 use crate::outcome::FaultKind;
 use crate::request::Act;
-use crate::sizes::pointee_size;
+use crate::sizes::element_size;
 use ir_model::types::Ty;
 use ir_program::program::{Operation, Target};
 use ir_program::value::{Address, Instance, Value};
@@ -61,11 +61,20 @@ fn register(frame: &Frame, number: usize) -> Value
 }
 
 #[tactic(auto, unfolding(ir_model::specs::Step::act))]
-fn element_at<'a>(frame: &Frame, to: usize, base: usize, index: usize, size: u32) -> Act<'a>
-    ensures { (exact : ℕ) → size ≡ word exact → act_of result ≡ step.act (frame_of frame.now) (plain.Elem to base index exact) }
+fn element_at<'a>(
+    layouts: &Layouts,
+    frame: &Frame,
+    to: usize,
+    base: usize,
+    index: usize,
+    element: Option<&Ty>,
+) -> Act<'a>
+    requires { HasSmallElement (frame_of frame.now) (plain.Elem to base index (shape (known (map struct_of layouts.now)) (pointee_of element)).size) }
+    ensures { act_of result ≡ step.act (frame_of frame.now) (plain.Elem to base index (shape (known (map struct_of layouts.now)) (pointee_of element.entry)).size) }
 {
     match register(frame, base).address() {
         Some(Address { instance, offset }) => {
+            let size = element_size(layouts, element);
             let behind = operations::multiply(number_in(register(frame, index)), size);
             Act::Sets {
                 to,
@@ -120,7 +129,8 @@ fn indirect<'a>(
     callee: usize,
     args: &[usize],
 ) -> Result<Act<'a>, AllocError>
-    ensures { IfOk result (λ a. act_of a ≡ step.with_code (step.register (frame_of frame.now) callee) (λ g. step.Enters g (map (step.register (frame_of frame.now)) args.now))) }
+    ensures ok { IfOk result (λ a. act_of a ≡ step.with_code (step.register (frame_of frame.now) callee) (λ g. step.Enters g (map (step.register (frame_of frame.now)) args.now))) }
+    ensures memory { OnErr result (IsEntry (step.with_code (step.register (frame_of frame.now) callee) (λ g. step.Enters g (map (step.register (frame_of frame.now)) args.now)))) }
 {
     match register(frame, callee) {
         Value::Code(func) => Ok(Act::Enters {
@@ -142,6 +152,10 @@ fn sets<'a>(to: usize, value: Value) -> Act<'a>
 }
 
 /// What an instruction of the running function asks for.
+///
+/// # Errors
+///
+/// It enters a function, and there is no memory for the arguments.
 #[tactic(auto, unfolding(ir_model::specs::Step::act))]
 pub fn act<'a>(
     alloc: Global,
@@ -149,7 +163,9 @@ pub fn act<'a>(
     frame: &Frame,
     operation: &Operation<'a>,
 ) -> Result<Act<'a>, AllocError>
-    ensures { IfOk result (λ a. act_of a ≡ step.act (frame_of frame.now) (operation_of (known (map struct_of layouts.now)) operation.now)) }
+    requires { HasSmallElement (frame_of frame.now) (operation_of (known (map struct_of layouts.now)) operation.now) }
+    ensures ok { IfOk result (λ a. act_of a ≡ step.act (frame_of frame.now) (operation_of (known (map struct_of layouts.now)) operation.now)) }
+    ensures memory { OnErr result (IsEntry (step.act (frame_of frame.now) (operation_of (known (map struct_of layouts.now)) operation.now))) }
 {
     match operation {
         Operation::Const { to, value } => Ok(sets(*to, Value::Number(*value))),
@@ -177,10 +193,7 @@ pub fn act<'a>(
             base,
             index,
             element,
-        } => {
-            let size = pointee_size(layouts, *element)?;
-            Ok(element_at(frame, *to, *base, *index, size))
-        }
+        } => Ok(element_at(layouts, frame, *to, *base, *index, *element)),
         Operation::Field { to, base, offset } => Ok(field(frame, *to, *base, *offset)),
         Operation::Load { to, from, ty } => Ok(load(frame, *to, *from, *ty)),
         Operation::Store { to, from, ty } => Ok(store(frame, *to, *from, *ty)),

@@ -8,8 +8,8 @@ ghost use Rattle.ir_model.specs.Step as step;
 ghost use Rattle.ir_program.specs.Values.{value_of};
 ghost use Rattle.ir_run.specs.declared.frame.Frame.{Frame};
 ghost use Rattle.ir_run.specs.Acts.{frame_of};
-ghost use Rattle.std.specs.List.{slice_get};
 ghost use Rattle.ir_run.specs.Found.{AreOrdered};
+ghost use Rattle.ir_run.specs.Places.{HasNext};
 
 use crate::frame::Frame;
 use crate::search::place_of;
@@ -17,19 +17,22 @@ use ir_program::value::Value;
 use std::alloc::{AllocError, Global};
 use std::marker::Model;
 
-/// Frames, the one that called last first.
+/// Frames that wait at their calls, the one that called last first.
 #[derive(Drop)]
 pub struct Below {
     frames: Vec<Frame>,
 }
 
 impl Model for Below {
-    ghost use Rattle.std.specs.Prelude.{List, reverse};
+    ghost use Rattle.std.specs.Prelude.{List, reverse, All};
     ghost use Rattle.ir_run.specs.declared.frame.Frame.{Frame};
+    ghost use Rattle.ir_run.specs.Places.{HasNext};
 
     ghost Value = { List Frame };
 
     ghost view = { λ s. reverse s.frames.items };
+
+    ghost invariant = { λ s. All (λ (f : Frame). HasNext f.place) s.frames.items };
 }
 
 impl Below {
@@ -44,6 +47,7 @@ impl Below {
 
     /// Puts a frame first; gives it back where there is no memory for it.
     pub fn put(&mut self, frame: Frame) -> Option<Frame>
+        requires { HasNext frame.place }
         ensures { MatchOption result (self.new ≡ frame ∷ self.old) (λ back. (back ≡ frame) × (self.new ≡ self.old)) }
     {
         match self.frames.push(frame) {
@@ -54,7 +58,7 @@ impl Below {
 
     /// Takes the first frame.
     pub fn pop(&mut self) -> Option<Frame>
-        ensures { MatchOption result (self.old ≡ []) (λ frame. self.old ≡ frame ∷ self.new) }
+        ensures { MatchOption result (self.old ≡ []) (λ frame. (self.old ≡ frame ∷ self.new) × HasNext frame.place) }
     {
         self.frames.pop()
     }
@@ -82,12 +86,5 @@ impl Below {
                 .locals
                 .put(usize::from(local), cell as usize, value);
         }
-    }
-
-    /// The first frame, where there is one.
-    pub fn first(&self) -> Option<&Frame>
-        ensures { option_copied result ≡ slice_get self.now 0 }
-    {
-        self.frames.last()
     }
 }

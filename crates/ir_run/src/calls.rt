@@ -1,13 +1,14 @@
 //! Calls, returns and block ends.
 
-ghost use Rattle.std.specs.Prelude.{◌≡◌, ◌∷◌, ◌+◌, suc, map, IfOk, OnOk, OnErr};
+ghost use Rattle.std.specs.Prelude.{◌≡◌, ◌∷◌, ◌-◌, ◌<◌, ◌^◌, suc, map, OnOk, OnErr};
 ghost use Rattle.std.proofs.Math.ListN.{get_or};
 ghost use Rattle.ir_model.specs.Resolved as plain;
 ghost use Rattle.ir_model.specs.State as state;
 ghost use Rattle.ir_model.specs.Step as step;
 ghost use Rattle.ir_program.specs.Values.{value_of};
-ghost use Rattle.ir_program.specs.Seen.{exit_of, program_of};
+ghost use Rattle.ir_program.specs.Seen.{exit_of, program_of, HasCounts};
 ghost use Rattle.ir_run.specs.Acts.{frame_of};
+ghost use Rattle.ir_run.specs.Places.{HasNext};
 ghost use Rattle.ir_run.specs.States.{running_of, memory_of, Answers};
 
 use crate::entering::new_frame;
@@ -25,7 +26,7 @@ use std::mem::replace;
 ///
 /// # Errors
 ///
-/// There is no memory for its frame, or no number; the state is as before.
+/// There is no memory for its frame; the state is as before.
 pub fn enter(
     alloc: Global,
     program: &Program,
@@ -33,17 +34,18 @@ pub fn enter(
     func: u16,
     args: &[Value],
 ) -> Result<(), AllocError>
-    ensures ok { OnOk result (running_of parts.new ≡ state.Running (state.frame_of (program_of program.now) func parts.old.made (map value_of args.now) ∷ frame_of parts.old.top ∷ map frame_of parts.old.below) (record (memory_of parts.old) { made = suc parts.old.made })) }
+    requires counts { HasCounts program.now }
+    requires next { HasNext parts.old.top.place }
+    requires few { parts.old.newest < 2 ^ 64 - 1 }
+    ensures ok { OnOk result (running_of parts.new ≡ state.Running (state.frame_of (program_of program.now) func (memory_of parts.old).made (map value_of args.now) ∷ frame_of parts.old.top ∷ map frame_of parts.old.below) (record (memory_of parts.old) { made = suc (memory_of parts.old).made })) }
     ensures err { OnErr result (running_of parts.new ≡ running_of parts.old) }
 {
-    let frame = new_frame(alloc, program, func, parts.made, args)?;
-    let Some(made) = parts.made.checked_add(1) else {
-        return Err(AllocError);
-    };
+    let number = parts.newest + 1;
+    let frame = new_frame(alloc, program, func, number, args)?;
     let caller = replace(&mut parts.top, frame);
     match parts.below.put(caller) {
         None => {
-            parts.made = made;
+            parts.newest = number;
             Ok(())
         }
         Some(back) => {
@@ -81,25 +83,17 @@ fn keep_result(program: &Program, frame: &mut Frame, value: Value)
 }
 
 /// Goes back to the caller with a value; the first frame has none, and the run ends.
-///
-/// # Errors
-///
-/// There is no number for the caller's next place; the state is as before.
-pub fn go_back(program: &Program, parts: &mut Parts, value: Value) -> Result<SourceStep, AllocError>
-    ensures ok { IfOk result (λ a. Answers (step.back_to (program_of program.now) (value_of value) (map frame_of parts.old.below) (memory_of parts.old)) a parts.new) }
-    ensures err { OnErr result (running_of parts.new ≡ running_of parts.old) }
+pub fn go_back(program: &Program, parts: &mut Parts, value: Value) -> SourceStep
+    ensures { Answers (step.back_to (program_of program.now) (value_of value) (map frame_of parts.old.below) (memory_of parts.old)) result parts.new }
 {
-    let place = match parts.below.first() {
-        Some(frame) => frame.place.checked_add(1).ok_or(AllocError)?,
-        None => 0,
-    };
     let Some(mut caller) = parts.below.pop() else {
-        return Ok(SourceStep::Ended(SourceEnd::Returned));
+        return SourceStep::Ended(SourceEnd::Returned);
     };
+    let place = caller.place + 1;
     keep_result(program, &mut caller, value);
     caller.place = place;
     parts.top = caller;
-    Ok(SourceStep::Ran)
+    SourceStep::Ran
 }
 
 // What a function returns: what the register holds, or 0 where it has no result.
@@ -113,21 +107,16 @@ fn returned(frame: &Frame, register: Option<usize>) -> Value
 }
 
 /// Leaves a block.
-///
-/// # Errors
-///
-/// There is no number for the caller's next place; the state is as before.
 #[tactic(auto, unfolding(ir_model::specs::Step::leave))]
-pub fn leave(program: &Program, parts: &mut Parts, exit: Exit) -> Result<SourceStep, AllocError>
-    ensures ok { IfOk result (λ a. Answers (step.leave (program_of program.now) (frame_of parts.old.top) (map frame_of parts.old.below) (memory_of parts.old) (exit_of exit)) a parts.new) }
-    ensures err { OnErr result (running_of parts.new ≡ running_of parts.old) }
+pub fn leave(program: &Program, parts: &mut Parts, exit: Exit) -> SourceStep
+    ensures { Answers (step.leave (program_of program.now) (frame_of parts.old.top) (map frame_of parts.old.below) (memory_of parts.old) (exit_of exit)) result parts.new }
 {
     match exit {
         Exit::Jump(block) => {
             go(parts, block);
-            Ok(SourceStep::Ran)
+            SourceStep::Ran
         }
-        Exit::Branch { on, yes, no } => Ok(branch(program, parts, on, yes, no)),
+        Exit::Branch { on, yes, no } => branch(program, parts, on, yes, no),
         Exit::Ret(register) => {
             let value = returned(&parts.top, register);
             go_back(program, parts, value)

@@ -1,6 +1,6 @@
 //! Frames of functions that are entered.
 
-ghost use Rattle.std.specs.Prelude.{◌≡◌, map, IfOk};
+ghost use Rattle.std.specs.Prelude.{◌≡◌, length, map, IfOk};
 ghost use Rattle.std.proofs.Math.ListN.{get_or};
 ghost use Rattle.ir_model.specs.Types.{type_of};
 ghost use Rattle.ir_model.specs.Resolve.{zero_of};
@@ -10,8 +10,9 @@ ghost use Rattle.ir_program.specs.Storages.{shape_of};
 ghost use Rattle.ir_model.specs.Plain.{struct_of};
 ghost use Rattle.ir_model.specs.Layout.{known, shape};
 ghost use Rattle.layouts.specs.Cells.{lent_types, types_of};
-ghost use Rattle.ir_program.specs.Seen.{routine_of, program_of};
+ghost use Rattle.ir_program.specs.Seen.{routine_of, program_of, local_counts, cell_counts, HasCounts};
 ghost use Rattle.ir_run.specs.Acts.{frame_of};
+ghost use Rattle.ir_run.specs.Counts.{HasCount, HaveCounts};
 
 use crate::contents::{Contents, Values};
 use crate::frame::Frame;
@@ -44,24 +45,21 @@ fn entered(alloc: Global, args: &[Value], types: &[&Ty]) -> Result<Values, Alloc
     Ok(Values::new(values))
 }
 
-// The types of the cells of a type, which are fewer than so many.
+// The types of the cells of an object.
 fn cell_types<'a>(
     alloc: Global,
     layouts: &Layouts<'a>,
-    ty: &'a Ty,
-    most: usize,
+    storage: &Storage<'a>,
 ) -> Result<Vec<&'a Ty>, AllocError>
-    ensures { IfOk result (λ ts. lent_types ts.items ≡ types_of (shape (known (map struct_of layouts.now)) (type_of ty.now)).cells) }
+    requires { HasCount (known (map struct_of layouts.now)) storage.now }
+    ensures { IfOk result (λ ts. lent_types ts.items ≡ types_of (shape_of (known (map struct_of layouts.now)) storage.now).cells) }
 {
     let mut types = Vec::new(alloc);
-    layouts.put_cell_types(ty, most, &mut types)?;
-    if types.len() >= most {
-        return Err(AllocError);
-    }
+    layouts.put_cell_types(storage.ty, storage.cells as usize, &mut types)?;
     Ok(types)
 }
 
-/// What the cells of an object of a type hold before they are written, the first of them these values.
+/// What the cells of an object hold before they are written, the first of them these values.
 ///
 /// # Errors
 ///
@@ -69,12 +67,13 @@ fn cell_types<'a>(
 pub fn first_contents<'a>(
     alloc: Global,
     layouts: &Layouts<'a>,
-    ty: &'a Ty,
+    storage: &Storage<'a>,
     first: &[Value],
 ) -> Result<Values, AllocError>
-    ensures { IfOk result (λ vs. map value_of vs ≡ state.entered (map value_of first.now) (types_of (shape (known (map struct_of layouts.now)) (type_of ty.now)).cells)) }
+    requires { HasCount (known (map struct_of layouts.now)) storage.now }
+    ensures { IfOk result (λ vs. map value_of vs ≡ state.entered (map value_of first.now) (types_of (shape_of (known (map struct_of layouts.now)) storage.now).cells)) }
 {
-    let types = cell_types(alloc, layouts, ty, usize::MAX)?;
+    let types = cell_types(alloc, layouts, storage)?;
     entered(alloc, first, types.as_slice())
 }
 
@@ -83,11 +82,12 @@ fn zero_locals<'a>(
     layouts: &Layouts<'a>,
     locals: &[Storage<'a>],
 ) -> Result<Contents, AllocError>
+    requires { HaveCounts (known (map struct_of layouts.now)) locals.now }
     ensures { IfOk result (λ ls. map (map value_of) ls ≡ map state.zero_local (map (shape_of (known (map struct_of layouts.now))) locals.now)) }
 {
     let mut objects = Vec::new(alloc);
     for i in 0..locals.len() {
-        let cells = first_contents(alloc, layouts, locals[i].ty, &[])?;
+        let cells = first_contents(alloc, layouts, &locals[i], &[])?;
         objects.push(cells)?;
     }
     Ok(Contents::new(objects))
@@ -101,6 +101,7 @@ fn routine_frame<'a>(
     number: u64,
     args: &[Value],
 ) -> Result<Frame, AllocError>
+    requires { local_counts routine.now ≡ cell_counts (routine_of (known (map struct_of layouts.now)) routine.now) }
     ensures { IfOk result (λ f. frame_of f ≡ record { func = func; block = 0; place = 0; number = number; regs = state.entered (map value_of args.now) (routine_of (known (map struct_of layouts.now)) routine.now).regs; locals = map state.zero_local (routine_of (known (map struct_of layouts.now)) routine.now).locals }) }
 {
     let regs = entered(alloc, args, routine.registers.as_slice())?;
@@ -116,6 +117,10 @@ fn routine_frame<'a>(
 }
 
 /// The frame of a function that is entered with these arguments.
+///
+/// # Errors
+///
+/// There is no memory for it.
 pub fn new_frame(
     alloc: Global,
     program: &Program,
@@ -123,6 +128,7 @@ pub fn new_frame(
     number: u64,
     args: &[Value],
 ) -> Result<Frame, AllocError>
+    requires { HasCounts program.now }
     ensures { IfOk result (λ f. frame_of f ≡ state.frame_of (program_of program.now) func number (map value_of args.now)) }
 {
     let routines = program.funcs.as_slice();

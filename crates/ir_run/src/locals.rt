@@ -1,6 +1,6 @@
 //! Accesses of locals.
 
-ghost use Rattle.std.specs.Prelude.{◌≡◌, ◌∷◌, [], map, Some, IfOk, OnOk, OnErr};
+ghost use Rattle.std.specs.Prelude.{◌≡◌, ◌∷◌, [], map, Some};
 ghost use Rattle.std.specs.Option.{option_map, option_copied};
 ghost use Rattle.std.proofs.Math.ListN.{get_or, set};
 ghost use Rattle.ir_laws.specs.Laws.{HasOrderedFrames};
@@ -12,6 +12,7 @@ ghost use Rattle.ir_program.specs.Values.{value_of};
 ghost use Rattle.ir_program.specs.Storages.{pointee_of};
 ghost use Rattle.ir_program.specs.Seen.{program_of};
 ghost use Rattle.ir_run.specs.Acts.{frame_of};
+ghost use Rattle.ir_run.specs.Places.{HasNext};
 ghost use Rattle.ir_run.specs.States.{running_of, memory_of, Answers};
 
 use crate::accesses::keep;
@@ -24,7 +25,6 @@ use crate::registers::advance;
 use ir_model::types::Ty;
 use ir_program::program::Program;
 use ir_program::value::Value;
-use std::alloc::AllocError;
 
 /// The number of the cell of a type at an offset of a local.
 #[tactic(auto, unfolding(ir_model::specs::Layout::cell_at))]
@@ -57,10 +57,6 @@ fn holder(parts: &Parts, of: Local) -> Option<&Frame>
 }
 
 /// A load of the cell of a type at an offset of a local.
-///
-/// # Errors
-///
-/// There is no number for the next place; the state is as before.
 pub fn load_local(
     program: &Program,
     parts: &mut Parts,
@@ -68,31 +64,31 @@ pub fn load_local(
     of: Local,
     at: u32,
     ty: Option<&Ty>,
-) -> Result<SourceStep, AllocError>
-    requires { HasOrderedFrames (running_of parts.old) }
-    ensures ok { IfOk result (λ a. Answers (step.load_local (program_of program.now) (frame_of parts.old.top) (map frame_of parts.old.below) (memory_of parts.old) to of.func of.local at (pointee_of ty.entry) (step.frame_in (frame_of parts.old.top ∷ map frame_of parts.old.below) of.func of.frame)) a parts.new) }
-    ensures err { OnErr result (running_of parts.new ≡ running_of parts.old) }
+) -> SourceStep
+    requires ordered { HasOrderedFrames (running_of parts.old) }
+    requires next { HasNext parts.old.top.place }
+    ensures { Answers (step.load_local (program_of program.now) (frame_of parts.old.top) (map frame_of parts.old.below) (memory_of parts.old) to of.func of.local at (pointee_of ty.entry) (step.frame_in (frame_of parts.old.top ∷ map frame_of parts.old.below) of.func of.frame)) result parts.new }
 {
     let Some(frame) = holder(parts, of) else {
-        return Ok(SourceStep::Ended(SourceEnd::Fault(FaultKind::Dead)));
+        return SourceStep::Ended(SourceEnd::Fault(FaultKind::Dead));
     };
     let Some(cell) = local_cell(program, of, at, ty) else {
-        return Ok(SourceStep::Ended(SourceEnd::Fault(FaultKind::NoCell)));
+        return SourceStep::Ended(SourceEnd::Fault(FaultKind::NoCell));
     };
     let value = frame.locals.at(usize::from(of.local), cell as usize);
-    keep(parts, to, value)?;
-    Ok(SourceStep::Ran)
+    keep(parts, to, value);
+    SourceStep::Ran
 }
 
 // Writes a cell of a local, and goes on.
 #[tactic(auto, using(crate::proofs::Writing::written_global))]
-fn write_local(parts: &mut Parts, of: Local, cell: u32, value: Value) -> Result<(), AllocError>
-    requires { HasOrderedFrames (running_of parts.old) }
-    ensures ok { OnOk result ((held : state.Frame) → step.frame_in (frame_of parts.old.top ∷ map frame_of parts.old.below) of.func of.frame ≡ Some held →
-        running_of parts.new ≡ state.Running (step.with_local (step.onward (frame_of parts.old.top) ∷ map frame_of parts.old.below) of.func of.frame of.local (set (get_or held.locals of.local []) cell (value_of value))) (memory_of parts.old)) }
-    ensures err { OnErr result (running_of parts.new ≡ running_of parts.old) }
+fn write_local(parts: &mut Parts, of: Local, cell: u32, value: Value)
+    requires ordered { HasOrderedFrames (running_of parts.old) }
+    requires next { HasNext parts.old.top.place }
+    ensures { (held : state.Frame) → step.frame_in (frame_of parts.old.top ∷ map frame_of parts.old.below) of.func of.frame ≡ Some held →
+        running_of parts.new ≡ state.Running (step.with_local (step.onward (frame_of parts.old.top) ∷ map frame_of parts.old.below) of.func of.frame of.local (set (get_or held.locals of.local []) cell (value_of value))) (memory_of parts.old) }
 {
-    advance(&mut parts.top)?;
+    advance(&mut parts.top);
     if parts.top.number == of.frame && parts.top.func == of.func {
         parts
             .top
@@ -103,14 +99,9 @@ fn write_local(parts: &mut Parts, of: Local, cell: u32, value: Value) -> Result<
             .below
             .put_cell(of.func, of.frame, of.local, cell, value);
     }
-    Ok(())
 }
 
 /// A store into the cell of a type at an offset of a local.
-///
-/// # Errors
-///
-/// There is no number for the next place; the state is as before.
 pub fn store_local(
     program: &Program,
     parts: &mut Parts,
@@ -118,17 +109,17 @@ pub fn store_local(
     at: u32,
     ty: Option<&Ty>,
     value: Value,
-) -> Result<SourceStep, AllocError>
-    requires { HasOrderedFrames (running_of parts.old) }
-    ensures ok { IfOk result (λ a. Answers (step.store_local (program_of program.now) (frame_of parts.old.top) (map frame_of parts.old.below) (memory_of parts.old) of.func of.frame of.local at (pointee_of ty.entry) (value_of value) (step.frame_in (frame_of parts.old.top ∷ map frame_of parts.old.below) of.func of.frame)) a parts.new) }
-    ensures err { OnErr result (running_of parts.new ≡ running_of parts.old) }
+) -> SourceStep
+    requires ordered { HasOrderedFrames (running_of parts.old) }
+    requires next { HasNext parts.old.top.place }
+    ensures { Answers (step.store_local (program_of program.now) (frame_of parts.old.top) (map frame_of parts.old.below) (memory_of parts.old) of.func of.frame of.local at (pointee_of ty.entry) (value_of value) (step.frame_in (frame_of parts.old.top ∷ map frame_of parts.old.below) of.func of.frame)) result parts.new }
 {
     let Some(_frame) = holder(parts, of) else {
-        return Ok(SourceStep::Ended(SourceEnd::Fault(FaultKind::Dead)));
+        return SourceStep::Ended(SourceEnd::Fault(FaultKind::Dead));
     };
     let Some(cell) = local_cell(program, of, at, ty) else {
-        return Ok(SourceStep::Ended(SourceEnd::Fault(FaultKind::NoCell)));
+        return SourceStep::Ended(SourceEnd::Fault(FaultKind::NoCell));
     };
-    write_local(parts, of, cell, value)?;
-    Ok(SourceStep::Ran)
+    write_local(parts, of, cell, value);
+    SourceStep::Ran
 }

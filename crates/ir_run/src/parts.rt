@@ -16,6 +16,6 @@ pub struct Parts {
     pub globals: Contents,
     /// The words that each peripheral has left.
     pub tape: Tape,
-    /// How many frames were made.
-    pub made: u64,
+    /// The number of the frame that was made last.
+    pub newest: u64,
 }

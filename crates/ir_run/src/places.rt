@@ -5,7 +5,7 @@ ghost use Rattle.ir_model.specs.Layout.{Known};
 ghost use Rattle.ir_model.specs.Resolved as plain;
 ghost use Rattle.ir_model.specs.Step as step;
 ghost use Rattle.ir_program.specs.Seen.{operation_of, sequence_of, known_of, program_of};
-ghost use Rattle.ir_run.specs.Standing.{here_of};
+ghost use Rattle.ir_run.specs.Standing.{here_of, HasPlaceBehind};
 
 use crate::frame::Frame;
 use crate::place::Here;
@@ -13,7 +13,8 @@ use ir_program::program::{Exit, Operation, Program, Sequence};
 
 // What stands at a place of a block.
 fn here_in<'p, 'a>(sequence: &'p Sequence<'a>, place: usize) -> Here<'p, 'a>
-    ensures { (ks : List Known) → here_of ks result ≡ plain.here_in (sequence_of ks sequence.now).insts (sequence_of ks sequence.now).term place }
+    ensures exact { (ks : List Known) → here_of ks result ≡ plain.here_in (sequence_of ks sequence.now).insts (sequence_of ks sequence.now).term place }
+    ensures next { HasPlaceBehind result place }
 {
     let operations = sequence.operations.as_slice();
     if place < operations.len() {
@@ -26,7 +27,8 @@ fn here_in<'p, 'a>(sequence: &'p Sequence<'a>, place: usize) -> Here<'p, 'a>
 /// What stands at a place of a function: behind the instructions of its block the block's end. A block that is not
 /// there is empty, and goes to the first.
 pub fn here<'p, 'a>(program: &'p Program<'a>, func: u16, block: usize, place: usize) -> Here<'p, 'a>
-    ensures { here_of (known_of program.now) result ≡ plain.here (program_of program.now) func block place }
+    ensures exact { here_of (known_of program.now) result ≡ plain.here (program_of program.now) func block place }
+    ensures next { HasPlaceBehind result place }
 {
     let routines = program.funcs.as_slice();
     let number = usize::from(func);

@@ -1,12 +1,13 @@
 //! Accesses of peripherals.
 
-ghost use Rattle.std.specs.Prelude.{◌≡◌, ◌∷◌, [], map, true, IfOk, OnErr};
+ghost use Rattle.std.specs.Prelude.{◌≡◌, ◌∷◌, [], map, true};
 ghost use Rattle.std.proofs.Math.ListN.{get_or};
 ghost use Rattle.ir_model.specs.Step as step;
 ghost use Rattle.ir_program.specs.Values.{value_of};
 ghost use Rattle.ir_program.specs.Storages.{pointee_of};
 ghost use Rattle.ir_program.specs.Seen.{program_of};
 ghost use Rattle.ir_run.specs.Acts.{frame_of};
+ghost use Rattle.ir_run.specs.Places.{HasNext};
 ghost use Rattle.ir_run.specs.States.{running_of, memory_of, Answers};
 
 use crate::arithmetic::number_in;
@@ -18,7 +19,6 @@ use events::event::Event;
 use ir_model::types::Ty;
 use ir_program::program::Program;
 use ir_program::value::Value;
-use std::alloc::AllocError;
 
 // The compartment of the running function; 0 where it has none.
 fn running_compartment(parts: &Parts, compartments: &[u32]) -> u32
@@ -47,10 +47,6 @@ pub fn in_window(program: &Program, periph: u32, at: u32, ty: Option<&Ty>) -> bo
 }
 
 /// A store to a cell of a peripheral.
-///
-/// # Errors
-///
-/// There is no number for the next place; the state is as before.
 pub fn store_port(
     parts: &mut Parts,
     compartments: &[u32],
@@ -58,27 +54,23 @@ pub fn store_port(
     at: u32,
     ty: Option<&Ty>,
     value: Value,
-) -> Result<SourceStep, AllocError>
-    ensures ok { IfOk result (λ a. Answers (step.store_port compartments.now (frame_of parts.old.top) (map frame_of parts.old.below) (memory_of parts.old) periph at (pointee_of ty.entry) (value_of value) true) a parts.new) }
-    ensures err { OnErr result (running_of parts.new ≡ running_of parts.old) }
+) -> SourceStep
+    requires { HasNext parts.old.top.place }
+    ensures { Answers (step.store_port compartments.now (frame_of parts.old.top) (map frame_of parts.old.below) (memory_of parts.old) periph at (pointee_of ty.entry) (value_of value) true) result parts.new }
 {
     let compartment = running_compartment(parts, compartments);
-    advance(&mut parts.top)?;
-    Ok(SourceStep::Event(Event {
+    advance(&mut parts.top);
+    SourceStep::Event(Event {
         compartment,
         periph,
         offset: at,
         width: width_of(ty),
         write: true,
         value: number_in(value),
-    }))
+    })
 }
 
 /// A load from a cell of a peripheral.
-///
-/// # Errors
-///
-/// There is no number for the next place; the state is as before.
 #[tactic(auto, using(crate::proofs::Writing::first_of))]
 pub fn load_port(
     parts: &mut Parts,
@@ -87,26 +79,26 @@ pub fn load_port(
     periph: u32,
     at: u32,
     ty: Option<&Ty>,
-) -> Result<SourceStep, AllocError>
-    ensures ok { IfOk result (λ a. Answers (step.take_input compartments.now (frame_of parts.old.top) (map frame_of parts.old.below) (memory_of parts.old) to periph at (pointee_of ty.entry) (get_or parts.old.tape periph [])) a parts.new) }
-    ensures err { OnErr result (running_of parts.new ≡ running_of parts.old) }
+) -> SourceStep
+    requires { HasNext parts.old.top.place }
+    ensures { Answers (step.take_input compartments.now (frame_of parts.old.top) (map frame_of parts.old.below) (memory_of parts.old) to periph at (pointee_of ty.entry) (get_or parts.old.tape periph [])) result parts.new }
 {
     if periph as usize >= parts.tape.queue_count() {
-        return Ok(SourceStep::Ended(SourceEnd::InputEnd));
+        return SourceStep::Ended(SourceEnd::InputEnd);
     }
     let compartment = running_compartment(parts, compartments);
-    advance(&mut parts.top)?;
+    advance(&mut parts.top);
     let Some(word) = parts.tape.take(periph) else {
-        return Ok(SourceStep::Ended(SourceEnd::InputEnd));
+        return SourceStep::Ended(SourceEnd::InputEnd);
     };
     let value = cut_number(ty, word);
     write_register(&mut parts.top, to, Value::Number(value));
-    Ok(SourceStep::Event(Event {
+    SourceStep::Event(Event {
         compartment,
         periph,
         offset: at,
         width: width_of(ty),
         write: false,
         value,
-    }))
+    })
 }

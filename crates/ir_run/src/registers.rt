@@ -1,14 +1,14 @@
 //! Registers, places and blocks of the running frame.
 
-ghost use Rattle.std.specs.Prelude.{◌≡◌, OnOk, OnErr, nat_eq, if◌then◌else◌};
+ghost use Rattle.std.specs.Prelude.{◌≡◌, nat_eq, if◌then◌else◌};
 ghost use Rattle.ir_model.specs.Step as step;
 ghost use Rattle.ir_program.specs.Values.{value_of};
 ghost use Rattle.ir_run.specs.Acts.{frame_of};
+ghost use Rattle.ir_run.specs.Places.{HasNext};
 
 use crate::arithmetic::number_in;
 use crate::frame::Frame;
 use ir_program::value::Value;
-use std::alloc::AllocError;
 
 /// Writes a register.
 #[tactic(auto, using(crate::proofs::Writing::written))]
@@ -19,21 +19,11 @@ pub fn write_register(frame: &mut Frame, register: usize, value: Value)
 }
 
 /// Goes on behind an instruction.
-///
-/// # Errors
-///
-/// There is no number for the next place; the frame is as before.
-pub fn advance(frame: &mut Frame) -> Result<(), AllocError>
-    ensures ok { OnOk result (frame_of frame.new ≡ step.onward (frame_of frame.old)) }
-    ensures err { OnErr result (frame.new ≡ frame.old) }
+pub fn advance(frame: &mut Frame)
+    requires { HasNext frame.old.place }
+    ensures { frame_of frame.new ≡ step.onward (frame_of frame.old) }
 {
-    match frame.place.checked_add(1) {
-        Some(next) => {
-            frame.place = next;
-            Ok(())
-        }
-        None => Err(AllocError),
-    }
+    frame.place += 1;
 }
 
 /// Goes to the begin of a block.

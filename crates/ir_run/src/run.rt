@@ -3,8 +3,10 @@
 ghost use Rattle.std.specs.Prelude.{◌≡◌, ◌-◌, ◌^◌, ◌<◌, IfOk, OnErr, OnOk};
 ghost use Rattle.ir_laws.specs.Laws.{HasOrderedFrames};
 ghost use Rattle.ir_model.specs.Step.{source_turn, source_step};
-ghost use Rattle.ir_program.specs.Seen.{program_of};
-ghost use Rattle.ir_run.specs.Runs.{IsAnswer};
+ghost use Rattle.ir_program.specs.Seen.{program_of, HasCounts};
+ghost use Rattle.ir_run.specs.Acts.{IsCall};
+ghost use Rattle.ir_run.specs.Elements.{HasSmallElements};
+ghost use Rattle.ir_run.specs.Runs.{IsAnswer, HasMade};
 ghost use Rattle.ir_run.specs.Phases.{state_of};
 
 use crate::outcome::{SourceEnd, SourceStep};
@@ -12,6 +14,8 @@ use crate::parts::Parts;
 use crate::starting::started;
 use crate::turn::turn;
 use device_model::tape::Tape;
+use ir_laws::runs::{moves, registers, values};
+use ir_laws::typing::places;
 use ir_laws::{events, frames};
 use ir_program::program::Program;
 use list_vec::ListVec;
@@ -35,10 +39,14 @@ fn go_on(
     compartments: &[u32],
     phase: &mut Phase,
 ) -> Result<SourceStep, AllocError>
-    requires { HasOrderedFrames (state_of phase.old) }
+    requires ordered { HasOrderedFrames (state_of phase.old) }
+    requires counts { HasCounts program.now }
+    requires small { HasSmallElements (program_of program.now) (state_of phase.old) }
+    requires few { HasMade (2 ^ 64 - 1) (state_of phase.old) }
     ensures says { IfOk result (λ answer. IsAnswer (source_turn (program_of program.now) compartments.now (state_of phase.old)) answer) }
     ensures goes { OnOk result (state_of phase.new ≡ source_step (program_of program.now) compartments.now (state_of phase.old)) }
     ensures err { OnErr result (state_of phase.new ≡ state_of phase.old) }
+    ensures memory { OnErr result (IsCall (source_turn (program_of program.now) compartments.now (state_of phase.old))) }
 {
     let answer = match phase {
         Phase::Running(parts) => turn(alloc, program, compartments, parts)?,
@@ -61,7 +69,7 @@ pub struct SourceRun<'a> {
 }
 
 impl<'a> Model for SourceRun<'a> {
-    ghost use Rattle.ir_program.specs.Seen.{program_of};
+    ghost use Rattle.ir_program.specs.Seen.{program_of, HasCounts};
     ghost use Rattle.ir_run.specs.Runs.{RunState, IsRun};
     ghost use Rattle.ir_run.specs.Phases.{state_of};
 
@@ -74,13 +82,15 @@ impl<'a> Model for SourceRun<'a> {
 
     ghost view = { λ r. record { program = program_of r.program; compartments = r.compartments; state = state_of r.phase; taken = r.taken } };
 
-    ghost invariant = { λ r. IsRun (record { program = program_of r.program; compartments = r.compartments; state = state_of r.phase; taken = r.taken }) };
+    ghost invariant = { λ r. HasCounts r.program × IsRun (record { program = program_of r.program; compartments = r.compartments; state = state_of r.phase; taken = r.taken }) };
 }
 
 impl<'a> SourceRun<'a> {
     ghost use Rattle.ir_model.specs.State as state;
-    ghost use Rattle.ir_program.specs.Seen.{program_of};
-    ghost use Rattle.ir_run.specs.Runs.{IsStep, AnswersDeclared};
+    ghost use Rattle.ir_model.specs.Step.{source_turn};
+    ghost use Rattle.ir_program.specs.Seen.{program_of, HasCounts};
+    ghost use Rattle.ir_run.specs.Acts.{IsCall};
+    ghost use Rattle.ir_run.specs.Runs.{IsChecked, IsStep, AnswersDeclared};
 
     /// The run of a firmware with numbers for its names, that has the compartment of each of its functions, and the words that
     /// each peripheral gives: `main` is entered.
@@ -94,6 +104,8 @@ impl<'a> SourceRun<'a> {
         compartments: Vec<u32>,
         tape: Tape,
     ) -> Result<SourceRun<'a>, AllocError>
+        requires checked { IsChecked (program_of program) }
+        requires counts { HasCounts program }
         ensures { IfOk result (λ run. run ≡ record {
           program = program_of program.entry;
           compartments = compartments.items;
@@ -117,15 +129,20 @@ impl<'a> SourceRun<'a> {
     ///
     /// # Errors
     ///
-    /// There is no memory for it.
+    /// It calls a function, and there is no memory for that.
     pub fn step(&mut self) -> Result<SourceStep, AllocError>
         requires { self.old.taken < 2 ^ 64 - 1 }
         ensures step { IfOk result (λ answer. IsStep self.old answer self.new) }
         ensures declared { IfOk result (AnswersDeclared self.old.program) }
         ensures err { OnErr result (self.new ≡ self.old) }
+        ensures memory { OnErr result (IsCall (source_turn self.old.program self.old.compartments self.old.state)) }
     {
         frames();
         events();
+        places();
+        values();
+        registers();
+        moves();
         let answer = go_on(
             self.alloc,
             &self.program,

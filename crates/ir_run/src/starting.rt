@@ -6,7 +6,8 @@ ghost use Rattle.ir_model.specs.State as state;
 ghost use Rattle.ir_model.specs.Plain.{struct_of};
 ghost use Rattle.ir_model.specs.Layout.{known};
 ghost use Rattle.ir_program.specs.Values.{value_of};
-ghost use Rattle.ir_program.specs.Seen.{variable_of, program_of};
+ghost use Rattle.ir_program.specs.declared.program.Variable.{Variable as VariableOf};
+ghost use Rattle.ir_program.specs.Seen.{variable_of, cell_count, program_of, HasCounts};
 ghost use Rattle.ir_run.specs.States.{running_of};
 
 use crate::below::Below;
@@ -23,13 +24,14 @@ fn initial_contents<'a>(
     layouts: &Layouts<'a>,
     variables: &[Variable<'a>],
 ) -> Result<Contents, AllocError>
+    requires { map (λ (v : VariableOf). v.storage.cells) variables.now ≡ map cell_count (map (variable_of (known (map struct_of layouts.now))) variables.now) }
     ensures { IfOk result (λ gs. map (map value_of) gs ≡ map (λ (o : NumberedGlobal). o.init) (map (variable_of (known (map struct_of layouts.now))) variables.now)) }
 {
     let mut objects = Vec::new(alloc);
     for i in 0..variables.len() {
         let variable = &variables[i];
         let first = variable.init.as_slice();
-        let values = first_contents(alloc, layouts, variable.storage.ty, first)?;
+        let values = first_contents(alloc, layouts, &variable.storage, first)?;
         objects.push(values)?;
     }
     Ok(Contents::new(objects))
@@ -42,6 +44,7 @@ fn initial_contents<'a>(
 /// There is no memory for it.
 #[tactic(auto, unfolding(ir_model::specs::State::start))]
 pub fn started(alloc: Global, program: &Program, tape: Tape) -> Result<Parts, AllocError>
+    requires { HasCounts program.now }
     ensures { IfOk result (λ s. running_of s ≡ state.start (program_of program.now) tape) }
 {
     let top = new_frame(alloc, program, program.main, 0, &[])?;
@@ -51,6 +54,6 @@ pub fn started(alloc: Global, program: &Program, tape: Tape) -> Result<Parts, Al
         below: Below::new(alloc),
         globals,
         tape,
-        made: 1,
+        newest: 0,
     })
 }

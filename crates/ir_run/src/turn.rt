@@ -1,13 +1,15 @@
 //! One instruction or block end.
 
-ghost use Rattle.std.specs.Prelude.{◌≡◌, ◌∷◌, map, IfOk, OnErr};
+ghost use Rattle.std.specs.Prelude.{◌≡◌, ◌∷◌, ◌-◌, ◌<◌, ◌^◌, map, IfOk, OnErr};
 ghost use Rattle.ir_laws.specs.Laws.{HasOrderedFrames};
 ghost use Rattle.ir_model.specs.Resolved.{global_at};
 ghost use Rattle.ir_model.specs.Step as step;
 ghost use Rattle.ir_program.specs.Values.{value_of, instance_of};
 ghost use Rattle.ir_program.specs.Storages.{pointee_of};
-ghost use Rattle.ir_program.specs.Seen.{program_of};
-ghost use Rattle.ir_run.specs.Acts.{frame_of, act_of};
+ghost use Rattle.ir_program.specs.Seen.{program_of, HasCounts};
+ghost use Rattle.ir_run.specs.Acts.{frame_of, act_of, IsEntry, IsCall};
+ghost use Rattle.ir_run.specs.Elements.{HasSmallElements};
+ghost use Rattle.ir_run.specs.Places.{HasNext};
 ghost use Rattle.ir_run.specs.States.{running_of, memory_of, Answers};
 
 use crate::accesses::{global_cell, keep, load_global, store_global};
@@ -37,10 +39,6 @@ pub fn is_constant(program: &Program, global: u32) -> bool
 }
 
 /// A load from an object.
-///
-/// # Errors
-///
-/// There is no number for the next place; the state is as before.
 pub fn load(
     program: &Program,
     compartments: &[u32],
@@ -48,10 +46,10 @@ pub fn load(
     to: usize,
     from: Address,
     ty: Option<&Ty>,
-) -> Result<SourceStep, AllocError>
-    requires { HasOrderedFrames (running_of parts.old) }
-    ensures ok { IfOk result (λ a. Answers (step.load (program_of program.now) compartments.now (frame_of parts.old.top) (map frame_of parts.old.below) (memory_of parts.old) to (instance_of from.instance) from.offset (pointee_of ty.entry)) a parts.new) }
-    ensures err { OnErr result (running_of parts.new ≡ running_of parts.old) }
+) -> SourceStep
+    requires ordered { HasOrderedFrames (running_of parts.old) }
+    requires next { HasNext parts.old.top.place }
+    ensures { Answers (step.load (program_of program.now) compartments.now (frame_of parts.old.top) (map frame_of parts.old.below) (memory_of parts.old) to (instance_of from.instance) from.offset (pointee_of ty.entry)) result parts.new }
 {
     let at = from.offset;
     match from.instance {
@@ -67,17 +65,13 @@ pub fn load(
             if in_window(program, periph, at, ty) {
                 load_port(parts, compartments, to, periph, at, ty)
             } else {
-                Ok(SourceStep::Ended(SourceEnd::Fault(FaultKind::NoCell)))
+                SourceStep::Ended(SourceEnd::Fault(FaultKind::NoCell))
             }
         }
     }
 }
 
 /// A store into an object of a value that is cut to the width of the cell.
-///
-/// # Errors
-///
-/// There is no number for the next place; the state is as before.
 pub fn store(
     program: &Program,
     compartments: &[u32],
@@ -85,10 +79,10 @@ pub fn store(
     to: Address,
     ty: Option<&Ty>,
     value: Value,
-) -> Result<SourceStep, AllocError>
-    requires { HasOrderedFrames (running_of parts.old) }
-    ensures ok { IfOk result (λ a. Answers (step.store (program_of program.now) compartments.now (frame_of parts.old.top) (map frame_of parts.old.below) (memory_of parts.old) (instance_of to.instance) to.offset (pointee_of ty.entry) (value_of value)) a parts.new) }
-    ensures err { OnErr result (running_of parts.new ≡ running_of parts.old) }
+) -> SourceStep
+    requires ordered { HasOrderedFrames (running_of parts.old) }
+    requires next { HasNext parts.old.top.place }
+    ensures { Answers (step.store (program_of program.now) compartments.now (frame_of parts.old.top) (map frame_of parts.old.below) (memory_of parts.old) (instance_of to.instance) to.offset (pointee_of ty.entry) (value_of value)) result parts.new }
 {
     let at = to.offset;
     match to.instance {
@@ -104,7 +98,7 @@ pub fn store(
             if in_window(program, periph, at, ty) {
                 store_port(parts, compartments, periph, at, ty, value)
             } else {
-                Ok(SourceStep::Ended(SourceEnd::Fault(FaultKind::NoCell)))
+                SourceStep::Ended(SourceEnd::Fault(FaultKind::NoCell))
             }
         }
     }
@@ -114,7 +108,7 @@ pub fn store(
 ///
 /// # Errors
 ///
-/// There is no memory for it, or no number for the next place or the frame; the state is as before.
+/// It enters a function, and there is no memory for its frame; the state is as before.
 #[tactic(auto, unfolding(ir_model::specs::Step::perform))]
 pub fn perform(
     alloc: Global,
@@ -123,20 +117,24 @@ pub fn perform(
     parts: &mut Parts,
     asked: Act,
 ) -> Result<SourceStep, AllocError>
-    requires { HasOrderedFrames (running_of parts.old) }
+    requires ordered { HasOrderedFrames (running_of parts.old) }
+    requires counts { HasCounts program.now }
+    requires next { HasNext parts.old.top.place }
+    requires few { parts.old.newest < 2 ^ 64 - 1 }
     ensures ok { IfOk result (λ a. Answers (step.perform (program_of program.now) compartments.now (frame_of parts.old.top) (map frame_of parts.old.below) (memory_of parts.old) (act_of asked.entry)) a parts.new) }
+    ensures memory { OnErr result (IsEntry (act_of asked.entry)) }
     ensures err { OnErr result (running_of parts.new ≡ running_of parts.old) }
 {
     match asked {
         Act::Sets { to, value } => {
-            keep(parts, to, value)?;
+            keep(parts, to, value);
             Ok(SourceStep::Ran)
         }
         Act::Fails(fault) => Ok(SourceStep::Ended(SourceEnd::Fault(fault))),
-        Act::Loads { to, from, ty } => load(program, compartments, parts, to, from, ty),
+        Act::Loads { to, from, ty } => Ok(load(program, compartments, parts, to, from, ty)),
         Act::Stores { to, ty, value } => {
             let cut = cut_value(ty, value);
-            store(program, compartments, parts, to, ty, cut)
+            Ok(store(program, compartments, parts, to, ty, cut))
         }
         Act::Enters { func, args } => {
             enter(alloc, program, parts, func, args.as_slice())?;
@@ -149,7 +147,7 @@ pub fn perform(
 ///
 /// # Errors
 ///
-/// There is no memory for it, or no number for the next place or the frame; the state is as before.
+/// It enters a function, and there is no memory for that; the state is as before.
 #[tactic(auto, unfolding(ir_model::specs::Step::source_turn))]
 pub fn turn(
     alloc: Global,
@@ -157,8 +155,12 @@ pub fn turn(
     compartments: &[u32],
     parts: &mut Parts,
 ) -> Result<SourceStep, AllocError>
-    requires { HasOrderedFrames (running_of parts.old) }
+    requires ordered { HasOrderedFrames (running_of parts.old) }
+    requires counts { HasCounts program.now }
+    requires small { HasSmallElements (program_of program.now) (running_of parts.old) }
+    requires few { parts.old.newest < 2 ^ 64 - 1 }
     ensures ok { IfOk result (λ a. Answers (step.source_turn (program_of program.now) compartments.now (running_of parts.old)) a parts.new) }
+    ensures memory { OnErr result (IsCall (step.source_turn (program_of program.now) compartments.now (running_of parts.old))) }
     ensures err { OnErr result (running_of parts.new ≡ running_of parts.old) }
 {
     match here(program, parts.top.func, parts.top.block, parts.top.place) {
@@ -166,6 +168,6 @@ pub fn turn(
             let asked = act(alloc, &program.layouts, &parts.top, operation)?;
             perform(alloc, program, compartments, parts, asked)
         }
-        Here::Ends(exit) => leave(program, parts, exit),
+        Here::Ends(exit) => Ok(leave(program, parts, exit)),
     }
 }

@@ -22,7 +22,8 @@ use Rattle.relation.specs.Relation.{cells_at, objects_at}
 use Rattle.linked_images.specs.Planned.{IsPlanned, plan}
 use Rattle.linked_images.proofs.Facts.{stack_in, stack_size_is, stack_least, monitor_in, monitor_size_is}
 use Rattle.linked_images.proofs.Passing.{apart_from}
-use Rattle.linked_promises.proofs.CellWidths.{Divides, Aligned, none, more, through, plus, multiple, global_shaped}
+use Rattle.ir_laws.proofs.Aligned.{Divides, Aligned, none, more, through, plus, multiple}
+use Rattle.ir_laws.proofs.GlobalShapes.{global_shaped}
 use Rattle.linked_promises.proofs.GlobalPlaces.{GlobalLaws, address, in_ram, aligned_at, apart, off_stack, off_monitor}
 use Rattle.linked_promises.proofs.Lists.{each_weaker}
 use Rattle.linked_promises.proofs.Objects.{IsIn, cells_inside, cells_laid, each_object, objects_laid}
@@ -30,7 +31,7 @@ use Rattle.linked_promises.proofs.Objects.{IsIn, cells_inside, cells_laid, each_
 -- cells whose widths divide the address of their object stand at multiples of them
 cells_aligned : (base o a : ℕ) (cs : List CellPlace) → Divides a (base + o) → Aligned a cs → Each (λ (c : Area). (base + c.at) % c.width ≡ 0) (cells_at o cs)
 cells_aligned base o a cs d none = tt
-cells_aligned base o a cs d (more {c = c} {cs = ds} e g h) = (
+cells_aligned base o a cs d (more {c = c} {cs = ds} i e g h) = (
   ap (λ z. z % width_of c.ty) (let s : base + (o + c.at) ≡ base + o + c.at = omega arith in s)
       ∙ multiple (width_of c.ty) (base + o + c.at) (plus (width_of c.ty) (base + o) c.at (through (width_of c.ty) a (base + o) e d) g),
   cells_aligned base o a ds d h,

@@ -25,8 +25,9 @@ use Rattle.linked_images.proofs.Facts.{PlanLaws}
 use Rattle.linked_images.proofs.Powers.{block_is}
 use Rattle.linked_images.proofs.OpenBytes.{multiple}
 use Rattle.linked_images.proofs.Ranges.{IsUse, IsOfGlobals, globals_for, block_in, small}
-use Rattle.linked_promises.proofs.CellWidths as widths
-use Rattle.linked_promises.proofs.CellWidths.{Divides, Small, one_byte, two_bytes, four_bytes, global_shaped}
+use Rattle.ir_laws.proofs.Aligned as widths
+use Rattle.ir_laws.proofs.Aligned.{Divides, Small, one_byte, two_bytes, four_bytes}
+use Rattle.ir_laws.proofs.GlobalShapes.{global_shaped}
 use Rattle.linked_promises.proofs.FinalRegions.{region_has, no_region_is}
 
 -- what is known of plans, and of the globals in them

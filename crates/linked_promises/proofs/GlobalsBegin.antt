@@ -41,7 +41,7 @@ use Rattle.link_model.specs.LinkedImage.{linked}
 use Rattle.linked_images.specs.Planned.{IsPlanned, plan, planned_tables, planned_image}
 use Rattle.linked_images.specs.Laws.{FlashReadsBack}
 use Rattle.linked_promises.specs.Parts.{linked_build}
-use Rattle.linked_promises.proofs.CellWidths.{global_shaped}
+use Rattle.ir_laws.proofs.GlobalShapes.{global_shaped}
 use Rattle.linked_promises.proofs.GlobalPlaces.{GlobalLaws, placed, in_ram, aligns}
 use Rattle.linked_promises.proofs.FilledBlocks.{is_filled}
 use Rattle.linked_promises.proofs.FirstValues.{IsKnown, values_known}

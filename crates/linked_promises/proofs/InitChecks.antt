@@ -40,7 +40,7 @@ use Rattle.linked_images.proofs.AreaEnd.{initial_words_are, end_is}
 use Rattle.linked_images.proofs.ReadBack.{ReadLaws}
 use Rattle.linked_images.proofs.TablesPass.{some}
 use Rattle.linked_promises.proofs.ObjectSizes.{global_is_large}
-use Rattle.linked_promises.proofs.CellWidths.{global_shaped}
+use Rattle.ir_laws.proofs.GlobalShapes.{global_shaped}
 use Rattle.linked_promises.proofs.FinalRegions as regions
 use Rattle.mem_bus.proofs.Placed.{multiple_aligned as by_four}
 

@@ -14,7 +14,6 @@ pub mod Lists
 pub mod Joins
 pub mod FirstRegions
 pub mod FinalRegions
-pub mod CellWidths
 pub mod Objects
 pub mod GlobalPlaces
 pub mod GlobalAreas

@@ -2,13 +2,13 @@
 use Rattle.std.proofs.Common.{◌≡◌, ℕ, ◌<◌, Bool, true, ◌&&◌, List, length, nat_eq, refl, ap, ◌∙◌, subst, eq-eqb}
 use Rattle.std.specs.List.{list_any}
 use Rattle.std.specs.Ordering.{eq_by_cmp}
-use Rattle.std.specs.Cmp.{IsTotalOrder}
-use Rattle.std.proofs.lemmas.Cmp.{nat_cmp_total, on_total, then_total, eq_by_cmp_equiv}
+use Rattle.std.proofs.lemmas.Cmp.{eq_by_cmp_equiv}
 use Rattle.std.proofs.lemmas.List.Folds.{list_any-from_Any}
 use Rattle.ir_model.specs.declared.object.ObjId.{ObjId}
 use Rattle.ir_model.specs.declared.object.ObjId.TheVariants.{Global, Periph, Local, Func}
 use Rattle.ir_model.specs.State.{Object, GlobalObject, PeriphObject, LocalObject, FunctionObject}
-use Rattle.ir_model.specs.Objects.{object_by, compare_objects, kind_of, number_of, local_of}
+use Rattle.ir_model.specs.Objects.{object_by, compare_objects}
+use Rattle.ir_model.proofs.ObjectOrder.{objects_total}
 use Rattle.plan_model.specs.declared.groups.Groups.{Groups}
 use Rattle.plan_model.specs.Lists.{numbers_below}
 use Rattle.plan_model.specs.Groups.{compartment_of, functions_of}
@@ -38,9 +38,6 @@ same_object (Global x) = refl
 same_object (Periph q) = refl
 same_object (Local h l) = refl
 same_object (Func h) = refl
-
-objects_total : IsTotalOrder compare_objects
-objects_total = then_total (on_total kind_of nat_cmp_total) (then_total (on_total number_of nat_cmp_total) (on_total local_of nat_cmp_total))
 
 itself : (x : ObjId) → eq_by_cmp compare_objects x x ≡ true
 itself x = (eq_by_cmp_equiv objects_total).refl x

@@ -9,9 +9,9 @@ use Rattle.code_model.specs.declared.places.CallSite.{CallSite}
 use Rattle.code_model.specs.CompartmentCode.{entry_of}
 use Rattle.code_model.specs.Fitting.{FuncFits}
 use Rattle.lower_laws.specs.Fitting.{HasEach, TypedFunctionsFit}
-use Rattle.linker.specs.declared.making.Making.{Making}
-use Rattle.linker.specs.Grouped.{places_in}
-use Rattle.linker.specs.Making.{program_in, grouped, places_at, IsReady}
+use Rattle.link_entries.specs.declared.making.Making.{Making}
+use Rattle.link_entries.specs.Grouped.{places_in}
+use Rattle.link_entries.specs.Making.{program_in, grouped, places_at, IsReady}
 
 all_at : {X : Type 0} (P : X → Type 0) (xs : List (List X)) (k : ℕ) → ((j : ℕ) → j < length xs → All P (get_or xs j [])) → All P (get_or xs k [])
 all_at P [] k h = All-nil P

@@ -1,10 +1,6 @@
-mod Bare
-mod Loops
-mod Members
+mod Bytes
 mod Totals
-mod SlotLists
 mod Standing
-mod Cells
 mod Linked
 mod Same
 mod Fits

@@ -9,14 +9,14 @@ use Rattle.plan_model.specs.declared.graph.Final.{Final}
 use Rattle.plan_model.specs.Lists.{numbers_below}
 use Rattle.plan_model.specs.Lending.{is_local}
 use Rattle.code_model.specs.CompartmentCode.{CodePlaces, entry_of}
-use Rattle.linker.specs.declared.numbers.Numbers.{Numbers}
+use Rattle.link_entries.specs.declared.numbers.Numbers.{Numbers}
 use Rattle.link_model.specs.FirstWords.{first_words}
 use Rattle.link_model.specs.LinkedTables.{Filled}
-use Rattle.linker.specs.declared.making.Making.{Making}
-use Rattle.linker.specs.declared.fill.Filled as blocks
-use Rattle.linker.specs.Filling.{filled_of, object_places}
-use Rattle.linker.specs.Grouped.{AreNumbers, AreSmall, HasEachLend, IsProgram, groups_in}
-use Rattle.linker.specs.Making.{program_in, places_at, IsReady}
+use Rattle.link_entries.specs.declared.making.Making.{Making}
+use Rattle.link_blocks.specs.declared.fill.Filled as blocks
+use Rattle.link_blocks.specs.Filling.{filled_of, object_places}
+use Rattle.link_entries.specs.Grouped.{AreNumbers, AreSmall, HasEachLend, IsProgram, groups_in}
+use Rattle.link_entries.specs.Making.{program_in, places_at, IsReady}
 use Rattle.linker.specs.Parts.{AreAddresses, planned_places, words_in_blocks}
 
 -- there is a number, or none, for each local

@@ -31,12 +31,13 @@ use Rattle.link_model.specs.FirstWords.{first_words}
 use Rattle.link_model.specs.LinkedTables as defined
 use Rattle.link_model.specs.LinkedTables.{Filled}
 use Rattle.link_model.specs.LinkedImage.{flash_size, erased, with_tables, with_code, flash_of}
-use Rattle.linker.specs.declared.making.Making.{Making}
-use Rattle.linker.specs.Grouped.{AreNumbers, groups_in}
-use Rattle.linker.specs.Bases.{base_in}
-use Rattle.linker.specs.Making.{program_in, grouped, places_at, bytes_in}
-use Rattle.linker.specs.Recorded.{site_records_in, target_in, target_records_in}
-use Rattle.linker.specs.Filling.{object_places}
+use Rattle.link_entries.specs.declared.making.Making.{Making}
+use Rattle.link_entries.specs.Grouped.{AreNumbers, groups_in}
+use Rattle.link_entries.specs.Bases.{base_in}
+use Rattle.link_entries.specs.Making.{program_in, grouped, places_at}
+use Rattle.linker.specs.Standing.{bytes_in}
+use Rattle.link_entries.specs.Recorded.{site_records_in, target_in, target_records_in}
+use Rattle.link_blocks.specs.Filling.{object_places}
 use Rattle.linker.specs.Placing.{with_code_of, flash_with}
 use Rattle.linker.specs.Parts.{AreAddresses, planned_places, one_if_any, words_at_counts, words_in_blocks, tables_in}
 use Rattle.linker.proofs.Linked.{places_are}

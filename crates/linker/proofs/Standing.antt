@@ -9,8 +9,9 @@ use Rattle.code_model.specs.declared.places.Places.{Places}
 use Rattle.code_model.specs.Sizes.{entry_size, block_size}
 use Rattle.code_model.specs.FunctionCode.{lent, function_items, blocks_labels, function_labels}
 use Rattle.code_model.specs.CompartmentCode.{filling, label_count, before, size_of, entry_of, places_of, filled_items}
-use Rattle.linker.specs.declared.making.Making.{Making}
-use Rattle.linker.specs.Making.{program_in, grouped, places_at, with_filled, standing}
+use Rattle.link_entries.specs.declared.making.Making.{Making}
+use Rattle.link_entries.specs.Making.{program_in, grouped, places_at}
+use Rattle.linker.specs.Standing.{with_filled, standing}
 use Rattle.code_model.proofs.Labels.{labels_length}
 
 -- ---- labels

@@ -10,10 +10,10 @@ use Rattle.plan_model.specs.declared.plan.Plan.{Plan}
 use Rattle.plan_model.specs.declared.plan.Spot.{Spot}
 use Rattle.plan_model.specs.Lists.{numbers_below}
 use Rattle.code_model.specs.CompartmentCode.{CodeGroups, CodePlaces, members_from, filled_size, total_size, size_of, entry_of}
-use Rattle.linker.specs.declared.numbers.Numbers.{Numbers}
-use Rattle.linker.specs.Grouped.{groups_in}
+use Rattle.link_entries.specs.declared.numbers.Numbers.{Numbers}
+use Rattle.link_entries.specs.Grouped.{groups_in}
 use Rattle.linker.specs.Parts.{planned_places}
-use Rattle.linker.specs.Bases.{filled_total, entry_in, entries_in}
+use Rattle.link_entries.specs.Bases.{filled_total, entry_in, entries_in}
 
 module _ (p : Program) (groups : CodeGroups) (zs : List ℕ) (n : ℕ) (are : zs ≡ map (size_of p groups) (numbers_below n)) where
   one_size : (f : ℕ) → f < n → get_or zs f 0 ≡ size_of p groups f

@@ -1,9 +1,3 @@
-pub mod Lent
-pub mod Grouped
-pub mod Bases
-pub mod Uses
-pub mod Making
-pub mod Recorded
-pub mod Filling
+pub mod Standing
 pub mod Placing
 pub mod Parts

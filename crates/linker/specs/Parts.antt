@@ -14,16 +14,16 @@ use Rattle.plan_model.specs.Boards.{slots_of}
 use Rattle.plan_model.specs.Placement.{global_address}
 use Rattle.code_model.specs.CompartmentCode.{CodePlaces, entry_of}
 use Rattle.monitor.specs.declared.tables.Tables.{Tables}
-use Rattle.linker.specs.declared.numbers.Numbers.{Numbers}
-use Rattle.linker.specs.declared.needed.Addresses.{Addresses}
-use Rattle.linker.specs.declared.making.Making.{Making}
+use Rattle.link_entries.specs.declared.numbers.Numbers.{Numbers}
+use Rattle.code_model.specs.declared.places.Addresses.{Addresses}
+use Rattle.link_entries.specs.declared.making.Making.{Making}
 use Rattle.linker.specs.declared.linking.Crossings.{Crossings}
 use Rattle.linker.specs.declared.linking.Fills.{Fills}
-use Rattle.linker.specs.Grouped.{groups_in}
-use Rattle.linker.specs.Making.{program_in}
-use Rattle.linker.specs.Recorded.{entry_in, site_records_in, target_records_in}
+use Rattle.link_entries.specs.Grouped.{groups_in}
+use Rattle.link_entries.specs.Making.{program_in}
+use Rattle.link_entries.specs.Recorded.{entry_in, site_records_in, target_records_in}
 use Rattle.link_model.specs.FirstWords.{first_words}
-use Rattle.linker.specs.Filling.{object_places}
+use Rattle.link_blocks.specs.Filling.{object_places}
 use Rattle.link_model.specs.LinkedTables.{Filled, comp_record, lend_sizes, filled, init_records}
 
 -- where the code of each compartment, each global and each window begins

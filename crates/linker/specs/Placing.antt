@@ -5,9 +5,9 @@ use Rattle.std.specs.List.{fold}
 use Rattle.words.specs.Bytes.{write_all}
 use Rattle.plan_model.specs.Lists.{numbers_below}
 use Rattle.monitor.specs.declared.tables.Tables.{Tables}
-use Rattle.linker.specs.declared.making.Making.{Making}
-use Rattle.linker.specs.Bases.{base_in}
-use Rattle.linker.specs.Making.{bytes_in}
+use Rattle.link_entries.specs.declared.making.Making.{Making}
+use Rattle.link_entries.specs.Bases.{base_in}
+use Rattle.linker.specs.Standing.{bytes_in}
 use Rattle.link_model.specs.LinkedImage.{flash_size, erased, with_tables}
 
 -- with the code of a compartment in its block

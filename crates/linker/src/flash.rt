@@ -8,12 +8,12 @@ ghost use Rattle.monitor.specs.Layout as layout;
 ghost use Rattle.monitor.specs.Area as areas;
 ghost use Rattle.monitor.specs.Page as pages;
 ghost use Rattle.link_model.specs.LinkedImage as images;
-ghost use Rattle.linker.specs.Making.{IsReady};
+ghost use Rattle.link_entries.specs.Making.{IsReady};
 ghost use Rattle.linker.specs.Placing.{with_code_of, flash_with};
 
 use crate::code::compartment_code;
-use crate::entries::base_of;
-use crate::making::Making;
+use link_entries::entries::base_of;
+use link_entries::making::Making;
 use monitor::{CompRecord, InitRecord, SiteRecord, Tables, TargetRecord};
 use monitor_code::page::page;
 use mpu_model::region::Region;

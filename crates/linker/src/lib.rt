@@ -2,16 +2,7 @@
 #![tactic(auto)]
 
 mod code;
-mod entries;
-mod fill;
 mod flash;
 mod linking;
-mod making;
-mod needed;
-mod numbers;
-mod places;
-mod records;
-mod sites;
-mod slots;
 
 pub use linking::link;

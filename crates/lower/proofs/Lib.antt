@@ -1,8 +1,6 @@
 mod Putting
 mod Calling
-mod Bare
 mod Sizing
-mod Sums
 mod Preparing
 mod Entering
 mod Blocks

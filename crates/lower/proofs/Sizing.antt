@@ -7,6 +7,7 @@ use Rattle.ir_program.specs.declared.program.Routine.{Routine}
 use Rattle.ir_program.specs.Storages.{shape_of}
 use Rattle.ir_program.specs.Seen.{routine_of}
 use Rattle.code_model.specs.FrameShape.{local_size, locals_size, starts_from, frame_size, local_starts}
+use Rattle.offsets.proofs.Bare.{same_locals}
 
 abbrev pub shapes : List Storage → List Shape
 shapes ss = map (shape_of []) ss
@@ -19,16 +20,12 @@ module _ (ss : List Storage) (i : ℕ) (d : Storage) (l : i < length ss) where
   starts_next n = ap (λ xs. starts_from n (shapes xs)) (drop_more ss i d l)
 
 -- cells do not matter for the frame
-same_sizes : (ks : List Known) (ss : List Storage) → locals_size (map (shape_of ks) ss) ≡ locals_size (shapes ss)
-same_sizes ks [] = refl
-same_sizes ks (s ∷ ss) = ap (λ n. local_size (shape_of [] s) + n) (same_sizes ks ss)
-
 same_starts : (ks : List Known) (n : ℕ) (ss : List Storage) → starts_from n (map (shape_of ks) ss) ≡ starts_from n (shapes ss)
 same_starts ks n [] = refl
 same_starts ks n (s ∷ ss) = ap (λ xs. n ∷ xs) (same_starts ks (n + local_size (shape_of [] s)) ss)
 
 pub same_frame_size : (ks : List Known) (r : Routine) → frame_size (routine_of ks r) ≡ frame_size (routine_of [] r)
-same_frame_size ks r = ap (λ n. rounded_up (4 * length (routine_of [] r).regs + n + 4) 8) (same_sizes ks r.locals)
+same_frame_size ks r = ap (λ n. rounded_up (4 * length (routine_of [] r).regs + n + 4) 8) (same_locals ks r.locals)
 
 pub same_local_starts : (ks : List Known) (r : Routine) → local_starts (routine_of ks r) ≡ local_starts (routine_of [] r)
 same_local_starts ks r = same_starts ks (4 * length (routine_of [] r).regs) r.locals

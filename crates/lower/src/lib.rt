@@ -1,4 +1,4 @@
-//! The code of functions, put into an assembler, and how long it is.
+//! The code of functions, put into an assembler.
 #![tactic(auto)]
 
 mod addresses;
@@ -9,9 +9,7 @@ mod frame;
 pub mod function;
 mod instructions;
 mod numbers;
-pub mod sizes;
 mod subject;
 mod templates;
 
 pub use function::lower;
-pub use sizes::size_of;

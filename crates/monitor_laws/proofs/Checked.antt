@@ -5,6 +5,7 @@ use Rattle.device_model.specs.declared.image.Image.{Image}
 use Rattle.device_model.specs.Rules.{block_size}
 use Rattle.common_laws.specs.Lists.{Each}
 use Rattle.windows.specs.Ranges.{IsInside, AreApart, are_apart, is_inside}
+use Rattle.windows.proofs.Decisions.{decides_inside, decides_apart}
 use Rattle.monitor.specs.declared.sound.AuditCheck.{AuditCheck}
 use Rattle.monitor.specs.declared.sound.AuditCheck.TheVariants as check
 use Rattle.monitor.specs.declared.tables.TargetRecord.{TargetRecord}
@@ -17,7 +18,7 @@ use Rattle.monitor.specs.MonitorCode.{MonitorCode}
 use Rattle.monitor.specs.Sound.{Failure, unless, first_failure, Sound}
 use Rattle.monitor.specs.Placed.{IsEntry}
 use Rattle.mpu_model.specs.Regions.{holds}
-use Rattle.common_laws.proofs.Tests.{either_true as either_is, both_true as both}
+use Rattle.common_laws.proofs.Tests.{both_true as both}
 
 pub le_is : (a b : ℕ) → nat_le a b ≡ true → a ≤ b
 le_is a b h = grind (arith, nat_tests)
@@ -30,16 +31,6 @@ eq_is a b h = grind (arith, nat_tests)
 
 pub is_not : (a b : ℕ) → not (nat_eq a b) ≡ true → a ≢ b
 is_not a b h = grind (arith, nat_tests)
-
-pub apart_is : (b n c m : ℕ) → are_apart b n c m ≡ true → AreApart b n c m
-apart_is b n c m h = go (either_is (nat_le (b + n) c) (nat_le (c + m) b) h)
-  where
-    go : (nat_le (b + n) c ≡ true) ⊎ (nat_le (c + m) b ≡ true) → AreApart b n c m
-    go (inl e) = inl (le_is (b + n) c e)
-    go (inr e) = inr (le_is (c + m) b e)
-
-pub inside_is : (b n o m : ℕ) → is_inside b n o m ≡ true → IsInside b n o m
-inside_is b n o m h = let p = both (nat_le o b) (nat_le (b + n) (o + m)) h in (le_is o b p.0, le_is (b + n) (o + m) p.1)
 
 -- ---- failures
 
@@ -104,7 +95,7 @@ header_is i h =
     let a = both (not (nat_eq i.monitor 0)) (not (nat_eq i.stack_size 0) && (are_apart i.monitor block_size i.stack_base i.stack_size && nat_le (page_size + head_size) (length i.flash))) (must_none _ i.flash_base h) in
     let b = both (not (nat_eq i.stack_size 0)) (are_apart i.monitor block_size i.stack_base i.stack_size && nat_le (page_size + head_size) (length i.flash)) a.1 in
     let c = both (are_apart i.monitor block_size i.stack_base i.stack_size) (nat_le (page_size + head_size) (length i.flash)) b.1 in
-    record { monitor = is_not i.monitor 0 a.0; stack = is_not i.stack_size 0 b.0; apart = apart_is i.monitor block_size i.stack_base i.stack_size c.0; room = le_is (page_size + head_size) (length i.flash) c.1 }
+    record { monitor = is_not i.monitor 0 a.0; stack = is_not i.stack_size 0 b.0; apart = (decides_apart i.monitor block_size i.stack_base i.stack_size).0 c.0; room = le_is (page_size + head_size) (length i.flash) c.1 }
 
 pub record TableHead (i : Image) (t : Tables) : Type 0 where
   pub some : 1 ≤ length t.comps
@@ -134,7 +125,7 @@ head_is i t h =
       stack_base = eq_is t.stack.base i.stack_base (must_none _ (head_at t + 20) e.0);
       stack_size = eq_is t.stack.size i.stack_size (must_none _ (head_at t + 24) f.0);
       monitor = eq_is t.monitor i.monitor (must_none _ (head_at t + 28) g.0);
-      inside = inside_is t.base (tables_size t) i.flash_base (length i.flash) m.0;
+      inside = (decides_inside t.base (tables_size t) i.flash_base (length i.flash)).0 m.0;
       area = le_is (area_end t) (t.base + tables_size t) m.1;
     }
 

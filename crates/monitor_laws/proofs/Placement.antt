@@ -76,7 +76,7 @@ module _ (i : Image) (t : Tables) (p : Placed i t) (has : HasTables i t) (stub :
     most = slots_between.1;
     few = p.most;
     comps = each_to (IsCompartment i t) (IsNumbered t) t.comps (λ c m. record { count = m.count; code = m.code_numbered; slots = m.slots_numbered }) p.comps;
-    stack_size = subst (λ z. Rattle.device_model.specs.Rules.IsPowerBetween 9 16 z) (sym p.stack_size) p.stack.size;
+    stack_size = subst (λ z. Rattle.windows.specs.Ranges.IsPowerBetween 9 16 z) (sym p.stack_size) p.stack.size;
     stack_aligned = ap₂ (λ b z. b % z) p.stack_base p.stack_size ∙ p.stack.aligned;
     stack_inside = (let a = p.stack.place.0 in let b = p.stack_base in omega (arith, a, b), let a = p.stack.place.1 in let b = p.stack_base in let z = p.stack_size in omega (arith, a, b, z));
   }

@@ -13,13 +13,14 @@ use Rattle.mpu_model.specs.RegionWords.{rights_word}
 use Rattle.mpu_model.specs.Configured.{AreNumbered}
 use Rattle.device_model.specs.declared.image.Image.{Image}
 use Rattle.windows.specs.Ranges.{IsInside, AreApart, is_inside, are_apart}
+use Rattle.windows.proofs.Decisions.{decides_inside, decides_apart}
 use Rattle.device_model.specs.Rules.{ObeysRules, block_size}
 use Rattle.monitor.specs.declared.tables.CompRecord.{CompRecord}
 use Rattle.monitor.specs.declared.tables.Tables.{Tables}
 use Rattle.common_laws.specs.Lists.{Each}
 use Rattle.monitor.specs.RegionChecks.{is_data_range, base_of, size_of, taken_out, has_form, eighths_hold_data, holds_data, is_code, is_free, is_data, is_read_only, is_cover, is_slot, are_slots, is_mask, is_compartment}
 use Rattle.monitor.specs.Placed.{IsCode, IsSlot, IsSlotByte, InFlashOf}
-use Rattle.monitor_laws.proofs.Checked.{le_is, lt_is, eq_is, apart_is, inside_is}
+use Rattle.monitor_laws.proofs.Checked.{le_is, lt_is, eq_is}
 use Rattle.common_laws.proofs.Tests.{both_true as both}
 
 -- ---- forms
@@ -94,7 +95,7 @@ code_is : (i : Image) (g : Region) → is_code i g ≡ true → IsCode i g
 code_is i g h =
     let p = both (has_form 2 0 Code g) (is_inside (base_of g) (size_of g) i.flash_base (length i.flash)) h in
     let f = form_of 2 0 Code g p.0 in
-    let n = inside_is (base_of g) (size_of g) i.flash_base (length i.flash) p.1 in
+    let n = (decides_inside (base_of g) (size_of g) i.flash_base (length i.flash)).0 p.1 in
     let w = code_word (size_log g) f.most in
     let e : permission g ≡ 6 = ap (λ x. x / 2 ^ 24 % 8) f.rasr ∙ w.0 in
     let x : g.rasr / 2 ^ 28 % 2 ≡ 0 = ap (λ x. x / 2 ^ 28 % 2) f.rasr ∙ w.1 in
@@ -135,12 +136,12 @@ module _ (i : Image) (t : Tables) (w : Grounds i t) where
   data_apart b n a h lo hi =
       let p = both (is_inside b n i.ram_base i.ram_size) (are_apart b n t.stack.base t.stack.size && are_apart b n t.monitor block_size) h in
       let q = both (are_apart b n t.stack.base t.stack.size) (are_apart b n t.monitor block_size) p.1 in
-      let r = inside_is b n i.ram_base i.ram_size p.0 in
+      let r = (decides_inside b n i.ram_base i.ram_size).0 p.0 in
       let r0 = r.0 in
       record {
         off_flash = λ f. let e = f.1 in let x = rules.flash_highest in let y = rules.flash_most in let z = rules.ram_lowest in omega (arith, e, x, y, z, r0, lo);
-        off_stack = one b n a t.stack.base t.stack.size (apart_is b n t.stack.base t.stack.size q.0) lo hi;
-        off_block = one b n a t.monitor block_size (apart_is b n t.monitor block_size q.1) lo hi;
+        off_stack = one b n a t.stack.base t.stack.size ((decides_apart b n t.stack.base t.stack.size).0 q.0) lo hi;
+        off_block = one b n a t.monitor block_size ((decides_apart b n t.monitor block_size).0 q.1) lo hi;
       }
     where
       one : (b n a c m : ℕ) → AreApart b n c m → b ≤ a → a < b + n → AreApart a 1 c m
@@ -284,7 +285,7 @@ module _ (i : Image) (t : Tables) (w : Grounds i t) where
       let f = form_of n 0 Device g p.0 in
       let v = cover_word (size_log g) f.most in
       let b = block_of n 0 Device g a few f (held_is g a k) in
-      byte g a (ap (λ x. x / 2 ^ 28 % 2) f.rasr ∙ v.0) (inl (ap (λ x. x / 2 ^ 24 % 8) f.rasr ∙ v.1)) (cover_apart (base_of g) (size_of g) a (inside_is (base_of g) (size_of g) 0x40000000 0x20000000 p.1) b.1)
+      byte g a (ap (λ x. x / 2 ^ 28 % 2) f.rasr ∙ v.0) (inl (ap (λ x. x / 2 ^ 24 % 8) f.rasr ∙ v.1)) (cover_apart (base_of g) (size_of g) a ((decides_inside (base_of g) (size_of g) 0x40000000 0x20000000).0 p.1) b.1)
 
   free_slot : (n : ℕ) (g : Region) → is_free n g ≡ true → IsSlot i t g
   free_slot n g h a k =

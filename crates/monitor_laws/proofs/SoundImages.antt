@@ -6,6 +6,7 @@ use Rattle.device_model.specs.declared.image.Image.{Image}
 use Rattle.device_model.specs.Rules.{ObeysRules, IsStack, block_size}
 use Rattle.common_laws.specs.Lists.{Each}
 use Rattle.windows.specs.Ranges.{IsInside, AreApart, is_inside, are_apart}
+use Rattle.windows.proofs.Decisions.{decides_inside}
 use Rattle.monitor.specs.declared.tables.CompRecord.{CompRecord}
 use Rattle.monitor.specs.declared.tables.InitRecord.{InitRecord}
 use Rattle.monitor.specs.declared.tables.Tables.{Tables}
@@ -21,7 +22,7 @@ use Rattle.monitor.specs.Placed.{Placed, IsCompartment, SoundImagesArePlaced}
 use Rattle.monitor.specs.Promises.{ImagesStart}
 use Rattle.monitor.specs.TheCode.{monitor_code}
 use Rattle.monitor_laws.specs.StartUp.{IsInit, IsReady, ReadyImagesStart}
-use Rattle.monitor_laws.proofs.Checked.{lt_is, eq_is, inside_is, must_none, and_none, begins_with, NoneFails, none_fails, Header, header_is, TableHead, head_is, regions_are, entries_are}
+use Rattle.monitor_laws.proofs.Checked.{lt_is, eq_is, must_none, and_none, begins_with, NoneFails, none_fails, Header, header_is, TableHead, head_is, regions_are, entries_are}
 use Rattle.monitor_laws.proofs.RegionForms.{Grounds, comp_is}
 use Rattle.monitor_laws.proofs.Sizes.{IsSize, tables_size_is}
 use Rattle.monitor_laws.proofs.ReadTables.{read_from, has_tables, slot_count, each_count, word_total}
@@ -136,7 +137,7 @@ module _ (code : MonitorCode) (i : Image) (rules : ObeysRules i) (nf : NoneFails
             at_aligned = x;
             end_aligned = y;
             some = lt;
-            in_ram = inside_is n.at (n.end - n.at) i.ram_base i.ram_size r.0;
+            in_ram = (decides_inside n.at (n.end - n.at) i.ram_base i.ram_size).0 r.0;
             from_aligned = ap (λ x. x % 4) e ∙ al;
             in_flash = subst (λ f. IsInside f (n.end - n.at) i.flash_base (length i.flash)) (sym e) (lo, room n.at n.end (sum_by words_in ns) x y lt (sums hi));
           }

@@ -17,11 +17,11 @@ use Rattle.code_model.specs.FrameShape.{local_size, locals_size, frame_shape}
 use Rattle.code_model.specs.Places.{crosses}
 use Rattle.code_model.specs.Sizes.{inst_size, term_size, entry_size, adjust_size, save_size, resume_size, insts_size, blocks_size, function_size, site_offset}
 
-same_locals : (ks : List Known) (ss : List Storage) → locals_size (map (shape_of ks) ss) ≡ locals_size (map (shape_of []) ss)
+pub same_locals : (ks : List Known) (ss : List Storage) → locals_size (map (shape_of ks) ss) ≡ locals_size (map (shape_of []) ss)
 same_locals ks [] = refl
 same_locals ks (s ∷ ss) = ap (λ n. local_size (shape_of [] s) + n) (same_locals ks ss)
 
-same_words : (ks : List Known) (r : Routine) → (frame_shape (routine_of ks r)).words ≡ (frame_shape (routine_of [] r)).words
+pub same_words : (ks : List Known) (r : Routine) → (frame_shape (routine_of ks r)).words ≡ (frame_shape (routine_of [] r)).words
 same_words ks r = ap (λ n. (rounded_up (4 * length (routine_of [] r).regs + n + 4) 8 - 4) / 4) (same_locals ks r.locals)
 
 same_inst : (ks : List Known) (x : Bool) (o : Operation) → inst_size x (operation_of ks o) ≡ inst_size x (operation_of [] o)

@@ -9,7 +9,7 @@ ghost use Rattle.code_model.specs.FrameShape as frames;
 use ir_program::program::{Routine, Storage};
 
 /// A number of bytes, rounded up to a multiple of another; none where that takes more than 32 bits.
-fn rounded_up(bytes: u32, to: u32) -> Option<u32>
+pub fn rounded_up(bytes: u32, to: u32) -> Option<u32>
     requires { 0 < to }
     ensures { IfSome result (λ n. n ≡ rounded bytes to) }
 {

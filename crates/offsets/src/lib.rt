@@ -1,7 +1,7 @@
 //! Where the code of a place stands in its function, told without any address.
 #![tactic(auto)]
 
-mod frame;
+pub mod frame;
 pub mod sizes;
 
 pub use sizes::site_offset;

@@ -1,4 +1,6 @@
 mod Entries
 mod Appends
 mod Filling
+mod Refusals
 pub mod Prefixes
+pub mod Paths

@@ -2,3 +2,4 @@ pub mod Reading
 pub mod Counts
 pub mod Contents
 pub mod Memory
+pub mod Calls

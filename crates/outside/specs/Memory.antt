@@ -1,9 +1,10 @@
 -- Beyond the program's claim: only laws, proofs and functions inside the tool cite this file.
 -- Files and a sink in memory, whose calls are numbered from 0 and fail by their numbers.
-use Rattle.std.specs.Prelude.{◌≡◌, ◌≢◌, ◌⊎◌, ℕ, ◌+◌, ◌-◌, ◌^◌, ◌<◌, min, List, [], length, take, Option, Some, None, Result, Ok, Err, IsSomeAnd, Contains, unwrap_or, Bool, true, not, ◌&&◌, ◌∷◌}
+use Rattle.std.specs.Prelude.{◌≡◌, ◌≢◌, ◌⊎◌, ℕ, ◌+◌, ◌-◌, ◌^◌, ◌<◌, min, List, [], length, take, drop, Option, Some, None, Result, Ok, Err, IsSomeAnd, Contains, unwrap_or, Bool, true, not, ◌&&◌, ◌∷◌}
 use Rattle.std.specs.Option.{option_map, option_and_then}
 use Rattle.std.specs.List.{find, list_all}
 use Rattle.std.specs.Str.{bytes_eq}
+use Rattle.outside.specs.Calls.{Call, Size, Read, Create, Append}
 
 -- a counter of 64 bits after one more, which stays at its last value
 abbrev pub next : ℕ → ℕ
@@ -106,3 +107,17 @@ pub record Rewrites (old new : List Entry) (name : List ℕ) (bytes : List ℕ) 
   pub there : held_in new name ≡ Some bytes
   pub elsewhere : (other : List ℕ) → other ≢ name → held_in new other ≡ held_in old other
   pub rooms : (other : List ℕ) → room_in new other ≡ room_in old other
+
+-- what a call that did not fail answers, by what is held
+abbrev pub IsAnswered : FilesState → Call → Type 0
+IsAnswered files (Size name (Some size)) = option_map length (held files name) ≡ Some size
+IsAnswered files (Size name None) = Unit {0}
+IsAnswered files (Read name place (Some piece)) =
+    option_map (λ bytes. take (length piece) (drop place bytes)) (held files name) ≡ Some piece
+IsAnswered files (Read name place None) = Unit {0}
+IsAnswered files (Create name done) = Unit {0}
+IsAnswered files (Append name piece done) = Unit {0}
+
+-- this call left these files: it answered by what was held, and it was counted
+abbrev pub IsCalled : FilesState → Call → FilesState → Type 0
+IsCalled before call after = IsAnswered before call × (after.calls ≡ next before.calls)

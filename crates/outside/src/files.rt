@@ -1,8 +1,10 @@
 // Files by name, as the program sees them.
-ghost use Rattle.std.specs.Prelude.{◌≡◌, ◌≢◌, ◌⊎◌, ◌≤◌, ℕ, Bool, IsTrue, List, [], ◌++◌, length, take, Option, Some, IsNone, IsErr, IfOk, OnOk, OnErr, IfSome};
+ghost use Rattle.std.specs.Prelude.{◌≡◌, ◌≢◌, ◌⊎◌, ◌≤◌, ℕ, Bool, IsTrue, List, [], ◌++◌, length, take, Option, Some, IsNone, is_ok, IsErr, IfOk, OnOk, OnErr, IfSome};
 ghost use Rattle.std.specs.Option.{option_map};
+ghost use Rattle.std.specs.Result.{result_ok};
 ghost use Rattle.outside.specs.Counts.{Rose, Counts};
 ghost use Rattle.outside.specs.Contents.{HoldsPrefix, ReadsFrom};
+ghost use Rattle.outside.specs.Calls.{Call, Size, Read, Create, Append};
 
 /// A call on the outside did not do what was asked. The counts of the object say whether it was a fault.
 #[derive(Clone, Copy, Debug, PartialEq, Eq)]
@@ -26,12 +28,9 @@ pub trait Files {
     /// How many calls to write have failed by a fault. A count of 64 bits stays at its last value.
     ghost write_faults: { Self → ℕ };
 
-    /// That `size` on these files, by this name, answered this number. It lets a caller say what was
-    /// answered where the contents aren't told.
-    ghost sized: { Self → List ℕ → ℕ → Type 0 } = { λ _ _ _. Unit {0} };
-
-    /// That `read_at` on these files, by this name, from this place, gave these bytes.
-    ghost gave: { Self → List ℕ → ℕ → List ℕ → Type 0 } = { λ _ _ _ _. Unit {0} };
+    /// That this call on the first files, with its answer, left the second. It lets a caller say which calls were made, and what they
+    /// answered, where the contents aren't told.
+    ghost called: { Self → Call → Self → Type 0 } = { λ _ _ _. Unit {0} };
 
     /// How many bytes the name holds.
     ///
@@ -39,7 +38,7 @@ pub trait Files {
     /// `Failed` where the name isn't there, and at a read fault.
     fn size(&mut self, name: &str) -> Result<u64, Failed>
         ensures bytes { IsTrue told → IfOk result (λ n. option_map length (held self.old name.now) ≡ Some n) }
-        ensures answer { IfOk result (sized self.old name.now) }
+        ensures answer { called self.old (Size name.now (result_ok result)) self.new }
 
         // It fails only by a read fault or, contents being told, where the name isn't there, and then no
         // count rises.
@@ -61,7 +60,7 @@ pub trait Files {
         ensures fits { IfOk result (λ n. n ≤ length buf.old) }
         ensures bytes { IsTrue told → IfOk result (λ n.
             IfSome (held self.old name.now) (λ bytes. ReadsFrom bytes at buf.new n)) }
-        ensures answer { IfOk result (λ n. gave self.old name.now at (take n buf.new)) }
+        ensures answer { called self.old (Read name.now at (option_map (λ n. take n buf.new) (result_ok result))) self.new }
 
         ensures cause { OnErr result (Rose (read_faults self.old) (read_faults self.new)
             ⊎ (IsTrue told × IsNone (held self.old name.now))) }
@@ -78,6 +77,7 @@ pub trait Files {
     /// `Failed` at a write fault. Then the name holds what it held.
     fn create(&mut self, name: &str) -> Result<(), Failed>
         ensures bytes { IsTrue told → OnOk result (held self.new name.now ≡ Some []) }
+        ensures answer { called self.old (Create name.now (is_ok result)) self.new }
         ensures elsewhere { (other : List ℕ) → other ≢ name.now → held self.new other ≡ held self.old other }
 
         ensures cause { OnErr result (Rose (write_faults self.old) (write_faults self.new)) }
@@ -93,6 +93,7 @@ pub trait Files {
     fn append(&mut self, name: &str, piece: &[u8]) -> Result<(), Failed>
         ensures bytes { IsTrue told → OnOk result (held self.new name.now
             ≡ option_map (λ bytes. bytes ++ piece.now) (held self.old name.now)) }
+        ensures answer { called self.old (Append name.now piece.now (is_ok result)) self.new }
         ensures elsewhere { (other : List ℕ) → other ≢ name.now → held self.new other ≡ held self.old other }
 
         ensures cause { OnErr result (Rose (write_faults self.old) (write_faults self.new)

@@ -4,7 +4,7 @@ ghost use Rattle.std.specs.Bool.{OnTrue, OnFalse};
 ghost use Rattle.std.specs.Option.{option_map, option_copied};
 ghost use Rattle.std.specs.Str.{bytes_eq};
 ghost use Rattle.outside.specs.Counts.{Counts};
-ghost use Rattle.outside.specs.Memory.{next, IsFailing, held, room, held_in, room_in, room_left_in, entry_of, names_differ, Passes, Rewrites, PassesRoom, kept, faults_after};
+ghost use Rattle.outside.specs.Memory.{next, IsFailing, held, room, held_in, room_in, room_left_in, entry_of, names_differ, Passes, Rewrites, PassesRoom, kept, faults_after, IsCalled};
 
 use crate::slot::Slot;
 use crate::{Failed, Files, MemEntry};
@@ -113,9 +113,7 @@ impl Files for MemFiles {
 
     ghost held = { held };
 
-    ghost sized = { λ f name n. option_map length (held f name) ≡ Some n };
-
-    ghost gave = { λ f name at piece. option_map (λ bytes. take (length piece) (drop at bytes)) (held f name) ≡ Some piece };
+    ghost called = { IsCalled };
 
     ghost read_faults = { λ f. f.read_faults };
 

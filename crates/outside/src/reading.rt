@@ -1,8 +1,9 @@
 // Reading a file whole.
-ghost use Rattle.std.specs.Prelude.{◌≡◌, ◌⊎◌, ◌<◌, ◌≤◌, ℕ, length, take, Some, IsTrue, IsNone, IfOk, IfSome, OnErr, IsErrOf, IsSomeAnd};
+ghost use Rattle.std.specs.Prelude.{◌≡◌, ◌⊎◌, ◌<◌, ◌≤◌, ℕ, List, All, length, take, Some, IsTrue, IsNone, IfOk, IfSome, OnErr, IsErrOf, IsSomeAnd};
 ghost use Rattle.outside.specs.declared.reading.ReadRefusal.TheVariants.{Failed as failed, NoMemory};
 ghost use Rattle.outside.specs.Counts.{Rose, Counts};
-ghost use Rattle.outside.specs.Reading.{AllPieces};
+ghost use Rattle.outside.specs.Calls.{Call, Calls};
+ghost use Rattle.outside.specs.Reading.{Reads, AllPieces, ReadsWhole, AsksSize};
 
 use crate::{Failed, Files};
 use std::alloc::{AllocError, Global};
@@ -51,14 +52,13 @@ pub fn read_whole<F: Files>(
 ) -> Result<Vec<u8>, ReadRefusal>
     ensures bytes { IsTrue F.told → IfOk result (λ bytes. F.held files.old name.now ≡ Some bytes.items) }
     ensures within { IfOk result (λ bytes. length bytes.items ≤ limit) }
-    ensures pieces { IfOk result (λ bytes. (size : ℕ) × F.sized files.old name.now size × (size ≤ limit)
-        × AllPieces F.gave name.now size bytes.items) }
 
-    // It is too long exactly where `size` answered more than the limit.
-    ensures too_long { IsErrOf result ReadRefusal.TooLong →
-        (size : ℕ) × F.sized files.old name.now size × (limit < size) }
-    ensures no_memory { IsErrOf result ReadRefusal.NoMemory →
-        (size : ℕ) × F.sized files.old name.now size × (size ≤ limit) }
+    // The calls that it makes. It is too long exactly where `size` answered more than the limit.
+    ensures calls { (calls : List Call) × Calls F.called files.old calls files.new
+        × All (Reads name.now) calls
+        × IfOk result (λ bytes. ReadsWhole name.now limit calls bytes.items)
+        × (IsErrOf result ReadRefusal.TooLong → (size : ℕ) × AsksSize name.now size calls × (limit < size))
+        × (IsErrOf result ReadRefusal.NoMemory → (size : ℕ) × AsksSize name.now size calls × (size ≤ limit)) }
     ensures too_long_told { IsTrue F.told → IsErrOf result ReadRefusal.TooLong →
         IsSomeAnd (F.held files.old name.now) (λ bytes. limit < length bytes) }
     ensures no_memory_told { IsTrue F.told → IsErrOf result ReadRefusal.NoMemory →
@@ -90,7 +90,9 @@ fn fill<F: Files>(files: &mut F, name: &str, buf: &mut [u8]) -> Result<usize, Fa
     ensures fits { IfOk result (λ n. n ≤ length buf.old) }
     ensures bytes { IsTrue F.told → IfOk result (λ n. IfSome (F.held files.old name.now) (λ bytes.
         (take n buf.new ≡ take n bytes) × ((n ≡ length buf.old) ⊎ (length bytes ≤ n)))) }
-    ensures pieces { IfOk result (λ n. AllPieces F.gave name.now (length buf.old) (take n buf.new)) }
+    ensures calls { (calls : List Call) × Calls F.called files.old calls files.new
+        × All (Reads name.now) calls
+        × IfOk result (λ n. AllPieces name.now (length buf.old) calls (take n buf.new)) }
     ensures cause { OnErr result (Rose (F.read_faults files.old) (F.read_faults files.new)
         ⊎ (IsTrue F.told × IsNone (F.held files.old name.now))) }
     ensures same { F.held files.new ≡ F.held files.old }

@@ -104,7 +104,7 @@ module _ (i : Image) (t : Tables) (p : Placed i t) where
   -- ---- the new TOP
 
   size_is : StackSize t.stack.size
-  size_is = stack_size t.stack.size (subst (λ z. Rattle.device_model.specs.Rules.IsPowerBetween 9 16 z) (sym p.stack_size) p.stack.size)
+  size_is = stack_size t.stack.size (subst (λ z. Rattle.windows.specs.Ranges.IsPowerBetween 9 16 z) (sym p.stack_size) p.stack.size)
 
   four_times : (n e : ℕ) → e % 4 ≡ 0 → (n * e) % 4 ≡ 0
   four_times n e h =

@@ -7,6 +7,7 @@ use ir_model::equal::same_type;
 use ir_model::firmware::Firmware;
 use ir_model::name::{Name, NameRefusal};
 use ir_model::object::ObjId;
+use ir_model::text_limits::TEXT_LIMIT;
 use ir_model::types::Ty;
 use ir_printer::print::print;
 use ir_reader::read;
@@ -15,7 +16,7 @@ use std::process::Abort;
 use std::test::Fail;
 
 fn firmware(rt: &impl Abort, alloc: Global, text: &[u8]) -> Result<Firmware, Fail> {
-    assert!(rt; text.len() <= 4_194_304);
+    assert!(rt; text.len() <= TEXT_LIMIT as usize);
     Ok(read(alloc, text)?)
 }
 

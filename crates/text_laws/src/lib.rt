@@ -3,6 +3,7 @@
 
 ghost use Rattle.std.specs.Prelude.{◌≡◌, ◌≤◌, length, IfOk};
 ghost use Rattle.ir_model.specs.Plain.{firmware_of};
+ghost use Rattle.ir_model.specs.TextLimits.{text_limit};
 ghost use Rattle.ir_model.specs.Canonical.{canonical, IsWithinLimits};
 ghost use Rattle.ir_reader.specs.First.{IsAccepted};
 ghost use Rattle.text_laws.specs.CanonicalTexts.{CanonicalTextsAreOwn};
@@ -23,7 +24,7 @@ pub fn canonical_texts()
 /// What is printed of a firmware within the limits is read back as that firmware, unless memory runs out.
 pub fn read_back(alloc: Global, f: &Firmware) -> Result<Firmware, TextFault>
     requires limits { IsWithinLimits (firmware_of f.now) }
-    requires short { length (canonical (firmware_of f.now)) ≤ 4194304 }
+    requires short { length (canonical (firmware_of f.now)) ≤ text_limit }
     ensures same { IfOk result (λ x. firmware_of x ≡ firmware_of f.now) }
     ensures only { IsAccepted result }
 {

@@ -1,6 +1,9 @@
-use Rattle.std.proofs.Common.{inl, arith, ◌∙◌, sym, map, string_bytes, Global}
+use Rattle.std.proofs.Common.{inl, [], refl, arith, ◌∙◌, sym, map, string_bytes, Global}
+use Rattle.std.proofs.lemmas.List.Elements.{All-nil, All-weaker}
 use Rattle.aces_words.specs.Commands.{request_of}
-use Rattle.aces_cli.specs.Known.{Holds, Exceeds, WasRead, WasTooLarge, IsKnown, IsKnownLarge}
+use Rattle.aces_words.specs.Requests.{Request, Asks}
+use Rattle.aces_cli.specs.Known.{Holds, Exceeds, WasRead, WasTooLarge, IsCallOf}
+use Rattle.aces_cli.specs.Did.{IsKnown, IsKnownLarge}
 use Rattle.aces_cli.specs.Answer.{Answer}
 use Rattle.aces_reports.specs.Sinks.{sink}
 use Rattle.aces_cli.specs.Effects.{world}
@@ -16,92 +19,97 @@ returns-in-None-clause-answer g c told plain =
     (world g.F.Files c.args.files.now (sink g.O.Sink c.args.out.now)) (sink g.E.Sink c.args.err.now) (sink g.E.Sink c.say.new.err)
     c.in-None.ensures.usage c.say.ensures
 
-pub returns-in-None-clause-answer_to_reads : goal.returns-in-None-clause-answer_to_reads
-returns-in-None-clause-answer_to_reads g c plain =
-    usage_answered (WasRead g.F.Files) (WasTooLarge g.F.Files) (map (string_bytes {Z = Global}) c.args.words.now)
-    (world g.F.Files c.args.files.now (sink g.O.Sink c.args.out.now)) (sink g.E.Sink c.args.err.now) (sink g.E.Sink c.say.new.err)
-    c.in-None.ensures.usage c.say.ensures
+pub returns-in-None-clause-calls : goal.returns-in-None-clause-calls
+returns-in-None-clause-calls g c = (
+  [],
+  refl,
+  record {
+    asked = All-nil _;
+    answered = λ plain. usage_answered (WasRead []) (WasTooLarge []) (map (string_bytes {Z = Global}) c.args.words.now)
+        (world g.F.Files c.args.files.now (sink g.O.Sink c.args.out.now)) (sink g.E.Sink c.args.err.now) (sink g.E.Sink c.say.new.err)
+        c.in-None.ensures.usage c.say.ensures;
+    partly = λ five. let f : ⊥ = omega (arith, five) in absurd f;
+    printed_in_part = λ six. inl refl;
+  },
+)
 
 pub returns-in-Some-clause-answer : goal.returns-in-Some-clause-answer
 returns-in-Some-clause-answer g c told plain =
     let of = g.F.Files in
     let files = c.args.files.now in
+    let d = c.perform-ended.ensures in
     let r = request_of c.in-Some.command in
     let old = world of files (sink g.O.Sink c.args.out.now) in
     let new = world of c.perform-ended.new.files (sink g.O.Sink c.perform-ended.new.out) in
-    let also = answer_also (IsKnown of files) (Holds (of.held files)) (IsKnownLarge of files) (Exceeds (of.held files)) (λ s b k. k.1 told) (λ s k. k.1 told) r in
+    let also = answer_also (IsKnown of.told (of.held files) d.0) (Holds (of.held files)) (IsKnownLarge of.told (of.held files) d.0) (Exceeds (of.held files)) (λ s b k. k.1 told) (λ s k. k.1 told) r in
     answered (Holds (of.held files)) (Exceeds (of.held files)) (map (string_bytes {Z = Global}) c.args.words.now) r c.in-Some.ensures.command
     old new (sink g.E.Sink c.args.err.now) (sink g.E.Sink c.report.new.err) c.perform-ended.result c.report.result c.report.ensures.status
-    (did_also (Answer (IsKnown of files) (IsKnownLarge of files) r) (Answer (Holds (of.held files)) (Exceeds (of.held files)) r) also r old new c.perform-ended.result c.perform-ended.ensures)
+    (did_also (Answer (IsKnown of.told (of.held files) d.0) (IsKnownLarge of.told (of.held files) d.0) r) (Answer (Holds (of.held files)) (Exceeds (of.held files)) r) also r old new c.perform-ended.result d.3)
     c.report.ensures.line plain
 
-pub returns-in-Some-clause-answer_to_reads : goal.returns-in-Some-clause-answer_to_reads
-returns-in-Some-clause-answer_to_reads g c plain =
+pub returns-in-Some-clause-calls : goal.returns-in-Some-clause-calls
+returns-in-Some-clause-calls g c =
     let of = g.F.Files in
     let files = c.args.files.now in
+    let words = map (string_bytes {Z = Global}) c.args.words.now in
     let r = request_of c.in-Some.command in
+    let d = c.perform-ended.ensures in
+    let read = WasRead d.0 in
+    let large = WasTooLarge d.0 in
     let old = world of files (sink g.O.Sink c.args.out.now) in
     let new = world of c.perform-ended.new.files (sink g.O.Sink c.perform-ended.new.out) in
-    let also = answer_also (IsKnown of files) (WasRead of) (IsKnownLarge of files) (WasTooLarge of) (λ s b k. k.0) (λ s k. k.0) r in
-    answered (WasRead of) (WasTooLarge of) (map (string_bytes {Z = Global}) c.args.words.now) r c.in-Some.ensures.command
-    old new (sink g.E.Sink c.args.err.now) (sink g.E.Sink c.report.new.err) c.perform-ended.result c.report.result c.report.ensures.status
-    (did_also (Answer (IsKnown of files) (IsKnownLarge of files) r) (Answer (WasRead of) (WasTooLarge of) r) also r old new c.perform-ended.result c.perform-ended.ensures)
-    c.report.ensures.line plain
+    let err_old = sink g.E.Sink c.args.err.now in
+    let err_new = sink g.E.Sink c.report.new.err in
+    let known = IsKnown of.told (of.held files) d.0 in
+    let known_large = IsKnownLarge of.told (of.held files) d.0 in
+    let did = did_also (Answer known known_large r) (Answer read large r) (answer_also known read known_large large (λ s b k. k.0) (λ s k. k.0) r)
+    r old new c.perform-ended.result d.3 in (
+      d.0,
+      d.1,
+      record {
+        asked = All-weaker (IsCallOf r) (λ call. (q : Request) × Asks words q × IsCallOf q call) (λ call h. (r, c.in-Some.ensures.command, h)) d.0 d.2;
+        answered = λ plain. answered read large words r c.in-Some.ensures.command old new err_old err_new c.perform-ended.result c.report.result
+            c.report.ensures.status did c.report.ensures.line plain;
+        partly = λ five. partly read large words r c.in-Some.ensures.command old new err_old err_new c.perform-ended.result
+            (sym c.report.ensures.status ∙ five) did;
+        printed_in_part = λ six. printed_in_part read large words r c.in-Some.ensures.command old new err_old err_new c.perform-ended.result
+            (sym c.report.ensures.status ∙ six) did;
+      },
+    )
 
 pub returns-in-Some-clause-partly : goal.returns-in-Some-clause-partly
 returns-in-Some-clause-partly g c told five =
     let of = g.F.Files in
     let files = c.args.files.now in
+    let d = c.perform-ended.ensures in
     let r = request_of c.in-Some.command in
     let old = world of files (sink g.O.Sink c.args.out.now) in
     let new = world of c.perform-ended.new.files (sink g.O.Sink c.perform-ended.new.out) in
-    let also = answer_also (IsKnown of files) (Holds (of.held files)) (IsKnownLarge of files) (Exceeds (of.held files)) (λ s b k. k.1 told) (λ s k. k.1 told) r in
+    let also = answer_also (IsKnown of.told (of.held files) d.0) (Holds (of.held files)) (IsKnownLarge of.told (of.held files) d.0) (Exceeds (of.held files)) (λ s b k. k.1 told) (λ s k. k.1 told) r in
     partly (Holds (of.held files)) (Exceeds (of.held files)) (map (string_bytes {Z = Global}) c.args.words.now) r c.in-Some.ensures.command
     old new (sink g.E.Sink c.args.err.now) (sink g.E.Sink c.report.new.err) c.perform-ended.result (sym c.report.ensures.status ∙ five)
-    (did_also (Answer (IsKnown of files) (IsKnownLarge of files) r) (Answer (Holds (of.held files)) (Exceeds (of.held files)) r) also r old new c.perform-ended.result c.perform-ended.ensures)
-
-pub returns-in-Some-clause-partly_of_reads : goal.returns-in-Some-clause-partly_of_reads
-returns-in-Some-clause-partly_of_reads g c five =
-    let of = g.F.Files in
-    let files = c.args.files.now in
-    let r = request_of c.in-Some.command in
-    let old = world of files (sink g.O.Sink c.args.out.now) in
-    let new = world of c.perform-ended.new.files (sink g.O.Sink c.perform-ended.new.out) in
-    let also = answer_also (IsKnown of files) (WasRead of) (IsKnownLarge of files) (WasTooLarge of) (λ s b k. k.0) (λ s k. k.0) r in
-    partly (WasRead of) (WasTooLarge of) (map (string_bytes {Z = Global}) c.args.words.now) r c.in-Some.ensures.command
-    old new (sink g.E.Sink c.args.err.now) (sink g.E.Sink c.report.new.err) c.perform-ended.result (sym c.report.ensures.status ∙ five)
-    (did_also (Answer (IsKnown of files) (IsKnownLarge of files) r) (Answer (WasRead of) (WasTooLarge of) r) also r old new c.perform-ended.result c.perform-ended.ensures)
+    (did_also (Answer (IsKnown of.told (of.held files) d.0) (IsKnownLarge of.told (of.held files) d.0) r) (Answer (Holds (of.held files)) (Exceeds (of.held files)) r) also r old new c.perform-ended.result d.3)
 
 pub returns-in-Some-clause-printed_in_part : goal.returns-in-Some-clause-printed_in_part
 returns-in-Some-clause-printed_in_part g c told six =
     let of = g.F.Files in
     let files = c.args.files.now in
+    let d = c.perform-ended.ensures in
     let r = request_of c.in-Some.command in
     let old = world of files (sink g.O.Sink c.args.out.now) in
     let new = world of c.perform-ended.new.files (sink g.O.Sink c.perform-ended.new.out) in
-    let also = answer_also (IsKnown of files) (Holds (of.held files)) (IsKnownLarge of files) (Exceeds (of.held files)) (λ s b k. k.1 told) (λ s k. k.1 told) r in
+    let also = answer_also (IsKnown of.told (of.held files) d.0) (Holds (of.held files)) (IsKnownLarge of.told (of.held files) d.0) (Exceeds (of.held files)) (λ s b k. k.1 told) (λ s k. k.1 told) r in
     printed_in_part (Holds (of.held files)) (Exceeds (of.held files)) (map (string_bytes {Z = Global}) c.args.words.now) r c.in-Some.ensures.command
     old new (sink g.E.Sink c.args.err.now) (sink g.E.Sink c.report.new.err) c.perform-ended.result (sym c.report.ensures.status ∙ six)
-    (did_also (Answer (IsKnown of files) (IsKnownLarge of files) r) (Answer (Holds (of.held files)) (Exceeds (of.held files)) r) also r old new c.perform-ended.result c.perform-ended.ensures)
-
-pub returns-in-Some-clause-printed_in_part_of_reads : goal.returns-in-Some-clause-printed_in_part_of_reads
-returns-in-Some-clause-printed_in_part_of_reads g c six =
-    let of = g.F.Files in
-    let files = c.args.files.now in
-    let r = request_of c.in-Some.command in
-    let old = world of files (sink g.O.Sink c.args.out.now) in
-    let new = world of c.perform-ended.new.files (sink g.O.Sink c.perform-ended.new.out) in
-    let also = answer_also (IsKnown of files) (WasRead of) (IsKnownLarge of files) (WasTooLarge of) (λ s b k. k.0) (λ s k. k.0) r in
-    printed_in_part (WasRead of) (WasTooLarge of) (map (string_bytes {Z = Global}) c.args.words.now) r c.in-Some.ensures.command
-    old new (sink g.E.Sink c.args.err.now) (sink g.E.Sink c.report.new.err) c.perform-ended.result (sym c.report.ensures.status ∙ six)
-    (did_also (Answer (IsKnown of files) (IsKnownLarge of files) r) (Answer (WasRead of) (WasTooLarge of) r) also r old new c.perform-ended.result c.perform-ended.ensures)
+    (did_also (Answer (IsKnown of.told (of.held files) d.0) (IsKnownLarge of.told (of.held files) d.0) r) (Answer (Holds (of.held files)) (Exceeds (of.held files)) r) also r old new c.perform-ended.result d.3)
 
 pub returns-in-Some-clause-kept : goal.returns-in-Some-clause-kept
 returns-in-Some-clause-kept g c some whole =
     let of = g.F.Files in
     let files = c.args.files.now in
-    held_stays (IsKnown of files) (IsKnownLarge of files) (request_of c.in-Some.command)
-    (world of files (sink g.O.Sink c.args.out.now)) (world of c.perform-ended.new.files (sink g.O.Sink c.perform-ended.new.out)) c.perform-ended.result c.perform-ended.ensures
+    let d = c.perform-ended.ensures in
+    held_stays (IsKnown of.told (of.held files) d.0) (IsKnownLarge of.told (of.held files) d.0) (request_of c.in-Some.command)
+    (world of files (sink g.O.Sink c.args.out.now)) (world of c.perform-ended.new.files (sink g.O.Sink c.perform-ended.new.out)) c.perform-ended.result d.3
     (λ z. some (c.report.ensures.status ∙ z)) (λ z. whole (c.report.ensures.status ∙ z))
 
 pub returns-in-None-clause-settled : goal.returns-in-None-clause-settled
@@ -114,20 +122,22 @@ pub returns-in-Some-clause-settled : goal.returns-in-Some-clause-settled
 returns-in-Some-clause-settled g c told none there =
     let of = g.F.Files in
     let files = c.args.files.now in
+    let d = c.perform-ended.ensures in
     let r = request_of c.in-Some.command in
     settled (map (string_bytes {Z = Global}) c.args.words.now) r c.in-Some.ensures.command
     (world of files (sink g.O.Sink c.args.out.now)) (world of c.perform-ended.new.files (sink g.O.Sink c.perform-ended.new.out)) told none c.perform-ended.result c.report.result c.report.ensures.status
-    (Answer (IsKnown of files) (IsKnownLarge of files) r) c.perform-ended.ensures there
+    (Answer (IsKnown of.told (of.held files) d.0) (IsKnownLarge of.told (of.held files) d.0) r) d.3 there
 
 pub returns-in-Some-clause-complete : goal.returns-in-Some-clause-complete
 returns-in-Some-clause-complete g c told none q asks good =
     let of = g.F.Files in
     let files = c.args.files.now in
+    let d = c.perform-ended.ensures in
     let r = request_of c.in-Some.command in
     let old = world of files (sink g.O.Sink c.args.out.now) in
     let new = world of c.perform-ended.new.files (sink g.O.Sink c.perform-ended.new.out) in
-    let also = answer_also (IsKnown of files) (Holds (of.held files)) (IsKnownLarge of files) (Exceeds (of.held files)) (λ s b k. k.1 told) (λ s k. k.1 told) r in
+    let also = answer_also (IsKnown of.told (of.held files) d.0) (Holds (of.held files)) (IsKnownLarge of.told (of.held files) d.0) (Exceeds (of.held files)) (λ s b k. k.1 told) (λ s k. k.1 told) r in
     complete (map (string_bytes {Z = Global}) c.args.words.now) r c.in-Some.ensures.command old new told none c.perform-ended.result c.report.result c.report.ensures.status
     c.good_requests.ensures
-    (did_also (Answer (IsKnown of files) (IsKnownLarge of files) r) (Answer (Holds (of.held files)) (Exceeds (of.held files)) r) also r old new c.perform-ended.result c.perform-ended.ensures)
+    (did_also (Answer (IsKnown of.told (of.held files) d.0) (IsKnownLarge of.told (of.held files) d.0) r) (Answer (Holds (of.held files)) (Exceeds (of.held files)) r) also r old new c.perform-ended.result d.3)
     q asks good

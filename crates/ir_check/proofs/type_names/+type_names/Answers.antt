@@ -29,7 +29,7 @@ type_names-returns-in_err-row_names-in-Callee t c =
     let e : type_of c.args.ty.now ≡ Callee (types_from (map type_of c.in-Callee.signature.params)) (boxed_result_of c.in-Callee.signature.result) = search (rules, code.the_lemmas, rows) in
     told (type_checks c.args.declared.now c.args.earlier.now (place_of c.args.spot) (type_of c.args.ty.now)) c.from_residual.result c.in_err-row_names-in-Callee.field-0.0 c.from_residual.ensures.1
     (subst (λ u. Refused (type_checks c.args.declared.now c.args.earlier.now (place_of c.args.spot) u) c.in_err-row_names-in-Callee.field-0.0) (sym e)
-    (refused_left (row_checks c.args.declared.now (place_of c.args.spot) (types_from (map type_of c.in-Callee.signature.params))) (result_checks c.args.declared.now (place_of c.args.spot) (boxed_result_of c.in-Callee.signature.result)) c.in_err-row_names-in-Callee.field-0.0 c.in_err-row_names-in-Callee.ensures))
+    (refused_left (row_checks c.args.declared.now (place_of c.args.spot) (types_from (map type_of c.in-Callee.signature.params))) (result_checks c.args.declared.now (place_of c.args.spot) (boxed_result_of c.in-Callee.signature.result)) c.in_err-row_names-in-Callee.field-0.0 (rw c.as_slice.ensures at c.in_err-row_names-in-Callee.ensures)))
 
 pub type_names-returns-in_err-result_names-in-Callee :
     goal.type_names-returns-in_err-result_names-in-Callee
@@ -37,11 +37,11 @@ type_names-returns-in_err-result_names-in-Callee t c =
     let e : type_of c.args.ty.now ≡ Callee (types_from (map type_of c.in-Callee.signature.params)) (boxed_result_of c.in-Callee.signature.result) = search (rules, code.the_lemmas, rows) in
     told (type_checks c.args.declared.now c.args.earlier.now (place_of c.args.spot) (type_of c.args.ty.now)) c.from_residual-in_err-result_names-in-Callee.result c.in_err-result_names-in-Callee.field-0.0 c.from_residual-in_err-result_names-in-Callee.ensures.1
     (subst (λ u. Refused (type_checks c.args.declared.now c.args.earlier.now (place_of c.args.spot) u) c.in_err-result_names-in-Callee.field-0.0) (sym e)
-    (refused_right (row_checks c.args.declared.now (place_of c.args.spot) (types_from (map type_of c.in-Callee.signature.params))) (result_checks c.args.declared.now (place_of c.args.spot) (boxed_result_of c.in-Callee.signature.result)) c.in_err-result_names-in-Callee.field-0.0 c.in_ok-row_names-in-Callee.ensures c.in_err-result_names-in-Callee.ensures))
+    (refused_right (row_checks c.args.declared.now (place_of c.args.spot) (types_from (map type_of c.in-Callee.signature.params))) (result_checks c.args.declared.now (place_of c.args.spot) (boxed_result_of c.in-Callee.signature.result)) c.in_err-result_names-in-Callee.field-0.0 (rw c.as_slice.ensures at c.in_ok-row_names-in-Callee.ensures) c.in_err-result_names-in-Callee.ensures))
 
 pub type_names-returns-in_ok-result_names-in-Callee :
     goal.type_names-returns-in_ok-result_names-in-Callee
 type_names-returns-in_ok-result_names-in-Callee t c =
     let e : type_of c.args.ty.now ≡ Callee (types_from (map type_of c.in-Callee.signature.params)) (boxed_result_of c.in-Callee.signature.result) = search (rules, code.the_lemmas, rows) in
     ap (λ u. first_failing (type_checks c.args.declared.now c.args.earlier.now (place_of c.args.spot) u)) e
-    ∙ (first_append (row_checks c.args.declared.now (place_of c.args.spot) (types_from (map type_of c.in-Callee.signature.params))) (result_checks c.args.declared.now (place_of c.args.spot) (boxed_result_of c.in-Callee.signature.result)) c.in_ok-row_names-in-Callee.ensures ∙ c.in_ok-result_names-in-Callee.ensures)
+    ∙ (first_append (row_checks c.args.declared.now (place_of c.args.spot) (types_from (map type_of c.in-Callee.signature.params))) (result_checks c.args.declared.now (place_of c.args.spot) (boxed_result_of c.in-Callee.signature.result)) (rw c.as_slice.ensures at c.in_ok-row_names-in-Callee.ensures) ∙ c.in_ok-result_names-in-Callee.ensures)

@@ -11,4 +11,4 @@ returns c =
     (ap (λ structs. known (map struct_of structs)) c.in_ok-layouts.ensures)
     (c.in_ok-globals.ensures ∙ ap (λ globals. map (λ (g : PlainGlobal). g.name) (map global_of globals)) c.as_slice.ensures)
     (c.in_ok-periphs.ensures ∙ ap (map (λ (q : Peripheral). q.name)) c.as_slice-2.ensures)
-    (c.in_ok-funcs.ensures ∙ (func_names c.args.funcs.now ∙ ap (map (λ (f : PlainFunc). f.name)) c.requires))
+    (c.in_ok-funcs.ensures ∙ (func_names c.args.funcs.now ∙ ap (map (λ (f : PlainFunc). f.name)) c.requires.funcs))

@@ -7,10 +7,10 @@ use Rattle.ir_run.specs.States.{running_of, memory_of}
 use Rattle.ir_run.proofs.Stored.{stored}
 use Rattle.ir_run.proofs.locals.store_local.Goals as goal
 
-pub returns-clause-ok : goal.returns-clause-ok
-returns-clause-ok c =
+pub returns : goal.returns
+returns c =
     let parts = c.args.parts.now in
     let held = frame_of c.in-Some._frame.now in
     stored (program_of c.args.program.now) (frame_of parts.top) (map frame_of parts.below) (memory_of parts) c.args.of.func c.args.of.frame c.args.of.local c.args.at
     (pointee_of c.args.ty) (value_of c.args.value) held c.in-Some-local_cell.cell (running_of c.write_local.new.parts)
-    c.in-Some.ensures c.in-Some-local_cell.ensures (c.in_ok-write_local.ensures.ok held (sym c.in-Some.ensures))
+    c.in-Some.ensures c.in-Some-local_cell.ensures (c.write_local.ensures held (sym c.in-Some.ensures))

@@ -3,7 +3,7 @@ use Rattle.std.proofs.lemmas.List.{take_all}
 use Rattle.thumb_asm.specs.Assembly.{Assembly, AreItems}
 use Rattle.thumb_asm.specs.Finished.{assembled}
 use Rattle.code_model.specs.CompartmentCode.{members_from}
-use Rattle.linker.specs.Making.{standing, first_members, bytes_in}
+use Rattle.linker.specs.Standing.{standing, first_members, bytes_in}
 use Rattle.linker.proofs.Standing.{standing_put}
 use Rattle.linker.proofs.code.compartment_code.Goals as goal
 

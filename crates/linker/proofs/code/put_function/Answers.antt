@@ -3,8 +3,9 @@ use Rattle.ir_model.specs.Resolved.{func_at}
 use Rattle.code_model.specs.declared.places.Places.{Places}
 use Rattle.code_model.specs.Emitted.{size_in}
 use Rattle.code_model.specs.Fitting.{FuncFits}
-use Rattle.linker.specs.Grouped.{places_in}
-use Rattle.linker.specs.Making.{program_in, with_filled}
+use Rattle.link_entries.specs.Grouped.{places_in}
+use Rattle.link_entries.specs.Making.{program_in}
+use Rattle.linker.specs.Standing.{with_filled}
 use Rattle.linker.proofs.Fits.{function_fits}
 use Rattle.linker.proofs.code.put_function.Goals as goal
 

@@ -1,5 +1,5 @@
 use Rattle.std.proofs.Common.{◌≡◌}
-use Rattle.linker.specs.Making.{standing, first_members}
+use Rattle.linker.specs.Standing.{standing, first_members}
 use Rattle.linker.proofs.code.put_functions.Given as goal
 
 abbrev pub invariant-loop-func : goal.invariant-loop-func

@@ -9,8 +9,9 @@ use Rattle.plan_model.specs.Lists.{numbers_below}
 use Rattle.code_model.specs.declared.places.Places.{Places}
 use Rattle.code_model.specs.CompartmentCode.{members_from, before, size_of, entry_of, places_of}
 use Rattle.code_model.specs.Emitted.{size_in}
-use Rattle.linker.specs.Grouped.{places_in}
-use Rattle.linker.specs.Making.{program_in, grouped, places_at, standing, first_members}
+use Rattle.link_entries.specs.Grouped.{places_in}
+use Rattle.link_entries.specs.Making.{program_in, grouped, places_at}
+use Rattle.linker.specs.Standing.{standing, first_members}
 use Rattle.code_model.proofs.Members.{member_kept, member_dropped}
 use Rattle.linker.proofs.Standing.{function_more}
 use Rattle.linker.proofs.code.put_member.Goals as goal

@@ -4,7 +4,7 @@ use Rattle.monitor.specs.declared.tables.SiteRecord.{SiteRecord}
 use Rattle.monitor.specs.declared.tables.TargetRecord.{TargetRecord}
 use Rattle.monitor.specs.declared.tables.InitRecord.{InitRecord}
 use Rattle.monitor.specs.Area as areas
-use Rattle.linker.proofs.Loops.{put_behind}
+use Rattle.linker.proofs.Bytes.{put_behind}
 use Rattle.linker.proofs.flash.put_area.Goals as goal
 
 pub returns : goal.returns

@@ -1,7 +1,7 @@
 use Rattle.std.proofs.Common.{◌+◌, ◌<◌, get_or, ap, sym, ◌∙◌, arith}
 use Rattle.std.proofs.lemmas.List.{drop_all}
 use Rattle.words.specs.Bytes.{write_all}
-use Rattle.linker.proofs.Loops.{bytes_next, no_bytes}
+use Rattle.linker.proofs.Bytes.{bytes_next, no_bytes}
 use Rattle.linker.proofs.flash.put_bytes.Goals as goal
 
 pub loop-k-preserved : goal.loop-k-preserved

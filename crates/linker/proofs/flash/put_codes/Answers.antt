@@ -1,5 +1,5 @@
 use Rattle.linker.specs.Placing.{with_code_of}
-use Rattle.linker.proofs.Loops.{folded_more}
+use Rattle.linker.proofs.Bytes.{folded_more}
 use Rattle.linker.proofs.flash.put_codes.Goals as goal
 
 pub loop-compartment-preserved : goal.loop-compartment-preserved

@@ -1,5 +1,5 @@
 use Rattle.std.proofs.Common.{◌≡◌, ℕ, List, length, ap, ◌∙◌, arith}
-use Rattle.linker.specs.Bases.{entries_in}
+use Rattle.link_entries.specs.Bases.{entries_in}
 use Rattle.linker.proofs.Totals.{entries_made}
 use Rattle.linker.proofs.linking.addresses.Goals as goal
 

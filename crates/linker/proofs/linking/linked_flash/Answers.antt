@@ -4,8 +4,8 @@ use Rattle.std.specs.Borrow.{Bor}
 use Rattle.ir_program.specs.Seen.{program_of}
 use Rattle.plan_model.specs.declared.needs.SiteNeed.{SiteNeed}
 use Rattle.link_model.specs.LinkedImage.{flash_of}
-use Rattle.linker.specs.declared.making.Making.{Making}
-use Rattle.linker.specs.Lent.{lent_sites}
+use Rattle.link_entries.specs.declared.making.Making.{Making}
+use Rattle.link_entries.specs.Lent.{lent_sites}
 use Rattle.linker.specs.Parts.{tables_in}
 use Rattle.linker.specs.Placing.{flash_with}
 use Rattle.linker.proofs.Linked.{each_lend, made_ready}

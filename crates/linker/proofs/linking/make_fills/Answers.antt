@@ -1,8 +1,8 @@
 use Rattle.std.proofs.Common.{◌≡◌, List, map, ap, ◌∙◌}
 use Rattle.link_model.specs.LinkedTables.{Filled, filled, init_records}
-use Rattle.linker.specs.declared.fill.Filled as blocks
-use Rattle.linker.specs.Filling.{filled_of}
-use Rattle.linker.specs.Making.{program_in}
+use Rattle.link_blocks.specs.declared.fill.Filled as blocks
+use Rattle.link_blocks.specs.Filling.{filled_of}
+use Rattle.link_entries.specs.Making.{program_in}
 use Rattle.linker.proofs.Linked.{words_made}
 use Rattle.linker.proofs.linking.make_fills.Goals as goal
 

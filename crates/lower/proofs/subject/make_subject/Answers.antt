@@ -9,7 +9,7 @@ use Rattle.code_model.specs.Fitting.{FuncFits}
 use Rattle.lower.proofs.Sizing.{same_local_starts}
 use Rattle.lower.proofs.Preparing.{bare_frame, starts_count, first_is}
 use Rattle.lower.proofs.subject.make_subject.Goals as goal
-use Rattle.lower.proofs.Bare.{same_words}
+use Rattle.offsets.proofs.Bare.{same_words}
 
 pub local_starts-requires : goal.local_starts-requires
 local_starts-requires c =

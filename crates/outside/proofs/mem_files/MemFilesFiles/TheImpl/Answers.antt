@@ -12,6 +12,7 @@ append-tells c =
     record { is_held = refl; ok = c.ensures.ok; err = c.ensures.err; missing = c.ensures.missing; faults = c.ensures.faults }
     in record {
       bytes = λ _. adds_all _ _ _ _ _ _ _ _ _ told;
+      answer = (tt, c.ensures.passes.calls);
       elsewhere = elsewhere _ _ _ _ _ _ _ _ _ told;
       cause = cause _ _ _ _ _ _ _ _ _ told;
       missing = λ _. missing _ _ _ _ _ _ _ _ _ told;

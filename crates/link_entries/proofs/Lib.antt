@@ -1,0 +1,2 @@
+mod Routines
+mod Totals

@@ -1,0 +1,5 @@
+pub mod Lent
+pub mod Grouped
+pub mod Bases
+pub mod Making
+pub mod Recorded

@@ -1,9 +1,0 @@
-use Rattle.std.proofs.Common.{◌≡◌, ◌++◌, drop}
-use Rattle.linker.specs.Lent.{lent_sites}
-use Rattle.linker.specs.Recorded.{target_records_in}
-use Rattle.linker.proofs.records.target_records.Given as goal
-
--- what was made and what is left are the whole
-abbrev pub invariant-loop-site : goal.invariant-loop-site
-invariant-loop-site l =
-    l.all.items ++ target_records_in l.making (lent_sites (drop l.site-index l.sites)) ≡ target_records_in l.making (lent_sites l.sites)
