@@ -1,4 +1,3 @@
 mod Separated
 mod Rows
-mod Behind
-mod Parts
+mod Canonical

@@ -1,7 +1,9 @@
 //! Structs, peripherals and globals of the canonical text.
 
-ghost use Rattle.std.specs.Prelude.{◌≡◌, ◌++◌, OnOk};
-ghost use Rattle.ir_printer.specs.Pieces.{separated, slot_text, struct_text, periph_text, cell_text, init_text, global_start_text, global_text};
+ghost use Rattle.std.specs.Prelude.{◌≡◌, ◌++◌, map, OnOk};
+ghost use Rattle.ir_model.specs.Plain.{slot_of, struct_of, global_of};
+ghost use Rattle.ir_grammar.specs.Spelling.{separated, spell_slot, spell_struct, spell_periph, spell_cell, spell_init, spell_constant, spell_global};
+ghost use Rattle.ir_printer.specs.Pieces.{as_bytes};
 
 use crate::tokens::{
     end_line, put_keyword, put_mark, put_number, put_separator, put_word, start_keyword,
@@ -12,9 +14,8 @@ use ir_model::token::{Keyword, Mark};
 use std::alloc::AllocError;
 
 /// Writes a name with its type.
-#[tactic(auto, unfolding(crate::specs::Pieces::slot_text))]
 pub fn put_slot(out: &mut Vec<u8>, slot: &Slot) -> Result<(), AllocError>
-    ensures { OnOk result (out.new.items ≡ out.old.items ++ slot_text slot.now) }
+    ensures { OnOk result (out.new.items ≡ out.old.items ++ spell_slot as_bytes (slot_of slot.now)) }
 {
     put_word(out, &slot.name)?;
     put_mark(out, Mark::Colon)?;
@@ -23,7 +24,7 @@ pub fn put_slot(out: &mut Vec<u8>, slot: &Slot) -> Result<(), AllocError>
 
 /// Writes names with their types, a comma between two.
 pub fn put_slots(out: &mut Vec<u8>, slots: &[Slot]) -> Result<(), AllocError>
-    ensures { OnOk result (out.new.items ≡ out.old.items ++ separated slot_text 0 slots.now) }
+    ensures { OnOk result (out.new.items ≡ out.old.items ++ separated as_bytes (spell_slot as_bytes) (map slot_of slots.now)) }
 {
     for (i, slot) in slots.iter().enumerate() {
         put_separator(out, i)?;
@@ -33,9 +34,8 @@ pub fn put_slots(out: &mut Vec<u8>, slots: &[Slot]) -> Result<(), AllocError>
 }
 
 /// Writes a struct.
-#[tactic(auto, unfolding(crate::specs::Pieces::struct_text))]
 pub fn put_struct(out: &mut Vec<u8>, decl: &StructDecl) -> Result<(), AllocError>
-    ensures { OnOk result (out.new.items ≡ out.old.items ++ struct_text decl.now) }
+    ensures { OnOk result (out.new.items ≡ out.old.items ++ spell_struct as_bytes (struct_of decl.now)) }
 {
     start_keyword(out, Keyword::Struct)?;
     put_word(out, &decl.name)?;
@@ -46,9 +46,8 @@ pub fn put_struct(out: &mut Vec<u8>, decl: &StructDecl) -> Result<(), AllocError
 }
 
 /// Writes a peripheral.
-#[tactic(auto, unfolding(crate::specs::Pieces::periph_text))]
 pub fn put_periph(out: &mut Vec<u8>, periph: &Peripheral) -> Result<(), AllocError>
-    ensures { OnOk result (out.new.items ≡ out.old.items ++ periph_text periph.now) }
+    ensures { OnOk result (out.new.items ≡ out.old.items ++ spell_periph as_bytes periph.now) }
 {
     start_keyword(out, Keyword::Periph)?;
     put_word(out, &periph.name)?;
@@ -57,9 +56,8 @@ pub fn put_periph(out: &mut Vec<u8>, periph: &Peripheral) -> Result<(), AllocErr
     end_line(out)
 }
 
-#[tactic(auto, unfolding(crate::specs::Pieces::cell_text))]
 fn put_cell(out: &mut Vec<u8>, cell: &Cell) -> Result<(), AllocError>
-    ensures { OnOk result (out.new.items ≡ out.old.items ++ cell_text cell.now) }
+    ensures { OnOk result (out.new.items ≡ out.old.items ++ spell_cell as_bytes cell.now) }
 {
     match cell {
         Cell::Word(number) => put_number(out, *number),
@@ -75,7 +73,7 @@ fn put_cell(out: &mut Vec<u8>, cell: &Cell) -> Result<(), AllocError>
 }
 
 fn put_cells(out: &mut Vec<u8>, cells: &[Cell]) -> Result<(), AllocError>
-    ensures { OnOk result (out.new.items ≡ out.old.items ++ separated cell_text 0 cells.now) }
+    ensures { OnOk result (out.new.items ≡ out.old.items ++ separated as_bytes (spell_cell as_bytes) cells.now) }
 {
     for (i, cell) in cells.iter().enumerate() {
         put_separator(out, i)?;
@@ -84,21 +82,22 @@ fn put_cells(out: &mut Vec<u8>, cells: &[Cell]) -> Result<(), AllocError>
     Ok(())
 }
 
+// The first cells of a global, where it has some, and the end of the line.
 fn put_init(out: &mut Vec<u8>, cells: &[Cell]) -> Result<(), AllocError>
-    ensures { OnOk result (out.new.items ≡ out.old.items ++ init_text cells.now) }
+    ensures { OnOk result (out.new.items ≡ out.old.items ++ spell_init as_bytes cells.now) }
 {
     if cells.is_empty() {
-        return Ok(());
+        return end_line(out);
     }
     put_mark(out, Mark::Equal)?;
     put_mark(out, Mark::OpenBrace)?;
     put_cells(out, cells)?;
-    put_mark(out, Mark::CloseBrace)
+    put_mark(out, Mark::CloseBrace)?;
+    end_line(out)
 }
 
-#[tactic(auto, unfolding(crate::specs::Pieces::global_start_text))]
 fn start_global(out: &mut Vec<u8>, constant: bool) -> Result<(), AllocError>
-    ensures { OnOk result (out.new.items ≡ out.old.items ++ global_start_text constant) }
+    ensures { OnOk result (out.new.items ≡ out.old.items ++ spell_constant as_bytes constant) }
 {
     if constant {
         start_keyword(out, Keyword::Const)?;
@@ -109,14 +108,12 @@ fn start_global(out: &mut Vec<u8>, constant: bool) -> Result<(), AllocError>
 }
 
 /// Writes a global.
-#[tactic(auto, unfolding(crate::specs::Pieces::global_text))]
 pub fn put_global(out: &mut Vec<u8>, global: &GlobalDecl) -> Result<(), AllocError>
-    ensures { OnOk result (out.new.items ≡ out.old.items ++ global_text global.now) }
+    ensures { OnOk result (out.new.items ≡ out.old.items ++ spell_global as_bytes (global_of global.now)) }
 {
     start_global(out, global.constant)?;
     put_word(out, &global.name)?;
     put_mark(out, Mark::Colon)?;
     put_type(out, &global.ty)?;
-    put_init(out, global.init.as_slice())?;
-    end_line(out)
+    put_init(out, global.init.as_slice())
 }

@@ -1,47 +1,42 @@
 //! Functions of the canonical text.
 
-ghost use Rattle.std.specs.Prelude.{◌≡◌, ◌++◌, flat_map, OnOk};
-ghost use Rattle.ir_printer.specs.Pieces.{inst_line_text, block_text, local_text, reg_text, func_head_text, func_text};
+ghost use Rattle.std.specs.Prelude.{◌≡◌, ◌++◌, map, flat_map, OnOk};
+ghost use Rattle.ir_model.specs.declared.token.Keyword.TheVariants as key;
+ghost use Rattle.ir_model.specs.Plain.{slot_of, func_of};
+ghost use Rattle.ir_model.specs.Tokens as token;
+ghost use Rattle.ir_model.specs.Types.{result_of};
+ghost use Rattle.ir_grammar.specs.Spelling.{spell_inst, spell_block, spell_local, spell_locals, spell_reg, spell_regs, spell_params, spell_head, spell_func};
+ghost use Rattle.ir_printer.specs.Pieces.{first, as_bytes};
 
 use crate::declarations::{put_slot, put_slots};
 use crate::insts::{put_inst, put_term};
-use crate::tokens::{close, end_line, put_mark, put_word, start_keyword, start_word};
+use crate::tokens::{close, end_line, open, put_mark, put_word, start_keyword, start_word};
 use crate::types::put_result;
 use ir_model::firmware::{Block, Func, Inst, Slot};
 use ir_model::token::{Keyword, Mark};
 use std::alloc::AllocError;
 
-#[tactic(auto, unfolding(crate::specs::Pieces::inst_line_text))]
-fn put_inst_line(out: &mut Vec<u8>, inst: &Inst) -> Result<(), AllocError>
-    ensures { OnOk result (out.new.items ≡ out.old.items ++ inst_line_text inst.now) }
-{
-    put_inst(out, inst)?;
-    end_line(out)
-}
-
 fn put_insts(out: &mut Vec<u8>, insts: &[Inst]) -> Result<(), AllocError>
-    ensures { OnOk result (out.new.items ≡ out.old.items ++ flat_map inst_line_text insts.now) }
+    ensures { OnOk result (out.new.items ≡ out.old.items ++ flat_map (spell_inst as_bytes) insts.now) }
 {
     for inst in insts {
-        put_inst_line(out, inst)?;
+        put_inst(out, inst)?;
     }
     Ok(())
 }
 
-#[tactic(auto, unfolding(crate::specs::Pieces::block_text))]
 fn put_block(out: &mut Vec<u8>, block: &Block) -> Result<(), AllocError>
-    ensures { OnOk result (out.new.items ≡ out.old.items ++ block_text block.now) }
+    ensures { OnOk result (out.new.items ≡ out.old.items ++ spell_block as_bytes block.now) }
 {
     start_word(out, &block.label)?;
     put_mark(out, Mark::Colon)?;
     end_line(out)?;
     put_insts(out, block.insts.as_slice())?;
-    put_term(out, &block.term)?;
-    end_line(out)
+    put_term(out, &block.term)
 }
 
 fn put_blocks(out: &mut Vec<u8>, blocks: &[Block]) -> Result<(), AllocError>
-    ensures { OnOk result (out.new.items ≡ out.old.items ++ flat_map block_text blocks.now) }
+    ensures { OnOk result (out.new.items ≡ out.old.items ++ flat_map (spell_block as_bytes) blocks.now) }
 {
     for block in blocks {
         put_block(out, block)?;
@@ -49,9 +44,8 @@ fn put_blocks(out: &mut Vec<u8>, blocks: &[Block]) -> Result<(), AllocError>
     Ok(())
 }
 
-#[tactic(auto, unfolding(crate::specs::Pieces::local_text))]
 fn put_local(out: &mut Vec<u8>, local: &Slot) -> Result<(), AllocError>
-    ensures { OnOk result (out.new.items ≡ out.old.items ++ local_text local.now) }
+    ensures { OnOk result (out.new.items ≡ out.old.items ++ spell_local as_bytes (slot_of local.now)) }
 {
     start_keyword(out, Keyword::Local)?;
     put_slot(out, local)?;
@@ -59,7 +53,7 @@ fn put_local(out: &mut Vec<u8>, local: &Slot) -> Result<(), AllocError>
 }
 
 fn put_locals(out: &mut Vec<u8>, locals: &[Slot]) -> Result<(), AllocError>
-    ensures { OnOk result (out.new.items ≡ out.old.items ++ flat_map local_text locals.now) }
+    ensures { OnOk result (out.new.items ≡ out.old.items ++ spell_locals as_bytes (map slot_of locals.now)) }
 {
     for local in locals {
         put_local(out, local)?;
@@ -67,9 +61,8 @@ fn put_locals(out: &mut Vec<u8>, locals: &[Slot]) -> Result<(), AllocError>
     Ok(())
 }
 
-#[tactic(auto, unfolding(crate::specs::Pieces::reg_text))]
 fn put_reg(out: &mut Vec<u8>, reg: &Slot) -> Result<(), AllocError>
-    ensures { OnOk result (out.new.items ≡ out.old.items ++ reg_text reg.now) }
+    ensures { OnOk result (out.new.items ≡ out.old.items ++ spell_reg as_bytes (slot_of reg.now)) }
 {
     start_keyword(out, Keyword::Reg)?;
     put_slot(out, reg)?;
@@ -77,7 +70,7 @@ fn put_reg(out: &mut Vec<u8>, reg: &Slot) -> Result<(), AllocError>
 }
 
 fn put_regs(out: &mut Vec<u8>, regs: &[Slot]) -> Result<(), AllocError>
-    ensures { OnOk result (out.new.items ≡ out.old.items ++ flat_map reg_text regs.now) }
+    ensures { OnOk result (out.new.items ≡ out.old.items ++ spell_regs as_bytes (map slot_of regs.now)) }
 {
     for reg in regs {
         put_reg(out, reg)?;
@@ -85,24 +78,28 @@ fn put_regs(out: &mut Vec<u8>, regs: &[Slot]) -> Result<(), AllocError>
     Ok(())
 }
 
-#[tactic(auto, unfolding(crate::specs::Pieces::func_head_text))]
+// Parameters and the closing bracket.
+fn put_params(out: &mut Vec<u8>, params: &[Slot]) -> Result<(), AllocError>
+    ensures { OnOk result (out.new.items ≡ out.old.items ++ spell_params as_bytes (map slot_of params.now)) }
+{
+    put_slots(out, params)?;
+    put_mark(out, Mark::Close)
+}
+
 fn put_func_head(out: &mut Vec<u8>, func: &Func) -> Result<(), AllocError>
-    ensures { OnOk result (out.new.items ≡ out.old.items ++ func_head_text func.now) }
+    ensures { OnOk result (out.new.items ≡ out.old.items ++ (first (token.Key key.Func) ++ spell_head as_bytes func.now.name (map slot_of func.now.params) (result_of func.now.«result»))) }
 {
     start_keyword(out, Keyword::Func)?;
     put_word(out, &func.name)?;
     put_mark(out, Mark::Open)?;
-    put_slots(out, func.params.as_slice())?;
-    put_mark(out, Mark::Close)?;
+    put_params(out, func.params.as_slice())?;
     put_result(out, &func.result)?;
-    put_mark(out, Mark::OpenBrace)?;
-    end_line(out)
+    open(out)
 }
 
 /// Writes a function.
-#[tactic(auto, unfolding(crate::specs::Pieces::func_text))]
 pub fn put_func(out: &mut Vec<u8>, func: &Func) -> Result<(), AllocError>
-    ensures { OnOk result (out.new.items ≡ out.old.items ++ func_text func.now) }
+    ensures { OnOk result (out.new.items ≡ out.old.items ++ spell_func as_bytes (func_of func.now)) }
 {
     put_func_head(out, func)?;
     put_locals(out, func.locals.as_slice())?;

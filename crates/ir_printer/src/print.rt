@@ -1,19 +1,20 @@
 //! The whole canonical text.
 
-ghost use Rattle.std.specs.Prelude.{◌≡◌, ◌++◌, flat_map, IfOk, OnOk};
-ghost use Rattle.ir_model.specs.Plain.{firmware_of};
+ghost use Rattle.std.specs.Prelude.{◌≡◌, ◌++◌, map, flat_map, IfOk, OnOk};
+ghost use Rattle.ir_model.specs.Plain.{struct_of, global_of, func_of, file_of, firmware_of};
 ghost use Rattle.ir_model.specs.Canonical.{canonical};
-ghost use Rattle.ir_printer.specs.Pieces.{struct_text, periph_text, global_text, func_text, file_text, firmware_text};
+ghost use Rattle.ir_grammar.specs.Spelling.{spell_structs, spell_periphs, spell_globals, spell_func, spell_file, spell_firmware};
+ghost use Rattle.ir_printer.specs.Pieces.{as_bytes};
 
 use crate::declarations::{put_global, put_periph, put_struct};
 use crate::functions::put_func;
-use crate::tokens::{close, end_line, put_mark, put_word, start_keyword};
+use crate::tokens::{close, open, put_word, start_keyword};
 use ir_model::firmware::{FileDecl, Firmware, Func, Global as GlobalDecl, Peripheral, StructDecl};
-use ir_model::token::{Keyword, Mark};
+use ir_model::token::Keyword;
 use std::alloc::{AllocError, Global};
 
 fn put_structs(out: &mut Vec<u8>, structs: &[StructDecl]) -> Result<(), AllocError>
-    ensures { OnOk result (out.new.items ≡ out.old.items ++ flat_map struct_text structs.now) }
+    ensures { OnOk result (out.new.items ≡ out.old.items ++ spell_structs as_bytes (map struct_of structs.now)) }
 {
     for decl in structs {
         put_struct(out, decl)?;
@@ -22,7 +23,7 @@ fn put_structs(out: &mut Vec<u8>, structs: &[StructDecl]) -> Result<(), AllocErr
 }
 
 fn put_periphs(out: &mut Vec<u8>, periphs: &[Peripheral]) -> Result<(), AllocError>
-    ensures { OnOk result (out.new.items ≡ out.old.items ++ flat_map periph_text periphs.now) }
+    ensures { OnOk result (out.new.items ≡ out.old.items ++ spell_periphs as_bytes periphs.now) }
 {
     for periph in periphs {
         put_periph(out, periph)?;
@@ -31,7 +32,7 @@ fn put_periphs(out: &mut Vec<u8>, periphs: &[Peripheral]) -> Result<(), AllocErr
 }
 
 fn put_globals(out: &mut Vec<u8>, globals: &[GlobalDecl]) -> Result<(), AllocError>
-    ensures { OnOk result (out.new.items ≡ out.old.items ++ flat_map global_text globals.now) }
+    ensures { OnOk result (out.new.items ≡ out.old.items ++ spell_globals as_bytes (map global_of globals.now)) }
 {
     for global in globals {
         put_global(out, global)?;
@@ -40,7 +41,7 @@ fn put_globals(out: &mut Vec<u8>, globals: &[GlobalDecl]) -> Result<(), AllocErr
 }
 
 fn put_funcs(out: &mut Vec<u8>, funcs: &[Func]) -> Result<(), AllocError>
-    ensures { OnOk result (out.new.items ≡ out.old.items ++ flat_map func_text funcs.now) }
+    ensures { OnOk result (out.new.items ≡ out.old.items ++ flat_map (spell_func as_bytes) (map func_of funcs.now)) }
 {
     for func in funcs {
         put_func(out, func)?;
@@ -48,20 +49,18 @@ fn put_funcs(out: &mut Vec<u8>, funcs: &[Func]) -> Result<(), AllocError>
     Ok(())
 }
 
-#[tactic(auto, unfolding(crate::specs::Pieces::file_text))]
 fn put_file(out: &mut Vec<u8>, file: &FileDecl) -> Result<(), AllocError>
-    ensures { OnOk result (out.new.items ≡ out.old.items ++ file_text file.now) }
+    ensures { OnOk result (out.new.items ≡ out.old.items ++ spell_file as_bytes (file_of file.now)) }
 {
     start_keyword(out, Keyword::File)?;
     put_word(out, &file.name)?;
-    put_mark(out, Mark::OpenBrace)?;
-    end_line(out)?;
+    open(out)?;
     put_funcs(out, file.funcs.as_slice())?;
     close(out)
 }
 
 fn put_files(out: &mut Vec<u8>, files: &[FileDecl]) -> Result<(), AllocError>
-    ensures { OnOk result (out.new.items ≡ out.old.items ++ flat_map file_text files.now) }
+    ensures { OnOk result (out.new.items ≡ out.old.items ++ flat_map (spell_file as_bytes) (map file_of files.now)) }
 {
     for file in files {
         put_file(out, file)?;
@@ -69,9 +68,8 @@ fn put_files(out: &mut Vec<u8>, files: &[FileDecl]) -> Result<(), AllocError>
     Ok(())
 }
 
-#[tactic(auto, unfolding(crate::specs::Pieces::firmware_text))]
 fn put_firmware(out: &mut Vec<u8>, firmware: &Firmware) -> Result<(), AllocError>
-    ensures { OnOk result (out.new.items ≡ out.old.items ++ firmware_text firmware.now) }
+    ensures { OnOk result (out.new.items ≡ out.old.items ++ spell_firmware as_bytes (firmware_of firmware.now)) }
 {
     put_structs(out, firmware.structs.as_slice())?;
     put_periphs(out, firmware.periphs.as_slice())?;
@@ -84,7 +82,7 @@ fn put_firmware(out: &mut Vec<u8>, firmware: &Firmware) -> Result<(), AllocError
 ///
 /// # Errors
 /// There is no memory for the text.
-#[tactic(auto, using(crate::proofs::Parts::firmware_is))]
+#[tactic(auto, using(crate::proofs::Canonical::canonical_spelled))]
 pub fn print(alloc: Global, f: &Firmware) -> Result<Vec<u8>, AllocError>
     ensures { IfOk result (λ bytes. bytes.items ≡ canonical (firmware_of f.now)) }
 {

@@ -2,7 +2,8 @@
 
 ghost use Rattle.std.specs.Prelude.{◌≡◌, ◌++◌, map, OnOk};
 ghost use Rattle.ir_model.specs.Types.{type_of, types_from, boxed_result_of, result_of};
-ghost use Rattle.ir_printer.specs.Pieces.{type_text, row_text, result_text};
+ghost use Rattle.ir_grammar.specs.Spelling.{spell_type, spell_row, spell_gives};
+ghost use Rattle.ir_printer.specs.Pieces.{as_bytes};
 
 use crate::tokens::{put_keyword, put_mark, put_number, put_separator, put_word};
 use ir_model::token::{Keyword, Mark};
@@ -12,7 +13,7 @@ use std::alloc::AllocError;
 /// Writes a type behind another token.
 #[cycle(types)]
 pub fn put_type(out: &mut Vec<u8>, ty: &Ty) -> Result<(), AllocError>
-    ensures { OnOk result (out.new.items ≡ out.old.items ++ type_text (type_of ty.now)) }
+    ensures { OnOk result (out.new.items ≡ out.old.items ++ spell_type as_bytes (type_of ty.now)) }
 {
     match ty {
         Ty::U8 => put_keyword(out, Keyword::U8),
@@ -41,7 +42,7 @@ pub fn put_type(out: &mut Vec<u8>, ty: &Ty) -> Result<(), AllocError>
 // Types between brackets, with the closing one.
 #[cycle(types)]
 fn put_row(out: &mut Vec<u8>, types: &[Ty]) -> Result<(), AllocError>
-    ensures { OnOk result (out.new.items ≡ out.old.items ++ row_text (types_from (map type_of types.now))) }
+    ensures { OnOk result (out.new.items ≡ out.old.items ++ spell_row as_bytes (types_from (map type_of types.now))) }
 {
     for (i, ty) in types.iter().enumerate() {
         put_separator(out, i)?;
@@ -52,7 +53,7 @@ fn put_row(out: &mut Vec<u8>, types: &[Ty]) -> Result<(), AllocError>
 
 #[cycle(types)]
 fn put_boxed_result(out: &mut Vec<u8>, outcome: &Option<Box<Ty>>) -> Result<(), AllocError>
-    ensures { OnOk result (out.new.items ≡ out.old.items ++ result_text (boxed_result_of outcome.now)) }
+    ensures { OnOk result (out.new.items ≡ out.old.items ++ spell_gives as_bytes (boxed_result_of outcome.now)) }
 {
     match outcome {
         None => Ok(()),
@@ -65,7 +66,7 @@ fn put_boxed_result(out: &mut Vec<u8>, outcome: &Option<Box<Ty>>) -> Result<(), 
 
 /// Writes the result of a function's head, where it has one.
 pub fn put_result(out: &mut Vec<u8>, outcome: &Option<Ty>) -> Result<(), AllocError>
-    ensures { OnOk result (out.new.items ≡ out.old.items ++ result_text (result_of outcome.now)) }
+    ensures { OnOk result (out.new.items ≡ out.old.items ++ spell_gives as_bytes (result_of outcome.now)) }
 {
     match outcome {
         None => Ok(()),

@@ -15,7 +15,8 @@ use Rattle.ir_reader.specs.Machine.{fault, Structs}
 use Rattle.ir_reader.specs.Parts.{HasBlocks, AllHaveBlocks}
 use Rattle.ir_reader.specs.Reading.{Passes, HasFields}
 use Rattle.ir_reader.specs.Scan.{placed}
-use Rattle.ir_reader.specs.Spelling.{spell_firmware}
+use Rattle.ir_grammar.specs.Spelling.{spell_firmware}
+use Rattle.ir_reader.specs.Spelling.{as_found}
 use Rattle.ir_reader.proofs.Lang
 use Rattle.ir_reader.proofs.Lang.{Langs, last, same}
 use Rattle.ir_reader.proofs.Pieces.{leads_from}
@@ -59,8 +60,8 @@ text_made bytes w u f b whole none =
       };
     }
 
-pub text_from : (bytes : List ℕ) (w : PlainFirmware) → IsUtf8 bytes → HasFields w.structs → AllHaveBlocks w.files → Passes [] spell_firmware (Structs 0 ∷ []) [] (placed bytes) [] w → IsText w bytes
-text_from bytes w u f b p = text_made bytes w u f (all_functions w.files b) (p.spelled ∙ (append-nil (spell_firmware w) ∙ sym (firmware_plain w))) (p.passed [])
+pub text_from : (bytes : List ℕ) (w : PlainFirmware) → IsUtf8 bytes → HasFields w.structs → AllHaveBlocks w.files → Passes [] (spell_firmware as_found) (Structs 0 ∷ []) [] (placed bytes) [] w → IsText w bytes
+text_from bytes w u f b p = text_made bytes w u f (all_functions w.files b) (p.spelled ∙ (append-nil (spell_firmware as_found w) ∙ sym (firmware_plain w))) (p.passed [])
 
 -- what the scan finds in a text of a firmware
 pub text_finds : (bytes : List ℕ) (w : PlainFirmware) → IsText w bytes → finds (placed bytes) ≡ text_of (joined (lines_of w))

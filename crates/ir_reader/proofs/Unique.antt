@@ -1,5 +1,5 @@
 -- A spelling is the spelling of one firmware.
-use Rattle.std.proofs.Common.{◌≡◌, ℕ, [], ◌∷◌, ◌++◌, List, Bool, true, false, refl, sym, ap, ◌∙◌, subst, append_assoc, Some, None, flat_map}
+use Rattle.std.proofs.Common.{◌≡◌, ℕ, [], ◌∷◌, ◌++◌, List, Bool, true, false, refl, sym, ap, ◌∙◌, subst, append_assoc, append-nil, Some, None, flat_map}
 use Rattle.ir_model.specs.declared.firmware.Block.{Block}
 use Rattle.ir_model.specs.declared.firmware.Cell.{Cell}
 use Rattle.ir_model.specs.declared.firmware.Cell.TheVariants as cell
@@ -15,7 +15,8 @@ use Rattle.ir_model.specs.Plain.{PlainSlot, PlainStruct, PlainGlobal, PlainFunc,
 use Rattle.ir_model.specs.Tokens as model
 use Rattle.ir_reader.specs.Found.{Found, Is, End}
 use Rattle.ir_reader.specs.Reading.{is_found_key}
-use Rattle.ir_reader.specs.Spelling.{Spelling, Name, Key, Sign, spell_type, spell_row, spell_more_row, spell_gives, separated, spell_slot, spell_fields, spell_struct, spell_structs, spell_periph, spell_periphs, spell_cell, spell_cells, spell_init, spell_constant, spell_global, spell_globals, spell_word, spell_args, spell_inst, spell_term, spell_block, spell_blocks, spell_local, spell_reg, spell_locals, spell_regs, spell_head, spell_body, spell_func, spell_funcs, spell_file, spell_files, spell_firmware}
+use Rattle.ir_grammar.specs.Spelling.{spell_type, spell_row, spell_more_row, spell_gives, separated, spell_slot, spell_fields, spell_struct, spell_structs, spell_periph, spell_periphs, spell_cell, spell_cells, spell_init, spell_constant, spell_global, spell_globals, spell_word, spell_args, spell_inst, spell_term, spell_block, spell_blocks, spell_local, spell_reg, spell_locals, spell_regs, spell_head, spell_body, spell_func, spell_funcs, spell_file, spell_files, spell_firmware}
+use Rattle.ir_reader.specs.Spelling.{Spelling, Name, Key, Sign, as_found}
 
 -- the first of a spelling passes a test
 abbrev first_is : (Found → Bool) → Spelling → Bool
@@ -55,11 +56,11 @@ list_unique p Q f s u (a ∷ as_) (b ∷ bs) x y h i q r e =
 -- behind one of a list with commas
 abbrev more_of : {A : Type 0} → (A → Spelling) → List A → Spelling
 more_of f [] = []
-more_of f (a ∷ as_) = Sign mark.Comma ∷ separated f (a ∷ as_)
+more_of f (a ∷ as_) = Sign mark.Comma ∷ separated as_found f (a ∷ as_)
 
-separated_more : {A : Type 0} (f : A → Spelling) (a : A) (as_ : List A) (x : Spelling) → separated f (a ∷ as_) ++ x ≡ f a ++ (more_of f as_ ++ x)
+separated_more : {A : Type 0} (f : A → Spelling) (a : A) (as_ : List A) (x : Spelling) → separated as_found f (a ∷ as_) ++ x ≡ f a ++ (more_of f as_ ++ x)
 separated_more f a [] x = refl
-separated_more f a (b ∷ bs) x = append_assoc (f a) (Sign mark.Comma ∷ separated f (b ∷ bs)) x
+separated_more f a (b ∷ bs) x = append_assoc (f a) (Sign mark.Comma ∷ separated as_found f (b ∷ bs)) x
 
 more_unique : {A : Type 0} (Q : Spelling → Type 0) (f : A → Spelling) (c : Found) → Unique Q f → ((z : Spelling) → Q (Sign mark.Comma ∷ z)) → ((z : Spelling) → Q (c ∷ z)) → (Sign mark.Comma ≡ c → ⊥) → (as_ bs : List A) (x y : Spelling)
     → more_of f as_ ++ c ∷ x ≡ more_of f bs ++ c ∷ y → One as_ bs x y
@@ -67,7 +68,7 @@ more_unique Q f c u k l n [] [] x y e = (refl, cc)
 more_unique Q f c u k l n [] (b ∷ bs) x y e = let h : Sign mark.Comma ≡ c = cc in absurd (n h)
 more_unique Q f c u k l n (a ∷ as_) [] x y e = let h : Sign mark.Comma ≡ c = cc in absurd (n h)
 more_unique {A = A} Q f c u k l n (a ∷ as_) (b ∷ bs) x y e =
-    let h : separated f (a ∷ as_) ++ c ∷ x ≡ separated f (b ∷ bs) ++ c ∷ y = cc in
+    let h : (separated as_found) f (a ∷ as_) ++ c ∷ x ≡ separated as_found f (b ∷ bs) ++ c ∷ y = cc in
     let o = u a b _ _ (behind as_ x) (behind bs y) (sym (separated_more f a as_ (c ∷ x)) ∙ (h ∙ separated_more f b bs (c ∷ y))) in
     let m = more_unique Q f c u k l n as_ bs x y o.1 in
     (cc (o.0, m.0), m.1)
@@ -78,7 +79,7 @@ more_unique {A = A} Q f c u k l n (a ∷ as_) (b ∷ bs) x y e =
 
 -- things with commas between them, up to a mark
 separated_unique : {A : Type 0} (p : Found → Bool) (Q : Spelling → Type 0) (f : A → Spelling) (c : Found) → Unique Q f → ((a : A) (x : Spelling) → first_is p (f a ++ x) ≡ true) → ((z : Spelling) → Q (Sign mark.Comma ∷ z)) → ((z : Spelling) → Q (c ∷ z))
-    → (Sign mark.Comma ≡ c → ⊥) → p c ≡ false → (as_ bs : List A) (x y : Spelling) → separated f as_ ++ c ∷ x ≡ separated f bs ++ c ∷ y → One as_ bs x y
+    → (Sign mark.Comma ≡ c → ⊥) → p c ≡ false → (as_ bs : List A) (x y : Spelling) → separated as_found f as_ ++ c ∷ x ≡ separated as_found f bs ++ c ∷ y → One as_ bs x y
 separated_unique p Q f c u s k l n h [] [] x y e = (refl, cc)
 separated_unique p Q f c u s k l n h [] (b ∷ bs) x y e = absurd (clash p (c ∷ x) _ (e ∙ separated_more f b bs (c ∷ y)) h (s b _))
 separated_unique p Q f c u s k l n h (a ∷ as_) [] x y e = absurd (clash p (c ∷ y) _ (sym e ∙ separated_more f a as_ (c ∷ x)) h (s a _))
@@ -94,59 +95,59 @@ is_arrow _ = false
 abbrev NoArrow : Spelling → Type 0
 NoArrow x = first_is is_arrow x ≡ false
 
-row_behind : (ts : PlainTypes) (x : Spelling) → NoArrow (spell_more_row ts ++ x)
+row_behind : (ts : PlainTypes) (x : Spelling) → NoArrow (spell_more_row as_found ts ++ x)
 row_behind none x = refl
 row_behind (more t ts) x = refl
 
 mutual
-  type_unique : Unique NoArrow spell_type
+  type_unique : Unique NoArrow (spell_type as_found)
   type_unique U8 U8 x y h i e = (refl, cc)
   type_unique U16 U16 x y h i e = (refl, cc)
   type_unique U32 U32 x y h i e = (refl, cc)
   type_unique (Pointer t) (Pointer u) x y h i e =
-      let r : spell_type t ++ x ≡ spell_type u ++ y = cc in
+      let r : (spell_type as_found) t ++ x ≡ spell_type as_found u ++ y = cc in
       let o = type_unique t u x y h i r in
       (ap Pointer o.0, o.1)
   type_unique (Array n t) (Array m u) x y h i e =
-      let r : spell_type t ++ x ≡ spell_type u ++ y = cc in
+      let r : (spell_type as_found) t ++ x ≡ spell_type as_found u ++ y = cc in
       let o = type_unique t u x y h i r in
       let k : n ≡ m = cc in
       (cc (k, o.0), o.1)
   type_unique (Named v) (Named w) x y h i e = (cc, cc)
   type_unique (Callee a r) (Callee b s) x y h i e =
-      let g : (spell_row a ++ spell_gives r) ++ x ≡ (spell_row b ++ spell_gives s) ++ y = cc in
-      let k = row_unique a b (spell_gives r ++ x) (spell_gives s ++ y) (sym (append_assoc (spell_row a) (spell_gives r) x) ∙ (g ∙ append_assoc (spell_row b) (spell_gives s) y)) in
+      let g : (spell_row as_found a ++ spell_gives as_found r) ++ x ≡ (spell_row as_found b ++ spell_gives as_found s) ++ y = cc in
+      let k = row_unique a b (spell_gives as_found r ++ x) (spell_gives as_found s ++ y) (sym (append_assoc (spell_row as_found a) (spell_gives as_found r) x) ∙ (g ∙ append_assoc (spell_row as_found b) (spell_gives as_found s) y)) in
       let o = gives_unique r s x y h i k.1 in
       (cc (k.0, o.0), o.1)
   type_unique _ _ x y h i e = cc
 
-  row_unique : (a b : PlainTypes) (x y : Spelling) → spell_row a ++ x ≡ spell_row b ++ y → One a b x y
+  row_unique : (a b : PlainTypes) (x y : Spelling) → spell_row as_found a ++ x ≡ spell_row as_found b ++ y → One a b x y
   row_unique none none x y e = (refl, cc)
   row_unique none (more U8 us) x y e = cc
   row_unique none (more _ us) x y e = cc
   row_unique (more U8 ts) none x y e = cc
   row_unique (more _ ts) none x y e = cc
   row_unique (more t ts) (more u us) x y e =
-      let o = type_unique t u (spell_more_row ts ++ x) (spell_more_row us ++ y) (row_behind ts x) (row_behind us y) (sym (append_assoc (spell_type t) (spell_more_row ts) x) ∙ (e ∙ append_assoc (spell_type u) (spell_more_row us) y)) in
+      let o = type_unique t u (spell_more_row as_found ts ++ x) (spell_more_row as_found us ++ y) (row_behind ts x) (row_behind us y) (sym (append_assoc (spell_type as_found t) (spell_more_row as_found ts) x) ∙ (e ∙ append_assoc (spell_type as_found u) (spell_more_row as_found us) y)) in
       let m = more_row_unique ts us x y o.1 in
       (cc (o.0, m.0), m.1)
 
-  more_row_unique : (a b : PlainTypes) (x y : Spelling) → spell_more_row a ++ x ≡ spell_more_row b ++ y → One a b x y
+  more_row_unique : (a b : PlainTypes) (x y : Spelling) → spell_more_row as_found a ++ x ≡ spell_more_row as_found b ++ y → One a b x y
   more_row_unique none none x y e = (refl, cc)
   more_row_unique none (more u us) x y e = cc
   more_row_unique (more t ts) none x y e = cc
   more_row_unique (more t ts) (more u us) x y e =
-      let g : (spell_type t ++ spell_more_row ts) ++ x ≡ (spell_type u ++ spell_more_row us) ++ y = cc in
-      let o = type_unique t u (spell_more_row ts ++ x) (spell_more_row us ++ y) (row_behind ts x) (row_behind us y) (sym (append_assoc (spell_type t) (spell_more_row ts) x) ∙ (g ∙ append_assoc (spell_type u) (spell_more_row us) y)) in
+      let g : (spell_type as_found t ++ spell_more_row as_found ts) ++ x ≡ (spell_type as_found u ++ spell_more_row as_found us) ++ y = cc in
+      let o = type_unique t u (spell_more_row as_found ts ++ x) (spell_more_row as_found us ++ y) (row_behind ts x) (row_behind us y) (sym (append_assoc (spell_type as_found t) (spell_more_row as_found ts) x) ∙ (g ∙ append_assoc (spell_type as_found u) (spell_more_row as_found us) y)) in
       let m = more_row_unique ts us x y o.1 in
       (cc (o.0, m.0), m.1)
 
-  gives_unique : Unique NoArrow spell_gives
+  gives_unique : Unique NoArrow (spell_gives as_found)
   gives_unique nothing nothing x y h i e = (refl, e)
   gives_unique nothing (gives u) x y h i e = absurd (clash is_arrow x _ e h refl)
   gives_unique (gives t) nothing x y h i e = absurd (clash is_arrow y _ (sym e) i refl)
   gives_unique (gives t) (gives u) x y h i e =
-      let r : spell_type t ++ x ≡ spell_type u ++ y = cc in
+      let r : (spell_type as_found) t ++ x ≡ spell_type as_found u ++ y = cc in
       let o = type_unique t u x y h i r in
       (ap gives o.0, o.1)
 
@@ -157,9 +158,9 @@ is_name_found _ = false
 abbrev Any : Spelling → Type 0
 Any x = Unit {0}
 
-slot_unique : Unique NoArrow spell_slot
+slot_unique : Unique NoArrow (spell_slot as_found)
 slot_unique s r x y h i e =
-    let g : spell_type s.ty ++ x ≡ spell_type r.ty ++ y = cc in
+    let g : (spell_type as_found) s.ty ++ x ≡ spell_type as_found r.ty ++ y = cc in
     let o = type_unique s.ty r.ty x y h i g in
     let n : s.name ≡ r.name = cc in
     (same_slot s r n o.0, o.1)
@@ -167,25 +168,25 @@ slot_unique s r x y h i e =
     same_slot : (s r : PlainSlot) → s.name ≡ r.name → s.ty ≡ r.ty → s ≡ r
     same_slot s r n t = let e : ◌≡◌ {A = PlainSlot} (record { name = s.name; ty = s.ty }) (record { name = r.name; ty = r.ty }) = rw (n, t) refl in e
 
-slots_unique : (m : Mark) → (Sign mark.Comma ≡ Sign m → ⊥) → is_arrow (Sign m) ≡ false → (as_ bs : List PlainSlot) (x y : Spelling) → separated spell_slot as_ ++ Sign m ∷ x ≡ separated spell_slot bs ++ Sign m ∷ y → One as_ bs x y
-slots_unique m n a = separated_unique is_name_found NoArrow spell_slot (Sign m) slot_unique (λ a x. refl) (λ z. refl) (λ z. a) n refl
+slots_unique : (m : Mark) → (Sign mark.Comma ≡ Sign m → ⊥) → is_arrow (Sign m) ≡ false → (as_ bs : List PlainSlot) (x y : Spelling) → separated as_found (spell_slot as_found) as_ ++ Sign m ∷ x ≡ separated as_found (spell_slot as_found) bs ++ Sign m ∷ y → One as_ bs x y
+slots_unique m n a = separated_unique is_name_found NoArrow (spell_slot as_found) (Sign m) slot_unique (λ a x. refl) (λ z. refl) (λ z. a) n refl
 
 -- declarations
 
-struct_unique : Unique Any spell_struct
+struct_unique : Unique Any (spell_struct as_found)
 struct_unique s r x y h i e =
-    let g : spell_fields s.fields ++ x ≡ spell_fields r.fields ++ y = cc in
-    let o = slots_unique mark.CloseBrace (λ h. cc) refl s.fields r.fields x y (sym (append_assoc (separated spell_slot s.fields) (Sign mark.CloseBrace ∷ []) x) ∙ (g ∙ append_assoc (separated spell_slot r.fields) (Sign mark.CloseBrace ∷ []) y)) in
+    let g : (spell_fields as_found) s.fields ++ x ≡ spell_fields as_found r.fields ++ y = cc in
+    let o = slots_unique mark.CloseBrace (λ h. cc) refl s.fields r.fields x y (sym (append_assoc (separated as_found (spell_slot as_found) s.fields) (Sign mark.CloseBrace ∷ []) x) ∙ (g ∙ append_assoc (separated as_found (spell_slot as_found) r.fields) (Sign mark.CloseBrace ∷ []) y)) in
     let n : s.name ≡ r.name = cc in
     (same_struct s r n o.0, o.1)
   where
     same_struct : (s r : PlainStruct) → s.name ≡ r.name → s.fields ≡ r.fields → s ≡ r
     same_struct s r n t = let e : ◌≡◌ {A = PlainStruct} (record { name = s.name; fields = s.fields }) (record { name = r.name; fields = r.fields }) = rw (n, t) refl in e
 
-structs_unique : (as_ bs : List PlainStruct) (x y : Spelling) → first_is (is_found_key key.Struct) x ≡ false → first_is (is_found_key key.Struct) y ≡ false → spell_structs as_ ++ x ≡ spell_structs bs ++ y → One as_ bs x y
-structs_unique as_ bs x y h i e = list_unique (is_found_key key.Struct) Any spell_struct (λ a x. (refl, tt)) struct_unique as_ bs x y h i tt tt e
+structs_unique : (as_ bs : List PlainStruct) (x y : Spelling) → first_is (is_found_key key.Struct) x ≡ false → first_is (is_found_key key.Struct) y ≡ false → spell_structs as_found as_ ++ x ≡ spell_structs as_found bs ++ y → One as_ bs x y
+structs_unique as_ bs x y h i e = list_unique (is_found_key key.Struct) Any (spell_struct as_found) (λ a x. (refl, tt)) struct_unique as_ bs x y h i tt tt e
 
-periph_unique : Unique Any spell_periph
+periph_unique : Unique Any (spell_periph as_found)
 periph_unique p q x y h i e =
     let n : p.name ≡ q.name = cc in
     let b : p.base ≡ q.base = cc in
@@ -195,10 +196,10 @@ periph_unique p q x y h i e =
     same_periph : (p q : Peripheral) → p.name ≡ q.name → p.base ≡ q.base → p.size ≡ q.size → p ≡ q
     same_periph p q n b s = let e : ◌≡◌ {A = Peripheral} (record { name = p.name; base = p.base; size = p.size }) (record { name = q.name; base = q.base; size = q.size }) = rw (n, b, s) refl in e
 
-periphs_unique : (as_ bs : List Peripheral) (x y : Spelling) → first_is (is_found_key key.Periph) x ≡ false → first_is (is_found_key key.Periph) y ≡ false → spell_periphs as_ ++ x ≡ spell_periphs bs ++ y → One as_ bs x y
-periphs_unique as_ bs x y h i e = list_unique (is_found_key key.Periph) Any spell_periph (λ a x. (refl, tt)) periph_unique as_ bs x y h i tt tt e
+periphs_unique : (as_ bs : List Peripheral) (x y : Spelling) → first_is (is_found_key key.Periph) x ≡ false → first_is (is_found_key key.Periph) y ≡ false → spell_periphs as_found as_ ++ x ≡ spell_periphs as_found bs ++ y → One as_ bs x y
+periphs_unique as_ bs x y h i e = list_unique (is_found_key key.Periph) Any (spell_periph as_found) (λ a x. (refl, tt)) periph_unique as_ bs x y h i tt tt e
 
-cell_unique : Unique Any spell_cell
+cell_unique : Unique Any (spell_cell as_found)
 cell_unique (cell.Word n) (cell.Word m) x y h i e = (cc, cc)
 cell_unique (cell.Function f) (cell.Function g) x y h i e = (cc, cc)
 cell_unique (cell.Address f) (cell.Address g) x y h i e = (cc, cc)
@@ -209,7 +210,7 @@ is_cell_start (Is (model.Number n)) = true
 is_cell_start (Is (model.Key w)) = true
 is_cell_start _ = false
 
-cell_starts : (c : Cell) (x : Spelling) → first_is is_cell_start (spell_cell c ++ x) ≡ true
+cell_starts : (c : Cell) (x : Spelling) → first_is is_cell_start (spell_cell as_found c ++ x) ≡ true
 cell_starts (cell.Word n) x = refl
 cell_starts (cell.Function f) x = refl
 cell_starts (cell.Address f) x = refl
@@ -221,24 +222,24 @@ is_equal _ = false
 abbrev NoEqual : Spelling → Type 0
 NoEqual x = first_is is_equal x ≡ false
 
-init_unique : Unique NoEqual spell_init
+init_unique : Unique NoEqual (spell_init as_found)
 init_unique [] [] x y h i e = (refl, e)
 init_unique [] (d ∷ ds) x y h i e = absurd (clash is_equal x _ e h refl)
 init_unique (c ∷ cs) [] x y h i e = absurd (clash is_equal y _ (sym e) i refl)
 init_unique (c ∷ cs) (d ∷ ds) x y h i e =
-    let g : spell_cells (c ∷ cs) ++ x ≡ spell_cells (d ∷ ds) ++ y = cc in
-    separated_unique is_cell_start Any spell_cell (Sign mark.CloseBrace) cell_unique cell_starts (λ z. tt) (λ z. tt) (λ h. cc) refl (c ∷ cs) (d ∷ ds) x y
-    (sym (append_assoc (separated spell_cell (c ∷ cs)) (Sign mark.CloseBrace ∷ []) x) ∙ (g ∙ append_assoc (separated spell_cell (d ∷ ds)) (Sign mark.CloseBrace ∷ []) y))
+    let g : (spell_cells as_found) (c ∷ cs) ++ x ≡ spell_cells as_found (d ∷ ds) ++ y = cc in
+    separated_unique is_cell_start Any (spell_cell as_found) (Sign mark.CloseBrace) cell_unique cell_starts (λ z. tt) (λ z. tt) (λ h. cc) refl (c ∷ cs) (d ∷ ds) x y
+    (sym (append_assoc (separated as_found (spell_cell as_found) (c ∷ cs)) (Sign mark.CloseBrace ∷ []) x) ∙ (g ∙ append_assoc (separated as_found (spell_cell as_found) (d ∷ ds)) (Sign mark.CloseBrace ∷ []) y))
 
 -- behind a global
 abbrev BehindGlobal : Spelling → Type 0
 BehindGlobal x = NoArrow x × NoEqual x
 
-init_behind : (cs : List Cell) (x : Spelling) → BehindGlobal x → NoArrow (spell_init cs ++ x)
+init_behind : (cs : List Cell) (x : Spelling) → BehindGlobal x → NoArrow (spell_init as_found cs ++ x)
 init_behind [] x h = h.0
 init_behind (c ∷ cs) x h = refl
 
-constant_unique : Unique Any spell_constant
+constant_unique : Unique Any (spell_constant as_found)
 constant_unique true true x y h i e = (refl, cc)
 constant_unique false false x y h i e = (refl, cc)
 constant_unique true false x y h i e = cc
@@ -247,17 +248,17 @@ constant_unique false true x y h i e = cc
 parts : (a b c x : Spelling) → (a ++ b ++ c) ++ x ≡ a ++ (b ++ (c ++ x))
 parts a b c x = simp append_assoc
 
-name_behind_constant : (c d : Bool) (x y : Spelling) (v w : List ℕ) → spell_constant c ++ (Name v ∷ x) ≡ spell_constant d ++ (Name w ∷ y) → One c d (Name v ∷ x) (Name w ∷ y)
+name_behind_constant : (c d : Bool) (x y : Spelling) (v w : List ℕ) → spell_constant as_found c ++ (Name v ∷ x) ≡ spell_constant as_found d ++ (Name w ∷ y) → One c d (Name v ∷ x) (Name w ∷ y)
 name_behind_constant true true x y v w e = (refl, cc)
 name_behind_constant false false x y v w e = (refl, cc)
 name_behind_constant true false x y v w e = cc
 name_behind_constant false true x y v w e = cc
 
-global_unique : Unique BehindGlobal spell_global
+global_unique : Unique BehindGlobal (spell_global as_found)
 global_unique g d x y h i e =
-    let k = sym (parts (spell_constant g.constant) (spell_slot (record { name = g.name; ty = g.ty })) (spell_init g.init) x) ∙ (e ∙ parts (spell_constant d.constant) (spell_slot (record { name = d.name; ty = d.ty })) (spell_init d.init) y) in
+    let k = sym (parts (spell_constant as_found g.constant) (spell_slot as_found (record { name = g.name; ty = g.ty })) (spell_init as_found g.init) x) ∙ (e ∙ parts (spell_constant as_found d.constant) (spell_slot as_found (record { name = d.name; ty = d.ty })) (spell_init as_found d.init) y) in
     let c = name_behind_constant g.constant d.constant _ _ g.name d.name k in
-    let s = slot_unique (record { name = g.name; ty = g.ty }) (record { name = d.name; ty = d.ty }) (spell_init g.init ++ x) (spell_init d.init ++ y) (init_behind g.init x h) (init_behind d.init y i) c.1 in
+    let s = slot_unique (record { name = g.name; ty = g.ty }) (record { name = d.name; ty = d.ty }) (spell_init as_found g.init ++ x) (spell_init as_found d.init ++ y) (init_behind g.init x h) (init_behind d.init y i) c.1 in
     let j = init_unique g.init d.init x y h.1 i.1 s.1 in
     let n : g.name ≡ d.name = ap (λ (z : PlainSlot). z.name) s.0 in
     let t : g.ty ≡ d.ty = ap (λ (z : PlainSlot). z.ty) s.0 in
@@ -273,28 +274,28 @@ is_global_start (Is (model.Key key.Const)) = true
 is_global_start (Is (model.Key key.Global)) = true
 is_global_start _ = false
 
-global_starts : Starts is_global_start BehindGlobal spell_global
+global_starts : Starts is_global_start BehindGlobal (spell_global as_found)
 global_starts g x = by_constant g.constant
   where
-    by_constant : (c : Bool) → (first_is is_global_start ((spell_constant c ++ spell_slot (record { name = g.name; ty = g.ty }) ++ spell_init g.init) ++ x) ≡ true)
-        × BehindGlobal ((spell_constant c ++ spell_slot (record { name = g.name; ty = g.ty }) ++ spell_init g.init) ++ x)
+    by_constant : (c : Bool) → (first_is is_global_start ((spell_constant as_found c ++ spell_slot as_found (record { name = g.name; ty = g.ty }) ++ spell_init as_found g.init) ++ x) ≡ true)
+        × BehindGlobal ((spell_constant as_found c ++ spell_slot as_found (record { name = g.name; ty = g.ty }) ++ spell_init as_found g.init) ++ x)
     by_constant true = (refl, (refl, refl))
     by_constant false = (refl, (refl, refl))
 
-globals_unique : (as_ bs : List PlainGlobal) (x y : Spelling) → first_is is_global_start x ≡ false → first_is is_global_start y ≡ false → BehindGlobal x → BehindGlobal y → spell_globals as_ ++ x ≡ spell_globals bs ++ y → One as_ bs x y
-globals_unique as_ bs x y h i q r e = list_unique is_global_start BehindGlobal spell_global global_starts global_unique as_ bs x y h i q r e
+globals_unique : (as_ bs : List PlainGlobal) (x y : Spelling) → first_is is_global_start x ≡ false → first_is is_global_start y ≡ false → BehindGlobal x → BehindGlobal y → spell_globals as_found as_ ++ x ≡ spell_globals as_found bs ++ y → One as_ bs x y
+globals_unique as_ bs x y h i q r e = list_unique is_global_start BehindGlobal (spell_global as_found) global_starts global_unique as_ bs x y h i q r e
 
 -- instructions and blocks
 
-word_unique : Unique Any spell_word
+word_unique : Unique Any (spell_word as_found)
 word_unique v w x y h i e = (cc, cc)
 
-args_unique : (as_ bs : List (List ℕ)) (x y : Spelling) → spell_args as_ ++ x ≡ spell_args bs ++ y → One as_ bs x y
+args_unique : (as_ bs : List (List ℕ)) (x y : Spelling) → spell_args as_found as_ ++ x ≡ spell_args as_found bs ++ y → One as_ bs x y
 args_unique as_ bs x y e =
-    separated_unique is_name_found Any spell_word (Sign mark.Close) word_unique (λ a x. refl) (λ z. tt) (λ z. tt) (λ h. cc) refl as_ bs x y
-    (sym (append_assoc (separated spell_word as_) (Sign mark.Close ∷ []) x) ∙ (e ∙ append_assoc (separated spell_word bs) (Sign mark.Close ∷ []) y))
+    separated_unique is_name_found Any (spell_word as_found) (Sign mark.Close) word_unique (λ a x. refl) (λ z. tt) (λ z. tt) (λ h. cc) refl as_ bs x y
+    (sym (append_assoc (separated as_found (spell_word as_found) as_) (Sign mark.Close ∷ []) x) ∙ (e ∙ append_assoc (separated as_found (spell_word as_found) bs) (Sign mark.Close ∷ []) y))
 
-inst_unique : Unique Any spell_inst
+inst_unique : Unique Any (spell_inst as_found)
 inst_unique (inst.Const to v) (inst.Const ot w) x y h i e = (cc, cc)
 inst_unique (inst.Move to a) (inst.Move ot c) x y h i e = (cc, cc)
 inst_unique (inst.Bin op to a b) (inst.Bin po ot c d) x y h i e = (cc, cc)
@@ -306,23 +307,23 @@ inst_unique (inst.Field to a b) (inst.Field ot c d) x y h i e = (cc, cc)
 inst_unique (inst.Load to a) (inst.Load ot c) x y h i e = (cc, cc)
 inst_unique (inst.Store to a) (inst.Store ot c) x y h i e = (cc, cc)
 inst_unique (inst.Call None f as_) (inst.Call None g bs) x y h i e =
-    let r : spell_args as_ ++ x ≡ spell_args bs ++ y = cc in
+    let r : (spell_args as_found) as_ ++ x ≡ spell_args as_found bs ++ y = cc in
     let n : f ≡ g = cc in
     let o = args_unique as_ bs x y r in
     (cc (n, o.0), o.1)
 inst_unique (inst.Call (Some to) f as_) (inst.Call (Some ot) g bs) x y h i e =
-    let r : spell_args as_ ++ x ≡ spell_args bs ++ y = cc in
+    let r : (spell_args as_found) as_ ++ x ≡ spell_args as_found bs ++ y = cc in
     let n : f ≡ g = cc in
     let k : to ≡ ot = cc in
     let o = args_unique as_ bs x y r in
     (cc (n, k, o.0), o.1)
 inst_unique (inst.ICall None f as_) (inst.ICall None g bs) x y h i e =
-    let r : spell_args as_ ++ x ≡ spell_args bs ++ y = cc in
+    let r : (spell_args as_found) as_ ++ x ≡ spell_args as_found bs ++ y = cc in
     let n : f ≡ g = cc in
     let o = args_unique as_ bs x y r in
     (cc (n, o.0), o.1)
 inst_unique (inst.ICall (Some to) f as_) (inst.ICall (Some ot) g bs) x y h i e =
-    let r : spell_args as_ ++ x ≡ spell_args bs ++ y = cc in
+    let r : (spell_args as_found) as_ ++ x ≡ spell_args as_found bs ++ y = cc in
     let n : f ≡ g = cc in
     let k : to ≡ ot = cc in
     let o = args_unique as_ bs x y r in
@@ -356,7 +357,7 @@ is_inst_start (Is (model.Key key.Call)) = true
 is_inst_start (Is (model.Key key.Icall)) = true
 is_inst_start _ = false
 
-inst_starts : Starts is_inst_start Any spell_inst
+inst_starts : Starts is_inst_start Any (spell_inst as_found)
 inst_starts (inst.Call None f as_) x = (refl, tt)
 inst_starts (inst.Call (Some to) f as_) x = (refl, tt)
 inst_starts (inst.ICall None f as_) x = (refl, tt)
@@ -379,7 +380,7 @@ label_clash r (f ∷ x) h i = h
 no_register : (r : List ℕ) (x y : Spelling) → BehindBlock x → BehindBlock y → x ≡ Name r ∷ y → ⊥
 no_register r x y h i e = label_clash r y (subst BehindBlock e h) i
 
-term_unique : Unique BehindBlock spell_term
+term_unique : Unique BehindBlock (spell_term as_found)
 term_unique (term.Jump a) (term.Jump b) x y h i e = (cc, cc)
 term_unique (term.Branch on a b) (term.Branch to c d) x y h i e = (cc, cc)
 term_unique (term.Ret None) (term.Ret None) x y h i e = (refl, cc)
@@ -388,49 +389,51 @@ term_unique (term.Ret (Some r)) (term.Ret None) x y h i e = let g : y ≡ Name r
 term_unique (term.Ret (Some r)) (term.Ret (Some s)) x y h i e = (cc, cc)
 term_unique _ _ x y h i e = cc
 
-term_no_inst : (t : Term) (x : Spelling) → first_is is_inst_start (spell_term t ++ x) ≡ false
+term_no_inst : (t : Term) (x : Spelling) → first_is is_inst_start (spell_term as_found t ++ x) ≡ false
 term_no_inst (term.Jump a) x = refl
 term_no_inst (term.Branch on a b) x = refl
 term_no_inst (term.Ret r) x = refl
 
-block_unique : Unique BehindBlock spell_block
+block_unique : Unique BehindBlock (spell_block as_found)
 block_unique b d x y h i e =
-    let g : (flat_map spell_inst b.insts ++ spell_term b.term) ++ x ≡ (flat_map spell_inst d.insts ++ spell_term d.term) ++ y = cc in
+    let g : (flat_map (spell_inst as_found) b.insts ++ spell_term as_found b.term) ++ x ≡ (flat_map (spell_inst as_found) d.insts ++ spell_term as_found d.term) ++ y = cc in
     let l : b.label ≡ d.label = cc in
-    let o = list_unique is_inst_start Any spell_inst inst_starts inst_unique b.insts d.insts (spell_term b.term ++ x) (spell_term d.term ++ y) (term_no_inst b.term x) (term_no_inst d.term y) tt tt
-    (sym (append_assoc (flat_map spell_inst b.insts) (spell_term b.term) x) ∙ (g ∙ append_assoc (flat_map spell_inst d.insts) (spell_term d.term) y)) in
+    let o = list_unique is_inst_start Any (spell_inst as_found) inst_starts inst_unique b.insts d.insts (spell_term as_found b.term ++ x) (spell_term as_found d.term ++ y) (term_no_inst b.term x) (term_no_inst d.term y) tt tt
+    (sym (append_assoc (flat_map (spell_inst as_found) b.insts) (spell_term as_found b.term) x) ∙ (g ∙ append_assoc (flat_map (spell_inst as_found) d.insts) (spell_term as_found d.term) y)) in
     let t = term_unique b.term d.term x y h i o.1 in
     (same_block b d l o.0 t.0, t.1)
   where
     same_block : (b d : Block) → b.label ≡ d.label → b.insts ≡ d.insts → b.term ≡ d.term → b ≡ d
     same_block b d l i t = let e : ◌≡◌ {A = Block} (record { label = b.label; insts = b.insts; term = b.term }) (record { label = d.label; insts = d.insts; term = d.term }) = rw (l, i, t) refl in e
 
-blocks_unique : (as_ bs : List Block) (x y : Spelling) → spell_blocks as_ ++ x ≡ spell_blocks bs ++ y → One as_ bs x y
+blocks_unique : (as_ bs : List Block) (x y : Spelling) → spell_blocks as_found as_ ++ x ≡ spell_blocks as_found bs ++ y → One as_ bs x y
 blocks_unique as_ bs x y e =
-    let o = list_unique is_name_found BehindBlock spell_block (λ a x. (refl, tt)) block_unique as_ bs (Sign mark.CloseBrace ∷ x) (Sign mark.CloseBrace ∷ y) refl refl tt tt
-    (sym (append_assoc (flat_map spell_block as_) (Sign mark.CloseBrace ∷ []) x) ∙ (e ∙ append_assoc (flat_map spell_block bs) (Sign mark.CloseBrace ∷ []) y)) in
+    let o = list_unique is_name_found BehindBlock (spell_block as_found) (λ a x. (refl, tt)) block_unique as_ bs (Sign mark.CloseBrace ∷ x) (Sign mark.CloseBrace ∷ y) refl refl tt tt
+    (sym (append_assoc (flat_map (spell_block as_found) as_) (Sign mark.CloseBrace ∷ []) x) ∙ (e ∙ append_assoc (flat_map (spell_block as_found) bs) (Sign mark.CloseBrace ∷ []) y)) in
     (o.0, cc (o.1))
 
 -- functions and files
 
-keyed_unique : (f g : Found) → Unique NoArrow (λ (s : PlainSlot). f ∷ spell_slot s)
-keyed_unique f g s r x y h i e = let g : spell_slot s ++ x ≡ spell_slot r ++ y = cc in slot_unique s r x y h i g
+keyed_unique : (f : Found) → Unique NoArrow (λ (s : PlainSlot). f ∷ (spell_slot as_found s ++ []))
+keyed_unique f s r x y h i e =
+    let g : (spell_slot as_found s ++ []) ++ x ≡ (spell_slot as_found r ++ []) ++ y = cc in
+    slot_unique s r x y h i (sym (ap (λ z. z ++ x) (append-nil (spell_slot as_found s))) ∙ (g ∙ ap (λ z. z ++ y) (append-nil (spell_slot as_found r))))
 
-blocks_first : (p : Found → Bool) (bs : List Block) (x : Spelling) → p (Sign mark.CloseBrace) ≡ false → ((w : List ℕ) → p (Name w) ≡ false) → first_is p (spell_blocks bs ++ x) ≡ false
+blocks_first : (p : Found → Bool) (bs : List Block) (x : Spelling) → p (Sign mark.CloseBrace) ≡ false → ((w : List ℕ) → p (Name w) ≡ false) → first_is p (spell_blocks as_found bs ++ x) ≡ false
 blocks_first p [] x h i = h
 blocks_first p (b ∷ bs) x h i = i b.label
 
-regs_first : (p : Found → Bool) (rs : List PlainSlot) (bs : List Block) (x : Spelling) → p (Sign mark.CloseBrace) ≡ false → ((w : List ℕ) → p (Name w) ≡ false) → p (Key key.Reg) ≡ false → first_is p (spell_regs rs ++ (spell_blocks bs ++ x)) ≡ false
+regs_first : (p : Found → Bool) (rs : List PlainSlot) (bs : List Block) (x : Spelling) → p (Sign mark.CloseBrace) ≡ false → ((w : List ℕ) → p (Name w) ≡ false) → p (Key key.Reg) ≡ false → first_is p (spell_regs as_found rs ++ (spell_blocks as_found bs ++ x)) ≡ false
 regs_first p [] bs x h i j = blocks_first p bs x h i
 regs_first p (r ∷ rs) bs x h i j = j
 
-body_unique : (ls ms rs ss : List PlainSlot) (bs ds : List Block) (x y : Spelling) → spell_body ls rs bs ++ x ≡ spell_body ms ss ds ++ y → (ls ≡ ms) × (rs ≡ ss) × One bs ds x y
+body_unique : (ls ms rs ss : List PlainSlot) (bs ds : List Block) (x y : Spelling) → spell_body as_found ls rs bs ++ x ≡ spell_body as_found ms ss ds ++ y → (ls ≡ ms) × (rs ≡ ss) × One bs ds x y
 body_unique ls ms rs ss bs ds x y e =
-    let g = sym (nested (spell_locals ls) (spell_regs rs) (spell_blocks bs) x) ∙ (e ∙ nested (spell_locals ms) (spell_regs ss) (spell_blocks ds) y) in
-    let l = list_unique (is_found_key key.Local) NoArrow spell_local (λ a x. (refl, refl)) (keyed_unique (Key key.Local) (Key key.Local)) ls ms (spell_regs rs ++ (spell_blocks bs ++ x)) (spell_regs ss ++ (spell_blocks ds ++ y))
+    let g = sym (nested (spell_locals as_found ls) (spell_regs as_found rs) (spell_blocks as_found bs) x) ∙ (e ∙ nested (spell_locals as_found ms) (spell_regs as_found ss) (spell_blocks as_found ds) y) in
+    let l = list_unique (is_found_key key.Local) NoArrow (spell_local as_found) (λ a x. (refl, refl)) (keyed_unique (Key key.Local)) ls ms (spell_regs as_found rs ++ (spell_blocks as_found bs ++ x)) (spell_regs as_found ss ++ (spell_blocks as_found ds ++ y))
     (regs_first (is_found_key key.Local) rs bs x refl (λ w. refl) refl) (regs_first (is_found_key key.Local) ss ds y refl (λ w. refl) refl)
     (regs_first is_arrow rs bs x refl (λ w. refl) refl) (regs_first is_arrow ss ds y refl (λ w. refl) refl) g in
-    let r = list_unique (is_found_key key.Reg) NoArrow spell_reg (λ a x. (refl, refl)) (keyed_unique (Key key.Reg) (Key key.Reg)) rs ss (spell_blocks bs ++ x) (spell_blocks ds ++ y)
+    let r = list_unique (is_found_key key.Reg) NoArrow (spell_reg as_found) (λ a x. (refl, refl)) (keyed_unique (Key key.Reg)) rs ss (spell_blocks as_found bs ++ x) (spell_blocks as_found ds ++ y)
     (blocks_first (is_found_key key.Reg) bs x refl (λ w. refl)) (blocks_first (is_found_key key.Reg) ds y refl (λ w. refl))
     (blocks_first is_arrow bs x refl (λ w. refl)) (blocks_first is_arrow ds y refl (λ w. refl)) l.1 in
     let b = blocks_unique bs ds x y r.1 in
@@ -439,16 +442,16 @@ body_unique ls ms rs ss bs ds x y e =
     nested : (a b c x : Spelling) → (a ++ (b ++ c)) ++ x ≡ a ++ (b ++ (c ++ x))
     nested a b c x = simp append_assoc
 
-func_unique : Unique Any spell_func
+func_unique : Unique Any (spell_func as_found)
 func_unique f g x y h i e =
-    let k : (spell_head f.name f.params f.outcome ++ spell_body f.locals f.regs f.blocks) ++ x ≡ (spell_head g.name g.params g.outcome ++ spell_body g.locals g.regs g.blocks) ++ y = cc in
-    let s = sym (flat (separated spell_slot f.params) (spell_gives f.outcome) (spell_body f.locals f.regs f.blocks) x f.name) ∙ (k ∙ flat (separated spell_slot g.params) (spell_gives g.outcome) (spell_body g.locals g.regs g.blocks) y g.name) in
+    let k : (spell_head as_found f.name f.params f.outcome ++ spell_body as_found f.locals f.regs f.blocks) ++ x ≡ (spell_head as_found g.name g.params g.outcome ++ spell_body as_found g.locals g.regs g.blocks) ++ y = cc in
+    let s = sym (flat (separated as_found (spell_slot as_found) f.params) (spell_gives as_found f.outcome) (spell_body as_found f.locals f.regs f.blocks) x f.name) ∙ (k ∙ flat (separated as_found (spell_slot as_found) g.params) (spell_gives as_found g.outcome) (spell_body as_found g.locals g.regs g.blocks) y g.name) in
     let n : f.name ≡ g.name = cc in
-    let t : separated spell_slot f.params ++ (Sign mark.Close ∷ (spell_gives f.outcome ++ (Sign mark.OpenBrace ∷ (spell_body f.locals f.regs f.blocks ++ x))))
-    ≡ separated spell_slot g.params ++ (Sign mark.Close ∷ (spell_gives g.outcome ++ (Sign mark.OpenBrace ∷ (spell_body g.locals g.regs g.blocks ++ y)))) = cc in
+    let t : (separated as_found) (spell_slot as_found) f.params ++ (Sign mark.Close ∷ (spell_gives as_found f.outcome ++ (Sign mark.OpenBrace ∷ (spell_body as_found f.locals f.regs f.blocks ++ x))))
+    ≡ separated as_found (spell_slot as_found) g.params ++ (Sign mark.Close ∷ (spell_gives as_found g.outcome ++ (Sign mark.OpenBrace ∷ (spell_body as_found g.locals g.regs g.blocks ++ y)))) = cc in
     let p = slots_unique mark.Close (λ h. cc) refl f.params g.params _ _ t in
     let o = gives_unique f.outcome g.outcome _ _ refl refl p.1 in
-    let b : spell_body f.locals f.regs f.blocks ++ x ≡ spell_body g.locals g.regs g.blocks ++ y = cc (o.1) in
+    let b : (spell_body as_found) f.locals f.regs f.blocks ++ x ≡ spell_body as_found g.locals g.regs g.blocks ++ y = cc (o.1) in
     let d = body_unique f.locals g.locals f.regs g.regs f.blocks g.blocks x y b in
     (same_func f g n p.0 o.0 d.0 d.1 d.2.0, d.2.1)
   where
@@ -461,15 +464,15 @@ func_unique f g x y h i e =
         rw (n, p, o, l, r, b) refl in
         e
 
-funcs_unique : (as_ bs : List PlainFunc) (x y : Spelling) → spell_funcs as_ ++ x ≡ spell_funcs bs ++ y → One as_ bs x y
+funcs_unique : (as_ bs : List PlainFunc) (x y : Spelling) → spell_funcs as_found as_ ++ x ≡ spell_funcs as_found bs ++ y → One as_ bs x y
 funcs_unique as_ bs x y e =
-    let o = list_unique (is_found_key key.Func) Any spell_func (λ a x. (refl, tt)) func_unique as_ bs (Sign mark.CloseBrace ∷ x) (Sign mark.CloseBrace ∷ y) refl refl tt tt
-    (sym (append_assoc (flat_map spell_func as_) (Sign mark.CloseBrace ∷ []) x) ∙ (e ∙ append_assoc (flat_map spell_func bs) (Sign mark.CloseBrace ∷ []) y)) in
+    let o = list_unique (is_found_key key.Func) Any (spell_func as_found) (λ a x. (refl, tt)) func_unique as_ bs (Sign mark.CloseBrace ∷ x) (Sign mark.CloseBrace ∷ y) refl refl tt tt
+    (sym (append_assoc (flat_map (spell_func as_found) as_) (Sign mark.CloseBrace ∷ []) x) ∙ (e ∙ append_assoc (flat_map (spell_func as_found) bs) (Sign mark.CloseBrace ∷ []) y)) in
     (o.0, cc (o.1))
 
-file_unique : Unique Any spell_file
+file_unique : Unique Any (spell_file as_found)
 file_unique f g x y h i e =
-    let k : spell_funcs f.funcs ++ x ≡ spell_funcs g.funcs ++ y = cc in
+    let k : (spell_funcs as_found) f.funcs ++ x ≡ spell_funcs as_found g.funcs ++ y = cc in
     let n : f.name ≡ g.name = cc in
     let o = funcs_unique f.funcs g.funcs x y k in
     (same_file f g n o.0, o.1)
@@ -477,29 +480,29 @@ file_unique f g x y h i e =
     same_file : (f g : PlainFile) → f.name ≡ g.name → f.funcs ≡ g.funcs → f ≡ g
     same_file f g n s = let e : ◌≡◌ {A = PlainFile} (record { name = f.name; funcs = f.funcs }) (record { name = g.name; funcs = g.funcs }) = rw (n, s) refl in e
 
-files_unique : (as_ bs : List PlainFile) → spell_files as_ ≡ spell_files bs → as_ ≡ bs
-files_unique as_ bs e = (list_unique (is_found_key key.File) Any spell_file (λ a x. (refl, tt)) file_unique as_ bs (End ∷ []) (End ∷ []) refl refl tt tt e).0
+files_unique : (as_ bs : List PlainFile) → spell_files as_found as_ ≡ spell_files as_found bs → as_ ≡ bs
+files_unique as_ bs e = (list_unique (is_found_key key.File) Any (spell_file as_found) (λ a x. (refl, tt)) file_unique as_ bs (End ∷ []) (End ∷ []) refl refl tt tt e).0
 
 -- the whole
 
-files_first : (p : Found → Bool) (fs : List PlainFile) → p (Key key.File) ≡ false → p End ≡ false → first_is p (spell_files fs) ≡ false
+files_first : (p : Found → Bool) (fs : List PlainFile) → p (Key key.File) ≡ false → p End ≡ false → first_is p (spell_files as_found fs) ≡ false
 files_first p [] h i = i
 files_first p (f ∷ fs) h i = h
 
-globals_first : (p : Found → Bool) (gs : List PlainGlobal) (fs : List PlainFile) → p (Key key.File) ≡ false → p End ≡ false → p (Key key.Const) ≡ false → p (Key key.Global) ≡ false → first_is p (spell_globals gs ++ spell_files fs) ≡ false
+globals_first : (p : Found → Bool) (gs : List PlainGlobal) (fs : List PlainFile) → p (Key key.File) ≡ false → p End ≡ false → p (Key key.Const) ≡ false → p (Key key.Global) ≡ false → first_is p (spell_globals as_found gs ++ spell_files as_found fs) ≡ false
 globals_first p [] fs h i j k = files_first p fs h i
 globals_first p (g ∷ gs) fs h i j k = by_constant g.constant
   where
-    by_constant : (c : Bool) → first_is p (((spell_constant c ++ spell_slot (record { name = g.name; ty = g.ty }) ++ spell_init g.init) ++ spell_globals gs) ++ spell_files fs) ≡ false
+    by_constant : (c : Bool) → first_is p (((spell_constant as_found c ++ spell_slot as_found (record { name = g.name; ty = g.ty }) ++ spell_init as_found g.init) ++ spell_globals as_found gs) ++ spell_files as_found fs) ≡ false
     by_constant true = j
     by_constant false = k
 
 periphs_first : (p : Found → Bool) (ps : List Peripheral) (gs : List PlainGlobal) (fs : List PlainFile) → p (Key key.File) ≡ false → p End ≡ false → p (Key key.Const) ≡ false → p (Key key.Global) ≡ false → p (Key key.Periph) ≡ false
-    → first_is p (spell_periphs ps ++ (spell_globals gs ++ spell_files fs)) ≡ false
+    → first_is p (spell_periphs as_found ps ++ (spell_globals as_found gs ++ spell_files as_found fs)) ≡ false
 periphs_first p [] gs fs h i j k l = globals_first p gs fs h i j k
 periphs_first p (q ∷ ps) gs fs h i j k l = l
 
-pub firmware_unique : (v w : PlainFirmware) → spell_firmware v ≡ spell_firmware w → v ≡ w
+pub firmware_unique : (v w : PlainFirmware) → spell_firmware as_found v ≡ spell_firmware as_found w → v ≡ w
 firmware_unique v w e =
     let s = structs_unique v.structs w.structs _ _ (periphs_first (is_found_key key.Struct) v.periphs v.globals v.files refl refl refl refl refl) (periphs_first (is_found_key key.Struct) w.periphs w.globals w.files refl refl refl refl refl) e in
     let p = periphs_unique v.periphs w.periphs _ _ (globals_first (is_found_key key.Periph) v.globals v.files refl refl refl refl) (globals_first (is_found_key key.Periph) w.globals w.files refl refl refl refl) s.1 in

@@ -11,7 +11,8 @@ use Rattle.ir_reader.specs.Found.{Is, Placed, finds, colon_first}
 use Rattle.ir_reader.specs.Machine.{Symbol, Move, Go, Stop, Skip, Step, To, Stuck, step, fault, value_key, Value, Insts, AfterRet}
 use Rattle.ir_reader.specs.Reading.{ReadsBehind, Fails}
 use Rattle.ir_reader.specs.Lines.{ReadsValue, FailsBy, PassesBy}
-use Rattle.ir_reader.specs.Spelling.{spell_inst, spell_assigned, Key}
+use Rattle.ir_grammar.specs.Spelling.{spell_inst, spell_assigned}
+use Rattle.ir_reader.specs.Spelling.{Key, as_found}
 use Rattle.ir_reader.proofs.Ends.{after}
 
 abbrev pub stepped : List Symbol → model.Token → Bool → Move → Step
@@ -20,8 +21,8 @@ stepped st t c Stop = Stuck
 stepped st t c Skip = step st t c
 
 ok_from : (to : List ℕ) (w : Keyword) (p : Placed) (old new : List Placed) (v : Inst) (c : Bool) (m : Move)
-    → PassesBy m (spell_assigned to ++ Key w ∷ []) old new v
-    → (spell_assigned to ++ Key w ∷ finds old ≡ spell_inst v ++ finds new) × ((st : List Symbol) → after p old (stepped st (model.Key w) c m) ≡ fault st new)
+    → PassesBy m (spell_assigned as_found to (Key w ∷ [])) old new v
+    → (spell_assigned as_found to (Key w ∷ finds old) ≡ spell_inst as_found v ++ finds new) × ((st : List Symbol) → after p old (stepped st (model.Key w) c m) ≡ fault st new)
 ok_from to w p old new v c (Go None more) h = (h.1.spelled, λ st. h.1.passed st)
 ok_from to w p old new v c (Go (Some e) more) h = let n = h.0 in cc
 ok_from to w p old new v c Stop h = absurd h
@@ -36,7 +37,7 @@ err_from w p old f c st Skip h = absurd h
 
 pub value_from : (to : List ℕ) (w : Keyword) (left : ℕ) (old : List Placed) (behind : List ℕ) (placed : List ℕ → List Placed) (r : Result (Inst × Bor (List ℕ)) ReadError)
     → old ≡ record { found = Is (model.Key w); left = left } ∷ placed behind → ReadsValue to w left (placed behind) placed r
-    → ReadsBehind (spell_assigned to) (λ (x : Inst × Bor (List ℕ)). x.0) spell_inst (Value ∷ []) [] old (λ (x : Inst × Bor (List ℕ)). placed x.1.now) r
+    → ReadsBehind (spell_assigned as_found to []) (λ (x : Inst × Bor (List ℕ)). x.0) (spell_inst as_found) (Value ∷ []) [] old (λ (x : Inst × Bor (List ℕ)). placed x.1.now) r
 value_from to w left old behind placed (Ok x) e h =
     let o = ok_from to w (record { found = Is (model.Key w); left = left }) (placed behind) (placed x.1.now) x.0 (colon_first (placed behind)) (value_key w) h in
     record { spelled = rw e o.0; passed = λ st. rw e (o.1 st) }

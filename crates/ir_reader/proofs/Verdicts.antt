@@ -1,5 +1,5 @@
 -- What the reason of a fault says of all firmwares.
-use Rattle.std.proofs.Common.{◌≡◌, ℕ, [], ◌∷◌, ◌++◌, List, Bool, true, sym, subst, Some}
+use Rattle.std.proofs.Common.{◌≡◌, [], ◌∷◌, ◌++◌, List, Bool, true, sym, subst, Some}
 use Rattle.ir_model.specs.declared.token.Excess.{Excess}
 use Rattle.ir_model.specs.Tokens.{Token, Marked}
 use Rattle.ir_model.specs.Lines.{Line}

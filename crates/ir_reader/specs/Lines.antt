@@ -14,7 +14,8 @@ use Rattle.ir_reader.specs.declared.instructions.Step.TheVariants as step
 use Rattle.ir_reader.specs.Found.{Found, Placed}
 use Rattle.ir_reader.specs.Machine.{Symbol, Move, Go, Stop, Skip, fault, Insts, Blocks, value_key}
 use Rattle.ir_reader.specs.Reading.{Passes, Fails}
-use Rattle.ir_reader.specs.Spelling.{Key, spell_inst, spell_term, spell_assigned}
+use Rattle.ir_grammar.specs.Spelling.{spell_inst, spell_term, spell_assigned}
+use Rattle.ir_reader.specs.Spelling.{Key, as_found}
 
 -- an instruction is behind few enough others
 abbrev pub IsBelow : ℕ → Step → Type 0
@@ -23,8 +24,8 @@ IsBelow n (step.Term t) = Unit {0}
 
 -- an instruction or the end of a block, behind so many instructions and any number of blocks
 abbrev pub ReadsLine : ℕ → List Placed → (List ℕ → List Placed) → Result (Step × Bor (List ℕ)) ReadError → Type 0
-ReadsLine n old placed (Ok (step.Inst i, rest)) = (k : ℕ) → Passes [] spell_inst (Insts k n ∷ []) (Insts k (n + 1) ∷ []) old (placed rest.now) i
-ReadsLine n old placed (Ok (step.Term t, rest)) = (k : ℕ) → Passes [] spell_term (Insts k n ∷ []) (Blocks k n ∷ []) old (placed rest.now) t
+ReadsLine n old placed (Ok (step.Inst i, rest)) = (k : ℕ) → Passes [] (spell_inst as_found) (Insts k n ∷ []) (Insts k (n + 1) ∷ []) old (placed rest.now) i
+ReadsLine n old placed (Ok (step.Term t, rest)) = (k : ℕ) → Passes [] (spell_term as_found) (Insts k n ∷ []) (Blocks k n ∷ []) old (placed rest.now) t
 ReadsLine n old placed (Err e) = (k : ℕ) → Fails (Insts k n ∷ []) old e
 
 -- what a reserved word, which begins what a register gets, asks for behind it
@@ -38,10 +39,10 @@ ValueFails word left old errors.Memory = Unit {0}
 ValueFails word left old (errors.Fault f) = (st : List Symbol) → FailsBy (value_key word) left old f st
 
 abbrev pub PassesBy : Move → List Found → List Placed → List Placed → Inst → Type 0
-PassesBy (Go x more) before old new i = (x ≡ None) × Passes before spell_inst more [] old new i
+PassesBy (Go x more) before old new i = (x ≡ None) × Passes before (spell_inst as_found) more [] old new i
 PassesBy Stop before old new i = ⊥
 PassesBy Skip before old new i = ⊥
 
 abbrev pub ReadsValue : List ℕ → Keyword → ℕ → List Placed → (List ℕ → List Placed) → Result (Inst × Bor (List ℕ)) ReadError → Type 0
-ReadsValue to word left old placed (Ok x) = PassesBy (value_key word) (spell_assigned to ++ Key word ∷ []) old (placed x.1.now) x.0
+ReadsValue to word left old placed (Ok x) = PassesBy (value_key word) (spell_assigned as_found to (Key word ∷ [])) old (placed x.1.now) x.0
 ReadsValue to word left old placed (Err e) = ValueFails word left old e

@@ -15,7 +15,8 @@ use Rattle.ir_reader.specs.declared.error.ReadError.{ReadError}
 use Rattle.ir_reader.specs.declared.error.ReadError.TheVariants as errors
 use Rattle.ir_reader.specs.Found.{Found, Is, Placed, finds, colon_first}
 use Rattle.ir_reader.specs.Machine.{Symbol, fault, mark_number, key_number, Globals, Files, global_rest}
-use Rattle.ir_reader.specs.Spelling.{spell_constant}
+use Rattle.ir_grammar.specs.Spelling.{spell_constant}
+use Rattle.ir_reader.specs.Spelling.{as_found}
 
 -- the fault comes whatever is expected behind these
 abbrev pub Fails : List Symbol → List Placed → ReadError → Type 0
@@ -80,7 +81,7 @@ BehindKey k old placed None = key_first k old ≡ false
 
 -- a global begins behind so many others, or a file
 abbrev pub Starts : ℕ → List Placed → (List ℕ → List Placed) → Result (Option (Bool × Bor (List ℕ))) ReadError → Type 0
-Starts k old placed (Ok (Some x)) = (k < global_limit) × Passes [] spell_constant (Globals k ∷ []) (global_rest k) old (placed x.1.now) x.0
+Starts k old placed (Ok (Some x)) = (k < global_limit) × Passes [] (spell_constant as_found) (Globals k ∷ []) (global_rest k) old (placed x.1.now) x.0
 Starts k old placed (Ok None) = (st : List Symbol) → fault (Globals k ∷ st) old ≡ fault (Files 0 0 ∷ st) old
 Starts k old placed (Err e) = Fails (Globals k ∷ []) old e
 

@@ -9,7 +9,9 @@ ghost use Rattle.ir_model.specs.declared.token.Mark.TheVariants as mark;
 ghost use Rattle.ir_reader.specs.Machine as Expected;
 ghost use Rattle.ir_reader.specs.Reading.{Reads, ReadsBehind, Starts, HasFields};
 ghost use Rattle.ir_reader.specs.Scan.{placed};
+ghost use Rattle.ir_grammar.specs.Spelling as grammar;
 ghost use Rattle.ir_reader.specs.Spelling as spelling;
+ghost use Rattle.ir_reader.specs.Spelling.{as_found};
 
 use crate::error::ReadError;
 use crate::lexer::lex;
@@ -26,7 +28,7 @@ use std::alloc::Global;
 /// A struct behind the word `struct`, and the text behind it.
 fn struct_behind(alloc: Global, text: &[u8]) -> Result<(StructDecl, &[u8]), ReadError>
     ensures some { IfOk result (λ x. 0 < length x.0.fields) }
-    ensures read { ReadsBehind (spelling.Key key.Struct ∷ []) (λ x. struct_of x.0) spelling.spell_struct Expected.struct_rest [] (placed text.now) (λ x. placed x.1.now) result }
+    ensures read { ReadsBehind (spelling.Key key.Struct ∷ []) (λ x. struct_of x.0) (grammar.spell_struct as_found) Expected.struct_rest [] (placed text.now) (λ x. placed x.1.now) result }
 {
     let (name, rest) = name(alloc, text)?;
     let rest = mark(Mark::OpenBrace, rest)?;
@@ -44,7 +46,7 @@ fn struct_behind(alloc: Global, text: &[u8]) -> Result<(StructDecl, &[u8]), Read
 #[tactic(auto, using(crate::proofs::Ends::structs_end, ir_model::proofs::NoExcess::counted_none, crate::proofs::Separated::each_push))]
 pub fn structs(alloc: Global, text: &[u8]) -> Result<(Vec<StructDecl>, &[u8]), ReadError>
     ensures fields { IfOk result (λ x. HasFields (map struct_of x.0.items)) }
-    ensures read { Reads (λ x. map struct_of x.0.items) spelling.spell_structs (Expected.Structs 0 ∷ []) (Expected.Periphs 0 ∷ []) (placed text.now) (λ x. placed x.1.now) result }
+    ensures read { Reads (λ x. map struct_of x.0.items) (grammar.spell_structs as_found) (Expected.Structs 0 ∷ []) (Expected.Periphs 0 ∷ []) (placed text.now) (λ x. placed x.1.now) result }
 {
     let mut structs = Vec::new(alloc);
     let mut rest = text;
@@ -62,7 +64,7 @@ pub fn structs(alloc: Global, text: &[u8]) -> Result<(Vec<StructDecl>, &[u8]), R
 
 /// A peripheral behind the word `periph`, and the text behind it.
 fn periph_behind(alloc: Global, text: &[u8]) -> Result<(Peripheral, &[u8]), ReadError>
-    ensures { ReadsBehind (spelling.Key key.Periph ∷ []) (λ x. x.0) spelling.spell_periph Expected.periph_rest [] (placed text.now) (λ x. placed x.1.now) result }
+    ensures { ReadsBehind (spelling.Key key.Periph ∷ []) (λ x. x.0) (grammar.spell_periph as_found) Expected.periph_rest [] (placed text.now) (λ x. placed x.1.now) result }
 {
     let (name, rest) = name(alloc, text)?;
     let (base, rest) = number(rest)?;
@@ -73,7 +75,7 @@ fn periph_behind(alloc: Global, text: &[u8]) -> Result<(Peripheral, &[u8]), Read
 /// All peripherals, and the text behind them.
 #[tactic(auto, using(crate::proofs::Ends::periphs_end, ir_model::proofs::NoExcess::counted_none))]
 pub fn periphs(alloc: Global, text: &[u8]) -> Result<(Vec<Peripheral>, &[u8]), ReadError>
-    ensures { Reads (λ x. x.0.items) spelling.spell_periphs (Expected.Periphs 0 ∷ []) (Expected.Globals 0 ∷ []) (placed text.now) (λ x. placed x.1.now) result }
+    ensures { Reads (λ x. x.0.items) (grammar.spell_periphs as_found) (Expected.Periphs 0 ∷ []) (Expected.Globals 0 ∷ []) (placed text.now) (λ x. placed x.1.now) result }
 {
     let mut periphs = Vec::new(alloc);
     let mut rest = text;
@@ -93,7 +95,7 @@ pub fn periphs(alloc: Global, text: &[u8]) -> Result<(Vec<Peripheral>, &[u8]), R
 #[tactic(auto, using(ir_model::proofs::NoExcess::number_fits, crate::proofs::Kept::cell_counted, ir_model::proofs::NoExcess::counted_none))]
 fn cell(alloc: Global, before: usize, text: &[u8]) -> Result<(Cell, &[u8]), ReadError>
     ensures limit { OnOk result (before < cell_limit) }
-    ensures read { Reads (λ x. x.0) spelling.spell_cell (Expected.CellAt before ∷ []) [] (placed text.now) (λ x. placed x.1.now) result }
+    ensures read { Reads (λ x. x.0) (grammar.spell_cell as_found) (Expected.CellAt before ∷ []) [] (placed text.now) (λ x. placed x.1.now) result }
 {
     let (token, left, rest) = lex(text);
     match token {
@@ -122,7 +124,7 @@ fn cell(alloc: Global, before: usize, text: &[u8]) -> Result<(Cell, &[u8]), Read
 #[tactic(auto, using(crate::proofs::Ends::cells_end))]
 fn cells(alloc: Global, text: &[u8]) -> Result<(Vec<Cell>, &[u8]), ReadError>
     ensures some { IfOk result (λ x. 0 < length x.0.items) }
-    ensures read { Reads (λ x. x.0.items) spelling.spell_cells (Expected.CellAt 0 ∷ Expected.MoreCells 1 ∷ []) [] (placed text.now) (λ x. placed x.1.now) result }
+    ensures read { Reads (λ x. x.0.items) (grammar.spell_cells as_found) (Expected.CellAt 0 ∷ Expected.MoreCells 1 ∷ []) [] (placed text.now) (λ x. placed x.1.now) result }
 {
     let mut cells = Vec::new(alloc);
     let (first, mut rest) = cell(alloc, 0, text)?;
@@ -139,7 +141,7 @@ fn cells(alloc: Global, text: &[u8]) -> Result<(Vec<Cell>, &[u8]), ReadError>
 /// The first cells of a global, if the text says them, and the text behind it.
 #[tactic(auto, using(crate::proofs::Ends::init_ends, crate::proofs::Separated::spell_some_init))]
 fn init(alloc: Global, before: usize, text: &[u8]) -> Result<(Vec<Cell>, &[u8]), ReadError>
-    ensures { Reads (λ x. x.0.items) spelling.spell_init (Expected.Init before ∷ []) (Expected.Globals before ∷ []) (placed text.now) (λ x. placed x.1.now) result }
+    ensures { Reads (λ x. x.0.items) (grammar.spell_init as_found) (Expected.Init before ∷ []) (Expected.Globals before ∷ []) (placed text.now) (λ x. placed x.1.now) result }
 {
     let Some(rest) = behind_mark(Mark::Equal, text) else {
         return Ok((Vec::new(alloc), text));
@@ -173,7 +175,7 @@ fn global_behind(
     text: &[u8],
 ) -> Result<(GlobalDecl, &[u8]), ReadError>
     requires { before < global_limit }
-    ensures { ReadsBehind (spelling.spell_constant constant) (λ x. global_of x.0) spelling.spell_global (Expected.global_rest before) (Expected.Globals (before + 1) ∷ []) (placed text.now) (λ x. placed x.1.now) result }
+    ensures { ReadsBehind (grammar.spell_constant as_found constant) (λ x. global_of x.0) (grammar.spell_global as_found) (Expected.global_rest before) (Expected.Globals (before + 1) ∷ []) (placed text.now) (λ x. placed x.1.now) result }
 {
     let (Slot { name, ty }, rest) = slot(alloc, None, text)?;
     let (init, rest) = init(alloc, before + 1, rest)?;
@@ -191,7 +193,7 @@ fn global_behind(
 
 /// All globals, and the text behind them.
 pub fn globals(alloc: Global, text: &[u8]) -> Result<(Vec<GlobalDecl>, &[u8]), ReadError>
-    ensures { Reads (λ x. map global_of x.0.items) spelling.spell_globals (Expected.Globals 0 ∷ []) (Expected.Files 0 0 ∷ []) (placed text.now) (λ x. placed x.1.now) result }
+    ensures { Reads (λ x. map global_of x.0.items) (grammar.spell_globals as_found) (Expected.Globals 0 ∷ []) (Expected.Files 0 0 ∷ []) (placed text.now) (λ x. placed x.1.now) result }
 {
     let mut globals = Vec::new(alloc);
     let mut rest = text;

@@ -9,7 +9,9 @@ ghost use Rattle.ir_reader.specs.Machine as Expected;
 ghost use Rattle.ir_reader.specs.Reading.{Reads, ReadsBehind, ReadsTo};
 ghost use Rattle.ir_reader.specs.Parts.{ReadsLines, ReadsFuncs, ReadsFile, NextFile, HasBlocks, AllHaveBlocks, spell_lines};
 ghost use Rattle.ir_reader.specs.Scan.{placed};
+ghost use Rattle.ir_grammar.specs.Spelling as grammar;
 ghost use Rattle.ir_reader.specs.Spelling as spelling;
+ghost use Rattle.ir_reader.specs.Spelling.{as_found};
 
 use crate::error::ReadError;
 use crate::instructions::{Step, line};
@@ -57,7 +59,7 @@ fn block(
     requires { instructions ≤ instruction_limit }
     ensures limit { OnOk result (before < block_limit) }
     ensures instructions { IfOk result (λ x. instructions + length x.0.insts ≤ instruction_limit) }
-    ensures read { ReadsTo (λ x. x.0) spelling.spell_block (Expected.First before instructions ∷ []) (λ x. Expected.Blocks (before + 1) (instructions + length x.0.insts) ∷ []) (placed text.now) (λ x. placed x.1.now) result }
+    ensures read { ReadsTo (λ x. x.0) (grammar.spell_block as_found) (Expected.First before instructions ∷ []) (λ x. Expected.Blocks (before + 1) (instructions + length x.0.insts) ∷ []) (placed text.now) (λ x. placed x.1.now) result }
 {
     let (label, rest) = name_behind(alloc, counted(before, BLOCK_LIMIT, TextLimit::Block), text)?;
     let rest = mark(Mark::Colon, rest)?;
@@ -76,7 +78,7 @@ fn block(
 #[tactic(auto, using(crate::proofs::Ends::blocks_go_on))]
 fn blocks(alloc: Global, text: &[u8]) -> Result<(Vec<Block>, &[u8]), ReadError>
     ensures some { IfOk result (λ x. 0 < length x.0.items) }
-    ensures read { Reads (λ x. x.0.items) spelling.spell_blocks (Expected.First 0 0 ∷ []) [] (placed text.now) (λ x. placed x.1.now) result }
+    ensures read { Reads (λ x. x.0.items) (grammar.spell_blocks as_found) (Expected.First 0 0 ∷ []) [] (placed text.now) (λ x. placed x.1.now) result }
 {
     let mut blocks = Vec::new(alloc);
     let mut instructions = 0;
@@ -95,7 +97,7 @@ fn blocks(alloc: Global, text: &[u8]) -> Result<(Vec<Block>, &[u8]), ReadError>
 /// The locals of a function, and the text behind them.
 #[tactic(auto, using(crate::proofs::Ends::locals_end, ir_model::proofs::NoExcess::counted_none))]
 fn locals(alloc: Global, params: usize, text: &[u8]) -> Result<(Vec<Slot>, &[u8]), ReadError>
-    ensures { Reads (λ x. map slot_of x.0.items) spelling.spell_locals (Expected.Locals 0 params ∷ []) (Expected.Regs params ∷ []) (placed text.now) (λ x. placed x.1.now) result }
+    ensures { Reads (λ x. map slot_of x.0.items) (grammar.spell_locals as_found) (Expected.Locals 0 params ∷ []) (Expected.Regs params ∷ []) (placed text.now) (λ x. placed x.1.now) result }
 {
     let mut locals = Vec::new(alloc);
     let mut rest = text;
@@ -112,7 +114,7 @@ fn locals(alloc: Global, params: usize, text: &[u8]) -> Result<(Vec<Slot>, &[u8]
 #[tactic(auto, using(crate::proofs::Ends::regs_end, ir_model::proofs::NoExcess::counted_none))]
 fn regs(alloc: Global, params: usize, text: &[u8]) -> Result<(Vec<Slot>, &[u8]), ReadError>
     requires { params ≤ parameter_limit }
-    ensures { Reads (λ x. map slot_of x.0.items) spelling.spell_regs (Expected.Regs params ∷ []) (Expected.First 0 0 ∷ []) (placed text.now) (λ x. placed x.1.now) result }
+    ensures { Reads (λ x. map slot_of x.0.items) (grammar.spell_regs as_found) (Expected.Regs params ∷ []) (Expected.First 0 0 ∷ []) (placed text.now) (λ x. placed x.1.now) result }
 {
     let mut regs = Vec::new(alloc);
     let mut rest = text;
@@ -147,7 +149,7 @@ struct Head {
 /// A function behind the word `func`, up to its opening brace, and the text behind it.
 fn function_head(alloc: Global, text: &[u8]) -> Result<(Head, &[u8]), ReadError>
     ensures limit { IfOk result (λ x. length x.0.params.items ≤ parameter_limit) }
-    ensures read { ReadsTo (λ x. x.0) (λ h. spelling.spell_head h.name (map slot_of h.params.items) (result_of h.outcome)) Expected.func_rest (λ x. Expected.Locals 0 (length x.0.params.items) ∷ []) (placed text.now) (λ x. placed x.1.now) result }
+    ensures read { ReadsTo (λ x. x.0) (λ h. grammar.spell_head as_found h.name (map slot_of h.params.items) (result_of h.outcome)) Expected.func_rest (λ x. Expected.Locals 0 (length x.0.params.items) ∷ []) (placed text.now) (λ x. placed x.1.now) result }
 {
     let (name, rest) = name(alloc, text)?;
     let rest = mark(Mark::Open, rest)?;
@@ -168,7 +170,7 @@ fn function_head(alloc: Global, text: &[u8]) -> Result<(Head, &[u8]), ReadError>
 fn function_body(alloc: Global, params: usize, text: &[u8]) -> Result<(Body, &[u8]), ReadError>
     requires { params ≤ parameter_limit }
     ensures some { IfOk result (λ x. 0 < length x.0.blocks.items) }
-    ensures read { Reads (λ x. x.0) (λ b. spelling.spell_body (map slot_of b.locals.items) (map slot_of b.regs.items) b.blocks.items) (Expected.Locals 0 params ∷ []) [] (placed text.now) (λ x. placed x.1.now) result }
+    ensures read { Reads (λ x. x.0) (λ b. grammar.spell_body as_found (map slot_of b.locals.items) (map slot_of b.regs.items) b.blocks.items) (Expected.Locals 0 params ∷ []) [] (placed text.now) (λ x. placed x.1.now) result }
 {
     let (locals, rest) = locals(alloc, params, text)?;
     let (regs, rest) = regs(alloc, params, rest)?;
@@ -186,7 +188,7 @@ fn function_body(alloc: Global, params: usize, text: &[u8]) -> Result<(Body, &[u
 /// A function behind the word `func`, and the text behind it.
 fn func_behind(alloc: Global, text: &[u8]) -> Result<(Func, &[u8]), ReadError>
     ensures some { IfOk result (λ x. 0 < length x.0.blocks) }
-    ensures read { ReadsBehind (spelling.Key key.Func ∷ []) (λ x. func_of x.0) spelling.spell_func Expected.func_rest [] (placed text.now) (λ x. placed x.1.now) result }
+    ensures read { ReadsBehind (spelling.Key key.Func ∷ []) (λ x. func_of x.0) (grammar.spell_func as_found) Expected.func_rest [] (placed text.now) (λ x. placed x.1.now) result }
 {
     let (
         Head {
@@ -273,7 +275,7 @@ fn next_file(text: &[u8]) -> Result<Option<(usize, &[u8])>, ReadError>
 #[tactic(auto, using(ir_model::proofs::NoExcess::counted_none))]
 pub fn files(alloc: Global, text: &[u8]) -> Result<Vec<FileDecl>, ReadError>
     ensures blocks { IfOk result (λ x. AllHaveBlocks (map file_of x.items)) }
-    ensures read { Reads (λ x. map file_of x.items) spelling.spell_files (Expected.Files 0 0 ∷ []) [] (placed text.now) (λ x. []) result }
+    ensures read { Reads (λ x. map file_of x.items) (grammar.spell_files as_found) (Expected.Files 0 0 ∷ []) [] (placed text.now) (λ x. []) result }
 {
     let mut files = Vec::new(alloc);
     let mut functions = 0;

@@ -7,7 +7,9 @@ ghost use Rattle.ir_reader.specs.Lines.{ReadsLine, ReadsValue, IsBelow};
 ghost use Rattle.ir_model.specs.declared.token.Keyword.TheVariants as key;
 ghost use Rattle.ir_reader.specs.Scan.{placed};
 ghost use Rattle.ir_reader.specs.Found.{colon_first};
+ghost use Rattle.ir_grammar.specs.Spelling as grammar;
 ghost use Rattle.ir_reader.specs.Spelling as spelling;
+ghost use Rattle.ir_reader.specs.Spelling.{as_found};
 
 use crate::error::ReadError;
 use crate::lexer::lex;
@@ -33,7 +35,7 @@ pub enum Step {
 
 /// Two names with a comma between them, and the text behind them.
 fn two_names(alloc: Global, text: &[u8]) -> Result<((Name, Name), &[u8]), ReadError>
-    ensures { Reads (λ x. x.0) (λ p. spelling.spell_two p.0 p.1) Expected.two_words [] (placed text.now) (λ x. placed x.1.now) result }
+    ensures { Reads (λ x. x.0) (λ p. grammar.spell_two as_found p.0 p.1) Expected.two_words [] (placed text.now) (λ x. placed x.1.now) result }
 {
     let (a, rest) = name(alloc, text)?;
     let rest = mark(Mark::Comma, rest)?;
@@ -43,7 +45,7 @@ fn two_names(alloc: Global, text: &[u8]) -> Result<((Name, Name), &[u8]), ReadEr
 
 /// A function or a register, and the arguments of its call, and the text behind them.
 fn called(alloc: Global, text: &[u8]) -> Result<((Name, ListVec<Name>), &[u8]), ReadError>
-    ensures { Reads (λ x. x.0) (λ p. spelling.spell_called p.0 p.1) Expected.call_rest [] (placed text.now) (λ x. placed x.1.now) result }
+    ensures { Reads (λ x. x.0) (λ p. grammar.spell_called as_found p.0 p.1) Expected.call_rest [] (placed text.now) (λ x. placed x.1.now) result }
 {
     let (func, rest) = name(alloc, text)?;
     let rest = mark(Mark::Open, rest)?;
@@ -111,7 +113,7 @@ fn value_of_word(
 /// What a register gets, behind the register and `=`, and the text behind it.
 #[tactic(auto, using(ir_model::proofs::NoExcess::number_fits, ir_model::proofs::NoExcess::name_of_short))]
 fn value(alloc: Global, to: Name, text: &[u8]) -> Result<(Inst, &[u8]), ReadError>
-    ensures { ReadsBehind (spelling.spell_assigned to) (λ x. x.0) spelling.spell_inst (Expected.Value ∷ []) [] (placed text.now) (λ x. placed x.1.now) result }
+    ensures { ReadsBehind (grammar.spell_assigned as_found to []) (λ x. x.0) (grammar.spell_inst as_found) (Expected.Value ∷ []) [] (placed text.now) (λ x. placed x.1.now) result }
 {
     let (token, left, rest) = lex(text);
     match token {
@@ -165,7 +167,7 @@ fn register_word(text: &[u8]) -> Option<(&[u8], usize, &[u8])>
 /// The register behind `ret`, where there is one, and the text behind it.
 #[tactic(auto, using(crate::proofs::Ends::ret_ends, ir_model::proofs::NoExcess::name_of_short))]
 fn register(alloc: Global, text: &[u8]) -> Result<(Option<Name>, &[u8]), ReadError>
-    ensures { ReadsAt (λ x. x.0) spelling.spell_register (λ k n. Expected.AfterRet k n ∷ []) (λ k n. Expected.Blocks k n ∷ []) (placed text.now) (λ x. placed x.1.now) result }
+    ensures { ReadsAt (λ x. x.0) (grammar.spell_register as_found) (λ k n. Expected.AfterRet k n ∷ []) (λ k n. Expected.Blocks k n ∷ []) (placed text.now) (λ x. placed x.1.now) result }
 {
     let Some((word, left, rest)) = register_word(text) else {
         return Ok((None, text));
@@ -177,7 +179,7 @@ fn register(alloc: Global, text: &[u8]) -> Result<(Option<Name>, &[u8]), ReadErr
 
 /// The end of a block behind its reserved word, and the text behind it.
 fn branch(alloc: Global, text: &[u8]) -> Result<(Term, &[u8]), ReadError>
-    ensures { ReadsBehind (spelling.Key key.Branch ∷ []) (λ x. x.0) spelling.spell_term Expected.three_words [] (placed text.now) (λ x. placed x.1.now) result }
+    ensures { ReadsBehind (spelling.Key key.Branch ∷ []) (λ x. x.0) (grammar.spell_term as_found) Expected.three_words [] (placed text.now) (λ x. placed x.1.now) result }
 {
     let (on, rest) = name(alloc, text)?;
     let (yes, rest) = name(alloc, rest)?;

@@ -6,7 +6,8 @@ ghost use Rattle.ir_reader.specs.Machine as Expected;
 ghost use Rattle.ir_reader.specs.Parts.{AllHaveBlocks};
 ghost use Rattle.ir_reader.specs.Reading.{Reads, HasFields};
 ghost use Rattle.ir_reader.specs.Scan.{placed};
-ghost use Rattle.ir_reader.specs.Spelling as spelling;
+ghost use Rattle.ir_grammar.specs.Spelling as grammar;
+ghost use Rattle.ir_reader.specs.Spelling.{as_found};
 ghost use Rattle.std.specs.Prelude.{◌≤◌, length, OnOk, IfErr, IsUtf8};
 ghost use Rattle.ir_model.specs.TextLimits.{text_limit};
 ghost use Rattle.ir_model.specs.Texts.{IsText};
@@ -27,7 +28,7 @@ use std::alloc::Global;
 fn firmware(alloc: Global, text: &[u8]) -> Result<Firmware, ReadError>
     ensures fields { IfOk result (λ w. HasFields (firmware_of w).structs) }
     ensures blocks { IfOk result (λ w. AllHaveBlocks (firmware_of w).files) }
-    ensures read { Reads (λ w. firmware_of w) spelling.spell_firmware (Expected.Structs 0 ∷ []) [] (placed text.now) (λ w. []) result }
+    ensures read { Reads (λ w. firmware_of w) (grammar.spell_firmware as_found) (Expected.Structs 0 ∷ []) [] (placed text.now) (λ w. []) result }
 {
     let (structs, rest) = structs(alloc, text)?;
     let (periphs, rest) = periphs(alloc, rest)?;

@@ -8,7 +8,8 @@ ghost use Rattle.ir_model.specs.declared.token.Mark.TheVariants as mark;
 ghost use Rattle.ir_reader.specs.Machine as Expected;
 ghost use Rattle.ir_reader.specs.Reading.{Reads, ReadsTo};
 ghost use Rattle.ir_reader.specs.Scan.{placed};
-ghost use Rattle.ir_reader.specs.Spelling as spelling;
+ghost use Rattle.ir_grammar.specs.Spelling as grammar;
+ghost use Rattle.ir_reader.specs.Spelling.{as_found};
 
 use crate::error::ReadError;
 use crate::limits::counted;
@@ -24,7 +25,7 @@ use std::alloc::Global;
 /// A name with its type, whose first token may pass something else first, and the text behind it.
 pub fn slot(alloc: Global, first: Option<Excess>, text: &[u8]) -> Result<(Slot, &[u8]), ReadError>
     ensures first { OnOk result (first ≡ None) }
-    ensures read { Reads (λ x. slot_of x.0) spelling.spell_slot (Expected.Word first ∷ Expected.Mk mark.Colon ∷ Expected.Ty None 0 ∷ []) [] (placed text.now) (λ x. placed x.1.now) result }
+    ensures read { Reads (λ x. slot_of x.0) (grammar.spell_slot as_found) (Expected.Word first ∷ Expected.Mk mark.Colon ∷ Expected.Ty None 0 ∷ []) [] (placed text.now) (λ x. placed x.1.now) result }
 {
     let (name, rest) = name_behind(alloc, first, text)?;
     let rest = mark(Mark::Colon, rest)?;
@@ -36,7 +37,7 @@ pub fn slot(alloc: Global, first: Option<Excess>, text: &[u8]) -> Result<(Slot, 
 #[tactic(auto, using(ir_model::proofs::NoExcess::counted_none, crate::proofs::Ends::fields_end))]
 pub fn fields(alloc: Global, text: &[u8]) -> Result<(Vec<Slot>, &[u8]), ReadError>
     ensures some { IfOk result (λ x. 0 < length x.0.items) }
-    ensures read { Reads (λ x. map slot_of x.0.items) spelling.spell_fields (Expected.Word None ∷ Expected.Mk mark.Colon ∷ Expected.Ty None 0 ∷ Expected.MoreFields 1 ∷ []) [] (placed text.now) (λ x. placed x.1.now) result }
+    ensures read { Reads (λ x. map slot_of x.0.items) (grammar.spell_fields as_found) (Expected.Word None ∷ Expected.Mk mark.Colon ∷ Expected.Ty None 0 ∷ Expected.MoreFields 1 ∷ []) [] (placed text.now) (λ x. placed x.1.now) result }
 {
     let mut fields = Vec::new(alloc);
     let (first, mut rest) = slot(alloc, None, text)?;
@@ -55,7 +56,7 @@ pub fn fields(alloc: Global, text: &[u8]) -> Result<(Vec<Slot>, &[u8]), ReadErro
 #[tactic(auto, using(ir_model::proofs::NoExcess::counted_none, crate::proofs::Ends::params_begin, crate::proofs::Ends::params_end))]
 pub fn params(alloc: Global, text: &[u8]) -> Result<(Vec<Slot>, &[u8]), ReadError>
     ensures limit { IfOk result (λ x. length x.0.items ≤ parameter_limit) }
-    ensures read { ReadsTo (λ x. map slot_of x.0.items) spelling.spell_params (Expected.Params ∷ []) (λ x. Expected.body (length x.0.items)) (placed text.now) (λ x. placed x.1.now) result }
+    ensures read { ReadsTo (λ x. map slot_of x.0.items) (grammar.spell_params as_found) (Expected.Params ∷ []) (λ x. Expected.body (length x.0.items)) (placed text.now) (λ x. placed x.1.now) result }
 {
     let mut params = Vec::new(alloc);
     if let Some(rest) = behind_mark(Mark::Close, text) {
@@ -76,7 +77,7 @@ pub fn params(alloc: Global, text: &[u8]) -> Result<(Vec<Slot>, &[u8]), ReadErro
 /// The arguments of a call and the closing bracket, and the text behind it.
 #[tactic(auto, using(ir_model::proofs::NoExcess::counted_none, crate::proofs::Ends::args_begin, crate::proofs::Ends::args_end))]
 pub fn args(alloc: Global, text: &[u8]) -> Result<(Vec<Name>, &[u8]), ReadError>
-    ensures { Reads (λ x. x.0.items) spelling.spell_args (Expected.Args ∷ []) [] (placed text.now) (λ x. placed x.1.now) result }
+    ensures { Reads (λ x. x.0.items) (grammar.spell_args as_found) (Expected.Args ∷ []) [] (placed text.now) (λ x. placed x.1.now) result }
 {
     let mut args = Vec::new(alloc);
     if let Some(rest) = behind_mark(Mark::Close, text) {
@@ -97,7 +98,7 @@ pub fn args(alloc: Global, text: &[u8]) -> Result<(Vec<Name>, &[u8]), ReadError>
 /// The type behind an arrow, if there is one, and the text behind it.
 #[tactic(auto, using(crate::proofs::Ends::gives_ends))]
 pub fn outcome(alloc: Global, text: &[u8]) -> Result<(Option<Ty>, &[u8]), ReadError>
-    ensures { Reads (λ x. result_of x.0) spelling.spell_gives (Expected.Gives 0 ∷ []) [] (placed text.now) (λ x. placed x.1.now) result }
+    ensures { Reads (λ x. result_of x.0) (grammar.spell_gives as_found) (Expected.Gives 0 ∷ []) [] (placed text.now) (λ x. placed x.1.now) result }
 {
     let Some(rest) = behind_mark(Mark::Arrow, text) else {
         return Ok((None, text));

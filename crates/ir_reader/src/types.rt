@@ -6,7 +6,9 @@ ghost use Rattle.ir_model.specs.Types as types;
 ghost use Rattle.ir_reader.specs.Machine as Expected;
 ghost use Rattle.ir_reader.specs.Reading.{Reads};
 ghost use Rattle.ir_reader.specs.Scan.{placed};
+ghost use Rattle.ir_grammar.specs.Spelling as grammar;
 ghost use Rattle.ir_reader.specs.Spelling as spelling;
+ghost use Rattle.ir_reader.specs.Spelling.{as_found};
 
 use crate::error::ReadError;
 use crate::lexer::lex;
@@ -50,7 +52,7 @@ pub fn ty(
     text: &[u8],
 ) -> Result<(Ty, &[u8]), ReadError>
     ensures first { OnOk result (first ≡ None) }
-    ensures read { Reads (λ x. type_of x.0) spelling.spell_type (Expected.Ty first around ∷ []) [] (placed text.now) (λ x. placed x.1.now) result }
+    ensures read { Reads (λ x. type_of x.0) (grammar.spell_type as_found) (Expected.Ty first around ∷ []) [] (placed text.now) (λ x. placed x.1.now) result }
 {
     let (token, left, rest) = lex(text);
     match token {
@@ -104,7 +106,7 @@ fn boxed_result(
     around: u32,
     text: &[u8],
 ) -> Result<(Option<Box<Ty>>, &[u8]), ReadError>
-    ensures { Reads (λ x. boxed_result_of x.0) spelling.spell_gives (Expected.Gives around ∷ []) [] (placed text.now) (λ x. placed x.1.now) result }
+    ensures { Reads (λ x. boxed_result_of x.0) (grammar.spell_gives as_found) (Expected.Gives around ∷ []) [] (placed text.now) (λ x. placed x.1.now) result }
 {
     let Some(rest) = behind_mark(Mark::Arrow, text) else {
         return Ok((None, text));
@@ -117,7 +119,7 @@ fn boxed_result(
 #[cycle(types)]
 #[tactic(auto, using(crate::proofs::Ends::row_begins, crate::proofs::Ends::row_ends, ir_model::proofs::NoExcess::counted_none))]
 fn row(alloc: Global, around: u32, text: &[u8]) -> Result<(Vec<Ty>, &[u8]), ReadError>
-    ensures { Reads (λ x. types_from (map type_of x.0.items)) spelling.spell_row (Expected.Row around ∷ []) (Expected.Gives around ∷ []) (placed text.now) (λ x. placed x.1.now) result }
+    ensures { Reads (λ x. types_from (map type_of x.0.items)) (grammar.spell_row as_found) (Expected.Row around ∷ []) (Expected.Gives around ∷ []) (placed text.now) (λ x. placed x.1.now) result }
 {
     let mut types = Vec::new(alloc);
     if let Some(rest) = behind_mark(Mark::Close, text) {

@@ -5,12 +5,13 @@ use Rattle.ir_reader.specs.Machine as expected
 use Rattle.ir_reader.specs.Machine.{Symbol, fault}
 use Rattle.ir_reader.specs.Reading.{HasFields}
 use Rattle.ir_reader.specs.Scan.{placed}
-use Rattle.ir_reader.specs.Spelling.{spell_struct}
+use Rattle.ir_grammar.specs.Spelling.{spell_struct}
+use Rattle.ir_reader.specs.Spelling.{as_found}
 use Rattle.ir_reader.proofs.declarations.structs.Given as goal
 
 abbrev pub invariant-loop-left : goal.invariant-loop-left
 invariant-loop-left l = record {
-  spelled : finds (placed l.text) ≡ flat_map spell_struct (map struct_of l.structs.items) ++ finds (placed l.rest);
+  spelled : finds (placed l.text) ≡ flat_map (spell_struct as_found) (map struct_of l.structs.items) ++ finds (placed l.rest);
   passed : (st : List Symbol) → fault (expected.Structs 0 ∷ st) (placed l.text) ≡ fault (expected.Structs (length l.structs.items) ∷ st) (placed l.rest);
   limit : length l.structs.items ≤ 256;
   fields : HasFields (map struct_of l.structs.items);

@@ -5,7 +5,8 @@ use Rattle.ir_reader.specs.Machine.{fault, Structs}
 use Rattle.ir_reader.specs.Parts.{AllHaveBlocks}
 use Rattle.ir_reader.specs.Reading.{Passes, HasFields}
 use Rattle.ir_reader.specs.Scan.{placed}
-use Rattle.ir_reader.specs.Spelling.{spell_firmware}
+use Rattle.ir_grammar.specs.Spelling.{spell_firmware}
+use Rattle.ir_reader.specs.Spelling.{as_found}
 use Rattle.ir_reader.proofs.Lefts.{fault_in}
 use Rattle.ir_reader.proofs.Texts.{text_from}
 use Rattle.ir_reader.proofs.reader.read_utf8.Goals as goal
@@ -20,5 +21,5 @@ returns-in-Ok-clause-found c =
     let utf8 : IsUtf8 c.args.text.now = grind (arith, common_steps) in
     let fields : HasFields (firmware_of c.in-Ok.firmware).structs = grind (arith, common_steps) in
     let blocks : AllHaveBlocks (firmware_of c.in-Ok.firmware).files = grind (arith, common_steps) in
-    let read : Passes [] spell_firmware (Structs 0 ∷ []) [] (placed c.args.text.now) [] (firmware_of c.in-Ok.firmware) = grind (arith, common_steps) in
+    let read : Passes [] (spell_firmware as_found) (Structs 0 ∷ []) [] (placed c.args.text.now) [] (firmware_of c.in-Ok.firmware) = grind (arith, common_steps) in
     text_from c.args.text.now (firmware_of c.in-Ok.firmware) utf8 fields blocks read

@@ -4,7 +4,8 @@ use Rattle.ir_model.specs.declared.token.Mark.TheVariants as mark
 use Rattle.ir_reader.specs.Found.{finds}
 use Rattle.ir_reader.specs.Reading.{mark_first}
 use Rattle.ir_reader.specs.Scan.{placed}
-use Rattle.ir_reader.specs.Spelling.{Sign, spell_word}
+use Rattle.ir_grammar.specs.Spelling.{spell_word}
+use Rattle.ir_reader.specs.Spelling.{Sign, as_found}
 use Rattle.ir_reader.proofs.Ends.{args_end}
 use Rattle.ir_model.proofs.NoExcess.{counted_none}
 use Rattle.ir_reader.proofs.Separated.{read_next, read_closed}
@@ -16,7 +17,7 @@ loop-behind-preserved c =
     let comma : finds (placed c.loop-behind.rest.now) ≡ Sign mark.Comma ∷ finds (placed c.in-Some-behind_mark.behind.now) = grind (arith, common_steps) in
     let below : length c.loop-behind.args.items < 4 = grind (arith, common_steps, counted_none) in
     record {
-      spelled = rw pushed (read_next spell_word c.loop-behind.args.items c.in_ok-next.next _ _ _ _ c.loop-behind.invariant.some c.loop-behind.invariant.spelled comma (c.in_ok-next.ensures.read.spelled));
+      spelled = rw pushed (read_next (spell_word as_found) c.loop-behind.args.items c.in_ok-next.next _ _ _ _ c.loop-behind.invariant.some c.loop-behind.invariant.spelled comma (c.in_ok-next.ensures.read.spelled));
       passed = λ st. grind (arith, common_steps);
       some = grind (arith, common_steps);
       limit = grind (arith, common_steps);

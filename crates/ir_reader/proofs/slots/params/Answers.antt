@@ -7,7 +7,8 @@ use Rattle.ir_reader.specs.Machine as expected
 use Rattle.ir_reader.specs.Machine.{Symbol, fault}
 use Rattle.ir_reader.specs.Reading.{mark_first}
 use Rattle.ir_reader.specs.Scan.{placed}
-use Rattle.ir_reader.specs.Spelling.{Sign, spell_slot}
+use Rattle.ir_grammar.specs.Spelling.{spell_slot}
+use Rattle.ir_reader.specs.Spelling.{Sign, as_found}
 use Rattle.ir_reader.proofs.Ends.{params_end}
 use Rattle.ir_model.proofs.NoExcess.{counted_none}
 use Rattle.ir_reader.proofs.Separated.{read_more, read_closed}
@@ -19,7 +20,7 @@ loop-behind-preserved c =
     let comma : finds (placed c.loop-behind.rest.now) ≡ Sign mark.Comma ∷ finds (placed c.in-Some-behind_mark.behind.now) = grind (arith, common_steps) in
     let below : length c.loop-behind.params.items < 4 = grind (arith, common_steps, counted_none) in
     record {
-      spelled = rw pushed (read_more spell_slot slot_of c.loop-behind.params.items c.in_ok-next.next _ _ _ _ c.loop-behind.invariant.some c.loop-behind.invariant.spelled comma (c.in_ok-next.ensures.read.spelled));
+      spelled = rw pushed (read_more (spell_slot as_found) slot_of c.loop-behind.params.items c.in_ok-next.next _ _ _ _ c.loop-behind.invariant.some c.loop-behind.invariant.spelled comma (c.in_ok-next.ensures.read.spelled));
       passed = λ st. grind (arith, common_steps);
       some = grind (arith, common_steps);
       limit = grind (arith, common_steps);

@@ -4,12 +4,13 @@ use Rattle.ir_reader.specs.Found.{finds}
 use Rattle.ir_reader.specs.Machine as expected
 use Rattle.ir_reader.specs.Machine.{Symbol, fault}
 use Rattle.ir_reader.specs.Scan.{placed}
-use Rattle.ir_reader.specs.Spelling.{separated, spell_slot}
+use Rattle.ir_grammar.specs.Spelling.{separated, spell_slot}
+use Rattle.ir_reader.specs.Spelling.{as_found}
 use Rattle.ir_reader.proofs.slots.params.Given as goal
 
 abbrev pub invariant-loop-behind : goal.invariant-loop-behind
 invariant-loop-behind l = record {
-  spelled : finds (placed l.text) ≡ separated spell_slot (map slot_of l.params.items) ++ finds (placed l.rest);
+  spelled : finds (placed l.text) ≡ separated as_found (spell_slot as_found) (map slot_of l.params.items) ++ finds (placed l.rest);
   passed : (st : List Symbol) → fault (expected.Params ∷ st) (placed l.text) ≡ fault (expected.MoreParams (length l.params.items) ∷ st) (placed l.rest);
   some : 0 < length l.params.items;
   limit : length l.params.items ≤ 4;

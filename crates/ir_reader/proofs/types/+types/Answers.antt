@@ -6,10 +6,12 @@ use Rattle.ir_reader.specs.Found.{finds}
 use Rattle.ir_reader.specs.Machine.{Gives}
 use Rattle.ir_reader.specs.Reading.{mark_first}
 use Rattle.ir_reader.specs.Scan.{placed}
-use Rattle.ir_reader.specs.Spelling.{Sign, spell_type}
+use Rattle.ir_grammar.specs.Spelling.{spell_type}
+use Rattle.ir_reader.specs.Spelling.{Sign, as_found}
+use Rattle.ir_grammar.proofs.Separated.{spell_types}
 use Rattle.ir_reader.proofs.Ends.{row_ends}
 use Rattle.ir_model.proofs.NoExcess.{counted_none}
-use Rattle.ir_reader.proofs.Separated.{read_more, read_closed, spell_types}
+use Rattle.ir_reader.proofs.Separated.{read_more, read_closed}
 use Rattle.ir_reader.proofs.types.+types.Goals as goal
 
 pub row-loop-behind-preserved : goal.row-loop-behind-preserved
@@ -19,7 +21,7 @@ row-loop-behind-preserved t c =
     let comma : finds (placed c.loop-behind.rest.now) ≡ Sign mark.Comma ∷ finds (placed c.in-Some-behind_mark.behind.now) = grind (arith, common_steps) in
     let below : length c.loop-behind.types.items < 4 = grind (arith, common_steps, counted_none) in
     record {
-      spelled = rw pushed (read_more spell_type type_of c.loop-behind.types.items c.in_ok-next.next _ _ _ _ c.loop-behind.invariant.some c.loop-behind.invariant.spelled comma (c.in_ok-next.ensures.read.spelled));
+      spelled = rw pushed (read_more (spell_type as_found) type_of c.loop-behind.types.items c.in_ok-next.next _ _ _ _ c.loop-behind.invariant.some c.loop-behind.invariant.spelled comma (c.in_ok-next.ensures.read.spelled));
       passed = λ st. grind (arith, common_steps);
       some = grind (arith, common_steps);
       limit = grind (arith, common_steps);
@@ -29,6 +31,6 @@ pub row-returns : goal.row-returns
 row-returns t c =
     let none : mark_first mark.Comma (placed c.loop-behind.rest.now) ≡ false = grind (arith, common_steps) in
     record {
-      spelled = rw (spell_types (map type_of c.loop-behind.types.items)) (read_closed _ _ _ _ (Sign mark.Close ∷ []) c.loop-behind.invariant.spelled c.in_ok-rest.ensures.spelled);
+      spelled = rw (spell_types as_found (map type_of c.loop-behind.types.items)) (read_closed _ _ _ _ (Sign mark.Close ∷ []) c.loop-behind.invariant.spelled c.in_ok-rest.ensures.spelled);
       passed = λ st. c.loop-behind.invariant.passed st ∙ (row_ends c.args.around (length c.loop-behind.types.items) st (placed c.loop-behind.rest.now) none ∙ c.in_ok-rest.ensures.passed (Gives c.args.around ∷ st));
     }

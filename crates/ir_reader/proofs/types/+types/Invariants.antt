@@ -3,7 +3,8 @@ use Rattle.ir_model.specs.Types.{type_of}
 use Rattle.ir_reader.specs.Found.{finds}
 use Rattle.ir_reader.specs.Machine.{Symbol, fault, Row, MoreRow}
 use Rattle.ir_reader.specs.Scan.{placed}
-use Rattle.ir_reader.specs.Spelling.{spell_type, separated}
+use Rattle.ir_grammar.specs.Spelling.{spell_type, separated}
+use Rattle.ir_reader.specs.Spelling.{as_found}
 use Rattle.ir_reader.proofs.types.+types.Given as goal
 
 abbrev pub decreases-boxed_result : goal.decreases-boxed_result
@@ -17,7 +18,7 @@ decreases-row l = 2 * (10 - l.around) + 1
 
 abbrev pub invariant-row-loop-behind : goal.invariant-row-loop-behind
 invariant-row-loop-behind l = record {
-  spelled : finds (placed l.text) ≡ separated spell_type (map type_of l.types.items) ++ finds (placed l.rest);
+  spelled : finds (placed l.text) ≡ separated as_found (spell_type as_found) (map type_of l.types.items) ++ finds (placed l.rest);
   passed : (st : List Symbol) → fault (Row l.around ∷ st) (placed l.text) ≡ fault (MoreRow l.around (length l.types.items) ∷ st) (placed l.rest);
   some : 0 < length l.types.items;
   limit : length l.types.items ≤ 4;
