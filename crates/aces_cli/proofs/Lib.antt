@@ -5,6 +5,7 @@ mod Firmwares
 mod Sourcing
 mod Planning
 mod Kept
+mod Whole
 mod Asked
 mod Good
 mod Settled

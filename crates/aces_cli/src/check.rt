@@ -9,6 +9,7 @@ ghost use Rattle.aces_words.specs.Requests.{Check};
 ghost use Rattle.aces_cli.specs.Counts as counts;
 ghost use Rattle.aces_reports.specs.Sinks.{sink};
 ghost use Rattle.aces_cli.specs.Did.{Did};
+ghost use Rattle.ir_model.specs.TextLimits.{function_limit};
 
 use crate::loading::{firmware_of, load_firmware};
 use aces_reports::{Done, Failure};
@@ -52,7 +53,7 @@ fn print_counts<O: Sink>(checked: &Checked, out: &mut O) -> Result<(), Failed>
 
 /// How many functions these files have.
 fn count_functions(files: &[FileDecl]) -> usize
-    requires { length (flat_map (λ (f : SourceFile). f.funcs) files.now) ≤ 1024 }
+    requires { length (flat_map (λ (f : SourceFile). f.funcs) files.now) ≤ function_limit }
     ensures { result ≡ length (flat_map (λ (f : SourceFile). f.funcs) files.now) }
 {
     let mut count = 0;

@@ -30,8 +30,9 @@ use outside::{Files, Sink};
 use std::alloc::Global;
 
 /// Carries out what the words behind the program's name ask for, and answers the exit status: 0 done, 1 a fault in
-/// the content of a file, 2 words that are no request, 3 a board without room for a firmware, 4 a file that was not read, 5 a
-/// file or output that was not written, 6 want of memory, 7 a run that ended by a stop or by a halt other than 0.
+/// the content of a file or a limit of what is compiled that a firmware passes, 2 words that are no request, 3 a board without
+/// room for a firmware, 4 a file that was not read, 5 a file or output that was not written, 6 want of memory, 7 a run that ended
+/// by a stop, by a halt other than 0, or by a fault of the source.
 ///
 /// Where the status is neither 0 nor 7, one line on `err` tells why. A fault of `err` changes no status.
 pub fn aces<F: Files, O: Sink, E: Sink>(

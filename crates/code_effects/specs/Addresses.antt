@@ -12,6 +12,7 @@ use Rattle.code_model.specs.FrameShape.{local_starts}
 use Rattle.code_model.specs.Addresses.{scale_of}
 use Rattle.code_effects.specs.Points.{Point, Leads}
 use Rattle.code_effects.specs.Frames.{HasFrame, slot, HasInst, behind}
+use Rattle.ir_model.specs.Typing.{object_limit}
 
 -- where the objects that `addr` names stand
 abbrev pub named_address : NumberedFunc → Places → (sp : ℕ) → Named → ℕ
@@ -46,6 +47,6 @@ module _ (j : PermissionTest) (i : Image) (g : NumberedFunc) (q : Places) (label
 -- elements and fields of an object that stands at an address: as the source counts its offsets, modulo 2^32
 pub record OffsetsAgree : Type 0 where
   pub moved : (address at more : ℕ) → word (word (address + at) + more) ≡ word (address + word (at + more))
-  pub scaled : (size : ℕ) → size ≤ 65536 → scale_of size ≡ size
+  pub scaled : (size : ℕ) → size ≤ object_limit → scale_of size ≡ size
   -- an element is never that large in any object, and then the code leaves the pointer as it is
-  pub too_large : (size : ℕ) → 65536 < size → scale_of size ≡ 0
+  pub too_large : (size : ℕ) → object_limit < size → scale_of size ≡ 0

@@ -9,6 +9,7 @@ use Rattle.code_model.specs.declared.places.Places.{Places}
 use Rattle.code_model.specs.FrameShape.{FrameShape}
 use Rattle.code_model.specs.Places.{global_address, window_address, entry_address}
 use Rattle.code_model.specs.Words.{load_slot, save, word_into, slot_address}
+use Rattle.ir_model.specs.Typing.{object_limit}
 
 -- into r0
 abbrev pub named_into : FrameShape → Places → Named → List Instr
@@ -23,9 +24,9 @@ addr_code s q to of = named_into s q of ++ save to ∷ []
 abbrev pub faddr_code : Places → (to func : ℕ) → List Instr
 faddr_code q to f = word_into 0 (entry_address q f + 1) ++ save to ∷ []
 
--- no object is larger than 65,536 bytes, so no pointer to a larger element is ever other than null
+-- no object is larger than the limit, so no pointer to a larger element is ever other than null
 abbrev pub scale_of : (size : ℕ) → ℕ
-scale_of n = if nat_le n 65536 then n else 0
+scale_of n = if nat_le n object_limit then n else 0
 
 -- MULS r1, r2; ADDS r0, r0, r1
 abbrev pub elem_code : (to base index size : ℕ) → List Instr

@@ -10,14 +10,16 @@ ghost use Rattle.ir_model.specs.Extents.{layout_of};
 ghost use Rattle.ir_model.specs.Layout.{known};
 ghost use Rattle.ir_model.specs.Frames as frames;
 ghost use Rattle.frames.specs.Places as places;
+ghost use Rattle.ir_model.specs.TextLimits.{struct_limit, local_limit, register_limit};
+ghost use Rattle.ir_model.specs.Typing.{object_limit};
 
 use ir_model::firmware::{Firmware, Func, Slot};
 
 fn local_size(fw: &Firmware, slot: &Slot) -> u32
-    requires few { length fw.now.structs ≤ 256 }
+    requires few { length fw.now.structs ≤ struct_limit }
     requires sized { IsSome (layout_of (map struct_of fw.now.structs) (type_of slot.now.ty)) }
     ensures exact { result ≡ frames.local_size (known (map struct_of fw.now.structs)) (slot_of slot.now) }
-    ensures small { result ≤ 65536 }
+    ensures small { result ≤ object_limit }
 {
     match fw.layout_of(&slot.ty, fw.structs.len() as u32) {
         Some((size, _)) => (size + 3) / 4 * 4,
@@ -26,11 +28,11 @@ fn local_size(fw: &Firmware, slot: &Slot) -> u32
 }
 
 fn locals_size(fw: &Firmware, slots: &[Slot]) -> u32
-    requires few { length fw.now.structs ≤ 256 }
-    requires locals { length slots.now ≤ 64 }
+    requires few { length fw.now.structs ≤ struct_limit }
+    requires locals { length slots.now ≤ local_limit }
     requires sized { All (λ (s : Slot). IsSome (layout_of (map struct_of fw.now.structs) (type_of s.ty))) slots.now }
     ensures exact { result ≡ frames.locals_size (known (map struct_of fw.now.structs)) (map slot_of slots.now) }
-    ensures small { result ≤ 64 * 65536 }
+    ensures small { result ≤ local_limit * object_limit }
 {
     let mut total = 0;
     for slot in slots {
@@ -40,9 +42,9 @@ fn locals_size(fw: &Firmware, slots: &[Slot]) -> u32
 }
 
 fn registers_size(f: &Func) -> u32
-    requires { length (regs_of (func_of f.now)) ≤ 120 }
+    requires { length (regs_of (func_of f.now)) ≤ register_limit }
     ensures exact { result ≡ 4 * length (regs_of (func_of f.now)) }
-    ensures small { result ≤ 480 }
+    ensures small { result ≤ 4 * register_limit }
 {
     4 * (f.params.len() + f.regs.len()) as u32
 }
@@ -61,7 +63,7 @@ pub fn frame_size(f: &Func, fw: &Firmware) -> u32
 
 /// Where a register stands, in bytes from the stack pointer. The parameters are the first registers. Takes no memory.
 pub fn reg_offset(k: u32) -> u32
-    requires { k < 120 }
+    requires { k < register_limit }
     ensures { result ≡ places.register_offset k }
 {
     4 * k

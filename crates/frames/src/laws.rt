@@ -5,7 +5,7 @@ ghost use Rattle.std.specs.List.{slice_get, Contains};
 ghost use Rattle.ir_model.specs.Plain.{PlainSlot, PlainFunc, PlainFirmware, regs_of, funcs_of};
 ghost use Rattle.ir_model.specs.Layout.{Known, known, shape};
 ghost use Rattle.ir_model.specs.Frames.{frame_size};
-ghost use Rattle.ir_model.specs.Typing.{IsTyped};
+ghost use Rattle.ir_model.specs.Typing.{IsTyped, frame_limit};
 ghost use Rattle.frames.specs.Places.{register_offset, local_offset, local_offsets, local_sizes, return_offset, Stand};
 
 /// From the stack pointer on stand the registers, of four bytes each, then the locals in order, then the return
@@ -34,5 +34,5 @@ pub fn parts()
 
 /// In a firmware that passes its checks each function has a frame of at most 992 bytes.
 pub fn checked()
-    ensures { (w : PlainFirmware) (f : PlainFunc) → IsTyped w → Contains (funcs_of w) f → frame_size (known w.structs) f ≤ 992 }
+    ensures { (w : PlainFirmware) (f : PlainFunc) → IsTyped w → Contains (funcs_of w) f → frame_size (known w.structs) f ≤ frame_limit }
 {}

@@ -13,6 +13,7 @@ use Rattle.plan_model.specs.Regions.{region_at}
 use Rattle.plan_model.specs.RamBlocks.{RamUse, ForStack, ForMonitor, ForRegion, ForUnwritten}
 use Rattle.plan_model.specs.Placement.{Fits, plan_of, region_spot, no_spot}
 use Rattle.layout_laws.specs.FlashLaws.{IsIn, IsAligned}
+use Rattle.device_model.specs.Rules.{block_size}
 
 -- the block for a use
 abbrev pub block_for : Plan → RamUse → Spot
@@ -36,7 +37,7 @@ HasBlock f ForUnwritten = 0 < length f.unwritten
 -- how large it is
 abbrev pub block_bytes : Program → Final → Board → RamUse → ℕ
 block_bytes p f b ForStack = b.stack
-block_bytes p f b ForMonitor = 1024
+block_bytes p f b ForMonitor = block_size
 block_bytes p f b (ForRegion r) = block (region_bytes p (region_at f.regions r).globals)
 block_bytes p f b ForUnwritten = block (region_bytes p f.unwritten)
 

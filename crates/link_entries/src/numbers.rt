@@ -10,11 +10,13 @@ ghost use Rattle.code_model.specs.declared.places.CallSite as call_site;
 ghost use Rattle.code_model.specs.Planned.{call_sites_among};
 ghost use Rattle.link_entries.specs.Lent.{lent_sites};
 ghost use Rattle.link_entries.specs.Grouped.{AreNumbers, AreSmall};
+ghost use Rattle.plan_model.specs.CompileLimits.{site_limit};
 
 use crate::sites::{call_sites, lend_numbers};
 use code_model::CallSite;
 use ir_program::program::Program;
 use list_vec::ListVec;
+use plan_model::limits::{LENT_LIMIT, SITE_LIMIT};
 use plan_model::needs::SiteNeed;
 use std::alloc::{AllocError, Global};
 
@@ -33,9 +35,9 @@ fn all_sites(
     sites: &[&SiteNeed],
     funcs: usize,
 ) -> Result<Vec<ListVec<CallSite>>, AllocError>
-    requires { length sites.now ≤ 4096 }
+    requires { length sites.now ≤ site_limit }
     ensures exact { IfOk result (λ all. all.items ≡ map (call_sites_among 0 (lent_sites sites.now)) (numbers_below funcs)) }
-    ensures small { IfOk result (λ all. All (λ ss. All (λ (s : call_site.CallSite). s.number < 4096) ss) all.items) }
+    ensures small { IfOk result (λ all. All (λ ss. All (λ (s : call_site.CallSite). s.number < site_limit) ss) all.items) }
 {
     let mut all = Vec::new(alloc);
     for func in 0..funcs {
@@ -82,7 +84,7 @@ pub fn numbered(
     ensures exact { IfOk result (λ x. AreNumbers (program_of program.now) (lent_sites sites.now) lent.now x) }
     ensures small { IfOk result AreSmall }
 {
-    if sites.len() > 4096 || lent.len() > 32 {
+    if sites.len() > SITE_LIMIT || lent.len() > LENT_LIMIT {
         return Err(AllocError);
     }
     let calls = all_sites(alloc, sites, program.funcs.len())?;

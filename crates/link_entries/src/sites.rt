@@ -11,6 +11,7 @@ ghost use Rattle.plan_model.specs.Lending as lending;
 ghost use Rattle.plan_model.specs.Lending.{is_local};
 ghost use Rattle.code_model.specs.Planned.{call_sites_among};
 ghost use Rattle.link_entries.specs.Lent.{lent_sites};
+ghost use Rattle.plan_model.specs.CompileLimits.{site_limit};
 
 use code_model::CallSite;
 use ir_program::program::Program;
@@ -64,9 +65,9 @@ pub fn call_sites(
     sites: &[&SiteNeed],
     func: usize,
 ) -> Result<Vec<CallSite>, AllocError>
-    requires { length sites.now ≤ 4096 }
+    requires { length sites.now ≤ site_limit }
     ensures exact { IfOk result (λ calls. calls.items ≡ call_sites_among 0 (lent_sites sites.now) func) }
-    ensures small { IfOk result (λ calls. All (λ (s : CallSite). s.number < 4096) calls.items) }
+    ensures small { IfOk result (λ calls. All (λ (s : CallSite). s.number < site_limit) calls.items) }
 {
     let mut calls = Vec::new(alloc);
     for (number, site) in sites.iter().enumerate() {

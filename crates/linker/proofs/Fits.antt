@@ -12,6 +12,7 @@ use Rattle.lower_laws.specs.Fitting.{HasEach, TypedFunctionsFit}
 use Rattle.link_entries.specs.declared.making.Making.{Making}
 use Rattle.link_entries.specs.Grouped.{places_in}
 use Rattle.link_entries.specs.Making.{program_in, grouped, places_at, IsReady}
+use Rattle.plan_model.specs.CompileLimits.{site_limit}
 
 all_at : {X : Type 0} (P : X → Type 0) (xs : List (List X)) (k : ℕ) → ((j : ℕ) → j < length xs → All P (get_or xs j [])) → All P (get_or xs k [])
 all_at P [] k h = All-nil P
@@ -25,7 +26,7 @@ function_fits m k ready l fit =
     let ks = known_of m.program.now in
     let count = length-map m.program.now.funcs (routine_of ks) in
     let n : k < length p.funcs = omega (arith, l, count) in
-    let IsSite : CallSite → Type 0 = λ s. s.number < 4096 in
+    let IsSite : CallSite → Type 0 = λ s. s.number < site_limit in
     let IsLend : Option ℕ → Type 0 = λ o. IfSome o (λ j. j < 32) in
     let has : HasEach p k q = record {
       globals = ready.globals ∙ sym (length-map m.program.now.globals (variable_of ks));

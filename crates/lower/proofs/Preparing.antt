@@ -15,6 +15,7 @@ use Rattle.lower.proofs.Sizing.{same_frame_size, same_local_starts}
 use Rattle.code_model.specs.Places.{lends_among}
 use Rattle.lower.specs.Subjects.{func_of, labels_from, first_label, IsSubject}
 use Rattle.code_model.proofs.Frames.{starts_length}
+use Rattle.ir_model.specs.Typing.{frame_limit}
 
 pub label_at : (first n b : ℕ) (d : Label) → b < n → get_or (labels_from first n) b d ≡ record { number = first + b }
 label_at first n b d h = let f : ℕ → Label = λ i. record { number = i } in get_or-map-range_with_len f first n b (first + b) d h refl
@@ -59,7 +60,7 @@ func_is p f d h = get_or-map (routine_of (known_of p)) p.funcs f d no_func h
 
 -- its frame is that of its registers and locals, whatever the cells of structs
 module _ (p : Program) (r : Routine) (q : Places) (fits : FuncFits q (routine_of (known_of p) r)) where
-  pub bare_frame : frame_size (routine_of [] r) ≤ 992
+  pub bare_frame : frame_size (routine_of [] r) ≤ frame_limit
   bare_frame = let e = same_frame_size (known_of p) r in let f = fits.frame in omega arith
 
   pub starts_count : length (local_starts (routine_of [] r)) ≡ length q.lends

@@ -11,6 +11,7 @@ ghost use Rattle.code_model.specs.Words as word;
 ghost use Rattle.code_model.specs.Words.{plain, save_code};
 ghost use Rattle.code_model.specs.Calls.{args_code, cross_code, callee_code, icall_code, icross_code, call_items, icall_items};
 ghost use Rattle.code_model.specs.Emitted.{with_more, HasRoom, IsNear};
+ghost use Rattle.plan_model.specs.CompileLimits.{site_limit};
 
 use crate::instructions::{load_slot, put, save, supervisor_call, word_into};
 use std::alloc::AllocError;
@@ -94,7 +95,7 @@ fn put_near_call(
 
 /// SVC #0 and behind it the number of the call's site.
 fn put_crossing(asm: &mut Asm, site: u32) -> Result<(), AllocError>
-    requires few { site < 4096 }
+    requires few { site < site_limit }
     requires room { HasRoom asm.old (plain (word.supervisor_call 0 ∷ []) ++ Half site ∷ []) }
     ensures { OnOk result (asm.new ≡ with_more asm.old (plain (word.supervisor_call 0 ∷ []) ++ Half site ∷ [])) }
 {
@@ -111,7 +112,7 @@ fn put_far_call(
     args: &[usize],
 ) -> Result<(), AllocError>
     requires even { entry % 2 ≡ 0 }
-    requires site_few { site < 4096 }
+    requires site_few { site < site_limit }
     requires few { length args.now ≤ 4 }
     requires near { All (λ a. a < 256) args.now }
     requires to_near { IfSome to (λ k. k < 256) }
@@ -132,7 +133,7 @@ pub(crate) fn put_call(
     to: Option<usize>,
     args: &[usize],
 ) -> Result<(), AllocError>
-    requires site_few { IfSome site (λ s. s < 4096) }
+    requires site_few { IfSome site (λ s. s < site_limit) }
     requires few { length args.now ≤ 4 }
     requires near { All (λ a. a < 256) args.now }
     requires to_near { IfSome to (λ k. k < 256) }
@@ -188,7 +189,7 @@ fn put_far_icall(
     args: &[usize],
 ) -> Result<(), AllocError>
     requires callee_near { callee < 256 }
-    requires site_few { site < 4096 }
+    requires site_few { site < site_limit }
     requires few { length args.now ≤ 4 }
     requires near { All (λ a. a < 256) args.now }
     requires to_near { IfSome to (λ k. k < 256) }
@@ -210,7 +211,7 @@ pub(crate) fn put_icall(
     args: &[usize],
 ) -> Result<(), AllocError>
     requires callee_near { callee < 256 }
-    requires site_few { IfSome site (λ s. s < 4096) }
+    requires site_few { IfSome site (λ s. s < site_limit) }
     requires few { length args.now ≤ 4 }
     requires near { All (λ a. a < 256) args.now }
     requires to_near { IfSome to (λ k. k < 256) }

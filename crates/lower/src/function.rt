@@ -11,6 +11,7 @@ ghost use Rattle.code_model.specs.Places.{entry_address};
 ghost use Rattle.code_model.specs.Fitting.{FuncFits};
 ghost use Rattle.lower.specs.Subjects.{func_of, first_label, IsSubject, HasLabels, block_items, rest_items, rest_labels};
 ghost use Rattle.code_model.specs.Emitted.{with_block, with_function, size_in, HasRoom, AreNear};
+ghost use Rattle.plan_model.specs.CompileLimits.{site_limit};
 
 use crate::subject::{Subject, make_subject};
 use crate::templates::{put_entry, put_exit, put_inst};
@@ -22,7 +23,7 @@ use thumb_asm::Asm;
 /// The number of the site of the call at a place, if it may go to another compartment.
 pub(crate) fn site_in(sites: &[CallSite], block: usize, place: usize) -> Option<u32>
     ensures exact { result ≡ definition.site_in sites.now block place }
-    ensures small { All (λ (s : CallSite). s.number < 4096) sites.now → IfSome result (λ s. s < 4096) }
+    ensures small { All (λ (s : CallSite). s.number < site_limit) sites.now → IfSome result (λ s. s < site_limit) }
 {
     for site in sites {
         if site.block as usize == block && site.place as usize == place {

@@ -11,6 +11,7 @@ ghost use Rattle.code_model.specs.Fitting.{InstFits, TermFits};
 ghost use Rattle.lower.specs.Subjects.{func_of, inst_of, items_of, branch_items, first_label, IsSubject, HasLabels};
 ghost use Rattle.code_model.specs.FrameShape.{frame_shape};
 ghost use Rattle.code_model.specs.Emitted.{with_more, HasRoom, AreNear};
+ghost use Rattle.plan_model.specs.CompileLimits.{site_limit};
 
 use crate::addresses::{put_elem, put_field, put_load, put_local_address, put_store};
 use crate::calls::{put_call, put_icall};
@@ -54,7 +55,7 @@ pub(crate) fn put_inst(
 ) -> Result<(), AllocError>
     requires subject { IsSubject subject.now }
     requires fits { InstFits subject.now.places.now (func_of subject.now) (inst_of subject.now operation.now) }
-    requires site { IfSome site (λ s. s < 4096) }
+    requires site { IfSome site (λ s. s < site_limit) }
     requires even { here asm.old % 2 ≡ 0 }
     requires near { AreNear (here asm.old) (here asm.old + total (items_of subject.now (here asm.old) site (inst_of subject.now operation.now))) subject.now.places.now.entries }
     requires room { HasRoom asm.old (items_of subject.now (here asm.old) site (inst_of subject.now operation.now)) }

@@ -12,6 +12,7 @@ use Rattle.monitor.specs.declared.tables.Tables.{Tables}
 use Rattle.monitor.specs.Records.{compartment_at}
 use Rattle.monitor.specs.Layout.{page_size, head_size, head_at, compartment_size, compartments_at, sites_at, targets_at, lends_at, inits_at, initial_words_at, area_end, tables_size}
 use Rattle.monitor.specs.RegionChecks.{is_data_range, is_compartment}
+use Rattle.ir_model.specs.Typing.{object_limit}
 
 -- ---- where a check fails
 
@@ -91,7 +92,7 @@ sites_fail t =
 -- ---- lends
 
 abbrev pub is_lend : (size : ℕ) → Bool
-is_lend z = nat_le 1 z && nat_le z 65536
+is_lend z = nat_le 1 z && nat_le z object_limit
 
 abbrev pub lends_fail : Tables → Option ℕ
 lends_fail t = each_record is_lend (lends_at t) 4 t.lends

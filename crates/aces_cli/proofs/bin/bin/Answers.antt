@@ -95,18 +95,20 @@ returns g c out =
       made,
       calls_joined of.called files c.load.new.files c.write.new.files read.0 last.0 read.1 last.1,
       All-append (IsCallOf (Bin image file)) read.0 last.0 (reads_of (Bin image file) image (inl refl) read.0 read.2) (writes_of (Bin image file) file c.as_slice-2.result.now refl last.0 last.2),
-      record {
-        named = refl;
-        rose = rw c.load.ensures.writes at c.in-Err.ensures.rose;
-        read_faults = c.write.ensures.reads ∙ c.in_ok-bytes.ensures.reads;
-        out = refl;
-      },
-      record {
-        outcome = done 0 [] (Some (record { name = file; bytes = i.flash }));
-        answer = bin_read image file c.in_ok-bytes.bytes.items _ known (wrote i (rw c.as_slice.ensures.value at c.in_ok-image.ensures.ok));
-        part = record {
-          printed = λ t. (0, sym (append-nil out.written));
-          held = rw (c.as_slice-2.ensures, c.load.ensures.same) at c.in-Err.ensures.err;
-        };
-      },
+      (
+        record {
+          named = refl;
+          rose = rw c.load.ensures.writes at c.in-Err.ensures.rose;
+          read_faults = c.write.ensures.reads ∙ c.in_ok-bytes.ensures.reads;
+          out = refl;
+        },
+        record {
+          outcome = done 0 [] (Some (record { name = file; bytes = i.flash }));
+          answer = bin_read image file c.in_ok-bytes.bytes.items _ known (wrote i (rw c.as_slice.ensures.value at c.in_ok-image.ensures.ok));
+          part = record {
+            printed = λ t. (0, sym (append-nil out.written));
+            held = rw (c.as_slice-2.ensures, c.load.ensures.same) at c.in-Err.ensures.err;
+          };
+        },
+      ),
     )

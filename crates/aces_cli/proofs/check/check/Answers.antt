@@ -83,16 +83,18 @@ returns g c =
       made.0,
       made.1,
       reads_of (Check firmware) firmware (inl refl) made.0 made.2,
-      record {
-        rose = c.in-Err.ensures.cause;
-        held = c.load_firmware.ensures.same;
-        read_faults = c.in_ok-bytes.ensures.reads;
-        write_faults = c.load_firmware.ensures.writes;
-      },
-      record {
-        outcome = done 0 (count_line w) None;
-        answer = check_read firmware c.in_ok-bytes.bytes.items _ made.3
-            (checked w (rw c.as_slice.ensures.value at c.in_ok-checked.ensures.ok));
-        part = record { printed = λ t. c.in-Err.ensures.part t; held = c.load_firmware.ensures.same };
-      },
+      (
+        record {
+          rose = c.in-Err.ensures.cause;
+          held = c.load_firmware.ensures.same;
+          read_faults = c.in_ok-bytes.ensures.reads;
+          write_faults = c.load_firmware.ensures.writes;
+        },
+        record {
+          outcome = done 0 (count_line w) None;
+          answer = check_read firmware c.in_ok-bytes.bytes.items _ made.3
+              (checked w (rw c.as_slice.ensures.value at c.in_ok-checked.ensures.ok));
+          part = record { printed = λ t. c.in-Err.ensures.part t; held = c.load_firmware.ensures.same };
+        },
+      ),
     )

@@ -161,19 +161,21 @@ returns g c out =
       made,
       calls_joined of.called files c.load.new.files c.write.new.files read last.0 (calls_joined of.called files c.load_firmware.new.files c.load.new.files first.0 second.0 first.1 second.1) last.1,
       All-append (IsCallOf r) read last.0 (All-append (IsCallOf r) first.0 second.0 (reads_of r firmware (inl refl) first.0 first.2) (reads_of r board (inr (inl refl)) second.0 second.2)) (writes_of r image c.as_slice-3.result.now refl last.0 last.2),
-      record {
-        named = refl;
-        rose = rw (c.load.ensures.writes, c.load_firmware.ensures.writes) at c.in-Err.ensures.rose;
-        read_faults = c.write.ensures.reads ∙ (c.in_ok-text.ensures.reads ∙ c.in_ok-bytes.ensures.reads);
-        out = refl;
-      },
-      record {
-        outcome = done 0 [] (Some (record { name = image; bytes = written }));
-        answer = compile_read firmware board policy image bytes text _ known_first known
-            (let here = rw (c.as_slice.ensures.value, c.as_slice-2.ensures.value) at c.in_ok-compiled.ensures.ok in here image);
-        part = record {
-          printed = λ t. (0, sym (append-nil out.written));
-          held = rw (c.as_slice-3.ensures.value, c.load.ensures.same, c.load_firmware.ensures.same) at c.in-Err.ensures.err;
-        };
-      },
+      (
+        record {
+          named = refl;
+          rose = rw (c.load.ensures.writes, c.load_firmware.ensures.writes) at c.in-Err.ensures.rose;
+          read_faults = c.write.ensures.reads ∙ (c.in_ok-text.ensures.reads ∙ c.in_ok-bytes.ensures.reads);
+          out = refl;
+        },
+        record {
+          outcome = done 0 [] (Some (record { name = image; bytes = written }));
+          answer = compile_read firmware board policy image bytes text _ known_first known
+              (let here = rw (c.as_slice.ensures.value, c.as_slice-2.ensures.value) at c.in_ok-compiled.ensures.ok in here image);
+          part = record {
+            printed = λ t. (0, sym (append-nil out.written));
+            held = rw (c.as_slice-3.ensures.value, c.load.ensures.same, c.load_firmware.ensures.same) at c.in-Err.ensures.err;
+          };
+        },
+      ),
     )

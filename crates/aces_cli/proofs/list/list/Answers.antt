@@ -145,16 +145,18 @@ returns g c =
       made,
       calls_joined of.called files c.load_firmware.new.files c.load.new.files first.0 second.0 first.1 second.1,
       All-append (IsCallOf r) first.0 second.0 (reads_of r firmware (inl refl) first.0 first.2) (reads_of r board (inr (inl refl)) second.0 second.2),
-      record {
-        rose = c.in-Err.ensures.cause;
-        held = c.load.ensures.same ∙ c.load_firmware.ensures.same;
-        read_faults = c.in_ok-text.ensures.reads ∙ c.in_ok-bytes.ensures.reads;
-        write_faults = c.load.ensures.writes ∙ c.load_firmware.ensures.writes;
-      },
-      record {
-        outcome = done 0 c.in_ok-lines.lines.items None;
-        answer = list_read firmware board c.args.policy bytes text _ known_first known
-            (rw (c.as_slice.ensures.value, c.as_slice-2.ensures.value) at c.in_ok-lines.ensures.ok);
-        part = record { printed = λ t. rw c.as_slice-3.ensures.value at c.in-Err.ensures.failed; held = c.load.ensures.same ∙ c.load_firmware.ensures.same };
-      },
+      (
+        record {
+          rose = c.in-Err.ensures.cause;
+          held = c.load.ensures.same ∙ c.load_firmware.ensures.same;
+          read_faults = c.in_ok-text.ensures.reads ∙ c.in_ok-bytes.ensures.reads;
+          write_faults = c.load.ensures.writes ∙ c.load_firmware.ensures.writes;
+        },
+        record {
+          outcome = done 0 c.in_ok-lines.lines.items None;
+          answer = list_read firmware board c.args.policy bytes text _ known_first known
+              (rw (c.as_slice.ensures.value, c.as_slice-2.ensures.value) at c.in_ok-lines.ensures.ok);
+          part = record { printed = λ t. rw c.as_slice-3.ensures.value at c.in-Err.ensures.failed; held = c.load.ensures.same ∙ c.load_firmware.ensures.same };
+        },
+      ),
     )
