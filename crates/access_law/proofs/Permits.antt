@@ -2,7 +2,7 @@
 use Rattle.std.proofs.Common.{◌≡◌, ℕ, ◌+◌, ◌-◌, ◌*◌, ◌/◌, ◌%◌, ◌^◌, ◌<◌, ◌≤◌, ◌⊎◌, inl, inr, ⊎_elim, Bool, true, false, not, ◌&&◌, ◌||◌, List, [], ◌∷◌, length, Option, Some, None, nat_eq, refl, sym, ap, ap₂, ◌∙◌, subst, arith, mul-div_cancel}
 use Rattle.std.specs.Int.{IsPowerOfTwo}
 use Rattle.std.specs.List.{list_any}
-use Rattle.std.proofs.lemmas.Bool.{false≢true}
+use Rattle.std.proofs.lemmas.Bool.{false≢true, not-true}
 use Rattle.std.proofs.lemmas.Nat.Bits.{bit_at-zero}
 use Rattle.mpu_model.specs.declared.region.Region.{Region}
 use Rattle.mpu_model.specs.declared.region.Access.{Access}
@@ -26,13 +26,14 @@ use Rattle.monitor.specs.Placed.{Placed, IsCompartment, IsSlot, InFlashOf}
 use Rattle.monitor.specs.Block.{Block}
 use Rattle.monitor.specs.Invariant.{IsTop, Invariant}
 use Rattle.monitor.specs.Setting.{has_code, allows_stores, may_store, may_load}
-use Rattle.confine.proofs.Reaches.{UnitLaws, byte, stack_some}
+use Rattle.confine.proofs.Reaches.{UnitLaws, stack_some}
 use Rattle.confine.proofs.Changes.{top_below}
 use Rattle.confine.proofs.EnterLaw.{both}
 use Rattle.common_laws.proofs.Tests.{either_true as either}
 use Rattle.mem_bus.proofs.Ranges.{inside_true as inside_is}
 use Rattle.common_laws.proofs.Lists.{each_at}
 use Rattle.monitor.proofs.Multiples.{divides}
+use Rattle.mpu_model.proofs.Configured.{closed_byte}
 
 -- ---- which of a list of regions is the last that holds an address
 
@@ -92,10 +93,6 @@ some_slot (g ∷ gs) a e n = by (holds g a) refl (λ z. some_slot gs a z n.1) e
     by true h ih z = false≢true (sym n.0 ∙ h)
     by false h ih z = ih z
 
-negated : (b : Bool) → not b ≡ true → b ≡ false
-negated true e = absurd (false≢true e)
-negated false e = refl
-
 -- ---- the regions of placed tables
 
 module _ (laws : UnitLaws) (i : Image) (t : Tables) (p : Placed i t) where
@@ -113,7 +110,7 @@ module _ (laws : UnitLaws) (i : Image) (t : Tables) (p : Placed i t) where
       subst (λ (m : ℕ). holds (region_of 3 t.stack.base t.stack.size (closed_from m) Stack) a ≡ true) (sym q) r
 
   stack_allows : (top : ℕ) (kind : Access) → may Stack true kind ≡ true → allows (stack_region t top) true kind ≡ true
-  stack_allows top kind e = laws.rights 3 t.stack.base t.stack.size (closed_from ((top - t.stack.base) / eighth t)) Stack (byte ((top - t.stack.base) / eighth t)) true kind ∙ e
+  stack_allows top kind e = laws.rights 3 t.stack.base t.stack.size (closed_from ((top - t.stack.base) / eighth t)) Stack (closed_byte ((top - t.stack.base) / eighth t)) true kind ∙ e
 
   -- what the stack's region holds is no flash
   stack_off_flash : (top a n : ℕ) → IsTop t n top → InFlashOf i a → holds (stack_region t top) a ≡ false
@@ -255,7 +252,7 @@ module _ (laws : UnitLaws) (i : Image) (t : Tables) (p : Placed i t) where
             let hi = (inside_is i.ram_base i.ram_size a q.1).1 in
             let high = p.rules.ram_highest in
             let most = p.rules.ram_most in
-            by_background a (inr (negated i.closed q.0, omega (arith, hi, high, most)))
+            by_background a (inr (not-true i.closed q.0, omega (arith, hi, high, most)))
 
         others : (list_any (λ (g : Region). holds g a) here.slots ≡ true) ⊎ ((not i.closed && inside i.ram_base i.ram_size a) ≡ true) → by_mpu x.protection Read a ≡ true
         others (inl s) = reads_held a (λ n. some_slot here.slots a s n.1.1.1.1)

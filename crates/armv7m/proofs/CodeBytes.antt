@@ -1,8 +1,9 @@
 -- Flash that holds the bytes of instructions.
-use Rattle.std.proofs.Common.{◌≡◌, ℕ, ◌+◌, ◌-◌, ◌/◌, ◌%◌, ◌^◌, ◌<◌, ◌≤◌, ◌⊎◌, inl, inr, true, false, List, [], ◌∷◌, ◌++◌, length, get_or, nat_lt, refl, sym, ◌∙◌, arith, length-append}
+use Rattle.std.proofs.Common.{◌≡◌, ℕ, ◌+◌, ◌-◌, ◌/◌, ◌%◌, ◌^◌, ◌<◌, ◌≤◌, ◌⊎◌, inl, inr, true, false, List, [], ◌∷◌, ◌++◌, length, get_or, refl, sym, ◌∙◌, arith, length-append}
 use Rattle.std.proofs.Math.ListN.{get_or-append}
 use Rattle.std.proofs.lemmas.List.{get_or-append-add}
 use Rattle.std.proofs.lemmas.Bool.Decides.{nat_tests}
+use Rattle.std.proofs.lemmas.Bool.{ltb-true}
 use Rattle.words.specs.Bytes.{read}
 use Rattle.thumb_model.specs.Table.{InTable, encode}
 use Rattle.thumb_model.specs.declared.table.Code.{Code}
@@ -24,12 +25,9 @@ abbrev HalvesFit : Code → Type 0
 HalvesFit (Half h) = h < 2 ^ 16
 HalvesFit (Pair h k) = (h < 2 ^ 16) × (k < 2 ^ 16)
 
-below_test : (h n : ℕ) → nat_lt h n ≡ true → h < n
-below_test h n t = grind (arith, nat_tests)
-
 -- one halfword fits by its form
 half_fits : (c : Code) (n : ℕ) → HasForm c n → n ≡ 2 → HalvesFit c
-half_fits (Half h) n f e = let b = below_test h 0xE800 f.0 in omega arith
+half_fits (Half h) n f e = let b = ltb-true h 0xE800 f.0 in omega arith
 half_fits (Pair h k) n f e = let b = f.1 in absurd (omega arith)
 
 special_below : (s : ℕ) → (s ≡ 8) ⊎ (s ≡ 9) ⊎ (s ≡ 20) → s < 256

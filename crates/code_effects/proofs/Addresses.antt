@@ -26,9 +26,7 @@ use Rattle.code_effects.specs.Addresses.{named_address, CanName, addr_steps, Add
 use Rattle.code_effects.proofs.Moves.{number_by}
 use Rattle.code_effects.proofs.Joined.{landed, leads_by}
 use Rattle.code_effects.proofs.Registers.{holds_nothing}
-
-scale_fits : (size : ℕ) → scale_of size < 2 ^ 32
-scale_fits size = search (nat_tests, arith)
+use Rattle.code_model.proofs.Addresses.{scale_small}
 
 -- locals begin at whole words
 starts_are_words : (from : ℕ) (ls : List Shape) (l : ℕ) → from % 4 ≡ 0 → get_or (starts_from from ls) l 0 % 4 ≡ 0
@@ -75,7 +73,7 @@ module _ (j : PermissionTest) (i : Image) (g : NumberedFunc) (q : Places) (label
       let s : ℕ = scale_of size in
       let m : ℕ = multiply z s in
       let e : word (y + z * s) ≡ add y m = omega arith in
-      let small = scale_fits size in
+      let small = scale_small size in
       rw e (leads_by j i 7 p _ [] (λ a b c rest f h.
       landed j i 7 _ p.context [] (add y m ∷ m ∷ s ∷ rest) p.sp p.lr (p.pc + 2 + 2 + 4 + 4 + 2 + 2 + 2) (p.pc + 18) (add_flags y m 0) (write 4 (o + 4 * to) (add y m) p.ram) p.queues [] (omega arith) (holds_nothing (add y m ∷ m ∷ s ∷ rest) (omega arith))
       (next_step (ldr_sp j i p.context (a ∷ b ∷ c ∷ rest) p.sp p.lr p.pc f p.ram p.queues 0 base o n room lb code.0)

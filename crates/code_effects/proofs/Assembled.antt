@@ -1,27 +1,17 @@
 -- Pieces that were put into an assembly: their instructions are in the table, and their bytes fill it.
-use Rattle.std.proofs.Common.{◌≡◌, ℕ, ◌+◌, ◌%◌, ◌<◌, ◌^◌, List, [], ◌∷◌, length, None, IsSome, refl, sym, ◌∙◌, subst, arith}
+use Rattle.std.proofs.Common.{◌≡◌, ℕ, ◌+◌, ◌%◌, ◌<◌, ◌^◌, List, [], ◌∷◌, length, None, IsSome, sym, ◌∙◌, subst, arith}
 use Rattle.std.proofs.Math.ListN.{get_or}
 use Rattle.thumb_asm.specs.declared.item.Item.{Item}
 use Rattle.thumb_asm.specs.declared.item.Item.TheVariants.{Plain, Branch, Half, Word}
 use Rattle.thumb_asm.specs.Assembly.{Assembly, branch_size, size_of, total, here, place_of, AreItems, ArePut, IsAssembly}
-use Rattle.thumb_asm.specs.Finished.{reach, first_far}
+use Rattle.thumb_asm.specs.Finished.{first_far}
 use Rattle.armv7m.specs.Code.{size}
-use Rattle.armv7m.proofs.CodeParts.{width-encode, code_size-even}
+use Rattle.armv7m.proofs.CodeParts.{width-encode}
 use Rattle.code_effects.specs.Items.{InstructionsInTable}
 use Rattle.common_laws.proofs.Options.{some_is}
 use Rattle.thumb_asm.proofs.Items.{branch_even}
-use Rattle.thumb_asm.proofs.Reaching.{even_place as place_is, near_first}
+use Rattle.thumb_asm.proofs.Reaching.{even_place as place_is, near_first, size_even}
 use Rattle.thumb_asm.proofs.Decoded.{branch_in_table}
-
-item_even : (x : Item) → size_of x % 2 ≡ 0
-item_even (Plain x) = omega (arith, width-encode x, code_size-even (x ∷ []))
-item_even (Branch kind to) = branch_even kind
-item_even (Half h) = refl
-item_even (Word w) = refl
-
-total_even : (xs : List Item) → total xs % 2 ≡ 0
-total_even [] = refl
-total_even (x ∷ xs) = omega (arith, item_even x, total_even xs)
 
 label_is : (a : Assembly) (l : ℕ) → IsAssembly a → IsSome (get_or a.places l None) → (place_of a.places l % 2 ≡ a.base % 2) × (place_of a.places l < 2 ^ 31)
 label_is a l h p =
@@ -38,7 +28,7 @@ pub in_table : (a : Assembly) → IsAssembly a → (xs : List Item) (at : ℕ) �
 in_table a h [] at room even items put far = tt
 in_table a h (Plain x ∷ xs) at room even items put far =
     let w = width-encode x in
-    let e = item_even (Plain x) in
+    let e = size_even (Plain x) in
     let z : at + size_of (Plain x) ≡ at + size x = omega arith in
     (items.0, subst (λ (n : ℕ). InstructionsInTable a.places n xs) z (in_table a h xs (at + size_of (Plain x)) (omega arith) (omega arith) items.1 put far))
 in_table a h (Branch kind to ∷ xs) at room even items put far =

@@ -11,3 +11,4 @@ pub mod Labels
 pub mod Rows
 pub mod Members
 pub mod Lends
+pub mod Addresses

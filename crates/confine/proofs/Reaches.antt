@@ -1,8 +1,6 @@
 -- Which addresses the regions of the invariant leave to unprivileged code.
-use Rattle.std.proofs.Common.{◌≡◌, ℕ, ◌+◌, ◌-◌, ◌*◌, ◌/◌, ◌%◌, ◌^◌, ◌<◌, ◌≤◌, ◌⊎◌, inl, inr, Bool, true, false, List, [], ◌∷◌, length, map, nat_eq, refl, sym, ap, ap₂, ◌∙◌, subst, arith, pow_pos, mul-div_cancel}
+use Rattle.std.proofs.Common.{◌≡◌, ℕ, ◌+◌, ◌-◌, ◌*◌, ◌/◌, ◌%◌, ◌^◌, ◌<◌, ◌≤◌, ◌⊎◌, inl, inr, Bool, true, false, List, [], ◌∷◌, length, map, nat_eq, refl, sym, ap, ap₂, ◌∙◌, subst, arith, mul-div_cancel}
 use Rattle.std.specs.Int.{IsPowerOfTwo}
-use Rattle.std.proofs.Math.Nat.{zero-mod}
-use Rattle.std.proofs.Math.Pow.{mod-mod-pow}
 use Rattle.std.proofs.lemmas.Bool.{false≢true}
 use Rattle.std.proofs.lemmas.Bool.Decides.{nat_tests}
 use Rattle.std.proofs.lemmas.Nat.{pow_below}
@@ -34,6 +32,7 @@ use Rattle.monitor.specs.Invariant.{IsTop, InvariantHolds}
 use Rattle.confine.specs.Reaches.{ThreadsReach}
 use Rattle.common_laws.proofs.Lists.{each_at}
 use Rattle.monitor.proofs.Multiples.{divides}
+use Rattle.mpu_model.proofs.Configured.{closed_byte}
 
 -- the laws of the protection unit
 pub record UnitLaws : Type 0 where
@@ -69,9 +68,6 @@ module _ (laws : UnitLaws) where
       allows (choose b (region_of 0 n 0x100000 0 Background) (region_of 0 0 0x40000000 0 Background)) true kind ≡ true → ⊥
   not_background true n kind c e = not_by_rights Background 0 n 0x100000 0 kind (omega arith) c e
   not_background false n kind c e = not_by_rights Background 0 0 0x40000000 0 kind (omega arith) c e
-
-pub byte : (n : ℕ) → closed_from n < 2 ^ 8
-byte n = let q = pow_pos n in omega (arith, q)
 
 writes_at : (g : Region) → allows g true Write ≡ true → permission g ≡ 3
 writes_at g e = search (nat_tests, arith)
@@ -181,7 +177,7 @@ module _ (laws : UnitLaws) (i : Image) (t : Tables) (p : Placed i t) where
       | inl o ↦ absurd (not_background laws i.closed i.flash_base Fetch refl o.1)
       | inr (inl o) ↦ tables_held a o.0
       | inr (inr (inl o)) ↦ placed.code.in_flash a o.0
-      | inr (inr (inr (inl o))) ↦ absurd (not_by_rights laws Stack 3 t.stack.base t.stack.size (closed_from ((top - t.stack.base) / eighth t)) Fetch (byte ((top - t.stack.base) / eighth t)) refl o.1)
+      | inr (inr (inr (inl o))) ↦ absurd (not_by_rights laws Stack 3 t.stack.base t.stack.size (closed_from ((top - t.stack.base) / eighth t)) Fetch (closed_byte ((top - t.stack.base) / eighth t)) refl o.1)
       | inr (inr (inr (inr o))) ↦ absurd (no_slot_code i t here.slots a placed.slots o)
     ]
 

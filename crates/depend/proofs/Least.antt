@@ -1,7 +1,6 @@
 -- The least sets of a typed program have objects of the program alone.
-use Rattle.std.proofs.Common.{◌≡◌, ℕ, ◌<◌, Bool, true, ◌&&◌, List, length, Option, Some, None, nat_lt, get_or, arith, sym, subst}
-use Rattle.std.proofs.lemmas.Bool.{and_parts, and_from}
-use Rattle.std.proofs.lemmas.Bool.Decides.{nat_tests}
+use Rattle.std.proofs.Common.{◌≡◌, ℕ, Bool, true, ◌&&◌, List, length, Option, Some, None, nat_lt, get_or, sym, subst}
+use Rattle.std.proofs.lemmas.Bool.{and_parts, and_from, ltb-true, lt-ltb}
 use Rattle.ir_model.specs.Types.{PlainType}
 use Rattle.ir_model.specs.Resolved.{Program, Value, Instance, OfGlobal, OfPeriph, OfLocal, Named, TheGlobal, ThePeriph, TheLocal, NumberedInst, Const, Move, Bin, Cmp, Addr, FAddr, Elem, Field, Load, Store, Call, ICall, NumberedTerm, Jump, Branch, Ret, Here, Does, Ends, func_at, register_type, here}
 use Rattle.ir_model.specs.State.{Object, GlobalObject, PeriphObject, LocalObject, FunctionObject, object_of}
@@ -17,17 +16,11 @@ is_object p (PeriphObject q) = nat_lt q (length p.periphs)
 is_object p (LocalObject f l) = nat_lt l (length (func_at p f).locals)
 is_object p (FunctionObject f) = nat_lt f (length p.funcs)
 
-is_below : (m n : ℕ) → m < n → nat_lt m n ≡ true
-is_below m n h = grind (arith, nat_tests)
-
-below : (m n : ℕ) → nat_lt m n ≡ true → m < n
-below m n h = grind (arith, nat_tests)
-
 object_there : (p : Program) (o : Object) → is_object p o ≡ true → IsThere p o
-object_there p (GlobalObject g) h = below g (length p.globals) h
-object_there p (PeriphObject q) h = below q (length p.periphs) h
-object_there p (LocalObject f l) h = below l (length (func_at p f).locals) h
-object_there p (FunctionObject f) h = below f (length p.funcs) h
+object_there p (GlobalObject g) h = ltb-true g (length p.globals) h
+object_there p (PeriphObject q) h = ltb-true q (length p.periphs) h
+object_there p (LocalObject f l) h = ltb-true l (length (func_at p f).locals) h
+object_there p (FunctionObject f) h = ltb-true f (length p.funcs) h
 
 module _ (p : Program) (z : PlainType → ℕ) (S : ObjectSets) (typed : Typed p z) where
   abbrev Q : ObjectSets
@@ -47,14 +40,14 @@ module _ (p : Program) (z : PlainType → ℕ) (S : ObjectSets) (typed : Typed p
   calls f g to args h = record { arguments = λ k l. flows (register_type p g k) (Register f (get_or args k 0)) (Register g k) (h.arguments k l); outcome = results f g to h.outcome }
 
   named_there : (f : ℕ) (of : Named) → NamesThere p (func_at p f) of → is_object p (named_object f of) ≡ true
-  named_there f (TheGlobal g) h = is_below g (length p.globals) h
-  named_there f (ThePeriph q) h = is_below q (length p.periphs) h
-  named_there f (TheLocal l) h = is_below l (length (func_at p f).locals) h
+  named_there f (TheGlobal g) h = lt-ltb g (length p.globals) h
+  named_there f (ThePeriph q) h = lt-ltb q (length p.periphs) h
+  named_there f (TheLocal l) h = lt-ltb l (length (func_at p f).locals) h
 
   placed_there : (o : Instance) → IsPlaced p o → is_object p (object_of o) ≡ true
-  placed_there (OfGlobal g) h = is_below g (length p.globals) h
-  placed_there (OfPeriph q) h = is_below q (length p.periphs) h
-  placed_there (OfLocal f n l) h = is_below l (length (func_at p f).locals) h
+  placed_there (OfGlobal g) h = lt-ltb g (length p.globals) h
+  placed_there (OfPeriph q) h = lt-ltb q (length p.periphs) h
+  placed_there (OfLocal f n l) h = lt-ltb l (length (func_at p f).locals) h
 
   inst_flows : (f : ℕ) (i : NumberedInst) → InstTyped p z (func_at p f) i → InstFlows p S f i → InstFlows p Q f i
   inst_flows f (Const to n) t h = tt
@@ -62,7 +55,7 @@ module _ (p : Program) (z : PlainType → ℕ) (S : ObjectSets) (typed : Typed p
   inst_flows f (Bin op to a b) t h = tt
   inst_flows f (Cmp op to a b) t h = tt
   inst_flows f (Addr to of) t h = and_from _ _ h (named_there f of t.there)
-  inst_flows f (FAddr to g) t h = and_from _ _ h (is_below g (length p.funcs) t.1)
+  inst_flows f (FAddr to g) t h = and_from _ _ h (lt-ltb g (length p.funcs) t.1)
   inst_flows f (Elem to base i n) t h = within (Register f base) (Register f to) h
   inst_flows f (Field to base n) t h = within (Register f base) (Register f to) h
   inst_flows f (Load to from u) t h = λ c o e. within (Content o) (Register f to) (h c o (and_parts (S (Register f from) o) (is_object p o) e).0)
@@ -84,7 +77,7 @@ module _ (p : Program) (z : PlainType → ℕ) (S : ObjectSets) (typed : Typed p
   cell_of n t v (number k e l) h = tt
   cell_of n t v (null e) h = tt
   cell_of n t v (at o k e l i s) h = and_from _ _ h (placed_there o i)
-  cell_of n t v (code g s e i) h = and_from _ _ h (is_below g (length p.funcs) i)
+  cell_of n t v (code g s e i) h = and_from _ _ h (lt-ltb g (length p.funcs) i)
 
   closed_there : Closed p S → Closed p Q
   closed_there c =

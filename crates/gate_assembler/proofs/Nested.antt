@@ -1,8 +1,7 @@
 -- Tests and loops: what may be put of their lists, and how their code is put together.
-use Rattle.std.proofs.Common.{◌≡◌, ℕ, pos, ◌+◌, ◌%◌, ◌<◌, true, ◌&&◌, List, [], ◌∷◌, ◌++◌, length, get_or, take, subst, ap, sym, arith, append_assoc, append-nil}
+use Rattle.std.proofs.Common.{◌≡◌, ℕ, pos, ◌+◌, ◌<◌, true, ◌&&◌, List, [], ◌∷◌, ◌++◌, length, get_or, take, subst, ap, sym, arith, append_assoc, append-nil}
 use Rattle.thumb_model.specs.declared.table.Instr.TheVariants.{BranchWide}
 use Rattle.thumb_asm.specs.Assembly.{Assembly, here}
-use Rattle.armv7m.proofs.CodeParts.{code_size-even}
 use Rattle.gate_steps.specs.declared.steps.GateCond.{GateCond}
 use Rattle.gate_steps.specs.declared.steps.GateStep.{GateStep}
 use Rattle.gate_steps.specs.Steps.{Steps, End, Test, Repeat, names_low, is_low}
@@ -13,9 +12,6 @@ use Rattle.gate_assembler.specs.Emitted.{MayPut, HasPut, has_near_offsets, choic
 use Rattle.gate_assembler.proofs.Puts.{put_both}
 use Rattle.gate_assembler.proofs.Splits.{low-at, near-at, length-take_more, length-take-le, code-take_more}
 use Rattle.common_laws.proofs.Tests.{both_true as both_are}
-
-pub length-even : (s : Steps) → code_length s % 2 ≡ 0
-length-even s = subst (λ n. n % 2 ≡ 0) (code_has_its_length s) (code_size-even (code s))
 
 -- ---- a step of a vector
 

@@ -1,5 +1,5 @@
 -- The length of a list's code, and code that stands one part behind the other.
-use Rattle.std.proofs.Common.{◌≡◌, ℕ, pos, negsuc, ◌+◌, ◌<◌, ◌≤◌, Bool, true, false, List, [], ◌∷◌, ◌++◌, nat_eq, refl, subst, arith}
+use Rattle.std.proofs.Common.{◌≡◌, ℕ, pos, negsuc, ◌+◌, ◌%◌, ◌<◌, ◌≤◌, Bool, true, false, List, [], ◌∷◌, ◌++◌, nat_eq, refl, subst, arith}
 use Rattle.thumb_model.specs.declared.table.Instr.{Instr}
 use Rattle.thumb_model.specs.declared.table.Instr.TheVariants.{DataImmediate, BranchWide}
 use Rattle.mpu_model.specs.declared.region.Access.TheVariants.{Fetch}
@@ -71,3 +71,34 @@ module _ (j : PermissionTest) (i : Image) (Good : ProtectionState → Type 0) wh
   -- code behind a list's own
   pub behind : (s : Steps) (pc : ℕ) (ys : List Instr) → HasCode j i Good pc (code s ++ ys) → HasCode j i Good (pc + code_length s) ys
   behind s pc ys h = subst (λ n. HasCode j i Good (pc + n) ys) (code_has_its_length s) (has_back pc (code s) ys h)
+
+-- ---- lengths are even
+
+two_even : (a b : Bool) → two_address_length a b % 2 ≡ 0
+two_even true b = refl
+two_even false true = refl
+two_even false false = refl
+
+operation_even : (op : GateOp) (a b : Bool) → operation_length op a b % 2 ≡ 0
+operation_even Add a b = refl
+operation_even Sub a b = refl
+operation_even And a b = two_even a b
+operation_even Or a b = two_even a b
+operation_even Shl a b = two_even a b
+operation_even Shr a b = two_even a b
+
+pub length_even : (s : Steps) → code_length s % 2 ≡ 0
+length_even End = refl
+length_even (Const to n k) = let h = length_even k in omega (arith, h)
+length_even (Copy to from k) = let h = length_even k in omega (arith, h)
+length_even (Load z to base off k) = let h = length_even k in omega (arith, h)
+length_even (Store z from base off k) = let h = length_even k in omega (arith, h)
+length_even (Alu op to a b k) = let h = length_even k in let e = operation_even op (nat_eq to a) (nat_eq to b) in omega (arith, h, e)
+length_even (ReadPsp to k) = let h = length_even k in omega (arith, h)
+length_even (WritePsp from k) = let h = length_even k in omega (arith, h)
+length_even (WriteControl from k) = let h = length_even k in omega (arith, h)
+length_even (Test c a b y n k) = let h = length_even k in let f = length_even y in let g = length_even n in omega (arith, h, f, g)
+length_even (Repeat left most body k) = let h = length_even k in let f = length_even body in omega (arith, h, f)
+length_even (Halt c k) = let h = length_even k in omega (arith, h)
+length_even (Return k) = let h = length_even k in omega (arith, h)
+length_even (Go to link k) = let h = length_even k in omega (arith, h)

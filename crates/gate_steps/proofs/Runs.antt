@@ -1,7 +1,7 @@
 -- The code of a list has its effect.
 use Rattle.std.proofs.Common.{◌≡◌, ◌≢◌, ℕ, ℤ, pos, negsuc, zero, suc, ◌+◌, ◌-◌, ◌*◌, ◌/◌, ◌%◌, ◌^◌, ◌<◌, ◌≤◌, Bool, true, false, not, ◌&&◌, List, [], ◌∷◌, length, None, nat_eq, nat_lt, nat_le, get_or, set, refl, sym, ap, ◌∙◌, subst, arith, ⊎_elim, get_or-set_same}
 use Rattle.std.proofs.lemmas.Int.{ints}
-use Rattle.std.proofs.lemmas.Bool.{cases_lt}
+use Rattle.std.proofs.lemmas.Bool.{cases_lt, ltb-true}
 use Rattle.std.proofs.lemmas.List.{set-set}
 use Rattle.std.proofs.lemmas.Bool.Decides.{nat_tests}
 use Rattle.std.specs.Prelude.{bit_and, bit_or}
@@ -62,9 +62,6 @@ forward a n h = omega (arith, ints)
 
 backward : (a n b : ℕ) → a < 2 ^ 31 → b + suc n ≡ a → moved a (negsuc n) ≡ b
 backward a n b h e = omega (arith, ints)
-
-is_below : (a b : ℕ) → nat_lt a b ≡ true → a < b
-is_below a b h = grind (arith, nat_tests)
 
 abbrev pub if_taken : Bool → ℕ → ℕ → ℕ
 if_taken true a b = a
@@ -625,13 +622,13 @@ module _ (j : PermissionTest) (i : Image) (lr : ℕ) (queues : List (List ℕ)) 
     code_has_effect (Const to n k) pc x c lo hi h g f sf =
         let p = both _ _ lo in
         ends_at (2 + ticks j i k (with_low c to n)) pc x c (effect j i k (with_low c to n)) (pc + 4 + 4 + code_length k) (pc + (8 + code_length k)) (omega arith)
-        (go_on 2 (ticks j i k (with_low c to n)) pc x c (with_low c to n) (pc + 4 + 4) (Shows (effect j i k (with_low c to n)) (pc + 4 + 4 + code_length k)) (const_run pc x c to n (is_below to 8 p.0) h.0 h.1.0 g f)
+        (go_on 2 (ticks j i k (with_low c to n)) pc x c (with_low c to n) (pc + 4 + 4) (Shows (effect j i k (with_low c to n)) (pc + 4 + 4 + code_length k)) (const_run pc x c to n (ltb-true to 8 p.0) h.0 h.1.0 g f)
         (λ y g1 f1. code_has_effect k (pc + 4 + 4) y (with_low c to n) p.1 (omega arith) h.1.1 g1 f1 sf))
     code_has_effect (Copy to from k) pc x c lo hi h g f sf =
         let p = low_parts (nat_lt to 8) (nat_lt from 8) _ lo in
         let d : Core = with_low c to (low_register c from) in
         ends_at (1 + ticks j i k d) pc x c (effect j i k d) (pc + 2 + code_length k) (pc + (2 + code_length k)) (omega arith)
-        (quiet (ticks j i k d) pc (pc + 2) x x c d (Shows (effect j i k d) (pc + 2 + code_length k)) g (move_step pc x c to from (is_below to 8 p.0) (is_below from 8 p.1) h.0 g f)
+        (quiet (ticks j i k d) pc (pc + 2) x x c d (Shows (effect j i k d) (pc + 2 + code_length k)) g (move_step pc x c to from (ltb-true to 8 p.0) (ltb-true from 8 p.1) h.0 g f)
         (λ g1 f1. code_has_effect k (pc + 2) x d p.2 (omega arith) h.1 g1 f1 sf))
     code_has_effect (Load z to base off k) pc x c lo hi h g f sf =
         let w = byte_count z in
@@ -653,24 +650,24 @@ module _ (j : PermissionTest) (i : Image) (lr : ℕ) (queues : List (List ℕ)) 
         let front = has_front j i Good pc (operation_code op to a b) (code k) h in
         let back : HasCode (pc + l) (code k) = subst (λ n. HasCode (pc + n) (code k)) (operation_has_its_length op to a b) (has_back j i Good pc (operation_code op to a b) (code k) h) in
         ends_at (4 + ticks j i k d) pc x c (effect j i k d) (pc + l + code_length k) (pc + (l + code_length k)) (omega arith)
-        (go_on 4 (ticks j i k d) pc x c d (pc + l) (Shows (effect j i k d) (pc + l + code_length k)) (alu_run op pc x c to a b (is_below to 8 q.0) (is_below a 8 q.1) (is_below b 8 q.2) front g f)
+        (go_on 4 (ticks j i k d) pc x c d (pc + l) (Shows (effect j i k d) (pc + l + code_length k)) (alu_run op pc x c to a b (ltb-true to 8 q.0) (ltb-true a 8 q.1) (ltb-true b 8 q.2) front g f)
         (λ y g1 f1. code_has_effect k (pc + l) y d p.1 (omega arith) back g1 f1 sf))
     code_has_effect (ReadPsp to k) pc x c lo hi h g f sf =
         let p = both _ _ lo in
         let d : Core = with_low c to c.other_sp in
         ends_at (ticks j i (ReadPsp to k) c) pc x c (effect j i (ReadPsp to k) c) (pc + 4 + code_length k) (pc + (4 + code_length k)) (omega arith)
         (picked (is_privileged_on_msp c) (λ c. effect j i k (with_low c to c.other_sp)) (IsSafe j i Good Allowed k d) (ticks j i k d) pc (pc + 4 + code_length k) x c refl sf
-        (λ sp s. quiet (ticks j i k d) pc (pc + 4) x x c d (Shows (effect j i k d) (pc + 4 + code_length k)) g (read_psp pc x c to (is_below to 8 p.0) sp h.0 g f) (λ g1 f1. code_has_effect k (pc + 4) x d p.1 (omega arith) h.1 g1 f1 s)))
+        (λ sp s. quiet (ticks j i k d) pc (pc + 4) x x c d (Shows (effect j i k d) (pc + 4 + code_length k)) g (read_psp pc x c to (ltb-true to 8 p.0) sp h.0 g f) (λ g1 f1. code_has_effect k (pc + 4) x d p.1 (omega arith) h.1 g1 f1 s)))
     code_has_effect (WritePsp from k) pc x c lo hi h g f sf =
         let p = both _ _ lo in
         let d : Core = record c { other_sp = low_register c from / 4 * 4 } in
         ends_at (ticks j i (WritePsp from k) c) pc x c (effect j i (WritePsp from k) c) (pc + 4 + code_length k) (pc + (4 + code_length k)) (omega arith)
         (picked (is_privileged_on_msp c) (λ c. effect j i k (record c { other_sp = low_register c from / 4 * 4 })) (IsSafe j i Good Allowed k d) (ticks j i k d) pc (pc + 4 + code_length k) x c refl sf
-        (λ sp s. quiet (ticks j i k d) pc (pc + 4) x x c d (Shows (effect j i k d) (pc + 4 + code_length k)) g (write_psp pc x c from (is_below from 8 p.0) sp h.0 g f) (λ g1 f1. code_has_effect k (pc + 4) x d p.1 (omega arith) h.1 g1 f1 s)))
+        (λ sp s. quiet (ticks j i k d) pc (pc + 4) x x c d (Shows (effect j i k d) (pc + 4 + code_length k)) g (write_psp pc x c from (ltb-true from 8 p.0) sp h.0 g f) (λ g1 f1. code_has_effect k (pc + 4) x d p.1 (omega arith) h.1 g1 f1 s)))
     code_has_effect (WriteControl from k) pc x c lo hi h g f sf =
         let p = both _ _ lo in
         ends_at (ticks j i (WriteControl from k) c) pc x c (effect j i (WriteControl from k) c) (pc + 4 + 4 + code_length k) (pc + (8 + code_length k)) (omega arith)
-        (control_run c.protection.handler (is_privileged_on_msp c) (nat_eq (low_register c from / 2 % 2) 1) (effect j i k) (λ d. IsSafe j i Good Allowed k d) (λ d. ticks j i k d) pc from (low_register c from) (pc + 4 + 4 + code_length k) x c refl refl refl refl (is_below from 8 p.0) h.0 h.1.0 g f sf
+        (control_run c.protection.handler (is_privileged_on_msp c) (nat_eq (low_register c from / 2 % 2) 1) (effect j i k) (λ d. IsSafe j i Good Allowed k d) (λ d. ticks j i k d) pc from (low_register c from) (pc + 4 + 4 + code_length k) x c refl refl refl refl (ltb-true from 8 p.0) h.0 h.1.0 g f sf
         (λ d s g1 f1. code_has_effect k (pc + 4 + 4) x d p.1 (omega arith) h.1.1 g1 f1 s))
     code_has_effect (Test t a b ys ns k) pc x c lo hi h g f sf =
         let named = both (is_low a && is_low b) ((names_low ys && names_low ns) && names_low k) lo in

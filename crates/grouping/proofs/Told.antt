@@ -11,6 +11,7 @@ use Rattle.plan_model.specs.Needs.{need_of}
 use Rattle.plan_model.specs.Facts.{callers_of, facts_of, all_facts}
 use Rattle.grouping.specs.Functions.{AreFunctions, HasCallersBelow}
 use Rattle.grouping.specs.declared.origins.Origin.{Origin}
+use Rattle.plan_model.proofs.Numbers.{all_below}
 
 abbrev pub names_of : List Origin → List (List ℕ)
 names_of os = map (λ (o : Origin). o.name.now) os
@@ -28,14 +29,8 @@ fact_read os n i o f l r e =
     e ∙ (ap (λ (m : List ℕ). let f : FuncFacts = record { index = i; name = m; file = o.file; periphs = (need_of n i).periphs; callers = callers_of n i } in f) (sym name)
     ∙ ap (λ (k : ℕ). let f : FuncFacts = record { index = i; name = get_or (names_of os) i []; file = k; periphs = (need_of n i).periphs; callers = callers_of n i } in f) (sym file))
 
-numbers_small : (n : ℕ) → All (λ k. k < n) (numbers_below n)
-numbers_small n k d l =
-    let count = length-range_with_len 0 n in
-    let e = get_or-range_with_len 0 n k d (omega arith) in
-    omega arith
-
 callers_small : (n : Needs) (f : ℕ) → All (λ h. h < length n.funcs) (callers_of n f)
-callers_small n f = All-filter (λ h. not (nat_eq h f) && has (need_of n h).callees f) (λ h. h < length n.funcs) (numbers_below (length n.funcs)) (numbers_small (length n.funcs))
+callers_small n f = All-filter (λ h. not (nat_eq h f) && has (need_of n h).callees f) (λ h. h < length n.funcs) (numbers_below (length n.funcs)) (all_below (length n.funcs))
 
 pub length_told : (names : List (List ℕ)) (files : List ℕ) (n : Needs) → length (all_facts names files n) ≡ length n.funcs
 length_told names files n = length-map (numbers_below (length n.funcs)) (facts_of names files n) ∙ length-range_with_len 0 (length n.funcs)

@@ -1,44 +1,12 @@
 -- When the code of a list has an encoding: each of its numbers is a word, and it is short enough for its branches.
-use Rattle.std.proofs.Common.{◌≡◌, ℕ, zero, suc, pos, negsuc, ◌+◌, ◌%◌, ◌^◌, ◌<◌, Bool, true, false, List, [], ◌∷◌, nat_eq, refl, arith}
+use Rattle.std.proofs.Common.{◌≡◌, ℕ, zero, suc, pos, negsuc, ◌+◌, ◌%◌, ◌^◌, ◌<◌, Bool, true, false, List, [], ◌∷◌, arith}
 use Rattle.std.proofs.lemmas.Int.{ints}
 use Rattle.thumb_model.specs.Table.{IsOffset}
-use Rattle.gate_steps.specs.declared.steps.GateOp.{GateOp}
-use Rattle.gate_steps.specs.declared.steps.GateOp.TheVariants.{Add, Sub, And, Or, Shl, Shr}
 use Rattle.gate_steps.specs.Steps.{Steps, End, Const, Copy, Load, Store, Alu, ReadPsp, WritePsp, WriteControl, Test, Repeat, Halt, Return, Go}
-use Rattle.gate_steps.specs.Code.{two_address_length, operation_length, code_length}
+use Rattle.gate_steps.specs.Code.{code_length}
 use Rattle.monitor.specs.Opening.{times, regions}
 use Rattle.monitor_laws.proofs.Encoded.{Fits}
-
--- ---- lengths are even
-
-two_even : (a b : Bool) → two_address_length a b % 2 ≡ 0
-two_even true b = refl
-two_even false true = refl
-two_even false false = refl
-
-operation_even : (op : GateOp) (a b : Bool) → operation_length op a b % 2 ≡ 0
-operation_even Add a b = refl
-operation_even Sub a b = refl
-operation_even And a b = two_even a b
-operation_even Or a b = two_even a b
-operation_even Shl a b = two_even a b
-operation_even Shr a b = two_even a b
-
-pub length_even : (s : Steps) → code_length s % 2 ≡ 0
-length_even End = refl
-length_even (Const to n k) = let h = length_even k in omega (arith, h)
-length_even (Copy to from k) = let h = length_even k in omega (arith, h)
-length_even (Load z to base off k) = let h = length_even k in omega (arith, h)
-length_even (Store z from base off k) = let h = length_even k in omega (arith, h)
-length_even (Alu op to a b k) = let h = length_even k in let e = operation_even op (nat_eq to a) (nat_eq to b) in omega (arith, h, e)
-length_even (ReadPsp to k) = let h = length_even k in omega (arith, h)
-length_even (WritePsp from k) = let h = length_even k in omega (arith, h)
-length_even (WriteControl from k) = let h = length_even k in omega (arith, h)
-length_even (Test c a b y n k) = let h = length_even k in let f = length_even y in let g = length_even n in omega (arith, h, f, g)
-length_even (Repeat left most body k) = let h = length_even k in let f = length_even body in omega (arith, h, f)
-length_even (Halt c k) = let h = length_even k in omega (arith, h)
-length_even (Return k) = let h = length_even k in omega (arith, h)
-length_even (Go to link k) = let h = length_even k in omega (arith, h)
+use Rattle.gate_steps.proofs.CodeParts.{length_even}
 
 -- ---- branches reach
 

@@ -9,10 +9,7 @@ use Rattle.plan_model.specs.RamBlocks.{RamBlock, holds_globals}
 use Rattle.plan_model.specs.RamPlacement.{Tail, Ram, PlacedBlock, no_tail, tail_of, fits, tail_for, spot_at, with_block, with_block_by, with_block_in, with_block_behind}
 use Rattle.layout.proofs.Searches.{position_is}
 use Rattle.layout_laws.proofs.Hits.{hit, hit_once, hit_below, hit_above, hit_joined, hit_later, tails_hit, tails_joined, tails_set, held, block_hit}
-
--- the next multiple is not less
-pub not_less : (n a : ℕ) → 0 < a → n ≤ rounded_up n a
-not_less n a p = omega arith
+use Rattle.ir_model.proofs.Counting.{rounded_at_least}
 
 -- a block at its base
 pub record Entry : Type 0 where
@@ -95,7 +92,7 @@ module _ (ram : ℕ) (m : Ram) (es : List Entry) (fair : Fair ram m es) (b : Ram
     in_entries = es ++ record { base = in_base; block = b } ∷ []
 
     above : tail.from ≤ in_base
-    above = not_less tail.from b.size some
+    above = rounded_at_least tail.from b.size some
 
     ends : in_base + b.size ≤ tail.to
     ends = leb-true (in_base + b.size) tail.to room

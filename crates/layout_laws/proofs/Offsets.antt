@@ -9,7 +9,7 @@ use Rattle.plan_model.specs.Lists.{has}
 use Rattle.plan_model.specs.Regions.{global_size}
 use Rattle.plan_model.specs.Blocks.{aligned, offsets_from, end_from, offset_in_region, region_bytes}
 use Rattle.layout_laws.specs.GlobalLaws.{HasAlignments, AreLaid, GlobalsAreLaid}
-use Rattle.layout_laws.proofs.Filling.{not_less}
+use Rattle.ir_model.proofs.Counting.{rounded_at_least}
 
 module _ (p : Program) (there : HasAlignments p) where
   -- the offset of a global in a list that begins at an offset
@@ -32,7 +32,7 @@ module _ (p : Program) (there : HasAlignments p) where
   has_later y x ys e h = sym (ap (λ c. c || has ys x) e) ∙ h
 
   up : (at y : ℕ) → at ≤ aligned p y at
-  up at y = not_less at (global_at p y).shape.align (there y)
+  up at y = rounded_at_least at (global_at p y).shape.align (there y)
 
   grows : (at : ℕ) (xs : List ℕ) → at ≤ end_from p at xs
   grows at [] = omega arith

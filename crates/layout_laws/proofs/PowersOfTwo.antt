@@ -2,8 +2,6 @@
 use Rattle.std.proofs.Common.{◌≡◌, ℕ, zero, suc, ◌+◌, ◌-◌, ◌*◌, ◌^◌, ◌<◌, ◌≤◌, ◌⊎◌, inl, inr, Bool, true, false, cond, List, [], ◌∷◌, length, get_or, take, map, max, Some, nat_le, refl, sym, ap, subst, ◌∙◌, arith}
 use Rattle.std.specs.List.{fold, range_with_len}
 use Rattle.std.specs.Prelude.{find, unwrap_or}
-use Rattle.std.proofs.Math.Pow.{pow_mono}
-use Rattle.std.proofs.Math.Nat.{pow-suc}
 use Rattle.std.proofs.lemmas.Nat.{pow-add}
 use Rattle.std.proofs.lemmas.Bool.{cases_lt}
 use mathlib.Core.Logic.{⊎_elim}
@@ -12,6 +10,7 @@ use Rattle.plan_model.specs.Choices.{greatest}
 use Rattle.plan_model.specs.Covers.{least_power}
 use Rattle.plan_model.specs.Blocks.{block}
 use Rattle.plan_model.specs.FlashPlacement.{flash_blocks, code_blocks, tables_block}
+use Rattle.common_laws.proofs.Powers.{smaller_exponent}
 
 pub record IsPower (x : ℕ) : Type 0 where
   pub exponent : ℕ
@@ -78,12 +77,6 @@ flash_powers s = (tables_are_power s, codes_are_powers s.code)
 
 -- ---- the lesser of two powers divides the other
 
-exponents : (a b : ℕ) → 2 ^ a ≤ 2 ^ b → a ≤ b
-exponents a b l = ⊎_elim (λ lt. absurd (wrong lt)) (λ le. le) (cases_lt b a)
-  where
-    wrong : b < a → ⊥
-    wrong lt = let twice = pow-suc 2 b in let le = pow_mono {i = suc b} {j = a} lt in let one = pow_mono {i = 0} {j = b} (omega arith) in omega arith
-
 pub quotient : (x y : ℕ) → IsPower x → IsPower y → x ≤ y → (q : ℕ) × (y ≡ q * x)
 quotient x y p q l =
     let a = p.exponent in
@@ -91,6 +84,6 @@ quotient x y p q l =
     let e = p.is in
     let f = q.is in
     let small : 2 ^ a ≤ 2 ^ b = subst (λ n. n ≤ 2 ^ b) e (subst (λ n. x ≤ n) f l) in
-    let le = exponents a b small in
+    let le = smaller_exponent a b small in
     let joined : b ≡ b - a + a = omega arith in
     (2 ^ (b - a), f ∙ (ap (λ n. 2 ^ n) joined ∙ (pow-add 2 (b - a) a ∙ ap (λ n. 2 ^ (b - a) * n) (sym e))))

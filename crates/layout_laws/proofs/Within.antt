@@ -9,10 +9,11 @@ use Rattle.plan_model.specs.RamBlocks.{RamUse, RamBlock, holds_globals, same_use
 use Rattle.plan_model.specs.RamPlacement.{Tail, Ram, PlacedBlock, no_tail, tail_of, fits, tail_for, spot_at, with_block, with_block_by, with_block_in, with_block_behind}
 use Rattle.plan_model.specs.Placement.{no_spot}
 use Rattle.layout.proofs.Searches.{position_is}
-use Rattle.layout_laws.proofs.Filling.{ArePositive, not_less}
+use Rattle.layout_laws.proofs.Filling.{ArePositive}
 use Rattle.layout_laws.proofs.Hits.{has_tail}
 use Rattle.layout_laws.proofs.Multiples.{IsMultiple, both, none}
 use Rattle.layout_laws.proofs.PowersOfTwo.{IsPower, quotient}
+use Rattle.ir_model.proofs.Counting.{rounded_at_least}
 
 -- each item of a list
 abbrev pub All : {X : Type 0} → (X → Type 0) → List X → Type 0
@@ -90,7 +91,7 @@ module _ (ram : ℕ) (m : Ram) (old : Within ram m) (b : RamBlock) (power : IsPo
       let place = all_at (IsTailIn ram (ram + m.used)) m.tails k no_tail old.tails there in
       let from = place.from in
       let to = place.to in
-      let above = not_less t.from b.size some in
+      let above = rounded_at_least t.from b.size some in
       let ends = leb-true (base + b.size) t.to room in
       let low : ram ≤ base = omega arith in
       let most : base + b.size ≤ ram + m.used = omega arith in

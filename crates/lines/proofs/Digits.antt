@@ -1,10 +1,7 @@
 -- The decimal digits of numbers below 2^64, behind other bytes.
 use Rattle.std.proofs.Common.{◌≡◌, ℕ, ◌+◌, ◌/◌, ◌%◌, ◌<◌, ◌≤◌, ◌^◌, List, [], ◌∷◌, ◌++◌, length, arith, ap, ◌∙◌, length-append, append_assoc}
 use Rattle.std.specs.Fmt.{decimal}
-use Rattle.std.proofs.lemmas.Fmt.{decimal_digit, decimal_step, length-decimal-le}
-
-pub decimal_one : (n : ℕ) → n < 10 → decimal n ≡ (48 + n) ∷ []
-decimal_one n h = decimal_digit n h
+use Rattle.std.proofs.lemmas.Fmt.{decimal_step, length-decimal-le}
 
 pub decimal_length : (n : ℕ) → 10 ≤ n → n < 2 ^ 64 → length (decimal n) ≡ length (decimal (n / 10)) + 1
 decimal_length n h k = ap length (decimal_step n h k) ∙ length-append (decimal (n / 10)) ((48 + n % 10) ∷ [])

@@ -125,7 +125,7 @@ impl Line {
     }
 
     /// Puts the decimal digits of a number behind the bytes that are there.
-    #[tactic(auto, using(crate::proofs::Digits::decimal_one, crate::proofs::Digits::decimal_length))]
+    #[tactic(auto, using(std::proofs::lemmas::Fmt::decimal_digit, crate::proofs::Digits::decimal_length))]
     fn append_digits(&mut self, number: u64)
         requires { length self.old + length (decimal number) ≤ 136 }
         ensures { self.new ≡ self.old ++ decimal number }

@@ -35,6 +35,7 @@ use Rattle.linked_examples.specs.TwoCompartments.{program, needs, groups, places
 use Rattle.linked_examples.proofs.InTable.{pieces_in_table}
 use Rattle.mem_bus.proofs.Ranges.{outside_behind as below_range, inside_yes as in_range}
 use Rattle.common_laws.proofs.Lists.{only_one as only}
+use Rattle.object_sets.proofs.Parts.{in_none}
 
 -- ---- the image
 
@@ -170,9 +171,6 @@ each_grouped zero h = omega arith
 each_grouped (suc zero) h = omega arith
 each_grouped (suc (suc f)) h = absurd (omega arith)
 
-none_in : {X : Type 0} (y : X) → Contains [] y → ⊥
-none_in y (k, l, e) = omega arith
-
 call_site : SiteNeed
 call_site = record { func = 0; block = 0; inst = 1; targets = 1 ∷ [] }
 
@@ -219,14 +217,14 @@ global_read (suc zero) x h i = refl
 global_read (suc (suc f)) x h i = absurd (omega arith)
 
 no_global_written : (f x : ℕ) → f < 2 → IsListed (need_of needs f).written (GlobalObject x) → ⊥
-no_global_written zero x h (o, c, e) = none_in o c
+no_global_written zero x h (o, c, e) = in_none o c
 no_global_written (suc zero) x h (o, (zero, l, q), e) = let z : PeriphObject 0 ≡ GlobalObject x = ap object_by q ∙ e in cc
 no_global_written (suc zero) x h (o, (suc zero, l, q), e) = let z : LocalObject 0 0 ≡ GlobalObject x = ap object_by q ∙ e in cc
 no_global_written (suc zero) x h (o, (suc (suc k), l, q), e) = omega arith
 no_global_written (suc (suc f)) x h i = omega arith
 
 periph_written : (f q : ℕ) → f < 2 → IsListed (need_of needs f).written (PeriphObject q) → 1 ≡ f
-periph_written zero q h (o, c, e) = absurd (none_in o c)
+periph_written zero q h (o, c, e) = absurd (in_none o c)
 periph_written (suc zero) q h i = refl
 periph_written (suc (suc f)) q h i = absurd (omega arith)
 
@@ -236,7 +234,7 @@ no_periph_read (suc zero) q h (o, c, e) = let z : GlobalObject 0 ≡ PeriphObjec
 no_periph_read (suc (suc f)) q h i = omega arith
 
 local_written : (f h l : ℕ) → f < 2 → IsListed (need_of needs f).written (LocalObject h l) → (1 ≡ f) × (0 ≡ h) × (0 ≡ l)
-local_written zero h l u (o, c, e) = absurd (none_in o c)
+local_written zero h l u (o, c, e) = absurd (in_none o c)
 local_written (suc zero) h l u (o, (zero, m, q), e) = let z : PeriphObject 0 ≡ LocalObject h l = ap object_by q ∙ e in cc
 local_written (suc zero) h l u (o, (suc zero, m, q), e) = let z : LocalObject 0 0 ≡ LocalObject h l = ap object_by q ∙ e in (refl, cc, cc)
 local_written (suc zero) h l u (o, (suc (suc k), m, q), e) = absurd (omega arith)

@@ -1,16 +1,14 @@
 -- The words that start-up fills a block with stand in its open eighths.
 use Rattle.std.proofs.Common.{◌≡◌, ℕ, zero, suc, ◌+◌, ◌-◌, ◌*◌, ◌/◌, ◌%◌, ◌^◌, ◌<◌, ◌≤◌, Bool, true, false, ◌&&◌, cond, nat_lt, refl, sym, ap, ◌∙◌, subst, pow_pos, arith}
 use Rattle.std.proofs.lemmas.Nat.{pow-add}
-use Rattle.std.proofs.lemmas.Bool.{cases_lt}
-use Rattle.std.proofs.Math.Pow.{pow_mono}
-use mathlib.Core.Logic.{⊎_elim}
+use Rattle.std.proofs.lemmas.Bool.{leb-true}
 use Rattle.ir_model.specs.Layout.{rounded_up}
 use Rattle.plan_model.specs.Covers.{least_power}
 use Rattle.plan_model.specs.Blocks.{block, has_eighths, open_eighths}
 use Rattle.layout_laws.specs.RamLaws.{open_bytes}
-use Rattle.monitor_laws.proofs.Checked.{le_is}
 use Rattle.linked_images.proofs.Powers.{block_is}
 use Rattle.common_laws.proofs.Tests.{both_true as both}
+use Rattle.common_laws.proofs.Powers.{smaller_exponent}
 
 split : (a z : ℕ) → 0 < z → (a ≡ a / z * z + a % z) × (a % z < z)
 split a z h = (grind (arith, h), grind (arith, h))
@@ -22,13 +20,6 @@ enough n d h = let s = split (n + (d - 1)) d h in let e = s.0 in let l = s.1 in 
 -- a power of two from 2 ^ a on is a multiple of that
 pub multiple : (a k : ℕ) → a ≤ k → 2 ^ k ≡ 2 ^ a * 2 ^ (k - a)
 multiple a k le = let e : k ≡ a + (k - a) = omega (arith, le) in ap (λ n. 2 ^ n) e ∙ pow-add 2 a (k - a)
-
--- an exponent is no smaller where the power is
-pub exponent : (a k : ℕ) → 2 ^ a ≤ 2 ^ k → a ≤ k
-exponent a k h = ⊎_elim (λ lt. absurd (wrong lt)) (λ le. le) (cases_lt k a)
-  where
-    wrong : k < a → ⊥
-    wrong lt = let m = pow_mono {i = k + 1} {j = a} (omega (arith, lt)) in let d = pow-add 2 k 1 in let q = pow_pos k in omega (arith, m, d, h, q)
 
 rounded : (n m : ℕ) → n ≤ 4 * m → 4 * (rounded_up n 4 / 4) ≤ 4 * m
 rounded n m h = omega (arith, h)
@@ -64,8 +55,8 @@ words_held n small = by (has_eighths (block n) && nat_lt (open_eighths (block n)
         let is = block_is n small in
         let k = is.0.0 in
         let e = is.0.3 in
-        let large = le_is 256 (block n) (both (has_eighths (block n)) (nat_lt (open_eighths (block n) n) 8) h).0 in
-        let le = exponent 8 k (omega (arith, large, e)) in
+        let large = leb-true 256 (block n) (both (has_eighths (block n)) (nat_lt (open_eighths (block n) n) 8) h).0 in
+        let le = smaller_exponent 8 k (omega (arith, large, e)) in
         let m = multiple 8 k le in
         let q = pow_pos (k - 8) in
         let o = open_eighths (block n) n in

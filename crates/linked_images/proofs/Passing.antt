@@ -1,5 +1,5 @@
 -- Checks that do not fail.
-use Rattle.std.proofs.Common.{◌≡◌, ◌≢◌, ℕ, ◌+◌, ◌<◌, ◌≤◌, inl, inr, Bool, true, false, not, ◌&&◌, ◌||◌, List, [], ◌∷◌, nat_eq, nat_lt, nat_le, Option, Some, None, refl, arith}
+use Rattle.std.proofs.Common.{◌≡◌, ◌≢◌, ℕ, ◌+◌, ◌<◌, ◌≤◌, inl, inr, Bool, true, false, not, ◌&&◌, List, [], ◌∷◌, nat_eq, nat_lt, nat_le, Option, Some, None, refl, arith}
 use Rattle.std.proofs.lemmas.Bool.Decides.{nat_tests}
 use Rattle.common_laws.specs.Lists.{Each}
 use Rattle.device_model.specs.declared.image.Image.{Image}
@@ -14,14 +14,6 @@ pub and_yes : {a b : Bool} → a ≡ true → b ≡ true → (a && b) ≡ true
 and_yes {a = true} {b = true} g h = refl
 and_yes {a = true} {b = false} g h = h
 and_yes {a = false} g h = g
-
-pub or_left : (a b : Bool) → a ≡ true → (a || b) ≡ true
-or_left true b h = refl
-or_left false b h = cc
-
-pub or_right : (a b : Bool) → b ≡ true → (a || b) ≡ true
-or_right true b h = refl
-or_right false b h = h
 
 pub le_yes : {a b : ℕ} → a ≤ b → nat_le a b ≡ true
 le_yes {a = a} {b = b} h = grind (arith, nat_tests, h)

@@ -2,7 +2,7 @@
 use Rattle.std.proofs.Common.{◌≡◌, ℕ, zero, suc, ◌+◌, ◌^◌, ◌<◌, ◌≤◌, ◌⊎◌, inl, inr, Bool, true, false, cond, map, Some, nat_le, refl, pow_pos, lit<, arith}
 use Rattle.std.specs.List.{range_with_len}
 use Rattle.std.specs.Prelude.{find, unwrap_or}
-use Rattle.monitor_laws.proofs.Checked.{le_is}
+use Rattle.std.proofs.lemmas.Bool.{leb-true}
 use Rattle.windows.specs.Ranges.{IsPowerBetween}
 use Rattle.plan_model.specs.Covers.{powers_of_two, least_power}
 use Rattle.plan_model.specs.Blocks.{block}
@@ -30,7 +30,7 @@ unfolding block least_power
 block_is n small = go (found (nat_le n) 5 28 (lit< tt))
   where
     go : Found (nat_le n) 5 (unwrap_or (find (nat_le n) powers_of_two) (2 ^ 32)) → IsPowerBetween 5 32 (unwrap_or (find (nat_le n) powers_of_two) (2 ^ 32)) × (n ≤ unwrap_or (find (nat_le n) powers_of_two) (2 ^ 32))
-    go (inl h) = (h.0, le_is n (unwrap_or (find (nat_le n) powers_of_two) (2 ^ 32)) h.1)
+    go (inl h) = (h.0, leb-true n (unwrap_or (find (nat_le n) powers_of_two) (2 ^ 32)) h.1)
     go (inr e) = absurd (omega (arith, small, e))
 
 -- no block is empty

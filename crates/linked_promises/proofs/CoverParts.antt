@@ -5,8 +5,8 @@ use Rattle.std.specs.List.{range_with_len, best_of}
 use Rattle.std.proofs.lemmas.Bool.{cases_lt, cases_eq}
 use mathlib.Core.Logic.{⊎_elim}
 use Rattle.std.proofs.lemmas.Option.{same_Some, none-some}
-use Rattle.std.proofs.lemmas.Nat.{div-add-mod', mod_below, div_below, pow-add}
-use Rattle.std.proofs.Math.Nat.{mul-mod_left, pow-suc}
+use Rattle.std.proofs.lemmas.Nat.{div-add-mod', mod_below, div_below, pow-add, pow_pos}
+use Rattle.std.proofs.Math.Nat.{mul-mod_left}
 use Rattle.std.proofs.lemmas.List.{get_or-set_same, get_or-set_other, get_or_past, length-set}
 use Rattle.ir_model.specs.Resolved.{Program}
 use Rattle.thread_runs.specs.Areas as areas
@@ -19,6 +19,7 @@ use Rattle.plan_model.specs.FinalGraph.{Merges, stays, joins}
 use Rattle.plan_model.specs.Merging.{covers_at, cover_cost, cover_pair, with_joined_cover, next}
 use Rattle.linked_promises.proofs.Kept.{by_next}
 use Rattle.common_laws.proofs.Tests.{true_both as both}
+use Rattle.linked_promises.proofs.Products.{times}
 
 pub record IsPart (d : Cover) : Type 0 where
   pub power : ℕ
@@ -54,13 +55,6 @@ found test (suc n) a m l h t = by (test (2 ^ a)) refl (cases_lt a m) (λ lt. fou
 
 -- ---- a join
 
-positive : (k : ℕ) → 0 < 2 ^ k
-positive zero = lit< tt
-positive (suc k) = let twice = pow-suc 2 k in omega (arith, twice, positive k)
-
-times : (a b n : ℕ) → a ≤ b → a * n ≤ b * n
-times a b n l = grind arith
-
 third : (n : ℕ) → 0x40000000 ≤ n → n < 0x60000000 → n / 0x20000000 ≡ 2
 third n l h = let e = div-add-mod' n 0x20000000 in let m = mod_below n 0x20000000 (lit< tt) in omega (arith, e, m)
 
@@ -81,8 +75,8 @@ join_found : (c d : Cover) → IsPart c → IsPart d → IsFound (λ n. nat_eq (
 join_found c d one two =
     let lo : ℕ = lowest c d in
     let hi : ℕ = highest c d in
-    let some_c = positive one.power in
-    let some_d = positive two.power in
+    let some_c = pow_pos one.power in
+    let some_d = pow_pos two.power in
     let cs = one.size in
     let ds = two.size in
     let cf = one.from in
@@ -101,8 +95,8 @@ pub joined_part : (c d : Cover) → IsPart c → IsPart d → IsPart (joined c d
 unfolding joined least_power
 joined_part c d one two =
     let lo : ℕ = lowest c d in
-    let some_c = positive one.power in
-    let some_d = positive two.power in
+    let some_c = pow_pos one.power in
+    let some_d = pow_pos two.power in
     let cs = one.size in
     let ds = two.size in
     let cf = one.from in
@@ -114,7 +108,7 @@ joined_part c d one two =
     let f = join_found c d one two in
     let n : ℕ = 2 ^ f.power in
     let size : joined_size c d ≡ n = ap (λ o. unwrap_or o (2 ^ 32)) f.is in
-    let pos = positive f.power in
+    let pos = pow_pos f.power in
     let to = f.to in
     let split : 2 ^ (29 - f.power) * n ≡ 0x20000000 = sym (pow-add 2 (29 - f.power) f.power) ∙ ap (λ k. 2 ^ k) (let e : 29 - f.power + f.power ≡ 29 = omega (arith, to) in e) in
     let two_of : 2 * 2 ^ (29 - f.power) * n ≡ 0x40000000 = grind (arith, split) in
@@ -139,7 +133,7 @@ joined_holds c d one two =
     let hi : ℕ = highest c d in
     let f = join_found c d one two in
     let n : ℕ = 2 ^ f.power in
-    let pos = positive f.power in
+    let pos = pow_pos f.power in
     let size : joined_size c d ≡ n = ap (λ o. unwrap_or o (2 ^ 32)) f.is in
     let base : lo / joined_size c d * joined_size c d ≡ lo / n * n = ap (λ k. lo / k * k) size in
     let same : lo / n ≡ hi / n = eqb-true (lo / n) (hi / n) f.passes in

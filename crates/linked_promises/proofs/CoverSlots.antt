@@ -1,6 +1,6 @@
 -- The slots of covers pass: each cover of the final graph is an aligned power of two of addresses of peripherals.
 use Rattle.std.proofs.Common.{◌≡◌, ℕ, ◌+◌, ◌<◌, ◌≤◌, ◌%◌, true, ◌||◌, [], length, map, filter, get_or, nat_lt, ap, ap₂, sym, ◌∙◌, subst, lit<, arith}
-use Rattle.std.proofs.lemmas.Bool.{cases_lt}
+use Rattle.std.proofs.lemmas.Bool.{cases_lt, or_right}
 use Rattle.std.proofs.lemmas.List.{get_or_past}
 use Rattle.std.proofs.lemmas.List.FromFn.{get_or-map-range_with_len, length-map-range_with_len}
 use mathlib.Core.Logic.{⊎_elim}
@@ -22,7 +22,7 @@ use Rattle.plan_model.specs.FinalGraph.{IsFinal}
 use Rattle.plan_model.specs.Slots.{cover_slot}
 use Rattle.monitor.specs.declared.tables.Tables.{Tables}
 use Rattle.monitor.specs.RegionChecks.{is_free, is_data, is_read_only, is_cover, is_slot}
-use Rattle.linked_images.proofs.Passing.{and_yes, or_right, inside_yes}
+use Rattle.linked_images.proofs.Passing.{and_yes, inside_yes}
 use Rattle.linked_promises.proofs.CoverParts.{IsPart, AreParts, joined_part, covers_all, each_in_order, each_map}
 use Rattle.linked_promises.proofs.Bearing.{use_region}
 use Rattle.linked_promises.proofs.Forms.{is_made}

@@ -19,6 +19,7 @@ use Rattle.linked_promises.proofs.Covers.{inside_through}
 use Rattle.linked_promises.proofs.CoverParts.{IsPart, joined_part, joined_holds}
 use Rattle.linked_promises.proofs.CoverSlots.{window_part, final_covers}
 use Rattle.common_laws.proofs.Tests.{both_true as and_parts, true_both as both}
+use Rattle.linked_promises.proofs.Products.{times}
 
 -- ---- a range inside another
 
@@ -29,9 +30,6 @@ inside_parts : (x d : Cover) → is_inside x d ≡ true → (d.base ≤ x.base) 
 inside_parts x d e =
     let h = and_parts (nat_le d.base x.base) (nat_le (end_of x) (end_of d)) e in
     (leb-true d.base x.base h.0, leb-true (end_of x) (end_of d) h.1)
-
-times : (a b n : ℕ) → a ≤ b → a * n ≤ b * n
-times a b n l = grind (arith, l)
 
 -- of two aligned powers of two with an address in common the smaller one lies in the other
 nested : (x d : Cover) (one : IsPart x) (two : IsPart d) → one.power ≤ two.power → (z : ℕ) → IsOf x z → IsOf d z → is_inside x d ≡ true

@@ -1,7 +1,7 @@
 -- What a compartment's covers hold, they hold after joins too; and each of them is an aligned power of two of peripherals.
 use Rattle.std.proofs.Common.{◌≡◌, ℕ, ◌<◌, Bool, true, false, not, ◌&&◌, ◌||◌, List, [], ◌∷◌, length, filter, get_or, set, cond, Some, nat_lt, nat_le, refl, ap, sym, ◌∙◌, subst, arith}
 use Rattle.std.specs.List.{list_any}
-use Rattle.std.proofs.lemmas.Bool.{leb-true, le-leb, cases_lt, cases_eq}
+use Rattle.std.proofs.lemmas.Bool.{leb-true, le-leb, cases_lt, cases_eq, or_left, or_right}
 use mathlib.Core.Logic.{⊎_elim}
 use Rattle.std.proofs.lemmas.List.{get_or-set_same, get_or-set_other, get_or_past}
 use Rattle.plan_model.specs.declared.graph.Cover.{Cover}
@@ -42,14 +42,6 @@ inside_through x c d e f =
     both (nat_le d.base x.base) (nat_le (end_of x) (end_of d)) (le-leb d.base x.base (omega (arith, one, three))) (le-leb (end_of x) (end_of d) (omega (arith, two, four)))
 
 -- ---- one join
-
-or_right : (a b : Bool) → b ≡ true → (a || b) ≡ true
-or_right true b e = refl
-or_right false b e = e
-
-or_left : (a b : Bool) → a ≡ true → (a || b) ≡ true
-or_left true b e = refl
-or_left false b e = absurd (let f : false ≡ true = e in cc)
 
 still_inside : (x d : Cover) (cs : List Cover) → list_any (is_inside x) cs ≡ true → (is_inside x d || list_any (λ c. not (is_inside c d) && is_inside x c) cs) ≡ true
 still_inside x d [] e = absurd (let f : false ≡ true = e in cc)

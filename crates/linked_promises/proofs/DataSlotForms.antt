@@ -1,8 +1,8 @@
 -- The slot of a block of data passes where what its open eighths hold is data alone.
-use Rattle.std.proofs.Common.{◌≡◌, ℕ, zero, suc, ◌+◌, ◌*◌, ◌/◌, ◌%◌, ◌^◌, ◌<◌, ◌≤◌, Bool, true, false, ◌&&◌, ◌||◌, cond, nat_eq, nat_lt, nat_le, refl, ap, ap₂, sym, ◌∙◌, subst, pow_pos, lit<, arith}
+use Rattle.std.proofs.Common.{◌≡◌, ℕ, zero, suc, ◌+◌, ◌*◌, ◌/◌, ◌%◌, ◌^◌, ◌<◌, ◌≤◌, Bool, true, false, ◌&&◌, ◌||◌, cond, nat_eq, nat_lt, nat_le, refl, ap, ap₂, sym, ◌∙◌, subst, lit<, arith}
 use Rattle.std.specs.Int.{bit_at}
 use Rattle.std.proofs.Math.Pow.{pow_mono}
-use Rattle.std.proofs.lemmas.Bool.{cases_lt}
+use Rattle.std.proofs.lemmas.Bool.{cases_lt, or_left, or_right}
 use Rattle.std.proofs.lemmas.Bool.Decides.{nat_tests}
 use Rattle.std.proofs.lemmas.Nat.Bits.{bit_at_mask_inside}
 use mathlib.Core.Logic.{⊎_elim}
@@ -18,18 +18,14 @@ use Rattle.monitor.specs.declared.tables.Tables.{Tables}
 use Rattle.monitor.specs.RegionChecks.{is_data_range, base_of, size_of, taken_out, has_form, eighths_hold_data, holds_data, is_free, is_data, is_read_only, is_cover, is_slot}
 use Rattle.plan_model.specs.Blocks.{has_eighths, open_eighths, subregions_out}
 use Rattle.layout_laws.specs.RamLaws.{open_bytes}
-use Rattle.linked_images.proofs.Passing.{and_yes, or_left, or_right, le_yes, lt_yes, eq_yes}
+use Rattle.mpu_model.proofs.Configured.{closed_byte}
+use Rattle.linked_images.proofs.Passing.{and_yes, le_yes, lt_yes, eq_yes}
 use Rattle.linked_promises.proofs.Forms.{IsMade, is_made}
+use Rattle.linked_promises.proofs.Products.{times}
 
 -- the ranges of a block that are data: those that its open eighths hold
 abbrev pub HoldsData : Image → Tables → (base size bytes : ℕ) → Type 0
 HoldsData i t base size bytes = (a m : ℕ) → base ≤ a → a + m ≤ base + open_bytes size bytes → a + m ≤ base + size → is_data_range i t a m ≡ true
-
-closed_byte : (n : ℕ) → closed_from n < 2 ^ 8
-closed_byte n = let p = pow_pos n in omega (arith, p)
-
-times : (a b n : ℕ) → a ≤ b → a * n ≤ b * n
-times a b n l = grind (arith, l)
 
 module _ (i : Image) (t : Tables) (number base size bytes : ℕ) (rights : Rights) (few : number < 16) (power : IsPowerBetween 5 31 size) (aligned : base % size ≡ 0) (kept : HoldsData i t base size bytes) where
   abbrev g : Region

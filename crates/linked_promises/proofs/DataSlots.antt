@@ -33,10 +33,11 @@ use Rattle.plan_model.specs.Slots.{SlotUse, data_rights, data_slot, cover_slot}
 use Rattle.layout_laws.specs.RamLaws.{Holds, open_bytes}
 use Rattle.linked_images.specs.Planned.{IsPlanned, plan, planned_sizes}
 use Rattle.linked_images.proofs.Powers.{block_is}
-use Rattle.linked_images.proofs.OpenBytes.{multiple, exponent}
+use Rattle.linked_images.proofs.OpenBytes.{multiple}
 use Rattle.linked_images.proofs.Ranges.{IsUse, block_size_is, block_in, small}
 use Rattle.linked_promises.proofs.Bearing.{use_region, Bears, Lets, Harmless, Borne, here, there, Written, this, behind}
 use Rattle.linked_promises.proofs.GlobalPlaces.{GlobalLaws}
+use Rattle.common_laws.proofs.Powers.{smaller_exponent}
 
 -- ---- the open eighths of a block
 
@@ -44,7 +45,7 @@ use Rattle.linked_promises.proofs.GlobalPlaces.{GlobalLaws}
 few_open : (size bytes k : ℕ) → size ≡ 2 ^ k → 256 ≤ size → bytes ≤ size → open_eighths size bytes ≤ 8
 unfolding open_eighths
 few_open size bytes k e large room =
-    let eight = exponent 8 k (omega (arith, e, large)) in
+    let eight = smaller_exponent 8 k (omega (arith, e, large)) in
     let m = multiple 8 k eight in
     let q = pow_pos (k - 8) in
     let whole : size ≡ 8 * (size / 8) = omega (arith, e, m) in
@@ -74,7 +75,7 @@ module _ (held : RegionsHoldTheirBlocks) (opened : OpenEighthsAreHeld) (rights :
       let least = ltb-false count 8 e in
       let eight : count ≡ 8 = omega (arith, at_most, least) in
       let exact = power.1 in
-      let split = multiple 8 power.0 (exponent 8 power.0 (omega (arith, large, exact))) in
+      let split = multiple 8 power.0 (smaller_exponent 8 power.0 (omega (arith, large, exact))) in
       let same : count * (size / 8) ≡ size = ap (λ x. x * (size / 8)) eight ∙ (let s : 8 * (size / 8) ≡ size = omega (arith, exact, split) in s) in
       (λ t. let i = h.0 t in let high = i.1 in (i.0, omega (arith, high, same)), λ i. let high = i.1 in h.1 (i.0, omega (arith, high, same)))
 

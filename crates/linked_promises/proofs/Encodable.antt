@@ -1,5 +1,5 @@
 -- Pieces of an assembly that have an encoding: their instructions are in the table, and their branches go wherever code of flash goes.
-use Rattle.std.proofs.Common.{◌≡◌, ℕ, ◌+◌, ◌/◌, ◌%◌, ◌^◌, ◌<◌, true, List, [], ◌∷◌, ◌++◌, Option, None, refl, sym, ◌∙◌, subst, arith}
+use Rattle.std.proofs.Common.{◌≡◌, ℕ, ◌+◌, ◌/◌, ◌%◌, ◌^◌, ◌<◌, true, List, [], ◌∷◌, ◌++◌, Option, None, sym, ◌∙◌, subst, arith}
 use Rattle.std.proofs.lemmas.Bool.Decides.{nat_tests}
 use Rattle.std.proofs.lemmas.Int.{ints}
 use Rattle.thumb_model.specs.declared.table.Instr.{Instr}
@@ -13,12 +13,12 @@ use Rattle.thumb_asm.specs.declared.item.Item.TheVariants.{Plain, Branch, Half, 
 use Rattle.thumb_asm.specs.Assembly.{branch_size, size_of, total, place_of}
 use Rattle.thumb_asm.specs.Finished.{distance, branch, reach, is_near, first_far, bytes_from}
 use Rattle.armv7m.specs.Code.{size}
-use Rattle.armv7m.proofs.CodeParts.{width-encode, code_size-even}
+use Rattle.armv7m.proofs.CodeParts.{width-encode}
 use Rattle.code_model.specs.Words.{plain}
 use Rattle.code_effects.specs.Items.{InstructionsInTable}
 use Rattle.linked_promises.proofs.ByteLists.{EachBelow, below-append, half_below, encoded_below}
 use Rattle.thumb_asm.proofs.Items.{branch_even}
-use Rattle.thumb_asm.proofs.Reaching.{near_first}
+use Rattle.thumb_asm.proofs.Reaching.{near_first, size_even}
 
 abbrev IsLong : BranchKind → Type 0
 IsLong Long = Unit {0}
@@ -44,16 +44,6 @@ plain_encodable (x ∷ xs) h = (h.0, plain_encodable xs h.1)
 
 -- ---- sizes
 
-item_even : (x : Item) → size_of x % 2 ≡ 0
-item_even (Plain x) = omega (arith, width-encode x, code_size-even (x ∷ []))
-item_even (Branch kind to) = branch_even kind
-item_even (Half h) = refl
-item_even (Word w) = refl
-
-pub total_even : (xs : List Item) → total xs % 2 ≡ 0
-total_even [] = refl
-total_even (x ∷ xs) = omega (arith, item_even x, total_even xs)
-
 -- ---- branches
 
 -- from and to addresses in a MiB
@@ -76,7 +66,7 @@ module _ (labels : List (Option ℕ)) (even : LeadEven labels) where
   in_table [] at h e room far = tt
   in_table (Plain x ∷ xs) at h e room far =
       let w = width-encode x in
-      let v = item_even (Plain x) in
+      let v = size_even (Plain x) in
       let z : at + size_of (Plain x) ≡ at + size x = omega (arith, w) in
       (h.0, subst (λ n. InstructionsInTable labels n xs) z (in_table xs (at + size_of (Plain x)) h.1 (omega (arith, e, v)) (omega (arith, room)) far))
   in_table (Branch kind to ∷ xs) at h e room far =

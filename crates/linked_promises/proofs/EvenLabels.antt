@@ -7,7 +7,8 @@ use Rattle.code_model.specs.Templates.{entry_items, inst_items, term_items}
 use Rattle.code_model.specs.Sizes.{entry_size, insts_size, block_size, blocks_size, function_size}
 use Rattle.code_model.specs.FunctionCode.{lent, blocks_labels, function_labels}
 use Rattle.code_model.specs.Laws.{SizesHold}
-use Rattle.linked_promises.proofs.Encodable.{LeadEven, total_even}
+use Rattle.linked_promises.proofs.Encodable.{LeadEven}
+use Rattle.thumb_asm.proofs.Reaching.{total_even}
 
 abbrev pub EvenLabels : List (Option ℕ) → Type 0
 EvenLabels [] = Unit {0}

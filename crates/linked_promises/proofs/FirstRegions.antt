@@ -2,7 +2,7 @@
 use Rattle.std.proofs.Common.{◌≡◌, ℕ, zero, suc, ◌<◌, Bool, true, false, not, ◌&&◌, List, [], ◌∷◌, length, map, filter, cond, get_or, refl, ap, sym, ◌∙◌, subst, arith}
 use Rattle.std.specs.List.{list_any}
 use Rattle.std.specs.Cmp.Lexicographic.{same_text}
-use Rattle.std.proofs.lemmas.Bool.{and_parts, cases_order}
+use Rattle.std.proofs.lemmas.Bool.{and_parts, cases_order, not-true}
 use Rattle.std.proofs.lemmas.Cmp.{nat_list_eq_equiv}
 use Rattle.std.proofs.lemmas.List.{get_or-map, length-map}
 use mathlib.Core.Logic.{⊎_elim}
@@ -16,7 +16,7 @@ use Rattle.plan_model.specs.Regions.{region_at, no_region}
 use Rattle.plan_model.specs.InitialGraph.{Users, users_of, has_users, same_users, kinds_of_users, region_for, data_regions, unwritten}
 use Rattle.grouping.proofs.Distinct.{any_distinct, any_seen}
 use Rattle.linked_promises.proofs.CoverParts.{each_map}
-use Rattle.linked_promises.proofs.Lists.{not_true, any_index, passing_among, among_passing, each_passing, each_at, below_all}
+use Rattle.linked_promises.proofs.Lists.{any_index, passing_among, among_passing, each_passing, each_at, below_all}
 use Rattle.linked_promises.proofs.Joins.{EachRegion, SomeRegion, AreApart}
 use Rattle.common_laws.proofs.Tests.{true_both as both}
 use Rattle.common_laws.proofs.Lists.{any_kept as any_filtered}
@@ -46,7 +46,7 @@ module _ {X : Type 0} (same : X → X → Bool) where
   distinct_differ : (xs : List X) → Differ (distinct same xs)
   distinct_differ [] = tt
   distinct_differ (x ∷ xs) = (
-    each_passing (λ y. Unit {0}) (λ y. same x y ≡ false) (λ y. not (same x y)) (distinct same xs) (λ y h t. not_true (same x y) t) (everything (distinct same xs)),
+    each_passing (λ y. Unit {0}) (λ y. same x y ≡ false) (λ y. not (same x y)) (distinct same xs) (λ y h t. not-true (same x y) t) (everything (distinct same xs)),
     differ_kept (λ y. not (same x y)) (distinct same xs) (distinct_differ xs),
   )
 
@@ -194,7 +194,7 @@ module _ (p : Program) (n : Needs) (g : Groups) where
   free_are x h =
       let m = among_passing (λ y. not (has_users (users y))) x 0 count h in
       let high = m.1 in
-      (omega (arith, high), not_true (has_users (users x)) m.2)
+      (omega (arith, high), not-true (has_users (users x)) m.2)
 
   pub are_free : (x : ℕ) → x < count → has_users (users x) ≡ false → has (unwritten p n g) x ≡ true
   are_free x l e = passing_among (λ y. not (has_users (users y))) x count l (ap not e)

@@ -29,11 +29,12 @@ use Rattle.code_model.specs.Sizes.{inst_size, insts_size, term_size, block_size,
 use Rattle.code_model.specs.FunctionCode.{lent, block_pieces, blocks_pieces, function_items}
 use Rattle.code_model.specs.Laws.{SizesHold}
 use Rattle.linked_images.proofs.Passing.{and_yes, le_yes, lt_yes}
-use Rattle.linked_promises.proofs.Encodable.{Encodable, encodable-append, plain_encodable, total_even, offset_in}
+use Rattle.linked_promises.proofs.Encodable.{Encodable, encodable-append, plain_encodable, offset_in}
 use Rattle.linked_promises.proofs.TemplateCode.{LendsFit, load_in, store_in, address_in, supervisor_in, word_in, save_in, const_in, move_in, bin_in, cmp_in, two_offset, elem_in, field_in, loads_in, stores_to_in, args_in, callee_in, enter_in, leave_in}
 use Rattle.thumb_asm.proofs.Items.{total-append}
 use Rattle.code_model.proofs.Filling.{args_total}
 use Rattle.lower_laws.proofs.Here.{does_at, ends_at}
+use Rattle.thumb_asm.proofs.Reaching.{total_even}
 
 -- what a function's code finds outside: addresses are words, entries stand between two addresses, and sites have small numbers
 pub record PlacesFit (low high count : ℕ) (q : Places) : Type 0 where

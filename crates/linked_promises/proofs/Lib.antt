@@ -11,6 +11,7 @@ mod Windows
 mod Memory
 mod CodeBlocks
 pub mod Lists
+mod Products
 pub mod Joins
 pub mod FirstRegions
 pub mod FinalRegions

@@ -5,6 +5,7 @@ use Rattle.std.specs.Int.{bit_at}
 use Rattle.std.proofs.lemmas.List.{get_or-map, length-map}
 use Rattle.std.proofs.lemmas.List.FromFn.{get_or-map-range_with_len}
 use Rattle.std.proofs.lemmas.List.Quantifiers.{position-Some}
+use Rattle.std.proofs.lemmas.Bool.{or_right}
 use Rattle.ir_model.specs.declared.object.ObjId.TheVariants.{Local}
 use Rattle.ir_model.specs.Plain.{PlainFirmware}
 use Rattle.ir_model.specs.Resolve.{resolve}
@@ -131,10 +132,6 @@ at_local : (does : ℕ × ℕ → Bool) (n : Needs) (g : Groups) (h l k : ℕ) �
 at_local does n g h l k is P same t =
     let x : ℕ × ℕ = get_or n.lendable k (0, 0) in
     same x ∙ (ap (λ a. P a x.1) is.func ∙ (ap (λ a. P h a) is.local ∙ t))
-
-or_right : (a b : Bool) → b ≡ true → (a || b) ≡ true
-or_right true b e = refl
-or_right false b e = e
 
 module _ (code : MonitorCode) (w : PlainFirmware) (n : Needs) (f : Final) (b : Board) (is : IsPlanned w n f b) where
   number_small : (h l k : ℕ) → IsLent n f.groups h l k → k < 32

@@ -1,5 +1,5 @@
 -- In a firmware that passes the checks and is within the limits each global and each local has a byte at least.
-use Rattle.std.proofs.Common.{◌≡◌, ℕ, zero, suc, ◌<◌, Bool, true, false, max, List, [], ◌∷◌, ◌++◌, length, map, get_or, refl, sym, ap, ◌∙◌, subst, bytes_eq, if◌then◌else◌, append_assoc, append-nil, nat_le, arith}
+use Rattle.std.proofs.Common.{◌≡◌, ℕ, zero, suc, ◌<◌, Bool, true, false, List, [], ◌∷◌, ◌++◌, length, map, get_or, refl, sym, ap, ◌∙◌, subst, bytes_eq, if◌then◌else◌, append_assoc, append-nil, nat_le, arith}
 use Rattle.std.proofs.lemmas.List.{map-append, length-map}
 use Rattle.ir_model.specs.declared.check.CheckKind.TheVariants.{Unknown, ObjectTooLarge, BadInit}
 use Rattle.ir_model.specs.declared.check.Place.{Place}
@@ -48,9 +48,6 @@ type_large ds p ks (Callee b r) a h e = omega arith
 
 -- ---- structs
 
-aligned_more : (m n : ℕ) → 0 < m → 0 < max m n
-aligned_more m n h = omega arith
-
 -- fields behind what has a byte already
 behind_large : (ds : List (List ℕ)) (p : Place) (seen : List (List ℕ)) (ks : List Known) (s : Shape) (fs : List PlainSlot) → AreLarge ks → 0 < s.size → 0 < s.align
     → Pass (field_checks ds (names_in ks) p seen fs) → EachHasElements fs → 0 < (laid_out ks s fs).size
@@ -59,7 +56,7 @@ behind_large ds p seen ks s (f ∷ fs) a some align h e =
     let front : Checks = is_new seen f.name p ∷ type_checks ds (names_in ks) p f.ty in
     let rest : Checks = field_checks ds (names_in ks) p (seen ++ f.name ∷ []) fs in
     let own = type_large ds p ks f.ty a (right (is_new seen f.name p ∷ []) (type_checks ds (names_in ks) p f.ty) (left front rest h)) e.0 in
-    behind_large ds p (seen ++ f.name ∷ []) ks (with_field ks s f.ty) fs a (omega (arith, own)) (aligned_more s.align (shape ks f.ty).align align) (right front rest h) e.1
+    behind_large ds p (seen ++ f.name ∷ []) ks (with_field ks s f.ty) fs a (omega (arith, own)) (omega (arith, align)) (right front rest h) e.1
 
 fields_large : (ds : List (List ℕ)) (p : Place) (ks : List Known) (fs : List PlainSlot) → AreLarge ks → 0 < length fs
     → Pass (field_checks ds (names_in ks) p [] fs) → EachHasElements fs → 0 < (laid_out ks empty fs).size
@@ -68,7 +65,7 @@ fields_large ds p ks (f ∷ fs) a some h e =
     let front : Checks = is_new [] f.name p ∷ type_checks ds (names_in ks) p f.ty in
     let rest : Checks = field_checks ds (names_in ks) p (f.name ∷ []) fs in
     let own = type_large ds p ks f.ty a (right (is_new [] f.name p ∷ []) (type_checks ds (names_in ks) p f.ty) (left front rest h)) e.0 in
-    behind_large ds p (f.name ∷ []) ks (with_field ks empty f.ty) fs a (omega (arith, own)) (aligned_more 1 (shape ks f.ty).align (omega arith)) (right front rest h) e.1
+    behind_large ds p (f.name ∷ []) ks (with_field ks empty f.ty) fs a (omega (arith, own)) (omega arith) (right front rest h) e.1
 
 names_behind : (ks : List Known) (ss : List PlainStruct) → names_in (known_behind ks ss) ≡ names_in ks ++ map (λ (s : PlainStruct). s.name) ss
 names_behind ks [] = sym (append-nil (names_in ks))

@@ -2,6 +2,7 @@
 use Rattle.std.proofs.Common.{◌≡◌, ℕ, ◌<◌, ◌≤◌, ◌+◌, Bool, true, false, ◌||◌, [], length, map, get_or, refl, ap, ◌∙◌, arith}
 use Rattle.std.specs.List.{list_any}
 use Rattle.std.proofs.lemmas.List.{length-map, length-append}
+use Rattle.std.proofs.lemmas.Bool.{or_left, or_right}
 use mathlib.Core.Logic.{⊎_elim}
 use Rattle.mpu_model.specs.declared.region.Region.{Region}
 use Rattle.mpu_model.specs.Regions.{holds}
@@ -39,7 +40,6 @@ use Rattle.linked_promises.proofs.Bearing.{written_stores, borne_holds}
 use Rattle.linked_promises.proofs.Compartments.{in_compartment}
 use Rattle.linked_promises.proofs.Reach.{one_of, has_listed}
 use Rattle.std.proofs.lemmas.List.FromFn.{get_or-map-range_with_len}
-use Rattle.linked_images.proofs.Passing.{or_left, or_right}
 use Rattle.linked_promises.proofs.Lists.{passing_among, each_passing, below_all}
 use Rattle.linked_promises.proofs.FinalRegions as regions
 use Rattle.linked_promises.proofs.GlobalPlaces.{GlobalLaws, address, aligns}

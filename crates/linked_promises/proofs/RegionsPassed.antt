@@ -1,6 +1,7 @@
 -- The check of regions passes.
 use Rattle.std.proofs.Common.{◌≡◌, ℕ, zero, suc, ◌+◌, ◌^◌, ◌<◌, ◌≤◌, Bool, true, false, ◌||◌, List, [], ◌∷◌, length, map, filter, get_or, cond, None, refl, ap₂, sym, ◌∙◌, subst, lit<, arith}
 use Rattle.std.specs.List.{range_with_len}
+use Rattle.std.proofs.lemmas.Bool.{or_left}
 use mathlib.Core.Logic.{⊎_elim}
 use Rattle.common_laws.specs.Lists.{Each}
 use Rattle.device_model.specs.declared.image.Image.{Image}
@@ -34,7 +35,7 @@ use Rattle.link_model.specs.LinkedImage.{linked}
 use Rattle.linked_images.specs.Planned.{IsPlanned, planned_sizes, plan, planned_tables, planned_image}
 use Rattle.linked_images.proofs.Facts.{PlanLaws, laid, length_is, needed_most, code_blocks_count, code_block_is, code_at_most}
 use Rattle.linked_images.proofs.Flash.{code_count, code_size_is, code_ends}
-use Rattle.linked_images.proofs.Passing.{and_yes, or_left, lt_yes, eq_yes, inside_yes, each_yes}
+use Rattle.linked_images.proofs.Passing.{and_yes, lt_yes, eq_yes, inside_yes, each_yes}
 use Rattle.linked_promises.proofs.Bearing.{use_region}
 use Rattle.linked_promises.proofs.CoverParts.{AreParts}
 use Rattle.linked_promises.specs.Regions.{RegionsPass}

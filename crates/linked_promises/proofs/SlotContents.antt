@@ -1,7 +1,7 @@
 -- What the slots of a planned firmware's compartments hold is of their permissions.
 use Rattle.std.proofs.Common.{◌≡◌, ℕ, zero, suc, ◌<◌, ◌≤◌, ◌+◌, ◌*◌, ◌/◌, ◌%◌, inl, inr, Bool, true, false, ◌&&◌, List, [], ◌∷◌, length, map, get_or, cond, nat_eq, nat_lt, refl, ap, sym, ◌∙◌, subst, lit<, arith}
 use Rattle.std.specs.List.{list_any}
-use Rattle.std.proofs.lemmas.Bool.{ltb-true, cases_lt}
+use Rattle.std.proofs.lemmas.Bool.{ltb-true, cases_lt, or_left, or_right}
 use Rattle.std.proofs.lemmas.List.{get_or_past}
 use Rattle.std.proofs.lemmas.List.Folds.{list_any_at}
 use Rattle.std.proofs.lemmas.List.FromFn.{length-map-range_with_len}
@@ -43,7 +43,6 @@ use Rattle.monitor.specs.declared.tables.CompRecord.{CompRecord}
 use Rattle.monitor.specs.Records.{compartment_at, nobody}
 use Rattle.link_model.specs.LinkedTables.{tables_of, comp_record}
 use Rattle.linked_images.specs.Planned.{IsPlanned, plan, planned_sizes, planned_tables}
-use Rattle.linked_images.proofs.Passing.{or_left, or_right}
 use Rattle.linked_images.proofs.Ranges.{globals_for}
 use Rattle.linked_promises.specs.Permissions.{IsOf, IsByteOf, IsOnPeripherals, IsInData, IsPermitted, OnPeripherals, InData, SlotsArePermitted, SlotsHoldPermissions}
 use Rattle.linked_promises.proofs.Lists.{each_behind, each_weaker, each_passing, below_all}

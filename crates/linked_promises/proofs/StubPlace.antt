@@ -1,6 +1,5 @@
 -- The leave stub stands at an even address below 2^32.
 use Rattle.std.proofs.Common.{◌≡◌, ◌%◌, arith}
-use Rattle.handler_runs.proofs.Encodable.{length_even}
 use Rattle.plan_model.specs.declared.plan.Board.{Board}
 use Rattle.ir_model.specs.Plain.{PlainFirmware}
 use Rattle.plan_model.specs.declared.needs.Needs.{Needs}
@@ -16,6 +15,7 @@ use Rattle.link_model.specs.LinkedTables.{tables_of}
 use Rattle.linked_images.specs.Planned.{IsPlanned, planned_tables}
 use Rattle.linked_images.proofs.Facts.{PlanLaws, laid}
 use Rattle.linked_promises.specs.CodeInFlash.{StubIsPlaced}
+use Rattle.gate_steps.proofs.CodeParts.{length_even}
 
 offset_even : (c : Constants) → stub_offset c % 2 ≡ 0
 offset_even c =

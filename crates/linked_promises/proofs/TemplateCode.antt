@@ -1,5 +1,5 @@
 -- The instructions of each template stand in the instruction table, where registers, words of the frame and numbers are small enough.
-use Rattle.std.proofs.Common.{◌≡◌, ℕ, zero, suc, pos, ◌+◌, ◌-◌, ◌^◌, ◌<◌, ◌≤◌, Bool, true, false, List, [], ◌∷◌, length, get_or, nat_le, if◌then◌else◌, Option, Some, None, refl, arith}
+use Rattle.std.proofs.Common.{◌≡◌, ℕ, zero, suc, pos, ◌+◌, ◌-◌, ◌^◌, ◌<◌, ◌≤◌, Bool, true, false, List, [], ◌∷◌, length, get_or, nat_le, Option, Some, None, refl, arith}
 use Rattle.std.proofs.lemmas.Bool.Decides.{nat_tests}
 use Rattle.std.specs.Int.Signed.{le_z_yes, lt_z_yes}
 use Rattle.thumb_model.specs.declared.table.Instr.TheVariants.{CallBranch}
@@ -18,6 +18,7 @@ use Rattle.code_model.specs.Comparisons.{condition, cmp_code}
 use Rattle.code_model.specs.Addresses.{scale_of, elem_code, field_code, load_at, store_at, load_code, store_code}
 use Rattle.code_model.specs.Calls.{args_code, callee_code}
 use Rattle.code_model.specs.Entry.{sub_by, sub_code, add_by, add_code, stores_code, frame_code, lend_code, enter_code, unlend_code, result_code, leave_code}
+use Rattle.code_model.proofs.Addresses.{scale_small}
 
 -- ---- single instructions
 
@@ -103,13 +104,6 @@ cmp_in op to a b x y z = (
 )
 
 -- ---- addresses
-
-scale_small : (n : ℕ) → scale_of n < 2 ^ 32
-scale_small n = by (nat_le n 65536) refl
-  where
-    by : (b : Bool) → nat_le n 65536 ≡ b → (if b then n else 0) < 2 ^ 32
-    by true e = let l : n ≤ 65536 = grind (arith, nat_tests, e) in omega (arith, l)
-    by false e = omega arith
 
 pub elem_in : (to base index size : ℕ) → to < 256 → base < 256 → index < 256 → EachInTable (elem_code to base index size)
 elem_in to base index n x y z =

@@ -142,13 +142,10 @@ member_of p groups c front f behind e =
     let n = m.number in
     placed p groups c f m.place front (omega arith) m.here m.before
 
-compartment_near : SizesHold → SizesAreEven → FunctionsReach → CompartmentsReach
-compartment_near hold even reach p groups places c inside small =
+pub compartments_reach : SizesHold → SizesAreEven → FunctionsReach → CompartmentsReach
+compartments_reach hold even reach p groups places c inside small =
     let all : List ℕ = members p groups c in
     let base : ℕ = get_or places.bases c 0 in
     let z : base ≡ base + 0 = omega arith in
     ap (λ (k : ℕ). first_far (compartment_labels p groups places c) k (flat_map (filled_items p groups places) all)) z
     ∙ rest_near hold even reach p groups places inside all c small [] all refl (λ front f behind e. member_of p groups c front f behind e)
-
-pub compartments_reach : SizesHold → SizesAreEven → FunctionsReach → CompartmentsReach
-compartments_reach hold even reach = compartment_near hold even reach

@@ -1,8 +1,7 @@
 -- The list of the handler of MemManage, whole: how it ends is what the outcome of a fault says.
 use Rattle.std.specs.Prelude.{if◌then◌else◌}
 use Rattle.std.proofs.Common.{◌≡◌, ℕ, ◌+◌, ◌-◌, ◌*◌, ◌%◌, ◌^◌, ◌<◌, ◌≤◌, ◌⊎◌, inl, inr, ⊎_elim, Bool, true, false, ◌&&◌, List, [], ◌∷◌, length, nat_eq, nat_le, refl, sym, ap, ◌∙◌, subst, arith}
-use Rattle.std.proofs.lemmas.Bool.{and_parts}
-use Rattle.std.proofs.lemmas.Bool.Decides.{nat_tests}
+use Rattle.std.proofs.lemmas.Bool.{and_parts, eqb-true, leb-true, eq-eqb, le-leb}
 use Rattle.std.specs.Prelude.{bit_and}
 use Rattle.std.specs.Int.{bit_at}
 use Rattle.words.specs.declared.memory.Width.{Width}
@@ -37,7 +36,7 @@ use Rattle.monitor.specs.MemFault.{widths, scan, by_width, finished, stores, loa
 use Rattle.monitor_laws.proofs.Tables.{record_at, slots_are}
 use Rattle.monitor_laws.proofs.Placement.{writable}
 use Rattle.monitor_laws.proofs.Off.{core, with_unit, IsOff, open_while_off}
-use Rattle.monitor_laws.proofs.Opened.{Handles, FrameIsOpen, eq_true, eq_false, le_true, opened_within}
+use Rattle.monitor_laws.proofs.Opened.{Handles, FrameIsOpen, eq_false, opened_within}
 use Rattle.monitor_laws.proofs.HandlerRule.{HandlerRule, handlers_reach}
 use Rattle.monitor_laws.proofs.HandlerWords.{InStack, apart_from_block, frame_load_within, frame_store_within}
 use Rattle.handler_runs.proofs.Frames.{stacked_is}
@@ -63,12 +62,6 @@ pub record HalfThere (i : Image) (o : ℕ) (m : List ℕ) (half : ℕ) : Type 0 
 -- a load by a loan, behind the test of the halfword
 abbrev load_list : Constants → Steps
 load_list c = scan c (record_reads c.slots) 9 (by_width (λ width rest. Load width 5 4 0 rest) (Store Word 5 0 0 finished))
-
-le_yes : (x y : ℕ) → x ≤ y → nat_le x y ≡ true
-le_yes x y h = search (nat_tests, arith)
-
-eq_yes : (x y : ℕ) → x ≡ y → nat_eq x y ≡ true
-eq_yes x y h = search (nat_tests, arith)
 
 module _ (i : Image) (t : Tables) (p : Placed i t) (has : HasTables i t) (stub : ℕ) (Good : ProtectionState → Type 0) (good : (q : ProtectionState) → IsOff true q → Good q) where
   abbrev k : Constants
@@ -166,7 +159,7 @@ module _ (i : Image) (t : Tables) (p : Placed i t) (has : HasTables i t) (stub :
     in_size mask z l = let x = in_room mask z l in let y = some_bytes z in omega (arith, x, y)
 
     aligned_is : (z : Width) (mask : ℕ) → IsLentBy i t m mask a (byte_count z) (loan_count i t m) → nat_eq (a % byte_count z) 0 ≡ true → (i.ram_base + (a - i.ram_base)) % byte_count z ≡ 0
-    aligned_is z mask l e = ap (λ x. x % byte_count z) (sym (in_ram mask (byte_count z) l)) ∙ eq_true (a % byte_count z) 0 e
+    aligned_is z mask l e = ap (λ x. x % byte_count z) (sym (in_ram mask (byte_count z) l)) ∙ eqb-true (a % byte_count z) 0 e
 
     -- a store there leaves the block
     loan_off : (w v : ℕ) (mask : ℕ) → IsLentBy i t m mask a w (loan_count i t m) → BlockStays (write w (a - i.ram_base) v m)
@@ -347,9 +340,9 @@ module _ (i : Image) (t : Tables) (p : Placed i t) (has : HasTables i t) (stub :
         let low = f.low in
         let up = f.high in
         let s = stacked_is i psp o 7 m ep (omega arith) in
-        let x : nat_le t.stack.base psp ≡ true = le_yes t.stack.base psp (omega (arith, low, ep)) in
-        let y : nat_le (psp + 32) b.top ≡ true = le_yes (psp + 32) b.top (omega (arith, up, ep, e)) in
-        let z : nat_eq (bit_at (stacked i psp m 7) 9) 0 ≡ true = ap (λ n. nat_eq (bit_at n 9) 0) s ∙ eq_yes (bit_at (read 4 (o + 28) m) 9) 0 f.no_pad in
+        let x : nat_le t.stack.base psp ≡ true = le-leb t.stack.base psp (omega (arith, low, ep)) in
+        let y : nat_le (psp + 32) b.top ≡ true = le-leb (psp + 32) b.top (omega (arith, up, ep, e)) in
+        let z : nat_eq (bit_at (stacked i psp m 7) 9) 0 ≡ true = ap (λ n. nat_eq (bit_at n 9) 0) s ∙ eq-eqb (bit_at (read 4 (o + 28) m) 9) 0 f.no_pad in
         rw (x, y, z) refl
 
     not_open_is : (FrameIsOpen i t o m → ⊥) → is_open i t b psp m ≡ false
@@ -360,14 +353,14 @@ module _ (i : Image) (t : Tables) (p : Placed i t) (has : HasTables i t) (stub :
         pick true e =
             let x = and_parts (nat_le t.stack.base psp) (nat_le (psp + 32) b.top && nat_eq (bit_at (stacked i psp m 7) 9) 0) e in
             let y = and_parts (nat_le (psp + 32) b.top) (nat_eq (bit_at (stacked i psp m 7) 9) 0) x.1 in
-            let low = le_true t.stack.base psp x.0 in
-            let up = le_true (psp + 32) b.top y.0 in
+            let low = leb-true t.stack.base psp x.0 in
+            let up = leb-true (psp + 32) b.top y.0 in
             let top_is = h.is_block.top_is in
             let s = stacked_is i psp o 7 m ep (omega arith) in
             absurd (shut (record {
               low = omega (arith, low, ep);
               high = omega (arith, up, ep, top_is);
-              no_pad = ap (λ n. bit_at n 9) (sym s) ∙ eq_true (bit_at (stacked i psp m 7) 9) 0 y.1;
+              no_pad = ap (λ n. bit_at n 9) (sym s) ∙ eqb-true (bit_at (stacked i psp m 7) 9) 0 y.1;
             }))
 
     shut_outcome : (half : ℕ) → is_open i t b psp m ≡ false → fault_outcome i t b psp m u.cfsr half ≡ Halts 4
@@ -407,7 +400,7 @@ module _ (i : Image) (t : Tables) (p : Placed i t) (has : HasTables i t) (stub :
         tested q1 v4 x5 on1 off f e5 (inl c) =
             must_within {m = 1662}
             (λ e. subst (λ y. Ends y (Halted 8 (core msp psp q1 u m psp k.block k.stack top CFSR x5 0x82 0))) (sym (fetch_outcome half (open_is f) c)) (core msp psp q1 u m psp k.block k.stack top CFSR x5 0x82 0, refl, refl))
-            (λ e. absurd (fetch_bits x5 e5 c (eq_true x5 0x82 e)))
+            (λ e. absurd (fetch_bits x5 e5 c (eqb-true x5 0x82 e)))
         tested q1 v4 x5 on1 off f e5 (inr (c, there)) =
             must_within {m = 1662}
             (λ e. absurd (eq_false x5 0x82 e (data_bits x5 e5 c)))

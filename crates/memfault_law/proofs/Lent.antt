@@ -1,6 +1,6 @@
 -- Which loan holds an access, by the monitor's lists, by the words of its block, and as the loop of the handler finds it.
 use Rattle.std.proofs.Common.{◌≡◌, ℕ, zero, suc, ◌+◌, ◌-◌, ◌*◌, ◌/◌, ◌%◌, ◌^◌, ◌<◌, ◌≤◌, Bool, true, false, ◌&&◌, ◌||◌, List, [], ◌∷◌, length, nat_eq, nat_le, refl, sym, ap, ◌∙◌, subst, arith}
-use Rattle.std.proofs.lemmas.Bool.{false≢true, and_parts}
+use Rattle.std.proofs.lemmas.Bool.{false≢true, and_parts, eqb-true, leb-true}
 use Rattle.std.proofs.lemmas.Nat.Bits.{and_pow}
 use Rattle.std.specs.Prelude.{bit_and}
 use Rattle.std.specs.Int.{bit_at}
@@ -18,7 +18,7 @@ use Rattle.monitor.specs.BlockWords.{current, loan_count, loan_address, loan_end
 use Rattle.monitor.specs.Invariant.{IsLoan}
 use Rattle.monitor.specs.Reach.{StoreKind, ByLoan, LoadKind, OfLoan}
 use Rattle.monitor.specs.FaultOutcome.{covers, is_lent}
-use Rattle.monitor_laws.proofs.Opened.{le_true, le_false, eq_true}
+use Rattle.monitor_laws.proofs.Opened.{le_false}
 use Rattle.monitor_laws.proofs.HandlerRule.{HandlerRule}
 
 four_tests : (a b c d : Bool) (r : ℕ) → choose a (choose b (choose c (choose d 1 r) r) r) r ≡ choose (d && (a && (b && c))) 1 r
@@ -37,8 +37,8 @@ same_le x y u v f g = pick (nat_le x y) (nat_le u v) refl refl
     pick : (b d : Bool) → nat_le x y ≡ b → nat_le u v ≡ d → nat_le x y ≡ nat_le u v
     pick true true h k = h ∙ sym k
     pick false false h k = h ∙ sym k
-    pick true false h k = absurd (let l = f (le_true x y h) in let n = le_false u v k in omega (arith, l, n))
-    pick false true h k = absurd (let l = g (le_true u v k) in let n = le_false x y h in omega (arith, l, n))
+    pick true false h k = absurd (let l = f (leb-true x y h) in let n = le_false u v k in omega (arith, l, n))
+    pick false true h k = absurd (let l = g (leb-true u v k) in let n = le_false x y h in omega (arith, l, n))
 
 -- the address is not behind the end, and the width not more than what is left: no sum wraps
 ends_are : (a w e : ℕ) → a < 2 ^ 32 → e < 2 ^ 32 → (nat_le a e && nat_le w (subtract e a)) ≡ nat_le (a + w) e
@@ -49,14 +49,14 @@ ends_are a w e la le = pick (nat_le a e) refl
 
     pick : (b : Bool) → nat_le a e ≡ b → (b && nat_le w (subtract e a)) ≡ nat_le (a + w) e
     pick true h =
-        let l = le_true a e h in
+        let l = leb-true a e h in
         let r = rest_is l in
         same_le w (subtract e a) (a + w) e (λ k. omega (arith, k, r, l)) (λ k. omega (arith, k, r, l))
     pick false h = sym (off (nat_le (a + w) e) refl)
       where
         off : (b : Bool) → nat_le (a + w) e ≡ b → b ≡ false
         off false k = refl
-        off true k = absurd (let l = le_false a e h in let n = le_true (a + w) e k in omega (arith, l, n))
+        off true k = absurd (let l = le_false a e h in let n = leb-true (a + w) e k in omega (arith, l, n))
 
 one_bit : (x : ℕ) → bit_and x 1 ≡ x % 2
 one_bit x = let e : bit_and x (2 ^ 0) ≡ x / 2 ^ 0 % 2 * 2 ^ 0 = and_pow x 0 in omega (arith, e)
@@ -120,14 +120,14 @@ module _ (i : Image) (t : Tables) (m : List ℕ) (mask a w : ℕ) where
       pick true y ih z =
           let p = and_parts (nat_eq (bit_at mask l.number) 1) (nat_le l.address a && nat_le (a + w) l.end) y in
           let q = and_parts (nat_le l.address a) (nat_le (a + w) l.end) p.1 in
-          let from = le_true l.address a q.0 in
-          let below = le_true (a + w) l.end q.1 in
+          let from = leb-true l.address a q.0 in
+          let below = leb-true (a + w) l.end q.1 in
           let base = e.0.from_base in
           let end = e.0.below_end in
           record {
             number = length ls;
             live = omega arith;
-            in_mask = ap (λ n. bit_at mask n) h.0.number ∙ eq_true (bit_at mask l.number) 1 p.0;
+            in_mask = ap (λ n. bit_at mask n) h.0.number ∙ eqb-true (bit_at mask l.number) 1 p.0;
             from_address = (let n = h.0.address in omega (arith, n, from));
             below_end = (let n = h.0.end in omega (arith, n, below));
             from_base = omega (arith, base, from);

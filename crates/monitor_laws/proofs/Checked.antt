@@ -1,6 +1,7 @@
 -- What the checks of an image tell where none of them fails.
-use Rattle.std.proofs.Common.{◌≡◌, ◌≢◌, ℕ, ◌+◌, ◌-◌, ◌*◌, ◌%◌, ◌<◌, ◌≤◌, ◌⊎◌, inl, inr, Bool, true, false, not, ◌&&◌, List, [], ◌∷◌, ◌++◌, length, nat_eq, nat_lt, nat_le, Option, Some, None, refl, sym, ap₂, arith}
+use Rattle.std.proofs.Common.{◌≡◌, ◌≢◌, ℕ, ◌+◌, ◌*◌, ◌%◌, ◌≤◌, Bool, true, false, not, ◌&&◌, List, [], ◌∷◌, ◌++◌, length, nat_eq, nat_lt, nat_le, Option, Some, None, refl, sym, ap₂, arith}
 use Rattle.std.proofs.lemmas.Bool.Decides.{nat_tests}
+use Rattle.std.proofs.lemmas.Bool.{ltb-true, eqb-true, leb-true}
 use Rattle.device_model.specs.declared.image.Image.{Image}
 use Rattle.device_model.specs.Rules.{block_size}
 use Rattle.common_laws.specs.Lists.{Each}
@@ -19,15 +20,6 @@ use Rattle.monitor.specs.Sound.{Failure, unless, first_failure, Sound}
 use Rattle.monitor.specs.Placed.{IsEntry}
 use Rattle.mpu_model.specs.Regions.{holds}
 use Rattle.common_laws.proofs.Tests.{both_true as both}
-
-pub le_is : (a b : ℕ) → nat_le a b ≡ true → a ≤ b
-le_is a b h = grind (arith, nat_tests)
-
-pub lt_is : (a b : ℕ) → nat_lt a b ≡ true → a < b
-lt_is a b h = grind (arith, nat_tests)
-
-pub eq_is : (a b : ℕ) → nat_eq a b ≡ true → a ≡ b
-eq_is a b h = grind (arith, nat_tests)
 
 pub is_not : (a b : ℕ) → not (nat_eq a b) ≡ true → a ≢ b
 is_not a b h = grind (arith, nat_tests)
@@ -58,7 +50,7 @@ begins_with [] ys a h = (ys, refl)
 begins_with (x ∷ xs) [] a h = cc
 begins_with (x ∷ xs) (y ∷ ys) a h =
     let p = and_none (must (nat_eq x y) a) (difference xs ys (a + 1)) h in
-    let e : x ≡ y = eq_is x y (must_none (nat_eq x y) a p.0) in
+    let e : x ≡ y = eqb-true x y (must_none (nat_eq x y) a p.0) in
     let r = begins_with xs ys (a + 1) p.1 in
     (r.0, ap₂ (λ a b. a ∷ b) (sym e) r.1)
 
@@ -95,7 +87,7 @@ header_is i h =
     let a = both (not (nat_eq i.monitor 0)) (not (nat_eq i.stack_size 0) && (are_apart i.monitor block_size i.stack_base i.stack_size && nat_le (page_size + head_size) (length i.flash))) (must_none _ i.flash_base h) in
     let b = both (not (nat_eq i.stack_size 0)) (are_apart i.monitor block_size i.stack_base i.stack_size && nat_le (page_size + head_size) (length i.flash)) a.1 in
     let c = both (are_apart i.monitor block_size i.stack_base i.stack_size) (nat_le (page_size + head_size) (length i.flash)) b.1 in
-    record { monitor = is_not i.monitor 0 a.0; stack = is_not i.stack_size 0 b.0; apart = (decides_apart i.monitor block_size i.stack_base i.stack_size).0 c.0; room = le_is (page_size + head_size) (length i.flash) c.1 }
+    record { monitor = is_not i.monitor 0 a.0; stack = is_not i.stack_size 0 b.0; apart = (decides_apart i.monitor block_size i.stack_base i.stack_size).0 c.0; room = leb-true (page_size + head_size) (length i.flash) c.1 }
 
 pub record TableHead (i : Image) (t : Tables) : Type 0 where
   pub some : 1 ≤ length t.comps
@@ -119,14 +111,14 @@ head_is i t h =
     let n = both (nat_le 1 (length t.comps)) (nat_le (length t.comps) 64) (must_none _ (head_at t) a.0) in
     let m = both (is_inside t.base (tables_size t) i.flash_base (length i.flash)) (nat_le (area_end t) (t.base + tables_size t)) (must_none _ (head_at t) g.1) in
     record {
-      some = le_is 1 (length t.comps) n.0;
-      most = le_is (length t.comps) 64 n.1;
-      lends = le_is (length t.lends) 32 (must_none _ (head_at t + 12) d.0);
-      stack_base = eq_is t.stack.base i.stack_base (must_none _ (head_at t + 20) e.0);
-      stack_size = eq_is t.stack.size i.stack_size (must_none _ (head_at t + 24) f.0);
-      monitor = eq_is t.monitor i.monitor (must_none _ (head_at t + 28) g.0);
+      some = leb-true 1 (length t.comps) n.0;
+      most = leb-true (length t.comps) 64 n.1;
+      lends = leb-true (length t.lends) 32 (must_none _ (head_at t + 12) d.0);
+      stack_base = eqb-true t.stack.base i.stack_base (must_none _ (head_at t + 20) e.0);
+      stack_size = eqb-true t.stack.size i.stack_size (must_none _ (head_at t + 24) f.0);
+      monitor = eqb-true t.monitor i.monitor (must_none _ (head_at t + 28) g.0);
       inside = (decides_inside t.base (tables_size t) i.flash_base (length i.flash)).0 m.0;
-      area = le_is (area_end t) (t.base + tables_size t) m.1;
+      area = leb-true (area_end t) (t.base + tables_size t) m.1;
     }
 
 pub regions_are : (i : Image) (t : Tables) → regions_fail i t ≡ None → Each (λ c. is_compartment i t c ≡ true) t.comps
@@ -136,7 +128,7 @@ entry_of : (t : Tables) (e c : ℕ) → is_entry t e c ≡ true → IsEntry t e 
 entry_of t e c h =
     let a = both (nat_lt c (length t.comps)) (nat_eq (e % 2) 1 && holds (compartment_at t c).code e) h in
     let b = both (nat_eq (e % 2) 1) (holds (compartment_at t c).code e) a.1 in
-    record { odd = eq_is (e % 2) 1 b.0; compartment_in = lt_is c (length t.comps) a.0; in_code = b.1 }
+    record { odd = eqb-true (e % 2) 1 b.0; compartment_in = ltb-true c (length t.comps) a.0; in_code = b.1 }
 
 pub record Entries (t : Tables) : Type 0 where
   pub targets : Each (λ (g : TargetRecord). IsEntry t g.entry g.compartment) t.targets

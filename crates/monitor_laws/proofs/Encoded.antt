@@ -3,6 +3,7 @@ use Rattle.std.proofs.Common.{◌≡◌, ℕ, zero, suc, pos, negsuc, ◌+◌, �
 use Rattle.std.proofs.lemmas.Bool.Decides.{nat_tests}
 use Rattle.std.proofs.lemmas.Nat.{trailing_le}
 use Rattle.std.specs.Int.Signed.{le_z_yes, lt_z_yes}
+use Rattle.std.proofs.lemmas.Bool.{ltb-true}
 use Rattle.thumb_model.specs.Table.{IsGeneral, IsOffset}
 use Rattle.thumb_model.specs.Bytes.{EachInTable}
 use Rattle.words.specs.declared.memory.Width.{Width}
@@ -55,11 +56,8 @@ Fits (Halt c k) = Fits k
 Fits (Return k) = Fits k
 Fits (Go to link k) = Fits k
 
-below : (a b : ℕ) → nat_lt a b ≡ true → a < b
-below a b h = grind (arith, nat_tests)
-
 low : (a : ℕ) → is_low a ≡ true → a < 8
-low a h = below a 8 h
+low a h = ltb-true a 8 h
 
 general : (a : ℕ) → a < 8 → IsGeneral a
 general a h = (omega (arith, h), λ e. absurd (omega (arith, h, e)))
@@ -111,12 +109,12 @@ in_table (Load z to base off k) f n =
     let p = both ((is_low to && is_low base) && nat_lt off 32) (fits_fields k) f in
     let r = both (is_low to && is_low base) (nat_lt off 32) p.0 in
     let q = both (is_low to) (is_low base) r.0 in
-    ((load_small z, below off 32 r.1, low base q.1, low to q.0), in_table k p.1 n)
+    ((load_small z, ltb-true off 32 r.1, low base q.1, low to q.0), in_table k p.1 n)
 in_table (Store z from base off k) f n =
     let p = both ((is_low from && is_low base) && nat_lt off 32) (fits_fields k) f in
     let r = both (is_low from && is_low base) (nat_lt off 32) p.0 in
     let q = both (is_low from) (is_low base) r.0 in
-    ((store_small z, below off 32 r.1, low base q.1, low from q.0), in_table k p.1 n)
+    ((store_small z, ltb-true off 32 r.1, low base q.1, low from q.0), in_table k p.1 n)
 in_table (Alu op to a b k) f n =
     let p = both ((is_low to && is_low a) && is_low b) (fits_fields k) f in
     let r = both (is_low to && is_low a) (is_low b) p.0 in
@@ -160,7 +158,7 @@ in_table (Repeat left most body k) f n =
     )
 in_table (Halt c k) f n =
     let p = both (nat_lt c 256) (fits_fields k) f in
-    ((omega arith, below c 256 p.0, λ e. absurd (omega (arith, e))), in_table k p.1 n)
+    ((omega arith, ltb-true c 256 p.0, λ e. absurd (omega (arith, e))), in_table k p.1 n)
 in_table (Return k) f n = (omega arith, (omega arith, ((omega arith, omega arith), in_table k f n)))
 in_table (Go to link k) f n =
     let p = both (is_low to && is_low link) (fits_fields k) f in

@@ -1,6 +1,7 @@
 -- A part of enter: the new TOP, or halt 5 where no eighth is left for the caller.
 use Rattle.std.proofs.Common.{◌≡◌, ◌≢◌, ℕ, zero, suc, ◌+◌, ◌-◌, ◌*◌, ◌/◌, ◌%◌, ◌^◌, ◌<◌, ◌≤◌, List, refl, sym, ap, ◌∙◌, subst, arith}
 use Rattle.std.proofs.Math.Nat.{div-mul-le_self}
+use Rattle.std.proofs.lemmas.Bool.{eqb-true}
 use Rattle.words.specs.Arithmetic.{add, subtract, shift_left}
 use Rattle.device_model.specs.declared.image.Image.{Image}
 use Rattle.armv7m.specs.declared.state.ProtectionState.{ProtectionState}
@@ -19,7 +20,7 @@ use Rattle.monitor.specs.Constants.{Constants, constants_with}
 use Rattle.monitor.specs.Svc.{rounded}
 use Rattle.monitor_laws.proofs.Numbers.{shr_by}
 use Rattle.monitor_laws.proofs.Off.{core}
-use Rattle.monitor_laws.proofs.Opened.{eq_true, eq_false}
+use Rattle.monitor_laws.proofs.Opened.{eq_false}
 use Rattle.monitor_laws.proofs.Placement.{writable}
 use Rattle.monitor_laws.proofs.Tables.{StackSize, stack_size}
 
@@ -57,7 +58,7 @@ module _ (i : Image) (t : Tables) (p : Placed i t) (has : HasTables i t) (stub :
         alu_within (λ y ey.
         let ye : y ≡ (psp - t.stack.base) / eighth t * eighth t = shl_by x k.eighth y ey low256 (subst (λ z. z < 2 ^ 32) (sym (product x xe)) below) ∙ product x xe in
         const_within
-        (must_not_within (λ z. refuse _ refl (none_left y ye (eq_true _ _ z))) (λ z.
+        (must_not_within (λ z. refuse _ refl (none_left y ye (eqb-true _ _ z))) (λ z.
         alu_within (λ n en.
         at_within (ap (λ n. core msp psp q u m psp a1 k.stack n a4 a5 0 a7) (sum_is n y en ye)) (f (some y ye (eq_false _ _ z))))))))))) (omega arith)
       where

@@ -1,7 +1,7 @@
 -- A part of enter: the site's record by the halfword at the return address, or halt 2.
-use Rattle.std.proofs.Common.{◌≡◌, ℕ, zero, suc, ◌+◌, ◌-◌, ◌*◌, ◌%◌, ◌^◌, ◌<◌, ◌≤◌, true, false, List, [], ◌∷◌, length, nat_lt, refl, sym, ap, ◌∙◌, arith}
-use Rattle.std.proofs.lemmas.Bool.Decides.{nat_tests}
+use Rattle.std.proofs.Common.{◌≡◌, ℕ, zero, suc, ◌+◌, ◌-◌, ◌*◌, ◌%◌, ◌^◌, ◌<◌, ◌≤◌, true, List, [], ◌∷◌, length, refl, sym, ap, ◌∙◌, arith}
 use Rattle.std.specs.Prelude.{flat_map}
+use Rattle.std.proofs.lemmas.Bool.{ltb-true, eqb-true, ltb-false}
 use Rattle.words.specs.Arithmetic.{add}
 use Rattle.words.specs.declared.memory.Width.TheVariants.{Half, Word}
 use Rattle.words.specs.Bytes.{read}
@@ -28,17 +28,11 @@ use Rattle.monitor_laws.proofs.Numbers.{shl2}
 use Rattle.monitor_laws.proofs.Off.{core, IsOff, open_while_off}
 use Rattle.monitor_laws.proofs.FlashWords.{Has, flash_has, has_front, has_back, has_record, records_length}
 use Rattle.monitor_laws.proofs.Tables.{counts, product}
-use Rattle.monitor_laws.proofs.Opened.{Handles, eq_true, eq_false}
+use Rattle.monitor_laws.proofs.Opened.{Handles, eq_false}
 use Rattle.monitor_laws.proofs.Placement.{writable}
 
 twelve : (x a b c at v : ℕ) → a ≡ 4 * x → b ≡ add a a → c ≡ add b a → v ≡ add c at → x < 2 ^ 16 → at < 2 ^ 31 → v ≡ at + 12 * x
 twelve x a b c at v h1 h2 h3 h4 l1 l2 = omega (arith, h1, h2, h3, h4, l1, l2)
-
-lt_true : (x y : ℕ) → nat_lt x y ≡ true → x < y
-lt_true x y h = grind (arith, nat_tests)
-
-lt_false : (x y : ℕ) → nat_lt x y ≡ false → y ≤ x
-lt_false x y h = grind (arith, nat_tests)
 
 pub three_words : (xs : List SiteRecord) → Each (λ x. length (site_words x) ≡ 3) xs
 three_words [] = tt
@@ -109,8 +103,8 @@ module _ (i : Image) (t : Tables) (p : Placed i t) (has : HasTables i t) (stub :
         more_within
         (half_within ro off er even room (λ v5 e5.
         const_within
-        (must_within (λ x. refuse _ refl (λ lt e. absurd (too_high v5 e5 (lt_false _ _ x) lt))) (λ x.
-        let lt : number < length t.sites = low v5 e5 (lt_true _ _ x) in
+        (must_within (λ x. refuse _ refl (λ lt e. absurd (too_high v5 e5 (ltb-false _ _ x) lt))) (λ x.
+        let lt : number < length t.sites = low v5 e5 (ltb-true _ _ x) in
         const_within (copy_within (alu_within (λ r er4.
         let r4 : r ≡ 4 * number = shl2 v5 r er4 (small28 v5 e5 lt) ∙ ap (λ n. 4 * n) e5 in
         alu_within (λ c ec. alu_within (λ d ed. const_within (alu_within (λ a ea.
@@ -120,7 +114,7 @@ module _ (i : Image) (t : Tables) (p : Placed i t) (has : HasTables i t) (stub :
         flash_word_within (sites_offset + 4 * (3 * number)) 1 off ra (sites_aligned number) (inside 1 lt (omega arith)) (λ w5 f5.
         flash_word_within (sites_offset + 4 * (3 * number)) 2 off ra (sites_aligned number) (inside 2 lt (omega arith)) (λ w6 f6.
         at_within (ap (λ x. core msp psp q u m a0 a1 a2 a3 ret x w6 v7) (f5 ∙ (has_site number lt).2.0) ∙ ap (λ x. core msp psp q u m a0 a1 a2 a3 ret (site_at t number).first x v7) (f6 ∙ third_word lt))
-        (f v7 lt (sym (first_word lt) ∙ sym e7 ∙ eq_true _ _ y))))))))))))))))) (omega arith)
+        (f v7 lt (sym (first_word lt) ∙ sym e7 ∙ eqb-true _ _ y))))))))))))))))) (omega arith)
       where
         number : ℕ
         number = read 2 ro i.flash

@@ -1,5 +1,6 @@
 -- The list of leave: halt 0 where no call waits; else the caller goes on with the callee's result.
 use Rattle.std.proofs.Common.{◌≡◌, ℕ, suc, ◌+◌, ◌-◌, ◌*◌, ◌/◌, ◌^◌, ◌<◌, ◌≤◌, true, List, ◌∷◌, length, refl, ap, ◌∙◌, arith}
+use Rattle.std.proofs.lemmas.Bool.{eqb-true}
 use Rattle.words.specs.Bytes.{read}
 use Rattle.mpu_model.specs.declared.region.Region.{Region}
 use Rattle.mpu_model.specs.declared.TheConstants.{MPU_CTRL, MPU_RBAR}
@@ -28,7 +29,7 @@ use Rattle.monitor_laws.proofs.Off.{core, with_unit, IsOff}
 use Rattle.monitor_laws.proofs.Written.{open_stack, tables_within}
 use Rattle.monitor_laws.proofs.Tables.{shaped, has_compartment, record_at, top_is, unit_is}
 use Rattle.monitor_laws.proofs.Placement.{writable}
-use Rattle.monitor_laws.proofs.Opened.{Handles, eq_true, eq_false, block_load_within, block_store_within, on_msp}
+use Rattle.monitor_laws.proofs.Opened.{Handles, eq_false, block_load_within, block_store_within, on_msp}
 use Rattle.monitor_laws.proofs.Unlend.{closed_within}
 use Rattle.monitor_laws.proofs.HandlerWords.{write_psp_within, InStack, entry_load_within, frame_load_within, frame_store_within}
 use Rattle.monitor_laws.proofs.LeaveWords.{Leaving, HasLeft, Five, FiveSay, five_others, one_less, entry_is, whole_word, five_say, all_left}
@@ -75,7 +76,7 @@ module _ (i : Image) (t : Tables) (p : Placed i t) (has : HasTables i t) (stub :
         more_within
         (block_load_within i t p has stub Good Allowed handles good 2 off refl refl (λ d4 e4.
         const_within
-        (must_not_within (λ x. absurd (not_zero d4 (eq_true _ _ x) (e4 ∙ lv.depth))) (λ x.
+        (must_not_within (λ x. absurd (not_zero d4 (eqb-true _ _ x) (e4 ∙ lv.depth))) (λ x.
         const_within (alu_within (λ n4 en.
         let dn : n4 ≡ d = one_less i t p has stub n4 d4 d en (e4 ∙ lv.depth) lv.few in
         block_store_within i t p has stub Good Allowed handles good 2 off refl refl (λ m1 w1 z1.

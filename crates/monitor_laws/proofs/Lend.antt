@@ -1,8 +1,8 @@
 -- The list of lend: the tests of the loan that a thread asks for, and RAM with one loan more.
-use Rattle.std.proofs.Common.{◌≡◌, ◌≢◌, ℕ, zero, suc, ◌+◌, ◌-◌, ◌*◌, ◌/◌, ◌%◌, ◌^◌, ◌<◌, ◌≤◌, Bool, true, false, List, [], ◌∷◌, length, get_or, nat_eq, nat_lt, refl, sym, ap, ◌∙◌, subst, arith}
-use Rattle.std.proofs.lemmas.Bool.Decides.{nat_tests}
+use Rattle.std.proofs.Common.{◌≡◌, ◌≢◌, ℕ, ◌+◌, ◌-◌, ◌*◌, ◌%◌, ◌^◌, ◌<◌, ◌≤◌, true, List, [], length, refl, sym, ap, ◌∙◌, arith}
 use Rattle.std.proofs.lemmas.Nat.{and_comm, and_mask}
 use Rattle.std.specs.Prelude.{bit_and}
+use Rattle.std.proofs.lemmas.Bool.{ltb-true, eqb-true, leb-true, ltb-false}
 use Rattle.words.specs.Arithmetic.{add, subtract}
 use Rattle.words.specs.Bytes.{read, write}
 use Rattle.words.specs.declared.memory.Width.TheVariants.{Word}
@@ -27,18 +27,12 @@ use Rattle.monitor.specs.Offsets.{loans, loan_from, loan_end, loan_number}
 use Rattle.monitor.specs.Constants.{Constants, constants_with}
 use Rattle.monitor.specs.Opening.{closed_up}
 use Rattle.monitor.specs.Svc.{lend}
-use Rattle.monitor_laws.proofs.Off.{core, with_unit, IsOff, Allows, open_while_off}
+use Rattle.monitor_laws.proofs.Off.{core, with_unit, IsOff, open_while_off}
 use Rattle.monitor_laws.proofs.FlashWords.{has_word}
 use Rattle.monitor_laws.proofs.Placement.{writable, has_lends, lends_offset, lends_is, few_lends, lends_at_is, lends_aligned, loans_at_is}
-use Rattle.monitor_laws.proofs.Opened.{Handles, FrameIsOpen, le_true, le_false, eq_true, eq_false, block_load_within, block_store_within}
+use Rattle.monitor_laws.proofs.Opened.{Handles, FrameIsOpen, le_false, eq_false, block_load_within, block_store_within}
 use Rattle.monitor_laws.proofs.Unlend.{closed_within}
 use Rattle.monitor_laws.proofs.SvcNumber.{by_number}
-
-lt_true : (x y : ℕ) → nat_lt x y ≡ true → x < y
-lt_true x y h = grind (arith, nat_tests)
-
-lt_false : (x y : ℕ) → nat_lt x y ≡ false → y ≤ x
-lt_false x y h = grind (arith, nat_tests)
 
 -- the two low bits
 low_bits : (n : ℕ) → bit_and 3 n ≡ n % 4
@@ -183,24 +177,24 @@ module _ (i : Image) (t : Tables) (p : Placed i t) (has : HasTables i t) (stub :
         block_load_within i t p has stub Good Allowed handles good 3 off refl refl (λ x6 e6.
         at_within (ap (λ x. core msp psp q u m psp k.block a2 top x x5 x6 a7) (e4 ∙ ea) ∙ ap (λ x. core msp psp q u m psp k.block a2 top address x x6 a7) (e5 ∙ eb) ∙ ap (λ x. core msp psp q u m psp k.block a2 top address number x a7) (e6 ∙ el))
         (const_within
-        (must_not_within (λ c1. refuse _ refl (λ y. full (eq_true _ _ c1) y.room)) (λ c1.
+        (must_not_within (λ c1. refuse _ refl (λ y. full (eqb-true _ _ c1) y.room)) (λ c1.
         let room : live < 32 = not_full (eq_false _ _ c1) in
         const_within
-        (must_within (λ c2. refuse _ refl (λ y. outside (lt_false _ _ c2) y.number_in)) (λ c2.
-        let inside : number < length t.lends = is_inside (lt_true _ _ c2) in
+        (must_within (λ c2. refuse _ refl (λ y. outside (ltb-false _ _ c2) y.number_in)) (λ c2.
+        let inside : number < length t.lends = is_inside (ltb-true _ _ c2) in
         const_within (alu_within (λ v ev. const_within
         (must_within (λ c3. refuse _ refl (λ y. absurd (eq_false _ _ c3 (ev ∙ low_bits address ∙ y.aligned)))) (λ c3.
-        let aligned : address % 4 ≡ 0 = sym (low_bits address) ∙ sym ev ∙ eq_true _ _ c3 in
+        let aligned : address % 4 ≡ 0 = sym (low_bits address) ∙ sym ev ∙ eqb-true _ _ c3 in
         alu_within (λ d ds. alu_within (λ s es. const_within (alu_within (λ l l_is.
         load_flash_within p.rules (lends_offset i t p has stub + 4 * number) {z = Word} (open_while_off q off.control) (record_at d s l inside ds es l_is) record_aligned (record_in inside) (handles.plain.flash _ 4 (lends_offset i t p has stub + 4 * number) (record_fits inside)) (λ z ez.
         at_within (ap (λ z. core msp psp q u m psp k.block z top address number live k.lends_at) (ez ∙ (has_word i (lends_offset i t p has stub) t.lends number (has_lends i t p has stub) inside).0))
         (const_within (alu_within (λ g eg.
         must_within (λ c4. refuse _ refl (λ y. not_low g eg (le_false _ _ c4) y.low)) (λ c4.
-        let low : psp + 32 ≤ address = is_low g eg (le_true _ _ c4) in
+        let low : psp + 32 ≤ address = is_low g eg (leb-true _ _ c4) in
         must_within (λ c5. refuse _ refl (λ y. not_below (le_false _ _ c5) y.high)) (λ c5.
         alu_within (λ r er.
-        must_within (λ c6. refuse _ refl (λ y. not_high r er (le_true _ _ c5) (le_false _ _ c6) y.high)) (λ c6.
-        let high : address + lend_size t number ≤ top = is_high r er (le_true _ _ c5) (le_true _ _ c6) in
+        must_within (λ c6. refuse _ refl (λ y. not_high r er (leb-true _ _ c5) (le_false _ _ c6) y.high)) (λ c6.
+        let high : address + lend_size t number ≤ top = is_high r er (leb-true _ _ c5) (leb-true _ _ c6) in
         noted_within q m live address number (lend_size t number) psp top r off on room (fits high) (λ q1 new e1 n1 h1.
         go q1 new e1 (record { room = room; number_in = inside; aligned = aligned; low = low; high = high }) n1 h1)))))))))))))))))))))))))) (omega arith)
       where

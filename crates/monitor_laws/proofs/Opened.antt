@@ -1,8 +1,9 @@
 -- What both handlers begin with: the unit off, and the three tests of the frame.
-use Rattle.std.proofs.Common.{◌≡◌, ◌≢◌, ℕ, zero, suc, ◌+◌, ◌-◌, ◌*◌, ◌/◌, ◌%◌, ◌^◌, ◌<◌, ◌≤◌, Bool, true, false, not, ◌&&◌, List, [], ◌∷◌, length, nat_eq, nat_lt, nat_le, refl, sym, ap, ◌∙◌, subst, arith}
+use Rattle.std.proofs.Common.{◌≡◌, ◌≢◌, ℕ, ◌+◌, ◌-◌, ◌*◌, ◌/◌, ◌%◌, ◌^◌, ◌<◌, ◌≤◌, true, false, not, ◌&&◌, List, length, nat_eq, nat_lt, nat_le, refl, sym, ap, ◌∙◌, arith}
 use Rattle.std.proofs.lemmas.Bool.Decides.{nat_tests}
 use Rattle.std.proofs.lemmas.Nat.Bits.{and_pow}
 use Rattle.std.specs.Prelude.{bit_and}
+use Rattle.std.proofs.lemmas.Bool.{eqb-true, leb-true}
 use Rattle.words.specs.declared.memory.Width.TheVariants.{Word}
 use Rattle.words.specs.Bytes.{read, write}
 use Rattle.mpu_model.specs.declared.region.Access.{Access}
@@ -28,14 +29,8 @@ use Rattle.monitor.specs.Opening.{opened}
 use Rattle.monitor_laws.proofs.Off.{core, with_unit, IsOff, Allows, open_while_off, set_control_within}
 use Rattle.monitor_laws.proofs.Placement.{block_is, writable}
 
-pub le_true : (x y : ℕ) → nat_le x y ≡ true → x ≤ y
-le_true x y h = grind (arith, nat_tests)
-
 pub le_false : (x y : ℕ) → nat_le x y ≡ false → y < x
 le_false x y h = grind (arith, nat_tests)
-
-pub eq_true : (x y : ℕ) → nat_eq x y ≡ true → x ≡ y
-eq_true x y h = grind (arith, nat_tests)
 
 pub eq_false : (x y : ℕ) → nat_eq x y ≡ false → x ≢ y
 eq_false x y h = grind (arith, nat_tests)
@@ -112,13 +107,13 @@ module _ (i : Image) (t : Tables) (p : Placed i t) (has : HasTables i t) (stub :
         block_load_within 1 off refl refl (λ top etop.
         must_within (λ e2. refuse _ refl (λ x. absurd (not_high top etop (le_false _ _ e2) x.high))) (λ e2.
         alu_within (λ d ed. const_within
-        (must_within (λ e3. refuse _ refl (λ x. absurd (not_room top d etop (le_true _ _ e2) ed (le_false _ _ e3) x.high))) (λ e3.
-        load_within rules (o + 28) (open_while_off q1 off.control) (frame_at ep) (frame_aligned ao) (frame_room (is_high top d etop (le_true _ _ e2) ed (le_true _ _ e3))) (handles.stack Read _ (o + 28) (later (is_low (le_true _ _ e1))) (earlier (is_high top d etop (le_true _ _ e2) ed (le_true _ _ e3)))) (λ x ex.
+        (must_within (λ e3. refuse _ refl (λ x. absurd (not_room top d etop (leb-true _ _ e2) ed (le_false _ _ e3) x.high))) (λ e3.
+        load_within rules (o + 28) (open_while_off q1 off.control) (frame_at ep) (frame_aligned ao) (frame_room (is_high top d etop (leb-true _ _ e2) ed (leb-true _ _ e3))) (handles.stack Read _ (o + 28) (later (is_low (leb-true _ _ e1))) (earlier (is_high top d etop (leb-true _ _ e2) ed (leb-true _ _ e3)))) (λ x ex.
         const_within (alu_within (λ v ev. const_within
         (must_within (λ e4. refuse _ refl (λ x. absurd (eq_false _ _ e4 (ev ∙ ap (λ n. bit_and n (2 ^ 9)) ex ∙ pad_zero (read 4 (o + 28) m) x.no_pad)))) (λ e4.
-        let z : v ≡ 0 = eq_true _ _ e4 in
+        let z : v ≡ 0 = eqb-true _ _ e4 in
         let nine : read 4 (o + 28) m / 2 ^ 9 % 2 ≡ 0 = pad_is (read 4 (o + 28) m) (sym (ap (λ n. bit_and n (2 ^ 9)) ex) ∙ sym ev ∙ z) in
-        at_within (ap (λ top. core msp psp q1 u m psp k.block k.stack top v 0 MPU_CTRL 0) etop) (go q1 v eq off (record { low = is_low (le_true _ _ e1); high = is_high top d etop (le_true _ _ e2) ed (le_true _ _ e3); no_pad = nine })))))))))))))))))) (omega arith)
+        at_within (ap (λ top. core msp psp q1 u m psp k.block k.stack top v 0 MPU_CTRL 0) etop) (go q1 v eq off (record { low = is_low (leb-true _ _ e1); high = is_high top d etop (leb-true _ _ e2) ed (leb-true _ _ e3); no_pad = nine })))))))))))))))))) (omega arith)
       where
         stack_is : k.stack ≡ t.stack.base
         stack_is = let a = (writable i t p has stub).stack_inside.1 in let x = rules.ram_highest in let y = rules.ram_most in omega (arith, a, x, y)

@@ -5,6 +5,7 @@ use Rattle.std.proofs.lemmas.Nat.{div-mul-add}
 use Rattle.std.proofs.Math.Nat.{div-div-eq-div-mul}
 use Rattle.std.proofs.lemmas.Nat.{pow-add}
 use Rattle.std.specs.Int.{bit_at}
+use Rattle.std.proofs.lemmas.Bool.{ltb-true, eqb-true, leb-true}
 use Rattle.mpu_model.specs.declared.region.Region.{Region}
 use Rattle.mpu_model.specs.declared.words.Rights.{Rights}
 use Rattle.mpu_model.specs.declared.words.Rights.TheVariants.{Background, Code, Ram, Device}
@@ -20,7 +21,6 @@ use Rattle.monitor.specs.declared.tables.Tables.{Tables}
 use Rattle.common_laws.specs.Lists.{Each}
 use Rattle.monitor.specs.RegionChecks.{is_data_range, base_of, size_of, taken_out, has_form, eighths_hold_data, holds_data, is_code, is_free, is_data, is_read_only, is_cover, is_slot, are_slots, is_mask, is_compartment}
 use Rattle.monitor.specs.Placed.{IsCode, IsSlot, IsSlotByte, InFlashOf}
-use Rattle.monitor_laws.proofs.Checked.{le_is, lt_is, eq_is}
 use Rattle.common_laws.proofs.Tests.{both_true as both}
 
 -- ---- forms
@@ -37,8 +37,8 @@ form_of n srd rights g h =
     let a = both (is_of_legal_size g) (nat_eq (base_of g % size_of g) 0 && (nat_eq g.rbar (base_of g + 2 ^ 4 + n) && nat_eq g.rasr (rights_word rights + srd * 2 ^ 8 + (size_log g - 1) * 2))) h in
     let b = both (nat_eq (base_of g % size_of g) 0) (nat_eq g.rbar (base_of g + 2 ^ 4 + n) && nat_eq g.rasr (rights_word rights + srd * 2 ^ 8 + (size_log g - 1) * 2)) a.1 in
     let c = both (nat_eq g.rbar (base_of g + 2 ^ 4 + n)) (nat_eq g.rasr (rights_word rights + srd * 2 ^ 8 + (size_log g - 1) * 2)) b.1 in
-    let l = lt_is 4 (size_log g) a.0 in
-    record { least = omega (arith, l); most = omega arith; aligned = eq_is (base_of g % size_of g) 0 b.0; rbar = eq_is g.rbar (base_of g + 2 ^ 4 + n) c.0; rasr = eq_is g.rasr (rights_word rights + srd * 2 ^ 8 + (size_log g - 1) * 2) c.1 }
+    let l = ltb-true 4 (size_log g) a.0 in
+    record { least = omega (arith, l); most = omega arith; aligned = eqb-true (base_of g % size_of g) 0 b.0; rbar = eqb-true g.rbar (base_of g + 2 ^ 4 + n) c.0; rasr = eqb-true g.rasr (rights_word rights + srd * 2 ^ 8 + (size_log g - 1) * 2) c.1 }
 
 -- an address in the block of a base
 in_range : (z b m a : ℕ) → 32 ≤ z → m < 32 → b % z ≡ 0 → a / z ≡ (b + m) / z → (b ≡ a / z * z) × (b ≤ a) × (a < b + z)
@@ -70,7 +70,7 @@ held_is g a h =
     let p = both (is_enabled g) (is_of_legal_size g && (is_in_block g a && not (is_taken_out g a))) h in
     let q = both (is_of_legal_size g) (is_in_block g a && not (is_taken_out g a)) p.1 in
     let r = both (is_in_block g a) (not (is_taken_out g a)) q.1 in
-    record { enabled = eq_is (g.rasr % 2) 1 p.0; block = eq_is (a / 2 ^ size_log g) (g.rbar / 2 ^ size_log g) r.0; kept = turned (is_taken_out g a) r.1 }
+    record { enabled = eqb-true (g.rasr % 2) 1 p.0; block = eqb-true (a / 2 ^ size_log g) (g.rbar / 2 ^ size_log g) r.0; kept = turned (is_taken_out g a) r.1 }
   where
     turned : (b : Bool) → not b ≡ true → b ≡ false
     turned true h = cc
@@ -161,7 +161,7 @@ module _ (i : Image) (t : Tables) (w : Grounds i t) where
   eighth_data g zero k lt h = absurd (omega (arith, lt))
   eighth_data g (suc n) k lt h =
       let p = both (nat_eq (bit_at (taken_out g) n) 1 || is_data_range i t (base_of g + n * (size_of g / 8)) (size_of g / 8)) (eighths_hold_data i t g n) h in
-      ⊎_elim (λ e. subst (λ n. (bit_at (taken_out g) n ≡ 1) ⊎ (is_data_range i t (base_of g + n * (size_of g / 8)) (size_of g / 8) ≡ true)) (sym e) (one (nat_eq (bit_at (taken_out g) n) 1) (is_data_range i t (base_of g + n * (size_of g / 8)) (size_of g / 8)) p.0 (λ x. eq_is (bit_at (taken_out g) n) 1 x))) (λ l. eighth_data g n k l p.1) (below k n lt)
+      ⊎_elim (λ e. subst (λ n. (bit_at (taken_out g) n ≡ 1) ⊎ (is_data_range i t (base_of g + n * (size_of g / 8)) (size_of g / 8) ≡ true)) (sym e) (one (nat_eq (bit_at (taken_out g) n) 1) (is_data_range i t (base_of g + n * (size_of g / 8)) (size_of g / 8)) p.0 (λ x. eqb-true (bit_at (taken_out g) n) 1 x))) (λ l. eighth_data g n k l p.1) (below k n lt)
     where
       one : (a b : Bool) {P : Type 0} → (a || b) ≡ true → (a ≡ true → P) → P ⊎ (b ≡ true)
       one true b h f = inl (f refl)
@@ -216,7 +216,7 @@ module _ (i : Image) (t : Tables) (w : Grounds i t) where
           p = both (Rattle.std.proofs.Common.nat_le 8 (size_log g)) (eighths_hold_data i t g 8) e
 
           eight : 8 ≤ size_log g
-          eight = le_is 8 (size_log g) p.0
+          eight = leb-true 8 (size_log g) p.0
 
           k : ℕ
           k = a / 2 ^ (size_log g - 3) % 8
@@ -290,7 +290,7 @@ module _ (i : Image) (t : Tables) (w : Grounds i t) where
   free_slot : (n : ℕ) (g : Region) → is_free n g ≡ true → IsSlot i t g
   free_slot n g h a k =
       let p = both (nat_eq g.rbar (2 ^ 4 + n)) (nat_eq g.rasr 0) h in
-      let z = eq_is g.rasr 0 p.1 in
+      let z = eqb-true g.rasr 0 p.1 in
       let e = (held_is g a k).enabled in
       absurd (omega (arith, z, e))
 
@@ -298,7 +298,7 @@ module _ (i : Image) (t : Tables) (w : Grounds i t) where
   form_number n srd rights g few h = let f = form_of n srd rights g h in let r = f.rbar in (omega (arith, r, few), omega (arith, r, few))
 
   free_number : (n : ℕ) (g : Region) → n < 16 → is_free n g ≡ true → (g.rbar / 2 ^ 4 % 2 ≡ 1) × (g.rbar % 16 ≡ n)
-  free_number n g few h = let p = both (nat_eq g.rbar (2 ^ 4 + n)) (nat_eq g.rasr 0) h in let r = eq_is g.rbar (2 ^ 4 + n) p.0 in (omega (arith, r, few), omega (arith, r, few))
+  free_number n g few h = let p = both (nat_eq g.rbar (2 ^ 4 + n)) (nat_eq g.rasr 0) h in let r = eqb-true g.rbar (2 ^ 4 + n) p.0 in (omega (arith, r, few), omega (arith, r, few))
 
   one_of : (x y : Bool) → (x || y) ≡ true → (x ≡ true) ⊎ (y ≡ true)
   one_of true y h = inl refl

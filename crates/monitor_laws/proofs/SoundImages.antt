@@ -2,6 +2,7 @@
 use Rattle.std.proofs.Common.{◌≡◌, ℕ, ◌+◌, ◌-◌, ◌*◌, ◌/◌, ◌%◌, ◌<◌, ◌≤◌, ◌⊎◌, inl, inr, ⊎_elim, true, ◌&&◌, List, [], ◌∷◌, length, nat_eq, nat_lt, None, refl, sym, ap, ◌∙◌, subst, arith}
 use Rattle.std.proofs.lemmas.List.Sums.{sum_by-cons}
 use Rattle.std.specs.Prelude.{sum_by}
+use Rattle.std.proofs.lemmas.Bool.{ltb-true, eqb-true}
 use Rattle.device_model.specs.declared.image.Image.{Image}
 use Rattle.device_model.specs.Rules.{ObeysRules, IsStack, block_size}
 use Rattle.common_laws.specs.Lists.{Each}
@@ -22,7 +23,7 @@ use Rattle.monitor.specs.Placed.{Placed, IsCompartment, SoundImagesArePlaced}
 use Rattle.monitor.specs.Promises.{ImagesStart}
 use Rattle.monitor.specs.TheCode.{monitor_code}
 use Rattle.monitor_laws.specs.StartUp.{IsInit, IsReady, ReadyImagesStart}
-use Rattle.monitor_laws.proofs.Checked.{lt_is, eq_is, must_none, and_none, begins_with, NoneFails, none_fails, Header, header_is, TableHead, head_is, regions_are, entries_are}
+use Rattle.monitor_laws.proofs.Checked.{must_none, and_none, begins_with, NoneFails, none_fails, Header, header_is, TableHead, head_is, regions_are, entries_are}
 use Rattle.monitor_laws.proofs.RegionForms.{Grounds, comp_is}
 use Rattle.monitor_laws.proofs.Sizes.{IsSize, tables_size_is}
 use Rattle.monitor_laws.proofs.ReadTables.{read_from, has_tables, slot_count, each_count, word_total}
@@ -129,10 +130,10 @@ module _ (code : MonitorCode) (i : Image) (rules : ObeysRules i) (nf : NoneFails
           let c = both (nat_lt n.at n.end) (is_data_range i t n.at (n.end - n.at) && nat_eq n.from w) b.1 in
           let d = both (is_data_range i t n.at (n.end - n.at)) (nat_eq n.from w) c.1 in
           let r = both (is_inside n.at (n.end - n.at) i.ram_base i.ram_size) (are_apart n.at (n.end - n.at) t.stack.base t.stack.size && are_apart n.at (n.end - n.at) t.monitor block_size) d.0 in
-          let e : n.from ≡ w = eq_is n.from w d.1 in
-          let x = eq_is (n.at % 4) 0 a.0 in
-          let y = eq_is (n.end % 4) 0 b.0 in
-          let lt = lt_is n.at n.end c.0 in
+          let e : n.from ≡ w = eqb-true n.from w d.1 in
+          let x = eqb-true (n.at % 4) 0 a.0 in
+          let y = eqb-true (n.end % 4) 0 b.0 in
+          let lt = ltb-true n.at n.end c.0 in
           record {
             at_aligned = x;
             end_aligned = y;

@@ -1,5 +1,6 @@
 -- The end of both handlers, and the list of unlend.
-use Rattle.std.proofs.Common.{◌≡◌, ◌≢◌, ℕ, zero, suc, ◌+◌, ◌-◌, ◌*◌, ◌/◌, ◌%◌, ◌^◌, ◌<◌, ◌≤◌, Bool, true, false, List, [], ◌∷◌, length, nat_eq, refl, sym, ap, ◌∙◌, subst, arith}
+use Rattle.std.proofs.Common.{◌≡◌, ◌≢◌, ℕ, ◌+◌, ◌-◌, true, List, length, refl, sym, ap, ◌∙◌, arith}
+use Rattle.std.proofs.lemmas.Bool.{eqb-true}
 use Rattle.words.specs.Arithmetic.{subtract}
 use Rattle.words.specs.Bytes.{read, write}
 use Rattle.mpu_model.specs.declared.TheConstants.{MPU_CTRL}
@@ -11,8 +12,7 @@ use Rattle.gate_steps.specs.Steps.{Steps}
 use Rattle.gate_steps.specs.Core.{Core}
 use Rattle.gate_steps.specs.Effect.{Outcome, Halted, AtReturn}
 use Rattle.gate_steps.specs.Safe.{Rule}
-use Rattle.gate_steps.proofs.Gives.{word_fits}
-use Rattle.gate_steps.proofs.Within.{GivesWithin, const_within, alu_within, at_within, more_within, must_not_within, return_within}
+use Rattle.gate_steps.proofs.Within.{GivesWithin, const_within, alu_within, more_within, must_not_within, return_within}
 use Rattle.monitor.specs.declared.tables.Tables.{Tables}
 use Rattle.monitor.specs.Area.{HasTables}
 use Rattle.monitor.specs.Placed.{Placed}
@@ -20,7 +20,7 @@ use Rattle.monitor.specs.Constants.{Constants, constants_with}
 use Rattle.monitor.specs.Opening.{closed_up}
 use Rattle.monitor.specs.Svc.{unlend}
 use Rattle.monitor_laws.proofs.Off.{core, with_unit, IsOff, set_control_within}
-use Rattle.monitor_laws.proofs.Opened.{Handles, eq_true, eq_false, block_load_within, block_store_within}
+use Rattle.monitor_laws.proofs.Opened.{Handles, eq_false, block_load_within, block_store_within}
 
 module _ (i : Image) (t : Tables) (p : Placed i t) (has : HasTables i t) (stub : ℕ) (Good : ProtectionState → Type 0) (Allowed : Rule) (handles : Handles i t Allowed) (good : (q : ProtectionState) → IsOff true q → Good q) where
   abbrev k : Constants
@@ -52,7 +52,7 @@ module _ (i : Image) (t : Tables) (p : Placed i t) (has : HasTables i t) (stub :
         more_within
         (block_load_within i t p has stub Good Allowed handles good 3 off refl refl (λ x ex.
         block_load_within i t p has stub Good Allowed handles good 4 off refl refl (λ y ey.
-        must_not_within (λ e. refuse _ refl (sym ex ∙ eq_true _ _ e ∙ ey)) (λ e.
+        must_not_within (λ e. refuse _ refl (sym ex ∙ eqb-true _ _ e ∙ ey)) (λ e.
         const_within (alu_within (λ v ev.
         block_store_within i t p has stub Good Allowed handles good 3 off refl refl (λ new en ln.
         closed_within q new a0 k.block a2 a3 v 1 a6 a7 off on (λ q1 e1.

@@ -225,3 +225,8 @@ lists_are_written (g ∷ gs) front (x ∷ back) m e h n =
       regions = ap (λ t. (written gs t).regions) one ∙ rest.regions ∙ sym (one_more front y (map kept_region gs));
       control = ap (λ t. (written gs t).control) one ∙ rest.control;
     }
+
+-- ---- the eighths that are closed are a byte
+
+pub closed_byte : (n : ℕ) → closed_from n < 2 ^ 8
+closed_byte n = let p = pow_pos n in omega (arith, p)

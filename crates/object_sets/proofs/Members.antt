@@ -2,7 +2,7 @@
 use Rattle.std.proofs.Common.{◌≡◌, ℕ, zero, suc, ◌<◌, Bool, true, false, ◌||◌, ◌&&◌, List, [], ◌∷◌, length, get_or, refl, sym, ap, ◌∙◌, subst, arith, nat_eq, inl, inr, Contains, Option, Some, None}
 use Rattle.std.specs.List.{list_any}
 use Rattle.std.specs.List.Sorted.{IsStrictlySortedBy}
-use Rattle.std.proofs.lemmas.Bool.{false≢true, eqb-true, eq-eqb}
+use Rattle.std.proofs.lemmas.Bool.{false≢true, eqb-true, eq-eqb, or_right}
 use Rattle.ir_model.specs.declared.object.ObjId.{ObjId}
 use Rattle.ir_model.specs.Objects.{object_by, compare_objects}
 use Rattle.ir_model.specs.State.{Object, GlobalObject, PeriphObject, LocalObject, FunctionObject}
@@ -48,17 +48,13 @@ same_self (PeriphObject g) = eq-eqb g g refl
 same_self (LocalObject f l) = subst (λ b. b && nat_eq l l ≡ true) (sym (eq-eqb f f refl)) (eq-eqb l l refl)
 same_self (FunctionObject g) = eq-eqb g g refl
 
-or_true : (a b : Bool) → b ≡ true → a || b ≡ true
-or_true true b e = refl
-or_true false b e = e
-
 abbrev among : List ObjId → ObjId → Bool
 among xs o = list_any (λ x. same_object (object_by x) (object_by o)) xs
 
 at_among : (xs : List ObjId) (o : ObjId) (k : ℕ) → k < length xs → get_or xs k o ≡ o → among xs o ≡ true
 at_among [] o k l e = absurd (omega arith)
 at_among (x ∷ xs) o zero l e = subst (λ y. same_object (object_by y) (object_by o) || among xs o ≡ true) (sym e) (ap (λ b. b || among xs o) (same_self (object_by o)))
-at_among (x ∷ xs) o (suc k) l e = or_true (same_object (object_by x) (object_by o)) (among xs o) (at_among xs o k (omega arith) e)
+at_among (x ∷ xs) o (suc k) l e = or_right (same_object (object_by x) (object_by o)) (among xs o) (at_among xs o k (omega arith) e)
 
 among_at : (xs : List ObjId) (o : ObjId) → among xs o ≡ true → Contains xs o
 among_at [] o e = cc

@@ -1,9 +1,9 @@
-use Rattle.std.proofs.Common.{◌≡◌, ℕ, ◌+◌, Bool, true, false, List, [], ◌∷◌, ◌++◌, cond, filter, map, ap, ◌∙◌, sym, arith, ◌-◌, ◌<◌, not}
+use Rattle.std.proofs.Common.{◌≡◌, ℕ, ◌+◌, Bool, true, false, List, [], ◌∷◌, ◌++◌, cond, filter, map, ap, ◌∙◌, sym, arith, ◌<◌}
 use Rattle.std.proofs.lemmas.List.{map-id, append-nil, map-append}
 use Rattle.std.proofs.lemmas.List.FromFn.{map-range_with_len_more, length-range_with_len, get_or-range_with_len}
 use Rattle.std.proofs.lemmas.List.Elements.{filter-append}
 use Rattle.plan_model.specs.Lists.{numbers_below}
-use Rattle.std.specs.List.{flat_map, range_with_len, list_any}
+use Rattle.std.specs.List.{All, flat_map, range_with_len, list_any}
 use Rattle.std.proofs.lemmas.List.Concat.{flat_map-append}
 use Rattle.std.proofs.lemmas.List.Folds.{list_any_at}
 
@@ -40,3 +40,10 @@ pub dropped_more : {X : Type 0} (f : ℕ → X) (p : ℕ → Bool) (k : ℕ) (ol
     new ≡ map f (filter p (numbers_below (k + 1)))
 dropped_more f p k old new t h n =
     n ∙ h ∙ sym (passed_more f p k ∙ ap (λ b. map f (filter p (numbers_below k)) ++ map f (cond b (k ∷ []) [])) t ∙ append-nil (map f (filter p (numbers_below k))))
+
+-- each is below their count
+pub all_below : (n : ℕ) → All (λ k. k < n) (numbers_below n)
+all_below n k d l =
+    let count = length-range_with_len 0 n in
+    let e = get_or-range_with_len 0 n k d (omega arith) in
+    omega arith

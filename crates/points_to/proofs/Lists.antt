@@ -1,7 +1,7 @@
 -- Lists without repeats that grow.
 use Rattle.std.proofs.Common.{◌≡◌, ℕ, zero, suc, ◌+◌, ◌<◌, ◌≤◌, Bool, true, false, ◌||◌, List, [], ◌∷◌, ◌++◌, length, get_or, set, refl, sym, ap, ◌∙◌, subst, arith, nat_eq, if◌then◌else◌, ◌⊎◌, inl, inr}
 use Rattle.std.specs.List.{IsDistinct}
-use Rattle.std.proofs.lemmas.Bool.{false≢true, eqb-true, eq-eqb}
+use Rattle.std.proofs.lemmas.Bool.{false≢true, eqb-true, eq-eqb, or_right}
 use Rattle.std.proofs.lemmas.List.{length-set, get_or-set_same, length-append}
 use Rattle.std.proofs.lemmas.Map.Keys.{IsDistinct-push}
 use Rattle.std.specs.Cmp.{nat_eq_equiv}
@@ -16,10 +16,6 @@ set_each P (x ∷ s) zero r h e (suc i) = h (suc i)
 set_each P (x ∷ s) (suc n) r h e zero = h zero
 set_each P (x ∷ s) (suc n) r h e (suc i) = set_each (λ j. P (suc j)) s n r (λ j. h (suc j)) e i
 
-or_true : (a b : Bool) → b ≡ true → a || b ≡ true
-or_true true b e = refl
-or_true false b e = e
-
 or_left : (a b : Bool) → a ≡ true → a || b ≡ true
 or_left a b e = ap (λ x. x || b) e
 
@@ -28,16 +24,16 @@ push_cases p o [] e = elim (or_cases (nat_eq p o) false e) [ inl h ↦ inr (eqb-
 push_cases p o (x ∷ xs) e = elim (or_cases (nat_eq p x) (has p (xs ++ o ∷ [])) e) [ inl h ↦ inl (or_left (nat_eq p x) (has p xs) h) | inr h ↦ later (push_cases p o xs h) ]
   where
     later : (has p xs ≡ true) ⊎ (p ≡ o) → (has p (x ∷ xs) ≡ true) ⊎ (p ≡ o)
-    later (inl h) = inl (or_true (nat_eq p x) (has p xs) h)
+    later (inl h) = inl (or_right (nat_eq p x) (has p xs) h)
     later (inr h) = inr h
 
 push_kept : (p o : ℕ) (xs : List ℕ) → has p xs ≡ true → has p (xs ++ o ∷ []) ≡ true
 push_kept p o [] e = absurd (false≢true e)
-push_kept p o (x ∷ xs) e = elim (or_cases (nat_eq p x) (has p xs) e) [ inl h ↦ or_left (nat_eq p x) (has p (xs ++ o ∷ [])) h | inr h ↦ or_true (nat_eq p x) (has p (xs ++ o ∷ [])) (push_kept p o xs h) ]
+push_kept p o (x ∷ xs) e = elim (or_cases (nat_eq p x) (has p xs) e) [ inl h ↦ or_left (nat_eq p x) (has p (xs ++ o ∷ [])) h | inr h ↦ or_right (nat_eq p x) (has p (xs ++ o ∷ [])) (push_kept p o xs h) ]
 
 push_new : (o : ℕ) (xs : List ℕ) → has o (xs ++ o ∷ []) ≡ true
 push_new o [] = or_left (nat_eq o o) false (eq-eqb o o refl)
-push_new o (x ∷ xs) = or_true (nat_eq o x) (has o (xs ++ o ∷ [])) (push_new o xs)
+push_new o (x ∷ xs) = or_right (nat_eq o x) (has o (xs ++ o ∷ [])) (push_new o xs)
 
 pub put_cases : (rows : Lists) (n o m x : ℕ) → is_in (set rows n (row rows n ++ o ∷ [])) m x ≡ true → (is_in rows m x ≡ true) ⊎ ((m ≡ n) × (x ≡ o))
 put_cases rows n o m x = set_each (λ i r. (y : ℕ) → has y r ≡ true → (is_in rows i y ≡ true) ⊎ ((i ≡ n) × (y ≡ o))) rows n (row rows n ++ o ∷ []) (λ i y h. inl h) (λ y h. one y (push_cases y o (row rows n) h)) m x
@@ -100,7 +96,7 @@ has_at o (x ∷ xs) e = elim (or_cases (nat_eq o x) (has o xs) e) [ inl h ↦ (0
 pub at_has : (xs : List ℕ) (k : ℕ) → k < length xs → has (get_or xs k 0) xs ≡ true
 at_has [] k l = absurd (omega arith)
 at_has (x ∷ xs) zero l = or_left (nat_eq x x) (has x xs) (eq-eqb x x refl)
-at_has (x ∷ xs) (suc k) l = or_true (nat_eq (get_or xs k 0) x) (has (get_or xs k 0) xs) (at_has xs k (omega arith))
+at_has (x ∷ xs) (suc k) l = or_right (nat_eq (get_or xs k 0) x) (has (get_or xs k 0) xs) (at_has xs k (omega arith))
 
 -- lists grow
 pub put_longer : (rows : Lists) (n o m : ℕ) → length (row rows m) ≤ length (row (set rows n (row rows n ++ o ∷ [])) m)

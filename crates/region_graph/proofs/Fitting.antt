@@ -24,9 +24,10 @@ use Rattle.plan_model.specs.Lists.{numbers_below, in_order, placed}
 use Rattle.region_graph.specs.Fitting.{CoverFits, Fits, WindowFits, WindowsFit}
 use Rattle.region_graph.proofs.Ending.{Comes, a_final}
 use Rattle.region_graph.proofs.FewerCovers.{fewer_covers}
-use Rattle.region_graph.proofs.Pairs.{AreRegions, AreCovers, all_below, region_pair_among, cover_pair_among}
+use Rattle.region_graph.proofs.Pairs.{AreRegions, AreCovers, region_pair_among, cover_pair_among}
 use Rattle.region_graph.proofs.Steps.{fewer_regions, fewer_parts}
 use Rattle.common_laws.proofs.Tests.{true_both as both}
+use Rattle.plan_model.proofs.Numbers.{all_below}
 
 -- where first and last address lie in one aligned range, it holds both
 pub inside_joined : (c d : Cover) (n : ℕ) → 0 < n → lowest c d / n ≡ highest c d / n

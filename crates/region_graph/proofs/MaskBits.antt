@@ -1,5 +1,5 @@
 -- The number of a list of bits, bit by bit from the last.
-use Rattle.std.proofs.Common.{◌≡◌, ℕ, zero, suc, ◌<◌, ◌≤◌, ◌+◌, ◌-◌, ◌*◌, ◌^◌, Bool, cond, List, ◌∷◌, length, map, get_or, take, drop, min, ap, sym, ◌∙◌, add-one, lit<, arith}
+use Rattle.std.proofs.Common.{◌≡◌, ℕ, ◌<◌, ◌≤◌, ◌+◌, ◌-◌, ◌*◌, ◌^◌, Bool, cond, List, ◌∷◌, length, map, get_or, take, drop, min, ap, sym, ◌∙◌, add-one, arith}
 use Rattle.std.proofs.Math.Nat.{pow-succ'}
 use Rattle.std.proofs.lemmas.List.{drop_more, get_or-take, length-take, drop_all}
 use Rattle.plan_model.specs.InitialGraph.{number_of_bits}
@@ -33,7 +33,3 @@ bits_small most left mask bit p m l b =
     let k : most - (left - 1) ≡ most - left + 1 = omega arith in
     let twice : 2 ^ (most - (left - 1)) ≡ 2 * 2 ^ (most - left) = ap (λ n. 2 ^ n) k ∙ power_more (most - left) in
     omega (arith, twice)
-
-pub power_positive : (k : ℕ) → 0 < 2 ^ k
-power_positive zero = lit< tt
-power_positive (suc k) = let twice = pow-succ' 2 k in omega (arith, twice, power_positive k)

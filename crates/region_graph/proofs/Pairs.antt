@@ -12,6 +12,7 @@ use Rattle.plan_model.specs.Regions.{is_user, region_at, regions_used}
 use Rattle.region_graph.specs.declared.choices.Choice.{Choice}
 use Rattle.region_graph.specs.Choices.{pair_of}
 use Rattle.plan_model.specs.Merging.{region_cost, region_pair, cover_cost, cover_pair}
+use Rattle.plan_model.proofs.Numbers.{all_below}
 
 -- what holds of all holds of the cheapest
 module _ {X : Type 0} (P : X → Type 0) (cost : X → ℕ) where
@@ -37,9 +38,6 @@ module _ (Q : ℕ → Type 0) where
   pairs_among (n ∷ ns) h =
       let front : All (λ m. Q n × Q m) ns = All-weaker Q (λ m. Q n × Q m) (λ m k. (All-head Q n ns h, k)) ns (All-tail Q n ns h) in
       All-append Both _ (pairs ns) (All-map Both (λ (m : ℕ). let q : Pair = record { first = n; second = m } in q) ns front) (pairs_among ns (All-tail Q n ns h))
-
-pub all_below : (n : ℕ) → All (λ k. k < n) (numbers_below n)
-all_below n = All-from_get_or (λ k. k < n) (numbers_below n) 0 (λ i l. let size = length-range_with_len 0 n in let small : i < n = omega arith in let e = get_or-range_with_len 0 n i 0 small in omega arith)
 
 -- ---- two data regions
 

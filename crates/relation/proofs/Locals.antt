@@ -133,15 +133,6 @@ module _ (k : Build) (places : ℕ → ℕ) (facts : Facts k) where
       spot_back (own k fr.func (places fr.number)) (waiting_by k places (site_of k ws) ws ++ areas k places ws) (own_words k places fr (link k places ws)) _ _ _ _ _ (own_length k places fr (places fr.number) (link k places ws) (facts.shapes fr.func) wh.0)
       (spot_back (waiting_by k places (site_of k ws) ws) (areas k places ws) (waiting_words k places (site_of k ws) (first_or_zero ss) ws) _ _ _ _ _ (length_waiting (site_of k ws) ws (first_or_zero ss)) r)
 
-pub width_some : (t : PlainType) → 0 < width_of t
-width_some U8 = omega arith
-width_some U16 = omega arith
-width_some U32 = omega arith
-width_some (Pointer t) = omega arith
-width_some (Array n t) = omega arith
-width_some (Named n) = omega arith
-width_some (Callee a r) = omega arith
-
 word_twice : (x : ℕ) → cut 4 (cut 4 x) ≡ cut 4 x
 word_twice x = let a = cut_four x in cut_four (cut 4 x) ∙ (let q : cut 4 x % 2 ^ 32 ≡ x % 2 ^ 32 = omega arith in q) ∙ sym (cut_four x)
 

@@ -1,5 +1,5 @@
 -- Things that are found by their numbers, and bits behind the last of a mask.
-use Rattle.std.proofs.Common.{◌≡◌, ℕ, zero, suc, ◌+◌, ◌-◌, ◌%◌, ◌<◌, ◌≤◌, ◌^◌, Bool, true, false, List, [], ◌∷◌, cond, filter, map, flat_map, get_or, length, Some, slice_get, nat_lt, ap, subst, ◌∙◌, sym, arith}
+use Rattle.std.proofs.Common.{◌≡◌, ℕ, zero, suc, ◌+◌, ◌-◌, ◌%◌, ◌<◌, ◌≤◌, ◌^◌, Bool, true, false, List, [], ◌∷◌, cond, filter, map, flat_map, get_or, length, Some, slice_get, ap, subst, ◌∙◌, sym, arith}
 use Rattle.std.specs.Int.{bit_at}
 use Rattle.std.proofs.lemmas.Option.{get_or_from_slice_get, slice_get_within, slice_get-get_or}
 use Rattle.std.proofs.Math.Nat.{div-eq_of_lt, pow-le-pow_right}
@@ -10,7 +10,6 @@ use Rattle.ir_model.specs.declared.firmware.Func.{Func}
 use Rattle.ir_model.specs.declared.firmware.Slot.{Slot}
 use Rattle.ir_model.specs.declared.firmware.Global.{Global}
 use Rattle.ir_model.specs.declared.firmware.FileDecl.{FileDecl}
-use Rattle.std.proofs.lemmas.Bool.Decides.{nat_tests}
 use Rattle.std.proofs.lemmas.List.FromFn.{length-range_with_len, get_or-range_with_len}
 use Rattle.plan_model.specs.Lists.{numbers_below}
 use Rattle.report.specs.Names.{no_func_names, names_in, func_names_in}
@@ -79,9 +78,6 @@ less mask bit m b = let up : 2 ^ 32 ≤ 2 ^ bit = pow-le-pow_right {n = 2} (omeg
 -- a number below 2^32 has no bit from 32 on
 pub no_bit : (mask bit : ℕ) → mask < 2 ^ 32 → 32 ≤ bit → bit_at mask bit ≡ 0
 no_bit mask bit m b = ap (λ q. q % 2) (div-eq_of_lt (less mask bit m b))
-
-pub not_below : (a b : ℕ) → b ≤ a → nat_lt a b ≡ false
-not_below a b l = grind (arith, nat_tests)
 
 -- ---- numbers that pass a test stay below their bound
 

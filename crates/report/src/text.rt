@@ -68,7 +68,7 @@ impl Text {
     }
 
     /// Puts the decimal digits of a number behind the bytes that are there.
-    #[tactic(auto, using(crate::proofs::Digits::decimal_one, lines::proofs::Digits::with_last))]
+    #[tactic(auto, using(std::proofs::lemmas::Fmt::decimal_digit, lines::proofs::Digits::with_last))]
     pub(crate) fn put_decimal(&mut self, number: u64) -> Result<(), AllocError>
         ensures { OnOk result (self.new ≡ self.old ++ decimal number) }
     {

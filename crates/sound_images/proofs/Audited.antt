@@ -1,6 +1,6 @@
 -- What the checks of the page, of the tables' size and of the ranges with initial words tell of a sound image.
 use Rattle.std.proofs.Common.{◌≡◌, ℕ, ◌+◌, ◌-◌, ◌*◌, ◌%◌, ◌≤◌, true, ◌&&◌, List, [], ◌∷◌, ◌++◌, length, nat_eq, nat_lt, nat_le, None, arith}
-use Rattle.std.proofs.lemmas.Bool.Decides.{nat_tests}
+use Rattle.std.proofs.lemmas.Bool.{eqb-true, leb-true}
 use Rattle.device_model.specs.declared.image.Image.{Image}
 use Rattle.device_model.specs.Rules.{block_size}
 use Rattle.common_laws.specs.Lists.{Each}
@@ -18,12 +18,6 @@ use Rattle.access_law.specs.Simulation.{IsRange}
 use Rattle.common_laws.proofs.Tests.{both_true as both}
 use Rattle.monitor_laws.proofs.Checked.{must_none, and_none, unless_none, begins_with}
 
-le_is : (a b : ℕ) → nat_le a b ≡ true → a ≤ b
-le_is a b h = grind (arith, nat_tests)
-
-eq_is : (a b : ℕ) → nat_eq a b ≡ true → a ≡ b
-eq_is a b h = grind (arith, nat_tests)
-
 whole : (e a : ℕ) → e % 4 ≡ 0 → a % 4 ≡ 0 → (e - a) % 4 ≡ 0
 whole e a h k = omega arith
 
@@ -37,7 +31,7 @@ module _ (i : Image) (t : Tables) where
       let e = both (is_inside n.at (n.end - n.at) i.ram_base i.ram_size) (are_apart n.at (n.end - n.at) t.stack.base t.stack.size && are_apart n.at (n.end - n.at) t.monitor block_size) d.0 in
       let f = both (are_apart n.at (n.end - n.at) t.stack.base t.stack.size) (are_apart n.at (n.end - n.at) t.monitor block_size) e.1 in
       record {
-        whole = whole n.end n.at (eq_is (n.end % 4) 0 b.0) (eq_is (n.at % 4) 0 a.0);
+        whole = whole n.end n.at (eqb-true (n.end % 4) 0 b.0) (eqb-true (n.at % 4) 0 a.0);
         in_ram = (decides_inside n.at (n.end - n.at) i.ram_base i.ram_size).0 e.0;
         off_block = (decides_apart n.at (n.end - n.at) t.monitor block_size).0 f.1;
       }
@@ -59,7 +53,7 @@ module _ (i : Image) (t : Tables) where
       let f = and_none (must (nat_eq t.stack.size i.stack_size) (head_at t + 24)) _ e.1 in
       let g = and_none (must (nat_eq t.monitor i.monitor) (head_at t + 28)) _ f.1 in
       let k = must_none (is_inside t.base (tables_size t) i.flash_base (length i.flash) && nat_le (area_end t) (t.base + tables_size t)) (head_at t) g.1 in
-      le_is (area_end t) (t.base + tables_size t) (both (is_inside t.base (tables_size t) i.flash_base (length i.flash)) (nat_le (area_end t) (t.base + tables_size t)) k).1
+      leb-true (area_end t) (t.base + tables_size t) (both (is_inside t.base (tables_size t) i.flash_base (length i.flash)) (nat_le (area_end t) (t.base + tables_size t)) k).1
 
 pub record Audited (code : MonitorCode) (i : Image) (t : Tables) : Type 0 where
   pub behind : List ℕ

@@ -52,13 +52,14 @@ use Rattle.relation.specs.Relation.{word_of, address_of, areas, held, block_of, 
 use Rattle.relation.specs.Cases.{Follows, CaseFollows}
 use Rattle.relation.proofs.Frames.{safe}
 use Rattle.relation.proofs.Blocks.{is_open}
-use Rattle.relation.proofs.Locals.{is_it, local_spot, global_spot, width_some}
+use Rattle.relation.proofs.Locals.{is_it, local_spot, global_spot}
 use Rattle.source_steps.proofs.Premises.{Premises}
 use Rattle.source_steps.proofs.Standing.{next_code}
 use Rattle.source_steps.proofs.Steps.{frame_room, keeps_on, Here as HereStands, point_of, state_of, whole}
 use Rattle.source_steps.proofs.Registers.{register_word, inst_runs, owned_by, pointer_or, global_place, global_count}
 use Rattle.source_steps.proofs.Cells.{each_at, aligned_sum, Found, found_cell, cell_word, placed_area}
 use Rattle.source_steps.proofs.Reaching.{LiesAt, cell_lies, lent_cell, open_cell}
+use Rattle.ir_laws.proofs.Layouts.{positive_width}
 
 -- the first halfword of an instruction may be fetched
 first_fetched : (j : PermissionTest) (p : ProtectionState) (pc : ℕ) (c : Halves) → MayFetch j p pc c → j p Fetch pc ≡ true
@@ -123,7 +124,7 @@ module _ (k : Build) (Inv : Block → Context → List ℕ → Type 0) (sizes : 
           by_mpu st.context.protection Read (base k.setting + a.at) ≡ true → Fits k.program sizes X ct v → Spot (areas k places (wheres (fr ∷ rest))) (held k places st.statuses (fr ∷ rest) m.globals) a (word_of k places v) (word_of k places new) us →
           Follows k Inv places t (Running (onward (with_register fr to v) ∷ rest) m) []
       direct o c a v new us X ct points addr wid wt al ok fits sp =
-          let ws = width_some ty in
+          let ws = positive_width ty in
           let pl = placed_area k Inv sizes S w places fr rest m t st a sp.index (omega arith) sp.is_at in
           let lw = pl.low in
           let pa = address o c (base k.setting + a.at) points addr (omega arith) in
@@ -143,7 +144,7 @@ module _ (k : Build) (Inv : Block → Context → List ℕ → Type 0) (sizes : 
           IsLentTo k.setting (k.setting.has_read_loan block.current) block (base k.setting + a.at) (width_of ty) → Fits k.program sizes X ct v → Spot (areas k places (wheres (fr ∷ rest))) (held k places st.statuses (fr ∷ rest) m.globals) a (word_of k places v) (word_of k places new) us →
           Follows k Inv places t (Running (onward (with_register fr to v) ∷ rest) m) []
       by_loan o c a v new us X ct points addr wid wt al lent fits sp =
-          let ws = width_some ty in
+          let ws = positive_width ty in
           let oc : ℕ = places fr.number in
           let pl = placed_area k Inv sizes S w places fr rest m t st a sp.index (omega arith) sp.is_at in
           let lw = pl.low in
@@ -192,7 +193,7 @@ module _ (k : Build) (Inv : Block → Context → List ℕ → Type 0) (sizes : 
               let size : ℕ = (global_at k.program x).shape.size in
               let f = found_cell cs size c j ty (w.found cs c ty j q) (w.cells.globals x) (w.laid_globals x) in
               let gp = global_place k Inv sizes S w places x h in
-              let wp = width_some ty in
+              let wp = positive_width ty in
               let ci = f.inside in
               let a : Area = record { at = 0 + get_or (global_starts k) x 0 + (cell_in cs j).at; width = width_of (cell_in cs j).ty } in
               let cp = f.place in
@@ -223,7 +224,7 @@ module _ (k : Build) (Inv : Block → Context → List ℕ → Type 0) (sizes : 
               let b = w.linked.windows.bases q h in
               let u = w.windows.each q h in
               let ut = u.place.1 in
-              let wp = width_some ty in
+              let wp = positive_width ty in
               let addr : address_of k places (OfPeriph q) + c ≡ (window_at k.program q).base + c = omega arith in
               let pa = address (OfPeriph q) c ((window_at k.program q).base + c) points addr (omega arith) in
               let a4 = w.linked.windows.aligned q h in

@@ -19,10 +19,11 @@ use Rattle.monitor.specs.Threads.{base, stack_end, IsLentTo}
 use Rattle.thread_runs.specs.Areas.{Area}
 use Rattle.relation.specs.Builds.{Build, func, words_at, lends_at, starts_at, places_at}
 use Rattle.relation.specs.Relation.{address_of, block_of}
-use Rattle.relation.proofs.Locals.{loan_there, IsLend, width_some}
+use Rattle.relation.proofs.Locals.{loan_there, IsLend}
 use Rattle.source_steps.proofs.Premises.{Premises}
 use Rattle.source_steps.proofs.Steps.{Here as HereStands}
 use Rattle.source_steps.proofs.Cells.{aligned_sum, Found, own_open, any_open, frame_ends}
+use Rattle.ir_laws.proofs.Layouts.{positive_width}
 
 -- a local with a number is lent
 lend_among : (ss : List ℕ) (ns : List (Option ℕ)) (l n : ℕ) → l < length ss → get_or ns l None ≡ Some n → IsLend (record { slot = get_or ss l 0 / 4; number = n }) (lends_among ss ns)
@@ -61,7 +62,7 @@ module _ (k : Build) (Inv : Block → Context → List ℕ → Type 0) (sizes : 
         let si = (w.facts.shapes f).local_inside l hl in
         let pl = fo.place in
         let ins = fo.inside in
-        let ws = width_some ty in
+        let ws = positive_width ty in
         let ra = w.facts.rules.image.ram_aligned in
         let al = aligned_sum ty (base k.setting + places n + get_or (starts_at k f) l 0) c (omega arith) fo.aligned in
         let z : base k.setting + places n + get_or (starts_at k f) l 0 + c ≡ base k.setting + (places n + get_or (starts_at k f) l 0 + (cell_in (cells_of_local k.program f l) j).at) = omega arith in
@@ -101,5 +102,5 @@ module _ (k : Build) (Inv : Block → Context → List ℕ → Type 0) (sizes : 
             let si = (w.facts.shapes f).local_inside l hl in
             let pl = fo.place in
             let ins = fo.inside in
-            let ws = width_some ty in
+            let ws = positive_width ty in
             own_open k Inv sizes S w places fr rest m t st _ (omega arith) (omega arith)

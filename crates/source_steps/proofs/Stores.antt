@@ -48,7 +48,7 @@ use Rattle.relation.specs.Relation.{word_of, address_of, areas, held, block_of, 
 use Rattle.relation.specs.Cases.{Follows, CaseFollows}
 use Rattle.relation.proofs.Frames.{safe, all_laid}
 use Rattle.relation.proofs.Blocks.{is_open}
-use Rattle.relation.proofs.Locals.{local_spot, global_spot, width_some, stored_value}
+use Rattle.relation.proofs.Locals.{local_spot, global_spot, stored_value}
 use Rattle.source_steps.proofs.Premises.{Premises}
 use Rattle.source_steps.proofs.Standing.{next_code}
 use Rattle.source_steps.proofs.Steps.{frame_room, goes_on, Here as HereStands, point_of, state_of}
@@ -57,6 +57,7 @@ use Rattle.source_steps.proofs.Cells.{each_at, aligned_sum, Found, found_cell, p
 use Rattle.source_steps.proofs.Reaching.{LiesAt, cell_lies, lent_cell, open_cell}
 use Rattle.source_steps.proofs.Loads.{own_code, found_fits, all_whole}
 use Rattle.ir_laws.proofs.Moving.{wheres_stay}
+use Rattle.ir_laws.proofs.Layouts.{positive_width}
 
 -- the running frame moves on, and is the same otherwise
 moved_on : (fr : Frame) (rest : List Frame) (f n : ℕ) (h : Frame) → frame_in (fr ∷ rest) f n ≡ Some h → (g : Frame) × (frame_in (onward fr ∷ rest) f n ≡ Some g) × (g.locals ≡ h.locals)
@@ -118,7 +119,7 @@ module _ (k : Build) (Inv : Block → Context → List ℕ → Type 0) (sizes : 
           by_mpu st.context.protection Write (base k.setting + a.at) ≡ true → n.queues ≡ m.queues → wheres fs ≡ where_of (onward fr) ∷ wheres rest →
           Spot (areas k places (wheres (fr ∷ rest))) (held k places st.statuses (fr ∷ rest) m.globals) a old (word_of k places value) (held k places st.statuses fs n.globals) → Follows k Inv places t (Running fs n) []
       direct o c a n fs old points addr wid al ok qs stand sp =
-          let ws = width_some ty in
+          let ws = positive_width ty in
           let pl = placed_area k Inv sizes S w places fr rest m t st a sp.index (omega arith) sp.is_at in
           let lw = pl.low in
           let pa = address o c (base k.setting + a.at) points addr (omega arith) in
@@ -145,7 +146,7 @@ module _ (k : Build) (Inv : Block → Context → List ℕ → Type 0) (sizes : 
           IsLentTo k.setting (k.setting.has_loan block.current) block (base k.setting + a.at) (width_of ty) → wheres fs ≡ where_of (onward fr) ∷ wheres rest →
           Spot (areas k places (wheres (fr ∷ rest))) (held k places st.statuses (fr ∷ rest) m.globals) a old (word_of k places value) (held k places st.statuses fs m.globals) → Follows k Inv places t (Running fs m) []
       by_loan o c a fs old points addr wid al lent stand sp =
-          let ws = width_some ty in
+          let ws = positive_width ty in
           let oc : ℕ = places fr.number in
           let pl = placed_area k Inv sizes S w places fr rest m t st a sp.index (omega arith) sp.is_at in
           let lw = pl.low in
@@ -192,7 +193,7 @@ module _ (k : Build) (Inv : Block → Context → List ℕ → Type 0) (sizes : 
               let size : ℕ = (global_at k.program x).shape.size in
               let f = found_cell cs size c j ty (w.found cs c ty j q) (w.cells.globals x) (w.laid_globals x) in
               let gp = global_place k Inv sizes S w places x h in
-              let wp = width_some ty in
+              let wp = positive_width ty in
               let ci = f.inside in
               let a : Area = record { at = 0 + get_or (global_starts k) x 0 + (cell_in cs j).at; width = width_of (cell_in cs j).ty } in
               let cp = f.place in
@@ -226,7 +227,7 @@ module _ (k : Build) (Inv : Block → Context → List ℕ → Type 0) (sizes : 
               let b = w.linked.windows.bases q h in
               let u = w.windows.each q h in
               let ut = u.place.1 in
-              let wp = width_some ty in
+              let wp = positive_width ty in
               let addr : address_of k places (OfPeriph q) + c ≡ (window_at k.program q).base + c = omega arith in
               let pa = address (OfPeriph q) c ((window_at k.program q).base + c) points addr (omega arith) in
               let a4 = w.linked.windows.aligned q h in

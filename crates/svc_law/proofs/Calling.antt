@@ -1,8 +1,8 @@
 -- A call of the monitor behind the entry, and the answers of lend and unlend.
 use Rattle.std.specs.Prelude.{if◌then◌else◌, nat_le}
 use Rattle.std.proofs.Common.{◌≡◌, ◌≢◌, ℕ, suc, ◌+◌, ◌-◌, ◌*◌, ◌/◌, ◌%◌, ◌^◌, ◌<◌, ◌≤◌, ◌⊎◌, inl, inr, ⊎_elim, Bool, true, false, ◌&&◌, List, [], ◌∷◌, length, nat_eq, nat_lt, refl, sym, ap, ap₂, ◌∙◌, subst, arith}
-use Rattle.std.proofs.lemmas.Bool.Decides.{nat_tests}
 use Rattle.std.specs.Int.{bit_at}
+use Rattle.std.proofs.lemmas.Bool.{ltb-true, eqb-true, leb-true, lt-ltb, eq-eqb, ne_eqb, le-leb}
 use Rattle.words.specs.Arithmetic.{subtract}
 use Rattle.words.specs.Bytes.{read, write}
 use Rattle.mpu_model.specs.declared.region.Access.TheVariants.{Fetch}
@@ -27,7 +27,7 @@ use Rattle.monitor.specs.SvcOutcome.{word, new_loan, may_lend, lend, unlend_to, 
 use Rattle.monitor.specs.Constants.{Constants, constants_with}
 use Rattle.monitor_laws.proofs.Off.{core, with_unit, IsOff, fetched_while_off}
 use Rattle.monitor_laws.proofs.Fetched.{UnitLaws, page_is_fetched}
-use Rattle.monitor_laws.proofs.Opened.{FrameIsOpen, le_true, eq_true}
+use Rattle.monitor_laws.proofs.Opened.{FrameIsOpen}
 use Rattle.monitor_laws.proofs.HandlerWords.{InStack, Changed, changed_write}
 use Rattle.monitor_laws.proofs.EnterSave.{beside, stored}
 use Rattle.monitor_laws.proofs.Lend.{MayLend, with_loan}
@@ -54,24 +54,6 @@ pub record Calling (i : Image) (t : Tables) (s : State) (m : Block) (psp o : ℕ
   pub fits : o + 32 ≤ i.ram_size
   pub is_block : IsBlock i t memory m
   pub as_long : length memory ≡ i.ram_size
-
-pub is_le : (x y : ℕ) → x ≤ y → nat_le x y ≡ true
-is_le x y h = search (nat_tests, arith)
-
-pub is_lt : (x y : ℕ) → x < y → nat_lt x y ≡ true
-is_lt x y h = search (nat_tests, arith)
-
-pub is_eq : (x y : ℕ) → x ≡ y → nat_eq x y ≡ true
-is_eq x y h = search (nat_tests, arith)
-
-pub not_lt : (x y : ℕ) → y ≤ x → nat_lt x y ≡ false
-not_lt x y h = search (nat_tests, arith)
-
-pub not_eq : (x y : ℕ) → x ≢ y → nat_eq x y ≡ false
-not_eq x y h = grind (arith, nat_tests)
-
-pub lt_of : (x y : ℕ) → nat_lt x y ≡ true → x < y
-lt_of x y h = grind (arith, nat_tests)
 
 module _ (i : Image) (t : Tables) (stub : ℕ) (s : State) (m : Block) (psp o : ℕ) (memory : List ℕ) (c : Calling i t s m psp o memory) where
   abbrev k : Constants
@@ -154,19 +136,19 @@ module _ (i : Image) (t : Tables) (stub : ℕ) (s : State) (m : Block) (psp o : 
   open_true : FrameIsOpen i t o memory → is_open i t m psp memory ≡ true
   open_true f =
       true_both (nat_le t.stack.base psp) (nat_le (psp + 32) m.top && nat_eq (bit_at (stacked i psp memory status_place) 9) 0)
-      (is_le t.stack.base psp (let l = f.low in let e = c.at in omega (arith, l, e)))
+      (le-leb t.stack.base psp (let l = f.low in let e = c.at in omega (arith, l, e)))
       (true_both (nat_le (psp + 32) m.top) (nat_eq (bit_at (stacked i psp memory status_place) 9) 0)
-      (is_le (psp + 32) m.top (let h = f.high in let e = top_word in let x = c.at in omega (arith, h, e, x)))
-      (is_eq (bit_at (stacked i psp memory status_place) 9) 0 (ap (λ n. n / 2 ^ 9 % 2) (stacked_is i psp o 7 memory c.at (omega arith)) ∙ f.no_pad)))
+      (le-leb (psp + 32) m.top (let h = f.high in let e = top_word in let x = c.at in omega (arith, h, e, x)))
+      (eq-eqb (bit_at (stacked i psp memory status_place) 9) 0 (ap (λ n. n / 2 ^ 9 % 2) (stacked_is i psp o 7 memory c.at (omega arith)) ∙ f.no_pad)))
 
   open_from : is_open i t m psp memory ≡ true → FrameIsOpen i t o memory
   open_from e =
       let x = both (nat_le t.stack.base psp) (nat_le (psp + 32) m.top && nat_eq (bit_at (stacked i psp memory status_place) 9) 0) e in
       let y = both (nat_le (psp + 32) m.top) (nat_eq (bit_at (stacked i psp memory status_place) 9) 0) x.1 in
       record {
-        low = let l = le_true t.stack.base psp x.0 in let z = c.at in omega (arith, l, z);
-        high = let l = le_true (psp + 32) m.top y.0 in let z = c.at in let w = top_word in omega (arith, l, z, w);
-        no_pad = ap (λ n. n / 2 ^ 9 % 2) (sym (stacked_is i psp o 7 memory c.at (omega arith))) ∙ eq_true (bit_at (stacked i psp memory status_place) 9) 0 y.1;
+        low = let l = leb-true t.stack.base psp x.0 in let z = c.at in omega (arith, l, z);
+        high = let l = leb-true (psp + 32) m.top y.0 in let z = c.at in let w = top_word in omega (arith, l, z, w);
+        no_pad = ap (λ n. n / 2 ^ 9 % 2) (sym (stacked_is i psp o 7 memory c.at (omega arith))) ∙ eqb-true (bit_at (stacked i psp memory status_place) 9) 0 y.1;
       }
 
   pub outcome_open : (n : ℕ) → FrameIsOpen i t o memory → svc_outcome i t stub m psp memory n ≡ by_number i t stub m psp memory n
@@ -239,7 +221,7 @@ module _ (i : Image) (t : Tables) (stub : ℕ) (s : State) (m : Block) (psp o : 
   unlend_halts [] e d r h = halted 6 d r
   unlend_halts (l ∷ ls) e d r h =
       let x : suc (length ls) ≡ m.mark = sym (ap (λ l. length l) e) ∙ sym c.is_block.loan_count_is ∙ h ∙ c.is_block.mark_is in
-      subst (λ z. A (if z then Halts 6 else Resumes (unlent m ls) psp memory) (Halted 6 d)) (sym (is_eq (suc (length ls)) m.mark x)) (halted 6 d r)
+      subst (λ z. A (if z then Halts 6 else Resumes (unlent m ls) psp memory) (Halted 6 d)) (sym (eq-eqb (suc (length ls)) m.mark x)) (halted 6 d r)
 
   pub unlend_goes : (ls : List Loan) → m.loans ≡ ls → FrameIsOpen i t o memory → (q : ProtectionState) (new : List ℕ) (a0 a1 a2 a3 a4 a5 a6 a7 : ℕ) → q ≡ with_unit off (record off.mpu { control = 5 }) → read 4 (b + 12) memory ≢ read 4 (b + 16) memory → new ≡ write 4 (b + 12) (subtract (read 4 (b + 12) memory) 1) memory →
       A (unlend_to i t stub m psp memory ls) (AtReturn (core (t.monitor + block_size) psp q s.status new a0 a1 a2 a3 a4 a5 a6 a7))
@@ -254,7 +236,7 @@ module _ (i : Image) (t : Tables) (stub : ℕ) (s : State) (m : Block) (psp o : 
       let few : suc (length ls) ≤ 32 = (let x = c.invariant.inv.orderly.few in let y : length m.loans ≡ suc (length ls) = ap (λ l. length l) e in omega (arith, x, y)) in
       let less : subtract (read 4 (b + 12) memory) 1 ≡ length ls = omega (arith, n, few) in
       let other : suc (length ls) ≢ m.mark = λ z. h (n ∙ z ∙ sym c.is_block.mark_is) in
-      subst (λ z. A (if z then Halts 6 else Resumes (unlent m ls) psp memory) (AtReturn (core (t.monitor + block_size) psp q s.status new a0 a1 a2 a3 a4 a5 a6 a7))) (sym (not_eq (suc (length ls)) m.mark other))
+      subst (λ z. A (if z then Halts 6 else Resumes (unlent m ls) psp memory) (AtReturn (core (t.monitor + block_size) psp q s.status new a0 a1 a2 a3 a4 a5 a6 a7))) (sym (ne_eqb (suc (length ls)) m.mark other))
       (core (t.monitor + block_size) psp q s.status new a0 a1 a2 a3 a4 a5 a6 a7, refl, resuming (unlent m ls) refl refl f q eq new (unlent_ram l ls new e (w ∙ ap (λ v. write 4 (b + 12) v memory) less)) a0 a1 a2 a3 a4 a5 a6 a7)
 
   -- ---- lend
@@ -276,10 +258,10 @@ module _ (i : Image) (t : Tables) (stub : ℕ) (s : State) (m : Block) (psp o : 
 
   may_true : MayLend t psp m.top live address number → may_lend i t stub m psp memory ≡ true
   may_true x =
-      true_both (nat_lt live 32) _ (is_lt live 32 x.room)
-      (true_both (nat_lt number (length t.lends)) _ (is_lt number (length t.lends) x.number_in)
-      (true_both (nat_eq (address % 4) 0) _ (is_eq (address % 4) 0 x.aligned)
-      (true_both (nat_le (psp + 32) address) (nat_le (address + lend_size t number) m.top) (is_le (psp + 32) address x.low) (is_le (address + lend_size t number) m.top x.high))))
+      true_both (nat_lt live 32) _ (lt-ltb live 32 x.room)
+      (true_both (nat_lt number (length t.lends)) _ (lt-ltb number (length t.lends) x.number_in)
+      (true_both (nat_eq (address % 4) 0) _ (eq-eqb (address % 4) 0 x.aligned)
+      (true_both (nat_le (psp + 32) address) (nat_le (address + lend_size t number) m.top) (le-leb (psp + 32) address x.low) (le-leb (address + lend_size t number) m.top x.high))))
 
   may_from : may_lend i t stub m psp memory ≡ true → MayLend t psp m.top live address number
   may_from e =
@@ -287,7 +269,7 @@ module _ (i : Image) (t : Tables) (stub : ℕ) (s : State) (m : Block) (psp o : 
       let x2 = both (nat_lt number (length t.lends)) (nat_eq (address % 4) 0 && (nat_le (psp + 32) address && nat_le (address + lend_size t number) m.top)) x1.1 in
       let x3 = both (nat_eq (address % 4) 0) (nat_le (psp + 32) address && nat_le (address + lend_size t number) m.top) x2.1 in
       let x4 = both (nat_le (psp + 32) address) (nat_le (address + lend_size t number) m.top) x3.1 in
-      record { room = lt_of live 32 x1.0; number_in = lt_of number (length t.lends) x2.0; aligned = eq_true (address % 4) 0 x3.0; low = le_true (psp + 32) address x4.0; high = le_true (address + lend_size t number) m.top x4.1 }
+      record { room = ltb-true live 32 x1.0; number_in = ltb-true number (length t.lends) x2.0; aligned = eqb-true (address % 4) 0 x3.0; low = leb-true (psp + 32) address x4.0; high = leb-true (address + lend_size t number) m.top x4.1 }
 
   pub lend_halts : (d : Core) → d.ram ≡ memory → (MayLend t psp m.top live address number → ⊥) → A (lend i t stub m psp memory) (Halted 6 d)
   lend_halts d r refused = by (may_lend i t stub m psp memory) refl

@@ -2,6 +2,7 @@
 use Rattle.std.specs.Prelude.{if◌then◌else◌, slice_index}
 use Rattle.std.proofs.Common.{◌≡◌, ℕ, zero, suc, ◌+◌, ◌-◌, ◌*◌, ◌/◌, ◌^◌, ◌<◌, ◌≤◌, ◌⊎◌, inl, inr, ⊎_elim, Bool, true, false, ◌&&◌, List, ◌∷◌, length, map, drop, nat_eq, nat_lt, Option, Some, None, refl, sym, ap, ◌∙◌, subst, arith, length-drop}
 use Rattle.std.proofs.lemmas.List.{length-map}
+use Rattle.std.proofs.lemmas.Bool.{ltb-true, eqb-true, lt-ltb, eq-eqb}
 use Rattle.words.specs.Bytes.{read, write, write_all, cut}
 use Rattle.words.proofs.Bytes.{read_all, read_below_all, read_above_all, length-write_all, cut_small, cut_four}
 use Rattle.mpu_model.specs.Laws.{kept_region}
@@ -26,7 +27,7 @@ use Rattle.monitor.specs.Outcomes.{Outcome, Halts, Resumes, stacked, with_stacke
 use Rattle.monitor.specs.SvcOutcome.{word, callee_frame, enter_to, enter_by, enter_at, leave_to}
 use Rattle.monitor.specs.Constants.{Constants, constants_with}
 use Rattle.monitor_laws.proofs.Off.{core, with_unit}
-use Rattle.monitor_laws.proofs.Opened.{FrameIsOpen, eq_true}
+use Rattle.monitor_laws.proofs.Opened.{FrameIsOpen}
 use Rattle.monitor_laws.proofs.HandlerWords.{InStack, Changed, changed_write, apart_from_block}
 use Rattle.monitor_laws.proofs.Leave.{HasFirstRegions}
 use Rattle.monitor_laws.proofs.LeaveWords.{Leaving, HasLeft}
@@ -35,7 +36,7 @@ use Rattle.handler_runs.proofs.Frames.{stacked_is}
 use Rattle.handler_runs.proofs.Blocks.{saved_stay, loans_stay, loans_dropped}
 use Rattle.handler_runs.proofs.Returned.{LeavesRam, Answers}
 use Rattle.svc_law.proofs.Enter.{HasEntered, NewTop}
-use Rattle.svc_law.proofs.Calling.{Calling, off, halted, frame, is_lt, is_eq, lt_of}
+use Rattle.svc_law.proofs.Calling.{Calling, off, halted, frame}
 use Rattle.common_laws.proofs.Tests.{both_true as both, true_both}
 use Rattle.common_laws.proofs.Lists.{each_at}
 
@@ -221,7 +222,7 @@ module _ (i : Image) (t : Tables) (stub : ℕ) (s : State) (m : Block) (psp o : 
     found_is : read 2 ro i.flash < length t.sites → (site_at t (read 2 ro i.flash)).ret ≡ ret → enter_by i t stub m psp memory (read 2 ro i.flash) ≡ enter_to i t stub m psp memory last
     found_is lt re =
         ap (λ b. if b then enter_to i t stub m psp memory (last_with_entry (word i t stub m psp memory r12_place) (targets_of t (site_at t (read 2 ro i.flash)))) else Halts 2)
-        (true_both (nat_lt (read 2 ro i.flash) (length t.sites)) (nat_eq (site_at t (read 2 ro i.flash)).ret (word i t stub m psp memory return_place)) (is_lt (read 2 ro i.flash) (length t.sites) lt) (is_eq (site_at t (read 2 ro i.flash)).ret (word i t stub m psp memory return_place) (re ∙ sym ret_word)))
+        (true_both (nat_lt (read 2 ro i.flash) (length t.sites)) (nat_eq (site_at t (read 2 ro i.flash)).ret (word i t stub m psp memory return_place)) (lt-ltb (read 2 ro i.flash) (length t.sites) lt) (eq-eqb (site_at t (read 2 ro i.flash)).ret (word i t stub m psp memory return_place) (re ∙ sym ret_word)))
         ∙ ap (λ w. enter_to i t stub m psp memory (last_with_entry w (targets_of t (site_at t (read 2 ro i.flash))))) wanted_word
 
     pub no_site_halts : (d : Core) → d.ram ≡ memory → (read 2 ro i.flash < length t.sites → (site_at t (read 2 ro i.flash)).ret ≡ ret → ⊥) → Q (enter_at i t stub m psp memory (place i (word i t stub m psp memory return_place))) (Halted 2 d)
@@ -230,7 +231,7 @@ module _ (i : Image) (t : Tables) (stub : ℕ) (s : State) (m : Block) (psp o : 
         by : (x : Bool) → (nat_lt (read 2 ro i.flash) (length t.sites) && nat_eq (site_at t (read 2 ro i.flash)).ret (word i t stub m psp memory return_place)) ≡ x → Q (enter_by i t stub m psp memory (read 2 ro i.flash)) (Halted 2 d)
         by true e =
             let z = both (nat_lt (read 2 ro i.flash) (length t.sites)) (nat_eq (site_at t (read 2 ro i.flash)).ret (word i t stub m psp memory return_place)) e in
-            absurd (refused (lt_of (read 2 ro i.flash) (length t.sites) z.0) (eq_true (site_at t (read 2 ro i.flash)).ret (word i t stub m psp memory return_place) z.1 ∙ ret_word))
+            absurd (refused (ltb-true (read 2 ro i.flash) (length t.sites) z.0) (eqb-true (site_at t (read 2 ro i.flash)).ret (word i t stub m psp memory return_place) z.1 ∙ ret_word))
         by false e =
             subst (λ b. Q (if b then enter_to i t stub m psp memory (last_with_entry (word i t stub m psp memory r12_place) (targets_of t (site_at t (read 2 ro i.flash)))) else Halts 2) (Halted 2 d)) (sym e) (halted i t stub s m psp o memory c 2 d r)
 
@@ -257,7 +258,7 @@ module _ (i : Image) (t : Tables) (stub : ℕ) (s : State) (m : Block) (psp o : 
       outcome : enter_at i t stub m psp memory (place i (word i t stub m psp memory return_place)) ≡ Resumes (entered m g.compartment (rounded t psp) psp) (rounded t psp - 32) after_enter
       outcome =
           enter_is ∙ found_is lt re ∙ ap (λ l. enter_to i t stub m psp memory l) e
-          ∙ ap (λ b. if b then Resumes (entered m g.compartment (rounded t psp) psp) (rounded t psp - 32) after_enter else Halts 5) (is_lt t.stack.base (rounded t psp) (let x = z.above in omega (arith, x)))
+          ∙ ap (λ b. if b then Resumes (entered m g.compartment (rounded t psp) psp) (rounded t psp - 32) after_enter else Halts 5) (lt-ltb t.stack.base (rounded t psp) (let x = z.above in omega (arith, x)))
 
       base_inside : i.ram_base ≤ t.stack.base
       base_inside = let a = c.placed.stack_base in let r = c.placed.stack.place.0 in omega (arith, a, r)

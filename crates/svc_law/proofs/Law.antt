@@ -1,7 +1,7 @@
 -- The handler of SVC on every sound image.
 use Rattle.std.specs.Prelude.{if◌then◌else◌}
 use Rattle.std.proofs.Common.{◌≡◌, ℕ, ◌+◌, ◌%◌, ◌<◌, ◌≤◌, ◌⊎◌, inl, inr, ⊎_elim, true, false, List, [], ◌++◌, length, nat_lt, None, refl, sym, ap, ◌∙◌, subst, arith}
-use Rattle.std.proofs.lemmas.Bool.{cases_lt}
+use Rattle.std.proofs.lemmas.Bool.{cases_lt, le-ltb, ne_eqb}
 use Rattle.words.specs.Flags.{holds, compare_flags}
 use Rattle.words.specs.Bytes.{read}
 use Rattle.device_model.specs.declared.image.Image.{Image}
@@ -61,7 +61,7 @@ use Rattle.svc_law.proofs.SvcCode.{offset, room, has_svc, vector_is, offset_even
 use Rattle.handler_runs.proofs.Entry as entry
 use Rattle.handler_runs.proofs.Entry.{EntryLaws}
 use Rattle.handler_runs.proofs.Returned.{ReturnLaws, concluded}
-use Rattle.svc_law.proofs.Calling.{Calling, IsGood, good_entry, outcome_open, outcome_shut, not_lt, not_eq}
+use Rattle.svc_law.proofs.Calling.{Calling, IsGood, good_entry, outcome_open, outcome_shut}
 use Rattle.svc_law.proofs.Numbers as by
 use Rattle.svc_law.proofs.Bus as bus
 use Rattle.common_laws.proofs.Lists.{each_at}
@@ -239,15 +239,15 @@ module _ (laws : CallLaws) (i : Image) (t : Tables) (fit : IsFit i t) (s : State
 
   above_three : 3 < n → Goal
   above_three h =
-      within_steps 80 (let e = steps_large (not_lt n 2 (omega (arith, h))) in omega (arith, e))
+      within_steps 80 (let e = steps_large (le-ltb n 2 (omega (arith, h))) in omega (arith, e))
       (by_list 25 (λ f. subst (λ x. by.W i t stub s m psp o memory calling 25 (by.numbers i t stub s m psp o memory calling) [] (by.at_number i t stub s m psp o memory calling (s.core.pc + 2) n) (by.Q i t stub s m psp o memory calling x)) (sym halts) (by.above i t stub s m psp o memory calling laws.unit f (s.core.pc + 2) n h)))
     where
       halts : by_number i t stub m psp memory n ≡ Halts 1
       halts =
-          let a = not_eq n 0 (λ e. omega (arith, e, h)) in
-          let b = not_eq n 1 (λ e. omega (arith, e, h)) in
-          let c = not_eq n 2 (λ e. omega (arith, e, h)) in
-          let d = not_eq n 3 (λ e. omega (arith, e, h)) in
+          let a = ne_eqb n 0 (λ e. omega (arith, e, h)) in
+          let b = ne_eqb n 1 (λ e. omega (arith, e, h)) in
+          let c = ne_eqb n 2 (λ e. omega (arith, e, h)) in
+          let d = ne_eqb n 3 (λ e. omega (arith, e, h)) in
           rw (a, b, c, d) refl
 
   at_three : n ≡ 3 → Goal

@@ -12,16 +12,15 @@ use Rattle.armv7m.specs.Exceptions.{supervisor_call, vector}
 use Rattle.armv7m.proofs.CodeBytes.{bytes_are_code}
 use Rattle.armv7m.proofs.CodeParts.{length-code_bytes}
 use Rattle.gate_steps.specs.Code.{code, code_length}
-use Rattle.gate_steps.proofs.CodeParts.{code_has_its_length}
+use Rattle.gate_steps.proofs.CodeParts.{code_has_its_length, length_even}
 use Rattle.monitor.specs.declared.tables.Tables.{Tables}
 use Rattle.monitor.specs.Constants.{Constants}
 use Rattle.monitor.specs.Svc.{svc}
 use Rattle.monitor.specs.MemFault.{memfault}
 use Rattle.monitor.specs.Reset.{reset}
 use Rattle.monitor.specs.CodeSize.{CodeFits}
-use Rattle.monitor.specs.Page.{reset_offset, svc_offset, memfault_offset, vectors, bytes_of_words, used_bytes, leave_stub, monitor_code, constants, page, filled_up, vector_to}
+use Rattle.monitor.specs.Page.{reset_offset, svc_offset, memfault_offset, vectors, bytes_of_words, used_bytes, leave_stub, constants, page, vector_to}
 use Rattle.monitor_laws.proofs.PageCode.{middle}
-use Rattle.handler_runs.proofs.Encodable.{length_even}
 use Rattle.svc_law.proofs.SvcEncoded.{svc_in_table}
 
 module _ (i : Image) (t : Tables) (rules : ObeysRules i) (rest : List ℕ) (has : i.flash ≡ page t ++ rest) (first : t.base ≡ i.flash_base) (fits : CodeFits) where

@@ -1,6 +1,7 @@
 -- A site's targets: what the checks of an image tell of sites, where flash has their targets, and the one that enter chooses.
 use Rattle.std.proofs.Common.{◌≡◌, ℕ, zero, suc, ◌+◌, ◌-◌, ◌*◌, ◌<◌, ◌≤◌, Bool, true, false, ◌&&◌, List, [], ◌∷◌, ◌++◌, length, take, drop, get_or, nat_eq, nat_le, Option, Some, None, refl, sym, ap, ap₂, ◌∙◌, subst, arith}
 use Rattle.std.specs.Prelude.{flat_map}
+use Rattle.std.proofs.lemmas.Bool.{leb-true}
 use Rattle.words.specs.Bytes.{read}
 use Rattle.device_model.specs.declared.image.Image.{Image}
 use Rattle.mem_bus.specs.Places.{choose}
@@ -14,7 +15,7 @@ use Rattle.monitor.specs.Area.{HasTables, compartment_words, site_words, target_
 use Rattle.monitor.specs.Checks.{must, and_then, each_record, is_site, is_target, is_entry, sites_fail}
 use Rattle.monitor.specs.Placed.{Placed, IsEntry}
 use Rattle.monitor.specs.Constants.{Constants, constants_with}
-use Rattle.monitor_laws.proofs.Checked.{le_is, must_none, and_none}
+use Rattle.monitor_laws.proofs.Checked.{must_none, and_none}
 use Rattle.monitor_laws.proofs.FlashWords.{Has, flash_has, has_front, has_back, has_record, records_length}
 use Rattle.monitor_laws.proofs.Tables.{counts, product}
 use Rattle.monitor_laws.proofs.Placement.{writable}
@@ -39,7 +40,7 @@ site_fits : (t : Tables) (s : SiteRecord) → is_site t s ≡ true → SiteFits 
 site_fits t s h =
     let a = both (nat_le 1 s.count) (nat_le s.count 64 && nat_le (s.first + s.count) (length t.targets)) h in
     let b = both (nat_le s.count 64) (nat_le (s.first + s.count) (length t.targets)) a.1 in
-    record { some = le_is 1 s.count a.0; few = le_is s.count 64 b.0; inside = le_is (s.first + s.count) (length t.targets) b.1 }
+    record { some = leb-true 1 s.count a.0; few = leb-true s.count 64 b.0; inside = leb-true (s.first + s.count) (length t.targets) b.1 }
 
 each_fits : (t : Tables) (a : ℕ) (xs : List SiteRecord) → each_record (is_site t) a 12 xs ≡ None → Each (SiteFits t) xs
 each_fits t a [] h = tt

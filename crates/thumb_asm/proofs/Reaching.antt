@@ -6,14 +6,13 @@ use Rattle.thumb_model.specs.Table.{width_of, encode}
 use Rattle.thumb_model.specs.declared.table.Code.{Code}
 use Rattle.thumb_model.specs.declared.table.Code.TheVariants as code
 use Rattle.thumb_asm.specs.declared.item.BranchKind.{BranchKind}
-use Rattle.thumb_asm.specs.declared.item.BranchKind.TheVariants.{Cond, Short, Long, Link}
 use Rattle.thumb_asm.specs.declared.item.Item.{Item}
 use Rattle.thumb_asm.specs.declared.item.Label.{Label}
 use Rattle.thumb_asm.specs.declared.item.Item.TheVariants.{Plain, Branch, Half, Word}
 use Rattle.thumb_asm.specs.declared.refusal.AsmRefusal.{AsmRefusal}
 use Rattle.thumb_asm.specs.declared.refusal.AsmRefusal.TheVariants.{FarBranch}
 use Rattle.thumb_asm.specs.Assembly.{Assembly, branch_size, size_of, total, place_of, IsItem, AreItems, ArePut, GoesSomewhere, IsAssembly}
-use Rattle.thumb_asm.specs.Finished.{reach, is_near, first_far, distance}
+use Rattle.thumb_asm.specs.Finished.{reach, is_near, first_far}
 use Rattle.common_laws.proofs.Options.{some_is}
 use Rattle.thumb_asm.proofs.Items.{total_within, branch_even}
 
@@ -27,7 +26,7 @@ size_even (Branch k to) = branch_even k
 size_even (Half h) = refl
 size_even (Word w) = refl
 
-total_even : (is : List Item) → total is % 2 ≡ 0
+pub total_even : (is : List Item) → total is % 2 ≡ 0
 total_even [] = refl
 total_even (i ∷ is) = let a = size_even i in let b = total_even is in omega arith
 

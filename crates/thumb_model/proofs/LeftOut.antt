@@ -1,7 +1,7 @@
 -- What the table leaves out, and how long its instructions are.
 use Rattle.std.proofs.Common.{◌≡◌, ◌≢◌, ℕ, ◌+◌, ◌*◌, ◌/◌, ◌%◌, ◌^◌, ◌<◌, ◌≤◌, refl, subst, arith, rules, if◌then◌else◌, ◌⊎◌, inl, inr, None, nat_eq, nat_lt, true, false}
 use Rattle.std.proofs.lemmas.Bool.Decides.{nat_tests}
-use Rattle.thumb_model.proofs.Offsets.{lt_true, lt_false}
+use Rattle.std.proofs.lemmas.Bool.{lt-ltb, le-ltb}
 use Rattle.thumb_model.proofs.Relation.{decoded_code-related}
 use Rattle.thumb_model.proofs.Round.{in_special, in_stack, in_multiple, in_last, in_pair, in_divide, in_special_register, here, past, move_value-move_pair}
 use Rattle.thumb_model.specs.Table.{InTable, encode, read_code, move_pair}
@@ -180,9 +180,9 @@ shows_its_length (Barrier op) v = omega arith
 pub read_code_half : (i : Instr) (h k : ℕ) → InTable i → encode i ≡ Half h → read_code h k ≡ Half h
 read_code_half i h k v e =
     let below : h < 0xE800 = subst IsSelfDelimiting e (shows_its_length i v) in
-    rw (lt_true h 0xE800 below)
+    rw (lt-ltb h 0xE800 below)
 
 pub read_code_pair : (i : Instr) (h k : ℕ) → InTable i → encode i ≡ Pair h k → read_code h k ≡ Pair h k
 read_code_pair i h k v e =
     let room : (0xE800 ≤ h) × (h < 2 ^ 16) × (k < 2 ^ 16) = subst IsSelfDelimiting e (shows_its_length i v) in
-    rw (lt_false h 0xE800 room.0)
+    rw (le-ltb h 0xE800 room.0)

@@ -1,19 +1,11 @@
 -- Distances of branches and their bits.
-use Rattle.std.proofs.Common.{◌≡◌, ◌≢◌, ℕ, suc, ◌+◌, ◌-◌, ◌*◌, ◌%◌, ◌^◌, ◌<◌, ◌≤◌, refl, ap, arith, nat_eq, nat_lt, true, false, ℤ, pos, negsuc, w32, SFits, ◌⊎◌, inl, inr}
-use Rattle.std.proofs.lemmas.Bool.Decides.{nat_tests, leb_tells}
+use Rattle.std.proofs.Common.{◌≡◌, ℕ, suc, ◌+◌, ◌-◌, ◌*◌, ◌%◌, ◌^◌, ◌<◌, ◌≤◌, refl, ap, arith, ℤ, pos, negsuc, w32, SFits, ◌⊎◌, inl, inr}
+use Rattle.std.proofs.lemmas.Bool.Decides.{leb_tells}
 use Rattle.std.proofs.lemmas.Int.{to_z-of_z, to_z_pos, ints}
 use Rattle.std.specs.Int.{cast_unsigned}
+use Rattle.std.proofs.lemmas.Bool.{lt-ltb, le-ltb}
 use Rattle.thumb_model.specs.Table.{IsOffset, halfwords_of}
 use Rattle.thumb_model.specs.Decoded.{extended}
-
-pub lt_true : (a b : ℕ) → a < b → nat_lt a b ≡ true
-lt_true a b h = search (nat_tests, arith)
-
-pub lt_false : (a b : ℕ) → b ≤ a → nat_lt a b ≡ false
-lt_false a b h = search (nat_tests, arith)
-
-pub not_eq : (a b : ℕ) → a ≢ b → nat_eq a b ≡ false
-not_eq a b h = search (nat_tests, arith)
 
 -- a distance within 2 ^ 24 in two's complement
 record Bits (limit : ℕ) (z : ℤ) : Type 0 where
@@ -37,10 +29,10 @@ extends : (half bits : ℕ) (z : ℤ) → 0 < half → half ≤ 2 ^ 23 → IsOff
 extends half bits z some room v below low high b =
     elim b.ends [
       | inl l ↦
-          let t = lt_true bits half (omega (arith, low l)) in
+          let t = lt-ltb bits half (omega (arith, low l)) in
           rw (t, low l) (to_z-of_z w32 z b.fits)
       | inr r ↦
-          let t = lt_false bits half (omega (arith, high r)) in
+          let t = le-ltb bits half (omega (arith, high r)) in
           rw (t, high r) (to_z-of_z w32 z b.fits)
     ]
 
@@ -65,13 +57,13 @@ extended-24 z v =
 -- what is extended, by its sign
 extended-low : (half bits : ℕ) → half ≤ 2 ^ 23 → bits < half → extended half bits ≡ pos (2 * bits)
 extended-low half bits room below =
-    let t = lt_true bits half below in
+    let t = lt-ltb bits half below in
     rw t (to_z_pos w32 (2 * bits) (omega arith))
 
 extended-high : (half bits : ℕ) → half ≤ 2 ^ 23 → half ≤ bits → bits < 2 * half → extended half bits ≡ negsuc (4 * half - (2 * bits + 1))
 extended-high half bits room above below =
-    let t = lt_false bits half above in
-    let u = lt_false (2 ^ 32 - 4 * half + 2 * bits) (2 ^ 31) (omega arith) in
+    let t = le-ltb bits half above in
+    let u = le-ltb (2 ^ 32 - 4 * half + 2 * bits) (2 ^ 31) (omega arith) in
     let e : 2 ^ 32 - suc (2 ^ 32 - 4 * half + 2 * bits) ≡ 4 * half - (2 * bits + 1) = omega arith in
     rw (t, u) (ap negsuc e)
 

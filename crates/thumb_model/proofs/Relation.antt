@@ -3,7 +3,7 @@ use Rattle.std.proofs.Common.{◌≡◌, ℕ, ◌^◌, ◌<◌, ◌≤◌, refl,
 use Rattle.std.specs.Option.{IfSome, IfNone}
 use Rattle.std.proofs.lemmas.Bool.Decides.{leb_tells}
 use Rattle.std.proofs.lemmas.Option.{same_Some}
-use Rattle.thumb_model.proofs.Offsets.{lt_true, lt_false}
+use Rattle.std.proofs.lemmas.Bool.{lt-ltb, le-ltb}
 use Rattle.thumb_model.proofs.Sound.{narrow, wide}
 use Rattle.thumb_model.proofs.Round.{decoded_code-encode}
 use Rattle.thumb_model.specs.Table.{InTable, Encodes, encode, read_code}
@@ -22,10 +22,10 @@ decoded_code-related code next i e =
 pub decoded-related : (h k : ℕ) (i : Instr) → Encodes (read_code h k) i → decoded h k ≡ Some i
 decoded-related h k i e = elim (leb_tells 0xE800 h) [
   | inl t ↦
-      let r : read_code h k ≡ Pair h k = rw (lt_false h 0xE800 t.1) in
+      let r : read_code h k ≡ Pair h k = rw (le-ltb h 0xE800 t.1) in
       decoded_code-related (Pair h k) k i (subst (λ (c : Code). Encodes c i) r e)
   | inr t ↦
-      let r : read_code h k ≡ Half h = rw (lt_true h 0xE800 t.1) in
+      let r : read_code h k ≡ Half h = rw (lt-ltb h 0xE800 t.1) in
       decoded_code-related (Half h) k i (subst (λ (c : Code). Encodes c i) r e)
 ]
 
@@ -40,8 +40,8 @@ decoded_encode_pair i h k v e = decoded_code-related (Pair h k) 0 i (record { in
 pub Encodes-decoded : (h k : ℕ) → h < 2 ^ 16 → k < 2 ^ 16 → IfSome (decoded h k) (Encodes (read_code h k))
 unfolding decoded
 Encodes-decoded h k below second = elim (leb_tells 0xE800 h) [
-  | inl t ↦ rw (lt_false h 0xE800 t.1) (wide h k t.1 below second)
-  | inr t ↦ rw (lt_true h 0xE800 t.1) (narrow h t.1)
+  | inl t ↦ rw (le-ltb h 0xE800 t.1) (wide h k t.1 below second)
+  | inr t ↦ rw (lt-ltb h 0xE800 t.1) (narrow h t.1)
 ]
 
 -- what is decoded is related
@@ -70,11 +70,11 @@ round_trip i next v = decoded_code-encode i next v
 -- `decoded` at a first halfword of either kind
 pub decoded_narrow : (h k : ℕ) (x : Option Instr) → h < 0xE800 → narrow_of h ≡ x → decoded h k ≡ x
 unfolding decoded
-decoded_narrow h k x below e = rw (lt_true h 0xE800 below) e
+decoded_narrow h k x below e = rw (lt-ltb h 0xE800 below) e
 
 pub decoded_wide : (h k : ℕ) (x : Option Instr) → 0xE800 ≤ h → wide_of h k ≡ x → decoded h k ≡ x
 unfolding decoded
-decoded_wide h k x above e = rw (lt_false h 0xE800 above) e
+decoded_wide h k x above e = rw (le-ltb h 0xE800 above) e
 
 pub IfNone-of : {A : Type 0} (o : Option A) (P : Type 0) → P → IfNone o P
 IfNone-of None P p = p

@@ -1,7 +1,8 @@
 -- An encoded instruction is decoded to itself.
 use Rattle.std.proofs.Common.{◌≡◌, ◌≢◌, ℕ, ◌+◌, ◌*◌, ◌/◌, ◌%◌, ◌^◌, ◌<◌, ◌≤◌, refl, if◌then◌else◌, eq-eqb, arith, rules, ℤ, pos, ◌⊎◌, inl, inr, Option, Some, None, nat_eq, nat_lt, true}
 use Rattle.std.proofs.lemmas.Bool.Decides.{nat_tests}
-use Rattle.thumb_model.proofs.Offsets.{lt_true, lt_false, not_eq, extended-8, extended-11, extended-24}
+use Rattle.std.proofs.lemmas.Bool.{lt-ltb, le-ltb, ne_eqb}
+use Rattle.thumb_model.proofs.Offsets.{extended-8, extended-11, extended-24}
 use Rattle.thumb_model.specs.Table.{InTable, IsOffset, IsGeneral, eor_not, halfwords_of, branch_pair, move_pair, encode}
 use Rattle.thumb_model.specs.Decoded.{decoded, decoded_code, is_general, move_value, arithmetic_of, special_of, transfer_of, stack_of, multiple_of, upper_of, narrow_of, move_of, special_register_of, divide_of, wide_of, extended, branch_bits}
 use Rattle.thumb_model.specs.declared.table.Instr.{Instr}
@@ -10,10 +11,10 @@ use Rattle.thumb_model.proofs.Codes.{zero_or_one, zero_one_or_two}
 
 -- a test that is known
 pub here : (h n : ℕ) (x y z : Option Instr) → h < n → x ≡ z → (if nat_lt h n then x else y) ≡ z
-here h n x y z t e = rw (lt_true h n t) e
+here h n x y z t e = rw (lt-ltb h n t) e
 
 pub past : (h n : ℕ) (x y z : Option Instr) → n ≤ h → y ≡ z → (if nat_lt h n then x else y) ≡ z
-past h n x y z t e = rw (lt_false h n t) e
+past h n x y z t e = rw (le-ltb h n t) e
 
 -- the groups of one halfword
 pub in_arithmetic : (h next : ℕ) (x : Option Instr) → h < 0x4000 → arithmetic_of h ≡ x → decoded h next ≡ x
@@ -198,7 +199,7 @@ pub equal : (a b : ℕ) (x y z : Option Instr) → a ≡ b → x ≡ z → (if n
 equal a b x y z t e = rw (eq-eqb a b t) e
 
 pub other : (a b : ℕ) (x y z : Option Instr) → a ≢ b → y ≡ z → (if nat_eq a b then x else y) ≡ z
-other a b x y z t e = rw (not_eq a b t) e
+other a b x y z t e = rw (ne_eqb a b t) e
 
 in_link : (next : ℕ) (offset : ℤ) → IsOffset (2 ^ 24) offset → decoded_code (branch_pair 0xD000 (halfwords_of offset % 2 ^ 24)) next ≡ Some (BranchLink offset)
 in_link next offset v =
@@ -292,7 +293,7 @@ decoded_code-encode (LoadLiteral t imm8) next v = in_transfer _ next _ (omega ar
 decoded_code-encode (TransferRegister op m n t) next v = in_transfer _ next _ (omega arith) (omega arith) (transfer_register op m n t v.0 v.1 v.2 v.3)
 decoded_code-encode (TransferImmediate op imm5 n t) next v = in_transfer _ next _ (omega arith) (omega arith) (transfer_immediate op imm5 n t v.0 v.1 v.2 v.3)
 decoded_code-encode (StackRelative op t d imm8) next v = elim (zero_one_or_two op v.0) [
-  | inl z ↦ rw (lt_true op 2 z, v.4 z) (in_stack_relative op t imm8 next z v.1 v.3)
+  | inl z ↦ rw (lt-ltb op 2 z, v.4 z) (in_stack_relative op t imm8 next z v.1 v.3)
   | inr z ↦ rw (z, v.5 z) (in_stack_address d imm8 next v.2 v.3)
 ]
 decoded_code-encode (AdjustStack op imm7) next v = in_stack _ next _ (omega arith) (omega arith) (adjust op imm7 v.0 v.1)

@@ -1,10 +1,10 @@
 -- The instruction that is decoded is related to its halfwords.
 use Rattle.std.proofs.Common.{◌≡◌, ℕ, ◌+◌, ◌*◌, ◌/◌, ◌%◌, ◌^◌, ◌<◌, ◌≤◌, refl, arith, rules, pos, inl, inr, Option, nat_eq, nat_lt}
 use Rattle.std.specs.Option.{IfSome}
-use Rattle.std.proofs.lemmas.Bool.{cases_Bool, eqb-true}
+use Rattle.std.proofs.lemmas.Bool.{cases_Bool, eqb-true, lt-ltb, le-ltb}
 use Rattle.std.specs.Prelude.{if◌then◌else◌}
 use Rattle.std.proofs.lemmas.Bool.Decides.{nat_tests, leb_tells}
-use Rattle.thumb_model.proofs.Offsets.{lt_true, lt_false, Extends-extended, halfwords_of-extended-8, halfwords_of-extended-11, halfwords_of-extended-24}
+use Rattle.thumb_model.proofs.Offsets.{Extends-extended, halfwords_of-extended-8, halfwords_of-extended-11, halfwords_of-extended-24}
 use Rattle.thumb_model.specs.Table.{branch_pair, Encodes, encode}
 use Rattle.thumb_model.specs.Decoded.{arithmetic_of, special_of, transfer_of, stack_of, multiple_of, upper_of, narrow_of, move_of, special_register_of, divide_of, wide_of, extended, branch_bits}
 use Rattle.thumb_model.specs.declared.table.Code.{Code}
@@ -18,8 +18,8 @@ Sound code o = IfSome o (Encodes code)
 -- an instruction by a test of a halfword
 below_or : (code : Code) (h n : ℕ) (x y : Option Instr) → (h < n → Sound code x) → (n ≤ h → Sound code y) → Sound code (if nat_lt h n then x else y)
 below_or code h n x y f g = elim (leb_tells n h) [
-  | inl t ↦ rw (lt_false h n t.1) (g t.1)
-  | inr t ↦ rw (lt_true h n t.1) (f t.1)
+  | inl t ↦ rw (le-ltb h n t.1) (g t.1)
+  | inr t ↦ rw (lt-ltb h n t.1) (f t.1)
 ]
 
 arithmetic : (h : ℕ) → h < 0x4000 → Sound (Half h) (arithmetic_of h)

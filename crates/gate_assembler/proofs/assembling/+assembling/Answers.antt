@@ -3,11 +3,11 @@ use Rattle.thumb_model.specs.declared.table.Instr.TheVariants.{BranchWide}
 use Rattle.gate_steps.specs.Steps.{End}
 use Rattle.gate_steps.specs.Lists.{before, steps_of}
 use Rattle.gate_steps.specs.Code.{code, code_length}
-use Rattle.gate_steps.proofs.CodeParts.{code_has_its_length}
+use Rattle.gate_steps.proofs.CodeParts.{code_has_its_length, length_even}
 use Rattle.gate_assembler.specs.Emitted.{MayPut, HasPut, choice_code, loop_head, loop_end}
 use Rattle.gate_assembler.proofs.Alone.{alone-Test, alone-Repeat}
 use Rattle.gate_assembler.proofs.Splits.{length-take_more, length-take-le}
-use Rattle.gate_assembler.proofs.Nested.{length-even, may_put_step, step_is_put, may_put_first, may_put_second, test_is_put, may_put_body, loop_is_put}
+use Rattle.gate_assembler.proofs.Nested.{may_put_step, step_is_put, may_put_first, may_put_second, test_is_put, may_put_body, loop_is_put}
 use Rattle.gate_assembler.proofs.assembling.+assembling.Goals as goal
 use Rattle.common_laws.proofs.Options.{on_ok}
 
@@ -41,7 +41,7 @@ put_step-length_of-second-requires t c =
 
 pub put_step-put_choice-requires-clause-even : goal.put_step-put_choice-requires-clause-even
 put_step-put_choice-requires-clause-even t c =
-    subst (λ n. n % 2 ≡ 0) (sym c.length_of-first.ensures) (length-even (steps_of c.deref.result.now))
+    subst (λ n. n % 2 ≡ 0) (sym c.length_of-first.ensures) (length_even (steps_of c.deref.result.now))
 
 pub put_step-put_choice-requires-clause-short : goal.put_step-put_choice-requires-clause-short
 put_step-put_choice-requires-clause-short t c =
@@ -59,7 +59,7 @@ put_step-assemble-requires t c =
 
 pub put_step-put_skip-requires-clause-even : goal.put_step-put_skip-requires-clause-even
 put_step-put_skip-requires-clause-even t c =
-    subst (λ n. n % 2 ≡ 0) (sym c.length_of-second.ensures) (length-even (steps_of c.deref-in-Test.result.now))
+    subst (λ n. n % 2 ≡ 0) (sym c.length_of-second.ensures) (length_even (steps_of c.deref-in-Test.result.now))
 
 pub put_step-put_skip-requires-clause-short : goal.put_step-put_skip-requires-clause-short
 put_step-put_skip-requires-clause-short t c =
@@ -109,7 +109,7 @@ put_step-length_of-length-requires t c =
 
 pub put_step-put_loop_head-requires-clause-even : goal.put_step-put_loop_head-requires-clause-even
 put_step-put_loop_head-requires-clause-even t c =
-    subst (λ n. n % 2 ≡ 0) (sym c.length_of-length.ensures) (length-even (steps_of c.deref-in-Repeat.result.now))
+    subst (λ n. n % 2 ≡ 0) (sym c.length_of-length.ensures) (length_even (steps_of c.deref-in-Repeat.result.now))
 
 pub put_step-put_loop_head-requires-clause-short : goal.put_step-put_loop_head-requires-clause-short
 put_step-put_loop_head-requires-clause-short t c =
@@ -127,7 +127,7 @@ put_step-assemble-requires-in-Repeat t c =
 
 pub put_step-put_loop_end-requires-clause-even : goal.put_step-put_loop_end-requires-clause-even
 put_step-put_loop_end-requires-clause-even t c =
-    subst (λ n. n % 2 ≡ 0) (sym c.length_of-length.ensures) (length-even (steps_of c.deref-in-Repeat.result.now))
+    subst (λ n. n % 2 ≡ 0) (sym c.length_of-length.ensures) (length_even (steps_of c.deref-in-Repeat.result.now))
 
 pub put_step-put_loop_end-requires-clause-short : goal.put_step-put_loop_end-requires-clause-short
 put_step-put_loop_end-requires-clause-short t c =

@@ -1,8 +1,9 @@
 use Rattle.std.proofs.Common.{rules, ◌≡◌, ◌≤◌, ◌-◌, ◌||◌, ℕ, Bool, cond, min, length, subst, sym, ap, ◌∙◌, arith}
 use Rattle.std.proofs.lemmas.Bool.{cond_both}
+use Rattle.std.proofs.lemmas.Nat.{pow_pos}
 use Rattle.ir_model.specs.declared.object.ObjId.TheVariants.{Local}
 use Rattle.plan_model.specs.Groups.{writes, reads}
-use Rattle.region_graph.proofs.MaskBits.{bits_more, no_bits, bits_small, power_positive}
+use Rattle.region_graph.proofs.MaskBits.{bits_more, no_bits, bits_small}
 use Rattle.region_graph.proofs.masks.reach_mask.Goals as goal
 
 pub loop-left-init : goal.loop-left-init
@@ -12,7 +13,7 @@ loop-left-init c =
     record {
       inside = omega arith;
       few = omega arith;
-      small = power_positive (32 - c.min-left.result);
+      small = pow_pos (32 - c.min-left.result);
       bits = no_bits does c.as_slice-locals.result.now 32 c.min-left.result first;
     }
 
