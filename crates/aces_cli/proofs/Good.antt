@@ -1,14 +1,11 @@
 -- A good request has no outcome but the one that says that all was done.
-use Rattle.std.proofs.Common.{◌≡◌, ℕ, zero, suc, length, ◌<◌, ◌≤◌, IsSomeAnd, ◌⊎◌, inl, inr, List, Option, Some, None, Ok, Err, refl, sym, ◌∙◌, ap, subst, arith}
+use Rattle.std.proofs.Common.{◌≡◌, ℕ, zero, suc, length, ◌<◌, ◌≤◌, IsSomeAnd, ◌⊎◌, inl, inr, List, Option, Some, None, refl, sym, ◌∙◌, ap, subst, arith}
 use Rattle.device_model.specs.declared.image.Image.{Image}
 use Rattle.device_model.specs.declared.image.Window.{Window}
 use Rattle.device_model.specs.Tape as tapes
 use Rattle.image.specs.Text as images
 use Rattle.image.specs.Faults as image_faults
-use Rattle.ir_model.specs.declared.token.Pos.{Pos}
 use Rattle.ir_model.specs.declared.token.Excess.TheVariants as excess
-use Rattle.ir_model.specs.declared.check.CheckKind.{CheckKind}
-use Rattle.ir_model.specs.declared.check.Place.{Place}
 use Rattle.ir_model.specs.Plain.{PlainFirmware}
 use Rattle.ir_model.specs.Typing.{fault_of}
 use Rattle.ir_program.specs.Windows.{windows_of}
@@ -35,8 +32,8 @@ use Rattle.machine_output.specs.Runs as machine
 use Rattle.ir_model.specs.State.{SourceEnd, Returned, OutOfInput, Faulted}
 use Rattle.source_output.specs.SourceRuns as source_runs
 use Rattle.aces_words.specs.declared.policy.Policy.{Policy}
-use Rattle.aces_words.specs.Requests.{Request, Run, Bin, Compile, Check, Source, Listing, Origin}
-use Rattle.aces_cli.specs.Answer.{Outcome, of_image, of_tape, of_text, of_board, Answer, IsFirmware, IsNoFirmware, IsNoText, IsIllTyped, IsNoImage, IsNoTape, IsNoBoard, no_text, ill_typed, RunAnswer, BinAnswer, PlanAnswer, ListAnswer, CompileAnswer, CheckAnswer, SourceAnswer, no_image, no_tape, ran, wrote, no_firmware, no_board, too_many, no_flash, no_ram, unplanned, listed, compiled, checked, run_image_large, run_tape_large, run_read, bin_image_large, bin_read, compile_firmware_large, compile_board_large, compile_read, check_large, check_read, source_firmware_large, source_tape_large, source_read, list_firmware_large, list_board_large, list_read}
+use Rattle.aces_words.specs.Requests.{Request, Origin}
+use Rattle.aces_cli.specs.Answer.{Outcome, of_text, of_board, Answer, IsFirmware, IsNoFirmware, IsNoImage, IsNoTape, no_text, ill_typed, RunAnswer, BinAnswer, PlanAnswer, ListAnswer, CompileAnswer, CheckAnswer, SourceAnswer, no_image, no_tape, ran, wrote, no_firmware, no_board, too_many, no_flash, no_ram, unplanned, listed, compiled, checked, run_image_large, run_tape_large, run_read, bin_image_large, bin_read, compile_firmware_large, compile_board_large, compile_read, check_large, check_read, source_firmware_large, source_tape_large, source_read, list_firmware_large, list_board_large, list_read}
 use Rattle.aces_cli.specs.Known.{Held, Holds, Exceeds}
 use Rattle.aces_cli.specs.Complete.{IsRunnable, IsSourceRunnable, IsCompilable, IsGood, run, bin, compile, check, source, list, IsDoneBy, GoodRequestsAreDone}
 

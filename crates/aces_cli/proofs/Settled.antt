@@ -1,5 +1,5 @@
 -- Where no call failed and the files are there, a command ends with an outcome of its request, or for want of memory.
-use Rattle.std.proofs.Common.{◌≡◌, ℕ, ◌<◌, ◌⊎◌, inl, inr, List, [], ◌∷◌, true, false, Option, Some, Result, Ok, Err, IsTrue, IsNone, refl, ap, sym, ◌∙◌, subst, arith}
+use Rattle.std.proofs.Common.{◌≡◌, ℕ, ◌<◌, ◌⊎◌, inl, inr, List, [], ◌∷◌, true, false, Option, Result, Ok, Err, IsTrue, IsNone, refl, ap, sym, ◌∙◌, subst, arith}
 use Rattle.outside.specs.Counts.{Rose, Stayed}
 use Rattle.aces_reports.specs.declared.failure.Done.{Done}
 use Rattle.aces_reports.specs.declared.failure.Done.TheVariants.{Completed, RunFailed}

@@ -1,5 +1,5 @@
 -- What reading a source whole tells.
-use Rattle.std.proofs.Common.{◌≡◌, ◌∙◌, ℕ, ◌<◌, ◌≤◌, ◌⊎◌, inl, inr, List, [], length, Bool, Option, Some, Result, Err, IsTrue, IsSomeAnd, sym, append-nil}
+use Rattle.std.proofs.Common.{◌≡◌, ◌∙◌, ℕ, ◌<◌, ◌≤◌, ◌⊎◌, inl, inr, List, [], length, Bool, Some, Result, Err, IsTrue, IsSomeAnd, sym, append-nil}
 use Rattle.outside.specs.declared.reading.ReadRefusal.{ReadRefusal}
 use Rattle.outside.specs.declared.reading.ReadRefusal.TheVariants.{TooLong, Failed, NoMemory}
 use Rattle.outside.specs.Calls.{Call}

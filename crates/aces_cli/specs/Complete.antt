@@ -1,5 +1,5 @@
 -- Where a command does all that it was asked for, unless memory runs out: no call on the outside fails, and what its files hold is good.
-use Rattle.std.specs.Prelude.{◌≡◌, ℕ, ◌⊎◌, List, [], ◌∷◌, Option, Some, None}
+use Rattle.std.specs.Prelude.{◌≡◌, ℕ, ◌⊎◌, List, [], ◌∷◌, Some, None}
 use Rattle.outside.specs.Counts.{Stayed}
 use Rattle.device_model.specs.declared.image.Image.{Image}
 use Rattle.device_model.specs.Tape as tapes

@@ -8,6 +8,7 @@ use Rattle.armv7m.specs.State.{PermissionTest}
 use Rattle.ir_model.specs.Resolved.{Value, Number, Code, Null, At, Instance, OfGlobal, OfPeriph, OfLocal, Named, TheGlobal, ThePeriph, TheLocal, NumberedFunc, NumberedInst, Const, Move, Bin, Cmp, Addr, FAddr, Elem, Field}
 use Rattle.ir_model.specs.State.{Frame}
 use Rattle.ir_model.specs.Step.{register, Sets, act}
+use Rattle.ir_model.specs.Typing.{object_limit}
 use Rattle.code_model.specs.declared.places.Places.{Places}
 use Rattle.code_model.specs.Places.{entry_address}
 use Rattle.code_effects.specs.Points.{Point, Leads}
@@ -44,7 +45,7 @@ IsSound g q address fr sp r n (Bin op to a b) = (to < r) × (a < r) × (b < r) �
 IsSound g q address fr sp r n (Cmp op to a b) = (to < r) × (a < r) × (b < r) × IsNumber (register fr a) × IsNumber (register fr b)
 IsSound g q address fr sp r n (Addr to of) = (to < r) × CanName g q n of × (named_address g q sp of < 2 ^ 32) × (address (object_of fr of) ≡ named_address g q sp of)
 IsSound g q address fr sp r n (FAddr to f) = (to < r) × (entry_address q f + 1 < 2 ^ 32)
-IsSound g q address fr sp r n (Elem to base index size) = (to < r) × (base < r) × (index < r) × IsNumber (register fr index) × (size ≤ 65536)
+IsSound g q address fr sp r n (Elem to base index size) = (to < r) × (base < r) × (index < r) × IsNumber (register fr index) × (size ≤ object_limit)
 IsSound g q address fr sp r n (Field to base offset) = (to < r) × (base < r) × (offset < 2 ^ 32)
 IsSound g q address fr sp r n _ = ⊥
 

@@ -1,12 +1,11 @@
 -- Beyond the program's claim: only laws, proofs and functions inside the tool cite this file.
 -- The control loop by its needs, its graph of compartments and its plan, where each file is a compartment.
-use Rattle.std.specs.Prelude.{◌≡◌, ℕ, List, [], ◌∷◌, Some, None, false}
+use Rattle.std.specs.Prelude.{◌≡◌, ℕ, [], ◌∷◌, Some, None, false}
 use Rattle.plan_model.specs.declared.needs.SiteNeed.{SiteNeed}
 use Rattle.plan_model.specs.declared.needs.Needs.{Needs}
 use Rattle.plan_model.specs.declared.groups.Groups.{Groups}
 use Rattle.plan_model.specs.declared.graph.Final.{Final}
 use Rattle.plan_model.specs.declared.plan.Plan.{Plan}
-use Rattle.code_model.specs.CompartmentCode.{CodeGroups}
 use Rattle.code_model.specs.Planned.{code_groups, code_places, sizes_of, planned_entry}
 use Rattle.code_examples.specs.Sensor.{sensor, by_file, clamp_moved, by_peripherals, at_files}
 use Rattle.code_examples.specs.Lent.{lending}

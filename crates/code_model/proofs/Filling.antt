@@ -1,4 +1,4 @@
-use Rattle.std.proofs.Common.{◌≡◌, ℕ, ◌+◌, ◌%◌, ◌≢◌, List, [], ◌∷◌, length, Bool, true, false, nat_eq, refl, arith, suc, ◌*◌, ◌-◌}
+use Rattle.std.proofs.Common.{◌≡◌, ℕ, ◌+◌, ◌%◌, ◌≢◌, List, [], ◌∷◌, length, Bool, true, false, nat_eq, refl, arith, suc, ◌*◌}
 use Rattle.std.proofs.lemmas.Bool.{eqb-true, eqb-false}
 use Rattle.thumb_model.specs.Table.{encode}
 use Rattle.thumb_asm.specs.Assembly.{total}

@@ -1,5 +1,5 @@
 -- How many locals of a function are lent: as many as have a number.
-use Rattle.std.proofs.Common.{◌≡◌, ℕ, ◌+◌, ◌*◌, List, [], ◌∷◌, cond, length, count_by, is_some, Option, Some, None, refl, sym, ◌∙◌, arith}
+use Rattle.std.proofs.Common.{◌≡◌, ℕ, ◌*◌, List, [], ◌∷◌, cond, length, count_by, is_some, Option, Some, None, refl, sym, ◌∙◌, arith}
 use Rattle.std.proofs.lemmas.List.Sums.{sum_by-cons}
 use Rattle.ir_model.specs.Resolved.{NumberedFunc}
 use Rattle.code_model.specs.FrameShape.{local_starts}

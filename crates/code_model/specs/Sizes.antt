@@ -5,7 +5,7 @@ use Rattle.std.proofs.Math.ListN.{get_or}
 use Rattle.ir_model.specs.declared.firmware.BinOp.{BinOp}
 use Rattle.ir_model.specs.declared.firmware.BinOp.TheVariants.{Udiv, Sdiv, Urem, Srem}
 use Rattle.ir_model.specs.Resolved as ir
-use Rattle.ir_model.specs.Resolved.{NumberedInst, NumberedTerm, NumberedBlock, NumberedFunc, Here, Does, Named, TheGlobal, ThePeriph, TheLocal, no_block}
+use Rattle.ir_model.specs.Resolved.{NumberedInst, NumberedTerm, NumberedBlock, NumberedFunc, Here, Does, Named, TheLocal, no_block}
 use Rattle.ir_model.specs.Signatures.{row_length, here_of}
 use Rattle.code_model.specs.declared.places.CallSite.{CallSite}
 use Rattle.code_model.specs.FrameShape.{frame_shape}

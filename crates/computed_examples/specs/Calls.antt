@@ -1,19 +1,13 @@
 -- Beyond the program's claim: only laws, proofs and functions inside the tool cite this file.
 -- Two functions that call each other until a number is used up.
-use Rattle.std.specs.Prelude.{◌≡◌, ℕ, List, [], ◌∷◌, None, codes, refl}
-use Rattle.words.specs.Runs.{run, events}
-use Rattle.words.specs.Bytes.{cut}
+use Rattle.std.specs.Prelude.{◌≡◌, ℕ, List, [], ◌∷◌, None, codes}
 use Rattle.ir_model.specs.declared.firmware.BinOp.TheVariants.{Sub}
 use Rattle.ir_model.specs.declared.firmware.Inst.TheVariants as inst
 use Rattle.ir_model.specs.declared.firmware.Term.TheVariants.{Branch, Ret}
 use Rattle.ir_model.specs.Types.{U32, nothing}
 use Rattle.ir_model.specs.Plain.{PlainFunc, PlainFirmware}
-use Rattle.ir_model.specs.Layout.{known, cell_at}
-use Rattle.ir_model.specs.Resolve.{resolve}
-use Rattle.ir_model.specs.State.{start, Ended, Returned}
-use Rattle.ir_model.specs.Step.{act, perform, leave, source_turn, binary, compared}
-use Rattle.ir_model.specs.Rules.{inst_fits, term_fits}
-use Rattle.ir_model.specs.Typing.{checks, fault_of}
+use Rattle.ir_model.specs.State.{Ended, Returned}
+use Rattle.ir_model.specs.Typing.{fault_of}
 use Rattle.computed_examples.specs.Written.{slot, block, func, file, firmware, after, told}
 
 abbrev pub player : (name other : List ℕ) → PlainFunc

@@ -1,8 +1,6 @@
 -- Beyond the program's claim: only laws, proofs and functions inside the tool cite this file.
 -- A control loop in four files: it reads a sensor, scales and clamps what it read, and writes it.
-use Rattle.std.specs.Prelude.{◌≡◌, [], ◌∷◌, Some, None, true, false, codes, refl}
-use Rattle.words.specs.Runs.{run, events}
-use Rattle.words.specs.Bytes.{cut}
+use Rattle.std.specs.Prelude.{◌≡◌, [], ◌∷◌, Some, None, true, false, codes}
 use Rattle.ir_model.specs.declared.firmware.BinOp.TheVariants.{Add, Mul}
 use Rattle.ir_model.specs.declared.firmware.CmpOp.TheVariants.{Ult}
 use Rattle.ir_model.specs.declared.firmware.Inst.TheVariants as inst
@@ -10,12 +8,8 @@ use Rattle.ir_model.specs.declared.firmware.Term.TheVariants.{Jump, Branch, Ret}
 use Rattle.ir_model.specs.declared.firmware.Cell.TheVariants.{Word}
 use Rattle.ir_model.specs.Types.{U32, Pointer, nothing, gives}
 use Rattle.ir_model.specs.Plain.{PlainFunc, PlainFirmware}
-use Rattle.ir_model.specs.Layout.{known, cell_at}
-use Rattle.ir_model.specs.Resolve.{resolve}
-use Rattle.ir_model.specs.State.{start, Ended, OutOfInput}
-use Rattle.ir_model.specs.Step.{act, perform, leave, source_turn, binary, compared}
-use Rattle.ir_model.specs.Rules.{inst_fits, term_fits}
-use Rattle.ir_model.specs.Typing.{checks, fault_of}
+use Rattle.ir_model.specs.State.{Ended, OutOfInput}
+use Rattle.ir_model.specs.Typing.{fault_of}
 use Rattle.computed_examples.specs.Written.{slot, periph, global, block, func, file, firmware, after, told}
 
 abbrev pub main : PlainFunc

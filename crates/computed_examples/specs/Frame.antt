@@ -1,7 +1,7 @@
 -- Beyond the program's claim: only laws, proofs and functions inside the tool cite this file.
 -- A function with two registers and two locals. Its frame has 24 bytes: the registers at 0 and 4, a byte at 8, a half-word
 -- at 12, and the return address at 20.
-use Rattle.std.specs.Prelude.{◌≡◌, ℕ, [], ◌∷◌, None, codes}
+use Rattle.std.specs.Prelude.{◌≡◌, [], ◌∷◌, None, codes}
 use Rattle.ir_model.specs.declared.firmware.Term.TheVariants.{Ret}
 use Rattle.ir_model.specs.Types.{U8, U16, U32, nothing}
 use Rattle.ir_model.specs.Plain.{PlainFunc}

@@ -1,19 +1,13 @@
 -- Beyond the program's claim: only laws, proofs and functions inside the tool cite this file.
 -- Lent locals: `main` lends the address of a local through one function to another, which stores to it. And what is left
 -- of a local whose function has returned.
-use Rattle.std.specs.Prelude.{◌≡◌, [], ◌∷◌, Some, None, true, codes, refl}
-use Rattle.words.specs.Runs.{run, events}
-use Rattle.words.specs.Bytes.{cut}
+use Rattle.std.specs.Prelude.{◌≡◌, [], ◌∷◌, Some, None, true, codes}
 use Rattle.ir_model.specs.declared.firmware.Inst.TheVariants as inst
 use Rattle.ir_model.specs.declared.firmware.Term.TheVariants.{Ret}
 use Rattle.ir_model.specs.Types.{U32, Pointer, nothing, gives}
 use Rattle.ir_model.specs.Plain.{PlainFunc, PlainFirmware}
-use Rattle.ir_model.specs.Layout.{known, cell_at}
-use Rattle.ir_model.specs.Resolve.{resolve}
-use Rattle.ir_model.specs.State.{start, Ended, Returned, Faulted, DeadFault}
-use Rattle.ir_model.specs.Step.{act, perform, leave, source_turn, binary, compared}
-use Rattle.ir_model.specs.Rules.{inst_fits, term_fits}
-use Rattle.ir_model.specs.Typing.{checks, fault_of}
+use Rattle.ir_model.specs.State.{Ended, Returned, Faulted, DeadFault}
+use Rattle.ir_model.specs.Typing.{fault_of}
 use Rattle.computed_examples.specs.Written.{slot, periph, block, func, file, firmware, after, told}
 
 abbrev pub main : PlainFunc

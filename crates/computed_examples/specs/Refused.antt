@@ -1,6 +1,6 @@
 -- Beyond the program's claim: only laws, proofs and functions inside the tool cite this file.
 -- Firmwares that are not typed, each with its first fault.
-use Rattle.std.specs.Prelude.{◌≡◌, ℕ, List, [], ◌∷◌, Some, None, codes, refl}
+use Rattle.std.specs.Prelude.{◌≡◌, ℕ, List, [], ◌∷◌, Some, None, codes}
 use Rattle.ir_model.specs.declared.check.CheckKind.{CheckKind}
 use Rattle.ir_model.specs.declared.check.CheckKind.TheVariants.{Unknown, Twice, IllTyped, NoMain, BadWindow, WindowOverlap, BadInit, ObjectTooLarge, FrameTooLarge}
 use Rattle.ir_model.specs.declared.check.Place.{Place}
@@ -12,9 +12,7 @@ use Rattle.ir_model.specs.declared.firmware.Cell.TheVariants.{Word, Function, Ad
 use Rattle.ir_model.specs.declared.firmware.Peripheral.{Peripheral}
 use Rattle.ir_model.specs.Types.{U8, U16, U32, Pointer, Array, Named, nothing}
 use Rattle.ir_model.specs.Plain.{PlainFirmware}
-use Rattle.ir_model.specs.Layout.{known}
-use Rattle.ir_model.specs.Rules.{inst_fits, term_fits}
-use Rattle.ir_model.specs.Typing.{checks, fault_of}
+use Rattle.ir_model.specs.Typing.{fault_of}
 use Rattle.computed_examples.specs.Written.{slot, struct, periph, global, block, func, file, firmware, only_main}
 
 abbrev pub Fails : PlainFirmware → CheckKind → Place → Type 0

@@ -1,21 +1,15 @@
 -- Beyond the program's claim: only laws, proofs and functions inside the tool cite this file.
 -- Small firmwares of one function, and arithmetic.
-use Rattle.std.specs.Prelude.{◌≡◌, ℕ, [], ◌∷◌, None, true, codes, refl}
-use Rattle.words.specs.Runs.{run, events}
-use Rattle.words.specs.Bytes.{cut}
-use Rattle.words.specs.Arithmetic.{unsigned_quotient, signed_quotient, unsigned_remainder, signed_remainder, shift_left, shift_right_signed}
+use Rattle.std.specs.Prelude.{◌≡◌, ℕ, [], ◌∷◌, None, true, codes}
 use Rattle.ir_model.specs.declared.firmware.BinOp.TheVariants.{Udiv, Sdiv, Urem, Srem, Shl, Sar}
 use Rattle.ir_model.specs.declared.firmware.Inst.TheVariants as inst
 use Rattle.ir_model.specs.declared.firmware.Term.TheVariants.{Ret}
 use Rattle.ir_model.specs.declared.firmware.Cell.TheVariants.{Word}
 use Rattle.ir_model.specs.Types.{U8, U32, Pointer, Array, nothing}
 use Rattle.ir_model.specs.Plain.{PlainFirmware}
-use Rattle.ir_model.specs.Layout.{known, cell_at}
-use Rattle.ir_model.specs.Resolve.{resolve}
-use Rattle.ir_model.specs.State.{start, Ended, Returned, Faulted, NoCellFault, ConstantFault}
-use Rattle.ir_model.specs.Step.{act, perform, leave, source_turn, binary, compared}
-use Rattle.ir_model.specs.Rules.{inst_fits, term_fits}
-use Rattle.ir_model.specs.Typing.{checks, fault_of}
+use Rattle.ir_model.specs.State.{Ended, Returned, Faulted, NoCellFault, ConstantFault}
+use Rattle.ir_model.specs.Step.{binary}
+use Rattle.ir_model.specs.Typing.{fault_of}
 use Rattle.computed_examples.specs.Written.{slot, periph, global, block, func, file, firmware, only_main, after, told}
 
 -- the peripheral of 1,024 bytes, one element further on

@@ -1,6 +1,6 @@
 -- Beyond the program's claim: only laws, proofs and functions inside the tool cite this file.
 -- Canonical texts, line by line.
-use Rattle.std.specs.Prelude.{◌≡◌, ◌++◌, ℕ, List, [], ◌∷◌, length, map, flat_map, Option, Some, None, true, codes, refl}
+use Rattle.std.specs.Prelude.{◌≡◌, ◌++◌, ℕ, List, [], ◌∷◌, length, map, flat_map, Option, Some, None, true, codes}
 use Rattle.std.specs.Fmt.{decimal}
 use Rattle.ir_model.specs.declared.firmware.BinOp.TheVariants.{Add}
 use Rattle.ir_model.specs.declared.firmware.CmpOp.TheVariants.{Slt}
@@ -13,7 +13,7 @@ use Rattle.ir_model.specs.Plain.{PlainFunc}
 use Rattle.ir_model.specs.Tokens.{Marked}
 use Rattle.ir_model.specs.declared.token.Excess.{Excess}
 use Rattle.ir_model.specs.declared.token.Excess.TheVariants.{Passes, TooWide}
-use Rattle.ir_model.specs.Lines.{lines_of, type_tokens, periph_line, global_line, inst_line}
+use Rattle.ir_model.specs.Lines.{type_tokens, periph_line, global_line, inst_line}
 use Rattle.ir_model.specs.Canonical.{canonical, line_bytes}
 use Rattle.computed_examples.specs.Written.{slot, struct, periph, global, block, func, file, firmware, only_main}
 

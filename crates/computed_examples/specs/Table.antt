@@ -1,21 +1,15 @@
 -- Beyond the program's claim: only laws, proofs and functions inside the tool cite this file.
 -- A table of functions that are called by what a sensor gives; its last cell is null.
-use Rattle.std.specs.Prelude.{◌≡◌, ℕ, [], ◌∷◌, Some, None, Bool, true, false, codes, refl}
+use Rattle.std.specs.Prelude.{◌≡◌, ℕ, [], ◌∷◌, Some, None, Bool, true, false, codes}
 use Rattle.events.specs.declared.event.Event.{Event}
-use Rattle.words.specs.Runs.{run, events}
-use Rattle.words.specs.Bytes.{cut}
 use Rattle.ir_model.specs.declared.firmware.BinOp.TheVariants.{Add, Mul}
 use Rattle.ir_model.specs.declared.firmware.Inst.TheVariants as inst
 use Rattle.ir_model.specs.declared.firmware.Term.TheVariants.{Jump, Ret}
 use Rattle.ir_model.specs.declared.firmware.Cell.TheVariants.{Function}
 use Rattle.ir_model.specs.Types.{PlainType, U32, Pointer, Array, Callee, none, more, nothing, gives}
 use Rattle.ir_model.specs.Plain.{PlainFunc, PlainFirmware}
-use Rattle.ir_model.specs.Layout.{known, cell_at}
-use Rattle.ir_model.specs.Resolve.{resolve}
-use Rattle.ir_model.specs.State.{start, Ended, Faulted, NullFault}
-use Rattle.ir_model.specs.Step.{act, perform, leave, source_turn, binary, compared}
-use Rattle.ir_model.specs.Rules.{inst_fits, term_fits}
-use Rattle.ir_model.specs.Typing.{checks, fault_of}
+use Rattle.ir_model.specs.State.{Ended, Faulted, NullFault}
+use Rattle.ir_model.specs.Typing.{fault_of}
 use Rattle.computed_examples.specs.Written.{slot, periph, global, block, func, file, firmware, after, told}
 
 abbrev pub entry : PlainType

@@ -8,7 +8,7 @@ use Rattle.gate_steps.specs.declared.steps.GateStep.{GateStep}
 use Rattle.gate_steps.specs.declared.steps.GateStep.TheViews.{Test, Repeat}
 use Rattle.gate_steps.specs.declared.steps.GateStep.TheBlock.{Const, Copy, Load, Store, Alu, ReadPsp, WritePsp, WriteControl, Halt, Return, Go}
 use Rattle.gate_steps.specs.Steps as list
-use Rattle.gate_steps.specs.Steps.{Steps, End}
+use Rattle.gate_steps.specs.Steps.{End}
 use Rattle.gate_steps.specs.Lists.{before, steps_of}
 use Rattle.gate_steps.proofs.Views.{before-Const, before-Copy, before-Load, before-Store, before-Alu, before-ReadPsp, before-WritePsp, before-WriteControl, before-Test, before-Repeat, before-Halt, before-Return, before-Go}
 

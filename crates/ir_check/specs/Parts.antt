@@ -1,6 +1,6 @@
 -- Beyond the program's claim: only laws, proofs and functions inside the tool cite this file.
 -- The checks of one part among others.
-use Rattle.std.specs.Prelude.{ℕ, List, [], ◌∷◌, ◌++◌, map, nat_le, not, length, Bool, if◌then◌else◌}
+use Rattle.std.specs.Prelude.{ℕ, List, [], ◌∷◌, ◌++◌, map, nat_le, length, Bool, if◌then◌else◌}
 use Rattle.ir_model.specs.declared.check.CheckKind.TheVariants.{IllTyped, BadWindow, WindowOverlap, ObjectTooLarge, FrameTooLarge, BadInit, NoMain}
 use Rattle.ir_model.specs.declared.check.Place.{Place}
 use Rattle.ir_model.specs.declared.check.Place.TheVariants as place

@@ -2,7 +2,7 @@ use Rattle.std.proofs.Common.{◌≡◌, ℕ, List, length, refl, length-append,
 use Rattle.std.proofs.lemmas.List.{length-map, length-replicate}
 use Rattle.ir_model.specs.Plain.{PlainFirmware, funcs_of, PlainFile}
 use Rattle.ir_model.specs.Resolve as definition
-use Rattle.ir_model.specs.Resolve.{resolve, resolved_func, files_from}
+use Rattle.ir_model.specs.Resolve.{resolve, files_from}
 use Rattle.std.specs.Prelude.{flat_map}
 
 -- as many in the program as in the firmware

@@ -7,7 +7,7 @@ use Rattle.words.specs.Arithmetic.{word}
 use Rattle.words.specs.Bytes.{cut}
 use Rattle.ir_model.specs.Types.{PlainType, U32, Pointer, Callee, PlainTypes, PlainResult, gives, is_integer, width_of}
 use Rattle.ir_model.specs.Layout.{CellPlace, Shape, empty, cell_at}
-use Rattle.ir_model.specs.Resolved.{Program, Value, Number, Code, Null, At, Instance, OfGlobal, OfPeriph, OfLocal, TheGlobal, ThePeriph, TheLocal, NumberedGlobal, NumberedInst, Const, Move, Bin, Cmp, Addr, FAddr, Elem, Field, Load, Store, Call, ICall, NumberedTerm, Jump, Branch, Ret, Here, Does, Ends, no_global, func_at, global_at, cells_of_global, cells_of_local, block_at, register_type, here, here_in}
+use Rattle.ir_model.specs.Resolved.{Program, Value, Number, Instance, OfGlobal, OfPeriph, OfLocal, TheGlobal, ThePeriph, TheLocal, NumberedGlobal, NumberedInst, Const, Move, Bin, Cmp, Addr, FAddr, Elem, Field, Load, Store, Call, ICall, NumberedTerm, Jump, Branch, Ret, Here, Does, Ends, no_global, func_at, global_at, cells_of_global, cells_of_local, block_at, register_type, here, here_in}
 use Rattle.ir_model.specs.Resolved as numbered
 use Rattle.ir_model.specs.Resolve.{zero_of}
 use Rattle.ir_model.specs.State.{Frame, Memory, NullFault, SourceState, Running, Ended, Object, GlobalObject, PeriphObject, LocalObject, FunctionObject, object_of, SourceTurn, Loaded, Stored, frame_of, entered, zero_cells, zero_local, start}

@@ -1,5 +1,5 @@
 -- Checks that all pass.
-use Rattle.std.proofs.Common.{◌≡◌, Bool, true, false, List, [], ◌∷◌, ◌++◌, Some, None, refl}
+use Rattle.std.proofs.Common.{◌≡◌, Bool, true, false, [], ◌∷◌, ◌++◌, Some, None, refl}
 use Rattle.ir_model.specs.declared.check.CheckKind.{CheckKind}
 use Rattle.ir_model.specs.declared.check.Place.{Place}
 use Rattle.ir_model.specs.Typing.{Checks, check, first_failing}

@@ -1,6 +1,6 @@
 -- The lines of a firmware's canonical text, as tokens, each with the limit that it passes if it does. An item that is
 -- one too many is marked at its first token, and before a word that is too long.
-use Rattle.std.specs.Prelude.{ℕ, ◌+◌, ◌^◌, List, [], ◌∷◌, ◌++◌, map, length, Bool, true, false, Option, Some, None, nat_lt, nat_le, if◌then◌else◌}
+use Rattle.std.specs.Prelude.{ℕ, ◌+◌, ◌^◌, List, [], ◌∷◌, ◌++◌, length, Bool, true, false, Option, Some, None, nat_lt, nat_le, if◌then◌else◌}
 use Rattle.ir_model.specs.declared.firmware.Inst.{Inst}
 use Rattle.ir_model.specs.declared.firmware.Inst.TheVariants as inst
 use Rattle.ir_model.specs.declared.firmware.Term.{Term}

@@ -12,7 +12,7 @@ use Rattle.ir_model.specs.declared.firmware.Peripheral.{Peripheral}
 use Rattle.ir_model.specs.Types.{PlainType, U32, Named, PlainTypes, none, more, target_of, element_of, is_integer}
 use Rattle.ir_model.specs.Plain.{PlainSlot, PlainFunc, PlainGlobal, PlainFile, PlainFirmware, names_of, types_of, funcs_of, regs_of}
 use Rattle.ir_model.specs.Layout.{Known, known, Shape, shape, FieldPlace, fields_named, CellPlace}
-use Rattle.ir_model.specs.Resolved.{Instance, OfGlobal, OfPeriph, Value, Number, Code, Null, At, TheGlobal, ThePeriph, TheLocal, NumberedInst, Const, Move, Bin, Cmp, Addr, FAddr, Elem, Field, Load, Store, Call, ICall, NumberedTerm, Jump, Branch, Ret, NumberedBlock, NumberedFunc, NumberedGlobal, NumberedWindow, Program}
+use Rattle.ir_model.specs.Resolved.{OfGlobal, OfPeriph, Value, Number, Code, Null, At, TheGlobal, ThePeriph, TheLocal, NumberedInst, Const, Move, Bin, Cmp, Addr, FAddr, Elem, Field, Load, Store, Call, ICall, NumberedTerm, Jump, Branch, Ret, NumberedBlock, NumberedFunc, NumberedGlobal, NumberedWindow, Program}
 use Rattle.ir_model.specs.Resolved as numbered
 
 abbrev pub number_of : List (List ℕ) → List ℕ → ℕ

@@ -9,7 +9,7 @@ use Rattle.ir_model.specs.declared.firmware.BinOp.TheVariants.{Add, Sub, Mul, Ud
 use Rattle.ir_model.specs.declared.firmware.CmpOp.{CmpOp}
 use Rattle.ir_model.specs.declared.firmware.CmpOp.TheVariants.{Eq, Ne, Ult, Ule, Slt, Sle}
 use Rattle.ir_model.specs.Types.{PlainType, is_integer, width_of}
-use Rattle.ir_model.specs.Layout.{CellPlace, cell_at}
+use Rattle.ir_model.specs.Layout.{cell_at}
 use Rattle.ir_model.specs.Resolved.{Program, Value, Number, Code, At, Instance, OfGlobal, OfPeriph, OfLocal, global_at, window_at, cells_of_global, cells_of_local, Named, TheGlobal, ThePeriph, TheLocal, NumberedInst, Const, Move, Bin, Cmp, Addr, FAddr, Elem, Field, Load, Store, Call, ICall, NumberedTerm, Jump, Branch, Ret, Here, Does, Ends, here}
 use Rattle.ir_model.specs.State.{Frame, SourceFault, NullFault, DeadFault, NoCellFault, ConstantFault, SourceEnd, Returned, OutOfInput, Faulted, Memory, SourceState, Running, Ended, Object, GlobalObject, PeriphObject, LocalObject, Nothing, Loaded, Stored, Called, SourceTurn, frame_of}
 

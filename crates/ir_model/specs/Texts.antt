@@ -1,6 +1,6 @@
 -- Texts of a firmware: which tokens bytes spell, which bytes are a text of which firmware, and where the first fault of
 -- bytes stands.
-use Rattle.std.specs.Prelude.{◌≡◌, ℕ, ◌+◌, ◌-◌, ◌^◌, ◌<◌, ◌≤◌, List, [], ◌∷◌, ◌++◌, map, length, take, Bool, true, false, not, ◌||◌, Option, Some, None, IsTrue, nat_eq, count_by, IsUtf8}
+use Rattle.std.specs.Prelude.{◌≡◌, ℕ, ◌+◌, ◌-◌, ◌^◌, ◌<◌, ◌≤◌, List, [], ◌∷◌, ◌++◌, map, length, take, Bool, true, false, not, ◌||◌, Some, nat_eq, count_by, IsUtf8}
 use Rattle.std.specs.List.{suffix_len}
 use Rattle.std.specs.Str.{IsValidUpTo}
 use Rattle.numerals.specs.declared.Numeral.{Numeral}

@@ -1,6 +1,6 @@
 -- Beyond the program's claim: only laws, proofs and functions inside the tool cite this file.
 -- What globals and locals are made of, and types that may be missing.
-use Rattle.std.specs.Prelude.{◌≡◌, List, length, map, Option, Some, None}
+use Rattle.std.specs.Prelude.{List, Option, Some, None}
 use Rattle.std.specs.Borrow.{Bor}
 use Rattle.ir_model.specs.declared.types.Ty as types
 use Rattle.ir_model.specs.Types.{PlainType, U32, type_of}

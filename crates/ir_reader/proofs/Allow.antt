@@ -11,14 +11,14 @@ use Rattle.ir_model.specs.declared.token.Keyword.TheVariants as key
 use Rattle.ir_model.specs.declared.token.Mark.{Mark}
 use Rattle.ir_model.specs.declared.token.Mark.TheVariants as mark
 use Rattle.ir_model.specs.declared.token.TextLimit.TheVariants as limit
-use Rattle.ir_model.specs.Types.{PlainType, U8, U16, U32, Pointer, Array, Named, Callee, PlainTypes, PlainResult, nothing, gives}
+use Rattle.ir_model.specs.Types.{PlainType, U8, U16, U32, Pointer, Array, Named, Callee, PlainResult, nothing, gives}
 use Rattle.ir_model.specs.Types as types
 use Rattle.ir_model.specs.Plain.{PlainSlot, PlainFunc}
 use Rattle.ir_model.specs.Tokens.{Token, Name, Number, Key, Operation, Comparison, Sign, Marked}
 use Rattle.ir_model.specs.Lines.{Line, marked, plain, name, counted, word_excess, or_else, type_tokens, more_tokens, result_tokens, slots_tokens, more_slots, arguments, inst_line, inst_lines, local_lines, reg_lines, term_line, block_lines, close_line, funcs_lines, file_lines}
 use Rattle.ir_model.specs.Texts.{joined}
 use Rattle.ir_reader.specs.Machine
-use Rattle.ir_reader.specs.Machine.{Symbol, Move, Go, Stop, Skip, Step, To, Stuck, step, move}
+use Rattle.ir_reader.specs.Machine.{Symbol, Move, Go, Stop, Skip, To, step, move}
 use Rattle.ir_reader.proofs.Lang
 use Rattle.ir_reader.proofs.Lang.{behind_params, Langs, none, some}
 use Rattle.ir_reader.proofs.Derive.{func_flat}

@@ -20,11 +20,11 @@ use Rattle.ir_model.specs.Tokens.{Number, Key, Sign, Marked}
 use Rattle.ir_model.specs.Lines.{Line, marked, plain, name, number, counted, length_excess, type_tokens, row_tokens, more_tokens, result_tokens, slot_tokens, more_slots, slots_tokens, cell_tokens, more_cells, init_tokens, arguments, more_arguments, inst_line, inst_lines, term_line, block_lines, local_lines, reg_lines, close_line, funcs_lines, file_lines, struct_line, struct_lines, periph_lines, global_lines, global_start}
 use Rattle.ir_model.specs.Texts.{joined}
 use Rattle.ir_reader.specs.Machine
-use Rattle.ir_reader.specs.Machine.{Symbol, Move, Go, Stop, Skip, move, is_last, mark_number, struct_rest, func_rest, periph_rest}
+use Rattle.ir_reader.specs.Machine.{Symbol, mark_number}
 use Rattle.ir_reader.specs.Reading.{HasFields}
 use Rattle.ir_reader.specs.Parts.{HasBlocks, AllHaveBlocks}
 use Rattle.ir_reader.proofs.Lang
-use Rattle.ir_reader.proofs.Lang.{behind_params, ret_tail, args_tokens, call_tokens, two, Langs, none, some, last, same, Follows, next, ends, skips}
+use Rattle.ir_reader.proofs.Lang.{behind_params, ret_tail, args_tokens, two, Langs, none, some, last, same, Follows, next, ends, skips}
 
 pub joined-append : (a b : List Line) → joined (a ++ b) ≡ joined a ++ joined b
 joined-append [] b = refl

@@ -8,7 +8,7 @@ use Rattle.ir_model.specs.declared.token.TextLimit.TheVariants as limit
 use Rattle.ir_reader.specs.Found.{Found, Is, Bad, End, Placed, colon_first}
 use Rattle.ir_reader.specs.Machine
 use Rattle.ir_reader.specs.declared.error.Fault.{Fault}
-use Rattle.ir_reader.specs.Machine.{Symbol, Move, Go, Stop, Skip, Step, To, Stuck, step, fault, move, type_key, type_mark, then_row}
+use Rattle.ir_reader.specs.Machine.{Symbol, Step, To, Stuck, step, fault}
 use Rattle.ir_reader.specs.Reading.{mark_first, is_found_mark, is_register, register_first, key_first, is_found_key}
 
 -- what is expected may be said in two ways, where each token makes the same of both

@@ -21,7 +21,7 @@ use Rattle.ir_reader.proofs.Allow.{only, stands}
 use Rattle.ir_reader.proofs.Ends.{after}
 use Rattle.ir_reader.proofs.Firsts.{made, syntax_at, passed_at}
 use Rattle.ir_reader.proofs.Lang
-use Rattle.ir_reader.proofs.Lang.{Langs, none, some, at_bottom, below, well, fits}
+use Rattle.ir_reader.proofs.Lang.{Langs, none, some, well, fits}
 use Rattle.ir_reader.proofs.Pieces.{no_end}
 use Rattle.ir_reader.proofs.Texts.{text_made}
 use Rattle.ir_reader.proofs.Theorem.{text_of, well_step, below_well, below_of}

@@ -19,7 +19,7 @@ use Rattle.ir_model.specs.Tokens.{Name, Number, Key, Operation, Comparison, Sign
 use Rattle.ir_model.specs.Lines.{Line, marked, plain, name, number, word_excess, length_excess, or_else, type_tokens, row_tokens, more_tokens, result_tokens, more_slots, slots_tokens, cell_tokens, more_cells, init_tokens, more_arguments, inst_lines, term_line, block_lines, local_lines, reg_lines, close_line, funcs_lines, file_lines, struct_lines, periph_lines, global_lines}
 use Rattle.ir_model.specs.Texts.{joined, tokens, begins_colon}
 use Rattle.ir_reader.specs.Machine
-use Rattle.ir_reader.specs.Machine.{Symbol, Move, Go, Stop, Skip, move, is_last}
+use Rattle.ir_reader.specs.Machine.{Symbol, Go, move, is_last}
 use Rattle.ir_reader.specs.Reading.{HasFields}
 use Rattle.ir_reader.specs.Parts.{HasBlocks, AllHaveBlocks}
 

@@ -2,7 +2,7 @@
 use Rattle.std.proofs.Common.{◌≡◌, ℕ, ◌+◌, ◌<◌, ◌≤◌, List, [], ◌∷◌, ◌++◌, length, get_or, take, map, refl, ap, ◌∙◌, arith}
 use Rattle.std.proofs.lemmas.List.{take_more, get_or-map, length-map, get_or_past}
 use Rattle.ir_model.specs.Resolved as plain
-use Rattle.ir_model.specs.Resolved.{NumberedGlobal, no_global, global_at}
+use Rattle.ir_model.specs.Resolved.{no_global, global_at}
 use Rattle.ir_program.specs.declared.program.Program.{Program}
 use Rattle.ir_program.specs.declared.program.Variable.{Variable}
 use Rattle.ir_program.specs.Seen.{program_of, variable_of, known_of}

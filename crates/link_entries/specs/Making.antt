@@ -1,6 +1,6 @@
 -- Beyond the program's claim: only laws, proofs and functions inside the tool cite this file.
 -- What the code of all functions is made of, as the definitions see it.
-use Rattle.std.specs.Prelude.{◌≡◌, ℕ, List, length, map}
+use Rattle.std.specs.Prelude.{◌≡◌, length, map}
 use Rattle.ir_model.specs.Resolved.{Program}
 use Rattle.ir_program.specs.Seen.{program_of}
 use Rattle.plan_model.specs.declared.plan.Spot.{Spot}

@@ -1,7 +1,7 @@
 -- How far code reaches: sites stand in the code of their functions, and functions in that of their compartments.
 use Rattle.std.proofs.Common.{◌≡◌, ℕ, zero, suc, ◌+◌, ◌<◌, ◌≤◌, Bool, true, false, List, [], ◌∷◌, length, take, get_or, cond, nat_eq, refl, sym, ap, subst, eq-eqb, lit<, arith}
 use Rattle.ir_model.specs.Resolved as ir
-use Rattle.ir_model.specs.Resolved.{Program, NumberedInst, NumberedTerm, NumberedBlock, NumberedFunc, Does, Ends, here_in, no_block, func_at}
+use Rattle.ir_model.specs.Resolved.{Program, NumberedInst, NumberedTerm, NumberedBlock, NumberedFunc, Does, here_in, no_block}
 use Rattle.ir_model.proofs.Counting.{rounded_at_least}
 use Rattle.code_model.specs.declared.places.CallSite.{CallSite}
 use Rattle.code_model.specs.Places.{crosses}

@@ -1,5 +1,5 @@
 -- The locals of a frame, one behind the other.
-use Rattle.std.proofs.Common.{◌≡◌, ℕ, ◌+◌, ◌-◌, ◌*◌, ◌<◌, List, [], ◌∷◌, length, map, get_or, drop, refl, ap}
+use Rattle.std.proofs.Common.{◌≡◌, ℕ, ◌+◌, ◌*◌, ◌<◌, List, [], ◌∷◌, length, map, get_or, drop, refl, ap}
 use Rattle.std.proofs.lemmas.List.{drop_more}
 use Rattle.ir_model.specs.Layout.{Known, Shape, rounded_up}
 use Rattle.ir_program.specs.declared.program.Storage.{Storage}

@@ -1,19 +1,17 @@
 -- Runs of a machine whose callback puts the line of each event: what is printed, and how they end.
 use Rattle.std.specs.Prelude.{flat_map, unwrap_or, IsTrue}
-use Rattle.std.specs.List.{FoldsTo}
-use Rattle.std.proofs.Common.{◌≡◌, ◌≢◌, ℕ, suc, ◌+◌, ◌-◌, ◌<◌, ◌≤◌, Bool, true, false, List, [], ◌∷◌, ◌++◌, Option, Some, None, refl, ap, sym, subst, ◌∙◌, arith, append_assoc, append-nil}
+use Rattle.std.proofs.Common.{◌≡◌, ◌≢◌, ℕ, ◌+◌, ◌-◌, ◌<◌, ◌≤◌, Bool, true, false, List, [], ◌∷◌, ◌++◌, Some, None, refl, ap, sym, subst, ◌∙◌, arith, append_assoc, append-nil}
 use Rattle.outside.specs.declared.sink.Sink as sinks
 use Rattle.outside.specs.Counts.{Rose}
 use Rattle.outside.specs.Contents.{AddsPrefix}
 use Rattle.words.specs.Runs.{run, events}
 use Rattle.words.proofs.Runs.{run-add}
-use Rattle.device_model.specs.declared.image.Image.{Image}
 use Rattle.device_model.specs.declared.image.Window.{Window}
 use Rattle.events.specs.declared.event.Event.{Event}
 use Rattle.device_model.specs.Rules.{ObeysRules}
 use Rattle.armv7m.specs.declared.state.End.{End}
 use Rattle.armv7m.specs.declared.state.End.TheVariants.{Halt, InputEnd, Limit, Stop, Refused}
-use Rattle.armv7m.specs.State.{State, by_mpu}
+use Rattle.armv7m.specs.State.{State}
 use Rattle.armv7m.specs.Step.{step, event}
 use Rattle.armv7m.specs.Machine.{MachineState, Accepts, AcceptsAll, IsRun, Says}
 use Rattle.armv7m.specs.Confinement.{EventsAreListed}

@@ -13,6 +13,7 @@ use Rattle.monitor.specs.Records.{compartment_at}
 use Rattle.monitor.specs.Layout.{page_size, head_size, head_at, compartment_size, compartments_at, sites_at, targets_at, lends_at, inits_at, initial_words_at, area_end, tables_size}
 use Rattle.monitor.specs.RegionChecks.{is_data_range, is_compartment}
 use Rattle.ir_model.specs.Typing.{object_limit}
+use Rattle.plan_model.specs.CompileLimits.{compartment_limit, site_limit, target_limit, lent_limit}
 
 -- ---- where a check fails
 
@@ -46,10 +47,10 @@ header_fails i =
 -- each of the eight words by its own rule, then the block's place and what stands in it
 abbrev pub tables_fail : Image → Tables → Option ℕ
 tables_fail i t =
-    and_then (must (nat_le 1 (length t.comps) && nat_le (length t.comps) 64) (head_at t))
-    (and_then (must (nat_le (length t.sites) 4096) (head_at t + 4))
-    (and_then (must (nat_le (length t.targets) (64 * length t.sites)) (head_at t + 8))
-    (and_then (must (nat_le (length t.lends) 32) (head_at t + 12))
+    and_then (must (nat_le 1 (length t.comps) && nat_le (length t.comps) compartment_limit) (head_at t))
+    (and_then (must (nat_le (length t.sites) site_limit) (head_at t + 4))
+    (and_then (must (nat_le (length t.targets) (target_limit * length t.sites)) (head_at t + 8))
+    (and_then (must (nat_le (length t.lends) lent_limit) (head_at t + 12))
     (and_then (must (nat_eq t.stack.base i.stack_base) (head_at t + 20))
     (and_then (must (nat_eq t.stack.size i.stack_size) (head_at t + 24))
     (and_then (must (nat_eq t.monitor i.monitor) (head_at t + 28))
@@ -73,9 +74,9 @@ regions_fail i t = each_record (is_compartment i t) (compartments_at t) (compart
 
 -- ---- sites
 
--- from 1 to 64 targets, all of them in the list
+-- a target and at most as many as the limit, all of them in the list
 abbrev pub is_site : Tables → SiteRecord → Bool
-is_site t s = nat_le 1 s.count && (nat_le s.count 64 && nat_le (s.first + s.count) (length t.targets))
+is_site t s = nat_le 1 s.count && (nat_le s.count target_limit && nat_le (s.first + s.count) (length t.targets))
 
 -- an odd entry in the code of a compartment that there is
 abbrev pub is_entry : Tables → (entry compartment : ℕ) → Bool

@@ -18,6 +18,7 @@ use Rattle.monitor.specs.Layout.{initial_word_count, tables_size}
 use Rattle.monitor.specs.Area.{HasTables}
 use Rattle.monitor.specs.MonitorCode.{MonitorCode}
 use Rattle.monitor.specs.Sound.{Sound}
+use Rattle.plan_model.specs.CompileLimits.{compartment_limit, lent_limit}
 
 abbrev pub InFlashOf : Image → (address : ℕ) → Type 0
 InFlashOf i a = IsInside a 1 i.flash_base (length i.flash)
@@ -75,9 +76,9 @@ pub record Placed (i : Image) (t : Tables) : Type 0 where
   pub word_count : length t.words ≡ initial_word_count t
   -- some compartment, and each in form
   pub some : 0 < length t.comps
-  pub most : length t.comps ≤ 64
+  pub most : length t.comps ≤ compartment_limit
   pub comps : Each (IsCompartment i t) t.comps
-  pub few_lends : length t.lends ≤ 32
+  pub few_lends : length t.lends ≤ lent_limit
   pub targets : Each (λ (g : TargetRecord). IsEntry t g.entry g.compartment) t.targets
   pub main : IsEntry t t.main t.main_comp
 

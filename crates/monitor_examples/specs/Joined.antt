@@ -1,6 +1,6 @@
 -- Beyond the program's claim: only laws, proofs and functions inside the tool cite this file.
 -- The image of the firmware that lends a local, with the monitor's own code.
-use Rattle.std.specs.Prelude.{◌≡◌, List, ◌++◌, None, replicate}
+use Rattle.std.specs.Prelude.{◌≡◌, ◌++◌, None, replicate}
 use Rattle.device_model.specs.declared.image.Image.{Image}
 use Rattle.monitor.specs.Page.{page}
 use Rattle.monitor.specs.TheCode.{monitor_code}

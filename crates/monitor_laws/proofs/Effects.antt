@@ -1,26 +1,22 @@
 -- The effect of the steps that write a compartment's tables, from any core.
-use Rattle.std.proofs.Common.{◌≡◌, ℕ, zero, suc, ◌+◌, ◌*◌, ◌^◌, ◌<◌, ◌≤◌, Bool, true, false, List, [], ◌∷◌, map, length, get_or, refl, sym, ap, ◌∙◌, subst, arith}
-use Rattle.std.specs.Int.{bit_at}
-use Rattle.mpu_model.specs.declared.region.Access.{Access}
-use Rattle.mpu_model.specs.declared.region.Region.{Region}
+use Rattle.std.proofs.Common.{◌≡◌, ℕ, ◌^◌, ◌<◌, ◌≤◌, false, List, [], ◌∷◌, length, get_or, refl, sym, ap, ◌∙◌, arith}
 use Rattle.mpu_model.specs.Configured.{written}
 use Rattle.device_model.specs.declared.image.Image.{Image}
 use Rattle.armv7m.specs.declared.state.ProtectionState.{ProtectionState}
 use Rattle.armv7m.specs.State.{by_mpu}
 use Rattle.gate_steps.specs.Steps.{Steps, End}
 use Rattle.gate_steps.specs.Core.{Core, low_register}
-use Rattle.gate_steps.specs.Effect.{Outcome, Went, effect}
+use Rattle.gate_steps.specs.Effect.{Outcome, Went}
 use Rattle.gate_steps.specs.Ticks.{ticks}
 use Rattle.gate_steps.specs.Safe.{Rule}
 use Rattle.gate_steps.proofs.Gives.{gives_effect}
 use Rattle.gate_steps.proofs.Within.{GivesWithin, ticks_all, end_within, at_within}
-use Rattle.monitor.specs.declared.tables.Tables.{Tables}
-use Rattle.monitor.specs.Records.{compartment_at, number_of_slots}
+use Rattle.monitor.specs.Records.{compartment_at}
 use Rattle.monitor.specs.Constants.{constants_with}
 use Rattle.monitor.specs.Opening.{tables_of}
-use Rattle.monitor_laws.specs.RegionsWritten.{Writable, MayWrite, HasWritten, Writes, TablesAreWritten}
-use Rattle.monitor_laws.proofs.Off.{core, with_unit, IsOff, Allows}
-use Rattle.monitor_laws.proofs.Written.{open_stack, tables_within}
+use Rattle.monitor_laws.specs.RegionsWritten.{HasWritten, TablesAreWritten}
+use Rattle.monitor_laws.proofs.Off.{core, IsOff, Allows}
+use Rattle.monitor_laws.proofs.Written.{tables_within}
 use Rattle.monitor_laws.proofs.Tables.{shaped, has_compartment, record_at, top_is, unit_is}
 
 -- what a bound tells of the list itself

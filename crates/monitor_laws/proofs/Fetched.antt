@@ -7,7 +7,7 @@ use Rattle.mpu_model.specs.declared.region.Region.{Region}
 use Rattle.mpu_model.specs.declared.region.Access.TheVariants.{Fetch}
 use Rattle.mpu_model.specs.declared.words.Rights.TheVariants.{Code, Stack}
 use Rattle.mpu_model.specs.Regions.{holds, allows, ap_reads, permission, is_executable}
-use Rattle.mpu_model.specs.RegionWords.{IsHeld, may}
+use Rattle.mpu_model.specs.RegionWords.{IsHeld}
 use Rattle.mpu_model.specs.Protection.{permits, deciding}
 use Rattle.mpu_model.specs.Laws.{kept_region, RegionsAreKept, RegionsHoldTheirBlocks, RegionsGiveTheirRights}
 use Rattle.mpu_model.specs.Configured.{closed_from}

@@ -1,5 +1,5 @@
 -- The monitor's block as start-up leaves it.
-use Rattle.std.proofs.Common.{◌≡◌, ℕ, ◌+◌, ◌-◌, ◌*◌, ◌%◌, ◌^◌, ◌<◌, ◌≤◌, ◌⊎◌, inl, inr, ⊎_elim, List, [], ◌∷◌, length, refl, sym, ap, ◌∙◌, subst, arith}
+use Rattle.std.proofs.Common.{◌≡◌, ℕ, ◌+◌, ◌-◌, ◌^◌, ◌<◌, ◌≤◌, ◌⊎◌, inl, inr, ⊎_elim, List, length, ap, ◌∙◌, arith}
 use Rattle.words.specs.Bytes.{read, write}
 use Rattle.words.proofs.Bytes.{read_below, read_above, length-write}
 use Rattle.device_model.specs.declared.image.Image.{Image}
@@ -8,7 +8,6 @@ use Rattle.monitor.specs.declared.tables.Tables.{Tables}
 use Rattle.monitor.specs.Records.{stack_end}
 use Rattle.monitor.specs.Block.{first_block}
 use Rattle.monitor.specs.BlockWords.{IsBlock}
-use Rattle.monitor.specs.MonitorLaw.{IsMemory}
 use Rattle.monitor_laws.proofs.ResetList.{with_block}
 
 pub block_length : (b c p : ℕ) (m : List ℕ) → length (with_block b c p m) ≡ length m

@@ -1,5 +1,5 @@
 -- The page in flash: start-up's code, and the vectors of reset.
-use Rattle.std.proofs.Common.{◌≡◌, ℕ, zero, suc, ◌+◌, ◌-◌, ◌*◌, ◌/◌, ◌%◌, ◌^◌, ◌<◌, ◌≤◌, List, [], ◌∷◌, ◌++◌, length, get_or, replicate, refl, sym, ap, ◌∙◌, subst, arith, length-append, append_assoc, get_or-append-add}
+use Rattle.std.proofs.Common.{◌≡◌, ℕ, ◌+◌, ◌-◌, ◌^◌, ◌<◌, ◌≤◌, List, [], ◌∷◌, ◌++◌, length, get_or, replicate, sym, ap, ◌∙◌, subst, arith, length-append, append_assoc, get_or-append-add}
 use Rattle.std.proofs.lemmas.List.{get_or_append_left}
 use Rattle.words.specs.Bytes.{read}
 use Rattle.words.proofs.Bytes.{read-append_left}
@@ -20,8 +20,8 @@ use Rattle.monitor.specs.Constants.{Constants}
 use Rattle.monitor.specs.Svc.{svc}
 use Rattle.monitor.specs.MemFault.{memfault}
 use Rattle.monitor.specs.Reset.{reset}
-use Rattle.monitor.specs.Page.{reset_offset, svc_offset, memfault_offset, vectors, bytes_of_words, used_bytes, leave_stub, monitor_code, constants, page, filled_up, vector_to}
-use Rattle.monitor_laws.proofs.Appended.{followed_by, code_followed}
+use Rattle.monitor.specs.Page.{reset_offset, svc_offset, memfault_offset, vectors, bytes_of_words, used_bytes, leave_stub, constants, page, vector_to}
+use Rattle.monitor_laws.proofs.Appended.{code_followed}
 use Rattle.monitor_laws.proofs.ResetList.{before_control, control_and_go, reset_parts}
 use Rattle.monitor_laws.proofs.Encoded.{control_and_go_in}
 

@@ -22,7 +22,7 @@ use Rattle.monitor.specs.declared.tables.SiteRecord.{SiteRecord}
 use Rattle.monitor.specs.declared.tables.TargetRecord.{TargetRecord}
 use Rattle.monitor.specs.declared.tables.Tables.{Tables}
 use Rattle.monitor.specs.Records.{compartment_at, number_of_slots, stack_end}
-use Rattle.monitor.specs.Layout.{head_at, tables_size, inits_at}
+use Rattle.monitor.specs.Layout.{head_at, tables_size}
 use Rattle.monitor.specs.Area.{HasTables, compartment_words, site_words, target_words, init_words, head, area}
 use Rattle.monitor.specs.Regions.{background, tables_region, regions_for}
 use Rattle.monitor.specs.Placed.{Placed, IsCompartment}

@@ -16,7 +16,7 @@ use Rattle.armv7m.specs.State.{State, by_mpu, is_unprivileged}
 use Rattle.armv7m.specs.Step.{turn, step, event}
 use Rattle.armv7m.specs.Run.{start}
 use Rattle.armv7m.specs.Shape.{StateFits, RunsKeepShape}
-use Rattle.armv7m.specs.Code.{size, CodeIn, CodeAt, Steps as OneStep, next}
+use Rattle.armv7m.specs.Code.{CodeIn, CodeAt, Steps as OneStep, next}
 use Rattle.armv7m.specs.Running.{code_size}
 use Rattle.armv7m.specs.RunningCode.{body, works}
 use Rattle.armv7m.specs.InstructionEffects.{EachWorks, RegisterSteps, BranchSteps, SpecialSteps}

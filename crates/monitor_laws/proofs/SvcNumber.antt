@@ -1,5 +1,5 @@
 -- The handler of SVC up to its number, and the whole of it for numbers of unlend and above.
-use Rattle.std.proofs.Common.{◌≡◌, ◌≢◌, ℕ, zero, suc, ◌+◌, ◌-◌, ◌*◌, ◌/◌, ◌%◌, ◌^◌, ◌<◌, ◌≤◌, Bool, true, false, List, [], ◌∷◌, length, nat_eq, refl, sym, ap, ◌∙◌, subst, arith}
+use Rattle.std.proofs.Common.{◌≡◌, ◌≢◌, ℕ, ◌+◌, ◌-◌, ◌*◌, ◌%◌, ◌^◌, ◌<◌, ◌≤◌, true, false, List, [], length, nat_eq, refl, ap, ◌∙◌, arith}
 use Rattle.std.proofs.lemmas.Bool.Decides.{nat_tests}
 use Rattle.words.specs.Arithmetic.{subtract}
 use Rattle.words.specs.Bytes.{read, write}
@@ -24,7 +24,7 @@ use Rattle.monitor.specs.Constants.{Constants, constants_with}
 use Rattle.monitor.specs.Offsets.{frame_return}
 use Rattle.monitor.specs.Opening.{opened}
 use Rattle.monitor.specs.Svc.{enter, leave, lend, unlend, on_number, svc}
-use Rattle.monitor_laws.proofs.Off.{core, with_unit, IsOff, Allows, open_while_off}
+use Rattle.monitor_laws.proofs.Off.{core, with_unit, IsOff, open_while_off}
 use Rattle.monitor_laws.proofs.Placement.{writable}
 use Rattle.monitor_laws.proofs.Opened.{Handles, FrameIsOpen, opened_within}
 use Rattle.monitor_laws.proofs.Unlend.{unlend_within}

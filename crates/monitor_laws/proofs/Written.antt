@@ -1,11 +1,11 @@
 -- The tables of a compartment are written: regions 2, 3 and its slots.
-use Rattle.std.proofs.Common.{◌≡◌, ℕ, zero, suc, ◌+◌, ◌-◌, ◌*◌, ◌/◌, ◌%◌, ◌^◌, ◌<◌, ◌≤◌, inl, inr, Bool, true, false, List, [], ◌∷◌, length, refl, sym, ap, ◌∙◌, subst, arith}
+use Rattle.std.proofs.Common.{◌≡◌, ℕ, ◌+◌, ◌-◌, ◌*◌, ◌/◌, ◌%◌, ◌^◌, ◌<◌, ◌≤◌, inl, inr, Bool, true, false, List, [], ◌∷◌, length, refl, sym, ap, ◌∙◌, subst, arith}
 use Rattle.std.specs.Prelude.{bit_and}
 use Rattle.words.specs.Bytes.{read}
 use Rattle.words.specs.declared.memory.Width.TheVariants.{Word}
 use Rattle.mpu_model.specs.declared.region.Region.{Region}
 use Rattle.mpu_model.specs.declared.TheConstants.{MPU_RBAR, MPU_RASR}
-use Rattle.mpu_model.specs.Registers.{Registers, write_register}
+use Rattle.mpu_model.specs.Registers.{write_register}
 use Rattle.mpu_model.specs.Configured.{written}
 use Rattle.device_model.specs.declared.image.Image.{Image}
 use Rattle.device_model.specs.Rules.{ObeysRules}
@@ -19,7 +19,7 @@ use Rattle.gate_steps.specs.Safe.{Rule}
 use Rattle.gate_steps.proofs.Within.{GivesWithin, const_within, alu_within, more_within, load_flash_within}
 use Rattle.monitor.specs.Constants.{Constants}
 use Rattle.monitor.specs.Opening.{bits_of, times, record_of, regions, stack_region, tables_of}
-use Rattle.monitor_laws.proofs.Numbers.{shl3, shl8, shr_by, times_over, srd_is, srd_word, below_256, horner, Small, times_is, times_ticks, product_ticks}
+use Rattle.monitor_laws.proofs.Numbers.{shl3, shl8, shr_by, times_over, srd_is, srd_word, horner, Small, times_is, times_ticks, product_ticks}
 use Rattle.monitor_laws.proofs.Off.{core, with_unit, IsOff, Allows, open_while_off, status_stays, rbar_control, rasr_control, unit_within}
 
 -- flash holds the words of regions from an offset on

@@ -23,6 +23,7 @@ use Rattle.monitor.specs.Regions.{background, tables_region, stack_region, regio
 use Rattle.monitor.specs.Invariant.{IsTop}
 use Rattle.monitor.specs.Constants.{constants_with}
 use Rattle.monitor.specs.Opening.{tables_of}
+use Rattle.plan_model.specs.CompileLimits.{compartment_limit}
 
 -- as many slots as the others, and words that go to the regions of their numbers
 pub record IsNumbered (t : Tables) (c : CompRecord) : Type 0 where
@@ -37,7 +38,7 @@ pub record Writable (i : Image) (t : Tables) : Type 0 where
   pub in_flash : HasTables i t
   pub least : 4 ≤ number_of_slots t
   pub most : number_of_slots t ≤ 12
-  pub few : length t.comps ≤ 64
+  pub few : length t.comps ≤ compartment_limit
   pub comps : Each (IsNumbered t) t.comps
   pub stack_size : IsPowerBetween 9 16 t.stack.size
   pub stack_aligned : t.stack.base % t.stack.size ≡ 0

@@ -3,7 +3,7 @@ use Rattle.std.proofs.Common.{◌≡◌, ◌≢◌, ℕ, ◌+◌, ◌-◌, ◌*�
 use Rattle.std.specs.Int.{bit_at, trailing_zeros, IsPowerOfTwo}
 use Rattle.std.proofs.Math.Nat.{pow-le-pow_right, add-mul-div_right, div-div-eq-div-mul}
 use Rattle.std.proofs.lemmas.Nat.{trailing_le, pow-add, pow_below, div-mul-add}
-use Rattle.std.proofs.lemmas.Nat.Bits.{bit_at-pow_other, bit_at-lt}
+use Rattle.std.proofs.lemmas.Nat.Bits.{bit_at-lt}
 use Rattle.std.proofs.lemmas.Bool.{cases_lt}
 use Rattle.std.proofs.lemmas.Bool.Decides.{nat_tests}
 use Rattle.mpu_model.specs.declared.region.Region.{Region}

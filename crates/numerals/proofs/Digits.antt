@@ -1,5 +1,5 @@
 -- Digits read one after another, where the number so far is told apart only up to 2^32.
-use Rattle.std.proofs.Common.{◌≡◌, ◌<◌, ◌≤◌, ◌⊎◌, inl, inr, ℕ, ◌+◌, ◌*◌, ◌-◌, ◌^◌, min, List, [], ◌∷◌, refl, ap, sym, ◌∙◌, Option, Some, None, length, drop, suc, get_or, arith, drop-cons, add-one}
+use Rattle.std.proofs.Common.{◌≡◌, ◌<◌, ◌≤◌, ◌⊎◌, inl, inr, ℕ, ◌+◌, ◌*◌, ◌^◌, min, List, [], ◌∷◌, refl, ap, ◌∙◌, Option, Some, None, length, drop, suc, get_or, arith, drop-cons, add-one}
 use Rattle.std.proofs.lemmas.Bool.{cases_lt}
 use Rattle.numerals.specs.Numerals.{and_more}
 use Rattle.numerals.specs.Capped.{capped}

@@ -1,5 +1,5 @@
 -- A number behind its sign.
-use Rattle.std.proofs.Common.{◌≡◌, ◌≤◌, ◌<◌, ℕ, ◌-◌, ◌^◌, min, List, [], ◌∷◌, refl, ap, sym, ◌∙◌, Option, Some, None, length, take, drop, get_or, arith, nat_lt, nat_eq, if◌then◌else◌, inl, inr}
+use Rattle.std.proofs.Common.{◌≡◌, ◌≤◌, ◌<◌, ℕ, ◌-◌, ◌^◌, min, List, [], ◌∷◌, refl, ap, sym, ◌∙◌, Option, Some, None, length, take, drop, get_or, arith, inl, inr}
 use Rattle.std.proofs.lemmas.Bool.{cases_lt}
 use Rattle.std.proofs.lemmas.Bool.Decides.{nat_tests}
 use Rattle.std.proofs.lemmas.Grind.{common_steps}

@@ -1,8 +1,8 @@
 -- Beyond the program's claim: only laws, proofs and functions inside the tool cite this file.
 -- Two functions that call each other across compartments: where their frames stand on a stack of 2,048 bytes.
-use Rattle.std.specs.Prelude.{◌≡◌, ℕ, ◌+◌, ◌≤◌, List, [], ◌∷◌, length, false, Option, Some, None}
+use Rattle.std.specs.Prelude.{◌≡◌, ℕ, List, [], ◌∷◌, false, None}
 use Rattle.ir_model.specs.Types.{PlainTypes, PlainType, U32, none, more, nothing}
-use Rattle.ir_model.specs.Resolved.{Program, NumberedFunc, Call, Const, Ret}
+use Rattle.ir_model.specs.Resolved.{Program, NumberedFunc, Call, Ret}
 use Rattle.ir_laws.specs.Moves.{Where}
 use Rattle.plan_model.specs.declared.needs.Needs.{Needs}
 use Rattle.plan_model.specs.declared.groups.Groups.{Groups}

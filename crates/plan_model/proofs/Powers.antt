@@ -1,5 +1,5 @@
 -- The least power of two that passes a test, and the block that holds so many bytes.
-use Rattle.std.proofs.Common.{◌≡◌, ℕ, zero, suc, ◌+◌, ◌*◌, ◌/◌, ◌^◌, ◌≤◌, ◌<◌, Bool, true, false, cond, List, Some, max, nat_le, refl, sym, ap, subst, ◌∙◌, arith}
+use Rattle.std.proofs.Common.{◌≡◌, ℕ, zero, suc, ◌+◌, ◌/◌, ◌^◌, ◌≤◌, ◌<◌, Bool, true, false, cond, List, Some, max, nat_le, refl, sym, ap, subst, ◌∙◌, arith}
 use Rattle.std.specs.Prelude.{find, map, unwrap_or}
 use Rattle.std.specs.List.{range_with_len}
 use Rattle.std.specs.Int.{IsPowerOfTwo}
@@ -7,7 +7,7 @@ use Rattle.std.proofs.Math.Pow.{pow_mono}
 use Rattle.std.proofs.Math.Nat.{pow-suc}
 use Rattle.std.proofs.lemmas.Bool.{cases_lt, leb-true, le-leb}
 use mathlib.Core.Logic.{⊎_elim}
-use Rattle.plan_model.specs.Covers.{powers_of_two, least_power}
+use Rattle.plan_model.specs.Covers.{least_power}
 use Rattle.plan_model.specs.Blocks.{block}
 
 -- the powers from 2 ^ a on, n of them

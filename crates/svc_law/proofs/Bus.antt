@@ -48,7 +48,6 @@ use Rattle.monitor_laws.proofs.Appended.{followed_by, code_followed}
 use Rattle.monitor_laws.proofs.Opened.{FrameIsOpen}
 use Rattle.monitor_laws.proofs.HandlerRule.{HandlerRule}
 use Rattle.monitor_laws.proofs.SvcNumber.{Called, numbered as up_to_number, numbered_within}
-use Rattle.handler_runs.proofs.Returned.{LeavesRam}
 use Rattle.svc_law.proofs.Calling.{Calling, IsGood, off, is_off, halted, same, top_word, top_word_below}
 use Rattle.svc_law.proofs.Numbers.{reach, may, W, Q, at_first}
 

@@ -10,7 +10,7 @@ use Rattle.monitor.specs.Opening.{bits_of, tables_of, closed_up}
 use Rattle.monitor.specs.Svc.{target_turn, enter, leave, lend, unlend, svc}
 use Rattle.monitor_laws.proofs.Appended.{tables_low}
 use Rattle.handler_runs.proofs.Encodable.{Words, words_fit, times_words, regions_words}
-use Rattle.monitor_laws.proofs.Encoded.{fits_fields, Fits, in_table}
+use Rattle.monitor_laws.proofs.Encoded.{fits_fields, in_table}
 
 -- ---- the handler
 

@@ -1,5 +1,5 @@
 -- What the law gives a running thread: code that may be fetched, stack that may be used, and what stays.
-use Rattle.std.proofs.Common.{◌≡◌, ℕ, ◌+◌, ◌*◌, ◌%◌, ◌≤◌, List, [], ◌∷◌, true, Option, refl, ◌∙◌, subst, arith, ◌⊎◌, inl, inr, ⊎_elim}
+use Rattle.std.proofs.Common.{◌≡◌, ℕ, ◌+◌, ◌*◌, ◌%◌, ◌≤◌, List, [], ◌∷◌, true, Option, refl, ◌∙◌, subst, arith, inl, inr, ⊎_elim}
 use Rattle.words.specs.Bytes.{read}
 use Rattle.words.specs.declared.conditions.Flags.{Flags}
 use Rattle.thumb_model.specs.declared.table.Code.{Code}

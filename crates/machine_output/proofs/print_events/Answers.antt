@@ -1,12 +1,10 @@
-use Rattle.std.proofs.Common.{rules, IsTrue, ◌≡◌, ◌≢◌, ◌++◌, List, refl, ap, sym, ◌∙◌, subst, Bor, MutBor, arith}
-use Rattle.std.proofs.lemmas.Grind.{common_steps}
+use Rattle.std.proofs.Common.{rules, IsTrue, ◌++◌, List, ap, sym, ◌∙◌, subst, Bor, MutBor}
 use Rattle.device_model.specs.declared.image.Image.{Image}
 use Rattle.device_model.specs.declared.image.Window.{Window}
 use Rattle.device_model.specs.Rules.{ObeysRules}
-use Rattle.armv7m.specs.declared.state.End.TheVariants.{Refused}
 use Rattle.armv7m.specs.State.{by_mpu}
 use Rattle.machine_output.specs.Runs.{end_of, event_lines}
-use Rattle.machine_output.proofs.Callbacks.{Prints, Printed, printed_all, printed_part}
+use Rattle.machine_output.proofs.Callbacks.{printed_all, printed_part}
 use Rattle.machine_output.proofs.print_events.Goals as goal
 
 pub returns-in-Refused-clause-cause : goal.returns-in-Refused-clause-cause

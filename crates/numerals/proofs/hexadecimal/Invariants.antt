@@ -1,4 +1,4 @@
-use Rattle.std.proofs.Common.{◌≡◌, ◌≤◌, ◌<◌, ◌^◌, drop, length}
+use Rattle.std.proofs.Common.{◌≡◌, ◌≤◌, ◌^◌, drop}
 use Rattle.numerals.specs.Numerals.{digits, and_more, hexadecimal_digit}
 use Rattle.numerals.specs.Capped.{capped}
 use Rattle.numerals.proofs.hexadecimal.Given as goal

@@ -1,7 +1,6 @@
 use Rattle.std.proofs.Common.{◌≡◌, ◌+◌, [], ◌∷◌, Err, arith}
 use Rattle.std.proofs.lemmas.Grind.{common_steps}
 use Rattle.ir_reader.specs.Machine as expected
-use Rattle.ir_reader.specs.Machine.{Symbol, fault}
 use Rattle.ir_reader.specs.Scan.{placed}
 use Rattle.ir_reader.proofs.Values.{fails_after}
 use Rattle.ir_reader.proofs.Ends.{first_is}

@@ -1,4 +1,4 @@
-use Rattle.std.proofs.Common.{length, arith, refl, ap, subst, sym, map, ◌∙◌}
+use Rattle.std.proofs.Common.{arith, refl, ap, subst, sym, map, ◌∙◌}
 use Rattle.std.proofs.lemmas.List.{length-map}
 use Rattle.ir_model.specs.Plain.{firmware_of, file_of, func_of}
 use Rattle.ir_model.specs.Resolve.{Scope}

@@ -3,7 +3,6 @@ use Rattle.thumb_asm.specs.declared.item.Item.{Item}
 use Rattle.thumb_asm.specs.declared.item.Item.TheVariants.{Half}
 use Rattle.code_model.specs.Words.{plain, save_code, word_into, supervisor_call}
 use Rattle.code_model.specs.Calls.{args_code, cross_code}
-use Rattle.code_model.specs.Emitted.{HasRoom}
 use Rattle.lower.proofs.Putting.{first_fits, rest_fits}
 use Rattle.lower.proofs.Calling.{far_call_parts, crossing}
 use Rattle.lower.proofs.calls.put_far_call.Goals as goal

@@ -4,7 +4,7 @@ use Rattle.thumb_asm.specs.declared.item.Item.{Item}
 use Rattle.thumb_asm.specs.Assembly.{here, total}
 use Rattle.thumb_asm.specs.Finished.{distance}
 use Rattle.code_model.specs.Words.{plain, save_code}
-use Rattle.code_model.specs.Calls.{args_code, call_code, call_items}
+use Rattle.code_model.specs.Calls.{args_code, call_items}
 use Rattle.std.proofs.lemmas.Result.{on_ok_weaker}
 use Rattle.lower.proofs.Putting.{first_fits, rest_fits, both_put, here_more}
 use Rattle.lower.proofs.Calling.{near_call_parts, link_reaches}

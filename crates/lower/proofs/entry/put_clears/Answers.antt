@@ -1,4 +1,4 @@
-use Rattle.std.proofs.Common.{◌≡◌, ℕ, ◌-◌, ◌+◌, ◌∙◌, List, [], ◌∷◌, arith}
+use Rattle.std.proofs.Common.{ℕ, ◌-◌, ◌+◌, ◌∙◌, List, [], ◌∷◌, arith}
 use Rattle.thumb_model.specs.declared.table.Instr.{Instr}
 use Rattle.code_model.specs.Words.{store_slot}
 use Rattle.code_model.specs.Entry.{stores_code}

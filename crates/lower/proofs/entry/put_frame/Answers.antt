@@ -1,4 +1,4 @@
-use Rattle.std.proofs.Common.{ℕ, ◌-◌, List, [], ◌∷◌, ◌++◌}
+use Rattle.std.proofs.Common.{◌-◌, List, [], ◌∷◌, ◌++◌}
 use Rattle.std.proofs.lemmas.Result.{on_ok_weaker}
 use Rattle.thumb_model.specs.declared.table.Instr.TheVariants.{PushPop}
 use Rattle.thumb_asm.specs.declared.item.Item.{Item}

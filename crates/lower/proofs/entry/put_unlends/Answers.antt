@@ -1,4 +1,4 @@
-use Rattle.std.proofs.Common.{◌≡◌, ◌+◌, ◌∙◌, List, [], ◌∷◌, map, drop, get_or, arith}
+use Rattle.std.proofs.Common.{◌+◌, ◌∙◌, List, [], ◌∷◌, map, drop, get_or, arith}
 use Rattle.thumb_model.specs.declared.table.Instr.{Instr}
 use Rattle.code_model.specs.Words.{supervisor_call}
 use Rattle.lower.specs.declared.subject.Lent.{Lent}

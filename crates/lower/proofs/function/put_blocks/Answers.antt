@@ -1,6 +1,5 @@
-use Rattle.std.proofs.Common.{◌≡◌, ℕ, ◌+◌, ◌-◌, ◌<◌, ◌++◌, List, length, take, drop, replicate, Option, Some, None, sym, ap, ◌∙◌, arith}
+use Rattle.std.proofs.Common.{◌≡◌, ℕ, ◌+◌, ◌-◌, ◌<◌, ◌++◌, List, length, take, drop, replicate, Option, Some, None, ap, ◌∙◌, arith}
 use Rattle.std.proofs.lemmas.List.{length-map}
-use Rattle.thumb_asm.specs.declared.item.Item.{Item}
 use Rattle.thumb_asm.specs.Assembly.{Assembly, here}
 use Rattle.ir_program.specs.Seen.{known_of, sequence_of}
 use Rattle.lower.specs.Subjects.{func_of, first_label, rest_labels}

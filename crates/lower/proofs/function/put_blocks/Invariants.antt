@@ -1,7 +1,7 @@
 use Rattle.std.proofs.Common.{◌≡◌, ◌+◌, ◌-◌, ◌%◌, ◌++◌, length, take, drop, replicate, None}
 use Rattle.thumb_asm.specs.Assembly.{here, total}
 use Rattle.lower.specs.Subjects.{func_of, first_label, rest_items, rest_labels}
-use Rattle.code_model.specs.Emitted.{with_more, HasRoom, AreNear}
+use Rattle.code_model.specs.Emitted.{HasRoom, AreNear}
 use Rattle.lower.proofs.function.put_blocks.Given as goal
 
 -- what was put and what is left are the whole, and the labels that are left are not put

@@ -1,4 +1,4 @@
-use Rattle.std.proofs.Common.{◌≡◌, ◌∙◌, get_or, arith}
+use Rattle.std.proofs.Common.{◌∙◌, get_or, arith}
 use Rattle.thumb_model.specs.declared.table.Instr.TheVariants.{ShiftImmediate}
 use Rattle.lower.proofs.Putting.{next_in_table, next_room, next_whole, next_rest}
 use Rattle.lower.proofs.instructions.put.Goals as goal

@@ -1,4 +1,4 @@
-use Rattle.std.proofs.Common.{ℕ, suc, ◌-◌, true, false, subst, sym, ◌∙◌, arith, of_calls}
+use Rattle.std.proofs.Common.{ℕ, suc, ◌-◌, subst, sym, ◌∙◌, arith, of_calls}
 use Rattle.std.specs.Fn.{CalledAt}
 use Rattle.std.proofs.lemmas.Fn.{called_at}
 use Rattle.armv7m.specs.declared.state.End.TheVariants.{Refused, Limit}
