@@ -1,8 +1,9 @@
 -- Which bytes are a word, and which words are names.
-use Rattle.std.specs.Prelude.{ℕ, List, [], ◌∷◌, ◌++◌, length, Bool, false, not, ◌&&◌, ◌||◌, nat_eq, nat_lt, nat_le, codes, IsTrue}
+use Rattle.std.specs.Prelude.{ℕ, List, [], ◌∷◌, ◌++◌, length, Bool, false, not, ◌&&◌, ◌||◌, nat_eq, nat_lt, nat_le, map, IsTrue}
 use Rattle.std.specs.List.{list_any, list_all}
 use Rattle.std.specs.Str.{bytes_eq}
 use Rattle.names.specs.declared.TheConstants.{NAME_LIMIT}
+use Rattle.names.specs.declared.words.TheConstants.{DECLARATION_WORDS, INSTRUCTION_WORDS, TYPE_WORDS, OPERATION_WORDS, COMPARISON_WORDS}
 
 abbrev pub is_between : ℕ → ℕ → ℕ → Bool
 is_between low high b = not (nat_lt b low) && not (nat_lt high b)
@@ -26,24 +27,20 @@ is_word (b ∷ bs) = begins_word b && all_continue bs
 
 -- the words that open a declaration
 unfoldable pub declaration_words : List (List ℕ)
-declaration_words = codes "struct" ∷ codes "periph" ∷ codes "const" ∷ codes "global" ∷ codes "file" ∷ codes "func" ∷ codes "local" ∷ codes "reg" ∷ []
+declaration_words = map (λ word. word.now) DECLARATION_WORDS
 
 -- the words that open an instruction or stand in one
 unfoldable pub instruction_words : List (List ℕ)
-instruction_words =
-    codes "addr" ∷ codes "faddr" ∷ codes "elem" ∷ codes "field" ∷ codes "load" ∷ codes "store"
-    ∷ codes "call" ∷ codes "icall" ∷ codes "jump" ∷ codes "branch" ∷ codes "ret" ∷ []
+instruction_words = map (λ word. word.now) INSTRUCTION_WORDS
 
 unfoldable pub type_words : List (List ℕ)
-type_words = codes "fn" ∷ codes "u8" ∷ codes "u16" ∷ codes "u32" ∷ []
+type_words = map (λ word. word.now) TYPE_WORDS
 
 unfoldable pub operation_words : List (List ℕ)
-operation_words =
-    codes "add" ∷ codes "sub" ∷ codes "mul" ∷ codes "udiv" ∷ codes "sdiv" ∷ codes "urem" ∷ codes "srem"
-    ∷ codes "and" ∷ codes "or" ∷ codes "xor" ∷ codes "bic" ∷ codes "shl" ∷ codes "shr" ∷ codes "sar" ∷ []
+operation_words = map (λ word. word.now) OPERATION_WORDS
 
 unfoldable pub comparison_words : List (List ℕ)
-comparison_words = codes "eq" ∷ codes "ne" ∷ codes "ult" ∷ codes "ule" ∷ codes "slt" ∷ codes "sle" ∷ []
+comparison_words = map (λ word. word.now) COMPARISON_WORDS
 
 -- the words that no name may be
 unfoldable pub reserved : List (List ℕ)

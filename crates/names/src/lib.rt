@@ -2,8 +2,11 @@
 #![tactic(auto)]
 
 ghost use Rattle.std.specs.Prelude.{◌≡◌};
+ghost use Rattle.std.specs.List.{list_any};
 ghost use Rattle.std.specs.Str.{bytes_eq};
 ghost use Rattle.names.specs.Names as names;
+
+pub mod words;
 
 /// The greatest length of a name, in bytes.
 pub const NAME_LIMIT: usize = 64;
@@ -23,7 +26,7 @@ pub fn may_continue_word(byte: u8) -> bool
 }
 
 /// Whether the bytes are a word, of any length but 0.
-#[tactic(auto, using(crate::proofs::Words::is_word_at))]
+#[tactic(auto, using(crate::proofs::Parts::is_word_at))]
 pub fn is_word(bytes: &[u8]) -> bool
     ensures { result ≡ names.is_word bytes.now }
 {
@@ -45,86 +48,22 @@ fn is_text(word: &[u8], text: &[u8]) -> bool
     word == text
 }
 
-#[tactic(auto, unfolding(crate::specs::Names::declaration_words))]
-fn is_declaration_word(word: &[u8]) -> bool
-    ensures { result ≡ names.is_one_of names.declaration_words word.now }
+fn is_one_of(word: &[u8], table: &[&[u8]]) -> bool
+    ensures { result ≡ list_any (λ text. bytes_eq word.now text.now) table.now }
 {
-    is_text(word, b"struct")
-        || is_text(word, b"periph")
-        || is_text(word, b"const")
-        || is_text(word, b"global")
-        || is_text(word, b"file")
-        || is_text(word, b"func")
-        || is_text(word, b"local")
-        || is_text(word, b"reg")
-}
-
-#[tactic(auto, unfolding(crate::specs::Names::instruction_words))]
-fn is_instruction_word(word: &[u8]) -> bool
-    ensures { result ≡ names.is_one_of names.instruction_words word.now }
-{
-    is_text(word, b"addr")
-        || is_text(word, b"faddr")
-        || is_text(word, b"elem")
-        || is_text(word, b"field")
-        || is_text(word, b"load")
-        || is_text(word, b"store")
-        || is_text(word, b"call")
-        || is_text(word, b"icall")
-        || is_text(word, b"jump")
-        || is_text(word, b"branch")
-        || is_text(word, b"ret")
-}
-
-#[tactic(auto, unfolding(crate::specs::Names::type_words))]
-fn is_type_word(word: &[u8]) -> bool
-    ensures { result ≡ names.is_one_of names.type_words word.now }
-{
-    is_text(word, b"fn") || is_text(word, b"u8") || is_text(word, b"u16") || is_text(word, b"u32")
-}
-
-#[tactic(auto, unfolding(crate::specs::Names::operation_words))]
-fn is_operation_word(word: &[u8]) -> bool
-    ensures { result ≡ names.is_one_of names.operation_words word.now }
-{
-    is_text(word, b"add")
-        || is_text(word, b"sub")
-        || is_text(word, b"mul")
-        || is_text(word, b"udiv")
-        || is_text(word, b"sdiv")
-        || is_text(word, b"urem")
-        || is_text(word, b"srem")
-        || is_text(word, b"and")
-        || is_text(word, b"or")
-        || is_text(word, b"xor")
-        || is_text(word, b"bic")
-        || is_text(word, b"shl")
-        || is_text(word, b"shr")
-        || is_text(word, b"sar")
-}
-
-#[tactic(auto, unfolding(crate::specs::Names::comparison_words))]
-fn is_comparison_word(word: &[u8]) -> bool
-    ensures { result ≡ names.is_one_of names.comparison_words word.now }
-{
-    is_text(word, b"eq")
-        || is_text(word, b"ne")
-        || is_text(word, b"ult")
-        || is_text(word, b"ule")
-        || is_text(word, b"slt")
-        || is_text(word, b"sle")
+    table.iter().any(|text| is_text(word, text))
 }
 
 /// Whether the bytes are a word that no name may be.
-#[tactic(auto, using(crate::proofs::Words::is_reserved_parts))]
+#[tactic(auto, using(crate::proofs::Parts::is_reserved_parts), unfolding(crate::specs::Names::declaration_words, crate::specs::Names::instruction_words, crate::specs::Names::type_words, crate::specs::Names::operation_words, crate::specs::Names::comparison_words))]
 pub fn is_reserved(word: &[u8]) -> bool
     ensures { result ≡ names.is_reserved word.now }
 {
-    is_declaration_word(word)
-        || is_instruction_word(word)
-        || is_type_word(word)
-        || is_operation_word(word)
-        || is_comparison_word(word)
+    is_one_of(word, &words::DECLARATION_WORDS)
+        || is_one_of(word, &words::INSTRUCTION_WORDS)
+        || is_one_of(word, &words::TYPE_WORDS)
+        || is_one_of(word, &words::OPERATION_WORDS)
+        || is_one_of(word, &words::COMPARISON_WORDS)
 }
 
 /// Whether the bytes are a name: a word of at most `NAME_LIMIT` bytes that is not reserved.

@@ -1,4 +1,4 @@
--- Words: what each part of a test says of the whole.
+-- What each part of a test says of the whole.
 use Rattle.std.proofs.Common.{◌≡◌, ℕ, ◌<◌, List, [], ◌∷◌, ◌&&◌, ◌||◌, length, get_or, drop, refl, arith}
 use Rattle.std.proofs.lemmas.List.Folds.{list_any-append}
 use Rattle.names.specs.Names.{begins_word, all_continue, is_word, is_one_of, is_reserved, reserved, declaration_words, instruction_words, type_words, operation_words, comparison_words}
