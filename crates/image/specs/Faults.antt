@@ -3,6 +3,7 @@
 use Rattle.std.specs.Prelude.{◌≡◌, ℕ, zero, suc, ◌+◌, ◌%◌, ◌^◌, ◌<◌, List, [], ◌∷◌, ◌++◌, length, Bool, not, ◌&&◌, ◌||◌, Option, Some, None, Result, Ok, Err, nat_eq, nat_le, if◌then◌else◌, slice_range, slice_index, ◌⊎◌}
 use Rattle.std.specs.List.{list_any, list_all}
 use Rattle.std.specs.Str.{bytes_eq}
+use Rattle.names.specs.declared.TheConstants.{NAME_LIMIT}
 use Rattle.names.specs.Names.{is_name}
 use Rattle.windows.specs.Ranges as ranges
 use Rattle.windows.specs.Ranges.{is_power_between, is_inside, are_apart, is_window_place}
@@ -68,7 +69,7 @@ unfoldable pub is_window_base : (n size : ℕ) → List Window → Bool
 is_window_base n s seen = is_window_place n s && list_all (λ w. are_apart w.base w.size n s) seen
 
 unfoldable pub is_name_length : ℕ → Bool
-is_name_length n = nat_le 1 n && nat_le n 64
+is_name_length n = nat_le 1 n && nat_le n NAME_LIMIT
 
 unfoldable pub is_new_name : List ℕ → List Window → Bool
 is_new_name name seen = is_name name && not (list_any (λ w. bytes_eq w.name name) seen)
