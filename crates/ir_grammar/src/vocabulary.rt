@@ -5,6 +5,7 @@ ghost use Rattle.ir_model.specs.Tokens.{keyword_bytes, mark_bytes, operation_byt
 
 use ir_model::firmware::{BinOp, CmpOp};
 use ir_model::token::{Keyword, Mark};
+use names::words;
 
 /// Every keyword.
 pub const KEYWORDS: [Keyword; 23] = [
@@ -66,29 +67,29 @@ pub fn keyword_text(keyword: Keyword) -> &'static [u8]
     ensures { result.now ≡ keyword_bytes keyword }
 {
     match keyword {
-        Keyword::Struct => b"struct",
-        Keyword::Periph => b"periph",
-        Keyword::Const => b"const",
-        Keyword::Global => b"global",
-        Keyword::File => b"file",
-        Keyword::Func => b"func",
-        Keyword::Local => b"local",
-        Keyword::Reg => b"reg",
-        Keyword::Addr => b"addr",
-        Keyword::Faddr => b"faddr",
-        Keyword::Elem => b"elem",
-        Keyword::Field => b"field",
-        Keyword::Load => b"load",
-        Keyword::Store => b"store",
-        Keyword::Call => b"call",
-        Keyword::Icall => b"icall",
-        Keyword::Jump => b"jump",
-        Keyword::Branch => b"branch",
-        Keyword::Ret => b"ret",
-        Keyword::Fn => b"fn",
-        Keyword::U8 => b"u8",
-        Keyword::U16 => b"u16",
-        Keyword::U32 => b"u32",
+        Keyword::Struct => words::STRUCT,
+        Keyword::Periph => words::PERIPH,
+        Keyword::Const => words::CONST,
+        Keyword::Global => words::GLOBAL,
+        Keyword::File => words::FILE,
+        Keyword::Func => words::FUNC,
+        Keyword::Local => words::LOCAL,
+        Keyword::Reg => words::REG,
+        Keyword::Addr => words::ADDR,
+        Keyword::Faddr => words::FADDR,
+        Keyword::Elem => words::ELEM,
+        Keyword::Field => words::FIELD,
+        Keyword::Load => words::LOAD,
+        Keyword::Store => words::STORE,
+        Keyword::Call => words::CALL,
+        Keyword::Icall => words::ICALL,
+        Keyword::Jump => words::JUMP,
+        Keyword::Branch => words::BRANCH,
+        Keyword::Ret => words::RET,
+        Keyword::Fn => words::FN,
+        Keyword::U8 => words::U8,
+        Keyword::U16 => words::U16,
+        Keyword::U32 => words::U32,
     }
 }
 
@@ -116,20 +117,20 @@ pub fn operation_text(op: BinOp) -> &'static [u8]
     ensures { result.now ≡ operation_bytes op }
 {
     match op {
-        BinOp::Add => b"add",
-        BinOp::Sub => b"sub",
-        BinOp::Mul => b"mul",
-        BinOp::Udiv => b"udiv",
-        BinOp::Sdiv => b"sdiv",
-        BinOp::Urem => b"urem",
-        BinOp::Srem => b"srem",
-        BinOp::And => b"and",
-        BinOp::Or => b"or",
-        BinOp::Xor => b"xor",
-        BinOp::Bic => b"bic",
-        BinOp::Shl => b"shl",
-        BinOp::Shr => b"shr",
-        BinOp::Sar => b"sar",
+        BinOp::Add => words::ADD,
+        BinOp::Sub => words::SUB,
+        BinOp::Mul => words::MUL,
+        BinOp::Udiv => words::UDIV,
+        BinOp::Sdiv => words::SDIV,
+        BinOp::Urem => words::UREM,
+        BinOp::Srem => words::SREM,
+        BinOp::And => words::AND,
+        BinOp::Or => words::OR,
+        BinOp::Xor => words::XOR,
+        BinOp::Bic => words::BIC,
+        BinOp::Shl => words::SHL,
+        BinOp::Shr => words::SHR,
+        BinOp::Sar => words::SAR,
     }
 }
 
@@ -138,11 +139,11 @@ pub fn comparison_text(op: CmpOp) -> &'static [u8]
     ensures { result.now ≡ comparison_bytes op }
 {
     match op {
-        CmpOp::Eq => b"eq",
-        CmpOp::Ne => b"ne",
-        CmpOp::Ult => b"ult",
-        CmpOp::Ule => b"ule",
-        CmpOp::Slt => b"slt",
-        CmpOp::Sle => b"sle",
+        CmpOp::Eq => words::EQ,
+        CmpOp::Ne => words::NE,
+        CmpOp::Ult => words::ULT,
+        CmpOp::Ule => words::ULE,
+        CmpOp::Slt => words::SLT,
+        CmpOp::Sle => words::SLE,
     }
 }

@@ -1,6 +1,7 @@
 -- Tokens of a firmware text, and their spelling.
 use Rattle.std.specs.Prelude.{ℕ, List, codes, Option}
 use Rattle.std.specs.Fmt.{decimal}
+use Rattle.names.specs.declared.words.TheConstants as words
 use Rattle.ir_model.specs.declared.firmware.BinOp.{BinOp}
 use Rattle.ir_model.specs.declared.firmware.BinOp.TheVariants.{Add, Sub, Mul, Udiv, Sdiv, Urem, Srem, And, Or, Xor, Bic, Shl, Shr, Sar}
 use Rattle.ir_model.specs.declared.firmware.CmpOp.{CmpOp}
@@ -25,53 +26,53 @@ pub record Marked : Type 0 where
   pub excess : Option Excess
 
 abbrev pub keyword_bytes : Keyword → List ℕ
-keyword_bytes key.Struct = codes "struct"
-keyword_bytes key.Periph = codes "periph"
-keyword_bytes key.Const = codes "const"
-keyword_bytes key.Global = codes "global"
-keyword_bytes key.File = codes "file"
-keyword_bytes key.Func = codes "func"
-keyword_bytes key.Local = codes "local"
-keyword_bytes key.Reg = codes "reg"
-keyword_bytes key.Addr = codes "addr"
-keyword_bytes key.Faddr = codes "faddr"
-keyword_bytes key.Elem = codes "elem"
-keyword_bytes key.Field = codes "field"
-keyword_bytes key.Load = codes "load"
-keyword_bytes key.Store = codes "store"
-keyword_bytes key.Call = codes "call"
-keyword_bytes key.Icall = codes "icall"
-keyword_bytes key.Jump = codes "jump"
-keyword_bytes key.Branch = codes "branch"
-keyword_bytes key.Ret = codes "ret"
-keyword_bytes key.Fn = codes "fn"
-keyword_bytes key.U8 = codes "u8"
-keyword_bytes key.U16 = codes "u16"
-keyword_bytes key.U32 = codes "u32"
+keyword_bytes key.Struct = words.STRUCT.now
+keyword_bytes key.Periph = words.PERIPH.now
+keyword_bytes key.Const = words.CONST.now
+keyword_bytes key.Global = words.GLOBAL.now
+keyword_bytes key.File = words.FILE.now
+keyword_bytes key.Func = words.FUNC.now
+keyword_bytes key.Local = words.LOCAL.now
+keyword_bytes key.Reg = words.REG.now
+keyword_bytes key.Addr = words.ADDR.now
+keyword_bytes key.Faddr = words.FADDR.now
+keyword_bytes key.Elem = words.ELEM.now
+keyword_bytes key.Field = words.FIELD.now
+keyword_bytes key.Load = words.LOAD.now
+keyword_bytes key.Store = words.STORE.now
+keyword_bytes key.Call = words.CALL.now
+keyword_bytes key.Icall = words.ICALL.now
+keyword_bytes key.Jump = words.JUMP.now
+keyword_bytes key.Branch = words.BRANCH.now
+keyword_bytes key.Ret = words.RET.now
+keyword_bytes key.Fn = words.FN.now
+keyword_bytes key.U8 = words.U8.now
+keyword_bytes key.U16 = words.U16.now
+keyword_bytes key.U32 = words.U32.now
 
 abbrev pub operation_bytes : BinOp → List ℕ
-operation_bytes Add = codes "add"
-operation_bytes Sub = codes "sub"
-operation_bytes Mul = codes "mul"
-operation_bytes Udiv = codes "udiv"
-operation_bytes Sdiv = codes "sdiv"
-operation_bytes Urem = codes "urem"
-operation_bytes Srem = codes "srem"
-operation_bytes And = codes "and"
-operation_bytes Or = codes "or"
-operation_bytes Xor = codes "xor"
-operation_bytes Bic = codes "bic"
-operation_bytes Shl = codes "shl"
-operation_bytes Shr = codes "shr"
-operation_bytes Sar = codes "sar"
+operation_bytes Add = words.ADD.now
+operation_bytes Sub = words.SUB.now
+operation_bytes Mul = words.MUL.now
+operation_bytes Udiv = words.UDIV.now
+operation_bytes Sdiv = words.SDIV.now
+operation_bytes Urem = words.UREM.now
+operation_bytes Srem = words.SREM.now
+operation_bytes And = words.AND.now
+operation_bytes Or = words.OR.now
+operation_bytes Xor = words.XOR.now
+operation_bytes Bic = words.BIC.now
+operation_bytes Shl = words.SHL.now
+operation_bytes Shr = words.SHR.now
+operation_bytes Sar = words.SAR.now
 
 abbrev pub comparison_bytes : CmpOp → List ℕ
-comparison_bytes Eq = codes "eq"
-comparison_bytes Ne = codes "ne"
-comparison_bytes Ult = codes "ult"
-comparison_bytes Ule = codes "ule"
-comparison_bytes Slt = codes "slt"
-comparison_bytes Sle = codes "sle"
+comparison_bytes Eq = words.EQ.now
+comparison_bytes Ne = words.NE.now
+comparison_bytes Ult = words.ULT.now
+comparison_bytes Ule = words.ULE.now
+comparison_bytes Slt = words.SLT.now
+comparison_bytes Sle = words.SLE.now
 
 abbrev pub mark_bytes : Mark → List ℕ
 mark_bytes mark.OpenBrace = codes "{"

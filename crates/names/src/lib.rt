@@ -55,7 +55,7 @@ fn is_one_of(word: &[u8], table: &[&[u8]]) -> bool
 }
 
 /// Whether the bytes are a word that no name may be.
-#[tactic(auto, using(crate::proofs::Parts::is_reserved_parts), unfolding(crate::specs::Names::declaration_words, crate::specs::Names::instruction_words, crate::specs::Names::type_words, crate::specs::Names::operation_words, crate::specs::Names::comparison_words))]
+#[tactic(auto, using(crate::proofs::Parts::is_reserved_tables))]
 pub fn is_reserved(word: &[u8]) -> bool
     ensures { result ≡ names.is_reserved word.now }
 {
