@@ -1,8 +1,9 @@
 -- What the handlers come to, where their tests are answered so.
 use Rattle.std.specs.Prelude.{if◌then◌else◌, nat_le}
 use Rattle.std.specs.Int.{bit_at}
-use Rattle.std.proofs.Common.{◌≡◌, ℕ, zero, suc, ◌+◌, ◌-◌, ◌*◌, ◌/◌, ◌%◌, ◌^◌, ◌<◌, ◌≤◌, ◌⊎◌, inl, inr, Bool, true, false, ◌&&◌, ◌||◌, List, [], ◌∷◌, length, Option, Some, nat_eq, nat_lt, refl, sym, ap, ◌∙◌, subst, arith}
+use Rattle.std.proofs.Common.{◌≡◌, ℕ, zero, suc, ◌+◌, ◌-◌, ◌*◌, ◌/◌, ◌%◌, ◌^◌, ◌<◌, ◌≤◌, ◌⊎◌, inl, inr, Bool, true, false, ◌&&◌, List, [], ◌∷◌, length, Option, Some, nat_eq, nat_lt, refl, sym, ap, ◌∙◌, subst, arith}
 use Rattle.std.proofs.lemmas.Bool.Decides.{nat_tests}
+use Rattle.std.proofs.lemmas.Bool.{or_right}
 use Rattle.words.specs.Arithmetic.{word as word_of}
 use Rattle.words.specs.Bytes.{read, write, write_all}
 use Rattle.device_model.specs.declared.image.Image.{Image}
@@ -119,11 +120,7 @@ pub covered : (t : Tables) (has : ℕ → Bool) (mask a w : ℕ) (ls : List Loan
 covered t has mask a w [] in_mask width al h f = absurd f
 covered t has mask a w (l ∷ ls) in_mask width al h (inr f) =
     let r = covered t has mask a w ls in_mask width al h.1 f in
-    record { loan = r.loan; placed = r.placed; mine = r.mine; from = r.from; to = r.to; is_lent = or_true (covers mask a w l) (is_lent mask a w ls) r.is_lent }
-  where
-    or_true : (x y : Bool) → y ≡ true → (x || y) ≡ true
-    or_true true y e = refl
-    or_true false y e = e
+    record { loan = r.loan; placed = r.placed; mine = r.mine; from = r.from; to = r.to; is_lent = or_right (covers mask a w l) (is_lent mask a w ls) r.is_lent }
 covered t has mask a w (l ∷ ls) in_mask width al h (inl f) =
     let from = from_first l.address a w h.0.aligned al f.1 width in
     let to = to_last a w l.end f.2 width in

@@ -1,5 +1,5 @@
 -- The code of a compartment.
-use Rattle.std.proofs.Common.{◌≡◌, ℕ, zero, suc, ◌+◌, ◌%◌, ◌<◌, List, [], ◌∷◌, ◌++◌, length, take, get_or, flat_map, Bool, true, false, if◌then◌else◌, nat_eq, Option, Some, None, refl, sym, ap, ◌∙◌, subst, arith, length-append}
+use Rattle.std.proofs.Common.{◌≡◌, ℕ, zero, suc, ◌+◌, ◌<◌, List, [], ◌∷◌, ◌++◌, length, take, get_or, flat_map, Bool, true, false, if◌then◌else◌, nat_eq, Option, Some, None, refl, sym, ap, ◌∙◌, subst, arith, length-append}
 use Rattle.std.proofs.Math.ListN.{get_or-append}
 use Rattle.std.proofs.lemmas.Bool.Decides.{nat_tests}
 use Rattle.std.proofs.lemmas.List.{get_or-append-add}
@@ -13,15 +13,15 @@ use Rattle.ir_model.specs.Resolved.{Program, func_at}
 use Rattle.code_model.specs.declared.places.Places.{Places}
 use Rattle.code_model.specs.Sizes.{entry_size, place_offset}
 use Rattle.code_model.specs.FunctionCode.{lent, function_items, function_labels}
-use Rattle.code_model.specs.CompartmentCode.{CodeGroups, CodePlaces, members_from, filled_size, filling, compartment_of, members, before, sites_of, size_of, total_size, label_count, entry_of, places_of, filled_items}
+use Rattle.code_model.specs.CompartmentCode.{CodeGroups, CodePlaces, members_from, filling, compartment_of, members, before, sites_of, size_of, total_size, label_count, entry_of, places_of, filled_items}
 use Rattle.code_model.specs.Laws.{SizesHold, SizesAreEven}
 use Rattle.code_effects.specs.Items.{ItemsAt}
 use Rattle.code_effects.specs.Compartments.{CompartmentsStand}
 use Rattle.code_effects.proofs.Items.{parts_at, items_at}
 use Rattle.code_effects.proofs.Functions.{functions_stand}
 use Rattle.thumb_asm.proofs.Items.{total-append}
-use Rattle.code_model.proofs.Filling.{filling_by}
 use Rattle.code_model.proofs.Labels.{labels_length}
+use Rattle.code_model.proofs.Compartments.{filled_total}
 
 -- ---- a function among those of its compartment
 
@@ -44,18 +44,9 @@ split_at n f (suc k) c (d ∷ ds) l e h = one_more (nat_eq d c) n f (members_fro
 -- ---- sizes
 
 module _ (hold : SizesHold) (even : SizesAreEven) (p : Program) (groups : CodeGroups) (places : CodePlaces) where
-  filled_total : (f : ℕ) → total (filled_items p groups places f) ≡ filled_size (size_of p groups f)
-  filled_total f =
-      let q : Places = places_of p groups places f in
-      let first : ℕ = label_count p groups (before p groups f) in
-      let a = total-append (function_items (func_at p f) q first (entry_of p groups places f)) (filling (size_of p groups f)) in
-      let b = hold.functions (func_at p f) q first (entry_of p groups places f) in
-      let c = filling_by (size_of p groups f) (nat_eq (size_of p groups f % 4) 0) refl (even.functions (func_at p f) (sites_of p groups f) (lent (func_at p f) q)) in
-      omega arith
-
   items_total : (fs : List ℕ) → total (flat_map (filled_items p groups places) fs) ≡ total_size p groups fs
   items_total [] = refl
-  items_total (f ∷ fs) = omega (arith, items_total fs, total-append (filled_items p groups places f) (flat_map (filled_items p groups places) fs), filled_total f)
+  items_total (f ∷ fs) = omega (arith, items_total fs, total-append (filled_items p groups places f) (flat_map (filled_items p groups places) fs), filled_total p groups places f)
 
   labels_count : (fs : List ℕ) → length (flat_map (λ (f : ℕ). function_labels (func_at p f) (places_of p groups places f) (entry_of p groups places f)) fs) ≡ label_count p groups fs
   labels_count [] = refl

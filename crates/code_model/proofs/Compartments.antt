@@ -1,5 +1,5 @@
 -- The code of a compartment has its size, and entries stand at multiples of four.
-use Rattle.std.proofs.Common.{◌≡◌, ℕ, ◌%◌, List, [], ◌∷◌, length, get_or, flat_map, nat_eq, refl, arith}
+use Rattle.std.proofs.Common.{◌≡◌, ℕ, ◌+◌, ◌%◌, List, [], ◌∷◌, ◌++◌, length, get_or, flat_map, nat_eq, refl, arith}
 use Rattle.thumb_asm.specs.declared.item.Item.{Item}
 use Rattle.thumb_asm.specs.Assembly.{total}
 use Rattle.ir_model.specs.Resolved.{Program, func_at}
@@ -17,12 +17,16 @@ module _ (p : Program) (groups : CodeGroups) where
   size_even : (f : ℕ) → size_of p groups f % 2 ≡ 0
   size_even f = function_even (func_at p f) (sites_of p groups f) (length (lends_among (local_starts (func_at p f)) (lends_of p groups f)))
 
+  pub total_append : (xs ys : List ℕ) → total_size p groups (xs ++ ys) ≡ total_size p groups xs + total_size p groups ys
+  total_append [] ys = omega arith
+  total_append (x ∷ xs) ys = let h = total_append xs ys in omega (arith, h)
+
   filled : (fs : List ℕ) → total_size p groups fs % 4 ≡ 0
   filled [] = refl
   filled (f ∷ fs) = let h = filled fs in omega arith
 
   module _ (at : CodePlaces) where
-    filled_total : (f : ℕ) → total (filled_items p groups at f) ≡ filled_size (size_of p groups f)
+    pub filled_total : (f : ℕ) → total (filled_items p groups at f) ≡ filled_size (size_of p groups f)
     filled_total f =
         let items : List Item = function_items (func_at p f) (places_of p groups at f) (label_count p groups (before p groups f)) (entry_of p groups at f) in
         let a = total-append items (filling (size_of p groups f)) in

@@ -4,7 +4,7 @@ pub mod PieceSizes
 pub mod FunctionSizes
 pub mod Even
 pub mod Pieces
-mod Compartments
+pub mod Compartments
 mod Sites
 pub mod Filling
 pub mod Labels

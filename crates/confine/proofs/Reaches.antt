@@ -187,6 +187,15 @@ module _ (i : Image) (t : Tables) (m : Block) (s : State) (h : InvariantHolds i 
   pub top_word : IsTop t (length m.saved) (top i t s.ram)
   top_word = subst (λ (a : ℕ). IsTop t (length m.saved) a) (sym h.inv.is_block.top_is) h.inv.orderly.is_top
 
+  -- no compartment's stack begins behind the stack
+  pub open_inside : (a : ℕ) → a < top i t s.ram → a < t.stack.base + t.stack.size
+  open_inside a lt =
+      let z = top_word in
+      let few : z.0 ≤ 8 = (let x = z.3 in omega (arith, x)) in
+      let most : z.0 * eighth t ≤ 8 * eighth t = grind (arith, few) in
+      let b = z.1 in
+      omega (arith, lt, most, b)
+
   pub current_word : current i t s.ram < length t.comps
   current_word = subst (λ (c : ℕ). c < length t.comps) (sym h.inv.is_block.current_is) h.inv.orderly.current_in
 

@@ -26,7 +26,7 @@ use Rattle.common_laws.specs.Lists.{Each}
 use Rattle.armv7m.specs.Asked.{IsFetched}
 use Rattle.armv7m.specs.ThreadStep.{IsReached, Plain, IsFetchFault, IsDataFault, ThreadStep, Ends, Goes, Calls, Faults, UnprivilegedStepsAreThreadSteps, UnprivilegedAccessesAreReached}
 use Rattle.monitor.specs.declared.tables.Tables.{Tables}
-use Rattle.monitor.specs.Records.{nobody, eighth}
+use Rattle.monitor.specs.Records.{nobody}
 use Rattle.monitor.specs.Placed.{Placed, IsCompartment, IsSlot}
 use Rattle.monitor.specs.Block.{Loan, Saved, Block}
 use Rattle.monitor.specs.BlockWords.{block_word, current, top, words_end, HasSaved, HasLoans, IsBlock}
@@ -36,7 +36,7 @@ use Rattle.monitor.specs.Confined.{IsProtected}
 use Rattle.monitor.specs.Handlers.{IsFault}
 use Rattle.confine.specs.Reaches.{ThreadsReach, Reaches}
 use Rattle.confine.specs.ThreadSteps.{ThreadStepsAreConfined, ThreadStepsLead, LeadsOn, Ends as LeadsToEnd, Goes as LeadsToThread, Calls as LeadsToSvc, Faults as LeadsToFault}
-use Rattle.confine.proofs.Reaches.{top_word, current_word, regions_word}
+use Rattle.confine.proofs.Reaches.{current_word, regions_word, open_inside}
 use Rattle.common_laws.proofs.Lists.{each_to, each_at}
 
 further_mapped : (l : Place) (k : ℕ) → l ≢ Nowhere → further k l ≢ Nowhere
@@ -132,18 +132,10 @@ module _ (i : Image) (t : Tables) (m : Block) (s : State) (p : Placed i t) (h : 
   shallow : length m.saved ≤ 8
   shallow = let x = h.inv.orderly.is_top.3 in omega (arith, x)
 
-  open_inside : (a : ℕ) → a < top i t s.ram → a < t.stack.base + t.stack.size
-  open_inside a lt =
-      let z = top_word i t m s h in
-      let few : z.0 ≤ 8 = (let x = z.3 in omega (arith, x)) in
-      let most : z.0 * eighth t ≤ 8 * eighth t = grind (arith, few) in
-      let at = z.1 in
-      omega (arith, lt, most, at)
-
   store_off : (a : ℕ) → permits s.protection.mpu true Write a ≡ true → AreApart a 1 t.monitor block_size
   store_off a e = ⊎_elim
       (λ f. slot_off i t (running i t s).slots a (each_at (IsCompartment i t) t.comps nobody (current i t s.ram) p.comps (current_word i t m s h)).slots f)
-      (λ f. let lo = f.0 in let hi = open_inside a f.1 in ⊎_elim (λ d. inr (omega (arith, d, lo))) (λ d. inl (omega (arith, d, hi))) p.apart)
+      (λ f. let lo = f.0 in let hi = open_inside i t m s h a f.1 in ⊎_elim (λ d. inr (omega (arith, d, lo))) (λ d. inl (omega (arith, d, hi))) p.apart)
       (r.stores a e)
 
   -- no store touches it

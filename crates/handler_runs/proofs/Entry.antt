@@ -17,11 +17,11 @@ use Rattle.armv7m.specs.Shape.{StateFits, StatusFits}
 use Rattle.armv7m.specs.Code.{live}
 use Rattle.gate_steps.specs.Runs.{Scratch, at}
 use Rattle.monitor.specs.declared.tables.Tables.{Tables}
-use Rattle.monitor.specs.Records.{nobody, eighth}
+use Rattle.monitor.specs.Records.{nobody}
 use Rattle.monitor.specs.Placed.{Placed, IsCompartment}
 use Rattle.monitor.specs.Block.{Block}
-use Rattle.monitor.specs.BlockWords.{block_word, IsBlock, current, top}
-use Rattle.monitor.specs.Invariant.{IsTop, InvariantHolds}
+use Rattle.monitor.specs.BlockWords.{block_word, IsBlock, current}
+use Rattle.monitor.specs.Invariant.{InvariantHolds}
 use Rattle.monitor.specs.Reach.{running}
 use Rattle.confine.specs.Reaches.{ThreadsReach}
 use Rattle.monitor_laws.proofs.Effects.{eight}
@@ -29,6 +29,7 @@ use Rattle.monitor_laws.proofs.Off.{core}
 use Rattle.handler_runs.proofs.Blocks.{block_stays}
 use Rattle.common_laws.proofs.Lists.{each_at}
 use Rattle.confine.proofs.ThreadSteps.{slot_off}
+use Rattle.confine.proofs.Reaches.{open_inside}
 
 -- the laws of lower crates that the entry rests on
 pub record EntryLaws : Type 0 where
@@ -74,22 +75,11 @@ module _ (laws : EntryLaws) (i : Image) (t : Tables) (p : Placed i t) (s : State
 
   -- ---- the block
 
-  top_word : IsTop t (length m.saved) (top i t s.ram)
-  top_word = subst (λ (a : ℕ). IsTop t (length m.saved) a) (sym inv.inv.is_block.top_is) inv.inv.orderly.is_top
-
   current_word : current i t s.ram < length t.comps
   current_word = subst (λ (c : ℕ). c < length t.comps) (sym inv.inv.is_block.current_is) inv.inv.orderly.current_in
 
   pub shallow : length m.saved ≤ 8
   shallow = let x = inv.inv.orderly.is_top.3 in omega (arith, x)
-
-  open_inside : (a : ℕ) → a < top i t s.ram → a < t.stack.base + t.stack.size
-  open_inside a lt =
-      let z = top_word in
-      let few : z.0 ≤ 8 = (let x = z.3 in omega (arith, x)) in
-      let most : z.0 * eighth t ≤ 8 * eighth t = grind (arith, few) in
-      let b = z.1 in
-      omega (arith, lt, most, b)
 
   user : is_unprivileged s.protection ≡ true
   user = ap₂ (λ (a b : Bool). not a && b) inv.inv.thread inv.inv.unprivileged
@@ -101,7 +91,7 @@ module _ (laws : EntryLaws) (i : Image) (t : Tables) (p : Placed i t) (s : State
   store_off : (a : ℕ) → by_mpu s.protection Write a ≡ true → AreApart a 1 t.monitor block_size
   store_off a e = ⊎_elim
       (λ f. slot_off i t (running i t s).slots a (each_at (IsCompartment i t) t.comps nobody (current i t s.ram) p.comps current_word).slots f)
-      (λ f. let lo = f.0 in let hi = open_inside a f.1 in ⊎_elim (λ d. inr (omega (arith, d, lo))) (λ d. inl (omega (arith, d, hi))) p.apart)
+      (λ f. let lo = f.0 in let hi = open_inside i t m s inv a f.1 in ⊎_elim (λ d. inr (omega (arith, d, lo))) (λ d. inl (omega (arith, d, hi))) p.apart)
       ((laws.reach i t m s p inv).stores a (may_write a e))
 
   -- no byte of the frame is one of the block

@@ -1,16 +1,28 @@
 -- Lists keep the mode: what begins in Handler mode ends there.
-use Rattle.std.proofs.Common.{◌≡◌, ℕ, zero, suc, Bool, true, false}
+use Rattle.std.proofs.Common.{◌≡◌, ℕ, zero, suc, ◌+◌, ◌<◌, ◌≤◌, Bool, true, false}
 use Rattle.device_model.specs.declared.image.Image.{Image}
+use Rattle.device_model.specs.Rules.{ObeysRules}
+use Rattle.mpu_model.specs.declared.region.Access.TheVariants.{Fetch}
 use Rattle.mem_bus.specs.Places.{Place, InRam, InFlash, InWindow, Nowhere}
 use Rattle.armv7m.specs.declared.accesses.Verdict.{Verdict}
 use Rattle.armv7m.specs.declared.accesses.Verdict.TheVariants.{ToBus, ToSystem, Refused, Bad}
-use Rattle.armv7m.specs.State.{PermissionTest}
+use Rattle.armv7m.specs.declared.state.ProtectionState.{ProtectionState}
+use Rattle.armv7m.specs.State.{PermissionTest, by_mpu}
 use Rattle.gate_steps.specs.Steps.{Steps, End, Const, Copy, Load, Store, Alu, ReadPsp, WritePsp, WriteControl, Test, Repeat, Halt, Return, Go}
 use Rattle.gate_steps.specs.Core.{Core, low_register, with_low, with_psp, with_privilege, on_process_stack, is_privileged_on_msp}
 use Rattle.gate_steps.specs.Accesses.{LoadResult, Value, LoadStops, LoadUnclaimed, StoreResult, Written, StoreStops, StoreUnclaimed, store_at, store_by, load, store}
 use Rattle.handler_runs.specs.Modes.{InMode}
 use Rattle.gate_steps.specs.Effect.{Outcome, Went, Halted, AtReturn, AtBranch, Stopped, Unclaimed, then_do, operation, compared, after_load, after_store, either, by_zero, after_control, with_one_less, turns, effect}
 use Rattle.std.specs.Prelude.{◌/◌, ◌%◌, nat_eq}
+use Rattle.monitor_laws.proofs.Off.{IsOff, page_while_off}
+
+-- in Handler mode, and the page's code may be fetched
+pub record IsGood (i : Image) (q : ProtectionState) : Type 0 where
+  pub mode : q.handler ≡ true
+  pub fetched : (a : ℕ) → i.flash_base ≤ a → a < i.flash_base + 4096 → by_mpu q Fetch a ≡ true
+
+pub good_while_off : (i : Image) → ObeysRules i → (q : ProtectionState) → IsOff true q → IsGood i q
+good_while_off i rules q f = record { mode = f.mode; fetched = λ a lo hi. page_while_off i rules q f.control a hi }
 
 module _ (h : Bool) where
   abbrev Is : Core → Type 0

@@ -77,6 +77,9 @@ pub record ReturnLaws : Type 0 where
 pub left_of : (i : Image) (t : Tables) (m b : Block) (memory : List ℕ) (u : State) → LeavesRam i t m b memory u.ram → IsLeft i t m b memory u
 left_of i t m b memory u l = record { is_block = l.is_block; is_memory = l.is_memory; words_stay = l.words_stay }
 
+pub is_before : (a n : ℕ) → a < n + 1 → (a < n) ⊎ (a ≡ n)
+is_before a n h = grind (arith, h)
+
 module _ (laws : ReturnLaws) (i : Image) (t : Tables) (p : Placed i t) (s : State) (m : Block) (queues : List (List ℕ)) (same_queues : queues ≡ s.queues) where
   -- ---- the return
 
@@ -199,9 +202,6 @@ module _ (laws : ReturnLaws) (i : Image) (t : Tables) (p : Placed i t) (s : Stat
   one_step : (u : State) → run (step i) 1 u ≡ step i u
   unfolding run
   one_step u = refl
-
-  is_before : (a n : ℕ) → a < n + 1 → (a < n) ⊎ (a ≡ n)
-  is_before a n h = grind (arith, h)
 
   module _ (Good : ProtectionState → Type 0) (memory : List ℕ) (from : State) (behind : ℕ) where
     -- to an end, or with one step more to the thread

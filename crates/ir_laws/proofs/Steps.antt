@@ -18,7 +18,7 @@ use Rattle.ir_laws.specs.Typed.{KeepsResult, CallTyped, IsThere, IsPlaced, InstT
 use Rattle.ir_laws.specs.Sets.{ObjectSets, Register, Content, Outcome, IsWithin, carries, named_object, ResultFlows, CallFlows, InstFlows, EndFlows, HereFlows, Closed, IsOf, ReadsAt, WritesAt, CallsAt, IsExpected}
 use Rattle.ir_laws.specs.States.{CellsFit, FrameFits, AnswerFits, Waits, FramesFit, MemoryFits, StateFits, TurnFits}
 use Rattle.ir_laws.proofs.Words.{binary_fits, bit_fits, cut_fits}
-use Rattle.ir_laws.proofs.Values.{flow, typed_as, word_of, zero_fits, widen, narrow}
+use Rattle.ir_laws.proofs.Values.{flow, typed_as, word_of, zero_fits, widen, narrow, entered_length}
 use Rattle.ir_laws.proofs.Aligned.{found_at}
 
 -- ---- lists and places
@@ -293,11 +293,6 @@ module _ (p : Program) (sizes : PlainType → ℕ) (S : ObjectSets) (closed : Cl
   zero_rows X [] l = (λ k. number 0 refl (omega arith), refl)
   zero_rows X (s ∷ ls) zero = (zero_each (X zero) s.cells, length-map s.cells (λ (x : CellPlace). zero_of x.ty))
   zero_rows X (s ∷ ls) (suc l) = zero_rows (λ j. X (suc j)) ls l
-
-  entered_length : (vs : List Value) (ts : List PlainType) → length (entered vs ts) ≡ length ts
-  entered_length vs [] = refl
-  entered_length [] (t ∷ ts) = ap suc (entered_length [] ts)
-  entered_length (v ∷ vs) (t ∷ ts) = ap suc (entered_length vs ts)
 
   frame_good : (g n : ℕ) (vs : List Value) → g < length p.funcs → ((k : ℕ) → k < length vs → Holds (S (Register g k)) (register_type p g k) (get_or vs k (Number 0))) → Good (frame_of p g n vs)
   frame_good g n vs l h =

@@ -1,11 +1,11 @@
 -- Values that fit their types: zeros, and numbers that are widened where they are loaded and cut where they are stored.
-use Rattle.std.proofs.Common.{◌≡◌, ℕ, ◌*◌, ◌^◌, ◌<◌, ◌≤◌, Bool, true, false, refl, sym, subst, arith}
+use Rattle.std.proofs.Common.{◌≡◌, ℕ, suc, ◌*◌, ◌^◌, ◌<◌, ◌≤◌, Bool, true, false, List, [], ◌∷◌, length, refl, sym, ap, subst, arith}
 use Rattle.std.specs.Prelude.{if◌then◌else◌}
 use Rattle.words.specs.Bytes.{cut}
 use Rattle.ir_model.specs.Types.{PlainType, U8, U16, U32, Pointer, Array, Named, Callee, is_integer, width_of}
 use Rattle.ir_model.specs.Resolved.{Program, Value, Number, Null}
 use Rattle.ir_model.specs.Resolve.{zero_of}
-use Rattle.ir_model.specs.State.{Object, FunctionObject, object_of}
+use Rattle.ir_model.specs.State.{Object, FunctionObject, object_of, entered}
 use Rattle.ir_model.specs.Step.{number_in, cut_to}
 use Rattle.ir_model.specs.Signatures.{widened}
 use Rattle.ir_laws.specs.Typed.{Fits, number, null, at, code}
@@ -21,6 +21,12 @@ integer_room (Pointer t) h = cc
 integer_room (Array n t) h = cc
 integer_room (Named n) h = cc
 integer_room (Callee a r) h = cc
+
+-- a register for each type
+pub entered_length : (vs : List Value) (ts : List PlainType) → length (entered vs ts) ≡ length ts
+entered_length vs [] = refl
+entered_length [] (t ∷ ts) = ap suc (entered_length [] ts)
+entered_length (v ∷ vs) (t ∷ ts) = ap suc (entered_length vs ts)
 
 module _ (p : Program) (sizes : PlainType → ℕ) where
   abbrev Holds : (Object → Bool) → PlainType → Value → Type 0

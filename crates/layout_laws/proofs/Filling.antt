@@ -41,6 +41,12 @@ pub record Fair (ram : ℕ) (m : Ram) (es : List Entry) : Type 0 where
 one_more : (es : List Entry) (base : ℕ) (b : RamBlock) (x : ℕ) → entries_hit (es ++ record { base = base; block = b } ∷ []) x ≡ entries_hit es x + hit base (base + held b) x
 one_more es base b x = let j = entries_joined es (record { base = base; block = b } ∷ []) x in omega arith
 
+-- the tail that a block of globals goes to
+pub tail_found : (m : Ram) (b : RamBlock) → (holds_globals b.use_of ≡ true → 0 < b.size) → (c : Bool) (k : ℕ) → holds_globals b.use_of ≡ c → cond c (position (fits b.size) m.tails) None ≡ Some k
+    → (k < length m.tails) × (fits b.size (get_or m.tails k no_tail) ≡ true) × (0 < b.size)
+tail_found m b positive true k h e = let p = position_is (fits b.size) m.tails k no_tail (sym e) in (p.0, p.1, positive h)
+tail_found m b positive false k h e = cc
+
 module _ (ram : ℕ) (m : Ram) (es : List Entry) (fair : Fair ram m es) (b : RamBlock) where
   -- behind
   abbrev new_base : ℕ
@@ -119,14 +125,10 @@ module _ (ram : ℕ) (m : Ram) (es : List Entry) (fair : Fair ram m es) (b : Ram
   unfolding with_block
   more positive = by (tail_for m.tails b) refl
     where
-      found : (c : Bool) (k : ℕ) → holds_globals b.use_of ≡ c → cond c (position (fits b.size) m.tails) None ≡ Some k → (k < length m.tails) × (fits b.size (get_or m.tails k no_tail) ≡ true) × (0 < b.size)
-      found true k h e = let p = position_is (fits b.size) m.tails k no_tail (sym e) in (p.0, p.1, positive h)
-      found false k h e = cc
-
       by : (o : Option ℕ) → tail_for m.tails b ≡ o → (e : Entry) × (e.block ≡ b) × Fair ram (with_block_by ram m b o) (es ++ e ∷ [])
       by None e = (record { base = new_base; block = b }, refl, behind)
       by (Some k) e =
-          let f = found (holds_globals b.use_of) k refl e in
+          let f = tail_found m b positive (holds_globals b.use_of) k refl e in
           (record { base = rounded_up (get_or m.tails k no_tail).from b.size; block = b }, refl, inside k f.0 f.1 f.2)
 
 -- ---- all blocks

@@ -3,7 +3,7 @@ mod FlashBlocks
 mod GlobalsHeld
 mod Hits
 mod Multiples
-mod Offsets
+pub mod Offsets
 mod Order
 mod PowersOfTwo
 mod RamApart

@@ -34,7 +34,7 @@ module _ (p : Program) (there : HasAlignments p) where
   up : (at y : ℕ) → at ≤ aligned p y at
   up at y = rounded_at_least at (global_at p y).shape.align (there y)
 
-  grows : (at : ℕ) (xs : List ℕ) → at ≤ end_from p at xs
+  pub grows : (at : ℕ) (xs : List ℕ) → at ≤ end_from p at xs
   grows at [] = omega arith
   grows at (x ∷ xs) = let h = grows (behind at x) xs in let u = up at x in omega arith
 

@@ -94,7 +94,7 @@ module _ (p : Program) (f : Final) (s : Sizes) (b : Board) where
   unfolding plan_of
   region_there r l = get_or-map-range_with_len (λ (q : ℕ). placed_for ram (ForRegion q)) 0 count r r no_spot l (omega arith)
 
-  region_missing : (r : ℕ) → count ≤ r → region_spot (plan_of p f s b) r ≡ no_spot
+  pub region_missing : (r : ℕ) → count ≤ r → region_spot (plan_of p f s b) r ≡ no_spot
   unfolding plan_of
   region_missing r l =
       let n = length-map-range_with_len (λ (q : ℕ). placed_for ram (ForRegion q)) 0 count in

@@ -1,8 +1,6 @@
 -- In a plan the blocks of RAM lie in it, at multiples of their sizes.
-use Rattle.std.proofs.Common.{◌≡◌, ℕ, ◌+◌, ◌<◌, ◌≤◌, List, [], ◌∷◌, length, map, nat_lt, refl, sym, ap, subst, ◌∙◌, lit<, arith}
+use Rattle.std.proofs.Common.{◌≡◌, ℕ, ◌+◌, ◌<◌, ◌≤◌, List, [], ◌∷◌, length, nat_lt, refl, sym, ap, subst, ◌∙◌, lit<, arith}
 use Rattle.std.proofs.lemmas.Bool.{cases_lt}
-use Rattle.std.proofs.lemmas.List.{get_or_past}
-use Rattle.std.proofs.lemmas.List.FromFn.{length-map-range_with_len, get_or-map-range_with_len}
 use mathlib.Core.Logic.{⊎_elim}
 use Rattle.ir_model.specs.Resolved.{Program}
 use Rattle.plan_model.specs.declared.graph.Final.{Final}
@@ -10,18 +8,18 @@ use Rattle.plan_model.specs.declared.plan.Board.{Board}
 use Rattle.plan_model.specs.declared.plan.Sizes.{Sizes}
 use Rattle.plan_model.specs.declared.plan.Spot.{Spot}
 use Rattle.plan_model.specs.Boards.{IsBoard}
-use Rattle.plan_model.specs.Lists.{numbers_below}
 use Rattle.plan_model.specs.Regions.{region_at}
 use Rattle.plan_model.specs.Blocks.{region_bytes}
 use Rattle.plan_model.specs.RamBlocks.{RamUse, ForStack, ForMonitor, ForRegion, ForUnwritten, RamBlock, ram_blocks, falling}
 use Rattle.plan_model.specs.RamPlacement.{Ram, PlacedBlock, ram_of, ram_needed}
-use Rattle.plan_model.specs.Placement.{plan_of, placed_for, region_spot, no_spot}
+use Rattle.plan_model.specs.Placement.{plan_of, placed_for, region_spot}
 use Rattle.layout_laws.specs.FlashLaws.{IsIn, IsAligned}
 use Rattle.layout_laws.specs.RamPlaces.{block_for, RamIsInside}
 use Rattle.layout_laws.proofs.Multiples.{through, no_rest, from_no_rest}
 use Rattle.layout_laws.proofs.PowersOfTwo.{IsPower, quotient, block_is_power}
 use Rattle.layout_laws.proofs.Uses.{use_block, AreOwn, all_own, ordered_own, positive}
 use Rattle.layout_laws.proofs.Within.{All, Within, found_in, IsBlockIn, filled_within, empty_within, none_used, falls_ordered}
+use Rattle.layout_laws.proofs.RamApart.{region_there, region_missing}
 
 mebibyte : IsPower 0x100000
 mebibyte = record { exponent = 20; is = refl }
@@ -75,16 +73,6 @@ module _ (p : Program) (f : Final) (s : Sizes) (b : Board) (ok : IsBoard b) (roo
   abbrev count : ℕ
   count = length f.regions
 
-  region_there : (r : ℕ) → r < count → region_spot (plan_of p f s b) r ≡ placed_for ram (ForRegion r)
-  unfolding plan_of
-  region_there r l = get_or-map-range_with_len (λ (q : ℕ). placed_for ram (ForRegion q)) 0 count r r no_spot l (omega arith)
-
-  region_missing : (r : ℕ) → count ≤ r → region_spot (plan_of p f s b) r ≡ no_spot
-  unfolding plan_of
-  region_missing r l =
-      let n = length-map-range_with_len (λ (q : ℕ). placed_for ram (ForRegion q)) 0 count in
-      get_or_past (map (λ (q : ℕ). placed_for ram (ForRegion q)) (numbers_below count)) r no_spot (omega arith)
-
   pub in_plan : (u : RamUse) → 0 < (block_for (plan_of p f s b) u).size → IsIn (block_for (plan_of p f s b) u) b.ram_base b.ram_size × IsAligned (block_for (plan_of p f s b) u)
   unfolding plan_of
   in_plan ForStack some = spot_in_ram ForStack (placed_for ram ForStack) refl some
@@ -92,8 +80,8 @@ module _ (p : Program) (f : Final) (s : Sizes) (b : Board) (ok : IsBoard b) (roo
   in_plan ForUnwritten some = spot_in_ram ForUnwritten (placed_for ram ForUnwritten) refl some
   in_plan (ForRegion r) some =
       ⊎_elim
-      (λ l. spot_in_ram (ForRegion r) (region_spot (plan_of p f s b) r) (region_there r l) some)
-      (λ l. let z : (region_spot (plan_of p f s b) r).size ≡ 0 = ap (λ (q : Spot). q.size) (region_missing r l) in absurd (omega arith))
+      (λ l. spot_in_ram (ForRegion r) (region_spot (plan_of p f s b) r) (region_there p f s b r l) some)
+      (λ l. let z : (region_spot (plan_of p f s b) r).size ≡ 0 = ap (λ (q : Spot). q.size) (region_missing p f s b r l) in absurd (omega arith))
       (cases_lt r count)
 
 pub ram_is_inside : RamIsInside

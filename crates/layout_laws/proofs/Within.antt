@@ -1,6 +1,6 @@
 -- Each block of RAM lies in the part that is filled, at a multiple of its size.
-use Rattle.std.proofs.Common.{◌≡◌, ℕ, zero, suc, ◌+◌, ◌-◌, ◌*◌, ◌/◌, ◌<◌, ◌≤◌, ◌⊎◌, inl, inr, Bool, true, false, cond, List, [], ◌∷◌, ◌++◌, length, get_or, set, Option, Some, None, option_map, nat_lt, refl, sym, leb-true, ltb-false, ltb-true, arith}
-use Rattle.std.specs.List.{fold, position}
+use Rattle.std.proofs.Common.{◌≡◌, ℕ, zero, suc, ◌+◌, ◌-◌, ◌*◌, ◌/◌, ◌<◌, ◌≤◌, ◌⊎◌, inl, inr, Bool, true, false, cond, List, [], ◌∷◌, ◌++◌, length, get_or, set, Option, Some, None, option_map, nat_lt, refl, leb-true, ltb-false, ltb-true, arith}
+use Rattle.std.specs.List.{fold}
 use Rattle.std.specs.Prelude.{find, unwrap_or}
 use Rattle.ir_model.specs.Layout.{rounded_up}
 use Rattle.plan_model.specs.Blocks.{open_eighths}
@@ -8,8 +8,7 @@ use Rattle.plan_model.specs.Lists.{placed, in_order}
 use Rattle.plan_model.specs.RamBlocks.{RamUse, RamBlock, holds_globals, same_use, falling}
 use Rattle.plan_model.specs.RamPlacement.{Tail, Ram, PlacedBlock, no_tail, tail_of, fits, tail_for, spot_at, with_block, with_block_by, with_block_in, with_block_behind}
 use Rattle.plan_model.specs.Placement.{no_spot}
-use Rattle.layout.proofs.Searches.{position_is}
-use Rattle.layout_laws.proofs.Filling.{ArePositive}
+use Rattle.layout_laws.proofs.Filling.{ArePositive, tail_found}
 use Rattle.layout_laws.proofs.Hits.{has_tail}
 use Rattle.layout_laws.proofs.Multiples.{IsMultiple, both, none}
 use Rattle.layout_laws.proofs.PowersOfTwo.{IsPower, quotient}
@@ -109,10 +108,6 @@ module _ (ram : ℕ) (m : Ram) (old : Within ram m) (b : RamBlock) (power : IsPo
   unfolding with_block
   more_within bs positive powers less own later = by (tail_for m.tails b) refl
     where
-      found : (c : Bool) (k : ℕ) → holds_globals b.use_of ≡ c → cond c (position (fits b.size) m.tails) None ≡ Some k → (k < length m.tails) × (fits b.size (get_or m.tails k no_tail) ≡ true) × (0 < b.size)
-      found true k h e = let p = position_is (fits b.size) m.tails k no_tail (sym e) in (p.0, p.1, positive h)
-      found false k h e = cc
-
       added : (cs : List RamBlock) → All (λ c. IsPower c.size) cs → All (λ c. c.size ≤ b.size) cs → All (λ c. IsMultiple c.size m.used) cs → All (λ c. IsMultiple c.size (m.used + b.size)) cs
       added [] p l u = tt
       added (c ∷ cs) p l u =
@@ -121,7 +116,7 @@ module _ (ram : ℕ) (m : Ram) (old : Within ram m) (b : RamBlock) (power : IsPo
 
       by : (o : Option ℕ) → tail_for m.tails b ≡ o → Within ram (with_block_by ram m b o) × All (λ c. IsMultiple c.size (with_block_by ram m b o).used) bs
       by None e = (behind own, added bs powers less later)
-      by (Some k) e = let f = found (holds_globals b.use_of) k refl e in (inside k f.0 f.1 f.2, later)
+      by (Some k) e = let f = tail_found m b positive (holds_globals b.use_of) k refl e in (inside k f.0 f.1 f.2, later)
 
 -- ---- all blocks
 

@@ -1,7 +1,6 @@
 -- The sets of the firmware are the least, and its needs are those by them.
 use Rattle.std.proofs.Common.{◌≡◌, ℕ, zero, suc, ◌<◌, true, [], ◌∷◌, length, get_or, sym, subst, refl, arith, inl, inr}
 use Rattle.std.specs.Prelude.{◌⊎◌, Contains}
-use Rattle.std.specs.declared.cmp.Ordering.{Ordering}
 use Rattle.std.specs.List.Sorted.{IsStrictlySortedBy}
 use Rattle.std.specs.Ordering.{nat_cmp}
 use Rattle.ir_model.specs.declared.object.ObjId.{ObjId}
@@ -16,7 +15,7 @@ use Rattle.plan_model.specs.Lendable.{IsLendable, OthersWrite, compare_locals}
 use Rattle.plan_model.specs.Needs.{IsWritable, IsData, IsNeedOf, need_of, AreNeeds}
 use Rattle.linked_examples.specs.TwoCompartments.{program, needs, sets, AreItsNeeds}
 use Rattle.ir_laws.proofs.Objects.{same_id}
-use Rattle.plan_examples.proofs.OneItem.{number_of_periph, one_argument}
+use Rattle.plan_examples.proofs.OneItem.{number_of_periph, one_argument, one_item, no_item}
 
 -- ---- the least sets
 
@@ -53,19 +52,6 @@ least Q h (Register (suc zero) (suc (suc (suc zero)))) (PeriphObject zero) e = h
 least Q h _ _ e = cc
 
 -- ---- lists of exactly one thing, of two and of none
-
-module _ {X : Type 0} (cmp : X → X → Ordering) (P : X → Type 0) where
-  one_item : (x : X) → P x → ((y : X) → P y → y ≡ x) → ListsExactly cmp P (x ∷ [])
-  unfolding IsStrictlySortedBy
-  one_item x h only = record { rising = (tt, tt); each = each; all = λ y k. (zero, omega arith, sym (only y k)) }
-    where
-      each : (y : X) → Contains (x ∷ []) y → P y
-      each y (zero, l, e) = subst P e h
-      each y (suc k, l, e) = absurd (omega arith)
-
-  no_item : ((y : X) → P y → ⊥) → ListsExactly cmp P []
-  unfolding IsStrictlySortedBy
-  no_item none = record { rising = tt; each = λ y k. absurd (omega arith); all = λ y k. absurd (none y k) }
 
 -- ---- objects by their numbers
 

@@ -34,9 +34,10 @@ use Rattle.linked_promises.proofs.WordLists.{AreWords, each_map, both_words}
 use Rattle.linked_promises.proofs.CompartmentWords.{comps_fit}
 use Rattle.linked_promises.proofs.SiteWords.{tables_most, sites_fit, targets_fit}
 use Rattle.linked_promises.proofs.InitWords.{lends_fit, inits_fit, words_fit}
-use Rattle.linked_promises.proofs.Reading.{Reads, each_word, behind_page}
+use Rattle.linked_promises.proofs.Reading.{each_word, behind_page}
 use Rattle.linked_promises.proofs.ReadTables.{same_tables}
 use Rattle.common_laws.proofs.Lists.{each_of}
+use Rattle.monitor_laws.proofs.ReadTables.{Reads}
 
 -- what is known of plans, of code and of firmwares
 pub record WordLaws : Type 0 where

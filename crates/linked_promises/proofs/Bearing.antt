@@ -1,5 +1,6 @@
 -- Which of a compartment's slots decides about an address.
 use Rattle.std.proofs.Common.{◌≡◌, ℕ, zero, suc, ◌<◌, ◌≤◌, ◌+◌, ◌⊎◌, inl, inr, Bool, true, false, ◌||◌, List, [], ◌∷◌, ◌++◌, length, Option, Some, None, refl, ap, sym, ◌∙◌, subst, arith}
+use Rattle.std.proofs.lemmas.Bool.{or_right}
 use Rattle.std.specs.List.{list_any}
 use Rattle.mpu_model.specs.declared.region.Region.{Region}
 use Rattle.mpu_model.specs.declared.region.Access.TheVariants.{Write}
@@ -41,10 +42,6 @@ module _ (a : ℕ) where
   pub written_behind : (us vs : List SlotUse) → Written vs → Written (us ++ vs)
   written_behind [] vs b = b
   written_behind (u ∷ us) vs b = behind (written_behind us vs b)
-
-  or_right : (b c : Bool) → c ≡ true → (b || c) ≡ true
-  or_right true c e = refl
-  or_right false c e = e
 
   pub borne_holds : (us : List SlotUse) (n k : ℕ) → Borne us → length us ≤ k → n + k ≤ 16 → list_any (λ (g : Region). holds g a) (slots_from n k us) ≡ true
   borne_holds [] n k b l m = elim b [ ]

@@ -1,5 +1,5 @@
 -- Reads of a block that is filled with the first values of its globals give each cell its value.
-use Rattle.std.proofs.Common.{eqb-true, ◌≡◌, ◌≢◌, ℕ, ◌+◌, ◌*◌, ◌/◌, ◌≤◌, ◌⊎◌, inl, inr, Bool, true, false, ◌||◌, List, [], ◌∷◌, length, replicate, nat_eq, refl, sym, ap, ◌∙◌, subst, eq-eqb, arith}
+use Rattle.std.proofs.Common.{eqb-true, ◌≡◌, ◌≢◌, ℕ, ◌+◌, ◌*◌, ◌≤◌, ◌⊎◌, inl, inr, Bool, true, false, ◌||◌, List, [], ◌∷◌, length, replicate, nat_eq, refl, sym, ap, ◌∙◌, subst, eq-eqb, arith}
 use Rattle.std.specs.List.{fold}
 use Rattle.std.proofs.lemmas.Bool.{cases_eq}
 use Rattle.std.proofs.lemmas.List.{length-replicate}
@@ -8,7 +8,7 @@ use Rattle.words.specs.Bytes.{read, write, cut}
 use Rattle.words.proofs.Bytes.{length-write, read_below, read_above, read_same}
 use Rattle.windows.specs.Ranges.{AreApart}
 use Rattle.ir_model.specs.Types.{width_of}
-use Rattle.ir_model.specs.Layout.{CellPlace, rounded_up}
+use Rattle.ir_model.specs.Layout.{CellPlace}
 use Rattle.ir_model.specs.Resolved.{Program, Value, global_at}
 use Rattle.ir_model.proofs.Counting.{rounded_at_least}
 use Rattle.ir_laws.specs.Laws.{IsLaidOut}
@@ -21,6 +21,7 @@ use Rattle.code_model.specs.declared.places.Places.{Places}
 use Rattle.link_model.specs.FirstWords.{first_word, with_cells, with_global, first_bytes}
 use Rattle.common_laws.specs.Lists.{Each}
 use Rattle.ir_laws.proofs.Layouts.{last_end}
+use Rattle.linked_promises.proofs.Products.{whole_words}
 
 module _ (q : Places) where
   -- a memory has these values in cells that lie so many bytes behind an offset
@@ -139,6 +140,3 @@ module _ (q : Places) where
         let up = rounded_at_least (region_bytes p xs) 4 (omega arith) in
         let whole = whole_words (region_bytes p xs) in
         folded x hx xs (replicate (4 * words_in p xs) 0) (all_listed xs (λ y e. e)) (omega (arith, long, up, whole)) (inl hx)
-      where
-        whole_words : (n : ℕ) → 4 * (rounded_up n 4 / 4) ≡ rounded_up n 4
-        whole_words n = omega arith

@@ -1,8 +1,7 @@
 -- The words of compartments: of their regions and of their masks.
 use Rattle.std.proofs.Common.{◌≡◌, ℕ, ◌+◌, ◌%◌, ◌^◌, ◌<◌, ◌≤◌, Bool, true, false, [], ◌∷◌, ◌++◌, length, map, filter, get_or, cond, flat_map, nat_lt, ap, sym, ◌∙◌, subst, lit<, arith}
 use Rattle.std.proofs.lemmas.Bool.{cases_lt}
-use Rattle.std.proofs.lemmas.List.{get_or_past}
-use Rattle.std.proofs.lemmas.List.FromFn.{get_or-map-range_with_len, length-map-range_with_len}
+use Rattle.std.proofs.lemmas.List.FromFn.{get_or-map-range_with_len}
 use mathlib.Core.Logic.{⊎_elim}
 use Rattle.common_laws.specs.Lists.{Each}
 use Rattle.mpu_model.specs.declared.words.Rights.TheVariants.{Code}
@@ -38,6 +37,7 @@ use Rattle.linked_promises.proofs.Kept.{kept_final}
 use Rattle.linked_promises.proofs.CoverParts.{IsPart, AreParts, parts_all, each_in_order}
 use Rattle.linked_promises.proofs.WordLists.{IsWord, AreWords, each_map, each_kept, each_below, each_flat, both_words}
 use Rattle.linked_promises.proofs.RegionWords.{IsLow, region_fits, out_is_byte, slots_fit, mask_fits}
+use Rattle.linked_promises.proofs.WindowsOpen.{first_at, first_past}
 use Rattle.common_laws.proofs.Lists.{each_both}
 
 -- ---- covers lie among the peripherals
@@ -57,21 +57,11 @@ module _ (p : Program) (n : Needs) (windows : HasWindows p) where
       (each_kept (λ j. j < length p.periphs) (uses n g c) (numbers_below (length p.periphs)) (each_below 0 (length p.periphs) (length p.periphs) (omega arith))))
 
   module _ (f : Final) (slots : ℕ) (final : IsFinal p n f.groups slots f) where
-    first_at : (c : ℕ) → c < f.groups.count → get_or (initial_graph p n f.groups).covers c [] ≡ covers_of p n f.groups c
-    unfolding initial_graph
-    first_at c l = get_or-map-range_with_len (covers_of p n f.groups) 0 f.groups.count c c [] l (omega arith)
-
-    first_past : (c : ℕ) → f.groups.count ≤ c → get_or (initial_graph p n f.groups).covers c [] ≡ []
-    unfolding initial_graph
-    first_past c l =
-        let size = length-map-range_with_len (covers_of p n f.groups) 0 f.groups.count in
-        get_or_past (map (covers_of p n f.groups) (numbers_below f.groups.count)) c [] (omega (arith, size, l))
-
     parts : (c : ℕ) → AreParts (get_or f.covers c [])
     parts c =
         subst AreParts (sym (ap (λ (x : Final). get_or x.covers c []) final.is))
         (parts_all p slots (initial_graph p n f.groups) final.last final.reached
-        (λ d. ⊎_elim (λ lt. subst AreParts (sym (first_at d lt)) (first_parts f.groups d)) (λ le. subst AreParts (sym (first_past d le)) tt) (cases_lt d f.groups.count)) c)
+        (λ d. ⊎_elim (λ lt. subst AreParts (sym (first_at p n f.groups d lt)) (first_parts f.groups d)) (λ le. subst AreParts (sym (first_past p n f.groups d le)) tt) (cases_lt d f.groups.count)) c)
 
     pub covers_low : (c : ℕ) → Each IsLow (map cover_slot (get_or f.covers c []))
     covers_low c =

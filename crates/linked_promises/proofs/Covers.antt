@@ -1,33 +1,21 @@
 -- What a compartment's covers hold, they hold after joins too; and each of them is an aligned power of two of peripherals.
-use Rattle.std.proofs.Common.{◌≡◌, ℕ, ◌<◌, Bool, true, false, not, ◌&&◌, ◌||◌, List, [], ◌∷◌, length, filter, get_or, set, cond, Some, nat_lt, nat_le, refl, ap, sym, ◌∙◌, subst, arith}
+use Rattle.std.proofs.Common.{◌≡◌, ℕ, ◌<◌, Bool, true, false, not, ◌&&◌, ◌||◌, List, [], ◌∷◌, length, filter, get_or, set, Some, nat_lt, nat_le, refl, ap, sym, ◌∙◌, subst, arith}
 use Rattle.std.specs.List.{list_any}
 use Rattle.std.proofs.lemmas.Bool.{leb-true, le-leb, cases_lt, cases_eq, or_left, or_right}
 use mathlib.Core.Logic.{⊎_elim}
 use Rattle.std.proofs.lemmas.List.{get_or-set_same, get_or-set_other, get_or_past}
 use Rattle.plan_model.specs.declared.graph.Cover.{Cover}
 use Rattle.plan_model.specs.declared.graph.Graph.{Graph}
-use Rattle.plan_model.specs.Lists.{placed, in_order}
 use Rattle.plan_model.specs.Covers.{is_inside, end_of, with_cover, joined, cover_at}
 use Rattle.plan_model.specs.Merging.{covers_at, with_joined_cover, next}
 use Rattle.ir_model.specs.Resolved.{Program}
 use Rattle.plan_model.specs.FinalGraph.{Merges, stays, joins}
+use Rattle.plan_model.proofs.Orders.{any_in_order}
 use Rattle.linked_promises.proofs.Kept.{by_next}
-use Rattle.common_laws.proofs.Tests.{both_true as and_parts, true_both as both, turned}
+use Rattle.common_laws.proofs.Tests.{both_true as and_parts, true_both as both}
 use Rattle.common_laws.proofs.Lists.{any_kept as any_filtered}
 
 -- ---- tests over lists in an order
-
-any_placed : {X : Type 0} (p : X → Bool) (lt : X → X → Bool) (x : X) (ys : List X) → list_any p (placed lt x ys) ≡ (p x || list_any p ys)
-any_placed p lt x [] = refl
-any_placed p lt x (y ∷ ys) = by (lt y x) (any_placed p lt x ys)
-  where
-    by : (b : Bool) → list_any p (placed lt x ys) ≡ (p x || list_any p ys) → list_any p (cond b (y ∷ placed lt x ys) (x ∷ y ∷ ys)) ≡ (p x || (p y || list_any p ys))
-    by true ih = ap (λ b. p y || b) ih ∙ turned (p y) (p x) (list_any p ys)
-    by false ih = refl
-
-pub any_in_order : {X : Type 0} (p : X → Bool) (lt : X → X → Bool) (xs : List X) → list_any p (in_order lt xs) ≡ list_any p xs
-any_in_order p lt [] = refl
-any_in_order p lt (x ∷ xs) = any_placed p lt x (in_order lt xs) ∙ ap (λ b. p x || b) (any_in_order p lt xs)
 
 -- ---- a cover inside another
 

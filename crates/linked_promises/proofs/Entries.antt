@@ -6,6 +6,7 @@ use Rattle.code_model.specs.FrameShape.{local_starts}
 use Rattle.code_model.specs.Places.{lends_among}
 use Rattle.code_model.specs.Sizes.{entry_size}
 use Rattle.code_model.specs.CompartmentCode.{CodeGroups, members_from, filled_size, before, lends_of, size_of, total_size, compartment_size}
+use Rattle.code_model.proofs.Compartments.{total_append}
 
 -- a function stands behind those before it, and others behind it
 members_split : (k f j : ℕ) (cs : List ℕ) (c : ℕ) → j ≡ k + f → f < length cs → get_or cs f 0 ≡ c → (rest : List ℕ) × (members_from k cs c ≡ members_from k (take f cs) c ++ j ∷ rest)
@@ -27,10 +28,6 @@ unfolding entry_size
 entry_least g n = omega arith
 
 module _ (p : Program) (groups : CodeGroups) where
-  total_append : (xs ys : List ℕ) → total_size p groups (xs ++ ys) ≡ total_size p groups xs + total_size p groups ys
-  total_append [] ys = omega arith
-  total_append (x ∷ xs) ys = let h = total_append xs ys in omega (arith, h)
-
   -- a function has code
   size_least : (f : ℕ) → 2 ≤ size_of p groups f
   size_least f =
@@ -42,7 +39,7 @@ module _ (p : Program) (groups : CodeGroups) where
   pub code_inside : (f c : ℕ) → f < length groups.compartments → get_or groups.compartments f 0 ≡ c → total_size p groups (before p groups f) + 2 ≤ compartment_size p groups c
   code_inside f c lt e =
       let s = members_split 0 f f groups.compartments (get_or groups.compartments f 0) (omega arith) lt refl in
-      let a = total_append (before p groups f) (f ∷ s.0) in
+      let a = total_append p groups (before p groups f) (f ∷ s.0) in
       let z = rounded_at_least (size_of p groups f) 4 (lit< tt) in
       let least = size_least f in
       let whole : compartment_size p groups (get_or groups.compartments f 0) ≡ total_size p groups (before p groups f) + (filled_size (size_of p groups f) + total_size p groups s.0) =

@@ -1,5 +1,5 @@
 -- The records of filled blocks bring each cell of each global its first value.
-use Rattle.std.proofs.Common.{◌≡◌, true, ℕ, suc, ◌+◌, ◌-◌, ◌*◌, ◌/◌, ◌<◌, ◌≤◌, inl, inr, List, [], ◌∷◌, ◌++◌, length, get_or, map, refl, sym, ap, ◌∙◌, subst, arith}
+use Rattle.std.proofs.Common.{◌≡◌, true, ℕ, suc, ◌+◌, ◌-◌, ◌*◌, ◌<◌, ◌≤◌, inl, inr, List, [], ◌∷◌, ◌++◌, length, get_or, map, refl, sym, ap, ◌∙◌, subst, arith}
 use Rattle.std.specs.List.{range_with_len}
 use Rattle.std.proofs.lemmas.List.{get_or-map}
 use Rattle.std.proofs.lemmas.List.FromFn.{length-map-range_with_len, get_or-map-range_with_len}
@@ -9,7 +9,7 @@ use Rattle.armv7m.specs.Confinement.{AnyOf}
 use Rattle.common_laws.specs.Lists.{Each}
 use Rattle.ir_model.specs.Types.{width_of}
 use Rattle.ir_model.specs.Plain.{PlainFirmware}
-use Rattle.ir_model.specs.Layout.{CellPlace, rounded_up}
+use Rattle.ir_model.specs.Layout.{CellPlace}
 use Rattle.ir_model.specs.Resolved.{Program, NumberedGlobal, Value, Number, Code, Null, At, OfGlobal, OfPeriph, OfLocal, no_global, global_at}
 use Rattle.ir_model.specs.Resolve.{resolve}
 use Rattle.ir_model.proofs.Counting.{rounded_at_least}
@@ -48,6 +48,7 @@ use Rattle.linked_promises.proofs.FirstValues.{IsKnown, values_known}
 use Rattle.linked_promises.proofs.CellWrites.{HasCells, cells_alike, block_holds}
 use Rattle.linked_promises.proofs.WordsBack.{IsBrought, brought, reads_back}
 use Rattle.linked_promises.proofs.InitialFlash.{words_stand, from_base}
+use Rattle.linked_promises.proofs.Products.{whole_words}
 use Rattle.ir_laws.proofs.Layouts.{last_end}
 
 any_weaker : {A : Type 0} (P Q : A → Type 0) → ((x : A) → P x → Q x) → (xs : List A) → AnyOf P xs → AnyOf Q xs
@@ -115,9 +116,6 @@ module _ (law : GlobalLaws) (counts : CountsAgree) (typing : TypedOverNumbers) (
             ap (λ o. read v o flash) s ∙ reads_back p q b.flash_base flash m.from c.globals is.words v (off + a) (omega (arith, le, room))))
             (block_holds q p (λ y. (global_shaped w y).sound.cells) c.globals lay x h.0),
       )
-    where
-      whole_words : (m : ℕ) → 4 * (rounded_up m 4 / 4) ≡ rounded_up m 4
-      whole_words m = omega arith
 
   brought_by : (x : ℕ) → x < count → AnyOf (Brings (address x) (global_size p x) (global_at p x).shape.cells (global_at p x).init) t.inits
   unfolding tables_of

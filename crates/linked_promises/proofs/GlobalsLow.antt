@@ -1,9 +1,8 @@
 -- Each global of a planned image lies below 2^32.
 use Rattle.std.proofs.Common.{◌≡◌, ℕ, zero, suc, ◌+◌, ◌^◌, ◌<◌, ◌≤◌, List, [], ◌∷◌, length, get_or, Option, Some, None, refl, sym, ap, ◌∙◌, arith}
 use Rattle.std.specs.Prelude.{unwrap_or}
-use Rattle.ir_model.proofs.Counting.{rounded_at_least}
 use Rattle.ir_model.specs.Plain.{PlainFirmware}
-use Rattle.ir_model.specs.Resolved.{Program, global_at}
+use Rattle.ir_model.specs.Resolved.{Program}
 use Rattle.ir_model.specs.Resolve.{resolve}
 use Rattle.plan_model.specs.declared.graph.Region.{Region}
 use Rattle.plan_model.specs.declared.needs.Needs.{Needs}
@@ -19,6 +18,7 @@ use Rattle.plan_model.specs.Placement.{no_spot, region_with, address_in, global_
 use Rattle.layout.proofs.Searches.{position_is}
 use Rattle.layout_laws.specs.GlobalLaws.{HasAlignments}
 use Rattle.layout_laws.specs.RamPlaces.{block_for}
+use Rattle.layout_laws.proofs.Offsets.{grows}
 use Rattle.linked_images.specs.Planned.{IsPlanned, plan, planned_sizes}
 use Rattle.linked_images.proofs.Facts.{PlanLaws}
 use Rattle.linked_images.proofs.Powers.{block_is}
@@ -29,16 +29,9 @@ use Rattle.linked_promises.proofs.NoUnwritten.{none_for_unwritten}
 -- ---- offsets in a block
 
 module _ (p : Program) (some : HasAlignments p) where
-  end_behind : (at : ℕ) (xs : List ℕ) → at ≤ end_from p at xs
-  end_behind at [] = omega arith
-  end_behind at (x ∷ xs) =
-      let a = rounded_at_least at (global_at p x).shape.align (some x) in
-      let h = end_behind (aligned p x at + global_size p x) xs in
-      omega (arith, a, h)
-
   offsets_below : (at : ℕ) (xs : List ℕ) (k : ℕ) → get_or (offsets_from p at xs) k 0 ≤ end_from p at xs
   offsets_below at [] k = omega arith
-  offsets_below at (x ∷ xs) zero = let h = end_behind (aligned p x at + global_size p x) xs in omega (arith, h)
+  offsets_below at (x ∷ xs) zero = let h = grows p some (aligned p x at + global_size p x) xs in omega (arith, h)
   offsets_below at (x ∷ xs) (suc k) = offsets_below (aligned p x at + global_size p x) xs k
 
   offset_below : (xs : List ℕ) (x : ℕ) → offset_in_region p xs x ≤ region_bytes p xs

@@ -1,5 +1,10 @@
--- Products of numbers.
-use Rattle.std.proofs.Common.{ℕ, ◌*◌, ◌≤◌, arith}
+-- Products and quotients of numbers.
+use Rattle.std.proofs.Common.{◌≡◌, ℕ, ◌*◌, ◌/◌, ◌≤◌, arith}
+use Rattle.ir_model.specs.Layout.{rounded_up}
 
 pub times : (a b n : ℕ) → a ≤ b → a * n ≤ b * n
 times a b n l = grind (arith, l)
+
+-- so many bytes, rounded up to whole words, are four times the words
+pub whole_words : (n : ℕ) → 4 * (rounded_up n 4 / 4) ≡ rounded_up n 4
+whole_words n = omega arith

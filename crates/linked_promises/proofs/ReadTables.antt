@@ -12,7 +12,8 @@ use Rattle.monitor.specs.Layout.{initial_word_count}
 use Rattle.monitor.specs.Area.{compartment_words, site_words, target_words, init_words, head, area}
 use Rattle.monitor.specs.MonitorCode.{MonitorCode}
 use Rattle.monitor.specs.FromFlash.{records, word_at, comp_record_at, site_record_at, target_record_at, init_record_at, comp_count, site_count, target_count, lend_count, init_count, sites_offset, targets_offset, lends_offset, inits_offset, moved_word_at, tables_behind, tables_of}
-use Rattle.linked_promises.proofs.Reading.{Reads, moved, front, back, comps_read, sites_read, targets_read, words_read, inits_are_read, comps_long}
+use Rattle.linked_promises.proofs.Reading.{front, back, comps_read, sites_read, targets_read, words_read, inits_are_read, comps_long}
+use Rattle.monitor_laws.proofs.ReadTables.{Reads, moved}
 
 -- two tables of which each part is the same
 pub record AreAlike (t u : Tables) : Type 0 where

@@ -120,31 +120,31 @@ module _ (p : Program) (n : Needs) (g : Groups) (c : ℕ) where
 
 -- ---- the final graph
 
+pub first_at : (p : Program) (n : Needs) (g : Groups) (c : ℕ) → c < g.count → get_or (initial_graph p n g).covers c [] ≡ covers_of p n g c
+unfolding initial_graph
+first_at p n g c l = get_or-map-range_with_len (covers_of p n g) 0 g.count c c [] l (omega arith)
+
+pub first_past : (p : Program) (n : Needs) (g : Groups) (c : ℕ) → g.count ≤ c → get_or (initial_graph p n g).covers c [] ≡ []
+unfolding initial_graph
+first_past p n g c l =
+    let size = length-map-range_with_len (covers_of p n g) 0 g.count in
+    get_or_past (map (covers_of p n g) (numbers_below g.count)) c [] (omega (arith, size, l))
+
 module _ (p : Program) (n : Needs) (f : Final) (slots : ℕ) (final : IsFinal p n f.groups slots f) (windows : HasWindows p) where
   covers_are : (c : ℕ) → get_or f.covers c [] ≡ get_or final.last.covers c []
   covers_are c = ap (λ (x : Final). get_or x.covers c []) final.is
-
-  first_at : (c : ℕ) → c < f.groups.count → get_or (initial_graph p n f.groups).covers c [] ≡ covers_of p n f.groups c
-  unfolding initial_graph
-  first_at c l = get_or-map-range_with_len (covers_of p n f.groups) 0 f.groups.count c c [] l (let e : 0 + c ≡ c = omega arith in e)
-
-  first_past : (c : ℕ) → f.groups.count ≤ c → get_or (initial_graph p n f.groups).covers c [] ≡ []
-  unfolding initial_graph
-  first_past c l =
-      let size = length-map-range_with_len (covers_of p n f.groups) 0 f.groups.count in
-      get_or_past (map (covers_of p n f.groups) (numbers_below f.groups.count)) c [] (omega (arith, size, l))
 
   all_parts : (c : ℕ) → AreParts (get_or f.covers c [])
   all_parts c =
       subst AreParts (sym (covers_are c))
       (parts_all p slots (initial_graph p n f.groups) final.last final.reached
-      (λ d. ⊎_elim (λ lt. subst AreParts (sym (first_at d lt)) (first_parts p n f.groups d windows)) (λ le. subst AreParts (sym (first_past d le)) tt) (cases_lt d f.groups.count)) c)
+      (λ d. ⊎_elim (λ lt. subst AreParts (sym (first_at p n f.groups d lt)) (first_parts p n f.groups d windows)) (λ le. subst AreParts (sym (first_past p n f.groups d le)) tt) (cases_lt d f.groups.count)) c)
 
   covered : (c q : ℕ) → c < f.groups.count → q < length p.periphs → uses n f.groups c q ≡ true → list_any (is_inside (cover_of p q)) (get_or f.covers c []) ≡ true
   covered c q l m u =
       ap (list_any (is_inside (cover_of p q))) (covers_are c)
       ∙ stays_all p slots (initial_graph p n f.groups) final.last final.reached c (cover_of p q)
-      (ap (list_any (is_inside (cover_of p q))) (first_at c l) ∙ first_covered p n f.groups c q m u)
+      (ap (list_any (is_inside (cover_of p q))) (first_at p n f.groups c l) ∙ first_covered p n f.groups c q m u)
 
 -- ---- slots
 

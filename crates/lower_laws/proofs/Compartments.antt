@@ -10,13 +10,12 @@ use Rattle.thumb_asm.specs.Finished.{first_far}
 use Rattle.ir_model.specs.Resolved.{Program, func_at}
 use Rattle.code_model.specs.Sizes.{entry_size}
 use Rattle.code_model.specs.FunctionCode.{lent, function_items, function_labels}
-use Rattle.code_model.specs.CompartmentCode.{CodeGroups, CodePlaces, members_from, filled_size, filling, compartment_of, members, before, sites_of, size_of, total_size, label_count, entry_of, places_of, filled_items, compartment_labels}
+use Rattle.code_model.specs.CompartmentCode.{CodeGroups, CodePlaces, members_from, filling, compartment_of, members, before, size_of, total_size, label_count, entry_of, places_of, filled_items, compartment_labels}
 use Rattle.code_model.specs.Laws.{SizesHold, SizesAreEven}
 use Rattle.lower_laws.specs.Reaching.{StandFrom, JumpsInside, FunctionsReach, CompartmentsReach}
 use Rattle.lower_laws.proofs.Reaching.{far-append}
-use Rattle.thumb_asm.proofs.Items.{total-append}
-use Rattle.code_model.proofs.Filling.{filling_by}
 use Rattle.code_model.proofs.Labels.{labels_length}
+use Rattle.code_model.proofs.Compartments.{filled_total, total_append}
 
 filling_near : (ps : List (Option ℕ)) (at n : ℕ) (b : Bool) → nat_eq (n % 4) 0 ≡ b → first_far ps at (filling n) ≡ None
 filling_near ps at n true h = rw h refl
@@ -31,13 +30,6 @@ module _ (hold : SizesHold) (even : SizesAreEven) (reach : FunctionsReach) (p : 
 
   code_total : (f : ℕ) → total (code_of f) ≡ size_of p groups f
   code_total f = hold.functions (func_at p f) (places_of p groups places f) (label_count p groups (before p groups f)) (entry_of p groups places f)
-
-  filled_total : (f : ℕ) → total (filled_items p groups places f) ≡ filled_size (size_of p groups f)
-  filled_total f =
-      let a = total-append (code_of f) (filling (size_of p groups f)) in
-      let b = code_total f in
-      let c = filling_by (size_of p groups f) (nat_eq (size_of p groups f % 4) 0) refl (even.functions (func_at p f) (sites_of p groups f) (lent (func_at p f) (places_of p groups places f))) in
-      omega arith
 
   labels_in_length : (f : ℕ) → length (labels_in f) ≡ length (func_at p f).blocks
   labels_in_length f = labels_length (func_at p f) (places_of p groups places f) (entry_of p groups places f + entry_size (func_at p f) (lent (func_at p f) (places_of p groups places f))) 0 (func_at p f).blocks
@@ -59,17 +51,13 @@ module _ (hold : SizesHold) (even : SizesAreEven) (reach : FunctionsReach) (p : 
       ∙ (get_or-append-add (flat_map labels_in first) (labels_in f ++ flat_map labels_in rest) b None
       ∙ get_or-append (labels_in f) (flat_map labels_in rest) None b l))
 
-  total_parts : (xs ys : List ℕ) → total_size p groups (xs ++ ys) ≡ total_size p groups xs + total_size p groups ys
-  total_parts [] ys = omega arith
-  total_parts (x ∷ xs) ys = let h = total_parts xs ys in omega arith
-
   -- a function that stands behind the first ones of its compartment
   one_near : (all first rest : List ℕ) (f c : ℕ) → all ≡ first ++ (f ∷ rest) → total_size p groups all ≤ 2 ^ 20 → compartment_of p groups f ≡ c → before p groups f ≡ first →
       first_far (flat_map labels_in all) (get_or places.bases c 0 + total_size p groups first) (filled_items p groups places f) ≡ None
   one_near all first rest f c parts small e b =
       let stands : get_or places.bases c 0 + total_size p groups first ≡ entry_of p groups places f = rw (b, e) refl in
       let t = ap (total_size p groups) parts in
-      let s = total_parts first (f ∷ rest) in
+      let s = total_append p groups first (f ∷ rest) in
       let n = code_total f in
       let labels : StandFrom (flat_map labels_in all) (label_count p groups (before p groups f)) (labels_in f) = subst (λ (k : List ℕ). StandFrom (flat_map labels_in all) (label_count p groups k) (labels_in f)) (sym b) (labels_stand all first rest f parts) in
       let near = reach (func_at p f) (places_of p groups places f) (label_count p groups (before p groups f)) (entry_of p groups places f) (flat_map labels_in all) labels (inside f) (omega arith) in
@@ -86,8 +74,8 @@ module _ (hold : SizesHold) (even : SizesAreEven) (reach : FunctionsReach) (p : 
       let x = there first f fs parts in
       let one = one_near all first fs f c parts small x.0 x.1 in
       let next : all ≡ (first ++ (f ∷ [])) ++ fs = parts ∙ sym (append_assoc first (f ∷ []) fs) in
-      let t = total_parts first (f ∷ []) in
-      let n = filled_total f in
+      let t = total_append p groups first (f ∷ []) in
+      let n = filled_total p groups places f in
       let more = rest_near all c small (first ++ (f ∷ [])) fs next there in
       far-append (flat_map labels_in all) (get_or places.bases c 0 + total_size p groups first) (get_or places.bases c 0 + total_size p groups (first ++ (f ∷ []))) (filled_items p groups places f) (flat_map (filled_items p groups places) fs) (omega arith) one more
 

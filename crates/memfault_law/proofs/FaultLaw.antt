@@ -1,7 +1,6 @@
 -- The law of the handler of MemManage: from the entry by the code of its list to the outcome.
 use Rattle.std.proofs.Common.{◌≡◌, ℕ, ◌+◌, ◌-◌, ◌^◌, ◌<◌, ◌≤◌, ◌⊎◌, inl, inr, true, List, [], length, None, refl, sym, ap, ◌∙◌, subst, arith}
 use Rattle.words.specs.Bytes.{read}
-use Rattle.mpu_model.specs.declared.region.Access.TheVariants.{Fetch}
 use Rattle.device_model.specs.declared.image.Image.{Image}
 use Rattle.device_model.specs.Rules.{ObeysRules, block_size}
 use Rattle.mem_bus.proofs.Offsets.{flash_at}
@@ -44,10 +43,10 @@ use Rattle.monitor_laws.proofs.Fetched.{UnitLaws, page_is_fetched}
 use Rattle.monitor_laws.proofs.Effects.{ticks_of}
 use Rattle.monitor_laws.proofs.Tables.{slots_are}
 use Rattle.monitor_laws.proofs.Placement.{writable}
-use Rattle.monitor_laws.proofs.Off.{core, with_unit, IsOff, fetched_while_off}
+use Rattle.monitor_laws.proofs.Off.{core, with_unit, IsOff}
 use Rattle.monitor_laws.proofs.HandlerRule.{HandlerRule, runs_handle}
 use Rattle.memfault_law.specs.FaultLaw.{FaultLaw}
-use Rattle.handler_runs.proofs.Mode.{mode_kept}
+use Rattle.handler_runs.proofs.Mode.{mode_kept, IsGood, good_while_off}
 use Rattle.handler_runs.proofs.Returned.{LeavesRam, Resuming, Answers, ReturnLaws, concluded}
 use Rattle.handler_runs.proofs.Entry as entry
 use Rattle.handler_runs.proofs.Entry.{EntryLaws}
@@ -65,11 +64,6 @@ pub record FaultLaws : Type 0 where
   pub entry : EntryLaws
   pub returned : ReturnLaws
   pub code_fits : CodeFits
-
--- what is good: the handler's mode, and that the page may be fetched
-pub record IsGood (i : Image) (q : ProtectionState) : Type 0 where
-  pub mode : q.handler ≡ true
-  pub fetched : (a : ℕ) → i.flash_base ≤ a → a < i.flash_base + 4096 → by_mpu q Fetch a ≡ true
 
 same_memory : (i : Image) (t : Tables) (from : ℕ) (memory ram : List ℕ) → ram ≡ memory → IsMemory i t from memory ram
 same_memory i t from memory ram e = record { reads = λ w o off. ap (λ m. read w o m) e; as_long = ap (λ m. length m) e }
@@ -100,10 +94,7 @@ module _ (laws : FaultLaws) (i : Image) (t : Tables) (ready : IsReady i t) where
   code_in = there.has_memfault i t rules ready.behind_page ready.has_page ready.placed.tables_first laws.code_fits slots_most
 
   good_off : (q : ProtectionState) → IsOff true q → IsGood i q
-  good_off q f = record { mode = f.mode; fetched = λ a lo hi. fetched_while_off q a f.control (below a hi) }
-    where
-      below : (a : ℕ) → a < i.flash_base + 4096 → a < 0x40000000
-      below a h = let f = rules.flash_highest in omega (arith, h, f)
+  good_off q f = good_while_off i rules q f
 
   module _ (s : State) (b : Block) (u : FaultStatus) (half : ℕ) (inv : InvariantHolds i t b s) (alive : s.ending ≡ None) (fault : IsFault i s u) (holds : u.cfsr ≡ 0x82 → HoldsHalf i s.core.pc half) (opened : is_frame_open by_mpu i s ≡ true) where
     abbrev o : ℕ

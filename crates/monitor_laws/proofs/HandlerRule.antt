@@ -1,7 +1,6 @@
 -- What the steps of a handler may access, as a rule of the language: the kinds of confinement, at any state with the core's RAM and
 -- protection.
-use Rattle.std.proofs.Common.{◌≡◌, ℕ, ◌+◌, ◌-◌, ◌%◌, ◌<◌, ◌≤◌, true, refl, sym, ap, ◌∙◌, subst, arith}
-use Rattle.std.proofs.lemmas.Bool.Decides.{nat_tests}
+use Rattle.std.proofs.Common.{◌≡◌, ℕ, ◌+◌, ◌-◌, ◌<◌, ◌≤◌, true, refl, sym, ap, ◌∙◌, subst, arith}
 use Rattle.words.specs.Bytes.{read}
 use Rattle.mpu_model.specs.declared.region.Access.{Access}
 use Rattle.mpu_model.specs.declared.region.Access.TheVariants.{Read, Write, Fetch}
@@ -11,7 +10,6 @@ use Rattle.armv7m.specs.declared.state.ProtectionState.{ProtectionState}
 use Rattle.armv7m.specs.State.{State, Touched, by_mpu}
 use Rattle.armv7m.specs.Step.{turn, step}
 use Rattle.gate_steps.specs.Runs.{IsFine, Leads}
-use Rattle.armv7m.specs.System.{in_system}
 use Rattle.gate_steps.specs.Core.{Core, core_of}
 use Rattle.gate_steps.specs.Safe.{Rule}
 use Rattle.gate_steps.proofs.Gives.{in_flash}
@@ -20,6 +18,7 @@ use Rattle.monitor.specs.Reach.{AllBytes, InBlock, StoreKind, ByStack, ByBlock, 
 use Rattle.monitor.specs.Placed.{Placed}
 use Rattle.monitor.specs.Handlers.{Handles as IsHandlers, Leads as HandlerLeads}
 use Rattle.monitor_laws.proofs.Opened.{Handles}
+use Rattle.monitor_laws.proofs.Ranges.{still}
 use Rattle.common_laws.proofs.Lists.{each_to}
 
 -- a state that accesses as this core does
@@ -45,9 +44,6 @@ handlers_reach i t p = record {
   stack = stack;
 }
   where
-    still : (a k : ℕ) → a % 4 ≡ 0 → in_system a ≡ true → k < 4 → in_system (a + k) ≡ true
-    still a k al s lt = search (arith, nat_tests)
-
     block : (kind : Access) (c : Core) (o : ℕ) → c.protection.handler ≡ true → o + 4 ≤ 544 → HandlerRule i t kind c 4 (i.ram_base + (t.monitor - i.ram_base + o))
     block Read c o h r = λ u at closed k lt. OfBlock (ap (λ q. q.handler) at.protection ∙ h) (in_block i t o k p.block_inside.0 r lt)
     block Write c o h r = λ u at k lt. ByBlock (ap (λ q. q.handler) at.protection ∙ h) (in_block i t o k p.block_inside.0 r lt)

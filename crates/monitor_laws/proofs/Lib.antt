@@ -17,7 +17,7 @@ mod Started
 pub mod Checked
 mod RegionForms
 mod Sizes
-mod ReadTables
+pub mod ReadTables
 pub mod SoundImages
 pub mod Opened
 pub mod Unlend

@@ -110,3 +110,8 @@ bit_count (suc k) n = let h = bit_count k n in omega (arith, h)
 
 pub product_ticks : (n : ℕ) → times_ticks (bits_of 4 n) ≤ 32
 product_ticks n = let h = few_ticks (bits_of 4 n) in let e = bit_count 4 n in omega (arith, h, e)
+
+-- ---- the words of records
+
+pub product : (s n : ℕ) → (8 * s + 16) * n ≡ 4 * ((2 * s + 4) * n)
+product s n = grind arith

@@ -38,9 +38,12 @@ pub open_while_off : (p : ProtectionState) → p.mpu.control ≡ 0 → Open by_m
 unfolding by_mpu permits
 open_while_off p e = record { reads = λ a. rw e refl; writes = λ a. rw e refl }
 
-pub fetched_while_off : (p : ProtectionState) (a : ℕ) → p.mpu.control ≡ 0 → a < 0x40000000 → by_mpu p Fetch a ≡ true
+fetched_while_off : (p : ProtectionState) (a : ℕ) → p.mpu.control ≡ 0 → a < 0x40000000 → by_mpu p Fetch a ≡ true
 unfolding by_mpu permits
 fetched_while_off p a e lt = let l : nat_lt a 0x40000000 ≡ true = search (nat_tests, arith) in rw (e, l) refl
+
+pub page_while_off : (i : Image) → ObeysRules i → (p : ProtectionState) → p.mpu.control ≡ 0 → (a : ℕ) → a < i.flash_base + 4096 → by_mpu p Fetch a ≡ true
+page_while_off i rules p e a h = fetched_while_off p a e (let f = rules.flash_highest in omega (arith, h, f))
 
 -- which accesses a list may make, whatever its core
 pub record Allows (i : Image) (Allowed : Rule) (handler : Bool) : Type 0 where

@@ -31,6 +31,7 @@ use Rattle.monitor_laws.specs.RegionsWritten.{IsNumbered, Writable}
 use Rattle.monitor_laws.proofs.FlashWords.{Has, flash_has, has_front, has_back, records_length}
 use Rattle.monitor_laws.proofs.Written.{open_stack}
 use Rattle.monitor_laws.proofs.Tables.{counts, same_stack, numbered}
+use Rattle.monitor_laws.proofs.Numbers.{product}
 use Rattle.common_laws.proofs.Lists.{each_to, each_at}
 
 four_or_twelve : (r s : ℕ) → (r ≡ 8) ⊎ (r ≡ 16) → r ≡ 4 + s → (4 ≤ s) × (s ≤ 12)
@@ -170,9 +171,6 @@ module _ (i : Image) (t : Tables) (p : Placed i t) (has : HasTables i t) (stub :
 
   pub words_is : k.words ≡ length t.words
   words_is = let f = fits in omega (arith, f)
-
-  product : (s n : ℕ) → (8 * s + 16) * n ≡ 4 * ((2 * s + 4) * n)
-  product s n = grind arith
 
   pub inits_at_is : k.inits_at ≡ i.flash_base + inits_offset
   unfolding inits_offset

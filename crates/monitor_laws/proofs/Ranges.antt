@@ -24,11 +24,12 @@ StartRule t Read c w a = Unit {0}
 StartRule t Write c w a = (k : ℕ) → k < w → StartKind t (a + k)
 StartRule t Fetch c w a = Unit {0}
 
+-- the bytes of a word are all in the system's space
+pub still : (a k : ℕ) → a % 4 ≡ 0 → in_system a ≡ true → k < 4 → in_system (a + k) ≡ true
+still a k al s lt = search (arith, nat_tests)
+
 pub starts_allow : (i : Image) (t : Tables) → Allows i (StartRule t) false
 starts_allow i t = record { flash = λ c w o h. tt; system = λ c a h al s. λ k lt. ToSystem (still a k al s lt) }
-  where
-    still : (a k : ℕ) → a % 4 ≡ 0 → in_system a ≡ true → k < 4 → in_system (a + k) ≡ true
-    still a k al s lt = search (arith, nat_tests)
 
 pub starts_write_block : (t : Tables) (c : Core) (o : ℕ) → o + 4 ≤ 1024 → StartRule t Write c 4 (t.monitor + o)
 starts_write_block t c o h = λ k lt. ToBlock (omega arith, omega (arith, h, lt))

@@ -14,6 +14,7 @@ use Rattle.monitor.specs.Records.{words_in, slots_of_first, number_of_slots}
 use Rattle.monitor.specs.Layout.{head_at, compartment_size, area_end, initial_word_count}
 use Rattle.monitor.specs.Area.{HasTables}
 use Rattle.monitor_laws.proofs.Tables.{least_of}
+use Rattle.monitor_laws.proofs.Numbers.{product}
 use Rattle.monitor.specs.Area.{region_words, compartment_words, site_words, target_words, init_words, head, area}
 use Rattle.monitor.specs.FromFlash.{records, word_at, region_at, comp_record_at, site_record_at, target_record_at, init_record_at, comp_count, site_count, target_count, lend_count, init_count, sites_offset, targets_offset, lends_offset, inits_offset, tables_behind}
 use Rattle.monitor.specs.MonitorCode.{MonitorCode}
@@ -34,7 +35,7 @@ module _ (bytes : List ℕ) where
       let e : o + 4 * length (x ∷ xs) ≡ o + 4 + 4 * length xs = omega arith in
       (a.0, joined (o + 4) xs ys a.1 (subst (λ n. Reads n ys) e b))
 
-  moved : (o p : ℕ) (ws : List ℕ) → o ≡ p → Reads o ws → Reads p ws
+  pub moved : (o p : ℕ) (ws : List ℕ) → o ≡ p → Reads o ws → Reads p ws
   moved o p ws e h = subst (λ n. Reads n ws) e h
 
   -- words of records, each of m words
@@ -140,9 +141,6 @@ module _ (code : MonitorCode) (i : Image) (room : 4096 + 32 ≤ length i.flash) 
   head_read : Reads bytes 0 (head T)
   head_read =
       (sym (length-records (comp_record_at bytes slots) (8 * slots + 16) (comp_count bytes) 32), (sym (length-records (site_record_at bytes) 12 (site_count bytes) (sites_offset bytes slots)), (sym (length-records (target_record_at bytes) 8 (target_count bytes) (targets_offset bytes slots)), (sym lends_length, (sym (length-records (init_record_at bytes) 12 (init_count bytes) (inits_offset bytes slots)), (refl, (refl, (refl, tt))))))))
-
-  product : (s n : ℕ) → (8 * s + 16) * n ≡ 4 * ((2 * s + 4) * n)
-  product s n = grind arith
 
   at_sites : sites_offset bytes slots ≡ 32 + 4 * length (flat_map compartment_words T.comps)
   at_sites = let l = comps_read.1 in let p = product slots (comp_count bytes) in omega (arith, l, p)

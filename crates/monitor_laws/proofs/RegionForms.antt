@@ -21,7 +21,7 @@ use Rattle.monitor.specs.declared.tables.Tables.{Tables}
 use Rattle.common_laws.specs.Lists.{Each}
 use Rattle.monitor.specs.RegionChecks.{is_data_range, base_of, size_of, taken_out, has_form, eighths_hold_data, holds_data, is_code, is_free, is_data, is_read_only, is_cover, is_slot, are_slots, is_mask, is_compartment}
 use Rattle.monitor.specs.Placed.{IsCode, IsSlot, IsSlotByte, InFlashOf}
-use Rattle.common_laws.proofs.Tests.{both_true as both}
+use Rattle.common_laws.proofs.Tests.{both_true as both, either_true}
 
 -- ---- forms
 
@@ -300,12 +300,8 @@ module _ (i : Image) (t : Tables) (w : Grounds i t) where
   free_number : (n : ℕ) (g : Region) → n < 16 → is_free n g ≡ true → (g.rbar / 2 ^ 4 % 2 ≡ 1) × (g.rbar % 16 ≡ n)
   free_number n g few h = let p = both (nat_eq g.rbar (2 ^ 4 + n)) (nat_eq g.rasr 0) h in let r = eqb-true g.rbar (2 ^ 4 + n) p.0 in (omega (arith, r, few), omega (arith, r, few))
 
-  one_of : (x y : Bool) → (x || y) ≡ true → (x ≡ true) ⊎ (y ≡ true)
-  one_of true y h = inl refl
-  one_of false y h = inr h
-
   slot_is : (n : ℕ) (g : Region) → n < 16 → is_slot i t n g ≡ true → IsSlot i t g × (g.rbar / 2 ^ 4 % 2 ≡ 1) × (g.rbar % 16 ≡ n)
-  slot_is n g few h = ⊎_elim (λ x. let v = free_number n g few x in (free_slot n g x, v.0, v.1)) (λ y. ⊎_elim ram_slot (λ z. ⊎_elim read_only cover (one_of (is_read_only i t n g) (is_cover n g) z)) (one_of (is_data i t n g) (is_read_only i t n g || is_cover n g) y)) (one_of (is_free n g) (is_data i t n g || (is_read_only i t n g || is_cover n g)) h)
+  slot_is n g few h = ⊎_elim (λ x. let v = free_number n g few x in (free_slot n g x, v.0, v.1)) (λ y. ⊎_elim ram_slot (λ z. ⊎_elim read_only cover (either_true (is_read_only i t n g) (is_cover n g) z)) (either_true (is_data i t n g) (is_read_only i t n g || is_cover n g) y)) (either_true (is_free n g) (is_data i t n g || (is_read_only i t n g || is_cover n g)) h)
     where
       ram_slot : is_data i t n g ≡ true → IsSlot i t g × (g.rbar / 2 ^ 4 % 2 ≡ 1) × (g.rbar % 16 ≡ n)
       ram_slot x = let p = both (has_form n (taken_out g) Ram g) (holds_data i t g) x in let v = form_number n (taken_out g) Ram g few p.0 in (data_slot n 0x13060001 Ram g few refl (inl refl) p.0 p.1, v.0, v.1)

@@ -27,6 +27,7 @@ use Rattle.monitor_laws.proofs.Checked.{must_none, and_none, begins_with, NoneFa
 use Rattle.monitor_laws.proofs.RegionForms.{Grounds, comp_is}
 use Rattle.monitor_laws.proofs.Sizes.{IsSize, tables_size_is}
 use Rattle.monitor_laws.proofs.ReadTables.{read_from, has_tables, slot_count, each_count, word_total}
+use Rattle.monitor_laws.proofs.Numbers.{product}
 use Rattle.common_laws.proofs.Tests.{both_true as both}
 
 four_more : (r : ℕ) → (r ≡ 8) ⊎ (r ≡ 16) → (r ≡ 4 + (r - 4)) × (r - 4 ≤ 12)
@@ -142,9 +143,6 @@ module _ (code : MonitorCode) (i : Image) (rules : ObeysRules i) (nf : NoneFails
             from_aligned = ap (λ x. x % 4) e ∙ al;
             in_flash = subst (λ f. IsInside f (n.end - n.at) i.flash_base (length i.flash)) (sym e) (lo, room n.at n.end (sum_by words_in ns) x y lt (sums hi));
           }
-
-  product : (s n : ℕ) → (8 * s + 16) * n ≡ 4 * ((2 * s + 4) * n)
-  product s n = grind arith
 
   pub inits_are : Each (IsInit i) t.inits
   unfolding initial_word_count

@@ -49,7 +49,7 @@ use Rattle.monitor.specs.Reach.{AllBytes, StartKind}
 use Rattle.monitor.specs.MonitorLaw.{IsMemory}
 use Rattle.monitor.specs.Starts.{with_all_words, HasBegun, StartsFrom, Starts}
 use Rattle.monitor_laws.specs.StartUp.{IsReady, ReadyImagesStart}
-use Rattle.monitor_laws.proofs.Off.{core, IsOff, fetched_while_off}
+use Rattle.monitor_laws.proofs.Off.{core, IsOff, page_while_off}
 use Rattle.monitor_laws.proofs.Effects.{ticks_of}
 use Rattle.monitor_laws.proofs.Copies.{last_steps, copying_is_short}
 use Rattle.monitor_laws.proofs.Placement.{block_end_is, writable, stack_end_is}
@@ -128,10 +128,7 @@ module _ (laws : StartLaws) (i : Image) (t : Tables) (r : IsReady i t) where
   page_room = let a = r.area_inside in omega (arith, a)
 
   good_off : (q : ProtectionState) → IsOff false q → IsGood i q
-  good_off q o = record { thread = o.mode; privileged = o.privileged; fetched = λ a lo hi. fetched_while_off q a o.control (below a hi) }
-    where
-      below : (a : ℕ) → a < i.flash_base + 4096 → a < 0x40000000
-      below a h = let f = rules.flash_highest in omega (arith, h, f)
+  good_off q o = record { thread = o.mode; privileged = o.privileged; fetched = λ a lo hi. page_while_off i rules q o.control a hi }
 
   fetched_on : (q : ProtectionState) → q.mpu.control ≡ 5 → q.mpu.regions ≡ regions_for i t t.main_comp (stack_end t) → (a : ℕ) → i.flash_base ≤ a → a < i.flash_base + 4096 → by_mpu q Fetch a ≡ true
   fetched_on q on e a lo hi = page_is_fetched laws.unit i t r.placed page_room t.main_comp (stack_end t) r.placed.main.compartment_in a lo hi q on e

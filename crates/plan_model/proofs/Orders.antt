@@ -1,10 +1,12 @@
 -- What a stable sort leaves is `in_order` of what it was given.
-use Rattle.std.proofs.Common.{◌≡◌, ℕ, zero, suc, ◌≤◌, ◌<◌, Bool, true, false, cond, not, ◌&&◌, List, [], ◌∷◌, length, get_or, refl, sym, ap, subst, ◌∙◌, arith}
+use Rattle.std.proofs.Common.{◌≡◌, ℕ, zero, suc, ◌≤◌, ◌<◌, Bool, true, false, cond, not, ◌&&◌, ◌||◌, List, [], ◌∷◌, length, get_or, refl, sym, ap, subst, ◌∙◌, arith}
 use Rattle.std.specs.Prelude.{filter}
 use Rattle.std.specs.Cmp.{IsStrictWeakOrder}
+use Rattle.std.specs.List.{list_any}
 use Rattle.std.specs.List.Sorted.{IsSortedBy, IsStableBy, ties}
 use Rattle.std.proofs.lemmas.List.Sorted.{sorted_far}
 use Rattle.plan_model.specs.Lists.{placed, in_order}
+use Rattle.common_laws.proofs.Tests.{turned}
 
 -- ---- filters, by the test of the first item
 
@@ -152,3 +154,17 @@ module _ {X : Type 0} (lt : X → X → Bool) (weak : IsStrictWeakOrder lt) wher
   pub sorted_is_in_order : (xs ys : List X) → IsSortedBy lt ys → IsStableBy lt xs ys → ys ≡ in_order lt xs
   sorted_is_in_order xs ys sorted stable =
       only ys (in_order lt xs) (rising_of lt ys (sorted_far lt weak ys sorted)) (in_order_rises xs) (λ x. stable x ∙ sym (in_order_keeps x xs))
+
+-- ---- an order keeps what some item passes
+
+any_placed : {X : Type 0} (p : X → Bool) (lt : X → X → Bool) (x : X) (ys : List X) → list_any p (placed lt x ys) ≡ (p x || list_any p ys)
+any_placed p lt x [] = refl
+any_placed p lt x (y ∷ ys) = by (lt y x) (any_placed p lt x ys)
+  where
+    by : (b : Bool) → list_any p (placed lt x ys) ≡ (p x || list_any p ys) → list_any p (cond b (y ∷ placed lt x ys) (x ∷ y ∷ ys)) ≡ (p x || (p y || list_any p ys))
+    by true ih = ap (λ b. p y || b) ih ∙ turned (p y) (p x) (list_any p ys)
+    by false ih = refl
+
+pub any_in_order : {X : Type 0} (p : X → Bool) (lt : X → X → Bool) (xs : List X) → list_any p (in_order lt xs) ≡ list_any p xs
+any_in_order p lt [] = refl
+any_in_order p lt (x ∷ xs) = any_placed p lt x (in_order lt xs) ∙ ap (λ b. p x || b) (any_in_order p lt xs)

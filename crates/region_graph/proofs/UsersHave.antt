@@ -1,23 +1,11 @@
 -- A number is in the union of two lists where it is in one of them.
-use Rattle.std.proofs.Common.{◌≡◌, ℕ, Bool, true, false, not, ◌&&◌, ◌||◌, List, [], ◌∷◌, ◌++◌, cond, nat_eq, nat_lt, refl, sym, ap, ◌∙◌}
+use Rattle.std.proofs.Common.{◌≡◌, ℕ, Bool, true, false, not, ◌&&◌, ◌||◌, List, [], ◌∷◌, ◌++◌, nat_eq, nat_lt, refl, sym, ap, ◌∙◌}
 use Rattle.std.specs.List.{list_any}
 use Rattle.std.proofs.lemmas.Bool.{eqb-true}
 use Rattle.std.proofs.lemmas.List.Folds.{list_any-append}
-use Rattle.plan_model.specs.Lists.{has, without, placed, in_order, union}
-use Rattle.common_laws.proofs.Tests.{turned}
+use Rattle.plan_model.specs.Lists.{has, without, union}
+use Rattle.plan_model.proofs.Orders.{any_in_order}
 use Rattle.common_laws.proofs.Lists.{any_kept as any_filtered}
-
-any_placed : (p : ℕ → Bool) (lt : ℕ → ℕ → Bool) (x : ℕ) (ys : List ℕ) → list_any p (placed lt x ys) ≡ (p x || list_any p ys)
-any_placed p lt x [] = refl
-any_placed p lt x (y ∷ ys) = by (lt y x) (any_placed p lt x ys)
-  where
-    by : (b : Bool) → list_any p (placed lt x ys) ≡ (p x || list_any p ys) → list_any p (cond b (y ∷ placed lt x ys) (x ∷ y ∷ ys)) ≡ (p x || (p y || list_any p ys))
-    by true ih = ap (λ b. p y || b) ih ∙ turned (p y) (p x) (list_any p ys)
-    by false ih = refl
-
-any_in_order : (p : ℕ → Bool) (lt : ℕ → ℕ → Bool) (xs : List ℕ) → list_any p (in_order lt xs) ≡ list_any p xs
-any_in_order p lt [] = refl
-any_in_order p lt (x ∷ xs) = any_placed p lt x (in_order lt xs) ∙ ap (λ b. p x || b) (any_in_order p lt xs)
 
 others_have : (ns ms : List ℕ) (n : ℕ) → (has ns n || list_any (λ m. not (has ns m) && nat_eq m n) ms) ≡ (has ns n || has ms n)
 others_have ns [] n = refl

@@ -13,6 +13,7 @@ use Rattle.ir_model.specs.State.{Frame, entered, zero_cells, zero_local, frame_o
 use Rattle.ir_model.specs.Step.{with_register}
 use Rattle.ir_laws.specs.Moves.{Where, wheres}
 use Rattle.ir_laws.specs.States.{Alike}
+use Rattle.ir_laws.proofs.Values.{entered_length}
 use Rattle.monitor.specs.Setting.{Setting}
 use Rattle.monitor.specs.Threads.{stack_end}
 use Rattle.thread_runs.specs.Areas.{Area, Laid, Has, IsAt, Inside, Off, Spot}
@@ -182,15 +183,6 @@ module _ (k : Build) (places : ℕ → ℕ) where
   entered_right (v ∷ vs) (t ∷ ts) zero l = absurd (omega arith)
   entered_right (v ∷ vs) (t ∷ ts) (suc i) l = entered_right vs ts i (omega arith)
 
-  pub length_entered : (vs : List Value) (ts : List PlainType) → length (entered vs ts) ≡ length ts
-  length_entered vs [] = by vs
-    where
-      by : (vs : List Value) → length (entered vs []) ≡ 0
-      by [] = refl
-      by (v ∷ vs) = refl
-  length_entered [] (t ∷ ts) = ap suc (length_entered [] ts)
-  length_entered (v ∷ vs) (t ∷ ts) = ap suc (length_entered vs ts)
-
   -- a new frame
   pub own_has : (f o n : ℕ) (vs : List Value) (l : ℕ) (ram : List ℕ) → GoodShape k f → length vs ≡ n → n ≤ length (func k f).regs →
       ((i : ℕ) → i < n → read 4 (o + 4 * i) ram ≡ cut 4 (get_or (words_of k places vs) i 0)) → ((i : ℕ) → n ≤ i → i < (words_at k f) → read 4 (o + 4 * i) ram ≡ 0) → read 4 (o + 4 * (words_at k f)) ram ≡ cut 4 l →
@@ -199,7 +191,7 @@ module _ (k : Build) (places : ℕ → ℕ) where
       let ts : List PlainType = (func k f).regs in
       let w : ℕ = (words_at k f) in
       let ob = sh.registers in
-      let lr : length (words_of k places (entered vs ts)) ≡ length ts = length-map (entered vs ts) (word_of k places) ∙ length_entered vs ts in
+      let lr : length (words_of k places (entered vs ts)) ≡ length ts = length-map (entered vs ts) (word_of k places) ∙ entered_length vs ts in
       let regs : Has ram (slots o (length ts)) (words_of k places (entered vs ts)) = has_slots (length ts) o (words_of k places (entered vs ts)) ram lr
       (λ i u. ⊎_elim
       (λ y. args i y ∙ ap (λ (v : ℕ). cut 4 v) (sym (entered_left vs ts i (omega arith) u)))

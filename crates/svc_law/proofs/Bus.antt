@@ -48,8 +48,10 @@ use Rattle.monitor_laws.proofs.Appended.{followed_by, code_followed}
 use Rattle.monitor_laws.proofs.Opened.{FrameIsOpen}
 use Rattle.monitor_laws.proofs.HandlerRule.{HandlerRule}
 use Rattle.monitor_laws.proofs.SvcNumber.{Called, numbered as up_to_number, numbered_within}
-use Rattle.svc_law.proofs.Calling.{Calling, IsGood, off, is_off, halted, same, top_word, top_word_below}
+use Rattle.svc_law.proofs.Calling.{Calling, off, is_off, halted, same, top_word, top_word_below}
 use Rattle.svc_law.proofs.Numbers.{reach, may, W, Q, at_first}
+use Rattle.handler_runs.proofs.Mode.{IsGood}
+use Rattle.handler_runs.proofs.Returned.{is_before}
 
 -- a load outside the system's part of the memory map goes to the bus
 to_bus : (q : ProtectionState) (w a : ℕ) → a % w ≡ 0 → a < 0xE0000000 → by_mpu q Read a ≡ true → verdict by_mpu q Read w a ≡ ToBus
@@ -68,9 +70,6 @@ further i t most from v w l h e = record {
   each = λ k lt. ⊎_elim (λ x. l.each k x) (λ x. subst (λ u. Handles i t u) (sym (ap (λ n. run (step i) n from) x ∙ l.holds)) h) (is_before k l.count lt);
   holds = run-add (step i) l.count 1 from ∙ ap (λ u. step i u) l.holds ∙ e;
 }
-  where
-    is_before : (a n : ℕ) → a < n + 1 → (a < n) ⊎ (a ≡ n)
-    is_before a n h = grind (arith, h)
 
 -- a step without accesses
 calm_handles : (i : Image) (t : Tables) (v w : State) → v.protection.handler ≡ true → turn by_mpu i v ≡ calm w → Handles i t v

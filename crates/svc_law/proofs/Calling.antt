@@ -5,11 +5,10 @@ use Rattle.std.specs.Int.{bit_at}
 use Rattle.std.proofs.lemmas.Bool.{ltb-true, eqb-true, leb-true, lt-ltb, eq-eqb, ne_eqb, le-leb}
 use Rattle.words.specs.Arithmetic.{subtract}
 use Rattle.words.specs.Bytes.{read, write}
-use Rattle.mpu_model.specs.declared.region.Access.TheVariants.{Fetch}
 use Rattle.device_model.specs.declared.image.Image.{Image}
 use Rattle.device_model.specs.Rules.{block_size}
 use Rattle.armv7m.specs.declared.state.ProtectionState.{ProtectionState}
-use Rattle.armv7m.specs.State.{State, by_mpu}
+use Rattle.armv7m.specs.State.{State}
 use Rattle.gate_steps.specs.Core.{Core}
 use Rattle.gate_steps.specs.Effect.{Outcome as GateOutcome, Halted, AtReturn}
 use Rattle.gate_steps.proofs.Gives.{word_same, word_fits}
@@ -25,7 +24,7 @@ use Rattle.monitor.specs.Invariant.{IsTop, InvariantHolds}
 use Rattle.monitor.specs.Outcomes.{Outcome, Halts, Resumes, stacked, is_open, status_place}
 use Rattle.monitor.specs.SvcOutcome.{word, new_loan, may_lend, lend, unlend_to, by_number, svc_outcome}
 use Rattle.monitor.specs.Constants.{Constants, constants_with}
-use Rattle.monitor_laws.proofs.Off.{core, with_unit, IsOff, fetched_while_off}
+use Rattle.monitor_laws.proofs.Off.{core, with_unit, IsOff}
 use Rattle.monitor_laws.proofs.Fetched.{UnitLaws, page_is_fetched}
 use Rattle.monitor_laws.proofs.Opened.{FrameIsOpen}
 use Rattle.monitor_laws.proofs.HandlerWords.{InStack, Changed, changed_write}
@@ -34,13 +33,9 @@ use Rattle.monitor_laws.proofs.Lend.{MayLend, with_loan}
 use Rattle.handler_runs.proofs.Frames.{stacked_is}
 use Rattle.handler_runs.proofs.Blocks.{saved_stay, loans_stay}
 use Rattle.handler_runs.proofs.Returned.{LeavesRam, Resuming, Answers}
+use Rattle.handler_runs.proofs.Mode.{IsGood, good_while_off}
 use Rattle.svc_law.proofs.Targets.{SiteFits}
 use Rattle.common_laws.proofs.Tests.{both_true as both, true_both}
-
--- in Handler mode, and the page's code may be fetched
-pub record IsGood (i : Image) (q : ProtectionState) : Type 0 where
-  pub mode : q.handler ≡ true
-  pub fetched : (a : ℕ) → i.flash_base ≤ a → a < i.flash_base + 4096 → by_mpu q Fetch a ≡ true
 
 -- what is known behind the entry, from a thread's state s with block m: the frame at psp, and RAM
 pub record Calling (i : Image) (t : Tables) (s : State) (m : Block) (psp o : ℕ) (memory : List ℕ) : Type 0 where
@@ -81,10 +76,7 @@ module _ (i : Image) (t : Tables) (stub : ℕ) (s : State) (m : Block) (psp o : 
   -- ---- which code may be fetched
 
   pub good : (q : ProtectionState) → IsOff true q → IsGood i q
-  good q x = record { mode = x.mode; fetched = λ a lo hi. fetched_while_off q a x.control (below a hi) }
-    where
-      below : (a : ℕ) → a < i.flash_base + 4096 → a < 0x40000000
-      below a h = let f = c.placed.rules.flash_highest in omega (arith, h, f)
+  good q x = good_while_off i c.placed.rules q x
 
   pub good_on : UnitLaws → (q : ProtectionState) (cur top : ℕ) → cur < length t.comps → q.handler ≡ true → q.mpu.control ≡ 5 → q.mpu.regions ≡ regions_for i t cur top → IsGood i q
   good_on laws q cur top lt h e r = record { mode = h; fetched = λ a lo hi. page_is_fetched laws i t c.placed c.room cur top lt a lo hi q e r }

@@ -54,14 +54,14 @@ use Rattle.monitor_laws.proofs.SoundImages.{sound_images_are_placed}
 use Rattle.monitor_laws.proofs.SvcNumber.{Called}
 use Rattle.monitor_laws.proofs.Tables.{slots_are}
 use Rattle.svc_law.specs.SvcLaw.{SvcLaw}
-use Rattle.handler_runs.proofs.Mode.{mode_kept}
+use Rattle.handler_runs.proofs.Mode.{mode_kept, IsGood}
 use Rattle.svc_law.proofs.Targets.{SiteFits, sites_fit}
 use Rattle.svc_law.proofs.SvcEncoded.{svc_low}
 use Rattle.svc_law.proofs.SvcCode.{offset, room, has_svc, vector_is, offset_even}
 use Rattle.handler_runs.proofs.Entry as entry
 use Rattle.handler_runs.proofs.Entry.{EntryLaws}
 use Rattle.handler_runs.proofs.Returned.{ReturnLaws, concluded}
-use Rattle.svc_law.proofs.Calling.{Calling, IsGood, good_entry, outcome_open, outcome_shut}
+use Rattle.svc_law.proofs.Calling.{Calling, good_entry, outcome_open, outcome_shut}
 use Rattle.svc_law.proofs.Numbers as by
 use Rattle.svc_law.proofs.Bus as bus
 use Rattle.common_laws.proofs.Lists.{each_at}

@@ -29,8 +29,9 @@ use Rattle.monitor_laws.proofs.Lend.{two_within}
 use Rattle.monitor_laws.proofs.Leave.{leave_within, leave_last_within, with_regions}
 use Rattle.svc_law.proofs.Enter.{enter_within, Asks}
 use Rattle.svc_law.proofs.Targets.{target_is}
-use Rattle.svc_law.proofs.Calling.{Calling, IsGood, A, off, is_off, good, good_on, good_again, halted, frame, top_below, top_word, top_word_below, outcome_open, outcome_shut, unlend_halts, unlend_goes, address, number, live, address_is, number_is, lend_halts, lend_goes}
+use Rattle.svc_law.proofs.Calling.{Calling, A, off, is_off, good, good_on, good_again, halted, frame, top_below, top_word, top_word_below, outcome_open, outcome_shut, unlend_halts, unlend_goes, address, number, live, address_is, number_is, lend_halts, lend_goes}
 use Rattle.svc_law.proofs.Crossing.{first_regions, saved_is, back_frame, here_frame, leaving, leave_goes, no_site_halts, no_target_halts, no_stack_halts, enter_goes}
+use Rattle.handler_runs.proofs.Mode.{IsGood}
 
 module _ (i : Image) (t : Tables) (stub : ℕ) (s : State) (m : Block) (psp o : ℕ) (memory : List ℕ) (c : Calling i t s m psp o memory) where
   abbrev k : Constants
