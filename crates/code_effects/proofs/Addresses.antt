@@ -26,7 +26,7 @@ use Rattle.code_effects.specs.Addresses.{named_address, CanName, addr_steps, Add
 use Rattle.code_effects.proofs.Moves.{number_by}
 use Rattle.code_effects.proofs.Joined.{landed, leads_by}
 use Rattle.code_effects.proofs.Registers.{holds_nothing}
-use Rattle.code_model.proofs.Addresses.{scale_small}
+use Rattle.code_model.proofs.Scales.{scale_small}
 
 -- locals begin at whole words
 starts_are_words : (from : ℕ) (ls : List Shape) (l : ℕ) → from % 4 ≡ 0 → get_or (starts_from from ls) l 0 % 4 ≡ 0

@@ -11,4 +11,4 @@ pub mod Labels
 pub mod Rows
 pub mod Members
 pub mod Lends
-pub mod Addresses
+pub mod Scales

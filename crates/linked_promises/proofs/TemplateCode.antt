@@ -18,7 +18,7 @@ use Rattle.code_model.specs.Comparisons.{condition, cmp_code}
 use Rattle.code_model.specs.Addresses.{scale_of, elem_code, field_code, load_at, store_at, load_code, store_code}
 use Rattle.code_model.specs.Calls.{args_code, callee_code}
 use Rattle.code_model.specs.Entry.{sub_by, sub_code, add_by, add_code, stores_code, frame_code, lend_code, enter_code, unlend_code, result_code, leave_code}
-use Rattle.code_model.proofs.Addresses.{scale_small}
+use Rattle.code_model.proofs.Scales.{scale_small}
 
 -- ---- single instructions
 
