@@ -46,7 +46,7 @@ use Rattle.mpu_model.specs.Protection.{deciding}
 use Rattle.linked_images.specs.Planned.{IsPlanned, plan, planned_tables, planned_image}
 use Rattle.linked_promises.specs.Parts.{WindowsAreOpen}
 use Rattle.linked_promises.proofs.Bearing.{Bears, Lets, Harmless, Borne, here, there, Written, this, behind, written_behind, borne_holds, written_stores}
-use Rattle.linked_promises.proofs.Covers.{any_in_order, stays_all}
+use Rattle.linked_promises.proofs.Covers.{stays_all}
 use Rattle.linked_promises.proofs.CoverParts.{IsPart, AreParts, parts_all, each_in_order, each_map}
 use Rattle.linked_promises.proofs.Compartments.{in_compartment}
 use Rattle.linked_promises.proofs.Reach.{one_of}
@@ -54,6 +54,7 @@ use Rattle.linked_promises.proofs.Loans.{record_of}
 use Rattle.common_laws.proofs.Tests.{true_both as both}
 use Rattle.common_laws.proofs.Lists.{any_kept as any_filtered}
 use Rattle.plan_model.proofs.Numbers.{one_passes}
+use Rattle.plan_model.proofs.Orders.{any_in_order}
 
 -- ---- needs
 

@@ -2,7 +2,7 @@
 use Rattle.std.specs.Prelude.{if◌then◌else◌, slice_index}
 use Rattle.std.proofs.Common.{◌≡◌, ℕ, zero, suc, ◌+◌, ◌-◌, ◌*◌, ◌/◌, ◌^◌, ◌<◌, ◌≤◌, ◌⊎◌, inl, inr, ⊎_elim, Bool, true, false, ◌&&◌, List, ◌∷◌, length, map, drop, nat_eq, nat_lt, Option, Some, None, refl, sym, ap, ◌∙◌, subst, arith, length-drop}
 use Rattle.std.proofs.lemmas.List.{length-map}
-use Rattle.std.proofs.lemmas.Bool.{ltb-true, eqb-true, lt-ltb, eq-eqb}
+use Rattle.std.proofs.lemmas.Bool.{ltb-true, eqb-true, lt-ltb, eq-eqb, le-ltb}
 use Rattle.words.specs.Bytes.{read, write, write_all, cut}
 use Rattle.words.proofs.Bytes.{read_all, read_below_all, read_above_all, length-write_all, cut_small, cut_four}
 use Rattle.mpu_model.specs.Laws.{kept_region}
@@ -247,7 +247,7 @@ module _ (i : Image) (t : Tables) (stub : ℕ) (s : State) (m : Block) (psp o : 
         (halted i t stub s m psp o memory c 5 d r)
       where
         not_below : rounded t psp ≡ t.stack.base → nat_lt t.stack.base (rounded t psp) ≡ false
-        not_below z = Rattle.svc_law.proofs.Calling.not_lt t.stack.base (rounded t psp) (omega (arith, z))
+        not_below z = le-ltb t.stack.base (rounded t psp) (omega (arith, z))
 
     -- ---- the callee
 

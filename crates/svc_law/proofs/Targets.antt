@@ -1,7 +1,7 @@
 -- A site's targets: what the checks of an image tell of sites, where flash has their targets, and the one that enter chooses.
 use Rattle.std.proofs.Common.{◌≡◌, ℕ, zero, suc, ◌+◌, ◌-◌, ◌*◌, ◌<◌, ◌≤◌, Bool, true, false, ◌&&◌, List, [], ◌∷◌, ◌++◌, length, take, drop, get_or, nat_eq, nat_le, Option, Some, None, refl, sym, ap, ap₂, ◌∙◌, subst, arith}
 use Rattle.std.specs.Prelude.{flat_map}
-use Rattle.std.proofs.lemmas.Bool.{leb-true}
+use Rattle.std.proofs.lemmas.Bool.{leb-true, eqb-true}
 use Rattle.words.specs.Bytes.{read}
 use Rattle.device_model.specs.declared.image.Image.{Image}
 use Rattle.mem_bus.specs.Places.{choose}
@@ -107,7 +107,7 @@ last_is P e (x ∷ xs) g ps h = by (λ l. last_is P e xs g ps.1 l) (last_with_en
   where
     by : (last_with_entry e xs ≡ Some g → (g.entry ≡ e) × P g) → (o : Option TargetRecord) → last_with_entry e xs ≡ o → (b : Bool) → nat_eq x.entry e ≡ b → or_this o b x ≡ Some g → (g.entry ≡ e) × P g
     by ih (Some y) l b z i = ih (l ∙ i)
-    by ih None l true z i = let s : x ≡ g = cc in subst (λ g. (g.entry ≡ e) × P g) s (Rattle.monitor_laws.proofs.Opened.eq_true x.entry e z, ps.0)
+    by ih None l true z i = let s : x ≡ g = cc in subst (λ g. (g.entry ≡ e) × P g) s (eqb-true x.entry e z, ps.0)
     by ih None l false z i = absurd (let y : ⊥ = cc in y)
 
 pub target_is : (t : Tables) (s : SiteRecord) (e : ℕ) (g : TargetRecord) → Each (λ (g : TargetRecord). IsEntry t g.entry g.compartment) t.targets → last_with_entry e (targets_of t s) ≡ Some g → (g.entry ≡ e) × IsEntry t g.entry g.compartment
