@@ -24,7 +24,7 @@ CLAIM = "aces_cli/src/lib.rt", "aces"
 BEYOND = "-- Beyond the program's claim: only laws, proofs and functions inside the tool cite this file.\n"
 GHOST_USE = re.compile(r"^(?:ghost )?use Rattle\.(\w+)\.specs\.(declared\.)?([\w.]+?)(?:\.\{([^}]*)\}| as (\w+));?$", re.M)
 RUST_USE = re.compile(r"^(?:pub )?use (\w+)::([^;]*);", re.M)
-RUST_BLOCK = re.compile(r"^pub (?:struct|enum|trait) (\w+)(?:[^;{]*;|.*?^\})|^pub fn (aces)\b.*?^(?=\{)", re.M | re.S)
+RUST_BLOCK = re.compile(r"^pub (?:struct|enum|trait) (\w+)(?:[^;{]*;|.*?^\})|^pub fn (aces)\b.*?^(?=\{)|^pub const (\w+):.*?;$", re.M | re.S)
 HEAD = r"^ *(?:(?:abbrev|unfoldable) pub|infixr \d|pub record|pub (?=data)|(?:abbrev )?(?=mutual|module))\b"
 BLOCK = re.compile(HEAD + r" ?(\S+)(?: (\S+))?")
 INNER_NAME = re.compile(r"^ +(?:pub )?(?:data |record )?(\S+) :")
@@ -54,7 +54,7 @@ def text_of(path):
 def blocks(path):
     """The definitions of a file by their names, and by those of their variants. Modules, which have no name, are left out."""
     if path.endswith(".rt"):
-        return {match[1] or match[2]: Block(match[0].splitlines()) for match in RUST_BLOCK.finditer(text_of(path))}
+        return {match[1] or match[2] or match[3]: Block(match[0].splitlines()) for match in RUST_BLOCK.finditer(text_of(path))}
     found, modules, block, many = {}, [], None, None
     for line in text_of(path).splitlines():
         head, depth = BLOCK.match(line), len(line) - len(line.lstrip())
@@ -88,6 +88,8 @@ def imports(path):
     for crate, declared, module, names, alias in GHOST_USE.findall(text_of(path)):
         kind = re.sub(r"\.(TheVariants|TheOpen)$", "", module).split(".")[-1] if declared else None
         file = types(crate).get(kind) if declared else f"{crate}/specs/{module}.antt"
+        if kind == "TheConstants":
+            kind, file = None, f"{crate}/src/{module.removesuffix('TheConstants').replace('.', '/').rstrip('/') or 'lib'}.rt"
         if file and os.path.exists(os.path.join(CRATES, file)):
             for name, _, other in [word.partition(" as ") for word in names.split(", ")] if names else [("", "", alias)]:
                 found[(other or name).replace("◌", "")] = file, kind or name.replace("◌", "")
@@ -132,7 +134,7 @@ def table(found, with_names):
         if paths:
             print(textwrap.fill(f"{crate} {sum(count[path] for path in paths)}: {shown}", 130, subsequent_indent="    "))
     rust = sum(count[path] for path in found if path.endswith(".rt"))
-    print(f"all {sum(count.values())}: {sum(count.values()) - rust} of definitions, {rust} of Rust types, traits and the call itself")
+    print(f"all {sum(count.values())}: {sum(count.values()) - rust} of definitions, {rust} of Rust types, traits, constants and the call itself")
 
 
 def beyond(found):
