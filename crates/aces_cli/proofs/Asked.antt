@@ -5,7 +5,7 @@ use Rattle.outside.specs.Calls.{Call, Size, Read, Create, Append}
 use Rattle.outside.specs.Reading.{Reads}
 use Rattle.aces_words.specs.Requests.{Request, Origin, origins, target}
 use Rattle.aces_cli.specs.Known.{Held, IsNamed, IsCallOf, WasRead, WasTooLarge}
-use Rattle.aces_cli.specs.Did.{IsKnown, IsKnownLarge, Writes}
+use Rattle.aces_cli.specs.CarriesOut.{IsKnown, IsKnownLarge, Writes}
 
 -- what some calls tell is told by them with further calls behind them
 read_before : (calls later : List Call) (s : Origin) (bytes : List ℕ) → WasRead calls s bytes → WasRead (calls ++ later) s bytes

@@ -5,7 +5,7 @@ use Rattle.outside.specs.declared.reading.ReadRefusal.TheVariants.{TooLong, Fail
 use Rattle.outside.specs.Calls.{Call}
 use Rattle.outside.specs.Reading.{ReadsWhole, AsksSize}
 use Rattle.aces_cli.specs.Known.{Held}
-use Rattle.aces_cli.specs.Did.{IsKnown, IsKnownLarge}
+use Rattle.aces_cli.specs.CarriesOut.{IsKnown, IsKnownLarge}
 
 -- calls that read it whole and no others
 pub known_alone : (told : Bool) (held : Held) (calls : List Call) (name : List ℕ) (limit : ℕ) (bytes : List ℕ) → ReadsWhole name limit calls bytes

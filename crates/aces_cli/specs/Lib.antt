@@ -5,4 +5,4 @@ pub mod Effects
 pub mod Loads
 pub mod Counts
 pub mod Complete
-pub mod Did
+pub mod CarriesOut

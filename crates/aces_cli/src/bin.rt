@@ -2,7 +2,7 @@
 
 ghost use Rattle.aces_words.specs.Requests.{Bin};
 ghost use Rattle.aces_reports.specs.Sinks.{SinkState};
-ghost use Rattle.aces_cli.specs.Did.{Did};
+ghost use Rattle.aces_cli.specs.CarriesOut.{CarriesOut};
 
 use crate::loading::{image_of, load};
 use crate::writing::write;
@@ -17,7 +17,7 @@ pub(crate) fn bin<'a, F: Files>(
     file: &'a str,
     files: &mut F,
 ) -> Result<Done, Failure<'a>>
-    ensures { (out : SinkState) → Did F.Files files.old files.new (Bin image.now file.now) out out result }
+    ensures { (out : SinkState) → CarriesOut F.Files files.old files.new (Bin image.now file.now) out out result }
 {
     let bytes = load(alloc, files, image)?;
     let image = image_of(alloc, image, bytes.as_slice())?;

@@ -8,7 +8,7 @@ ghost use Rattle.ir_model.specs.Plain as plain;
 ghost use Rattle.aces_words.specs.Requests.{Check};
 ghost use Rattle.aces_cli.specs.Counts as counts;
 ghost use Rattle.aces_reports.specs.Sinks.{sink};
-ghost use Rattle.aces_cli.specs.Did.{Did};
+ghost use Rattle.aces_cli.specs.CarriesOut.{CarriesOut};
 ghost use Rattle.ir_model.specs.TextLimits.{function_limit};
 
 use crate::loading::{firmware_of, load_firmware};
@@ -26,7 +26,7 @@ pub(crate) fn check<'a, F: Files, O: Sink>(
     files: &mut F,
     out: &mut O,
 ) -> Result<Done, Failure<'a>>
-    ensures { Did F.Files files.old files.new (Check firmware.now) (sink O.Sink out.old) (sink O.Sink out.new) result }
+    ensures { CarriesOut F.Files files.old files.new (Check firmware.now) (sink O.Sink out.old) (sink O.Sink out.new) result }
 {
     let bytes = load_firmware(alloc, files, firmware)?;
     let checked = firmware_of(alloc, firmware, bytes.as_slice())?;

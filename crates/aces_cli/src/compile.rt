@@ -9,7 +9,7 @@ ghost use Rattle.aces_cli.specs.Answer.{CompileAnswer, done};
 ghost use Rattle.aces_cli.specs.Compiled.{IsImageText};
 ghost use Rattle.aces_cli.specs.Loads.{IsRefusal};
 ghost use Rattle.aces_reports.specs.Sinks.{SinkState};
-ghost use Rattle.aces_cli.specs.Did.{Did};
+ghost use Rattle.aces_cli.specs.CarriesOut.{CarriesOut};
 
 use crate::failure::planning_failure;
 use crate::loading::{board_of, firmware_of, load, load_firmware};
@@ -31,7 +31,7 @@ pub(crate) fn compile<'a, F: Files>(
     image: &'a str,
     files: &mut F,
 ) -> Result<Done, Failure<'a>>
-    ensures { (out : SinkState) → Did F.Files files.old files.new (Compile firmware.now board.now policy image.now) out out result }
+    ensures { (out : SinkState) → CarriesOut F.Files files.old files.new (Compile firmware.now board.now policy image.now) out out result }
 {
     let bytes = load_firmware(alloc, files, firmware)?;
     let text = load(alloc, files, board)?;

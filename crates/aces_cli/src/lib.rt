@@ -19,7 +19,7 @@ ghost use Rattle.aces_words.specs.Commands.{request_of};
 ghost use Rattle.aces_cli.specs.Known.{Holds, Exceeds};
 ghost use Rattle.aces_cli.specs.Complete.{NoneFailed, HasFiles, IsGood, IsDoneBy};
 ghost use Rattle.aces_reports.specs.Sinks.{sink};
-ghost use Rattle.aces_cli.specs.Did.{Did};
+ghost use Rattle.aces_cli.specs.CarriesOut.{CarriesOut};
 ghost use Rattle.aces_cli.specs.Effects.{world, IsPlain, IsAnswered, IsPartly, IsByCalls, TellsUnread, TellsUnwritten, TellsUnprinted, TellsOutOfMemory};
 
 use aces_reports::{Done, Failure, report, say};
@@ -124,7 +124,7 @@ fn perform<'a, F: Files, O: Sink>(
     files: &mut F,
     out: &mut O,
 ) -> Result<Done, Failure<'a>>
-    ensures { Did F.Files files.old files.new (request_of command.entry) (sink O.Sink out.old) (sink O.Sink out.new) result }
+    ensures { CarriesOut F.Files files.old files.new (request_of command.entry) (sink O.Sink out.old) (sink O.Sink out.new) result }
 {
     match command {
         Command::Run { image, tape, steps } => run::run(alloc, image, tape, steps, files, out),

@@ -5,7 +5,7 @@ ghost use Rattle.aces_words.specs.Requests.{Listing, firmware_limit};
 ghost use Rattle.aces_cli.specs.Answer.{ListAnswer, done};
 ghost use Rattle.aces_cli.specs.Loads.{IsRefusal};
 ghost use Rattle.aces_reports.specs.Sinks.{sink};
-ghost use Rattle.aces_cli.specs.Did.{Did};
+ghost use Rattle.aces_cli.specs.CarriesOut.{CarriesOut};
 
 use crate::failure::planning_failure;
 use crate::loading::{board_of, firmware_of, load, load_firmware};
@@ -24,7 +24,7 @@ pub(crate) fn list<'a, F: Files, O: Sink>(
     files: &mut F,
     out: &mut O,
 ) -> Result<Done, Failure<'a>>
-    ensures { Did F.Files files.old files.new (Listing firmware.now board.now policy) (sink O.Sink out.old) (sink O.Sink out.new) result }
+    ensures { CarriesOut F.Files files.old files.new (Listing firmware.now board.now policy) (sink O.Sink out.old) (sink O.Sink out.new) result }
 {
     let bytes = load_firmware(alloc, files, firmware)?;
     let text = load(alloc, files, board)?;

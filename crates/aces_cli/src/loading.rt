@@ -7,7 +7,7 @@ ghost use Rattle.device_model.specs.Tape as tapes;
 ghost use Rattle.outside.specs.Calls.{Call, Calls};
 ghost use Rattle.outside.specs.Reading.{Reads};
 ghost use Rattle.aces_words.specs.Requests.{file_origin, firmware_origin, file_limit, firmware_limit};
-ghost use Rattle.aces_cli.specs.Did.{IsKnown, IsKnownLarge};
+ghost use Rattle.aces_cli.specs.CarriesOut.{IsKnown, IsKnownLarge};
 ghost use Rattle.plan_model.specs.Boards.{IsBoard};
 ghost use Rattle.board_text.specs.Reading as boards;
 ghost use Rattle.aces_cli.specs.Answer.{IsNoImage, IsNoTape, IsNoFirmware, IsFirmware, IsNoBoard};

@@ -7,7 +7,7 @@ ghost use Rattle.aces_cli.specs.Answer.{RunAnswer};
 ghost use Rattle.machine_output.specs.Runs.{end_status};
 ghost use Rattle.aces_reports.specs.Sinks.{sink};
 ghost use Rattle.aces_reports.specs.Ends.{status_of};
-ghost use Rattle.aces_cli.specs.Did.{Did};
+ghost use Rattle.aces_cli.specs.CarriesOut.{CarriesOut};
 ghost use Rattle.aces_cli.specs.Effects.{Does};
 
 use crate::loading::{image_of, load, tape_of};
@@ -30,7 +30,7 @@ pub(crate) fn run<'a, F: Files, O: Sink>(
     files: &mut F,
     out: &mut O,
 ) -> Result<Done, Failure<'a>>
-    ensures { Did F.Files files.old files.new (Run image.now tape.now steps) (sink O.Sink out.old) (sink O.Sink out.new) result }
+    ensures { CarriesOut F.Files files.old files.new (Run image.now tape.now steps) (sink O.Sink out.old) (sink O.Sink out.new) result }
 {
     let bytes = load(alloc, files, image)?;
     let text = load(alloc, files, tape)?;

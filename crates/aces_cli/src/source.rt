@@ -10,7 +10,7 @@ ghost use Rattle.aces_cli.specs.Known.{Held};
 ghost use Rattle.aces_cli.specs.Answer.{SourceAnswer};
 ghost use Rattle.aces_reports.specs.Sinks.{sink};
 ghost use Rattle.aces_reports.specs.Ends.{status_of};
-ghost use Rattle.aces_cli.specs.Did.{Did};
+ghost use Rattle.aces_cli.specs.CarriesOut.{CarriesOut};
 ghost use Rattle.aces_cli.specs.Effects.{Does};
 
 use crate::loading::{firmware_of, load, load_firmware, tape_of};
@@ -37,7 +37,7 @@ pub(crate) fn source<'a, F: Files, O: Sink>(
     files: &mut F,
     out: &mut O,
 ) -> Result<Done, Failure<'a>>
-    ensures { Did F.Files files.old files.new (Source firmware.now policy tape.now steps) (sink O.Sink out.old) (sink O.Sink out.new) result }
+    ensures { CarriesOut F.Files files.old files.new (Source firmware.now policy tape.now steps) (sink O.Sink out.old) (sink O.Sink out.new) result }
 {
     let bytes = load_firmware(alloc, files, firmware)?;
     let text = load(alloc, files, tape)?;

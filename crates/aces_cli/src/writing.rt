@@ -3,7 +3,7 @@
 ghost use Rattle.std.specs.Prelude.{◌≡◌, List, All, Some, OnOk, OnErr};
 ghost use Rattle.outside.specs.Counts.{Rose};
 ghost use Rattle.outside.specs.Calls.{Call, Calls};
-ghost use Rattle.aces_cli.specs.Did.{Writes};
+ghost use Rattle.aces_cli.specs.CarriesOut.{Writes};
 ghost use Rattle.aces_cli.specs.Effects.{IsRewritten, IsCutShort};
 
 use outside::{Failed, Files};

@@ -11,12 +11,12 @@ use Rattle.monitor.specs.declared.tables.InitRecord.{InitRecord}
 use Rattle.monitor.specs.declared.tables.Tables.{Tables}
 use Rattle.monitor.specs.Layout.{area_end, tables_size, initial_words_at, inits_at, head_at}
 use Rattle.monitor.specs.RegionChecks.{is_data_range}
-use Rattle.monitor.specs.Checks.{must, header_fails, tables_fail, code_fails, regions_fail, sites_fail, lends_fail, is_init, inits_from, inits_fail}
+use Rattle.monitor.specs.Checks.{must, tables_fail, is_init, inits_from}
 use Rattle.monitor.specs.MonitorCode.{MonitorCode}
-use Rattle.monitor.specs.Sound.{first_failure, Sound}
+use Rattle.monitor.specs.Sound.{Sound}
 use Rattle.access_law.specs.Simulation.{IsRange}
 use Rattle.common_laws.proofs.Tests.{both_true as both}
-use Rattle.monitor_laws.proofs.Checked.{must_none, and_none, unless_none, begins_with}
+use Rattle.monitor_laws.proofs.Checked.{must_none, and_none, begins_with, none_fails}
 
 whole : (e a : ℕ) → e % 4 ≡ 0 → a % 4 ≡ 0 → (e - a) % 4 ≡ 0
 whole e a h k = omega arith
@@ -62,14 +62,7 @@ pub record Audited (code : MonitorCode) (i : Image) (t : Tables) : Type 0 where
   pub ranges : Each (IsRange i t) t.inits
 
 pub audited : (code : MonitorCode) (i : Image) (t : Tables) → Sound code i t → Audited code i t
-unfolding first_failure
 audited code i t s =
-    let a = unless_none check.Header (header_fails i) _ s.none_fails in
-    let b = unless_none check.Tables (tables_fail i t) _ a.1 in
-    let c = unless_none check.Code (code_fails code.page i t) _ b.1 in
-    let d = unless_none check.Regions (regions_fail i t) _ c.1 in
-    let e = unless_none check.Sites (sites_fail t) _ d.1 in
-    let f = unless_none check.Lends (lends_fail t) _ e.1 in
-    let g = unless_none check.Inits (inits_fail i t) None f.1 in
-    let p = begins_with (code.page t) i.flash t.base c.0 in
-    record { behind = p.0; has_page = p.1; room = size_is i t b.0; ranges = ranges_are i t (initial_words_at t) (inits_at t) t.inits g.0 }
+    let n = none_fails code i t s in
+    let p = begins_with (code.page t) i.flash t.base n.page in
+    record { behind = p.0; has_page = p.1; room = size_is i t n.tables; ranges = ranges_are i t (initial_words_at t) (inits_at t) t.inits n.inits }

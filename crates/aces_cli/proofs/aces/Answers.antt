@@ -3,7 +3,7 @@ use Rattle.std.proofs.lemmas.List.Elements.{All-nil, All-weaker}
 use Rattle.aces_words.specs.Commands.{request_of}
 use Rattle.aces_words.specs.Requests.{Request, Asks}
 use Rattle.aces_cli.specs.Known.{Holds, Exceeds, WasRead, WasTooLarge, IsCallOf}
-use Rattle.aces_cli.specs.Did.{IsKnown, IsKnownLarge}
+use Rattle.aces_cli.specs.CarriesOut.{IsKnown, IsKnownLarge}
 use Rattle.aces_cli.specs.Answer.{Answer}
 use Rattle.aces_reports.specs.Sinks.{sink}
 use Rattle.aces_cli.specs.Effects.{world}

@@ -4,7 +4,7 @@ use Rattle.std.proofs.lemmas.Result.{err_from_is_err_and}
 use Rattle.aces_reports.specs.declared.failure.Done.TheVariants.{Completed}
 use Rattle.aces_words.specs.Requests.{Bin, file_origin}
 use Rattle.aces_cli.specs.Known.{IsCallOf}
-use Rattle.aces_cli.specs.Did.{IsKnown, IsKnownLarge}
+use Rattle.aces_cli.specs.CarriesOut.{IsKnown, IsKnownLarge}
 use Rattle.aces_cli.specs.Answer.{Answer, IsNoImage, no_image, wrote, bin_image_large, bin_read, done}
 use Rattle.aces_cli.specs.Effects.{Does, world}
 use Rattle.aces_cli.specs.Loads.{IsLoadFailure, IsContentFailure}

@@ -3,7 +3,7 @@ use Rattle.std.proofs.lemmas.Result.{err_from_is_err_and}
 use Rattle.ir_model.specs.Plain.{firmware_of}
 use Rattle.aces_reports.specs.declared.failure.Done.TheVariants.{Completed}
 use Rattle.aces_words.specs.Requests.{Check, firmware_origin}
-use Rattle.aces_cli.specs.Did.{IsKnown, IsKnownLarge}
+use Rattle.aces_cli.specs.CarriesOut.{IsKnown, IsKnownLarge}
 use Rattle.aces_cli.specs.Answer.{Answer, IsNoFirmware, no_firmware, checked, check_large, check_read, done}
 use Rattle.aces_cli.specs.Counts.{count_line}
 use Rattle.aces_reports.specs.Sinks.{sink}

@@ -4,7 +4,7 @@ use Rattle.std.proofs.lemmas.Result.{err_from_is_err_and}
 use Rattle.aces_reports.specs.declared.failure.Done.TheVariants.{Completed}
 use Rattle.aces_words.specs.Requests.{Listing, Origin, file_origin, firmware_origin}
 use Rattle.aces_cli.specs.Known.{Held, IsCallOf}
-use Rattle.aces_cli.specs.Did.{IsKnown, IsKnownLarge}
+use Rattle.aces_cli.specs.CarriesOut.{IsKnown, IsKnownLarge}
 use Rattle.aces_cli.specs.Answer.{Answer, ListAnswer, list_firmware_large, list_board_large, list_read, done}
 use Rattle.aces_reports.specs.Sinks.{sink}
 use Rattle.aces_cli.specs.Effects.{Does, world}

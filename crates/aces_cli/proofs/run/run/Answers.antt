@@ -3,7 +3,7 @@ use Rattle.std.proofs.lemmas.List.Elements.{All-append}
 use Rattle.std.proofs.lemmas.Result.{err_from_is_err_and}
 use Rattle.aces_words.specs.Requests.{Run, Origin, file_origin}
 use Rattle.aces_cli.specs.Known.{Held, IsCallOf}
-use Rattle.aces_cli.specs.Did.{IsKnown, IsKnownLarge}
+use Rattle.aces_cli.specs.CarriesOut.{IsKnown, IsKnownLarge}
 use Rattle.aces_cli.specs.Answer.{Answer, RunAnswer, run_image_large, run_tape_large, run_read}
 use Rattle.aces_reports.specs.Sinks.{sink}
 use Rattle.aces_cli.specs.Effects.{Does, world}

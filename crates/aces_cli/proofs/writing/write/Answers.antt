@@ -2,7 +2,7 @@ use Rattle.std.proofs.Common.{[], ◌∷◌, true, false, is_ok, refl}
 use Rattle.std.proofs.lemmas.List.Elements.{All-nil, All-cons}
 use Rattle.outside.specs.Calls.{Create, Append}
 use Rattle.outside.proofs.Paths.{calls_one}
-use Rattle.aces_cli.specs.Did.{Writes}
+use Rattle.aces_cli.specs.CarriesOut.{Writes}
 use Rattle.aces_cli.proofs.writing.write.Goals as goal
 
 pub returns-in_err-create-clause-calls : goal.returns-in_err-create-clause-calls

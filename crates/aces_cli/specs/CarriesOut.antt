@@ -19,8 +19,8 @@ abbrev pub IsKnownLarge : (told : Bool) → Held → List Call → Origin → Ty
 IsKnownLarge told held calls s = WasTooLarge calls s × (IsTrue told → Exceeds held s)
 
 -- a command that made these calls did what the request asks, by what is known
-abbrev pub Did : {F : Type 0} → files.Ghosts F → (old new : F) → Request → (out_old out_new : SinkState) → Result Done Failure → Type 0
-Did of old new r out_old out_new result =
+abbrev pub CarriesOut : {F : Type 0} → files.Ghosts F → (old new : F) → Request → (out_old out_new : SinkState) → Result Done Failure → Type 0
+CarriesOut of old new r out_old out_new result =
     (calls : List Call) × Calls of.called old calls new × All (IsCallOf r) calls
     × Does (Answer (IsKnown of.told (of.held old) calls) (IsKnownLarge of.told (of.held old) calls) r) r (world of old out_old) (world of new out_new) result
 
