@@ -1,10 +1,7 @@
 //! The bytes of the vectors, the monitor and its tables. None where a number takes more than 32 bits.
 
 ghost use Rattle.std.specs.Prelude.{◌≡◌, ◌+◌, ◌*◌, ◌≤◌, length, sum_by, IfSome};
-ghost use Rattle.ir_model.specs.Layout as layout;
-ghost use Rattle.ir_model.specs.Resolved.{global_at};
 ghost use Rattle.ir_program.specs.Seen.{program_of};
-ghost use Rattle.plan_model.specs.Blocks as blocks;
 ghost use Rattle.plan_model.specs.Crossing as crossing;
 ghost use Rattle.plan_model.specs.TableSize as table_size;
 ghost use Rattle.code_sizes.specs.Parts.{seen_sites, region_words, block_count, record_bytes};
@@ -12,59 +9,7 @@ ghost use Rattle.code_sizes.specs.Parts.{seen_sites, region_words, block_count, 
 use ir_program::program::Program;
 use plan_model::graph::Final;
 use plan_model::needs::SiteNeed;
-
-/// A global's bytes, and of how many its address is a multiple.
-#[derive(Clone, Copy)]
-struct Extent {
-    size: u32,
-    align: u32,
-}
-
-/// The bytes and the alignment of a global.
-fn extent_of(program: &Program, global: u32) -> Extent
-    ensures size { result.size ≡ (global_at (program_of program.now) global).shape.size }
-    ensures align { result.align ≡ (global_at (program_of program.now) global).shape.align }
-{
-    match program.globals.as_slice().get(global as usize) {
-        Some(variable) => Extent {
-            size: variable.storage.size,
-            align: variable.storage.align,
-        },
-        None => Extent { size: 0, align: 1 },
-    }
-}
-
-/// The next multiple of a number.
-fn rounded_up(bytes: u32, to: u32) -> Option<u32>
-    ensures { IfSome result (λ n. n ≡ layout.rounded_up bytes to) }
-{
-    if to == 0 {
-        return Some(0);
-    }
-    let filled = bytes.checked_add(to - 1)?;
-    Some(filled / to * to)
-}
-
-/// The bytes of a region of these globals.
-#[tactic(auto, unfolding(plan_model::specs::Blocks::region_bytes))]
-fn region_bytes(program: &Program, globals: &[u32]) -> Option<u32>
-    ensures { IfSome result (λ n. n ≡ blocks.region_bytes (program_of program.now) globals.now) }
-{
-    let mut at = 0;
-    for global in globals {
-        let extent = extent_of(program, *global);
-        at = rounded_up(at, extent.align)?.checked_add(extent.size)?;
-    }
-    Some(at)
-}
-
-/// How many words fill a block of these globals.
-fn words_in(program: &Program, globals: &[u32]) -> Option<u32>
-    ensures { IfSome result (λ n. n ≡ table_size.words_in (program_of program.now) globals.now) }
-{
-    let bytes = region_bytes(program, globals)?;
-    Some(rounded_up(bytes, 4)? / 4)
-}
+use region_sizes::words_in;
 
 /// How many words fill the data regions.
 fn region_words(program: &Program, fin: &Final) -> Option<u32>

@@ -16,8 +16,7 @@ ghost use Rattle.link_model.specs.FirstWords as first_words;
 ghost use Rattle.link_model.specs.LinkedTables as records;
 ghost use Rattle.link_blocks.specs.Filling.{filled_of, object_places, first_in, cells_put};
 
-use crate::places::{offset_in, region_spot, rounded_up, unwritten_spot};
-use crate::slots::region_bytes;
+use crate::places::{offset_in, region_spot, unwritten_spot};
 use code_model::Addresses;
 use ir_model::types::Ty;
 use ir_program::program::{Program, Variable};
@@ -26,6 +25,7 @@ use ir_program::value::Value;
 use monitor::InitRecord;
 use plan_model::graph::Final;
 use plan_model::plan::Plan;
+use region_sizes::words_in;
 use std::alloc::{AllocError, Global};
 use words::memory::{Width, read_value, write_value};
 
@@ -74,14 +74,6 @@ fn put_unwritten<'a>(
         globals: graph.unwritten.as_slice(),
     })?;
     Ok(())
-}
-
-/// How many words fill a block of these globals.
-fn words_in(program: &Program, globals: &[u32]) -> Option<u32>
-    ensures { IfSome result (λ n. n ≡ table_size.words_in (program_of program.now) globals.now) }
-{
-    let bytes = region_bytes(program, globals)?;
-    Some(rounded_up(bytes, 4)? / 4)
 }
 
 /// An address of a list.

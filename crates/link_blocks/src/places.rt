@@ -3,8 +3,7 @@
 
 ghost use Rattle.std.specs.Prelude.{◌≡◌, ◌<◌, length, map, unwrap_or, IfOk, IfSome};
 ghost use Rattle.std.specs.List.{All};
-ghost use Rattle.ir_model.specs.Layout as layout;
-ghost use Rattle.ir_model.specs.Resolved.{NumberedWindow, global_at};
+ghost use Rattle.ir_model.specs.Resolved.{NumberedWindow};
 ghost use Rattle.ir_program.specs.Seen.{program_of};
 ghost use Rattle.plan_model.specs.Lists.{numbers_below};
 ghost use Rattle.plan_model.specs.Blocks.{offset_in_region};
@@ -13,39 +12,8 @@ ghost use Rattle.plan_model.specs.Placement as placement;
 use ir_program::program::Program;
 use plan_model::graph::Final;
 use plan_model::plan::{Plan, Spot};
+use region_sizes::{extent_of, rounded_up};
 use std::alloc::{AllocError, Global};
-
-/// A global's bytes, and of how many its address is a multiple.
-#[derive(Clone, Copy)]
-pub(crate) struct Extent {
-    pub(crate) size: u32,
-    pub(crate) align: u32,
-}
-
-/// The bytes and the alignment of a global.
-pub(crate) fn extent_of(program: &Program, global: u32) -> Extent
-    ensures size { result.size ≡ (global_at (program_of program.now) global).shape.size }
-    ensures align { result.align ≡ (global_at (program_of program.now) global).shape.align }
-{
-    match program.globals.as_slice().get(global as usize) {
-        Some(variable) => Extent {
-            size: variable.storage.size,
-            align: variable.storage.align,
-        },
-        None => Extent { size: 0, align: 1 },
-    }
-}
-
-/// The next multiple of a number.
-pub(crate) fn rounded_up(bytes: u32, to: u32) -> Option<u32>
-    ensures { IfSome result (λ n. n ≡ layout.rounded_up bytes to) }
-{
-    if to == 0 {
-        return Some(0);
-    }
-    let filled = bytes.checked_add(to - 1)?;
-    Some(filled / to * to)
-}
 
 /// Where a global begins in the block of some globals.
 #[tactic(auto, unfolding(plan_model::specs::Blocks::offset_in_region))]

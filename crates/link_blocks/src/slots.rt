@@ -10,7 +10,7 @@ ghost use Rattle.plan_model.specs.Slots as slots;
 ghost use Rattle.link_model.specs.LinkedTables as records;
 ghost use Rattle.link_blocks.specs.Uses.{use_of, slots_left};
 
-use crate::places::{extent_of, region_spot, rounded_up};
+use crate::places::region_spot;
 use ir_program::program::Program;
 use list_vec::ListVec;
 use monitor::CompRecord;
@@ -19,6 +19,7 @@ use mpu_model::region::Region;
 use mpu_model::words::{Rights, region};
 use plan_model::graph::{Cover, Final, Region as DataRegion};
 use plan_model::plan::{Plan, Spot};
+use region_sizes::region_bytes;
 use std::alloc::{AllocError, Global};
 
 /// What a slot is for: a block, which of its eighths are taken out, and who may do what there.
@@ -28,19 +29,6 @@ pub(crate) struct SlotUse {
     pub(crate) size: u32,
     pub(crate) srd: u8,
     pub(crate) rights: Rights,
-}
-
-/// The bytes of a region of these globals.
-#[tactic(auto, unfolding(plan_model::specs::Blocks::region_bytes))]
-pub(crate) fn region_bytes(program: &Program, globals: &[u32]) -> Option<u32>
-    ensures { IfSome result (λ n. n ≡ blocks.region_bytes (program_of program.now) globals.now) }
-{
-    let mut at = 0;
-    for global in globals {
-        let extent = extent_of(program, *global);
-        at = rounded_up(at, extent.align)?.checked_add(extent.size)?;
-    }
-    Some(at)
 }
 
 /// RASR.SRD of a block that holds so many bytes from its first on.

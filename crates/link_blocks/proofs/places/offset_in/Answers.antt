@@ -20,4 +20,4 @@ returns-then-other-global c =
     let rest = drop (k + 1) xs in
     let one = ap (λ ys. get_or (offsets_from P at ys) (position_or_len p ys) 0) (drop_more xs k 0 c.loop-other-test.true) in
     let two = ap (λ b. get_or (aligned P x at ∷ offsets_from P (aligned P x at + global_size P x) rest) (cond (not b) (1 + position_or_len p rest) 0) 0) t in
-    c.in_ok-at.ensures ∙ ap (λ n. rounded_up at n) c.extent_of-extent.ensures.align ∙ sym (one ∙ two) ∙ c.loop-other.invariant
+    c.in_ok-at.ensures.value ∙ ap (λ n. rounded_up at n) c.extent_of-extent.ensures.align ∙ sym (one ∙ two) ∙ c.loop-other.invariant

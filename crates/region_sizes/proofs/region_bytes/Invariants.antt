@@ -1,7 +1,7 @@
 use Rattle.std.proofs.Common.{◌≡◌, drop}
 use Rattle.ir_program.specs.Seen.{program_of}
 use Rattle.plan_model.specs.Blocks as blocks
-use Rattle.link_blocks.proofs.slots.region_bytes.Given as goal
+use Rattle.region_sizes.proofs.region_bytes.Given as goal
 
 -- what was made and what is left are the whole
 abbrev pub invariant-loop-global : goal.invariant-loop-global

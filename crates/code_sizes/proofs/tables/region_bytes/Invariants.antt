@@ -1,9 +1,0 @@
-use Rattle.std.proofs.Common.{◌≡◌, drop}
-use Rattle.ir_program.specs.Seen.{program_of}
-use Rattle.plan_model.specs.Blocks as blocks
-use Rattle.code_sizes.proofs.tables.region_bytes.Given as goal
-
--- what was placed and what is left are the whole
-abbrev pub invariant-loop-global : goal.invariant-loop-global
-invariant-loop-global l =
-    blocks.end_from (program_of l.program) l.at (drop l.global-index l.globals) ≡ blocks.region_bytes (program_of l.program) l.globals
