@@ -1,12 +1,13 @@
 //! How many bytes and words the globals of a region fill, in 32 bits.
 #![tactic(auto)]
 
-ghost use Rattle.std.specs.Prelude.{◌≡◌, ◌+◌, ◌^◌, ◌<◌, IfNone, IfSome};
+ghost use Rattle.std.specs.Prelude.{◌≡◌, ◌+◌, ◌^◌, ◌<◌, ◌⊎◌, IfNone, IfSome};
 ghost use Rattle.ir_model.specs.Layout as layout;
 ghost use Rattle.ir_model.specs.Resolved.{global_at};
 ghost use Rattle.ir_program.specs.Seen.{program_of};
 ghost use Rattle.plan_model.specs.Blocks as blocks;
 ghost use Rattle.plan_model.specs.TableSize as table_size;
+ghost use Rattle.region_sizes.specs.Passing.{Passes};
 
 use ir_model::extent::Extent;
 use ir_program::program::Program;
@@ -40,7 +41,8 @@ pub fn rounded_up(bytes: u32, to: u32) -> Option<u32>
 /// The bytes of a region of these globals, each at the next multiple of its alignment behind those before it.
 #[tactic(auto, unfolding(plan_model::specs::Blocks::region_bytes))]
 pub fn region_bytes(program: &Program, globals: &[u32]) -> Option<u32>
-    ensures { IfSome result (λ n. n ≡ blocks.region_bytes (program_of program.now) globals.now) }
+    ensures value { IfSome result (λ n. n ≡ blocks.region_bytes (program_of program.now) globals.now) }
+    ensures none { IfNone result (Passes (program_of program.now) 0 globals.now) }
 {
     let mut at = 0;
     for global in globals {
@@ -52,7 +54,8 @@ pub fn region_bytes(program: &Program, globals: &[u32]) -> Option<u32>
 
 /// How many words of four bytes fill a block of these globals.
 pub fn words_in(program: &Program, globals: &[u32]) -> Option<u32>
-    ensures { IfSome result (λ n. n ≡ table_size.words_in (program_of program.now) globals.now) }
+    ensures value { IfSome result (λ n. n ≡ table_size.words_in (program_of program.now) globals.now) }
+    ensures none { IfNone result (Passes (program_of program.now) 0 globals.now ⊎ (2 ^ 32 < blocks.region_bytes (program_of program.now) globals.now + 4)) }
 {
     let bytes = region_bytes(program, globals)?;
     Some(rounded_up(bytes, 4)? / 4)

@@ -8,5 +8,5 @@ pub returns : goal.returns
 returns c =
     let p = program_of c.args.program.now in
     let whole = words_are p c.args.fin.now in
-    let others = c.in_ok-others.ensures ∙ ap (words_in p) c.as_slice.ensures in
+    let others = c.in_ok-others.ensures.value ∙ ap (words_in p) c.as_slice.ensures in
     omega (arith, whole, c.in_ok-words.ensures, others, c.in_ok-total.ensures)
