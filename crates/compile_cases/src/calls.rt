@@ -3,10 +3,10 @@
 ghost use Rattle.std.specs.Prelude.{◌≡◌, ◌≤◌, length, IfOk};
 ghost use Rattle.ir_model.specs.TextLimits.{text_limit};
 
-use crate::divide::divided_image;
 use aces_cli::aces;
 use anyhow::{Result, bail};
 use case_files::Program;
+use divided_images::divided_image;
 use ir_model::text_limits::TEXT_LIMIT;
 use outside::{Files, MemFiles, MemSink, read_whole};
 use std::alloc::Global;

@@ -3,7 +3,6 @@
 #![tactic(auto)]
 
 mod calls;
-mod divide;
 
 use anyhow::Result;
 use calls::Calls;

@@ -1,4 +1,5 @@
 //! Images of firmwares whose functions are grouped by their numbers, by a callback that is given to `compile`.
+#![tactic(auto)]
 
 ghost use Rattle.std.specs.Prelude.{◌≡◌, ◌<◌, ◌≤◌, ◌%◌, length};
 ghost use Rattle.ir_model.specs.TextLimits.{text_limit};
@@ -20,13 +21,14 @@ use std::alloc::Global;
 /// The most groups, and the most functions of a firmware.
 const MOST: u32 = FUNCTION_LIMIT as u32;
 
-/// The text of the image of a firmware for a board, its functions in so many groups.
-pub(crate) fn divided_image(
-    alloc: Global,
-    firmware: &[u8],
-    board: &[u8],
-    count: u32,
-) -> Result<Vec<u8>>
+/// The text of the image of a firmware for a board, by the texts of both, its functions in so many groups: function k is in group k
+/// modulo their count.
+///
+/// # Errors
+///
+/// One of the texts is refused, or the firmware by its checks or by the compiler; it has no function, or more than a firmware may
+/// have; there is no group, or more than that; or memory ran out.
+pub fn divided_image(alloc: Global, firmware: &[u8], board: &[u8], count: u32) -> Result<Vec<u8>>
     requires { length firmware.now ≤ text_limit }
 {
     let Ok(firmware) = ir_reader::read(alloc, firmware) else {
