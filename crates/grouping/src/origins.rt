@@ -5,7 +5,7 @@ ghost use Rattle.ir_model.specs.Plain.{PlainFunc, file_of, firmware_of, funcs_of
 ghost use Rattle.ir_model.specs.Resolve as resolving;
 
 use ir_model::firmware::{FileDecl, Firmware, Func};
-use ir_model::name::Name;
+use names::Name;
 use std::alloc::{AllocError, Global};
 
 /// Where a function comes from.

@@ -4,7 +4,8 @@ use Rattle.ir_model.specs.declared.firmware.Slot.{Slot}
 use Rattle.ir_model.specs.declared.firmware.Global.{Global}
 use Rattle.ir_model.specs.Types.{PlainType, U32, Callee, type_of}
 use Rattle.ir_model.specs.Plain.{PlainSlot, PlainGlobal, PlainFunc, slot_of, global_of, names_of, types_of}
-use Rattle.ir_model.specs.Resolve.{has, number_of, row_from}
+use Rattle.names.specs.Numbers.{has, number_of}
+use Rattle.ir_model.specs.Resolve.{row_from}
 use Rattle.ir_model.specs.Rules.{slot_type, global_type, func_type}
 
 absent_pick : (b : Bool) (t : PlainType) (ts : List PlainType) (k : ℕ) (h : Bool) → (if b then true else h) ≡ false → (h ≡ false → get_or ts k U32 ≡ U32) → get_or (t ∷ ts) (if b then zero else suc k) U32 ≡ U32

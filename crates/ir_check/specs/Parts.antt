@@ -12,7 +12,7 @@ use Rattle.ir_model.specs.Types.{PlainType, is_register_type}
 use Rattle.ir_model.specs.Plain.{PlainSlot, PlainStruct, PlainGlobal, PlainFunc, PlainFile, PlainFirmware, names_of, funcs_of}
 use Rattle.ir_model.specs.Layout.{known, shape}
 use Rattle.ir_model.specs.Frames.{frame_size}
-use Rattle.ir_model.specs.Resolve.{has}
+use Rattle.names.specs.Numbers.{has}
 use Rattle.ir_model.specs.Rules.{inst_fits, term_fits, is_port, is_address, global_type}
 use Rattle.ir_model.specs.Typing.{structs_checks, periph_checks, globals_checks, file_checks, funcs_checks, has_main, init_checks, cell_checks, func_name_checks, field_checks, inst_names, term_names, register_checks, outcome_checks, local_checks, label_checks, blocks_checks, frame_limit, Checks, check, is_new, type_checks, is_window, is_apart, object_limit}
 

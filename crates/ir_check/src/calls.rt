@@ -11,8 +11,8 @@ use crate::lookup::register_type;
 use crate::scope::FuncScope;
 use ir_model::equal::same_type;
 use ir_model::firmware::{Func, Slot};
-use ir_model::name::Name;
 use ir_model::types::Ty;
+use names::Name;
 
 fn fit_slots(func: &FuncScope, params: &[Slot], args: &[Name]) -> bool
     requires { IsFuncScope func.now }

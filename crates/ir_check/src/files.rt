@@ -9,8 +9,9 @@ ghost use Rattle.ir_check.specs.Parts.{file_part};
 use crate::fault::CheckFault;
 use crate::new_names::add_new;
 use crate::spot::Spot;
+use firmware_names::{add_globals, periph_names};
 use ir_model::firmware::{FileDecl, Firmware, Func};
-use name_tables::{Names, add_globals, periph_names};
+use name_tables::Names;
 use std::alloc::Global;
 
 fn func_names<'a>(seen: &mut Names<'a>, funcs: &'a [Func]) -> Result<(), CheckFault>

@@ -15,8 +15,8 @@ use crate::scope::{FuncScope, Scope};
 use ir_model::callee::is_callee;
 use ir_model::equal::same_type;
 use ir_model::firmware::{Inst, Term};
-use ir_model::name::Name;
 use ir_model::types::Ty;
+use names::Name;
 
 /// Whether a type is `u32`.
 pub fn is_word(ty: &Ty) -> bool

@@ -8,7 +8,7 @@ ghost use Rattle.ir_check.specs.Spots.{place_of};
 use crate::fault::CheckFault;
 use crate::spot::Spot;
 use ir_model::check::{CheckKind, Place};
-use ir_model::name::Name;
+use names::Name;
 use std::alloc::AllocError;
 
 fn place_at(spot: Spot) -> Result<Place, AllocError>

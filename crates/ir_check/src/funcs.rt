@@ -22,10 +22,11 @@ use crate::locals::locals;
 use crate::registers::{outcome, registers};
 use crate::scope::{FuncScope, Scope};
 use crate::spot::Spot;
+use firmware_names::{local_names, register_names};
 use ir_model::check::CheckKind;
 use ir_model::firmware::Func;
 use ir_model::types::Ty;
-use name_tables::{Names, local_names, register_names};
+use name_tables::Names;
 use std::alloc::{AllocError, Global};
 
 /// The most bytes of a frame.

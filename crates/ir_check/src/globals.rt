@@ -20,11 +20,12 @@ use crate::new_names::add_new;
 use crate::scope::Scope;
 use crate::spot::Spot;
 use crate::type_names::type_names;
+use firmware_names::periph_names;
 use ir_model::check::CheckKind;
 use ir_model::firmware::{Cell, Global as GlobalDecl};
-use ir_model::name::Name;
 use ir_model::types::Ty;
-use name_tables::{Names, periph_names};
+use name_tables::Names;
+use names::Name;
 use std::alloc::Global;
 
 fn holds_number(ty: &Ty, number: u32) -> bool

@@ -4,14 +4,15 @@ ghost use Rattle.std.specs.Prelude.{◌≡◌, map, Some, None, MatchOption, IfS
 ghost use Rattle.ir_model.specs.Types.{type_of, Callee};
 ghost use Rattle.ir_model.specs.Plain.{func_of, firmware_of, funcs_of, slot_of, names_of};
 ghost use Rattle.ir_model.specs.Layout.{known, fields_named};
-ghost use Rattle.ir_model.specs.Resolve.{type_named, has, row_from};
+ghost use Rattle.names.specs.Numbers.{has};
+ghost use Rattle.ir_model.specs.Resolve.{type_named, row_from};
 ghost use Rattle.ir_model.specs.Rules.{slot_type, global_type, func_type, field_type};
 ghost use Rattle.ir_check.specs.Scopes.{IsScope, IsFuncScope};
 
 use crate::scope::{FuncScope, Scope};
 use ir_model::firmware::Func;
-use ir_model::name::Name;
 use ir_model::types::Ty;
+use names::Name;
 
 /// The type of a register; of a name that no register has, `u32`.
 pub fn register_type<'s>(scope: &'s FuncScope<'s>, name: &Name) -> &'s Ty

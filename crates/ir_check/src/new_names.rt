@@ -8,8 +8,8 @@ ghost use Rattle.ir_check.specs.Spots.{place_of};
 use crate::fault::CheckFault;
 use crate::found::twice;
 use crate::spot::Spot;
-use ir_model::name::Name;
 use name_tables::Names;
+use names::Name;
 
 /// Whether a name is new among others.
 pub fn require_new(names: &Names, name: &Name, spot: Spot) -> Result<(), CheckFault>

@@ -12,7 +12,7 @@ use crate::found::require_known;
 use crate::scope::{FuncScope, Scope};
 use crate::spot::Spot;
 use ir_model::firmware::{Inst, Term};
-use ir_model::name::Name;
+use names::Name;
 
 fn one_known(func: &FuncScope, spot: Spot, name: &Name) -> Result<(), CheckFault>
     requires { IsFuncScope func.now }

@@ -1,6 +1,6 @@
 //! Places in a firmware that is lent.
 
-use ir_model::name::Name;
+use names::Name;
 
 /// Where a check is made.
 #[derive(Clone, Copy)]

@@ -5,9 +5,10 @@ ghost use Rattle.ir_model.specs.Plain.{PlainFunc, PlainFile, PlainGlobal, PlainS
 ghost use Rattle.ir_check.specs.Scopes.{IsScope, lent_funcs};
 
 use crate::scope::Scope;
+use firmware_names::{func_names, global_names};
 use ir_model::firmware::{FileDecl, Firmware, Func};
 use layouts::table::Layouts;
-use name_tables::{Names, func_names, global_names};
+use name_tables::Names;
 use std::alloc::{AllocError, Global};
 
 fn put_funcs<'a>(bodies: &mut Vec<&'a Func>, funcs: &'a [Func]) -> Result<(), AllocError>

@@ -21,10 +21,10 @@ use crate::scope::Scope;
 use crate::spot::Spot;
 use crate::structs::structs;
 use crate::tables::scope;
+use firmware_names::struct_names;
 use ir_model::check::CheckKind;
 use ir_model::checked::Checked;
 use ir_model::firmware::{Firmware, Func};
-use name_tables::struct_names;
 use std::alloc::Global;
 
 fn is_main(func: &Func) -> bool

@@ -5,7 +5,7 @@ ghost use Rattle.ir_model.specs.Tokens.{keyword_bytes, mark_bytes, operation_byt
 
 use ir_model::firmware::{BinOp, CmpOp};
 use ir_model::token::{Keyword, Mark};
-use names::words;
+use names::reserved;
 
 /// Every keyword.
 pub const KEYWORDS: [Keyword; 23] = [
@@ -67,29 +67,29 @@ pub fn keyword_text(keyword: Keyword) -> &'static [u8]
     ensures { result.now ≡ keyword_bytes keyword }
 {
     match keyword {
-        Keyword::Struct => words::STRUCT,
-        Keyword::Periph => words::PERIPH,
-        Keyword::Const => words::CONST,
-        Keyword::Global => words::GLOBAL,
-        Keyword::File => words::FILE,
-        Keyword::Func => words::FUNC,
-        Keyword::Local => words::LOCAL,
-        Keyword::Reg => words::REG,
-        Keyword::Addr => words::ADDR,
-        Keyword::Faddr => words::FADDR,
-        Keyword::Elem => words::ELEM,
-        Keyword::Field => words::FIELD,
-        Keyword::Load => words::LOAD,
-        Keyword::Store => words::STORE,
-        Keyword::Call => words::CALL,
-        Keyword::Icall => words::ICALL,
-        Keyword::Jump => words::JUMP,
-        Keyword::Branch => words::BRANCH,
-        Keyword::Ret => words::RET,
-        Keyword::Fn => words::FN,
-        Keyword::U8 => words::U8,
-        Keyword::U16 => words::U16,
-        Keyword::U32 => words::U32,
+        Keyword::Struct => reserved::STRUCT,
+        Keyword::Periph => reserved::PERIPH,
+        Keyword::Const => reserved::CONST,
+        Keyword::Global => reserved::GLOBAL,
+        Keyword::File => reserved::FILE,
+        Keyword::Func => reserved::FUNC,
+        Keyword::Local => reserved::LOCAL,
+        Keyword::Reg => reserved::REG,
+        Keyword::Addr => reserved::ADDR,
+        Keyword::Faddr => reserved::FADDR,
+        Keyword::Elem => reserved::ELEM,
+        Keyword::Field => reserved::FIELD,
+        Keyword::Load => reserved::LOAD,
+        Keyword::Store => reserved::STORE,
+        Keyword::Call => reserved::CALL,
+        Keyword::Icall => reserved::ICALL,
+        Keyword::Jump => reserved::JUMP,
+        Keyword::Branch => reserved::BRANCH,
+        Keyword::Ret => reserved::RET,
+        Keyword::Fn => reserved::FN,
+        Keyword::U8 => reserved::U8,
+        Keyword::U16 => reserved::U16,
+        Keyword::U32 => reserved::U32,
     }
 }
 
@@ -117,20 +117,20 @@ pub fn operation_text(op: BinOp) -> &'static [u8]
     ensures { result.now ≡ operation_bytes op }
 {
     match op {
-        BinOp::Add => words::ADD,
-        BinOp::Sub => words::SUB,
-        BinOp::Mul => words::MUL,
-        BinOp::Udiv => words::UDIV,
-        BinOp::Sdiv => words::SDIV,
-        BinOp::Urem => words::UREM,
-        BinOp::Srem => words::SREM,
-        BinOp::And => words::AND,
-        BinOp::Or => words::OR,
-        BinOp::Xor => words::XOR,
-        BinOp::Bic => words::BIC,
-        BinOp::Shl => words::SHL,
-        BinOp::Shr => words::SHR,
-        BinOp::Sar => words::SAR,
+        BinOp::Add => reserved::ADD,
+        BinOp::Sub => reserved::SUB,
+        BinOp::Mul => reserved::MUL,
+        BinOp::Udiv => reserved::UDIV,
+        BinOp::Sdiv => reserved::SDIV,
+        BinOp::Urem => reserved::UREM,
+        BinOp::Srem => reserved::SREM,
+        BinOp::And => reserved::AND,
+        BinOp::Or => reserved::OR,
+        BinOp::Xor => reserved::XOR,
+        BinOp::Bic => reserved::BIC,
+        BinOp::Shl => reserved::SHL,
+        BinOp::Shr => reserved::SHR,
+        BinOp::Sar => reserved::SAR,
     }
 }
 
@@ -139,11 +139,11 @@ pub fn comparison_text(op: CmpOp) -> &'static [u8]
     ensures { result.now ≡ comparison_bytes op }
 {
     match op {
-        CmpOp::Eq => words::EQ,
-        CmpOp::Ne => words::NE,
-        CmpOp::Ult => words::ULT,
-        CmpOp::Ule => words::ULE,
-        CmpOp::Slt => words::SLT,
-        CmpOp::Sle => words::SLE,
+        CmpOp::Eq => reserved::EQ,
+        CmpOp::Ne => reserved::NE,
+        CmpOp::Ult => reserved::ULT,
+        CmpOp::Ule => reserved::ULE,
+        CmpOp::Slt => reserved::SLT,
+        CmpOp::Sle => reserved::SLE,
     }
 }

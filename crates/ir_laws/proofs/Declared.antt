@@ -12,7 +12,7 @@ use Rattle.ir_model.specs.declared.extent.Extent.{Extent}
 use Rattle.ir_model.specs.Types.{PlainType, U8, U16, U32, Pointer, Array, Named, Callee}
 use Rattle.ir_model.specs.Plain.{PlainSlot, PlainStruct, PlainGlobal, PlainFunc, PlainFirmware, funcs_of, names_of}
 use Rattle.ir_model.specs.Layout.{Shape, known, shape, laid_out, empty}
-use Rattle.ir_model.specs.Resolve.{has}
+use Rattle.names.specs.Numbers.{has}
 use Rattle.ir_model.specs.Extents.{Counted, counted_named, is_counted, are_counted, counted_behind, counted, HasElements, extent, sized, pair_of}
 use Rattle.ir_model.specs.Canonical.{IsWithinLimits}
 use Rattle.common_laws.specs.Lists.{Each}

@@ -9,7 +9,8 @@ use Rattle.ir_model.specs.declared.check.Place.TheVariants as place
 use Rattle.ir_model.specs.Types.{PlainType, U8, U16, U32, Pointer, Array, Named, Callee}
 use Rattle.ir_model.specs.Plain.{PlainSlot, PlainStruct}
 use Rattle.ir_model.specs.Layout.{Shape, Known, FieldPlace, empty, shape_named, fields_named, array_of, shape, rounded_up, with_field, laid_out, field_places, with_struct, known_behind, known}
-use Rattle.ir_model.specs.Resolve.{has, offset_named}
+use Rattle.names.specs.Numbers.{has}
+use Rattle.ir_model.specs.Resolve.{offset_named}
 use Rattle.common_laws.specs.Lists.{Each}
 use Rattle.ir_model.specs.Rules.{field_type}
 use Rattle.ir_model.specs.Typing.{Checks, check, is_new, type_checks, object_limit, field_checks, struct_checks, structs_checks}

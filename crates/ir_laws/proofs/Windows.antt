@@ -9,7 +9,8 @@ use Rattle.ir_model.specs.declared.check.Place.TheVariants as place
 use Rattle.ir_model.specs.declared.firmware.Peripheral.{Peripheral}
 use Rattle.ir_model.specs.Plain.{PlainFirmware}
 use Rattle.ir_model.specs.Resolved.{NumberedWindow, no_window}
-use Rattle.ir_model.specs.Resolve.{window_of, has, resolve}
+use Rattle.names.specs.Numbers.{has}
+use Rattle.ir_model.specs.Resolve.{window_of, resolve}
 use Rattle.ir_model.specs.Typing.{Checks, check, is_new, is_window, is_apart, periph_checks, IsTyped}
 use Rattle.ir_model.proofs.Passing.{Pass, left, right, holds, behind}
 use Rattle.ir_model.proofs.Typed.{parts_pass}

@@ -9,7 +9,6 @@ pub mod Passing
 pub mod ForEach
 pub mod Limits
 pub mod Typed
-pub mod Numbers
 pub mod ObjectOrder
 pub mod NoExcess
 pub mod Locals

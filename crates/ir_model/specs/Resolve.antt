@@ -1,6 +1,7 @@
 -- From names to numbers. A name means the first that has it; one that is not there has the number behind the last.
 use Rattle.std.specs.Prelude.{ℕ, zero, suc, List, [], ◌∷◌, ◌++◌, length, replicate, map, Bool, true, false, if◌then◌else◌, Option, Some, None, bytes_eq, codes}
 use Rattle.std.proofs.Math.ListN.{get_or}
+use Rattle.names.specs.Numbers.{number_of, has}
 use Rattle.ir_model.specs.declared.firmware.Inst.{Inst}
 use Rattle.ir_model.specs.declared.firmware.Inst.TheVariants as named
 use Rattle.ir_model.specs.declared.firmware.Term.{Term}
@@ -14,14 +15,6 @@ use Rattle.ir_model.specs.Plain.{PlainSlot, PlainFunc, PlainGlobal, PlainFile, P
 use Rattle.ir_model.specs.Layout.{Known, known, Shape, shape, FieldPlace, fields_named, CellPlace}
 use Rattle.ir_model.specs.Resolved.{OfGlobal, OfPeriph, Value, Number, Code, Null, At, TheGlobal, ThePeriph, TheLocal, NumberedInst, Const, Move, Bin, Cmp, Addr, FAddr, Elem, Field, Load, Store, Call, ICall, NumberedTerm, Jump, Branch, Ret, NumberedBlock, NumberedFunc, NumberedGlobal, NumberedWindow, Program}
 use Rattle.ir_model.specs.Resolved as numbered
-
-abbrev pub number_of : List (List ℕ) → List ℕ → ℕ
-number_of [] n = zero
-number_of (m ∷ ms) n = if bytes_eq m n then zero else suc (number_of ms n)
-
-abbrev pub has : List (List ℕ) → List ℕ → Bool
-has [] n = false
-has (m ∷ ms) n = if bytes_eq m n then true else has ms n
 
 -- the names of a firmware
 pub record Scope : Type 0 where

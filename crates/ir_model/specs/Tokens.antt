@@ -1,7 +1,7 @@
 -- Tokens of a firmware text, and their spelling.
 use Rattle.std.specs.Prelude.{ℕ, List, codes, Option}
 use Rattle.std.specs.Fmt.{decimal}
-use Rattle.names.specs.declared.words.TheConstants as words
+use Rattle.names.specs.declared.reserved.TheConstants as reserved
 use Rattle.ir_model.specs.declared.firmware.BinOp.{BinOp}
 use Rattle.ir_model.specs.declared.firmware.BinOp.TheVariants.{Add, Sub, Mul, Udiv, Sdiv, Urem, Srem, And, Or, Xor, Bic, Shl, Shr, Sar}
 use Rattle.ir_model.specs.declared.firmware.CmpOp.{CmpOp}
@@ -26,53 +26,53 @@ pub record Marked : Type 0 where
   pub excess : Option Excess
 
 abbrev pub keyword_bytes : Keyword → List ℕ
-keyword_bytes key.Struct = words.STRUCT.now
-keyword_bytes key.Periph = words.PERIPH.now
-keyword_bytes key.Const = words.CONST.now
-keyword_bytes key.Global = words.GLOBAL.now
-keyword_bytes key.File = words.FILE.now
-keyword_bytes key.Func = words.FUNC.now
-keyword_bytes key.Local = words.LOCAL.now
-keyword_bytes key.Reg = words.REG.now
-keyword_bytes key.Addr = words.ADDR.now
-keyword_bytes key.Faddr = words.FADDR.now
-keyword_bytes key.Elem = words.ELEM.now
-keyword_bytes key.Field = words.FIELD.now
-keyword_bytes key.Load = words.LOAD.now
-keyword_bytes key.Store = words.STORE.now
-keyword_bytes key.Call = words.CALL.now
-keyword_bytes key.Icall = words.ICALL.now
-keyword_bytes key.Jump = words.JUMP.now
-keyword_bytes key.Branch = words.BRANCH.now
-keyword_bytes key.Ret = words.RET.now
-keyword_bytes key.Fn = words.FN.now
-keyword_bytes key.U8 = words.U8.now
-keyword_bytes key.U16 = words.U16.now
-keyword_bytes key.U32 = words.U32.now
+keyword_bytes key.Struct = reserved.STRUCT.now
+keyword_bytes key.Periph = reserved.PERIPH.now
+keyword_bytes key.Const = reserved.CONST.now
+keyword_bytes key.Global = reserved.GLOBAL.now
+keyword_bytes key.File = reserved.FILE.now
+keyword_bytes key.Func = reserved.FUNC.now
+keyword_bytes key.Local = reserved.LOCAL.now
+keyword_bytes key.Reg = reserved.REG.now
+keyword_bytes key.Addr = reserved.ADDR.now
+keyword_bytes key.Faddr = reserved.FADDR.now
+keyword_bytes key.Elem = reserved.ELEM.now
+keyword_bytes key.Field = reserved.FIELD.now
+keyword_bytes key.Load = reserved.LOAD.now
+keyword_bytes key.Store = reserved.STORE.now
+keyword_bytes key.Call = reserved.CALL.now
+keyword_bytes key.Icall = reserved.ICALL.now
+keyword_bytes key.Jump = reserved.JUMP.now
+keyword_bytes key.Branch = reserved.BRANCH.now
+keyword_bytes key.Ret = reserved.RET.now
+keyword_bytes key.Fn = reserved.FN.now
+keyword_bytes key.U8 = reserved.U8.now
+keyword_bytes key.U16 = reserved.U16.now
+keyword_bytes key.U32 = reserved.U32.now
 
 abbrev pub operation_bytes : BinOp → List ℕ
-operation_bytes Add = words.ADD.now
-operation_bytes Sub = words.SUB.now
-operation_bytes Mul = words.MUL.now
-operation_bytes Udiv = words.UDIV.now
-operation_bytes Sdiv = words.SDIV.now
-operation_bytes Urem = words.UREM.now
-operation_bytes Srem = words.SREM.now
-operation_bytes And = words.AND.now
-operation_bytes Or = words.OR.now
-operation_bytes Xor = words.XOR.now
-operation_bytes Bic = words.BIC.now
-operation_bytes Shl = words.SHL.now
-operation_bytes Shr = words.SHR.now
-operation_bytes Sar = words.SAR.now
+operation_bytes Add = reserved.ADD.now
+operation_bytes Sub = reserved.SUB.now
+operation_bytes Mul = reserved.MUL.now
+operation_bytes Udiv = reserved.UDIV.now
+operation_bytes Sdiv = reserved.SDIV.now
+operation_bytes Urem = reserved.UREM.now
+operation_bytes Srem = reserved.SREM.now
+operation_bytes And = reserved.AND.now
+operation_bytes Or = reserved.OR.now
+operation_bytes Xor = reserved.XOR.now
+operation_bytes Bic = reserved.BIC.now
+operation_bytes Shl = reserved.SHL.now
+operation_bytes Shr = reserved.SHR.now
+operation_bytes Sar = reserved.SAR.now
 
 abbrev pub comparison_bytes : CmpOp → List ℕ
-comparison_bytes Eq = words.EQ.now
-comparison_bytes Ne = words.NE.now
-comparison_bytes Ult = words.ULT.now
-comparison_bytes Ule = words.ULE.now
-comparison_bytes Slt = words.SLT.now
-comparison_bytes Sle = words.SLE.now
+comparison_bytes Eq = reserved.EQ.now
+comparison_bytes Ne = reserved.NE.now
+comparison_bytes Ult = reserved.ULT.now
+comparison_bytes Ule = reserved.ULE.now
+comparison_bytes Slt = reserved.SLT.now
+comparison_bytes Sle = reserved.SLE.now
 
 abbrev pub mark_bytes : Mark → List ℕ
 mark_bytes mark.OpenBrace = codes "{"

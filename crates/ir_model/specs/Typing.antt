@@ -18,7 +18,8 @@ use Rattle.ir_model.specs.declared.firmware.Peripheral.{Peripheral}
 use Rattle.ir_model.specs.Types.{PlainType, U8, U16, U32, Pointer, Array, Named, Callee, PlainTypes, none, more, PlainResult, nothing, gives, is_integer, is_register_type, width_of}
 use Rattle.ir_model.specs.Plain.{PlainSlot, PlainStruct, PlainGlobal, PlainFunc, PlainFile, PlainFirmware, names_of, funcs_of, regs_of}
 use Rattle.ir_model.specs.Layout.{Known, known, CellPlace, shape, laid_out, empty}
-use Rattle.ir_model.specs.Resolve.{has, labels_of, main_name}
+use Rattle.names.specs.Numbers.{has}
+use Rattle.ir_model.specs.Resolve.{labels_of, main_name}
 use Rattle.ir_model.specs.Frames.{frame_size}
 use Rattle.ir_model.specs.Rules.{global_type, func_type, is_type, is_address, is_port, inst_fits, term_fits}
 

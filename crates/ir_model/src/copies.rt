@@ -9,9 +9,9 @@ use crate::firmware::{
     Block, Cell, FileDecl, Firmware, Func, Global as GlobalDecl, Inst, Peripheral, Slot,
     StructDecl, Term,
 };
-use crate::name::Name;
 use crate::types::Ty;
 use list_vec::ListVec;
+use names::Name;
 use std::alloc::{AllocError, Global};
 
 fn clone_list<T: Clone>(alloc: Global, list: &ListVec<T>) -> Result<ListVec<T>, AllocError>

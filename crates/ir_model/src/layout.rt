@@ -12,8 +12,8 @@ ghost use Rattle.ir_model.specs.Extents.{IsOf, IsSized, IsSmall, layout_of, size
 
 use crate::extent::{Extent, SIZE_LIMIT};
 use crate::firmware::{Firmware, Slot, StructDecl};
-use crate::name::Name;
 use crate::types::Ty;
+use names::Name;
 
 fn limited(size: u64, align: u32) -> Option<Extent>
     requires positive { 0 < align }

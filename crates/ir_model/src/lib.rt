@@ -10,7 +10,6 @@ pub mod equal;
 pub mod extent;
 pub mod firmware;
 pub mod layout;
-pub mod name;
 pub mod object;
 pub mod text_limits;
 pub mod token;

@@ -1,7 +1,7 @@
 //! The types of the firmware language.
 
-use crate::name::Name;
 use list_vec::ListVec;
+use names::Name;
 
 /// A type.
 #[cycle(types)]

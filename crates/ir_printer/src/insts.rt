@@ -11,8 +11,8 @@ use crate::tokens::{
     put_word, start_keyword, start_word,
 };
 use ir_model::firmware::{Inst, Term};
-use ir_model::name::Name;
 use ir_model::token::{Keyword, Mark};
+use names::Name;
 use std::alloc::AllocError;
 
 fn start_assignment(out: &mut Vec<u8>, to: &Name) -> Result<(), AllocError>

@@ -18,10 +18,10 @@ use crate::slots::args;
 use crate::terminals::{mark, name, syntax};
 use crate::token::Token;
 use ir_model::firmware::{Inst, Term};
-use ir_model::name::Name;
 use ir_model::text_limits::INSTRUCTION_LIMIT;
 use ir_model::token::{Keyword, Mark, TextLimit};
 use list_vec::ListVec;
+use names::Name;
 use std::alloc::Global;
 
 /// An instruction or the end of a block.

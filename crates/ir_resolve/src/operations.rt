@@ -11,9 +11,9 @@ use crate::scope::{
 };
 use crate::tables::{FuncTables, Scope};
 use ir_model::firmware::{Block, Inst, Term};
-use ir_model::name::Name;
 use ir_program::program::{Exit, Operation, Sequence};
 use list_vec::ListVec;
+use names::Name;
 use std::alloc::{AllocError, Global};
 
 fn optional_number(tables: &FuncTables, name: &Option<Name>) -> Option<usize>

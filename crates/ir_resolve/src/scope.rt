@@ -11,15 +11,15 @@ ghost use Rattle.ir_resolve.specs.Scopes.{scope_of, named_func, AreTables, AreFe
 
 use crate::routines::register_types;
 use crate::tables::{FuncTables, Scope};
+use firmware_names::{
+    func_names, global_names, label_names, local_names, periph_names, register_names,
+};
 use ir_model::firmware::{Firmware, Func};
-use ir_model::name::Name;
 use ir_model::types::Ty;
 use ir_program::program::Target;
 use layouts::fault::LayoutFault;
 use layouts::table::Layouts;
-use name_tables::{
-    func_names, global_names, label_names, local_names, periph_names, register_names,
-};
+use names::Name;
 use std::alloc::{AllocError, Global};
 
 fn struct_layouts(alloc: Global, firmware: &Firmware) -> Result<Layouts<'_>, AllocError>

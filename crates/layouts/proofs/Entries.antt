@@ -11,7 +11,8 @@ use Rattle.ir_model.specs.Rules.{field_type}
 use Rattle.ir_model.specs.Types.{type_of}
 use Rattle.layouts.specs.declared.table.Field.{Field}
 use Rattle.layouts.specs.Fields.{place_of, place_named}
-use Rattle.ir_model.specs.Resolve.{has, number_of, offset_named}
+use Rattle.names.specs.Numbers.{has, number_of}
+use Rattle.ir_model.specs.Resolve.{offset_named}
 use Rattle.layouts.specs.declared.table.StructLayout.{StructLayout}
 use Rattle.layouts.specs.Tables.{IsLaid, AreLaid, IsPlaceBelow, HasFields, declared_by}
 use Rattle.layouts.proofs.Places.{Gives, FirstAt, struct_names, first_at, first_has, there, not_there}

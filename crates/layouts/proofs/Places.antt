@@ -4,7 +4,7 @@ use Rattle.std.specs.List.{slice_get}
 use Rattle.ir_model.specs.declared.firmware.StructDecl.{StructDecl}
 use Rattle.ir_model.specs.Plain.{PlainStruct, slot_of, struct_of}
 use Rattle.ir_model.specs.Layout.{Shape, Known, FieldPlace, empty, shape_named, fields_named, laid_out, field_places, known_behind, known}
-use Rattle.ir_model.specs.Resolve.{has, number_of}
+use Rattle.names.specs.Numbers.{has, number_of}
 use Rattle.layouts.specs.Measures.{struct_shape}
 use Rattle.layouts.proofs.Cases.{by_case}
 

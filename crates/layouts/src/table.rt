@@ -14,9 +14,9 @@ ghost use Rattle.layouts.specs.Tables.{HasTooLarge, HasFields};
 use crate::fault::LayoutFault;
 use crate::measure::Measure;
 use ir_model::firmware::StructDecl;
-use ir_model::name::Name;
 use ir_model::types::Ty;
 use name_tables::Names;
+use names::Name;
 use std::alloc::Global;
 use std::marker::Model;
 

@@ -15,8 +15,8 @@ use crate::cells::CellSpot;
 use crate::measure::{Measure, many, nothing, one_cell};
 use crate::table::{Field, Layouts, StructLayout};
 use ir_model::equal::same_type;
-use ir_model::name::Name;
 use ir_model::types::Ty;
+use names::Name;
 use std::alloc::AllocError;
 
 #[tactic(auto, unfolding(ir_model::specs::Layout::cell_at))]

@@ -8,7 +8,8 @@ use Rattle.ir_model.specs.Types.{PlainType, is_integer}
 use Rattle.ir_model.specs.Plain.{PlainGlobal, PlainFirmware}
 use Rattle.ir_model.specs.Layout.{CellPlace, shape}
 use Rattle.ir_model.specs.Resolved.{Program, Value, Number, Code, Null, At, OfGlobal, OfPeriph, OfLocal, no_global, global_at}
-use Rattle.ir_model.specs.Resolve.{Scope, scope_of, number_of, has, value_of, zero_of, filled, resolved_global, resolve}
+use Rattle.names.specs.Numbers.{number_of, has}
+use Rattle.ir_model.specs.Resolve.{Scope, scope_of, value_of, zero_of, filled, resolved_global, resolve}
 use Rattle.ir_model.specs.State.{Object}
 use Rattle.ir_laws.specs.Typed.{IsPlaced, Fits, number, null, at, code, Typed}
 

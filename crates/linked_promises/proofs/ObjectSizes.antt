@@ -8,7 +8,8 @@ use Rattle.ir_model.specs.Types.{PlainType, U8, U16, U32, Pointer, Array, Named,
 use Rattle.ir_model.specs.Plain.{PlainSlot, PlainStruct, PlainGlobal, PlainFunc, PlainFirmware, funcs_of, names_of}
 use Rattle.ir_model.specs.Layout.{Shape, Known, empty, shape_named, shape, with_field, laid_out, field_places, with_struct, known_behind, known}
 use Rattle.ir_model.specs.Resolved.{no_global, no_func, func_at, global_at, local_at}
-use Rattle.ir_model.specs.Resolve.{scope_of, has, resolved_func, resolved_global, resolve}
+use Rattle.names.specs.Numbers.{has}
+use Rattle.ir_model.specs.Resolve.{scope_of, resolved_func, resolved_global, resolve}
 use Rattle.ir_model.specs.Canonical.{IsWithinLimits}
 use Rattle.common_laws.specs.Lists.{Each}
 use Rattle.ir_model.specs.Extents.{HasElements, EachHasElements, AllHaveElements}

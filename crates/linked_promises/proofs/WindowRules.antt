@@ -16,7 +16,8 @@ use Rattle.ir_model.specs.declared.firmware.Peripheral.{Peripheral}
 use Rattle.ir_model.specs.Plain.{PlainFirmware}
 use Rattle.ir_model.specs.Resolved.{NumberedWindow, no_window}
 use Rattle.ir_model.specs.Resolve as numbers
-use Rattle.ir_model.specs.Resolve.{has, resolve}
+use Rattle.names.specs.Numbers.{has}
+use Rattle.ir_model.specs.Resolve.{resolve}
 use Rattle.ir_model.specs.Canonical.{IsWithinLimits}
 use Rattle.common_laws.specs.Lists.{Each}
 use Rattle.ir_model.specs.Typing.{Checks, check, is_new, is_window, periph_checks, IsTyped, is_apart}

@@ -1,8 +1,8 @@
 -- The place of a name in a list that grows.
 use Rattle.std.proofs.Common.{◌≡◌, ℕ, zero, suc, ◌<◌, Bool, true, false, List, [], ◌∷◌, ◌++◌, Option, Some, None, if◌then◌else◌, refl, sym, ap, ◌∙◌, length, arith, bytes_eq, cond, MatchOption, is_some}
 use Rattle.std.proofs.lemmas.Slice.Eq.{bytes_eq-Decides}
-use Rattle.ir_model.specs.Resolve.{has, number_of}
-use Rattle.ir_model.proofs.Numbers.{number_below}
+use Rattle.names.specs.Numbers.{has, number_of}
+use Rattle.names.proofs.Below.{number_below}
 use Rattle.name_tables.specs.Places.{place_in}
 
 later : Option ℕ → Option ℕ

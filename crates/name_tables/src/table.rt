@@ -1,10 +1,10 @@
 //! Names in order, with the place of each.
 
 ghost use Rattle.std.specs.Prelude.{◌≡◌, List, ℕ, OnOk, OnErr, MatchOption, [], ◌∷◌, ◌++◌, length, ◌<◌, ◌≤◌, false, true};
-ghost use Rattle.ir_model.specs.Resolve.{has, number_of};
+ghost use Rattle.names.specs.Numbers.{has, number_of};
 
 use indexmap::IndexMap;
-use ir_model::name::Name;
+use names::Name;
 use std::alloc::{AllocError, Global};
 use std::marker::Model;
 

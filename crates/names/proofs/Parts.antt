@@ -3,7 +3,7 @@ use Rattle.std.proofs.Common.{◌≡◌, ℕ, ◌<◌, List, [], ◌∷◌, ◌&
 use Rattle.std.specs.List.{list_any}
 use Rattle.std.specs.Str.{bytes_eq}
 use Rattle.std.proofs.lemmas.List.Folds.{list_any-append}
-use Rattle.names.specs.declared.words.TheConstants.{DECLARATION_WORDS, INSTRUCTION_WORDS, TYPE_WORDS, OPERATION_WORDS, COMPARISON_WORDS}
+use Rattle.names.specs.declared.reserved.TheConstants.{DECLARATION_WORDS, INSTRUCTION_WORDS, TYPE_WORDS, OPERATION_WORDS, COMPARISON_WORDS}
 use Rattle.names.specs.Names.{begins_word, all_continue, is_word, is_reserved, reserved, declaration_words, instruction_words, type_words, operation_words, comparison_words}
 
 -- a word that is not empty, by its first byte and the rest

@@ -3,7 +3,7 @@ use Rattle.std.specs.Prelude.{ℕ, List, [], ◌∷◌, ◌++◌, length, Bool, 
 use Rattle.std.specs.List.{list_any, list_all}
 use Rattle.std.specs.Str.{bytes_eq}
 use Rattle.names.specs.declared.TheConstants.{NAME_LIMIT}
-use Rattle.names.specs.declared.words.TheConstants.{DECLARATION_WORDS, INSTRUCTION_WORDS, TYPE_WORDS, OPERATION_WORDS, COMPARISON_WORDS}
+use Rattle.names.specs.declared.reserved.TheConstants.{DECLARATION_WORDS, INSTRUCTION_WORDS, TYPE_WORDS, OPERATION_WORDS, COMPARISON_WORDS}
 
 abbrev pub is_between : ℕ → ℕ → ℕ → Bool
 is_between low high b = not (nat_lt b low) && not (nat_lt high b)

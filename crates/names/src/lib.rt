@@ -6,7 +6,10 @@ ghost use Rattle.std.specs.List.{list_any};
 ghost use Rattle.std.specs.Str.{bytes_eq};
 ghost use Rattle.names.specs.Names as names;
 
-pub mod words;
+mod name;
+pub mod reserved;
+
+pub use name::{Name, NameRefusal};
 
 /// The greatest length of a name, in bytes.
 pub const NAME_LIMIT: usize = 64;
@@ -59,11 +62,11 @@ fn is_one_of(word: &[u8], table: &[&[u8]]) -> bool
 pub fn is_reserved(word: &[u8]) -> bool
     ensures { result ≡ names.is_reserved word.now }
 {
-    is_one_of(word, &words::DECLARATION_WORDS)
-        || is_one_of(word, &words::INSTRUCTION_WORDS)
-        || is_one_of(word, &words::TYPE_WORDS)
-        || is_one_of(word, &words::OPERATION_WORDS)
-        || is_one_of(word, &words::COMPARISON_WORDS)
+    is_one_of(word, &reserved::DECLARATION_WORDS)
+        || is_one_of(word, &reserved::INSTRUCTION_WORDS)
+        || is_one_of(word, &reserved::TYPE_WORDS)
+        || is_one_of(word, &reserved::OPERATION_WORDS)
+        || is_one_of(word, &reserved::COMPARISON_WORDS)
 }
 
 /// Whether the bytes are a name: a word of at most `NAME_LIMIT` bytes that is not reserved.

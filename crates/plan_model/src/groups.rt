@@ -1,6 +1,6 @@
 //! What a policy knows of a function, and the compartments that it makes.
 
-use ir_model::name::Name;
+use names::Name;
 use list_vec::ListVec;
 
 /// What a policy knows of a function.

@@ -5,7 +5,7 @@ ghost use Rattle.std.specs.Prelude.{◌≤◌, length};
 use ir_model::clones::callee_type;
 use ir_model::equal::same_type;
 use ir_model::firmware::Firmware;
-use ir_model::name::{Name, NameRefusal};
+use names::{Name, NameRefusal};
 use ir_model::object::ObjId;
 use ir_model::text_limits::TEXT_LIMIT;
 use ir_model::types::Ty;

@@ -1,7 +1,7 @@
 use Rattle.std.proofs.Common.{◌≡◌, ◌∙◌, ap, sym, subst, true, false, map, get_or, Some}
 use Rattle.ir_model.specs.Types.{type_of}
 use Rattle.ir_model.specs.Plain.{global_of}
-use Rattle.ir_model.specs.Resolve.{has, number_of}
+use Rattle.names.specs.Numbers.{has, number_of}
 use Rattle.ir_check.proofs.NamedTypes.{global_at, global_nowhere}
 use Rattle.ir_check.proofs.lookup.global_named.Goals as goal
 

@@ -1,6 +1,6 @@
 use Rattle.std.proofs.Common.{◌≡◌, ◌∙◌, ap, sym, subst, true, get_or, Some}
 use Rattle.ir_model.specs.Types.{type_of}
-use Rattle.ir_model.specs.Resolve.{has, number_of}
+use Rattle.names.specs.Numbers.{has, number_of}
 use Rattle.ir_check.proofs.NamedTypes.{slot_at}
 use Rattle.ir_check.proofs.lookup.local_named.Goals as goal
 

@@ -1,7 +1,7 @@
 use Rattle.std.proofs.Common.{◌≡◌, ◌∙◌, ap, sym, subst, map, ◌+◌, get_or, arith, length, false, ◌<◌, ◌-◌, ◌≤◌}
 use Rattle.ir_model.specs.Types.{type_of, U32}
 use Rattle.ir_model.specs.Plain.{func_of, slot_of, names_of, types_of, regs_of}
-use Rattle.ir_model.specs.Resolve.{has, number_of}
+use Rattle.names.specs.Numbers.{has, number_of}
 use Rattle.ir_check.proofs.NamedTypes.{counted, absent, param_at, reg_at}
 use Rattle.ir_check.proofs.lookup.register_type.Goals as goal
 

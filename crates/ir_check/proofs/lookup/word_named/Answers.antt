@@ -2,7 +2,8 @@ use Rattle.std.proofs.Common.{◌≡◌, ◌∙◌, ap, sym, subst, true, false,
 use Rattle.ir_model.specs.declared.firmware.Func.{Func}
 use Rattle.ir_model.specs.Types.{Callee}
 use Rattle.ir_model.specs.Plain.{func_of, funcs_of, firmware_of}
-use Rattle.ir_model.specs.Resolve.{has, number_of, row_from}
+use Rattle.names.specs.Numbers.{has, number_of}
+use Rattle.ir_model.specs.Resolve.{row_from}
 use Rattle.ir_check.proofs.NamedTypes.{func_at, func_nowhere}
 use Rattle.ir_check.proofs.lookup.word_named.Goals as goal
 

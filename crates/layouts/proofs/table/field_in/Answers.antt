@@ -1,5 +1,5 @@
 use Rattle.std.proofs.Common.{ap, sym, map, ◌∙◌, List, ℕ}
-use Rattle.ir_model.specs.Resolve.{has}
+use Rattle.names.specs.Numbers.{has}
 use Rattle.layouts.specs.Fields.{place_of}
 use Rattle.layouts.proofs.Entries.{place_none, field_found}
 use Rattle.layouts.proofs.table.field_in.Goals as goal

@@ -1,6 +1,6 @@
 -- The numbers of names.
 use Rattle.std.proofs.Common.{◌≡◌, ℕ, zero, suc, ◌<◌, Bool, true, false, List, [], ◌∷◌, length, arith, if◌then◌else◌, bytes_eq}
-use Rattle.ir_model.specs.Resolve.{has, number_of}
+use Rattle.names.specs.Numbers.{has, number_of}
 
 number_by : (b : Bool) (ms : List (List ℕ)) (n : List ℕ) → (if b then true else has ms n) ≡ true → (has ms n ≡ true → number_of ms n < length ms) → (if b then zero else suc (number_of ms n)) < suc (length ms)
 number_by true ms n h ih = omega arith

@@ -1,10 +1,11 @@
 //! The names of the parts of a firmware, in order.
+#![tactic(auto)]
 
 ghost use Rattle.std.specs.Prelude.{◌≡◌, ◌++◌, map, OnOk, IfOk};
 ghost use Rattle.ir_model.specs.Plain.{PlainStruct, PlainGlobal, slot_of, struct_of, global_of, func_of, names_of, regs_of};
 
-use crate::table::Names;
 use ir_model::firmware::{Block, Func, Global as GlobalDecl, Peripheral, Slot, StructDecl};
+use name_tables::Names;
 use std::alloc::{AllocError, Global};
 
 /// The names of structs.

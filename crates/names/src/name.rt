@@ -6,6 +6,7 @@ ghost use Rattle.std.specs.Ordering.{nat_cmp};
 ghost use Rattle.std.specs.Cmp.Lexicographic.{slice_cmp};
 ghost use Rattle.names.specs.Names.{is_name, IsName};
 
+use crate::is_name;
 use std::alloc::{AllocError, Global};
 use std::cmp::Ordering;
 use std::fmt;
@@ -39,7 +40,7 @@ pub enum NameRefusal {
 
 impl From<AllocError> for NameRefusal {
     ghost use Rattle.std.specs.Prelude.{◌≡◌};
-    ghost use Rattle.ir_model.specs.declared.name.NameRefusal.TheVariants.{NoMemory};
+    ghost use Rattle.names.specs.declared.name.NameRefusal.TheVariants.{NoMemory};
 
     ghost from_gives = { λ _ e. e ≡ NoMemory };
 
@@ -64,7 +65,7 @@ impl Name {
         ensures is_name { OnOk result (IsName word.now) }
         ensures not_a_name { (result ≡ Err NameRefusal.NotAName) ↔ (is_name word.now ≡ false) }
     {
-        if !names::is_name(word) {
+        if !is_name(word) {
             return Err(NameRefusal::NotAName);
         }
         let word = word.to_vec(alloc)?;
@@ -79,8 +80,8 @@ impl Name {
         self.word.as_slice()
     }
 
-    /// Where the name's bytes lie.
-    pub(crate) fn allocator(&self) -> Global {
+    /// The allocator that the name's bytes are from.
+    pub fn allocator(&self) -> Global {
         *self.word.allocator()
     }
 
