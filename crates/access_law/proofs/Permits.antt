@@ -2,7 +2,7 @@
 use Rattle.std.proofs.Common.{◌≡◌, ℕ, ◌+◌, ◌-◌, ◌*◌, ◌/◌, ◌%◌, ◌^◌, ◌<◌, ◌≤◌, ◌⊎◌, inl, inr, ⊎_elim, Bool, true, false, not, ◌&&◌, ◌||◌, List, [], ◌∷◌, length, Option, Some, None, nat_eq, refl, sym, ap, ap₂, ◌∙◌, subst, arith, mul-div_cancel}
 use Rattle.std.specs.Int.{IsPowerOfTwo}
 use Rattle.std.specs.List.{list_any}
-use Rattle.std.proofs.lemmas.Bool.{false≢true, not-true}
+use Rattle.std.proofs.lemmas.Bool.{false≢true, not-true, or_cases as either}
 use Rattle.std.proofs.lemmas.Nat.Bits.{bit_at-zero}
 use Rattle.mpu_model.specs.declared.region.Region.{Region}
 use Rattle.mpu_model.specs.declared.region.Access.{Access}
@@ -29,7 +29,6 @@ use Rattle.monitor.specs.Setting.{has_code, allows_stores, may_store, may_load}
 use Rattle.confine.proofs.Reaches.{UnitLaws, stack_some}
 use Rattle.confine.proofs.Changes.{top_below}
 use Rattle.confine.proofs.EnterLaw.{both}
-use Rattle.common_laws.proofs.Tests.{either_true as either}
 use Rattle.mem_bus.proofs.Ranges.{inside_true as inside_is}
 use Rattle.common_laws.proofs.Lists.{each_at}
 use Rattle.monitor.proofs.Multiples.{divides}

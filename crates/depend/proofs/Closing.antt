@@ -1,12 +1,11 @@
 -- Rows of flags that are closed function by function, and what they say of calls.
 use Rattle.std.proofs.Common.{◌≡◌, ◌↔◌, ℕ, zero, suc, ◌+◌, ◌<◌, ◌≤◌, Bool, true, false, ◌||◌, ◌&&◌, List, [], ◌∷◌, ◌++◌, length, get_or, sym, ap, subst, ◌∙◌, inl, inr, arith}
 use Rattle.std.specs.Prelude.{◌⊎◌, Contains}
-use Rattle.std.proofs.lemmas.Bool.{and_parts, and_from, or_left, or_right, cases_lt}
+use Rattle.std.proofs.lemmas.Bool.{and_parts, and_from, or_left, or_right, cases_lt, or_cases}
 use Rattle.std.proofs.lemmas.List.{get_or_append_left, get_or_push, length_push}
 use Rattle.plan_model.specs.declared.needs.FuncNeed.{FuncNeed}
 use Rattle.plan_model.specs.Needs.{no_need}
 use Rattle.depend.specs.Reaching.{leads, Leads, at_once, then_on, IsSquare, IsPassed, IsClosedBy, HasCallees, Calls, Recurs, by_call, by_calls}
-use Rattle.common_laws.proofs.Tests.{either_true as or_cases}
 
 pub closed_start : (first : List (List Bool)) → IsClosedBy 0 first first
 closed_start first = record { kept = λ f g h. h; sound = λ f g h. at_once h; closed = λ f k g l. absurd (omega arith) }

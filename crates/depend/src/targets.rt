@@ -14,13 +14,13 @@ ghost use Rattle.plan_model.specs.Lists.{ListsExactly};
 ghost use Rattle.depend.specs.Accesses.{IsTarget, IsFunctionOf, HasTargets};
 ghost use Rattle.depend.specs.Bounds.{FunctionsAreThere};
 
-use ir_model::callee::has_type;
 use ir_model::object::ObjId;
 use ir_model::types::Ty;
 use ir_program::program::Program;
 use list_vec::ListVec;
 use object_sets::{Node, PointsTo, each_once};
 use std::alloc::{AllocError, Global};
+use type_tests::callee::has_type;
 
 fn push_target(
     program: &Program,

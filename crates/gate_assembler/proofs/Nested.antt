@@ -11,7 +11,7 @@ use Rattle.gate_steps.proofs.CodeParts.{code_has_its_length}
 use Rattle.gate_assembler.specs.Emitted.{MayPut, HasPut, has_near_offsets, choice_code, loop_head, loop_end}
 use Rattle.gate_assembler.proofs.Puts.{put_both}
 use Rattle.gate_assembler.proofs.Splits.{low-at, near-at, length-take_more, length-take-le, code-take_more}
-use Rattle.common_laws.proofs.Tests.{both_true as both_are}
+use Rattle.std.proofs.lemmas.Bool.{and_parts as both_are}
 
 -- ---- a step of a vector
 

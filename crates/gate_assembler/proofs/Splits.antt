@@ -10,7 +10,7 @@ use Rattle.gate_steps.specs.Lists.{chain, step_before, before, all_before, steps
 use Rattle.gate_steps.specs.Code.{code, code_length}
 use Rattle.gate_steps.proofs.Views.{all_before-append}
 use Rattle.gate_assembler.specs.Emitted.{has_near_offsets}
-use Rattle.common_laws.proofs.Tests.{both_true as both_are}
+use Rattle.std.proofs.lemmas.Bool.{and_parts as both_are}
 
 -- ---- lengths
 

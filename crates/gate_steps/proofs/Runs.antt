@@ -1,7 +1,7 @@
 -- The code of a list has its effect.
 use Rattle.std.proofs.Common.{◌≡◌, ◌≢◌, ℕ, ℤ, pos, negsuc, zero, suc, ◌+◌, ◌-◌, ◌*◌, ◌/◌, ◌%◌, ◌^◌, ◌<◌, ◌≤◌, Bool, true, false, not, ◌&&◌, List, [], ◌∷◌, length, None, nat_eq, nat_lt, nat_le, get_or, set, refl, sym, ap, ◌∙◌, subst, arith, ⊎_elim, get_or-set_same}
 use Rattle.std.proofs.lemmas.Int.{ints}
-use Rattle.std.proofs.lemmas.Bool.{cases_lt, ltb-true}
+use Rattle.std.proofs.lemmas.Bool.{cases_lt, ltb-true, and_parts as both}
 use Rattle.std.proofs.lemmas.List.{set-set}
 use Rattle.std.proofs.lemmas.Bool.Decides.{nat_tests}
 use Rattle.std.specs.Prelude.{bit_and, bit_or}
@@ -55,7 +55,6 @@ use Rattle.gate_steps.specs.Ticks.{load_ticks, store_ticks, then_ticks, either_t
 use Rattle.gate_steps.specs.Safe.{Rule, OnValue, OnWritten, OnWent, Either, UnlessZero, OnControl, AreTurnsSafe, IsSafe}
 use Rattle.gate_steps.proofs.CodeParts.{operation_has_its_length, has_front, has_back, behind}
 use Rattle.gate_steps.specs.Runs.{Scratch, registers as registers_at, at as state_at, StandsWhileGood as AlwaysStands, HasCode as AlwaysHasCode, IsFine as StepIsFine, Leads as RunLeads, Shows as OutcomeShows, CodeHasEffect}
-use Rattle.common_laws.proofs.Tests.{both_true as both}
 
 forward : (a n : ℕ) → a + n < 2 ^ 31 → moved a (pos n) ≡ a + n
 forward a n h = omega (arith, ints)

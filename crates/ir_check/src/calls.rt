@@ -9,10 +9,10 @@ ghost use Rattle.ir_check.specs.Scopes.{IsFuncScope};
 
 use crate::lookup::register_type;
 use crate::scope::FuncScope;
-use ir_model::equal::same_type;
 use ir_model::firmware::{Func, Slot};
 use ir_model::types::Ty;
 use names::Name;
+use type_tests::equal::same_type;
 
 fn fit_slots(func: &FuncScope, params: &[Slot], args: &[Name]) -> bool
     requires { IsFuncScope func.now }

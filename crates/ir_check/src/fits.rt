@@ -12,11 +12,11 @@ use crate::calls::{is_call, is_icall, is_outcome};
 use crate::lookup::{field_named, func_named, global_named, local_named, register_type};
 use crate::registers::is_register_type;
 use crate::scope::{FuncScope, Scope};
-use ir_model::callee::is_callee;
-use ir_model::equal::same_type;
 use ir_model::firmware::{Inst, Term};
 use ir_model::types::Ty;
 use names::Name;
+use type_tests::callee::is_callee;
+use type_tests::equal::same_type;
 
 /// Whether a type is `u32`.
 pub fn is_word(ty: &Ty) -> bool

@@ -1,5 +1,4 @@
 pub mod SameTypes
-mod RowSteps
 mod CloneLists
 mod Layouts
 mod Shapes

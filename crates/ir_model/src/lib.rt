@@ -1,12 +1,10 @@
 //! The firmware language: its parts as types, and its definitions.
 #![tactic(auto)]
 
-pub mod callee;
 pub mod check;
 pub mod checked;
 pub mod clones;
 pub mod copies;
-pub mod equal;
 pub mod extent;
 pub mod firmware;
 pub mod layout;

@@ -14,10 +14,10 @@ ghost use Rattle.layouts.specs.Tables.{IsLaid, IsPlaceBelow, IsFirstAbove, IsLas
 use crate::cells::CellSpot;
 use crate::measure::{Measure, many, nothing, one_cell};
 use crate::table::{Field, Layouts, StructLayout};
-use ir_model::equal::same_type;
 use ir_model::types::Ty;
 use names::Name;
 use std::alloc::AllocError;
+use type_tests::equal::same_type;
 
 #[tactic(auto, unfolding(ir_model::specs::Layout::cell_at))]
 fn scalar_number(ty: &Ty, at: u32, of: &Ty) -> Option<u32>

@@ -1,7 +1,7 @@
 -- Which of a few instructions are in the table, by a test.
 use Rattle.std.proofs.Common.{◌≡◌, ℕ, zero, suc, ◌+◌, Bool, true, false, ◌&&◌, nat_eq, nat_lt, pos, List, [], ◌∷◌, Option, refl, arith}
 use Rattle.std.proofs.lemmas.Int.{ints}
-use Rattle.std.proofs.lemmas.Bool.{ltb-true, eqb-true}
+use Rattle.std.proofs.lemmas.Bool.{ltb-true, eqb-true, and_parts as both}
 use Rattle.thumb_model.specs.declared.table.Instr.{Instr}
 use Rattle.thumb_model.specs.declared.table.Instr.TheVariants.{DataImmediate, TransferImmediate, StackRelative, AdjustStack, PushPop, BreakpointNop, CallBranch, MoveWide, MoveTop}
 use Rattle.thumb_model.specs.Table.{InTable, IsOffset}
@@ -9,7 +9,6 @@ use Rattle.thumb_asm.specs.declared.item.Item.{Item}
 use Rattle.thumb_asm.specs.declared.item.Item.TheVariants.{Plain, Branch, Half, Word}
 use Rattle.armv7m.specs.Code.{size}
 use Rattle.code_effects.specs.Items.{InstructionsInTable}
-use Rattle.common_laws.proofs.Tests.{both_true as both}
 
 -- the instructions of code without operations and branches
 abbrev is_listed : Instr → Bool

@@ -1,13 +1,12 @@
 -- The words that start-up fills a block with stand in its open eighths.
 use Rattle.std.proofs.Common.{◌≡◌, ℕ, zero, suc, ◌+◌, ◌-◌, ◌*◌, ◌/◌, ◌%◌, ◌^◌, ◌<◌, ◌≤◌, Bool, true, false, ◌&&◌, cond, nat_lt, refl, sym, ap, ◌∙◌, subst, pow_pos, arith}
 use Rattle.std.proofs.lemmas.Nat.{pow-add}
-use Rattle.std.proofs.lemmas.Bool.{leb-true}
+use Rattle.std.proofs.lemmas.Bool.{leb-true, and_parts as both}
 use Rattle.ir_model.specs.Layout.{rounded_up}
 use Rattle.plan_model.specs.Covers.{least_power}
 use Rattle.plan_model.specs.Blocks.{block, has_eighths, open_eighths}
 use Rattle.layout_laws.specs.RamLaws.{open_bytes}
 use Rattle.linked_images.proofs.Powers.{block_is}
-use Rattle.common_laws.proofs.Tests.{both_true as both}
 use Rattle.common_laws.proofs.Powers.{smaller_exponent}
 
 split : (a z : ℕ) → 0 < z → (a ≡ a / z * z + a % z) × (a % z < z)

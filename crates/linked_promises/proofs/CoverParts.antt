@@ -2,7 +2,7 @@
 use Rattle.std.proofs.Common.{◌≡◌, ℕ, zero, suc, ◌<◌, ◌≤◌, ◌+◌, ◌-◌, ◌*◌, ◌/◌, ◌%◌, ◌^◌, ◌⊎◌, inl, inr, Bool, true, false, not, List, [], ◌∷◌, ◌++◌, length, map, filter, get_or, set, cond, Option, Some, nat_eq, nat_lt, nat_le, refl, ap, sym, ◌∙◌, subst, eq-eqb, eqb-true, le-leb, lit<, arith}
 use Rattle.std.specs.Prelude.{find, unwrap_or}
 use Rattle.std.specs.List.{range_with_len, best_of}
-use Rattle.std.proofs.lemmas.Bool.{cases_lt, cases_eq}
+use Rattle.std.proofs.lemmas.Bool.{cases_lt, cases_eq, and_from as both}
 use mathlib.Core.Logic.{⊎_elim}
 use Rattle.std.proofs.lemmas.Option.{same_Some, none-some}
 use Rattle.std.proofs.lemmas.Nat.{div-add-mod', mod_below, div_below, pow-add, pow_pos}
@@ -18,7 +18,6 @@ use Rattle.plan_model.specs.Covers.{least_power, lowest, highest, joined_size, j
 use Rattle.plan_model.specs.FinalGraph.{Merges, stays, joins}
 use Rattle.plan_model.specs.Merging.{covers_at, cover_cost, cover_pair, with_joined_cover, next}
 use Rattle.linked_promises.proofs.Kept.{by_next}
-use Rattle.common_laws.proofs.Tests.{true_both as both}
 use Rattle.linked_promises.proofs.Products.{times}
 
 pub record IsPart (d : Cover) : Type 0 where

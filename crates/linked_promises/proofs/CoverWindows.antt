@@ -1,6 +1,6 @@
 -- Each cover of the final graph holds whole windows: a window that has an address in it lies inside it.
 use Rattle.std.proofs.Common.{◌≡◌, ℕ, ◌+◌, ◌*◌, ◌-◌, ◌/◌, ◌^◌, ◌<◌, ◌≤◌, true, [], length, get_or, nat_le, sym, subst, le-leb, pow_pos, arith}
-use Rattle.std.proofs.lemmas.Bool.{leb-true, cases_lt, cases_eq}
+use Rattle.std.proofs.lemmas.Bool.{leb-true, cases_lt, cases_eq, and_from as both, and_parts}
 use Rattle.std.proofs.lemmas.Nat.{div-add-mod'}
 use mathlib.Core.Logic.{⊎_elim}
 use Rattle.thread_runs.specs.Areas as areas
@@ -18,7 +18,6 @@ use Rattle.linked_promises.proofs.Forms.{in_whole}
 use Rattle.linked_promises.proofs.Covers.{inside_through}
 use Rattle.linked_promises.proofs.CoverParts.{IsPart, joined_part, joined_holds}
 use Rattle.linked_promises.proofs.CoverSlots.{window_part, final_covers}
-use Rattle.common_laws.proofs.Tests.{both_true as and_parts, true_both as both}
 use Rattle.linked_promises.proofs.Products.{times}
 
 -- ---- a range inside another

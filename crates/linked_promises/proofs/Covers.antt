@@ -1,7 +1,7 @@
 -- What a compartment's covers hold, they hold after joins too; and each of them is an aligned power of two of peripherals.
 use Rattle.std.proofs.Common.{◌≡◌, ℕ, ◌<◌, Bool, true, false, not, ◌&&◌, ◌||◌, List, [], ◌∷◌, length, filter, get_or, set, Some, nat_lt, nat_le, refl, ap, sym, ◌∙◌, subst, arith}
 use Rattle.std.specs.List.{list_any}
-use Rattle.std.proofs.lemmas.Bool.{leb-true, le-leb, cases_lt, cases_eq, or_left, or_right}
+use Rattle.std.proofs.lemmas.Bool.{leb-true, le-leb, cases_lt, cases_eq, or_left, or_right, and_from as both, and_parts}
 use mathlib.Core.Logic.{⊎_elim}
 use Rattle.std.proofs.lemmas.List.{get_or-set_same, get_or-set_other, get_or_past}
 use Rattle.plan_model.specs.declared.graph.Cover.{Cover}
@@ -12,7 +12,6 @@ use Rattle.ir_model.specs.Resolved.{Program}
 use Rattle.plan_model.specs.FinalGraph.{Merges, stays, joins}
 use Rattle.plan_model.proofs.Orders.{any_in_order}
 use Rattle.linked_promises.proofs.Kept.{by_next}
-use Rattle.common_laws.proofs.Tests.{both_true as and_parts, true_both as both}
 use Rattle.common_laws.proofs.Lists.{any_kept as any_filtered}
 
 -- ---- tests over lists in an order

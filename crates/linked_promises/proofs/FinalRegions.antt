@@ -20,7 +20,7 @@ use Rattle.linked_promises.proofs.Kept.{kept_final}
 use Rattle.linked_promises.proofs.Joins.{EachRegion, SomeRegion, AreApart, StaysOfBoth, StaysOfOne, each_all, some_all, apart_all}
 use Rattle.linked_promises.proofs.Lists.{passing_among}
 use Rattle.linked_promises.proofs.FirstRegions.{first_some, first_apart, first_filled, first_below, first_used, first_writers, first_readers, free_are, are_free}
-use Rattle.common_laws.proofs.Tests.{either_true as either}
+use Rattle.std.proofs.lemmas.Bool.{or_cases as either}
 
 -- ---- what joins keep
 

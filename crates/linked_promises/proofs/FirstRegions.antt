@@ -2,7 +2,7 @@
 use Rattle.std.proofs.Common.{◌≡◌, ℕ, zero, suc, ◌<◌, Bool, true, false, not, ◌&&◌, List, [], ◌∷◌, length, map, filter, cond, get_or, refl, ap, sym, ◌∙◌, subst, arith}
 use Rattle.std.specs.List.{list_any}
 use Rattle.std.specs.Cmp.Lexicographic.{same_text}
-use Rattle.std.proofs.lemmas.Bool.{and_parts, cases_order, not-true}
+use Rattle.std.proofs.lemmas.Bool.{and_parts, cases_order, not-true, and_from as both}
 use Rattle.std.proofs.lemmas.Cmp.{nat_list_eq_equiv}
 use Rattle.std.proofs.lemmas.List.{get_or-map, length-map}
 use mathlib.Core.Logic.{⊎_elim}
@@ -18,7 +18,6 @@ use Rattle.grouping.proofs.Distinct.{any_distinct, any_seen}
 use Rattle.linked_promises.proofs.CoverParts.{each_map}
 use Rattle.linked_promises.proofs.Lists.{any_index, passing_among, among_passing, each_passing, each_at, below_all}
 use Rattle.linked_promises.proofs.Joins.{EachRegion, SomeRegion, AreApart}
-use Rattle.common_laws.proofs.Tests.{true_both as both}
 use Rattle.common_laws.proofs.Lists.{any_kept as any_filtered}
 use Rattle.plan_model.proofs.Numbers.{one_passes}
 use Rattle.plan_model.proofs.SameUsers.{same_through}

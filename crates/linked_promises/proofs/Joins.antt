@@ -1,7 +1,7 @@
 -- What joins do with data regions: of the two, the lower one becomes the region of both, the other one is taken out, and all others stay.
 use Rattle.std.proofs.Common.{◌≡◌, ℕ, zero, suc, ◌<◌, ◌≤◌, ◌+◌, ◌-◌, ◌⊎◌, inl, inr, Bool, true, false, List, [], ◌∷◌, length, map, filter, cond, set, Some, None, nat_lt, refl, ap, sym, ◌∙◌, subst, arith}
 use Rattle.std.specs.List.{range_with_len, best_of}
-use Rattle.std.proofs.lemmas.Bool.{cases_lt, cases_eq}
+use Rattle.std.proofs.lemmas.Bool.{cases_lt, cases_eq, or_cases}
 use Rattle.std.proofs.lemmas.Option.{same_Some}
 use Rattle.std.proofs.lemmas.List.{get_or-set_same, get_or-set_other, length-set}
 use Rattle.std.proofs.lemmas.List.Edits.{length-remove, get_or-remove_below, get_or-remove_above}
@@ -18,7 +18,6 @@ use Rattle.plan_model.specs.FinalGraph.{Merges, stays, joins}
 use Rattle.region_graph.proofs.UsersHave.{has_union}
 use Rattle.linked_promises.proofs.Kept.{by_next}
 use Rattle.linked_promises.proofs.Lists.{each_behind}
-use Rattle.common_laws.proofs.Tests.{either_true}
 
 -- ---- the pair that is joined
 
@@ -228,7 +227,7 @@ module _ (rs : List Region) (q : Pair) (rising : IsRising (length rs) q) where
 
   -- the joined one has what one of the two has
   joint_has : (x : ℕ) → has (both rs q rising).globals x ≡ true → (has (region_at rs q.first).globals x ≡ true) ⊎ (has (region_at rs q.second).globals x ≡ true)
-  joint_has x h = either_true (has (region_at rs q.first).globals x) (has (region_at rs q.second).globals x) (sym (has_union (region_at rs q.first).globals (region_at rs q.second).globals x) ∙ h)
+  joint_has x h = or_cases (has (region_at rs q.first).globals x) (has (region_at rs q.second).globals x) (sym (has_union (region_at rs q.first).globals (region_at rs q.second).globals x) ∙ h)
 
   apart_joined : AreApart rs → AreApart (with_joined_region rs q)
   apart_joined a k m x l h e f = ⊎_elim left (λ o. ⊎_elim (right o) (both_stay o) (from rs q rising m h)) (from rs q rising k l)

@@ -3,7 +3,7 @@ use Rattle.std.proofs.Common.{◌≡◌, ℕ, zero, suc, ◌<◌, ◌≤◌, ◌
 use Rattle.std.specs.List.{list_any, range_with_len}
 use Rattle.thread_runs.specs.Areas as areas
 use Rattle.plan_model.specs.Lists.{has, numbers_below}
-use Rattle.common_laws.proofs.Tests.{true_both as both}
+use Rattle.std.proofs.lemmas.Bool.{and_from as both}
 use Rattle.common_laws.proofs.Lists.{any_kept as any_filtered}
 use Rattle.plan_model.proofs.Numbers.{one_passes}
 

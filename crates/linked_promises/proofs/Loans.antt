@@ -5,7 +5,7 @@ use Rattle.std.specs.Int.{bit_at}
 use Rattle.std.proofs.lemmas.List.{get_or-map, length-map}
 use Rattle.std.proofs.lemmas.List.FromFn.{get_or-map-range_with_len}
 use Rattle.std.proofs.lemmas.List.Quantifiers.{position-Some}
-use Rattle.std.proofs.lemmas.Bool.{or_right}
+use Rattle.std.proofs.lemmas.Bool.{or_right, and_from as both, and_parts}
 use Rattle.ir_model.specs.declared.object.ObjId.TheVariants.{Local}
 use Rattle.ir_model.specs.Plain.{PlainFirmware}
 use Rattle.ir_model.specs.Resolve.{resolve}
@@ -44,7 +44,6 @@ use Rattle.linked_promises.proofs.Bits.{mask_bit}
 use Rattle.linked_promises.proofs.Kept.{kept_final}
 use Rattle.linked_promises.proofs.Reach.{one_of, has_listed}
 use Rattle.linked_promises.proofs.Compartments.{in_compartment}
-use Rattle.common_laws.proofs.Tests.{both_true as and_parts, true_both as both}
 use Rattle.plan_model.proofs.Choices.{none_first}
 
 -- ---- limits

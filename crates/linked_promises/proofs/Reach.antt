@@ -14,7 +14,7 @@ use Rattle.plan_model.specs.Lists.{numbers_below}
 use Rattle.plan_model.specs.Groups.{compartment_of, functions_of}
 use Rattle.plan_model.specs.Needs.{has_object}
 use Rattle.depend.specs.Reached.{IsListed}
-use Rattle.common_laws.proofs.Tests.{true_both as both}
+use Rattle.std.proofs.lemmas.Bool.{and_from as both}
 use Rattle.common_laws.proofs.Lists.{any_kept as any_filtered}
 use Rattle.plan_model.proofs.Numbers.{one_passes}
 

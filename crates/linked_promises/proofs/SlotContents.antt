@@ -1,7 +1,7 @@
 -- What the slots of a planned firmware's compartments hold is of their permissions.
 use Rattle.std.proofs.Common.{◌≡◌, ℕ, zero, suc, ◌<◌, ◌≤◌, ◌+◌, ◌*◌, ◌/◌, ◌%◌, inl, inr, Bool, true, false, ◌&&◌, List, [], ◌∷◌, length, map, get_or, cond, nat_eq, nat_lt, refl, ap, sym, ◌∙◌, subst, lit<, arith}
 use Rattle.std.specs.List.{list_any}
-use Rattle.std.proofs.lemmas.Bool.{ltb-true, cases_lt, or_left, or_right}
+use Rattle.std.proofs.lemmas.Bool.{ltb-true, cases_lt, or_left, or_right, and_from as both}
 use Rattle.std.proofs.lemmas.List.{get_or_past}
 use Rattle.std.proofs.lemmas.List.Folds.{list_any_at}
 use Rattle.std.proofs.lemmas.List.FromFn.{length-map-range_with_len}
@@ -53,7 +53,6 @@ use Rattle.linked_promises.proofs.GlobalPlaces.{placed, byte_held, same_or_other
 use Rattle.linked_promises.proofs.DataSlots.{few_bits, slot_holds}
 use Rattle.linked_promises.proofs.DataRanges as ranges
 use Rattle.linked_promises.proofs.Opened.{SlotLaws, slots_are, slots_at}
-use Rattle.common_laws.proofs.Tests.{true_both as both}
 
 -- ---- lists
 

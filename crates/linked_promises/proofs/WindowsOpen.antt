@@ -2,7 +2,7 @@
 use Rattle.std.proofs.Common.{◌≡◌, ℕ, zero, suc, ◌<◌, ◌≤◌, ◌+◌, ◌-◌, ◌/◌, ◌%◌, inl, inr, Bool, true, false, ◌&&◌, ◌||◌, List, [], ◌∷◌, length, map, filter, get_or, cond, nat_eq, nat_lt, nat_le, refl, ap, sym, ◌∙◌, subst, eq-eqb, lit<, arith}
 use Rattle.std.specs.List.{list_any, Contains, range_with_len}
 use Rattle.std.proofs.Math.Pow.{pow_mono}
-use Rattle.std.proofs.lemmas.Bool.{leb-true, le-leb}
+use Rattle.std.proofs.lemmas.Bool.{leb-true, le-leb, and_from as both}
 use Rattle.std.proofs.lemmas.Nat.Bits.{bit_at-zero}
 use Rattle.std.proofs.lemmas.List.{length-map, length-append}
 use Rattle.std.proofs.lemmas.List.Folds.{list_any-from_Any}
@@ -51,7 +51,6 @@ use Rattle.linked_promises.proofs.CoverParts.{IsPart, AreParts, parts_all, each_
 use Rattle.linked_promises.proofs.Compartments.{in_compartment}
 use Rattle.linked_promises.proofs.Reach.{one_of}
 use Rattle.linked_promises.proofs.Loans.{record_of}
-use Rattle.common_laws.proofs.Tests.{true_both as both}
 use Rattle.common_laws.proofs.Lists.{any_kept as any_filtered}
 use Rattle.plan_model.proofs.Numbers.{one_passes}
 use Rattle.plan_model.proofs.Orders.{any_in_order}

@@ -23,7 +23,7 @@ use Rattle.monitor_code.specs.declared.calls.Lists.{Lists}
 use Rattle.monitor_code.specs.Whole.{fits, HasWords, AreLists, CanPut, lists_code, vector_words}
 use Rattle.monitor_code.proofs.Fits.{lists_fit}
 use Rattle.thumb_asm.proofs.Items.{total-append}
-use Rattle.common_laws.proofs.Tests.{both_true as parts_of}
+use Rattle.std.proofs.lemmas.Bool.{and_parts as parts_of}
 
 word_bytes : (w : ℕ) → bytes_of_half (w % 2 ^ 16) ++ bytes_of_half (w / 2 ^ 16) ≡ w % 256 ∷ w / 2 ^ 8 % 256 ∷ w / 2 ^ 16 % 256 ∷ w / 2 ^ 24 ∷ []
 word_bytes w =

@@ -1,7 +1,7 @@
 -- What the checks of an image tell where none of them fails.
 use Rattle.std.proofs.Common.{◌≡◌, ◌≢◌, ℕ, ◌+◌, ◌*◌, ◌%◌, ◌≤◌, Bool, true, false, not, ◌&&◌, List, [], ◌∷◌, ◌++◌, length, nat_eq, nat_lt, nat_le, Option, Some, None, refl, sym, ap₂, arith}
 use Rattle.std.proofs.lemmas.Bool.Decides.{nat_tests}
-use Rattle.std.proofs.lemmas.Bool.{ltb-true, eqb-true, leb-true}
+use Rattle.std.proofs.lemmas.Bool.{ltb-true, eqb-true, leb-true, and_parts as both}
 use Rattle.device_model.specs.declared.image.Image.{Image}
 use Rattle.device_model.specs.Rules.{block_size}
 use Rattle.common_laws.specs.Lists.{Each}
@@ -19,7 +19,6 @@ use Rattle.monitor.specs.MonitorCode.{MonitorCode}
 use Rattle.monitor.specs.Sound.{Failure, unless, first_failure, Sound}
 use Rattle.monitor.specs.Placed.{IsEntry}
 use Rattle.mpu_model.specs.Regions.{holds}
-use Rattle.common_laws.proofs.Tests.{both_true as both}
 
 pub is_not : (a b : ℕ) → not (nat_eq a b) ≡ true → a ≢ b
 is_not a b h = grind (arith, nat_tests)

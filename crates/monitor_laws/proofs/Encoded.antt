@@ -3,7 +3,7 @@ use Rattle.std.proofs.Common.{◌≡◌, ℕ, zero, suc, pos, negsuc, ◌+◌, �
 use Rattle.std.proofs.lemmas.Bool.Decides.{nat_tests}
 use Rattle.std.proofs.lemmas.Nat.{trailing_le}
 use Rattle.std.specs.Int.Signed.{le_z_yes, lt_z_yes}
-use Rattle.std.proofs.lemmas.Bool.{ltb-true}
+use Rattle.std.proofs.lemmas.Bool.{ltb-true, and_parts as both}
 use Rattle.thumb_model.specs.Table.{IsGeneral, IsOffset}
 use Rattle.thumb_model.specs.Bytes.{EachInTable}
 use Rattle.words.specs.declared.memory.Width.{Width}
@@ -19,7 +19,6 @@ use Rattle.monitor.specs.Constants.{Constants, constants_with}
 use Rattle.monitor.specs.Opening.{times, bits_of, regions, tables_of}
 use Rattle.monitor.specs.Reset.{init_turn}
 use Rattle.monitor_laws.proofs.ResetList.{last_part, before_control, control_and_go}
-use Rattle.common_laws.proofs.Tests.{both_true as both}
 use Rattle.thumb_model.proofs.Codes.{in_table-append as each_append}
 
 -- registers, offsets and numbers of halts fit into their fields

@@ -23,7 +23,7 @@ use Rattle.monitor.specs.Layout.{tables_size}
 use Rattle.monitor.specs.Regions.{tables_region, stack_region, regions_for}
 use Rattle.monitor.specs.Placed.{Placed, IsCompartment, IsSlot, InFlashOf}
 use Rattle.monitor_laws.proofs.Tables.{stack_size}
-use Rattle.common_laws.proofs.Tests.{both_true}
+use Rattle.std.proofs.lemmas.Bool.{and_parts}
 use Rattle.common_laws.proofs.Lists.{each_at}
 use Rattle.monitor.proofs.Multiples.{divides}
 
@@ -40,7 +40,7 @@ reads_more n h = search (nat_tests, arith)
 fetches_more : (g : Region) (u : Bool) → allows g true Fetch ≡ true → allows g u Fetch ≡ true
 fetches_more g true h = h
 fetches_more g false h =
-    let p = both_true (ap_reads true (permission g)) (is_executable g) h in
+    let p = and_parts (ap_reads true (permission g)) (is_executable g) h in
     let r = reads_more (permission g) p.0 in
     let e = p.1 in
     rw (r, e) refl

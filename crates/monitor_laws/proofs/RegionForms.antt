@@ -5,7 +5,7 @@ use Rattle.std.proofs.lemmas.Nat.{div-mul-add}
 use Rattle.std.proofs.Math.Nat.{div-div-eq-div-mul}
 use Rattle.std.proofs.lemmas.Nat.{pow-add}
 use Rattle.std.specs.Int.{bit_at}
-use Rattle.std.proofs.lemmas.Bool.{ltb-true, eqb-true, leb-true}
+use Rattle.std.proofs.lemmas.Bool.{ltb-true, eqb-true, leb-true, and_parts as both, or_cases}
 use Rattle.mpu_model.specs.declared.region.Region.{Region}
 use Rattle.mpu_model.specs.declared.words.Rights.{Rights}
 use Rattle.mpu_model.specs.declared.words.Rights.TheVariants.{Background, Code, Ram, Device}
@@ -21,7 +21,6 @@ use Rattle.monitor.specs.declared.tables.Tables.{Tables}
 use Rattle.common_laws.specs.Lists.{Each}
 use Rattle.monitor.specs.RegionChecks.{is_data_range, base_of, size_of, taken_out, has_form, eighths_hold_data, holds_data, is_code, is_free, is_data, is_read_only, is_cover, is_slot, are_slots, is_mask, is_compartment}
 use Rattle.monitor.specs.Placed.{IsCode, IsSlot, IsSlotByte, InFlashOf}
-use Rattle.common_laws.proofs.Tests.{both_true as both, either_true}
 
 -- ---- forms
 
@@ -301,7 +300,7 @@ module _ (i : Image) (t : Tables) (w : Grounds i t) where
   free_number n g few h = let p = both (nat_eq g.rbar (2 ^ 4 + n)) (nat_eq g.rasr 0) h in let r = eqb-true g.rbar (2 ^ 4 + n) p.0 in (omega (arith, r, few), omega (arith, r, few))
 
   slot_is : (n : ℕ) (g : Region) → n < 16 → is_slot i t n g ≡ true → IsSlot i t g × (g.rbar / 2 ^ 4 % 2 ≡ 1) × (g.rbar % 16 ≡ n)
-  slot_is n g few h = ⊎_elim (λ x. let v = free_number n g few x in (free_slot n g x, v.0, v.1)) (λ y. ⊎_elim ram_slot (λ z. ⊎_elim read_only cover (either_true (is_read_only i t n g) (is_cover n g) z)) (either_true (is_data i t n g) (is_read_only i t n g || is_cover n g) y)) (either_true (is_free n g) (is_data i t n g || (is_read_only i t n g || is_cover n g)) h)
+  slot_is n g few h = ⊎_elim (λ x. let v = free_number n g few x in (free_slot n g x, v.0, v.1)) (λ y. ⊎_elim ram_slot (λ z. ⊎_elim read_only cover (or_cases (is_read_only i t n g) (is_cover n g) z)) (or_cases (is_data i t n g) (is_read_only i t n g || is_cover n g) y)) (or_cases (is_free n g) (is_data i t n g || (is_read_only i t n g || is_cover n g)) h)
     where
       ram_slot : is_data i t n g ≡ true → IsSlot i t g × (g.rbar / 2 ^ 4 % 2 ≡ 1) × (g.rbar % 16 ≡ n)
       ram_slot x = let p = both (has_form n (taken_out g) Ram g) (holds_data i t g) x in let v = form_number n (taken_out g) Ram g few p.0 in (data_slot n 0x13060001 Ram g few refl (inl refl) p.0 p.1, v.0, v.1)

@@ -2,7 +2,7 @@
 use Rattle.std.proofs.Common.{◌≡◌, ℕ, ◌+◌, ◌-◌, ◌*◌, ◌/◌, ◌%◌, ◌<◌, ◌≤◌, ◌⊎◌, inl, inr, ⊎_elim, true, ◌&&◌, List, [], ◌∷◌, length, nat_eq, nat_lt, None, refl, sym, ap, ◌∙◌, subst, arith}
 use Rattle.std.proofs.lemmas.List.Sums.{sum_by-cons}
 use Rattle.std.specs.Prelude.{sum_by}
-use Rattle.std.proofs.lemmas.Bool.{ltb-true, eqb-true}
+use Rattle.std.proofs.lemmas.Bool.{ltb-true, eqb-true, and_parts as both}
 use Rattle.device_model.specs.declared.image.Image.{Image}
 use Rattle.device_model.specs.Rules.{ObeysRules, IsStack, block_size}
 use Rattle.common_laws.specs.Lists.{Each}
@@ -28,7 +28,6 @@ use Rattle.monitor_laws.proofs.RegionForms.{Grounds, comp_is}
 use Rattle.monitor_laws.proofs.Sizes.{IsSize, tables_size_is}
 use Rattle.monitor_laws.proofs.ReadTables.{read_from, has_tables, slot_count, each_count, word_total}
 use Rattle.monitor_laws.proofs.Numbers.{product}
-use Rattle.common_laws.proofs.Tests.{both_true as both}
 
 four_more : (r : ℕ) → (r ≡ 8) ⊎ (r ≡ 16) → (r ≡ 4 + (r - 4)) × (r - 4 ≤ 12)
 four_more r (inl e) = (omega (arith, e), omega (arith, e))

@@ -2,7 +2,7 @@
 use Rattle.std.proofs.Common.{◌≡◌, ℕ, zero, suc, ◌<◌, Bool, true, false, ◌||◌, ◌&&◌, List, [], ◌∷◌, length, get_or, refl, sym, ap, ◌∙◌, subst, arith, nat_eq, inl, inr, Contains, Option, Some, None}
 use Rattle.std.specs.List.{list_any}
 use Rattle.std.specs.List.Sorted.{IsStrictlySortedBy}
-use Rattle.std.proofs.lemmas.Bool.{false≢true, eqb-true, eq-eqb, or_right}
+use Rattle.std.proofs.lemmas.Bool.{false≢true, eqb-true, eq-eqb, or_right, or_cases}
 use Rattle.ir_model.specs.declared.object.ObjId.{ObjId}
 use Rattle.ir_model.specs.Objects.{object_by, compare_objects}
 use Rattle.ir_model.specs.State.{Object, GlobalObject, PeriphObject, LocalObject, FunctionObject}
@@ -11,7 +11,6 @@ use Rattle.ir_laws.specs.Sets.{Node}
 use Rattle.object_sets.specs.declared.numbering.Numbering.{Numbering}
 use Rattle.object_sets.specs.Numbers.{node_number}
 use Rattle.object_sets.specs.Sets.{Sets, same_object, row_at, row_of, sets_of}
-use Rattle.common_laws.proofs.Tests.{either_true as or_cases}
 use Rattle.ir_laws.proofs.Objects.{same_id as object_by_is}
 
 and_left : (a b : Bool) → a && b ≡ true → a ≡ true

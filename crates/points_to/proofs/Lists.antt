@@ -1,13 +1,12 @@
 -- Lists without repeats that grow.
 use Rattle.std.proofs.Common.{◌≡◌, ℕ, zero, suc, ◌+◌, ◌<◌, ◌≤◌, Bool, true, false, ◌||◌, List, [], ◌∷◌, ◌++◌, length, get_or, set, refl, sym, ap, ◌∙◌, subst, arith, nat_eq, if◌then◌else◌, ◌⊎◌, inl, inr}
 use Rattle.std.specs.List.{IsDistinct}
-use Rattle.std.proofs.lemmas.Bool.{false≢true, eqb-true, eq-eqb, or_right}
+use Rattle.std.proofs.lemmas.Bool.{false≢true, eqb-true, eq-eqb, or_right, or_cases}
 use Rattle.std.proofs.lemmas.List.{length-set, get_or-set_same, length-append}
 use Rattle.std.proofs.lemmas.Map.Keys.{IsDistinct-push}
 use Rattle.std.specs.Cmp.{nat_eq_equiv}
 use Rattle.object_sets.specs.Rows.{Lists, has, row, added}
 use Rattle.points_to.specs.Searching.{is_in}
-use Rattle.common_laws.proofs.Tests.{either_true as or_cases}
 
 pub set_each : (P : ℕ → List ℕ → Type 0) (s : Lists) (n : ℕ) (r : List ℕ) → ((i : ℕ) → P i (row s i)) → P n r → (i : ℕ) → P i (row (set s n r) i)
 set_each P [] n r h e i = h i

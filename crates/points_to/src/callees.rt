@@ -7,10 +7,10 @@ ghost use Rattle.ir_program.specs.Seen.{program_of};
 ghost use Rattle.points_to.specs.Rules.{callee_of, parameter_of, outcome_of, edge_of};
 
 use crate::rules::{Edge, Trigger};
-use ir_model::callee::is_callee;
 use ir_model::types::Ty;
 use ir_program::program::{Program, Routine};
 use object_sets::{Node, Numbering};
+use type_tests::callee::is_callee;
 
 /// Whether values of a type are of objects.
 pub(crate) fn carries(ty: &Ty) -> bool

@@ -4,7 +4,7 @@ use Rattle.std.specs.Prelude.{find, unwrap_or, option_map, IfSome}
 use Rattle.std.specs.List.{All, range_with_len}
 use Rattle.std.proofs.Math.Nat.{mul-le-mul_left}
 use Rattle.std.proofs.lemmas.Nat.{pow-add, pow_pos}
-use Rattle.std.proofs.lemmas.Bool.{le-leb, eqb-true, eq-eqb, cases_lt}
+use Rattle.std.proofs.lemmas.Bool.{le-leb, eqb-true, eq-eqb, cases_lt, and_from as both}
 use Rattle.std.proofs.lemmas.List.Elements.{All-cons, All-nil, All-head, All-tail, All-filter, All-set, All-get_or, All-map, All-weaker}
 use Rattle.std.proofs.lemmas.List.{get_or_past}
 use mathlib.Core.Logic.{⊎_elim}
@@ -26,7 +26,6 @@ use Rattle.region_graph.proofs.Ending.{Comes, a_final}
 use Rattle.region_graph.proofs.FewerCovers.{fewer_covers}
 use Rattle.region_graph.proofs.Pairs.{AreRegions, AreCovers, region_pair_among, cover_pair_among}
 use Rattle.region_graph.proofs.Steps.{fewer_regions, fewer_parts}
-use Rattle.common_laws.proofs.Tests.{true_both as both}
 use Rattle.plan_model.proofs.Numbers.{all_below}
 
 -- where first and last address lie in one aligned range, it holds both

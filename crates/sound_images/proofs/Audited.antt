@@ -1,6 +1,6 @@
 -- What the checks of the page, of the tables' size and of the ranges with initial words tell of a sound image.
 use Rattle.std.proofs.Common.{◌≡◌, ℕ, ◌+◌, ◌-◌, ◌*◌, ◌%◌, ◌≤◌, true, ◌&&◌, List, [], ◌∷◌, ◌++◌, length, nat_eq, nat_lt, nat_le, None, arith}
-use Rattle.std.proofs.lemmas.Bool.{eqb-true, leb-true}
+use Rattle.std.proofs.lemmas.Bool.{eqb-true, leb-true, and_parts as both}
 use Rattle.device_model.specs.declared.image.Image.{Image}
 use Rattle.device_model.specs.Rules.{block_size}
 use Rattle.common_laws.specs.Lists.{Each}
@@ -15,7 +15,6 @@ use Rattle.monitor.specs.Checks.{must, tables_fail, is_init, inits_from}
 use Rattle.monitor.specs.MonitorCode.{MonitorCode}
 use Rattle.monitor.specs.Sound.{Sound}
 use Rattle.access_law.specs.Simulation.{IsRange}
-use Rattle.common_laws.proofs.Tests.{both_true as both}
 use Rattle.monitor_laws.proofs.Checked.{must_none, and_none, begins_with, none_fails}
 
 whole : (e a : ℕ) → e % 4 ≡ 0 → a % 4 ≡ 0 → (e - a) % 4 ≡ 0

@@ -2,7 +2,7 @@
 use Rattle.std.specs.Prelude.{if◌then◌else◌, nat_le}
 use Rattle.std.proofs.Common.{◌≡◌, ◌≢◌, ℕ, suc, ◌+◌, ◌-◌, ◌*◌, ◌/◌, ◌%◌, ◌^◌, ◌<◌, ◌≤◌, ◌⊎◌, inl, inr, ⊎_elim, Bool, true, false, ◌&&◌, List, [], ◌∷◌, length, nat_eq, nat_lt, refl, sym, ap, ap₂, ◌∙◌, subst, arith}
 use Rattle.std.specs.Int.{bit_at}
-use Rattle.std.proofs.lemmas.Bool.{ltb-true, eqb-true, leb-true, lt-ltb, eq-eqb, ne_eqb, le-leb}
+use Rattle.std.proofs.lemmas.Bool.{ltb-true, eqb-true, leb-true, lt-ltb, eq-eqb, ne_eqb, le-leb, and_from, and_parts as both}
 use Rattle.words.specs.Arithmetic.{subtract}
 use Rattle.words.specs.Bytes.{read, write}
 use Rattle.device_model.specs.declared.image.Image.{Image}
@@ -35,7 +35,6 @@ use Rattle.handler_runs.proofs.Blocks.{saved_stay, loans_stay}
 use Rattle.handler_runs.proofs.Returned.{LeavesRam, Resuming, Answers}
 use Rattle.handler_runs.proofs.Mode.{IsGood, good_while_off}
 use Rattle.svc_law.proofs.Targets.{SiteFits}
-use Rattle.common_laws.proofs.Tests.{both_true as both, true_both}
 
 -- what is known behind the entry, from a thread's state s with block m: the frame at psp, and RAM
 pub record Calling (i : Image) (t : Tables) (s : State) (m : Block) (psp o : ℕ) (memory : List ℕ) : Type 0 where
@@ -127,9 +126,9 @@ module _ (i : Image) (t : Tables) (stub : ℕ) (s : State) (m : Block) (psp o : 
   -- the test of both handlers
   open_true : FrameIsOpen i t o memory → is_open i t m psp memory ≡ true
   open_true f =
-      true_both (nat_le t.stack.base psp) (nat_le (psp + 32) m.top && nat_eq (bit_at (stacked i psp memory status_place) 9) 0)
+      and_from (nat_le t.stack.base psp) (nat_le (psp + 32) m.top && nat_eq (bit_at (stacked i psp memory status_place) 9) 0)
       (le-leb t.stack.base psp (let l = f.low in let e = c.at in omega (arith, l, e)))
-      (true_both (nat_le (psp + 32) m.top) (nat_eq (bit_at (stacked i psp memory status_place) 9) 0)
+      (and_from (nat_le (psp + 32) m.top) (nat_eq (bit_at (stacked i psp memory status_place) 9) 0)
       (le-leb (psp + 32) m.top (let h = f.high in let e = top_word in let x = c.at in omega (arith, h, e, x)))
       (eq-eqb (bit_at (stacked i psp memory status_place) 9) 0 (ap (λ n. n / 2 ^ 9 % 2) (stacked_is i psp o 7 memory c.at (omega arith)) ∙ f.no_pad)))
 
@@ -250,10 +249,10 @@ module _ (i : Image) (t : Tables) (stub : ℕ) (s : State) (m : Block) (psp o : 
 
   may_true : MayLend t psp m.top live address number → may_lend i t stub m psp memory ≡ true
   may_true x =
-      true_both (nat_lt live 32) _ (lt-ltb live 32 x.room)
-      (true_both (nat_lt number (length t.lends)) _ (lt-ltb number (length t.lends) x.number_in)
-      (true_both (nat_eq (address % 4) 0) _ (eq-eqb (address % 4) 0 x.aligned)
-      (true_both (nat_le (psp + 32) address) (nat_le (address + lend_size t number) m.top) (le-leb (psp + 32) address x.low) (le-leb (address + lend_size t number) m.top x.high))))
+      and_from (nat_lt live 32) _ (lt-ltb live 32 x.room)
+      (and_from (nat_lt number (length t.lends)) _ (lt-ltb number (length t.lends) x.number_in)
+      (and_from (nat_eq (address % 4) 0) _ (eq-eqb (address % 4) 0 x.aligned)
+      (and_from (nat_le (psp + 32) address) (nat_le (address + lend_size t number) m.top) (le-leb (psp + 32) address x.low) (le-leb (address + lend_size t number) m.top x.high))))
 
   may_from : may_lend i t stub m psp memory ≡ true → MayLend t psp m.top live address number
   may_from e =

@@ -2,7 +2,7 @@
 use Rattle.std.specs.Prelude.{if◌then◌else◌, slice_index}
 use Rattle.std.proofs.Common.{◌≡◌, ℕ, zero, suc, ◌+◌, ◌-◌, ◌*◌, ◌/◌, ◌^◌, ◌<◌, ◌≤◌, ◌⊎◌, inl, inr, ⊎_elim, Bool, true, false, ◌&&◌, List, ◌∷◌, length, map, drop, nat_eq, nat_lt, Option, Some, None, refl, sym, ap, ◌∙◌, subst, arith, length-drop}
 use Rattle.std.proofs.lemmas.List.{length-map}
-use Rattle.std.proofs.lemmas.Bool.{ltb-true, eqb-true, lt-ltb, eq-eqb, le-ltb}
+use Rattle.std.proofs.lemmas.Bool.{ltb-true, eqb-true, lt-ltb, eq-eqb, le-ltb, and_from, and_parts as both}
 use Rattle.words.specs.Bytes.{read, write, write_all, cut}
 use Rattle.words.proofs.Bytes.{read_all, read_below_all, read_above_all, length-write_all, cut_small, cut_four}
 use Rattle.mpu_model.specs.Laws.{kept_region}
@@ -37,7 +37,6 @@ use Rattle.handler_runs.proofs.Blocks.{saved_stay, loans_stay, loans_dropped}
 use Rattle.handler_runs.proofs.Returned.{LeavesRam, Answers}
 use Rattle.svc_law.proofs.Enter.{HasEntered, NewTop}
 use Rattle.svc_law.proofs.Calling.{Calling, off, halted, frame}
-use Rattle.common_laws.proofs.Tests.{both_true as both, true_both}
 use Rattle.common_laws.proofs.Lists.{each_at}
 
 module _ (i : Image) (t : Tables) (stub : ℕ) (s : State) (m : Block) (psp o : ℕ) (memory : List ℕ) (c : Calling i t s m psp o memory) where
@@ -222,7 +221,7 @@ module _ (i : Image) (t : Tables) (stub : ℕ) (s : State) (m : Block) (psp o : 
     found_is : read 2 ro i.flash < length t.sites → (site_at t (read 2 ro i.flash)).ret ≡ ret → enter_by i t stub m psp memory (read 2 ro i.flash) ≡ enter_to i t stub m psp memory last
     found_is lt re =
         ap (λ b. if b then enter_to i t stub m psp memory (last_with_entry (word i t stub m psp memory r12_place) (targets_of t (site_at t (read 2 ro i.flash)))) else Halts 2)
-        (true_both (nat_lt (read 2 ro i.flash) (length t.sites)) (nat_eq (site_at t (read 2 ro i.flash)).ret (word i t stub m psp memory return_place)) (lt-ltb (read 2 ro i.flash) (length t.sites) lt) (eq-eqb (site_at t (read 2 ro i.flash)).ret (word i t stub m psp memory return_place) (re ∙ sym ret_word)))
+        (and_from (nat_lt (read 2 ro i.flash) (length t.sites)) (nat_eq (site_at t (read 2 ro i.flash)).ret (word i t stub m psp memory return_place)) (lt-ltb (read 2 ro i.flash) (length t.sites) lt) (eq-eqb (site_at t (read 2 ro i.flash)).ret (word i t stub m psp memory return_place) (re ∙ sym ret_word)))
         ∙ ap (λ w. enter_to i t stub m psp memory (last_with_entry w (targets_of t (site_at t (read 2 ro i.flash))))) wanted_word
 
     pub no_site_halts : (d : Core) → d.ram ≡ memory → (read 2 ro i.flash < length t.sites → (site_at t (read 2 ro i.flash)).ret ≡ ret → ⊥) → Q (enter_at i t stub m psp memory (place i (word i t stub m psp memory return_place))) (Halted 2 d)

@@ -1,7 +1,7 @@
 -- A site's targets: what the checks of an image tell of sites, where flash has their targets, and the one that enter chooses.
 use Rattle.std.proofs.Common.{◌≡◌, ℕ, zero, suc, ◌+◌, ◌-◌, ◌*◌, ◌<◌, ◌≤◌, Bool, true, false, ◌&&◌, List, [], ◌∷◌, ◌++◌, length, take, drop, get_or, nat_eq, nat_le, Option, Some, None, refl, sym, ap, ap₂, ◌∙◌, subst, arith}
 use Rattle.std.specs.Prelude.{flat_map}
-use Rattle.std.proofs.lemmas.Bool.{leb-true, eqb-true}
+use Rattle.std.proofs.lemmas.Bool.{leb-true, eqb-true, and_parts as both}
 use Rattle.words.specs.Bytes.{read}
 use Rattle.device_model.specs.declared.image.Image.{Image}
 use Rattle.mem_bus.specs.Places.{choose}
@@ -24,7 +24,6 @@ use Rattle.gate_steps.specs.Safe.{Rule}
 use Rattle.monitor_laws.proofs.Off.{IsOff}
 use Rattle.monitor_laws.proofs.Opened.{Handles}
 use Rattle.monitor_laws.proofs.EnterTarget.{chosen, HasTargets}
-use Rattle.common_laws.proofs.Tests.{both_true as both}
 use Rattle.common_laws.proofs.Lists.{each_drop, each_take}
 use Rattle.monitor_laws.proofs.EnterSite.{three_words}
 

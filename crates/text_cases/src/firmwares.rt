@@ -3,17 +3,17 @@
 ghost use Rattle.std.specs.Prelude.{◌≤◌, length};
 
 use ir_model::clones::callee_type;
-use ir_model::equal::same_type;
 use ir_model::firmware::Firmware;
-use names::{Name, NameRefusal};
 use ir_model::object::ObjId;
 use ir_model::text_limits::TEXT_LIMIT;
 use ir_model::types::Ty;
 use ir_printer::print::print;
 use ir_reader::read;
+use names::{Name, NameRefusal};
 use std::alloc::Global;
 use std::process::Abort;
 use std::test::Fail;
+use type_tests::equal::same_type;
 
 fn firmware(rt: &impl Abort, alloc: Global, text: &[u8]) -> Result<Firmware, Fail> {
     assert!(rt; text.len() <= TEXT_LIMIT as usize);

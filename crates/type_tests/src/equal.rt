@@ -3,10 +3,10 @@
 ghost use Rattle.std.specs.Prelude.{◌≡◌, ◌↔◌, ◌<◌, length, map, IsTrue};
 ghost use Rattle.ir_model.specs.Types.{same, same_result, same_row, types_from, type_of, boxed_result_of};
 
-use crate::types::Ty;
+use ir_model::types::Ty;
 
 /// Whether two types are equal, structs by their names.
-#[tactic(auto, using(crate::proofs::SameTypes::same_exactly))]
+#[tactic(auto, using(ir_model::proofs::SameTypes::same_exactly))]
 pub fn same_type(a: &Ty, b: &Ty) -> bool
     ensures tested { result ≡ same (type_of a.now) (type_of b.now) }
     ensures equal { IsTrue result ↔ (type_of a.now ≡ type_of b.now) }

@@ -3,7 +3,7 @@ use Rattle.ir_model.specs.Types.{Callee, type_of}
 use Rattle.ir_model.specs.Plain.{func_of}
 use Rattle.ir_model.specs.Resolve.{row_from}
 use Rattle.ir_model.proofs.SameTypes.{same_exactly}
-use Rattle.ir_model.proofs.callee.has_type.Goals as goal
+use Rattle.type_tests.proofs.callee.has_type.Goals as goal
 
 pub returns : goal.returns
 returns c =

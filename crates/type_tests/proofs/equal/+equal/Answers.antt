@@ -1,8 +1,8 @@
 use Rattle.std.proofs.Common.{rules, arith, sym}
 use Rattle.ir_model.specs.declared.types.Ty as code
 use Rattle.ir_model.proofs.SameTypes.{rows}
-use Rattle.ir_model.proofs.RowSteps.{other_count, row_end}
-use Rattle.ir_model.proofs.equal.+equal.Goals as goal
+use Rattle.type_tests.proofs.RowSteps.{other_count, row_end}
+use Rattle.type_tests.proofs.equal.+equal.Goals as goal
 
 pub is_same-returns-then-is_same_row : goal.is_same-returns-then-is_same_row
 is_same-returns-then-is_same_row t c = search (rules, code.the_lemmas, rows)

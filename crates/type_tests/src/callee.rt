@@ -6,8 +6,8 @@ ghost use Rattle.ir_model.specs.Plain.{func_of, slot_of};
 ghost use Rattle.ir_model.specs.Resolve.{row_from};
 
 use crate::equal::same_type;
-use crate::firmware::{Func, Slot};
-use crate::types::Ty;
+use ir_model::firmware::{Func, Slot};
+use ir_model::types::Ty;
 
 fn is_row(params: &[Slot], types: &[Ty]) -> bool
     ensures { result ≡ same_row (row_from (map slot_of params.now)) (types_from (map type_of types.now)) }

@@ -1,5 +1,5 @@
 use Rattle.std.proofs.Common.{arith}
-use Rattle.ir_model.proofs.callee.+is_row.Goals as goal
+use Rattle.type_tests.proofs.callee.+is_row.Goals as goal
 use Rattle.ir_model.proofs.Rows.{more_types}
 
 pub returns-in-len1-up-types : goal.returns-in-len1-up-types

@@ -1,0 +1,5 @@
+//! Whether two types of the firmware language are equal, and whether a function's address is of a type.
+#![tactic(auto)]
+
+pub mod callee;
+pub mod equal;
