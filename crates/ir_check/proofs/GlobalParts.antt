@@ -15,7 +15,7 @@ use Rattle.ir_model.specs.Typing.{Checks, check, first_failing, global_checks, i
 use Rattle.ir_check.specs.declared.fault.CheckFault.{CheckFault}
 use Rattle.ir_check.specs.declared.fault.CheckFault.TheVariants.{NoMemory, At}
 use Rattle.ir_check.specs.Found.{Refused, IsFault}
-use Rattle.layouts.specs.Cells.{lent_types}
+use Rattle.cells.specs.Cells.{lent_types}
 use Rattle.ir_check.specs.Parts.{named_check, cells_part, values_checks, values_part, global_part}
 use Rattle.ir_check.proofs.Regrouped.{regroup}
 

@@ -7,7 +7,7 @@ ghost use Rattle.ir_model.specs.Plain.{PlainGlobal, global_of, firmware_of};
 ghost use Rattle.ir_model.specs.Typing.{cell_checks, globals_checks};
 ghost use Rattle.ir_check.specs.Found.{Finds};
 ghost use Rattle.ir_check.specs.Spots.{place_of};
-ghost use Rattle.layouts.specs.Cells.{lent_types};
+ghost use Rattle.cells.specs.Cells.{lent_types};
 ghost use Rattle.ir_check.specs.Parts.{address_fits, cells_part, values_checks, values_part, named_check, global_part};
 ghost use Rattle.ir_check.specs.Scopes.{IsScope};
 
@@ -20,6 +20,7 @@ use crate::new_names::add_new;
 use crate::scope::Scope;
 use crate::spot::Spot;
 use crate::type_names::type_names;
+use cells::put_cell_types;
 use firmware_names::periph_names;
 use ir_model::check::CheckKind;
 use ir_model::firmware::{Cell, Global as GlobalDecl};
@@ -123,9 +124,7 @@ fn first_values<'a>(
         return Ok(());
     }
     let mut types = Vec::new(alloc);
-    scope
-        .layouts
-        .put_cell_types(&global.ty, init.len(), &mut types)?;
+    put_cell_types(&scope.layouts, &global.ty, init.len(), &mut types)?;
     typed_values(scope, spot, init, types.as_slice())?;
     Ok(())
 }

@@ -13,10 +13,10 @@ ghost use Rattle.ir_run.specs.Acts.{frame_of};
 ghost use Rattle.ir_run.specs.Places.{HasNext};
 ghost use Rattle.ir_run.specs.States.{running_of, memory_of, Answers};
 
-use crate::cells::cell_number;
 use crate::outcome::{FaultKind, SourceEnd, SourceStep};
 use crate::parts::Parts;
 use crate::registers::{advance, write_register};
+use crate::typed_cells::cell_number;
 use ir_model::types::Ty;
 use ir_program::program::Program;
 use ir_program::value::Value;

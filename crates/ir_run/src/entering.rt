@@ -9,13 +9,14 @@ ghost use Rattle.ir_program.specs.Values.{value_of};
 ghost use Rattle.ir_program.specs.Storages.{shape_of};
 ghost use Rattle.ir_model.specs.Plain.{struct_of};
 ghost use Rattle.ir_model.specs.Layout.{known, shape};
-ghost use Rattle.layouts.specs.Cells.{lent_types, types_of};
+ghost use Rattle.cells.specs.Cells.{lent_types, types_of};
 ghost use Rattle.ir_program.specs.Seen.{routine_of, program_of, local_counts, cell_counts, HasCounts};
 ghost use Rattle.ir_run.specs.Acts.{frame_of};
 ghost use Rattle.ir_run.specs.Counts.{HasCount, HaveCounts};
 
 use crate::contents::{Contents, Values};
 use crate::frame::Frame;
+use cells::put_cell_types;
 use ir_model::types::Ty;
 use ir_program::program::{Program, Routine, Storage};
 use ir_program::types::zero;
@@ -55,7 +56,7 @@ fn cell_types<'a>(
     ensures { IfOk result (λ ts. lent_types ts.items ≡ types_of (shape_of (known (map struct_of layouts.now)) storage.now).cells) }
 {
     let mut types = Vec::new(alloc);
-    layouts.put_cell_types(storage.ty, storage.cells as usize, &mut types)?;
+    put_cell_types(layouts, storage.ty, storage.cells as usize, &mut types)?;
     Ok(types)
 }
 

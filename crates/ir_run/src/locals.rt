@@ -16,12 +16,12 @@ ghost use Rattle.ir_run.specs.Places.{HasNext};
 ghost use Rattle.ir_run.specs.States.{running_of, memory_of, Answers};
 
 use crate::accesses::keep;
-use crate::cells::cell_number;
 use crate::frame::Frame;
 use crate::local::Local;
 use crate::outcome::{FaultKind, SourceEnd, SourceStep};
 use crate::parts::Parts;
 use crate::registers::advance;
+use crate::typed_cells::cell_number;
 use ir_model::types::Ty;
 use ir_program::program::Program;
 use ir_program::value::Value;

@@ -11,10 +11,10 @@ ghost use Rattle.ir_run.specs.Places.{HasNext};
 ghost use Rattle.ir_run.specs.States.{running_of, memory_of, Answers};
 
 use crate::arithmetic::number_in;
-use crate::cells::{cut_number, has_port, width_of};
 use crate::outcome::{SourceEnd, SourceStep};
 use crate::parts::Parts;
 use crate::registers::{advance, write_register};
+use crate::typed_cells::{cut_number, has_port, width_of};
 use events::event::Event;
 use ir_model::types::Ty;
 use ir_program::program::Program;

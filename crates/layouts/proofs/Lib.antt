@@ -1,16 +1,7 @@
 mod Cases
 pub mod SmallStructs
 mod Places
-mod Sizes
-mod Pieces
-mod Fields
-mod Structs
-mod Weights
-mod Lasts
+pub mod Sizes
 mod Entries
-mod Capped
-mod Arrays
-mod Walks
+pub mod Capped
 mod Opened
-mod Numbered
-mod Rows

@@ -1,4 +1,3 @@
 pub mod Measures
 pub mod Fields
-pub mod Cells
 pub mod Tables

@@ -48,14 +48,6 @@ pub record IsPlaceBelow (ss : List StructDecl) (below : ℕ) (name : List ℕ) (
 abbrev pub HasFields : StructLayout → List FieldPlace → Type 0
 HasFields l ps = (ps ≡ map place_of l.fields.items) × (l.names ≡ map (λ (p : FieldPlace). p.name) (map place_of l.fields.items))
 
--- from this place on each has a greater number
-abbrev pub IsFirstAbove : (Field → ℕ) → List Field → (most place : ℕ) → Type 0
-IsFirstAbove n fs m i = (k : ℕ) (f : Field) → i ≤ k → k < length fs → m < n (get_or fs k f)
-
--- the last place of one that has no greater number
-abbrev pub IsLastWithin : (Field → ℕ) → List Field → (most place : ℕ) → Type 0
-IsLastWithin n fs m i = (i < length fs) × ((f : Field) → n (get_or fs i f) ≤ m) × IsFirstAbove n fs m (i + 1)
-
 -- some struct behind others passes the limit
 abbrev pub HasTooLarge : (earlier structs : List PlainStruct) → Type 0
 HasTooLarge es [] = ⊥

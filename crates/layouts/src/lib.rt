@@ -1,7 +1,6 @@
-//! The layouts of the structs of a firmware, made once in order, and what types are made of by them.
+//! The layouts of the structs of a firmware, made once in order, and what types measure by them.
 #![tactic(auto)]
 
-pub mod cells;
 pub mod fault;
 mod laying;
 pub mod measure;

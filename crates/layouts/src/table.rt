@@ -35,13 +35,19 @@ pub struct Field<'a> {
 
 /// A struct that is laid out.
 #[derive(Drop)]
-pub(crate) struct StructLayout<'a> {
-    pub(crate) declaration: &'a StructDecl,
-    pub(crate) size: u32,
-    pub(crate) align: u32,
-    pub(crate) cells: u32,
-    pub(crate) fields: Vec<Field<'a>>,
-    pub(crate) names: Names<'a>,
+pub struct StructLayout<'a> {
+    /// Its declaration.
+    pub declaration: &'a StructDecl,
+    /// The size in bytes.
+    pub size: u32,
+    /// The alignment in bytes: 1, 2 or 4.
+    pub align: u32,
+    /// How many cells it has.
+    pub cells: u32,
+    /// Its fields in order.
+    pub fields: Vec<Field<'a>>,
+    /// The names of its fields in order.
+    pub names: Names<'a>,
 }
 
 /// The layouts of structs, seen as the list of these structs. Each is laid out by those before it; a name means the first
@@ -132,13 +138,20 @@ impl<'a> Layouts<'a> {
         &self.names
     }
 
+    /// How many structs there are.
+    pub fn len(&self) -> usize
+        ensures { result ≡ length self.now }
+    {
+        self.structs.len()
+    }
+
     /// Size, alignment and number of cells of a type.
     pub fn measure(&self, ty: &Ty) -> Measure
         ensures exact { IsMeasure result (shape (known (map struct_of self.now)) (type_of ty.now)) }
         ensures align { (0 < result.align) × (result.align ≤ 4) }
         ensures cells { result.cells ≤ result.size }
     {
-        self.measure_below(self.structs.len(), ty)
+        self.measure_below(self.len(), ty)
     }
 
     /// A field of a struct by their names, as the firmware's definition has it; none where there is none.

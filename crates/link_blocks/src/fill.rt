@@ -155,7 +155,7 @@ fn put_cells(
         return None;
     }
     for number in 0..u32::MAX {
-        let Some(cell) = program.layouts.cell(variable.storage.ty, number) else {
+        let Some(cell) = cells::cell(&program.layouts, variable.storage.ty, number) else {
             return Some(());
         };
         let value = first_value(variable, number, cell.ty);

@@ -1,7 +1,7 @@
 //! What a policy knows of a function, and the compartments that it makes.
 
-use names::Name;
 use list_vec::ListVec;
+use names::Name;
 
 /// What a policy knows of a function.
 #[derive(Drop)]

@@ -4,7 +4,7 @@ use Rattle.ir_model.specs.declared.firmware.StructDecl.{StructDecl}
 use Rattle.ir_model.specs.Plain.{struct_of, firmware_of}
 use Rattle.ir_model.specs.Layout.{known, shape}
 use Rattle.ir_model.specs.Typing.{first_failing}
-use Rattle.layouts.specs.Cells.{lent_types, types_of}
+use Rattle.cells.specs.Cells.{lent_types, types_of}
 use Rattle.ir_check.specs.Found.{Refused}
 use Rattle.ir_check.specs.Parts.{cells_part, values_part}
 use Rattle.ir_check.specs.Spots.{place_of}

@@ -2,7 +2,7 @@ use Rattle.std.proofs.Common.{◌∙◌, ◌+◌, ap, drop, arith}
 use Rattle.ir_model.specs.Types.{type_of}
 use Rattle.ir_model.specs.Plain.{firmware_of}
 use Rattle.ir_model.specs.Typing.{cell_checks, first_failing}
-use Rattle.layouts.specs.Cells.{lent_types}
+use Rattle.cells.specs.Cells.{lent_types}
 use Rattle.ir_check.specs.Parts.{values_checks}
 use Rattle.ir_check.specs.Spots.{place_of}
 use Rattle.ir_check.proofs.Order.{told, passed, stopped}

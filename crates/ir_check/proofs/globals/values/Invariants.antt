@@ -1,7 +1,7 @@
 use Rattle.std.proofs.Common.{◌≡◌, drop}
 use Rattle.ir_model.specs.Plain.{firmware_of}
 use Rattle.ir_model.specs.Typing.{first_failing}
-use Rattle.layouts.specs.Cells.{lent_types}
+use Rattle.cells.specs.Cells.{lent_types}
 use Rattle.ir_check.specs.Parts.{values_checks}
 use Rattle.ir_check.specs.Spots.{place_of}
 use Rattle.ir_check.proofs.globals.values.Given as goal

@@ -1,7 +1,7 @@
 use Rattle.std.proofs.Common.{◌≡◌, ◌+◌, ℕ, List, map, drop, ap, sym, ◌∙◌}
 use Rattle.std.proofs.lemmas.List.{drop_all}
 use Rattle.words.specs.Bytes.{write}
-use Rattle.layouts.specs.Cells.{cell_of}
+use Rattle.cells.specs.Cells.{cell_of}
 use Rattle.link_blocks.proofs.Cells.{cells_more}
 use Rattle.ir_model.specs.Types.{type_of, width_of}
 use Rattle.ir_model.specs.Layout.{CellPlace, shape}

@@ -1,10 +1,9 @@
 -- Cells are found piece by piece.
-use Rattle.std.proofs.Common.{◌≡◌, ℕ, zero, suc, ◌+◌, ◌*◌, ◌<◌, ◌≤◌, Bool, true, false, ◌&&◌, List, [], ◌∷◌, ◌++◌, length, refl, sym, ap, ◌∙◌, arith, Option, Some, None, nat_eq, if◌then◌else◌}
-use Rattle.std.proofs.lemmas.Bool.{ne_eqb, eq-eqb, eqb-true}
+use Rattle.std.proofs.Common.{◌≡◌, ℕ, zero, suc, ◌+◌, ◌*◌, ◌<◌, ◌≤◌, Bool, true, false, ◌&&◌, ◌⊎◌, inl, inr, List, [], ◌∷◌, ◌++◌, length, refl, sym, ap, ◌∙◌, arith, Option, Some, None, nat_eq, if◌then◌else◌}
+use Rattle.std.proofs.lemmas.Bool.{ne_eqb, eq-eqb, eqb-true, cases_Bool}
 use Rattle.std.proofs.Math.Nat.{suc-mul, zero-mul}
 use Rattle.ir_model.specs.Types.{PlainType, same}
 use Rattle.ir_model.specs.Layout.{CellPlace, shifted, copies, one_later, cell_at}
-use Rattle.layouts.proofs.Cases.{by_case}
 use Rattle.layouts.proofs.Sizes.{Inside, inside_shifted, inside_copies, length_shifted}
 
 -- behind so many others
@@ -88,9 +87,11 @@ cell_below n a [] t h l = refl
 cell_below n a (c ∷ cs) t h l = passed_by (nat_eq c.at a) (same c.ty t) (cell_at cs a t) (ne_eqb c.at a (λ e. omega (arith, h.0))) (cell_below n a cs t h.1 l)
 
 same_offset : (d n m : ℕ) → nat_eq (d + n) (d + m) ≡ nat_eq n m
-same_offset d n m =
-    by_case (nat_eq n m) (λ e. let q = eqb-true n m e in eq-eqb (d + n) (d + m) (ap (λ x. d + x) q) ∙ sym e)
-    (λ e. ne_eqb (d + n) (d + m) (λ q. let r : n ≡ m = omega (arith, q) in cc (eq-eqb n m r, e)) ∙ sym e)
+same_offset d n m = by_test (cases_Bool (nat_eq n m))
+  where
+    by_test : (nat_eq n m ≡ true) ⊎ (nat_eq n m ≡ false) → nat_eq (d + n) (d + m) ≡ nat_eq n m
+    by_test (inl e) = let q = eqb-true n m e in eq-eqb (d + n) (d + m) (ap (λ x. d + x) q) ∙ sym e
+    by_test (inr e) = ne_eqb (d + n) (d + m) (λ q. let r : n ≡ m = omega (arith, q) in cc (eq-eqb n m r, e)) ∙ sym e
 
 pub cell_shifted : (d a : ℕ) (cs : List CellPlace) (t : PlainType) → cell_at (shifted d cs) (d + a) t ≡ cell_at cs a t
 unfolding cell_at

@@ -11,12 +11,13 @@ use Rattle.layouts.specs.declared.measure.Measure.{Measure}
 use Rattle.layouts.specs.declared.table.Field.{Field}
 use Rattle.layouts.specs.declared.table.StructLayout.{StructLayout}
 use Rattle.layouts.specs.Measures.{IsMeasure, struct_shape}
-use Rattle.layouts.specs.Tables.{IsLaid, IsPlaceBelow, IsFirstAbove, IsLastWithin}
+use Rattle.layouts.specs.Tables.{IsLaid, IsPlaceBelow}
+use Rattle.cells.specs.Halving.{IsFirstAbove, IsLastWithin}
 use Rattle.layouts.proofs.Sizes.{good}
-use Rattle.layouts.proofs.Pieces.{further}
-use Rattle.layouts.proofs.Arrays.{number_nowhere, number_past, number_of_element}
-use Rattle.layouts.proofs.Structs.{number_in, number_before, first_below_offset}
-use Rattle.layouts.proofs.Weights.{structs_weight, field_weighs, struct_weighs}
+use Rattle.cells.proofs.Pieces.{further}
+use Rattle.cells.proofs.Arrays.{number_nowhere, number_past, number_of_element}
+use Rattle.cells.proofs.Structs.{number_in, number_before, first_below_offset}
+use Rattle.cells.proofs.Weights.{structs_weight, field_weighs, struct_weighs}
 
 -- the cells that lie at an offset of a type
 abbrev pub at_offset : List PlainStruct → PlainType → ℕ → PlainType → Option ℕ

@@ -9,10 +9,11 @@ use Rattle.layouts.specs.declared.table.Field.{Field}
 use Rattle.layouts.specs.declared.table.StructLayout.{StructLayout}
 use Rattle.layouts.specs.Measures.{struct_shape}
 use Rattle.layouts.specs.Fields.{place_of}
-use Rattle.layouts.specs.Tables.{IsLaid, first_cells, IsFirstAbove, IsLastWithin}
+use Rattle.layouts.specs.Tables.{IsLaid, first_cells}
+use Rattle.cells.specs.Halving.{IsFirstAbove, IsLastWithin}
 use Rattle.layouts.proofs.Sizes.{length_shifted, good}
-use Rattle.layouts.proofs.Pieces.{further}
-use Rattle.layouts.proofs.Fields.{fields_cells, laid_cells, Follow, fields_follow, follow_rise, cell_in_field, cell_before_fields}
+use Rattle.cells.proofs.Pieces.{further}
+use Rattle.cells.proofs.Fields.{fields_cells, laid_cells, Follow, fields_follow, follow_rise, cell_in_field, cell_before_fields}
 
 abbrev pub places : StructLayout → List FieldPlace
 places l = map place_of l.fields.items

@@ -6,7 +6,7 @@ use Rattle.ir_model.specs.Plain.{PlainSlot, PlainStruct}
 use Rattle.ir_model.specs.Layout.{CellPlace, FieldPlace, Shape, Known, shape, shifted, rounded_up, with_field, laid_out, field_places, known, cell_at}
 use Rattle.ir_model.proofs.Counting.{rounded_at_least}
 use Rattle.layouts.proofs.Sizes.{good, inside_shifted}
-use Rattle.layouts.proofs.Pieces.{further, further_none, further_more, cell_left, cell_right, cell_shifted, cell_above, cell_below, From, from_append, from_shifted}
+use Rattle.cells.proofs.Pieces.{further, further_none, further_more, cell_left, cell_right, cell_shifted, cell_above, cell_below, From, from_append, from_shifted}
 
 abbrev pub fields_cells : List Known → List FieldPlace → List CellPlace
 fields_cells ks [] = []

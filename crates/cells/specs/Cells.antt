@@ -5,7 +5,7 @@ use Rattle.std.specs.Borrow.{Bor}
 use Rattle.ir_model.specs.declared.types.Ty.{Ty}
 use Rattle.ir_model.specs.Types.{PlainType, type_of}
 use Rattle.ir_model.specs.Layout.{CellPlace}
-use Rattle.layouts.specs.declared.cells.CellSpot.{CellSpot}
+use Rattle.cells.specs.declared.spot.CellSpot.{CellSpot}
 
 abbrev pub cell_of : CellSpot → CellPlace
 cell_of c = record { at = c.at; ty = type_of c.ty.now }

@@ -1,9 +1,9 @@
 use Rattle.std.proofs.Common.{leb, subst, rules}
 use Rattle.std.proofs.lemmas.List.Sorted.{IsPartitionPoint-from_clause, IsPartitionedBy-leb}
 use Rattle.layouts.specs.declared.table.Field.{Field}
-use Rattle.layouts.specs.Tables.{IsFirstAbove}
-use Rattle.layouts.proofs.Lasts.{Splits, split_above, split_last}
-use Rattle.layouts.proofs.types.last_at.Goals as goal
+use Rattle.cells.specs.Halving.{IsFirstAbove}
+use Rattle.cells.proofs.Lasts.{Splits, split_above, split_last}
+use Rattle.cells.proofs.halving.last_at.Goals as goal
 
 pub returns-then-behind-eq0 : goal.returns-then-behind-eq0
 returns-then-behind-eq0 c =

@@ -3,7 +3,7 @@ use Rattle.std.proofs.Common.{◌≡◌, ℕ, ◌-◌, ◌<◌, ◌≤◌, true,
 use Rattle.std.specs.List.Sorted.{IsPartitionPoint}
 use Rattle.std.proofs.lemmas.Bool.{leb-true, leb-false}
 use Rattle.layouts.specs.declared.table.Field.{Field}
-use Rattle.layouts.specs.Tables.{IsFirstAbove, IsLastWithin}
+use Rattle.cells.specs.Halving.{IsFirstAbove, IsLastWithin}
 
 abbrev pub Splits : (Field → ℕ) → List Field → (most place : ℕ) → Type 0
 Splits n fs m i = IsPartitionPoint (λ (f : Field). leb (n f) m ≡ true) (λ (f : Field). leb (n f) m ≡ false) fs i

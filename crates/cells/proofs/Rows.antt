@@ -12,13 +12,13 @@ use Rattle.layouts.specs.declared.measure.Measure.{Measure}
 use Rattle.layouts.specs.declared.table.Field.{Field}
 use Rattle.layouts.specs.declared.table.StructLayout.{StructLayout}
 use Rattle.layouts.specs.Measures.{IsMeasure}
-use Rattle.layouts.specs.Cells.{lent_types, types_of}
+use Rattle.cells.specs.Cells.{lent_types, types_of}
 use Rattle.layouts.specs.Fields.{place_of}
 use Rattle.layouts.specs.Tables.{IsLaid, IsPlaceBelow}
-use Rattle.layouts.proofs.Fields.{fields_cells}
-use Rattle.layouts.proofs.Structs.{struct_cells}
-use Rattle.layouts.proofs.Numbered.{zero_cells}
-use Rattle.layouts.proofs.Walks.{named_shape}
+use Rattle.cells.proofs.Fields.{fields_cells}
+use Rattle.cells.proofs.Structs.{struct_cells}
+use Rattle.cells.proofs.Numbered.{zero_cells}
+use Rattle.cells.proofs.Walks.{named_shape}
 
 abbrev pub repeated : ℕ → List PlainType → List PlainType
 repeated zero ts = []

@@ -1,4 +1,4 @@
-//! Cells and ports.
+//! Cells and ports by their types.
 
 ghost use Rattle.std.specs.Prelude.{◌≡◌, ◌<◌, map};
 ghost use Rattle.words.specs.Bytes.{cut};
@@ -21,10 +21,10 @@ pub fn cell_number(layouts: &Layouts, object: &Ty, at: u32, ty: Option<&Ty>) -> 
     ensures { result ≡ cell_at (shape (known (map struct_of layouts.now)) (type_of object.now)).cells at (pointee_of ty.entry) }
 {
     match ty {
-        Some(ty) => layouts.cell_number(object, at, ty),
+        Some(ty) => cells::cell_number(layouts, object, at, ty),
         None => {
             let word = Ty::U32;
-            layouts.cell_number(object, at, &word)
+            cells::cell_number(layouts, object, at, &word)
         }
     }
 }

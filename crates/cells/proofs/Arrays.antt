@@ -8,7 +8,7 @@ use Rattle.ir_model.specs.Layout.{Shape, copies, array_of, cell_at}
 use Rattle.layouts.specs.declared.measure.Measure.{Measure}
 use Rattle.layouts.specs.Measures.{IsMeasure}
 use Rattle.layouts.proofs.Sizes.{Good}
-use Rattle.layouts.proofs.Pieces.{further, cell_copies, cell_past_copies}
+use Rattle.cells.proofs.Pieces.{further, cell_copies, cell_past_copies}
 use Rattle.layouts.proofs.Capped.{capped_small, capped_large}
 
 no_multiple : (n s : ℕ) → s ≡ 0 → n * s ≡ 0

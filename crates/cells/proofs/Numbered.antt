@@ -14,18 +14,19 @@ use Rattle.ir_model.specs.Plain.{PlainSlot, PlainStruct, struct_of}
 use Rattle.ir_model.specs.Layout.{CellPlace, FieldPlace, Shape, Known, empty, shape, shape_named, shifted, copies, array_of, with_field, laid_out, field_places, known}
 use Rattle.ir_model.proofs.Counting.{many_at_least}
 use Rattle.layouts.specs.declared.measure.Measure.{Measure}
-use Rattle.layouts.specs.declared.cells.CellSpot.{CellSpot}
+use Rattle.cells.specs.declared.spot.CellSpot.{CellSpot}
 use Rattle.layouts.specs.declared.table.Field.{Field}
 use Rattle.layouts.specs.declared.table.StructLayout.{StructLayout}
-use Rattle.layouts.specs.Cells.{cell_of}
+use Rattle.cells.specs.Cells.{cell_of}
 use Rattle.layouts.specs.Fields.{place_of}
 use Rattle.layouts.specs.Measures.{capped, IsMeasure}
-use Rattle.layouts.specs.Tables.{IsLaid, IsPlaceBelow, IsFirstAbove, IsLastWithin}
+use Rattle.layouts.specs.Tables.{IsLaid, IsPlaceBelow}
+use Rattle.cells.specs.Halving.{IsFirstAbove, IsLastWithin}
 use Rattle.layouts.proofs.Sizes.{Inside, good, length_shifted, length_copies, size_grows}
 use Rattle.layouts.proofs.Capped.{capped_small, capped_large}
-use Rattle.layouts.proofs.Fields.{fields_cells}
-use Rattle.layouts.proofs.Structs.{places, struct_cells, first_cell_at}
-use Rattle.layouts.proofs.Walks.{named_shape}
+use Rattle.cells.proofs.Fields.{fields_cells}
+use Rattle.cells.proofs.Structs.{places, struct_cells, first_cell_at}
+use Rattle.cells.proofs.Walks.{named_shape}
 
 abbrev pub moved : ℕ → CellPlace → CellPlace
 moved d c = record { at = d + c.at; ty = c.ty }

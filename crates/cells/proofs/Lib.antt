@@ -1,0 +1,9 @@
+mod Pieces
+mod Fields
+mod Structs
+mod Weights
+mod Lasts
+mod Arrays
+mod Walks
+mod Numbered
+mod Rows
