@@ -6,6 +6,7 @@ ghost use Rattle.ir_model.specs.Plain.{firmware_of, func_of, struct_of};
 ghost use Rattle.ir_model.specs.Canonical.{IsWithinLimits};
 ghost use Rattle.ir_model.specs.Typing.{IsTyped};
 ghost use Rattle.ir_model.specs.TextLimits.{file_limit};
+ghost use Rattle.names.specs.Numbers.{number_of};
 ghost use Rattle.ir_model.specs.Resolve as definition;
 ghost use Rattle.ir_program.specs.Seen.{program_of, variable_of, span_of, routine_of, cell_count, cell_counts, local_counts, HasCounts};
 ghost use Rattle.ir_program.specs.declared.program.Variable.{Variable as VariableOf};
@@ -61,7 +62,7 @@ fn numbered<'a>(
     ensures funcs { IfOk result (λ p. map (routine_of (known (map struct_of scope.now.layouts))) p.funcs ≡ map (definition.resolved_func (scope_of scope.now)) (map (λ f. func_of f.now) sources.now)) }
     ensures locals { IfOk result (λ p. map local_counts p.funcs ≡ map cell_counts (map (definition.resolved_func (scope_of scope.now)) (map (λ f. func_of f.now) sources.now))) }
     ensures files { IfOk result (λ p. p.files ≡ definition.files_from 0 (firmware_of firmware.now).files) }
-    ensures main { IfOk result (λ p. p.main ≡ definition.number_of scope.now.funcs definition.main_name) }
+    ensures main { IfOk result (λ p. p.main ≡ number_of scope.now.funcs definition.main_name) }
 {
     let main = scope.funcs.find_or_len(b"main") as u16;
     let files = file_numbers(alloc, firmware)?;

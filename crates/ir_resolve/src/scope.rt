@@ -2,6 +2,7 @@
 
 ghost use Rattle.std.specs.Prelude.{◌≡◌, map, IfOk};
 ghost use Rattle.ir_model.specs.Plain.{firmware_of, func_of, funcs_of};
+ghost use Rattle.names.specs.Numbers.{number_of};
 ghost use Rattle.ir_model.specs.Resolve as resolving;
 ghost use Rattle.ir_model.specs.Typing.{IsTyped};
 ghost use Rattle.ir_model.specs.FewItems.{HasFewLocals};
@@ -103,7 +104,7 @@ pub(crate) fn register_type<'a>(tables: &FuncTables<'a>, name: &Name) -> Option<
 /// The number of the block of a label, or how many blocks there are.
 pub(crate) fn label_number(tables: &FuncTables, label: &Name) -> usize
     requires { AreTables tables.now }
-    ensures { result ≡ resolving.number_of (resolving.labels_of (named_func tables.now)) label.now }
+    ensures { result ≡ number_of (resolving.labels_of (named_func tables.now)) label.now }
 {
     tables.labels.number_or_len(label)
 }
@@ -111,7 +112,7 @@ pub(crate) fn label_number(tables: &FuncTables, label: &Name) -> usize
 /// The number of the function of a name, or how many functions there are.
 pub(crate) fn func_number(scope: &Scope, name: &Name) -> u16
     requires { AreFew scope.now }
-    ensures { result ≡ resolving.number_of scope.now.funcs name.now }
+    ensures { result ≡ number_of scope.now.funcs name.now }
 {
     scope.funcs.number_or_len(name) as u16
 }
