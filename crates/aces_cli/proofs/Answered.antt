@@ -4,33 +4,38 @@ use Rattle.aces_reports.specs.declared.failure.Done.{Done}
 use Rattle.aces_reports.specs.declared.failure.Done.TheVariants.{Completed, RunFailed}
 use Rattle.aces_reports.specs.declared.failure.Failure.{Failure}
 use Rattle.aces_reports.specs.declared.failure.Failure.TheVariants.{Refused, PastLimit, NoRoom, Unread, Unwritten, Unprinted, NoMemory}
+use Rattle.aces_words.specs.declared.policy.Policy.{Policy}
 use Rattle.aces_words.specs.Requests.{Request, Run, Bin, Compile, Check, Source, Listing, Asks, IsUsage, Origin}
 use Rattle.aces_reports.specs.FaultLines.{usage_line}
-use Rattle.aces_cli.specs.Answer.{Outcome, Answer, refused, past_limit, no_room, usage, run_image_large, run_tape_large, run_read, bin_image_large, bin_read, compile_firmware_large, compile_board_large, compile_read, check_large, check_read, source_firmware_large, source_tape_large, source_read, list_firmware_large, list_board_large, list_read, no_request, to_request}
 use Rattle.aces_reports.specs.Sinks.{SinkState, Says}
 use Rattle.aces_reports.specs.Ends.{status_of, line_of}
-use Rattle.aces_cli.specs.Effects.{World, Does, Quiet, IsPlain, IsCarriedOut, IsAnswered, IsPart, IsPrintedInPart, IsPartly, AsksForSource, TellsUnread, TellsUnwritten, TellsUnprinted, TellsOutOfMemory}
+use Rattle.commands.specs.Outcomes.{Outcome, refused, past_limit, no_room, usage}
+use Rattle.commands.specs.Effects.{World, Does, Quiet, IsCarriedOut, IsPart, IsPrintedInPart}
+use Rattle.commands.proofs.Answering.{run_also, bin_also, check_also, source_also}
+use Rattle.aces_cli.specs.Answer.{AnswerToList, AnswerToCompile, firmware_large, board_large, all_read, Answer, no_request, to_request}
+use Rattle.aces_cli.specs.Endings.{IsPlain, IsAnswered, IsPartly, AsksForSource, TellsUnread, TellsUnwritten, TellsUnprinted, TellsOutOfMemory}
 
 -- answers from what is known are answers from what follows of it
-pub answer_also : (Has Had : Origin → List ℕ → Type 0) (Exceeds Exceeded : Origin → Type 0)
-    → ((s : Origin) (bytes : List ℕ) → Has s bytes → Had s bytes) → ((s : Origin) → Exceeds s → Exceeded s)
-    → (r : Request) (o : Outcome) → Answer Has Exceeds r o → Answer Had Exceeded r o
-answer_also Has Had Exceeds Exceeded m l r o (run_image_large image tape steps e) = run_image_large image tape steps (l _ e)
-answer_also Has Had Exceeds Exceeded m l r o (run_tape_large image tape steps bytes h e) = run_tape_large image tape steps bytes (m _ bytes h) (l _ e)
-answer_also Has Had Exceeds Exceeded m l r o (run_read image tape steps bytes text p h k a) = run_read image tape steps bytes text p (m _ bytes h) (m _ text k) a
-answer_also Has Had Exceeds Exceeded m l r o (bin_image_large image file e) = bin_image_large image file (l _ e)
-answer_also Has Had Exceeds Exceeded m l r o (bin_read image file bytes p h a) = bin_read image file bytes p (m _ bytes h) a
-answer_also Has Had Exceeds Exceeded m l r o (compile_firmware_large firmware board policy image e) = compile_firmware_large firmware board policy image (l _ e)
-answer_also Has Had Exceeds Exceeded m l r o (compile_board_large firmware board policy image bytes h e) = compile_board_large firmware board policy image bytes (m _ bytes h) (l _ e)
-answer_also Has Had Exceeds Exceeded m l r o (compile_read firmware board policy image bytes text p h k a) = compile_read firmware board policy image bytes text p (m _ bytes h) (m _ text k) a
-answer_also Has Had Exceeds Exceeded m l r o (check_large firmware e) = check_large firmware (l _ e)
-answer_also Has Had Exceeds Exceeded m l r o (check_read firmware bytes p h a) = check_read firmware bytes p (m _ bytes h) a
-answer_also Has Had Exceeds Exceeded m l r o (source_firmware_large firmware policy tape steps e) = source_firmware_large firmware policy tape steps (l _ e)
-answer_also Has Had Exceeds Exceeded m l r o (source_tape_large firmware policy tape steps bytes h e) = source_tape_large firmware policy tape steps bytes (m _ bytes h) (l _ e)
-answer_also Has Had Exceeds Exceeded m l r o (source_read firmware policy tape steps bytes text p h k a) = source_read firmware policy tape steps bytes text p (m _ bytes h) (m _ text k) a
-answer_also Has Had Exceeds Exceeded m l r o (list_firmware_large firmware board policy e) = list_firmware_large firmware board policy (l _ e)
-answer_also Has Had Exceeds Exceeded m l r o (list_board_large firmware board policy bytes h e) = list_board_large firmware board policy bytes (m _ bytes h) (l _ e)
-answer_also Has Had Exceeds Exceeded m l r o (list_read firmware board policy bytes text p h k a) = list_read firmware board policy bytes text p (m _ bytes h) (m _ text k) a
+module _ (Has Had : Origin → List ℕ → Type 0) (Exceeds Exceeded : Origin → Type 0)
+    (also : (s : Origin) (bytes : List ℕ) → Has s bytes → Had s bytes) (large : (s : Origin) → Exceeds s → Exceeded s) where
+  list_also : (firmware board : List ℕ) (policy : Policy) (o : Outcome) → AnswerToList firmware board policy Has Exceeds o → AnswerToList firmware board policy Had Exceeded o
+  list_also firmware board policy o (firmware_large e) = firmware_large (large _ e)
+  list_also firmware board policy o (board_large bytes h e) = board_large bytes (also _ bytes h) (large _ e)
+  list_also firmware board policy o (all_read bytes text p h k a) = all_read bytes text p (also _ bytes h) (also _ text k) a
+
+  compile_also : (firmware board : List ℕ) (policy : Policy) (image : List ℕ) (o : Outcome)
+      → AnswerToCompile firmware board policy image Has Exceeds o → AnswerToCompile firmware board policy image Had Exceeded o
+  compile_also firmware board policy image o (firmware_large e) = firmware_large (large _ e)
+  compile_also firmware board policy image o (board_large bytes h e) = board_large bytes (also _ bytes h) (large _ e)
+  compile_also firmware board policy image o (all_read bytes text p h k a) = all_read bytes text p (also _ bytes h) (also _ text k) a
+
+  pub answer_also : (r : Request) (o : Outcome) → Answer r Has Exceeds o → Answer r Had Exceeded o
+  answer_also (Run image tape steps) o a = run_also Has Had Exceeds Exceeded also large image tape steps o a
+  answer_also (Bin image file) o a = bin_also Has Had Exceeds Exceeded also large image file o a
+  answer_also (Compile firmware board policy image) o a = compile_also firmware board policy image o a
+  answer_also (Check firmware) o a = check_also Has Had Exceeds Exceeded also large firmware o a
+  answer_also (Source firmware policy tape steps) o a = source_also Has Had Exceeds Exceeded also large firmware policy tape steps o a
+  answer_also (Listing firmware board policy) o a = list_also firmware board policy o a
 
 -- nothing is printed and written, and no fault rose
 nothing_more : (old new : World) (o : Outcome) → Quiet old new → new.read_faults ≡ old.read_faults → o.printed ≡ [] → o.written ≡ None → IsCarriedOut old new o
@@ -54,7 +59,7 @@ usage_answered Has Exceeds words w err_old err_new u s = record {
 
 module _ (Has : Origin → List ℕ → Type 0) (Exceeds : Origin → Type 0) (words : List (List ℕ)) (r : Request) (asks : Asks words r)
     (old new : World) (err_old err_new : SinkState) where
-  pub answered : (e : Result Done Failure) (s : ℕ) → s ≡ status_of e → Does (Answer Has Exceeds r) r old new e → Says err_old err_new (line_of e)
+  pub answered : (e : Result Done Failure) (s : ℕ) → s ≡ status_of e → Does (Answer r Has Exceeds) r old new e → Says err_old err_new (line_of e)
       → IsPlain s → IsAnswered Has Exceeds words old new err_old err_new s
   answered (Ok Completed) s q d l p = record {
     outcome = d.outcome;
@@ -96,10 +101,10 @@ module _ (Has : Origin → List ℕ → Type 0) (Exceeds : Origin → Type 0) (w
   answered (Err Unprinted) s q d l p = absurd (p.no_write_fault q)
   answered (Err NoMemory) s q d l p = absurd (p.no_want_of_memory q)
 
-  part_of : IsPart (Answer Has Exceeds r) r old new → IsPartly Has Exceeds words old new
+  part_of : IsPart (Answer r Has Exceeds) r old new → IsPartly Has Exceeds words old new
   part_of p = record { outcome = p.outcome; answer = to_request r p.outcome asks p.answer; part = p.part }
 
-  pub partly : (e : Result Done Failure) → status_of e ≡ 5 → Does (Answer Has Exceeds r) r old new e → IsPartly Has Exceeds words old new
+  pub partly : (e : Result Done Failure) → status_of e ≡ 5 → Does (Answer r Has Exceeds) r old new e → IsPartly Has Exceeds words old new
   partly (Ok Completed) q d = let f : ⊥ = omega (arith, q) in absurd f
   partly (Ok RunFailed) q d = let f : ⊥ = omega (arith, q) in absurd f
   partly (Err (Refused name f)) q d = let f : ⊥ = omega (arith, q) in absurd f
@@ -110,7 +115,7 @@ module _ (Has : Origin → List ℕ → Type 0) (Exceeds : Origin → Type 0) (w
   partly (Err Unprinted) q d = part_of d.1
   partly (Err NoMemory) q d = let f : ⊥ = omega (arith, q) in absurd f
 
-  in_part : (s : Request) → IsPrintedInPart (Answer Has Exceeds r) r old new s → (new.out ≡ old.out) ⊎ IsPartly Has Exceeds words old new
+  in_part : (s : Request) → IsPrintedInPart (Answer r Has Exceeds) r old new s → (new.out ≡ old.out) ⊎ IsPartly Has Exceeds words old new
   in_part (Run image tape steps) h = inl h
   in_part (Bin image file) h = inl h
   in_part (Compile firmware board policy image) h = inl h
@@ -118,7 +123,7 @@ module _ (Has : Origin → List ℕ → Type 0) (Exceeds : Origin → Type 0) (w
   in_part (Source firmware policy tape steps) h = elim h [ inl e ↦ inl e | inr p ↦ inr (part_of p) ]
   in_part (Listing firmware board policy) h = inl h
 
-  pub printed_in_part : (e : Result Done Failure) → status_of e ≡ 6 → Does (Answer Has Exceeds r) r old new e → (new.out ≡ old.out) ⊎ IsPartly Has Exceeds words old new
+  pub printed_in_part : (e : Result Done Failure) → status_of e ≡ 6 → Does (Answer r Has Exceeds) r old new e → (new.out ≡ old.out) ⊎ IsPartly Has Exceeds words old new
   printed_in_part (Ok Completed) q d = let f : ⊥ = omega (arith, q) in absurd f
   printed_in_part (Ok RunFailed) q d = let f : ⊥ = omega (arith, q) in absurd f
   printed_in_part (Err (Refused name f)) q d = let f : ⊥ = omega (arith, q) in absurd f

@@ -1,11 +1,6 @@
-mod Starting
-mod Ends
-mod Answered
-mod Firmwares
-mod Sourcing
 mod Planning
+mod Answered
 mod Kept
-mod Whole
-mod Asked
+mod Runnable
 mod Good
 mod Settled

@@ -1,23 +1,16 @@
--- Boards that are refused, and firmwares that are not planned.
-use Rattle.std.proofs.Common.{◌≡◌, ℕ, List, Some, sym, subst}
+-- Firmwares that are not planned.
+use Rattle.std.proofs.Common.{◌≡◌, ℕ, List, sym, subst}
 use Rattle.aces_words.specs.declared.policy.Policy.{Policy}
 use Rattle.ir_model.specs.Plain.{PlainFirmware}
 use Rattle.plan_model.specs.declared.plan.Board.{Board}
-use Rattle.board_text.specs.declared.fault.BoardFault.{BoardFault}
-use Rattle.board_text.specs.Reading.{IsRead, IsFault}
+use Rattle.board_text.specs.Reading.{IsRead}
 use Rattle.planning.specs.declared.refusal.PlanningRefusal.{PlanningRefusal}
 use Rattle.planning.specs.declared.refusal.PlanningRefusal.TheVariants.{NoMemory, Limit, Flash, Ram}
 use Rattle.firmware_plans.specs.Unplanned.{IsUnplanned}
 use Rattle.aces_reports.specs.declared.failure.Failure.{Failure}
-use Rattle.aces_cli.specs.Answer.{IsFirmware, IsNoBoard, of_board, PlanAnswer, too_many, no_flash, no_ram}
-use Rattle.aces_cli.specs.Loads.{IsContentFailure, IsRefusal, of_planning}
-use Rattle.aces_cli.proofs.Firmwares.{content_also}
-
--- bytes that fail a test describe no board
-pub board_refused : (text name : List ℕ) (first : BoardFault) (e : Failure) → IsFault text first → IsContentFailure (λ f. of_board first ≡ Some f) name e
-    → IsContentFailure (IsNoBoard text) name e
-board_refused text name first e h =
-    content_also (λ f. of_board first ≡ Some f) (IsNoBoard text) (λ f q. record { first = first; found = h; named = q }) name e
+use Rattle.commands.specs.Contents.{IsFirmware}
+use Rattle.aces_cli.specs.Answer.{PlanAnswer, too_many, no_flash, no_ram}
+use Rattle.commands.specs.Loads.{IsRefusal, of_planning}
 
 -- a firmware that is not planned
 unplanned : (firmware board : List ℕ) (policy : Policy) (bytes text : List ℕ) (w : PlainFirmware) (b : Board) → IsFirmware w bytes → IsRead text b

@@ -7,9 +7,11 @@ use Rattle.aces_reports.specs.declared.failure.Failure.{Failure}
 use Rattle.aces_reports.specs.declared.failure.Failure.TheVariants.{Refused, PastLimit, NoRoom, Unread, Unwritten, Unprinted, NoMemory}
 use Rattle.aces_reports.specs.Ends.{status_of}
 use Rattle.aces_words.specs.Requests.{Request, Asks, Origin, origins}
-use Rattle.aces_cli.specs.Known.{Held, Holds, Exceeds, IsMissing}
-use Rattle.aces_cli.specs.Answer.{Outcome, Answer, refused, past_limit, no_room}
-use Rattle.aces_cli.specs.Effects.{World, Does, IsPlain, IsUnread}
+use Rattle.commands.specs.Known.{Held, Holds, Exceeds, IsMissing}
+use Rattle.commands.specs.Outcomes.{Outcome, refused, past_limit, no_room}
+use Rattle.aces_cli.specs.Answer.{Answer}
+use Rattle.commands.specs.Effects.{World, Does, IsUnread}
+use Rattle.aces_cli.specs.Endings.{IsPlain}
 use Rattle.aces_cli.specs.Complete.{NoneFailed, AreThere, HasFiles, IsGood, run, bin, compile, check, source, list, IsDoneBy, GoodRequestsAreDone}
 use Rattle.aces_words.proofs.Requests.{requests_are_one}
 
@@ -79,14 +81,14 @@ module _ (words : List (List ℕ)) (r : Request) (asks : Asks words r) (old new 
       ]
 
   -- what they hold is good
-  good_is_done : GoodRequestsAreDone → Does (Answer (Holds old.held) (Exceeds old.held) r) r old new e → IsGood (Holds old.held) r → IsDoneBy r s ⊎ (s ≡ 6)
+  good_is_done : GoodRequestsAreDone → Does (Answer r (Holds old.held) (Exceeds old.held)) r old new e → IsGood (Holds old.held) r → IsDoneBy r s ⊎ (s ≡ 6)
   good_is_done law d good =
-      elim (settles (Answer (Holds old.held) (Exceeds old.held) r) r old new told none (good_is_there old.held r good) e d) [
+      elim (settles (Answer r (Holds old.held) (Exceeds old.held)) r old new told none (good_is_there old.held r good) e d) [
         | inl o ↦ inl (subst (IsDoneBy r) (o.ended ∙ sym ends) (law old.held r o.outcome good o.answer))
         | inr six ↦ inr (ends ∙ six)
       ]
 
-  pub complete : GoodRequestsAreDone → Does (Answer (Holds old.held) (Exceeds old.held) r) r old new e
+  pub complete : GoodRequestsAreDone → Does (Answer r (Holds old.held) (Exceeds old.held)) r old new e
       → (q : Request) → Asks words q → IsGood (Holds old.held) q → IsDoneBy q s ⊎ (s ≡ 6)
   complete law d q asked good =
       let same : r ≡ q = requests_are_one words r q asks asked in

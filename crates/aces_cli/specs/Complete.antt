@@ -11,9 +11,11 @@ use Rattle.board_text.specs.Reading as boards
 use Rattle.firmware_plans.specs.Plannable.{IsPlannable}
 use Rattle.aces_words.specs.declared.policy.Policy.{Policy}
 use Rattle.aces_words.specs.Requests.{Request, Run, Bin, Compile, Check, Source, Listing, Asks, Origin, origins, file_origin, firmware_origin}
-use Rattle.aces_cli.specs.Known.{Held, Holds, Exceeds}
-use Rattle.aces_cli.specs.Answer.{Outcome, Answer, IsFirmware}
-use Rattle.aces_cli.specs.Effects.{World}
+use Rattle.commands.specs.Known.{Held, Holds, Exceeds}
+use Rattle.commands.specs.Outcomes.{Outcome}
+use Rattle.commands.specs.Contents.{IsFirmware}
+use Rattle.commands.specs.Effects.{World}
+use Rattle.aces_cli.specs.Answer.{Answer}
 
 -- no call on files or on what is printed failed
 pub record NoneFailed (old new : World) : Type 0 where
@@ -75,4 +77,4 @@ IsDoneBy (Listing firmware board policy) status = status ≡ 0
 
 -- a good request has no outcome but one that says so
 abbrev pub GoodRequestsAreDone : Type 0
-GoodRequestsAreDone = (held : Held) (r : Request) (o : Outcome) → IsGood (Holds held) r → Answer (Holds held) (Exceeds held) r o → IsDoneBy r o.status
+GoodRequestsAreDone = (held : Held) (r : Request) (o : Outcome) → IsGood (Holds held) r → Answer r (Holds held) (Exceeds held) o → IsDoneBy r o.status

@@ -5,17 +5,18 @@ ghost use Rattle.ir_model.specs.Plain as plain;
 ghost use Rattle.plan_model.specs.Boards.{IsBoard};
 ghost use Rattle.firmware_plans.specs.Unplanned.{IsUnplanned};
 ghost use Rattle.aces_words.specs.Requests.{Compile, firmware_limit};
-ghost use Rattle.aces_cli.specs.Answer.{CompileAnswer, done};
+ghost use Rattle.commands.specs.Outcomes.{done};
+ghost use Rattle.commands.specs.Loads.{IsRefusal};
+ghost use Rattle.commands.specs.CarriesOut.{CarriesOut};
+ghost use Rattle.aces_cli.specs.Answer.{CompileAnswer, AnswerToCompile};
 ghost use Rattle.aces_cli.specs.Compiled.{IsImageText};
-ghost use Rattle.aces_cli.specs.Loads.{IsRefusal};
 ghost use Rattle.aces_reports.specs.Sinks.{SinkState};
-ghost use Rattle.aces_cli.specs.CarriesOut.{CarriesOut};
 
-use crate::failure::planning_failure;
-use crate::loading::{board_of, firmware_of, load, load_firmware};
-use crate::writing::write;
 use aces_reports::{Done, Failure};
 use aces_words::Policy;
+use commands::failure::planning_failure;
+use commands::loading::{board_of, firmware_of, load, load_firmware};
+use commands::writing::write;
 use compiler::{CompileRefusal, compile_by};
 use ir_model::checked::Checked;
 use outside::Files;
@@ -31,7 +32,7 @@ pub(crate) fn compile<'a, F: Files>(
     image: &'a str,
     files: &mut F,
 ) -> Result<Done, Failure<'a>>
-    ensures { (out : SinkState) → CarriesOut F.Files files.old files.new (Compile firmware.now board.now policy image.now) out out result }
+    ensures { (out : SinkState) → CarriesOut (AnswerToCompile firmware.now board.now policy image.now) F.Files files.old files.new (Compile firmware.now board.now policy image.now) out out result }
 {
     let bytes = load_firmware(alloc, files, firmware)?;
     let text = load(alloc, files, board)?;

@@ -1,30 +1,26 @@
 //! The commands of the program, as one call over the words behind its name.
 #![tactic(auto)]
 
-mod bin;
-mod check;
 mod compile;
 mod complete;
-mod failure;
 mod list;
-mod loading;
-mod run;
-mod source;
-mod writing;
 
 ghost use Rattle.std.specs.Prelude.{◌≡◌, ◌≢◌, ◌↔◌, ◌⊎◌, List, map, IsTrue, string_bytes};
 ghost use Rattle.outside.specs.Calls.{Call, Calls};
 ghost use Rattle.aces_words.specs.Requests.{Request, Asks, IsUsage};
 ghost use Rattle.aces_words.specs.Commands.{request_of};
-ghost use Rattle.aces_cli.specs.Known.{Holds, Exceeds};
+ghost use Rattle.commands.specs.Known.{Holds, Exceeds};
 ghost use Rattle.aces_cli.specs.Complete.{NoneFailed, HasFiles, IsGood, IsDoneBy};
 ghost use Rattle.aces_reports.specs.Sinks.{sink};
-ghost use Rattle.aces_cli.specs.CarriesOut.{CarriesOut};
-ghost use Rattle.aces_cli.specs.Effects.{world, IsPlain, IsAnswered, IsPartly, IsByCalls, TellsUnread, TellsUnwritten, TellsUnprinted, TellsOutOfMemory};
+ghost use Rattle.commands.specs.CarriesOut.{CarriesOut};
+ghost use Rattle.commands.specs.Effects.{world};
+ghost use Rattle.aces_cli.specs.Answer.{Answer};
+ghost use Rattle.aces_cli.specs.Endings.{IsPlain, IsAnswered, IsPartly, IsByCalls, TellsUnread, TellsUnwritten, TellsUnprinted, TellsOutOfMemory};
 
 use aces_reports::{Done, Failure, report, say};
 pub use aces_reports::{WordsRefusal, refuse_words};
 use aces_words::Command;
+use commands::{bin, check, run, source};
 use complete::good_requests;
 use outside::{Files, Sink};
 use std::alloc::Global;
@@ -124,7 +120,7 @@ fn perform<'a, F: Files, O: Sink>(
     files: &mut F,
     out: &mut O,
 ) -> Result<Done, Failure<'a>>
-    ensures { CarriesOut F.Files files.old files.new (request_of command.entry) (sink O.Sink out.old) (sink O.Sink out.new) result }
+    ensures { CarriesOut (Answer (request_of command.entry)) F.Files files.old files.new (request_of command.entry) (sink O.Sink out.old) (sink O.Sink out.new) result }
 {
     match command {
         Command::Run { image, tape, steps } => run::run(alloc, image, tape, steps, files, out),

@@ -2,15 +2,16 @@
 
 ghost use Rattle.std.specs.Prelude.{◌≤◌, None, IfOk, IfErr, length};
 ghost use Rattle.aces_words.specs.Requests.{Listing, firmware_limit};
-ghost use Rattle.aces_cli.specs.Answer.{ListAnswer, done};
-ghost use Rattle.aces_cli.specs.Loads.{IsRefusal};
+ghost use Rattle.commands.specs.Outcomes.{done};
+ghost use Rattle.commands.specs.Loads.{IsRefusal};
+ghost use Rattle.commands.specs.CarriesOut.{CarriesOut};
+ghost use Rattle.aces_cli.specs.Answer.{ListAnswer, AnswerToList};
 ghost use Rattle.aces_reports.specs.Sinks.{sink};
-ghost use Rattle.aces_cli.specs.CarriesOut.{CarriesOut};
 
-use crate::failure::planning_failure;
-use crate::loading::{board_of, firmware_of, load, load_firmware};
 use aces_reports::{Done, Failure};
 use aces_words::Policy;
+use commands::failure::planning_failure;
+use commands::loading::{board_of, firmware_of, load, load_firmware};
 use firmware_listing::listing_of;
 use outside::{Files, Sink};
 use std::alloc::Global;
@@ -24,7 +25,7 @@ pub(crate) fn list<'a, F: Files, O: Sink>(
     files: &mut F,
     out: &mut O,
 ) -> Result<Done, Failure<'a>>
-    ensures { CarriesOut F.Files files.old files.new (Listing firmware.now board.now policy) (sink O.Sink out.old) (sink O.Sink out.new) result }
+    ensures { CarriesOut (AnswerToList firmware.now board.now policy) F.Files files.old files.new (Listing firmware.now board.now policy) (sink O.Sink out.old) (sink O.Sink out.new) result }
 {
     let bytes = load_firmware(alloc, files, firmware)?;
     let text = load(alloc, files, board)?;

@@ -2,14 +2,14 @@ use Rattle.std.proofs.Common.{inl, [], refl, arith, ◌∙◌, sym, map, string_
 use Rattle.std.proofs.lemmas.List.Elements.{All-nil, All-weaker}
 use Rattle.aces_words.specs.Commands.{request_of}
 use Rattle.aces_words.specs.Requests.{Request, Asks}
-use Rattle.aces_cli.specs.Known.{Holds, Exceeds, WasRead, WasTooLarge, IsCallOf}
-use Rattle.aces_cli.specs.CarriesOut.{IsKnown, IsKnownLarge}
+use Rattle.commands.specs.Known.{Holds, Exceeds, WasRead, WasTooLarge, IsCallOf}
+use Rattle.commands.specs.CarriesOut.{IsKnown, IsKnownLarge}
 use Rattle.aces_cli.specs.Answer.{Answer}
 use Rattle.aces_reports.specs.Sinks.{sink}
-use Rattle.aces_cli.specs.Effects.{world}
-use Rattle.aces_cli.proofs.Ends.{did_also}
+use Rattle.commands.specs.Effects.{world}
+use Rattle.commands.proofs.Ends.{did_also, held_stays}
 use Rattle.aces_cli.proofs.Answered.{answer_also, usage_answered, answered, partly, printed_in_part}
-use Rattle.aces_cli.proofs.Kept.{held_stays}
+use Rattle.aces_cli.proofs.Kept.{writes_nothing}
 use Rattle.aces_cli.proofs.Settled.{is_plain, settled, complete}
 use Rattle.aces_cli.proofs.aces.Goals as goal
 
@@ -44,7 +44,7 @@ returns-in-Some-clause-answer g c told plain =
     let also = answer_also (IsKnown of.told (of.held files) d.0) (Holds (of.held files)) (IsKnownLarge of.told (of.held files) d.0) (Exceeds (of.held files)) (λ s b k. k.1 told) (λ s k. k.1 told) r in
     answered (Holds (of.held files)) (Exceeds (of.held files)) (map (string_bytes {Z = Global}) c.args.words.now) r c.in-Some.ensures.command
     old new (sink g.E.Sink c.args.err.now) (sink g.E.Sink c.report.new.err) c.perform-ended.result c.report.result c.report.ensures.status
-    (did_also (Answer (IsKnown of.told (of.held files) d.0) (IsKnownLarge of.told (of.held files) d.0) r) (Answer (Holds (of.held files)) (Exceeds (of.held files)) r) also r old new c.perform-ended.result d.3)
+    (did_also (Answer r (IsKnown of.told (of.held files) d.0) (IsKnownLarge of.told (of.held files) d.0)) (Answer r (Holds (of.held files)) (Exceeds (of.held files))) also r old new c.perform-ended.result d.3)
     c.report.ensures.line plain
 
 pub returns-in-Some-clause-calls : goal.returns-in-Some-clause-calls
@@ -62,7 +62,7 @@ returns-in-Some-clause-calls g c =
     let err_new = sink g.E.Sink c.report.new.err in
     let known = IsKnown of.told (of.held files) d.0 in
     let known_large = IsKnownLarge of.told (of.held files) d.0 in
-    let did = did_also (Answer known known_large r) (Answer read large r) (answer_also known read known_large large (λ s b k. k.0) (λ s k. k.0) r)
+    let did = did_also (Answer r known known_large) (Answer r read large) (answer_also known read known_large large (λ s b k. k.0) (λ s k. k.0) r)
     r old new c.perform-ended.result d.3 in (
       d.0,
       d.1,
@@ -88,7 +88,7 @@ returns-in-Some-clause-partly g c told five =
     let also = answer_also (IsKnown of.told (of.held files) d.0) (Holds (of.held files)) (IsKnownLarge of.told (of.held files) d.0) (Exceeds (of.held files)) (λ s b k. k.1 told) (λ s k. k.1 told) r in
     partly (Holds (of.held files)) (Exceeds (of.held files)) (map (string_bytes {Z = Global}) c.args.words.now) r c.in-Some.ensures.command
     old new (sink g.E.Sink c.args.err.now) (sink g.E.Sink c.report.new.err) c.perform-ended.result (sym c.report.ensures.status ∙ five)
-    (did_also (Answer (IsKnown of.told (of.held files) d.0) (IsKnownLarge of.told (of.held files) d.0) r) (Answer (Holds (of.held files)) (Exceeds (of.held files)) r) also r old new c.perform-ended.result d.3)
+    (did_also (Answer r (IsKnown of.told (of.held files) d.0) (IsKnownLarge of.told (of.held files) d.0)) (Answer r (Holds (of.held files)) (Exceeds (of.held files))) also r old new c.perform-ended.result d.3)
 
 pub returns-in-Some-clause-printed_in_part : goal.returns-in-Some-clause-printed_in_part
 returns-in-Some-clause-printed_in_part g c told six =
@@ -101,14 +101,17 @@ returns-in-Some-clause-printed_in_part g c told six =
     let also = answer_also (IsKnown of.told (of.held files) d.0) (Holds (of.held files)) (IsKnownLarge of.told (of.held files) d.0) (Exceeds (of.held files)) (λ s b k. k.1 told) (λ s k. k.1 told) r in
     printed_in_part (Holds (of.held files)) (Exceeds (of.held files)) (map (string_bytes {Z = Global}) c.args.words.now) r c.in-Some.ensures.command
     old new (sink g.E.Sink c.args.err.now) (sink g.E.Sink c.report.new.err) c.perform-ended.result (sym c.report.ensures.status ∙ six)
-    (did_also (Answer (IsKnown of.told (of.held files) d.0) (IsKnownLarge of.told (of.held files) d.0) r) (Answer (Holds (of.held files)) (Exceeds (of.held files)) r) also r old new c.perform-ended.result d.3)
+    (did_also (Answer r (IsKnown of.told (of.held files) d.0) (IsKnownLarge of.told (of.held files) d.0)) (Answer r (Holds (of.held files)) (Exceeds (of.held files))) also r old new c.perform-ended.result d.3)
 
 pub returns-in-Some-clause-kept : goal.returns-in-Some-clause-kept
 returns-in-Some-clause-kept g c some whole =
     let of = g.F.Files in
     let files = c.args.files.now in
     let d = c.perform-ended.ensures in
-    held_stays (IsKnown of.told (of.held files) d.0) (IsKnownLarge of.told (of.held files) d.0) (request_of c.in-Some.command)
+    let r = request_of c.in-Some.command in
+    let known = IsKnown of.told (of.held files) d.0 in
+    let large = IsKnownLarge of.told (of.held files) d.0 in
+    held_stays (Answer r known large) (writes_nothing known large r) r
     (world of files (sink g.O.Sink c.args.out.now)) (world of c.perform-ended.new.files (sink g.O.Sink c.perform-ended.new.out)) c.perform-ended.result d.3
     (λ z. some (c.report.ensures.status ∙ z)) (λ z. whole (c.report.ensures.status ∙ z))
 
@@ -126,7 +129,7 @@ returns-in-Some-clause-settled g c told none there =
     let r = request_of c.in-Some.command in
     settled (map (string_bytes {Z = Global}) c.args.words.now) r c.in-Some.ensures.command
     (world of files (sink g.O.Sink c.args.out.now)) (world of c.perform-ended.new.files (sink g.O.Sink c.perform-ended.new.out)) told none c.perform-ended.result c.report.result c.report.ensures.status
-    (Answer (IsKnown of.told (of.held files) d.0) (IsKnownLarge of.told (of.held files) d.0) r) d.3 there
+    (Answer r (IsKnown of.told (of.held files) d.0) (IsKnownLarge of.told (of.held files) d.0)) d.3 there
 
 pub returns-in-Some-clause-complete : goal.returns-in-Some-clause-complete
 returns-in-Some-clause-complete g c told none q asks good =
@@ -139,5 +142,5 @@ returns-in-Some-clause-complete g c told none q asks good =
     let also = answer_also (IsKnown of.told (of.held files) d.0) (Holds (of.held files)) (IsKnownLarge of.told (of.held files) d.0) (Exceeds (of.held files)) (λ s b k. k.1 told) (λ s k. k.1 told) r in
     complete (map (string_bytes {Z = Global}) c.args.words.now) r c.in-Some.ensures.command old new told none c.perform-ended.result c.report.result c.report.ensures.status
     c.good_requests.ensures
-    (did_also (Answer (IsKnown of.told (of.held files) d.0) (IsKnownLarge of.told (of.held files) d.0) r) (Answer (Holds (of.held files)) (Exceeds (of.held files)) r) also r old new c.perform-ended.result d.3)
+    (did_also (Answer r (IsKnown of.told (of.held files) d.0) (IsKnownLarge of.told (of.held files) d.0)) (Answer r (Holds (of.held files)) (Exceeds (of.held files))) also r old new c.perform-ended.result d.3)
     q asks good

@@ -3,14 +3,15 @@ use Rattle.std.proofs.lemmas.List.Elements.{All-append}
 use Rattle.std.proofs.lemmas.Result.{err_from_is_err_and}
 use Rattle.aces_reports.specs.declared.failure.Done.TheVariants.{Completed}
 use Rattle.aces_words.specs.Requests.{Compile, Origin, file_origin, firmware_origin}
-use Rattle.aces_cli.specs.Known.{Held, IsCallOf}
-use Rattle.aces_cli.specs.CarriesOut.{IsKnown, IsKnownLarge}
-use Rattle.aces_cli.specs.Answer.{Answer, CompileAnswer, compile_firmware_large, compile_board_large, compile_read, done}
-use Rattle.aces_cli.specs.Effects.{Does, world}
-use Rattle.aces_cli.specs.Loads.{IsLoadFailure, IsRefusal}
+use Rattle.commands.specs.Known.{Held, IsCallOf}
+use Rattle.commands.specs.CarriesOut.{IsKnown, IsKnownLarge}
+use Rattle.aces_cli.specs.Answer.{AnswerToCompile, CompileAnswer, firmware_large, board_large, all_read}
+use Rattle.commands.specs.Outcomes.{done}
+use Rattle.commands.specs.Effects.{Does, world}
+use Rattle.commands.specs.Loads.{IsLoadFailure, IsRefusal}
 use Rattle.outside.proofs.Paths.{calls_joined}
-use Rattle.aces_cli.proofs.Asked.{known_before, known_behind, large_behind, reads_of, writes_of}
-use Rattle.aces_cli.proofs.Ends.{load_failed, refusal_did, refusal_also, did_end}
+use Rattle.commands.proofs.Asked.{known_before, known_behind, large_behind, reads_of, writes_of}
+use Rattle.commands.proofs.Ends.{load_failed, refusal_did, refusal_also, did_end}
 use Rattle.aces_cli.proofs.compile.compile.Goals as goal
 
 pub returns-in_err-bytes : goal.returns-in_err-bytes
@@ -19,7 +20,7 @@ returns-in_err-bytes g c out =
     let r = Compile firmware c.args.board.now c.args.policy c.args.image.now in
     let made = c.in_err-bytes.ensures.calls in
     let large = IsKnownLarge g.F.Files.told (g.F.Files.held c.args.files.now) made.0 in
-    let all = Answer (IsKnown g.F.Files.told (g.F.Files.held c.args.files.now) made.0) large r in
+    let all = AnswerToCompile firmware c.args.board.now c.args.policy c.args.image.now (IsKnown g.F.Files.told (g.F.Files.held c.args.files.now) made.0) large in
     let old = world g.F.Files c.args.files.now out in
     let new = world g.F.Files c.load_firmware.new.files out in
     let x = err_from_is_err_and c.from_residual.result c.from_residual.ensures.1 in (
@@ -29,7 +30,7 @@ returns-in_err-bytes g c out =
       subst (Does all r old new) (sym x.1)
           (load_failed all large r (firmware_origin firmware) old new
           (record { held = c.load_firmware.ensures.same; write_faults = c.load_firmware.ensures.writes; out = refl })
-          (inl refl) (λ t n. inl (refl, n)) (λ e. compile_firmware_large firmware c.args.board.now c.args.policy c.args.image.now e) x.0
+          (inl refl) (λ t n. inl (refl, n)) (λ e. firmware_large e) x.0
           (subst (IsLoadFailure large old.told old.held (firmware_origin firmware) old.read_faults new.read_faults) (sym x.2) made.4)),
     )
 
@@ -45,7 +46,7 @@ returns-in_err-text g c out =
     let second = c.in_err-text.ensures.calls in
     let made = first.0 ++ second.0 in
     let large : Held → Origin → Type 0 = λ held s. IsKnownLarge told held second.0 s in
-    let all = Answer (IsKnown told (g.F.Files.held c.args.files.now) made) (IsKnownLarge told (g.F.Files.held c.args.files.now) made) r in
+    let all = AnswerToCompile firmware board policy image (IsKnown told (g.F.Files.held c.args.files.now) made) (IsKnownLarge told (g.F.Files.held c.args.files.now) made) in
     let old = world g.F.Files c.args.files.now out in
     let mid = world g.F.Files c.load_firmware.new.files out in
     let new = world g.F.Files c.load.new.files out in
@@ -62,7 +63,7 @@ returns-in_err-text g c out =
           (load_failed all (large old.held) r (file_origin board) old new
           (record { held = c.load.ensures.same ∙ c.load_firmware.ensures.same; write_faults = c.load.ensures.writes ∙ c.load_firmware.ensures.writes; out = refl })
           (inr (inl refl)) (λ t n. inr ((bytes, first.3.1 t), inl (refl, n)))
-          (λ e. compile_board_large firmware board policy image bytes known (large_behind told old.held first.0 second.0 (file_origin board) e)) x.0 reads_too),
+          (λ e. board_large bytes known (large_behind told old.held first.0 second.0 (file_origin board) e)) x.0 reads_too),
     )
 
 pub returns-in_err-compiled : goal.returns-in_err-compiled
@@ -79,7 +80,7 @@ returns-in_err-compiled g c out =
     let first = c.in_ok-bytes.ensures.calls in
     let second = c.in_ok-text.ensures.calls in
     let made = first.0 ++ second.0 in
-    let all = Answer (IsKnown of.told (of.held files) made) (IsKnownLarge of.told (of.held files) made) r in
+    let all = AnswerToCompile firmware board policy image (IsKnown of.told (of.held files) made) (IsKnownLarge of.told (of.held files) made) in
     let some = CompileAnswer firmware board policy image bytes text in
     let old = world g.F.Files c.args.files.now out in
     let new = world g.F.Files c.load.new.files out in
@@ -94,7 +95,7 @@ returns-in_err-compiled g c out =
           (refusal_did all r old new
           (record { held = c.load.ensures.same ∙ c.load_firmware.ensures.same; write_faults = c.load.ensures.writes ∙ c.load_firmware.ensures.writes; out = refl })
           (c.in_ok-text.ensures.reads ∙ c.in_ok-bytes.ensures.reads) x.0
-          (refusal_also some all (λ o a. compile_read firmware board policy image bytes text o known_first known a) x.0
+          (refusal_also some all (λ o a. all_read bytes text o known_first known a) x.0
           (subst (IsRefusal some) (sym x.2) (here image)))),
     )
 
@@ -115,7 +116,7 @@ returns-in-Ok g c out =
     let last = c.in-Ok.ensures.calls in
     let read = first.0 ++ second.0 in
     let made = read ++ last.0 in
-    let all = Answer (IsKnown of.told (of.held files) made) (IsKnownLarge of.told (of.held files) made) r in
+    let all = AnswerToCompile firmware board policy image (IsKnown of.told (of.held files) made) (IsKnownLarge of.told (of.held files) made) in
     let known_first = known_before of.told (of.held files) read last.0 (firmware_origin firmware) bytes
     (known_before of.told (of.held files) first.0 second.0 (firmware_origin firmware) bytes first.3) in
     let known = known_before of.told (of.held files) read last.0 (file_origin board) text
@@ -125,7 +126,7 @@ returns-in-Ok g c out =
       All-append (IsCallOf r) read last.0 (All-append (IsCallOf r) first.0 second.0 (reads_of r firmware (inl refl) first.0 first.2) (reads_of r board (inr (inl refl)) second.0 second.2)) (writes_of r image c.as_slice-3.result.now refl last.0 last.2),
       did_end all r (world g.F.Files c.args.files.now out) (world g.F.Files c.write.new.files out)
           (done 0 [] (Some (record { name = image; bytes = written }))) Completed
-          (compile_read firmware board policy image bytes text _ known_first known
+          (all_read bytes text _ known_first known
           (let here = rw (c.as_slice.ensures.value, c.as_slice-2.ensures.value) at c.in_ok-compiled.ensures.ok in here image))
           refl refl
           (record {
@@ -170,7 +171,7 @@ returns g c out =
         },
         record {
           outcome = done 0 [] (Some (record { name = image; bytes = written }));
-          answer = compile_read firmware board policy image bytes text _ known_first known
+          answer = all_read bytes text _ known_first known
               (let here = rw (c.as_slice.ensures.value, c.as_slice-2.ensures.value) at c.in_ok-compiled.ensures.ok in here image);
           part = record {
             printed = λ t. (0, sym (append-nil out.written));

@@ -3,15 +3,16 @@ use Rattle.std.proofs.lemmas.List.Elements.{All-append}
 use Rattle.std.proofs.lemmas.Result.{err_from_is_err_and}
 use Rattle.aces_reports.specs.declared.failure.Done.TheVariants.{Completed}
 use Rattle.aces_words.specs.Requests.{Listing, Origin, file_origin, firmware_origin}
-use Rattle.aces_cli.specs.Known.{Held, IsCallOf}
-use Rattle.aces_cli.specs.CarriesOut.{IsKnown, IsKnownLarge}
-use Rattle.aces_cli.specs.Answer.{Answer, ListAnswer, list_firmware_large, list_board_large, list_read, done}
+use Rattle.commands.specs.Known.{Held, IsCallOf}
+use Rattle.commands.specs.CarriesOut.{IsKnown, IsKnownLarge}
+use Rattle.aces_cli.specs.Answer.{AnswerToList, ListAnswer, firmware_large, board_large, all_read}
+use Rattle.commands.specs.Outcomes.{done}
 use Rattle.aces_reports.specs.Sinks.{sink}
-use Rattle.aces_cli.specs.Effects.{Does, world}
-use Rattle.aces_cli.specs.Loads.{IsLoadFailure, IsRefusal}
+use Rattle.commands.specs.Effects.{Does, world}
+use Rattle.commands.specs.Loads.{IsLoadFailure, IsRefusal}
 use Rattle.outside.proofs.Paths.{calls_joined}
-use Rattle.aces_cli.proofs.Asked.{known_before, known_behind, large_behind, reads_of}
-use Rattle.aces_cli.proofs.Ends.{load_failed, refusal_did, refusal_also, did_end}
+use Rattle.commands.proofs.Asked.{known_before, known_behind, large_behind, reads_of}
+use Rattle.commands.proofs.Ends.{load_failed, refusal_did, refusal_also, did_end}
 use Rattle.aces_cli.proofs.list.list.Goals as goal
 
 pub returns-in_err-bytes : goal.returns-in_err-bytes
@@ -20,7 +21,7 @@ returns-in_err-bytes g c =
     let r = Listing firmware c.args.board.now c.args.policy in
     let made = c.in_err-bytes.ensures.calls in
     let large = IsKnownLarge g.F.Files.told (g.F.Files.held c.args.files.now) made.0 in
-    let all = Answer (IsKnown g.F.Files.told (g.F.Files.held c.args.files.now) made.0) large r in
+    let all = AnswerToList firmware c.args.board.now c.args.policy (IsKnown g.F.Files.told (g.F.Files.held c.args.files.now) made.0) large in
     let old = world g.F.Files c.args.files.now (sink g.O.Sink c.args.out.now) in
     let new = world g.F.Files c.load_firmware.new.files (sink g.O.Sink c.args.out.now) in
     let x = err_from_is_err_and c.from_residual.result c.from_residual.ensures.1 in (
@@ -30,7 +31,7 @@ returns-in_err-bytes g c =
       subst (Does all r old new) (sym x.1)
           (load_failed all large r (firmware_origin firmware) old new
           (record { held = c.load_firmware.ensures.same; write_faults = c.load_firmware.ensures.writes; out = refl })
-          (inl refl) (λ t n. inl (refl, n)) (λ e. list_firmware_large firmware c.args.board.now c.args.policy e) x.0
+          (inl refl) (λ t n. inl (refl, n)) (λ e. firmware_large e) x.0
           (subst (IsLoadFailure large old.told old.held (firmware_origin firmware) old.read_faults new.read_faults) (sym x.2) made.4)),
     )
 
@@ -44,7 +45,7 @@ returns-in_err-text g c =
     let second = c.in_err-text.ensures.calls in
     let made = first.0 ++ second.0 in
     let large : Held → Origin → Type 0 = λ held s. IsKnownLarge told held second.0 s in
-    let all = Answer (IsKnown told (g.F.Files.held c.args.files.now) made) (IsKnownLarge told (g.F.Files.held c.args.files.now) made) r in
+    let all = AnswerToList firmware board c.args.policy (IsKnown told (g.F.Files.held c.args.files.now) made) (IsKnownLarge told (g.F.Files.held c.args.files.now) made) in
     let old = world g.F.Files c.args.files.now (sink g.O.Sink c.args.out.now) in
     let mid = world g.F.Files c.load_firmware.new.files (sink g.O.Sink c.args.out.now) in
     let new = world g.F.Files c.load.new.files (sink g.O.Sink c.args.out.now) in
@@ -61,7 +62,7 @@ returns-in_err-text g c =
           (load_failed all (large old.held) r (file_origin board) old new
           (record { held = c.load.ensures.same ∙ c.load_firmware.ensures.same; write_faults = c.load.ensures.writes ∙ c.load_firmware.ensures.writes; out = refl })
           (inr (inl refl)) (λ t n. inr ((bytes, first.3.1 t), inl (refl, n)))
-          (λ e. list_board_large firmware board c.args.policy bytes known (large_behind told old.held first.0 second.0 (file_origin board) e)) x.0 reads_too),
+          (λ e. board_large bytes known (large_behind told old.held first.0 second.0 (file_origin board) e)) x.0 reads_too),
     )
 
 pub returns-in_err-lines : goal.returns-in_err-lines
@@ -77,7 +78,7 @@ returns-in_err-lines g c =
     let first = c.in_ok-bytes.ensures.calls in
     let second = c.in_ok-text.ensures.calls in
     let made = first.0 ++ second.0 in
-    let all = Answer (IsKnown of.told (of.held files) made) (IsKnownLarge of.told (of.held files) made) r in
+    let all = AnswerToList firmware board policy (IsKnown of.told (of.held files) made) (IsKnownLarge of.told (of.held files) made) in
     let some = ListAnswer firmware board policy bytes text in
     let old = world of files (sink g.O.Sink c.args.out.now) in
     let new = world of c.load.new.files (sink g.O.Sink c.args.out.now) in
@@ -92,7 +93,7 @@ returns-in_err-lines g c =
           (refusal_did all r old new
           (record { held = c.load.ensures.same ∙ c.load_firmware.ensures.same; write_faults = c.load.ensures.writes ∙ c.load_firmware.ensures.writes; out = refl })
           (c.in_ok-text.ensures.reads ∙ c.in_ok-bytes.ensures.reads) x.0
-          (refusal_also some all (λ o a. list_read firmware board policy bytes text o known_first known a) x.0
+          (refusal_also some all (λ o a. all_read bytes text o known_first known a) x.0
           (subst (IsRefusal some) (sym x.2) here))),
     )
 
@@ -114,9 +115,9 @@ returns-in-Ok g c =
       made,
       calls_joined of.called files c.load_firmware.new.files c.load.new.files first.0 second.0 first.1 second.1,
       All-append (IsCallOf r) first.0 second.0 (reads_of r firmware (inl refl) first.0 first.2) (reads_of r board (inr (inl refl)) second.0 second.2),
-      did_end (Answer (IsKnown of.told (of.held files) made) (IsKnownLarge of.told (of.held files) made) r) r (world of files (sink g.O.Sink c.args.out.now)) (world of c.load.new.files (sink g.O.Sink c.put.new.self))
+      did_end (AnswerToList firmware board policy (IsKnown of.told (of.held files) made) (IsKnownLarge of.told (of.held files) made)) r (world of files (sink g.O.Sink c.args.out.now)) (world of c.load.new.files (sink g.O.Sink c.put.new.self))
           (done 0 c.in_ok-lines.lines.items None) Completed
-          (list_read firmware board policy bytes text _ known_first known
+          (all_read bytes text _ known_first known
           (rw (c.as_slice.ensures.value, c.as_slice-2.ensures.value) at c.in_ok-lines.ensures.ok))
           refl refl
           (record {
@@ -154,7 +155,7 @@ returns g c =
         },
         record {
           outcome = done 0 c.in_ok-lines.lines.items None;
-          answer = list_read firmware board c.args.policy bytes text _ known_first known
+          answer = all_read bytes text _ known_first known
               (rw (c.as_slice.ensures.value, c.as_slice-2.ensures.value) at c.in_ok-lines.ensures.ok);
           part = record { printed = λ t. rw c.as_slice-3.ensures.value at c.in-Err.ensures.failed; held = c.load.ensures.same ∙ c.load_firmware.ensures.same };
         },

@@ -1,0 +1,75 @@
+-- What a call did to the outside, by the status with which it ended.
+use Rattle.std.specs.Prelude.{◌≡◌, ◌≢◌, ℕ, ◌⊎◌, List, All}
+use Rattle.outside.specs.Calls.{Call}
+use Rattle.aces_words.specs.declared.policy.Policy.{Policy}
+use Rattle.aces_words.specs.Requests.{Request, Source, Asks, Origin}
+use Rattle.commands.specs.Known.{WasRead, WasTooLarge, IsCallOf}
+use Rattle.aces_reports.specs.FaultLines.{unread_line, unwritten_line, unprinted_line, memory_line}
+use Rattle.aces_reports.specs.Sinks.{SinkState, Says}
+use Rattle.commands.specs.Effects.{World, IsUnread, IsUnwritten, IsUnprinted, IsOutOfMemory, IsCarriedOut, IsBrokenOff}
+use Rattle.commands.specs.Outcomes.{Outcome}
+use Rattle.aces_cli.specs.Answer.{Answers}
+
+-- a status that comes by no failing call and no want of memory
+pub record IsPlain (status : ℕ) : Type 0 where
+  pub no_read_fault : status ≢ 4
+  pub no_write_fault : status ≢ 5
+  pub no_want_of_memory : status ≢ 6
+
+-- the call did what the words ask: its status, what is printed and written, and the line that tells of a fault
+pub record IsAnswered (Has : Origin → List ℕ → Type 0) (Exceeds : Origin → Type 0) (words : List (List ℕ))
+    (old new : World) (err_old err_new : SinkState) (status : ℕ) : Type 0 where
+  pub outcome : Outcome
+  pub answer : Answers Has Exceeds words outcome
+  pub ended : outcome.status ≡ status
+  pub all : IsCarriedOut old new outcome
+  pub says : Says err_old err_new outcome.line
+
+-- the call was broken off in the midst of what the words ask
+pub record IsPartly (Has : Origin → List ℕ → Type 0) (Exceeds : Origin → Type 0) (words : List (List ℕ))
+    (old new : World) : Type 0 where
+  pub outcome : Outcome
+  pub answer : Answers Has Exceeds words outcome
+  pub part : IsBrokenOff old new outcome
+
+-- what was done by the answers of these calls, all of which read a file that the words name for reading or write the one that they name
+-- for writing: what the words ask, and the first part of it after status 5 or 6
+pub record IsByCalls (calls : List Call) (words : List (List ℕ)) (old new : World) (err_old err_new : SinkState) (status : ℕ) : Type 0 where
+  pub asked : All (λ call. (r : Request) × Asks words r × IsCallOf r call) calls
+  pub answered : IsPlain status → IsAnswered (WasRead calls) (WasTooLarge calls) words old new err_old err_new status
+  pub partly : status ≡ 5 → IsPartly (WasRead calls) (WasTooLarge calls) words old new
+  pub printed_in_part : status ≡ 6 → (new.out ≡ old.out) ⊎ IsPartly (WasRead calls) (WasTooLarge calls) words old new
+
+-- a file that the words name for reading was not read, and the line says so
+pub record TellsUnread (words : List (List ℕ)) (old new : World) (err_old err_new : SinkState) : Type 0 where
+  pub request : Request
+  pub asks : Asks words request
+  pub name : List ℕ
+  pub unread : IsUnread request old new name
+  pub says : Says err_old err_new (unread_line name)
+
+-- the file that the words name for writing was not written, and the line says so
+pub record TellsUnwritten (words : List (List ℕ)) (old new : World) (err_old err_new : SinkState) : Type 0 where
+  pub request : Request
+  pub asks : Asks words request
+  pub name : List ℕ
+  pub unwritten : IsUnwritten request old new name
+  pub says : Says err_old err_new (unwritten_line name)
+
+pub record TellsUnprinted (old new : World) (err_old err_new : SinkState) : Type 0 where
+  pub unprinted : IsUnprinted old new
+  pub says : Says err_old err_new unprinted_line
+
+-- the words ask for a run of the source
+pub record AsksForSource (words : List (List ℕ)) : Type 0 where
+  pub firmware : List ℕ
+  pub policy : Policy
+  pub tape : List ℕ
+  pub steps : ℕ
+  pub asks : Asks words (Source firmware policy tape steps)
+
+-- memory ran out: nothing was printed, unless the words ask for a run of the source
+pub record TellsOutOfMemory (words : List (List ℕ)) (old new : World) (err_old err_new : SinkState) : Type 0 where
+  pub out_of_memory : IsOutOfMemory old new
+  pub quiet : (new.out ≡ old.out) ⊎ AsksForSource words
+  pub says : Says err_old err_new memory_line

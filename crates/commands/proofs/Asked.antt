@@ -1,0 +1,67 @@
+-- What is known by the calls that were made, and which request they serve.
+use Rattle.std.proofs.Common.{◌≡◌, ◌∙◌, ℕ, List, All, ◌∷◌, [], ◌++◌, Bool, Some, ap, sym, subst, append_assoc}
+use Rattle.std.proofs.lemmas.List.Elements.{All-weaker}
+use Rattle.outside.specs.Calls.{Call, Size, Read, Create, Append}
+use Rattle.outside.specs.Reading.{Reads}
+use Rattle.aces_words.specs.Requests.{Request, Origin, origins, target}
+use Rattle.commands.specs.Known.{Held, IsNamed, IsCallOf, WasRead, WasTooLarge}
+use Rattle.commands.specs.CarriesOut.{IsKnown, IsKnownLarge, Writes}
+
+-- what some calls tell is told by them with further calls behind them
+read_before : (calls later : List Call) (s : Origin) (bytes : List ℕ) → WasRead calls s bytes → WasRead (calls ++ later) s bytes
+read_before calls later s bytes k = record {
+  before = k.before;
+  reads = k.reads;
+  after = k.after ++ later;
+  among = ap (λ x. x ++ later) k.among ∙ append_assoc (k.before ++ k.reads) k.after later;
+  whole = k.whole;
+}
+
+pub known_before : (told : Bool) (held : Held) (calls later : List Call) (s : Origin) (bytes : List ℕ) → IsKnown told held calls s bytes
+    → IsKnown told held (calls ++ later) s bytes
+known_before told held calls later s bytes k = (read_before calls later s bytes k.0, k.1)
+
+-- and with others in front of them
+read_behind : (earlier calls : List Call) (s : Origin) (bytes : List ℕ) → WasRead calls s bytes → WasRead (earlier ++ calls) s bytes
+read_behind earlier calls s bytes k = record {
+  before = earlier ++ k.before;
+  reads = k.reads;
+  after = k.after;
+  among = ap (λ x. earlier ++ x) k.among ∙ (sym (append_assoc earlier (k.before ++ k.reads) k.after) ∙ ap (λ x. x ++ k.after) (sym (append_assoc earlier k.before k.reads)));
+  whole = k.whole;
+}
+
+pub known_behind : (told : Bool) (held : Held) (earlier calls : List Call) (s : Origin) (bytes : List ℕ) → IsKnown told held calls s bytes
+    → IsKnown told held (earlier ++ calls) s bytes
+known_behind told held earlier calls s bytes k = (read_behind earlier calls s bytes k.0, k.1)
+
+large_so : (earlier calls : List Call) (s : Origin) → WasTooLarge calls s → WasTooLarge (earlier ++ calls) s
+large_so earlier calls s k = record {
+  before = earlier ++ k.before;
+  size = k.size;
+  last = ap (λ x. earlier ++ x) k.last ∙ sym (append_assoc earlier k.before (Size s.name (Some k.size) ∷ []));
+  exceeds = k.exceeds;
+}
+
+pub large_behind : (told : Bool) (held : Held) (earlier calls : List Call) (s : Origin) → IsKnownLarge told held calls s
+    → IsKnownLarge told held (earlier ++ calls) s
+large_behind told held earlier calls s k = (large_so earlier calls s k.0, k.1)
+
+-- calls that read a source of a request, and that write its target
+read_of : (r : Request) (name : List ℕ) → IsNamed (origins r) name → (call : Call) → Reads name call → IsCallOf r call
+read_of r name n (Size m size) e = subst (IsNamed (origins r)) (sym e) n
+read_of r name n (Read m place bytes) e = subst (IsNamed (origins r)) (sym e) n
+read_of r name n (Create m made) e = absurd e
+read_of r name n (Append m piece made) e = absurd e
+
+pub reads_of : (r : Request) (name : List ℕ) → IsNamed (origins r) name → (calls : List Call) → All (Reads name) calls → All (IsCallOf r) calls
+reads_of r name n calls h = All-weaker (Reads name) (IsCallOf r) (read_of r name n) calls h
+
+write_of : (r : Request) (name bytes : List ℕ) → target r ≡ Some name → (call : Call) → Writes name bytes call → IsCallOf r call
+write_of r name bytes t (Size m size) e = absurd e
+write_of r name bytes t (Read m place piece) e = absurd e
+write_of r name bytes t (Create m made) e = t ∙ ap Some (sym e)
+write_of r name bytes t (Append m piece made) e = t ∙ ap Some (sym e.0)
+
+pub writes_of : (r : Request) (name bytes : List ℕ) → target r ≡ Some name → (calls : List Call) → All (Writes name bytes) calls → All (IsCallOf r) calls
+writes_of r name bytes t calls h = All-weaker (Writes name bytes) (IsCallOf r) (write_of r name bytes t) calls h

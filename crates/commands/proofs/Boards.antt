@@ -1,0 +1,14 @@
+-- What a refusal of a board says of the bytes.
+use Rattle.std.proofs.Common.{◌≡◌, ℕ, List, Some}
+use Rattle.board_text.specs.declared.fault.BoardFault.{BoardFault}
+use Rattle.board_text.specs.Reading.{IsFault}
+use Rattle.aces_reports.specs.declared.failure.Failure.{Failure}
+use Rattle.commands.specs.Contents.{IsNoBoard, of_board}
+use Rattle.commands.specs.Loads.{IsContentFailure}
+use Rattle.commands.proofs.Firmwares.{content_also}
+
+-- bytes that fail a test describe no board
+pub board_refused : (text name : List ℕ) (first : BoardFault) (e : Failure) → IsFault text first → IsContentFailure (λ f. of_board first ≡ Some f) name e
+    → IsContentFailure (IsNoBoard text) name e
+board_refused text name first e h =
+    content_also (λ f. of_board first ≡ Some f) (IsNoBoard text) (λ f q. record { first = first; found = h; named = q }) name e

@@ -1,0 +1,156 @@
+-- How commands end, by what their steps answered.
+use Rattle.std.proofs.Common.{◌≡◌, ◌≢◌, ℕ, inl, inr, List, [], None, Ok, Err, Result, IsTrue, IsNone, refl, ap, sym, subst, arith}
+use Rattle.aces_reports.specs.declared.failure.Done.{Done}
+use Rattle.aces_reports.specs.declared.failure.Done.TheVariants.{Completed, RunFailed}
+use Rattle.aces_reports.specs.declared.failure.Fault.{Fault}
+use Rattle.aces_reports.specs.declared.failure.Fault.TheVariants.{TooLarge}
+use Rattle.aces_reports.specs.declared.failure.Failure.{Failure}
+use Rattle.aces_reports.specs.declared.failure.Failure.TheVariants.{Refused, PastLimit, NoRoom, Unread, Unwritten, Unprinted, NoMemory}
+use Rattle.aces_words.specs.Requests.{Request, Run, Bin, Compile, Check, Source, Listing, Origin, origins}
+use Rattle.commands.specs.Known.{Held, IsMissing, IsNamed}
+use Rattle.commands.specs.Outcomes.{Outcome, refused, past_limit, no_room}
+use Rattle.aces_reports.specs.Sinks.{SinkState}
+use Rattle.aces_reports.specs.Ends.{status_of}
+use Rattle.commands.specs.Effects.{World, Does, Quiet, IsCarriedOut, IsRewritten, IsPart, IsPrintedInPart}
+use Rattle.commands.specs.Loads.{IsLoadFailure, IsContentFailure, IsRefusal}
+
+-- where nothing was printed, no more than a part was
+nothing_printed : (A : Outcome → Type 0) (r : Request) (old new : World) → new.out ≡ old.out → IsPrintedInPart A r old new r
+nothing_printed A (Run image tape steps) old new h = h
+nothing_printed A (Bin image file) old new h = h
+nothing_printed A (Compile firmware board policy image) old new h = h
+nothing_printed A (Check firmware) old new h = h
+nothing_printed A (Source firmware policy tape steps) old new h = inl h
+nothing_printed A (Listing firmware board policy) old new h = h
+
+-- memory ran out before anything was printed or written
+pub no_memory : (A : Outcome → Type 0) (r : Request) (old new : World) → Quiet old new → new.read_faults ≡ old.read_faults → Does A r old new (Err NoMemory)
+no_memory A r old new quiet reads = (
+  record { held = quiet.held; read_faults = reads; write_faults = quiet.write_faults; faults = ap (λ (s : SinkState). s.faults) quiet.out },
+  nothing_printed A r old new quiet.out,
+)
+
+-- a source that was not read
+pub load_failed : (A : Outcome → Type 0) (Exceeds : Origin → Type 0) (r : Request) (s : Origin) (old new : World) → Quiet old new
+    → IsNamed (origins r) s.name
+    → (IsTrue old.told → IsNone (old.held s.name) → IsMissing old.held (origins r) s.name)
+    → (Exceeds s → A (refused s.name (TooLarge s.limit)))
+    → (e : Failure) → IsLoadFailure Exceeds old.told old.held s old.read_faults new.read_faults e → Does A r old new (Err e)
+load_failed A Exceeds r s old new quiet named missing large (Refused name f) h = record {
+  answer = subst (λ n. A (refused n f)) (sym h.0) (subst (λ x. A (refused s.name x)) (sym h.1) (large h.2));
+  quiet = quiet;
+  read_faults = h.3;
+}
+load_failed A Exceeds r s old new quiet named missing large (PastLimit which count) h = absurd h
+load_failed A Exceeds r s old new quiet named missing large (NoRoom memory c needed available) h = absurd h
+load_failed A Exceeds r s old new quiet named missing large (Unread name) h = record {
+  named = subst (IsNamed (origins r)) (sym h.0) named;
+  cause = elim h.1 [ inl rose ↦ inl rose | inr gone ↦ inr (gone.0, subst (IsMissing old.held (origins r)) (sym h.0) (missing gone.0 gone.1)) ];
+  quiet = quiet;
+}
+load_failed A Exceeds r s old new quiet named missing large (Unwritten name) h = absurd h
+load_failed A Exceeds r s old new quiet named missing large Unprinted h = absurd h
+load_failed A Exceeds r s old new quiet named missing large NoMemory h = no_memory A r old new quiet h
+
+-- a content that was refused
+pub content_failed : (A : Outcome → Type 0) (IsFault : Fault → Type 0) (r : Request) (name : List ℕ) (old new : World) → Quiet old new
+    → new.read_faults ≡ old.read_faults → ((f : Fault) → IsFault f → A (refused name f))
+    → (e : Failure) → IsContentFailure IsFault name e → Does A r old new (Err e)
+content_failed A IsFault r name old new quiet reads answer (Refused n f) h = record {
+  answer = subst (λ x. A (refused x f)) (sym h.0) (answer f h.1);
+  quiet = quiet;
+  read_faults = reads;
+}
+content_failed A IsFault r name old new quiet reads answer (PastLimit which count) h = absurd h
+content_failed A IsFault r name old new quiet reads answer (NoRoom memory c needed available) h = absurd h
+content_failed A IsFault r name old new quiet reads answer (Unread n) h = absurd h
+content_failed A IsFault r name old new quiet reads answer (Unwritten n) h = absurd h
+content_failed A IsFault r name old new quiet reads answer Unprinted h = absurd h
+content_failed A IsFault r name old new quiet reads answer NoMemory h = no_memory A r old new quiet reads
+
+-- an outcome that refuses
+pub refusal_did : (A : Outcome → Type 0) (r : Request) (old new : World) → Quiet old new → new.read_faults ≡ old.read_faults
+    → (e : Failure) → IsRefusal A e → Does A r old new (Err e)
+refusal_did A r old new quiet reads (Refused n f) h = record { answer = h; quiet = quiet; read_faults = reads }
+refusal_did A r old new quiet reads (PastLimit which count) h = record { answer = h; quiet = quiet; read_faults = reads }
+refusal_did A r old new quiet reads (NoRoom memory c needed available) h = record { answer = h; quiet = quiet; read_faults = reads }
+refusal_did A r old new quiet reads (Unread n) h = absurd h
+refusal_did A r old new quiet reads (Unwritten n) h = absurd h
+refusal_did A r old new quiet reads Unprinted h = absurd h
+refusal_did A r old new quiet reads NoMemory h = no_memory A r old new quiet reads
+
+-- what is refused by some answers is refused by others, by a content's fault among them
+pub refusal_also : (A B : Outcome → Type 0) → ((o : Outcome) → A o → B o) → (e : Failure) → IsRefusal A e → IsRefusal B e
+refusal_also A B m (Refused n f) h = m (refused n.now f) h
+refusal_also A B m (PastLimit which count) h = m (past_limit which count) h
+refusal_also A B m (NoRoom memory c needed available) h = m (no_room memory c needed available) h
+refusal_also A B m (Unread n) h = h
+refusal_also A B m (Unwritten n) h = h
+refusal_also A B m Unprinted h = h
+refusal_also A B m NoMemory h = h
+
+pub content_refused : (A : Outcome → Type 0) (IsFault : Fault → Type 0) (name : List ℕ) → ((f : Fault) → IsFault f → A (refused name f))
+    → (e : Failure) → IsContentFailure IsFault name e → IsRefusal A e
+content_refused A IsFault name answer (Refused n f) h = subst (λ x. A (refused x f)) (sym h.0) (answer f h.1)
+content_refused A IsFault name answer (PastLimit which count) h = absurd h
+content_refused A IsFault name answer (NoRoom memory c needed available) h = absurd h
+content_refused A IsFault name answer (Unread n) h = absurd h
+content_refused A IsFault name answer (Unwritten n) h = absurd h
+content_refused A IsFault name answer Unprinted h = absurd h
+content_refused A IsFault name answer NoMemory h = tt
+
+-- a command that ended with an outcome of this status
+pub did_end : (A : Outcome → Type 0) (r : Request) (old new : World) (o : Outcome) (d : Done) → A o → o.status ≡ status_of (Ok d) → o.line ≡ []
+    → IsCarriedOut old new o → Does A r old new (Ok d)
+did_end A r old new o Completed a s l p = record { outcome = o; answer = a; ended = s; silent = l; all = p }
+did_end A r old new o RunFailed a s l p = record { outcome = o; answer = a; ended = s; silent = l; all = p }
+
+-- a part for some answers is one for others
+part_also : (A B : Outcome → Type 0) → ((o : Outcome) → A o → B o) → (r : Request) (old new : World) → IsPart A r old new → IsPart B r old new
+part_also A B m r old new p = record { outcome = p.outcome; answer = m p.outcome p.answer; part = p.part }
+
+printed_also : (A B : Outcome → Type 0) → ((o : Outcome) → A o → B o) → (r : Request) (old new : World) → IsPrintedInPart A r old new r → IsPrintedInPart B r old new r
+printed_also A B m (Run image tape steps) old new h = h
+printed_also A B m (Bin image file) old new h = h
+printed_also A B m (Compile firmware board policy image) old new h = h
+printed_also A B m (Check firmware) old new h = h
+printed_also A B m (Source firmware policy tape steps) old new h = elim h [ inl e ↦ inl e | inr p ↦ inr (part_also A B m (Source firmware policy tape steps) old new p) ]
+printed_also A B m (Listing firmware board policy) old new h = h
+
+-- what did for some answers did for others
+pub did_also : (A B : Outcome → Type 0) → ((o : Outcome) → A o → B o) → (r : Request) (old new : World) (e : Result Done Failure)
+    → Does A r old new e → Does B r old new e
+did_also A B m r old new (Ok Completed) d = record { outcome = d.outcome; answer = m d.outcome d.answer; ended = d.ended; silent = d.silent; all = d.all }
+did_also A B m r old new (Ok RunFailed) d = record { outcome = d.outcome; answer = m d.outcome d.answer; ended = d.ended; silent = d.silent; all = d.all }
+did_also A B m r old new (Err (Refused name f)) d = record { answer = m (refused name.now f) d.answer; quiet = d.quiet; read_faults = d.read_faults }
+did_also A B m r old new (Err (PastLimit which count)) d = record { answer = m (past_limit which count) d.answer; quiet = d.quiet; read_faults = d.read_faults }
+did_also A B m r old new (Err (NoRoom memory c needed available)) d = record { answer = m (no_room memory c needed available) d.answer; quiet = d.quiet; read_faults = d.read_faults }
+did_also A B m r old new (Err (Unread name)) d = d
+did_also A B m r old new (Err (Unwritten name)) d = (d.0, part_also A B m r old new d.1)
+did_also A B m r old new (Err Unprinted) d = (d.0, part_also A B m r old new d.1)
+did_also A B m r old new (Err NoMemory) d = (d.0, printed_also A B m r old new d.1)
+
+-- the same of files in which nothing has changed
+pub did_then : (A : Outcome → Type 0) (r : Request) (old : World) (held : Held) (reads writes : ℕ) (out : SinkState) (e : Result Done Failure)
+    → held ≡ old.held → reads ≡ old.read_faults → writes ≡ old.write_faults
+    → Does A r old (record old { out = out }) e
+    → Does A r old (record { told = old.told; held = held; read_faults = reads; write_faults = writes; out = out }) e
+did_then A r old held reads writes out e h p q d =
+    subst (λ x. Does A r old (record { told = old.told; held = x; read_faults = reads; write_faults = writes; out = out }) e) (sym h)
+    (subst (λ x. Does A r old (record { told = old.told; held = old.held; read_faults = x; write_faults = writes; out = out }) e) (sym p)
+    (subst (λ x. Does A r old (record { told = old.told; held = old.held; read_faults = old.read_faults; write_faults = x; out = out }) e) (sym q) d))
+
+-- where no answer with another status than 0 writes anything, a command that ends with a status other than 0 and 5 leaves what every name holds
+module _ (A : Outcome → Type 0) (nothing : (o : Outcome) → A o → o.status ≢ 0 → o.written ≡ None) (r : Request) (old new : World) where
+  pub held_stays : (e : Result Done Failure) → Does A r old new e → status_of e ≢ 0 → status_of e ≢ 5 → new.held ≡ old.held
+  held_stays (Ok Completed) d n m = absurd (n refl)
+  held_stays (Ok RunFailed) d n m =
+      let q = d.ended in
+      subst (λ w. IsRewritten old.told w old.held new.held) (nothing d.outcome d.answer (λ z. let f : ⊥ = omega (arith, z, q) in f)) d.all.held
+  held_stays (Err (Refused name f)) d n m = d.quiet.held
+  held_stays (Err (PastLimit which count)) d n m = d.quiet.held
+  held_stays (Err (NoRoom memory c needed available)) d n m = d.quiet.held
+  held_stays (Err (Unread name)) d n m = d.quiet.held
+  held_stays (Err (Unwritten name)) d n m = absurd (m refl)
+  held_stays (Err Unprinted) d n m = d.0.held
+  held_stays (Err NoMemory) d n m = d.0.held

@@ -1,0 +1,12 @@
+use Rattle.ir_model.specs.Plain.{firmware_of}
+use Rattle.commands.proofs.Firmwares.{text_refused, check_refused}
+use Rattle.commands.proofs.loading.firmware_of.Goals as goal
+
+pub returns-in-Err-clause-err : goal.returns-in-Err-clause-err
+returns-in-Err-clause-err c =
+    text_refused c.args.bytes.now c.args.name.now c.in-Err.fault c.text_failure.result c.in-Err.ensures.first c.text_failure.ensures
+
+pub returns-clause-err : goal.returns-clause-err
+returns-clause-err c =
+    check_refused (firmware_of c.in-Ok.firmware) c.args.bytes.now c.args.name.now c.in-Err-check.fault c.check_failure.result
+    c.in-Ok.ensures.found c.in-Err-check.ensures.fault c.check_failure.ensures

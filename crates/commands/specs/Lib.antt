@@ -1,0 +1,8 @@
+pub mod Outcomes
+pub mod Known
+pub mod Counts
+pub mod Contents
+pub mod Answers
+pub mod Effects
+pub mod CarriesOut
+pub mod Loads

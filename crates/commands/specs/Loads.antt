@@ -1,0 +1,59 @@
+-- Beyond the program's claim: only laws, proofs and functions inside the tool cite this file.
+-- What the steps of a command answer before it ends.
+use Rattle.std.specs.Prelude.{◌≡◌, ℕ, ◌⊎◌, List, Bool, Option, Some, None, IsTrue, IsNone}
+use Rattle.ir_check.specs.declared.fault.CheckFault.{CheckFault}
+use Rattle.ir_check.specs.declared.fault.CheckFault.TheVariants as check_faults
+use Rattle.outside.specs.Counts.{Rose}
+use Rattle.aces_reports.specs.declared.failure.Fault.{Fault}
+use Rattle.aces_reports.specs.declared.failure.Fault.TheVariants.{TooLarge, IllTyped}
+use Rattle.aces_reports.specs.declared.failure.Failure.{Failure}
+use Rattle.aces_reports.specs.declared.failure.Failure.TheVariants.{Refused, PastLimit, NoRoom, Unread, Unwritten, Unprinted, NoMemory}
+use Rattle.aces_words.specs.Requests.{Origin}
+use Rattle.aces_reports.specs.declared.failure.Memory.TheVariants as memory
+use Rattle.planning.specs.declared.refusal.PlanningRefusal.{PlanningRefusal}
+use Rattle.planning.specs.declared.refusal.PlanningRefusal.TheVariants as planning
+use Rattle.commands.specs.Known.{Held}
+use Rattle.commands.specs.Outcomes.{Outcome, refused, past_limit, no_room}
+
+-- the fault that a failing check is, which want of memory is not
+abbrev pub of_check : CheckFault → Option Fault
+of_check check_faults.NoMemory = None
+of_check (check_faults.At kind place) = Some (IllTyped kind place)
+
+-- a file's content is refused by such a fault, or memory ran out
+abbrev pub IsContentFailure : (IsFault : Fault → Type 0) → (name : List ℕ) → Failure → Type 0
+IsContentFailure IsFault name (Refused n f) = (n.now ≡ name) × IsFault f
+IsContentFailure IsFault name (PastLimit which count) = ⊥
+IsContentFailure IsFault name (NoRoom memory compartment needed available) = ⊥
+IsContentFailure IsFault name (Unread n) = ⊥
+IsContentFailure IsFault name (Unwritten n) = ⊥
+IsContentFailure IsFault name Unprinted = ⊥
+IsContentFailure IsFault name NoMemory = Unit {0}
+
+-- an outcome that `Answer` has, or memory ran out
+abbrev pub IsRefusal : (Answer : Outcome → Type 0) → Failure → Type 0
+IsRefusal A (Refused n f) = A (refused n.now f)
+IsRefusal A (PastLimit which count) = A (past_limit which count)
+IsRefusal A (NoRoom memory compartment needed available) = A (no_room memory compartment needed available)
+IsRefusal A (Unread n) = ⊥
+IsRefusal A (Unwritten n) = ⊥
+IsRefusal A Unprinted = ⊥
+IsRefusal A NoMemory = Unit {0}
+
+-- the failure that a refusal of planning is
+abbrev pub of_planning : PlanningRefusal → Failure
+of_planning planning.NoMemory = NoMemory
+of_planning (planning.Limit which count) = PastLimit which count
+of_planning (planning.Flash c needed available) = NoRoom memory.Flash c needed available
+of_planning (planning.Ram c needed available) = NoRoom memory.Ram c needed available
+
+-- why a source was not read whole; `Exceeds` says that it is larger than its limit
+module _ (Exceeds : Origin → Type 0) (told : Bool) (held : Held) (s : Origin) (faults_before faults_after : ℕ) where
+  abbrev pub IsLoadFailure : Failure → Type 0
+  IsLoadFailure (Refused name f) = (name.now ≡ s.name) × (f ≡ TooLarge s.limit) × Exceeds s × (faults_after ≡ faults_before)
+  IsLoadFailure (PastLimit which count) = ⊥
+  IsLoadFailure (NoRoom memory compartment needed available) = ⊥
+  IsLoadFailure (Unread name) = (name.now ≡ s.name) × (Rose faults_before faults_after ⊎ (IsTrue told × IsNone (held s.name)))
+  IsLoadFailure (Unwritten name) = ⊥
+  IsLoadFailure Unprinted = ⊥
+  IsLoadFailure NoMemory = faults_after ≡ faults_before

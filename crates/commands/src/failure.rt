@@ -1,0 +1,113 @@
+//! The failures that faults of files are.
+
+ghost use Rattle.std.specs.Prelude.{◌≡◌, Some};
+ghost use Rattle.aces_reports.specs.declared.failure.Failure.TheVariants.{NoRoom};
+ghost use Rattle.commands.specs.Contents.{of_board, of_image, of_tape, of_text};
+ghost use Rattle.commands.specs.Loads.{IsContentFailure, of_check, of_planning};
+
+use aces_reports::{Failure, Fault, Memory};
+use board_text::fault::BoardFault;
+use device_model::tape::TapeFault;
+use image::fault::ImageFault;
+use ir_check::CheckFault;
+use ir_reader::TextFault;
+use planning::PlanningRefusal;
+
+/// The failure that a fault of an image is.
+pub(crate) fn image_failure(name: &str, fault: ImageFault) -> Failure<'_>
+    ensures { IsContentFailure (λ f. of_image fault ≡ Some f) name.now result }
+{
+    match fault {
+        ImageFault::NoMemory => Failure::NoMemory,
+        ImageFault::Short { at } => refused(name, Fault::Short { at }),
+        ImageFault::Magic => refused(name, Fault::Magic),
+        ImageFault::Version { found } => refused(name, Fault::Version { found }),
+        ImageFault::Field { at } => refused(name, Fault::Field { at }),
+        ImageFault::Trailing { at } => refused(name, Fault::Trailing { at }),
+    }
+}
+
+/// The failure that a fault of a tape is.
+pub(crate) fn tape_failure(name: &str, fault: TapeFault) -> Failure<'_>
+    ensures { IsContentFailure (λ f. of_tape fault ≡ Some f) name.now result }
+{
+    match fault {
+        TapeFault::NoMemory => Failure::NoMemory,
+        TapeFault::BadLine { line } => refused(name, Fault::BadLine { line }),
+        TapeFault::UnknownPeripheral { line } => refused(name, Fault::UnknownPeripheral { line }),
+    }
+}
+
+/// The failure that a fault of a firmware's text is.
+pub(crate) fn text_failure(name: &str, fault: TextFault) -> Failure<'_>
+    ensures { IsContentFailure (λ f. of_text fault ≡ Some f) name.now result }
+{
+    match fault {
+        TextFault::NoMemory => Failure::NoMemory,
+        TextFault::Utf8 { at } => refused(name, Fault::NotUtf8 { at }),
+        TextFault::Syntax { pos } => refused(name, Fault::Syntax { pos }),
+        TextFault::NumberTooWide { pos } => refused(name, Fault::NumberTooWide { pos }),
+        TextFault::Limit { which, pos } => refused(name, Fault::Limit { which, pos }),
+    }
+}
+
+/// The failure that a check of a firmware is.
+pub(crate) fn check_failure(name: &str, fault: CheckFault) -> Failure<'_>
+    ensures { IsContentFailure (λ f. of_check fault ≡ Some f) name.now result }
+{
+    match fault {
+        CheckFault::NoMemory => Failure::NoMemory,
+        CheckFault::At { kind, place } => refused(name, Fault::IllTyped { kind, place }),
+    }
+}
+
+/// The failure that a fault of a board is.
+pub(crate) fn board_failure(name: &str, fault: BoardFault) -> Failure<'_>
+    ensures { IsContentFailure (λ f. of_board fault ≡ Some f) name.now result }
+{
+    match fault {
+        BoardFault::NoMemory => Failure::NoMemory,
+        BoardFault::NotToml => refused(name, Fault::NotToml),
+        BoardFault::Missing(key) => refused(name, Fault::MissingKey { key }),
+        BoardFault::Kind(key) => refused(name, Fault::KeyKind { key }),
+        BoardFault::Range(key) => refused(name, Fault::KeyRange { key }),
+        BoardFault::Extra(path) => refused(name, Fault::ExtraKey { path }),
+    }
+}
+
+/// The failure that a refusal of planning is.
+pub fn planning_failure<'a>(refusal: PlanningRefusal) -> Failure<'a>
+    ensures { result ≡ of_planning refusal }
+{
+    match refusal {
+        PlanningRefusal::NoMemory => Failure::NoMemory,
+        PlanningRefusal::Limit { which, count } => Failure::PastLimit { which, count },
+        PlanningRefusal::Flash {
+            compartment,
+            needed,
+            available,
+        } => no_room(Memory::Flash, compartment, needed, available),
+        PlanningRefusal::Ram {
+            compartment,
+            needed,
+            available,
+        } => no_room(Memory::Ram, compartment, needed, available),
+    }
+}
+
+fn no_room<'a>(memory: Memory, compartment: Option<u32>, needed: u64, available: u64) -> Failure<'a>
+    ensures { result ≡ NoRoom memory compartment needed available }
+{
+    Failure::NoRoom {
+        memory,
+        compartment,
+        needed,
+        available,
+    }
+}
+
+fn refused(name: &str, fault: Fault) -> Failure<'_>
+    ensures { IsContentFailure (λ f. fault ≡ f) name.now result }
+{
+    Failure::Refused { name, fault }
+}
