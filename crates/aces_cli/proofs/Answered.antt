@@ -11,7 +11,8 @@ use Rattle.aces_reports.specs.Sinks.{SinkState, Says}
 use Rattle.aces_reports.specs.Ends.{status_of, line_of}
 use Rattle.commands.specs.Outcomes.{Outcome, refused, past_limit, no_room, usage}
 use Rattle.commands.specs.Effects.{World, Does, Quiet, IsCarriedOut, IsPart, IsPrintedInPart}
-use Rattle.commands.proofs.Answering.{run_also, bin_also, check_also, source_also}
+use Rattle.commands.proofs.Answering.{run_also, bin_also}
+use Rattle.firmware_commands.proofs.Answering.{check_also, source_also}
 use Rattle.aces_cli.specs.Answer.{AnswerToList, AnswerToCompile, firmware_large, board_large, all_read, Answer, no_request, to_request}
 use Rattle.aces_cli.specs.Endings.{IsPlain, IsAnswered, IsPartly, AsksForSource, TellsUnread, TellsUnwritten, TellsUnprinted, TellsOutOfMemory}
 

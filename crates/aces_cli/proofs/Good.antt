@@ -14,11 +14,13 @@ use Rattle.firmware_plans.specs.Unplanned.{IsRefusedBy}
 use Rattle.aces_words.specs.declared.policy.Policy.{Policy}
 use Rattle.aces_words.specs.Requests.{Request, Origin, file_origin, firmware_origin}
 use Rattle.commands.specs.Outcomes.{Outcome}
-use Rattle.commands.specs.Contents.{of_board, IsFirmware}
+use Rattle.commands.specs.Contents.{of_board}
+use Rattle.firmware_commands.specs.Firmwares.{IsFirmware}
 use Rattle.commands.specs.Known.{Held, Holds, Exceeds}
 use Rattle.aces_cli.specs.Answer.{PlanAnswer, ListAnswer, CompileAnswer, no_firmware, no_board, too_many, no_flash, no_ram, unplanned, listed, compiled, AnswerToList, AnswerToCompile, firmware_large, board_large, all_read, Answer}
 use Rattle.aces_cli.specs.Complete.{IsCompilable, IsGood, run, bin, compile, check, source, list, IsDoneBy, GoodRequestsAreDone}
-use Rattle.aces_cli.proofs.Runnable.{Laws, is_firmware, firmwares_are_one, good_run, good_bin, good_check, good_source}
+use Rattle.aces_cli.proofs.Runnable.{Laws, good_run, good_bin}
+use Rattle.aces_cli.proofs.SourceRunnable.{is_firmware, firmwares_are_one, good_check, good_source}
 
 -- boards of texts
 module _ (read : BoardsAreNotRefused) where

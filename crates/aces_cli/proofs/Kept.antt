@@ -3,7 +3,8 @@ use Rattle.std.proofs.Common.{◌≡◌, ◌≢◌, ℕ, List, None, refl}
 use Rattle.aces_words.specs.declared.policy.Policy.{Policy}
 use Rattle.aces_words.specs.Requests.{Request, Run, Bin, Compile, Check, Source, Listing, Origin}
 use Rattle.commands.specs.Outcomes.{Outcome}
-use Rattle.commands.proofs.Answering.{run_writes_nothing, bin_writes_nothing, check_writes_nothing, source_writes_nothing}
+use Rattle.commands.proofs.Answering.{run_writes_nothing, bin_writes_nothing}
+use Rattle.firmware_commands.proofs.Answering.{check_writes_nothing, source_writes_nothing}
 use Rattle.aces_cli.specs.Answer.{PlanAnswer, ListAnswer, CompileAnswer, no_firmware, no_board, too_many, no_flash, no_ram, unplanned, listed, compiled, AnswerToList, AnswerToCompile, firmware_large, board_large, all_read, Answer}
 
 of_plan : (firmware board : List ℕ) (policy : Policy) (bytes text : List ℕ) (o : Outcome) → PlanAnswer firmware board policy bytes text o → o.written ≡ None

@@ -2,5 +2,6 @@ mod Planning
 mod Answered
 mod Kept
 mod Runnable
+mod SourceRunnable
 mod Good
 mod Settled

@@ -8,7 +8,7 @@ use Rattle.planning.specs.declared.refusal.PlanningRefusal.{PlanningRefusal}
 use Rattle.planning.specs.declared.refusal.PlanningRefusal.TheVariants.{NoMemory, Limit, Flash, Ram}
 use Rattle.firmware_plans.specs.Unplanned.{IsUnplanned}
 use Rattle.aces_reports.specs.declared.failure.Failure.{Failure}
-use Rattle.commands.specs.Contents.{IsFirmware}
+use Rattle.firmware_commands.specs.Firmwares.{IsFirmware}
 use Rattle.aces_cli.specs.Answer.{PlanAnswer, too_many, no_flash, no_ram}
 use Rattle.commands.specs.Loads.{IsRefusal, of_planning}
 

@@ -1,20 +1,11 @@
--- A good request to run an image or a source, to write an image's flash or to check a firmware has no outcome but the one that says
--- that all was done.
-use Rattle.std.proofs.Common.{◌≡◌, ℕ, zero, suc, ◌⊎◌, inl, inr, List, Option, Some, None, refl, sym, ◌∙◌, subst}
+-- A good request to run an image or to write an image's flash has no outcome but the one that says that all was done.
+use Rattle.std.proofs.Common.{◌≡◌, ℕ, zero, suc, ◌⊎◌, inl, inr, List, None, Some, refl, sym, ◌∙◌, subst}
 use Rattle.device_model.specs.declared.image.Image.{Image}
 use Rattle.device_model.specs.declared.image.Window.{Window}
 use Rattle.device_model.specs.Tape as tapes
 use Rattle.image.specs.Text as images
 use Rattle.image.specs.Faults as image_faults
-use Rattle.ir_model.specs.declared.token.Excess.TheVariants as excess
-use Rattle.ir_model.specs.Plain.{PlainFirmware}
-use Rattle.ir_model.specs.Typing.{fault_of}
-use Rattle.ir_program.specs.Windows.{windows_of}
 use Rattle.ir_reader.specs.Laws as readers
-use Rattle.ir_reader.specs.First.{IsFirst}
-use Rattle.ir_reader.specs.declared.fault.TextFault.{TextFault}
-use Rattle.ir_reader.specs.declared.fault.TextFault.TheVariants as text
-use Rattle.ir_model.specs.Texts as firmwares
 use Rattle.board_text.specs.Laws.{BoardsAreOne, BoardsAreNotRefused}
 use Rattle.aces_reports.specs.declared.failure.Fault.{Fault}
 use Rattle.firmware_plans.specs.Laws.{RefusalsAndPlansExclude}
@@ -22,32 +13,15 @@ use Rattle.armv7m.specs.declared.state.End.{End}
 use Rattle.armv7m.specs.declared.state.End.TheVariants.{Halt, InputEnd, Limit, Stop, Refused}
 use Rattle.armv7m.specs.Run.{start}
 use Rattle.machine_output.specs.Runs as machine
-use Rattle.ir_model.specs.State.{SourceEnd, Returned, OutOfInput, Faulted}
-use Rattle.source_output.specs.SourceRuns as source_runs
-use Rattle.aces_words.specs.declared.policy.Policy.{Policy}
-use Rattle.aces_words.specs.Requests.{Origin, file_origin, firmware_origin}
+use Rattle.aces_words.specs.Requests.{Origin, file_origin}
 use Rattle.commands.specs.Outcomes.{Outcome}
-use Rattle.commands.specs.Contents.{of_text, IsFirmware, IsNoFirmware, IsNoImage, IsNoTape, no_text, ill_typed}
-use Rattle.commands.specs.Answers.{RunAnswer, BinAnswer, CheckAnswer, SourceAnswer, no_image, no_tape, ran, wrote, no_firmware, checked, AnswerToRun, AnswerToBin, AnswerToCheck, AnswerToSource, image_large, tape_large, firmware_large, all_read}
-use Rattle.aces_cli.specs.Complete.{IsRunnable, IsSourceRunnable}
+use Rattle.commands.specs.Contents.{IsNoImage, IsNoTape}
+use Rattle.commands.specs.Answers.{RunAnswer, BinAnswer, no_image, no_tape, ran, wrote, AnswerToRun, AnswerToBin, image_large, tape_large, all_read}
+use Rattle.aces_cli.specs.Complete.{IsRunnable}
 
--- a text of a typed firmware has no fault, and its firmware is one
-module _ (unique : readers.TextsAreUnique) (faultless : readers.TextsAreFaultless) where
-  text_has_no_fault : (w : PlainFirmware) (bytes : List ℕ) (f : Fault) → firmwares.IsText w bytes → (first : TextFault) → IsFirst bytes first → of_text first ≡ Some f → ⊥
-  text_has_no_fault w bytes f h text.NoMemory k q = (let wrong : None ≡ Some f = q in cc)
-  text_has_no_fault w bytes f h (text.Utf8 at) k q = k.none h.utf8
-  text_has_no_fault w bytes f h (text.Syntax pos) k q = faultless w bytes h (inl (pos, k))
-  text_has_no_fault w bytes f h (text.NumberTooWide pos) k q = faultless w bytes h (inr (excess.TooWide, pos, k))
-  text_has_no_fault w bytes f h (text.Limit which pos) k q = faultless w bytes h (inr (excess.Passes which, pos, k))
-
-  pub firmwares_are_one : (v w : PlainFirmware) (bytes : List ℕ) → IsFirmware v bytes → IsFirmware w bytes → v ≡ w
-  firmwares_are_one v w bytes h k = unique v w bytes h.is_text k.is_text
-
-  pub is_firmware : (w : PlainFirmware) (bytes : List ℕ) (f : Fault) → IsFirmware w bytes → IsNoFirmware bytes f → ⊥
-  is_firmware w bytes f h (no_text g k) = text_has_no_fault w bytes g h.is_text k.first k.found k.named
-  is_firmware w bytes f h (ill_typed kind place k) =
-      let q : fault_of k.firmware ≡ None = subst (λ v. fault_of v ≡ None) (unique w k.firmware bytes h.is_text k.is_text) h.typed in
-      absurd (let wrong : None ≡ Some (record { kind = kind; place = place }) = sym q ∙ k.found in cc)
+-- a text that is a tape has no fault
+pub is_tape : (windows : List Window) (t : List ℕ) (f : Fault) → tapes.first_fault t windows ≡ None → IsNoTape windows t f → ⊥
+is_tape windows t f h k = let wrong : None ≡ Some k.first = sym h ∙ k.found in cc
 
 -- how runs end
 machine_ends : (e : End) → (machine.end_status e ≡ 0) ⊎ (machine.end_status e ≡ 7)
@@ -57,12 +31,6 @@ machine_ends InputEnd = inl refl
 machine_ends Limit = inl refl
 machine_ends (Stop reason pc) = inr refl
 machine_ends Refused = inl refl
-
-source_ends : (e : Option SourceEnd) → (source_runs.end_status e ≡ 0) ⊎ (source_runs.end_status e ≡ 7)
-source_ends None = inl refl
-source_ends (Some Returned) = inl refl
-source_ends (Some OutOfInput) = inl refl
-source_ends (Some (Faulted f)) = inr refl
 
 -- what is known of texts and plans
 pub record Laws : Type 0 where
@@ -78,9 +46,6 @@ module _ (laws : Laws) where
   is_image : (i : Image) (bytes : List ℕ) (f : Fault) → images.IsText i bytes → IsNoImage bytes f → ⊥
   is_image i bytes f h k = let wrong : None ≡ Some k.first = sym (laws.no_fault i bytes h) ∙ k.found in cc
 
-  is_tape : (windows : List Window) (t : List ℕ) (f : Fault) → tapes.first_fault t windows ≡ None → IsNoTape windows t f → ⊥
-  is_tape windows t f h k = let wrong : None ≡ Some k.first = sym h ∙ k.found in cc
-
   run_done : (image tape : List ℕ) (steps : ℕ) (bytes t : List ℕ) (o : Outcome) → IsRunnable bytes t → RunAnswer image tape steps bytes t o → (o.status ≡ 0) ⊎ (o.status ≡ 7)
   run_done image tape steps bytes t o g (no_image f k) = absurd (is_image g.image bytes f g.is_text k)
   run_done image tape steps bytes t o g (no_tape i f h k) =
@@ -90,18 +55,6 @@ module _ (laws : Laws) where
   bin_done : (image file bytes : List ℕ) (o : Outcome) (i : Image) → images.IsText i bytes → BinAnswer image file bytes o → o.status ≡ 0
   bin_done image file bytes o i h (no_image f k) = absurd (is_image i bytes f h k)
   bin_done image file bytes o i h (wrote j k) = refl
-
-  check_done : (firmware bytes : List ℕ) (o : Outcome) (w : PlainFirmware) → IsFirmware w bytes → CheckAnswer firmware bytes o → o.status ≡ 0
-  check_done firmware bytes o w h (no_firmware f k) = absurd (is_firmware laws.unique laws.faultless w bytes f h k)
-  check_done firmware bytes o w h (checked v k) = refl
-
-  source_done : (firmware : List ℕ) (policy : Policy) (tape : List ℕ) (steps : ℕ) (bytes t : List ℕ) (o : Outcome) → IsSourceRunnable bytes t
-      → SourceAnswer firmware policy tape steps bytes t o → (o.status ≡ 0) ⊎ (o.status ≡ 7)
-  source_done firmware policy tape steps bytes t o g (no_firmware f k) = absurd (is_firmware laws.unique laws.faultless g.firmware bytes f g.is_firmware k)
-  source_done firmware policy tape steps bytes t o g (no_tape w f h k) =
-      absurd (is_tape (windows_of w) t f (subst (λ (z : PlainFirmware). tapes.first_fault t (windows_of z) ≡ None) (firmwares_are_one laws.unique laws.faultless g.firmware w bytes g.is_firmware h) g.tape) k)
-  source_done firmware policy tape steps bytes t o g (ran w compartments h k a) =
-      source_ends (source_runs.source_end w compartments (tapes.queues_of t (windows_of w)) steps)
 
   module _ (Has : Origin → List ℕ → Type 0) (Exceeds : Origin → Type 0) (one : (s : Origin) (a b : List ℕ) → Has s a → Has s b → a ≡ b) (fits : (s : Origin) (a : List ℕ) → Has s a → Exceeds s → ⊥) where
     pub good_run : (image tape : List ℕ) (steps : ℕ) (bytes t : List ℕ) (o : Outcome) → Has (file_origin image) bytes → Has (file_origin tape) t → IsRunnable bytes t
@@ -114,14 +67,3 @@ module _ (laws : Laws) where
     pub good_bin : (image file bytes : List ℕ) (i : Image) (o : Outcome) → Has (file_origin image) bytes → images.IsText i bytes → AnswerToBin image file Has Exceeds o → o.status ≡ 0
     good_bin image file bytes i o h g (image_large e) = absurd (fits _ bytes h e)
     good_bin image file bytes i o h g (all_read bytes1 o1 h1 a) = bin_done image file bytes1 o i (subst (images.IsText i) (one _ bytes bytes1 h h1) g) a
-
-    pub good_check : (firmware bytes : List ℕ) (w : PlainFirmware) (o : Outcome) → Has (firmware_origin firmware) bytes → IsFirmware w bytes → AnswerToCheck firmware Has Exceeds o → o.status ≡ 0
-    good_check firmware bytes w o h g (firmware_large e) = absurd (fits _ bytes h e)
-    good_check firmware bytes w o h g (all_read bytes1 o1 h1 a) = check_done firmware bytes1 o w (subst (IsFirmware w) (one _ bytes bytes1 h h1) g) a
-
-    pub good_source : (firmware : List ℕ) (policy : Policy) (tape : List ℕ) (steps : ℕ) (bytes t : List ℕ) (o : Outcome) → Has (firmware_origin firmware) bytes → Has (file_origin tape) t
-        → IsSourceRunnable bytes t → AnswerToSource firmware policy tape steps Has Exceeds o → (o.status ≡ 0) ⊎ (o.status ≡ 7)
-    good_source firmware policy tape steps bytes t o h k g (firmware_large e) = absurd (fits _ bytes h e)
-    good_source firmware policy tape steps bytes t o h k g (tape_large bytes1 h1 e) = absurd (fits _ t k e)
-    good_source firmware policy tape steps bytes t o h k g (all_read bytes1 t1 o1 h1 k1 a) =
-        source_done firmware policy tape steps bytes1 t1 o (subst (IsSourceRunnable bytes1) (one _ t t1 k k1) (subst (λ z. IsSourceRunnable z t) (one _ bytes bytes1 h h1) g)) a

@@ -14,9 +14,11 @@ use Rattle.board_text.specs.Reading as boards
 use Rattle.planning.specs.declared.refusal.PlanningRefusal.TheVariants as planning
 use Rattle.firmware_listing.specs.Listings.{IsListing}
 use Rattle.firmware_plans.specs.Unplanned.{IsRefusedBy}
-use Rattle.commands.specs.Contents.{IsNoBoard, IsNoFirmware, IsFirmware}
+use Rattle.commands.specs.Contents.{IsNoBoard}
+use Rattle.firmware_commands.specs.Firmwares.{IsNoFirmware, IsFirmware}
 use Rattle.commands.specs.Outcomes.{Outcome, done, refused, past_limit, no_room, usage}
-use Rattle.commands.specs.Answers.{AnswerToRun, AnswerToBin, AnswerToCheck, AnswerToSource}
+use Rattle.commands.specs.Answers.{AnswerToRun, AnswerToBin}
+use Rattle.firmware_commands.specs.Answers.{AnswerToCheck, AnswerToSource}
 
 -- why a firmware has no plan on a board by a policy, by the bytes of both files: the firmware is read and checked first, then the board is
 -- read; the limits of what is compiled come next, then the room in flash, and the room in RAM
@@ -42,7 +44,7 @@ pub data CompileAnswer (firmware board : List ℕ) (policy : Policy) (image byte
   compiled : (w : PlainFirmware) (b : Board) (out : List ℕ) → IsFirmware w bytes → boards.IsRead text b → IsImageText policy w b out →
       CompileAnswer firmware board policy image bytes text (done 0 [] (Some (record { name = image; bytes = out })))
 
--- the answers to both requests, as those to other requests stand in `Answers` of `commands`
+-- the answers to both requests, as those to other requests stand in `Answers` of `commands` and of `firmware_commands`
 pub data AnswerToList (firmware board : List ℕ) (policy : Policy) (Has : Origin → List ℕ → Type 0) (Exceeds : Origin → Type 0) : Outcome → Type 0 where
   firmware_large : Exceeds (firmware_origin firmware) → AnswerToList firmware board policy Has Exceeds (refused firmware (TooLarge firmware_limit))
   board_large : (bytes : List ℕ) → Has (firmware_origin firmware) bytes → Exceeds (file_origin board) →

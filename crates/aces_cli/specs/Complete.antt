@@ -13,7 +13,7 @@ use Rattle.aces_words.specs.declared.policy.Policy.{Policy}
 use Rattle.aces_words.specs.Requests.{Request, Run, Bin, Compile, Check, Source, Listing, Asks, Origin, origins, file_origin, firmware_origin}
 use Rattle.commands.specs.Known.{Held, Holds, Exceeds}
 use Rattle.commands.specs.Outcomes.{Outcome}
-use Rattle.commands.specs.Contents.{IsFirmware}
+use Rattle.firmware_commands.specs.Firmwares.{IsFirmware}
 use Rattle.commands.specs.Effects.{World}
 use Rattle.aces_cli.specs.Answer.{Answer}
 

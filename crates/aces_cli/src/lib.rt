@@ -20,8 +20,9 @@ ghost use Rattle.aces_cli.specs.Endings.{IsPlain, IsAnswered, IsPartly, IsByCall
 use aces_reports::{Done, Failure, report, say};
 pub use aces_reports::{WordsRefusal, refuse_words};
 use aces_words::Command;
-use commands::{bin, check, run, source};
+use commands::{bin, run};
 use complete::good_requests;
+use firmware_commands::{check, source};
 use outside::{Files, Sink};
 use std::alloc::Global;
 

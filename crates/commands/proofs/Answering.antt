@@ -1,9 +1,8 @@
--- Answers to requests: what is an answer from what follows of what is known, and which answers write nothing.
+-- Answers to `run` and `bin`: what is an answer from what follows of what is known, and which answers write nothing.
 use Rattle.std.proofs.Common.{◌≡◌, ◌≢◌, ℕ, List, None, refl}
-use Rattle.aces_words.specs.declared.policy.Policy.{Policy}
 use Rattle.aces_words.specs.Requests.{Origin}
 use Rattle.commands.specs.Outcomes.{Outcome}
-use Rattle.commands.specs.Answers.{RunAnswer, BinAnswer, CheckAnswer, SourceAnswer, no_image, no_tape, ran, wrote, no_firmware, checked, AnswerToRun, AnswerToBin, AnswerToCheck, AnswerToSource, image_large, tape_large, firmware_large, all_read}
+use Rattle.commands.specs.Answers.{RunAnswer, BinAnswer, no_image, no_tape, ran, wrote, AnswerToRun, AnswerToBin, image_large, tape_large, all_read}
 
 -- answers from what is known are answers from what follows of it
 module _ (Has Had : Origin → List ℕ → Type 0) (Exceeds Exceeded : Origin → Type 0)
@@ -17,16 +16,6 @@ module _ (Has Had : Origin → List ℕ → Type 0) (Exceeds Exceeded : Origin �
   bin_also image file o (image_large e) = image_large (large _ e)
   bin_also image file o (all_read bytes p h a) = all_read bytes p (also _ bytes h) a
 
-  pub check_also : (firmware : List ℕ) (o : Outcome) → AnswerToCheck firmware Has Exceeds o → AnswerToCheck firmware Had Exceeded o
-  check_also firmware o (firmware_large e) = firmware_large (large _ e)
-  check_also firmware o (all_read bytes p h a) = all_read bytes p (also _ bytes h) a
-
-  pub source_also : (firmware : List ℕ) (policy : Policy) (tape : List ℕ) (steps : ℕ) (o : Outcome)
-      → AnswerToSource firmware policy tape steps Has Exceeds o → AnswerToSource firmware policy tape steps Had Exceeded o
-  source_also firmware policy tape steps o (firmware_large e) = firmware_large (large _ e)
-  source_also firmware policy tape steps o (tape_large bytes h e) = tape_large bytes (also _ bytes h) (large _ e)
-  source_also firmware policy tape steps o (all_read bytes text p h k a) = all_read bytes text p (also _ bytes h) (also _ text k) a
-
 -- no answer but one to `bin` with status 0 writes anything
 of_run : (image tape : List ℕ) (steps : ℕ) (bytes text : List ℕ) (o : Outcome) → RunAnswer image tape steps bytes text o → o.written ≡ None
 of_run image tape steps bytes text o (no_image f h) = refl
@@ -37,16 +26,6 @@ of_bin : (image file bytes : List ℕ) (o : Outcome) → BinAnswer image file by
 of_bin image file bytes o (no_image f h) n = refl
 of_bin image file bytes o (wrote i h) n = absurd (n refl)
 
-of_check : (firmware bytes : List ℕ) (o : Outcome) → CheckAnswer firmware bytes o → o.written ≡ None
-of_check firmware bytes o (no_firmware f h) = refl
-of_check firmware bytes o (checked w h) = refl
-
-of_source : (firmware : List ℕ) (policy : Policy) (tape : List ℕ) (steps : ℕ) (bytes text : List ℕ) (o : Outcome)
-    → SourceAnswer firmware policy tape steps bytes text o → o.written ≡ None
-of_source firmware policy tape steps bytes text o (no_firmware f h) = refl
-of_source firmware policy tape steps bytes text o (no_tape w f h k) = refl
-of_source firmware policy tape steps bytes text o (ran w compartments h k l) = refl
-
 module _ (Has : Origin → List ℕ → Type 0) (Exceeds : Origin → Type 0) where
   pub run_writes_nothing : (image tape : List ℕ) (steps : ℕ) (o : Outcome) → AnswerToRun image tape steps Has Exceeds o → o.written ≡ None
   run_writes_nothing image tape steps o (image_large e) = refl
@@ -56,13 +35,3 @@ module _ (Has : Origin → List ℕ → Type 0) (Exceeds : Origin → Type 0) wh
   pub bin_writes_nothing : (image file : List ℕ) (o : Outcome) → AnswerToBin image file Has Exceeds o → o.status ≢ 0 → o.written ≡ None
   bin_writes_nothing image file o (image_large e) n = refl
   bin_writes_nothing image file o (all_read bytes p h a) n = of_bin image file bytes o a n
-
-  pub check_writes_nothing : (firmware : List ℕ) (o : Outcome) → AnswerToCheck firmware Has Exceeds o → o.written ≡ None
-  check_writes_nothing firmware o (firmware_large e) = refl
-  check_writes_nothing firmware o (all_read bytes p h a) = of_check firmware bytes o a
-
-  pub source_writes_nothing : (firmware : List ℕ) (policy : Policy) (tape : List ℕ) (steps : ℕ) (o : Outcome)
-      → AnswerToSource firmware policy tape steps Has Exceeds o → o.written ≡ None
-  source_writes_nothing firmware policy tape steps o (firmware_large e) = refl
-  source_writes_nothing firmware policy tape steps o (tape_large bytes h e) = refl
-  source_writes_nothing firmware policy tape steps o (all_read bytes text p h k a) = of_source firmware policy tape steps bytes text o a

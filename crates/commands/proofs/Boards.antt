@@ -5,7 +5,7 @@ use Rattle.board_text.specs.Reading.{IsFault}
 use Rattle.aces_reports.specs.declared.failure.Failure.{Failure}
 use Rattle.commands.specs.Contents.{IsNoBoard, of_board}
 use Rattle.commands.specs.Loads.{IsContentFailure}
-use Rattle.commands.proofs.Firmwares.{content_also}
+use Rattle.commands.proofs.Ends.{content_also}
 
 -- bytes that fail a test describe no board
 pub board_refused : (text name : List ℕ) (first : BoardFault) (e : Failure) → IsFault text first → IsContentFailure (λ f. of_board first ≡ Some f) name e

@@ -68,6 +68,16 @@ content_failed A IsFault r name old new quiet reads answer (Unwritten n) h = abs
 content_failed A IsFault r name old new quiet reads answer Unprinted h = absurd h
 content_failed A IsFault r name old new quiet reads answer NoMemory h = no_memory A r old new quiet reads
 
+-- what is refused by some faults is refused by others
+pub content_also : (P Q : Fault → Type 0) → ((f : Fault) → P f → Q f) → (name : List ℕ) (e : Failure) → IsContentFailure P name e → IsContentFailure Q name e
+content_also P Q m name (Refused n f) h = (h.0, m f h.1)
+content_also P Q m name (PastLimit which count) h = h
+content_also P Q m name (NoRoom memory c needed available) h = h
+content_also P Q m name (Unread n) h = h
+content_also P Q m name (Unwritten n) h = h
+content_also P Q m name Unprinted h = h
+content_also P Q m name NoMemory h = h
+
 -- an outcome that refuses
 pub refusal_did : (A : Outcome → Type 0) (r : Request) (old new : World) → Quiet old new → new.read_faults ≡ old.read_faults
     → (e : Failure) → IsRefusal A e → Does A r old new (Err e)

@@ -1,4 +1,4 @@
--- What `run`, `bin`, `check` and `source` answer where no call on the outside fails and memory does not run out.
+-- What `run` and `bin` answer where no call on the outside fails and memory does not run out.
 use Rattle.std.specs.Prelude.{◌≡◌, ℕ, List, [], Some, None}
 use Rattle.device_model.specs.declared.image.Image.{Image}
 use Rattle.device_model.specs.Tape as tapes
@@ -6,15 +6,9 @@ use Rattle.image.specs.Text.{IsText}
 use Rattle.armv7m.specs.Run.{start}
 use Rattle.aces_reports.specs.declared.failure.Fault.{Fault}
 use Rattle.aces_reports.specs.declared.failure.Fault.TheVariants.{TooLarge}
-use Rattle.aces_words.specs.Requests.{Origin, file_origin, firmware_origin, file_limit, firmware_limit}
-use Rattle.ir_model.specs.Plain.{PlainFirmware}
-use Rattle.ir_program.specs.Windows.{windows_of}
+use Rattle.aces_words.specs.Requests.{Origin, file_origin, file_limit}
 use Rattle.machine_output.specs.Runs.{fill, end_of, run_lines, end_status}
-use Rattle.commands.specs.Counts.{count_line}
-use Rattle.source_output.specs.SourceRuns.{source_lines, source_status}
-use Rattle.aces_words.specs.declared.policy.Policy.{Policy}
-use Rattle.compartments.specs.Analyses.{AreCompartmentsBy}
-use Rattle.commands.specs.Contents.{IsNoImage, IsNoTape, IsNoFirmware, IsFirmware}
+use Rattle.commands.specs.Contents.{IsNoImage, IsNoTape}
 use Rattle.commands.specs.Outcomes.{Outcome, done, refused}
 
 -- a run on a tape of this text: the lines of its events and of its end, and nothing is written
@@ -34,25 +28,6 @@ pub data BinAnswer (image file : List ℕ) (bytes : List ℕ) : Outcome → Type
   no_image : (f : Fault) → IsNoImage bytes f → BinAnswer image file bytes (refused image f)
   wrote : (i : Image) → IsText i bytes → BinAnswer image file bytes (done 0 [] (Some (record { name = file; bytes = i.flash })))
 
--- the answer to `check` on the bytes of the firmware
-pub data CheckAnswer (firmware : List ℕ) (bytes : List ℕ) : Outcome → Type 0 where
-  no_firmware : (f : Fault) → IsNoFirmware bytes f → CheckAnswer firmware bytes (refused firmware f)
-  checked : (w : PlainFirmware) → IsFirmware w bytes → CheckAnswer firmware bytes (done 0 (count_line w) None)
-
--- a run of the source in these compartments on a tape of this text
-abbrev pub source_outcome : PlainFirmware → (compartments text : List ℕ) → (steps : ℕ) → Outcome
-source_outcome w compartments text steps =
-    let queues = tapes.queues_of text (windows_of w) in
-    done (source_status w compartments queues steps) (source_lines w compartments queues steps) None
-
--- the answer to `source` on the bytes of both files, the firmware being read and checked first; the compartments are those of
--- the policy by what the firmware's functions need on an open board
-pub data SourceAnswer (firmware : List ℕ) (policy : Policy) (tape : List ℕ) (steps : ℕ) (bytes text : List ℕ) : Outcome → Type 0 where
-  no_firmware : (f : Fault) → IsNoFirmware bytes f → SourceAnswer firmware policy tape steps bytes text (refused firmware f)
-  no_tape : (w : PlainFirmware) (f : Fault) → IsFirmware w bytes → IsNoTape (windows_of w) text f → SourceAnswer firmware policy tape steps bytes text (refused tape f)
-  ran : (w : PlainFirmware) (compartments : List ℕ) → IsFirmware w bytes → tapes.first_fault text (windows_of w) ≡ None → AreCompartmentsBy policy w compartments →
-      SourceAnswer firmware policy tape steps bytes text (source_outcome w compartments text steps)
-
 -- The answer to a request: by the first source that is larger than its limit, each one before it being there, and else by the
 -- contents of all of them. `Has` says which bytes a source within its limit holds, and `Exceeds` that one is larger than its limit.
 pub data AnswerToRun (image tape : List ℕ) (steps : ℕ) (Has : Origin → List ℕ → Type 0) (Exceeds : Origin → Type 0) : Outcome → Type 0 where
@@ -65,14 +40,3 @@ pub data AnswerToRun (image tape : List ℕ) (steps : ℕ) (Has : Origin → Lis
 pub data AnswerToBin (image file : List ℕ) (Has : Origin → List ℕ → Type 0) (Exceeds : Origin → Type 0) : Outcome → Type 0 where
   image_large : Exceeds (file_origin image) → AnswerToBin image file Has Exceeds (refused image (TooLarge file_limit))
   all_read : (bytes : List ℕ) (o : Outcome) → Has (file_origin image) bytes → BinAnswer image file bytes o → AnswerToBin image file Has Exceeds o
-
-pub data AnswerToCheck (firmware : List ℕ) (Has : Origin → List ℕ → Type 0) (Exceeds : Origin → Type 0) : Outcome → Type 0 where
-  firmware_large : Exceeds (firmware_origin firmware) → AnswerToCheck firmware Has Exceeds (refused firmware (TooLarge firmware_limit))
-  all_read : (bytes : List ℕ) (o : Outcome) → Has (firmware_origin firmware) bytes → CheckAnswer firmware bytes o → AnswerToCheck firmware Has Exceeds o
-
-pub data AnswerToSource (firmware : List ℕ) (policy : Policy) (tape : List ℕ) (steps : ℕ) (Has : Origin → List ℕ → Type 0) (Exceeds : Origin → Type 0) : Outcome → Type 0 where
-  firmware_large : Exceeds (firmware_origin firmware) → AnswerToSource firmware policy tape steps Has Exceeds (refused firmware (TooLarge firmware_limit))
-  tape_large : (bytes : List ℕ) → Has (firmware_origin firmware) bytes → Exceeds (file_origin tape) →
-      AnswerToSource firmware policy tape steps Has Exceeds (refused tape (TooLarge file_limit))
-  all_read : (bytes text : List ℕ) (o : Outcome) → Has (firmware_origin firmware) bytes → Has (file_origin tape) text →
-      SourceAnswer firmware policy tape steps bytes text o → AnswerToSource firmware policy tape steps Has Exceeds o

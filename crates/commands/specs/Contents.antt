@@ -1,4 +1,4 @@
--- What the content of a file is, or by which fault it is none.
+-- What the content of an image, of a tape or of a board is, or by which fault it is none.
 use Rattle.std.specs.Prelude.{◌≡◌, ℕ, List, Option, Some, None}
 use Rattle.device_model.specs.declared.image.Window.{Window}
 use Rattle.device_model.specs.declared.tape.TapeFault.{TapeFault}
@@ -8,15 +8,7 @@ use Rattle.image.specs.declared.fault.ImageFault.{ImageFault}
 use Rattle.image.specs.declared.fault.ImageFault.TheVariants as image_faults
 use Rattle.image.specs.Faults as images
 use Rattle.aces_reports.specs.declared.failure.Fault.{Fault}
-use Rattle.aces_reports.specs.declared.failure.Fault.TheVariants.{Short, Magic, Version, Field, Trailing, BadLine, UnknownPeripheral, NotUtf8, Syntax, NumberTooWide, Limit, IllTyped, NotToml, MissingKey, KeyKind, KeyRange, ExtraKey}
-use Rattle.ir_model.specs.declared.check.CheckKind.{CheckKind}
-use Rattle.ir_model.specs.declared.check.Place.{Place}
-use Rattle.ir_model.specs.Plain.{PlainFirmware}
-use Rattle.ir_model.specs.Texts as firmwares
-use Rattle.ir_model.specs.Typing.{IsTyped, fault_of}
-use Rattle.ir_reader.specs.declared.fault.TextFault.{TextFault}
-use Rattle.ir_reader.specs.declared.fault.TextFault.TheVariants as text_faults
-use Rattle.ir_reader.specs.First.{IsFirst}
+use Rattle.aces_reports.specs.declared.failure.Fault.TheVariants.{Short, Magic, Version, Field, Trailing, BadLine, UnknownPeripheral, NotToml, MissingKey, KeyKind, KeyRange, ExtraKey}
 use Rattle.board_text.specs.declared.fault.BoardFault.{BoardFault}
 use Rattle.board_text.specs.declared.fault.BoardFault.TheVariants as board_faults
 use Rattle.board_text.specs.Reading as boards
@@ -34,13 +26,6 @@ abbrev pub of_tape : TapeFault → Option Fault
 of_tape tape_faults.NoMemory = None
 of_tape (tape_faults.BadLine line) = Some (BadLine line)
 of_tape (tape_faults.UnknownPeripheral line) = Some (UnknownPeripheral line)
-
-abbrev pub of_text : TextFault → Option Fault
-of_text text_faults.NoMemory = None
-of_text (text_faults.Utf8 at) = Some (NotUtf8 at)
-of_text (text_faults.Syntax pos) = Some (Syntax pos)
-of_text (text_faults.NumberTooWide pos) = Some (NumberTooWide pos)
-of_text (text_faults.Limit which pos) = Some (Limit which pos)
 
 abbrev pub of_board : BoardFault → Option Fault
 of_board board_faults.NoMemory = None
@@ -66,25 +51,3 @@ pub record IsNoBoard (text : List ℕ) (f : Fault) : Type 0 where
   pub first : BoardFault
   pub found : boards.IsFault text first
   pub named : of_board first ≡ Some f
-
--- bytes are the text of no firmware, and this is their first fault
-pub record IsNoText (bytes : List ℕ) (f : Fault) : Type 0 where
-  pub first : TextFault
-  pub found : IsFirst bytes first
-  pub named : of_text first ≡ Some f
-
--- bytes are the text of a firmware that isn't typed, and this is the first check that fails
-pub record IsIllTyped (bytes : List ℕ) (kind : CheckKind) (place : Place) : Type 0 where
-  pub firmware : PlainFirmware
-  pub is_text : firmwares.IsText firmware bytes
-  pub found : fault_of firmware ≡ Some (record { kind = kind; place = place })
-
--- bytes are the text of no typed firmware, by this fault
-pub data IsNoFirmware (bytes : List ℕ) : Fault → Type 0 where
-  no_text : (f : Fault) → IsNoText bytes f → IsNoFirmware bytes f
-  ill_typed : (kind : CheckKind) (place : Place) → IsIllTyped bytes kind place → IsNoFirmware bytes (IllTyped kind place)
-
--- bytes are the text of a typed firmware
-pub record IsFirmware (w : PlainFirmware) (bytes : List ℕ) : Type 0 where
-  pub is_text : firmwares.IsText w bytes
-  pub typed : IsTyped w

@@ -1,6 +1,5 @@
 pub mod Outcomes
 pub mod Known
-pub mod Counts
 pub mod Contents
 pub mod Answers
 pub mod Effects

@@ -1,11 +1,9 @@
 -- Beyond the program's claim: only laws, proofs and functions inside the tool cite this file.
 -- What the steps of a command answer before it ends.
-use Rattle.std.specs.Prelude.{◌≡◌, ℕ, ◌⊎◌, List, Bool, Option, Some, None, IsTrue, IsNone}
-use Rattle.ir_check.specs.declared.fault.CheckFault.{CheckFault}
-use Rattle.ir_check.specs.declared.fault.CheckFault.TheVariants as check_faults
+use Rattle.std.specs.Prelude.{◌≡◌, ℕ, ◌⊎◌, List, Bool, IsTrue, IsNone}
 use Rattle.outside.specs.Counts.{Rose}
 use Rattle.aces_reports.specs.declared.failure.Fault.{Fault}
-use Rattle.aces_reports.specs.declared.failure.Fault.TheVariants.{TooLarge, IllTyped}
+use Rattle.aces_reports.specs.declared.failure.Fault.TheVariants.{TooLarge}
 use Rattle.aces_reports.specs.declared.failure.Failure.{Failure}
 use Rattle.aces_reports.specs.declared.failure.Failure.TheVariants.{Refused, PastLimit, NoRoom, Unread, Unwritten, Unprinted, NoMemory}
 use Rattle.aces_words.specs.Requests.{Origin}
@@ -14,11 +12,6 @@ use Rattle.planning.specs.declared.refusal.PlanningRefusal.{PlanningRefusal}
 use Rattle.planning.specs.declared.refusal.PlanningRefusal.TheVariants as planning
 use Rattle.commands.specs.Known.{Held}
 use Rattle.commands.specs.Outcomes.{Outcome, refused, past_limit, no_room}
-
--- the fault that a failing check is, which want of memory is not
-abbrev pub of_check : CheckFault → Option Fault
-of_check check_faults.NoMemory = None
-of_check (check_faults.At kind place) = Some (IllTyped kind place)
 
 -- a file's content is refused by such a fault, or memory ran out
 abbrev pub IsContentFailure : (IsFault : Fault → Type 0) → (name : List ℕ) → Failure → Type 0

@@ -2,15 +2,13 @@
 
 ghost use Rattle.std.specs.Prelude.{◌≡◌, Some};
 ghost use Rattle.aces_reports.specs.declared.failure.Failure.TheVariants.{NoRoom};
-ghost use Rattle.commands.specs.Contents.{of_board, of_image, of_tape, of_text};
-ghost use Rattle.commands.specs.Loads.{IsContentFailure, of_check, of_planning};
+ghost use Rattle.commands.specs.Contents.{of_board, of_image, of_tape};
+ghost use Rattle.commands.specs.Loads.{IsContentFailure, of_planning};
 
 use aces_reports::{Failure, Fault, Memory};
 use board_text::fault::BoardFault;
 use device_model::tape::TapeFault;
 use image::fault::ImageFault;
-use ir_check::CheckFault;
-use ir_reader::TextFault;
 use planning::PlanningRefusal;
 
 /// The failure that a fault of an image is.
@@ -35,29 +33,6 @@ pub(crate) fn tape_failure(name: &str, fault: TapeFault) -> Failure<'_>
         TapeFault::NoMemory => Failure::NoMemory,
         TapeFault::BadLine { line } => refused(name, Fault::BadLine { line }),
         TapeFault::UnknownPeripheral { line } => refused(name, Fault::UnknownPeripheral { line }),
-    }
-}
-
-/// The failure that a fault of a firmware's text is.
-pub(crate) fn text_failure(name: &str, fault: TextFault) -> Failure<'_>
-    ensures { IsContentFailure (λ f. of_text fault ≡ Some f) name.now result }
-{
-    match fault {
-        TextFault::NoMemory => Failure::NoMemory,
-        TextFault::Utf8 { at } => refused(name, Fault::NotUtf8 { at }),
-        TextFault::Syntax { pos } => refused(name, Fault::Syntax { pos }),
-        TextFault::NumberTooWide { pos } => refused(name, Fault::NumberTooWide { pos }),
-        TextFault::Limit { which, pos } => refused(name, Fault::Limit { which, pos }),
-    }
-}
-
-/// The failure that a check of a firmware is.
-pub(crate) fn check_failure(name: &str, fault: CheckFault) -> Failure<'_>
-    ensures { IsContentFailure (λ f. of_check fault ≡ Some f) name.now result }
-{
-    match fault {
-        CheckFault::NoMemory => Failure::NoMemory,
-        CheckFault::At { kind, place } => refused(name, Fault::IllTyped { kind, place }),
     }
 }
 
@@ -106,7 +81,8 @@ fn no_room<'a>(memory: Memory, compartment: Option<u32>, needed: u64, available:
     }
 }
 
-fn refused(name: &str, fault: Fault) -> Failure<'_>
+/// The refusal of a file by a fault of its content.
+pub fn refused(name: &str, fault: Fault) -> Failure<'_>
     ensures { IsContentFailure (λ f. fault ≡ f) name.now result }
 {
     Failure::Refused { name, fault }

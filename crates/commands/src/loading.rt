@@ -2,7 +2,6 @@
 
 ghost use Rattle.std.specs.Prelude.{◌≡◌, ◌≤◌, List, All, length, None, IfOk, IfErr, OnOk};
 ghost use Rattle.image.specs.Text.{IsText};
-ghost use Rattle.ir_model.specs.Plain as plain;
 ghost use Rattle.device_model.specs.Tape as tapes;
 ghost use Rattle.outside.specs.Calls.{Call, Calls};
 ghost use Rattle.outside.specs.Reading.{Reads};
@@ -10,16 +9,14 @@ ghost use Rattle.aces_words.specs.Requests.{file_origin, firmware_origin, file_l
 ghost use Rattle.commands.specs.CarriesOut.{IsKnown, IsKnownLarge};
 ghost use Rattle.plan_model.specs.Boards.{IsBoard};
 ghost use Rattle.board_text.specs.Reading as boards;
-ghost use Rattle.commands.specs.Contents.{IsNoImage, IsNoTape, IsNoFirmware, IsFirmware, IsNoBoard};
+ghost use Rattle.commands.specs.Contents.{IsNoImage, IsNoTape, IsNoBoard};
 ghost use Rattle.commands.specs.Loads.{IsContentFailure, IsLoadFailure};
 
-use crate::failure::{board_failure, check_failure, image_failure, tape_failure, text_failure};
+use crate::failure::{board_failure, image_failure, tape_failure};
 use aces_reports::{Failure, Fault};
 use board_text::read_board;
 use device_model::image::{Image, Window};
 use device_model::tape::Tape;
-use ir_check::check;
-use ir_model::checked::Checked;
 use ir_model::text_limits::TEXT_LIMIT;
 use outside::{Files, ReadRefusal, read_whole};
 use plan_model::plan::Board;
@@ -103,7 +100,7 @@ pub(crate) fn image_of<'a>(alloc: Global, name: &'a str, bytes: &[u8]) -> Result
 }
 
 /// The tape for these windows of which the bytes of a file are the text.
-pub(crate) fn tape_of<'a>(
+pub fn tape_of<'a>(
     alloc: Global,
     name: &'a str,
     text: &[u8],
@@ -117,22 +114,6 @@ pub(crate) fn tape_of<'a>(
     match Tape::read(alloc, text, windows) {
         Ok(tape) => Ok(tape),
         Err(fault) => Err(tape_failure(name, fault)),
-    }
-}
-
-/// The checked firmware of which these bytes of a file are the text.
-pub fn firmware_of<'a>(alloc: Global, name: &'a str, bytes: &[u8]) -> Result<Checked, Failure<'a>>
-    requires { length bytes.now ≤ firmware_limit }
-    ensures ok { IfOk result (λ checked. IsFirmware (plain.firmware_of checked) bytes.now) }
-    ensures err { IfErr result (λ e. IsContentFailure (IsNoFirmware bytes.now) name.now e) }
-{
-    let firmware = match ir_reader::read(alloc, bytes) {
-        Ok(firmware) => firmware,
-        Err(fault) => return Err(text_failure(name, fault)),
-    };
-    match check(alloc, firmware) {
-        Ok(checked) => Ok(checked),
-        Err((_, fault)) => Err(check_failure(name, fault)),
     }
 }
 

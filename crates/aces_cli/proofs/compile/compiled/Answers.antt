@@ -2,7 +2,8 @@ use Rattle.std.proofs.Common.{sym, subst}
 use Rattle.std.proofs.lemmas.Result.{err_from_is_err_and}
 use Rattle.ir_model.specs.Plain.{firmware_of}
 use Rattle.aces_cli.specs.Answer.{PlanAnswer, CompileAnswer, no_firmware, no_board, compiled, unplanned}
-use Rattle.commands.specs.Contents.{IsNoFirmware, IsNoBoard}
+use Rattle.commands.specs.Contents.{IsNoBoard}
+use Rattle.firmware_commands.specs.Firmwares.{IsNoFirmware}
 use Rattle.commands.specs.Loads.{IsContentFailure}
 use Rattle.commands.proofs.Ends.{content_refused, refusal_also}
 use Rattle.aces_cli.proofs.Planning.{planning_refused}

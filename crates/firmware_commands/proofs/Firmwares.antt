@@ -17,21 +17,12 @@ use Rattle.ir_reader.specs.First.{IsFirst}
 use Rattle.aces_reports.specs.declared.failure.Fault.{Fault}
 use Rattle.aces_reports.specs.declared.failure.Fault.TheVariants.{IllTyped}
 use Rattle.aces_reports.specs.declared.failure.Failure.{Failure}
-use Rattle.aces_reports.specs.declared.failure.Failure.TheVariants.{Refused, PastLimit, NoRoom, Unread, Unwritten, Unprinted, NoMemory}
-use Rattle.commands.specs.Contents.{of_text, IsNoFirmware, no_text, ill_typed}
-use Rattle.commands.specs.Counts.{count_line}
-use Rattle.commands.specs.Loads.{IsContentFailure, of_check}
+use Rattle.commands.specs.Loads.{IsContentFailure}
+use Rattle.commands.proofs.Ends.{content_also}
+use Rattle.firmware_commands.specs.Firmwares.{of_text, IsNoFirmware, no_text, ill_typed}
+use Rattle.firmware_commands.specs.Counts.{count_line}
+use Rattle.firmware_commands.specs.Checks.{of_check}
 use Rattle.lines.specs.Lines as lines
-
--- what is refused by some faults is refused by others
-pub content_also : (P Q : Fault → Type 0) → ((f : Fault) → P f → Q f) → (name : List ℕ) (e : Failure) → IsContentFailure P name e → IsContentFailure Q name e
-content_also P Q m name (Refused n f) h = (h.0, m f h.1)
-content_also P Q m name (PastLimit which count) h = h
-content_also P Q m name (NoRoom memory c needed available) h = h
-content_also P Q m name (Unread n) h = h
-content_also P Q m name (Unwritten n) h = h
-content_also P Q m name Unprinted h = h
-content_also P Q m name NoMemory h = h
 
 -- bytes with a first fault are the text of no typed firmware
 pub text_refused : (bytes name : List ℕ) (first : TextFault) (e : Failure) → IsFirst bytes first → IsContentFailure (λ f. of_text first ≡ Some f) name e

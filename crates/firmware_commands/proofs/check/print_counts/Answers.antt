@@ -1,5 +1,5 @@
-use Rattle.commands.proofs.Firmwares.{few_declared, counted_line}
-use Rattle.commands.proofs.check.print_counts.Goals as goal
+use Rattle.firmware_commands.proofs.Firmwares.{few_declared, counted_line}
+use Rattle.firmware_commands.proofs.check.print_counts.Goals as goal
 
 pub count_functions-functions-requires : goal.count_functions-functions-requires
 count_functions-functions-requires g c =

@@ -1,6 +1,6 @@
 use Rattle.ir_model.specs.Plain.{firmware_of}
-use Rattle.commands.proofs.Firmwares.{text_refused, check_refused}
-use Rattle.commands.proofs.loading.firmware_of.Goals as goal
+use Rattle.firmware_commands.proofs.Firmwares.{text_refused, check_refused}
+use Rattle.firmware_commands.proofs.reading.firmware_of.Goals as goal
 
 pub returns-in-Err-clause-err : goal.returns-in-Err-clause-err
 returns-in-Err-clause-err c =

@@ -6,14 +6,15 @@ ghost use Rattle.outside.specs.Contents.{AddsPrefix};
 ghost use Rattle.ir_model.specs.declared.firmware.FileDecl.{FileDecl as SourceFile};
 ghost use Rattle.ir_model.specs.Plain as plain;
 ghost use Rattle.aces_words.specs.Requests.{Check};
-ghost use Rattle.commands.specs.Counts as counts;
+ghost use Rattle.firmware_commands.specs.Counts as counts;
 ghost use Rattle.aces_reports.specs.Sinks.{sink};
-ghost use Rattle.commands.specs.Answers.{AnswerToCheck};
+ghost use Rattle.firmware_commands.specs.Answers.{AnswerToCheck};
 ghost use Rattle.commands.specs.CarriesOut.{CarriesOut};
 ghost use Rattle.ir_model.specs.TextLimits.{function_limit};
 
-use crate::loading::{firmware_of, load_firmware};
+use crate::reading::firmware_of;
 use aces_reports::{Done, Failure};
+use commands::loading::load_firmware;
 use ir_model::checked::Checked;
 use ir_model::firmware::FileDecl;
 use lines::count_line;

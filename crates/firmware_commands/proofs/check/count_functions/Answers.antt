@@ -1,6 +1,6 @@
 use Rattle.std.proofs.Common.{arith}
-use Rattle.commands.proofs.Firmwares.{room_for_more}
-use Rattle.commands.proofs.check.count_functions.Goals as goal
+use Rattle.firmware_commands.proofs.Firmwares.{room_for_more}
+use Rattle.firmware_commands.proofs.check.count_functions.Goals as goal
 
 pub overflow_add-count : goal.overflow_add-count
 overflow_add-count c =

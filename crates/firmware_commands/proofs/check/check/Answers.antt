@@ -4,16 +4,16 @@ use Rattle.ir_model.specs.Plain.{firmware_of}
 use Rattle.aces_reports.specs.declared.failure.Done.TheVariants.{Completed}
 use Rattle.aces_words.specs.Requests.{Check, firmware_origin}
 use Rattle.commands.specs.CarriesOut.{IsKnown, IsKnownLarge}
-use Rattle.commands.specs.Answers.{AnswerToCheck, no_firmware, checked, firmware_large, all_read}
-use Rattle.commands.specs.Contents.{IsNoFirmware}
+use Rattle.firmware_commands.specs.Answers.{AnswerToCheck, no_firmware, checked, firmware_large, all_read}
+use Rattle.firmware_commands.specs.Firmwares.{IsNoFirmware}
 use Rattle.commands.specs.Outcomes.{done}
-use Rattle.commands.specs.Counts.{count_line}
+use Rattle.firmware_commands.specs.Counts.{count_line}
 use Rattle.aces_reports.specs.Sinks.{sink}
 use Rattle.commands.specs.Effects.{Does, world}
 use Rattle.commands.specs.Loads.{IsLoadFailure, IsContentFailure}
 use Rattle.commands.proofs.Asked.{reads_of}
 use Rattle.commands.proofs.Ends.{load_failed, content_failed, did_end}
-use Rattle.commands.proofs.check.check.Goals as goal
+use Rattle.firmware_commands.proofs.check.check.Goals as goal
 
 pub returns-in_err-bytes : goal.returns-in_err-bytes
 returns-in_err-bytes g c =

@@ -4,14 +4,15 @@ use Rattle.device_model.specs.Tape.{queues_of}
 use Rattle.ir_model.specs.Plain.{firmware_of}
 use Rattle.source_output.specs.SourceRuns.{source_end, source_lines, end_status}
 use Rattle.aces_words.specs.Requests.{Source}
-use Rattle.commands.specs.Answers.{SourceAnswer, no_firmware, no_tape, source_outcome}
-use Rattle.commands.specs.Contents.{IsNoFirmware, IsNoTape}
+use Rattle.firmware_commands.specs.Answers.{SourceAnswer, no_firmware, no_tape, source_outcome}
+use Rattle.commands.specs.Contents.{IsNoTape}
+use Rattle.firmware_commands.specs.Firmwares.{IsNoFirmware}
 use Rattle.aces_reports.specs.Sinks.{sink}
 use Rattle.commands.specs.Effects.{Does, World}
 use Rattle.commands.specs.Loads.{IsContentFailure}
 use Rattle.commands.proofs.Ends.{content_failed, did_end}
-use Rattle.commands.proofs.Sourcing.{windows_made, has_run}
-use Rattle.commands.proofs.source.source_texts.Goals as goal
+use Rattle.firmware_commands.proofs.Sourcing.{windows_made, has_run}
+use Rattle.firmware_commands.proofs.source.source_texts.Goals as goal
 
 pub returns-in_err-checked : goal.returns-in_err-checked
 returns-in_err-checked g c told held reads writes =

@@ -4,14 +4,14 @@ use Rattle.std.proofs.lemmas.Result.{err_from_is_err_and}
 use Rattle.aces_words.specs.Requests.{Source, Origin, file_origin, firmware_origin}
 use Rattle.commands.specs.Known.{Held, IsCallOf}
 use Rattle.commands.specs.CarriesOut.{IsKnown, IsKnownLarge}
-use Rattle.commands.specs.Answers.{AnswerToSource, SourceAnswer, firmware_large, tape_large, all_read}
+use Rattle.firmware_commands.specs.Answers.{AnswerToSource, SourceAnswer, firmware_large, tape_large, all_read}
 use Rattle.aces_reports.specs.Sinks.{sink}
 use Rattle.commands.specs.Effects.{Does, world}
 use Rattle.commands.specs.Loads.{IsLoadFailure}
 use Rattle.outside.proofs.Paths.{calls_joined}
 use Rattle.commands.proofs.Asked.{known_before, known_behind, large_behind, reads_of}
 use Rattle.commands.proofs.Ends.{load_failed, did_also, did_then}
-use Rattle.commands.proofs.source.source.Goals as goal
+use Rattle.firmware_commands.proofs.source.source.Goals as goal
 
 pub returns-in_err-bytes : goal.returns-in_err-bytes
 returns-in_err-bytes g c =

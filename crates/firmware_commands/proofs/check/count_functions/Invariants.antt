@@ -1,6 +1,6 @@
 use Rattle.std.proofs.Common.{◌≡◌, length, take, flat_map}
 use Rattle.ir_model.specs.declared.firmware.FileDecl.{FileDecl}
-use Rattle.commands.proofs.check.count_functions.Given as goal
+use Rattle.firmware_commands.proofs.check.count_functions.Given as goal
 
 -- the functions of the files so far
 abbrev pub invariant-loop-file : goal.invariant-loop-file

@@ -8,8 +8,8 @@ use Rattle.ir_model.specs.Plain.{firmware_of}
 use Rattle.ir_program.specs.Windows.{window_of, windows_of}
 use Rattle.aces_words.specs.declared.policy.Policy.{Policy}
 use Rattle.compartments.specs.Analyses.{AreCompartmentsBy}
-use Rattle.commands.specs.Contents.{IsFirmware}
-use Rattle.commands.specs.Answers.{SourceAnswer, ran, source_outcome}
+use Rattle.firmware_commands.specs.Firmwares.{IsFirmware}
+use Rattle.firmware_commands.specs.Answers.{SourceAnswer, ran, source_outcome}
 
 -- the windows that are made of a firmware's peripherals
 pub windows_made : (w v : Firmware) (periphs : List Peripheral) (made lent : List Window) → made ≡ map window_of periphs → periphs ≡ v.periphs → v ≡ w → lent ≡ made → lent ≡ windows_of (firmware_of w)

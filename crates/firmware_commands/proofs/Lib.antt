@@ -1,0 +1,3 @@
+mod Firmwares
+mod Sourcing
+pub mod Answering

@@ -1,0 +1,4 @@
+pub mod Firmwares
+pub mod Counts
+pub mod Answers
+pub mod Checks
