@@ -129,16 +129,13 @@ module _ (laws : ThreadLaws) (i : Image) (t : Tables) (p : Placed i t) (m : Bloc
   -- ---- the words of the frame
 
   module _ (n ret : ℕ) (u : FaultStatus) (small : ret < 2 ^ 32) where
-    pushed_at : (k : ℕ) → stacked i (frame_at s.core.sp) (entered true i n ret u s).to.ram k ≡ get_or (cut_words (frame_of s.core ret)) k 0
-    pushed_at k = frame_word laws.frames i p.rules s h.fits open_frame n ret u k
-
     pub pushed : Pushed i s.core ret (frame_at s.core.sp) (entered true i n ret u s).to.ram
     pushed = record {
-      low = λ k lt. pushed_at k ∙ first k lt;
-      r12 = pushed_at 4 ∙ cut_small 4 (get_or s.core.high 4 0) (h.fits.core.high_words 4);
-      link = pushed_at 5 ∙ cut_small 4 s.core.lr h.fits.core.lr_word;
-      return_address = pushed_at 6 ∙ cut_small 4 ret small;
-      status = pushed_at 7 ∙ ap (λ (b : Bool). cut 4 (stacked_status s.core.flags b)) (no_pad_at s.core.sp room.aligned) ∙ cut_small 4 (stacked_status s.core.flags false) (laws.status s.core.flags false).fits;
+      low = λ k lt. frame_word laws.frames i p.rules s h.fits open_frame n ret u k ∙ first k lt;
+      r12 = frame_word laws.frames i p.rules s h.fits open_frame n ret u 4 ∙ cut_small 4 (get_or s.core.high 4 0) (h.fits.core.high_words 4);
+      link = frame_word laws.frames i p.rules s h.fits open_frame n ret u 5 ∙ cut_small 4 s.core.lr h.fits.core.lr_word;
+      return_address = frame_word laws.frames i p.rules s h.fits open_frame n ret u 6 ∙ cut_small 4 ret small;
+      status = frame_word laws.frames i p.rules s h.fits open_frame n ret u 7 ∙ ap (λ (b : Bool). cut 4 (stacked_status s.core.flags b)) (no_pad_at s.core.sp room.aligned) ∙ cut_small 4 (stacked_status s.core.flags false) (laws.status s.core.flags false).fits;
     }
       where
         first : (k : ℕ) → k < 4 → get_or (cut_words (frame_of s.core ret)) k 0 ≡ get_or s.core.low k 0

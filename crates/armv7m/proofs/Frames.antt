@@ -11,7 +11,7 @@ use Rattle.words.specs.Bytes.{write_all}
 use Rattle.armv7m.specs.Stack.{words_at, AreWords}
 use Rattle.armv7m.proofs.Stack.{words_written, cut_words-words}
 
-bit_below : (b : Bool) → bit_of b < 2
+pub bit_below : (b : Bool) → bit_of b < 2
 bit_below true = omega arith
 bit_below false = omega arith
 

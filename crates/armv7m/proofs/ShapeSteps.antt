@@ -49,6 +49,7 @@ use Rattle.armv7m.specs.declared.fetching.Fetched.TheVariants.{Took, NotAllowed,
 use Rattle.armv7m.specs.Step.{step, turn, fetch, performed, fetched, running}
 use Rattle.armv7m.specs.Shape.{EachWord, CoreFits, StatusFits, StateFits, StepsKeepShape, RunsKeepShape}
 use Rattle.armv7m.proofs.ShapeActs.{ActFits, MaybeFits, act_fits, if_below, set_words, at_fits, stack_fits, with_register_fits, odd_before}
+use Rattle.armv7m.proofs.Frames.{bit_below}
 use Rattle.armv7m.proofs.Fetches.{FetchedFits, fetch_fits}
 use Rattle.armv7m.proofs.Shape.{choose_below, choose_core, read_system_fits, word_fits, with_core_fits, with_ram_fits, write_system_fits}
 
@@ -278,14 +279,10 @@ module _ (i : Image) where
 
     -- special registers
 
-    bit_fits : (b : Bool) → bit_of b < 2
-    bit_fits true = omega arith
-    bit_fits false = omega arith
-
     special_fits : (u : Bool) (n : ℕ) (s : State) → StateFits i s → read_special u n s < 2 ^ 32
     special_fits u n s h =
-        let a = bit_fits s.protection.unprivileged in
-        let b = bit_fits s.core.on_psp in
+        let a = bit_below s.protection.unprivileged in
+        let b = bit_below s.core.on_psp in
         if_below (nat_eq n 20) (bit_of s.protection.unprivileged + 2 * bit_of s.core.on_psp) _ (2 ^ 32) (omega arith)
         (choose_below u 0 _ (2 ^ 32) (omega arith) (choose_below (is_in_use n s.core) s.core.sp s.core.other_sp (2 ^ 32) h.core.sp_word h.core.other_word))
 

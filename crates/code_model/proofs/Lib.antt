@@ -8,7 +8,6 @@ pub mod Compartments
 mod Sites
 pub mod Filling
 pub mod Labels
-pub mod Rows
 pub mod Members
 pub mod Lends
 pub mod Scales

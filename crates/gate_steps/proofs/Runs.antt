@@ -1,7 +1,7 @@
 -- The code of a list has its effect.
 use Rattle.std.proofs.Common.{◌≡◌, ◌≢◌, ℕ, ℤ, pos, negsuc, zero, suc, ◌+◌, ◌-◌, ◌*◌, ◌/◌, ◌%◌, ◌^◌, ◌<◌, ◌≤◌, Bool, true, false, not, ◌&&◌, List, [], ◌∷◌, length, None, nat_eq, nat_lt, nat_le, get_or, set, refl, sym, ap, ◌∙◌, subst, arith, ⊎_elim, get_or-set_same}
 use Rattle.std.proofs.lemmas.Int.{ints}
-use Rattle.std.proofs.lemmas.Bool.{cases_lt, ltb-true, and_parts as both}
+use Rattle.std.proofs.lemmas.Bool.{cases_lt, ltb-true, and_parts as both, not-true}
 use Rattle.std.proofs.lemmas.List.{set-set}
 use Rattle.std.proofs.lemmas.Bool.Decides.{nat_tests}
 use Rattle.std.specs.Prelude.{bit_and, bit_or}
@@ -410,11 +410,7 @@ module _ (j : PermissionTest) (i : Image) (lr : ℕ) (queues : List (List ℕ)) 
     -- ---- special registers
 
     special_parts : (c : Core) → is_privileged_on_msp c ≡ true → (is_unprivileged c.protection ≡ false) × (c.on_psp ≡ false)
-    special_parts c h = let p = both _ _ h in (not_true _ p.0, not_true _ p.1)
-      where
-        not_true : (b : Bool) → not b ≡ true → b ≡ false
-        not_true false h = refl
-        not_true true h = cc
+    special_parts c h = let p = both _ _ h in (not-true _ p.0, not-true _ p.1)
 
     read_psp : (pc : ℕ) (x : Scratch) (c : Core) (to : ℕ) → to < 8 → is_privileged_on_msp c ≡ true → StandsWhileGood pc (SpecialRegister 1 0 to 9) → Good c.protection → Fits (at pc x c) → Next (at pc x c) (at (pc + 4) x (with_low c to c.other_sp))
     unfolding act perform

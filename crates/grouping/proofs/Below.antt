@@ -58,7 +58,7 @@ all_placed P lt x (y ∷ ys) h hs = by (lt y x) (all_placed P lt x ys h (All-tai
     by true ih = All-cons P y (placed lt x ys) (All-head P y ys hs) ih
     by false ih = All-cons P x (y ∷ ys) h hs
 
-all_in_order : {X : Type 0} (P : X → Type 0) (lt : X → X → Bool) (xs : List X) → All P xs → All P (in_order lt xs)
+pub all_in_order : {X : Type 0} (P : X → Type 0) (lt : X → X → Bool) (xs : List X) → All P xs → All P (in_order lt xs)
 all_in_order P lt [] h = All-nil P
 all_in_order P lt (x ∷ xs) h = all_placed P lt x (in_order lt xs) (All-head P x xs h) (all_in_order P lt xs (All-tail P x xs h))
 

@@ -1,4 +1,4 @@
-mod Below
+pub mod Below
 mod ByName
 pub mod Distinct
 mod Files

@@ -1,5 +1,5 @@
 -- Frames of the stack: their words, the right to read them, and the return from them.
-use Rattle.std.proofs.Common.{◌≡◌, ℕ, zero, suc, ◌+◌, ◌-◌, ◌*◌, ◌/◌, ◌%◌, ◌<◌, ◌≤◌, ◌^◌, inl, inr, ⊎_elim, Bool, true, false, List, [], ◌∷◌, length, get_or, nat_eq, refl, sym, ap, ap₂, ◌∙◌, subst, arith, pow_pos}
+use Rattle.std.proofs.Common.{◌≡◌, ℕ, zero, suc, ◌+◌, ◌-◌, ◌*◌, ◌/◌, ◌%◌, ◌<◌, ◌≤◌, inl, inr, ⊎_elim, Bool, true, false, List, [], ◌∷◌, length, get_or, nat_eq, refl, sym, ap, ap₂, ◌∙◌, subst, arith}
 use Rattle.std.specs.Int.{IsPowerOfTwo}
 use Rattle.words.specs.Arithmetic.{word}
 use Rattle.words.specs.Bytes.{read}
@@ -13,6 +13,7 @@ use Rattle.mpu_model.specs.RegionWords.{region_of}
 use Rattle.mpu_model.specs.Protection.{permits}
 use Rattle.mpu_model.specs.Laws.{RegionsGiveTheirRights}
 use Rattle.mpu_model.specs.Configured.{NoneOf, KeptListsPermit, closed_from, OpenEighthsAreHeld}
+use Rattle.mpu_model.proofs.Configured.{closed_byte}
 use Rattle.device_model.specs.declared.image.Image.{Image}
 use Rattle.armv7m.specs.declared.state.CoreRegisters.{CoreRegisters}
 use Rattle.armv7m.specs.declared.state.ProtectionState.{ProtectionState}
@@ -144,8 +145,5 @@ module _ (laws : StackLaws) (i : Image) (t : Tables) (p : Placed i t) where
           ∙ (laws.opened 3 t.stack.base t.stack.size k Stack (omega arith) power (let l = size_is.least in let z = size_is.eighths in omega (arith, l, z)) (let z = size_is.most in omega (arith, z)) aligned few a).1
           (lo, subst (λ e. a < e) is.1 hi)
 
-      byte : (n : ℕ) → closed_from n < 2 ^ 8
-      byte n = let q = pow_pos n in omega (arith, q)
-
       allowed : allows (stack_region t top) true Read ≡ true
-      allowed = laws.rights 3 t.stack.base t.stack.size (closed_from ((top - t.stack.base) / eighth t)) Stack (byte ((top - t.stack.base) / eighth t)) true Read
+      allowed = laws.rights 3 t.stack.base t.stack.size (closed_from ((top - t.stack.base) / eighth t)) Stack (closed_byte ((top - t.stack.base) / eighth t)) true Read

@@ -2,7 +2,7 @@
 use Rattle.std.proofs.Common.{◌≡◌, ℕ, zero, suc, ◌+◌, ◌-◌, ◌*◌, ◌<◌, ◌≤◌, ◌⊎◌, inl, inr, ⊎_elim, Bool, true, false, List, [], length, get_or, None, refl, sym, ap, ◌∙◌, subst, arith}
 use Rattle.words.specs.Arithmetic.{word}
 use Rattle.words.specs.Runs.{run}
-use Rattle.words.proofs.Runs.{run-add}
+use Rattle.words.proofs.Runs.{run-add, once}
 use Rattle.thumb_model.specs.declared.table.Instr.TheVariants.{BranchExchange}
 use Rattle.mpu_model.specs.declared.region.Access.TheVariants.{Read}
 use Rattle.mpu_model.specs.Protection.{permits}
@@ -16,7 +16,7 @@ use Rattle.armv7m.specs.State.{State, Turn, by_mpu}
 use Rattle.armv7m.specs.Act.{Exchanges}
 use Rattle.armv7m.specs.Instructions.{act}
 use Rattle.armv7m.specs.Exceptions.{words_from, return_on_psp, is_thread, leaves, unstacked}
-use Rattle.armv7m.specs.Step.{turn, step}
+use Rattle.armv7m.specs.Step.{turn, step, event}
 use Rattle.armv7m.specs.Code.{size, Stands}
 use Rattle.armv7m.specs.Stack.{Words, words_at, May}
 use Rattle.armv7m.specs.Running.{StepsAreActs}
@@ -199,10 +199,6 @@ module _ (laws : ReturnLaws) (i : Image) (t : Tables) (p : Placed i t) (s : Stat
 
   -- ---- the run
 
-  one_step : (u : State) → run (step i) 1 u ≡ step i u
-  unfolding run
-  one_step u = refl
-
   module _ (Good : ProtectionState → Type 0) (memory : List ℕ) (from : State) (behind : ℕ) where
     -- to an end, or with one step more to the thread
     pub concluded : (most : ℕ) (h : Outcome) (o : GateOutcome) → Answers i t s m memory h o → InMode true o → Leads i t most from (GateShows by_mpu i Good return_on_psp queues o behind) → Leads i t (most + 1) from (Shows i t h s m memory)
@@ -242,7 +238,7 @@ module _ (laws : ReturnLaws) (i : Image) (t : Tables) (p : Placed i t) (s : Stat
     concluded most (Resumes b psp after) o a mode l =
         let e : GateShows by_mpu i Good return_on_psp queues (AtReturn a.0) behind (run (step i) l.count from) = subst (λ o. GateShows by_mpu i Good return_on_psp queues o behind (run (step i) l.count from)) a.1 l.holds in
         let is_mode : a.0.protection.handler ≡ true = subst (InMode true) a.1 mode in
-        let next : run (step i) (l.count + 1) from ≡ step i (at return_on_psp queues e.0 e.1 a.0) = run-add (step i) l.count 1 from ∙ one_step (run (step i) l.count from) ∙ ap (λ u. step i u) e.2 in
+        let next : run (step i) (l.count + 1) from ≡ step i (at return_on_psp queues e.0 e.1 a.0) = run-add (step i) l.count 1 from ∙ (once {step = step i} {event = event i} (run (step i) l.count from)).leads ∙ ap (λ u. step i u) e.2 in
         record {
           count = l.count + 1;
           within = let w = l.within in omega (arith, w);

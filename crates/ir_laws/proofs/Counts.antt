@@ -1,19 +1,18 @@
 -- A firmware within the limits has few items of each kind, over numbers.
-use Rattle.std.proofs.Common.{length-append, ap, ◌≡◌, ℕ, zero, suc, ◌+◌, ◌<◌, List, [], ◌∷◌, length, replicate, refl, get_or, map, arith}
+use Rattle.std.proofs.Common.{length-append, ◌≡◌, ℕ, zero, suc, ◌+◌, ◌<◌, List, [], ◌∷◌, length, replicate, refl, get_or, map, arith}
 use Rattle.std.proofs.lemmas.List.{length-map}
 use Rattle.ir_model.specs.declared.firmware.Block.{Block}
 use Rattle.ir_model.specs.Plain.{PlainSlot, PlainFunc, PlainFile, PlainFirmware, funcs_of, regs_of}
 use Rattle.ir_model.specs.Layout.{known, shape}
 use Rattle.ir_model.specs.Resolved.{no_func, file_of}
-use Rattle.ir_model.specs.Resolve.{Scope, scope_of, row_from, resolved_func, resolved_global, resolved_block, resolved_inst, window_of, files_from, resolve}
+use Rattle.ir_model.specs.Resolve.{Scope, scope_of, resolved_func, resolved_global, resolved_block, resolved_inst, window_of, files_from, resolve}
 use Rattle.ir_model.specs.Canonical.{IsWithinLimits}
 use Rattle.common_laws.specs.Lists.{Each}
-use Rattle.ir_model.specs.Signatures.{row_length}
 use Rattle.ir_model.proofs.ForEach.{each_weaker}
 use Rattle.ir_model.proofs.Limits.{Limited, limited, insts_in, few_structs, few_periphs, few_globals, few_files, few_functions}
 use Rattle.ir_laws.specs.Limits.{inst_count, IsFew, AreFew, CountsOf}
 use Rattle.common_laws.proofs.Lists.{each_both}
-use Rattle.ir_laws.proofs.Resolved.{files_count}
+use Rattle.ir_laws.proofs.Resolved.{files_count, rows_length}
 
 -- ---- the files of functions
 
@@ -44,10 +43,6 @@ module _ (w : PlainFirmware) where
   abbrev scope : Scope
   scope = scope_of w
 
-  row_count : (ss : List PlainSlot) → row_length (row_from ss) ≡ length ss
-  row_count [] = refl
-  row_count (s ∷ ss) = ap suc (row_count ss)
-
   insts_same : (f : PlainFunc) (bs : List Block) → inst_count (map (resolved_block scope f) bs) ≡ insts_in bs
   insts_same f [] = refl
   insts_same f (b ∷ bs) =
@@ -57,7 +52,7 @@ module _ (w : PlainFirmware) where
 
   func_few : (f : PlainFunc) → Limited f → IsFew (resolved_func scope f)
   func_few f l =
-      let a = row_count f.params in
+      let a = rows_length f.params in
       let b = length-map (regs_of f) (λ (s : PlainSlot). s.ty) in
       let c = length-append f.params f.regs in
       let d = length-map f.locals (λ (s : PlainSlot). shape (known w.structs) s.ty) in

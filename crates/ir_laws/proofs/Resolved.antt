@@ -1,8 +1,9 @@
-use Rattle.std.proofs.Common.{◌≡◌, ℕ, List, length, refl, length-append, suc, [], ◌∷◌, replicate, arith}
+use Rattle.std.proofs.Common.{◌≡◌, ℕ, List, length, refl, ap, length-append, suc, [], ◌∷◌, replicate, arith}
 use Rattle.std.proofs.lemmas.List.{length-map, length-replicate}
-use Rattle.ir_model.specs.Plain.{PlainFirmware, funcs_of, PlainFile}
+use Rattle.ir_model.specs.Plain.{PlainSlot, PlainFirmware, funcs_of, PlainFile}
 use Rattle.ir_model.specs.Resolve as definition
-use Rattle.ir_model.specs.Resolve.{resolve, files_from}
+use Rattle.ir_model.specs.Resolve.{row_from, resolve, files_from}
+use Rattle.ir_model.specs.Signatures.{row_length}
 use Rattle.std.specs.Prelude.{flat_map}
 
 -- as many in the program as in the firmware
@@ -18,3 +19,8 @@ files_count k (f ∷ fs) =
     let c = length-append f.funcs (flat_map (λ (f : PlainFile). f.funcs) fs) in
     let r = files_count (suc k) fs in
     omega arith
+
+-- a row of parameters is as long as their list
+pub rows_length : (ps : List PlainSlot) → row_length (row_from ps) ≡ length ps
+rows_length [] = refl
+rows_length (p ∷ ps) = ap suc (rows_length ps)

@@ -1,5 +1,5 @@
 -- Each byte of a global stands at an address that its block holds.
-use Rattle.std.proofs.Common.{◌≡◌, ℕ, zero, suc, ◌+◌, ◌*◌, ◌/◌, ◌^◌, ◌<◌, ◌≤◌, Bool, true, false, ◌&&◌, cond, List, [], ◌∷◌, length, map, Option, Some, None, nat_le, nat_lt, refl, sym, subst, leb-true, arith}
+use Rattle.std.proofs.Common.{◌≡◌, ℕ, zero, suc, ◌+◌, ◌*◌, ◌/◌, ◌^◌, ◌<◌, ◌≤◌, Bool, true, false, ◌&&◌, cond, List, map, Option, Some, None, nat_le, nat_lt, refl, sym, subst, leb-true, arith}
 use Rattle.std.specs.Prelude.{find, unwrap_or}
 use Rattle.std.specs.List.{range_with_len}
 use Rattle.std.proofs.lemmas.Bool.{and_parts}
@@ -20,10 +20,10 @@ use Rattle.layout.proofs.Searches.{position_is}
 use Rattle.layout_laws.specs.GlobalLaws.{HasAlignments, GlobalsAreHeld}
 use Rattle.layout_laws.specs.RamLaws.{open_bytes, IsAmong, Holds}
 use Rattle.layout_laws.specs.RamPlaces.{block_for}
-use Rattle.layout_laws.proofs.Offsets.{laid}
+use Rattle.layout_laws.proofs.Offsets.{some_global, laid}
+use Rattle.layout_laws.proofs.PowersOfTwo.{block_positive}
 use Rattle.layout_laws.proofs.RamInside.{ram_is_inside}
 use Rattle.layout_laws.proofs.RamThere.{ram_is_there}
-use Rattle.layout_laws.proofs.Uses.{block_positive}
 
 -- the open eighths hold all bytes
 open_enough : (size bytes : ℕ) → bytes ≤ size → bytes ≤ open_bytes size bytes
@@ -58,7 +58,7 @@ module _ (p : Program) (f : Final) (s : Sizes) (b : Board) (ok : IsBoard b) (fit
   -- a block of so many bytes holds them
   bytes_held : (u : RamUse) (n : ℕ) → (block_for plan u).size ≡ block n → n ≤ open_bytes (block_for plan u).size n
   bytes_held u n e =
-      let some = block_positive p f b.stack n in
+      let some = block_positive n in
       let there : 0 < (block_for plan u).size = omega arith in
       let inside = (ram_is_inside p f s b u ok fits there).0.1 in
       let low = (ram_is_inside p f s b u ok fits there).0.0 in
@@ -81,10 +81,6 @@ module _ (p : Program) (f : Final) (s : Sizes) (b : Board) (ok : IsBoard b) (fit
       let found = position_is (λ (q : Region). has q.globals x) f.regions r no_region (sym e) in
       subst (λ (o : Option ℕ). Holds p f plan (ForRegion r) (address_in p f plan x o + byte)) (sym e)
       (byte_held (ForRegion r) (region_at f.regions r).globals x byte (ram_is_there p f s b (ForRegion r) found.0) found.1 l)
-
-  some_global : (xs : List ℕ) (x : ℕ) → has xs x ≡ true → 0 < length xs
-  some_global [] x h = cc
-  some_global (y ∷ ys) x h = omega arith
 
   in_none : (x byte : ℕ) → byte < global_size p x → region_with f x ≡ None → has f.unwritten x ≡ true → Holds p f plan ForUnwritten (global_address p f plan x + byte)
   unfolding global_address

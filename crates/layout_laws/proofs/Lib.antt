@@ -5,7 +5,7 @@ mod Hits
 mod Multiples
 pub mod Offsets
 mod Order
-mod PowersOfTwo
+pub mod PowersOfTwo
 mod RamApart
 mod RamInside
 mod RamThere

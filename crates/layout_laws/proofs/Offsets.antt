@@ -1,5 +1,5 @@
 -- Where the globals of a region stand in it.
-use Rattle.std.proofs.Common.{◌≡◌, ◌≢◌, ℕ, suc, ◌+◌, ◌-◌, ◌/◌, ◌%◌, ◌≤◌, inl, inr, Bool, true, false, not, ◌||◌, cond, List, [], ◌∷◌, get_or, nat_eq, refl, sym, ap, ◌∙◌, eqb-true, arith}
+use Rattle.std.proofs.Common.{◌≡◌, ◌≢◌, ℕ, suc, ◌+◌, ◌-◌, ◌/◌, ◌%◌, ◌<◌, ◌≤◌, inl, inr, Bool, true, false, not, ◌||◌, cond, List, [], ◌∷◌, length, get_or, nat_eq, refl, sym, ap, ◌∙◌, eqb-true, arith}
 use Rattle.std.specs.List.{position_or_len}
 use Rattle.std.proofs.Math.Nat.{mul-mod_left}
 use mathlib.Core.Logic.{⊎_elim}
@@ -10,6 +10,11 @@ use Rattle.plan_model.specs.Regions.{global_size}
 use Rattle.plan_model.specs.Blocks.{aligned, offsets_from, end_from, offset_in_region, region_bytes}
 use Rattle.layout_laws.specs.GlobalLaws.{HasAlignments, AreLaid, GlobalsAreLaid}
 use Rattle.ir_model.proofs.Counting.{rounded_at_least}
+
+-- a row that has a global is not empty
+pub some_global : (xs : List ℕ) (x : ℕ) → has xs x ≡ true → 0 < length xs
+some_global [] x h = cc
+some_global (y ∷ ys) x h = omega arith
 
 module _ (p : Program) (there : HasAlignments p) where
   -- the offset of a global in a list that begins at an offset

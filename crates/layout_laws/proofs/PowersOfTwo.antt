@@ -2,7 +2,7 @@
 use Rattle.std.proofs.Common.{◌≡◌, ℕ, zero, suc, ◌+◌, ◌-◌, ◌*◌, ◌^◌, ◌<◌, ◌≤◌, ◌⊎◌, inl, inr, Bool, true, false, cond, List, [], ◌∷◌, length, get_or, take, map, max, Some, nat_le, refl, sym, ap, subst, ◌∙◌, arith}
 use Rattle.std.specs.List.{fold, range_with_len}
 use Rattle.std.specs.Prelude.{find, unwrap_or}
-use Rattle.std.proofs.lemmas.Nat.{pow-add}
+use Rattle.std.proofs.lemmas.Nat.{pow-add, pow_pos}
 use Rattle.std.proofs.lemmas.Bool.{cases_lt}
 use mathlib.Core.Logic.{⊎_elim}
 use Rattle.plan_model.specs.declared.plan.Sizes.{Sizes}
@@ -45,6 +45,10 @@ found_power test a (suc n) = by (test (2 ^ a)) (found_power test (a + 1) n)
 pub block_is_power : (n : ℕ) → IsPower (block n)
 unfolding block least_power
 block_is_power n = found_power (nat_le n) 5 28
+
+-- no block is empty
+pub block_positive : (n : ℕ) → 0 < block n
+block_positive n = let q = block_is_power n in let e = q.is in let some = pow_pos q.exponent in omega arith
 
 codes_are_powers : (ns : List ℕ) → Each IsPower (map block ns)
 codes_are_powers [] = tt

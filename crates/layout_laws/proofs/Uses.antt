@@ -2,7 +2,6 @@
 use Rattle.std.proofs.Common.{◌≡◌, ℕ, zero, suc, ◌+◌, ◌<◌, ◌≤◌, ◌⊎◌, inl, inr, Bool, true, false, cond, List, [], ◌∷◌, ◌++◌, length, get_or, map, Option, Some, option_map, refl, sym, ap, subst, eqb-true, arith}
 use Rattle.std.specs.Prelude.{find, unwrap_or}
 use Rattle.std.specs.List.{range_with_len}
-use Rattle.std.proofs.Math.Pow.{pow_mono}
 use mathlib.Core.Logic.{⊎_elim}
 use Rattle.ir_model.specs.Resolved.{Program}
 use Rattle.plan_model.specs.declared.graph.Final.{Final}
@@ -15,7 +14,7 @@ use Rattle.plan_model.specs.RamPlacement.{PlacedBlock}
 use Rattle.plan_model.specs.Placement.{no_spot}
 use Rattle.layout_laws.proofs.Filling.{Entry, placed as placed_entry, entries_hit, ArePositive}
 use Rattle.layout_laws.proofs.Hits.{hit_inside, held}
-use Rattle.layout_laws.proofs.PowersOfTwo.{block_is_power}
+use Rattle.layout_laws.proofs.PowersOfTwo.{block_positive}
 
 -- ---- what the block for a use is
 
@@ -58,9 +57,6 @@ module _ (p : Program) (f : Final) (stack : ℕ) where
   pub ordered_own : (before : RamBlock → RamBlock → Bool) (bs : List RamBlock) → AreOwn bs → AreOwn (in_order before bs)
   ordered_own before [] h = tt
   ordered_own before (b ∷ bs) h = placed_own before b (in_order before bs) h.0 (ordered_own before bs h.1)
-
-  pub block_positive : (n : ℕ) → 0 < block n
-  block_positive n = let q = block_is_power n in let e = q.is in let one = pow_mono {i = 0} {j = q.exponent} (omega arith) in omega arith
 
   use_positive : (u : RamUse) → holds_globals u ≡ true → 0 < (use_block p f stack u).size
   use_positive ForStack h = cc

@@ -1,6 +1,6 @@
 -- The words that start-up fills a block with stand in its open eighths.
-use Rattle.std.proofs.Common.{◌≡◌, ℕ, zero, suc, ◌+◌, ◌-◌, ◌*◌, ◌/◌, ◌%◌, ◌^◌, ◌<◌, ◌≤◌, Bool, true, false, ◌&&◌, cond, nat_lt, refl, sym, ap, ◌∙◌, subst, pow_pos, arith}
-use Rattle.std.proofs.lemmas.Nat.{pow-add}
+use Rattle.std.proofs.Common.{◌≡◌, ℕ, zero, suc, ◌+◌, ◌-◌, ◌*◌, ◌/◌, ◌^◌, ◌<◌, ◌≤◌, Bool, true, false, ◌&&◌, cond, nat_lt, refl, sym, ap, ◌∙◌, subst, pow_pos, arith}
+use Rattle.std.proofs.lemmas.Nat.{div-add-mod', mod_below, pow-add}
 use Rattle.std.proofs.lemmas.Bool.{leb-true, and_parts as both}
 use Rattle.ir_model.specs.Layout.{rounded_up}
 use Rattle.plan_model.specs.Covers.{least_power}
@@ -9,12 +9,9 @@ use Rattle.layout_laws.specs.RamLaws.{open_bytes}
 use Rattle.linked_images.proofs.Powers.{block_is}
 use Rattle.common_laws.proofs.Powers.{smaller_exponent}
 
-split : (a z : ℕ) → 0 < z → (a ≡ a / z * z + a % z) × (a % z < z)
-split a z h = (grind (arith, h), grind (arith, h))
-
 -- so many eighths hold the bytes
 enough : (bytes d : ℕ) → 0 < d → bytes ≤ (bytes + (d - 1)) / d * d
-enough n d h = let s = split (n + (d - 1)) d h in let e = s.0 in let l = s.1 in omega (arith, e, l, h)
+enough n d h = let e = div-add-mod' (n + (d - 1)) d in let l = mod_below (n + (d - 1)) d h in omega (arith, e, l, h)
 
 -- a power of two from 2 ^ a on is a multiple of that
 pub multiple : (a k : ℕ) → a ≤ k → 2 ^ k ≡ 2 ^ a * 2 ^ (k - a)

@@ -1,5 +1,5 @@
 -- The sizes of blocks.
-use Rattle.std.proofs.Common.{◌≡◌, ℕ, zero, suc, ◌+◌, ◌^◌, ◌<◌, ◌≤◌, ◌⊎◌, inl, inr, Bool, true, false, cond, map, Some, nat_le, refl, pow_pos, lit<, arith}
+use Rattle.std.proofs.Common.{◌≡◌, ℕ, zero, suc, ◌+◌, ◌^◌, ◌<◌, ◌≤◌, ◌⊎◌, inl, inr, Bool, true, false, cond, map, Some, nat_le, refl, lit<, arith}
 use Rattle.std.specs.List.{range_with_len}
 use Rattle.std.specs.Prelude.{find, unwrap_or}
 use Rattle.std.proofs.lemmas.Bool.{leb-true}
@@ -32,12 +32,3 @@ block_is n small = go (found (nat_le n) 5 28 (lit< tt))
     go : Found (nat_le n) 5 (unwrap_or (find (nat_le n) powers_of_two) (2 ^ 32)) → IsPowerBetween 5 32 (unwrap_or (find (nat_le n) powers_of_two) (2 ^ 32)) × (n ≤ unwrap_or (find (nat_le n) powers_of_two) (2 ^ 32))
     go (inl h) = (h.0, leb-true n (unwrap_or (find (nat_le n) powers_of_two) (2 ^ 32)) h.1)
     go (inr e) = absurd (omega (arith, small, e))
-
--- no block is empty
-pub block_some : (n : ℕ) → 0 < block n
-unfolding block least_power
-block_some n = go (found (nat_le n) 5 28 (lit< tt))
-  where
-    go : Found (nat_le n) 5 (unwrap_or (find (nat_le n) powers_of_two) (2 ^ 32)) → 0 < unwrap_or (find (nat_le n) powers_of_two) (2 ^ 32)
-    go (inl h) = let e = h.0.3 in let q = pow_pos h.0.0 in omega (arith, e, q)
-    go (inr e) = omega (arith, e)

@@ -25,7 +25,7 @@ use Rattle.monitor.specs.Promises.{RangesAreApart}
 use Rattle.link_model.specs.LinkedTables.{Filled, filled, filled_unwritten, init_records, words_begin, tables_of}
 use Rattle.linked_images.specs.Planned.{IsPlanned, plan, planned_tables}
 use Rattle.linked_images.proofs.Facts.{PlanLaws}
-use Rattle.linked_images.proofs.Powers.{block_some}
+use Rattle.layout_laws.proofs.PowersOfTwo.{block_positive}
 use Rattle.linked_images.proofs.Passing.{apart_from}
 use Rattle.linked_images.proofs.OpenBytes.{words_held}
 
@@ -136,7 +136,7 @@ module _ (law : PlanLaws) (w : PlainFirmware) (n : Needs) (f : Final) (b : Board
   pub block_in : (u : RamUse) → IsUse f u → IsInside (block_for l u).base (block (bytes u)) b.ram_base b.ram_size × ((block_for l u).base % block (bytes u) ≡ 0)
   block_in u h =
       let e = block_size_is u h in
-      let q = block_some (bytes u) in
+      let q = block_positive (bytes u) in
       let i = law.inside p f _ b u ok.board ok.fits (omega (arith, e, q)) in
       subst (λ z. IsInside (block_for l u).base z b.ram_base b.ram_size × ((block_for l u).base % z ≡ 0)) e i
 

@@ -30,7 +30,8 @@ use Rattle.linked_images.proofs.ReadBack.{ReadLaws}
 use Rattle.linked_images.proofs.AreaSize.{slot_count}
 use Rattle.linked_images.proofs.AreaEnd.{initial_words_are}
 use Rattle.linked_promises.specs.TablesInFlash.{WordsFit, WordsStand, TablesReadBack}
-use Rattle.linked_promises.proofs.WordLists.{AreWords, each_map, both_words}
+use Rattle.linked_promises.proofs.Lists.{each_map}
+use Rattle.linked_promises.proofs.WordLists.{AreWords, both_words}
 use Rattle.linked_promises.proofs.CompartmentWords.{comps_fit}
 use Rattle.linked_promises.proofs.SiteWords.{tables_most, sites_fit, targets_fit}
 use Rattle.linked_promises.proofs.InitWords.{lends_fit, inits_fit, words_fit}

@@ -1,14 +1,17 @@
 -- Which of a compartment's slots decides about an address.
-use Rattle.std.proofs.Common.{◌≡◌, ℕ, zero, suc, ◌<◌, ◌≤◌, ◌+◌, ◌⊎◌, inl, inr, Bool, true, false, ◌||◌, List, [], ◌∷◌, ◌++◌, length, Option, Some, None, refl, ap, sym, ◌∙◌, subst, arith}
+use Rattle.std.proofs.Common.{◌≡◌, ℕ, zero, suc, ◌<◌, ◌≤◌, ◌+◌, ◌⊎◌, inl, inr, Bool, true, false, ◌||◌, List, [], ◌∷◌, ◌++◌, length, map, Option, Some, None, lit<, refl, ap, sym, ◌∙◌, subst, arith}
 use Rattle.std.proofs.lemmas.Bool.{or_right}
 use Rattle.std.specs.List.{list_any}
 use Rattle.mpu_model.specs.declared.region.Region.{Region}
 use Rattle.mpu_model.specs.declared.region.Access.TheVariants.{Write}
+use Rattle.mpu_model.specs.declared.words.Rights.TheVariants.{Device}
 use Rattle.mpu_model.specs.Regions.{holds, allows}
+use Rattle.mpu_model.specs.Laws.{RegionsGiveTheirRights}
 use Rattle.mpu_model.specs.Protection.{deciding, or_this}
 use Rattle.mpu_model.specs.RegionWords.{region_of}
 use Rattle.thread_runs.specs.Areas as areas
-use Rattle.plan_model.specs.Slots.{SlotUse, free_slot, slots_from}
+use Rattle.plan_model.specs.declared.graph.Cover.{Cover}
+use Rattle.plan_model.specs.Slots.{SlotUse, cover_slot, free_slot, slots_from}
 use Rattle.monitor.specs.Setting.{allows_stores}
 
 abbrev pub use_region : (number : ℕ) → SlotUse → Region
@@ -99,3 +102,13 @@ module _ (a : ℕ) where
       first_allows (use_region n u) (holds (use_region n u) a) (deciding (slots_from (suc n) k us) a) (b n (omega arith)) (h n (omega arith)) (safe us (suc n) k e (omega arith))
   written_stores (u ∷ us) n (suc k) (behind w) l m =
       later_allows (use_region n u) (holds (use_region n u) a) (deciding (slots_from (suc n) k us) a) (written_stores us (suc n) k w (omega arith) (omega arith))
+
+-- ---- the slots of covers let code store
+
+module _ (given : RegionsGiveTheirRights) (a : ℕ) where
+  pub cover_lets : (d : Cover) → Lets a (cover_slot d)
+  cover_lets d m l = given m d.base d.size 0 Device (lit< tt) true Write
+
+  pub covers_harmless : (ds : List Cover) → areas.Each (Harmless a) (map cover_slot ds)
+  covers_harmless [] = tt
+  covers_harmless (d ∷ ds) = (λ m l. inr (cover_lets d m l), covers_harmless ds)

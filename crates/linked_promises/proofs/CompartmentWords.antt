@@ -1,30 +1,27 @@
 -- The words of compartments: of their regions and of their masks.
-use Rattle.std.proofs.Common.{◌≡◌, ℕ, ◌+◌, ◌%◌, ◌^◌, ◌<◌, ◌≤◌, Bool, true, false, [], ◌∷◌, ◌++◌, length, map, filter, get_or, cond, flat_map, nat_lt, ap, sym, ◌∙◌, subst, lit<, arith}
-use Rattle.std.proofs.lemmas.Bool.{cases_lt}
+use Rattle.std.proofs.Common.{◌≡◌, ℕ, ◌+◌, ◌^◌, ◌<◌, ◌≤◌, Bool, true, false, [], ◌∷◌, ◌++◌, length, map, get_or, cond, flat_map, nat_lt, ap, sym, ◌∙◌, subst, lit<, arith}
 use Rattle.std.proofs.lemmas.List.FromFn.{get_or-map-range_with_len}
 use mathlib.Core.Logic.{⊎_elim}
 use Rattle.common_laws.specs.Lists.{Each}
 use Rattle.mpu_model.specs.declared.words.Rights.TheVariants.{Code}
 use Rattle.ir_model.specs.Plain.{PlainFirmware}
 use Rattle.ir_model.specs.Resolve.{resolve}
-use Rattle.ir_model.specs.Resolved.{Program, window_at}
+use Rattle.ir_model.specs.Resolved.{Program}
 use Rattle.ir_model.specs.declared.object.ObjId.TheVariants.{Local}
 use Rattle.ir_laws.specs.Limits.{HasWindows, WindowsLieApart}
 use Rattle.plan_model.specs.declared.needs.Needs.{Needs}
-use Rattle.plan_model.specs.declared.groups.Groups.{Groups}
-use Rattle.plan_model.specs.declared.graph.Cover.{Cover}
 use Rattle.plan_model.specs.declared.graph.Final.{Final}
 use Rattle.plan_model.specs.declared.plan.Board.{Board}
 use Rattle.plan_model.specs.declared.plan.Plan.{Plan}
 use Rattle.plan_model.specs.declared.plan.Sizes.{Sizes}
 use Rattle.plan_model.specs.Boards.{slots_of}
 use Rattle.plan_model.specs.Lists.{numbers_below}
-use Rattle.plan_model.specs.Groups.{uses, writes}
+use Rattle.plan_model.specs.Groups.{writes}
 use Rattle.plan_model.specs.Regions.{region_at, is_user, regions_used}
 use Rattle.plan_model.specs.Blocks.{region_bytes}
 use Rattle.plan_model.specs.RamBlocks.{ForRegion}
 use Rattle.plan_model.specs.Placement.{region_spot, compartment_spot}
-use Rattle.plan_model.specs.InitialGraph.{cover_of, covers_of, mask_of, read_mask_of, mask_where, initial_graph}
+use Rattle.plan_model.specs.InitialGraph.{mask_of, read_mask_of, mask_where, initial_graph}
 use Rattle.plan_model.specs.FinalGraph.{IsFinal}
 use Rattle.plan_model.specs.Slots.{data_slot, cover_slot, slot_uses, slot_regions, code_region, lend_mask, read_mask}
 use Rattle.monitor.specs.Area.{region_words, compartment_words}
@@ -34,38 +31,21 @@ use Rattle.linked_images.proofs.Facts.{PlanLaws, laid, code_blocks_count}
 use Rattle.linked_images.proofs.Flash.{code_count}
 use Rattle.linked_images.proofs.Ranges.{block_in}
 use Rattle.linked_promises.proofs.Kept.{kept_final}
-use Rattle.linked_promises.proofs.CoverParts.{IsPart, AreParts, parts_all, each_in_order}
-use Rattle.linked_promises.proofs.WordLists.{IsWord, AreWords, each_map, each_kept, each_below, each_flat, both_words}
+use Rattle.linked_promises.proofs.CoverParts.{IsPart}
+use Rattle.linked_promises.proofs.CoverSlots.{covers_are_parts}
+use Rattle.linked_promises.proofs.KeptItems.{each_filter}
+use Rattle.linked_promises.proofs.Lists.{each_map, below_all}
+use Rattle.linked_promises.proofs.WordLists.{IsWord, AreWords, each_flat, both_words}
 use Rattle.linked_promises.proofs.RegionWords.{IsLow, region_fits, out_is_byte, slots_fit, mask_fits}
-use Rattle.linked_promises.proofs.WindowsOpen.{first_at, first_past}
 use Rattle.common_laws.proofs.Lists.{each_both}
 
 -- ---- covers lie among the peripherals
 
 module _ (p : Program) (n : Needs) (windows : HasWindows p) where
-  window_part : (q : ℕ) → q < length p.periphs → IsPart (cover_of p q)
-  window_part q l =
-      let i = windows.each q l in
-      let k = i.power in
-      let m = k.2 in
-      record { power = k.0; least = k.1; most = omega (arith, m); size = k.3; aligned = subst (λ s. (window_at p q).base % s ≡ 0) k.3 i.aligned; from = i.place.0; to = i.place.1 }
-
-  first_parts : (g : Groups) (c : ℕ) → AreParts (covers_of p n g c)
-  first_parts g c =
-      each_in_order IsPart (λ (a b : Cover). nat_lt a.base b.base) (map (cover_of p) (filter (uses n g c) (numbers_below (length p.periphs))))
-      (each_map IsPart (cover_of p) (λ j. j < length p.periphs) (filter (uses n g c) (numbers_below (length p.periphs))) window_part
-      (each_kept (λ j. j < length p.periphs) (uses n g c) (numbers_below (length p.periphs)) (each_below 0 (length p.periphs) (length p.periphs) (omega arith))))
-
   module _ (f : Final) (slots : ℕ) (final : IsFinal p n f.groups slots f) where
-    parts : (c : ℕ) → AreParts (get_or f.covers c [])
-    parts c =
-        subst AreParts (sym (ap (λ (x : Final). get_or x.covers c []) final.is))
-        (parts_all p slots (initial_graph p n f.groups) final.last final.reached
-        (λ d. ⊎_elim (λ lt. subst AreParts (sym (first_at p n f.groups d lt)) (first_parts f.groups d)) (λ le. subst AreParts (sym (first_past p n f.groups d le)) tt) (cases_lt d f.groups.count)) c)
-
     pub covers_low : (c : ℕ) → Each IsLow (map cover_slot (get_or f.covers c []))
     covers_low c =
-        each_map IsLow cover_slot IsPart (get_or f.covers c []) (λ d i. record { base = let t = i.to in omega (arith, t); byte = lit< tt }) (parts c)
+        each_map IsLow cover_slot IsPart (get_or f.covers c []) (λ d i. record { base = let t = i.to in omega (arith, t); byte = lit< tt }) (covers_are_parts p n f slots final windows c)
 
     -- ---- masks
 
@@ -127,7 +107,7 @@ module _ (law : PlanLaws) (apart : WindowsLieApart) (w : PlainFirmware) (n : Nee
   uses_low c =
       each_both IsLow (map (data_slot p f l c) (regions_used f.regions c)) (map cover_slot (get_or f.covers c []))
       (each_map IsLow (data_slot p f l c) (λ r. r < length f.regions) (regions_used f.regions c) (region_low c)
-      (each_kept (λ r. r < length f.regions) (λ r. is_user c (region_at f.regions r)) (numbers_below (length f.regions)) (each_below 0 (length f.regions) (length f.regions) (omega arith))))
+      (each_filter (λ r. r < length f.regions) (λ r. is_user c (region_at f.regions r)) (numbers_below (length f.regions)) (below_all 0 (length f.regions) (length f.regions) (omega arith))))
       (covers_low p n (apart w ok.typed) f (slots_of b) ok.final c)
 
   slots_few : 4 + slots_of b ≤ 16
@@ -144,4 +124,4 @@ module _ (law : PlanLaws) (apart : WindowsLieApart) (w : PlainFirmware) (n : Nee
   unfolding tables_of
   comps_fit =
       each_flat IsWord compartment_words (λ c. AreWords (compartment_words c)) (λ c h. h) (map (comp_record p f l (slots_of b)) (numbers_below f.groups.count))
-      (each_map (λ c. AreWords (compartment_words c)) (comp_record p f l (slots_of b)) (λ c. c < f.groups.count) (numbers_below f.groups.count) comp_fits (each_below 0 f.groups.count f.groups.count (omega arith)))
+      (each_map (λ c. AreWords (compartment_words c)) (comp_record p f l (slots_of b)) (λ c. c < f.groups.count) (numbers_below f.groups.count) comp_fits (below_all 0 f.groups.count f.groups.count (omega arith)))

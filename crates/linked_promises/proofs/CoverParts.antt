@@ -1,5 +1,5 @@
 -- Each cover is an aligned power of two of addresses of peripherals, and a join of two is one too.
-use Rattle.std.proofs.Common.{◌≡◌, ℕ, zero, suc, ◌<◌, ◌≤◌, ◌+◌, ◌-◌, ◌*◌, ◌/◌, ◌%◌, ◌^◌, ◌⊎◌, inl, inr, Bool, true, false, not, List, [], ◌∷◌, ◌++◌, length, map, filter, get_or, set, cond, Option, Some, nat_eq, nat_lt, nat_le, refl, ap, sym, ◌∙◌, subst, eq-eqb, eqb-true, le-leb, lit<, arith}
+use Rattle.std.proofs.Common.{◌≡◌, ℕ, zero, suc, ◌<◌, ◌≤◌, ◌+◌, ◌-◌, ◌*◌, ◌/◌, ◌%◌, ◌^◌, ◌⊎◌, inl, inr, Bool, true, false, not, List, [], ◌∷◌, length, map, filter, get_or, set, cond, Option, Some, nat_eq, nat_lt, nat_le, refl, ap, sym, ◌∙◌, subst, eq-eqb, eqb-true, le-leb, lit<, arith}
 use Rattle.std.specs.Prelude.{find, unwrap_or}
 use Rattle.std.specs.List.{range_with_len, best_of}
 use Rattle.std.proofs.lemmas.Bool.{cases_lt, cases_eq, and_from as both}
@@ -9,6 +9,7 @@ use Rattle.std.proofs.lemmas.Nat.{div-add-mod', mod_below, div_below, pow-add, p
 use Rattle.std.proofs.Math.Nat.{mul-mod_left}
 use Rattle.std.proofs.lemmas.List.{get_or-set_same, get_or-set_other, get_or_past, length-set}
 use Rattle.ir_model.specs.Resolved.{Program}
+use Rattle.common_laws.proofs.Lists.{each_at, each_both}
 use Rattle.thread_runs.specs.Areas as areas
 use Rattle.plan_model.specs.declared.graph.Cover.{Cover}
 use Rattle.plan_model.specs.declared.graph.Graph.{Graph}
@@ -18,6 +19,8 @@ use Rattle.plan_model.specs.Covers.{least_power, lowest, highest, joined_size, j
 use Rattle.plan_model.specs.FinalGraph.{Merges, stays, joins}
 use Rattle.plan_model.specs.Merging.{covers_at, cover_cost, cover_pair, with_joined_cover, next}
 use Rattle.linked_promises.proofs.Kept.{by_next}
+use Rattle.linked_promises.proofs.KeptItems.{each_filter}
+use Rattle.linked_promises.proofs.Lists.{each_map, below_all}
 use Rattle.linked_promises.proofs.Products.{times}
 
 pub record IsPart (d : Cover) : Type 0 where
@@ -148,14 +151,6 @@ joined_holds c d one two =
 -- ---- lists of covers
 
 module _ {X : Type 0} (P : X → Type 0) where
-  each_filter : (test : X → Bool) (xs : List X) → areas.Each P xs → areas.Each P (filter test xs)
-  each_filter test [] e = tt
-  each_filter test (x ∷ xs) e = by (test x) (each_filter test xs e.1)
-    where
-      by : (b : Bool) → areas.Each P (filter test xs) → areas.Each P (cond b (x ∷ filter test xs) (filter test xs))
-      by true ih = (e.0, ih)
-      by false ih = ih
-
   each_placed : (lt : X → X → Bool) (x : X) (ys : List X) → P x → areas.Each P ys → areas.Each P (placed lt x ys)
   each_placed lt x [] h e = (h, tt)
   each_placed lt x (y ∷ ys) h e = by (lt y x) (each_placed lt x ys h e.1)
@@ -168,15 +163,6 @@ module _ {X : Type 0} (P : X → Type 0) where
   each_in_order lt [] e = tt
   each_in_order lt (x ∷ xs) e = each_placed lt x (in_order lt xs) e.0 (each_in_order lt xs e.1)
 
-  each_at : (xs : List X) (k : ℕ) (d : X) → areas.Each P xs → k < length xs → P (get_or xs k d)
-  each_at [] k d e l = absurd (omega arith)
-  each_at (x ∷ xs) zero d e l = e.0
-  each_at (x ∷ xs) (suc k) d e l = each_at xs k d e.1 (omega arith)
-
-  each_joined : (xs ys : List X) → areas.Each P xs → areas.Each P ys → areas.Each P (xs ++ ys)
-  each_joined [] ys e f = f
-  each_joined (x ∷ xs) ys e f = (e.0, each_joined xs ys e.1 f)
-
   pick : (b : Bool) (x y : X) → P x → P y → P (cond b x y)
   pick true x y h e = h
   pick false x y h e = e
@@ -185,23 +171,15 @@ module _ {X : Type 0} (P : X → Type 0) where
   each_best beats a [] h e = h
   each_best beats a (x ∷ xs) h e = each_best beats (cond (beats x a) x a) xs (pick (beats x a) x a e.0 h) e.1
 
-pub each_map : {X Y : Type 0} (P : Y → Type 0) (f : X → Y) (Q : X → Type 0) (xs : List X) → ((x : X) → Q x → P (f x)) → areas.Each Q xs → areas.Each P (map f xs)
-each_map P f Q [] h e = tt
-each_map P f Q (x ∷ xs) h e = (h x e.0, each_map P f Q xs h e.1)
-
 -- ---- the pair that is joined
-
-numbers_are : (a n m : ℕ) → a + n ≤ m → areas.Each (λ k. k < m) (range_with_len a n)
-numbers_are a zero m l = tt
-numbers_are a (suc n) m l = (omega arith, numbers_are (a + 1) n m (omega arith))
 
 pairs_are : (m : ℕ) (ns : List ℕ) → areas.Each (λ k. k < m) ns → areas.Each (λ (q : Pair). (q.first < m) × (q.second < m)) (pairs ns)
 pairs_are m [] e = tt
 pairs_are m (n ∷ ns) e =
-    each_joined (λ (q : Pair). (q.first < m) × (q.second < m)) (map (λ (k : ℕ). record { first = n; second = k }) ns) (pairs ns)
+    each_both (λ (q : Pair). (q.first < m) × (q.second < m)) (map (λ (k : ℕ). record { first = n; second = k }) ns) (pairs ns)
     (each_map (λ (q : Pair). (q.first < m) × (q.second < m)) (λ (k : ℕ). record { first = n; second = k }) (λ k. k < m) ns (λ k l. (e.0, l)) e.1) (pairs_are m ns e.1)
 
-cheapest_is : {X : Type 0} (P : X → Type 0) (cost : X → ℕ) (xs : List X) (x : X) → areas.Each P xs → cheapest cost xs ≡ Some x → P x
+pub cheapest_is : {X : Type 0} (P : X → Type 0) (cost : X → ℕ) (xs : List X) (x : X) → areas.Each P xs → cheapest cost xs ≡ Some x → P x
 cheapest_is P cost [] x e f = absurd (none-some x f)
 cheapest_is P cost (y ∷ ys) x e f =
     subst P (same_Some (best_of (λ z best. nat_lt (cost z) (cost best)) y ys) x f) (each_best P (λ z best. nat_lt (cost z) (cost best)) y ys e.0 e.1)
@@ -209,7 +187,7 @@ cheapest_is P cost (y ∷ ys) x e f =
 chosen : (cs : List Cover) (q : Pair) → cover_pair cs ≡ Some q → (q.first < length cs) × (q.second < length cs)
 chosen cs q e =
     cheapest_is (λ (q : Pair). (q.first < length cs) × (q.second < length cs)) (cover_cost cs) (pairs (numbers_below (length cs))) q
-    (pairs_are (length cs) (numbers_below (length cs)) (numbers_are 0 (length cs) (length cs) (omega arith))) e
+    (pairs_are (length cs) (numbers_below (length cs)) (below_all 0 (length cs) (length cs) (omega arith))) e
 
 -- ---- joins of a graph
 
@@ -223,7 +201,7 @@ module _ (P : Cover → Type 0) (joins_both : (c d : Cover) → P c → P d → 
       let m = chosen cs q e in
       let d : Cover = joined (cover_at cs q.first) (cover_at cs q.second) in
       each_in_order P (λ (x y : Cover). nat_lt x.base y.base) (d ∷ filter (λ (c : Cover). not (is_inside c d)) cs) (
-        joins_both (cover_at cs q.first) (cover_at cs q.second) (each_at P cs q.first _ a m.0) (each_at P cs q.second _ a m.1),
+        joins_both (cover_at cs q.first) (cover_at cs q.second) (each_at P cs _ q.first a m.0) (each_at P cs _ q.second a m.1),
         each_filter P (λ (c : Cover). not (is_inside c d)) cs a,
       )
 

@@ -23,11 +23,11 @@ use Rattle.plan_model.specs.Slots.{cover_slot}
 use Rattle.monitor.specs.declared.tables.Tables.{Tables}
 use Rattle.monitor.specs.RegionChecks.{is_free, is_data, is_read_only, is_cover, is_slot}
 use Rattle.linked_images.proofs.Passing.{and_yes, inside_yes}
-use Rattle.linked_promises.proofs.CoverParts.{IsPart, AreParts, joined_part, covers_all, each_in_order, each_map}
+use Rattle.linked_promises.proofs.CoverParts.{IsPart, AreParts, joined_part, covers_all, each_in_order}
 use Rattle.linked_promises.proofs.Bearing.{use_region}
 use Rattle.linked_promises.proofs.Forms.{is_made}
 use Rattle.linked_promises.proofs.KeptItems.{each_filter}
-use Rattle.linked_promises.proofs.Lists.{below_all}
+use Rattle.linked_promises.proofs.Lists.{each_map, below_all}
 
 -- ---- the windows of peripherals
 

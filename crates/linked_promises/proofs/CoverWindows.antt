@@ -18,7 +18,7 @@ use Rattle.linked_promises.proofs.Forms.{in_whole}
 use Rattle.linked_promises.proofs.Covers.{inside_through}
 use Rattle.linked_promises.proofs.CoverParts.{IsPart, joined_part, joined_holds}
 use Rattle.linked_promises.proofs.CoverSlots.{window_part, final_covers}
-use Rattle.linked_promises.proofs.Products.{times}
+use Rattle.linked_promises.proofs.Products.{times, one_more}
 
 -- ---- a range inside another
 
@@ -50,7 +50,7 @@ nested x d one two le z here there =
     let x_is : x.base ≡ a * u = omega (arith, i, aligned) in
     let d_is : d.base ≡ b * u = omega (arith, j, whole) in
     let split = multiple one.power two.power le in
-    let s = spread a u in
+    let s = one_more a u in
     let t = widen b m u in
     let end : d.base + d.size ≡ (b + m) * u = omega (arith, d_is, large, split, t) in
     let below : b ≤ a = ⊎_elim (λ lt. let k = times (a + 1) b u (omega (arith, lt)) in absurd (omega (arith, k, s, x_is, d_is, size, high, from))) (λ h. h) (cases_lt a b) in
@@ -59,9 +59,6 @@ nested x d one two le z here there =
     let last = times (a + 1) (b + m) u above in
     inside x d (omega (arith, first, x_is, d_is)) (omega (arith, last, s, x_is, size, end))
   where
-    spread : (a u : ℕ) → (a + 1) * u ≡ a * u + u
-    spread a u = grind arith
-
     widen : (b m u : ℕ) → (b + m) * u ≡ b * u + u * m
     widen b m u = grind arith
 

@@ -1,6 +1,7 @@
 -- The slot of a block of data passes where what its open eighths hold is data alone.
 use Rattle.std.proofs.Common.{◌≡◌, ℕ, zero, suc, ◌+◌, ◌*◌, ◌/◌, ◌%◌, ◌^◌, ◌<◌, ◌≤◌, Bool, true, false, ◌&&◌, ◌||◌, cond, nat_eq, nat_lt, nat_le, refl, ap, ap₂, sym, ◌∙◌, subst, lit<, arith}
 use Rattle.std.specs.Int.{bit_at}
+use Rattle.std.proofs.Math.Nat.{mul_comm}
 use Rattle.std.proofs.Math.Pow.{pow_mono}
 use Rattle.std.proofs.lemmas.Bool.{cases_lt, or_left, or_right}
 use Rattle.std.proofs.lemmas.Bool.Decides.{nat_tests}
@@ -21,7 +22,7 @@ use Rattle.layout_laws.specs.RamLaws.{open_bytes}
 use Rattle.mpu_model.proofs.Configured.{closed_byte}
 use Rattle.linked_images.proofs.Passing.{and_yes, le_yes, lt_yes, eq_yes}
 use Rattle.linked_promises.proofs.Forms.{IsMade, is_made}
-use Rattle.linked_promises.proofs.Products.{times}
+use Rattle.linked_promises.proofs.Products.{times, one_more}
 
 -- the ranges of a block that are data: those that its open eighths hold
 abbrev pub HoldsData : Image → Tables → (base size bytes : ℕ) → Type 0
@@ -68,14 +69,8 @@ module _ (i : Image) (t : Tables) (number base size bytes : ℕ) (rights : Right
     unfolding subregions_out
     out = made.out_is ∙ ap (λ c. cond c (closed_from opened) 0) has
 
-    spread : (j e : ℕ) → (j + 1) * e ≡ j * e + e
-    spread j e = grind arith
-
-    turned : (a b : ℕ) → a * b ≡ b * a
-    turned a b = grind arith
-
     most : (j : ℕ) → j < 8 → j * (size / 8) + size / 8 ≤ size
-    most j lt = let a = times (j + 1) 8 (size / 8) (omega (arith, lt)) in let s = spread j (size / 8) in omega (arith, a, s)
+    most j lt = let a = times (j + 1) 8 (size / 8) (omega (arith, lt)) in let s = one_more j (size / 8) in omega (arith, a, s)
 
     room : (j : ℕ) → j < 8 → j < opened → j * (size / 8) + size / 8 ≤ open_bytes size bytes
     room j lt below =
@@ -86,8 +81,8 @@ module _ (i : Image) (t : Tables) (number base size bytes : ℕ) (rights : Right
         by : (c : Bool) → j * (size / 8) + size / 8 ≤ cond c (size / 8 * opened) size
         by true =
             let a = times (j + 1) opened (size / 8) (omega (arith, below)) in
-            let s = spread j (size / 8) in
-            let u = turned (size / 8) opened in
+            let s = one_more j (size / 8) in
+            let u = mul_comm (size / 8) opened in
             omega (arith, a, s, u)
         by false = most j lt
 

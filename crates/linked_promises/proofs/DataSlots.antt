@@ -3,13 +3,14 @@
 use Rattle.std.proofs.Common.{◌≡◌, ◌≢◌, ℕ, ◌<◌, ◌≤◌, ◌+◌, ◌-◌, ◌*◌, ◌/◌, ◌%◌, ◌^◌, ◌↔◌, inl, inr, Bool, true, false, ◌&&◌, ◌||◌, List, [], ◌∷◌, ◌++◌, length, map, cond, nat_eq, nat_lt, refl, ap, sym, ◌∙◌, subst, eqb-true, pow_pos, lit<, arith, div-lt_iff_lt-mul}
 use Rattle.std.specs.Prelude.{IsTrue}
 use Rattle.std.specs.Int.{IsPowerOfTwo}
+use Rattle.std.proofs.Math.Nat.{mul_comm}
 use Rattle.std.proofs.Math.Pow.{pow_mono}
 use Rattle.std.proofs.lemmas.Bool.{leb-true, ltb-false, cases_eq}
 use Rattle.std.proofs.lemmas.Nat.Bits.{bit_at-zero}
 use mathlib.Core.Logic.{⊎_elim}
 use Rattle.mpu_model.specs.declared.region.Access.TheVariants.{Write}
 use Rattle.mpu_model.specs.declared.words.Rights.{Rights}
-use Rattle.mpu_model.specs.declared.words.Rights.TheVariants.{Ram, Background, Device}
+use Rattle.mpu_model.specs.declared.words.Rights.TheVariants.{Ram, Background}
 use Rattle.mpu_model.specs.Regions.{holds, allows}
 use Rattle.mpu_model.specs.RegionWords.{region_of}
 use Rattle.mpu_model.specs.Configured.{closed_from, OpenEighthsAreHeld}
@@ -35,7 +36,7 @@ use Rattle.linked_images.specs.Planned.{IsPlanned, plan, planned_sizes}
 use Rattle.linked_images.proofs.Powers.{block_is}
 use Rattle.linked_images.proofs.OpenBytes.{multiple}
 use Rattle.linked_images.proofs.Ranges.{IsUse, block_size_is, block_in, small}
-use Rattle.linked_promises.proofs.Bearing.{use_region, Bears, Lets, Harmless, Borne, here, there, Written, this, behind}
+use Rattle.linked_promises.proofs.Bearing.{use_region, Bears, Lets, Harmless, Borne, here, there, Written, this, behind, covers_harmless}
 use Rattle.linked_promises.proofs.GlobalPlaces.{GlobalLaws}
 use Rattle.common_laws.proofs.Powers.{smaller_exponent}
 
@@ -60,14 +61,11 @@ module _ (held : RegionsHoldTheirBlocks) (opened : OpenEighthsAreHeld) (rights :
   abbrev count : ℕ
   count = open_eighths size bytes
 
-  turned : (x y : ℕ) → x * y ≡ y * x
-  turned x y = grind arith
-
   with_eighths : 256 ≤ size → (t : Bool) → nat_lt count 8 ≡ t → IsTrue (holds (region_of m base size (closed_from count) rights) a) ↔ ((base ≤ a) × (a < base + cond t (size / 8 * count) size))
   with_eighths large true e =
       let at_most = few_open size bytes power.0 power.1 large room in
       let h = opened m base size count rights number power large most whole at_most a in
-      let same = turned count (size / 8) in
+      let same = mul_comm count (size / 8) in
       (λ t. let i = h.0 t in let high = i.1 in (i.0, omega (arith, high, same)), λ i. let high = i.1 in h.1 (i.0, omega (arith, high, same)))
   with_eighths large false e =
       let at_most = few_open size bytes power.0 power.1 large room in
@@ -147,15 +145,8 @@ module _ (law : GlobalLaws) (held : RegionsHoldTheirBlocks) (opened : OpenEighth
         by false e = e
         by true e = absurd (law.plans.apart p f s b (ForRegion q) (ForRegion r) a (λ e. d (number_of q r e)) ((slot_holds c q a m h number).0 e) it)
 
-    cover_lets : (d : Cover) → Lets a (cover_slot d)
-    cover_lets d m number = given m d.base d.size 0 Device (lit< tt) true Write
-
-    covers_harmless : (ds : List Cover) → areas.Each (Harmless a) (map cover_slot ds)
-    covers_harmless [] = tt
-    covers_harmless (d ∷ ds) = (λ m number. inr (cover_lets d m number), covers_harmless ds)
-
     all_harmless : has (region_at f.regions r).writers c ≡ true → (qs : List ℕ) (ds : List Cover) → areas.Each (λ q. q < length f.regions) qs → areas.Each (Harmless a) (map (data_slot p f l c) qs ++ map cover_slot ds)
-    all_harmless writer [] ds e = covers_harmless ds
+    all_harmless writer [] ds e = covers_harmless given a ds
     all_harmless writer (q ∷ qs) ds e = (⊎_elim same (other_harmless q e.0) (cases_eq q r), all_harmless writer qs ds e.1)
       where
         same : q ≡ r → Harmless a (data_slot p f l c q)

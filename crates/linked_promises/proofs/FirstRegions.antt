@@ -15,8 +15,8 @@ use Rattle.plan_model.specs.Lists.{has, numbers_below, same_numbers, distinct}
 use Rattle.plan_model.specs.Regions.{region_at, no_region}
 use Rattle.plan_model.specs.InitialGraph.{Users, users_of, has_users, same_users, kinds_of_users, region_for, data_regions, unwritten}
 use Rattle.grouping.proofs.Distinct.{any_distinct, any_seen}
-use Rattle.linked_promises.proofs.CoverParts.{each_map}
-use Rattle.linked_promises.proofs.Lists.{any_index, passing_among, among_passing, each_passing, each_at, below_all}
+use Rattle.common_laws.proofs.Lists.{each_at}
+use Rattle.linked_promises.proofs.Lists.{any_index, passing_among, among_passing, each_passing, each_map, below_all}
 use Rattle.linked_promises.proofs.Joins.{EachRegion, SomeRegion, AreApart}
 use Rattle.common_laws.proofs.Lists.{any_kept as any_filtered}
 use Rattle.plan_model.proofs.Numbers.{one_passes}
@@ -52,7 +52,7 @@ module _ {X : Type 0} (same : X → X → Bool) where
   differ_at : (d : X) (xs : List X) → Differ xs → (i j : ℕ) → i < j → j < length xs → same (get_or xs i d) (get_or xs j d) ≡ false
   differ_at d [] h i j l m = absurd (omega arith)
   differ_at d (x ∷ xs) h i zero l m = absurd (omega arith)
-  differ_at d (x ∷ xs) h zero (suc j) l m = each_at (λ y. same x y ≡ false) d xs h.0 j (omega arith)
+  differ_at d (x ∷ xs) h zero (suc j) l m = each_at (λ y. same x y ≡ false) xs d j h.0 (omega arith)
   differ_at d (x ∷ xs) h (suc i) (suc j) l m = differ_at d xs h.1 i j (omega arith) (omega arith)
 
   each_distinct : (P : X → Type 0) (xs : List X) → areas.Each P xs → areas.Each P (distinct same xs)
@@ -121,7 +121,7 @@ module _ (p : Program) (n : Needs) (g : Groups) where
   region_is r l = let size = as_many in get_or-map (region_for p n g) kinds r nobody no_region (omega (arith, size, l))
 
   kind_is : (r : ℕ) → r < length first → IsKind (kind_at r)
-  kind_is r l = let size = as_many in each_at IsKind nobody kinds each_kind r (omega (arith, size, l))
+  kind_is r l = let size = as_many in each_at IsKind kinds nobody r each_kind (omega (arith, size, l))
 
   -- a global is in the region of its users
   record IsOf (r x : ℕ) : Type 0 where

@@ -11,6 +11,7 @@ use Rattle.mpu_model.specs.RegionWords.{rights_word, size_field, region_of}
 use Rattle.monitor.specs.RegionChecks.{base_of, size_of, taken_out, has_form}
 use Rattle.linked_images.proofs.Passing.{and_yes, lt_yes, eq_yes}
 use Rattle.linked_images.proofs.OpenBytes.{multiple}
+use Rattle.linked_promises.proofs.Products.{regrouped}
 use Rattle.mpu_model.proofs.Powers.{trailing_zeros-pow as zeros}
 
 -- the fields of the word of attributes
@@ -31,10 +32,7 @@ in_whole x a k le e =
     let d = div-add-mod' x (2 ^ k) in
     let q : ℕ = x / 2 ^ k in
     let whole : x ≡ q * 2 ^ k = omega (arith, d, e) in
-    ap (λ y. y % 2 ^ a) (whole ∙ (ap (λ z. q * z) (multiple a k le) ∙ turned q (2 ^ a) (2 ^ (k - a)))) ∙ mul-mod_left (q * 2 ^ (k - a)) (2 ^ a)
-  where
-    turned : (q m n : ℕ) → q * (m * n) ≡ q * n * m
-    turned q m n = grind arith
+    ap (λ y. y % 2 ^ a) (whole ∙ (ap (λ z. q * z) (multiple a k le) ∙ regrouped q (2 ^ a) (2 ^ (k - a)))) ∙ mul-mod_left (q * 2 ^ (k - a)) (2 ^ a)
 
 -- what is read is what was put
 pub record IsMade (number base size srd : ℕ) (rights : Rights) : Type 0 where

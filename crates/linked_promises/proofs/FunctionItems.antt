@@ -25,7 +25,7 @@ use Rattle.code_model.specs.Addresses.{named_into, addr_code, faddr_code, elem_c
 use Rattle.code_model.specs.Entry.{enter_code, leave_code}
 use Rattle.code_model.specs.Calls.{args_code, call_code, callee_code, icall_code, call_items, icall_items}
 use Rattle.code_model.specs.Templates.{lends_of, entry_items, inst_items, term_items}
-use Rattle.code_model.specs.Sizes.{inst_size, insts_size, term_size, block_size, entry_size}
+use Rattle.code_model.specs.Sizes.{inst_size, block_size, entry_size}
 use Rattle.code_model.specs.FunctionCode.{lent, block_pieces, blocks_pieces, function_items}
 use Rattle.code_model.specs.Laws.{SizesHold}
 use Rattle.linked_images.proofs.Passing.{and_yes, le_yes, lt_yes}
@@ -33,6 +33,7 @@ use Rattle.linked_promises.proofs.Encodable.{Encodable, encodable-append, plain_
 use Rattle.linked_promises.proofs.TemplateCode.{LendsFit, load_in, store_in, address_in, supervisor_in, word_in, save_in, const_in, move_in, bin_in, cmp_in, two_offset, elem_in, field_in, loads_in, stores_to_in, args_in, callee_in, enter_in, leave_in}
 use Rattle.thumb_asm.proofs.Items.{total-append}
 use Rattle.code_model.proofs.Filling.{args_total}
+use Rattle.code_model.proofs.FunctionSizes.{block_total}
 use Rattle.lower_laws.proofs.Here.{does_at, ends_at}
 use Rattle.thumb_asm.proofs.Reaching.{total_even}
 
@@ -168,15 +169,6 @@ module _ (low high : ℕ) (near : high ≤ low + 2 ^ 21) (top : high < 2 ^ 31) (
         encodable-append piece rest (inst_in at (site_in q.sites b k) i (h 0 (omega arith)) from (omega (arith, room, a)) even (fit.sites b k))
         (block_in next b (suc k) is t (λ j l. h (suc j) (omega (arith, l))) e (omega (arith, from)) (omega (arith, room, a, z)) (omega (arith, even, z, v)))
 
-    block_total : (at b k : ℕ) (is : List NumberedInst) (t : NumberedTerm) → total (joined (block_pieces g q first at b k is t)) ≡ insts_size g q.sites (lent g q) b k is + term_size g (lent g q) t
-    block_total at b k [] t = let h = hold.terms g q first t in let a = total-append (term_items g q first t) [] in omega (arith, h, a)
-    block_total at b k (i ∷ is) t =
-        let next : ℕ = at + inst_size (crosses q.sites b k) i in
-        let h = block_total next b (suc k) is t in
-        let a = total-append (inst_items g q at (site_in q.sites b k) i) (joined (block_pieces g q first next b (suc k) is t)) in
-        let e = hold.insts g q at (site_in q.sites b k) i in
-        omega (arith, h, a, e)
-
     -- each instruction and the end of a block are typed
     record BlockTyped (x : NumberedBlock) : Type 0 where
       insts : (j : ℕ) → j < length x.insts → InstTyped p sizes g (get_or x.insts j (ir.Const 0 0))
@@ -192,7 +184,7 @@ module _ (low high : ℕ) (near : high ≤ low + 2 ^ 21) (top : high < 2 ^ 31) (
         let parts = flat_map-append (λ (piece : List Item). piece) here rest in
         let s = ap total parts in
         let a = total-append (joined here) (joined rest) in
-        let e = block_total at b 0 x.insts x.term in
+        let e = block_total g q first at b 0 x.insts x.term in
         let v = total_even (joined here) in
         let m = block_in at b 0 x.insts x.term (h 0 (omega arith)).insts (h 0 (omega arith)).term from (omega (arith, room, s, a)) even in
         let n = blocks_in next (suc b) xs (λ i l. h (suc i) (omega (arith, l))) (omega (arith, from)) (omega (arith, room, s, a, e)) (omega (arith, even, v, e)) in

@@ -25,7 +25,7 @@ use Rattle.linked_images.proofs.Passing.{apart_from}
 use Rattle.ir_laws.proofs.Aligned.{Divides, Aligned, none, more, through, plus, multiple}
 use Rattle.ir_laws.proofs.GlobalShapes.{global_shaped}
 use Rattle.linked_promises.proofs.GlobalPlaces.{GlobalLaws, address, in_ram, aligned_at, apart, off_stack, off_monitor}
-use Rattle.linked_promises.proofs.Lists.{each_weaker}
+use Rattle.common_laws.proofs.Lists.{each_to}
 use Rattle.linked_promises.proofs.Objects.{IsIn, cells_inside, cells_laid, each_object, objects_laid}
 
 -- cells whose widths divide the address of their object stand at multiples of them
@@ -97,12 +97,12 @@ module _ (law : GlobalLaws) (w : PlainFirmware) (n : Needs) (f : Final) (b : Boa
   cells_of : (x : ℕ) → x < count → Each (IsCell x) (cells x)
   cells_of x m =
       let ram = (in_ram law w n f b ok x m).0 in
-      each_weaker (IsIn (place x - b.ram_base) (global_size p x)) (IsCell x) (cells x)
+      each_to (IsIn (place x - b.ram_base) (global_size p x)) (IsCell x) (cells x)
       (λ c i. let low = i.low in let high = i.high in record { low = omega (arith, low, ram); high = omega (arith, high, ram); some = i.some })
       (cells_inside (place x - b.ram_base) (global_size p x) (global_at p x).shape.cells (global_shaped w x).sound.cells)
 
   each_of : (P : Area → Type 0) (x : ℕ) → x < count → ((c : Area) → IsCell x c → P c) → Each P (cells x)
-  each_of P x m h = each_weaker (IsCell x) P (cells x) h (cells_of x m)
+  each_of P x m h = each_to (IsCell x) P (cells x) h (cells_of x m)
 
   pub inside : Each (λ (c : Area). c.at + c.width ≤ b.ram_size) (objects_at 0 starts shapes)
   inside =

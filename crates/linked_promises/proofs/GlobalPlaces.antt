@@ -1,5 +1,5 @@
 -- Where the globals of a planned firmware lie: in the block of their region, or of the globals of none.
-use Rattle.std.proofs.Common.{◌≡◌, ◌≢◌, ℕ, ◌<◌, ◌≤◌, ◌+◌, ◌-◌, ◌/◌, ◌%◌, ◌^◌, ◌⊎◌, inl, inr, true, List, [], ◌∷◌, length, Option, Some, None, refl, ap, sym, subst, arith}
+use Rattle.std.proofs.Common.{◌≡◌, ◌≢◌, ℕ, ◌<◌, ◌≤◌, ◌+◌, ◌-◌, ◌/◌, ◌%◌, ◌^◌, ◌⊎◌, inl, inr, true, length, Option, Some, None, refl, ap, sym, subst, arith}
 use Rattle.std.proofs.lemmas.Bool.{cases_eq}
 use Rattle.std.proofs.lemmas.Nat.{div-add-mod'}
 use mathlib.Core.Logic.{⊎_elim}
@@ -20,6 +20,7 @@ use Rattle.plan_model.specs.Placement.{region_with, address_in, global_address}
 use Rattle.layout_laws.specs.GlobalLaws.{HasAlignments, GlobalsAreLaid, GlobalsAreHeld}
 use Rattle.layout_laws.specs.RamLaws.{Holds}
 use Rattle.layout_laws.specs.RamPlaces.{block_for}
+use Rattle.layout_laws.proofs.Offsets.{some_global}
 use Rattle.linked_images.specs.Planned.{IsPlanned, plan, planned_sizes}
 use Rattle.linked_images.proofs.Facts.{PlanLaws}
 use Rattle.linked_images.proofs.Powers.{block_is}
@@ -76,10 +77,6 @@ not_monitor ForStack h = absurd h
 not_monitor ForMonitor h = absurd h
 not_monitor (ForRegion r) h = λ e. cc
 not_monitor ForUnwritten h = λ e. cc
-
-some_global : (xs : List ℕ) (x : ℕ) → has xs x ≡ true → 0 < length xs
-some_global [] x h = cc
-some_global (y ∷ ys) x h = omega arith
 
 module _ (law : GlobalLaws) (w : PlainFirmware) (n : Needs) (f : Final) (b : Board) (ok : IsPlanned w n f b) where
   abbrev p : Program

@@ -44,9 +44,6 @@ use Rattle.ir_laws.proofs.GlobalShapes.{global_shaped}
 use Rattle.linked_promises.proofs.FinalRegions as regions
 use Rattle.mem_bus.proofs.Placed.{multiple_aligned as by_four}
 
-grouped : (a b c : ℕ) → a * (b * c) ≡ a * c * b
-grouped a b c = grind arith
-
 shrink : (a n m c k : ℕ) → n ≤ m → AreApart a m c k → AreApart a n c k
 shrink a n m c k h (inl e) = inl (omega (arith, h, e))
 shrink a n m c k h (inr e) = inr e

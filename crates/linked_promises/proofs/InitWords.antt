@@ -28,7 +28,8 @@ use Rattle.linked_images.proofs.Powers.{block_is}
 use Rattle.linked_images.proofs.Ranges.{IsUse, uses, uses_are, filled_for, filled_is, globals_for, block_in, small}
 use Rattle.linked_images.proofs.ReadBack.{ReadLaws}
 use Rattle.linked_images.proofs.AreaEnd.{initial_words_are}
-use Rattle.linked_promises.proofs.WordLists.{IsWord, AreWords, each_map, each_flat, read_words}
+use Rattle.linked_promises.proofs.Lists.{each_map}
+use Rattle.linked_promises.proofs.WordLists.{IsWord, AreWords, each_flat, read_words}
 use Rattle.common_laws.proofs.Lists.{each_of}
 
 -- ---- blocks whose words stand from an address on

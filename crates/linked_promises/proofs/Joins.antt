@@ -1,8 +1,7 @@
 -- What joins do with data regions: of the two, the lower one becomes the region of both, the other one is taken out, and all others stay.
-use Rattle.std.proofs.Common.{◌≡◌, ℕ, zero, suc, ◌<◌, ◌≤◌, ◌+◌, ◌-◌, ◌⊎◌, inl, inr, Bool, true, false, List, [], ◌∷◌, length, map, filter, cond, set, Some, None, nat_lt, refl, ap, sym, ◌∙◌, subst, arith}
-use Rattle.std.specs.List.{range_with_len, best_of}
+use Rattle.std.proofs.Common.{◌≡◌, ℕ, zero, suc, ◌<◌, ◌≤◌, ◌+◌, ◌-◌, ◌⊎◌, inl, inr, Bool, true, false, List, [], ◌∷◌, length, map, filter, cond, set, Some, refl, ap, sym, ◌∙◌, subst, arith}
+use Rattle.std.specs.List.{range_with_len}
 use Rattle.std.proofs.lemmas.Bool.{cases_lt, cases_eq, or_cases}
-use Rattle.std.proofs.lemmas.Option.{same_Some}
 use Rattle.std.proofs.lemmas.List.{get_or-set_same, get_or-set_other, length-set}
 use Rattle.std.proofs.lemmas.List.Edits.{length-remove, get_or-remove_below, get_or-remove_above}
 use mathlib.Core.Logic.{⊎_elim}
@@ -11,13 +10,14 @@ use Rattle.ir_model.specs.Resolved.{Program}
 use Rattle.plan_model.specs.declared.graph.Region.{Region}
 use Rattle.plan_model.specs.declared.graph.Graph.{Graph}
 use Rattle.plan_model.specs.Lists.{has}
-use Rattle.plan_model.specs.Choices.{Pair, pairs, cheapest}
+use Rattle.plan_model.specs.Choices.{Pair, pairs}
 use Rattle.plan_model.specs.Regions.{region_at, no_region, is_user, regions_used}
 use Rattle.plan_model.specs.Merging.{joined_region, with_joined_region, region_cost, region_pair, next}
 use Rattle.plan_model.specs.FinalGraph.{Merges, stays, joins}
 use Rattle.region_graph.proofs.UsersHave.{has_union}
 use Rattle.linked_promises.proofs.Kept.{by_next}
-use Rattle.linked_promises.proofs.Lists.{each_behind}
+use Rattle.linked_promises.proofs.CoverParts.{cheapest_is}
+use Rattle.common_laws.proofs.Lists.{each_both}
 
 -- ---- the pair that is joined
 
@@ -49,25 +49,12 @@ all_rising test a (suc n) high h = by (test a) (all_rising test (a + 1) n high (
     stronger (m ∷ ms) e = let l = e.0.0 in ((omega (arith, l), e.0.1), stronger ms e.1)
 
     by : (b : Bool) → areas.Each (IsRising high) (pairs rest) → areas.Each (IsRising high) (pairs (cond b (a ∷ rest) rest))
-    by true ih = each_behind (IsRising high) (map (λ (m : ℕ). record { first = a; second = m }) rest) (pairs rest) (paired a high rest (stronger rest (kept_between test (a + 1) high (a + 1) n (omega arith) (omega arith)))) ih
+    by true ih = each_both (IsRising high) (map (λ (m : ℕ). record { first = a; second = m }) rest) (pairs rest) (paired a high rest (stronger rest (kept_between test (a + 1) high (a + 1) n (omega arith) (omega arith)))) ih
     by false ih = ih
-
-module _ {X : Type 0} (P : X → Type 0) (cost : X → ℕ) where
-  best_among : (x : X) (xs : List X) → P x → areas.Each P xs → P (best_of (λ y best. nat_lt (cost y) (cost best)) x xs)
-  best_among x [] h hs = h
-  best_among x (y ∷ xs) h hs = best_among (cond (nat_lt (cost y) (cost x)) y x) xs (pick (nat_lt (cost y) (cost x))) hs.1
-    where
-      pick : (t : Bool) → P (cond t y x)
-      pick true = hs.0
-      pick false = h
-
-  cheapest_among : (xs : List X) (q : X) → areas.Each P xs → cheapest cost xs ≡ Some q → P q
-  cheapest_among [] q e h = absurd (let wrong : None ≡ Some q = h in cc)
-  cheapest_among (x ∷ xs) q e h = subst P (same_Some (best_of (λ y best. nat_lt (cost y) (cost best)) x xs) q h) (best_among x xs e.0 e.1)
 
 pub pair_rising : (p : Program) (rs : List Region) (c : ℕ) (q : Pair) → region_pair p rs c ≡ Some q → IsRising (length rs) q
 pair_rising p rs c q e =
-    cheapest_among (IsRising (length rs)) (region_cost p rs) (pairs (regions_used rs c)) q
+    cheapest_is (IsRising (length rs)) (region_cost p rs) (pairs (regions_used rs c)) q
     (all_rising (λ r. is_user c (region_at rs r)) 0 (length rs) (length rs) (omega arith)) e
 
 -- ---- where each region stands then

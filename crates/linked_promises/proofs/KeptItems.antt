@@ -1,9 +1,9 @@
 -- What is done with lists keeps what each item has.
-use Rattle.std.proofs.Common.{ℕ, zero, suc, Bool, true, false, not, List, [], ◌∷◌, map, filter, get_or, set, take, drop, cond}
+use Rattle.std.proofs.Common.{ℕ, zero, suc, Bool, true, false, not, List, [], ◌∷◌, filter, get_or, set, take, drop, cond}
 use Rattle.std.specs.List.{remove}
 use Rattle.common_laws.specs.Lists.{Each}
 use Rattle.plan_model.specs.Lists.{distinct}
-use Rattle.common_laws.proofs.Lists.{each_both}
+use Rattle.common_laws.proofs.Lists.{each_both, each_drop, each_take}
 
 module _ {X : Type 0} (P : X → Type 0) where
   pub each_filter : (test : X → Bool) (xs : List X) → Each P xs → Each P (filter test xs)
@@ -23,24 +23,10 @@ module _ {X : Type 0} (P : X → Type 0) where
   each_set (x ∷ xs) zero v h e = (h, e.1)
   each_set (x ∷ xs) (suc k) v h e = (e.0, each_set xs k v h e.1)
 
-  each_take : (k : ℕ) (xs : List X) → Each P xs → Each P (take k xs)
-  each_take zero xs e = tt
-  each_take (suc k) [] e = tt
-  each_take (suc k) (x ∷ xs) e = (e.0, each_take k xs e.1)
-
-  each_drop : (k : ℕ) (xs : List X) → Each P xs → Each P (drop k xs)
-  each_drop zero xs e = e
-  each_drop (suc k) [] e = tt
-  each_drop (suc k) (x ∷ xs) e = each_drop k xs e.1
-
   pub each_remove : (xs : List X) (k : ℕ) → Each P xs → Each P (remove xs k)
-  each_remove xs k e = each_both P (take k xs) (drop (suc k) xs) (each_take k xs e) (each_drop (suc k) xs e)
+  each_remove xs k e = each_both P (take k xs) (drop (suc k) xs) (each_take P k xs e) (each_drop P (suc k) xs e)
 
   pub each_or : (xs : List X) (k : ℕ) (d : X) → P d → Each P xs → P (get_or xs k d)
   each_or [] k d h e = h
   each_or (x ∷ xs) zero d h e = e.0
   each_or (x ∷ xs) (suc k) d h e = each_or xs k d h e.1
-
-pub each_mapped : {X Y : Type 0} (P : Y → Type 0) (f : X → Y) (Q : X → Type 0) → ((x : X) → Q x → P (f x)) → (xs : List X) → Each Q xs → Each P (map f xs)
-each_mapped P f Q h [] e = tt
-each_mapped P f Q h (x ∷ xs) e = (h x e.0, each_mapped P f Q h xs e.1)

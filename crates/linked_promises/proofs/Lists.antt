@@ -1,5 +1,5 @@
 -- What holds of each item of a list, of one of them, and of numbers that pass a test.
-use Rattle.std.proofs.Common.{◌≡◌, ℕ, zero, suc, ◌<◌, ◌≤◌, ◌+◌, Bool, true, false, ◌&&◌, ◌||◌, List, [], ◌∷◌, ◌++◌, length, filter, cond, get_or, nat_eq, refl, ◌∙◌, subst, eq-eqb, eqb-true, arith}
+use Rattle.std.proofs.Common.{◌≡◌, ℕ, zero, suc, ◌<◌, ◌≤◌, ◌+◌, Bool, true, false, ◌&&◌, ◌||◌, List, [], ◌∷◌, length, map, filter, cond, get_or, nat_eq, refl, ◌∙◌, subst, eq-eqb, eqb-true, arith}
 use Rattle.std.specs.List.{list_any, range_with_len}
 use Rattle.thread_runs.specs.Areas as areas
 use Rattle.plan_model.specs.Lists.{has, numbers_below}
@@ -9,14 +9,6 @@ use Rattle.plan_model.proofs.Numbers.{one_passes}
 
 -- ---- each item
 
-pub each_behind : {X : Type 0} (P : X → Type 0) (xs ys : List X) → areas.Each P xs → areas.Each P ys → areas.Each P (xs ++ ys)
-each_behind P [] ys e h = h
-each_behind P (x ∷ xs) ys e h = (e.0, each_behind P xs ys e.1 h)
-
-pub each_weaker : {X : Type 0} (P Q : X → Type 0) (xs : List X) → ((x : X) → P x → Q x) → areas.Each P xs → areas.Each Q xs
-each_weaker P Q [] h e = tt
-each_weaker P Q (x ∷ xs) h e = (h x e.0, each_weaker P Q xs h e.1)
-
 pub each_passing : {X : Type 0} (P Q : X → Type 0) (test : X → Bool) (xs : List X) → ((x : X) → P x → test x ≡ true → Q x) → areas.Each P xs → areas.Each Q (filter test xs)
 each_passing P Q test [] h e = tt
 each_passing P Q test (x ∷ xs) h e = by (test x) refl (each_passing P Q test xs h e.1)
@@ -25,10 +17,9 @@ each_passing P Q test (x ∷ xs) h e = by (test x) refl (each_passing P Q test x
     by true t ih = (h x e.0 t, ih)
     by false t ih = ih
 
-pub each_at : {X : Type 0} (P : X → Type 0) (d : X) (xs : List X) → areas.Each P xs → (k : ℕ) → k < length xs → P (get_or xs k d)
-each_at P d [] e k l = absurd (omega arith)
-each_at P d (x ∷ xs) e zero l = e.0
-each_at P d (x ∷ xs) e (suc k) l = each_at P d xs e.1 k (omega arith)
+pub each_map : {X Y : Type 0} (P : Y → Type 0) (f : X → Y) (Q : X → Type 0) (xs : List X) → ((x : X) → Q x → P (f x)) → areas.Each Q xs → areas.Each P (map f xs)
+each_map P f Q [] h e = tt
+each_map P f Q (x ∷ xs) h e = (h x e.0, each_map P f Q xs h e.1)
 
 pub below_all : (a m k : ℕ) → a + m ≤ k → areas.Each (λ j. j < k) (range_with_len a m)
 below_all a zero k l = tt

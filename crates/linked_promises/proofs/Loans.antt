@@ -2,6 +2,7 @@
 use Rattle.std.proofs.Common.{◌≡◌, ℕ, ◌<◌, ◌≤◌, ◌+◌, Bool, true, false, not, ◌&&◌, ◌||◌, List, [], ◌∷◌, length, get_or, cond, position, Option, Some, None, option_map, nat_eq, nat_lt, refl, ap, ◌∙◌, eq-eqb, eqb-true, ltb-false, lt-ltb, le-ltb, lit<, arith}
 use Rattle.std.specs.Bool.{then_some}
 use Rattle.std.specs.Int.{bit_at}
+use Rattle.std.proofs.Math.Nat.{zero-add}
 use Rattle.std.proofs.lemmas.List.{get_or-map, length-map}
 use Rattle.std.proofs.lemmas.List.FromFn.{get_or-map-range_with_len}
 use Rattle.std.proofs.lemmas.List.Quantifiers.{position-Some}
@@ -104,12 +105,9 @@ module _ (p : Program) (n : Needs) (g : Groups) (h l k : ℕ) (is : IsLent n g h
 
 -- ---- masks
 
-from_zero : (c : ℕ) → 0 + c ≡ c
-from_zero c = omega arith
-
 pub record_of : (p : Program) (n : Needs) (f : Final) (l : Plan) (b : Board) (c : ℕ) → c < f.groups.count → compartment_at (tables_of p n f l b) c ≡ comp_record p f l (slots_of b) c
 unfolding tables_of
-record_of p n f l b c m = get_or-map-range_with_len (comp_record p f l (slots_of b)) 0 f.groups.count c c nobody m (from_zero c)
+record_of p n f l b c m = get_or-map-range_with_len (comp_record p f l (slots_of b)) 0 f.groups.count c c nobody m (zero-add c)
 
 kept_is : (f : Final) (masks : List ℕ) (c : ℕ) → nat_lt 1 f.groups.count ≡ true → kept_mask f masks c ≡ get_or masks c 0
 kept_is f masks c m = ap (λ b. cond b (get_or masks c 0) 0) m
@@ -119,13 +117,13 @@ module _ (p : Program) (n : Needs) (f : Final) (slots : ℕ) (final : IsFinal p 
   unfolding initial_graph
   mask_kept =
       let k = kept_final p slots (initial_graph p n f.groups) f final in
-      ap (λ ms. get_or ms c 0) k.masks ∙ get_or-map-range_with_len (mask_of n f.groups) 0 f.groups.count c c 0 below (from_zero c)
+      ap (λ ms. get_or ms c 0) k.masks ∙ get_or-map-range_with_len (mask_of n f.groups) 0 f.groups.count c c 0 below (zero-add c)
 
   reads_kept : get_or f.reads c 0 ≡ read_mask_of n f.groups c
   unfolding initial_graph
   reads_kept =
       let k = kept_final p slots (initial_graph p n f.groups) f final in
-      ap (λ ms. get_or ms c 0) k.reads ∙ get_or-map-range_with_len (read_mask_of n f.groups) 0 f.groups.count c c 0 below (from_zero c)
+      ap (λ ms. get_or ms c 0) k.reads ∙ get_or-map-range_with_len (read_mask_of n f.groups) 0 f.groups.count c c 0 below (zero-add c)
 
 at_local : (does : ℕ × ℕ → Bool) (n : Needs) (g : Groups) (h l k : ℕ) → IsLent n g h l k → (P : ℕ → ℕ → Bool) → ((x : ℕ × ℕ) → does x ≡ P x.0 x.1) → P h l ≡ true → does (get_or n.lendable k (0, 0)) ≡ true
 at_local does n g h l k is P same t =

@@ -3,18 +3,18 @@ use Rattle.std.proofs.Common.{◌≡◌, ℕ, suc, ◌<◌, ◌≤◌, ◌+◌, 
 use Rattle.ir_model.specs.Types.{width_of}
 use Rattle.ir_model.specs.Layout.{CellPlace, Shape, empty}
 use Rattle.ir_laws.specs.Laws.{IsLaidOut}
-use Rattle.ir_laws.proofs.Layouts.{positive_width}
+use Rattle.ir_laws.proofs.Layouts.{positive_width, last_end}
 use Rattle.thread_runs.specs.Areas.{Area, Beside, Laid}
 use Rattle.common_laws.specs.Lists.{Each}
 use Rattle.relation.specs.Relation.{cells_at, objects_at}
-use Rattle.linked_promises.proofs.Lists.{each_behind, each_weaker}
+use Rattle.common_laws.proofs.Lists.{each_both, each_to}
 
 -- ---- lists of areas
 
 -- of two lists, each of the one keeps off each of the other
 laid_behind : (cs ds : List Area) → Laid cs → Laid ds → Each (λ c. Each (Beside c) ds) cs → Laid (cs ++ ds)
 laid_behind [] ds l m e = m
-laid_behind (c ∷ cs) ds l m e = (each_behind (Beside c) cs ds l.0 e.0, laid_behind cs ds l.1 m e.1)
+laid_behind (c ∷ cs) ds l m e = (each_both (Beside c) cs ds l.0 e.0, laid_behind cs ds l.1 m e.1)
 
 -- ---- one object
 
@@ -29,26 +29,22 @@ cells_in o from to [] h = tt
 cells_in o from to (c ∷ cs) h =
     let start = h.0 in
     let rest = cells_in o (c.at + width_of c.ty) to cs h.1 in
-    let room = ends (c.at + width_of c.ty) to cs h.1 in
+    let room = last_end (c.at + width_of c.ty) to cs h.1 in
     let some = positive_width c.ty in (
       (omega (arith, start), omega (arith, room), some),
-      each_weaker (λ (d : Area). (o + (c.at + width_of c.ty) ≤ d.at) × (d.at + d.width ≤ o + to) × (0 < d.width)) (λ (d : Area). (o + from ≤ d.at) × (d.at + d.width ≤ o + to) × (0 < d.width)) (cells_at o cs)
+      each_to (λ (d : Area). (o + (c.at + width_of c.ty) ≤ d.at) × (d.at + d.width ≤ o + to) × (0 < d.width)) (λ (d : Area). (o + from ≤ d.at) × (d.at + d.width ≤ o + to) × (0 < d.width)) (cells_at o cs)
           (λ d i. let low = i.0 in (omega (arith, low, start), i.1, i.2)) rest,
     )
-  where
-    ends : (from to : ℕ) (cs : List CellPlace) → IsLaidOut from to cs → from ≤ to
-    ends from to [] h = h
-    ends from to (c ∷ cs) h = let start = h.0 in let rest = ends (c.at + width_of c.ty) to cs h.1 in omega (arith, start, rest)
 
 pub cells_inside : (o size : ℕ) (cs : List CellPlace) → IsLaidOut 0 size cs → Each (IsIn o size) (cells_at o cs)
 cells_inside o size cs h =
-    each_weaker (λ (c : Area). (o + 0 ≤ c.at) × (c.at + c.width ≤ o + size) × (0 < c.width)) (IsIn o size) (cells_at o cs)
+    each_to (λ (c : Area). (o + 0 ≤ c.at) × (c.at + c.width ≤ o + size) × (0 < c.width)) (IsIn o size) (cells_at o cs)
     (λ c i. let low = i.0 in record { low = omega (arith, low); high = i.1; some = i.2 }) (cells_in o 0 size cs h)
 
 pub cells_laid : (o from to : ℕ) (cs : List CellPlace) → IsLaidOut from to cs → Laid (cells_at o cs)
 cells_laid o from to [] h = tt
 cells_laid o from to (c ∷ cs) h = (
-  each_weaker (λ (d : Area). (o + (c.at + width_of c.ty) ≤ d.at) × (d.at + d.width ≤ o + to) × (0 < d.width)) (Beside (record { at = o + c.at; width = width_of c.ty })) (cells_at o cs)
+  each_to (λ (d : Area). (o + (c.at + width_of c.ty) ≤ d.at) × (d.at + d.width ≤ o + to) × (0 < d.width)) (Beside (record { at = o + c.at; width = width_of c.ty })) (cells_at o cs)
       (λ d i. let low = i.0 in inl (omega (arith, low))) (cells_in o (c.at + width_of c.ty) to cs h.1),
   cells_laid o (c.at + width_of c.ty) to cs h.1,
 )
@@ -61,7 +57,7 @@ pub each_object : (P : Area → Type 0) (ss : List ℕ) (hs : List Shape)
 each_object P [] hs e = tt
 each_object P (s ∷ ss) [] e = tt
 each_object P (s ∷ ss) (h ∷ hs) e =
-    each_behind P (cells_at (0 + s) h.cells) (objects_at 0 ss hs) (e 0 (omega arith) (omega arith)) (each_object P ss hs (λ x l m. e (suc x) (omega arith) (omega arith)))
+    each_both P (cells_at (0 + s) h.cells) (objects_at 0 ss hs) (e 0 (omega arith) (omega arith)) (each_object P ss hs (λ x l m. e (suc x) (omega arith) (omega arith)))
 
 -- one of a list of areas
 data Among (c : Area) : List Area → Type 0 where

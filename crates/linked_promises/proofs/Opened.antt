@@ -1,5 +1,5 @@
 -- The globals that a compartment needs are open to it.
-use Rattle.std.proofs.Common.{◌≡◌, ℕ, ◌<◌, ◌≤◌, ◌+◌, Bool, true, false, ◌||◌, [], length, map, get_or, refl, ap, ◌∙◌, arith}
+use Rattle.std.proofs.Common.{◌≡◌, ℕ, ◌<◌, ◌≤◌, ◌+◌, true, [], length, map, get_or, ap, ◌∙◌, arith}
 use Rattle.std.specs.List.{list_any}
 use Rattle.std.proofs.lemmas.List.{length-map, length-append}
 use Rattle.std.proofs.lemmas.Bool.{or_left, or_right}
@@ -44,10 +44,6 @@ use Rattle.linked_promises.proofs.Lists.{passing_among, each_passing, below_all}
 use Rattle.linked_promises.proofs.FinalRegions as regions
 use Rattle.linked_promises.proofs.GlobalPlaces.{GlobalLaws, address, aligns}
 use Rattle.linked_promises.proofs.DataSlots.{written_data, borne_data}
-
-or_middle : (x y z : Bool) → y ≡ true → (x || (y || z)) ≡ true
-or_middle true y z e = refl
-or_middle false y z e = ap (λ c. c || z) e
 
 -- each compartment has no more regions and covers than slots
 abbrev pub FitsSlots : Type 0
@@ -111,11 +107,12 @@ module _ (law : SlotLaws) (w : PlainFirmware) (n : Needs) (f : Final) (b : Board
     region_loads : is_user c (region_at f.regions r) ≡ true → may_load (planned_image w n f b) (planned_tables w n f b) c a ≡ true
     unfolding may_load
     region_loads user =
-        or_middle _ (list_any (λ (g : Region). holds g a) (compartment_at (planned_tables w n f b) c).slots) _
+        or_right _ _
+        (or_left (list_any (λ (g : Region). holds g a) (compartment_at (planned_tables w n f b) c).slots) _
         (ap (list_any (λ (g : Region). holds g a)) (slots_at c there)
         ∙ borne_holds a (slot_uses p f l c) 4 (slots_of b)
         (borne_data law.globals law.held law.opened law.given w n f b ok c a r region it (regions_used f.regions c) (get_or f.covers c []) (used user))
-        (uses_few c there) slots_are.1)
+        (uses_few c there) slots_are.1))
 
   -- ---- a function's needs
 

@@ -16,7 +16,8 @@ use Rattle.plan_model.specs.FinalGraph.{Merges, stays, joins, IsFinal}
 use Rattle.plan_model.specs.Groups.{reads}
 use Rattle.ir_model.specs.declared.object.ObjId.TheVariants.{Global}
 use Rattle.linked_promises.proofs.Kept.{by_next}
-use Rattle.linked_promises.proofs.KeptItems.{each_filter, each_distinct, each_set, each_remove, each_or, each_mapped}
+use Rattle.linked_promises.proofs.KeptItems.{each_filter, each_distinct, each_set, each_remove, each_or}
+use Rattle.linked_promises.proofs.Lists.{each_map}
 use Rattle.common_laws.proofs.Lists.{each_of as each_anyway}
 
 -- ---- no readers
@@ -28,10 +29,10 @@ first_unread : (p : Program) (n : Needs) (g : Groups) → n.closed ≡ false →
 first_unread p n g open_board =
     let Q : Users → Type 0 = λ (u : Users). u.readers ≡ [] in
     let none : (x : ℕ) → Q (users_of n g x) = λ x. ap (λ b. cond b (compartments_that g (λ c. reads n g c (Global x))) []) open_board in
-    each_mapped IsUnread (region_for p n g) Q (λ u e. e) (kinds_of_users p n g)
+    each_map IsUnread (region_for p n g) Q (kinds_of_users p n g) (λ u e. e)
     (each_distinct Q same_users (filter has_users (map (users_of n g) (numbers_below (length p.globals))))
     (each_filter Q has_users (map (users_of n g) (numbers_below (length p.globals)))
-    (each_mapped Q (users_of n g) (λ x. Unit {0}) (λ x t. none x) (numbers_below (length p.globals)) (each_anyway (λ x. Unit {0}) (λ x. tt) (numbers_below (length p.globals))))))
+    (each_map Q (users_of n g) (λ x. Unit {0}) (numbers_below (length p.globals)) (λ x t. none x) (each_anyway (λ x. Unit {0}) (λ x. tt) (numbers_below (length p.globals))))))
 
 join_unread : (a b : Region) → IsUnread a → IsUnread b → IsUnread (joined_region a b)
 join_unread a b e g = ap₂ union e g

@@ -12,7 +12,9 @@ use Rattle.plan_model.specs.Lists.{numbers_below}
 use Rattle.plan_model.specs.Calls.{CallPlace, calls_from, calls_of, call_places, IsSiteOf}
 use Rattle.plan_model.specs.Needs.{AreNeeds}
 use Rattle.plan_model.specs.Crossing.{crosses, crossing_sites}
-use Rattle.linked_promises.proofs.WordLists.{each_below, each_flat, each_kept}
+use Rattle.linked_promises.proofs.KeptItems.{each_filter}
+use Rattle.linked_promises.proofs.Lists.{below_all}
+use Rattle.linked_promises.proofs.WordLists.{each_flat}
 use Rattle.common_laws.proofs.Lists.{each_of}
 
 abbrev IsOf : ℕ → CallPlace → Type 0
@@ -45,7 +47,7 @@ module _ (p : Program) where
 
   calls_inside : Each IsInside (call_places p)
   calls_inside =
-      each_flat IsInside (calls_of p) (λ f. f < length p.funcs) (λ f l. in_function f l) (numbers_below (length p.funcs)) (each_below 0 (length p.funcs) (length p.funcs) (omega arith))
+      each_flat IsInside (calls_of p) (λ f. f < length p.funcs) (λ f l. in_function f l) (numbers_below (length p.funcs)) (below_all 0 (length p.funcs) (length p.funcs) (omega arith))
     where
       turn : (f : ℕ) → f < length p.funcs → (cs : List CallPlace) → Each (IsOf f) cs → Each IsInside cs
       turn f l [] e = tt
@@ -58,5 +60,5 @@ module _ (p : Program) where
 
   pub sites_inside : (S : ObjectSets) (closed : Bool) (n : Needs) (g : Groups) → AreNeeds p S closed n → Each (λ (s : SiteNeed). s.func < length p.funcs) (crossing_sites n g)
   sites_inside S closed n g are =
-      each_kept (λ (s : SiteNeed). s.func < length p.funcs) (crosses g) n.sites
+      each_filter (λ (s : SiteNeed). s.func < length p.funcs) (crosses g) n.sites
       (zipped (IsSiteOf p S) IsInside (λ (s : SiteNeed). s.func < length p.funcs) (λ c s i l. let e = i.func in omega (arith, e, l)) (call_places p) n.sites are.sites calls_inside)

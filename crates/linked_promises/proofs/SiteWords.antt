@@ -34,7 +34,8 @@ use Rattle.linked_images.proofs.ReadBack.{ReadLaws, code_length, code_fits}
 use Rattle.linked_images.proofs.Limits.{few}
 use Rattle.linked_images.proofs.TablesPass.{some}
 use Rattle.linked_promises.proofs.Compartments.{in_compartment}
-use Rattle.linked_promises.proofs.WordLists.{IsWord, AreWords, each_map, each_flat}
+use Rattle.linked_promises.proofs.Lists.{each_map}
+use Rattle.linked_promises.proofs.WordLists.{IsWord, AreWords, each_flat}
 use Rattle.linked_promises.proofs.CodeEnds.{site_reaches, entry_reaches, function_reaches}
 use Rattle.linked_promises.proofs.SiteNeeds.{sites_inside}
 use Rattle.common_laws.proofs.Lists.{each_of}

@@ -45,9 +45,9 @@ use Rattle.link_model.specs.LinkedTables.{tables_of, comp_record}
 use Rattle.linked_images.specs.Planned.{IsPlanned, plan, planned_sizes, planned_tables}
 use Rattle.linked_images.proofs.Ranges.{globals_for}
 use Rattle.linked_promises.specs.Permissions.{IsOf, IsByteOf, IsOnPeripherals, IsInData, IsPermitted, OnPeripherals, InData, SlotsArePermitted, SlotsHoldPermissions}
-use Rattle.linked_promises.proofs.Lists.{each_behind, each_weaker, each_passing, below_all}
+use Rattle.common_laws.proofs.Lists.{each_both, each_to}
+use Rattle.linked_promises.proofs.Lists.{each_passing, each_map, below_all}
 use Rattle.linked_promises.proofs.Bearing.{use_region}
-use Rattle.linked_promises.proofs.CoverParts.{each_map}
 use Rattle.linked_promises.proofs.CoverWindows.{IsFilled, covers_are_filled, whole_inside}
 use Rattle.linked_promises.proofs.GlobalPlaces.{placed, byte_held, same_or_other}
 use Rattle.linked_promises.proofs.DataSlots.{few_bits, slot_holds}
@@ -59,14 +59,14 @@ use Rattle.linked_promises.proofs.Opened.{SlotLaws, slots_are, slots_at}
 -- what one item has, one of the list has
 each_among : {X : Type 0} (P : X → Type 0) (xs : List X) → areas.Each (λ x. P x → AnyOf P xs) xs
 each_among P [] = tt
-each_among P (x ∷ xs) = (λ h. inl h, each_weaker (λ y. P y → AnyOf P xs) (λ y. P y → AnyOf P (x ∷ xs)) xs (λ y f h. inr (f h)) (each_among P xs))
+each_among P (x ∷ xs) = (λ h. inl h, each_to (λ y. P y → AnyOf P xs) (λ y. P y → AnyOf P (x ∷ xs)) xs (λ y f h. inr (f h)) (each_among P xs))
 
 -- a test that an item passes, some item of the list passes
 each_passes : {X Y : Type 0} (test : Y → X → Bool) (xs : List X) → areas.Each (λ x. (y : Y) → test y x ≡ true → list_any (test y) xs ≡ true) xs
 each_passes test [] = tt
 each_passes {X} {Y} test (x ∷ xs) = (
   λ y e. or_left (test y x) (list_any (test y) xs) e,
-  each_weaker (λ z. (y : Y) → test y z ≡ true → list_any (test y) xs ≡ true) (λ z. (y : Y) → test y z ≡ true → list_any (test y) (x ∷ xs) ≡ true) xs
+  each_to (λ z. (y : Y) → test y z ≡ true → list_any (test y) xs ≡ true) (λ z. (y : Y) → test y z ≡ true → list_any (test y) (x ∷ xs) ≡ true) xs
       (λ z f y e. or_right (test y x) (list_any (test y) xs) (f y e)) (each_passes test xs),
 )
 
@@ -208,7 +208,7 @@ module _ (law : SlotLaws) (windows : WindowsLieApart) (w : PlainFirmware) (n : N
 
     all_serve : areas.Each Serves (slot_uses p f l c)
     all_serve =
-        each_behind Serves (map (data_slot p f l c) (regions_used f.regions c)) (map cover_slot covers)
+        each_both Serves (map (data_slot p f l c) (regions_used f.regions c)) (map cover_slot covers)
         (each_map Serves (data_slot p f l c) (λ r. (r < length f.regions) × (is_user c (region_at f.regions r) ≡ true)) (regions_used f.regions c) data_serves used)
         (each_map Serves cover_slot IsGood covers cover_serves good)
 

@@ -1,6 +1,6 @@
 -- Where addresses of the windows of peripherals lead in the linked image.
-use Rattle.std.proofs.Common.{◌≡◌, ℕ, zero, suc, ◌<◌, ◌≤◌, ◌+◌, ◌-◌, ◌*◌, ◌/◌, ◌%◌, ◌^◌, true, false, not, ◌&&◌, List, [], ◌∷◌, length, map, get_or, nat_lt, refl, ap, sym, ◌∙◌, subst, lt-ltb, arith}
-use Rattle.std.proofs.Math.Nat.{mul-mod_left}
+use Rattle.std.proofs.Common.{◌≡◌, ℕ, zero, suc, ◌<◌, ◌≤◌, ◌+◌, ◌-◌, ◌*◌, ◌/◌, ◌%◌, ◌^◌, inl, true, false, List, [], ◌∷◌, length, map, get_or, refl, ap, sym, ◌∙◌, subst, arith}
+use Rattle.std.proofs.Math.Nat.{mul-mod_left, mul_assoc}
 use Rattle.std.proofs.lemmas.Nat.{div-add-mod', pow-add}
 use Rattle.std.proofs.lemmas.List.{get_or-map, length-map}
 use mathlib.Core.Logic.{⊎_elim}
@@ -21,10 +21,7 @@ use Rattle.linked_images.specs.Planned.{IsPlanned, planned_image}
 use Rattle.linked_images.proofs.Facts.{PlanLaws, length_is, needed_most}
 use Rattle.linked_promises.specs.Parts.{WindowsArePromised}
 use Rattle.linked_promises.proofs.WindowsOpen.{FitsSlots, windows_are_open}
-use Rattle.mem_bus.proofs.Ranges.{outside_behind as behind_it, inside_yes as in_it}
-
-below_it : (base size a : ℕ) → a < base → inside base size a ≡ false
-below_it base size a l = ap (λ b. not b && nat_lt a (base + size)) (lt-ltb a base l)
+use Rattle.mem_bus.proofs.Ranges.{outside_behind as behind_it, inside_yes as in_it, inside_no}
 
 -- ---- among windows
 
@@ -42,15 +39,12 @@ found_in (x ∷ xs) k (suc q) a l before e =
     ∙ (found_in xs (suc k) q a (omega arith) (λ r h. before (suc r) (omega arith)) e
     ∙ ap (λ j. InWindow j (a - (numbered xs q).base)) (let s : suc k + q ≡ k + suc q = omega arith in s))
 
-grouped : (a b c : ℕ) → a * (b * c) ≡ a * b * c
-grouped a b c = grind arith
-
 -- multiples of a multiple
 pub multiple_of : (x c m n : ℕ) → m * c ≡ n → x % n ≡ 0 → x % c ≡ 0
 multiple_of x c m n split e =
     let d = div-add-mod' x n in
     let whole : x ≡ x / n * n = omega (arith, d, e) in
-    ap (λ y. y % c) (whole ∙ (ap (λ z. x / n * z) (sym split) ∙ grouped (x / n) m c)) ∙ mul-mod_left (x / n * m) c
+    ap (λ y. y % c) (whole ∙ (ap (λ z. x / n * z) (sym split) ∙ sym (mul_assoc (x / n) m c))) ∙ mul-mod_left (x / n * m) c
 
 pub power_split : (k j : ℕ) → j ≤ k → 2 ^ (k - j) * 2 ^ j ≡ 2 ^ k
 power_split k j l = sym (pow-add 2 (k - j) j) ∙ ap (λ i. 2 ^ i) (let s : k - j + j ≡ k = omega (arith, l) in s)
@@ -73,7 +67,7 @@ module _ (law : PlanLaws) (apart : WindowsLieApart) (w : PlainFirmware) (n : Nee
       → inside (window_at (resolve w) r).base (window_at (resolve w) r).size a ≡ false
   alone q r a l h from to =
       let one = window_at (resolve w) r in
-      ⊎_elim (λ le. below_it one.base one.size a (omega (arith, le, from, to))) (λ le. behind_it one.base one.size a (omega (arith, le, from, to)))
+      ⊎_elim (λ le. inside_no one.base one.size a (inl (omega (arith, le, from, to)))) (λ le. behind_it one.base one.size a (omega (arith, le, from, to)))
       (windows.apart q r l (omega arith) (λ e. omega (arith, e, h)))
 
   leads : (q at : ℕ) → q < length (resolve w).periphs → at < (window_at (resolve w) q).size → place (planned_image w n f b) ((window_at (resolve w) q).base + at) ≡ InWindow q at

@@ -1,17 +1,14 @@
 -- The windows of the peripherals that a compartment needs are open to it.
-use Rattle.std.proofs.Common.{◌≡◌, ℕ, zero, suc, ◌<◌, ◌≤◌, ◌+◌, ◌-◌, ◌/◌, ◌%◌, inl, inr, Bool, true, false, ◌&&◌, ◌||◌, List, [], ◌∷◌, length, map, filter, get_or, cond, nat_eq, nat_lt, nat_le, refl, ap, sym, ◌∙◌, subst, eq-eqb, lit<, arith}
-use Rattle.std.specs.List.{list_any, Contains, range_with_len}
+use Rattle.std.proofs.Common.{◌≡◌, ℕ, ◌<◌, ◌≤◌, ◌+◌, ◌-◌, ◌/◌, ◌%◌, inl, inr, Bool, true, false, ◌&&◌, ◌||◌, List, [], ◌∷◌, length, map, filter, get_or, nat_eq, nat_lt, nat_le, refl, ap, ◌∙◌, subst, eq-eqb, lit<, arith}
+use Rattle.std.specs.List.{list_any, Contains}
 use Rattle.std.proofs.Math.Pow.{pow_mono}
-use Rattle.std.proofs.lemmas.Bool.{leb-true, le-leb, and_from as both}
+use Rattle.std.proofs.lemmas.Bool.{leb-true, le-leb, and_from as both, or_left, or_right}
 use Rattle.std.proofs.lemmas.Nat.Bits.{bit_at-zero}
 use Rattle.std.proofs.lemmas.List.{length-map, length-append}
 use Rattle.std.proofs.lemmas.List.Folds.{list_any-from_Any}
-use Rattle.std.proofs.lemmas.List.FromFn.{get_or-map-range_with_len, length-map-range_with_len}
-use Rattle.std.proofs.lemmas.List.{get_or_past}
-use Rattle.std.proofs.lemmas.Bool.{cases_lt}
+use Rattle.std.proofs.lemmas.List.FromFn.{get_or-map-range_with_len}
 use mathlib.Core.Logic.{⊎_elim}
 use Rattle.mpu_model.specs.declared.region.Region.{Region}
-use Rattle.mpu_model.specs.declared.region.Access.TheVariants.{Write}
 use Rattle.mpu_model.specs.declared.words.Rights.TheVariants.{Device}
 use Rattle.mpu_model.specs.Regions.{holds}
 use Rattle.mpu_model.specs.Laws.{RegionsHoldTheirBlocks, RegionsGiveTheirRights}
@@ -22,7 +19,7 @@ use Rattle.ir_model.specs.Resolve.{resolve}
 use Rattle.ir_model.specs.Resolved.{Program, window_at}
 use Rattle.ir_model.specs.State.{PeriphObject}
 use Rattle.ir_laws.specs.Sets.{ObjectSets, IsRead, IsWritten}
-use Rattle.ir_laws.specs.Limits.{HasWindows, WindowsLieApart}
+use Rattle.ir_laws.specs.Limits.{WindowsLieApart}
 use Rattle.plan_model.specs.declared.needs.Needs.{Needs}
 use Rattle.plan_model.specs.declared.groups.Groups.{Groups}
 use Rattle.plan_model.specs.declared.graph.Cover.{Cover}
@@ -45,9 +42,10 @@ use Rattle.monitor.specs.Setting.{may_load, may_store, allows_stores}
 use Rattle.mpu_model.specs.Protection.{deciding}
 use Rattle.linked_images.specs.Planned.{IsPlanned, plan, planned_tables, planned_image}
 use Rattle.linked_promises.specs.Parts.{WindowsAreOpen}
-use Rattle.linked_promises.proofs.Bearing.{Bears, Lets, Harmless, Borne, here, there, Written, this, behind, written_behind, borne_holds, written_stores}
+use Rattle.linked_promises.proofs.Bearing.{Bears, Borne, here, there, Written, this, behind, written_behind, borne_holds, written_stores, cover_lets, covers_harmless}
 use Rattle.linked_promises.proofs.Covers.{stays_all}
-use Rattle.linked_promises.proofs.CoverParts.{IsPart, AreParts, parts_all, each_in_order, each_map}
+use Rattle.linked_promises.proofs.CoverParts.{IsPart, AreParts}
+use Rattle.linked_promises.proofs.CoverSlots.{covers_are_parts}
 use Rattle.linked_promises.proofs.Compartments.{in_compartment}
 use Rattle.linked_promises.proofs.Reach.{one_of}
 use Rattle.linked_promises.proofs.Loans.{record_of}
@@ -93,52 +91,15 @@ module _ (p : Program) (n : Needs) (g : Groups) (c : ℕ) where
       ∙ one_passes (λ r. uses n g c r && is_inside (cover_of p q) (cover_of p r)) q (length p.periphs) l
       (both (uses n g c q) (is_inside (cover_of p q) (cover_of p q)) u (inside_itself (cover_of p q)))))
 
-  window_part : HasWindows p → (q : ℕ) → q < length p.periphs → IsPart (cover_of p q)
-  window_part h q l =
-      let i = h.each q l in
-      let k = i.power in
-      let m = k.2 in
-      record { power = k.0; least = k.1; most = omega (arith, m); size = k.3; aligned = subst (λ s. (window_at p q).base % s ≡ 0) k.3 i.aligned; from = i.place.0; to = i.place.1 }
-
-  below_all : (a m : ℕ) (k : ℕ) → a + m ≤ k → areas.Each (λ j. j < k) (range_with_len a m)
-  below_all a zero k l = tt
-  below_all a (suc m) k l = (omega arith, below_all (a + 1) m k (omega arith))
-
-  each_kept : {X : Type 0} (P : X → Type 0) (test : X → Bool) (xs : List X) → areas.Each P xs → areas.Each P (filter test xs)
-  each_kept P test [] e = tt
-  each_kept P test (x ∷ xs) e = by (test x) (each_kept P test xs e.1)
-    where
-      by : (b : Bool) → areas.Each P (filter test xs) → areas.Each P (cond b (x ∷ filter test xs) (filter test xs))
-      by true ih = (e.0, ih)
-      by false ih = ih
-
-  first_parts : HasWindows p → AreParts (covers_of p n g c)
-  first_parts h =
-      each_in_order IsPart (λ (a b : Cover). nat_lt a.base b.base) (map (cover_of p) (filter (uses n g c) (numbers_below (length p.periphs))))
-      (each_map IsPart (cover_of p) (λ j. j < length p.periphs) (filter (uses n g c) (numbers_below (length p.periphs))) (window_part h)
-      (each_kept (λ j. j < length p.periphs) (uses n g c) (numbers_below (length p.periphs)) (below_all 0 (length p.periphs) (length p.periphs) (omega arith))))
-
 -- ---- the final graph
 
-pub first_at : (p : Program) (n : Needs) (g : Groups) (c : ℕ) → c < g.count → get_or (initial_graph p n g).covers c [] ≡ covers_of p n g c
+first_at : (p : Program) (n : Needs) (g : Groups) (c : ℕ) → c < g.count → get_or (initial_graph p n g).covers c [] ≡ covers_of p n g c
 unfolding initial_graph
 first_at p n g c l = get_or-map-range_with_len (covers_of p n g) 0 g.count c c [] l (omega arith)
 
-pub first_past : (p : Program) (n : Needs) (g : Groups) (c : ℕ) → g.count ≤ c → get_or (initial_graph p n g).covers c [] ≡ []
-unfolding initial_graph
-first_past p n g c l =
-    let size = length-map-range_with_len (covers_of p n g) 0 g.count in
-    get_or_past (map (covers_of p n g) (numbers_below g.count)) c [] (omega (arith, size, l))
-
-module _ (p : Program) (n : Needs) (f : Final) (slots : ℕ) (final : IsFinal p n f.groups slots f) (windows : HasWindows p) where
+module _ (p : Program) (n : Needs) (f : Final) (slots : ℕ) (final : IsFinal p n f.groups slots f) where
   covers_are : (c : ℕ) → get_or f.covers c [] ≡ get_or final.last.covers c []
   covers_are c = ap (λ (x : Final). get_or x.covers c []) final.is
-
-  all_parts : (c : ℕ) → AreParts (get_or f.covers c [])
-  all_parts c =
-      subst AreParts (sym (covers_are c))
-      (parts_all p slots (initial_graph p n f.groups) final.last final.reached
-      (λ d. ⊎_elim (λ lt. subst AreParts (sym (first_at p n f.groups d lt)) (first_parts p n f.groups d windows)) (λ le. subst AreParts (sym (first_past p n f.groups d le)) tt) (cases_lt d f.groups.count)) c)
 
   covered : (c q : ℕ) → c < f.groups.count → q < length p.periphs → uses n f.groups c q ≡ true → list_any (is_inside (cover_of p q)) (get_or f.covers c []) ≡ true
   covered c q l m u =
@@ -158,13 +119,6 @@ module _ (held : RegionsHoldTheirBlocks) (given : RegionsGiveTheirRights) (a : �
       (held m d.base d.size 0 Device l (i.power, size) (omega (arith, low, size)) (omega (arith, high, size)) whole (lit< tt) a).1
       (record { from_base = from; below_end = to; not_taken_out = λ g. bit_at-zero ((a - d.base) / (d.size / 8)) })
 
-  cover_lets : (d : Cover) → Lets a (cover_slot d)
-  cover_lets d m l = given m d.base d.size 0 Device (lit< tt) true Write
-
-  rest_harmless : (ds : List Cover) → areas.Each (Harmless a) (map cover_slot ds)
-  rest_harmless [] = tt
-  rest_harmless (d ∷ ds) = ((λ m l. inr (cover_lets d m l)), rest_harmless ds)
-
   inside_parts : (x d : Cover) → is_inside x d ≡ true → x.base ≤ a → a < end_of x → (d.base ≤ a) × (a < d.base + d.size)
   inside_parts x d e from to =
       let parts = and_split (nat_le d.base x.base) (nat_le (end_of x) (end_of d)) e in
@@ -183,7 +137,7 @@ module _ (held : RegionsHoldTheirBlocks) (given : RegionsGiveTheirRights) (a : �
   written_cover x (d ∷ ds) e from to t = by (is_inside x d) refl t (written_cover x ds e.1 from to)
     where
       by : (b : Bool) → is_inside x d ≡ b → (b || list_any (is_inside x) ds) ≡ true → (list_any (is_inside x) ds ≡ true → Written a (map cover_slot ds)) → Written a (cover_slot d ∷ map cover_slot ds)
-      by true i t ih = let h = inside_parts x d i from to in this (cover_bears d e.0 h.0 h.1) (cover_lets d) (rest_harmless ds)
+      by true i t ih = let h = inside_parts x d i from to in this (cover_bears d e.0 h.0 h.1) (cover_lets given a d) (covers_harmless given a ds)
       by false i t ih = behind (ih t)
 
   written_borne : (us : List SlotUse) → Written a us → Borne a us
@@ -220,16 +174,12 @@ module _ (held : RegionsHoldTheirBlocks) (given : RegionsGiveTheirRights) (apart
       let used : uses n f.groups c q ≡ true = one_of f.groups (λ y. has (need_of n y).periphs q) g inn.listed h in
       let windows = apart w is.typed in
       written_behind a (map (data_slot p f (plan w n f b) c) (regions_used f.regions c)) (map cover_slot (get_or f.covers c []))
-      (written_cover held given a (cover_of p q) (get_or f.covers c []) (all_parts p n f (slots_of b) is.final windows c) (omega arith) (omega (arith, s))
-      (covered p n f (slots_of b) is.final windows c q inn.below m used))
+      (written_cover held given a (cover_of p q) (get_or f.covers c []) (covers_are_parts p n f (slots_of b) is.final windows c) (omega arith) (omega (arith, s))
+      (covered p n f (slots_of b) is.final c q inn.below m used))
 
   slots_at : (c : ℕ) → c < f.groups.count → (compartment_at (planned_tables w n f b) c).slots ≡ slots_from 4 (slots_of b) (slot_uses p f (plan w n f b) c)
   unfolding slot_regions
   slots_at c l = ap (λ (r : CompRecord). r.slots) (record_of p n f (plan w n f b) b c l)
-
-  or_middle : (x y z : Bool) → y ≡ true → (x || (y || z)) ≡ true
-  or_middle true y z e = refl
-  or_middle false y z e = ap (λ c. c || z) e
 
   window_loads : (g q j : ℕ) → g < length p.funcs → has (need_of n g).periphs q ≡ true → q < length p.periphs → j < (window_at p q).size
       → may_load (planned_image w n f b) (planned_tables w n f b) (compartment_of f.groups g) ((window_at p q).base + j) ≡ true
@@ -238,9 +188,10 @@ module _ (held : RegionsHoldTheirBlocks) (given : RegionsGiveTheirRights) (apart
       let c = compartment_of f.groups g in
       let a : ℕ = (window_at p q).base + j in
       let inn = in_compartment p f.groups is.groups g l in
-      or_middle _ (list_any (λ (r : Region). holds r a) (compartment_at (planned_tables w n f b) c).slots) _
+      or_right _ _
+      (or_left (list_any (λ (r : Region). holds r a) (compartment_at (planned_tables w n f b) c).slots) _
       (ap (list_any (λ (r : Region). holds r a)) (slots_at c inn.below)
-      ∙ borne_holds a (slot_uses p f (plan w n f b) c) 4 (slots_of b) (written_borne held given a (slot_uses p f (plan w n f b) c) (slots_written g q j l h m s)) (uses_few c inn.below) slots_are.1)
+      ∙ borne_holds a (slot_uses p f (plan w n f b) c) 4 (slots_of b) (written_borne held given a (slot_uses p f (plan w n f b) c) (slots_written g q j l h m s)) (uses_few c inn.below) slots_are.1))
 
   window_stores : (g q j : ℕ) → g < length p.funcs → has (need_of n g).periphs q ≡ true → q < length p.periphs → j < (window_at p q).size
       → may_store (planned_tables w n f b) (compartment_of f.groups g) ((window_at p q).base + j) ≡ true

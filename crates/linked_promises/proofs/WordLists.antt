@@ -1,28 +1,11 @@
 -- Lists of words of 32 bits, and what holds of each item of a list.
-use Rattle.std.proofs.Common.{ℕ, zero, suc, ◌+◌, ◌^◌, ◌<◌, ◌≤◌, Bool, true, false, List, [], ◌∷◌, ◌++◌, map, filter, flat_map, cond, arith}
-use Rattle.std.specs.List.{range_with_len}
+use Rattle.std.proofs.Common.{ℕ, zero, suc, ◌+◌, ◌^◌, ◌<◌, List, [], ◌∷◌, ◌++◌, flat_map}
 use Rattle.words.proofs.Bytes.{read_fits}
 use Rattle.common_laws.specs.Lists.{Each}
 use Rattle.armv7m.specs.Stack.{words_at}
 use Rattle.common_laws.proofs.Lists.{each_both}
 
 -- ---- each item
-
-pub each_map : {X Y : Type 0} (P : Y → Type 0) (f : X → Y) (Q : X → Type 0) (xs : List X) → ((x : X) → Q x → P (f x)) → Each Q xs → Each P (map f xs)
-each_map P f Q [] h e = tt
-each_map P f Q (x ∷ xs) h e = (h x e.0, each_map P f Q xs h e.1)
-
-pub each_kept : {X : Type 0} (P : X → Type 0) (test : X → Bool) (xs : List X) → Each P xs → Each P (filter test xs)
-each_kept P test [] e = tt
-each_kept P test (x ∷ xs) e = by (test x) (each_kept P test xs e.1)
-  where
-    by : (b : Bool) → Each P (filter test xs) → Each P (cond b (x ∷ filter test xs) (filter test xs))
-    by true ih = (e.0, ih)
-    by false ih = ih
-
-pub each_below : (a n m : ℕ) → a + n ≤ m → Each (λ k. k < m) (range_with_len a n)
-each_below a zero m l = tt
-each_below a (suc n) m l = (omega arith, each_below (a + 1) n m (omega arith))
 
 pub each_flat : {X Y : Type 0} (P : Y → Type 0) (f : X → List Y) (Q : X → Type 0) → ((x : X) → Q x → Each P (f x)) → (xs : List X) → Each Q xs → Each P (flat_map f xs)
 each_flat P f Q h [] e = tt

@@ -17,12 +17,13 @@ use Rattle.code_model.specs.Addresses.{addr_code, faddr_code, elem_code, field_c
 use Rattle.code_model.specs.Calls.{args_code, call_code, cross_code, icall_code, icross_code, call_items, icall_items}
 use Rattle.code_model.specs.Entry.{leave_code, enter_code}
 use Rattle.code_model.specs.Templates.{lends_of, entry_items, inst_items, jump_items, test_code, term_items}
-use Rattle.code_model.specs.Sizes.{inst_size, term_size, entry_size, insts_size, block_size, blocks_size, function_size}
+use Rattle.code_model.specs.Sizes.{inst_size, entry_size, block_size, blocks_size, function_size}
 use Rattle.code_model.specs.FunctionCode.{lent, block_pieces, blocks_pieces, blocks_labels, function_items, function_labels}
 use Rattle.code_model.specs.Laws.{SizesHold}
 use Rattle.lower_laws.specs.Reaching.{StandFrom, GoesInside, JumpsInside, FunctionsReach}
 use Rattle.lower_laws.proofs.Reaching.{far-append, plain_near, both_near, half_near, long_near}
 use Rattle.thumb_asm.proofs.Items.{total-append}
+use Rattle.code_model.proofs.FunctionSizes.{block_total}
 use Rattle.code_model.proofs.Labels.{labels_length}
 
 abbrev joined : List (List Item) → List Item
@@ -92,16 +93,6 @@ module _ (hold : SizesHold) (g : NumberedFunc) (q : Places) (first : ℕ) (ps : 
   term_near at (ir.Branch on a b) l h i = branch_near at on a b l h i.0 i.1
   term_near at (ir.Ret r) l h i = plain_near ps at (leave_code (frame_shape g).words (lends_of g q) r)
 
-  block_total : (at b k : ℕ) (is : List NumberedInst) (t : NumberedTerm) →
-      total (joined (block_pieces g q first at b k is t)) ≡ insts_size g q.sites (lent g q) b k is + term_size g (lent g q) t
-  block_total at b k [] t = let h = hold.terms g q first t in let a = total-append (term_items g q first t) [] in omega arith
-  block_total at b k (i ∷ is) t =
-      let next : ℕ = at + inst_size (crosses q.sites b k) i in
-      let h = block_total next b (suc k) is t in
-      let a = total-append (inst_items g q at (site_in q.sites b k) i) (joined (block_pieces g q first next b (suc k) is t)) in
-      let e = hold.insts g q at (site_in q.sites b k) i in
-      omega arith
-
   block_near : (at b k : ℕ) (is : List NumberedInst) (t : NumberedTerm) → low ≤ at → at + total (joined (block_pieces g q first at b k is t)) ≤ high → GoesInside g t →
       first_far ps at (joined (block_pieces g q first at b k is t)) ≡ None
   block_near at b k [] t l h i =
@@ -127,7 +118,7 @@ module _ (hold : SizesHold) (g : NumberedFunc) (q : Places) (first : ℕ) (ps : 
       let parts = flat_map-append (λ (piece : List Item). piece) here rest in
       let s = ap total parts in
       let a = total-append (joined here) (joined rest) in
-      let e = block_total at b 0 x.insts x.term in
+      let e = block_total g q first at b 0 x.insts x.term in
       let m = block_near at b 0 x.insts x.term l (omega arith) (i 0 (omega arith)) in
       let n = blocks_near next (suc b) xs (omega arith) (omega arith) (λ k j. i (suc k) (omega arith)) in
       rw parts (far-append ps at next (joined here) (joined rest) (omega arith) m n)

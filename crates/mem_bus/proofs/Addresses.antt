@@ -1,7 +1,6 @@
 -- Where the addresses of RAM, of flash and of windows lead, on an image that obeys the rules.
 use Rattle.std.proofs.Common.{◌≡◌, ◌<◌, ◌≤◌, ◌⊎◌, inl, inr, ℕ, zero, suc, ◌+◌, ◌-◌, ◌%◌, List, [], ◌∷◌, refl, ap, ◌∙◌, subst, false, length, arith, Some}
 use Rattle.std.specs.Prelude.{slice_get}
-use Rattle.std.proofs.lemmas.Bool.Decides.{nat_tests}
 use Rattle.device_model.specs.declared.image.Image.{Image}
 use Rattle.device_model.specs.declared.image.Window.{Window}
 use Rattle.windows.specs.Ranges.{AreApart}
@@ -16,11 +15,8 @@ place-ram i a l h = rw (inside_yes i.ram_base i.ram_size a l h) refl
 pub place-flash : (i : Image) (a : ℕ) → ObeysRules i → i.flash_base ≤ a → a < i.flash_base + length i.flash → place i a ≡ InFlash (a - i.flash_base)
 unfolding place
 place-flash i a r l h =
-    let apart : inside i.ram_base i.ram_size a ≡ false = before i.ram_base i.ram_size a (omega (arith, r.ram_lowest, r.flash_highest, r.flash_most)) in
+    let apart : inside i.ram_base i.ram_size a ≡ false = inside_no i.ram_base i.ram_size a (inl (omega (arith, r.ram_lowest, r.flash_highest, r.flash_most))) in
     rw (apart, inside_yes i.flash_base (length i.flash) a l h) refl
-  where
-    before : (b s x : ℕ) → x < b → inside b s x ≡ false
-    before b s x g = grind (arith, nat_tests)
 
 -- ---- the addresses of a window
 

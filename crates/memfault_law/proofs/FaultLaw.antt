@@ -43,7 +43,7 @@ use Rattle.monitor_laws.proofs.Fetched.{UnitLaws, page_is_fetched}
 use Rattle.monitor_laws.proofs.Effects.{ticks_of}
 use Rattle.monitor_laws.proofs.Tables.{slots_are}
 use Rattle.monitor_laws.proofs.Placement.{writable}
-use Rattle.monitor_laws.proofs.Off.{core, with_unit, IsOff}
+use Rattle.monitor_laws.proofs.Off.{core, with_unit}
 use Rattle.monitor_laws.proofs.HandlerRule.{HandlerRule, runs_handle}
 use Rattle.memfault_law.specs.FaultLaw.{FaultLaw}
 use Rattle.handler_runs.proofs.Mode.{mode_kept, IsGood, good_while_off}
@@ -92,9 +92,6 @@ module _ (laws : FaultLaws) (i : Image) (t : Tables) (ready : IsReady i t) where
 
   code_in : CodeIn i (i.flash_base + memfault_offset (constants t)) (code (memfault (constants t)))
   code_in = there.has_memfault i t rules ready.behind_page ready.has_page ready.placed.tables_first laws.code_fits slots_most
-
-  good_off : (q : ProtectionState) → IsOff true q → IsGood i q
-  good_off q f = good_while_off i rules q f
 
   module _ (s : State) (b : Block) (u : FaultStatus) (half : ℕ) (inv : InvariantHolds i t b s) (alive : s.ending ≡ None) (fault : IsFault i s u) (holds : u.cfsr ≡ 0x82 → HoldsHalf i s.core.pc half) (opened : is_frame_open by_mpu i s ≡ true) where
     abbrev o : ℕ
@@ -190,10 +187,10 @@ module _ (laws : FaultLaws) (i : Image) (t : Tables) (ready : IsReady i t) where
     outcome = fault_outcome i t b psp memory u.cfsr half
 
     abbrev Ended : Comes → Outcome → Type 0
-    Ended y x = Ends i t ready.placed ready.has_tables (stub_address t) (IsGood i) good_off msp psp u r good_r b o memory psp_is at_fault y x
+    Ended y x = Ends i t ready.placed ready.has_tables (stub_address t) (IsGood i) (good_while_off i rules) msp psp u r good_r b o memory psp_is at_fault y x
 
     given : GivesWithin by_mpu i (IsGood i) (HandlerRule i t) 1730 (memfault (constants t)) [] c0 (Ended outcome)
-    given = memfault_within i t ready.placed ready.has_tables (stub_address t) (IsGood i) good_off msp psp u r good_r b o memory psp_is at_fault in_handler half (low 0) (low 1) (low 2) (low 3) (low 4) (low 5) (low 6) (low 7) refl refl refl small (cause_by fault)
+    given = memfault_within i t ready.placed ready.has_tables (stub_address t) (IsGood i) (good_while_off i rules) msp psp u r good_r b o memory psp_is at_fault in_handler half (low 0) (low 1) (low 2) (low 3) (low 4) (low 5) (low 6) (low 7) refl refl refl small (cause_by fault)
 
     -- ---- its code
 
@@ -255,7 +252,7 @@ module _ (laws : FaultLaws) (i : Image) (t : Tables) (ready : IsReady i t) where
         aligned = at_fault.aligned;
         low = f.low;
         high = let x = f.high in let e = at_fault.is_block.top_is in omega (arith, x, e);
-        ends = subst (λ (n : ℕ). n ≤ stack_end t) at_fault.is_block.top_is (ends i t ready.placed ready.has_tables (stub_address t) (IsGood i) good_off msp psp u r good_r b o memory psp_is at_fault);
+        ends = subst (λ (n : ℕ). n ≤ stack_end t) at_fault.is_block.top_is (ends i t ready.placed ready.has_tables (stub_address t) (IsGood i) (good_while_off i rules) msp psp u r good_r b o memory psp_is at_fault);
       };
       current_in = inv.inv.orderly.current_in;
       saved = length b.saved;

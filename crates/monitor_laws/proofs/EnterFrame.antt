@@ -23,7 +23,7 @@ use Rattle.monitor_laws.proofs.Off.{core, IsOff}
 use Rattle.monitor_laws.proofs.Opened.{Handles}
 use Rattle.monitor_laws.proofs.Placement.{writable}
 use Rattle.monitor_laws.proofs.HandlerWords.{Changed, changed_in, changed_none, InStack, apart_from_block, frame_load_within, frame_store_within}
-use Rattle.monitor_laws.proofs.EnterSave.{beside, stored}
+use Rattle.monitor_laws.proofs.LeaveWords.{beside, stored}
 
 -- the callee's frame at offset fo, of the caller's at offset o
 pub record Framed (link o fo entry : ℕ) (old new : List ℕ) : Type 0 where

@@ -1,5 +1,5 @@
 -- Parts of enter: the return address rises, the caller's words are saved, and the block's words become the callee's.
-use Rattle.std.proofs.Common.{◌≡◌, ℕ, ◌+◌, ◌-◌, ◌*◌, ◌%◌, ◌^◌, ◌<◌, ◌≤◌, ◌⊎◌, inl, inr, true, List, length, refl, ap, ◌∙◌, arith}
+use Rattle.std.proofs.Common.{◌≡◌, ℕ, ◌+◌, ◌-◌, ◌*◌, ◌%◌, ◌^◌, ◌<◌, ◌≤◌, inl, inr, true, List, length, refl, ap, ◌∙◌, arith}
 use Rattle.words.specs.Arithmetic.{add}
 use Rattle.words.specs.Bytes.{read, write}
 use Rattle.device_model.specs.declared.image.Image.{Image}
@@ -10,7 +10,7 @@ use Rattle.gate_steps.specs.Steps.{Steps}
 use Rattle.gate_steps.specs.Core.{Core}
 use Rattle.gate_steps.specs.Effect.{Outcome}
 use Rattle.gate_steps.specs.Safe.{Rule}
-use Rattle.gate_steps.proofs.Gives.{word_same, word_apart, word_fits}
+use Rattle.gate_steps.proofs.Gives.{word_fits}
 use Rattle.gate_steps.proofs.Within.{GivesWithin, const_within, copy_within, alu_within, at_within, more_within}
 use Rattle.monitor.specs.declared.tables.Tables.{Tables}
 use Rattle.monitor.specs.Area.{HasTables}
@@ -21,15 +21,7 @@ use Rattle.monitor_laws.proofs.Numbers.{shl4}
 use Rattle.monitor_laws.proofs.Off.{core, IsOff}
 use Rattle.monitor_laws.proofs.Opened.{Handles, block_load_within, block_store_within, on_msp}
 use Rattle.monitor_laws.proofs.HandlerWords.{write_psp_within, Changed, changed_in, changed_none, InStack, entry_store_within, frame_load_within, frame_store_within}
-use Rattle.monitor_laws.proofs.LeaveWords.{entry_is, whole_word}
-
--- a word beside a store is that before it
-pub beside : (a o v : ℕ) (m n : List ℕ) → n ≡ write 4 o v m → (a + 4 ≤ o) ⊎ (o + 4 ≤ a) → read 4 a n ≡ read 4 a m
-beside a o v m n e h = ap (λ n. read 4 a n) e ∙ word_apart a o v m h
-
--- the word of a store
-pub stored : (o v : ℕ) (m n : List ℕ) → n ≡ write 4 o v m → o + 4 ≤ length m → v < 2 ^ 32 → read 4 o n ≡ v
-stored o v m n e h l = ap (λ n. read 4 o n) e ∙ word_same o v m h l
+use Rattle.monitor_laws.proofs.LeaveWords.{beside, stored, entry_is, whole_word}
 
 module _ (i : Image) (t : Tables) (p : Placed i t) where
   abbrev block : ℕ

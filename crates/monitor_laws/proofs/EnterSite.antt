@@ -1,5 +1,5 @@
 -- A part of enter: the site's record by the halfword at the return address, or halt 2.
-use Rattle.std.proofs.Common.{◌≡◌, ℕ, zero, suc, ◌+◌, ◌-◌, ◌*◌, ◌%◌, ◌^◌, ◌<◌, ◌≤◌, true, List, [], ◌∷◌, length, refl, sym, ap, ◌∙◌, arith}
+use Rattle.std.proofs.Common.{◌≡◌, ℕ, zero, suc, ◌+◌, ◌-◌, ◌*◌, ◌%◌, ◌^◌, ◌<◌, ◌≤◌, true, List, length, refl, sym, ap, ◌∙◌, arith}
 use Rattle.std.specs.Prelude.{flat_map}
 use Rattle.std.proofs.lemmas.Bool.{ltb-true, eqb-true, ltb-false}
 use Rattle.words.specs.Arithmetic.{add}
@@ -10,13 +10,11 @@ use Rattle.device_model.specs.Rules.{ObeysRules}
 use Rattle.armv7m.specs.declared.state.ProtectionState.{ProtectionState}
 use Rattle.armv7m.specs.declared.state.FaultStatus.{FaultStatus}
 use Rattle.armv7m.specs.State.{by_mpu}
-use Rattle.common_laws.specs.Lists.{Each}
 use Rattle.gate_steps.specs.Steps.{Steps, Load}
 use Rattle.gate_steps.specs.Core.{Core, low_register, with_low}
 use Rattle.gate_steps.specs.Effect.{Outcome, Halted}
 use Rattle.gate_steps.specs.Safe.{Rule}
 use Rattle.gate_steps.proofs.Within.{GivesWithin, const_within, copy_within, alu_within, at_within, more_within, must_within, load_flash_within}
-use Rattle.monitor.specs.declared.tables.SiteRecord.{SiteRecord}
 use Rattle.monitor.specs.declared.tables.Tables.{Tables}
 use Rattle.monitor.specs.Records.{site_at, no_site, number_of_slots}
 use Rattle.monitor.specs.Layout.{head_at}
@@ -24,19 +22,15 @@ use Rattle.monitor.specs.Area.{HasTables, compartment_words, site_words, head, a
 use Rattle.monitor.specs.Placed.{Placed}
 use Rattle.monitor.specs.Constants.{Constants, constants_with}
 use Rattle.monitor.specs.Svc.{site}
-use Rattle.monitor_laws.proofs.Numbers.{shl2}
+use Rattle.monitor_laws.proofs.Numbers.{shl2, product}
 use Rattle.monitor_laws.proofs.Off.{core, IsOff, open_while_off}
 use Rattle.monitor_laws.proofs.FlashWords.{Has, flash_has, has_front, has_back, has_record, records_length}
-use Rattle.monitor_laws.proofs.Tables.{counts, product}
+use Rattle.monitor_laws.proofs.Tables.{counts, three_words}
 use Rattle.monitor_laws.proofs.Opened.{Handles, eq_false}
 use Rattle.monitor_laws.proofs.Placement.{writable}
 
 twelve : (x a b c at v : ℕ) → a ≡ 4 * x → b ≡ add a a → c ≡ add b a → v ≡ add c at → x < 2 ^ 16 → at < 2 ^ 31 → v ≡ at + 12 * x
 twelve x a b c at v h1 h2 h3 h4 l1 l2 = omega (arith, h1, h2, h3, h4, l1, l2)
-
-pub three_words : (xs : List SiteRecord) → Each (λ x. length (site_words x) ≡ 3) xs
-three_words [] = tt
-three_words (x ∷ xs) = (refl, three_words xs)
 
 module _ (i : Image) (t : Tables) (p : Placed i t) (has : HasTables i t) (stub : ℕ) (Good : ProtectionState → Type 0) (Allowed : Rule) (handles : Handles i t Allowed) where
   abbrev k : Constants

@@ -1,5 +1,6 @@
 -- A part of enter: the compartment of the last target with the entry that is asked for, or halt 3.
 use Rattle.std.proofs.Common.{◌≡◌, ◌≢◌, ℕ, zero, suc, ◌+◌, ◌-◌, ◌*◌, ◌%◌, ◌^◌, ◌<◌, ◌≤◌, Bool, true, false, List, [], length, nat_eq, refl, sym, ap, ◌∙◌, arith}
+use Rattle.std.proofs.Math.Nat.{zero-add}
 use Rattle.std.proofs.lemmas.Bool.{eqb-true}
 use Rattle.words.specs.Arithmetic.{add, subtract}
 use Rattle.words.specs.declared.memory.Width.TheVariants.{Word}
@@ -133,15 +134,12 @@ module _ (i : Image) (t : Tables) (p : Placed i t) (has : HasTables i t) (stub :
         (λ n c r. ap (λ c. low_register c 6) r.is)
         (λ n c r. turn_within q m psp a1 a2 (read 4 (o + 16) m) to count n c off h.aligned h.room h.few r)
         h.few
-        (record { done = 0; all_of = zero_plus count; v3 = a3; v7 = v7; at = r7; is = refl })
+        (record { done = 0; all_of = zero-add count; v3 = a3; v7 = v7; at = r7; is = refl })
         (λ d r. at_within r.is
         (const_within
         (must_not_within (λ y. refuse _ refl (sym (chosen_is r.done r.all_of) ∙ eqb-true _ _ y)) (λ y.
         at_within (ap (λ x. core msp psp q u m psp a1 a2 0xFFFFFFFF (read 4 (o + 16) m) x 0 r.v7) (chosen_is r.done r.all_of)) (f (read 4 (o + 16) m) r.v7 (λ z. eq_false _ _ y (chosen_is r.done r.all_of ∙ z))))))))))))))) (omega arith)
       where
-        zero_plus : (n : ℕ) → 0 + n ≡ n
-        zero_plus n = omega arith
-
         low28 : (n : ℕ) → n < 2 ^ 24 → n < 2 ^ 28
         low28 n x = omega (arith, x)
 

@@ -1,5 +1,5 @@
 -- While a compartment's regions are written and the unit is on, the page's code may be fetched.
-use Rattle.std.proofs.Common.{◌≡◌, ℕ, ◌+◌, ◌-◌, ◌/◌, ◌%◌, ◌^◌, ◌<◌, ◌≤◌, Bool, true, false, List, [], ◌∷◌, map, length, Some, None, refl, sym, ap, ap₂, ◌∙◌, subst, arith, pow_pos}
+use Rattle.std.proofs.Common.{◌≡◌, ℕ, ◌+◌, ◌-◌, ◌/◌, ◌%◌, ◌^◌, ◌<◌, ◌≤◌, Bool, true, false, List, [], ◌∷◌, map, length, Some, None, refl, sym, ap, ap₂, ◌∙◌, subst, arith}
 use Rattle.std.proofs.lemmas.Nat.Bits.{bit_at-zero}
 use Rattle.std.proofs.lemmas.Bool.Decides.{nat_tests}
 use Rattle.std.specs.Int.{IsPowerOfTwo, bit_at}
@@ -11,6 +11,7 @@ use Rattle.mpu_model.specs.RegionWords.{IsHeld}
 use Rattle.mpu_model.specs.Protection.{permits, deciding}
 use Rattle.mpu_model.specs.Laws.{kept_region, RegionsAreKept, RegionsHoldTheirBlocks, RegionsGiveTheirRights}
 use Rattle.mpu_model.specs.Configured.{closed_from}
+use Rattle.mpu_model.proofs.Configured.{closed_byte}
 use Rattle.device_model.specs.declared.image.Image.{Image}
 use Rattle.windows.specs.Ranges.{IsPowerBetween}
 use Rattle.armv7m.specs.declared.state.ProtectionState.{ProtectionState}
@@ -87,12 +88,9 @@ module _ (laws : UnitLaws) (i : Image) (t : Tables) (p : Placed i t) (room : 409
       aligned : t.stack.base % t.stack.size ≡ 0
       aligned = ap₂ (λ b z. b % z) p.stack_base p.stack_size ∙ p.stack.aligned
 
-      byte : (n : ℕ) → closed_from n < 2 ^ 8
-      byte n = let q = pow_pos n in omega (arith, q)
-
       off : (b : Bool) → holds (stack_region t top) a ≡ b → b ≡ false
       off true h =
-          let held : IsHeld t.stack.base t.stack.size (closed_from ((top - t.stack.base) / eighth t)) a = (laws.held 3 t.stack.base t.stack.size (closed_from ((top - t.stack.base) / eighth t)) Stack (omega arith) power least most aligned (byte ((top - t.stack.base) / eighth t)) a).0 h in
+          let held : IsHeld t.stack.base t.stack.size (closed_from ((top - t.stack.base) / eighth t)) a = (laws.held 3 t.stack.base t.stack.size (closed_from ((top - t.stack.base) / eighth t)) Stack (omega arith) power least most aligned (closed_byte ((top - t.stack.base) / eighth t)) a).0 h in
           let f = held.from_base in
           absurd (omega (arith, f, above, high))
       off false h = refl

@@ -11,6 +11,14 @@ use Rattle.monitor.specs.Constants.{Constants, constants_with}
 use Rattle.monitor_laws.proofs.Placement.{block_is, writable}
 use Rattle.monitor_laws.proofs.HandlerWords.{Changed, changed_write, changed_in, changed_none, InStack, apart_from_block}
 
+-- a word beside a store is that before it
+pub beside : (a o v : ℕ) (m n : List ℕ) → n ≡ write 4 o v m → (a + 4 ≤ o) ⊎ (o + 4 ≤ a) → read 4 a n ≡ read 4 a m
+beside a o v m n e h = ap (λ n. read 4 a n) e ∙ word_apart a o v m h
+
+-- the word of a store
+pub stored : (o v : ℕ) (m n : List ℕ) → n ≡ write 4 o v m → o + 4 ≤ length m → v < 2 ^ 32 → read 4 o n ≡ v
+stored o v m n e h l = ap (λ n. read 4 o n) e ∙ word_same o v m h l
+
 module _ (i : Image) (t : Tables) (p : Placed i t) (has : HasTables i t) (stub : ℕ) where
   abbrev k : Constants
   k = constants_with stub t
@@ -76,14 +84,6 @@ module _ (i : Image) (t : Tables) (p : Placed i t) (has : HasTables i t) (stub :
   whole_word a o e h = let r = p.rules.ram_aligned in omega (arith, e, h, r)
 
   -- ---- words behind stores
-
-  -- a word beside a store is that before it
-  beside : (a o v : ℕ) (m n : List ℕ) → n ≡ write 4 o v m → (a + 4 ≤ o) ⊎ (o + 4 ≤ a) → read 4 a n ≡ read 4 a m
-  beside a o v m n e h = ap (λ n. read 4 a n) e ∙ word_apart a o v m h
-
-  -- the word of a store
-  stored : (o v : ℕ) (m n : List ℕ) → n ≡ write 4 o v m → o + 4 ≤ length m → v < 2 ^ 32 → read 4 o n ≡ v
-  stored o v m n e h l = ap (λ n. read 4 o n) e ∙ word_same o v m h l
 
   block_room : (m : List ℕ) → length m ≡ i.ram_size → block + 1024 ≤ length m
   block_room m e = let a = p.block_inside.0 in let b = p.block_inside.1 in omega (arith, e, a, b)

@@ -18,8 +18,6 @@ use Rattle.mem_bus.specs.Places.{choose}
 use Rattle.common_laws.specs.Lists.{Each}
 use Rattle.monitor.specs.declared.tables.CompRecord.{CompRecord}
 use Rattle.monitor.specs.declared.tables.InitRecord.{InitRecord}
-use Rattle.monitor.specs.declared.tables.SiteRecord.{SiteRecord}
-use Rattle.monitor.specs.declared.tables.TargetRecord.{TargetRecord}
 use Rattle.monitor.specs.declared.tables.Tables.{Tables}
 use Rattle.monitor.specs.Records.{compartment_at, number_of_slots, stack_end}
 use Rattle.monitor.specs.Layout.{head_at, tables_size}
@@ -30,7 +28,7 @@ use Rattle.monitor.specs.Constants.{Constants, constants_with, background_of, re
 use Rattle.monitor_laws.specs.RegionsWritten.{IsNumbered, Writable}
 use Rattle.monitor_laws.proofs.FlashWords.{Has, flash_has, has_front, has_back, records_length}
 use Rattle.monitor_laws.proofs.Written.{open_stack}
-use Rattle.monitor_laws.proofs.Tables.{counts, same_stack, numbered}
+use Rattle.monitor_laws.proofs.Tables.{counts, same_stack, numbered, three_words, two_words}
 use Rattle.monitor_laws.proofs.Numbers.{product}
 use Rattle.common_laws.proofs.Lists.{each_to, each_at}
 
@@ -121,14 +119,6 @@ module _ (i : Image) (t : Tables) (p : Placed i t) (has : HasTables i t) (stub :
 
   -- ---- the records of start-up
 
-  sites_words : (xs : List SiteRecord) → Each (λ x. length (site_words x) ≡ 3) xs
-  sites_words [] = tt
-  sites_words (x ∷ xs) = (refl, sites_words xs)
-
-  targets_words : (xs : List TargetRecord) → Each (λ x. length (target_words x) ≡ 2) xs
-  targets_words [] = tt
-  targets_words (x ∷ xs) = (refl, targets_words xs)
-
   inits_words : (xs : List InitRecord) → Each (λ x. length (init_words x) ≡ 3) xs
   inits_words [] = tt
   inits_words (x ∷ xs) = (refl, inits_words xs)
@@ -150,8 +140,8 @@ module _ (i : Image) (t : Tables) (p : Placed i t) (has : HasTables i t) (stub :
   area_is : length (area t) ≡ 8 + ((2 * number_of_slots t + 4) * length t.comps + (3 * length t.sites + (2 * length t.targets + (length t.lends + (3 * length t.inits + length t.words)))))
   area_is =
       let c = records_length compartment_words (2 * number_of_slots t + 4) t.comps (counts i t writable stub) in
-      let s = records_length site_words 3 t.sites (sites_words t.sites) in
-      let g = records_length target_words 2 t.targets (targets_words t.targets) in
+      let s = records_length site_words 3 t.sites (three_words t.sites) in
+      let g = records_length target_words 2 t.targets (two_words t.targets) in
       let n = records_length init_words 3 t.inits (inits_words t.inits) in
       let l1 = length-append (flat_map init_words t.inits) t.words in
       let l2 = length-append t.lends (flat_map init_words t.inits ++ t.words) in
@@ -176,8 +166,8 @@ module _ (i : Image) (t : Tables) (p : Placed i t) (has : HasTables i t) (stub :
   unfolding inits_offset
   inits_at_is =
       let c = records_length compartment_words (2 * number_of_slots t + 4) t.comps (counts i t writable stub) in
-      let s = records_length site_words 3 t.sites (sites_words t.sites) in
-      let g = records_length target_words 2 t.targets (targets_words t.targets) in
+      let s = records_length site_words 3 t.sites (three_words t.sites) in
+      let g = records_length target_words 2 t.targets (two_words t.targets) in
       let m = product (number_of_slots t) (length t.comps) in
       let e = p.tables_first in
       let h = rules.flash_highest in
@@ -213,8 +203,8 @@ module _ (i : Image) (t : Tables) (p : Placed i t) (has : HasTables i t) (stub :
   unfolding lends_offset
   lends_at_is =
       let c = records_length compartment_words (2 * number_of_slots t + 4) t.comps (counts i t writable stub) in
-      let s = records_length site_words 3 t.sites (sites_words t.sites) in
-      let g = records_length target_words 2 t.targets (targets_words t.targets) in
+      let s = records_length site_words 3 t.sites (three_words t.sites) in
+      let g = records_length target_words 2 t.targets (two_words t.targets) in
       let m = product (number_of_slots t) (length t.comps) in
       let e = p.tables_first in
       let h = rules.flash_highest in

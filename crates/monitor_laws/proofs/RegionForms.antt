@@ -1,11 +1,11 @@
 -- What the check of regions tells of the addresses that a compartment's regions hold.
 use Rattle.std.proofs.Common.{◌≡◌, ℕ, zero, suc, ◌+◌, ◌-◌, ◌*◌, ◌/◌, ◌%◌, ◌^◌, ◌<◌, ◌≤◌, ◌⊎◌, inl, inr, ⊎_elim, Bool, true, false, not, ◌&&◌, ◌||◌, List, [], ◌∷◌, length, nat_eq, nat_lt, refl, sym, ap, ap₂, ◌∙◌, subst, arith, pow_pos}
 use Rattle.std.proofs.lemmas.Bool.Decides.{nat_tests}
-use Rattle.std.proofs.lemmas.Nat.{div-mul-add}
-use Rattle.std.proofs.Math.Nat.{div-div-eq-div-mul}
-use Rattle.std.proofs.lemmas.Nat.{pow-add}
+use Rattle.std.proofs.lemmas.Nat.{div-add-mod', div-mul-add, mod_below, pow-add}
+use Rattle.std.proofs.lemmas.Nat.Gcd.{dvd_of_mod-eq-zero}
+use Rattle.std.proofs.Math.Nat.{div-div-eq-div-mul, div-mul_cancel}
 use Rattle.std.specs.Int.{bit_at}
-use Rattle.std.proofs.lemmas.Bool.{ltb-true, eqb-true, leb-true, and_parts as both, or_cases}
+use Rattle.std.proofs.lemmas.Bool.{ltb-true, eqb-true, leb-true, and_parts as both, not-true, or_cases}
 use Rattle.mpu_model.specs.declared.region.Region.{Region}
 use Rattle.mpu_model.specs.declared.words.Rights.{Rights}
 use Rattle.mpu_model.specs.declared.words.Rights.TheVariants.{Background, Code, Ram, Device}
@@ -43,19 +43,12 @@ form_of n srd rights g h =
 in_range : (z b m a : ℕ) → 32 ≤ z → m < 32 → b % z ≡ 0 → a / z ≡ (b + m) / z → (b ≡ a / z * z) × (b ≤ a) × (a < b + z)
 in_range z b m a le lt al e =
     let q : ℕ = b / z in
-    let e1 : b ≡ q * z = whole b z (omega (arith, le)) al in
+    let e1 : b ≡ q * z = sym (div-mul_cancel z (dvd_of_mod-eq-zero z al)) in
     let e2 : (b + m) / z ≡ q = ap (λ x. (x + m) / z) e1 ∙ div-mul-add q z m (omega (arith, le, lt)) in
     let e3 : a / z * z ≡ q * z = ap (λ x. x * z) (e ∙ e2) in
-    let e4 = split a z (omega (arith, le)) in
-    let d = e4.0 in
-    let l = e4.1 in
+    let d = div-add-mod' a z in
+    let l = mod_below a z (omega (arith, le)) in
     (omega (arith, e1, e3), omega (arith, e1, e3, d), omega (arith, e1, e3, d, l))
-  where
-    split : (a z : ℕ) → 0 < z → (a ≡ a / z * z + a % z) × (a % z < z)
-    split a z h = (grind (arith, h), grind (arith, h))
-
-    whole : (b z : ℕ) → 0 < z → b % z ≡ 0 → b ≡ b / z * z
-    whole b z h e = let s = split b z h in let d = s.0 in omega (arith, d, e)
 
 -- what `holds` asks
 record Held (g : Region) (a : ℕ) : Type 0 where
@@ -69,11 +62,7 @@ held_is g a h =
     let p = both (is_enabled g) (is_of_legal_size g && (is_in_block g a && not (is_taken_out g a))) h in
     let q = both (is_of_legal_size g) (is_in_block g a && not (is_taken_out g a)) p.1 in
     let r = both (is_in_block g a) (not (is_taken_out g a)) q.1 in
-    record { enabled = eqb-true (g.rasr % 2) 1 p.0; block = eqb-true (a / 2 ^ size_log g) (g.rbar / 2 ^ size_log g) r.0; kept = turned (is_taken_out g a) r.1 }
-  where
-    turned : (b : Bool) → not b ≡ true → b ≡ false
-    turned true h = cc
-    turned false h = refl
+    record { enabled = eqb-true (g.rasr % 2) 1 p.0; block = eqb-true (a / 2 ^ size_log g) (g.rbar / 2 ^ size_log g) r.0; kept = not-true (is_taken_out g a) r.1 }
 
 large : (n : ℕ) → 5 ≤ n → 32 ≤ 2 ^ n
 large n h = let e : n ≡ 5 + (n - 5) = omega (arith, h) in let p = pow_pos (n - 5) in let q = ap (λ n. 2 ^ n) e ∙ pow-add 2 5 (n - 5) in omega (arith, p, q)
@@ -183,14 +172,10 @@ module _ (i : Image) (t : Tables) (w : Grounds i t) where
           let d8 : a / y ≡ d / 8 = ap (λ y. a / y) e ∙ sym (div-div-eq-div-mul a z 8) in
           let m : a / y * y ≡ d / 8 * 8 * z = ap₂ (λ x y. x * y) d8 e ∙ (let q : d / 8 * (z * 8) ≡ d / 8 * 8 * z = grind arith in q) in
           let s : d / 8 * 8 * z + d % 8 * z ≡ d * z = whole d z in
-          let c = split a z pos in
-          let c0 = c.0 in
-          let c1 = c.1 in
+          let c0 = div-add-mod' a z in
+          let c1 = mod_below a z pos in
           (omega (arith, e), omega (arith, m, s, c0, c1), omega (arith, m, s, c0, c1))
         where
-          split : (a z : ℕ) → 0 < z → (a ≡ a / z * z + a % z) × (a % z < z)
-          split a z h = (grind (arith, h), grind (arith, h))
-
           whole : (d z : ℕ) → d / 8 * 8 * z + d % 8 * z ≡ d * z
           whole d z = let e : d / 8 * 8 + d % 8 ≡ d = omega arith in (let f : d / 8 * 8 * z + d % 8 * z ≡ (d / 8 * 8 + d % 8) * z = grind arith in f) ∙ ap (λ x. x * z) e
 

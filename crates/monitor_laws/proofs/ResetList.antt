@@ -1,5 +1,5 @@
 -- Start-up up to the write of CONTROL.
-use Rattle.std.proofs.Common.{◌≡◌, ℕ, ◌+◌, ◌-◌, ◌*◌, ◌/◌, ◌%◌, ◌^◌, ◌<◌, ◌≤◌, ◌⊎◌, inl, inr, true, false, not, ◌&&◌, List, [], ◌∷◌, length, refl, sym, ap, ◌∙◌, subst, arith}
+use Rattle.std.proofs.Common.{◌≡◌, ℕ, ◌+◌, ◌-◌, ◌*◌, ◌/◌, ◌%◌, ◌^◌, ◌<◌, ◌≤◌, ◌⊎◌, inl, inr, true, false, List, [], ◌∷◌, length, refl, sym, ap, ◌∙◌, subst, arith}
 use Rattle.words.specs.Bytes.{write}
 use Rattle.words.specs.declared.memory.Width.TheVariants.{Word}
 use Rattle.mpu_model.specs.declared.region.Access.TheVariants.{Read, Write, Fetch}
@@ -32,6 +32,7 @@ use Rattle.monitor.specs.Constants.{Constants, constants_with}
 use Rattle.monitor.specs.Opening.{tables_of, set_control}
 use Rattle.monitor.specs.Reset.{main_words, copied, first_block, traps, first_regions, reset}
 use Rattle.monitor_laws.proofs.Off.{core, with_unit, IsOff, Allows, open_while_off, status_stays, rbar_control, rasr_control, unit_within, set_control_within}
+use Rattle.monitor_laws.proofs.Opened.{on_msp}
 use Rattle.monitor_laws.proofs.Written.{open_stack, tables_within}
 use Rattle.monitor_laws.proofs.Tables.{shaped, has_compartment, record_at, top_is, StackSize, stack_size}
 use Rattle.monitor_laws.proofs.Copies.{IsCopied, last_steps, fill_within}
@@ -206,9 +207,6 @@ module _ (i : Image) (t : Tables) (p : Placed i t) (has : HasTables i t) (stub :
         (at_within same
         (set_control_within i rules (IsGood i) Allowed false allows good_off msp psp (record u { shcsr = 0x10000 }) 5 q m SHCSR a1 a2 top a4 a5 0x10000 a7 off.mode off.privileged (omega arith) (good_on (with_unit q (record q.mpu { control = 5 })) off.mode un refl r) (λ q1 e1.
         set_psp_within (on_msp q1 (ap is_unprivileged e1 ∙ off.privileged)) (const_within (const_within (end_within (f q1 e1)))))))))) (omega arith)
-      where
-        on_msp : (q1 : ProtectionState) → is_unprivileged q1 ≡ false → (not (is_unprivileged q1) && true) ≡ true
-        on_msp q1 e = rw e refl
 
   -- from the state of reset
   abbrev first_core : (msp : ℕ) (ram : List ℕ) → Core

@@ -4,7 +4,7 @@ use Rattle.std.specs.Prelude.{sum_by}
 use Rattle.words.specs.declared.conditions.Flags.{Flags}
 use Rattle.words.specs.Bytes.{read}
 use Rattle.words.specs.Runs.{run}
-use Rattle.words.proofs.Runs.{run-add}
+use Rattle.words.proofs.Runs.{run-add, once}
 use Rattle.thumb_model.specs.declared.table.Instr.TheVariants.{SpecialRegister}
 use Rattle.mpu_model.specs.declared.region.Access.TheVariants.{Fetch}
 use Rattle.mpu_model.specs.Registers.{at_reset}
@@ -240,16 +240,12 @@ module _ (laws : StartLaws) (i : Image) (t : Tables) (r : IsReady i t) where
     abbrev R : ℕ → State
     R n = run (step i) n s0
 
-    one_step : (s : State) → run (step i) 1 s ≡ step i s
-    unfolding run
-    one_step s = refl
-
     no_step : (s : State) → run (step i) 0 s ≡ s
     unfolding run
     no_step s = refl
 
     further : (n : ℕ) (a b : State) → R n ≡ a → OneStep by_mpu i a b → R (n + 1) ≡ b
-    further n a b e m = run-add (step i) n 1 s0 ∙ one_step (R n) ∙ ap (λ s. step i s) e ∙ m.leads
+    further n a b e m = run-add (step i) n 1 s0 ∙ (once {step = step i} {event = event i} (R n)).leads ∙ ap (λ s. step i s) e ∙ m.leads
 
     silent : (n : ℕ) (a b : State) → R n ≡ a → OneStep by_mpu i a b → event i (R n) ≡ None
     silent n a b e m = ap (λ s. event i s) e ∙ m.quiet

@@ -14,14 +14,16 @@ use Rattle.device_model.specs.Rules.{ObeysRules}
 use Rattle.common_laws.specs.Lists.{Each}
 use Rattle.windows.specs.Ranges.{IsPowerBetween}
 use Rattle.monitor.specs.declared.tables.CompRecord.{CompRecord}
+use Rattle.monitor.specs.declared.tables.SiteRecord.{SiteRecord}
+use Rattle.monitor.specs.declared.tables.TargetRecord.{TargetRecord}
 use Rattle.monitor.specs.declared.tables.Tables.{Tables}
 use Rattle.monitor.specs.Records.{nobody, compartment_at, number_of_slots, eighth}
 use Rattle.monitor.specs.Layout.{head_at}
-use Rattle.monitor.specs.Area.{region_words, compartment_words, head, area}
+use Rattle.monitor.specs.Area.{region_words, compartment_words, site_words, target_words, head, area}
 use Rattle.monitor.specs.Regions.{background, tables_region, stack_region, regions_for}
 use Rattle.monitor.specs.Constants.{Constants, constants_with}
 use Rattle.monitor_laws.specs.RegionsWritten.{IsNumbered, Writable, StackIsClosedAboveTop}
-use Rattle.monitor_laws.proofs.Numbers.{times_over, below_256}
+use Rattle.monitor_laws.proofs.Numbers.{times_over, below_256, product}
 use Rattle.monitor_laws.proofs.Written.{HasRegions, HasRecord, Shaped, open_stack}
 use Rattle.monitor_laws.proofs.FlashWords.{Has, flash_has, has_front, has_back, has_record, has_regions}
 use Rattle.common_laws.proofs.Lists.{each_to, each_at}
@@ -67,8 +69,14 @@ record_length s c e =
     let b = slot_words c.slots in
     omega (arith, a, b, e)
 
-pub product : (s c : ℕ) → (8 * s + 16) * c ≡ 4 * ((2 * s + 4) * c)
-product s c = grind arith
+-- the words of a site's record, and of a target's
+pub three_words : (xs : List SiteRecord) → Each (λ x. length (site_words x) ≡ 3) xs
+three_words [] = tt
+three_words (x ∷ xs) = (refl, three_words xs)
+
+pub two_words : (xs : List TargetRecord) → Each (λ x. length (target_words x) ≡ 2) xs
+two_words [] = tt
+two_words (x ∷ xs) = (refl, two_words xs)
 
 pub least_of : (a b : ℕ) → b ≤ a → min a b ≡ b
 least_of a b h = search (arith, Rattle.std.proofs.lemmas.Bool.Decides.nat_tests)

@@ -1,7 +1,8 @@
 -- What rules over numbers ask is what demands ask of sets.
-use Rattle.std.proofs.Common.{◌≡◌, ℕ, zero, suc, ◌<◌, Bool, true, false, ◌&&◌, List, [], ◌∷◌, get_or, length, Option, Some, None, refl, sym, ap, ◌∙◌, subst, arith, nat_lt, if◌then◌else◌}
+use Rattle.std.proofs.Common.{◌≡◌, ℕ, ◌<◌, Bool, true, false, ◌&&◌, [], get_or, length, Option, Some, None, refl, sym, ap, ◌∙◌, subst, nat_lt, if◌then◌else◌}
 use Rattle.std.specs.Prelude.{Contains}
 use Rattle.std.proofs.lemmas.Bool.{false≢true, ltb-true, lt-ltb, and_parts, and_from}
+use Rattle.std.proofs.lemmas.List.{get_or_default}
 use Rattle.std.proofs.lemmas.List.Elements.{Contains-get_or}
 use Rattle.ir_model.proofs.SameTypes.{same_exactly}
 use Rattle.ir_model.specs.Types.{PlainType, same}
@@ -187,14 +188,9 @@ module _ (p : Program) where
 
   -- ---- all rules
 
-  get_is : {X : Type 0} (xs : List X) (k : ℕ) (x d : X) → k < length xs → get_or xs k x ≡ x → get_or xs k d ≡ x
-  get_is [] k x d l e = absurd (omega arith)
-  get_is (y ∷ ys) zero x d l e = e
-  get_is (y ∷ ys) (suc k) x d l e = get_is ys k x d (omega arith) e
-
   pub items_obeyed : (r : Rules) (Q : Says) → Obeys p c r.facts.items r.copies.items (lists_in r.triggers) Q → (x : Item) → HasItem r x → ItemObeyed p Q x
-  items_obeyed r Q h (Fact x) i = subst (λ (y : Pair). Q y.node y.object ≡ true) (get_is r.facts.items i.0 x no_pair i.1 i.2) (h.facts i.0 i.1)
-  items_obeyed r Q h (Copy x) i = subst (Passes Q) (get_is r.copies.items i.0 x no_edge i.1 i.2) (h.copies i.0 i.1)
+  items_obeyed r Q h (Fact x) i = subst (λ (y : Pair). Q y.node y.object ≡ true) (get_or_default r.facts.items i.0 no_pair x i.1 ∙ i.2) (h.facts i.0 i.1)
+  items_obeyed r Q h (Copy x) i = subst (Passes Q) (get_or_default r.copies.items i.0 no_edge x i.1 ∙ i.2) (h.copies i.0 i.1)
   items_obeyed r Q h (Asks n t) i = λ o q. subst (λ (y : Trigger). OnEdge (edge_of p c y o) (Passes Q)) i.2 (h.triggers n i.0 o t i.1 q)
 
   pub obeys_from : (r : Rules) (Q : Says) → ((x : Item) → HasItem r x → ItemObeyed p Q x) → Obeys p c r.facts.items r.copies.items (lists_in r.triggers) Q

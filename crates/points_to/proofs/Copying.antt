@@ -1,6 +1,7 @@
 -- The objects of a node are put to another's, one by one.
 use Rattle.std.proofs.Common.{◌≡◌, ◌≢◌, ℕ, zero, suc, ◌+◌, ◌<◌, ◌≤◌, true, List, [], ◌∷◌, length, get_or, refl, sym, ap, ◌∙◌, subst, arith, inl, inr, Option, Some, None, slice_get, below_more}
 use Rattle.std.specs.Prelude.{Vec}
+use Rattle.std.proofs.lemmas.List.{get_or_default}
 use Rattle.std.specs.Global.{Global}
 use Rattle.object_sets.specs.Tables.{Table}
 use Rattle.object_sets.specs.Rows.{Lists, row, added}
@@ -67,14 +68,9 @@ copy_all w s t e k r c f g =
       copied = λ o i. let q = has_at o (row t.pairs.rows e.from) i in subst (λ x. is_in t.pairs.rows e.to x ≡ true) q.2 (c.each q.0 (let z = q.1 in omega arith));
     }
 
-at_default : {X : Type 0} (xs : List X) (k : ℕ) (x d : X) → k < length xs → get_or xs k x ≡ x → get_or xs k d ≡ x
-at_default [] k x d l e = absurd (omega arith)
-at_default (y ∷ ys) zero x d l e = e
-at_default (y ∷ ys) (suc k) x d l e = at_default ys k x d (omega arith) e
-
 -- what is asked for is passed on by all sets that obey
 pub asked_allowed : (w : System) (rows : Lists) (objects : ℕ) (l : List Pair) (edges : Lists) (next : ℕ) (e : Edge) → IsSound w rows objects l edges next → IsAsked w rows e → (Q : Says) → ObeysAll w Q → Passes Q e
-asked_allowed w rows objects l edges next e g (inl i) Q q = subst (Passes Q) (at_default w.rules.copies.items i.0 e no_edge i.1 i.2) (q.copies i.0 i.1)
+asked_allowed w rows objects l edges next e g (inl i) Q q = subst (Passes Q) (get_or_default w.rules.copies.items i.0 no_edge e i.1 ∙ i.2) (q.copies i.0 i.1)
 asked_allowed w rows objects l edges next e g (inr t) Q q =
     on_some (asked w t.by t.object) e (Passes Q) t.asks
     (subst (λ (y : Trigger). OnEdge (asked w y t.object) (Passes Q)) t.listed.2 (q.triggers t.node t.listed.0 t.object t.by t.listed.1 (g.below Q q t.node t.object t.has)))

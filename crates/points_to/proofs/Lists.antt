@@ -1,7 +1,7 @@
 -- Lists without repeats that grow.
-use Rattle.std.proofs.Common.{◌≡◌, ℕ, zero, suc, ◌+◌, ◌<◌, ◌≤◌, Bool, true, false, ◌||◌, List, [], ◌∷◌, ◌++◌, length, get_or, set, refl, sym, ap, ◌∙◌, subst, arith, nat_eq, if◌then◌else◌, ◌⊎◌, inl, inr}
+use Rattle.std.proofs.Common.{◌≡◌, ℕ, zero, suc, ◌+◌, ◌<◌, ◌≤◌, Bool, true, false, List, [], ◌∷◌, ◌++◌, length, get_or, set, refl, sym, ap, ◌∙◌, subst, arith, nat_eq, if◌then◌else◌, ◌⊎◌, inl, inr}
 use Rattle.std.specs.List.{IsDistinct}
-use Rattle.std.proofs.lemmas.Bool.{false≢true, eqb-true, eq-eqb, or_right, or_cases}
+use Rattle.std.proofs.lemmas.Bool.{false≢true, eqb-true, eq-eqb, or_left, or_right, or_cases}
 use Rattle.std.proofs.lemmas.List.{length-set, get_or-set_same, length-append}
 use Rattle.std.proofs.lemmas.Map.Keys.{IsDistinct-push}
 use Rattle.std.specs.Cmp.{nat_eq_equiv}
@@ -14,9 +14,6 @@ set_each P (x ∷ s) zero r h e zero = e
 set_each P (x ∷ s) zero r h e (suc i) = h (suc i)
 set_each P (x ∷ s) (suc n) r h e zero = h zero
 set_each P (x ∷ s) (suc n) r h e (suc i) = set_each (λ j. P (suc j)) s n r (λ j. h (suc j)) e i
-
-or_left : (a b : Bool) → a ≡ true → a || b ≡ true
-or_left a b e = ap (λ x. x || b) e
 
 push_cases : (p o : ℕ) (xs : List ℕ) → has p (xs ++ o ∷ []) ≡ true → (has p xs ≡ true) ⊎ (p ≡ o)
 push_cases p o [] e = elim (or_cases (nat_eq p o) false e) [ inl h ↦ inr (eqb-true p o h) | inr h ↦ absurd (false≢true h) ]

@@ -1,11 +1,11 @@
 -- A sum over numbered edges is no more than the sum over a list that has all edges.
-use Rattle.std.proofs.Common.{◌≡◌, ℕ, zero, suc, ◌+◌, ◌*◌, ◌<◌, ◌≤◌, Bool, true, false, ◌||◌, List, [], ◌∷◌, get_or, length, map, Option, Some, None, refl, sym, ap, ◌∙◌, subst, arith, nat_eq, if◌then◌else◌, ◌⊎◌, inl, inr}
+use Rattle.std.proofs.Common.{◌≡◌, ℕ, zero, suc, ◌+◌, ◌*◌, ◌<◌, ◌≤◌, Bool, true, false, List, [], ◌∷◌, get_or, length, map, Option, Some, None, refl, sym, ap, ◌∙◌, subst, arith, nat_eq, if◌then◌else◌, ◌⊎◌, inl, inr}
 use Rattle.std.specs.Prelude.{Contains}
 use Rattle.std.specs.Cmp.{nat_eq_equiv}
 use Rattle.std.specs.List.{IsDistinct, list_any, sum_by}
 use Rattle.std.specs.Set.{is_member}
 use Rattle.std.proofs.Math.Nat.{mul-le-mul_left}
-use Rattle.std.proofs.lemmas.Bool.{false≢true, eq-eqb, ne_eqb, cases_lt}
+use Rattle.std.proofs.lemmas.Bool.{false≢true, eq-eqb, ne_eqb, cases_lt, or_left, or_right}
 use Rattle.std.proofs.lemmas.List.{length-map, get_or-map}
 use Rattle.std.proofs.lemmas.List.Sums.{sum_by-cons}
 use Rattle.std.proofs.lemmas.List.Folds.{Any-from_list_any, list_any_at}
@@ -78,13 +78,6 @@ module _ (c : Numbering) where
   listed_target x y a b [] e f h = absurd (in_none (x, y) h)
   listed_target x y a b (z ∷ es) e f h = by (is_number (node_number c z.0) a) refl (cases z (x, y) es h) (λ r. listed_target x y a b es e f r)
     where
-      or_right : (p q : Bool) → q ≡ true → p || q ≡ true
-      or_right true q r = refl
-      or_right false q r = r
-
-      or_left : (p q : Bool) → p ≡ true → p || q ≡ true
-      or_left p q r = ap (λ s. s || q) r
-
       by : (t : Bool) → is_number (node_number c z.0) a ≡ t → (z ≡ (x, y)) ⊎ Contains es (x, y) → (Contains es (x, y) → list_any (nat_eq b) (targets a es) ≡ true)
           → list_any (nat_eq b) (if t then number_or_none (node_number c z.1) ∷ targets a es else targets a es) ≡ true
       by true q (inl s) ih = or_left (nat_eq b (number_or_none (node_number c z.1))) (list_any (nat_eq b) (targets a es)) (eq-eqb b (number_or_none (node_number c z.1)) (sym (ap (λ (w : Node × Node). number_or_none (node_number c w.1)) s ∙ ap number_or_none f)))

@@ -5,7 +5,7 @@ use Rattle.std.specs.List.{All, range_with_len}
 use Rattle.std.proofs.Math.Nat.{mul-le-mul_left}
 use Rattle.std.proofs.lemmas.Nat.{pow-add, pow_pos}
 use Rattle.std.proofs.lemmas.Bool.{le-leb, eqb-true, eq-eqb, cases_lt, and_from as both}
-use Rattle.std.proofs.lemmas.List.Elements.{All-cons, All-nil, All-head, All-tail, All-filter, All-set, All-get_or, All-map, All-weaker}
+use Rattle.std.proofs.lemmas.List.Elements.{All-cons, All-nil, All-filter, All-set, All-get_or, All-map, All-weaker}
 use Rattle.std.proofs.lemmas.List.{get_or_past}
 use mathlib.Core.Logic.{⊎_elim}
 use Rattle.ir_model.specs.Resolved.{Program, no_window}
@@ -20,7 +20,8 @@ use Rattle.plan_model.specs.Covers.{least_power, end_of, is_inside, lowest, high
 use Rattle.plan_model.specs.InitialGraph.{cover_of, covers_of, initial_graph}
 use Rattle.plan_model.specs.Merging.{first_too_rich, region_pair, cover_pair, covers_at, with_joined_regions, with_joined_cover, with_joined_covers, relieved_if, relieved, next}
 use Rattle.plan_model.specs.FinalGraph.{IsMerged}
-use Rattle.plan_model.specs.Lists.{numbers_below, in_order, placed}
+use Rattle.plan_model.specs.Lists.{numbers_below}
+use Rattle.grouping.proofs.Below.{all_in_order}
 use Rattle.region_graph.specs.Fitting.{CoverFits, Fits, WindowFits, WindowsFit}
 use Rattle.region_graph.proofs.Ending.{Comes, a_final}
 use Rattle.region_graph.proofs.FewerCovers.{fewer_covers}
@@ -109,18 +110,6 @@ joined_holds c d h k = by (joined_size c d) (least_passes (one_range c d) (whole
         record { one = inside.0; other = inside.1; fits = record { base = fits.0; end = fits.1 } }
 
 -- ---- graphs
-
-all_placed : (P : Cover → Type 0) (lt : Cover → Cover → Bool) (x : Cover) (ys : List Cover) → P x → All P ys → All P (placed lt x ys)
-all_placed P lt x [] h hs = All-cons P x [] h (All-nil P)
-all_placed P lt x (y ∷ ys) h hs = by (lt y x) (all_placed P lt x ys h (All-tail P y ys hs))
-  where
-    by : (b : Bool) → All P (placed lt x ys) → All P (cond b (y ∷ placed lt x ys) (x ∷ y ∷ ys))
-    by true ih = All-cons P y (placed lt x ys) (All-head P y ys hs) ih
-    by false ih = All-cons P x (y ∷ ys) h hs
-
-pub all_in_order : (P : Cover → Type 0) (lt : Cover → Cover → Bool) (xs : List Cover) → All P xs → All P (in_order lt xs)
-all_in_order P lt [] h = All-nil P
-all_in_order P lt (x ∷ xs) h = all_placed P lt x (in_order lt xs) (All-head P x xs h) (all_in_order P lt xs (All-tail P x xs h))
 
 all_with : (cs : List Cover) (d : Cover) → All CoverFits cs → CoverFits d → All CoverFits (with_cover cs d)
 all_with cs d h k =

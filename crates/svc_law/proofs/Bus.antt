@@ -49,8 +49,8 @@ use Rattle.monitor_laws.proofs.Opened.{FrameIsOpen}
 use Rattle.monitor_laws.proofs.HandlerRule.{HandlerRule}
 use Rattle.monitor_laws.proofs.SvcNumber.{Called, numbered as up_to_number, numbered_within}
 use Rattle.svc_law.proofs.Calling.{Calling, off, is_off, halted, same, top_word, top_word_below}
-use Rattle.svc_law.proofs.Numbers.{reach, may, W, Q, at_first}
-use Rattle.handler_runs.proofs.Mode.{IsGood}
+use Rattle.svc_law.proofs.Numbers.{reach, W, Q, at_first}
+use Rattle.handler_runs.proofs.Mode.{IsGood, good_while_off}
 use Rattle.handler_runs.proofs.Returned.{is_before}
 
 -- a load outside the system's part of the memory map goes to the bus
@@ -96,7 +96,7 @@ module _ (nothing : NothingStops) (equal : holds 0 (compare_flags 0 0) ≡ true)
   -- ---- the list in two parts
 
   abbrev pub before : Steps
-  before = up_to_number i t c.placed c.tables stub (IsGood i) (HandlerRule i t) (reach i t stub s m psp o memory c) (may i t stub s m psp o memory c) (on_number 3 unlend (on_number 2 (lend k) (Const 6 0 End)))
+  before = up_to_number i t c.placed c.tables stub (IsGood i) (HandlerRule i t) (reach i t stub s m psp o memory c) (good_while_off i c.placed.rules) (on_number 3 unlend (on_number 2 (lend k) (Const 6 0 End)))
 
   abbrev pub others : Steps
   others = on_number 1 (leave k) (Rattle.gate_steps.specs.Steps.Halt 1 End)
@@ -123,7 +123,7 @@ module _ (nothing : NothingStops) (equal : holds 0 (compare_flags 0 0) ≡ true)
 
   pub before_within : (a0 a1 a2 a3 a4 a5 a6 a7 : ℕ) → W i t stub s m psp o memory c 68 before [] (at_first i t stub s m psp o memory c a0 a1 a2 a3 a4 a5 a6 a7) Ends
   before_within a0 a1 a2 a3 a4 a5 a6 a7 =
-      numbered_within i t c.placed c.tables stub (IsGood i) (HandlerRule i t) (reach i t stub s m psp o memory c) (may i t stub s m psp o memory c) msp psp s.status (record s.protection { handler = true }) o 0 memory a0 a1 a2 a3 a4 a5 a6 a7 refl refl c.at c.aligned small (top_word_below i t stub s m psp o memory c) (subst (λ r. Called i r 0) (sym return_is) called)
+      numbered_within i t c.placed c.tables stub (IsGood i) (HandlerRule i t) (reach i t stub s m psp o memory c) (good_while_off i c.placed.rules) msp psp s.status (record s.protection { handler = true }) o 0 memory a0 a1 a2 a3 a4 a5 a6 a7 refl refl c.at c.aligned small (top_word_below i t stub s m psp o memory c) (subst (λ r. Called i r 0) (sym return_is) called)
       (λ d r shut. inl (halted i t stub s m psp o memory c 4 d r, shut))
       (λ q1 eq off1 f.
       at_within (ap (λ q. core msp psp q s.status memory psp k.block k.stack (read 4 (t.monitor - i.ram_base + 4) memory) (read 4 (o + 24) memory) 0 MPU_CTRL 0) eq ∙ ap₂ (λ x y. core msp psp here s.status memory psp k.block k.stack x y 0 MPU_CTRL 0) (top_word i t stub s m psp o memory c) return_is)
@@ -133,7 +133,7 @@ module _ (nothing : NothingStops) (equal : holds 0 (compare_flags 0 0) ≡ true)
 
   module _ (pc : ℕ) (has : CodeIn i pc (code the_test)) (from_flash : i.flash_base ≤ pc) (in_page : pc + code_size (code the_test) ≤ i.flash_base + 4096) (queues : List (List ℕ)) (x : Scratch) where
     stands : CodeAt by_mpu i here pc (code the_test)
-    stands = code_may_run by_mpu i here (code the_test) pc has (λ a lo hi. (may i t stub s m psp o memory c here here_off).fetched a (omega (arith, lo, from_flash)) (omega (arith, hi, in_page)))
+    stands = code_may_run by_mpu i here (code the_test) pc has (λ a lo hi. (good_while_off i c.placed.rules here here_off).fetched a (omega (arith, lo, from_flash)) (omega (arith, hi, in_page)))
 
     abbrev y : Scratch
     y = record x { flags = compare_flags 0 0 }

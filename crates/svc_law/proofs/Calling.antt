@@ -28,12 +28,12 @@ use Rattle.monitor_laws.proofs.Off.{core, with_unit, IsOff}
 use Rattle.monitor_laws.proofs.Fetched.{UnitLaws, page_is_fetched}
 use Rattle.monitor_laws.proofs.Opened.{FrameIsOpen}
 use Rattle.monitor_laws.proofs.HandlerWords.{InStack, Changed, changed_write}
-use Rattle.monitor_laws.proofs.EnterSave.{beside, stored}
+use Rattle.monitor_laws.proofs.LeaveWords.{beside, stored}
 use Rattle.monitor_laws.proofs.Lend.{MayLend, with_loan}
 use Rattle.handler_runs.proofs.Frames.{stacked_is}
 use Rattle.handler_runs.proofs.Blocks.{saved_stay, loans_stay}
 use Rattle.handler_runs.proofs.Returned.{LeavesRam, Resuming, Answers}
-use Rattle.handler_runs.proofs.Mode.{IsGood, good_while_off}
+use Rattle.handler_runs.proofs.Mode.{IsGood}
 use Rattle.svc_law.proofs.Targets.{SiteFits}
 
 -- what is known behind the entry, from a thread's state s with block m: the frame at psp, and RAM
@@ -73,9 +73,6 @@ module _ (i : Image) (t : Tables) (stub : ℕ) (s : State) (m : Block) (psp o : 
   A h z = Answers i t s m memory h z
 
   -- ---- which code may be fetched
-
-  pub good : (q : ProtectionState) → IsOff true q → IsGood i q
-  good q x = good_while_off i c.placed.rules q x
 
   pub good_on : UnitLaws → (q : ProtectionState) (cur top : ℕ) → cur < length t.comps → q.handler ≡ true → q.mpu.control ≡ 5 → q.mpu.regions ≡ regions_for i t cur top → IsGood i q
   good_on laws q cur top lt h e r = record { mode = h; fetched = λ a lo hi. page_is_fetched laws i t c.placed c.room cur top lt a lo hi q e r }

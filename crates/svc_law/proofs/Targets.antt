@@ -17,7 +17,8 @@ use Rattle.monitor.specs.Placed.{Placed, IsEntry}
 use Rattle.monitor.specs.Constants.{Constants, constants_with}
 use Rattle.monitor_laws.proofs.Checked.{must_none, and_none}
 use Rattle.monitor_laws.proofs.FlashWords.{Has, flash_has, has_front, has_back, has_record, records_length}
-use Rattle.monitor_laws.proofs.Tables.{counts, product}
+use Rattle.monitor_laws.proofs.Numbers.{product}
+use Rattle.monitor_laws.proofs.Tables.{counts, three_words, two_words}
 use Rattle.monitor_laws.proofs.Placement.{writable}
 use Rattle.armv7m.specs.declared.state.ProtectionState.{ProtectionState}
 use Rattle.gate_steps.specs.Safe.{Rule}
@@ -25,7 +26,6 @@ use Rattle.monitor_laws.proofs.Off.{IsOff}
 use Rattle.monitor_laws.proofs.Opened.{Handles}
 use Rattle.monitor_laws.proofs.EnterTarget.{chosen, HasTargets}
 use Rattle.common_laws.proofs.Lists.{each_drop, each_take}
-use Rattle.monitor_laws.proofs.EnterSite.{three_words}
 
 -- ---- the checks of sites
 
@@ -113,10 +113,6 @@ pub target_is : (t : Tables) (s : SiteRecord) (e : ℕ) (g : TargetRecord) → E
 target_is t s e g ps h = last_is (λ (g : TargetRecord). IsEntry t g.entry g.compartment) e (targets_of t s) g (each_take (λ (g : TargetRecord). IsEntry t g.entry g.compartment) s.count (drop s.first t.targets) (each_drop (λ (g : TargetRecord). IsEntry t g.entry g.compartment) s.first t.targets ps)) h
 
 -- ---- in flash
-
-two_words : (xs : List TargetRecord) → Each (λ x. length (target_words x) ≡ 2) xs
-two_words [] = tt
-two_words (x ∷ xs) = (refl, two_words xs)
 
 dropped : (xs : List TargetRecord) (n k : ℕ) → get_or (drop n xs) k no_target ≡ get_or xs (n + k) no_target
 dropped xs zero k = let z : k ≡ 0 + k = omega arith in ap (λ k. get_or xs k no_target) z

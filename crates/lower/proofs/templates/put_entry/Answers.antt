@@ -13,7 +13,7 @@ use Rattle.lower.specs.Subjects.{func_of, lend_of}
 use Rattle.code_model.specs.Emitted.{with_more, HasRoom}
 use Rattle.lower.proofs.Whole.{words_few, words_more}
 use Rattle.lower.proofs.templates.put_entry.Goals as goal
-use Rattle.code_model.proofs.Rows.{rows_length}
+use Rattle.ir_laws.proofs.Resolved.{rows_length}
 
 pub put_enter-requires-clause-few : goal.put_enter-requires-clause-few
 put_enter-requires-clause-few c =

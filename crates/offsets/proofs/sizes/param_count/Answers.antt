@@ -2,7 +2,7 @@ use Rattle.std.proofs.Common.{map, sym, ◌∙◌}
 use Rattle.std.proofs.lemmas.List.{length-map}
 use Rattle.ir_model.specs.Plain.{slot_of}
 use Rattle.offsets.proofs.sizes.param_count.Goals as goal
-use Rattle.code_model.proofs.Rows.{rows_length}
+use Rattle.ir_laws.proofs.Resolved.{rows_length}
 
 pub returns : goal.returns
 returns c =
