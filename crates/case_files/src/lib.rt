@@ -4,11 +4,13 @@
 mod call;
 mod case;
 mod content;
+mod files;
 mod program;
 mod running;
 mod section;
 mod tally;
 
+pub use files::{bytes_of, patch, put, same};
 pub use program::Program;
 pub use section::Section;
-pub use tally::{Tally, run_file};
+pub use tally::run_files;

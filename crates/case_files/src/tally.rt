@@ -5,12 +5,44 @@ use crate::running::run_case;
 use crate::section::{Section, read_sections};
 use anyhow::{Error, Result, bail};
 use std::alloc::Global;
+use std::process::ExitCode;
+use std::rt::{Env, Files};
+use std::{env, fs};
 
 /// How many cases agreed so far, and how many did not.
 #[derive(Drop)]
-pub struct Tally {
-    pub agree: u64,
-    pub differ: u64,
+struct Tally {
+    agree: u64,
+    differ: u64,
+}
+
+/// Runs the cases of the files that the words behind the program's name are, one file after the other. Prints a line for each case that
+/// differs, and how many agree; the exit status is 0 where all do, and else 1.
+///
+/// # Errors
+///
+/// There is no memory, a file cannot be read, or a line cannot be printed.
+pub fn run_files<P: Program>(
+    rt: &(impl Env + Files + Alloc + Print),
+    alloc: Global,
+    program: &P,
+) -> Result<ExitCode> {
+    let mut texts = Vec::new(alloc);
+    let mut tally = Tally {
+        agree: 0,
+        differ: 0,
+    };
+    for name in env::args(rt)?.skip(1) {
+        let text = fs::read_to_string(rt, name.as_str())?;
+        run_file(rt, alloc, program, &name, &text, &mut texts, &mut tally)?;
+    }
+    let Tally { agree, differ } = tally;
+    println!(rt; "{agree} cases agree")?;
+    if differ == 0 {
+        return Ok(ExitCode::SUCCESS);
+    }
+    println!(rt; "{differ} differ")?;
+    Ok(ExitCode::from(1))
 }
 
 /// Runs the cases of a file, and prints a line for each that differs. What stands before its first case holds for all of them,
@@ -19,7 +51,7 @@ pub struct Tally {
 /// # Errors
 ///
 /// There is no memory, or a line could not be printed.
-pub fn run_file<P: Program>(
+fn run_file<P: Program>(
     rt: &impl Print,
     alloc: Global,
     program: &P,

@@ -1,4 +1,4 @@
-//! Images of firmwares whose functions are grouped by their numbers, by a callback that is given to `compile`.
+//! Images of firmwares whose functions are grouped by their numbers, by a callback that is given to `compile`, from files to a file.
 #![tactic(auto)]
 
 ghost use Rattle.std.specs.Prelude.{◌≡◌, ◌<◌, ◌≤◌, ◌%◌, length};
@@ -7,13 +7,15 @@ ghost use Rattle.plan_model.specs.Boards.{IsBoard};
 
 use anyhow::{Result, bail};
 use board_text::read_board;
+use case_files::{bytes_of, put};
 use compiler::compile;
 use firmware_plans::needs_of;
 use grouping::grouping::Grouping;
 use ir_check::check;
 use ir_model::checked::Checked;
-use ir_model::text_limits::FUNCTION_LIMIT;
+use ir_model::text_limits::{FUNCTION_LIMIT, TEXT_LIMIT};
 use ir_resolve::resolving::resolve;
+use outside::MemFiles;
 use plan_model::groups::FuncFacts;
 use plan_model::plan::Board;
 use std::alloc::Global;
@@ -21,14 +23,30 @@ use std::alloc::Global;
 /// The most groups, and the most functions of a firmware.
 const MOST: u32 = FUNCTION_LIMIT as u32;
 
-/// The text of the image of a firmware for a board, by the texts of both, its functions in so many groups: function k is in group k
-/// modulo their count.
+/// Writes the text of the image of a firmware for a board to a file, its functions in so many groups: function k is in group k modulo
+/// their count.
 ///
 /// # Errors
 ///
-/// One of the texts is refused, or the firmware by its checks or by the compiler; it has no function, or more than a firmware may
-/// have; there is no group, or more than that; or memory ran out.
-pub fn divided_image(alloc: Global, firmware: &[u8], board: &[u8], count: u32) -> Result<Vec<u8>>
+/// The count is no number; a file is not read, or the image not written; one of the texts is refused, or the firmware by its checks or by
+/// the compiler; it has no function, or more than a firmware may have; there is no group, or more than that; or memory ran out.
+pub fn divide(
+    alloc: Global,
+    files: &mut MemFiles,
+    count: &str,
+    firmware: &str,
+    board: &str,
+    image: &str,
+) -> Result<()> {
+    let count: u32 = count.parse()?;
+    let firmware = bytes_of(alloc, files, firmware, u64::from(TEXT_LIMIT))?;
+    let board = bytes_of(alloc, files, board, u64::from(TEXT_LIMIT))?;
+    let made = divided_image(alloc, &firmware, &board, count)?;
+    put(files, image, &made)
+}
+
+/// The text of the image of a firmware for a board, by the texts of both.
+fn divided_image(alloc: Global, firmware: &[u8], board: &[u8], count: u32) -> Result<Vec<u8>>
     requires { length firmware.now ≤ text_limit }
 {
     let Ok(firmware) = ir_reader::read(alloc, firmware) else {
