@@ -1,7 +1,5 @@
 //! What cases do with files beside calls of a program.
 
-ghost use Rattle.std.specs.Prelude.{◌≤◌, length, IfOk};
-
 use anyhow::{Result, bail};
 use outside::{Files, MemFiles, read_whole};
 use std::alloc::Global;
@@ -15,8 +13,8 @@ const MOST: u64 = 4_194_304;
 ///
 /// They differ, or one of them is not read.
 pub fn same(alloc: Global, files: &mut MemFiles, file: &str, other: &str) -> Result<()> {
-    let one = bytes_of(alloc, files, file, MOST)?;
-    let two = bytes_of(alloc, files, other, MOST)?;
+    let one = bytes_of(alloc, files, file)?;
+    let two = bytes_of(alloc, files, other)?;
     if one.as_slice() != two.as_slice() {
         bail!("they differ");
     }
@@ -37,8 +35,8 @@ pub fn patch(
     name: &str,
 ) -> Result<()> {
     let place: usize = place.parse()?;
-    let mut bytes = bytes_of(alloc, files, file, MOST)?;
-    let code = bytes_of(alloc, files, code, MOST)?;
+    let mut bytes = bytes_of(alloc, files, file)?;
+    let code = bytes_of(alloc, files, code)?;
     for (k, byte) in code.iter().enumerate() {
         match bytes.get_mut(place.saturating_add(k)) {
             Some(old) => *old = *byte,
@@ -49,14 +47,8 @@ pub fn patch(
 }
 
 /// The bytes of a file.
-///
-/// # Errors
-///
-/// There is no such file, it is longer than the limit, or there is no memory.
-pub fn bytes_of(alloc: Global, files: &mut MemFiles, name: &str, limit: u64) -> Result<Vec<u8>>
-    ensures { IfOk result (λ bytes. length bytes.items ≤ limit) }
-{
-    match read_whole(alloc, files, name, limit) {
+fn bytes_of(alloc: Global, files: &mut MemFiles, name: &str) -> Result<Vec<u8>> {
+    match read_whole(alloc, files, name, MOST) {
         Ok(bytes) => Ok(bytes),
         Err(_) => bail!("not read"),
     }

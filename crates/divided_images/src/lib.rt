@@ -1,19 +1,18 @@
 //! Images of firmwares whose functions are grouped by their numbers, by a callback that is given to `compile`, from files to a file.
 #![tactic(auto)]
 
-ghost use Rattle.std.specs.Prelude.{◌≡◌, ◌<◌, ◌≤◌, ◌%◌, length};
-ghost use Rattle.ir_model.specs.TextLimits.{text_limit};
+ghost use Rattle.std.specs.Prelude.{◌≡◌, ◌<◌, ◌%◌, IfOk};
 ghost use Rattle.plan_model.specs.Boards.{IsBoard};
 
 use anyhow::{Result, bail};
-use board_text::read_board;
-use case_files::{bytes_of, put};
+use case_files::put;
+use commands::loading::{board_of, load, load_firmware};
 use compiler::compile;
+use firmware_commands::reading::firmware_of;
 use firmware_plans::needs_of;
 use grouping::grouping::Grouping;
-use ir_check::check;
 use ir_model::checked::Checked;
-use ir_model::text_limits::{FUNCTION_LIMIT, TEXT_LIMIT};
+use ir_model::text_limits::FUNCTION_LIMIT;
 use ir_resolve::resolving::resolve;
 use outside::MemFiles;
 use plan_model::groups::FuncFacts;
@@ -39,26 +38,33 @@ pub fn divide(
     image: &str,
 ) -> Result<()> {
     let count: u32 = count.parse()?;
-    let firmware = bytes_of(alloc, files, firmware, u64::from(TEXT_LIMIT))?;
-    let board = bytes_of(alloc, files, board, u64::from(TEXT_LIMIT))?;
-    let made = divided_image(alloc, &firmware, &board, count)?;
+    let (firmware, board) = loaded(alloc, files, firmware, board)?;
+    let made = divided(alloc, &firmware, &board, count)?;
     put(files, image, &made)
 }
 
-/// The text of the image of a firmware for a board, by the texts of both.
-fn divided_image(alloc: Global, firmware: &[u8], board: &[u8], count: u32) -> Result<Vec<u8>>
-    requires { length firmware.now ≤ text_limit }
+/// A checked firmware and a board, from their files.
+fn loaded(
+    alloc: Global,
+    files: &mut MemFiles,
+    firmware: &str,
+    board: &str,
+) -> Result<(Checked, Board)>
+    ensures { IfOk result (λ p. IsBoard p.1) }
 {
-    let Ok(firmware) = ir_reader::read(alloc, firmware) else {
+    let Ok(bytes) = load_firmware(alloc, files, firmware) else {
+        bail!("the firmware is not read");
+    };
+    let Ok(checked) = firmware_of(alloc, firmware, &bytes) else {
         bail!("no firmware");
     };
-    let Ok(checked) = check(alloc, firmware) else {
-        bail!("not typed");
+    let Ok(text) = load(alloc, files, board) else {
+        bail!("the board is not read");
     };
-    let Ok(board) = read_board(alloc, board) else {
+    let Ok(board) = board_of(alloc, board, &text) else {
         bail!("no board");
     };
-    divided(alloc, &checked, &board, count)
+    Ok((checked, board))
 }
 
 /// The text of the image of a checked firmware.
