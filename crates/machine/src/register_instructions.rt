@@ -6,7 +6,9 @@ ghost use Rattle.armv7m.specs.Act.{Changes};
 ghost use Rattle.machine.specs.Parts.{left, does};
 ghost use Rattle.armv7m.specs.State.{at};
 
-use crate::data::{add_or_subtract, after_outcome, immediate, immediate_amount, operation, shift_by};
+use crate::data::{
+    add_or_subtract, after_outcome, immediate, immediate_amount, operation, shift_by,
+};
 use crate::parts::Parts;
 use events::event::Event;
 use thumb_model::table::Instr;

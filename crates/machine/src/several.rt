@@ -306,11 +306,7 @@ impl Parts {
         let address = self.core.low_register(base);
         let words = self.load_words(address, registers.len() as u8)?;
         self.core.take(base, address.wrapping_add(4 * registers.len() as u32), next);
-        fill(
-            &mut self.core,
-            registers.as_slice(),
-            words.as_slice(),
-        );
+        fill(&mut self.core, registers.as_slice(), words.as_slice());
         None
     }
 }
