@@ -18,7 +18,7 @@ use Rattle.mem_bus.specs.Bus.{fetch_at}
 use Rattle.armv7m.specs.declared.state.FaultStatus.{FaultStatus}
 use Rattle.armv7m.specs.declared.state.ProtectionState.{ProtectionState}
 use Rattle.armv7m.specs.declared.state.CoreRegisters.{CoreRegisters}
-use Rattle.armv7m.specs.declared.fetching.Fetched.TheVariants.{Took}
+use Rattle.armv7m.specs.declared.answers.Fetched.TheVariants.{Took}
 use Rattle.armv7m.specs.State.{State, Touched, Turn, by_mpu, register}
 use Rattle.armv7m.specs.Act.{Act, Changes, Loads, Stores, LoadsMany, StoresMany, GetsSpecial, SetsSpecial, Exchanges, Calls, Halts, Stops}
 use Rattle.armv7m.specs.AccessLaw.{free, IsAllowed, AreAllowed}

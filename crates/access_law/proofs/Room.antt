@@ -13,7 +13,7 @@ use Rattle.mem_bus.proofs.Offsets.{in_ram}
 use Rattle.armv7m.specs.declared.state.CoreRegisters.{CoreRegisters}
 use Rattle.armv7m.specs.declared.state.FaultStatus.{FaultStatus}
 use Rattle.armv7m.specs.declared.state.ProtectionState.{ProtectionState}
-use Rattle.armv7m.specs.declared.accesses.Verdict.TheVariants.{Refused}
+use Rattle.armv7m.specs.declared.answers.Verdict.TheVariants.{Refused}
 use Rattle.armv7m.specs.State.{State, PermissionTest, by_mpu}
 use Rattle.armv7m.specs.Act.{Loads, Stores}
 use Rattle.armv7m.specs.Instructions.{act}

@@ -18,13 +18,13 @@ use Rattle.armv7m.specs.State.{State, PermissionTest, by_mpu, is_unprivileged}
 use Rattle.armv7m.specs.Act.{Act, Changes, Loads, Stores, LoadsMany, StoresMany, GetsSpecial, SetsSpecial, Exchanges, Calls, Halts, Stops}
 use Rattle.armv7m.specs.Instructions.{act}
 use Rattle.armv7m.specs.System.{in_system, is_system_register}
-use Rattle.armv7m.specs.declared.several.Verdicts.{Verdicts}
-use Rattle.armv7m.specs.declared.several.Verdicts.TheVariants.{AllGood, RefusedAt, BadOne}
+use Rattle.armv7m.specs.declared.answers.Verdicts.{Verdicts}
+use Rattle.armv7m.specs.declared.answers.Verdicts.TheVariants.{AllGood, RefusedAt, BadOne}
 use Rattle.armv7m.specs.Tests.{tested, verdict, and_then, verdicts, all_open}
 use Rattle.armv7m.specs.Exceptions.{stacked_words, frame_at, supervisor_call, entered, call, is_thread, leaves, returns, return_on_psp, return_on_msp}
 use Rattle.armv7m.specs.Perform.{after_load, after_store, after_loads, after_stores, exchanged, perform}
-use Rattle.armv7m.specs.declared.fetching.Fetched.{Fetched}
-use Rattle.armv7m.specs.declared.fetching.Fetched.TheVariants.{Took, NotAllowed, NotMapped}
+use Rattle.armv7m.specs.declared.answers.Fetched.{Fetched}
+use Rattle.armv7m.specs.declared.answers.Fetched.TheVariants.{Took, NotAllowed, NotMapped}
 use Rattle.armv7m.specs.Step.{second_half, by_size, first_half, fetch, performed, fetched, running, turn}
 use Rattle.armv7m.specs.AccessLaw.{free, AreAllowed, IsAllowed, IsStepAllowed}
 

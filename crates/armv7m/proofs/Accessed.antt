@@ -9,11 +9,11 @@ use Rattle.mpu_model.specs.declared.TheConstants.{MPU_TYPE, MPU_CTRL, MPU_RNR, M
 use Rattle.device_model.specs.declared.image.Image.{Image}
 use Rattle.mem_bus.specs.Places.{Nowhere, place, is_memory, choose}
 use Rattle.armv7m.specs.declared.TheConstants.{CCR, SHCSR, CFSR, MMFAR}
-use Rattle.armv7m.specs.declared.accesses.Verdict.TheVariants.{ToBus}
-use Rattle.armv7m.specs.declared.several.Verdicts.TheVariants.{BadOne}
+use Rattle.armv7m.specs.declared.answers.Verdict.TheVariants.{ToBus}
+use Rattle.armv7m.specs.declared.answers.Verdicts.TheVariants.{BadOne}
 use Rattle.armv7m.specs.declared.state.CoreRegisters.{CoreRegisters}
 use Rattle.armv7m.specs.declared.state.StopReason.TheVariants.{Bus}
-use Rattle.armv7m.specs.declared.fetching.Fetched.TheVariants.{NotMapped}
+use Rattle.armv7m.specs.declared.answers.Fetched.TheVariants.{NotMapped}
 use Rattle.armv7m.specs.State.{State, PermissionTest}
 use Rattle.armv7m.specs.Instructions.{act}
 use Rattle.armv7m.specs.System.{in_system, is_system_register}

@@ -9,8 +9,8 @@ use Rattle.mpu_model.specs.Protection.{IsAccessWidth}
 use Rattle.armv7m.specs.declared.state.CoreRegisters.{CoreRegisters}
 use Rattle.armv7m.specs.State.{with_register, with_low, at}
 use Rattle.armv7m.specs.Act.{Act, Changes, Loads, Stores, LoadsMany, StoresMany, GetsSpecial, SetsSpecial, Exchanges, Calls, Halts, Stops}
-use Rattle.armv7m.specs.declared.data.Outcome.{Outcome}
-use Rattle.armv7m.specs.declared.data.Outcome.TheVariants.{Gives, Tests}
+use Rattle.armv7m.specs.declared.answers.Outcome.{Outcome}
+use Rattle.armv7m.specs.declared.answers.Outcome.TheVariants.{Gives, Tests}
 use Rattle.armv7m.specs.DataOperations.{after_outcome}
 use Rattle.armv7m.specs.Instructions.{act, jump, listed, filled, last_of}
 use Rattle.armv7m.specs.ThreadStep.{KeepsStacks}

@@ -14,7 +14,7 @@ use Rattle.armv7m.specs.State.{PermissionTest, is_unprivileged, with_register}
 use Rattle.armv7m.specs.Act.{Act, Changes, Loads, Stores, GetsSpecial, SetsSpecial, Halts}
 use Rattle.armv7m.specs.Instructions.{act}
 use Rattle.armv7m.specs.System.{read_special, write_special}
-use Rattle.armv7m.specs.declared.accesses.Verdict.TheVariants.{ToBus}
+use Rattle.armv7m.specs.declared.answers.Verdict.TheVariants.{ToBus}
 use Rattle.armv7m.specs.Tests.{verdict}
 use Rattle.armv7m.specs.Perform.{perform}
 use Rattle.armv7m.specs.Step.{turn}

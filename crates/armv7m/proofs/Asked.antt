@@ -12,10 +12,10 @@ use Rattle.armv7m.specs.State.{State, Turn, PermissionTest, is_unprivileged, wit
 use Rattle.armv7m.specs.Act.{Act, Changes, Loads, Stores, LoadsMany, StoresMany, GetsSpecial, SetsSpecial, Exchanges, Calls, Halts, Stops}
 use Rattle.armv7m.specs.Instructions.{act}
 use Rattle.armv7m.specs.System.{write_special}
-use Rattle.armv7m.specs.declared.accesses.Verdict.{Verdict}
-use Rattle.armv7m.specs.declared.accesses.Verdict.TheVariants.{ToBus, ToSystem, Refused, Bad}
-use Rattle.armv7m.specs.declared.several.Verdicts.{Verdicts}
-use Rattle.armv7m.specs.declared.several.Verdicts.TheVariants.{AllGood, RefusedAt, BadOne}
+use Rattle.armv7m.specs.declared.answers.Verdict.{Verdict}
+use Rattle.armv7m.specs.declared.answers.Verdict.TheVariants.{ToBus, ToSystem, Refused, Bad}
+use Rattle.armv7m.specs.declared.answers.Verdicts.{Verdicts}
+use Rattle.armv7m.specs.declared.answers.Verdicts.TheVariants.{AllGood, RefusedAt, BadOne}
 use Rattle.armv7m.specs.Tests.{verdict, verdicts}
 use Rattle.armv7m.specs.Exceptions.{words_from, mem_manage, supervisor_call, entered, is_frame_open, call, is_fault_enabled, fault_by, data_fault, leaves, data_status}
 use Rattle.armv7m.specs.Perform.{loaded, after_load, stored, after_store, get_words, or_usage, after_loads, after_stores, jumped, exchanged, perform}

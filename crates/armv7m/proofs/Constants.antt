@@ -9,7 +9,7 @@ use Rattle.thumb_model.specs.declared.table.Instr.TheVariants.{AddSubRegister, D
 use Rattle.device_model.specs.declared.image.Image.{Image}
 use Rattle.armv7m.specs.State.{PermissionTest}
 use Rattle.armv7m.specs.Act.{Loads, Stores, Exchanges}
-use Rattle.armv7m.specs.declared.data.Outcome.TheVariants.{Gives}
+use Rattle.armv7m.specs.declared.answers.Outcome.TheVariants.{Gives}
 use Rattle.armv7m.specs.Instructions.{act}
 use Rattle.armv7m.specs.Perform.{perform}
 use Rattle.armv7m.specs.Code.{Stands, Steps, Runs}

@@ -19,17 +19,17 @@ use Rattle.armv7m.specs.State.{State, PermissionTest, is_unprivileged, with_core
 use Rattle.armv7m.specs.Act.{Act, Changes, Loads, Stores, LoadsMany, StoresMany, GetsSpecial, SetsSpecial, Exchanges, Calls, Halts, Stops}
 use Rattle.armv7m.specs.Instructions.{act}
 use Rattle.armv7m.specs.System.{in_system, write_special}
-use Rattle.armv7m.specs.declared.accesses.Verdict.{Verdict}
-use Rattle.armv7m.specs.declared.accesses.Verdict.TheVariants.{ToBus, ToSystem, Refused, Bad}
-use Rattle.armv7m.specs.declared.several.Verdicts.{Verdicts}
-use Rattle.armv7m.specs.declared.several.Verdicts.TheVariants.{AllGood, RefusedAt, BadOne}
+use Rattle.armv7m.specs.declared.answers.Verdict.{Verdict}
+use Rattle.armv7m.specs.declared.answers.Verdict.TheVariants.{ToBus, ToSystem, Refused, Bad}
+use Rattle.armv7m.specs.declared.answers.Verdicts.{Verdicts}
+use Rattle.armv7m.specs.declared.answers.Verdicts.TheVariants.{AllGood, RefusedAt, BadOne}
 use Rattle.armv7m.specs.Tests.{verdict, verdicts}
 use Rattle.armv7m.specs.Exceptions.{entered, call, fault_by, is_frame_open, is_fault_enabled, data_fault, fetch_fault, leaves, returns, mem_manage, supervisor_call}
 use Rattle.armv7m.specs.Perform.{perform, loaded, stored, after_load, after_store, after_loads, after_stores, word_to, put_words, or_usage, exchanged, jumped}
-use Rattle.armv7m.specs.declared.fetching.Fetched.{Fetched}
-use Rattle.armv7m.specs.declared.fetching.Fetched.TheVariants.{Took, NotAllowed, NotMapped}
+use Rattle.armv7m.specs.declared.answers.Fetched.{Fetched}
+use Rattle.armv7m.specs.declared.answers.Fetched.TheVariants.{Took, NotAllowed, NotMapped}
 use Rattle.armv7m.specs.Step.{turn, fetch, performed, fetched, running}
-use Rattle.armv7m.specs.Machine.{EndsOrGoesOn, StepsEndOrGoOn}
+use Rattle.armv7m.specs.Ends.{EndsOrGoesOn, StepsEndOrGoOn}
 
 entered_ends : (b : Bool) (i : Image) (n ret : ℕ) (t : FaultStatus) (s : State) → EndsOrGoesOn s (entered b i n ret t s)
 entered_ends false i n ret t s = inr (_, tt, refl)

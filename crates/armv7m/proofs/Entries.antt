@@ -14,12 +14,12 @@ use Rattle.armv7m.specs.State.{Turn, PermissionTest}
 use Rattle.armv7m.specs.Act.{Loads, Stores, LoadsMany, StoresMany, Exchanges, Calls}
 use Rattle.armv7m.specs.Instructions.{act}
 use Rattle.armv7m.specs.System.{in_system}
-use Rattle.armv7m.specs.declared.accesses.Verdict.TheVariants.{Refused}
-use Rattle.armv7m.specs.declared.several.Verdicts.TheVariants.{RefusedAt}
+use Rattle.armv7m.specs.declared.answers.Verdict.TheVariants.{Refused}
+use Rattle.armv7m.specs.declared.answers.Verdicts.TheVariants.{RefusedAt}
 use Rattle.armv7m.specs.Tests.{verdict, verdicts, all_open}
 use Rattle.armv7m.specs.Exceptions.{words_from, frame_at, frame_of, entry_core, entered, is_frame_open, call, fault_by, is_fault_enabled, vector_offset, supervisor_call, mem_manage, return_on_psp, return_on_msp, is_thread, unstacked}
 use Rattle.armv7m.specs.Perform.{perform, after_load, after_store, after_loads, after_stores}
-use Rattle.armv7m.specs.declared.fetching.Fetched.TheVariants.{NotAllowed}
+use Rattle.armv7m.specs.declared.answers.Fetched.TheVariants.{NotAllowed}
 use Rattle.armv7m.specs.Step.{turn, fetch, fetched}
 use Rattle.armv7m.specs.Code.{size, Stands, live, Steps}
 use Rattle.armv7m.specs.Stack.{Words, words_at, May, Frame}

@@ -19,8 +19,8 @@ use Rattle.armv7m.specs.declared.state.FaultStatus.{FaultStatus}
 use Rattle.armv7m.specs.State.{State, Turn, PermissionTest}
 use Rattle.armv7m.specs.Instructions.{act}
 use Rattle.armv7m.specs.Perform.{perform}
-use Rattle.armv7m.specs.declared.fetching.Fetched.{Fetched}
-use Rattle.armv7m.specs.declared.fetching.Fetched.TheVariants.{Took}
+use Rattle.armv7m.specs.declared.answers.Fetched.{Fetched}
+use Rattle.armv7m.specs.declared.answers.Fetched.TheVariants.{Took}
 use Rattle.armv7m.specs.Step.{turn, fetch, fetched}
 use Rattle.armv7m.specs.Running.{code_size, CodeMayRun, CodeHasParts}
 use Rattle.armv7m.specs.Events.{StepsWith}

@@ -10,8 +10,8 @@ use Rattle.device_model.specs.Rules.{ObeysRules}
 use Rattle.mem_bus.specs.Places.{Place, InRam, InFlash, InWindow, Nowhere, place, choose, inside, find_window}
 use Rattle.mem_bus.specs.Bus.{fetch_at}
 use Rattle.armv7m.specs.State.{State, PermissionTest}
-use Rattle.armv7m.specs.declared.fetching.Fetched.{Fetched}
-use Rattle.armv7m.specs.declared.fetching.Fetched.TheVariants.{Took, NotAllowed, NotMapped}
+use Rattle.armv7m.specs.declared.answers.Fetched.{Fetched}
+use Rattle.armv7m.specs.declared.answers.Fetched.TheVariants.{Took, NotAllowed, NotMapped}
 use Rattle.armv7m.specs.Step.{fetch, first_half, second_half, by_size}
 
 -- ---- places

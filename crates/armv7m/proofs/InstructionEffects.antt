@@ -11,7 +11,7 @@ use Rattle.armv7m.specs.declared.state.CoreRegisters.{CoreRegisters}
 use Rattle.armv7m.specs.declared.state.End.TheVariants.{Halt}
 use Rattle.armv7m.specs.State.{PermissionTest, register, with_register, with_low}
 use Rattle.armv7m.specs.Act.{Changes}
-use Rattle.armv7m.specs.declared.data.Outcome.TheVariants.{Gives, Tests}
+use Rattle.armv7m.specs.declared.answers.Outcome.TheVariants.{Gives, Tests}
 use Rattle.armv7m.specs.DataOperations.{shift_by, immediate_amount, add_or_subtract, immediate, operation}
 use Rattle.armv7m.specs.Instructions.{act}
 use Rattle.armv7m.specs.Code.{size, Stands, live, Steps}

@@ -16,15 +16,11 @@ mod Threads
 pub mod Constants
 mod ShapeActs
 mod Shape
-mod ShapeSteps
+pub mod ShapeSteps
 pub mod CodeBytes
 pub mod CodeParts
-mod Loaded
-mod Lists
-mod Fetches
-mod Ends
-mod Machines
-mod MachineRuns
+pub mod Fetches
+pub mod Ends
 mod ActStacks
 pub mod Asked
 pub mod ThreadStep

@@ -23,12 +23,12 @@ use Rattle.armv7m.specs.declared.state.FaultStatus.{FaultStatus}
 use Rattle.armv7m.specs.declared.state.End.{End}
 use Rattle.armv7m.specs.declared.state.End.TheVariants.{Stop}
 use Rattle.armv7m.specs.declared.state.StopReason.TheVariants.{Usage}
-use Rattle.armv7m.specs.declared.accesses.Verdict.{Verdict}
-use Rattle.armv7m.specs.declared.accesses.Verdict.TheVariants.{ToBus, ToSystem, Refused, Bad}
-use Rattle.armv7m.specs.declared.several.Verdicts.{Verdicts}
-use Rattle.armv7m.specs.declared.several.Verdicts.TheVariants.{AllGood, RefusedAt, BadOne}
-use Rattle.armv7m.specs.declared.fetching.Fetched.{Fetched}
-use Rattle.armv7m.specs.declared.fetching.Fetched.TheVariants.{Took, NotAllowed, NotMapped}
+use Rattle.armv7m.specs.declared.answers.Verdict.{Verdict}
+use Rattle.armv7m.specs.declared.answers.Verdict.TheVariants.{ToBus, ToSystem, Refused, Bad}
+use Rattle.armv7m.specs.declared.answers.Verdicts.{Verdicts}
+use Rattle.armv7m.specs.declared.answers.Verdicts.TheVariants.{AllGood, RefusedAt, BadOne}
+use Rattle.armv7m.specs.declared.answers.Fetched.{Fetched}
+use Rattle.armv7m.specs.declared.answers.Fetched.TheVariants.{Took, NotAllowed, NotMapped}
 use Rattle.armv7m.specs.State.{State, Touched, Turn, PermissionTest, is_unprivileged, calm, with_core}
 use Rattle.armv7m.specs.Act.{Act, Changes, Loads, Stores, LoadsMany, StoresMany, GetsSpecial, SetsSpecial, Exchanges, Calls, Halts, Stops}
 use Rattle.armv7m.specs.Instructions.{act}

@@ -15,8 +15,8 @@ use Rattle.thumb_model.specs.declared.table.Instr.TheVariants.{ShiftImmediate, A
 use Rattle.armv7m.specs.declared.state.CoreRegisters.{CoreRegisters}
 use Rattle.armv7m.specs.State.{register, with_register, low_register, at, low_at}
 use Rattle.armv7m.specs.Act.{Act, Changes, Loads, Stores, LoadsMany, StoresMany, GetsSpecial, SetsSpecial, Exchanges, Calls, Halts, Stops}
-use Rattle.armv7m.specs.declared.data.Outcome.{Outcome}
-use Rattle.armv7m.specs.declared.data.Outcome.TheVariants.{Gives, Tests}
+use Rattle.armv7m.specs.declared.answers.Outcome.{Outcome}
+use Rattle.armv7m.specs.declared.answers.Outcome.TheVariants.{Gives, Tests}
 use Rattle.armv7m.specs.DataOperations.{after_outcome, shift_by, immediate_amount, add_or_subtract, immediate, operation}
 use Rattle.armv7m.specs.Instructions.{act, jump, exchange, high_operation, load_into, store_from, transfer, transfer_immediate, stack_relative, adjusted_stack, listed, values_of, filled, with_link, push, last_of, popped, push_or_pop, store_multiple, load_multiple}
 use Rattle.armv7m.specs.Stack.{AreWords}

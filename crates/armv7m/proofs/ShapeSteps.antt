@@ -34,18 +34,18 @@ use Rattle.armv7m.specs.Act.{Act, Changes, Loads, Stores, LoadsMany, StoresMany,
 use Rattle.armv7m.specs.Instructions.{act}
 use Rattle.armv7m.specs.Stack.{AreWords}
 use Rattle.armv7m.specs.System.{read_system, read_special, write_special, with_stack, selected_stack, write_stack_pointer, is_in_use, in_system}
-use Rattle.armv7m.specs.declared.accesses.Verdict.{Verdict}
-use Rattle.armv7m.specs.declared.accesses.Verdict.TheVariants.{ToBus, ToSystem, Refused, Bad}
-use Rattle.armv7m.specs.declared.several.Verdicts.{Verdicts}
-use Rattle.armv7m.specs.declared.several.Verdicts.TheVariants.{AllGood, RefusedAt, BadOne}
+use Rattle.armv7m.specs.declared.answers.Verdict.{Verdict}
+use Rattle.armv7m.specs.declared.answers.Verdict.TheVariants.{ToBus, ToSystem, Refused, Bad}
+use Rattle.armv7m.specs.declared.answers.Verdicts.{Verdicts}
+use Rattle.armv7m.specs.declared.answers.Verdicts.TheVariants.{AllGood, RefusedAt, BadOne}
 use Rattle.armv7m.specs.Tests.{verdict, verdicts, and_then}
 use Rattle.armv7m.specs.Exceptions.{push_words, stacked_words, frame_at, frame_of, has_pad, vector, entry_core, entered, call, fault_by, is_frame_open, is_fault_enabled, data_fault, fetch_fault, with_pad, unstacked, leaves, returns, mem_manage, supervisor_call}
 use Rattle.armv7m.specs.Perform.{perform, loaded, stored, after_load, after_store, after_loads, after_stores, word_from, word_to, get_words, put_words, or_usage, exchanged, jumped}
 use Rattle.words.specs.Runs.{run}
 use Rattle.mpu_model.specs.Registers.{blank}
 use Rattle.armv7m.specs.Run.{start}
-use Rattle.armv7m.specs.declared.fetching.Fetched.{Fetched}
-use Rattle.armv7m.specs.declared.fetching.Fetched.TheVariants.{Took, NotAllowed, NotMapped}
+use Rattle.armv7m.specs.declared.answers.Fetched.{Fetched}
+use Rattle.armv7m.specs.declared.answers.Fetched.TheVariants.{Took, NotAllowed, NotMapped}
 use Rattle.armv7m.specs.Step.{step, turn, fetch, performed, fetched, running}
 use Rattle.armv7m.specs.Shape.{EachWord, CoreFits, StatusFits, StateFits, StepsKeepShape, RunsKeepShape}
 use Rattle.armv7m.proofs.ShapeActs.{ActFits, MaybeFits, act_fits, if_below, set_words, at_fits, stack_fits, with_register_fits, odd_before}

@@ -11,7 +11,7 @@ use Rattle.armv7m.specs.Act.{Loads, Stores, GetsSpecial, SetsSpecial}
 use Rattle.armv7m.specs.Instructions.{act}
 use Rattle.armv7m.specs.System.{read_system, write_status}
 use Rattle.mpu_model.specs.Registers.{write_register}
-use Rattle.armv7m.specs.declared.accesses.Verdict.TheVariants.{ToSystem}
+use Rattle.armv7m.specs.declared.answers.Verdict.TheVariants.{ToSystem}
 use Rattle.armv7m.specs.Tests.{verdict}
 use Rattle.armv7m.specs.Perform.{perform}
 use Rattle.armv7m.specs.Code.{Stands, Steps}

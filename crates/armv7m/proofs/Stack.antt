@@ -15,8 +15,8 @@ use Rattle.armv7m.specs.State.{State, PermissionTest}
 use Rattle.armv7m.specs.Act.{StoresMany, LoadsMany}
 use Rattle.armv7m.specs.Instructions.{act}
 use Rattle.armv7m.specs.System.{in_system}
-use Rattle.armv7m.specs.declared.accesses.Verdict.TheVariants.{ToBus}
-use Rattle.armv7m.specs.declared.several.Verdicts.TheVariants.{AllGood}
+use Rattle.armv7m.specs.declared.answers.Verdict.TheVariants.{ToBus}
+use Rattle.armv7m.specs.declared.answers.Verdicts.TheVariants.{AllGood}
 use Rattle.armv7m.specs.Tests.{verdict, verdicts, all_open}
 use Rattle.armv7m.specs.Exceptions.{push_words}
 use Rattle.armv7m.specs.Perform.{perform, get_words, put_words}

@@ -25,15 +25,15 @@ use Rattle.armv7m.specs.State.{State, Touched, Turn, by_mpu, is_unprivileged, ca
 use Rattle.armv7m.specs.Act.{Act, Changes, Loads, Stores, LoadsMany, StoresMany, GetsSpecial, SetsSpecial, Exchanges, Calls as CallsAct, Halts, Stops}
 use Rattle.armv7m.specs.Instructions.{act}
 use Rattle.armv7m.specs.System.{in_system, write_special}
-use Rattle.armv7m.specs.declared.accesses.Verdict.{Verdict}
-use Rattle.armv7m.specs.declared.accesses.Verdict.TheVariants.{ToBus, ToSystem, Refused, Bad}
-use Rattle.armv7m.specs.declared.several.Verdicts.{Verdicts}
-use Rattle.armv7m.specs.declared.several.Verdicts.TheVariants.{AllGood, RefusedAt, BadOne}
+use Rattle.armv7m.specs.declared.answers.Verdict.{Verdict}
+use Rattle.armv7m.specs.declared.answers.Verdict.TheVariants.{ToBus, ToSystem, Refused, Bad}
+use Rattle.armv7m.specs.declared.answers.Verdicts.{Verdicts}
+use Rattle.armv7m.specs.declared.answers.Verdicts.TheVariants.{AllGood, RefusedAt, BadOne}
 use Rattle.armv7m.specs.Tests.{verdict, and_then, verdicts, all_open}
 use Rattle.armv7m.specs.Exceptions.{push_words, words_from, mem_manage, supervisor_call, vector_offset, frame_at, entered, is_frame_open, call, is_fault_enabled, fault_by, fault, data_fault, fetch_status, data_status}
 use Rattle.armv7m.specs.Perform.{loaded, after_load, stored, after_store, put_words, get_words, or_usage, after_loads, after_stores, jumped, exchanged, perform}
-use Rattle.armv7m.specs.declared.fetching.Fetched.{Fetched}
-use Rattle.armv7m.specs.declared.fetching.Fetched.TheVariants.{Took, NotAllowed, NotMapped}
+use Rattle.armv7m.specs.declared.answers.Fetched.{Fetched}
+use Rattle.armv7m.specs.declared.answers.Fetched.TheVariants.{Took, NotAllowed, NotMapped}
 use Rattle.armv7m.specs.Step.{second_half, by_size, first_half, fetch, performed, fetched, running, turn}
 use Rattle.armv7m.specs.Confinement.{IsVectorRead}
 use Rattle.common_laws.specs.Lists.{Each}

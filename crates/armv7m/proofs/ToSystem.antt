@@ -4,7 +4,7 @@ use Rattle.mpu_model.specs.declared.region.Access.{Access}
 use Rattle.armv7m.specs.declared.state.ProtectionState.{ProtectionState}
 use Rattle.armv7m.specs.State.{PermissionTest, is_unprivileged}
 use Rattle.armv7m.specs.System.{in_system, is_system_register}
-use Rattle.armv7m.specs.declared.accesses.Verdict.TheVariants.{ToSystem, ToBus}
+use Rattle.armv7m.specs.declared.answers.Verdict.TheVariants.{ToSystem, ToBus}
 use Rattle.armv7m.specs.Tests.{verdict}
 
 -- an access of the system's registers

@@ -16,7 +16,7 @@ use Rattle.armv7m.specs.declared.state.End.TheVariants.{InputEnd}
 use Rattle.armv7m.specs.State.{PermissionTest}
 use Rattle.armv7m.specs.Act.{Changes, Exchanges}
 use Rattle.armv7m.specs.Instructions.{act, listed}
-use Rattle.armv7m.specs.declared.accesses.Verdict.TheVariants.{ToBus}
+use Rattle.armv7m.specs.declared.answers.Verdict.TheVariants.{ToBus}
 use Rattle.armv7m.specs.Tests.{verdict}
 use Rattle.armv7m.specs.Perform.{perform}
 use Rattle.armv7m.specs.Code.{size, Stands, live, Steps}

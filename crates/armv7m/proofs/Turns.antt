@@ -13,7 +13,7 @@ use Rattle.armv7m.specs.State.{State, PermissionTest, is_unprivileged, with_regi
 use Rattle.armv7m.specs.Act.{Act, Changes, Loads, Stores, LoadsMany, StoresMany, GetsSpecial, SetsSpecial, Exchanges, Halts}
 use Rattle.armv7m.specs.Instructions.{act}
 use Rattle.armv7m.specs.System.{read_system, write_system, read_special, write_special}
-use Rattle.armv7m.specs.declared.accesses.Verdict.TheVariants.{ToBus, ToSystem}
+use Rattle.armv7m.specs.declared.answers.Verdict.TheVariants.{ToBus, ToSystem}
 use Rattle.armv7m.specs.Tests.{verdict}
 use Rattle.armv7m.specs.Exceptions.{words_from, return_on_psp, return_on_msp, is_thread, unstacked}
 use Rattle.armv7m.specs.Perform.{did_load, did_store, perform}

@@ -14,7 +14,7 @@ use Rattle.armv7m.specs.State.{State, PermissionTest}
 use Rattle.armv7m.specs.Act.{Act, Changes, Loads, Stores, LoadsMany, StoresMany, GetsSpecial, SetsSpecial, Exchanges, Calls, Halts, Stops}
 use Rattle.armv7m.specs.Instructions.{act}
 use Rattle.armv7m.specs.Exceptions.{frame_at, return_on_psp, return_on_msp}
-use Rattle.armv7m.specs.declared.fetching.Fetched.TheVariants.{Took}
+use Rattle.armv7m.specs.declared.answers.Fetched.TheVariants.{Took}
 use Rattle.armv7m.specs.Step.{turn, fetch}
 
 -- everything is allowed

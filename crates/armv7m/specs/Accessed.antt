@@ -8,7 +8,7 @@ use Rattle.mpu_model.specs.declared.region.Access.{Access}
 use Rattle.mpu_model.specs.declared.region.Access.TheVariants.{Read, Write, Fetch}
 use Rattle.device_model.specs.declared.image.Image.{Image}
 use Rattle.mem_bus.specs.Places.{Nowhere, place}
-use Rattle.armv7m.specs.declared.accesses.Verdict.TheVariants.{ToBus, ToSystem}
+use Rattle.armv7m.specs.declared.answers.Verdict.TheVariants.{ToBus, ToSystem}
 use Rattle.armv7m.specs.declared.state.CoreRegisters.{CoreRegisters}
 use Rattle.armv7m.specs.declared.state.ProtectionState.{ProtectionState}
 use Rattle.armv7m.specs.declared.state.StopReason.TheVariants.{Bus}

@@ -17,7 +17,7 @@ use Rattle.armv7m.specs.Act.{Act, Loads, Stores, LoadsMany, StoresMany, Exchange
 use Rattle.armv7m.specs.Instructions.{act}
 use Rattle.armv7m.specs.System.{in_system, is_system_register}
 use Rattle.armv7m.specs.Exceptions.{words_from, return_on_psp, return_on_msp, mem_manage, supervisor_call, entered, is_frame_open, is_fault_enabled, data_status}
-use Rattle.armv7m.specs.declared.fetching.Fetched.TheVariants.{Took}
+use Rattle.armv7m.specs.declared.answers.Fetched.TheVariants.{Took}
 use Rattle.armv7m.specs.Step.{fetch, turn}
 use Rattle.armv7m.specs.Code.{size, Stands, live}
 

@@ -5,8 +5,8 @@ use Rattle.words.specs.Flags.{add_with_carry, add_flags, compare_flags, result_f
 use Rattle.words.specs.declared.conditions.Flags.{Flags}
 use Rattle.armv7m.specs.declared.state.CoreRegisters.{CoreRegisters}
 use Rattle.std.proofs.Math.ListN.{set}
-use Rattle.armv7m.specs.declared.data.Outcome.{Outcome}
-use Rattle.armv7m.specs.declared.data.Outcome.TheVariants.{Gives, Tests}
+use Rattle.armv7m.specs.declared.answers.Outcome.{Outcome}
+use Rattle.armv7m.specs.declared.answers.Outcome.TheVariants.{Gives, Tests}
 use Rattle.armv7m.specs.State.{bit_of}
 
 -- the registers after an outcome for the destination, before the next instruction

@@ -17,10 +17,10 @@ use Rattle.armv7m.specs.declared.state.End.TheVariants.{Halt, InputEnd}
 use Rattle.armv7m.specs.State.{State, PermissionTest, is_unprivileged, bit_of}
 use Rattle.armv7m.specs.Act.{Loads, Stores}
 use Rattle.armv7m.specs.Instructions.{act}
-use Rattle.armv7m.specs.declared.data.Outcome.TheVariants.{Gives, Tests}
+use Rattle.armv7m.specs.declared.answers.Outcome.TheVariants.{Gives, Tests}
 use Rattle.armv7m.specs.DataOperations.{shift_by, immediate_amount, add_or_subtract, immediate, operation}
 use Rattle.armv7m.specs.System.{read_system, write_status}
-use Rattle.armv7m.specs.declared.accesses.Verdict.TheVariants.{ToSystem}
+use Rattle.armv7m.specs.declared.answers.Verdict.TheVariants.{ToSystem}
 use Rattle.armv7m.specs.Tests.{verdict}
 use Rattle.armv7m.specs.Exceptions.{frame_at, frame_of, vector, supervisor_call, return_on_psp, return_on_msp, is_thread, flags_of, with_pad}
 use Rattle.armv7m.specs.Code.{Stands, Steps, Runs}

@@ -8,6 +8,7 @@ pub mod Exceptions
 pub mod Perform
 pub mod Step
 pub mod Run
+pub mod Ends
 pub mod Confinement
 pub mod AccessLaw
 pub mod Code
@@ -19,10 +20,6 @@ pub mod Running
 pub mod InstructionEffects
 pub mod Shape
 pub mod CodeBytes
-pub mod Parts
-pub mod Accesses
-pub mod Fetches
-pub mod Machine
 pub mod Asked
 pub mod ThreadStep
 pub mod AnyStep

@@ -11,7 +11,7 @@ use Rattle.device_model.specs.Rules.{ObeysRules}
 use Rattle.mem_bus.specs.Places.{InRam, place}
 use Rattle.armv7m.specs.declared.state.End.TheVariants.{Stop}
 use Rattle.armv7m.specs.declared.state.StopReason.TheVariants.{Usage}
-use Rattle.armv7m.specs.declared.fetching.Fetched.TheVariants.{Took}
+use Rattle.armv7m.specs.declared.answers.Fetched.TheVariants.{Took}
 use Rattle.armv7m.specs.State.{State, Touched, Turn, PermissionTest}
 use Rattle.armv7m.specs.Instructions.{act}
 use Rattle.armv7m.specs.Step.{fetch, turn}

@@ -19,10 +19,10 @@ use Rattle.armv7m.specs.declared.state.StopReason.TheVariants.{Bus, Usage}
 use Rattle.armv7m.specs.State.{State, Turn, PermissionTest, is_unprivileged, calm, ends, stops, with_core, at, with_register}
 use Rattle.armv7m.specs.Act.{Act, Changes, Loads, Stores, LoadsMany, StoresMany, GetsSpecial, SetsSpecial, Exchanges, Calls, Halts, Stops}
 use Rattle.armv7m.specs.System.{in_system, read_system, write_system, read_special, write_special}
-use Rattle.armv7m.specs.declared.accesses.Verdict.{Verdict}
-use Rattle.armv7m.specs.declared.accesses.Verdict.TheVariants.{ToBus, ToSystem, Refused, Bad}
-use Rattle.armv7m.specs.declared.several.Verdicts.{Verdicts}
-use Rattle.armv7m.specs.declared.several.Verdicts.TheVariants.{AllGood, RefusedAt, BadOne}
+use Rattle.armv7m.specs.declared.answers.Verdict.{Verdict}
+use Rattle.armv7m.specs.declared.answers.Verdict.TheVariants.{ToBus, ToSystem, Refused, Bad}
+use Rattle.armv7m.specs.declared.answers.Verdicts.{Verdicts}
+use Rattle.armv7m.specs.declared.answers.Verdicts.TheVariants.{AllGood, RefusedAt, BadOne}
 use Rattle.armv7m.specs.Tests.{verdict, verdicts}
 use Rattle.armv7m.specs.Exceptions.{words_from, call, data_fault, returns, return_on_psp, return_on_msp}
 

@@ -15,8 +15,8 @@ use Rattle.armv7m.specs.declared.state.End.TheVariants.{Halt, InputEnd}
 use Rattle.armv7m.specs.State.{State, PermissionTest}
 use Rattle.armv7m.specs.Act.{Changes, Loads, Stores, LoadsMany, StoresMany, Calls, Exchanges, Halts}
 use Rattle.armv7m.specs.Instructions.{act}
-use Rattle.armv7m.specs.declared.accesses.Verdict.TheVariants.{ToBus, Refused}
-use Rattle.armv7m.specs.declared.several.Verdicts.TheVariants.{RefusedAt}
+use Rattle.armv7m.specs.declared.answers.Verdict.TheVariants.{ToBus, Refused}
+use Rattle.armv7m.specs.declared.answers.Verdicts.TheVariants.{RefusedAt}
 use Rattle.armv7m.specs.Tests.{verdict, verdicts}
 use Rattle.armv7m.specs.Exceptions.{frame_of, entry_core, is_fault_enabled, supervisor_call, mem_manage, return_on_psp, return_on_msp, is_thread, unstacked, fetch_status, data_status}
 use Rattle.armv7m.specs.Perform.{perform}

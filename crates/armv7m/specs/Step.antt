@@ -9,8 +9,8 @@ use Rattle.mem_bus.specs.Places.{place}
 use Rattle.mem_bus.specs.Bus.{fetch_at}
 use Rattle.armv7m.specs.declared.state.End.{End}
 use Rattle.armv7m.specs.declared.state.StopReason.TheVariants.{Bus, Undefined}
-use Rattle.armv7m.specs.declared.fetching.Fetched.{Fetched}
-use Rattle.armv7m.specs.declared.fetching.Fetched.TheVariants.{Took, NotAllowed, NotMapped}
+use Rattle.armv7m.specs.declared.answers.Fetched.{Fetched}
+use Rattle.armv7m.specs.declared.answers.Fetched.TheVariants.{Took, NotAllowed, NotMapped}
 use Rattle.armv7m.specs.State.{State, Turn, PermissionTest, by_mpu, calm, stops}
 use Rattle.armv7m.specs.Instructions.{act}
 use Rattle.armv7m.specs.Exceptions.{fetch_fault}

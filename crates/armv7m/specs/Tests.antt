@@ -7,10 +7,10 @@ use Rattle.device_model.specs.declared.image.Image.{Image}
 use Rattle.mem_bus.specs.Places.{place, is_memory, choose}
 use Rattle.armv7m.specs.declared.state.ProtectionState.{ProtectionState}
 use Rattle.armv7m.specs.declared.state.StopReason.TheVariants.{Unaligned, Bus}
-use Rattle.armv7m.specs.declared.accesses.Verdict.{Verdict}
-use Rattle.armv7m.specs.declared.accesses.Verdict.TheVariants.{ToBus, ToSystem, Refused, Bad}
-use Rattle.armv7m.specs.declared.several.Verdicts.{Verdicts}
-use Rattle.armv7m.specs.declared.several.Verdicts.TheVariants.{AllGood, RefusedAt, BadOne}
+use Rattle.armv7m.specs.declared.answers.Verdict.{Verdict}
+use Rattle.armv7m.specs.declared.answers.Verdict.TheVariants.{ToBus, ToSystem, Refused, Bad}
+use Rattle.armv7m.specs.declared.answers.Verdicts.{Verdicts}
+use Rattle.armv7m.specs.declared.answers.Verdicts.TheVariants.{AllGood, RefusedAt, BadOne}
 use Rattle.armv7m.specs.State.{PermissionTest, is_unprivileged}
 use Rattle.armv7m.specs.System.{in_system, is_system_register}
 

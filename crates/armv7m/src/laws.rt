@@ -8,7 +8,7 @@ ghost use Rattle.armv7m.specs.State.{State, PermissionTest, calm};
 ghost use Rattle.armv7m.specs.Step.{turn, step, event};
 ghost use Rattle.armv7m.specs.Run.{after, events_after};
 ghost use Rattle.armv7m.specs.Code.{next, told};
-ghost use Rattle.armv7m.specs.Machine.{StepsEndOrGoOn};
+ghost use Rattle.armv7m.specs.Ends.{StepsEndOrGoOn};
 ghost use Rattle.armv7m.specs.AccessLaw.{AllowedStepsAreFree};
 ghost use Rattle.armv7m.specs.Locality.{StepsReadWhatTheyList};
 ghost use Rattle.armv7m.specs.Confinement.{EventsAreListed, FetchesArePermittedAlways, FlashIsNeverWritten};

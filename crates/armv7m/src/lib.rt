@@ -1,22 +1,13 @@
-//! The machine: a profile of Armv7-M, one instruction a step.
+//! The machine as definitions: a profile of Armv7-M, one instruction a step.
 #![tactic(auto)]
 
-mod accesses;
+pub mod answers;
 pub mod any_step;
-mod branches;
-mod data;
-mod exceptions;
 pub mod fault_registers;
-mod fetching;
 pub mod laws;
-pub mod machine;
-mod memory_instructions;
-mod parts;
-mod register_instructions;
+mod protection;
 mod registers;
 pub mod running;
-mod several;
-mod special_registers;
 pub mod state;
 
 /// CCR, the address of the configuration and control register (Armv7-M ARM, B3.2.8).

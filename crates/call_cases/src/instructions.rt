@@ -3,7 +3,10 @@
 use std::alloc::Global;
 use std::process::Abort;
 use std::test::Fail;
-use thumb_model::{Code, Instr, decode, encode, show};
+use thumb_decoding::decode;
+use thumb_encoding::encode;
+use thumb_model::{Code, Instr};
+use thumb_text::show;
 
 /// The halfwords of one instruction of each form, the instruction, and its text.
 #[rattlefmt::skip]

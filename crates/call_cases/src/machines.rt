@@ -3,12 +3,12 @@
 ghost use Rattle.std.specs.Prelude.{◌≡◌, IfOk, length};
 ghost use Rattle.device_model.specs.Rules.{ObeysRules, IsWindow};
 
-use armv7m::machine::{Machine, Step};
 use armv7m::state::End;
 use device_model::image::{Image, Window};
 use device_model::tape::Tape;
 use events::event::Event;
 use list_vec::ListVec;
+use machine::{Machine, Step};
 use names::is_name;
 use std::alloc::{AllocError, Global};
 use std::process::Abort;

@@ -10,7 +10,7 @@ use Rattle.thumb_model.specs.declared.table.Instr.{Instr}
 use Rattle.thumb_model.specs.declared.table.Instr.TheVariants.{AddSubRegister, DataRegister, Divide}
 use Rattle.device_model.specs.declared.image.Image.{Image}
 use Rattle.armv7m.specs.State.{PermissionTest}
-use Rattle.armv7m.specs.declared.data.Outcome.TheVariants.{Gives}
+use Rattle.armv7m.specs.declared.answers.Outcome.TheVariants.{Gives}
 use Rattle.armv7m.specs.DataOperations.{operation as operated}
 use Rattle.armv7m.specs.Code.{size, Stands, CodeAt, Steps}
 use Rattle.armv7m.specs.RunningCode.{works}

@@ -12,8 +12,8 @@ ghost use Rattle.commands.specs.Effects.{Does};
 
 use crate::loading::{image_of, load, tape_of};
 use aces_reports::{Done, Failure};
-use armv7m::machine::Machine;
 use armv7m::state::End;
+use machine::Machine;
 use machine_output::print_run;
 use outside::{Files, Sink};
 use std::alloc::Global;

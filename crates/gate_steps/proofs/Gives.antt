@@ -11,7 +11,7 @@ use Rattle.device_model.specs.declared.image.Image.{Image}
 use Rattle.device_model.specs.Rules.{ObeysRules}
 use Rattle.mem_bus.specs.Places.{Place, InRam, InFlash, place}
 use Rattle.armv7m.specs.declared.state.ProtectionState.{ProtectionState}
-use Rattle.armv7m.specs.declared.accesses.Verdict.TheVariants.{ToBus}
+use Rattle.armv7m.specs.declared.answers.Verdict.TheVariants.{ToBus}
 use Rattle.armv7m.specs.State.{PermissionTest, is_unprivileged}
 use Rattle.armv7m.specs.System.{in_system, is_system_register}
 use Rattle.gate_steps.specs.declared.steps.GateOp.{GateOp}

@@ -25,9 +25,9 @@ use Rattle.armv7m.specs.declared.state.FaultStatus.{FaultStatus}
 use Rattle.armv7m.specs.declared.state.StopReason.{StopReason}
 use Rattle.armv7m.specs.declared.state.StopReason.TheVariants.{Bus}
 use Rattle.armv7m.specs.declared.state.End.TheVariants.{Halt as Ended, Stop}
-use Rattle.armv7m.specs.declared.accesses.Verdict.{Verdict}
-use Rattle.armv7m.specs.declared.accesses.Verdict.TheVariants.{ToBus, ToSystem, Refused, Bad}
-use Rattle.armv7m.specs.declared.data.Outcome.TheVariants.{Gives}
+use Rattle.armv7m.specs.declared.answers.Verdict.{Verdict}
+use Rattle.armv7m.specs.declared.answers.Verdict.TheVariants.{ToBus, ToSystem, Refused, Bad}
+use Rattle.armv7m.specs.declared.answers.Outcome.TheVariants.{Gives}
 use Rattle.armv7m.specs.State.{State, Turn, Touched, PermissionTest, calm, ends, stops, is_unprivileged}
 use Rattle.armv7m.specs.Act.{Act, Changes, GetsSpecial, SetsSpecial, Halts as HaltsAt}
 use Rattle.armv7m.specs.Instructions.{act, load_into, store_from}

@@ -10,8 +10,8 @@ use Rattle.device_model.specs.declared.image.Image.{Image}
 use Rattle.mem_bus.specs.Places.{Place, InRam, InFlash, InWindow, Nowhere, place}
 use Rattle.armv7m.specs.declared.state.StopReason.{StopReason}
 use Rattle.armv7m.specs.declared.state.StopReason.TheVariants.{Bus}
-use Rattle.armv7m.specs.declared.accesses.Verdict.{Verdict}
-use Rattle.armv7m.specs.declared.accesses.Verdict.TheVariants.{ToBus, ToSystem, Refused, Bad}
+use Rattle.armv7m.specs.declared.answers.Verdict.{Verdict}
+use Rattle.armv7m.specs.declared.answers.Verdict.TheVariants.{ToBus, ToSystem, Refused, Bad}
 use Rattle.armv7m.specs.State.{PermissionTest}
 use Rattle.armv7m.specs.System.{read_system}
 use Rattle.armv7m.specs.Tests.{verdict}

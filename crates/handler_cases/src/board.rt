@@ -3,10 +3,10 @@
 ghost use Rattle.std.specs.Prelude.{◌≡◌, ◌≤◌, IfOk, length};
 ghost use Rattle.device_model.specs.Rules.{ObeysRules};
 
-use armv7m::machine::Machine;
 use device_model::image::Image;
 use device_model::tape::Tape;
 use list_vec::ListVec;
+use machine::Machine;
 use monitor::tables::{CompRecord, SiteRecord, Tables, TargetRecord};
 use monitor_code::page::page;
 use mpu_model::region::Region;

@@ -3,9 +3,9 @@
 ghost use Rattle.std.specs.Prelude.{◌≤◌, length};
 
 use crate::board::{MONITOR, start, word};
-use armv7m::machine::Machine;
 use armv7m::state::End;
 use events::event::Event;
+use machine::Machine;
 use std::alloc::Global;
 use std::process::Abort;
 use std::test::Fail;

@@ -1,8 +1,8 @@
 //! An access by a loan, with all 32 loans live: what it leaves, and how many steps it takes.
 
 use crate::board::{MONITOR, start, word};
-use armv7m::machine::{Machine, Step};
 use armv7m::state::End;
+use machine::{Machine, Step};
 use std::alloc::Global;
 use std::process::Abort;
 use std::test::Fail;

@@ -2,8 +2,8 @@
 
 use crate::board::start;
 use crate::loans::handle;
-use armv7m::machine::{Machine, Step};
 use armv7m::state::End;
+use machine::{Machine, Step};
 use std::alloc::Global;
 use std::process::Abort;
 use std::test::Fail;

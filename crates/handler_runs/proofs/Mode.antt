@@ -4,8 +4,8 @@ use Rattle.device_model.specs.declared.image.Image.{Image}
 use Rattle.device_model.specs.Rules.{ObeysRules}
 use Rattle.mpu_model.specs.declared.region.Access.TheVariants.{Fetch}
 use Rattle.mem_bus.specs.Places.{Place, InRam, InFlash, InWindow, Nowhere}
-use Rattle.armv7m.specs.declared.accesses.Verdict.{Verdict}
-use Rattle.armv7m.specs.declared.accesses.Verdict.TheVariants.{ToBus, ToSystem, Refused, Bad}
+use Rattle.armv7m.specs.declared.answers.Verdict.{Verdict}
+use Rattle.armv7m.specs.declared.answers.Verdict.TheVariants.{ToBus, ToSystem, Refused, Bad}
 use Rattle.armv7m.specs.declared.state.ProtectionState.{ProtectionState}
 use Rattle.armv7m.specs.State.{PermissionTest, by_mpu}
 use Rattle.gate_steps.specs.Steps.{Steps, End, Const, Copy, Load, Store, Alu, ReadPsp, WritePsp, WriteControl, Test, Repeat, Halt, Return, Go}

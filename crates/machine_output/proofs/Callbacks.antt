@@ -13,7 +13,7 @@ use Rattle.armv7m.specs.declared.state.End.{End}
 use Rattle.armv7m.specs.declared.state.End.TheVariants.{Halt, InputEnd, Limit, Stop, Refused}
 use Rattle.armv7m.specs.State.{State}
 use Rattle.armv7m.specs.Step.{step, event}
-use Rattle.armv7m.specs.Machine.{MachineState, Accepts, AcceptsAll, IsRun, Says}
+use Rattle.machine.specs.Machine.{MachineState, Accepts, AcceptsAll, IsRun, Says}
 use Rattle.armv7m.specs.Confinement.{EventsAreListed}
 use Rattle.lines.specs.Lines.{event_line}
 use Rattle.machine_output.specs.Runs.{event_lines, end_of, HasLine}

@@ -10,11 +10,11 @@ ghost use Rattle.aces_reports.specs.Sinks.{Puts, sink};
 ghost use Rattle.machine_output.specs.Runs.{end_of, event_lines, run_lines, HasLine};
 
 use armv7m::laws::{ended_machines, listed_accesses};
-use armv7m::machine::Machine;
 use armv7m::state::End;
 use device_model::image::{Image, Window};
 use events::event::Event;
 use lines::{end_line, event_line};
+use machine::Machine;
 use outside::{Failed, Sink};
 
 /// Runs a machine of this image for at most so many steps, puts the line of each event, and then that of the end, by one put

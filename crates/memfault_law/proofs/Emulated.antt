@@ -13,7 +13,7 @@ use Rattle.armv7m.specs.declared.TheConstants.{CFSR}
 use Rattle.armv7m.specs.declared.state.ProtectionState.{ProtectionState}
 use Rattle.armv7m.specs.declared.state.FaultStatus.{FaultStatus}
 use Rattle.armv7m.specs.declared.state.StopReason.TheVariants.{Unaligned}
-use Rattle.armv7m.specs.declared.accesses.Verdict.TheVariants.{ToSystem}
+use Rattle.armv7m.specs.declared.answers.Verdict.TheVariants.{ToSystem}
 use Rattle.armv7m.specs.State.{by_mpu, is_unprivileged}
 use Rattle.armv7m.specs.System.{in_system, read_system, read_status, write_status}
 use Rattle.armv7m.specs.Tests.{verdict}

@@ -12,7 +12,7 @@ use Rattle.mem_bus.specs.Places.{InRam}
 use Rattle.armv7m.specs.declared.state.ProtectionState.{ProtectionState}
 use Rattle.armv7m.specs.declared.state.StopReason.{StopReason}
 use Rattle.armv7m.specs.declared.state.StopReason.TheVariants.{Unaligned}
-use Rattle.armv7m.specs.declared.accesses.Verdict.TheVariants.{Bad}
+use Rattle.armv7m.specs.declared.answers.Verdict.TheVariants.{Bad}
 use Rattle.armv7m.specs.State.{PermissionTest}
 use Rattle.armv7m.specs.Tests.{verdict}
 use Rattle.gate_steps.specs.declared.steps.GateCond.{GateCond}

@@ -16,7 +16,7 @@ use Rattle.device_model.specs.Rules.{block_size}
 use Rattle.mem_bus.specs.Places.{Nowhere, place}
 use Rattle.armv7m.specs.declared.state.ProtectionState.{ProtectionState}
 use Rattle.armv7m.specs.declared.state.StopReason.TheVariants.{Bus}
-use Rattle.armv7m.specs.declared.accesses.Verdict.TheVariants.{ToBus}
+use Rattle.armv7m.specs.declared.answers.Verdict.TheVariants.{ToBus}
 use Rattle.armv7m.specs.State.{State, Turn, by_mpu, calm, stops}
 use Rattle.armv7m.specs.Instructions.{act}
 use Rattle.armv7m.specs.System.{in_system}

@@ -10,7 +10,8 @@ ghost use Rattle.thumb_asm.specs.Finished as finished;
 use crate::item::{BranchKind, Item, Label};
 use crate::refusal::AsmRefusal;
 use std::alloc::{AllocError, Global};
-use thumb_model::{Code, Instr, encode};
+use thumb_encoding::encode;
+use thumb_model::{Code, Instr};
 
 /// The bytes of a branch.
 pub(crate) fn branch_size(kind: BranchKind) -> u32

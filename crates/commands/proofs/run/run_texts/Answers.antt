@@ -1,7 +1,7 @@
 use Rattle.std.proofs.Common.{◌≡◌, ◌∙◌, ◌++◌, length, refl, ap, sym, subst}
 use Rattle.std.proofs.lemmas.Result.{err_from_is_err_and}
 use Rattle.device_model.specs.Tape.{queues_of, first_fault}
-use Rattle.armv7m.specs.Machine.{MachineState}
+use Rattle.machine.specs.Machine.{MachineState}
 use Rattle.armv7m.specs.Run.{start}
 use Rattle.aces_words.specs.Requests.{Run}
 use Rattle.commands.specs.Answers.{RunAnswer, no_image, no_tape, ran, run_outcome}

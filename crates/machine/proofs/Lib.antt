@@ -1,0 +1,4 @@
+mod Lists
+mod Loaded
+mod Machines
+mod MachineRuns

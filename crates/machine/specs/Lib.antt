@@ -1,0 +1,4 @@
+pub mod Parts
+pub mod Accesses
+pub mod Fetches
+pub mod Machine
