@@ -6,22 +6,18 @@ ghost use Rattle.ir_model.specs.Resolve.{row_from};
 ghost use Rattle.ir_model.specs.Plain.{func_of, firmware_of};
 ghost use Rattle.ir_model.specs.Canonical.{IsWithinLimits};
 ghost use Rattle.ir_model.specs.Typing.{checks, has_main, IsTyped};
-ghost use Rattle.ir_check.specs.Found.{Finds, IsFaultOf};
-ghost use Rattle.ir_check.specs.Parts.{declared_part, code_part};
-ghost use Rattle.ir_check.specs.Scopes.{IsScope, AreSmall};
+ghost use Rattle.check_faults.specs.Found.{Finds, IsFaultOf};
+ghost use Rattle.ir_check.specs.Parts.{code_part};
+ghost use Rattle.check_scopes.specs.Scopes.{IsScope, AreSmall};
 
-use crate::fault::CheckFault;
-use crate::files::files;
-use crate::found::require;
 use crate::funcs::funcs;
-use crate::globals::globals;
-use crate::lookup::word_named;
-use crate::periphs::periphs;
-use crate::scope::Scope;
-use crate::spot::Spot;
-use crate::structs::structs;
-use crate::tables::scope;
-use firmware_names::struct_names;
+use check_faults::found::require;
+use check_faults::{CheckFault, Spot};
+use check_scopes::Scope;
+use check_scopes::lookup::word_named;
+use declaration_checks::declared::declared;
+use declaration_checks::files::files;
+use global_checks::globals::globals;
 use ir_model::check::CheckKind;
 use ir_model::checked::Checked;
 use ir_model::firmware::{Firmware, Func};
@@ -49,7 +45,7 @@ fn main_there(scope: &Scope) -> bool
     }
 }
 
-#[tactic(auto, using(crate::proofs::Order::refused_left, crate::proofs::Order::refused_right, crate::proofs::Order::first_stays, crate::proofs::Order::first_append))]
+#[tactic(auto, using(check_faults::proofs::Order::refused_left, check_faults::proofs::Order::refused_right, check_faults::proofs::Order::first_stays, check_faults::proofs::Order::first_append))]
 fn code(alloc: Global, scope: &Scope) -> Result<(), CheckFault>
     requires scope { IsScope scope.now }
     requires small { AreSmall scope.now.bodies.items }
@@ -60,19 +56,6 @@ fn code(alloc: Global, scope: &Scope) -> Result<(), CheckFault>
     funcs(alloc, scope)?;
     require(main_there(scope), CheckKind::NoMain, Spot::Whole)?;
     Ok(())
-}
-
-#[tactic(auto, using(crate::proofs::Order::refused_left, crate::proofs::Order::refused_right, crate::proofs::Order::first_stays, crate::proofs::Order::first_append))]
-fn declared<'a>(alloc: Global, firmware: &'a Firmware) -> Result<Scope<'a>, CheckFault>
-    ensures finds { Finds (declared_part (firmware_of firmware.now)) result }
-    ensures scope { IfOk result IsScope }
-    ensures firmware { IfOk result (λ s. s.firmware.now ≡ firmware.now) }
-{
-    let names = struct_names(alloc, firmware.structs.as_slice())?;
-    let layouts = structs(alloc, &names, firmware.structs.as_slice())?;
-    let windows = periphs(alloc, firmware.periphs.as_slice())?;
-    let tables = scope(alloc, firmware, names, layouts, windows)?;
-    Ok(tables)
 }
 
 fn all(alloc: Global, firmware: &Firmware) -> Result<(), CheckFault>
