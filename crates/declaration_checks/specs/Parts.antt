@@ -1,12 +1,12 @@
 -- Beyond the program's claim: only laws, proofs and functions inside the tool cite this file.
 -- The checks of declarations, one part among others.
-use Rattle.std.specs.Prelude.{ℕ, List, [], ◌∷◌, ◌++◌, map}
+use Rattle.std.specs.Prelude.{ℕ, List, [], ◌∷◌, map}
 use Rattle.ir_model.specs.declared.check.CheckKind.TheVariants.{BadWindow, WindowOverlap}
 use Rattle.ir_model.specs.declared.check.Place.{Place}
 use Rattle.ir_model.specs.declared.check.Place.TheVariants as place
 use Rattle.ir_model.specs.declared.firmware.Peripheral.{Peripheral}
-use Rattle.ir_model.specs.Plain.{PlainSlot, PlainStruct, PlainFile, PlainFirmware}
-use Rattle.ir_model.specs.Typing.{structs_checks, periph_checks, func_name_checks, field_checks, Checks, check, is_new, type_checks, is_window, is_apart}
+use Rattle.ir_model.specs.Plain.{PlainSlot, PlainStruct, PlainFile}
+use Rattle.ir_model.specs.Typing.{func_name_checks, field_checks, Checks, check, is_new, type_checks, is_window, is_apart}
 
 -- a peripheral behind others
 abbrev pub periph_check : (earlier : List Peripheral) → Peripheral → Checks
@@ -26,7 +26,3 @@ fields_part ds es s = is_new es s.name (place.Struct s.name) ∷ field_checks ds
 -- a file's name and those of its functions
 abbrev pub file_part : (files seen : List (List ℕ)) → PlainFile → Checks
 file_part es seen f = is_new es f.name (place.File f.name) ∷ func_name_checks seen f.funcs
-
--- all structs and peripherals
-abbrev pub declared_part : PlainFirmware → Checks
-declared_part w = structs_checks (map (λ (s : PlainStruct). s.name) w.structs) [] w.structs ++ periph_checks [] w.periphs

@@ -1,8 +1,6 @@
-//! The checks of structs, peripherals and files, and the tables of a firmware.
+//! The checks of structs, peripherals and files.
 #![tactic(auto)]
 
-pub mod declared;
 pub mod files;
-mod periphs;
-mod structs;
-mod tables;
+pub mod periphs;
+pub mod structs;

@@ -1,5 +1,5 @@
 -- Beyond the program's claim: only laws, proofs and functions inside the tool cite this file.
--- The checks of a function's code, of a function, and of all behind the declarations.
+-- The checks of a function's code, of a function, and of a firmware in two parts.
 use Rattle.std.specs.Prelude.{ℕ, List, [], ◌∷◌, ◌++◌, map}
 use Rattle.ir_model.specs.declared.check.CheckKind.TheVariants.{IllTyped, NoMain}
 use Rattle.ir_model.specs.declared.check.Place.{Place}
@@ -7,9 +7,9 @@ use Rattle.ir_model.specs.declared.check.Place.TheVariants as place
 use Rattle.ir_model.specs.declared.firmware.Peripheral.{Peripheral}
 use Rattle.ir_model.specs.declared.firmware.Inst.{Inst}
 use Rattle.ir_model.specs.declared.firmware.Term.{Term}
-use Rattle.ir_model.specs.Plain.{PlainGlobal, PlainFunc, PlainFirmware, funcs_of}
+use Rattle.ir_model.specs.Plain.{PlainStruct, PlainGlobal, PlainFunc, PlainFirmware, funcs_of}
 use Rattle.ir_model.specs.Rules.{inst_fits, term_fits}
-use Rattle.ir_model.specs.Typing.{globals_checks, file_checks, funcs_checks, has_main, inst_names, term_names, label_checks, blocks_checks, Checks, check}
+use Rattle.ir_model.specs.Typing.{structs_checks, periph_checks, globals_checks, file_checks, funcs_checks, has_main, inst_names, term_names, label_checks, blocks_checks, Checks, check}
 use Rattle.slot_checks.specs.Parts.{slots_part, frame_part}
 
 -- an instruction or a block's end: its names, and then its types
@@ -26,7 +26,10 @@ body_part w f = label_checks (place.Func f.name) [] f.blocks ++ blocks_checks w 
 abbrev pub func_part : (declared : List (List ℕ)) → PlainFirmware → PlainFunc → Checks
 func_part ds w f = slots_part ds w f ++ frame_part w f ++ body_part w f
 
--- all behind structs and peripherals
+-- all structs and peripherals; all behind them
+abbrev pub declared_part : PlainFirmware → Checks
+declared_part w = structs_checks (map (λ (s : PlainStruct). s.name) w.structs) [] w.structs ++ periph_checks [] w.periphs
+
 abbrev pub code_part : PlainFirmware → Checks
 code_part w =
     globals_checks w (map (λ (q : Peripheral). q.name) w.periphs) w.globals

@@ -1,48 +1,25 @@
 //! Functions.
 
-ghost use Rattle.std.specs.Prelude.{◌≡◌, ◌≤◌, length, IfOk};
+ghost use Rattle.std.specs.Prelude.{◌≤◌, length};
 ghost use Rattle.std.specs.List.{All};
 ghost use Rattle.ir_model.specs.declared.firmware.Block.{Block};
 ghost use Rattle.ir_model.specs.Plain.{func_of, funcs_of, firmware_of};
 ghost use Rattle.ir_model.specs.TextLimits.{instruction_limit};
 ghost use Rattle.ir_model.specs.FewItems.{HasFewItems};
 ghost use Rattle.ir_model.specs.Typing.{funcs_checks};
-ghost use Rattle.ir_model.specs.Resolve.{labels_of};
 ghost use Rattle.check_faults.specs.Found.{Finds};
 ghost use Rattle.ir_check.specs.Parts.{body_part, func_part};
-ghost use Rattle.check_scopes.specs.Scopes.{IsScope, IsFuncScope, AreSmall};
+ghost use Rattle.check_scopes.specs.Scopes.{IsScope, AreSmall};
 
 use crate::code::blocks;
 use check_faults::{CheckFault, Spot};
-use check_scopes::{FuncScope, Scope};
+use check_scopes::Scope;
 use code_names::labels::labels;
-use firmware_names::{local_names, register_names};
 use ir_model::firmware::Func;
-use ir_model::types::Ty;
-use name_tables::Names;
+use scope_tables::func_scope;
 use slot_checks::frame::frame;
 use slot_checks::slots::slots;
-use std::alloc::{AllocError, Global};
-
-fn func_scope<'a>(
-    alloc: Global,
-    func: &'a Func,
-    labels: Names<'a>,
-) -> Result<FuncScope<'a>, AllocError>
-    requires { labels ≡ labels_of (func_of func.now) }
-    ensures scope { IfOk result IsFuncScope }
-    ensures func { IfOk result (λ s. s.func.now ≡ func.now) }
-{
-    let registers = register_names(alloc, func)?;
-    let locals = local_names(alloc, func)?;
-    Ok(FuncScope {
-        func,
-        registers,
-        locals,
-        labels,
-        number: Ty::U32,
-    })
-}
+use std::alloc::Global;
 
 #[tactic(auto, using(check_faults::proofs::Order::refused_left, check_faults::proofs::Order::refused_right, check_faults::proofs::Order::first_stays, check_faults::proofs::Order::first_append, check_faults::proofs::Order::refused_one, check_faults::proofs::Order::refused_behind, check_faults::proofs::Order::first_behind))]
 fn body(alloc: Global, scope: &Scope, func: &Func) -> Result<(), CheckFault>

@@ -1,4 +1,4 @@
-use Rattle.declaration_checks.proofs.tables.scope.Goals as goal
+use Rattle.scope_tables.proofs.tables.scope.Goals as goal
 
 pub returns-clause-scope : goal.returns-clause-scope
 returns-clause-scope c =

@@ -3,7 +3,7 @@ use Rattle.std.specs.Prelude.{flat_map}
 use Rattle.ir_model.specs.declared.firmware.Func.{Func}
 use Rattle.ir_model.specs.Plain.{PlainFunc, PlainFile, PlainGlobal, func_of, file_of, global_of, firmware_of, funcs_of}
 use Rattle.check_scopes.specs.Scopes.{lent_funcs}
-use Rattle.declaration_checks.proofs.tables.names_below.Goals as goal
+use Rattle.scope_tables.proofs.tables.names_below.Goals as goal
 
 names_of_lent : (fs : List (Bor Func)) → map (λ (f : Bor Func). (func_of f.now).name) fs ≡ map (λ (f : PlainFunc). f.name) (lent_funcs fs)
 names_of_lent [] = refl

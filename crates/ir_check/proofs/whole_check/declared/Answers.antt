@@ -2,9 +2,9 @@ use Rattle.std.proofs.Common.{◌≡◌, ◌∙◌, ap, subst, map, [], None}
 use Rattle.ir_model.specs.Plain.{PlainStruct, struct_of, firmware_of}
 use Rattle.ir_model.specs.Typing.{structs_checks, periph_checks, first_failing}
 use Rattle.check_faults.specs.Found.{Refused}
-use Rattle.declaration_checks.specs.Parts.{declared_part}
+use Rattle.ir_check.specs.Parts.{declared_part}
 use Rattle.check_faults.proofs.Order.{told, first_append, refused_left, refused_right}
-use Rattle.declaration_checks.proofs.declared.declared.Goals as goal
+use Rattle.ir_check.proofs.whole_check.declared.Goals as goal
 
 pub returns-in_err-layouts-clause-finds : goal.returns-in_err-layouts-clause-finds
 returns-in_err-layouts-clause-finds c =

@@ -1,6 +1,6 @@
 use Rattle.std.proofs.Common.{◌<◌, length, arith}
 use Rattle.ir_model.specs.Types.{result_of}
-use Rattle.ir_check.proofs.whole_check.is_main.Goals as goal
+use Rattle.slot_checks.proofs.main_function.is_main.Goals as goal
 use Rattle.ir_model.proofs.Rows.{more_params}
 
 pub returns-in-len1-up : goal.returns-in-len1-up
