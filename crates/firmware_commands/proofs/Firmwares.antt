@@ -9,9 +9,9 @@ use Rattle.ir_model.specs.Plain.{PlainFile, PlainFirmware, func_of, file_of, glo
 use Rattle.ir_model.specs.Canonical.{IsWithinLimits}
 use Rattle.ir_model.specs.Texts as firmwares
 use Rattle.ir_model.proofs.Limits.{few_functions}
-use Rattle.ir_check.specs.declared.fault.CheckFault.{CheckFault}
-use Rattle.ir_check.specs.declared.fault.CheckFault.TheVariants.{At, NoMemory as WantOfMemory}
-use Rattle.ir_check.specs.Found.{IsFaultOf}
+use Rattle.check_faults.specs.declared.fault.CheckFault.{CheckFault}
+use Rattle.check_faults.specs.declared.fault.CheckFault.TheVariants.{At, NoMemory as WantOfMemory}
+use Rattle.check_faults.specs.Found.{IsFaultOf}
 use Rattle.ir_reader.specs.declared.fault.TextFault.{TextFault}
 use Rattle.ir_reader.specs.First.{IsFirst}
 use Rattle.aces_reports.specs.declared.failure.Fault.{Fault}

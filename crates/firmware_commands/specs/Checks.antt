@@ -1,8 +1,8 @@
 -- Beyond the program's claim: only laws, proofs and functions inside the tool cite this file.
 -- Which fault a failing check of a firmware is.
 use Rattle.std.specs.Prelude.{Option, Some, None}
-use Rattle.ir_check.specs.declared.fault.CheckFault.{CheckFault}
-use Rattle.ir_check.specs.declared.fault.CheckFault.TheVariants as check_faults
+use Rattle.check_faults.specs.declared.fault.CheckFault.{CheckFault}
+use Rattle.check_faults.specs.declared.fault.CheckFault.TheVariants as check_faults
 use Rattle.aces_reports.specs.declared.failure.Fault.{Fault}
 use Rattle.aces_reports.specs.declared.failure.Fault.TheVariants.{IllTyped}
 

@@ -1,10 +1,3 @@
-mod Order
-mod Rows
-mod Slots
-mod NamedTypes
-mod Regrouped
 mod FuncParts
-mod StructSteps
-mod GlobalParts
 mod Whole
 mod Small

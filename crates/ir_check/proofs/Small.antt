@@ -11,7 +11,7 @@ use Rattle.common_laws.specs.Lists.{Each}
 use Rattle.ir_model.specs.TextLimits.{instruction_limit}
 use Rattle.ir_model.specs.FewItems.{HasFewItems}
 use Rattle.ir_model.proofs.Limits.{Limited, limited, insts_in}
-use Rattle.ir_check.specs.Scopes.{AreSmall, lent_funcs}
+use Rattle.check_scopes.specs.Scopes.{AreSmall, lent_funcs}
 
 few_insts : (bs : List Block) → insts_in bs ≤ instruction_limit → All (λ (b : Block). length b.insts ≤ instruction_limit) bs
 few_insts [] h = All-nil (λ (b : Block). length b.insts ≤ instruction_limit)

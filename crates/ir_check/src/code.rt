@@ -1,26 +1,25 @@
 //! Instructions, block ends and blocks.
 
-ghost use Rattle.std.specs.Prelude.{◌≡◌, ◌∷◌, ◌++◌, ◌≤◌, [], length};
+ghost use Rattle.std.specs.Prelude.{◌≤◌, length};
 ghost use Rattle.std.specs.List.{All};
 ghost use Rattle.ir_model.specs.declared.firmware.Block.{Block as Code};
 ghost use Rattle.ir_model.specs.Plain.{func_of, firmware_of};
 ghost use Rattle.ir_model.specs.TextLimits.{instruction_limit};
 ghost use Rattle.ir_model.specs.Typing.{blocks_checks, code_checks};
-ghost use Rattle.ir_check.specs.Found.{Finds};
+ghost use Rattle.check_faults.specs.Found.{Finds};
 ghost use Rattle.ir_check.specs.Parts.{inst_check, term_check};
-ghost use Rattle.ir_check.specs.Spots.{place_of};
-ghost use Rattle.ir_check.specs.Scopes.{IsScope, IsFuncScope};
+ghost use Rattle.check_faults.specs.Spots.{place_of};
+ghost use Rattle.check_scopes.specs.Scopes.{IsScope, IsFuncScope};
 
-use crate::fault::CheckFault;
-use crate::fits::{inst_fits, term_fits};
-use crate::found::require;
-use crate::register_names::{inst_names, term_names};
-use crate::scope::{FuncScope, Scope};
-use crate::spot::Spot;
+use check_faults::found::require;
+use check_faults::{CheckFault, Spot};
+use check_scopes::{FuncScope, Scope};
+use code_names::register_names::{inst_names, term_names};
+use code_types::{inst_fits, term_fits};
 use ir_model::check::CheckKind;
 use ir_model::firmware::{Block, Inst, Term};
 
-#[tactic(auto, using(crate::proofs::Order::refused_left, crate::proofs::Order::refused_right, crate::proofs::Order::first_stays, crate::proofs::Order::first_append))]
+#[tactic(auto, using(check_faults::proofs::Order::refused_left, check_faults::proofs::Order::refused_right, check_faults::proofs::Order::first_stays, check_faults::proofs::Order::first_append))]
 fn inst(scope: &Scope, func: &FuncScope, spot: Spot, inst: &Inst) -> Result<(), CheckFault>
     requires scope { IsScope scope.now }
     requires func { IsFuncScope func.now }
@@ -31,7 +30,7 @@ fn inst(scope: &Scope, func: &FuncScope, spot: Spot, inst: &Inst) -> Result<(), 
     Ok(())
 }
 
-#[tactic(auto, using(crate::proofs::Order::refused_left, crate::proofs::Order::refused_right, crate::proofs::Order::first_stays, crate::proofs::Order::first_append))]
+#[tactic(auto, using(check_faults::proofs::Order::refused_left, check_faults::proofs::Order::refused_right, check_faults::proofs::Order::first_stays, check_faults::proofs::Order::first_append))]
 fn term(func: &FuncScope, spot: Spot, term: &Term) -> Result<(), CheckFault>
     requires { IsFuncScope func.now }
     ensures { Finds (term_check (func_of func.now.func.now) (place_of spot.entry) term.now) result }

@@ -1,55 +1,30 @@
 //! All checks of a firmware.
 
 ghost use Rattle.std.specs.Prelude.{◌≡◌, IfOk, IfErr, OnOk};
-ghost use Rattle.ir_model.specs.Types.{Callee, none, nothing, same};
-ghost use Rattle.ir_model.specs.Resolve.{row_from};
-ghost use Rattle.ir_model.specs.Plain.{func_of, firmware_of};
+ghost use Rattle.ir_model.specs.Plain.{firmware_of};
 ghost use Rattle.ir_model.specs.Canonical.{IsWithinLimits};
-ghost use Rattle.ir_model.specs.Typing.{checks, has_main, IsTyped};
-ghost use Rattle.ir_check.specs.Found.{Finds, IsFaultOf};
+ghost use Rattle.ir_model.specs.Typing.{checks, IsTyped};
+ghost use Rattle.check_faults.specs.Found.{Finds, IsFaultOf};
 ghost use Rattle.ir_check.specs.Parts.{declared_part, code_part};
-ghost use Rattle.ir_check.specs.Scopes.{IsScope, AreSmall};
+ghost use Rattle.check_scopes.specs.Scopes.{IsScope, AreSmall};
 
-use crate::fault::CheckFault;
-use crate::files::files;
-use crate::found::require;
 use crate::funcs::funcs;
-use crate::globals::globals;
-use crate::lookup::word_named;
-use crate::periphs::periphs;
-use crate::scope::Scope;
-use crate::spot::Spot;
-use crate::structs::structs;
-use crate::tables::scope;
+use check_faults::found::require;
+use check_faults::{CheckFault, Spot};
+use check_scopes::Scope;
+use declaration_checks::files::files;
+use declaration_checks::periphs::periphs;
+use declaration_checks::structs::structs;
 use firmware_names::struct_names;
+use global_checks::globals::globals;
 use ir_model::check::CheckKind;
 use ir_model::checked::Checked;
-use ir_model::firmware::{Firmware, Func};
+use ir_model::firmware::Firmware;
+use scope_tables::scope;
+use slot_checks::main_function::main_there;
 use std::alloc::Global;
 
-fn is_main(func: &Func) -> bool
-    ensures { result ≡ same (Callee (row_from (func_of func.now).params) (func_of func.now).outcome) (Callee none nothing) }
-{
-    match func.params.as_slice() {
-        [] => match &func.result {
-            None => true,
-            Some(_) => false,
-        },
-        [_, ..] => false,
-    }
-}
-
-fn main_there(scope: &Scope) -> bool
-    requires { IsScope scope.now }
-    ensures { result ≡ has_main (firmware_of scope.now.firmware.now) }
-{
-    match word_named(scope, b"main") {
-        None => false,
-        Some(func) => is_main(func),
-    }
-}
-
-#[tactic(auto, using(crate::proofs::Order::refused_left, crate::proofs::Order::refused_right, crate::proofs::Order::first_stays, crate::proofs::Order::first_append))]
+#[tactic(auto, using(check_faults::proofs::Order::refused_left, check_faults::proofs::Order::refused_right, check_faults::proofs::Order::first_stays, check_faults::proofs::Order::first_append))]
 fn code(alloc: Global, scope: &Scope) -> Result<(), CheckFault>
     requires scope { IsScope scope.now }
     requires small { AreSmall scope.now.bodies.items }
@@ -62,7 +37,7 @@ fn code(alloc: Global, scope: &Scope) -> Result<(), CheckFault>
     Ok(())
 }
 
-#[tactic(auto, using(crate::proofs::Order::refused_left, crate::proofs::Order::refused_right, crate::proofs::Order::first_stays, crate::proofs::Order::first_append))]
+#[tactic(auto, using(check_faults::proofs::Order::refused_left, check_faults::proofs::Order::refused_right, check_faults::proofs::Order::first_stays, check_faults::proofs::Order::first_append))]
 fn declared<'a>(alloc: Global, firmware: &'a Firmware) -> Result<Scope<'a>, CheckFault>
     ensures finds { Finds (declared_part (firmware_of firmware.now)) result }
     ensures scope { IfOk result IsScope }

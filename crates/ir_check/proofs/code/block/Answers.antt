@@ -5,7 +5,7 @@ use Rattle.ir_model.specs.declared.firmware.Inst.{Inst}
 use Rattle.ir_model.specs.Plain.{func_of, firmware_of}
 use Rattle.ir_model.specs.Typing.{code_checks, first_failing}
 use Rattle.ir_check.specs.Parts.{inst_check, term_check}
-use Rattle.ir_check.proofs.Order.{told, stop_at, go_on, refused_as}
+use Rattle.check_faults.proofs.Order.{told, stop_at, go_on, refused_as}
 use Rattle.ir_check.proofs.code.block.Goals as goal
 
 pub returns-in_err-inst : goal.returns-in_err-inst

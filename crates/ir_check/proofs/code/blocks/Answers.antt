@@ -2,7 +2,7 @@ use Rattle.std.proofs.Common.{List, refl, arith}
 use Rattle.ir_model.specs.declared.firmware.Block.{Block}
 use Rattle.ir_model.specs.Plain.{func_of, firmware_of}
 use Rattle.ir_model.specs.Typing.{code_checks, blocks_checks}
-use Rattle.ir_check.proofs.Order.{told, stop_at, go_on}
+use Rattle.check_faults.proofs.Order.{told, stop_at, go_on}
 use Rattle.ir_check.proofs.code.blocks.Goals as goal
 
 pub returns-in_err-block : goal.returns-in_err-block

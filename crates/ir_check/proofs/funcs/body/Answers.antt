@@ -2,9 +2,9 @@ use Rattle.std.proofs.Common.{◌≡◌, subst, None, []}
 use Rattle.ir_model.specs.declared.check.Place.TheVariants as place
 use Rattle.ir_model.specs.Plain.{func_of, firmware_of}
 use Rattle.ir_model.specs.Typing.{label_checks, blocks_checks, first_failing}
-use Rattle.ir_check.specs.Found.{Refused}
+use Rattle.check_faults.specs.Found.{Refused}
 use Rattle.ir_check.specs.Parts.{body_part}
-use Rattle.ir_check.proofs.Order.{told, refused_right}
+use Rattle.check_faults.proofs.Order.{told, refused_right}
 use Rattle.ir_check.proofs.funcs.body.Goals as goal
 
 pub returns-in_err-blocks : goal.returns-in_err-blocks

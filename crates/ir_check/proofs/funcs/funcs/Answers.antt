@@ -3,7 +3,7 @@ use Rattle.ir_model.specs.declared.firmware.Func.{Func}
 use Rattle.ir_model.specs.Plain.{func_of, firmware_of, funcs_of}
 use Rattle.ir_model.specs.Typing.{funcs_checks}
 use Rattle.ir_check.specs.Parts.{func_part}
-use Rattle.ir_check.proofs.Order.{told, stop_at, go_on}
+use Rattle.check_faults.proofs.Order.{told, stop_at, go_on}
 use Rattle.ir_check.proofs.FuncParts.{func_parts}
 use Rattle.ir_check.proofs.funcs.funcs.Goals as goal
 

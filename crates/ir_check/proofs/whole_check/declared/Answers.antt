@@ -1,9 +1,9 @@
 use Rattle.std.proofs.Common.{◌≡◌, ◌∙◌, ap, subst, map, [], None}
 use Rattle.ir_model.specs.Plain.{PlainStruct, struct_of, firmware_of}
 use Rattle.ir_model.specs.Typing.{structs_checks, periph_checks, first_failing}
-use Rattle.ir_check.specs.Found.{Refused}
+use Rattle.check_faults.specs.Found.{Refused}
 use Rattle.ir_check.specs.Parts.{declared_part}
-use Rattle.ir_check.proofs.Order.{told, first_append, refused_left, refused_right}
+use Rattle.check_faults.proofs.Order.{told, first_append, refused_left, refused_right}
 use Rattle.ir_check.proofs.whole_check.declared.Goals as goal
 
 pub returns-in_err-layouts-clause-finds : goal.returns-in_err-layouts-clause-finds

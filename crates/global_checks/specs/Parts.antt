@@ -1,0 +1,41 @@
+-- Beyond the program's claim: only laws, proofs and functions inside the tool cite this file.
+-- The checks of a global, one part among others.
+use Rattle.std.specs.Prelude.{ℕ, List, [], ◌∷◌, ◌++◌, map, nat_le, length, Bool, if◌then◌else◌}
+use Rattle.ir_model.specs.declared.check.CheckKind.TheVariants.{BadInit}
+use Rattle.ir_model.specs.declared.check.Place.{Place}
+use Rattle.ir_model.specs.declared.check.Place.TheVariants as place
+use Rattle.ir_model.specs.declared.firmware.Peripheral.{Peripheral}
+use Rattle.ir_model.specs.declared.firmware.Cell.{Cell}
+use Rattle.ir_model.specs.Types.{PlainType}
+use Rattle.ir_model.specs.Plain.{PlainGlobal, PlainFirmware}
+use Rattle.ir_model.specs.Layout.{known, shape}
+use Rattle.names.specs.Numbers.{has}
+use Rattle.ir_model.specs.Rules.{is_port, is_address, global_type}
+use Rattle.ir_model.specs.Typing.{init_checks, cell_checks, Checks, check, is_new, type_checks}
+use Rattle.check_scopes.specs.Parts.{size_check}
+
+-- the address of a global or a peripheral
+abbrev pub address_fits : PlainFirmware → List ℕ → PlainType → Bool
+address_fits w x t =
+    if has (map (λ (q : Peripheral). q.name) w.periphs) x then is_port t else is_address (global_type w.globals x) t
+
+-- a global's name and type, and its first values
+abbrev pub named_check : (declared seen : List (List ℕ)) → PlainGlobal → Checks
+named_check ds seen g = is_new seen g.name (place.Global g.name) ∷ type_checks ds ds (place.Global g.name) g.ty
+
+abbrev pub cells_part : PlainFirmware → Place → List Cell → PlainType → Checks
+cells_part w p cs t = check (nat_le (length cs) (length (shape (known w.structs) t).cells)) BadInit p ∷ init_checks w p cs (shape (known w.structs) t).cells
+
+-- first values beside the types of their cells
+abbrev pub values_checks : PlainFirmware → Place → List Cell → List PlainType → Checks
+values_checks w p [] ts = []
+values_checks w p (c ∷ cs) [] = []
+values_checks w p (c ∷ cs) (t ∷ ts) = cell_checks w p c t ++ values_checks w p cs ts
+
+-- first values, and the types of their cells
+abbrev pub values_part : PlainFirmware → Place → List Cell → List PlainType → Checks
+values_part w p cs ts = check (nat_le (length cs) (length ts)) BadInit p ∷ values_checks w p cs ts
+
+-- a global behind the names before it
+abbrev pub global_part : (declared : List (List ℕ)) → PlainFirmware → (seen : List (List ℕ)) → PlainGlobal → Checks
+global_part ds w seen g = named_check ds seen g ++ size_check w (place.Global g.name) g.ty ++ cells_part w (place.Global g.name) g.init g.ty

@@ -1,0 +1,170 @@
+//! Globals.
+
+ghost use Rattle.std.specs.Prelude.{◌≡◌, ◌&&◌, ◌++◌, ◌∷◌, [], ◌≤◌, ◌<◌, ◌^◌, ◌*◌, map, length, nat_lt, OnOk};
+ghost use Rattle.ir_model.specs.Types as types;
+ghost use Rattle.ir_model.specs.Types.{type_of};
+ghost use Rattle.ir_model.specs.Plain.{global_of, firmware_of};
+ghost use Rattle.ir_model.specs.Typing.{cell_checks, globals_checks};
+ghost use Rattle.check_faults.specs.Found.{Finds};
+ghost use Rattle.check_faults.specs.Spots.{place_of};
+ghost use Rattle.cells.specs.Cells.{lent_types};
+ghost use Rattle.global_checks.specs.Parts.{address_fits, cells_part, values_checks, values_part, named_check, global_part};
+ghost use Rattle.check_scopes.specs.Scopes.{IsScope};
+
+use cells::put_cell_types;
+use check_faults::found::{fault, require, require_known};
+use check_faults::new_names::add_new;
+use check_faults::type_names::type_names;
+use check_faults::{CheckFault, Spot};
+use check_scopes::Scope;
+use check_scopes::kinds::{is_port, points_to};
+use check_scopes::lookup::{global_named, is_function};
+use check_scopes::sizes::object_size;
+use firmware_names::periph_names;
+use ir_model::check::CheckKind;
+use ir_model::firmware::{Cell, Global as GlobalDecl};
+use ir_model::types::Ty;
+use name_tables::Names;
+use names::Name;
+use std::alloc::Global;
+
+fn holds_number(ty: &Ty, number: u32) -> bool
+    ensures { result ≡ (types.is_integer (type_of ty.now) && nat_lt number (2 ^ (8 * types.width_of (type_of ty.now)))) }
+{
+    match ty {
+        Ty::U8 => number < 256,
+        Ty::U16 => number < 65_536,
+        Ty::U32 => true,
+        Ty::Ptr(_) => false,
+        Ty::Array(_, _) => false,
+        Ty::Named(_) => false,
+        Ty::Callee(_) => false,
+    }
+}
+
+fn is_address(scope: &Scope, name: &Name, ty: &Ty) -> bool
+    requires { IsScope scope.now }
+    ensures { result ≡ address_fits (firmware_of scope.now.firmware.now) name.now (type_of ty.now) }
+{
+    if scope.periphs.has(name) {
+        return is_port(ty);
+    }
+    match global_named(scope, name) {
+        None => false,
+        Some(target) => points_to(ty, target),
+    }
+}
+
+#[tactic(auto, using(check_faults::proofs::Order::refused_one, check_faults::proofs::Order::refused_behind, check_faults::proofs::Order::first_behind))]
+fn function_cell(scope: &Scope, spot: Spot, name: &Name, ty: &Ty) -> Result<(), CheckFault>
+    requires { IsScope scope.now }
+    ensures { Finds (cell_checks (firmware_of scope.now.firmware.now) (place_of spot.entry) (Cell.Function name.now) (type_of ty.now)) result }
+{
+    require_known(scope.funcs.has(name), name, spot)?;
+    require(is_function(scope, name, ty), CheckKind::BadInit, spot)?;
+    Ok(())
+}
+
+#[tactic(auto, using(check_faults::proofs::Order::refused_one, check_faults::proofs::Order::refused_behind, check_faults::proofs::Order::first_behind))]
+fn address_cell(scope: &Scope, spot: Spot, name: &Name, ty: &Ty) -> Result<(), CheckFault>
+    requires { IsScope scope.now }
+    ensures { Finds (cell_checks (firmware_of scope.now.firmware.now) (place_of spot.entry) (Cell.Address name.now) (type_of ty.now)) result }
+{
+    let known = scope.periphs.has(name) || scope.globals.has(name);
+    require_known(known, name, spot)?;
+    require(is_address(scope, name, ty), CheckKind::BadInit, spot)?;
+    Ok(())
+}
+
+fn value(scope: &Scope, spot: Spot, cell: &Cell, ty: &Ty) -> Result<(), CheckFault>
+    requires { IsScope scope.now }
+    ensures { Finds (cell_checks (firmware_of scope.now.firmware.now) (place_of spot.entry) cell.now (type_of ty.now)) result }
+{
+    match cell {
+        Cell::Word(number) => require(holds_number(ty, *number), CheckKind::BadInit, spot),
+        Cell::Function(name) => function_cell(scope, spot, name, ty),
+        Cell::Address(name) => address_cell(scope, spot, name, ty),
+    }
+}
+
+fn values(scope: &Scope, spot: Spot, cells: &[Cell], types: &[&Ty]) -> Result<(), CheckFault>
+    requires scope { IsScope scope.now }
+    requires count { length cells.now ≤ length types.now }
+    ensures { Finds (values_checks (firmware_of scope.now.firmware.now) (place_of spot.entry) cells.now (lent_types types.now)) result }
+{
+    for i in 0..cells.len() {
+        value(scope, spot, &cells[i], types[i])?;
+    }
+    Ok(())
+}
+
+fn typed_values(scope: &Scope, spot: Spot, cells: &[Cell], types: &[&Ty]) -> Result<(), CheckFault>
+    requires { IsScope scope.now }
+    ensures { Finds (values_part (firmware_of scope.now.firmware.now) (place_of spot.entry) cells.now (lent_types types.now)) result }
+{
+    if cells.len() > types.len() {
+        return Err(fault(CheckKind::BadInit, spot));
+    }
+    values(scope, spot, cells, types)?;
+    Ok(())
+}
+
+fn first_values<'a>(
+    alloc: Global,
+    scope: &Scope<'a>,
+    spot: Spot,
+    global: &'a GlobalDecl,
+) -> Result<(), CheckFault>
+    requires { IsScope scope.now }
+    ensures { Finds (cells_part (firmware_of scope.now.firmware.now) (place_of spot.entry) global.now.init (type_of global.now.ty)) result }
+{
+    let init = global.init.as_slice();
+    if init.len() == 0 {
+        return Ok(());
+    }
+    let mut types = Vec::new(alloc);
+    put_cell_types(&scope.layouts, &global.ty, init.len(), &mut types)?;
+    typed_values(scope, spot, init, types.as_slice())?;
+    Ok(())
+}
+
+#[tactic(auto, using(check_faults::proofs::Order::refused_left, check_faults::proofs::Order::refused_right, check_faults::proofs::Order::first_stays, check_faults::proofs::Order::first_append, check_faults::proofs::Order::refused_one, check_faults::proofs::Order::refused_behind, check_faults::proofs::Order::first_behind))]
+fn named<'a>(scope: &Scope, seen: &mut Names<'a>, global: &'a GlobalDecl) -> Result<(), CheckFault>
+    ensures finds { Finds (named_check scope.now.structs seen.old (global_of global.now)) result }
+    ensures grows { OnOk result (seen.new ≡ seen.old ++ global.now.name ∷ []) }
+{
+    let spot = Spot::Global(&global.name);
+    add_new(seen, &global.name, spot)?;
+    type_names(&scope.structs, &scope.structs, spot, &global.ty)?;
+    Ok(())
+}
+
+#[tactic(auto, using(check_faults::proofs::Order::refused_left, check_faults::proofs::Order::refused_right, check_faults::proofs::Order::first_stays, check_faults::proofs::Order::first_append))]
+fn global<'a>(
+    alloc: Global,
+    scope: &Scope<'a>,
+    seen: &mut Names<'a>,
+    global: &'a GlobalDecl,
+) -> Result<(), CheckFault>
+    requires { IsScope scope.now }
+    ensures finds { Finds (global_part scope.now.structs (firmware_of scope.now.firmware.now) seen.old (global_of global.now)) result }
+    ensures grows { OnOk result (seen.new ≡ seen.old ++ global.now.name ∷ []) }
+{
+    let spot = Spot::Global(&global.name);
+    named(scope, seen, global)?;
+    object_size(scope, spot, &global.ty)?;
+    first_values(alloc, scope, spot, global)?;
+    Ok(())
+}
+
+/// The checks of globals.
+pub fn globals(alloc: Global, scope: &Scope) -> Result<(), CheckFault>
+    requires { IsScope scope.now }
+    ensures { Finds (globals_checks (firmware_of scope.now.firmware.now) (map (λ p. p.name) scope.now.firmware.now.periphs) (map global_of scope.now.firmware.now.globals)) result }
+{
+    let mut seen = periph_names(alloc, scope.firmware.periphs.as_slice())?;
+    for declaration in scope.firmware.globals.as_slice() {
+        global(alloc, scope, &mut seen, declaration)?;
+    }
+    Ok(())
+}

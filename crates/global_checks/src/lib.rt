@@ -1,0 +1,4 @@
+//! The checks of globals and of their first values.
+#![tactic(auto)]
+
+pub mod globals;

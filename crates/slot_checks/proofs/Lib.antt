@@ -1,0 +1,2 @@
+mod LocalSizes
+mod SlotNames
