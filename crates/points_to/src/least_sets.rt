@@ -9,9 +9,10 @@ ghost use Rattle.object_sets.specs.Numbers.{numbering_of};
 ghost use Rattle.object_sets.specs.Sets.{Sets, sets_of};
 ghost use Rattle.object_sets.specs.Tables.{sets_by};
 ghost use Rattle.plan_model.specs.PointsTo.{IsLeast};
-ghost use Rattle.points_to.specs.Edges.{IsWithinBound};
+ghost use Rattle.constraint_laws.specs.Edges.{IsWithinBound};
 
-use crate::state::System;
+use constraint_generation::generate;
+use constraint_solving::least_pairs;
 use ir_program::program::Program;
 use object_sets::{Pairs, PointsTo, Steps};
 use std::alloc::{AllocError, Global};
@@ -29,10 +30,10 @@ fn search<L: Ledger>(
     ensures least { IfOk result (λ pairs. IsLeast (program_of program.now) (sets_by (numbering_of (program_of program.now)) pairs.rows)) }
     ensures steps { IfOk result (λ pairs. (s : Sets) → ((n : Node) (o : Object) → sets_of s n o ≡ sets_by (numbering_of (program_of program.now)) pairs.rows n o) → IsWithinBound (program_of program.now) s (steps.new - steps.old)) }
 {
-    let system = System::new(alloc, program)?;
+    let system = generate(alloc, program)?;
     let nodes = system.callees.numbering.nodes.total();
     let objects = system.callees.numbering.objects.total();
-    system.run(alloc, nodes, objects, steps)
+    least_pairs(&system, alloc, nodes, objects, steps)
 }
 
 /// The least sets of objects of a program: no step of a run leaves them, and all sets that no step leaves have their objects. The steps

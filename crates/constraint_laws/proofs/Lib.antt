@@ -1,0 +1,7 @@
+mod Demanded
+mod Back
+mod Bridge
+mod Edges
+mod Summing
+pub mod Least
+pub mod Bound

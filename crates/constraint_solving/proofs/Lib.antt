@@ -1,0 +1,9 @@
+mod Lists
+mod Handled
+mod Putting
+mod Copying
+mod Passing
+mod Firing
+mod Starting
+mod Running
+mod Paying

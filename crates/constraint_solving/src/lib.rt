@@ -1,0 +1,7 @@
+//! The search for the least pairs that obey a system of inclusion constraints.
+#![tactic(auto)]
+
+mod search;
+mod state;
+
+pub use search::least_pairs;

@@ -1,0 +1,4 @@
+pub mod Rules
+pub mod Demands
+pub mod Gathered
+pub mod Solutions

@@ -1,1 +1,0 @@
--- Types in a row.
