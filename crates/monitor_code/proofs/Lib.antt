@@ -1,4 +1,2 @@
-mod Listed
-mod Counted
 mod Fits
 mod Paged

@@ -1,4 +1,1 @@
-pub mod Parts
-pub mod Made
-pub mod Sizes
 pub mod Whole

@@ -6,16 +6,17 @@ ghost use Rattle.monitor.specs.Svc as svc_handler;
 ghost use Rattle.monitor.specs.MemFault as fault_handler;
 ghost use Rattle.monitor.specs.Reset as start;
 ghost use Rattle.monitor.specs.Page as flash;
-ghost use Rattle.monitor_code.specs.Made.{constants_of};
+ghost use Rattle.step_lists.specs.Made.{constants_of};
 ghost use Rattle.monitor_code.specs.Whole.{AreLists};
 
-use crate::constants::{Numbers, without_stub};
-use crate::reset::start_up;
 use gate_assembler::length_of;
 use gate_steps::GateStep;
 use monitor::Tables;
 use monitor::code_size::page_is_full;
+use monitor_constants::without_stub;
+use start_steps::reset::start_up;
 use std::alloc::{AllocError, Global};
+use step_lists::Numbers;
 
 /// The three lists.
 #[derive(Drop)]
@@ -35,8 +36,8 @@ pub(crate) fn all_lists(alloc: Global, numbers: &Numbers) -> Result<Lists, Alloc
 {
     Ok(Lists {
         start: start_up(alloc, numbers)?.into_vec(),
-        svc: crate::svc::handler(alloc, numbers)?.into_vec(),
-        memfault: crate::memfault::handler(alloc, numbers)?.into_vec(),
+        svc: svc_steps::svc::handler(alloc, numbers)?.into_vec(),
+        memfault: fault_steps::memfault::handler(alloc, numbers)?.into_vec(),
     })
 }
 
@@ -77,7 +78,7 @@ pub fn svc(alloc: Global, t: &Tables) -> Result<Vec<GateStep>, AllocError>
     ensures { IfOk result (λ steps. steps_of steps.items ≡ svc_handler.svc (flash.constants t.now)) }
 {
     let numbers = numbers(alloc, t)?;
-    Ok(crate::svc::handler(alloc, &numbers)?.into_vec())
+    Ok(svc_steps::svc::handler(alloc, &numbers)?.into_vec())
 }
 
 /// The handler of MemManage for these tables.
@@ -85,7 +86,7 @@ pub fn memfault(alloc: Global, t: &Tables) -> Result<Vec<GateStep>, AllocError>
     ensures { IfOk result (λ steps. steps_of steps.items ≡ fault_handler.memfault (flash.constants t.now)) }
 {
     let numbers = numbers(alloc, t)?;
-    Ok(crate::memfault::handler(alloc, &numbers)?.into_vec())
+    Ok(fault_steps::memfault::handler(alloc, &numbers)?.into_vec())
 }
 
 /// The offsets in the page at which start-up has the entry of `main`, and its compartment, each by MOVW and MOVT.

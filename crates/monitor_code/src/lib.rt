@@ -2,10 +2,4 @@
 #![tactic(auto)]
 
 pub mod calls;
-mod constants;
-mod list;
-mod memfault;
-mod opening;
 pub mod page;
-mod reset;
-mod svc;

@@ -5,15 +5,15 @@ ghost use Rattle.thumb_asm.specs.Assembly as assembly;
 ghost use Rattle.thumb_asm.specs.Finished.{assembled, first_far};
 ghost use Rattle.gate_assembler.specs.Emitted.{HasPut};
 ghost use Rattle.monitor.specs.Page as flash;
-ghost use Rattle.monitor_code.specs.Made.{constants_of};
+ghost use Rattle.step_lists.specs.Made.{constants_of};
 ghost use Rattle.monitor_code.specs.Whole.{CanPut, HasWords, lists_code, vector_words};
 
 use crate::calls::{Lists, all_lists, numbers};
-use crate::constants::Numbers;
 use gate_assembler::{assemble, length_of};
 use monitor::Tables;
 use monitor::code_size::page_is_full;
 use std::alloc::{AllocError, Global};
+use step_lists::Numbers;
 use thumb_asm::{Asm, AsmRefusal};
 use thumb_model::Instr;
 

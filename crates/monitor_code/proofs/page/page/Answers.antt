@@ -6,7 +6,7 @@ use Rattle.gate_steps.specs.Code.{code_length}
 use Rattle.monitor.specs.Layout.{page_size}
 use Rattle.monitor.specs.Constants.{Constants}
 use Rattle.monitor.specs.Page.{stub_offset, svc_offset, memfault_offset, used_bytes, page, filled_up}
-use Rattle.monitor_code.specs.Made.{constants_of}
+use Rattle.step_lists.specs.Made.{constants_of}
 use Rattle.monitor_code.specs.Whole.{lists_code}
 use Rattle.monitor_code.proofs.Paged.{all_fit_in, joined, all_put, all_near, page_bytes, if_ok, used_is_short}
 use Rattle.monitor_code.proofs.page.page.Goals as goal

@@ -1,5 +1,0 @@
-use Rattle.monitor_code.proofs.Counted.{records_behind}
-use Rattle.monitor_code.proofs.constants.behind.Goals as goal
-
-pub returns : goal.returns
-returns c = records_behind c.args.at c.args.size c.args.count

@@ -1,0 +1,192 @@
+//! What the lists take of the tables, counted and added up.
+
+ghost use Rattle.std.specs.Prelude.{◌≡◌, ℕ, ◌+◌, ◌-◌, ◌*◌, ◌<◌, ◌≤◌, ◌^◌, min};
+ghost use Rattle.words.specs.Arithmetic.{word};
+ghost use Rattle.mpu_model.specs.declared.words.Rights.TheVariants.{Code, Stack};
+ghost use Rattle.mpu_model.specs.RegionWords as words;
+ghost use Rattle.plan_model.specs.Blocks.{block};
+ghost use Rattle.monitor.specs.Records as records;
+ghost use Rattle.monitor.specs.Layout as layout;
+ghost use Rattle.monitor.specs.Constants.{constants_with, background_of, region_words};
+ghost use Rattle.step_lists.specs.Made.{constants_of};
+ghost use Rattle.monitor_constants.specs.Sizes.{most};
+
+use monitor::Tables;
+use mpu_model::region::Region;
+use step_lists::Numbers;
+
+/// The number of slots of each compartment; 4 where there is no compartment.
+fn number_of_slots(t: &Tables) -> usize
+    ensures { result ≡ records.number_of_slots t.now }
+{
+    match t.comps.as_slice().first() {
+        Some(compartment) => compartment.slots.len(),
+        None => 4,
+    }
+}
+
+/// The address behind so many records of a size, modulo 2^32.
+fn behind(at: u32, size: u32, count: usize) -> u32
+    ensures { result ≡ word (at + size * count) }
+{
+    at.wrapping_add(size.wrapping_mul((count % 0x1_0000_0000) as u32))
+}
+
+/// So many bytes, or as many as fit 64 bits.
+fn bytes_of(size: u64, count: usize) -> u64
+    ensures { result ≡ min (size * count) most }
+{
+    size.saturating_mul(count as u64)
+}
+
+/// How many words start-up copies, or as many as fit 64 bits.
+fn initial_word_count(t: &Tables) -> u64
+    ensures { result ≡ min (layout.initial_word_count t.now) most }
+{
+    let mut count: u64 = 0;
+    for init in t.inits.as_slice() {
+        count = count.saturating_add(u64::from(init.end.saturating_sub(init.at) / 4));
+    }
+    count
+}
+
+/// The bytes of the tables with their initial words, or as many as fit 64 bits.
+fn area_size(t: &Tables) -> u64
+    ensures { result ≡ min (layout.area_end t.now - t.now.base) most }
+{
+    let compartment = bytes_of(8, number_of_slots(t)).saturating_add(16);
+    bytes_of(compartment, t.comps.len())
+        .saturating_add(bytes_of(12, t.sites.len()))
+        .saturating_add(bytes_of(8, t.targets.len()))
+        .saturating_add(bytes_of(4, t.lends.len()))
+        .saturating_add(bytes_of(12, t.inits.len()))
+        .saturating_add(initial_word_count(t).saturating_mul(4))
+        .saturating_add(4096 + 32)
+}
+
+/// The block for so many bytes; of more than fit 64 bits it is the greatest.
+fn block_of(bytes: u64) -> u64
+    ensures exact { (n : ℕ) → bytes ≡ min n most → result ≡ block n }
+    ensures small { result ≤ 2 ^ 32 }
+{
+    if bytes > 1 << 32 {
+        1 << 32
+    } else {
+        bytes.max(32).next_power_of_two()
+    }
+}
+
+/// The bytes of the tables' block, at most 2^32.
+fn tables_size(t: &Tables) -> u64
+    ensures exact { result ≡ layout.tables_size t.now }
+    ensures small { result ≤ 2 ^ 32 }
+{
+    let mut size = block_of(area_size(t));
+    for compartment in t.comps.as_slice() {
+        size = size.max(1 << (compartment.code.rasr / 2 % 32 + 1));
+    }
+    size
+}
+
+/// SIZE of MPU_RASR for a block.
+fn size_field(size: u64) -> u32
+    requires { size ≤ 2 ^ 32 }
+    ensures exact { result ≡ words.size_field size }
+    ensures small { result < 32 }
+{
+    if size == 1 << 32 {
+        31
+    } else {
+        (size as u32).trailing_zeros().saturating_sub(1)
+    }
+}
+
+/// The words of a region without closed eighths, by its number, its first address, its MPU_RASR without SIZE, and SIZE; the
+/// address modulo 2^32.
+fn region(number: u32, base: u32, rights: u32, size: u32) -> Region
+    requires number { number < 16 }
+    requires rights { rights < 2 ^ 30 }
+    requires size { size < 32 }
+    ensures { result ≡ record { rbar = word (base + 2 ^ 4 + number); rasr = word (rights + 0 * 2 ^ 8 + size * 2) } }
+{
+    Region {
+        rbar: base.wrapping_add(16 + number),
+        rasr: rights + size * 2,
+    }
+}
+
+/// Region 0.
+fn background(t: &Tables) -> Region
+    ensures { result ≡ region_words (background_of t.now.closed t.now.base) }
+{
+    if t.closed {
+        region(0, t.base / 0x10_0000 * 0x10_0000, 0x1206_0001, 19)
+    } else {
+        region(0, 0, 0x1206_0001, 29)
+    }
+}
+
+/// Region 1.
+fn tables_region(t: &Tables) -> Region
+    ensures { result ≡ region_words (words.region_of 1 t.now.base (layout.tables_size t.now) 0 Code) }
+{
+    region(1, t.base, 0x0602_0001, size_field(tables_size(t)))
+}
+
+/// Region 3 with all eighths open.
+fn stack_region(t: &Tables) -> Region
+    ensures { result ≡ region_words (words.region_of 3 t.now.stack.base t.now.stack.size 0 Stack) }
+{
+    region(
+        3,
+        t.stack.base,
+        0x1306_0001,
+        size_field(u64::from(t.stack.size)),
+    )
+}
+
+/// A word is a number below 2^32.
+fn as_word(number: u32) -> u32
+    ensures { result ≡ word number }
+{
+    number
+}
+
+/// What the lists take of the tables, for a leave stub at address 0.
+pub fn without_stub(t: &Tables) -> Numbers
+    ensures numbers { constants_of result ≡ constants_with 0 t.now }
+    ensures slots { result.slots ≤ 12 }
+{
+    let slots = number_of_slots(t);
+    let compartments_at = behind(t.base, 1, 4096 + 32);
+    let record = behind(16, 8, slots);
+    let sites_at = behind(compartments_at, record, t.comps.len());
+    let targets_at = behind(sites_at, 12, t.sites.len());
+    let lends_at = behind(targets_at, 8, t.targets.len());
+    let inits_at = behind(lends_at, 4, t.lends.len());
+    Numbers {
+        slots: slots.min(12) as u8,
+        block: as_word(t.monitor),
+        loans_at: t.monitor.wrapping_add(160),
+        block_end: t.monitor.wrapping_add(1024),
+        stack: as_word(t.stack.base),
+        stack_end: t.stack.base.wrapping_add(t.stack.size),
+        eighth: (t.stack.size / 8).trailing_zeros(),
+        compartments_at,
+        sites_at,
+        sites: behind(0, 1, t.sites.len()),
+        targets_at,
+        lends_at,
+        lends: behind(0, 1, t.lends.len()),
+        inits_at,
+        inits: behind(0, 1, t.inits.len()),
+        words: behind(0, 1, t.words.len()),
+        background: background(t),
+        tables: tables_region(t),
+        stack_region: stack_region(t),
+        main: as_word(t.main),
+        main_compartment: as_word(t.main_comp),
+        stub_entry: 1,
+        closed: t.closed,
+    }
+}

@@ -1,0 +1,14 @@
+use Rattle.std.proofs.Common.{◌∙◌}
+use Rattle.step_lists.proofs.Begun.{begins}
+use Rattle.start_steps.proofs.reset.start_up.Goals as goal
+
+pub returns : goal.returns
+returns c =
+    c.in_ok-go_on.ensures
+    ∙ c.in_ok-tables_of.ensures _
+    ∙ c.in_ok-first_regions.ensures _
+    ∙ c.in_ok-traps.ensures _
+    ∙ c.in_ok-first_block.ensures _
+    ∙ c.in_ok-copied.ensures _
+    ∙ c.in_ok-main_words.ensures _
+    ∙ begins c.new-list.result _ c.new-list.ensures

@@ -1,0 +1,4 @@
+//! Start-up as a list of steps.
+#![tactic(auto)]
+
+pub mod reset;

@@ -1,0 +1,138 @@
+//! Start-up: initial words, the monitor's block, the regions of the compartment of `main`, and the branch to it.
+
+ghost use Rattle.std.specs.Prelude.{◌≡◌, ◌≤◌, OnOk, IfOk};
+ghost use Rattle.gate_steps.specs.Lists.{steps_of};
+ghost use Rattle.monitor.specs.Reset as start;
+ghost use Rattle.step_lists.specs.Made.{Appends, Ends, constants_of};
+
+use armv7m::{CCR, SHCSR};
+use gate_steps::GateOp;
+use mpu_model::MPU_RBAR;
+use std::alloc::{AllocError, Global};
+use step_lists::opening::{set_control, tables_of};
+use step_lists::{Numbers, StepList};
+
+/// One word from flash, at r3, to RAM, at r2.
+fn word_turn(alloc: Global) -> Result<StepList, AllocError>
+    ensures { IfOk result (λ list. steps_of list.steps.items ≡ start.word_turn) }
+{
+    let mut list = StepList::new(alloc);
+    list.load_word(6, 3, 0)?;
+    list.store_word(6, 2, 0)?;
+    list.constant(6, 4)?;
+    list.alu(GateOp::Add, 2, 2, 6)?;
+    list.alu(GateOp::Add, 3, 3, 6)?;
+    Ok(list)
+}
+
+/// The words of one range, whose record is at r0.
+fn init_turn(alloc: Global, c: &Numbers) -> Result<StepList, AllocError>
+    ensures { IfOk result (λ list. steps_of list.steps.items ≡ start.init_turn (constants_of c.now)) }
+{
+    let turn = word_turn(alloc)?;
+    let mut list = StepList::new(alloc);
+    list.load_word(2, 0, 0)?;
+    list.load_word(4, 0, 1)?;
+    list.load_word(3, 0, 2)?;
+    list.alu(GateOp::Sub, 4, 4, 2)?;
+    list.constant(6, 2)?;
+    list.alu(GateOp::Shr, 4, 4, 6)?;
+    list.repeat(4, c.words, turn)?;
+    list.constant(6, 12)?;
+    list.alu(GateOp::Add, 0, 0, 6)?;
+    Ok(list)
+}
+
+/// Where execution begins.
+fn main_words(list: &mut StepList, c: &Numbers) -> Result<(), AllocError>
+    ensures { OnOk result (Appends list.old list.new (start.main_words (constants_of c.now))) }
+{
+    list.constant(5, c.main_compartment)?;
+    list.constant(7, c.main)?;
+    Ok(())
+}
+
+/// The ranges that start-up fills.
+fn copied(list: &mut StepList, c: &Numbers) -> Result<(), AllocError>
+    ensures { OnOk result (Appends list.old list.new (start.copied (constants_of c.now))) }
+{
+    let turn = init_turn(list.allocator(), c)?;
+    list.constant(0, c.inits_at)?;
+    list.constant(1, c.inits)?;
+    list.repeat(1, c.inits, turn)?;
+    Ok(())
+}
+
+/// The monitor's block before the first call.
+fn first_block(list: &mut StepList, c: &Numbers) -> Result<(), AllocError>
+    ensures { OnOk result (Appends list.old list.new (start.first_block (constants_of c.now))) }
+{
+    list.constant(1, c.block)?;
+    list.store_word(5, 1, 0)?;
+    list.constant(3, c.stack_end)?;
+    list.store_word(3, 1, 1)?;
+    list.constant(6, 0)?;
+    list.store_word(6, 1, 2)?;
+    list.store_word(6, 1, 3)?;
+    list.store_word(6, 1, 4)?;
+    Ok(())
+}
+
+/// CCR.STKALIGN and CCR.UNALIGN_TRP.
+fn traps(list: &mut StepList) -> Result<(), AllocError>
+    ensures { OnOk result (Appends list.old list.new start.traps) }
+{
+    list.constant(0, CCR)?;
+    list.constant(6, 0x208)?;
+    list.store_word(6, 0, 0)?;
+    Ok(())
+}
+
+/// Regions 0 and 1, and the entry of `main` into r4.
+fn first_regions(list: &mut StepList, c: &Numbers) -> Result<(), AllocError>
+    ensures { OnOk result (Appends list.old list.new (start.first_regions (constants_of c.now))) }
+{
+    list.copy(4, 7)?;
+    list.constant(0, MPU_RBAR)?;
+    list.constant(6, c.background.rbar)?;
+    list.store_word(6, 0, 0)?;
+    list.constant(6, c.background.rasr)?;
+    list.store_word(6, 0, 1)?;
+    list.constant(6, c.tables.rbar)?;
+    list.store_word(6, 0, 0)?;
+    list.constant(6, c.tables.rasr)?;
+    list.store_word(6, 0, 1)?;
+    Ok(())
+}
+
+/// SHCSR, the protection unit, PSP, CONTROL, and to `main`.
+fn go_on(list: &mut StepList, c: &Numbers) -> Result<(), AllocError>
+    ensures { OnOk result (Ends list.old list.new (start.go_on (constants_of c.now))) }
+{
+    list.constant(0, SHCSR)?;
+    list.constant(6, 0x10000)?;
+    list.store_word(6, 0, 0)?;
+    set_control(list, 6, 7, 5)?;
+    list.write_psp(3)?;
+    list.constant(6, 3)?;
+    list.constant(5, c.stub_entry)?;
+    list.write_control(6)?;
+    list.go(4, 5)?;
+    Ok(())
+}
+
+/// Start-up.
+pub fn start_up(alloc: Global, c: &Numbers) -> Result<StepList, AllocError>
+    requires { c.now.slots ≤ 12 }
+    ensures { IfOk result (λ list. steps_of list.steps.items ≡ start.reset (constants_of c.now)) }
+{
+    let mut list = StepList::new(alloc);
+    main_words(&mut list, c)?;
+    copied(&mut list, c)?;
+    first_block(&mut list, c)?;
+    traps(&mut list)?;
+    first_regions(&mut list, c)?;
+    tables_of(&mut list, c)?;
+    go_on(&mut list, c)?;
+    Ok(list)
+}

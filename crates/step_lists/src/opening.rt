@@ -1,0 +1,177 @@
+//! What both handlers begin and end with, and the writing of a compartment's regions.
+
+ghost use Rattle.std.specs.Prelude.{◌≡◌, ◌+◌, ◌*◌, ◌≤◌, ◌<◌, [], ◌∷◌, OnOk};
+ghost use Rattle.gate_steps.specs.Steps as steps;
+ghost use Rattle.monitor.specs.Opening as opening;
+ghost use Rattle.step_lists.specs.Made.{Appends, Ends, constants_of};
+ghost use Rattle.step_lists.specs.Parts as parts;
+
+use crate::list::StepList;
+use crate::numbers::Numbers;
+use gate_steps::{GateCond, GateOp};
+use mpu_model::{MPU_CTRL, MPU_RBAR};
+use std::alloc::AllocError;
+
+/// A value to MPU_CTRL, by two registers.
+pub fn set_control(
+    list: &mut StepList,
+    address: u8,
+    register: u8,
+    value: u32,
+) -> Result<(), AllocError>
+    ensures { OnOk result (Appends list.old list.new (opening.set_control address register value)) }
+{
+    list.constant(address, MPU_CTRL)?;
+    list.constant(register, value)?;
+    list.store_word(register, address, 0)?;
+    Ok(())
+}
+
+/// PSP lies in the stack, and the frame below TOP; else the machine halts with 4.
+fn stack_tests(list: &mut StepList, c: &Numbers) -> Result<(), AllocError>
+    ensures { OnOk result (Appends list.old list.new (parts.stack_tests (constants_of c.now))) }
+{
+    list.read_psp(0)?;
+    list.constant(1, c.block)?;
+    list.constant(2, c.stack)?;
+    list.must(GateCond::Ule, 2, 0, 4)?;
+    list.load_word(3, 1, 1)?;
+    list.must(GateCond::Ule, 0, 3, 4)?;
+    list.alu(GateOp::Sub, 4, 3, 0)?;
+    list.constant(5, 32)?;
+    list.must(GateCond::Ule, 5, 4, 4)?;
+    Ok(())
+}
+
+/// The frame's xPSR has bit 9 clear; else the machine halts with 4.
+fn status_test(list: &mut StepList) -> Result<(), AllocError>
+    ensures { OnOk result (Appends list.old list.new parts.status_test) }
+{
+    list.load_word(4, 0, 7)?;
+    list.constant(5, 1 << 9)?;
+    list.alu(GateOp::And, 4, 4, 5)?;
+    list.constant(5, 0)?;
+    list.must(GateCond::Eq, 4, 5, 4)?;
+    Ok(())
+}
+
+/// What both handlers begin with: the protection unit is off, and the three tests of the stack.
+pub fn opened(list: &mut StepList, c: &Numbers) -> Result<(), AllocError>
+    ensures { OnOk result (Appends list.old list.new (opening.opened (constants_of c.now))) }
+{
+    set_control(list, 6, 7, 0)?;
+    stack_tests(list, c)?;
+    status_test(list)?;
+    Ok(())
+}
+
+/// What both handlers end with: the protection unit is on, and the exception return.
+pub fn closed_up(list: &mut StepList) -> Result<(), AllocError>
+    ensures { OnOk result (Ends list.old list.new opening.closed_up) }
+{
+    set_control(list, 6, 7, 5)?;
+    list.exception_return()?;
+    Ok(())
+}
+
+/// A register is doubled, and where a bit is set another one is added to it.
+fn doubled(list: &mut StepList, to: u8, from: u8, bit: bool) -> Result<(), AllocError>
+    ensures { OnOk result (Appends list.old list.new (opening.times to from (bit ∷ []))) }
+{
+    list.alu(GateOp::Add, to, to, to)?;
+    if bit {
+        list.alu(GateOp::Add, to, to, from)?;
+    }
+    Ok(())
+}
+
+/// A register, which is 0, becomes another one times a number below 16.
+fn times(list: &mut StepList, to: u8, from: u8, number: u8) -> Result<(), AllocError>
+    ensures { OnOk result (Appends list.old list.new (opening.times to from (opening.bits_of 4 number))) }
+{
+    doubled(list, to, from, number / 8 % 2 == 1)?;
+    doubled(list, to, from, number / 4 % 2 == 1)?;
+    doubled(list, to, from, number / 2 % 2 == 1)?;
+    doubled(list, to, from, number % 2 == 1)?;
+    Ok(())
+}
+
+/// The address of the record of compartment r5 into r6, by r7.
+pub fn record_of(list: &mut StepList, c: &Numbers) -> Result<(), AllocError>
+    requires { c.now.slots ≤ 12 }
+    ensures { OnOk result (Appends list.old list.new (opening.record_of (constants_of c.now))) }
+{
+    list.constant(6, 0)?;
+    times(list, 6, 5, c.slots + 2)?;
+    list.constant(7, 3)?;
+    list.alu(GateOp::Shl, 6, 6, 7)?;
+    list.constant(7, c.compartments_at)?;
+    list.alu(GateOp::Add, 6, 6, 7)?;
+    Ok(())
+}
+
+/// One region, whose words stand from a word of the record at r6 on, by r7.
+fn region(list: &mut StepList, from: u8) -> Result<(), AllocError>
+    requires { from < 31 }
+    ensures { OnOk result (Appends list.old list.new (opening.regions 1 from)) }
+{
+    list.load_word(7, 6, from)?;
+    list.store_word(7, 0, 0)?;
+    list.load_word(7, 6, from + 1)?;
+    list.store_word(7, 0, 1)?;
+    Ok(())
+}
+
+/// So many regions, whose words stand from a word of the record at r6 on, by r7.
+fn regions(list: &mut StepList, count: u8, from: u8) -> Result<(), AllocError>
+    requires { from + 2 * count < 32 }
+    ensures { OnOk result (Appends list.old list.new (opening.regions count from)) }
+{
+    for i in 0..count {
+        region(list, from + 2 * i)?;
+    }
+    Ok(())
+}
+
+/// SRD of region 3 for TOP in r3 into r2, by r7.
+fn closed_eighths(list: &mut StepList, c: &Numbers) -> Result<(), AllocError>
+    ensures { OnOk result (Appends list.old list.new (parts.closed_eighths (constants_of c.now))) }
+{
+    list.constant(2, c.stack)?;
+    list.alu(GateOp::Sub, 7, 3, 2)?;
+    list.constant(2, c.eighth)?;
+    list.alu(GateOp::Shr, 7, 7, 2)?;
+    list.constant(2, 0xFF)?;
+    list.alu(GateOp::Shl, 2, 2, 7)?;
+    list.constant(7, 0xFF)?;
+    list.alu(GateOp::And, 2, 2, 7)?;
+    Ok(())
+}
+
+/// Region 3 for TOP in r3, by r2 and r7.
+fn stack_region(list: &mut StepList, c: &Numbers) -> Result<(), AllocError>
+    ensures { OnOk result (Appends list.old list.new (opening.stack_region (constants_of c.now))) }
+{
+    closed_eighths(list, c)?;
+    list.constant(7, 8)?;
+    list.alu(GateOp::Shl, 2, 2, 7)?;
+    list.constant(7, c.stack_region.rasr)?;
+    list.alu(GateOp::Add, 2, 2, 7)?;
+    list.constant(7, c.stack_region.rbar)?;
+    list.store_word(7, 0, 0)?;
+    list.store_word(2, 0, 1)?;
+    Ok(())
+}
+
+/// Regions 2, 3 and the slots of compartment r5, TOP being in r3.
+pub fn tables_of(list: &mut StepList, c: &Numbers) -> Result<(), AllocError>
+    requires { c.now.slots ≤ 12 }
+    ensures { OnOk result (Appends list.old list.new (opening.tables_of (constants_of c.now))) }
+{
+    record_of(list, c)?;
+    list.constant(0, MPU_RBAR)?;
+    region(list, 0)?;
+    stack_region(list, c)?;
+    regions(list, c.slots, 2)?;
+    Ok(())
+}

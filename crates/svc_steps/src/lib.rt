@@ -1,0 +1,4 @@
+//! The handler of SVC as a list of steps.
+#![tactic(auto)]
+
+pub mod svc;
