@@ -10,8 +10,8 @@ use Rattle.ir_laws.specs.Sets.{Node, ObjectSets}
 use Rattle.plan_model.specs.PointsTo.{IsLeast}
 use Rattle.object_sets.specs.declared.numbering.Numbering.{Numbering}
 use Rattle.object_sets.specs.Numbers.{object_number, node_number, numbering_of}
-use Rattle.object_sets.specs.Rows.{Lists}
-use Rattle.object_sets.specs.Tables.{is_pair, sets_by}
+use Rattle.numbered_lists.specs.Rows.{Lists}
+use Rattle.object_pairs.specs.Tables.{is_pair, sets_by}
 use Rattle.points_to.specs.declared.state.System.{System}
 use Rattle.points_to.specs.Rules.{Says, Obeys}
 use Rattle.points_to.specs.Searching.{ObeysAll, is_in, lists_in}

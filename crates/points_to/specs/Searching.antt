@@ -3,7 +3,7 @@
 use Rattle.std.specs.Prelude.{◌≡◌, ◌≢◌, ℕ, zero, suc, ◌+◌, ◌*◌, ◌<◌, ◌≤◌, ◌⊎◌, Bool, true, false, List, [], ◌∷◌, ◌++◌, length, get_or, map, Vec, Option, Some, nat_eq, if◌then◌else◌, Contains}
 use Rattle.std.specs.List.{IsDistinct}
 use Rattle.ir_program.specs.Seen.{program_of}
-use Rattle.object_sets.specs.Rows.{Lists, has, row, added}
+use Rattle.numbered_lists.specs.Rows.{Lists, has, row, added}
 use Rattle.points_to.specs.declared.rules.Pair.{Pair}
 use Rattle.points_to.specs.declared.rules.Edge.{Edge}
 use Rattle.points_to.specs.declared.rules.Trigger.{Trigger}

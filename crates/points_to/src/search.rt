@@ -2,12 +2,13 @@
 
 ghost use Rattle.std.specs.Prelude.{◌≡◌, ◌≢◌, ◌+◌, ◌-◌, ◌*◌, ◌<◌, ◌≤◌, ℕ, true, [], length, get_or, slice_get, OnOk, IfOk};
 ghost use Rattle.points_to.specs.Rules.{Says, Passes, OnEdge, no_edge};
-ghost use Rattle.object_sets.specs.Rows.{row};
+ghost use Rattle.numbered_lists.specs.Rows.{row};
 ghost use Rattle.points_to.specs.Searching.{lists_in, asked, ObeysAll, pair_at, is_in, IsAsked, IsFound, Holds, Grown, IsPut, IsCopied, IsFired, cost, IsPaid, IsBounded};
 
 use crate::rules::{Edge, Pair, Trigger};
 use crate::state::{State, System};
-use object_sets::{Pairs, Rows, Steps};
+use numbered_lists::{Rows, Steps};
+use object_pairs::Pairs;
 use std::alloc::{AllocError, Global};
 use std::sync::ledger::Ledger;
 

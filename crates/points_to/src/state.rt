@@ -2,7 +2,8 @@
 
 use crate::callees::Callees;
 use crate::rules::{Pair, Rules};
-use object_sets::{Pairs, Rows};
+use numbered_lists::Rows;
+use object_pairs::Pairs;
 
 /// What a search goes by.
 #[derive(Drop)]

@@ -17,7 +17,8 @@ use crate::state::System;
 use ir_model::object::ObjId;
 use ir_program::program::{Operation, Program, Sequence};
 use ir_program::value::Value;
-use object_sets::{Node, Numbering};
+use object_pairs::number_program;
+use object_sets::Node;
 use std::alloc::{AllocError, Global};
 
 impl<'a> Rules<'a> {
@@ -185,7 +186,7 @@ impl<'a> System<'a> {
         ensures numbering { IfOk result (λ w. w.callees.numbering ≡ numbering_of (program_of program.now)) }
         ensures rules { IfOk result (λ w. Represents (numbering_of (program_of program.now)) w.rules (demands_of (program_of program.now))) }
     {
-        let numbering = Numbering::new(alloc, program)?;
+        let numbering = number_program(alloc, program)?;
         let callees = Callees { program, numbering };
         let rules = callees.rules(alloc)?;
         Ok(System { callees, rules })

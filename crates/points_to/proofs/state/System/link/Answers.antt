@@ -1,5 +1,5 @@
 use Rattle.std.proofs.Common.{◌≡◌, ◌≢◌, false, refl, ap, ◌∙◌, arith, rules}
-use Rattle.object_sets.specs.Rows.{Lists}
+use Rattle.numbered_lists.specs.Rows.{Lists}
 use Rattle.points_to.specs.Searching.{is_in}
 use Rattle.points_to.proofs.Putting.{still_asked}
 use Rattle.points_to.proofs.Copying.{holds_edge}
