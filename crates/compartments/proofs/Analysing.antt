@@ -9,7 +9,7 @@ use Rattle.ir_laws.specs.Sets.{ObjectSets}
 use Rattle.plan_model.specs.declared.needs.Needs.{Needs}
 use Rattle.plan_model.specs.Needs.{AreNeeds}
 use Rattle.plan_model.specs.PointsTo.{IsLeast}
-use Rattle.depend.specs.Checked.{IsChecked}
+use Rattle.need_laws.specs.Checked.{IsChecked}
 use Rattle.compartments.specs.Analyses.{AreNeedsOf}
 use Rattle.ir_laws.proofs.Resolved.{as_many}
 

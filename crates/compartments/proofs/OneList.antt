@@ -9,7 +9,7 @@ use Rattle.std.specs.declared.cmp.Ordering.{Ordering}
 use Rattle.std.specs.declared.cmp.Ordering.TheVariants.{Less}
 use Rattle.std.proofs.lemmas.List.Elements.{All-contains, All-from_recursion}
 use Rattle.plan_model.specs.Lists.{ListsExactly}
-use Rattle.object_sets.proofs.Parts.{cases, head, in_none, tail}
+use Rattle.exact_lists.proofs.Parts.{cases, head, in_none, tail}
 
 -- ---- by an order
 

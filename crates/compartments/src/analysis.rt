@@ -10,7 +10,7 @@ ghost use Rattle.compartments.specs.Analyses.{AreNeedsOf, AreCompartmentsBy};
 
 use crate::division::division;
 use aces_words::Policy;
-use depend::laws::least_sets;
+use need_laws::least_sets;
 use depend::needs;
 use ir_model::checked::Checked;
 use ir_program::program::Program;

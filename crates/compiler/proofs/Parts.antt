@@ -19,7 +19,7 @@ use Rattle.plan_model.specs.Compartments.{AreCompartments, compartments}
 use Rattle.plan_model.specs.CompileLimits.{KeepsLimits}
 use Rattle.plan_model.specs.FinalGraph.{IsFinal}
 use Rattle.plan_model.specs.Placement.{Fits, plan_of}
-use Rattle.depend.specs.Checked.{LeastSetsServe}
+use Rattle.need_laws.specs.Checked.{LeastSetsServe}
 use Rattle.compartments.specs.Analyses.{AreNeedsOf}
 use Rattle.grouping.specs.Callbacks.{AreAnswers}
 use Rattle.device_model.specs.declared.image.Image.{Image}

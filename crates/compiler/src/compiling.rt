@@ -14,7 +14,7 @@ ghost use Rattle.planning.specs.Refusals.{IsPlanningRefusal};
 ghost use Rattle.compiler.specs.Compiled.{AreGroupsBy, IsCompiled, IsImageFor};
 ghost use Rattle.compiler.specs.Refusals.{IsCompileRefusal};
 
-use depend::laws::least_sets;
+use need_laws::least_sets;
 use device_model::image::Image;
 use grouping::facts::facts;
 use grouping::grouping::{Grouping, groups};

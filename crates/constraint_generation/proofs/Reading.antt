@@ -21,7 +21,7 @@ use Rattle.inclusion_constraints.specs.declared.rules.Rules.{Rules}
 use Rattle.inclusion_constraints.specs.Rules.{lists_in}
 use Rattle.inclusion_constraints.specs.Demands.{Demand, value_demands, block_demands, func_demands, global_demands}
 use Rattle.inclusion_constraints.specs.Gathered.{Item, Fact, Copy, Asks, HasItem, IsAskedBy, Represents}
-use Rattle.object_sets.proofs.Parts.{in_none}
+use Rattle.exact_lists.proofs.Parts.{in_none}
 
 -- the blocks of a function that was read
 pub blocks_read : (q : programs.Program) (s : List Routine) (f : ℕ) (r : Routine) (bs : List Sequence) → s ≡ q.funcs → r ≡ get_or s f r → bs ≡ r.blocks → f < length q.funcs

@@ -33,11 +33,7 @@ fn add_copy(rules: &mut Rules, edge: Edge) -> Result<(), AllocError>
     Ok(())
 }
 
-fn add_trigger<'a>(
-    rules: &mut Rules<'a>,
-    node: u32,
-    trigger: Trigger<'a>,
-) -> Result<(), AllocError>
+fn add_trigger<'a>(rules: &mut Rules<'a>, node: u32, trigger: Trigger<'a>) -> Result<(), AllocError>
     ensures { OnOk result (IsAdded rules.old rules.new (Asks node trigger.entry)) }
 {
     if node as usize >= rules.triggers.len() {

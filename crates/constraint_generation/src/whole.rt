@@ -16,7 +16,8 @@ use inclusion_constraints::{Callees, Rules, System};
 use ir_model::object::ObjId;
 use ir_program::program::{Operation, Program, Sequence};
 use ir_program::value::Value;
-use object_sets::{Node, Numbering};
+use object_pairs::number_program;
+use object_sets::Node;
 use std::alloc::{AllocError, Global};
 
 /// Rules that ask nothing, of so many nodes.
@@ -181,7 +182,7 @@ pub fn generate<'a>(alloc: Global, program: &'a Program<'a>) -> Result<System<'a
     ensures numbering { IfOk result (λ w. w.callees.numbering ≡ numbering_of (program_of program.now)) }
     ensures rules { IfOk result (λ w. Represents (numbering_of (program_of program.now)) w.rules (demands_of (program_of program.now))) }
 {
-    let numbering = Numbering::new(alloc, program)?;
+    let numbering = number_program(alloc, program)?;
     let generator = Generator { program, numbering };
     let rules = generator.rules(alloc)?;
     let Generator { program, numbering } = generator;

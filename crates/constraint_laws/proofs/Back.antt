@@ -9,9 +9,9 @@ use Rattle.ir_model.specs.Resolved.{Program, NumberedFunc, no_func, func_at, reg
 use Rattle.ir_model.specs.State.{Object, GlobalObject, PeriphObject, LocalObject, FunctionObject}
 use Rattle.ir_laws.specs.Sets.{Node, Register, Content, Outcome, carries}
 use Rattle.object_sets.specs.declared.numbering.Numbering.{Numbering}
-use Rattle.object_sets.specs.Groups.{place_of, start_of}
+use Rattle.numbered_lists.specs.Groups.{place_of, start_of}
 use Rattle.object_sets.specs.Numbers.{object_number, node_number, content_number, object_groups, node_groups, numbering_of}
-use Rattle.object_sets.proofs.Numbered.{some_is, none_is, place_at}
+use Rattle.numbered_lists.proofs.GroupPlaces.{some_is, none_is, place_at}
 use Rattle.inclusion_constraints.specs.Rules.{callee_of}
 use Rattle.common_laws.proofs.Options.{guarded}
 use Rattle.common_laws.proofs.Lists.{sum_below as sum_more}

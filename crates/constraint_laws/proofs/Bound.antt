@@ -8,9 +8,9 @@ use Rattle.ir_model.specs.State.{Object}
 use Rattle.ir_program.specs.Seen.{program_of}
 use Rattle.ir_laws.specs.Sets.{Node, ObjectSets}
 use Rattle.object_sets.specs.Numbers.{object_number, numbering_of}
-use Rattle.object_sets.specs.Rows.{Lists}
+use Rattle.numbered_lists.specs.Rows.{Lists}
 use Rattle.object_sets.specs.Sets.{Sets, sets_of, row_of}
-use Rattle.object_sets.specs.Tables.{sets_by}
+use Rattle.object_pairs.specs.Tables.{sets_by}
 use Rattle.inclusion_constraints.specs.declared.system.System.{System}
 use Rattle.inclusion_constraints.specs.Rules.{Says}
 use Rattle.inclusion_constraints.specs.Solutions.{ObeysAll, is_in, IsBounded}

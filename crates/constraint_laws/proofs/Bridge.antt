@@ -11,11 +11,11 @@ use Rattle.ir_model.specs.State.{Object, FunctionObject}
 use Rattle.ir_model.specs.Signatures.{signature}
 use Rattle.ir_laws.specs.Sets.{Node, Register, Content, Outcome, ObjectSets, IsWithin, carries}
 use Rattle.object_sets.specs.declared.numbering.Numbering.{Numbering}
-use Rattle.object_sets.specs.Groups.{place_of}
+use Rattle.numbered_lists.specs.Groups.{place_of}
 use Rattle.object_sets.specs.Numbers.{object_number, node_number, content_number, numbering_of}
-use Rattle.object_sets.specs.Rows.{Lists}
-use Rattle.object_sets.specs.Tables.{is_pair, sets_by}
-use Rattle.object_sets.proofs.Numbered.{some_is, none_is}
+use Rattle.numbered_lists.specs.Rows.{Lists}
+use Rattle.object_pairs.specs.Tables.{is_pair, sets_by}
+use Rattle.numbered_lists.proofs.GroupPlaces.{some_is, none_is}
 use Rattle.inclusion_constraints.specs.declared.rules.Pair.{Pair}
 use Rattle.inclusion_constraints.specs.declared.rules.Trigger.{Trigger}
 use Rattle.inclusion_constraints.specs.declared.rules.Trigger.TheVariants as trigger

@@ -9,7 +9,7 @@ use Rattle.ir_model.specs.State.{GlobalObject, FunctionObject, object_of}
 use Rattle.ir_model.specs.Signatures.{signature}
 use Rattle.ir_laws.specs.Sets.{Register, Content, Outcome, ObjectSets, carries, named_object, ResultFlows, InstFlows, EndFlows, HereFlows, IsOf, Closed}
 use Rattle.plan_model.specs.Lists.{numbers_below}
-use Rattle.object_sets.proofs.Parts.{head, in_none, joined, from_joined, number_in, number_below}
+use Rattle.exact_lists.proofs.Parts.{head, in_none, joined, from_joined, number_in, number_below}
 use Rattle.inclusion_constraints.specs.Demands.{Demand, HasObject, PassesOn, LoadsTo, StoresFrom, GivesTo, TakesFrom, Meets, where_carried, argument_passed, result_passed, argument_given, result_taken, inst_demands, end_demands, value_demands, block_demands, func_demands, global_demands, demands_of}
 use Rattle.common_laws.proofs.Lists.{only_one as only}
 

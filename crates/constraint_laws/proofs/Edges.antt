@@ -10,11 +10,11 @@ use Rattle.ir_model.specs.Signatures.{signature}
 use Rattle.ir_program.specs.Seen.{program_of}
 use Rattle.ir_laws.specs.Sets.{Node, Register, Content, Outcome, ObjectSets, carries}
 use Rattle.object_sets.specs.declared.numbering.Numbering.{Numbering}
-use Rattle.object_sets.specs.Groups.{place_of}
+use Rattle.numbered_lists.specs.Groups.{place_of}
 use Rattle.object_sets.specs.Numbers.{object_number, node_number, content_number, numbering_of}
-use Rattle.object_sets.specs.Rows.{Lists}
-use Rattle.object_sets.specs.Tables.{is_pair, sets_by}
-use Rattle.object_sets.proofs.Numbered.{some_is, none_is}
+use Rattle.numbered_lists.specs.Rows.{Lists}
+use Rattle.object_pairs.specs.Tables.{is_pair, sets_by}
+use Rattle.numbered_lists.proofs.GroupPlaces.{some_is, none_is}
 use Rattle.inclusion_constraints.specs.declared.rules.Edge.{Edge}
 use Rattle.inclusion_constraints.specs.declared.rules.Trigger.{Trigger}
 use Rattle.inclusion_constraints.specs.declared.rules.Trigger.TheVariants as trigger

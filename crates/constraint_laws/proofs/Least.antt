@@ -9,8 +9,8 @@ use Rattle.ir_laws.specs.Sets.{Node, ObjectSets}
 use Rattle.plan_model.specs.PointsTo.{IsLeast}
 use Rattle.object_sets.specs.declared.numbering.Numbering.{Numbering}
 use Rattle.object_sets.specs.Numbers.{object_number, node_number, numbering_of}
-use Rattle.object_sets.specs.Rows.{Lists}
-use Rattle.object_sets.specs.Tables.{is_pair, sets_by}
+use Rattle.numbered_lists.specs.Rows.{Lists}
+use Rattle.object_pairs.specs.Tables.{is_pair, sets_by}
 use Rattle.inclusion_constraints.specs.declared.system.System.{System}
 use Rattle.inclusion_constraints.specs.Rules.{Says, Obeys, lists_in}
 use Rattle.inclusion_constraints.specs.Solutions.{ObeysAll, is_in}

@@ -17,11 +17,11 @@ use Rattle.ir_model.specs.State.{Object}
 use Rattle.ir_laws.specs.Sets.{Node}
 use Rattle.object_sets.specs.declared.numbering.Numbering.{Numbering}
 use Rattle.object_sets.specs.Numbers.{object_number, node_number, numbering_of}
-use Rattle.object_sets.specs.Rows.{Lists, row}
+use Rattle.numbered_lists.specs.Rows.{Lists, row}
 use Rattle.object_sets.specs.Sets.{Sets, same_object, sets_of, row_of}
-use Rattle.object_sets.specs.Tables.{sets_by}
+use Rattle.object_pairs.specs.Tables.{sets_by}
 use Rattle.object_sets.proofs.Members.{same_is}
-use Rattle.object_sets.proofs.Parts.{cases, in_none}
+use Rattle.exact_lists.proofs.Parts.{cases, in_none}
 use Rattle.inclusion_constraints.specs.Solutions.{is_in, total}
 use Rattle.inclusion_constraints.proofs.Totals.{total_grows}
 use Rattle.constraint_laws.specs.Edges.{IsEdge}

@@ -3,8 +3,8 @@ use Rattle.std.proofs.Common.{◌≡◌, ◌≢◌, ℕ, zero, suc, ◌+◌, ◌
 use Rattle.std.specs.Prelude.{Vec}
 use Rattle.std.proofs.lemmas.List.{get_or_default}
 use Rattle.std.specs.Global.{Global}
-use Rattle.object_sets.specs.Tables.{Table}
-use Rattle.object_sets.specs.Rows.{Lists, row, added}
+use Rattle.object_pairs.specs.Tables.{Table}
+use Rattle.numbered_lists.specs.Rows.{Lists, row, added}
 use Rattle.inclusion_constraints.specs.declared.rules.Pair.{Pair}
 use Rattle.inclusion_constraints.specs.declared.rules.Edge.{Edge}
 use Rattle.constraint_solving.specs.declared.state.State.{State}

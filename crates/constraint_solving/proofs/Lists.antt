@@ -5,7 +5,7 @@ use Rattle.std.proofs.lemmas.Bool.{false≢true, eqb-true, eq-eqb, or_left, or_r
 use Rattle.std.proofs.lemmas.List.{length-set, get_or-set_same, length-append}
 use Rattle.std.proofs.lemmas.Map.Keys.{IsDistinct-push}
 use Rattle.std.specs.Cmp.{nat_eq_equiv}
-use Rattle.object_sets.specs.Rows.{Lists, has, row, added}
+use Rattle.numbered_lists.specs.Rows.{Lists, has, row, added}
 use Rattle.inclusion_constraints.specs.Solutions.{is_in}
 use Rattle.inclusion_constraints.proofs.Replaced.{each_replaced}
 

@@ -1,7 +1,7 @@
 -- The next pair is passed on.
 use Rattle.std.proofs.Common.{◌≡◌, ℕ, ◌+◌, ◌<◌, ◌≤◌, true, length, get_or, refl, sym, ap, ◌∙◌, subst, arith, ◌⊎◌, inl, inr, Option, Some, None, slice_get, below_more}
 use Rattle.std.proofs.lemmas.Bool.{cases_lt}
-use Rattle.object_sets.specs.Rows.{Lists, row}
+use Rattle.numbered_lists.specs.Rows.{Lists, row}
 use Rattle.inclusion_constraints.specs.declared.rules.Pair.{Pair}
 use Rattle.constraint_solving.specs.declared.state.State.{State}
 use Rattle.inclusion_constraints.specs.declared.system.System.{System}

@@ -2,8 +2,8 @@
 use Rattle.std.proofs.Common.{◌≡◌, ℕ, zero, suc, ◌+◌, ◌-◌, ◌*◌, ◌<◌, ◌≤◌, false, length, sym, ap, ◌∙◌, subst, arith, ◌⊎◌, inl, inr}
 use Rattle.std.proofs.Math.Nat.{mul-le-mul_left}
 use Rattle.std.proofs.lemmas.Bool.{cases_lt}
-use Rattle.object_sets.specs.Rows.{Lists, row, added}
-use Rattle.object_sets.specs.Tables.{Table}
+use Rattle.numbered_lists.specs.Rows.{Lists, row, added}
+use Rattle.object_pairs.specs.Tables.{Table}
 use Rattle.inclusion_constraints.specs.declared.rules.Pair.{Pair}
 use Rattle.inclusion_constraints.specs.declared.rules.Edge.{Edge}
 use Rattle.constraint_solving.specs.declared.state.State.{State}

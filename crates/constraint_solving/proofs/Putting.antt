@@ -2,7 +2,7 @@
 use Rattle.std.proofs.Common.{◌≡◌, ℕ, zero, suc, ◌+◌, ◌<◌, ◌≤◌, Bool, true, false, List, [], ◌∷◌, ◌++◌, length, set, nat_eq, refl, sym, ap, ◌∙◌, subst, arith, if◌then◌else◌, ◌⊎◌, inl, inr}
 use Rattle.std.proofs.lemmas.List.{length-set}
 use Rattle.std.proofs.lemmas.Bool.{eqb-true}
-use Rattle.object_sets.specs.Rows.{Lists, row, added}
+use Rattle.numbered_lists.specs.Rows.{Lists, row, added}
 use Rattle.inclusion_constraints.specs.declared.rules.Pair.{Pair}
 use Rattle.constraint_solving.specs.declared.state.State.{State}
 use Rattle.inclusion_constraints.specs.declared.system.System.{System}

@@ -2,7 +2,7 @@
 use Rattle.std.proofs.Common.{◌≡◌, ℕ, zero, suc, ◌+◌, ◌<◌, ◌≤◌, true, List, [], length, get_or, replicate, refl, sym, ap, ◌∙◌, subst, arith, inl, inr, nat_eq}
 use Rattle.std.specs.List.{IsDistinct}
 use Rattle.std.proofs.lemmas.Bool.{false≢true, cases_lt}
-use Rattle.object_sets.specs.Rows.{Lists, row}
+use Rattle.numbered_lists.specs.Rows.{Lists, row}
 use Rattle.inclusion_constraints.specs.declared.rules.Pair.{Pair}
 use Rattle.inclusion_constraints.specs.declared.rules.Edge.{Edge}
 use Rattle.inclusion_constraints.specs.declared.rules.Trigger.{Trigger}

@@ -3,7 +3,7 @@
 use Rattle.std.specs.Prelude.{◌≡◌, ℕ, zero, suc, ◌+◌, ◌*◌, ◌<◌, ◌≤◌, ◌⊎◌, Bool, true, false, List, [], ◌∷◌, ◌++◌, length, get_or, Option, nat_eq, if◌then◌else◌}
 use Rattle.std.specs.List.{IsDistinct}
 use Rattle.ir_program.specs.Seen.{program_of}
-use Rattle.object_sets.specs.Rows.{Lists, row, added}
+use Rattle.numbered_lists.specs.Rows.{Lists, row, added}
 use Rattle.inclusion_constraints.specs.declared.rules.Pair.{Pair}
 use Rattle.inclusion_constraints.specs.declared.rules.Edge.{Edge}
 use Rattle.inclusion_constraints.specs.declared.rules.Trigger.{Trigger}

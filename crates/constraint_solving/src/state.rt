@@ -1,7 +1,8 @@
 //! Where a search stands.
 
 use inclusion_constraints::Pair;
-use object_sets::{Pairs, Rows};
+use numbered_lists::Rows;
+use object_pairs::Pairs;
 
 /// Where a search stands.
 #[derive(Drop)]

@@ -9,9 +9,9 @@ use Rattle.plan_model.specs.Lists.{ListsExactly}
 use Rattle.plan_model.specs.Calls.{call_places, IsSiteOf}
 use Rattle.plan_model.specs.Lendable.{IsLendable, compare_locals}
 use Rattle.plan_model.specs.Needs.{no_need, IsNeedOf, AreNeeds}
-use Rattle.depend.specs.Lent.{IsLendableByNeeds}
-use Rattle.depend.proofs.Exact.{exactly_by}
-use Rattle.depend.proofs.Lendables.{lendable_is}
+use Rattle.lent_locals.specs.Lent.{IsLendableByNeeds}
+use Rattle.exact_lists.proofs.Exact.{exactly_by}
+use Rattle.lent_locals.proofs.Lendables.{lendable_is}
 
 pub gathered : (p : Program) (S : ObjectSets) (closed : Bool) (fs gs hs : List FuncNeed) (ss ts : List SiteNeed) (ls ms : List (ℕ × ℕ)) → length fs ≡ length p.funcs
     → ((f : ℕ) → f < length p.funcs → IsNeedOf p S f (get_or fs f no_need)) → AllZip (IsSiteOf p S) (call_places p) ss → gs ≡ fs → ListsExactly compare_locals (IsLendableByNeeds p closed gs) ls

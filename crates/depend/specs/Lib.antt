@@ -1,9 +1,1 @@
-pub mod Reached
-pub mod Laws
-pub mod Checked
-pub mod Uses
-pub mod Accesses
-pub mod Bounds
-pub mod Reaching
-pub mod Sites
-pub mod Lent
+pub mod Targets

@@ -5,24 +5,22 @@ ghost use Rattle.std.specs.Prelude.{IfOk};
 ghost use Rattle.ir_program.specs.Seen.{program_of};
 ghost use Rattle.object_sets.specs.Sets.{sets_of};
 ghost use Rattle.plan_model.specs.Needs.{AreNeeds};
-ghost use Rattle.depend.specs.Checked.{IsChecked, AreSets};
-ghost use Rattle.depend.specs.Reached.{RunsStayInNeeds};
-ghost use Rattle.depend.specs.Bounds.{HasSmallNumbers, RegistersAreThere, FunctionsAreThere};
+ghost use Rattle.need_laws.specs.Checked.{IsChecked, AreSets};
+ghost use Rattle.need_laws.specs.Reached.{RunsStayInNeeds};
+ghost use Rattle.code_uses.specs.Bounds.{HasSmallNumbers, RegistersAreThere};
+ghost use Rattle.depend.specs.Targets.{FunctionsAreThere};
 
-mod calls;
-pub mod laws;
-mod lending;
 mod need;
 mod objects;
-mod reaching;
-mod sites;
 mod targets;
-mod uses;
 
+use code_uses::push_sites;
 use ir_laws::limits::counts;
 use ir_laws::typing::places;
 use ir_program::program::Program;
+use lent_locals::lendable;
 use list_vec::ListVec;
+use need_laws::runs;
 use object_sets::PointsTo;
 use plan_model::needs::Needs;
 use std::alloc::{AllocError, Global};
@@ -42,10 +40,10 @@ fn all_needs(
     let mut sites = Vec::new(alloc);
     for func in 0..program.funcs.len() {
         let targets = targets::all_targets(alloc, program, pts, func)?;
-        sites::push_sites(alloc, program, func, targets.as_slice(), &mut sites)?;
+        push_sites(alloc, program, func, targets.as_slice(), &mut sites)?;
         funcs.push(need::need(alloc, program, pts, func, targets.as_slice())?)?;
     }
-    let lendable = lending::lendable(alloc, program, funcs.as_slice(), closed)?;
+    let lendable = lendable(alloc, program, funcs.as_slice(), closed)?;
     Ok(Needs {
         funcs: ListVec::new(funcs),
         sites: ListVec::new(sites),
@@ -73,6 +71,6 @@ pub fn needs(
 {
     places();
     counts();
-    laws::runs();
+    runs();
     all_needs(alloc, program, pts, closed)
 }

@@ -8,16 +8,17 @@ ghost use Rattle.ir_program.specs.Seen.{program_of};
 ghost use Rattle.object_sets.specs.Sets.{sets_of};
 ghost use Rattle.plan_model.specs.Lists.{ListsExactly};
 ghost use Rattle.plan_model.specs.Needs.{IsNeedOf};
-ghost use Rattle.depend.specs.Accesses.{AnyOf, HasTargets};
-ghost use Rattle.depend.specs.Bounds.{HasSmallNumbers, RegistersAreThere};
+ghost use Rattle.exact_lists.specs.AnyOf.{AnyOf};
+ghost use Rattle.code_uses.specs.Accesses.{HasTargets};
+ghost use Rattle.code_uses.specs.Bounds.{HasSmallNumbers, RegistersAreThere};
 
-use crate::calls::callees;
-use crate::objects::{Access, objects};
-use crate::uses::uses;
+use crate::objects::objects;
+use code_uses::{Access, callees, uses};
+use exact_lists::each_once;
 use ir_model::object::ObjId;
 use ir_program::program::Program;
 use list_vec::ListVec;
-use object_sets::{PointsTo, each_once};
+use object_sets::PointsTo;
 use plan_model::needs::FuncNeed;
 use std::alloc::{AllocError, Global};
 

@@ -8,23 +8,16 @@ ghost use Rattle.ir_program.specs.Seen.{program_of};
 ghost use Rattle.object_sets.specs.Sets.{sets_of};
 ghost use Rattle.ir_laws.specs.Sets.{Register};
 ghost use Rattle.plan_model.specs.Lists.{ListsExactly};
-ghost use Rattle.depend.specs.Accesses.{AnyOf, Reaches, is_open};
-ghost use Rattle.depend.specs.Bounds.{HasSmallRegister};
+ghost use Rattle.exact_lists.specs.AnyOf.{AnyOf};
+ghost use Rattle.code_uses.specs.Accesses.{Reaches, is_open};
+ghost use Rattle.code_uses.specs.Bounds.{HasSmallRegister};
 
-use crate::uses::Use;
+use code_uses::{Access, Use};
+use exact_lists::each_once;
 use ir_model::object::ObjId;
 use ir_program::program::Program;
-use object_sets::{Node, PointsTo, each_once};
+use object_sets::{Node, PointsTo};
 use std::alloc::{AllocError, Global};
-
-/// Whether objects are read or written.
-#[derive(Clone, Copy, PartialEq, Eq, Debug)]
-pub(crate) enum Access {
-    /// They are read.
-    Read,
-    /// They are written.
-    Write,
-}
 
 fn push_pointed(
     pts: &PointsTo,

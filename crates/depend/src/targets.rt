@@ -11,14 +11,16 @@ ghost use Rattle.ir_model.specs.Signatures.{signature};
 ghost use Rattle.ir_program.specs.Seen.{program_of};
 ghost use Rattle.object_sets.specs.Sets.{sets_of};
 ghost use Rattle.plan_model.specs.Lists.{ListsExactly};
-ghost use Rattle.depend.specs.Accesses.{IsTarget, IsFunctionOf, HasTargets};
-ghost use Rattle.depend.specs.Bounds.{FunctionsAreThere};
+ghost use Rattle.code_uses.specs.Accesses.{IsTarget, HasTargets};
+ghost use Rattle.depend.specs.Targets.{IsFunctionOf};
+ghost use Rattle.depend.specs.Targets.{FunctionsAreThere};
 
+use exact_lists::each_once;
 use ir_model::object::ObjId;
 use ir_model::types::Ty;
 use ir_program::program::Program;
 use list_vec::ListVec;
-use object_sets::{Node, PointsTo, each_once};
+use object_sets::{Node, PointsTo};
 use std::alloc::{AllocError, Global};
 use type_tests::callee::has_type;
 

@@ -6,7 +6,7 @@ use Rattle.ir_model.specs.Resolved.{Program, register_type}
 use Rattle.ir_model.specs.Signatures.{signature}
 use Rattle.ir_laws.specs.Sets.{carries, Register, Outcome}
 use Rattle.object_sets.specs.declared.numbering.Numbering.{Numbering}
-use Rattle.object_sets.specs.Groups.{place_of, start_of}
+use Rattle.numbered_lists.specs.Groups.{place_of, start_of}
 use Rattle.object_sets.specs.Numbers.{node_number}
 use Rattle.inclusion_constraints.specs.declared.rules.Pair.{Pair}
 use Rattle.inclusion_constraints.specs.declared.rules.Edge.{Edge}

@@ -3,7 +3,7 @@
 use Rattle.std.specs.Prelude.{◌≡◌, ◌≢◌, ℕ, zero, suc, ◌+◌, ◌*◌, ◌≤◌, ◌⊎◌, Bool, true, List, [], length, get_or, Option, Some, nat_eq, Contains}
 use Rattle.std.specs.List.{IsDistinct}
 use Rattle.ir_program.specs.Seen.{program_of}
-use Rattle.object_sets.specs.Rows.{Lists, has, row}
+use Rattle.numbered_lists.specs.Rows.{Lists, has, row}
 use Rattle.inclusion_constraints.specs.declared.rules.Edge.{Edge}
 use Rattle.inclusion_constraints.specs.declared.rules.Trigger.{Trigger}
 use Rattle.inclusion_constraints.specs.declared.system.System.{System}

@@ -20,7 +20,7 @@ use Rattle.plan_model.specs.declared.needs.SiteNeed.{SiteNeed}
 use Rattle.plan_model.specs.Lending.{lend_number}
 use Rattle.plan_model.specs.Crossing.{site_number}
 use Rattle.plan_model.specs.Needs.{need_of}
-use Rattle.depend.specs.Reached.{IsListed, HasTarget}
+use Rattle.need_laws.specs.Reached.{IsListed, HasTarget}
 use Rattle.code_model.specs.Entry.{frame_code}
 use Rattle.code_model.specs.Templates.{inst_items, term_items}
 use Rattle.code_model.specs.Sizes.{inst_size, term_size, entry_size}
@@ -35,7 +35,7 @@ use Rattle.linked_examples.specs.TwoCompartments.{program, needs, groups, places
 use Rattle.linked_examples.proofs.InTable.{pieces_in_table}
 use Rattle.mem_bus.proofs.Ranges.{outside_behind as below_range, inside_yes as in_range}
 use Rattle.common_laws.proofs.Lists.{only_one as only}
-use Rattle.object_sets.proofs.Parts.{in_none}
+use Rattle.exact_lists.proofs.Parts.{in_none}
 
 -- ---- the image
 

@@ -17,7 +17,7 @@ use Rattle.plan_model.specs.Needs.{AreNeeds}
 use Rattle.plan_model.specs.CompileLimits.{KeepsLimits}
 use Rattle.plan_model.specs.FinalGraph.{IsFinal}
 use Rattle.plan_model.specs.Placement.{Fits, plan_of}
-use Rattle.depend.specs.Checked.{AreSets}
+use Rattle.need_laws.specs.Checked.{AreSets}
 use Rattle.code_model.specs.Planned.{sizes_of}
 use Rattle.monitor.specs.declared.tables.Tables.{Tables}
 use Rattle.link_model.specs.LinkedTables.{tables_of}

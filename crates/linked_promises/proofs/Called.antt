@@ -16,7 +16,7 @@ use Rattle.plan_model.specs.Lists.{ListsExactly}
 use Rattle.plan_model.specs.Calls.{CallPlace, call_places, IsSiteOf}
 use Rattle.plan_model.specs.Needs.{AreNeeds}
 use Rattle.plan_model.specs.Crossing.{crosses, crossing_sites}
-use Rattle.depend.specs.Checked.{AreSets}
+use Rattle.need_laws.specs.Checked.{AreSets}
 
 -- what an item of the second list goes with
 paired : {X Y : Type 0} (R : X → Y → Type 0) (xs : List X) (ys : List Y) (k : ℕ) (y : Y) → AllZip R xs ys → k < length ys → get_or ys k y ≡ y → (x : X) × R x y

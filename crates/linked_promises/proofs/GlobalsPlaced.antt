@@ -10,7 +10,7 @@ use Rattle.plan_model.specs.declared.plan.Board.{Board}
 use Rattle.plan_model.specs.Needs.{need_of}
 use Rattle.plan_model.specs.Groups.{compartment_of}
 use Rattle.plan_model.specs.Regions.{global_size}
-use Rattle.depend.specs.Reached.{IsListed}
+use Rattle.need_laws.specs.Reached.{IsListed}
 use Rattle.monitor.specs.MonitorCode.{MonitorCode}
 use Rattle.monitor.specs.Setting.{may_load, may_store}
 use Rattle.link_model.specs.LinkedImage.{linked}

@@ -4,7 +4,7 @@ use Rattle.std.specs.Prelude.{◌⊎◌, Contains}
 use Rattle.monitor.specs.declared.tables.TargetRecord.{TargetRecord}
 use Rattle.monitor.specs.Records.{or_this, last_with_entry}
 use Rattle.monitor.specs.Setting.{leads_to}
-use Rattle.object_sets.proofs.Parts.{head, tail, cases, in_none}
+use Rattle.exact_lists.proofs.Parts.{head, tail, cases, in_none}
 
 -- none, or one that leads to the compartment
 abbrev LeadsIfThere : Option TargetRecord → (compartment : ℕ) → Type 0

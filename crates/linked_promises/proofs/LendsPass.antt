@@ -13,7 +13,7 @@ use Rattle.monitor.specs.Layout.{lends_at}
 use Rattle.link_model.specs.LinkedTables.{lend_sizes, tables_of}
 use Rattle.linked_images.specs.Planned.{planned_tables}
 use Rattle.linked_images.proofs.Passing.{and_yes, le_yes, each_yes}
-use Rattle.object_sets.proofs.Parts.{head, tail, in_none}
+use Rattle.exact_lists.proofs.Parts.{head, tail, in_none}
 use Rattle.linked_promises.specs.Sites.{LendsPass}
 use Rattle.linked_promises.proofs.ObjectSizes.{local_is_large}
 

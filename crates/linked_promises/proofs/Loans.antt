@@ -30,7 +30,7 @@ use Rattle.plan_model.specs.Lending.{lent, is_local, lend_number}
 use Rattle.plan_model.specs.InitialGraph.{mask_of, read_mask_of, mask_where, initial_graph}
 use Rattle.plan_model.specs.FinalGraph.{IsFinal}
 use Rattle.plan_model.specs.Slots.{kept_mask}
-use Rattle.depend.specs.Reached.{IsListed}
+use Rattle.need_laws.specs.Reached.{IsListed}
 use Rattle.mem_bus.specs.Places.{inside}
 use Rattle.monitor.specs.declared.tables.CompRecord.{CompRecord}
 use Rattle.monitor.specs.Records.{compartment_at, nobody}

@@ -30,7 +30,7 @@ use Rattle.plan_model.specs.InitialGraph.{initial_graph}
 use Rattle.plan_model.specs.FinalGraph.{IsMerged}
 use Rattle.plan_model.specs.Slots.{data_slot, cover_slot, slot_uses, slot_regions, slots_from}
 use Rattle.layout_laws.specs.RamLaws.{Holds}
-use Rattle.depend.specs.Reached.{IsListed}
+use Rattle.need_laws.specs.Reached.{IsListed}
 use Rattle.monitor.specs.declared.tables.CompRecord.{CompRecord}
 use Rattle.monitor.specs.Records.{compartment_at, nobody}
 use Rattle.monitor.specs.Setting.{may_load, may_store, allows_stores}

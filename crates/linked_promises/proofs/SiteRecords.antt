@@ -18,7 +18,7 @@ use Rattle.monitor.specs.Records.{no_site}
 use Rattle.monitor.specs.Checks.{is_site}
 use Rattle.link_model.specs.LinkedTables.{return_address, site_records, target_record, target_records}
 use Rattle.linked_images.proofs.Passing.{and_yes, le_yes}
-use Rattle.object_sets.proofs.Parts.{head, tail}
+use Rattle.exact_lists.proofs.Parts.{head, tail}
 
 module _ (p : Program) (n : Needs) (f : Final) (l : Plan) where
   -- ---- by their numbers

@@ -22,7 +22,7 @@ use Rattle.plan_model.specs.Blocks.{block}
 use Rattle.plan_model.specs.Placement.{compartment_spot, no_spot}
 use Rattle.plan_model.specs.Groups.{compartment_of}
 use Rattle.plan_model.specs.Crossing.{crossing_sites, stands_at, site_number, target_count}
-use Rattle.depend.specs.Reached.{HasTarget}
+use Rattle.need_laws.specs.Reached.{HasTarget}
 use Rattle.code_model.specs.Sizes.{site_offset}
 use Rattle.code_model.specs.FunctionCode as code
 use Rattle.code_model.specs.CompartmentCode.{compartment_size}

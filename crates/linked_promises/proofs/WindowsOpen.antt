@@ -35,7 +35,7 @@ use Rattle.plan_model.specs.Covers.{is_inside, end_of}
 use Rattle.plan_model.specs.InitialGraph.{cover_of, covers_of, initial_graph}
 use Rattle.plan_model.specs.FinalGraph.{IsFinal, IsMerged}
 use Rattle.plan_model.specs.Slots.{SlotUse, cover_slot, data_slot, slot_uses, slot_regions, slots_from}
-use Rattle.depend.specs.Reached.{IsListed}
+use Rattle.need_laws.specs.Reached.{IsListed}
 use Rattle.monitor.specs.declared.tables.CompRecord.{CompRecord}
 use Rattle.monitor.specs.Records.{compartment_at}
 use Rattle.monitor.specs.Setting.{may_load, may_store, allows_stores}

@@ -9,7 +9,7 @@ use Rattle.plan_model.specs.declared.needs.Needs.{Needs}
 use Rattle.plan_model.specs.declared.graph.Final.{Final}
 use Rattle.plan_model.specs.declared.plan.Board.{Board}
 use Rattle.plan_model.specs.Needs.{need_of}
-use Rattle.depend.specs.Reached.{IsListed}
+use Rattle.need_laws.specs.Reached.{IsListed}
 use Rattle.monitor.specs.MonitorCode.{MonitorCode}
 use Rattle.monitor.specs.Threads.{base, stack_end, KeepsOff}
 use Rattle.thread_runs.specs.Areas.{Area, Laid}

@@ -13,7 +13,7 @@ use Rattle.monitor.specs.Setting.{Setting, setting_of}
 use Rattle.monitor.specs.Threads.{stack_end}
 use Rattle.relation.specs.Builds.{Build}
 use Rattle.relation.specs.Linked.{HasLoans, HasWindows}
-use Rattle.depend.specs.Reached.{IsListed}
+use Rattle.need_laws.specs.Reached.{IsListed}
 use Rattle.plan_model.specs.Needs.{need_of}
 use Rattle.ir_model.specs.State.{PeriphObject}
 use Rattle.ir_model.specs.Resolved.{window_at}

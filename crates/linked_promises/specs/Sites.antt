@@ -5,7 +5,7 @@ use Rattle.ir_model.specs.Plain.{PlainFirmware}
 use Rattle.plan_model.specs.declared.needs.Needs.{Needs}
 use Rattle.plan_model.specs.declared.graph.Final.{Final}
 use Rattle.plan_model.specs.declared.plan.Board.{Board}
-use Rattle.depend.specs.Reached.{HasTarget}
+use Rattle.need_laws.specs.Reached.{HasTarget}
 use Rattle.monitor.specs.Checks.{sites_fail, lends_fail}
 use Rattle.monitor.specs.MonitorCode.{MonitorCode}
 use Rattle.relation.specs.Builds.{Build, compartment_of, entry_at, half_at, site_at}

@@ -8,7 +8,7 @@ use Rattle.ir_model.specs.Resolved.{Program, NumberedFunc}
 use Rattle.ir_model.specs.State.{Object, GlobalObject, PeriphObject, LocalObject, FunctionObject}
 use Rattle.ir_laws.specs.Sets.{Node, Register, Content, Outcome}
 use Rattle.object_sets.specs.declared.numbering.Numbering.{Numbering}
-use Rattle.object_sets.specs.Groups.{place_of}
+use Rattle.numbered_lists.specs.Groups.{place_of}
 
 -- globals, peripherals, the locals of each function, functions
 abbrev pub object_number : Numbering → Object → Option ℕ

@@ -1,18 +1,15 @@
 //! The numbers of nodes and objects.
 
-ghost use Rattle.std.specs.Prelude.{◌≡◌, ◌+◌, ◌<◌, ◌++◌, ◌∷◌, [], length, map, IfOk, OnOk};
+ghost use Rattle.std.specs.Prelude.{◌≡◌, ◌+◌, ◌<◌, length, IfOk, OnOk};
 ghost use Rattle.std.specs.List.{sum};
-ghost use Rattle.ir_model.specs.Resolved.{NumberedFunc};
-ghost use Rattle.ir_program.specs.Seen.{program_of};
-ghost use Rattle.object_sets.specs.Groups.{place_of, start_of};
+ghost use Rattle.numbered_lists.specs.Groups.{place_of, start_of};
 ghost use Rattle.ir_model.specs.Objects.{object_by};
 ghost use Rattle.object_sets.specs.Nodes.{node_by};
-ghost use Rattle.object_sets.specs.Numbers.{object_number, node_number, numbering_of, object_groups, node_groups, IsTable};
+ghost use Rattle.object_sets.specs.Numbers.{object_number, node_number, IsTable};
 
-use crate::groups::Groups;
 use crate::node::Node;
 use ir_model::object::ObjId;
-use ir_program::program::Program;
+use numbered_lists::Groups;
 use std::alloc::{AllocError, Global};
 
 /// How nodes and objects are numbered: objects in their order, and nodes with the registers of all functions first, then
@@ -27,60 +24,7 @@ pub struct Numbering {
     pub nodes: Groups,
 }
 
-/// A count in 32 bits.
-fn in_32_bits(count: usize) -> Result<u32, AllocError>
-    ensures { IfOk result (λ n. n ≡ count) }
-{
-    match u32::try_from(count) {
-        Ok(count) => Ok(count),
-        Err(_) => Err(AllocError),
-    }
-}
-
-fn objects_of(alloc: Global, program: &Program) -> Result<Groups, AllocError>
-    ensures { IfOk result (λ g. g ≡ object_groups (program_of program.now)) }
-{
-    let mut groups = Groups::new(alloc);
-    groups.push(in_32_bits(program.globals.len())?)?;
-    groups.push(in_32_bits(program.periphs.len())?)?;
-    for func in program.funcs.as_slice() {
-        groups.push(in_32_bits(func.locals.len())?)?;
-    }
-    groups.push(in_32_bits(program.funcs.len())?)?;
-    Ok(groups)
-}
-
-fn nodes_of(alloc: Global, program: &Program, objects: u32) -> Result<Groups, AllocError>
-    ensures { IfOk result (λ g. g ≡ node_groups (program_of program.now) objects) }
-{
-    let mut groups = Groups::new(alloc);
-    for func in program.funcs.as_slice() {
-        groups.push(in_32_bits(func.registers.len())?)?;
-    }
-    groups.push(objects)?;
-    groups.push(in_32_bits(program.funcs.len())?)?;
-    Ok(groups)
-}
-
 impl Numbering {
-    /// The numbering of a program.
-    ///
-    /// # Errors
-    ///
-    /// There is no memory for it, or there would be 2^32 nodes or more.
-    pub fn new(alloc: Global, program: &Program) -> Result<Numbering, AllocError>
-        ensures { IfOk result (λ c. c ≡ numbering_of (program_of program.now)) }
-    {
-        let funcs = in_32_bits(program.funcs.len())?;
-        let objects = objects_of(alloc, program)?;
-        let nodes = nodes_of(alloc, program, objects.total())?;
-        Ok(Numbering {
-            funcs,
-            objects,
-            nodes,
-        })
-    }
-
     fn item(&self, group: usize, item: u32) -> ObjId
         requires { group < 3 + self.now.funcs }
         ensures { object_number self.now (object_by result) ≡ place_of self.now.objects group item }

@@ -5,7 +5,7 @@ ghost use Rattle.std.specs.List.Sorted.{IsStrictlySortedBy};
 ghost use Rattle.ir_model.specs.Objects.{object_by, compare_objects};
 ghost use Rattle.plan_model.specs.Lists.{ListsExactly};
 ghost use Rattle.object_sets.specs.Nodes.{node_by};
-ghost use Rattle.object_sets.specs.Sets.{sets_of};
+ghost use Rattle.object_sets.specs.Sets.{AreInOrder, sets_of};
 
 use crate::node::Node;
 use crate::numbering::Numbering;
@@ -16,8 +16,8 @@ use std::marker::Model;
 /// A set of objects for each node.
 #[derive(Drop)]
 pub struct PointsTo {
-    pub(crate) numbering: Numbering,
-    pub(crate) rows: Vec<ListVec<ObjId>>,
+    numbering: Numbering,
+    rows: Vec<ListVec<ObjId>>,
 }
 
 impl Model for PointsTo {
@@ -32,6 +32,14 @@ impl Model for PointsTo {
 }
 
 impl PointsTo {
+    /// The sets of which each node has the objects of the list at its number, in rising order.
+    pub fn new(numbering: Numbering, rows: Vec<ListVec<ObjId>>) -> PointsTo
+        requires { AreInOrder rows.items }
+        ensures { result ≡ record { numbers = numbering; rows = rows.items } }
+    {
+        PointsTo { numbering, rows }
+    }
+
     /// The objects of a node, in rising order. A node that is not of the firmware has none.
     pub fn of(&self, n: &Node) -> &[ObjId]
         ensures { ListsExactly compare_objects (λ o. sets_of self.now (node_by n.now) (object_by o) ≡ true) result.now }

@@ -7,14 +7,16 @@ ghost use Rattle.ir_model.specs.State.{Object};
 ghost use Rattle.ir_program.specs.Seen.{program_of, HasCounts};
 ghost use Rattle.object_sets.specs.Numbers.{numbering_of};
 ghost use Rattle.object_sets.specs.Sets.{Sets, sets_of};
-ghost use Rattle.object_sets.specs.Tables.{sets_by};
+ghost use Rattle.object_pairs.specs.Tables.{sets_by};
 ghost use Rattle.plan_model.specs.PointsTo.{IsLeast};
 ghost use Rattle.constraint_laws.specs.Edges.{IsWithinBound};
 
 use constraint_generation::generate;
 use constraint_solving::least_pairs;
 use ir_program::program::Program;
-use object_sets::{Pairs, PointsTo, Steps};
+use numbered_lists::Steps;
+use object_pairs::Pairs;
+use object_sets::PointsTo;
 use std::alloc::{AllocError, Global};
 use std::marker::Brand;
 use std::sync::ledger::{Blank, Ledger};

@@ -16,7 +16,7 @@ use Rattle.ir_model.specs.Runs.{source_after}
 use Rattle.ir_laws.specs.Moves.{Where, where_of, wheres, Moves, MovesTo, FramesMove}
 use Rattle.ir_laws.specs.Sets.{ObjectSets}
 use Rattle.ir_laws.specs.States.{StateFits}
-use Rattle.depend.specs.Laws.{FramesAreGrouped}
+use Rattle.need_laws.specs.Laws.{FramesAreGrouped}
 use Rattle.monitor.specs.Block.{Block}
 use Rattle.simulate.specs.Refines.{HasFault, EndsAlike, Matched, IsGood}
 use Rattle.simulate.specs.StackLimit as limit

@@ -9,7 +9,7 @@ use code_effects::laws::{
     sources as set_registers,
 };
 use code_model::laws::{compartments as placed, sites, sizes};
-use depend::laws::{accesses as needed, compartments as grouped, locals};
+use need_laws::{accesses as needed, compartments as grouped, locals};
 use ir_laws::limits::windows;
 use ir_laws::runs::{
     accesses as expected, contents, moves, registers, returns as agreeing, values,

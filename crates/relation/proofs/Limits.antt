@@ -3,7 +3,7 @@ use Rattle.std.proofs.Common.{◌≡◌, ℕ, zero, suc, ◌+◌, ◌-◌, ◌*�
 use Rattle.std.proofs.Math.Nat.{suc-mul}
 use Rattle.ir_model.specs.State.{Frame}
 use Rattle.ir_laws.specs.Moves.{Where, where_of, wheres}
-use Rattle.depend.specs.Laws.{AreGrouped}
+use Rattle.need_laws.specs.Laws.{AreGrouped}
 use Rattle.code_model.specs.FrameShape.{frame_size, frame_shape}
 use Rattle.monitor.specs.Block.{Block}
 use Rattle.simulate.specs.StackLimit as limit

@@ -10,7 +10,7 @@ use Rattle.ir_model.specs.Resolved.{NumberedGlobal, global_at, window_at, local_
 use Rattle.ir_model.specs.State.{GlobalObject, PeriphObject, LocalObject}
 use Rattle.plan_model.specs.Lending.{lend_number}
 use Rattle.plan_model.specs.Needs.{need_of}
-use Rattle.depend.specs.Reached.{IsListed, HasTarget}
+use Rattle.need_laws.specs.Reached.{IsListed, HasTarget}
 use Rattle.code_model.specs.CompartmentCode.{compartment_size, compartment_items, compartment_labels}
 use Rattle.code_effects.specs.Items.{ItemsIn}
 use Rattle.monitor.specs.declared.tables.InitRecord.{InitRecord}

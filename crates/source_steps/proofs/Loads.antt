@@ -31,7 +31,7 @@ use Rattle.ir_laws.specs.Typed.{CellTyped, Fits}
 use Rattle.ir_laws.specs.States.{FrameFits, FramesFit, StateFits, global_shapes}
 use Rattle.plan_model.specs.Lending.{lend_number}
 use Rattle.plan_model.specs.Needs.{need_of}
-use Rattle.depend.specs.Reached.{IsListed, ListsPeriph}
+use Rattle.need_laws.specs.Reached.{IsListed, ListsPeriph}
 use Rattle.code_model.specs.Addresses.{load_at}
 use Rattle.code_model.specs.Sizes.{inst_size}
 use Rattle.code_model.specs.Templates.{inst_items}

@@ -10,7 +10,7 @@ use Rattle.ir_laws.specs.Sets.{ObjectSets}
 use Rattle.ir_laws.specs.Typed.{Typed}
 use Rattle.ir_laws.specs.Runs.{NumbersAreWords, PointersAreOfObjects, ElementsAreSmall, ContentsAreWhole, ReturnsAgreeWithCalls, AccessesAreInSets}
 use Rattle.plan_model.specs.Needs.{AreNeeds}
-use Rattle.depend.specs.Laws.{RunningFrameStaysInNeeds, OtherLocalsAreLendable, LendableLocalsHaveNumbers, CallsStayInside}
+use Rattle.need_laws.specs.Laws.{RunningFrameStaysInNeeds, OtherLocalsAreLendable, LendableLocalsHaveNumbers, CallsStayInside}
 use Rattle.monitor.specs.Block.{Block}
 use Rattle.monitor.specs.Law.{Law}
 use Rattle.thread_runs.specs.CodeLaws.{CodeLaws}

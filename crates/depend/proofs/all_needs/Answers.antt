@@ -7,8 +7,8 @@ use Rattle.plan_model.specs.Lists.{numbers_below}
 use Rattle.plan_model.specs.Calls.{calls_of, IsSiteOf}
 use Rattle.plan_model.specs.Needs.{no_need, IsNeedOf}
 use Rattle.std.proofs.lemmas.List.{length-map}
-use Rattle.depend.specs.Accesses.{HasTargets}
-use Rattle.depend.proofs.Exact.{each_pushed}
+use Rattle.code_uses.specs.Accesses.{HasTargets}
+use Rattle.exact_lists.proofs.Exact.{each_pushed}
 use Rattle.depend.proofs.Gathered.{gathered}
 use Rattle.depend.proofs.all_needs.Goals as goal
 use Rattle.plan_model.proofs.Numbers.{flat_numbers}

@@ -7,8 +7,8 @@ use Rattle.ir_laws.specs.Sets.{Closed}
 use Rattle.ir_laws.specs.Typed.{sizes_of, Typed}
 use Rattle.object_sets.specs.Sets.{sets_of}
 use Rattle.plan_model.specs.Needs.{AreNeeds}
-use Rattle.depend.specs.Reached.{RunsStayInNeeds}
-use Rattle.depend.proofs.Bounded.{small_numbers, registers_there}
+use Rattle.need_laws.specs.Reached.{RunsStayInNeeds}
+use Rattle.code_uses.proofs.Bounded.{small_numbers, registers_there}
 use Rattle.depend.proofs.needs.Goals as goal
 
 pub all_needs-requires-clause-numbers : goal.all_needs-requires-clause-numbers

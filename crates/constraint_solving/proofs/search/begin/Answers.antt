@@ -1,6 +1,6 @@
 use Rattle.std.proofs.Common.{ap, ◌∙◌, length, []}
 use Rattle.std.proofs.lemmas.List.{length-replicate}
-use Rattle.object_sets.specs.Tables.{Table}
+use Rattle.object_pairs.specs.Tables.{Table}
 use Rattle.constraint_solving.proofs.Running.{sound_begin}
 use Rattle.constraint_solving.proofs.search.begin.Goals as goal
 

@@ -1,5 +1,5 @@
 use Rattle.std.proofs.Common.{◌≡◌, ◌≢◌, false, refl, ap, ◌∙◌, arith, rules}
-use Rattle.object_sets.specs.Rows.{Lists}
+use Rattle.numbered_lists.specs.Rows.{Lists}
 use Rattle.inclusion_constraints.specs.Solutions.{is_in}
 use Rattle.constraint_solving.proofs.Putting.{still_asked}
 use Rattle.constraint_solving.proofs.Copying.{holds_edge}

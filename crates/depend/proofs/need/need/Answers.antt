@@ -11,10 +11,10 @@ use Rattle.object_sets.specs.Sets.{sets_of}
 use Rattle.plan_model.specs.Lists.{ListsExactly}
 use Rattle.plan_model.specs.Calls.{IsCallee}
 use Rattle.plan_model.specs.Needs.{IsData, IsWritable}
-use Rattle.depend.specs.Uses.{uses_in}
-use Rattle.depend.specs.Bounds.{IsBelow, HasSmallRegister}
-use Rattle.depend.proofs.Funcs.{func_read}
-use Rattle.depend.proofs.Matched.{same_uses, all_below, written_exactly, read_exactly, callees_exactly, periphs_exactly}
+use Rattle.code_uses.specs.Uses.{uses_in}
+use Rattle.code_uses.specs.Bounds.{IsBelow, HasSmallRegister}
+use Rattle.code_uses.proofs.Funcs.{func_read}
+use Rattle.code_uses.proofs.Matched.{same_uses, all_below, written_exactly, read_exactly, callees_exactly, periphs_exactly}
 use Rattle.depend.proofs.need.need.Goals as goal
 
 pub objects-requires : goal.objects-requires

@@ -3,8 +3,8 @@ use Rattle.std.specs.Prelude.{◌⊎◌, Contains}
 use Rattle.std.specs.Ordering.{nat_cmp}
 use Rattle.std.proofs.lemmas.Result.{IfOk-weaker}
 use Rattle.ir_model.specs.declared.object.ObjId.TheVariants as id
-use Rattle.depend.proofs.Exact.{exactly_by, appended}
-use Rattle.depend.proofs.Matched.{either}
+use Rattle.exact_lists.proofs.Exact.{exactly_by, appended}
+use Rattle.code_uses.proofs.Matched.{either}
 use Rattle.depend.proofs.need.periphs.Goals as goal
 
 pub returns : goal.returns

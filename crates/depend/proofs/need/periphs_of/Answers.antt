@@ -2,7 +2,7 @@ use Rattle.std.proofs.Common.{◌≡◌, ◌<◌, length, get_or, subst, refl, a
 use Rattle.std.specs.Prelude.{Contains}
 use Rattle.std.proofs.lemmas.List.{get_or_default}
 use Rattle.ir_model.specs.declared.object.ObjId.TheVariants as id
-use Rattle.depend.proofs.Any.{any_step, any_whole}
+use Rattle.exact_lists.proofs.Any.{any_step, any_whole}
 use Rattle.depend.proofs.need.periphs_of.Goals as goal
 
 pub loop-i-preserved : goal.loop-i-preserved

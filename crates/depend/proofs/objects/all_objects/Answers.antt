@@ -4,10 +4,11 @@ use Rattle.std.proofs.lemmas.List.{get_or_default}
 use Rattle.std.proofs.lemmas.Result.{IfOk-weaker}
 use Rattle.ir_model.specs.Objects.{object_by, compare_objects}
 use Rattle.object_sets.specs.Sets.{sets_of}
-use Rattle.depend.specs.declared.uses.Use.TheVariants as uses
-use Rattle.depend.specs.Accesses.{AnyOf, Reaches}
-use Rattle.depend.proofs.Any.{any_step, any_whole}
-use Rattle.depend.proofs.Exact.{exactly_by}
+use Rattle.code_uses.specs.declared.instructions.Use.TheVariants as uses
+use Rattle.exact_lists.specs.AnyOf.{AnyOf}
+use Rattle.code_uses.specs.Accesses.{Reaches}
+use Rattle.exact_lists.proofs.Any.{any_step, any_whole}
+use Rattle.exact_lists.proofs.Exact.{exactly_by}
 use Rattle.object_sets.proofs.Orders.{in_order}
 use Rattle.depend.proofs.objects.all_objects.Goals as goal
 

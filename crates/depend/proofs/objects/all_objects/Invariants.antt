@@ -3,7 +3,8 @@ use Rattle.std.specs.Prelude.{Contains}
 use Rattle.ir_model.specs.declared.object.ObjId.{ObjId}
 use Rattle.ir_model.specs.Objects.{object_by}
 use Rattle.object_sets.specs.Sets.{sets_of}
-use Rattle.depend.specs.Accesses.{AnyOf, Reaches}
+use Rattle.exact_lists.specs.AnyOf.{AnyOf}
+use Rattle.code_uses.specs.Accesses.{Reaches}
 use Rattle.depend.proofs.objects.all_objects.Given as goal
 
 abbrev pub invariant-loop-i : goal.invariant-loop-i

@@ -5,8 +5,9 @@ use Rattle.ir_model.specs.Objects.{object_by, compare_objects}
 use Rattle.ir_program.specs.Seen.{program_of}
 use Rattle.object_sets.specs.Sets.{sets_of}
 use Rattle.plan_model.specs.Lists.{ListsExactly}
-use Rattle.depend.specs.Accesses.{AnyOf, Reaches, is_open}
-use Rattle.depend.proofs.Exact.{kept_exactly}
+use Rattle.exact_lists.specs.AnyOf.{AnyOf}
+use Rattle.code_uses.specs.Accesses.{Reaches, is_open}
+use Rattle.exact_lists.proofs.Exact.{kept_exactly}
 use Rattle.depend.proofs.objects.objects.Goals as goal
 
 pub returns : goal.returns

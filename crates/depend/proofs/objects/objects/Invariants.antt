@@ -1,7 +1,7 @@
 use Rattle.std.proofs.Common.{◌≡◌, take}
 use Rattle.std.specs.Prelude.{filter}
 use Rattle.ir_program.specs.Seen.{program_of}
-use Rattle.depend.specs.Accesses.{is_open}
+use Rattle.code_uses.specs.Accesses.{is_open}
 use Rattle.depend.proofs.objects.objects.Given as goal
 
 abbrev pub invariant-loop-i : goal.invariant-loop-i

@@ -3,8 +3,8 @@ use Rattle.std.specs.Prelude.{◌⊎◌, Contains}
 use Rattle.std.proofs.lemmas.Result.{on_ok_weaker}
 use Rattle.ir_model.specs.Objects.{object_by}
 use Rattle.object_sets.specs.Sets.{sets_of}
-use Rattle.depend.specs.declared.objects.Access.TheVariants.{Read, Write}
-use Rattle.depend.specs.Accesses.{Reaches}
+use Rattle.code_uses.specs.declared.instructions.Access.TheVariants.{Read, Write}
+use Rattle.code_uses.specs.Accesses.{Reaches}
 use Rattle.depend.proofs.objects.push_objects.Goals as goal
 
 pub returns-in-Load : goal.returns-in-Load

@@ -2,7 +2,7 @@ use Rattle.std.proofs.Common.{◌≡◌, true}
 use Rattle.ir_model.specs.Objects.{object_by}
 use Rattle.ir_laws.specs.Sets.{Register}
 use Rattle.object_sets.specs.Sets.{sets_of}
-use Rattle.depend.proofs.Exact.{appended}
+use Rattle.exact_lists.proofs.Exact.{appended}
 use Rattle.depend.proofs.objects.push_pointed.Goals as goal
 
 pub returns : goal.returns

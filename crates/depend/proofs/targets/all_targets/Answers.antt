@@ -4,8 +4,8 @@ use Rattle.std.proofs.lemmas.List.{length_push}
 use Rattle.ir_program.specs.Seen.{program_of}
 use Rattle.object_sets.specs.Sets.{sets_of}
 use Rattle.plan_model.specs.Lists.{ListsExactly}
-use Rattle.depend.specs.Accesses.{IsTarget}
-use Rattle.depend.proofs.Funcs.{targets_pushed}
+use Rattle.code_uses.specs.Accesses.{IsTarget}
+use Rattle.depend.proofs.FunctionTargets.{targets_pushed}
 use Rattle.depend.proofs.targets.all_targets.Goals as goal
 
 pub loop-register-preserved : goal.loop-register-preserved

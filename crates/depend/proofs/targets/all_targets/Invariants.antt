@@ -1,7 +1,7 @@
 use Rattle.std.proofs.Common.{◌≡◌, length}
 use Rattle.ir_program.specs.Seen.{program_of}
 use Rattle.object_sets.specs.Sets.{sets_of}
-use Rattle.depend.specs.Accesses.{HasTargets}
+use Rattle.code_uses.specs.Accesses.{HasTargets}
 use Rattle.depend.proofs.targets.all_targets.Given as goal
 
 abbrev pub invariant-loop-register : goal.invariant-loop-register

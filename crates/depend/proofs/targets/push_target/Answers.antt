@@ -3,7 +3,8 @@ use Rattle.std.proofs.lemmas.Bool.{false≢true}
 use Rattle.ir_model.specs.Types.{Callee, type_of}
 use Rattle.ir_model.specs.Objects.{object_by}
 use Rattle.ir_program.specs.Seen.{program_of, known_of, routine_of}
-use Rattle.depend.proofs.Funcs.{func_read, target_pushed, target_left}
+use Rattle.code_uses.proofs.Funcs.{func_read}
+use Rattle.depend.proofs.FunctionTargets.{target_pushed, target_left}
 use Rattle.depend.proofs.targets.push_target.Goals as goal
 
 pub bounds-as_slice-func : goal.bounds-as_slice-func

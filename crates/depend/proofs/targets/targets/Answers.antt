@@ -9,10 +9,12 @@ use Rattle.ir_model.specs.Types.{type_of}
 use Rattle.ir_program.specs.Seen.{program_of, known_of, routine_of}
 use Rattle.ir_laws.specs.Sets.{Register}
 use Rattle.object_sets.specs.Sets.{sets_of}
-use Rattle.depend.specs.Accesses.{IsFunctionOf, IsTarget}
-use Rattle.depend.proofs.Any.{any_step, any_whole}
-use Rattle.depend.proofs.Exact.{exactly_by}
-use Rattle.depend.proofs.Funcs.{func_read, type_read, target_is}
+use Rattle.code_uses.specs.Accesses.{IsTarget}
+use Rattle.depend.specs.Targets.{IsFunctionOf}
+use Rattle.exact_lists.proofs.Any.{any_step, any_whole}
+use Rattle.exact_lists.proofs.Exact.{exactly_by}
+use Rattle.code_uses.proofs.Funcs.{func_read}
+use Rattle.depend.proofs.FunctionTargets.{type_read, target_is}
 use Rattle.depend.proofs.targets.targets.Goals as goal
 
 pub push_target-requires : goal.push_target-requires

@@ -2,7 +2,8 @@ use Rattle.std.proofs.Common.{◌↔◌, ℕ, take}
 use Rattle.std.specs.Prelude.{Contains}
 use Rattle.ir_model.specs.Types.{type_of}
 use Rattle.ir_program.specs.Seen.{program_of}
-use Rattle.depend.specs.Accesses.{AnyOf, IsFunctionOf}
+use Rattle.exact_lists.specs.AnyOf.{AnyOf}
+use Rattle.depend.specs.Targets.{IsFunctionOf}
 use Rattle.depend.proofs.targets.targets.Given as goal
 
 abbrev pub invariant-loop-i : goal.invariant-loop-i

@@ -1,5 +1,5 @@
 use Rattle.std.proofs.Common.{◌≡◌, length}
-use Rattle.object_sets.specs.Groups.{start_of}
+use Rattle.numbered_lists.specs.Groups.{start_of}
 use Rattle.object_sets.specs.Numbers.{IsTable}
 use Rattle.object_sets.proofs.numbering.Numbering.all_objects.Given as goal
 

@@ -1,0 +1,4 @@
+pub mod Uses
+pub mod Accesses
+pub mod Bounds
+pub mod Sites

@@ -1,8 +1,0 @@
-use Rattle.depend.proofs.Owned.{waiting_frames_reach, frames_are_own}
-use Rattle.depend.proofs.laws.frames.Goals as goal
-
-pub returns-clause-waiting : goal.returns-clause-waiting
-returns-clause-waiting c = waiting_frames_reach
-
-pub returns-clause-own : goal.returns-clause-own
-returns-clause-own c = frames_are_own

@@ -1,0 +1,4 @@
+pub mod Parts
+pub mod Members
+pub mod Any
+pub mod Exact

@@ -1,0 +1,5 @@
+pub mod Listed
+mod StepsStay
+mod Inside
+mod Owned
+mod Least

@@ -1,0 +1,2 @@
+pub mod GroupPlaces
+mod RowSteps
