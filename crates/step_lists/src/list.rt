@@ -210,13 +210,7 @@ impl StepList {
     }
 
     /// A comparison that must not hold; else the machine halts with a number.
-    pub fn must_not(
-        &mut self,
-        cond: GateCond,
-        a: u8,
-        b: u8,
-        code: u8,
-    ) -> Result<(), AllocError>
+    pub fn must_not(&mut self, cond: GateCond, a: u8, b: u8, code: u8) -> Result<(), AllocError>
         ensures { OnOk result (Appends self.old self.new (opening.must_not cond a b code)) }
     {
         let mut halt = self.other();
