@@ -12,7 +12,7 @@ ghost use Rattle.inclusion_constraints.specs.Gathered.{Gathers, Represents};
 
 use crate::generator::Generator;
 use crate::instructions::count_of;
-use inclusion_constraints::{Callees, Rules, System};
+use inclusion_constraints::{Rules, System};
 use ir_model::object::ObjId;
 use ir_program::program::{Operation, Program, Sequence};
 use ir_program::value::Value;
@@ -178,14 +178,17 @@ impl<'a> Generator<'a> {
 /// There is no memory for it, or the program names what it does not have.
 pub fn generate<'a>(alloc: Global, program: &'a Program<'a>) -> Result<System<'a>, AllocError>
     requires { HasCounts program.now }
-    ensures program { IfOk result (λ w. program_of w.callees.program.now ≡ program_of program.now) }
-    ensures numbering { IfOk result (λ w. w.callees.numbering ≡ numbering_of (program_of program.now)) }
+    ensures program { IfOk result (λ w. program_of w.program.now ≡ program_of program.now) }
+    ensures numbering { IfOk result (λ w. w.numbering ≡ numbering_of (program_of program.now)) }
     ensures rules { IfOk result (λ w. Represents (numbering_of (program_of program.now)) w.rules (demands_of (program_of program.now))) }
 {
     let numbering = number_program(alloc, program)?;
     let generator = Generator { program, numbering };
     let rules = generator.rules(alloc)?;
     let Generator { program, numbering } = generator;
-    let callees = Callees { program, numbering };
-    Ok(System { callees, rules })
+    Ok(System {
+        program,
+        numbering,
+        rules,
+    })
 }

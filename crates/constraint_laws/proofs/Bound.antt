@@ -22,7 +22,7 @@ use Rattle.constraint_laws.proofs.Edges.{is_number, AreReal, real_rules, real_fr
 use Rattle.constraint_laws.proofs.Least.{by_obeys}
 use Rattle.constraint_laws.proofs.Summing.{edges_bound}
 
-pub within_bound : (w : System) (p : Program) (rows : Lists) (count : ℕ) → program_of w.callees.program.now ≡ p → w.callees.numbering ≡ numbering_of p → Represents (numbering_of p) w.rules (demands_of p)
+pub within_bound : (w : System) (p : Program) (rows : Lists) (count : ℕ) → program_of w.program.now ≡ p → w.numbering ≡ numbering_of p → Represents (numbering_of p) w.rules (demands_of p)
     → ((Q : Says) → ObeysAll w Q → (n o : ℕ) → is_in rows n o ≡ true → Q n o ≡ true) → IsBounded w rows count
     → (s : Sets) → ((n : Node) (o : Object) → sets_of s n o ≡ sets_by (numbering_of p) rows n o) → IsWithinBound p s count
 within_bound w p rows count e f r least b s same = record { bound = at }

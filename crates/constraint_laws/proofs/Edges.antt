@@ -180,7 +180,7 @@ module _ (p : Program) where
       take_edge rows e n to t i j o real s l x.0 x.1 h (subst (λ z. edge_from (of_callee (callee_of c o) (outcome_of p c z)) j ≡ Some e) x.2 q)
   trigger_edge rows e _ i o _ real s l x h q = absurd x
 
-  pub needed_edge : (w : System) (rows : Lists) (a b : ℕ) → program_of w.callees.program.now ≡ p → w.callees.numbering ≡ numbering_of p → Represents c w.rules (demands_of p) → AreReal rows → IsNeeded w rows a b → IsEdgeOf (S_of rows) a b
+  pub needed_edge : (w : System) (rows : Lists) (a b : ℕ) → program_of w.program.now ≡ p → w.numbering ≡ numbering_of p → Represents c w.rules (demands_of p) → AreReal rows → IsNeeded w rows a b → IsEdgeOf (S_of rows) a b
   needed_edge w rows a b e f r real n = by n.asked
     where
       by : IsAsked w rows (record { from = a; to = b }) → IsEdgeOf (S_of rows) a b
@@ -189,4 +189,4 @@ module _ (p : Program) where
           let m = r.each (Asks t.node t.by) t.listed in
           trigger_edge rows (record { from = a; to = b }) m.demand t.node t.object t.by real n.apart m.listed m.is t.has
           (subst (λ (x : Program). edge_of x c t.by t.object ≡ Some (record { from = a; to = b })) e
-          (subst (λ (y : Numbering). edge_of (program_of w.callees.program.now) y t.by t.object ≡ Some (record { from = a; to = b })) f t.asks))
+          (subst (λ (y : Numbering). edge_of (program_of w.program.now) y t.by t.object ≡ Some (record { from = a; to = b })) f t.asks))

@@ -82,7 +82,7 @@ pub record IsCopied (old new : State) (e : Edge) : Type 0 where
   pub same : row new.pairs.rows e.from ≡ row old.pairs.rows e.from
 
 abbrev pub asked : System → Trigger → (object : ℕ) → Option Edge
-asked w t o = edge_of (program_of w.callees.program.now) w.callees.numbering t o
+asked w t o = edge_of (program_of w.program.now) w.numbering t o
 
 -- what the triggers of a pair's node ask was found
 abbrev pub IsFired : System → (edges : Lists) → Pair → Type 0

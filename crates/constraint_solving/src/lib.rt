@@ -1,6 +1,7 @@
 //! The search for the least pairs that obey a system of inclusion constraints.
 #![tactic(auto)]
 
+mod callees;
 mod search;
 mod state;
 

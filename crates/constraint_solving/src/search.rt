@@ -7,6 +7,7 @@ ghost use Rattle.numbered_lists.specs.Rows.{row};
 ghost use Rattle.inclusion_constraints.specs.Solutions.{ObeysAll, is_in, IsAsked, IsBounded};
 ghost use Rattle.constraint_solving.specs.Searching.{asked, pair_at, IsFound, Holds, Grown, IsPut, IsCopied, IsFired, cost, IsPaid};
 
+use crate::callees::asked_edge;
 use crate::state::State;
 use inclusion_constraints::{Edge, Pair, System, Trigger};
 use numbered_lists::{Rows, Steps};
@@ -162,7 +163,7 @@ fn pull<L: Ledger>(
     ensures found { OnOk result (OnEdge (asked system.now trigger.now object) (IsFound state.new.edges)) }
     ensures paid { OnOk result (IsPaid state.old state.new steps.old steps.new) }
 {
-    let Some(edge) = system.callees.edge(trigger, object) else {
+    let Some(edge) = asked_edge(system, trigger, object) else {
         return Ok(());
     };
     link(system, state, edge, steps)

@@ -10,7 +10,7 @@ use Rattle.inclusion_constraints.specs.declared.system.System.{System}
 use Rattle.inclusion_constraints.specs.Rules.{Says, edge_of, lists_in, Obeys}
 
 abbrev pub ObeysAll : System → Says → Type 0
-ObeysAll w S = Obeys (program_of w.callees.program.now) w.callees.numbering w.rules.facts.items w.rules.copies.items (lists_in w.rules.triggers) S
+ObeysAll w S = Obeys (program_of w.program.now) w.numbering w.rules.facts.items w.rules.copies.items (lists_in w.rules.triggers) S
 
 -- the object is in the list of the node
 abbrev pub is_in : Lists → (n o : ℕ) → Bool
@@ -23,7 +23,7 @@ pub record IsTriggered (w : System) (rows : Lists) (e : Edge) : Type 0 where
   pub by : Trigger
   pub listed : Contains (get_or (lists_in w.rules.triggers) node []) by
   pub has : is_in rows node object ≡ true
-  pub asks : edge_of (program_of w.callees.program.now) w.callees.numbering by object ≡ Some e
+  pub asks : edge_of (program_of w.program.now) w.numbering by object ≡ Some e
 
 abbrev pub IsAsked : System → Lists → Edge → Type 0
 IsAsked w rows e = Contains w.rules.copies.items e ⊎ IsTriggered w rows e

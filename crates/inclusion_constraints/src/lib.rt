@@ -1,10 +1,10 @@
 //! Inclusion constraints in Andersen's form: what sets of objects have to obey, over the numbers of nodes and objects.
 #![tactic(auto)]
 
-mod callees;
+mod carrying;
 mod rules;
 mod system;
 
-pub use callees::{Callees, carries};
+pub use carrying::carries;
 pub use rules::{Edge, Pair, Rules, Trigger};
 pub use system::System;

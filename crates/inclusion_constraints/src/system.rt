@@ -1,13 +1,16 @@
 //! A system of constraints.
 
-use crate::callees::Callees;
 use crate::rules::Rules;
+use ir_program::program::Program;
+use object_sets::Numbering;
 
 /// A system of constraints: what a search goes by.
 #[derive(Drop)]
 pub struct System<'a> {
-    /// The program's functions, by which calls are followed.
-    pub callees: Callees<'a>,
+    /// The program, by whose functions calls are followed.
+    pub program: &'a Program<'a>,
+    /// How its nodes and objects are numbered.
+    pub numbering: Numbering,
     /// What the pairs have to obey.
     pub rules: Rules<'a>,
 }

@@ -33,8 +33,8 @@ fn search<L: Ledger>(
     ensures steps { IfOk result (λ pairs. (s : Sets) → ((n : Node) (o : Object) → sets_of s n o ≡ sets_by (numbering_of (program_of program.now)) pairs.rows n o) → IsWithinBound (program_of program.now) s (steps.new - steps.old)) }
 {
     let system = generate(alloc, program)?;
-    let nodes = system.callees.numbering.nodes.total();
-    let objects = system.callees.numbering.objects.total();
+    let nodes = system.numbering.nodes.total();
+    let objects = system.numbering.objects.total();
     least_pairs(&system, alloc, nodes, objects, steps)
 }
 
