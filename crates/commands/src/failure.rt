@@ -1,7 +1,7 @@
 //! The failures that faults of files are.
 
 ghost use Rattle.std.specs.Prelude.{◌≡◌, Some};
-ghost use Rattle.aces_reports.specs.declared.failure.Failure.TheVariants.{NoRoom};
+ghost use Rattle.aces_reports.specs.declared.failure.Failure.TheVariants.{NoRoom, Refused};
 ghost use Rattle.commands.specs.Contents.{of_board, of_image, of_tape};
 ghost use Rattle.commands.specs.Loads.{IsContentFailure, of_planning};
 
@@ -83,7 +83,7 @@ fn no_room<'a>(memory: Memory, compartment: Option<u32>, needed: u64, available:
 
 /// The refusal of a file by a fault of its content.
 pub fn refused(name: &str, fault: Fault) -> Failure<'_>
-    ensures { IsContentFailure (λ f. fault ≡ f) name.now result }
+    ensures { result ≡ Refused name.entry fault }
 {
     Failure::Refused { name, fault }
 }

@@ -10,10 +10,10 @@ ghost use Rattle.compartments.specs.Analyses.{AreNeedsOf, AreCompartmentsBy};
 
 use crate::division::division;
 use aces_words::Policy;
-use need_laws::least_sets;
 use depend::needs;
 use ir_model::checked::Checked;
 use ir_program::program::Program;
+use need_laws::least_sets;
 use object_sets::PointsTo;
 use plan_model::needs::Needs;
 use std::alloc::{AllocError, Global};

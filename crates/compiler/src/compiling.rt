@@ -14,7 +14,6 @@ ghost use Rattle.planning.specs.Refusals.{IsPlanningRefusal};
 ghost use Rattle.compiler.specs.Compiled.{AreGroupsBy, IsCompiled, IsImageFor};
 ghost use Rattle.compiler.specs.Refusals.{IsCompileRefusal};
 
-use need_laws::least_sets;
 use device_model::image::Image;
 use grouping::facts::facts;
 use grouping::grouping::{Grouping, groups};
@@ -23,6 +22,7 @@ use ir_program::program::Program;
 use linked_promises::permissions::permissions;
 use linked_promises::regions::images;
 use linker::link;
+use need_laws::least_sets;
 use plan_model::groups::{FuncFacts, Groups};
 use plan_model::needs::Needs;
 use plan_model::plan::Board;

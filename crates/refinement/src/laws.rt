@@ -9,7 +9,6 @@ use code_effects::laws::{
     sources as set_registers,
 };
 use code_model::laws::{compartments as placed, sites, sizes};
-use need_laws::{accesses as needed, compartments as grouped, locals};
 use ir_laws::limits::windows;
 use ir_laws::runs::{
     accesses as expected, contents, moves, registers, returns as agreeing, values,
@@ -17,6 +16,7 @@ use ir_laws::runs::{
 use ir_laws::typing::places;
 use ir_laws::{alignment, cells};
 use lower_laws::laws::typed;
+use need_laws::{accesses as needed, compartments as grouped, locals};
 
 /// What generated code does, and where it stands.
 pub fn code()
