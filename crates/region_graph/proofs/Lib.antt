@@ -11,7 +11,6 @@ mod Learned
 mod LeastPower
 mod MaskBits
 mod Pairs
-mod Reached
 mod Steps
 pub mod UsersHave
 mod WholeGraph

@@ -11,6 +11,5 @@ pub mod laws;
 mod masks;
 pub mod merge;
 mod merging;
-pub mod reach;
 mod regions;
 mod users;

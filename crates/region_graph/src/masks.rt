@@ -5,8 +5,8 @@ ghost use Rattle.plan_model.specs.InitialGraph as initial;
 ghost use Rattle.plan_model.specs.Lists.{numbers_below};
 ghost use Rattle.region_graph.specs.ReachMasks.{reach_mask_of};
 
-use crate::reach::{reaches, writes};
 use ir_model::object::ObjId;
+use object_reach::{reaches, writes};
 use plan_model::groups::Groups;
 use plan_model::needs::Needs;
 use std::alloc::{AllocError, Global};

@@ -7,8 +7,8 @@ ghost use Rattle.plan_model.specs.InitialGraph.{compartments_that, users_of};
 ghost use Rattle.plan_model.specs.Lists.{numbers_below};
 ghost use Rattle.region_graph.specs.UserLists.{users_seen};
 
-use crate::reach::{reads, writes};
 use ir_model::object::ObjId;
+use object_reach::{reads, writes};
 use plan_model::groups::Groups;
 use plan_model::needs::Needs;
 use std::alloc::{AllocError, Global};

@@ -12,8 +12,8 @@ use crate::subject::Subject;
 use crate::text::Text;
 use ir_model::object::ObjId;
 use ir_program::program::Program;
+use object_reach::{reaches, writes};
 use plan_model::graph::Region;
-use region_graph::reach::{reaches, writes};
 use std::alloc::AllocError;
 
 /// The bytes of a global.

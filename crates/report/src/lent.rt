@@ -11,7 +11,7 @@ use crate::naming::{put_func, put_local};
 use crate::subject::Subject;
 use crate::text::Text;
 use ir_model::object::ObjId;
-use region_graph::reach::writes;
+use object_reach::writes;
 use std::alloc::AllocError;
 
 /// Puts the line of a lent local.
