@@ -1,6 +1,6 @@
-//! The checks of structs, peripherals and files.
+//! The checks of a firmware's declarations but globals, and its tables.
 #![tactic(auto)]
 
+pub mod declared;
 pub mod files;
-pub mod periphs;
-pub mod structs;
+mod tables;

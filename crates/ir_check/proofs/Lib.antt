@@ -1,3 +1,2 @@
-mod FuncParts
 mod Whole
 mod Small

@@ -7,7 +7,8 @@ use Rattle.ir_model.specs.Plain.{PlainGlobal, PlainFirmware, funcs_of}
 use Rattle.ir_model.specs.Typing.{Checks, check, checks, first_failing, globals_checks, file_checks, funcs_checks, has_main}
 use Rattle.check_faults.specs.declared.fault.CheckFault.{CheckFault}
 use Rattle.check_faults.specs.Found.{Refused, Finds}
-use Rattle.ir_check.specs.Parts.{declared_part, code_part}
+use Rattle.declaration_checks.specs.Parts.{declared_part}
+use Rattle.ir_check.specs.Parts.{code_part}
 use Rattle.check_faults.proofs.Order.{refused_left, refused_right, first_append}
 
 regroup : (a g f u m : Checks) → (((a ++ g) ++ f) ++ u) ++ m ≡ a ++ (((g ++ f) ++ u) ++ m)

@@ -1,35 +1,13 @@
 -- Beyond the program's claim: only laws, proofs and functions inside the tool cite this file.
--- The checks of a function's code, of a function, and of a firmware in two parts.
-use Rattle.std.specs.Prelude.{ℕ, List, [], ◌∷◌, ◌++◌, map}
-use Rattle.ir_model.specs.declared.check.CheckKind.TheVariants.{IllTyped, NoMain}
-use Rattle.ir_model.specs.declared.check.Place.{Place}
+-- The checks of a firmware behind those of its structs and peripherals.
+use Rattle.std.specs.Prelude.{[], ◌∷◌, ◌++◌, map}
+use Rattle.ir_model.specs.declared.check.CheckKind.TheVariants.{NoMain}
 use Rattle.ir_model.specs.declared.check.Place.TheVariants as place
 use Rattle.ir_model.specs.declared.firmware.Peripheral.{Peripheral}
-use Rattle.ir_model.specs.declared.firmware.Inst.{Inst}
-use Rattle.ir_model.specs.declared.firmware.Term.{Term}
-use Rattle.ir_model.specs.Plain.{PlainStruct, PlainGlobal, PlainFunc, PlainFirmware, funcs_of}
-use Rattle.ir_model.specs.Rules.{inst_fits, term_fits}
-use Rattle.ir_model.specs.Typing.{structs_checks, periph_checks, globals_checks, file_checks, funcs_checks, has_main, inst_names, term_names, label_checks, blocks_checks, Checks, check}
-use Rattle.slot_checks.specs.Parts.{slots_part, frame_part}
+use Rattle.ir_model.specs.Plain.{PlainGlobal, PlainFirmware, funcs_of}
+use Rattle.ir_model.specs.Typing.{globals_checks, file_checks, funcs_checks, has_main, Checks, check}
 
--- an instruction or a block's end: its names, and then its types
-abbrev pub inst_check : PlainFirmware → PlainFunc → Place → Inst → Checks
-inst_check w f p i = inst_names w f p i ++ check (inst_fits w f i) IllTyped p ∷ []
-
-abbrev pub term_check : PlainFunc → Place → Term → Checks
-term_check f p t = term_names f p t ++ check (term_fits f t) IllTyped p ∷ []
-
--- a function's labels and code; its slots, its frame, and its code
-abbrev pub body_part : PlainFirmware → PlainFunc → Checks
-body_part w f = label_checks (place.Func f.name) [] f.blocks ++ blocks_checks w f f.blocks
-
-abbrev pub func_part : (declared : List (List ℕ)) → PlainFirmware → PlainFunc → Checks
-func_part ds w f = slots_part ds w f ++ frame_part w f ++ body_part w f
-
--- all structs and peripherals; all behind them
-abbrev pub declared_part : PlainFirmware → Checks
-declared_part w = structs_checks (map (λ (s : PlainStruct). s.name) w.structs) [] w.structs ++ periph_checks [] w.periphs
-
+-- globals, files, functions, and that there is a main
 abbrev pub code_part : PlainFirmware → Checks
 code_part w =
     globals_checks w (map (λ (q : Peripheral). q.name) w.periphs) w.globals

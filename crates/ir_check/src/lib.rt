@@ -1,8 +1,6 @@
 //! The checks of a firmware: its names, types and sizes, in order.
 #![tactic(auto)]
 
-mod code;
-mod funcs;
 mod whole_check;
 
 pub use check_faults::CheckFault;

@@ -5,22 +5,19 @@ ghost use Rattle.ir_model.specs.Plain.{firmware_of};
 ghost use Rattle.ir_model.specs.Canonical.{IsWithinLimits};
 ghost use Rattle.ir_model.specs.Typing.{checks, IsTyped};
 ghost use Rattle.check_faults.specs.Found.{Finds, IsFaultOf};
-ghost use Rattle.ir_check.specs.Parts.{declared_part, code_part};
+ghost use Rattle.ir_check.specs.Parts.{code_part};
 ghost use Rattle.check_scopes.specs.Scopes.{IsScope, AreSmall};
 
-use crate::funcs::funcs;
 use check_faults::found::require;
 use check_faults::{CheckFault, Spot};
 use check_scopes::Scope;
+use declaration_checks::declared::declared;
 use declaration_checks::files::files;
-use declaration_checks::periphs::periphs;
-use declaration_checks::structs::structs;
-use firmware_names::struct_names;
+use function_checks::funcs::funcs;
 use global_checks::globals::globals;
 use ir_model::check::CheckKind;
 use ir_model::checked::Checked;
 use ir_model::firmware::Firmware;
-use scope_tables::scope;
 use slot_checks::main_function::main_there;
 use std::alloc::Global;
 
@@ -35,19 +32,6 @@ fn code(alloc: Global, scope: &Scope) -> Result<(), CheckFault>
     funcs(alloc, scope)?;
     require(main_there(scope), CheckKind::NoMain, Spot::Whole)?;
     Ok(())
-}
-
-#[tactic(auto, using(check_faults::proofs::Order::refused_left, check_faults::proofs::Order::refused_right, check_faults::proofs::Order::first_stays, check_faults::proofs::Order::first_append))]
-fn declared<'a>(alloc: Global, firmware: &'a Firmware) -> Result<Scope<'a>, CheckFault>
-    ensures finds { Finds (declared_part (firmware_of firmware.now)) result }
-    ensures scope { IfOk result IsScope }
-    ensures firmware { IfOk result (λ s. s.firmware.now ≡ firmware.now) }
-{
-    let names = struct_names(alloc, firmware.structs.as_slice())?;
-    let layouts = structs(alloc, &names, firmware.structs.as_slice())?;
-    let windows = periphs(alloc, firmware.periphs.as_slice())?;
-    let tables = scope(alloc, firmware, names, layouts, windows)?;
-    Ok(tables)
 }
 
 fn all(alloc: Global, firmware: &Firmware) -> Result<(), CheckFault>

@@ -1,0 +1,5 @@
+//! The checks of structs and peripherals.
+#![tactic(auto)]
+
+pub mod periphs;
+pub mod structs;
