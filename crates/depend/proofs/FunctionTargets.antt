@@ -9,7 +9,7 @@ use Rattle.ir_model.specs.declared.object.ObjId.{ObjId}
 use Rattle.ir_model.specs.declared.object.ObjId.TheVariants.{Global, Periph, Local, Func}
 use Rattle.ir_model.specs.declared.types.Ty as types
 use Rattle.ir_model.specs.Types.{PlainType, U32, type_of}
-use Rattle.ir_model.specs.Resolved.{Program, no_func, func_at, register_type}
+use Rattle.ir_model.specs.Resolved.{Program, func_at, register_type}
 use Rattle.ir_model.specs.State.{FunctionObject}
 use Rattle.ir_model.specs.Objects.{object_by, compare_objects}
 use Rattle.ir_model.specs.Signatures.{signature}

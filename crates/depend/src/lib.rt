@@ -1,4 +1,4 @@
-//! What each function of a firmware may write, read and call, and the laws that no step of a run leaves it.
+//! What each function of a firmware may write, read and call; no step of a run leaves it.
 #![tactic(auto)]
 
 ghost use Rattle.std.specs.Prelude.{IfOk};

@@ -1,7 +1,6 @@
 //! The numbering of a program.
 
-ghost use Rattle.std.specs.Prelude.{◌≡◌, ◌++◌, ◌∷◌, [], length, map, IfOk, OnOk};
-ghost use Rattle.ir_model.specs.Resolved.{NumberedFunc};
+ghost use Rattle.std.specs.Prelude.{◌≡◌, IfOk};
 ghost use Rattle.ir_program.specs.Seen.{program_of};
 ghost use Rattle.object_sets.specs.Numbers.{numbering_of, object_groups, node_groups};
 
