@@ -1,9 +1,9 @@
 //! The rules that a program asks for.
 
-ghost use Rattle.std.specs.Prelude.{◌≡◌, ◌++◌, ◌∷◌, [], ◌<◌, ℕ, length, get_or, map, Some, IfOk, OnOk, MatchOption, flat_map};
+ghost use Rattle.std.specs.Prelude.{◌≡◌, ◌∷◌, [], Some, IfOk, OnOk, MatchOption};
 ghost use Rattle.ir_model.specs.Types.{type_of, U32};
 ghost use Rattle.ir_model.specs.Objects.{object_by};
-ghost use Rattle.ir_model.specs.Resolved.{register_type, func_at};
+ghost use Rattle.ir_model.specs.Resolved.{register_type};
 ghost use Rattle.ir_laws.specs.Sets as flows;
 ghost use Rattle.ir_laws.specs.Sets.{Register};
 ghost use Rattle.ir_program.specs.Seen.{program_of};

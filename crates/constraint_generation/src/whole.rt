@@ -5,7 +5,6 @@ ghost use Rattle.std.specs.List.{flat_map};
 ghost use Rattle.ir_program.specs.Seen.{program_of, known_of, sequence_of, operation_of, HasCounts};
 ghost use Rattle.ir_program.specs.Values.{value_of};
 ghost use Rattle.object_sets.specs.declared.numbering.Numbering as numberings;
-ghost use Rattle.object_sets.specs.Numbers.{numbering_of};
 ghost use Rattle.plan_model.specs.Lists.{numbers_below};
 ghost use Rattle.inclusion_constraints.specs.Demands.{inst_demands, block_demands, func_demands, global_demands, value_demands, demands_of};
 ghost use Rattle.inclusion_constraints.specs.Gathered.{Gathers, Represents};
@@ -16,8 +15,7 @@ use inclusion_constraints::{Rules, System};
 use ir_model::object::ObjId;
 use ir_program::program::{Operation, Program, Sequence};
 use ir_program::value::Value;
-use object_pairs::number_program;
-use object_sets::Node;
+use object_sets::{Node, Numbering};
 use std::alloc::{AllocError, Global};
 
 /// Rules that ask nothing, of so many nodes.
@@ -175,14 +173,17 @@ impl<'a> Generator<'a> {
 ///
 /// # Errors
 ///
-/// There is no memory for it, or the program names what it does not have.
-pub fn generate<'a>(alloc: Global, program: &'a Program<'a>) -> Result<System<'a>, AllocError>
+/// There is no memory for it, or the program names what has no number.
+pub fn generate<'a>(
+    alloc: Global,
+    program: &'a Program<'a>,
+    numbering: Numbering,
+) -> Result<System<'a>, AllocError>
     requires { HasCounts program.now }
     ensures program { IfOk result (λ w. program_of w.program.now ≡ program_of program.now) }
-    ensures numbering { IfOk result (λ w. w.numbering ≡ numbering_of (program_of program.now)) }
-    ensures rules { IfOk result (λ w. Represents (numbering_of (program_of program.now)) w.rules (demands_of (program_of program.now))) }
+    ensures numbering { IfOk result (λ w. w.numbering ≡ numbering) }
+    ensures rules { IfOk result (λ w. Represents numbering w.rules (demands_of (program_of program.now))) }
 {
-    let numbering = number_program(alloc, program)?;
     let generator = Generator { program, numbering };
     let rules = generator.rules(alloc)?;
     let Generator { program, numbering } = generator;

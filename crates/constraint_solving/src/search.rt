@@ -2,7 +2,7 @@
 
 ghost use Rattle.std.specs.Prelude.{◌≡◌, ◌≢◌, ◌+◌, ◌-◌, ◌*◌, ◌<◌, ◌≤◌, ℕ, true, [], length, get_or, slice_get, OnOk, IfOk};
 ghost use Rattle.inclusion_constraints.specs.declared.system.System as systems;
-ghost use Rattle.inclusion_constraints.specs.Rules.{Says, Passes, OnEdge, no_edge, lists_in};
+ghost use Rattle.inclusion_constraints.specs.Rules.{Says, OnEdge, no_edge, lists_in};
 ghost use Rattle.numbered_lists.specs.Rows.{row};
 ghost use Rattle.inclusion_constraints.specs.Solutions.{ObeysAll, is_in, IsAsked, IsBounded};
 ghost use Rattle.constraint_solving.specs.Searching.{asked, pair_at, IsFound, Holds, Grown, IsPut, IsCopied, IsFired, cost, IsPaid};

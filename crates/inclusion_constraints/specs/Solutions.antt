@@ -1,6 +1,6 @@
 -- Beyond the program's claim: only laws, proofs and functions inside the tool cite this file.
 -- When pairs are a solution of a system of constraints, and how many steps it may take to find it.
-use Rattle.std.specs.Prelude.{◌≡◌, ◌≢◌, ℕ, zero, suc, ◌+◌, ◌*◌, ◌≤◌, ◌⊎◌, Bool, true, List, [], length, get_or, Option, Some, nat_eq, Contains}
+use Rattle.std.specs.Prelude.{◌≡◌, ◌≢◌, ℕ, zero, suc, ◌+◌, ◌*◌, ◌≤◌, ◌⊎◌, Bool, true, [], length, get_or, Some, nat_eq, Contains}
 use Rattle.std.specs.List.{IsDistinct}
 use Rattle.ir_program.specs.Seen.{program_of}
 use Rattle.numbered_lists.specs.Rows.{Lists, has, row}

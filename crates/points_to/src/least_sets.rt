@@ -1,6 +1,6 @@
 //! The least sets of objects of a program.
 
-ghost use Rattle.std.specs.Prelude.{◌≡◌, ◌+◌, ◌-◌, ◌<◌, length, IfOk};
+ghost use Rattle.std.specs.Prelude.{◌≡◌, ◌-◌, ◌<◌, length, IfOk};
 ghost use Rattle.std.specs.List.{sum};
 ghost use Rattle.ir_laws.specs.Sets.{Node};
 ghost use Rattle.ir_model.specs.State.{Object};
@@ -15,7 +15,7 @@ use constraint_generation::generate;
 use constraint_solving::least_pairs;
 use ir_program::program::Program;
 use numbered_lists::Steps;
-use object_pairs::Pairs;
+use object_pairs::{Pairs, number_program};
 use object_sets::PointsTo;
 use std::alloc::{AllocError, Global};
 use std::marker::Brand;
@@ -32,7 +32,8 @@ fn search<L: Ledger>(
     ensures least { IfOk result (λ pairs. IsLeast (program_of program.now) (sets_by (numbering_of (program_of program.now)) pairs.rows)) }
     ensures steps { IfOk result (λ pairs. (s : Sets) → ((n : Node) (o : Object) → sets_of s n o ≡ sets_by (numbering_of (program_of program.now)) pairs.rows n o) → IsWithinBound (program_of program.now) s (steps.new - steps.old)) }
 {
-    let system = generate(alloc, program)?;
+    let numbering = number_program(alloc, program)?;
+    let system = generate(alloc, program, numbering)?;
     let nodes = system.numbering.nodes.total();
     let objects = system.numbering.objects.total();
     least_pairs(&system, alloc, nodes, objects, steps)
