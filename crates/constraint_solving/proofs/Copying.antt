@@ -13,7 +13,7 @@ use Rattle.inclusion_constraints.specs.Rules.{Says, Passes, OnEdge, no_edge}
 use Rattle.inclusion_constraints.specs.declared.rules.Trigger.{Trigger}
 use Rattle.inclusion_constraints.specs.Solutions.{ObeysAll, is_in, IsAsked}
 use Rattle.constraint_solving.specs.Searching.{asked, pair_at, IsSound, Holds, Grown, IsPut, IsCopied, IsFound}
-use Rattle.constraint_solving.proofs.Lists.{added_other, has_at, at_has, added_cases, added_kept, added_new, added_count, added_distinct}
+use Rattle.constraint_solving.proofs.Lists.{taken, added_other, has_at, at_has, added_cases, added_kept, added_new, added_count, added_distinct}
 use Rattle.constraint_solving.proofs.Putting.{holds_put, grown_put, has_put, grown_none, grown_both}
 use Rattle.constraint_solving.proofs.Firing.{on_some}
 
@@ -25,11 +25,6 @@ pub record IsCopying (w : System) (s t : State) (e : Edge) (k : ℕ) : Type 0 wh
   pub same : row t.pairs.rows e.from ≡ row s.pairs.rows e.from
   pub upto : k ≤ length (row s.pairs.rows e.from)
   pub each : (j : ℕ) → j < k → is_in t.pairs.rows e.to (get_or (row t.pairs.rows e.from) j 0) ≡ true
-
-pub taken : (xs : List ℕ) (k x : ℕ) → slice_get xs k ≡ Some x → (k < length xs) × (get_or xs k 0 ≡ x)
-taken [] k x e = cc
-taken (y ∷ xs) zero x e = (omega arith, cc)
-taken (y ∷ xs) (suc k) x e = let h = taken xs k x e in (omega (arith, h.0), h.1)
 
 pub none_left : (xs : List ℕ) (k : ℕ) → slice_get xs k ≡ None → length xs ≤ k
 none_left [] k e = omega arith
@@ -45,7 +40,7 @@ copy_next w s t u e k i o r c z q d l b f g allowed = subst (IsCopying w s u e) 
     let n = c.grown.count in
     let m : e.to < length t.pairs.rows = omega arith in
     let same : row u.pairs.rows e.from ≡ row t.pairs.rows e.from = ap (λ (x : Lists). row x e.from) q.rows ∙ added_other t.pairs.rows e.to o e.from d in
-    let there : is_in t.pairs.rows e.from o ≡ true = subst (λ x. is_in t.pairs.rows e.from x ≡ true) h.1 (at_has (row t.pairs.rows e.from) k h.0) in
+    let there : is_in t.pairs.rows e.from o ≡ true = subst (λ x. is_in t.pairs.rows e.from x ≡ true) (h.1 0) (at_has (row t.pairs.rows e.from) k h.0) in
     record {
       holds = holds_put w t u e.to o c.holds q m b (λ Q p. allowed Q p o (c.holds.below Q p e.from o there));
       grown = grown_both s t u c.grown (grown_put t u e.to o q);
@@ -55,7 +50,7 @@ copy_next w s t u e k i o r c z q d l b f g allowed = subst (IsCopying w s u e) 
       upto = (let x = h.0 in let y = ap (λ (l : List ℕ). length l) c.same in omega arith);
       each = below_more (λ j. is_in u.pairs.rows e.to (get_or (row u.pairs.rows e.from) j 0) ≡ true) k
           (λ j i. subst (λ (x : List ℕ). is_in u.pairs.rows e.to (get_or x j 0) ≡ true) (sym same) ((grown_put t u e.to o q).rows e.to _ (c.each j i)))
-          (subst (λ (x : List ℕ). is_in u.pairs.rows e.to (get_or x k 0) ≡ true) (sym same) (subst (λ x. is_in u.pairs.rows e.to x ≡ true) (sym h.1) (has_put t u e.to o q m)));
+          (subst (λ (x : List ℕ). is_in u.pairs.rows e.to (get_or x k 0) ≡ true) (sym same) (subst (λ x. is_in u.pairs.rows e.to x ≡ true) (sym (h.1 0)) (has_put t u e.to o q m)));
     })
 
 pub copy_all : (w : System) (s t : State) (e : Edge) (k : ℕ) (r : Option ℕ) → IsCopying w s t e k → r ≡ slice_get (row t.pairs.rows e.from) k → r ≡ None → IsCopied s t e

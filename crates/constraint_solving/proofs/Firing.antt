@@ -8,6 +8,7 @@ use Rattle.inclusion_constraints.specs.declared.system.System.{System}
 use Rattle.inclusion_constraints.specs.Rules.{Says, Passes, OnEdge, lists_in}
 use Rattle.inclusion_constraints.specs.Solutions.{ObeysAll, is_in, IsAsked}
 use Rattle.constraint_solving.specs.Searching.{asked, Holds, Grown, IsFound, IsFired}
+use Rattle.constraint_solving.proofs.Lists.{taken}
 use Rattle.constraint_solving.proofs.Putting.{grown_none, grown_both}
 
 abbrev triggers : System → Pair → List Trigger
@@ -36,17 +37,12 @@ pub found_more : (s t : State) (e : Edge) → Grown s t → IsFound s.edges e �
 found_more s t e g (inl h) = inl h
 found_more s t e g (inr h) = inr (g.edges e.from e.to h)
 
-trigger_is : (ts : List Trigger) (k : ℕ) (x : Trigger) → slice_get ts k ≡ Some x → (k < length ts) × ((d : Trigger) → get_or ts k d ≡ x)
-trigger_is [] k x e = cc
-trigger_is (y ∷ ts) zero x e = (omega arith, λ d. cc)
-trigger_is (y ∷ ts) (suc k) x e = let h = trigger_is ts k x e in (omega (arith, h.0), h.1)
-
 pub fire_none : (w : System) (s : State) (x : Pair) → Holds w s → IsFiring w s s x 0
 fire_none w s x h = record { holds = h; grown = grown_none s; next = refl; each = λ j l. absurd (omega arith) }
 
 pub fire_allowed : (w : System) (s t : State) (x : Pair) (k : ℕ) (r : Option Trigger) (g : Trigger) → IsFiring w s t x k → is_in s.pairs.rows x.node x.object ≡ true → r ≡ slice_get (get_or (lists_in w.rules.triggers) x.node []) k → r ≡ Some g → (Q : Says) → ObeysAll w Q → OnEdge (asked w g x.object) (Passes Q)
 fire_allowed w s t x k r g c h f e Q q =
-    let i = trigger_is (triggers w x) k g (sym f ∙ e) in
+    let i = taken (triggers w x) k g (sym f ∙ e) in
     subst (λ (y : Trigger). OnEdge (asked w y x.object) (Passes Q)) (i.1 g) (q.triggers x.node k x.object g i.0 (c.holds.below Q q x.node x.object (c.grown.rows x.node x.object h)))
 
 on_made : (o : Option Edge) (P : Edge → Type 0) → ((e : Edge) → o ≡ Some e → P e) → OnEdge o P
@@ -56,12 +52,12 @@ on_made (Some e) P h = h e refl
 -- what a trigger of a pair asks for is asked for
 pub fire_asked : (w : System) (s t : State) (x : Pair) (k : ℕ) (r : Option Trigger) (g : Trigger) → IsFiring w s t x k → is_in s.pairs.rows x.node x.object ≡ true → r ≡ slice_get (get_or (lists_in w.rules.triggers) x.node []) k → r ≡ Some g → OnEdge (asked w g x.object) (IsAsked w t.pairs.rows)
 fire_asked w s t x k r g c h f e =
-    let i = trigger_is (triggers w x) k g (sym f ∙ e) in
+    let i = taken (triggers w x) k g (sym f ∙ e) in
     on_made (asked w g x.object) (IsAsked w t.pairs.rows) (λ a q. inr (record { node = x.node; object = x.object; by = g; listed = (k, i.0, i.1 g); has = c.grown.rows x.node x.object h; asks = q }))
 
 pub fire_next : (w : System) (s t u : State) (x : Pair) (k : ℕ) (r : Option Trigger) (g : Trigger) → IsFiring w s t x k → r ≡ slice_get (get_or (lists_in w.rules.triggers) x.node []) k → r ≡ Some g → Holds w u → Grown t u → u.next ≡ t.next → OnEdge (asked w g x.object) (IsFound u.edges) → IsFiring w s u x (k + 1)
 fire_next w s t u x k r g c f e h n z q =
-    let i = trigger_is (triggers w x) k g (sym f ∙ e) in
+    let i = taken (triggers w x) k g (sym f ∙ e) in
     record {
       holds = h;
       grown = grown_both s t u c.grown n;

@@ -1,13 +1,18 @@
 -- Lists without repeats that grow.
-use Rattle.std.proofs.Common.{◌≡◌, ℕ, zero, suc, ◌+◌, ◌<◌, ◌≤◌, Bool, true, false, List, [], ◌∷◌, ◌++◌, length, get_or, set, refl, sym, ap, ◌∙◌, subst, arith, nat_eq, if◌then◌else◌, ◌⊎◌, inl, inr}
+use Rattle.std.proofs.Common.{◌≡◌, ℕ, zero, suc, ◌+◌, ◌<◌, ◌≤◌, Bool, true, false, List, [], ◌∷◌, ◌++◌, length, get_or, set, refl, sym, ap, ◌∙◌, subst, arith, nat_eq, if◌then◌else◌, ◌⊎◌, inl, inr, Some, slice_get}
 use Rattle.std.specs.List.{IsDistinct}
 use Rattle.std.proofs.lemmas.Bool.{false≢true, eqb-true, eq-eqb, or_left, or_right, or_cases}
 use Rattle.std.proofs.lemmas.List.{length-set, get_or-set_same, length-append}
+use Rattle.std.proofs.lemmas.Option.{slice_get_within, get_or_from_slice_get}
 use Rattle.std.proofs.lemmas.Map.Keys.{IsDistinct-push}
 use Rattle.std.specs.Cmp.{nat_eq_equiv}
 use Rattle.numbered_lists.specs.Rows.{Lists, has, row, added}
 use Rattle.inclusion_constraints.specs.Solutions.{is_in}
 use Rattle.inclusion_constraints.proofs.Replaced.{each_replaced}
+
+-- what stands at a place
+pub taken : {X : Type 0} (xs : List X) (k : ℕ) (x : X) → slice_get xs k ≡ Some x → (k < length xs) × ((d : X) → get_or xs k d ≡ x)
+taken xs k x e = (slice_get_within xs k x e, λ d. get_or_from_slice_get xs k x d e)
 
 push_cases : (p o : ℕ) (xs : List ℕ) → has p (xs ++ o ∷ []) ≡ true → (has p xs ≡ true) ⊎ (p ≡ o)
 push_cases p o [] e = elim (or_cases (nat_eq p o) false e) [ inl h ↦ inr (eqb-true p o h) | inr h ↦ absurd (false≢true h) ]

@@ -7,9 +7,9 @@ use Rattle.constraint_solving.specs.declared.state.State.{State}
 use Rattle.inclusion_constraints.specs.declared.system.System.{System}
 use Rattle.inclusion_constraints.specs.Solutions.{is_in}
 use Rattle.constraint_solving.specs.Searching.{pair_at, IsSound, Holds, Grown, IsPut}
-use Rattle.constraint_solving.proofs.Lists.{has_at, at_has}
+use Rattle.constraint_solving.proofs.Lists.{taken, has_at, at_has}
 use Rattle.constraint_solving.proofs.Putting.{holds_put, grown_put, has_put, grown_none, grown_both}
-use Rattle.constraint_solving.proofs.Copying.{taken, none_left}
+use Rattle.constraint_solving.proofs.Copying.{none_left}
 
 -- the pair that comes next
 pub record IsNext (w : System) (s : State) (x : Pair) : Type 0 where
@@ -42,7 +42,7 @@ object_there w s t x k n c =
     let b = c.grown.objects in omega arith
 
 edge_there : (w : System) (t : State) (x : Pair) (k to : ℕ) (r : Option ℕ) → r ≡ slice_get (row t.edges x.node) k → r ≡ Some to → is_in t.edges x.node to ≡ true
-edge_there w t x k to r f g = let h = taken (row t.edges x.node) k to (sym f ∙ g) in subst (λ y. is_in t.edges x.node y ≡ true) h.1 (at_has (row t.edges x.node) k h.0)
+edge_there w t x k to r f g = let h = taken (row t.edges x.node) k to (sym f ∙ g) in subst (λ y. is_in t.edges x.node y ≡ true) (h.1 0) (at_has (row t.edges x.node) k h.0)
 
 pub target_there : (w : System) (t : State) (x : Pair) (k to : ℕ) (r : Option ℕ) → Holds w t → r ≡ slice_get (row t.edges x.node) k → r ≡ Some to → to < length t.pairs.rows
 target_there w t x k to r h f g = h.targets x.node to (edge_there w t x k to r f g)
@@ -59,7 +59,7 @@ pass_next w s t u x k m to r n c z q f g = subst (IsPassing w s u x) (sym z) (
       upto = (let y = h.0 in let z = ap (λ (l : Lists). length (row l x.node)) c.edges in omega arith);
       each = below_more (λ j. is_in u.pairs.rows (get_or (row u.edges x.node) j 0) x.object ≡ true) k
           (λ j i. subst (λ (y : Lists). is_in u.pairs.rows (get_or (row y x.node) j 0) x.object ≡ true) (sym q.edges) ((grown_put t u to x.object q).rows _ x.object (c.each j i)))
-          (subst (λ (y : Lists). is_in u.pairs.rows (get_or (row y x.node) k 0) x.object ≡ true) (sym q.edges) (subst (λ y. is_in u.pairs.rows y x.object ≡ true) (sym h.1) (has_put t u to x.object q a)));
+          (subst (λ (y : Lists). is_in u.pairs.rows (get_or (row y x.node) k 0) x.object ≡ true) (sym q.edges) (subst (λ y. is_in u.pairs.rows y x.object ≡ true) (sym (h.1 0)) (has_put t u to x.object q a)));
     })
 
 pub pass_all : (w : System) (s t : State) (x : Pair) (k m : ℕ) (r : Option ℕ) → IsNext w s x → IsPassing w s t x k → m ≡ t.next + 1 → r ≡ slice_get (row t.edges x.node) k → r ≡ None → IsSound w t.pairs.rows t.pairs.objects t.log.items t.edges m
