@@ -22,7 +22,7 @@ use Rattle.stack_laws.specs.Laws.{BoundedRunsStayWithin, BoundedFirmwaresAreRefi
 use Rattle.stack_laws.proofs.Eighths.{HasEighths, has_eighths, both_sides, rounded_more}
 use Rattle.stack_laws.proofs.Loans.{Differ, counted, counted_at_most}
 use Rattle.stack_laws.proofs.Frames.{taken_by, taken, funcs, frames_are_path, frames_differ}
-use Rattle.plan_model.proofs.Limits.{few}
+use Rattle.plan_model.proofs.KeptLimits.{few}
 
 module _ (p : Program) (z : PlainType → ℕ) (S : ObjectSets) (closed : Bool) (n : Needs) (g : Groups) (stack : ℕ) (needs : AreNeeds p S closed n) (eighths : HasEighths stack) where
   abbrev by_ : Option ℕ → ℕ → ℕ
