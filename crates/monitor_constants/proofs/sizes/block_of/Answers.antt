@@ -1,6 +1,6 @@
 use Rattle.std.proofs.Common.{arith}
 use Rattle.monitor_constants.proofs.Counted.{greatest_block, least_block, power_small}
-use Rattle.monitor_constants.proofs.constants.block_of.Goals as goal
+use Rattle.monitor_constants.proofs.sizes.block_of.Goals as goal
 
 pub returns-then-bytes-clause-exact : goal.returns-then-bytes-clause-exact
 returns-then-bytes-clause-exact c = λ n e. greatest_block n c.args.bytes e c.if-bytes.true
