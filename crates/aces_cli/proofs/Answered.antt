@@ -1,5 +1,6 @@
 -- What the top call says, from what its command did.
-use Rattle.std.proofs.Common.{◌≡◌, ℕ, ◌⊎◌, inl, inr, List, [], ◌++◌, None, Ok, Err, Result, refl, ap, sym, ◌∙◌, subst, append-nil, arith}
+use Rattle.std.proofs.Common.{◌≡◌, ℕ, ◌⊎◌, inl, inr, List, [], ◌++◌, None, Ok, Err, Result, IfErr, refl, ap, sym, ◌∙◌, subst, append-nil, arith}
+use Rattle.outside.specs.Calls.{Call}
 use Rattle.aces_reports.specs.declared.failure.Done.{Done}
 use Rattle.aces_reports.specs.declared.failure.Done.TheVariants.{Completed, RunFailed, Negative}
 use Rattle.aces_reports.specs.declared.failure.Failure.{Failure}
@@ -10,6 +11,7 @@ use Rattle.aces_reports.specs.FaultLines.{usage_line}
 use Rattle.aces_reports.specs.Sinks.{SinkState, Says}
 use Rattle.aces_reports.specs.Ends.{status_of, line_of}
 use Rattle.commands.specs.Outcomes.{Outcome, refused, past_limit, no_room, usage}
+use Rattle.commands.specs.CarriesOut.{NamesLast}
 use Rattle.commands.specs.Effects.{World, Does, Quiet, IsCarriedOut, IsPart, IsPrintedInPart}
 use Rattle.commands.proofs.Answering.{run_also, bin_also}
 use Rattle.firmware_commands.proofs.Answering.{check_also, source_also}
@@ -153,17 +155,18 @@ module _ (Has : Origin → List ℕ → Type 0) (Exceeds : Origin → Type 0) (w
 
 module _ (A : Outcome → Type 0) (words : List (List ℕ)) (r : Request) (asks : Asks words r)
     (old new : World) (err_old err_new : SinkState) where
-  pub unread : (e : Result Done Failure) → status_of e ≡ 4 → Does A r old new e → Says err_old err_new (line_of e) → TellsUnread words old new err_old err_new
-  unread (Ok Completed) q d l = let f : ⊥ = omega (arith, q) in absurd f
-  unread (Ok RunFailed) q d l = let f : ⊥ = omega (arith, q) in absurd f
-  unread (Ok Negative) q d l = let f : ⊥ = omega (arith, q) in absurd f
-  unread (Err (Refused name f)) q d l = let f : ⊥ = omega (arith, q) in absurd f
-  unread (Err (PastLimit which count)) q d l = let f : ⊥ = omega (arith, q) in absurd f
-  unread (Err (NoRoom memory c needed available)) q d l = let f : ⊥ = omega (arith, q) in absurd f
-  unread (Err (Unread name)) q d l = record { request = r; asks = asks; name = name.now; unread = d; says = l }
-  unread (Err (Unwritten name)) q d l = let f : ⊥ = omega (arith, q) in absurd f
-  unread (Err Unprinted) q d l = let f : ⊥ = omega (arith, q) in absurd f
-  unread (Err NoMemory) q d l = let f : ⊥ = omega (arith, q) in absurd f
+  pub unread : (calls : List Call) (e : Result Done Failure) → status_of e ≡ 4 → Does A r old new e → IfErr e (NamesLast calls) → Says err_old err_new (line_of e)
+      → TellsUnread calls words old new err_old err_new
+  unread calls (Ok Completed) q d n l = let f : ⊥ = omega (arith, q) in absurd f
+  unread calls (Ok RunFailed) q d n l = let f : ⊥ = omega (arith, q) in absurd f
+  unread calls (Ok Negative) q d n l = let f : ⊥ = omega (arith, q) in absurd f
+  unread calls (Err (Refused name f)) q d n l = let f : ⊥ = omega (arith, q) in absurd f
+  unread calls (Err (PastLimit which count)) q d n l = let f : ⊥ = omega (arith, q) in absurd f
+  unread calls (Err (NoRoom memory c needed available)) q d n l = let f : ⊥ = omega (arith, q) in absurd f
+  unread calls (Err (Unread name)) q d n l = record { request = r; asks = asks; name = name.now; unread = d; last = n; says = l }
+  unread calls (Err (Unwritten name)) q d n l = let f : ⊥ = omega (arith, q) in absurd f
+  unread calls (Err Unprinted) q d n l = let f : ⊥ = omega (arith, q) in absurd f
+  unread calls (Err NoMemory) q d n l = let f : ⊥ = omega (arith, q) in absurd f
 
   pub unwritten : (e : Result Done Failure) → status_of e ≡ 5 → Does A r old new e → Says err_old err_new (line_of e)
       → TellsUnwritten words old new err_old err_new ⊎ TellsUnprinted old new err_old err_new

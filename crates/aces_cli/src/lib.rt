@@ -17,7 +17,7 @@ ghost use Rattle.commands.specs.CarriesOut.{CarriesOut};
 ghost use Rattle.commands.specs.Effects.{world};
 ghost use Rattle.aces_cli.specs.Answer.{Answer};
 ghost use Rattle.aces_cli.specs.Bounded.{FollowsBounded};
-ghost use Rattle.aces_cli.specs.Endings.{IsPlain, IsAnswered, IsPartly, IsByCalls, TellsUnread, TellsUnwritten, TellsUnprinted, TellsOutOfMemory};
+ghost use Rattle.aces_cli.specs.Endings.{IsPlain, IsAnswered, IsPartly, IsByCalls, TellsUnwritten, TellsUnprinted, TellsOutOfMemory};
 
 use aces_reports::{Done, Failure, report, say};
 pub use aces_reports::{WordsRefusal, refuse_words};
@@ -43,7 +43,8 @@ pub fn aces<F: Files, O: Sink, E: Sink>(
 ) -> u8
     ensures usage { (result ≡ 2) ↔ IsUsage (map string_bytes words.now) }
 
-    // The call did what the words ask, of the contents where these are told, and else of the bytes that its own calls gave. So the
+    // The call did what the words ask, of the contents where these are told, and else of the bytes that its own calls gave. Where a file was
+    // not read, the last of its calls was to read it, and failed. So the
     // status is 3 exactly where a listing was asked, both texts are read, no limit is passed, and the blocks of flash, or else
     // those of RAM, have more bytes than it has (`ListAnswer`).
     ensures answer { IsTrue F.told → IsPlain result →
@@ -57,10 +58,6 @@ pub fn aces<F: Files, O: Sink, E: Sink>(
         (world F.Files files.new (sink O.Sink out.new))
         (sink E.Sink err.old) (sink E.Sink err.new) result }
 
-    ensures unread { result ≡ 4 → TellsUnread (map string_bytes words.now)
-        (world F.Files files.old (sink O.Sink out.old))
-        (world F.Files files.new (sink O.Sink out.new))
-        (sink E.Sink err.old) (sink E.Sink err.new) }
     ensures read_faults { (result ≡ 4) ⊎ (F.read_faults files.new ≡ F.read_faults files.old) }
 
     ensures unwritten { result ≡ 5 → TellsUnwritten (map string_bytes words.now)

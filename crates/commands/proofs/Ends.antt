@@ -1,5 +1,7 @@
 -- How commands end, by what their steps answered.
-use Rattle.std.proofs.Common.{◌≡◌, ◌≢◌, ◌<◌, ℕ, inl, inr, List, [], None, Ok, Err, Result, IsTrue, IsNone, refl, ap, sym, subst, arith}
+use Rattle.std.proofs.Common.{◌≡◌, ◌≢◌, ℕ, ◌+◌, ◌^◌, ◌<◌, inl, inr, List, [], None, Ok, Err, Result, false, IsTrue, IsNone, IfErr, refl, ap, sym, subst, arith}
+use Rattle.std.proofs.lemmas.Bool.{false≢true}
+use Rattle.outside.specs.Calls.{Call}
 use Rattle.aces_reports.specs.declared.failure.Done.{Done}
 use Rattle.aces_reports.specs.declared.failure.Done.TheVariants.{Completed, RunFailed, Negative}
 use Rattle.aces_reports.specs.declared.failure.Fault.{Fault}
@@ -12,6 +14,7 @@ use Rattle.commands.specs.Outcomes.{Outcome, refused, past_limit, no_room}
 use Rattle.aces_reports.specs.Sinks.{SinkState}
 use Rattle.aces_reports.specs.Ends.{status_of}
 use Rattle.commands.specs.Effects.{World, Does, IsDone, Quiet, IsCarriedOut, IsRewritten, IsPart, IsPrintedInPart}
+use Rattle.commands.specs.CarriesOut.{NamesLast}
 use Rattle.commands.specs.Loads.{IsLoadFailure, IsContentFailure, IsRefusal}
 
 -- where nothing was printed, no more than a part was
@@ -69,6 +72,16 @@ content_failed A IsFault r name old new quiet reads answer (Unwritten n) h = abs
 content_failed A IsFault r name old new quiet reads answer Unprinted h = absurd h
 content_failed A IsFault r name old new quiet reads answer NoMemory h = no_memory A r old new quiet reads
 
+-- it names no file as unread
+pub content_names : (calls : List Call) (IsFault : Fault → Type 0) (name : List ℕ) (e : Failure) → IsContentFailure IsFault name e → NamesLast calls e
+content_names calls IsFault name (Refused n f) h = tt
+content_names calls IsFault name (PastLimit which count) h = absurd h
+content_names calls IsFault name (NoRoom memory c needed available) h = absurd h
+content_names calls IsFault name (Unread n) h = absurd h
+content_names calls IsFault name (Unwritten n) h = absurd h
+content_names calls IsFault name Unprinted h = absurd h
+content_names calls IsFault name NoMemory h = tt
+
 -- what is refused by some faults is refused by others
 pub content_also : (P Q : Fault → Type 0) → ((f : Fault) → P f → Q f) → (name : List ℕ) (e : Failure) → IsContentFailure P name e → IsContentFailure Q name e
 content_also P Q m name (Refused n f) h = (h.0, m f h.1)
@@ -90,6 +103,16 @@ refusal_did A r old new quiet reads (Unwritten n) h = absurd h
 refusal_did A r old new quiet reads Unprinted h = absurd h
 refusal_did A r old new quiet reads NoMemory h = no_memory A r old new quiet reads
 
+-- nor does that
+pub refusal_names : (calls : List Call) (A : Outcome → Type 0) (e : Failure) → IsRefusal A e → NamesLast calls e
+refusal_names calls A (Refused n f) h = tt
+refusal_names calls A (PastLimit which count) h = tt
+refusal_names calls A (NoRoom memory c needed available) h = tt
+refusal_names calls A (Unread n) h = absurd h
+refusal_names calls A (Unwritten n) h = absurd h
+refusal_names calls A Unprinted h = absurd h
+refusal_names calls A NoMemory h = tt
+
 -- what is refused by some answers is refused by others, by a content's fault among them
 pub refusal_also : (A B : Outcome → Type 0) → ((o : Outcome) → A o → B o) → (e : Failure) → IsRefusal A e → IsRefusal B e
 refusal_also A B m (Refused n f) h = m (refused n.now f) h
@@ -109,6 +132,21 @@ content_refused A IsFault name answer (Unread n) h = absurd h
 content_refused A IsFault name answer (Unwritten n) h = absurd h
 content_refused A IsFault name answer Unprinted h = absurd h
 content_refused A IsFault name answer NoMemory h = tt
+
+-- nor does a step that does the same over files of which nothing is told and no fault was counted, for it touches none
+pub untouched_names : (calls : List Call) (A : Outcome → Type 0) (r : Request) (held : Held) (old new : SinkState) (e : Result Done Failure)
+    → Does A r (record { told = false; held = held; read_faults = 0; write_faults = 0; out = old })
+    (record { told = false; held = held; read_faults = 0; write_faults = 0; out = new }) e
+    → IfErr e (NamesLast calls)
+untouched_names calls A r held old new (Ok d) h = tt
+untouched_names calls A r held old new (Err (Refused name f)) h = tt
+untouched_names calls A r held old new (Err (PastLimit which count)) h = tt
+untouched_names calls A r held old new (Err (NoRoom memory c needed available)) h = tt
+untouched_names calls A r held old new (Err (Unread name)) h =
+    absurd (elim h.cause [ inl rose ↦ let few : 0 + 1 < 2 ^ 64 = omega arith in let wrong = rose few in omega (arith, wrong) | inr gone ↦ false≢true gone.0 ])
+untouched_names calls A r held old new (Err (Unwritten name)) h = tt
+untouched_names calls A r held old new (Err Unprinted) h = tt
+untouched_names calls A r held old new (Err NoMemory) h = tt
 
 -- a command that ended with an outcome of this status
 pub did_end : (A : Outcome → Type 0) (r : Request) (old new : World) (o : Outcome) (d : Done) → A o → o.status ≡ status_of (Ok d) → o.line ≡ []
