@@ -63,3 +63,18 @@ partner {X} {Y} R x (z ∷ zs) (y ∷ ys) a h = by (cases z x zs h) (λ r. partn
     by : (z ≡ x) ⊎ Contains zs x → (Contains zs x → GoesWith R ys x) → GoesWith R (y ∷ ys) x
     by (inl e) ih = record { other = y; listed = head y ys; related = subst (λ (w : X). R w y) e a.0 }
     by (inr r) ih = let t = ih r in record { other = t.other; listed = tail y t.other ys t.listed; related = t.related }
+
+-- and the item of the first list with which one of the second goes
+pub record ComesOf {X Y : Type 0} (R : X → Y → Type 0) (y : Y) : Type 0 where
+  pub other : X
+  pub related : R other y
+
+pub comes_of : {X Y : Type 0} (R : X → Y → Type 0) (y : Y) (xs : List X) (ys : List Y) → AllZip R xs ys → Contains ys y → ComesOf R y
+comes_of R y [] [] a h = absurd (in_none y h)
+comes_of R y [] (z ∷ zs) a h = absurd a
+comes_of R y (x ∷ xs) [] a h = absurd (in_none y h)
+comes_of {X} {Y} R y (x ∷ xs) (z ∷ zs) a h = by (cases z y zs h) (λ r. comes_of R y xs zs a.1 r)
+  where
+    by : (z ≡ y) ⊎ Contains zs y → (Contains zs y → ComesOf R y) → ComesOf R y
+    by (inl e) ih = record { other = x; related = subst (λ (v : Y). R x v) e a.0 }
+    by (inr r) ih = ih r

@@ -8,7 +8,6 @@ pub mod OpenBytes
 pub mod Ranges
 pub mod AreaSize
 pub mod ReadBack
-pub mod Limits
 pub mod AreaEnd
 pub mod CodeRegions
 pub mod TablesPass

@@ -6,7 +6,7 @@ pub mod Covers
 pub mod CoverParts
 pub mod Bearing
 mod Loans
-mod WindowsOpen
+pub mod WindowsOpen
 mod Windows
 mod Memory
 mod CodeBlocks

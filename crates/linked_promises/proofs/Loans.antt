@@ -1,6 +1,5 @@
 -- Lent locals in the tables: their sizes, and the masks of compartments.
-use Rattle.std.proofs.Common.{◌≡◌, ℕ, ◌<◌, ◌≤◌, ◌+◌, Bool, true, false, not, ◌&&◌, ◌||◌, List, [], ◌∷◌, length, get_or, cond, position, Option, Some, None, option_map, nat_eq, nat_lt, refl, ap, ◌∙◌, eq-eqb, eqb-true, ltb-false, lt-ltb, le-ltb, lit<, arith}
-use Rattle.std.specs.Bool.{then_some}
+use Rattle.std.proofs.Common.{◌≡◌, ℕ, ◌<◌, ◌+◌, Bool, true, false, not, ◌&&◌, ◌||◌, List, [], length, get_or, cond, position, Some, nat_eq, nat_lt, refl, ap, ◌∙◌, eq-eqb, eqb-true, lt-ltb, le-ltb, lit<, arith}
 use Rattle.std.specs.Int.{bit_at}
 use Rattle.std.proofs.Math.Nat.{zero-add}
 use Rattle.std.proofs.lemmas.List.{get_or-map, length-map}
@@ -13,17 +12,12 @@ use Rattle.ir_model.specs.Resolve.{resolve}
 use Rattle.ir_model.specs.Resolved.{Program, local_at}
 use Rattle.ir_model.specs.State.{LocalObject}
 use Rattle.ir_model.proofs.Counting.{rounded_at_least}
-use Rattle.plan_model.specs.declared.needs.SiteNeed.{SiteNeed}
 use Rattle.plan_model.specs.declared.needs.Needs.{Needs}
 use Rattle.plan_model.specs.declared.groups.Groups.{Groups}
-use Rattle.plan_model.specs.declared.limits.LimitKind.{LimitKind}
-use Rattle.plan_model.specs.declared.limits.LimitKind.TheVariants.{Compartments, Lent, Sites, Targets}
 use Rattle.plan_model.specs.declared.graph.Final.{Final}
 use Rattle.plan_model.specs.declared.plan.Plan.{Plan}
 use Rattle.plan_model.specs.declared.plan.Board.{Board}
 use Rattle.plan_model.specs.Boards.{slots_of}
-use Rattle.plan_model.specs.CompileLimits.{KeepsLimits, first_passed, above, wide_site}
-use Rattle.plan_model.specs.Crossing.{crossing_sites}
 use Rattle.plan_model.specs.Groups.{compartment_of, writes, reads}
 use Rattle.plan_model.specs.Needs.{need_of, has_object}
 use Rattle.plan_model.specs.Lending.{lent, is_local, lend_number}
@@ -45,23 +39,7 @@ use Rattle.linked_promises.proofs.Bits.{mask_bit}
 use Rattle.linked_promises.proofs.Kept.{kept_final}
 use Rattle.linked_promises.proofs.Reach.{one_of, has_listed}
 use Rattle.linked_promises.proofs.Compartments.{in_compartment}
-use Rattle.plan_model.proofs.Choices.{none_first}
-
--- ---- limits
-
-not_above : {X : Type 0} (b : Bool) (x : X) → then_some b x ≡ None → b ≡ false
-not_above true x e = absurd (let f : Some x ≡ None = e in cc)
-not_above false x e = refl
-
-few_lent : (n : Needs) (g : Groups) → KeepsLimits n g → length (lent n g) ≤ 32
-unfolding first_passed
-few_lent n g k =
-    let wide : Option (LimitKind × ℕ) = option_map (λ (s : SiteNeed). (Targets, length s.targets)) (wide_site n g) in
-    let sites : Option (LimitKind × ℕ) = above 4096 Sites (length (crossing_sites n g)) in
-    let lents : Option (LimitKind × ℕ) = above 32 Lent (length (lent n g)) in
-    let first = none_first (above 64 Compartments g.count) (lents ∷ sites ∷ wide ∷ []) k in
-    let second = none_first lents (sites ∷ wide ∷ []) first.1 in
-    ltb-false 32 (length (lent n g)) (not_above (nat_lt 32 (length (lent n g))) (Lent, length (lent n g)) second.0)
+use Rattle.plan_model.proofs.Limits.{few as few_limits}
 
 -- ---- numbers
 
@@ -133,7 +111,7 @@ at_local does n g h l k is P same t =
 module _ (code : MonitorCode) (w : PlainFirmware) (n : Needs) (f : Final) (b : Board) (is : IsPlanned w n f b) where
   number_small : (h l k : ℕ) → IsLent n f.groups h l k → k < 32
   number_small h l k i =
-      let few = few_lent n f.groups is.limits in
+      let few = (few_limits n f.groups is.limits).lent in
       let e = ap length (lent_are n f.groups i.many) in
       omega (arith, few, e, i.below)
 

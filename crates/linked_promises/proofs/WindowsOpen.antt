@@ -101,7 +101,7 @@ module _ (p : Program) (n : Needs) (f : Final) (slots : ℕ) (final : IsFinal p 
   covers_are : (c : ℕ) → get_or f.covers c [] ≡ get_or final.last.covers c []
   covers_are c = ap (λ (x : Final). get_or x.covers c []) final.is
 
-  covered : (c q : ℕ) → c < f.groups.count → q < length p.periphs → uses n f.groups c q ≡ true → list_any (is_inside (cover_of p q)) (get_or f.covers c []) ≡ true
+  pub covered : (c q : ℕ) → c < f.groups.count → q < length p.periphs → uses n f.groups c q ≡ true → list_any (is_inside (cover_of p q)) (get_or f.covers c []) ≡ true
   covered c q l m u =
       ap (list_any (is_inside (cover_of p q))) (covers_are c)
       ∙ stays_all p slots (initial_graph p n f.groups) final.last final.reached c (cover_of p q)

@@ -1,6 +1,6 @@
 //! The words of a region for a block of memory.
 
-ghost use Rattle.std.specs.Prelude.{◌≡◌, ◌<◌, ◌≤◌, ◌%◌, ◌↔◌, ℕ, Bool, IsTrue};
+ghost use Rattle.std.specs.Prelude.{◌≡◌, ◌<◌, ◌≤◌, ◌%◌, ◌^◌, ◌↔◌, ℕ, Bool, IsTrue};
 ghost use Rattle.mpu_model.specs.Regions as regions;
 ghost use Rattle.mpu_model.specs.RegionWords as words;
 
@@ -23,9 +23,10 @@ pub enum Rights {
 }
 
 impl Rights {
-    /// MPU_RASR without SRD and SIZE.
-    fn word(self) -> u32
-        ensures { result ≡ words.rights_word self }
+    /// MPU_RASR without SRD and SIZE (B3.5.9).
+    pub fn word(self) -> u32
+        ensures exact { result ≡ words.rights_word self }
+        ensures small { result < 2 ^ 30 }
     {
         match self {
             Rights::Background => 0x1206_0001,

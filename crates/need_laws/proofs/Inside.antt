@@ -11,7 +11,7 @@ use Rattle.need_laws.specs.Laws.{CallsStayInside, FramesAreGrouped}
 use Rattle.exact_lists.proofs.Members.{filtered, any_in, none_found}
 use Rattle.need_laws.proofs.Listed.{call_has_target}
 
-stands_here : (f b k : ℕ) (s : SiteNeed) → s.func ≡ f → s.block ≡ b → s.inst ≡ k → stands_at f b k s ≡ true
+pub stands_here : (f b k : ℕ) (s : SiteNeed) → s.func ≡ f → s.block ≡ b → s.inst ≡ k → stands_at f b k s ≡ true
 stands_here f b k s x y z =
     and_from (nat_eq s.func f) (nat_eq s.block b && nat_eq s.inst k) (eq-eqb s.func f x)
     (and_from (nat_eq s.block b) (nat_eq s.inst k) (eq-eqb s.block b y) (eq-eqb s.inst k z))

@@ -1,5 +1,5 @@
 pub mod Listed
 mod StepsStay
-mod Inside
+pub mod Inside
 mod Owned
 mod Least

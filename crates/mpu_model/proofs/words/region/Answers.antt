@@ -36,5 +36,5 @@ unfolding region_of
 returns-clause-holds c = λ a.
     let power = is_power c.get.result c.args.size c.get.ensures.number c.get.ensures.power in
     let small = is_small c.get.result c.args.size c.get.ensures.number c.get.type_inv in
-    rw (c.get.ensures.number, c.from.ensures, c.word.ensures, c.from-2.ensures)
+    rw (c.get.ensures.number, c.from.ensures, c.word.ensures.exact, c.from-2.ensures)
     (held c.args.rights c.args.slot c.args.base c.args.size c.args.srd c.requires.slot power c.requires.size small c.requires.base (omega arith) a)
