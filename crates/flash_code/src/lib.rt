@@ -4,7 +4,7 @@
 ghost use Rattle.std.specs.Prelude.{◌≡◌, ◌+◌, ◌*◌, ◌-◌, ◌%◌, ◌≤◌, length, IfOk, IfSome};
 ghost use Rattle.words.specs.Bytes.{read};
 ghost use Rattle.device_model.specs.declared.image.Image.{Image as ImageOf};
-ghost use Rattle.flash_code.specs.Code.{IsDecoded, IsCodeOf, StandsIn};
+ghost use Rattle.flash_code.specs.Code.{IsDecoded, EachDecoded, IsCodeOf, StandsIn};
 
 use device_model::image::Image;
 use std::alloc::{AllocError, Global};
@@ -25,7 +25,7 @@ pub struct Decoded {
 pub struct FlashCode {
     /// The first address of flash.
     pub base: u32,
-    /// One for each halfword but the last; none where no instruction begins.
+    /// One for each halfword but the last, none where no instruction begins; empty where the memory for them was refused.
     pub instructions: Vec<Option<Decoded>>,
 }
 
@@ -47,23 +47,34 @@ fn half_at(flash: &[u8], place: usize) -> u16
     u16::from_le_bytes([flash[place], flash[place + 1]])
 }
 
+/// What is decoded from each halfword of flash on.
+fn decode_each(alloc: Global, flash: &[u8]) -> Result<Vec<Option<Decoded>>, AllocError>
+    requires { 2 ≤ length flash.now }
+    ensures { IfOk result (λ instructions. EachDecoded flash.now 0 instructions.items) }
+{
+    let count = flash.len() / 2 - 1;
+    let mut instructions = Vec::with_capacity(alloc, count)?;
+    for k in 0..count {
+        instructions.push(decoded_at(flash, 2 * k))?;
+    }
+    Ok(instructions)
+}
+
 impl FlashCode {
-    /// The code of an image. The one call that takes memory.
-    pub fn new(alloc: Global, image: &Image) -> Result<FlashCode, AllocError>
+    /// The code of an image. The one call that takes memory; where it is refused, nothing is kept.
+    pub fn new(alloc: Global, image: &Image) -> FlashCode
         requires even { image.now.flash_base % 2 ≡ 0 }
         requires least { 2 ≤ length image.now.flash }
-        ensures { IfOk result (λ code. IsCodeOf image.now code) }
+        ensures { IsCodeOf image.now result }
     {
-        let flash = image.flash.as_slice();
-        let count = flash.len() / 2 - 1;
-        let mut instructions = Vec::with_capacity(alloc, count)?;
-        for k in 0..count {
-            instructions.push(decoded_at(flash, 2 * k))?;
-        }
-        Ok(FlashCode {
+        let instructions = match decode_each(alloc, image.flash.as_slice()) {
+            Ok(instructions) => instructions,
+            Err(_) => Vec::new(alloc),
+        };
+        FlashCode {
             base: image.flash_base,
             instructions,
-        })
+        }
     }
 
     /// The instruction that begins at an address of flash.

@@ -1,11 +1,9 @@
 -- What is known of blocks, when one is asked for, put in, and when all are forgotten.
-use Rattle.std.proofs.Common.{◌≡◌, ℕ, ◌*◌, ◌/◌, ◌%◌, ◌^◌, ◌<◌, Bool, true, false, List, length, replicate, get_or, set, sym, ◌∙◌, subst, arith, length-set}
-use Rattle.std.specs.List.{All}
+use Rattle.std.proofs.Common.{◌≡◌, ℕ, ◌*◌, ◌/◌, ◌%◌, ◌^◌, ◌<◌, Bool, true, List, replicate, get_or, set, sym, ◌∙◌, subst, arith, length-set}
 use Rattle.std.proofs.lemmas.List.{length-replicate}
 use Rattle.std.proofs.lemmas.List.Elements.{All-get_or, All-set, All-replicate}
 use Rattle.mpu_model.specs.declared.region.Access.{Access}
 use Rattle.mpu_model.specs.Registers.{Registers}
-use Rattle.mpu_model.specs.Protection.{permits}
 use Rattle.armv7m.specs.declared.state.ProtectionState.{ProtectionState}
 use Rattle.armv7m.specs.State.{by_mpu, is_unprivileged}
 use Rattle.guard.specs.Known.{IsPermitted, AreKnown}

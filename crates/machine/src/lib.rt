@@ -91,8 +91,8 @@ impl Machine {
         ensures { IfOk result (λ machine. machine
             ≡ record { image = image.now; state = runs.start image.now tape fill }) }
     {
-        let code = FlashCode::new(alloc, image)?;
         let bus = Bus::new(alloc, image, tape, fill)?;
+        let code = FlashCode::new(alloc, image);
         let stack_pointer = read_value(image.flash.as_slice(), 0, Width::Word);
         let core = CoreRegisters {
             low: [0; 8],

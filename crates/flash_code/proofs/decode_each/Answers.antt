@@ -1,12 +1,12 @@
-use Rattle.std.proofs.Common.{◌≡◌, ◌+◌, ◌*◌, ◌++◌, [], ◌∷◌, length, length-append, subst, arith}
+use Rattle.std.proofs.Common.{◌≡◌, ◌+◌, ◌*◌, [], ◌∷◌, length, length-append, subst, arith}
 use Rattle.std.specs.Option.{IfSome}
 use Rattle.flash_code.specs.Code.{IsDecoded}
 use Rattle.flash_code.proofs.Found.{each_push}
-use Rattle.flash_code.proofs.FlashCode.new.Goals as goal
+use Rattle.flash_code.proofs.decode_each.Goals as goal
 
 pub loop-k-preserved : goal.loop-k-preserved
 loop-k-preserved c =
-    let flash = c.as_slice-flash.result.now in
+    let flash = c.args.flash.now in
     let items = c.loop-k.instructions.items in
     let o = c.decoded_at.result in
     let count = c.loop-k.invariant.0 in
