@@ -92,7 +92,7 @@ fn load_within<'a, F: Files>(
 }
 
 /// The image of which these bytes of a file are the text.
-pub(crate) fn image_of<'a>(alloc: Global, name: &'a str, bytes: &[u8]) -> Result<Image, Failure<'a>>
+pub fn image_of<'a>(alloc: Global, name: &'a str, bytes: &[u8]) -> Result<Image, Failure<'a>>
     ensures ok { IfOk result (λ i. IsText i bytes.now) }
     ensures err { IfErr result (λ e. IsContentFailure (IsNoImage bytes.now) name.now e) }
 {
