@@ -1,0 +1,10 @@
+pub mod Bytes
+pub mod Writes
+pub mod Calls
+pub mod Segments
+pub mod Inductions
+pub mod Changed
+pub mod Told
+pub mod Windows
+pub mod Moved
+pub mod Kept
