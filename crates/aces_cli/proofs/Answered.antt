@@ -1,7 +1,7 @@
 -- What the top call says, from what its command did.
 use Rattle.std.proofs.Common.{◌≡◌, ℕ, ◌⊎◌, inl, inr, List, [], ◌++◌, None, Ok, Err, Result, refl, ap, sym, ◌∙◌, subst, append-nil, arith}
 use Rattle.aces_reports.specs.declared.failure.Done.{Done}
-use Rattle.aces_reports.specs.declared.failure.Done.TheVariants.{Completed, RunFailed}
+use Rattle.aces_reports.specs.declared.failure.Done.TheVariants.{Completed, RunFailed, Negative}
 use Rattle.aces_reports.specs.declared.failure.Failure.{Failure}
 use Rattle.aces_reports.specs.declared.failure.Failure.TheVariants.{Refused, PastLimit, NoRoom, Unread, Unwritten, Unprinted, NoMemory}
 use Rattle.aces_words.specs.declared.policy.Policy.{Policy}
@@ -76,6 +76,13 @@ module _ (Has : Origin → List ℕ → Type 0) (Exceeds : Origin → Type 0) (w
     all = d.all;
     says = subst (Says err_old err_new) (sym d.silent) l;
   }
+  answered (Ok Negative) s q d l p = record {
+    outcome = d.outcome;
+    answer = to_request r d.outcome asks d.answer;
+    ended = d.ended ∙ sym q;
+    all = d.all;
+    says = subst (Says err_old err_new) (sym d.silent) l;
+  }
   answered (Err (Refused name f)) s q d l p = record {
     outcome = refused name.now f;
     answer = to_request r (refused name.now f) asks d.answer;
@@ -108,6 +115,7 @@ module _ (Has : Origin → List ℕ → Type 0) (Exceeds : Origin → Type 0) (w
   pub partly : (e : Result Done Failure) → status_of e ≡ 5 → Does (Answer r Has Exceeds) r old new e → IsPartly Has Exceeds words old new
   partly (Ok Completed) q d = let f : ⊥ = omega (arith, q) in absurd f
   partly (Ok RunFailed) q d = let f : ⊥ = omega (arith, q) in absurd f
+  partly (Ok Negative) q d = let f : ⊥ = omega (arith, q) in absurd f
   partly (Err (Refused name f)) q d = let f : ⊥ = omega (arith, q) in absurd f
   partly (Err (PastLimit which count)) q d = let f : ⊥ = omega (arith, q) in absurd f
   partly (Err (NoRoom memory c needed available)) q d = let f : ⊥ = omega (arith, q) in absurd f
@@ -127,6 +135,7 @@ module _ (Has : Origin → List ℕ → Type 0) (Exceeds : Origin → Type 0) (w
   pub printed_in_part : (e : Result Done Failure) → status_of e ≡ 6 → Does (Answer r Has Exceeds) r old new e → (new.out ≡ old.out) ⊎ IsPartly Has Exceeds words old new
   printed_in_part (Ok Completed) q d = let f : ⊥ = omega (arith, q) in absurd f
   printed_in_part (Ok RunFailed) q d = let f : ⊥ = omega (arith, q) in absurd f
+  printed_in_part (Ok Negative) q d = let f : ⊥ = omega (arith, q) in absurd f
   printed_in_part (Err (Refused name f)) q d = let f : ⊥ = omega (arith, q) in absurd f
   printed_in_part (Err (PastLimit which count)) q d = let f : ⊥ = omega (arith, q) in absurd f
   printed_in_part (Err (NoRoom memory c needed available)) q d = let f : ⊥ = omega (arith, q) in absurd f
@@ -140,6 +149,7 @@ module _ (A : Outcome → Type 0) (words : List (List ℕ)) (r : Request) (asks 
   pub unread : (e : Result Done Failure) → status_of e ≡ 4 → Does A r old new e → Says err_old err_new (line_of e) → TellsUnread words old new err_old err_new
   unread (Ok Completed) q d l = let f : ⊥ = omega (arith, q) in absurd f
   unread (Ok RunFailed) q d l = let f : ⊥ = omega (arith, q) in absurd f
+  unread (Ok Negative) q d l = let f : ⊥ = omega (arith, q) in absurd f
   unread (Err (Refused name f)) q d l = let f : ⊥ = omega (arith, q) in absurd f
   unread (Err (PastLimit which count)) q d l = let f : ⊥ = omega (arith, q) in absurd f
   unread (Err (NoRoom memory c needed available)) q d l = let f : ⊥ = omega (arith, q) in absurd f
@@ -152,6 +162,7 @@ module _ (A : Outcome → Type 0) (words : List (List ℕ)) (r : Request) (asks 
       → TellsUnwritten words old new err_old err_new ⊎ TellsUnprinted old new err_old err_new
   unwritten (Ok Completed) q d l = let f : ⊥ = omega (arith, q) in absurd f
   unwritten (Ok RunFailed) q d l = let f : ⊥ = omega (arith, q) in absurd f
+  unwritten (Ok Negative) q d l = let f : ⊥ = omega (arith, q) in absurd f
   unwritten (Err (Refused name f)) q d l = let f : ⊥ = omega (arith, q) in absurd f
   unwritten (Err (PastLimit which count)) q d l = let f : ⊥ = omega (arith, q) in absurd f
   unwritten (Err (NoRoom memory c needed available)) q d l = let f : ⊥ = omega (arith, q) in absurd f
@@ -171,6 +182,7 @@ module _ (A : Outcome → Type 0) (words : List (List ℕ)) (r : Request) (asks 
   pub out_of_memory : (e : Result Done Failure) → status_of e ≡ 6 → Does A r old new e → Says err_old err_new (line_of e) → TellsOutOfMemory words old new err_old err_new
   out_of_memory (Ok Completed) q d l = let f : ⊥ = omega (arith, q) in absurd f
   out_of_memory (Ok RunFailed) q d l = let f : ⊥ = omega (arith, q) in absurd f
+  out_of_memory (Ok Negative) q d l = let f : ⊥ = omega (arith, q) in absurd f
   out_of_memory (Err (Refused name f)) q d l = let f : ⊥ = omega (arith, q) in absurd f
   out_of_memory (Err (PastLimit which count)) q d l = let f : ⊥ = omega (arith, q) in absurd f
   out_of_memory (Err (NoRoom memory c needed available)) q d l = let f : ⊥ = omega (arith, q) in absurd f
@@ -182,6 +194,7 @@ module _ (A : Outcome → Type 0) (words : List (List ℕ)) (r : Request) (asks 
   pub reads_stay : (e : Result Done Failure) → Does A r old new e → (status_of e ≡ 4) ⊎ (new.read_faults ≡ old.read_faults)
   reads_stay (Ok Completed) d = inr d.all.read_faults
   reads_stay (Ok RunFailed) d = inr d.all.read_faults
+  reads_stay (Ok Negative) d = inr d.all.read_faults
   reads_stay (Err (Refused name f)) d = inr d.read_faults
   reads_stay (Err (PastLimit which count)) d = inr d.read_faults
   reads_stay (Err (NoRoom memory c needed available)) d = inr d.read_faults
@@ -196,6 +209,7 @@ module _ (A : Outcome → Type 0) (words : List (List ℕ)) (r : Request) (asks 
   pub writes_stay : (e : Result Done Failure) → Does A r old new e → (status_of e ≡ 5) ⊎ ((new.write_faults ≡ old.write_faults) × (new.out.faults ≡ old.out.faults))
   writes_stay (Ok Completed) d = inr (d.all.write_faults, d.all.faults)
   writes_stay (Ok RunFailed) d = inr (d.all.write_faults, d.all.faults)
+  writes_stay (Ok Negative) d = inr (d.all.write_faults, d.all.faults)
   writes_stay (Err (Refused name f)) d = inr (writes_of d.quiet)
   writes_stay (Err (PastLimit which count)) d = inr (writes_of d.quiet)
   writes_stay (Err (NoRoom memory c needed available)) d = inr (writes_of d.quiet)

@@ -2,7 +2,7 @@
 use Rattle.std.proofs.Common.{◌≡◌, ℕ, ◌<◌, ◌⊎◌, inl, inr, List, [], ◌∷◌, true, false, Option, Result, Ok, Err, IsTrue, IsNone, refl, ap, sym, ◌∙◌, subst, arith}
 use Rattle.outside.specs.Counts.{Rose, Stayed}
 use Rattle.aces_reports.specs.declared.failure.Done.{Done}
-use Rattle.aces_reports.specs.declared.failure.Done.TheVariants.{Completed, RunFailed}
+use Rattle.aces_reports.specs.declared.failure.Done.TheVariants.{Completed, RunFailed, Negative}
 use Rattle.aces_reports.specs.declared.failure.Failure.{Failure}
 use Rattle.aces_reports.specs.declared.failure.Failure.TheVariants.{Refused, PastLimit, NoRoom, Unread, Unwritten, Unprinted, NoMemory}
 use Rattle.aces_reports.specs.Ends.{status_of}
@@ -62,6 +62,7 @@ module _ (A : Outcome → Type 0) (r : Request) (old new : World) (told : IsTrue
   settles : (e : Result Done Failure) → Does A r old new e → IsSettled A (status_of e) ⊎ (status_of e ≡ 6)
   settles (Ok Completed) d = inl (record { outcome = d.outcome; answer = d.answer; ended = d.ended; plain = is_plain 0 (inl (omega arith)) })
   settles (Ok RunFailed) d = inl (record { outcome = d.outcome; answer = d.answer; ended = d.ended; plain = is_plain 7 (inr (omega arith)) })
+  settles (Ok Negative) d = inl (record { outcome = d.outcome; answer = d.answer; ended = d.ended; plain = is_plain 8 (inr (omega arith)) })
   settles (Err (Refused name f)) d = inl (record { outcome = refused name.now f; answer = d.answer; ended = refl; plain = is_plain 1 (inl (omega arith)) })
   settles (Err (PastLimit which count)) d = inl (record { outcome = past_limit which count; answer = d.answer; ended = refl; plain = is_plain 1 (inl (omega arith)) })
   settles (Err (NoRoom memory c needed available)) d = inl (record { outcome = no_room memory c needed available; answer = d.answer; ended = refl; plain = is_plain 3 (inl (omega arith)) })

@@ -1,7 +1,7 @@
 -- How commands end, by what their steps answered.
-use Rattle.std.proofs.Common.{◌≡◌, ◌≢◌, ℕ, inl, inr, List, [], None, Ok, Err, Result, IsTrue, IsNone, refl, ap, sym, subst, arith}
+use Rattle.std.proofs.Common.{◌≡◌, ◌≢◌, ◌<◌, ℕ, inl, inr, List, [], None, Ok, Err, Result, IsTrue, IsNone, refl, ap, sym, subst, arith}
 use Rattle.aces_reports.specs.declared.failure.Done.{Done}
-use Rattle.aces_reports.specs.declared.failure.Done.TheVariants.{Completed, RunFailed}
+use Rattle.aces_reports.specs.declared.failure.Done.TheVariants.{Completed, RunFailed, Negative}
 use Rattle.aces_reports.specs.declared.failure.Fault.{Fault}
 use Rattle.aces_reports.specs.declared.failure.Fault.TheVariants.{TooLarge}
 use Rattle.aces_reports.specs.declared.failure.Failure.{Failure}
@@ -11,7 +11,7 @@ use Rattle.commands.specs.Known.{Held, IsMissing, IsNamed}
 use Rattle.commands.specs.Outcomes.{Outcome, refused, past_limit, no_room}
 use Rattle.aces_reports.specs.Sinks.{SinkState}
 use Rattle.aces_reports.specs.Ends.{status_of}
-use Rattle.commands.specs.Effects.{World, Does, Quiet, IsCarriedOut, IsRewritten, IsPart, IsPrintedInPart}
+use Rattle.commands.specs.Effects.{World, Does, IsDone, Quiet, IsCarriedOut, IsRewritten, IsPart, IsPrintedInPart}
 use Rattle.commands.specs.Loads.{IsLoadFailure, IsContentFailure, IsRefusal}
 
 -- where nothing was printed, no more than a part was
@@ -114,6 +114,7 @@ pub did_end : (A : Outcome → Type 0) (r : Request) (old new : World) (o : Outc
     → IsCarriedOut old new o → Does A r old new (Ok d)
 did_end A r old new o Completed a s l p = record { outcome = o; answer = a; ended = s; silent = l; all = p }
 did_end A r old new o RunFailed a s l p = record { outcome = o; answer = a; ended = s; silent = l; all = p }
+did_end A r old new o Negative a s l p = record { outcome = o; answer = a; ended = s; silent = l; all = p }
 
 -- a part for some answers is one for others
 part_also : (A B : Outcome → Type 0) → ((o : Outcome) → A o → B o) → (r : Request) (old new : World) → IsPart A r old new → IsPart B r old new
@@ -132,6 +133,7 @@ pub did_also : (A B : Outcome → Type 0) → ((o : Outcome) → A o → B o) �
     → Does A r old new e → Does B r old new e
 did_also A B m r old new (Ok Completed) d = record { outcome = d.outcome; answer = m d.outcome d.answer; ended = d.ended; silent = d.silent; all = d.all }
 did_also A B m r old new (Ok RunFailed) d = record { outcome = d.outcome; answer = m d.outcome d.answer; ended = d.ended; silent = d.silent; all = d.all }
+did_also A B m r old new (Ok Negative) d = record { outcome = d.outcome; answer = m d.outcome d.answer; ended = d.ended; silent = d.silent; all = d.all }
 did_also A B m r old new (Err (Refused name f)) d = record { answer = m (refused name.now f) d.answer; quiet = d.quiet; read_faults = d.read_faults }
 did_also A B m r old new (Err (PastLimit which count)) d = record { answer = m (past_limit which count) d.answer; quiet = d.quiet; read_faults = d.read_faults }
 did_also A B m r old new (Err (NoRoom memory c needed available)) d = record { answer = m (no_room memory c needed available) d.answer; quiet = d.quiet; read_faults = d.read_faults }
@@ -152,11 +154,16 @@ did_then A r old held reads writes out e h p q d =
 
 -- where no answer with another status than 0 writes anything, a command that ends with a status other than 0 and 5 leaves what every name holds
 module _ (A : Outcome → Type 0) (nothing : (o : Outcome) → A o → o.status ≢ 0 → o.written ≡ None) (r : Request) (old new : World) where
+  -- ended with such a status
+  unwritten_by : (s : ℕ) → 0 < s → IsDone A r old new s → new.held ≡ old.held
+  unwritten_by s some d =
+      let q = d.ended in
+      subst (λ w. IsRewritten old.told w old.held new.held) (nothing d.outcome d.answer (λ z. let f : ⊥ = omega (arith, z, q, some) in f)) d.all.held
+
   pub held_stays : (e : Result Done Failure) → Does A r old new e → status_of e ≢ 0 → status_of e ≢ 5 → new.held ≡ old.held
   held_stays (Ok Completed) d n m = absurd (n refl)
-  held_stays (Ok RunFailed) d n m =
-      let q = d.ended in
-      subst (λ w. IsRewritten old.told w old.held new.held) (nothing d.outcome d.answer (λ z. let f : ⊥ = omega (arith, z, q) in f)) d.all.held
+  held_stays (Ok RunFailed) d n m = unwritten_by 7 (omega arith) d
+  held_stays (Ok Negative) d n m = unwritten_by 8 (omega arith) d
   held_stays (Err (Refused name f)) d n m = d.quiet.held
   held_stays (Err (PastLimit which count)) d n m = d.quiet.held
   held_stays (Err (NoRoom memory c needed available)) d n m = d.quiet.held
