@@ -5,7 +5,7 @@ use Rattle.aces_reports.specs.declared.failure.Done.TheVariants.{Completed, RunF
 use Rattle.aces_reports.specs.declared.failure.Failure.{Failure}
 use Rattle.aces_reports.specs.declared.failure.Failure.TheVariants.{Refused, PastLimit, NoRoom, Unread, Unwritten, Unprinted, NoMemory}
 use Rattle.aces_words.specs.declared.policy.Policy.{Policy}
-use Rattle.aces_words.specs.Requests.{Request, Run, Bin, Compile, Check, Source, Listing, Asks, IsUsage, Origin}
+use Rattle.aces_words.specs.Requests.{Request, Run, Bin, Compile, Check, Source, Listing, Stack, Asks, IsUsage, Origin}
 use Rattle.aces_reports.specs.FaultLines.{usage_line}
 use Rattle.aces_reports.specs.Sinks.{SinkState, Says}
 use Rattle.aces_reports.specs.Ends.{status_of, line_of}
@@ -13,7 +13,7 @@ use Rattle.commands.specs.Outcomes.{Outcome, refused, past_limit, no_room, usage
 use Rattle.commands.specs.Effects.{World, Does, Quiet, IsCarriedOut, IsPart, IsPrintedInPart}
 use Rattle.commands.proofs.Answering.{run_also, bin_also}
 use Rattle.firmware_commands.proofs.Answering.{check_also, source_also}
-use Rattle.aces_cli.specs.Answer.{AnswerToList, AnswerToCompile, firmware_large, board_large, all_read, Answer, no_request, to_request}
+use Rattle.aces_cli.specs.Answer.{AnswerToList, AnswerToStack, AnswerToCompile, firmware_large, board_large, all_read, Answer, no_request, to_request}
 use Rattle.aces_cli.specs.Endings.{IsPlain, IsAnswered, IsPartly, AsksForSource, TellsUnread, TellsUnwritten, TellsUnprinted, TellsOutOfMemory}
 
 -- answers from what is known are answers from what follows of it
@@ -23,6 +23,11 @@ module _ (Has Had : Origin → List ℕ → Type 0) (Exceeds Exceeded : Origin �
   list_also firmware board policy o (firmware_large e) = firmware_large (large _ e)
   list_also firmware board policy o (board_large bytes h e) = board_large bytes (also _ bytes h) (large _ e)
   list_also firmware board policy o (all_read bytes text p h k a) = all_read bytes text p (also _ bytes h) (also _ text k) a
+
+  stack_also : (firmware board : List ℕ) (policy : Policy) (o : Outcome) → AnswerToStack firmware board policy Has Exceeds o → AnswerToStack firmware board policy Had Exceeded o
+  stack_also firmware board policy o (firmware_large e) = firmware_large (large _ e)
+  stack_also firmware board policy o (board_large bytes h e) = board_large bytes (also _ bytes h) (large _ e)
+  stack_also firmware board policy o (all_read bytes text p h k a) = all_read bytes text p (also _ bytes h) (also _ text k) a
 
   compile_also : (firmware board : List ℕ) (policy : Policy) (image : List ℕ) (o : Outcome)
       → AnswerToCompile firmware board policy image Has Exceeds o → AnswerToCompile firmware board policy image Had Exceeded o
@@ -37,6 +42,7 @@ module _ (Has Had : Origin → List ℕ → Type 0) (Exceeds Exceeded : Origin �
   answer_also (Check firmware) o a = check_also Has Had Exceeds Exceeded also large firmware o a
   answer_also (Source firmware policy tape steps) o a = source_also Has Had Exceeds Exceeded also large firmware policy tape steps o a
   answer_also (Listing firmware board policy) o a = list_also firmware board policy o a
+  answer_also (Stack firmware board policy) o a = stack_also firmware board policy o a
 
 -- nothing is printed and written, and no fault rose
 nothing_more : (old new : World) (o : Outcome) → Quiet old new → new.read_faults ≡ old.read_faults → o.printed ≡ [] → o.written ≡ None → IsCarriedOut old new o
@@ -131,6 +137,7 @@ module _ (Has : Origin → List ℕ → Type 0) (Exceeds : Origin → Type 0) (w
   in_part (Check firmware) h = inl h
   in_part (Source firmware policy tape steps) h = elim h [ inl e ↦ inl e | inr p ↦ inr (part_of p) ]
   in_part (Listing firmware board policy) h = inl h
+  in_part (Stack firmware board policy) h = inl h
 
   pub printed_in_part : (e : Result Done Failure) → status_of e ≡ 6 → Does (Answer r Has Exceeds) r old new e → (new.out ≡ old.out) ⊎ IsPartly Has Exceeds words old new
   printed_in_part (Ok Completed) q d = let f : ⊥ = omega (arith, q) in absurd f
@@ -178,6 +185,7 @@ module _ (A : Outcome → Type 0) (words : List (List ℕ)) (r : Request) (asks 
   quiet_unless (Check firmware) a h = inl h
   quiet_unless (Source firmware policy tape steps) a h = inr (record { firmware = firmware; policy = policy; tape = tape; steps = steps; asks = a })
   quiet_unless (Listing firmware board policy) a h = inl h
+  quiet_unless (Stack firmware board policy) a h = inl h
 
   pub out_of_memory : (e : Result Done Failure) → status_of e ≡ 6 → Does A r old new e → Says err_old err_new (line_of e) → TellsOutOfMemory words old new err_old err_new
   out_of_memory (Ok Completed) q d l = let f : ⊥ = omega (arith, q) in absurd f

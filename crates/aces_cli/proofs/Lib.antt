@@ -4,4 +4,5 @@ mod Kept
 mod Runnable
 mod SourceRunnable
 mod Good
+mod Followed
 mod Settled

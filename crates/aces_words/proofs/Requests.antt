@@ -4,7 +4,7 @@ use Rattle.std.proofs.lemmas.Fmt.{decimal_injective}
 use Rattle.std.proofs.Common.{◌≡◌, ℕ, ◌<◌, ◌^◌, ◌+◌, ◌*◌, List, [], ◌∷◌, length, refl, ap, sym, ◌∙◌, arith}
 use Rattle.aces_words.specs.declared.policy.Policy.{Policy}
 use Rattle.aces_words.specs.declared.policy.Policy.TheVariants.{Filename, Optimized, Peripheral}
-use Rattle.aces_words.specs.Requests.{Request, Run, Bin, Compile, Check, Source, Listing, policy_word, words_of, Asks}
+use Rattle.aces_words.specs.Requests.{Request, Run, Bin, Compile, Check, Source, Listing, Stack, policy_word, words_of, Asks}
 
 policies_are_one : (p q : Policy) → policy_word p ≡ policy_word q → p ≡ q
 policies_are_one Filename Filename h = refl
@@ -29,6 +29,7 @@ number_of (Compile firmware board policy image) = 74
 number_of (Check firmware) = 51
 number_of (Source firmware policy tape steps) = 64
 number_of (Listing firmware board policy) = 43
+number_of (Stack firmware board policy) = 53
 
 has_number : (r : Request) → shape (words_of r) ≡ number_of r
 has_number (Run image tape steps) = refl
@@ -37,6 +38,7 @@ has_number (Compile firmware board policy image) = refl
 has_number (Check firmware) = refl
 has_number (Source firmware policy tape steps) = refl
 has_number (Listing firmware board policy) = refl
+has_number (Stack firmware board policy) = refl
 
 steps_are_one : (m n : ℕ) → m < 2 ^ 32 → n < 2 ^ 32 → decimal m ≡ decimal n → m ≡ n
 steps_are_one m n h k e = decimal_injective m n (omega (arith, h)) (omega (arith, k)) e
@@ -82,36 +84,55 @@ by_number (Listing a b p) (Listing c d o) q ws h k =
     let u : policy_word p ≡ policy_word o = cc in
     let z : p ≡ o = policies_are_one p o u in
     cc
+by_number (Stack a b p) (Stack c d o) q ws h k =
+    let e : words_of (Stack a b p) ≡ words_of (Stack c d o) = h.spelled ∙ sym k.spelled in
+    let x : a ≡ c = cc in
+    let y : b ≡ d = cc in
+    let u : policy_word p ≡ policy_word o = cc in
+    let z : p ≡ o = policies_are_one p o u in
+    cc
 by_number (Run a b n) (Bin c d) q ws h k = let e : 33 ≡ 32 = q in absurd (omega (arith, e))
 by_number (Run a b n) (Compile c d o j) q ws h k = let e : 33 ≡ 74 = q in absurd (omega (arith, e))
 by_number (Run a b n) (Check c) q ws h k = let e : 33 ≡ 51 = q in absurd (omega (arith, e))
 by_number (Run a b n) (Source c o d m) q ws h k = let e : 33 ≡ 64 = q in absurd (omega (arith, e))
 by_number (Run a b n) (Listing c d o) q ws h k = let e : 33 ≡ 43 = q in absurd (omega (arith, e))
+by_number (Run a b n) (Stack c d o) q ws h k = let e : 33 ≡ 53 = q in absurd (omega (arith, e))
 by_number (Bin a b) (Run c d m) q ws h k = let e : 32 ≡ 33 = q in absurd (omega (arith, e))
 by_number (Bin a b) (Compile c d o j) q ws h k = let e : 32 ≡ 74 = q in absurd (omega (arith, e))
 by_number (Bin a b) (Check c) q ws h k = let e : 32 ≡ 51 = q in absurd (omega (arith, e))
 by_number (Bin a b) (Source c o d m) q ws h k = let e : 32 ≡ 64 = q in absurd (omega (arith, e))
 by_number (Bin a b) (Listing c d o) q ws h k = let e : 32 ≡ 43 = q in absurd (omega (arith, e))
+by_number (Bin a b) (Stack c d o) q ws h k = let e : 32 ≡ 53 = q in absurd (omega (arith, e))
 by_number (Compile a b p i) (Run c d m) q ws h k = let e : 74 ≡ 33 = q in absurd (omega (arith, e))
 by_number (Compile a b p i) (Bin c d) q ws h k = let e : 74 ≡ 32 = q in absurd (omega (arith, e))
 by_number (Compile a b p i) (Check c) q ws h k = let e : 74 ≡ 51 = q in absurd (omega (arith, e))
 by_number (Compile a b p i) (Source c o d m) q ws h k = let e : 74 ≡ 64 = q in absurd (omega (arith, e))
 by_number (Compile a b p i) (Listing c d o) q ws h k = let e : 74 ≡ 43 = q in absurd (omega (arith, e))
+by_number (Compile a b p i) (Stack c d o) q ws h k = let e : 74 ≡ 53 = q in absurd (omega (arith, e))
 by_number (Check a) (Run c d m) q ws h k = let e : 51 ≡ 33 = q in absurd (omega (arith, e))
 by_number (Check a) (Bin c d) q ws h k = let e : 51 ≡ 32 = q in absurd (omega (arith, e))
 by_number (Check a) (Compile c d o j) q ws h k = let e : 51 ≡ 74 = q in absurd (omega (arith, e))
 by_number (Check a) (Source c o d m) q ws h k = let e : 51 ≡ 64 = q in absurd (omega (arith, e))
 by_number (Check a) (Listing c d o) q ws h k = let e : 51 ≡ 43 = q in absurd (omega (arith, e))
+by_number (Check a) (Stack c d o) q ws h k = let e : 51 ≡ 53 = q in absurd (omega (arith, e))
 by_number (Source a p b n) (Run c d m) q ws h k = let e : 64 ≡ 33 = q in absurd (omega (arith, e))
 by_number (Source a p b n) (Bin c d) q ws h k = let e : 64 ≡ 32 = q in absurd (omega (arith, e))
 by_number (Source a p b n) (Compile c d o j) q ws h k = let e : 64 ≡ 74 = q in absurd (omega (arith, e))
 by_number (Source a p b n) (Check c) q ws h k = let e : 64 ≡ 51 = q in absurd (omega (arith, e))
 by_number (Source a p b n) (Listing c d o) q ws h k = let e : 64 ≡ 43 = q in absurd (omega (arith, e))
+by_number (Source a p b n) (Stack c d o) q ws h k = let e : 64 ≡ 53 = q in absurd (omega (arith, e))
 by_number (Listing a b p) (Run c d m) q ws h k = let e : 43 ≡ 33 = q in absurd (omega (arith, e))
 by_number (Listing a b p) (Bin c d) q ws h k = let e : 43 ≡ 32 = q in absurd (omega (arith, e))
 by_number (Listing a b p) (Compile c d o j) q ws h k = let e : 43 ≡ 74 = q in absurd (omega (arith, e))
 by_number (Listing a b p) (Check c) q ws h k = let e : 43 ≡ 51 = q in absurd (omega (arith, e))
 by_number (Listing a b p) (Source c o d m) q ws h k = let e : 43 ≡ 64 = q in absurd (omega (arith, e))
+by_number (Listing a b p) (Stack c d o) q ws h k = let e : 43 ≡ 53 = q in absurd (omega (arith, e))
+by_number (Stack a b p) (Run c d m) q ws h k = let e : 53 ≡ 33 = q in absurd (omega (arith, e))
+by_number (Stack a b p) (Bin c d) q ws h k = let e : 53 ≡ 32 = q in absurd (omega (arith, e))
+by_number (Stack a b p) (Compile c d o j) q ws h k = let e : 53 ≡ 74 = q in absurd (omega (arith, e))
+by_number (Stack a b p) (Check c) q ws h k = let e : 53 ≡ 51 = q in absurd (omega (arith, e))
+by_number (Stack a b p) (Source c o d m) q ws h k = let e : 53 ≡ 64 = q in absurd (omega (arith, e))
+by_number (Stack a b p) (Listing c d o) q ws h k = let e : 53 ≡ 43 = q in absurd (omega (arith, e))
 
 pub requests_are_one : (words : List (List ℕ)) (r s : Request) → Asks words r → Asks words s → r ≡ s
 requests_are_one words r s h k = by_number r s (sym (has_number r) ∙ (ap shape (h.spelled ∙ sym k.spelled) ∙ has_number s)) words h k

@@ -2,7 +2,7 @@
 
 ghost use Rattle.std.specs.Prelude.{◌≡◌, ◌↔◌, ◌^◌, ◌<◌, ℕ, List, map, string_bytes, IsTrue, IfSome, IfNone};
 ghost use Rattle.std.specs.Fmt.{decimal};
-ghost use Rattle.aces_words.specs.Requests.{Run, Bin, Compile, Check, Source, Listing, Asks, IsUsage};
+ghost use Rattle.aces_words.specs.Requests.{Run, Bin, Compile, Check, Source, Listing, Stack, Asks, IsUsage};
 ghost use Rattle.aces_words.specs.declared.policy.Policy.{Policy as ThePolicy};
 ghost use Rattle.aces_words.specs.Commands.{request_of};
 
@@ -46,6 +46,12 @@ pub enum Command<'a> {
         board: &'a str,
         policy: Policy,
     },
+    /// Bounds what the calls of a firmware take of a board's stack, the compartments being those of a policy.
+    Stack {
+        firmware: &'a str,
+        board: &'a str,
+        policy: Policy,
+    },
 }
 
 impl<'a> Command<'a> {
@@ -69,7 +75,10 @@ impl<'a> Command<'a> {
         if let Some(command) = source_of(words) {
             return Some(command);
         }
-        list_of(words)
+        if let Some(command) = list_of(words) {
+            return Some(command);
+        }
+        stack_of(words)
     }
 }
 
@@ -166,6 +175,24 @@ fn list_of(words: &[String]) -> Option<Command<'_>>
         [name, firmware, board, policy] if name.as_str() == "list" => {
             let policy = Policy::of_word(policy.as_str())?;
             Some(Command::List {
+                firmware: firmware.as_str(),
+                board: board.as_str(),
+                policy,
+            })
+        }
+        _ => None,
+    }
+}
+
+/// `stack FIRMWARE BOARD POLICY`, if the words are of that form.
+fn stack_of(words: &[String]) -> Option<Command<'_>>
+    ensures command { IfSome result (λ c. Asks (map string_bytes words.now) (request_of c)) }
+    ensures none { IfNone result ((firmware board : List ℕ) (policy : ThePolicy) → Asks (map string_bytes words.now) (Stack firmware board policy) → ⊥) }
+{
+    match words {
+        [name, firmware, board, policy] if name.as_str() == "stack" => {
+            let policy = Policy::of_word(policy.as_str())?;
+            Some(Command::Stack {
                 firmware: firmware.as_str(),
                 board: board.as_str(),
                 policy,

@@ -6,7 +6,7 @@ use Rattle.aces_reports.specs.declared.failure.Fault.{Fault}
 use Rattle.aces_reports.specs.declared.failure.Fault.TheVariants.{TooLarge}
 use Rattle.aces_reports.specs.declared.failure.Failure.{Failure}
 use Rattle.aces_reports.specs.declared.failure.Failure.TheVariants.{Refused, PastLimit, NoRoom, Unread, Unwritten, Unprinted, NoMemory}
-use Rattle.aces_words.specs.Requests.{Request, Run, Bin, Compile, Check, Source, Listing, Origin, origins}
+use Rattle.aces_words.specs.Requests.{Request, Run, Bin, Compile, Check, Source, Listing, Stack, Origin, origins}
 use Rattle.commands.specs.Known.{Held, IsMissing, IsNamed}
 use Rattle.commands.specs.Outcomes.{Outcome, refused, past_limit, no_room}
 use Rattle.aces_reports.specs.Sinks.{SinkState}
@@ -22,6 +22,7 @@ nothing_printed A (Compile firmware board policy image) old new h = h
 nothing_printed A (Check firmware) old new h = h
 nothing_printed A (Source firmware policy tape steps) old new h = inl h
 nothing_printed A (Listing firmware board policy) old new h = h
+nothing_printed A (Stack firmware board policy) old new h = h
 
 -- memory ran out before anything was printed or written
 pub no_memory : (A : Outcome → Type 0) (r : Request) (old new : World) → Quiet old new → new.read_faults ≡ old.read_faults → Does A r old new (Err NoMemory)
@@ -127,6 +128,7 @@ printed_also A B m (Compile firmware board policy image) old new h = h
 printed_also A B m (Check firmware) old new h = h
 printed_also A B m (Source firmware policy tape steps) old new h = elim h [ inl e ↦ inl e | inr p ↦ inr (part_also A B m (Source firmware policy tape steps) old new p) ]
 printed_also A B m (Listing firmware board policy) old new h = h
+printed_also A B m (Stack firmware board policy) old new h = h
 
 -- what did for some answers did for others
 pub did_also : (A B : Outcome → Type 0) → ((o : Outcome) → A o → B o) → (r : Request) (old new : World) (e : Result Done Failure)

@@ -10,7 +10,7 @@ use std::marker::Model;
 
 /// The bytes of printed lines, as they grow.
 #[derive(Drop)]
-pub(crate) struct Text {
+pub struct Text {
     bytes: Vec<u8>,
 }
 
@@ -36,7 +36,7 @@ fn digit(value: u8) -> u8
 
 impl Text {
     /// A text without bytes. Takes no memory.
-    pub(crate) fn new(alloc: Global) -> Text
+    pub fn new(alloc: Global) -> Text
         ensures { result ≡ [] }
     {
         Text {
@@ -45,7 +45,7 @@ impl Text {
     }
 
     /// The bytes. Takes no memory.
-    pub(crate) fn into_bytes(self) -> Vec<u8>
+    pub fn into_bytes(self) -> Vec<u8>
         ensures { result.items ≡ self }
     {
         let Text { bytes } = self;
@@ -53,7 +53,11 @@ impl Text {
     }
 
     /// Puts these bytes behind those that are there.
-    pub(crate) fn put(&mut self, bytes: &[u8]) -> Result<(), AllocError>
+    ///
+    /// # Errors
+    ///
+    /// There is no memory for them.
+    pub fn put(&mut self, bytes: &[u8]) -> Result<(), AllocError>
         ensures { OnOk result (self.new ≡ self.old ++ bytes.now) }
     {
         self.bytes.extend_from_slice(bytes)?;
@@ -68,8 +72,12 @@ impl Text {
     }
 
     /// Puts the decimal digits of a number behind the bytes that are there.
+    ///
+    /// # Errors
+    ///
+    /// There is no memory for them.
     #[tactic(auto, using(std::proofs::lemmas::Fmt::decimal_digit, lines::proofs::Digits::with_last))]
-    pub(crate) fn put_decimal(&mut self, number: u64) -> Result<(), AllocError>
+    pub fn put_decimal(&mut self, number: u64) -> Result<(), AllocError>
         ensures { OnOk result (self.new ≡ self.old ++ decimal number) }
     {
         if number < 10 {

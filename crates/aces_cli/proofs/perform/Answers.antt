@@ -18,3 +18,6 @@ returns-in-Source g c = rw c.in-Source.is c.source.ensures
 
 pub returns-in-List : goal.returns-in-List
 returns-in-List g c = rw c.in-List.is c.list.ensures
+
+pub returns-in-Stack : goal.returns-in-Stack
+returns-in-Stack g c = rw c.in-Stack.is c.stack.ensures
