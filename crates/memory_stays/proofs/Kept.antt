@@ -1,7 +1,7 @@
 -- What stays in each run, and who accesses peripherals, from the induction over its acts.
-use Rattle.std.proofs.Common.{◌≡◌, ◌≢◌, ℕ, ◌+◌, ◌-◌, ◌*◌, ◌<◌, ◌≤◌, ◌⊎◌, inl, inr, ⊎_elim, Bool, true, false, not, ◌&&◌, List, [], ◌∷◌, nat_eq, Option, Some, None, refl, sym, ap, ap₂, ◌∙◌, subst, arith}
+use Rattle.std.proofs.Common.{◌≡◌, ◌≢◌, ℕ, ◌+◌, ◌-◌, ◌*◌, ◌<◌, ◌⊎◌, inl, inr, ⊎_elim, Bool, true, false, List, [], ◌∷◌, nat_eq, Option, Some, None, refl, sym, ap, ◌∙◌, subst, arith}
 use Rattle.std.specs.Prelude.{if◌then◌else◌}
-use Rattle.std.proofs.lemmas.Bool.{false≢true, cases_lt}
+use Rattle.std.proofs.lemmas.Bool.{false≢true}
 use Rattle.std.proofs.lemmas.Bool.Decides.{nat_tests}
 use Rattle.words.specs.Bytes.{read}
 use Rattle.mpu_model.specs.declared.region.Region.{Region}
@@ -15,32 +15,33 @@ use Rattle.device_model.specs.declared.image.Image.{Image}
 use Rattle.mem_bus.specs.Places.{InRam, InFlash, InWindow, place, choose}
 use Rattle.mem_bus.proofs.Offsets.{in_ram, in_flash}
 use Rattle.events.specs.declared.event.Event.{Event}
-use Rattle.armv7m.specs.State.{State, Touched, Turn, by_mpu, is_unprivileged}
+use Rattle.armv7m.specs.State.{State, Touched, by_mpu}
 use Rattle.armv7m.specs.Step.{turn, event}
 use Rattle.resets.specs.Reset.{EachRun}
 use Rattle.armv7m.specs.Exceptions.{vector_offset, mem_manage, supervisor_call}
 use Rattle.armv7m.specs.Confinement.{AnyOf, IsVectorRead, EventsAreListed}
 use Rattle.armv7m.specs.ThreadStep.{IsReached}
-use Rattle.armv7m.proofs.Runs.{turn_ended}
 use Rattle.common_laws.specs.Lists.{Each}
+use Rattle.common_laws.proofs.Lists.{each_to}
 use Rattle.monitor.specs.declared.tables.Tables.{Tables}
-use Rattle.monitor.specs.Records.{eighth}
 use Rattle.monitor.specs.Placed.{Placed}
 use Rattle.monitor.specs.Block.{Block, first_block}
 use Rattle.monitor.specs.BlockWords.{current}
 use Rattle.monitor.specs.Invariant.{InvariantHolds}
-use Rattle.monitor.specs.Reach.{running, InOpenStack}
+use Rattle.monitor.specs.Reach.{AllBytes, running, InOpenStack}
 use Rattle.monitor.specs.MonitorLaw.{MonitorLaw}
 use Rattle.monitor.specs.Starts.{Starts}
 use Rattle.monitor.specs.Confined.{StartUp, HasStarted, later}
-use Rattle.confine.specs.Reaches.{Reaches}
-use Rattle.memory_stays.specs.Acts.{IsWritable, MayChange, InSlot, BelowTop, InLoan, InResult, Acts}
-use Rattle.memory_stays.specs.Stays.{IsClosedTo, MemoryStays, DataStays, DataChangesByItsWriters, OwnDataStays, ClosedStackStays, IsOwnAccess, KeepsMemory}
-use Rattle.memory_stays.proofs.Segments.{ActLaws}
-use Rattle.memory_stays.proofs.Inductions.{Track, Thread, Inside, Ended, plain_at, act_holds, stays_or, memory_stays, works_in}
-use Rattle.memory_stays.proofs.Segments.{segment}
-use Rattle.memory_stays.proofs.Moved.{next_changes, next_data}
-use Rattle.memory_stays.proofs.Changed.{stack_some, changed_kind, slots_off, bounded, stack_outside}
+use Rattle.confine.specs.Reaches.{IsRead, Reaches}
+use Rattle.thread_moves.specs.WhoRuns.{WhoRuns, WhoRunsComesBack}
+use Rattle.thread_moves.proofs.Segments.{segment, user}
+use Rattle.thread_moves.proofs.Inductions.{holds_at as run_holds}
+use Rattle.memory_stays.specs.Acts.{IsWritable, MayChange, InSlot, BelowTop, InLoan, InResult, MayRead, ReadsSlot, ReadsStack, ReadsFlash, Acts}
+use Rattle.memory_stays.specs.Stays.{IsClosedTo, MemoryStays, DataStays, DataChangesByItsWriters, OwnDataStays, ClosedStackStays, ActsReadTheirOwn, IsOwnAccess, KeepsMemory}
+use Rattle.memory_stays.proofs.ActChanges.{ActLaws, next_changes, next_data}
+use Rattle.memory_stays.proofs.Rests.{stays_or, memory_stays}
+use Rattle.memory_stays.proofs.KeptFrames.{frames_are_kept}
+use Rattle.memory_stays.proofs.Changed.{changed_kind, slots_off, bounded, stack_outside}
 use Rattle.memory_stays.proofs.Told.{turn_tells}
 use Rattle.memory_stays.proofs.Windows.{high, read_by_slot}
 
@@ -54,18 +55,15 @@ not_both : (P : Type 0) (o : Option Event) (e : Event) → o ≡ None → o ≡ 
 not_both P o e n s = absurd (let z : None ≡ Some e = sym n ∙ s in cc)
 
 module _ (laws : ActLaws) (units : AccessLaws) (i : Image) (t : Tables) (p : Placed i t) (stub : ℕ) (law : MonitorLaw i t stub) (first : State)
-    (begins : StartUp i t first) (m : Block) (begun : InvariantHolds i t m (later i t first begins.count)) where
+    (begins : StartUp i t first) (m : Block) (begun : InvariantHolds i t m (later i t first begins.count)) (who : WhoRuns i t first) where
   abbrev at : ℕ → State
   at n = later i t first n
 
-  wide : 32 ≤ eighth t
-  wide = (stack_some i t p).2
-
   holds_at : (n : ℕ) → Acts i t first n → (b : Block) × InvariantHolds i t b (at n)
-  holds_at n x = act_holds laws i t p wide stub law first begins m begun n x
+  holds_at n x = run_holds laws.runs i t p stub law first begins m begun n x.started x.thread
 
   all_stays : MemoryStays i t first
-  all_stays = memory_stays laws i t p wide stub law first begins m begun
+  all_stays = memory_stays laws i t p stub law first begins m begun
 
   -- ---- data and stack
 
@@ -76,7 +74,7 @@ module _ (laws : ActLaws) (units : AccessLaws) (i : Image) (t : Tables) (p : Pla
 
   changes : DataChangesByItsWriters i t first
   changes from to a r u le out off differs = ⊎_elim (λ e. absurd (differs e)) (λ x. let h = holds_at x.0 x.3 in
-      ⊎_elim (λ f. (x.0, x.1, x.2, x.3, f)) (λ f. absurd (off f)) (changed_kind i t p (at x.0) h.0 h.1 a x.4)) (stays_or laws i t p wide stub law first begins m begun from to a r u le out)
+      ⊎_elim (λ f. (x.0, x.1, x.2, x.3, f)) (λ f. absurd (off f)) (changed_kind i t p (at x.0) h.0 h.1 a x.4)) (stays_or laws i t p stub law first begins m begun from to a r u le out)
 
   own_stays : OwnDataStays i t first
   own_stays c from to a r u le out off others away = data_stays from to a r u le out off (λ k lo hi x f. others (current i t (at k).ram) (away k lo hi x) f)
@@ -98,9 +96,6 @@ module _ (laws : ActLaws) (units : AccessLaws) (i : Image) (t : Tables) (p : Pla
   module _ (n : ℕ) (e : Event) (acts : Acts i t first n) (told : event i (at n) ≡ Some e) (block : Block) (inv : InvariantHolds i t block (at n)) where
     reach : Reaches i t (at n)
     reach = laws.reach i t block (at n) p inv
-
-    user : is_unprivileged (at n).protection ≡ true
-    user = ap₂ (λ (a b : Bool). not a && b) inv.inv.thread inv.inv.unprivileged
 
     monitor_there : i.monitor ≢ 0
     monitor_there z = let x = p.block_inside.0 in let y = p.rules.ram_lowest in let q = p.is_monitor in omega (arith, x, y, q, z)
@@ -182,36 +177,59 @@ module _ (laws : ActLaws) (units : AccessLaws) (i : Image) (t : Tables) (p : Pla
     pick P f (x ∷ xs) h (inr a) = pick P f xs h.1 a
 
     by_kind : (b : Bool) → e.write ≡ b → AnyOf There (choose b (turn by_mpu i (at n)).stores (turn by_mpu i (at n)).loads) → Own n e
-    by_kind true q a = pick (IsReached i (at n).protection.mpu Write) stored (turn by_mpu i (at n)).stores (laws.accesses i (at n) user inv.fits.core.sp_aligned).stores a
-    by_kind false q a = pick (λ x. IsReached i (at n).protection.mpu Read x ⊎ IsVectorRead i x) (λ x w y. loaded x q w y) (turn by_mpu i (at n)).loads (laws.accesses i (at n) user inv.fits.core.sp_aligned).loads a
+    by_kind true q a = pick (IsReached i (at n).protection.mpu Write) stored (turn by_mpu i (at n)).stores (laws.accesses i (at n) (user laws.runs i t p stub law block (at n) inv) inv.fits.core.sp_aligned).stores a
+    by_kind false q a = pick (λ x. IsReached i (at n).protection.mpu Read x ⊎ IsVectorRead i x) (λ x w y. loaded x q w y) (turn by_mpu i (at n)).loads (laws.accesses i (at n) (user laws.runs i t p stub law block (at n) inv) inv.fits.core.sp_aligned).loads a
 
     own : Own n e
     own = by_kind e.write refl (units.events by_mpu i (at n) e told)
 
   -- only an act has an event
   event_acts : (n : ℕ) (e : Event) → HasStarted i t first n → event i (at n) ≡ Some e → Acts i t first n
-  event_acts n e started told = by (plain_at laws i t p wide stub law first begins m begun n started)
+  event_acts n e started told = by (at n).protection.handler refl
     where
-      by : Track laws i t p wide stub law first (λ n. Unit {0}) (λ a n m h g lt e f. tt) n → Acts i t first n
-      by (Thread b h f) = record { started = started; thread = h.inv.thread }
-      by (Inside a b h g lt l f) = not_both (Acts i t first n) (event i (at n)) e (works_in laws i t p wide stub law first a n b g lt l).quiet told
-      by (Ended a b h g lt q x ended f) = not_both (Acts i t first n) (event i (at n)) e (ap (λ (y : Turn). y.event) (turn_ended by_mpu i (at n) x ended.ending)) told
+      by : (b : Bool) → (at n).protection.handler ≡ b → Acts i t first n
+      by true hd = not_both (Acts i t first n) (event i (at n)) e (who.quiet n started hd) told
+      by false th = record { started = started; thread = th }
 
-  pub keeps : KeepsMemory i t first
-  keeps = record {
-    acts_change = λ a n o x y. let h = holds_at a x in next_changes laws i t p wide stub law first a n h.0 h.1 y (segment laws i t p wide stub law h.0 (at a) h.1) o;
-    own_steps = λ a n o x y. let h = holds_at a x in next_data laws i t p wide stub law first a n h.0 h.1 y (segment laws i t p wide stub law h.0 (at a) h.1) o;
+  -- ---- loads
+
+  may_read : (s : State) (a : ℕ) → IsRead i t s a → MayRead i t s a
+  may_read s a (inl f) = ReadsSlot f
+  may_read s a (inr (inl f)) = ReadsStack f
+  may_read s a (inr (inr f)) = ReadsFlash f.0 f.1
+
+  vector_read : (s : State) (n : ℕ) → n < 16 → (x : Touched) → x ≡ record { width = 4; address = i.flash_base + vector_offset n } → AllBytes (MayRead i t s) x
+  vector_read s n few x e k lt =
+      let width : x.width ≡ 4 = ap (λ (y : Touched). y.width) e in
+      let is : x.address ≡ i.flash_base + 4 * n = ap (λ (y : Touched). y.address) e in
+      ReadsFlash (omega (arith, is)) (omega (arith, is, width, lt, few))
+
+  reads : ActsReadTheirOwn i t first
+  reads closed n x =
+      let h = holds_at n x in
+      let r = laws.reach i t h.0 (at n) p h.1 in
+      each_to (λ x. IsReached i (at n).protection.mpu Read x ⊎ IsVectorRead i x) (AllBytes (MayRead i t (at n))) (turn by_mpu i (at n)).loads
+      (λ y z. ⊎_elim (λ q k lt. may_read (at n) (y.address + k) (r.loads closed (y.address + k) (q.permitted k lt)))
+      (λ q. ⊎_elim (λ e. vector_read (at n) mem_manage (omega arith) y e) (λ e. vector_read (at n) supervisor_call (omega arith) y e) q) z)
+      (laws.accesses i (at n) (user laws.runs i t p stub law h.0 (at n) h.1) h.1.fits.core.sp_aligned).loads
+
+  pub keeps : WhoRunsComesBack → KeepsMemory i t first
+  keeps back = record {
+    acts_change = λ a n o x y. let h = holds_at a x in next_changes laws i t p stub law first a n h.0 h.1 y (segment laws.runs i t p stub law h.0 (at a) h.1) o;
+    own_steps = λ a n o x y. let h = holds_at a x in next_data laws i t p stub law first a n h.0 h.1 y (segment laws.runs i t p stub law h.0 (at a) h.1) o;
     stays = all_stays;
     data_stays = data_stays;
     changes = changes;
     own_stays = own_stays;
     stack_stays = stack_stays;
+    frames = frames_are_kept i t p first who back stack_stays;
+    reads = reads;
     bounded = λ n x. let h = holds_at n x in bounded i t p (at n) h.0 h.1;
     invariant = holds_at;
     accesses = λ n e started told. let x = event_acts n e started told in let h = holds_at n x in own n e x told h.0 h.1;
   }
 
-pub each_keeps : ActLaws → AccessLaws → (i : Image) (t : Tables) (stub : ℕ) → Placed i t → MonitorLaw i t stub → Starts i t stub → EachRun i (KeepsMemory i t)
-each_keeps laws units i t stub p law starts queues first reset =
+pub each_keeps : ActLaws → AccessLaws → (i : Image) (t : Tables) (stub : ℕ) → Placed i t → MonitorLaw i t stub → Starts i t stub → EachRun i (WhoRuns i t) → WhoRunsComesBack → EachRun i (KeepsMemory i t)
+each_keeps laws units i t stub p law starts who back queues first reset =
     let s = starts queues first reset in
-    keeps laws units i t p stub law first s.start_up (first_block t) s.begun.holds
+    keeps laws units i t p stub law first s.start_up (first_block t) s.begun.holds (who queues first reset) back

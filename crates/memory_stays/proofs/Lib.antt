@@ -1,10 +1,11 @@
-pub mod Bytes
-pub mod Writes
-pub mod Calls
-pub mod Segments
-pub mod Inductions
-pub mod Changed
-pub mod Told
+mod Bytes
+mod Writes
+mod Calls
+mod Changed
+mod ActChanges
+mod Rests
+mod KeptFrames
+mod Told
 pub mod Windows
-pub mod Moved
-pub mod Kept
+mod Kept
+mod WrongMonitors

@@ -1,10 +1,9 @@
--- When compartments act in a run, and which bytes of RAM an act may change: its instruction, with all that the monitor does for it.
-use Rattle.std.specs.Prelude.{◌≡◌, ℕ, ◌+◌, ◌-◌, ◌<◌, ◌≤◌, ◌⊎◌, true, false, Some}
+-- When compartments act in a run, and which bytes an act may change and read: its instruction, with all that the monitor does for it.
+use Rattle.std.specs.Prelude.{◌≡◌, ℕ, ◌+◌, ◌-◌, ◌<◌, ◌≤◌, true, false}
 use Rattle.words.specs.Bytes.{read}
 use Rattle.mpu_model.specs.declared.region.Region.{Region}
 use Rattle.mpu_model.specs.Regions.{holds, permission}
 use Rattle.device_model.specs.declared.image.Image.{Image}
-use Rattle.armv7m.specs.declared.state.End.{End}
 use Rattle.armv7m.specs.State.{State}
 use Rattle.armv7m.specs.Confinement.{AnyOf}
 use Rattle.monitor.specs.declared.tables.Tables.{Tables}
@@ -12,6 +11,7 @@ use Rattle.monitor.specs.Records.{compartment_at, stack_end}
 use Rattle.monitor.specs.BlockWords.{current, depth, block_word, saved_offset}
 use Rattle.monitor.specs.Reach.{running, InOpenStack, IsInLoan, InBlock}
 use Rattle.monitor.specs.Confined.{IsSvc, HasStarted, later}
+use Rattle.thread_moves.specs.WhoRuns.{IsBack}
 
 -- ---- addresses
 
@@ -54,6 +54,13 @@ module _ (i : Image) (t : Tables) where
     -- and where its instruction is the SVC of a return, the word for its result
     InResult : IsSvc i t 1 s → IsResult s a → MayChange s a
 
+  -- and all that the instruction itself may load where the board's reads are closed
+  pub data MayRead (s : State) (a : ℕ) : Type 0 where
+    ReadsSlot : AnyOf (λ (g : Region). holds g a ≡ true) (running i t s).slots → MayRead s a
+    ReadsStack : InOpenStack i t s a → MayRead s a
+    -- the mebibyte of flash
+    ReadsFlash : i.flash_base ≤ a → a < i.flash_base + 0x100000 → MayRead s a
+
   -- ---- of a run
 
   module _ (first : State) where
@@ -65,4 +72,4 @@ module _ (i : Image) (t : Tables) where
     -- between two acts, or at the machine's end: no handler is at work
     pub record Rests (n : ℕ) : Type 0 where
       pub started : HasStarted i t first n
-      pub none_works : ((later i t first n).protection.handler ≡ false) ⊎ ((e : End) × ((later i t first n).ending ≡ Some e))
+      pub none_works : IsBack (later i t first n)

@@ -1,22 +1,25 @@
 -- What stays in RAM from one rest of a run to another, and which compartments access peripherals: properties of a run, and the laws
 -- that each run of a sound image has them.
-use Rattle.std.specs.Prelude.{◌≡◌, ◌≢◌, ℕ, ◌+◌, ◌<◌, ◌≤◌, true, Some, length}
+use Rattle.std.specs.Prelude.{◌≡◌, ◌≢◌, ℕ, ◌+◌, ◌<◌, ◌≤◌, true, false, Some, length}
 use Rattle.mpu_model.specs.declared.region.Region.{Region}
 use Rattle.mpu_model.specs.Regions.{holds}
 use Rattle.device_model.specs.declared.image.Image.{Image}
 use Rattle.mem_bus.specs.Places.{place, InWindow}
 use Rattle.events.specs.declared.event.Event.{Event}
 use Rattle.armv7m.specs.Confinement.{AnyOf}
-use Rattle.armv7m.specs.State.{State}
-use Rattle.armv7m.specs.Step.{event}
+use Rattle.armv7m.specs.State.{State, by_mpu}
+use Rattle.armv7m.specs.Exceptions.{frame_at}
+use Rattle.armv7m.specs.Step.{turn, event}
+use Rattle.common_laws.specs.Lists.{Each}
 use Rattle.monitor.specs.declared.tables.Tables.{Tables}
 use Rattle.monitor.specs.Records.{stack_end}
 use Rattle.monitor.specs.Block.{Block}
 use Rattle.monitor.specs.BlockWords.{current, top, depth, loan_count, loan_address, loan_end}
-use Rattle.monitor.specs.Reach.{running, IsInLoan}
+use Rattle.monitor.specs.Reach.{AllBytes, running, IsInLoan}
 use Rattle.monitor.specs.Confined.{IsSvc, HasStarted, AreNext, later}
 use Rattle.monitor.specs.Invariant.{InvariantHolds}
-use Rattle.memory_stays.specs.Acts.{byte_at, IsOutside, OnStack, IsWritable, IsResult, MayChange, Acts, Rests}
+use Rattle.thread_moves.specs.WhoRuns.{depth_at, HasKeptFrame, IsBehindCall}
+use Rattle.memory_stays.specs.Acts.{byte_at, IsOutside, OnStack, IsWritable, IsResult, MayChange, MayRead, Acts, Rests}
 
 -- ---- of a state in which a compartment's instruction comes next
 
@@ -90,6 +93,20 @@ module _ (i : Image) (t : Tables) (first : State) where
       → ((k : ℕ) → from ≤ k → k < to → Acts i t first k → IsClosedTo i t (at k) a)
       → byte_at i (at to) a ≡ byte_at i (at from) a
 
+  -- so do the 32 bytes of the frame at which a caller waits, where no live loan of a compartment that acts meanwhile holds one of them. The
+  -- step a of the caller makes the call, b is its callee's first one, c the last one before the depth is again what it was, and d the caller's
+  -- next: it is behind its call, with its stack pointer
+  abbrev pub FramesAreKept : Type 0
+  FramesAreKept =
+      (a b c d : ℕ) → HasStarted i t first a → AreNext i t first a b → b ≤ c → AreNext i t first c d
+      → ((k : ℕ) → b ≤ k → k ≤ c → (at k).protection.handler ≡ false → depth_at i t first a < depth_at i t first k) → depth_at i t first d ≤ depth_at i t first a
+      → ((k l o : ℕ) → b ≤ k → k < c → Acts i t first k → frame_at (at a).core.sp ≤ o → o < frame_at (at a).core.sp + 32 → IsInLoan i t (at k) (running i t (at k)).mask l o → ⊥)
+      → HasKeptFrame i t first a b c × IsBehindCall i t first a d
+
+  -- on a board with closed reads each byte that an act's instruction loads, a vector's included, it may read
+  abbrev pub ActsReadTheirOwn : Type 0
+  ActsReadTheirOwn = i.closed ≡ true → (n : ℕ) → Acts i t first n → Each (AllBytes (MayRead i t (at n))) (turn by_mpu i (at n)).loads
+
   -- each access of a peripheral is made by the running compartment's own instruction, in one of its slots; a store in one that it may
   -- write
   pub record IsOwnAccess (n : ℕ) (e : Event) : Type 0 where
@@ -111,6 +128,8 @@ module _ (i : Image) (t : Tables) (first : State) where
     pub changes : DataChangesByItsWriters
     pub own_stays : OwnDataStays
     pub stack_stays : ClosedStackStays
+    pub frames : FramesAreKept
+    pub reads : ActsReadTheirOwn
     pub bounded : (n : ℕ) → Acts i t first n → IsBounded i t (at n)
     pub invariant : (n : ℕ) → Acts i t first n → (m : Block) × InvariantHolds i t m (at n)
     pub accesses : AccessesAreOwn

@@ -6,7 +6,7 @@ ghost use Rattle.monitor.specs.TheCode.{monitor_code};
 ghost use Rattle.memory_stays.specs.Stays.{KeepsMemory};
 ghost use Rattle.resets.specs.Reset.{EachRun};
 
-use armv7m::any_step::{listed_stores, unprivileged_accesses};
+use armv7m::any_step::{listed_stores, unprivileged_accesses, unprivileged_steps};
 use armv7m::laws::listed_accesses;
 use armv7m::running::{frames, shapes};
 use confine::protection::threads_reach;
@@ -15,6 +15,7 @@ use confine::threads::steps_lead;
 use monitor_laws::images::{images_start, sound_images_are_placed};
 use mpu_model::laws::{kept_lists_decide, regions_hold_their_blocks};
 use sound_images::promises::handlers_keep_the_law;
+use thread_moves::laws::{calls_come_back, who_runs};
 
 /// In each run of a sound image, whatever code its compartments execute: a byte of RAM outside the monitor's block stays while no
 /// compartment acts that may change it. Off the stack these are the compartments that have it in a slot that they may write. On the
@@ -29,6 +30,7 @@ pub fn runs_keep_memory()
     changes_keep_order();
     shapes();
     unprivileged_accesses();
+    unprivileged_steps();
     threads_reach();
     steps_lead();
     listed_stores();
@@ -36,4 +38,6 @@ pub fn runs_keep_memory()
     frames();
     kept_lists_decide();
     regions_hold_their_blocks();
+    who_runs();
+    calls_come_back();
 }
