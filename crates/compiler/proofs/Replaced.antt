@@ -12,6 +12,7 @@ use Rattle.plan_model.specs.declared.plan.Board.{Board}
 use Rattle.plan_model.specs.declared.plan.Plan.{Plan}
 use Rattle.plan_model.specs.declared.plan.Spot.{Spot}
 use Rattle.plan_model.specs.Placement.{no_spot, compartment_spot}
+use Rattle.resets.specs.Reset.{EachRun}
 use Rattle.monitor.specs.Page.{filled_up}
 use Rattle.monitor.specs.Confined.{Confined}
 use Rattle.link_model.specs.LinkedImage.{linked}
@@ -21,17 +22,14 @@ use Rattle.linked_promises.specs.Regions.{ImagesObeyRules}
 use Rattle.planning.specs.declared.planner.PlannedFirmware.{PlannedFirmware}
 use Rattle.planning.specs.Planned.{IsPlannedFor}
 use Rattle.planned_images.specs.Whole.{IsForBoard, PlannedImagesAreForBoards}
-use Rattle.thread_moves.specs.Planned.{TellsWhoRuns}
+use Rattle.thread_moves.specs.Runs.{TellsWhoRuns}
+use Rattle.firmware_stays.specs.Isolated.{IsIsolated}
 use Rattle.other_code.specs.OtherCode.{with_flash, KeepsTables}
 use Rattle.other_code.specs.Laws.{RulesStay}
 use Rattle.replaced_code.specs.ReplacedCode.{with_block, CodeKeepsTables, PlannedImagesKeepPromises}
+use Rattle.replaced_code.proofs.Kept.{board_stays}
 use Rattle.compiler.specs.WithCode.{HasPlan, IsImageWithCode, IsTooLong, IsBeyond}
 use Rattle.compiler.proofs.Parts.{plan_is}
-
--- other bytes in flash leave the rest of an image
-board_stays : (w : PlainFirmware) (b : Board) (i : Image) (flash : List ℕ) → IsForBoard w b i → IsForBoard w b (with_flash i flash)
-board_stays w b i flash x =
-    record { windows = x.windows; flash_base = x.flash_base; ram_base = x.ram_base; ram_size = x.ram_size; stack_size = x.stack_size; regions = x.regions; closed = x.closed }
 
 module _ (w : PlainFirmware) (n : Needs) (b : Board) (g : Groups) (x : PlannedFirmware) (k : IsPlannedFor (resolve w) n g b x) (is : IsPlanned w n x.graph b) where
   abbrev has_plan : HasPlan w n b g
@@ -84,8 +82,9 @@ module _ (w : PlainFirmware) (n : Needs) (b : Board) (g : Groups) (x : PlannedFi
           image = same;
           rules = subst ObeysRules (sym same) (rules first flash (images w n x.graph b is) keeps.as_long);
           board = subst (IsForBoard w b) (sym same) (board_stays w b first flash (boards w n x.graph b is));
-          confined = subst (λ (z : Image). Confined z (planned_tables w n x.graph b)) (sym same) (keep.confined w n x.graph b is flash keeps);
           moves = subst (λ (z : Image). TellsWhoRuns z (planned_tables w n x.graph b)) (sym same) (keep.moves w n x.graph b is flash keeps);
+          isolated = subst (λ (z : Image). EachRun z (IsIsolated w n x.graph b z (planned_tables w n x.graph b))) (sym same) (keep.isolated w n x.graph b is flash keeps);
+          confined = subst (λ (z : Image). Confined z (planned_tables w n x.graph b)) (sym same) (keep.confined w n x.graph b is flash keeps);
         }
       where
         keeps : KeepsTables first (planned_tables w n x.graph b) flash

@@ -11,10 +11,12 @@ use Rattle.plan_model.specs.declared.needs.Needs.{Needs}
 use Rattle.plan_model.specs.declared.graph.Final.{Final}
 use Rattle.plan_model.specs.declared.plan.Board.{Board}
 use Rattle.plan_model.specs.Placement.{compartment_spot}
+use Rattle.resets.specs.Reset.{EachRun}
 use Rattle.monitor.specs.Confined.{Confined}
 use Rattle.linked_images.specs.Planned.{IsPlanned, plan, planned_image, planned_tables}
 use Rattle.planned_images.specs.Whole.{IsForBoard}
-use Rattle.thread_moves.specs.Planned.{TellsWhoRuns}
+use Rattle.thread_moves.specs.Runs.{TellsWhoRuns}
+use Rattle.firmware_stays.specs.Isolated.{IsIsolated}
 use Rattle.planning.specs.declared.refusal.PlanningRefusal.TheVariants as planning
 use Rattle.planning.specs.Refusals.{IsPlanningRefusal}
 use Rattle.other_code.specs.OtherCode.{with_flash}
@@ -30,7 +32,7 @@ pub record HasPlan (w : PlainFirmware) (n : Needs) (b : Board) (g : Groups) : Ty
   pub planned : IsPlanned w n graph b
 
 -- the linked image in all but the block of that compartment, which has this code and is erased behind it; by the tables that were linked
--- it is confined, and tells who runs
+-- it tells who runs, its runs are isolated, and it is confined
 pub record IsImageWithCode (w : PlainFirmware) (n : Needs) (b : Board) (g : Groups) (c : ℕ) (code : List ℕ) (i : Image) : Type 0 where
   pub has_plan : HasPlan w n b g
   pub there : c < g.count
@@ -38,8 +40,9 @@ pub record IsImageWithCode (w : PlainFirmware) (n : Needs) (b : Board) (g : Grou
   pub image : i ≡ with_flash (planned_image w n has_plan.graph b) (with_block (plan w n has_plan.graph b) b.flash_base c code (planned_image w n has_plan.graph b).flash)
   pub rules : ObeysRules i
   pub board : IsForBoard w b i
-  pub confined : Confined i (planned_tables w n has_plan.graph b)
   pub moves : TellsWhoRuns i (planned_tables w n has_plan.graph b)
+  pub isolated : EachRun i (IsIsolated w n has_plan.graph b i (planned_tables w n has_plan.graph b))
+  pub confined : Confined i (planned_tables w n has_plan.graph b)
 
 -- the code is longer than the block
 pub record IsTooLong (w : PlainFirmware) (n : Needs) (b : Board) (g : Groups) (c : ℕ) (code : List ℕ) : Type 0 where

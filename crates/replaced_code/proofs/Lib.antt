@@ -1,2 +1,2 @@
 mod Behind
-mod Kept
+pub mod Kept

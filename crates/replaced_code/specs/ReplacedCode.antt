@@ -3,21 +3,22 @@
 -- statements of laws.
 use Rattle.std.specs.Prelude.{ℕ, ◌-◌, ◌<◌, List}
 use Rattle.words.specs.Bytes.{write_all}
-use Rattle.device_model.specs.declared.image.Image.{Image}
 use Rattle.ir_model.specs.Plain.{PlainFirmware}
 use Rattle.plan_model.specs.declared.needs.Needs.{Needs}
 use Rattle.plan_model.specs.declared.graph.Final.{Final}
 use Rattle.plan_model.specs.declared.plan.Board.{Board}
 use Rattle.plan_model.specs.declared.plan.Plan.{Plan}
 use Rattle.plan_model.specs.Placement.{compartment_spot}
-use Rattle.monitor.specs.declared.tables.Tables.{Tables}
+use Rattle.resets.specs.Reset.{EachRun}
 use Rattle.monitor.specs.Page.{filled_up}
 use Rattle.monitor.specs.Confined.{Confined}
 use Rattle.monitor.specs.Promises.{OfSoundImages}
 use Rattle.monitor.specs.TheCode.{monitor_code}
 use Rattle.linked_images.specs.Planned.{IsPlanned, plan, planned_tables, planned_image}
 use Rattle.linked_images.specs.Laws.{OfPlanned}
-use Rattle.thread_moves.specs.Planned.{TellsWhoRuns}
+use Rattle.thread_moves.specs.Runs.{TellsWhoRuns}
+use Rattle.memory_stays.specs.Stays.{KeepsMemory}
+use Rattle.firmware_stays.specs.Isolated.{IsIsolated}
 use Rattle.other_code.specs.OtherCode.{KeepsTables, WithOtherCode}
 
 -- flash with this code in the block of a compartment, the rest of the block being erased
@@ -30,14 +31,15 @@ CodeKeepsTables =
     (w : PlainFirmware) (n : Needs) (f : Final) (b : Board) → IsPlanned w n f b → (c : ℕ) (code : List ℕ) → c < f.groups.count
     → KeepsTables (planned_image w n f b) (planned_tables w n f b) (with_block (plan w n f b) b.flash_base c code (planned_image w n f b).flash)
 
--- what every image has of one kind, whatever bytes stand in flash behind its tables: it is confined by them, and it tells who runs
-pub record AllWithOtherCode (Of : (Image → Tables → Type 0) → Type 0) : Type 0 where
-  pub confined : Of (WithOtherCode Confined)
-  pub moves : Of (WithOtherCode TellsWhoRuns)
+-- a sound image is confined by its tables, tells who runs and keeps memory by them, whatever bytes stand in flash behind them
+pub record SoundImagesKeepPromises : Type 0 where
+  pub confined : OfSoundImages monitor_code (WithOtherCode Confined)
+  pub moves : OfSoundImages monitor_code (WithOtherCode TellsWhoRuns)
+  pub memory : OfSoundImages monitor_code (WithOtherCode (λ i t. EachRun i (KeepsMemory i t)))
 
--- so it is of all sound images, and of those of all planned firmwares
-abbrev pub SoundImagesKeepPromises : Type 0
-SoundImagesKeepPromises = AllWithOtherCode (OfSoundImages monitor_code)
-
-abbrev pub PlannedImagesKeepPromises : Type 0
-PlannedImagesKeepPromises = AllWithOtherCode OfPlanned
+-- so is the image of each planned firmware, and its runs are isolated, by the tables that it was linked with
+pub record PlannedImagesKeepPromises : Type 0 where
+  pub confined : OfPlanned (WithOtherCode Confined)
+  pub moves : OfPlanned (WithOtherCode TellsWhoRuns)
+  pub isolated : (w : PlainFirmware) (n : Needs) (f : Final) (b : Board) → IsPlanned w n f b
+      → WithOtherCode (λ i t. EachRun i (IsIsolated w n f b i t)) (planned_image w n f b) (planned_tables w n f b)

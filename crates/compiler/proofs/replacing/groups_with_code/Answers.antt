@@ -2,8 +2,10 @@ use Rattle.std.proofs.Common.{subst, sym, ◌∙◌}
 use Rattle.ir_model.specs.Plain.{firmware_of}
 use Rattle.ir_model.specs.Resolve.{resolve}
 use Rattle.ir_model.specs.Resolved.{Program}
+use Rattle.plan_model.specs.Compartments.{AreCompartments}
 use Rattle.planning.specs.Planned.{IsPlannedFor}
-use Rattle.compiler.proofs.Parts.{routines, plan_is, is_planned}
+use Rattle.firmware_plans.proofs.Planned.{is_planned}
+use Rattle.compiler.proofs.Parts.{routines, plan_is}
 use Rattle.compiler.proofs.Replaced.{beyond, too_long, with_code}
 use Rattle.compiler.proofs.replacing.groups_with_code.Goals as goal
 use Rattle.plan_model.proofs.Compartments.{each_compartment}
@@ -32,7 +34,8 @@ returns-in_default-clause-refused c =
     let groups = c.args.groups in
     let made = c.in-Ok.made in
     let planned = subst (λ (p : Program). IsPlannedFor p n groups b made) c.requires.program c.in-Ok.ensures.ok in
-    let is = is_planned w n b groups made planned c.least_sets.ensures.serve c.firmware.ensures.typed c.firmware.ensures.within c.requires.needs c.requires.board c.requires.groups in
+    let are = subst (AreCompartments (resolve w)) (sym planned.groups) c.requires.groups in
+    let is = is_planned w n b groups made planned c.least_sets.ensures.serve c.firmware.ensures.typed c.firmware.ensures.within c.requires.needs c.requires.board are in
     beyond w n b groups made planned is c.args.compartment c.as_slice.result.now c.as_slice.ensures c.in_default.ensures.lookup.3
 
 pub returns-then-code-spot-clause-refused : goal.returns-then-code-spot-clause-refused
@@ -43,7 +46,8 @@ returns-then-code-spot-clause-refused c =
     let groups = c.args.groups in
     let made = c.in-Ok.made in
     let planned = subst (λ (p : Program). IsPlannedFor p n groups b made) c.requires.program c.in-Ok.ensures.ok in
-    let is = is_planned w n b groups made planned c.least_sets.ensures.serve c.firmware.ensures.typed c.firmware.ensures.within c.requires.needs c.requires.board c.requires.groups in
+    let are = subst (AreCompartments (resolve w)) (sym planned.groups) c.requires.groups in
+    let is = is_planned w n b groups made planned c.least_sets.ensures.serve c.firmware.ensures.typed c.firmware.ensures.within c.requires.needs c.requires.board are in
     let found = c.in-Some.ensures.lookup in
     too_long w n b groups made planned is c.args.compartment c.args.code.now c.in-Some.spot.now c.as_slice.result.now c.as_slice.ensures found.3.0 found.3.1 c.if-code-spot.true
 
@@ -55,7 +59,8 @@ returns-clause-ok c =
     let groups = c.args.groups in
     let made = c.in-Ok.made in
     let planned = subst (λ (p : Program). IsPlannedFor p n groups b made) c.requires.program c.in-Ok.ensures.ok in
-    let is = is_planned w n b groups made planned c.least_sets.ensures.serve c.firmware.ensures.typed c.firmware.ensures.within c.requires.needs c.requires.board c.requires.groups in
+    let are = subst (AreCompartments (resolve w)) (sym planned.groups) c.requires.groups in
+    let is = is_planned w n b groups made planned c.least_sets.ensures.serve c.firmware.ensures.typed c.firmware.ensures.within c.requires.needs c.requires.board are in
     let found = c.in-Some.ensures.lookup in
     with_code w n b groups made planned is c.args.compartment c.args.code.now c.in-Some.spot.now c.as_slice.result.now c.as_slice.ensures found.3.0 found.3.1 c.if-code-spot.false
     c.kept.ensures c.rules.ensures c.planned_images_keep_promises.ensures c.images.ensures c.for_boards.ensures c.in_ok-image.image c.in_ok-with_block.field-0 c.in_ok-image.ensures c.in_ok-with_block.ensures

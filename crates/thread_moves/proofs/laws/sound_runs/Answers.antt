@@ -1,4 +1,4 @@
-use Rattle.thread_moves.proofs.PlannedMoves.{sound_images_tell}
+use Rattle.thread_moves.proofs.Together.{sound_images_tell}
 use Rattle.thread_moves.proofs.laws.sound_runs.Goals as goal
 
 pub returns : goal.returns
