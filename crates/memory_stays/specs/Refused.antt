@@ -84,9 +84,10 @@ module _ (i : Image) (t : Tables) (first : State) where
 
 -- ---- statements
 
--- what a run has that tells who runs, or that keeps memory, this one has not
+-- no such run tells who runs
 abbrev pub TellsOfNone : (Image → Tables → State → Type 0) → Type 0
 TellsOfNone Wrong = (i : Image) (t : Tables) (first : State) → Wrong i t first → WhoRuns i t first → ⊥
 
+-- no such run keeps memory
 abbrev pub KeepsFromNone : (Image → Tables → State → Type 0) → Type 0
 KeepsFromNone Wrong = (i : Image) (t : Tables) (first : State) → Wrong i t first → KeepsMemory i t first → ⊥

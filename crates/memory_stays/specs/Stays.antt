@@ -93,9 +93,9 @@ module _ (i : Image) (t : Tables) (first : State) where
       → ((k : ℕ) → from ≤ k → k < to → Acts i t first k → IsClosedTo i t (at k) a)
       → byte_at i (at to) a ≡ byte_at i (at from) a
 
-  -- so do the 32 bytes of the frame at which a caller waits, where no live loan of a compartment that acts meanwhile holds one of them. The
-  -- step a of the caller makes the call, b is its callee's first one, c the last one before the depth is again what it was, and d the caller's
-  -- next: it is behind its call, with its stack pointer
+  -- so do both words of a waiting caller's frame by which it goes on, where no live loan of a compartment that acts meanwhile holds one of
+  -- the frame's 32 bytes. Step a of the caller makes the call, b is its callee's first one, c the last one before the depth is again what it
+  -- was, and d the caller's next: it is behind its call, with its stack pointer
   abbrev pub FramesAreKept : Type 0
   FramesAreKept =
       (a b c d : ℕ) → HasStarted i t first a → AreNext i t first a b → b ≤ c → AreNext i t first c d
