@@ -1,17 +1,20 @@
 -- What the top call says, from what its command did.
-use Rattle.std.proofs.Common.{◌≡◌, ℕ, ◌⊎◌, inl, inr, List, [], ◌++◌, None, Ok, Err, Result, refl, ap, sym, ◌∙◌, subst, append-nil, arith}
+use Rattle.std.proofs.Common.{◌≡◌, ℕ, ◌⊎◌, inl, inr, List, [], ◌++◌, None, Ok, Err, Result, IfErr, refl, ap, sym, ◌∙◌, subst, append-nil, arith}
+use Rattle.outside.specs.Calls.{Call}
 use Rattle.aces_reports.specs.declared.failure.Done.{Done}
 use Rattle.aces_reports.specs.declared.failure.Done.TheVariants.{Completed, RunFailed, Negative}
 use Rattle.aces_reports.specs.declared.failure.Failure.{Failure}
 use Rattle.aces_reports.specs.declared.failure.Failure.TheVariants.{Refused, PastLimit, NoRoom, Unread, Unwritten, Unprinted, NoMemory}
 use Rattle.aces_words.specs.declared.policy.Policy.{Policy}
-use Rattle.aces_words.specs.Requests.{Request, Run, Bin, Compile, Check, Source, Listing, Stack, Asks, IsUsage, Origin}
+use Rattle.aces_words.specs.Requests.{Request, Run, Bin, Compile, Check, Source, Listing, Stack, Audit, Tables, Asks, IsUsage, Origin}
 use Rattle.aces_reports.specs.FaultLines.{usage_line}
 use Rattle.aces_reports.specs.Sinks.{SinkState, Says}
 use Rattle.aces_reports.specs.Ends.{status_of, line_of}
 use Rattle.commands.specs.Outcomes.{Outcome, refused, past_limit, no_room, usage}
+use Rattle.commands.specs.CarriesOut.{NamesLast}
 use Rattle.commands.specs.Effects.{World, Does, Quiet, IsCarriedOut, IsPart, IsPrintedInPart}
 use Rattle.commands.proofs.Answering.{run_also, bin_also}
+use Rattle.audit_commands.proofs.Answering.{audit_also, tables_also}
 use Rattle.firmware_commands.proofs.Answering.{check_also, source_also}
 use Rattle.aces_cli.specs.Answer.{AnswerToList, AnswerToStack, AnswerToCompile, firmware_large, board_large, all_read, Answer, no_request, to_request}
 use Rattle.aces_cli.specs.Endings.{IsPlain, IsAnswered, IsPartly, AsksForSource, TellsUnread, TellsUnwritten, TellsUnprinted, TellsOutOfMemory}
@@ -43,6 +46,8 @@ module _ (Has Had : Origin → List ℕ → Type 0) (Exceeds Exceeded : Origin �
   answer_also (Source firmware policy tape steps) o a = source_also Has Had Exceeds Exceeded also large firmware policy tape steps o a
   answer_also (Listing firmware board policy) o a = list_also firmware board policy o a
   answer_also (Stack firmware board policy) o a = stack_also firmware board policy o a
+  answer_also (Audit image) o a = audit_also Has Had Exceeds Exceeded also large image o a
+  answer_also (Tables image) o a = tables_also Has Had Exceeds Exceeded also large image o a
 
 -- nothing is printed and written, and no fault rose
 nothing_more : (old new : World) (o : Outcome) → Quiet old new → new.read_faults ≡ old.read_faults → o.printed ≡ [] → o.written ≡ None → IsCarriedOut old new o
@@ -138,6 +143,8 @@ module _ (Has : Origin → List ℕ → Type 0) (Exceeds : Origin → Type 0) (w
   in_part (Source firmware policy tape steps) h = elim h [ inl e ↦ inl e | inr p ↦ inr (part_of p) ]
   in_part (Listing firmware board policy) h = inl h
   in_part (Stack firmware board policy) h = inl h
+  in_part (Audit image) h = inl h
+  in_part (Tables image) h = inl h
 
   pub printed_in_part : (e : Result Done Failure) → status_of e ≡ 6 → Does (Answer r Has Exceeds) r old new e → (new.out ≡ old.out) ⊎ IsPartly Has Exceeds words old new
   printed_in_part (Ok Completed) q d = let f : ⊥ = omega (arith, q) in absurd f
@@ -153,17 +160,18 @@ module _ (Has : Origin → List ℕ → Type 0) (Exceeds : Origin → Type 0) (w
 
 module _ (A : Outcome → Type 0) (words : List (List ℕ)) (r : Request) (asks : Asks words r)
     (old new : World) (err_old err_new : SinkState) where
-  pub unread : (e : Result Done Failure) → status_of e ≡ 4 → Does A r old new e → Says err_old err_new (line_of e) → TellsUnread words old new err_old err_new
-  unread (Ok Completed) q d l = let f : ⊥ = omega (arith, q) in absurd f
-  unread (Ok RunFailed) q d l = let f : ⊥ = omega (arith, q) in absurd f
-  unread (Ok Negative) q d l = let f : ⊥ = omega (arith, q) in absurd f
-  unread (Err (Refused name f)) q d l = let f : ⊥ = omega (arith, q) in absurd f
-  unread (Err (PastLimit which count)) q d l = let f : ⊥ = omega (arith, q) in absurd f
-  unread (Err (NoRoom memory c needed available)) q d l = let f : ⊥ = omega (arith, q) in absurd f
-  unread (Err (Unread name)) q d l = record { request = r; asks = asks; name = name.now; unread = d; says = l }
-  unread (Err (Unwritten name)) q d l = let f : ⊥ = omega (arith, q) in absurd f
-  unread (Err Unprinted) q d l = let f : ⊥ = omega (arith, q) in absurd f
-  unread (Err NoMemory) q d l = let f : ⊥ = omega (arith, q) in absurd f
+  pub unread : (calls : List Call) (e : Result Done Failure) → status_of e ≡ 4 → Does A r old new e → IfErr e (NamesLast calls) → Says err_old err_new (line_of e)
+      → TellsUnread calls words old new err_old err_new
+  unread calls (Ok Completed) q d n l = let f : ⊥ = omega (arith, q) in absurd f
+  unread calls (Ok RunFailed) q d n l = let f : ⊥ = omega (arith, q) in absurd f
+  unread calls (Ok Negative) q d n l = let f : ⊥ = omega (arith, q) in absurd f
+  unread calls (Err (Refused name f)) q d n l = let f : ⊥ = omega (arith, q) in absurd f
+  unread calls (Err (PastLimit which count)) q d n l = let f : ⊥ = omega (arith, q) in absurd f
+  unread calls (Err (NoRoom memory c needed available)) q d n l = let f : ⊥ = omega (arith, q) in absurd f
+  unread calls (Err (Unread name)) q d n l = record { request = r; asks = asks; name = name.now; unread = d; last = n; says = l }
+  unread calls (Err (Unwritten name)) q d n l = let f : ⊥ = omega (arith, q) in absurd f
+  unread calls (Err Unprinted) q d n l = let f : ⊥ = omega (arith, q) in absurd f
+  unread calls (Err NoMemory) q d n l = let f : ⊥ = omega (arith, q) in absurd f
 
   pub unwritten : (e : Result Done Failure) → status_of e ≡ 5 → Does A r old new e → Says err_old err_new (line_of e)
       → TellsUnwritten words old new err_old err_new ⊎ TellsUnprinted old new err_old err_new
@@ -186,6 +194,8 @@ module _ (A : Outcome → Type 0) (words : List (List ℕ)) (r : Request) (asks 
   quiet_unless (Source firmware policy tape steps) a h = inr (record { firmware = firmware; policy = policy; tape = tape; steps = steps; asks = a })
   quiet_unless (Listing firmware board policy) a h = inl h
   quiet_unless (Stack firmware board policy) a h = inl h
+  quiet_unless (Audit image) a h = inl h
+  quiet_unless (Tables image) a h = inl h
 
   pub out_of_memory : (e : Result Done Failure) → status_of e ≡ 6 → Does A r old new e → Says err_old err_new (line_of e) → TellsOutOfMemory words old new err_old err_new
   out_of_memory (Ok Completed) q d l = let f : ⊥ = omega (arith, q) in absurd f

@@ -19,7 +19,7 @@ use Rattle.bounded_images.specs.Bounded.{Fits, ImagesRefineWhole}
 use Rattle.firmware_stacks.specs.Lines.{stack_status}
 use Rattle.aces_cli.specs.Answer as answers
 use Rattle.aces_cli.specs.Answer.{PlanAnswer, StackAnswers, CompileAnswer, AnswerToStack, AnswerToCompile, Answer, Answers}
-use Rattle.aces_cli.specs.Bounded.{IsFollowed, IsBounded, BoundedCallsAreFollowed}
+use Rattle.aces_cli.specs.Bounded.{IsFollowed, StackIsEnough, BoundedCallsAreFollowed}
 use Rattle.aces_cli.proofs.Good.{held_is_one}
 
 fits_by : (stack : ℕ) (a : StackAnswer) → stack_status stack a ≡ 0 → Fits stack a

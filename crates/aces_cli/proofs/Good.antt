@@ -22,8 +22,9 @@ use Rattle.commands.specs.Contents.{of_board}
 use Rattle.firmware_commands.specs.Firmwares.{IsFirmware}
 use Rattle.commands.specs.Known.{Held, Holds, Exceeds}
 use Rattle.aces_cli.specs.Answer.{PlanAnswer, ListAnswer, StackAnswers, CompileAnswer, no_firmware, no_board, too_many, no_flash, no_ram, unplanned, listed, bounded, compiled, AnswerToList, AnswerToStack, AnswerToCompile, firmware_large, board_large, all_read, Answer}
-use Rattle.aces_cli.specs.Complete.{IsCompilable, IsBoundable, IsGood, run, bin, compile, check, source, list, stack, IsDoneBy, GoodRequestsAreDone}
+use Rattle.aces_cli.specs.Complete.{IsCompilable, IsBoundable, IsGood, run, bin, compile, check, source, list, stack, audit, tables, IsDoneBy, GoodRequestsAreDone}
 use Rattle.aces_cli.proofs.Runnable.{Laws, good_run, good_bin}
+use Rattle.aces_cli.proofs.Auditable.{good_audit, good_tables}
 use Rattle.aces_cli.proofs.SourceRunnable.{is_firmware, firmwares_are_one, good_check, good_source}
 
 -- boards of texts
@@ -113,6 +114,8 @@ module _ (laws : Laws) where
     good_is_done r o (source firmware policy tape steps bytes t h k g) a = good_source laws Has Exceeds one fits firmware policy tape steps bytes t o h k g a
     good_is_done r o (list firmware board policy bytes t h k g) a = good_list firmware board policy bytes t o h k g a
     good_is_done r o (stack firmware board policy bytes t h k g) a = good_stack firmware board policy bytes t o h k g a
+    good_is_done r o (audit image bytes i h g) a = good_audit laws Has Exceeds one fits image bytes i o h g a
+    good_is_done r o (tables image bytes i h g) a = good_tables laws Has Exceeds one fits image bytes i o h g a
 
 pub held_is_one : (held : Held) (s : Origin) (a b : List ℕ) → Holds held s a → Holds held s b → a ≡ b
 held_is_one held s a b h k = let both : Some a ≡ Some b = sym h.there ∙ k.there in cc

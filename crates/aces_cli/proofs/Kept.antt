@@ -1,9 +1,10 @@
 -- An answer with a status other than 0 writes nothing.
 use Rattle.std.proofs.Common.{◌≡◌, ◌≢◌, ℕ, List, None, refl}
 use Rattle.aces_words.specs.declared.policy.Policy.{Policy}
-use Rattle.aces_words.specs.Requests.{Request, Run, Bin, Compile, Check, Source, Listing, Stack, Origin}
+use Rattle.aces_words.specs.Requests.{Request, Run, Bin, Compile, Check, Source, Listing, Stack, Audit, Tables, Origin}
 use Rattle.commands.specs.Outcomes.{Outcome}
 use Rattle.commands.proofs.Answering.{run_writes_nothing, bin_writes_nothing}
+use Rattle.audit_commands.proofs.Answering.{audit_writes_nothing, tables_writes_nothing}
 use Rattle.firmware_commands.proofs.Answering.{check_writes_nothing, source_writes_nothing}
 use Rattle.aces_cli.specs.Answer.{PlanAnswer, ListAnswer, StackAnswers, CompileAnswer, no_firmware, no_board, too_many, no_flash, no_ram, unplanned, listed, bounded, compiled, AnswerToList, AnswerToStack, AnswerToCompile, firmware_large, board_large, all_read, Answer}
 
@@ -54,3 +55,5 @@ module _ (Has : Origin → List ℕ → Type 0) (Exceeds : Origin → Type 0) wh
   writes_nothing (Source firmware policy tape steps) o a n = source_writes_nothing Has Exceeds firmware policy tape steps o a
   writes_nothing (Listing firmware board policy) o a n = list_writes_nothing firmware board policy o a
   writes_nothing (Stack firmware board policy) o a n = stack_writes_nothing firmware board policy o a
+  writes_nothing (Audit image) o a n = audit_writes_nothing Has Exceeds image o a
+  writes_nothing (Tables image) o a n = tables_writes_nothing Has Exceeds image o a

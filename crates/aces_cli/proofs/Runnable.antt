@@ -45,7 +45,7 @@ pub record Laws : Type 0 where
   pub limited : LimitsExclude
 
 module _ (laws : Laws) where
-  is_image : (i : Image) (bytes : List ℕ) (f : Fault) → images.IsText i bytes → IsNoImage bytes f → ⊥
+  pub is_image : (i : Image) (bytes : List ℕ) (f : Fault) → images.IsText i bytes → IsNoImage bytes f → ⊥
   is_image i bytes f h k = let wrong : None ≡ Some k.first = sym (laws.no_fault i bytes h) ∙ k.found in cc
 
   run_done : (image tape : List ℕ) (steps : ℕ) (bytes t : List ℕ) (o : Outcome) → IsRunnable bytes t → RunAnswer image tape steps bytes t o → (o.status ≡ 0) ⊎ (o.status ≡ 7)

@@ -12,7 +12,7 @@ use Rattle.commands.specs.Outcomes.{Outcome, refused, past_limit, no_room}
 use Rattle.aces_cli.specs.Answer.{Answer}
 use Rattle.commands.specs.Effects.{World, Does, IsUnread}
 use Rattle.aces_cli.specs.Endings.{IsPlain}
-use Rattle.aces_cli.specs.Complete.{NoneFailed, AreThere, HasFiles, IsGood, run, bin, compile, check, source, list, stack, IsDoneBy, GoodRequestsAreDone}
+use Rattle.aces_cli.specs.Complete.{NoneFailed, AreThere, HasFiles, IsGood, run, bin, compile, check, source, list, stack, audit, tables, IsDoneBy, GoodRequestsAreDone}
 use Rattle.aces_words.proofs.Requests.{requests_are_one}
 
 pub is_plain : (s : ℕ) → (s < 4) ⊎ (6 < s) → IsPlain s
@@ -48,6 +48,8 @@ good_is_there held r (check firmware bytes w h g) = ((bytes, h.there), tt)
 good_is_there held r (source firmware policy tape steps bytes t h k g) = ((bytes, h.there), ((t, k.there), tt))
 good_is_there held r (list firmware board policy bytes t h k g) = ((bytes, h.there), ((t, k.there), tt))
 good_is_there held r (stack firmware board policy bytes t h k g) = ((bytes, h.there), ((t, k.there), tt))
+good_is_there held r (audit image bytes i h g) = ((bytes, h.there), tt)
+good_is_there held r (tables image bytes i h g) = ((bytes, h.there), tt)
 
 -- an outcome that the request has, with a plain status
 record IsSettled (A : Outcome → Type 0) (s : ℕ) : Type 0 where

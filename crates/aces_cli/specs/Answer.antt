@@ -3,7 +3,7 @@
 use Rattle.std.specs.Prelude.{ℕ, List, [], Option, Some, None}
 use Rattle.aces_reports.specs.declared.failure.Fault.{Fault}
 use Rattle.aces_reports.specs.declared.failure.Fault.TheVariants.{TooLarge}
-use Rattle.aces_words.specs.Requests.{Request, Run, Bin, Compile, Check, Source, Listing, Stack, Asks, IsUsage, Origin, file_origin, firmware_origin, file_limit, firmware_limit}
+use Rattle.aces_words.specs.Requests.{Request, Run, Bin, Compile, Check, Source, Listing, Stack, Audit, Tables, Asks, IsUsage, Origin, file_origin, firmware_origin, file_limit, firmware_limit}
 use Rattle.aces_reports.specs.declared.failure.Memory.TheVariants as memory
 use Rattle.ir_model.specs.Plain.{PlainFirmware}
 use Rattle.aces_cli.specs.Compiled.{IsImageText}
@@ -21,6 +21,7 @@ use Rattle.commands.specs.Contents.{IsNoBoard}
 use Rattle.firmware_commands.specs.Firmwares.{IsNoFirmware, IsFirmware}
 use Rattle.commands.specs.Outcomes.{Outcome, done, refused, past_limit, no_room, usage}
 use Rattle.commands.specs.Answers.{AnswerToRun, AnswerToBin}
+use Rattle.audit_commands.specs.Answers.{AnswerToAudit, AnswerToTables}
 use Rattle.firmware_commands.specs.Answers.{AnswerToCheck, AnswerToSource}
 
 -- why a firmware has no plan on a board by a policy, by the bytes of both files: the firmware is read and checked first, then the board is
@@ -87,6 +88,8 @@ Answer (Check firmware) = AnswerToCheck firmware
 Answer (Source firmware policy tape steps) = AnswerToSource firmware policy tape steps
 Answer (Listing firmware board policy) = AnswerToList firmware board policy
 Answer (Stack firmware board policy) = AnswerToStack firmware board policy
+Answer (Audit image) = AnswerToAudit image
+Answer (Tables image) = AnswerToTables image
 
 -- the answer to any words
 pub data Answers (Has : Origin → List ℕ → Type 0) (Exceeds : Origin → Type 0) (words : List (List ℕ)) : Outcome → Type 0 where

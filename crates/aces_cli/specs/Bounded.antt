@@ -40,7 +40,7 @@ pub record IsFollowed (policy : Policy) (old : Held) (firmware board : List ℕ)
   pub refines : RefinesWhole w (division policy w is_image.needs) (initial_word_count (planned_tables w is_image.needs is_image.image.graph b)) i
 
 -- `stack` has an answer with status 0 to these files
-pub record IsBounded (held : Held) (firmware board : List ℕ) (policy : Policy) : Type 0 where
+pub record StackIsEnough (held : Held) (firmware board : List ℕ) (policy : Policy) : Type 0 where
   pub outcome : Outcome
   pub answer : AnswerToStack firmware board policy (Holds held) (Exceeds held) outcome
   pub ended : outcome.status ≡ 0
@@ -49,7 +49,7 @@ pub record IsBounded (held : Held) (firmware board : List ℕ) (policy : Policy)
 abbrev pub FollowsBounded : (words : List (List ℕ)) → (old new : Held) → Type 0
 FollowsBounded words old new =
     (firmware board : List ℕ) (policy : Policy) (image : List ℕ) → Asks words (Compile firmware board policy image) →
-    IsBounded old firmware board policy → IsFollowed policy old firmware board new image
+    StackIsEnough old firmware board policy → IsFollowed policy old firmware board new image
 
 -- a call that did what its words ask, with status 0, has this: the statement of a law
 abbrev pub BoundedCallsAreFollowed : Type 0

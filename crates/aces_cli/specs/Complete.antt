@@ -11,7 +11,7 @@ use Rattle.board_text.specs.Reading as boards
 use Rattle.firmware_plans.specs.Plannable.{IsPlannable}
 use Rattle.firmware_stacks.specs.Limited.{KeepsLimitsBy}
 use Rattle.aces_words.specs.declared.policy.Policy.{Policy}
-use Rattle.aces_words.specs.Requests.{Request, Run, Bin, Compile, Check, Source, Listing, Stack, Asks, Origin, origins, file_origin, firmware_origin}
+use Rattle.aces_words.specs.Requests.{Request, Run, Bin, Compile, Check, Source, Listing, Stack, Audit, Tables, Asks, Origin, origins, file_origin, firmware_origin}
 use Rattle.commands.specs.Known.{Held, Holds, Exceeds}
 use Rattle.commands.specs.Outcomes.{Outcome}
 use Rattle.firmware_commands.specs.Firmwares.{IsFirmware}
@@ -76,9 +76,11 @@ module _ (Has : Origin → List ℕ → Type 0) where
         IsCompilable policy bytes text → IsGood (Listing firmware board policy)
     stack : (firmware board : List ℕ) (policy : Policy) (bytes text : List ℕ) → Has (firmware_origin firmware) bytes → Has (file_origin board) text →
         IsBoundable policy bytes text → IsGood (Stack firmware board policy)
+    audit : (image : List ℕ) (bytes : List ℕ) (i : Image) → Has (file_origin image) bytes → IsText i bytes → IsGood (Audit image)
+    tables : (image : List ℕ) (bytes : List ℕ) (i : Image) → Has (file_origin image) bytes → IsText i bytes → IsGood (Tables image)
 
 -- the status says that all was done: 0, and where a run was asked for also 7, which says that it ended badly, and where a bound also 8, which
--- says that there is none or that the stack is smaller
+-- says that there is none or that the stack is smaller; so where an image was to be checked, which says that it fails
 abbrev pub IsDoneBy : Request → (status : ℕ) → Type 0
 IsDoneBy (Run image tape steps) status = (status ≡ 0) ⊎ (status ≡ 7)
 IsDoneBy (Bin image file) status = status ≡ 0
@@ -87,6 +89,8 @@ IsDoneBy (Check firmware) status = status ≡ 0
 IsDoneBy (Source firmware policy tape steps) status = (status ≡ 0) ⊎ (status ≡ 7)
 IsDoneBy (Listing firmware board policy) status = status ≡ 0
 IsDoneBy (Stack firmware board policy) status = (status ≡ 0) ⊎ (status ≡ 8)
+IsDoneBy (Audit image) status = (status ≡ 0) ⊎ (status ≡ 8)
+IsDoneBy (Tables image) status = (status ≡ 0) ⊎ (status ≡ 8)
 
 -- a good request has no outcome but one that says so
 abbrev pub GoodRequestsAreDone : Type 0

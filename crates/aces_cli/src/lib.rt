@@ -17,11 +17,12 @@ ghost use Rattle.commands.specs.CarriesOut.{CarriesOut};
 ghost use Rattle.commands.specs.Effects.{world};
 ghost use Rattle.aces_cli.specs.Answer.{Answer};
 ghost use Rattle.aces_cli.specs.Bounded.{FollowsBounded};
-ghost use Rattle.aces_cli.specs.Endings.{IsPlain, IsAnswered, IsPartly, IsByCalls, TellsUnread, TellsUnwritten, TellsUnprinted, TellsOutOfMemory};
+ghost use Rattle.aces_cli.specs.Endings.{IsPlain, IsAnswered, IsPartly, IsByCalls, TellsUnwritten, TellsUnprinted, TellsOutOfMemory};
 
 use aces_reports::{Done, Failure, report, say};
 pub use aces_reports::{WordsRefusal, refuse_words};
 use aces_words::Command;
+use audit_commands::{auditing, telling};
 use commands::{bin, run};
 use complete::{bounded_calls, good_requests};
 use firmware_commands::{check, source};
@@ -31,7 +32,8 @@ use std::alloc::Global;
 /// Carries out what the words behind the program's name ask for, and answers the exit status: 0 done, 1 a fault in
 /// the content of a file or a limit of what is compiled that a firmware passes, 2 words that are no request, 3 a board without
 /// room for a firmware, 4 a file that was not read, 5 a file or output that was not written, 6 want of memory, 7 a run that ended
-/// by a stop, by a halt other than 0, or by a fault of the source, 8 a stack for which there is no bound, or a smaller stack.
+/// by a stop, by a halt other than 0, or by a fault of the source, 8 a no: a stack for which there is no bound, or a smaller stack, or an
+/// image that fails a check.
 ///
 /// Where the status is neither 0, 7 nor 8, one line on `err` tells why. A fault of `err` changes no status.
 pub fn aces<F: Files, O: Sink, E: Sink>(
@@ -43,7 +45,8 @@ pub fn aces<F: Files, O: Sink, E: Sink>(
 ) -> u8
     ensures usage { (result ≡ 2) ↔ IsUsage (map string_bytes words.now) }
 
-    // The call did what the words ask, of the contents where these are told, and else of the bytes that its own calls gave. So the
+    // The call did what the words ask, of the contents where these are told, and else of the bytes that its own calls gave. Where a file was
+    // not read, the last of its calls was to read it, and failed. So the
     // status is 3 exactly where a listing was asked, both texts are read, no limit is passed, and the blocks of flash, or else
     // those of RAM, have more bytes than it has (`ListAnswer`).
     ensures answer { IsTrue F.told → IsPlain result →
@@ -57,10 +60,6 @@ pub fn aces<F: Files, O: Sink, E: Sink>(
         (world F.Files files.new (sink O.Sink out.new))
         (sink E.Sink err.old) (sink E.Sink err.new) result }
 
-    ensures unread { result ≡ 4 → TellsUnread (map string_bytes words.now)
-        (world F.Files files.old (sink O.Sink out.old))
-        (world F.Files files.new (sink O.Sink out.new))
-        (sink E.Sink err.old) (sink E.Sink err.new) }
     ensures read_faults { (result ≡ 4) ⊎ (F.read_faults files.new ≡ F.read_faults files.old) }
 
     ensures unwritten { result ≡ 5 → TellsUnwritten (map string_bytes words.now)
@@ -156,5 +155,7 @@ fn perform<'a, F: Files, O: Sink>(
             board,
             policy,
         } => stack::stack(alloc, firmware, board, policy, files, out),
+        Command::Audit { image } => auditing::audit_image(alloc, image, files, out),
+        Command::Tables { image } => telling::tables(alloc, image, files, out),
     }
 }

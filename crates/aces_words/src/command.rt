@@ -2,7 +2,7 @@
 
 ghost use Rattle.std.specs.Prelude.{◌≡◌, ◌↔◌, ◌^◌, ◌<◌, ℕ, List, map, string_bytes, IsTrue, IfSome, IfNone};
 ghost use Rattle.std.specs.Fmt.{decimal};
-ghost use Rattle.aces_words.specs.Requests.{Run, Bin, Compile, Check, Source, Listing, Stack, Asks, IsUsage};
+ghost use Rattle.aces_words.specs.Requests.{Run, Bin, Compile, Check, Source, Listing, Stack, Audit, Tables, Asks, IsUsage};
 ghost use Rattle.aces_words.specs.declared.policy.Policy.{Policy as ThePolicy};
 ghost use Rattle.aces_words.specs.Commands.{request_of};
 
@@ -52,6 +52,14 @@ pub enum Command<'a> {
         board: &'a str,
         policy: Policy,
     },
+    /// Checks an image from anyone.
+    Audit {
+        image: &'a str,
+    },
+    /// Tells what the tables of an image say, where it passes that check.
+    Tables {
+        image: &'a str,
+    },
 }
 
 impl<'a> Command<'a> {
@@ -78,7 +86,13 @@ impl<'a> Command<'a> {
         if let Some(command) = list_of(words) {
             return Some(command);
         }
-        stack_of(words)
+        if let Some(command) = stack_of(words) {
+            return Some(command);
+        }
+        if let Some(command) = audit_of(words) {
+            return Some(command);
+        }
+        tables_of(words)
     }
 }
 
@@ -198,6 +212,32 @@ fn stack_of(words: &[String]) -> Option<Command<'_>>
                 policy,
             })
         }
+        _ => None,
+    }
+}
+
+/// `audit IMAGE`, if the words are of that form.
+fn audit_of(words: &[String]) -> Option<Command<'_>>
+    ensures command { IfSome result (λ c. Asks (map string_bytes words.now) (request_of c)) }
+    ensures none { IfNone result ((image : List ℕ) → Asks (map string_bytes words.now) (Audit image) → ⊥) }
+{
+    match words {
+        [name, image] if name.as_str() == "audit" => Some(Command::Audit {
+            image: image.as_str(),
+        }),
+        _ => None,
+    }
+}
+
+/// `tables IMAGE`, if the words are of that form.
+fn tables_of(words: &[String]) -> Option<Command<'_>>
+    ensures command { IfSome result (λ c. Asks (map string_bytes words.now) (request_of c)) }
+    ensures none { IfNone result ((image : List ℕ) → Asks (map string_bytes words.now) (Tables image) → ⊥) }
+{
+    match words {
+        [name, image] if name.as_str() == "tables" => Some(Command::Tables {
+            image: image.as_str(),
+        }),
         _ => None,
     }
 }

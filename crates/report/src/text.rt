@@ -88,8 +88,12 @@ impl Text {
     }
 
     /// Puts so many hexadecimal digits of a number behind the bytes that are there.
+    ///
+    /// # Errors
+    ///
+    /// There is no memory for them.
     #[tactic(auto, unfolding(lines::specs::Lines::hexadecimal))]
-    fn put_hexadecimal(&mut self, count: u8, number: u32) -> Result<(), AllocError>
+    pub fn put_hexadecimal(&mut self, count: u8, number: u32) -> Result<(), AllocError>
         ensures { OnOk result (self.new ≡ self.old ++ hexadecimal count number) }
     {
         if count == 0 {
@@ -99,14 +103,18 @@ impl Text {
         self.put_byte(digit((number % 16) as u8))
     }
 
-    /// Puts a range of addresses behind the bytes that are there.
+    /// Puts a range of addresses behind the bytes that are there: its base in eight digits, and its size.
+    ///
+    /// # Errors
+    ///
+    /// There is no memory for them.
     #[tactic(auto, unfolding(crate::specs::Names::range_text))]
-    pub(crate) fn put_range(&mut self, base: u32, size: u32) -> Result<(), AllocError>
+    pub fn put_range(&mut self, base: u32, size: u64) -> Result<(), AllocError>
         ensures { OnOk result (self.new ≡ self.old ++ range_text base size) }
     {
         self.put(b" 0x")?;
         self.put_hexadecimal(8, base)?;
         self.put(b" ")?;
-        self.put_decimal(u64::from(size))
+        self.put_decimal(size)
     }
 }

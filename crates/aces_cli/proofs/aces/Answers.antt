@@ -9,7 +9,7 @@ use Rattle.aces_cli.specs.Endings.{IsPlain, IsAnswered}
 use Rattle.aces_reports.specs.Sinks.{sink}
 use Rattle.commands.specs.Effects.{world}
 use Rattle.commands.proofs.Ends.{did_also, held_stays}
-use Rattle.aces_cli.proofs.Answered.{answer_also, usage_answered, answered, partly, printed_in_part}
+use Rattle.aces_cli.proofs.Answered.{answer_also, usage_answered, answered, unread, partly, printed_in_part}
 use Rattle.aces_cli.proofs.Kept.{writes_nothing}
 use Rattle.aces_cli.proofs.Settled.{is_plain, settled, complete}
 use Rattle.aces_cli.proofs.aces.Goals as goal
@@ -26,6 +26,7 @@ returns-in-None-clause-calls g c = (
   refl,
   record {
     asked = All-nil _;
+    unread = λ four. let f : ⊥ = omega (arith, four) in absurd f;
     answered = λ plain. usage_answered (WasRead []) (WasTooLarge []) (map (string_bytes {Z = Global}) c.args.words.now)
         (world g.F.Files c.args.files.now (sink g.O.Sink c.args.out.now)) (sink g.E.Sink c.args.err.now) (sink g.E.Sink c.say.new.err)
         c.in-None.ensures.usage c.say.ensures;
@@ -69,6 +70,8 @@ returns-in-Some-clause-calls g c =
       d.1,
       record {
         asked = All-weaker (IsCallOf r) (λ call. (q : Request) × Asks words q × IsCallOf q call) (λ call h. (r, c.in-Some.ensures.command, h)) d.0 d.2;
+        unread = λ four. unread (Answer r read large) words r c.in-Some.ensures.command old new err_old err_new d.0 c.perform-ended.result
+            (sym c.report.ensures.status ∙ four) did d.4 c.report.ensures.line;
         answered = λ plain. answered read large words r c.in-Some.ensures.command old new err_old err_new c.perform-ended.result c.report.result
             c.report.ensures.status did c.report.ensures.line plain;
         partly = λ five. partly read large words r c.in-Some.ensures.command old new err_old err_new c.perform-ended.result
