@@ -4,7 +4,7 @@ use Rattle.monitor.specs.declared.tables.Tables.{Tables}
 use Rattle.monitor.specs.TheCode.{monitor_code}
 use Rattle.monitor.specs.Confined.{Confined}
 use Rattle.monitor.specs.Promises.{OfSoundImages}
-use Rattle.thread_moves.specs.Planned.{TellsWhoRuns}
+use Rattle.thread_moves.specs.Runs.{TellsWhoRuns}
 use Rattle.audit.specs.declared.answer.Audit.{Audit}
 use Rattle.audit.specs.declared.answer.Audit.TheVariants.{Yes, No}
 use Rattle.audit.specs.Answers.{own_tables}
