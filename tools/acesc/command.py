@@ -10,7 +10,7 @@ from typing import Iterator, Optional
 from .common import Messages, UsageFault
 from .dump import ClangFault, declarations, run_clang
 from .emit import Emitter
-from .link import Function, Program
+from .link import Function, Program, Unit
 from .peripherals import Peripheral, read_table
 from .settle import settle
 from .shape import Analysis
@@ -34,6 +34,7 @@ Translates C to a firmware text of `aces` (docs/C.md).
 Messages are FILE:LINE:COLUMN: error: WHAT. Status 0: translated; 1: refused, and nothing is written; 2: usage.'''
 
 HERE = os.path.dirname(os.path.abspath(__file__))
+LIBRARY = os.path.join(HERE, 'lib', 'library.c')
 HANDLERS = re.compile(r'(_IRQHandler|_Handler|_ISR|_isr)$')
 NESTING = 50000
 
@@ -56,6 +57,16 @@ class Options:
         """The table of peripherals."""
         return read_table(self.table) if self.table is not None else []
 
+    def all_flags(self) -> list[str]:
+        """The flags for clang, those of the library's headers too."""
+        return self.flags + (['-idirafter', os.path.join(HERE, 'include')] if self.library else [])
+
+    def add_file(self, word: str) -> None:
+        """Takes a word that is no option."""
+        if word.startswith('-') and word != '-':
+            raise UsageFault(f'option {word} is not known')
+        self.files.append(word)
+
 
 def parse(words: list[str]) -> Options:
     """The options in the words of a request."""
@@ -63,12 +74,18 @@ def parse(words: list[str]) -> Options:
     rest = iter(words)
     for word in rest:
         if not parse_option(options, word, rest):
-            if word.startswith('-') and word != '-':
-                raise UsageFault(f'option {word} is not known')
-            options.files.append(word)
+            options.add_file(word)
+    finish_options(options)
+    return options
+
+
+def finish_options(options: Options) -> None:
+    """Checks the options together."""
     if not options.files:
         raise UsageFault('no C files')
-    return options
+    for path in options.files:
+        if not os.path.isfile(path):
+            raise UsageFault(f'cannot read {path}')
 
 
 def parse_option(options: Options, word: str, rest: Iterator[str]) -> bool:
@@ -107,28 +124,27 @@ def argument(word: str, rest: Iterator[str]) -> str:
 def read_program(options: Options, messages: Messages) -> Program:
     """Reads all files, and those of the library that they name."""
     program = Program(messages)
-    flags = list(options.flags)
-    if options.library:
-        flags += ['-idirafter', os.path.join(HERE, 'include')]
+    flags = options.all_flags()
+    short_enums, char_signed = last_of(flags, '-fshort-enums', '-fno-short-enums'), last_of(flags, '-fsigned-char', '-funsigned-char')
     refused: list[str] = []
 
-    def read(path: str) -> None:
-        reader = UnitReader(program, path, char_signed=last_of(flags, '-fsigned-char', '-funsigned-char'),
-                            short_enums=last_of(flags, '-fshort-enums', '-fno-short-enums'))
+    def read(unit: Unit, everything: bool) -> None:
+        program.units.append(unit)
         try:
-            reader.read(declarations(run_clang(options.clang, flags, path), options.everything))
+            UnitReader(program, unit, short_enums).read(declarations(run_clang(options.clang, flags, unit.path), everything))
         except ClangFault as fault:
             refused.append(str(fault))
     for path in options.files:
-        if not os.path.isfile(path):
-            raise UsageFault(f'cannot read {path}')
-        read(path)
+        read(Unit(path, char_signed), options.everything)
     if options.library and not refused:
-        for path in library_files(program):
-            read(path)
+        for unit in list(program.units):
+            if uses_library(program, unit):
+                unit.library = Unit(LIBRARY, char_signed, unit)
+                read(unit.library, False)
+                unit.library.library = unit.library
     if refused:
         raise ClangFault(''.join(refused))
-    scan_first_values(program)
+    scan_first_values(program, short_enums)
     program.settle_addresses()
     return program
 
@@ -139,25 +155,18 @@ def last_of(flags: list[str], yes: str, no: str) -> bool:
     return bool(found) and found[-1] == yes
 
 
-def library_files(program: Program) -> list[str]:
-    """The files of the library that define what the program names and does not define."""
-    folder = os.path.join(HERE, 'lib')
-    found: list[str] = []
-    missing = {name for name, entity in program.externals.items()
-               if (entity.body is None if isinstance(entity, Function) else not entity.is_defined)}
-    for name in sorted(os.listdir(folder)):
-        if name.endswith('.c') and name[:-2] in missing:
-            found.append(os.path.join(folder, name))
-    return found
+def uses_library(program: Program, unit: Unit) -> bool:
+    """Whether a unit names a function of the library that no file defines."""
+    with open(LIBRARY, encoding='utf-8') as file:
+        defined = set(re.findall(r'^(?:\w+ )+\*?(\w+)\(', file.read(), re.M))
+    return any(isinstance(x, Function) and x.body is None and x.name in defined for x in unit.entities.values())
 
 
-def scan_first_values(program: Program) -> None:
+def scan_first_values(program: Program, short_enums: bool) -> None:
     """Gives the first values of globals their types, once all files are read."""
     for variable in program.all_globals:
         if variable.first_value is not None and variable.function is None:
-            reader = UnitReader.__new__(UnitReader)
-            reader.program, reader.messages, reader.unit, reader.short_enums = program, program.messages, variable.unit, False
-            reader.scan(variable.first_value, None)
+            UnitReader(program, variable.unit, short_enums).scan(variable.first_value, None)
 
 
 def roots_of(program: Program, options: Options) -> list[Function]:
@@ -208,13 +217,18 @@ def main(words: list[str]) -> int:
     except ClangFault as fault:
         sys.stderr.write(str(fault))
         return 1
-    for line in messages.lines():
-        print(line, file=sys.stderr)
+    show(messages)
     if text is None:
         return 1
     if options.stats and emitter is not None:
         print_stats(emitter)
     return write(options.out, text)
+
+
+def show(messages: Messages) -> None:
+    """Tells everything on the error output."""
+    for line in messages.lines():
+        print(line, file=sys.stderr)
 
 
 def write(out: Optional[str], text: str) -> int:

@@ -49,7 +49,7 @@ class Reading:
         found = self.unit.entities.get(told['id'])
         if found is None:
             found = self.program.undeclared(self.unit, told.get('name', ''), told['kind'] == 'FunctionDecl')
-        return found
+        return self.program.of_library(self.unit, found) if isinstance(found, Function) else found
 
     def field(self, node: Node) -> tuple[Record, Field]:
         """The record and the field of a member expression."""

@@ -8,7 +8,7 @@ from typing import Any, Iterator, Optional
 
 from .common import Node, Place, UsageFault
 
-FLAGS = ('--target=thumbv7m-none-eabi', '-ffreestanding', '-fsyntax-only', '-Wno-everything', '-Werror=implicit-function-declaration',
+FLAGS = ('--target=thumbv7m-none-eabi', '-ffreestanding', '-nostdlibinc', '-fsyntax-only', '-Wno-everything', '-Werror=implicit-function-declaration',
          '-Werror=int-conversion', '-Xclang', '-ast-dump=json')
 # The path of offsetof is not in the dump, that of an expression is.
 OFFSETOF = '-D__builtin_offsetof(t,m)=((__SIZE_TYPE__)&((t*)0)->m)'

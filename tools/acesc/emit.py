@@ -201,10 +201,12 @@ class Emitter(FirstValues):
         functions: list[str] = []
         names: set[str] = set()
         for unit in self.program.units:
+            if unit.home is not unit:
+                continue
             functions.append(f'file {fresh(unit.name, names)} {{')
-            functions += texts[unit]
+            functions += [text for own in self.program.units if own.home is unit for text in texts[own]]
             functions += [routine_text(kind, name, self.helper('args', [WORD, '*u32']) if kind.endswith('64') else '')
-                          for (kind, owner), name in self.routine_names.items() if owner is unit]
+                          for (kind, owner), name in self.routine_names.items() if owner.home is unit]
             functions.append('}')
         globals_: list[str] = []
         for declared in self.globals_declared:

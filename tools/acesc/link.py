@@ -46,8 +46,10 @@ Entity = Union[Variable, Function, int]
 class Unit:
     """A translation unit: a .c file with what it includes."""
 
-    def __init__(self, path: str, char_signed: bool) -> None:
+    def __init__(self, path: str, char_signed: bool, home: Optional['Unit'] = None) -> None:
         self.path, self.name = path, os.path.basename(path)
+        self.home: 'Unit' = home or self                            # the unit in whose file its functions stand
+        self.library: Optional['Unit'] = None                       # its copy of the small C library
         self.types = TypeReader(char_signed)
         self.entities: dict[str, Entity] = {}                       # by clang's number of the declaration
         self.statics: dict[str, Union[Variable, Function]] = {}
@@ -116,6 +118,13 @@ class Program:
             found = Function(name, FunctionType(VOID, (), False, True), unit)
             self.externals[name] = found
         return found
+
+    def of_library(self, unit: Unit, function: Function) -> Function:
+        """The unit's own copy of a library function, where no file defines the function."""
+        if function.body is None and unit.library is not None:
+            found = unit.library.statics.get(function.name)
+            return found if isinstance(found, Function) else function
+        return function
 
     def main(self) -> Optional[Function]:
         """The function where a run begins, or nothing; that it is missing is told."""

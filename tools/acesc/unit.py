@@ -6,7 +6,7 @@ import re
 from typing import Iterable, Optional
 
 from .attributes import check_attributes
-from .c_types import Array, BadType, CType, FunctionType, Int, INT, RecordType, UNSIGNED, VOID, decayed
+from .c_types import Array, BadType, CType, FunctionType, Int, RecordType, VOID, decayed
 from .common import Node, Place, Refusal
 from .layout import Field, Record
 from .link import Function, Program, Unit, Variable
@@ -17,11 +17,8 @@ BUILTIN_TYPES = ('__builtin_va_list', '__NSConstantString', '__int128_t', '__uin
 class UnitReader:
     """Reads one unit into a program."""
 
-    def __init__(self, program: Program, path: str, char_signed: bool = False, short_enums: bool = False) -> None:
-        self.program, self.messages = program, program.messages
-        self.unit = Unit(path, char_signed)
-        self.short_enums = short_enums
-        program.units.append(self.unit)
+    def __init__(self, program: Program, unit: Unit, short_enums: bool = False) -> None:
+        self.program, self.messages, self.unit, self.short_enums = program, program.messages, unit, short_enums
 
     def read(self, declarations: Iterable[Node]) -> Unit:
         """Reads all declarations; what cannot be read is told."""
@@ -223,7 +220,7 @@ class UnitReader:
         """Reads a function, and its body where it has one."""
         unit, name, place = self.unit, node['name'], node.get('_place')
         storage = node.get('storageClass')
-        static = storage == 'static' or bool(node.get('inline')) and storage != 'extern'
+        static = storage == 'static' or bool(node.get('inline')) and storage != 'extern' or self.unit.home is not self.unit
         check_attributes(node, self.messages)
         fault = None
         try:
@@ -360,6 +357,3 @@ def is_const(text: str) -> bool:
     if '*' in text:
         return 'const' in text.rsplit('*', 1)[1]
     return 'const' in text.split()
-
-
-__all__ = ['UnitReader', 'content', 'INT', 'UNSIGNED']
