@@ -95,8 +95,8 @@ class Layouts:
         unit = 8 * field.integer.size
         bits = field.bits or 0
         if bits == 0:
-            # ends the unit; the procedure call standard also aligns the struct so
-            return round_up(at, unit), most if record.packed else max(most, unit // 8)
+            # ends the unit; the procedure call standard also aligns the struct so, even a packed one
+            return round_up(at, unit), max(most, unit // 8)
         if record.packed or record.pack == 1:
             # any bit may be the first: the bytes that the field touches are its unit
             align = 1
