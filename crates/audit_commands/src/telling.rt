@@ -28,24 +28,20 @@ fn told_of<'a>(alloc: Global, image: &'a str, bytes: &[u8]) -> Result<Told, Fail
     let read = image_of(alloc, image, bytes)?;
     sound_images_are_guarded();
     match audited(alloc, &read)? {
-        Audited::Sound(tables) => {
-            let lines = table_lines(alloc, &read, &tables)?;
-            Ok(Told {
-                lines,
-                done: Done::Completed,
-            })
-        }
-        Audited::Unsound(failed) => {
-            let answer = Audit::No {
-                check: failed.check,
-                at: failed.at,
-            };
-            let lines = answer_line(alloc, &answer)?;
-            Ok(Told {
-                lines,
-                done: Done::Negative,
-            })
-        }
+        Audited::Sound(tables) => Ok(Told {
+            lines: table_lines(alloc, &read, &tables)?,
+            done: Done::Completed,
+        }),
+        Audited::Unsound(failed) => Ok(Told {
+            lines: answer_line(
+                alloc,
+                &Audit::No {
+                    check: failed.check,
+                    at: failed.at,
+                },
+            )?,
+            done: Done::Negative,
+        }),
     }
 }
 
