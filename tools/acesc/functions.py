@@ -78,7 +78,7 @@ class Functions(Statements):
             else:
                 variable.text_name = self.new_local(variable.name, self.object_type(variable.memory, variable.ctype))
                 for register in own:
-                    code.names.setdefault(register, variable.name)
+                    code.names.setdefault(register, variable)
                 self.stored(self.variable_place(variable), own)
 
 

@@ -279,7 +279,7 @@ class Statements(Calls):
         """Makes these the registers of a variable."""
         self.variables[variable] = registers
         for register in registers:
-            self.code.names.setdefault(register, variable.name)
+            self.code.names.setdefault(register, variable)
 
     def declared(self, node: Node) -> None:
         """A variable that is declared, and its first value."""
