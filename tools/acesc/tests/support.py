@@ -35,7 +35,7 @@ def program_words(name: str) -> list[str]:
     return ['-p', str(folder / 'peripherals.txt'), '-I', str(PROGRAMS), *map(str, sorted(folder.glob('*.c')))]
 
 
-def tape(folder: Path, name: str, words: int = 250) -> str:
+def tape(folder: Path, name: str, words: int = 60) -> str:
     """Words for each peripheral: small numbers, single bits, any, and the program's own texts; the same on each run."""
     generator = random.Random(name)
     own = [line.split() for line in (folder / 'words.txt').read_text().splitlines()] if (folder / 'words.txt').exists() else []
