@@ -7,8 +7,8 @@ from typing import Optional
 from .builder import Callee
 from .c_types import Array
 from .code import FunctionCode, Instruction
-from .common import Place, Refusal, WORD, fresh
-from .first_values import AddressOf, CellValue, FirstValues, InCode, Scalar
+from .common import Place, Refusal, UNKNOWN_FORM, WORD, as_refusal, fresh
+from .first_values import CellValue, FirstValues, InCode, Scalar
 from .functions import INITIALISER
 from .link import Function, Program, Unit, Variable
 from .peripherals import Peripheral
@@ -101,8 +101,9 @@ class Emitter(FirstValues):
                 if scalars:
                     todo.setdefault(variable.unit, []).append((variable, scalars))
                 self.globals_declared.append(Declared(variable, values, bool(scalars)))
-            except Refusal as fault:
-                self.messages.error(fault.what, fault.place or variable.place)
+            except (Refusal, *UNKNOWN_FORM) as fault:
+                refusal = as_refusal(fault)
+                self.messages.error(refusal.what, refusal.place or variable.place)
         self.initialised_units = [unit for unit in self.program.units if unit in todo]
         for unit in self.initialised_units:
             self.initialiser_names[unit] = fresh(f'init.{unit.name}', self.taken)
@@ -120,8 +121,9 @@ class Emitter(FirstValues):
                     continue
                 try:
                     self.codes[unit].append(self.function_code(function))
-                except Refusal as fault:
-                    self.refuse_function(function, fault.what, fault.place)
+                except (Refusal, *UNKNOWN_FORM) as fault:
+                    refusal = as_refusal(fault)
+                    self.refuse_function(function, refusal.what, refusal.place)
                 except RecursionError:
                     self.refuse_function(function, 'an expression that is nested too deep', None)
 
@@ -323,5 +325,3 @@ class Emitter(FirstValues):
             return to + words[0]
         return f'{to}{ {"element": "elem", "load": "load", "store": "store"}[kind]} {", ".join(words)}'
 
-
-__all__ = ['Emitter', 'AddressOf']

@@ -2,7 +2,7 @@
 from __future__ import annotations
 
 from .builder import Callee
-from .c_types import Array, RecordType
+from .c_types import RecordType
 from .classes import LoweredSignature, Signature
 from .code import FunctionCode
 from .common import fresh
@@ -81,5 +81,3 @@ class Functions(Statements):
                     code.names.setdefault(register, variable)
                 self.stored(self.variable_place(variable), own)
 
-
-__all__ = ['Functions', 'INITIALISER', 'Array']

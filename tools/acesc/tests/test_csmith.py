@@ -19,16 +19,17 @@ OPTIONS = ['--no-float', '--no-argc', '--max-funcs', '2', '--max-block-size', '3
 HEADER = '''
 #include <stdint.h>
 #include <limits.h>
-static uint32_t check = 0xFFFFFFFFu;
+#define printf(...) ((void)0)
+static uint32_t crc32_context = 0xFFFFFFFFu;
 static void transparent_crc(uint64_t value, const char *name, int flag)
 {
     for (int i = 0; i < 8; i++)
-        check = (check ^ (uint32_t)(value >> 8 * i & 0xFF)) * 16777619u;
-    *(volatile uint32_t *)0x40010800u = check;
+        crc32_context = (crc32_context ^ (uint32_t)(value >> 8 * i & 0xFF)) * 16777619u;
+    *(volatile uint32_t *)0x40010800u = crc32_context;
 }
 static void platform_main_begin(void) {}
 static void crc32_gentab(void) {}
-static void platform_main_end(uint32_t value, int flag) { *(volatile uint32_t *)0x40010804u = value ^ check; }
+static void platform_main_end(uint32_t value, int flag) { *(volatile uint32_t *)0x40010804u = value; }
 '''
 
 
