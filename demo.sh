@@ -36,6 +36,8 @@ cd "$examples"
 call 10-check check "$examples/satellite.ir"
 call 11-list list "$examples/satellite.ir" "$examples/board.toml" filename
 call 12-list list "$examples/satellite.ir" "$examples/board16.toml" filename
+call 13-stack stack "$examples/satellite.ir" "$examples/board.toml" filename
+call 14-stack stack "$examples/satellite.ir" "$examples/board16.toml" filename
 call 20-compile compile "$examples/satellite.ir" "$examples/board.toml" filename "$work/satellite.image"
 call 21-compile compile "$examples/satellite.ir" "$examples/board16.toml" filename "$work/satellite16.image"
 call 30-source source "$examples/satellite.ir" filename "$examples/satellite.tape" 10000
@@ -97,6 +99,11 @@ show 11-list
 echo
 echo "The same with 16 regions, where all that is not needed is closed to reading too. Nothing is exposed."
 show 12-list
+
+echo
+echo "How much of the stack its calls need at most, and by which path. Both fit, so the images follow every run of the source that meets no fault."
+show 13-stack
+show 14-stack
 
 echo
 echo "Images for both boards: code, monitor and tables."

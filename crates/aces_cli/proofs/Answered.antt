@@ -1,19 +1,22 @@
 -- What the top call says, from what its command did.
-use Rattle.std.proofs.Common.{◌≡◌, ℕ, ◌⊎◌, inl, inr, List, [], ◌++◌, None, Ok, Err, Result, refl, ap, sym, ◌∙◌, subst, append-nil, arith}
+use Rattle.std.proofs.Common.{◌≡◌, ℕ, ◌⊎◌, inl, inr, List, [], ◌++◌, None, Ok, Err, Result, IfErr, refl, ap, sym, ◌∙◌, subst, append-nil, arith}
+use Rattle.outside.specs.Calls.{Call}
 use Rattle.aces_reports.specs.declared.failure.Done.{Done}
-use Rattle.aces_reports.specs.declared.failure.Done.TheVariants.{Completed, RunFailed}
+use Rattle.aces_reports.specs.declared.failure.Done.TheVariants.{Completed, RunFailed, Negative}
 use Rattle.aces_reports.specs.declared.failure.Failure.{Failure}
 use Rattle.aces_reports.specs.declared.failure.Failure.TheVariants.{Refused, PastLimit, NoRoom, Unread, Unwritten, Unprinted, NoMemory}
 use Rattle.aces_words.specs.declared.policy.Policy.{Policy}
-use Rattle.aces_words.specs.Requests.{Request, Run, Bin, Compile, Check, Source, Listing, Asks, IsUsage, Origin}
+use Rattle.aces_words.specs.Requests.{Request, Run, Bin, Compile, Check, Source, Listing, Stack, Audit, Tables, Asks, IsUsage, Origin}
 use Rattle.aces_reports.specs.FaultLines.{usage_line}
 use Rattle.aces_reports.specs.Sinks.{SinkState, Says}
 use Rattle.aces_reports.specs.Ends.{status_of, line_of}
 use Rattle.commands.specs.Outcomes.{Outcome, refused, past_limit, no_room, usage}
+use Rattle.commands.specs.CarriesOut.{NamesLast}
 use Rattle.commands.specs.Effects.{World, Does, Quiet, IsCarriedOut, IsPart, IsPrintedInPart}
 use Rattle.commands.proofs.Answering.{run_also, bin_also}
+use Rattle.audit_commands.proofs.Answering.{audit_also, tables_also}
 use Rattle.firmware_commands.proofs.Answering.{check_also, source_also}
-use Rattle.aces_cli.specs.Answer.{AnswerToList, AnswerToCompile, firmware_large, board_large, all_read, Answer, no_request, to_request}
+use Rattle.aces_cli.specs.Answer.{AnswerToList, AnswerToStack, AnswerToCompile, firmware_large, board_large, all_read, Answer, no_request, to_request}
 use Rattle.aces_cli.specs.Endings.{IsPlain, IsAnswered, IsPartly, AsksForSource, TellsUnread, TellsUnwritten, TellsUnprinted, TellsOutOfMemory}
 
 -- answers from what is known are answers from what follows of it
@@ -23,6 +26,11 @@ module _ (Has Had : Origin → List ℕ → Type 0) (Exceeds Exceeded : Origin �
   list_also firmware board policy o (firmware_large e) = firmware_large (large _ e)
   list_also firmware board policy o (board_large bytes h e) = board_large bytes (also _ bytes h) (large _ e)
   list_also firmware board policy o (all_read bytes text p h k a) = all_read bytes text p (also _ bytes h) (also _ text k) a
+
+  stack_also : (firmware board : List ℕ) (policy : Policy) (o : Outcome) → AnswerToStack firmware board policy Has Exceeds o → AnswerToStack firmware board policy Had Exceeded o
+  stack_also firmware board policy o (firmware_large e) = firmware_large (large _ e)
+  stack_also firmware board policy o (board_large bytes h e) = board_large bytes (also _ bytes h) (large _ e)
+  stack_also firmware board policy o (all_read bytes text p h k a) = all_read bytes text p (also _ bytes h) (also _ text k) a
 
   compile_also : (firmware board : List ℕ) (policy : Policy) (image : List ℕ) (o : Outcome)
       → AnswerToCompile firmware board policy image Has Exceeds o → AnswerToCompile firmware board policy image Had Exceeded o
@@ -37,6 +45,9 @@ module _ (Has Had : Origin → List ℕ → Type 0) (Exceeds Exceeded : Origin �
   answer_also (Check firmware) o a = check_also Has Had Exceeds Exceeded also large firmware o a
   answer_also (Source firmware policy tape steps) o a = source_also Has Had Exceeds Exceeded also large firmware policy tape steps o a
   answer_also (Listing firmware board policy) o a = list_also firmware board policy o a
+  answer_also (Stack firmware board policy) o a = stack_also firmware board policy o a
+  answer_also (Audit image) o a = audit_also Has Had Exceeds Exceeded also large image o a
+  answer_also (Tables image) o a = tables_also Has Had Exceeds Exceeded also large image o a
 
 -- nothing is printed and written, and no fault rose
 nothing_more : (old new : World) (o : Outcome) → Quiet old new → new.read_faults ≡ old.read_faults → o.printed ≡ [] → o.written ≡ None → IsCarriedOut old new o
@@ -76,6 +87,13 @@ module _ (Has : Origin → List ℕ → Type 0) (Exceeds : Origin → Type 0) (w
     all = d.all;
     says = subst (Says err_old err_new) (sym d.silent) l;
   }
+  answered (Ok Negative) s q d l p = record {
+    outcome = d.outcome;
+    answer = to_request r d.outcome asks d.answer;
+    ended = d.ended ∙ sym q;
+    all = d.all;
+    says = subst (Says err_old err_new) (sym d.silent) l;
+  }
   answered (Err (Refused name f)) s q d l p = record {
     outcome = refused name.now f;
     answer = to_request r (refused name.now f) asks d.answer;
@@ -108,6 +126,7 @@ module _ (Has : Origin → List ℕ → Type 0) (Exceeds : Origin → Type 0) (w
   pub partly : (e : Result Done Failure) → status_of e ≡ 5 → Does (Answer r Has Exceeds) r old new e → IsPartly Has Exceeds words old new
   partly (Ok Completed) q d = let f : ⊥ = omega (arith, q) in absurd f
   partly (Ok RunFailed) q d = let f : ⊥ = omega (arith, q) in absurd f
+  partly (Ok Negative) q d = let f : ⊥ = omega (arith, q) in absurd f
   partly (Err (Refused name f)) q d = let f : ⊥ = omega (arith, q) in absurd f
   partly (Err (PastLimit which count)) q d = let f : ⊥ = omega (arith, q) in absurd f
   partly (Err (NoRoom memory c needed available)) q d = let f : ⊥ = omega (arith, q) in absurd f
@@ -123,10 +142,14 @@ module _ (Has : Origin → List ℕ → Type 0) (Exceeds : Origin → Type 0) (w
   in_part (Check firmware) h = inl h
   in_part (Source firmware policy tape steps) h = elim h [ inl e ↦ inl e | inr p ↦ inr (part_of p) ]
   in_part (Listing firmware board policy) h = inl h
+  in_part (Stack firmware board policy) h = inl h
+  in_part (Audit image) h = inl h
+  in_part (Tables image) h = inl h
 
   pub printed_in_part : (e : Result Done Failure) → status_of e ≡ 6 → Does (Answer r Has Exceeds) r old new e → (new.out ≡ old.out) ⊎ IsPartly Has Exceeds words old new
   printed_in_part (Ok Completed) q d = let f : ⊥ = omega (arith, q) in absurd f
   printed_in_part (Ok RunFailed) q d = let f : ⊥ = omega (arith, q) in absurd f
+  printed_in_part (Ok Negative) q d = let f : ⊥ = omega (arith, q) in absurd f
   printed_in_part (Err (Refused name f)) q d = let f : ⊥ = omega (arith, q) in absurd f
   printed_in_part (Err (PastLimit which count)) q d = let f : ⊥ = omega (arith, q) in absurd f
   printed_in_part (Err (NoRoom memory c needed available)) q d = let f : ⊥ = omega (arith, q) in absurd f
@@ -137,21 +160,24 @@ module _ (Has : Origin → List ℕ → Type 0) (Exceeds : Origin → Type 0) (w
 
 module _ (A : Outcome → Type 0) (words : List (List ℕ)) (r : Request) (asks : Asks words r)
     (old new : World) (err_old err_new : SinkState) where
-  pub unread : (e : Result Done Failure) → status_of e ≡ 4 → Does A r old new e → Says err_old err_new (line_of e) → TellsUnread words old new err_old err_new
-  unread (Ok Completed) q d l = let f : ⊥ = omega (arith, q) in absurd f
-  unread (Ok RunFailed) q d l = let f : ⊥ = omega (arith, q) in absurd f
-  unread (Err (Refused name f)) q d l = let f : ⊥ = omega (arith, q) in absurd f
-  unread (Err (PastLimit which count)) q d l = let f : ⊥ = omega (arith, q) in absurd f
-  unread (Err (NoRoom memory c needed available)) q d l = let f : ⊥ = omega (arith, q) in absurd f
-  unread (Err (Unread name)) q d l = record { request = r; asks = asks; name = name.now; unread = d; says = l }
-  unread (Err (Unwritten name)) q d l = let f : ⊥ = omega (arith, q) in absurd f
-  unread (Err Unprinted) q d l = let f : ⊥ = omega (arith, q) in absurd f
-  unread (Err NoMemory) q d l = let f : ⊥ = omega (arith, q) in absurd f
+  pub unread : (calls : List Call) (e : Result Done Failure) → status_of e ≡ 4 → Does A r old new e → IfErr e (NamesLast calls) → Says err_old err_new (line_of e)
+      → TellsUnread calls words old new err_old err_new
+  unread calls (Ok Completed) q d n l = let f : ⊥ = omega (arith, q) in absurd f
+  unread calls (Ok RunFailed) q d n l = let f : ⊥ = omega (arith, q) in absurd f
+  unread calls (Ok Negative) q d n l = let f : ⊥ = omega (arith, q) in absurd f
+  unread calls (Err (Refused name f)) q d n l = let f : ⊥ = omega (arith, q) in absurd f
+  unread calls (Err (PastLimit which count)) q d n l = let f : ⊥ = omega (arith, q) in absurd f
+  unread calls (Err (NoRoom memory c needed available)) q d n l = let f : ⊥ = omega (arith, q) in absurd f
+  unread calls (Err (Unread name)) q d n l = record { request = r; asks = asks; name = name.now; unread = d; last = n; says = l }
+  unread calls (Err (Unwritten name)) q d n l = let f : ⊥ = omega (arith, q) in absurd f
+  unread calls (Err Unprinted) q d n l = let f : ⊥ = omega (arith, q) in absurd f
+  unread calls (Err NoMemory) q d n l = let f : ⊥ = omega (arith, q) in absurd f
 
   pub unwritten : (e : Result Done Failure) → status_of e ≡ 5 → Does A r old new e → Says err_old err_new (line_of e)
       → TellsUnwritten words old new err_old err_new ⊎ TellsUnprinted old new err_old err_new
   unwritten (Ok Completed) q d l = let f : ⊥ = omega (arith, q) in absurd f
   unwritten (Ok RunFailed) q d l = let f : ⊥ = omega (arith, q) in absurd f
+  unwritten (Ok Negative) q d l = let f : ⊥ = omega (arith, q) in absurd f
   unwritten (Err (Refused name f)) q d l = let f : ⊥ = omega (arith, q) in absurd f
   unwritten (Err (PastLimit which count)) q d l = let f : ⊥ = omega (arith, q) in absurd f
   unwritten (Err (NoRoom memory c needed available)) q d l = let f : ⊥ = omega (arith, q) in absurd f
@@ -167,10 +193,14 @@ module _ (A : Outcome → Type 0) (words : List (List ℕ)) (r : Request) (asks 
   quiet_unless (Check firmware) a h = inl h
   quiet_unless (Source firmware policy tape steps) a h = inr (record { firmware = firmware; policy = policy; tape = tape; steps = steps; asks = a })
   quiet_unless (Listing firmware board policy) a h = inl h
+  quiet_unless (Stack firmware board policy) a h = inl h
+  quiet_unless (Audit image) a h = inl h
+  quiet_unless (Tables image) a h = inl h
 
   pub out_of_memory : (e : Result Done Failure) → status_of e ≡ 6 → Does A r old new e → Says err_old err_new (line_of e) → TellsOutOfMemory words old new err_old err_new
   out_of_memory (Ok Completed) q d l = let f : ⊥ = omega (arith, q) in absurd f
   out_of_memory (Ok RunFailed) q d l = let f : ⊥ = omega (arith, q) in absurd f
+  out_of_memory (Ok Negative) q d l = let f : ⊥ = omega (arith, q) in absurd f
   out_of_memory (Err (Refused name f)) q d l = let f : ⊥ = omega (arith, q) in absurd f
   out_of_memory (Err (PastLimit which count)) q d l = let f : ⊥ = omega (arith, q) in absurd f
   out_of_memory (Err (NoRoom memory c needed available)) q d l = let f : ⊥ = omega (arith, q) in absurd f
@@ -182,6 +212,7 @@ module _ (A : Outcome → Type 0) (words : List (List ℕ)) (r : Request) (asks 
   pub reads_stay : (e : Result Done Failure) → Does A r old new e → (status_of e ≡ 4) ⊎ (new.read_faults ≡ old.read_faults)
   reads_stay (Ok Completed) d = inr d.all.read_faults
   reads_stay (Ok RunFailed) d = inr d.all.read_faults
+  reads_stay (Ok Negative) d = inr d.all.read_faults
   reads_stay (Err (Refused name f)) d = inr d.read_faults
   reads_stay (Err (PastLimit which count)) d = inr d.read_faults
   reads_stay (Err (NoRoom memory c needed available)) d = inr d.read_faults
@@ -196,6 +227,7 @@ module _ (A : Outcome → Type 0) (words : List (List ℕ)) (r : Request) (asks 
   pub writes_stay : (e : Result Done Failure) → Does A r old new e → (status_of e ≡ 5) ⊎ ((new.write_faults ≡ old.write_faults) × (new.out.faults ≡ old.out.faults))
   writes_stay (Ok Completed) d = inr (d.all.write_faults, d.all.faults)
   writes_stay (Ok RunFailed) d = inr (d.all.write_faults, d.all.faults)
+  writes_stay (Ok Negative) d = inr (d.all.write_faults, d.all.faults)
   writes_stay (Err (Refused name f)) d = inr (writes_of d.quiet)
   writes_stay (Err (PastLimit which count)) d = inr (writes_of d.quiet)
   writes_stay (Err (NoRoom memory c needed available)) d = inr (writes_of d.quiet)

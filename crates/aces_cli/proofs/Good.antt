@@ -1,5 +1,5 @@
 -- A good request has no outcome but the one that says that all was done.
-use Rattle.std.proofs.Common.{◌≡◌, ℕ, length, ◌<◌, ◌≤◌, IsSomeAnd, List, Option, Some, None, refl, sym, ◌∙◌, ap, subst, arith}
+use Rattle.std.proofs.Common.{◌≡◌, ℕ, ◌⊎◌, inl, inr, Bool, true, false, cond, nat_le, length, ◌<◌, ◌≤◌, IsSomeAnd, List, Option, Some, None, refl, sym, ◌∙◌, ap, subst, arith}
 use Rattle.ir_model.specs.Plain.{PlainFirmware}
 use Rattle.plan_model.specs.declared.plan.Board.{Board}
 use Rattle.board_text.specs.declared.fault.BoardFault.{BoardFault}
@@ -11,15 +11,20 @@ use Rattle.planning.specs.declared.refusal.PlanningRefusal.{PlanningRefusal}
 use Rattle.planning.specs.declared.refusal.PlanningRefusal.TheVariants as planning
 use Rattle.firmware_plans.specs.Plannable.{IsPlannable}
 use Rattle.firmware_plans.specs.Unplanned.{IsRefusedBy}
+use Rattle.firmware_stacks.specs.Limited.{KeepsLimitsBy}
+use Rattle.firmware_stacks.specs.Lines.{stack_status}
+use Rattle.stack_paths.specs.declared.answer.StackAnswer.{StackAnswer}
+use Rattle.stack_paths.specs.declared.answer.StackAnswer.TheVariants.{Cycle, Bound}
 use Rattle.aces_words.specs.declared.policy.Policy.{Policy}
 use Rattle.aces_words.specs.Requests.{Request, Origin, file_origin, firmware_origin}
 use Rattle.commands.specs.Outcomes.{Outcome}
 use Rattle.commands.specs.Contents.{of_board}
 use Rattle.firmware_commands.specs.Firmwares.{IsFirmware}
 use Rattle.commands.specs.Known.{Held, Holds, Exceeds}
-use Rattle.aces_cli.specs.Answer.{PlanAnswer, ListAnswer, CompileAnswer, no_firmware, no_board, too_many, no_flash, no_ram, unplanned, listed, compiled, AnswerToList, AnswerToCompile, firmware_large, board_large, all_read, Answer}
-use Rattle.aces_cli.specs.Complete.{IsCompilable, IsGood, run, bin, compile, check, source, list, IsDoneBy, GoodRequestsAreDone}
+use Rattle.aces_cli.specs.Answer.{PlanAnswer, ListAnswer, StackAnswers, CompileAnswer, no_firmware, no_board, too_many, no_flash, no_ram, unplanned, listed, bounded, compiled, AnswerToList, AnswerToStack, AnswerToCompile, firmware_large, board_large, all_read, Answer}
+use Rattle.aces_cli.specs.Complete.{IsCompilable, IsBoundable, IsGood, run, bin, compile, check, source, list, stack, audit, tables, IsDoneBy, GoodRequestsAreDone}
 use Rattle.aces_cli.proofs.Runnable.{Laws, good_run, good_bin}
+use Rattle.aces_cli.proofs.Auditable.{good_audit, good_tables}
 use Rattle.aces_cli.proofs.SourceRunnable.{is_firmware, firmwares_are_one, good_check, good_source}
 
 -- boards of texts
@@ -29,6 +34,15 @@ module _ (read : BoardsAreNotRefused) where
       let same : first ≡ board_fault.NoMemory = read t b first h k in
       let wrong : None ≡ Some f = ap of_board (sym same) ∙ q in
       cc
+
+-- a bound fits, or not
+stack_ends : (size : ℕ) (a : StackAnswer) → (stack_status size a ≡ 0) ⊎ (stack_status size a ≡ 8)
+stack_ends size (Cycle c) = inr refl
+stack_ends size (Bound needed path) = by (nat_le needed size)
+  where
+    by : (t : Bool) → (◌≡◌ {A = ℕ} (cond t 0 8) 0) ⊎ (◌≡◌ {A = ℕ} (cond t 0 8) 8)
+    by true = inl refl
+    by false = inr refl
 
 module _ (laws : Laws) where
   -- a firmware that has a plan is refused for nothing but want of memory
@@ -53,6 +67,18 @@ module _ (laws : Laws) where
   list_done firmware board policy bytes t o g (unplanned p h) = absurd (plan_none firmware board policy bytes t o g h)
   list_done firmware board policy bytes t o g (listed w b lines h k l) = refl
 
+  within_one : (policy : Policy) (bytes t : List ℕ) (w : PlainFirmware) (b : Board) → IsBoundable policy bytes t → IsFirmware w bytes → IsRead t b → KeepsLimitsBy policy w b
+  within_one policy bytes t w b g h k =
+      subst (KeepsLimitsBy policy w) (laws.boards t g.board b g.is_board k)
+      (subst (λ v. KeepsLimitsBy policy v g.board) (firmwares_are_one laws.unique laws.faultless g.firmware w bytes g.is_firmware h) g.limits)
+
+  stack_done : (firmware board : List ℕ) (policy : Policy) (bytes t : List ℕ) (o : Outcome) → IsBoundable policy bytes t → StackAnswers firmware board policy bytes t o
+      → (o.status ≡ 0) ⊎ (o.status ≡ 8)
+  stack_done firmware board policy bytes t o g (no_firmware f k) = absurd (is_firmware laws.unique laws.faultless g.firmware bytes f g.is_firmware k)
+  stack_done firmware board policy bytes t o g (no_board w f h k) = absurd (board_has_no_fault laws.read t g.board f g.is_board k.first k.found k.named)
+  stack_done firmware board policy bytes t o g (too_many w b which count h k r) = absurd (laws.limited policy w b which count (within_one policy bytes t w b g h k) r)
+  stack_done firmware board policy bytes t o g (bounded w b a h k s) = stack_ends b.stack a
+
   compile_done : (firmware board : List ℕ) (policy : Policy) (image bytes t : List ℕ) (o : Outcome) → IsCompilable policy bytes t
       → CompileAnswer firmware board policy image bytes t o → o.status ≡ 0
   compile_done firmware board policy image bytes t o g (unplanned p h) = absurd (plan_none firmware board policy bytes t o g h)
@@ -65,6 +91,13 @@ module _ (laws : Laws) where
     good_list firmware board policy bytes t o h k g (board_large bytes1 h1 e) = absurd (fits _ t k e)
     good_list firmware board policy bytes t o h k g (all_read bytes1 t1 o1 h1 k1 a) =
         list_done firmware board policy bytes1 t1 o (subst (IsCompilable policy bytes1) (one _ t t1 k k1) (subst (λ z. IsCompilable policy z t) (one _ bytes bytes1 h h1) g)) a
+
+    good_stack : (firmware board : List ℕ) (policy : Policy) (bytes t : List ℕ) (o : Outcome) → Has (firmware_origin firmware) bytes → Has (file_origin board) t
+        → IsBoundable policy bytes t → AnswerToStack firmware board policy Has Exceeds o → (o.status ≡ 0) ⊎ (o.status ≡ 8)
+    good_stack firmware board policy bytes t o h k g (firmware_large e) = absurd (fits _ bytes h e)
+    good_stack firmware board policy bytes t o h k g (board_large bytes1 h1 e) = absurd (fits _ t k e)
+    good_stack firmware board policy bytes t o h k g (all_read bytes1 t1 o1 h1 k1 a) =
+        stack_done firmware board policy bytes1 t1 o (subst (IsBoundable policy bytes1) (one _ t t1 k k1) (subst (λ z. IsBoundable policy z t) (one _ bytes bytes1 h h1) g)) a
 
     good_compile : (firmware board : List ℕ) (policy : Policy) (image bytes t : List ℕ) (o : Outcome) → Has (firmware_origin firmware) bytes → Has (file_origin board) t
         → IsCompilable policy bytes t → AnswerToCompile firmware board policy image Has Exceeds o → o.status ≡ 0
@@ -80,8 +113,11 @@ module _ (laws : Laws) where
     good_is_done r o (check firmware bytes w h g) a = good_check laws Has Exceeds one fits firmware bytes w o h g a
     good_is_done r o (source firmware policy tape steps bytes t h k g) a = good_source laws Has Exceeds one fits firmware policy tape steps bytes t o h k g a
     good_is_done r o (list firmware board policy bytes t h k g) a = good_list firmware board policy bytes t o h k g a
+    good_is_done r o (stack firmware board policy bytes t h k g) a = good_stack firmware board policy bytes t o h k g a
+    good_is_done r o (audit image bytes i h g) a = good_audit laws Has Exceeds one fits image bytes i o h g a
+    good_is_done r o (tables image bytes i h g) a = good_tables laws Has Exceeds one fits image bytes i o h g a
 
-held_is_one : (held : Held) (s : Origin) (a b : List ℕ) → Holds held s a → Holds held s b → a ≡ b
+pub held_is_one : (held : Held) (s : Origin) (a b : List ℕ) → Holds held s a → Holds held s b → a ≡ b
 held_is_one held s a b h k = let both : Some a ≡ Some b = sym h.there ∙ k.there in cc
 
 held_fits : (held : Held) (s : Origin) (a : List ℕ) → Holds held s a → Exceeds held s → ⊥

@@ -2,6 +2,8 @@ mod Planning
 mod Answered
 mod Kept
 mod Runnable
+mod Auditable
 mod SourceRunnable
 mod Good
+mod Followed
 mod Settled

@@ -9,6 +9,7 @@ use Rattle.ir_reader.specs.Laws as readers
 use Rattle.board_text.specs.Laws.{BoardsAreOne, BoardsAreNotRefused}
 use Rattle.aces_reports.specs.declared.failure.Fault.{Fault}
 use Rattle.firmware_plans.specs.Laws.{RefusalsAndPlansExclude}
+use Rattle.firmware_stacks.specs.Laws.{LimitsExclude}
 use Rattle.armv7m.specs.declared.state.End.{End}
 use Rattle.armv7m.specs.declared.state.End.TheVariants.{Halt, InputEnd, Limit, Stop, Refused}
 use Rattle.armv7m.specs.Run.{start}
@@ -41,9 +42,10 @@ pub record Laws : Type 0 where
   pub boards : BoardsAreOne
   pub read : BoardsAreNotRefused
   pub planned : RefusalsAndPlansExclude
+  pub limited : LimitsExclude
 
 module _ (laws : Laws) where
-  is_image : (i : Image) (bytes : List ℕ) (f : Fault) → images.IsText i bytes → IsNoImage bytes f → ⊥
+  pub is_image : (i : Image) (bytes : List ℕ) (f : Fault) → images.IsText i bytes → IsNoImage bytes f → ⊥
   is_image i bytes f h k = let wrong : None ≡ Some k.first = sym (laws.no_fault i bytes h) ∙ k.found in cc
 
   run_done : (image tape : List ℕ) (steps : ℕ) (bytes t : List ℕ) (o : Outcome) → IsRunnable bytes t → RunAnswer image tape steps bytes t o → (o.status ≡ 0) ⊎ (o.status ≡ 7)

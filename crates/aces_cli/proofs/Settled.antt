@@ -2,7 +2,7 @@
 use Rattle.std.proofs.Common.{◌≡◌, ℕ, ◌<◌, ◌⊎◌, inl, inr, List, [], ◌∷◌, true, false, Option, Result, Ok, Err, IsTrue, IsNone, refl, ap, sym, ◌∙◌, subst, arith}
 use Rattle.outside.specs.Counts.{Rose, Stayed}
 use Rattle.aces_reports.specs.declared.failure.Done.{Done}
-use Rattle.aces_reports.specs.declared.failure.Done.TheVariants.{Completed, RunFailed}
+use Rattle.aces_reports.specs.declared.failure.Done.TheVariants.{Completed, RunFailed, Negative}
 use Rattle.aces_reports.specs.declared.failure.Failure.{Failure}
 use Rattle.aces_reports.specs.declared.failure.Failure.TheVariants.{Refused, PastLimit, NoRoom, Unread, Unwritten, Unprinted, NoMemory}
 use Rattle.aces_reports.specs.Ends.{status_of}
@@ -12,7 +12,7 @@ use Rattle.commands.specs.Outcomes.{Outcome, refused, past_limit, no_room}
 use Rattle.aces_cli.specs.Answer.{Answer}
 use Rattle.commands.specs.Effects.{World, Does, IsUnread}
 use Rattle.aces_cli.specs.Endings.{IsPlain}
-use Rattle.aces_cli.specs.Complete.{NoneFailed, AreThere, HasFiles, IsGood, run, bin, compile, check, source, list, IsDoneBy, GoodRequestsAreDone}
+use Rattle.aces_cli.specs.Complete.{NoneFailed, AreThere, HasFiles, IsGood, run, bin, compile, check, source, list, stack, audit, tables, IsDoneBy, GoodRequestsAreDone}
 use Rattle.aces_words.proofs.Requests.{requests_are_one}
 
 pub is_plain : (s : ℕ) → (s < 4) ⊎ (6 < s) → IsPlain s
@@ -47,6 +47,9 @@ good_is_there held r (compile firmware board policy image bytes t h k g) = ((byt
 good_is_there held r (check firmware bytes w h g) = ((bytes, h.there), tt)
 good_is_there held r (source firmware policy tape steps bytes t h k g) = ((bytes, h.there), ((t, k.there), tt))
 good_is_there held r (list firmware board policy bytes t h k g) = ((bytes, h.there), ((t, k.there), tt))
+good_is_there held r (stack firmware board policy bytes t h k g) = ((bytes, h.there), ((t, k.there), tt))
+good_is_there held r (audit image bytes i h g) = ((bytes, h.there), tt)
+good_is_there held r (tables image bytes i h g) = ((bytes, h.there), tt)
 
 -- an outcome that the request has, with a plain status
 record IsSettled (A : Outcome → Type 0) (s : ℕ) : Type 0 where
@@ -62,6 +65,7 @@ module _ (A : Outcome → Type 0) (r : Request) (old new : World) (told : IsTrue
   settles : (e : Result Done Failure) → Does A r old new e → IsSettled A (status_of e) ⊎ (status_of e ≡ 6)
   settles (Ok Completed) d = inl (record { outcome = d.outcome; answer = d.answer; ended = d.ended; plain = is_plain 0 (inl (omega arith)) })
   settles (Ok RunFailed) d = inl (record { outcome = d.outcome; answer = d.answer; ended = d.ended; plain = is_plain 7 (inr (omega arith)) })
+  settles (Ok Negative) d = inl (record { outcome = d.outcome; answer = d.answer; ended = d.ended; plain = is_plain 8 (inr (omega arith)) })
   settles (Err (Refused name f)) d = inl (record { outcome = refused name.now f; answer = d.answer; ended = refl; plain = is_plain 1 (inl (omega arith)) })
   settles (Err (PastLimit which count)) d = inl (record { outcome = past_limit which count; answer = d.answer; ended = refl; plain = is_plain 1 (inl (omega arith)) })
   settles (Err (NoRoom memory c needed available)) d = inl (record { outcome = no_room memory c needed available; answer = d.answer; ended = refl; plain = is_plain 3 (inl (omega arith)) })

@@ -9,8 +9,9 @@ use Rattle.ir_program.specs.Windows.{windows_of}
 use Rattle.plan_model.specs.declared.plan.Board.{Board}
 use Rattle.board_text.specs.Reading as boards
 use Rattle.firmware_plans.specs.Plannable.{IsPlannable}
+use Rattle.firmware_stacks.specs.Limited.{KeepsLimitsBy}
 use Rattle.aces_words.specs.declared.policy.Policy.{Policy}
-use Rattle.aces_words.specs.Requests.{Request, Run, Bin, Compile, Check, Source, Listing, Asks, Origin, origins, file_origin, firmware_origin}
+use Rattle.aces_words.specs.Requests.{Request, Run, Bin, Compile, Check, Source, Listing, Stack, Audit, Tables, Asks, Origin, origins, file_origin, firmware_origin}
 use Rattle.commands.specs.Known.{Held, Holds, Exceeds}
 use Rattle.commands.specs.Outcomes.{Outcome}
 use Rattle.firmware_commands.specs.Firmwares.{IsFirmware}
@@ -52,6 +53,14 @@ pub record IsCompilable (policy : Policy) (bytes text : List ℕ) : Type 0 where
   pub is_board : boards.IsRead text board
   pub plannable : IsPlannable policy firmware board
 
+-- the same where no limit of what is compiled is passed
+pub record IsBoundable (policy : Policy) (bytes text : List ℕ) : Type 0 where
+  pub firmware : PlainFirmware
+  pub board : Board
+  pub is_firmware : IsFirmware firmware bytes
+  pub is_board : boards.IsRead text board
+  pub limits : KeepsLimitsBy policy firmware board
+
 -- what the files of a request hold is what it takes: `Has` says which bytes a source within its limit holds
 module _ (Has : Origin → List ℕ → Type 0) where
   pub data IsGood : Request → Type 0 where
@@ -65,8 +74,13 @@ module _ (Has : Origin → List ℕ → Type 0) where
         IsSourceRunnable bytes text → IsGood (Source firmware policy tape steps)
     list : (firmware board : List ℕ) (policy : Policy) (bytes text : List ℕ) → Has (firmware_origin firmware) bytes → Has (file_origin board) text →
         IsCompilable policy bytes text → IsGood (Listing firmware board policy)
+    stack : (firmware board : List ℕ) (policy : Policy) (bytes text : List ℕ) → Has (firmware_origin firmware) bytes → Has (file_origin board) text →
+        IsBoundable policy bytes text → IsGood (Stack firmware board policy)
+    audit : (image : List ℕ) (bytes : List ℕ) (i : Image) → Has (file_origin image) bytes → IsText i bytes → IsGood (Audit image)
+    tables : (image : List ℕ) (bytes : List ℕ) (i : Image) → Has (file_origin image) bytes → IsText i bytes → IsGood (Tables image)
 
--- the status says that all was done: 0, and where a run was asked for also 7, which says that it ended badly
+-- the status says that all was done: 0, and where a run was asked for also 7, which says that it ended badly, and where a bound also 8, which
+-- says that there is none or that the stack is smaller; so where an image was to be checked, which says that it fails
 abbrev pub IsDoneBy : Request → (status : ℕ) → Type 0
 IsDoneBy (Run image tape steps) status = (status ≡ 0) ⊎ (status ≡ 7)
 IsDoneBy (Bin image file) status = status ≡ 0
@@ -74,6 +88,9 @@ IsDoneBy (Compile firmware board policy image) status = status ≡ 0
 IsDoneBy (Check firmware) status = status ≡ 0
 IsDoneBy (Source firmware policy tape steps) status = (status ≡ 0) ⊎ (status ≡ 7)
 IsDoneBy (Listing firmware board policy) status = status ≡ 0
+IsDoneBy (Stack firmware board policy) status = (status ≡ 0) ⊎ (status ≡ 8)
+IsDoneBy (Audit image) status = (status ≡ 0) ⊎ (status ≡ 8)
+IsDoneBy (Tables image) status = (status ≡ 0) ⊎ (status ≡ 8)
 
 -- a good request has no outcome but one that says so
 abbrev pub GoodRequestsAreDone : Type 0

@@ -1,6 +1,7 @@
 -- What a call did to the outside, by the status with which it ended.
 use Rattle.std.specs.Prelude.{◌≡◌, ◌≢◌, ℕ, ◌⊎◌, List, All}
 use Rattle.outside.specs.Calls.{Call}
+use Rattle.outside.specs.Reading.{EndsUnread}
 use Rattle.aces_words.specs.declared.policy.Policy.{Policy}
 use Rattle.aces_words.specs.Requests.{Request, Source, Asks, Origin}
 use Rattle.commands.specs.Known.{WasRead, WasTooLarge, IsCallOf}
@@ -32,21 +33,24 @@ pub record IsPartly (Has : Origin → List ℕ → Type 0) (Exceeds : Origin →
   pub answer : Answers Has Exceeds words outcome
   pub part : IsBrokenOff old new outcome
 
--- what was done by the answers of these calls, all of which read a file that the words name for reading or write the one that they name
--- for writing: what the words ask, and the first part of it after status 5 or 6
-pub record IsByCalls (calls : List Call) (words : List (List ℕ)) (old new : World) (err_old err_new : SinkState) (status : ℕ) : Type 0 where
-  pub asked : All (λ call. (r : Request) × Asks words r × IsCallOf r call) calls
-  pub answered : IsPlain status → IsAnswered (WasRead calls) (WasTooLarge calls) words old new err_old err_new status
-  pub partly : status ≡ 5 → IsPartly (WasRead calls) (WasTooLarge calls) words old new
-  pub printed_in_part : status ≡ 6 → (new.out ≡ old.out) ⊎ IsPartly (WasRead calls) (WasTooLarge calls) words old new
-
--- a file that the words name for reading was not read, and the line says so
-pub record TellsUnread (words : List (List ℕ)) (old new : World) (err_old err_new : SinkState) : Type 0 where
+-- a file that the words name for reading was not read: it is the one that the last of these calls was to read, which failed, and the line
+-- says so
+pub record TellsUnread (calls : List Call) (words : List (List ℕ)) (old new : World) (err_old err_new : SinkState) : Type 0 where
   pub request : Request
   pub asks : Asks words request
   pub name : List ℕ
   pub unread : IsUnread request old new name
+  pub last : EndsUnread name calls
   pub says : Says err_old err_new (unread_line name)
+
+-- what was done by the answers of these calls, all of which read a file that the words name for reading or write the one that they name
+-- for writing: what the words ask, and the first part of it after status 5 or 6; and after status 4, which file was not read
+pub record IsByCalls (calls : List Call) (words : List (List ℕ)) (old new : World) (err_old err_new : SinkState) (status : ℕ) : Type 0 where
+  pub asked : All (λ call. (r : Request) × Asks words r × IsCallOf r call) calls
+  pub unread : status ≡ 4 → TellsUnread calls words old new err_old err_new
+  pub answered : IsPlain status → IsAnswered (WasRead calls) (WasTooLarge calls) words old new err_old err_new status
+  pub partly : status ≡ 5 → IsPartly (WasRead calls) (WasTooLarge calls) words old new
+  pub printed_in_part : status ≡ 6 → (new.out ≡ old.out) ⊎ IsPartly (WasRead calls) (WasTooLarge calls) words old new
 
 -- the file that the words name for writing was not written, and the line says so
 pub record TellsUnwritten (words : List (List ℕ)) (old new : World) (err_old err_new : SinkState) : Type 0 where

@@ -1,9 +1,11 @@
-//! What a good request can end with: a function that does nothing, whose contract is the law.
+//! What a good request can end with, and what `stack` and `compile` say together: functions that do nothing, whose contract is the law.
 
+ghost use Rattle.aces_cli.specs.Bounded.{BoundedCallsAreFollowed};
 ghost use Rattle.aces_cli.specs.Complete.{GoodRequestsAreDone};
 
 use board_text::laws::boards_are_one;
 use firmware_plans::laws::refusals_and_plans_exclude;
+use firmware_stacks::laws::limits_exclude;
 use image::laws::{faults as image_faults, texts as image_texts};
 use ir_reader::laws::{faults, texts};
 
@@ -17,4 +19,14 @@ pub fn good_requests()
     image_faults();
     boards_are_one();
     refusals_and_plans_exclude();
+    limits_exclude();
+}
+
+/// Where a call was asked to compile and ended with 0, and `stack` has an answer with status 0 to the same files, the image that it wrote refines the
+/// firmware with no premise on the stack.
+pub fn bounded_calls()
+    ensures { BoundedCallsAreFollowed }
+{
+    texts();
+    boards_are_one();
 }

@@ -4,6 +4,7 @@
 mod compile;
 mod complete;
 mod list;
+mod stack;
 
 ghost use Rattle.std.specs.Prelude.{◌≡◌, ◌≢◌, ◌↔◌, ◌⊎◌, List, map, IsTrue, string_bytes};
 ghost use Rattle.outside.specs.Calls.{Call, Calls};
@@ -15,13 +16,15 @@ ghost use Rattle.aces_reports.specs.Sinks.{sink};
 ghost use Rattle.commands.specs.CarriesOut.{CarriesOut};
 ghost use Rattle.commands.specs.Effects.{world};
 ghost use Rattle.aces_cli.specs.Answer.{Answer};
-ghost use Rattle.aces_cli.specs.Endings.{IsPlain, IsAnswered, IsPartly, IsByCalls, TellsUnread, TellsUnwritten, TellsUnprinted, TellsOutOfMemory};
+ghost use Rattle.aces_cli.specs.Bounded.{FollowsBounded};
+ghost use Rattle.aces_cli.specs.Endings.{IsPlain, IsAnswered, IsPartly, IsByCalls, TellsUnwritten, TellsUnprinted, TellsOutOfMemory};
 
 use aces_reports::{Done, Failure, report, say};
 pub use aces_reports::{WordsRefusal, refuse_words};
 use aces_words::Command;
+use audit_commands::{auditing, telling};
 use commands::{bin, run};
-use complete::good_requests;
+use complete::{bounded_calls, good_requests};
 use firmware_commands::{check, source};
 use outside::{Files, Sink};
 use std::alloc::Global;
@@ -29,9 +32,10 @@ use std::alloc::Global;
 /// Carries out what the words behind the program's name ask for, and answers the exit status: 0 done, 1 a fault in
 /// the content of a file or a limit of what is compiled that a firmware passes, 2 words that are no request, 3 a board without
 /// room for a firmware, 4 a file that was not read, 5 a file or output that was not written, 6 want of memory, 7 a run that ended
-/// by a stop, by a halt other than 0, or by a fault of the source.
+/// by a stop, by a halt other than 0, or by a fault of the source, 8 a no: a stack for which there is no bound, or a smaller stack, or an
+/// image that fails a check.
 ///
-/// Where the status is neither 0 nor 7, one line on `err` tells why. A fault of `err` changes no status.
+/// Where the status is neither 0, 7 nor 8, one line on `err` tells why. A fault of `err` changes no status.
 pub fn aces<F: Files, O: Sink, E: Sink>(
     alloc: Global,
     words: &[String],
@@ -41,7 +45,8 @@ pub fn aces<F: Files, O: Sink, E: Sink>(
 ) -> u8
     ensures usage { (result ≡ 2) ↔ IsUsage (map string_bytes words.now) }
 
-    // The call did what the words ask, of the contents where these are told, and else of the bytes that its own calls gave. So the
+    // The call did what the words ask, of the contents where these are told, and else of the bytes that its own calls gave. Where a file was
+    // not read, the last of its calls was to read it, and failed. So the
     // status is 3 exactly where a listing was asked, both texts are read, no limit is passed, and the blocks of flash, or else
     // those of RAM, have more bytes than it has (`ListAnswer`).
     ensures answer { IsTrue F.told → IsPlain result →
@@ -55,10 +60,6 @@ pub fn aces<F: Files, O: Sink, E: Sink>(
         (world F.Files files.new (sink O.Sink out.new))
         (sink E.Sink err.old) (sink E.Sink err.new) result }
 
-    ensures unread { result ≡ 4 → TellsUnread (map string_bytes words.now)
-        (world F.Files files.old (sink O.Sink out.old))
-        (world F.Files files.new (sink O.Sink out.new))
-        (sink E.Sink err.old) (sink E.Sink err.new) }
     ensures read_faults { (result ≡ 4) ⊎ (F.read_faults files.new ≡ F.read_faults files.old) }
 
     ensures unwritten { result ≡ 5 → TellsUnwritten (map string_bytes words.now)
@@ -99,6 +100,10 @@ pub fn aces<F: Files, O: Sink, E: Sink>(
         (world F.Files files.new (sink O.Sink out.new)) →
         (r : Request) → Asks (map string_bytes words.now) r → IsGood (Holds (F.held files.old)) r →
         IsDoneBy r result ⊎ (result ≡ 6) }
+
+    // Where the words ask to compile and the status is 0, and what the files held has an answer of `stack` with status 0 too, the image file holds
+    // an image that does what the source does wherever that meets no fault, with no premise on the stack.
+    ensures bounded { IsTrue F.told → result ≡ 0 → FollowsBounded (map string_bytes words.now) (F.held files.old) (F.held files.new) }
     ensures kept { result ≢ 0 → result ≢ 5 → F.held files.new ≡ F.held files.old }
 {
     match Command::of_words(words) {
@@ -108,6 +113,7 @@ pub fn aces<F: Files, O: Sink, E: Sink>(
         }
         Some(command) => {
             good_requests();
+            bounded_calls();
             let ended = perform(alloc, command, files, out);
             report(ended, err)
         }
@@ -144,5 +150,12 @@ fn perform<'a, F: Files, O: Sink>(
             board,
             policy,
         } => list::list(alloc, firmware, board, policy, files, out),
+        Command::Stack {
+            firmware,
+            board,
+            policy,
+        } => stack::stack(alloc, firmware, board, policy, files, out),
+        Command::Audit { image } => auditing::audit_image(alloc, image, files, out),
+        Command::Tables { image } => telling::tables(alloc, image, files, out),
     }
 }

@@ -17,6 +17,8 @@ pub enum Done {
     Completed,
     /// A run by a stop, or by a halt other than 0: status 7.
     RunFailed,
+    /// With a no to what was asked: status 8.
+    Negative,
 }
 
 /// What is wrong with the content of a file.

@@ -22,6 +22,7 @@ pub fn report<E: Sink>(ended: Result<Done, Failure>, err: &mut E) -> u8
     match ended {
         Ok(Done::Completed) => 0,
         Ok(Done::RunFailed) => 7,
+        Ok(Done::Negative) => 8,
         Err(failure) => {
             say_failure(err, &failure);
             failure_status(&failure)

@@ -5,7 +5,7 @@ use Rattle.std.specs.Fmt.{decimal}
 use Rattle.std.proofs.lemmas.Slice.Eq.{bytes_eq-Decides}
 use Rattle.std.proofs.Common.{◌≡◌, ℕ, ◌<◌, ◌≤◌, ◌^◌, List, [], ◌∷◌, length, get_or, map, true, Option, Some, None, IfNone, ap, sym, ◌∙◌, arith}
 use Rattle.aces_words.specs.declared.policy.Policy.{Policy}
-use Rattle.aces_words.specs.Requests.{Run, Bin, Compile, Check, Source, Listing, policy_word, Asks, IsUsage}
+use Rattle.aces_words.specs.Requests.{Run, Bin, Compile, Check, Source, Listing, Stack, Audit, Tables, policy_word, Asks, IsUsage}
 
 module _ {S : Type 0} (f : S → List ℕ) where
   two : (xs : List S) (a b : S) → 2 ≤ length xs → length xs < 3 → a ≡ get_or xs 0 a → b ≡ get_or xs 1 b → f a ∷ f b ∷ [] ≡ map f xs
@@ -112,6 +112,22 @@ module _ {S : Type 0} (f : S → List ℕ) where
     spelled = ap (λ v. v ∷ firmware ∷ []) (same_word a name (codes "check") e t) ∙ ap (λ v. f a ∷ v ∷ []) i ∙ two xs a b h k p q;
   }
 
+  pub audit_words : (xs : List S) (a b : S) (name image : List ℕ) → 2 ≤ length xs → length xs < 3
+      → a ≡ get_or xs 0 a → b ≡ get_or xs 1 b
+      → name ≡ f a → bytes_eq name (codes "audit") ≡ true → image ≡ f b → Asks (map f xs) (Audit image)
+  audit_words xs a b name image h k p q e t i = record {
+    within = tt;
+    spelled = ap (λ v. v ∷ image ∷ []) (same_word a name (codes "audit") e t) ∙ ap (λ v. f a ∷ v ∷ []) i ∙ two xs a b h k p q;
+  }
+
+  pub tables_words : (xs : List S) (a b : S) (name image : List ℕ) → 2 ≤ length xs → length xs < 3
+      → a ≡ get_or xs 0 a → b ≡ get_or xs 1 b
+      → name ≡ f a → bytes_eq name (codes "tables") ≡ true → image ≡ f b → Asks (map f xs) (Tables image)
+  tables_words xs a b name image h k p q e t i = record {
+    within = tt;
+    spelled = ap (λ v. v ∷ image ∷ []) (same_word a name (codes "tables") e t) ∙ ap (λ v. f a ∷ v ∷ []) i ∙ two xs a b h k p q;
+  }
+
   pub source_words : (xs : List S) (a b c d e : S) (name firmware : List ℕ) (policy : Policy) (policy_text tape word : List ℕ) (steps : ℕ) → 5 ≤ length xs → length xs < 6
       → a ≡ get_or xs 0 a → b ≡ get_or xs 1 b → c ≡ get_or xs 2 c → d ≡ get_or xs 3 d → e ≡ get_or xs 4 e
       → name ≡ f a → bytes_eq name (codes "source") ≡ true → firmware ≡ f b → policy_text ≡ f c → policy_word policy ≡ policy_text → tape ≡ f d → word ≡ f e
@@ -130,6 +146,17 @@ module _ {S : Type 0} (f : S → List ℕ) where
   list_words xs a b c d name firmware board policy policy_text h k p q r s n1 n2 i j m1 m2 = record {
     within = tt;
     spelled = ap (λ v. v ∷ firmware ∷ board ∷ policy_word policy ∷ []) (same_word a name (codes "list") n1 n2) ∙ ap (λ v. f a ∷ v ∷ board ∷ policy_word policy ∷ []) i
+        ∙ ap (λ v. f a ∷ f b ∷ v ∷ policy_word policy ∷ []) j ∙ ap (λ v. f a ∷ f b ∷ f c ∷ v ∷ []) (m2 ∙ m1)
+        ∙ four xs a b c d h k p q r s;
+  }
+
+  pub stack_words : (xs : List S) (a b c d : S) (name firmware board : List ℕ) (policy : Policy) (policy_text : List ℕ) → 4 ≤ length xs → length xs < 5
+      → a ≡ get_or xs 0 a → b ≡ get_or xs 1 b → c ≡ get_or xs 2 c → d ≡ get_or xs 3 d
+      → name ≡ f a → bytes_eq name (codes "stack") ≡ true → firmware ≡ f b → board ≡ f c → policy_text ≡ f d → policy_word policy ≡ policy_text
+      → Asks (map f xs) (Stack firmware board policy)
+  stack_words xs a b c d name firmware board policy policy_text h k p q r s n1 n2 i j m1 m2 = record {
+    within = tt;
+    spelled = ap (λ v. v ∷ firmware ∷ board ∷ policy_word policy ∷ []) (same_word a name (codes "stack") n1 n2) ∙ ap (λ v. f a ∷ v ∷ board ∷ policy_word policy ∷ []) i
         ∙ ap (λ v. f a ∷ f b ∷ v ∷ policy_word policy ∷ []) j ∙ ap (λ v. f a ∷ f b ∷ f c ∷ v ∷ []) (m2 ∙ m1)
         ∙ four xs a b c d h k p q r s;
   }
@@ -158,6 +185,11 @@ module _ {S : Type 0} (f : S → List ℕ) where
   no_list_policy xs d word h t m none firmware board policy asks =
       none policy (fourth xs d h t (codes "list") firmware board (policy_word policy) [] asks.spelled ∙ sym m)
 
+  pub no_stack_policy : (xs : List S) (d : S) (word : List ℕ) → 4 ≤ length xs → d ≡ get_or xs 3 d → word ≡ f d
+      → ((p : Policy) → policy_word p ≡ word → ⊥) → (firmware board : List ℕ) (policy : Policy) → Asks (map f xs) (Stack firmware board policy) → ⊥
+  no_stack_policy xs d word h t m none firmware board policy asks =
+      none policy (fourth xs d h t (codes "stack") firmware board (policy_word policy) [] asks.spelled ∙ sym m)
+
 -- what holds of a missing value, and what follows of it
 pub none_also : {X : Type 0} (o : Option X) (P Q : Type 0) → (P → Q) → IfNone o P → IfNone o Q
 none_also None P Q m h = m h
@@ -167,10 +199,15 @@ none_also (Some x) P Q m h = tt
 pub no_request : (words : List (List ℕ)) → ((image tape : List ℕ) (steps : ℕ) → Asks words (Run image tape steps) → ⊥) → ((image file : List ℕ) → Asks words (Bin image file) → ⊥) →
     ((firmware board : List ℕ) (policy : Policy) (image : List ℕ) → Asks words (Compile firmware board policy image) → ⊥) → ((firmware : List ℕ) → Asks words (Check firmware) → ⊥) →
     ((firmware : List ℕ) (policy : Policy) (tape : List ℕ) (steps : ℕ) → Asks words (Source firmware policy tape steps) → ⊥) →
-    ((firmware board : List ℕ) (policy : Policy) → Asks words (Listing firmware board policy) → ⊥) → IsUsage words
-no_request words x y z u v l (Run image tape steps) asks = x image tape steps asks
-no_request words x y z u v l (Bin image file) asks = y image file asks
-no_request words x y z u v l (Compile firmware board policy image) asks = z firmware board policy image asks
-no_request words x y z u v l (Check firmware) asks = u firmware asks
-no_request words x y z u v l (Source firmware policy tape steps) asks = v firmware policy tape steps asks
-no_request words x y z u v l (Listing firmware board policy) asks = l firmware board policy asks
+    ((firmware board : List ℕ) (policy : Policy) → Asks words (Listing firmware board policy) → ⊥) →
+    ((firmware board : List ℕ) (policy : Policy) → Asks words (Stack firmware board policy) → ⊥) →
+    ((image : List ℕ) → Asks words (Audit image) → ⊥) → ((image : List ℕ) → Asks words (Tables image) → ⊥) → IsUsage words
+no_request words x y z u v l s a t (Run image tape steps) asks = x image tape steps asks
+no_request words x y z u v l s a t (Bin image file) asks = y image file asks
+no_request words x y z u v l s a t (Compile firmware board policy image) asks = z firmware board policy image asks
+no_request words x y z u v l s a t (Check firmware) asks = u firmware asks
+no_request words x y z u v l s a t (Source firmware policy tape steps) asks = v firmware policy tape steps asks
+no_request words x y z u v l s a t (Listing firmware board policy) asks = l firmware board policy asks
+no_request words x y z u v l s a t (Stack firmware board policy) asks = s firmware board policy asks
+no_request words x y z u v l s a t (Audit image) asks = a image asks
+no_request words x y z u v l s a t (Tables image) asks = t image asks

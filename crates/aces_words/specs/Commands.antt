@@ -2,7 +2,7 @@
 -- Commands as the code names them.
 use Rattle.aces_words.specs.declared.command.Command.{Command}
 use Rattle.aces_words.specs.declared.command.Command.TheVariants as commands
-use Rattle.aces_words.specs.Requests.{Request, Run, Bin, Compile, Check, Source, Listing}
+use Rattle.aces_words.specs.Requests.{Request, Run, Bin, Compile, Check, Source, Listing, Stack, Audit, Tables}
 
 abbrev pub request_of : Command → Request
 request_of (commands.Run image tape steps) = Run image.now tape.now steps
@@ -11,3 +11,6 @@ request_of (commands.Compile firmware board policy image) = Compile firmware.now
 request_of (commands.Check firmware) = Check firmware.now
 request_of (commands.Source firmware policy tape steps) = Source firmware.now policy tape.now steps
 request_of (commands.List firmware board policy) = Listing firmware.now board.now policy
+request_of (commands.Stack firmware board policy) = Stack firmware.now board.now policy
+request_of (commands.Audit image) = Audit image.now
+request_of (commands.Tables image) = Tables image.now

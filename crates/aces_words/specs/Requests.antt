@@ -24,6 +24,12 @@ pub data Request : Type 0 where
   Source : (firmware : List ℕ) → Policy → (tape : List ℕ) → (steps : ℕ) → Request
   -- list the compartments of a firmware on a board, by a policy
   Listing : (firmware board : List ℕ) → Policy → Request
+  -- bound what the calls of a firmware take of a board's stack, the compartments being those of a policy
+  Stack : (firmware board : List ℕ) → Policy → Request
+  -- check an image from anyone
+  Audit : (image : List ℕ) → Request
+  -- tell what the tables of an image say, where it passes that check
+  Tables : (image : List ℕ) → Request
 
 -- the words of a request; a number is written by its decimal digits, without a leading zero
 abbrev pub words_of : Request → List (List ℕ)
@@ -33,6 +39,9 @@ words_of (Compile firmware board policy image) = codes "compile" ∷ firmware �
 words_of (Check firmware) = codes "check" ∷ firmware ∷ []
 words_of (Source firmware policy tape steps) = codes "source" ∷ firmware ∷ policy_word policy ∷ tape ∷ decimal steps ∷ []
 words_of (Listing firmware board policy) = codes "list" ∷ firmware ∷ board ∷ policy_word policy ∷ []
+words_of (Stack firmware board policy) = codes "stack" ∷ firmware ∷ board ∷ policy_word policy ∷ []
+words_of (Audit image) = codes "audit" ∷ image ∷ []
+words_of (Tables image) = codes "tables" ∷ image ∷ []
 
 -- its numbers have at most 32 bits
 abbrev pub IsWithin : Request → Type 0
@@ -42,6 +51,9 @@ IsWithin (Compile firmware board policy image) = Unit {0}
 IsWithin (Check firmware) = Unit {0}
 IsWithin (Source firmware policy tape steps) = steps < 2 ^ 32
 IsWithin (Listing firmware board policy) = Unit {0}
+IsWithin (Stack firmware board policy) = Unit {0}
+IsWithin (Audit image) = Unit {0}
+IsWithin (Tables image) = Unit {0}
 
 -- these words are those of the request
 pub record Asks (words : List (List ℕ)) (request : Request) : Type 0 where
@@ -79,6 +91,9 @@ origins (Compile firmware board policy image) = firmware_origin firmware ∷ fil
 origins (Check firmware) = firmware_origin firmware ∷ []
 origins (Source firmware policy tape steps) = firmware_origin firmware ∷ file_origin tape ∷ []
 origins (Listing firmware board policy) = firmware_origin firmware ∷ file_origin board ∷ []
+origins (Stack firmware board policy) = firmware_origin firmware ∷ file_origin board ∷ []
+origins (Audit image) = file_origin image ∷ []
+origins (Tables image) = file_origin image ∷ []
 
 -- the file that it writes
 abbrev pub target : Request → Option (List ℕ)
@@ -88,3 +103,6 @@ target (Compile firmware board policy image) = Some image
 target (Check firmware) = None
 target (Source firmware policy tape steps) = None
 target (Listing firmware board policy) = None
+target (Stack firmware board policy) = None
+target (Audit image) = None
+target (Tables image) = None

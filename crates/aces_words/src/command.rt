@@ -2,7 +2,7 @@
 
 ghost use Rattle.std.specs.Prelude.{◌≡◌, ◌↔◌, ◌^◌, ◌<◌, ℕ, List, map, string_bytes, IsTrue, IfSome, IfNone};
 ghost use Rattle.std.specs.Fmt.{decimal};
-ghost use Rattle.aces_words.specs.Requests.{Run, Bin, Compile, Check, Source, Listing, Asks, IsUsage};
+ghost use Rattle.aces_words.specs.Requests.{Run, Bin, Compile, Check, Source, Listing, Stack, Audit, Tables, Asks, IsUsage};
 ghost use Rattle.aces_words.specs.declared.policy.Policy.{Policy as ThePolicy};
 ghost use Rattle.aces_words.specs.Commands.{request_of};
 
@@ -46,6 +46,20 @@ pub enum Command<'a> {
         board: &'a str,
         policy: Policy,
     },
+    /// Bounds what the calls of a firmware take of a board's stack, the compartments being those of a policy.
+    Stack {
+        firmware: &'a str,
+        board: &'a str,
+        policy: Policy,
+    },
+    /// Checks an image from anyone.
+    Audit {
+        image: &'a str,
+    },
+    /// Tells what the tables of an image say, where it passes that check.
+    Tables {
+        image: &'a str,
+    },
 }
 
 impl<'a> Command<'a> {
@@ -69,7 +83,16 @@ impl<'a> Command<'a> {
         if let Some(command) = source_of(words) {
             return Some(command);
         }
-        list_of(words)
+        if let Some(command) = list_of(words) {
+            return Some(command);
+        }
+        if let Some(command) = stack_of(words) {
+            return Some(command);
+        }
+        if let Some(command) = audit_of(words) {
+            return Some(command);
+        }
+        tables_of(words)
     }
 }
 
@@ -171,6 +194,50 @@ fn list_of(words: &[String]) -> Option<Command<'_>>
                 policy,
             })
         }
+        _ => None,
+    }
+}
+
+/// `stack FIRMWARE BOARD POLICY`, if the words are of that form.
+fn stack_of(words: &[String]) -> Option<Command<'_>>
+    ensures command { IfSome result (λ c. Asks (map string_bytes words.now) (request_of c)) }
+    ensures none { IfNone result ((firmware board : List ℕ) (policy : ThePolicy) → Asks (map string_bytes words.now) (Stack firmware board policy) → ⊥) }
+{
+    match words {
+        [name, firmware, board, policy] if name.as_str() == "stack" => {
+            let policy = Policy::of_word(policy.as_str())?;
+            Some(Command::Stack {
+                firmware: firmware.as_str(),
+                board: board.as_str(),
+                policy,
+            })
+        }
+        _ => None,
+    }
+}
+
+/// `audit IMAGE`, if the words are of that form.
+fn audit_of(words: &[String]) -> Option<Command<'_>>
+    ensures command { IfSome result (λ c. Asks (map string_bytes words.now) (request_of c)) }
+    ensures none { IfNone result ((image : List ℕ) → Asks (map string_bytes words.now) (Audit image) → ⊥) }
+{
+    match words {
+        [name, image] if name.as_str() == "audit" => Some(Command::Audit {
+            image: image.as_str(),
+        }),
+        _ => None,
+    }
+}
+
+/// `tables IMAGE`, if the words are of that form.
+fn tables_of(words: &[String]) -> Option<Command<'_>>
+    ensures command { IfSome result (λ c. Asks (map string_bytes words.now) (request_of c)) }
+    ensures none { IfNone result ((image : List ℕ) → Asks (map string_bytes words.now) (Tables image) → ⊥) }
+{
+    match words {
+        [name, image] if name.as_str() == "tables" => Some(Command::Tables {
+            image: image.as_str(),
+        }),
         _ => None,
     }
 }

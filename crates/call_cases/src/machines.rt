@@ -1,4 +1,5 @@
-//! A run of a small machine. Addresses and results were worked out by hand from the manual.
+//! Runs of a small machine, whose program stands in flash, or is copied to RAM and fetched there. Addresses and results were worked
+//! out by hand from the manual.
 
 ghost use Rattle.std.specs.Prelude.{◌≡◌, IfOk, length};
 ghost use Rattle.device_model.specs.Rules.{ObeysRules, IsWindow};
@@ -28,16 +29,57 @@ fn port(rt: &impl Abort, alloc: Global) -> Result<Window, AllocError>
     })
 }
 
-/// 128 bytes of flash at 0, 1 KiB of RAM and one window. The main stack begins behind RAM, and the code at 0x40.
-fn board(rt: &impl Abort, alloc: Global) -> Result<Image, AllocError>
+/// Where the program stands in flash.
+const PROGRAM: u32 = 0x80;
+
+/// A way to run the program.
+struct Way {
+    /// Where the run begins.
+    entry: u32,
+    /// How many steps come before the program's first.
+    before: u64,
+    /// Where the program stands that is run.
+    program: u32,
+}
+
+/// From flash, and from RAM by way of the code that copies it there.
+const WAYS: [Way; 2] = [
+    Way {
+        entry: PROGRAM,
+        before: 0,
+        program: PROGRAM,
+    },
+    Way {
+        entry: 0x40,
+        before: 37,
+        program: 0x2000_0000,
+    },
+];
+
+/// 192 bytes of flash at 0, 1 KiB of RAM and one window. The main stack begins behind RAM. At 0x40 stands code that copies the program
+/// to the beginning of RAM and goes there.
+fn board(rt: &impl Abort, alloc: Global, entry: u32) -> Result<Image, AllocError>
     ensures rules { IfOk result ObeysRules }
     ensures windows { IfOk result (λ image. length image.windows ≡ 1) }
 {
-    let mut flash = vec![in alloc; 0u8; 128]?;
-    write_words(flash.as_mut_slice(), 0, &[0x2000_0400, 0x41]);
+    let mut flash = vec![in alloc; 0u8; 192]?;
+    write_words(flash.as_mut_slice(), 0, &[0x2000_0400, entry | 1]);
     write_words(
         flash.as_mut_slice(),
-        64,
+        0x40,
+        &[
+            0x2601_2580, // MOVS r5, #0x80; MOVS r6, #1
+            0x682F_0776, // LSLS r6, r6, #29; at 0x46: LDR r7, [r5]
+            0x3504_6037, // STR r7, [r6]; ADDS r5, #4
+            0x2D94_3604, // ADDS r6, #4; CMP r5, #0x94
+            0x2601_D1F9, // BNE 0x46; MOVS r6, #1
+            0x3601_0776, // LSLS r6, r6, #29; ADDS r6, #1
+            0x0000_4730, // BX r6
+        ],
+    );
+    write_words(
+        flash.as_mut_slice(),
+        PROGRAM as usize,
         &[
             0x2107_2005, // MOVS r0, #5; MOVS r1, #7
             0x4348_1842, // ADDS r2, r0, r1; MULS r0, r1
@@ -62,11 +104,15 @@ fn board(rt: &impl Abort, alloc: Global) -> Result<Image, AllocError>
     })
 }
 
-fn start(rt: &impl Abort, alloc: Global) -> Result<Machine, AllocError> {
-    let image = board(rt, alloc)?;
+/// The machine before the program's first step.
+fn start(rt: &impl Abort, alloc: Global, way: &Way) -> Result<Machine, AllocError> {
+    let image = board(rt, alloc, way.entry)?;
     let mut tape = Tape::empty(alloc, 1)?;
     tape.push(0, 0x1234_5678)?;
-    Machine::start(alloc, &image, tape, 0xAA)
+    let mut machine = Machine::start(alloc, &image, tape, 0xAA)?;
+    assert_eq!(rt; machine.run(way.before, &mut |_: &Event| false), End::Limit);
+    assert_eq!(rt; machine.reg(15), way.program);
+    Ok(machine)
 }
 
 const STORED: Event = Event {
@@ -87,9 +133,7 @@ const LOADED: Event = Event {
     value: 0x1234_5678,
 };
 
-#[test]
-fn runs_to_its_end(rt: HostRuntime) -> Result<(), Fail> {
-    let mut machine = start(&rt, rt.alloc())?;
+fn runs_to_its_end(rt: &impl Abort, machine: &mut Machine, way: &Way) {
     assert_eq!(rt; machine.step(), Step::Ran);
     let mut first = None;
     let mut second = None;
@@ -113,7 +157,7 @@ fn runs_to_its_end(rt: HostRuntime) -> Result<(), Fail> {
         (2, 12),
         (4, 0x1234_5678),
         (13, 0x2000_03F8),
-        (15, 0x52),
+        (15, way.program + 0x12),
     ];
     for (k, value) in registers {
         assert!(rt; k < 16);
@@ -123,16 +167,21 @@ fn runs_to_its_end(rt: HostRuntime) -> Result<(), Fail> {
     assert_eq!(rt; machine.byte(0x2000_03F7), Some(0xAA));
     assert!(rt; machine.privileged());
     assert_eq!(rt; machine.mpu().read(0xE000_ED94), Some(0));
-    Ok(())
+}
+
+fn stops_where_told(rt: &impl Abort, machine: &mut Machine, way: &Way) {
+    assert_eq!(rt; machine.run(7, &mut |_: &Event| false), End::Limit);
+    assert_eq!(rt; machine.reg(15), way.program + 0xE);
+    assert_eq!(rt; machine.run(2, &mut |_: &Event| false), End::Refused);
+    assert_eq!(rt; machine.reg(15), way.program + 0x10);
+    assert_eq!(rt; machine.step(), Step::Event(LOADED));
 }
 
 #[test]
-fn stops_where_told(rt: HostRuntime) -> Result<(), Fail> {
-    let mut machine = start(&rt, rt.alloc())?;
-    assert_eq!(rt; machine.run(7, &mut |_: &Event| false), End::Limit);
-    assert_eq!(rt; machine.reg(15), 0x4E);
-    assert_eq!(rt; machine.run(2, &mut |_: &Event| false), End::Refused);
-    assert_eq!(rt; machine.reg(15), 0x50);
-    assert_eq!(rt; machine.step(), Step::Event(LOADED));
+fn runs_from_flash_and_from_ram(rt: HostRuntime) -> Result<(), Fail> {
+    for way in &WAYS {
+        runs_to_its_end(&rt, &mut start(&rt, rt.alloc(), way)?, way);
+        stops_where_told(&rt, &mut start(&rt, rt.alloc(), way)?, way);
+    }
     Ok(())
 }

@@ -47,7 +47,11 @@ pub fn patch(
 }
 
 /// The bytes of a file.
-fn bytes_of(alloc: Global, files: &mut MemFiles, name: &str) -> Result<Vec<u8>> {
+///
+/// # Errors
+///
+/// It is not read.
+pub fn bytes_of(alloc: Global, files: &mut MemFiles, name: &str) -> Result<Vec<u8>> {
     match read_whole(alloc, files, name, MOST) {
         Ok(bytes) => Ok(bytes),
         Err(_) => bail!("not read"),

@@ -10,7 +10,7 @@ mod running;
 mod section;
 mod tally;
 
-pub use files::{patch, put, same};
+pub use files::{bytes_of, patch, put, same};
 pub use program::Program;
 pub use section::Section;
 pub use tally::run_files;

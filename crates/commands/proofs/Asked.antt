@@ -3,9 +3,12 @@ use Rattle.std.proofs.Common.{◌≡◌, ◌∙◌, ℕ, List, All, ◌∷◌, [
 use Rattle.std.proofs.lemmas.List.Elements.{All-weaker}
 use Rattle.outside.specs.Calls.{Call, Size, Read, Create, Append}
 use Rattle.outside.specs.Reading.{Reads}
+use Rattle.outside.proofs.Paths.{unread_behind}
+use Rattle.aces_reports.specs.declared.failure.Failure.{Failure}
+use Rattle.aces_reports.specs.declared.failure.Failure.TheVariants.{Refused, PastLimit, NoRoom, Unread, Unwritten, Unprinted, NoMemory}
 use Rattle.aces_words.specs.Requests.{Request, Origin, origins, target}
 use Rattle.commands.specs.Known.{Held, IsNamed, IsCallOf, WasRead, WasTooLarge}
-use Rattle.commands.specs.CarriesOut.{IsKnown, IsKnownLarge, Writes}
+use Rattle.commands.specs.CarriesOut.{IsKnown, IsKnownLarge, NamesLast, Writes}
 
 -- what some calls tell is told by them with further calls behind them
 read_before : (calls later : List Call) (s : Origin) (bytes : List ℕ) → WasRead calls s bytes → WasRead (calls ++ later) s bytes
@@ -46,6 +49,16 @@ large_so earlier calls s k = record {
 pub large_behind : (told : Bool) (held : Held) (earlier calls : List Call) (s : Origin) → IsKnownLarge told held calls s
     → IsKnownLarge told held (earlier ++ calls) s
 large_behind told held earlier calls s k = (large_so earlier calls s k.0, k.1)
+
+-- a failure that names the file of the last call names it with other calls in front of them
+pub names_behind : (earlier calls : List Call) (e : Failure) → NamesLast calls e → NamesLast (earlier ++ calls) e
+names_behind earlier calls (Refused name f) h = h
+names_behind earlier calls (PastLimit which count) h = h
+names_behind earlier calls (NoRoom memory c needed available) h = h
+names_behind earlier calls (Unread name) h = unread_behind earlier calls name.now h
+names_behind earlier calls (Unwritten name) h = h
+names_behind earlier calls Unprinted h = h
+names_behind earlier calls NoMemory h = h
 
 -- calls that read a source of a request, and that write its target
 read_of : (r : Request) (name : List ℕ) → IsNamed (origins r) name → (call : Call) → Reads name call → IsCallOf r call

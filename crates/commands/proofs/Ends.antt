@@ -1,17 +1,20 @@
 -- How commands end, by what their steps answered.
-use Rattle.std.proofs.Common.{◌≡◌, ◌≢◌, ℕ, inl, inr, List, [], None, Ok, Err, Result, IsTrue, IsNone, refl, ap, sym, subst, arith}
+use Rattle.std.proofs.Common.{◌≡◌, ◌≢◌, ℕ, ◌+◌, ◌^◌, ◌<◌, inl, inr, List, [], None, Ok, Err, Result, false, IsTrue, IsNone, IfErr, refl, ap, sym, subst, arith}
+use Rattle.std.proofs.lemmas.Bool.{false≢true}
+use Rattle.outside.specs.Calls.{Call}
 use Rattle.aces_reports.specs.declared.failure.Done.{Done}
-use Rattle.aces_reports.specs.declared.failure.Done.TheVariants.{Completed, RunFailed}
+use Rattle.aces_reports.specs.declared.failure.Done.TheVariants.{Completed, RunFailed, Negative}
 use Rattle.aces_reports.specs.declared.failure.Fault.{Fault}
 use Rattle.aces_reports.specs.declared.failure.Fault.TheVariants.{TooLarge}
 use Rattle.aces_reports.specs.declared.failure.Failure.{Failure}
 use Rattle.aces_reports.specs.declared.failure.Failure.TheVariants.{Refused, PastLimit, NoRoom, Unread, Unwritten, Unprinted, NoMemory}
-use Rattle.aces_words.specs.Requests.{Request, Run, Bin, Compile, Check, Source, Listing, Origin, origins}
+use Rattle.aces_words.specs.Requests.{Request, Run, Bin, Compile, Check, Source, Listing, Stack, Audit, Tables, Origin, origins}
 use Rattle.commands.specs.Known.{Held, IsMissing, IsNamed}
 use Rattle.commands.specs.Outcomes.{Outcome, refused, past_limit, no_room}
 use Rattle.aces_reports.specs.Sinks.{SinkState}
 use Rattle.aces_reports.specs.Ends.{status_of}
-use Rattle.commands.specs.Effects.{World, Does, Quiet, IsCarriedOut, IsRewritten, IsPart, IsPrintedInPart}
+use Rattle.commands.specs.Effects.{World, Does, IsDone, Quiet, IsCarriedOut, IsRewritten, IsPart, IsPrintedInPart}
+use Rattle.commands.specs.CarriesOut.{NamesLast}
 use Rattle.commands.specs.Loads.{IsLoadFailure, IsContentFailure, IsRefusal}
 
 -- where nothing was printed, no more than a part was
@@ -22,6 +25,9 @@ nothing_printed A (Compile firmware board policy image) old new h = h
 nothing_printed A (Check firmware) old new h = h
 nothing_printed A (Source firmware policy tape steps) old new h = inl h
 nothing_printed A (Listing firmware board policy) old new h = h
+nothing_printed A (Stack firmware board policy) old new h = h
+nothing_printed A (Audit image) old new h = h
+nothing_printed A (Tables image) old new h = h
 
 -- memory ran out before anything was printed or written
 pub no_memory : (A : Outcome → Type 0) (r : Request) (old new : World) → Quiet old new → new.read_faults ≡ old.read_faults → Does A r old new (Err NoMemory)
@@ -68,6 +74,16 @@ content_failed A IsFault r name old new quiet reads answer (Unwritten n) h = abs
 content_failed A IsFault r name old new quiet reads answer Unprinted h = absurd h
 content_failed A IsFault r name old new quiet reads answer NoMemory h = no_memory A r old new quiet reads
 
+-- it names no file as unread
+pub content_names : (calls : List Call) (IsFault : Fault → Type 0) (name : List ℕ) (e : Failure) → IsContentFailure IsFault name e → NamesLast calls e
+content_names calls IsFault name (Refused n f) h = tt
+content_names calls IsFault name (PastLimit which count) h = absurd h
+content_names calls IsFault name (NoRoom memory c needed available) h = absurd h
+content_names calls IsFault name (Unread n) h = absurd h
+content_names calls IsFault name (Unwritten n) h = absurd h
+content_names calls IsFault name Unprinted h = absurd h
+content_names calls IsFault name NoMemory h = tt
+
 -- what is refused by some faults is refused by others
 pub content_also : (P Q : Fault → Type 0) → ((f : Fault) → P f → Q f) → (name : List ℕ) (e : Failure) → IsContentFailure P name e → IsContentFailure Q name e
 content_also P Q m name (Refused n f) h = (h.0, m f h.1)
@@ -89,6 +105,16 @@ refusal_did A r old new quiet reads (Unwritten n) h = absurd h
 refusal_did A r old new quiet reads Unprinted h = absurd h
 refusal_did A r old new quiet reads NoMemory h = no_memory A r old new quiet reads
 
+-- nor does that
+pub refusal_names : (calls : List Call) (A : Outcome → Type 0) (e : Failure) → IsRefusal A e → NamesLast calls e
+refusal_names calls A (Refused n f) h = tt
+refusal_names calls A (PastLimit which count) h = tt
+refusal_names calls A (NoRoom memory c needed available) h = tt
+refusal_names calls A (Unread n) h = absurd h
+refusal_names calls A (Unwritten n) h = absurd h
+refusal_names calls A Unprinted h = absurd h
+refusal_names calls A NoMemory h = tt
+
 -- what is refused by some answers is refused by others, by a content's fault among them
 pub refusal_also : (A B : Outcome → Type 0) → ((o : Outcome) → A o → B o) → (e : Failure) → IsRefusal A e → IsRefusal B e
 refusal_also A B m (Refused n f) h = m (refused n.now f) h
@@ -109,11 +135,27 @@ content_refused A IsFault name answer (Unwritten n) h = absurd h
 content_refused A IsFault name answer Unprinted h = absurd h
 content_refused A IsFault name answer NoMemory h = tt
 
+-- nor does a step that does the same over files of which nothing is told and no fault was counted, for it touches none
+pub untouched_names : (calls : List Call) (A : Outcome → Type 0) (r : Request) (held : Held) (old new : SinkState) (e : Result Done Failure)
+    → Does A r (record { told = false; held = held; read_faults = 0; write_faults = 0; out = old })
+    (record { told = false; held = held; read_faults = 0; write_faults = 0; out = new }) e
+    → IfErr e (NamesLast calls)
+untouched_names calls A r held old new (Ok d) h = tt
+untouched_names calls A r held old new (Err (Refused name f)) h = tt
+untouched_names calls A r held old new (Err (PastLimit which count)) h = tt
+untouched_names calls A r held old new (Err (NoRoom memory c needed available)) h = tt
+untouched_names calls A r held old new (Err (Unread name)) h =
+    absurd (elim h.cause [ inl rose ↦ let few : 0 + 1 < 2 ^ 64 = omega arith in let wrong = rose few in omega (arith, wrong) | inr gone ↦ false≢true gone.0 ])
+untouched_names calls A r held old new (Err (Unwritten name)) h = tt
+untouched_names calls A r held old new (Err Unprinted) h = tt
+untouched_names calls A r held old new (Err NoMemory) h = tt
+
 -- a command that ended with an outcome of this status
 pub did_end : (A : Outcome → Type 0) (r : Request) (old new : World) (o : Outcome) (d : Done) → A o → o.status ≡ status_of (Ok d) → o.line ≡ []
     → IsCarriedOut old new o → Does A r old new (Ok d)
 did_end A r old new o Completed a s l p = record { outcome = o; answer = a; ended = s; silent = l; all = p }
 did_end A r old new o RunFailed a s l p = record { outcome = o; answer = a; ended = s; silent = l; all = p }
+did_end A r old new o Negative a s l p = record { outcome = o; answer = a; ended = s; silent = l; all = p }
 
 -- a part for some answers is one for others
 part_also : (A B : Outcome → Type 0) → ((o : Outcome) → A o → B o) → (r : Request) (old new : World) → IsPart A r old new → IsPart B r old new
@@ -126,12 +168,16 @@ printed_also A B m (Compile firmware board policy image) old new h = h
 printed_also A B m (Check firmware) old new h = h
 printed_also A B m (Source firmware policy tape steps) old new h = elim h [ inl e ↦ inl e | inr p ↦ inr (part_also A B m (Source firmware policy tape steps) old new p) ]
 printed_also A B m (Listing firmware board policy) old new h = h
+printed_also A B m (Stack firmware board policy) old new h = h
+printed_also A B m (Audit image) old new h = h
+printed_also A B m (Tables image) old new h = h
 
 -- what did for some answers did for others
 pub did_also : (A B : Outcome → Type 0) → ((o : Outcome) → A o → B o) → (r : Request) (old new : World) (e : Result Done Failure)
     → Does A r old new e → Does B r old new e
 did_also A B m r old new (Ok Completed) d = record { outcome = d.outcome; answer = m d.outcome d.answer; ended = d.ended; silent = d.silent; all = d.all }
 did_also A B m r old new (Ok RunFailed) d = record { outcome = d.outcome; answer = m d.outcome d.answer; ended = d.ended; silent = d.silent; all = d.all }
+did_also A B m r old new (Ok Negative) d = record { outcome = d.outcome; answer = m d.outcome d.answer; ended = d.ended; silent = d.silent; all = d.all }
 did_also A B m r old new (Err (Refused name f)) d = record { answer = m (refused name.now f) d.answer; quiet = d.quiet; read_faults = d.read_faults }
 did_also A B m r old new (Err (PastLimit which count)) d = record { answer = m (past_limit which count) d.answer; quiet = d.quiet; read_faults = d.read_faults }
 did_also A B m r old new (Err (NoRoom memory c needed available)) d = record { answer = m (no_room memory c needed available) d.answer; quiet = d.quiet; read_faults = d.read_faults }
@@ -152,11 +198,16 @@ did_then A r old held reads writes out e h p q d =
 
 -- where no answer with another status than 0 writes anything, a command that ends with a status other than 0 and 5 leaves what every name holds
 module _ (A : Outcome → Type 0) (nothing : (o : Outcome) → A o → o.status ≢ 0 → o.written ≡ None) (r : Request) (old new : World) where
+  -- ended with such a status
+  unwritten_by : (s : ℕ) → 0 < s → IsDone A r old new s → new.held ≡ old.held
+  unwritten_by s some d =
+      let q = d.ended in
+      subst (λ w. IsRewritten old.told w old.held new.held) (nothing d.outcome d.answer (λ z. let f : ⊥ = omega (arith, z, q, some) in f)) d.all.held
+
   pub held_stays : (e : Result Done Failure) → Does A r old new e → status_of e ≢ 0 → status_of e ≢ 5 → new.held ≡ old.held
   held_stays (Ok Completed) d n m = absurd (n refl)
-  held_stays (Ok RunFailed) d n m =
-      let q = d.ended in
-      subst (λ w. IsRewritten old.told w old.held new.held) (nothing d.outcome d.answer (λ z. let f : ⊥ = omega (arith, z, q) in f)) d.all.held
+  held_stays (Ok RunFailed) d n m = unwritten_by 7 (omega arith) d
+  held_stays (Ok Negative) d n m = unwritten_by 8 (omega arith) d
   held_stays (Err (Refused name f)) d n m = d.quiet.held
   held_stays (Err (PastLimit which count)) d n m = d.quiet.held
   held_stays (Err (NoRoom memory c needed available)) d n m = d.quiet.held

@@ -4,7 +4,7 @@ use Rattle.outside.specs.declared.files.Files as files
 use Rattle.outside.specs.Counts.{Rose}
 use Rattle.outside.specs.Contents.{AddsPrefix}
 use Rattle.aces_reports.specs.declared.failure.Done.{Done}
-use Rattle.aces_reports.specs.declared.failure.Done.TheVariants.{Completed, RunFailed}
+use Rattle.aces_reports.specs.declared.failure.Done.TheVariants.{Completed, RunFailed, Negative}
 use Rattle.aces_reports.specs.declared.failure.Failure.{Failure}
 use Rattle.aces_reports.specs.declared.failure.Failure.TheVariants.{Refused, PastLimit, NoRoom, Unread, Unwritten, Unprinted, NoMemory}
 use Rattle.aces_words.specs.Requests.{Request, Source, origins, target}
@@ -114,6 +114,7 @@ module _ (Answer : Outcome → Type 0) (request : Request) (old new : World) whe
   abbrev pub Does : Result Done Failure → Type 0
   Does (Ok Completed) = IsDone 0
   Does (Ok RunFailed) = IsDone 7
+  Does (Ok Negative) = IsDone 8
   Does (Err (Refused name fault)) = IsRefused (refused name.now fault)
   Does (Err (PastLimit which count)) = IsRefused (past_limit which count)
   Does (Err (NoRoom memory compartment needed available)) = IsRefused (no_room memory compartment needed available)

@@ -6,7 +6,7 @@ ghost use Rattle.device_model.specs.Tape as tapes;
 ghost use Rattle.outside.specs.Calls.{Call, Calls};
 ghost use Rattle.outside.specs.Reading.{Reads};
 ghost use Rattle.aces_words.specs.Requests.{file_origin, firmware_origin, file_limit, firmware_limit};
-ghost use Rattle.commands.specs.CarriesOut.{IsKnown, IsKnownLarge};
+ghost use Rattle.commands.specs.CarriesOut.{IsKnown, IsKnownLarge, NamesLast};
 ghost use Rattle.plan_model.specs.Boards.{IsBoard};
 ghost use Rattle.board_text.specs.Reading as boards;
 ghost use Rattle.commands.specs.Contents.{IsNoImage, IsNoTape, IsNoBoard};
@@ -35,7 +35,8 @@ pub fn load<'a, F: Files>(
     ensures calls { (calls : List Call) × Calls F.called files.old calls files.new × All (Reads name.now) calls
         × IfOk result (λ bytes. IsKnown F.told (F.held files.old) calls (file_origin name.now) bytes.items)
         × IfErr result (IsLoadFailure (IsKnownLarge F.told (F.held files.old) calls) F.told (F.held files.old)
-        (file_origin name.now) (F.read_faults files.old) (F.read_faults files.new)) }
+        (file_origin name.now) (F.read_faults files.old) (F.read_faults files.new))
+        × IfErr result (NamesLast calls) }
     ensures same { F.held files.new ≡ F.held files.old }
     ensures reads { OnOk result (F.read_faults files.new ≡ F.read_faults files.old) }
     ensures writes { F.write_faults files.new ≡ F.write_faults files.old }
@@ -53,7 +54,8 @@ pub fn load_firmware<'a, F: Files>(
     ensures calls { (calls : List Call) × Calls F.called files.old calls files.new × All (Reads name.now) calls
         × IfOk result (λ bytes. IsKnown F.told (F.held files.old) calls (firmware_origin name.now) bytes.items)
         × IfErr result (IsLoadFailure (IsKnownLarge F.told (F.held files.old) calls) F.told (F.held files.old)
-        (firmware_origin name.now) (F.read_faults files.old) (F.read_faults files.new)) }
+        (firmware_origin name.now) (F.read_faults files.old) (F.read_faults files.new))
+        × IfErr result (NamesLast calls) }
     ensures same { F.held files.new ≡ F.held files.old }
     ensures reads { OnOk result (F.read_faults files.new ≡ F.read_faults files.old) }
     ensures writes { F.write_faults files.new ≡ F.write_faults files.old }
@@ -72,7 +74,8 @@ fn load_within<'a, F: Files>(
     ensures calls { (calls : List Call) × Calls F.called files.old calls files.new × All (Reads name.now) calls
         × IfOk result (λ bytes. IsKnown F.told (F.held files.old) calls (record { name = name.now; limit = limit }) bytes.items)
         × IfErr result (IsLoadFailure (IsKnownLarge F.told (F.held files.old) calls) F.told (F.held files.old)
-        (record { name = name.now; limit = limit }) (F.read_faults files.old) (F.read_faults files.new)) }
+        (record { name = name.now; limit = limit }) (F.read_faults files.old) (F.read_faults files.new))
+        × IfErr result (NamesLast calls) }
     ensures same { F.held files.new ≡ F.held files.old }
     ensures reads { OnOk result (F.read_faults files.new ≡ F.read_faults files.old) }
     ensures writes { F.write_faults files.new ≡ F.write_faults files.old }
@@ -89,7 +92,7 @@ fn load_within<'a, F: Files>(
 }
 
 /// The image of which these bytes of a file are the text.
-pub(crate) fn image_of<'a>(alloc: Global, name: &'a str, bytes: &[u8]) -> Result<Image, Failure<'a>>
+pub fn image_of<'a>(alloc: Global, name: &'a str, bytes: &[u8]) -> Result<Image, Failure<'a>>
     ensures ok { IfOk result (λ i. IsText i bytes.now) }
     ensures err { IfErr result (λ e. IsContentFailure (IsNoImage bytes.now) name.now e) }
 {

@@ -3,6 +3,7 @@
 #![tactic(auto)]
 
 mod calls;
+mod cuts;
 
 use anyhow::Result;
 use calls::Calls;

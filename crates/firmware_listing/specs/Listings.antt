@@ -8,6 +8,8 @@ use Rattle.plan_model.specs.declared.needs.Needs.{Needs}
 use Rattle.plan_model.specs.declared.plan.Board.{Board}
 use Rattle.compartments.specs.Analyses.{AreNeedsOf}
 use Rattle.compartments.specs.Divisions.{division}
+use Rattle.permission_laws.specs.Needed.{IsBoundedByNeeds}
+use Rattle.permission_laws.specs.Policy.{RunsStayInPolicy}
 use Rattle.planning.specs.declared.planner.PlannedFirmware.{PlannedFirmware}
 use Rattle.planning.specs.Planned.{IsPlannedFor}
 use Rattle.report.specs.Listing.{listing}
@@ -24,4 +26,8 @@ pub record IsListing (policy : Policy) (w : PlainFirmware) (b : Board) (lines : 
   pub are_needs : AreNeedsOf w b.closed needs
   pub made : PlannedFirmware
   pub is_planned : IsPlannedFor (resolve w) needs (division policy w needs) b made
+  -- what a run of the source stores, accesses and calls, and on a closed board loads, that graph permits
+  pub permitted : RunsStayInPolicy w needs made.graph
+  -- and what it lets a compartment write its functions need, or it is exposed: where a line says `exposed 0`, no global is
+  pub needed : IsBoundedByNeeds w needs made.graph b
   pub same : lines ≡ listing_for policy w needs made b

@@ -13,6 +13,8 @@ use firmware_plans::{needs_of, planned_by};
 use ir_model::checked::Checked;
 use ir_program::program::Program;
 use ir_resolve::resolving::resolve;
+use need_laws::least_sets;
+use permission_laws::laws::{permissions_are_bounded, runs_stay_in_policy};
 use plan_model::needs::Needs;
 use plan_model::plan::Board;
 use planning::{PlannedFirmware, PlanningRefusal};
@@ -60,6 +62,10 @@ pub fn listing_of(
     ensures ok { IfOk result (λ lines. IsListing policy (firmware_of firmware.now) board.now lines.items) }
     ensures refused { IfErr result (IsUnplanned policy (firmware_of firmware.now) board.now) }
 {
+    firmware.firmware();
+    least_sets();
+    permissions_are_bounded();
+    runs_stay_in_policy();
     let program = resolve(alloc, firmware)?;
     let needs = needs_of(alloc, firmware, &program, board.closed)?;
     let made = planned_by(alloc, firmware, &program, &needs, policy, board)?;

@@ -1,3 +1,4 @@
 pub mod Ending
 pub mod Counting
+pub mod Planned
 mod Excluding

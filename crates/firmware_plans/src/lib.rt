@@ -8,6 +8,7 @@ ghost use Rattle.ir_model.specs.Plain.{firmware_of, funcs_of};
 ghost use Rattle.ir_model.specs.Resolve.{resolve};
 ghost use Rattle.ir_program.specs.Seen.{program_of, HasCounts};
 ghost use Rattle.plan_model.specs.Boards.{IsBoard};
+ghost use Rattle.plan_model.specs.Compartments.{AreCompartments};
 ghost use Rattle.compartments.specs.Analyses.{AreNeedsOf};
 ghost use Rattle.compartments.specs.Divisions as divisions;
 ghost use Rattle.planning.specs.Planned.{IsPlannedFor};
@@ -63,6 +64,7 @@ pub fn planned_by(
     ensures ok { IfOk result (IsPlannedFor (resolve (firmware_of firmware.now)) needs.now
         (divisions.division policy (firmware_of firmware.now) needs.now) board.now) }
     ensures each { IfOk result (λ made. length made.graph.groups.of ≡ length needs.now.funcs) }
+    ensures compartments { IfOk result (λ made. AreCompartments (resolve (firmware_of firmware.now)) made.graph.groups) }
     ensures refused { IfErr result (IsPlanningRefusal (resolve (firmware_of firmware.now)) needs.now
         (divisions.division policy (firmware_of firmware.now) needs.now) board.now) }
 {

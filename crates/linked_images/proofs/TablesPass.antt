@@ -28,7 +28,7 @@ use Rattle.linked_images.proofs.Passing.{and_yes, le_yes, eq_yes, inside_yes, mu
 use Rattle.linked_images.proofs.Flash.{code_size_is}
 use Rattle.linked_images.proofs.Facts.{laid, length_is, needed_most, tables_at_most, tables_block_is, code_blocks_count, code_block_is, code_at_most}
 use Rattle.linked_images.proofs.ReadBack.{ReadLaws}
-use Rattle.plan_model.proofs.Limits.{few, few_targets}
+use Rattle.plan_model.proofs.KeptLimits.{few, few_targets}
 use Rattle.linked_images.proofs.AreaEnd.{some_compartment, end_is}
 use Rattle.linked_images.proofs.CodeRegions.{code_size_log}
 

@@ -25,7 +25,7 @@ use Rattle.link_model.specs.LinkedImage.{linked}
 use Rattle.linked_images.specs.Planned.{IsPlanned, plan, planned_tables, planned_image}
 use Rattle.linked_images.specs.Laws.{FlashReadsBack}
 use Rattle.linked_images.proofs.Facts.{laid, length_is, flash_least, stack_in, monitor_in}
-use Rattle.plan_model.proofs.Limits.{few}
+use Rattle.plan_model.proofs.KeptLimits.{few}
 use Rattle.linked_images.proofs.ReadBack.{ReadLaws}
 use Rattle.linked_images.proofs.AreaSize.{slot_count}
 use Rattle.linked_images.proofs.AreaEnd.{initial_words_are}

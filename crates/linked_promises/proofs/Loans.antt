@@ -39,7 +39,7 @@ use Rattle.linked_promises.proofs.Bits.{mask_bit}
 use Rattle.linked_promises.proofs.Kept.{kept_final}
 use Rattle.linked_promises.proofs.Reach.{one_of, has_listed}
 use Rattle.linked_promises.proofs.Compartments.{in_compartment}
-use Rattle.plan_model.proofs.Limits.{few as few_limits}
+use Rattle.plan_model.proofs.KeptLimits.{few as few_limits}
 
 -- ---- numbers
 

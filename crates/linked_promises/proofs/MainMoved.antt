@@ -12,7 +12,7 @@ use Rattle.code_model.specs.Planned.{planned_entry}
 use Rattle.monitor.specs.TheCode.{monitor_code}
 use Rattle.link_model.specs.LinkedTables.{tables_of}
 use Rattle.linked_images.specs.Planned.{IsPlanned, plan, planned_tables, planned_image}
-use Rattle.plan_model.proofs.Limits.{few}
+use Rattle.plan_model.proofs.KeptLimits.{few}
 use Rattle.linked_images.proofs.ReadBack.{ReadLaws}
 use Rattle.linked_promises.specs.Parts.{CodeIsPlaced}
 use Rattle.linked_promises.specs.CodeInFlash.{PageIsExact, MainIsMoved}

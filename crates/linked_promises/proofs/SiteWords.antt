@@ -31,7 +31,7 @@ use Rattle.linked_images.specs.Planned.{IsPlanned, plan, planned_sizes, planned_
 use Rattle.linked_images.proofs.Facts.{laid, code_blocks_count, needed_most, tables_at_most, tables_block_is}
 use Rattle.linked_images.proofs.Flash.{code_count}
 use Rattle.linked_images.proofs.ReadBack.{ReadLaws, code_length, code_fits}
-use Rattle.plan_model.proofs.Limits.{few}
+use Rattle.plan_model.proofs.KeptLimits.{few}
 use Rattle.linked_images.proofs.TablesPass.{some}
 use Rattle.linked_promises.proofs.Compartments.{in_compartment}
 use Rattle.linked_promises.proofs.Lists.{each_map}

@@ -119,11 +119,10 @@ fn put_area(words: &mut Vec<u32>, t: &Tables) -> Result<(), AllocError>
     Ok(())
 }
 
-/// Writes bytes, where the memory has the place.
-fn put_bytes(memory: &mut [u8], at: u32, bytes: &[u8]) -> Option<()>
-    ensures { OnSome result (memory.new ≡ write_all 1 at bytes.now memory.old) }
+/// Writes bytes from a place in memory on; none where memory ends before they do.
+pub fn put_bytes(memory: &mut [u8], first: usize, bytes: &[u8]) -> Option<()>
+    ensures { OnSome result (memory.new ≡ write_all 1 first bytes.now memory.old) }
 {
-    let first = at as usize;
     if memory.len() < first || memory.len() - first < bytes.len() {
         return None;
     }
@@ -150,7 +149,8 @@ fn put_page(alloc: Global, base: u32, t: &Tables, flash: &mut [u8]) -> Result<()
     ensures { OnOk result (flash.new ≡ write_all 1 (t.now.base - base) (pages.page t.now) flash.old) }
 {
     let bytes = page(alloc, t)?;
-    match put_bytes(flash, t.base.saturating_sub(base), &bytes) {
+    let first = t.base.saturating_sub(base) as usize;
+    match put_bytes(flash, first, &bytes) {
         None => Err(AllocError),
         Some(()) => Ok(()),
     }
@@ -183,8 +183,8 @@ fn put_code(
     ensures { OnOk result (flash.new ≡ with_code_of making.now base flash.old compartment) }
 {
     let bytes = compartment_code(alloc, making, compartment)?;
-    let place = base_of(making.plan, compartment).saturating_sub(base);
-    match put_bytes(flash, place, &bytes) {
+    let first = base_of(making.plan, compartment).saturating_sub(base) as usize;
+    match put_bytes(flash, first, &bytes) {
         None => Err(AllocError),
         Some(()) => Ok(()),
     }

@@ -5,4 +5,5 @@ mod code;
 mod flash;
 mod linking;
 
+pub use flash::put_bytes;
 pub use linking::link;

@@ -2,3 +2,4 @@ mod Lists
 mod Loaded
 mod Machines
 mod MachineRuns
+mod Standing

@@ -10,6 +10,8 @@ use Rattle.armv7m.specs.Run.{start}
 use Rattle.machine.specs.Parts.{left, left_by, state_of, Left}
 use Rattle.armv7m.specs.Ends.{EndsOrGoesOn}
 use Rattle.machine.specs.Machine.{IsMachine, HasOwn}
+use Rattle.flash_code.specs.declared.FlashCode.{FlashCode}
+use Rattle.flash_code.specs.Code.{IsCodeOf}
 use Rattle.armv7m.proofs.ShapeSteps.{steps_keep_shape, start_fits}
 use Rattle.armv7m.proofs.Ends.{steps_end_or_go_on}
 
@@ -32,3 +34,6 @@ stays_machine i s p e h q =
 pub starts : (i : Image) (queues : List (List ℕ)) (fill : ℕ) → ObeysRules i → length queues ≡ length i.windows → IsMachine (record { image = i; state = start i queues fill })
 unfolding start
 starts i queues fill r q = record { rules = r; fits = start_fits i queues fill q; own = tt }
+
+pub same_code : (c : FlashCode) (i j : Image) → j ≡ i → IsCodeOf i c → IsCodeOf j c
+same_code c i j e h = subst (λ k. IsCodeOf k c) (sym e) h

@@ -12,15 +12,17 @@ ghost use Rattle.armv7m.specs.Tests as tests;
 
 use crate::parts::Parts;
 use armv7m::answers::Verdict;
-use armv7m::state::{End, ProtectionState, StopReason};
+use armv7m::state::{End, StopReason};
 use armv7m::{CCR, CFSR, MMFAR, SHCSR};
 use events::event::Event;
+use guard::Guard;
 use mem_bus::answer::{Loaded, Stored};
 use mem_bus::bus::{Bus, cut_to_width};
 use mpu_model::region::Access;
 use mpu_model::{MPU_CTRL, MPU_RASR, MPU_RBAR, MPU_RNR, MPU_TYPE};
 
 /// Whether an address lies in the system control space (B3.1).
+#[inline(always)]
 pub fn is_in_system(address: u32) -> bool
     ensures { result ≡ system.in_system address }
 {
@@ -38,21 +40,23 @@ fn is_system_register(address: u32) -> bool
 }
 
 /// The tests of an access, in their order: alignment, the system control space, protection.
+#[inline(always)]
 #[tactic(auto, unfolding(armv7m::specs::Tests::verdict))]
-pub fn test_access(protection: &ProtectionState, kind: Access, width: u8, address: u32) -> Verdict
+pub fn test_access(guard: &mut Guard, kind: Access, width: u8, address: u32) -> Verdict
     requires { IsAccessWidth width }
-    ensures verdict { result ≡ tests.verdict state.by_mpu protection.now kind width address }
+    ensures verdict { result ≡ tests.verdict state.by_mpu guard.old kind width address }
     ensures fit { IsFit result width address }
+    ensures same { guard.new ≡ guard.old }
 {
     if address % u32::from(width) != 0 {
         Verdict::Bad(StopReason::Unaligned)
     } else if is_in_system(address) {
-        if !protection.is_unprivileged() && width == 4 && is_system_register(address) {
+        if !guard.is_unprivileged() && width == 4 && is_system_register(address) {
             Verdict::ToSystem
         } else {
             Verdict::Bad(StopReason::Bus)
         }
-    } else if protection.permits(kind, address) {
+    } else if guard.permits(kind, address) {
         Verdict::ToBus
     } else {
         Verdict::Refused
@@ -60,6 +64,7 @@ pub fn test_access(protection: &ProtectionState, kind: Access, width: u8, addres
 }
 
 /// A loaded value as a register holds it: zeros before it, or its sign (ZeroExtend, SignExtend).
+#[inline(always)]
 fn extended(signed: bool, width: u8, value: u32) -> u32
     requires { value < 256 ^ width }
     ensures { result ≡ extended signed width value }
@@ -77,7 +82,7 @@ impl Parts {
     pub fn read_system(&self, address: u32) -> u32
         ensures { result ≡ system.read_system address self.now.protection self.now.status }
     {
-        match self.protection.mpu.read(address) {
+        match self.protection.mpu().read(address) {
             Some(value) => value,
             None => self.status.read(address),
         }
@@ -88,12 +93,13 @@ impl Parts {
         ensures state { state_of self.new ≡ system.write_system address value (state_of self.old) }
         ensures image { self.new.bus ≡ self.old.bus }
     {
-        let _ = self.protection.mpu.write(address, value);
+        self.protection.write(address, value);
         self.status.write(address, value);
     }
 
     /// Loads into a register (B2.3, MemA), and goes on with the next instruction. The value gets zeros before it, or
     /// its sign.
+    #[inline(always)]
     #[tactic(auto, unfolding(armv7m::specs::Perform::perform))]
     pub fn load(
         &mut self,
@@ -108,7 +114,7 @@ impl Parts {
         ensures { left self.new result
             ≡ does (load_extended register signed width address next self.old.core) self.old }
     {
-        match test_access(&self.protection, Access::Read, width, address) {
+        match test_access(&mut self.protection, Access::Read, width, address) {
             Verdict::ToBus => self.load_from_bus(register, signed, width, address, next),
             Verdict::ToSystem => {
                 let value = self.read_system(address);
@@ -122,6 +128,7 @@ impl Parts {
     }
 
     /// A load that may be made (MemU).
+    #[inline(always)]
     fn load_from_bus(
         &mut self,
         register: u8,
@@ -135,7 +142,6 @@ impl Parts {
         ensures { left self.new result ≡ left_by self.old.bus.image
             (loaded_extended self.old.bus.image register signed width address next (state_of self.old)) }
     {
-        let compartment = self.bus.compartment();
         match self.bus.load(address, width) {
             Loaded::Value(value) => {
                 self.core
@@ -150,7 +156,7 @@ impl Parts {
                 self.core
                     .take(register, extended(signed, width, value), next);
                 Some(Event {
-                    compartment,
+                    compartment: self.bus.compartment(),
                     periph,
                     offset,
                     width,
@@ -164,6 +170,7 @@ impl Parts {
     }
 
     /// Stores from a register (B2.3, MemA), and goes on with the next instruction.
+    #[inline(always)]
     #[tactic(auto, unfolding(armv7m::specs::Perform::perform))]
     pub fn store(&mut self, register: u8, width: u8, address: u32, next: u32) -> Option<Event>
         requires width { IsAccessWidth width }
@@ -172,7 +179,7 @@ impl Parts {
             ≡ does (store_from register width address next self.old.core) self.old }
     {
         let value = self.core.low_register(register);
-        match test_access(&self.protection, Access::Write, width, address) {
+        match test_access(&mut self.protection, Access::Write, width, address) {
             Verdict::ToBus => self.store_to_bus(width, address, value, next),
             Verdict::ToSystem => {
                 self.core.pc = next;
@@ -185,13 +192,13 @@ impl Parts {
     }
 
     /// A store that may be made (MemU).
+    #[inline(always)]
     fn store_to_bus(&mut self, width: u8, address: u32, value: u32, next: u32) -> Option<Event>
         requires width { IsAccessWidth width }
         requires aligned { address % width ≡ 0 }
         ensures { left self.new result ≡ left_by self.old.bus.image
             (stored_at self.old.bus.image width address value next (state_of self.old)) }
     {
-        let compartment = self.bus.compartment();
         match self.bus.store(address, width, value) {
             Stored::Done => {
                 self.core.pc = next;
@@ -201,7 +208,7 @@ impl Parts {
                 self.core.pc = next;
                 let value = cut_to_width(value, width);
                 Some(Event {
-                    compartment,
+                    compartment: self.bus.compartment(),
                     periph,
                     offset,
                     width,

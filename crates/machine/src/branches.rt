@@ -60,9 +60,10 @@ impl Parts {
         requires other_sp { self.old.core.other_sp % 4 ≡ 0 }
         ensures { left self.new result ≡ does (Exchanges target) self.old }
     {
+        let handler = self.protection.is_handler();
         match target {
-            0xFFFF_FFFD if self.protection.handler => self.return_from(true),
-            0xFFFF_FFF9 if self.protection.handler => self.return_from(false),
+            0xFFFF_FFFD if handler => self.return_from(true),
+            0xFFFF_FFF9 if handler => self.return_from(false),
             _ => self.jump(target, self.core),
         }
     }

@@ -136,14 +136,10 @@ fn rotated(x: u32, y: u32, flags: Flags) -> Outcome
     shifted(flags, value, carry)
 }
 
-/// The registers with an outcome in the destination, before the next instruction.
-pub fn after_outcome(
-    outcome: Outcome,
-    mut core: CoreRegisters,
-    next: u32,
-    destination: u8,
-) -> CoreRegisters
-    ensures { result ≡ operations.after_outcome outcome core next destination }
+/// Takes an outcome into the destination, before the next instruction.
+#[inline(always)]
+pub fn take_outcome(outcome: Outcome, core: &mut CoreRegisters, next: u32, destination: u8)
+    ensures { core.new ≡ operations.after_outcome outcome core.old next destination }
 {
     core.pc = next;
     match outcome {
@@ -153,5 +149,4 @@ pub fn after_outcome(
         }
         Outcome::Tests { flags } => core.flags = flags,
     }
-    core
 }

@@ -10,10 +10,11 @@ ghost use Rattle.armv7m.specs.State.{by_mpu, bit_of};
 ghost use Rattle.armv7m.specs.Tests.{all_open};
 
 use crate::parts::Parts;
-use armv7m::state::{CoreRegisters, FaultStatus, ProtectionState, StopReason};
+use armv7m::state::{CoreRegisters, FaultStatus, StopReason};
 use arrayvec::ArrayVec;
 use device_model::image::Image;
 use events::event::Event;
+use guard::Guard;
 use mem_bus::bus::Bus;
 use mpu_model::region::Access;
 use words::conditions::Flags;
@@ -88,21 +89,17 @@ pub fn vector(image: &Image, exception: u32) -> u32
 
 /// Whether so many words of a frame may be accessed: allowed, and in memory that takes such an access.
 #[tactic(auto, unfolding(armv7m::specs::Tests::all_open))]
-fn is_all_open(
-    bus: &Bus,
-    protection: &ProtectionState,
-    kind: Access,
-    address: u32,
-    count: u8,
-) -> bool
-    ensures { result ≡ all_open by_mpu bus.now.image protection.now kind address count }
+fn is_all_open(bus: &Bus, guard: &mut Guard, kind: Access, address: u32, count: u8) -> bool
+    ensures answer { result ≡ all_open by_mpu bus.now.image guard.old kind address count }
+    ensures same { guard.new ≡ guard.old }
 {
     if count == 0 {
         return true;
     }
-    protection.permits(kind, address)
-        && bus.is_memory(kind, address)
-        && is_all_open(bus, protection, kind, address.wrapping_add(4), count - 1)
+    if !guard.permits(kind, address) || !bus.is_memory(kind, address) {
+        return false;
+    }
+    is_all_open(bus, guard, kind, address.wrapping_add(4), count - 1)
 }
 
 /// Stores words one after another.
@@ -206,13 +203,13 @@ impl Parts {
             self.old.bus.image exception return_address status (state_of self.old)) }
     {
         let frame = frame_at(self.core.sp);
-        if !is_all_open(&self.bus, &self.protection, Access::Write, frame, 8) {
+        if !is_all_open(&self.bus, &mut self.protection, Access::Write, frame, 8) {
             return self.stop(StopReason::Stacking);
         }
         let words = frame_of(&self.core, return_address);
         push_words(&mut self.bus, frame, &words);
         take_exception(&mut self.core, self.bus.image(), exception);
-        self.protection.handler = true;
+        self.protection.set_handler(true);
         self.status = status;
         None
     }
@@ -223,7 +220,7 @@ impl Parts {
         requires { self.old.core.sp % 4 ≡ 0 }
         ensures { left self.new result ≡ does (Calls next) self.old }
     {
-        if self.protection.handler {
+        if self.protection.is_handler() {
             return self.stop(StopReason::Handler);
         }
         self.enter(SUPERVISOR_CALL, next, self.status)
@@ -235,7 +232,7 @@ impl Parts {
         ensures { left self.new result ≡ left_by self.old.bus.image
             (exceptions.fault by_mpu self.old.bus.image status (state_of self.old)) }
     {
-        if self.protection.handler {
+        if self.protection.is_handler() {
             self.stop(StopReason::Handler)
         } else if self.status.shcsr.enables_faults() {
             self.enter(MEM_MANAGE, self.core.pc, status)
@@ -275,10 +272,10 @@ impl Parts {
         } else {
             self.core.sp
         };
-        let handler = self.protection.handler;
-        self.protection.handler = false;
-        let is_open = is_all_open(&self.bus, &self.protection, Access::Read, frame, 8);
-        self.protection.handler = handler;
+        let handler = self.protection.is_handler();
+        self.protection.set_handler(false);
+        let is_open = is_all_open(&self.bus, &mut self.protection, Access::Read, frame, 8);
+        self.protection.set_handler(handler);
         if !is_open {
             return self.stop(StopReason::Unstacking);
         }
@@ -289,7 +286,7 @@ impl Parts {
             return self.stop(StopReason::Usage);
         }
         unstack(&mut self.core, psp, frame, words);
-        self.protection.handler = false;
+        self.protection.set_handler(false);
         None
     }
 }

@@ -1,9 +1,11 @@
 //! The fetch of an instruction, and the step of a machine that has not ended.
 
-ghost use Rattle.std.specs.Prelude.{◌≡◌, ◌%◌, ◌<◌, ◌^◌, IfSome, None};
+ghost use Rattle.std.specs.Prelude.{◌≡◌, ◌%◌, ◌<◌, ◌^◌, true, false, IsTrue, IsFalse, IfSome, None};
+ghost use Rattle.mpu_model.specs.declared.region.Access.TheVariants.{Fetch};
 ghost use Rattle.mem_bus.specs.Bus.{fetch_at};
 ghost use Rattle.mem_bus.specs.Places.{place};
 ghost use Rattle.machine.specs.Fetches.{IsLow};
+ghost use Rattle.flash_code.specs.Code.{IsCodeOf, StandsIn};
 ghost use Rattle.machine.specs.Parts.{state_of, left, left_by};
 ghost use Rattle.armv7m.specs.State.{by_mpu};
 ghost use Rattle.armv7m.specs.Step as step;
@@ -12,8 +14,23 @@ use crate::parts::Parts;
 use armv7m::answers::Fetched;
 use armv7m::state::StopReason;
 use events::event::Event;
+use flash_code::{Decoded, FlashCode};
+use guard::Guard;
 use mpu_model::region::Access;
 use thumb_decoding::decode;
+
+/// Whether the second halfword of an instruction of so many bytes may be fetched, if it has one.
+#[inline(always)]
+fn permits_second(guard: &mut Guard, size: u8, address: u32) -> bool
+    ensures may { IsTrue result → size ≡ 4 → by_mpu guard.old Fetch address ≡ true }
+    ensures may_not { IsFalse result → (size ≡ 4) × (by_mpu guard.old Fetch address ≡ false) }
+    ensures same { guard.new ≡ guard.old }
+{
+    if size != 4 {
+        return true;
+    }
+    guard.permits(Access::Fetch, address)
+}
 
 impl Parts {
     /// The halfword of code at an address.
@@ -30,10 +47,11 @@ impl Parts {
     /// The halfwords of the next instruction. A first one that begins with 11101, 11110 or 11111 is followed by a
     /// second (A5.1).
     #[tactic(auto, unfolding(armv7m::specs::Step::fetch))]
-    fn fetch(&self) -> Fetched
-        requires { self.now.core.pc % 2 ≡ 0 }
-        ensures fetched { result ≡ step.fetch by_mpu self.now.bus.image (state_of self.now) }
-        ensures low { IsLow result self.now.core.pc }
+    fn fetch(&mut self) -> Fetched
+        requires { self.old.core.pc % 2 ≡ 0 }
+        ensures fetched { result ≡ step.fetch by_mpu self.old.bus.image (state_of self.old) }
+        ensures low { IsLow result self.old.core.pc }
+        ensures same { self.new ≡ self.old }
     {
         let pc = self.core.pc;
         if !self.protection.permits(Access::Fetch, pc) {
@@ -62,9 +80,49 @@ impl Parts {
         }
     }
 
-    /// The step of a machine that has not ended.
+    /// The step of a machine that has not ended, with the code of its flash.
+    #[inline(always)]
+    pub fn turn(&mut self, code: &FlashCode) -> Option<Event>
+        requires code { IsCodeOf self.old.bus.image code.now }
+        requires sp { self.old.core.sp % 4 ≡ 0 }
+        requires other_sp { self.old.core.other_sp % 4 ≡ 0 }
+        requires pc { self.old.core.pc % 2 ≡ 0 }
+        requires live { self.old.ending ≡ None }
+        ensures { left self.new result ≡ left_by self.old.bus.image
+            (step.turn by_mpu self.old.bus.image (state_of self.old)) }
+    {
+        match code.at(self.core.pc) {
+            Some(decoded) => self.turn_decoded(decoded),
+            None => self.turn_fetched(),
+        }
+    }
+
+    /// The step at an instruction that stands in flash.
+    #[inline(always)]
+    #[tactic(auto, using(crate::proofs::Standing::low_there))]
+    fn turn_decoded(&mut self, decoded: Decoded) -> Option<Event>
+        requires there { StandsIn self.old.bus.image self.old.core.pc decoded }
+        requires sp { self.old.core.sp % 4 ≡ 0 }
+        requires other_sp { self.old.core.other_sp % 4 ≡ 0 }
+        requires live { self.old.ending ≡ None }
+        ensures { left self.new result ≡ left_by self.old.bus.image
+            (step.turn by_mpu self.old.bus.image (state_of self.old)) }
+    {
+        let _ = self.bus.image();
+        let pc = self.core.pc;
+        if !self.protection.permits(Access::Fetch, pc) {
+            return self.fetch_fault();
+        }
+        if !permits_second(&mut self.protection, decoded.size, pc + 2) {
+            return self.fetch_fault();
+        }
+        self.execute(decoded.instr, pc + u32::from(decoded.size))
+    }
+
+    /// The step at halfwords that are fetched.
+    #[inline(never)]
     #[tactic(auto, unfolding(armv7m::specs::Step::turn))]
-    pub fn turn(&mut self) -> Option<Event>
+    fn turn_fetched(&mut self) -> Option<Event>
         requires sp { self.old.core.sp % 4 ≡ 0 }
         requires other_sp { self.old.core.other_sp % 4 ≡ 0 }
         requires pc { self.old.core.pc % 2 ≡ 0 }

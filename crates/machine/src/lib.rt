@@ -25,6 +25,8 @@ use armv7m::state::{CoreRegisters, End, FaultStatus, ProtectionState};
 use device_model::image::Image;
 use device_model::tape::Tape;
 use events::event::Event;
+use flash_code::FlashCode;
+use guard::Guard;
 use mem_bus::bus::Bus;
 use mpu_model::unit::Mpu;
 use std::alloc::{AllocError, Global};
@@ -47,17 +49,20 @@ pub enum Step {
 #[derive(Drop)]
 pub struct Machine {
     parts: Parts,
+    code: FlashCode,
 }
 
 impl Model for Machine {
     ghost use Rattle.machine.specs.Machine.{MachineState, IsMachine};
+    ghost use Rattle.flash_code.specs.Code.{IsCodeOf};
     ghost use Rattle.machine.specs.Parts.{state_of};
 
     ghost Value = { MachineState };
 
     ghost view = { λ m. record { image = m.parts.bus.image; state = state_of m.parts } };
 
-    ghost invariant = { λ m. IsMachine (record { image = m.parts.bus.image; state = state_of m.parts }) };
+    ghost invariant = { λ m. IsMachine (record { image = m.parts.bus.image; state = state_of m.parts })
+        × IsCodeOf m.parts.bus.image m.code };
 }
 
 /// The protection unit at reset, with as many regions as the image tells.
@@ -87,6 +92,7 @@ impl Machine {
             ≡ record { image = image.now; state = runs.start image.now tape fill }) }
     {
         let bus = Bus::new(alloc, image, tape, fill)?;
+        let code = FlashCode::new(alloc, image);
         let stack_pointer = read_value(image.flash.as_slice(), 0, Width::Word);
         let core = CoreRegisters {
             low: [0; 8],
@@ -112,10 +118,11 @@ impl Machine {
             parts: Parts {
                 bus,
                 core,
-                protection,
+                protection: Guard::new(protection),
                 status: FaultStatus::at_reset(),
                 ending: None,
             },
+            code,
         })
     }
 
@@ -130,7 +137,7 @@ impl Machine {
         if let Some(end) = self.parts.ending {
             return Step::Ended(end);
         }
-        let event = self.parts.turn();
+        let event = self.parts.turn(&self.code);
         match (self.parts.ending, event) {
             (Some(end), _) => Step::Ended(end),
             (None, Some(event)) => Step::Event(event),
@@ -189,6 +196,6 @@ impl Machine {
     pub fn mpu(&self) -> &Mpu
         ensures { result.now ≡ self.now.state.protection.mpu }
     {
-        &self.parts.protection.mpu
+        self.parts.protection.mpu()
     }
 }

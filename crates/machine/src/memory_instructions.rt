@@ -64,7 +64,7 @@ impl Parts {
     }
 
     /// STR and LDR from the stack pointer, and its sum with a number, which counts words.
-    #[tactic(auto, unfolding(armv7m::specs::Instructions::act))]
+    #[tactic(auto, unfolding(armv7m::specs::Instructions::act, armv7m::specs::Perform::perform))]
     pub fn stack_relative(&mut self, op: u8, t: u8, d: u8, imm8: u8, next: u32) -> Option<Event>
         requires { self.old.core.sp % 4 ≡ 0 }
         ensures { left self.new result
@@ -75,9 +75,8 @@ impl Parts {
             0 => self.store(t, 4, address, next),
             1 => self.load(t, false, 4, address, next),
             _ => {
-                let mut core = self.core;
-                core.take(d, address, next);
-                self.change(core)
+                self.core.take(d, address, next);
+                None
             }
         }
     }

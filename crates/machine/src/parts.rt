@@ -4,8 +4,9 @@ ghost use Rattle.std.specs.Prelude.{◌≡◌};
 ghost use Rattle.machine.specs.Parts.{state_of, left, left_by};
 ghost use Rattle.armv7m.specs.State as state;
 
-use armv7m::state::{CoreRegisters, End, FaultStatus, ProtectionState, StopReason};
+use armv7m::state::{CoreRegisters, End, FaultStatus, StopReason};
 use events::event::Event;
+use guard::Guard;
 use mem_bus::bus::Bus;
 
 /// What a machine is made of. Each function that acts on it answers the event that it makes, if it makes one.
@@ -16,7 +17,7 @@ pub struct Parts {
     /// The core registers.
     pub core: CoreRegisters,
     /// What decides which accesses are allowed.
-    pub protection: ProtectionState,
+    pub protection: Guard,
     /// The system registers that tell of faults.
     pub status: FaultStatus,
     /// How the machine ended, if it has.

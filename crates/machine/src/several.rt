@@ -14,9 +14,10 @@ ghost use Rattle.armv7m.specs.Tests as tests;
 use crate::accesses::{is_in_system, test_access};
 use crate::parts::Parts;
 use armv7m::answers::{Verdict, Verdicts};
-use armv7m::state::{CoreRegisters, ProtectionState, StopReason};
+use armv7m::state::{CoreRegisters, StopReason};
 use arrayvec::ArrayVec;
 use events::event::Event;
+use guard::Guard;
 use mem_bus::bus::Bus;
 use mpu_model::region::Access;
 
@@ -25,26 +26,21 @@ type Words = ArrayVec<u32, 9>;
 
 /// The tests of so many words in rising order. None of them may go to a window.
 #[tactic(auto, unfolding(armv7m::specs::Tests::verdicts))]
-fn test_words(
-    bus: &Bus,
-    protection: &ProtectionState,
-    kind: Access,
-    address: u32,
-    count: u8,
-) -> Verdicts
+fn test_words(bus: &Bus, guard: &mut Guard, kind: Access, address: u32, count: u8) -> Verdicts
     ensures verdicts { result
-        ≡ tests.verdicts by_mpu bus.now.image protection.now kind address count }
+        ≡ tests.verdicts by_mpu bus.now.image guard.old kind address count }
     ensures fit { AreFit result address count }
+    ensures same { guard.new ≡ guard.old }
 {
     if count == 0 {
         return Verdicts::AllGood;
     }
-    match test_access(protection, kind, 4, address) {
+    match test_access(guard, kind, 4, address) {
         Verdict::Refused => Verdicts::RefusedAt(address),
         Verdict::Bad(reason) => Verdicts::BadOne(reason),
         Verdict::ToBus if !bus.is_memory(kind, address) => Verdicts::BadOne(StopReason::Bus),
         Verdict::ToBus | Verdict::ToSystem => {
-            test_words(bus, protection, kind, address.wrapping_add(4), count - 1)
+            test_words(bus, guard, kind, address.wrapping_add(4), count - 1)
         }
     }
 }
@@ -203,7 +199,13 @@ impl Parts {
             (perform.or_usage (go words.items) address count (state_of self.old))
             ≡ does (LoadsMany address count go) self.old)) }
     {
-        match test_words(&self.bus, &self.protection, Access::Read, address, count) {
+        match test_words(
+            &self.bus,
+            &mut self.protection,
+            Access::Read,
+            address,
+            count,
+        ) {
             Verdicts::AllGood => {
                 let mut words = ArrayVec::new();
                 self.get_words(address, count, &mut words);
@@ -229,7 +231,7 @@ impl Parts {
     {
         match test_words(
             &self.bus,
-            &self.protection,
+            &mut self.protection,
             Access::Write,
             address,
             values.len() as u8,

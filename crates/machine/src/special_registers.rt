@@ -39,7 +39,7 @@ impl Parts {
             special (state_of self.now) }
     {
         if special == CONTROL {
-            u32::from(self.protection.unprivileged) + 2 * u32::from(self.core.on_psp)
+            u32::from(self.protection.is_thread_unprivileged()) + 2 * u32::from(self.core.on_psp)
         } else if self.protection.is_unprivileged() {
             0
         } else if is_in_use(special, &self.core) {
@@ -72,10 +72,10 @@ impl Parts {
             return None;
         }
         if special == CONTROL {
-            if !self.protection.handler {
+            if !self.protection.is_handler() {
                 select_stack(&mut self.core, value / 2 % 2 == 1);
             }
-            self.protection.unprivileged = value % 2 == 1;
+            self.protection.set_unprivileged(value % 2 == 1);
         } else if is_in_use(special, &self.core) {
             self.core.sp = value / 4 * 4;
         } else {

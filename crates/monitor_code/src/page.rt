@@ -52,13 +52,13 @@ fn put_lists(lists: &Lists, asm: &mut Asm) -> Result<(), AllocError>
     Ok(())
 }
 
-/// Erased flash behind some bytes.
-fn filled_up(mut bytes: Vec<u8>) -> Result<Vec<u8>, AllocError>
-    requires { length bytes.items ≤ 4096 }
-    ensures filled { IfOk result (λ filled. filled.items ≡ flash.filled_up 4096 bytes.items) }
-    ensures length { IfOk result (λ filled. length filled.items ≡ 4096) }
+/// Erased flash behind some bytes, up to this size.
+pub fn filled_up(mut bytes: Vec<u8>, size: usize) -> Result<Vec<u8>, AllocError>
+    requires { length bytes.items ≤ size }
+    ensures filled { IfOk result (λ filled. filled.items ≡ flash.filled_up size bytes.items) }
+    ensures length { IfOk result (λ filled. length filled.items ≡ size) }
 {
-    for _ in bytes.len()..4096 {
+    for _ in bytes.len()..size {
         bytes.push(0xFF)?;
     }
     Ok(bytes)
@@ -119,5 +119,5 @@ pub fn page(alloc: Global, t: &Tables) -> Result<Vec<u8>, AllocError>
     let mut asm = Asm::new(alloc, 0);
     put_words(&vectors(t, &numbers, svc_at, memfault_at), &mut asm)?;
     put_lists(&lists, &mut asm)?;
-    filled_up(finished(asm)?)
+    filled_up(finished(asm)?, 4096)
 }

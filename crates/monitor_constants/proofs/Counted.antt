@@ -51,6 +51,10 @@ four_times x a r e g = omega arith
 pub record_size : (n a r : ℕ) → a ≡ min (8 * n) most → r ≡ min (a + 16) most → r ≡ min (8 * n + 16) most
 record_size n a r e g = omega arith
 
+-- what is counted of few lists fits
+pub all_fit : (r whole n : ℕ) → r ≡ min whole most → r ≤ 2 ^ 30 * n → n < 2 ^ 32 → r ≡ whole
+all_fit r whole n e small few = omega arith
+
 -- ---- blocks
 
 -- of more bytes than a power holds the block is the greatest

@@ -4,19 +4,19 @@ ghost use Rattle.std.specs.Prelude.{◌≡◌, ℕ, ◌+◌, ◌-◌, ◌*◌, �
 ghost use Rattle.words.specs.Arithmetic.{word};
 ghost use Rattle.mpu_model.specs.declared.words.Rights.TheVariants.{Code, Stack};
 ghost use Rattle.mpu_model.specs.RegionWords as words;
-ghost use Rattle.plan_model.specs.Blocks.{block};
 ghost use Rattle.monitor.specs.Records as records;
 ghost use Rattle.monitor.specs.Layout as layout;
 ghost use Rattle.monitor.specs.Constants.{constants_with, background_of, region_words};
 ghost use Rattle.step_lists.specs.Made.{constants_of};
 ghost use Rattle.monitor_constants.specs.Sizes.{most};
 
+use crate::sizes::{block_of, greatest_code, word_count};
 use monitor::Tables;
 use mpu_model::region::Region;
 use step_lists::Numbers;
 
 /// The number of slots of each compartment; 4 where there is no compartment.
-fn number_of_slots(t: &Tables) -> usize
+pub fn number_of_slots(t: &Tables) -> usize
     ensures { result ≡ records.number_of_slots t.now }
 {
     match t.comps.as_slice().first() {
@@ -39,17 +39,6 @@ fn bytes_of(size: u64, count: usize) -> u64
     size.saturating_mul(count as u64)
 }
 
-/// How many words start-up copies, or as many as fit 64 bits.
-fn initial_word_count(t: &Tables) -> u64
-    ensures { result ≡ min (layout.initial_word_count t.now) most }
-{
-    let mut count: u64 = 0;
-    for init in t.inits.as_slice() {
-        count = count.saturating_add(u64::from(init.end.saturating_sub(init.at) / 4));
-    }
-    count
-}
-
 /// The bytes of the tables with their initial words, or as many as fit 64 bits.
 fn area_size(t: &Tables) -> u64
     ensures { result ≡ min (layout.area_end t.now - t.now.base) most }
@@ -60,20 +49,8 @@ fn area_size(t: &Tables) -> u64
         .saturating_add(bytes_of(8, t.targets.len()))
         .saturating_add(bytes_of(4, t.lends.len()))
         .saturating_add(bytes_of(12, t.inits.len()))
-        .saturating_add(initial_word_count(t).saturating_mul(4))
+        .saturating_add(word_count(t.inits.as_slice()).saturating_mul(4))
         .saturating_add(4096 + 32)
-}
-
-/// The block for so many bytes; of more than fit 64 bits it is the greatest.
-fn block_of(bytes: u64) -> u64
-    ensures exact { (n : ℕ) → bytes ≡ min n most → result ≡ block n }
-    ensures small { result ≤ 2 ^ 32 }
-{
-    if bytes > 1 << 32 {
-        1 << 32
-    } else {
-        bytes.max(32).next_power_of_two()
-    }
 }
 
 /// The bytes of the tables' block, at most 2^32.
@@ -81,11 +58,7 @@ fn tables_size(t: &Tables) -> u64
     ensures exact { result ≡ layout.tables_size t.now }
     ensures small { result ≤ 2 ^ 32 }
 {
-    let mut size = block_of(area_size(t));
-    for compartment in t.comps.as_slice() {
-        size = size.max(1 << (compartment.code.rasr / 2 % 32 + 1));
-    }
-    size
+    block_of(area_size(t)).max(greatest_code(t.comps.as_slice()))
 }
 
 /// SIZE of MPU_RASR for a block.

@@ -2,5 +2,7 @@
 #![tactic(auto)]
 
 pub mod constants;
+pub mod sizes;
 
-pub use constants::without_stub;
+pub use constants::{number_of_slots, without_stub};
+pub use sizes::{block_of, greatest_code, word_count};

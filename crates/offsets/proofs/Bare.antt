@@ -13,7 +13,7 @@ use Rattle.ir_program.specs.declared.program.Routine.{Routine}
 use Rattle.ir_program.specs.Storages.{shape_of}
 use Rattle.ir_program.specs.Seen.{operation_of, exit_of, sequence_of, routine_of}
 use Rattle.code_model.specs.declared.places.CallSite.{CallSite}
-use Rattle.code_model.specs.FrameShape.{local_size, locals_size, frame_shape}
+use Rattle.code_model.specs.FrameShape.{local_size, locals_size, frame_size, frame_shape}
 use Rattle.code_model.specs.Places.{crosses}
 use Rattle.code_model.specs.Sizes.{inst_size, term_size, entry_size, adjust_size, save_size, resume_size, insts_size, blocks_size, function_size, site_offset}
 
@@ -21,8 +21,11 @@ pub same_locals : (ks : List Known) (ss : List Storage) → locals_size (map (sh
 same_locals ks [] = refl
 same_locals ks (s ∷ ss) = ap (λ n. local_size (shape_of [] s) + n) (same_locals ks ss)
 
+pub same_frame_size : (ks : List Known) (r : Routine) → frame_size (routine_of ks r) ≡ frame_size (routine_of [] r)
+same_frame_size ks r = ap (λ n. rounded_up (4 * length (routine_of [] r).regs + n + 4) 8) (same_locals ks r.locals)
+
 pub same_words : (ks : List Known) (r : Routine) → (frame_shape (routine_of ks r)).words ≡ (frame_shape (routine_of [] r)).words
-same_words ks r = ap (λ n. (rounded_up (4 * length (routine_of [] r).regs + n + 4) 8 - 4) / 4) (same_locals ks r.locals)
+same_words ks r = ap (λ n. (n - 4) / 4) (same_frame_size ks r)
 
 same_inst : (ks : List Known) (x : Bool) (o : Operation) → inst_size x (operation_of ks o) ≡ inst_size x (operation_of [] o)
 unfolding inst_size

@@ -28,15 +28,22 @@ fn locals_size(locals: &[Storage]) -> Option<u32>
     Some(total)
 }
 
-/// The words of a function's frame that lie below the return address.
-pub(crate) fn frame_words(routine: &Routine) -> Option<u32>
-    ensures { IfSome result (λ n. n ≡ (frames.frame_shape (routine_of [] routine.now)).words) }
+/// The bytes of a function's frame.
+pub fn frame_size(routine: &Routine) -> Option<u32>
+    ensures { IfSome result (λ n. n ≡ frames.frame_size (routine_of [] routine.now)) }
 {
     let Ok(registers) = u32::try_from(routine.registers.len()) else {
         return None;
     };
     let kept = registers.checked_mul(4)?;
     let filled = kept.checked_add(locals_size(routine.locals.as_slice())?)?;
-    let size = rounded_up(filled.checked_add(4)?, 8)?;
+    rounded_up(filled.checked_add(4)?, 8)
+}
+
+/// The words of a function's frame that lie below the return address.
+pub(crate) fn frame_words(routine: &Routine) -> Option<u32>
+    ensures { IfSome result (λ n. n ≡ (frames.frame_shape (routine_of [] routine.now)).words) }
+{
+    let size = frame_size(routine)?;
     Some(size.saturating_sub(4) / 4)
 }

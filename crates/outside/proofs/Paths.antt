@@ -1,6 +1,14 @@
 -- Calls one behind another.
-use Rattle.std.proofs.Common.{◌≡◌, ◌∙◌, List, [], ◌∷◌, ◌++◌, refl, ap, subst, sym, append-nil, append_assoc}
-use Rattle.outside.specs.Calls.{Call, Calls}
+use Rattle.std.proofs.Common.{◌≡◌, ◌∙◌, ℕ, List, [], ◌∷◌, ◌++◌, refl, ap, subst, sym, append-nil, append_assoc, None}
+use Rattle.outside.specs.Calls.{Call, Calls, Size, Read}
+use Rattle.outside.specs.Reading.{EndsUnread, no_size, no_bytes}
+
+-- calls that end so end so with others in front of them
+pub unread_behind : (earlier calls : List Call) (name : List ℕ) → EndsUnread name calls → EndsUnread name (earlier ++ calls)
+unread_behind earlier _ name (no_size before) =
+    subst (EndsUnread name) (append_assoc earlier before (Size name None ∷ [])) (no_size (earlier ++ before))
+unread_behind earlier _ name (no_bytes before place) =
+    subst (EndsUnread name) (append_assoc earlier before (Read name place None ∷ [])) (no_bytes (earlier ++ before) place)
 
 module _ {F : Type 0} (called : F → Call → F → Type 0) where
   -- one call

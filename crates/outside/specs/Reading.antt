@@ -1,5 +1,5 @@
 -- Reading a file whole, by calls that each give some bytes.
-use Rattle.std.specs.Prelude.{◌≡◌, ◌<◌, ◌≤◌, ℕ, List, [], ◌∷◌, ◌++◌, length, Some}
+use Rattle.std.specs.Prelude.{◌≡◌, ◌<◌, ◌≤◌, ℕ, List, [], ◌∷◌, ◌++◌, length, Some, None}
 use Rattle.outside.specs.Calls.{Call, Size, Read, Create, Append}
 
 -- a call that reads this name, whether or not it fails
@@ -30,6 +30,11 @@ pub record ReadsWhole (name : List ℕ) (limit : ℕ) (calls : List Call) (bytes
   pub within : size ≤ limit
   pub pieces : AllPieces name size reads bytes
   pub few : length bytes ≤ size
+
+-- The last of these calls was to read this name, and failed: it asked for the size, or for bytes from some place on.
+pub data EndsUnread (name : List ℕ) : List Call → Type 0 where
+  no_size : (before : List Call) → EndsUnread name (before ++ Size name None ∷ [])
+  no_bytes : (before : List Call) (place : ℕ) → EndsUnread name (before ++ Read name place None ∷ [])
 
 -- The one call that asked for a file's size, and answered this much.
 abbrev pub AsksSize : (name : List ℕ) → (size : ℕ) → List Call → Type 0

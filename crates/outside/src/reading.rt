@@ -3,7 +3,7 @@ ghost use Rattle.std.specs.Prelude.{◌≡◌, ◌⊎◌, ◌<◌, ◌≤◌, �
 ghost use Rattle.outside.specs.declared.reading.ReadRefusal.TheVariants.{Failed as failed, NoMemory};
 ghost use Rattle.outside.specs.Counts.{Rose, Counts};
 ghost use Rattle.outside.specs.Calls.{Call, Calls};
-ghost use Rattle.outside.specs.Reading.{Reads, AllPieces, ReadsWhole, AsksSize};
+ghost use Rattle.outside.specs.Reading.{Reads, AllPieces, ReadsWhole, EndsUnread, AsksSize};
 
 use crate::{Failed, Files};
 use std::alloc::{AllocError, Global};
@@ -53,12 +53,13 @@ pub fn read_whole<F: Files>(
     ensures bytes { IsTrue F.told → IfOk result (λ bytes. F.held files.old name.now ≡ Some bytes.items) }
     ensures within { IfOk result (λ bytes. length bytes.items ≤ limit) }
 
-    // The calls that it makes. It is too long exactly where `size` answered more than the limit.
+    // The calls that it makes. It is too long exactly where `size` answered more than the limit, and where it failed the last call did.
     ensures calls { (calls : List Call) × Calls F.called files.old calls files.new
         × All (Reads name.now) calls
         × IfOk result (λ bytes. ReadsWhole name.now limit calls bytes.items)
         × (IsErrOf result ReadRefusal.TooLong → (size : ℕ) × AsksSize name.now size calls × (limit < size))
-        × (IsErrOf result ReadRefusal.NoMemory → (size : ℕ) × AsksSize name.now size calls × (size ≤ limit)) }
+        × (IsErrOf result ReadRefusal.NoMemory → (size : ℕ) × AsksSize name.now size calls × (size ≤ limit))
+        × (IsErrOf result ReadRefusal.Failed → EndsUnread name.now calls) }
     ensures too_long_told { IsTrue F.told → IsErrOf result ReadRefusal.TooLong →
         IsSomeAnd (F.held files.old name.now) (λ bytes. limit < length bytes) }
     ensures no_memory_told { IsTrue F.told → IsErrOf result ReadRefusal.NoMemory →
@@ -92,7 +93,8 @@ fn fill<F: Files>(files: &mut F, name: &str, buf: &mut [u8]) -> Result<usize, Fa
         (take n buf.new ≡ take n bytes) × ((n ≡ length buf.old) ⊎ (length bytes ≤ n)))) }
     ensures calls { (calls : List Call) × Calls F.called files.old calls files.new
         × All (Reads name.now) calls
-        × IfOk result (λ n. AllPieces name.now (length buf.old) calls (take n buf.new)) }
+        × IfOk result (λ n. AllPieces name.now (length buf.old) calls (take n buf.new))
+        × OnErr result (EndsUnread name.now calls) }
     ensures cause { OnErr result (Rose (F.read_faults files.old) (F.read_faults files.new)
         ⊎ (IsTrue F.told × IsNone (F.held files.old name.now))) }
     ensures same { F.held files.new ≡ F.held files.old }

@@ -4,4 +4,4 @@ pub mod Numbers
 pub mod Compartments
 pub mod Choices
 pub mod SameUsers
-pub mod Limits
+pub mod KeptLimits

@@ -1,22 +1,17 @@
--- Beyond the program's claim: only laws, proofs and functions inside the tool cite this file.
--- That `run` prints of a compiled image what `source` prints of its firmware: the statement of a law.
+-- That `run` prints of an image what `source` prints of its firmware.
 use Rattle.std.specs.Prelude.{◌≡◌, ℕ, ◌+◌, ◌*◌, ◌≤◌, List, length}
 use Rattle.device_model.specs.declared.image.Image.{Image}
+use Rattle.device_model.specs.Rules.{ObeysRules}
 use Rattle.armv7m.specs.State.{State}
 use Rattle.armv7m.specs.Run.{start}
 use Rattle.ir_model.specs.Plain.{PlainFirmware}
 use Rattle.ir_model.specs.Resolve.{resolve}
 use Rattle.ir_program.specs.Windows.{windows_of}
-use Rattle.plan_model.specs.declared.plan.Board.{Board}
-use Rattle.aces_words.specs.declared.policy.Policy.{Policy}
-use Rattle.compartments.specs.Analyses.{AreCompartmentsBy}
-use Rattle.compartments.specs.Divisions.{division}
-use Rattle.monitor.specs.Layout.{initial_word_count}
-use Rattle.linked_images.specs.Planned.{planned_tables}
-use Rattle.simulate.specs.Refines.{IsGood, step_limit, word_limit}
+use Rattle.plan_model.specs.declared.groups.Groups.{Groups}
+use Rattle.plan_model.specs.declared.needs.Needs.{Needs}
+use Rattle.simulate.specs.Refines.{Refines, IsGood, step_limit, word_limit}
 use Rattle.source_output.specs.SourceRuns as source
 use Rattle.machine_output.specs.Runs as machine
-use Rattle.compiler.specs.ByPolicy.{IsImageBy}
 
 -- an image on these words of device input before its first step, as `run` starts it
 abbrev pub begin : Image → (queues : List (List ℕ)) → State
@@ -31,11 +26,13 @@ pub record IsAlike (w : PlainFirmware) (compartments : List ℕ) (words : ℕ) (
   pub lines : machine.run_lines i steps (begin i queues) ≡ source.source_lines w compartments queues n
   pub status : machine.end_status (machine.end_of i steps (begin i queues)) ≡ source.source_status w compartments queues n
 
--- of every image by a policy, on any board: in the compartments that `source` prints, which are those of the policy by needs on an open
--- board, wherever the source run meets no fault and stays within the stack's limit
-abbrev pub RunsAreAlike : Type 0
-RunsAreAlike =
-    (policy : Policy) (w : PlainFirmware) (b : Board) (i : Image) (by : IsImageBy policy w b i) (compartments : List ℕ) (queues : List (List ℕ)) (n : ℕ)
-    → AreCompartmentsBy policy w compartments → length queues ≡ length (windows_of w)
-    → IsGood (resolve w) by.needs (division policy w by.needs) b.stack queues n
-    → IsAlike w compartments (initial_word_count (planned_tables w by.needs by.image.graph b)) i queues n
+-- wherever the source run, in these compartments, meets no fault and stays within the stack's limit
+abbrev pub RunsAreAlike : PlainFirmware → Needs → Groups → (stack words : ℕ) → Image → Type 0
+RunsAreAlike w needs groups stack words i =
+    (queues : List (List ℕ)) (n : ℕ) → length queues ≡ length (windows_of w) → IsGood (resolve w) needs groups stack queues n → IsAlike w groups.of words i queues n
+
+-- of every image that obeys the rules, has the firmware's windows and refines it: the statement of a law
+abbrev pub RefiningImagesAreAlike : Type 0
+RefiningImagesAreAlike =
+    (w : PlainFirmware) (needs : Needs) (groups : Groups) (stack words : ℕ) (i : Image)
+    → ObeysRules i → i.windows ≡ windows_of w → Refines w needs groups stack words i → RunsAreAlike w needs groups stack words i

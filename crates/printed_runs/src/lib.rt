@@ -1,4 +1,4 @@
-//! The law that a compiled image and its source print the same lines.
+//! The law that an image and the source that it refines print the same lines.
 #![tactic(auto)]
 
 pub mod laws;

@@ -35,7 +35,7 @@ fn put_code(text: &mut Text, subject: &Subject<'_>, compartment: u32) -> Result<
     text.put(b"compartment ")?;
     text.put_decimal(u64::from(compartment))?;
     text.put(b" code")?;
-    text.put_range(spot.base, spot.size)?;
+    text.put_range(spot.base, u64::from(spot.size))?;
     text.put(b"\n")
 }
 

@@ -42,7 +42,7 @@ fn put_unwritten(text: &mut Text, subject: &Subject<'_>) -> Result<(), AllocErro
         return Ok(());
     };
     text.put(b"unwritten")?;
-    text.put_range(spot.base, spot.size)?;
+    text.put_range(spot.base, u64::from(spot.size))?;
     put_globals(text, subject.firmware, subject.graph.unwritten.as_slice())?;
     text.put(b"\n")
 }

@@ -25,8 +25,12 @@ fn func_in(files: &[FileDecl], number: usize) -> Option<&Func>
     }
 }
 
-/// Puts the name of a function.
-pub(crate) fn put_func(text: &mut Text, firmware: &Firmware, func: u32) -> Result<(), AllocError>
+/// Puts the name of a function; of one that is not there, no byte.
+///
+/// # Errors
+///
+/// There is no memory for it.
+pub fn put_func(text: &mut Text, firmware: &Firmware, func: u32) -> Result<(), AllocError>
     ensures { OnOk result (text.new ≡ text.old ++ names.func_name (firmware_of firmware.now) func) }
 {
     match func_in(firmware.files.as_slice(), func as usize) {

@@ -99,7 +99,7 @@ fn put_region(
     text.put(b"slot ")?;
     text.put_decimal(slot)?;
     text.put(region_word(reached, compartment))?;
-    text.put_range(spot.base, spot.size)?;
+    text.put_range(spot.base, u64::from(spot.size))?;
     put_globals(text, subject.firmware, reached.globals.as_slice())?;
     text.put(b"\n")
 }
@@ -163,7 +163,7 @@ fn put_cover(
     text.put(b"slot ")?;
     text.put_decimal(slot)?;
     text.put(b" periph")?;
-    text.put_range(cover.base, cover.size)?;
+    text.put_range(cover.base, u64::from(cover.size))?;
     put_periphs(text, subject, cover)?;
     text.put(b"\n")
 }

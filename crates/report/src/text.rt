@@ -10,7 +10,7 @@ use std::marker::Model;
 
 /// The bytes of printed lines, as they grow.
 #[derive(Drop)]
-pub(crate) struct Text {
+pub struct Text {
     bytes: Vec<u8>,
 }
 
@@ -36,7 +36,7 @@ fn digit(value: u8) -> u8
 
 impl Text {
     /// A text without bytes. Takes no memory.
-    pub(crate) fn new(alloc: Global) -> Text
+    pub fn new(alloc: Global) -> Text
         ensures { result ≡ [] }
     {
         Text {
@@ -45,7 +45,7 @@ impl Text {
     }
 
     /// The bytes. Takes no memory.
-    pub(crate) fn into_bytes(self) -> Vec<u8>
+    pub fn into_bytes(self) -> Vec<u8>
         ensures { result.items ≡ self }
     {
         let Text { bytes } = self;
@@ -53,7 +53,11 @@ impl Text {
     }
 
     /// Puts these bytes behind those that are there.
-    pub(crate) fn put(&mut self, bytes: &[u8]) -> Result<(), AllocError>
+    ///
+    /// # Errors
+    ///
+    /// There is no memory for them.
+    pub fn put(&mut self, bytes: &[u8]) -> Result<(), AllocError>
         ensures { OnOk result (self.new ≡ self.old ++ bytes.now) }
     {
         self.bytes.extend_from_slice(bytes)?;
@@ -68,8 +72,12 @@ impl Text {
     }
 
     /// Puts the decimal digits of a number behind the bytes that are there.
+    ///
+    /// # Errors
+    ///
+    /// There is no memory for them.
     #[tactic(auto, using(std::proofs::lemmas::Fmt::decimal_digit, lines::proofs::Digits::with_last))]
-    pub(crate) fn put_decimal(&mut self, number: u64) -> Result<(), AllocError>
+    pub fn put_decimal(&mut self, number: u64) -> Result<(), AllocError>
         ensures { OnOk result (self.new ≡ self.old ++ decimal number) }
     {
         if number < 10 {
@@ -80,8 +88,12 @@ impl Text {
     }
 
     /// Puts so many hexadecimal digits of a number behind the bytes that are there.
+    ///
+    /// # Errors
+    ///
+    /// There is no memory for them.
     #[tactic(auto, unfolding(lines::specs::Lines::hexadecimal))]
-    fn put_hexadecimal(&mut self, count: u8, number: u32) -> Result<(), AllocError>
+    pub fn put_hexadecimal(&mut self, count: u8, number: u32) -> Result<(), AllocError>
         ensures { OnOk result (self.new ≡ self.old ++ hexadecimal count number) }
     {
         if count == 0 {
@@ -91,14 +103,18 @@ impl Text {
         self.put_byte(digit((number % 16) as u8))
     }
 
-    /// Puts a range of addresses behind the bytes that are there.
+    /// Puts a range of addresses behind the bytes that are there: its base in eight digits, and its size.
+    ///
+    /// # Errors
+    ///
+    /// There is no memory for them.
     #[tactic(auto, unfolding(crate::specs::Names::range_text))]
-    pub(crate) fn put_range(&mut self, base: u32, size: u32) -> Result<(), AllocError>
+    pub fn put_range(&mut self, base: u32, size: u64) -> Result<(), AllocError>
         ensures { OnOk result (self.new ≡ self.old ++ range_text base size) }
     {
         self.put(b" 0x")?;
         self.put_hexadecimal(8, base)?;
         self.put(b" ")?;
-        self.put_decimal(u64::from(size))
+        self.put_decimal(size)
     }
 }

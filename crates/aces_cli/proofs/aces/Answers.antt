@@ -1,14 +1,15 @@
-use Rattle.std.proofs.Common.{inl, [], refl, arith, ◌∙◌, sym, map, string_bytes, Global}
+use Rattle.std.proofs.Common.{inl, [], refl, subst, arith, ◌∙◌, sym, map, string_bytes, Global}
 use Rattle.std.proofs.lemmas.List.Elements.{All-nil, All-weaker}
 use Rattle.aces_words.specs.Commands.{request_of}
 use Rattle.aces_words.specs.Requests.{Request, Asks}
 use Rattle.commands.specs.Known.{Holds, Exceeds, WasRead, WasTooLarge, IsCallOf}
 use Rattle.commands.specs.CarriesOut.{IsKnown, IsKnownLarge}
 use Rattle.aces_cli.specs.Answer.{Answer}
+use Rattle.aces_cli.specs.Endings.{IsPlain, IsAnswered}
 use Rattle.aces_reports.specs.Sinks.{sink}
 use Rattle.commands.specs.Effects.{world}
 use Rattle.commands.proofs.Ends.{did_also, held_stays}
-use Rattle.aces_cli.proofs.Answered.{answer_also, usage_answered, answered, partly, printed_in_part}
+use Rattle.aces_cli.proofs.Answered.{answer_also, usage_answered, answered, unread, partly, printed_in_part}
 use Rattle.aces_cli.proofs.Kept.{writes_nothing}
 use Rattle.aces_cli.proofs.Settled.{is_plain, settled, complete}
 use Rattle.aces_cli.proofs.aces.Goals as goal
@@ -25,6 +26,7 @@ returns-in-None-clause-calls g c = (
   refl,
   record {
     asked = All-nil _;
+    unread = λ four. let f : ⊥ = omega (arith, four) in absurd f;
     answered = λ plain. usage_answered (WasRead []) (WasTooLarge []) (map (string_bytes {Z = Global}) c.args.words.now)
         (world g.F.Files c.args.files.now (sink g.O.Sink c.args.out.now)) (sink g.E.Sink c.args.err.now) (sink g.E.Sink c.say.new.err)
         c.in-None.ensures.usage c.say.ensures;
@@ -68,6 +70,8 @@ returns-in-Some-clause-calls g c =
       d.1,
       record {
         asked = All-weaker (IsCallOf r) (λ call. (q : Request) × Asks words q × IsCallOf q call) (λ call h. (r, c.in-Some.ensures.command, h)) d.0 d.2;
+        unread = λ four. unread (Answer r read large) words r c.in-Some.ensures.command old new err_old err_new d.0 c.perform-ended.result
+            (sym c.report.ensures.status ∙ four) did d.4 c.report.ensures.line;
         answered = λ plain. answered read large words r c.in-Some.ensures.command old new err_old err_new c.perform-ended.result c.report.result
             c.report.ensures.status did c.report.ensures.line plain;
         partly = λ five. partly read large words r c.in-Some.ensures.command old new err_old err_new c.perform-ended.result
@@ -144,3 +148,25 @@ returns-in-Some-clause-complete g c told none q asks good =
     c.good_requests.ensures
     (did_also (Answer r (IsKnown of.told (of.held files) d.0) (IsKnownLarge of.told (of.held files) d.0)) (Answer r (Holds (of.held files)) (Exceeds (of.held files))) also r old new c.perform-ended.result d.3)
     q asks good
+
+pub returns-in-None-clause-bounded : goal.returns-in-None-clause-bounded
+returns-in-None-clause-bounded g c told zero = let f : ⊥ = omega (arith, zero) in absurd f
+
+pub returns-in-Some-clause-bounded : goal.returns-in-Some-clause-bounded
+returns-in-Some-clause-bounded g c told zero =
+    let of = g.F.Files in
+    let files = c.args.files.now in
+    let d = c.perform-ended.ensures in
+    let r = request_of c.in-Some.command in
+    let words = map (string_bytes {Z = Global}) c.args.words.now in
+    let old = world of files (sink g.O.Sink c.args.out.now) in
+    let new = world of c.perform-ended.new.files (sink g.O.Sink c.perform-ended.new.out) in
+    let err_old = sink g.E.Sink c.args.err.now in
+    let err_new = sink g.E.Sink c.report.new.err in
+    let has = Holds (of.held files) in
+    let exceeds = Exceeds (of.held files) in
+    let also = answer_also (IsKnown of.told (of.held files) d.0) has (IsKnownLarge of.told (of.held files) d.0) exceeds (λ s b k. k.1 told) (λ s k. k.1 told) r in
+    let did = did_also (Answer r (IsKnown of.told (of.held files) d.0) (IsKnownLarge of.told (of.held files) d.0)) (Answer r has exceeds) also r old new c.perform-ended.result d.3 in
+    let is = answered has exceeds words r c.in-Some.ensures.command old new err_old err_new c.perform-ended.result c.report.result c.report.ensures.status did
+    c.report.ensures.line (subst IsPlain (sym zero) (is_plain 0 (inl (omega arith)))) in
+    c.bounded_calls.ensures words old new err_old err_new told (subst (IsAnswered has exceeds words old new err_old err_new) zero is)

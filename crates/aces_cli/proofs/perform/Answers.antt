@@ -18,3 +18,12 @@ returns-in-Source g c = rw c.in-Source.is c.source.ensures
 
 pub returns-in-List : goal.returns-in-List
 returns-in-List g c = rw c.in-List.is c.list.ensures
+
+pub returns-in-Stack : goal.returns-in-Stack
+returns-in-Stack g c = rw c.in-Stack.is c.stack.ensures
+
+pub returns-in-Audit : goal.returns-in-Audit
+returns-in-Audit g c = rw c.in-Audit.is c.audit_image.ensures
+
+pub returns-in-Tables : goal.returns-in-Tables
+returns-in-Tables g c = rw c.in-Tables.is c.tables.ensures

@@ -1,7 +1,8 @@
-use Rattle.std.proofs.Common.{◌∙◌, ap, sym, length}
+use Rattle.std.proofs.Common.{◌∙◌, ap, sym, subst, length}
 use Rattle.ir_model.specs.Plain.{firmware_of}
 use Rattle.ir_model.specs.Resolve.{resolve}
 use Rattle.plan_model.specs.declared.groups.Groups.{Groups}
+use Rattle.plan_model.specs.Compartments.{AreCompartments}
 use Rattle.firmware_plans.proofs.Counting.{each_resolved}
 use Rattle.firmware_plans.proofs.planned_by.Goals as goal
 use Rattle.ir_laws.proofs.Resolved.{as_many}
@@ -22,3 +23,7 @@ returns-clause-each c =
     let w = firmware_of c.args.firmware.now in
     ap (λ (g : Groups). length g.of) c.in_ok-made.ensures.ok.groups
     ∙ (each_compartment (resolve w) c.in_ok-groups.groups c.in_ok-groups.ensures.are ∙ (as_many w ∙ sym c.requires.each))
+
+pub returns-clause-compartments : goal.returns-clause-compartments
+returns-clause-compartments c =
+    subst (AreCompartments (resolve (firmware_of c.args.firmware.now))) (sym c.in_ok-made.ensures.ok.groups) c.in_ok-groups.ensures.are

@@ -4,14 +4,14 @@ use Rattle.std.proofs.lemmas.Result.{err_from_is_err_and}
 use Rattle.aces_reports.specs.declared.failure.Done.TheVariants.{Completed}
 use Rattle.aces_words.specs.Requests.{Compile, Origin, file_origin, firmware_origin}
 use Rattle.commands.specs.Known.{Held, IsCallOf}
-use Rattle.commands.specs.CarriesOut.{IsKnown, IsKnownLarge}
+use Rattle.commands.specs.CarriesOut.{IsKnown, IsKnownLarge, NamesLast}
 use Rattle.aces_cli.specs.Answer.{AnswerToCompile, CompileAnswer, firmware_large, board_large, all_read}
 use Rattle.commands.specs.Outcomes.{done}
 use Rattle.commands.specs.Effects.{Does, world}
 use Rattle.commands.specs.Loads.{IsLoadFailure, IsRefusal}
 use Rattle.outside.proofs.Paths.{calls_joined}
-use Rattle.commands.proofs.Asked.{known_before, known_behind, large_behind, reads_of, writes_of}
-use Rattle.commands.proofs.Ends.{load_failed, refusal_did, refusal_also, did_end}
+use Rattle.commands.proofs.Asked.{known_before, known_behind, large_behind, names_behind, reads_of, writes_of}
+use Rattle.commands.proofs.Ends.{load_failed, refusal_did, refusal_names, refusal_also, did_end}
 use Rattle.aces_cli.proofs.compile.compile.Goals as goal
 
 pub returns-in_err-bytes : goal.returns-in_err-bytes
@@ -32,6 +32,7 @@ returns-in_err-bytes g c out =
           (record { held = c.load_firmware.ensures.same; write_faults = c.load_firmware.ensures.writes; out = refl })
           (inl refl) (λ t n. inl (refl, n)) (λ e. firmware_large e) x.0
           (subst (IsLoadFailure large old.told old.held (firmware_origin firmware) old.read_faults new.read_faults) (sym x.2) made.4)),
+      rw x.1 (subst (NamesLast made.0) (sym x.2) made.5),
     )
 
 pub returns-in_err-text : goal.returns-in_err-text
@@ -64,6 +65,7 @@ returns-in_err-text g c out =
           (record { held = c.load.ensures.same ∙ c.load_firmware.ensures.same; write_faults = c.load.ensures.writes ∙ c.load_firmware.ensures.writes; out = refl })
           (inr (inl refl)) (λ t n. inr ((bytes, first.3.1 t), inl (refl, n)))
           (λ e. board_large bytes known (large_behind told old.held first.0 second.0 (file_origin board) e)) x.0 reads_too),
+      rw x.1 (names_behind first.0 second.0 x.0 (subst (NamesLast second.0) (sym x.2) second.5)),
     )
 
 pub returns-in_err-compiled : goal.returns-in_err-compiled
@@ -87,7 +89,8 @@ returns-in_err-compiled g c out =
     let known_first = known_before of.told (of.held files) first.0 second.0 (firmware_origin firmware) bytes first.3 in
     let known = known_behind of.told (of.held files) first.0 second.0 (file_origin board) text (rw c.load_firmware.ensures.same at second.3) in
     let x = err_from_is_err_and c.from_residual-in_err-compiled.result c.from_residual-in_err-compiled.ensures.1 in
-    let here = rw (c.as_slice.ensures.value, c.as_slice-2.ensures.value) at c.in_err-compiled.ensures.err in (
+    let here = rw (c.as_slice.ensures.value, c.as_slice-2.ensures.value) at c.in_err-compiled.ensures.err in
+    let failed = subst (IsRefusal some) (sym x.2) (here image) in (
       made,
       calls_joined of.called files c.load_firmware.new.files c.load.new.files first.0 second.0 first.1 second.1,
       All-append (IsCallOf r) first.0 second.0 (reads_of r firmware (inl refl) first.0 first.2) (reads_of r board (inr (inl refl)) second.0 second.2),
@@ -95,8 +98,8 @@ returns-in_err-compiled g c out =
           (refusal_did all r old new
           (record { held = c.load.ensures.same ∙ c.load_firmware.ensures.same; write_faults = c.load.ensures.writes ∙ c.load_firmware.ensures.writes; out = refl })
           (c.in_ok-text.ensures.reads ∙ c.in_ok-bytes.ensures.reads) x.0
-          (refusal_also some all (λ o a. all_read bytes text o known_first known a) x.0
-          (subst (IsRefusal some) (sym x.2) (here image)))),
+          (refusal_also some all (λ o a. all_read bytes text o known_first known a) x.0 failed)),
+      rw x.1 (refusal_names made some x.0 failed),
     )
 
 pub returns-in-Ok : goal.returns-in-Ok
@@ -136,6 +139,7 @@ returns-in-Ok g c out =
             write_faults = c.in-Ok.ensures.writes ∙ (c.load.ensures.writes ∙ c.load_firmware.ensures.writes);
             faults = refl;
           }),
+      tt,
     )
 
 pub returns : goal.returns
@@ -179,4 +183,5 @@ returns g c out =
           };
         },
       ),
+      tt,
     )

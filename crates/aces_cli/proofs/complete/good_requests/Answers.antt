@@ -12,4 +12,5 @@ returns c =
       boards = c.boards_are_one.ensures.one;
       read = c.boards_are_one.ensures.read;
       planned = c.refusals_and_plans_exclude.ensures;
+      limited = c.limits_exclude.ensures;
     })

@@ -4,15 +4,15 @@ use Rattle.std.proofs.lemmas.Result.{err_from_is_err_and}
 use Rattle.aces_reports.specs.declared.failure.Done.TheVariants.{Completed}
 use Rattle.aces_words.specs.Requests.{Listing, Origin, file_origin, firmware_origin}
 use Rattle.commands.specs.Known.{Held, IsCallOf}
-use Rattle.commands.specs.CarriesOut.{IsKnown, IsKnownLarge}
+use Rattle.commands.specs.CarriesOut.{IsKnown, IsKnownLarge, NamesLast}
 use Rattle.aces_cli.specs.Answer.{AnswerToList, ListAnswer, firmware_large, board_large, all_read}
 use Rattle.commands.specs.Outcomes.{done}
 use Rattle.aces_reports.specs.Sinks.{sink}
 use Rattle.commands.specs.Effects.{Does, world}
 use Rattle.commands.specs.Loads.{IsLoadFailure, IsRefusal}
 use Rattle.outside.proofs.Paths.{calls_joined}
-use Rattle.commands.proofs.Asked.{known_before, known_behind, large_behind, reads_of}
-use Rattle.commands.proofs.Ends.{load_failed, refusal_did, refusal_also, did_end}
+use Rattle.commands.proofs.Asked.{known_before, known_behind, large_behind, names_behind, reads_of}
+use Rattle.commands.proofs.Ends.{load_failed, refusal_did, refusal_names, refusal_also, did_end}
 use Rattle.aces_cli.proofs.list.list.Goals as goal
 
 pub returns-in_err-bytes : goal.returns-in_err-bytes
@@ -33,6 +33,7 @@ returns-in_err-bytes g c =
           (record { held = c.load_firmware.ensures.same; write_faults = c.load_firmware.ensures.writes; out = refl })
           (inl refl) (λ t n. inl (refl, n)) (λ e. firmware_large e) x.0
           (subst (IsLoadFailure large old.told old.held (firmware_origin firmware) old.read_faults new.read_faults) (sym x.2) made.4)),
+      rw x.1 (subst (NamesLast made.0) (sym x.2) made.5),
     )
 
 pub returns-in_err-text : goal.returns-in_err-text
@@ -63,6 +64,7 @@ returns-in_err-text g c =
           (record { held = c.load.ensures.same ∙ c.load_firmware.ensures.same; write_faults = c.load.ensures.writes ∙ c.load_firmware.ensures.writes; out = refl })
           (inr (inl refl)) (λ t n. inr ((bytes, first.3.1 t), inl (refl, n)))
           (λ e. board_large bytes known (large_behind told old.held first.0 second.0 (file_origin board) e)) x.0 reads_too),
+      rw x.1 (names_behind first.0 second.0 x.0 (subst (NamesLast second.0) (sym x.2) second.5)),
     )
 
 pub returns-in_err-lines : goal.returns-in_err-lines
@@ -85,7 +87,8 @@ returns-in_err-lines g c =
     let known_first = known_before of.told (of.held files) first.0 second.0 (firmware_origin firmware) bytes first.3 in
     let known = known_behind of.told (of.held files) first.0 second.0 (file_origin board) text (rw c.load_firmware.ensures.same at second.3) in
     let x = err_from_is_err_and c.from_residual-in_err-lines.result c.from_residual-in_err-lines.ensures.1 in
-    let here = rw (c.as_slice.ensures.value, c.as_slice-2.ensures.value) at c.in_err-lines.ensures.err in (
+    let here = rw (c.as_slice.ensures.value, c.as_slice-2.ensures.value) at c.in_err-lines.ensures.err in
+    let failed = subst (IsRefusal some) (sym x.2) here in (
       made,
       calls_joined of.called files c.load_firmware.new.files c.load.new.files first.0 second.0 first.1 second.1,
       All-append (IsCallOf r) first.0 second.0 (reads_of r firmware (inl refl) first.0 first.2) (reads_of r board (inr (inl refl)) second.0 second.2),
@@ -93,8 +96,8 @@ returns-in_err-lines g c =
           (refusal_did all r old new
           (record { held = c.load.ensures.same ∙ c.load_firmware.ensures.same; write_faults = c.load.ensures.writes ∙ c.load_firmware.ensures.writes; out = refl })
           (c.in_ok-text.ensures.reads ∙ c.in_ok-bytes.ensures.reads) x.0
-          (refusal_also some all (λ o a. all_read bytes text o known_first known a) x.0
-          (subst (IsRefusal some) (sym x.2) here))),
+          (refusal_also some all (λ o a. all_read bytes text o known_first known a) x.0 failed)),
+      rw x.1 (refusal_names made some x.0 failed),
     )
 
 pub returns-in-Ok : goal.returns-in-Ok
@@ -127,6 +130,7 @@ returns-in-Ok g c =
             write_faults = c.load.ensures.writes ∙ c.load_firmware.ensures.writes;
             faults = c.in-Ok.ensures.counts.only_failed;
           }),
+      tt,
     )
 
 pub returns : goal.returns
@@ -160,4 +164,5 @@ returns g c =
           part = record { printed = λ t. rw c.as_slice-3.ensures.value at c.in-Err.ensures.failed; held = c.load.ensures.same ∙ c.load_firmware.ensures.same };
         },
       ),
+      tt,
     )

@@ -4,7 +4,7 @@ use Rattle.std.proofs.lemmas.Result.{err_from_is_err_and}
 use Rattle.aces_reports.specs.declared.failure.Done.TheVariants.{Completed}
 use Rattle.aces_words.specs.Requests.{Bin, file_origin}
 use Rattle.commands.specs.Known.{IsCallOf}
-use Rattle.commands.specs.CarriesOut.{IsKnown, IsKnownLarge}
+use Rattle.commands.specs.CarriesOut.{IsKnown, IsKnownLarge, NamesLast}
 use Rattle.commands.specs.Answers.{AnswerToBin, no_image, wrote, image_large, all_read}
 use Rattle.commands.specs.Contents.{IsNoImage}
 use Rattle.commands.specs.Outcomes.{done}
@@ -12,7 +12,7 @@ use Rattle.commands.specs.Effects.{Does, world}
 use Rattle.commands.specs.Loads.{IsLoadFailure, IsContentFailure}
 use Rattle.outside.proofs.Paths.{calls_joined}
 use Rattle.commands.proofs.Asked.{known_before, reads_of, writes_of}
-use Rattle.commands.proofs.Ends.{load_failed, content_failed, did_end}
+use Rattle.commands.proofs.Ends.{load_failed, content_failed, content_names, did_end}
 use Rattle.commands.proofs.bin.bin.Goals as goal
 
 pub returns-in_err-bytes : goal.returns-in_err-bytes
@@ -33,6 +33,7 @@ returns-in_err-bytes g c out =
           (record { held = c.load.ensures.same; write_faults = c.load.ensures.writes; out = refl })
           (inl refl) (λ t n. inl (refl, n)) (λ e. image_large e) x.0
           (subst (IsLoadFailure large old.told old.held (file_origin image) old.read_faults new.read_faults) (sym x.2) made.4)),
+      rw x.1 (subst (NamesLast made.0) (sym x.2) made.5),
     )
 
 pub returns-in_err-image : goal.returns-in_err-image
@@ -44,15 +45,16 @@ returns-in_err-image g c out =
     let old = world g.F.Files c.args.files.now out in
     let new = world g.F.Files c.load.new.files out in
     let bytes = c.in_ok-bytes.bytes.items in
-    let x = err_from_is_err_and c.from_residual-in_err-image.result c.from_residual-in_err-image.ensures.1 in (
+    let x = err_from_is_err_and c.from_residual-in_err-image.result c.from_residual-in_err-image.ensures.1 in
+    let failed = subst (IsContentFailure (IsNoImage bytes) image) (sym x.2) (rw c.as_slice.ensures.value at c.in_err-image.ensures.err) in (
       made.0,
       made.1,
       reads_of (Bin image file) image (inl refl) made.0 made.2,
       subst (Does all (Bin image file) old new) (sym x.1)
           (content_failed all (IsNoImage bytes) (Bin image file) image old new
           (record { held = c.load.ensures.same; write_faults = c.load.ensures.writes; out = refl }) c.in_ok-bytes.ensures.reads
-          (λ f h. all_read bytes _ made.3 (no_image f h)) x.0
-          (subst (IsContentFailure (IsNoImage bytes) image) (sym x.2) (rw c.as_slice.ensures.value at c.in_err-image.ensures.err))),
+          (λ f h. all_read bytes _ made.3 (no_image f h)) x.0 failed),
+      rw x.1 (content_names made.0 (IsNoImage bytes) image x.0 failed),
     )
 
 pub returns-in-Ok : goal.returns-in-Ok
@@ -81,6 +83,7 @@ returns-in-Ok g c out =
             write_faults = c.in-Ok.ensures.writes ∙ c.load.ensures.writes;
             faults = refl;
           }),
+      tt,
     )
 
 pub returns : goal.returns
@@ -113,4 +116,5 @@ returns g c out =
           };
         },
       ),
+      tt,
     )

@@ -13,6 +13,7 @@ returns-in-Ok-clause-calls g c =
       known_alone g.F.Files.told (g.F.Files.held c.args.files.now) made.0 c.args.name.now c.args.limit c.in-Ok.bytes.items whole
           c.in-Ok.ensures.bytes within,
       tt,
+      tt,
     )
 
 pub returns-in-Err-TooLong-clause-calls : goal.returns-in-Err-TooLong-clause-calls
@@ -31,4 +32,5 @@ returns-in-Err-TooLong-clause-calls g c =
         large_alone g.F.Files.told (g.F.Files.held c.args.files.now) made.0 c.args.name.now c.args.limit asked large,
         long_not_failed _ _ long c.in-Err-TooLong.ensures.only_failed,
       ),
+      tt,
     )

@@ -1,16 +1,16 @@
-use Rattle.std.proofs.Common.{◌∙◌, inl, inr, refl, sym, subst, ◌++◌}
+use Rattle.std.proofs.Common.{◌∙◌, inl, inr, false, refl, sym, subst, ◌++◌}
 use Rattle.std.proofs.lemmas.List.Elements.{All-append}
 use Rattle.std.proofs.lemmas.Result.{err_from_is_err_and}
 use Rattle.aces_words.specs.Requests.{Run, Origin, file_origin}
 use Rattle.commands.specs.Known.{Held, IsCallOf}
-use Rattle.commands.specs.CarriesOut.{IsKnown, IsKnownLarge}
+use Rattle.commands.specs.CarriesOut.{IsKnown, IsKnownLarge, NamesLast}
 use Rattle.commands.specs.Answers.{AnswerToRun, RunAnswer, image_large, tape_large, all_read}
 use Rattle.aces_reports.specs.Sinks.{sink}
 use Rattle.commands.specs.Effects.{Does, world}
 use Rattle.commands.specs.Loads.{IsLoadFailure}
 use Rattle.outside.proofs.Paths.{calls_joined}
-use Rattle.commands.proofs.Asked.{known_before, known_behind, large_behind, reads_of}
-use Rattle.commands.proofs.Ends.{load_failed, did_also, did_then}
+use Rattle.commands.proofs.Asked.{known_before, known_behind, large_behind, names_behind, reads_of}
+use Rattle.commands.proofs.Ends.{load_failed, did_also, did_then, untouched_names}
 use Rattle.commands.proofs.run.run.Goals as goal
 
 pub returns-in_err-bytes : goal.returns-in_err-bytes
@@ -31,6 +31,7 @@ returns-in_err-bytes g c =
           (record { held = c.load.ensures.same; write_faults = c.load.ensures.writes; out = refl })
           (inl refl) (λ t n. inl (refl, n)) (λ e. image_large e) x.0
           (subst (IsLoadFailure large old.told old.held (file_origin image) old.read_faults new.read_faults) (sym x.2) made.4)),
+      rw x.1 (subst (NamesLast made.0) (sym x.2) made.5),
     )
 
 pub returns-in_err-text : goal.returns-in_err-text
@@ -61,6 +62,7 @@ returns-in_err-text g c =
           (record { held = c.load-2.ensures.same ∙ c.load.ensures.same; write_faults = c.load-2.ensures.writes ∙ c.load.ensures.writes; out = refl })
           (inr (inl refl)) (λ t n. inr ((bytes, first.3.1 t), inl (refl, n)))
           (λ e. tape_large bytes known (large_behind told old.held first.0 second.0 (file_origin tape) e)) x.0 reads_too),
+      rw x.1 (names_behind first.0 second.0 x.0 (subst (NamesLast second.0) (sym x.2) second.5)),
     )
 
 pub returns : goal.returns
@@ -88,4 +90,6 @@ returns g c =
       did_then all r old (of.held c.load-2.new.files) (of.read_faults c.load-2.new.files) (of.write_faults c.load-2.new.files) (sink g.O.Sink c.run_texts.new.out) c.run_texts.result
           (c.load-2.ensures.same ∙ c.load.ensures.same) (c.in_ok-text.ensures.reads ∙ c.in_ok-bytes.ensures.reads) (c.load-2.ensures.writes ∙ c.load.ensures.writes)
           (did_also (RunAnswer image tape steps bytes text) all (λ o a. all_read bytes text o known_first known a) r old mid c.run_texts.result ran),
+      untouched_names made (RunAnswer image tape steps bytes text) r (of.held files) (sink g.O.Sink c.args.out.now) (sink g.O.Sink c.run_texts.new.out) c.run_texts.result
+          (rw (c.as_slice.ensures.value, c.as_slice-2.ensures.value) at (c.run_texts.ensures false (of.held files) 0 0)),
     )

@@ -3,7 +3,7 @@ use Rattle.std.proofs.lemmas.Result.{err_from_is_err_and}
 use Rattle.ir_model.specs.Plain.{firmware_of}
 use Rattle.aces_reports.specs.declared.failure.Done.TheVariants.{Completed}
 use Rattle.aces_words.specs.Requests.{Check, firmware_origin}
-use Rattle.commands.specs.CarriesOut.{IsKnown, IsKnownLarge}
+use Rattle.commands.specs.CarriesOut.{IsKnown, IsKnownLarge, NamesLast}
 use Rattle.firmware_commands.specs.Answers.{AnswerToCheck, no_firmware, checked, firmware_large, all_read}
 use Rattle.firmware_commands.specs.Firmwares.{IsNoFirmware}
 use Rattle.commands.specs.Outcomes.{done}
@@ -12,7 +12,7 @@ use Rattle.aces_reports.specs.Sinks.{sink}
 use Rattle.commands.specs.Effects.{Does, world}
 use Rattle.commands.specs.Loads.{IsLoadFailure, IsContentFailure}
 use Rattle.commands.proofs.Asked.{reads_of}
-use Rattle.commands.proofs.Ends.{load_failed, content_failed, did_end}
+use Rattle.commands.proofs.Ends.{load_failed, content_failed, content_names, did_end}
 use Rattle.firmware_commands.proofs.check.check.Goals as goal
 
 pub returns-in_err-bytes : goal.returns-in_err-bytes
@@ -33,6 +33,7 @@ returns-in_err-bytes g c =
           (record { held = c.load_firmware.ensures.same; write_faults = c.load_firmware.ensures.writes; out = refl })
           (inl refl) (λ t n. inl (refl, n)) (λ e. firmware_large e) x.0
           (subst (IsLoadFailure large old.told old.held (firmware_origin firmware) old.read_faults new.read_faults) (sym x.2) made.4)),
+      rw x.1 (subst (NamesLast made.0) (sym x.2) made.5),
     )
 
 pub returns-in_err-checked : goal.returns-in_err-checked
@@ -44,15 +45,16 @@ returns-in_err-checked g c =
     let all = AnswerToCheck firmware (IsKnown g.F.Files.told (g.F.Files.held c.args.files.now) made.0) (IsKnownLarge g.F.Files.told (g.F.Files.held c.args.files.now) made.0) in
     let old = world g.F.Files c.args.files.now (sink g.O.Sink c.args.out.now) in
     let new = world g.F.Files c.load_firmware.new.files (sink g.O.Sink c.args.out.now) in
-    let x = err_from_is_err_and c.from_residual-in_err-checked.result c.from_residual-in_err-checked.ensures.1 in (
+    let x = err_from_is_err_and c.from_residual-in_err-checked.result c.from_residual-in_err-checked.ensures.1 in
+    let failed = subst (IsContentFailure (IsNoFirmware bytes) firmware) (sym x.2) (rw c.as_slice.ensures.value at c.in_err-checked.ensures.err) in (
       made.0,
       made.1,
       reads_of (Check firmware) firmware (inl refl) made.0 made.2,
       subst (Does all r old new) (sym x.1)
           (content_failed all (IsNoFirmware bytes) r firmware old new
           (record { held = c.load_firmware.ensures.same; write_faults = c.load_firmware.ensures.writes; out = refl }) c.in_ok-bytes.ensures.reads
-          (λ f h. all_read bytes _ made.3 (no_firmware f h)) x.0
-          (subst (IsContentFailure (IsNoFirmware bytes) firmware) (sym x.2) (rw c.as_slice.ensures.value at c.in_err-checked.ensures.err))),
+          (λ f h. all_read bytes _ made.3 (no_firmware f h)) x.0 failed),
+      rw x.1 (content_names made.0 (IsNoFirmware bytes) firmware x.0 failed),
     )
 
 pub returns-in-Ok : goal.returns-in-Ok
@@ -75,6 +77,7 @@ returns-in-Ok g c =
             write_faults = c.load_firmware.ensures.writes;
             faults = c.in-Ok.ensures.faultless;
           }),
+      tt,
     )
 
 pub returns : goal.returns
@@ -99,4 +102,5 @@ returns g c =
           part = record { printed = λ t. c.in-Err.ensures.part t; held = c.load_firmware.ensures.same };
         },
       ),
+      tt,
     )

@@ -52,7 +52,7 @@ returns g c =
       | in-Some w ↦
           rw w.result-is (c.loop-step.invariant.1 0 m c.loop-step.each w.in-Some.end (omega arith)
           (let P : MachineState → Type 0 = λ u. IsRun calls 0 u u c.loop-step.each c.loop-step.each w.in-Some.end in
-          subst P c.self.view_is (run_over calls v c.loop-step.each w.in-Some.end w.in-Some.is c.self.invariant.own)))
+          subst P c.self.view_is (run_over calls v c.loop-step.each w.in-Some.end w.in-Some.is c.self.invariant.0.own)))
       | in-None w ↦
           rw w.result-is (c.loop-step.invariant.1 0 m c.loop-step.each Limit (omega arith)
           (let P : MachineState → Type 0 = λ u. IsRun calls 0 u u c.loop-step.each c.loop-step.each Limit in

@@ -21,7 +21,7 @@ loop-preserved c =
 pub returns-clause-filled : goal.returns-clause-filled
 returns-clause-filled c =
     let xs = c.args.bytes.items in
-    let e : c.loop.counter - length xs ≡ 4096 - length xs = omega (arith, c.len-counter.ensures, c.requires, c.loop.auto.counter, c.loop.auto.counter-end, c.loop-test.false) in
+    let e : c.loop.counter - length xs ≡ c.args.size - length xs = omega (arith, c.len-counter.ensures, c.requires, c.loop.auto.counter, c.loop.auto.counter-end, c.loop-test.false) in
     c.loop.invariant ∙ ap (λ n. xs ++ replicate n 0xFF) e
 
 pub returns-clause-length : goal.returns-clause-length

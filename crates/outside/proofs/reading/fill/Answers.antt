@@ -5,7 +5,7 @@ use Rattle.std.proofs.lemmas.Result.{err_from_is_err_and}
 use borrow.Rule.Slice.PartMut.{put_mid}
 use Rattle.std.proofs.lemmas.Grind.{common_steps}
 use Rattle.outside.specs.Calls.{Read}
-use Rattle.outside.specs.Reading.{Reads, Pieces, AllPieces, none, full}
+use Rattle.outside.specs.Reading.{Reads, Pieces, AllPieces, none, full, no_bytes}
 use Rattle.outside.proofs.Paths.{calls_more}
 use Rattle.outside.proofs.Filling.{filled, filled_stays, fills_none, fills_more, pieces_more, pieces_ended}
 use Rattle.outside.proofs.reading.fill.Goals as goal
@@ -61,6 +61,7 @@ returns-in_err-n-clause-calls g c =
           c.loop-filled.invariant.calls.1 c.in_err-n.ensures.answer,
       All-push (Reads c.args.name.now) c.loop-filled.invariant.calls.0 _ c.loop-filled.invariant.calls.2 refl,
       rw x.1 tt,
+      rw x.1 (no_bytes c.loop-filled.invariant.calls.0 c.loop-filled.filled),
     )
 
 pub returns-then-n-eq0-clause-calls : goal.returns-then-n-eq0-clause-calls
@@ -76,6 +77,7 @@ returns-then-n-eq0-clause-calls g c =
       All-push (Reads c.args.name.now) c.loop-filled.invariant.calls.0 _ c.loop-filled.invariant.calls.2 refl,
       subst (AllPieces c.args.name.now (length c.args.buf.now) (c.loop-filled.invariant.calls.0 ++ Read c.args.name.now c.loop-filled.filled (Some []) ∷ [])) front
           (pieces_ended c.args.name.now (length c.args.buf.now) c.loop-filled.invariant.calls.0 c.loop-filled.filled c.loop-filled.buf within c.loop-filled.invariant.calls.3),
+      tt,
     )
 
 pub returns-clause-calls : goal.returns-clause-calls
@@ -87,4 +89,5 @@ returns-clause-calls g c =
       c.loop-filled.invariant.calls.1,
       c.loop-filled.invariant.calls.2,
       full c.loop-filled.invariant.calls.0 (take c.loop-filled.filled c.loop-filled.buf) c.loop-filled.invariant.calls.3 all,
+      tt,
     )

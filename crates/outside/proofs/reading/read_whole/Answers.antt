@@ -3,9 +3,9 @@ use Rattle.std.proofs.lemmas.Result.{err_from_is_err_and}
 use Rattle.std.proofs.lemmas.List.Elements.{All-nil, All-cons}
 use Rattle.std.proofs.lemmas.List.{length-take-le, take_at}
 use Rattle.outside.specs.Calls.{Size}
-use Rattle.outside.specs.Reading.{Reads, AllPieces}
-use Rattle.outside.proofs.Paths.{calls_one}
-use Rattle.outside.proofs.Refusals.{failed_not_length, failed_not_memory, memory_not_length}
+use Rattle.outside.specs.Reading.{Reads, AllPieces, no_size}
+use Rattle.outside.proofs.Paths.{calls_one, unread_behind}
+use Rattle.outside.proofs.Refusals.{failed_not_length, failed_not_memory, memory_not_failed, memory_not_length}
 use Rattle.outside.proofs.reading.read_whole.Goals as goal
 
 pub returns-in_err-size-clause-calls : goal.returns-in_err-size-clause-calls
@@ -17,6 +17,7 @@ returns-in_err-size-clause-calls g c =
       rw x.1 tt,
       λ e. absurd (failed_not_length c.from_residual.result x.0 x.1 x.2 e),
       λ e. absurd (failed_not_memory c.from_residual.result x.0 x.1 x.2 e),
+      λ e. no_size [],
     )
 
 pub returns-then-limit-size-clause-calls : goal.returns-then-limit-size-clause-calls
@@ -27,6 +28,7 @@ returns-then-limit-size-clause-calls g c =
       All-cons (Reads c.args.name.now) _ [] refl (All-nil (Reads c.args.name.now)),
       tt,
       λ e. (size, refl, c.if-limit-size.true),
+      λ e. cc,
       λ e. cc,
     )
 
@@ -40,6 +42,7 @@ returns-in_err-bytes-clause-calls g c =
       rw x.1 tt,
       λ e. absurd (memory_not_length c.from_residual-in_err-bytes.result x.0 x.1 x.2 e),
       λ e. (size, refl, c.if-limit-size.false),
+      λ e. absurd (memory_not_failed c.from_residual-in_err-bytes.result x.0 x.1 x.2 e),
     )
 
 pub returns-in_err-filled-clause-calls : goal.returns-in_err-filled-clause-calls
@@ -52,6 +55,7 @@ returns-in_err-filled-clause-calls g c =
       rw x.1 tt,
       λ e. absurd (failed_not_length c.from_residual-in_err-filled.result x.0 x.1 x.2 e),
       λ e. absurd (failed_not_memory c.from_residual-in_err-filled.result x.0 x.1 x.2 e),
+      λ e. unread_behind (Size c.args.name.now (Some size) ∷ []) c.in_err-filled.ensures.calls.0 c.args.name.now c.in_err-filled.ensures.calls.4,
     )
 
 pub returns-clause-calls : goal.returns-clause-calls
@@ -77,6 +81,7 @@ returns-clause-calls g c =
         pieces = subst (AllPieces name size reads) (sym are) (subst (λ n. AllPieces name n reads (take filled read)) asked c.in_ok-filled.ensures.calls.3);
         few = subst (λ t. length t ≤ size) (sym are) few;
       },
+      λ e. cc,
       λ e. cc,
       λ e. cc,
     )

@@ -1,0 +1,4 @@
+mod Turns
+mod Reached
+mod Counted
+mod Answered

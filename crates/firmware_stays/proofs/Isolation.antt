@@ -1,0 +1,51 @@
+-- A run of an image that keeps its memory is isolated, whatever code the image has behind the planned tables.
+use Rattle.std.proofs.Common.{ℕ}
+use Rattle.device_model.specs.declared.image.Image.{Image}
+use Rattle.device_model.specs.Rules.{ObeysRules}
+use Rattle.armv7m.specs.State.{State}
+use Rattle.ir_model.specs.Plain.{PlainFirmware}
+use Rattle.plan_model.specs.declared.needs.Needs.{Needs}
+use Rattle.plan_model.specs.declared.graph.Final.{Final}
+use Rattle.plan_model.specs.declared.plan.Board.{Board}
+use Rattle.monitor.specs.declared.tables.Tables.{Tables}
+use Rattle.monitor.specs.BlockWords.{current, loan_number}
+use Rattle.monitor.specs.Confined.{later}
+use Rattle.linked_images.specs.Planned.{IsPlanned, planned_tables}
+use Rattle.linked_promises.specs.Permissions.{SlotsArePermitted, SlotsHoldPermissions}
+use Rattle.linked_promises.proofs.GlobalPlaces.{GlobalLaws}
+use Rattle.planned_images.specs.Whole.{IsForBoard}
+use Rattle.permission_laws.specs.Needed.{MasksAreNeeded, PlannedMasksAreNeeded}
+use Rattle.memory_stays.specs.Stays.{KeepsMemory}
+use Rattle.firmware_stays.specs.Own.{SlotsAreOwn, PlannedSlotsAreOwn}
+use Rattle.firmware_stays.specs.Isolated.{LoansAreNeeded, IsIsolated, KeptRunsAreIsolated}
+use Rattle.firmware_stays.proofs.Globals.{globals_stay, globals_change}
+use Rattle.firmware_stays.proofs.Regions.{regions_stay}
+use Rattle.firmware_stays.proofs.Accesses.{accesses_are_permitted}
+
+module _ (globals : GlobalLaws) (w : PlainFirmware) (n : Needs) (f : Final) (b : Board) (is : IsPlanned w n f b)
+    (slots : SlotsArePermitted w n f b) (own : SlotsAreOwn w n f b) (masks : MasksAreNeeded w n f b)
+    (i : Image) (rules : ObeysRules i) (board : IsForBoard w b i) (first : State) (keeps : KeepsMemory i (planned_tables w n f b) first) where
+  abbrev t : Tables
+  t = planned_tables w n f b
+
+  -- what is lent to the acting compartment
+  loans_needed : LoansAreNeeded w n f b i t first
+  loans_needed k l a acts h =
+      let ram = (later i t first k).ram in
+      let z = masks (current i t ram) (loan_number i t ram l) h.in_mask in
+      ((keeps.bounded k acts).lent l a h.live h.from_address h.below_end, z.0, z.1, z.2)
+
+  is_isolated : IsIsolated w n f b i t first
+  is_isolated =
+      record {
+        globals_stay = globals_stay globals w n f b is slots i board.ram_base first keeps;
+        globals_change = globals_change globals w n f b is slots i board.ram_base first keeps;
+        regions_stay = regions_stay globals.plans w n f b is own i board.ram_base first keeps;
+        stack_stays = keeps.stack_stays;
+        loans = loans_needed;
+        accesses = accesses_are_permitted w n f b is slots i rules board first keeps;
+      }
+
+pub kept_runs_are_isolated : GlobalLaws → SlotsHoldPermissions → PlannedSlotsAreOwn → PlannedMasksAreNeeded → KeptRunsAreIsolated
+kept_runs_are_isolated globals slots own masks w n f b is i rules board first keeps =
+    is_isolated globals w n f b is (slots w n f b is) (own w n f b is) (masks w n f b is) i rules board first keeps

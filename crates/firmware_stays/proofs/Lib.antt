@@ -1,0 +1,6 @@
+mod Globals
+mod Accesses
+mod OwnRegions
+mod Regions
+mod Isolation
+mod Composed

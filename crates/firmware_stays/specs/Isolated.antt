@@ -1,0 +1,102 @@
+-- Who changes which bytes and accesses which peripherals in a run of a planned firmware's image, in the firmware's own words.
+use Rattle.std.specs.Prelude.{◌≡◌, ◌≢◌, ℕ, ◌<◌, ◌≤◌, true, false, Some, length, slice_get}
+use Rattle.device_model.specs.declared.image.Image.{Image}
+use Rattle.device_model.specs.Rules.{ObeysRules}
+use Rattle.events.specs.declared.event.Event.{Event}
+use Rattle.armv7m.specs.State.{State}
+use Rattle.armv7m.specs.Step.{event}
+use Rattle.resets.specs.Reset.{EachRun}
+use Rattle.ir_model.specs.declared.object.ObjId.TheVariants.{Global, Periph, Local}
+use Rattle.ir_model.specs.Plain.{PlainFirmware}
+use Rattle.ir_model.specs.Resolve.{resolve}
+use Rattle.ir_model.specs.Resolved.{Program}
+use Rattle.plan_model.specs.declared.needs.Needs.{Needs}
+use Rattle.plan_model.specs.declared.graph.Final.{Final}
+use Rattle.plan_model.specs.declared.plan.Board.{Board}
+use Rattle.plan_model.specs.Groups.{writes}
+use Rattle.plan_model.specs.Lists.{has}
+use Rattle.plan_model.specs.Regions.{region_at}
+use Rattle.plan_model.specs.RamBlocks.{ForRegion}
+use Rattle.layout_laws.specs.RamLaws.{Holds}
+use Rattle.plan_model.specs.Lending.{lent}
+use Rattle.plan_model.specs.Permission.{may_write}
+use Rattle.monitor.specs.declared.tables.Tables.{Tables}
+use Rattle.monitor.specs.BlockWords.{current, loan_number}
+use Rattle.monitor.specs.Reach.{running, IsInLoan}
+use Rattle.monitor.specs.Confined.{HasStarted, later}
+use Rattle.linked_images.specs.Planned.{IsPlanned, plan, planned_image, planned_tables}
+use Rattle.linked_promises.specs.Permissions.{IsByteOf}
+use Rattle.planned_images.specs.Whole.{IsForBoard}
+use Rattle.memory_stays.specs.Acts.{byte_at, OnStack, Acts, Rests}
+use Rattle.memory_stays.specs.Stays.{ClosedStackStays, KeepsMemory}
+
+-- ---- of a firmware `w` with its needs, its final graph and a board, which say where globals and regions lie and who may write them; and
+-- of a run of an image with such tables from a first state
+
+module _ (w : PlainFirmware) (n : Needs) (f : Final) (b : Board) (i : Image) (t : Tables) (first : State) where
+  abbrev p : Program
+  p = resolve w
+
+  abbrev at : ℕ → State
+  at k = later i t first k
+
+  -- the compartment that acts
+  abbrev acting : ℕ → ℕ
+  acting k = current i t (at k).ram
+
+  -- a byte of a global stays while no compartment acts that may write the global
+  abbrev pub GlobalsStay : Type 0
+  GlobalsStay =
+      (x a from to : ℕ) → x < length p.globals → IsByteOf w n f b x a → Rests i t first from → Rests i t first to → from ≤ to
+      → ((k : ℕ) → from ≤ k → k < to → Acts i t first k → may_write p n f (acting k) (Global x) ≡ false)
+      → byte_at i (at to) a ≡ byte_at i (at from) a
+
+  -- and where it has changed, one has acted that may
+  abbrev pub GlobalsChangeByTheirWriters : Type 0
+  GlobalsChangeByTheirWriters =
+      (x a from to : ℕ) → x < length p.globals → IsByteOf w n f b x a → Rests i t first from → Rests i t first to → from ≤ to
+      → byte_at i (at to) a ≢ byte_at i (at from) a
+      → (k : ℕ) × (from ≤ k) × (k < to) × Acts i t first k × (may_write p n f (acting k) (Global x) ≡ true)
+
+  -- the same of any byte of a data region's block, padding too: it stays while none of the region's writers acts
+  abbrev pub RegionsStay : Type 0
+  RegionsStay =
+      (r a from to : ℕ) → r < length f.regions → Holds p f (plan w n f b) (ForRegion r) a → Rests i t first from → Rests i t first to → from ≤ to
+      → ((k : ℕ) → from ≤ k → k < to → Acts i t first k → has (region_at f.regions r).writers (acting k) ≡ false)
+      → byte_at i (at to) a ≡ byte_at i (at from) a
+
+  -- what is lent to the compartment that acts, so that it may write it, lies in the stack, and one of its functions writes that local
+  abbrev pub LoansAreNeeded : Type 0
+  LoansAreNeeded =
+      (k l a : ℕ) → Acts i t first k → IsInLoan i t (at k) (running i t (at k)).mask l a
+      → OnStack t a × (x : ℕ × ℕ) × (slice_get (lent n f.groups) (loan_number i t (at k).ram l) ≡ Some x) × (writes n f.groups (acting k) (Local x.0 x.1) ≡ true)
+
+  -- each access of a peripheral, load or store, is the acting compartment's own, and of a peripheral that it may use
+  abbrev pub AccessesArePermitted : Type 0
+  AccessesArePermitted =
+      (k : ℕ) (e : Event) → HasStarted i t first k → event i (at k) ≡ Some e
+      → Acts i t first k × (e.compartment ≡ acting k) × (e.periph < length p.periphs) × (may_write p n f e.compartment (Periph e.periph) ≡ true)
+
+  pub record IsIsolated : Type 0 where
+    -- which bytes of data change
+    pub globals_stay : GlobalsStay
+    pub globals_change : GlobalsChangeByTheirWriters
+    pub regions_stay : RegionsStay
+    -- a byte of the stack stays while it is closed to each compartment that acts: not below TOP, not lent to it, and not in the word that its
+    -- return hands back
+    pub stack_stays : ClosedStackStays i t first
+    pub loans : LoansAreNeeded
+    -- which peripherals are accessed
+    pub accesses : AccessesArePermitted
+
+-- a run of any image for the board with the planned tables, whatever code it has: where memory is kept, it is isolated
+abbrev pub KeptRunsAreIsolated : Type 0
+KeptRunsAreIsolated =
+    (w : PlainFirmware) (n : Needs) (f : Final) (b : Board) → IsPlanned w n f b → (i : Image) → ObeysRules i → IsForBoard w b i
+    → (first : State) → KeepsMemory i (planned_tables w n f b) first → IsIsolated w n f b i (planned_tables w n f b) first
+
+-- each run of each planned firmware's image
+abbrev pub PlannedRunsAreIsolated : Type 0
+PlannedRunsAreIsolated =
+    (w : PlainFirmware) (n : Needs) (f : Final) (b : Board) → IsPlanned w n f b
+    → EachRun (planned_image w n f b) (IsIsolated w n f b (planned_image w n f b) (planned_tables w n f b))

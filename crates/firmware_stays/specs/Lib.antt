@@ -1,0 +1,3 @@
+pub mod Own
+pub mod Isolated
+pub mod Whole

@@ -1,0 +1,16 @@
+-- Beyond the program's claim: only laws, proofs and functions inside the tool cite this file.
+-- Which blocks of 32 bytes are known to be permitted.
+use Rattle.std.specs.Prelude.{◌≡◌, ℕ, ◌*◌, ◌<◌, ◌^◌, Bool, true, List, length}
+use Rattle.std.specs.List.{All}
+use Rattle.mpu_model.specs.declared.region.Access.{Access}
+use Rattle.mpu_model.specs.Registers.{Registers}
+use Rattle.mpu_model.specs.Protection.{permits}
+
+-- such an access is permitted in the block of this number; a number behind those of all blocks tells nothing
+abbrev pub IsPermitted : Registers → (unprivileged : Bool) → Access → (block : ℕ) → Type 0
+IsPermitted m u kind b = b < 2 ^ 27 → permits m u kind (32 * b) ≡ true
+
+-- and so in each block of a list
+pub record AreKnown (m : Registers) (u : Bool) (kind : Access) (bs : List ℕ) : Type 0 where
+  pub room : length bs ≡ 32
+  pub permitted : All (IsPermitted m u kind) bs

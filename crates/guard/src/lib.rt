@@ -1,0 +1,181 @@
+//! What decides which accesses are allowed, with blocks of 32 bytes that it was asked for before.
+#![tactic(auto)]
+
+mod blocks;
+
+ghost use Rattle.std.specs.Prelude.{◌≡◌, ◌<◌, ◌*◌, ◌^◌, true, false, IsTrue};
+ghost use Rattle.guard.specs.Known.{IsPermitted};
+ghost use Rattle.mpu_model.specs.Registers.{read_register, write_register, is_register};
+ghost use Rattle.armv7m.specs.State as state;
+
+use crate::blocks::Blocks;
+use armv7m::state::ProtectionState;
+use mpu_model::region::Access;
+use mpu_model::unit::Mpu;
+use std::marker::Model;
+
+/// What decides which accesses are allowed, which contracts see as that alone. Of blocks of 32 bytes it keeps which were
+/// permitted, until a register of the unit is written. Takes no memory.
+#[derive(Drop)]
+pub struct Guard {
+    protection: ProtectionState,
+    privileged_reads: Blocks,
+    privileged_writes: Blocks,
+    privileged_fetches: Blocks,
+    unprivileged_reads: Blocks,
+    unprivileged_writes: Blocks,
+    unprivileged_fetches: Blocks,
+}
+
+impl Model for Guard {
+    ghost use Rattle.std.specs.Prelude.{true, false};
+    ghost use Rattle.armv7m.specs.declared.state.ProtectionState.{ProtectionState};
+    ghost use Rattle.mpu_model.specs.declared.region.Access.TheVariants.{Read, Write, Fetch};
+    ghost use Rattle.guard.specs.Known.{AreKnown};
+
+    ghost Value = { ProtectionState };
+
+    ghost view = { λ g. g.protection };
+
+    ghost invariant = { λ g. AreKnown g.protection.mpu false Read g.privileged_reads.numbers
+        × AreKnown g.protection.mpu false Write g.privileged_writes.numbers
+        × AreKnown g.protection.mpu false Fetch g.privileged_fetches.numbers
+        × AreKnown g.protection.mpu true Read g.unprivileged_reads.numbers
+        × AreKnown g.protection.mpu true Write g.unprivileged_writes.numbers
+        × AreKnown g.protection.mpu true Fetch g.unprivileged_fetches.numbers };
+}
+
+impl Guard {
+    /// With nothing known.
+    #[tactic(auto, using(crate::proofs::Kept::kept_rules))]
+    pub fn new(protection: ProtectionState) -> Guard
+        ensures { result ≡ protection }
+    {
+        Guard {
+            protection,
+            privileged_reads: Blocks::none(),
+            privileged_writes: Blocks::none(),
+            privileged_fetches: Blocks::none(),
+            unprivileged_reads: Blocks::none(),
+            unprivileged_writes: Blocks::none(),
+            unprivileged_fetches: Blocks::none(),
+        }
+    }
+
+    /// Whether instructions are unprivileged.
+    #[inline(always)]
+    pub fn is_unprivileged(&self) -> bool
+        ensures { result ≡ state.is_unprivileged self.now }
+    {
+        self.protection.is_unprivileged()
+    }
+
+    /// Whether the machine is in Handler mode.
+    #[inline(always)]
+    pub fn is_handler(&self) -> bool
+        ensures { result ≡ self.now.handler }
+    {
+        self.protection.handler
+    }
+
+    /// CONTROL.nPRIV.
+    pub fn is_thread_unprivileged(&self) -> bool
+        ensures { result ≡ self.now.unprivileged }
+    {
+        self.protection.unprivileged
+    }
+
+    /// Goes into Handler mode or out of it.
+    pub fn set_handler(&mut self, handler: bool)
+        ensures { self.new ≡ record self.old { handler = handler } }
+    {
+        self.protection.handler = handler;
+    }
+
+    /// Writes CONTROL.nPRIV.
+    pub fn set_unprivileged(&mut self, unprivileged: bool)
+        ensures { self.new ≡ record self.old { unprivileged = unprivileged } }
+    {
+        self.protection.unprivileged = unprivileged;
+    }
+
+    /// The protection unit.
+    pub fn mpu(&self) -> &Mpu
+        ensures { result.now ≡ self.now.mpu }
+    {
+        &self.protection.mpu
+    }
+
+    /// A write of one of the unit's registers; of another address nothing happens.
+    #[tactic(auto, using(crate::proofs::Kept::kept_rules))]
+    pub fn write(&mut self, register: u32, value: u32)
+        ensures { self.new ≡ record self.old { mpu = write_register register value self.old.mpu } }
+    {
+        let _ = self.protection.mpu.write(register, value);
+        self.privileged_reads = Blocks::none();
+        self.privileged_writes = Blocks::none();
+        self.privileged_fetches = Blocks::none();
+        self.unprivileged_reads = Blocks::none();
+        self.unprivileged_writes = Blocks::none();
+        self.unprivileged_fetches = Blocks::none();
+    }
+
+    /// Whether such an access of the byte at an address is permitted.
+    #[inline(always)]
+    #[tactic(auto, using(crate::proofs::Kept::answer_rules))]
+    pub fn permits(&mut self, kind: Access, address: u32) -> bool
+        ensures answer { result ≡ state.by_mpu self.old kind address }
+        ensures same { self.new ≡ self.old }
+    {
+        if self.is_known(kind, address / 32) {
+            return true;
+        }
+        self.ask(kind, address)
+    }
+
+    /// Whether such an access is known to be permitted in the block of this number.
+    #[inline(always)]
+    #[tactic(auto, using(crate::proofs::Kept::known_rules))]
+    fn is_known(&self, kind: Access, block: u32) -> bool
+        ensures { IsTrue result → IsPermitted self.now.mpu (state.is_unprivileged self.now) kind block }
+    {
+        match (self.protection.is_unprivileged(), kind) {
+            (false, Access::Read) => self.privileged_reads.has(block),
+            (false, Access::Write) => self.privileged_writes.has(block),
+            (false, Access::Fetch) => self.privileged_fetches.has(block),
+            (true, Access::Read) => self.unprivileged_reads.has(block),
+            (true, Access::Write) => self.unprivileged_writes.has(block),
+            (true, Access::Fetch) => self.unprivileged_fetches.has(block),
+        }
+    }
+
+    /// Asks the unit, and keeps what it permits.
+    #[inline(never)]
+    #[tactic(auto, using(crate::proofs::Kept::answer_rules))]
+    fn ask(&mut self, kind: Access, address: u32) -> bool
+        ensures answer { result ≡ state.by_mpu self.old kind address }
+        ensures same { self.new ≡ self.old }
+    {
+        let is_permitted = self.protection.permits(kind, address);
+        if is_permitted {
+            self.keep(kind, address / 32);
+        }
+        is_permitted
+    }
+
+    /// Keeps a block where such an access is permitted.
+    #[tactic(auto, using(crate::proofs::Kept::kept_rules))]
+    fn keep(&mut self, kind: Access, block: u32)
+        requires { IsPermitted self.old.mpu (state.is_unprivileged self.old) kind block }
+        ensures { self.new ≡ self.old }
+    {
+        match (self.protection.is_unprivileged(), kind) {
+            (false, Access::Read) => self.privileged_reads.put(block),
+            (false, Access::Write) => self.privileged_writes.put(block),
+            (false, Access::Fetch) => self.privileged_fetches.put(block),
+            (true, Access::Read) => self.unprivileged_reads.put(block),
+            (true, Access::Write) => self.unprivileged_writes.put(block),
+            (true, Access::Fetch) => self.unprivileged_fetches.put(block),
+        }
+    }
+}

@@ -1,0 +1,4 @@
+mod Alike
+mod ReadAlike
+mod ChecksAlike
+pub mod Stays

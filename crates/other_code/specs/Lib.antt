@@ -1,0 +1,2 @@
+pub mod OtherCode
+pub mod Laws

@@ -1,0 +1,5 @@
+mod Eighths
+mod Loans
+mod Frames
+mod Within
+mod There

@@ -1,0 +1,2 @@
+mod Beyond
+mod SlotsTold

@@ -1,0 +1,3 @@
+pub mod SlotLines
+pub mod TableLines
+pub mod Laws
