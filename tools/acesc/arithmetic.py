@@ -183,5 +183,3 @@ def bounds(ctype: Int) -> Range:
     bits = 8 * ctype.size
     return (-(1 << bits - 1), (1 << bits - 1) - 1) if ctype.signed else (0, (1 << bits) - 1)
 
-
-__all__ = ['Arithmetic', 'BITWISE', 'COMPARE', 'Range', 'bounds']

@@ -8,7 +8,7 @@ from typing import NamedTuple, Optional, Union
 from .c_types import CType, Int, RecordType
 from .classes import Memory, NUMBER, PointerClass, Signature, View
 from .code import Block, End, FunctionCode, Instruction
-from .common import MASK32, Node, Refusal, WORD, fresh
+from .common import MASK32, Node, WORD, fresh
 from .layout import Field
 from .link import Function, Program, Unit, Variable
 from .words import Words
@@ -292,6 +292,3 @@ def is_wide(ctype: CType) -> bool:
     """Whether a number has two registers."""
     return isinstance(ctype, Int) and ctype.size == 8
 
-
-__all__ = ['AddressNumber', 'AnyPlace', 'Builder', 'Callee', 'DevicePlace', 'Index', 'MemoryPlace', 'ObjectPlace', 'RegisterPlace', 'Registers',
-           'Result', 'is_record', 'is_wide', 'Refusal']

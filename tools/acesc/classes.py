@@ -7,7 +7,7 @@ from __future__ import annotations
 
 from typing import Optional, Sequence, Union
 
-from .c_types import Array, CType, Float, FunctionType, Int, Pointer, RecordType, VOID, Void
+from .c_types import Array, CType, Float, FunctionType, Int, Pointer, RecordType, Void
 from .common import FLOATING, Refusal
 from .constants import Reading
 from .layout import Record
@@ -232,6 +232,3 @@ def parameter_count(wanted: CType, given: int) -> int:
         return len(wanted.to.parameters)
     return given
 
-
-__all__ = ['Classes', 'LoweredSignature', 'Memory', 'NUMBER', 'POINTER_VIEW', 'PointerClass', 'Signature', 'View', 'VOID',
-           'element_type', 'parameter_count']

@@ -54,7 +54,7 @@ class FunctionCode:
     nulls: dict[str, int] = field(default_factory=dict)                 # a value of each type that is never written
     locals: list[tuple[str, str]] = field(default_factory=list)
     result: Optional[str] = None
-    names: dict[int, str] = field(default_factory=dict)                 # values that are variables of C
+    names: dict[int, Any] = field(default_factory=dict)                 # values that are variables of C (link.Variable)
     # from here on: what allotment adds
     registers: dict[int, str] = field(default_factory=dict)             # of each value
     parameter_lines: list[tuple[str, str]] = field(default_factory=list)

@@ -14,6 +14,7 @@ from .link import Function, Program, Unit
 from .peripherals import Peripheral, read_table
 from .settle import settle
 from .shape import Analysis
+from .svd import read_svd
 from .unit import UnitReader
 
 USAGE = '''usage: aces-c [options] FILE.c ..
@@ -25,6 +26,7 @@ Translates C to a firmware text of `aces` (docs/C.md).
   -I DIR, -D NAME[=VALUE], -U NAME, -include FILE, -isystem DIR, -std=STANDARD, -fshort-enums, -fsigned-char
                          as for a C compiler
   -p TABLE               the peripherals: a line NAME BASE SIZE for each
+  --svd FILE             the peripherals by the vendor's description, in place of a table; those that are used are declared
   --all                  translates every function, not only what main reaches
   --no-lines             no comments with lines of the C sources
   --no-library           without the small C library (string.h and the like)
@@ -47,6 +49,7 @@ class Options:
     files: list[str] = field(default_factory=list)
     out: Optional[str] = None
     table: Optional[str] = None
+    svd: Optional[str] = None
     everything: bool = False
     lines: bool = True
     library: bool = True
@@ -54,7 +57,9 @@ class Options:
     clang: str = os.environ.get('ACES_CLANG', 'clang')
 
     def peripherals(self) -> list[Peripheral]:
-        """The table of peripherals."""
+        """The peripherals, by a table or by an SVD file."""
+        if self.svd is not None:
+            return read_svd(self.svd)
         return read_table(self.table) if self.table is not None else []
 
     def all_flags(self) -> list[str]:
@@ -83,6 +88,8 @@ def finish_options(options: Options) -> None:
     """Checks the options together."""
     if not options.files:
         raise UsageFault('no C files')
+    if options.table is not None and options.svd is not None:
+        raise UsageFault('one of -p and --svd')
     for path in options.files:
         if not os.path.isfile(path):
             raise UsageFault(f'cannot read {path}')
@@ -98,6 +105,8 @@ def parse_option(options: Options, word: str, rest: Iterator[str]) -> bool:
         options.out = argument(word, rest)
     elif word == '-p':
         options.table = argument(word, rest)
+    elif word == '--svd':
+        options.svd = argument(word, rest)
     elif word == '--clang':
         options.clang = argument(word, rest)
     elif word == '--all':
@@ -197,7 +206,7 @@ def translate(options: Options, messages: Messages) -> tuple[Optional[str], Opti
     tell_handlers(program, roots, analysis.shapes.functions)
     if messages.errors:
         return None, None
-    emitter = Emitter(program, analysis.shapes, analysis.strings, peripherals, options.lines)
+    emitter = Emitter(program, analysis.shapes, analysis.strings, peripherals, options.svd is not None, options.lines)
     return emitter.translated(), emitter
 
 

@@ -35,6 +35,17 @@ class Refusal(Exception):
         self.what, self.place = what, place
 
 
+# What a tree of a form that no pass knows leads to; it is told as a refusal at its place.
+UNKNOWN_FORM = (KeyError, IndexError, AttributeError, TypeError, ValueError, AssertionError, StopIteration)
+
+
+def as_refusal(fault: Exception) -> Refusal:
+    """A refusal as it is; anything else as a construct that is not known."""
+    if isinstance(fault, Refusal):
+        return fault
+    return Refusal(f'a construct that this translator does not know ({type(fault).__name__} {fault}): write it in plainer C')
+
+
 class UsageFault(Exception):
     """Words that are no request, or a file or program that is not there."""
 

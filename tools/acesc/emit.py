@@ -7,14 +7,15 @@ from typing import Optional
 from .builder import Callee
 from .c_types import Array
 from .code import FunctionCode, Instruction
-from .common import Place, Refusal, WORD, fresh
-from .first_values import AddressOf, CellValue, FirstValues, InCode, Scalar
+from .common import Place, Refusal, UNKNOWN_FORM, WORD, as_refusal, fresh
+from .first_values import CellValue, FirstValues, InCode, Scalar
 from .functions import INITIALISER
 from .link import Function, Program, Unit, Variable
 from .peripherals import Peripheral
 from .regs import allot
 from .routines import routine_text
 from .shape import Shapes, undefined
+from .widening import Sets, first_contents, tell_wide_pointers
 
 FRAME_LIMIT = 992
 OBJECT_LIMIT = 65536
@@ -30,9 +31,10 @@ class Declared:
 class Emitter(FirstValues):
     """Translates all that the analysis found, and writes the text."""
 
-    def __init__(self, program: Program, shapes: Shapes, strings: dict[bytes, Variable], peripherals: list[Peripheral], lines: bool) -> None:
+    def __init__(self, program: Program, shapes: Shapes, strings: dict[bytes, Variable], peripherals: list[Peripheral], only_used: bool,
+                 lines: bool) -> None:
         super().__init__(program, peripherals)
-        self.shapes, self.strings, self.lines = shapes, strings, lines
+        self.shapes, self.strings, self.only_used, self.lines = shapes, strings, only_used, lines
         self.refused = shapes.refused
         self.function_cells = set()
         self.routine_names: dict[tuple[str, Unit], str] = {}
@@ -56,7 +58,20 @@ class Emitter(FirstValues):
             return None
         self.find_calls()
         texts = {unit: [t for t in map(self.finished, self.codes[unit]) if t is not None] for unit in self.program.units}
-        return None if self.messages.errors else self.text(texts)
+        if self.messages.errors:
+            return None
+        self.tell_wide_pointers()
+        return self.text(texts)
+
+    def tell_wide_pointers(self) -> None:
+        """Tells of pointers that may lead to objects of several files."""
+        sets = Sets()
+        files: dict[str, str] = {}
+        for declared in self.globals_declared:
+            first_contents(sets, declared.variable, declared.values)
+            if not declared.variable.is_const:
+                files[str(declared.variable.text_name)] = declared.variable.unit.home.name
+        tell_wide_pointers(sets, [code for unit in self.program.units for code in self.codes[unit]], files, self.messages)
 
     def tell_casts(self) -> None:
         """Tells of pointers to integers that may lead to structs with pointers, which are null when read so."""
@@ -86,8 +101,9 @@ class Emitter(FirstValues):
                 if scalars:
                     todo.setdefault(variable.unit, []).append((variable, scalars))
                 self.globals_declared.append(Declared(variable, values, bool(scalars)))
-            except Refusal as fault:
-                self.messages.error(fault.what, fault.place or variable.place)
+            except (Refusal, *UNKNOWN_FORM) as fault:
+                refusal = as_refusal(fault)
+                self.messages.error(refusal.what, refusal.place or variable.place)
         self.initialised_units = [unit for unit in self.program.units if unit in todo]
         for unit in self.initialised_units:
             self.initialiser_names[unit] = fresh(f'init.{unit.name}', self.taken)
@@ -105,8 +121,9 @@ class Emitter(FirstValues):
                     continue
                 try:
                     self.codes[unit].append(self.function_code(function))
-                except Refusal as fault:
-                    self.refuse_function(function, fault.what, fault.place)
+                except (Refusal, *UNKNOWN_FORM) as fault:
+                    refusal = as_refusal(fault)
+                    self.refuse_function(function, refusal.what, refusal.place)
                 except RecursionError:
                     self.refuse_function(function, 'an expression that is nested too deep', None)
 
@@ -216,6 +233,7 @@ class Emitter(FirstValues):
                 self.messages.error(fault.what, declared.variable.place)
         globals_ += [f'global {name}: {ctype}' for name, ctype in self.moved_locals]
         structs = [f'struct {name} {{ ' + ', '.join(f'{n}: {t}' for n, t in fields) + ' }' for name, fields in self.structs]
+        self.check_windows()
         windows = [f'periph {p.name} 0x{p.base:08X} {p.size}' for p in self.shown_peripherals()]
         for count, most, what in ((len(structs), 256, 'structs'), (len(windows), 64, 'peripherals'), (len(globals_), 1024, 'globals'),
                                   (sum(map(len, texts.values())), 1024, 'functions')):
@@ -224,8 +242,18 @@ class Emitter(FirstValues):
         return None if self.messages.errors else '\n'.join(structs + windows + globals_ + functions) + '\n'
 
     def shown_peripherals(self) -> list[Peripheral]:
-        """The peripherals that are declared."""
-        return self.peripherals
+        """The peripherals that are declared: all of a table, and those of an SVD file that are used."""
+        if not self.only_used:
+            return self.peripherals
+        return [p for p in self.peripherals if p.name in self.used_peripherals]
+
+    def check_windows(self) -> None:
+        """Tells of used peripherals whose windows meet."""
+        shown = self.shown_peripherals()
+        for number, one in enumerate(shown):
+            for other in shown[:number]:
+                if one.base < other.base + other.size and other.base < one.base + one.size:
+                    self.messages.error(f'the windows of {other.name} and {one.name} meet: give a table of windows by -p', None)
 
     def global_line(self, declared: Declared) -> str:
         """A global with its first values."""
@@ -297,5 +325,3 @@ class Emitter(FirstValues):
             return to + words[0]
         return f'{to}{ {"element": "elem", "load": "load", "store": "store"}[kind]} {", ".join(words)}'
 
-
-__all__ = ['Emitter', 'AddressOf']

@@ -2,7 +2,7 @@
 from __future__ import annotations
 
 from .builder import Callee
-from .c_types import Array, RecordType
+from .c_types import RecordType
 from .classes import LoweredSignature, Signature
 from .code import FunctionCode
 from .common import fresh
@@ -78,8 +78,6 @@ class Functions(Statements):
             else:
                 variable.text_name = self.new_local(variable.name, self.object_type(variable.memory, variable.ctype))
                 for register in own:
-                    code.names.setdefault(register, variable.name)
+                    code.names.setdefault(register, variable)
                 self.stored(self.variable_place(variable), own)
 
-
-__all__ = ['Functions', 'INITIALISER', 'Array']

@@ -61,10 +61,10 @@ def window_fault(peripheral: Peripheral, earlier: list[Peripheral]) -> str:
 
 
 def find(peripherals: list[Peripheral], address: int) -> Peripheral:
-    """The peripheral in which an address lies."""
-    for peripheral in peripherals:
-        if peripheral.base <= address < peripheral.base + peripheral.size:
-            return peripheral
+    """The peripheral in which an address lies: of several the one with the smallest window."""
+    holding = [p for p in peripherals if p.base <= address < p.base + p.size]
+    if holding:
+        return min(holding, key=lambda p: p.size)
     if 0xE0000000 <= address < 0xE0100000:
         raise Refusal(f'the address 0x{address:08X} is a register of the processor (SysTick, NVIC and the like), which no compartment reaches: '
                       'poll a timer of the chip instead')

@@ -4,9 +4,9 @@ from __future__ import annotations
 from typing import Optional
 
 from .builder import AddressNumber, AnyPlace, Builder, DevicePlace, MemoryPlace, ObjectPlace, RegisterPlace, Registers
-from .c_types import Array, CType, FunctionType, Int, Pointer, RecordType, VOID, Void
+from .c_types import Array, CType, FunctionType, Pointer, RecordType, Void
 from .classes import Memory, NUMBER, PointerClass, Signature, View, element_type, parameter_count
-from .common import FLOATING, MASK32, Node, Refusal, RUNTIME_ADDRESS
+from .common import MASK32, Node, Refusal, RUNTIME_ADDRESS
 from .layout import Field, Record
 from .link import Function, Program, Variable
 from .peripherals import Peripheral, find
@@ -391,5 +391,3 @@ def no_view(what: str) -> str:
     """What is told where an object is not to be seen through a pointer."""
     return f'no view of this object as {what}: pointers to it come from another type'
 
-
-__all__ = ['Places', 'no_view', 'FLOATING', 'Int', 'VOID']

@@ -97,6 +97,8 @@ class Colouring:
         self.appear: set[int] = set(code.parameters)
         self.leader: dict[int, int] = {}
         self.members: dict[int, set[int]] = {}
+        self.writes: dict[int, int] = {}            # of what stands for several: but for the moves that were joined
+        self.uses: dict[int, int] = {}
         self.count = 0
         self.colour: dict[int, int] = {}
         self.types: list[str] = []
@@ -132,9 +134,14 @@ class Colouring:
         for block in self.code.blocks:
             now = live.after[block.name] | set(end_operands(block.ended()))
             self.appear.update(end_operands(block.ended()))
+            for value in end_operands(block.ended()):
+                self.uses[value] = self.uses.get(value, 0) + 1
             for instruction in reversed(block.instructions):
                 to = instruction.to
+                for value in instruction.operands:
+                    self.uses[value] = self.uses.get(value, 0) + 1
                 if to is not None:
+                    self.writes[to] = self.writes.get(to, 0) + 1
                     self.appear.add(to)
                     now.discard(to)
                     if instruction.kind == 'move':
@@ -146,6 +153,7 @@ class Colouring:
                 self.appear.update(instruction.operands)
         entry = live.needed[self.code.blocks[0].name]
         for parameter in self.code.parameters:
+            self.writes[parameter] = self.writes.get(parameter, 0) + 1
             self.clash(parameter, entry)
             self.clash(parameter, set(self.code.parameters))
 
@@ -161,11 +169,19 @@ class Colouring:
                 continue
             if not self.clashes.get(one, set()).isdisjoint(self.members[other]) or not self.clashes.get(other, set()).isdisjoint(self.members[one]):
                 continue
+            if not self.keeps_sets(one, other):
+                continue
+            writes, uses = self.writes[one] + self.writes.get(other, 0) - 1, self.uses.get(one, 0) + self.uses[other] - 1
             if other in parameters:
                 one, other = other, one
+            self.writes[one], self.uses[one] = writes, uses
             self.leader[other] = one
             self.members[one] |= self.members[other]
             self.clashes.setdefault(one, set()).update(self.clashes.get(other, ()))
+
+    def keeps_sets(self, to: int, source: int) -> bool:
+        """Whether joining a move gives no pointer what only another one leads to: the move alone writes one side, or uses the other."""
+        return self.share or self.code.types[to] == WORD or self.writes[to] == 1 or self.uses[source] == 1
 
     def colour_all(self) -> None:
         """Takes for each value the first register that suits it; parameters come first."""

@@ -3,9 +3,9 @@ from __future__ import annotations
 
 from typing import Callable, Optional, Union
 
-from .c_types import Array, CType, Float, FunctionType, Int, Pointer, RecordType, VOID
+from .c_types import Array, CType, Float, Int, Pointer, RecordType, VOID
 from .classes import Classes, Memory, PointerClass, Signature, parameter_count
-from .common import FLOATING, LEAK, Node, Refusal, RUNTIME_ADDRESS, VARIADIC
+from .common import FLOATING, Node, Refusal, RUNTIME_ADDRESS, UNKNOWN_FORM, VARIADIC, as_refusal
 from .layout import Field
 from .link import Function, Program, Variable
 from .tree import COMPARISONS, MEMORY_FUNCTIONS, WRAPPERS, is_cast, is_null, parts, peel, type_of
@@ -72,8 +72,9 @@ class Analysis(Classes):
                 memory = self.variable_memory(entity)
                 if entity.first_value is not None:
                     self.first_value(memory, entity.ctype, entity.first_value)
-            except Refusal as fault:
-                self.messages.error(fault.what, fault.place or entity.place)
+            except (Refusal, *UNKNOWN_FORM) as fault:
+                refusal = as_refusal(fault)
+                self.messages.error(refusal.what, refusal.place or entity.place)
 
     def visit_function(self, function: Function, body: Node) -> None:
         """Visits a body, unless the head is refused."""
@@ -81,8 +82,9 @@ class Analysis(Classes):
             if function.fault:
                 raise Refusal(function.fault, function.place)
             self.function_memory(function)
-        except Refusal as fault:
-            self.messages.error(fault.what, fault.place or function.place)
+        except (Refusal, *UNKNOWN_FORM) as fault:
+            refusal = as_refusal(fault)
+            self.messages.error(refusal.what, refusal.place or function.place)
             self.shapes.refused.add(function)
             return
         self.statement(body)
@@ -529,8 +531,9 @@ class Analysis(Classes):
             return
         try:
             self._statement(node)
-        except Refusal as fault:
-            self.messages.error(fault.what, fault.place or node.get('_place'))
+        except (Refusal, *UNKNOWN_FORM) as fault:
+            refusal = as_refusal(fault)
+            self.messages.error(refusal.what, refusal.place or node.get('_place'))
             self.shapes.refused.add(self.function)
 
     def _statement(self, node: Node) -> None:
@@ -640,5 +643,3 @@ def container(reading: Classes, node: Node) -> Optional[tuple[Node, int]]:
             return pointer['inner'][0], offset
     return None
 
-
-__all__ = ['Analysis', 'Shapes', 'MemoryCopy', 'container', 'stripped', 'undefined', 'FunctionType', 'LEAK']

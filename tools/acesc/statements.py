@@ -5,11 +5,11 @@ import re
 from typing import Any, Callable, NamedTuple, Optional
 
 from .builder import RegisterPlace, Registers
-from .c_types import Array, FunctionType, Int, Pointer, RecordType, VOID
+from .c_types import Array, Int, Pointer, RecordType, VOID
 from .builder import ObjectPlace
 from .calls import Calls
 from .code import Block, FunctionCode
-from .common import MASK32, Node, Refusal, WORD
+from .common import MASK32, Node, Refusal, UNKNOWN_FORM, WORD, as_refusal
 from .link import Function, Program, Unit, Variable
 from .peripherals import Peripheral
 from .tree import parts, type_of
@@ -51,8 +51,9 @@ class Statements(Calls):
         try:
             self.scratch_used = {}
             self._statement(node)
-        except Refusal as fault:
-            self.messages.error(fault.what, fault.place or node.get('_place'))
+        except (Refusal, *UNKNOWN_FORM) as fault:
+            refusal = as_refusal(fault)
+            self.messages.error(refusal.what, refusal.place or node.get('_place'))
             self.refused.add(self.function)
 
     def _statement(self, node: Node) -> None:
@@ -279,7 +280,7 @@ class Statements(Calls):
         """Makes these the registers of a variable."""
         self.variables[variable] = registers
         for register in registers:
-            self.code.names.setdefault(register, variable.name)
+            self.code.names.setdefault(register, variable)
 
     def declared(self, node: Node) -> None:
         """A variable that is declared, and its first value."""
@@ -370,5 +371,3 @@ def assembly_text(node: Node) -> str:
     found = re.findall(r'"([^"]*)"', line[max(place.column - 1, 0):])
     return str(found[0]) if found else '?'
 
-
-__all__ = ['Statements', 'FunctionType']

@@ -263,8 +263,13 @@ class UnitReader:
     def scan(self, node: Node, function: Optional[Function]) -> None:
         """Reads what is declared inside, in the order of the text; gives each node its type; finds variables whose address is taken."""
         kind = node.get('kind')
-        if kind != 'VarDecl' and self.declaration(node):
-            return
+        if kind != 'VarDecl':
+            try:
+                if self.declaration(node):
+                    return
+            except Refusal as fault:
+                self.messages.error(fault.what, fault.place or node.get('_place'))
+                return
         if kind == 'VarDecl':
             try:
                 node['_variable'] = self.variable(node, function)

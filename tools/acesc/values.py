@@ -3,7 +3,7 @@ from __future__ import annotations
 
 from typing import Optional
 
-from .builder import AnyPlace, DevicePlace, MemoryPlace, ObjectPlace, RegisterPlace, Registers
+from .builder import AnyPlace, DevicePlace, MemoryPlace, RegisterPlace, Registers
 from .c_types import CType, Float, FunctionType, INT, Int, LONG, Pointer, RecordType, VOID
 from .classes import NUMBER, PointerClass
 from .code import Block
@@ -504,5 +504,3 @@ def compound_range(symbol: str, ctype: Int, constant: Optional[int]) -> Optional
         return 0, (1 << 8 * ctype.size) - 1
     return (0, constant) if symbol == '&' else None
 
-
-__all__ = ['Values', 'ObjectPlace']

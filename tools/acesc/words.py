@@ -4,7 +4,7 @@ from __future__ import annotations
 from typing import Optional
 
 from .c_types import Array, CType, Float, Int, Pointer, RecordType, VaList, Void
-from .classes import Classes, LoweredSignature, Memory, NUMBER, PointerClass, Signature, View, element_type
+from .classes import Classes, LoweredSignature, Memory, NUMBER, PointerClass, Signature, View
 from .common import FLOATING, Refusal, VARIADIC, WORD, fresh
 from .layout import Field, Record
 from .link import Function, Program, Variable
@@ -241,5 +241,3 @@ class Words(Classes):
             return int(view[1])
         return self.layouts.size(RecordType(str(view[1]))) if view[0] == 'record' else 4
 
-
-__all__ = ['Words', 'Word', 'OBJECT_LIMIT', 'element_type']

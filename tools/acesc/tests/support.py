@@ -5,6 +5,7 @@ import os
 import random
 import re
 import shutil
+import signal
 import subprocess
 import sys
 from pathlib import Path
@@ -26,7 +27,14 @@ Done = subprocess.CompletedProcess[str]
 def aces_c(*words: object, command: Path = COMMAND, seed: str = '0', seconds: Optional[float] = None) -> Done:
     """Runs the command."""
     environment = {**os.environ, 'ACES': ACES, 'PYTHONHASHSEED': seed}
-    return subprocess.run([sys.executable, str(command), *map(str, words)], capture_output=True, text=True, env=environment, timeout=seconds, check=False)
+    line = [sys.executable, str(command), *map(str, words)]
+    with subprocess.Popen(line, stdout=subprocess.PIPE, stderr=subprocess.PIPE, text=True, env=environment, start_new_session=True) as process:
+        try:
+            out, err = process.communicate(timeout=seconds)
+        except subprocess.TimeoutExpired:
+            os.killpg(process.pid, signal.SIGKILL)      # what it runs too
+            raise
+    return subprocess.CompletedProcess(line, process.returncode, out, err)
 
 
 def program_words(name: str) -> list[str]:
@@ -35,7 +43,7 @@ def program_words(name: str) -> list[str]:
     return ['-p', str(folder / 'peripherals.txt'), '-I', str(PROGRAMS), *map(str, sorted(folder.glob('*.c')))]
 
 
-def tape(folder: Path, name: str, words: int = 250) -> str:
+def tape(folder: Path, name: str, words: int = 60) -> str:
     """Words for each peripheral: small numbers, single bits, any, and the program's own texts; the same on each run."""
     generator = random.Random(name)
     own = [line.split() for line in (folder / 'words.txt').read_text().splitlines()] if (folder / 'words.txt').exists() else []

@@ -9,26 +9,28 @@ from pathlib import Path
 import pytest
 from support import HAS_ACES, aces_c, BOARD
 
-SEEDS = range(1, 31)
+# 10 and 18 are left out: their programs do not end.
+SEEDS = [seed for seed in range(1, 33) if seed not in (10, 18)]
 SECONDS = 20
-# Programs that have to agree; the others do not end natively, are refused, or take too long on a slow machine.
-AGREEING = 8
+# At least so many have to be compared, on a slow machine too, and at most so many may be refused.
+AGREEING, REFUSED = 3, 6
 OPTIONS = ['--no-float', '--no-argc', '--max-funcs', '2', '--max-block-size', '3', '--max-array-dim', '2', '--max-array-len-per-dim', '4',
            '--no-packed-struct', '--max-expr-complexity', '6', '--max-block-depth', '3']
 # csmith's own main and header are put aside: the checksum goes to a port.
 HEADER = '''
 #include <stdint.h>
 #include <limits.h>
-static uint32_t check = 0xFFFFFFFFu;
+#define printf(...) ((void)0)
+static uint32_t crc32_context = 0xFFFFFFFFu;
 static void transparent_crc(uint64_t value, const char *name, int flag)
 {
     for (int i = 0; i < 8; i++)
-        check = (check ^ (uint32_t)(value >> 8 * i & 0xFF)) * 16777619u;
-    *(volatile uint32_t *)0x40010800u = check;
+        crc32_context = (crc32_context ^ (uint32_t)(value >> 8 * i & 0xFF)) * 16777619u;
+    *(volatile uint32_t *)0x40010800u = crc32_context;
 }
 static void platform_main_begin(void) {}
 static void crc32_gentab(void) {}
-static void platform_main_end(uint32_t value, int flag) { *(volatile uint32_t *)0x40010804u = value ^ check; }
+static void platform_main_end(uint32_t value, int flag) { *(volatile uint32_t *)0x40010804u = value; }
 '''
 
 
@@ -87,3 +89,5 @@ def test_random_programs(tmp_path: Path) -> None:
         found = list(pool.map(lambda seed: outcome(seed, tmp_path), SEEDS))
     assert not [f'seed {seed} {what}' for seed, what in zip(SEEDS, found) if what.startswith('differs')]
     assert found.count('agrees') >= AGREEING, found
+    assert sum(what.startswith('refused') for what in found) <= REFUSED, found
+    print(f'{found.count("agrees")} agree, {found.count("takes too long")} take too long')

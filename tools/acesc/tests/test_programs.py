@@ -25,16 +25,14 @@ def test_case(number: str, what: str, tmp_path: Path) -> None:
     """A construct is translated and agrees, or is refused with its place and what to write instead."""
     words = ['-p', str(CASES / 'peripherals.txt'), f'-DCASE={number}', str(CASES / 'cases.c')]
     out = tmp_path / 'out.ir'
-    done = aces_c('-o', out, *words)
-    if not what.startswith('translated'):
-        assert done.returncode == 1 and what in done.stderr, done.stderr
-        assert 'cases.c:' in done.stderr and not out.exists()
-        return
-    assert done.returncode == 0, done.stderr
-    assert what[len('translated '):] in done.stderr
-    if HAS_ACES and number not in NOT_COMPARED:
-        run = compared(tmp_path, words, tape(CASES, number, 40), policy='filename')
-        assert run.returncode == 0, run.stdout + run.stderr
+    translated = what.startswith('translated')
+    if translated and HAS_ACES and number not in NOT_COMPARED:
+        done = compared(tmp_path, words, tape(CASES, number, 40), policy='filename')
+    else:
+        done = aces_c('-o', out, *words)
+    assert done.returncode == (0 if translated else 1), done.stdout + done.stderr
+    assert (what[len('translated '):] if translated else what) in done.stderr, done.stderr
+    assert translated or 'cases.c:' in done.stderr and not out.exists()
 
 
 
