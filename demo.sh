@@ -141,6 +141,8 @@ done
 
 echo
 echo "Now the radio is hostile: in the image for the second board its code is overwritten by code that stores into the control loop's effort."
+echo "The tables are the same, and only bytes behind them differ; so this image too is one of those of which it is proved that the radio changes"
+echo "no byte of effort, and no other store of it leaves what it may write, whatever code it executes."
 printed 12-list | grep -q '^compartment 2 code 0x08002300 '
 printed 12-list | grep -q '^slot . data 0x20000c60 32 effort$'
 show 53-hostile

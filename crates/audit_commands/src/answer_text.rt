@@ -1,7 +1,8 @@
 //! The line on an image.
 
-ghost use Rattle.std.specs.Prelude.{◌≡◌, ◌++◌, IfOk, OnOk};
+ghost use Rattle.std.specs.Prelude.{◌≡◌, ◌++◌, IfOk, OnOk, codes};
 ghost use Rattle.audit.specs.declared.answer.Audit.TheVariants.{Yes, No};
+ghost use Rattle.std.specs.Fmt.{decimal};
 ghost use Rattle.audit_commands.specs.AnswerLine as lines;
 
 use audit::Audit;
@@ -24,15 +25,36 @@ fn check_word(check: AuditCheck) -> &'static [u8]
     }
 }
 
+/// Puts a word and a number behind it.
+fn put_count(text: &mut Text, word: &[u8], count: u32) -> Result<(), AllocError>
+    ensures { OnOk result (text.new ≡ text.old ++ word.now ++ decimal count) }
+{
+    text.put(word)?;
+    text.put_decimal(u64::from(count))
+}
+
+/// The word before the number of compartments.
+fn compartments_word() -> &'static [u8]
+    ensures { result.now ≡ codes " compartments " }
+{
+    b" compartments "
+}
+
+/// Puts both counts.
+fn put_counts(text: &mut Text, compartments: u32, sites: u32) -> Result<(), AllocError>
+    ensures { OnOk result (text.new ≡ text.old ++ lines.counts compartments sites) }
+{
+    put_count(text, compartments_word(), compartments)?;
+    put_count(text, b" sites ", sites)
+}
+
 /// Puts the line of a yes.
 #[tactic(auto, unfolding(crate::specs::AnswerLine::answer_line))]
 fn put_yes(text: &mut Text, compartments: u32, sites: u32) -> Result<(), AllocError>
     ensures { OnOk result (text.new ≡ text.old ++ lines.answer_line (Yes compartments sites)) }
 {
-    text.put(b"yes compartments ")?;
-    text.put_decimal(u64::from(compartments))?;
-    text.put(b" sites ")?;
-    text.put_decimal(u64::from(sites))?;
+    text.put(b"yes")?;
+    put_counts(text, compartments, sites)?;
     text.put(b"\n")
 }
 
