@@ -11,7 +11,7 @@ ghost use Rattle.commands.specs.Outcomes.{done};
 ghost use Rattle.audit_commands.specs.AnswerLine.{answer_status};
 ghost use Rattle.audit_commands.specs.Answers.{AuditAnswer, AnswerToAudit};
 
-use crate::answering::answer_line;
+use crate::answer_text::answer_line;
 use crate::laws::sound_images_are_guarded;
 use aces_reports::{Done, Failure};
 use audit::{Audit, audit};

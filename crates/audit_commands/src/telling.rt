@@ -10,7 +10,7 @@ ghost use Rattle.commands.specs.Loads.{IsContentFailure};
 ghost use Rattle.commands.specs.Outcomes.{done};
 ghost use Rattle.audit_commands.specs.Answers.{TablesAnswer, AnswerToTables};
 
-use crate::answering::answer_line;
+use crate::answer_text::answer_line;
 use crate::auditing::Told;
 use crate::laws::sound_images_are_guarded;
 use aces_reports::{Done, Failure};

@@ -1,5 +1,5 @@
 -- The step at an instruction that stands in flash.
-use Rattle.std.proofs.Common.{◌≡◌, ℕ, ◌+◌, ◌-◌, ◌<◌, ◌≤◌, ◌^◌, Bool, true, false, Option, Some, None, length, nat_lt, refl, sym, subst, ap, ◌∙◌, arith}
+use Rattle.std.proofs.Common.{◌≡◌, ℕ, ◌+◌, ◌-◌, ◌<◌, ◌≤◌, ◌^◌, Bool, true, false, Option, None, length, nat_lt, refl, sym, subst, ap, ◌∙◌, arith}
 use Rattle.words.specs.Bytes.{read}
 use Rattle.thumb_model.specs.declared.table.Code.{Code}
 use Rattle.thumb_model.specs.declared.table.Code.TheVariants.{Half, Pair}
@@ -7,8 +7,6 @@ use Rattle.thumb_model.specs.Table.{encode, read_code, width_of}
 use Rattle.mpu_model.specs.declared.region.Access.TheVariants.{Fetch}
 use Rattle.device_model.specs.declared.image.Image.{Image}
 use Rattle.device_model.specs.Rules.{ObeysRules}
-use Rattle.mem_bus.specs.Places.{InFlash, place}
-use Rattle.mem_bus.specs.Bus.{fetch_at}
 use Rattle.mem_bus.proofs.Offsets.{in_flash}
 use Rattle.armv7m.specs.declared.state.ProtectionState.{ProtectionState}
 use Rattle.armv7m.specs.declared.state.End.{End}
@@ -20,7 +18,7 @@ use Rattle.armv7m.specs.Perform.{perform}
 use Rattle.armv7m.specs.Code.{size, HoldsHalf, HoldsCode, MayFetch, Stands}
 use Rattle.armv7m.proofs.Exec.{HasForm, encode_form, stepped}
 use Rattle.flash_code.specs.declared.Decoded.{Decoded}
-use Rattle.flash_code.specs.Code.{IsDecoded, StandsIn}
+use Rattle.flash_code.specs.Code.{StandsIn}
 
 -- ---- the halfwords
 

@@ -10,20 +10,43 @@ use monitor::Tables;
 use report::text::Text;
 use std::alloc::{AllocError, Global};
 
-/// Puts the lines of `main`, of the stack and of the monitor's block.
-#[tactic(auto, unfolding(crate::specs::TableLines::place_lines))]
-fn put_places(text: &mut Text, tables: &Tables) -> Result<(), AllocError>
-    ensures { OnOk result (text.new ≡ text.old ++ lines.place_lines tables.now) }
+/// Puts the line of `main`.
+fn put_main(text: &mut Text, tables: &Tables) -> Result<(), AllocError>
+    ensures { OnOk result (text.new ≡ text.old ++ lines.main_line tables.now) }
 {
     text.put(b"main ")?;
     text.put_decimal(u64::from(tables.main_comp))?;
     text.put(b" 0x")?;
     text.put_hexadecimal(8, tables.main)?;
-    text.put(b"\nstack")?;
+    text.put(b"\n")
+}
+
+/// Puts the line of the stack.
+fn put_stack(text: &mut Text, tables: &Tables) -> Result<(), AllocError>
+    ensures { OnOk result (text.new ≡ text.old ++ lines.stack_line tables.now) }
+{
+    text.put(b"stack")?;
     text.put_range(tables.stack.base, u64::from(tables.stack.size))?;
-    text.put(b"\nmonitor 0x")?;
+    text.put(b"\n")
+}
+
+/// Puts the line of the monitor's block.
+fn put_monitor(text: &mut Text, tables: &Tables) -> Result<(), AllocError>
+    ensures { OnOk result (text.new ≡ text.old ++ lines.monitor_line tables.now) }
+{
+    text.put(b"monitor 0x")?;
     text.put_hexadecimal(8, tables.monitor)?;
     text.put(b"\n")
+}
+
+/// Puts the lines of `main`, of the stack and of the monitor's block.
+#[tactic(auto, unfolding(crate::specs::TableLines::place_lines))]
+fn put_places(text: &mut Text, tables: &Tables) -> Result<(), AllocError>
+    ensures { OnOk result (text.new ≡ text.old ++ lines.place_lines tables.now) }
+{
+    put_main(text, tables)?;
+    put_stack(text, tables)?;
+    put_monitor(text, tables)
 }
 
 /// Puts all lines.

@@ -34,8 +34,8 @@ fn put_target(text: &mut Text, target: &TargetRecord) -> Result<(), AllocError>
 fn put_targets(text: &mut Text, targets: &[TargetRecord]) -> Result<(), AllocError>
     ensures { OnOk result (text.new ≡ text.old ++ lines.target_texts targets.now) }
 {
-    for target in targets {
-        put_target(text, target)?;
+    for i in 0..targets.len() {
+        put_target(text, &targets[i])?;
     }
     Ok(())
 }
@@ -56,8 +56,9 @@ fn put_site(text: &mut Text, tables: &Tables, site: &SiteRecord) -> Result<(), A
 pub(crate) fn put_sites(text: &mut Text, tables: &Tables) -> Result<(), AllocError>
     ensures { OnOk result (text.new ≡ text.old ++ lines.site_lines tables.now) }
 {
-    for site in tables.sites.as_slice() {
-        put_site(text, tables, site)?;
+    let sites = tables.sites.as_slice();
+    for i in 0..sites.len() {
+        put_site(text, tables, &sites[i])?;
     }
     Ok(())
 }
@@ -101,8 +102,9 @@ fn put_fill(text: &mut Text, init: &InitRecord) -> Result<(), AllocError>
 pub(crate) fn put_fills(text: &mut Text, tables: &Tables) -> Result<(), AllocError>
     ensures { OnOk result (text.new ≡ text.old ++ lines.fill_lines tables.now) }
 {
-    for init in tables.inits.as_slice() {
-        put_fill(text, init)?;
+    let inits = tables.inits.as_slice();
+    for i in 0..inits.len() {
+        put_fill(text, &inits[i])?;
     }
     Ok(())
 }

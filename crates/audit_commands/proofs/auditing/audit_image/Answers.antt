@@ -3,13 +3,13 @@ use Rattle.std.proofs.lemmas.Result.{err_from_is_err_and}
 use Rattle.aces_reports.specs.Ends.{status_of}
 use Rattle.aces_reports.specs.Sinks.{sink}
 use Rattle.aces_words.specs.Requests.{Audit, file_origin}
-use Rattle.commands.specs.CarriesOut.{IsKnown, IsKnownLarge}
+use Rattle.commands.specs.CarriesOut.{IsKnown, IsKnownLarge, NamesLast}
 use Rattle.commands.specs.Contents.{IsNoImage}
 use Rattle.commands.specs.Outcomes.{done}
 use Rattle.commands.specs.Effects.{Does, world}
 use Rattle.commands.specs.Loads.{IsLoadFailure, IsContentFailure}
 use Rattle.commands.proofs.Asked.{reads_of}
-use Rattle.commands.proofs.Ends.{load_failed, content_failed, did_end}
+use Rattle.commands.proofs.Ends.{load_failed, content_failed, content_names, did_end}
 use Rattle.audit_commands.specs.Answers.{AnswerToAudit, no_image, image_large, all_read}
 use Rattle.audit_commands.proofs.auditing.audit_image.Goals as goal
 
@@ -31,6 +31,7 @@ returns-in_err-bytes g c =
           (record { held = c.load.ensures.same; write_faults = c.load.ensures.writes; out = refl })
           (inl refl) (λ t n. inl (refl, n)) (λ e. image_large e) x.0
           (subst (IsLoadFailure large old.told old.held (file_origin image) old.read_faults new.read_faults) (sym x.2) made.4)),
+      rw x.1 (subst (NamesLast made.0) (sym x.2) made.5),
     )
 
 pub returns-in_err-told : goal.returns-in_err-told
@@ -42,15 +43,16 @@ returns-in_err-told g c =
     let all = AnswerToAudit image (IsKnown g.F.Files.told (g.F.Files.held c.args.files.now) made.0) (IsKnownLarge g.F.Files.told (g.F.Files.held c.args.files.now) made.0) in
     let old = world g.F.Files c.args.files.now (sink g.O.Sink c.args.out.now) in
     let new = world g.F.Files c.load.new.files (sink g.O.Sink c.args.out.now) in
-    let x = err_from_is_err_and c.from_residual-in_err-told.result c.from_residual-in_err-told.ensures.1 in (
+    let x = err_from_is_err_and c.from_residual-in_err-told.result c.from_residual-in_err-told.ensures.1 in
+    let failed = subst (IsContentFailure (IsNoImage bytes) image) (sym x.2) (rw c.as_slice.ensures.value at c.in_err-told.ensures.err) in (
       made.0,
       made.1,
       reads_of r image (inl refl) made.0 made.2,
       subst (Does all r old new) (sym x.1)
           (content_failed all (IsNoImage bytes) r image old new
           (record { held = c.load.ensures.same; write_faults = c.load.ensures.writes; out = refl }) c.in_ok-bytes.ensures.reads
-          (λ f h. all_read bytes _ made.3 (no_image f h)) x.0
-          (subst (IsContentFailure (IsNoImage bytes) image) (sym x.2) (rw c.as_slice.ensures.value at c.in_err-told.ensures.err))),
+          (λ f h. all_read bytes _ made.3 (no_image f h)) x.0 failed),
+      rw x.1 (content_names made.0 (IsNoImage bytes) image x.0 failed),
     )
 
 pub returns-in-Ok : goal.returns-in-Ok
@@ -74,6 +76,7 @@ returns-in-Ok g c =
             write_faults = c.load.ensures.writes;
             faults = c.in-Ok.ensures.counts.only_failed;
           }),
+      tt,
     )
 
 pub returns : goal.returns
@@ -98,4 +101,5 @@ returns g c =
           part = record { printed = λ t. rw c.as_slice-2.ensures.value at c.in-Err.ensures.failed; held = c.load.ensures.same };
         },
       ),
+      tt,
     )

@@ -1,11 +1,13 @@
-use Rattle.std.proofs.Common.{take}
+use Rattle.std.proofs.Common.{◌<◌, ◌++◌, length, take, get_or, refl, ap, subst, ◌∙◌}
 use Rattle.report.proofs.Growing.{item_more, put_each}
 use Rattle.table_lines.specs.TableLines.{fill_line}
+use Rattle.table_lines.proofs.Beyond.{no_init}
 use Rattle.table_lines.proofs.records.put_fills.Goals as goal
 
-pub loop-init-preserved : goal.loop-init-preserved
-loop-init-preserved c =
-    let xs = c.as_slice-init-items.result.now in
-    let i = c.loop-init.init-index in
-    let item = c.init-item.result in
-    put_each fill_line (take i xs) _ item c.args.text.now c.loop-init.text _ (item_more xs i item item c.loop-init-test.true c.init-item.is) c.loop-init.invariant c.in_ok-put_fill.ensures
+pub loop-i-preserved : goal.loop-i-preserved
+loop-i-preserved c =
+    let xs = c.args.tables.now.inits in
+    let i = c.loop-i.i in
+    let item = get_or xs i no_init in
+    put_each fill_line (take i xs) _ item c.args.text.now c.loop-i.text _ (item_more xs i item no_init (subst (λ ys. i < length ys) c.as_slice-inits.ensures c.loop-i-test.true) refl) c.loop-i.invariant
+    (c.in_ok-put_fill.ensures ∙ ap (λ ys. c.loop-i.text ++ fill_line (get_or ys i no_init)) c.as_slice-inits.ensures)

@@ -1,11 +1,14 @@
-use Rattle.std.proofs.Common.{take}
+use Rattle.std.proofs.Common.{◌<◌, ◌++◌, length, take, get_or, refl, ap, subst, ◌∙◌}
 use Rattle.report.proofs.Growing.{item_more, put_each}
+use Rattle.monitor.specs.Records.{no_site}
 use Rattle.table_lines.specs.TableLines.{site_line}
 use Rattle.table_lines.proofs.records.put_sites.Goals as goal
 
-pub loop-site-preserved : goal.loop-site-preserved
-loop-site-preserved c =
-    let xs = c.as_slice-site-items.result.now in
-    let i = c.loop-site.site-index in
-    let item = c.site-item.result in
-    put_each (site_line c.args.tables.now) (take i xs) _ item c.args.text.now c.loop-site.text _ (item_more xs i item item c.loop-site-test.true c.site-item.is) c.loop-site.invariant c.in_ok-put_site.ensures
+pub loop-i-preserved : goal.loop-i-preserved
+loop-i-preserved c =
+    let t = c.args.tables.now in
+    let xs = t.sites in
+    let i = c.loop-i.i in
+    let item = get_or xs i no_site in
+    put_each (site_line t) (take i xs) _ item c.args.text.now c.loop-i.text _ (item_more xs i item no_site (subst (λ ys. i < length ys) c.as_slice-sites.ensures c.loop-i-test.true) refl) c.loop-i.invariant
+    (c.in_ok-put_site.ensures ∙ ap (λ ys. c.loop-i.text ++ site_line t (get_or ys i no_site)) c.as_slice-sites.ensures)

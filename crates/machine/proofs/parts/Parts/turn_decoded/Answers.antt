@@ -1,5 +1,5 @@
 -- By what stands at the program counter, and what of it may be fetched.
-use Rattle.std.proofs.Common.{◌≡◌, ◌+◌, true, false, sym, ◌∙◌}
+use Rattle.std.proofs.Common.{◌≡◌, true, false, sym, ◌∙◌}
 use Rattle.mpu_model.specs.declared.region.Access.TheVariants.{Fetch}
 use Rattle.armv7m.specs.State.{by_mpu}
 use Rattle.machine.specs.Parts.{state_of}

@@ -1,0 +1,23 @@
+#!/bin/sh
+# Runs the tests of what is outside of the proof, part by part; it writes in temporary folders alone. Each part tells what it left out
+# for want of a tool, and ends with a line `N passed, N failed`, and so does this script. Status 0 where nothing failed.
+cd "$(dirname "$0")" || exit 1
+passed=0
+failed=0
+out=$(mktemp) || exit 1
+trap 'rm -f "$out"' EXIT
+for part in acesc/tests/run.sh; do
+    echo "== $part"
+    sh "$part" > "$out" 2>&1
+    status=$?
+    cat "$out"
+    last=$(tail -n 1 "$out")
+    one=$(echo "$last" | sed -n 's/^\([0-9][0-9]*\) passed, \([0-9][0-9]*\) failed$/\1/p')
+    other=$(echo "$last" | sed -n 's/^\([0-9][0-9]*\) passed, \([0-9][0-9]*\) failed$/\2/p')
+    [ "$status" -eq 0 ] || [ "${other:-0}" -gt 0 ] || other=1
+    [ -n "$one" ] || other=1
+    passed=$((passed + ${one:-0}))
+    failed=$((failed + ${other:-0}))
+done
+echo "$passed passed, $failed failed"
+[ "$failed" -eq 0 ]
