@@ -6,6 +6,7 @@
     tools/claim_reach.py beyond    # the files of definitions of which the claim reaches nothing
     tools/claim_reach.py mark      # has the first line of each of these files say so, and of no other
     tools/claim_reach.py files compiler/specs/Compiled.antt IsImageFor      # what one definition reaches
+    tools/claim_reach.py files compiler/specs/Compiled.antt IsImageFor linked      # and what it reaches without some of its fields
 
 A definition reaches those whose names stand in it, in its own file or by its file's imports. A variable that has the name of
 a definition counts as that, so a little too much may be listed, and nothing too little. What the kit defines is not listed.
@@ -112,6 +113,16 @@ def reached(root):
     return {path: {name: block for name, block in blocks(path).items() if name in seen[path]} for path in seen if seen[path]}
 
 
+def leave_out(block, fields):
+    """Takes fields from a record, each with the lines by which it goes on."""
+    kept, leaves = [], False
+    for line in block.lines:
+        field = re.match(r"  pub (\w+) :", line)
+        leaves = field[1] in fields if field else leaves and line.startswith("    ")
+        kept += [] if leaves else [line]
+    block.lines = kept
+
+
 def crates_in_order():
     """The crates, each behind those that it uses."""
     with open(os.path.join(CRATES, "..", "crates.txt"), encoding="utf-8") as file:
@@ -155,9 +166,10 @@ def mark(found):
                 file.write(marked)
 
 
-def main(mode="files", *root):
+def main(mode="files", path=CLAIM[0], name=CLAIM[1], *fields):
     """Prints what is asked for."""
-    found = reached(root or CLAIM)
+    leave_out(blocks(path)[name], fields)
+    found = reached((path, name))
     if mode == "beyond":
         print("\n".join(f"{path} {count}" for path, count in beyond(found).items()))
     elif mode == "mark":
