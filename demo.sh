@@ -40,6 +40,9 @@ call 13-stack stack "$examples/satellite.ir" "$examples/board.toml" filename
 call 14-stack stack "$examples/satellite.ir" "$examples/board16.toml" filename
 call 20-compile compile "$examples/satellite.ir" "$examples/board.toml" filename "$work/satellite.image"
 call 21-compile compile "$examples/satellite.ir" "$examples/board16.toml" filename "$work/satellite16.image"
+call 22-audit audit "$work/satellite.image"
+call 23-audit audit "$work/satellite16.image"
+call 24-tables tables "$work/satellite.image"
 call 30-source source "$examples/satellite.ir" filename "$examples/satellite.tape" 10000
 call 31-run run "$work/satellite.image" "$examples/satellite.tape" 100000
 call 32-run run "$work/satellite16.image" "$examples/satellite.tape" 100000
@@ -64,6 +67,7 @@ call 50-bin bin "$work/satellite16.image" "$work/flash"
 call 51-bin bin "$work/satellite16.image" "$work/flash.again"
 call 52-go bin "$work/satellite16.image" "$work/go"
 call 53-hostile run "$work/hostile.image" "$examples/satellite.tape" 100000
+call 54-audit audit "$work/hostile.image"
 
 # Writes hostile.image: satellite16.image, but for 22 bytes where the listing has the radio's code, 0x2300 behind the start of
 # flash. They put 7 into the radio's own peripheral, and then into `effort`, a global of the control loop at 0x20000c60.
@@ -111,6 +115,12 @@ show 20-compile
 show 21-compile
 
 echo
+echo "What one who gets such an image can check without the compiler, and what its tables say: the radio may write 64 bytes of its own and two shared ranges."
+show 22-audit
+show 23-audit
+show 24-tables
+
+echo
 echo "The source on recorded input, and the image on the simulated processor: number of the compartment, access, peripheral."
 show 30-source
 show 31-run
@@ -131,6 +141,8 @@ done
 
 echo
 echo "Now the radio is hostile: in the image for the second board its code is overwritten by code that stores into the control loop's effort."
+echo "The tables are the same, and only bytes behind them differ; so this image too is one of those of which it is proved that the radio changes"
+echo "no byte of effort, and no other store of it leaves what it may write, whatever code it executes."
 printed 12-list | grep -q '^compartment 2 code 0x08002300 '
 printed 12-list | grep -q '^slot . data 0x20000c60 32 effort$'
 show 53-hostile
@@ -139,5 +151,11 @@ echo "The hostile code runs and reaches the radio's own peripheral; its store in
 printed 53-hostile | grep '^[01] ' > "$work/others"
 printed 30-source | grep '^[01] ' | head -n "$(wc -l < "$work/others")" | cmp - "$work/others"
 echo "Up to there the control loop and the sensor driver did what they do in the source."
+echo
+echo "Such an image still passes the audit: its tables and its monitor are whole, and its code is no matter."
+show 54-audit
+printed 23-audit | grep -q '^yes '
+printed 23-audit > "$work/yes"
+printed 54-audit | cmp - "$work/yes"
 echo
 echo "All of this was run unproved. This proves every crate and builds the program, with a line for each crate: rt ci 2>&1 | tools/progress.py"

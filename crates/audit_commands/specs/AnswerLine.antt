@@ -17,9 +17,13 @@ check_word check.Sites = codes "sites"
 check_word check.Lends = codes "lends"
 check_word check.Inits = codes "inits"
 
--- the counts of compartments and of crossing sites; or the first check that fails, and where
+-- the counts of compartments and of crossing sites
+abbrev pub counts : (compartments sites : ℕ) → List ℕ
+counts compartments sites = codes " compartments " ++ decimal compartments ++ codes " sites " ++ decimal sites
+
+-- these counts; or the first check that fails, and where
 unfoldable pub answer_line : Audit → List ℕ
-answer_line (Yes compartments sites) = codes "yes compartments " ++ decimal compartments ++ codes " sites " ++ decimal sites ++ line_feed
+answer_line (Yes compartments sites) = codes "yes" ++ counts compartments sites ++ line_feed
 answer_line (No check at) = codes "no " ++ check_word check ++ codes " 0x" ++ hexadecimal 8 at ++ line_feed
 
 abbrev pub answer_status : Audit → ℕ

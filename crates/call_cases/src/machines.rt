@@ -157,7 +157,7 @@ fn runs_to_its_end(rt: &impl Abort, machine: &mut Machine, way: &Way) {
         (2, 12),
         (4, 0x1234_5678),
         (13, 0x2000_03F8),
-        (15, way.program + 0x12),
+        (15, way.program.wrapping_add(0x12)),
     ];
     for (k, value) in registers {
         assert!(rt; k < 16);
@@ -171,9 +171,9 @@ fn runs_to_its_end(rt: &impl Abort, machine: &mut Machine, way: &Way) {
 
 fn stops_where_told(rt: &impl Abort, machine: &mut Machine, way: &Way) {
     assert_eq!(rt; machine.run(7, &mut |_: &Event| false), End::Limit);
-    assert_eq!(rt; machine.reg(15), way.program + 0xE);
+    assert_eq!(rt; machine.reg(15), way.program.wrapping_add(0xE));
     assert_eq!(rt; machine.run(2, &mut |_: &Event| false), End::Refused);
-    assert_eq!(rt; machine.reg(15), way.program + 0x10);
+    assert_eq!(rt; machine.reg(15), way.program.wrapping_add(0x10));
     assert_eq!(rt; machine.step(), Step::Event(LOADED));
 }
 
