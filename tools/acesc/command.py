@@ -204,7 +204,7 @@ def translate(options: Options, messages: Messages) -> tuple[Optional[str], Opti
     analysis.visit_all(roots)
     settle(analysis)
     tell_handlers(program, roots, analysis.shapes.functions)
-    if messages.errors:
+    if messages.errors and not options.everything:
         return None, None
     emitter = Emitter(program, analysis.shapes, analysis.strings, peripherals, options.svd is not None, options.lines)
     return emitter.translated(), emitter
@@ -227,6 +227,9 @@ def main(words: list[str]) -> int:
         sys.stderr.write(str(fault))
         return 1
     show(messages)
+    if options.everything and emitter is not None:
+        functions = emitter.shapes.functions
+        print(f'functions {len(functions)}, translated {sum(f not in emitter.refused for f in functions)}', file=sys.stderr)
     if text is None:
         return 1
     if options.stats and emitter is not None:

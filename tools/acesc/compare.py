@@ -16,7 +16,7 @@ from .native import MOST_ACCESSES, NativeFault, NativeRun, build, native_run
 from .peripherals import Peripheral
 
 POLICIES = ('filename', 'optimized', 'peripheral')
-FIRST_STEPS, MOST_STEPS = 4_000_000, 4_000_000_000
+FIRST_STEPS, MOST_STEPS = 4_000_000, 100_000_000
 DEFAULT_ACES = os.path.join(os.path.dirname(os.path.dirname(HERE)), 'crates', 'aces', 'out', 'aces')
 USAGE = '''usage: aces-c test [options] --board BOARD --tape TAPE FILE.c ..
 
@@ -24,6 +24,7 @@ Builds the C natively with its volatile accesses turned into calls that read the
 firmware under each policy, in the source run and on the image. The options are those of aces-c, and
 
   --policy POLICY        one policy alone (filename, optimized, peripheral)
+  --steps N              at most N steps of a run, in place of 100,000,000
 
 The program is named by the environment variable ACES. Status 0: all accesses are equal; 1: the first that differs is told, or the
 program is refused; 2: usage.'''
@@ -41,6 +42,7 @@ class Wanted:
     board: str = ''
     tape: str = ''
     policies: tuple[str, ...] = POLICIES
+    steps: int = MOST_STEPS
 
 
 def parse(words: list[str]) -> Wanted:
@@ -56,6 +58,11 @@ def parse(words: list[str]) -> Wanted:
             wanted.policies = (argument(word, rest),)
             if wanted.policies[0] not in POLICIES:
                 raise UsageFault(f'policy {wanted.policies[0]} is not known')
+        elif word == '--steps':
+            number = argument(word, rest)
+            if not re.fullmatch(r'[1-9]\d{0,9}', number):
+                raise UsageFault(f'--steps {number}: a number of steps is wanted')
+            wanted.steps = min(int(number), 0xFFFFFFFF)
         elif not parse_option(wanted.options, word, rest):
             wanted.options.add_file(word)
     finish_options(wanted.options)
@@ -99,14 +106,14 @@ def accepted(done: 'subprocess.CompletedProcess[str]', what: str) -> str:
     return done.stdout
 
 
-def until_enough(what: str, native: NativeRun, *words: str) -> list[str]:
-    """The lines of a run with as many steps as the native accesses need."""
-    steps = FIRST_STEPS
+def until_enough(what: str, native: NativeRun, most: int, *words: str) -> list[str]:
+    """The lines of a run with as many steps as the native accesses need, at most `most`."""
+    steps = min(FIRST_STEPS, most)
     while True:
         lines = accepted(aces(*words, str(steps)), what).splitlines()
-        if lines[-1] != 'end limit' or len(lines) > len(native.accesses) + 1 or steps >= MOST_STEPS:
+        if lines[-1] != 'end limit' or len(lines) > len(native.accesses) + 1 or steps >= most:
             return lines
-        steps = min(steps * 16, MOST_STEPS)
+        steps = min(steps * 16, most)
 
 
 def compare_lines(what: str, native: NativeRun, lines: list[str]) -> None:
@@ -136,11 +143,11 @@ def compare(wanted: Wanted, firmware: str, peripherals: list[Peripheral], folder
     accepted(aces('check', firmware), 'check')
     for policy in wanted.policies:
         what = f'policy {policy}, source'
-        compare_lines(what, native, until_enough(what, native, 'source', firmware, policy, wanted.tape))
+        compare_lines(what, native, until_enough(what, native, wanted.steps, 'source', firmware, policy, wanted.tape))
         image = os.path.join(folder, f'{policy}.image')
         accepted(aces('compile', firmware, wanted.board, policy, image), f'policy {policy}, compile')
         what = f'policy {policy}, image'
-        compare_lines(what, native, until_enough(what, native, 'run', image, wanted.tape))
+        compare_lines(what, native, until_enough(what, native, wanted.steps, 'run', image, wanted.tape))
         yield f'policy {policy}: equal in the source run and on the image'
 
 

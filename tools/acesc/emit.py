@@ -225,6 +225,8 @@ class Emitter(FirstValues):
             functions += [routine_text(kind, name, self.helper('args', [WORD, '*u32']) if kind.endswith('64') else '')
                           for (kind, owner), name in self.routine_names.items() if owner.home is unit]
             functions.append('}')
+        if 'main' not in self.taken:        # a library, of which every function is translated
+            functions.append('file main { func main() { start: ret } }')
         globals_: list[str] = []
         for declared in self.globals_declared:
             try:

@@ -14,7 +14,7 @@ FLAGS = ('-O0', '-nostdlibinc', '-ffreestanding', '-fno-builtin', '-fno-stack-pr
 NARROW = ('-m32', '-malign-double')
 LINK = ('-nostdlib', '-static', '-no-pie', '-Wl,--gc-sections', '-Wl,-z,muldefs', '-Wl,--unresolved-symbols=ignore-all')
 LOAD = re.compile(r'^(\s*%\S+ = )load volatile (i8|i16|i32), (i\d+\*|ptr) (.+), align \d+.*$')
-STORE = re.compile(r'^\s*store volatile (i8|i16|i32) (.+), (i\d+\*|ptr) (.+), align \d+.*$')
+STORE = re.compile(r'^\s*store volatile (i8|i16|i32) (.+?), (i\d+\*|ptr) (.+), align \d+.*$')
 ENDS = {0: 'end halt 0', 10: 'end input', 11: 'end limit'}
 # Accesses after which a native run is cut.
 MOST_ACCESSES = 100000

@@ -3,7 +3,6 @@
 #![tactic(auto)]
 
 mod calls;
-mod cuts;
 
 use anyhow::Result;
 use calls::Calls;

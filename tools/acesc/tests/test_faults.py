@@ -32,7 +32,7 @@ def test_planted(file: str, right: str, wrong: str, tmp_path: Path) -> None:
         text = (tmp_path / 'acesc' / file).read_text()
         assert text.count(right) == 1
         (tmp_path / 'acesc' / file).write_text(text.replace(right, wrong))
-    words = ['-p', str(CASES / 'peripherals.txt'), str(CASES / 'faults.c')]
+    words = ['--steps', '100000', '-p', str(CASES / 'peripherals.txt'), str(CASES / 'faults.c')]
     done = compared(tmp_path, words, PORT, tmp_path / 'aces-c', 'filename')
     assert done.returncode == (1 if file else 0), done.stdout + done.stderr
     assert not file or ' differs: ' in done.stderr, done.stderr

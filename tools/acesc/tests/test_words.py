@@ -77,6 +77,17 @@ def test_many_values_at_once(tmp_path: Path) -> None:
     assert done.returncode == 0 and ' spilled' in done.stderr, done.stderr
 
 
+def test_every_function(tmp_path: Path) -> None:
+    """Of a library without main: how many functions are translated, and the text where all are."""
+    source = tmp_path / 'library.c'
+    source.write_text('int twice(int x) { return 2 * x; }\nfloat half(int x) { return x / 2.0f; }\n')
+    done = aces_c('--all', source)
+    assert done.returncode == 1 and done.stdout == '' and 'functions 2, translated 1\n' in done.stderr
+    source.write_text('int twice(int x) { return 2 * x; }\n')
+    done = aces_c('--all', source)
+    assert done.returncode == 0 and 'func twice(' in done.stdout and 'func main()' in done.stdout
+
+
 def test_types() -> None:
     """`mypy --strict` finds nothing."""
     pytest.importorskip('mypy')

@@ -29,8 +29,8 @@ returns-in_err-read-clause-err c =
     rw x.1 (content_refused all (IsNoBoard text) board (λ f h. no_board (firmware_of c.in_ok-checked.checked) f c.in_ok-checked.ensures.ok h) x.0
     (subst (IsContentFailure (IsNoBoard text) board) (sym x.2) c.in_err-read.ensures.err))
 
-pub returns-in_ok-lines-in-Ok-clause-ok : goal.returns-in_ok-lines-in-Ok-clause-ok
-returns-in_ok-lines-in-Ok-clause-ok c =
+pub returns-in-Ok-clause-ok : goal.returns-in-Ok-clause-ok
+returns-in-Ok-clause-ok c =
     let w = firmware_of c.in_ok-checked.checked in
     let b = c.in_ok-read.read in
     answer_told c.args.firmware.now c.args.board.now c.args.policy c.args.bytes.now c.args.text.now w b c.in-Ok.answer (status_of (Ok c.done_by-done.result)) c.in_ok-lines-in-Ok.lines.items
