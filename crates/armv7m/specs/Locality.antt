@@ -1,4 +1,3 @@
--- Beyond the program's claim: only laws, proofs and functions inside the tool cite this file.
 -- The lists of a step are complete also for what it reads: on another RAM that holds the same there, it is the same.
 use Rattle.std.specs.Prelude.{◌≡◌, ◌≢◌, ℕ, ◌+◌, ◌<◌, ◌≤◌, List, length, true, false, Some, nat_lt}
 use Rattle.std.proofs.Math.ListN.{get_or}

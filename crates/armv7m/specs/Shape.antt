@@ -1,4 +1,3 @@
--- Beyond the program's claim: only laws, proofs and functions inside the tool cite this file.
 -- What every step keeps of a state: how many registers, regions and bytes there are, that numbers are words, that
 -- stack pointers are multiples of 4, and that the program counter is even.
 use Rattle.std.specs.Prelude.{◌≡◌, ℕ, ◌%◌, ◌^◌, ◌<◌, List, length}

@@ -19,4 +19,4 @@ FaultLaw i t =
     (s : State) (m : Block) (u : FaultStatus) (half : ℕ) → InvariantHolds i t m s → s.ending ≡ None → IsFault i s u →
     (u.cfsr ≡ 0x82 → HoldsHalf i s.core.pc half) → is_frame_open by_mpu i s ≡ true →
     let from : State = at_memfault i u s in
-    Leads i t memfault_steps from (Shows i t (fault_outcome i t m (frame_at s.core.sp) from.ram u.cfsr half) s m from.ram)
+    Leads i t s memfault_steps from (Shows i t (fault_outcome i t m (frame_at s.core.sp) from.ram u.cfsr half) s m from.ram)

@@ -8,7 +8,7 @@ use Rattle.armv7m.specs.State.{State}
 use Rattle.armv7m.specs.Confinement.{AnyOf}
 use Rattle.monitor.specs.declared.tables.Tables.{Tables}
 use Rattle.monitor.specs.Records.{compartment_at, stack_end}
-use Rattle.monitor.specs.BlockWords.{current, depth, block_word, saved_offset}
+use Rattle.monitor.specs.BlockWords.{current, depth, saved_psp}
 use Rattle.monitor.specs.Reach.{running, InOpenStack, IsInLoan, InBlock}
 use Rattle.monitor.specs.Confined.{IsSvc, HasStarted, later}
 use Rattle.thread_moves.specs.WhoRuns.{IsBack}
@@ -36,7 +36,7 @@ module _ (i : Image) (t : Tables) where
 
   -- the stack pointer of the frame that waits last
   abbrev pub waiting_at : State → ℕ
-  waiting_at s = block_word i t s.ram (saved_offset (depth i t s.ram - 1))
+  waiting_at s = saved_psp i t s.ram (depth i t s.ram - 1)
 
   -- the first word of the frame that waits for the return: the caller's r0
   abbrev pub IsResult : State → (address : ℕ) → Type 0

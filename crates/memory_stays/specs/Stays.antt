@@ -18,6 +18,7 @@ use Rattle.monitor.specs.BlockWords.{current, top, depth, loan_count, loan_addre
 use Rattle.monitor.specs.Reach.{AllBytes, running, IsInLoan}
 use Rattle.monitor.specs.Confined.{IsSvc, HasStarted, AreNext, later}
 use Rattle.monitor.specs.Invariant.{InvariantHolds}
+use Rattle.monitor.specs.Handlers.{LoadFor}
 use Rattle.thread_moves.specs.WhoRuns.{depth_at, HasKeptFrame, IsBehindCall}
 use Rattle.memory_stays.specs.Acts.{byte_at, IsOutside, OnStack, IsWritable, IsResult, MayChange, MayRead, Acts, Rests}
 
@@ -107,6 +108,12 @@ module _ (i : Image) (t : Tables) (first : State) where
   abbrev pub ActsReadTheirOwn : Type 0
   ActsReadTheirOwn = i.closed ≡ true → (n : ℕ) → Acts i t first n → Each (AllBytes (MayRead i t (at n))) (turn by_mpu i (at n)).loads
 
+  -- and so far as the monitor's steps for it go, each byte that they load is one that the monitor may load for it
+  abbrev pub MonitorReadsForActs : Type 0
+  MonitorReadsForActs =
+      i.closed ≡ true → (n k : ℕ) → Acts i t first n → n < k → ((j : ℕ) → n < j → j ≤ k → (at j).protection.handler ≡ true)
+      → Each (AllBytes (LoadFor i t (at n))) (turn by_mpu i (at k)).loads
+
   -- each access of a peripheral is made by the running compartment's own instruction, in one of its slots; a store in one that it may
   -- write
   pub record IsOwnAccess (n : ℕ) (e : Event) : Type 0 where
@@ -130,6 +137,7 @@ module _ (i : Image) (t : Tables) (first : State) where
     pub stack_stays : ClosedStackStays
     pub frames : FramesAreKept
     pub reads : ActsReadTheirOwn
+    pub monitor_reads : MonitorReadsForActs
     pub bounded : (n : ℕ) → Acts i t first n → IsBounded i t (at n)
     pub invariant : (n : ℕ) → Acts i t first n → (m : Block) × InvariantHolds i t m (at n)
     pub accesses : AccessesAreOwn

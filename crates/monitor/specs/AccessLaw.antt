@@ -136,7 +136,7 @@ pub record AccessLaw (i : Image) (t : Tables) (stub : ℕ) : Type 0 where
   -- and no handler's return stops because its frame may not be read
   pub svc_returns : (m : Block) (s : State) (n : ℕ) → InvariantHolds i t m s → s.ending ≡ None →
       n < 256 → IsSvc i t n s → is_frame_open by_mpu i s ≡ true →
-      Leads i t access_steps (at_svc i s) IsBehindHandler
+      Leads i t s access_steps (at_svc i s) IsBehindHandler
   pub memfault_returns : (m : Block) (s : State) (u : FaultStatus) → InvariantHolds i t m s → s.ending ≡ None →
       IsFault i s u → is_frame_open by_mpu i s ≡ true →
-      Leads i t access_steps (at_memfault i u s) IsBehindHandler
+      Leads i t s access_steps (at_memfault i u s) IsBehindHandler

@@ -1,4 +1,3 @@
--- Beyond the program's claim: only laws, proofs and functions inside the tool cite this file.
 -- The monitor's block as lists: who runs, how much of the stack is open, which calls wait, and which locals are lent. Of the
 -- saved entries and of the loans the last stands first.
 use Rattle.std.specs.Prelude.{ℕ, ◌-◌, List, [], ◌∷◌, length, drop}

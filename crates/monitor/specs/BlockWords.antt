@@ -50,6 +50,9 @@ module _ (i : Image) (t : Tables) (ram : List ℕ) where
   loan_count = block_word loans_offset
 
   -- of the saved entry, and of the loan, with this number
+  abbrev pub saved_psp : ℕ → ℕ
+  saved_psp k = block_word (saved_offset k)
+
   abbrev pub saved_current : ℕ → ℕ
   saved_current k = block_word (saved_offset k + 4)
 

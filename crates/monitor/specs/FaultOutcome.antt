@@ -1,4 +1,3 @@
--- Beyond the program's claim: only laws, proofs and functions inside the tool cite this file.
 -- What the handler of MemManage comes to, by its tests in their order: it makes a refused access of a lent local that the
 -- running compartment may reach.
 use Rattle.std.specs.Prelude.{ℕ, ◌+◌, ◌-◌, ◌%◌, Bool, ◌&&◌, List, nat_eq, nat_le, if◌then◌else◌}

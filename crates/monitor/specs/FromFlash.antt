@@ -1,4 +1,3 @@
--- Beyond the program's claim: only laws, proofs and functions inside the tool cite this file.
 -- The tables that an image's flash has, read from the first 4,096 bytes and what stands behind them. Every image has some.
 use Rattle.std.specs.Prelude.{ℕ, zero, suc, ◌+◌, ◌-◌, ◌*◌, ◌^◌, List, [], ◌∷◌, drop, Option, Some, nat_eq, sum_by, if◌then◌else◌}
 use Rattle.words.specs.Bytes.{read}

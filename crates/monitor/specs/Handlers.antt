@@ -1,9 +1,10 @@
--- Beyond the program's claim: only laws, proofs and functions inside the tool cite this file.
 -- What confinement uses of the handlers: the steps from an exception's entry to its return, or to the machine's end.
-use Rattle.std.specs.Prelude.{◌≡◌, ℕ, ◌+◌, ◌%◌, ◌^◌, ◌<◌, ◌≤◌, ◌⊎◌, List, ◌∷◌, length, true, Some, None}
+use Rattle.std.specs.Prelude.{◌≡◌, ℕ, ◌+◌, ◌-◌, ◌%◌, ◌^◌, ◌<◌, ◌≤◌, ◌⊎◌, List, ◌∷◌, length, true, Some, None}
 use Rattle.words.specs.Runs.{run}
 use Rattle.device_model.specs.declared.image.Image.{Image}
 use Rattle.device_model.specs.Rules.{block_size}
+use Rattle.mem_bus.specs.Places.{place, InFlash}
+use Rattle.armv7m.specs.System.{in_system}
 use Rattle.armv7m.specs.declared.state.FaultStatus.{FaultStatus}
 use Rattle.armv7m.specs.declared.state.End.{End}
 use Rattle.armv7m.specs.State.{State, by_mpu}
@@ -14,8 +15,8 @@ use Rattle.armv7m.specs.Code.{HoldsHalf}
 use Rattle.monitor.specs.declared.tables.Tables.{Tables}
 use Rattle.monitor.specs.Records.{rounded, lend_size}
 use Rattle.monitor.specs.Block.{Block, Saved, Loan, entered, left, lent, unlent}
-use Rattle.monitor.specs.BlockWords.{IsBlock}
-use Rattle.monitor.specs.Reach.{AllBytes, StoreKind, LoadKind}
+use Rattle.monitor.specs.BlockWords.{depth, saved_psp, IsBlock}
+use Rattle.monitor.specs.Reach.{AllBytes, running, InOpenStack, IsInLoan, InBlock, StoreKind, LoadKind}
 use Rattle.monitor.specs.Confined.{IsProtected, IsSvc, Crosses}
 use Rattle.monitor.specs.Invariant.{InvariantHolds}
 
@@ -42,18 +43,37 @@ pub record HasEndedInHandler (u : State) (e : End) : Type 0 where
   pub handler : u.protection.handler ≡ true
 
 module _ (i : Image) (t : Tables) where
-  -- a step of a handler
-  pub record Handles (u : State) : Type 0 where
+  -- the frame by which the call that waits last goes on
+  abbrev pub InWaitingFrame : State → (address : ℕ) → Type 0
+  InWaitingFrame s a =
+      (0 < depth i t s.ram) × (saved_psp i t s.ram (depth i t s.ram - 1) ≤ a) × (a < saved_psp i t s.ram (depth i t s.ram - 1) + 32)
+
+  -- all that the monitor may load for the instruction that a thread comes to at s, where the board's reads are closed. CUR, TOP, DEPTH,
+  -- the saved entries and the loans are those of that state
+  pub data LoadFor (s : State) (a : ℕ) : Type 0 where
+    ForFlash : (o : ℕ) → place i a ≡ InFlash o → LoadFor s a
+    ForBlock : InBlock t a → LoadFor s a
+    ForSystem : in_system a ≡ true → LoadFor s a
+    -- the stack below TOP
+    ForStack : InOpenStack i t s a → LoadFor s a
+    -- a live loan whose number is in the read mask of CUR
+    ForLoan : (k : ℕ) → IsInLoan i t s (running i t s).reads k a → LoadFor s a
+    -- and where the instruction is the SVC of a return, the frame that waits for it
+    ForReturn : IsSvc i t 1 s → InWaitingFrame s a → LoadFor s a
+
+  -- a step of a handler, for the thread's instruction at s
+  pub record Handles (s u : State) : Type 0 where
     pub handler : u.protection.handler ≡ true
     pub quiet : (turn by_mpu i u).event ≡ None
     pub stores : Each (AllBytes (StoreKind i t u)) (turn by_mpu i u).stores
     pub loads : i.closed ≡ true → Each (AllBytes (LoadKind i t u)) (turn by_mpu i u).loads
+    pub loads_for : i.closed ≡ true → Each (AllBytes (LoadFor s)) (turn by_mpu i u).loads
 
   -- so many steps at most, each of them a handler's, lead there
-  pub record Leads (most : ℕ) (from : State) (P : State → Type 0) : Type 0 where
+  pub record Leads (s : State) (most : ℕ) (from : State) (P : State → Type 0) : Type 0 where
     pub count : ℕ
     pub within : count ≤ most
-    pub each : (k : ℕ) → k < count → Handles (run (step i) k from)
+    pub each : (k : ℕ) → k < count → Handles s (run (step i) k from)
     pub holds : P (run (step i) count from)
 
   -- the frame at a stack pointer lies in the open stack
@@ -83,7 +103,7 @@ module _ (i : Image) (t : Tables) where
     pub msp : u.core.other_sp ≡ t.monitor + block_size
 
   abbrev pub Handled : (s from : State) → Block → Type 0
-  Handled s from m = Leads 16000 from (λ u. ((e : End) × HasEndedInHandler u e) ⊎ HasReturned s u m)
+  Handled s from m = Leads s 16000 from (λ u. ((e : End) × HasEndedInHandler u e) ⊎ HasReturned s u m)
 
   -- the contract of both handlers, from any thread state of the invariant whose frame was pushed
   pub record HandlersAreConfined : Type 0 where

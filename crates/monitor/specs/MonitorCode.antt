@@ -1,4 +1,3 @@
--- Beyond the program's claim: only laws, proofs and functions inside the tool cite this file.
 -- What definitions take of the monitor's code, apart from the code itself.
 use Rattle.std.specs.Prelude.{ℕ, List}
 use Rattle.monitor.specs.declared.tables.Tables.{Tables}

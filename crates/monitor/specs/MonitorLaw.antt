@@ -1,4 +1,3 @@
--- Beyond the program's claim: only laws, proofs and functions inside the tool cite this file.
 -- The law of the monitor: what its handlers leave, in the words of their outcomes. The contract that confinement uses and the
 -- law that the simulation uses both follow from it.
 use Rattle.std.specs.Prelude.{◌≡◌, ℕ, ◌+◌, ◌-◌, ◌≤◌, ◌<◌, ◌⊎◌, Bool, true, false, List, length, None, nat_lt, if◌then◌else◌}
@@ -83,9 +82,9 @@ memfault_steps = 15000
 pub record MonitorLaw (i : Image) (t : Tables) (stub : ℕ) : Type 0 where
   pub svc : (s : State) (m : Block) (n : ℕ) → InvariantHolds i t m s → s.ending ≡ None → n < 256 → IsSvc i t n s → is_frame_open by_mpu i s ≡ true →
       let from : State = at_svc i s in
-      Leads i t (svc_steps n) from (Shows i t (svc_outcome i t stub m (frame_at s.core.sp) from.ram n) s m from.ram)
+      Leads i t s (svc_steps n) from (Shows i t (svc_outcome i t stub m (frame_at s.core.sp) from.ram n) s m from.ram)
   -- of a refused fetch the halfword does not matter
   pub memfault : (s : State) (m : Block) (u : FaultStatus) (half : ℕ) → InvariantHolds i t m s → s.ending ≡ None → IsFault i s u →
       (u.cfsr ≡ 0x82 → HoldsHalf i s.core.pc half) → is_frame_open by_mpu i s ≡ true →
       let from : State = at_memfault i u s in
-      Leads i t memfault_steps from (Shows i t (fault_outcome i t m (frame_at s.core.sp) from.ram u.cfsr half) s m from.ram)
+      Leads i t s memfault_steps from (Shows i t (fault_outcome i t m (frame_at s.core.sp) from.ram u.cfsr half) s m from.ram)

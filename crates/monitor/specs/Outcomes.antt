@@ -1,4 +1,3 @@
--- Beyond the program's claim: only laws, proofs and functions inside the tool cite this file.
 -- What a handler comes to: the frame that the exception's entry pushed, and how the handler ends.
 use Rattle.std.specs.Prelude.{ℕ, ◌+◌, ◌-◌, ◌*◌, List, Bool, ◌&&◌, nat_eq, nat_le}
 use Rattle.std.specs.Int.{bit_at}

@@ -1,4 +1,3 @@
--- Beyond the program's claim: only laws, proofs and functions inside the tool cite this file.
 -- When an image from anyone is sound: its flash has these tables, and none of the seven checks fails.
 use Rattle.std.specs.Prelude.{◌≡◌, ℕ, Option, Some, None}
 use Rattle.device_model.specs.declared.image.Image.{Image}

@@ -1,4 +1,3 @@
--- Beyond the program's claim: only laws, proofs and functions inside the tool cite this file.
 -- The monitor's own code, as the definitions that speak of any code take it.
 use Rattle.monitor.specs.MonitorCode.{MonitorCode}
 use Rattle.monitor.specs.Page.{page, stub_address, main_entry_at, main_compartment_at}

@@ -1,4 +1,3 @@
--- Beyond the program's claim: only laws, proofs and functions inside the tool cite this file.
 -- What the steps of a run reach is listed in the needs.
 use Rattle.std.specs.Prelude.{◌≡◌, ℕ, List, Contains}
 use Rattle.ir_model.specs.declared.object.ObjId.{ObjId}

@@ -41,7 +41,7 @@ module _ (w : PlainFirmware) (n : Needs) (f : Final) (b : Board) where
     -- where no compartment has more regions and windows than slots, so that nothing is joined, a peripheral too
     pub periphs : next p (slots_of b) (initial_graph p n f.groups) ≡ None → (c q : ℕ) → q < length p.periphs → may_write p n f c (Periph q) ≡ true → uses n f.groups c q ≡ true
 
-  -- a bit of a mask is that of a lent local which some function of the compartment may write
+  -- a bit of the mask for stores is that of a lent local which some function of the compartment writes
   abbrev pub MasksAreNeeded : Type 0
   MasksAreNeeded =
       (c k : ℕ) → bit_at (compartment_at (planned_tables w n f b) c).mask k ≡ 1

@@ -37,7 +37,7 @@ PlannedImagesAreForBoards = (w : PlainFirmware) (n : Needs) (f : Final) (b : Boa
 abbrev pub PlannedImagesAreSound : Type 0
 PlannedImagesAreSound = OfPlanned (λ i t. Sound monitor_code i t)
 
--- so no store for a compartment leaves that compartment's permission, whatever code its compartments execute
+-- so no store for a compartment leaves that compartment's permission
 abbrev pub PlannedImagesAreConfined : Type 0
 PlannedImagesAreConfined = OfPlanned (λ i t. Confined i t)
 

@@ -39,7 +39,7 @@ pub fn sound()
     tables_read_back();
 }
 
-/// It is confined: for every recorded input, every byte that fills RAM at first, and whatever code its compartments execute.
+/// It is confined: from whatever a reset leaves, for every recorded input.
 pub fn confined()
     ensures { PlannedImagesAreConfined }
 {

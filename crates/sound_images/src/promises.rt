@@ -41,8 +41,7 @@ pub fn sound_laws_confine()
     laws_confine();
 }
 
-/// Every sound image is confined: for every recorded input, every byte that fills RAM at first, and whatever code its compartments
-/// execute.
+/// Every sound image is confined: from whatever a reset leaves, for every recorded input, and whatever code its compartments execute.
 pub fn sound_images_are_confined()
     ensures { SoundImagesAreConfined monitor_code }
 {

@@ -17,4 +17,4 @@ abbrev pub SvcLaw : Image → Tables → (stub : ℕ) → Type 0
 SvcLaw i t stub =
     (s : State) (m : Block) (n : ℕ) → InvariantHolds i t m s → s.ending ≡ None → n < 256 → IsSvc i t n s → is_frame_open by_mpu i s ≡ true →
     let from : State = at_svc i s in
-    Leads i t (svc_steps n) from (Shows i t (svc_outcome i t stub m (frame_at s.core.sp) from.ram n) s m from.ram)
+    Leads i t s (svc_steps n) from (Shows i t (svc_outcome i t stub m (frame_at s.core.sp) from.ram n) s m from.ram)

@@ -1,3 +1,4 @@
+-- Beyond the program's claim: only laws, proofs and functions inside the tool cite this file.
 -- That the line of a slot says what the slot is: the statement of a law.
 use Rattle.std.specs.Prelude.{◌≡◌, ℕ, ◌⊎◌, List, [], true, codes}
 use Rattle.device_model.specs.declared.image.Image.{Image}
