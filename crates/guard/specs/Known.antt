@@ -4,11 +4,12 @@ use Rattle.std.specs.Prelude.{◌≡◌, ℕ, ◌*◌, ◌<◌, ◌^◌, Bool, t
 use Rattle.std.specs.List.{All}
 use Rattle.mpu_model.specs.declared.region.Access.{Access}
 use Rattle.mpu_model.specs.Registers.{Registers}
-use Rattle.mpu_model.specs.Protection.{permits}
+use Rattle.mpu_model.specs.Protection.{is_on, permits}
 
--- such an access is permitted in the block of this number; a number behind those of all blocks tells nothing
+-- such an access is permitted in the block of this number. A number behind those of all blocks tells nothing, and none does
+-- while the unit is off: then nobody asks for it
 abbrev pub IsPermitted : Registers → (unprivileged : Bool) → Access → (block : ℕ) → Type 0
-IsPermitted m u kind b = b < 2 ^ 27 → permits m u kind (32 * b) ≡ true
+IsPermitted m u kind b = is_on m ≡ true → b < 2 ^ 27 → permits m u kind (32 * b) ≡ true
 
 -- and so in each block of a list
 pub record AreKnown (m : Registers) (u : Bool) (kind : Access) (bs : List ℕ) : Type 0 where

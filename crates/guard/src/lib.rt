@@ -3,22 +3,49 @@
 
 mod blocks;
 
-ghost use Rattle.std.specs.Prelude.{◌≡◌, ◌<◌, ◌*◌, ◌^◌, true, false, IsTrue};
+ghost use Rattle.std.specs.Prelude.{◌≡◌, ◌<◌, ◌+◌, ◌*◌, ◌^◌, true, false, IsTrue, IsFalse};
+ghost use Rattle.mpu_model.specs.declared.region.Access.TheVariants.{Fetch};
+ghost use Rattle.mpu_model.specs.Protection as protection;
 ghost use Rattle.guard.specs.Known.{IsPermitted};
 ghost use Rattle.mpu_model.specs.Registers.{read_register, write_register, is_register};
 ghost use Rattle.armv7m.specs.State as state;
 
 use crate::blocks::Blocks;
 use armv7m::state::ProtectionState;
+use mpu_model::MPU_CTRL;
 use mpu_model::region::Access;
 use mpu_model::unit::Mpu;
 use std::marker::Model;
 
-/// What decides which accesses are allowed, which contracts see as that alone. Of blocks of 32 bytes it keeps which were
-/// permitted, until a register of the unit is written. Takes no memory.
+/// Whether a unit is on.
+#[tactic(auto, unfolding(mpu_model::specs::Registers::read_register))]
+fn is_on(mpu: &Mpu) -> bool
+    ensures { result ≡ protection.is_on mpu.now }
+{
+    match mpu.read(MPU_CTRL) {
+        Some(control) => control % 2 == 1,
+        None => false,
+    }
+}
+
+/// What is allowed while a unit is off.
+#[inline(always)]
+fn default_allows(kind: Access, address: u32) -> bool
+    ensures { result ≡ protection.default_allows kind address }
+{
+    match kind {
+        Access::Read | Access::Write => true,
+        Access::Fetch => matches!(address, 0..0x4000_0000 | 0x6000_0000..0xA000_0000),
+    }
+}
+
+/// What decides which accesses are allowed, which contracts see as that alone. While the unit is on, it keeps which blocks of
+/// 32 bytes were permitted, until one of the unit's registers is written. Takes no memory.
 #[derive(Drop)]
 pub struct Guard {
     protection: ProtectionState,
+    is_unit_on: bool,
+    is_without_privilege: bool,
     privileged_reads: Blocks,
     privileged_writes: Blocks,
     privileged_fetches: Blocks,
@@ -28,16 +55,20 @@ pub struct Guard {
 }
 
 impl Model for Guard {
-    ghost use Rattle.std.specs.Prelude.{true, false};
+    ghost use Rattle.std.specs.Prelude.{◌≡◌, true, false};
     ghost use Rattle.armv7m.specs.declared.state.ProtectionState.{ProtectionState};
     ghost use Rattle.mpu_model.specs.declared.region.Access.TheVariants.{Read, Write, Fetch};
+    ghost use Rattle.mpu_model.specs.Protection.{is_on};
+    ghost use Rattle.armv7m.specs.State.{is_unprivileged};
     ghost use Rattle.guard.specs.Known.{AreKnown};
 
     ghost Value = { ProtectionState };
 
     ghost view = { λ g. g.protection };
 
-    ghost invariant = { λ g. AreKnown g.protection.mpu false Read g.privileged_reads.numbers
+    ghost invariant = { λ g. (g.is_unit_on ≡ is_on g.protection.mpu)
+        × (g.is_without_privilege ≡ is_unprivileged g.protection)
+        × AreKnown g.protection.mpu false Read g.privileged_reads.numbers
         × AreKnown g.protection.mpu false Write g.privileged_writes.numbers
         × AreKnown g.protection.mpu false Fetch g.privileged_fetches.numbers
         × AreKnown g.protection.mpu true Read g.unprivileged_reads.numbers
@@ -51,8 +82,12 @@ impl Guard {
     pub fn new(protection: ProtectionState) -> Guard
         ensures { result ≡ protection }
     {
+        let is_unit_on = is_on(&protection.mpu);
+        let is_without_privilege = protection.is_unprivileged();
         Guard {
             protection,
+            is_unit_on,
+            is_without_privilege,
             privileged_reads: Blocks::none(),
             privileged_writes: Blocks::none(),
             privileged_fetches: Blocks::none(),
@@ -67,7 +102,7 @@ impl Guard {
     pub fn is_unprivileged(&self) -> bool
         ensures { result ≡ state.is_unprivileged self.now }
     {
-        self.protection.is_unprivileged()
+        self.is_without_privilege
     }
 
     /// Whether the machine is in Handler mode.
@@ -90,6 +125,7 @@ impl Guard {
         ensures { self.new ≡ record self.old { handler = handler } }
     {
         self.protection.handler = handler;
+        self.is_without_privilege = self.protection.is_unprivileged();
     }
 
     /// Writes CONTROL.nPRIV.
@@ -97,6 +133,7 @@ impl Guard {
         ensures { self.new ≡ record self.old { unprivileged = unprivileged } }
     {
         self.protection.unprivileged = unprivileged;
+        self.is_without_privilege = self.protection.is_unprivileged();
     }
 
     /// The protection unit.
@@ -106,12 +143,17 @@ impl Guard {
         &self.protection.mpu
     }
 
-    /// A write of one of the unit's registers; of another address nothing happens.
+    /// A write of one of the unit's registers; of another address nothing happens. All that was known is forgotten where the
+    /// unit is on afterwards. While it is off nothing is looked up.
     #[tactic(auto, using(crate::proofs::Kept::kept_rules))]
     pub fn write(&mut self, register: u32, value: u32)
         ensures { self.new ≡ record self.old { mpu = write_register register value self.old.mpu } }
     {
         let _ = self.protection.mpu.write(register, value);
+        self.is_unit_on = is_on(&self.protection.mpu);
+        if !self.is_unit_on {
+            return;
+        }
         self.privileged_reads = Blocks::none();
         self.privileged_writes = Blocks::none();
         self.privileged_fetches = Blocks::none();
@@ -127,10 +169,29 @@ impl Guard {
         ensures answer { result ≡ state.by_mpu self.old kind address }
         ensures same { self.new ≡ self.old }
     {
+        if !self.is_unit_on {
+            return default_allows(kind, address);
+        }
         if self.is_known(kind, address / 32) {
             return true;
         }
         self.ask(kind, address)
+    }
+
+    /// Whether the halfword behind one that may be fetched may be fetched too. Most often it lies in the same block.
+    #[inline(always)]
+    #[tactic(auto, using(crate::proofs::Kept::behind_rules))]
+    pub fn permits_behind(&mut self, address: u32) -> bool
+        requires { address + 2 < 2 ^ 32 }
+        ensures yes { IsTrue result → state.by_mpu self.old Fetch address ≡ true
+            → state.by_mpu self.old Fetch (address + 2) ≡ true }
+        ensures no { IsFalse result → state.by_mpu self.old Fetch (address + 2) ≡ false }
+        ensures same { self.new ≡ self.old }
+    {
+        if address % 32 < 30 {
+            return true;
+        }
+        self.permits(Access::Fetch, address + 2)
     }
 
     /// Whether such an access is known to be permitted in the block of this number.
@@ -139,7 +200,7 @@ impl Guard {
     fn is_known(&self, kind: Access, block: u32) -> bool
         ensures { IsTrue result → IsPermitted self.now.mpu (state.is_unprivileged self.now) kind block }
     {
-        match (self.protection.is_unprivileged(), kind) {
+        match (self.is_without_privilege, kind) {
             (false, Access::Read) => self.privileged_reads.has(block),
             (false, Access::Write) => self.privileged_writes.has(block),
             (false, Access::Fetch) => self.privileged_fetches.has(block),
@@ -169,7 +230,7 @@ impl Guard {
         requires { IsPermitted self.old.mpu (state.is_unprivileged self.old) kind block }
         ensures { self.new ≡ self.old }
     {
-        match (self.protection.is_unprivileged(), kind) {
+        match (self.is_without_privilege, kind) {
             (false, Access::Read) => self.privileged_reads.put(block),
             (false, Access::Write) => self.privileged_writes.put(block),
             (false, Access::Fetch) => self.privileged_fetches.put(block),

@@ -1,6 +1,6 @@
 //! The fetch of an instruction, and the step of a machine that has not ended.
 
-ghost use Rattle.std.specs.Prelude.{◌≡◌, ◌%◌, ◌<◌, ◌^◌, true, false, IsTrue, IsFalse, IfSome, None};
+ghost use Rattle.std.specs.Prelude.{◌≡◌, ◌+◌, ◌%◌, ◌<◌, ◌^◌, true, false, IsTrue, IsFalse, IfSome, None};
 ghost use Rattle.mpu_model.specs.declared.region.Access.TheVariants.{Fetch};
 ghost use Rattle.mem_bus.specs.Bus.{fetch_at};
 ghost use Rattle.mem_bus.specs.Places.{place};
@@ -19,17 +19,19 @@ use guard::Guard;
 use mpu_model::region::Access;
 use thumb_decoding::decode;
 
-/// Whether the second halfword of an instruction of so many bytes may be fetched, if it has one.
+/// Whether the second halfword of an instruction of so many bytes, if it has one, may be fetched as the first may.
 #[inline(always)]
 fn permits_second(guard: &mut Guard, size: u8, address: u32) -> bool
-    ensures may { IsTrue result → size ≡ 4 → by_mpu guard.old Fetch address ≡ true }
-    ensures may_not { IsFalse result → (size ≡ 4) × (by_mpu guard.old Fetch address ≡ false) }
+    requires { address + 2 < 2 ^ 32 }
+    ensures may { IsTrue result → size ≡ 4 → by_mpu guard.old Fetch address ≡ true
+        → by_mpu guard.old Fetch (address + 2) ≡ true }
+    ensures may_not { IsFalse result → (size ≡ 4) × (by_mpu guard.old Fetch (address + 2) ≡ false) }
     ensures same { guard.new ≡ guard.old }
 {
     if size != 4 {
         return true;
     }
-    guard.permits(Access::Fetch, address)
+    guard.permits_behind(address)
 }
 
 impl Parts {
@@ -113,7 +115,7 @@ impl Parts {
         if !self.protection.permits(Access::Fetch, pc) {
             return self.fetch_fault();
         }
-        if !permits_second(&mut self.protection, decoded.size, pc + 2) {
+        if !permits_second(&mut self.protection, decoded.size, pc) {
             return self.fetch_fault();
         }
         self.execute(decoded.instr, pc + u32::from(decoded.size))

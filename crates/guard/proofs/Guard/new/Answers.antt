@@ -6,6 +6,8 @@ use Rattle.guard.proofs.Guard.new.Goals as goal
 pub invariant_of-result : goal.invariant_of-result
 invariant_of-result c =
     let m = c.args.protection.mpu in (
+      c.is_on-is_unit_on.ensures,
+      c.is_unprivileged-is_without_privilege.ensures,
       none_known m false Read _ c.none.ensures,
       none_known m false Write _ c.none-2.ensures,
       none_known m false Fetch _ c.none-3.ensures,

@@ -3,9 +3,11 @@ use Rattle.mpu_model.specs.declared.region.Access.TheVariants.{Read, Write, Fetc
 use Rattle.guard.proofs.Kept.{none_known}
 use Rattle.guard.proofs.Guard.write.Goals as goal
 
-pub invariant_of-self : goal.invariant_of-self
-invariant_of-self c =
-    let m = c.write.new.self in (
+pub invariant_of-self-2 : goal.invariant_of-self-2
+invariant_of-self-2 c =
+    let m = c.write-self-inside.new.self in (
+      c.is_on-self-inside.ensures,
+      c.self.invariant.1,
       none_known m false Read _ c.none-self-inside.ensures,
       none_known m false Write _ c.none-self-inside-2.ensures,
       none_known m false Fetch _ c.none-self-inside-3.ensures,

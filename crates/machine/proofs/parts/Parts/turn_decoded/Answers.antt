@@ -27,6 +27,6 @@ returns c =
     let i = c.args.self.now.bus.image in
     let s = state_of c.args.self.now in
     let yes' : by_mpu s.protection Fetch s.core.pc ≡ true = sym c.permits.ensures.answer ∙ c.if-not-permits.false in
-    let second = c.permits_second.ensures.may c.if-not-permits_second.false in
-    rw (performs by_mpu i s c.args.decoded c.image.ensures.kept.rules c.requires.there c.requires.live yes' (rw c.permits.ensures.same at second))
+    let second = rw c.permits.ensures.same at c.permits_second.ensures.may c.if-not-permits_second.false in
+    rw (performs by_mpu i s c.args.decoded c.image.ensures.kept.rules c.requires.there c.requires.live yes' (λ w. second w yes'))
     (rw (c.permits_second.ensures.same, c.permits.ensures.same, c.from.ensures) at c.execute.ensures)
