@@ -61,25 +61,39 @@ for firmware in sample heater satellite; do
     done
 done
 
-# A radio that was taken over. The flash bytes come first, to know where they begin in the image; at the pipe `go` the program
-# waits until the hostile image is made.
+# A radio that was taken over, an image whose tables give the radio the stack, and one with another monitor. The flash bytes come first, to
+# know where they begin in the image; at the pipe `go` the program waits until these images are made.
 call 50-bin bin "$work/satellite16.image" "$work/flash"
 call 51-bin bin "$work/satellite16.image" "$work/flash.again"
 call 52-go bin "$work/satellite16.image" "$work/go"
 call 53-hostile run "$work/hostile.image" "$examples/satellite.tape" 100000
 call 54-audit audit "$work/hostile.image"
+call 55-tables tables "$work/greedy.image"
+call 56-tables tables "$work/monitor.image"
 
-# Writes hostile.image: satellite16.image, but for 22 bytes where the listing has the radio's code, 0x2300 behind the start of
-# flash. They put 7 into the radio's own peripheral, and then into `effort`, a global of the control loop at 0x20000c60.
-hostile() {
+# changed IMAGE OFFSET writes satellite16.image as that image, but for bytes of its flash from OFFSET on, which come on standard input.
+changed() {
     start=$(($(wc -c < "$work/satellite16.image") - $(wc -c < "$work/flash")))
-    cp "$work/satellite16.image" "$work/hostile.image"
-    {
-        printf '\101\362\000\001\304\362\001\001' # MOVW r1,#0x1000; MOVT r1,#0x4001
-        printf '\007\040\010\140'                 # MOVS r0,#7; STR r0,[r1,#0]
-        printf '\100\366\140\101\302\362\000\001' # MOVW r1,#0x0c60; MOVT r1,#0x2000
-        printf '\010\140'                         # STR r0,[r1,#0]
-    } | dd of="$work/hostile.image" bs=1 seek=$((start + 0x2300)) conv=notrunc 2> "$work/dd" || cat "$work/dd" >&2
+    cp "$work/satellite16.image" "$work/$1"
+    dd of="$work/$1" bs=1 seek=$((start + $2)) conv=notrunc 2> "$work/dd" || cat "$work/dd" >&2
+}
+
+# The hostile code, 22 bytes where the listing has the radio's code, 0x2300 behind the start of flash. It puts 7 into the radio's own
+# peripheral, and then into `effort`, a global of the control loop at 0x20000c60.
+hostile() {
+    printf '\101\362\000\001\304\362\001\001' # MOVW r1,#0x1000; MOVT r1,#0x4001
+    printf '\007\040\010\140'                 # MOVS r0,#7; STR r0,[r1,#0]
+    printf '\100\366\140\101\302\362\000\001' # MOVW r1,#0x0c60; MOVT r1,#0x2000
+    printf '\010\140'                         # STR r0,[r1,#0]
+}
+
+# The images that differ from satellite16.image. The record of the radio, which is compartment 2, stands 4,128 + 2 * 112 bytes behind the start of
+# flash, and its first slot 8 bytes behind that: now it holds the 2,048 bytes of the stack at 0x20000000, to be written. In the other one the
+# address at which the processor starts is changed, 4 bytes behind the start of flash.
+images() {
+    hostile | changed hostile.image 0x2300
+    printf '\024\000\000\040\025\000\006\023' | changed greedy.image $((4128 + 2 * 112 + 8))
+    printf '\001' | changed monitor.image 4
 }
 
 echo "An unproved build of the program, with checks; it takes a minute or two."
@@ -87,7 +101,7 @@ echo "An unproved build of the program, with checks; it takes a minute or two."
 build=$!
 while [ ! -e "$work/flash.again" ] && kill -0 "$build" 2> /dev/null; do sleep 1; done
 if [ -e "$work/flash.again" ]; then
-    hostile
+    images
     exec 3<> "$work/go"
 fi
 wait "$build" || { cat "$work/ends" >&2; exit 1; }
@@ -157,5 +171,11 @@ show 54-audit
 printed 23-audit | grep -q '^yes '
 printed 23-audit > "$work/yes"
 printed 54-audit | cmp - "$work/yes"
+echo
+echo "An image whose tables give the radio the stack, and one whose monitor is another, do not pass, and what their tables say is not told."
+show 55-tables
+show 56-tables
+[ "$(printed 55-tables)" = "no regions 0x08001100" ]
+[ "$(printed 56-tables)" = "no code 0x08000004" ]
 echo
 echo "All of this was run unproved. This proves every crate and builds the program, with a line for each crate: rt ci 2>&1 | tools/progress.py"

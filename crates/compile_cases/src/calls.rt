@@ -1,9 +1,12 @@
-//! What the cases call: the program, and `divide`, `patch` and `same` beside its commands.
+//! What the cases call: the program, and calls beside its commands.
 
+use crate::cuts::cuts;
+use crate::memory::memory;
 use aces_cli::aces;
+use anyhow::Error;
 use case_files::{Program, patch, same};
-use divided_images::divide;
-use outside::{MemFiles, MemSink};
+use divided_images::{divide, replace};
+use outside::{MemFiles, MemSink, Sink};
 use std::alloc::Global;
 
 /// The calls.
@@ -26,11 +29,28 @@ impl Program for Calls {
             [call, count, firmware, board, image] if call.as_str() == "divide" => {
                 divide(alloc, files, count, firmware, board, image)
             }
+            [call, firmware, board, compartment, code, image] if call.as_str() == "replace" => {
+                replace(alloc, files, firmware, board, compartment, code, image)
+            }
+            [call, file, rest @ ..] if call.as_str() == "cuts" => {
+                cuts(alloc, files, out, file, rest)
+            }
+            [call, image, steps, address, count] if call.as_str() == "memory" => {
+                memory(alloc, files, out, image, steps, address, count)
+            }
             _ => return aces(alloc, words, files, out, err),
         };
         match made {
             Ok(()) => 0,
-            Err(_) => 1,
+            Err(error) => told(alloc, err, &error),
         }
     }
+}
+
+/// Writes on `err` why a call was not carried out, and answers its status.
+fn told(alloc: Global, err: &mut MemSink, error: &Error) -> u8 {
+    if let Ok(line) = format!(in alloc; "{error}\n") {
+        let _ = err.put(line.as_bytes());
+    }
+    1
 }

@@ -2,7 +2,10 @@
 //! differ from what is wanted.
 #![tactic(auto)]
 
+mod alike;
 mod calls;
+mod cuts;
+mod memory;
 
 use anyhow::Result;
 use calls::Calls;

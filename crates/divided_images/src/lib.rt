@@ -1,13 +1,14 @@
-//! Images of firmwares whose functions are grouped by their numbers, by a callback that is given to `compile`, from files to a file.
+//! Images that no command makes, from files to a file: of firmwares whose functions are grouped by a callback that is given to `compile`,
+//! and of firmwares in which one compartment has other code.
 #![tactic(auto)]
 
 ghost use Rattle.std.specs.Prelude.{◌≡◌, ◌<◌, ◌%◌, IfOk};
 ghost use Rattle.plan_model.specs.Boards.{IsBoard};
 
 use anyhow::{Result, bail};
-use case_files::put;
+use case_files::{bytes_of, put};
 use commands::loading::{board_of, load, load_firmware};
-use compiler::compile;
+use compiler::{CodeRefusal, compile, compile_with_code};
 use firmware_commands::reading::firmware_of;
 use firmware_plans::needs_of;
 use grouping::grouping::Grouping;
@@ -40,6 +41,28 @@ pub fn divide(
     let count: u32 = count.parse()?;
     let (firmware, board) = loaded(alloc, files, firmware, board)?;
     let made = divided(alloc, &firmware, &board, count)?;
+    put(files, image, &made)
+}
+
+/// Writes the text of the image of a firmware for a board to a file, where the block of a compartment has the code of a file. Each file of the
+/// firmware is a compartment.
+///
+/// # Errors
+///
+/// Those of `divide`; the compartment is no number, or there is none of that number; or the code is longer than its block.
+pub fn replace(
+    alloc: Global,
+    files: &mut MemFiles,
+    firmware: &str,
+    board: &str,
+    compartment: &str,
+    code: &str,
+    image: &str,
+) -> Result<()> {
+    let compartment: u32 = compartment.parse()?;
+    let code = bytes_of(alloc, files, code)?;
+    let (firmware, board) = loaded(alloc, files, firmware, board)?;
+    let made = replaced(alloc, &firmware, &board, compartment, &code)?;
     put(files, image, &made)
 }
 
@@ -91,5 +114,49 @@ fn divided(alloc: Global, firmware: &Checked, board: &Board, count: u32) -> Resu
     match made {
         Ok(image) => Ok(image::write(alloc, &image)?),
         Err(_) => bail!("refused"),
+    }
+}
+
+/// The text of the image of a checked firmware with this code in a compartment.
+fn replaced(
+    alloc: Global,
+    firmware: &Checked,
+    board: &Board,
+    compartment: u32,
+    code: &[u8],
+) -> Result<Vec<u8>>
+    requires { IsBoard board.now }
+{
+    let program = resolve(alloc, firmware)?;
+    let needs = needs_of(alloc, firmware, &program, board.closed)?;
+    let functions = needs.funcs.len();
+    if functions == 0 || functions > MOST as usize {
+        bail!("no grouping");
+    }
+    let by_file = |facts: &FuncFacts| -> u32
+        ensures { result ≡ facts.now.file % 1024 }
+    { facts.file % MOST };
+    let grouping = Grouping::new(by_file, functions as u32, MOST);
+    let made = compile_with_code(
+        alloc,
+        firmware,
+        &program,
+        &needs,
+        board,
+        &grouping,
+        compartment,
+        code,
+    );
+    let Grouping {
+        callback: _callback,
+        functions: _functions,
+        count: _count,
+    } = grouping;
+    match made {
+        Ok(image) => Ok(image::write(alloc, &image)?),
+        Err(CodeRefusal::NoMemory) => bail!("no memory"),
+        Err(CodeRefusal::Refused(_)) => bail!("refused"),
+        Err(CodeRefusal::Compartment) => bail!("no such compartment"),
+        Err(CodeRefusal::Length) => bail!("the code is too long"),
     }
 }
