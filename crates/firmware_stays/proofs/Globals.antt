@@ -31,7 +31,7 @@ module _ (law : GlobalLaws) (w : PlainFirmware) (n : Needs) (f : Final) (b : Boa
   t = planned_tables w n f b
 
   -- no range of peripherals lies in RAM
-  no_range : (may : ObjId → Bool) (a : ℕ) → a < b.ram_base + b.ram_size → (ds : List Cover) → AnyOf (IsOnPeripherals w n f b may a) ds → ⊥
+  pub no_range : (may : ObjId → Bool) (a : ℕ) → a < b.ram_base + b.ram_size → (ds : List Cover) → AnyOf (IsOnPeripherals w n f b may a) ds → ⊥
   no_range may a low [] h = h
   no_range may a low (d ∷ ds) (inl h) =
       let x = h.from in
@@ -51,18 +51,18 @@ module _ (law : GlobalLaws) (w : PlainFirmware) (n : Needs) (f : Final) (b : Boa
       by (InData d) = d.permitted x lt byte
 
   module _ (x a : ℕ) (lt : x < length (resolve w).globals) (byte : IsByteOf w n f b x a) where
-    off : OnStack t a → ⊥
+    pub off : OnStack t a → ⊥
     unfolding tables_of
     off on = off_stack law w n f b ok x a lt (record { low = byte.0; high = byte.1 }) on.0 on.1
 
-    off_block : InBlock t a → ⊥
+    pub off_block : InBlock t a → ⊥
     unfolding tables_of
     off_block o = off_monitor law w n f b ok x a lt (record { low = byte.0; high = byte.1 }) o.0 (let z = monitor_size_is law.plans w n f b ok in let hi = o.1 in omega (arith, z, hi))
 
   -- ---- a run of an image with the board's RAM
 
   module _ (i : Image) (base : i.ram_base ≡ b.ram_base) (first : State) (keeps : KeepsMemory i t first) where
-    outside : (x a : ℕ) → x < length (resolve w).globals → IsByteOf w n f b x a → IsOutside i t a
+    pub outside : (x a : ℕ) → x < length (resolve w).globals → IsByteOf w n f b x a → IsOutside i t a
     outside x a lt byte = record {
       from_base = let r = (in_ram law w n f b ok x lt).0 in let lo = byte.0 in omega (arith, r, lo, base);
       off_block = off_block x a lt byte;

@@ -19,6 +19,7 @@ use Rattle.memory_stays.specs.Stays.{KeepsMemory}
 use Rattle.firmware_stays.specs.Own.{SlotsAreOwn, PlannedSlotsAreOwn}
 use Rattle.firmware_stays.specs.Isolated.{LoansAreNeeded, IsIsolated, KeptRunsAreIsolated}
 use Rattle.firmware_stays.proofs.Globals.{globals_stay, globals_change}
+use Rattle.firmware_stays.proofs.Readers.{globals_read, no_global_read}
 use Rattle.firmware_stays.proofs.Regions.{regions_stay}
 use Rattle.firmware_stays.proofs.Accesses.{accesses_are_permitted}
 
@@ -43,6 +44,10 @@ module _ (globals : GlobalLaws) (w : PlainFirmware) (n : Needs) (f : Final) (b :
         regions_stay = regions_stay globals.plans w n f b is own i board.ram_base first keeps;
         stack_stays = keeps.stack_stays;
         loans = loans_needed;
+        globals_read = globals_read globals w n f b is slots i rules board first keeps;
+        no_global_read = no_global_read globals w n f b is slots i rules board first keeps;
+        reads = keeps.reads;
+        monitor_reads = keeps.monitor_reads;
         accesses = accesses_are_permitted w n f b is slots i rules board first keeps;
       }
 

@@ -1,6 +1,7 @@
 mod Globals
 mod Accesses
 mod OwnRegions
+mod Readers
 mod Regions
 mod Isolation
 mod Composed

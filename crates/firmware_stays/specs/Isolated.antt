@@ -1,10 +1,11 @@
 -- Who changes which bytes and accesses which peripherals in a run of a planned firmware's image, in the firmware's own words.
-use Rattle.std.specs.Prelude.{◌≡◌, ◌≢◌, ℕ, ◌<◌, ◌≤◌, true, false, Some, length, slice_get}
+use Rattle.std.specs.Prelude.{◌≡◌, ◌≢◌, ℕ, ◌+◌, ◌<◌, ◌≤◌, true, false, Some, length, slice_get}
 use Rattle.device_model.specs.declared.image.Image.{Image}
 use Rattle.device_model.specs.Rules.{ObeysRules}
 use Rattle.events.specs.declared.event.Event.{Event}
-use Rattle.armv7m.specs.State.{State}
-use Rattle.armv7m.specs.Step.{event}
+use Rattle.armv7m.specs.State.{State, Touched, by_mpu}
+use Rattle.armv7m.specs.Confinement.{AnyOf}
+use Rattle.armv7m.specs.Step.{turn, event}
 use Rattle.resets.specs.Reset.{EachRun}
 use Rattle.ir_model.specs.declared.object.ObjId.TheVariants.{Global, Periph, Local}
 use Rattle.ir_model.specs.Plain.{PlainFirmware}
@@ -19,7 +20,7 @@ use Rattle.plan_model.specs.Regions.{region_at}
 use Rattle.plan_model.specs.RamBlocks.{ForRegion}
 use Rattle.layout_laws.specs.RamLaws.{Holds}
 use Rattle.plan_model.specs.Lending.{lent}
-use Rattle.plan_model.specs.Permission.{may_write}
+use Rattle.plan_model.specs.Permission.{may_write, may_read}
 use Rattle.monitor.specs.declared.tables.Tables.{Tables}
 use Rattle.monitor.specs.BlockWords.{current, loan_number}
 use Rattle.monitor.specs.Reach.{running, IsInLoan}
@@ -28,7 +29,7 @@ use Rattle.linked_images.specs.Planned.{IsPlanned, plan, planned_image, planned_
 use Rattle.linked_promises.specs.Permissions.{IsByteOf}
 use Rattle.planned_images.specs.Whole.{IsForBoard}
 use Rattle.memory_stays.specs.Acts.{byte_at, OnStack, Acts, Rests}
-use Rattle.memory_stays.specs.Stays.{ClosedStackStays, KeepsMemory}
+use Rattle.memory_stays.specs.Stays.{ClosedStackStays, ActsReadTheirOwn, MonitorReadsForActs, KeepsMemory}
 
 -- ---- of a firmware `w` with its needs, its final graph and a board, which say where globals and regions lie and who may write them; and
 -- of a run of an image with such tables from a first state
@@ -77,6 +78,22 @@ module _ (w : PlainFirmware) (n : Needs) (f : Final) (b : Board) (i : Image) (t 
       (k : ℕ) (e : Event) → HasStarted i t first k → event i (at k) ≡ Some e
       → Acts i t first k × (e.compartment ≡ acting k) × (e.periph < length p.periphs) × (may_write p n f e.compartment (Periph e.periph) ≡ true)
 
+  -- a step loads the byte at an address
+  abbrev pub HasLoaded : (step address : ℕ) → Type 0
+  HasLoaded k a = AnyOf (λ (y : Touched). (y.address ≤ a) × (a < y.address + y.width)) (turn by_mpu i (at k)).loads
+
+  -- where the board's reads are closed, an act's instruction loads a byte of a global only if its compartment may read the global
+  abbrev pub GlobalsAreReadByTheirReaders : Type 0
+  GlobalsAreReadByTheirReaders =
+      i.closed ≡ true → (x a k : ℕ) → x < length p.globals → IsByteOf w n f b x a → Acts i t first k → HasLoaded k a
+      → may_read p n f (acting k) (Global x) ≡ true
+
+  -- and the monitor loads none for it
+  abbrev pub MonitorReadsNoGlobal : Type 0
+  MonitorReadsNoGlobal =
+      i.closed ≡ true → (x a m k : ℕ) → x < length p.globals → IsByteOf w n f b x a → Acts i t first m → m < k
+      → ((j : ℕ) → m < j → j ≤ k → (at j).protection.handler ≡ true) → HasLoaded k a → ⊥
+
   pub record IsIsolated : Type 0 where
     -- which bytes of data change
     pub globals_stay : GlobalsStay
@@ -86,6 +103,11 @@ module _ (w : PlainFirmware) (n : Needs) (f : Final) (b : Board) (i : Image) (t 
     -- return hands back
     pub stack_stays : ClosedStackStays i t first
     pub loans : LoansAreNeeded
+    -- which bytes are loaded on a board with closed reads, of globals and of all memory: by an act's instruction, and by the monitor for it
+    pub globals_read : GlobalsAreReadByTheirReaders
+    pub no_global_read : MonitorReadsNoGlobal
+    pub reads : ActsReadTheirOwn i t first
+    pub monitor_reads : MonitorReadsForActs i t first
     -- which peripherals are accessed
     pub accesses : AccessesArePermitted
 

@@ -18,7 +18,7 @@ use Rattle.monitor.specs.BlockWords.{current, top, depth, loan_count, loan_addre
 use Rattle.monitor.specs.Reach.{AllBytes, running, IsInLoan}
 use Rattle.monitor.specs.Confined.{IsSvc, HasStarted, AreNext, later}
 use Rattle.monitor.specs.Invariant.{InvariantHolds}
-use Rattle.monitor.specs.Handlers.{LoadFor}
+use Rattle.monitor.specs.Handlers.{InWaitingFrame, LoadFor}
 use Rattle.thread_moves.specs.WhoRuns.{depth_at, HasKeptFrame, IsBehindCall}
 use Rattle.memory_stays.specs.Acts.{byte_at, IsOutside, OnStack, IsWritable, IsResult, MayChange, MayRead, Acts, Rests}
 
@@ -33,6 +33,8 @@ pub record IsBounded (i : Image) (t : Tables) (s : State) : Type 0 where
   pub few_lent : loan_count i t s.ram ≤ 32
   -- each live loan, whoever may use it, is part of the stack
   pub lent : (k a : ℕ) → k < loan_count i t s.ram → loan_address i t s.ram k ≤ a → a < loan_end i t s.ram k → OnStack t a
+  -- so is the frame of the call that waits last
+  pub frame : (a : ℕ) → InWaitingFrame i t s a → OnStack t a
 
 -- an address of the stack that its act does not change: it is not below TOP, not in what is lent to it, and not in the word that its
 -- return hands back
