@@ -53,7 +53,7 @@ pub record HasTarget (t : Tables) (n ret entry c : ℕ) : Type 0 where
   pub found : last_with_entry (entry + 1) (targets_of t (site_at t n)) ≡ Some target
   pub compartment : target.compartment ≡ c
 
-target_of : (t : Tables) (n ret entry c : ℕ) → has_target t n ret entry c ≡ true → HasTarget t n ret entry c
+pub target_of : (t : Tables) (n ret entry c : ℕ) → has_target t n ret entry c ≡ true → HasTarget t n ret entry c
 unfolding has_target
 target_of t n ret entry c e =
     let o : Option TargetRecord = last_with_entry (entry + 1) (targets_of t (site_at t n)) in
@@ -67,7 +67,7 @@ target_of t n ret entry c e =
     by x y None f z = absurd (false≢true z)
     by x y (Some g) f z = record { known = x; returns = y; target = g; found = f; compartment = search (nat_tests, arith) }
 
-same_offset : (rb base psp o : ℕ) → rb ≤ base → base ≤ psp → psp + 32 ≡ rb + o → psp - base ≡ o - 32 - (base - rb)
+pub same_offset : (rb base psp o : ℕ) → rb ≤ base → base ≤ psp → psp + 32 ≡ rb + o → psp - base ≡ o - 32 - (base - rb)
 same_offset rb base psp o a b e = omega (arith, a, b, e)
 
 sum_top : (rb base q top : ℕ) → rb ≤ base → top ≡ base - rb + q → base + q ≡ rb + top

@@ -197,7 +197,7 @@ module _ (laws : ThreadLaws) (code : MonitorCode) (i : Image) (t : Tables) (p : 
 
   -- ---- the end of `main`
 
-  first_step : (s : State) (from : State) (e : End) (c : ℕ) → step i s ≡ from → event i s ≡ None → ((k : ℕ) → k < c → event i (run (step i) k from) ≡ None) → (run (step i) c from).ending ≡ Some e →
+  pub first_step : (s : State) (from : State) (e : End) (c : ℕ) → step i s ≡ from → event i s ≡ None → ((k : ℕ) → k < c → event i (run (step i) k from) ≡ None) → (run (step i) c from).ending ≡ Some e →
       ((k : ℕ) → k < suc c → event i (run (step i) k s) ≡ None) × ((run (step i) (suc c) s).ending ≡ Some e)
   unfolding run
   first_step s from e c to quiet each over = (silent, subst (λ (z : State). (run (step i) c z).ending ≡ Some e) (sym to) over)

@@ -18,3 +18,4 @@ mod Loans
 mod Copied
 mod Starting
 mod Serve
+mod ShortOfStack

@@ -188,6 +188,30 @@ module _ (i : Image) (t : Tables) (stub : ℕ) (m : Block) (psp : ℕ) (memory :
       let sixth : enter_to i t stub m psp memory (Some g) ≡ to = ap (λ (b : Bool). if b then to else Halts 5) f in
       second ∙ third ∙ fourth ∙ fifth ∙ sixth
 
+  -- a callee that has no whole eighth
+  pub enter_refused : (g : TargetRecord) (number offset : ℕ) → place i (word i t stub m psp memory return_place) ≡ InFlash offset → read 2 offset i.flash ≡ number → number < length t.sites →
+      (site_at t number).ret ≡ word i t stub m psp memory return_place → last_with_entry (word i t stub m psp memory r12_place) (targets_of t (site_at t number)) ≡ Some g →
+      new_top i t stub m psp memory ≡ t.stack.base → svc_outcome i t stub m psp memory 0 ≡ Halts 5
+  enter_refused g number offset here half known returns found lowest =
+      let d : nat_lt number (length t.sites) ≡ true = search (nat_tests, arith) in
+      let e : nat_eq (site_at t number).ret (word i t stub m psp memory return_place) ≡ true = search (nat_tests, arith) in
+      let f : nat_lt t.stack.base (new_top i t stub m psp memory) ≡ false = search (nat_tests, arith) in
+      let both : (nat_lt number (length t.sites) && nat_eq (site_at t number).ret (word i t stub m psp memory return_place)) ≡ true = rw (d, e) refl in
+      let o : Option TargetRecord = last_with_entry (word i t stub m psp memory r12_place) (targets_of t (site_at t number)) in
+      let second : enter_at i t stub m psp memory (place i (word i t stub m psp memory return_place)) ≡ enter_by i t stub m psp memory (read 2 offset i.flash) = ap (λ (l : Place). enter_at i t stub m psp memory l) here in
+      let third : enter_by i t stub m psp memory (read 2 offset i.flash) ≡ enter_by i t stub m psp memory number = ap (λ (n : ℕ). enter_by i t stub m psp memory n) half in
+      let fourth : enter_by i t stub m psp memory number ≡ enter_to i t stub m psp memory o = ap (λ (b : Bool). if b then enter_to i t stub m psp memory o else Halts 2) both in
+      let fifth : enter_to i t stub m psp memory o ≡ enter_to i t stub m psp memory (Some g) = ap (λ (x : Option TargetRecord). enter_to i t stub m psp memory x) found in
+      let to : Outcome = Resumes (entered m g.compartment (new_top i t stub m psp memory) psp) (new_top i t stub m psp memory - 32) (write_all 4 (new_top i t stub m psp memory - 32 - i.ram_base) (callee_frame i t stub m psp memory g) (moved_on i psp memory)) in
+      let sixth : enter_to i t stub m psp memory (Some g) ≡ Halts 5 = ap (λ (b : Bool). if b then to else Halts 5) f in
+      numbered 0 ∙ second ∙ third ∙ fourth ∙ fifth ∙ sixth
+
+  -- a lend while as many loans live as the monitor keeps
+  pub lend_refused : length m.loans ≡ 32 → svc_outcome i t stub m psp memory 2 ≡ Halts 6
+  lend_refused full =
+      let d : nat_lt (length m.loans) 32 ≡ false = search (nat_tests, arith) in
+      numbered 2 ∙ rw d refl
+
   pub enters : svc_outcome i t stub m psp memory 0 ≡ enter_at i t stub m psp memory (place i (word i t stub m psp memory return_place))
   enters = numbered 0
 

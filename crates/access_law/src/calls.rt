@@ -1,6 +1,7 @@
 //! What the monitor comes to for a simulation. The function is a law and does nothing.
 
 ghost use Rattle.access_law.specs.Simulation.{PlacedLawsServeSimulation};
+ghost use Rattle.access_law.specs.HaltingCalls.{PlacedCallsRunShort};
 
 use armv7m::any_step::{performed_accesses, unprivileged_steps};
 use armv7m::laws::access_law;
@@ -16,6 +17,26 @@ use mpu_model::laws::{
 /// undoes it, the end of `main`, and `main`'s first instruction from reset with the initial words in place.
 pub fn laws_serve_simulation()
     ensures { PlacedLawsServeSimulation }
+{
+    kept_lists_decide();
+    open_eighths_are_held();
+    regions_give_their_rights();
+    regions_hold_their_blocks();
+    frames();
+    instructions();
+    access_law();
+    unprivileged_steps();
+    performed_accesses();
+    shapes();
+    templates();
+    steps_lead();
+    changes_keep_order();
+}
+
+/// A lend while as many loans live as the monitor keeps halts with 6, and a call across below which no whole eighth of the stack is
+/// left halts with 5, without an event.
+pub fn calls_run_short()
+    ensures { PlacedCallsRunShort }
 {
     kept_lists_decide();
     open_eighths_are_held();

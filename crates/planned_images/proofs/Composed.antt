@@ -13,12 +13,12 @@ use Rattle.monitor.specs.Setting.{setting_of}
 use Rattle.monitor.specs.TheCode.{monitor_code}
 use Rattle.link_model.specs.LinkedImage.{linked}
 use Rattle.simulate.specs.Refines.{Refines}
-use Rattle.refinement.specs.Refinement.{LinkedImagesRefine}
+use Rattle.refinement.specs.Refinement.{LinkedImagesRefine, LinkedImagesRefineOrStop}
 use Rattle.linked_images.specs.Planned.{plan, planned_tables, planned_image}
 use Rattle.linked_images.specs.Laws.{OfPlanned, PlannedRangesAreApart}
 use Rattle.linked_images.proofs.Facts.{PlanLaws}
 use Rattle.linked_promises.specs.Parts.{KindsAgree}
-use Rattle.planned_images.specs.Whole.{PlannedImagesAreSound, PlannedImagesAreConfined, PlannedImagesAreLinked, PlannedImagesRefine}
+use Rattle.planned_images.specs.Whole.{PlannedImagesAreSound, PlannedImagesAreConfined, PlannedImagesAreLinked, PlannedImagesRefine, PlannedImagesRefineOrStop}
 use Rattle.planned_images.proofs.Checked.{Passes, none_fails}
 use Rattle.planned_images.proofs.Stacks.{stack_is}
 
@@ -43,3 +43,13 @@ refine_firmwares law sound rules linked kind apart serve refine w S n f b is lea
     (subst (λ closed. AreNeeds (resolve w) S closed n) (sym (kind monitor_code w n f b is)) needs)
     (serve (planned_image w n f b) (planned_tables w n f b) (rules w n f b is) (sound w n f b is) (apart w n f b is))
     (linked w n f b is))
+
+pub refine_or_stop : PlannedImagesAreSound → OfPlanned (λ i t. ObeysRules i) → PlannedImagesAreLinked → KindsAgree → PlannedRangesAreApart
+    → OfSoundImages monitor_code (λ i t. RangesAreApart t.inits → Law (setting_of monitor_code i t) (Invariant i t))
+    → LinkedImagesRefineOrStop → PlannedImagesRefineOrStop
+unfolding linked
+refine_or_stop sound rules linked kind apart serve refine w S n f b is least needs stack =
+    refine w S monitor_code (planned_image w n f b) (planned_tables w n f b) n f.groups (code_places (resolve w) n f (plan w n f b)) is.typed is.within least
+    (subst (λ closed. AreNeeds (resolve w) S closed n) (sym (kind monitor_code w n f b is)) needs)
+    (serve (planned_image w n f b) (planned_tables w n f b) (rules w n f b is) (sound w n f b is) (apart w n f b is))
+    (linked w n f b is) stack

@@ -15,6 +15,10 @@ use Rattle.monitor.specs.Layout.{initial_word_count}
 use Rattle.monitor.specs.Sound.{Sound}
 use Rattle.monitor.specs.TheCode.{monitor_code}
 use Rattle.simulate.specs.Refines.{Refines}
+use Rattle.monitor.specs.Setting.{setting_of}
+use Rattle.monitor.specs.Invariant.{Invariant}
+use Rattle.overruns.specs.Guard.{StackLaw}
+use Rattle.never_wrong.specs.NeverWrong.{RefinesOrStops}
 use Rattle.relation.specs.Linked.{Linked}
 use Rattle.linked_images.specs.Planned.{IsPlanned, planned_tables, planned_image}
 use Rattle.linked_images.specs.Laws.{OfPlanned}
@@ -50,3 +54,10 @@ abbrev pub PlannedImagesRefine : Type 0
 PlannedImagesRefine =
     (w : PlainFirmware) (S : ObjectSets) (n : Needs) (f : Final) (b : Board) → IsPlanned w n f b → IsLeast (resolve w) S → AreNeeds (resolve w) S b.closed n
     → Refines w n f.groups b.stack (initial_word_count (planned_tables w n f b)) (planned_image w n f b)
+
+-- or stops for want of stack, however much its frames take, where the law of the stack holds
+abbrev pub PlannedImagesRefineOrStop : Type 0
+PlannedImagesRefineOrStop =
+    (w : PlainFirmware) (S : ObjectSets) (n : Needs) (f : Final) (b : Board) → IsPlanned w n f b → IsLeast (resolve w) S → AreNeeds (resolve w) S b.closed n
+    → StackLaw (setting_of monitor_code (planned_image w n f b) (planned_tables w n f b)) (Invariant (planned_image w n f b) (planned_tables w n f b))
+    → RefinesOrStops w f.groups (initial_word_count (planned_tables w n f b)) (planned_image w n f b)

@@ -1,6 +1,6 @@
 //! The two halves of what is promised of an image, for every planned firmware: functions that do nothing, whose contract is the law.
 
-ghost use Rattle.planned_images.specs.Whole.{PlannedImagesAreForBoards, PlannedImagesAreSound, PlannedImagesAreConfined, PlannedImagesAreLinked, PlannedImagesRefine};
+ghost use Rattle.planned_images.specs.Whole.{PlannedImagesAreForBoards, PlannedImagesAreSound, PlannedImagesAreConfined, PlannedImagesAreLinked, PlannedImagesRefine, PlannedImagesRefineOrStop};
 
 use layout_laws::{flash, places, ram};
 use linked_images::laws::{header, ranges, tables as tables_have_room};
@@ -11,7 +11,7 @@ use linked_promises::laws::{code as functions_are_placed, kind, loans, windows};
 use linked_promises::regions::{images, memory, regions};
 use linked_promises::sites::{lends, sites, targets};
 use linked_promises::tables::tables as tables_read_back;
-use refinement::laws::refinement;
+use refinement::laws::{refinement, refinement_or_stop};
 use sound_images::promises::{sound_images_are_confined, sound_images_serve_simulation};
 
 /// The windows of the image of a planned firmware are the firmware's peripherals in order, and its memories, its stack's size and the
@@ -79,4 +79,17 @@ pub fn refined()
     kind();
     sound_images_serve_simulation();
     refinement();
+}
+
+/// However much stack its frames take, it refines its firmware or stops for want of stack, where the law of the stack holds.
+pub fn refined_or_stopped()
+    ensures { PlannedImagesRefineOrStop }
+{
+    sound();
+    images();
+    linked();
+    ranges();
+    kind();
+    sound_images_serve_simulation();
+    refinement_or_stop();
 }

@@ -20,6 +20,8 @@ use Rattle.monitor.specs.Setting.{Setting, setting_of}
 use Rattle.monitor.specs.Invariant.{Invariant}
 use Rattle.monitor.specs.Law.{Law}
 use Rattle.simulate.specs.Refines.{Refines}
+use Rattle.overruns.specs.Guard.{StackLaw}
+use Rattle.never_wrong.specs.NeverWrong.{RefinesOrStops}
 use Rattle.relation.specs.Builds.{Build}
 use Rattle.relation.specs.Linked.{Linked}
 
@@ -34,3 +36,11 @@ LinkedImagesRefine =
     → IsTyped w → IsWithinLimits w → IsLeast (resolve w) S → AreNeeds (resolve w) S n.closed n
     → Law (setting_of code i t) (Invariant i t) → Linked (build_of w (setting_of code i t) n groups places)
     → Refines w n groups (8 * eighth t) (initial_word_count t) i
+
+-- or stops for want of stack, however much its frames take, where the law of the stack holds
+abbrev pub LinkedImagesRefineOrStop : Type 0
+LinkedImagesRefineOrStop =
+    (w : PlainFirmware) (S : ObjectSets) (code : MonitorCode) (i : Image) (t : Tables) (n : Needs) (groups : Groups) (places : CodePlaces)
+    → IsTyped w → IsWithinLimits w → IsLeast (resolve w) S → AreNeeds (resolve w) S n.closed n
+    → Law (setting_of code i t) (Invariant i t) → Linked (build_of w (setting_of code i t) n groups places)
+    → StackLaw (setting_of code i t) (Invariant i t) → RefinesOrStops w groups (initial_word_count t) i

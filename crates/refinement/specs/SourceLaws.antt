@@ -6,7 +6,7 @@ use Rattle.ir_laws.specs.Limits.{WindowsLieApart}
 use Rattle.ir_laws.specs.Moves.{FramesMove}
 use Rattle.ir_laws.specs.Runs.{ValuesStayInSets, NumbersAreWords, PointersAreOfObjects, ElementsAreSmall, ContentsAreWhole, ReturnsAgreeWithCalls, AccessesAreInSets}
 use Rattle.ir_laws.specs.Typed.{TypedOverNumbers}
-use Rattle.need_laws.specs.Laws.{RunningFrameStaysInNeeds, CallsStayInside, FramesAreGrouped, OtherLocalsAreLendable, LendableLocalsHaveNumbers}
+use Rattle.need_laws.specs.Laws.{RunningFrameStaysInNeeds, CallsStayInside, OtherLocalsAreLendable, LendableLocalsHaveNumbers}
 use Rattle.lower_laws.specs.Fitting.{TypedFunctionsFit}
 
 pub record SourceLaws : Type 0 where
@@ -29,6 +29,5 @@ pub record SourceLaws : Type 0 where
   -- of needs
   pub listed : RunningFrameStaysInNeeds
   pub inside : CallsStayInside
-  pub grouped : FramesAreGrouped
   pub own : OtherLocalsAreLendable
   pub numbered : LendableLocalsHaveNumbers

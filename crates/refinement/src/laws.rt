@@ -1,7 +1,7 @@
 //! That images refine their firmwares: functions that do nothing, whose contract is the law.
 
 ghost use Rattle.thread_runs.specs.CodeLaws.{CodeLaws};
-ghost use Rattle.refinement.specs.Refinement.{LinkedImagesRefine};
+ghost use Rattle.refinement.specs.Refinement.{LinkedImagesRefine, LinkedImagesRefineOrStop};
 ghost use Rattle.refinement.specs.SourceLaws.{SourceLaws};
 
 use code_effects::laws::{
@@ -60,6 +60,14 @@ pub fn sources()
 /// An image refines its firmware, if the monitor keeps its law and the linker its promises.
 pub fn refinement()
     ensures { LinkedImagesRefine }
+{
+    code();
+    sources();
+}
+
+/// However much stack its frames take, it refines its firmware or stops for want of stack, if also the law of the stack holds.
+pub fn refinement_or_stop()
+    ensures { LinkedImagesRefineOrStop }
 {
     code();
     sources();

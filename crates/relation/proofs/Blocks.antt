@@ -54,11 +54,10 @@ module _ (k : Build) (places : ℕ → ℕ) where
       let b = by_site rest (site_of k rest) fr.func a.1 in
       omega arith
 
-  pub is_open : (fr : Where) (rest : List Where) → AllFit k places (fr ∷ rest) → HasRoom g (block_of k places (fr ∷ rest)) (places fr.number)
-  is_open fr rest a =
+  pub is_open : (fr : Where) (rest : List Where) → AllFit k places (fr ∷ rest) → k.setting.stack + 32 ≤ places fr.number → HasRoom g (block_of k places (fr ∷ rest)) (places fr.number)
+  is_open fr rest a r =
       let t = top_least fr rest a in
       let e = a.0.ends in
-      let r = a.0.room in
       record { aligned = a.0.aligned; low = r; high = omega arith }
 
   marks_by : (x : Option ℕ) (f : ℕ) (rest : List Where) (b : Block) → b.mark ≤ length b.loans → (beneath k places x f rest b).mark ≤ length (beneath k places x f rest b).loans

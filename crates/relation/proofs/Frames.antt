@@ -33,20 +33,27 @@ module _ (k : Build) (places : ℕ → ℕ) (facts : Facts k) where
   floor [] = stack_end g
   floor (c ∷ rest) = places c.number
 
+  -- a call across leaves room for an exception where a whole eighth of the stack is left
+  pub crossing_room : (p : ℕ) → g.stack < g.stack + (p - 32 - g.stack) / g.eighth * g.eighth → g.stack + 32 ≤ p
+  crossing_room p h = let d = div-mul-le_self (p - 32 - g.stack) g.eighth in omega arith
+
   rounded : (p : ℕ) → g.stack + 32 ≤ p → g.stack + (p - 32 - g.stack) / g.eighth * g.eighth + 32 ≤ p
   rounded p h = let d = div-mul-le_self (p - 32 - g.stack) g.eighth in omega arith
+
+  under : (p : ℕ) → g.stack ≤ p → g.stack + (p - 32 - g.stack) / g.eighth * g.eighth ≤ p
+  under p h = let d = div-mul-le_self (p - 32 - g.stack) g.eighth in omega arith
 
   pub ceiling_floor : (x : Option ℕ) (fs : List Where) → AllFit k places fs → ceiling_by k places x fs ≤ floor fs
   ceiling_floor x [] f = omega arith
   ceiling_floor None (c ∷ rest) f = omega arith
-  ceiling_floor (Some s) (c ∷ rest) f = let r = rounded (places c.number) f.0.room in omega arith
+  ceiling_floor (Some s) (c ∷ rest) f = under (places c.number) f.0.room
 
-  waiting_safe : (x : Option ℕ) (fs : List Where) (p : ℕ) → AllFit k places fs → floor fs ≤ stack_end g → g.stack ≤ p → p ≤ ceiling_by k places x fs → Each (IsSafe g p) (waiting_by k places x fs)
-  waiting_safe None fs p f t l h = tt
-  waiting_safe (Some s) [] p f t l h = tt
-  waiting_safe (Some s) (c ∷ rest) p f t l h =
-      let r = rounded (places c.number) f.0.room in
-      let rm = f.0.room in
+  waiting_safe : (x : Option ℕ) (fs : List Where) (p : ℕ) → AllFit k places fs → g.stack < ceiling_by k places x fs → floor fs ≤ stack_end g → g.stack ≤ p → p ≤ ceiling_by k places x fs → Each (IsSafe g p) (waiting_by k places x fs)
+  waiting_safe None fs p f so t l h = tt
+  waiting_safe (Some s) [] p f so t l h = tt
+  waiting_safe (Some s) (c ∷ rest) p f so t l h =
+      let rm = crossing_room (places c.number) so in
+      let r = rounded (places c.number) rm in
       let ap_ = facts.rules.apart in
       ((inr (omega arith), ⊎_elim (λ y. inr (omega arith)) (λ y. inl (omega arith)) ap_), ((inr (omega arith), ⊎_elim (λ y. inr (omega arith)) (λ y. inl (omega arith)) ap_), tt))
 
@@ -73,20 +80,20 @@ module _ (k : Build) (places : ℕ → ℕ) (facts : Facts k) where
         each = each_join (IsSafe g p) (own k fr.func p) (waiting_by k places (site_of k rest) rest ++ areas k places rest)
             (each_as (Inside p (p + 4 * (words_at k fr.func) + 4)) (IsSafe g p) (own k fr.func p) (λ c i. (inr i.0, ⊎_elim (λ y. inr (omega (arith, i.0))) (λ y. inl (omega (arith, i.1))) ap_)) (sh.inside p))
             (each_join (IsSafe g p) (waiting_by k places (site_of k rest) rest) (areas k places rest)
-            (waiting_safe (site_of k rest) rest p f.1 top (omega arith) (omega arith))
+            (waiting_safe (site_of k rest) rest p f.1 f.0.some top (omega arith) (omega arith))
             (lower_safe p (floor rest) (areas k places rest) (omega arith) s.each));
       }
 
-  waiting_laid : (x : Option ℕ) (fs : List Where) → AllFit k places fs → Laid (waiting_by k places x fs)
-  waiting_laid None fs f = tt
-  waiting_laid (Some s) [] f = tt
-  waiting_laid (Some s) (c ∷ rest) f = let r = f.0.room in ((inl (omega arith), tt), (tt, tt))
+  waiting_laid : (x : Option ℕ) (fs : List Where) → AllFit k places fs → g.stack < ceiling_by k places x fs → Laid (waiting_by k places x fs)
+  waiting_laid None fs f so = tt
+  waiting_laid (Some s) [] f so = tt
+  waiting_laid (Some s) (c ∷ rest) f so = let r = crossing_room (places c.number) so in ((inl (omega arith), tt), (tt, tt))
 
-  waiting_inside : (x : Option ℕ) (fs : List Where) → AllFit k places fs → Each (Inside (ceiling_by k places x fs) (floor fs)) (waiting_by k places x fs)
-  waiting_inside None fs f = tt
-  waiting_inside (Some s) [] f = tt
-  waiting_inside (Some s) (c ∷ rest) f =
-      let r = rounded (places c.number) f.0.room in
+  waiting_inside : (x : Option ℕ) (fs : List Where) → AllFit k places fs → g.stack < ceiling_by k places x fs → Each (Inside (ceiling_by k places x fs) (floor fs)) (waiting_by k places x fs)
+  waiting_inside None fs f so = tt
+  waiting_inside (Some s) [] f so = tt
+  waiting_inside (Some s) (c ∷ rest) f so =
+      let r = rounded (places c.number) (crossing_room (places c.number) so) in
       ((omega arith, omega arith), ((omega arith, omega arith), tt))
 
   off_of : (lo hi q : ℕ) (cs : List Area) → g.stack ≤ lo → hi ≤ q → Each (IsSafe g q) cs → Each (Off lo hi) cs
@@ -105,10 +112,10 @@ module _ (k : Build) (places : ℕ → ℕ) (facts : Facts k) where
       let so = f.0.some in
       let sh = facts.shapes fr.func in
       laid_join p (p + 4 * (words_at k fr.func) + 4) (own k fr.func p) (waiting_by k places x rest ++ areas k places rest) (sh.laid p)
-      (laid_join (ceiling_by k places x rest) (floor rest) (waiting_by k places x rest) (areas k places rest) (waiting_laid x rest f.1) (all_laid rest f.1) (waiting_inside x rest f.1) (off_of (ceiling_by k places x rest) (floor rest) (floor rest) (areas k places rest) (omega arith) (omega arith) s.each))
+      (laid_join (ceiling_by k places x rest) (floor rest) (waiting_by k places x rest) (areas k places rest) (waiting_laid x rest f.1 so) (all_laid rest f.1) (waiting_inside x rest f.1 so) (off_of (ceiling_by k places x rest) (floor rest) (floor rest) (areas k places rest) (omega arith) (omega arith) s.each))
       (sh.inside p)
       (each_join (Off p (p + 4 * (words_at k fr.func) + 4)) (waiting_by k places x rest) (areas k places rest)
-      (each_as (Inside (ceiling_by k places x rest) (floor rest)) (Off p (p + 4 * (words_at k fr.func) + 4)) (waiting_by k places x rest) (λ c i. inr (omega (arith, i.0))) (waiting_inside x rest f.1))
+      (each_as (Inside (ceiling_by k places x rest) (floor rest)) (Off p (p + 4 * (words_at k fr.func) + 4)) (waiting_by k places x rest) (λ c i. inr (omega (arith, i.0))) (waiting_inside x rest f.1 so))
       (off_of p (p + 4 * (words_at k fr.func) + 4) (floor rest) (areas k places rest) (omega arith) (omega arith) s.each))
 
 -- ---- what a new frame holds

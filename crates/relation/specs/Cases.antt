@@ -1,22 +1,19 @@
 -- Beyond the program's claim: only laws, proofs and functions inside the tool cite this file.
 -- One source step is followed by the machine.
-use Rattle.std.specs.Prelude.{ℕ, ◌≤◌, List, [], ◌∷◌, option_to_list}
+use Rattle.std.specs.Prelude.{◌≡◌, ℕ, ◌+◌, ◌*◌, ◌≤◌, List, [], ◌∷◌, option_to_list}
 use Rattle.device_model.specs.declared.image.Image.{Image}
 use Rattle.events.specs.declared.event.Event.{Event}
 use Rattle.armv7m.specs.State.{State, by_mpu}
 use Rattle.armv7m.specs.Code.{Runs}
 use Rattle.armv7m.specs.RunningCode.{Context}
-use Rattle.ir_model.specs.Types.{PlainType}
-use Rattle.ir_model.specs.Resolved.{Here, here}
+use Rattle.ir_model.specs.Resolved.{Here}
 use Rattle.ir_model.specs.State.{Frame, Memory, SourceState, Running, Ended}
 use Rattle.ir_model.specs.Step.{turn_here}
-use Rattle.ir_laws.specs.Moves.{Where, where_of, wheres}
-use Rattle.ir_laws.specs.Sets.{ObjectSets}
-use Rattle.ir_laws.specs.States.{StateFits}
+use Rattle.ir_laws.specs.Moves.{Where, wheres}
 use Rattle.monitor.specs.Block.{Block}
 use Rattle.simulate.specs.Refines.{HasFault, step_limit}
-use Rattle.relation.specs.Builds.{Build}
-use Rattle.relation.specs.Relation.{AllFit, Stands, Related}
+use Rattle.relation.specs.Builds.{Build, words_at}
+use Rattle.relation.specs.Relation.{site_of, ceiling_by, AllAmple, Related}
 
 -- so many steps at most lead to a state that belongs to this source state
 pub record FollowsBy (R : SourceState → State → Type 0) (i : Image) (most : ℕ) (from : State) (s : SourceState) (es : List Event) : Type 0 where
@@ -36,14 +33,17 @@ module _ (k : Build) (Inv : Block → Context → List ℕ → Type 0) (places :
   standing (Running fs m) = wheres fs
   standing (Ended e) = []
 
-  -- the step from a place where this stands, if it meets no fault and the frames behind it are within the stack limit
+  -- the step from a place where this stands, if it meets no fault
   abbrev pub CaseFollows : (fr : Frame) (rest : List Frame) (m : Memory) (t : State) → Here → Type 0
   CaseFollows fr rest m t h =
-      (HasFault (turn_here k.program k.groups.of fr rest m h).to → ⊥) → AllFit k places (standing (turn_here k.program k.groups.of fr rest m h).to)
+      (HasFault (turn_here k.program k.groups.of fr rest m h).to → ⊥)
       → Follows t (turn_here k.program k.groups.of fr rest m h).to (option_to_list (turn_here k.program k.groups.of fr rest m h).event)
 
-  -- the statement of all cases: from each state of a run that fits, by the sizes of types and sets of objects
-  abbrev pub CasesFollow : (sizes : PlainType → ℕ) → ObjectSets → Type 0
-  CasesFollow sizes S =
-      (fr : Frame) (rest : List Frame) (m : Memory) (t : State) → Stands k places Inv (where_of fr) (wheres rest) (fr ∷ rest) m t
-      → StateFits k.program sizes S (Running (fr ∷ rest) m) → CaseFollows fr rest m t (here k.program fr.func fr.block fr.place)
+  -- where the first of these frames has to lie, if it fits
+  abbrev pub LiesFirst : List Where → Type 0
+  LiesFirst [] = Unit {0}
+  LiesFirst (v ∷ vs) = (o : ℕ) → o + 4 * words_at k v.func + 4 ≡ ceiling_by k places (site_of k vs) vs → k.setting.stack ≤ o → places v.number ≡ o
+
+  -- before a step or behind it the frames are not all within the stack limit
+  abbrev pub IsBeyond : (now next : List Where) → Type 0
+  IsBeyond now next = AllAmple k places now → AllAmple k places next → ⊥

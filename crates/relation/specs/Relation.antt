@@ -158,10 +158,12 @@ module _ (k : Build) where
     block_of [] = first_block k.setting
     block_of (w ∷ ws) = all_lent k.setting (places w.number) (beneath (site_of ws) w.func ws (block_of ws)) (lends_at k w.func)
 
-    -- a frame within the stack limit, and all of them
+    -- a frame that lies on the stack, and all of them. Where it lends a local it has room for an exception below it; and so it has
+    -- where a call across waits below it, as `some` of the callee tells
     pub record Fits (w : Where) (ws : List Where) : Type 0 where
       pub ends : places w.number + 4 * words_at k w.func + 4 ≡ ceiling ws
-      pub room : k.setting.stack + 32 ≤ places w.number
+      pub room : k.setting.stack ≤ places w.number
+      pub lent : 1 ≤ length (lends_at k w.func) → k.setting.stack + 32 ≤ places w.number
       pub aligned : places w.number % 8 ≡ 0
       pub some : k.setting.stack < ceiling ws
       pub loans : length (block_of (w ∷ ws)).loans ≤ 32
@@ -170,6 +172,16 @@ module _ (k : Build) where
     abbrev pub AllFit : List Where → Type 0
     AllFit [] = Unit {0}
     AllFit (w ∷ ws) = Fits w ws × AllFit ws
+
+    -- a frame within the stack limit, with room for an exception below it, and all of them
+    pub record IsAmple (w : Where) (ws : List Where) : Type 0 where
+      pub ends : places w.number + 4 * words_at k w.func + 4 ≡ ceiling ws
+      pub room : k.setting.stack + 32 ≤ places w.number
+      pub loans : length (block_of (w ∷ ws)).loans ≤ 32
+
+    abbrev pub AllAmple : List Where → Type 0
+    AllAmple [] = Unit {0}
+    AllAmple (w ∷ ws) = IsAmple w ws × AllAmple ws
 
     module _ (Inv : Block → Context → List ℕ → Type 0) where
       -- `frames` stand at w and ws, the first running

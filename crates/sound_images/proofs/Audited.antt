@@ -6,7 +6,6 @@ use Rattle.device_model.specs.Rules.{block_size}
 use Rattle.common_laws.specs.Lists.{Each}
 use Rattle.windows.specs.Ranges.{is_inside, are_apart}
 use Rattle.windows.proofs.Decisions.{decides_inside, decides_apart}
-use Rattle.monitor.specs.declared.sound.AuditCheck.TheVariants as check
 use Rattle.monitor.specs.declared.tables.InitRecord.{InitRecord}
 use Rattle.monitor.specs.declared.tables.Tables.{Tables}
 use Rattle.monitor.specs.Layout.{area_end, tables_size, initial_words_at, inits_at, head_at}

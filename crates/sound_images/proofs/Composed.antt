@@ -15,6 +15,8 @@ use Rattle.access_law.specs.Simulation.{PlacedLawsServeSimulation}
 use Rattle.svc_law.specs.SvcLaw.{SvcLaw}
 use Rattle.memfault_law.specs.FaultLaw.{FaultLaw}
 use Rattle.sound_images.proofs.Audited.{audited}
+use Rattle.access_law.specs.Accesses.{StubStands}
+use Rattle.monitor.specs.Page.{stub_address}
 use Rattle.sound_images.proofs.Stub.{stub_stands}
 
 -- the two halves of the monitor's law
@@ -42,3 +44,6 @@ laws_serve placed bytes fits there law i t rules s keeps starts apart =
 
 pub serve_simulation : HandlersKeepTheLaw monitor_code → ImagesStart monitor_code → LawsServeSimulation monitor_code → OfSoundImages monitor_code (λ i t. RangesAreApart t.inits → Law (setting_of monitor_code i t) (Invariant i t))
 serve_simulation keep start serve i t rules s apart = serve i t rules s (keep i t rules s) (start i t rules s) apart
+
+pub stubs : SoundImagesArePlaced → BytesAreCode → CodeFits → StubIsThere → OfSoundImages monitor_code (λ i t. StubStands i t (stub_address t))
+stubs placed bytes fits there i t rules s = stub_stands bytes fits there i t rules (placed monitor_code i t rules s).0 (audited monitor_code i t s)

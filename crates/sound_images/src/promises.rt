@@ -5,6 +5,8 @@ ghost use Rattle.monitor.specs.TheCode.{monitor_code};
 ghost use Rattle.monitor.specs.Invariant.{Invariant};
 ghost use Rattle.monitor.specs.Law.{Law};
 ghost use Rattle.monitor.specs.Setting.{setting_of};
+ghost use Rattle.access_law.specs.Accesses.{StubStands};
+ghost use Rattle.monitor.specs.Page.{stub_address};
 ghost use Rattle.monitor.specs.Promises.{
   OfSoundImages,
   RangesAreApart,
@@ -81,4 +83,13 @@ pub fn sound_images_serve_simulation()
     handlers_keep_the_law();
     images_start();
     sound_laws_serve_simulation();
+}
+
+/// And the leave stub stands where the tables say.
+pub fn stubs_stand()
+    ensures { OfSoundImages monitor_code (λ i t. StubStands i t (stub_address t)) }
+{
+    sound_images_are_placed();
+    instructions();
+    page_is_full();
 }

@@ -1,6 +1,6 @@
 -- The cases of calls: across compartments, and through a register.
-use Rattle.std.proofs.Common.{◌≡◌, ℕ, suc, ◌+◌, ◌-◌, ◌*◌, ◌/◌, ◌<◌, ◌≤◌, true, false, Option, Some, None, is_some, List, [], ◌∷◌, length, map, get_or, refl, sym, ap, ◌∙◌, subst, arith}
-use Rattle.std.proofs.Math.Nat.{div-mul-le_self}
+use Rattle.std.proofs.Common.{◌≡◌, ℕ, suc, ◌+◌, ◌*◌, ◌<◌, ◌≤◌, true, false, Option, Some, None, is_some, List, [], ◌∷◌, length, map, get_or, refl, sym, ap, ◌∙◌, subst, arith, inl, inr, ⊎_elim}
+use Rattle.std.specs.Prelude.{option_to_list}
 use Rattle.words.specs.Bytes.{read}
 use Rattle.armv7m.specs.State.{State}
 use Rattle.armv7m.specs.RunningCode.{Context}
@@ -16,21 +16,21 @@ use Rattle.ir_laws.specs.States.{FrameFits}
 use Rattle.code_model.specs.Places.{entry_address}
 use Rattle.code_model.specs.Sizes.{call_size, icall_size}
 use Rattle.code_model.specs.Templates.{inst_items}
-use Rattle.monitor.specs.Block.{Block, entered}
-use Rattle.monitor.specs.Threads.{base}
+use Rattle.monitor.specs.Block.{Block}
 use Rattle.code_effects.specs.Calls.{AllBelow}
 use Rattle.simulate.specs.Refines.{HasFault}
-use Rattle.thread_runs.specs.Owned.{Owns, all_lent}
-use Rattle.thread_runs.proofs.Calls.{icalls, crosses, icrosses}
-use Rattle.relation.specs.Builds.{Build, compartment_of, func, words_at, lends_at, places_at, labels_at, entry_at, half_at, site_at}
-use Rattle.relation.specs.Relation.{word_of, ceiling_by, beneath, block_of, Fits as HasPlace}
-use Rattle.relation.specs.Cases.{Follows, CaseFollows}
-use Rattle.relation.proofs.Blocks.{all_lent_is, top_least, is_open, below_more}
+use Rattle.thread_runs.specs.Owned.{Owns}
+use Rattle.overruns.proofs.Callees.{icalls, crosses, icrosses}
+use Rattle.relation.specs.Builds.{Build, compartment_of, func, words_at, places_at, labels_at, entry_at, half_at, site_at}
+use Rattle.relation.specs.Relation.{word_of, block_of}
+use Rattle.relation.specs.Cases.{LiesFirst, standing}
+use Rattle.source_steps.specs.Serving.{Serves, CaseServes}
+use Rattle.relation.proofs.Blocks.{top_least, below_more}
 use Rattle.source_steps.proofs.Premises.{Premises}
 use Rattle.source_steps.proofs.Standing.{entry_is, entry_low, entry_four, behind_is, half_is}
 use Rattle.source_steps.proofs.Steps.{Here as HereStands}
 use Rattle.source_steps.proofs.Registers.{register_word, owned_by}
-use Rattle.source_steps.proofs.Calls.{params_there, all_below, callee_frame, called_step, crossed_step, callee_fits, here_pc, begins_at, call_inside}
+use Rattle.source_steps.proofs.Calls.{params_there, all_below, callee_frame, callee_stands, LiesBelow, called_there, crossed_there, short_here, here_pc, call_inside}
 
 module _ (k : Build) (Inv : Block → Context → List ℕ → Type 0) (sizes : PlainType → ℕ) (S : ObjectSets) (w : Premises k Inv sizes S) (places : ℕ → ℕ) where
   module _ (fr : Frame) (rest : List Frame) (m : Memory) (t : State) (st : HereStands k Inv sizes S w places fr rest m t) (ff : FrameFits k.program sizes S fr) where
@@ -41,47 +41,24 @@ module _ (k : Build) (Inv : Block → Context → List ℕ → Type 0) (sizes : 
     pc0 = here_pc k Inv sizes S w places fr rest m t st ff
 
     abbrev Entered : (h : ℕ) (args : List ℕ) → Type 0
-    Entered h args = Follows k Inv places t (Running (new_frame h args ∷ fr ∷ rest) (record m { made = suc m.made })) []
+    Entered h args = Serves k Inv places (wheres (fr ∷ rest)) t (Running (new_frame h args ∷ fr ∷ rest) (record m { made = suc m.made })) []
 
     arguments_below : (ts : PlainTypes) (args : List ℕ) → ((j : ℕ) → j < length args → Has (func k fr.func) (get_or args j 0) (in_row ts j)) → AllBelow (length (func k fr.func).regs) args
     arguments_below ts args each = all_below (func k fr.func) ts args 0 (λ j l. let z : j ≡ 0 + j = omega arith in subst (λ (n : ℕ). Has (func k fr.func) (get_or args j 0) (in_row ts n)) z (each j l))
 
-    -- where the frames of a crossing call lie
-    record Across (h number : ℕ) (args : List ℕ) : Type 0 where
-      ends : places m.made + 4 * words_at k h + 4 ≡ (k.setting.stack + (places fr.number - 32 - k.setting.stack) / k.setting.eighth * k.setting.eighth)
-      some : k.setting.stack < (k.setting.stack + (places fr.number - 32 - k.setting.stack) / k.setting.eighth * k.setting.eighth)
-      under : (k.setting.stack + (places fr.number - 32 - k.setting.stack) / k.setting.eighth * k.setting.eighth) ≤ places fr.number - 32
-      loans : length (block_of k places (wheres (fr ∷ rest))).loans + length (lends_at k h) ≤ 32
-      reach : base k.setting + places fr.number + 4 * words_at k fr.func ≤ (block_of k places (wheres (fr ∷ rest))).top
-
-    lies_across : (h number : ℕ) (args : List ℕ) → site_at k fr.func fr.block fr.place ≡ Some number → HasPlace k places (where_of (new_frame h args)) (wheres (fr ∷ rest)) → Across h number args
-    lies_across h number args site fit =
-        let top : ℕ = k.setting.stack + (places fr.number - 32 - k.setting.stack) / k.setting.eighth * k.setting.eighth in
-        let bl : Block = block_of k places (wheres (fr ∷ rest)) in
-        let dm = div-mul-le_self (places fr.number - 32 - k.setting.stack) k.setting.eighth in
-        let rm = st.fits.0.room in
-        let tl = top_least k places (where_of fr) (wheres rest) st.fits in
-        let en = st.fits.0.ends in
-        let m1 : Block = entered bl (compartment_of k h) (base k.setting + top) (base k.setting + places fr.number - 32) in
-        let lo : length (all_lent k.setting (places m.made) m1 (lends_at k h)).loans ≤ 32 = subst (λ (x : Option ℕ). length (all_lent k.setting (places m.made) (beneath k places x h (wheres (fr ∷ rest)) bl) (lends_at k h)).loans ≤ 32) site fit.loans in
-        let ll = (all_lent_is k.setting (places m.made) m1 (lends_at k h)).loans in
-        record {
-          ends = subst (λ (x : Option ℕ). places m.made + 4 * words_at k h + 4 ≡ ceiling_by k places x (wheres (fr ∷ rest))) site fit.ends;
-          some = subst (λ (x : Option ℕ). k.setting.stack < ceiling_by k places x (wheres (fr ∷ rest))) site fit.some;
-          under = omega arith;
-          loans = omega arith;
-          reach = omega arith;
-        }
+    abbrev LiesHere : (h : ℕ) → Type 0
+    LiesHere h = LiesBelow k Inv sizes S w places fr rest m t st ff h
 
     call_across : (to : Option ℕ) (h number : ℕ) (args : List ℕ) → here k.program fr.func fr.block fr.place ≡ Does (Call to h args) → h < length k.program.funcs → CallTyped (func k fr.func) to args (func k h).params (func k h).outcome → site_at k fr.func fr.block fr.place ≡ Some number →
-        HasPlace k places (where_of (new_frame h args)) (wheres (fr ∷ rest)) → Entered h args
-    call_across to h number args e there ty site fit =
+        LiesHere h → Entered h args
+    call_across to h number args e there ty site lies =
         let f : ℕ = fr.func in
         let oc : ℕ = places fr.number in
-        let o : ℕ = places m.made in
         let bl : Block = block_of k places (wheres (fr ∷ rest)) in
-        let top : ℕ = k.setting.stack + (oc - 32 - k.setting.stack) / k.setting.eighth * k.setting.eighth in
-        let ac = lies_across h number args site fit in
+        let f0 = st.fits.0 in
+        let tl = top_least k places (where_of fr) (wheres rest) st.fits in
+        let en = f0.ends in
+        let rm = f0.room in
         let rg = (w.facts.shapes f).registers in
         let b = arguments_below (func k h).params args ty.arguments in
         let pt = params_there (func k h) (w.typed.funcs h).params in
@@ -96,11 +73,13 @@ module _ (k : Build) (Inv : Block → Context → List ℕ → Type 0) (sizes : 
         let hf = half_is k w.facts.rules w.laws w.linked.code f fr.block fr.place (omega arith) in
         let at_half : half_at k f fr.block fr.place ≡ pc0 + (8 + 2 * length args) + 2 = omega arith in
         let hit1 = subst (λ (y : ℕ). k.setting.has_target number y (entry_address (places_at k f) h) (compartment_of k h) ≡ true) at_half (subst (λ (y : ℕ). k.setting.has_target number (half_at k f fr.block fr.place) y (compartment_of k h) ≡ true) (sym ei) hit) in
-        let fits = callee_fits k Inv sizes S w places fr rest m t st ff h o top (entry_address (places_at k f) h) (compartment_of k h) (length bl.loans) args there (sym ei) refl cn ty.few fit.aligned fit.room ac.ends ac.loans in
-        let own = subst (λ (x : Option ℕ). Owns k.setting bl.current (labels_at k f) pc0 (inst_items (func k f) (places_at k f) pc0 x (Call to h args))) site (owned_by k Inv sizes S w places fr rest st.fits.0 (Call to h args) ff e) in
-        let c = crosses k.setting Inv w.law w.facts.rules w.laws (func k f) (places_at k f) (labels_at k f) (func k h) (places_at k h) (labels_at k h) bl st.context st.low oc (words_at k f) o (words_at k h) st.lr pc0 number (compartment_of k h) top st.flags to h args st.ram m.queues
-        st.invariant st.state_fits (is_open k places (where_of fr) (wheres rest) st.fits) ac.reach (below_more k places w.facts _ _ args rg b) (omega arith) (omega arith) own hit1 ac.some refl ac.under fits in
-        crossed_step k Inv sizes S w places fr rest m t st ff h args number _ _ top site (omega arith) (begins_at k Inv sizes S w places fr rest m t st ff h (entry_address (places_at k f) h) (sym ei)) b few refl fit c
+        let stands = callee_stands k Inv sizes S w places fr rest m t st ff h (entry_address (places_at k f) h) (compartment_of k h) args there (sym ei) refl cn ty.few in
+        let own = subst (λ (x : Option ℕ). Owns k.setting bl.current (labels_at k f) pc0 (inst_items (func k f) (places_at k f) pc0 x (Call to h args))) site (owned_by k Inv sizes S w places fr rest f0 (Call to h args) ff e) in
+        ⊎_elim
+        (λ c. inl (crossed_there k Inv sizes S w places fr rest m t st ff h number args (entry_address (places_at k f) h) (pc0 + (8 + 2 * length args) + 4) site lies (omega arith) (sym ei) b few c))
+        (λ c. inr (short_here k Inv sizes S w places fr rest m t st ff h args (Some number) site c))
+        (crosses k.setting Inv w.law w.facts.rules w.laws (func k f) (places_at k f) (labels_at k f) (func k h) (places_at k h) (labels_at k h) bl st.context st.low oc (words_at k f) (words_at k h) st.lr pc0 number (compartment_of k h) st.flags to h args st.ram m.queues
+        st.invariant st.state_fits f0.aligned rm (omega arith) (omega arith) (below_more k places w.facts _ _ args rg b) (omega arith) (omega arith) own hit1 stands f0.loans)
 
     -- ---- through a register
 
@@ -125,17 +104,15 @@ module _ (k : Build) (Inv : Block → Context → List ℕ → Type 0) (sizes : 
         }
 
     icall_inside : (to : Option ℕ) (r h : ℕ) (args : List ℕ) → here k.program fr.func fr.block fr.place ≡ Does (ICall to r args) → (ty : ICallTyped (func k fr.func) to r args) → register fr r ≡ Code h → site_at k fr.func fr.block fr.place ≡ None →
-        HasPlace k places (where_of (new_frame h args)) (wheres (fr ∷ rest)) → Entered h args
-    icall_inside to r h args e ty is site fit =
+        LiesHere h → Entered h args
+    icall_inside to r h args e ty is site lies =
         let f : ℕ = fr.func in
         let oc : ℕ = places fr.number in
-        let o : ℕ = places m.made in
         let bl : Block = block_of k places (wheres (fr ∷ rest)) in
         let f0 = st.fits.0 in
         let tl = top_least k places (where_of fr) (wheres rest) st.fits in
         let en = f0.ends in
         let rm = f0.room in
-        let ac = f0.aligned in
         let tg = target to r h args e ty is in
         let rg = (w.facts.shapes f).registers in
         let b = arguments_below ty.params args ty.call.arguments in
@@ -145,26 +122,27 @@ module _ (k : Build) (Inv : Block → Context → List ℕ → Type 0) (sizes : 
         let few : length args ≤ length (func k h).regs = omega arith in
         let e4 = entry_four k w.facts.rules w.laws w.linked.code h in
         let same = w.inside k.program S k.needs.closed k.needs k.groups f fr.block fr.place h w.needs tg.calls site in
-        let ends : o + 4 * words_at k h + 4 ≡ oc = subst (λ (x : Option ℕ). o + 4 * words_at k h + 4 ≡ ceiling_by k places x (wheres (fr ∷ rest))) site fit.ends in
-        let lo : length (all_lent k.setting o bl (lends_at k h)).loans ≤ 32 = subst (λ (x : Option ℕ). length (all_lent k.setting o (beneath k places x h (wheres (fr ∷ rest)) bl) (lends_at k h)).loans ≤ 32) site fit.loans in
-        let ll = (all_lent_is k.setting o bl (lends_at k h)).loans in
-        let fits = callee_fits k Inv sizes S w places fr rest m t st ff h o oc (entry_at k h) bl.current (length bl.loans) args tg.there refl (f0.current ∙ sym same) cn ty.call.few fit.aligned fit.room ends (omega arith) in
+        let cur : bl.current ≡ compartment_of k h = f0.current ∙ sym same in
+        let stands = callee_stands k Inv sizes S w places fr rest m t st ff h (entry_at k h) bl.current args tg.there refl cur cn ty.call.few in
         let own = subst (λ (x : Option ℕ). Owns k.setting bl.current (labels_at k f) pc0 (inst_items (func k f) (places_at k f) pc0 x (ICall to r args))) site (owned_by k Inv sizes S w places fr rest f0 (ICall to r args) ff e) in
-        let c = icalls k.setting Inv w.law w.facts.rules w.laws (func k f) (places_at k f) (labels_at k f) (func k h) (places_at k h) (labels_at k h) bl st.context st.low oc (words_at k f) o (words_at k h) st.lr pc0 (entry_at k h) st.flags to r args st.ram m.queues
-        st.invariant st.state_fits (omega arith) (omega arith) (omega arith) (omega arith) (omega arith) (below_more k places w.facts _ _ args rg b) tg.word (omega arith) own fits in
         let bh = behind_is k w.facts.rules w.laws w.linked.code f fr.block fr.place (Does (ICall to r args)) ff.func e in
         let rs : icall_size (is_some (site_at k f fr.block fr.place)) args ≡ icall_size false args = ap (λ (x : Option ℕ). icall_size (is_some x) args) site in
-        called_step k Inv sizes S w places fr rest m t st ff h args _ _ site (omega arith) (begins_at k Inv sizes S w places fr rest m t st ff h (entry_at k h) refl) b few fit c
+        ⊎_elim
+        (λ c. inl (called_there k Inv sizes S w places fr rest m t st ff h args (entry_at k h) (pc0 + icall_size false args + 1) site lies (omega arith) refl b few cur c))
+        (λ c. inr (short_here k Inv sizes S w places fr rest m t st ff h args None site c))
+        (icalls k.setting Inv w.law w.facts.rules w.laws (func k f) (places_at k f) (labels_at k f) (func k h) (places_at k h) (labels_at k h) bl st.context st.low oc (words_at k f) (words_at k h) st.lr pc0 (entry_at k h) st.flags to r args st.ram m.queues
+        st.invariant st.state_fits f0.aligned rm (omega arith) (omega arith) (omega arith) (below_more k places w.facts _ _ args rg b) tg.word (omega arith) own stands f0.loans)
 
     icall_across : (to : Option ℕ) (r h number : ℕ) (args : List ℕ) → here k.program fr.func fr.block fr.place ≡ Does (ICall to r args) → (ty : ICallTyped (func k fr.func) to r args) → register fr r ≡ Code h → site_at k fr.func fr.block fr.place ≡ Some number →
-        HasPlace k places (where_of (new_frame h args)) (wheres (fr ∷ rest)) → Entered h args
-    icall_across to r h number args e ty is site fit =
+        LiesHere h → Entered h args
+    icall_across to r h number args e ty is site lies =
         let f : ℕ = fr.func in
         let oc : ℕ = places fr.number in
-        let o : ℕ = places m.made in
         let bl : Block = block_of k places (wheres (fr ∷ rest)) in
-        let top : ℕ = k.setting.stack + (oc - 32 - k.setting.stack) / k.setting.eighth * k.setting.eighth in
-        let ac = lies_across h number args site fit in
+        let f0 = st.fits.0 in
+        let tl = top_least k places (where_of fr) (wheres rest) st.fits in
+        let en = f0.ends in
+        let rm = f0.room in
         let tg = target to r h args e ty is in
         let rg = (w.facts.shapes f).registers in
         let b = arguments_below ty.params args ty.call.arguments in
@@ -179,36 +157,38 @@ module _ (k : Build) (Inv : Block → Context → List ℕ → Type 0) (sizes : 
         let hf = half_is k w.facts.rules w.laws w.linked.code f fr.block fr.place (omega arith) in
         let at_half : half_at k f fr.block fr.place ≡ pc0 + (4 + 2 * length args) + 2 = omega arith in
         let hit1 = subst (λ (y : ℕ). k.setting.has_target number y (entry_at k h) (compartment_of k h) ≡ true) at_half hit in
-        let fits = callee_fits k Inv sizes S w places fr rest m t st ff h o top (entry_at k h) (compartment_of k h) (length bl.loans) args tg.there refl refl cn ty.call.few fit.aligned fit.room ac.ends ac.loans in
-        let own = subst (λ (x : Option ℕ). Owns k.setting bl.current (labels_at k f) pc0 (inst_items (func k f) (places_at k f) pc0 x (ICall to r args))) site (owned_by k Inv sizes S w places fr rest st.fits.0 (ICall to r args) ff e) in
-        let c = icrosses k.setting Inv w.law w.facts.rules w.laws (func k f) (places_at k f) (labels_at k f) (func k h) (places_at k h) (labels_at k h) bl st.context st.low oc (words_at k f) o (words_at k h) st.lr pc0 (entry_at k h) number (compartment_of k h) top st.flags to r args st.ram m.queues
-        st.invariant st.state_fits (is_open k places (where_of fr) (wheres rest) st.fits) ac.reach (omega arith) (below_more k places w.facts _ _ args rg b) tg.word (omega arith) own hit1 ac.some refl ac.under fits in
-        crossed_step k Inv sizes S w places fr rest m t st ff h args number _ _ top site (omega arith) (begins_at k Inv sizes S w places fr rest m t st ff h (entry_at k h) refl) b few refl fit c
+        let stands = callee_stands k Inv sizes S w places fr rest m t st ff h (entry_at k h) (compartment_of k h) args tg.there refl refl cn ty.call.few in
+        let own = subst (λ (x : Option ℕ). Owns k.setting bl.current (labels_at k f) pc0 (inst_items (func k f) (places_at k f) pc0 x (ICall to r args))) site (owned_by k Inv sizes S w places fr rest f0 (ICall to r args) ff e) in
+        ⊎_elim
+        (λ c. inl (crossed_there k Inv sizes S w places fr rest m t st ff h number args (entry_at k h) (pc0 + (4 + 2 * length args) + 4) site lies (omega arith) refl b few c))
+        (λ c. inr (short_here k Inv sizes S w places fr rest m t st ff h args (Some number) site c))
+        (icrosses k.setting Inv w.law w.facts.rules w.laws (func k f) (places_at k f) (labels_at k f) (func k h) (places_at k h) (labels_at k h) bl st.context st.low oc (words_at k f) (words_at k h) st.lr pc0 (entry_at k h) number (compartment_of k h) st.flags to r args st.ram m.queues
+        st.invariant st.state_fits f0.aligned rm (omega arith) (omega arith) (omega arith) (below_more k places w.facts _ _ args rg b) tg.word (omega arith) own hit1 stands f0.loans)
 
     -- ---- the cases
 
-    pub call_case : (to : Option ℕ) (h : ℕ) (args : List ℕ) → InstTyped k.program sizes (func k fr.func) (Call to h args) → here k.program fr.func fr.block fr.place ≡ Does (Call to h args) → CaseFollows k Inv places fr rest m t (Does (Call to h args))
+    pub call_case : (to : Option ℕ) (h : ℕ) (args : List ℕ) → InstTyped k.program sizes (func k fr.func) (Call to h args) → here k.program fr.func fr.block fr.place ≡ Does (Call to h args) → CaseServes k Inv places fr rest m t (Does (Call to h args))
     unfolding perform act
-    call_case to h args ty e nf fit = by (site_at k fr.func fr.block fr.place) refl
+    call_case to h args ty e nf lies = by (site_at k fr.func fr.block fr.place) refl
       where
         by : (x : Option ℕ) → site_at k fr.func fr.block fr.place ≡ x → Entered h args
-        by None s = call_inside k Inv sizes S w places fr rest m t st ff to h args e ty.0 ty.1 s fit.0
-        by (Some n) s = call_across to h n args e ty.0 ty.1 s fit.0
+        by None s = call_inside k Inv sizes S w places fr rest m t st ff to h args e ty.0 ty.1 s lies
+        by (Some n) s = call_across to h n args e ty.0 ty.1 s lies
 
-    by_code : (to : Option ℕ) (r : ℕ) (args : List ℕ) → (ty : ICallTyped (func k fr.func) to r args) → here k.program fr.func fr.block fr.place ≡ Does (ICall to r args) → (x : Value) → register fr r ≡ x → CaseFollows k Inv places fr rest m t (Does (ICall to r args))
+    by_code : (to : Option ℕ) (r : ℕ) (args : List ℕ) → (ty : ICallTyped (func k fr.func) to r args) → here k.program fr.func fr.block fr.place ≡ Does (ICall to r args) → (x : Value) → register fr r ≡ x → CaseServes k Inv places fr rest m t (Does (ICall to r args))
     unfolding perform act
-    by_code to r args ty e (Number n) is = λ nf fit. absurd (nf (subst (λ (x : Value). HasFault (perform k.program k.groups.of fr rest m (with_code x (λ g. Enters g (map (register fr) args)))).to) (sym is) tt))
-    by_code to r args ty e Null is = λ nf fit. absurd (nf (subst (λ (x : Value). HasFault (perform k.program k.groups.of fr rest m (with_code x (λ g. Enters g (map (register fr) args)))).to) (sym is) tt))
-    by_code to r args ty e (At o c) is = λ nf fit. absurd (nf (subst (λ (x : Value). HasFault (perform k.program k.groups.of fr rest m (with_code x (λ g. Enters g (map (register fr) args)))).to) (sym is) tt))
+    by_code to r args ty e (Number n) is = λ nf lies. absurd (nf (subst (λ (x : Value). HasFault (perform k.program k.groups.of fr rest m (with_code x (λ g. Enters g (map (register fr) args)))).to) (sym is) tt))
+    by_code to r args ty e Null is = λ nf lies. absurd (nf (subst (λ (x : Value). HasFault (perform k.program k.groups.of fr rest m (with_code x (λ g. Enters g (map (register fr) args)))).to) (sym is) tt))
+    by_code to r args ty e (At o c) is = λ nf lies. absurd (nf (subst (λ (x : Value). HasFault (perform k.program k.groups.of fr rest m (with_code x (λ g. Enters g (map (register fr) args)))).to) (sym is) tt))
     by_code to r args ty e (Code h) is = subst (λ (x : Value).
         (HasFault (perform k.program k.groups.of fr rest m (with_code x (λ g. Enters g (map (register fr) args)))).to → ⊥)
-        → Rattle.relation.specs.Relation.AllFit k places (Rattle.relation.specs.Cases.standing k Inv places (perform k.program k.groups.of fr rest m (with_code x (λ g. Enters g (map (register fr) args)))).to)
-        → Follows k Inv places t (perform k.program k.groups.of fr rest m (with_code x (λ g. Enters g (map (register fr) args)))).to (Rattle.std.specs.Prelude.option_to_list (perform k.program k.groups.of fr rest m (with_code x (λ g. Enters g (map (register fr) args)))).event)) (sym is)
-        (λ nf fit. by (site_at k fr.func fr.block fr.place) refl fit.0)
+        → LiesFirst k Inv places (standing k Inv places (perform k.program k.groups.of fr rest m (with_code x (λ g. Enters g (map (register fr) args)))).to)
+        → Serves k Inv places (wheres (fr ∷ rest)) t (perform k.program k.groups.of fr rest m (with_code x (λ g. Enters g (map (register fr) args)))).to (option_to_list (perform k.program k.groups.of fr rest m (with_code x (λ g. Enters g (map (register fr) args)))).event)) (sym is)
+        (λ nf lies. by (site_at k fr.func fr.block fr.place) refl lies)
       where
-        by : (x : Option ℕ) → site_at k fr.func fr.block fr.place ≡ x → HasPlace k places (where_of (new_frame h args)) (wheres (fr ∷ rest)) → Entered h args
+        by : (x : Option ℕ) → site_at k fr.func fr.block fr.place ≡ x → LiesHere h → Entered h args
         by None s = icall_inside to r h args e ty is s
         by (Some n) s = icall_across to r h n args e ty is s
 
-    pub icall_case : (to : Option ℕ) (r : ℕ) (args : List ℕ) → InstTyped k.program sizes (func k fr.func) (ICall to r args) → here k.program fr.func fr.block fr.place ≡ Does (ICall to r args) → CaseFollows k Inv places fr rest m t (Does (ICall to r args))
+    pub icall_case : (to : Option ℕ) (r : ℕ) (args : List ℕ) → InstTyped k.program sizes (func k fr.func) (ICall to r args) → here k.program fr.func fr.block fr.place ≡ Does (ICall to r args) → CaseServes k Inv places fr rest m t (Does (ICall to r args))
     icall_case to r args ty e = by_code to r args ty e (register fr r) refl

@@ -1,5 +1,5 @@
 -- Calls, direct and through a register.
-use Rattle.std.proofs.Common.{◌≡◌, ℕ, zero, suc, ◌+◌, ◌-◌, ◌*◌, ◌/◌, ◌%◌, ◌^◌, ◌<◌, ◌≤◌, false, Option, Some, None, is_some, List, [], ◌∷◌, ◌++◌, length, map, get_or, refl, sym, ap, ◌∙◌, subst, arith}
+use Rattle.std.proofs.Common.{◌≡◌, ℕ, zero, suc, ◌+◌, ◌-◌, ◌*◌, ◌/◌, ◌%◌, ◌^◌, ◌<◌, ◌≤◌, false, Option, Some, None, is_some, List, [], ◌∷◌, ◌++◌, length, map, get_or, refl, sym, ap, ◌∙◌, subst, arith, inl, inr, ⊎_elim}
 use Rattle.std.proofs.Math.Nat.{div-mul-le_self}
 use Rattle.std.proofs.lemmas.List.{length-map}
 use Rattle.words.specs.Bytes.{read, cut}
@@ -27,13 +27,17 @@ use Rattle.thread_runs.specs.Owned.{Owns, all_lent}
 use Rattle.thread_runs.proofs.Areas.{has_join}
 use Rattle.thread_runs.proofs.Thread.{at_pc, fits_pc, started, has_stays}
 use Rattle.thread_runs.proofs.Entry.{Filled}
-use Rattle.thread_runs.proofs.Calls.{frame_words, Called, Crossed, CalleeFits, calls}
+use Rattle.thread_runs.proofs.Calls.{frame_words, Called, Crossed}
 use Rattle.relation.specs.Builds.{Build, compartment_of, func, words_at, lends_at, places_at, labels_at, entry_at, code_at, behind_at, site_at}
-use Rattle.relation.specs.Relation.{own, words_of, own_words, link_by, waiting_by, waiting_words, statuses_behind, first_or_zero, IsStatusBy, Wait, areas, held, ceiling_by, beneath, block_of, Fits as HasPlace}
-use Rattle.relation.specs.Cases.{Follows}
-use Rattle.relation.proofs.Frames.{safe, own_has}
+use Rattle.relation.specs.Relation.{own, words_of, own_words, link_by, waiting_by, waiting_words, statuses_behind, first_or_zero, IsStatusBy, Wait, areas, held, ceiling_by, beneath, block_of, Fits as HasPlace, IsAmple}
+use Rattle.relation.specs.Cases.{Follows, IsBeyond}
+use Rattle.source_steps.specs.Serving.{Serves}
+use Rattle.relation.proofs.Frames.{crossing_room, safe, own_has}
 use Rattle.relation.proofs.Blocks.{all_lent_is, top_least, read_cut, below_more}
-use Rattle.relation.proofs.Limits.{words_are}
+use Rattle.relation.proofs.Limits.{words_are, times_eight}
+use Rattle.overruns.specs.Entries.{EndsShort, RunsShort, LacksRoom}
+use Rattle.overruns.specs.Called.{CalleeStands, IsCalled, IsCrossed}
+use Rattle.overruns.proofs.Callees.{calls}
 use Rattle.source_steps.proofs.Premises.{Premises}
 use Rattle.source_steps.proofs.Standing.{owned_entry, entry_is, entry_low, first_code, behind_is, place_low}
 use Rattle.source_steps.proofs.Steps.{Here as HereStands, state_of, place_of_frame}
@@ -132,7 +136,7 @@ module _ (k : Build) (Inv : Block → Context → List ℕ → Type 0) (sizes : 
         let nf : Frame = callee_frame h args in
         let d = c.called in
         let e = d.goes in
-        let rm = st.fits.0.room in
+        let rm = crossing_room k places w.facts oc (subst (λ (x : Option ℕ). gs.stack < ceiling_by k places x (wheres (fr ∷ rest))) site fit.some) in
         let dm = div-mul-le_self (oc - 32 - gs.stack) gs.eighth in
         let ends : o + 4 * words_at k h + 4 ≡ gs.stack + (oc - 32 - gs.stack) / gs.eighth * gs.eighth = subst (λ (x : Option ℕ). o + 4 * words_at k h + 4 ≡ ceiling_by k places x (wheres (fr ∷ rest))) site fit.ends in
         let sf = safe k places w.facts (wheres (fr ∷ rest)) st.fits in
@@ -171,27 +175,57 @@ module _ (k : Build) (Inv : Block → Context → List ℕ → Type 0) (sizes : 
 
     -- ---- what is asked of the callee
 
-    pub callee_fits : (h o ends entry : ℕ) (compartment loans : ℕ) (args : List ℕ) → h < length k.program.funcs → entry_at k h ≡ entry → compartment ≡ compartment_of k h → length args ≡ row_length (func k h).params → length args ≤ 4 →
-        o % 8 ≡ 0 → gs.stack + 32 ≤ o → o + 4 * words_at k h + 4 ≡ ends → loans + length (lends_at k h) ≤ 32 →
-        CalleeFits gs (func k h) (places_at k h) (labels_at k h) compartment (words_at k h) o ends entry (length (frame_words (places fr.number) st.ram args)) loans
-    callee_fits h o ends entry compartment loans args there ee ec counts few ao ro en fl =
+    pub callee_stands : (h entry : ℕ) (compartment : ℕ) (args : List ℕ) → h < length k.program.funcs → entry_at k h ≡ entry → compartment ≡ compartment_of k h → length args ≡ row_length (func k h).params → length args ≤ 4 →
+        CalleeStands gs (func k h) (places_at k h) (labels_at k h) compartment (words_at k h) entry (length (frame_words (places fr.number) st.ram args))
+    callee_stands h entry compartment args there ee ec counts few =
         let n = length-map args (λ (a : ℕ). read 4 (places fr.number + 4 * a) st.ram) in
         let sh = w.facts.shapes h in
         let rg = sh.registers in
+        let ev = sh.even in
         let pt = params_there (func k h) (w.typed.funcs h).params in
         record {
           words = words_are k h;
-          aligned = ao;
-          room = ro;
-          frame_ends = en;
+          some = omega (arith, ev);
+          small = sh.few;
+          even = sh.even;
           counts = n ∙ counts;
           few = omega arith;
           fewer = omega arith;
-          small = sh.few;
           code = subst (λ (e : ℕ). Owns gs compartment (labels_at k h) e (entry_items (func k h) (places_at k h))) ee
               (subst (λ (c : ℕ). Owns gs c (labels_at k h) (entry_at k h) (entry_items (func k h) (places_at k h))) (sym ec) (owned_entry k w.facts.rules w.laws w.linked.code h there));
           lendable = sh.lendable;
-          few_loans = fl;
+        }
+
+    -- where the frame of a callee has to lie, if it fits
+    abbrev pub LiesBelow : (h : ℕ) → Type 0
+    LiesBelow h = (o : ℕ) → o + 4 * words_at k h + 4 ≡ ceiling_by k places (site_at k fr.func fr.block fr.place) (wheres (fr ∷ rest)) → gs.stack ≤ o → places m.made ≡ o
+
+    abbrev below_by : Option ℕ → (h : ℕ) → Block
+    below_by x h = beneath k places x h (wheres (fr ∷ rest)) (block_of k places (wheres (fr ∷ rest)))
+
+    below_loans : (x : Option ℕ) (h : ℕ) → length (below_by x h).loans ≡ length (block_of k places (wheres (fr ∷ rest))).loans
+    below_loans None h = refl
+    below_loans (Some s) h = refl
+
+    pub new_place : (h : ℕ) (args : List ℕ) (x : Option ℕ) (o : ℕ) → site_at k fr.func fr.block fr.place ≡ x → places m.made ≡ o → o + 4 * words_at k h + 4 ≡ ceiling_by k places x (wheres (fr ∷ rest)) → gs.stack ≤ o → o % 8 ≡ 0 →
+        (1 ≤ length (lends_at k h) → gs.stack + 32 ≤ o) → length (block_of k places (wheres (fr ∷ rest))).loans + length (lends_at k h) ≤ 32 → (below_by x h).current ≡ compartment_of k h →
+        HasPlace k places (where_of (callee_frame h args)) (wheres (fr ∷ rest))
+    new_place h args x o site is ends on al lent few current =
+        let a = all_lent_is gs (places m.made) (below_by x h) (lends_at k h) in
+        let al1 = a.loans in
+        let bl1 = below_loans x h in
+        let fl : length (all_lent gs (places m.made) (below_by x h) (lends_at k h)).loans ≤ 32 = omega arith in
+        let fc : (all_lent gs (places m.made) (below_by x h) (lends_at k h)).current ≡ compartment_of k h = a.current ∙ current in
+        let so : gs.stack < ceiling_by k places x (wheres (fr ∷ rest)) = omega arith in
+        let en : places m.made + 4 * words_at k h + 4 ≡ ceiling_by k places x (wheres (fr ∷ rest)) = omega arith in
+        record {
+          ends = subst (λ (y : Option ℕ). places m.made + 4 * words_at k h + 4 ≡ ceiling_by k places y (wheres (fr ∷ rest))) (sym site) en;
+          room = omega arith;
+          lent = λ l. let z = lent l in omega arith;
+          aligned = ap (λ (y : ℕ). y % 8) is ∙ al;
+          some = subst (λ (y : Option ℕ). gs.stack < ceiling_by k places y (wheres (fr ∷ rest))) (sym site) so;
+          loans = subst (λ (y : Option ℕ). length (all_lent gs (places m.made) (below_by y h) (lends_at k h)).loans ≤ 32) (sym site) fl;
+          current = subst (λ (y : Option ℕ). (all_lent gs (places m.made) (below_by y h) (lends_at k h)).current ≡ compartment_of k h) (sym site) fc;
         }
 
     abbrev pub here_pc : ℕ
@@ -203,18 +237,66 @@ module _ (k : Build) (Inv : Block → Context → List ℕ → Type 0) (sizes : 
 
     -- ---- the four kinds
 
+    -- the callee within the compartment, whose frame is found where it has to lie
+    pub called_there : (h : ℕ) (args : List ℕ) (entry link : ℕ) → site_at k fr.func fr.block fr.place ≡ None → LiesBelow h → link ≡ behind_at k fr.func fr.block fr.place + 1 → entry_at k h ≡ entry → AllBelow (length (func k fr.func).regs) args → length args ≤ length (func k h).regs →
+        (block_of k places (wheres (fr ∷ rest))).current ≡ compartment_of k h →
+        IsCalled gs Inv (func k h) (places_at k h) (state_of k Inv sizes S w places fr rest m t st) (block_of k places (wheres (fr ∷ rest))) (places fr.number) (words_at k h) entry (frame_words (places fr.number) st.ram args) link st.ram m.queues →
+        Follows k Inv places t (Running (callee_frame h args ∷ fr ∷ rest) (record m { made = suc m.made })) []
+    called_there h args entry link site lies eb ee b few current c =
+        let ends : c.frame + 4 * words_at k h + 4 ≡ ceiling_by k places (site_at k fr.func fr.block fr.place) (wheres (fr ∷ rest)) = subst (λ (y : Option ℕ). c.frame + 4 * words_at k h + 4 ≡ ceiling_by k places y (wheres (fr ∷ rest))) (sym site) c.frame_ends in
+        let is : places m.made ≡ c.frame = lies c.frame ends c.on_stack in
+        let ac = st.fits.0.aligned in
+        let ev = (w.facts.shapes h).even in
+        let fe = c.frame_ends in
+        let fit = new_place h args None c.frame site is c.frame_ends c.on_stack (omega arith) c.lent c.few current in
+        let moved = subst (λ (o : ℕ). Called gs Inv (state_of k Inv sizes S w places fr rest m t st) (all_lent gs o (block_of k places (wheres (fr ∷ rest))) (lends_at k h)) o (words_at k h) (entry + entry_size (func k h) (length (lends_at k h))) (places fr.number) (frame_words (places fr.number) st.ram args) link st.ram m.queues) (sym is) c.called in
+        called_step h args link (entry + entry_size (func k h) (length (lends_at k h))) site eb (begins_at h entry ee) b few fit moved
+
+    -- and across
+    pub crossed_there : (h number : ℕ) (args : List ℕ) (entry ret : ℕ) → site_at k fr.func fr.block fr.place ≡ Some number → LiesBelow h → ret ≡ behind_at k fr.func fr.block fr.place → entry_at k h ≡ entry → AllBelow (length (func k fr.func).regs) args → length args ≤ length (func k h).regs →
+        IsCrossed gs Inv (func k h) (places_at k h) (state_of k Inv sizes S w places fr rest m t st) (block_of k places (wheres (fr ∷ rest))) (places fr.number) (words_at k h) entry (compartment_of k h) (frame_words (places fr.number) st.ram args) ret st.ram m.queues →
+        Follows k Inv places t (Running (callee_frame h args ∷ fr ∷ rest) (record m { made = suc m.made })) []
+    crossed_there h number args entry ret site lies eb ee b few c =
+        let there : c.frame + 4 * words_at k h + 4 ≡ gs.stack + (places fr.number - 32 - gs.stack) / gs.eighth * gs.eighth = c.frame_ends ∙ c.top_is in
+        let ends : c.frame + 4 * words_at k h + 4 ≡ ceiling_by k places (site_at k fr.func fr.block fr.place) (wheres (fr ∷ rest)) = subst (λ (y : Option ℕ). c.frame + 4 * words_at k h + 4 ≡ ceiling_by k places y (wheres (fr ∷ rest))) (sym site) there in
+        let is : places m.made ≡ c.frame = lies c.frame ends c.on_stack in
+        let ev = (w.facts.shapes h).even in
+        let sa = w.facts.rules.stack_aligned in
+        let te = times_eight ((places fr.number - 32 - gs.stack) / gs.eighth) gs.eighth w.facts.rules.eighth_aligned in
+        let fit = new_place h args (Some number) c.frame site is there c.on_stack (omega arith) c.lent c.few refl in
+        let moved = subst (λ (o : ℕ). Crossed gs Inv (state_of k Inv sizes S w places fr rest m t st) (all_lent gs o (entered (block_of k places (wheres (fr ∷ rest))) (compartment_of k h) (base gs + c.top) (base gs + places fr.number - 32)) (lends_at k h)) o (words_at k h) (entry + entry_size (func k h) (length (lends_at k h))) (places fr.number) (frame_words (places fr.number) st.ram args) ret st.ram m.queues) (sym is) c.crossed in
+        crossed_step h args number ret (entry + entry_size (func k h) (length (lends_at k h))) c.top site eb (begins_at h entry ee) b few c.top_is fit moved
+
+    -- a callee that lacks room leads beyond the stack limit
+    pub short_here : (h : ℕ) (args : List ℕ) (x : Option ℕ) → site_at k fr.func fr.block fr.place ≡ x →
+        RunsShort gs Inv (LacksRoom gs (words_at k h) (ceiling_by k places x (wheres (fr ∷ rest))) (length (block_of k places (wheres (fr ∷ rest))).loans + length (lends_at k h))) 16384 (state_of k Inv sizes S w places fr rest m t st) →
+        RunsShort gs Inv (IsBeyond k Inv places (wheres (fr ∷ rest)) (wheres (callee_frame h args ∷ fr ∷ rest))) 16384 t
+    short_here h args x site e = record {
+      reason = λ now next. lacking next.0 e.reason;
+      ends = λ stack. subst (λ (y : State). EndsShort gs 16384 y) (sym st.is_state) (e.ends stack);
+    }
+      where
+        lacking : IsAmple k places (where_of (callee_frame h args)) (wheres (fr ∷ rest)) → LacksRoom gs (words_at k h) (ceiling_by k places x (wheres (fr ∷ rest))) (length (block_of k places (wheres (fr ∷ rest))).loans + length (lends_at k h)) → ⊥
+        lacking a (inl y) =
+            let z = subst (λ (y : Option ℕ). places m.made + 4 * words_at k h + 4 ≡ ceiling_by k places y (wheres (fr ∷ rest))) site a.ends in
+            let r = a.room in
+            omega (arith, z, r, y)
+        lacking a (inr y) =
+            let l = a.loans in
+            let q = (all_lent_is gs (places m.made) (below_by (site_at k fr.func fr.block fr.place) h) (lends_at k h)).loans in
+            let b = below_loans (site_at k fr.func fr.block fr.place) h in
+            omega (arith, l, q, b, y)
+
     pub call_inside : (to : Option ℕ) (h : ℕ) (args : List ℕ) → here k.program fr.func fr.block fr.place ≡ Does (Call to h args) → h < length k.program.funcs → CallTyped (func k fr.func) to args (func k h).params (func k h).outcome → site_at k fr.func fr.block fr.place ≡ None →
-        HasPlace k places (where_of (callee_frame h args)) (wheres (fr ∷ rest)) → Follows k Inv places t (Running (callee_frame h args ∷ fr ∷ rest) (record m { made = suc m.made })) []
-    call_inside to h args e there ty site fit =
+        LiesBelow h → Serves k Inv places (wheres (fr ∷ rest)) t (Running (callee_frame h args ∷ fr ∷ rest) (record m { made = suc m.made })) []
+    call_inside to h args e there ty site lies =
         let f : ℕ = fr.func in
         let oc : ℕ = places fr.number in
-        let o : ℕ = places m.made in
         let bl : Block = block_of k places (wheres (fr ∷ rest)) in
         let f0 = st.fits.0 in
         let tl = top_least k places (where_of fr) (wheres rest) st.fits in
         let en = f0.ends in
         let rm = f0.room in
-        let ac = f0.aligned in
         let rg = (w.facts.shapes f).registers in
         let b = all_below (func k f) (func k h).params args 0 (λ j l. let z : j ≡ 0 + j = omega arith in subst (λ (n : ℕ). Has (func k f) (get_or args j 0) (in_row (func k h).params n)) z (ty.arguments j l)) in
         let pt = params_there (func k h) (w.typed.funcs h).params in
@@ -224,13 +306,13 @@ module _ (k : Build) (Inv : Block → Context → List ℕ → Type 0) (sizes : 
         let el = entry_low k w.facts.rules w.laws w.linked.code h there st.context.protection in
         let near = place_low k w.facts.rules w.laws w.linked.code f fr.block fr.place (place_of_frame k Inv sizes S w places fr ff) st.context.protection in
         let same = w.inside k.program S k.needs.closed k.needs k.groups f fr.block fr.place h w.needs (subst (λ (y : Here). CallsAt k.program S f y h) (sym e) refl) site in
-        let ends : o + 4 * words_at k h + 4 ≡ oc = subst (λ (x : Option ℕ). o + 4 * words_at k h + 4 ≡ ceiling_by k places x (wheres (fr ∷ rest))) site fit.ends in
-        let lo : length (all_lent gs o bl (lends_at k h)).loans ≤ 32 = subst (λ (x : Option ℕ). length (all_lent gs o (beneath k places x h (wheres (fr ∷ rest)) bl) (lends_at k h)).loans ≤ 32) site fit.loans in
-        let ll = (all_lent_is gs o bl (lends_at k h)).loans in
-        let fits = callee_fits h o oc (entry_address (places_at k f) h) bl.current (length bl.loans) args there (sym ei) (f0.current ∙ sym same) cn ty.few fit.aligned fit.room ends (omega arith) in
+        let cur : bl.current ≡ compartment_of k h = f0.current ∙ sym same in
+        let stands = callee_stands h (entry_address (places_at k f) h) bl.current args there (sym ei) cur cn ty.few in
         let own = subst (λ (x : Option ℕ). Owns gs bl.current (labels_at k f) here_pc (inst_items (func k f) (places_at k f) here_pc x (Call to h args))) site (owned_by k Inv sizes S w places fr rest f0 (Call to h args) ff e) in
-        let c = calls gs Inv w.law w.facts.rules w.laws (func k f) (places_at k f) (labels_at k f) (func k h) (places_at k h) (labels_at k h) bl st.context st.low oc (words_at k f) o (words_at k h) st.lr here_pc st.flags to h args st.ram m.queues
-        st.invariant st.state_fits (omega arith) (omega arith) (omega arith) (omega arith) (below_more k places w.facts _ _ args rg b) near (omega arith) own fits in
         let bh = behind_is k w.facts.rules w.laws w.linked.code f fr.block fr.place (Does (Call to h args)) ff.func e in
         let rs : call_size (is_some (site_at k f fr.block fr.place)) args ≡ call_size false args = ap (λ (x : Option ℕ). call_size (is_some x) args) site in
-        called_step h args _ _ site (omega arith) (begins_at h (entry_address (places_at k f) h) (sym ei)) b few fit c
+        ⊎_elim
+        (λ c. inl (called_there h args (entry_address (places_at k f) h) (here_pc + call_size false args + 1) site lies (omega arith) (sym ei) b few cur c))
+        (λ c. inr (short_here h args None site c))
+        (calls gs Inv w.law w.facts.rules w.laws (func k f) (places_at k f) (labels_at k f) (func k h) (places_at k h) (labels_at k h) bl st.context st.low oc (words_at k f) (words_at k h) st.lr here_pc st.flags to h args st.ram m.queues
+        st.invariant st.state_fits f0.aligned rm (omega arith) (omega arith) (below_more k places w.facts _ _ args rg b) near (omega arith) own stands f0.loans)

@@ -1,6 +1,7 @@
 -- Loads: of globals, of windows, and of locals of any live frame.
-use Rattle.std.proofs.Common.{◌≡◌, ℕ, suc, ◌+◌, ◌*◌, ◌%◌, ◌^◌, ◌<◌, ◌≤◌, Bool, true, false, if◌then◌else◌, nat_eq, nat_le, Option, Some, None, is_some, List, [], ◌∷◌, length, get_or, set, refl, sym, ap, ◌∙◌, subst, arith}
+use Rattle.std.proofs.Common.{◌≡◌, ℕ, suc, ◌+◌, ◌*◌, ◌%◌, ◌^◌, ◌<◌, ◌≤◌, Bool, true, false, if◌then◌else◌, nat_eq, nat_le, Option, Some, None, is_some, List, [], ◌∷◌, length, get_or, set, refl, sym, ap, ◌∙◌, subst, arith, inl, inr, ⊎_elim}
 use Rattle.std.specs.Prelude.{option_to_list}
+use Rattle.std.proofs.lemmas.Bool.{cases_lt}
 use Rattle.std.proofs.lemmas.Bool.Decides.{nat_tests}
 use Rattle.std.proofs.lemmas.List.{get_or-map, length-map}
 use Rattle.words.specs.Bytes.{read, write, cut}
@@ -49,10 +50,15 @@ use Rattle.thread_runs.proofs.Areas.{loaded_spot}
 use Rattle.thread_runs.proofs.Thread.{started, fits_after, at_pc, fits_pc, has_stays}
 use Rattle.relation.specs.Builds.{Build, compartment_of, func, words_at, starts_at, places_at, labels_at, code_at, site_at, global_starts}
 use Rattle.relation.specs.Relation.{word_of, address_of, areas, held, block_of, AllWhole, global_areas}
-use Rattle.relation.specs.Cases.{Follows, CaseFollows}
+use Rattle.relation.specs.Cases.{Follows}
+use Rattle.source_steps.specs.Serving.{Serves, CaseServes}
 use Rattle.relation.proofs.Frames.{safe}
 use Rattle.relation.proofs.Blocks.{is_open}
 use Rattle.relation.proofs.Locals.{is_it, local_spot, global_spot}
+use Rattle.overruns.specs.Guard.{StackLaw}
+use Rattle.overruns.specs.Entries.{EndsShort}
+use Rattle.overruns.proofs.Stops.{load_ends}
+use Rattle.overruns.proofs.Lends.{later, sooner}
 use Rattle.source_steps.proofs.Premises.{Premises}
 use Rattle.source_steps.proofs.Standing.{next_code}
 use Rattle.source_steps.proofs.Steps.{frame_room, keeps_on, Here as HereStands, point_of, state_of, whole}
@@ -86,7 +92,7 @@ module _ (k : Build) (Inv : Block → Context → List ℕ → Type 0) (sizes : 
   module _ (fr : Frame) (rest : List Frame) (m : Memory) (t : State) (st : HereStands k Inv sizes S w places fr rest m t) (sf : StateFits k.program sizes S (Running (fr ∷ rest) m)) where
     -- what one turn of the source comes to
     abbrev pub TurnFollows : SourceTurn → Type 0
-    TurnFollows u = (HasFault u.to → ⊥) → Follows k Inv places t u.to (option_to_list u.event)
+    TurnFollows u = (HasFault u.to → ⊥) → Serves k Inv places (wheres (fr ∷ rest)) t u.to (option_to_list u.event)
 
     abbrev pub block : Block
     block = block_of k places (wheres (fr ∷ rest))
@@ -140,10 +146,10 @@ module _ (k : Build) (Inv : Block → Context → List ℕ → Type 0) (sizes : 
           (ap (λ (z : ℕ). cut 4 z) (cell_read a v us new X ct wid wt fits sp))
 
       -- on a closed board, by a loan
-      by_loan : (o : Instance) (c : ℕ) (a : Area) (v new : Value) (us : List ℕ) (X : Object → Bool) (ct : PlainType) → register fr from ≡ At o c → address_of k places o + c ≡ base k.setting + a.at → a.width ≡ width_of ty → width_of ct ≡ width_of ty → (base k.setting + a.at) % width_of ty ≡ 0 →
+      by_loan : k.setting.stack + 32 ≤ places fr.number → (o : Instance) (c : ℕ) (a : Area) (v new : Value) (us : List ℕ) (X : Object → Bool) (ct : PlainType) → register fr from ≡ At o c → address_of k places o + c ≡ base k.setting + a.at → a.width ≡ width_of ty → width_of ct ≡ width_of ty → (base k.setting + a.at) % width_of ty ≡ 0 →
           IsLentTo k.setting (k.setting.has_read_loan block.current) block (base k.setting + a.at) (width_of ty) → Fits k.program sizes X ct v → Spot (areas k places (wheres (fr ∷ rest))) (held k places st.statuses (fr ∷ rest) m.globals) a (word_of k places v) (word_of k places new) us →
           Follows k Inv places t (Running (onward (with_register fr to v) ∷ rest) m) []
-      by_loan o c a v new us X ct points addr wid wt al lent fits sp =
+      by_loan room o c a v new us X ct points addr wid wt al lent fits sp =
           let ws = positive_width ty in
           let oc : ℕ = places fr.number in
           let pl = placed_area k Inv sizes S w places fr rest m t st a sp.index (omega arith) sp.is_at in
@@ -160,10 +166,10 @@ module _ (k : Build) (Inv : Block → Context → List ℕ → Type 0) (sizes : 
           let stands = (w.laws.loads (owner k.setting block.current) k.setting.image (func k fr.func) (places_at k fr.func) (labels_at k fr.func) site p oc (words_at k fr.func)).access to from pc ty (own.stands st.context.protection) in
           let wd = w.laws.widths.loads ty in
           let lies = subst (λ (z : Instr). Lies k.setting.image (pc + 2) z) wd.1 stands.lies in
-          let off = subst (λ (z : ℕ). OffFrame k.setting oc a.at z) wid pl.off_frame in
+          let off = subst (λ (z : ℕ). OffFrame k.setting oc a.at z) wid (pl.off_frame room) in
           let r1 : get_or b.low 1 0 ≡ base k.setting + a.at = b.holds.each 1 (slot oc p from) refl ∙ pa in
           let x = w.law.reach.loads block st.context b.low oc st.lr (pc + 2) b.flags st.ram m.queues wd.0 (width_of ty) (base k.setting + a.at) a.at wd.2
-          (record { invariant = st.invariant; room = is_open k places (where_of fr) (wheres rest) st.fits; fits = ft; lies = lies; owned = own_code (owner k.setting block.current) k.setting.image st.context.protection (pc + 2) (load_at ty) stands })
+          (record { invariant = st.invariant; room = is_open k places (where_of fr) (wheres rest) st.fits room; fits = ft; lies = lies; owned = own_code (owner k.setting block.current) k.setting.image st.context.protection (pc + 2) (load_at ty) stands })
           r1 al pl.in_ram_at off lent in
           let h = x.0 in
           let q : Point = record { context = h.context; registers = []; sp = base k.setting + oc; lr = h.lr; pc = pc; ram = h.memory; queues = m.queues } in
@@ -180,6 +186,40 @@ module _ (k : Build) (Inv : Block → Context → List ℕ → Type 0) (sizes : 
           let h1 = has_stays k.setting oc st.ram h.memory (areas k places (wheres (fr ∷ rest))) (held k places st.statuses (fr ∷ rest) m.globals) h.stays sa.each st.has in
           keeps_on k Inv sizes S w places fr rest m st.statuses t to (get_or h.low 0 0) (1 + (h.count + 1)) v h.context d.low h.lr _ d.flags h.memory [] (omega arith) (let z = h.within in omega arith) runs ft2 next h.invariant h1 st.threads st.fits
           (whole k Inv sizes S w places fr sf.0.0) typed.held.there (ap (λ (z : ℕ). cut 4 z) (x.1 ∙ cell_read a v us new X ct wid wt fits sp))
+
+      -- with less room than an exception needs, where the stack is guarded, a load that is refused ends the machine
+      refused : StackLaw k.setting Inv → places fr.number < k.setting.stack + 32 → (o : Instance) (c : ℕ) (a : Area) (v new : Value) (us : List ℕ) (X : Object → Bool) (ct : PlainType) → register fr from ≡ At o c → address_of k places o + c ≡ base k.setting + a.at → a.width ≡ width_of ty → width_of ct ≡ width_of ty → (base k.setting + a.at) % width_of ty ≡ 0 →
+          by_mpu st.context.protection Read (base k.setting + a.at) ≡ false → Spot (areas k places (wheres (fr ∷ rest))) (held k places st.statuses (fr ∷ rest) m.globals) a (word_of k places v) (word_of k places new) us → EndsShort k.setting 16384 t
+      refused stack less o c a v new us X ct points addr wid wt al nope sp =
+          let ws = positive_width ty in
+          let oc : ℕ = places fr.number in
+          let pl = placed_area k Inv sizes S w places fr rest m t st a sp.index (omega arith) sp.is_at in
+          let lw = pl.low in
+          let pa = address o c (base k.setting + a.at) points addr (omega arith) in
+          let rg = (w.facts.shapes fr.func).registers in
+          let lt = typed.held.there in
+          let lf = typed.from.there in
+          let effects = w.laws.loads by_mpu k.setting.image (func k fr.func) (places_at k fr.func) (labels_at k fr.func) site p oc (words_at k fr.func) in
+          let b = (effects.before to from ty (frame_room k Inv sizes S w places fr rest st.context st.ram st.fits st.invariant) (omega arith) (runs_of st.context st.ram st.invariant)).arrives st.low st.flags (holds_nothing st.low st.state_fits.core.low_count) in
+          let pc : ℕ = code_at k fr.func fr.block fr.place in
+          let stands = effects.access to from pc ty (runs_of st.context st.ram st.invariant) in
+          let wd = w.laws.widths.loads ty in
+          let st1 = subst (λ (z : Instr). CodeStands by_mpu k.setting.image st.context.protection (pc + 2) z) wd.1 stands in
+          let r1 : get_or b.low 1 0 ≡ base k.setting + a.at = b.holds.each 1 (slot oc p from) refl ∙ pa in
+          let f0 = st.fits.0 in
+          let q = load_ends k.setting Inv w.law w.facts.rules stack block st.context b.low oc st.lr (pc + 2) wd.0 (width_of ty) (base k.setting + a.at) b.flags st.ram m.queues st.invariant f0.aligned f0.room less wd.2 r1 al (omega arith) nope st1 in
+          let r0 = started k.setting 1 t _ _ [] st.is_state b.runs in
+          sooner k.setting (1 + 1) 16384 t (omega arith) (later k.setting 1 1 t _ r0 q)
+
+      loan_or_end : (o : Instance) (c : ℕ) (a : Area) (v new : Value) (us : List ℕ) (X : Object → Bool) (ct : PlainType) → register fr from ≡ At o c → address_of k places o + c ≡ base k.setting + a.at → a.width ≡ width_of ty → width_of ct ≡ width_of ty → (base k.setting + a.at) % width_of ty ≡ 0 →
+          IsLentTo k.setting (k.setting.has_read_loan block.current) block (base k.setting + a.at) (width_of ty) → Fits k.program sizes X ct v → Spot (areas k places (wheres (fr ∷ rest))) (held k places st.statuses (fr ∷ rest) m.globals) a (word_of k places v) (word_of k places new) us →
+          Serves k Inv places (wheres (fr ∷ rest)) t (Running (onward (with_register fr to v) ∷ rest) m) []
+      loan_or_end o c a v new us X ct points addr wid wt al lent fits sp =
+          ⊎_elim (λ less. by less (by_mpu st.context.protection Read (base k.setting + a.at)) refl) (λ room. inl (by_loan room o c a v new us X ct points addr wid wt al lent fits sp)) (cases_lt (places fr.number) (k.setting.stack + 32))
+        where
+          by : places fr.number < k.setting.stack + 32 → (b : Bool) → by_mpu st.context.protection Read (base k.setting + a.at) ≡ b → Serves k Inv places (wheres (fr ∷ rest)) t (Running (onward (with_register fr to v) ∷ rest) m) []
+          by less true z = inl (direct o c a v new us X ct points addr wid wt al z fits sp)
+          by less false z = inr (record { reason = λ now next. let r = now.0.room in omega (arith, less, r); ends = λ stack. refused stack less o c a v new us X ct points addr wid wt al z sp })
 
       -- ---- globals
 
@@ -212,7 +252,7 @@ module _ (k : Build) (Inv : Block → Context → List ℕ → Type 0) (sizes : 
               subst (λ (z : ℕ). (base k.setting + a.at) % z ≡ 0) f.width (each_at (λ (d : Area). (base k.setting + d.at) % d.width ≡ 0) (global_areas k) sg.index a w.linked.globals.aligned sg.is_at) in
               let sp = global_spot k places w.facts (fr ∷ rest) st.statuses m.globals x j (Number 0) (cell_in cs j) count (w.contents.globals k.program sizes S m sf.1) (all_whole k Inv sizes S w places (fr ∷ rest) sf.0) (omega arith)
               (subst (λ (z : List CellPlace). j < length z) (sym cells_are) f.below) (ap (λ (z : List CellPlace). cell_in z j) cells_are) in
-              direct (OfGlobal x) c a v (Number 0) _ _ (cell_in cs j).ty points (omega arith) f.width f.width al2 (w.law.permits.loads _ _ _ (base k.setting + a.at) st.invariant may2) ((sf.1.globals x).each j) sp
+              inl (direct (OfGlobal x) c a v (Number 0) _ _ (cell_in cs j).ty points (omega arith) f.width f.width al2 (w.law.permits.loads _ _ _ (base k.setting + a.at) st.invariant may2) ((sf.1.globals x).each j) sp)
 
       -- ---- windows
 
@@ -243,7 +283,7 @@ module _ (k : Build) (Inv : Block → Context → List ℕ → Type 0) (sizes : 
               let r = rg in
               let l = ((w.laws.loads by_mpu k.setting.image (func k fr.func) (places_at k fr.func) (labels_at k fr.func) site p (places fr.number) (words_at k fr.func)).nothing to from q c ty
               (frame_room k Inv sizes S w places fr rest st.context st.ram st.fits st.invariant) (omega arith) (runs_of st.context st.ram st.invariant) (reached al ins) eq).reaches st.low st.flags (holds_nothing st.low st.state_fits.core.low_count) in
-              record { steps = 2; least = omega arith; within = omega arith; to = l.last; runs = started k.setting 2 t _ _ [] st.is_state l.runs; related = l.over }
+              inl (record { steps = 2; least = omega arith; within = omega arith; to = l.last; runs = started k.setting 2 t _ _ [] st.is_state l.runs; related = l.over })
           take al ins (u ∷ us) eq nf =
               let lf = typed.from.there in
               let lt = typed.held.there in
@@ -258,8 +298,8 @@ module _ (k : Build) (Inv : Block → Context → List ℕ → Type 0) (sizes : 
               let end : State = works st.context d.low (base k.setting + places fr.number) st.lr pc d.flags (write 4 (places fr.number + 4 * to) (cut (width_of ty) u) st.ram) (set m.queues q us) in
               let r0 = started k.setting 3 t (state_of k Inv sizes S w places fr rest m t st) end (input_event k.setting.image st.ram q c (width_of ty) u ∷ []) st.is_state d.runs in
               let ft = fits_after k.setting Inv w.law w.facts.rules w.laws 3 (state_of k Inv sizes S w places fr rest m t st) end (input_event k.setting.image st.ram q c (width_of ty) u ∷ []) st.state_fits d.runs in
-              keeps_on k Inv sizes S w places fr rest (record m { queues = set m.queues q us }) st.statuses t to (cut (width_of ty) u) 3 (Number (cut (width_of ty) u)) st.context d.low st.lr pc d.flags st.ram (told ∷ []) (omega arith) (omega arith)
-              (subst (λ (z : Event). Runs by_mpu k.setting.image 3 t end (z ∷ [])) ev r0) ft next st.invariant st.has st.threads st.fits (whole k Inv sizes S w places fr sf.0.0) typed.held.there refl
+              inl (keeps_on k Inv sizes S w places fr rest (record m { queues = set m.queues q us }) st.statuses t to (cut (width_of ty) u) 3 (Number (cut (width_of ty) u)) st.context d.low st.lr pc d.flags st.ram (told ∷ []) (omega arith) (omega arith)
+              (subst (λ (z : Event). Runs by_mpu k.setting.image 3 t end (z ∷ [])) ev r0) ft next st.invariant st.has st.threads st.fits (whole k Inv sizes S w places fr sf.0.0) typed.held.there refl)
 
           by : (a b d : Bool) → is_integer ty ≡ a → nat_eq (c % width_of ty) 0 ≡ b → nat_le (c + width_of ty) (window_at k.program q).size ≡ d → TurnFollows (load_port k.groups.of fr rest m to q c ty (has_port k.program q c ty))
           by true true true x z u = rw (x, z, u) (take (grind (arith, nat_tests)) (grind (arith, nat_tests)) (get_or m.queues q []) refl)
@@ -276,7 +316,7 @@ module _ (k : Build) (Inv : Block → Context → List ℕ → Type 0) (sizes : 
       local_load f n l c hl points = by_frame (frame_in (fr ∷ rest) f n) refl
         where
           reads_at : (h : Frame) (j : ℕ) → frame_in (fr ∷ rest) f n ≡ Some h → Found (cells_of_local k.program f l) (local_at k.program f l).size c j ty →
-              Follows k Inv places t (Running (onward (with_register fr to (get_or (get_or h.locals l []) j (Number 0))) ∷ rest) m) []
+              Serves k Inv places (wheres (fr ∷ rest)) t (Running (onward (with_register fr to (get_or (get_or h.locals l []) j (Number 0))) ∷ rest) m) []
           reads_at h j live fo = by closed refl (lend_number k.needs k.groups f l) refl
             where
               ff : FrameFits k.program sizes S h × (h.func ≡ f)
@@ -303,19 +343,19 @@ module _ (k : Build) (Inv : Block → Context → List ℕ → Type 0) (sizes : 
               reads : by_mpu st.context.protection Read (base k.setting + a.at) ≡ true → Follows k Inv places t (Running (onward (with_register fr to v) ∷ rest) m) []
               reads ok = direct (OfLocal f n l) c a v (Number 0) _ (S (Content (LocalObject f l))) (cell_in (cells_of_local k.program f l) j).ty points lies.address fo.width fo.width lies.aligned ok fits sp
 
-              by : (b : Bool) → closed ≡ b → (x : Option ℕ) → lend_number k.needs k.groups f l ≡ x → Follows k Inv places t (Running (onward (with_register fr to v) ∷ rest) m) []
+              by : (b : Bool) → closed ≡ b → (x : Option ℕ) → lend_number k.needs k.groups f l ≡ x → Serves k Inv places (wheres (fr ∷ rest)) t (Running (onward (with_register fr to v) ∷ rest) m) []
               by false q x z =
                   let ts = lies.to_stack in
                   let rf = w.facts.rules.fits in
-                  reads (w.law.permits.loads _ _ _ (base k.setting + a.at) st.invariant (w.linked.loans.open_loads q block.current a.at (omega arith)))
+                  inl (reads (w.law.permits.loads _ _ _ (base k.setting + a.at) st.invariant (w.linked.loans.open_loads q block.current a.at (omega arith))))
               by true q (Some number) z =
                   let mask = ap (λ (y : ℕ). k.setting.has_read_loan y number) st.fits.0.current ∙ w.linked.loans.loads q fr.func f l number sf.0.0.func listed.0 z in
-                  by_loan (OfLocal f n l) c a v (Number 0) _ (S (Content (LocalObject f l))) (cell_in (cells_of_local k.program f l) j).ty points lies.address fo.width fo.width lies.aligned
+                  loan_or_end (OfLocal f n l) c a v (Number 0) _ (S (Content (LocalObject f l))) (cell_in (cells_of_local k.program f l) j).ty points lies.address fo.width fo.width lies.aligned
                   (lent_cell k Inv sizes S w places fr rest m t st (k.setting.has_read_loan block.current) f n l c j number ty h live (subst (λ (y : ℕ). y < length k.program.funcs) ff.1 ff.0.func) hl fo z mask) fits sp
               by true q None z =
                   let o = open_cell k Inv sizes S w places fr rest m t st f n l c j ty h live hl fo z
                   (λ no_lend. (w.own k.program sizes S k.needs.closed k.needs w.needs).loads fr rest f n l h (w.linked.kind ∙ q) sf.0 hl no_lend ((w.accesses k.program sizes S).loads fr to from ty (OfLocal f n l) c sf.0.0 typed e points) live) in
-                  reads (w.law.permits.reads_stack _ _ _ a.at st.invariant o.0 o.1)
+                  inl (reads (w.law.permits.reads_stack _ _ _ a.at st.invariant o.0 o.1))
 
           by_cell : (h : Frame) → frame_in (fr ∷ rest) f n ≡ Some h → (r : Option ℕ) → cell_at (cells_of_local k.program f l) c ty ≡ r → TurnFollows (load_cell fr rest m to (LocalObject f l) (get_or h.locals l []) r)
           by_cell h live None q nf = absurd (nf tt)
@@ -330,9 +370,9 @@ module _ (k : Build) (Inv : Block → Context → List ℕ → Type 0) (sizes : 
       by_instance (OfPeriph q) c h points = port_load q c h points
       by_instance (OfLocal f n l) c h points = local_load f n l c h points
 
-      pub load_case : CaseFollows k Inv places fr rest m t (Does (Load to from ty))
+      pub load_case : CaseServes k Inv places fr rest m t (Does (Load to from ty))
       unfolding perform act
-      load_case nf fit =
+      load_case nf lies =
           let q = pointer_or k Inv sizes S w places fr rest m t st sf.0.0 (register fr from) (λ o c. Loads to o c ty) (Load to from ty) refl nf in
           let pl = (w.pointers k.program sizes S fr from ty q.0 q.1 sf.0.0 typed.from q.2).placed in
           subst (λ (x : Value). TurnFollows (perform k.program k.groups.of fr rest m (with_pointer x (λ o c. Loads to o c ty)))) (sym q.2) (by_instance q.0 q.1 pl q.2) nf

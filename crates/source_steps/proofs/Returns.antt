@@ -1,6 +1,7 @@
 -- Returns: within a compartment, across, and from `main`.
-use Rattle.std.proofs.Common.{◌≡◌, ℕ, suc, ◌+◌, ◌-◌, ◌*◌, ◌/◌, ◌%◌, ◌^◌, ◌<◌, ◌≤◌, Option, Some, None, is_some, List, [], ◌∷◌, ◌++◌, length, get_or, refl, sym, ap, ◌∙◌, subst, arith}
-use Rattle.std.proofs.Math.Nat.{div-mul-le_self}
+use Rattle.std.proofs.Common.{◌≡◌, ℕ, zero, suc, ◌+◌, ◌-◌, ◌*◌, ◌/◌, ◌%◌, ◌^◌, ◌<◌, ◌≤◌, Option, Some, None, is_some, List, [], ◌∷◌, ◌++◌, length, get_or, refl, sym, ap, ◌∙◌, subst, arith, inl, inr, ⊎_elim}
+use Rattle.std.proofs.Math.Nat.{div-mul-le_self, suc-mul}
+use Rattle.std.proofs.lemmas.Bool.{cases_lt}
 use Rattle.std.proofs.lemmas.List.{length-map}
 use Rattle.words.specs.Bytes.{read, cut}
 use Rattle.words.specs.declared.conditions.Flags.{Flags}
@@ -22,7 +23,7 @@ use Rattle.code_model.specs.Sizes.{call_size, icall_size, inst_size}
 use Rattle.code_model.specs.Templates.{term_items}
 use Rattle.monitor.specs.Block.{Block, entered}
 use Rattle.monitor.specs.Setting.{Setting}
-use Rattle.monitor.specs.Threads.{base, stack_end, first_block, HasRoom}
+use Rattle.monitor.specs.Threads.{base, stack_end, first_block}
 use Rattle.code_effects.specs.Points.{Point, Leads, known}
 use Rattle.code_effects.specs.Calls.{IsBelow, keep_steps, kept_in}
 use Rattle.code_effects.proofs.Registers.{holds_known}
@@ -33,8 +34,10 @@ use Rattle.thread_runs.proofs.Thread.{to_sp, fits_sp, started, has_stays, fits_a
 use Rattle.thread_runs.proofs.Returns.{result_below_more, IsResult, returns, leaves}
 use Rattle.relation.specs.Builds.{Build, compartment_of, func, words_at, starts_at, lends_at, places_at, labels_at, first_at, code_at, behind_at, site_at}
 use Rattle.relation.specs.Relation.{own, slots, objects_at, object_words, word_of, words_of, own_words, link_by, waiting_by, waiting_words, statuses_behind, first_or_zero, others, IsStatusBy, Wait, areas, held, ceiling_by, beneath, block_of, AllFit, IsWhole}
-use Rattle.relation.specs.Cases.{Follows, CaseFollows}
-use Rattle.relation.proofs.Frames.{safe, lower_safe, own_length, length_slots, length_objects}
+use Rattle.relation.specs.Cases.{Follows}
+use Rattle.source_steps.specs.Serving.{Serves, CaseServes}
+use Rattle.overruns.specs.Called.{part_end}
+use Rattle.relation.proofs.Frames.{crossing_room, safe, lower_safe, own_length, length_slots, length_objects}
 use Rattle.relation.proofs.Blocks.{all_lent_is, top_least, marks}
 use Rattle.relation.proofs.Limits.{words_are}
 use Rattle.source_steps.proofs.Premises.{Premises}
@@ -63,6 +66,14 @@ even_call (Some n) args = omega arith
 even_icall : (x : Option ℕ) (args : List ℕ) → icall_size (is_some x) args % 2 ≡ 0
 even_icall None args = omega arith
 even_icall (Some n) args = omega arith
+
+one_part : (n e : ℕ) → 1 ≤ n → e ≤ n * e
+one_part zero e h = absurd (omega (arith, h))
+one_part (suc n) e h = let m = suc-mul n e in omega (arith, m)
+
+whole_part : (n e s : ℕ) → s < s + n * e → 1 ≤ n
+whole_part zero e s h = let z : 0 * e ≡ 0 = omega arith in absurd (omega (arith, h, z))
+whole_part (suc n) e s h = omega arith
 
 module _ (k : Build) (Inv : Block → Context → List ℕ → Type 0) (sizes : PlainType → ℕ) (S : ObjectSets) (w : Premises k Inv sizes S) (places : ℕ → ℕ) where
   -- what r0 has to hold for a result that is kept
@@ -205,10 +216,10 @@ module _ (k : Build) (Inv : Block → Context → List ℕ → Type 0) (sizes : 
         let ec = f1.ends in
         let rn = rs.next in
         let rb = rs.before in
-        let opn : HasRoom gs bl o = record { aligned = f0.aligned; low = f0.room; high = omega arith } in
+        let ohi : base gs + o ≤ bl.top = omega arith in
         let back : read 4 (o + 4 * v) st.ram ≡ behind_at k c.func c.block c.place + 1 = bh.link ∙ cut_small 4 (behind_at k c.func c.block c.place + 1) (omega arith) in
         let l = returns gs Inv w.law w.facts.rules w.laws (func k fr.func) (places_at k fr.func) (labels_at k fr.func) (first_at k fr.func) v (words_are k fr.func) bl st.context st.low o st.lr (code_at k fr.func fr.block fr.place) (behind_at k c.func c.block c.place) st.flags r st.ram m.queues
-        inv opn st.state_fits (omega arith) (marks k places (wheres (c ∷ rest))) below_frame code back rs.even in
+        inv f0.aligned f0.room ohi f0.lent st.state_fits (omega arith) (marks k places (wheres (c ∷ rest))) below_frame code back rs.even in
         let lg = l.goes in
         let sf = safe k places w.facts (wheres (c ∷ rest)) st.fits.1 in
         let h1 = has_stays gs o st.ram lg.memory (areas k places (wheres (c ∷ rest))) (held k places st.statuses (c ∷ rest) m.globals) lg.stays (lower_safe k places w.facts o oc (areas k places (wheres (c ∷ rest))) (omega arith) sf.each) bh.rest_has in
@@ -223,8 +234,8 @@ module _ (k : Build) (Inv : Block → Context → List ℕ → Type 0) (sizes : 
 
     -- across
     return_across : (c : Frame) (rest : List Frame) (to : Option ℕ) (number : ℕ) (st : HereStands k Inv sizes S w places fr (c ∷ rest) m t) → FrameFits k.program sizes S c → site_at k c.func c.block c.place ≡ Some number → Agrees c r to → Resumes c to →
-        Follows k Inv places t (Running (placed (answered c to (returned_value fr r)) ∷ rest) m) []
-    return_across c rest to number st fc site agrees rs =
+        k.setting.stack + 32 ≤ part_end k.setting (places c.number) → Follows k Inv places t (Running (placed (answered c to (returned_value fr r)) ∷ rest) m) []
+    return_across c rest to number st fc site agrees rs deep =
         let gs : Setting = k.setting in
         let o : ℕ = places fr.number in
         let oc : ℕ = places c.number in
@@ -234,7 +245,8 @@ module _ (k : Build) (Inv : Block → Context → List ℕ → Type 0) (sizes : 
         let dm = div-mul-le_self (oc - 32 - gs.stack) gs.eighth in
         let f0 = st.fits.0 in
         let f1 = st.fits.1.0 in
-        let rm = f1.room in
+        let rm0 = f1.room in
+        let rm = crossing_room k places w.facts oc (subst (λ (x : Option ℕ). gs.stack < ceiling_by k places x (wheres (c ∷ rest))) site f0.some) in
         let sh = w.facts.shapes fr.func in
         let wh = whole k Inv sizes S w places fr ff in
         let m1 : Block = entered bl (compartment_of k fr.func) (base gs + top) (base gs + oc - 32) in
@@ -253,13 +265,40 @@ module _ (k : Build) (Inv : Block → Context → List ℕ → Type 0) (sizes : 
         let fl : length (all_lent gs o m1 (lends_at k fr.func)).loans ≤ 32 = subst (λ (x : Option ℕ). length (all_lent gs o (beneath k places x fr.func (wheres (c ∷ rest)) bl) (lends_at k fr.func)).loans ≤ 32) site f0.loans in
         let ll = (all_lent_is gs o m1 (lends_at k fr.func)).loans in
         let l = leaves gs Inv w.law w.facts.rules w.laws (func k fr.func) (places_at k fr.func) (labels_at k fr.func) (first_at k fr.func) v (words_are k fr.func) bl st.context st.low (compartment_of k fr.func) top oc o st.lr (code_at k fr.func fr.block fr.place) (behind_at k c.func c.block c.place) status st.flags r st.ram m.queues
-        inv st.state_fits f0.aligned f0.room ends (let ev = sh.even in let a8 = f0.aligned in omega arith) (omega arith) (omega arith) (omega arith) (omega arith) below_frame code (bh.link ∙ cut_small 4 (gs.stub + 1) w.facts.stub_low) w.facts.stub_even
+        inv st.state_fits f0.aligned f0.room f0.lent deep ends (let ev = sh.even in let a8 = f0.aligned in omega arith) (omega arith) (omega arith) (omega arith) (omega arith) below_frame code (bh.link ∙ cut_small 4 (gs.stub + 1) w.facts.stub_low) w.facts.stub_even
         (rh.0 ∙ cut_small 4 (behind_at k c.func c.block c.place) (omega arith)) (rh.2.0 ∙ cut_small 4 status wt.0.2) rs.even wt.0.0 wt.0.1 in
         let lg = l.goes in
         let h1 = has_stays gs oc st.ram lg.memory (areas k places (wheres (c ∷ rest))) (held k places (others st.statuses) (c ∷ rest) m.globals) lg.stays sf.each rh.2.2 in
         resume c rest m to (returned_value fr r) t lg.count lg.context lg.low lg.lr lg.flags lg.memory (others st.statuses) l.least (let y = lg.within in omega arith)
         (started gs lg.count t _ _ [] st.is_state lg.runs) lg.fits lg.invariant h1
         (kept_result fr c r to st.ram lg.low (λ a u. register_word k Inv sizes S w places fr (c ∷ rest) m t st ff a u) fc.registers below agrees l.result) wt.1 st.fits.1 (whole k Inv sizes S w places c fc) rs
+
+    -- an eighth has room for an exception's frame where the law of the stack holds, and where the callee has room
+    across_or_short : (c : Frame) (rest : List Frame) (to : Option ℕ) (number : ℕ) (st : HereStands k Inv sizes S w places fr (c ∷ rest) m t) → FrameFits k.program sizes S c → site_at k c.func c.block c.place ≡ Some number → Agrees c r to → Resumes c to →
+        Serves k Inv places (wheres (fr ∷ c ∷ rest)) t (Running (placed (answered c to (returned_value fr r)) ∷ rest) m) []
+    across_or_short c rest to number st fc site agrees rs =
+        ⊎_elim shallow (λ deep. inl (return_across c rest to number st fc site agrees rs deep)) (cases_lt (part_end k.setting (places c.number)) (k.setting.stack + 32))
+      where
+        gs : Setting
+        gs = k.setting
+
+        parts : ℕ
+        parts = (places c.number - 32 - gs.stack) / gs.eighth
+
+        ends : places fr.number + 4 * words_at k fr.func + 4 ≡ part_end gs (places c.number)
+        ends = subst (λ (x : Option ℕ). places fr.number + 4 * words_at k fr.func + 4 ≡ ceiling_by k places x (wheres (c ∷ rest))) site st.fits.0.ends
+
+        some : gs.stack < part_end gs (places c.number)
+        some = subst (λ (x : Option ℕ). gs.stack < ceiling_by k places x (wheres (c ∷ rest))) site st.fits.0.some
+
+        not_shallow : part_end gs (places c.number) < gs.stack + 32 → 32 ≤ gs.eighth → ⊥
+        not_shallow less deep = let whole = one_part parts gs.eighth (whole_part parts gs.eighth gs.stack some) in omega (arith, less, deep, whole)
+
+        shallow : part_end gs (places c.number) < gs.stack + 32 → Serves k Inv places (wheres (fr ∷ c ∷ rest)) t (Running (placed (answered c to (returned_value fr r)) ∷ rest) m) []
+        shallow less = inr (record {
+          reason = λ now next. let room = now.0.room in omega (arith, less, room, ends);
+          ends = λ stack. absurd (not_shallow less stack.deep);
+        })
 
     -- the end of `main`
     end_step : (st : HereStands k Inv sizes S w places fr [] m t) → Follows k Inv places t (Ended Returned) []
@@ -275,7 +314,7 @@ module _ (k : Build) (Inv : Block → Context → List ℕ → Type 0) (sizes : 
         let al = (all_lent_is gs o (first_block gs) (lends_at k fr.func)).current in
         let code = subst (λ (z : ℕ). Owns gs z (labels_at k fr.func) (code_at k fr.func fr.block fr.place) (term_items (func k fr.func) (places_at k fr.func) (first_at k fr.func) (Ret r))) al (owned_end k Inv sizes S w places fr [] f0 (Ret r) ff e) in
         let l = returns gs Inv w.law w.facts.rules w.laws (func k fr.func) (places_at k fr.func) (labels_at k fr.func) (first_at k fr.func) v (words_are k fr.func) (first_block gs) st.context st.low o st.lr (code_at k fr.func fr.block fr.place) gs.stub st.flags r st.ram m.queues
-        st.invariant (record { aligned = f0.aligned; low = f0.room; high = omega arith }) st.state_fits (omega arith) (omega arith) below_frame code (bh.link ∙ cut_small 4 (gs.stub + 1) w.facts.stub_low) w.facts.stub_even in
+        st.invariant f0.aligned f0.room (omega arith) f0.lent st.state_fits (omega arith) (omega arith) below_frame code (bh.link ∙ cut_small 4 (gs.stub + 1) w.facts.stub_low) w.facts.stub_even in
         let lg = l.goes in
         let z : base gs + o + 4 * v + 4 ≡ base gs + stack_end gs = omega arith in
         let x = w.law.calls.ends lg.context lg.low lg.lr lg.flags lg.memory m.queues lg.invariant (fits_sp gs lg.context lg.low _ _ lg.lr gs.stub lg.flags lg.memory m.queues z lg.fits) in
@@ -297,10 +336,10 @@ module _ (k : Build) (Inv : Block → Context → List ℕ → Type 0) (sizes : 
   result_below fr (Some r) ty = ty.2.there
 
   pub return_case : (fr : Frame) (rest : List Frame) (m : Memory) (t : State) → HereStands k Inv sizes S w places fr rest m t → FramesFit k.program sizes S (fr ∷ rest) → (r : Option ℕ) → EndTyped k.program sizes (func k fr.func) (Ret r) → here k.program fr.func fr.block fr.place ≡ Ends (Ret r) →
-      CaseFollows k Inv places fr rest m t (Ends (Ret r))
+      CaseServes k Inv places fr rest m t (Ends (Ret r))
   unfolding leave
-  return_case fr [] m t st fs r ty e nf fit = end_step fr m t r fs.0 (result_below fr r ty) e st
-  return_case fr (c ∷ rest) m t st fs r ty e nf fit = by (site_at k c.func c.block c.place) refl
+  return_case fr [] m t st fs r ty e nf lies = inl (end_step fr m t r fs.0 (result_below fr r ty) e st)
+  return_case fr (c ∷ rest) m t st fs r ty e nf lies = by (site_at k c.func c.block c.place) refl
     where
       there : IsPlace k w.facts.rules w.laws w.linked.code c.func c.block (suc c.place)
       there = record { func_there = fs.2.0.func; block_there = fs.2.0.block; place_there = let i = (w.returns k.program sizes w.typed).inside S fr c rest fs in omega arith }
@@ -308,6 +347,6 @@ module _ (k : Build) (Inv : Block → Context → List ℕ → Type 0) (sizes : 
       rs : Resumes c (result_register (here k.program c.func c.block c.place))
       rs = waits_at c fs.2.0 fr.func there st.context (here k.program c.func c.block c.place) refl fs.1.calls
 
-      by : (x : Option ℕ) → site_at k c.func c.block c.place ≡ x → Follows k Inv places t (Running (placed (answered c (result_register (here k.program c.func c.block c.place)) (returned_value fr r)) ∷ rest) m) []
-      by None s = return_inside fr m t r fs.0 (result_below fr r ty) e c rest _ st fs.2.0 s ((w.returns k.program sizes w.typed).agrees S fr c rest r fs e) rs
-      by (Some n) s = return_across fr m t r fs.0 (result_below fr r ty) e c rest _ n st fs.2.0 s ((w.returns k.program sizes w.typed).agrees S fr c rest r fs e) rs
+      by : (x : Option ℕ) → site_at k c.func c.block c.place ≡ x → Serves k Inv places (wheres (fr ∷ c ∷ rest)) t (Running (placed (answered c (result_register (here k.program c.func c.block c.place)) (returned_value fr r)) ∷ rest) m) []
+      by None s = inl (return_inside fr m t r fs.0 (result_below fr r ty) e c rest _ st fs.2.0 s ((w.returns k.program sizes w.typed).agrees S fr c rest r fs e) rs)
+      by (Some n) s = across_or_short fr m t r fs.0 (result_below fr r ty) e c rest _ n st fs.2.0 s ((w.returns k.program sizes w.typed).agrees S fr c rest r fs e) rs

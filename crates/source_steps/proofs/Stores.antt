@@ -1,6 +1,7 @@
 -- Stores: to globals, to windows, and to locals of any live frame.
-use Rattle.std.proofs.Common.{◌≡◌, ℕ, suc, ◌+◌, ◌%◌, ◌^◌, ◌<◌, ◌≤◌, Bool, true, false, if◌then◌else◌, nat_eq, nat_le, Option, Some, None, is_some, List, [], ◌∷◌, length, get_or, set, refl, sym, ap, ◌∙◌, subst, arith, ⊎_elim}
+use Rattle.std.proofs.Common.{◌≡◌, ℕ, suc, ◌+◌, ◌%◌, ◌^◌, ◌<◌, ◌≤◌, Bool, true, false, if◌then◌else◌, nat_eq, nat_le, Option, Some, None, is_some, List, [], ◌∷◌, length, get_or, set, refl, sym, ap, ◌∙◌, subst, arith, inl, inr, ⊎_elim}
 use Rattle.std.specs.Prelude.{option_to_list}
+use Rattle.std.proofs.lemmas.Bool.{cases_lt}
 use Rattle.std.proofs.lemmas.Bool.Decides.{nat_tests}
 use Rattle.std.proofs.lemmas.List.{get_or-map, length-map}
 use Rattle.words.specs.Bytes.{write, cut}
@@ -11,7 +12,7 @@ use Rattle.mpu_model.specs.declared.region.Access.TheVariants.{Write}
 use Rattle.events.specs.declared.event.Event.{Event}
 use Rattle.mem_bus.specs.Places.{InRam, InWindow}
 use Rattle.armv7m.specs.State.{State, by_mpu}
-use Rattle.armv7m.specs.Code.{Lies, Runs}
+use Rattle.armv7m.specs.Code.{Lies, Stands, Runs}
 use Rattle.armv7m.specs.Events.{output_event}
 use Rattle.armv7m.specs.RunningCode.{Context, works}
 use Rattle.armv7m.proofs.Exec.{onward as behind_run}
@@ -45,10 +46,15 @@ use Rattle.thread_runs.proofs.Areas.{stored_spot}
 use Rattle.thread_runs.proofs.Thread.{started, fits_after, at_pc, fits_pc, has_stays}
 use Rattle.relation.specs.Builds.{Build, compartment_of, func, words_at, starts_at, places_at, labels_at, code_at, site_at, global_starts}
 use Rattle.relation.specs.Relation.{word_of, address_of, areas, held, block_of, AllWhole, global_areas}
-use Rattle.relation.specs.Cases.{Follows, CaseFollows}
+use Rattle.relation.specs.Cases.{Follows}
+use Rattle.source_steps.specs.Serving.{Serves, CaseServes}
 use Rattle.relation.proofs.Frames.{safe, all_laid}
 use Rattle.relation.proofs.Blocks.{is_open}
 use Rattle.relation.proofs.Locals.{local_spot, global_spot, stored_value}
+use Rattle.overruns.specs.Guard.{StackLaw}
+use Rattle.overruns.specs.Entries.{EndsShort}
+use Rattle.overruns.proofs.Stops.{store_ends}
+use Rattle.overruns.proofs.Lends.{later, sooner}
 use Rattle.source_steps.proofs.Premises.{Premises}
 use Rattle.source_steps.proofs.Standing.{next_code}
 use Rattle.source_steps.proofs.Steps.{frame_room, goes_on, Here as HereStands, point_of, state_of}
@@ -74,7 +80,7 @@ store_size b to from ty = refl
 module _ (k : Build) (Inv : Block → Context → List ℕ → Type 0) (sizes : PlainType → ℕ) (S : ObjectSets) (w : Premises k Inv sizes S) (places : ℕ → ℕ) where
   module _ (fr : Frame) (rest : List Frame) (m : Memory) (t : State) (st : HereStands k Inv sizes S w places fr rest m t) (sf : StateFits k.program sizes S (Running (fr ∷ rest) m)) where
     abbrev TurnFollows : SourceTurn → Type 0
-    TurnFollows u = (HasFault u.to → ⊥) → Follows k Inv places t u.to (option_to_list u.event)
+    TurnFollows u = (HasFault u.to → ⊥) → Serves k Inv places (wheres (fr ∷ rest)) t u.to (option_to_list u.event)
 
     abbrev block : Block
     block = block_of k places (wheres (fr ∷ rest))
@@ -142,10 +148,10 @@ module _ (k : Build) (Inv : Block → Context → List ℕ → Type 0) (sizes : 
           goes_on k Inv sizes S w places fr rest n fs st.statuses t fr.block (suc fr.place) 3 st.context q.low st.lr pc q.flags new [] (omega arith) (omega arith) runs ft next inv (has_stored a fs n.globals old wid sp) st.threads st.fits stand
 
       -- by a loan
-      by_loan : (o : Instance) (c : ℕ) (a : Area) (fs : List Frame) (old : ℕ) → register fr to ≡ At o c → address_of k places o + c ≡ base k.setting + a.at → a.width ≡ width_of ty → (base k.setting + a.at) % width_of ty ≡ 0 →
+      by_loan : k.setting.stack + 32 ≤ places fr.number → (o : Instance) (c : ℕ) (a : Area) (fs : List Frame) (old : ℕ) → register fr to ≡ At o c → address_of k places o + c ≡ base k.setting + a.at → a.width ≡ width_of ty → (base k.setting + a.at) % width_of ty ≡ 0 →
           IsLentTo k.setting (k.setting.has_loan block.current) block (base k.setting + a.at) (width_of ty) → wheres fs ≡ where_of (onward fr) ∷ wheres rest →
           Spot (areas k places (wheres (fr ∷ rest))) (held k places st.statuses (fr ∷ rest) m.globals) a old (word_of k places value) (held k places st.statuses fs m.globals) → Follows k Inv places t (Running fs m) []
-      by_loan o c a fs old points addr wid al lent stand sp =
+      by_loan room o c a fs old points addr wid al lent stand sp =
           let ws = positive_width ty in
           let oc : ℕ = places fr.number in
           let pl = placed_area k Inv sizes S w places fr rest m t st a sp.index (omega arith) sp.is_at in
@@ -163,12 +169,12 @@ module _ (k : Build) (Inv : Block → Context → List ℕ → Type 0) (sizes : 
           let stands = (w.laws.stores (owner k.setting block.current) k.setting.image (func k fr.func) (places_at k fr.func) (labels_at k fr.func) site p oc (words_at k fr.func)).access to from pc ty (own.stands st.context.protection) in
           let wd = w.laws.widths.stores ty in
           let lies = subst (λ (z : Instr). Lies k.setting.image (pc + 4) z) wd.1 stands.lies in
-          let off = subst (λ (z : ℕ). OffFrame k.setting oc a.at z) wid pl.off_frame in
+          let off = subst (λ (z : ℕ). OffFrame k.setting oc a.at z) wid (pl.off_frame room) in
           let words : List ℕ = slot oc p from ∷ slot oc p to ∷ [] in
           let r0 : get_or b.low 0 0 ≡ slot oc p from = known_holds words b.low b.holds 0 (omega arith) in
           let r1 : get_or b.low 1 0 ≡ base k.setting + a.at = known_holds words b.low b.holds 1 (omega arith) ∙ pa in
           let x = w.law.reach.stores block st.context b.low oc st.lr (pc + 4) b.flags st.ram m.queues wd.0 (width_of ty) (base k.setting + a.at) a.at wd.2
-          (record { invariant = st.invariant; room = is_open k places (where_of fr) (wheres rest) st.fits; fits = ft; lies = lies; owned = own_code (owner k.setting block.current) k.setting.image st.context.protection (pc + 4) (store_at ty) stands })
+          (record { invariant = st.invariant; room = is_open k places (where_of fr) (wheres rest) st.fits room; fits = ft; lies = lies; owned = own_code (owner k.setting block.current) k.setting.image st.context.protection (pc + 4) (store_at ty) stands })
           r1 al pl.in_ram_at off lent in
           let six = store_size (is_some site) to from ty in
           let e6 : pc + 4 + 2 ≡ pc + inst_size (is_some site) y = omega arith in
@@ -179,6 +185,43 @@ module _ (k : Build) (Inv : Block → Context → List ℕ → Type 0) (sizes : 
           let h1 = has_stays k.setting oc (write (width_of ty) a.at (get_or b.low 0 0) st.ram) x.memory (areas k places (wheres (fr ∷ rest))) (held k places st.statuses fs m.globals) x.stays sa.each h0 in
           goes_on k Inv sizes S w places fr rest m fs st.statuses t fr.block (suc fr.place) (2 + x.count) x.context x.low x.lr (pc + inst_size (is_some site) y) x.flags x.memory [] (omega arith) (let z = x.within in omega arith)
           (behind_run by_mpu k.setting.image runs0 runs1) (fits_pc k.setting x.context x.low (base k.setting + oc) x.lr _ (pc + inst_size (is_some site) y) x.flags x.memory m.queues e6 x.fits) next x.invariant h1 st.threads st.fits stand
+
+      -- with less room than an exception needs, where the stack is guarded, a store that is refused ends the machine
+      refused : StackLaw k.setting Inv → (o : Instance) (c : ℕ) (a : Area) (fs : List Frame) (old : ℕ) → places fr.number < k.setting.stack + 32 → register fr to ≡ At o c → address_of k places o + c ≡ base k.setting + a.at → (base k.setting + a.at) % width_of ty ≡ 0 →
+          by_mpu st.context.protection Write (base k.setting + a.at) ≡ false →
+          Spot (areas k places (wheres (fr ∷ rest))) (held k places st.statuses (fr ∷ rest) m.globals) a old (word_of k places value) (held k places st.statuses fs m.globals) → a.width ≡ width_of ty → EndsShort k.setting 16384 t
+      refused stack o c a fs old less points addr al nope sp wid =
+          let ws = positive_width ty in
+          let oc : ℕ = places fr.number in
+          let pl = placed_area k Inv sizes S w places fr rest m t st a sp.index (omega arith) sp.is_at in
+          let lw = pl.low in
+          let pa = address o c (base k.setting + a.at) points addr (omega arith) in
+          let rg = (w.facts.shapes fr.func).registers in
+          let lt = typed.held.there in
+          let lf = typed.from.there in
+          let b = ((w.laws.stores by_mpu k.setting.image (func k fr.func) (places_at k fr.func) (labels_at k fr.func) site p oc (words_at k fr.func)).before to from ty
+          (frame_room k Inv sizes S w places fr rest st.context st.ram st.fits st.invariant) (omega arith) (omega arith) runs_of).arrives st.low st.flags (holds_nothing st.low st.state_fits.core.low_count) in
+          let pc : ℕ = code_at k fr.func fr.block fr.place in
+          let mid : State = works st.context b.low (base k.setting + oc) st.lr (pc + 4) b.flags st.ram m.queues in
+          let stands = (w.laws.stores by_mpu k.setting.image (func k fr.func) (places_at k fr.func) (labels_at k fr.func) site p oc (words_at k fr.func)).access to from pc ty runs_of in
+          let wd = w.laws.widths.stores ty in
+          let st1 = subst (λ (z : Instr). Stands by_mpu k.setting.image st.context.protection (pc + 4) z) wd.1 stands in
+          let words : List ℕ = slot oc p from ∷ slot oc p to ∷ [] in
+          let r1 : get_or b.low 1 0 ≡ base k.setting + a.at = known_holds words b.low b.holds 1 (omega arith) ∙ pa in
+          let f0 = st.fits.0 in
+          let e = store_ends k.setting Inv w.law w.facts.rules stack block st.context b.low oc st.lr (pc + 4) wd.0 (width_of ty) (base k.setting + a.at) b.flags st.ram m.queues st.invariant f0.aligned f0.room less wd.2 r1 al (omega arith) nope st1 in
+          let runs0 = started k.setting 2 t (state_of k Inv sizes S w places fr rest m t st) mid [] st.is_state b.runs in
+          sooner k.setting (2 + 1) 16384 t (omega arith) (later k.setting 2 1 t mid runs0 e)
+
+      loan_or_end : (o : Instance) (c : ℕ) (a : Area) (fs : List Frame) (old : ℕ) → register fr to ≡ At o c → address_of k places o + c ≡ base k.setting + a.at → a.width ≡ width_of ty → (base k.setting + a.at) % width_of ty ≡ 0 →
+          IsLentTo k.setting (k.setting.has_loan block.current) block (base k.setting + a.at) (width_of ty) → wheres fs ≡ where_of (onward fr) ∷ wheres rest →
+          Spot (areas k places (wheres (fr ∷ rest))) (held k places st.statuses (fr ∷ rest) m.globals) a old (word_of k places value) (held k places st.statuses fs m.globals) → Serves k Inv places (wheres (fr ∷ rest)) t (Running fs m) []
+      loan_or_end o c a fs old points addr wid al lent stand sp =
+          ⊎_elim (λ less. by less (by_mpu st.context.protection Write (base k.setting + a.at)) refl) (λ room. inl (by_loan room o c a fs old points addr wid al lent stand sp)) (cases_lt (places fr.number) (k.setting.stack + 32))
+        where
+          by : places fr.number < k.setting.stack + 32 → (b : Bool) → by_mpu st.context.protection Write (base k.setting + a.at) ≡ b → Serves k Inv places (wheres (fr ∷ rest)) t (Running fs m) []
+          by less true z = inl (direct o c a m fs old points addr wid al z refl stand sp)
+          by less false z = inr (record { reason = λ now next. let r = now.0.room in omega (arith, less, r); ends = λ stack. refused stack o c a fs old less points addr al z sp wid })
 
       -- ---- globals
 
@@ -211,7 +254,7 @@ module _ (k : Build) (Inv : Block → Context → List ℕ → Type 0) (sizes : 
               subst (λ (z : ℕ). (base k.setting + a.at) % z ≡ 0) f.width (each_at (λ (d : Area). (base k.setting + d.at) % d.width ≡ 0) (global_areas k) sg.index a w.linked.globals.aligned sg.is_at) in
               let sp = global_spot k places w.facts (fr ∷ rest) st.statuses m.globals x j value (cell_in cs j) count (w.contents.globals k.program sizes S m sf.1) (all_whole k Inv sizes S w places (fr ∷ rest) sf.0) (omega arith)
               (subst (λ (z : List CellPlace). j < length z) (sym cells_are) f.below) (ap (λ (z : List CellPlace). cell_in z j) cells_are) in
-              direct (OfGlobal x) c a (record m { globals = set m.globals x (set (get_or m.globals x []) j value) }) (onward fr ∷ rest) _ points (omega arith) f.width al2 (w.law.permits.stores _ _ _ (base k.setting + a.at) st.invariant may2) refl refl sp
+              inl (direct (OfGlobal x) c a (record m { globals = set m.globals x (set (get_or m.globals x []) j value) }) (onward fr ∷ rest) _ points (omega arith) f.width al2 (w.law.permits.stores _ _ _ (base k.setting + a.at) st.invariant may2) refl refl sp)
 
       -- ---- windows
 
@@ -260,7 +303,7 @@ module _ (k : Build) (Inv : Block → Context → List ℕ → Type 0) (sizes : 
           by true true true x z u = by_port (has_port k.program q c ty) (rw (x, z, u) refl)
             where
               by_port : (b : Bool) → b ≡ true → TurnFollows (store_port k.groups.of fr rest m q c ty value b)
-              by_port true h = λ nf. sent x (grind (arith, nat_tests)) (grind (arith, nat_tests))
+              by_port true h = λ nf. inl (sent x (grind (arith, nat_tests)) (grind (arith, nat_tests)))
               by_port false h = cc
           by true true false x z u = rw (x, z, u) (λ nf. absurd (nf tt))
           by true false d x z u = rw (x, z) (λ nf. absurd (nf tt))
@@ -272,7 +315,7 @@ module _ (k : Build) (Inv : Block → Context → List ℕ → Type 0) (sizes : 
       local_store f n l c hl points = by_frame (frame_in (fr ∷ rest) f n) refl
         where
           stores_at : (h : Frame) (j : ℕ) → frame_in (fr ∷ rest) f n ≡ Some h → Found (cells_of_local k.program f l) (local_at k.program f l).size c j ty →
-              Follows k Inv places t (Running (with_local (onward fr ∷ rest) f n l (set (get_or h.locals l []) j value)) m) []
+              Serves k Inv places (wheres (fr ∷ rest)) t (Running (with_local (onward fr ∷ rest) f n l (set (get_or h.locals l []) j value)) m) []
           stores_at h j live fo = by (lend_number k.needs k.groups f l) refl
             where
               ff : FrameFits k.program sizes S h × (h.func ≡ f)
@@ -305,15 +348,15 @@ module _ (k : Build) (Inv : Block → Context → List ℕ → Type 0) (sizes : 
               stand : wheres fs ≡ where_of (onward fr) ∷ wheres rest
               stand = wheres_stay (onward fr ∷ rest) f n l (set (get_or h.locals l []) j value)
 
-              by : (x : Option ℕ) → lend_number k.needs k.groups f l ≡ x → Follows k Inv places t (Running fs m) []
+              by : (x : Option ℕ) → lend_number k.needs k.groups f l ≡ x → Serves k Inv places (wheres (fr ∷ rest)) t (Running fs m) []
               by (Some number) z =
                   let mask = ap (λ (y : ℕ). k.setting.has_loan y number) st.fits.0.current ∙ w.linked.loans.stores fr.func f l number sf.0.0.func listed.0 z in
-                  by_loan (OfLocal f n l) c a fs _ points lies.address fo.width lies.aligned
+                  loan_or_end (OfLocal f n l) c a fs _ points lies.address fo.width lies.aligned
                   (lent_cell k Inv sizes S w places fr rest m t st (k.setting.has_loan block.current) f n l c j number ty h live (subst (λ (y : ℕ). y < length k.program.funcs) ff.1 ff.0.func) hl fo z mask) stand sp
               by None z =
                   let o = open_cell k Inv sizes S w places fr rest m t st f n l c j ty h live hl fo z
                   (λ no_lend. (w.own k.program sizes S k.needs.closed k.needs w.needs).stores fr rest f n l h sf.0 hl no_lend ((w.accesses k.program sizes S).stores fr to from ty (OfLocal f n l) c sf.0.0 typed e points) live) in
-                  direct (OfLocal f n l) c a m fs _ points lies.address fo.width lies.aligned (w.law.permits.writes_stack _ _ _ a.at st.invariant o.0 o.1) refl stand sp
+                  inl (direct (OfLocal f n l) c a m fs _ points lies.address fo.width lies.aligned (w.law.permits.writes_stack _ _ _ a.at st.invariant o.0 o.1) refl stand sp)
 
           by_cell : (h : Frame) → frame_in (fr ∷ rest) f n ≡ Some h → (r : Option ℕ) → cell_at (cells_of_local k.program f l) c ty ≡ r → TurnFollows (store_cell fr rest m f n l (get_or h.locals l []) value r)
           by_cell h live None q nf = absurd (nf tt)
@@ -328,9 +371,9 @@ module _ (k : Build) (Inv : Block → Context → List ℕ → Type 0) (sizes : 
       by_instance (OfPeriph q) c h points = port_store q c h points
       by_instance (OfLocal f n l) c h points = local_store f n l c h points
 
-      pub store_case : CaseFollows k Inv places fr rest m t (Does (Store to from ty))
+      pub store_case : CaseServes k Inv places fr rest m t (Does (Store to from ty))
       unfolding perform act
-      store_case nf fit =
+      store_case nf lies =
           let q = pointer_or k Inv sizes S w places fr rest m t st sf.0.0 (register fr to) (λ o c. Stores o c ty (register fr from)) (Store to from ty) refl nf in
           let pl = (w.pointers k.program sizes S fr to ty q.0 q.1 sf.0.0 typed.from q.2).placed in
           subst (λ (x : Value). TurnFollows (perform k.program k.groups.of fr rest m (with_pointer x (λ o c. Stores o c ty (register fr from))))) (sym q.2) (by_instance q.0 q.1 pl q.2) nf

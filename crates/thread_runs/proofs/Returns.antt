@@ -65,10 +65,10 @@ module _ (g : Setting) (Inv : Block → Context → List ℕ → Type 0) where
     pub result : IsResult r o ram goes.low
 
 module _ (g : Setting) (Inv : Block → Context → List ℕ → Type 0) (law : Law g Inv) (rules : MemoryRules g) (laws : CodeLaws) (fn : NumberedFunc) (q : Places) (labels : List (Option ℕ)) (first : ℕ) where
-  pub unlends : (m : Block) (x : Context) (low : List ℕ) (o lr at : ℕ) (f : Flags) (ds : List Lend) (r : Option ℕ) (ram : List ℕ) (queues : List (List ℕ)) → Inv (all_lent g o m ds) x ram → HasRoom g m o →
+  pub unlends : (m : Block) (x : Context) (low : List ℕ) (o lr at : ℕ) (f : Flags) (ds : List Lend) (r : Option ℕ) (ram : List ℕ) (queues : List (List ℕ)) → Inv (all_lent g o m ds) x ram → o % 8 ≡ 0 → g.stack ≤ o → base g + o ≤ m.top → (1 ≤ length ds → g.stack + 32 ≤ o) →
       StateFits g.image (works x low (base g + o) lr at f ram queues) → length ds ≤ length (lends_of fn q) → Owns g m.current labels at (term_items fn q first (Ret r)) → m.mark ≤ length m.loans →
       Goes g Inv (lend_steps * length ds) (works x low (base g + o) lr at f ram queues) m (base g + o) (at + 2 * length ds) o ram queues
-  unlends m x low o lr at f [] r ram queues i op ft few code mark =
+  unlends m x low o lr at f [] r ram queues i al lo hi more ft few code mark =
       let e : at ≡ at + 2 * 0 = omega arith in
       record {
         count = 0;
@@ -83,13 +83,14 @@ module _ (g : Setting) (Inv : Block → Context → List ℕ → Type 0) (law : 
         invariant = i;
         stays = stays_none g o ram;
       }
-  unlends m x low o lr at f (d ∷ ds) r ram queues i op ft few code mark =
-      let u = unlends (lent m (loan_of g o d)) x low o lr at f ds r ram queues i (record { aligned = op.aligned; low = op.low; high = op.high }) ft (omega arith) code (omega arith) in
+  unlends m x low o lr at f (d ∷ ds) r ram queues i al lo hi more ft few code mark =
+      let room : g.stack + 32 ≤ o = more (omega arith) in
+      let u = unlends (lent m (loan_of g o d)) x low o lr at f ds r ram queues i al lo hi (λ l. room) ft (omega arith) code (omega arith) in
       let pc1 : ℕ = at + 2 * length ds in
       let p : Point = record { context = u.context; registers = []; sp = base g + o; lr = u.lr; pc = pc1; ram = u.memory; queues = queues } in
       let stands = (laws.returns (owner g m.current) g.image fn q labels first p o at).unlend_stands r (length ds) (omega arith) (code.stands u.context.protection) in
       let own : g.has_code m.current pc1 ≡ true = call_owned g m.current u.context.protection pc1 3 stands in
-      let s = law.calls.unlend m (loan_of g o d) u.context u.low o u.lr pc1 u.flags u.memory queues (record { invariant = u.invariant; room = record { aligned = op.aligned; low = op.low; high = op.high }; fits = u.fits; lies = stands.lies; owned = own }) mark in
+      let s = law.calls.unlend m (loan_of g o d) u.context u.low o u.lr pc1 u.flags u.memory queues (record { invariant = u.invariant; room = record { aligned = al; low = room; high = hi }; fits = u.fits; lies = stands.lies; owned = own }) mark in
       let e : pc1 + 2 ≡ at + 2 * suc (length ds) = omega arith in
       record {
         count = u.count + s.count;
@@ -106,16 +107,14 @@ module _ (g : Setting) (Inv : Block → Context → List ℕ → Type 0) (law : 
       }
 
   -- to the word above the frame
-  pub returns : (w : ℕ) → (frame_shape fn).words ≡ w → (m : Block) (x : Context) (low : List ℕ) (o lr at to : ℕ) (f : Flags) (r : Option ℕ) (ram : List ℕ) (queues : List (List ℕ)) → Inv (all_lent g o m (lends_of fn q)) x ram → HasRoom g m o →
+  pub returns : (w : ℕ) → (frame_shape fn).words ≡ w → (m : Block) (x : Context) (low : List ℕ) (o lr at to : ℕ) (f : Flags) (r : Option ℕ) (ram : List ℕ) (queues : List (List ℕ)) → Inv (all_lent g o m (lends_of fn q)) x ram → o % 8 ≡ 0 → g.stack ≤ o → base g + o ≤ m.top → (1 ≤ length (lends_of fn q) → g.stack + 32 ≤ o) →
       StateFits g.image (works x low (base g + o) lr at f ram queues) → base g + o + 4 * w + 4 ≤ m.top → m.mark ≤ length m.loans → IsBelow w r → Owns g m.current labels at (term_items fn q first (Ret r)) → read 4 (o + 4 * w) ram ≡ to + 1 → to % 2 ≡ 0 →
       Left g Inv (4 + lend_steps * length (lends_of fn q)) (works x low (base g + o) lr at f ram queues) m o (base g + o + 4 * w + 4) to o r ram queues
-  returns w is m x low o lr at to f r ram queues i op ft hi mark below code back even =
-      let u = unlends m x low o lr at f (lends_of fn q) r ram queues i op ft (omega arith) code mark in
+  returns w is m x low o lr at to f r ram queues i oa ol oh more ft hi mark below code back even =
+      let u = unlends m x low o lr at f (lends_of fn q) r ram queues i oa ol oh more ft (omega arith) code mark in
       let tp = law.keeps.top_inside m u.context u.memory u.invariant in
       let p : Point = record { context = u.context; registers = []; sp = base g + o; lr = u.lr; pc = at; ram = u.memory; queues = queues } in
       let has = runs_here g Inv law rules laws m u.context u.memory labels at (term_items fn q first (Ret r)) u.invariant code in
-      let oa = op.aligned in
-      let ol = op.low in
       let rm0 = room g Inv law rules laws m u.context u.memory o (w + 1) u.invariant (omega arith) (omega arith) (omega arith) in
       let rm = subst (λ (n : ℕ). Room by_mpu g.image u.context.protection (base g + o) o (n + 1)) (sym is) rm0 in
       let same = λ (k : ℕ) (l : k ≤ w). u.stays.reads 4 (o + 4 * k) (inr (omega arith), ⊎_elim (λ y. inr (omega arith)) (λ y. inl (omega arith)) rules.apart) in
@@ -146,13 +145,13 @@ module _ (g : Setting) (Inv : Block → Context → List ℕ → Type 0) (law : 
   -- back to another compartment's function, through the stub
   pub leaves : (w : ℕ) → (frame_shape fn).words ≡ w → (m : Block) (x : Context) (low : List ℕ) (c top oc o lr at ret status : ℕ) (f : Flags) (r : Option ℕ) (ram : List ℕ) (queues : List (List ℕ)) →
       let m1 : Block = entered m c (base g + top) (base g + oc - 32) in
-      Inv (all_lent g o m1 (lends_of fn q)) x ram → StateFits g.image (works x low (base g + o) lr at f ram queues) → o % 8 ≡ 0 → g.stack + 32 ≤ o → o + 4 * w + 4 ≡ top → top % 8 ≡ 0 → top ≤ oc - 32 → 32 ≤ oc → oc ≤ stack_end g → length (lends_of fn q) ≤ 32 →
+      Inv (all_lent g o m1 (lends_of fn q)) x ram → StateFits g.image (works x low (base g + o) lr at f ram queues) → o % 8 ≡ 0 → g.stack ≤ o → (1 ≤ length (lends_of fn q) → g.stack + 32 ≤ o) → g.stack + 32 ≤ top → o + 4 * w + 4 ≡ top → top % 8 ≡ 0 → top ≤ oc - 32 → 32 ≤ oc → oc ≤ stack_end g → length (lends_of fn q) ≤ 32 →
       IsBelow w r → Owns g c labels at (term_items fn q first (Ret r)) → read 4 (o + 4 * w) ram ≡ g.stub + 1 → g.stub % 2 ≡ 0 →
       read 4 (oc - 8) ram ≡ ret → read 4 (oc - 4) ram ≡ status → ret % 2 ≡ 0 → is_thread status ≡ true → nat_eq (status / 2 ^ 9 % 2) 1 ≡ false →
       Left g Inv 16000 (works x low (base g + o) lr at f ram queues) m o (base g + oc) ret oc r ram queues
-  leaves w is m x low c top oc o lr at ret status f r ram queues i ft ao lo ends at8 under big inside few below code back even sret sstat reven thread no_pad =
+  leaves w is m x low c top oc o lr at ret status f r ram queues i ft ao lo more deep ends at8 under big inside few below code back even sret sstat reven thread no_pad =
       let m1 : Block = entered m c (base g + top) (base g + oc - 32) in
-      let a = returns w is m1 x low o lr at g.stub f r ram queues i (record { aligned = ao; low = lo; high = omega arith }) ft (omega arith) (omega arith) below code back even in
+      let a = returns w is m1 x low o lr at g.stub f r ram queues i ao lo (omega arith) more ft (omega arith) (omega arith) below code back even in
       let ag = a.goes in
       let z : base g + o + 4 * w + 4 ≡ base g + top = omega arith in
       let keep = λ (k : ℕ) (l : 4 ≤ k) (u : k ≤ 8). ag.stays.reads 4 (oc - k) (inr (omega arith), ⊎_elim (λ y. inr (omega arith)) (λ y. inl (omega arith)) rules.apart) in

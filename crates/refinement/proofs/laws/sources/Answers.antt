@@ -18,7 +18,6 @@ returns c = record {
   moves = c.moves.ensures;
   listed = c.accesses-2.ensures;
   inside = c.compartments.ensures.calls;
-  grouped = c.compartments.ensures.frames;
   own = c.locals.ensures.own;
   numbered = c.locals.ensures.numbered;
 }

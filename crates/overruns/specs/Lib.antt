@@ -1,0 +1,5 @@
+pub mod Ends
+pub mod Guard
+pub mod Entries
+pub mod Entered
+pub mod Called

@@ -1,0 +1,55 @@
+//! Each function is a law and does nothing.
+
+ghost use Rattle.stack_guards.specs.FromGuards.{GuardedPlansGuard, LowestStacksAreGuarded, StacksBehindMonitorsAreGuarded, GuardedStacksServe, GuardedImagesAreNeverWrong};
+
+use layout_laws::ram;
+use linked_promises::permissions::permissions;
+use linked_promises::regions::{images, memory};
+use monitor_laws::images::sound_images_are_placed;
+use never_wrong::laws::never_wrong;
+use overruns::laws::guards_serve;
+use planned_images::laws::{refined_or_stopped, sound};
+use sound_images::promises::{handlers_keep_the_law, stubs_stand};
+
+/// Where no data region has a byte in the guard below the stack, no compartment may store there.
+pub fn guarded()
+    ensures { GuardedPlansGuard }
+{
+    permissions();
+    images();
+    memory();
+}
+
+/// So it is where the stack is the lowest block of RAM.
+pub fn lowest()
+    ensures { LowestStacksAreGuarded }
+{}
+
+/// And where the monitor's block lies right below the stack.
+pub fn behind()
+    ensures { StacksBehindMonitorsAreGuarded }
+{
+    ram();
+}
+
+/// So the law of the stack holds of the planned image.
+pub fn stacks()
+    ensures { GuardedStacksServe }
+{
+    guarded();
+    sound();
+    images();
+    sound_images_are_placed();
+    guards_serve();
+    handlers_keep_the_law();
+    stubs_stand();
+}
+
+/// The image of a planned firmware whose stack is guarded is never wrong, only stopped.
+pub fn images_are_never_wrong()
+    ensures { GuardedImagesAreNeverWrong }
+{
+    stacks();
+    refined_or_stopped();
+    never_wrong();
+}
