@@ -1,17 +1,17 @@
 #!/usr/bin/env bash
 # How the time of the commands grows with the firmware: each shape of firmware at three sizes, with the seconds of each command, the
-# least of three calls, and by what they grew from size to size.
+# least of three calls, and in brackets by what they grew from size to size.
 #
 #     tools/bench_sizes.sh PROGRAM [SHAPE ..]
 #
 # PROGRAM is a built `aces`. The firmware texts are made here. The largest of each shape is at a limit of a text or of what is compiled, or
-# near it. `source` makes 1,000 steps, `run` 1,000,000. Time is that of the processor in the program itself, so that other work on the machine
+# near it. `source` makes 1,000 steps, `run` 1,000,000. Time is that of the processor for the program, so that other work on the machine
 # counts as little as may be. A command that refuses the firmware, as what does not fit the board, has no time.
 set -eu
 program=$(realpath "$1")
 shift
 shapes=${*:-text functions blocks globals calls behind among}
-export LC_ALL=C TIMEFORMAT=%U
+export LC_ALL=C TIMEFORMAT='%U %S'
 work=$(mktemp -d)
 trap 'rm -rf "$work"' EXIT
 cd "$work"
@@ -47,7 +47,7 @@ functions() {
 blocks() {
     awk -v n="$1" 'BEGIN {
         print "file main.c { func main() { reg a: u32 reg b: u32"
-        for (k = 0; k < n - 1; k++) printf "b%d: a = 1 b = %d a = eq a, b branch a, b%d, b%d\n", k, k, k + 1, int((k + n) / 2)
+        for (k = 0; k < n - 1; k++) printf "b%d: a = 1 b = %d a = eq a, b branch a b%d b%d\n", k, k, k + 1, int((k + n) / 2)
         printf "b%d: ret } }\nfile other.c { func rest() { b0: ret } }\n", n - 1
     }'
 }
@@ -81,7 +81,7 @@ calls() {
 # The text of a shape at a size.
 text_of() {
     case $1 in
-        text) functions "$2" 230 ;;
+        text) functions "$2" 310 ;;
         functions) functions "$2" 60 ;;
         blocks) blocks "$2" ;;
         globals) globals "$2" ;;
@@ -107,12 +107,23 @@ seconds() {
     "$program" "$@" > printed 2>&1 || { echo -; return; }
     for _ in 1 2 3; do
         { time "$program" "$@" > printed; } 2>&1
-    done | sort -g | sed -n 1p
+    done | awk '{ print $1 + $2 }' | sort -g | sed -n 1p
 }
 
-echo "| shape | command | sizes | seconds | growth |"
-echo "|---|---|---|---|---|"
+# The seconds at three sizes, and by what they grew.
+cell() {
+    echo "$@" | awk '{
+        growth = ""
+        for (k = 2; k <= NF; k++) growth = growth (k > 2 ? ", " : "") ($(k - 1) > 0 && $k > 0 ? sprintf("%.1f", $k / $(k - 1)) : "-")
+        gsub(/ /, ", ")
+        printf " %s (%s) |", $0, growth
+    }'
+}
+
+echo "| shape | sizes | \`check\` | \`list\` | \`compile\` | \`source\` | \`run\` |"
+echo "|---|---|---|---|---|---|---|"
 for shape in $shapes; do
+    printf '| %s | %s |' "$shape" "$(sizes "$shape" | sed 's/ /, /g')"
     for size in $(sizes "$shape"); do
         text_of "$shape" "$size" > "$shape$size.ir"
     done
@@ -122,12 +133,8 @@ for shape in $shapes; do
             # shellcheck disable=SC2046
             all="$all $(seconds $(words $command "$shape$size"))"
         done
-        echo "$shape; $command; $(sizes "$shape"); $all"
+        # shellcheck disable=SC2086
+        cell $all
     done
-done | awk -F '; *' '{
-    count = split($4, took, " ")
-    growth = ""
-    for (k = 2; k <= count; k++) growth = growth (took[k - 1] > 0 && took[k] > 0 ? sprintf(" %.1f", took[k] / took[k - 1]) : " -")
-    gsub(/ +/, ", ", $3); gsub(/^ +/, "", $4); gsub(/ +/, ", ", $4); gsub(/^ +/, "", growth); gsub(/ +/, ", ", growth)
-    printf "| %s | `%s` | %s | %s | %s |\n", $1, $2, $3, $4, growth
-}'
+    echo
+done

@@ -1,7 +1,6 @@
-use Rattle.std.proofs.Common.{◌≡◌, ◌<◌, ℕ, [], length, get_or, IfSome, ap, ◌∙◌, arith}
+use Rattle.std.proofs.Common.{◌<◌, [], length, get_or, ap, ◌∙◌, arith}
 use Rattle.std.proofs.lemmas.Option.{IfSome_then}
 use Rattle.ir_program.specs.Seen.{program_of, routine_of}
-use Rattle.offsets.specs.declared.walk.Reached.{Reached}
 use Rattle.offsets.specs.Walks.{IsReached}
 use Rattle.link_entries.specs.Recorded.{offset_with}
 use Rattle.link_entries.specs.Walked.{IsReachedIn}
