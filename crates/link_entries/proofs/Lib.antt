@@ -1,2 +1,3 @@
 mod Routines
 mod Totals
+mod LookedUp

@@ -3,3 +3,4 @@ pub mod Grouped
 pub mod Bases
 pub mod Making
 pub mod Recorded
+pub mod Walked

@@ -3,18 +3,15 @@
 ghost use Rattle.std.specs.Prelude.{◌≡◌, ◌++◌, map, IfOk, IfSome, OnOk};
 ghost use Rattle.ir_model.specs.Resolved.{local_at};
 ghost use Rattle.ir_program.specs.Seen.{program_of};
-ghost use Rattle.link_entries.specs.Grouped.{HasEachLend};
 ghost use Rattle.link_entries.specs.Lent.{lent_sites};
 ghost use Rattle.link_entries.specs.Making.{IsReady};
 ghost use Rattle.link_entries.specs.Recorded.{entry_in, offset_with, returns_to, site_records_in, target_in, target_records_in};
 ghost use Rattle.link_model.specs.LinkedTables as records;
 
-use crate::entries::lent_count;
 use crate::making::Making;
-use crate::numbers::Numbers;
+use crate::walks::{Found, find};
 use ir_program::program::Program;
 use monitor::{SiteRecord, TargetRecord};
-use offsets::sizes::site_offset;
 use plan_model::needs::SiteNeed;
 use std::alloc::{AllocError, Global};
 
@@ -31,31 +28,12 @@ pub fn entry_at(making: &Making, func: u32) -> Option<u32>
     Some(entries[place])
 }
 
-/// How far behind the entry of its function the halfword with the number of a site stands.
-fn offset_of(
-    program: &Program,
-    numbers: &Numbers,
-    func: usize,
-    block: usize,
-    place: usize,
-) -> Option<u32>
-    requires { HasEachLend (program_of program.now) numbers.now }
-    ensures { IfSome result (λ n. n ≡ offset_with (program_of program.now) numbers.now func block place) }
-{
-    let routine = program.funcs.as_slice().get(func)?;
-    let sites = numbers.sites.as_slice().get(func)?;
-    let lends = numbers.lends.as_slice().get(func)?;
-    let lent = lent_count(lends.as_slice())?;
-    site_offset(routine, sites.as_slice(), lent, block, place)
-}
-
-/// The address behind the SVC of a site.
-fn return_address(making: &Making, site: &SiteNeed) -> Option<u32>
-    requires { IsReady making.now }
+/// The address behind the SVC of a site, of which it is known how far behind its function's entry that stands.
+fn return_address(making: &Making, site: &SiteNeed, offset: u32) -> Option<u32>
+    requires ready { IsReady making.now }
+    requires offset { offset ≡ offset_with (program_of making.now.program.now) making.now.numbers.now site.now.func site.now.block site.now.inst }
     ensures { IfSome result (λ n. n ≡ returns_to making.now site.now) }
 {
-    let (func, block, place) = (site.func as usize, site.block as usize, site.inst as usize);
-    let offset = offset_of(making.program, making.numbers, func, block, place)?;
     entry_at(making, site.func)?.checked_add(offset)
 }
 
@@ -70,11 +48,15 @@ pub fn site_records(
 {
     let mut all = Vec::new(alloc);
     let mut first: u32 = 0;
+    let mut last: Option<Found> = None;
     for site in sites {
         let Ok(count) = u32::try_from(site.targets.len()) else {
             return Err(AllocError);
         };
-        let Some(ret) = return_address(making, site) else {
+        let Some(found) = find(making.program, making.numbers, last, site) else {
+            return Err(AllocError);
+        };
+        let Some(ret) = return_address(making, site, found.offset) else {
             return Err(AllocError);
         };
         all.push(SiteRecord { ret, first, count })?;
@@ -82,6 +64,7 @@ pub fn site_records(
             return Err(AllocError);
         };
         first = next;
+        last = Some(found);
     }
     Ok(all)
 }

@@ -15,7 +15,7 @@ use Rattle.ir_program.specs.Seen.{operation_of, exit_of, sequence_of, routine_of
 use Rattle.code_model.specs.declared.places.CallSite.{CallSite}
 use Rattle.code_model.specs.FrameShape.{local_size, locals_size, frame_size, frame_shape}
 use Rattle.code_model.specs.Places.{crosses}
-use Rattle.code_model.specs.Sizes.{inst_size, term_size, entry_size, adjust_size, save_size, resume_size, insts_size, blocks_size, function_size, site_offset}
+use Rattle.code_model.specs.Sizes.{inst_size, term_size, entry_size, adjust_size, save_size, resume_size, insts_size, blocks_size, function_size, place_offset, site_offset}
 
 pub same_locals : (ks : List Known) (ss : List Storage) → locals_size (map (shape_of ks) ss) ≡ locals_size (map (shape_of []) ss)
 same_locals ks [] = refl
@@ -94,17 +94,16 @@ module _ (ks : List Known) (r : Routine) (sites : List CallSite) (lent : ℕ) wh
   pub same_function_size : function_size g sites lent ≡ function_size bare sites lent
   same_function_size = let e = same_entry in let h = same_blocks 0 r.blocks in omega arith
 
-  -- up to a place in a block, and from there to where a call returns
+  -- up to a place in a block
   abbrev up_to : NumberedFunc → (b k : ℕ) → NumberedBlock → ℕ
-  up_to f b k x = insts_size f sites lent b 0 (take k x.insts) + resume_size (crosses sites b k) (here_in x.insts x.term k)
+  up_to f b k x = insts_size f sites lent b 0 (take k x.insts)
 
   same_in : (b k : ℕ) (x : Sequence) → up_to g b k (sequence_of ks x) ≡ up_to bare b k (sequence_of [] x)
   same_in b k x =
       let one = ap (λ is. insts_size g sites lent b 0 is) (take-map (operation_of ks) k x.operations) in
       let two = same_insts b 0 (take k x.operations) in
       let three = ap (λ is. insts_size bare sites lent b 0 is) (take-map (operation_of []) k x.operations) in
-      let four = same_resume ks (crosses sites b k) (exit_of x.exit) k x.operations in
-      omega (arith, one, two, three, four)
+      omega (arith, one, two, three)
 
   same_at : (b k i : ℕ) (xs : List Sequence) → up_to g b k (get_or (map (sequence_of ks) xs) i no_block) ≡ up_to bare b k (get_or (map (sequence_of []) xs) i no_block)
   same_at b zero i [] = refl
@@ -112,11 +111,26 @@ module _ (ks : List Known) (r : Routine) (sites : List CallSite) (lent : ℕ) wh
   same_at b k zero (x ∷ xs) = same_in b k x
   same_at b k (suc i) (x ∷ xs) = same_at b k i xs
 
-  pub same_site_offset : (b k : ℕ) → site_offset g sites lent b k ≡ site_offset bare sites lent b k
-  same_site_offset b k =
+  pub same_place_offset : (b k : ℕ) → place_offset g sites lent b k ≡ place_offset bare sites lent b k
+  same_place_offset b k =
       let e = same_entry in
       let one = ap (λ ys. blocks_size g sites lent 0 ys) (take-map (sequence_of ks) b r.blocks) in
       let two = same_blocks 0 (take b r.blocks) in
       let three = ap (λ ys. blocks_size bare sites lent 0 ys) (take-map (sequence_of []) b r.blocks) in
       let four = same_at b k b r.blocks in
       omega (arith, e, one, two, three, four)
+
+  -- from there to where a call returns
+  abbrev resume_at : (b k : ℕ) → NumberedBlock → ℕ
+  resume_at b k x = resume_size (crosses sites b k) (here_in x.insts x.term k)
+
+  same_resume_at : (b k i : ℕ) (xs : List Sequence) → resume_at b k (get_or (map (sequence_of ks) xs) i no_block) ≡ resume_at b k (get_or (map (sequence_of []) xs) i no_block)
+  same_resume_at b k i [] = refl
+  same_resume_at b k zero (x ∷ xs) = same_resume ks (crosses sites b k) (exit_of x.exit) k x.operations
+  same_resume_at b k (suc i) (x ∷ xs) = same_resume_at b k i xs
+
+  pub same_site_offset : (b k : ℕ) → site_offset g sites lent b k ≡ site_offset bare sites lent b k
+  same_site_offset b k =
+      let one = same_place_offset b k in
+      let two = same_resume_at b k b r.blocks in
+      omega (arith, one, two)

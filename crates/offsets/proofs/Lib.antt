@@ -1,2 +1,3 @@
 mod Offsets
 pub mod Bare
+mod Places

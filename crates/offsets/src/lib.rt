@@ -3,5 +3,4 @@
 
 pub mod frame;
 pub mod sizes;
-
-pub use sizes::site_offset;
+pub mod walk;

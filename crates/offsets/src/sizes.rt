@@ -1,8 +1,7 @@
-//! The sizes of what stands in a function, and the offset of the code of a place from the function's entry. None where a number
-//! takes more than 32 bits.
+//! The sizes of what stands in a function. None where a number takes more than 32 bits.
 
 ghost use Rattle.std.specs.Prelude.{◌≡◌, ◌+◌, ◌*◌, ◌<◌, ◌≤◌, ℕ, [], length, map, take, IfSome};
-ghost use Rattle.ir_model.specs.Resolved.{NumberedFunc, Does, here_in};
+ghost use Rattle.ir_model.specs.Resolved.{NumberedFunc, Does};
 ghost use Rattle.ir_model.specs.Signatures.{row_length};
 ghost use Rattle.ir_program.specs.Seen.{target_of, operation_of, exit_of, sequence_of, routine_of};
 ghost use Rattle.code_model.specs.Places.{crosses};
@@ -75,21 +74,45 @@ fn with_args(bytes: u32, args: &[usize]) -> Option<u32>
     count.checked_mul(2)?.checked_add(bytes)
 }
 
-/// The bytes of a call up to the address that it returns to; 0 of what is no call.
-fn resume_size(crosses: bool, operation: &Operation) -> Option<u32>
-    ensures { IfSome result (λ n. n ≡ sizes.resume_size crosses (Does (operation_of [] operation.now))) }
+/// The bytes of a direct call up to the address that it returns to.
+fn call_size(crosses: bool, args: &[usize]) -> Option<u32>
+    ensures { IfSome result (λ n. n ≡ sizes.call_size crosses args.now) }
+{
+    with_args(if crosses { 12 } else { 4 }, args)
+}
+
+/// The bytes of an indirect call up to the address that it returns to.
+fn icall_size(crosses: bool, args: &[usize]) -> Option<u32>
+    ensures { IfSome result (λ n. n ≡ sizes.icall_size crosses args.now) }
+{
+    with_args(if crosses { 8 } else { 6 }, args)
+}
+
+/// The bytes of the call at a place up to the address that it returns to; 0 of what is no call. Only of a call it is asked whether
+/// it may go to another compartment.
+pub(crate) fn resume_size(
+    sites: &[CallSite],
+    block: usize,
+    place: usize,
+    operation: &Operation,
+) -> Option<u32>
+    ensures { IfSome result (λ n. n ≡ sizes.resume_size (crosses sites.now block place) (Does (operation_of [] operation.now))) }
 {
     match operation {
-        Operation::Call { args, .. } => with_args(if crosses { 12 } else { 4 }, args.as_slice()),
-        Operation::ICall { args, .. } => with_args(if crosses { 8 } else { 6 }, args.as_slice()),
+        Operation::Call { args, .. } => {
+            call_size(is_crossing(sites, block, place), args.as_slice())
+        }
+        Operation::ICall { args, .. } => {
+            icall_size(is_crossing(sites, block, place), args.as_slice())
+        }
         _ => Some(0),
     }
 }
 
-/// The bytes of an instruction; `crosses` tells whether it is a call that may go to another compartment.
+/// The bytes of the instruction at a place.
 #[tactic(auto, unfolding(code_model::specs::Sizes::inst_size))]
-fn inst_size(crosses: bool, operation: &Operation) -> Option<u32>
-    ensures { IfSome result (λ n. n ≡ sizes.inst_size crosses (operation_of [] operation.now)) }
+fn inst_size(sites: &[CallSite], block: usize, place: usize, operation: &Operation) -> Option<u32>
+    ensures { IfSome result (λ n. n ≡ sizes.inst_size (crosses sites.now block place) (operation_of [] operation.now)) }
 {
     match operation {
         Operation::Const { .. } | Operation::FAddr { .. } => Some(10),
@@ -101,19 +124,26 @@ fn inst_size(crosses: bool, operation: &Operation) -> Option<u32>
         Operation::Field { .. } => Some(14),
         Operation::Load { .. } | Operation::Store { .. } => Some(6),
         Operation::Call { to, .. } | Operation::ICall { to, .. } => {
-            resume_size(crosses, operation)?.checked_add(save_size(*to))
+            resume_size(sites, block, place, operation)?.checked_add(save_size(*to))
         }
     }
 }
 
-/// The bytes of instructions of a block, the first standing at place 0.
-fn insts_size(sites: &[CallSite], block: usize, operations: &[Operation]) -> Option<u32>
-    ensures { IfSome result (λ n. (g : NumberedFunc) (lent : ℕ) → n ≡ sizes.insts_size g sites.now lent block 0 (map (operation_of []) operations.now)) }
+/// The bytes of the instructions of a block from a place up to another.
+pub(crate) fn insts_size(
+    sites: &[CallSite],
+    block: usize,
+    operations: &[Operation],
+    from: usize,
+    to: usize,
+) -> Option<u32>
+    requires order { from ≤ to }
+    requires there { to ≤ length operations.now }
+    ensures { IfSome result (λ n. (g : NumberedFunc) (lent : ℕ) → n + sizes.insts_size g sites.now lent block 0 (map (operation_of []) (take from operations.now)) ≡ sizes.insts_size g sites.now lent block 0 (map (operation_of []) (take to operations.now))) }
 {
     let mut total: u32 = 0;
-    for (place, operation) in operations.iter().enumerate() {
-        let crosses = is_crossing(sites, block, place);
-        total = total.checked_add(inst_size(crosses, operation)?)?;
+    for place in from..to {
+        total = total.checked_add(inst_size(sites, block, place, &operations[place])?)?;
     }
     Some(total)
 }
@@ -128,7 +158,7 @@ fn adjust_size(words: u32) -> u32
 
 /// The bytes of a block's end, in a function of whose locals so many are lent.
 #[tactic(auto, unfolding(code_model::specs::Sizes::term_size))]
-fn exit_size(routine: &Routine, lent: u32, exit: Exit) -> Option<u32>
+pub(crate) fn exit_size(routine: &Routine, lent: u32, exit: Exit) -> Option<u32>
     ensures { IfSome result (λ n. n ≡ sizes.term_size (routine_of [] routine.now) lent (exit_of exit)) }
 {
     match exit {
@@ -150,7 +180,7 @@ fn param_count(routine: &Routine) -> usize
 
 /// The bytes of an entry, in a function of whose locals so many are lent.
 #[tactic(auto, unfolding(code_model::specs::Sizes::entry_size))]
-fn entry_size(routine: &Routine, lent: u32) -> Option<u32>
+pub(crate) fn entry_size(routine: &Routine, lent: u32) -> Option<u32>
     ensures { IfSome result (λ n. n ≡ sizes.entry_size (routine_of [] routine.now) lent) }
 {
     let words = frame_words(routine)?;
@@ -173,7 +203,8 @@ fn block_size(
 ) -> Option<u32>
     ensures { IfSome result (λ n. n ≡ sizes.block_size (routine_of [] routine.now) sites.now lent block (sequence_of [] sequence.now)) }
 {
-    let insts = insts_size(sites, block, sequence.operations.as_slice())?;
+    let operations = sequence.operations.as_slice();
+    let insts = insts_size(sites, block, operations, 0, operations.len())?;
     insts.checked_add(exit_size(routine, lent, sequence.exit)?)
 }
 
@@ -193,40 +224,4 @@ pub fn function_size(routine: &Routine, sites: &[CallSite], lent: u32) -> Option
     ensures { IfSome result (λ n. n ≡ sizes.function_size (routine_of [] routine.now) sites.now lent) }
 {
     size_with(routine, sites, lent, routine.blocks.as_slice())
-}
-
-/// The bytes from the beginning of a block to the address that the call at a place returns to; to the place's code where no call
-/// stands there.
-fn resume_in(sites: &[CallSite], block: usize, sequence: &Sequence, place: usize) -> Option<u32>
-    requires { place < length sequence.now.operations }
-    ensures { IfSome result (λ n. (g : NumberedFunc) (lent : ℕ) → n ≡ sizes.insts_size g sites.now lent block 0 (take place (sequence_of [] sequence.now).insts) + sizes.resume_size (crosses sites.now block place) (here_in (sequence_of [] sequence.now).insts (sequence_of [] sequence.now).term place)) }
-{
-    let operations = sequence.operations.as_slice();
-    let before = insts_size(sites, block, &operations[..place])?;
-    let crosses = is_crossing(sites, block, place);
-    let total = before.checked_add(resume_size(crosses, &operations[place])?)?;
-    Some(total)
-}
-
-/// How far behind the function's entry the halfword with the number of a site stands.
-pub fn site_offset(
-    routine: &Routine,
-    sites: &[CallSite],
-    lent: u32,
-    block: usize,
-    place: usize,
-) -> Option<u32>
-    ensures { IfSome result (λ n. n ≡ sizes.site_offset (routine_of [] routine.now) sites.now lent block place) }
-{
-    let blocks = routine.blocks.as_slice();
-    if block >= blocks.len() {
-        return None;
-    }
-    let sequence = &blocks[block];
-    if place >= sequence.operations.len() {
-        return None;
-    }
-    let before = size_with(routine, sites, lent, &blocks[..block])?;
-    let resume = before.checked_add(resume_in(sites, block, sequence, place)?)?;
-    Some(resume.saturating_sub(2))
 }
