@@ -1,6 +1,13 @@
 #!/bin/sh
 # Runs the tests of what is outside of the proof, part by part; it writes in temporary folders alone. Each part tells what it left out
-# for want of a tool, and ends with a line `N passed, N failed`, and so does this script. Status 0 where nothing failed.
+# for want of a tool, and ends with a line `N passed, N failed`, and so does this script. Status 0 where nothing failed. ACES may name
+# the program of aces; else it is crates/aces/out/aces, and what needs it is left out where it is not built.
+if [ -n "$ACES" ]; then
+    ACES=$(realpath -m "$ACES") || exit 1
+    export ACES
+else
+    unset ACES
+fi
 cd "$(dirname "$0")" || exit 1
 passed=0
 failed=0

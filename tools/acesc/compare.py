@@ -101,6 +101,8 @@ def aces(*words: str) -> 'subprocess.CompletedProcess[str]':
 
 def accepted(done: 'subprocess.CompletedProcess[str]', what: str) -> str:
     """What a command printed; a refusal is a difference."""
+    if done.returncode < 0:
+        raise Difference(f'{what}: aces was ended by signal {-done.returncode}')
     if done.returncode not in (0, 7):
         raise Difference(f'{what}: {done.stderr.strip() or "status " + str(done.returncode)}')
     return done.stdout

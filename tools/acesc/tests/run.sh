@@ -1,6 +1,11 @@
 #!/bin/sh
 # The tests of aces-c: ends with a line `N passed, N failed`. What is not there is told, and its tests are left out.
 cd "$(dirname "$0")" || exit 1
+if [ -n "$ACES" ] && [ ! -x "$ACES" ]; then
+    echo "ACES names no program: $ACES"
+    echo "0 passed, 1 failed"
+    exit 1
+fi
 if ! command -v clang > /dev/null; then
     echo "left out: the tests of aces-c (clang is not installed)"
     echo "0 passed, 0 failed"
@@ -17,10 +22,14 @@ if [ -z "$python" ]; then
 fi
 command -v csmith > /dev/null || echo "left out: random programs (csmith is not installed)"
 "$python" -c 'import mypy' 2> /dev/null || echo "left out: the types of aces-c (mypy is not installed)"
+for header in jsmn xxhash; do
+    [ -e "/usr/include/$header.h" ] || echo "left out: the library $header (lib$header-dev is not installed)"
+done
 [ -x "${ACES:-../../../crates/aces/out/aces}" ] || echo "left out: comparisons (the program aces is not built; ACES may name it)"
 out=$(mktemp) || exit 1
-trap 'rm -rf "$out" "$out.d"' EXIT
-PYTHONDONTWRITEBYTECODE=1 "$python" -m pytest -q -rf -p no:cacheprovider --basetemp="$out.d" . > "$out" 2>&1
+trap 'rm -rf "$out" "$out.d" "$out.t"' EXIT
+mkdir "$out.t" || exit 1
+TMPDIR=$out.t PYTHONDONTWRITEBYTECODE=1 "$python" -m pytest -q -rfP -p no:cacheprovider --basetemp="$out.d" . > "$out" 2>&1
 status=$?
 cat "$out"
 count() { sed -n "\$s/.*[^0-9]*\b\([0-9][0-9]*\) $1.*/\1/p" "$out"; }

@@ -5,11 +5,9 @@ import os
 import random
 import re
 import shutil
-import signal
 import subprocess
 import sys
 from pathlib import Path
-from typing import Optional
 
 TESTS = Path(__file__).resolve().parent
 TOOLS = TESTS.parent.parent
@@ -24,17 +22,11 @@ NAMES = sorted(p.parent.name for p in PROGRAMS.glob('*/main.c'))
 Done = subprocess.CompletedProcess[str]
 
 
-def aces_c(*words: object, command: Path = COMMAND, seed: str = '0', seconds: Optional[float] = None) -> Done:
-    """Runs the command."""
+def aces_c(*words: object, command: Path = COMMAND, seed: str = '0', seconds: int = 600) -> Done:
+    """Runs the command; it, and each program that it runs, is ended after so many seconds of processor time."""
     environment = {**os.environ, 'ACES': ACES, 'PYTHONHASHSEED': seed}
-    line = [sys.executable, str(command), *map(str, words)]
-    with subprocess.Popen(line, stdout=subprocess.PIPE, stderr=subprocess.PIPE, text=True, env=environment, start_new_session=True) as process:
-        try:
-            out, err = process.communicate(timeout=seconds)
-        except subprocess.TimeoutExpired:
-            os.killpg(process.pid, signal.SIGKILL)      # what it runs too
-            raise
-    return subprocess.CompletedProcess(line, process.returncode, out, err)
+    line = ['sh', '-c', 'ulimit -t "$0" && exec "$@"', str(seconds), sys.executable, str(command), *map(str, words)]
+    return subprocess.run(line, capture_output=True, text=True, env=environment, check=False)
 
 
 def program_words(name: str) -> list[str]:

@@ -35,8 +35,6 @@ def test_case(number: str, what: str, tmp_path: Path) -> None:
     assert translated or 'cases.c:' in done.stderr and not out.exists()
 
 
-
-
 @pytest.mark.parametrize('name', NAMES[::4])
 def test_same_text(name: str) -> None:
     """Each clang and each run give the same bytes."""
