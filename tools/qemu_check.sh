@@ -106,7 +106,7 @@ echo "with halts: $runs runs, $steps instructions"
 if command -v clang > /dev/null; then
     programs=$tools/acesc/tests/programs
     sed 's/^size = 262144/size = 524288/; s/^size = 65536/size = 131072/; s/^stack = .*/stack = 8192/' "$work/closed8.toml" > "$work/c.toml"
-    most=20000
+    most=5000
     for program in "$programs"/*/main.c; do
         folder=$(dirname "$program")
         name=$(basename "$folder")
@@ -120,5 +120,5 @@ if command -v clang > /dev/null; then
 else
     echo "left out: programs made from C (clang is not installed)"
 fi
-echo "$runs runs of $steps instructions compared, at $places lines instruction by instruction; $differ differ"
+echo "$runs runs of $steps instructions compared, $places of their lines by the number of instructions too; $differ differ"
 [ $differ = 0 ]

@@ -85,6 +85,10 @@ def read_tape(content: str, image: Image) -> dict[str, deque[int]]:
     return queues
 
 
+class Gone(Exception):
+    """QEMU has ended, or does not answer."""
+
+
 class Debugger:
     """QEMU's gdb stub."""
 
@@ -106,7 +110,7 @@ class Debugger:
             except OSError:
                 one.close()
                 time.sleep(0.01)
-        sys.exit('qemu_run.py: QEMU did not start')
+        raise Gone('QEMU did not start')
 
     def ask(self, request: bytes) -> bytes:
         """The stub's answer."""
@@ -117,9 +121,12 @@ class Debugger:
             if start >= 0 and end >= 0 and len(self.received) >= end + 3:
                 answer, self.received, self.acknowledgement = self.received[start + 1:end], self.received[end + 3:], b'+'
                 return answer
-            more = self.socket.recv(65536)
+            try:
+                more = self.socket.recv(65536)
+            except OSError as fault:
+                raise Gone(f'QEMU does not answer: {fault}') from fault
             if not more:
-                sys.exit('qemu_run.py: QEMU ended')
+                raise Gone('QEMU ended')
             self.received += more
 
     def registers(self) -> list[int]:
@@ -388,4 +395,7 @@ def main(words: list[str]) -> int:
 
 
 if __name__ == '__main__':
-    sys.exit(main(sys.argv[1:]))
+    try:
+        sys.exit(main(sys.argv[1:]))
+    except Gone as gone:
+        sys.exit(f'qemu_run.py: {gone}')
