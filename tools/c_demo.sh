@@ -55,4 +55,10 @@ if [ -x "$program" ]; then
 else
     echo "Left out: aces-c test, which compares with the C run natively (ACES has to name a program that is built)."
 fi
-echo "Left out: the same image on QEMU (its tools are not there)."
+if command -v qemu-system-arm > "$work/found"; then
+    python3 tools/qemu_run.py "$work/rover.image" "$rover/rover.tape" 1000000 > "$work/qemu"
+    cmp "$work/40-run" "$work/qemu"
+    echo "QEMU's Cortex-M4 and its protection unit make the same accesses from this image, and end as it does (docs/BOARDS.md)."
+else
+    echo "Left out: the same image on QEMU (qemu-system-arm is not installed)."
+fi

@@ -1,0 +1,78 @@
+#!/bin/sh
+# The tests of what runs on QEMU's processor, and of the ELF files: ends with a line `N passed, N failed`. What is not there is told, and
+# its tests are left out.
+cd "$(dirname "$0")" || exit 1
+export ACES="${ACES:-$PWD/../crates/aces/out/aces}" PYTHONDONTWRITEBYTECODE=1
+passed=0
+failed=0
+work=$(mktemp -d) || exit 1
+trap 'rm -rf "$work"' EXIT
+trap 'exit 1' HUP INT TERM
+
+# has COMMAND PACKAGE WHAT: whether the command is there; tells what is left out where it is not.
+has() {
+    command -v "$1" > "$work/found" || {
+        echo "left out: $3 ($2 is not installed)"
+        return 1
+    }
+}
+
+# try WHAT WORD ..: runs a test; its output is shown where it fails, and else its last line.
+try() {
+    what=$1
+    shift
+    if "$@" > "$work/out" 2>&1; then
+        passed=$((passed + 1))
+        echo "$what: $(tail -n 1 "$work/out")"
+    else
+        failed=$((failed + 1))
+        cat "$work/out"
+        echo "$what failed"
+    fi
+}
+
+# ELF files of the examples; elf.py itself compares their bytes with those of the image.
+elf_files() {
+    files=0
+    for firmware in sample heater satellite station; do
+        for policy in filename optimized peripheral; do
+            for board in board16 stm32f4; do
+                python3 elf.py ../examples/$firmware.ir ../examples/$board.toml $policy "$work/elf" || return 1
+                files=$((files + 1))
+            done
+        done
+    done
+    echo "$files files have the bytes of their images"
+}
+
+# The instrument of hostile code finds what a slot that is too wide lets through.
+found() {
+    python3 qemu_hostile.py --control 20 > "$work/control" && return 1
+    grep -q "has changed$" "$work/control" && tail -n 1 "$work/control"
+}
+
+# The types of the Python files.
+types() {
+    "$python" -m mypy --strict --cache-dir /dev/null elf.py qemu_run.py qemu_hostile.py
+}
+
+if has python3 python3 "all of it"; then
+    python=
+    for one in python3 /usr/bin/python3; do
+        "$one" -c 'import mypy' 2> "$work/found" && python=$one && break
+    done
+    if [ -n "$python" ]; then try types types; else echo "left out: types (mypy is not installed)"; fi
+    if [ ! -x "$ACES" ]; then
+        echo "left out: ELF files, and all on QEMU (the program aces is not built; ACES may name it)"
+    else
+        has arm-none-eabi-ld binutils-arm-none-eabi "ELF files" && try "ELF files" elf_files
+        has qemu-system-arm qemu-system-arm "QEMU beside aces run, and the demo" && {
+            try "QEMU beside aces run" ./qemu_check.sh
+            try "hostile code on QEMU" ./qemu_hostile.py 40
+            try "hostile code, its slot opened" found
+            has arm-none-eabi-as binutils-arm-none-eabi "the demo on QEMU" && try "the demo on QEMU" ./qemu_demo.sh
+        }
+    fi
+fi
+echo "$passed passed, $failed failed"
+[ "$failed" -eq 0 ]
