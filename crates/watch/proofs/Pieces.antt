@@ -2,7 +2,7 @@
 use Rattle.std.specs.Prelude.{option_to_list}
 use Rattle.std.specs.List.{FoldsTo}
 use Rattle.std.proofs.Math.Nat.{eq-or-lt_of_le}
-use Rattle.std.proofs.Common.{◌≡◌, ℕ, zero, suc, ◌+◌, ◌<◌, ◌≤◌, ◌⊎◌, inl, inr, subst, Bool, true, false, List, [], ◌∷◌, ◌++◌, Option, Some, None, refl, ap, sym, ◌∙◌, arith, append-nil}
+use Rattle.std.proofs.Common.{◌≡◌, ℕ, ◌+◌, ◌<◌, ◌≤◌, inl, inr, subst, Bool, true, false, List, [], ◌∷◌, ◌++◌, Option, Some, None, refl, ap, sym, ◌∙◌, arith, append-nil}
 use Rattle.words.specs.Runs.{run, events}
 use Rattle.words.proofs.Runs.{run-add, events-add}
 use Rattle.device_model.specs.declared.image.Image.{Image}
@@ -12,10 +12,9 @@ use Rattle.armv7m.specs.declared.state.End.TheVariants.{Halt, InputEnd, Limit, S
 use Rattle.armv7m.specs.State.{State}
 use Rattle.armv7m.specs.Step.{step, event}
 use Rattle.armv7m.specs.Ends.{IsOwn}
-use Rattle.watch.specs.declared.session.Pause.{Pause}
 use Rattle.watch.specs.declared.session.Pause.TheVariants.{Hit, Ended}
 use Rattle.watch.specs.Sessions.{SessionState}
-use Rattle.watch.specs.Watched.{MissesAll, HitsLast, EndsBy, Says, IsWatched}
+use Rattle.watch.specs.Watched.{MissesAll, EndsBy, IsPiece, IsWatched}
 
 folds_on : {P A : Type 0} (R : P → A → P → Type 0) (p : P) (xs ys : List A) (q r : P) → FoldsTo R p xs q → FoldsTo R q ys r → FoldsTo R p (xs ++ ys) r
 folds_on R p [] ys q r a b = subst (λ u. FoldsTo R u ys r) (sym a) b
@@ -41,14 +40,44 @@ events_one i s = append-nil (option_to_list (event i s))
 abbrev pub stepped : {F : Type 0} → SessionState F → SessionState F
 stepped t = record { machine = record t.machine { state = step t.machine.image t.machine.state }; taken = t.taken + 1; callback = t.callback }
 
+-- ---- pieces of the plain run
+
+pub no_piece : {F G : Type 0} (calls : G → Event → G → Type 0) (a : SessionState F) (callback : F) (f : G) → IsPiece calls 0 a (record a { callback = callback }) f f
+no_piece calls a callback f = record {
+  counted = omega arith;
+  same_image = refl;
+  leads = run_none a.machine.image a.machine.state;
+  given = rw (events_none a.machine.image a.machine.state) refl;
+}
+
+one_piece : {F G : Type 0} (calls : G → Event → G → Type 0) (t : SessionState F) (g : G) (o : Option Event) (h : G) → event t.machine.image t.machine.state ≡ o → FoldsTo calls g (option_to_list o) h → IsPiece calls 1 t (stepped t) g h
+one_piece calls t g o h is fold =
+    let es : events (step t.machine.image) (event t.machine.image) 1 t.machine.state ≡ option_to_list o =
+    events_one t.machine.image t.machine.state ∙ ap option_to_list is in
+    record { counted = refl; same_image = refl; leads = run_one t.machine.image t.machine.state; given = subst (λ l. FoldsTo calls g l h) (sym es) fold }
+
+pub join : {F G : Type 0} (calls : G → Event → G → Type 0) (j k : ℕ) (a b c : SessionState F) (f g h : G) → IsPiece calls j a b f g → IsPiece calls k b c g h → IsPiece calls (j + k) a c f h
+join {F} {G} calls j k a b c f g h p q =
+    let i = a.machine.image in
+    let s = a.machine.state in
+    let p_counted = p.counted in
+    let q_counted = q.counted in
+    let more : FoldsTo calls g (events (step i) (event i) k (run (step i) j s)) h =
+    subst (λ x. FoldsTo calls g (events (step i) (event i) k x) h) (sym p.leads) (subst (λ x. FoldsTo calls g (events (step x) (event x) k b.machine.state) h) p.same_image q.given) in
+    record {
+      counted = omega arith;
+      same_image = q.same_image ∙ p.same_image;
+      leads = run-add (step i) j k s ∙ ap (run (step i) k) p.leads ∙ subst (λ x. run (step x) k b.machine.state ≡ c.machine.state) p.same_image q.leads;
+      given = subst (λ es. FoldsTo calls f es h) (sym (events-add (step i) (event i) j k s)) (folds_on calls f (events (step i) (event i) j s) (events (step i) (event i) k (run (step i) j s)) g h p.given more);
+    }
+
+-- ---- watched pieces
+
 -- so many steps were made of a session, none of them after the machine's end, and their events were given
 pub record Went {F G : Type 0} (calls : G → Event → G → Type 0) (s : SessionState F) (f : G) (k : ℕ) (t : SessionState F) (g : G) : Type 0 where
-  pub counted : t.taken ≡ s.taken + k
-  pub same_image : t.machine.image ≡ s.machine.image
+  pub piece : IsPiece calls k s t f g
   pub same_callback : t.callback ≡ s.callback
-  pub leads : run (step s.machine.image) k s.machine.state ≡ t.machine.state
   pub goes_on : (j : ℕ) → j < k → (run (step s.machine.image) j s.machine.state).ending ≡ None
-  pub given : FoldsTo calls f (events (step s.machine.image) (event s.machine.image) k s.machine.state) g
 
 -- what holds below a number and at it holds below the next
 below_more : (P : ℕ → Type 0) (k : ℕ) → ((j : ℕ) → j < k → P j) → P k → (j : ℕ) → j < k + 1 → P j
@@ -72,38 +101,23 @@ module _ {F G : Type 0} (answers : Event → Bool → Type 0) (calls : G → Eve
   Misses k = MissesAll answers s.machine.image k s.machine.state
 
   pub went_none : Went calls s f 0 s f
-  went_none = record {
-    counted = omega arith;
-    same_image = refl;
-    same_callback = refl;
-    leads = run_none s.machine.image s.machine.state;
-    goes_on = λ j l. let e : ⊥ = omega arith in absurd e;
-    given = rw (events_none s.machine.image s.machine.state) refl;
-  }
+  went_none = record { piece = no_piece calls s s.callback f; same_callback = refl; goes_on = λ j l. let e : ⊥ = omega arith in absurd e }
 
   pub misses_none : Misses 0
   misses_none j e l h = let x : ⊥ = omega arith in absurd x
 
   module _ (k : ℕ) (t : SessionState F) (g : G) (w : Went calls s f k t g) where
     event_here : event s.machine.image (run (step s.machine.image) k s.machine.state) ≡ event t.machine.image t.machine.state
-    event_here = ap (event s.machine.image) w.leads ∙ ap (λ i. event i t.machine.state) (sym w.same_image)
+    event_here = ap (event s.machine.image) w.piece.leads ∙ ap (λ i. event i t.machine.state) (sym w.piece.same_image)
 
     pub went_more : (o : Option Event) (h : G) → t.machine.state.ending ≡ None → event t.machine.image t.machine.state ≡ o → FoldsTo calls g (option_to_list o) h → Went calls s f (k + 1) (stepped t) h
     went_more o h on is fold =
         let i = s.machine.image in
         let a = s.machine.state in
-        let w_counted = w.counted in
-        let one : events (step i) (event i) 1 (run (step i) k a) ≡ option_to_list o =
-        events_one i (run (step i) k a) ∙ ap option_to_list (event_here ∙ is) in
-        let all : events (step i) (event i) (k + 1) a ≡ events (step i) (event i) k a ++ option_to_list o =
-        events-add (step i) (event i) k 1 a ∙ ap (λ es. events (step i) (event i) k a ++ es) one in
         record {
-          counted = omega arith;
-          same_image = w.same_image;
+          piece = join calls k 1 s t (stepped t) f g h w.piece (one_piece calls t g o h is fold);
           same_callback = w.same_callback;
-          leads = run-add (step i) k 1 a ∙ run_one i (run (step i) k a) ∙ ap (step i) w.leads ∙ ap (λ j. step j t.machine.state) (sym w.same_image);
-          goes_on = below_more (λ j. (run (step i) j a).ending ≡ None) k w.goes_on (ap (λ (x : State). x.ending) w.leads ∙ on);
-          given = subst (λ es. FoldsTo calls f es h) (sym all) (folds_on calls f (events (step i) (event i) k a) (option_to_list o) g h w.given fold);
+          goes_on = below_more (λ j. (run (step i) j a).ending ≡ None) k w.goes_on (ap (λ (x : State). x.ending) w.piece.leads ∙ on);
         }
 
     pub misses_more : Misses k → ((e : Event) → event t.machine.image t.machine.state ≡ Some e → answers e false) → Misses (k + 1)
@@ -132,12 +146,9 @@ module _ {F G : Type 0} (answers : Event → Bool → Type 0) (calls : G → Eve
           record {
             steps = k + 1;
             few = omega arith;
-            counted = u.counted;
-            same_image = u.same_image;
+            piece = u.piece;
             same_callback = u.same_callback;
-            leads = u.leads;
             goes_on = u.goes_on;
-            given = u.given;
             says = record { before = k; last = omega arith; misses = m; makes = event_here ∙ is; hits = hit };
           }
 
@@ -147,12 +158,9 @@ module _ {F G : Type 0} (answers : Event → Bool → Type 0) (calls : G → Eve
           record {
             steps = k + 1;
             few = omega arith;
-            counted = u.counted;
-            same_image = u.same_image;
+            piece = u.piece;
             same_callback = u.same_callback;
-            leads = u.leads;
             goes_on = u.goes_on;
-            given = u.given;
             says = (ends_by n (k + 1) (stepped t).machine.state e own end, misses_quiet m is);
           }
 
@@ -161,12 +169,9 @@ module _ {F G : Type 0} (answers : Event → Bool → Type 0) (calls : G → Eve
       pause_over e l m end = record {
         steps = k;
         few = l;
-        counted = w.counted;
-        same_image = w.same_image;
+        piece = w.piece;
         same_callback = w.same_callback;
-        leads = w.leads;
         goes_on = w.goes_on;
-        given = w.given;
         says = (end, m);
       }
 

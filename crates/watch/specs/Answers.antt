@@ -1,3 +1,4 @@
+-- Beyond the program's claim: only laws, proofs and functions inside the tool cite this file.
 -- What is known of a callback that is asked of events.
 use Rattle.std.specs.Prelude.{◌≡◌, Bool}
 use Rattle.events.specs.declared.event.Event.{Event}

@@ -1,3 +1,4 @@
+-- Beyond the program's claim: only laws, proofs and functions inside the tool cite this file.
 -- A session as callers see it.
 use Rattle.std.specs.Prelude.{ℕ}
 use Rattle.machine.specs.Machine.{MachineState}

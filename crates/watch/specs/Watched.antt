@@ -1,3 +1,4 @@
+-- Beyond the program's claim: only laws, proofs and functions inside the tool cite this file.
 -- Watched runs: at most so many steps, up to and with the first that makes an event on which a watch answers true.
 use Rattle.std.specs.Prelude.{◌≡◌, ℕ, suc, ◌+◌, ◌<◌, ◌≤◌, Bool, true, false, Some, None}
 use Rattle.std.specs.List.{FoldsTo}
@@ -39,16 +40,25 @@ abbrev pub Says : (answers : Event → Bool → Type 0) → Image → (limit ste
 Says answers i limit n s t (Hit e) = HitsLast answers i n s e
 Says answers i limit n s t (Ended e) = EndsBy limit n t e × MissesAll answers i n s
 
--- what `go` does of a session: the machine makes so many steps, each of which it makes before it has ended; their events are
--- given in turn, where `calls` says that what an event is given to may go from one state to another
+-- A piece of the plain run: so many steps of the machine from one session to another, whose events are given in turn; `calls` says
+-- that what an event is given to may go from one state to another.
+pub record IsPiece {F G : Type 0} (calls : G → Event → G → Type 0) (steps : ℕ) (old new : SessionState F) (f g : G) : Type 0 where
+  pub counted : new.taken ≡ old.taken + steps
+  pub same_image : new.machine.image ≡ old.machine.image
+  pub leads : run (step old.machine.image) steps old.machine.state ≡ new.machine.state
+  pub given : FoldsTo calls f (events (step old.machine.image) (event old.machine.image) steps old.machine.state) g
+
+-- what `go` does of a session: a piece of the run, each step of which the machine makes before it has ended
 pub record IsWatched {F G : Type 0} (answers : Event → Bool → Type 0) (calls : G → Event → G → Type 0) (limit : ℕ)
     (old new : SessionState F) (f g : G) (p : Pause) : Type 0 where
   pub steps : ℕ
   pub few : steps ≤ limit
-  pub counted : new.taken ≡ old.taken + steps
-  pub same_image : new.machine.image ≡ old.machine.image
+  pub piece : IsPiece calls steps old new f g
   pub same_callback : new.callback ≡ old.callback
-  pub leads : run (step old.machine.image) steps old.machine.state ≡ new.machine.state
   pub goes_on : (k : ℕ) → k < steps → (run (step old.machine.image) k old.machine.state).ending ≡ None
-  pub given : FoldsTo calls f (events (step old.machine.image) (event old.machine.image) steps old.machine.state) g
   pub says : Says answers old.machine.image limit steps old.machine.state new.machine.state p
+
+-- two pieces one after the other are one, and where another watch is taken nothing is run
+pub record PiecesJoin (F : Type 0) {G : Type 0} (calls : G → Event → G → Type 0) : Type 0 where
+  pub join : (j k : ℕ) (a b c : SessionState F) (f g h : G) → IsPiece calls j a b f g → IsPiece calls k b c g h → IsPiece calls (j + k) a c f h
+  pub change : (a : SessionState F) (callback : F) (f : G) → IsPiece calls 0 a (record a { callback = callback }) f f

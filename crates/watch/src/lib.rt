@@ -2,4 +2,5 @@
 #![tactic(auto)]
 
 pub mod callback;
+pub mod laws;
 pub mod session;

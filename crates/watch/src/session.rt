@@ -59,9 +59,10 @@ impl<F: Fn(&Event) -> bool + Drop> Session<F> {
         requires callable { F.IsAlwaysCallable watch.callback }
         requires equally { AnswersEqually (FnReturnsAt F.Fn watch.callback) }
         ensures { IfOk result (λ session. session ≡ record {
-            machine = record { image = image.now; state = runs.start image.now tape fill };
-            taken = 0;
-            callback = watch.callback }) }
+          machine = record { image = image.now; state = runs.start image.now tape fill };
+          taken = 0;
+          callback = watch.callback;
+        }) }
     {
         let machine = Machine::start(alloc, image, tape, fill)?;
         Ok(Session {

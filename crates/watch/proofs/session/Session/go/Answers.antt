@@ -1,4 +1,4 @@
-use Rattle.std.proofs.Common.{◌≡◌, ◌≤◌, true, false, ap, sym, subst, ◌∙◌, arith, refl}
+use Rattle.std.proofs.Common.{◌≡◌, ◌≤◌, true, false, ap, sym, subst, ◌∙◌, arith}
 use Rattle.std.specs.Fn.{FnReturnsAt, CalledAt}
 use Rattle.events.specs.declared.event.Event.{Event}
 use Rattle.armv7m.specs.declared.state.End.TheVariants.{Limit}

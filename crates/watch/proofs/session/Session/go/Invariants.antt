@@ -1,7 +1,6 @@
 use Rattle.std.proofs.Common.{◌≡◌, None}
 use denote.Param.Always.{always_mut}
 use Rattle.std.specs.Fn.{FnReturnsAt, CalledAt}
-use Rattle.watch.specs.Sessions.{SessionState}
 use Rattle.watch.proofs.Pieces.{Went, Misses}
 use Rattle.watch.proofs.session.Session.go.Given as goal
 
