@@ -57,7 +57,7 @@ module _ (laws : ThreadLaws) (i : Image) (t : Tables) (p : Placed i t) (s : Stat
   silent from to q c f (suc k) lt = subst (λ (x : State). event i (run (step i) k x) ≡ None) (sym to) (f k (omega (arith, lt)))
 
   pub behind : (n ret most : ℕ) (u : FaultStatus) (b : Block) (psp : ℕ) (memory old : List ℕ) → turn by_mpu i s ≡ entered true i n ret u s →
-      Leads i t most (entered true i n ret u s).to (Shows i t (Resumes b psp memory) s m old) → is_thread (stacked i psp memory status_place) ≡ true →
+      Leads i t s most (entered true i n ret u s).to (Shows i t (Resumes b psp memory) s m old) → is_thread (stacked i psp memory status_place) ≡ true →
       Behind i t s m most b psp memory
   unfolding run
   behind n ret most u b psp memory old e l th =

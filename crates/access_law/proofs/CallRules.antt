@@ -104,9 +104,9 @@ module _ (laws : ThreadLaws) (code : MonitorCode) (i : Image) (t : Tables) (p : 
         Behind i t at m (svc_steps n) b q after
     called b q after e th =
         let is = is_svc laws i t p m at held room refl n lies in
-        let l : Leads i t (svc_steps n) (at_svc i at) (Shows i t (svc_outcome i t (code.stub t) m psp memory n) at m memory) = law.svc at m n held refl is.0 is.1 (open_frame laws i t p m at held room) in
+        let l : Leads i t at (svc_steps n) (at_svc i at) (Shows i t (svc_outcome i t (code.stub t) m psp memory n) at m memory) = law.svc at m n held refl is.0 is.1 (open_frame laws i t p m at held room) in
         behind laws i t p at m held supervisor_call (pc + 2) (svc_steps n) at.status b q after memory (svc_turn laws i t p m at held room refl n lies may)
-        (subst (λ (y : Outcome). Leads i t (svc_steps n) (at_svc i at) (Shows i t y at m memory)) e l) th
+        (subst (λ (y : Outcome). Leads i t at (svc_steps n) (at_svc i at) (Shows i t y at m memory)) e l) th
 
     -- where the block changes and the thread goes on behind the SVC
     pub goes_on : (b : Block) (bound : ℕ) → suc (svc_steps n) ≤ bound → IsOrderly t b → svc_outcome i t (code.stub t) m psp memory n ≡ OutcomeResumes b psp memory →

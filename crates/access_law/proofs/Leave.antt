@@ -229,8 +229,8 @@ module _ (laws : ThreadLaws) (code : MonitorCode) (i : Image) (t : Tables) (p : 
       ends i t (code.stub t) m q mem (lowest laws code i t p law m x low o lr (code.stub t) f ram queues 1 v r fits stands.lies may) (highest laws code i t p law m x low o lr (code.stub t) f ram queues 1 v r fits stands.lies may)
       (no_pad laws code i t p law m x low o lr (code.stub t) f ram queues 1 v r fits stands.lies may) refl in
       let is = is_svc laws i t p m s h rm refl 1 stands.lies in
-      let a : Leads i t (svc_steps 1) (at_svc i s) (Shows i t (svc_outcome i t (code.stub t) m q mem 1) s m mem) = law.svc s m 1 h refl is.0 is.1 (open_frame laws i t p m s h rm) in
-      let b : Leads i t (svc_steps 1) (at_svc i s) (Shows i t (Halts 0) s m mem) = subst (λ (y : Outcome). Leads i t (svc_steps 1) (at_svc i s) (Shows i t y s m mem)) out a in
+      let a : Leads i t s (svc_steps 1) (at_svc i s) (Shows i t (svc_outcome i t (code.stub t) m q mem 1) s m mem) = law.svc s m 1 h refl is.0 is.1 (open_frame laws i t p m s h rm) in
+      let b : Leads i t s (svc_steps 1) (at_svc i s) (Shows i t (Halts 0) s m mem) = subst (λ (y : Outcome). Leads i t s (svc_steps 1) (at_svc i s) (Shows i t y s m mem)) out a in
       let turned = svc_turn laws i t p m s h rm refl 1 stands.lies may in
       let le = b.within in
       let w = first_step s (at_svc i s) (Halt 0) b.count (ap (λ (y : Turn). y.to) turned) (ap (λ (y : Turn). y.event) turned) (λ k lt. (b.each k lt).quiet) b.holds.ended.ending in

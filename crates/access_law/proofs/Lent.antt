@@ -271,10 +271,10 @@ module _ (laws : ThreadLaws) (i : Image) (t : Tables) (p : Placed i t) (m : Bloc
           fault_outcome i t m (psp has w lent) from_ram 0x82 (half_of op) ≡ Resumes m (psp has w lent) memory → stacked i (psp has w lent) memory 7 ≡ stacked_status s.core.flags false →
           Behind i t s m memfault_steps m (psp has w lent) memory
       returned stub law memory e o st =
-          let l : Leads i t memfault_steps (at_memfault i status s) (Shows i t (fault_outcome i t m (psp has w lent) from_ram 0x82 (half_of op)) s m from_ram) =
+          let l : Leads i t s memfault_steps (at_memfault i status s) (Shows i t (fault_outcome i t m (psp has w lent) from_ram 0x82 (half_of op)) s m from_ram) =
           law.memfault s m status (half_of op) h live is_fault (λ q. held) (open_frame laws i t p m s h lent.room) in
           behind laws i t p s m h mem_manage s.core.pc memfault_steps status m (psp has w lent) memory from_ram e
-          (subst (λ (x : Outcome). Leads i t memfault_steps (at_memfault i status s) (Shows i t x s m from_ram)) o l)
+          (subst (λ (x : Outcome). Leads i t s memfault_steps (at_memfault i status s) (Shows i t x s m from_ram)) o l)
           (tells laws i t p m s h lent.room (psp has w lent) memory st).0
 
 module _ (laws : ThreadLaws) (i : Image) (t : Tables) (p : Placed i t) (stub : ℕ) (law : MonitorLaw i t stub) (m : Block) (s : State) (h : InvariantHolds i t m s) (live : s.ending ≡ None) where

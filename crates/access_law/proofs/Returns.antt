@@ -46,7 +46,7 @@ module _ (i : Image) (t : Tables) where
   by_outcome (Resumes n psp after) s u m memory x = by_status (is_thread (stacked i psp after status_place)) s u m n psp after x
 
   module _ (stub : ℕ) (law : MonitorLaw i t stub) (m : Block) (s : State) (h : InvariantHolds i t m s) (live : s.ending ≡ None) (frame : is_frame_open by_mpu i s ≡ true) where
-    pub svc_returns : (n : ℕ) → n < 256 → IsSvc i t n s → Leads i t access_steps (at_svc i s) IsBehindHandler
+    pub svc_returns : (n : ℕ) → n < 256 → IsSvc i t n s → Leads i t s access_steps (at_svc i s) IsBehindHandler
     svc_returns n few is =
         let from : State = at_svc i s in
         let l = law.svc s m n h live few is frame in
@@ -57,7 +57,7 @@ module _ (i : Image) (t : Tables) where
           holds = by_outcome (svc_outcome i t stub m (frame_at s.core.sp) from.ram n) s (run (step i) l.count from) m from.ram l.holds;
         }
 
-    pub memfault_returns : (u : FaultStatus) → IsFault i s u → Leads i t access_steps (at_memfault i u s) IsBehindHandler
+    pub memfault_returns : (u : FaultStatus) → IsFault i s u → Leads i t s access_steps (at_memfault i u s) IsBehindHandler
     memfault_returns u f =
         let from : State = at_memfault i u s in
         let g = half_of i t s u f in

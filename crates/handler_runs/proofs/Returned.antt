@@ -32,7 +32,7 @@ use Rattle.monitor.specs.Block.{Block}
 use Rattle.monitor.specs.BlockWords.{IsBlock, top}
 use Rattle.monitor.specs.Invariant.{IsTop}
 use Rattle.monitor.specs.Reach.{AllBytes, LoadKind, OfStack}
-use Rattle.monitor.specs.Handlers.{Handles, Leads}
+use Rattle.monitor.specs.Handlers.{LoadFor, Handles, Leads}
 use Rattle.monitor.specs.Outcomes.{Outcome, Halts, StopsAtBus, StopsUnaligned, Resumes, frame_in, stacked, status_place}
 use Rattle.monitor.specs.MonitorLaw.{IsMemory, IsLeft, EndsThere, ReturnsBy, Shows}
 use Rattle.monitor_laws.proofs.HandlerWords.{InStack, apart_from_block}
@@ -59,6 +59,8 @@ pub record Resuming (i : Image) (t : Tables) (s : State) (m b : Block) (psp : �
   pub offset : ℕ
   pub at : psp ≡ i.ram_base + offset
   pub frame : InStack i t offset b.top
+  -- the return loads the frame
+  pub may_load : (a : ℕ) → psp ≤ a → a < psp + 32 → LoadFor i t s a
   pub current_in : b.current < length t.comps
   pub saved : ℕ
   pub is_top : IsTop t saved b.top
@@ -140,25 +142,31 @@ module _ (laws : ReturnLaws) (i : Image) (t : Tables) (p : Placed i t) (s : Stat
       (let e = r.psp_is in let f = r.at in let l = r.frame.high in let z = top_is in omega (arith, e, f, l, hi, z)),
     )
 
-    loads_from : (n a : ℕ) → d.other_sp ≤ a → a + 4 * n ≤ d.other_sp + 32 → Each (AllBytes (LoadKind i t v)) (words_from a n)
+    in_reach : (a : ℕ) → d.other_sp ≤ a → a < d.other_sp + 32 → LoadFor i t s a
+    in_reach a lo hi = r.may_load a (subst (λ n. n ≤ a) r.psp_is lo) (subst (λ n. a < n + 32) r.psp_is hi)
+
+    abbrev OfFrame : (ℕ → Type 0) → Type 0
+    OfFrame P = (a : ℕ) → d.other_sp ≤ a → a < d.other_sp + 32 → P a
+
+    loads_from : (P : ℕ → Type 0) → OfFrame P → (n a : ℕ) → d.other_sp ≤ a → a + 4 * n ≤ d.other_sp + 32 → Each (AllBytes P) (words_from a n)
     unfolding words_from
-    loads_from zero a lo hi = tt
-    loads_from (suc n) a lo hi =
+    loads_from P f zero a lo hi = tt
+    loads_from P f (suc n) a lo hi =
         let w = words.is_at in
         let h = inside in
         let g = words.low in
         let e : word (a + 4) ≡ a + 4 = omega (arith, w, h, g, hi) in (
-          λ k lt. in_stack (a + k) (omega (arith, lo)) (omega (arith, lt, hi)),
-          subst (λ a. Each (AllBytes (LoadKind i t v)) (words_from a n)) (sym e) (loads_from n (a + 4) (omega (arith, lo)) (omega (arith, hi))),
+          λ k lt. f (a + k) (omega (arith, lo)) (omega (arith, lt, hi)),
+          subst (λ a. Each (AllBytes P) (words_from a n)) (sym e) (loads_from P f n (a + 4) (omega (arith, lo)) (omega (arith, hi))),
         )
 
     -- by the status of the frame
     abbrev U : Bool → Turn
     U th = leaves true th true d.other_sp (words_at 8 r.offset d.ram) v
 
-    loads_by : (th : Bool) → Each (AllBytes (LoadKind i t v)) (U th).loads
-    loads_by true = loads_from 8 d.other_sp (omega arith) (omega arith)
-    loads_by false = tt
+    loads_by : (P : ℕ → Type 0) → OfFrame P → (th : Bool) → Each (AllBytes P) (U th).loads
+    loads_by P f true = loads_from P f 8 d.other_sp (omega arith) (omega arith)
+    loads_by P f false = tt
 
     stores_by : (th : Bool) → (U th).stores ≡ []
     stores_by true = refl
@@ -186,12 +194,16 @@ module _ (laws : ReturnLaws) (i : Image) (t : Tables) (p : Placed i t) (s : Stat
     }
     shows_by false = (pc, record { ended = record { ending = refl; handler = mode }; is_left = left_of i t m b after (U false).to r.ram })
 
-    pub handles : Handles i t v
+    loads_are : (P : ℕ → Type 0) → OfFrame P → Each (AllBytes P) (turn by_mpu i v).loads
+    loads_are P f = subst (λ u. Each (AllBytes P) u.loads) (sym turn_is) (loads_by P f (is_thread (stacked i psp after status_place)))
+
+    pub handles : Handles i t s v
     handles = record {
       handler = mode;
       quiet = ap (λ u. u.event) turn_is ∙ quiet_by (is_thread (stacked i psp after status_place));
       stores = subst (λ l. Each (AllBytes (Rattle.monitor.specs.Reach.StoreKind i t v)) l) (sym (ap (λ u. u.stores) turn_is ∙ stores_by (is_thread (stacked i psp after status_place)))) tt;
-      loads = λ closed. subst (λ u. Each (AllBytes (LoadKind i t v)) u.loads) (sym turn_is) (loads_by (is_thread (stacked i psp after status_place)));
+      loads = λ closed. loads_are (LoadKind i t v) in_stack;
+      loads_for = λ closed. loads_are (LoadFor i t s) in_reach;
     }
 
     pub shows : Shows i t (Resumes b psp after) s m after (step i v)
@@ -201,7 +213,7 @@ module _ (laws : ReturnLaws) (i : Image) (t : Tables) (p : Placed i t) (s : Stat
 
   module _ (Good : ProtectionState → Type 0) (memory : List ℕ) (from : State) (behind : ℕ) where
     -- to an end, or with one step more to the thread
-    pub concluded : (most : ℕ) (h : Outcome) (o : GateOutcome) → Answers i t s m memory h o → InMode true o → Leads i t most from (GateShows by_mpu i Good return_on_psp queues o behind) → Leads i t (most + 1) from (Shows i t h s m memory)
+    pub concluded : (most : ℕ) (h : Outcome) (o : GateOutcome) → Answers i t s m memory h o → InMode true o → Leads i t s most from (GateShows by_mpu i Good return_on_psp queues o behind) → Leads i t s (most + 1) from (Shows i t h s m memory)
     concluded most (Halts n) o a mode l =
         let e : GateShows by_mpu i Good return_on_psp queues (Halted n a.0) behind (run (step i) l.count from) = subst (λ o. GateShows by_mpu i Good return_on_psp queues o behind (run (step i) l.count from)) a.1 l.holds in
         let is_mode : a.0.protection.handler ≡ true = subst (InMode true) a.1 mode in
@@ -242,6 +254,6 @@ module _ (laws : ReturnLaws) (i : Image) (t : Tables) (p : Placed i t) (s : Stat
         record {
           count = l.count + 1;
           within = let w = l.within in omega (arith, w);
-          each = λ k lt. ⊎_elim (λ x. l.each k x) (λ x. subst (λ u. Handles i t u) (sym (ap (λ n. run (step i) n from) x ∙ e.2)) (handles b psp after a.0 a.2 is_mode e.0 e.1 e.5)) (is_before k l.count lt);
+          each = λ k lt. ⊎_elim (λ x. l.each k x) (λ x. subst (λ u. Handles i t s u) (sym (ap (λ n. run (step i) n from) x ∙ e.2)) (handles b psp after a.0 a.2 is_mode e.0 e.1 e.5)) (is_before k l.count lt);
           holds = subst (λ u. Shows i t (Resumes b psp after) s m after u) (sym next) (shows b psp after a.0 a.2 is_mode e.0 e.1 e.5);
         }

@@ -1,5 +1,5 @@
 -- The access that the handler makes for its thread, and its end.
-use Rattle.std.proofs.Common.{◌≡◌, ℕ, ◌+◌, ◌-◌, ◌%◌, ◌^◌, ◌<◌, true, false, List, length, nat_eq, refl, sym, ap, ◌∙◌, subst, arith}
+use Rattle.std.proofs.Common.{◌≡◌, ℕ, ◌+◌, ◌-◌, ◌%◌, ◌^◌, ◌<◌, ◌≤◌, true, false, List, length, nat_eq, refl, sym, ap, ◌∙◌, subst, arith}
 use Rattle.words.specs.declared.memory.Width.{Width}
 use Rattle.words.specs.declared.memory.Width.TheVariants.{Byte, Half, Word}
 use Rattle.words.specs.Width.{byte_count}
@@ -14,7 +14,7 @@ use Rattle.armv7m.specs.declared.state.ProtectionState.{ProtectionState}
 use Rattle.armv7m.specs.declared.state.FaultStatus.{FaultStatus}
 use Rattle.armv7m.specs.declared.state.StopReason.TheVariants.{Unaligned}
 use Rattle.armv7m.specs.declared.answers.Verdict.TheVariants.{ToSystem}
-use Rattle.armv7m.specs.State.{by_mpu, is_unprivileged}
+use Rattle.armv7m.specs.State.{State, by_mpu, is_unprivileged}
 use Rattle.armv7m.specs.System.{in_system, read_system, read_status, write_status}
 use Rattle.armv7m.specs.Tests.{verdict}
 use Rattle.gate_steps.specs.Steps.{Steps, Load, Store}
@@ -29,6 +29,8 @@ use Rattle.monitor.specs.Outcomes.{stacked, moved_on}
 use Rattle.monitor.specs.Constants.{Constants, constants_with}
 use Rattle.monitor.specs.MemFault.{by_width, finished}
 use Rattle.monitor.specs.Reach.{OfSystem}
+use Rattle.monitor.specs.BlockWords.{top as top_of}
+use Rattle.monitor.specs.Handlers.{ForSystem}
 use Rattle.monitor_laws.proofs.Off.{core, with_unit, IsOff, open_while_off}
 use Rattle.monitor_laws.proofs.Opened.{Handles}
 use Rattle.monitor_laws.proofs.Unlend.{closed_within}
@@ -75,21 +77,21 @@ pub record IsDone (msp psp : ℕ) (r : ProtectionState) (u : FaultStatus) (after
   pub status : d.status ≡ record u { cfsr = 0 }
   pub ram : d.ram ≡ after
 
-module _ (i : Image) (t : Tables) (p : Placed i t) (has : HasTables i t) (stub : ℕ) (Good : ProtectionState → Type 0) (good : (q : ProtectionState) → IsOff true q → Good q) where
+module _ (i : Image) (t : Tables) (p : Placed i t) (has : HasTables i t) (stub : ℕ) (thread : State) (Good : ProtectionState → Type 0) (good : (q : ProtectionState) → IsOff true q → Good q) where
   abbrev k : Constants
   k = constants_with stub t
 
   abbrev W : ℕ → Steps → List Steps → Core → (Outcome → Type 0) → Type 0
-  W n s ks c Q = GivesWithin by_mpu i Good (HandlerRule i t) n s ks c Q
+  W n s ks c Q = GivesWithin by_mpu i Good (HandlerRule i t thread) n s ks c Q
 
   abbrev block : ℕ
   block = t.monitor - i.ram_base
 
-  handles : Handles i t (HandlerRule i t)
-  handles = handlers_reach i t p
+  handles : Handles i t (top_of i t thread.ram) (HandlerRule i t thread)
+  handles = handlers_reach i t thread p
 
-  loads_cfsr : (c : Core) → c.protection.handler ≡ true → HandlerRule i t Read c 4 CFSR
-  loads_cfsr c h = λ u at closed k lt. OfSystem (ap (λ q. q.handler) at.protection ∙ h) (within k lt)
+  loads_cfsr : (c : Core) → c.protection.handler ≡ true → HandlerRule i t thread Read c 4 CFSR
+  loads_cfsr c h = λ u at closed k lt. (OfSystem (ap (λ q. q.handler) at.protection ∙ h) (within k lt), ForSystem (within k lt))
     where
       within : (k : ℕ) → k < 4 → in_system (CFSR + k) ≡ true
       within k lt = search (Rattle.std.proofs.lemmas.Bool.Decides.nat_tests, arith)
@@ -100,13 +102,13 @@ module _ (i : Image) (t : Tables) (p : Placed i t) (has : HasTables i t) (stub :
       let a : address_of c 4 base 0 ≡ CFSR = omega (arith, e) in
       let v = cfsr_verdict c.protection off.privileged in
       let r : load by_mpu i Word base 0 c ≡ Value (read_system CFSR c.protection c.status) = rw (a, v) refl in
-      value_within c.status.cfsr {z = Word} (r ∙ ap (λ v. Value v) (read_cfsr c.protection c.status)) (subst (λ a. HandlerRule i t Read c 4 a) (sym a) (loads_cfsr c off.mode)) w
+      value_within c.status.cfsr {z = Word} (r ∙ ap (λ v. Value v) (read_cfsr c.protection c.status)) (subst (λ a. HandlerRule i t thread Read c 4 a) (sym a) (loads_cfsr c off.mode)) w
 
   module _ (msp psp : ℕ) (u : FaultStatus) where
     -- ---- by the width in r6
 
     pub store_by_width : (z : Width) (ao : ℕ) {n : ℕ} {s : Steps} {ks : List Steps} {Q : Outcome → Type 0} (q : ProtectionState) (m : List ℕ) (a0 a1 a2 a3 a a5 a7 : ℕ) → IsOff true q → a ≡ i.ram_base + ao → (i.ram_base + ao) % byte_count z ≡ 0 → ao < i.ram_size →
-        ((c : Core) → c.ram ≡ m → HandlerRule i t Write c (byte_count z) (i.ram_base + ao)) →
+        ((c : Core) → c.ram ≡ m → HandlerRule i t thread Write c (byte_count z) (i.ram_base + ao)) →
         ((m1 : List ℕ) (v7 : ℕ) → m1 ≡ write (byte_count z) ao a5 m → length m1 ≡ length m → W n s ks (core msp psp q u m1 a0 a1 a2 a3 a a5 (byte_count z) v7) Q) →
         W (13 + n) (by_width (λ width rest. Store width 5 4 0 rest) s) ks (core msp psp q u m a0 a1 a2 a3 a a5 (byte_count z) a7) Q
     store_by_width Word ao q m a0 a1 a2 a3 a a5 a7 off e al hi ok f =
@@ -117,7 +119,7 @@ module _ (i : Image) (t : Tables) (p : Placed i t) (has : HasTables i t) (stub :
         more_within (const_within (no_within refl (const_within (no_within refl (store_wide_within p.rules ao Half (open_while_off q off.control) (good q off) e al hi (ok _ refl) (λ m1 x l. next_within (next_within (f m1 1 x l)))))))) (omega arith)
 
     pub store_by_width_stops : (z : Width) {s : Steps} {ks : List Steps} {Q : Outcome → Type 0} (q : ProtectionState) (m : List ℕ) (a0 a1 a2 a3 a a5 a7 : ℕ) → a < 2 ^ 32 → nat_eq (a % byte_count z) 0 ≡ false →
-        ((c : Core) → c.ram ≡ m → HandlerRule i t Write c (byte_count z) a) → ((d : Core) → d.ram ≡ m → Q (Stopped Unaligned d)) →
+        ((c : Core) → c.ram ≡ m → HandlerRule i t thread Write c (byte_count z) a) → ((d : Core) → d.ram ≡ m → Q (Stopped Unaligned d)) →
         W 13 (by_width (λ width rest. Store width 5 4 0 rest) s) ks (core msp psp q u m a0 a1 a2 a3 a a5 (byte_count z) a7) Q
     store_by_width_stops Word q m a0 a1 a2 a3 a a5 a7 lt odd ok f =
         more_within (const_within (yes_within refl (store_unaligned_within a Word refl lt odd (ok _ refl) (f _ refl)))) (omega arith)
@@ -127,7 +129,7 @@ module _ (i : Image) (t : Tables) (p : Placed i t) (has : HasTables i t) (stub :
         more_within (const_within (no_within refl (const_within (no_within refl (store_unaligned_within a Half refl lt odd (ok _ refl) (f _ refl)))))) (omega arith)
 
     pub load_by_width : (z : Width) (ao : ℕ) {n : ℕ} {s : Steps} {ks : List Steps} {Q : Outcome → Type 0} (q : ProtectionState) (m : List ℕ) (a0 a1 a2 a3 a a5 a7 : ℕ) → IsOff true q → a ≡ i.ram_base + ao → (i.ram_base + ao) % byte_count z ≡ 0 → ao < i.ram_size →
-        ((c : Core) → c.ram ≡ m → HandlerRule i t Read c (byte_count z) (i.ram_base + ao)) →
+        ((c : Core) → c.ram ≡ m → HandlerRule i t thread Read c (byte_count z) (i.ram_base + ao)) →
         ((v v7 : ℕ) → v ≡ read (byte_count z) ao m → W n s ks (core msp psp q u m a0 a1 a2 a3 a v (byte_count z) v7) Q) →
         W (13 + n) (by_width (λ width rest. Load width 5 4 0 rest) s) ks (core msp psp q u m a0 a1 a2 a3 a a5 (byte_count z) a7) Q
     load_by_width Word ao q m a0 a1 a2 a3 a a5 a7 off e al hi ok f =
@@ -138,7 +140,7 @@ module _ (i : Image) (t : Tables) (p : Placed i t) (has : HasTables i t) (stub :
         more_within (const_within (no_within refl (const_within (no_within refl (load_wide_within p.rules ao Half (open_while_off q off.control) e al hi (ok _ refl) (λ v x. next_within (next_within (f v 1 x)))))))) (omega arith)
 
     pub load_by_width_stops : (z : Width) {s : Steps} {ks : List Steps} {Q : Outcome → Type 0} (q : ProtectionState) (m : List ℕ) (a0 a1 a2 a3 a a5 a7 : ℕ) → a < 2 ^ 32 → nat_eq (a % byte_count z) 0 ≡ false →
-        ((c : Core) → c.ram ≡ m → HandlerRule i t Read c (byte_count z) a) → ((d : Core) → d.ram ≡ m → Q (Stopped Unaligned d)) →
+        ((c : Core) → c.ram ≡ m → HandlerRule i t thread Read c (byte_count z) a) → ((d : Core) → d.ram ≡ m → Q (Stopped Unaligned d)) →
         W 13 (by_width (λ width rest. Load width 5 4 0 rest) s) ks (core msp psp q u m a0 a1 a2 a3 a a5 (byte_count z) a7) Q
     load_by_width_stops Word q m a0 a1 a2 a3 a a5 a7 lt odd ok f =
         more_within (const_within (yes_within refl (load_unaligned_within a Word refl lt odd (ok _ refl) (f _ refl)))) (omega arith)
@@ -149,18 +151,18 @@ module _ (i : Image) (t : Tables) (p : Placed i t) (has : HasTables i t) (stub :
 
     -- ---- the end: the return address rises by 2, CFSR is cleared, and the unit is on again
 
-    pub finished_within : (o top : ℕ) (r : ProtectionState) {ks : List Steps} {Q : Outcome → Type 0} (q : ProtectionState) (m : List ℕ) (a1 a2 a3 a4 a5 a6 a7 : ℕ) → IsOff true q → psp ≡ i.ram_base + o → InStack i t o top → read 4 (block + 4) m ≡ top → u.cfsr ≡ 0x82 →
+    pub finished_within : (o top : ℕ) (r : ProtectionState) {ks : List Steps} {Q : Outcome → Type 0} (q : ProtectionState) (m : List ℕ) (a1 a2 a3 a4 a5 a6 a7 : ℕ) → IsOff true q → psp ≡ i.ram_base + o → InStack i t o top → i.ram_base + (o + 32) ≤ top_of i t thread.ram → read 4 (block + 4) m ≡ top → u.cfsr ≡ 0x82 →
         with_unit q (record q.mpu { control = 5 }) ≡ r → Good r → ((d : Core) → IsDone msp psp r u (moved_on i psp m) d → Q (AtReturn d)) →
         W 19 finished ks (core msp psp q u m psp a1 a2 a3 a4 a5 a6 a7) Q
-    finished_within o top r {ks} {Q} q m a1 a2 a3 a4 a5 a6 a7 off ep io et ec on good_on f =
+    finished_within o top r {ks} {Q} q m a1 a2 a3 a4 a5 a6 a7 off ep io below et ec on good_on f =
         more_within
-        (frame_load_within i t p has stub Good (HandlerRule i t) handles good o top 6 off io ep refl et (λ v4 e4.
+        (frame_load_within i t p has stub Good (HandlerRule i t thread) handles good o top 6 off io below ep refl et (λ v4 e4.
         const_within (alu_within (λ x ex.
-        frame_store_within i t p has stub Good (HandlerRule i t) handles good o top 6 off io ep refl et (λ m1 w1 z1.
+        frame_store_within i t p has stub Good (HandlerRule i t thread) handles good o top 6 off io ep refl et (λ m1 w1 z1.
         const_within (cfsr_within off refl
         (system_within CFSR off.privileged refl refl (omega arith) refl refl (handles.plain.system _ CFSR off.mode refl refl) (good_after m1)
         (at_within (same m1)
-        (closed_within i t p has stub Good (HandlerRule i t) handles good msp psp (record u { cfsr = 0 }) q m1 psp a1 a2 a3 CFSR u.cfsr a6 a7 off (subst Good (sym on) good_on) (λ q1 e1.
+        (closed_within i t p has stub Good (HandlerRule i t thread) handles good msp psp (record u { cfsr = 0 }) q m1 psp a1 a2 a3 CFSR u.cfsr a6 a7 off (subst Good (sym on) good_on) (λ q1 e1.
         f _ (record { sp = refl; other_sp = refl; protection = e1 ∙ on; status = refl; ram = w1 ∙ moved_is i psp o x v4 m ep e4 ex }))))))))))) (omega arith)
       where
         same : (m1 : List ℕ) → with_system (core msp psp q u m1 psp a1 a2 a3 CFSR u.cfsr a6 a7) CFSR u.cfsr ≡ core msp psp q (record u { cfsr = 0 }) m1 psp a1 a2 a3 CFSR u.cfsr a6 a7

@@ -31,7 +31,7 @@ use Rattle.monitor.specs.MemFault.{memfault}
 use Rattle.monitor.specs.Block.{Block}
 use Rattle.monitor.specs.Invariant.{InvariantHolds}
 use Rattle.monitor.specs.Regions.{regions_for}
-use Rattle.monitor.specs.Handlers.{at_memfault, IsFault, Leads}
+use Rattle.monitor.specs.Handlers.{LoadFor, ForStack, at_memfault, IsFault, Leads}
 use Rattle.monitor.specs.Outcomes.{Outcome as Comes, Halts, StopsAtBus, StopsUnaligned, Resumes}
 use Rattle.monitor.specs.FaultOutcome.{fault_outcome}
 use Rattle.monitor.specs.MonitorLaw.{IsMemory, Shows, memfault_steps}
@@ -173,8 +173,9 @@ module _ (laws : FaultLaws) (i : Image) (t : Tables) (ready : IsReady i t) where
 
     -- ---- the list
 
-    at_fault : AtFault i t b o memory
+    at_fault : AtFault i t s b o memory
     at_fault = record {
+      before = inv.inv.is_block;
       is_block = entry.memory_block laws.entry i t ready.placed s b inv alive opened s.core.pc;
       orderly = inv.inv.orderly;
       aligned = entry.o_aligned laws.entry i t ready.placed s b inv alive opened;
@@ -187,14 +188,14 @@ module _ (laws : FaultLaws) (i : Image) (t : Tables) (ready : IsReady i t) where
     outcome = fault_outcome i t b psp memory u.cfsr half
 
     abbrev Ended : Comes → Outcome → Type 0
-    Ended y x = Ends i t ready.placed ready.has_tables (stub_address t) (IsGood i) (good_while_off i rules) msp psp u r good_r b o memory psp_is at_fault y x
+    Ended y x = Ends i t ready.placed ready.has_tables (stub_address t) s (IsGood i) (good_while_off i rules) msp psp u r good_r b o memory psp_is at_fault y x
 
-    given : GivesWithin by_mpu i (IsGood i) (HandlerRule i t) 1730 (memfault (constants t)) [] c0 (Ended outcome)
-    given = memfault_within i t ready.placed ready.has_tables (stub_address t) (IsGood i) (good_while_off i rules) msp psp u r good_r b o memory psp_is at_fault in_handler half (low 0) (low 1) (low 2) (low 3) (low 4) (low 5) (low 6) (low 7) refl refl refl small (cause_by fault)
+    given : GivesWithin by_mpu i (IsGood i) (HandlerRule i t s) 1730 (memfault (constants t)) [] c0 (Ended outcome)
+    given = memfault_within i t ready.placed ready.has_tables (stub_address t) s (IsGood i) (good_while_off i rules) msp psp u r good_r b o memory psp_is at_fault in_handler half (low 0) (low 1) (low 2) (low 3) (low 4) (low 5) (low 6) (low 7) refl refl refl small (cause_by fault)
 
     -- ---- its code
 
-    may_start : MayStart by_mpu i (IsGood i) (HandlerRule i t) return_on_psp s.queues (memfault (constants t)) (i.flash_base + memfault_offset (constants t)) (entry.scratch laws.entry i t ready.placed s b inv alive opened) c0
+    may_start : MayStart by_mpu i (IsGood i) (HandlerRule i t s) return_on_psp s.queues (memfault (constants t)) (i.flash_base + memfault_offset (constants t)) (entry.scratch laws.entry i t ready.placed s b inv alive opened) c0
     may_start = record {
       registers_are_low = memfault_low (stub_address t) t;
       below = let h = rules.flash_highest in let m = code_room in omega (arith, h, m);
@@ -213,11 +214,11 @@ module _ (laws : FaultLaws) (i : Image) (t : Tables) (ready : IsReady i t) where
     abbrev behind : ℕ
     behind = i.flash_base + memfault_offset (constants t) + code_length (memfault (constants t))
 
-    led : GateLeads by_mpu i (IsGood i) (HandlerRule i t) (ticks by_mpu i (memfault (constants t)) c0) st0 (GateShows by_mpu i (IsGood i) return_on_psp s.queues effect0 behind)
-    led = effect_of_code by_mpu i (IsGood i) (HandlerRule i t) laws.list return_on_psp s.queues (memfault (constants t)) (i.flash_base + memfault_offset (constants t)) (entry.scratch laws.entry i t ready.placed s b inv alive opened) c0 rules may_start
+    led : GateLeads by_mpu i (IsGood i) (HandlerRule i t s) (ticks by_mpu i (memfault (constants t)) c0) st0 (GateShows by_mpu i (IsGood i) return_on_psp s.queues effect0 behind)
+    led = effect_of_code by_mpu i (IsGood i) (HandlerRule i t s) laws.list return_on_psp s.queues (memfault (constants t)) (i.flash_base + memfault_offset (constants t)) (entry.scratch laws.entry i t ready.placed s b inv alive opened) c0 rules may_start
 
-    handled : Leads i t (ticks by_mpu i (memfault (constants t)) c0) st0 (GateShows by_mpu i (IsGood i) return_on_psp s.queues effect0 behind)
-    handled = runs_handle i t (IsGood i) (λ q g. g.mode) (ticks by_mpu i (memfault (constants t)) c0) st0 (GateShows by_mpu i (IsGood i) return_on_psp s.queues effect0 behind) led
+    handled : Leads i t s (ticks by_mpu i (memfault (constants t)) c0) st0 (GateShows by_mpu i (IsGood i) return_on_psp s.queues effect0 behind)
+    handled = runs_handle i t s (IsGood i) (λ q g. g.mode) (ticks by_mpu i (memfault (constants t)) c0) st0 (GateShows by_mpu i (IsGood i) return_on_psp s.queues effect0 behind) led
 
     -- ---- its end
 
@@ -252,12 +253,18 @@ module _ (laws : FaultLaws) (i : Image) (t : Tables) (ready : IsReady i t) where
         aligned = at_fault.aligned;
         low = f.low;
         high = let x = f.high in let e = at_fault.is_block.top_is in omega (arith, x, e);
-        ends = subst (λ (n : ℕ). n ≤ stack_end t) at_fault.is_block.top_is (ends i t ready.placed ready.has_tables (stub_address t) (IsGood i) (good_while_off i rules) msp psp u r good_r b o memory psp_is at_fault);
+        ends = subst (λ (n : ℕ). n ≤ stack_end t) at_fault.is_block.top_is (ends i t ready.placed ready.has_tables (stub_address t) s (IsGood i) (good_while_off i rules) msp psp u r good_r b o memory psp_is at_fault);
       };
+      may_load = may_load;
       current_in = inv.inv.orderly.current_in;
       saved = length b.saved;
       is_top = inv.inv.orderly.is_top;
     }
+      where
+        may_load : (a : ℕ) → psp ≤ a → a < psp + 32 → LoadFor i t s a
+        may_load a lo hi =
+            let x = f.low in let y = f.high in let e = at_fault.is_block.top_is in let g = inv.inv.is_block.top_is in let z = psp_is in
+            ForStack (omega (arith, lo, x, z), omega (arith, hi, y, e, g, z))
 
     answered : (y : Comes) (x : Outcome) → Ended y x → Answers i t s b memory y x
     answered (Halts n) x e = (e.0, e.1, left_as e.0.ram e.2)
@@ -269,15 +276,15 @@ module _ (laws : FaultLaws) (i : Image) (t : Tables) (ready : IsReady i t) where
       subst (λ (c : Block). Resuming i t s b c q after e.0) (sym e.3) (subst (λ (q : ℕ). Resuming i t s b b q after e.0) (sym e.4) (resuming e.0 after e.2 e.5 e.6)),
     )
 
-    ended_there : Leads i t (ticks by_mpu i (memfault (constants t)) c0 + 1) st0 (Shows i t outcome s b memory)
+    ended_there : Leads i t s (ticks by_mpu i (memfault (constants t)) c0 + 1) st0 (Shows i t outcome s b memory)
     ended_there =
         concluded laws.returned i t ready.placed s b s.queues refl (IsGood i) memory st0 behind (ticks by_mpu i (memfault (constants t)) c0) outcome effect0
         (answered outcome effect0 (gives_effect given.gives).0) (mode_kept true by_mpu i (memfault (constants t)) c0 refl) handled
 
     few_ticks : ticks by_mpu i (memfault (constants t)) c0 ≤ 1730
-    few_ticks = ticks_of i (IsGood i) (HandlerRule i t) 1730 (memfault (constants t)) c0 (Ended outcome) given
+    few_ticks = ticks_of i (IsGood i) (HandlerRule i t s) 1730 (memfault (constants t)) c0 (Ended outcome) given
 
-    in_time : Leads i t memfault_steps st0 (Shows i t outcome s b memory)
+    in_time : Leads i t s memfault_steps st0 (Shows i t outcome s b memory)
     in_time = record {
       count = ended_there.count;
       within = let a = ended_there.within in let f = few_ticks in omega (arith, a, f);
@@ -285,8 +292,8 @@ module _ (laws : FaultLaws) (i : Image) (t : Tables) (ready : IsReady i t) where
       holds = ended_there.holds;
     }
 
-    pub fault_is_handled : Leads i t memfault_steps (at_memfault i u s) (Shows i t (fault_outcome i t b psp (at_memfault i u s).ram u.cfsr half) s b (at_memfault i u s).ram)
-    fault_is_handled = subst (λ (x : State). Leads i t memfault_steps x (Shows i t (fault_outcome i t b (frame_at s.core.sp) x.ram u.cfsr half) s b x.ram)) (sym entered_is) in_time
+    pub fault_is_handled : Leads i t s memfault_steps (at_memfault i u s) (Shows i t (fault_outcome i t b psp (at_memfault i u s).ram u.cfsr half) s b (at_memfault i u s).ram)
+    fault_is_handled = subst (λ (x : State). Leads i t s memfault_steps x (Shows i t (fault_outcome i t b (frame_at s.core.sp) x.ram u.cfsr half) s b x.ram)) (sym entered_is) in_time
 
 pub faults_keep_the_law : FaultLaws → OfSoundImages monitor_code FaultLaw
 faults_keep_the_law laws i t rules sound s b u half inv alive fault holds opened = fault_is_handled laws i t (sound_images_are_ready i t rules sound) s b u half inv alive fault holds opened

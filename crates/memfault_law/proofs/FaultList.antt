@@ -15,7 +15,7 @@ use Rattle.armv7m.specs.declared.TheConstants.{CFSR}
 use Rattle.armv7m.specs.declared.state.ProtectionState.{ProtectionState}
 use Rattle.armv7m.specs.declared.state.FaultStatus.{FaultStatus}
 use Rattle.armv7m.specs.declared.state.StopReason.TheVariants.{Unaligned}
-use Rattle.armv7m.specs.State.{by_mpu, is_unprivileged}
+use Rattle.armv7m.specs.State.{State, by_mpu, is_unprivileged}
 use Rattle.gate_steps.specs.Steps.{Steps, End, Load, Store}
 use Rattle.gate_steps.specs.Core.{Core}
 use Rattle.gate_steps.specs.Effect.{Outcome, Halted, AtReturn, Stopped}
@@ -27,7 +27,8 @@ use Rattle.monitor.specs.Offsets.{record_mask, record_reads}
 use Rattle.monitor.specs.Area.{HasTables}
 use Rattle.monitor.specs.Placed.{Placed}
 use Rattle.monitor.specs.Block.{Block}
-use Rattle.monitor.specs.BlockWords.{IsBlock, current, loan_count}
+use Rattle.monitor.specs.BlockWords.{IsBlock, current, loan_count, top as top_of}
+use Rattle.monitor.specs.Reach.{running}
 use Rattle.monitor.specs.Invariant.{IsOrderly}
 use Rattle.monitor.specs.Outcomes.{Outcome as Comes, Halts, StopsAtBus, StopsUnaligned, Resumes, stacked, with_stacked, moved_on, is_open}
 use Rattle.monitor.specs.FaultOutcome.{is_lent, if_aligned, emulated_store, emulated_load, by_half, is_data_fault, fault_outcome}
@@ -45,8 +46,9 @@ use Rattle.memfault_law.proofs.Wide.{test_within}
 use Rattle.memfault_law.proofs.Scan.{HasMasks, has_masks, scan_within}
 use Rattle.memfault_law.proofs.Emulated.{IsDone, cfsr_within, store_by_width, store_by_width_stops, load_by_width, load_by_width_stops, finished_within}
 
--- the monitor's block, and RAM behind the entry
-pub record AtFault (i : Image) (t : Tables) (b : Block) (o : ℕ) (m : List ℕ) : Type 0 where
+-- the monitor's block, at the thread's state s too, and RAM behind the entry
+pub record AtFault (i : Image) (t : Tables) (s : State) (b : Block) (o : ℕ) (m : List ℕ) : Type 0 where
+  pub before : IsBlock i t s.ram b
   pub is_block : IsBlock i t m b
   pub orderly : IsOrderly t b
   pub aligned : o % 4 ≡ 0
@@ -63,20 +65,20 @@ pub record HalfThere (i : Image) (o : ℕ) (m : List ℕ) (half : ℕ) : Type 0 
 abbrev load_list : Constants → Steps
 load_list c = scan c (record_reads c.slots) 9 (by_width (λ width rest. Load width 5 4 0 rest) (Store Word 5 0 0 finished))
 
-module _ (i : Image) (t : Tables) (p : Placed i t) (has : HasTables i t) (stub : ℕ) (Good : ProtectionState → Type 0) (good : (q : ProtectionState) → IsOff true q → Good q) where
+module _ (i : Image) (t : Tables) (p : Placed i t) (has : HasTables i t) (stub : ℕ) (thread : State) (Good : ProtectionState → Type 0) (good : (q : ProtectionState) → IsOff true q → Good q) where
   abbrev k : Constants
   k = constants_with stub t
 
   abbrev W : ℕ → Steps → List Steps → Core → (Outcome → Type 0) → Type 0
-  W n s ks c Q = GivesWithin by_mpu i Good (HandlerRule i t) n s ks c Q
+  W n s ks c Q = GivesWithin by_mpu i Good (HandlerRule i t thread) n s ks c Q
 
   abbrev block : ℕ
   block = t.monitor - i.ram_base
 
-  handles : Handles i t (HandlerRule i t)
-  handles = handlers_reach i t p
+  handles : Handles i t (top_of i t thread.ram) (HandlerRule i t thread)
+  handles = handlers_reach i t thread p
 
-  module _ (msp psp : ℕ) (u : FaultStatus) (r : ProtectionState) (good_on : Good r) (b : Block) (o : ℕ) (m : List ℕ) (ep : psp ≡ i.ram_base + o) (h : AtFault i t b o m) where
+  module _ (msp psp : ℕ) (u : FaultStatus) (r : ProtectionState) (good_on : Good r) (b : Block) (o : ℕ) (m : List ℕ) (ep : psp ≡ i.ram_base + o) (h : AtFault i t thread b o m) where
     -- the words of the monitor's block are as before
     abbrev pub BlockStays : List ℕ → Type 0
     BlockStays after = (x : ℕ) → x + 4 ≤ 544 → read 4 (block + x) after ≡ read 4 (block + x) m
@@ -93,6 +95,9 @@ module _ (i : Image) (t : Tables) (p : Placed i t) (has : HasTables i t) (stub :
 
     abbrev top : ℕ
     top = read 4 (block + 4) m
+
+    same_top : top ≤ top_of i t thread.ram
+    same_top = let e = h.is_block.top_is in let f = h.before.top_is in omega (arith, e, f)
 
     pub ends : top ≤ stack_end t
     ends =
@@ -134,14 +139,19 @@ module _ (i : Image) (t : Tables) (p : Placed i t) (has : HasTables i t) (stub :
     all_hits mask w = hits_are i t m mask a w b.loans h.is_block.has_loans h.orderly.loans p.few_lends (let x = high in omega (arith, x)) a_word
 
     -- the loan
+    found_in : (ram : List ℕ) → IsBlock i t ram b → (mask w : ℕ) → is_lent mask a w b.loans ≡ true → IsLentBy i t ram mask a w (loan_count i t ram)
+    found_in ram y mask w e = subst (λ n. IsLentBy i t ram mask a w n) (sym y.loan_count_is) (lent_by i t ram mask a w b.loans y.has_loans h.orderly.loans e)
+
     found : (mask w : ℕ) → is_lent mask a w b.loans ≡ true → IsLentBy i t m mask a w (loan_count i t m)
-    found mask w e = subst (λ n. IsLentBy i t m mask a w n) (sym h.is_block.loan_count_is) (lent_by i t m mask a w b.loans h.is_block.has_loans h.orderly.loans e)
+    found mask w e = found_in m h.is_block mask w e
 
-    may_store : (w : ℕ) → is_lent (compartment_at t b.current).mask a w b.loans ≡ true → (c : Core) → c.ram ≡ m → HandlerRule i t Write c w a
-    may_store w e c z = lent_store i t m a w c z (found (compartment_at t (current i t m)).mask w (subst (λ n. is_lent (compartment_at t n).mask a w b.loans ≡ true) (sym h.is_block.current_is) e))
+    may_store : (w : ℕ) → is_lent (compartment_at t b.current).mask a w b.loans ≡ true → (c : Core) → c.ram ≡ m → HandlerRule i t thread Write c w a
+    may_store w e c z = lent_store i t thread m a w c z (found (compartment_at t (current i t m)).mask w (subst (λ n. is_lent (compartment_at t n).mask a w b.loans ≡ true) (sym h.is_block.current_is) e))
 
-    may_load : (w : ℕ) → is_lent (compartment_at t b.current).reads a w b.loans ≡ true → (c : Core) → c.ram ≡ m → HandlerRule i t Read c w a
-    may_load w e c z = lent_load i t m a w c z (found (compartment_at t (current i t m)).reads w (subst (λ n. is_lent (compartment_at t n).reads a w b.loans ≡ true) (sym h.is_block.current_is) e))
+    may_load : (w : ℕ) → is_lent (compartment_at t b.current).reads a w b.loans ≡ true → (c : Core) → c.ram ≡ m → HandlerRule i t thread Read c w a
+    may_load w e c z =
+        lent_load i t thread m a w c z (found (compartment_at t (current i t m)).reads w (subst (λ n. is_lent (compartment_at t n).reads a w b.loans ≡ true) (sym h.is_block.current_is) e))
+        (found_in thread.ram h.before (running i t thread).reads w (subst (λ n. is_lent (compartment_at t n).reads a w b.loans ≡ true) (sym h.before.current_is) e))
 
     -- it lies in the stack
     in_ram : (mask w : ℕ) → IsLentBy i t m mask a w (loan_count i t m) → a ≡ i.ram_base + (a - i.ram_base)
@@ -176,6 +186,9 @@ module _ (i : Image) (t : Tables) (p : Placed i t) (has : HasTables i t) (stub :
     module _ (opens : FrameIsOpen i t o m) where
       pub io : InStack i t o top
       io = record { aligned = h.aligned; low = opens.low; high = (let x = opens.high in omega (arith, x)); ends = ends }
+
+      pub below : i.ram_base + (o + 32) ≤ top_of i t thread.ram
+      below = let x = opens.high in let y = same_top in omega (arith, x, y)
 
       -- so does one into the frame
       frame_off : (y v : ℕ) (n : List ℕ) → y + 4 ≤ 32 → (x : ℕ) → x + 4 ≤ 544 → read 4 (block + x) (write 4 (psp - i.ram_base + y) v n) ≡ read 4 (block + x) n
@@ -217,22 +230,22 @@ module _ (i : Image) (t : Tables) (p : Placed i t) (has : HasTables i t) (stub :
             W 32 (by_width (λ width rest. Store width 5 4 0 rest) finished) ks (core msp psp q u m psp v1 v2 0 a x w v7) StoreEnds
         stored_within v1 v2 v7 x e ex true f =
             let l = found (compartment_at t b.current).mask w e in
-            store_by_width i t p has stub Good good msp psp u z (a - i.ram_base) q m psp v1 v2 0 a x v7 off (in_ram (compartment_at t b.current).mask w l) (aligned_is z (compartment_at t b.current).mask l f) (in_size (compartment_at t b.current).mask z l)
-            (λ c y. subst (λ n. HandlerRule i t Write c w n) (in_ram (compartment_at t b.current).mask w l) (may_store w e c y))
+            store_by_width i t p has stub thread Good good msp psp u z (a - i.ram_base) q m psp v1 v2 0 a x v7 off (in_ram (compartment_at t b.current).mask w l) (aligned_is z (compartment_at t b.current).mask l f) (in_size (compartment_at t b.current).mask z l)
+            (λ c y. subst (λ n. HandlerRule i t thread Write c w n) (in_ram (compartment_at t b.current).mask w l) (may_store w e c y))
             (λ m1 y7 w1 z1.
-            finished_within i t p has stub Good good msp psp u o top r q m1 v1 v2 0 a x w y7 off ep io (top_stays w x m1 (compartment_at t b.current).mask l w1) cause on good_on (λ d y.
+            finished_within i t p has stub thread Good good msp psp u o top r q m1 v1 v2 0 a x w y7 off ep io below (top_stays w x m1 (compartment_at t b.current).mask l w1) cause on good_on (λ d y.
             subst (λ y. Ends y (AtReturn d)) (sym (store_lent e true f)) (d, refl, subst (λ n. IsDone msp psp r u (moved_on i psp n) d) (w1 ∙ ap (λ v. write w (a - i.ram_base) v m) (value_is x ex)) y, refl, refl, store_stays l, opens)))
         stored_within v1 v2 v7 x e ex false f =
             more_within
-            (store_by_width_stops i t p has stub Good good msp psp u z q m psp v1 v2 0 a x v7 a_word f (may_store w e)
+            (store_by_width_stops i t p has stub thread Good good msp psp u z q m psp v1 v2 0 a x v7 a_word f (may_store w e)
             (λ d y. subst (λ y. Ends y (Stopped Unaligned d)) (sym (store_lent e false f)) (d, refl, y))) (omega arith)
 
         pub stores_within : {ks : List Steps} (a2 a3 a4 a5 a7 : ℕ) → W 1600 (stores k) ks (core msp psp q u m psp k.block a2 a3 a4 a5 w a7) StoreEnds
         stores_within a2 a3 a4 a5 a7 =
             more_within
-            (scan_within i t p has stub Good good msp psp u o top b.current (record_mask k.slots) 7 (compartment_at t b.current).mask a (length b.loans) (is_lent (compartment_at t b.current).mask a w b.loans) q m a2 a3 a4 a5 w a7 off ep io refl h.is_block.current_is h.orderly.current_in mask_there mask_room a_is h.is_block.loan_count_is h.orderly.few (all_hits (compartment_at t b.current).mask w)
+            (scan_within i t p has stub thread Good good msp psp u o top b.current (record_mask k.slots) 7 (compartment_at t b.current).mask a (length b.loans) (is_lent (compartment_at t b.current).mask a w b.loans) q m a2 a3 a4 a5 w a7 off ep io below refl h.is_block.current_is h.orderly.current_in mask_there mask_room a_is h.is_block.loan_count_is h.orderly.few (all_hits (compartment_at t b.current).mask w)
             (λ e d y. subst (λ y. Ends y (Halted 7 d)) (sym (store_refused e)) (d, refl, y))
-            (λ e v1 v2 v7. frame_load_within i t p has stub Good (HandlerRule i t) handles good o top 0 off io ep refl refl (λ x ex.
+            (λ e v1 v2 v7. frame_load_within i t p has stub Good (HandlerRule i t thread) handles good o top 0 off io below ep refl refl (λ x ex.
             stored_within v1 v2 v7 x e ex (nat_eq (a % byte_count z) 0) refl))) (omega arith)
 
         -- ---- a load
@@ -263,21 +276,21 @@ module _ (i : Image) (t : Tables) (p : Placed i t) (has : HasTables i t) (stub :
             W 33 (by_width (λ width rest. Load width 5 4 0 rest) (Store Word 5 0 0 finished)) ks (core msp psp q u m psp v1 v2 0 a x w v7) LoadEnds
         loaded_within v1 v2 v7 x e true f =
             let l = found (compartment_at t b.current).reads w e in
-            load_by_width i t p has stub Good good msp psp u z (a - i.ram_base) q m psp v1 v2 0 a x v7 off (in_ram (compartment_at t b.current).reads w l) (aligned_is z (compartment_at t b.current).reads l f) (in_size (compartment_at t b.current).reads z l)
-            (λ c y. subst (λ n. HandlerRule i t Read c w n) (in_ram (compartment_at t b.current).reads w l) (may_load w e c y))
+            load_by_width i t p has stub thread Good good msp psp u z (a - i.ram_base) q m psp v1 v2 0 a x v7 off (in_ram (compartment_at t b.current).reads w l) (aligned_is z (compartment_at t b.current).reads l f) (in_size (compartment_at t b.current).reads z l)
+            (λ c y. subst (λ n. HandlerRule i t thread Read c w n) (in_ram (compartment_at t b.current).reads w l) (may_load w e c y))
             (λ v y7 ev.
-            frame_store_within i t p has stub Good (HandlerRule i t) handles good o top 0 off io ep refl refl (λ m1 w1 z1.
-            finished_within i t p has stub Good good msp psp u o top r q m1 v1 v2 0 a v w y7 off ep io (frame_top v m1 w1) cause on good_on (λ d y.
+            frame_store_within i t p has stub Good (HandlerRule i t thread) handles good o top 0 off io ep refl refl (λ m1 w1 z1.
+            finished_within i t p has stub thread Good good msp psp u o top r q m1 v1 v2 0 a v w y7 off ep io below (frame_top v m1 w1) cause on good_on (λ d y.
             subst (λ y. Ends y (AtReturn d)) (sym (load_lent e true f)) (d, refl, subst (λ n. IsDone msp psp r u (moved_on i psp n) d) (result_is v m1 ev w1) y, refl, refl, load_stays, opens))))
         loaded_within v1 v2 v7 x e false f =
             more_within
-            (load_by_width_stops i t p has stub Good good msp psp u z q m psp v1 v2 0 a x v7 a_word f (may_load w e)
+            (load_by_width_stops i t p has stub thread Good good msp psp u z q m psp v1 v2 0 a x v7 a_word f (may_load w e)
             (λ d y. subst (λ y. Ends y (Stopped Unaligned d)) (sym (load_lent e false f)) (d, refl, y))) (omega arith)
 
         pub load_list_within : {ks : List Steps} (a2 a3 a4 a5 a7 : ℕ) → W 1600 (load_list k) ks (core msp psp q u m psp k.block a2 a3 a4 a5 w a7) LoadEnds
         load_list_within a2 a3 a4 a5 a7 =
             more_within
-            (scan_within i t p has stub Good good msp psp u o top b.current (record_reads k.slots) 9 (compartment_at t b.current).reads a (length b.loans) (is_lent (compartment_at t b.current).reads a w b.loans) q m a2 a3 a4 a5 w a7 off ep io refl h.is_block.current_is h.orderly.current_in reads_there reads_room a_is h.is_block.loan_count_is h.orderly.few (all_hits (compartment_at t b.current).reads w)
+            (scan_within i t p has stub thread Good good msp psp u o top b.current (record_reads k.slots) 9 (compartment_at t b.current).reads a (length b.loans) (is_lent (compartment_at t b.current).reads a w b.loans) q m a2 a3 a4 a5 w a7 off ep io below refl h.is_block.current_is h.orderly.current_in reads_there reads_room a_is h.is_block.loan_count_is h.orderly.few (all_hits (compartment_at t b.current).reads w)
             (λ e d y. subst (λ y. Ends y (Halted 9 d)) (sym (load_refused e)) (d, refl, y))
             (λ e v1 v2 v7. loaded_within v1 v2 v7 _ e (nat_eq (a % byte_count z) 0) refl)) (omega arith)
 
@@ -390,10 +403,10 @@ module _ (i : Image) (t : Tables) (p : Placed i t) (has : HasTables i t) (stub :
         W 1730 (memfault k) [] (core msp psp q u m a0 a1 a2 a3 a4 a5 a6 a7) (Ends (fault_outcome i t b psp m u.cfsr half))
     memfault_within q half a0 a1 a2 a3 a4 a5 a6 a7 mode un on small cause =
         more_within
-        (opened_within i t p has stub Good (HandlerRule i t) handles good msp psp u q o m a0 a1 a2 a3 a4 a5 a6 a7 mode un ep h.aligned small ends
+        (opened_within i t p has stub Good (HandlerRule i t thread) handles good msp psp u q o m a0 a1 a2 a3 a4 a5 a6 a7 mode un ep h.aligned small ends same_top
         (λ d x shut. subst (λ y. Ends y (Halted 4 d)) (sym (shut_outcome half (not_open_is shut))) (d, refl, x))
         (λ q1 v4 eq off f.
-        const_within (cfsr_within i t p has stub Good good off refl (const_within (alu_within (λ x5 e5. tested q1 v4 x5 (ap (λ v. with_unit v (record v.mpu { control = 5 })) eq ∙ on) off f e5 cause)))))) (omega arith)
+        const_within (cfsr_within i t p has stub thread Good good off refl (const_within (alu_within (λ x5 e5. tested q1 v4 x5 (ap (λ v. with_unit v (record v.mpu { control = 5 })) eq ∙ on) off f e5 cause)))))) (omega arith)
       where
         tested : (q1 : ProtectionState) (v4 x5 : ℕ) → with_unit q1 (record q1.mpu { control = 5 }) ≡ r → IsOff true q1 → FrameIsOpen i t o m → x5 ≡ bit_and u.cfsr 0x82 → (u.cfsr ≡ 1) ⊎ ((u.cfsr ≡ 0x82) × HalfThere i o m half) →
             W 1667 (Rattle.monitor.specs.Opening.must Rattle.gate_steps.specs.declared.steps.GateCond.TheVariants.Eq 5 6 8 (Load Word 4 0 6 (Load Half 4 4 0 (widths 0x6008 0x7008 0x8008 (loads k t.closed) (stores k))))) [] (core msp psp q1 u m psp k.block k.stack top CFSR x5 0x82 0) (Ends (fault_outcome i t b psp m u.cfsr half))
@@ -404,7 +417,7 @@ module _ (i : Image) (t : Tables) (p : Placed i t) (has : HasTables i t) (stub :
         tested q1 v4 x5 on1 off f e5 (inr (c, there)) =
             must_within {m = 1662}
             (λ e. absurd (eq_false x5 0x82 e (data_bits x5 e5 c)))
-            (λ e. frame_load_within i t p has stub Good (HandlerRule i t) handles good o top 6 off (io f) ep refl refl (λ x4 e4.
+            (λ e. frame_load_within i t p has stub Good (HandlerRule i t thread) handles good o top 6 off (io f) (below f) ep refl refl (λ x4 e4.
             load_flash_within p.rules there.offset {z = Half} (open_while_off q1 off.control) (at_half x4 e4) half_aligned in_flash (handles.plain.flash _ 2 there.offset there.room) (λ y4 f4.
             at_within (ap (λ x. core msp psp q1 u m psp k.block k.stack top x x5 0x82 0) (f4 ∙ there.is_half))
             (subst (λ y. W 1660 (widths 0x6008 0x7008 0x8008 (loads k t.closed) (stores k)) [] (core msp psp q1 u m psp k.block k.stack top half x5 0x82 0) (Ends y)) (sym (data_outcome half (open_is f) c)) (half_within f c q1 off on1 half k.stack top x5 0x82 0)))))

@@ -16,7 +16,8 @@ use Rattle.monitor.specs.Records.{compartment_at, stack_end}
 use Rattle.monitor.specs.Block.{Loan}
 use Rattle.monitor.specs.BlockWords.{current, loan_count, loan_address, loan_end, loan_number, loan_offset, IsLoanAt, HasLoans}
 use Rattle.monitor.specs.Invariant.{IsLoan}
-use Rattle.monitor.specs.Reach.{StoreKind, ByLoan, LoadKind, OfLoan}
+use Rattle.monitor.specs.Reach.{running, IsInLoan, StoreKind, ByLoan, LoadKind, OfLoan}
+use Rattle.monitor.specs.Handlers.{ForLoan}
 use Rattle.monitor.specs.FaultOutcome.{covers, is_lent}
 use Rattle.monitor_laws.proofs.Opened.{le_false}
 use Rattle.monitor_laws.proofs.HandlerRule.{HandlerRule}
@@ -146,8 +147,8 @@ module _ (i : Image) (t : Tables) (m : List ℕ) (mask a w : ℕ) where
           }
 
 -- so the access is of a kind that confinement knows
-module _ (i : Image) (t : Tables) (m : List ℕ) (a w : ℕ) where
-  pub lent_store : (c : Core) → c.ram ≡ m → IsLentBy i t m (compartment_at t (current i t m)).mask a w (loan_count i t m) → HandlerRule i t Write c w a
+module _ (i : Image) (t : Tables) (s : State) (m : List ℕ) (a w : ℕ) where
+  pub lent_store : (c : Core) → c.ram ≡ m → IsLentBy i t m (compartment_at t (current i t m)).mask a w (loan_count i t m) → HandlerRule i t s Write c w a
   lent_store c e l = λ u at k lt. kind u k lt (at.ram ∙ e)
     where
       kind : (u : State) (k : ℕ) → k < w → u.ram ≡ m → StoreKind i t u (a + k)
@@ -158,9 +159,13 @@ module _ (i : Image) (t : Tables) (m : List ℕ) (a w : ℕ) where
         below_end = subst (λ (r : List ℕ). a + k < loan_end i t r l.number) (sym same) (let f = l.below_end in omega (arith, f, lt));
       })
 
-  pub lent_load : (c : Core) → c.ram ≡ m → IsLentBy i t m (compartment_at t (current i t m)).reads a w (loan_count i t m) → HandlerRule i t Read c w a
-  lent_load c e l = λ u at closed k lt. kind u k lt (at.ram ∙ e)
+  -- a load is lent by the words of s too
+  pub lent_load : (c : Core) → c.ram ≡ m → IsLentBy i t m (compartment_at t (current i t m)).reads a w (loan_count i t m) → IsLentBy i t s.ram (running i t s).reads a w (loan_count i t s.ram) → HandlerRule i t s Read c w a
+  lent_load c e l before = λ u at closed k lt. (kind u k lt (at.ram ∙ e), ForLoan before.number (in_loan k lt))
     where
+      in_loan : (k : ℕ) → k < w → IsInLoan i t s (running i t s).reads before.number (a + k)
+      in_loan k lt = record { live = before.live; in_mask = before.in_mask; from_address = (let f = before.from_address in omega (arith, f)); below_end = (let f = before.below_end in omega (arith, f, lt)) }
+
       kind : (u : State) (k : ℕ) → k < w → u.ram ≡ m → LoadKind i t u (a + k)
       kind u k lt same = OfLoan l.number (record {
         live = subst (λ (r : List ℕ). l.number < loan_count i t r) (sym same) l.live;

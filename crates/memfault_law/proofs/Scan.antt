@@ -9,7 +9,7 @@ use Rattle.mpu_model.specs.declared.region.Access.TheVariants.{Read}
 use Rattle.device_model.specs.declared.image.Image.{Image}
 use Rattle.armv7m.specs.declared.state.ProtectionState.{ProtectionState}
 use Rattle.armv7m.specs.declared.state.FaultStatus.{FaultStatus}
-use Rattle.armv7m.specs.State.{by_mpu}
+use Rattle.armv7m.specs.State.{State, by_mpu}
 use Rattle.gate_steps.specs.declared.steps.GateOp.TheVariants.{Add}
 use Rattle.gate_steps.specs.Steps.{Steps, End, Const, Load, Alu, Repeat}
 use Rattle.gate_steps.specs.Core.{Core, low_register, with_low}
@@ -19,7 +19,7 @@ use Rattle.monitor.specs.declared.tables.Tables.{Tables}
 use Rattle.monitor.specs.Records.{compartment_at, number_of_slots, nobody}
 use Rattle.monitor.specs.Area.{HasTables, region_words, compartment_words}
 use Rattle.monitor.specs.Placed.{Placed, IsCompartment}
-use Rattle.monitor.specs.BlockWords.{loan_address, loan_end, loan_number}
+use Rattle.monitor.specs.BlockWords.{loan_address, loan_end, loan_number, top as top_of}
 use Rattle.monitor.specs.Constants.{Constants, constants_with}
 use Rattle.monitor.specs.MemFault.{loan_turn, scan}
 use Rattle.monitor_laws.proofs.FlashWords.{Has, has_back, has_record}
@@ -71,18 +71,18 @@ module _ (i : Image) (t : Tables) (p : Placed i t) (has : HasTables i t) (stub :
         room = omega (arith, next, room);
       }
 
-  module _ (Good : ProtectionState → Type 0) (good : (q : ProtectionState) → IsOff true q → Good q) where
+  module _ (thread : State) (Good : ProtectionState → Type 0) (good : (q : ProtectionState) → IsOff true q → Good q) where
     abbrev k : Constants
     k = constants_with stub t
 
     abbrev pub W : ℕ → Steps → List Steps → Core → (Outcome → Type 0) → Type 0
-    W n s ks c Q = GivesWithin by_mpu i Good (HandlerRule i t) n s ks c Q
+    W n s ks c Q = GivesWithin by_mpu i Good (HandlerRule i t thread) n s ks c Q
 
     abbrev block : ℕ
     block = t.monitor - i.ram_base
 
-    handles : Handles i t (HandlerRule i t)
-    handles = handlers_reach i t p
+    handles : Handles i t (top_of i t thread.ram) (HandlerRule i t thread)
+    handles = handlers_reach i t thread p
 
     -- a word of the loan numbered d
     loan_load_within : (d off x : ℕ) {n to b : ℕ} {s : Steps} {ks : List Steps} {c : Core} {Q : Outcome → Type 0} → IsOff true c.protection → low_register c b ≡ t.monitor + (160 + 12 * d) → d < 32 → off < 3 → x ≡ 160 + 12 * d + 4 * off →
@@ -205,20 +205,20 @@ module _ (i : Image) (t : Tables) (p : Placed i t) (has : HasTables i t) (stub :
             no_more = omega (arith, e)
 
       -- the scan, by a mask in flash: it halts where no loan holds the access
-      pub scan_within : (o top cur field code mask a count : ℕ) (lent : Bool) {b : ℕ} {s : Steps} {ks : List Steps} {Q : Outcome → Type 0} (q : ProtectionState) (m : List ℕ) (a2 a3 a4 a5 w a7 : ℕ) → IsOff true q → psp ≡ i.ram_base + o → InStack i t o top → read 4 (block + 4) m ≡ top →
+      pub scan_within : (o top cur field code mask a count : ℕ) (lent : Bool) {b : ℕ} {s : Steps} {ks : List Steps} {Q : Outcome → Type 0} (q : ProtectionState) (m : List ℕ) (a2 a3 a4 a5 w a7 : ℕ) → IsOff true q → psp ≡ i.ram_base + o → InStack i t o top → i.ram_base + (o + 32) ≤ top_of i t thread.ram → read 4 (block + 4) m ≡ top →
           read 4 (block + 0) m ≡ cur → cur < length t.comps → read 4 (record_at i t (writable i t p has stub) stub cur + 4 * field) i.flash ≡ mask → record_at i t (writable i t p has stub) stub cur + 4 * field + 4 ≤ length i.flash →
           read 4 (o + 4) m ≡ a → read 4 (block + 12) m ≡ count → count ≤ 32 → hits i t m mask a w count ≡ one_or lent 0 →
           (lent ≡ false → (d : Core) → d.ram ≡ m → Q (Halted code d)) →
           (lent ≡ true → (v1 v2 v7 : ℕ) → W b s ks (core msp psp q u m psp v1 v2 0 a mask w v7) Q) →
           W (1540 + b) (scan k field code s) ks (core msp psp q u m psp k.block a2 a3 a4 a5 w a7) Q
-      scan_within o top cur field code mask a count lent {b} {s} {ks} {Q} q m a2 a3 a4 a5 w a7 off ep io et ec inside em room ea en few he refuse go =
+      scan_within o top cur field code mask a count lent {b} {s} {ks} {Q} q m a2 a3 a4 a5 w a7 off ep io below et ec inside em room ea en few he refuse go =
           more_within
-          (copy_within (block_load_within i t p has stub Good (HandlerRule i t) handles good 0 off refl refl (λ x5 e5.
+          (copy_within (block_load_within i t p has stub Good (HandlerRule i t thread) handles good 0 off refl refl (λ x5 e5.
           at_within (ap (λ x. core msp psp q u m psp k.block w a3 a4 x w a7) (e5 ∙ ec))
-          (record_of_within i p.rules k Good (HandlerRule i t) true handles.plain good msp psp u cur (record_at i t (writable i t p has stub) stub cur) q m psp k.block w a3 a4 w a7 slots_least slots_most small at_record low_flash (λ v6 v7 e6.
+          (record_of_within i p.rules k Good (HandlerRule i t thread) true handles.plain good msp psp u cur (record_at i t (writable i t p has stub) stub cur) q m psp k.block w a3 a4 w a7 slots_least slots_most small at_record low_flash (λ v6 v7 e6.
           load_flash_within p.rules (record_at i t (writable i t p has stub) stub cur + 4 * field) {z = Word} (open_while_off q off.control) (at_field v6 e6) flash_al in_flash (handles.plain.flash _ 4 (record_at i t (writable i t p has stub) stub cur + 4 * field) room) (λ y5 f5.
-          copy_within (frame_load_within i t p has stub Good (HandlerRule i t) handles good o top 1 off io ep refl et (λ x4 e4.
-          block_load_within i t p has stub Good (HandlerRule i t) handles good 3 off refl refl (λ x3 e3.
+          copy_within (frame_load_within i t p has stub Good (HandlerRule i t thread) handles good o top 1 off io below ep refl et (λ x4 e4.
+          block_load_within i t p has stub Good (HandlerRule i t thread) handles good 3 off refl refl (λ x3 e3.
           const_within (const_within
           (at_within (ap (λ x. core msp psp q u m psp k.block k.loans_at x3 x y5 w 0) (e4 ∙ ea) ∙ ap (λ x. core msp psp q u m psp k.block k.loans_at x a y5 w 0) (e3 ∙ en) ∙ ap (λ x. core msp psp q u m psp k.block k.loans_at count a x w 0) (f5 ∙ em))
           (loans_within q m a mask w count off few psp k.block k.loans_at (loans_at_is i t p has stub) (λ y0 y1 y2.

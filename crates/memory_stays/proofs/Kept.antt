@@ -1,9 +1,10 @@
 -- What stays in each run, and who accesses peripherals, from the induction over its acts.
-use Rattle.std.proofs.Common.{◌≡◌, ◌≢◌, ℕ, ◌+◌, ◌-◌, ◌*◌, ◌<◌, ◌⊎◌, inl, inr, ⊎_elim, Bool, true, false, List, [], ◌∷◌, nat_eq, Option, Some, None, refl, sym, ap, ◌∙◌, subst, arith}
+use Rattle.std.proofs.Common.{◌≡◌, ◌≢◌, ℕ, ◌+◌, ◌-◌, ◌*◌, ◌<◌, ◌≤◌, ◌⊎◌, inl, inr, ⊎_elim, Bool, true, false, List, [], ◌∷◌, nat_eq, Option, Some, None, refl, sym, ap, ◌∙◌, subst, arith}
 use Rattle.std.specs.Prelude.{if◌then◌else◌}
-use Rattle.std.proofs.lemmas.Bool.{false≢true}
+use Rattle.std.proofs.lemmas.Bool.{false≢true, cases_lt}
 use Rattle.std.proofs.lemmas.Bool.Decides.{nat_tests}
 use Rattle.words.specs.Bytes.{read}
+use Rattle.words.specs.Runs.{run}
 use Rattle.mpu_model.specs.declared.region.Region.{Region}
 use Rattle.mpu_model.specs.declared.region.Access.{Access}
 use Rattle.mpu_model.specs.declared.region.Access.TheVariants.{Read, Write}
@@ -15,8 +16,9 @@ use Rattle.device_model.specs.declared.image.Image.{Image}
 use Rattle.mem_bus.specs.Places.{InRam, InFlash, InWindow, place, choose}
 use Rattle.mem_bus.proofs.Offsets.{in_ram, in_flash}
 use Rattle.events.specs.declared.event.Event.{Event}
-use Rattle.armv7m.specs.State.{State, Touched, by_mpu}
-use Rattle.armv7m.specs.Step.{turn, event}
+use Rattle.armv7m.specs.State.{State, Touched, Turn, by_mpu}
+use Rattle.armv7m.specs.Step.{turn, step, event}
+use Rattle.armv7m.proofs.Runs.{turn_ended}
 use Rattle.resets.specs.Reset.{EachRun}
 use Rattle.armv7m.specs.Exceptions.{vector_offset, mem_manage, supervisor_call}
 use Rattle.armv7m.specs.Confinement.{AnyOf, IsVectorRead, EventsAreListed}
@@ -29,15 +31,16 @@ use Rattle.monitor.specs.Block.{Block, first_block}
 use Rattle.monitor.specs.BlockWords.{current}
 use Rattle.monitor.specs.Invariant.{InvariantHolds}
 use Rattle.monitor.specs.Reach.{AllBytes, running, InOpenStack}
+use Rattle.monitor.specs.Handlers.{LoadFor}
 use Rattle.monitor.specs.MonitorLaw.{MonitorLaw}
 use Rattle.monitor.specs.Starts.{Starts}
 use Rattle.monitor.specs.Confined.{StartUp, HasStarted, later}
 use Rattle.confine.specs.Reaches.{IsRead, Reaches}
 use Rattle.thread_moves.specs.WhoRuns.{WhoRuns, WhoRunsComesBack}
-use Rattle.thread_moves.proofs.Segments.{segment, user}
-use Rattle.thread_moves.proofs.Inductions.{holds_at as run_holds}
+use Rattle.thread_moves.proofs.Segments.{Rest, InThread, Over, Segment, segment, user}
+use Rattle.thread_moves.proofs.Inductions.{at_add, still, works_in, holds_at as run_holds}
 use Rattle.memory_stays.specs.Acts.{IsWritable, MayChange, InSlot, BelowTop, InLoan, InResult, MayRead, ReadsSlot, ReadsStack, ReadsFlash, Acts}
-use Rattle.memory_stays.specs.Stays.{IsClosedTo, MemoryStays, DataStays, DataChangesByItsWriters, OwnDataStays, ClosedStackStays, ActsReadTheirOwn, IsOwnAccess, KeepsMemory}
+use Rattle.memory_stays.specs.Stays.{IsClosedTo, MemoryStays, DataStays, DataChangesByItsWriters, OwnDataStays, ClosedStackStays, ActsReadTheirOwn, MonitorReadsForActs, IsOwnAccess, KeepsMemory}
 use Rattle.memory_stays.proofs.ActChanges.{ActLaws, next_changes, next_data}
 use Rattle.memory_stays.proofs.Rests.{stays_or, memory_stays}
 use Rattle.memory_stays.proofs.KeptFrames.{frames_are_kept}
@@ -213,6 +216,26 @@ module _ (laws : ActLaws) (units : AccessLaws) (i : Image) (t : Tables) (p : Pla
       (λ q. ⊎_elim (λ e. vector_read (at n) mem_manage (omega arith) y e) (λ e. vector_read (at n) supervisor_call (omega arith) y e) q) z)
       (laws.accesses i (at n) (user laws.runs i t p stub law h.0 (at n) h.1) h.1.fits.core.sp_aligned).loads
 
+  -- the monitor's step is one of its work for the act, or the machine has ended in a handler
+  monitor_reads_in : i.closed ≡ true → (n k : ℕ) (b : Block) (g : Segment laws.runs i t p stub law b (at n)) → n < k → ((j : ℕ) → n < j → j ≤ k → (at j).protection.handler ≡ true)
+      → Each (AllBytes (LoadFor i t (at n))) (turn by_mpu i (at k)).loads
+  monitor_reads_in closed n k b g lt in_handler =
+      ⊎_elim (λ l. (works_in laws.runs i t p stub law first n k b g lt l).loads_for closed) (λ le. behind le g.rest) (cases_lt k (n + g.count))
+    where
+      there : at (n + g.count) ≡ run (step i) g.count (at n)
+      there = at_add laws.runs i t p stub law first n g.count
+
+      behind : n + g.count ≤ k → Rest laws.runs i t p stub law b (at n) (run (step i) g.count (at n)) → Each (AllBytes (LoadFor i t (at n))) (turn by_mpu i (at k)).loads
+      behind le (InThread c y move) =
+          let some = g.some in
+          absurd (false≢true (sym (ap (λ (x : State). x.protection.handler) there ∙ y.inv.thread) ∙ in_handler (n + g.count) (omega (arith, some)) le))
+      behind le (Over e y) =
+          let z = still laws.runs i t p stub law first (n + g.count) k e le (ap (λ (x : State). x.ending) there ∙ y.ending) in
+          subst (λ (x : Turn). Each (AllBytes (LoadFor i t (at n))) x.loads) (sym (turn_ended by_mpu i (at k) e (ap (λ (x : State). x.ending) (z ∙ there) ∙ y.ending))) tt
+
+  monitor_reads : MonitorReadsForActs i t first
+  monitor_reads closed n k x = let h = holds_at n x in monitor_reads_in closed n k h.0 (segment laws.runs i t p stub law h.0 (at n) h.1)
+
   pub keeps : WhoRunsComesBack → KeepsMemory i t first
   keeps back = record {
     acts_change = λ a n o x y. let h = holds_at a x in next_changes laws i t p stub law first a n h.0 h.1 y (segment laws.runs i t p stub law h.0 (at a) h.1) o;
@@ -224,6 +247,7 @@ module _ (laws : ActLaws) (units : AccessLaws) (i : Image) (t : Tables) (p : Pla
     stack_stays = stack_stays;
     frames = frames_are_kept i t p first who back stack_stays;
     reads = reads;
+    monitor_reads = monitor_reads;
     bounded = λ n x. let h = holds_at n x in bounded i t p (at n) h.0 h.1;
     invariant = holds_at;
     accesses = λ n e started told. let x = event_acts n e started told in let h = holds_at n x in own n e x told h.0 h.1;

@@ -102,7 +102,7 @@ module _ (i : Image) (t : Tables) (p : Placed i t) where
           let c3 = changed_in lo hi (block + 4) top m m2 m3 c2 (omega arith) (omega arith) w3 in
           changed_in lo hi (block + 16) v m m3 m4 c3 (omega arith) (omega arith) w4
 
-module _ (i : Image) (t : Tables) (p : Placed i t) (has : HasTables i t) (stub : ℕ) (Good : ProtectionState → Type 0) (Allowed : Rule) (handles : Handles i t Allowed) (good : (q : ProtectionState) → IsOff true q → Good q) where
+module _ (i : Image) (t : Tables) (p : Placed i t) (has : HasTables i t) (stub : ℕ) (Good : ProtectionState → Type 0) (Allowed : Rule) {entry_top : ℕ} (handles : Handles i t entry_top Allowed) (good : (q : ProtectionState) → IsOff true q → Good q) where
   abbrev k : Constants
   k = constants_with stub t
 
@@ -114,11 +114,11 @@ module _ (i : Image) (t : Tables) (p : Placed i t) (has : HasTables i t) (stub :
 
   module _ (msp psp : ℕ) (u : FaultStatus) where
     -- the return address rises by 2
-    pub raise_within : (o top ret : ℕ) {b : ℕ} {s : Steps} {ks : List Steps} {Q : Outcome → Type 0} (q : ProtectionState) (m : List ℕ) (a1 a2 a3 a4 a5 a6 a7 : ℕ) → IsOff true q → psp ≡ i.ram_base + o → InStack i t o top → read 4 (here + 4) m ≡ top → read 4 (o + 24) m ≡ ret → ret < 2 ^ 31 →
+    pub raise_within : (o top ret : ℕ) {b : ℕ} {s : Steps} {ks : List Steps} {Q : Outcome → Type 0} (q : ProtectionState) (m : List ℕ) (a1 a2 a3 a4 a5 a6 a7 : ℕ) → IsOff true q → psp ≡ i.ram_base + o → InStack i t o top → i.ram_base + (o + 32) ≤ entry_top → read 4 (here + 4) m ≡ top → read 4 (o + 24) m ≡ ret → ret < 2 ^ 31 →
         ((v4 : ℕ) (m1 : List ℕ) → m1 ≡ write 4 (o + 24) (ret + 2) m → length m1 ≡ length m → W b s ks (core msp psp q u m1 psp a1 a2 a3 v4 a5 2 a7) Q) → W (8 + b) (raise s) ks (core msp psp q u m psp a1 a2 a3 a4 a5 a6 a7) Q
-    raise_within o top ret {b} {s} {ks} {Q} q m a1 a2 a3 a4 a5 a6 a7 off ep io et er lt f =
+    raise_within o top ret {b} {s} {ks} {Q} q m a1 a2 a3 a4 a5 a6 a7 off ep io below et er lt f =
         more_within
-        (frame_load_within i t p has stub Good Allowed handles good o top 6 off io ep refl et (λ v4 e4.
+        (frame_load_within i t p has stub Good Allowed handles good o top 6 off io below ep refl et (λ v4 e4.
         const_within (alu_within (λ x ex.
         let xe : x ≡ ret + 2 = plus_two v4 x (e4 ∙ er) ex in
         frame_store_within i t p has stub Good Allowed handles good o top 6 off io ep refl et (λ m1 w1 z1. f x m1 (w1 ∙ ap (λ v. write 4 (o + 24) v m) xe) z1))))) (omega arith)

@@ -33,7 +33,7 @@ abbrev pub chosen : (flash : List ℕ) → (o e : ℕ) → ℕ → ℕ
 chosen flash o e zero = 0xFFFFFFFF
 chosen flash o e (suc k) = choose (nat_eq (read 4 (o + 8 * k) flash) e) (read 4 (o + 8 * k + 4) flash) (chosen flash o e k)
 
-module _ (i : Image) (t : Tables) (p : Placed i t) (has : HasTables i t) (stub : ℕ) (Good : ProtectionState → Type 0) (Allowed : Rule) (handles : Handles i t Allowed) (good : (q : ProtectionState) → IsOff true q → Good q) where
+module _ (i : Image) (t : Tables) (p : Placed i t) (has : HasTables i t) (stub : ℕ) (Good : ProtectionState → Type 0) (Allowed : Rule) {entry_top : ℕ} (handles : Handles i t entry_top Allowed) (good : (q : ProtectionState) → IsOff true q → Good q) where
   abbrev k : Constants
   k = constants_with stub t
 
@@ -117,13 +117,13 @@ module _ (i : Image) (t : Tables) (p : Placed i t) (has : HasTables i t) (stub :
             (no_within h (next_within (tail_within v3 (chosen i.flash to e r.done) (sym (picked false v3 (read 4 (to + 8 * r.done + 4) i.flash) (chosen i.flash to e r.done) e3 h))))) (omega arith)
 
     -- the entry is the caller's r12
-    pub target_within : (first count to o top : ℕ) {b : ℕ} {s : Steps} {ks : List Steps} {Q : Outcome → Type 0} (q : ProtectionState) (m : List ℕ) (a1 a2 a3 a4 a7 : ℕ) → IsOff true q → psp ≡ i.ram_base + o → InStack i t o top → read 4 (t.monitor - i.ram_base + 4) m ≡ top → HasTargets first count to →
+    pub target_within : (first count to o top : ℕ) {b : ℕ} {s : Steps} {ks : List Steps} {Q : Outcome → Type 0} (q : ProtectionState) (m : List ℕ) (a1 a2 a3 a4 a7 : ℕ) → IsOff true q → psp ≡ i.ram_base + o → InStack i t o top → i.ram_base + (o + 32) ≤ entry_top → read 4 (t.monitor - i.ram_base + 4) m ≡ top → HasTargets first count to →
         ((d : Core) → d.ram ≡ m → chosen i.flash to (read 4 (o + 16) m) count ≡ 0xFFFFFFFF → Q (Halted 3 d)) →
         ((v4 v7 : ℕ) → chosen i.flash to (read 4 (o + 16) m) count ≢ 0xFFFFFFFF → W b s ks (core msp psp q u m psp a1 a2 0xFFFFFFFF v4 (chosen i.flash to (read 4 (o + 16) m) count) 0 v7) Q) →
         W (25 + 16 * count + b) (target k s) ks (core msp psp q u m psp a1 a2 a3 a4 first count a7) Q
-    target_within first count to o top {b} {s} {ks} {Q} q m a1 a2 a3 a4 a7 off ep io et h refuse f =
+    target_within first count to o top {b} {s} {ks} {Q} q m a1 a2 a3 a4 a7 off ep io below et h refuse f =
         more_within
-        (frame_load_within i t p has stub Good Allowed handles good o top 4 off io ep refl et (λ v4 e4.
+        (frame_load_within i t p has stub Good Allowed handles good o top 4 off io below ep refl et (λ v4 e4.
         const_within (alu_within (λ x ex.
         let x8 : x ≡ 8 * first = shl3 first x ex (low28 first h.first_low) in
         const_within (alu_within (λ v7 e7.

@@ -1,10 +1,11 @@
 -- What the steps of a handler may access, as a rule of the language: the kinds of confinement, at any state with the core's RAM and
--- protection.
-use Rattle.std.proofs.Common.{◌≡◌, ℕ, ◌+◌, ◌-◌, ◌<◌, ◌≤◌, true, refl, sym, ap, ◌∙◌, subst, arith}
+-- protection. What they load may be loaded for the thread's instruction too.
+use Rattle.std.proofs.Common.{◌≡◌, ℕ, ◌+◌, ◌-◌, ◌<◌, ◌≤◌, true, length, refl, sym, ap, ◌∙◌, subst, arith}
 use Rattle.words.specs.Bytes.{read}
 use Rattle.mpu_model.specs.declared.region.Access.{Access}
 use Rattle.mpu_model.specs.declared.region.Access.TheVariants.{Read, Write, Fetch}
 use Rattle.device_model.specs.declared.image.Image.{Image}
+use Rattle.mem_bus.specs.Places.{place, InFlash}
 use Rattle.words.specs.Runs.{run}
 use Rattle.armv7m.specs.declared.state.ProtectionState.{ProtectionState}
 use Rattle.armv7m.specs.State.{State, Touched, by_mpu}
@@ -16,7 +17,8 @@ use Rattle.gate_steps.proofs.Gives.{in_flash}
 use Rattle.monitor.specs.declared.tables.Tables.{Tables}
 use Rattle.monitor.specs.Reach.{AllBytes, InBlock, StoreKind, ByStack, ByBlock, BySystem, LoadKind, OfFlash, OfStack, OfBlock}
 use Rattle.monitor.specs.Placed.{Placed}
-use Rattle.monitor.specs.Handlers.{Handles as IsHandlers, Leads as HandlerLeads}
+use Rattle.monitor.specs.BlockWords.{top}
+use Rattle.monitor.specs.Handlers.{LoadFor, ForFlash, ForBlock, ForStack, Handles as IsHandlers, Leads as HandlerLeads}
 use Rattle.monitor_laws.proofs.Opened.{Handles}
 use Rattle.monitor_laws.proofs.Ranges.{still}
 use Rattle.common_laws.proofs.Lists.{each_to}
@@ -26,49 +28,50 @@ pub record IsAt (c : Core) (u : State) : Type 0 where
   pub ram : u.ram ≡ c.ram
   pub protection : u.protection ≡ c.protection
 
-abbrev pub HandlerRule : Image → Tables → Rule
-HandlerRule i t Read c w a = (u : State) → IsAt c u → i.closed ≡ true → (k : ℕ) → k < w → LoadKind i t u (a + k)
-HandlerRule i t Write c w a = (u : State) → IsAt c u → (k : ℕ) → k < w → StoreKind i t u (a + k)
-HandlerRule i t Fetch c w a = Unit {0}
+-- of a handler that works for the instruction to which a thread comes at s
+abbrev pub HandlerRule : Image → Tables → State → Rule
+HandlerRule i t s Read c w a = (u : State) → IsAt c u → i.closed ≡ true → (k : ℕ) → k < w → LoadKind i t u (a + k) × LoadFor i t s (a + k)
+HandlerRule i t s Write c w a = (u : State) → IsAt c u → (k : ℕ) → k < w → StoreKind i t u (a + k)
+HandlerRule i t s Fetch c w a = Unit {0}
 
 in_block : (i : Image) (t : Tables) (o k : ℕ) → i.ram_base ≤ t.monitor → o + 4 ≤ 544 → k < 4 → InBlock t (i.ram_base + (t.monitor - i.ram_base + o) + k)
 in_block i t o k l h lt = (omega (arith, l), omega (arith, l, h, lt))
 
-pub handlers_reach : (i : Image) (t : Tables) → Placed i t → Handles i t (HandlerRule i t)
-handlers_reach i t p = record {
+pub handlers_reach : (i : Image) (t : Tables) (s : State) → Placed i t → Handles i t (top i t s.ram) (HandlerRule i t s)
+handlers_reach i t s p = record {
   plain = record {
-    flash = λ c w o h. λ u at closed k lt. OfFlash (o + k) (in_flash i (i.flash_base + o + k) (o + k) p.rules (omega arith) (omega (arith, h, lt)));
-    system = λ c a h al s. λ u at k lt. BySystem (ap (λ q. q.handler) at.protection ∙ h) (still a k al s lt);
+    flash = λ c w o h. λ u at closed k lt. (OfFlash (o + k) (is_flash w o k h lt), ForFlash (o + k) (is_flash w o k h lt));
+    system = λ c a h al y. λ u at k lt. BySystem (ap (λ q. q.handler) at.protection ∙ h) (still a k al y lt);
   };
   block = block;
-  stack = stack;
+  stack_load = λ c o l h r. λ u at closed k lt. (OfStack (open_in c u o k at.ram l h lt), ForStack (omega (arith, l), omega (arith, r, lt)));
+  stack_store = λ c o l h. λ u at k lt. ByStack (open_in c u o k at.ram l h lt);
 }
   where
-    block : (kind : Access) (c : Core) (o : ℕ) → c.protection.handler ≡ true → o + 4 ≤ 544 → HandlerRule i t kind c 4 (i.ram_base + (t.monitor - i.ram_base + o))
-    block Read c o h r = λ u at closed k lt. OfBlock (ap (λ q. q.handler) at.protection ∙ h) (in_block i t o k p.block_inside.0 r lt)
+    is_flash : (w o k : ℕ) → o + w ≤ length i.flash → k < w → place i (i.flash_base + o + k) ≡ InFlash (o + k)
+    is_flash w o k h lt = in_flash i (i.flash_base + o + k) (o + k) p.rules (omega arith) (omega (arith, h, lt))
+
+    block : (kind : Access) (c : Core) (o : ℕ) → c.protection.handler ≡ true → o + 4 ≤ 544 → HandlerRule i t s kind c 4 (i.ram_base + (t.monitor - i.ram_base + o))
+    block Read c o h r = λ u at closed k lt. (OfBlock (ap (λ q. q.handler) at.protection ∙ h) (in_block i t o k p.block_inside.0 r lt), ForBlock (in_block i t o k p.block_inside.0 r lt))
     block Write c o h r = λ u at k lt. ByBlock (ap (λ q. q.handler) at.protection ∙ h) (in_block i t o k p.block_inside.0 r lt)
     block Fetch c o h r = tt
 
     open_in : (c : Core) (u : State) (o k : ℕ) → u.ram ≡ c.ram → t.stack.base ≤ i.ram_base + o → i.ram_base + (o + 4) ≤ read 4 (t.monitor - i.ram_base + 4) c.ram → k < 4 → (t.stack.base ≤ i.ram_base + o + k) × (i.ram_base + o + k < read 4 (t.monitor - i.ram_base + 4) u.ram)
     open_in c u o k e l h lt = (omega (arith, l), subst (λ m. i.ram_base + o + k < read 4 (t.monitor - i.ram_base + 4) m) (sym e) (omega (arith, h, lt)))
 
-    stack : (kind : Access) (c : Core) (o : ℕ) → t.stack.base ≤ i.ram_base + o → i.ram_base + (o + 4) ≤ read 4 (t.monitor - i.ram_base + 4) c.ram → HandlerRule i t kind c 4 (i.ram_base + o)
-    stack Read c o l h = λ u at closed k lt. OfStack (open_in c u o k at.ram l h lt)
-    stack Write c o l h = λ u at k lt. ByStack (open_in c u o k at.ram l h lt)
-    stack Fetch c o l h = tt
-
 -- a step that is fine by this rule is a handler's step in the words of confinement
-pub fine_steps_handle : (i : Image) (t : Tables) (Good : ProtectionState → Type 0) → ((q : ProtectionState) → Good q → q.handler ≡ true) → (u : State) → IsFine by_mpu i Good (HandlerRule i t) u → IsHandlers i t u
-fine_steps_handle i t Good mode u f = record {
+pub fine_steps_handle : (i : Image) (t : Tables) (s : State) (Good : ProtectionState → Type 0) → ((q : ProtectionState) → Good q → q.handler ≡ true) → (u : State) → IsFine by_mpu i Good (HandlerRule i t s) u → IsHandlers i t s u
+fine_steps_handle i t s Good mode u f = record {
   handler = mode u.protection f.good;
   quiet = f.quiet;
-  stores = each_to (λ (x : Touched). HandlerRule i t Write (core_of u) x.width x.address) (AllBytes (StoreKind i t u)) (turn by_mpu i u).stores (λ x h. h u here) f.stores;
-  loads = λ closed. each_to (λ (x : Touched). HandlerRule i t Read (core_of u) x.width x.address) (AllBytes (LoadKind i t u)) (turn by_mpu i u).loads (λ x h. h u here closed) f.loads;
+  stores = each_to (λ (x : Touched). HandlerRule i t s Write (core_of u) x.width x.address) (AllBytes (StoreKind i t u)) (turn by_mpu i u).stores (λ x h. h u here) f.stores;
+  loads = λ closed. each_to (λ (x : Touched). HandlerRule i t s Read (core_of u) x.width x.address) (AllBytes (LoadKind i t u)) (turn by_mpu i u).loads (λ x h. λ k lt. (h u here closed k lt).0) f.loads;
+  loads_for = λ closed. each_to (λ (x : Touched). HandlerRule i t s Read (core_of u) x.width x.address) (AllBytes (LoadFor i t s)) (turn by_mpu i u).loads (λ x h. λ k lt. (h u here closed k lt).1) f.loads;
 }
   where
     here : IsAt (core_of u) u
     here = record { ram = refl; protection = refl }
 
 -- and so are the steps of a run
-pub runs_handle : (i : Image) (t : Tables) (Good : ProtectionState → Type 0) → ((q : ProtectionState) → Good q → q.handler ≡ true) → (most : ℕ) (u : State) (P : State → Type 0) → Leads by_mpu i Good (HandlerRule i t) most u P → HandlerLeads i t most u P
-runs_handle i t Good mode most u P l = record { count = l.steps; within = l.within; each = λ k lt. fine_steps_handle i t Good mode (run (step i) k u) (l.each k lt); holds = l.holds }
+pub runs_handle : (i : Image) (t : Tables) (s : State) (Good : ProtectionState → Type 0) → ((q : ProtectionState) → Good q → q.handler ≡ true) → (most : ℕ) (u : State) (P : State → Type 0) → Leads by_mpu i Good (HandlerRule i t s) most u P → HandlerLeads i t s most u P
+runs_handle i t s Good mode most u P l = record { count = l.steps; within = l.within; each = λ k lt. fine_steps_handle i t s Good mode (run (step i) k u) (l.each k lt); holds = l.holds }

@@ -76,7 +76,7 @@ apart_from_block i t o top p s =
     let l = s.low in let h = s.high in let e = s.ends in let b = p.block_inside.0 in
     ⊎_elim (λ x. inl (omega (arith, l, h, e, b, x))) (λ x. inr (omega (arith, l, h, e, b, x))) p.apart
 
-module _ (i : Image) (t : Tables) (p : Placed i t) (has : HasTables i t) (stub : ℕ) (Good : ProtectionState → Type 0) (Allowed : Rule) (handles : Handles i t Allowed) (good : (q : ProtectionState) → IsOff true q → Good q) where
+module _ (i : Image) (t : Tables) (p : Placed i t) (has : HasTables i t) (stub : ℕ) (Good : ProtectionState → Type 0) (Allowed : Rule) {entry_top : ℕ} (handles : Handles i t entry_top Allowed) (good : (q : ProtectionState) → IsOff true q → Good q) where
   abbrev W : ℕ → Steps → List Steps → Core → (Outcome → Type 0) → Type 0
   W n s ks c Q = GivesWithin by_mpu i Good Allowed n s ks c Q
 
@@ -126,15 +126,18 @@ module _ (i : Image) (t : Tables) (p : Placed i t) (has : HasTables i t) (stub :
   frame_high : (o top off x : ℕ) → InStack i t o top → off < 8 → x ≡ top → i.ram_base + (o + 4 * off + 4) ≤ x
   frame_high o top off x s lt e = let h = s.high in omega (arith, h, lt, e)
 
+  frame_below : (o off : ℕ) → i.ram_base + (o + 32) ≤ entry_top → off < 8 → i.ram_base + (o + 4 * off + 4) ≤ entry_top
+  frame_below o off below lt = omega (arith, below, lt)
+
   -- a word of a frame, whose address a register has; TOP stands in the block
-  pub frame_load_within : (o top off : ℕ) {n to b : ℕ} {s : Steps} {ks : List Steps} {c : Core} {Q : Outcome → Type 0} → IsOff true c.protection → InStack i t o top → low_register c b ≡ i.ram_base + o → nat_lt off 8 ≡ true → read 4 (block + 4) c.ram ≡ top →
+  pub frame_load_within : (o top off : ℕ) {n to b : ℕ} {s : Steps} {ks : List Steps} {c : Core} {Q : Outcome → Type 0} → IsOff true c.protection → InStack i t o top → i.ram_base + (o + 32) ≤ entry_top → low_register c b ≡ i.ram_base + o → nat_lt off 8 ≡ true → read 4 (block + 4) c.ram ≡ top →
       ((v : ℕ) → v ≡ read 4 (o + 4 * off) c.ram → W n s ks (with_low c to v) Q) → W (1 + n) (Load Word to b off s) ks c Q
-  frame_load_within o top off {b = b} {c = c} q s e h et f =
+  frame_load_within o top off {b = b} {c = c} q s below e h et f =
       let z : off < 8 = lt_true off 8 h in
-      load_within rules (o + 4 * off) (open_while_off c.protection q.control) (frame_at o off (low_register c b) e) (frame_aligned o off s.aligned) (frame_room o top off s z) (handles.stack Read c (o + 4 * off) (frame_low o top off s) (frame_high o top off (read 4 (block + 4) c.ram) s z et)) f
+      load_within rules (o + 4 * off) (open_while_off c.protection q.control) (frame_at o off (low_register c b) e) (frame_aligned o off s.aligned) (frame_room o top off s z) (handles.stack_load c (o + 4 * off) (frame_low o top off s) (frame_high o top off (read 4 (block + 4) c.ram) s z et) (frame_below o off below z)) f
 
   pub frame_store_within : (o top off : ℕ) {n from b : ℕ} {s : Steps} {ks : List Steps} {c : Core} {Q : Outcome → Type 0} → IsOff true c.protection → InStack i t o top → low_register c b ≡ i.ram_base + o → nat_lt off 8 ≡ true → read 4 (block + 4) c.ram ≡ top →
       ((m : List ℕ) → m ≡ write 4 (o + 4 * off) (low_register c from) c.ram → length m ≡ length c.ram → W n s ks (with_ram c m) Q) → W (1 + n) (Store Word from b off s) ks c Q
   frame_store_within o top off {b = b} {c = c} q s e h et f =
       let z : off < 8 = lt_true off 8 h in
-      store_within rules (o + 4 * off) (open_while_off c.protection q.control) (good c.protection q) (frame_at o off (low_register c b) e) (frame_aligned o off s.aligned) (frame_room o top off s z) (handles.stack Write c (o + 4 * off) (frame_low o top off s) (frame_high o top off (read 4 (block + 4) c.ram) s z et)) f
+      store_within rules (o + 4 * off) (open_while_off c.protection q.control) (good c.protection q) (frame_at o off (low_register c b) e) (frame_aligned o off s.aligned) (frame_room o top off s z) (handles.stack_store c (o + 4 * off) (frame_low o top off s) (frame_high o top off (read 4 (block + 4) c.ram) s z et)) f

@@ -40,7 +40,7 @@ pub record HasFirstRegions (i : Image) (t : Tables) (u : Registers) : Type 0 whe
   pub count : length others ≡ number_of_slots t + 2
   pub regions : u.regions ≡ kept_region (background i) ∷ kept_region (tables_region t) ∷ others
 
-module _ (i : Image) (t : Tables) (p : Placed i t) (has : HasTables i t) (stub : ℕ) (Good : ProtectionState → Type 0) (Allowed : Rule) (handles : Handles i t Allowed) (good : (q : ProtectionState) → IsOff true q → Good q) where
+module _ (i : Image) (t : Tables) (p : Placed i t) (has : HasTables i t) (stub : ℕ) (Good : ProtectionState → Type 0) (Allowed : Rule) {entry_top : ℕ} (handles : Handles i t entry_top Allowed) (good : (q : ProtectionState) → IsOff true q → Good q) where
   abbrev k : Constants
   k = constants_with stub t
 
@@ -66,13 +66,13 @@ module _ (i : Image) (t : Tables) (p : Placed i t) (has : HasTables i t) (stub :
 
     -- the last call that waits goes on: RAM is as HasLeft tells, PSP is that of its frame, and the unit has the regions of its compartment
     -- and of its TOP
-    pub leave_within : {ks : List Steps} {Q : Outcome → Type 0} (o d back current top mark below : ℕ) (q : ProtectionState) (m : List ℕ) (a2 a3 a4 a5 a6 a7 : ℕ) → psp ≡ i.ram_base + o → IsOff true q → Leaving i t p has stub m d back current top mark → InStack i t back top → InStack i t o top →
+    pub leave_within : {ks : List Steps} {Q : Outcome → Type 0} (o d back current top mark below : ℕ) (q : ProtectionState) (m : List ℕ) (a2 a3 a4 a5 a6 a7 : ℕ) → psp ≡ i.ram_base + o → IsOff true q → Leaving i t p has stub m d back current top mark → InStack i t back top → InStack i t o top → i.ram_base + (o + 32) ≤ entry_top →
         (is : IsTop t below top) → current < length t.comps → HasFirstRegions i t q.mpu →
         ((q1 : ProtectionState) → q1 ≡ with_unit q (with_regions current is.0 q.mpu) → q1.mpu.regions ≡ regions_for i t current top → Good (with_unit q1 (record q1.mpu { control = 5 }))) →
         ((q1 : ProtectionState) (new : List ℕ) (b0 b2 b4 b6 b7 : ℕ) → q1 ≡ with_unit q (record (with_regions current is.0 q.mpu) { control = 5 }) → q1.mpu.regions ≡ regions_for i t current top → HasLeft i t p has stub o m new d back current top mark →
         Q (AtReturn (core msp (i.ram_base + back) q1 u new b0 k.block b2 top b4 current b6 b7))) →
         W 184 (leave k) ks (core msp psp q u m psp k.block a2 a3 a4 a5 a6 a7) Q
-    leave_within {ks} {Q} o d back current top mark below q m a2 a3 a4 a5 a6 a7 ep off lv ib io is lt first on f =
+    leave_within {ks} {Q} o d back current top mark below q m a2 a3 a4 a5 a6 a7 ep off lv ib io under is lt first on f =
         more_within
         (block_load_within i t p has stub Good Allowed handles good 2 off refl refl (λ d4 e4.
         const_within
@@ -96,7 +96,7 @@ module _ (i : Image) (t : Tables) (p : Placed i t) (has : HasTables i t) (stub :
         let say : FiveSay i t p has stub m m5 v2 v3 d back current top mark = five_say i t p has stub m m1 m2 m3 m4 m5 n4 v1 v2 v3 v4 d back current top mark five lv dn x1 x2 x3 x4 in
         entry_load_within i t p has stub Good Allowed handles good d 8 off r6 lv.few refl (λ v5 x5.
         let v5_is : v5 ≡ i.ram_base + back = x5 ∙ say.psp_is in
-        frame_load_within i t p has stub Good Allowed handles good o top 0 off io ep refl say.top_is (λ v6 x6.
+        frame_load_within i t p has stub Good Allowed handles good o top 0 off io under ep refl say.top_is (λ v6 x6.
         frame_store_within i t p has stub Good Allowed handles good back top 0 off ib v5_is refl say.top_is (λ m6 w6 z6.
         let done : HasLeft i t p has stub o m m6 d back current top mark = all_left i t p has stub o m m5 m6 v2 v3 v6 d back current top mark (five_others i t p has stub m m1 m2 m3 m4 m5 n4 v1 v2 v3 v4 five) say lv.as_long ib io w6 x6 in
         write_psp_within (on_msp q off.privileged)

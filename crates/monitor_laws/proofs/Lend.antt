@@ -6,7 +6,7 @@ use Rattle.std.proofs.lemmas.Bool.{ltb-true, eqb-true, leb-true, ltb-false}
 use Rattle.words.specs.Arithmetic.{add, subtract}
 use Rattle.words.specs.Bytes.{read, write}
 use Rattle.words.specs.declared.memory.Width.TheVariants.{Word}
-use Rattle.mpu_model.specs.declared.region.Access.TheVariants.{Read, Write}
+use Rattle.mpu_model.specs.declared.region.Access.TheVariants.{Write}
 use Rattle.mpu_model.specs.declared.TheConstants.{MPU_CTRL}
 use Rattle.device_model.specs.declared.image.Image.{Image}
 use Rattle.armv7m.specs.declared.state.ProtectionState.{ProtectionState}
@@ -74,7 +74,7 @@ four n a b x y h = omega (arith, x, y, h)
 twelve : (n a b c d : ℕ) → a ≡ add n n → b ≡ add a n → c ≡ add b b → d ≡ add c c → n < 32 → d ≡ 12 * n
 twelve n a b c d x y z w h = omega (arith, x, y, z, w, h)
 
-module _ (i : Image) (t : Tables) (p : Placed i t) (has : HasTables i t) (stub : ℕ) (Good : ProtectionState → Type 0) (Allowed : Rule) (handles : Handles i t Allowed) (good : (q : ProtectionState) → IsOff true q → Good q) where
+module _ (i : Image) (t : Tables) (p : Placed i t) (has : HasTables i t) (stub : ℕ) (Good : ProtectionState → Type 0) (Allowed : Rule) {entry_top : ℕ} (handles : Handles i t entry_top Allowed) (good : (q : ProtectionState) → IsOff true q → Good q) where
   abbrev k : Constants
   k = constants_with stub t
 
@@ -164,16 +164,16 @@ module _ (i : Image) (t : Tables) (p : Placed i t) (has : HasTables i t) (stub :
             ∙ ap (λ m. write 4 (block + (160 + 12 * live + 4)) (address + size) m) g1))
 
     -- the loan that is asked for, where it may be made; else halt 6
-    pub lend_within : {ks : List Steps} {Q : Outcome → Type 0} (q : ProtectionState) (o top live address number : ℕ) (m : List ℕ) (a2 a4 a5 a6 a7 : ℕ) → IsOff true q → Good (with_unit q (record q.mpu { control = 5 })) → psp ≡ i.ram_base + o → o % 4 ≡ 0 → FrameIsOpen i t o m → top ≡ read 4 (block + 4) m → top ≤ stack_end t →
+    pub lend_within : {ks : List Steps} {Q : Outcome → Type 0} (q : ProtectionState) (o top live address number : ℕ) (m : List ℕ) (a2 a4 a5 a6 a7 : ℕ) → IsOff true q → Good (with_unit q (record q.mpu { control = 5 })) → psp ≡ i.ram_base + o → o % 4 ≡ 0 → FrameIsOpen i t o m → top ≡ read 4 (block + 4) m → top ≤ stack_end t → top ≤ entry_top →
         read 4 o m ≡ address → read 4 (o + 4) m ≡ number → read 4 (block + 12) m ≡ live → live ≤ 32 →
         ((d : Core) → d.ram ≡ m → (MayLend t psp top live address number → ⊥) → Q (Halted 6 d)) →
         ((q1 : ProtectionState) (new : List ℕ) → q1 ≡ with_unit q (record q.mpu { control = 5 }) → MayLend t psp top live address number → new ≡ with_loan block live address (address + lend_size t number) number m → length new ≡ length m →
         Q (AtReturn (core msp psp q1 u new psp k.block (address + lend_size t number) 1 address number MPU_CTRL 5))) →
         W 113 (lend k) ks (core msp psp q u m psp k.block a2 top a4 a5 a6 a7) Q
-    lend_within {ks} {Q} q o top live address number m a2 a4 a5 a6 a7 off on ep ao f et en ea eb el few refuse go =
+    lend_within {ks} {Q} q o top live address number m a2 a4 a5 a6 a7 off on ep ao f et en below ea eb el few refuse go =
         more_within
-        (load_within p.rules o (open_while_off q off.control) (frame_0 ep) ao room_0 (handles.stack Read _ o f.low high_0) (λ x4 e4.
-        load_within p.rules (o + 4) (open_while_off q off.control) (frame_4 ep) aligned_4 room_4 (handles.stack Read _ (o + 4) low_4 high_4) (λ x5 e5.
+        (load_within p.rules o (open_while_off q off.control) (frame_0 ep) ao room_0 (handles.stack_load _ o f.low high_0 below_0) (λ x4 e4.
+        load_within p.rules (o + 4) (open_while_off q off.control) (frame_4 ep) aligned_4 room_4 (handles.stack_load _ (o + 4) low_4 high_4 below_4) (λ x5 e5.
         block_load_within i t p has stub Good Allowed handles good 3 off refl refl (λ x6 e6.
         at_within (ap (λ x. core msp psp q u m psp k.block a2 top x x5 x6 a7) (e4 ∙ ea) ∙ ap (λ x. core msp psp q u m psp k.block a2 top address x x6 a7) (e5 ∙ eb) ∙ ap (λ x. core msp psp q u m psp k.block a2 top address number x a7) (e6 ∙ el))
         (const_within
@@ -218,6 +218,12 @@ module _ (i : Image) (t : Tables) (p : Placed i t) (has : HasTables i t) (stub :
 
         high_4 : i.ram_base + (o + 4 + 4) ≤ read 4 (block + 4) m
         high_4 = let h = f.high in omega (arith, h)
+
+        below_0 : i.ram_base + (o + 4) ≤ entry_top
+        below_0 = let h = f.high in omega (arith, h, et, below)
+
+        below_4 : i.ram_base + (o + 4 + 4) ≤ entry_top
+        below_4 = let h = f.high in omega (arith, h, et, below)
 
         low_4 : t.stack.base ≤ i.ram_base + (o + 4)
         low_4 = let h = f.low in omega (arith, h)
@@ -283,13 +289,13 @@ module _ (i : Image) (t : Tables) (p : Placed i t) (has : HasTables i t) (stub :
         fits h = let w = word_fits (block + 4) m in omega (arith, h, w, et)
 
     -- 2: lend
-    pub two_within : {Q : Outcome → Type 0} (q : ProtectionState) (o top live address number : ℕ) (m : List ℕ) (a2 a4 a6 a7 : ℕ) → IsOff true q → Good (with_unit q (record q.mpu { control = 5 })) → psp ≡ i.ram_base + o → o % 4 ≡ 0 → FrameIsOpen i t o m → top ≡ read 4 (block + 4) m → top ≤ stack_end t →
+    pub two_within : {Q : Outcome → Type 0} (q : ProtectionState) (o top live address number : ℕ) (m : List ℕ) (a2 a4 a6 a7 : ℕ) → IsOff true q → Good (with_unit q (record q.mpu { control = 5 })) → psp ≡ i.ram_base + o → o % 4 ≡ 0 → FrameIsOpen i t o m → top ≡ read 4 (block + 4) m → top ≤ stack_end t → top ≤ entry_top →
         read 4 o m ≡ address → read 4 (o + 4) m ≡ number → read 4 (block + 12) m ≡ live → live ≤ 32 →
         ((d : Core) → d.ram ≡ m → (MayLend t psp top live address number → ⊥) → Q (Halted 6 d)) →
         ((q1 : ProtectionState) (new : List ℕ) → q1 ≡ with_unit q (record q.mpu { control = 5 }) → MayLend t psp top live address number → new ≡ with_loan block live address (address + lend_size t number) number m → length new ≡ length m →
         Q (AtReturn (core msp psp q1 u new psp k.block (address + lend_size t number) 1 address number MPU_CTRL 5))) →
         W 125 (by_number i t p has stub Good Allowed handles good) [] (core msp psp q u m psp k.block a2 top a4 2 a6 a7) Q
-    two_within q o top live address number m a2 a4 a6 a7 off on ep ao f et en ea eb el few refuse go =
+    two_within q o top live address number m a2 a4 a6 a7 off on ep ao f et en below ea eb el few refuse go =
         more_within
         (const_within (no_within refl (next_within (const_within (yes_within refl
-        (lend_within q o top live address number m a2 a4 2 2 a7 off on ep ao f et en ea eb el few refuse go)))))) (omega arith)
+        (lend_within q o top live address number m a2 a4 2 2 a7 off on ep ao f et en below ea eb el few refuse go)))))) (omega arith)

@@ -51,13 +51,15 @@ pub record FrameIsOpen (i : Image) (t : Tables) (o : ℕ) (m : List ℕ) : Type 
   pub high : i.ram_base + o + 32 ≤ read 4 (t.monitor - i.ram_base + 4) m
   pub no_pad : read 4 (o + 28) m / 2 ^ 9 % 2 ≡ 0
 
--- what a handler may access, whatever its core: words of the block, and of the open stack
-pub record Handles (i : Image) (t : Tables) (Allowed : Rule) : Type 0 where
+-- what a handler may access, whatever its core: words of the block, and of the open stack. It loads from the stack only what lay
+-- below TOP where it was entered
+pub record Handles (i : Image) (t : Tables) (entry_top : ℕ) (Allowed : Rule) : Type 0 where
   pub plain : Allows i Allowed true
   pub block : (kind : Access) (c : Core) (o : ℕ) → c.protection.handler ≡ true → o + 4 ≤ 544 → Allowed kind c 4 (i.ram_base + (t.monitor - i.ram_base + o))
-  pub stack : (kind : Access) (c : Core) (o : ℕ) → t.stack.base ≤ i.ram_base + o → i.ram_base + (o + 4) ≤ read 4 (t.monitor - i.ram_base + 4) c.ram → Allowed kind c 4 (i.ram_base + o)
+  pub stack_load : (c : Core) (o : ℕ) → t.stack.base ≤ i.ram_base + o → i.ram_base + (o + 4) ≤ read 4 (t.monitor - i.ram_base + 4) c.ram → i.ram_base + (o + 4) ≤ entry_top → Allowed Read c 4 (i.ram_base + o)
+  pub stack_store : (c : Core) (o : ℕ) → t.stack.base ≤ i.ram_base + o → i.ram_base + (o + 4) ≤ read 4 (t.monitor - i.ram_base + 4) c.ram → Allowed Write c 4 (i.ram_base + o)
 
-module _ (i : Image) (t : Tables) (p : Placed i t) (has : HasTables i t) (stub : ℕ) (Good : ProtectionState → Type 0) (Allowed : Rule) (handles : Handles i t Allowed) (good : (q : ProtectionState) → IsOff true q → Good q) where
+module _ (i : Image) (t : Tables) (p : Placed i t) (has : HasTables i t) (stub : ℕ) (Good : ProtectionState → Type 0) (Allowed : Rule) {entry_top : ℕ} (handles : Handles i t entry_top Allowed) (good : (q : ProtectionState) → IsOff true q → Good q) where
   abbrev k : Constants
   k = constants_with stub t
 
@@ -94,11 +96,11 @@ module _ (i : Image) (t : Tables) (p : Placed i t) (has : HasTables i t) (stub :
 
   module _ (msp psp : ℕ) (u : FaultStatus) where
     -- the three tests with their halts: 46 steps at most
-    pub opened_within : {b : ℕ} {s : Steps} {ks : List Steps} {Q : Outcome → Type 0} (q : ProtectionState) (o : ℕ) (m : List ℕ) (a0 a1 a2 a3 a4 a5 a6 a7 : ℕ) → q.handler ≡ true → is_unprivileged q ≡ false → psp ≡ i.ram_base + o → o % 4 ≡ 0 → o < 2 ^ 31 → read 4 (block + 4) m ≤ stack_end t →
+    pub opened_within : {b : ℕ} {s : Steps} {ks : List Steps} {Q : Outcome → Type 0} (q : ProtectionState) (o : ℕ) (m : List ℕ) (a0 a1 a2 a3 a4 a5 a6 a7 : ℕ) → q.handler ≡ true → is_unprivileged q ≡ false → psp ≡ i.ram_base + o → o % 4 ≡ 0 → o < 2 ^ 31 → read 4 (block + 4) m ≤ stack_end t → read 4 (block + 4) m ≤ entry_top →
         ((d : Core) → d.ram ≡ m → (FrameIsOpen i t o m → ⊥) → Q (Halted 4 d)) →
         ((q1 : ProtectionState) (v4 : ℕ) → q1 ≡ with_unit q (record q.mpu { control = 0 }) → IsOff true q1 → FrameIsOpen i t o m → W b s ks (core msp psp q1 u m psp k.block k.stack (read 4 (block + 4) m) v4 0 MPU_CTRL 0) Q) →
         W (46 + b) (opened k s) ks (core msp psp q u m a0 a1 a2 a3 a4 a5 a6 a7) Q
-    opened_within {b} {s} {ks} {Q} q o m a0 a1 a2 a3 a4 a5 a6 a7 h un ep ao small et refuse go =
+    opened_within {b} {s} {ks} {Q} q o m a0 a1 a2 a3 a4 a5 a6 a7 h un ep ao small et below refuse go =
         more_within
         (set_control_within i rules Good Allowed true handles.plain good msp psp u 0 q m a0 a1 a2 a3 a4 a5 a6 a7 h un (omega arith) (good _ (record { mode = h; privileged = un; control = refl })) (λ q1 eq.
         let off : IsOff true q1 = rw eq (record { mode = h; privileged = un; control = refl }) in
@@ -108,7 +110,7 @@ module _ (i : Image) (t : Tables) (p : Placed i t) (has : HasTables i t) (stub :
         must_within (λ e2. refuse _ refl (λ x. absurd (not_high top etop (le_false _ _ e2) x.high))) (λ e2.
         alu_within (λ d ed. const_within
         (must_within (λ e3. refuse _ refl (λ x. absurd (not_room top d etop (leb-true _ _ e2) ed (le_false _ _ e3) x.high))) (λ e3.
-        load_within rules (o + 28) (open_while_off q1 off.control) (frame_at ep) (frame_aligned ao) (frame_room (is_high top d etop (leb-true _ _ e2) ed (leb-true _ _ e3))) (handles.stack Read _ (o + 28) (later (is_low (leb-true _ _ e1))) (earlier (is_high top d etop (leb-true _ _ e2) ed (leb-true _ _ e3)))) (λ x ex.
+        load_within rules (o + 28) (open_while_off q1 off.control) (frame_at ep) (frame_aligned ao) (frame_room (is_high top d etop (leb-true _ _ e2) ed (leb-true _ _ e3))) (handles.stack_load _ (o + 28) (later (is_low (leb-true _ _ e1))) (earlier (is_high top d etop (leb-true _ _ e2) ed (leb-true _ _ e3))) (at_entry (is_high top d etop (leb-true _ _ e2) ed (leb-true _ _ e3)))) (λ x ex.
         const_within (alu_within (λ v ev. const_within
         (must_within (λ e4. refuse _ refl (λ x. absurd (eq_false _ _ e4 (ev ∙ ap (λ n. bit_and n (2 ^ 9)) ex ∙ pad_zero (read 4 (o + 28) m) x.no_pad)))) (λ e4.
         let z : v ≡ 0 = eqb-true _ _ e4 in
@@ -147,3 +149,6 @@ module _ (i : Image) (t : Tables) (p : Placed i t) (has : HasTables i t) (stub :
 
         earlier : i.ram_base + o + 32 ≤ read 4 (block + 4) m → i.ram_base + (o + 28 + 4) ≤ read 4 (block + 4) m
         earlier x = omega (arith, x)
+
+        at_entry : i.ram_base + o + 32 ≤ read 4 (block + 4) m → i.ram_base + (o + 28 + 4) ≤ entry_top
+        at_entry x = omega (arith, x, below)

@@ -4,7 +4,6 @@ use Rattle.std.proofs.lemmas.Bool.Decides.{nat_tests}
 use Rattle.words.specs.Arithmetic.{subtract}
 use Rattle.words.specs.Bytes.{read, write}
 use Rattle.words.specs.declared.memory.Width.TheVariants.{Byte, Word}
-use Rattle.mpu_model.specs.declared.region.Access.TheVariants.{Read}
 use Rattle.mpu_model.specs.declared.TheConstants.{MPU_CTRL}
 use Rattle.device_model.specs.declared.image.Image.{Image}
 use Rattle.armv7m.specs.declared.state.ProtectionState.{ProtectionState}
@@ -41,7 +40,7 @@ low_byte : (o n : ℕ) (flash : List ℕ) → read 2 o flash ≡ 0xDF00 + n → 
 unfolding read
 low_byte o n flash h b = omega (arith, h, b)
 
-module _ (i : Image) (t : Tables) (p : Placed i t) (has : HasTables i t) (stub : ℕ) (Good : ProtectionState → Type 0) (Allowed : Rule) (handles : Handles i t Allowed) (good : (q : ProtectionState) → IsOff true q → Good q) where
+module _ (i : Image) (t : Tables) (p : Placed i t) (has : HasTables i t) (stub : ℕ) (Good : ProtectionState → Type 0) (Allowed : Rule) {entry_top : ℕ} (handles : Handles i t entry_top Allowed) (good : (q : ProtectionState) → IsOff true q → Good q) where
   abbrev k : Constants
   k = constants_with stub t
 
@@ -61,14 +60,14 @@ module _ (i : Image) (t : Tables) (p : Placed i t) (has : HasTables i t) (stub :
 
   module _ (msp psp : ℕ) (u : FaultStatus) where
     -- the number into r5, the return address in r4: 54 steps
-    pub numbered_within : {b : ℕ} {s : Steps} {Q : Outcome → Type 0} (q : ProtectionState) (o n : ℕ) (m : List ℕ) (a0 a1 a2 a3 a4 a5 a6 a7 : ℕ) → q.handler ≡ true → is_unprivileged q ≡ false → psp ≡ i.ram_base + o → o % 4 ≡ 0 → o < 2 ^ 31 → read 4 (block + 4) m ≤ stack_end t → Called i (read 4 (o + 24) m) n →
+    pub numbered_within : {b : ℕ} {s : Steps} {Q : Outcome → Type 0} (q : ProtectionState) (o n : ℕ) (m : List ℕ) (a0 a1 a2 a3 a4 a5 a6 a7 : ℕ) → q.handler ≡ true → is_unprivileged q ≡ false → psp ≡ i.ram_base + o → o % 4 ≡ 0 → o < 2 ^ 31 → read 4 (block + 4) m ≤ stack_end t → read 4 (block + 4) m ≤ entry_top → Called i (read 4 (o + 24) m) n →
         ((d : Core) → d.ram ≡ m → (FrameIsOpen i t o m → ⊥) → Q (Halted 4 d)) →
         ((q1 : ProtectionState) → q1 ≡ with_unit q (record q.mpu { control = 0 }) → IsOff true q1 → FrameIsOpen i t o m → W b s [] (core msp psp q1 u m psp k.block k.stack (read 4 (block + 4) m) (read 4 (o + 24) m) n MPU_CTRL 0) Q) →
         W (54 + b) (numbered s) [] (core msp psp q u m a0 a1 a2 a3 a4 a5 a6 a7) Q
-    numbered_within {b} {s} {Q} q o n m a0 a1 a2 a3 a4 a5 a6 a7 h un ep ao small et called refuse go =
+    numbered_within {b} {s} {Q} q o n m a0 a1 a2 a3 a4 a5 a6 a7 h un ep ao small et below called refuse go =
         more_within
-        (opened_within i t p has stub Good Allowed handles good msp psp u q o m a0 a1 a2 a3 a4 a5 a6 a7 h un ep ao small et refuse (λ q1 v4 eq off f.
-        load_within p.rules (o + 24) (open_while_off q1 off.control) (frame_at ep) (aligned ao) (room f.high) (handles.stack Read _ (o + 24) (later f.low) (earlier f.high)) (λ x4 e4.
+        (opened_within i t p has stub Good Allowed handles good msp psp u q o m a0 a1 a2 a3 a4 a5 a6 a7 h un ep ao small et below refuse (λ q1 v4 eq off f.
+        load_within p.rules (o + 24) (open_while_off q1 off.control) (frame_at ep) (aligned ao) (room f.high) (handles.stack_load _ (o + 24) (later f.low) (earlier f.high) (at_entry f.high)) (λ x4 e4.
         const_within (alu_within (λ x5 e5.
         load_flash_within p.rules called.offset {z = Byte} (open_while_off q1 off.control) (before x4 x5 e4 e5) (omega arith) (inside called.room) (handles.plain.flash _ 1 called.offset (one called.room)) (λ y5 f5.
         at_within (ap (λ x. core msp psp q1 u m psp k.block k.stack (read 4 (block + 4) m) x y5 MPU_CTRL 0) e4 ∙ ap (λ y. core msp psp q1 u m psp k.block k.stack (read 4 (block + 4) m) (read 4 (o + 24) m) y MPU_CTRL 0) (f5 ∙ low_byte called.offset n i.flash called.half called.byte))
@@ -89,6 +88,9 @@ module _ (i : Image) (t : Tables) (p : Placed i t) (has : HasTables i t) (stub :
         earlier : i.ram_base + o + 32 ≤ read 4 (block + 4) m → i.ram_base + (o + 24 + 4) ≤ read 4 (block + 4) m
         earlier x = omega (arith, x)
 
+        at_entry : i.ram_base + o + 32 ≤ read 4 (block + 4) m → i.ram_base + (o + 24 + 4) ≤ entry_top
+        at_entry x = omega (arith, x, below)
+
         before : (x4 x5 : ℕ) → x4 ≡ read 4 (o + 24) m → x5 ≡ subtract x4 2 → x5 + 1 * 0 ≡ i.flash_base + called.offset
         before x4 x5 a e = let r = called.at in let s = called.room in let y = p.rules.flash_highest in let z = p.rules.flash_most in omega (arith, a, e, r, s, y, z)
 
@@ -98,12 +100,12 @@ module _ (i : Image) (t : Tables) (p : Placed i t) (has : HasTables i t) (stub :
         one : called.offset + 2 ≤ length i.flash → called.offset + 1 ≤ length i.flash
         one a = omega (arith, a)
 
-    pub number_within : {b : ℕ} {Q : Outcome → Type 0} (q : ProtectionState) (o n : ℕ) (m : List ℕ) (a0 a1 a2 a3 a4 a5 a6 a7 : ℕ) → q.handler ≡ true → is_unprivileged q ≡ false → psp ≡ i.ram_base + o → o % 4 ≡ 0 → o < 2 ^ 31 → read 4 (block + 4) m ≤ stack_end t → Called i (read 4 (o + 24) m) n →
+    pub number_within : {b : ℕ} {Q : Outcome → Type 0} (q : ProtectionState) (o n : ℕ) (m : List ℕ) (a0 a1 a2 a3 a4 a5 a6 a7 : ℕ) → q.handler ≡ true → is_unprivileged q ≡ false → psp ≡ i.ram_base + o → o % 4 ≡ 0 → o < 2 ^ 31 → read 4 (block + 4) m ≤ stack_end t → read 4 (block + 4) m ≤ entry_top → Called i (read 4 (o + 24) m) n →
         ((d : Core) → d.ram ≡ m → (FrameIsOpen i t o m → ⊥) → Q (Halted 4 d)) →
         ((q1 : ProtectionState) → q1 ≡ with_unit q (record q.mpu { control = 0 }) → IsOff true q1 → FrameIsOpen i t o m → W b by_number [] (core msp psp q1 u m psp k.block k.stack (read 4 (block + 4) m) (read 4 (o + 24) m) n MPU_CTRL 0) Q) →
         W (54 + b) (svc k) [] (core msp psp q u m a0 a1 a2 a3 a4 a5 a6 a7) Q
-    number_within q o n m a0 a1 a2 a3 a4 a5 a6 a7 h un ep ao small et called refuse go =
-        numbered_within q o n m a0 a1 a2 a3 a4 a5 a6 a7 h un ep ao small et called refuse go
+    number_within q o n m a0 a1 a2 a3 a4 a5 a6 a7 h un ep ao small et below called refuse go =
+        numbered_within q o n m a0 a1 a2 a3 a4 a5 a6 a7 h un ep ao small et below called refuse go
 
     -- above 3: halt 1
     pub above_within : {Q : Outcome → Type 0} (q : ProtectionState) (n : ℕ) (m : List ℕ) (a0 a1 a2 a3 a4 a6 a7 : ℕ) → 3 < n → ((d : Core) → d.ram ≡ m → Q (Halted 1 d)) → W 25 by_number [] (core msp psp q u m a0 a1 a2 a3 a4 n a6 a7) Q

@@ -22,7 +22,7 @@ use Rattle.monitor.specs.Svc.{unlend}
 use Rattle.monitor_laws.proofs.Off.{core, with_unit, IsOff, set_control_within}
 use Rattle.monitor_laws.proofs.Opened.{Handles, eq_false, block_load_within, block_store_within}
 
-module _ (i : Image) (t : Tables) (p : Placed i t) (has : HasTables i t) (stub : ℕ) (Good : ProtectionState → Type 0) (Allowed : Rule) (handles : Handles i t Allowed) (good : (q : ProtectionState) → IsOff true q → Good q) where
+module _ (i : Image) (t : Tables) (p : Placed i t) (has : HasTables i t) (stub : ℕ) (Good : ProtectionState → Type 0) (Allowed : Rule) {entry_top : ℕ} (handles : Handles i t entry_top Allowed) (good : (q : ProtectionState) → IsOff true q → Good q) where
   abbrev k : Constants
   k = constants_with stub t
 

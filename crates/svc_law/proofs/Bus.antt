@@ -48,7 +48,7 @@ use Rattle.monitor_laws.proofs.Appended.{followed_by, code_followed}
 use Rattle.monitor_laws.proofs.Opened.{FrameIsOpen}
 use Rattle.monitor_laws.proofs.HandlerRule.{HandlerRule}
 use Rattle.monitor_laws.proofs.SvcNumber.{Called, numbered as up_to_number, numbered_within}
-use Rattle.svc_law.proofs.Calling.{Calling, off, is_off, halted, same, top_word, top_word_below}
+use Rattle.svc_law.proofs.Calling.{Calling, off, is_off, halted, same, top_word, top_word_below, word_before}
 use Rattle.svc_law.proofs.Numbers.{reach, W, Q, at_first}
 use Rattle.handler_runs.proofs.Mode.{IsGood, good_while_off}
 use Rattle.handler_runs.proofs.Returned.{is_before}
@@ -62,22 +62,23 @@ to_bus q w a aligned low may =
     rw (e, z, may)
 
 -- a step more
-pub further : (i : Image) (t : Tables) (most : ℕ) (from v w : State) → Leads i t most from (λ u. u ≡ v) → Handles i t v → step i v ≡ w → Leads i t (most + 1) from (λ u. u ≡ w)
+pub further : (i : Image) (t : Tables) (s : State) (most : ℕ) (from v w : State) → Leads i t s most from (λ u. u ≡ v) → Handles i t s v → step i v ≡ w → Leads i t s (most + 1) from (λ u. u ≡ w)
 unfolding run
-further i t most from v w l h e = record {
+further i t s most from v w l h e = record {
   count = l.count + 1;
   within = let x = l.within in omega (arith, x);
-  each = λ k lt. ⊎_elim (λ x. l.each k x) (λ x. subst (λ u. Handles i t u) (sym (ap (λ n. run (step i) n from) x ∙ l.holds)) h) (is_before k l.count lt);
+  each = λ k lt. ⊎_elim (λ x. l.each k x) (λ x. subst (λ u. Handles i t s u) (sym (ap (λ n. run (step i) n from) x ∙ l.holds)) h) (is_before k l.count lt);
   holds = run-add (step i) l.count 1 from ∙ ap (λ u. step i u) l.holds ∙ e;
 }
 
 -- a step without accesses
-calm_handles : (i : Image) (t : Tables) (v w : State) → v.protection.handler ≡ true → turn by_mpu i v ≡ calm w → Handles i t v
-calm_handles i t v w h e = record {
+calm_handles : (i : Image) (t : Tables) (s v w : State) → v.protection.handler ≡ true → turn by_mpu i v ≡ calm w → Handles i t s v
+calm_handles i t s v w h e = record {
   handler = h;
   quiet = ap (λ (u : Turn). u.event) e;
   stores = subst (λ l. Rattle.armv7m.specs.Confinement.Each (Rattle.monitor.specs.Reach.AllBytes (Rattle.monitor.specs.Reach.StoreKind i t v)) l) (sym (ap (λ (u : Turn). u.stores) e)) tt;
   loads = λ closed. subst (λ l. Rattle.armv7m.specs.Confinement.Each (Rattle.monitor.specs.Reach.AllBytes (Rattle.monitor.specs.Reach.LoadKind i t v)) l) (sym (ap (λ (u : Turn). u.loads) e)) tt;
+  loads_for = λ closed. subst (λ l. Rattle.armv7m.specs.Confinement.Each (Rattle.monitor.specs.Reach.AllBytes (Rattle.monitor.specs.Handlers.LoadFor i t s)) l) (sym (ap (λ (u : Turn). u.loads) e)) tt;
 }
 
 module _ (nothing : NothingStops) (equal : holds 0 (compare_flags 0 0) ≡ true) (i : Image) (t : Tables) (stub : ℕ) (s : State) (m : Block) (psp o : ℕ) (memory : List ℕ) (c : Calling i t s m psp o memory) (ret : ℕ) (return_is : read 4 (o + 24) memory ≡ ret) (called : Called i ret 0) (even : ret % 2 ≡ 0) (low_ret : ret < 0x20000000) (none : place i ret ≡ Nowhere) where
@@ -96,7 +97,7 @@ module _ (nothing : NothingStops) (equal : holds 0 (compare_flags 0 0) ≡ true)
   -- ---- the list in two parts
 
   abbrev pub before : Steps
-  before = up_to_number i t c.placed c.tables stub (IsGood i) (HandlerRule i t) (reach i t stub s m psp o memory c) (good_while_off i c.placed.rules) (on_number 3 unlend (on_number 2 (lend k) (Const 6 0 End)))
+  before = up_to_number i t c.placed c.tables stub (IsGood i) (HandlerRule i t s) (reach i t stub s m psp o memory c) (good_while_off i c.placed.rules) (on_number 3 unlend (on_number 2 (lend k) (Const 6 0 End)))
 
   abbrev pub others : Steps
   others = on_number 1 (leave k) (Rattle.gate_steps.specs.Steps.Halt 1 End)
@@ -123,7 +124,7 @@ module _ (nothing : NothingStops) (equal : holds 0 (compare_flags 0 0) ≡ true)
 
   pub before_within : (a0 a1 a2 a3 a4 a5 a6 a7 : ℕ) → W i t stub s m psp o memory c 68 before [] (at_first i t stub s m psp o memory c a0 a1 a2 a3 a4 a5 a6 a7) Ends
   before_within a0 a1 a2 a3 a4 a5 a6 a7 =
-      numbered_within i t c.placed c.tables stub (IsGood i) (HandlerRule i t) (reach i t stub s m psp o memory c) (good_while_off i c.placed.rules) msp psp s.status (record s.protection { handler = true }) o 0 memory a0 a1 a2 a3 a4 a5 a6 a7 refl refl c.at c.aligned small (top_word_below i t stub s m psp o memory c) (subst (λ r. Called i r 0) (sym return_is) called)
+      numbered_within i t c.placed c.tables stub (IsGood i) (HandlerRule i t s) (reach i t stub s m psp o memory c) (good_while_off i c.placed.rules) msp psp s.status (record s.protection { handler = true }) o 0 memory a0 a1 a2 a3 a4 a5 a6 a7 refl refl c.at c.aligned small (top_word_below i t stub s m psp o memory c) (word_before i t stub s m psp o memory c) (subst (λ r. Called i r 0) (sym return_is) called)
       (λ d r shut. inl (halted i t stub s m psp o memory c 4 d r, shut))
       (λ q1 eq off1 f.
       at_within (ap (λ q. core msp psp q s.status memory psp k.block k.stack (read 4 (t.monitor - i.ram_base + 4) memory) (read 4 (o + 24) memory) 0 MPU_CTRL 0) eq ∙ ap₂ (λ x y. core msp psp here s.status memory psp k.block k.stack x y 0 MPU_CTRL 0) (top_word i t stub s m psp o memory c) return_is)
@@ -182,9 +183,9 @@ module _ (nothing : NothingStops) (equal : holds 0 (compare_flags 0 0) ≡ true)
     ended_there : Shows i t StopsAtBus s m memory v3
     ended_there = (pc + 2 + 2 + 4, record { ended = record { ending = refl; handler = refl }; is_left = Rattle.handler_runs.proofs.Returned.left_of i t m m memory v3 (same i t stub s m psp o memory c) })
 
-    pub stopped : (most : ℕ) (from : State) → Leads i t most from (λ u. u ≡ v0) → Leads i t (most + 3) from (Shows i t StopsAtBus s m memory)
+    pub stopped : (most : ℕ) (from : State) → Leads i t s most from (λ u. u ≡ v0) → Leads i t s (most + 3) from (Shows i t StopsAtBus s m memory)
     stopped most from l =
-        let l1 = further i t most from v0 v1 l (calm_handles i t v0 v1 refl first_turn) (ap (λ (u : Turn). u.to) first_turn) in
-        let l2 = further i t (most + 1) from v1 v2 l1 (calm_handles i t v1 v2 refl second_turn) (ap (λ (u : Turn). u.to) second_turn) in
-        let l3 = further i t (most + 1 + 1) from v2 v3 l2 (calm_handles i t v2 v3 refl third_turn) (ap (λ (u : Turn). u.to) third_turn) in
+        let l1 = further i t s most from v0 v1 l (calm_handles i t s v0 v1 refl first_turn) (ap (λ (u : Turn). u.to) first_turn) in
+        let l2 = further i t s (most + 1) from v1 v2 l1 (calm_handles i t s v1 v2 refl second_turn) (ap (λ (u : Turn). u.to) second_turn) in
+        let l3 = further i t s (most + 1 + 1) from v2 v3 l2 (calm_handles i t s v2 v3 refl third_turn) (ap (λ (u : Turn). u.to) third_turn) in
         record { count = l3.count; within = let w = l3.within in omega (arith, w); each = l3.each; holds = subst (λ u. Shows i t StopsAtBus s m memory u) (sym l3.holds) ended_there }

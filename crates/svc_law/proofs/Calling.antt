@@ -19,8 +19,9 @@ use Rattle.monitor.specs.Area.{HasTables}
 use Rattle.monitor.specs.Regions.{regions_for}
 use Rattle.monitor.specs.Placed.{Placed}
 use Rattle.monitor.specs.Block.{Loan, Block, lent, unlent}
-use Rattle.monitor.specs.BlockWords.{block_word, IsBlock}
+use Rattle.monitor.specs.BlockWords.{block_word, top as top_of, IsBlock}
 use Rattle.monitor.specs.Invariant.{IsTop, InvariantHolds}
+use Rattle.monitor.specs.Handlers.{LoadFor, ForStack}
 use Rattle.monitor.specs.Outcomes.{Outcome, Halts, Resumes, stacked, is_open, status_place}
 use Rattle.monitor.specs.SvcOutcome.{word, new_loan, may_lend, lend, unlend_to, by_number, svc_outcome}
 use Rattle.monitor.specs.Constants.{Constants, constants_with}
@@ -120,6 +121,16 @@ module _ (i : Image) (t : Tables) (stub : ℕ) (s : State) (m : Block) (psp o : 
     ends = top_below;
   }
 
+  -- below the TOP of the thread's state
+  pub top_before : m.top ≤ top_of i t s.ram
+  top_before = let e = c.invariant.inv.is_block.top_is in omega (arith, e)
+
+  pub word_before : read 4 (b + 4) memory ≤ top_of i t s.ram
+  word_before = let e = top_word in let h = top_before in omega (arith, e, h)
+
+  pub frame_before : FrameIsOpen i t o memory → i.ram_base + (o + 32) ≤ top_of i t s.ram
+  frame_before f = let h = f.high in let e = word_before in omega (arith, h, e)
+
   -- the test of both handlers
   open_true : FrameIsOpen i t o memory → is_open i t m psp memory ≡ true
   open_true f =
@@ -168,10 +179,14 @@ module _ (i : Image) (t : Tables) (stub : ℕ) (s : State) (m : Block) (psp o : 
     offset = o;
     at = c.at;
     frame = subst (λ z. InStack i t o z) (sym et) (frame f);
+    may_load = may_load;
     current_in = subst (λ z. z < length t.comps) (sym ec) c.invariant.inv.orderly.current_in;
     saved = length m.saved;
     is_top = subst (λ z. IsTop t (length m.saved) z) (sym et) c.invariant.inv.orderly.is_top;
   }
+    where
+      may_load : (a : ℕ) → psp ≤ a → a < psp + 32 → LoadFor i t s a
+      may_load a lo hi = let e = c.at in let l = f.low in let h = frame_before f in ForStack (omega (arith, lo, e, l), omega (arith, hi, e, h))
 
   block_room : b + 1024 ≤ length memory
   block_room = let a = c.placed.block_inside.0 in let z = c.placed.block_inside.1 in let l = c.as_long in omega (arith, a, z, l)

@@ -21,8 +21,10 @@ use Rattle.monitor.specs.Records.{compartment_at, nobody, number_of_slots, site_
 use Rattle.monitor.specs.Regions.{stack_region, regions_for}
 use Rattle.monitor.specs.Placed.{IsCompartment, IsEntry}
 use Rattle.monitor.specs.Block.{Saved, Block, entered, left}
-use Rattle.monitor.specs.BlockWords.{block_word, HasSaved}
+use Rattle.monitor.specs.BlockWords.{block_word, depth, saved_psp, HasSaved}
+use Rattle.monitor.specs.Confined.{IsSvc}
 use Rattle.monitor.specs.Invariant.{IsSaved, AreSaved}
+use Rattle.monitor.specs.Handlers.{LoadFor, ForStack, ForReturn}
 use Rattle.monitor.specs.Outcomes.{Outcome, Halts, Resumes, stacked, with_stacked, moved_on, return_place, r12_place}
 use Rattle.monitor.specs.SvcOutcome.{word, callee_frame, enter_to, enter_by, enter_at, leave_to}
 use Rattle.monitor.specs.Constants.{Constants, constants_with}
@@ -36,7 +38,7 @@ use Rattle.handler_runs.proofs.Frames.{stacked_is}
 use Rattle.handler_runs.proofs.Blocks.{saved_stay, loans_stay, loans_dropped}
 use Rattle.handler_runs.proofs.Returned.{LeavesRam, Answers}
 use Rattle.svc_law.proofs.Enter.{HasEntered, NewTop}
-use Rattle.svc_law.proofs.Calling.{Calling, off, halted, frame}
+use Rattle.svc_law.proofs.Calling.{Calling, off, halted, frame, top_before}
 use Rattle.common_laws.proofs.Lists.{each_at}
 
 module _ (i : Image) (t : Tables) (stub : ℕ) (s : State) (m : Block) (psp o : ℕ) (memory : List ℕ) (c : Calling i t s m psp o memory) where
@@ -179,9 +181,21 @@ module _ (i : Image) (t : Tables) (stub : ℕ) (s : State) (m : Block) (psp o : 
             h.others 1 x (⊎_elim (λ y. inl y) (λ y. inr (omega (arith, y))) u) (⊎_elim (λ y. inl y) (λ y. inr (omega (arith, y))) v)
             ∙ sym (changed.reads 1 x (⊎_elim (λ y. inl y) (λ y. inr (omega (arith, y))) v))
 
-    pub leave_goes : (q : ProtectionState) (new : List ℕ) (b0 b1 b2 b3 b4 b5 b6 b7 : ℕ) (u : Registers) → q ≡ with_unit (off i t stub s m psp o memory c) (record u { control = 5 }) → q.mpu.regions ≡ regions_for i t e.current e.top → HasLeft i t c.placed c.tables stub o memory new (length es) back e.current e.top e.mark →
+    -- the frame that waits, by the words of the thread's state
+    waits : IsSvc i t 1 s → (a : ℕ) → e.psp ≤ a → a < e.psp + 32 → LoadFor i t s a
+    waits is_svc a lo hi = ForReturn is_svc (omega (arith, deep), subst (λ n. n ≤ a) (sym psp_was) lo, subst (λ n. a < n + 32) (sym psp_was) hi)
+      where
+        deep : depth i t s.ram ≡ suc (length es)
+        deep = c.invariant.inv.is_block.depth_is ∙ count_is
+
+        psp_was : saved_psp i t s.ram (depth i t s.ram - 1) ≡ e.psp
+        psp_was =
+            (let z : depth i t s.ram - 1 ≡ length es = omega (arith, deep) in ap (λ k. saved_psp i t s.ram k) z)
+            ∙ (subst (λ l. HasSaved i t s.ram l) is c.invariant.inv.is_block.has_saved).0.psp
+
+    pub leave_goes : IsSvc i t 1 s → (q : ProtectionState) (new : List ℕ) (b0 b1 b2 b3 b4 b5 b6 b7 : ℕ) (u : Registers) → q ≡ with_unit (off i t stub s m psp o memory c) (record u { control = 5 }) → q.mpu.regions ≡ regions_for i t e.current e.top → HasLeft i t c.placed c.tables stub o memory new (length es) back e.current e.top e.mark →
         Q (leave_to i t stub m psp memory (e ∷ es)) (AtReturn (core (t.monitor + block_size) (i.ram_base + back) q s.status new b0 b1 b2 b3 b4 b5 b6 b7))
-    leave_goes q new b0 b1 b2 b3 b4 b5 b6 b7 u eq er h = (
+    leave_goes is_svc q new b0 b1 b2 b3 b4 b5 b6 b7 u eq er h = (
       core (t.monitor + block_size) (i.ram_base + back) q s.status new b0 b1 b2 b3 b4 b5 b6 b7,
       refl,
       record {
@@ -197,6 +211,7 @@ module _ (i : Image) (t : Tables) (stub : ℕ) (s : State) (m : Block) (psp o : 
         offset = back;
         at = sym back_is;
         frame = back_frame;
+        may_load = waits is_svc;
         current_in = saved_is.current_in;
         saved = length es;
         is_top = saved_is.is_top;
@@ -396,6 +411,7 @@ module _ (i : Image) (t : Tables) (stub : ℕ) (s : State) (m : Block) (psp o : 
               offset = rounded t psp - i.ram_base - 32;
               at = let q = fo_is in omega (arith, q);
               frame = new_frame;
+              may_load = λ a lo hi. let y = z.above in let w = z.below in let v = c.at in let l = (frame i t stub s m psp o memory c f).high in let g = top_before i t stub s m psp o memory c in ForStack (omega (arith, lo, y), omega (arith, hi, y, w, v, l, g));
               current_in = ie.compartment_in;
               saved = 0;
               is_top = (z.eighths, z.at, (let a = z.some in omega (arith, a)), (let a = z.few in omega (arith, a)));

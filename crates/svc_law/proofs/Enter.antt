@@ -152,7 +152,7 @@ module _ (i : Image) (t : Tables) (p : Placed i t) where
       fewer : (n : ℕ) → n * eighth t ≤ psp - t.stack.base → n ≤ 7
       fewer n h = ⊎_elim (λ x. omega (arith, x)) (λ x. absurd (let y = eight_times n x in let z = size_is.eighths in omega (arith, y, z, h, hi, lo))) (cases_lt n 8)
 
-module _ (i : Image) (t : Tables) (p : Placed i t) (has : HasTables i t) (stub : ℕ) (Good : ProtectionState → Type 0) (Allowed : Rule) (handles : Handles i t Allowed) (good : (q : ProtectionState) → IsOff true q → Good q)
+module _ (i : Image) (t : Tables) (p : Placed i t) (has : HasTables i t) (stub : ℕ) (Good : ProtectionState → Type 0) (Allowed : Rule) {entry_top : ℕ} (handles : Handles i t entry_top Allowed) (good : (q : ProtectionState) → IsOff true q → Good q)
     (on : (q : ProtectionState) (cur top : ℕ) → cur < length t.comps → q.handler ≡ true → q.mpu.regions ≡ regions_for i t cur top → Good (with_unit q (record q.mpu { control = 5 }))) where
   abbrev k : Constants
   k = constants_with stub t
@@ -182,6 +182,7 @@ module _ (i : Image) (t : Tables) (p : Placed i t) (has : HasTables i t) (stub :
       pub off : IsOff true q
       pub first : HasFirstRegions i t q.mpu
       pub frame : InStack i t o top
+      pub below : i.ram_base + (o + 32) ≤ entry_top
       pub top_is : read 4 (here + 4) m ≡ top
       pub depth : read 4 (here + 8) m ≡ d
       pub shallow : d < 8
@@ -243,9 +244,9 @@ module _ (i : Image) (t : Tables) (p : Placed i t) (has : HasTables i t) (stub :
             (core msp psp q u m psp k.block k.stack (rounded t psp) a4 g.compartment 0 a7) Q
         rest_within g {ks} {Q} a4 a7 is_entry wanted_is f =
             more_within
-            (raise_within i t p has stub Good Allowed handles good msp psp u o top ret q m k.block k.stack (rounded t psp) a4 g.compartment 0 a7 a.off a.at a.frame a.top_is a.return_is return_low (λ v4 m1 w1 z1.
+            (raise_within i t p has stub Good Allowed handles good msp psp u o top ret q m k.block k.stack (rounded t psp) a4 g.compartment 0 a7 a.off a.at a.frame a.below a.top_is a.return_is return_low (λ v4 m1 w1 z1.
             save_within i t p has stub Good Allowed handles good msp psp u d q m1 k.stack (rounded t psp) v4 g.compartment 2 a7 a.off a.shallow (depth1 m1 w1) (z1 ∙ a.as_long) psp_small (λ y6 y7 m2 s.
-            frame_within i t p has stub Good Allowed handles good msp psp u o (rounded t psp - i.ram_base - 32) top (g.entry - 1) (rounded t psp) q m2 k.block k.stack d g.compartment y6 y7 a.off a.at a.frame fo_frame fo_apart fo_is (top2 m1 m2 w1 s) (wanted2 m1 m2 w1 s) (omega arith) (s.changed.as_long ∙ z1 ∙ a.as_long) (λ m3 r.
+            frame_within i t p has stub Good Allowed handles good msp psp u o (rounded t psp - i.ram_base - 32) top (g.entry - 1) (rounded t psp) q m2 k.block k.stack d g.compartment y6 y7 a.off a.at a.frame a.below fo_frame fo_apart fo_is (top2 m1 m2 w1 s) (wanted2 m1 m2 w1 s) (omega arith) (s.changed.as_long ∙ z1 ∙ a.as_long) (λ m3 r.
             entered_within i t p has stub Good Allowed handles good msp psp u d g.compartment (rounded t psp) (rounded t psp - i.ram_base - 32) q m3 psp 1 0x01000000 a.off a.shallow compartment_small top_small (r.changed.as_long ∙ s.changed.as_long ∙ z1 ∙ a.as_long) fo_frame.aligned (λ m4 z7 c.
             tables_within i p.rules k Good Allowed true handles.plain good msp (i.ram_base + (rounded t psp - i.ram_base - 32)) u g.compartment (record_at i t w stub g.compartment) z.eighths (rounded t psp) (compartment_at t g.compartment).code (compartment_at t g.compartment).slots q m4 psp k.block 1 (d + 1) (i.ram_base + (rounded t psp - i.ram_base - 32)) z7 a.off (shaped i t w stub) (has_compartment i t w stub g.compartment is_entry.compartment_in) compartment_small z.some most (top_is i t w stub z.eighths (rounded t psp) z.at) (λ q1 y2 v6 v7 e1 off1.
             closed_within i t p has stub Good Allowed handles good msp (i.ram_base + (rounded t psp - i.ram_base - 32)) u q1 m4 MPU_RBAR k.block y2 (rounded t psp) (d + 1) g.compartment v6 v7 off1 (on q1 g.compartment (rounded t psp) is_entry.compartment_in off1.mode (regions_are q1 e1)) (λ q2 e2.
@@ -329,7 +330,7 @@ module _ (i : Image) (t : Tables) (p : Placed i t) (has : HasTables i t) (stub :
             (core msp psp q u m psp k.block k.stack top ret (site_at t (read 2 ro i.flash)).first (site_at t (read 2 ro i.flash)).count v7) Q
         target_on {ks} {Q} v7 r3 r5 go =
             more_within
-            (target_within i t p has stub Good Allowed handles good msp psp u (site_at t (read 2 ro i.flash)).first (site_at t (read 2 ro i.flash)).count at_targets o top q m k.block k.stack top ret v7 a.off a.at a.frame a.top_is
+            (target_within i t p has stub Good Allowed handles good msp psp u (site_at t (read 2 ro i.flash)).first (site_at t (read 2 ro i.flash)).count at_targets o top q m k.block k.stack top ret v7 a.off a.at a.frame a.below a.top_is
             (site_targets i t p has stub (site_at t (read 2 ro i.flash)) (a.sites (read 2 ro i.flash) lt) Good Allowed handles good)
             (λ c e n. r3 c e (none_by last refl n))
             (λ v4 w7 n. picked_within last v4 w7 refl n r5 go)) few_steps

@@ -195,16 +195,16 @@ module _ (laws : CallLaws) (i : Image) (t : Tables) (fit : IsFit i t) (s : State
 
   -- a list whose code stands there leads as a handler to its outcome
   led : (b : ℕ) (l : Steps) (R : GateOutcome → Type 0) → names_low l ≡ true → code_length l ≤ code_length (svc k) → CodeIn i pc0 (code l) → by.W i t stub s m psp o memory calling b l [] first R →
-      Leads i t b from (GateShows by_mpu i (IsGood i) return_on_psp s.queues (effect by_mpu i l first) (pc0 + code_length l)) × R (effect by_mpu i l first)
+      Leads i t s b from (GateShows by_mpu i (IsGood i) return_on_psp s.queues (effect by_mpu i l first) (pc0 + code_length l)) × R (effect by_mpu i l first)
   led b l R names short stands w = (
-    record { count = run.count; within = (let a = run.within in let t = ticks_of i (IsGood i) (HandlerRule i t) b l first R w in omega (arith, a, t)); each = run.each; holds = run.holds },
+    record { count = run.count; within = (let a = run.within in let t = ticks_of i (IsGood i) (HandlerRule i t s) b l first R w in omega (arith, a, t)); each = run.each; holds = run.holds },
     (gives_effect w.gives).0,
   )
     where
       inside : (a : ℕ) → a < pc0 + code_size (code l) → a < i.flash_base + 4096
       inside a h = let e = code_has_its_length l in let r = code_room in omega (arith, h, e, r, short)
 
-      start : MayStart by_mpu i (IsGood i) (HandlerRule i t) return_on_psp s.queues l pc0 scratch first
+      start : MayStart by_mpu i (IsGood i) (HandlerRule i t s) return_on_psp s.queues l pc0 scratch first
       start = record {
         registers_are_low = names;
         below = let h = p.rules.flash_highest in let r = code_room in omega (arith, h, r, short);
@@ -214,25 +214,25 @@ module _ (laws : CallLaws) (i : Image) (t : Tables) (fit : IsFit i t) (s : State
         safe = (gives_effect w.gives).1;
       }
 
-      run : Leads i t (ticks by_mpu i l first) from (GateShows by_mpu i (IsGood i) return_on_psp s.queues (effect by_mpu i l first) (pc0 + code_length l))
-      run = runs_handle i t (IsGood i) (λ q g. g.mode) (ticks by_mpu i l first) from _ (effect_of_code by_mpu i (IsGood i) (HandlerRule i t) laws.list return_on_psp s.queues l pc0 scratch first p.rules start)
+      run : Leads i t s (ticks by_mpu i l first) from (GateShows by_mpu i (IsGood i) return_on_psp s.queues (effect by_mpu i l first) (pc0 + code_length l))
+      run = runs_handle i t s (IsGood i) (λ q g. g.mode) (ticks by_mpu i l first) from _ (effect_of_code by_mpu i (IsGood i) (HandlerRule i t s) laws.list return_on_psp s.queues l pc0 scratch first p.rules start)
 
   -- ---- each number
 
-  whole : (b : ℕ) → by.W i t stub s m psp o memory calling b (svc k) [] first (by.Q i t stub s m psp o memory calling (svc_outcome i t stub m psp memory n)) → Leads i t (b + 1) from (Shows i t (svc_outcome i t stub m psp memory n) s m memory)
+  whole : (b : ℕ) → by.W i t stub s m psp o memory calling b (svc k) [] first (by.Q i t stub s m psp o memory calling (svc_outcome i t stub m psp memory n)) → Leads i t s (b + 1) from (Shows i t (svc_outcome i t stub m psp memory n) s m memory)
   whole b w =
       let l = led b (svc k) (by.Q i t stub s m psp o memory calling (svc_outcome i t stub m psp memory n)) (svc_low stub t) (omega arith) code_there w in
       concluded laws.back i t p s m s.queues refl (IsGood i) memory from (pc0 + code_length (svc k)) b (svc_outcome i t stub m psp memory n) (effect by_mpu i (svc k) first) l.1 (mode_kept true by_mpu i (svc k) first refl) l.0
 
   by_list : (b : ℕ) → (FrameIsOpen i t o memory → by.W i t stub s m psp o memory calling b (by.numbers i t stub s m psp o memory calling) [] (by.at_number i t stub s m psp o memory calling (s.core.pc + 2) n) (by.Q i t stub s m psp o memory calling (by_number i t stub m psp memory n))) →
-      Leads i t (54 + b + 1) from (Shows i t (svc_outcome i t stub m psp memory n) s m memory)
+      Leads i t s (54 + b + 1) from (Shows i t (svc_outcome i t stub m psp memory n) s m memory)
   by_list b go = whole (54 + b) (by.numbered i t stub s m psp o memory calling b (s.core.pc + 2) n (low 0) (low 1) (low 2) (low 3) (low 4) (low 5) (low 6) (low 7) return_is called go)
 
-  within_steps : (a : ℕ) → a ≤ svc_steps n → Leads i t a from (Shows i t (svc_outcome i t stub m psp memory n) s m memory) → Leads i t (svc_steps n) from (Shows i t (svc_outcome i t stub m psp memory n) s m memory)
+  within_steps : (a : ℕ) → a ≤ svc_steps n → Leads i t s a from (Shows i t (svc_outcome i t stub m psp memory n) s m memory) → Leads i t s (svc_steps n) from (Shows i t (svc_outcome i t stub m psp memory n) s m memory)
   within_steps a h l = record { count = l.count; within = (let w = l.within in omega (arith, w, h)); each = l.each; holds = l.holds }
 
   abbrev Goal : Type 0
-  Goal = Leads i t (svc_steps n) from (Shows i t (svc_outcome i t stub m psp memory n) s m memory)
+  Goal = Leads i t s (svc_steps n) from (Shows i t (svc_outcome i t stub m psp memory n) s m memory)
 
   steps_large : nat_lt n 2 ≡ false → svc_steps n ≡ 250
   steps_large e = ap (λ b. if b then 4000 else 250) e
@@ -263,7 +263,7 @@ module _ (laws : CallLaws) (i : Image) (t : Tables) (fit : IsFit i t) (s : State
   at_one : n ≡ 1 → Goal
   at_one e =
       within_steps 263 (let z : svc_steps n ≡ 4000 = ap svc_steps e in omega (arith, z))
-      (by_list 208 (λ f. subst (λ x. by.W i t stub s m psp o memory calling 208 (by.numbers i t stub s m psp o memory calling) [] (by.at_number i t stub s m psp o memory calling (s.core.pc + 2) x) (by.Q i t stub s m psp o memory calling (by_number i t stub m psp memory x))) (sym e) (by.one i t stub s m psp o memory calling laws.unit f (s.core.pc + 2))))
+      (by_list 208 (λ f. subst (λ x. by.W i t stub s m psp o memory calling 208 (by.numbers i t stub s m psp o memory calling) [] (by.at_number i t stub s m psp o memory calling (s.core.pc + 2) x) (by.Q i t stub s m psp o memory calling (by_number i t stub m psp memory x))) (sym e) (by.one i t stub s m psp o memory calling laws.unit f (s.core.pc + 2) (subst (λ x. IsSvc i t x s) e is_svc))))
 
   -- ---- enter, by where the halfword behind the instruction lies
 
@@ -315,7 +315,7 @@ module _ (laws : CallLaws) (i : Image) (t : Tables) (fit : IsFit i t) (s : State
     test_there : CodeIn i (pc0 + code_length before) (code the_test)
     test_there = subst (λ x. CodeIn i (pc0 + x) (code the_test)) (code_has_its_length before) both_there.1
 
-    before_led : Leads i t 68 from (GateShows by_mpu i (IsGood i) return_on_psp s.queues (effect by_mpu i before first) (pc0 + code_length before)) × bus.Ends laws.nothing equal_zero i t stub s m psp o memory calling (s.core.pc + 2) return_is called_zero ret_even ret_small nowhere (effect by_mpu i before first)
+    before_led : Leads i t s 68 from (GateShows by_mpu i (IsGood i) return_on_psp s.queues (effect by_mpu i before first) (pc0 + code_length before)) × bus.Ends laws.nothing equal_zero i t stub s m psp o memory calling (s.core.pc + 2) return_is called_zero ret_even ret_small nowhere (effect by_mpu i before first)
     before_led = led 68 before (bus.Ends laws.nothing equal_zero i t stub s m psp o memory calling (s.core.pc + 2) return_is called_zero ret_even ret_small nowhere) refl (let l = lengths in omega (arith, l)) both_there.0
         (bus.before_within laws.nothing equal_zero i t stub s m psp o memory calling (s.core.pc + 2) return_is called_zero ret_even ret_small nowhere (low 0) (low 1) (low 2) (low 3) (low 4) (low 5) (low 6) (low 7))
 
@@ -338,15 +338,15 @@ module _ (laws : CallLaws) (i : Image) (t : Tables) (fit : IsFit i t) (s : State
         shut : by.Q i t stub s m psp o memory calling (Halts 4) (effect by_mpu i before first) × (FrameIsOpen i t o memory → ⊥) → Goal
         shut x =
             within_steps 69 (let e = steps in omega (arith, e))
-            (subst (λ h. Leads i t 69 from (Shows i t h s m memory)) (sym (outcome_shut i t stub s m psp o memory calling n x.1))
+            (subst (λ h. Leads i t s 69 from (Shows i t h s m memory)) (sym (outcome_shut i t stub s m psp o memory calling n x.1))
             (concluded laws.back i t p s m s.queues refl (IsGood i) memory from (pc0 + code_length before) 68 (Halts 4) (effect by_mpu i before first) x.0 (mode_kept true by_mpu i before first refl) before_led.0))
 
         opens : (effect by_mpu i before first ≡ Went at_test) × FrameIsOpen i t o memory → Goal
         opens x =
-            let l : Leads i t 68 from (GateShows by_mpu i (IsGood i) return_on_psp s.queues (Went at_test) (pc0 + code_length before)) = subst (λ z. Leads i t 68 from (GateShows by_mpu i (IsGood i) return_on_psp s.queues z (pc0 + code_length before))) x.0 before_led.0 in
+            let l : Leads i t s 68 from (GateShows by_mpu i (IsGood i) return_on_psp s.queues (Went at_test) (pc0 + code_length before)) = subst (λ z. Leads i t s 68 from (GateShows by_mpu i (IsGood i) return_on_psp s.queues z (pc0 + code_length before))) x.0 before_led.0 in
             let h = l.holds in
             within_steps 71 (let e = steps in omega (arith, e))
-            (subst (λ y. Leads i t 71 from (Shows i t y s m memory)) (sym (stops_outcome x.1))
+            (subst (λ y. Leads i t s 71 from (Shows i t y s m memory)) (sym (stops_outcome x.1))
             (bus.stopped laws.nothing equal_zero i t stub s m psp o memory calling (s.core.pc + 2) return_is called_zero ret_even ret_small nowhere (pc0 + code_length before) test_there (omega arith) (let r = code_room in let z = lengths in omega (arith, r, z)) s.queues h.0 68 from
             (record { count = l.count; within = l.within; each = l.each; holds = h.1 })))
 
@@ -364,8 +364,8 @@ module _ (laws : CallLaws) (i : Image) (t : Tables) (fit : IsFit i t) (s : State
     | inr (inr (inr (inr h))) ↦ above_three h
   ]
 
-  pub holds_at_entry : Leads i t (svc_steps n) (at_svc i s) (Shows i t (svc_outcome i t stub m (frame_at s.core.sp) (at_svc i s).ram n) s m (at_svc i s).ram)
-  holds_at_entry = subst (λ u. Leads i t (svc_steps n) u (Shows i t (svc_outcome i t stub m (frame_at s.core.sp) u.ram n) s m u.ram)) (sym from_is) goal
+  pub holds_at_entry : Leads i t s (svc_steps n) (at_svc i s) (Shows i t (svc_outcome i t stub m (frame_at s.core.sp) (at_svc i s).ram n) s m (at_svc i s).ram)
+  holds_at_entry = subst (λ u. Leads i t s (svc_steps n) u (Shows i t (svc_outcome i t stub m (frame_at s.core.sp) u.ram n) s m u.ram)) (sym from_is) goal
 
 pub svc_keeps_the_law : CallLaws → OfSoundImages monitor_code (λ i t. SvcLaw i t (monitor_code.stub t))
 svc_keeps_the_law laws i t rules sound s m n inv alive few is_svc opened = holds_at_entry laws i t (sound_is_fit i t rules sound) s m n inv alive few is_svc opened

@@ -161,7 +161,7 @@ module _ (i : Image) (t : Tables) (p : Placed i t) (has : HasTables i t) (stub :
     last_in : s.first + (s.count - 1) < length t.targets
     last_in = let a = f.some in let b = f.inside in omega (arith, a, b)
 
-    pub site_targets : (Good : ProtectionState → Type 0) (Allowed : Rule) (handles : Handles i t Allowed) (good : (q : ProtectionState) → IsOff true q → Good q) → HasTargets i t p has stub Good Allowed handles good s.first s.count to
+    pub site_targets : (Good : ProtectionState → Type 0) (Allowed : Rule) {entry_top : ℕ} (handles : Handles i t entry_top Allowed) (good : (q : ProtectionState) → IsOff true q → Good q) → HasTargets i t p has stub Good Allowed handles good s.first s.count to
     site_targets Good Allowed handles good = record {
       at = let e = targets_at_is (s.first + (s.count - 1)) last_in in omega (arith, e);
       first_low = let x = (has_target (s.first + (s.count - 1)) last_in).1 in let r = p.rules.flash_most in omega (arith, x, r);

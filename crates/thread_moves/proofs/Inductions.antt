@@ -34,11 +34,11 @@ module _ (laws : RunLaws) (i : Image) (t : Tables) (p : Placed i t) (stub : ℕ)
       let z : n ≡ a + (n - a) = omega (arith, le) in
       ap at z ∙ at_add a (n - a) ∙ run_still (step i) (n - a) (at a) (step_ended laws i t p stub law (at a) e q)
 
-  pub works_in : (a n : ℕ) (m : Block) (g : Piece m (at a)) → a < n → n < a + g.count → Handles i t (at n)
+  pub works_in : (a n : ℕ) (m : Block) (g : Piece m (at a)) → a < n → n < a + g.count → Handles i t (at a) (at n)
   works_in a n m g lt l =
       let z : a + (n - a) ≡ n = omega (arith, lt) in
       let w = g.works (n - a) (omega (arith, lt)) (omega (arith, l, lt)) in
-      subst (λ (k : ℕ). Handles i t (at k)) z (subst (λ (x : State). Handles i t x) (sym (at_add a (n - a))) w)
+      subst (λ (k : ℕ). Handles i t (at a) (at k)) z (subst (λ (x : State). Handles i t (at a) x) (sym (at_add a (n - a))) w)
 
   -- ---- the next step of the thread is where the work for this one ends
 

@@ -60,7 +60,7 @@ module _ (laws : RunLaws) (i : Image) (t : Tables) (p : Placed i t) (stub : ℕ)
     pub count : ℕ
     pub some : 0 < count
     pub few : count ≤ 16001
-    pub works : (k : ℕ) → 0 < k → k < count → Handles i t (run (step i) k s)
+    pub works : (k : ℕ) → 0 < k → k < count → Handles i t s (run (step i) k s)
     pub work : Work m s count
     pub rest : Rest m s (run (step i) count s)
 
@@ -104,7 +104,7 @@ module _ (laws : RunLaws) (i : Image) (t : Tables) (p : Placed i t) (stub : ℕ)
   run_fits zero s h = h
   run_fits (suc k) s h = run_fits k (step i s) (laws.shape by_mpu i s p.rules h)
 
-  handled : (m : Block) (s from : State) (h : InvariantHolds i t m s) → step i s ≡ from → (most : ℕ) → ((c : ℕ) → c ≤ most → c ≤ 16000) → (o : Outcome) → (l : Leads i t most from (Shows i t o s m from.ram)) →
+  handled : (m : Block) (s from : State) (h : InvariantHolds i t m s) → step i s ≡ from → (most : ℕ) → ((c : ℕ) → c ≤ most → c ≤ 16000) → (o : Outcome) → (l : Leads i t s most from (Shows i t o s m from.ram)) →
       Turns s (run (step i) l.count from) m o → (Shows i t o s m from.ram (run (step i) (suc l.count) s) → Work m s (suc l.count)) → Segment m s
   unfolding run
   handled m s from h to most limit o l turns work =
@@ -120,9 +120,9 @@ module _ (laws : RunLaws) (i : Image) (t : Tables) (p : Placed i t) (stub : ℕ)
         rest = subst (λ (x : State). Rest m s x) (sym there) (rest_by m s u o from.ram h fits turns l.holds);
       }
     where
-      works_at : (k : ℕ) → 0 < k → k < suc l.count → Handles i t (run (step i) k s)
+      works_at : (k : ℕ) → 0 < k → k < suc l.count → Handles i t s (run (step i) k s)
       works_at zero some lt = absurd (omega (arith, some))
-      works_at (suc k) some lt = subst (λ (x : State). Handles i t (run (step i) k x)) (sym to) (l.each k (omega (arith, lt)))
+      works_at (suc k) some lt = subst (λ (x : State). Handles i t s (run (step i) k x)) (sym to) (l.each k (omega (arith, lt)))
 
   -- ---- one step
 
