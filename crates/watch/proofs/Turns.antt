@@ -1,0 +1,83 @@
+-- What the answer of a machine's step says of its state and of its event.
+use Rattle.std.proofs.Common.{◌≡◌, ℕ, zero, suc, ◌≤◌, Bool, Option, Some, None, refl, ap, sym, subst, ◌∙◌, inl, inr, arith}
+use Rattle.words.specs.Runs.{run}
+use Rattle.device_model.specs.declared.image.Image.{Image}
+use Rattle.events.specs.declared.event.Event.{Event}
+use Rattle.armv7m.specs.declared.state.End.{End}
+use Rattle.armv7m.specs.declared.state.End.TheVariants.{Halt, InputEnd, Limit, Stop, Refused}
+use Rattle.machine.specs.declared.Step.TheVariants.{Ran, Event as Told, Ended}
+use Rattle.armv7m.specs.State.{State, Turn, by_mpu}
+use Rattle.armv7m.specs.Step.{turn, step, event}
+use Rattle.armv7m.specs.Ends.{IsOwn, EndsOrGoesOn}
+use Rattle.machine.specs.Machine.{MachineState, HasOwn, answer, answer_by, IsRun, Says}
+use Rattle.armv7m.proofs.Runs.{told_ended}
+use Rattle.armv7m.proofs.Ends.{steps_end_or_go_on}
+
+quiet_by : (o : Option End) (x : Option Event) → Ran ≡ answer_by o x → (o ≡ None) × (x ≡ None)
+quiet_by (Some e) x h = cc
+quiet_by None (Some x) h = cc
+quiet_by None None h = (refl, refl)
+
+tells_by : (o : Option End) (x : Option Event) (y : Event) → Told y ≡ answer_by o x → (o ≡ None) × (x ≡ Some y)
+tells_by (Some e) x y h = cc
+tells_by None None y h = cc
+tells_by None (Some x) y h = (refl, cc)
+
+ended_by : (o : Option End) (x : Option Event) (e : End) → Ended e ≡ answer_by o x → o ≡ Some e
+ended_by (Some d) x e h = cc
+ended_by None (Some x) e h = cc
+ended_by None None e h = cc
+
+-- the machine goes on, and made no event
+pub quiet : (i : Image) (s : State) → Ran ≡ answer (turn by_mpu i s) → ((step i s).ending ≡ None) × (event i s ≡ None)
+quiet i s h = quiet_by (step i s).ending (event i s) h
+
+-- the machine goes on, and made this event
+pub tells : (i : Image) (s : State) (x : Event) → Told x ≡ answer (turn by_mpu i s) → ((step i s).ending ≡ None) × (event i s ≡ Some x)
+tells i s x h = tells_by (step i s).ending (event i s) x h
+
+-- the machine has ended
+pub ended : (i : Image) (s : State) (e : End) → Ended e ≡ answer (turn by_mpu i s) → (step i s).ending ≡ Some e
+ended i s e h = ended_by (step i s).ending (event i s) e h
+
+silent_by : (s : State) (t : Turn) (e : End) → EndsOrGoesOn s t → t.to.ending ≡ Some e → (s.ending ≡ Some e → t.event ≡ None) → t.event ≡ None
+silent_by s t e (inl q) h k = k (sym q ∙ h)
+silent_by s t e (inr m) h k = ap (λ (u : Turn). u.event) m.2
+
+-- a step that ends the machine makes no event
+pub silent : (i : Image) (s : State) (e : End) → (step i s).ending ≡ Some e → event i s ≡ None
+silent i s e h = silent_by s (turn by_mpu i s) e (steps_end_or_go_on by_mpu i s) h (told_ended by_mpu i s e)
+
+-- the end of a machine is its own
+pub own_of : (o : Option End) (e : End) → HasOwn o → o ≡ Some e → IsOwn e
+own_of None e h q = cc
+own_of (Some d) e h q = let p : d ≡ e = cc in subst IsOwn p h
+
+-- ---- no step at all
+
+module _ {A : Type 0} (calls : A → Event → Bool → A → Type 0) (m n : MachineState) (f g : A) where
+  run_of_none : (i : Image) (s : State) (k : ℕ) → k ≤ 0 → run (step i) k s ≡ s
+  unfolding run
+  run_of_none i s zero l = refl
+  run_of_none i s (suc k) l = let x : ⊥ = omega arith in absurd x
+
+  -- the machine stays
+  pub idle : (e : End) → IsRun calls 0 m n f g e → n ≡ m
+  idle e r =
+      let q : n.state ≡ m.state = sym r.leads ∙ run_of_none m.image m.state r.steps r.few in
+      λ i. record { image = r.same_image i; state = q i }
+
+  own_by : (k : ℕ) (e : End) → k ≤ 0 → (e ≡ Limit → ⊥) → Says calls m.image 0 k m.state n.state f g e → (n.state.ending ≡ Some e) × IsOwn e
+  own_by k (Halt c) l other h = (h.0, tt)
+  own_by k InputEnd l other h = (h.0, tt)
+  own_by k Limit l other h = absurd (other refl)
+  own_by k (Stop q a) l other h = (h.0, tt)
+  own_by k Refused l other h = let last = h.1.last in let x : ⊥ = omega arith in absurd x
+
+  -- an answer other than the limit is the machine's own end
+  pub idle_ended : (e : End) → (e ≡ Limit → ⊥) → IsRun calls 0 m n f g e → (n.state.ending ≡ Some e) × IsOwn e
+  idle_ended e other r = own_by r.steps e r.few other r.says
+
+  -- and where it is the limit the machine goes on
+  pub idle_going : (e : End) → e ≡ Limit → IsRun calls 0 m n f g e → n.state.ending ≡ None
+  idle_going e is r = (subst (Says calls m.image 0 r.steps m.state n.state f g) is r.says).1
