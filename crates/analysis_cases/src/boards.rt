@@ -3,7 +3,7 @@
 use anyhow::Result;
 use board_text::fault::BoardFault;
 use board_text::read_board;
-use plan_model::plan::Board;
+use plan_model::plan::{Board, Lowest};
 use std::alloc::Global;
 
 fn board_of(alloc: Global, board: &Board) -> Result<String> {
@@ -13,11 +13,16 @@ fn board_of(alloc: Global, board: &Board) -> Result<String> {
         ram_base,
         ram_size,
         stack,
+        lowest,
         regions,
         closed,
     } = *board;
+    let first = match lowest {
+        Lowest::Largest => "",
+        Lowest::Stack => " lowest",
+    };
     let line = format!(in alloc;
-        "flash {flash_base:#010x} {flash_size} ram {ram_base:#010x} {ram_size} stack {stack} regions {regions} closed {closed}\n"
+        "flash {flash_base:#010x} {flash_size} ram {ram_base:#010x} {ram_size} stack {stack}{first} regions {regions} closed {closed}\n"
     )?;
     Ok(line)
 }

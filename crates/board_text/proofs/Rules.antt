@@ -14,7 +14,7 @@ use Rattle.board_text.specs.declared.document.KeyFault.{KeyFault}
 use Rattle.board_text.specs.declared.document.KeyFault.TheVariants.{Range}
 use Rattle.board_text.specs.declared.fields.Unit.{Unit as Protection}
 use Rattle.board_text.specs.Keys.{word_of, allows, is_base, is_size}
-use Rattle.board_text.specs.Fields.{and_then, of_kind, allowed, number_of, value_at, number_at, table_at, table_of, flash_of, regions_by, regions_of, closed_of, unit_in, unit_by, unit_of, board_of}
+use Rattle.board_text.specs.Fields.{and_then, of_kind, allowed, number_of, value_at, number_at, table_at, table_of, flash_of, regions_by, regions_of, lowest_of, closed_of, unit_in, unit_by, unit_of, board_of}
 use Rattle.board_text.specs.Extra.{extra_of}
 use Rattle.board_text.specs.Reading.{reading, reading_by}
 
@@ -23,6 +23,9 @@ use Rattle.board_text.specs.Reading.{reading, reading_by}
 passed : {X Y : Type 0} (r : Result X KeyFault) (f : X → Result Y KeyFault) (y : Y) → and_then r f ≡ Ok y → (x : X) × (r ≡ Ok x) × (f x ≡ Ok y)
 passed (Ok x) f y e = (x, refl, e)
 passed (Err k) f y e = cc
+
+one_read : {X : Type 0} (x y : X) → (let r : Result X KeyFault = Ok x in r) ≡ Ok y → x ≡ y
+one_read x y e = cc
 
 -- ---- numbers
 
@@ -94,11 +97,12 @@ board_is ms b e =
     let (ram_base, f2, e2) = passed (number_at RamBase ram) _ b e1 in
     let (ram_size, f3, e3) = passed (number_at RamSize ram) _ b e2 in
     let (stack, f4, e4) = passed (number_at RamStack ram) _ b e3 in
-    let (unit, f5, e5) = passed (unit_of ms) _ b e4 in
+    let (lowest, f5, e5) = passed (lowest_of ram) _ b e4 in
+    let (unit, f6, e6) = passed (unit_of ms) _ b e5 in
     let flash_parts = flash_is ms flash f0 in
     let flash_place = base_is 0 last_flash_base flash.base flash_parts.0 in
     let ram_place = base_is first_ram_base last_ram_base ram_base (number_at_is RamBase ram ram_base f2) in
-    let same : (let c : Board = record { flash_base = flash.base; flash_size = flash.size; ram_base = ram_base; ram_size = ram_size; stack = stack; regions = unit.regions; closed = unit.closed } in c) ≡ b = cc in
+    let same : (let c : Board = record { flash_base = flash.base; flash_size = flash.size; ram_base = ram_base; ram_size = ram_size; stack = stack; lowest = lowest; regions = unit.regions; closed = unit.closed } in c) ≡ b = one_read _ b e6 in
     subst IsBoard same (record {
       flash_aligned = flash_place.2;
       flash_highest = flash_place.1;
@@ -108,7 +112,7 @@ board_is ms b e =
       ram_highest = ram_place.1;
       ram_size = size_is ram_size (number_at_is RamSize ram ram_size f3);
       stack = (decides_power least_stack greatest_stack stack).0 (number_at_is RamStack ram stack f4);
-      regions = unit_by_is (get_member (word_of Mpu) ms) unit f5;
+      regions = unit_by_is (get_member (word_of Mpu) ms) unit f6;
     })
 
 pub read_obeys : (ms : Members) (b : Board) → reading ms ≡ Ok b → IsBoard b

@@ -4,7 +4,7 @@ use Rattle.std.specs.List.{list_any}
 use Rattle.plan_model.specs.Choices.{first_some}
 use Rattle.toml.specs.Data.{Members, no_members, member, get_member, as_table}
 use Rattle.board_text.specs.declared.key.Key.{Key}
-use Rattle.board_text.specs.declared.key.Key.TheVariants.{Flash, FlashBase, FlashSize, Ram, RamBase, RamSize, RamStack, Mpu, MpuRegions, MpuReads}
+use Rattle.board_text.specs.declared.key.Key.TheVariants.{Flash, FlashBase, FlashSize, Ram, RamBase, RamSize, RamStack, RamLowest, Mpu, MpuRegions, MpuReads}
 use Rattle.board_text.specs.declared.extra.FurtherKey.{FurtherKey}
 use Rattle.board_text.specs.Keys.{word_of, behind}
 
@@ -32,7 +32,7 @@ extra_of ms =
     (extra_word (Flash ∷ Mpu ∷ Ram ∷ []) ms
     ∷ inner_extra Flash (FlashBase ∷ FlashSize ∷ []) ms
     ∷ inner_extra Mpu (MpuRegions ∷ MpuReads ∷ []) ms
-    ∷ inner_extra Ram (RamBase ∷ RamSize ∷ RamStack ∷ []) ms
+    ∷ inner_extra Ram (RamBase ∷ RamSize ∷ RamStack ∷ RamLowest ∷ []) ms
     ∷ [])
 
 -- as it is printed

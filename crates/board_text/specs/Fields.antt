@@ -2,10 +2,12 @@
 -- kind, then for its value.
 use Rattle.std.specs.Prelude.{ℕ, ℤ, pos, negsuc, List, Bool, true, false, Option, Some, None, Result, Ok, Err, if◌then◌else◌, bytes_eq, codes}
 use Rattle.plan_model.specs.declared.plan.Board.{Board}
+use Rattle.plan_model.specs.declared.plan.Lowest.{Lowest}
+use Rattle.plan_model.specs.declared.plan.Lowest.TheVariants.{Largest, Stack}
 use Rattle.plan_model.specs.declared.plan.Spot.{Spot}
 use Rattle.toml.specs.Data.{Data, Members, get_member, as_table, as_integer, as_str}
 use Rattle.board_text.specs.declared.key.Key.{Key}
-use Rattle.board_text.specs.declared.key.Key.TheVariants.{Flash, FlashBase, FlashSize, Ram, RamBase, RamSize, RamStack, Mpu, MpuRegions, MpuReads}
+use Rattle.board_text.specs.declared.key.Key.TheVariants.{Flash, FlashBase, FlashSize, Ram, RamBase, RamSize, RamStack, RamLowest, Mpu, MpuRegions, MpuReads}
 use Rattle.board_text.specs.declared.document.KeyFault.{KeyFault}
 use Rattle.board_text.specs.declared.document.KeyFault.TheVariants.{Missing, Kind, Range}
 use Rattle.board_text.specs.declared.fields.Unit.{Unit}
@@ -46,6 +48,11 @@ abbrev pub is_closed : List ℕ → Result Bool KeyFault
 is_closed text =
     if bytes_eq text (codes "open") then Ok false else (if bytes_eq text (codes "closed") then Ok true else Err (Range MpuReads))
 
+-- which block stands where RAM begins, by the text `size` or `stack`
+abbrev pub lowest_named : List ℕ → Result Lowest KeyFault
+lowest_named text =
+    if bytes_eq text (codes "size") then Ok Largest else (if bytes_eq text (codes "stack") then Ok Stack else Err (Range RamLowest))
+
 -- ---- what has to be there
 
 abbrev pub value_at : Key → Members → Result Data KeyFault
@@ -65,6 +72,15 @@ flash_of ms =
     and_then (number_at FlashBase flash) (λ base.
     and_then (number_at FlashSize flash) (λ size.
     Ok (record { base = base; size = size }))))
+
+-- ---- the block that stands where RAM begins, whose key need not be there
+
+abbrev pub lowest_by : Option Data → Result Lowest KeyFault
+lowest_by None = Ok Largest
+lowest_by (Some d) = and_then (of_kind RamLowest (as_str d)) lowest_named
+
+abbrev pub lowest_of : Members → Result Lowest KeyFault
+lowest_of ram = lowest_by (get_member (word_of RamLowest) ram)
 
 -- ---- the protection unit, whose table and keys need not be there
 
@@ -104,6 +120,7 @@ board_of ms =
     and_then (number_at RamBase ram) (λ ram_base.
     and_then (number_at RamSize ram) (λ ram_size.
     and_then (number_at RamStack ram) (λ stack.
+    and_then (lowest_of ram) (λ lowest.
     and_then (unit_of ms) (λ unit.
     Ok (record {
       flash_base = flash.base;
@@ -111,6 +128,7 @@ board_of ms =
       ram_base = ram_base;
       ram_size = ram_size;
       stack = stack;
+      lowest = lowest;
       regions = unit.regions;
       closed = unit.closed;
-    })))))))
+    }))))))))

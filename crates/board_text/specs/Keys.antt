@@ -3,7 +3,7 @@ use Rattle.std.specs.Prelude.{ℕ, ◌%◌, List, ◌++◌, Bool, false, ◌&&�
 use Rattle.windows.specs.Ranges.{is_power_between}
 use Rattle.device_model.specs.Rules.{least_stack, greatest_stack, memory_limit, last_flash_base, first_ram_base, last_ram_base, least_ram, ram_unit}
 use Rattle.board_text.specs.declared.key.Key.{Key}
-use Rattle.board_text.specs.declared.key.Key.TheVariants.{Flash, FlashBase, FlashSize, Ram, RamBase, RamSize, RamStack, Mpu, MpuRegions, MpuReads}
+use Rattle.board_text.specs.declared.key.Key.TheVariants.{Flash, FlashBase, FlashSize, Ram, RamBase, RamSize, RamStack, RamLowest, Mpu, MpuRegions, MpuReads}
 
 -- ---- names
 
@@ -16,6 +16,7 @@ word_of Ram = codes "ram"
 word_of RamBase = codes "base"
 word_of RamSize = codes "size"
 word_of RamStack = codes "stack"
+word_of RamLowest = codes "lowest"
 word_of Mpu = codes "mpu"
 word_of MpuRegions = codes "regions"
 word_of MpuReads = codes "reads"
@@ -33,6 +34,7 @@ path_of Ram = codes "ram"
 path_of RamBase = codes "ram.base"
 path_of RamSize = codes "ram.size"
 path_of RamStack = codes "ram.stack"
+path_of RamLowest = codes "ram.lowest"
 path_of Mpu = codes "mpu"
 path_of MpuRegions = codes "mpu.regions"
 path_of MpuReads = codes "mpu.reads"
@@ -57,5 +59,6 @@ allows RamStack n = is_power_between least_stack greatest_stack n
 allows MpuRegions n = nat_eq n 8 || nat_eq n 16
 allows Flash n = false
 allows Ram n = false
+allows RamLowest n = false
 allows Mpu n = false
 allows MpuReads n = false

@@ -8,6 +8,7 @@ ghost use Rattle.board_text.specs.Keys.{word_of};
 ghost use Rattle.board_text.specs.Fields as fields;
 
 use crate::key::Key;
+use plan_model::plan::Lowest;
 use toml::{Table, Value};
 
 /// What is wrong at a key.
@@ -88,5 +89,18 @@ pub(crate) fn is_closed(text: &str) -> Result<bool, KeyFault>
         Ok(true)
     } else {
         Err(KeyFault::Range(Key::MpuReads))
+    }
+}
+
+/// Which block stands at RAM's base, by a text: `size` or `stack`.
+pub(crate) fn lowest_named(text: &str) -> Result<Lowest, KeyFault>
+    ensures { result ≡ fields.lowest_named text.now }
+{
+    if text == "size" {
+        Ok(Lowest::Largest)
+    } else if text == "stack" {
+        Ok(Lowest::Stack)
+    } else {
+        Err(KeyFault::Range(Key::RamLowest))
     }
 }

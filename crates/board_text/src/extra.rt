@@ -80,6 +80,6 @@ pub(crate) fn further(document: &Table) -> Option<FurtherKey<'_>>
     inner_extra(
         document,
         Key::Ram,
-        &[Key::RamBase, Key::RamSize, Key::RamStack],
+        &[Key::RamBase, Key::RamSize, Key::RamStack, Key::RamLowest],
     )
 }

@@ -4,10 +4,12 @@ ghost use Rattle.std.specs.Prelude.{◌≡◌};
 ghost use Rattle.toml.specs.View.{table_view};
 ghost use Rattle.board_text.specs.Fields as fields;
 
-use crate::document::{KeyFault, find, is_closed, number_at, number_of, table_at, table_of};
+use crate::document::{
+    KeyFault, find, is_closed, lowest_named, number_at, number_of, table_at, table_of,
+};
 use crate::key::Key;
 use plan_model::Spot;
-use plan_model::plan::Board;
+use plan_model::plan::{Board, Lowest};
 use toml::Table;
 
 /// A protection unit, and whether loads are confined.
@@ -25,6 +27,19 @@ fn flash(document: &Table) -> Result<Spot, KeyFault>
     let base = number_at(flash, Key::FlashBase)?;
     let size = number_at(flash, Key::FlashSize)?;
     Ok(Spot { base, size })
+}
+
+/// Which block stands at RAM's base, by RAM's table.
+fn lowest(ram: &Table) -> Result<Lowest, KeyFault>
+    ensures { result ≡ fields.lowest_of (table_view ram.now) }
+{
+    match find(ram, Key::RamLowest) {
+        None => Ok(Lowest::Largest),
+        Some(value) => match value.as_str() {
+            None => Err(KeyFault::Kind(Key::RamLowest)),
+            Some(text) => lowest_named(text),
+        },
+    }
 }
 
 /// How many regions the unit has, by its table.
@@ -82,6 +97,7 @@ pub(crate) fn board_of(document: &Table) -> Result<Board, KeyFault>
     let ram_base = number_at(table, Key::RamBase)?;
     let ram_size = number_at(table, Key::RamSize)?;
     let stack = number_at(table, Key::RamStack)?;
+    let lowest = lowest(table)?;
     let unit = unit_of(document)?;
     Ok(Board {
         flash_base: flash.base,
@@ -89,6 +105,7 @@ pub(crate) fn board_of(document: &Table) -> Result<Board, KeyFault>
         ram_base,
         ram_size,
         stack,
+        lowest,
         regions: unit.regions,
         closed: unit.closed,
     })

@@ -26,6 +26,8 @@ pub enum Key {
     RamSize,
     /// How many bytes of RAM are for the stack.
     RamStack,
+    /// Which block stands at RAM's base: `size`, the largest, or `stack`; where it is not there, `size`.
+    RamLowest,
     /// The table `mpu`, which need not be there.
     Mpu,
     /// The number of regions of the protection unit; where it is not there, 8.
@@ -47,6 +49,7 @@ impl Key {
             Key::RamBase => "ram.base",
             Key::RamSize => "ram.size",
             Key::RamStack => "ram.stack",
+            Key::RamLowest => "ram.lowest",
             Key::Mpu => "mpu",
             Key::MpuRegions => "mpu.regions",
             Key::MpuReads => "mpu.reads",
@@ -64,6 +67,7 @@ impl Key {
             Key::FlashBase | Key::RamBase => "base",
             Key::FlashSize | Key::RamSize => "size",
             Key::RamStack => "stack",
+            Key::RamLowest => "lowest",
             Key::MpuRegions => "regions",
             Key::MpuReads => "reads",
         }
@@ -83,7 +87,7 @@ impl Key {
             }
             Key::RamStack => is_stack_size(number),
             Key::MpuRegions => number == 8 || number == 16,
-            Key::Flash | Key::Ram | Key::Mpu | Key::MpuReads => false,
+            Key::Flash | Key::Ram | Key::RamLowest | Key::Mpu | Key::MpuReads => false,
         }
     }
 }

@@ -1,6 +1,6 @@
 -- Beyond the program's claim: only laws, proofs and functions inside the tool cite this file.
 -- The blocks, tails and RAM of the code as the definitions see them.
-use Rattle.std.specs.Prelude.{ℕ, ◌+◌, List, [], map}
+use Rattle.std.specs.Prelude.{ℕ, ◌+◌, List, map}
 use Rattle.std.specs.List.{fold}
 use Rattle.ir_model.specs.Resolved.{Program}
 use Rattle.plan_model.specs.Regions.{global_size}
@@ -36,6 +36,6 @@ located_seen l = record { use_of = use_seen l.purpose; spot = l.spot }
 abbrev pub ram_seen : Filled → definition.Ram
 ram_seen m = record { used = m.used; tails = map tail_seen m.tails.items; blocks = map located_seen m.blocks.items }
 
--- RAM with these blocks
-abbrev pub filled_by : (ram : ℕ) → List RamBlock → definition.Ram
-filled_by ram bs = fold (definition.with_block ram) (record { used = 0; tails = []; blocks = [] }) bs
+-- RAM with these blocks behind those that it has
+abbrev pub filled_by : (ram : ℕ) → definition.Ram → List RamBlock → definition.Ram
+filled_by ram m bs = fold (definition.with_block ram) m bs

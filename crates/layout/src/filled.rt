@@ -128,21 +128,88 @@ impl Filled {
     }
 }
 
+/// RAM without a block.
+fn empty(alloc: Global) -> Filled
+    ensures { ram_seen result ≡ placement.empty_ram }
+{
+    Filled {
+        used: 0,
+        tails: Vec::new(alloc),
+        blocks: Vec::new(alloc),
+    }
+}
+
+/// The greatest of a size and the sizes of blocks.
+fn largest_with(size: u32, blocks: &[Block]) -> u32
+    ensures { result ≡ placement.largest_with size (map block_seen blocks.now) }
+{
+    let mut most = size;
+    for block in blocks {
+        most = most.max(block.size);
+    }
+    most
+}
+
+/// RAM with the stack alone, which stands where RAM begins, with room for these blocks behind it: they stand from a multiple of
+/// the largest block on.
+fn stack_first(alloc: Global, ram: u32, stack: u32, blocks: &[Block]) -> Result<Filled, AllocError>
+    ensures { IfOk result (λ m. ram_seen m ≡ placement.stack_first ram stack (map block_seen blocks.now)) }
+{
+    let used = largest_with(stack, blocks);
+    let (Some(from), Some(to)) = (ram.checked_add(stack), ram.checked_add(used)) else {
+        return Err(AllocError);
+    };
+    let mut memory = Filled {
+        used,
+        tails: Vec::new(alloc),
+        blocks: Vec::new(alloc),
+    };
+    memory.tails.push(Tail { from, to })?;
+    memory.blocks.push(Located {
+        purpose: Purpose::Stack,
+        spot: Spot {
+            base: ram,
+            size: stack,
+        },
+    })?;
+    Ok(memory)
+}
+
+/// RAM with these blocks behind those that it has; it begins at an address.
+fn with_blocks(begun: Filled, ram: u32, blocks: &[Block]) -> Result<Filled, AllocError>
+    ensures { IfOk result (λ m. ram_seen m ≡ filled_by ram (ram_seen begun) (map block_seen blocks.now)) }
+{
+    let mut memory = begun;
+    for block in blocks {
+        memory.add_block(ram, *block)?;
+    }
+    Ok(memory)
+}
+
 /// RAM with these blocks; it begins at an address.
 ///
 /// # Errors
 ///
 /// There is no memory, or an address passes 32 bits.
 pub(crate) fn fill(alloc: Global, ram: u32, blocks: &[Block]) -> Result<Filled, AllocError>
-    ensures { IfOk result (λ m. ram_seen m ≡ filled_by ram (map block_seen blocks.now)) }
+    ensures { IfOk result (λ m. ram_seen m ≡ filled_by ram placement.empty_ram (map block_seen blocks.now)) }
 {
-    let mut memory = Filled {
-        used: 0,
-        tails: Vec::new(alloc),
-        blocks: Vec::new(alloc),
-    };
-    for block in blocks {
-        memory.add_block(ram, *block)?;
-    }
-    Ok(memory)
+    with_blocks(empty(alloc), ram, blocks)
+}
+
+/// RAM with these blocks behind the stack; it begins at an address.
+///
+/// # Errors
+///
+/// There is no memory, or an address passes 32 bits.
+pub(crate) fn fill_behind_stack(
+    alloc: Global,
+    ram: u32,
+    stack: u32,
+    blocks: &[Block],
+) -> Result<Filled, AllocError>
+    ensures { IfOk result (λ m. ram_seen m ≡ filled_by ram (placement.stack_first ram stack (map block_seen blocks.now)) (map block_seen blocks.now)) }
+{
+    let begun = stack_first(alloc, ram, stack, blocks)?;
+    with_blocks(begun, ram, blocks)
 }

@@ -2,6 +2,7 @@
 
 ghost use Rattle.std.specs.Prelude.{◌≡◌, ◌<◌, map, IfOk, IfErr, Ok};
 ghost use Rattle.ir_program.specs.Seen.{program_of};
+ghost use Rattle.plan_model.specs.declared.plan.Lowest.TheVariants as lowest;
 ghost use Rattle.plan_model.specs.Boards.{IsBoard};
 ghost use Rattle.plan_model.specs.Lists.{numbers_below};
 ghost use Rattle.plan_model.specs.Placement.{placed_for};
@@ -13,16 +14,16 @@ ghost use Rattle.layout.specs.Filling.{use_seen, ram_seen};
 ghost use Rattle.layout.specs.Placing.{IsRam, IsRamRefusal, IsPlaceRefusal, placed};
 
 use crate::blocks::{block_size, region_bytes};
-use crate::filled::{Filled, fill};
+use crate::filled::{Filled, fill, fill_behind_stack};
 use crate::flash::place_flash;
 use crate::numbers::{first_greatest, least, lesser};
-use crate::ram::{Purpose, falling_blocks};
+use crate::ram::{Purpose, falling_blocks, falling_others};
 use crate::refusal::PlaceRefusal;
 use ir_program::program::Program;
 use list_vec::ListVec;
 use plan_model::Spot;
 use plan_model::graph::{Final, Region};
-use plan_model::plan::{Board, Plan, Sizes};
+use plan_model::plan::{Board, Lowest, Plan, Sizes};
 use std::alloc::{AllocError, Global};
 
 /// Where the blocks of RAM lie.
@@ -129,6 +130,32 @@ fn ram_plan(
     })
 }
 
+/// RAM with all blocks, the largest first.
+fn largest_lowest(
+    alloc: Global,
+    program: &Program,
+    fin: &Final,
+    board: &Board,
+) -> Result<Filled, AllocError>
+    ensures { IfOk result (λ m. ram_seen m ≡ placement.ram_by (program_of program.now) fin.now board.now lowest.Largest) }
+{
+    let blocks = falling_blocks(alloc, program, fin, board.stack)?;
+    fill(alloc, board.ram_base, &blocks)
+}
+
+/// RAM with all blocks, the stack first.
+fn stack_lowest(
+    alloc: Global,
+    program: &Program,
+    fin: &Final,
+    board: &Board,
+) -> Result<Filled, AllocError>
+    ensures { IfOk result (λ m. ram_seen m ≡ placement.ram_by (program_of program.now) fin.now board.now lowest.Stack) }
+{
+    let blocks = falling_others(alloc, program, fin)?;
+    fill_behind_stack(alloc, board.ram_base, board.stack, &blocks)
+}
+
 /// RAM with all blocks.
 fn whole_ram(
     alloc: Global,
@@ -138,8 +165,10 @@ fn whole_ram(
 ) -> Result<Filled, AllocError>
     ensures { IfOk result (λ m. ram_seen m ≡ placement.ram_of (program_of program.now) fin.now board.now) }
 {
-    let blocks = falling_blocks(alloc, program, fin, board.stack)?;
-    fill(alloc, board.ram_base, &blocks)
+    match board.lowest {
+        Lowest::Largest => largest_lowest(alloc, program, fin, board),
+        Lowest::Stack => stack_lowest(alloc, program, fin, board),
+    }
 }
 
 /// Where the blocks of RAM lie.
@@ -157,7 +186,7 @@ fn place_ram(
 }
 
 /// Where all blocks of a firmware lie on a board: blocks of flash in falling order of size, and so those of RAM, but that a
-/// region may stand in the end of another region's block.
+/// region may stand in the end of another region's block, and that the stack stands first where the board asks for it.
 ///
 /// # Errors
 ///

@@ -186,7 +186,18 @@ fn add_unwritten(
     Ok(())
 }
 
-/// The blocks of RAM: the stack, the monitor's block, the data regions, and the globals of none.
+/// The blocks of RAM but the stack's: the monitor's block, the data regions, and the globals of none.
+fn other_blocks(alloc: Global, program: &Program, fin: &Final) -> Result<Vec<Block>, AllocError>
+    ensures { IfOk result (λ bs. map block_seen bs.items ≡ parts.other_blocks (program_of program.now) fin.now) }
+{
+    let mut blocks = Vec::new(alloc);
+    blocks.push(Block::full(Purpose::Monitor, MONITOR))?;
+    add_regions(program, fin.regions.as_slice(), &mut blocks)?;
+    add_unwritten(program, fin.unwritten.as_slice(), &mut blocks)?;
+    Ok(blocks)
+}
+
+/// The blocks of RAM: the stack, and the others.
 fn ram_blocks(
     alloc: Global,
     program: &Program,
@@ -195,11 +206,16 @@ fn ram_blocks(
 ) -> Result<Vec<Block>, AllocError>
     ensures { IfOk result (λ bs. map block_seen bs.items ≡ parts.ram_blocks (program_of program.now) fin.now stack) }
 {
-    let mut blocks = Vec::new(alloc);
-    blocks.push(Block::full(Purpose::Stack, stack))?;
-    blocks.push(Block::full(Purpose::Monitor, MONITOR))?;
-    add_regions(program, fin.regions.as_slice(), &mut blocks)?;
-    add_unwritten(program, fin.unwritten.as_slice(), &mut blocks)?;
+    let mut blocks = other_blocks(alloc, program, fin)?;
+    blocks.insert(0, Block::full(Purpose::Stack, stack))?;
+    Ok(blocks)
+}
+
+/// Blocks in falling order of size.
+fn falling(mut blocks: Vec<Block>) -> Result<Vec<Block>, AllocError>
+    ensures { IfOk result (λ bs. map block_seen bs.items ≡ parts.falling (map block_seen blocks.items)) }
+{
+    blocks.sort_by(|a, b| b.size.cmp(&a.size))?;
     Ok(blocks)
 }
 
@@ -216,7 +232,20 @@ pub(crate) fn falling_blocks(
 ) -> Result<Vec<Block>, AllocError>
     ensures { IfOk result (λ bs. map block_seen bs.items ≡ parts.falling (parts.ram_blocks (program_of program.now) fin.now stack)) }
 {
-    let mut blocks = ram_blocks(alloc, program, fin, stack)?;
-    blocks.sort_by(|a, b| b.size.cmp(&a.size))?;
-    Ok(blocks)
+    falling(ram_blocks(alloc, program, fin, stack)?)
+}
+
+/// The blocks of RAM but the stack's, in falling order of size.
+///
+/// # Errors
+///
+/// There is no memory for them, or one has more bytes than 32 bits tell.
+pub(crate) fn falling_others(
+    alloc: Global,
+    program: &Program,
+    fin: &Final,
+) -> Result<Vec<Block>, AllocError>
+    ensures { IfOk result (λ bs. map block_seen bs.items ≡ parts.falling (parts.other_blocks (program_of program.now) fin.now)) }
+{
+    falling(other_blocks(alloc, program, fin)?)
 }

@@ -1,12 +1,12 @@
 -- RAM is filled so that no address is in two areas: what blocks hold, and tails.
-use Rattle.std.proofs.Common.{◌≡◌, ℕ, ◌+◌, ◌<◌, ◌≤◌, ◌⊎◌, inl, inr, Bool, true, false, cond, List, [], ◌∷◌, ◌++◌, length, get_or, set, map, Option, Some, None, refl, sym, ap, subst, ◌∙◌, leb-true, arith}
+use Rattle.std.proofs.Common.{◌≡◌, ℕ, ◌+◌, ◌<◌, ◌≤◌, ◌⊎◌, inl, inr, Bool, true, false, cond, List, [], ◌∷◌, ◌++◌, length, get_or, set, map, max, Option, Some, None, refl, sym, ap, subst, ◌∙◌, leb-true, arith}
 use Rattle.std.specs.List.{fold, position}
 use Rattle.std.proofs.lemmas.Bool.{cases_lt}
 use Rattle.std.proofs.lemmas.List.{map_push, append-nil, append_assoc}
 use mathlib.Core.Logic.{⊎_elim}
 use Rattle.ir_model.specs.Layout.{rounded_up}
-use Rattle.plan_model.specs.RamBlocks.{RamBlock, holds_globals}
-use Rattle.plan_model.specs.RamPlacement.{Tail, Ram, PlacedBlock, no_tail, tail_of, fits, tail_for, spot_at, with_block, with_block_by, with_block_in, with_block_behind}
+use Rattle.plan_model.specs.RamBlocks.{RamBlock, ForStack, holds_globals, full_block}
+use Rattle.plan_model.specs.RamPlacement.{Tail, Ram, PlacedBlock, no_tail, tail_of, fits, tail_for, spot_at, with_block, with_block_by, with_block_in, with_block_behind, empty_ram, largest_with, stack_first}
 use Rattle.layout.proofs.Searches.{position_is}
 use Rattle.layout_laws.proofs.Hits.{hit, hit_once, hit_below, hit_above, hit_joined, hit_later, tails_hit, tails_joined, tails_set, held, block_hit}
 use Rattle.ir_model.proofs.Counting.{rounded_at_least}
@@ -35,6 +35,12 @@ pub record Fair (ram : ℕ) (m : Ram) (es : List Entry) : Type 0 where
   pub blocks : m.blocks ≡ map placed es
   pub once : (x : ℕ) → areas_hit m es x ≤ 1
   pub outside : (x : ℕ) → (x < ram) ⊎ (ram + m.used ≤ x) → areas_hit m es x ≡ 0
+
+-- ---- the greatest of a size and the sizes of blocks
+
+pub largest_at_least : (n : ℕ) (bs : List RamBlock) → n ≤ largest_with n bs
+largest_at_least n [] = omega arith
+largest_at_least n (b ∷ bs) = let l = largest_at_least (max n b.size) bs in omega arith
 
 -- ---- one block more
 
@@ -155,5 +161,35 @@ fill ram m done (b ∷ bs) h p =
     } in
     subst (λ (cs : List RamBlock). Filled ram (fold (with_block ram) (with_block ram m b) bs) cs) (append_assoc done (b ∷ []) bs) (fill ram (with_block ram m b) (done ++ b ∷ []) bs next p.1)
 
-pub filled_all : (ram : ℕ) (bs : List RamBlock) → ArePositive bs → Filled ram (fold (with_block ram) (record { used = 0; tails = []; blocks = [] }) bs) bs
-filled_all ram bs p = fill ram (record { used = 0; tails = []; blocks = [] }) [] bs (record { entries = []; are = refl; fair = record { blocks = refl; once = λ x. omega arith; outside = λ x o. refl } }) p
+pub filled_all : (ram : ℕ) (bs : List RamBlock) → ArePositive bs → Filled ram (fold (with_block ram) empty_ram bs) bs
+filled_all ram bs p = fill ram empty_ram [] bs (record { entries = []; are = refl; fair = record { blocks = refl; once = λ x. omega arith; outside = λ x o. refl } }) p
+
+-- ---- behind the stack
+
+module _ (ram stack : ℕ) (bs : List RamBlock) where
+  abbrev stack_block : RamBlock
+  stack_block = full_block ForStack stack
+
+  abbrev stack_entries : List Entry
+  stack_entries = record { base = ram; block = stack_block } ∷ []
+
+  -- the stack and the gap behind it are what is used
+  stack_areas : (x : ℕ) → areas_hit (stack_first ram stack bs) stack_entries x ≡ hit ram (ram + largest_with stack bs) x
+  stack_areas x =
+      let l = largest_at_least stack bs in
+      let split = hit_joined ram (ram + stack) (ram + largest_with stack bs) x (omega arith) (omega arith) in
+      omega arith
+
+  stack_fair : Fair ram (stack_first ram stack bs) stack_entries
+  stack_fair = record { blocks = refl; once = once; outside = outside }
+    where
+      once : (x : ℕ) → areas_hit (stack_first ram stack bs) stack_entries x ≤ 1
+      once x = let sum = stack_areas x in let one = hit_once ram (ram + largest_with stack bs) x in omega arith
+
+      outside : (x : ℕ) → (x < ram) ⊎ (ram + largest_with stack bs ≤ x) → areas_hit (stack_first ram stack bs) stack_entries x ≡ 0
+      outside x o =
+          let sum = stack_areas x in
+          ⊎_elim (λ l. let none = hit_below ram (ram + largest_with stack bs) x l in omega arith) (λ h. let none = hit_above ram (ram + largest_with stack bs) x h in omega arith) o
+
+  pub filled_behind : ArePositive bs → Filled ram (fold (with_block ram) (stack_first ram stack bs) bs) (stack_block ∷ bs)
+  filled_behind p = fill ram (stack_first ram stack bs) (stack_block ∷ []) bs (record { entries = stack_entries; are = refl; fair = stack_fair }) p

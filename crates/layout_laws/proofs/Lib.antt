@@ -9,5 +9,6 @@ pub mod PowersOfTwo
 mod RamApart
 mod RamInside
 mod RamThere
+mod StackBase
 mod Uses
 mod Within

@@ -56,7 +56,7 @@ codes_are_powers (n ∷ ns) = (block_is_power n, codes_are_powers ns)
 
 -- ---- the greatest of powers is one, or there is none
 
-greater : (m x : ℕ) → (m ≡ 0) ⊎ IsPower m → IsPower x → IsPower (max m x)
+pub greater : (m x : ℕ) → (m ≡ 0) ⊎ IsPower m → IsPower x → IsPower (max m x)
 greater m x h p = ⊎_elim (λ e. let s : x ≡ max m x = omega arith in subst IsPower s p) (λ q. pick q) h
   where
     pick : IsPower m → IsPower (max m x)

@@ -1,5 +1,5 @@
 -- In a plan no two blocks of RAM hold the same address.
-use Rattle.std.proofs.Common.{◌≡◌, ◌≢◌, ℕ, ◌+◌, ◌<◌, ◌≤◌, List, length, get_or, map, nat_lt, sym, ap, subst, ◌∙◌, arith}
+use Rattle.std.proofs.Common.{◌≡◌, ◌≢◌, ℕ, ◌+◌, ◌<◌, ◌≤◌, List, ◌∷◌, length, refl, get_or, map, nat_lt, sym, ap, subst, ◌∙◌, arith}
 use Rattle.std.specs.Prelude.{unwrap_or}
 use Rattle.std.proofs.lemmas.Bool.{cases_lt}
 use Rattle.std.proofs.lemmas.List.{get_or_past}
@@ -8,32 +8,53 @@ use mathlib.Core.Logic.{⊎_elim}
 use Rattle.ir_model.specs.Resolved.{Program}
 use Rattle.plan_model.specs.declared.graph.Final.{Final}
 use Rattle.plan_model.specs.declared.plan.Board.{Board}
+use Rattle.plan_model.specs.declared.plan.Lowest.{Lowest}
+use Rattle.plan_model.specs.declared.plan.Lowest.TheVariants.{Largest, Stack}
 use Rattle.plan_model.specs.declared.plan.Sizes.{Sizes}
 use Rattle.plan_model.specs.declared.plan.Spot.{Spot}
 use Rattle.plan_model.specs.Blocks.{region_bytes}
 use Rattle.plan_model.specs.Lists.{numbers_below}
 use Rattle.plan_model.specs.Regions.{region_at}
-use Rattle.plan_model.specs.RamBlocks.{RamUse, ForStack, ForMonitor, ForRegion, ForUnwritten, RamBlock, ram_blocks, falling}
-use Rattle.plan_model.specs.RamPlacement.{Ram, PlacedBlock, ram_of}
+use Rattle.plan_model.specs.RamBlocks.{RamUse, ForStack, ForMonitor, ForRegion, ForUnwritten, RamBlock, full_block, other_blocks, ram_blocks, falling}
+use Rattle.plan_model.specs.RamPlacement.{Ram, PlacedBlock, ram_by, ram_of}
 use Rattle.plan_model.specs.Placement.{plan_of, placed_for, region_spot, no_spot}
 use Rattle.layout_laws.specs.RamLaws.{open_bytes, IsAmong, Holds, RamIsApart}
-use Rattle.layout_laws.proofs.Filling.{Entry, placed, Filled, filled_all}
+use Rattle.layout_laws.proofs.Filling.{Entry, placed, Filled, filled_all, filled_behind}
 use Rattle.layout_laws.proofs.Hits.{held}
-use Rattle.layout_laws.proofs.Uses.{use_block, AreOwn, all_own, ordered_own, positive, own_at, no_entry, InEntry, IsFound, spot_in, found, hit_twice}
+use Rattle.layout_laws.proofs.Uses.{use_block, AreOwn, others_own, all_own, ordered_own, positive, own_at, no_entry, InEntry, IsFound, spot_in, found, hit_twice}
 
 module _ (p : Program) (f : Final) (s : Sizes) (b : Board) where
   abbrev pub ram : Ram
   ram = ram_of p f b
 
+  abbrev pub others : List RamBlock
+  others = falling (other_blocks p f)
+
+  -- the blocks in the order in which they are placed
+  abbrev pub order_by : Lowest → List RamBlock
+  order_by Largest = falling (ram_blocks p f b.stack)
+  order_by Stack = full_block ForStack b.stack ∷ others
+
   abbrev pub blocks : List RamBlock
-  blocks = falling (ram_blocks p f b.stack)
+  blocks = order_by b.lowest
+
+  pub falling_own : AreOwn p f b.stack others
+  falling_own = ordered_own p f b.stack (λ (c d : RamBlock). nat_lt d.size c.size) (other_blocks p f) (others_own p f b.stack)
+
+  own_by : (l : Lowest) → AreOwn p f b.stack (order_by l)
+  own_by Largest = ordered_own p f b.stack (λ (c d : RamBlock). nat_lt d.size c.size) (ram_blocks p f b.stack) (all_own p f b.stack)
+  own_by Stack = (refl, falling_own)
 
   pub own : AreOwn p f b.stack blocks
-  own = ordered_own p f b.stack (λ (c d : RamBlock). nat_lt d.size c.size) (ram_blocks p f b.stack) (all_own p f b.stack)
+  own = own_by b.lowest
+
+  whole_by : (l : Lowest) → Filled b.ram_base (ram_by p f b l) (order_by l)
+  whole_by Largest = filled_all b.ram_base (order_by Largest) (positive p f b.stack (order_by Largest) (own_by Largest))
+  whole_by Stack = filled_behind b.ram_base b.stack others (positive p f b.stack others falling_own)
 
   pub whole : Filled b.ram_base ram blocks
   unfolding ram_of
-  whole = filled_all b.ram_base blocks (positive p f b.stack blocks own)
+  whole = whole_by b.lowest
 
   abbrev pub entries : List Entry
   entries = whole.entries

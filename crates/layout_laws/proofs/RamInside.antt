@@ -5,21 +5,23 @@ use mathlib.Core.Logic.{⊎_elim}
 use Rattle.ir_model.specs.Resolved.{Program}
 use Rattle.plan_model.specs.declared.graph.Final.{Final}
 use Rattle.plan_model.specs.declared.plan.Board.{Board}
+use Rattle.plan_model.specs.declared.plan.Lowest.{Lowest}
+use Rattle.plan_model.specs.declared.plan.Lowest.TheVariants.{Largest, Stack}
 use Rattle.plan_model.specs.declared.plan.Sizes.{Sizes}
 use Rattle.plan_model.specs.declared.plan.Spot.{Spot}
 use Rattle.plan_model.specs.Boards.{IsBoard}
 use Rattle.plan_model.specs.Regions.{region_at}
 use Rattle.plan_model.specs.Blocks.{region_bytes}
-use Rattle.plan_model.specs.RamBlocks.{RamUse, ForStack, ForMonitor, ForRegion, ForUnwritten, RamBlock, ram_blocks, falling}
-use Rattle.plan_model.specs.RamPlacement.{Ram, PlacedBlock, ram_of, ram_needed}
+use Rattle.plan_model.specs.RamBlocks.{RamUse, ForStack, ForMonitor, ForRegion, ForUnwritten, RamBlock, other_blocks, ram_blocks, falling}
+use Rattle.plan_model.specs.RamPlacement.{Ram, PlacedBlock, empty_ram, stack_first, ram_by, ram_of, ram_needed}
 use Rattle.plan_model.specs.Placement.{plan_of, placed_for, region_spot}
 use Rattle.layout_laws.specs.FlashLaws.{IsIn, IsAligned}
 use Rattle.layout_laws.specs.RamPlaces.{block_for, RamIsInside}
 use Rattle.layout_laws.proofs.Multiples.{through, no_rest, from_no_rest}
 use Rattle.layout_laws.proofs.PowersOfTwo.{IsPower, quotient, block_is_power}
 use Rattle.layout_laws.proofs.Uses.{use_block, AreOwn, all_own, ordered_own, positive}
-use Rattle.layout_laws.proofs.Within.{All, Within, found_in, IsBlockIn, filled_within, empty_within, none_used, falls_ordered}
-use Rattle.layout_laws.proofs.RamApart.{region_there, region_missing}
+use Rattle.layout_laws.proofs.Within.{All, Within, found_in, IsBlockIn, filled_within, empty_within, none_used, stack_within, gap_divides, falls_ordered}
+use Rattle.layout_laws.proofs.RamApart.{falling_own, region_there, region_missing}
 
 mebibyte : IsPower 0x100000
 mebibyte = record { exponent = 20; is = refl }
@@ -37,6 +39,9 @@ module _ (p : Program) (f : Final) (s : Sizes) (b : Board) (ok : IsBoard b) (roo
   own : AreOwn p f b.stack blocks
   own = ordered_own p f b.stack (λ (c d : RamBlock). nat_lt d.size c.size) (ram_blocks p f b.stack) (all_own p f b.stack)
 
+  abbrev others : List RamBlock
+  others = falling (other_blocks p f)
+
   use_power : (u : RamUse) → IsPower (use_block p f b.stack u).size
   use_power ForStack = let k = ok.stack in record { exponent = k.0; is = k.3 }
   use_power ForMonitor = thousand
@@ -47,10 +52,17 @@ module _ (p : Program) (f : Final) (s : Sizes) (b : Board) (ok : IsBoard b) (roo
   powers [] h = tt
   powers (c ∷ cs) h = (subst (λ (d : RamBlock). IsPower d.size) (sym h.0) (use_power c.use_of), powers cs h.1)
 
+  within_by : (l : Lowest) → Within b.ram_base (ram_by p f b l)
+  within_by Largest = filled_within b.ram_base empty_ram blocks (empty_within b.ram_base) (falls_ordered (ram_blocks p f b.stack)) (powers blocks own) (positive p f b.stack blocks own) (none_used blocks)
+  within_by Stack =
+      let mine = falling_own p f s b in
+      let sizes = powers others mine in
+      filled_within b.ram_base (stack_first b.ram_base b.stack others) others (stack_within b.ram_base b.stack others (use_power ForStack)) (falls_ordered (other_blocks p f)) sizes (positive p f b.stack others mine)
+      (gap_divides b.stack others (use_power ForStack) sizes)
+
   within : Within b.ram_base ram
   unfolding ram_of
-  within =
-      filled_within b.ram_base (record { used = 0; tails = []; blocks = [] }) blocks (empty_within b.ram_base) (falls_ordered (ram_blocks p f b.stack)) (powers blocks own) (positive p f b.stack blocks own) (none_used blocks)
+  within = within_by b.lowest
 
   -- the spots of placed blocks are of their sizes; a power of two at most a MiB divides the base of RAM
   in_ram : (t : PlacedBlock) → IsBlockIn b.ram_base (b.ram_base + ram.used) t → IsIn t.spot b.ram_base b.ram_size × IsAligned t.spot

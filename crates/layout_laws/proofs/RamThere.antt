@@ -7,16 +7,18 @@ use mathlib.Core.Logic.{⊎_elim}
 use Rattle.ir_model.specs.Resolved.{Program}
 use Rattle.plan_model.specs.declared.graph.Final.{Final}
 use Rattle.plan_model.specs.declared.plan.Board.{Board}
+use Rattle.plan_model.specs.declared.plan.Lowest.{Lowest}
+use Rattle.plan_model.specs.declared.plan.Lowest.TheVariants.{Largest, Stack}
 use Rattle.plan_model.specs.declared.plan.Sizes.{Sizes}
 use Rattle.plan_model.specs.declared.plan.Spot.{Spot}
 use Rattle.plan_model.specs.Lists.{numbers_below, placed, in_order}
-use Rattle.plan_model.specs.RamBlocks.{RamUse, ForStack, ForMonitor, ForRegion, ForUnwritten, RamBlock, same_use, region_block, unwritten_block, ram_blocks}
+use Rattle.plan_model.specs.RamBlocks.{RamUse, ForStack, ForMonitor, ForRegion, ForUnwritten, RamBlock, same_use, region_block, unwritten_block, other_blocks, ram_blocks}
 use Rattle.plan_model.specs.RamPlacement.{PlacedBlock, ram_of}
 use Rattle.plan_model.specs.Placement.{plan_of, placed_for, no_spot}
 use Rattle.layout_laws.specs.RamPlaces.{block_for, HasBlock, block_bytes, RamIsThere}
 use Rattle.layout_laws.proofs.Filling.{Entry, placed as placed_entry}
 use Rattle.layout_laws.proofs.Uses.{use_block, AreOwn, own_at, no_entry, IsFound, spot_in, same_is}
-use Rattle.layout_laws.proofs.RamApart.{own, whole, by_entries, region_there}
+use Rattle.layout_laws.proofs.RamApart.{order_by, own, whole, by_entries, region_there}
 
 -- ---- a list of blocks has one for a use
 
@@ -92,6 +94,12 @@ module _ (p : Program) (f : Final) (s : Sizes) (b : Board) where
   has_block (ForRegion r) h = inr (inr (has_left (ForRegion r) (map (region_block p f.regions) (numbers_below (length f.regions))) (unwritten_block p f.unwritten) (region_has 0 (length f.regions) r (omega arith) (omega arith))))
   has_block ForUnwritten h = inr (inr (has_right ForUnwritten (map (region_block p f.regions) (numbers_below (length f.regions))) (unwritten_block p f.unwritten) (unwritten_has f.unwritten h)))
 
+  -- in the order in which they are placed
+  has_by : (l : Lowest) (u : RamUse) → HasBlock f u → Has u (order_by p f s b l)
+  unfolding ram_blocks
+  has_by Largest u h = has_ordered u (λ (c d : RamBlock). nat_lt d.size c.size) (ram_blocks p f b.stack) (has_block u h)
+  has_by Stack u h = ⊎_elim (λ e. inl e) (λ k. inr (has_ordered u (λ (c d : RamBlock). nat_lt d.size c.size) (other_blocks p f) k)) (has_block u h)
+
   size_is : (u : RamUse) → (use_block p f b.stack u).size ≡ block_bytes p f b u
   size_is ForStack = refl
   size_is ForMonitor = refl
@@ -101,8 +109,7 @@ module _ (p : Program) (f : Final) (s : Sizes) (b : Board) where
   entry_size : (u : RamUse) → HasBlock f u → (placed_for (ram_of p f b) u).size ≡ block_bytes p f b u
   entry_size u h =
       let w = whole p f s b in
-      let ordered = has_ordered u (λ (c d : RamBlock). nat_lt d.size c.size) (ram_blocks p f b.stack) (has_block u h) in
-      let g = found_there w.entries u (subst (λ (cs : List RamBlock). Has u cs) (sym w.are) ordered) in
+      let g = found_there w.entries u (subst (λ (cs : List RamBlock). Has u cs) (sym w.are) (has_by b.lowest u h)) in
       let o = own_at p f b.stack w.entries g.number no_entry (subst (λ (cs : List RamBlock). AreOwn p f b.stack cs) (sym w.are) (own p f s b)) g.there in
       ap (λ (t : Spot). t.size) (by_entries p f s b u)
       ∙ (g.size_is ∙ (ap (λ (c : RamBlock). c.size) o ∙ (ap (λ (v : RamUse). (use_block p f b.stack v).size) g.use_is ∙ size_is u)))

@@ -9,7 +9,7 @@ use Rattle.plan_model.specs.declared.plan.Spot.{Spot}
 use Rattle.plan_model.specs.Blocks.{block, region_bytes}
 use Rattle.plan_model.specs.Lists.{numbers_below, placed, in_order}
 use Rattle.plan_model.specs.Regions.{region_at}
-use Rattle.plan_model.specs.RamBlocks.{RamUse, ForStack, ForMonitor, ForRegion, ForUnwritten, RamBlock, holds_globals, same_use, full_block, globals_block, region_block, unwritten_block, ram_blocks}
+use Rattle.plan_model.specs.RamBlocks.{RamUse, ForStack, ForMonitor, ForRegion, ForUnwritten, RamBlock, holds_globals, same_use, full_block, globals_block, region_block, unwritten_block, other_blocks, ram_blocks}
 use Rattle.plan_model.specs.RamPlacement.{PlacedBlock}
 use Rattle.plan_model.specs.Placement.{no_spot}
 use Rattle.layout_laws.proofs.Filling.{Entry, placed as placed_entry, entries_hit, ArePositive}
@@ -42,9 +42,12 @@ module _ (p : Program) (f : Final) (stack : ℕ) where
   unwritten_own [] e = tt
   unwritten_own (x ∷ xs) e = (ap (λ (ys : List ℕ). globals_block p ForUnwritten ys) (sym e), tt)
 
+  pub others_own : AreOwn (other_blocks p f)
+  others_own = (refl, own_joined (map (region_block p f.regions) (numbers_below (length f.regions))) (unwritten_block p f.unwritten) (regions_own 0 (length f.regions)) (unwritten_own f.unwritten refl))
+
   pub all_own : AreOwn (ram_blocks p f stack)
   unfolding ram_blocks
-  all_own = (refl, (refl, own_joined (map (region_block p f.regions) (numbers_below (length f.regions))) (unwritten_block p f.unwritten) (regions_own 0 (length f.regions)) (unwritten_own f.unwritten refl)))
+  all_own = (refl, others_own)
 
   placed_own : (before : RamBlock → RamBlock → Bool) (b : RamBlock) (bs : List RamBlock) → b ≡ use_block p f stack b.use_of → AreOwn bs → AreOwn (placed before b bs)
   placed_own before b [] e h = (e, tt)

@@ -1,17 +1,17 @@
 -- Each block of RAM lies in the part that is filled, at a multiple of its size.
-use Rattle.std.proofs.Common.{◌≡◌, ℕ, zero, suc, ◌+◌, ◌-◌, ◌*◌, ◌/◌, ◌<◌, ◌≤◌, ◌⊎◌, inl, inr, Bool, true, false, cond, List, [], ◌∷◌, ◌++◌, length, get_or, set, Option, Some, None, option_map, nat_lt, refl, leb-true, ltb-false, ltb-true, arith}
+use Rattle.std.proofs.Common.{◌≡◌, ℕ, zero, suc, ◌+◌, ◌-◌, ◌*◌, ◌/◌, ◌<◌, ◌≤◌, ◌⊎◌, inl, inr, Bool, true, false, cond, List, [], ◌∷◌, ◌++◌, length, get_or, set, max, Option, Some, None, option_map, nat_lt, refl, leb-true, ltb-false, ltb-true, arith}
 use Rattle.std.specs.List.{fold}
 use Rattle.std.specs.Prelude.{find, unwrap_or}
 use Rattle.ir_model.specs.Layout.{rounded_up}
 use Rattle.plan_model.specs.Blocks.{open_eighths}
 use Rattle.plan_model.specs.Lists.{placed, in_order}
 use Rattle.plan_model.specs.RamBlocks.{RamUse, RamBlock, holds_globals, same_use, falling}
-use Rattle.plan_model.specs.RamPlacement.{Tail, Ram, PlacedBlock, no_tail, tail_of, fits, tail_for, spot_at, with_block, with_block_by, with_block_in, with_block_behind}
+use Rattle.plan_model.specs.RamPlacement.{Tail, Ram, PlacedBlock, no_tail, tail_of, fits, tail_for, spot_at, with_block, with_block_by, with_block_in, with_block_behind, empty_ram, largest_with, stack_first}
 use Rattle.plan_model.specs.Placement.{no_spot}
-use Rattle.layout_laws.proofs.Filling.{ArePositive, tail_found}
+use Rattle.layout_laws.proofs.Filling.{ArePositive, tail_found, largest_at_least}
 use Rattle.layout_laws.proofs.Hits.{has_tail}
 use Rattle.layout_laws.proofs.Multiples.{IsMultiple, both, none}
-use Rattle.layout_laws.proofs.PowersOfTwo.{IsPower, quotient}
+use Rattle.layout_laws.proofs.PowersOfTwo.{IsPower, quotient, greater}
 use Rattle.ir_model.proofs.Counting.{rounded_at_least}
 
 -- each item of a list
@@ -19,7 +19,7 @@ abbrev pub All : {X : Type 0} → (X → Type 0) → List X → Type 0
 All P [] = Unit {0}
 All P (x ∷ xs) = P x × All P xs
 
-all_joined : {X : Type 0} (P : X → Type 0) (xs ys : List X) → All P xs → All P ys → All P (xs ++ ys)
+pub all_joined : {X : Type 0} (P : X → Type 0) (xs ys : List X) → All P xs → All P ys → All P (xs ++ ys)
 all_joined P [] ys h i = i
 all_joined P (x ∷ xs) ys h i = (h.0, all_joined P xs ys h.1 i)
 
@@ -131,12 +131,38 @@ filled_within ram m (b ∷ bs) h f p o u =
     let n = more_within ram m h b p.0 bs o.0 p.1 f.0 u.0 u.1 in
     filled_within ram (with_block ram m b) bs n.0 f.1 p.1 o.1 n.1
 
-pub empty_within : (ram : ℕ) → Within ram (record { used = 0; tails = []; blocks = [] })
+pub empty_within : (ram : ℕ) → Within ram empty_ram
 empty_within ram = record { tails = tt; blocks = tt }
 
 pub none_used : (bs : List RamBlock) → All (λ c. IsMultiple c.size 0) bs
 none_used [] = tt
 none_used (b ∷ bs) = (none b.size, none_used bs)
+
+-- ---- behind the stack
+
+largest_of_each : (n : ℕ) (bs : List RamBlock) → All (λ c. c.size ≤ largest_with n bs) bs
+largest_of_each n [] = tt
+largest_of_each n (b ∷ bs) = let l = largest_at_least (max n b.size) bs in (omega arith, largest_of_each (max n b.size) bs)
+
+largest_is_power : (n : ℕ) (bs : List RamBlock) → IsPower n → All (λ c. IsPower c.size) bs → IsPower (largest_with n bs)
+largest_is_power n [] p h = p
+largest_is_power n (b ∷ bs) p h = largest_is_power (max n b.size) bs (greater n b.size (inr p) h.0) h.1
+
+all_divide : (x : ℕ) (bs : List RamBlock) → IsPower x → All (λ c. IsPower c.size) bs → All (λ c. c.size ≤ x) bs → All (λ c. IsMultiple c.size x) bs
+all_divide x [] p h l = tt
+all_divide x (c ∷ cs) p h l = let q = quotient c.size x h.0 p l.0 in (record { times = q.0; is = q.1 }, all_divide x cs p h.1 l.1)
+
+-- the blocks stand from a multiple of each on
+pub gap_divides : (stack : ℕ) (bs : List RamBlock) → IsPower stack → All (λ c. IsPower c.size) bs → All (λ c. IsMultiple c.size (largest_with stack bs)) bs
+gap_divides stack bs p h = all_divide (largest_with stack bs) bs (largest_is_power stack bs p h) h (largest_of_each stack bs)
+
+pub stack_within : (ram stack : ℕ) (bs : List RamBlock) → IsPower stack → Within ram (stack_first ram stack bs)
+stack_within ram stack bs p =
+    let l = largest_at_least stack bs in
+    record {
+      tails = (record { from = omega arith; to = omega arith }, tt);
+      blocks = (record { from = omega arith; to = omega arith; power = p; aligned = λ a. a }, tt);
+    }
 
 -- ---- in falling order
 

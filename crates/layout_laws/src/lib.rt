@@ -5,6 +5,7 @@ ghost use Rattle.layout_laws.specs.FlashLaws.{FlashIsLaid};
 ghost use Rattle.layout_laws.specs.GlobalLaws.{GlobalsAreLaid, GlobalsAreHeld};
 ghost use Rattle.layout_laws.specs.RamLaws.{RamIsApart};
 ghost use Rattle.layout_laws.specs.RamPlaces.{RamIsInside, RamIsThere};
+ghost use Rattle.layout_laws.specs.StackLowest.{StackIsLowest};
 
 /// On a board whose flash has room for them, the blocks of flash lie in flash, each at a multiple of its size, and no two share
 /// an address; the tables' block stands where flash begins.
@@ -23,6 +24,11 @@ pub fn ram()
 pub fn places()
     ensures there { RamIsThere }
     ensures inside { RamIsInside }
+{}
+
+/// The stack stands where RAM begins, if the board asks for it or no block of RAM is larger.
+pub fn stack()
+    ensures { StackIsLowest }
 {}
 
 /// The globals of a region stand at multiples of their alignments, among the region's bytes, and no two share a byte. In a plan

@@ -4,6 +4,7 @@ use Rattle.std.specs.Prelude.{◌≡◌, [], ◌∷◌, false, None}
 use Rattle.plan_model.specs.declared.graph.Final.{Final}
 use Rattle.plan_model.specs.declared.plan.Plan.{Plan}
 use Rattle.plan_model.specs.declared.plan.Board.{Board}
+use Rattle.plan_model.specs.declared.plan.Lowest.TheVariants.{Largest}
 use Rattle.code_examples.specs.Lent.{lending}
 use Rattle.code_examples.specs.Planned.{lending_needs, three_files}
 use Rattle.monitor_examples.specs.LentImage as model
@@ -40,6 +41,7 @@ board =
       ram_base = 0x20000000;
       ram_size = 0x10000;
       stack = 2048;
+      lowest = Largest;
       regions = 8;
       closed = false;
     }

@@ -5,10 +5,12 @@ use Rattle.std.specs.List.{fold, range_with_len}
 use Rattle.ir_model.specs.Resolved.{Program}
 use Rattle.plan_model.specs.declared.graph.Final.{Final}
 use Rattle.plan_model.specs.declared.plan.Board.{Board}
+use Rattle.plan_model.specs.declared.plan.Lowest.{Lowest}
+use Rattle.plan_model.specs.declared.plan.Lowest.TheVariants.{Largest, Stack}
 use Rattle.plan_model.specs.declared.plan.Sizes.{Sizes}
 use Rattle.plan_model.specs.Lists.{placed, in_order}
-use Rattle.plan_model.specs.RamBlocks.{RamUse, RamBlock, ForUnwritten, same_use, region_block, unwritten_block, ram_blocks}
-use Rattle.plan_model.specs.RamPlacement.{Ram, PlacedBlock, tail_for, with_block_by, with_block, ram_of}
+use Rattle.plan_model.specs.RamBlocks.{RamUse, RamBlock, ForUnwritten, same_use, region_block, unwritten_block, other_blocks, ram_blocks, falling}
+use Rattle.plan_model.specs.RamPlacement.{Ram, PlacedBlock, tail_for, with_block_by, with_block, empty_ram, stack_first, ram_by, ram_of}
 use Rattle.plan_model.specs.Placement.{plan_of}
 
 -- none of these is for them
@@ -41,9 +43,12 @@ module _ (p : Program) (f : Final) where
   regions_others lo zero = tt
   regions_others lo (suc n) = (refl, regions_others (lo + 1) n)
 
+  behind_others : f.unwritten ≡ [] → Others (other_blocks p f)
+  behind_others e = (refl, others-append _ (unwritten_block p f.unwritten) (regions_others 0 (length f.regions)) (subst (λ xs. Others (unwritten_block p xs)) (sym e) tt))
+
   blocks_others : (stack : ℕ) → f.unwritten ≡ [] → Others (ram_blocks p f stack)
   unfolding ram_blocks
-  blocks_others stack e = (refl, (refl, others-append _ (unwritten_block p f.unwritten) (regions_others 0 (length f.regions)) (subst (λ xs. Others (unwritten_block p xs)) (sym e) tt)))
+  blocks_others stack e = (refl, behind_others e)
 
 -- and none of what is placed
 abbrev NonePlaced : List PlacedBlock → Type 0
@@ -66,6 +71,10 @@ unfolding with_block
 with_others ram m [] h g = g
 with_others ram m (b ∷ bs) h g = with_others ram (with_block_by ram m b (tail_for m.tails b)) bs h.1 (with_one ram m b (tail_for m.tails b) h.0 g)
 
+none_by : (p : Program) (f : Final) (b : Board) (l : Lowest) → f.unwritten ≡ [] → NonePlaced (ram_by p f b l).blocks
+none_by p f b Largest e = with_others b.ram_base empty_ram _ (ordered_others _ (ram_blocks p f b.stack) (blocks_others p f b.stack e)) refl
+none_by p f b Stack e = with_others b.ram_base (stack_first b.ram_base b.stack (falling (other_blocks p f))) _ (ordered_others _ (other_blocks p f) (behind_others p f e)) refl
+
 pub none_for_unwritten : (p : Program) (f : Final) (s : Sizes) (b : Board) → f.unwritten ≡ [] → (plan_of p f s b).unwritten ≡ None
 unfolding plan_of ram_of
-none_for_unwritten p f s b e = ap (option_map (λ (x : PlacedBlock). x.spot)) (with_others b.ram_base (record { used = 0; tails = []; blocks = [] }) _ (ordered_others _ (ram_blocks p f b.stack) (blocks_others p f b.stack e)) refl)
+none_for_unwritten p f s b e = ap (option_map (λ (x : PlacedBlock). x.spot)) (none_by p f b b.lowest e)

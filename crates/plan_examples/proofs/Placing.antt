@@ -12,7 +12,7 @@ use Rattle.plan_model.specs.Slots.{slot_regions}
 use Rattle.plan_model.specs.TableSize.{table_bytes}
 use Rattle.plan_examples.specs.ControlPlan.{ComputesPlan, ComputesOtherPolicies}
 use Rattle.plan_examples.specs.ClosedLoop.{ComputesClosedPlan}
-use Rattle.plan_examples.specs.Tails.{ComputesTails}
+use Rattle.plan_examples.specs.Tails.{ComputesTails, ComputesStackFirst}
 use Rattle.plan_examples.specs.Sums.{ComputesSums}
 use Rattle.plan_examples.specs.Words.{ComputesWords}
 
@@ -52,6 +52,10 @@ computes_tails = record {
   of_second = refl;
   second_global = refl;
 }
+
+pub computes_stack_first : ComputesStackFirst
+unfolding region_bytes plan_of flash_blocks bytes_before least_power block ram_blocks with_block ram_of open_eighths
+computes_stack_first = record { blocks = refl; tails = refl; needed = refl }
 
 pub computes_sums : ComputesSums
 unfolding table_bytes region_bytes flash_blocks bytes_before least_power block ram_blocks with_block ram_of open_eighths

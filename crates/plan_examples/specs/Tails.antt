@@ -1,8 +1,11 @@
 -- Beyond the program's claim: only laws, proofs and functions inside the tool cite this file.
--- A region of 600 bytes leaves three eighths of its block free, and another of 200 bytes stands there.
+-- A region of 600 bytes leaves three eighths of its block free, and another of 200 bytes stands there. Where the stack stands lowest,
+-- it stands behind the stack.
 use Rattle.std.specs.Prelude.{◌≡◌, ℕ, [], ◌∷◌, None}
 use Rattle.ir_model.specs.Resolved.{Program}
 use Rattle.plan_model.specs.declared.graph.Final.{Final}
+use Rattle.plan_model.specs.declared.plan.Board.{Board}
+use Rattle.plan_model.specs.declared.plan.Lowest.TheVariants.{Stack}
 use Rattle.plan_model.specs.declared.plan.Sizes.{Sizes}
 use Rattle.plan_model.specs.declared.plan.Plan.{Plan}
 use Rattle.plan_model.specs.RamPlacement.{ram_of, ram_needed, Tail}
@@ -49,3 +52,21 @@ pub record ComputesTails : Type 0 where
   pub of_first : slot_regions program final plan 4 0 ≡ words 0x20000c14 0x1306e013 ∷ words 0x15 0 ∷ words 0x16 0 ∷ words 0x17 0 ∷ []
   pub of_second : slot_regions program final plan 4 1 ≡ words 0x20000f14 0x1306800f ∷ words 0x15 0 ∷ words 0x16 0 ∷ words 0x17 0 ∷ []
   pub second_global : global_address program final plan 1 ≡ 0x20000f00
+
+-- a stack of 512 bytes, which stands lowest though the blocks of the monitor and of the larger region are larger
+abbrev pub low_board : Board
+low_board = record board { stack = 512; lowest = Stack }
+
+abbrev pub low_plan : Plan
+low_plan =
+    record plan {
+      stack = spot 0x20000000 512;
+      monitor = spot 0x20000400 1024;
+      regions = spot 0x20000800 1024 ∷ spot 0x20000200 256 ∷ [];
+    }
+
+pub record ComputesStackFirst : Type 0 where
+  pub blocks : plan_of program final sizes low_board ≡ low_plan
+  -- the gap behind the stack, the larger region's tail, and the smaller one's
+  pub tails : (ram_of program final low_board).tails ≡ tail 0x20000300 0x20000400 ∷ tail 0x20000a80 0x20000c00 ∷ tail 0x200002e0 0x20000300 ∷ []
+  pub needed : ram_needed program final low_board ≡ 3072

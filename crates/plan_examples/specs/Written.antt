@@ -9,6 +9,7 @@ use Rattle.plan_model.specs.declared.needs.SiteNeed.{SiteNeed}
 use Rattle.plan_model.specs.declared.graph.Region as regions
 use Rattle.plan_model.specs.declared.graph.Cover.{Cover}
 use Rattle.plan_model.specs.declared.plan.Board.{Board}
+use Rattle.plan_model.specs.declared.plan.Lowest.TheVariants.{Largest}
 use Rattle.plan_model.specs.declared.plan.Spot.{Spot}
 
 abbrev pub need : (written read : List ObjId) → (periphs callees : List ℕ) → FuncNeed
@@ -49,6 +50,7 @@ board =
       ram_base = 0x20000000;
       ram_size = 0x10000;
       stack = 2048;
+      lowest = Largest;
       regions = 8;
       closed = false;
     }

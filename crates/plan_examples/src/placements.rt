@@ -2,7 +2,7 @@
 
 ghost use Rattle.plan_examples.specs.ControlPlan.{ComputesPlan, ComputesOtherPolicies};
 ghost use Rattle.plan_examples.specs.ClosedLoop.{ComputesClosedPlan};
-ghost use Rattle.plan_examples.specs.Tails.{ComputesTails};
+ghost use Rattle.plan_examples.specs.Tails.{ComputesTails, ComputesStackFirst};
 ghost use Rattle.plan_examples.specs.Sums.{ComputesSums};
 ghost use Rattle.plan_examples.specs.Words.{ComputesWords};
 
@@ -13,9 +13,10 @@ pub fn control_loop()
     ensures closed { ComputesClosedPlan }
 {}
 
-/// A region that stands in the tail of another's block.
+/// A region that stands in the tail of another's block, or in the gap behind a stack that stands lowest.
 pub fn tails()
-    ensures { ComputesTails }
+    ensures largest_first { ComputesTails }
+    ensures stack_first { ComputesStackFirst }
 {}
 
 /// Sums that fit a memory and sums that pass it.

@@ -52,12 +52,15 @@ abbrev pub unwritten_block : Program → (globals : List ℕ) → List RamBlock
 unwritten_block p [] = []
 unwritten_block p (x ∷ xs) = globals_block p ForUnwritten (x ∷ xs) ∷ []
 
--- the stack, the monitor's block, the data regions in order, and the globals of none
-unfoldable pub ram_blocks : Program → Final → (stack : ℕ) → List RamBlock
-ram_blocks p f stack =
-    full_block ForStack stack
-    ∷ full_block ForMonitor block_size
+-- the monitor's block, the data regions in order, and the globals of none
+abbrev pub other_blocks : Program → Final → List RamBlock
+other_blocks p f =
+    full_block ForMonitor block_size
     ∷ (map (region_block p f.regions) (numbers_below (length f.regions)) ++ unwritten_block p f.unwritten)
+
+-- the stack, and the others
+unfoldable pub ram_blocks : Program → Final → (stack : ℕ) → List RamBlock
+ram_blocks p f stack = full_block ForStack stack ∷ other_blocks p f
 
 -- in falling order of size
 abbrev pub falling : List RamBlock → List RamBlock

@@ -1,17 +1,19 @@
 -- Where the blocks of RAM lie: in falling order of size, one behind the other from the base of RAM, but for the blocks of regions
--- that find room in the tail of another region's block.
-use Rattle.std.specs.Prelude.{ℕ, ◌+◌, ◌*◌, ◌/◌, Bool, ◌&&◌, List, [], ◌∷◌, ◌++◌, map, get_or, set, Option, Some, None, position, find, option_map, option_and_then, if◌then◌else◌, nat_lt, nat_le}
+-- that find room in the tail of another region's block. A board may ask for the stack at the base; the others then stand behind it.
+use Rattle.std.specs.Prelude.{ℕ, ◌+◌, ◌*◌, ◌/◌, Bool, ◌&&◌, List, [], ◌∷◌, ◌++◌, map, get_or, set, Option, Some, None, position, find, option_map, option_and_then, max, if◌then◌else◌, nat_lt, nat_le}
 use Rattle.std.specs.List.{fold}
 use Rattle.ir_model.specs.Layout.{rounded_up}
 use Rattle.ir_model.specs.Resolved.{Program}
 use Rattle.plan_model.specs.declared.graph.Region.{Region}
 use Rattle.plan_model.specs.declared.graph.Final.{Final}
 use Rattle.plan_model.specs.declared.plan.Board.{Board}
+use Rattle.plan_model.specs.declared.plan.Lowest.{Lowest}
+use Rattle.plan_model.specs.declared.plan.Lowest.TheVariants.{Largest, Stack}
 use Rattle.plan_model.specs.declared.plan.Spot.{Spot}
 use Rattle.plan_model.specs.Choices.{first_of, first_greatest}
 use Rattle.plan_model.specs.Regions.{region_at, users}
 use Rattle.plan_model.specs.Blocks.{block, region_bytes, has_eighths, open_eighths}
-use Rattle.plan_model.specs.RamBlocks.{RamUse, RamBlock, holds_globals, same_use, ram_blocks, falling}
+use Rattle.plan_model.specs.RamBlocks.{RamUse, ForStack, RamBlock, holds_globals, same_use, full_block, other_blocks, ram_blocks, falling}
 
 -- the end of a block whose subregions are taken out, so that another region may stand there
 pub record Tail : Type 0 where
@@ -86,9 +88,34 @@ with_block_by ram m b (Some k) = with_block_in m k (get_or m.tails k no_tail) b
 unfoldable pub with_block : (ram : ℕ) → Ram → RamBlock → Ram
 with_block ram m b = with_block_by ram m b (tail_for m.tails b)
 
+-- ---- all blocks
+
+-- no block
+abbrev pub empty_ram : Ram
+empty_ram = record { used = 0; tails = []; blocks = [] }
+
+-- the greatest of a size and the sizes of blocks
+abbrev pub largest_with : (size : ℕ) → List RamBlock → ℕ
+largest_with n bs = fold (λ most (b : RamBlock). max most b.size) n bs
+
+-- the stack at the base, before the blocks `bs`: these stand from a multiple of the largest of all on, so that each is at a multiple
+-- of its size, and the gap up to there is the first tail
+abbrev pub stack_first : (ram stack : ℕ) → (bs : List RamBlock) → Ram
+stack_first ram stack bs =
+    record {
+      used = largest_with stack bs;
+      tails = record { from = ram + stack; to = ram + largest_with stack bs } ∷ [];
+      blocks = spot_at ram (full_block ForStack stack) ∷ [];
+    }
+
+-- by the block that stands lowest
+abbrev pub ram_by : Program → Final → Board → Lowest → Ram
+ram_by p f b Largest = fold (with_block b.ram_base) empty_ram (falling (ram_blocks p f b.stack))
+ram_by p f b Stack = fold (with_block b.ram_base) (stack_first b.ram_base b.stack (falling (other_blocks p f))) (falling (other_blocks p f))
+
 -- the RAM of a board with all blocks
 unfoldable pub ram_of : Program → Final → Board → Ram
-ram_of p f b = fold (with_block b.ram_base) (record { used = 0; tails = []; blocks = [] }) (falling (ram_blocks p f b.stack))
+ram_of p f b = ram_by p f b b.lowest
 
 -- ---- what comes of it
 

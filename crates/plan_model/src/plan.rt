@@ -11,6 +11,15 @@ pub struct Spot {
     pub size: u32,
 }
 
+/// Which block of RAM stands at its base.
+#[derive(Clone, Copy, PartialEq, Eq, Debug)]
+pub enum Lowest {
+    /// The largest, and the stack where none is larger.
+    Largest,
+    /// The stack, whatever its size.
+    Stack,
+}
+
 /// The memories of a board, and its protection unit.
 #[derive(Clone, Copy, PartialEq, Eq, Debug)]
 pub struct Board {
@@ -24,6 +33,8 @@ pub struct Board {
     pub ram_size: u32,
     /// How many bytes of RAM are for the stack.
     pub stack: u32,
+    /// Which block of RAM stands at its base.
+    pub lowest: Lowest,
     /// The number of regions of the protection unit, 8 or 16.
     pub regions: u32,
     /// Whether loads are confined as stores are.
