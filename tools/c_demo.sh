@@ -41,7 +41,7 @@ fi
 
 echo
 echo "Each file is a compartment: what it may write, and what of that it does not need."
-grep -E '^(compartment|function|slot|exposed)' "$work/10-list"
+grep -E '^(compartment|function|slot|exposed|undeclared)' "$work/10-list"
 echo
 echo "The source on the tape: number of the compartment, access, peripheral. The last lines:"
 tail -n 5 "$work/20-source"

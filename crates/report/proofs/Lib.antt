@@ -1,2 +1,6 @@
 pub mod Growing
 mod Named
+mod Firsts
+mod Spans
+mod Gaps
+mod Exact

@@ -1,5 +1,5 @@
--- The lines of one compartment: its code, its functions, its slots of the protection unit, the locals that are lent to it, and how
--- many bytes it may reach without need.
+-- The lines of one compartment: its code, its functions, its slots of the protection unit, the locals that are lent to it, how many bytes
+-- it may reach without need, and which addresses of its ranges of peripherals nobody declares.
 use Rattle.std.specs.Prelude.{ℕ, ◌+◌, List, [], ◌++◌, Bool, not, ◌&&◌, map, filter, flat_map, codes, get_or, length, if◌then◌else◌, nat_eq}
 use Rattle.std.specs.Int.{bit_at}
 use Rattle.std.specs.Fmt.{decimal}
@@ -17,6 +17,7 @@ use Rattle.plan_model.specs.Exposure.{exposed_to_writes, exposed_to_reads}
 use Rattle.plan_model.specs.Placement.{region_spot, compartment_spot}
 use Rattle.report.specs.Subjects.{Subject}
 use Rattle.report.specs.Names.{global_name, periph_name, func_name, local_name, spaced, range_text}
+use Rattle.report.specs.Undeclared.{Range, undeclared_ranges}
 
 -- whether a compartment may write a region, or only read it
 abbrev pub word_of : Region → (compartment : ℕ) → List ℕ
@@ -41,6 +42,13 @@ abbrev pub cover_line : Subject → (slot : ℕ) → Cover → List ℕ
 cover_line s k d =
     codes "slot " ++ decimal k ++ codes " periph" ++ range_text d.base d.size
     ++ spaced (map (periph_name s.firmware) (periphs_inside s d)) ++ line_feed
+
+-- addresses of a cover that no peripheral declares
+abbrev pub undeclared_line : Range → List ℕ
+undeclared_line r = codes "undeclared" ++ range_text r.base r.size ++ line_feed
+
+abbrev pub undeclared_in : Subject → Cover → List ℕ
+undeclared_in s d = flat_map undeclared_line (undeclared_ranges s.program.periphs d)
 
 -- ---- a compartment
 
@@ -112,5 +120,11 @@ module _ (s : Subject) (c : ℕ) where
       codes "exposed " ++ decimal (exposed_to_writes s.program s.needs s.graph.groups s.graph.regions c)
       ++ read_exposure ++ line_feed
 
+  -- ---- the addresses of its covers that nobody declares
+
+  -- each range lies in one cover
+  unfoldable pub undeclared_lines : List ℕ
+  undeclared_lines = flat_map (undeclared_in s) covers
+
   abbrev pub compartment_lines : List ℕ
-  compartment_lines = code_line ++ function_lines ++ slot_lines ++ lent_lines ++ exposed_line
+  compartment_lines = code_line ++ function_lines ++ slot_lines ++ lent_lines ++ exposed_line ++ undeclared_lines

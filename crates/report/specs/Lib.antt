@@ -1,4 +1,5 @@
 pub mod Subjects
 pub mod Names
+pub mod Undeclared
 pub mod CompartmentLines
 pub mod Listing

@@ -13,6 +13,7 @@ use crate::slots::put_slots;
 use crate::subject::Subject;
 use crate::text::Text;
 use crate::totals::compartment_at;
+use crate::undeclared::put_undeclared;
 use plan_model::groups::Groups;
 use plan_model::plan::{Plan, Spot};
 use std::alloc::{AllocError, Global};
@@ -86,5 +87,6 @@ pub(crate) fn put_compartment(
     put_functions(text, subject, compartment)?;
     put_slots(alloc, text, subject, compartment)?;
     put_lent_lines(text, subject, compartment)?;
-    put_exposed(text, subject, compartment)
+    put_exposed(text, subject, compartment)?;
+    put_undeclared(text, subject, compartment)
 }

@@ -3,6 +3,7 @@
 
 mod compartment;
 mod exposure;
+pub mod laws;
 mod lent;
 pub mod listing;
 pub mod naming;
@@ -10,3 +11,4 @@ mod slots;
 pub mod subject;
 pub mod text;
 mod totals;
+mod undeclared;

@@ -68,7 +68,7 @@ fn put_all(
 /// # Errors
 ///
 /// There is no memory for it. This is also the answer where there are more functions or regions than a number of 32 bits tells,
-/// or a sum has more than 64 bits: no firmware comes there.
+/// an address of a cover has more than 32 bits, or a sum more than 64: no firmware comes there.
 pub fn listing(alloc: Global, subject: &Subject<'_>, policy: &[u8]) -> Result<Vec<u8>, AllocError>
     requires { length subject.now.graph.now.groups.of ≡ length subject.now.needs.now.funcs }
     ensures { IfOk result (λ lines. lines.items ≡ listing.listing (subject_of subject.now) policy.now) }

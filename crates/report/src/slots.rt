@@ -169,7 +169,7 @@ fn put_cover(
 }
 
 /// A cover, by its place among others.
-fn cover_at(covers: &[Cover], place: usize) -> Cover
+pub(crate) fn cover_at(covers: &[Cover], place: usize) -> Cover
     ensures { result ≡ all_covers.cover_at covers.now place }
 {
     match covers.get(place) {
@@ -179,7 +179,7 @@ fn cover_at(covers: &[Cover], place: usize) -> Cover
 }
 
 /// The covers of a compartment.
-fn covers_of(graph: &Final, compartment: u32) -> &[Cover]
+pub(crate) fn covers_of(graph: &Final, compartment: u32) -> &[Cover]
     ensures { result.now ≡ get_or graph.now.covers compartment [] }
 {
     match graph.covers.as_slice().get(compartment as usize) {
