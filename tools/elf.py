@@ -26,7 +26,10 @@ ACES = os.environ.get('ACES') or os.path.join(HERE, '..', 'crates', 'aces', 'out
 
 def run(*words: str) -> str:
     """Runs a command; ends the program with what it said where it fails."""
-    done = subprocess.run(words, capture_output=True, check=False)
+    try:
+        done = subprocess.run(words, capture_output=True, check=False)
+    except OSError as fault:
+        sys.exit(f'elf.py: {words[0]}: {fault.strerror}')
     if done.returncode:
         sys.exit((done.stderr or done.stdout).decode(errors='replace'))
     return done.stdout.decode()

@@ -2,7 +2,8 @@
 # The tests of what runs on QEMU's processor, and of the ELF files: ends with a line `N passed, N failed`. What is not there is told, and
 # its tests are left out.
 cd "$(dirname "$0")" || exit 1
-export ACES="${ACES:-$PWD/../crates/aces/out/aces}" PYTHONDONTWRITEBYTECODE=1
+case ${ACES:=$PWD/../crates/aces/out/aces} in /*) ;; *) ACES=$OLDPWD/$ACES ;; esac
+export ACES PYTHONDONTWRITEBYTECODE=1
 passed=0
 failed=0
 work=$(mktemp -d) || exit 1
@@ -56,7 +57,7 @@ types() {
     "$python" -m mypy --strict --cache-dir /dev/null elf.py qemu_run.py qemu_hostile.py
 }
 
-if has python3 python3 "all of it"; then
+if has python3 python3 "all tests on QEMU"; then
     python=
     for one in python3 /usr/bin/python3; do
         "$one" -c 'import mypy' 2> "$work/found" && python=$one && break
@@ -66,7 +67,7 @@ if has python3 python3 "all of it"; then
         echo "left out: ELF files, and all on QEMU (the program aces is not built; ACES may name it)"
     else
         has arm-none-eabi-ld binutils-arm-none-eabi "ELF files" && try "ELF files" elf_files
-        has qemu-system-arm qemu-system-arm "QEMU beside aces run, and the demo" && {
+        has qemu-system-arm qemu-system-arm "QEMU beside aces run, hostile code on QEMU, and the demo" && {
             try "QEMU beside aces run" ./qemu_check.sh
             try "hostile code on QEMU" ./qemu_hostile.py 40
             try "hostile code, its slot opened" found
