@@ -11,6 +11,7 @@ use Rattle.plan_model.specs.declared.plan.Board.{Board}
 use Rattle.plan_model.specs.Permission.{may_write}
 use Rattle.plan_model.specs.RamBlocks.{ForMonitor, ForRegion}
 use Rattle.layout_laws.specs.RamLaws.{RamIsApart}
+use Rattle.layout_laws.specs.StackLowest.{StackIsLowest}
 use Rattle.monitor.specs.TheCode.{monitor_code}
 use Rattle.link_model.specs.LinkedTables.{tables_of}
 use Rattle.linked_images.specs.Planned.{plan, planned_sizes, planned_image, planned_tables}
@@ -20,7 +21,7 @@ use Rattle.linked_promises.specs.Parts.{linked_build}
 use Rattle.linked_promises.specs.Regions.{ImagesObeyRules, MemoryObeysRules}
 use Rattle.linked_promises.specs.Permissions.{IsOnPeripherals, IsPermitted, OnPeripherals, InData, SlotsHoldPermissions}
 use Rattle.overruns.specs.Ends.{guard_bytes}
-use Rattle.stack_guards.specs.FromGuards.{GuardedPlansGuard, LowestStacksAreGuarded, StacksBehindMonitorsAreGuarded}
+use Rattle.stack_guards.specs.FromGuards.{GuardedPlansGuard, LowestStacksAreGuarded, LargestStacksAreGuarded, StacksBehindMonitorsAreGuarded}
 
 module _ (w : PlainFirmware) (n : Needs) (f : Final) (b : Board) (may : ObjId → Bool) (a : ℕ) (low : a < 0x40000000) where
   no_range : (rs : List Cover) → AnyOf (IsOnPeripherals w n f b may a) rs → ⊥
@@ -54,6 +55,9 @@ guarded_plans slots images memory w n f b is free c a there below near slot = by
 
 pub lowest_stacks : LowestStacksAreGuarded
 lowest_stacks w n f b e a r from below near held = absurd (omega (arith, e, from, below))
+
+pub largest_stacks : StackIsLowest → LargestStacksAreGuarded
+largest_stacks lowest w n f b h = lowest_stacks w n f b (lowest (resolve w) f (planned_sizes w n f b) b h)
 
 pub behind_monitors : RamIsApart → StacksBehindMonitorsAreGuarded
 behind_monitors apart w n f b e a r from below near held =

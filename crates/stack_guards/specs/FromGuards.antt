@@ -1,13 +1,16 @@
 -- Beyond the program's claim: only laws, proofs and functions inside the tool cite this file.
 -- What comes of plans whose stack is guarded: statements of laws.
+use Rattle.std.specs.Prelude.{◌≡◌, ◌⊎◌}
 use Rattle.ir_model.specs.Plain.{PlainFirmware}
 use Rattle.ir_model.specs.Resolve.{resolve}
 use Rattle.ir_laws.specs.Sets.{ObjectSets}
 use Rattle.plan_model.specs.declared.needs.Needs.{Needs}
 use Rattle.plan_model.specs.declared.graph.Final.{Final}
 use Rattle.plan_model.specs.declared.plan.Board.{Board}
+use Rattle.plan_model.specs.declared.plan.Lowest.TheVariants.{Stack}
 use Rattle.plan_model.specs.Needs.{AreNeeds}
 use Rattle.plan_model.specs.PointsTo.{IsLeast}
+use Rattle.layout_laws.specs.StackLowest.{IsStackLargest}
 use Rattle.monitor.specs.Setting.{setting_of}
 use Rattle.monitor.specs.Invariant.{Invariant}
 use Rattle.monitor.specs.TheCode.{monitor_code}
@@ -21,6 +24,11 @@ GuardedPlansGuard = (w : PlainFirmware) (n : Needs) (f : Final) (b : Board) → 
 
 abbrev pub LowestStacksAreGuarded : Type 0
 LowestStacksAreGuarded = (w : PlainFirmware) (n : Needs) (f : Final) (b : Board) → IsStackLowest w n f b → IsStackGuarded w n f b
+
+-- and it is the lowest where the board asks for it, or no other block of RAM is larger
+abbrev pub LargestStacksAreGuarded : Type 0
+LargestStacksAreGuarded =
+    (w : PlainFirmware) (n : Needs) (f : Final) (b : Board) → (b.lowest ≡ Stack) ⊎ IsStackLargest (resolve w) f b → IsStackGuarded w n f b
 
 abbrev pub StacksBehindMonitorsAreGuarded : Type 0
 StacksBehindMonitorsAreGuarded = (w : PlainFirmware) (n : Needs) (f : Final) (b : Board) → IsBehindMonitor w n f b → IsStackGuarded w n f b

@@ -1,8 +1,8 @@
 //! Each function is a law and does nothing.
 
-ghost use Rattle.stack_guards.specs.FromGuards.{GuardedPlansGuard, LowestStacksAreGuarded, StacksBehindMonitorsAreGuarded, GuardedStacksServe, GuardedImagesAreNeverWrong};
+ghost use Rattle.stack_guards.specs.FromGuards.{GuardedPlansGuard, LowestStacksAreGuarded, LargestStacksAreGuarded, StacksBehindMonitorsAreGuarded, GuardedStacksServe, GuardedImagesAreNeverWrong};
 
-use layout_laws::ram;
+use layout_laws::{ram, stack};
 use linked_promises::permissions::permissions;
 use linked_promises::regions::{images, memory};
 use monitor_laws::images::sound_images_are_placed;
@@ -24,6 +24,14 @@ pub fn guarded()
 pub fn lowest()
     ensures { LowestStacksAreGuarded }
 {}
+
+/// So it is where the board asks for the stack lowest in RAM, and where no other block of RAM is larger.
+pub fn largest()
+    ensures { LargestStacksAreGuarded }
+{
+    lowest();
+    stack();
+}
 
 /// And where the monitor's block lies right below the stack.
 pub fn behind()
