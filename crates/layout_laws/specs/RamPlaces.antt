@@ -1,4 +1,3 @@
--- Beyond the program's claim: only laws, proofs and functions inside the tool cite this file.
 -- Where the blocks of RAM lie, for those that use a plan.
 use Rattle.std.specs.Prelude.{◌≡◌, ℕ, ◌<◌, length, unwrap_or}
 use Rattle.ir_model.specs.Resolved.{Program}
