@@ -2,16 +2,14 @@
 use Rattle.std.proofs.Common.{◌≡◌, ℕ, zero, suc, ◌+◌, ◌<◌, ◌≤◌, ◌⊎◌, inl, inr, cond, List, [], ◌∷◌, ◌++◌, length, get_or, map, Option, Some, None, nat_lt, refl, sym, ap, subst, ◌∙◌, le-ltb, arith}
 use Rattle.std.specs.Prelude.{unwrap_or}
 use Rattle.std.specs.List.{fold, range_with_len}
-use Rattle.device_model.specs.Rules.{block_size}
 use Rattle.ir_model.specs.Resolved.{Program}
 use Rattle.plan_model.specs.declared.graph.Final.{Final}
 use Rattle.plan_model.specs.declared.plan.Board.{Board}
 use Rattle.plan_model.specs.declared.plan.Lowest.{Lowest}
 use Rattle.plan_model.specs.declared.plan.Lowest.TheVariants.{Largest, Stack}
-use Rattle.plan_model.specs.declared.plan.Sizes.{Sizes}
 use Rattle.plan_model.specs.Blocks.{block, region_bytes}
 use Rattle.plan_model.specs.Lists.{numbers_below, placed}
-use Rattle.plan_model.specs.RamBlocks.{RamUse, ForStack, ForMonitor, ForRegion, ForUnwritten, RamBlock, full_block, region_block, unwritten_block, other_blocks, ram_blocks, falling}
+use Rattle.plan_model.specs.RamBlocks.{ForStack, ForMonitor, ForRegion, ForUnwritten, RamBlock, full_block, region_block, unwritten_block, other_blocks, ram_blocks, falling}
 use Rattle.plan_model.specs.RamPlacement.{Ram, PlacedBlock, no_tail, tail_for, base_in, spot_at, with_block, with_block_by, empty_ram, stack_first, ram_by, ram_of}
 use Rattle.plan_model.specs.Placement.{plan_of, placed_for, no_spot}
 use Rattle.layout_laws.specs.StackLowest.{IsStackLargest, StackIsLowest}

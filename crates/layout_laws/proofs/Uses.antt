@@ -6,7 +6,7 @@ use mathlib.Core.Logic.{⊎_elim}
 use Rattle.ir_model.specs.Resolved.{Program}
 use Rattle.plan_model.specs.declared.graph.Final.{Final}
 use Rattle.plan_model.specs.declared.plan.Spot.{Spot}
-use Rattle.plan_model.specs.Blocks.{block, region_bytes}
+use Rattle.plan_model.specs.Blocks.{region_bytes}
 use Rattle.plan_model.specs.Lists.{numbers_below, placed, in_order}
 use Rattle.plan_model.specs.Regions.{region_at}
 use Rattle.plan_model.specs.RamBlocks.{RamUse, ForStack, ForMonitor, ForRegion, ForUnwritten, RamBlock, holds_globals, same_use, full_block, globals_block, region_block, unwritten_block, other_blocks, ram_blocks}

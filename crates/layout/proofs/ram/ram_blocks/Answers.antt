@@ -1,4 +1,3 @@
-use Rattle.std.proofs.Common.{◌∙◌}
 use Rattle.ir_program.specs.Seen.{program_of}
 use Rattle.layout.proofs.Steps.{ram_blocks_are}
 use Rattle.layout.proofs.ram.ram_blocks.Goals as goal
