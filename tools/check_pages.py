@@ -3,122 +3,151 @@
 
     tools/check_pages.py
 
-It looks at README.md, docs/*.md and the README.md of each crate. A finding is a path, a file of definitions, a function or a type that a page
-names and that is not there; a crate that one of the lists of crates leaves out, or that is not in crates.txt; a file of definitions that its
-crate's page does not name; a number of cases that is not the one that the program of the cases prints.
+It looks at README.md, docs/*.md and the README.md of each crate. A finding is a path, a function or a type that a page names and that is not
+there; a file of definitions that its crate's page does not name; a crate that one of the lists of crates leaves out, or that is not in
+crates.txt; a number of cases that is not the one that the program of the cases prints. A path without its crate is looked for in the crates
+that the same paragraph or row of a table names, in the crate whose page it is, and in those of which the page names the folder `specs/`.
 """
 
 import glob
 import os
 import re
 import sys
+from collections.abc import Iterator
+from typing import NamedTuple
 
 TOP = os.path.join(os.path.dirname(os.path.abspath(__file__)), "..")
-NAME = r"[A-Za-z_][A-Za-z_0-9]*"
+FOLDERS = ("crates", "docs", "tools", "examples")
+CRATE_FOLDERS = ("src", "specs", "proofs", "must-fail")
 QUOTED = re.compile(r"`([^`\n]+)`")
-PATH = re.compile(r"^(?:crates|docs|tools|examples)/[A-Za-z_0-9./-]*[A-Za-z_0-9]$")
-DEFINITIONS = re.compile(rf"^({NAME})/([A-Z]{NAME[1:]})$")
-FUNCTION = re.compile(rf"^(?:({NAME})::)?((?:{NAME}::)*)({NAME})$")
-DECLARED = re.compile(rf"\b(?:fn|struct|enum|trait|const|mod|type) ({NAME})")
+PART = re.compile(r"\n\s*\n|\n(?=\|)")
+FUNCTION = re.compile(r"([A-Za-z]\w*)::(?:\w+::)*(\w+)")
+ROW = re.compile(r"^\| (`\w+`(?:, `\w+`)*) \|", re.M)
+MAPPED = re.compile(r"(?<=^  )\w+(?= )|(?<=  )\w+(?=  |\n)", re.M)
+DECLARED = re.compile(r"\b(?:fn|struct|enum|trait|const|mod|type) (\w+)")
 CASES = re.compile(r"`(\w+_cases)`: ([\d,]+) cases|([\d,]+) cases that are data(?:: it is run [^`]*| )?\(`(\w+_cases)`\)")
 
 
-def text_of(path):
+class Crate(NamedTuple):
+    """The files of a crate, without their endings; what its code declares, variants left out; and all words of its code."""
+
+    files: set[str]
+    names: set[str]
+    words: set[str]
+
+
+class Part(NamedTuple):
+    """What a paragraph or a row of a table quotes, and the crates that it may speak of."""
+
+    quoted: list[str]
+    near: set[str]
+
+
+def text_of(path: str) -> str:
     with open(path, encoding="utf-8") as file:
         return file.read()
 
 
-def crates():
+def crate_names() -> list[str]:
     """The names in crates.txt, in its order."""
-    lines = [line.split("#")[0] for line in text_of("crates.txt").splitlines()]
-    return [line.split(":")[0].strip() for line in lines if ":" in line]
+    return re.findall(r"^(\w+):", text_of("crates.txt"), re.M)
 
 
-def declared(crate):
-    """The names that the code of a crate declares, its enums' variants left out."""
-    names = set()
-    for path in glob.glob(f"crates/{crate}/src/**/*.rt", recursive=True):
-        names.update(DECLARED.findall(text_of(path)))
-        names.add(os.path.basename(path)[:-3])
-    return names
+def read_crate(name: str) -> Crate:
+    files = [path for folder in CRATE_FOLDERS for path in glob.glob(f"{folder}/**", root_dir=f"crates/{name}", recursive=True)]
+    code = "".join(text_of(f"crates/{name}/{path}") for path in files if path.startswith("src/") and path.endswith(".rt"))
+    return Crate({os.path.splitext(path)[0] for path in files}, set(DECLARED.findall(code)), set(re.findall(r"\w+", code)))
 
 
-def paths(page, words):
-    """Paths and files of definitions that are not there."""
-    for word in words:
-        if PATH.match(word) and not glob.glob(word):
-            yield f"{page}: no file {word}"
-        found = DEFINITIONS.match(word)
-        if found and os.path.isdir(f"crates/{found[1]}") and not os.path.exists(f"crates/{found[1]}/specs/{found[2]}.antt"):
-            yield f"{page}: no definitions {word}"
-
-
-def functions(page, words, known, own):
-    """Functions by their paths, as `crate::module::name`, or `module::name` of the page's own crate."""
-    for word in words:
-        found = FUNCTION.match(word)
-        if not found or not found[1]:
-            continue
-        crate, name = (found[1], found[3]) if found[1] in known else (own, found[3])
-        if crate and found[1] in (known if crate != own else known | {own: set()} | dict.fromkeys(known.get(own, ()), set())) and name not in known[crate]:
-            yield f"{page}: {word}: {crate} declares no {name}"
-
-
-def specs(crate):
-    """Files of definitions that the crate's page does not name."""
-    page = f"crates/{crate}/README.md"
-    if not os.path.exists(page):
-        yield f"{page}: not there"
-        return
+def parts(page: str, crates: dict[str, Crate]) -> Iterator[Part]:
     text = text_of(page)
-    for path in glob.glob(f"crates/{crate}/specs/**/*.antt", recursive=True):
-        stem = os.path.basename(path)[:-5]
-        if stem != "Lib" and not re.search(rf"\b{stem}\b", text):
-            yield f"{page}: {os.path.relpath(path, f'crates/{crate}')} is not named"
+    near = set(re.findall(r"`crates/(\w+)/specs/`", text)) | ({page.split("/")[1]} if page.startswith("crates/") else set())
+    for part in PART.split(text):
+        quoted = QUOTED.findall(part)
+        yield Part(quoted, near | {re.split("[/:]", word.removeprefix("crates/"))[0] for word in quoted} & crates.keys())
 
 
-def lists(all_crates):
-    """Crates that a list leaves out: README's, ARCHITECTURE's map, PROVED's rows."""
-    for page in ("README.md", "docs/ARCHITECTURE.md", "docs/PROVED.md"):
-        text = text_of(page)
-        for crate in all_crates:
-            if not re.search(rf"(?<![\w:/]){crate}\b", text):
-                yield f"{page}: {crate} is not named"
-    for folder in sorted(glob.glob("crates/*/")):
-        if folder.split("/")[1] not in all_crates:
-            yield f"crates.txt: {folder.split('/')[1]} is not there"
+def is_there(word: str, near: set[str], crates: dict[str, Crate]) -> bool:
+    """Whether a word that is a path leads to something; `crate/Name` is a file of definitions. Other words are taken to do so."""
+    first, _, rest = word.partition("/")
+    stem = os.path.splitext(word)[0]
+    if not re.fullmatch(r"[\w./-]*\w", word):
+        return True
+    if rest and first in FOLDERS:
+        return os.path.exists(word)
+    if rest and first in crates:
+        return os.path.exists(f"crates/{word}") or f"specs/{rest}" in crates[first].files
+    if rest and first in CRATE_FOLDERS:
+        return any(stem in crates[name].files for name in near)
+    if re.fullmatch(r"\w+\.(antt|rt)", word):
+        return any(file.endswith(f"/{stem}") for name in near for file in crates[name].files)
+    return True
 
 
-def cases(page, text):
+def is_declared(word: str, near: set[str], crates: dict[str, Crate]) -> bool:
+    """Whether a word that is a path to a function or a type, `crate::name`, `module::name` or `Type::name`, leads to one."""
+    found = FUNCTION.fullmatch(word)
+    if not found:
+        return True
+    first, name = found.groups()
+    if first[0].isupper():
+        return any(first in crate.names and name in crate.words for crate in crates.values())
+    return any(name in crates[own].names for own in near if own == first or f"src/{first}" in crates[own].files)
+
+
+def cases(page: str) -> Iterator[str]:
     """Numbers of cases that are not those which the program prints."""
-    for found in CASES.finditer(text):
+    for found in CASES.finditer(text_of(page)):
         crate, number = (found[1], found[2]) if found[1] else (found[4], found[3])
         stdout = f"crates/{crate}/stdout"
         if os.path.exists(stdout) and number.replace(",", "") not in re.findall(r"\d+", text_of(stdout)):
             yield f"{page}: {crate} has not {number} cases"
 
 
-def findings():
-    all_crates = crates()
-    known = {crate: declared(crate) for crate in all_crates}
-    for page in ["README.md", *sorted(glob.glob("docs/*.md")), *(f"crates/{crate}/README.md" for crate in all_crates)]:
+def specs(name: str, crate: Crate) -> Iterator[str]:
+    """Files of definitions that the crate's page does not name."""
+    page = f"crates/{name}/README.md"
+    named = {os.path.basename(word).removesuffix(".antt") for word in QUOTED.findall(text_of(page))}
+    for file in sorted(crate.files):
+        if re.search(r"^specs/.*\b[A-Z]\w*$", file) and not file.endswith("/Lib") and os.path.basename(file) not in named:
+            yield f"{page}: {file}.antt is not named"
+
+
+def lists(crates: dict[str, Crate]) -> Iterator[str]:
+    """Crates that README, PROVED, ARCHITECTURE's map or crates.txt leaves out, and names of rows in PROVED that are no crate."""
+    proved = text_of("docs/PROVED.md")
+    listed = {
+        "README.md": set(QUOTED.findall(text_of("README.md"))),
+        "docs/PROVED.md": set(QUOTED.findall(proved)),
+        "docs/ARCHITECTURE.md": set(MAPPED.findall(text_of("docs/ARCHITECTURE.md").split("```")[1])),
+        "crates.txt": set(crates),
+    }
+    folders = {path.split("/")[1] for path in glob.glob("crates/*/")}
+    for page, names in listed.items():
+        yield from (f"{page}: {name} is not named" for name in sorted(folders.union(crates) - names))
+    yield from (f"docs/PROVED.md: {name} is no crate" for row in ROW.findall(proved) for name in QUOTED.findall(row) if name not in crates)
+
+
+def findings() -> Iterator[str]:
+    crates = {name: read_crate(name) for name in crate_names()}
+    own_pages = {name: f"crates/{name}/README.md" for name in crates}
+    yield from (f"{page}: not there" for page in own_pages.values() if not os.path.exists(page))
+    for page in filter(os.path.exists, ["README.md", *sorted(glob.glob("docs/*.md")), *own_pages.values()]):
+        for part in parts(page, crates):
+            yield from (f"{page}: no file {word}" for word in part.quoted if not is_there(word, part.near, crates))
+            yield from (f"{page}: {word} is not declared" for word in part.quoted if not is_declared(word, part.near, crates))
+        yield from cases(page)
+    for name, page in own_pages.items():
         if os.path.exists(page):
-            text = text_of(page)
-            words = QUOTED.findall(text)
-            own = page.split("/")[1] if page.startswith("crates/") else None
-            yield from paths(page, words)
-            yield from functions(page, words, known, own)
-            yield from cases(page, text)
-    for crate in all_crates:
-        yield from specs(crate)
-    yield from lists(all_crates)
+            yield from specs(name, crates[name])
+    yield from lists(crates)
 
 
-def main():
+def main() -> int:
     os.chdir(TOP)
     found = list(findings())
-    print("\n".join(found), end="\n" if found else "")
-    sys.exit(1 if found else 0)
+    print("".join(f"{line}\n" for line in found), end="")
+    return 1 if found else 0
 
 
-main()
+sys.exit(main())
