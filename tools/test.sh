@@ -1,7 +1,8 @@
 #!/bin/sh
 # Runs the tests of what is outside of the proof, part by part; it writes in temporary folders alone. Each part tells what it left out
-# for want of a tool, and ends with a line `N passed, N failed`, and so does this script. Status 0 where nothing failed. ACES may name
-# the program of aces; else it is crates/aces/out/aces, and what needs it is left out where it is not built.
+# for want of a tool, and ends with a line `N passed, N failed`, and so does this script; the pages are one more test, which fails where
+# check_pages.py prints a line. Status 0 where nothing failed. ACES may name the program of aces; else it is crates/aces/out/aces, and what
+# needs it is left out where it is not built.
 if [ -n "$ACES" ]; then
     ACES=$(realpath -m "$ACES") || exit 1
     export ACES
@@ -26,5 +27,6 @@ for part in acesc/tests/run.sh qemu_tests.sh; do
     passed=$((passed + ${one:-0}))
     failed=$((failed + ${other:-0}))
 done
+if ! command -v python3 > /dev/null; then echo "left out: pages (no python3)"; elif python3 check_pages.py; then passed=$((passed + 1)); else failed=$((failed + 1)); fi
 echo "$passed passed, $failed failed"
 [ "$failed" -eq 0 ]
