@@ -7,7 +7,7 @@ use monitor_laws::images::images_start;
 use sound_images::promises::{sound_images_are_confined, sound_images_serve_simulation};
 
 /// The image obeys the rules and is sound. So it starts: from reset there is a run to the first instruction of `main`, whose state
-/// meets the invariant. It is confined, whatever code its compartments execute, and it has the law that a simulation takes.
+/// meets the invariant. It is confined, and it has the law that a simulation takes.
 pub fn the_laws_hold()
     ensures sound { IsSound }
     ensures start { HasStart }

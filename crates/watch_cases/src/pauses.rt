@@ -1,4 +1,4 @@
-//! A session over a machine that reads a word of its device and writes it back, until there is none. Its steps were counted by hand.
+//! A watched run of a machine that reads a word of its device and writes it back, until there is none. Its steps were counted by hand.
 
 ghost use Rattle.std.specs.Prelude.{◌≡◌, IfOk, length};
 ghost use Rattle.std.specs.Fn.{FnReturnsAt};
@@ -90,20 +90,20 @@ const fn stored(value: u32) -> Event {
 /// Runs on, and compares the answer, the one or two events that are given, and the steps so far.
 fn goes<F: Fn(&Event) -> bool + Drop>(
     rt: &impl Abort,
-    session: &mut Session<F>,
+    watched: &mut Session<F>,
     limit: u64,
     pause: Pause,
     given: [Option<Event>; 2],
     taken: u64,
 )
-    requires callable { F.IsAlwaysCallable session.old.callback }
-    requires equally { AnswersEqually (FnReturnsAt F.Fn session.old.callback) }
-    ensures { session.new.callback ≡ session.old.callback }
+    requires callable { F.IsAlwaysCallable watched.old.callback }
+    requires equally { AnswersEqually (FnReturnsAt F.Fn watched.old.callback) }
+    ensures { watched.new.callback ≡ watched.old.callback }
 {
-    assert!(rt; limit < 1_000_000 && session.taken() < 1_000_000);
+    assert!(rt; limit < 1_000_000 && watched.taken() < 1_000_000);
     let mut first = None;
     let mut second = None;
-    let answer = session.go(
+    let answer = watched.go(
         limit,
         &mut |event: &Event| {
             if first.is_none() {
@@ -115,7 +115,7 @@ fn goes<F: Fn(&Event) -> bool + Drop>(
     );
     assert_eq!(rt; answer, pause);
     assert_eq!(rt; [first, second], given);
-    assert_eq!(rt; session.taken(), taken);
+    assert_eq!(rt; watched.taken(), taken);
 }
 
 #[test]
@@ -128,13 +128,13 @@ fn pauses_at_each_store(rt: HostRuntime) -> Result<(), Fail> {
     let stores = |event: &Event| -> bool
         ensures { result ≡ event.now.write }
     { event.write };
-    let mut session = Session::start(rt.alloc(), &image, tape, 0xA5, Watch::new(stores))?;
+    let mut watched = Session::start(rt.alloc(), &image, tape, 0xA5, Watch::new(stores))?;
     let first = [Some(loaded(10)), Some(stored(10))];
-    goes(&rt, &mut session, 200_000, Pause::Hit(stored(10)), first, 4);
+    goes(&rt, &mut watched, 200_000, Pause::Hit(stored(10)), first, 4);
     let second = [Some(loaded(40)), Some(stored(40))];
     goes(
         &rt,
-        &mut session,
+        &mut watched,
         200_000,
         Pause::Hit(stored(40)),
         second,
@@ -142,19 +142,19 @@ fn pauses_at_each_store(rt: HostRuntime) -> Result<(), Fail> {
     );
     goes(
         &rt,
-        &mut session,
+        &mut watched,
         0,
         Pause::Ended(End::Limit),
         [None, None],
         7,
     );
     let loads = [Some(loaded(33)), None];
-    goes(&rt, &mut session, 2, Pause::Ended(End::Limit), loads, 9);
+    goes(&rt, &mut watched, 2, Pause::Ended(End::Limit), loads, 9);
     let stores = [Some(stored(33)), None];
-    goes(&rt, &mut session, 1, Pause::Hit(stored(33)), stores, 10);
+    goes(&rt, &mut watched, 1, Pause::Hit(stored(33)), stores, 10);
     let end = Pause::Ended(End::InputEnd);
-    goes(&rt, &mut session, 200_000, end, [None, None], 12);
-    goes(&rt, &mut session, 200_000, end, [None, None], 12);
-    goes(&rt, &mut session, 0, end, [None, None], 12);
+    goes(&rt, &mut watched, 200_000, end, [None, None], 12);
+    goes(&rt, &mut watched, 200_000, end, [None, None], 12);
+    goes(&rt, &mut watched, 0, end, [None, None], 12);
     Ok(())
 }
