@@ -3,6 +3,7 @@
 use anyhow::Result;
 use board_text::fault::BoardFault;
 use board_text::read_board;
+use denied_ranges::Denied;
 use plan_model::plan::{Board, Lowest};
 use std::alloc::Global;
 
@@ -16,15 +17,29 @@ fn board_of(alloc: Global, board: &Board) -> Result<String> {
         lowest,
         regions,
         closed,
-    } = *board;
+        denied,
+    } = board;
     let first = match lowest {
         Lowest::Largest => "",
         Lowest::Stack => " lowest",
     };
     let line = format!(in alloc;
-        "flash {flash_base:#010x} {flash_size} ram {ram_base:#010x} {ram_size} stack {stack}{first} regions {regions} closed {closed}\n"
+        "flash {flash_base:#010x} {flash_size} ram {ram_base:#010x} {ram_size} stack {stack}{first} regions {regions} closed {closed}"
     )?;
+    let denied = denied_of(alloc, denied.as_slice())?;
+    let line = format!(in alloc; "{line}{denied}\n")?;
     Ok(line)
+}
+
+/// What a board denies, each range behind its name.
+fn denied_of(alloc: Global, ranges: &[Denied]) -> Result<String> {
+    let mut text = String::new(alloc);
+    for range in ranges {
+        let Denied { name, base, size } = range;
+        let range = format!(in alloc; " deny {name} {base:#010x} {size}")?;
+        text.push_str(range.as_str())?;
+    }
+    Ok(text)
 }
 
 /// The board that a text describes, or why it is none.
@@ -36,6 +51,14 @@ pub(crate) fn board_line(alloc: Global, bytes: &[u8]) -> Result<String> {
         Err(BoardFault::Missing(key)) => format!(in alloc; "missing {key}\n")?,
         Err(BoardFault::Kind(key)) => format!(in alloc; "kind {key}\n")?,
         Err(BoardFault::Range(key)) => format!(in alloc; "range {key}\n")?,
+        Err(BoardFault::DeniedKind(path)) => {
+            let path = String::from_utf8(path.into_vec())?;
+            format!(in alloc; "kind {path}\n")?
+        }
+        Err(BoardFault::DeniedRange(path)) => {
+            let path = String::from_utf8(path.into_vec())?;
+            format!(in alloc; "range {path}\n")?
+        }
         Err(BoardFault::Extra(path)) => {
             let path = String::from_utf8(path.into_vec())?;
             format!(in alloc; "extra {path}\n")?

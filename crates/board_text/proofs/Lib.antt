@@ -1,4 +1,5 @@
 mod Refusals
 mod Rules
 mod Words
+mod Denials
 mod OneAnswer

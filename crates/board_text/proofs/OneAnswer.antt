@@ -4,7 +4,7 @@ use Rattle.plan_model.specs.declared.plan.Board.{Board}
 use Rattle.toml.specs.Data.{Members}
 use Rattle.toml.specs.Parse.{parse_document}
 use Rattle.board_text.specs.declared.fault.BoardFault.{BoardFault}
-use Rattle.board_text.specs.declared.fault.BoardFault.TheVariants.{NoMemory, NotToml, Missing, Kind, Range, Extra}
+use Rattle.board_text.specs.declared.fault.BoardFault.TheVariants.{NoMemory, NotToml, Missing, Kind, Range, DeniedKind, DeniedRange, Extra}
 use Rattle.board_text.specs.Laws.{BoardsAreOne, BoardsAreNotRefused}
 use Rattle.board_text.specs.Reading.{reading, IsDocument, IsRead, IsRefused}
 use Rattle.common_laws.proofs.Options.{one_some}
@@ -34,4 +34,6 @@ boards_are_not_refused text b NotToml x y = absurd (y x.0 x.1)
 boards_are_not_refused text b (Missing k) x y = absurd (unrefused text b (Missing k) x y)
 boards_are_not_refused text b (Kind k) x y = absurd (unrefused text b (Kind k) x y)
 boards_are_not_refused text b (Range k) x y = absurd (unrefused text b (Range k) x y)
+boards_are_not_refused text b (DeniedKind path) x y = absurd (unrefused text b (DeniedKind path) x y)
+boards_are_not_refused text b (DeniedRange path) x y = absurd (unrefused text b (DeniedRange path) x y)
 boards_are_not_refused text b (Extra path) x y = absurd (unrefused text b (Extra path) x y)

@@ -1,5 +1,5 @@
 -- A board that is read obeys the rules of boards.
-use Rattle.std.proofs.Common.{◌≡◌, ℕ, ◌%◌, ◌≤◌, ◌⊎◌, inl, inr, ℤ, pos, negsuc, Bool, true, false, cond, List, Option, Some, None, Result, Ok, Err, refl, ap, subst, ◌∙◌}
+use Rattle.std.proofs.Common.{◌≡◌, ℕ, ◌%◌, ◌≤◌, ◌⊎◌, inl, inr, ℤ, pos, negsuc, Bool, true, false, cond, List, [], length, Option, Some, None, Result, Ok, Err, refl, ap, subst, ◌∙◌, arith}
 use Rattle.std.proofs.lemmas.Bool.{and_parts, or_cases, leb-true, eqb-true}
 use mathlib.Core.Logic.{⊎_elim}
 use Rattle.windows.proofs.Decisions.{decides_power}
@@ -15,8 +15,14 @@ use Rattle.board_text.specs.declared.document.KeyFault.TheVariants.{Range}
 use Rattle.board_text.specs.declared.fields.Unit.{Unit as Protection}
 use Rattle.board_text.specs.Keys.{word_of, allows, is_base, is_size}
 use Rattle.board_text.specs.Fields.{and_then, of_kind, allowed, number_of, value_at, number_at, table_at, table_of, flash_of, regions_by, regions_of, lowest_of, closed_of, unit_in, unit_by, unit_of, board_of}
+use Rattle.common_laws.specs.Lists.{Each}
+use Rattle.denied_ranges.specs.declared.Denied.{Denied}
+use Rattle.denied_ranges.specs.Denied.{IsDenied}
+use Rattle.board_text.specs.Denied.{denied_of}
 use Rattle.board_text.specs.Extra.{extra_of}
-use Rattle.board_text.specs.Reading.{reading, reading_by}
+use Rattle.board_text.specs.declared.fault.BoardFault.{BoardFault}
+use Rattle.board_text.specs.Reading.{reading, reading_by, with_denied}
+use Rattle.board_text.proofs.Denials.{denied_obeys}
 
 -- ---- tests behind one another
 
@@ -102,7 +108,7 @@ board_is ms b e =
     let flash_parts = flash_is ms flash f0 in
     let flash_place = base_is 0 last_flash_base flash.base flash_parts.0 in
     let ram_place = base_is first_ram_base last_ram_base ram_base (number_at_is RamBase ram ram_base f2) in
-    let same : (let c : Board = record { flash_base = flash.base; flash_size = flash.size; ram_base = ram_base; ram_size = ram_size; stack = stack; lowest = lowest; regions = unit.regions; closed = unit.closed } in c) ≡ b = one_read _ b e6 in
+    let same : (let c : Board = record { flash_base = flash.base; flash_size = flash.size; ram_base = ram_base; ram_size = ram_size; stack = stack; lowest = lowest; regions = unit.regions; closed = unit.closed; denied = [] } in c) ≡ b = one_read _ b e6 in
     subst IsBoard same (record {
       flash_aligned = flash_place.2;
       flash_highest = flash_place.1;
@@ -113,13 +119,33 @@ board_is ms b e =
       ram_size = size_is ram_size (number_at_is RamSize ram ram_size f3);
       stack = (decides_power least_stack greatest_stack stack).0 (number_at_is RamStack ram stack f4);
       regions = unit_by_is (get_member (word_of Mpu) ms) unit f6;
+      denied = tt;
+      few_denied = omega arith;
+    })
+
+-- the ranges that it denies are the only thing that a board has beside its other fields
+denying : (b c : Board) (ds : List Denied) → IsBoard b → Each IsDenied ds × (length ds ≤ 64) → record b { denied = ds } ≡ c → IsBoard c
+denying b c ds is all same =
+    subst IsBoard same (record {
+      flash_aligned = is.flash_aligned;
+      flash_highest = is.flash_highest;
+      flash_size = is.flash_size;
+      ram_aligned = is.ram_aligned;
+      ram_lowest = is.ram_lowest;
+      ram_highest = is.ram_highest;
+      ram_size = is.ram_size;
+      stack = is.stack;
+      regions = is.regions;
+      denied = all.0;
+      few_denied = all.1;
     })
 
 pub read_obeys : (ms : Members) (b : Board) → reading ms ≡ Ok b → IsBoard b
 unfolding reading
-read_obeys ms b e = by (board_of ms) (extra_of ms) refl e
+read_obeys ms b e = by (board_of ms) (denied_of ms) (extra_of ms) refl refl e
   where
-    by : (r : Result Board KeyFault) (o : Option (List ℕ)) → board_of ms ≡ r → reading_by r o ≡ Ok b → IsBoard b
-    by (Ok c) None f h = let same : c ≡ b = cc in board_is ms b (f ∙ ap (λ (d : Board). let r : Result Board KeyFault = Ok d in r) same)
-    by (Ok c) (Some path) f h = cc
-    by (Err k) o f h = cc
+    by : (r : Result Board KeyFault) (d : Result (List Denied) BoardFault) (o : Option (List ℕ)) → board_of ms ≡ r → denied_of ms ≡ d → reading_by (with_denied r d) o ≡ Ok b → IsBoard b
+    by (Ok c) (Ok ds) None f g h = let same : record c { denied = ds } ≡ b = cc in denying c b ds (board_is ms c f) (denied_obeys ms ds g) same
+    by (Ok c) (Ok ds) (Some path) f g h = cc
+    by (Ok c) (Err k) o f g h = cc
+    by (Err k) d o f g h = cc

@@ -1,10 +1,11 @@
 -- Keys that no board has.
 use Rattle.std.specs.Prelude.{ℕ, List, [], ◌∷◌, Option, Some, None, Bool, not, find, option_map, option_and_then, bytes_eq}
 use Rattle.std.specs.List.{list_any}
+use Rattle.names.specs.Names.{is_name}
 use Rattle.plan_model.specs.Choices.{first_some}
 use Rattle.toml.specs.Data.{Members, no_members, member, get_member, as_table}
 use Rattle.board_text.specs.declared.key.Key.{Key}
-use Rattle.board_text.specs.declared.key.Key.TheVariants.{Flash, FlashBase, FlashSize, Ram, RamBase, RamSize, RamStack, RamLowest, Mpu, MpuRegions, MpuReads}
+use Rattle.board_text.specs.declared.key.Key.TheVariants.{Flash, FlashBase, FlashSize, Ram, RamBase, RamSize, RamStack, RamLowest, Mpu, MpuRegions, MpuReads, Deny}
 use Rattle.board_text.specs.declared.extra.FurtherKey.{FurtherKey}
 use Rattle.board_text.specs.Keys.{word_of, behind}
 
@@ -25,11 +26,19 @@ extra_word ks ms = find (λ w. not (is_known ks w)) (words_of ms)
 abbrev pub inner_extra : (table : Key) → List Key → Members → Option (List ℕ)
 inner_extra t ks ms = option_map (behind t) (option_and_then (extra_word ks) (option_and_then as_table (get_member (word_of t) ms)))
 
--- the first of the document, then of `flash`, of `mpu` and of `ram`
+-- the first of the table of what is denied that is no name
+abbrev pub unnamed_word : Members → Option (List ℕ)
+unnamed_word ms = find (λ w. not (is_name w)) (words_of ms)
+
+abbrev pub unnamed_extra : Members → Option (List ℕ)
+unnamed_extra ms = option_map (behind Deny) (option_and_then unnamed_word (option_and_then as_table (get_member (word_of Deny) ms)))
+
+-- the first of the document, then of `deny`, of `flash`, of `mpu` and of `ram`
 abbrev pub extra_of : Members → Option (List ℕ)
 extra_of ms =
     first_some
-    (extra_word (Flash ∷ Mpu ∷ Ram ∷ []) ms
+    (extra_word (Deny ∷ Flash ∷ Mpu ∷ Ram ∷ []) ms
+    ∷ unnamed_extra ms
     ∷ inner_extra Flash (FlashBase ∷ FlashSize ∷ []) ms
     ∷ inner_extra Mpu (MpuRegions ∷ MpuReads ∷ []) ms
     ∷ inner_extra Ram (RamBase ∷ RamSize ∷ RamStack ∷ RamLowest ∷ []) ms

@@ -1,6 +1,6 @@
 -- The fields of a board in a document, in the order in which they are tested: a key is tested for being there, then for its
 -- kind, then for its value.
-use Rattle.std.specs.Prelude.{ℕ, ℤ, pos, negsuc, List, Bool, true, false, Option, Some, None, Result, Ok, Err, if◌then◌else◌, bytes_eq, codes}
+use Rattle.std.specs.Prelude.{ℕ, ℤ, pos, negsuc, List, [], Bool, true, false, Option, Some, None, Result, Ok, Err, if◌then◌else◌, bytes_eq, codes}
 use Rattle.plan_model.specs.declared.plan.Board.{Board}
 use Rattle.plan_model.specs.declared.plan.Lowest.{Lowest}
 use Rattle.plan_model.specs.declared.plan.Lowest.TheVariants.{Largest, Stack}
@@ -111,7 +111,7 @@ unit_by (Some d) = and_then (table_of Mpu d) unit_in
 abbrev pub unit_of : Members → Result Unit KeyFault
 unit_of ms = unit_by (get_member (word_of Mpu) ms)
 
--- ---- all of them
+-- ---- all of them, as of a board that denies nothing
 
 unfoldable pub board_of : Members → Result Board KeyFault
 board_of ms =
@@ -131,4 +131,5 @@ board_of ms =
       lowest = lowest;
       regions = unit.regions;
       closed = unit.closed;
+      denied = [];
     }))))))))

@@ -3,7 +3,7 @@ use Rattle.std.specs.Prelude.{ℕ, ◌%◌, List, ◌++◌, Bool, false, ◌&&�
 use Rattle.windows.specs.Ranges.{is_power_between}
 use Rattle.device_model.specs.Rules.{least_stack, greatest_stack, memory_limit, last_flash_base, first_ram_base, last_ram_base, least_ram, ram_unit}
 use Rattle.board_text.specs.declared.key.Key.{Key}
-use Rattle.board_text.specs.declared.key.Key.TheVariants.{Flash, FlashBase, FlashSize, Ram, RamBase, RamSize, RamStack, RamLowest, Mpu, MpuRegions, MpuReads}
+use Rattle.board_text.specs.declared.key.Key.TheVariants.{Flash, FlashBase, FlashSize, Ram, RamBase, RamSize, RamStack, RamLowest, Mpu, MpuRegions, MpuReads, Deny}
 
 -- ---- names
 
@@ -20,6 +20,7 @@ word_of RamLowest = codes "lowest"
 word_of Mpu = codes "mpu"
 word_of MpuRegions = codes "regions"
 word_of MpuReads = codes "reads"
+word_of Deny = codes "deny"
 
 -- a key of a table, behind the table and a point
 abbrev pub behind : (table : Key) → (word : List ℕ) → List ℕ
@@ -38,6 +39,7 @@ path_of RamLowest = codes "ram.lowest"
 path_of Mpu = codes "mpu"
 path_of MpuRegions = codes "mpu.regions"
 path_of MpuReads = codes "mpu.reads"
+path_of Deny = codes "deny"
 
 -- ---- numbers
 
@@ -62,3 +64,4 @@ allows Ram n = false
 allows RamLowest n = false
 allows Mpu n = false
 allows MpuReads n = false
+allows Deny n = false

@@ -1,3 +1,4 @@
+pub mod Denied
 pub mod Extra
 pub mod Fields
 pub mod Keys

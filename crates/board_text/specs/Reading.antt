@@ -1,13 +1,15 @@
 -- Which board a text describes, or why it describes none.
-use Rattle.std.specs.Prelude.{◌≡◌, ℕ, List, Option, Some, None, Result, Ok, Err, IsUtf8}
+use Rattle.std.specs.Prelude.{◌≡◌, ◌≢◌, ℕ, List, Option, Some, None, Result, Ok, Err, IsUtf8}
 use Rattle.plan_model.specs.declared.plan.Board.{Board}
 use Rattle.toml.specs.Data.{Members}
 use Rattle.toml.specs.Parse.{parse_document}
 use Rattle.board_text.specs.declared.document.KeyFault.{KeyFault}
 use Rattle.board_text.specs.declared.document.KeyFault.TheVariants as at_key
 use Rattle.board_text.specs.declared.fault.BoardFault.{BoardFault}
-use Rattle.board_text.specs.declared.fault.BoardFault.TheVariants.{NoMemory, NotToml, Missing, Kind, Range, Extra}
+use Rattle.board_text.specs.declared.fault.BoardFault.TheVariants.{NoMemory, NotToml, Missing, Kind, Range, DeniedKind, DeniedRange, Extra}
+use Rattle.denied_ranges.specs.declared.Denied.{Denied}
 use Rattle.board_text.specs.Fields.{board_of}
+use Rattle.board_text.specs.Denied.{denied_of}
 use Rattle.board_text.specs.Extra.{extra_of}
 
 -- the fault of a key
@@ -16,15 +18,25 @@ told (at_key.Missing k) = Missing k
 told (at_key.Kind k) = Kind k
 told (at_key.Range k) = Range k
 
--- further keys are refused behind all other tests
-abbrev pub reading_by : Result Board KeyFault → Option (List ℕ) → Result Board BoardFault
-reading_by (Err e) path = Err (told e)
+-- what is denied is tested behind the other fields
+abbrev pub with_denied : Result Board KeyFault → Result (List Denied) BoardFault → Result Board BoardFault
+with_denied (Err e) denied = Err (told e)
+with_denied (Ok b) (Err e) = Err e
+with_denied (Ok b) (Ok ds) = Ok (record b { denied = ds })
+
+-- and further keys are refused behind all tests
+abbrev pub reading_by : Result Board BoardFault → Option (List ℕ) → Result Board BoardFault
+reading_by (Err e) path = Err e
 reading_by (Ok b) None = Ok b
 reading_by (Ok b) (Some path) = Err (Extra path)
 
 -- what comes of a document
 unfoldable pub reading : Members → Result Board BoardFault
-reading ms = reading_by (board_of ms) (extra_of ms)
+reading ms = reading_by (with_denied (board_of ms) (denied_of ms)) (extra_of ms)
+
+-- a refusal of a further key, but for want of memory
+abbrev pub IsFurther : Members → BoardFault → Type 0
+IsFurther ms f = f ≢ NoMemory → (path : List ℕ) × (extra_of ms ≡ Some path) × (f ≡ Extra path)
 
 abbrev pub IsReadIn : Members → Board → Type 0
 IsReadIn ms b = reading ms ≡ Ok b
@@ -36,6 +48,8 @@ IsFaultIn ms NotToml = ⊥
 IsFaultIn ms (Missing k) = reading ms ≡ Err (Missing k)
 IsFaultIn ms (Kind k) = reading ms ≡ Err (Kind k)
 IsFaultIn ms (Range k) = reading ms ≡ Err (Range k)
+IsFaultIn ms (DeniedKind path) = reading ms ≡ Err (DeniedKind path)
+IsFaultIn ms (DeniedRange path) = reading ms ≡ Err (DeniedRange path)
 IsFaultIn ms (Extra path) = reading ms ≡ Err (Extra path)
 
 -- ---- texts
@@ -59,4 +73,6 @@ IsFault text NotToml = (ms : Members) → IsDocument text ms → ⊥
 IsFault text (Missing k) = IsRefused text (Missing k)
 IsFault text (Kind k) = IsRefused text (Kind k)
 IsFault text (Range k) = IsRefused text (Range k)
+IsFault text (DeniedKind path) = IsRefused text (DeniedKind path)
+IsFault text (DeniedRange path) = IsRefused text (DeniedRange path)
 IsFault text (Extra path) = IsRefused text (Extra path)

@@ -6,6 +6,7 @@ ghost use Rattle.board_text.specs.Extra as extra;
 
 use crate::document::find;
 use crate::key::Key;
+use names::is_name;
 use std::alloc::{AllocError, Global};
 use toml::Table;
 
@@ -64,12 +65,39 @@ fn inner_extra<'a>(document: &'a Table, table: Key, known: &[Key]) -> Option<Fur
     })
 }
 
+/// The first key of a table that is no name.
+fn unnamed_word(table: &Table) -> Option<&str>
+    ensures { option_copied result ≡ extra.unnamed_word (table_view table.now) }
+{
+    for word in table.keys() {
+        if !is_name(word.as_bytes()) {
+            return Some(word.as_str());
+        }
+    }
+    None
+}
+
+/// The first key that is no name in the table of what is denied, if the table is there.
+fn unnamed_extra(document: &Table) -> Option<FurtherKey<'_>>
+    ensures { option_map extra.path_of result ≡ extra.unnamed_extra (table_view document.now) }
+{
+    let value = find(document, Key::Deny)?;
+    let word = unnamed_word(value.as_table()?)?;
+    Some(FurtherKey {
+        table: Some(Key::Deny),
+        word,
+    })
+}
+
 /// The first key of a document that no board has: those of the document come first, then those of its tables.
 pub(crate) fn further(document: &Table) -> Option<FurtherKey<'_>>
     ensures { option_map extra.path_of result ≡ extra.extra_of (table_view document.now) }
 {
-    if let Some(word) = extra_word(document, &[Key::Flash, Key::Mpu, Key::Ram]) {
+    if let Some(word) = extra_word(document, &[Key::Deny, Key::Flash, Key::Mpu, Key::Ram]) {
         return Some(FurtherKey { table: None, word });
+    }
+    if let Some(key) = unnamed_extra(document) {
+        return Some(key);
     }
     if let Some(key) = inner_extra(document, Key::Flash, &[Key::FlashBase, Key::FlashSize]) {
         return Some(key);

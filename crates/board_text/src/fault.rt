@@ -18,6 +18,10 @@ pub enum BoardFault {
     Kind(Key),
     /// It has another value than it may have.
     Range(Key),
+    /// What is denied is no array of two integers; its key is printed behind `deny` and a point.
+    DeniedKind(ListVec<u8>),
+    /// What is denied has no byte, or one that is no device's; its key is printed behind `deny` and a point.
+    DeniedRange(ListVec<u8>),
     /// A further key is there, printed behind its table and a point where it stands in one.
     Extra(ListVec<u8>),
 }

@@ -8,8 +8,10 @@ use crate::document::{
     KeyFault, find, is_closed, lowest_named, number_at, number_of, table_at, table_of,
 };
 use crate::key::Key;
+use list_vec::ListVec;
 use plan_model::Spot;
 use plan_model::plan::{Board, Lowest};
+use std::alloc::Global;
 use toml::Table;
 
 /// A protection unit, and whether loads are confined.
@@ -87,9 +89,9 @@ fn unit_of(document: &Table) -> Result<Unit, KeyFault>
     }
 }
 
-/// The board of a document whose tables may have further keys.
+/// The board of a document whose tables may have further keys, as one that denies nothing.
 #[tactic(auto, unfolding(crate::specs::Fields::board_of))]
-pub(crate) fn board_of(document: &Table) -> Result<Board, KeyFault>
+pub(crate) fn board_of(alloc: Global, document: &Table) -> Result<Board, KeyFault>
     ensures { result ≡ fields.board_of (table_view document.now) }
 {
     let flash = flash(document)?;
@@ -108,5 +110,6 @@ pub(crate) fn board_of(document: &Table) -> Result<Board, KeyFault>
         lowest,
         regions: unit.regions,
         closed: unit.closed,
+        denied: ListVec::new(Vec::new(alloc)),
     })
 }

@@ -34,6 +34,8 @@ pub enum Key {
     MpuRegions,
     /// Whether loads are confined as stores are: `open` or `closed`; where it is not there, `open`.
     MpuReads,
+    /// The table `deny`, which need not be there: ranges of devices that no compartment may reach.
+    Deny,
 }
 
 impl Key {
@@ -53,6 +55,7 @@ impl Key {
             Key::Mpu => "mpu",
             Key::MpuRegions => "mpu.regions",
             Key::MpuReads => "mpu.reads",
+            Key::Deny => "deny",
         }
     }
 
@@ -64,6 +67,7 @@ impl Key {
             Key::Flash => "flash",
             Key::Ram => "ram",
             Key::Mpu => "mpu",
+            Key::Deny => "deny",
             Key::FlashBase | Key::RamBase => "base",
             Key::FlashSize | Key::RamSize => "size",
             Key::RamStack => "stack",
@@ -87,7 +91,7 @@ impl Key {
             }
             Key::RamStack => is_stack_size(number),
             Key::MpuRegions => number == 8 || number == 16,
-            Key::Flash | Key::Ram | Key::RamLowest | Key::Mpu | Key::MpuReads => false,
+            Key::Flash | Key::Ram | Key::RamLowest | Key::Mpu | Key::MpuReads | Key::Deny => false,
         }
     }
 }

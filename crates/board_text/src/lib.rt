@@ -2,6 +2,7 @@
 #![tactic(auto)]
 
 pub mod board;
+mod denied;
 mod document;
 mod extra;
 pub mod fault;

@@ -7,7 +7,7 @@ use Rattle.plan_model.specs.declared.plan.Board.{Board}
 use Rattle.compartments.specs.Analyses.{AreNeedsOf}
 use Rattle.compartments.specs.Divisions.{division}
 use Rattle.planning.specs.declared.refusal.PlanningRefusal.{PlanningRefusal}
-use Rattle.planning.specs.declared.refusal.PlanningRefusal.TheVariants.{NoMemory, Limit, Flash, Ram}
+use Rattle.planning.specs.declared.refusal.PlanningRefusal.TheVariants.{NoMemory, Limit, Denied, Flash, Ram}
 use Rattle.planning.specs.Refusals.{IsPlanningRefusal}
 use Rattle.firmware_plans.specs.Unplanned.{IsUnplanned}
 
@@ -15,5 +15,6 @@ pub unplanned : (policy : Policy) (w : PlainFirmware) (b : Board) (n : Needs) (r
     → IsPlanningRefusal (resolve w) n (division policy w n) b r → IsUnplanned policy w b r
 unplanned policy w b n NoMemory a h = tt
 unplanned policy w b n (Limit k c) a h = record { needs = n; are_needs = a; refused = h }
+unplanned policy w b n (Denied m) a h = record { needs = n; are_needs = a; refused = h }
 unplanned policy w b n (Flash c m t) a h = record { needs = n; are_needs = a; refused = h }
 unplanned policy w b n (Ram c m t) a h = record { needs = n; are_needs = a; refused = h }

@@ -7,4 +7,4 @@ pub mod needed;
 pub mod numbers;
 pub mod records;
 pub mod sites;
-mod walks;
+pub mod walks;

@@ -64,3 +64,25 @@ pub(crate) fn find(
     let offset = number_offset(routine, calls, lent, at)?;
     Some(Found { func, at, offset })
 }
+
+/// Goes on to a place of a function, by a walk from one that was reached in it before, if one is given.
+pub fn go_on(
+    program: &Program,
+    numbers: &Numbers,
+    last: Option<Reached>,
+    func: usize,
+    block: usize,
+    place: usize,
+) -> Option<Reached>
+    requires lends { HasEachLend (program_of program.now) numbers.now }
+    requires last { IfSome last (IsReachedIn (program_of program.now) numbers.now func) }
+    ensures block { IfSome result (λ r. r.block ≡ block) }
+    ensures place { IfSome result (λ r. r.place ≡ place) }
+    ensures reached { IfSome result (IsReachedIn (program_of program.now) numbers.now func) }
+{
+    let routine = program.funcs.as_slice().get(func)?;
+    let sites = numbers.sites.as_slice().get(func)?;
+    let lends = numbers.lends.as_slice().get(func)?;
+    let lent = lent_count(lends.as_slice())?;
+    reach(routine, sites.as_slice(), lent, last, block, place)
+}

@@ -44,6 +44,7 @@ board =
       lowest = Largest;
       regions = 8;
       closed = false;
+      denied = [];
     }
 
 abbrev pub ComputesLent : Type 0

@@ -60,7 +60,7 @@ module _ (stub : ℕ) (t : Tables) where
   turn_words = (omega arith, ((omega arith, tt), (omega arith, tt)))
 
   reset_words : Words (reset s)
-  reset_words = (omega arith, (omega arith, (omega arith, (omega arith, (turn_words, (omega arith, (omega arith, (omega arith, (omega arith, (omega arith, (omega arith, (omega arith, (omega arith, (omega arith, (omega arith, tables_words)))))))))))))))
+  reset_words = (omega arith, (omega arith, (omega arith, (let f = few_slots stub t in omega (arith, f), (tt, tt, (omega arith, (omega arith, (turn_words, (omega arith, (omega arith, (omega arith, (omega arith, (omega arith, (omega arith, (omega arith, (omega arith, (omega arith, (omega arith, tables_words))))))))))))))))))
 
   reset_in : code_length (reset s) < 2 ^ 16 → EachInTable (code (reset s))
   reset_in l = in_table (reset s) (tables_fields s (go_on s) (few_slots stub t)) (words_fit (reset s) l reset_words)

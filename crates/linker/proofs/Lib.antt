@@ -1,6 +1,7 @@
 mod Bytes
 mod Totals
 mod Standing
-mod Linked
+pub mod Placed
+pub mod Linked
 mod Same
 mod Fits

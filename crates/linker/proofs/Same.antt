@@ -32,6 +32,7 @@ use Rattle.link_model.specs.LinkedTables as defined
 use Rattle.link_model.specs.LinkedTables.{Filled}
 use Rattle.link_model.specs.LinkedImage.{flash_size, erased, with_tables, with_code, flash_of}
 use Rattle.link_entries.specs.declared.making.Making.{Making}
+use Rattle.link_entries.specs.declared.numbers.Numbers.{Numbers}
 use Rattle.link_entries.specs.Grouped.{AreNumbers, groups_in}
 use Rattle.link_entries.specs.Bases.{base_in}
 use Rattle.link_entries.specs.Making.{program_in, grouped, places_at}
@@ -41,6 +42,7 @@ use Rattle.link_blocks.specs.Filling.{object_places}
 use Rattle.linker.specs.Placing.{with_code_of, flash_with}
 use Rattle.linker.specs.Parts.{AreAddresses, planned_places, one_if_any, words_at_counts, words_in_blocks, tables_in}
 use Rattle.linker.proofs.Linked.{places_are}
+use Rattle.linker.proofs.Placed.{groups_made}
 
 -- ---- how many records
 
@@ -79,12 +81,7 @@ module _ (m : Making) (n : Needs) (f : Final) (cs : m.compartments.now ≡ f.gro
   l = m.plan.now
 
   groups_same : grouped m ≡ code_groups p n f.groups
-  unfolding lend_number
-  groups_same =
-      let make : List ℕ → List (List CallSite) → List (List (Option ℕ)) → CodeGroups = λ xs ss ls. record { compartments = xs; sites = ss; lends = ls } in
-      ap (λ xs. make xs m.numbers.now.sites m.numbers.now.lends) cs
-      ∙ ap (λ ss. make f.groups.of ss m.numbers.now.lends) are.sites_are
-      ∙ ap (λ ls. make f.groups.of (map (call_sites n f.groups) (numbers_below (length p.funcs))) ls) are.lends_are
+  groups_same = ap (λ xs. groups_in xs m.numbers.now) cs ∙ groups_made p n f m.numbers.now are
 
   places_same : places_at m ≡ code_places p n f l
   places_same = sym (places_are m f cs as_)
@@ -169,15 +166,26 @@ module _ (m : Making) (n : Needs) (f : Final) (cs : m.compartments.now ≡ f.gro
       ap (λ t. fold (with_code_of m base) (with_tables base t (erased (flash_size l))) ns) (tables_same b)
       ∙ fold_same (with_code_of m base) (with_code p n f l base) one (with_tables base (defined.tables_of p n f l b) (erased (flash_size l))) ns
 
--- the flash of tables and numbers that the code made
-pub flash_made : (m : Making) (n : Needs) (f : Final) (b : Board) (sites : List SiteNeed) (ls : List (ℕ × ℕ)) (t : Tables) → m.compartments.now ≡ f.groups.of →
-    AreAddresses (program_in m) f m.plan.now m.numbers.now m.addresses.now → AreNumbers (program_in m) sites ls m.numbers.now → sites ≡ crossing_sites n f.groups → ls ≡ lent n f.groups →
-    t ≡ tables_in m f b sites ls → flash_with m b.flash_base t f.groups.count ≡ flash_of (program_in m) n f m.plan.now b
-flash_made m n f b sites ls t cs as_ are es el et =
-    let p = program_in m in
-    let x = m.numbers.now in
-    let ss = crossing_sites n f.groups in
-    let xs = lent n f.groups in
-    let numbers : AreNumbers p ss xs x = subst (λ (ys : List SiteNeed). AreNumbers p ys xs x) es (subst (λ (ys : List (ℕ × ℕ)). AreNumbers p sites ys x) el are) in
-    let tables : t ≡ tables_in m f b ss xs = et ∙ ap (λ (ys : List SiteNeed). tables_in m f b ys ls) es ∙ ap (λ (ys : List (ℕ × ℕ)). tables_in m f b ss ys) el in
-    ap (λ (y : Tables). flash_with m b.flash_base y f.groups.count) tables ∙ flash_same m n f cs as_ numbers b
+-- ---- from what the code found
+
+-- the numbers
+pub numbers_made : (p : Program) (n : Needs) (f : Final) (sites : List SiteNeed) (ls : List (ℕ × ℕ)) (x : Numbers) → sites ≡ crossing_sites n f.groups → ls ≡ lent n f.groups →
+    AreNumbers p sites ls x → AreNumbers p (crossing_sites n f.groups) (lent n f.groups) x
+numbers_made p n f sites ls x es el are =
+    subst (λ (ys : List SiteNeed). AreNumbers p ys (lent n f.groups) x) es (subst (λ (ys : List (ℕ × ℕ)). AreNumbers p sites ys x) el are)
+
+module _ (m : Making) (n : Needs) (f : Final) (b : Board) (cs : m.compartments.now ≡ f.groups.of) (as_ : AreAddresses (program_in m) f m.plan.now m.numbers.now m.addresses.now)
+    (are : AreNumbers (program_in m) (crossing_sites n f.groups) (lent n f.groups) m.numbers.now) (t : Tables) where
+  -- the tables
+  pub tables_made : (sites : List SiteNeed) (ls : List (ℕ × ℕ)) → sites ≡ crossing_sites n f.groups → ls ≡ lent n f.groups → t ≡ tables_in m f b sites ls →
+      t ≡ defined.tables_of (program_in m) n f m.plan.now b
+  tables_made sites ls es el et =
+      et
+      ∙ ap (λ (ys : List SiteNeed). tables_in m f b ys ls) es
+      ∙ ap (λ (ys : List (ℕ × ℕ)). tables_in m f b (crossing_sites n f.groups) ys) el
+      ∙ tables_same m n f cs as_ are b
+
+  -- and the flash
+  pub flash_made : t ≡ defined.tables_of (program_in m) n f m.plan.now b → flash_with m b.flash_base t f.groups.count ≡ flash_of (program_in m) n f m.plan.now b
+  flash_made et =
+      ap (λ (y : Tables). flash_with m b.flash_base y f.groups.count) (et ∙ sym (tables_same m n f cs as_ are b)) ∙ flash_same m n f cs as_ are b

@@ -1,3 +1,4 @@
 pub mod Standing
 pub mod Placing
 pub mod Parts
+pub mod LinkParts

@@ -6,4 +6,4 @@ mod flash;
 mod linking;
 
 pub use flash::put_bytes;
-pub use linking::link;
+pub use linking::{LinkParts, link, link_parts};

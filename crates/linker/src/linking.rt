@@ -9,6 +9,7 @@ ghost use Rattle.link_model.specs.LinkedImage.{flash_of, linked};
 ghost use Rattle.link_entries.specs.Lent.{lent_sites};
 ghost use Rattle.link_entries.specs.Making.{IsReady, program_in};
 ghost use Rattle.link_entries.specs.Recorded.{entry_in};
+ghost use Rattle.linker.specs.LinkParts.{AreLinkParts};
 ghost use Rattle.linker.specs.Parts.{AreAddresses, AreCrossings, AreFills, words_behind, tables_in};
 
 use crate::flash::flash;
@@ -185,17 +186,32 @@ fn tables(
     })
 }
 
-/// The bytes of flash.
-fn linked_flash(
+/// What an image is made of: the numbers of calls and of lent locals, where everything lies, and the monitor's tables.
+#[derive(Drop)]
+pub struct LinkParts {
+    /// Of each function, the numbers of its calls' sites and of its lent locals.
+    pub numbers: Numbers,
+    /// Where globals, windows and functions lie.
+    pub addresses: Addresses,
+    /// The monitor's tables.
+    pub tables: Tables,
+}
+
+/// What the image of a firmware is made of, by its needs, its graph of compartments, its plan and a board.
+///
+/// # Errors
+///
+/// There is no memory for it, or the plan is none of this firmware on this board.
+pub fn link_parts(
     alloc: Global,
     program: &Program,
     needs: &Needs,
     graph: &Final,
     plan: &Plan,
     board: &Board,
-) -> Result<Vec<u8>, AllocError>
+) -> Result<LinkParts, AllocError>
     requires { IsProgram (program_of program.now) }
-    ensures { IfOk result (λ bytes. bytes.items ≡ flash_of (program_of program.now) needs.now graph.now plan.now board.now) }
+    ensures { IfOk result (AreLinkParts (program_of program.now) needs.now graph.now plan.now board.now) }
 {
     let sites = crossing_sites(alloc, needs, &graph.groups)?;
     let lent = lent(needs, &graph.groups);
@@ -208,8 +224,41 @@ fn linked_flash(
         numbers: &numbers,
         addresses: &addresses,
     };
-    let t = tables(alloc, &making, graph, board, &sites, lent)?;
-    flash(alloc, board.flash_base, &making, &t, graph.groups.count)
+    let tables = tables(alloc, &making, graph, board, &sites, lent)?;
+    Ok(LinkParts {
+        numbers,
+        addresses,
+        tables,
+    })
+}
+
+/// The bytes of flash.
+fn linked_flash(
+    alloc: Global,
+    program: &Program,
+    needs: &Needs,
+    graph: &Final,
+    plan: &Plan,
+    board: &Board,
+) -> Result<Vec<u8>, AllocError>
+    requires { IsProgram (program_of program.now) }
+    ensures { IfOk result (λ bytes. bytes.items ≡ flash_of (program_of program.now) needs.now graph.now plan.now board.now) }
+{
+    let parts = link_parts(alloc, program, needs, graph, plan, board)?;
+    let making = Making {
+        program,
+        plan,
+        compartments: graph.groups.of.as_slice(),
+        numbers: &parts.numbers,
+        addresses: &parts.addresses,
+    };
+    flash(
+        alloc,
+        board.flash_base,
+        &making,
+        &parts.tables,
+        graph.groups.count,
+    )
 }
 
 /// The image of a firmware by its needs, its graph of compartments, its plan and a board. `periphs` are the firmware's

@@ -1,5 +1,5 @@
 -- The access that the handler makes for its thread, and its end.
-use Rattle.std.proofs.Common.{◌≡◌, ℕ, ◌+◌, ◌-◌, ◌%◌, ◌^◌, ◌<◌, ◌≤◌, true, false, List, length, nat_eq, refl, sym, ap, ◌∙◌, subst, arith}
+use Rattle.std.proofs.Common.{◌≡◌, ℕ, ◌+◌, ◌*◌, ◌-◌, ◌%◌, ◌^◌, ◌<◌, ◌≤◌, true, false, List, length, nat_eq, refl, sym, ap, ◌∙◌, subst, arith}
 use Rattle.words.specs.declared.memory.Width.{Width}
 use Rattle.words.specs.declared.memory.Width.TheVariants.{Byte, Half, Word}
 use Rattle.words.specs.Width.{byte_count}
@@ -13,15 +13,12 @@ use Rattle.armv7m.specs.declared.TheConstants.{CFSR}
 use Rattle.armv7m.specs.declared.state.ProtectionState.{ProtectionState}
 use Rattle.armv7m.specs.declared.state.FaultStatus.{FaultStatus}
 use Rattle.armv7m.specs.declared.state.StopReason.TheVariants.{Unaligned}
-use Rattle.armv7m.specs.declared.answers.Verdict.TheVariants.{ToSystem}
-use Rattle.armv7m.specs.State.{State, by_mpu, is_unprivileged}
+use Rattle.armv7m.specs.State.{State, by_mpu}
 use Rattle.armv7m.specs.System.{in_system, read_system, read_status, write_status}
-use Rattle.armv7m.specs.Tests.{verdict}
 use Rattle.gate_steps.specs.Steps.{Steps, Load, Store}
 use Rattle.gate_steps.specs.Core.{Core, low_register, with_low, with_system}
-use Rattle.gate_steps.specs.Accesses.{Value, address_of, load}
 use Rattle.gate_steps.specs.Effect.{Outcome, AtReturn, Stopped}
-use Rattle.gate_steps.proofs.Within.{GivesWithin, const_within, alu_within, at_within, more_within, next_within, yes_within, no_within, value_within, system_within}
+use Rattle.gate_steps.proofs.Within.{GivesWithin, const_within, alu_within, at_within, more_within, next_within, yes_within, no_within, system_within}
 use Rattle.monitor.specs.declared.tables.Tables.{Tables}
 use Rattle.monitor.specs.Area.{HasTables}
 use Rattle.monitor.specs.Placed.{Placed}
@@ -31,7 +28,7 @@ use Rattle.monitor.specs.MemFault.{by_width, finished}
 use Rattle.monitor.specs.Reach.{OfSystem}
 use Rattle.monitor.specs.BlockWords.{top as top_of}
 use Rattle.monitor.specs.Handlers.{ForSystem}
-use Rattle.monitor_laws.proofs.Off.{core, with_unit, IsOff, open_while_off}
+use Rattle.monitor_laws.proofs.Off.{core, with_unit, IsOff, open_while_off, system_load_within}
 use Rattle.monitor_laws.proofs.Opened.{Handles}
 use Rattle.monitor_laws.proofs.Unlend.{closed_within}
 use Rattle.monitor_laws.proofs.HandlerRule.{HandlerRule, handlers_reach}
@@ -44,10 +41,6 @@ use Rattle.memfault_law.proofs.Wide.{load_wide_within, store_wide_within, load_u
 read_cfsr : (p : ProtectionState) (u : FaultStatus) → read_system CFSR p u ≡ u.cfsr
 unfolding read_system read_status
 read_cfsr p u = refl
-
-cfsr_verdict : (p : ProtectionState) → is_unprivileged p ≡ false → verdict by_mpu p Read 4 CFSR ≡ ToSystem
-unfolding verdict
-cfsr_verdict p e = rw e refl
 
 unit_same : (v : ℕ) (m : Registers) → write_register CFSR v m ≡ m
 unfolding write_register
@@ -99,10 +92,11 @@ module _ (i : Image) (t : Tables) (p : Placed i t) (has : HasTables i t) (stub :
   -- CFSR into a register
   pub cfsr_within : {n to base : ℕ} {s : Steps} {ks : List Steps} {c : Core} {Q : Outcome → Type 0} → IsOff true c.protection → low_register c base ≡ CFSR → W n s ks (with_low c to c.status.cfsr) Q → W (1 + n) (Load Word to base 0 s) ks c Q
   cfsr_within {n} {to} {base} {s} {ks} {c} {Q} off e w =
-      let a : address_of c 4 base 0 ≡ CFSR = omega (arith, e) in
-      let v = cfsr_verdict c.protection off.privileged in
-      let r : load by_mpu i Word base 0 c ≡ Value (read_system CFSR c.protection c.status) = rw (a, v) refl in
-      value_within c.status.cfsr {z = Word} (r ∙ ap (λ v. Value v) (read_cfsr c.protection c.status)) (subst (λ a. HandlerRule i t thread Read c 4 a) (sym a) (loads_cfsr c off.mode)) w
+      system_load_within CFSR off.privileged (at (low_register c base) e) refl (omega arith) refl refl (loads_cfsr c off.mode)
+      (at_within (ap (λ v. with_low c to v) (read_cfsr c.protection c.status)) w)
+    where
+      at : (x : ℕ) → x ≡ CFSR → x + 4 * 0 ≡ CFSR
+      at x h = omega (arith, h)
 
   module _ (msp psp : ℕ) (u : FaultStatus) where
     -- ---- by the width in r6

@@ -1,12 +1,15 @@
--- Start-up: initial words, the monitor's block, the regions of the compartment of `main`, and the branch to it.
+-- Start-up: the test of the protection unit, initial words, the monitor's block, the regions of the compartment of `main`, and the
+-- branch to it.
+use Rattle.std.specs.Prelude.{◌+◌, ◌*◌}
 use Rattle.words.specs.declared.memory.Width.TheVariants.{Word}
-use Rattle.mpu_model.specs.declared.TheConstants.{MPU_RBAR}
+use Rattle.mpu_model.specs.declared.TheConstants.{MPU_TYPE, MPU_RBAR}
 use Rattle.armv7m.specs.declared.TheConstants.{CCR, SHCSR}
 use Rattle.gate_steps.specs.declared.steps.GateOp.TheVariants.{Add, Sub, Shr}
+use Rattle.gate_steps.specs.declared.steps.GateCond.TheVariants.{Eq}
 use Rattle.gate_steps.specs.Steps.{Steps, End, Const, Copy, Load, Store, Alu, WritePsp, WriteControl, Repeat, Go, ◌▸◌}
 use Rattle.monitor.specs.Offsets.{cur, top, depth, loans, mark, init_at, init_end, init_from}
 use Rattle.monitor.specs.Constants.{Constants}
-use Rattle.monitor.specs.Opening.{set_control, tables_of}
+use Rattle.monitor.specs.Opening.{must, set_control, tables_of}
 
 -- one word from flash, at r3, to RAM, at r2
 abbrev pub word_turn : Steps
@@ -36,6 +39,16 @@ init_turn c =
 -- flash are the same in every image
 abbrev pub main_words : Constants → Steps → Steps
 main_words c rest = Const 5 c.main_compartment ▸ Const 7 c.main ▸ rest
+
+-- the processor has a protection unit, of as many regions as the tables are for: MPU_TYPE has their number, which is 0 where there
+-- is no unit, in bits 15 to 8, and 0 in all others (B3.5.5); else halt 10. No other register of the unit is written before
+abbrev pub unit_is_there : Constants → Steps → Steps
+unit_is_there c rest =
+    Const 0 MPU_TYPE
+    ▸ Load Word 6 0 0
+    ▸ Const 1 (256 * (c.slots + 4))
+    ▸ must Eq 6 1 10
+    ▸ rest
 
 -- the ranges that start-up fills
 abbrev pub copied : Constants → Steps → Steps
@@ -90,4 +103,4 @@ go_on c =
 
 -- start-up
 abbrev pub reset : Constants → Steps
-reset c = main_words c ▸ copied c ▸ first_block c ▸ traps ▸ first_regions c ▸ tables_of c ▸ go_on c
+reset c = main_words c ▸ unit_is_there c ▸ copied c ▸ first_block c ▸ traps ▸ first_regions c ▸ tables_of c ▸ go_on c

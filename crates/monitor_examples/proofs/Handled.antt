@@ -53,4 +53,7 @@ computes_halts = record {
   load = refl;
   fetch = refl;
   open_load = refl;
+  no_unit = refl;
+  larger_unit = refl;
+  smaller_unit = refl;
 }

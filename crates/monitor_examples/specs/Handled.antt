@@ -1,7 +1,7 @@
 -- Beyond the program's claim: only laws, proofs and functions inside the tool cite this file.
 -- What the handlers do on the small board.
 use Rattle.std.specs.Prelude.{◌≡◌, ℕ, List, [], ◌∷◌, true, false, Some, replicate}
-use Rattle.mpu_model.specs.Registers.{blank}
+use Rattle.mpu_model.specs.Registers.{blank, at_reset}
 use Rattle.armv7m.specs.State.{by_mpu}
 use Rattle.gate_steps.specs.Steps.{Steps}
 use Rattle.gate_steps.specs.Core.{Core}
@@ -10,6 +10,7 @@ use Rattle.monitor.specs.Constants.{Constants}
 use Rattle.monitor.specs.Page.{constants}
 use Rattle.monitor.specs.Svc.{svc}
 use Rattle.monitor.specs.MemFault.{memfault}
+use Rattle.monitor.specs.Reset.{reset}
 use Rattle.monitor_examples.specs.Sample.{sample}
 use Rattle.monitor_examples.specs.Board.{image, ram, core, returned, halted, word_behind, first_regions, second_regions}
 
@@ -46,7 +47,7 @@ abbrev pub comes_back : Core
 comes_back = core 0 0x20000560 (ram (second_runs 0 0) [] 0x20000560 (frame 77 0 0 0x08001008))
 
 pub record ComputesCalls : Type 0 where
-  -- TOP is PSP rounded down to 64 bytes, and the callee's frame lies below it; the leave stub stands at 0x0800091C
+  -- TOP is PSP rounded down to 64 bytes, and the callee's frame lies below it; the leave stub stands at 0x0800093C
   pub enters :
       returned (does (svc open_board) calls_second)
       ≡ Some (record {
@@ -54,7 +55,7 @@ pub record ComputesCalls : Type 0 where
         saved = 0x200005A0 ∷ 0 ∷ 0x20000600 ∷ 0 ∷ [];
         loan = 0 ∷ 0 ∷ 0 ∷ [];
         psp = 0x20000560;
-        frame = 10 ∷ 11 ∷ 12 ∷ 13 ∷ 0 ∷ 0x0800091D ∷ 0x08002100 ∷ 0x01000000 ∷ [];
+        frame = 10 ∷ 11 ∷ 12 ∷ 13 ∷ 0 ∷ 0x0800093D ∷ 0x08002100 ∷ 0x01000000 ∷ [];
         control = 5;
         cfsr = 0;
         regions = second_regions 0x1306C011;
@@ -119,6 +120,16 @@ pub record ComputesLoans : Type 0 where
 
 -- ---- halts
 
+abbrev pub twelve_slots : Constants
+twelve_slots = constants (sample 11 false)
+
+-- what a reset leaves to start-up, on a unit of so many regions
+abbrev pub starts_on : (regions : ℕ) → Core
+starts_on n =
+    record (core 0 0 (replicate 1568 0xA5)) {
+      protection = record { handler = false; unprivileged = false; mpu = at_reset n };
+    }
+
 pub record ComputesHalts : Type 0 where
   -- a return with no entry saved
   pub ends : halted (does (svc open_board) (core 0 0x200005A0 (ram first_runs [] 0x200005A0 (frame 0 0 0 0x08001008)))) ≡ Some 0
@@ -144,3 +155,7 @@ pub record ComputesHalts : Type 0 where
   -- a fault without an address; a load on an open board
   pub fetch : halted (does (memfault open_board) (refused 0x01 1 0x0800100E)) ≡ Some 8
   pub open_load : halted (does (memfault open_board) (refused 0x82 1 0x08001010)) ≡ Some 8
+  -- no protection unit; one of 16 regions, and for tables of 12 slots one of 8
+  pub no_unit : halted (does (reset open_board) (starts_on 0)) ≡ Some 10
+  pub larger_unit : halted (does (reset open_board) (starts_on 16)) ≡ Some 10
+  pub smaller_unit : halted (does (reset twelve_slots) (starts_on 8)) ≡ Some 10

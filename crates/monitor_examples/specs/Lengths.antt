@@ -46,9 +46,9 @@ pub record ComputesLengths : Type 0 where
   pub memfault_twelve : Measures (memfault twelve_open) 550 1650
   pub memfault_four_closed : Measures (memfault four_closed) 930 3228
   pub memfault_twelve_closed : Measures (memfault twelve_closed) 934 3236
-  pub reset_four : code_length (reset four_open) ≡ 434
-  pub reset_twelve : code_length (reset twelve_closed) ≡ 500
-  pub four : EndsAt four_open 2270
-  pub four_of_closed : EndsAt four_closed 2652
-  pub twelve : EndsAt twelve_open 2470
-  pub twelve_of_closed : EndsAt twelve_closed 2854
+  pub reset_four : code_length (reset four_open) ≡ 466
+  pub reset_twelve : code_length (reset twelve_closed) ≡ 532
+  pub four : EndsAt four_open 2302
+  pub four_of_closed : EndsAt four_closed 2684
+  pub twelve : EndsAt twelve_open 2502
+  pub twelve_of_closed : EndsAt twelve_closed 2886

@@ -22,14 +22,14 @@ pub record PutTogether (flash : List ℕ) (place register number : ℕ) : Type 0
 pub record ComputesPage : Type 0 where
   pub size : length bytes ≡ 4096
   pub closed_size : length closed_bytes ≡ 4096
-  -- the end of the monitor's block, reset at 64, MemManage at 64 + 434 + 1286 and SVC at 64 + 434
+  -- the end of the monitor's block, reset at 64, MemManage at 64 + 466 + 1286 and SVC at 64 + 466
   pub vectors :
       words_at 16 0 bytes
-      ≡ 0x20000400 ∷ 0x08000041 ∷ 0 ∷ 0 ∷ 0x080006F9 ∷ 0 ∷ 0 ∷ 0 ∷ 0 ∷ 0 ∷ 0 ∷ 0x080001F3 ∷ 0 ∷ 0 ∷ 0 ∷ 0 ∷ []
+      ≡ 0x20000400 ∷ 0x08000041 ∷ 0 ∷ 0 ∷ 0x08000719 ∷ 0 ∷ 0 ∷ 0 ∷ 0 ∷ 0 ∷ 0 ∷ 0x08000213 ∷ 0 ∷ 0 ∷ 0 ∷ 0 ∷ []
   -- compartment 0 and entry 0x08002001 of `main`
   pub main_compartment : PutTogether bytes main_compartment_at 5 0
   pub main_entry : PutTogether bytes main_entry_at 7 0x08002001
   -- SVC #1, and erased flash behind it
-  pub stub : read 2 0x91C bytes ≡ 0xDF01
-  pub erased : read 4 0x91E bytes ≡ 0xFFFFFFFF
+  pub stub : read 2 0x93C bytes ≡ 0xDF01
+  pub erased : read 4 0x93E bytes ≡ 0xFFFFFFFF
   pub last : read 4 4092 bytes ≡ 0xFFFFFFFF

@@ -12,7 +12,7 @@ pub fn loans()
     ensures { ComputesLoans }
 {}
 
-/// Each number with which the handlers halt.
+/// Each number with which the handlers and start-up halt.
 pub fn halts()
     ensures { ComputesHalts }
 {}

@@ -217,7 +217,7 @@ before_control_in stub t h = in_table (before_control c) (tables_fields c (last_
     turn = (omega arith, (record { from = le_z_yes tt; below = lt_z_yes tt; even = refl }, record { from = le_z_yes tt; below = lt_z_yes tt; even = refl }, (omega arith, tt), (omega arith, tt)))
 
     fit : Fits (before_control c)
-    fit = (omega arith, (omega arith, (omega arith, (omega arith, (record { from = le_z_yes tt; below = lt_z_yes tt; even = refl }, record { from = le_z_yes tt; below = lt_z_yes tt; even = refl }, turn, (omega arith, (omega arith, (omega arith, (omega arith, (omega arith, (omega arith, (omega arith, (omega arith, (omega arith, (omega arith, tables)))))))))))))))
+    fit = (omega arith, (omega arith, (omega arith, (omega (arith, h), (record { from = le_z_yes tt; below = lt_z_yes tt; even = refl }, record { from = le_z_yes tt; below = lt_z_yes tt; even = refl }, tt, tt, (omega arith, (omega arith, (record { from = le_z_yes tt; below = lt_z_yes tt; even = refl }, record { from = le_z_yes tt; below = lt_z_yes tt; even = refl }, turn, (omega arith, (omega arith, (omega arith, (omega arith, (omega arith, (omega arith, (omega arith, (omega arith, (omega arith, (omega arith, tables))))))))))))))))))
 
 pub control_and_go_in : EachInTable (code control_and_go)
 control_and_go_in = in_table control_and_go refl tt

@@ -8,6 +8,7 @@ mod Copies
 pub mod Placement
 pub mod Appended
 mod ResetList
+mod OtherUnits
 pub mod Encoded
 pub mod PageCode
 pub mod Fetched

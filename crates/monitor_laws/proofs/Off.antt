@@ -11,13 +11,15 @@ use Rattle.device_model.specs.Rules.{ObeysRules}
 use Rattle.armv7m.specs.declared.state.ProtectionState.{ProtectionState}
 use Rattle.armv7m.specs.declared.state.FaultStatus.{FaultStatus}
 use Rattle.armv7m.specs.State.{by_mpu, is_unprivileged}
-use Rattle.armv7m.specs.System.{in_system, is_system_register, write_status}
-use Rattle.gate_steps.specs.Steps.{Steps, Store}
-use Rattle.gate_steps.specs.Core.{Core, low_register}
+use Rattle.armv7m.specs.System.{in_system, is_system_register, write_status, read_system}
+use Rattle.armv7m.proofs.ToSystem.{to_system}
+use Rattle.gate_steps.specs.Steps.{Steps, Load, Store}
+use Rattle.gate_steps.specs.Core.{Core, low_register, with_low}
+use Rattle.gate_steps.specs.Accesses.{Value, address_of, load}
 use Rattle.gate_steps.specs.Effect.{Outcome}
 use Rattle.gate_steps.specs.Safe.{Rule}
 use Rattle.gate_steps.proofs.Gives.{Open}
-use Rattle.gate_steps.proofs.Within.{GivesWithin, at_within, const_within, system_within}
+use Rattle.gate_steps.proofs.Within.{GivesWithin, at_within, const_within, value_within, system_within}
 use Rattle.monitor.specs.Opening.{set_control}
 
 -- a core by its parts
@@ -53,6 +55,15 @@ pub record Allows (i : Image) (Allowed : Rule) (handler : Bool) : Type 0 where
 pub control_written : (v : ℕ) (m : Registers) → write_register MPU_CTRL v m ≡ record m { control = v % 8 }
 unfolding write_register
 control_written v m = refl
+
+-- a register of the system into a register
+pub system_load_within : {i : Image} {Good : ProtectionState → Type 0} {Allowed : Rule} (a : ℕ) {n to base off : ℕ} {k : Steps} {ks : List Steps} {c : Core} {Q : Outcome → Type 0} → is_unprivileged c.protection ≡ false → low_register c base + 4 * off ≡ a → a % 4 ≡ 0 → a < 2 ^ 32 → in_system a ≡ true → is_system_register a ≡ true → Allowed Read c 4 a →
+    GivesWithin by_mpu i Good Allowed n k ks (with_low c to (read_system a c.protection c.status)) Q → GivesWithin by_mpu i Good Allowed (1 + n) (Load Word to base off k) ks c Q
+system_load_within {i} {Good} {Allowed} a {n} {to} {base} {off} {k} {ks} {c} {Q} u e al lt s r ok w =
+    let q : address_of c 4 base off ≡ a = omega (arith, e, lt) in
+    let v = to_system by_mpu c.protection Read a al s u r in
+    let l : load by_mpu i Word base off c ≡ Value (read_system a c.protection c.status) = rw (q, v) refl in
+    value_within (read_system a c.protection c.status) {z = Word} l (subst (λ a. Allowed Read c 4 a) (sym q) ok) w
 
 -- the unit's registers are none of the status of faults
 pub status_stays : (a v : ℕ) (u : FaultStatus) → (a ≡ MPU_CTRL) ⊎ ((a ≡ MPU_RBAR) ⊎ (a ≡ MPU_RASR)) → write_status a v u ≡ u

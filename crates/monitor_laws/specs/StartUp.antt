@@ -1,14 +1,20 @@
 -- Beyond the program's claim: only laws, proofs and functions inside the tool cite this file.
--- Start-up, of tables that are placed.
-use Rattle.std.specs.Prelude.{◌≡◌, ℕ, ◌+◌, ◌-◌, ◌%◌, ◌<◌, ◌≤◌, List, ◌++◌, length}
+-- Start-up, of tables that are placed, and on a processor with another protection unit.
+use Rattle.std.specs.Prelude.{◌≡◌, ◌≢◌, ℕ, ◌+◌, ◌-◌, ◌%◌, ◌<◌, ◌≤◌, List, ◌++◌, length, false}
 use Rattle.device_model.specs.declared.image.Image.{Image}
+use Rattle.armv7m.specs.State.{by_mpu, is_unprivileged}
 use Rattle.common_laws.specs.Lists.{Each}
+use Rattle.gate_steps.specs.Steps.{Steps}
+use Rattle.gate_steps.specs.Core.{Core}
+use Rattle.gate_steps.specs.Effect.{Halted, effect}
 use Rattle.windows.specs.Ranges.{IsInside}
 use Rattle.monitor.specs.declared.tables.InitRecord.{InitRecord}
 use Rattle.monitor.specs.declared.tables.Tables.{Tables}
 use Rattle.monitor.specs.Layout.{tables_size, area_end}
 use Rattle.monitor.specs.Area.{HasTables}
 use Rattle.monitor.specs.Placed.{Placed}
+use Rattle.monitor.specs.Constants.{Constants}
+use Rattle.monitor.specs.Reset.{reset}
 use Rattle.monitor.specs.Page.{page, stub_address}
 use Rattle.monitor.specs.Starts.{Starts}
 
@@ -33,3 +39,16 @@ pub record IsReady (i : Image) (t : Tables) : Type 0 where
 -- start-up leads to `main`
 abbrev pub ReadyImagesStart : Type 0
 ReadyImagesStart = (i : Image) (t : Tables) → IsReady i t → Starts i t (stub_address t)
+
+-- a list halts, with the protection unit and RAM as they were
+pub record HaltsUnchanged (i : Image) (s : Steps) (before : Core) (number : ℕ) : Type 0 where
+  pub after : Core
+  pub halts : effect by_mpu i s before ≡ Halted number after
+  pub protection : after.protection ≡ before.protection
+  pub ram : after.ram ≡ before.ram
+
+-- whatever the tables, and on a unit of any number of regions but theirs, of none too: start-up halts 10
+abbrev pub OtherUnitsHalt : Type 0
+OtherUnitsHalt =
+    (i : Image) (c : Constants) (before : Core) → is_unprivileged before.protection ≡ false → length before.low ≡ 8 → length before.protection.mpu.regions ≢ c.slots + 4 →
+    HaltsUnchanged i (reset c) before 10

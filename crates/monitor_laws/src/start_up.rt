@@ -1,6 +1,6 @@
-//! Start-up. The function is a law and does nothing.
+//! Start-up. Each function is a law and does nothing.
 
-ghost use Rattle.monitor_laws.specs.StartUp.{ReadyImagesStart};
+ghost use Rattle.monitor_laws.specs.StartUp.{OtherUnitsHalt, ReadyImagesStart};
 
 use armv7m::running::{shapes, templates};
 use monitor::code_size::page_is_full;
@@ -21,3 +21,9 @@ pub fn ready_images_start()
     regions_give_their_rights();
     regions_hold_their_blocks();
 }
+
+/// On a processor whose protection unit has another number of regions than the tables are for, or that has none, start-up
+/// halts with 10: it has written no register of the unit and no byte of RAM.
+pub fn other_units_halt()
+    ensures { OtherUnitsHalt }
+{}

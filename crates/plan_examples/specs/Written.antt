@@ -53,4 +53,5 @@ board =
       lowest = Largest;
       regions = 8;
       closed = false;
+      denied = [];
     }

@@ -1,8 +1,11 @@
 -- The rules that a board obeys.
-use Rattle.std.specs.Prelude.{◌≡◌, ℕ, ◌-◌, ◌%◌, ◌≤◌, ◌⊎◌}
+use Rattle.std.specs.Prelude.{◌≡◌, ℕ, ◌-◌, ◌%◌, ◌≤◌, ◌⊎◌, length}
 use Rattle.windows.specs.Ranges.{IsPowerBetween}
 use Rattle.device_model.specs.Rules.{least_stack, greatest_stack, memory_limit, last_flash_base, first_ram_base, last_ram_base, least_ram, ram_unit}
+use Rattle.common_laws.specs.Lists.{Each}
 use Rattle.plan_model.specs.declared.plan.Board.{Board}
+use Rattle.denied_ranges.specs.declared.TheConstants.{DENIED_LIMIT}
+use Rattle.denied_ranges.specs.Denied.{IsDenied}
 
 -- a multiple of 32 from 1,024 to 1,048,576: flash has a size that RAM may have
 pub record IsMemorySize (n : ℕ) : Type 0 where
@@ -11,7 +14,7 @@ pub record IsMemorySize (n : ℕ) : Type 0 where
   pub blocks : n % ram_unit ≡ 0
 
 -- flash begins at a multiple of a MiB from 0 to 0x1FE00000, RAM at one from 0x20000000 to 0x3FF00000, so that each has its own
--- MiB; the stack is a power of two from 512 to 65,536
+-- MiB; the stack is a power of two from 512 to 65,536; and at most 64 ranges of devices are denied
 pub record IsBoard (b : Board) : Type 0 where
   pub flash_aligned : b.flash_base % memory_limit ≡ 0
   pub flash_highest : b.flash_base ≤ last_flash_base
@@ -22,6 +25,8 @@ pub record IsBoard (b : Board) : Type 0 where
   pub ram_size : IsMemorySize b.ram_size
   pub stack : IsPowerBetween least_stack greatest_stack b.stack
   pub regions : (b.regions ≡ 8) ⊎ (b.regions ≡ 16)
+  pub denied : Each IsDenied b.denied
+  pub few_denied : length b.denied ≤ DENIED_LIMIT
 
 -- regions 0 to 3 of the unit are for the background, the tables, the code and the stack; the others are slots
 abbrev pub slots_of : Board → ℕ

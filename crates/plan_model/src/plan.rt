@@ -1,5 +1,6 @@
 //! A board, and where the blocks of an image lie on it.
 
+use denied_ranges::Denied;
 use list_vec::ListVec;
 
 /// A block of memory.
@@ -20,8 +21,8 @@ pub enum Lowest {
     Stack,
 }
 
-/// The memories of a board, and its protection unit.
-#[derive(Clone, Copy, PartialEq, Eq, Debug)]
+/// The memories of a board, its protection unit, and what no compartment may reach.
+#[derive(Drop)]
 pub struct Board {
     /// The first address of flash.
     pub flash_base: u32,
@@ -39,6 +40,8 @@ pub struct Board {
     pub regions: u32,
     /// Whether loads are confined as stores are.
     pub closed: bool,
+    /// The ranges of devices that no compartment may ever reach, in order of their names.
+    pub denied: ListVec<Denied>,
 }
 
 /// How much is to be placed in flash, in bytes.

@@ -26,9 +26,11 @@ use Rattle.layout.specs.Placing.{flash_refusal, ram_refusal}
 use Rattle.layout.specs.Placing as placing
 use Rattle.planning.specs.declared.planner.PlannedFirmware.{PlannedFirmware}
 use Rattle.planning.specs.declared.refusal.PlanningRefusal.{PlanningRefusal}
-use Rattle.planning.specs.declared.refusal.PlanningRefusal.TheVariants.{NoMemory, Limit, Flash, Ram}
+use Rattle.planning.specs.declared.refusal.PlanningRefusal.TheVariants.{NoMemory, Limit, Denied, Flash, Ram}
 use Rattle.planning.specs.Planned.{IsPlannedFor}
-use Rattle.planning.specs.Refusals.{AreRefused, HasNoRoom, IsPlanningRefusal, of_place}
+use Rattle.denied_plans.specs.declared.Meeting.{Meeting}
+use Rattle.denied_plans.specs.Meetings.{first_meeting, KeepsOff}
+use Rattle.planning.specs.Refusals.{AreRefused, AsksForDenied, HasNoRoom, IsPlanningRefusal, of_place}
 use Rattle.planning.specs.Laws.{PlansAreOne, PlansAreNotRefused, PlanningRefusalsAreOne}
 use Rattle.common_laws.proofs.Options.{one_some as one_passed}
 use Rattle.layout.proofs.Tried.{tried}
@@ -64,9 +66,16 @@ module _ (one : GraphsAreOne) (p : Program) (n : Needs) (g : Groups) (b : Board)
       let refused = subst (λ (f : Final). AreRefused p n f b r) same h.refused in
       unrefused p x.graph (sizes_of p n x.graph (slots_of b)) b r (subst (λ (s : Sizes). Fits p x.graph s b) k.placed.sizes k.placed.fits) refused
 
+  asks : (x : PlannedFirmware) (m : Meeting) → IsPlannedFor p n g b x → AsksForDenied p n g b m → ⊥
+  asks x m k h =
+      let same : h.graph ≡ x.graph = one p (slots_of b) (initial_graph p n g) h.graph x.graph h.final k.final in
+      let wrong : None ≡ Some m = sym k.off ∙ (sym (ap (first_meeting b.denied p) same) ∙ h.meets) in
+      cc
+
   not_refused : (x : PlannedFirmware) (r : PlanningRefusal) → IsPlannedFor p n g b x → IsPlanningRefusal p n g b r → r ≡ NoMemory
   not_refused x NoMemory k h = refl
   not_refused x (Limit w c) k h = absurd (no_limit (first_passed n g) (w, c) k.limits h)
+  not_refused x (Denied m) k h = absurd (asks x m k h)
   not_refused x (Flash c m a) k h = absurd (has_room x _ k h)
   not_refused x (Ram c m a) k h = absurd (has_room x _ k h)
 
@@ -99,6 +108,20 @@ module _ (one : GraphsAreOne) (p : Program) (n : Needs) (g : Groups) (b : Board)
   limit_or_room : (w : LimitKind) (c : ℕ) (r : PlaceRefusal) → IsPlanningRefusal p n g b (Limit w c) → HasNoRoom p n g b r → ⊥
   limit_or_room w c r h k = no_limit (first_passed n g) (w, c) k.limits h
 
+  limit_or_denied : (w : LimitKind) (c : ℕ) (m : Meeting) → IsPlanningRefusal p n g b (Limit w c) → AsksForDenied p n g b m → ⊥
+  limit_or_denied w c m h k = no_limit (first_passed n g) (w, c) k.limits h
+
+  denied_or_room : (m : Meeting) (r : PlaceRefusal) → AsksForDenied p n g b m → HasNoRoom p n g b r → ⊥
+  denied_or_room m r h k =
+      let same : h.graph ≡ k.graph = one p (slots_of b) (initial_graph p n g) h.graph k.graph h.final k.final in
+      let wrong : None ≡ Some m = sym k.off ∙ (sym (ap (first_meeting b.denied p) same) ∙ h.meets) in
+      cc
+
+  same_meeting : (m o : Meeting) → AsksForDenied p n g b m → AsksForDenied p n g b o → Denied m ≡ Denied o
+  same_meeting m o h k =
+      let same : h.graph ≡ k.graph = one p (slots_of b) (initial_graph p n g) h.graph k.graph h.final k.final in
+      ap Denied (one_passed (first_meeting b.denied p k.graph) m o (sym (ap (first_meeting b.denied p) same) ∙ h.meets) k.meets)
+
   same_room : (r s : PlaceRefusal) → HasNoRoom p n g b r → HasNoRoom p n g b s → of_place r ≡ of_place s
   same_room r s h k =
       let same : h.graph ≡ k.graph = one p (slots_of b) (initial_graph p n g) h.graph k.graph h.final k.final in
@@ -109,8 +132,16 @@ module _ (one : GraphsAreOne) (p : Program) (n : Needs) (g : Groups) (b : Board)
   same_refusal NoMemory s a d h k = absurd (a refl)
   same_refusal (Limit w c) NoMemory a d h k = absurd (d refl)
   same_refusal (Limit w c) (Limit v e) a d h k = same_limit w v c e h k
+  same_refusal (Limit w c) (Denied m) a d h k = absurd (limit_or_denied w c m h k)
   same_refusal (Limit w c) (Flash e m x) a d h k = absurd (limit_or_room w c (place.Flash e m x) h k)
   same_refusal (Limit w c) (Ram e m x) a d h k = absurd (limit_or_room w c (place.Ram e m x) h k)
+  same_refusal (Denied m) NoMemory a d h k = absurd (d refl)
+  same_refusal (Denied m) (Limit v e) a d h k = absurd (limit_or_denied v e m k h)
+  same_refusal (Denied m) (Denied o) a d h k = same_meeting m o h k
+  same_refusal (Denied m) (Flash e o y) a d h k = absurd (denied_or_room m (place.Flash e o y) h k)
+  same_refusal (Denied m) (Ram e o y) a d h k = absurd (denied_or_room m (place.Ram e o y) h k)
+  same_refusal (Flash c m x) (Denied o) a d h k = absurd (denied_or_room o (place.Flash c m x) k h)
+  same_refusal (Ram c m x) (Denied o) a d h k = absurd (denied_or_room o (place.Ram c m x) k h)
   same_refusal (Flash c m x) NoMemory a d h k = absurd (d refl)
   same_refusal (Flash c m x) (Limit v e) a d h k = absurd (limit_or_room v e (place.Flash c m x) k h)
   same_refusal (Flash c m x) (Flash e o y) a d h k = same_room (place.Flash c m x) (place.Flash e o y) h k

@@ -21,9 +21,10 @@ use Rattle.layout.specs.Placing.{flash_refusal, ram_refusal}
 use Rattle.layout.specs.Placing as placing
 use Rattle.planning.specs.declared.planner.PlannedFirmware.{PlannedFirmware}
 use Rattle.planning.specs.declared.refusal.PlanningRefusal.{PlanningRefusal}
-use Rattle.planning.specs.declared.refusal.PlanningRefusal.TheVariants.{NoMemory, Limit, Flash, Ram}
+use Rattle.planning.specs.declared.refusal.PlanningRefusal.TheVariants.{NoMemory, Limit, Denied, Flash, Ram}
 use Rattle.planning.specs.Planned.{IsPlaced, IsPlannedFor}
 use Rattle.planning.specs.Refusals.{IsRoomRefusal, IsPlanningRefusal}
+use Rattle.denied_plans.specs.Meetings.{KeepsOff}
 use Rattle.planning.proofs.Kept.{final_groups}
 use Rattle.layout.proofs.Tried.{tried}
 
@@ -55,12 +56,13 @@ placed_is p n b f s l e h = record { sizes = e; fits = fits p f s b l h; plan = 
 
 -- ---- a refusal
 
-planning_refused : (p : Program) (n : Needs) (g : Groups) (b : Board) (f : Final) (r : PlanningRefusal) → KeepsLimits n g → IsFinal p n g (slots_of b) f → IsRoomRefusal p n f b r
+planning_refused : (p : Program) (n : Needs) (g : Groups) (b : Board) (f : Final) (r : PlanningRefusal) → KeepsLimits n g → IsFinal p n g (slots_of b) f → KeepsOff b.denied p f → IsRoomRefusal p n f b r
     → IsPlanningRefusal p n g b r
-planning_refused p n g b f NoMemory l k h = tt
-planning_refused p n g b f (Limit w c) l k h = absurd h
-planning_refused p n g b f (Flash c m a) l k h = record { limits = l; graph = f; final = k; refused = h }
-planning_refused p n g b f (Ram c m a) l k h = record { limits = l; graph = f; final = k; refused = h }
+planning_refused p n g b f NoMemory l k d h = tt
+planning_refused p n g b f (Limit w c) l k d h = absurd h
+planning_refused p n g b f (Denied m) l k d h = absurd h
+planning_refused p n g b f (Flash c m a) l k d h = record { limits = l; graph = f; final = k; off = d; refused = h }
+planning_refused p n g b f (Ram c m a) l k d h = record { limits = l; graph = f; final = k; off = d; refused = h }
 
 -- ---- where no limit is passed
 
@@ -68,7 +70,7 @@ pub none_told : (o : Option (LimitKind × ℕ)) → None ≡ option_map told o �
 none_told None e = refl
 none_told (Some x) e = cc
 
-module _ (p : Program) (n : Needs) (g : Groups) (b : Board) (f : Final) (l : KeepsLimits n g) (k : IsFinal p n g (slots_of b) f) (r : Result PlannedFirmware PlanningRefusal) where
+module _ (p : Program) (n : Needs) (g : Groups) (b : Board) (f : Final) (l : KeepsLimits n g) (k : IsFinal p n g (slots_of b) f) (d : KeepsOff b.denied p f) (r : Result PlannedFirmware PlanningRefusal) where
   pub planned_is : IfOk r (λ x. x.graph ≡ f) → IfOk r (IsPlaced p n b) → IfOk r (IsPlannedFor p n g b)
   planned_is e h = by r e h
     where
@@ -78,6 +80,7 @@ module _ (p : Program) (n : Needs) (g : Groups) (b : Board) (f : Final) (l : Kee
             limits = l;
             final = subst (λ (y : Final). IsFinal p n g (slots_of b) y) (sym e) k;
             groups = ap (λ (y : Final). y.groups) e ∙ final_groups p n g (slots_of b) f k;
+            off = subst (KeepsOff b.denied p) (sym e) d;
             placed = h;
           }
       by (Err y) e h = tt
@@ -87,4 +90,4 @@ module _ (p : Program) (n : Needs) (g : Groups) (b : Board) (f : Final) (l : Kee
     where
       by : (r : Result PlannedFirmware PlanningRefusal) → IfErr r (IsRoomRefusal p n f b) → IfErr r (IsPlanningRefusal p n g b)
       by (Ok x) h = tt
-      by (Err y) h = planning_refused p n g b f y l k h
+      by (Err y) h = planning_refused p n g b f y l k d h

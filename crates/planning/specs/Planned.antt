@@ -9,6 +9,7 @@ use Rattle.plan_model.specs.CompileLimits.{KeepsLimits}
 use Rattle.plan_model.specs.FinalGraph.{IsFinal}
 use Rattle.plan_model.specs.Placement.{Fits, plan_of}
 use Rattle.code_model.specs.Planned.{sizes_of}
+use Rattle.denied_plans.specs.Meetings.{KeepsOff}
 use Rattle.planning.specs.declared.planner.PlannedFirmware.{PlannedFirmware}
 
 -- its sizes and its plan are those of its graph, and the board has room for its blocks
@@ -17,9 +18,10 @@ pub record IsPlaced (p : Program) (n : Needs) (b : Board) (x : PlannedFirmware) 
   pub fits : Fits p x.graph x.sizes b
   pub plan : x.plan ≡ plan_of p x.graph x.sizes b
 
--- and no limit is passed, and the graph is the final one of its compartments
+-- and no limit is passed, and the graph is the final one of its compartments, which asks for nothing that the board denies
 pub record IsPlannedFor (p : Program) (n : Needs) (g : Groups) (b : Board) (x : PlannedFirmware) : Type 0 where
   pub limits : KeepsLimits n g
   pub final : IsFinal p n g (slots_of b) x.graph
   pub groups : x.graph.groups ≡ g
+  pub off : KeepsOff b.denied p x.graph
   pub placed : IsPlaced p n b x

@@ -13,8 +13,10 @@ use Rattle.code_model.specs.Planned.{sizes_of}
 use Rattle.layout.specs.declared.refusal.PlaceRefusal.{PlaceRefusal}
 use Rattle.layout.specs.declared.refusal.PlaceRefusal.TheVariants as place
 use Rattle.layout.specs.Placing as placing
+use Rattle.denied_plans.specs.declared.Meeting.{Meeting}
+use Rattle.denied_plans.specs.Meetings.{first_meeting, KeepsOff}
 use Rattle.planning.specs.declared.refusal.PlanningRefusal.{PlanningRefusal}
-use Rattle.planning.specs.declared.refusal.PlanningRefusal.TheVariants.{NoMemory, Limit, Flash, Ram}
+use Rattle.planning.specs.declared.refusal.PlanningRefusal.TheVariants.{NoMemory, Limit, Denied, Flash, Ram}
 
 -- a refusal of placement
 abbrev pub of_place : PlaceRefusal → PlanningRefusal
@@ -26,17 +28,26 @@ of_place (place.Ram c m a) = Ram c m a
 abbrev pub AreRefused : Program → Needs → Final → Board → PlaceRefusal → Type 0
 AreRefused p n f b r = placing.placed p f (sizes_of p n f (slots_of b)) b ≡ Err r
 
--- no limit is passed, and the blocks of the final graph are refused
+-- no limit is passed, and this is the first range that the final graph asks for and the board denies
+pub record AsksForDenied (p : Program) (n : Needs) (g : Groups) (b : Board) (m : Meeting) : Type 0 where
+  pub limits : KeepsLimits n g
+  pub graph : Final
+  pub final : IsFinal p n g (slots_of b) graph
+  pub meets : first_meeting b.denied p graph ≡ Some m
+
+-- no limit is passed, the final graph asks for nothing that the board denies, and its blocks are refused
 pub record HasNoRoom (p : Program) (n : Needs) (g : Groups) (b : Board) (r : PlaceRefusal) : Type 0 where
   pub limits : KeepsLimits n g
   pub graph : Final
   pub final : IsFinal p n g (slots_of b) graph
+  pub off : KeepsOff b.denied p graph
   pub refused : AreRefused p n graph b r
 
 -- a refusal for want of memory says nothing else
 abbrev pub IsPlanningRefusal : Program → Needs → Groups → Board → PlanningRefusal → Type 0
 IsPlanningRefusal p n g b NoMemory = Unit {0}
 IsPlanningRefusal p n g b (Limit k c) = option_map told (first_passed n g) ≡ Some (k, c)
+IsPlanningRefusal p n g b (Denied m) = AsksForDenied p n g b m
 IsPlanningRefusal p n g b (Flash c m a) = HasNoRoom p n g b (place.Flash c m a)
 IsPlanningRefusal p n g b (Ram c m a) = HasNoRoom p n g b (place.Ram c m a)
 
@@ -44,5 +55,6 @@ IsPlanningRefusal p n g b (Ram c m a) = HasNoRoom p n g b (place.Ram c m a)
 abbrev pub IsRoomRefusal : Program → Needs → Final → Board → PlanningRefusal → Type 0
 IsRoomRefusal p n f b NoMemory = Unit {0}
 IsRoomRefusal p n f b (Limit k c) = ⊥
+IsRoomRefusal p n f b (Denied m) = ⊥
 IsRoomRefusal p n f b (Flash c m a) = AreRefused p n f b (place.Flash c m a)
 IsRoomRefusal p n f b (Ram c m a) = AreRefused p n f b (place.Ram c m a)

@@ -11,6 +11,7 @@ ghost use Rattle.planning.specs.Refusals.{IsRoomRefusal, IsPlanningRefusal};
 use crate::refusal::{PlanningRefusal, unplaced};
 use code_sizes::sizes;
 use compile_limits::passed;
+use denied_plans::first_meeting;
 use ir_program::program::Program;
 use layout::place::place;
 use plan_model::graph::Final;
@@ -95,6 +96,9 @@ fn planned_within_limits(
     ensures refused { IfErr result (IsPlanningRefusal (program_of program.now) needs.now groups board.now) }
 {
     let graph = final_graph(alloc, program, needs, groups, slots(board))?;
+    if let Some(meeting) = first_meeting(board.denied.as_slice(), program, &graph) {
+        return Err(PlanningRefusal::Denied(meeting));
+    }
     placed(alloc, program, needs, graph, board)
 }
 
@@ -103,7 +107,8 @@ fn planned_within_limits(
 ///
 /// # Errors
 ///
-/// There is no memory, a limit of what is compiled is passed, or the blocks have more bytes than a memory of the board.
+/// There is no memory, a limit of what is compiled is passed, an address that the firmware asks for is one that the board denies, or the
+/// blocks have more bytes than a memory of the board.
 pub fn planned(
     alloc: Global,
     program: &Program,

@@ -3,11 +3,12 @@
 ghost use Rattle.std.specs.Prelude.{◌≡◌};
 ghost use Rattle.planning.specs.Refusals.{of_place};
 
+use denied_plans::Meeting;
 use layout::refusal::PlaceRefusal;
 use plan_model::limits::LimitKind;
 use std::alloc::AllocError;
 
-/// Why a firmware is not planned for a board: limits are tested first, then flash, then RAM.
+/// Why a firmware is not planned for a board: limits are tested first, then what the board denies, then flash, then RAM.
 #[derive(Clone, Copy, PartialEq, Eq, Debug)]
 pub enum PlanningRefusal {
     /// Memory ran out, or a number passes 32 bits, as none of a checked firmware does.
@@ -19,6 +20,8 @@ pub enum PlanningRefusal {
         /// The count that passes it.
         count: u32,
     },
+    /// A range of addresses that the firmware asks for meets one that the board denies: the first that does.
+    Denied(Meeting),
     /// The blocks of flash have more bytes than flash.
     Flash {
         /// The first compartment with the largest code block.

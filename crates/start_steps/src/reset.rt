@@ -1,4 +1,5 @@
-//! Start-up: initial words, the monitor's block, the regions of the compartment of `main`, and the branch to it.
+//! Start-up: the test of the protection unit, initial words, the monitor's block, the regions of the compartment of `main`, and the
+//! branch to it.
 
 ghost use Rattle.std.specs.Prelude.{◌≡◌, ◌≤◌, OnOk, IfOk};
 ghost use Rattle.gate_steps.specs.Lists.{steps_of};
@@ -6,8 +7,8 @@ ghost use Rattle.monitor.specs.Reset as start;
 ghost use Rattle.step_lists.specs.Made.{Appends, Ends, constants_of};
 
 use armv7m::{CCR, SHCSR};
-use gate_steps::GateOp;
-use mpu_model::MPU_RBAR;
+use gate_steps::{GateCond, GateOp};
+use mpu_model::{MPU_RBAR, MPU_TYPE};
 use std::alloc::{AllocError, Global};
 use step_lists::opening::{set_control, tables_of};
 use step_lists::{Numbers, StepList};
@@ -49,6 +50,17 @@ fn main_words(list: &mut StepList, c: &Numbers) -> Result<(), AllocError>
 {
     list.constant(5, c.main_compartment)?;
     list.constant(7, c.main)?;
+    Ok(())
+}
+
+/// The protection unit has as many regions as there are slots, and four more; else the machine halts with 10.
+fn unit_is_there(list: &mut StepList, c: &Numbers) -> Result<(), AllocError>
+    ensures { OnOk result (Appends list.old list.new (start.unit_is_there (constants_of c.now))) }
+{
+    list.constant(0, MPU_TYPE)?;
+    list.load_word(6, 0, 0)?;
+    list.constant(1, 256 * (c.slots as u32 + 4))?;
+    list.must(GateCond::Eq, 6, 1, 10)?;
     Ok(())
 }
 
@@ -128,6 +140,7 @@ pub fn start_up(alloc: Global, c: &Numbers) -> Result<StepList, AllocError>
 {
     let mut list = StepList::new(alloc);
     main_words(&mut list, c)?;
+    unit_is_there(&mut list, c)?;
     copied(&mut list, c)?;
     first_block(&mut list, c)?;
     traps(&mut list)?;

@@ -10,5 +10,6 @@ returns c =
     ∙ c.in_ok-traps.ensures _
     ∙ c.in_ok-first_block.ensures _
     ∙ c.in_ok-copied.ensures _
+    ∙ c.in_ok-unit_is_there.ensures _
     ∙ c.in_ok-main_words.ensures _
     ∙ begins c.new-list.result _ c.new-list.ensures

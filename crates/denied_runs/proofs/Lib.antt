@@ -1,0 +1,3 @@
+mod Devices
+mod Slots
+mod KeptOff
