@@ -1,37 +1,21 @@
 //! The code of a whole function.
 
-ghost use Rattle.std.specs.Prelude.{◌≡◌, ◌+◌, ◌%◌, ◌<◌, ◌^◌, ◌++◌, length, take, drop, replicate, None, IfSome, OnOk};
-ghost use Rattle.std.specs.List.{All};
+ghost use Rattle.std.specs.Prelude.{◌≡◌, ◌+◌, ◌%◌, ◌<◌, ◌^◌, ◌++◌, length, take, drop, replicate, None, OnOk};
 ghost use Rattle.std.proofs.Math.ListN.{get_or};
 ghost use Rattle.thumb_asm.specs.Assembly.{here, total};
 ghost use Rattle.ir_model.specs.Resolved.{func_at};
 ghost use Rattle.ir_program.specs.Seen.{program_of};
-ghost use Rattle.code_model.specs.Places as definition;
 ghost use Rattle.code_model.specs.Places.{entry_address};
 ghost use Rattle.code_model.specs.Fitting.{FuncFits};
 ghost use Rattle.lower.specs.Subjects.{func_of, first_label, IsSubject, HasLabels, block_items, rest_items, rest_labels};
 ghost use Rattle.code_model.specs.Emitted.{with_block, with_function, size_in, HasRoom, AreNear};
-ghost use Rattle.plan_model.specs.CompileLimits.{site_limit};
 
 use crate::subject::{Subject, make_subject};
 use crate::templates::{put_entry, put_exit, put_inst};
-use code_model::{CallSite, Places};
+use code_model::Places;
 use ir_program::program::Program;
 use std::alloc::{AllocError, Global};
 use thumb_asm::Asm;
-
-/// The number of the site of the call at a place, if it may go to another compartment.
-pub(crate) fn site_in(sites: &[CallSite], block: usize, place: usize) -> Option<u32>
-    ensures exact { result ≡ definition.site_in sites.now block place }
-    ensures small { All (λ (s : CallSite). s.number < site_limit) sites.now → IfSome result (λ s. s < site_limit) }
-{
-    for site in sites {
-        if site.block as usize == block && site.place as usize == place {
-            return Some(site.number);
-        }
-    }
-    None
-}
 
 /// A block.
 fn put_block(asm: &mut Asm, subject: &Subject, block: usize) -> Result<(), AllocError>
@@ -45,10 +29,9 @@ fn put_block(asm: &mut Asm, subject: &Subject, block: usize) -> Result<(), Alloc
     ensures { OnOk result (asm.new ≡ with_block asm.old (first_label subject.now.labels.items + block) (block_items subject.now (here asm.old) block)) }
 {
     let sequence = subject.sequence(block);
-    let sites = subject.places.sites.as_slice();
     asm.put_label(subject.label(block));
     for (place, operation) in sequence.operations.as_slice().iter().enumerate() {
-        put_inst(asm, subject, site_in(sites, block, place), operation)?;
+        put_inst(asm, subject, block, place, operation)?;
     }
     put_exit(asm, subject, sequence.exit)
 }

@@ -6,12 +6,14 @@ ghost use Rattle.ir_model.specs.Resolved.{func_at};
 ghost use Rattle.ir_program.specs.Seen.{known_of, routine_of, sequence_of, program_of};
 ghost use Rattle.std.proofs.Math.ListN.{get_or};
 ghost use Rattle.code_model.specs.FrameShape.{frame_shape};
+ghost use Rattle.code_model.specs.Places as definition;
 ghost use Rattle.code_model.specs.Places.{lends_among};
+ghost use Rattle.plan_model.specs.CompileLimits.{site_limit};
 ghost use Rattle.lower.specs.Subjects.{func_of, block_in, lend_of, labels_from, first_label, IsSubject, IsSmallLend};
 ghost use Rattle.code_model.specs.Fitting.{FuncFits};
 
 use crate::frame::{frame_words, local_starts};
-use code_model::Places;
+use code_model::{CallSite, Places};
 use ir_program::program::{Program, Routine, Sequence};
 use std::alloc::{AllocError, Global};
 use thumb_asm::{Asm, Label};
@@ -133,7 +135,29 @@ pub(crate) fn make_subject<'a>(
     })
 }
 
+/// The number of the site of the call at a place, if it may go to another compartment.
+fn site_in(sites: &[CallSite], block: usize, place: usize) -> Option<u32>
+    ensures exact { result ≡ definition.site_in sites.now block place }
+    ensures small { All (λ (s : CallSite). s.number < site_limit) sites.now → IfSome result (λ s. s < site_limit) }
+{
+    for site in sites {
+        if site.block as usize == block && site.place as usize == place {
+            return Some(site.number);
+        }
+    }
+    None
+}
+
 impl Subject<'_> {
+    /// The number of the site of the call at a place, if it may go to another compartment.
+    pub(crate) fn site(&self, block: usize, place: usize) -> Option<u32>
+        requires { IsSubject self.now }
+        ensures exact { result ≡ definition.site_in self.now.places.now.sites block place }
+        ensures small { IfSome result (λ s. s < site_limit) }
+    {
+        site_in(self.places.sites.as_slice(), block, place)
+    }
+
     /// A block.
     pub(crate) fn sequence(&self, block: usize) -> &Sequence<'_>
         requires { block < length (func_of self.now).blocks }

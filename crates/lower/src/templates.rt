@@ -1,17 +1,17 @@
 //! The code of each instruction and of each block's end.
 
-ghost use Rattle.std.specs.Prelude.{◌≡◌, ◌+◌, ◌%◌, ◌<◌, length, IfSome, OnOk};
+ghost use Rattle.std.specs.Prelude.{◌≡◌, ◌+◌, ◌%◌, ◌<◌, length, OnOk};
 ghost use Rattle.thumb_asm.specs.Assembly.{here, total};
 ghost use Rattle.ir_program.specs.Seen.{target_of, exit_of};
 ghost use Rattle.ir_model.specs.Resolved as resolved;
 ghost use Rattle.code_model.specs.Words.{plain};
 ghost use Rattle.code_model.specs.Addresses as address;
+ghost use Rattle.code_model.specs.Places.{site_in};
 ghost use Rattle.code_model.specs.Templates as template;
 ghost use Rattle.code_model.specs.Fitting.{InstFits, TermFits};
 ghost use Rattle.lower.specs.Subjects.{func_of, inst_of, items_of, branch_items, first_label, IsSubject, HasLabels};
 ghost use Rattle.code_model.specs.FrameShape.{frame_shape};
 ghost use Rattle.code_model.specs.Emitted.{with_more, HasRoom, AreNear};
-ghost use Rattle.plan_model.specs.CompileLimits.{site_limit};
 
 use crate::addresses::{put_elem, put_field, put_load, put_local_address, put_store};
 use crate::calls::{put_call, put_icall};
@@ -45,21 +45,21 @@ fn put_addr(asm: &mut Asm, subject: &Subject, to: usize, of: Target) -> Result<(
     }
 }
 
-/// An instruction; `site` is the number of the call's site, where it is a call that may go to another compartment.
+/// The instruction at a place of a block. Where it is a call, the number of its site is looked up.
 #[tactic(auto, unfolding(code_model::specs::Templates::inst_items))]
 pub(crate) fn put_inst(
     asm: &mut Asm,
     subject: &Subject,
-    site: Option<u32>,
+    block: usize,
+    place: usize,
     operation: &Operation,
 ) -> Result<(), AllocError>
     requires subject { IsSubject subject.now }
     requires fits { InstFits subject.now.places.now (func_of subject.now) (inst_of subject.now operation.now) }
-    requires site { IfSome site (λ s. s < site_limit) }
     requires even { here asm.old % 2 ≡ 0 }
-    requires near { AreNear (here asm.old) (here asm.old + total (items_of subject.now (here asm.old) site (inst_of subject.now operation.now))) subject.now.places.now.entries }
-    requires room { HasRoom asm.old (items_of subject.now (here asm.old) site (inst_of subject.now operation.now)) }
-    ensures { OnOk result (asm.new ≡ with_more asm.old (items_of subject.now (here asm.old) site (inst_of subject.now operation.now))) }
+    requires near { AreNear (here asm.old) (here asm.old + total (items_of subject.now (here asm.old) (site_in subject.now.places.now.sites block place) (inst_of subject.now operation.now))) subject.now.places.now.entries }
+    requires room { HasRoom asm.old (items_of subject.now (here asm.old) (site_in subject.now.places.now.sites block place) (inst_of subject.now operation.now)) }
+    ensures { OnOk result (asm.new ≡ with_more asm.old (items_of subject.now (here asm.old) (site_in subject.now.places.now.sites block place) (inst_of subject.now operation.now))) }
 {
     match operation {
         Operation::Const { to, value } => put_const(asm, *to, *value),
@@ -82,9 +82,13 @@ pub(crate) fn put_inst(
         Operation::Store { to, from, ty } => put_store(asm, *to, *from, *ty),
         Operation::Call { to, func, args } => {
             let entry = subject.places.entries.as_slice()[*func as usize];
+            let site = subject.site(block, place);
             put_call(asm, entry, site, *to, args.as_slice())
         }
-        Operation::ICall { to, func, args } => put_icall(asm, *func, site, *to, args.as_slice()),
+        Operation::ICall { to, func, args } => {
+            let site = subject.site(block, place);
+            put_icall(asm, *func, site, *to, args.as_slice())
+        }
     }
 }
 

@@ -1,2 +1,5 @@
 pub mod GroupPlaces
+mod Runs
+mod WordBits
+mod Cuts
 mod RowSteps

@@ -1,26 +1,23 @@
 -- One list among others.
-use Rattle.std.proofs.Common.{◌≡◌, ℕ, zero, suc, ◌<◌, Bool, true, false, List, [], ◌∷◌, ◌++◌, length, get_or, set, refl, sym, ap, ◌∙◌, arith, if◌then◌else◌, nat_eq}
-use Rattle.std.specs.HashSet.{HashSet}
-use Rattle.std.proofs.lemmas.List.{map-set}
-use Rattle.indexmap.specs.IndexSet.{insert_key}
-use Rattle.numbered_lists.specs.Rows.{Lists, lists_of, row, has, added}
-
-pub row_is : {S : Type 0} (xs : List (HashSet ℕ S)) (n : ℕ) (y : HashSet ℕ S) → n < length (lists_of xs) → y ≡ get_or xs n y → row (lists_of xs) n ≡ y.keys
-row_is [] n y l e = absurd (omega arith)
-row_is {S = S} (x ∷ xs) zero y l e = ap (λ (z : HashSet ℕ S). z.keys) (sym e)
-row_is (x ∷ xs) (suc n) y l e = row_is xs n y (omega arith) e
+use Rattle.std.proofs.Common.{◌≡◌, ℕ, zero, suc, ◌<◌, Bool, true, false, List, [], ◌∷◌, ◌++◌, length, get_or, set, refl, sym, ap, ◌∙◌, arith, if◌then◌else◌}
+use Rattle.numbered_lists.specs.Rows.{Lists, row, has, put, added}
 
 pub set_row : (rows : Lists) (n : ℕ) → set rows n (row rows n) ≡ rows
 set_row [] n = refl
 set_row (x ∷ xs) zero = refl
 set_row (x ∷ xs) (suc n) = ap (λ ys. x ∷ ys) (set_row xs n)
 
-pub kept : {S : Type 0} (xs : List (HashSet ℕ S)) (n : ℕ) (y w : HashSet ℕ S) → n < length (lists_of xs) → y ≡ get_or xs n y → w.keys ≡ y.keys → lists_of (set xs n w) ≡ lists_of xs
-kept {S = S} xs n y w l e f = map-set (λ (x : HashSet ℕ S). x.keys) xs n w ∙ (ap (set (lists_of xs) n) (f ∙ sym (row_is xs n y l e)) ∙ set_row (lists_of xs) n)
+pub row_is : (rows : Lists) (n : ℕ) (y : List ℕ) → n < length rows → y ≡ get_or rows n y → y ≡ row rows n
+row_is [] n y l e = absurd (omega arith)
+row_is (x ∷ xs) zero y l e = e
+row_is (x ∷ xs) (suc n) y l e = row_is xs n y (omega arith) e
 
-pub put : {S : Type 0} (xs : List (HashSet ℕ S)) (n o : ℕ) (y w : HashSet ℕ S) → n < length (lists_of xs) → y ≡ get_or xs n y → w.keys ≡ insert_key nat_eq y.keys o → lists_of (set xs n w) ≡ added (lists_of xs) n o
-put {S = S} xs n o y w l e f = map-set (λ (x : HashSet ℕ S). x.keys) xs n w ∙ (ap (set (lists_of xs) n) (f ∙ ap (λ k. insert_key nat_eq k o) (sym (row_is xs n y l e))) ∙ pick (has o (row (lists_of xs) n)))
+pub put_row : (rows : Lists) (n o : ℕ) (y w : List ℕ) → n < length rows → y ≡ get_or rows n y → w ≡ put y o → set rows n w ≡ added rows n o
+put_row rows n o y w l e f = ap (set rows n) (f ∙ ap (λ k. put k o) (row_is rows n y l e)) ∙ pick (has o (row rows n))
   where
-    pick : (b : Bool) → set (lists_of xs) n (if b then row (lists_of xs) n else row (lists_of xs) n ++ o ∷ []) ≡ (if b then lists_of xs else set (lists_of xs) n (row (lists_of xs) n ++ o ∷ []))
-    pick true = set_row (lists_of xs) n
+    pick : (b : Bool) → set rows n (if b then row rows n else row rows n ++ o ∷ []) ≡ (if b then rows else set rows n (row rows n ++ o ∷ []))
+    pick true = set_row rows n
     pick false = refl
+
+pub kept_row : (rows : Lists) (n : ℕ) (y w : List ℕ) → n < length rows → y ≡ get_or rows n y → w ≡ y → set rows n w ≡ rows
+kept_row rows n y w l e f = ap (set rows n) (f ∙ row_is rows n y l e) ∙ set_row rows n

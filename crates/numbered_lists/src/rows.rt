@@ -3,22 +3,23 @@
 ghost use Rattle.std.specs.Prelude.{◌≡◌, ◌<◌, ◌≤◌, [], length, not, replicate, slice_get, IfOk, OnOk, OnErr};
 ghost use Rattle.numbered_lists.specs.Rows.{has, row, added};
 
-use indexmap::IndexSet;
+use crate::bits::after;
+use crate::row::Row;
 use std::alloc::{AllocError, Global};
 use std::marker::Model;
 
-/// Lists of numbers without repeats, by the numbers of the lists. Items are found by hashing.
+/// Lists of numbers without repeats, by the numbers of the lists. An item of a long list is found by its bit.
 #[derive(Drop)]
 pub struct Rows {
-    rows: Vec<IndexSet<u32>>,
+    rows: Vec<Row>,
 }
 
 impl Model for Rows {
-    ghost use Rattle.numbered_lists.specs.Rows.{Lists, lists_of};
+    ghost use Rattle.numbered_lists.specs.Rows.{Lists};
 
     ghost Value = { Lists };
 
-    ghost view = { λ r. lists_of r.rows.items };
+    ghost view = { λ r. r.rows.items };
 }
 
 impl Rows {
@@ -32,7 +33,7 @@ impl Rows {
     {
         let mut rows = Vec::new(alloc);
         for _ in 0..count {
-            rows.push(IndexSet::new(alloc))?;
+            rows.push(Row::new(alloc))?;
         }
         Ok(Rows { rows })
     }
@@ -48,10 +49,7 @@ impl Rows {
         ensures added { OnOk result (self.new ≡ added self.old list item) }
         ensures kept { OnErr result (self.new ≡ self.old) }
     {
-        let Ok(is_new) = self.rows[list as usize].insert(item) else {
-            return Err(AllocError);
-        };
-        Ok(is_new)
+        self.rows[list as usize].add(item)
     }
 
     /// The item at a place of a list; none where the list has no such place.
@@ -59,7 +57,7 @@ impl Rows {
         requires { list < length self.now }
         ensures { result ≡ slice_get (row self.now list) place }
     {
-        self.rows[list as usize].get_index(place as usize).copied()
+        self.rows[list as usize].get(place as usize)
     }
 
     /// Whether a list has an item.
@@ -67,15 +65,25 @@ impl Rows {
         requires { list < length self.now }
         ensures { result ≡ has item (row self.now list) }
     {
-        self.rows[list as usize].contains(&item)
+        self.rows[list as usize].contains(item)
     }
 
     /// The items of a list.
-    pub fn items(&self, list: usize) -> &[u32]
+    ///
+    /// # Errors
+    ///
+    /// There is no memory for them, or there are 2^32 or more.
+    pub fn items(&self, alloc: Global, list: usize) -> Result<Vec<u32>, AllocError>
         requires { list < length self.now }
-        ensures { result.now ≡ row self.now list }
+        ensures { IfOk result (λ items. items.items ≡ row self.now list) }
     {
-        self.rows[list].as_slice()
+        let mut items = Vec::new(alloc);
+        let mut place: u32 = 0;
+        while let Some(item) = self.rows[list].get(place as usize) {
+            items.push(item)?;
+            place = after(place)?;
+        }
+        Ok(items)
     }
 
     /// How many lists there are.

@@ -43,7 +43,8 @@ pub(crate) fn finish(alloc: Global, program: &Program, lists: &Rows) -> Result<P
     let table = numbering.all_objects(alloc)?;
     let mut rows = Vec::new(alloc);
     for node in 0..lists.len() {
-        let objects = named(alloc, table.as_slice(), lists.items(node))?;
+        let places = lists.items(alloc, node)?;
+        let objects = named(alloc, table.as_slice(), places.as_slice())?;
         rows.push(ListVec::new(objects))?;
     }
     Ok(PointsTo::new(numbering, rows))

@@ -1,6 +1,6 @@
-//! Which compartments may write and read which objects, by the needs of their functions.
+//! Which compartments may write and read which objects, and use which peripherals, by the needs of their functions.
 #![tactic(auto)]
 
 mod reach;
 
-pub use reach::{reaches, reads, writes};
+pub use reach::{reaches, reads, uses, writes};

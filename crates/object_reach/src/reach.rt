@@ -2,6 +2,7 @@
 
 ghost use Rattle.std.specs.Prelude.{◌≡◌, ◌<◌, ◌&&◌, ◌||◌, nat_eq, length};
 ghost use Rattle.plan_model.specs.Groups as sets;
+ghost use Rattle.plan_model.specs.Lists.{has};
 ghost use Rattle.plan_model.specs.Needs.{has_object, need_of};
 
 use ir_model::object::ObjId;
@@ -85,4 +86,30 @@ pub fn reaches(needs: &Needs, groups: &Groups, compartment: u32, object: &ObjId)
     ensures { result ≡ (sets.writes needs.now groups.now compartment object.now || sets.reads needs.now groups.now compartment object.now) }
 {
     writes(needs, groups, compartment, object) || reads(needs, groups, compartment, object)
+}
+
+/// Whether a function stands in a compartment and may use a peripheral.
+fn uses_there(needs: &Needs, groups: &Groups, compartment: u32, periph: u32, func: usize) -> bool
+    requires each { length groups.now.of ≡ length needs.now.funcs }
+    requires func { func < length groups.now.of }
+    ensures { result ≡ (nat_eq (sets.compartment_of groups.now func) compartment && has (need_of needs.now func).periphs periph) }
+{
+    groups.of.as_slice()[func] == compartment
+        && needs.funcs.as_slice()[func]
+            .periphs
+            .as_slice()
+            .contains(&periph)
+}
+
+/// Whether a function of a compartment may use a peripheral.
+pub fn uses(needs: &Needs, groups: &Groups, compartment: u32, periph: u32) -> bool
+    requires { length groups.now.of ≡ length needs.now.funcs }
+    ensures { result ≡ sets.uses needs.now groups.now compartment periph }
+{
+    for func in 0..groups.of.len() {
+        if uses_there(needs, groups, compartment, periph, func) {
+            return true;
+        }
+    }
+    false
 }

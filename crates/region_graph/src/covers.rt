@@ -1,44 +1,18 @@
 //! Covers: the windows of the peripherals that compartments use.
 
-ghost use Rattle.std.specs.Prelude.{◌≡◌, ◌<◌, ◌&&◌, nat_eq, length, map, filter, IfOk};
+ghost use Rattle.std.specs.Prelude.{◌≡◌, length, map, filter, IfOk};
 ghost use Rattle.plan_model.specs.Groups as sets;
 ghost use Rattle.plan_model.specs.InitialGraph as initial;
-ghost use Rattle.plan_model.specs.Lists.{numbers_below, has};
-ghost use Rattle.plan_model.specs.Needs.{need_of};
+ghost use Rattle.plan_model.specs.Lists.{numbers_below};
 ghost use Rattle.ir_program.specs.Seen.{program_of};
 
 use ir_program::program::Program;
 use list_vec::ListVec;
+use object_reach::uses;
 use plan_model::graph::Cover;
 use plan_model::groups::Groups;
 use plan_model::needs::Needs;
 use std::alloc::{AllocError, Global};
-
-/// Whether a function stands in a compartment and may use a peripheral.
-fn uses_there(needs: &Needs, groups: &Groups, compartment: u32, periph: u32, func: usize) -> bool
-    requires each { length groups.now.of ≡ length needs.now.funcs }
-    requires func { func < length groups.now.of }
-    ensures { result ≡ (nat_eq (sets.compartment_of groups.now func) compartment && has (need_of needs.now func).periphs periph) }
-{
-    groups.of.as_slice()[func] == compartment
-        && needs.funcs.as_slice()[func]
-            .periphs
-            .as_slice()
-            .contains(&periph)
-}
-
-/// Whether a function of a compartment may use a peripheral.
-fn uses(needs: &Needs, groups: &Groups, compartment: u32, periph: u32) -> bool
-    requires { length groups.now.of ≡ length needs.now.funcs }
-    ensures { result ≡ sets.uses needs.now groups.now compartment periph }
-{
-    for func in 0..groups.of.len() {
-        if uses_there(needs, groups, compartment, periph, func) {
-            return true;
-        }
-    }
-    false
-}
 
 /// The windows of the peripherals that a compartment uses, in order of declaration.
 fn windows(

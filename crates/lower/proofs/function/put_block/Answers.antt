@@ -1,8 +1,7 @@
-use Rattle.std.proofs.Common.{◌∙◌, List, length, get_or, ap, arith}
+use Rattle.std.proofs.Common.{refl, ◌∙◌, List, length, get_or, ap, arith}
 use Rattle.ir_program.specs.declared.program.Operation.{Operation}
 use Rattle.thumb_asm.specs.declared.item.Item.{Item}
 use Rattle.thumb_asm.specs.Assembly.{here}
-use Rattle.code_model.specs.declared.places.CallSite.{CallSite}
 use Rattle.code_model.specs.Places.{site_in}
 use Rattle.lower.specs.Subjects.{func_of, first_label, block_in, inst_of, items_of}
 use Rattle.lower.proofs.Blocks.{code_is, count_is, inst_fits, piece_room, piece_near, rest_room, rest_near, rest_whole, rest_even}
@@ -21,9 +20,9 @@ put_inst-requires-clause-near c =
     let a = c.loop-place.asm in
     let o = c.operation-item.result in
     let x = c.sequence-sequence.result.now in
-    let code = code_is s b x c.sequence-sequence.ensures k o (let l = ap length c.as_slice-operation-items.ensures in omega arith) (c.operation-item.is ∙ ap (λ (xs : List Operation). get_or xs c.loop-place.place c.operation-item.result) c.as_slice-operation-items.ensures) (here a) c.site_in.result (c.site_in.ensures.exact ∙ ap (λ (xs : List CallSite). site_in xs c.args.block c.loop-place.place) c.as_slice-sites.ensures) in
+    let code = code_is s b x c.sequence-sequence.ensures k o (let l = ap length c.as_slice-operation-items.ensures in omega arith) (c.operation-item.is ∙ ap (λ (xs : List Operation). get_or xs c.loop-place.place c.operation-item.result) c.as_slice-operation-items.ensures) (here a) (site_in s.places.now.sites b k) refl in
     let more = count_is s b x c.sequence-sequence.ensures k o (let l = ap length c.as_slice-operation-items.ensures in omega arith) (c.operation-item.is ∙ ap (λ (xs : List Operation). get_or xs c.loop-place.place c.operation-item.result) c.as_slice-operation-items.ensures) in
-    piece_near (func_of s) s.places.now (first_label s.labels.items) a b k (block_in s b).insts (block_in s b).term more (items_of s (here a) c.site_in.result (inst_of s o)) code s.places.now.entries c.loop-place.invariant.near
+    piece_near (func_of s) s.places.now (first_label s.labels.items) a b k (block_in s b).insts (block_in s b).term more (items_of s (here a) (site_in s.places.now.sites b k) (inst_of s o)) code s.places.now.entries c.loop-place.invariant.near
 
 pub put_inst-requires-clause-room : goal.put_inst-requires-clause-room
 put_inst-requires-clause-room c =
@@ -33,9 +32,9 @@ put_inst-requires-clause-room c =
     let a = c.loop-place.asm in
     let o = c.operation-item.result in
     let x = c.sequence-sequence.result.now in
-    let code = code_is s b x c.sequence-sequence.ensures k o (let l = ap length c.as_slice-operation-items.ensures in omega arith) (c.operation-item.is ∙ ap (λ (xs : List Operation). get_or xs c.loop-place.place c.operation-item.result) c.as_slice-operation-items.ensures) (here a) c.site_in.result (c.site_in.ensures.exact ∙ ap (λ (xs : List CallSite). site_in xs c.args.block c.loop-place.place) c.as_slice-sites.ensures) in
+    let code = code_is s b x c.sequence-sequence.ensures k o (let l = ap length c.as_slice-operation-items.ensures in omega arith) (c.operation-item.is ∙ ap (λ (xs : List Operation). get_or xs c.loop-place.place c.operation-item.result) c.as_slice-operation-items.ensures) (here a) (site_in s.places.now.sites b k) refl in
     let more = count_is s b x c.sequence-sequence.ensures k o (let l = ap length c.as_slice-operation-items.ensures in omega arith) (c.operation-item.is ∙ ap (λ (xs : List Operation). get_or xs c.loop-place.place c.operation-item.result) c.as_slice-operation-items.ensures) in
-    piece_room (func_of s) s.places.now (first_label s.labels.items) a b k (block_in s b).insts (block_in s b).term more (items_of s (here a) c.site_in.result (inst_of s o)) code c.loop-place.invariant.room
+    piece_room (func_of s) s.places.now (first_label s.labels.items) a b k (block_in s b).insts (block_in s b).term more (items_of s (here a) (site_in s.places.now.sites b k) (inst_of s o)) code c.loop-place.invariant.room
 
 pub loop-place-preserved : goal.loop-place-preserved
 loop-place-preserved c =
@@ -48,9 +47,9 @@ loop-place-preserved c =
     let a = c.loop-place.asm in
     let o = c.operation-item.result in
     let x = c.sequence-sequence.result.now in
-    let code = code_is s b x c.sequence-sequence.ensures k o (let l = ap length c.as_slice-operation-items.ensures in omega arith) (c.operation-item.is ∙ ap (λ (xs : List Operation). get_or xs c.loop-place.place c.operation-item.result) c.as_slice-operation-items.ensures) (here a) c.site_in.result (c.site_in.ensures.exact ∙ ap (λ (xs : List CallSite). site_in xs c.args.block c.loop-place.place) c.as_slice-sites.ensures) in
+    let code = code_is s b x c.sequence-sequence.ensures k o (let l = ap length c.as_slice-operation-items.ensures in omega arith) (c.operation-item.is ∙ ap (λ (xs : List Operation). get_or xs c.loop-place.place c.operation-item.result) c.as_slice-operation-items.ensures) (here a) (site_in s.places.now.sites b k) refl in
     let more = count_is s b x c.sequence-sequence.ensures k o (let l = ap length c.as_slice-operation-items.ensures in omega arith) (c.operation-item.is ∙ ap (λ (xs : List Operation). get_or xs c.loop-place.place c.operation-item.result) c.as_slice-operation-items.ensures) in
-    let piece : List Item = items_of s (here a) c.site_in.result (inst_of s o) in
+    let piece : List Item = items_of s (here a) (site_in s.places.now.sites b k) (inst_of s o) in
     let is = (block_in s b).insts in
     let t = (block_in s b).term in
     let put = c.in_ok-put_inst.ensures in

@@ -1,4 +1,4 @@
-use Rattle.std.proofs.Common.{◌≡◌, sym, subst, arith}
+use Rattle.std.proofs.Common.{◌≡◌, ◌∙◌, sym, subst, arith}
 use Rattle.ir_laws.specs.Sets.{Node}
 use Rattle.ir_model.specs.State.{Object}
 use Rattle.ir_program.specs.Seen.{program_of}
@@ -10,8 +10,8 @@ use Rattle.object_pairs.proofs.finish.finish.Goals as goal
 
 pub loop-node-preserved : goal.loop-node-preserved
 loop-node-preserved c =
-    one_pushed c.in_ok-table.table.items c.as_slice.result.now c.args.lists.now c.items.result.now c.loop-node.node c.loop-node.rows.items c.push.new.self.items c.in_ok-objects.objects.items c.new.result
-    c.as_slice.ensures.value c.items.ensures c.new.ensures c.in_ok-push.ensures.items c.loop-node.invariant c.in_ok-objects.ensures
+    one_pushed c.in_ok-table.table.items c.as_slice.result.now c.args.lists.now c.as_slice-in-loop-node.result.now c.loop-node.node c.loop-node.rows.items c.push.new.self.items c.in_ok-objects.objects.items c.new.result
+    c.as_slice.ensures.value (c.as_slice-in-loop-node.ensures.value ∙ c.in_ok-places.ensures) c.new.ensures c.in_ok-push.ensures.items c.loop-node.invariant c.in_ok-objects.ensures
 
 pub new-requires-2 : goal.new-requires-2
 new-requires-2 c = in_order c.in_ok-table.table.items c.args.lists.now c.loop-node.node c.loop-node.rows.items c.loop-node.invariant

@@ -1,6 +1,5 @@
 use Rattle.std.proofs.Common.{◌≡◌, replicate, []}
-use Rattle.numbered_lists.specs.Rows.{lists_of}
 use Rattle.numbered_lists.proofs.rows.Rows.new.Given as goal
 
 abbrev pub invariant-loop : goal.invariant-loop
-invariant-loop l = lists_of l.rows.items ≡ replicate l.counter []
+invariant-loop l = l.rows.items ≡ replicate l.counter []

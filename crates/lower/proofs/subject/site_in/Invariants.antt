@@ -1,6 +1,6 @@
 use Rattle.std.proofs.Common.{◌≡◌, drop}
 use Rattle.code_model.specs.Places as definition
-use Rattle.lower.proofs.function.site_in.Given as goal
+use Rattle.lower.proofs.subject.site_in.Given as goal
 
 -- the call is among the sites that are left, if it is among all
 abbrev pub invariant-loop-site : goal.invariant-loop-site

@@ -4,7 +4,7 @@ use Rattle.plan_model.specs.Groups.{compartment_of}
 use Rattle.plan_model.specs.Lists.{numbers_below, has}
 use Rattle.plan_model.specs.Needs.{need_of}
 use Rattle.object_reach.proofs.Reached.{none_more}
-use Rattle.region_graph.proofs.covers.uses.Goals as goal
+use Rattle.object_reach.proofs.reach.uses.Goals as goal
 use Rattle.common_laws.proofs.Lists.{any_kept as any_filtered}
 use Rattle.plan_model.proofs.Numbers.{one_passes}
 
