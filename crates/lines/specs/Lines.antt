@@ -49,6 +49,10 @@ end_line Limit = codes "end limit" ++ line_feed
 end_line (Stop r pc) = codes "end stop " ++ reason r ++ codes " 0x" ++ hexadecimal 8 pc ++ line_feed
 end_line Refused = []
 
+-- a run that ended at an access of the address that was watched
+unfoldable pub watch_line : (address : ℕ) → List ℕ
+watch_line a = codes "end watch 0x" ++ hexadecimal 8 a ++ line_feed
+
 -- how many functions, globals and peripherals a firmware has
 unfoldable pub count_line : (functions globals peripherals : ℕ) → List ℕ
 count_line f g p =

@@ -196,6 +196,18 @@ pub fn end_line(end: &End) -> Line
     line
 }
 
+/// The line of a run that ended at an access of the address that was watched.
+#[tactic(auto, unfolding(crate::specs::Lines::watch_line))]
+pub fn watch_line(address: u32) -> Line
+    ensures { result ≡ lines.watch_line address }
+{
+    let mut line = Line::new();
+    line.append(b"end watch 0x");
+    line.append_hexadecimal(8, address);
+    line.append(b"\n");
+    line
+}
+
 /// The line that says how many functions, globals and peripherals a firmware has.
 #[tactic(auto, unfolding(crate::specs::Lines::count_line))]
 pub fn count_line(functions: usize, globals: usize, peripherals: usize) -> Line

@@ -3,3 +3,4 @@ mod Loaded
 mod Machines
 mod MachineRuns
 mod Standing
+pub mod Selected

@@ -2,3 +2,4 @@ pub mod Parts
 pub mod Accesses
 pub mod Fetches
 pub mod Machine
+pub mod Reads

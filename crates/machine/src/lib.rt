@@ -8,6 +8,7 @@ mod exceptions;
 mod fetching;
 mod memory_instructions;
 mod parts;
+pub mod reads;
 mod register_instructions;
 mod several;
 mod special_registers;

@@ -1,11 +1,10 @@
 -- Runs of a machine whose callback puts the line of each event: what is printed, and how they end.
 use Rattle.std.specs.Prelude.{flat_map, unwrap_or, IsTrue}
-use Rattle.std.proofs.Common.{◌≡◌, ◌≢◌, ℕ, ◌+◌, ◌-◌, ◌<◌, ◌≤◌, Bool, true, false, List, [], ◌∷◌, ◌++◌, Some, None, refl, ap, sym, subst, ◌∙◌, arith, append_assoc, append-nil}
+use Rattle.std.proofs.Common.{◌≡◌, ◌≢◌, ℕ, ◌<◌, Bool, true, false, List, [], ◌∷◌, ◌++◌, Some, None, refl, ap, sym, subst, ◌∙◌, arith, append_assoc, append-nil}
 use Rattle.outside.specs.declared.sink.Sink as sinks
 use Rattle.outside.specs.Counts.{Rose}
 use Rattle.outside.specs.Contents.{AddsPrefix}
 use Rattle.words.specs.Runs.{run, events}
-use Rattle.words.proofs.Runs.{run-add}
 use Rattle.device_model.specs.declared.image.Window.{Window}
 use Rattle.events.specs.declared.event.Event.{Event}
 use Rattle.device_model.specs.Rules.{ObeysRules}
@@ -18,9 +17,10 @@ use Rattle.armv7m.specs.Confinement.{EventsAreListed}
 use Rattle.lines.specs.Lines.{event_line}
 use Rattle.machine_output.specs.Runs.{event_lines, end_of, HasLine}
 use Rattle.aces_reports.specs.Sinks.{Puts, sink}
-use Rattle.words.proofs.EventLines.{Each, each_event, lines_silent, lines_cut}
+use Rattle.words.proofs.EventLines.{Each, each_event, lines_cut}
 use Rattle.outside.proofs.Prefixes.{prefix_part}
 use Rattle.machine_output.proofs.Windows.{event_known, name_is_short}
+use Rattle.machine_output.proofs.Ended.{ends_so, same_lines}
 
 -- a callback's state: it holds a sink, under a name, and windows
 module _ {G O : Type 0} (of : sinks.Ghosts O) (out : G → O) (name : G → ℕ) (windows : G → List Window) where
@@ -76,14 +76,9 @@ module _ {G O : Type 0} (of : sinks.Ghosts O) (out : G → O) (name : G → ℕ)
           let i = old.image in
           let s = old.state in
           let k = r.steps in
-          let few : k ≤ n = r.few in
-          let at : (run (step i) k s).ending ≡ Some d = ap (λ (x : State). x.ending) r.leads ∙ h in
-          let sum : k + (n - k) ≡ n = omega arith in
-          let same : run (step i) n s ≡ run (step i) k s =
-          ap (λ m. run (step i) m s) (sym sum) ∙ run-add (step i) k (n - k) s ∙ stays (n - k) (run (step i) k s) d at in
-          let lines : event_lines i n s ≡ event_lines i k s = lines_silent (step i) (event i) (event_line i.windows) k n s few (silent (n - k) (run (step i) k s) d at) in (
-            sym (ap (λ (x : State). unwrap_or x.ending Limit) same ∙ ap (λ o. unwrap_or o Limit) at),
-            subst (λ l. Printed f l g) (sym lines) (lines_put k g a),
+          let at : (run (step i) k s).ending ≡ Some d = ap (λ (x : State). x.ending) r.leads ∙ h in (
+            sym (ends_so i stays silent k n s d r.few at),
+            subst (λ l. Printed f l g) (sym (same_lines i stays silent k n s d r.few at)) (lines_put k g a),
           )
 
       -- all steps ran

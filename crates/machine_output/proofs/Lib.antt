@@ -1,2 +1,6 @@
-mod Windows
 mod Callbacks
+mod Windows
+mod Ended
+mod OneStep
+mod Going
+mod Pauses

@@ -1,6 +1,8 @@
 //! A run of an image, printed line by line.
 #![tactic(auto)]
 
+pub mod watching;
+
 ghost use Rattle.std.specs.Prelude.{◌≡◌, ◌≤◌, ◌++◌, IsTrue, IfOk, OnErr, OnOk, None};
 ghost use Rattle.outside.specs.Counts.{Rose};
 ghost use Rattle.outside.specs.Contents.{AddsPrefix};

@@ -1,4 +1,3 @@
--- Beyond the program's claim: only laws, proofs and functions inside the tool cite this file.
 -- Watched runs: at most so many steps, up to and with the first that makes an event on which a watch answers true.
 use Rattle.std.specs.Prelude.{◌≡◌, ℕ, suc, ◌+◌, ◌<◌, ◌≤◌, Bool, true, false, Some, None}
 use Rattle.std.specs.List.{FoldsTo}

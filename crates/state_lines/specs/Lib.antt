@@ -1,0 +1,3 @@
+pub mod CoreLines
+pub mod MemoryLines
+pub mod StateLines
