@@ -1,11 +1,12 @@
 -- Things that are found by their numbers, and bits behind the last of a mask.
-use Rattle.std.proofs.Common.{◌≡◌, ℕ, zero, suc, ◌+◌, ◌-◌, ◌%◌, ◌<◌, ◌≤◌, ◌^◌, Bool, true, false, List, [], ◌∷◌, cond, filter, map, flat_map, get_or, length, Some, slice_get, ap, subst, ◌∙◌, sym, arith}
+use Rattle.std.proofs.Common.{◌≡◌, ℕ, zero, suc, ◌+◌, ◌-◌, ◌%◌, ◌<◌, ◌≤◌, ◌^◌, Bool, true, false, List, [], ◌∷◌, ◌++◌, cond, filter, map, flat_map, get_or, length, Some, slice_get, ap, subst, ◌∙◌, sym, arith}
 use Rattle.std.specs.Int.{bit_at}
 use Rattle.std.proofs.lemmas.Option.{get_or_from_slice_get, slice_get_within, slice_get-get_or}
 use Rattle.std.proofs.Math.Nat.{div-eq_of_lt, pow-le-pow_right}
 use Rattle.std.proofs.Math.ListN.{get_or-eq_default}
 use Rattle.std.proofs.lemmas.List.{length-map, get_or-map, get_or_append_left, get_or-append_right, map-append}
 use Rattle.ir_model.specs.Plain.{PlainFile, PlainFunc, PlainSlot, PlainGlobal, func_of, file_of, slot_of, global_of}
+use Rattle.ir_model.specs.declared.firmware.Block.{Block}
 use Rattle.ir_model.specs.declared.firmware.Func.{Func}
 use Rattle.ir_model.specs.declared.firmware.Slot.{Slot}
 use Rattle.ir_model.specs.declared.firmware.Global.{Global}
@@ -39,11 +40,37 @@ global_found xs i x l e = sym (made_at (λ (g : PlainGlobal). g.name) global_of 
 pub global_missing : (xs : List Global) (i : ℕ) → length xs ≤ i → [] ≡ get_or (map (λ (g : PlainGlobal). g.name) (map global_of xs)) i []
 global_missing xs i l = sym (missing (λ (g : PlainGlobal). g.name) global_of xs i [] l)
 
-pub local_found : (xs : List Slot) (i : ℕ) (x : Slot) → i < length xs → x ≡ get_or xs i x → x.name ≡ get_or (map (λ (s : PlainSlot). s.name) (map slot_of xs)) i []
-local_found xs i x l e = sym (made_at (λ (s : PlainSlot). s.name) slot_of xs i x [] l e)
+pub file_found : (xs : List FileDecl) (i : ℕ) (x : FileDecl) → i < length xs → x ≡ get_or xs i x → x.name ≡ get_or (map (λ (d : PlainFile). d.name) (map file_of xs)) i []
+file_found xs i x l e = sym (made_at (λ (d : PlainFile). d.name) file_of xs i x [] l e)
 
-pub local_missing : (xs : List Slot) (i : ℕ) → length xs ≤ i → [] ≡ get_or (map (λ (s : PlainSlot). s.name) (map slot_of xs)) i []
-local_missing xs i l = sym (missing (λ (s : PlainSlot). s.name) slot_of xs i [] l)
+pub file_missing : (xs : List FileDecl) (i : ℕ) → length xs ≤ i → [] ≡ get_or (map (λ (d : PlainFile). d.name) (map file_of xs)) i []
+file_missing xs i l = sym (missing (λ (d : PlainFile). d.name) file_of xs i [] l)
+
+pub slot_found : (xs : List Slot) (i : ℕ) (x : Slot) → i < length xs → x ≡ get_or xs i x → x.name ≡ get_or (map (λ (s : PlainSlot). s.name) (map slot_of xs)) i []
+slot_found xs i x l e = sym (made_at (λ (s : PlainSlot). s.name) slot_of xs i x [] l e)
+
+pub slot_missing : (xs : List Slot) (i : ℕ) → length xs ≤ i → [] ≡ get_or (map (λ (s : PlainSlot). s.name) (map slot_of xs)) i []
+slot_missing xs i l = sym (missing (λ (s : PlainSlot). s.name) slot_of xs i [] l)
+
+-- the registers of a function, its parameters first
+abbrev slot_names : List Slot → List (List ℕ)
+slot_names ss = map (λ (s : PlainSlot). s.name) (map slot_of ss)
+
+pub is_param : (ps rs : List Slot) (i : ℕ) (n : List ℕ) → i < length ps → n ≡ get_or (slot_names ps) i [] → n ≡ get_or (map (λ (s : PlainSlot). s.name) (map slot_of ps ++ map slot_of rs)) i []
+is_param ps rs i n l e =
+    let inside : i < length (slot_names ps) = omega (arith, l, length-map ps slot_of, length-map (map slot_of ps) (λ (s : PlainSlot). s.name)) in
+    e ∙ sym (ap (λ ns. get_or ns i []) (map-append (λ (s : PlainSlot). s.name) (map slot_of ps) (map slot_of rs)) ∙ get_or_append_left (slot_names ps) (slot_names rs) [] i inside)
+
+pub is_register : (ps rs : List Slot) (i : ℕ) (n : List ℕ) → length ps ≤ i → n ≡ get_or (slot_names rs) (i - length ps) [] → n ≡ get_or (map (λ (s : PlainSlot). s.name) (map slot_of ps ++ map slot_of rs)) i []
+is_register ps rs i n l e =
+    let size : length (slot_names ps) ≡ length ps = length-map (map slot_of ps) (λ (s : PlainSlot). s.name) ∙ length-map ps slot_of in
+    e ∙ sym (ap (λ ns. get_or ns i []) (map-append (λ (s : PlainSlot). s.name) (map slot_of ps) (map slot_of rs)) ∙ get_or-append_right (slot_names ps) (slot_names rs) (length ps) i [] size l)
+
+pub label_found : (xs : List Block) (i : ℕ) (x : Block) → i < length xs → x ≡ get_or xs i x → x.label ≡ get_or (map (λ (b : Block). b.label) xs) i []
+label_found xs i x l e = sym (named (λ (b : Block). b.label) xs i x [] (slice_get-get_or xs i x l ∙ ap Some (sym e)))
+
+pub label_missing : (xs : List Block) (i : ℕ) → length xs ≤ i → [] ≡ get_or (map (λ (b : Block). b.label) xs) i []
+label_missing xs i l = sym (get_or-eq_default (map (λ (b : Block). b.label) xs) [] (omega (arith, l, length-map xs (λ (b : Block). b.label))))
 
 -- the function of a number, which stands in the first file
 pub in_first : (file : FileDecl) (more : List FileDecl) (n : ℕ) (f : Func) → n < length file.funcs → f ≡ get_or file.funcs n f

@@ -43,12 +43,12 @@ cover_line s k d =
     codes "slot " ++ decimal k ++ codes " periph" ++ range_text d.base d.size
     ++ spaced (map (periph_name s.firmware) (periphs_inside s d)) ++ line_feed
 
--- addresses of a cover that no peripheral declares
-abbrev pub undeclared_line : Range → List ℕ
-undeclared_line r = codes "undeclared" ++ range_text r.base r.size ++ line_feed
+-- addresses of a cover that no peripheral declares, behind these words
+abbrev pub undeclared_line : (words : List ℕ) → Range → List ℕ
+undeclared_line words r = words ++ range_text r.base r.size ++ line_feed
 
-abbrev pub undeclared_in : Subject → Cover → List ℕ
-undeclared_in s d = flat_map undeclared_line (undeclared_ranges s.program.periphs d)
+abbrev pub undeclared_in : Subject → (words : List ℕ) → Cover → List ℕ
+undeclared_in s words d = flat_map (undeclared_line words) (undeclared_ranges s.program.periphs d)
 
 -- ---- a compartment
 
@@ -123,8 +123,8 @@ module _ (s : Subject) (c : ℕ) where
   -- ---- the addresses of its covers that nobody declares
 
   -- each range lies in one cover
-  unfoldable pub undeclared_lines : List ℕ
-  undeclared_lines = flat_map (undeclared_in s) covers
+  unfoldable pub undeclared_lines : (words : List ℕ) → List ℕ
+  undeclared_lines words = flat_map (undeclared_in s words) covers
 
   abbrev pub compartment_lines : List ℕ
-  compartment_lines = code_line ++ function_lines ++ slot_lines ++ lent_lines ++ exposed_line ++ undeclared_lines
+  compartment_lines = code_line ++ function_lines ++ slot_lines ++ lent_lines ++ exposed_line ++ undeclared_lines (codes "undeclared")

@@ -88,5 +88,5 @@ pub(crate) fn put_compartment(
     put_slots(alloc, text, subject, compartment)?;
     put_lent_lines(text, subject, compartment)?;
     put_exposed(text, subject, compartment)?;
-    put_undeclared(text, subject, compartment)
+    put_undeclared(text, subject, compartment, b"undeclared")
 }

@@ -16,8 +16,8 @@ use object_reach::{reaches, writes};
 use plan_model::graph::Region;
 use std::alloc::AllocError;
 
-/// The bytes of a global.
-fn global_size(program: &Program<'_>, global: u32) -> u32
+/// The bytes of a global; of one that is not there, 0.
+pub fn global_size(program: &Program<'_>, global: u32) -> u32
     ensures { result ≡ regions.global_size (program_of program.now) global }
 {
     match program.globals.as_slice().get(global as usize) {

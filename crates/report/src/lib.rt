@@ -2,13 +2,13 @@
 #![tactic(auto)]
 
 mod compartment;
-mod exposure;
+pub mod exposure;
 pub mod laws;
 mod lent;
 pub mod listing;
 pub mod naming;
-mod slots;
+pub mod slots;
 pub mod subject;
 pub mod text;
-mod totals;
-mod undeclared;
+pub mod totals;
+pub mod undeclared;

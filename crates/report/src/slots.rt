@@ -35,14 +35,14 @@ fn region_spot(plan: &Plan, region: u32) -> Spot
 }
 
 /// Whether a compartment may write a region.
-pub(crate) fn is_writer(region: &Region, compartment: u32) -> bool
+pub fn is_writer(region: &Region, compartment: u32) -> bool
     ensures { result ≡ has region.now.writers compartment }
 {
     region.writers.as_slice().contains(&compartment)
 }
 
 /// Whether a compartment uses a region.
-pub(crate) fn is_used(region: &Region, compartment: u32) -> bool
+pub fn is_used(region: &Region, compartment: u32) -> bool
     ensures { result ≡ is_user compartment region.now }
 {
     is_writer(region, compartment) || region.readers.as_slice().contains(&compartment)
@@ -130,7 +130,7 @@ fn holds_periph(program: &Program<'_>, periph: usize, cover: &Cover) -> bool
 }
 
 /// Whether a window lies inside a cover.
-fn is_covered(span: &Span, cover: &Cover) -> bool
+pub fn is_covered(span: &Span, cover: &Cover) -> bool
     ensures { result ≡ is_inside (record { base = span.now.base; size = span.now.size }) cover.now }
 {
     let base = u64::from(span.base);
@@ -169,7 +169,7 @@ fn put_cover(
 }
 
 /// A cover, by its place among others.
-pub(crate) fn cover_at(covers: &[Cover], place: usize) -> Cover
+pub fn cover_at(covers: &[Cover], place: usize) -> Cover
     ensures { result ≡ all_covers.cover_at covers.now place }
 {
     match covers.get(place) {
@@ -178,8 +178,8 @@ pub(crate) fn cover_at(covers: &[Cover], place: usize) -> Cover
     }
 }
 
-/// The covers of a compartment.
-pub(crate) fn covers_of(graph: &Final, compartment: u32) -> &[Cover]
+/// The covers of a compartment, in order of their bases; of one that is not there, none.
+pub fn covers_of(graph: &Final, compartment: u32) -> &[Cover]
     ensures { result.now ≡ get_or graph.now.covers compartment [] }
 {
     match graph.covers.as_slice().get(compartment as usize) {

@@ -14,8 +14,8 @@ use plan_model::needs::SiteNeed;
 use plan_model::plan::{Plan, Spot};
 use std::alloc::AllocError;
 
-/// The compartment of a function.
-pub(crate) fn compartment_at(groups: &Groups, func: u32) -> u32
+/// The compartment of a function; of one that is not there, 0.
+pub fn compartment_at(groups: &Groups, func: u32) -> u32
     ensures { result ≡ compartment_of groups.now func }
 {
     match groups.of.as_slice().get(func as usize) {
@@ -25,7 +25,7 @@ pub(crate) fn compartment_at(groups: &Groups, func: u32) -> u32
 }
 
 /// Whether a call may go to another compartment.
-fn crosses(groups: &Groups, site: &SiteNeed) -> bool
+pub fn crosses(groups: &Groups, site: &SiteNeed) -> bool
     ensures { result ≡ crossing.crosses groups.now site.now }
 {
     let from = compartment_at(groups, site.func);

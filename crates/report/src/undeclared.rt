@@ -66,48 +66,58 @@ fn behind(spans: &[Span], address: u64) -> u64
     address
 }
 
-/// Puts the line of the addresses from one up to another.
-fn put_range(text: &mut Text, from: u64, to: u64) -> Result<(), AllocError>
+/// Puts the line of the addresses from one up to another, behind these words.
+fn put_range(text: &mut Text, words: &[u8], from: u64, to: u64) -> Result<(), AllocError>
     requires { from ≤ to }
-    ensures { OnOk result (text.new ≡ text.old ++ lines.undeclared_line (record { base = from; size = to - from })) }
+    ensures { OnOk result (text.new ≡ text.old ++ lines.undeclared_line words.now (record { base = from; size = to - from })) }
 {
     let Ok(base) = u32::try_from(from) else {
         return Err(AllocError);
     };
-    text.put(b"undeclared")?;
+    text.put(words)?;
     text.put_range(base, to - from)?;
     text.put(b"\n")
 }
 
 /// Puts the lines of the addresses of a cover that no peripheral declares.
-fn put_ranges(text: &mut Text, spans: &[Span], cover: &Cover) -> Result<(), AllocError>
-    ensures { OnOk result (text.new ≡ text.old ++ flat_map lines.undeclared_line (undeclared.undeclared_ranges (map span_of spans.now) cover.now)) }
+fn put_ranges(
+    text: &mut Text,
+    words: &[u8],
+    spans: &[Span],
+    cover: &Cover,
+) -> Result<(), AllocError>
+    ensures { OnOk result (text.new ≡ text.old ++ flat_map (lines.undeclared_line words.now) (undeclared.undeclared_ranges (map span_of spans.now) cover.now)) }
 {
     let end = u64::from(cover.base) + u64::from(cover.size);
     let mut at = u64::from(cover.base);
     while at < end {
         let first = first_declared(spans, at, end);
         if at < first {
-            put_range(text, at, first)?;
+            put_range(text, words, at, first)?;
         }
         at = behind(spans, first);
     }
     Ok(())
 }
 
-/// Puts the lines of the addresses of a compartment's covers that no peripheral declares.
+/// Puts the lines of the addresses of a compartment's covers that no peripheral declares, each behind these words.
+///
+/// # Errors
+///
+/// There is no memory for them. This is also the answer where an address has more than 32 bits: no firmware comes there.
 #[tactic(auto, unfolding(crate::specs::CompartmentLines::undeclared_lines))]
-pub(crate) fn put_undeclared(
+pub fn put_undeclared(
     text: &mut Text,
     subject: &Subject<'_>,
     compartment: u32,
+    words: &[u8],
 ) -> Result<(), AllocError>
-    ensures { OnOk result (text.new ≡ text.old ++ lines.undeclared_lines (subject_of subject.now) compartment) }
+    ensures { OnOk result (text.new ≡ text.old ++ lines.undeclared_lines (subject_of subject.now) compartment words.now) }
 {
     let spans = subject.program.periphs.as_slice();
     let covers = covers_of(subject.graph, compartment);
     for i in 0..covers.len() {
-        put_ranges(text, spans, &cover_at(covers, i))?;
+        put_ranges(text, words, spans, &cover_at(covers, i))?;
     }
     Ok(())
 }

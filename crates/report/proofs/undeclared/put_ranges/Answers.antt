@@ -16,7 +16,7 @@ loop-at-init c =
     let d : Cover = c.args.cover.now in
     let at : c.from-at.result ≡ d.base = c.from-at.ensures in
     record {
-      told = ap (λ (rs : List Range). c.args.text.now ++ flat_map undeclared_line rs) (all_ranges ws d ∙ ap (ranges_from ws d) (sym at));
+      told = ap (λ (rs : List Range). c.args.text.now ++ flat_map (undeclared_line c.args.words.now) rs) (all_ranges ws d ∙ ap (ranges_from ws d) (sym at));
       least = omega (arith, at);
       edge = λ _. or_left (nat_eq c.from-at.result d.base) (is_declared ws (c.from-at.result - 1)) (eq-eqb c.from-at.result d.base at);
     }
@@ -37,14 +37,14 @@ loop-at-preserved c =
     record {
       told = elim c.if-at-first.branch [
         | then-at-first+in_ok-put_range w ↦
-            told_more undeclared_line c.args.text.now c.loop-at.text _ _ (ranges_from ws d e) (record { base = a; size = f - a }) c.loop-at.invariant.told
+            told_more (undeclared_line c.args.words.now) c.args.text.now c.loop-at.text _ _ (ranges_from ws d e) (record { base = a; size = f - a }) c.loop-at.invariant.told
             (step_some ws d a f e base here first further c.behind-at.ensures.further c.behind-at.ensures.within (c.loop-at.invariant.edge test) w.if-at-first.true)
-            ∙ ap (λ t. t ++ flat_map undeclared_line (ranges_from ws d e)) (sym (w.text-is ∙ w.in_ok-put_range.ensures))
+            ∙ ap (λ t. t ++ flat_map (undeclared_line c.args.words.now) (ranges_from ws d e)) (sym (w.text-is ∙ w.in_ok-put_range.ensures))
         | else-at-first w ↦
             let late = w.if-at-first.false in
             c.loop-at.invariant.told
-            ∙ ap (λ (rs : List Range). c.loop-at.text ++ flat_map undeclared_line rs) (step_none ws d a f e base here first further c.behind-at.ensures.further c.behind-at.ensures.within (omega (arith, late, first)))
-            ∙ ap (λ t. t ++ flat_map undeclared_line (ranges_from ws d e)) (sym w.text-is)
+            ∙ ap (λ (rs : List Range). c.loop-at.text ++ flat_map (undeclared_line c.args.words.now) rs) (step_none ws d a f e base here first further c.behind-at.ensures.further c.behind-at.ensures.within (omega (arith, late, first)))
+            ∙ ap (λ t. t ++ flat_map (undeclared_line c.args.words.now) (ranges_from ws d e)) (sym w.text-is)
       ];
       least = omega (arith, base, first, further);
       edge = λ h. next_edge ws d a f e base here first further c.behind-at.ensures.further c.behind-at.ensures.within (omega (arith, h, end));
@@ -57,5 +57,5 @@ returns c =
     let end : c.from.result + c.from-2.result ≡ end_of d = let x = c.from.ensures in let y = c.from-2.ensures in omega (arith, x, y) in
     let late = c.loop-at-test.false in
     sym (c.loop-at.invariant.told
-    ∙ ap (λ (rs : List Range). c.loop-at.text ++ flat_map undeclared_line rs) (no_ranges ws d c.loop-at.at (omega (arith, late, end)))
+    ∙ ap (λ (rs : List Range). c.loop-at.text ++ flat_map (undeclared_line c.args.words.now) rs) (no_ranges ws d c.loop-at.at (omega (arith, late, end)))
     ∙ append-nil c.loop-at.text)

@@ -7,7 +7,7 @@ use Rattle.report.proofs.undeclared.put_ranges.Given as goal
 
 abbrev pub invariant-loop-at : goal.invariant-loop-at
 invariant-loop-at l = record {
-  told : l.initial.text ++ flat_map undeclared_line (undeclared_ranges (map span_of l.spans) l.cover) ≡ l.text ++ flat_map undeclared_line (ranges_from (map span_of l.spans) l.cover l.at);
+  told : l.initial.text ++ flat_map (undeclared_line l.words) (undeclared_ranges (map span_of l.spans) l.cover) ≡ l.text ++ flat_map (undeclared_line l.words) (ranges_from (map span_of l.spans) l.cover l.at);
   least : l.cover.base ≤ l.at;
   edge : l.at < l.end → is_edge (map span_of l.spans) l.cover l.at ≡ true;
 }

@@ -15,7 +15,7 @@ loop-i-preserved c =
     let ds : List Cover = covers s c.args.compartment in
     let i : ℕ = c.loop-i.i in
     let d : Cover = c.cover_at.result in
-    put_each (undeclared_in s) (take i ds) _ d c.args.text.now c.loop-i.text _
+    put_each (undeclared_in s c.args.words.now) (take i ds) _ d c.args.text.now c.loop-i.text _
     (item_more ds i d no_cover (subst (λ (xs : List Cover). i < length xs) c.covers_of-covers.ensures c.loop-i-test.true) (c.cover_at.ensures ∙ ap (λ (xs : List Cover). cover_at xs i) c.covers_of-covers.ensures))
     c.loop-i.invariant
-    (c.in_ok-put_ranges.ensures ∙ ap (λ (xs : List Span). c.loop-i.text ++ flat_map undeclared_line (undeclared_ranges (map span_of xs) d)) c.as_slice-spans.ensures)
+    (c.in_ok-put_ranges.ensures ∙ ap (λ (xs : List Span). c.loop-i.text ++ flat_map (undeclared_line c.args.words.now) (undeclared_ranges (map span_of xs) d)) c.as_slice-spans.ensures)

@@ -1,0 +1,5 @@
+pub mod Ties
+pub mod Exposed
+pub mod Calls
+pub mod WhoLines
+pub mod Laws

@@ -1,0 +1,4 @@
+mod Numbering
+mod Targets
+mod Found
+mod Whole

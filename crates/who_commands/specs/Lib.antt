@@ -1,0 +1,3 @@
+pub mod HelpText
+pub mod Owners
+pub mod Answers
