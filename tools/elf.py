@@ -3,42 +3,23 @@
 
     elf.py [--origins] FIRMWARE BOARD POLICY ELF
 
-It runs `aces list`, `compile` and `bin`, and `as`, `ld` and `objcopy` of binutils-arm-none-eabi. With --origins the lines are those of comments such as
-`# main.c:60`, as tools/aces-c puts them. ACES names the program; else it is crates/aces/out/aces. It is not proved, and nothing that is claimed rests on
-it; the bytes of the file are those of `aces bin`, which is tested each time, and no file is left where they are not.
+It takes the lines of `aces symbols` and `list`, the bytes of `aces bin`, and the firmware's text, and calls `as`, `ld` and `objcopy` of
+binutils-arm-none-eabi. With --origins the lines are those of comments such as `# main.c:60`, as tools/aces-c puts them. ACES names the program; else it
+is crates/aces/out/aces. It is not proved, and nothing that is claimed rests on it; the bytes of the file are those of `aces bin`, which is tested each
+time, and no file is left where they are not.
 """
 from __future__ import annotations
 
 import os
-import subprocess
 import sys
 import tempfile
 
 sys.dont_write_bytecode = True
-HERE = os.path.dirname(os.path.abspath(__file__))
-sys.path.insert(0, HERE)
-from debug_info.assembly import Assembly  # noqa: E402
-from debug_info.code_places import CodePlaces, Unexpected  # noqa: E402
+sys.path.insert(0, os.path.dirname(os.path.abspath(__file__)))
+from debug_info.assembly import Assembly, Unexpected  # noqa: E402
 from debug_info.firmware_text import Firmware  # noqa: E402
-
-ACES = os.environ.get('ACES') or os.path.join(HERE, '..', 'crates', 'aces', 'out', 'aces')
-
-
-def run(*words: str) -> str:
-    """Runs a command; ends the program with what it said where it fails."""
-    try:
-        done = subprocess.run(words, capture_output=True, check=False)
-    except OSError as fault:
-        sys.exit(f'elf.py: {words[0]}: {fault.strerror}')
-    if done.returncode:
-        sys.exit((done.stderr or done.stdout).decode(errors='replace'))
-    return done.stdout.decode()
-
-
-def content(name: str) -> bytes:
-    """The bytes of a file."""
-    with open(name, 'rb') as file:
-        return file.read()
+from debug_info.lines import Listing, Symbols  # noqa: E402
+from debug_info.program import aces, content, flash_bytes, run  # noqa: E402
 
 
 def write(name: str, text: str) -> None:
@@ -73,19 +54,19 @@ def main(words: list[str]) -> int:
         print(__doc__, file=sys.stderr)
         return 2
     firmware, board, policy, elf = words[by_origins:]
+    symbols, listing = Symbols(aces('symbols', firmware, board, policy)), Listing(aces('list', firmware, board, policy))
+    text = Firmware(content(firmware).decode(), by_origins)
     with tempfile.TemporaryDirectory() as folder:
-        listing = run(ACES, 'list', firmware, board, policy)
-        run(ACES, 'compile', firmware, board, policy, f'{folder}/image')
-        run(ACES, 'bin', f'{folder}/image', f'{folder}/flash')
-        flash = content(f'{folder}/flash')
+        flash = flash_bytes(firmware, board, policy, folder)
         try:
-            places = CodePlaces(Firmware(content(firmware).decode(), by_origins), listing, content(f'{folder}/image'), flash)
+            written = link(Assembly(text, symbols, listing, flash, os.path.abspath(firmware)), elf, folder)
         except Unexpected as fault:
             sys.exit(f'elf.py: {fault}')
-        if link(Assembly(places, os.path.abspath(firmware)), elf, folder) != flash:
-            os.remove(elf)
-            sys.exit('elf.py: the bytes of the ELF file are not those of the image')
-    print(f'{elf}: {len(places.functions)} functions, {len(places.globals)} globals, {sum(len(one.lines) for one in places.functions)} lines')
+    if written != flash:
+        os.remove(elf)
+        sys.exit('elf.py: the bytes of the ELF file are not those of the image')
+    places = sum(len(one.places) for one in symbols.functions.values())
+    print(f'{elf}: {len(symbols.functions)} functions, {len(symbols.globals)} globals, {places} places of code')
     return 0
 
 

@@ -1,1 +1,1 @@
-"""What tools/elf.py is made of. It is not proved, and nothing that is claimed rests on it."""
+"""What tools/elf.py and tools/map.py are made of. It is not proved, and nothing that is claimed rests on it."""

@@ -3,23 +3,26 @@ from __future__ import annotations
 
 from typing import Optional
 
-from .code_places import PAGE, POP_PC, SVC_CALL, CodePlaces, Part, Placed, moves_stack_pointer
-from .firmware_text import Place
-from .variables import Variables
+from .firmware_text import Firmware, Function, Instruction, Place
+from .lines import FunctionCode, Listing, Part, Symbols
+from .variables import MONITOR_WORDS, Variables
 
-MONITOR_BLOCK = 1024
-MONITOR_WORDS = ('monitor_running', 'monitor_top', 'monitor_calls', 'monitor_loans')
+PAGE, SVC_CALL = 4096, 0xDF00
+
+
+class Unexpected(Exception):
+    """The lines of the program and the firmware's text do not fit."""
 
 
 class Assembly:
     """The text; `sections` has the names and addresses of what it makes."""
 
-    def __init__(self, places: CodePlaces, name: str) -> None:
-        self.places, self.name = places, name
+    def __init__(self, firmware: Firmware, symbols: Symbols, listing: Listing, flash: bytes, name: str) -> None:
+        self.firmware, self.symbols, self.listing, self.flash, self.name = firmware, symbols, listing, flash, name
         self.lines: list[str] = []
         self.sections: list[tuple[str, int]] = []
         self.files: dict[Optional[str], int] = {None: 1}
-        self.taken = set(places.globals) | {one.function.name for one in places.functions}
+        self.taken = {one.name for one in symbols.globals} | set(symbols.functions)
 
     def text(self) -> str:
         """All of it."""
@@ -28,7 +31,7 @@ class Assembly:
         self.tables()
         self.compartments()
         self.memory()
-        self.put(*Variables(self.places, self.name).lines())
+        self.put(*Variables(self.firmware, self.symbols, self.name, len(self.flash)).lines())
         return '\n'.join(self.lines) + '\n'
 
     def put(self, *lines: str) -> None:
@@ -51,24 +54,32 @@ class Assembly:
             name += '_'
         self.symbol(name, kind, size)
 
+    def half(self, address: int) -> int:
+        """A halfword of flash."""
+        at = address - self.symbols.base
+        return int.from_bytes(self.flash[at:at + 2], 'little')
+
+    def length(self, address: int) -> int:
+        """The bytes of the instruction of the processor at an address."""
+        return 4 if self.half(address) >> 11 in (29, 30, 31) else 2
+
     def code(self, at: int, end: int, numbers: bool = True) -> None:
         """Instructions as such; with `numbers`, those of sites behind SVC 0 as data."""
-        places = self.places
         while at < end:
-            half = places.half(at)
-            if half >> 11 in (29, 30, 31):
-                self.put(f'.inst.w 0x{half:04x}{places.half(at + 2):04x}')
+            half = self.half(at)
+            if self.length(at) == 4:
+                self.put(f'.inst.w 0x{half:04x}{self.half(at + 2):04x}')
                 at += 4
                 continue
             self.put(f'.inst.n 0x{half:04x}')
             at += 2
             if numbers and half == SVC_CALL:
-                self.put(f'.short {places.half(at)}')
+                self.put(f'.short {self.half(at)}')
                 at += 2
 
     def data(self, at: int, end: int) -> None:
         """Bytes of flash."""
-        content = self.places.flash[at - self.places.base:end - self.places.base]
+        content = self.flash[at - self.symbols.base:end - self.symbols.base]
         if content and content.count(255) == len(content):
             self.put(f'.fill {len(content)},1,255')
             return
@@ -77,21 +88,20 @@ class Assembly:
 
     def vectors_and_monitor(self) -> None:
         """The first 4,096 bytes."""
-        base = self.places.base
+        base, parts = self.symbols.base, self.symbols.monitor
         self.section('.vectors', base, 'a')
         self.own_symbol('vectors', 'object', 64)
         self.data(base, base + 64)
         self.section('.monitor', base + 64)
-        parts = self.places.monitor_parts()
         leave = parts[-1]
         # gdb looks a return address up by the byte before it, so the call frame of the leave stub begins one instruction early
         for part in parts[:-1]:
-            self.own_symbol(part.name, 'function', part.end - part.start)
-            self.code(part.start, part.end - 2 if part is parts[-2] else part.end, numbers=False)
+            self.own_symbol(f'monitor_{part.name}', 'function', part.size)
+            self.code(part.address, part.end - 2 if part is parts[-2] else part.end, numbers=False)
         self.put('.cfi_startproc', '.cfi_signal_frame', *self.border())
-        self.code(leave.start - 2, leave.start, numbers=False)
-        self.own_symbol(leave.name, 'function', leave.end - leave.start)
-        self.code(leave.start, leave.end, numbers=False)
+        self.code(leave.address - 2, leave.address, numbers=False)
+        self.own_symbol(f'monitor_{leave.name}', 'function', leave.size)
+        self.code(leave.address, leave.end, numbers=False)
         self.put('.cfi_endproc')
         self.data(leave.end, base + PAGE)
 
@@ -108,13 +118,13 @@ class Assembly:
             return list(count.to_bytes(2, 'little', signed=True))
 
         drop, duplicate, over_end, load, plus = 0x13, 0x12, 0x2F, 0x06, 0x22
-        start = word(self.places.monitor + 8) + [load]                      # the number k of waiting calls
+        start = word(self.symbols.block.address + 8) + [load]               # the number k of waiting calls
         is_none = [duplicate, 0x30, 0x29, 0x28]                             # k = 0, and a branch
-        entry = [0x31, 0x1C, duplicate, 0x34, 0x24] + word(self.places.monitor + 32) + [plus, load]     # k - 1, and its stack pointer
+        entry = [0x31, 0x1C, duplicate, 0x34, 0x24] + word(self.symbols.block.address + 32) + [plus, load]     # k - 1, and its stack pointer
         is_below = [duplicate, 0x7D, 0, 0x2D, 0x28]                         # below sp, and a branch
         found = [0x23, 32, over_end]                                        # 32 above it; a jump to the end
         again = [drop, over_end]                                            # the loop's jump back
-        none = word(self.places.base + 28)
+        none = word(self.symbols.base + 28)
         loop = len(is_none) + 2 + len(entry) + len(is_below) + 2 + len(found) + 2 + len(again) + 2
         expression = (start + is_none + skip(loop - len(is_none) - 2) + entry + is_below + skip(len(found) + 2) + found
                       + skip(len(again) + 2 + len(none)) + again + skip(-loop) + none)
@@ -122,28 +132,28 @@ class Assembly:
 
     def tables(self) -> None:
         """The tables, and what lies between them and the first code."""
-        at = self.places.base + PAGE
+        at = self.symbols.base + PAGE
         self.section('.tables', at, 'a')
-        for part in self.places.tables():
-            self.own_symbol(part.name, 'object', part.end - part.start)
-            self.data(part.start, part.end)
+        for part in self.symbols.tables:
+            if part.size:
+                self.own_symbol(f'tables_{part.name}', 'object', part.size)
+                self.data(part.address, part.end)
             at = part.end
-        self.data(at, min(one.address for one in self.places.compartments))
+        self.data(at, min(one.code.address for one in self.listing.compartments))
 
     def compartments(self) -> None:
         """The code of all compartments, by rising address."""
-        for compartment, number in sorted((one.address, number) for number, one in enumerate(self.places.compartments)):
-            inside = [one for one in self.places.functions if one.compartment == number]
-            files = sorted({one.function.file for one in inside})
-            self.section(f'.compartment{number}' + (f'.{files[0]}' if len(files) == 1 else ''), compartment)
-            at = compartment
+        by_name = {one.name: one for one in self.firmware.functions}
+        for number, compartment in sorted(enumerate(self.listing.compartments), key=lambda one: one[1].code.address):
+            inside = [one for one in self.symbols.functions.values() if one.compartment == number]
+            files = sorted({by_name[one.part.name].file for one in inside})
+            self.section(f'.compartment{number}' + (f'.{files[0]}' if len(files) == 1 else ''), compartment.code.address)
+            at = compartment.code.address
             for one in inside:
-                self.function(one)
-                at = one.end
-                if at % 4:
-                    self.put('.inst.n 0xbf00')
-                    at += 2
-            self.data(at, compartment + self.places.compartments[number].size)
+                self.code(at, one.part.address)
+                self.function(one, by_name[one.part.name])
+                at = one.part.end
+            self.data(at, compartment.code.end)
 
     def location(self, place: Place) -> str:
         """The line of what follows."""
@@ -152,53 +162,60 @@ class Assembly:
             self.put(f'.file {self.files[place.file]} "{place.file}"')
         return f'.loc {self.files[place.file]} {place.line}'
 
-    def function(self, one: Placed) -> None:
-        """A function, with lines and call frames."""
-        first = one.lines[1 if self.places.firmware.by_origins else 0][1]
-        self.symbol(one.function.name, 'function', one.end - one.start)
-        self.put('.cfi_startproc', self.location(first))
-        self.code(one.start, one.start + 2)
-        self.put('.cfi_def_cfa_offset 4', '.cfi_offset 14,-4')
-        at = one.start + 2 + moves_stack_pointer(one.frame)
-        self.code(one.start + 2, at)
-        self.put(f'.cfi_def_cfa_offset {one.frame}')
-        ends = [address for address, _ in one.lines[2:]] + [one.end]
-        for (address, place), end in zip(one.lines[1:], ends):
-            self.code(at, address)
-            self.put(self.location(place))
-            self.instruction(address, end, one.frame)
-            at = end
-        self.put('.cfi_endproc')
+    def instructions(self, code: FunctionCode, function: Function) -> list[tuple[int, int, Instruction]]:
+        """Where the code of each instruction begins and ends; all of the text are there."""
+        found = []
+        for place, end in zip(code.places, [one.address for one in code.places[1:]] + [code.part.end]):
+            block = function.blocks.get(place.block, [])
+            at = len(block) - 1 if place.number is None else place.number
+            if not 0 <= at < len(block) or block[at].ends != (place.number is None):
+                raise Unexpected(f'{function.name} block {place.block} instruction {place.number} is not in the text')
+            found.append((place.address, end, block[at]))
+        if len(found) != sum(len(block) for block in function.blocks.values()):
+            raise Unexpected(f'{function.name} has other instructions in the text')
+        return found
 
-    def instruction(self, at: int, end: int, frame: int) -> None:
-        """The code of one instruction; before POP {pc} the frame is gone."""
-        if self.places.half(end - 2) != POP_PC:
-            self.code(at, end)
-            return
-        self.code(at, end - 2)
-        self.put('.cfi_def_cfa_offset 4')
-        self.code(end - 2, end)
+    def function(self, code: FunctionCode, function: Function) -> None:
+        """A function, with lines and call frames: PUSH {lr} stands first, and then what takes the frame."""
+        inside = self.instructions(code, function)
+        first, frame = code.part.address, code.frame
+        self.symbol(function.name, 'function', code.part.size)
+        self.put('.cfi_startproc', self.location(inside[0][2].place if self.firmware.by_origins else Place(None, function.line)))
+        self.code(first, first + 2)
+        self.put('.cfi_def_cfa_offset 4', '.cfi_offset 14,-4')
+        at = first + 2 + self.length(first + 2)
+        self.code(first + 2, at)
         self.put(f'.cfi_def_cfa_offset {frame}')
+        for start, end, instruction in inside:
+            self.code(at, start)
+            self.put(self.location(instruction.place))
+            # before POP {pc}, which returns, the frame is gone
+            at = end - 2 if instruction.returns else end
+            self.code(start, at)
+            if instruction.returns:
+                self.put('.cfi_def_cfa_offset 4')
+                self.code(at, end)
+                self.put(f'.cfi_def_cfa_offset {frame}')
+                at = end
+        self.put('.cfi_endproc')
 
     def memory(self) -> None:
         """The blocks of RAM."""
-        places = self.places
-        words = [Part(name, places.monitor + 4 * k, places.monitor + 4 * k + 4) for k, name in enumerate(MONITOR_WORDS)]
-        blocks: list[tuple[int, int, str, list[Part]]] = [
-            (places.stack, places.stack_size, '.stack', [Part('stack', places.stack, places.stack + places.stack_size)]),
-            (places.monitor, MONITOR_BLOCK, '.block', words)]
-        for block in places.blocks:
-            starts = [(name, places.globals[name][0], places.firmware.layout(places.globals[name][1])[0]) for name in block.names]
-            blocks.append((block.address, block.size, f'.ram.{block.names[0]}', [Part(name, at, at + size) for name, at, size in starts]))
-        blocks.sort(key=lambda block: block[0])
-        for address, size, name, parts in blocks:
+        stack, block = self.symbols.stack, self.symbols.block
+        words = [Part(name, block.address + 4 * number, 4) for number, name in enumerate(MONITOR_WORDS)]
+        blocks = [(stack, '.stack', [stack]), (block, '.block', words)]
+        for slot in self.listing.blocks.values():
+            inside = [part for part in self.symbols.globals if part.name in slot.names]
+            blocks.append((slot.part, f'.ram.{inside[0].name}', inside))
+        blocks.sort(key=lambda one: one[0].address)
+        for part, name, parts in blocks:
             # a block may stand in the tail of another one
-            end = min([address + size] + [other for other, *_ in blocks if other > address])
-            self.section(name, address, 'aw', 'nobits')
-            at = address
-            for part in parts:
-                self.put(f'.space {part.start - at}')
-                (self.symbol if name.startswith('.ram.') else self.own_symbol)(part.name, 'object', part.end - part.start)
-                self.put(f'.space {part.end - part.start}')
-                at = part.end
+            end = min([part.end] + [other.address for other, *_ in blocks if other.address > part.address])
+            self.section(name, part.address, 'aw', 'nobits')
+            at = part.address
+            for one in parts:
+                self.put(f'.space {one.address - at}')
+                (self.symbol if name.startswith('.ram.') else self.own_symbol)(one.name, 'object', one.size)
+                self.put(f'.space {one.size}')
+                at = one.end
             self.put(f'.space {end - at}')

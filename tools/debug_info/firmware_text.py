@@ -7,8 +7,7 @@ from typing import Iterator, Optional, Union
 
 TOKEN = re.compile(r'(?:[ \t\r\n]+|#[^\n]*)*(?:(->|[{}()\[\],:=*])|(-?(?:0x[0-9a-fA-F]+|[0-9]+))|([A-Za-z_][A-Za-z0-9_.]*)|\Z)')
 ORIGIN = re.compile(r'#[ \t]*([A-Za-z0-9_./-]+):([0-9]+)(?::[0-9]+)?[ \t\r]*$', re.M)
-BINARY = frozenset('add sub mul udiv sdiv urem srem and or xor bic shl shr sar'.split())
-COMPARISONS = frozenset('eq ne ult ule slt sle'.split())
+BINARY = frozenset('add sub mul udiv sdiv urem srem and or xor bic shl shr sar eq ne ult ule slt sle'.split())
 WIDTHS = {'u8': 1, 'u16': 2, 'u32': 4}
 
 
@@ -63,18 +62,16 @@ class Place:
 
 @dataclass(frozen=True)
 class Instruction:
-    """An instruction or a block's end. A call has the number of its arguments; `subject` is what `addr` names."""
+    """An instruction or a block's end."""
 
-    kind: str
     place: Place
-    subject: str = ''
-    arguments: int = 0
-    gives: bool = False
+    ends: bool = False
+    returns: bool = False
 
 
 @dataclass
 class Function:
-    """A function, with all its instructions by blocks."""
+    """A function, with all its instructions by the labels of its blocks."""
 
     name: str
     line: int
@@ -82,7 +79,7 @@ class Function:
     parameters: list[Variable] = field(default_factory=list)
     locals: list[Variable] = field(default_factory=list)
     other_registers: list[Variable] = field(default_factory=list)
-    blocks: list[list[Instruction]] = field(default_factory=list)
+    blocks: dict[str, list[Instruction]] = field(default_factory=dict)
     result: Optional[Type] = None
 
     def registers(self) -> list[Variable]:
@@ -225,15 +222,15 @@ class Firmware:
             self.take(':')
             among.append(Variable(name, self.type()))
         while self.peek() != '}':
-            self.take()
+            label = self.take()
             self.take(':')
-            function.blocks.append(self.block())
+            function.blocks[label] = self.block()
         self.take('}')
 
     def block(self) -> list[Instruction]:
         """The instructions of a block, its end last."""
         block = [self.instruction()]
-        while block[-1].kind not in ('jump', 'branch', 'ret'):
+        while not block[-1].ends:
             block.append(self.instruction())
         return block
 
@@ -241,41 +238,33 @@ class Firmware:
         """An instruction or a block's end."""
         place, word = self.place(), self.take()
         if word == 'ret':
-            gives = self.peek() != '}' and self.peek(1) != ':'
-            if gives:
-                self.take()
-            return Instruction(word, place, gives=gives)
+            self.at += 1 if self.peek() != '}' and self.peek(1) != ':' else 0
+            return Instruction(place, ends=True, returns=True)
         if word in ('jump', 'branch'):
             self.at += 1 if word == 'jump' else 3
-            return Instruction(word, place)
+            return Instruction(place, ends=True)
         if word in ('call', 'icall'):
-            return self.call(word, place, False)
-        if word == 'store':
+            self.arguments()
+        elif word == 'store':
             self.at += 3
-            return Instruction(word, place)
-        self.take('=')
-        kind = self.take()
-        if kind in ('call', 'icall'):
-            return self.call(kind, place, True)
-        if kind in BINARY or kind in COMPARISONS or kind in ('elem', 'field'):
-            self.at += 3
-            return Instruction(kind, place)
-        if kind in ('addr', 'faddr', 'load'):
-            return Instruction(kind, place, subject=self.take())
-        return Instruction('constant' if kind[0] in '-0123456789' else 'move', place)
+        else:
+            self.take('=')
+            self.value(self.take())
+        return Instruction(place)
 
-    def call(self, kind: str, place: Place, gives: bool) -> Instruction:
+    def value(self, kind: str) -> None:
+        """What stands behind the first word of what an instruction gives a register."""
+        if kind in ('call', 'icall'):
+            self.arguments()
+        elif kind in BINARY or kind in ('elem', 'field'):
+            self.at += 3
+        elif kind in ('addr', 'faddr', 'load'):
+            self.at += 1
+
+    def arguments(self) -> None:
         """What stands behind `call` or `icall`."""
-        self.take()
-        self.take('(')
-        count = 0
-        while self.peek() != ')':
-            self.take()
-            count += 1
-            if self.peek() == ',':
-                self.take()
-        self.take(')')
-        return Instruction(kind, place, arguments=count, gives=gives)
+        while self.take() != ')':
+            pass
 
     def layout(self, of: Type) -> tuple[int, int]:
         """The size and the alignment of a type."""
@@ -301,13 +290,13 @@ class Firmware:
             yield one, at
             at += size
 
-    def frame(self, function: Function) -> tuple[int, list[int]]:
-        """The bytes of a function's frame, and the offset of each local in it."""
+    def frame(self, function: Function) -> list[int]:
+        """The offset of each local in a function's frame: registers stand first, in words."""
         at, offsets = 4 * len(function.registers()), []
         for one in function.locals:
             offsets.append(at)
             at += rounded(self.layout(one.type)[0], 4)
-        return rounded(at + 4, 8), offsets
+        return offsets
 
 
 def rounded(number: int, to: int) -> int:

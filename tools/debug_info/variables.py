@@ -1,8 +1,8 @@
 """Variables and their types, as DWARF 4."""
 from __future__ import annotations
 
-from .code_places import CodePlaces, Placed
-from .firmware_text import WIDTHS, Array, Named, Pointer, Signature, Type
+from .firmware_text import WIDTHS, Array, Firmware, Function, Named, Pointer, Signature, Type
+from .lines import FunctionCode, Symbols
 
 # attributes and their forms
 NAME, LINE_TABLE, LOW, HIGH, LANGUAGE, PRODUCER = (0x03, 0x08), (0x10, 0x17), (0x11, 0x01), (0x12, 0x06), (0x13, 0x0B), (0x25, 0x08)
@@ -28,6 +28,8 @@ KINDS = (
 NUMBERS = {kind[0]: number for number, kind in enumerate(KINDS, 1)}
 UNSIGNED, UNSIGNED_CHARACTER = 7, 8
 WORD = Named('u32')
+# the first words of the monitor's block
+MONITOR_WORDS = ('monitor_running', 'monitor_top', 'monitor_calls', 'monitor_loans')
 
 
 def kind(name: str) -> str:
@@ -38,20 +40,19 @@ def kind(name: str) -> str:
 class Variables:
     """The sections of variables, types and functions."""
 
-    def __init__(self, places: CodePlaces, name: str) -> None:
-        self.places, self.name = places, name
+    def __init__(self, firmware: Firmware, symbols: Symbols, name: str, size: int) -> None:
+        self.firmware, self.symbols, self.name, self.size = firmware, symbols, name, size
         self.labels: dict[Type, str] = {}
         self.types: list[list[str]] = []
 
     def lines(self) -> list[str]:
         """The assembler's lines."""
         entries = self.globals()
-        for one in self.places.functions:
-            entries += self.function(one)
-        base, size = self.places.base, len(self.places.flash)
+        for function in self.firmware.functions:
+            entries += self.function(function, self.symbols.functions[function.name])
         head = ['.section .debug_line,"",%progbits', '.Lline:', '.section .debug_info,"",%progbits', '.Linfo:', '.4byte .Lend-.Lunit', '.Lunit:',
                 '.2byte 4', '.4byte .Labbrev', '.byte 4', kind('unit'), '.asciz "aces"', f'.asciz "{self.name}"', '.4byte .Lline',
-                f'.4byte 0x{base:08x}', f'.4byte {size}', '.byte 12']
+                f'.4byte 0x{self.symbols.base:08x}', f'.4byte {self.size}', '.byte 12']
         types = [line for lines in self.types for line in lines]
         return head + types + entries + ['.byte 0', '.Lend:'] + kinds()
 
@@ -80,35 +81,33 @@ class Variables:
         if of.name in WIDTHS:
             width = WIDTHS[of.name]
             return [f'{label}: {kind("number")}', f'.asciz "{of.name}"', f'.byte {width}', f'.byte {UNSIGNED_CHARACTER if width == 1 else UNSIGNED}']
-        lines = [f'{label}: {kind("struct")}', f'.asciz "{of.name}"', f'.2byte {self.places.firmware.layout(of)[0]}']
-        for field, offset in self.places.firmware.fields(of.name):
+        lines = [f'{label}: {kind("struct")}', f'.asciz "{of.name}"', f'.2byte {self.firmware.layout(of)[0]}']
+        for field, offset in self.firmware.fields(of.name):
             lines += [kind('field'), f'.asciz "{field.name}"', self.reference(field.type), f'.2byte {offset}']
         return lines + ['.byte 0']
 
     def globals(self) -> list[str]:
         """Globals, peripherals as arrays of words, and the first words of the monitor's block."""
-        firmware, entries = self.places.firmware, []
-        found = [(name, of, at, firmware.globals[name][1]) for name, (at, of) in self.places.globals.items()]
-        found += [(name, Array(size // 4, WORD), at, 1) for name, (at, size) in firmware.peripherals.items()]
-        found += [(name, WORD, self.places.monitor + 4 * number, 1)
-                  for number, name in enumerate(('monitor_running', 'monitor_top', 'monitor_calls', 'monitor_loans'))]
+        found = [(one.name, self.firmware.globals[one.name][0], one.address, self.firmware.globals[one.name][1]) for one in self.symbols.globals]
+        found += [(one.name, Array(one.size // 4, WORD), one.address, 1) for one in self.symbols.windows]
+        found += [(name, WORD, self.symbols.block.address + 4 * number, 1) for number, name in enumerate(MONITOR_WORDS)]
+        entries: list[str] = []
         for name, of, at, line in found:
             entries += [kind('global'), f'.asciz "{name}"', self.reference(of), f'.2byte {line}', '.uleb128 5', '.byte 3', f'.4byte 0x{at:08x}']
         return entries
 
-    def function(self, one: Placed) -> list[str]:
+    def function(self, function: Function, code: FunctionCode) -> list[str]:
         """A function; all that it has stands in its frame."""
-        function, firmware = one.function, self.places.firmware
         lines = [kind('function' if function.result else 'function without result'), f'.asciz "{function.name}"', f'.2byte {function.line}',
-                 f'.4byte 0x{one.start:08x}', f'.4byte {one.end - one.start}', '.uleb128 1', '.byte 0x9c']
+                 f'.4byte 0x{code.part.address:08x}', f'.4byte {code.part.size}', '.uleb128 1', '.byte 0x9c']
         if function.result:
             lines.append(self.reference(function.result))
         inside = [('parameter' if number < len(function.parameters) else 'local', variable, 4 * number)
                   for number, variable in enumerate(function.registers())]
-        inside += [('local', variable, offset) for variable, offset in zip(function.locals, firmware.frame(function)[1])]
+        inside += [('local', variable, offset) for variable, offset in zip(function.locals, self.firmware.frame(function))]
         for what, variable, offset in inside:
             lines += [kind(what), f'.asciz "{variable.name}"', self.reference(variable.type), '.uleb128 1f-0f', '0: .byte 0x91',
-                      f'.sleb128 {offset - one.frame}', '1:']
+                      f'.sleb128 {offset - code.frame}', '1:']
         return lines + ['.byte 0']
 
 

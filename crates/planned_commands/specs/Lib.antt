@@ -1,0 +1,3 @@
+pub mod PlanAnswer
+pub mod Both
+pub mod Answers

@@ -1,0 +1,7 @@
+//! Commands on a firmware and a board.
+#![tactic(auto)]
+
+pub mod both;
+pub mod list;
+pub mod stack;
+pub mod symbolizing;

@@ -1,0 +1,63 @@
+//! `list`: the compartments of a firmware on a board.
+
+ghost use Rattle.std.specs.Prelude.{◌≤◌, None, IfOk, IfErr, length};
+ghost use Rattle.aces_words.specs.Requests.{Listing, firmware_limit};
+ghost use Rattle.commands.specs.Outcomes.{done};
+ghost use Rattle.commands.specs.Loads.{IsRefusal};
+ghost use Rattle.commands.specs.CarriesOut.{CarriesOut};
+ghost use Rattle.planned_commands.specs.Answers.{ListAnswer, AnswerToList};
+ghost use Rattle.aces_reports.specs.Sinks.{sink};
+
+use crate::both::{load_both, print};
+use aces_reports::{Done, Failure};
+use aces_words::Policy;
+use commands::failure::planning_failure;
+use commands::loading::board_of;
+use firmware_commands::reading::firmware_of;
+use firmware_listing::listing_of;
+use outside::{Files, Sink};
+use std::alloc::Global;
+
+/// Prints the compartments of a firmware by a policy, and what lies where on a board.
+pub fn list<'a, F: Files, O: Sink>(
+    alloc: Global,
+    firmware: &'a str,
+    board: &'a str,
+    policy: Policy,
+    files: &mut F,
+    out: &mut O,
+) -> Result<Done, Failure<'a>>
+    ensures { CarriesOut (AnswerToList firmware.now board.now policy) F.Files files.old files.new (Listing firmware.now board.now policy) (sink O.Sink out.old) (sink O.Sink out.new) result }
+{
+    let both = load_both(alloc, files, firmware, board)?;
+    let lines = listed(
+        alloc,
+        firmware,
+        both.firmware.as_slice(),
+        board,
+        both.board.as_slice(),
+        policy,
+    )?;
+    print(lines.as_slice(), Done::Completed, out)
+}
+
+/// The listing by the bytes of both files, each behind its name. No file is touched.
+fn listed<'a>(
+    alloc: Global,
+    firmware: &'a str,
+    bytes: &[u8],
+    board: &'a str,
+    text: &[u8],
+    policy: Policy,
+) -> Result<Vec<u8>, Failure<'a>>
+    requires { length bytes.now ≤ firmware_limit }
+    ensures ok { IfOk result (λ lines. ListAnswer firmware.now board.now policy bytes.now text.now (done 0 lines.items None)) }
+    ensures err { IfErr result (IsRefusal (ListAnswer firmware.now board.now policy bytes.now text.now)) }
+{
+    let checked = firmware_of(alloc, firmware, bytes)?;
+    let read = board_of(alloc, board, text)?;
+    match listing_of(alloc, &checked, &read, policy) {
+        Ok(lines) => Ok(lines),
+        Err(refusal) => Err(planning_failure(alloc, checked.firmware(), &read, refusal)),
+    }
+}
