@@ -1,3 +1,3 @@
 mod Firmwares
-mod Sourcing
+pub mod Sourcing
 pub mod Answering

@@ -54,8 +54,12 @@ pub fn source<'a, F: Files, O: Sink>(
     )
 }
 
-/// The compartment of each function of a firmware by a policy.
-fn compartments_of(
+/// The compartment of each function of a firmware by a policy, by what its functions need on an open board.
+///
+/// # Errors
+///
+/// There is no memory for it.
+pub fn compartments_of(
     alloc: Global,
     firmware: &Checked,
     policy: Policy,

@@ -3,6 +3,7 @@ mod Checked
 mod Counts
 mod Elements
 mod Filling
+mod Reading
 mod Rising
 mod Standing
 mod Stored

@@ -6,6 +6,7 @@ pub mod Elements
 pub mod Found
 pub mod Phases
 pub mod Places
+pub mod Reads
 pub mod Runs
 pub mod Standing
 pub mod States

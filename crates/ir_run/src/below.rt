@@ -1,6 +1,6 @@
 //! The frames that wait at their calls.
 
-ghost use Rattle.std.specs.Prelude.{◌≡◌, [], ◌∷◌, map, Some, MatchOption, IfOk};
+ghost use Rattle.std.specs.Prelude.{◌≡◌, [], ◌∷◌, ◌++◌, map, Some, MatchOption, OnOk};
 ghost use Rattle.std.specs.Option.{option_map, option_copied};
 ghost use Rattle.std.proofs.Math.ListN.{get_or, set};
 ghost use Rattle.ir_model.specs.State as state;
@@ -10,8 +10,10 @@ ghost use Rattle.ir_run.specs.declared.frame.Frame.{Frame};
 ghost use Rattle.ir_run.specs.Acts.{frame_of};
 ghost use Rattle.ir_run.specs.Found.{AreOrdered};
 ghost use Rattle.ir_run.specs.Places.{HasNext};
+ghost use Rattle.ir_run.specs.Reads.{spot_of};
 
 use crate::frame::Frame;
+use crate::reads::{Spot, standing};
 use crate::search::place_of;
 use ir_program::value::Value;
 use std::alloc::{AllocError, Global};
@@ -86,5 +88,16 @@ impl Below {
                 .locals
                 .put(usize::from(local), cell as usize, value);
         }
+    }
+
+    /// Puts where each frame stands, in their order.
+    pub fn put_spots(&self, spots: &mut Vec<Spot>) -> Result<(), AllocError>
+        ensures { OnOk result (spots.new.items ≡ spots.old.items ++ map spot_of (map frame_of self.now)) }
+    {
+        let frames = self.frames.as_slice();
+        for i in 0..frames.len() {
+            spots.push(standing(&frames[frames.len() - 1 - i]))?;
+        }
+        Ok(())
     }
 }

@@ -30,6 +30,13 @@ impl Values {
         Values { values }
     }
 
+    /// All values.
+    pub fn as_slice(&self) -> &[Value]
+        ensures { result.now ≡ self.now }
+    {
+        self.values.as_slice()
+    }
+
     /// The value of a number; 0 where there is none.
     pub fn at(&self, place: usize) -> Value
         ensures { result ≡ get_or self.now place (Number 0) }

@@ -11,6 +11,7 @@ ghost use Rattle.ir_run.specs.Phases.{state_of};
 
 use crate::outcome::{SourceEnd, SourceStep};
 use crate::parts::Parts;
+use crate::reads::{Spot, spots};
 use crate::starting::started;
 use crate::turn::turn;
 use device_model::tape::Tape;
@@ -18,6 +19,7 @@ use ir_laws::runs::{moves, registers, values};
 use ir_laws::typing::places;
 use ir_laws::{events, frames};
 use ir_program::program::Program;
+use ir_program::value::Value;
 use list_vec::ListVec;
 use std::alloc::{AllocError, Global};
 use std::marker::Model;
@@ -86,10 +88,13 @@ impl<'a> Model for SourceRun<'a> {
 }
 
 impl<'a> SourceRun<'a> {
+    ghost use Rattle.std.specs.Prelude.{map};
     ghost use Rattle.ir_model.specs.State as state;
     ghost use Rattle.ir_model.specs.Step.{source_turn};
     ghost use Rattle.ir_program.specs.Seen.{program_of, HasCounts};
+    ghost use Rattle.ir_program.specs.Values.{value_of};
     ghost use Rattle.ir_run.specs.Acts.{IsCall};
+    ghost use Rattle.ir_run.specs.Reads.{spot_of, frames_of, registers_of};
     ghost use Rattle.ir_run.specs.Runs.{IsChecked, IsStep, AnswersDeclared};
 
     /// The run of a firmware with numbers for its names, that has the compartment of each of its functions, and the words that
@@ -158,5 +163,36 @@ impl<'a> SourceRun<'a> {
         ensures { result ≡ self.now.taken }
     {
         self.taken
+    }
+
+    /// The firmware that is run, with numbers for its names.
+    pub fn program(&self) -> &Program<'a>
+        ensures { program_of result.now ≡ self.now.program }
+    {
+        &self.program
+    }
+
+    /// Where each frame stands, the running one first; of a run that has ended, none.
+    ///
+    /// # Errors
+    ///
+    /// There is no memory for it.
+    pub fn spots(&self) -> Result<Vec<Spot>, AllocError>
+        ensures { IfOk result (λ spots. spots.items ≡ map spot_of (frames_of self.now.state)) }
+    {
+        match &self.phase {
+            Phase::Running(parts) => spots(self.alloc, parts),
+            Phase::Ended(_) => Ok(Vec::new(self.alloc)),
+        }
+    }
+
+    /// What the registers of the running frame hold, by their numbers; of a run that has ended, none.
+    pub fn registers(&self) -> &[Value]
+        ensures { map value_of result.now ≡ registers_of (frames_of self.now.state) }
+    {
+        match &self.phase {
+            Phase::Running(parts) => parts.top.regs.as_slice(),
+            Phase::Ended(_) => &[],
+        }
     }
 }

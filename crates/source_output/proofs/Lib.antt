@@ -1,3 +1,3 @@
-mod Sources
-mod Begins
+pub mod Sources
+pub mod Begins
 mod Causes

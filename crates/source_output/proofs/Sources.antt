@@ -14,7 +14,7 @@ use Rattle.source_output.specs.SourceRuns.{ending_of, end_of}
 use Rattle.words.proofs.EventLines.{run_none, run_behind, run_ended, lines, lines_ended}
 
 -- a run that has ended stays, and has no event
-ended_stays : (p : Program) (c : List ℕ) (e : SourceEnd) → source_step p c (Ended e) ≡ Ended e
+pub ended_stays : (p : Program) (c : List ℕ) (e : SourceEnd) → source_step p c (Ended e) ≡ Ended e
 unfolding source_turn
 ended_stays p c e = refl
 
@@ -81,7 +81,7 @@ module _ (p : Program) (c : List ℕ) (s : SourceState) (k : ℕ) (old new : Run
 
   -- it told the end: any more steps end so, with the lines of those before
   module _ (n : ℕ) (more : k < n) (a : SourceStep) (e : code.SourceEnd) (i : IsStep old a new) (is : a ≡ answer.Ended e) where
-    ends : source_step p c (run (source_step p c) k s) ≡ Ended (acts.end_of e)
+    pub ends : source_step p c (run (source_step p c) k s) ≡ Ended (acts.end_of e)
     ends = let j = subst (λ x. IsStep old x new) is i in sym (ap (λ (t : SourceTurn). t.to) same_turn) ∙ j.says.0
 
     silent : source_event p c (run (source_step p c) k s) ≡ None

@@ -9,7 +9,7 @@ ghost use Rattle.ir_program.specs.Windows.{windows_of};
 ghost use Rattle.source_output.specs.SourceRuns.{source_run, source_end, source_event_lines, source_lines};
 ghost use Rattle.source_output.specs.Ends.{seen_end, IsCause};
 
-mod ending;
+pub mod ending;
 mod stepping;
 
 use device_model::image::Window;
@@ -55,8 +55,12 @@ impl From<Failed> for Broken {
     }
 }
 
-/// The run of a firmware on a tape, before its first step.
-fn begun(
+/// The run of a firmware on a tape, its functions standing in these compartments, before its first step.
+///
+/// # Errors
+///
+/// There is no memory for it.
+pub fn begun(
     alloc: Global,
     firmware: &Checked,
     compartments: Vec<u32>,

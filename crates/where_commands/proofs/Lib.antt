@@ -1,0 +1,3 @@
+mod Stops
+pub mod Answering
+pub mod Findable
