@@ -1,0 +1,4 @@
+pub mod Lengths
+mod Going
+mod SourceTurns
+mod MachineTurns

@@ -1,0 +1,2 @@
+pub mod TakesSteps
+pub mod Counts

@@ -1,0 +1,7 @@
+mod Apart
+mod Globals
+mod Files
+mod Functions
+mod Offers
+pub mod Typed
+pub mod Within

@@ -1,0 +1,8 @@
+mod Boards
+mod Starts
+mod Image
+mod Ran
+mod Refused
+mod Words
+mod Same
+mod SameEvents

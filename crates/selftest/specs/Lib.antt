@@ -1,0 +1,5 @@
+pub mod TestBoard
+pub mod Lines
+pub mod Answers
+pub mod Tested
+pub mod Laws

@@ -1,0 +1,10 @@
+//! A self-test: a generated firmware is compiled, and its source and its image are run and compared.
+#![tactic(auto)]
+
+mod board;
+pub mod laws;
+mod runs;
+pub mod selftesting;
+mod tables;
+pub mod telling;
+mod testing;

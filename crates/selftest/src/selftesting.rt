@@ -1,0 +1,59 @@
+//! A self-test whole: from a seed and a size to its lines.
+
+ghost use Rattle.std.specs.Prelude.{◌≡◌, ◌≤◌, None, Ok, IfOk, IfErr};
+ghost use Rattle.ir_model.specs.Plain.{firmware_of};
+ghost use Rattle.ir_generator.specs.Made.{made};
+ghost use Rattle.aces_reports.specs.Ends.{status_of};
+ghost use Rattle.commands.specs.Loads.{IsRefusal};
+ghost use Rattle.commands.specs.Outcomes.{done};
+ghost use Rattle.selftest.specs.Answers.{SelftestAnswer, IsTestImage};
+
+use crate::board::test_board;
+use crate::telling::{Told, tell};
+use crate::testing::test;
+use aces_reports::Failure;
+use aces_words::Policy;
+use commands::failure::planning_failure;
+use compiler::compile_by;
+use device_model::image::Image;
+use generated_firmwares::checked;
+use ir_model::checked::Checked;
+use std::alloc::{AllocError, Global};
+
+/// The lines on an image that was compiled, and how it ends.
+fn compared(
+    alloc: Global,
+    seed: u32,
+    size: u32,
+    firmware: &Checked,
+    image: &Image,
+) -> Result<Told, AllocError>
+    requires most { size ≤ 200 }
+    requires firmware { firmware_of firmware.now ≡ made seed size }
+    requires image { IsTestImage seed size image.now }
+    ensures { IfOk result (λ told. SelftestAnswer seed size (done (status_of (Ok told.done)) told.lines.items None)) }
+{
+    let tested = test(alloc, seed, size, firmware, image)?;
+    tell(alloc, firmware.firmware(), &tested)
+}
+
+/// Compiles the firmware of a seed and a size, runs its source and its image, and tells what both did and whether that is the same. No
+/// file is touched, and nothing is printed.
+///
+/// # Errors
+///
+/// There is no memory for it, or the firmware is not compiled: a limit of what is compiled is passed, or the blocks have more bytes than
+/// a memory of the board.
+pub fn selftest<'a>(alloc: Global, seed: u32, size: u32) -> Result<Told, Failure<'a>>
+    requires least { 1 ≤ size }
+    requires most { size ≤ 200 }
+    ensures ok { IfOk result (λ told. SelftestAnswer seed size (done (status_of (Ok told.done)) told.lines.items None)) }
+    ensures err { IfErr result (IsRefusal (SelftestAnswer seed size)) }
+{
+    let firmware = checked(alloc, seed, size)?;
+    let board = test_board(alloc);
+    match compile_by(alloc, &firmware, &board, Policy::Filename) {
+        Ok(image) => Ok(compared(alloc, seed, size, &firmware, &image)?),
+        Err(refusal) => Err(planning_failure(alloc, firmware.firmware(), &board, refusal)),
+    }
+}
