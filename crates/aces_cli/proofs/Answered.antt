@@ -4,50 +4,47 @@ use Rattle.outside.specs.Calls.{Call}
 use Rattle.aces_reports.specs.declared.failure.Done.{Done}
 use Rattle.aces_reports.specs.declared.failure.Done.TheVariants.{Completed, RunFailed, Negative}
 use Rattle.aces_reports.specs.declared.failure.Failure.{Failure}
-use Rattle.aces_reports.specs.declared.failure.Failure.TheVariants.{Refused, PastLimit, NoRoom, Unread, Unwritten, Unprinted, NoMemory}
-use Rattle.aces_words.specs.declared.policy.Policy.{Policy}
-use Rattle.aces_words.specs.Requests.{Request, Run, Bin, Compile, Check, Source, Listing, Stack, Audit, Tables, Asks, IsUsage, Origin}
+use Rattle.aces_reports.specs.declared.failure.Failure.TheVariants.{Refused, PastLimit, Denied, NoRoom, Unread, Unwritten, Unprinted, NoMemory}
+use Rattle.aces_words.specs.Requests.{Request, Run, Bin, Compile, Check, Source, Where, Listing, Stack, Audit, Tables, Who, Symbols, Help, Watch, State, Why, Asks, IsUsage, Origin}
 use Rattle.aces_reports.specs.FaultLines.{usage_line}
 use Rattle.aces_reports.specs.Sinks.{SinkState, Says}
 use Rattle.aces_reports.specs.Ends.{status_of, line_of}
-use Rattle.commands.specs.Outcomes.{Outcome, refused, past_limit, no_room, usage}
+use Rattle.commands.specs.Outcomes.{Outcome, refused, past_limit, denied, no_room, usage}
 use Rattle.commands.specs.CarriesOut.{NamesLast}
 use Rattle.commands.specs.Effects.{World, Does, Quiet, IsCarriedOut, IsPart, IsPrintedInPart}
 use Rattle.commands.proofs.Answering.{run_also, bin_also}
 use Rattle.audit_commands.proofs.Answering.{audit_also, tables_also}
 use Rattle.firmware_commands.proofs.Answering.{check_also, source_also}
-use Rattle.aces_cli.specs.Answer.{AnswerToList, AnswerToStack, AnswerToCompile, firmware_large, board_large, all_read, Answer, no_request, to_request}
+use Rattle.planned_commands.specs.Answers.{ListAnswer, StackAnswers, SymbolsAnswer}
+use Rattle.planned_commands.proofs.Answering.{both_also}
+use Rattle.who_commands.specs.Answers.{WhoAnswer}
+use Rattle.who_commands.proofs.Answering.{help_also}
+use Rattle.run_inspection.proofs.Answering.{watch_also, state_also}
+use Rattle.reach_commands.proofs.Answering.{why_also}
+use Rattle.where_commands.proofs.Answering.{where_also}
+use Rattle.aces_cli.specs.Answer.{CompileAnswer, Answer, no_request, to_request}
 use Rattle.aces_cli.specs.Endings.{IsPlain, IsAnswered, IsPartly, AsksForSource, TellsUnread, TellsUnwritten, TellsUnprinted, TellsOutOfMemory}
 
 -- answers from what is known are answers from what follows of it
 module _ (Has Had : Origin → List ℕ → Type 0) (Exceeds Exceeded : Origin → Type 0)
     (also : (s : Origin) (bytes : List ℕ) → Has s bytes → Had s bytes) (large : (s : Origin) → Exceeds s → Exceeded s) where
-  list_also : (firmware board : List ℕ) (policy : Policy) (o : Outcome) → AnswerToList firmware board policy Has Exceeds o → AnswerToList firmware board policy Had Exceeded o
-  list_also firmware board policy o (firmware_large e) = firmware_large (large _ e)
-  list_also firmware board policy o (board_large bytes h e) = board_large bytes (also _ bytes h) (large _ e)
-  list_also firmware board policy o (all_read bytes text p h k a) = all_read bytes text p (also _ bytes h) (also _ text k) a
-
-  stack_also : (firmware board : List ℕ) (policy : Policy) (o : Outcome) → AnswerToStack firmware board policy Has Exceeds o → AnswerToStack firmware board policy Had Exceeded o
-  stack_also firmware board policy o (firmware_large e) = firmware_large (large _ e)
-  stack_also firmware board policy o (board_large bytes h e) = board_large bytes (also _ bytes h) (large _ e)
-  stack_also firmware board policy o (all_read bytes text p h k a) = all_read bytes text p (also _ bytes h) (also _ text k) a
-
-  compile_also : (firmware board : List ℕ) (policy : Policy) (image : List ℕ) (o : Outcome)
-      → AnswerToCompile firmware board policy image Has Exceeds o → AnswerToCompile firmware board policy image Had Exceeded o
-  compile_also firmware board policy image o (firmware_large e) = firmware_large (large _ e)
-  compile_also firmware board policy image o (board_large bytes h e) = board_large bytes (also _ bytes h) (large _ e)
-  compile_also firmware board policy image o (all_read bytes text p h k a) = all_read bytes text p (also _ bytes h) (also _ text k) a
-
   pub answer_also : (r : Request) (o : Outcome) → Answer r Has Exceeds o → Answer r Had Exceeded o
   answer_also (Run image tape steps) o a = run_also Has Had Exceeds Exceeded also large image tape steps o a
   answer_also (Bin image file) o a = bin_also Has Had Exceeds Exceeded also large image file o a
-  answer_also (Compile firmware board policy image) o a = compile_also firmware board policy image o a
+  answer_also (Compile firmware board policy image) o a = both_also firmware board (CompileAnswer firmware board policy image) Has Had Exceeds Exceeded also large o a
   answer_also (Check firmware) o a = check_also Has Had Exceeds Exceeded also large firmware o a
   answer_also (Source firmware policy tape steps) o a = source_also Has Had Exceeds Exceeded also large firmware policy tape steps o a
-  answer_also (Listing firmware board policy) o a = list_also firmware board policy o a
-  answer_also (Stack firmware board policy) o a = stack_also firmware board policy o a
+  answer_also (Where firmware policy tape steps) o a = where_also Has Had Exceeds Exceeded also large firmware policy tape steps o a
+  answer_also (Listing firmware board policy) o a = both_also firmware board (ListAnswer firmware board policy) Has Had Exceeds Exceeded also large o a
+  answer_also (Stack firmware board policy) o a = both_also firmware board (StackAnswers firmware board policy) Has Had Exceeds Exceeded also large o a
   answer_also (Audit image) o a = audit_also Has Had Exceeds Exceeded also large image o a
   answer_also (Tables image) o a = tables_also Has Had Exceeds Exceeded also large image o a
+  answer_also (Who firmware board policy) o a = both_also firmware board (WhoAnswer firmware board policy) Has Had Exceeds Exceeded also large o a
+  answer_also (Symbols firmware board policy) o a = both_also firmware board (SymbolsAnswer firmware board policy) Has Had Exceeds Exceeded also large o a
+  answer_also Help o a = help_also Has Had Exceeds Exceeded o a
+  answer_also (Watch image tape steps address) o a = watch_also Has Had Exceeds Exceeded also large image tape steps address o a
+  answer_also (State image tape steps) o a = state_also Has Had Exceeds Exceeded also large image tape steps o a
+  answer_also (Why firmware) o a = why_also Has Had Exceeds Exceeded also large firmware o a
 
 -- nothing is printed and written, and no fault rose
 nothing_more : (old new : World) (o : Outcome) → Quiet old new → new.read_faults ≡ old.read_faults → o.printed ≡ [] → o.written ≡ None → IsCarriedOut old new o
@@ -108,6 +105,13 @@ module _ (Has : Origin → List ℕ → Type 0) (Exceeds : Origin → Type 0) (w
     all = nothing_more old new (past_limit which count) d.quiet d.read_faults refl refl;
     says = l;
   }
+  answered (Err (Denied said)) s q d l p = record {
+    outcome = denied said;
+    answer = to_request r (denied said) asks d.answer;
+    ended = sym q;
+    all = nothing_more old new (denied said) d.quiet d.read_faults refl refl;
+    says = l;
+  }
   answered (Err (NoRoom memory c needed available)) s q d l p = record {
     outcome = no_room memory c needed available;
     answer = to_request r (no_room memory c needed available) asks d.answer;
@@ -129,6 +133,7 @@ module _ (Has : Origin → List ℕ → Type 0) (Exceeds : Origin → Type 0) (w
   partly (Ok Negative) q d = let f : ⊥ = omega (arith, q) in absurd f
   partly (Err (Refused name f)) q d = let f : ⊥ = omega (arith, q) in absurd f
   partly (Err (PastLimit which count)) q d = let f : ⊥ = omega (arith, q) in absurd f
+  partly (Err (Denied said)) q d = let f : ⊥ = omega (arith, q) in absurd f
   partly (Err (NoRoom memory c needed available)) q d = let f : ⊥ = omega (arith, q) in absurd f
   partly (Err (Unread name)) q d = let f : ⊥ = omega (arith, q) in absurd f
   partly (Err (Unwritten name)) q d = part_of d.1
@@ -141,10 +146,17 @@ module _ (Has : Origin → List ℕ → Type 0) (Exceeds : Origin → Type 0) (w
   in_part (Compile firmware board policy image) h = inl h
   in_part (Check firmware) h = inl h
   in_part (Source firmware policy tape steps) h = elim h [ inl e ↦ inl e | inr p ↦ inr (part_of p) ]
+  in_part (Where firmware policy tape steps) h = inl h
   in_part (Listing firmware board policy) h = inl h
   in_part (Stack firmware board policy) h = inl h
   in_part (Audit image) h = inl h
   in_part (Tables image) h = inl h
+  in_part (Who firmware board policy) h = inl h
+  in_part (Symbols firmware board policy) h = inl h
+  in_part Help h = inl h
+  in_part (Watch image tape steps address) h = inl h
+  in_part (State image tape steps) h = inl h
+  in_part (Why firmware) h = inl h
 
   pub printed_in_part : (e : Result Done Failure) → status_of e ≡ 6 → Does (Answer r Has Exceeds) r old new e → (new.out ≡ old.out) ⊎ IsPartly Has Exceeds words old new
   printed_in_part (Ok Completed) q d = let f : ⊥ = omega (arith, q) in absurd f
@@ -152,6 +164,7 @@ module _ (Has : Origin → List ℕ → Type 0) (Exceeds : Origin → Type 0) (w
   printed_in_part (Ok Negative) q d = let f : ⊥ = omega (arith, q) in absurd f
   printed_in_part (Err (Refused name f)) q d = let f : ⊥ = omega (arith, q) in absurd f
   printed_in_part (Err (PastLimit which count)) q d = let f : ⊥ = omega (arith, q) in absurd f
+  printed_in_part (Err (Denied said)) q d = let f : ⊥ = omega (arith, q) in absurd f
   printed_in_part (Err (NoRoom memory c needed available)) q d = let f : ⊥ = omega (arith, q) in absurd f
   printed_in_part (Err (Unread name)) q d = let f : ⊥ = omega (arith, q) in absurd f
   printed_in_part (Err (Unwritten name)) q d = let f : ⊥ = omega (arith, q) in absurd f
@@ -167,6 +180,7 @@ module _ (A : Outcome → Type 0) (words : List (List ℕ)) (r : Request) (asks 
   unread calls (Ok Negative) q d n l = let f : ⊥ = omega (arith, q) in absurd f
   unread calls (Err (Refused name f)) q d n l = let f : ⊥ = omega (arith, q) in absurd f
   unread calls (Err (PastLimit which count)) q d n l = let f : ⊥ = omega (arith, q) in absurd f
+  unread calls (Err (Denied said)) q d n l = let f : ⊥ = omega (arith, q) in absurd f
   unread calls (Err (NoRoom memory c needed available)) q d n l = let f : ⊥ = omega (arith, q) in absurd f
   unread calls (Err (Unread name)) q d n l = record { request = r; asks = asks; name = name.now; unread = d; last = n; says = l }
   unread calls (Err (Unwritten name)) q d n l = let f : ⊥ = omega (arith, q) in absurd f
@@ -180,6 +194,7 @@ module _ (A : Outcome → Type 0) (words : List (List ℕ)) (r : Request) (asks 
   unwritten (Ok Negative) q d l = let f : ⊥ = omega (arith, q) in absurd f
   unwritten (Err (Refused name f)) q d l = let f : ⊥ = omega (arith, q) in absurd f
   unwritten (Err (PastLimit which count)) q d l = let f : ⊥ = omega (arith, q) in absurd f
+  unwritten (Err (Denied said)) q d l = let f : ⊥ = omega (arith, q) in absurd f
   unwritten (Err (NoRoom memory c needed available)) q d l = let f : ⊥ = omega (arith, q) in absurd f
   unwritten (Err (Unread name)) q d l = let f : ⊥ = omega (arith, q) in absurd f
   unwritten (Err (Unwritten name)) q d l = inl (record { request = r; asks = asks; name = name.now; unwritten = d.0; says = l })
@@ -192,10 +207,17 @@ module _ (A : Outcome → Type 0) (words : List (List ℕ)) (r : Request) (asks 
   quiet_unless (Compile firmware board policy image) a h = inl h
   quiet_unless (Check firmware) a h = inl h
   quiet_unless (Source firmware policy tape steps) a h = inr (record { firmware = firmware; policy = policy; tape = tape; steps = steps; asks = a })
+  quiet_unless (Where firmware policy tape steps) a h = inl h
   quiet_unless (Listing firmware board policy) a h = inl h
   quiet_unless (Stack firmware board policy) a h = inl h
   quiet_unless (Audit image) a h = inl h
   quiet_unless (Tables image) a h = inl h
+  quiet_unless (Who firmware board policy) a h = inl h
+  quiet_unless (Symbols firmware board policy) a h = inl h
+  quiet_unless Help a h = inl h
+  quiet_unless (Watch image tape steps address) a h = inl h
+  quiet_unless (State image tape steps) a h = inl h
+  quiet_unless (Why firmware) a h = inl h
 
   pub out_of_memory : (e : Result Done Failure) → status_of e ≡ 6 → Does A r old new e → Says err_old err_new (line_of e) → TellsOutOfMemory words old new err_old err_new
   out_of_memory (Ok Completed) q d l = let f : ⊥ = omega (arith, q) in absurd f
@@ -203,6 +225,7 @@ module _ (A : Outcome → Type 0) (words : List (List ℕ)) (r : Request) (asks 
   out_of_memory (Ok Negative) q d l = let f : ⊥ = omega (arith, q) in absurd f
   out_of_memory (Err (Refused name f)) q d l = let f : ⊥ = omega (arith, q) in absurd f
   out_of_memory (Err (PastLimit which count)) q d l = let f : ⊥ = omega (arith, q) in absurd f
+  out_of_memory (Err (Denied said)) q d l = let f : ⊥ = omega (arith, q) in absurd f
   out_of_memory (Err (NoRoom memory c needed available)) q d l = let f : ⊥ = omega (arith, q) in absurd f
   out_of_memory (Err (Unread name)) q d l = let f : ⊥ = omega (arith, q) in absurd f
   out_of_memory (Err (Unwritten name)) q d l = let f : ⊥ = omega (arith, q) in absurd f
@@ -215,6 +238,7 @@ module _ (A : Outcome → Type 0) (words : List (List ℕ)) (r : Request) (asks 
   reads_stay (Ok Negative) d = inr d.all.read_faults
   reads_stay (Err (Refused name f)) d = inr d.read_faults
   reads_stay (Err (PastLimit which count)) d = inr d.read_faults
+  reads_stay (Err (Denied said)) d = inr d.read_faults
   reads_stay (Err (NoRoom memory c needed available)) d = inr d.read_faults
   reads_stay (Err (Unread name)) d = inl refl
   reads_stay (Err (Unwritten name)) d = inr d.0.read_faults
@@ -230,6 +254,7 @@ module _ (A : Outcome → Type 0) (words : List (List ℕ)) (r : Request) (asks 
   writes_stay (Ok Negative) d = inr (d.all.write_faults, d.all.faults)
   writes_stay (Err (Refused name f)) d = inr (writes_of d.quiet)
   writes_stay (Err (PastLimit which count)) d = inr (writes_of d.quiet)
+  writes_stay (Err (Denied said)) d = inr (writes_of d.quiet)
   writes_stay (Err (NoRoom memory c needed available)) d = inr (writes_of d.quiet)
   writes_stay (Err (Unread name)) d = inr (writes_of d.quiet)
   writes_stay (Err (Unwritten name)) d = inl refl

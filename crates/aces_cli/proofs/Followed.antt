@@ -17,8 +17,13 @@ use Rattle.stack_paths.specs.declared.answer.StackAnswer.{StackAnswer}
 use Rattle.stack_paths.specs.declared.answer.StackAnswer.TheVariants.{Cycle, Bound}
 use Rattle.bounded_images.specs.Bounded.{Fits, ImagesRefineWhole}
 use Rattle.firmware_stacks.specs.Lines.{stack_status}
+use Rattle.planned_commands.specs.PlanAnswer as plans
+use Rattle.planned_commands.specs.PlanAnswer.{PlanAnswer}
+use Rattle.planned_commands.specs.Both as boths
+use Rattle.planned_commands.specs.Answers as stacks
+use Rattle.planned_commands.specs.Answers.{StackAnswers, AnswerToStack}
 use Rattle.aces_cli.specs.Answer as answers
-use Rattle.aces_cli.specs.Answer.{PlanAnswer, StackAnswers, CompileAnswer, AnswerToStack, AnswerToCompile, Answer, Answers}
+use Rattle.aces_cli.specs.Answer.{CompileAnswer, AnswerToCompile, Answer, Answers}
 use Rattle.aces_cli.specs.Bounded.{IsFollowed, StackIsEnough, BoundedCallsAreFollowed}
 use Rattle.aces_cli.proofs.Good.{held_is_one}
 
@@ -39,10 +44,10 @@ record Promises (policy : Policy) (bytes text : List ℕ) : Type 0 where
   pub whole : ImagesRefineWhole policy w b
 
 promised : (firmware board : List ℕ) (policy : Policy) (bytes text : List ℕ) (s : Outcome) → StackAnswers firmware board policy bytes text s → s.status ≡ 0 → Promises policy bytes text
-promised firmware board policy bytes text s (answers.no_firmware f h) e = let f : ⊥ = omega (arith, e) in absurd f
-promised firmware board policy bytes text s (answers.no_board w f h k) e = let f : ⊥ = omega (arith, e) in absurd f
-promised firmware board policy bytes text s (answers.too_many w b which count h k r) e = let f : ⊥ = omega (arith, e) in absurd f
-promised firmware board policy bytes text s (answers.bounded w b a h k r) e = record {
+promised firmware board policy bytes text s (stacks.no_firmware f h) e = let f : ⊥ = omega (arith, e) in absurd f
+promised firmware board policy bytes text s (stacks.no_board w f h k) e = let f : ⊥ = omega (arith, e) in absurd f
+promised firmware board policy bytes text s (stacks.too_many w b which count h k r) e = let f : ⊥ = omega (arith, e) in absurd f
+promised firmware board policy bytes text s (stacks.bounded w b a h k r) e = record {
   w = w;
   b = b;
   is_firmware = h;
@@ -52,11 +57,12 @@ promised firmware board policy bytes text s (answers.bounded w b a h k r) e = re
 
 -- a firmware that has no plan is refused with no 0
 plan_fails : (firmware board : List ℕ) (policy : Policy) (bytes text : List ℕ) (o : Outcome) → PlanAnswer firmware board policy bytes text o → o.status ≡ 0 → ⊥
-plan_fails firmware board policy bytes text o (answers.no_firmware f h) e = omega (arith, e)
-plan_fails firmware board policy bytes text o (answers.no_board w f h k) e = omega (arith, e)
-plan_fails firmware board policy bytes text o (answers.too_many w b which count h k r) e = omega (arith, e)
-plan_fails firmware board policy bytes text o (answers.no_flash w b c n a h k r) e = omega (arith, e)
-plan_fails firmware board policy bytes text o (answers.no_ram w b c n a h k r) e = omega (arith, e)
+plan_fails firmware board policy bytes text o (plans.no_firmware f h) e = omega (arith, e)
+plan_fails firmware board policy bytes text o (plans.no_board w f h k) e = omega (arith, e)
+plan_fails firmware board policy bytes text o (plans.too_many w b which count h k r) e = omega (arith, e)
+plan_fails firmware board policy bytes text o (plans.meets_denied w b m h k r) e = omega (arith, e)
+plan_fails firmware board policy bytes text o (plans.no_flash w b c n a h k r) e = omega (arith, e)
+plan_fails firmware board policy bytes text o (plans.no_ram w b c n a h k r) e = omega (arith, e)
 
 module _ (unique : TextsAreUnique) (one : BoardsAreOne) (told : Bool) (yes_told : IsTrue told) (old new : Held) (firmware board : List ℕ) (policy : Policy) (image : List ℕ) where
   follow : (bytes text : List ℕ) (o : Outcome) → Holds old (firmware_origin firmware) bytes → Holds old (file_origin board) text → Promises policy bytes text
@@ -86,18 +92,18 @@ module _ (unique : TextsAreUnique) (one : BoardsAreOne) (told : Bool) (yes_told 
 
   compile_by : (bytes text : List ℕ) (o : Outcome) → Holds old (firmware_origin firmware) bytes → Holds old (file_origin board) text → Promises policy bytes text
       → AnswerToCompile firmware board policy image (Holds old) (Exceeds old) o → o.status ≡ 0 → IsRewritten told o.written old new → IsFollowed policy old firmware board new image
-  compile_by bytes text o hb ht g (answers.firmware_large x) e written = let f : ⊥ = omega (arith, e) in absurd f
-  compile_by bytes text o hb ht g (answers.board_large bytes1 h1 x) e written = let f : ⊥ = omega (arith, e) in absurd f
-  compile_by bytes text o hb ht g (answers.all_read bytes1 text1 o1 h1 t1 a) e written =
+  compile_by bytes text o hb ht g (boths.firmware_large x) e written = let f : ⊥ = omega (arith, e) in absurd f
+  compile_by bytes text o hb ht g (boths.board_large bytes1 h1 x) e written = let f : ⊥ = omega (arith, e) in absurd f
+  compile_by bytes text o hb ht g (boths.all_read bytes1 text1 o1 h1 t1 a) e written =
       follow bytes1 text1 o1 h1 t1
       (subst (Promises policy bytes1) (held_is_one old (file_origin board) text text1 ht t1)
       (subst (λ (z : List ℕ). Promises policy z text) (held_is_one old (firmware_origin firmware) bytes bytes1 hb h1) g)) a e written
 
   stack_by : (s o : Outcome) → AnswerToStack firmware board policy (Holds old) (Exceeds old) s → s.status ≡ 0
       → AnswerToCompile firmware board policy image (Holds old) (Exceeds old) o → o.status ≡ 0 → IsRewritten told o.written old new → IsFollowed policy old firmware board new image
-  stack_by s o (answers.firmware_large x) z a e written = let f : ⊥ = omega (arith, z) in absurd f
-  stack_by s o (answers.board_large bytes h x) z a e written = let f : ⊥ = omega (arith, z) in absurd f
-  stack_by s o (answers.all_read bytes text p h t b) z a e written = compile_by bytes text o h t (promised firmware board policy bytes text p b z) a e written
+  stack_by s o (boths.firmware_large x) z a e written = let f : ⊥ = omega (arith, z) in absurd f
+  stack_by s o (boths.board_large bytes h x) z a e written = let f : ⊥ = omega (arith, z) in absurd f
+  stack_by s o (boths.all_read bytes text p h t b) z a e written = compile_by bytes text o h t (promised firmware board policy bytes text p b z) a e written
 
 -- the answer to words that ask to compile
 compile_answer : (Has : Origin → List ℕ → Type 0) (Exceed : Origin → Type 0) (words : List (List ℕ)) (firmware board : List ℕ) (policy : Policy) (image : List ℕ) (o : Outcome)

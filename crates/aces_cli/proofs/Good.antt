@@ -21,11 +21,21 @@ use Rattle.commands.specs.Outcomes.{Outcome}
 use Rattle.commands.specs.Contents.{of_board}
 use Rattle.firmware_commands.specs.Firmwares.{IsFirmware}
 use Rattle.commands.specs.Known.{Held, Holds, Exceeds}
-use Rattle.aces_cli.specs.Answer.{PlanAnswer, ListAnswer, StackAnswers, CompileAnswer, no_firmware, no_board, too_many, no_flash, no_ram, unplanned, listed, bounded, compiled, AnswerToList, AnswerToStack, AnswerToCompile, firmware_large, board_large, all_read, Answer}
-use Rattle.aces_cli.specs.Complete.{IsCompilable, IsBoundable, IsGood, run, bin, compile, check, source, list, stack, audit, tables, IsDoneBy, GoodRequestsAreDone}
+use Rattle.planned_commands.specs.PlanAnswer as plans
+use Rattle.planned_commands.specs.PlanAnswer.{PlanAnswer}
+use Rattle.planned_commands.specs.Answers.{ListAnswer, StackAnswers, SymbolsAnswer, AnswerToList, AnswerToStack, no_firmware, no_board, too_many, bounded}
+use Rattle.planned_commands.specs.Answers as answers
+use Rattle.planned_commands.proofs.Answering.{both_good}
+use Rattle.who_commands.proofs.Answering.{who_done, good_help}
+use Rattle.who_commands.specs.Answers.{WhoAnswer}
+use Rattle.aces_cli.proofs.Inspectable.{good_watch, good_state}
+use Rattle.reach_commands.proofs.WellDone.{good_why}
+use Rattle.where_commands.proofs.Findable.{good_where}
+use Rattle.aces_cli.specs.Answer.{CompileAnswer, unplanned, compiled, AnswerToCompile, Answer}
+use Rattle.aces_cli.specs.Complete.{IsCompilable, IsBoundable, IsGood, run, bin, compile, check, source, list, stack, audit, tables, where_it_is, who, symbols, help, watch, state, why, IsDoneBy, GoodRequestsAreDone}
 use Rattle.aces_cli.proofs.Runnable.{Laws, good_run, good_bin}
 use Rattle.aces_cli.proofs.Auditable.{good_audit, good_tables}
-use Rattle.aces_cli.proofs.SourceRunnable.{is_firmware, firmwares_are_one, good_check, good_source}
+use Rattle.aces_cli.proofs.SourceRunnable.{is_firmware, firmwares_are_one, good_check, good_source, is_faultless}
 
 -- boards of texts
 module _ (read : BoardsAreNotRefused) where
@@ -54,18 +64,24 @@ module _ (laws : Laws) where
       (subst (λ v. IsPlannable policy v g.board) (firmwares_are_one laws.unique laws.faultless g.firmware w bytes g.is_firmware h) g.plannable)) q
 
   plan_none : (firmware board : List ℕ) (policy : Policy) (bytes t : List ℕ) (o : Outcome) → IsCompilable policy bytes t → PlanAnswer firmware board policy bytes t o → ⊥
-  plan_none firmware board policy bytes t o g (no_firmware f k) = is_firmware laws.unique laws.faultless g.firmware bytes f g.is_firmware k
-  plan_none firmware board policy bytes t o g (no_board w f h k) = board_has_no_fault laws.read t g.board f g.is_board k.first k.found k.named
-  plan_none firmware board policy bytes t o g (too_many w b which count h k r) =
+  plan_none firmware board policy bytes t o g (plans.no_firmware f k) = is_firmware laws.unique laws.faultless g.firmware bytes f g.is_firmware k
+  plan_none firmware board policy bytes t o g (plans.no_board w f h k) = board_has_no_fault laws.read t g.board f g.is_board k.first k.found k.named
+  plan_none firmware board policy bytes t o g (plans.too_many w b which count h k r) =
       let wrong : planning.Limit which count ≡ planning.NoMemory = planned_one policy bytes t w b (planning.Limit which count) g h k r in cc
-  plan_none firmware board policy bytes t o g (no_flash w b c n a h k r) =
+  plan_none firmware board policy bytes t o g (plans.meets_denied w b m h k r) =
+      let wrong : planning.Denied m ≡ planning.NoMemory = planned_one policy bytes t w b (planning.Denied m) g h k r in cc
+  plan_none firmware board policy bytes t o g (plans.no_flash w b c n a h k r) =
       let wrong : planning.Flash c n a ≡ planning.NoMemory = planned_one policy bytes t w b (planning.Flash c n a) g h k r in cc
-  plan_none firmware board policy bytes t o g (no_ram w b c n a h k r) =
+  plan_none firmware board policy bytes t o g (plans.no_ram w b c n a h k r) =
       let wrong : planning.Ram c n a ≡ planning.NoMemory = planned_one policy bytes t w b (planning.Ram c n a) g h k r in cc
 
   list_done : (firmware board : List ℕ) (policy : Policy) (bytes t : List ℕ) (o : Outcome) → IsCompilable policy bytes t → ListAnswer firmware board policy bytes t o → o.status ≡ 0
-  list_done firmware board policy bytes t o g (unplanned p h) = absurd (plan_none firmware board policy bytes t o g h)
-  list_done firmware board policy bytes t o g (listed w b lines h k l) = refl
+  list_done firmware board policy bytes t o g (answers.unplanned p h) = absurd (plan_none firmware board policy bytes t o g h)
+  list_done firmware board policy bytes t o g (answers.listed w b lines h k l) = refl
+
+  symbols_done : (firmware board : List ℕ) (policy : Policy) (bytes t : List ℕ) (o : Outcome) → IsCompilable policy bytes t → SymbolsAnswer firmware board policy bytes t o → o.status ≡ 0
+  symbols_done firmware board policy bytes t o g (answers.untold p h) = absurd (plan_none firmware board policy bytes t o g h)
+  symbols_done firmware board policy bytes t o g (answers.told w b lines h k l) = refl
 
   within_one : (policy : Policy) (bytes t : List ℕ) (w : PlainFirmware) (b : Board) → IsBoundable policy bytes t → IsFirmware w bytes → IsRead t b → KeepsLimitsBy policy w b
   within_one policy bytes t w b g h k =
@@ -85,37 +101,28 @@ module _ (laws : Laws) where
   compile_done firmware board policy image bytes t o g (compiled w b out h k l) = refl
 
   module _ (Has : Origin → List ℕ → Type 0) (Exceeds : Origin → Type 0) (one : (s : Origin) (a b : List ℕ) → Has s a → Has s b → a ≡ b) (fits : (s : Origin) (a : List ℕ) → Has s a → Exceeds s → ⊥) where
-    good_list : (firmware board : List ℕ) (policy : Policy) (bytes t : List ℕ) (o : Outcome) → Has (firmware_origin firmware) bytes → Has (file_origin board) t
-        → IsCompilable policy bytes t → AnswerToList firmware board policy Has Exceeds o → o.status ≡ 0
-    good_list firmware board policy bytes t o h k g (firmware_large e) = absurd (fits _ bytes h e)
-    good_list firmware board policy bytes t o h k g (board_large bytes1 h1 e) = absurd (fits _ t k e)
-    good_list firmware board policy bytes t o h k g (all_read bytes1 t1 o1 h1 k1 a) =
-        list_done firmware board policy bytes1 t1 o (subst (IsCompilable policy bytes1) (one _ t t1 k k1) (subst (λ z. IsCompilable policy z t) (one _ bytes bytes1 h h1) g)) a
-
-    good_stack : (firmware board : List ℕ) (policy : Policy) (bytes t : List ℕ) (o : Outcome) → Has (firmware_origin firmware) bytes → Has (file_origin board) t
-        → IsBoundable policy bytes t → AnswerToStack firmware board policy Has Exceeds o → (o.status ≡ 0) ⊎ (o.status ≡ 8)
-    good_stack firmware board policy bytes t o h k g (firmware_large e) = absurd (fits _ bytes h e)
-    good_stack firmware board policy bytes t o h k g (board_large bytes1 h1 e) = absurd (fits _ t k e)
-    good_stack firmware board policy bytes t o h k g (all_read bytes1 t1 o1 h1 k1 a) =
-        stack_done firmware board policy bytes1 t1 o (subst (IsBoundable policy bytes1) (one _ t t1 k k1) (subst (λ z. IsBoundable policy z t) (one _ bytes bytes1 h h1) g)) a
-
-    good_compile : (firmware board : List ℕ) (policy : Policy) (image bytes t : List ℕ) (o : Outcome) → Has (firmware_origin firmware) bytes → Has (file_origin board) t
-        → IsCompilable policy bytes t → AnswerToCompile firmware board policy image Has Exceeds o → o.status ≡ 0
-    good_compile firmware board policy image bytes t o h k g (firmware_large e) = absurd (fits _ bytes h e)
-    good_compile firmware board policy image bytes t o h k g (board_large bytes1 h1 e) = absurd (fits _ t k e)
-    good_compile firmware board policy image bytes t o h k g (all_read bytes1 t1 o1 h1 k1 a) =
-        compile_done firmware board policy image bytes1 t1 o (subst (IsCompilable policy bytes1) (one _ t t1 k k1) (subst (λ z. IsCompilable policy z t) (one _ bytes bytes1 h h1) g)) a
-
     good_is_done : (r : Request) (o : Outcome) → IsGood Has r → Answer r Has Exceeds o → IsDoneBy r o.status
     good_is_done r o (run image tape steps bytes t h k g) a = good_run laws Has Exceeds one fits image tape steps bytes t o h k g a
     good_is_done r o (bin image file bytes i h g) a = good_bin laws Has Exceeds one fits image file bytes i o h g a
-    good_is_done r o (compile firmware board policy image bytes t h k g) a = good_compile firmware board policy image bytes t o h k g a
+    good_is_done r o (compile firmware board policy image bytes t h k g) a =
+        both_good firmware board (CompileAnswer firmware board policy image) (λ n. n ≡ 0) Has Exceeds one fits bytes t o h k (compile_done firmware board policy image bytes t o g) a
     good_is_done r o (check firmware bytes w h g) a = good_check laws Has Exceeds one fits firmware bytes w o h g a
     good_is_done r o (source firmware policy tape steps bytes t h k g) a = good_source laws Has Exceeds one fits firmware policy tape steps bytes t o h k g a
-    good_is_done r o (list firmware board policy bytes t h k g) a = good_list firmware board policy bytes t o h k g a
-    good_is_done r o (stack firmware board policy bytes t h k g) a = good_stack firmware board policy bytes t o h k g a
+    good_is_done r o (where_it_is firmware policy tape steps bytes t h k g) a = good_where Has Exceeds one fits firmware policy tape steps bytes t o h k (is_faultless laws bytes t g) a
+    good_is_done r o (list firmware board policy bytes t h k g) a =
+        both_good firmware board (ListAnswer firmware board policy) (λ n. n ≡ 0) Has Exceeds one fits bytes t o h k (list_done firmware board policy bytes t o g) a
+    good_is_done r o (stack firmware board policy bytes t h k g) a =
+        both_good firmware board (StackAnswers firmware board policy) (λ n. (n ≡ 0) ⊎ (n ≡ 8)) Has Exceeds one fits bytes t o h k (stack_done firmware board policy bytes t o g) a
     good_is_done r o (audit image bytes i h g) a = good_audit laws Has Exceeds one fits image bytes i o h g a
     good_is_done r o (tables image bytes i h g) a = good_tables laws Has Exceeds one fits image bytes i o h g a
+    good_is_done r o (who firmware board policy bytes t h k g) a =
+        both_good firmware board (WhoAnswer firmware board policy) (λ n. n ≡ 0) Has Exceeds one fits bytes t o h k (who_done firmware board policy bytes t o (λ p. plan_none firmware board policy bytes t p g)) a
+    good_is_done r o (symbols firmware board policy bytes t h k g) a =
+        both_good firmware board (SymbolsAnswer firmware board policy) (λ n. n ≡ 0) Has Exceeds one fits bytes t o h k (symbols_done firmware board policy bytes t o g) a
+    good_is_done r o help a = good_help Has Exceeds o a
+    good_is_done r o (watch image tape steps address bytes t h k g) a = good_watch laws Has Exceeds one fits image tape steps address bytes t o h k g a
+    good_is_done r o (state image tape steps bytes t h k g) a = good_state laws Has Exceeds one fits image tape steps bytes t o h k g a
+    good_is_done r o (why firmware bytes w h g) a = good_why Has Exceeds one fits firmware bytes o h (λ f k. is_firmware laws.unique laws.faultless w bytes f g k) a
 
 pub held_is_one : (held : Held) (s : Origin) (a b : List ℕ) → Holds held s a → Holds held s b → a ≡ b
 held_is_one held s a b h k = let both : Some a ≡ Some b = sym h.there ∙ k.there in cc

@@ -1,46 +1,27 @@
 -- An answer with a status other than 0 writes nothing.
 use Rattle.std.proofs.Common.{◌≡◌, ◌≢◌, ℕ, List, None, refl}
 use Rattle.aces_words.specs.declared.policy.Policy.{Policy}
-use Rattle.aces_words.specs.Requests.{Request, Run, Bin, Compile, Check, Source, Listing, Stack, Audit, Tables, Origin}
+use Rattle.aces_words.specs.Requests.{Request, Run, Bin, Compile, Check, Source, Where, Listing, Stack, Audit, Tables, Who, Symbols, Help, Watch, State, Why, Origin}
 use Rattle.commands.specs.Outcomes.{Outcome}
 use Rattle.commands.proofs.Answering.{run_writes_nothing, bin_writes_nothing}
 use Rattle.audit_commands.proofs.Answering.{audit_writes_nothing, tables_writes_nothing}
 use Rattle.firmware_commands.proofs.Answering.{check_writes_nothing, source_writes_nothing}
-use Rattle.aces_cli.specs.Answer.{PlanAnswer, ListAnswer, StackAnswers, CompileAnswer, no_firmware, no_board, too_many, no_flash, no_ram, unplanned, listed, bounded, compiled, AnswerToList, AnswerToStack, AnswerToCompile, firmware_large, board_large, all_read, Answer}
-
-of_plan : (firmware board : List ℕ) (policy : Policy) (bytes text : List ℕ) (o : Outcome) → PlanAnswer firmware board policy bytes text o → o.written ≡ None
-of_plan firmware board policy bytes text o (no_firmware f h) = refl
-of_plan firmware board policy bytes text o (no_board w f h k) = refl
-of_plan firmware board policy bytes text o (too_many w b which count h k r) = refl
-of_plan firmware board policy bytes text o (no_flash w b c needed available h k r) = refl
-of_plan firmware board policy bytes text o (no_ram w b c needed available h k r) = refl
-
-of_list : (firmware board : List ℕ) (policy : Policy) (bytes text : List ℕ) (o : Outcome) → ListAnswer firmware board policy bytes text o → o.written ≡ None
-of_list firmware board policy bytes text o (unplanned p h) = of_plan firmware board policy bytes text o h
-of_list firmware board policy bytes text o (listed w b lines h k l) = refl
-
-of_stack : (firmware board : List ℕ) (policy : Policy) (bytes text : List ℕ) (o : Outcome) → StackAnswers firmware board policy bytes text o → o.written ≡ None
-of_stack firmware board policy bytes text o (no_firmware f h) = refl
-of_stack firmware board policy bytes text o (no_board w f h k) = refl
-of_stack firmware board policy bytes text o (too_many w b which count h k r) = refl
-of_stack firmware board policy bytes text o (bounded w b a h k s) = refl
+use Rattle.planned_commands.specs.Both.{firmware_large, board_large, all_read}
+use Rattle.planned_commands.specs.Answers.{ListAnswer, StackAnswers, SymbolsAnswer}
+use Rattle.planned_commands.proofs.Answering.{both_write_nothing, plan_writes_nothing, list_writes_nothing, stack_writes_nothing, symbols_write_nothing}
+use Rattle.who_commands.proofs.Answering.{who_writes_nothing, help_writes_nothing}
+use Rattle.who_commands.specs.Answers.{WhoAnswer}
+use Rattle.run_inspection.proofs.Answering.{watch_writes_nothing, state_writes_nothing}
+use Rattle.reach_commands.proofs.Answering.{why_writes_nothing}
+use Rattle.where_commands.proofs.Answering.{where_writes_nothing}
+use Rattle.aces_cli.specs.Answer.{CompileAnswer, unplanned, compiled, AnswerToCompile, Answer}
 
 of_compile : (firmware board : List ℕ) (policy : Policy) (image bytes text : List ℕ) (o : Outcome) → CompileAnswer firmware board policy image bytes text o
     → o.status ≢ 0 → o.written ≡ None
-of_compile firmware board policy image bytes text o (unplanned p h) n = of_plan firmware board policy bytes text o h
+of_compile firmware board policy image bytes text o (unplanned p h) n = plan_writes_nothing firmware board policy bytes text o h
 of_compile firmware board policy image bytes text o (compiled w b out h k l) n = absurd (n refl)
 
 module _ (Has : Origin → List ℕ → Type 0) (Exceeds : Origin → Type 0) where
-  list_writes_nothing : (firmware board : List ℕ) (policy : Policy) (o : Outcome) → AnswerToList firmware board policy Has Exceeds o → o.written ≡ None
-  list_writes_nothing firmware board policy o (firmware_large e) = refl
-  list_writes_nothing firmware board policy o (board_large bytes h e) = refl
-  list_writes_nothing firmware board policy o (all_read bytes text p h k a) = of_list firmware board policy bytes text o a
-
-  stack_writes_nothing : (firmware board : List ℕ) (policy : Policy) (o : Outcome) → AnswerToStack firmware board policy Has Exceeds o → o.written ≡ None
-  stack_writes_nothing firmware board policy o (firmware_large e) = refl
-  stack_writes_nothing firmware board policy o (board_large bytes h e) = refl
-  stack_writes_nothing firmware board policy o (all_read bytes text p h k a) = of_stack firmware board policy bytes text o a
-
   compile_writes_nothing : (firmware board : List ℕ) (policy : Policy) (image : List ℕ) (o : Outcome) → AnswerToCompile firmware board policy image Has Exceeds o
       → o.status ≢ 0 → o.written ≡ None
   compile_writes_nothing firmware board policy image o (firmware_large e) n = refl
@@ -53,7 +34,14 @@ module _ (Has : Origin → List ℕ → Type 0) (Exceeds : Origin → Type 0) wh
   writes_nothing (Compile firmware board policy image) o a n = compile_writes_nothing firmware board policy image o a n
   writes_nothing (Check firmware) o a n = check_writes_nothing Has Exceeds firmware o a
   writes_nothing (Source firmware policy tape steps) o a n = source_writes_nothing Has Exceeds firmware policy tape steps o a
-  writes_nothing (Listing firmware board policy) o a n = list_writes_nothing firmware board policy o a
-  writes_nothing (Stack firmware board policy) o a n = stack_writes_nothing firmware board policy o a
+  writes_nothing (Where firmware policy tape steps) o a n = where_writes_nothing Has Exceeds firmware policy tape steps o a
+  writes_nothing (Listing firmware board policy) o a n = both_write_nothing firmware board (ListAnswer firmware board policy) (list_writes_nothing firmware board policy) Has Exceeds o a
+  writes_nothing (Stack firmware board policy) o a n = both_write_nothing firmware board (StackAnswers firmware board policy) (stack_writes_nothing firmware board policy) Has Exceeds o a
   writes_nothing (Audit image) o a n = audit_writes_nothing Has Exceeds image o a
   writes_nothing (Tables image) o a n = tables_writes_nothing Has Exceeds image o a
+  writes_nothing (Who firmware board policy) o a n = both_write_nothing firmware board (WhoAnswer firmware board policy) (who_writes_nothing firmware board policy) Has Exceeds o a
+  writes_nothing (Symbols firmware board policy) o a n = both_write_nothing firmware board (SymbolsAnswer firmware board policy) (symbols_write_nothing firmware board policy) Has Exceeds o a
+  writes_nothing Help o a n = help_writes_nothing Has Exceeds o a
+  writes_nothing (Watch image tape steps address) o a n = watch_writes_nothing Has Exceeds image tape steps address o a
+  writes_nothing (State image tape steps) o a n = state_writes_nothing Has Exceeds image tape steps o a
+  writes_nothing (Why firmware) o a n = why_writes_nothing Has Exceeds firmware o a

@@ -1,8 +1,8 @@
-mod Planning
 mod Answered
 mod Kept
 mod Runnable
 mod Auditable
+mod Inspectable
 mod SourceRunnable
 mod Good
 mod Followed

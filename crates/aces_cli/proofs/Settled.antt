@@ -4,15 +4,15 @@ use Rattle.outside.specs.Counts.{Rose, Stayed}
 use Rattle.aces_reports.specs.declared.failure.Done.{Done}
 use Rattle.aces_reports.specs.declared.failure.Done.TheVariants.{Completed, RunFailed, Negative}
 use Rattle.aces_reports.specs.declared.failure.Failure.{Failure}
-use Rattle.aces_reports.specs.declared.failure.Failure.TheVariants.{Refused, PastLimit, NoRoom, Unread, Unwritten, Unprinted, NoMemory}
+use Rattle.aces_reports.specs.declared.failure.Failure.TheVariants.{Refused, PastLimit, Denied, NoRoom, Unread, Unwritten, Unprinted, NoMemory}
 use Rattle.aces_reports.specs.Ends.{status_of}
 use Rattle.aces_words.specs.Requests.{Request, Asks, Origin, origins}
 use Rattle.commands.specs.Known.{Held, Holds, Exceeds, IsMissing}
-use Rattle.commands.specs.Outcomes.{Outcome, refused, past_limit, no_room}
+use Rattle.commands.specs.Outcomes.{Outcome, refused, past_limit, denied, no_room}
 use Rattle.aces_cli.specs.Answer.{Answer}
 use Rattle.commands.specs.Effects.{World, Does, IsUnread}
 use Rattle.aces_cli.specs.Endings.{IsPlain}
-use Rattle.aces_cli.specs.Complete.{NoneFailed, AreThere, HasFiles, IsGood, run, bin, compile, check, source, list, stack, audit, tables, IsDoneBy, GoodRequestsAreDone}
+use Rattle.aces_cli.specs.Complete.{NoneFailed, AreThere, HasFiles, IsGood, run, bin, compile, check, source, list, stack, audit, tables, where_it_is, who, symbols, help, watch, state, why, IsDoneBy, GoodRequestsAreDone}
 use Rattle.aces_words.proofs.Requests.{requests_are_one}
 
 pub is_plain : (s : ℕ) → (s < 4) ⊎ (6 < s) → IsPlain s
@@ -46,10 +46,17 @@ good_is_there held r (bin image file bytes i h g) = ((bytes, h.there), tt)
 good_is_there held r (compile firmware board policy image bytes t h k g) = ((bytes, h.there), ((t, k.there), tt))
 good_is_there held r (check firmware bytes w h g) = ((bytes, h.there), tt)
 good_is_there held r (source firmware policy tape steps bytes t h k g) = ((bytes, h.there), ((t, k.there), tt))
+good_is_there held r (where_it_is firmware policy tape steps bytes t h k g) = ((bytes, h.there), ((t, k.there), tt))
 good_is_there held r (list firmware board policy bytes t h k g) = ((bytes, h.there), ((t, k.there), tt))
 good_is_there held r (stack firmware board policy bytes t h k g) = ((bytes, h.there), ((t, k.there), tt))
 good_is_there held r (audit image bytes i h g) = ((bytes, h.there), tt)
 good_is_there held r (tables image bytes i h g) = ((bytes, h.there), tt)
+good_is_there held r (who firmware board policy bytes t h k g) = ((bytes, h.there), ((t, k.there), tt))
+good_is_there held r (symbols firmware board policy bytes t h k g) = ((bytes, h.there), ((t, k.there), tt))
+good_is_there held r help = tt
+good_is_there held r (watch image tape steps address bytes t h k g) = ((bytes, h.there), ((t, k.there), tt))
+good_is_there held r (state image tape steps bytes t h k g) = ((bytes, h.there), ((t, k.there), tt))
+good_is_there held r (why firmware bytes w h g) = ((bytes, h.there), tt)
 
 -- an outcome that the request has, with a plain status
 record IsSettled (A : Outcome → Type 0) (s : ℕ) : Type 0 where
@@ -68,6 +75,7 @@ module _ (A : Outcome → Type 0) (r : Request) (old new : World) (told : IsTrue
   settles (Ok Negative) d = inl (record { outcome = d.outcome; answer = d.answer; ended = d.ended; plain = is_plain 8 (inr (omega arith)) })
   settles (Err (Refused name f)) d = inl (record { outcome = refused name.now f; answer = d.answer; ended = refl; plain = is_plain 1 (inl (omega arith)) })
   settles (Err (PastLimit which count)) d = inl (record { outcome = past_limit which count; answer = d.answer; ended = refl; plain = is_plain 1 (inl (omega arith)) })
+  settles (Err (Denied said)) d = inl (record { outcome = denied said; answer = d.answer; ended = refl; plain = is_plain 3 (inl (omega arith)) })
   settles (Err (NoRoom memory c needed available)) d = inl (record { outcome = no_room memory c needed available; answer = d.answer; ended = refl; plain = is_plain 3 (inl (omega arith)) })
   settles (Err (Unread name)) d = absurd (not_unread name.now d)
   settles (Err (Unwritten name)) d = absurd (not_risen old.write_faults new.write_faults none.write_faults d.0.rose)

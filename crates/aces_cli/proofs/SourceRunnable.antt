@@ -18,6 +18,7 @@ use Rattle.aces_words.specs.Requests.{Origin, file_origin, firmware_origin}
 use Rattle.commands.specs.Outcomes.{Outcome}
 use Rattle.firmware_commands.specs.Firmwares.{of_text, IsFirmware, IsNoFirmware, no_text, ill_typed}
 use Rattle.firmware_commands.specs.Answers.{CheckAnswer, SourceAnswer, no_firmware, no_tape, checked, ran, AnswerToCheck, AnswerToSource, firmware_large, tape_large, all_read}
+use Rattle.where_commands.proofs.Findable.{IsFaultless}
 use Rattle.aces_cli.specs.Complete.{IsSourceRunnable}
 use Rattle.aces_cli.proofs.Runnable.{Laws, is_tape}
 
@@ -50,6 +51,13 @@ module _ (laws : Laws) where
   check_done : (firmware bytes : List ℕ) (o : Outcome) (w : PlainFirmware) → IsFirmware w bytes → CheckAnswer firmware bytes o → o.status ≡ 0
   check_done firmware bytes o w h (no_firmware f k) = absurd (is_firmware laws.unique laws.faultless w bytes f h k)
   check_done firmware bytes o w h (checked v k) = refl
+
+  pub is_faultless : (bytes t : List ℕ) → IsSourceRunnable bytes t → IsFaultless bytes t
+  is_faultless bytes t g =
+      record {
+        firmware = λ f k. is_firmware laws.unique laws.faultless g.firmware bytes f g.is_firmware k;
+        tape = λ w f h k. is_tape (windows_of w) t f (subst (λ (z : PlainFirmware). tapes.first_fault t (windows_of z) ≡ None) (firmwares_are_one laws.unique laws.faultless g.firmware w bytes g.is_firmware h) g.tape) k;
+      }
 
   source_done : (firmware : List ℕ) (policy : Policy) (tape : List ℕ) (steps : ℕ) (bytes t : List ℕ) (o : Outcome) → IsSourceRunnable bytes t
       → SourceAnswer firmware policy tape steps bytes t o → (o.status ≡ 0) ⊎ (o.status ≡ 7)

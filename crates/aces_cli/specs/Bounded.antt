@@ -18,7 +18,7 @@ use Rattle.commands.specs.Known.{Held, Holds, Exceeds}
 use Rattle.commands.specs.Outcomes.{Outcome}
 use Rattle.commands.specs.Effects.{World}
 use Rattle.firmware_commands.specs.Firmwares.{IsFirmware}
-use Rattle.aces_cli.specs.Answer.{AnswerToStack}
+use Rattle.planned_commands.specs.Answers.{AnswerToStack}
 use Rattle.aces_cli.specs.Endings.{IsAnswered}
 
 -- a name holds the text of an image that the firmware in a file gets for the board in another by the policy; and the image refines the firmware

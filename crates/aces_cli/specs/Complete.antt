@@ -11,7 +11,7 @@ use Rattle.board_text.specs.Reading as boards
 use Rattle.firmware_plans.specs.Plannable.{IsPlannable}
 use Rattle.firmware_stacks.specs.Limited.{KeepsLimitsBy}
 use Rattle.aces_words.specs.declared.policy.Policy.{Policy}
-use Rattle.aces_words.specs.Requests.{Request, Run, Bin, Compile, Check, Source, Listing, Stack, Audit, Tables, Asks, Origin, origins, file_origin, firmware_origin}
+use Rattle.aces_words.specs.Requests.{Request, Run, Bin, Compile, Check, Source, Where, Listing, Stack, Audit, Tables, Who, Symbols, Help, Watch, State, Why, Asks, Origin, origins, file_origin, firmware_origin}
 use Rattle.commands.specs.Known.{Held, Holds, Exceeds}
 use Rattle.commands.specs.Outcomes.{Outcome}
 use Rattle.firmware_commands.specs.Firmwares.{IsFirmware}
@@ -72,12 +72,24 @@ module _ (Has : Origin → List ℕ → Type 0) where
     check : (firmware : List ℕ) (bytes : List ℕ) (w : PlainFirmware) → Has (firmware_origin firmware) bytes → IsFirmware w bytes → IsGood (Check firmware)
     source : (firmware : List ℕ) (policy : Policy) (tape : List ℕ) (steps : ℕ) (bytes text : List ℕ) → Has (firmware_origin firmware) bytes → Has (file_origin tape) text →
         IsSourceRunnable bytes text → IsGood (Source firmware policy tape steps)
+    where_it_is : (firmware : List ℕ) (policy : Policy) (tape : List ℕ) (steps : ℕ) (bytes text : List ℕ) → Has (firmware_origin firmware) bytes → Has (file_origin tape) text →
+        IsSourceRunnable bytes text → IsGood (Where firmware policy tape steps)
     list : (firmware board : List ℕ) (policy : Policy) (bytes text : List ℕ) → Has (firmware_origin firmware) bytes → Has (file_origin board) text →
         IsCompilable policy bytes text → IsGood (Listing firmware board policy)
     stack : (firmware board : List ℕ) (policy : Policy) (bytes text : List ℕ) → Has (firmware_origin firmware) bytes → Has (file_origin board) text →
         IsBoundable policy bytes text → IsGood (Stack firmware board policy)
     audit : (image : List ℕ) (bytes : List ℕ) (i : Image) → Has (file_origin image) bytes → IsText i bytes → IsGood (Audit image)
     tables : (image : List ℕ) (bytes : List ℕ) (i : Image) → Has (file_origin image) bytes → IsText i bytes → IsGood (Tables image)
+    who : (firmware board : List ℕ) (policy : Policy) (bytes text : List ℕ) → Has (firmware_origin firmware) bytes → Has (file_origin board) text →
+        IsCompilable policy bytes text → IsGood (Who firmware board policy)
+    symbols : (firmware board : List ℕ) (policy : Policy) (bytes text : List ℕ) → Has (firmware_origin firmware) bytes → Has (file_origin board) text →
+        IsCompilable policy bytes text → IsGood (Symbols firmware board policy)
+    help : IsGood Help
+    watch : (image tape : List ℕ) (steps : ℕ) (address : List ℕ) (bytes text : List ℕ) → Has (file_origin image) bytes → Has (file_origin tape) text →
+        IsRunnable bytes text → IsGood (Watch image tape steps address)
+    state : (image tape : List ℕ) (steps : ℕ) (bytes text : List ℕ) → Has (file_origin image) bytes → Has (file_origin tape) text →
+        IsRunnable bytes text → IsGood (State image tape steps)
+    why : (firmware : List ℕ) (bytes : List ℕ) (w : PlainFirmware) → Has (firmware_origin firmware) bytes → IsFirmware w bytes → IsGood (Why firmware)
 
 -- the status says that all was done: 0, and where a run was asked for also 7, which says that it ended badly, and where a bound also 8, which
 -- says that there is none or that the stack is smaller; so where an image was to be checked, which says that it fails
@@ -87,10 +99,17 @@ IsDoneBy (Bin image file) status = status ≡ 0
 IsDoneBy (Compile firmware board policy image) status = status ≡ 0
 IsDoneBy (Check firmware) status = status ≡ 0
 IsDoneBy (Source firmware policy tape steps) status = (status ≡ 0) ⊎ (status ≡ 7)
+IsDoneBy (Where firmware policy tape steps) status = status ≡ 0
 IsDoneBy (Listing firmware board policy) status = status ≡ 0
 IsDoneBy (Stack firmware board policy) status = (status ≡ 0) ⊎ (status ≡ 8)
 IsDoneBy (Audit image) status = (status ≡ 0) ⊎ (status ≡ 8)
 IsDoneBy (Tables image) status = (status ≡ 0) ⊎ (status ≡ 8)
+IsDoneBy (Who firmware board policy) status = status ≡ 0
+IsDoneBy (Symbols firmware board policy) status = status ≡ 0
+IsDoneBy Help status = status ≡ 0
+IsDoneBy (Watch image tape steps address) status = (status ≡ 0) ⊎ (status ≡ 7)
+IsDoneBy (State image tape steps) status = status ≡ 0
+IsDoneBy (Why firmware) status = status ≡ 0
 
 -- a good request has no outcome but one that says so
 abbrev pub GoodRequestsAreDone : Type 0

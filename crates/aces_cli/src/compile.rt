@@ -15,13 +15,14 @@ ghost use Rattle.aces_reports.specs.Sinks.{SinkState};
 use aces_reports::{Done, Failure};
 use aces_words::Policy;
 use commands::failure::planning_failure;
-use commands::loading::{board_of, load, load_firmware};
+use commands::loading::board_of;
 use commands::writing::write;
 use compiler::{CompileRefusal, compile_by};
 use firmware_commands::reading::firmware_of;
 use ir_model::checked::Checked;
 use outside::Files;
 use plan_model::plan::Board;
+use planned_commands::both::load_both;
 use std::alloc::Global;
 
 /// Writes the image of a firmware for a board by a policy to a file. Whatever takes the output is left as it is.
@@ -35,14 +36,13 @@ pub(crate) fn compile<'a, F: Files>(
 ) -> Result<Done, Failure<'a>>
     ensures { (out : SinkState) → CarriesOut (AnswerToCompile firmware.now board.now policy image.now) F.Files files.old files.new (Compile firmware.now board.now policy image.now) out out result }
 {
-    let bytes = load_firmware(alloc, files, firmware)?;
-    let text = load(alloc, files, board)?;
+    let both = load_both(alloc, files, firmware, board)?;
     let compiled = compiled(
         alloc,
         firmware,
-        bytes.as_slice(),
+        both.firmware.as_slice(),
         board,
-        text.as_slice(),
+        both.board.as_slice(),
         policy,
     )?;
     match write(files, image, compiled.as_slice()) {
@@ -69,7 +69,7 @@ fn compiled<'a>(
     let read = board_of(alloc, board, text)?;
     match image_text(alloc, &checked, &read, policy) {
         Ok(out) => Ok(out),
-        Err(refusal) => Err(planning_failure(refusal)),
+        Err(refusal) => Err(planning_failure(alloc, checked.firmware(), &read, refusal)),
     }
 }
 

@@ -3,37 +3,31 @@
 
 mod compile;
 mod complete;
-mod list;
-mod stack;
+mod perform;
 
 ghost use Rattle.std.specs.Prelude.{◌≡◌, ◌≢◌, ◌↔◌, ◌⊎◌, List, map, IsTrue, string_bytes};
 ghost use Rattle.outside.specs.Calls.{Call, Calls};
 ghost use Rattle.aces_words.specs.Requests.{Request, Asks, IsUsage};
-ghost use Rattle.aces_words.specs.Commands.{request_of};
 ghost use Rattle.commands.specs.Known.{Holds, Exceeds};
 ghost use Rattle.aces_cli.specs.Complete.{NoneFailed, HasFiles, IsGood, IsDoneBy};
 ghost use Rattle.aces_reports.specs.Sinks.{sink};
-ghost use Rattle.commands.specs.CarriesOut.{CarriesOut};
 ghost use Rattle.commands.specs.Effects.{world};
-ghost use Rattle.aces_cli.specs.Answer.{Answer};
 ghost use Rattle.aces_cli.specs.Bounded.{FollowsBounded};
 ghost use Rattle.aces_cli.specs.Endings.{IsPlain, IsAnswered, IsPartly, IsByCalls, TellsUnwritten, TellsUnprinted, TellsOutOfMemory};
 
-use aces_reports::{Done, Failure, report, say};
+use aces_reports::{report, say};
 pub use aces_reports::{WordsRefusal, refuse_words};
 use aces_words::Command;
-use audit_commands::{auditing, telling};
-use commands::{bin, run};
 use complete::{bounded_calls, good_requests};
-use firmware_commands::{check, source};
 use outside::{Files, Sink};
+use perform::perform;
 use std::alloc::Global;
 
 /// Carries out what the words behind the program's name ask for, and answers the exit status: 0 done, 1 a fault in
 /// the content of a file or a limit of what is compiled that a firmware passes, 2 words that are no request, 3 a board without
-/// room for a firmware, 4 a file that was not read, 5 a file or output that was not written, 6 want of memory, 7 a run that ended
-/// by a stop, by a halt other than 0, or by a fault of the source, 8 a no: a stack for which there is no bound, or a smaller stack, or an
-/// image that fails a check.
+/// room for a firmware, or that denies an address which it reaches, 4 a file that was not read, 5 a file or output that was not written,
+/// 6 want of memory, 7 a run that ended by a stop, by a halt other than 0, or by a fault of the source,
+/// 8 a no: a stack for which there is no bound, or a smaller stack, or an image that fails a check.
 ///
 /// Where the status is neither 0, 7 nor 8, one line on `err` tells why. A fault of `err` changes no status.
 pub fn aces<F: Files, O: Sink, E: Sink>(
@@ -47,8 +41,8 @@ pub fn aces<F: Files, O: Sink, E: Sink>(
 
     // The call did what the words ask, of the contents where these are told, and else of the bytes that its own calls gave. Where a file was
     // not read, the last of its calls was to read it, and failed. So the
-    // status is 3 exactly where a listing was asked, both texts are read, no limit is passed, and the blocks of flash, or else
-    // those of RAM, have more bytes than it has (`ListAnswer`).
+    // status is 3 exactly where a plan was asked for, what it is made of is read, no limit is passed, and the board denies an address that
+    // the firmware reaches, or a memory of it has no room (`PlanAnswer`).
     ensures answer { IsTrue F.told → IsPlain result →
         IsAnswered (Holds (F.held files.old)) (Exceeds (F.held files.old)) (map string_bytes words.now)
         (world F.Files files.old (sink O.Sink out.old))
@@ -117,45 +111,5 @@ pub fn aces<F: Files, O: Sink, E: Sink>(
             let ended = perform(alloc, command, files, out);
             report(ended, err)
         }
-    }
-}
-
-/// Carries out a command.
-fn perform<'a, F: Files, O: Sink>(
-    alloc: Global,
-    command: Command<'a>,
-    files: &mut F,
-    out: &mut O,
-) -> Result<Done, Failure<'a>>
-    ensures { CarriesOut (Answer (request_of command.entry)) F.Files files.old files.new (request_of command.entry) (sink O.Sink out.old) (sink O.Sink out.new) result }
-{
-    match command {
-        Command::Run { image, tape, steps } => run::run(alloc, image, tape, steps, files, out),
-        Command::Bin { image, file } => bin::bin(alloc, image, file, files),
-        Command::Compile {
-            firmware,
-            board,
-            policy,
-            image,
-        } => compile::compile(alloc, firmware, board, policy, image, files),
-        Command::Check { firmware } => check::check(alloc, firmware, files, out),
-        Command::Source {
-            firmware,
-            policy,
-            tape,
-            steps,
-        } => source::source(alloc, firmware, policy, tape, steps, files, out),
-        Command::List {
-            firmware,
-            board,
-            policy,
-        } => list::list(alloc, firmware, board, policy, files, out),
-        Command::Stack {
-            firmware,
-            board,
-            policy,
-        } => stack::stack(alloc, firmware, board, policy, files, out),
-        Command::Audit { image } => auditing::audit_image(alloc, image, files, out),
-        Command::Tables { image } => telling::tables(alloc, image, files, out),
     }
 }

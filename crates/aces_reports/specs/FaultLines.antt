@@ -9,7 +9,7 @@ use Rattle.ir_model.specs.declared.check.CheckKind.TheVariants as kind
 use Rattle.ir_model.specs.declared.check.Place.{Place}
 use Rattle.ir_model.specs.declared.check.Place.TheVariants as place
 use Rattle.aces_reports.specs.declared.failure.Fault.{Fault}
-use Rattle.aces_reports.specs.declared.failure.Fault.TheVariants.{TooLarge, Short, Magic, Version, Field, Trailing, BadLine, UnknownPeripheral, NotUtf8, Syntax, NumberTooWide, Limit, IllTyped, NotToml, MissingKey, KeyKind, KeyRange, ExtraKey}
+use Rattle.aces_reports.specs.declared.failure.Fault.TheVariants.{TooLarge, Short, Magic, Version, Field, Trailing, BadLine, UnknownPeripheral, NotUtf8, Syntax, NumberTooWide, Limit, IllTyped, NotToml, MissingKey, KeyKind, KeyRange, DeniedKind, DeniedRange, ExtraKey}
 use Rattle.aces_reports.specs.declared.failure.Memory.{Memory}
 use Rattle.aces_reports.specs.declared.failure.Memory.TheVariants as memory
 use Rattle.board_text.specs.Keys.{path_of}
@@ -94,6 +94,8 @@ fault_line name NotToml = about name (codes ": not TOML" ++ line_feed)
 fault_line name (MissingKey key) = keyed name (codes ": missing ") (path_of key)
 fault_line name (KeyKind key) = keyed name (codes ": kind ") (path_of key)
 fault_line name (KeyRange key) = keyed name (codes ": range ") (path_of key)
+fault_line name (DeniedKind path) = keyed name (codes ": kind ") path
+fault_line name (DeniedRange path) = keyed name (codes ": range ") path
 fault_line name (ExtraKey path) = keyed name (codes ": extra ") path
 
 -- what a firmware has too much of to be compiled
@@ -110,6 +112,10 @@ count_text count = codes " " ++ decimal count ++ line_feed
 -- a limit of what is compiled is passed
 abbrev pub limit_line : LimitKind → (count : ℕ) → List ℕ
 limit_line which count = codes "aces: limit " ++ compiled_word which ++ count_text count
+
+-- a range of addresses that a firmware asks for meets one that the board denies
+abbrev pub denied_line : (text : List ℕ) → List ℕ
+denied_line text = codes "aces: deny: " ++ text ++ line_feed
 
 abbrev pub memory_word : Memory → List ℕ
 memory_word memory.Flash = codes "flash"

@@ -58,6 +58,10 @@ pub enum Fault {
     KeyKind { key: Key },
     /// A key of a board has another value than it may have.
     KeyRange { key: Key },
+    /// What a board denies is no array of two integers at this key.
+    DeniedKind { path: ListVec<u8> },
+    /// What a board denies has no byte at this key, or one that is no device's.
+    DeniedRange { path: ListVec<u8> },
     /// A further key stands in the text of a board.
     ExtraKey { path: ListVec<u8> },
 }
@@ -81,6 +85,10 @@ pub enum Failure<'a> {
     PastLimit {
         which: LimitKind,
         count: u32,
+    },
+    /// A range of addresses that a firmware asks for meets one that the board denies, as this text tells: status 3.
+    Denied {
+        text: ListVec<u8>,
     },
     /// The blocks of a firmware need more bytes than a memory of the board has: status 3. The compartment is the one that takes
     /// most of it, if one does.

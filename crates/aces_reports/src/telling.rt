@@ -36,7 +36,7 @@ fn failure_status(failure: &Failure) -> u8
 {
     match failure {
         Failure::Refused { .. } | Failure::PastLimit { .. } => 1,
-        Failure::NoRoom { .. } => 3,
+        Failure::Denied { .. } | Failure::NoRoom { .. } => 3,
         Failure::Unread { .. } => 4,
         Failure::Unwritten { .. } | Failure::Unprinted => 5,
         Failure::NoMemory => 6,
@@ -50,6 +50,7 @@ fn say_failure<E: Sink>(err: &mut E, failure: &Failure)
     match failure {
         Failure::Refused { name, fault } => say_fault(err, name.as_bytes(), fault),
         Failure::PastLimit { which, count } => say_past_limit(err, *which, *count),
+        Failure::Denied { text } => say_named(err, b"aces: deny: ", text.as_slice(), b"\n"),
         Failure::NoRoom {
             memory,
             compartment,
@@ -342,6 +343,8 @@ fn say_fault<E: Sink>(err: &mut E, name: &[u8], fault: &Fault)
         Fault::MissingKey { key } => say_key(err, name, b": missing ", *key),
         Fault::KeyKind { key } => say_key(err, name, b": kind ", *key),
         Fault::KeyRange { key } => say_key(err, name, b": range ", *key),
+        Fault::DeniedKind { path } => say_keyed(err, name, b": kind ", path.as_slice()),
+        Fault::DeniedRange { path } => say_keyed(err, name, b": range ", path.as_slice()),
         Fault::ExtraKey { path } => say_keyed(err, name, b": extra ", path.as_slice()),
     }
 }

@@ -1,3 +1,5 @@
 mod Digits
+mod Addresses
 mod Words
+mod Usage
 pub mod Requests

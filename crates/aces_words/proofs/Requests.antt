@@ -1,10 +1,10 @@
 -- Words ask for one request.
 use Rattle.std.specs.Fmt.{decimal}
 use Rattle.std.proofs.lemmas.Fmt.{decimal_injective}
-use Rattle.std.proofs.Common.{◌≡◌, ℕ, ◌<◌, ◌^◌, ◌+◌, ◌*◌, List, [], ◌∷◌, length, get_or, refl, ap, sym, ◌∙◌, arith}
+use Rattle.std.proofs.Common.{◌≡◌, ℕ, ◌<◌, ◌≤◌, ◌^◌, ◌+◌, ◌*◌, List, [], ◌∷◌, length, get_or, map, refl, ap, sym, ◌∙◌, arith, nat_eq, if◌then◌else◌, codes}
 use Rattle.aces_words.specs.declared.policy.Policy.{Policy}
 use Rattle.aces_words.specs.declared.policy.Policy.TheVariants.{Filename, Optimized, Peripheral}
-use Rattle.aces_words.specs.Requests.{Request, Run, Bin, Compile, Check, Source, Listing, Stack, Audit, Tables, policy_word, words_of, Asks}
+use Rattle.aces_words.specs.Requests.{Request, Run, Bin, Watch, State, Audit, Tables, Check, Why, Source, Where, Compile, Listing, Stack, Who, Symbols, Help, policy_word, words_of, IsWithin, Asks}
 
 policies_are_one : (p q : Policy) → policy_word p ≡ policy_word q → p ≡ q
 policies_are_one Filename Filename h = refl
@@ -17,164 +17,246 @@ policies_are_one Peripheral Filename h = let e : 10 ≡ 8 = ap length h in absur
 policies_are_one Peripheral Optimized h = let e : 10 ≡ 9 = ap length h in absurd (omega (arith, e))
 policies_are_one Peripheral Peripheral h = refl
 
--- the first letter of a command's word and the number of the words behind it tell which it is
-abbrev shape : List (List ℕ) → ℕ
-shape [] = 0
-shape (w ∷ ws) = get_or w 0 0 * 10 + length ws
+-- what a word behind the command's stands for
+data Field : Type 0 where
+  Text : List ℕ → Field
+  By : Policy → Field
+  Count : ℕ → Field
 
-abbrev number_of : Request → ℕ
-number_of (Run image tape steps) = 1143
-number_of (Bin image file) = 982
-number_of (Compile firmware board policy image) = 994
-number_of (Check firmware) = 991
-number_of (Source firmware policy tape steps) = 1154
-number_of (Listing firmware board policy) = 1083
-number_of (Stack firmware board policy) = 1153
-number_of (Audit image) = 971
-number_of (Tables image) = 1161
+abbrev word_of : Field → List ℕ
+word_of (Text t) = t
+word_of (By p) = policy_word p
+word_of (Count n) = decimal n
 
-has_number : (r : Request) → shape (words_of r) ≡ number_of r
-has_number (Run image tape steps) = refl
-has_number (Bin image file) = refl
-has_number (Compile firmware board policy image) = refl
-has_number (Check firmware) = refl
-has_number (Source firmware policy tape steps) = refl
-has_number (Listing firmware board policy) = refl
-has_number (Stack firmware board policy) = refl
-has_number (Audit image) = refl
-has_number (Tables image) = refl
+abbrev kind_of : Field → ℕ
+kind_of (Text t) = 0
+kind_of (By p) = 1
+kind_of (Count n) = 2
 
-steps_are_one : (m n : ℕ) → m < 2 ^ 32 → n < 2 ^ 32 → decimal m ≡ decimal n → m ≡ n
-steps_are_one m n h k e = decimal_injective m n (omega (arith, h)) (omega (arith, k)) e
+abbrev fits : Field → Type 0
+fits (Text t) = Unit {0}
+fits (By p) = Unit {0}
+fits (Count n) = n < 2 ^ 32
 
-by_number : (r s : Request) → number_of r ≡ number_of s → (ws : List (List ℕ)) → Asks ws r → Asks ws s → r ≡ s
-by_number (Run a b n) (Run c d m) q ws h k =
-    let e : words_of (Run a b n) ≡ words_of (Run c d m) = h.spelled ∙ sym k.spelled in
-    let x : a ≡ c = cc in
-    let y : b ≡ d = cc in
-    let u : decimal n ≡ decimal m = cc in
-    let z : n ≡ m = steps_are_one n m h.within k.within u in
+abbrev all_fit : List Field → Type 0
+all_fit [] = Unit {0}
+all_fit (f ∷ fs) = fits f × all_fit fs
+
+same_field : (f g : Field) → kind_of f ≡ kind_of g → word_of f ≡ word_of g → fits f → fits g → f ≡ g
+same_field (Text t) (Text u) k e h j = ap Text e
+same_field (Text t) (By q) k e h j = let d : 0 ≡ 1 = k in absurd (omega (arith, d))
+same_field (Text t) (Count n) k e h j = let d : 0 ≡ 2 = k in absurd (omega (arith, d))
+same_field (By p) (Text u) k e h j = let d : 1 ≡ 0 = k in absurd (omega (arith, d))
+same_field (By p) (By q) k e h j = ap By (policies_are_one p q e)
+same_field (By p) (Count n) k e h j = let d : 1 ≡ 2 = k in absurd (omega (arith, d))
+same_field (Count m) (Text u) k e h j = let d : 2 ≡ 0 = k in absurd (omega (arith, d))
+same_field (Count m) (By q) k e h j = let d : 2 ≡ 1 = k in absurd (omega (arith, d))
+same_field (Count m) (Count n) k e h j = ap Count (decimal_injective m n (omega (arith, h)) (omega (arith, j)) e)
+
+same_fields : (fs gs : List Field) → map kind_of fs ≡ map kind_of gs → map word_of fs ≡ map word_of gs → all_fit fs → all_fit gs → fs ≡ gs
+same_fields [] [] k e h j = refl
+same_fields [] (g ∷ gs) k e h j = let d : 0 ≡ length (map kind_of (g ∷ gs)) = ap length k in absurd (omega (arith, d))
+same_fields (f ∷ fs) [] k e h j = let d : length (map kind_of (f ∷ fs)) ≡ 0 = ap length k in absurd (omega (arith, d))
+same_fields (f ∷ fs) (g ∷ gs) k e h j =
+    let k0 : kind_of f ≡ kind_of g = cc in
+    let e0 : word_of f ≡ word_of g = cc in
+    let k1 : map kind_of fs ≡ map kind_of gs = cc in
+    let e1 : map word_of fs ≡ map word_of gs = cc in
+    let x : f ≡ g = same_field f g k0 e0 h.0 j.0 in
+    let y : fs ≡ gs = same_fields fs gs k1 e1 h.1 j.1 in
     cc
-by_number (Bin a b) (Bin c d) q ws h k =
-    let e : words_of (Bin a b) ≡ words_of (Bin c d) = h.spelled ∙ sym k.spelled in
-    let x : a ≡ c = cc in
-    let y : b ≡ d = cc in
-    cc
-by_number (Compile a b p i) (Compile c d o j) q ws h k =
-    let e : words_of (Compile a b p i) ≡ words_of (Compile c d o j) = h.spelled ∙ sym k.spelled in
-    let x : a ≡ c = cc in
-    let y : b ≡ d = cc in
-    let u : policy_word p ≡ policy_word o = cc in
-    let v : i ≡ j = cc in
-    let z : p ≡ o = policies_are_one p o u in
-    cc
-by_number (Check a) (Check c) q ws h k =
-    let e : words_of (Check a) ≡ words_of (Check c) = h.spelled ∙ sym k.spelled in
-    let x : a ≡ c = cc in
-    cc
-by_number (Source a p b n) (Source c o d m) q ws h k =
-    let e : words_of (Source a p b n) ≡ words_of (Source c o d m) = h.spelled ∙ sym k.spelled in
-    let x : a ≡ c = cc in
-    let u : policy_word p ≡ policy_word o = cc in
-    let y : b ≡ d = cc in
-    let t : decimal n ≡ decimal m = cc in
-    let z : p ≡ o = policies_are_one p o u in
-    let w : n ≡ m = steps_are_one n m h.within k.within t in
-    cc
-by_number (Listing a b p) (Listing c d o) q ws h k =
-    let e : words_of (Listing a b p) ≡ words_of (Listing c d o) = h.spelled ∙ sym k.spelled in
-    let x : a ≡ c = cc in
-    let y : b ≡ d = cc in
-    let u : policy_word p ≡ policy_word o = cc in
-    let z : p ≡ o = policies_are_one p o u in
-    cc
-by_number (Stack a b p) (Stack c d o) q ws h k =
-    let e : words_of (Stack a b p) ≡ words_of (Stack c d o) = h.spelled ∙ sym k.spelled in
-    let x : a ≡ c = cc in
-    let y : b ≡ d = cc in
-    let u : policy_word p ≡ policy_word o = cc in
-    let z : p ≡ o = policies_are_one p o u in
-    cc
-by_number (Audit a) (Audit c) q ws h k =
-    let e : words_of (Audit a) ≡ words_of (Audit c) = h.spelled ∙ sym k.spelled in
-    let x : a ≡ c = cc in
-    cc
-by_number (Tables a) (Tables c) q ws h k =
-    let e : words_of (Tables a) ≡ words_of (Tables c) = h.spelled ∙ sym k.spelled in
-    let x : a ≡ c = cc in
-    cc
-by_number (Run a b n) (Bin c d) q ws h k = let e : 1143 ≡ 982 = q in absurd (omega (arith, e))
-by_number (Run a b n) (Compile c d o j) q ws h k = let e : 1143 ≡ 994 = q in absurd (omega (arith, e))
-by_number (Run a b n) (Check c) q ws h k = let e : 1143 ≡ 991 = q in absurd (omega (arith, e))
-by_number (Run a b n) (Source c o d m) q ws h k = let e : 1143 ≡ 1154 = q in absurd (omega (arith, e))
-by_number (Run a b n) (Listing c d o) q ws h k = let e : 1143 ≡ 1083 = q in absurd (omega (arith, e))
-by_number (Run a b n) (Stack c d o) q ws h k = let e : 1143 ≡ 1153 = q in absurd (omega (arith, e))
-by_number (Run a b n) (Audit c) q ws h k = let e : 1143 ≡ 971 = q in absurd (omega (arith, e))
-by_number (Run a b n) (Tables c) q ws h k = let e : 1143 ≡ 1161 = q in absurd (omega (arith, e))
-by_number (Bin a b) (Run c d m) q ws h k = let e : 982 ≡ 1143 = q in absurd (omega (arith, e))
-by_number (Bin a b) (Compile c d o j) q ws h k = let e : 982 ≡ 994 = q in absurd (omega (arith, e))
-by_number (Bin a b) (Check c) q ws h k = let e : 982 ≡ 991 = q in absurd (omega (arith, e))
-by_number (Bin a b) (Source c o d m) q ws h k = let e : 982 ≡ 1154 = q in absurd (omega (arith, e))
-by_number (Bin a b) (Listing c d o) q ws h k = let e : 982 ≡ 1083 = q in absurd (omega (arith, e))
-by_number (Bin a b) (Stack c d o) q ws h k = let e : 982 ≡ 1153 = q in absurd (omega (arith, e))
-by_number (Bin a b) (Audit c) q ws h k = let e : 982 ≡ 971 = q in absurd (omega (arith, e))
-by_number (Bin a b) (Tables c) q ws h k = let e : 982 ≡ 1161 = q in absurd (omega (arith, e))
-by_number (Compile a b p i) (Run c d m) q ws h k = let e : 994 ≡ 1143 = q in absurd (omega (arith, e))
-by_number (Compile a b p i) (Bin c d) q ws h k = let e : 994 ≡ 982 = q in absurd (omega (arith, e))
-by_number (Compile a b p i) (Check c) q ws h k = let e : 994 ≡ 991 = q in absurd (omega (arith, e))
-by_number (Compile a b p i) (Source c o d m) q ws h k = let e : 994 ≡ 1154 = q in absurd (omega (arith, e))
-by_number (Compile a b p i) (Listing c d o) q ws h k = let e : 994 ≡ 1083 = q in absurd (omega (arith, e))
-by_number (Compile a b p i) (Stack c d o) q ws h k = let e : 994 ≡ 1153 = q in absurd (omega (arith, e))
-by_number (Compile a b p i) (Audit c) q ws h k = let e : 994 ≡ 971 = q in absurd (omega (arith, e))
-by_number (Compile a b p i) (Tables c) q ws h k = let e : 994 ≡ 1161 = q in absurd (omega (arith, e))
-by_number (Check a) (Run c d m) q ws h k = let e : 991 ≡ 1143 = q in absurd (omega (arith, e))
-by_number (Check a) (Bin c d) q ws h k = let e : 991 ≡ 982 = q in absurd (omega (arith, e))
-by_number (Check a) (Compile c d o j) q ws h k = let e : 991 ≡ 994 = q in absurd (omega (arith, e))
-by_number (Check a) (Source c o d m) q ws h k = let e : 991 ≡ 1154 = q in absurd (omega (arith, e))
-by_number (Check a) (Listing c d o) q ws h k = let e : 991 ≡ 1083 = q in absurd (omega (arith, e))
-by_number (Check a) (Stack c d o) q ws h k = let e : 991 ≡ 1153 = q in absurd (omega (arith, e))
-by_number (Check a) (Audit c) q ws h k = let e : 991 ≡ 971 = q in absurd (omega (arith, e))
-by_number (Check a) (Tables c) q ws h k = let e : 991 ≡ 1161 = q in absurd (omega (arith, e))
-by_number (Source a p b n) (Run c d m) q ws h k = let e : 1154 ≡ 1143 = q in absurd (omega (arith, e))
-by_number (Source a p b n) (Bin c d) q ws h k = let e : 1154 ≡ 982 = q in absurd (omega (arith, e))
-by_number (Source a p b n) (Compile c d o j) q ws h k = let e : 1154 ≡ 994 = q in absurd (omega (arith, e))
-by_number (Source a p b n) (Check c) q ws h k = let e : 1154 ≡ 991 = q in absurd (omega (arith, e))
-by_number (Source a p b n) (Listing c d o) q ws h k = let e : 1154 ≡ 1083 = q in absurd (omega (arith, e))
-by_number (Source a p b n) (Stack c d o) q ws h k = let e : 1154 ≡ 1153 = q in absurd (omega (arith, e))
-by_number (Source a p b n) (Audit c) q ws h k = let e : 1154 ≡ 971 = q in absurd (omega (arith, e))
-by_number (Source a p b n) (Tables c) q ws h k = let e : 1154 ≡ 1161 = q in absurd (omega (arith, e))
-by_number (Listing a b p) (Run c d m) q ws h k = let e : 1083 ≡ 1143 = q in absurd (omega (arith, e))
-by_number (Listing a b p) (Bin c d) q ws h k = let e : 1083 ≡ 982 = q in absurd (omega (arith, e))
-by_number (Listing a b p) (Compile c d o j) q ws h k = let e : 1083 ≡ 994 = q in absurd (omega (arith, e))
-by_number (Listing a b p) (Check c) q ws h k = let e : 1083 ≡ 991 = q in absurd (omega (arith, e))
-by_number (Listing a b p) (Source c o d m) q ws h k = let e : 1083 ≡ 1154 = q in absurd (omega (arith, e))
-by_number (Listing a b p) (Stack c d o) q ws h k = let e : 1083 ≡ 1153 = q in absurd (omega (arith, e))
-by_number (Listing a b p) (Audit c) q ws h k = let e : 1083 ≡ 971 = q in absurd (omega (arith, e))
-by_number (Listing a b p) (Tables c) q ws h k = let e : 1083 ≡ 1161 = q in absurd (omega (arith, e))
-by_number (Stack a b p) (Run c d m) q ws h k = let e : 1153 ≡ 1143 = q in absurd (omega (arith, e))
-by_number (Stack a b p) (Bin c d) q ws h k = let e : 1153 ≡ 982 = q in absurd (omega (arith, e))
-by_number (Stack a b p) (Compile c d o j) q ws h k = let e : 1153 ≡ 994 = q in absurd (omega (arith, e))
-by_number (Stack a b p) (Check c) q ws h k = let e : 1153 ≡ 991 = q in absurd (omega (arith, e))
-by_number (Stack a b p) (Source c o d m) q ws h k = let e : 1153 ≡ 1154 = q in absurd (omega (arith, e))
-by_number (Stack a b p) (Listing c d o) q ws h k = let e : 1153 ≡ 1083 = q in absurd (omega (arith, e))
-by_number (Stack a b p) (Audit c) q ws h k = let e : 1153 ≡ 971 = q in absurd (omega (arith, e))
-by_number (Stack a b p) (Tables c) q ws h k = let e : 1153 ≡ 1161 = q in absurd (omega (arith, e))
-by_number (Audit a) (Run c d m) q ws h k = let e : 971 ≡ 1143 = q in absurd (omega (arith, e))
-by_number (Audit a) (Bin c d) q ws h k = let e : 971 ≡ 982 = q in absurd (omega (arith, e))
-by_number (Audit a) (Compile c d o j) q ws h k = let e : 971 ≡ 994 = q in absurd (omega (arith, e))
-by_number (Audit a) (Check c) q ws h k = let e : 971 ≡ 991 = q in absurd (omega (arith, e))
-by_number (Audit a) (Source c o d m) q ws h k = let e : 971 ≡ 1154 = q in absurd (omega (arith, e))
-by_number (Audit a) (Listing c d o) q ws h k = let e : 971 ≡ 1083 = q in absurd (omega (arith, e))
-by_number (Audit a) (Stack c d o) q ws h k = let e : 971 ≡ 1153 = q in absurd (omega (arith, e))
-by_number (Audit a) (Tables c) q ws h k = let e : 971 ≡ 1161 = q in absurd (omega (arith, e))
-by_number (Tables a) (Run c d m) q ws h k = let e : 1161 ≡ 1143 = q in absurd (omega (arith, e))
-by_number (Tables a) (Bin c d) q ws h k = let e : 1161 ≡ 982 = q in absurd (omega (arith, e))
-by_number (Tables a) (Compile c d o j) q ws h k = let e : 1161 ≡ 994 = q in absurd (omega (arith, e))
-by_number (Tables a) (Check c) q ws h k = let e : 1161 ≡ 991 = q in absurd (omega (arith, e))
-by_number (Tables a) (Source c o d m) q ws h k = let e : 1161 ≡ 1154 = q in absurd (omega (arith, e))
-by_number (Tables a) (Listing c d o) q ws h k = let e : 1161 ≡ 1083 = q in absurd (omega (arith, e))
-by_number (Tables a) (Stack c d o) q ws h k = let e : 1161 ≡ 1153 = q in absurd (omega (arith, e))
-by_number (Tables a) (Audit c) q ws h k = let e : 1161 ≡ 971 = q in absurd (omega (arith, e))
+
+abbrev fields_of : Request → List Field
+fields_of (Run image tape steps) = Text image ∷ Text tape ∷ Count steps ∷ []
+fields_of (Bin image file) = Text image ∷ Text file ∷ []
+fields_of (Watch image tape steps address) = Text image ∷ Text tape ∷ Count steps ∷ Text address ∷ []
+fields_of (State image tape steps) = Text image ∷ Text tape ∷ Count steps ∷ []
+fields_of (Audit image) = Text image ∷ []
+fields_of (Tables image) = Text image ∷ []
+fields_of (Check firmware) = Text firmware ∷ []
+fields_of (Why firmware) = Text firmware ∷ []
+fields_of (Source firmware policy tape steps) = Text firmware ∷ By policy ∷ Text tape ∷ Count steps ∷ []
+fields_of (Where firmware policy tape steps) = Text firmware ∷ By policy ∷ Text tape ∷ Count steps ∷ []
+fields_of (Compile firmware board policy image) = Text firmware ∷ Text board ∷ By policy ∷ Text image ∷ []
+fields_of (Listing firmware board policy) = Text firmware ∷ Text board ∷ By policy ∷ []
+fields_of (Stack firmware board policy) = Text firmware ∷ Text board ∷ By policy ∷ []
+fields_of (Who firmware board policy) = Text firmware ∷ Text board ∷ By policy ∷ []
+fields_of (Symbols firmware board policy) = Text firmware ∷ Text board ∷ By policy ∷ []
+fields_of Help = []
+
+-- the number of words, with the first and the fourth letter of a command's word, tells which it is
+abbrev code_of : List (List ℕ) → ℕ
+code_of [] = 0
+code_of (w ∷ ws) = length ws + 8 * (get_or w 3 0 + 256 * get_or w 0 0)
+
+abbrev code : Request → ℕ
+code (Run image tape steps) = 233475
+code (Bin image file) = 200706
+code (Watch image tape steps address) = 244508
+code (State image tape steps) = 236451
+code (Audit image) = 199497
+code (Tables image) = 238433
+code (Check firmware) = 203545
+code (Why firmware) = 243713
+code (Source firmware policy tape steps) = 236436
+code (Where firmware policy tape steps) = 244628
+code (Compile firmware board policy image) = 203652
+code (Listing firmware board policy) = 222115
+code (Stack firmware board policy) = 236315
+code (Who firmware board policy) = 243715
+code (Symbols firmware board policy) = 236307
+code Help = 213888
+
+has_code : (r : Request) → code_of (words_of r) ≡ code r
+has_code (Run image tape steps) = refl
+has_code (Bin image file) = refl
+has_code (Watch image tape steps address) = refl
+has_code (State image tape steps) = refl
+has_code (Audit image) = refl
+has_code (Tables image) = refl
+has_code (Check firmware) = refl
+has_code (Why firmware) = refl
+has_code (Source firmware policy tape steps) = refl
+has_code (Where firmware policy tape steps) = refl
+has_code (Compile firmware board policy image) = refl
+has_code (Listing firmware board policy) = refl
+has_code (Stack firmware board policy) = refl
+has_code (Who firmware board policy) = refl
+has_code (Symbols firmware board policy) = refl
+has_code Help = refl
+
+-- the words behind the command's
+abbrev behind : List (List ℕ) → List (List ℕ)
+behind [] = []
+behind (w ∷ ws) = ws
+
+has_words : (r : Request) → behind (words_of r) ≡ map word_of (fields_of r)
+has_words (Run image tape steps) = refl
+has_words (Bin image file) = refl
+has_words (Watch image tape steps address) = refl
+has_words (State image tape steps) = refl
+has_words (Audit image) = refl
+has_words (Tables image) = refl
+has_words (Check firmware) = refl
+has_words (Why firmware) = refl
+has_words (Source firmware policy tape steps) = refl
+has_words (Where firmware policy tape steps) = refl
+has_words (Compile firmware board policy image) = refl
+has_words (Listing firmware board policy) = refl
+has_words (Stack firmware board policy) = refl
+has_words (Who firmware board policy) = refl
+has_words (Symbols firmware board policy) = refl
+has_words Help = refl
+
+abbrev kinds : (code : ℕ) → List ℕ
+kinds c =
+    if nat_eq c 233475 then 0 ∷ 0 ∷ 2 ∷ [] else
+    if nat_eq c 200706 then 0 ∷ 0 ∷ [] else
+    if nat_eq c 244508 then 0 ∷ 0 ∷ 2 ∷ 0 ∷ [] else
+    if nat_eq c 236451 then 0 ∷ 0 ∷ 2 ∷ [] else
+    if nat_eq c 199497 then 0 ∷ [] else
+    if nat_eq c 238433 then 0 ∷ [] else
+    if nat_eq c 203545 then 0 ∷ [] else
+    if nat_eq c 243713 then 0 ∷ [] else
+    if nat_eq c 236436 then 0 ∷ 1 ∷ 0 ∷ 2 ∷ [] else
+    if nat_eq c 244628 then 0 ∷ 1 ∷ 0 ∷ 2 ∷ [] else
+    if nat_eq c 203652 then 0 ∷ 0 ∷ 1 ∷ 0 ∷ [] else
+    if nat_eq c 222115 then 0 ∷ 0 ∷ 1 ∷ [] else
+    if nat_eq c 236315 then 0 ∷ 0 ∷ 1 ∷ [] else
+    if nat_eq c 243715 then 0 ∷ 0 ∷ 1 ∷ [] else
+    if nat_eq c 236307 then 0 ∷ 0 ∷ 1 ∷ [] else
+    if nat_eq c 236338 then 2 ∷ 2 ∷ [] else
+    if nat_eq c 213888 then [] else
+    []
+
+has_kinds : (r : Request) → map kind_of (fields_of r) ≡ kinds (code r)
+has_kinds (Run image tape steps) = refl
+has_kinds (Bin image file) = refl
+has_kinds (Watch image tape steps address) = refl
+has_kinds (State image tape steps) = refl
+has_kinds (Audit image) = refl
+has_kinds (Tables image) = refl
+has_kinds (Check firmware) = refl
+has_kinds (Why firmware) = refl
+has_kinds (Source firmware policy tape steps) = refl
+has_kinds (Where firmware policy tape steps) = refl
+has_kinds (Compile firmware board policy image) = refl
+has_kinds (Listing firmware board policy) = refl
+has_kinds (Stack firmware board policy) = refl
+has_kinds (Who firmware board policy) = refl
+has_kinds (Symbols firmware board policy) = refl
+has_kinds Help = refl
+
+-- the request of a code with its fields
+abbrev text : ℕ → List Field → List ℕ
+text k fs = elim (get_or fs k (Text [])) [ Text t ↦ t | By p ↦ [] | Count n ↦ [] ]
+
+abbrev policy : ℕ → List Field → Policy
+policy k fs = elim (get_or fs k (Text [])) [ Text t ↦ Filename | By p ↦ p | Count n ↦ Filename ]
+
+abbrev count : ℕ → List Field → ℕ
+count k fs = elim (get_or fs k (Text [])) [ Text t ↦ 0 | By p ↦ 0 | Count n ↦ n ]
+
+abbrev request : (code : ℕ) → List Field → Request
+request c fs =
+    if nat_eq c 233475 then Run (text 0 fs) (text 1 fs) (count 2 fs) else
+    if nat_eq c 200706 then Bin (text 0 fs) (text 1 fs) else
+    if nat_eq c 244508 then Watch (text 0 fs) (text 1 fs) (count 2 fs) (text 3 fs) else
+    if nat_eq c 236451 then State (text 0 fs) (text 1 fs) (count 2 fs) else
+    if nat_eq c 199497 then Audit (text 0 fs) else
+    if nat_eq c 238433 then Tables (text 0 fs) else
+    if nat_eq c 203545 then Check (text 0 fs) else
+    if nat_eq c 243713 then Why (text 0 fs) else
+    if nat_eq c 236436 then Source (text 0 fs) (policy 1 fs) (text 2 fs) (count 3 fs) else
+    if nat_eq c 244628 then Where (text 0 fs) (policy 1 fs) (text 2 fs) (count 3 fs) else
+    if nat_eq c 203652 then Compile (text 0 fs) (text 1 fs) (policy 2 fs) (text 3 fs) else
+    if nat_eq c 222115 then Listing (text 0 fs) (text 1 fs) (policy 2 fs) else
+    if nat_eq c 236315 then Stack (text 0 fs) (text 1 fs) (policy 2 fs) else
+    if nat_eq c 243715 then Who (text 0 fs) (text 1 fs) (policy 2 fs) else
+    if nat_eq c 236307 then Symbols (text 0 fs) (text 1 fs) (policy 2 fs) else
+    Help
+
+is_request : (r : Request) → request (code r) (fields_of r) ≡ r
+is_request (Run image tape steps) = refl
+is_request (Bin image file) = refl
+is_request (Watch image tape steps address) = refl
+is_request (State image tape steps) = refl
+is_request (Audit image) = refl
+is_request (Tables image) = refl
+is_request (Check firmware) = refl
+is_request (Why firmware) = refl
+is_request (Source firmware policy tape steps) = refl
+is_request (Where firmware policy tape steps) = refl
+is_request (Compile firmware board policy image) = refl
+is_request (Listing firmware board policy) = refl
+is_request (Stack firmware board policy) = refl
+is_request (Who firmware board policy) = refl
+is_request (Symbols firmware board policy) = refl
+is_request Help = refl
+
+fields_fit : (r : Request) → IsWithin r → all_fit (fields_of r)
+fields_fit (Run image tape steps) h = (tt, (tt, (h, tt)))
+fields_fit (Bin image file) h = (tt, (tt, tt))
+fields_fit (Watch image tape steps address) h = (tt, (tt, (h.0, (tt, tt))))
+fields_fit (State image tape steps) h = (tt, (tt, (h, tt)))
+fields_fit (Audit image) h = (tt, tt)
+fields_fit (Tables image) h = (tt, tt)
+fields_fit (Check firmware) h = (tt, tt)
+fields_fit (Why firmware) h = (tt, tt)
+fields_fit (Source firmware policy tape steps) h = (tt, (tt, (tt, (h, tt))))
+fields_fit (Where firmware policy tape steps) h = (tt, (tt, (tt, (h, tt))))
+fields_fit (Compile firmware board policy image) h = (tt, (tt, (tt, (tt, tt))))
+fields_fit (Listing firmware board policy) h = (tt, (tt, (tt, tt)))
+fields_fit (Stack firmware board policy) h = (tt, (tt, (tt, tt)))
+fields_fit (Who firmware board policy) h = (tt, (tt, (tt, tt)))
+fields_fit (Symbols firmware board policy) h = (tt, (tt, (tt, tt)))
+fields_fit Help h = tt
 
 pub requests_are_one : (words : List (List ℕ)) (r s : Request) → Asks words r → Asks words s → r ≡ s
-requests_are_one words r s h k = by_number r s (sym (has_number r) ∙ (ap shape (h.spelled ∙ sym k.spelled) ∙ has_number s)) words h k
+requests_are_one words r s h k =
+    let e : words_of r ≡ words_of s = h.spelled ∙ sym k.spelled in
+    let c : code r ≡ code s = sym (has_code r) ∙ ap code_of e ∙ has_code s in
+    let t : map kind_of (fields_of r) ≡ map kind_of (fields_of s) = has_kinds r ∙ ap kinds c ∙ sym (has_kinds s) in
+    let w : map word_of (fields_of r) ≡ map word_of (fields_of s) = sym (has_words r) ∙ ap behind e ∙ has_words s in
+    let f : fields_of r ≡ fields_of s = same_fields (fields_of r) (fields_of s) t w (fields_fit r h.within) (fields_fit s k.within) in
+    sym (is_request r) ∙ ap (λ v. request v (fields_of r)) c ∙ ap (request (code s)) f ∙ is_request s

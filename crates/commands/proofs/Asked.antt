@@ -1,13 +1,14 @@
 -- What is known by the calls that were made, and which request they serve.
-use Rattle.std.proofs.Common.{◌≡◌, ◌∙◌, ℕ, List, All, ◌∷◌, [], ◌++◌, Bool, Some, ap, sym, subst, append_assoc}
+use Rattle.std.proofs.Common.{◌≡◌, ◌∙◌, ℕ, List, All, ◌∷◌, [], ◌++◌, Bool, Some, inl, inr, ap, sym, subst, append_assoc}
 use Rattle.std.proofs.lemmas.List.Elements.{All-weaker}
 use Rattle.outside.specs.Calls.{Call, Size, Read, Create, Append}
 use Rattle.outside.specs.Reading.{Reads}
 use Rattle.outside.proofs.Paths.{unread_behind}
 use Rattle.aces_reports.specs.declared.failure.Failure.{Failure}
-use Rattle.aces_reports.specs.declared.failure.Failure.TheVariants.{Refused, PastLimit, NoRoom, Unread, Unwritten, Unprinted, NoMemory}
+use Rattle.aces_reports.specs.declared.failure.Failure.TheVariants.{Refused, PastLimit, Denied, NoRoom, Unread, Unwritten, Unprinted, NoMemory}
 use Rattle.aces_words.specs.Requests.{Request, Origin, origins, target}
 use Rattle.commands.specs.Known.{Held, IsNamed, IsCallOf, WasRead, WasTooLarge}
+use Rattle.commands.specs.Loads.{ReadsEither}
 use Rattle.commands.specs.CarriesOut.{IsKnown, IsKnownLarge, NamesLast, Writes}
 
 -- what some calls tell is told by them with further calls behind them
@@ -54,6 +55,7 @@ large_behind told held earlier calls s k = (large_so earlier calls s k.0, k.1)
 pub names_behind : (earlier calls : List Call) (e : Failure) → NamesLast calls e → NamesLast (earlier ++ calls) e
 names_behind earlier calls (Refused name f) h = h
 names_behind earlier calls (PastLimit which count) h = h
+names_behind earlier calls (Denied said) h = h
 names_behind earlier calls (NoRoom memory c needed available) h = h
 names_behind earlier calls (Unread name) h = unread_behind earlier calls name.now h
 names_behind earlier calls (Unwritten name) h = h
@@ -61,7 +63,7 @@ names_behind earlier calls Unprinted h = h
 names_behind earlier calls NoMemory h = h
 
 -- calls that read a source of a request, and that write its target
-read_of : (r : Request) (name : List ℕ) → IsNamed (origins r) name → (call : Call) → Reads name call → IsCallOf r call
+pub read_of : (r : Request) (name : List ℕ) → IsNamed (origins r) name → (call : Call) → Reads name call → IsCallOf r call
 read_of r name n (Size m size) e = subst (IsNamed (origins r)) (sym e) n
 read_of r name n (Read m place bytes) e = subst (IsNamed (origins r)) (sym e) n
 read_of r name n (Create m made) e = absurd e
@@ -69,6 +71,14 @@ read_of r name n (Append m piece made) e = absurd e
 
 pub reads_of : (r : Request) (name : List ℕ) → IsNamed (origins r) name → (calls : List Call) → All (Reads name) calls → All (IsCallOf r) calls
 reads_of r name n calls h = All-weaker (Reads name) (IsCallOf r) (read_of r name n) calls h
+
+either_of : (r : Request) (first second : List ℕ) → IsNamed (origins r) first → IsNamed (origins r) second → (call : Call) → ReadsEither first second call → IsCallOf r call
+either_of r first second n m call (inl h) = read_of r first n call h
+either_of r first second n m call (inr h) = read_of r second m call h
+
+pub reads_of_both : (r : Request) (first second : List ℕ) → IsNamed (origins r) first → IsNamed (origins r) second → (calls : List Call)
+    → All (ReadsEither first second) calls → All (IsCallOf r) calls
+reads_of_both r first second n m calls h = All-weaker (ReadsEither first second) (IsCallOf r) (either_of r first second n m) calls h
 
 write_of : (r : Request) (name bytes : List ℕ) → target r ≡ Some name → (call : Call) → Writes name bytes call → IsCallOf r call
 write_of r name bytes t (Size m size) e = absurd e

@@ -1,5 +1,5 @@
 -- How commands end, by what their steps answered.
-use Rattle.std.proofs.Common.{◌≡◌, ◌≢◌, ℕ, ◌+◌, ◌^◌, ◌<◌, inl, inr, List, [], None, Ok, Err, Result, false, IsTrue, IsNone, IfErr, refl, ap, sym, subst, arith}
+use Rattle.std.proofs.Common.{◌≡◌, ◌≢◌, ℕ, ◌+◌, ◌^◌, ◌<◌, inl, inr, List, [], ◌++◌, Bool, None, Ok, Err, Result, false, IsTrue, IsNone, IfErr, refl, ap, sym, subst, arith}
 use Rattle.std.proofs.lemmas.Bool.{false≢true}
 use Rattle.outside.specs.Calls.{Call}
 use Rattle.aces_reports.specs.declared.failure.Done.{Done}
@@ -7,15 +7,16 @@ use Rattle.aces_reports.specs.declared.failure.Done.TheVariants.{Completed, RunF
 use Rattle.aces_reports.specs.declared.failure.Fault.{Fault}
 use Rattle.aces_reports.specs.declared.failure.Fault.TheVariants.{TooLarge}
 use Rattle.aces_reports.specs.declared.failure.Failure.{Failure}
-use Rattle.aces_reports.specs.declared.failure.Failure.TheVariants.{Refused, PastLimit, NoRoom, Unread, Unwritten, Unprinted, NoMemory}
-use Rattle.aces_words.specs.Requests.{Request, Run, Bin, Compile, Check, Source, Listing, Stack, Audit, Tables, Origin, origins}
+use Rattle.aces_reports.specs.declared.failure.Failure.TheVariants.{Refused, PastLimit, Denied, NoRoom, Unread, Unwritten, Unprinted, NoMemory}
+use Rattle.aces_words.specs.Requests.{Request, Run, Bin, Compile, Check, Source, Where, Listing, Stack, Audit, Tables, Watch, State, Help, Who, Why, Symbols, Origin, origins}
 use Rattle.commands.specs.Known.{Held, IsMissing, IsNamed}
-use Rattle.commands.specs.Outcomes.{Outcome, refused, past_limit, no_room}
+use Rattle.commands.specs.Outcomes.{Outcome, refused, past_limit, denied, no_room}
 use Rattle.aces_reports.specs.Sinks.{SinkState}
 use Rattle.aces_reports.specs.Ends.{status_of}
 use Rattle.commands.specs.Effects.{World, Does, IsDone, Quiet, IsCarriedOut, IsRewritten, IsPart, IsPrintedInPart}
-use Rattle.commands.specs.CarriesOut.{NamesLast}
+use Rattle.commands.specs.CarriesOut.{IsKnownLarge, NamesLast}
 use Rattle.commands.specs.Loads.{IsLoadFailure, IsContentFailure, IsRefusal}
+use Rattle.commands.proofs.Asked.{large_behind}
 
 -- where nothing was printed, no more than a part was
 nothing_printed : (A : Outcome → Type 0) (r : Request) (old new : World) → new.out ≡ old.out → IsPrintedInPart A r old new r
@@ -28,6 +29,13 @@ nothing_printed A (Listing firmware board policy) old new h = h
 nothing_printed A (Stack firmware board policy) old new h = h
 nothing_printed A (Audit image) old new h = h
 nothing_printed A (Tables image) old new h = h
+nothing_printed A (Watch image tape steps address) old new h = h
+nothing_printed A (State image tape steps) old new h = h
+nothing_printed A Help old new h = h
+nothing_printed A (Who firmware board policy) old new h = h
+nothing_printed A (Why firmware) old new h = h
+nothing_printed A (Where firmware policy tape steps) old new h = h
+nothing_printed A (Symbols firmware board policy) old new h = h
 
 -- memory ran out before anything was printed or written
 pub no_memory : (A : Outcome → Type 0) (r : Request) (old new : World) → Quiet old new → new.read_faults ≡ old.read_faults → Does A r old new (Err NoMemory)
@@ -48,6 +56,7 @@ load_failed A Exceeds r s old new quiet named missing large (Refused name f) h =
   read_faults = h.3;
 }
 load_failed A Exceeds r s old new quiet named missing large (PastLimit which count) h = absurd h
+load_failed A Exceeds r s old new quiet named missing large (Denied said) h = absurd h
 load_failed A Exceeds r s old new quiet named missing large (NoRoom memory c needed available) h = absurd h
 load_failed A Exceeds r s old new quiet named missing large (Unread name) h = record {
   named = subst (IsNamed (origins r)) (sym h.0) named;
@@ -57,6 +66,18 @@ load_failed A Exceeds r s old new quiet named missing large (Unread name) h = re
 load_failed A Exceeds r s old new quiet named missing large (Unwritten name) h = absurd h
 load_failed A Exceeds r s old new quiet named missing large Unprinted h = absurd h
 load_failed A Exceeds r s old new quiet named missing large NoMemory h = no_memory A r old new quiet h
+
+-- why a source was not read is so with other calls in front of those that were to read it
+pub load_behind : (told : Bool) (held : Held) (earlier calls : List Call) (s : Origin) (before after : ℕ) (e : Failure)
+    → IsLoadFailure (IsKnownLarge told held calls) told held s before after e → IsLoadFailure (IsKnownLarge told held (earlier ++ calls)) told held s before after e
+load_behind told held earlier calls s before after (Refused name f) h = (h.0, h.1, large_behind told held earlier calls s h.2, h.3)
+load_behind told held earlier calls s before after (PastLimit which count) h = h
+load_behind told held earlier calls s before after (Denied said) h = h
+load_behind told held earlier calls s before after (NoRoom memory c needed available) h = h
+load_behind told held earlier calls s before after (Unread name) h = h
+load_behind told held earlier calls s before after (Unwritten name) h = h
+load_behind told held earlier calls s before after Unprinted h = h
+load_behind told held earlier calls s before after NoMemory h = h
 
 -- a content that was refused
 pub content_failed : (A : Outcome → Type 0) (IsFault : Fault → Type 0) (r : Request) (name : List ℕ) (old new : World) → Quiet old new
@@ -68,6 +89,7 @@ content_failed A IsFault r name old new quiet reads answer (Refused n f) h = rec
   read_faults = reads;
 }
 content_failed A IsFault r name old new quiet reads answer (PastLimit which count) h = absurd h
+content_failed A IsFault r name old new quiet reads answer (Denied said) h = absurd h
 content_failed A IsFault r name old new quiet reads answer (NoRoom memory c needed available) h = absurd h
 content_failed A IsFault r name old new quiet reads answer (Unread n) h = absurd h
 content_failed A IsFault r name old new quiet reads answer (Unwritten n) h = absurd h
@@ -78,6 +100,7 @@ content_failed A IsFault r name old new quiet reads answer NoMemory h = no_memor
 pub content_names : (calls : List Call) (IsFault : Fault → Type 0) (name : List ℕ) (e : Failure) → IsContentFailure IsFault name e → NamesLast calls e
 content_names calls IsFault name (Refused n f) h = tt
 content_names calls IsFault name (PastLimit which count) h = absurd h
+content_names calls IsFault name (Denied said) h = absurd h
 content_names calls IsFault name (NoRoom memory c needed available) h = absurd h
 content_names calls IsFault name (Unread n) h = absurd h
 content_names calls IsFault name (Unwritten n) h = absurd h
@@ -88,6 +111,7 @@ content_names calls IsFault name NoMemory h = tt
 pub content_also : (P Q : Fault → Type 0) → ((f : Fault) → P f → Q f) → (name : List ℕ) (e : Failure) → IsContentFailure P name e → IsContentFailure Q name e
 content_also P Q m name (Refused n f) h = (h.0, m f h.1)
 content_also P Q m name (PastLimit which count) h = h
+content_also P Q m name (Denied said) h = h
 content_also P Q m name (NoRoom memory c needed available) h = h
 content_also P Q m name (Unread n) h = h
 content_also P Q m name (Unwritten n) h = h
@@ -99,6 +123,7 @@ pub refusal_did : (A : Outcome → Type 0) (r : Request) (old new : World) → Q
     → (e : Failure) → IsRefusal A e → Does A r old new (Err e)
 refusal_did A r old new quiet reads (Refused n f) h = record { answer = h; quiet = quiet; read_faults = reads }
 refusal_did A r old new quiet reads (PastLimit which count) h = record { answer = h; quiet = quiet; read_faults = reads }
+refusal_did A r old new quiet reads (Denied said) h = record { answer = h; quiet = quiet; read_faults = reads }
 refusal_did A r old new quiet reads (NoRoom memory c needed available) h = record { answer = h; quiet = quiet; read_faults = reads }
 refusal_did A r old new quiet reads (Unread n) h = absurd h
 refusal_did A r old new quiet reads (Unwritten n) h = absurd h
@@ -109,6 +134,7 @@ refusal_did A r old new quiet reads NoMemory h = no_memory A r old new quiet rea
 pub refusal_names : (calls : List Call) (A : Outcome → Type 0) (e : Failure) → IsRefusal A e → NamesLast calls e
 refusal_names calls A (Refused n f) h = tt
 refusal_names calls A (PastLimit which count) h = tt
+refusal_names calls A (Denied said) h = tt
 refusal_names calls A (NoRoom memory c needed available) h = tt
 refusal_names calls A (Unread n) h = absurd h
 refusal_names calls A (Unwritten n) h = absurd h
@@ -119,6 +145,7 @@ refusal_names calls A NoMemory h = tt
 pub refusal_also : (A B : Outcome → Type 0) → ((o : Outcome) → A o → B o) → (e : Failure) → IsRefusal A e → IsRefusal B e
 refusal_also A B m (Refused n f) h = m (refused n.now f) h
 refusal_also A B m (PastLimit which count) h = m (past_limit which count) h
+refusal_also A B m (Denied said) h = m (denied said) h
 refusal_also A B m (NoRoom memory c needed available) h = m (no_room memory c needed available) h
 refusal_also A B m (Unread n) h = h
 refusal_also A B m (Unwritten n) h = h
@@ -129,6 +156,7 @@ pub content_refused : (A : Outcome → Type 0) (IsFault : Fault → Type 0) (nam
     → (e : Failure) → IsContentFailure IsFault name e → IsRefusal A e
 content_refused A IsFault name answer (Refused n f) h = subst (λ x. A (refused x f)) (sym h.0) (answer f h.1)
 content_refused A IsFault name answer (PastLimit which count) h = absurd h
+content_refused A IsFault name answer (Denied said) h = absurd h
 content_refused A IsFault name answer (NoRoom memory c needed available) h = absurd h
 content_refused A IsFault name answer (Unread n) h = absurd h
 content_refused A IsFault name answer (Unwritten n) h = absurd h
@@ -143,6 +171,7 @@ pub untouched_names : (calls : List Call) (A : Outcome → Type 0) (r : Request)
 untouched_names calls A r held old new (Ok d) h = tt
 untouched_names calls A r held old new (Err (Refused name f)) h = tt
 untouched_names calls A r held old new (Err (PastLimit which count)) h = tt
+untouched_names calls A r held old new (Err (Denied said)) h = tt
 untouched_names calls A r held old new (Err (NoRoom memory c needed available)) h = tt
 untouched_names calls A r held old new (Err (Unread name)) h =
     absurd (elim h.cause [ inl rose ↦ let few : 0 + 1 < 2 ^ 64 = omega arith in let wrong = rose few in omega (arith, wrong) | inr gone ↦ false≢true gone.0 ])
@@ -171,6 +200,13 @@ printed_also A B m (Listing firmware board policy) old new h = h
 printed_also A B m (Stack firmware board policy) old new h = h
 printed_also A B m (Audit image) old new h = h
 printed_also A B m (Tables image) old new h = h
+printed_also A B m (Watch image tape steps address) old new h = h
+printed_also A B m (State image tape steps) old new h = h
+printed_also A B m Help old new h = h
+printed_also A B m (Who firmware board policy) old new h = h
+printed_also A B m (Why firmware) old new h = h
+printed_also A B m (Where firmware policy tape steps) old new h = h
+printed_also A B m (Symbols firmware board policy) old new h = h
 
 -- what did for some answers did for others
 pub did_also : (A B : Outcome → Type 0) → ((o : Outcome) → A o → B o) → (r : Request) (old new : World) (e : Result Done Failure)
@@ -180,6 +216,7 @@ did_also A B m r old new (Ok RunFailed) d = record { outcome = d.outcome; answer
 did_also A B m r old new (Ok Negative) d = record { outcome = d.outcome; answer = m d.outcome d.answer; ended = d.ended; silent = d.silent; all = d.all }
 did_also A B m r old new (Err (Refused name f)) d = record { answer = m (refused name.now f) d.answer; quiet = d.quiet; read_faults = d.read_faults }
 did_also A B m r old new (Err (PastLimit which count)) d = record { answer = m (past_limit which count) d.answer; quiet = d.quiet; read_faults = d.read_faults }
+did_also A B m r old new (Err (Denied said)) d = record { answer = m (denied said) d.answer; quiet = d.quiet; read_faults = d.read_faults }
 did_also A B m r old new (Err (NoRoom memory c needed available)) d = record { answer = m (no_room memory c needed available) d.answer; quiet = d.quiet; read_faults = d.read_faults }
 did_also A B m r old new (Err (Unread name)) d = d
 did_also A B m r old new (Err (Unwritten name)) d = (d.0, part_also A B m r old new d.1)
@@ -210,6 +247,7 @@ module _ (A : Outcome → Type 0) (nothing : (o : Outcome) → A o → o.status 
   held_stays (Ok Negative) d n m = unwritten_by 8 (omega arith) d
   held_stays (Err (Refused name f)) d n m = d.quiet.held
   held_stays (Err (PastLimit which count)) d n m = d.quiet.held
+  held_stays (Err (Denied said)) d n m = d.quiet.held
   held_stays (Err (NoRoom memory c needed available)) d n m = d.quiet.held
   held_stays (Err (Unread name)) d n m = d.quiet.held
   held_stays (Err (Unwritten name)) d n m = absurd (m refl)

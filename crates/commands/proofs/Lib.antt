@@ -1,6 +1,7 @@
-mod Starting
+pub mod Starting
 mod Boards
 mod Whole
 pub mod Asked
 pub mod Ends
 pub mod Answering
+pub mod Pairs

@@ -30,12 +30,16 @@ pub data BinAnswer (image file : List ℕ) (bytes : List ℕ) : Outcome → Type
 
 -- The answer to a request: by the first source that is larger than its limit, each one before it being there, and else by the
 -- contents of all of them. `Has` says which bytes a source within its limit holds, and `Exceeds` that one is larger than its limit.
-pub data AnswerToRun (image tape : List ℕ) (steps : ℕ) (Has : Origin → List ℕ → Type 0) (Exceeds : Origin → Type 0) : Outcome → Type 0 where
-  image_large : Exceeds (file_origin image) → AnswerToRun image tape steps Has Exceeds (refused image (TooLarge file_limit))
+-- Of a request on an image and a tape `Answer` is the answer on the bytes of both files.
+pub data AnswerOnTape (image tape : List ℕ) (Answer : (bytes text : List ℕ) → Outcome → Type 0) (Has : Origin → List ℕ → Type 0) (Exceeds : Origin → Type 0) : Outcome → Type 0 where
+  image_large : Exceeds (file_origin image) → AnswerOnTape image tape Answer Has Exceeds (refused image (TooLarge file_limit))
   tape_large : (bytes : List ℕ) → Has (file_origin image) bytes → Exceeds (file_origin tape) →
-      AnswerToRun image tape steps Has Exceeds (refused tape (TooLarge file_limit))
+      AnswerOnTape image tape Answer Has Exceeds (refused tape (TooLarge file_limit))
   all_read : (bytes text : List ℕ) (o : Outcome) → Has (file_origin image) bytes → Has (file_origin tape) text →
-      RunAnswer image tape steps bytes text o → AnswerToRun image tape steps Has Exceeds o
+      Answer bytes text o → AnswerOnTape image tape Answer Has Exceeds o
+
+abbrev pub AnswerToRun : (image tape : List ℕ) (steps : ℕ) (Has : Origin → List ℕ → Type 0) (Exceeds : Origin → Type 0) → Outcome → Type 0
+AnswerToRun image tape steps = AnswerOnTape image tape (RunAnswer image tape steps)
 
 pub data AnswerToBin (image file : List ℕ) (Has : Origin → List ℕ → Type 0) (Exceeds : Origin → Type 0) : Outcome → Type 0 where
   image_large : Exceeds (file_origin image) → AnswerToBin image file Has Exceeds (refused image (TooLarge file_limit))

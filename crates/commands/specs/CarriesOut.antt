@@ -6,7 +6,7 @@ use Rattle.outside.specs.Calls.{Call, Calls, Size, Read, Create, Append}
 use Rattle.outside.specs.Reading.{EndsUnread}
 use Rattle.aces_reports.specs.declared.failure.Done.{Done}
 use Rattle.aces_reports.specs.declared.failure.Failure.{Failure}
-use Rattle.aces_reports.specs.declared.failure.Failure.TheVariants.{Refused, PastLimit, NoRoom, Unread, Unwritten, Unprinted, NoMemory}
+use Rattle.aces_reports.specs.declared.failure.Failure.TheVariants.{Refused, PastLimit, Denied, NoRoom, Unread, Unwritten, Unprinted, NoMemory}
 use Rattle.aces_reports.specs.Sinks.{SinkState}
 use Rattle.aces_words.specs.Requests.{Request, Origin}
 use Rattle.commands.specs.Known.{Held, Holds, Exceeds, WasRead, WasTooLarge, IsCallOf}
@@ -24,6 +24,7 @@ IsKnownLarge told held calls s = WasTooLarge calls s × (IsTrue told → Exceeds
 abbrev pub NamesLast : List Call → Failure → Type 0
 NamesLast calls (Refused name fault) = Unit {0}
 NamesLast calls (PastLimit which count) = Unit {0}
+NamesLast calls (Denied said) = Unit {0}
 NamesLast calls (NoRoom memory compartment needed available) = Unit {0}
 NamesLast calls (Unread name) = EndsUnread name.now calls
 NamesLast calls (Unwritten name) = Unit {0}

@@ -8,7 +8,7 @@ use Rattle.image.specs.declared.fault.ImageFault.{ImageFault}
 use Rattle.image.specs.declared.fault.ImageFault.TheVariants as image_faults
 use Rattle.image.specs.Faults as images
 use Rattle.aces_reports.specs.declared.failure.Fault.{Fault}
-use Rattle.aces_reports.specs.declared.failure.Fault.TheVariants.{Short, Magic, Version, Field, Trailing, BadLine, UnknownPeripheral, NotToml, MissingKey, KeyKind, KeyRange, ExtraKey}
+use Rattle.aces_reports.specs.declared.failure.Fault.TheVariants.{Short, Magic, Version, Field, Trailing, BadLine, UnknownPeripheral, NotToml, MissingKey, KeyKind, KeyRange, DeniedKind, DeniedRange, ExtraKey}
 use Rattle.board_text.specs.declared.fault.BoardFault.{BoardFault}
 use Rattle.board_text.specs.declared.fault.BoardFault.TheVariants as board_faults
 use Rattle.board_text.specs.Reading as boards
@@ -33,6 +33,8 @@ of_board board_faults.NotToml = Some NotToml
 of_board (board_faults.Missing key) = Some (MissingKey key)
 of_board (board_faults.Kind key) = Some (KeyKind key)
 of_board (board_faults.Range key) = Some (KeyRange key)
+of_board (board_faults.DeniedKind path) = Some (DeniedKind path)
+of_board (board_faults.DeniedRange path) = Some (DeniedRange path)
 of_board (board_faults.Extra path) = Some (ExtraKey path)
 
 -- bytes are the text of no image, and this is their first fault; and so of a tape for windows

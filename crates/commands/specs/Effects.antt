@@ -6,11 +6,11 @@ use Rattle.outside.specs.Contents.{AddsPrefix}
 use Rattle.aces_reports.specs.declared.failure.Done.{Done}
 use Rattle.aces_reports.specs.declared.failure.Done.TheVariants.{Completed, RunFailed, Negative}
 use Rattle.aces_reports.specs.declared.failure.Failure.{Failure}
-use Rattle.aces_reports.specs.declared.failure.Failure.TheVariants.{Refused, PastLimit, NoRoom, Unread, Unwritten, Unprinted, NoMemory}
+use Rattle.aces_reports.specs.declared.failure.Failure.TheVariants.{Refused, PastLimit, Denied, NoRoom, Unread, Unwritten, Unprinted, NoMemory}
 use Rattle.aces_words.specs.Requests.{Request, Source, origins, target}
 use Rattle.commands.specs.Known.{Held, IsMissing, IsNamed}
 use Rattle.aces_reports.specs.Sinks.{SinkState}
-use Rattle.commands.specs.Outcomes.{Written, Outcome, refused, past_limit, no_room}
+use Rattle.commands.specs.Outcomes.{Written, Outcome, refused, past_limit, denied, no_room}
 
 -- the files as they are seen, and the sink of what is printed
 pub record World : Type 0 where
@@ -117,6 +117,7 @@ module _ (Answer : Outcome → Type 0) (request : Request) (old new : World) whe
   Does (Ok Negative) = IsDone 8
   Does (Err (Refused name fault)) = IsRefused (refused name.now fault)
   Does (Err (PastLimit which count)) = IsRefused (past_limit which count)
+  Does (Err (Denied said)) = IsRefused (denied said)
   Does (Err (NoRoom memory compartment needed available)) = IsRefused (no_room memory compartment needed available)
   Does (Err (Unread name)) = IsUnread request old new name.now
   Does (Err (Unwritten name)) = IsUnwritten request old new name.now × IsPart

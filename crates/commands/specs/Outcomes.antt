@@ -2,7 +2,7 @@
 use Rattle.std.specs.Prelude.{ℕ, List, [], Option, None}
 use Rattle.aces_reports.specs.declared.failure.Fault.{Fault}
 use Rattle.aces_reports.specs.declared.failure.Memory.{Memory}
-use Rattle.aces_reports.specs.FaultLines.{fault_line, limit_line, room_line, usage_line}
+use Rattle.aces_reports.specs.FaultLines.{fault_line, limit_line, denied_line, room_line, usage_line}
 use Rattle.plan_model.specs.declared.limits.LimitKind.{LimitKind}
 
 -- the bytes that a name is made to hold
@@ -26,6 +26,10 @@ refused name f = record { status = 1; printed = []; line = fault_line name f; wr
 -- a firmware has too much of this to be compiled, or a memory of the board has no room
 abbrev pub past_limit : LimitKind → (count : ℕ) → Outcome
 past_limit which count = record { status = 1; printed = []; line = limit_line which count; written = None }
+
+-- a range of addresses that a firmware asks for meets one that the board denies, as the text tells
+abbrev pub denied : (text : List ℕ) → Outcome
+denied text = record { status = 3; printed = []; line = denied_line text; written = None }
 
 abbrev pub no_room : Memory → (compartment : Option ℕ) → (needed available : ℕ) → Outcome
 no_room m c needed available = record { status = 3; printed = []; line = room_line m c needed available; written = None }

@@ -1,15 +1,23 @@
 //! The failures that faults of files are.
 
-ghost use Rattle.std.specs.Prelude.{◌≡◌, Some};
-ghost use Rattle.aces_reports.specs.declared.failure.Failure.TheVariants.{NoRoom, Refused};
+ghost use Rattle.std.specs.Prelude.{◌≡◌, ◌⊎◌, Some};
+ghost use Rattle.aces_reports.specs.declared.failure.Failure.TheVariants.{Denied, NoMemory, NoRoom, Refused};
+ghost use Rattle.ir_model.specs.Plain.{firmware_of};
+ghost use Rattle.denial_lines.specs.Lines as denials;
 ghost use Rattle.commands.specs.Contents.{of_board, of_image, of_tape};
-ghost use Rattle.commands.specs.Loads.{IsContentFailure, of_planning};
+ghost use Rattle.commands.specs.Loads.{IsContentFailure, IsPlanningFailure};
 
 use aces_reports::{Failure, Fault, Memory};
 use board_text::fault::BoardFault;
+use denial_lines::meeting_text;
+use denied_plans::Meeting;
 use device_model::tape::TapeFault;
 use image::fault::ImageFault;
+use ir_model::firmware::Firmware;
+use list_vec::ListVec;
+use plan_model::plan::Board;
 use planning::PlanningRefusal;
+use std::alloc::Global;
 
 /// The failure that a fault of an image is.
 pub(crate) fn image_failure(name: &str, fault: ImageFault) -> Failure<'_>
@@ -46,17 +54,25 @@ pub(crate) fn board_failure(name: &str, fault: BoardFault) -> Failure<'_>
         BoardFault::Missing(key) => refused(name, Fault::MissingKey { key }),
         BoardFault::Kind(key) => refused(name, Fault::KeyKind { key }),
         BoardFault::Range(key) => refused(name, Fault::KeyRange { key }),
+        BoardFault::DeniedKind(path) => refused(name, Fault::DeniedKind { path }),
+        BoardFault::DeniedRange(path) => refused(name, Fault::DeniedRange { path }),
         BoardFault::Extra(path) => refused(name, Fault::ExtraKey { path }),
     }
 }
 
-/// The failure that a refusal of planning is.
-pub fn planning_failure<'a>(refusal: PlanningRefusal) -> Failure<'a>
-    ensures { result ≡ of_planning refusal }
+/// The failure that a refusal of planning is, of a firmware for a board; or that there is no memory to tell it.
+pub fn planning_failure<'a>(
+    alloc: Global,
+    firmware: &Firmware,
+    board: &Board,
+    refusal: PlanningRefusal,
+) -> Failure<'a>
+    ensures { IsPlanningFailure (firmware_of firmware.now) board.now refusal result }
 {
     match refusal {
         PlanningRefusal::NoMemory => Failure::NoMemory,
         PlanningRefusal::Limit { which, count } => Failure::PastLimit { which, count },
+        PlanningRefusal::Denied(meeting) => denied_failure(alloc, firmware, board, meeting),
         PlanningRefusal::Flash {
             compartment,
             needed,
@@ -67,6 +83,23 @@ pub fn planning_failure<'a>(refusal: PlanningRefusal) -> Failure<'a>
             needed,
             available,
         } => no_room(Memory::Ram, compartment, needed, available),
+    }
+}
+
+/// The failure that a range is which is asked for and denied.
+fn denied_failure<'a>(
+    alloc: Global,
+    firmware: &Firmware,
+    board: &Board,
+    meeting: Meeting,
+) -> Failure<'a>
+    ensures { (result ≡ Denied (denials.meeting_text (firmware_of firmware.now) board.now meeting)) ⊎ (result ≡ NoMemory) }
+{
+    match meeting_text(alloc, firmware, board, meeting) {
+        Ok(text) => Failure::Denied {
+            text: ListVec::new(text),
+        },
+        Err(_) => Failure::NoMemory,
     }
 }
 

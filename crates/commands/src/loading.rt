@@ -10,7 +10,7 @@ ghost use Rattle.commands.specs.CarriesOut.{IsKnown, IsKnownLarge, NamesLast};
 ghost use Rattle.plan_model.specs.Boards.{IsBoard};
 ghost use Rattle.board_text.specs.Reading as boards;
 ghost use Rattle.commands.specs.Contents.{IsNoImage, IsNoTape, IsNoBoard};
-ghost use Rattle.commands.specs.Loads.{IsContentFailure, IsLoadFailure};
+ghost use Rattle.commands.specs.Loads.{ReadsEither, IsContentFailure, IsLoadFailure, IsPairFailure};
 
 use crate::failure::{board_failure, image_failure, tape_failure};
 use aces_reports::{Failure, Fault};
@@ -42,6 +42,41 @@ pub fn load<'a, F: Files>(
     ensures writes { F.write_faults files.new ≡ F.write_faults files.old }
 {
     load_within(alloc, files, name, FILE_LIMIT)
+}
+
+/// The bytes of two files.
+#[derive(Drop)]
+pub struct Both {
+    /// Those of the first.
+    pub first: Vec<u8>,
+    /// Those of the second.
+    pub second: Vec<u8>,
+}
+
+/// The bytes of two files, of which the second is read behind the first, each an image, a tape or a board.
+pub fn load_both<'a, F: Files>(
+    alloc: Global,
+    files: &mut F,
+    first: &'a str,
+    second: &'a str,
+) -> Result<Both, Failure<'a>>
+    ensures few { IfOk result (λ both. length both.second.items ≤ file_limit) }
+    ensures calls { (calls : List Call) × Calls F.called files.old calls files.new × All (ReadsEither first.now second.now) calls
+        × IfOk result (λ both. IsKnown F.told (F.held files.old) calls (file_origin first.now) both.first.items
+        × IsKnown F.told (F.held files.old) calls (file_origin second.now) both.second.items)
+        × IfErr result (IsPairFailure (IsKnown F.told (F.held files.old) calls) (IsKnownLarge F.told (F.held files.old) calls) F.told (F.held files.old)
+        (file_origin first.now) (file_origin second.now) (F.read_faults files.old) (F.read_faults files.new))
+        × IfErr result (NamesLast calls) }
+    ensures same { F.held files.new ≡ F.held files.old }
+    ensures reads { OnOk result (F.read_faults files.new ≡ F.read_faults files.old) }
+    ensures writes { F.write_faults files.new ≡ F.write_faults files.old }
+{
+    let front = load(alloc, files, first)?;
+    let behind = load(alloc, files, second)?;
+    Ok(Both {
+        first: front,
+        second: behind,
+    })
 }
 
 /// The bytes of a firmware.

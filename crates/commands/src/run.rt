@@ -10,7 +10,7 @@ ghost use Rattle.aces_reports.specs.Ends.{status_of};
 ghost use Rattle.commands.specs.CarriesOut.{CarriesOut};
 ghost use Rattle.commands.specs.Effects.{Does};
 
-use crate::loading::{image_of, load, tape_of};
+use crate::loading::{image_of, load_both, tape_of};
 use aces_reports::{Done, Failure};
 use armv7m::state::End;
 use machine::Machine;
@@ -19,7 +19,7 @@ use outside::{Files, Sink};
 use std::alloc::Global;
 
 /// What RAM is filled with before a run.
-const FILL: u8 = 0xA5;
+pub const FILL: u8 = 0xA5;
 
 /// Runs an image on a tape for at most so many machine steps, and prints the events and the end.
 pub fn run<'a, F: Files, O: Sink>(
@@ -32,14 +32,13 @@ pub fn run<'a, F: Files, O: Sink>(
 ) -> Result<Done, Failure<'a>>
     ensures { CarriesOut (AnswerToRun image.now tape.now steps) F.Files files.old files.new (Run image.now tape.now steps) (sink O.Sink out.old) (sink O.Sink out.new) result }
 {
-    let bytes = load(alloc, files, image)?;
-    let text = load(alloc, files, tape)?;
+    let both = load_both(alloc, files, image, tape)?;
     run_texts(
         alloc,
         image,
-        bytes.as_slice(),
+        both.first.as_slice(),
         tape,
-        text.as_slice(),
+        both.second.as_slice(),
         steps,
         out,
     )

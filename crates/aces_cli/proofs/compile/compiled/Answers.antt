@@ -1,12 +1,13 @@
 use Rattle.std.proofs.Common.{sym, subst}
 use Rattle.std.proofs.lemmas.Result.{err_from_is_err_and}
 use Rattle.ir_model.specs.Plain.{firmware_of}
-use Rattle.aces_cli.specs.Answer.{PlanAnswer, CompileAnswer, no_firmware, no_board, compiled, unplanned}
+use Rattle.planned_commands.specs.PlanAnswer.{PlanAnswer, no_firmware, no_board}
+use Rattle.aces_cli.specs.Answer.{CompileAnswer, compiled, unplanned}
 use Rattle.commands.specs.Contents.{IsNoBoard}
 use Rattle.firmware_commands.specs.Firmwares.{IsNoFirmware}
-use Rattle.commands.specs.Loads.{IsContentFailure}
+use Rattle.commands.specs.Loads.{IsContentFailure, IsPlanningFailure}
 use Rattle.commands.proofs.Ends.{content_refused, refusal_also}
-use Rattle.aces_cli.proofs.Planning.{planning_refused}
+use Rattle.planned_commands.proofs.Planning.{planning_refused}
 use Rattle.aces_cli.proofs.compile.compiled.Goals as goal
 
 pub returns-in_err-checked-clause-err : goal.returns-in_err-checked-clause-err
@@ -39,4 +40,4 @@ returns-clause-err c image =
     let text = c.args.text.now in
     refusal_also (PlanAnswer firmware board policy bytes text) (CompileAnswer firmware board policy image bytes text) unplanned c.planning_failure.result
     (planning_refused firmware board policy bytes text (firmware_of c.in_ok-checked.checked) c.in_ok-read.read
-    c.in_ok-checked.ensures.ok c.in_ok-read.ensures.ok c.in-Err.refusal c.planning_failure.result c.in-Err.ensures.refused c.planning_failure.ensures)
+    c.in_ok-checked.ensures.ok c.in_ok-read.ensures.ok c.in-Err.refusal c.planning_failure.result c.in-Err.ensures.refused (subst (λ f. IsPlanningFailure (firmware_of f) c.in_ok-read.read c.in-Err.refusal c.planning_failure.result) c.firmware.ensures.same c.planning_failure.ensures))

@@ -1,68 +1,38 @@
-use Rattle.std.proofs.Common.{◌∙◌, inl, inr, false, refl, sym, subst, ◌++◌}
-use Rattle.std.proofs.lemmas.List.Elements.{All-append}
+use Rattle.std.proofs.Common.{inl, inr, false, refl, sym, subst}
 use Rattle.std.proofs.lemmas.Result.{err_from_is_err_and}
-use Rattle.aces_words.specs.Requests.{Run, Origin, file_origin}
-use Rattle.commands.specs.Known.{Held, IsCallOf}
+use Rattle.aces_words.specs.Requests.{Run, file_origin}
 use Rattle.commands.specs.CarriesOut.{IsKnown, IsKnownLarge, NamesLast}
 use Rattle.commands.specs.Answers.{AnswerToRun, RunAnswer, image_large, tape_large, all_read}
 use Rattle.aces_reports.specs.Sinks.{sink}
 use Rattle.commands.specs.Effects.{Does, world}
-use Rattle.commands.specs.Loads.{IsLoadFailure}
-use Rattle.outside.proofs.Paths.{calls_joined}
-use Rattle.commands.proofs.Asked.{known_before, known_behind, large_behind, names_behind, reads_of}
-use Rattle.commands.proofs.Ends.{load_failed, did_also, did_then, untouched_names}
+use Rattle.commands.specs.Loads.{IsPairFailure}
+use Rattle.commands.proofs.Asked.{reads_of_both}
+use Rattle.commands.proofs.Ends.{did_also, did_then, untouched_names}
+use Rattle.commands.proofs.Pairs.{pair_failed}
 use Rattle.commands.proofs.run.run.Goals as goal
 
-pub returns-in_err-bytes : goal.returns-in_err-bytes
-returns-in_err-bytes g c =
-    let image = c.args.image.now in
-    let r = Run image c.args.tape.now c.args.steps in
-    let made = c.in_err-bytes.ensures.calls in
-    let large = IsKnownLarge g.F.Files.told (g.F.Files.held c.args.files.now) made.0 in
-    let all = AnswerToRun image c.args.tape.now c.args.steps (IsKnown g.F.Files.told (g.F.Files.held c.args.files.now) made.0) large in
-    let old = world g.F.Files c.args.files.now (sink g.O.Sink c.args.out.now) in
-    let new = world g.F.Files c.load.new.files (sink g.O.Sink c.args.out.now) in
-    let x = err_from_is_err_and c.from_residual.result c.from_residual.ensures.1 in (
-      made.0,
-      made.1,
-      reads_of r image (inl refl) made.0 made.2,
-      subst (Does all r old new) (sym x.1)
-          (load_failed all large r (file_origin image) old new
-          (record { held = c.load.ensures.same; write_faults = c.load.ensures.writes; out = refl })
-          (inl refl) (λ t n. inl (refl, n)) (λ e. image_large e) x.0
-          (subst (IsLoadFailure large old.told old.held (file_origin image) old.read_faults new.read_faults) (sym x.2) made.4)),
-      rw x.1 (subst (NamesLast made.0) (sym x.2) made.5),
-    )
-
-pub returns-in_err-text : goal.returns-in_err-text
-returns-in_err-text g c =
+pub returns-in_err-both : goal.returns-in_err-both
+returns-in_err-both g c =
     let image = c.args.image.now in
     let tape = c.args.tape.now in
     let r = Run image tape c.args.steps in
-    let told = g.F.Files.told in
-    let first = c.in_ok-bytes.ensures.calls in
-    let second = c.in_err-text.ensures.calls in
-    let made = first.0 ++ second.0 in
-    let large : Held → Origin → Type 0 = λ held s. IsKnownLarge told held second.0 s in
-    let all = AnswerToRun image tape c.args.steps (IsKnown told (g.F.Files.held c.args.files.now) made) (IsKnownLarge told (g.F.Files.held c.args.files.now) made) in
-    let old = world g.F.Files c.args.files.now (sink g.O.Sink c.args.out.now) in
-    let mid = world g.F.Files c.load.new.files (sink g.O.Sink c.args.out.now) in
-    let new = world g.F.Files c.load-2.new.files (sink g.O.Sink c.args.out.now) in
-    let bytes = c.in_ok-bytes.bytes.items in
-    let x = err_from_is_err_and c.from_residual-in_err-text.result c.from_residual-in_err-text.ensures.1 in
-    let failed = subst (IsLoadFailure (large mid.held) told mid.held (file_origin tape) mid.read_faults new.read_faults) (sym x.2) second.4 in
-    let held_too = subst (λ h. IsLoadFailure (large h) told h (file_origin tape) mid.read_faults new.read_faults x.0) c.load.ensures.same failed in
-    let reads_too = subst (λ k. IsLoadFailure (large old.held) told old.held (file_origin tape) k new.read_faults x.0) c.in_ok-bytes.ensures.reads held_too in
-    let known = known_before told old.held first.0 second.0 (file_origin image) bytes first.3 in (
-      made,
-      calls_joined g.F.Files.called c.args.files.now c.load.new.files c.load-2.new.files first.0 second.0 first.1 second.1,
-      All-append (IsCallOf r) first.0 second.0 (reads_of r image (inl refl) first.0 first.2) (reads_of r tape (inr (inl refl)) second.0 second.2),
+    let made = c.in_err-both.ensures.calls in
+    let of = g.F.Files in
+    let has = IsKnown of.told (of.held c.args.files.now) made.0 in
+    let large = IsKnownLarge of.told (of.held c.args.files.now) made.0 in
+    let all = AnswerToRun image tape c.args.steps has large in
+    let old = world of c.args.files.now (sink g.O.Sink c.args.out.now) in
+    let new = world of c.load_both.new.files (sink g.O.Sink c.args.out.now) in
+    let x = err_from_is_err_and c.from_residual.result c.from_residual.ensures.1 in (
+      made.0,
+      made.1,
+      reads_of_both r image tape (inl refl) (inr (inl refl)) made.0 made.2,
       subst (Does all r old new) (sym x.1)
-          (load_failed all (large old.held) r (file_origin tape) old new
-          (record { held = c.load-2.ensures.same ∙ c.load.ensures.same; write_faults = c.load-2.ensures.writes ∙ c.load.ensures.writes; out = refl })
-          (inr (inl refl)) (λ t n. inr ((bytes, first.3.1 t), inl (refl, n)))
-          (λ e. tape_large bytes known (large_behind told old.held first.0 second.0 (file_origin tape) e)) x.0 reads_too),
-      rw x.1 (names_behind first.0 second.0 x.0 (subst (NamesLast second.0) (sym x.2) second.5)),
+          (pair_failed all has large r (file_origin image) (file_origin tape) old new
+          (record { held = c.load_both.ensures.same; write_faults = c.load_both.ensures.writes; out = refl })
+          refl (λ bytes h. h.1) (λ e. image_large e) (λ bytes h e. tape_large bytes h e) x.0
+          (subst (IsPairFailure has large old.told old.held (file_origin image) (file_origin tape) old.read_faults new.read_faults) (sym x.2) made.4)),
+      rw x.1 (subst (NamesLast made.0) (sym x.2) made.5),
     )
 
 pub returns : goal.returns
@@ -71,25 +41,22 @@ returns g c =
     let tape = c.args.tape.now in
     let steps = c.args.steps in
     let r = Run image tape steps in
-    let bytes = c.in_ok-bytes.bytes.items in
-    let text = c.in_ok-text.text.items in
+    let both = c.in_ok-both.both in
+    let bytes = both.first.items in
+    let text = both.second.items in
     let of = g.F.Files in
     let files = c.args.files.now in
-    let first = c.in_ok-bytes.ensures.calls in
-    let second = c.in_ok-text.ensures.calls in
-    let made = first.0 ++ second.0 in
-    let all = AnswerToRun image tape steps (IsKnown of.told (of.held files) made) (IsKnownLarge of.told (of.held files) made) in
+    let made = c.in_ok-both.ensures.calls in
+    let all = AnswerToRun image tape steps (IsKnown of.told (of.held files) made.0) (IsKnownLarge of.told (of.held files) made.0) in
     let old = world of files (sink g.O.Sink c.args.out.now) in
     let mid = record old { out = sink g.O.Sink c.run_texts.new.out } in
-    let ran = rw (c.as_slice.ensures.value, c.as_slice-2.ensures.value) at (c.run_texts.ensures of.told (of.held files) (of.read_faults files) (of.write_faults files)) in
-    let known_first = known_before of.told (of.held files) first.0 second.0 (file_origin image) bytes first.3 in
-    let known = known_behind of.told (of.held files) first.0 second.0 (file_origin tape) text (rw c.load.ensures.same at second.3) in (
-      made,
-      calls_joined of.called files c.load.new.files c.load-2.new.files first.0 second.0 first.1 second.1,
-      All-append (IsCallOf r) first.0 second.0 (reads_of r image (inl refl) first.0 first.2) (reads_of r tape (inr (inl refl)) second.0 second.2),
-      did_then all r old (of.held c.load-2.new.files) (of.read_faults c.load-2.new.files) (of.write_faults c.load-2.new.files) (sink g.O.Sink c.run_texts.new.out) c.run_texts.result
-          (c.load-2.ensures.same ∙ c.load.ensures.same) (c.in_ok-text.ensures.reads ∙ c.in_ok-bytes.ensures.reads) (c.load-2.ensures.writes ∙ c.load.ensures.writes)
-          (did_also (RunAnswer image tape steps bytes text) all (λ o a. all_read bytes text o known_first known a) r old mid c.run_texts.result ran),
-      untouched_names made (RunAnswer image tape steps bytes text) r (of.held files) (sink g.O.Sink c.args.out.now) (sink g.O.Sink c.run_texts.new.out) c.run_texts.result
+    let ran = rw (c.as_slice.ensures.value, c.as_slice-2.ensures.value) at (c.run_texts.ensures of.told (of.held files) (of.read_faults files) (of.write_faults files)) in (
+      made.0,
+      made.1,
+      reads_of_both r image tape (inl refl) (inr (inl refl)) made.0 made.2,
+      did_then all r old (of.held c.load_both.new.files) (of.read_faults c.load_both.new.files) (of.write_faults c.load_both.new.files) (sink g.O.Sink c.run_texts.new.out) c.run_texts.result
+          c.load_both.ensures.same c.in_ok-both.ensures.reads c.load_both.ensures.writes
+          (did_also (RunAnswer image tape steps bytes text) all (λ o a. all_read bytes text o made.3.0 made.3.1 a) r old mid c.run_texts.result ran),
+      untouched_names made.0 (RunAnswer image tape steps bytes text) r (of.held files) (sink g.O.Sink c.args.out.now) (sink g.O.Sink c.run_texts.new.out) c.run_texts.result
           (rw (c.as_slice.ensures.value, c.as_slice-2.ensures.value) at (c.run_texts.ensures false (of.held files) 0 0)),
     )

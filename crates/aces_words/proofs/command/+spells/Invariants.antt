@@ -1,5 +1,0 @@
-use Rattle.aces_words.proofs.command.+spells.Given as goal
-
--- each call has a digit less
-abbrev pub decreases-spells : goal.decreases-spells
-decreases-spells l = l.number

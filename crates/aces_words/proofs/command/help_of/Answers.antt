@@ -1,0 +1,10 @@
+use Rattle.std.proofs.Common.{◌∙◌, sym, string_bytes, Global, arith}
+use Rattle.aces_words.proofs.Words.{named, word_then, no_more}
+use Rattle.aces_words.proofs.command.help_of.Goals as goal
+
+pub returns-in-len1-clause-command : goal.returns-in-len1-clause-command
+returns-in-len1-clause-command c = record {
+  within = tt;
+  spelled = word_then (string_bytes {Z = Global}) 0 c.args.words.now c.name-item.result _ _ (omega (arith, c.in-len1.len_at_least)) c.name-item.is (named (string_bytes {Z = Global}) c.name-item.result c.as_str.result.now _ c.as_str.ensures.value (sym c.eq.ensures ∙ c.if-eq.true))
+      (no_more (string_bytes {Z = Global}) 1 c.args.words.now (omega (arith, c.in-len1.len_below)));
+}

@@ -1,0 +1,29 @@
+use Rattle.std.proofs.Common.{◌≡◌, ◌∙◌, sym, string_bytes, Global, Some, None, ap, arith}
+use Rattle.aces_words.specs.Requests.{address_of}
+use Rattle.aces_words.proofs.Words.{named, word_then, no_more, word_at}
+use Rattle.aces_words.proofs.images.watch_of.Goals as goal
+
+pub returns-in_err-steps-in-len5-clause-none : goal.returns-in_err-steps-in-len5-clause-none
+returns-in_err-steps-in-len5-clause-none c =
+    rw c.from_residual.ensures (λ image tape steps address asks. c.in_err-steps-in-len5.ensures.none steps asks.within.0
+    (word_at (string_bytes {Z = Global}) 3 c.args.words.now c.steps-item.result _ _ (omega (arith, c.in-len5.len_at_least)) c.steps-item.is c.as_str-in-len5.ensures.value asks.spelled))
+
+pub returns-in_err-address-in-len5-clause-none : goal.returns-in_err-address-in-len5-clause-none
+returns-in_err-address-in-len5-clause-none c =
+    rw c.from_residual-in_err-address-in-len5.ensures (λ image tape steps address asks.
+    let e : address ≡ c.as_str-word.result.now =
+    word_at (string_bytes {Z = Global}) 4 c.args.words.now c.word-item.result _ _ (omega (arith, c.in-len5.len_at_least)) c.word-item.is c.as_str-word.ensures.value asks.spelled in
+    let some : address_of address ≡ Some asks.within.1.0 = asks.within.1.1 in
+    let none : None ≡ address_of c.as_str-word.result.now = c.in_err-address-in-len5.ensures in
+    let f : None ≡ Some asks.within.1.0 = none ∙ ap address_of (sym e) ∙ some in cc)
+
+pub returns-in_ok-address-in-len5-clause-command : goal.returns-in_ok-address-in-len5-clause-command
+returns-in_ok-address-in-len5-clause-command c = record {
+  within = (c.in_ok-steps-in-len5.ensures.fits, (c.in_ok-address-in-len5.field-0, sym c.in_ok-address-in-len5.ensures));
+  spelled = word_then (string_bytes {Z = Global}) 0 c.args.words.now c.name-item.result _ _ (omega (arith, c.in-len5.len_at_least)) c.name-item.is (named (string_bytes {Z = Global}) c.name-item.result c.as_str.result.now _ c.as_str.ensures.value (sym c.eq.ensures ∙ c.if-eq.true))
+      (word_then (string_bytes {Z = Global}) 1 c.args.words.now c.image-item.result _ _ (omega (arith, c.in-len5.len_at_least)) c.image-item.is c.as_str-in-len5-2.ensures.value
+      (word_then (string_bytes {Z = Global}) 2 c.args.words.now c.tape-item.result _ _ (omega (arith, c.in-len5.len_at_least)) c.tape-item.is c.as_str-in-len5-3.ensures.value
+      (word_then (string_bytes {Z = Global}) 3 c.args.words.now c.steps-item.result _ _ (omega (arith, c.in-len5.len_at_least)) c.steps-item.is (c.in_ok-steps-in-len5.ensures.number ∙ c.as_str-in-len5.ensures.value)
+      (word_then (string_bytes {Z = Global}) 4 c.args.words.now c.word-item.result _ _ (omega (arith, c.in-len5.len_at_least)) c.word-item.is c.as_str-word.ensures.value
+      (no_more (string_bytes {Z = Global}) 5 c.args.words.now (omega (arith, c.in-len5.len_below)))))));
+}
