@@ -1,7 +1,16 @@
 #!/bin/sh
-# Shows what the program does with the example firmwares on recorded device input. The program is built once and run as it
-# stands: nothing of it is proved here. `rt ci` proves it.
+# Shows what the program does with the example firmwares on recorded device input. Where ACES names a built program, it is that one. Else the
+# program is built once by the kit (`rt`) and run as it stands: nothing of it is proved here. `rt ci` proves it.
 set -e
+case $ACES in '' | /*) ;; *) ACES=$PWD/$ACES ;; esac
+if [ -n "$ACES" ] && [ ! -x "$ACES" ]; then
+    echo "demo.sh: no program $ACES" >&2
+    exit 1
+fi
+if [ -z "$ACES" ] && ! command -v rt > /dev/null; then
+    echo "demo.sh: it needs the Rattle kit (rt), or a built program that ACES names" >&2
+    exit 1
+fi
 cd "$(dirname "$0")"
 examples=$PWD/examples
 work=$(mktemp -d)
@@ -38,6 +47,8 @@ call 11-list list "$examples/satellite.ir" "$examples/board.toml" filename
 call 12-list list "$examples/satellite.ir" "$examples/board16.toml" filename
 call 13-stack stack "$examples/satellite.ir" "$examples/board.toml" filename
 call 14-stack stack "$examples/satellite.ir" "$examples/board16.toml" filename
+call 15-who who "$examples/satellite.ir" "$examples/board.toml" filename
+call 16-symbols symbols "$examples/satellite.ir" "$examples/board.toml" filename
 call 20-compile compile "$examples/satellite.ir" "$examples/board.toml" filename "$work/satellite.image"
 call 21-compile compile "$examples/satellite.ir" "$examples/board16.toml" filename "$work/satellite16.image"
 call 22-audit audit "$work/satellite.image"
@@ -70,6 +81,7 @@ call 53-hostile run "$work/hostile.image" "$examples/satellite.tape" 100000
 call 54-audit audit "$work/hostile.image"
 call 55-tables tables "$work/greedy.image"
 call 56-tables tables "$work/monitor.image"
+call 57-state state "$work/hostile.image" "$examples/satellite.tape" 100000
 
 # changed IMAGE OFFSET writes satellite16.image as that image, but for bytes of its flash from OFFSET on, which come on standard input.
 changed() {
@@ -96,8 +108,26 @@ images() {
     printf '\001' | changed monitor.image 4
 }
 
-echo "An unproved build of the program, with checks; it takes a minute or two."
-(cd ../crates/aces && exec rt try --cases "$work/cases" > "$work/printed" 2> "$work/ends") &
+# The calls in their order, by the program that ACES names: what each prints stands below its name, and its status in a line of `ends`.
+run_calls() {
+    for words in "$work"/cases/*.args; do
+        name=$(basename "$words" .args)
+        set --
+        while IFS= read -r word; do set -- "$@" "$word"; done < "$words"
+        ended=0
+        echo "== $name"
+        "$ACES" "$@" || ended=$?
+        echo "case=$name by=ACES status=$ended end" >&3
+    done > "$work/printed" 3> "$work/ends"
+}
+
+if [ -n "$ACES" ]; then
+    echo "The program is $ACES."
+    run_calls &
+else
+    echo "An unproved build of the program, with checks; it takes a minute or two."
+    (cd ../crates/aces && exec rt try --cases "$work/cases" > "$work/printed" 2> "$work/ends") &
+fi
 build=$!
 while [ ! -e "$work/flash.again" ] && kill -0 "$build" 2> /dev/null; do sleep 1; done
 if [ -e "$work/flash.again" ]; then
@@ -117,6 +147,16 @@ show 11-list
 echo
 echo "The same with 16 regions, where all that is not needed is closed to reading too. Nothing is exposed."
 show 12-list
+
+echo
+echo "The first by object: who may write and use what, who needs it, and what is exposed, by name; and who calls whom across compartments."
+show 15-who
+
+echo
+echo "Where all of this lies, for a debugger: the functions, globals and calls to other compartments, among lines for each instruction."
+echo
+echo "$ aces symbols satellite.ir board.toml filename | grep -E '^(function|global|site) '"
+printed 16-symbols | grep -E '^(function|global|site) '
 
 echo
 echo "How much of the stack its calls need at most, and by which path. Both fit, so the images follow every run of the source that meets no fault."
@@ -165,6 +205,12 @@ echo "The hostile code runs and reaches the radio's own peripheral; its store in
 printed 53-hostile | grep '^[01] ' > "$work/others"
 printed 30-source | grep '^[01] ' | head -n "$(wc -l < "$work/others")" | cmp - "$work/others"
 echo "Up to there the control loop and the sensor driver did what they do in the source."
+echo
+echo "What the machine holds then: it is compartment 2, the radio, that stored at 0x20000c60, which is effort, by its instruction at 0x08002314."
+show 57-state
+printed 57-state | grep -q '^compartment 2 '
+printed 57-state | grep -q '^fault cfsr 0x00000082 address 0x20000c60$'
+printed 57-state | grep -q '^frame 0x[0-9a-f]* pc 0x08002314 '
 echo
 echo "Such an image still passes the audit: its tables and its monitor are whole, and its code is no matter."
 show 54-audit

@@ -10,7 +10,7 @@
 set -eu
 program=$(realpath "$1")
 shift
-shapes=${*:-text functions blocks globals calls behind among}
+shapes=${*:-text functions blocks globals calls behind among sets}
 export LC_ALL=C TIMEFORMAT='%U %S'
 work=$(mktemp -d)
 trap 'rm -rf "$work"' EXIT
@@ -23,6 +23,7 @@ sizes() {
     case $1 in
         calls | behind) echo 1000 2000 4000 ;;
         among) echo 4096 8192 16384 ;;
+        sets) echo 20 40 80 ;;
         *) echo 256 512 1024 ;;
     esac
 }
@@ -78,6 +79,25 @@ calls() {
     }'
 }
 
+# So many functions with 100 registers, each of which may hold the addresses of 1,000 globals.
+sets() {
+    awk -v n="$1" 'BEGIN {
+        print "global cell: *u32"
+        for (k = 0; k < 1000; k++) printf "global g%d: u32\n", k
+        print "file main.c { func main() { reg p: **u32 reg q: *u32 b: p = addr cell"
+        for (k = 0; k < 1000; k++) printf "q = addr g%d store p, q\n", k
+        print "ret }"
+        for (f = 0; f < n; f++) {
+            printf "func f%d() { reg p: **u32\n", f
+            for (k = 0; k < 100; k++) printf "reg r%d: *u32\n", k
+            print "b: p = addr cell"
+            for (k = 0; k < 100; k++) printf "r%d = load p\n", k
+            print "ret }"
+        }
+        print "}"
+    }'
+}
+
 # The text of a shape at a size.
 text_of() {
     case $1 in
@@ -88,6 +108,7 @@ text_of() {
         calls) calls "$2" 0 1 ;;
         behind) calls "$2" 0 12384 ;;
         among) calls $(($2 / 4 - 1)) $(($2 * 3 / 4)) 1 ;;
+        sets) sets "$2" ;;
     esac
 }
 

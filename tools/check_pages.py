@@ -114,10 +114,9 @@ def specs(name: str, crate: Crate) -> Iterator[str]:
 
 
 def lists(crates: dict[str, Crate]) -> Iterator[str]:
-    """Crates that README, PROVED, ARCHITECTURE's map or crates.txt leaves out, and names of rows in PROVED that are no crate."""
+    """Crates that PROVED, ARCHITECTURE's map or crates.txt leaves out, and names of rows in PROVED that are no crate."""
     proved = text_of("docs/PROVED.md")
     listed = {
-        "README.md": set(QUOTED.findall(text_of("README.md"))),
         "docs/PROVED.md": set(QUOTED.findall(proved)),
         "docs/ARCHITECTURE.md": set(MAPPED.findall(text_of("docs/ARCHITECTURE.md").split("```")[1])),
         "crates.txt": set(crates),

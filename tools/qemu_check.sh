@@ -1,6 +1,6 @@
 #!/bin/sh
 # Compares `aces run` with QEMU's Cortex-M4 and its protection unit: the examples on four boards under the three policies, the station with a line
-# on its radio that is too long, code that takes a radio over, and programs made from C where clang is there. Two runs are equal where they print the same
+# on its radio that is too long, code that takes a radio over, cores whose protection unit is another one, and programs made from C where clang is there. Two runs are equal where they print the same
 # lines and end with the same status, and where each line comes behind the same number of instructions; of a run some lines are looked at for
 # that, the first and the last among them. Nothing of this is proved, and nothing that is claimed rests on it.
 # Needs qemu-system-arm and python3. ACES names the program; else it is crates/aces/out/aces. Prints a line for each difference, and at the
@@ -100,6 +100,19 @@ printf '\101\362\000\001\304\362\001\001\007\040\010\140\100\366\140\101\302\362
     dd of="$work/image" bs=1 seek=$start conv=notrunc 2> "$work/dd"
 same "hostile radio" "$work/image" satellite.tape
 grep -q '^end halt 7$' "$work/qemu" || tell "hostile radio: no halt 7"
+
+# A core whose unit has another number of regions than the image was made for, or that has none.
+for regions in 8 16; do
+    "$ACES" compile satellite.ir "$work/closed$regions.toml" filename "$work/image"
+    for other in 0 $((24 - regions)); do
+        nice python3 "$tools/qemu_run.py" --regions $other "$work/image" satellite.tape $most > "$work/qemu" || :
+        [ "$(cat "$work/qemu")" = "end halt 10" ] || tell "made for $regions regions, run on $other: no halt 10"
+    done
+    # the image's file has the number at byte 40
+    printf "\\$(printf %o $((24 - regions)))" | dd of="$work/image" bs=1 seek=40 conv=notrunc 2> "$work/dd"
+    same "made for $regions regions, run on $((24 - regions))" "$work/image" satellite.tape
+    grep -q '^end halt 10$' "$work/qemu" || tell "made for $regions regions, run on $((24 - regions)): no halt 10"
+done
 echo "with halts: $runs runs, $steps instructions"
 
 # Programs made from C, on the tapes of the tests of aces-c.

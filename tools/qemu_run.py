@@ -1,12 +1,13 @@
 #!/usr/bin/env python3
 """Runs an image on QEMU's Cortex-M4 and prints the lines of `aces run`. It is not proved, and nothing that is claimed rests on it.
 
-    qemu_run.py [--steps FILE] IMAGE TAPE N
+    qemu_run.py [--steps FILE] [--regions N] IMAGE TAPE N
 
 At most N instructions are run. Each is a single step of QEMU through its gdb stub: registers and flags are QEMU's, its own protection unit decides, and a
 load of a peripheral then gets the tape's word. A peripheral where QEMU's machine has a device of its own, or nothing, is not touched: there a
 model of the unit decides, which is fed with the monitor's own stores and compared with QEMU's unit at every other access; a difference is told
-on the error output. FILE gets the number of steps behind which each line was printed.
+on the error output. FILE gets the number of steps behind which each line was printed. QEMU's unit has the image's number of regions, or N,
+which is 0 for a core without a unit.
 
 The board has flash at 0x08000000, at most 128 KiB of RAM at 0x20000000, and 8 or 16 regions. Ends are those of `aces run` but for stops:
 what stops the machine of the profile is an exception of a processor, as in `end hard CFSR=00020000 HFSR=40000000 at 0x08002152`.
@@ -23,7 +24,7 @@ import tempfile
 import time
 from collections import deque
 from contextlib import ExitStack
-from dataclasses import dataclass
+from dataclasses import dataclass, replace
 from typing import Optional
 
 FLASH_BASE, RAM_BASE, MOST_FLASH, MOST_RAM = 0x08000000, 0x20000000, 1 << 20, 1 << 17
@@ -370,24 +371,28 @@ class Run:
 
 def main(words: list[str]) -> int:
     """The command; its status."""
-    steps_file = words[1] if words[:1] == ['--steps'] and len(words) > 1 else None
-    rest = words[2:] if steps_file else words
-    if len(rest) != 3:
+    options: dict[str, str] = {}
+    while len(words) > 1 and words[0] in ('--steps', '--regions'):
+        options[words[0]] = words[1]
+        words = words[2:]
+    if len(words) != 3:
         print(__doc__, file=sys.stderr)
         return 2
-    with open(rest[0], 'rb') as file:
+    with open(words[0], 'rb') as file:
         image = read_image(file.read())
-    with open(rest[1], encoding='utf-8') as tape:
+    if '--regions' in options:
+        image = replace(image, regions=int(options['--regions']))
+    with open(words[1], encoding='utf-8') as tape:
         run = Run(image, read_tape(tape.read(), image))
     try:
-        while not run.end and run.steps < int(rest[2]):
+        while not run.end and run.steps < int(words[2]):
             run.step()
         if not run.end:
             run.finish('end limit')
     finally:
         run.close()
-    if steps_file:
-        with open(steps_file, 'w', encoding='utf-8') as steps:
+    if '--steps' in options:
+        with open(options['--steps'], 'w', encoding='utf-8') as steps:
             steps.writelines(f'{step}\n' for step in run.printed_at)
     if run.differences:
         return 9

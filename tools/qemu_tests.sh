@@ -1,5 +1,5 @@
 #!/bin/sh
-# The tests of what runs on QEMU's processor, and of the ELF files: ends with a line `N passed, N failed`. What is not there is told, and
+# The tests of what runs on QEMU's processor, of the maps, and of the ELF files: ends with a line `N passed, N failed`. What is not there is told, and
 # its tests are left out.
 cd "$(dirname "$0")" || exit 1
 case ${ACES:=$PWD/../crates/aces/out/aces} in /*) ;; *) ACES=$OLDPWD/$ACES ;; esac
@@ -46,6 +46,39 @@ elf_files() {
     echo "$files files have the bytes of their images"
 }
 
+# Maps of the examples, and of firmwares whose ranges and globals are joined: what is hatched is what the listing tells.
+maps() {
+    awk '/^file / { if (n++) next } /^}$/ { next } { print } END { print "}" }' ../examples/station.ir > "$work/flat.ir"
+    sed 's/^\[mpu\]$/&\nreads = "closed"/; $!b; /reads/b' ../examples/board.toml > "$work/closed.toml"
+    grep -q '^reads' "$work/closed.toml" || printf '[mpu]\nreads = "closed"\n' >> "$work/closed.toml"
+    drawn=0
+    : > "$work/hatched"
+    for firmware in ../examples/sample.ir ../examples/heater.ir ../examples/satellite.ir ../examples/station.ir "$work/flat.ir"; do
+        for policy in filename optimized peripheral; do
+            for board in ../examples/board.toml ../examples/board16.toml ../examples/stm32f4.toml "$work/closed.toml"; do
+                "$ACES" list "$firmware" "$board" $policy > "$work/list" && python3 map.py "$firmware" "$board" $policy "$work/svg" \
+                    && python3 debug_info/hatched.py "$work/svg" "$work/list" >> "$work/hatched" || return 1
+                drawn=$((drawn + 1))
+            done
+        done
+    done
+    for kind in global read undeclared; do
+        grep -q "$kind=[1-9]" "$work/hatched" || { echo "nothing hatched: $kind"; return 1; }
+    done
+    echo "$drawn maps, $(grep -c '=[1-9]' "$work/hatched") with hatching, tell what their listings tell"
+}
+
+# What gdb tells of a call across compartments.
+calls() {
+    python3 elf.py ../examples/station.ir ../examples/stm32f4.toml filename "$work/elf" || return 1
+    timeout 120 nice gdb-multiarch -nx -batch "$work/elf" -ex "target remote | exec qemu-system-arm -M netduinoplus2 -kernel $work/elf -display none \
+        -monitor none -serial null -serial null -S -gdb stdio" -ex 'break number' -ex continue -ex backtrace -ex kill > "$work/calls" 2> "$work/shell"
+    grep '^#' "$work/calls"
+    grep -q '^#0 .*number (v=1) at .*station.ir:[0-9]' "$work/calls" && grep -q '^#1 *<signal handler called>' "$work/calls" \
+        && grep -q '^#2 .*report () at .*station.ir:[0-9]' "$work/calls" && grep -q '^#3 .*main () at .*station.ir:[0-9]' "$work/calls" \
+        && echo "gdb tells the callers in two compartments"
+}
+
 # The instrument of hostile code finds what a slot that is too wide lets through.
 found() {
     python3 qemu_hostile.py --control 20 > "$work/control" && return 1
@@ -54,23 +87,25 @@ found() {
 
 # The types of the Python files.
 types() {
-    "$python" -m mypy --strict --cache-dir /dev/null elf.py qemu_run.py qemu_hostile.py
+    "$python" -m mypy --strict --cache-dir /dev/null elf.py map.py debug_info/hatched.py qemu_run.py qemu_hostile.py
 }
 
-if has python3 python3 "all tests on QEMU"; then
+if has python3 python3 "all tests of maps, ELF files and QEMU"; then
     python=
     for one in python3 /usr/bin/python3; do
         "$one" -c 'import mypy' 2> "$work/found" && python=$one && break
     done
     if [ -n "$python" ]; then try types types; else echo "left out: types (mypy is not installed)"; fi
     if [ ! -x "$ACES" ]; then
-        echo "left out: ELF files, and all on QEMU (the program aces is not built; ACES may name it)"
+        echo "left out: maps, ELF files, and all on QEMU (the program aces is not built; ACES may name it)"
     else
+        try maps maps
         has arm-none-eabi-ld binutils-arm-none-eabi "ELF files" && try "ELF files" elf_files
         has qemu-system-arm qemu-system-arm "QEMU beside aces run, hostile code on QEMU, and the demo" && {
             try "QEMU beside aces run" ./qemu_check.sh
             try "hostile code on QEMU" ./qemu_hostile.py 40
             try "hostile code, its slot opened" found
+            has arm-none-eabi-ld binutils-arm-none-eabi "calls in gdb" && has gdb-multiarch gdb-multiarch "calls in gdb" && try "calls in gdb" calls
             has arm-none-eabi-as binutils-arm-none-eabi "the demo on QEMU" && try "the demo on QEMU" ./qemu_demo.sh
         }
     fi
