@@ -68,6 +68,19 @@ maps() {
     echo "$drawn maps, $(grep -c '=[1-9]' "$work/hatched") with hatching, tell what their listings tell"
 }
 
+# The station with all its functions in one compartment: addresses that no peripheral declares are told, and where one of them is the flash
+# controller's, which a board denies, there is no listing.
+joined() {
+    awk '/^file / { if (n++) next } /^}$/ { next } { print } END { print "}" }' ../examples/station.ir > "$work/flat.ir"
+    "$ACES" list "$work/flat.ir" ../examples/stm32f4.toml filename > "$work/list" || return 1
+    [ "$(grep undeclared "$work/list" | tr '\n' ' ')" = "undeclared 0x40000400 16384 undeclared 0x40004800 14336 undeclared 0x40020800 1024 \
+undeclared 0x40021000 10240 undeclared 0x40023c00 1024 " ] || { cat "$work/list"; return 1; }
+    "$ACES" list "$work/flat.ir" ../examples/stm32f4_denied.toml filename > "$work/list" 2> "$work/refused"
+    [ $? -eq 3 ] && [ ! -s "$work/list" ] \
+        && [ "$(cat "$work/refused")" = "aces: deny: compartment 0: range 0x40020000 16384 meets flash_controller" ] || { cat "$work/refused"; return 1; }
+    echo "what the station in one compartment reaches undeclared is told, and refused where it is denied"
+}
+
 # What gdb tells of a call across compartments.
 calls() {
     python3 elf.py ../examples/station.ir ../examples/stm32f4.toml filename "$work/elf" || return 1
@@ -100,6 +113,7 @@ if has python3 python3 "all tests of maps, ELF files and QEMU"; then
         echo "left out: maps, ELF files, and all on QEMU (the program aces is not built; ACES may name it)"
     else
         try maps maps
+        try "joined ranges" joined
         has arm-none-eabi-ld binutils-arm-none-eabi "ELF files" && try "ELF files" elf_files
         has qemu-system-arm qemu-system-arm "QEMU beside aces run, hostile code on QEMU, and the demo" && {
             try "QEMU beside aces run" ./qemu_check.sh
