@@ -1,6 +1,6 @@
 #!/usr/bin/env bash
 # How the time of the commands grows with the firmware: each shape of firmware at three sizes, with the seconds of each command, the
-# least of three calls, and in brackets by what they grew from size to size.
+# least of three calls, and in brackets by what they grew from size to size. Then the most memory that `list` takes, in MB, where there is GNU time.
 #
 #     tools/bench_sizes.sh PROGRAM [SHAPE ..]
 #
@@ -131,7 +131,12 @@ seconds() {
     done | awk '{ print $1 + $2 }' | sort -g | sed -n 1p
 }
 
-# The seconds at three sizes, and by what they grew.
+# The most memory that a call takes, in MB; a dash where it refuses, and where nothing measures it.
+megabytes() {
+    { command time -f %M "$program" "$@" > printed; } 2> measured && awk 'END { printf "%.1f\n", $1 / 1024 }' measured || echo -
+}
+
+# The figures at three sizes, and by what they grew.
 cell() {
     echo "$@" | awk '{
         growth = ""
@@ -157,5 +162,20 @@ for shape in $shapes; do
         # shellcheck disable=SC2086
         cell $all
     done
+    echo
+done
+
+echo
+echo "| shape | sizes | MB of \`list\` |"
+echo "|---|---|---|"
+for shape in $shapes; do
+    printf '| %s | %s |' "$shape" "$(sizes "$shape" | sed 's/ /, /g')"
+    all=""
+    for size in $(sizes "$shape"); do
+        # shellcheck disable=SC2046
+        all="$all $(megabytes $(words list "$shape$size"))"
+    done
+    # shellcheck disable=SC2086
+    cell $all
     echo
 done

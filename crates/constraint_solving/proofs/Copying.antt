@@ -1,8 +1,6 @@
 -- The objects of a node are put to another's, one by one.
 use Rattle.std.proofs.Common.{◌≡◌, ◌≢◌, ℕ, zero, suc, ◌+◌, ◌<◌, ◌≤◌, true, List, [], ◌∷◌, length, get_or, refl, sym, ap, ◌∙◌, subst, arith, inl, inr, Option, Some, None, slice_get, below_more}
-use Rattle.std.specs.Prelude.{Vec}
 use Rattle.std.proofs.lemmas.List.{get_or_default}
-use Rattle.std.specs.Global.{Global}
 use Rattle.object_pairs.specs.Tables.{Table}
 use Rattle.numbered_lists.specs.Rows.{Lists, row, added}
 use Rattle.inclusion_constraints.specs.declared.rules.Pair.{Pair}
@@ -26,7 +24,7 @@ pub record IsCopying (w : System) (s t : State) (e : Edge) (k : ℕ) : Type 0 wh
   pub upto : k ≤ length (row s.pairs.rows e.from)
   pub each : (j : ℕ) → j < k → is_in t.pairs.rows e.to (get_or (row t.pairs.rows e.from) j 0) ≡ true
 
-pub none_left : (xs : List ℕ) (k : ℕ) → slice_get xs k ≡ None → length xs ≤ k
+pub none_left : {X : Type 0} (xs : List X) (k : ℕ) → slice_get xs k ≡ None → length xs ≤ k
 none_left [] k e = omega arith
 none_left (y ∷ xs) zero e = cc
 none_left (y ∷ xs) (suc k) e = let h = none_left xs k e in omega arith
@@ -91,15 +89,15 @@ sound_edge w rows objects l edges next e g a b d asked copied = let allowed = as
 }
 
 -- a new edge
-pub holds_edge : (w : System) (s : State) (edges : Lists) (e : Edge) → Holds w s → edges ≡ added s.edges e.from e.to → e.from < length s.pairs.rows → e.to < length s.pairs.rows → e.from ≢ e.to → IsAsked w s.pairs.rows e → ((o : ℕ) → is_in s.pairs.rows e.from o ≡ true → is_in s.pairs.rows e.to o ≡ true) → IsSound w s.pairs.rows s.pairs.objects s.log.items edges s.next
-holds_edge w s edges e h q a b d asked copied = subst (λ x. IsSound w s.pairs.rows s.pairs.objects s.log.items x s.next) (sym q) (sound_edge w s.pairs.rows s.pairs.objects s.log.items s.edges s.next e h a b d asked copied)
+pub holds_edge : (w : System) (s : State) (edges : Lists) (e : Edge) → Holds w s → edges ≡ added s.edges e.from e.to → e.from < length s.pairs.rows → e.to < length s.pairs.rows → e.from ≢ e.to → IsAsked w s.pairs.rows e → ((o : ℕ) → is_in s.pairs.rows e.from o ≡ true → is_in s.pairs.rows e.to o ≡ true) → IsSound w s.pairs.rows s.pairs.objects s.log edges s.next
+holds_edge w s edges e h q a b d asked copied = subst (λ x. IsSound w s.pairs.rows s.pairs.objects s.log x s.next) (sym q) (sound_edge w s.pairs.rows s.pairs.objects s.log s.edges s.next e h a b d asked copied)
 
 pub grown_edge : (s t u : State) (e : Edge) → Grown s t → u.pairs ≡ t.pairs → u.log ≡ t.log → u.edges ≡ added t.edges e.from e.to → Grown s u
 grown_edge s t u e g p l q = grown_both s t u g (record {
   rows = λ n o h. subst (λ (x : Table). is_in x.rows n o ≡ true) (sym p) h;
   edges = λ a b h. subst (λ x. is_in x a b ≡ true) (sym q) (added_kept t.edges e.from e.to a b h);
-  log_count = subst (λ (x : Vec Pair Global). length t.log.items ≤ length x.items) (sym l) (omega arith);
-  log = λ i h. ap (λ (x : Vec Pair Global). pair_at x.items i) l;
+  log_count = subst (λ (x : List Pair). length t.log ≤ length x) (sym l) (omega arith);
+  log = λ i h. ap (λ (x : List Pair). pair_at x i) l;
   count = ap (λ (x : Table). length x.rows) p;
   objects = ap (λ (x : Table). x.objects) p;
   lengths = λ n. let x = ap (λ (y : Table). length (row y.rows n)) p in omega arith;

@@ -7,3 +7,4 @@ mod Firing
 mod Starting
 mod Running
 mod Paying
+mod LogPairs

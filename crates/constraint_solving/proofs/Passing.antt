@@ -14,8 +14,8 @@ use Rattle.constraint_solving.proofs.Copying.{none_left}
 -- the pair that comes next
 pub record IsNext (w : System) (s : State) (x : Pair) : Type 0 where
   pub holds : Holds w s
-  pub next_in : s.next < length s.log.items
-  pub is : x ≡ pair_at s.log.items s.next
+  pub next_in : s.next < length s.log
+  pub is : x ≡ pair_at s.log s.next
 
 pub record IsPassing (w : System) (s t : State) (x : Pair) (k : ℕ) : Type 0 where
   pub holds : Holds w t
@@ -62,7 +62,7 @@ pass_next w s t u x k m to r n c z q f g = subst (IsPassing w s u x) (sym z) (
           (subst (λ (y : Lists). is_in u.pairs.rows (get_or (row y x.node) k 0) x.object ≡ true) (sym q.edges) (subst (λ y. is_in u.pairs.rows y x.object ≡ true) (sym (h.1 0)) (has_put t u to x.object q a)));
     })
 
-pub pass_all : (w : System) (s t : State) (x : Pair) (k m : ℕ) (r : Option ℕ) → IsNext w s x → IsPassing w s t x k → m ≡ t.next + 1 → r ≡ slice_get (row t.edges x.node) k → r ≡ None → IsSound w t.pairs.rows t.pairs.objects t.log.items t.edges m
+pub pass_all : (w : System) (s t : State) (x : Pair) (k m : ℕ) (r : Option ℕ) → IsNext w s x → IsPassing w s t x k → m ≡ t.next + 1 → r ≡ slice_get (row t.edges x.node) k → r ≡ None → IsSound w t.pairs.rows t.pairs.objects t.log t.edges m
 pass_all w s t x k m r n c z f g =
     let h = none_left (row t.edges x.node) k (sym f ∙ g) in
     let y = c.grown.log_count in let e = c.next in let v = n.next_in in
@@ -83,7 +83,7 @@ pass_all w s t x k m r n c z f g =
       flows = λ i b l q. elim (split i (omega arith)) [
         | inl d ↦ c.holds.flows i b d q
         | inr d ↦
-            let p : pair_at t.log.items i ≡ x = ap (pair_at t.log.items) (d ∙ e) ∙ (c.grown.log s.next n.next_in ∙ sym n.is) in
+            let p : pair_at t.log i ≡ x = ap (pair_at t.log) (d ∙ e) ∙ (c.grown.log s.next n.next_in ∙ sym n.is) in
             subst (λ (a : Pair). is_in t.pairs.rows b a.object ≡ true) (sym p) (last b (subst (λ (a : Pair). is_in t.edges a.node b ≡ true) p q))
       ];
     }

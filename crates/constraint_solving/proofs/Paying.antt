@@ -1,5 +1,5 @@
 -- What steps of a search cost.
-use Rattle.std.proofs.Common.{◌≡◌, ℕ, zero, suc, ◌+◌, ◌-◌, ◌*◌, ◌<◌, ◌≤◌, false, length, sym, ap, ◌∙◌, subst, arith, ◌⊎◌, inl, inr}
+use Rattle.std.proofs.Common.{◌≡◌, ℕ, zero, suc, ◌+◌, ◌-◌, ◌*◌, ◌<◌, ◌≤◌, false, List, length, sym, ap, ◌∙◌, subst, arith, ◌⊎◌, inl, inr}
 use Rattle.std.proofs.Math.Nat.{mul-le-mul_left}
 use Rattle.std.proofs.lemmas.Bool.{cases_lt}
 use Rattle.numbered_lists.specs.Rows.{Lists, row, added}
@@ -37,15 +37,15 @@ larger e f x y h k =
     let b : y * e ≤ y * f = mul-le-mul_left y h in
     omega arith
 
-charge_grows : (s t : State) (a : ℕ) → length (row s.edges a) ≤ length (row t.edges a) → length (row s.pairs.rows a) ≤ length (row t.pairs.rows a) → handled a s.next s.log.items ≤ handled a t.next t.log.items → charge s a ≤ charge t a
-charge_grows s t a h i j = larger (length (row s.edges a)) (length (row t.edges a)) (1 + 2 * length (row s.pairs.rows a) + handled a s.next s.log.items) (1 + 2 * length (row t.pairs.rows a) + handled a t.next t.log.items) h (omega arith)
+charge_grows : (s t : State) (a : ℕ) → length (row s.edges a) ≤ length (row t.edges a) → length (row s.pairs.rows a) ≤ length (row t.pairs.rows a) → handled a s.next s.log ≤ handled a t.next t.log → charge s a ≤ charge t a
+charge_grows s t a h i j = larger (length (row s.edges a)) (length (row t.edges a)) (1 + 2 * length (row s.pairs.rows a) + handled a s.next s.log) (1 + 2 * length (row t.pairs.rows a) + handled a t.next t.log) h (omega arith)
 
-same_handled : (s t : State) (a : ℕ) → Grown s t → s.next ≤ length s.log.items → t.next ≡ s.next → handled a s.next s.log.items ≡ handled a t.next t.log.items
+same_handled : (s t : State) (a : ℕ) → Grown s t → s.next ≤ length s.log → t.next ≡ s.next → handled a s.next s.log ≡ handled a t.next t.log
 same_handled s t a g l e =
-    sym (ap (λ k. handled a k t.log.items) e ∙ handled_same a s.next s.log.items t.log.items (λ i b. g.log i (omega arith)))
+    sym (ap (λ k. handled a k t.log) e ∙ handled_same a s.next s.log t.log (λ i b. g.log i (omega arith)))
 
 -- pairs that come cost nothing
-pub cost_grown : (s t : State) → Grown s t → t.edges ≡ s.edges → t.next ≡ s.next → s.next ≤ length s.log.items → cost s ≤ cost t
+pub cost_grown : (s t : State) → Grown s t → t.edges ≡ s.edges → t.next ≡ s.next → s.next ≤ length s.log → cost s ≤ cost t
 unfolding cost
 cost_grown s t g e n l =
     subst (λ k. total (charge s) (length s.pairs.rows) ≤ total (charge t) k) (sym g.count)
@@ -70,10 +70,10 @@ paid_link w s t u e m n h c p l q z new b steps =
     rows : (a : ℕ) → length (row s.pairs.rows a) ≤ length (row u.pairs.rows a)
     rows a = subst (λ (y : Table). length (row s.pairs.rows a) ≤ length (row y.rows a)) (sym p) (c.grown.lengths a)
 
-    handled_is : (a : ℕ) → handled a s.next s.log.items ≡ handled a u.next u.log.items
-    handled_is a = same_handled s t a c.grown h.next_in c.next ∙ sym (ap (λ k. handled a k u.log.items) z ∙ ap (λ y. handled a t.next y.items) l)
+    handled_is : (a : ℕ) → handled a s.next s.log ≡ handled a u.next u.log
+    handled_is a = same_handled s t a c.grown h.next_in c.next ∙ sym (ap (λ k. handled a k u.log) z ∙ ap (λ (y : List Pair). handled a t.next y) l)
 
-    ends : (a : ℕ) → handled a s.next s.log.items ≤ handled a u.next u.log.items
+    ends : (a : ℕ) → handled a s.next s.log ≤ handled a u.next u.log
     ends a = let x = handled_is a in omega arith
 
     longer : length (row u.edges e.from) ≡ length (row s.edges e.from) + 1
@@ -83,14 +83,14 @@ paid_link w s t u e m n h c p l q z new b steps =
     one =
         let x = rows e.from in
         let y = handled_is e.from in
-        let f : charge s e.from ≤ length (row s.edges e.from) * (1 + 2 * length (row u.pairs.rows e.from) + handled e.from u.next u.log.items) =
+        let f : charge s e.from ≤ length (row s.edges e.from) * (1 + 2 * length (row u.pairs.rows e.from) + handled e.from u.next u.log) =
         mul-le-mul_left (length (row s.edges e.from)) (omega arith) in
-        let g : charge u e.from ≡ (length (row s.edges e.from) + 1) * (1 + 2 * length (row u.pairs.rows e.from) + handled e.from u.next u.log.items) =
-        ap (λ k. k * (1 + 2 * length (row u.pairs.rows e.from) + handled e.from u.next u.log.items)) longer in
+        let g : charge u e.from ≡ (length (row s.edges e.from) + 1) * (1 + 2 * length (row u.pairs.rows e.from) + handled e.from u.next u.log) =
+        ap (λ k. k * (1 + 2 * length (row u.pairs.rows e.from) + handled e.from u.next u.log)) longer in
         omega arith
 
 -- the next pair was passed on along all edges
-pub paid_pass : (s t u : State) (x : Pair) (m n : ℕ) → Grown s t → t.edges ≡ s.edges → t.next ≡ s.next → s.next < length s.log.items → x ≡ pair_at s.log.items s.next → u.pairs ≡ t.pairs → u.log ≡ t.log → u.edges ≡ t.edges → u.next ≡ t.next + 1 → x.node < length s.pairs.rows
+pub paid_pass : (s t u : State) (x : Pair) (m n : ℕ) → Grown s t → t.edges ≡ s.edges → t.next ≡ s.next → s.next < length s.log → x ≡ pair_at s.log s.next → u.pairs ≡ t.pairs → u.log ≡ t.log → u.edges ≡ t.edges → u.next ≡ t.next + 1 → x.node < length s.pairs.rows
     → n ≤ m + length (row s.edges x.node) → IsPaid s u m n
 unfolding cost
 paid_pass s t u x m n g ed nx l is p lo q z b steps =
@@ -105,28 +105,28 @@ paid_pass s t u x m n g ed nx l is p lo q z b steps =
     rows : (a : ℕ) → length (row s.pairs.rows a) ≤ length (row u.pairs.rows a)
     rows a = subst (λ (y : Table). length (row s.pairs.rows a) ≤ length (row y.rows a)) (sym p) (g.lengths a)
 
-    before : (a : ℕ) → handled a s.next s.log.items ≡ handled a t.next u.log.items
-    before a = same_handled s t a g (omega arith) nx ∙ sym (ap (λ y. handled a t.next y.items) lo)
+    before : (a : ℕ) → handled a s.next s.log ≡ handled a t.next u.log
+    before a = same_handled s t a g (omega arith) nx ∙ sym (ap (λ (y : List Pair). handled a t.next y) lo)
 
-    ends : (a : ℕ) → handled a s.next s.log.items ≤ handled a u.next u.log.items
-    ends a = let y = before a in let h = handled_more a t.next u.next u.log.items z in omega arith
+    ends : (a : ℕ) → handled a s.next s.log ≤ handled a u.next u.log
+    ends a = let y = before a in let h = handled_more a t.next u.next u.log z in omega arith
 
-    pair : (pair_at u.log.items t.next).node ≡ x.node
-    pair = ap (λ y. (pair_at y.items t.next).node) lo ∙ (ap (λ k. (pair_at t.log.items k).node) nx ∙ (ap (λ (y : Pair). y.node) (g.log s.next l) ∙ ap (λ (y : Pair). y.node) (sym is)))
+    pair : (pair_at u.log t.next).node ≡ x.node
+    pair = ap (λ (y : List Pair). (pair_at y t.next).node) lo ∙ (ap (λ k. (pair_at t.log k).node) nx ∙ (ap (λ (y : Pair). y.node) (g.log s.next l) ∙ ap (λ (y : Pair). y.node) (sym is)))
 
     one : charge s x.node + length (row s.edges x.node) ≤ charge u x.node
     one =
         let r = rows x.node in
         let h = before x.node in
-        let i = handled_next x.node t.next u.next u.log.items z pair in
-        let f : length (row s.edges x.node) * (1 + 2 * length (row s.pairs.rows x.node) + handled x.node s.next s.log.items + 1) ≤ length (row s.edges x.node) * (1 + 2 * length (row u.pairs.rows x.node) + handled x.node u.next u.log.items) =
+        let i = handled_next x.node t.next u.next u.log z pair in
+        let f : length (row s.edges x.node) * (1 + 2 * length (row s.pairs.rows x.node) + handled x.node s.next s.log + 1) ≤ length (row s.edges x.node) * (1 + 2 * length (row u.pairs.rows x.node) + handled x.node u.next u.log) =
         mul-le-mul_left (length (row s.edges x.node)) (omega arith) in
-        let j : charge u x.node ≡ length (row s.edges x.node) * (1 + 2 * length (row u.pairs.rows x.node) + handled x.node u.next u.log.items) =
-        ap (λ k. k * (1 + 2 * length (row u.pairs.rows x.node) + handled x.node u.next u.log.items)) (edges_are x.node) in
+        let j : charge u x.node ≡ length (row s.edges x.node) * (1 + 2 * length (row u.pairs.rows x.node) + handled x.node u.next u.log) =
+        ap (λ k. k * (1 + 2 * length (row u.pairs.rows x.node) + handled x.node u.next u.log)) (edges_are x.node) in
         omega arith
 
 -- at the end
-pub bounded : (w : System) (s : State) (m n : ℕ) → Holds w s → length s.log.items ≤ s.next → n ≤ m + length w.rules.facts.items + cost s → IsBounded w s.pairs.rows (n - m)
+pub bounded : (w : System) (s : State) (m n : ℕ) → Holds w s → length s.log ≤ s.next → n ≤ m + length w.rules.facts.items + cost s → IsBounded w s.pairs.rows (n - m)
 unfolding cost
 bounded w s m n h l b = record {
   edges = s.edges;
@@ -134,10 +134,10 @@ bounded w s m n h l b = record {
   apart = h.apart;
   needed = h.needed;
   steps =
-      (let q : s.next ≡ length s.log.items = (let y = h.next_in in omega arith) in
+      (let q : s.next ≡ length s.log = (let y = h.next_in in omega arith) in
       let r = total_grows (charge s) (λ a. length (row s.edges a) * (1 + 3 * length (row s.pairs.rows a))) (length s.pairs.rows) (λ a.
       let y = h.counted a in
-      let z : handled a s.next s.log.items ≡ handled a (length s.log.items) s.log.items = ap (λ k. handled a k s.log.items) q in
+      let z : handled a s.next s.log ≡ handled a (length s.log) s.log = ap (λ k. handled a k s.log) q in
       mul-le-mul_left (length (row s.edges a)) (omega arith)) in
       omega arith);
 }

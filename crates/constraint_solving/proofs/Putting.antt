@@ -116,12 +116,12 @@ sound_put w rows objects l edges next n o g a b allowed = pick (is_in rows n o) 
 
 pub holds_put : (w : System) (s t : State) (n o : ℕ) → Holds w s → IsPut s t n o → n < length s.pairs.rows → o < s.pairs.objects → ((Q : Says) → ObeysAll w Q → Q n o ≡ true) → Holds w t
 holds_put w s t n o h q a b allowed =
-    subst (λ r. IsSound w r t.pairs.objects t.log.items t.edges t.next) (sym q.rows)
-    (subst (λ m. IsSound w (added s.pairs.rows n o) m t.log.items t.edges t.next) (sym q.objects)
+    subst (λ r. IsSound w r t.pairs.objects t.log t.edges t.next) (sym q.rows)
+    (subst (λ m. IsSound w (added s.pairs.rows n o) m t.log t.edges t.next) (sym q.objects)
     (subst (λ l. IsSound w (added s.pairs.rows n o) s.pairs.objects l t.edges t.next) (sym q.log)
-    (subst (λ e. IsSound w (added s.pairs.rows n o) s.pairs.objects (if is_in s.pairs.rows n o then s.log.items else s.log.items ++ record { node = n; object = o } ∷ []) e t.next) (sym q.edges)
-    (subst (λ k. IsSound w (added s.pairs.rows n o) s.pairs.objects (if is_in s.pairs.rows n o then s.log.items else s.log.items ++ record { node = n; object = o } ∷ []) s.edges k) (sym q.next)
-    (sound_put w s.pairs.rows s.pairs.objects s.log.items s.edges s.next n o h a b allowed)))))
+    (subst (λ e. IsSound w (added s.pairs.rows n o) s.pairs.objects (if is_in s.pairs.rows n o then s.log else s.log ++ record { node = n; object = o } ∷ []) e t.next) (sym q.edges)
+    (subst (λ k. IsSound w (added s.pairs.rows n o) s.pairs.objects (if is_in s.pairs.rows n o then s.log else s.log ++ record { node = n; object = o } ∷ []) s.edges k) (sym q.next)
+    (sound_put w s.pairs.rows s.pairs.objects s.log s.edges s.next n o h a b allowed)))))
 
 log_longer : (b : Bool) (l : List Pair) (p : Pair) → length l ≤ length (if b then l else l ++ p ∷ [])
 log_longer true l p = omega arith
@@ -135,8 +135,8 @@ pub grown_put : (s t : State) (n o : ℕ) → IsPut s t n o → Grown s t
 grown_put s t n o q = record {
   rows = λ m x h. subst (λ r. is_in r m x ≡ true) (sym q.rows) (added_kept s.pairs.rows n o m x h);
   edges = λ a b h. subst (λ r. is_in r a b ≡ true) (sym q.edges) h;
-  log_count = subst (λ (l : List Pair). length s.log.items ≤ length l) (sym q.log) (log_longer (is_in s.pairs.rows n o) s.log.items (record { node = n; object = o }));
-  log = λ i h. ap (λ (l : List Pair). pair_at l i) q.log ∙ log_kept (is_in s.pairs.rows n o) s.log.items (record { node = n; object = o }) i h;
+  log_count = subst (λ (l : List Pair). length s.log ≤ length l) (sym q.log) (log_longer (is_in s.pairs.rows n o) s.log (record { node = n; object = o }));
+  log = λ i h. ap (λ (l : List Pair). pair_at l i) q.log ∙ log_kept (is_in s.pairs.rows n o) s.log (record { node = n; object = o }) i h;
   count = ap length q.rows ∙ added_count s.pairs.rows n o;
   objects = q.objects;
   lengths = λ m. subst (λ (r : Lists). length (row s.pairs.rows m) ≤ length (row r m)) (sym q.rows) (added_longer s.pairs.rows n o m);

@@ -47,44 +47,44 @@ pub record IsRunning (w : System) (s : State) : Type 0 where
   pub holds : Holds w s
   pub facts : (k : ℕ) → k < length w.rules.facts.items → is_in s.pairs.rows (pair_at w.rules.facts.items k).node (pair_at w.rules.facts.items k).object ≡ true
   pub copies : (k : ℕ) → k < length w.rules.copies.items → IsFound s.edges (get_or w.rules.copies.items k no_edge)
-  pub fired : (i : ℕ) → i < s.next → IsFired w s.edges (pair_at s.log.items i)
+  pub fired : (i : ℕ) → i < s.next → IsFired w s.edges (pair_at s.log i)
 
 pub fired_more : (w : System) (s t : State) (x : Pair) → Grown s t → IsFired w s.edges x → IsFired w t.edges x
 fired_more w s t x g f k d l = on_edge (asked w (get_or (get_or (lists_in w.rules.triggers) x.node []) k d) x.object) (IsFound s.edges) (IsFound t.edges) (λ e h. found_more s t e g h) (f k d l)
 
-pub run_next : (w : System) (s t u : State) (x : Pair) → IsRunning w s → x ≡ pair_at s.log.items s.next → s.next < length s.log.items → Grown s t → t.next ≡ s.next + 1 → Holds w u → Grown t u → u.next ≡ t.next → IsFired w u.edges x → IsRunning w u
+pub run_next : (w : System) (s t u : State) (x : Pair) → IsRunning w s → x ≡ pair_at s.log s.next → s.next < length s.log → Grown s t → t.next ≡ s.next + 1 → Holds w u → Grown t u → u.next ≡ t.next → IsFired w u.edges x → IsRunning w u
 run_next w s t u x r e l g n h v m f = record {
   holds = h;
   facts = λ k i. all.rows _ _ (r.facts k i);
   copies = λ k i. found_more s u _ all (r.copies k i);
   fired = λ i j. elim (cases_lt i s.next) [
-    | inl a ↦ subst (IsFired w u.edges) (sym (all.log i (omega arith))) (fired_more w s u (pair_at s.log.items i) all (r.fired i a))
-    | inr a ↦ let q : i ≡ s.next = omega arith in subst (IsFired w u.edges) (e ∙ (sym (all.log s.next l) ∙ ap (pair_at u.log.items) (sym q))) f
+    | inl a ↦ subst (IsFired w u.edges) (sym (all.log i (omega arith))) (fired_more w s u (pair_at s.log i) all (r.fired i a))
+    | inr a ↦ let q : i ≡ s.next = omega arith in subst (IsFired w u.edges) (e ∙ (sym (all.log s.next l) ∙ ap (pair_at u.log) (sym q))) f
   ];
 }
   where
     all : Grown s u
     all = grown_both s t u g v
 
-passes : (w : System) (s : State) (e : Edge) → Holds w s → length s.log.items ≤ s.next → IsFound s.edges e → Passes (is_in s.pairs.rows) e
+passes : (w : System) (s : State) (e : Edge) → Holds w s → length s.log ≤ s.next → IsFound s.edges e → Passes (is_in s.pairs.rows) e
 passes w s e h l (inl q) o i = subst (λ n. is_in s.pairs.rows n o ≡ true) q i
 passes w s e h l (inr q) o i =
     let g = h.logged e.from o i in
     let a = g.in_log in
     subst (λ y. is_in s.pairs.rows e.to y ≡ true) g.object (h.flows g.at e.to (omega arith) (subst (λ n. is_in s.edges n e.to ≡ true) (sym g.node) q))
 
-pub run_all : (w : System) (s : State) → IsRunning w s → length s.log.items ≤ s.next → ObeysAll w (is_in s.pairs.rows)
+pub run_all : (w : System) (s : State) → IsRunning w s → length s.log ≤ s.next → ObeysAll w (is_in s.pairs.rows)
 run_all w s r l = record {
   facts = r.facts;
   copies = λ k i. passes w s _ r.holds l (r.copies k i);
   triggers = λ n k o d i h. one n k o d i (r.holds.logged n o h);
 }
   where
-    one : (n k o : ℕ) (d : Trigger) → k < length (get_or (lists_in w.rules.triggers) n []) → IsLogged s.log.items n o → OnEdge (asked w (get_or (get_or (lists_in w.rules.triggers) n []) k d) o) (Passes (is_in s.pairs.rows))
+    one : (n k o : ℕ) (d : Trigger) → k < length (get_or (lists_in w.rules.triggers) n []) → IsLogged s.log n o → OnEdge (asked w (get_or (get_or (lists_in w.rules.triggers) n []) k d) o) (Passes (is_in s.pairs.rows))
     one n k o d i g =
         let a = g.in_log in
-        let f : IsFired w s.edges (pair_at s.log.items g.at) = r.fired g.at (omega arith) in
-        let at_node = subst (λ m. (k : ℕ) (d : Trigger) → k < length (get_or (lists_in w.rules.triggers) m []) → OnEdge (asked w (get_or (get_or (lists_in w.rules.triggers) m []) k d) (pair_at s.log.items g.at).object) (IsFound s.edges)) g.node f in
+        let f : IsFired w s.edges (pair_at s.log g.at) = r.fired g.at (omega arith) in
+        let at_node = subst (λ m. (k : ℕ) (d : Trigger) → k < length (get_or (lists_in w.rules.triggers) m []) → OnEdge (asked w (get_or (get_or (lists_in w.rules.triggers) m []) k d) (pair_at s.log g.at).object) (IsFound s.edges)) g.node f in
         let at_object = subst (λ x. OnEdge (asked w (get_or (get_or (lists_in w.rules.triggers) n []) k d) x) (IsFound s.edges)) g.object (at_node k d i) in
         on_edge (asked w (get_or (get_or (lists_in w.rules.triggers) n []) k d) o) (IsFound s.edges) (Passes (is_in s.pairs.rows)) (λ e b. passes w s e r.holds l b) at_object
 

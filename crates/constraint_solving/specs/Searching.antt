@@ -54,13 +54,13 @@ pub record IsSound (w : System) (rows : Lists) (objects : ℕ) (l : List Pair) (
   pub flows : (i b : ℕ) → i < next → is_in edges (pair_at l i).node b ≡ true → is_in rows b (pair_at l i).object ≡ true
 
 abbrev pub Holds : System → State → Type 0
-Holds w s = IsSound w s.pairs.rows s.pairs.objects s.log.items s.edges s.next
+Holds w s = IsSound w s.pairs.rows s.pairs.objects s.log s.edges s.next
 
 pub record Grown (old new : State) : Type 0 where
   pub rows : (n o : ℕ) → is_in old.pairs.rows n o ≡ true → is_in new.pairs.rows n o ≡ true
   pub edges : (a b : ℕ) → is_in old.edges a b ≡ true → is_in new.edges a b ≡ true
-  pub log_count : length old.log.items ≤ length new.log.items
-  pub log : (i : ℕ) → i < length old.log.items → pair_at new.log.items i ≡ pair_at old.log.items i
+  pub log_count : length old.log ≤ length new.log
+  pub log : (i : ℕ) → i < length old.log → pair_at new.log i ≡ pair_at old.log i
   pub count : length new.pairs.rows ≡ length old.pairs.rows
   pub objects : new.pairs.objects ≡ old.pairs.objects
   pub lengths : (n : ℕ) → length (row old.pairs.rows n) ≤ length (row new.pairs.rows n)
@@ -69,7 +69,7 @@ pub record Grown (old new : State) : Type 0 where
 pub record IsPut (old new : State) (n o : ℕ) : Type 0 where
   pub rows : new.pairs.rows ≡ added old.pairs.rows n o
   pub objects : new.pairs.objects ≡ old.pairs.objects
-  pub log : new.log.items ≡ (if is_in old.pairs.rows n o then old.log.items else old.log.items ++ record { node = n; object = o } ∷ [])
+  pub log : new.log ≡ (if is_in old.pairs.rows n o then old.log else old.log ++ record { node = n; object = o } ∷ [])
   pub edges : new.edges ≡ old.edges
   pub next : new.next ≡ old.next
 
@@ -92,7 +92,7 @@ IsFired w edges x = (k : ℕ) (d : Trigger) → k < length (get_or (lists_in w.r
 
 -- what the edges from a node have cost at most
 abbrev pub charge : State → (node : ℕ) → ℕ
-charge s a = length (row s.edges a) * (1 + 2 * length (row s.pairs.rows a) + handled a s.next s.log.items)
+charge s a = length (row s.edges a) * (1 + 2 * length (row s.pairs.rows a) + handled a s.next s.log)
 
 unfoldable pub cost : State → ℕ
 cost s = total (charge s) (length s.pairs.rows)

@@ -2,6 +2,7 @@
 #![tactic(auto)]
 
 mod callees;
+mod log;
 mod search;
 mod state;
 

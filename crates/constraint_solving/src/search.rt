@@ -1,6 +1,6 @@
 //! The search for the least sets.
 
-ghost use Rattle.std.specs.Prelude.{◌≡◌, ◌≢◌, ◌+◌, ◌-◌, ◌*◌, ◌<◌, ◌≤◌, ℕ, true, [], length, get_or, slice_get, OnOk, IfOk};
+ghost use Rattle.std.specs.Prelude.{◌≡◌, ◌≢◌, ◌+◌, ◌-◌, ◌*◌, ◌^◌, ◌<◌, ◌≤◌, ℕ, true, [], length, get_or, slice_get, OnOk, IfOk};
 ghost use Rattle.inclusion_constraints.specs.declared.system.System as systems;
 ghost use Rattle.inclusion_constraints.specs.Rules.{Says, OnEdge, no_edge, lists_in};
 ghost use Rattle.numbered_lists.specs.Rows.{row};
@@ -8,6 +8,7 @@ ghost use Rattle.inclusion_constraints.specs.Solutions.{ObeysAll, is_in, IsAsked
 ghost use Rattle.constraint_solving.specs.Searching.{asked, pair_at, IsFound, Holds, Grown, IsPut, IsCopied, IsFired, cost, IsPaid};
 
 use crate::callees::asked_edge;
+use crate::log::Log;
 use crate::state::State;
 use inclusion_constraints::{Edge, Pair, System, Trigger};
 use numbered_lists::{Rows, Steps};
@@ -25,14 +26,18 @@ fn after(place: u32) -> Result<u32, AllocError>
     }
 }
 
-impl State {
-    fn upcoming(&self) -> Pair
-        requires { self.now.next < length self.now.log.items }
-        ensures { result ≡ pair_at self.now.log.items self.now.next }
-    {
-        self.log[self.next]
+/// The place behind one of the pairs.
+fn behind(place: usize) -> Result<usize, AllocError>
+    ensures next { IfOk result (λ n. n ≡ place + 1) }
+    ensures fits { IfOk result (λ n. n < 2 ^ 64) }
+{
+    match place.checked_add(1) {
+        Some(next) => Ok(next),
+        None => Err(AllocError),
     }
+}
 
+impl State {
     fn put<L: Ledger>(
         &mut self,
         node: u32,
@@ -131,11 +136,12 @@ fn pass_on<L: Ledger>(
     steps: &mut Steps<L>,
 ) -> Result<(), AllocError>
     requires holds { Holds system.now state.old }
-    requires next { state.old.next < length state.old.log.items }
-    requires pair { pair ≡ pair_at state.old.log.items state.old.next }
+    requires next { state.old.next < length state.old.log }
+    requires pair { pair ≡ pair_at state.old.log state.old.next }
     ensures holds { OnOk result (Holds system.now state.new) }
     ensures grown { OnOk result (Grown state.old state.new) }
     ensures next { OnOk result (state.new.next ≡ state.old.next + 1) }
+    ensures fits { OnOk result (state.new.next < 2 ^ 64) }
     ensures paid { OnOk result (IsPaid state.old state.new steps.old steps.new) }
 {
     let mut place: u32 = 0;
@@ -143,7 +149,7 @@ fn pass_on<L: Ledger>(
         state.put(to, pair.object, steps)?;
         place = after(place)?;
     }
-    state.next += 1;
+    state.next = behind(state.next)?;
     Ok(())
 }
 
@@ -263,7 +269,7 @@ fn begin(alloc: Global, nodes: u32, objects: u32) -> Result<State, AllocError>
     Ok(State {
         pairs,
         edges,
-        log: Vec::new(alloc),
+        log: Log::new(alloc),
         next: 0,
     })
 }
@@ -289,8 +295,7 @@ pub fn least_pairs<L: Ledger>(
     let mut state = begin(alloc, nodes, objects)?;
     put_facts(system, &mut state, objects, steps)?;
     put_copies(system, &mut state, steps)?;
-    while state.next < state.log.len() {
-        let pair = state.upcoming();
+    while let Some(pair) = state.log.get(state.next) {
         pass_on(system, &mut state, pair, steps)?;
         fire(system, &mut state, pair, steps)?;
     }

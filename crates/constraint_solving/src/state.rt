@@ -1,6 +1,6 @@
 //! Where a search stands.
 
-use inclusion_constraints::Pair;
+use crate::log::Log;
 use numbered_lists::Rows;
 use object_pairs::Pairs;
 
@@ -12,7 +12,7 @@ pub(crate) struct State {
     /// The nodes to which each node was found to be passed on.
     pub(crate) edges: Rows,
     /// The pairs in the order in which they were found.
-    pub(crate) log: Vec<Pair>,
+    pub(crate) log: Log,
     /// How many of them were looked at.
     pub(crate) next: usize,
 }

@@ -1,23 +1,18 @@
 -- Lists that are cut into stretches.
-use Rattle.std.proofs.Common.{◌≡◌, ◌≢◌, ℕ, zero, suc, ◌+◌, ◌-◌, ◌/◌, ◌%◌, ◌<◌, ◌≤◌, Bool, true, false, ◌||◌, List, [], ◌∷◌, ◌++◌, length, get_or, set, take, refl, sym, ap, ◌∙◌, subst, arith, nat_eq, ◌⊎◌, inl, inr, Option, Some, None, slice_get, append_assoc}
+use Rattle.std.proofs.Common.{◌≡◌, ℕ, zero, suc, ◌+◌, ◌-◌, ◌/◌, ◌%◌, ◌<◌, ◌≤◌, Bool, true, false, ◌||◌, List, [], ◌∷◌, ◌++◌, length, get_or, set, take, refl, sym, ap, ◌∙◌, subst, arith, nat_eq, ◌⊎◌, inl, inr, Option, None, slice_get, append_assoc}
 use Rattle.std.proofs.lemmas.List.{append-nil, length-append, length-set, get_or-set_same, get_or-set_other, get_or_append_left, get_or_default, take_all}
 use Rattle.std.proofs.lemmas.List.Folds.{list_any-append}
 use Rattle.std.proofs.lemmas.Bool.{false≢true, eqb-true, eq-eqb, or_left, or_right, cases_lt}
 use Rattle.std.specs.Prelude.{Result, Ok, Err, OnOk, OnErr}
 use Rattle.numbered_lists.specs.Rows.{has}
 use Rattle.numbered_lists.specs.Stretches.{joined, AreCut}
-use Rattle.numbered_lists.proofs.Runs.{get_left, get_right}
+use Rattle.numbered_lists.proofs.Runs.{get_left, get_right, past}
 
 pub none_cut : AreCut []
 none_cut = record { full = λ k l. absurd (omega arith); short = λ k. omega arith }
 
 rest_cut : (x : List ℕ) (ss : List (List ℕ)) → AreCut (x ∷ ss) → AreCut ss
 rest_cut x ss c = record { full = λ k l. c.full (suc k) (omega arith); short = λ k. c.short (suc k) }
-
-past : (xs : List ℕ) (p : ℕ) → length xs ≤ p → slice_get xs p ≡ None
-past [] p l = refl
-past (x ∷ xs) zero l = absurd (omega arith)
-past (x ∷ xs) (suc p) l = past xs p (omega arith)
 
 -- the number at a place
 pub place_at : (ss : List (List ℕ)) (p : ℕ) → AreCut ss → slice_get (joined ss) p ≡ slice_get (get_or ss (p / 256) []) (p % 256)
@@ -166,3 +161,50 @@ cut_either (Err u) ss n o x y e f g h d c = subst AreCut (sym (ap (set ss n) h �
 pub pushed_either : {X Y : Type 0} (r : Result X Y) (ss : List (List ℕ)) (n o : ℕ) (x y v : List ℕ) → suc n ≡ length ss → x ≡ get_or ss n x → OnOk r (y ≡ x ++ o ∷ []) → joined ss ≡ v → OnOk r (joined (set ss n y) ≡ v ++ o ∷ [])
 pushed_either (Ok u) ss n o x y v e f g w = more_in_last ss n o x y e (f ∙ get_or_default ss n x [] (omega arith)) g ∙ ap (λ z. z ++ o ∷ []) w
 pushed_either (Err u) ss n o x y v e f g w = tt
+
+-- a run that begins with a number
+pub run_behind : (ss : List (List ℕ)) (o : ℕ) (x y : List ℕ) (b : Bool) → x ≡ [] → b ≡ true → (b ≡ true → y ≡ x ++ o ∷ []) → joined (ss ++ y ∷ []) ≡ joined ss ++ o ∷ []
+run_behind ss o x y b e t f = more_behind ss o x y e (f t)
+
+-- whether the last run goes on or not
+pub gone_on : (ss : List (List ℕ)) (n o : ℕ) (x y : List ℕ) (b : Bool) → suc n ≡ length ss → x ≡ get_or ss n x → (b ≡ true → y ≡ x ++ o ∷ []) → b ≡ true → joined (set ss n y) ≡ joined ss ++ o ∷ []
+gone_on ss n o x y b e f g t = more_in_last ss n o x y e (f ∙ get_or_default ss n x [] (omega arith)) (g t)
+
+pub not_gone_on : (ss : List (List ℕ)) (n : ℕ) (x y : List ℕ) (b : Bool) → x ≡ get_or ss n x → (b ≡ false → y ≡ x) → b ≡ false → joined (set ss n y) ≡ joined ss
+not_gone_on ss n x y b f g t = ap (λ z. joined (set ss n z)) (g t) ∙ ap joined (set_same ss n x f)
+
+-- the place of a number among runs, and behind them
+in_one : (ss : List (List ℕ)) (ys : List ℕ) (at p rest : ℕ) (x : List ℕ) → at < length ss → x ≡ get_or ss at x → rest < length x → rest + length (joined (take at ss)) ≡ p → slice_get x rest ≡ slice_get (joined ss ++ ys) p
+in_one [] ys at p rest x l e m q = absurd (omega arith)
+in_one (s ∷ ss) ys zero p rest x l e m q =
+    let n = ap length e in
+    let i : rest ≡ p = omega arith in
+    ap (λ z. slice_get z rest) e ∙ (ap (slice_get s) i ∙ sym (get_left (s ++ joined ss) ys p (let k = length-append s (joined ss) in omega arith) ∙ get_left s (joined ss) p (omega arith)))
+in_one (s ∷ ss) ys (suc at) p rest x l e m q =
+    let k = length-append s (joined (take at ss)) in
+    in_one ss ys at (p - length s) rest x (omega arith) e m (omega arith)
+    ∙ sym (ap (λ z. slice_get z p) (append_assoc s (joined ss) ys) ∙ get_right s (joined ss ++ ys) p (p - length s) (omega arith))
+
+pub in_runs : (ss : List (List ℕ)) (ys : List ℕ) (at p rest count : ℕ) (x y : List ℕ) (r : Option ℕ) → at < length ss → x ≡ get_or ss at x → count ≡ length x → rest < count → y ≡ get_or ss at y → r ≡ slice_get y rest → rest + length (joined (take at ss)) ≡ p → r ≡ slice_get (joined ss ++ ys) p
+in_runs ss ys at p rest count x y r l e c m f g q =
+    let a = ap length (alike_at ss at x y l e f) in
+    g ∙ in_one ss ys at p rest y l f (omega arith) q
+
+one_more_taken : (ss : List (List ℕ)) (at : ℕ) (x : List ℕ) → at < length ss → x ≡ get_or ss at x → length (joined (take (suc at) ss)) ≡ length (joined (take at ss)) + length x
+one_more_taken [] at x l e = absurd (omega arith)
+one_more_taken (s ∷ ss) zero x l e = let n = ap length e in let k = length-append s [] in omega arith
+one_more_taken (s ∷ ss) (suc at) x l e =
+    let a = length-append s (joined (take (suc at) ss)) in
+    let b = length-append s (joined (take at ss)) in
+    let h = one_more_taken ss at x (omega arith) e in omega arith
+
+pub past_more : (ss : List (List ℕ)) (at p rest count : ℕ) (x : List ℕ) → at < length ss → x ≡ get_or ss at x → count ≡ length x → count ≤ rest → rest + length (joined (take at ss)) ≡ p → rest - count + length (joined (take (at + 1) ss)) ≡ p
+past_more ss at p rest count x l e c m q =
+    let i : at + 1 ≡ suc at = omega arith in
+    let a = ap (λ k. length (joined (take k ss))) i in
+    let b = one_more_taken ss at x l e in omega arith
+
+pub behind_runs : (ss : List (List ℕ)) (ys : List ℕ) (at p rest : ℕ) (r : Option ℕ) → length ss ≤ at → r ≡ slice_get ys rest → rest + length (joined (take at ss)) ≡ p → r ≡ slice_get (joined ss ++ ys) p
+behind_runs ss ys at p rest r l e q =
+    let a = ap (λ (zs : List (List ℕ)). length (joined zs)) (take_all at ss l) in
+    e ∙ sym (get_right (joined ss) ys p rest (omega arith))

@@ -1,5 +1,5 @@
 -- One list among others.
-use Rattle.std.proofs.Common.{◌≡◌, ℕ, zero, suc, ◌<◌, Bool, true, false, List, [], ◌∷◌, ◌++◌, length, get_or, set, refl, sym, ap, ◌∙◌, arith, if◌then◌else◌}
+use Rattle.std.proofs.Common.{◌≡◌, ℕ, zero, suc, ◌<◌, Bool, true, false, List, [], ◌∷◌, ◌++◌, length, get_or, set, refl, ap, ◌∙◌, arith, if◌then◌else◌}
 use Rattle.numbered_lists.specs.Rows.{Lists, row, has, put, added}
 
 pub set_row : (rows : Lists) (n : ℕ) → set rows n (row rows n) ≡ rows

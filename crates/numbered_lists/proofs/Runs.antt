@@ -1,7 +1,6 @@
 -- Runs of numbers.
-use Rattle.std.proofs.Common.{◌≡◌, ℕ, zero, suc, ◌+◌, ◌-◌, ◌<◌, ◌≤◌, Bool, true, false, ◌||◌, ◌&&◌, List, [], ◌∷◌, ◌++◌, length, refl, sym, ap, ◌∙◌, subst, arith, nat_eq, nat_lt, nat_le, ◌⊎◌, inl, inr, Option, Some, None, slice_get}
+use Rattle.std.proofs.Common.{◌≡◌, ℕ, zero, suc, ◌+◌, ◌<◌, ◌≤◌, Bool, true, false, ◌||◌, List, [], ◌∷◌, ◌++◌, length, refl, sym, ap, ◌∙◌, subst, arith, nat_eq, nat_lt, nat_le, ◌⊎◌, inl, inr, Some, None, slice_get}
 use Rattle.std.proofs.lemmas.Bool.{false≢true, ltb-true, leb-true, lt-ltb, eqb-true, eq-eqb, or_left, or_right, or_cases}
-use Rattle.std.proofs.lemmas.List.{length-append}
 use Rattle.common_laws.proofs.Tests.{same_tests}
 use Rattle.numbered_lists.specs.Rows.{has}
 use Rattle.numbered_lists.specs.Stretches.{run}
@@ -87,17 +86,19 @@ flat_at n zero p l = absurd (omega arith)
 flat_at n (suc k) zero l = refl
 flat_at n (suc k) (suc p) l = flat_at n k p (omega arith)
 
-pub in_rising_run : (n : ℕ) (r : Bool) (k p : ℕ) (ys : List ℕ) → p < k → r ≡ true → Some (n + p) ≡ slice_get (run n r k ++ ys) p
-in_rising_run n r k p ys l e = subst (λ b. Some (n + p) ≡ slice_get (run n b k ++ ys) p) (sym e) (sym (get_left (run n true k) ys p (let f = run_length n true k in omega arith) ∙ rising_at n k p l))
+pub at_rising_place : (n : ℕ) (r : Bool) (k p : ℕ) → p < k → r ≡ true → Some (n + p) ≡ slice_get (run n r k) p
+at_rising_place n r k p l e = subst (λ b. Some (n + p) ≡ slice_get (run n b k) p) (sym e) (sym (rising_at n k p l))
 
-pub in_flat_run : (n : ℕ) (r : Bool) (k p : ℕ) (ys : List ℕ) → p < k → r ≡ false → Some n ≡ slice_get (run n r k ++ ys) p
-in_flat_run n r k p ys l e = subst (λ b. Some n ≡ slice_get (run n b k ++ ys) p) (sym e) (sym (get_left (run n false k) ys p (let f = run_length n false k in omega arith) ∙ flat_at n k p l))
+pub at_flat_place : (n : ℕ) (r : Bool) (k p : ℕ) → p < k → r ≡ false → Some n ≡ slice_get (run n r k) p
+at_flat_place n r k p l e = subst (λ b. Some n ≡ slice_get (run n b k) p) (sym e) (sym (flat_at n k p l))
 
-pub behind_run : (n : ℕ) (r : Bool) (k p : ℕ) (ys : List ℕ) → k ≤ p → slice_get ys (p - k) ≡ slice_get (run n r k ++ ys) p
-behind_run n r k p ys l = sym (get_right (run n r k) ys p (p - k) (let e = run_length n r k in omega arith))
+pub past : (xs : List ℕ) (p : ℕ) → length xs ≤ p → slice_get xs p ≡ None
+past [] p l = refl
+past (x ∷ xs) zero l = absurd (omega arith)
+past (x ∷ xs) (suc p) l = past xs p (omega arith)
 
-pub stretch_length : (n : ℕ) (r : Bool) (k : ℕ) (ys : List ℕ) → k + length ys ≡ length (run n r k ++ ys)
-stretch_length n r k ys = let e = run_length n r k in let f = length-append (run n r k) ys in omega arith
+pub past_run : (n : ℕ) (r : Bool) (k p : ℕ) → k ≤ p → None ≡ slice_get (run n r k) p
+past_run n r k p l = sym (past (run n r k) p (let e = run_length n r k in omega arith))
 
 -- tests that decide whether a run has a number
 pub rising_test : (first count number : ℕ) (r : Bool) → r ≡ true → first ≤ number → nat_lt number (first + count) ≡ has number (run first r count)

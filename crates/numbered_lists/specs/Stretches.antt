@@ -1,6 +1,6 @@
 -- Beyond the program's claim: only laws, proofs and functions inside the tool cite this file.
--- How lists of numbers are kept: in stretches, of which each begins with a run, and with a bit for each number of a long list.
-use Rattle.std.specs.Prelude.{◌≡◌, ℕ, zero, suc, ◌+◌, ◌/◌, ◌%◌, ◌<◌, ◌≤◌, ◌⊎◌, Bool, true, false, List, [], ◌∷◌, ◌++◌, length, get_or, nat_eq}
+-- How lists of numbers are kept: in stretches, of which each begins with runs, and with a bit for each number of a long list.
+use Rattle.std.specs.Prelude.{◌≡◌, ℕ, zero, suc, ◌/◌, ◌%◌, ◌<◌, ◌≤◌, ◌⊎◌, Bool, true, false, List, [], ◌∷◌, ◌++◌, length, get_or, nat_eq}
 use Rattle.std.specs.Int.{bit_at}
 use Rattle.numbered_lists.specs.Rows.{has}
 

@@ -6,6 +6,7 @@ mod groups;
 mod numbers;
 mod row;
 mod rows;
+mod run;
 mod steps;
 mod stretch;
 

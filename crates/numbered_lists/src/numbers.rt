@@ -7,7 +7,7 @@ use crate::stretch::Stretch;
 use std::alloc::{AllocError, Global};
 use std::marker::Model;
 
-/// A list of numbers, in stretches of 256. Numbers that follow one another take less than a byte each.
+/// A list of numbers, in stretches of 256. Where eight and more follow one another they take less than two bytes each.
 #[derive(Drop)]
 pub struct Numbers {
     alloc: Global,

@@ -1,65 +1,103 @@
 //! A few hundred numbers of a list.
 
-ghost use Rattle.std.specs.Prelude.{◌≡◌, ◌+◌, ◌<◌, ◌^◌, ◌++◌, ◌∷◌, [], length, slice_get, IfSome, OnOk, OnErr};
+ghost use Rattle.std.specs.Prelude.{◌≡◌, ◌++◌, ◌∷◌, [], true, false, length, slice_get, IfOk, OnOk, OnErr};
 ghost use Rattle.numbered_lists.specs.Rows.{has};
-ghost use Rattle.numbered_lists.specs.Stretches.{run};
+ghost use Rattle.numbered_lists.specs.Stretches.{joined};
 
+use crate::run::Run;
 use std::alloc::{AllocError, Global};
 use std::marker::Model;
 
-/// Numbers in their order. Those of the run at the beginning, which rise by one or are all the same, take no memory.
+/// How many runs a stretch has at most.
+const RUNS: usize = 32;
+
+/// Numbers in their order. Those at the beginning are in runs, of which each takes no more memory than two numbers.
 #[derive(Drop)]
 pub(crate) struct Stretch {
-    first: u32,
-    rising: bool,
-    count: u32,
+    runs: Vec<Run>,
     others: Vec<u32>,
+    count: u32,
 }
 
 impl Model for Stretch {
-    ghost use Rattle.std.specs.Prelude.{ℕ, List, ◌+◌, ◌<◌, ◌^◌, ◌++◌};
-    ghost use Rattle.numbered_lists.specs.Stretches.{run};
+    ghost use Rattle.std.specs.Prelude.{◌≡◌, ℕ, List, ◌++◌, length};
+    ghost use Rattle.numbered_lists.specs.Stretches.{joined};
 
     ghost Value = { List ℕ };
 
-    ghost view = { λ s. run s.first s.rising s.count ++ s.others.items };
+    ghost view = { λ s. joined s.runs.items ++ s.others.items };
 
-    ghost invariant = { λ s. s.first + s.count < 2 ^ 32 };
+    ghost invariant = { λ s. s.count ≡ length (joined s.runs.items ++ s.others.items) };
 }
 
-/// How a run goes on with one number more: its first number, and whether it rises.
-#[tactic(auto, using(crate::proofs::Runs::stayed_flat, crate::proofs::Runs::rose_up))]
-fn prolonged(first: u32, rising: bool, count: u32, number: u32) -> Option<(u32, bool)>
-    requires { first + count < 2 ^ 32 }
-    ensures run { IfSome result (λ r. run r.0 r.1 (count + 1) ≡ run first rising count ++ number ∷ []) }
-    ensures fits { IfSome result (λ r. r.0 + (count + 1) < 2 ^ 32) }
+/// Puts a number at the end of the last run, where that goes on with it, and answers whether it does.
+fn prolong(runs: &mut Vec<Run>, number: u32) -> bool
+    ensures longer { result ≡ true → joined runs.new.items ≡ joined runs.old.items ++ number ∷ [] }
+    ensures kept { result ≡ false → joined runs.new.items ≡ joined runs.old.items }
 {
-    if count == 0 && number < u32::MAX {
-        return Some((number, false));
+    let count = runs.len();
+    if count == 0 {
+        return false;
     }
-    if count == 0 || first + count == u32::MAX {
-        return None;
-    }
-    if number == first && (count == 1 || !rising) {
-        return Some((first, false));
-    }
-    if number == first + count && (count == 1 || rising) {
-        return Some((first, true));
-    }
-    None
+    runs[count - 1].push(number)
 }
 
-/// Whether a run has a number.
-#[tactic(auto, using(crate::proofs::Runs::rising_test, crate::proofs::Runs::rising_low, crate::proofs::Runs::flat_test))]
-fn is_in_run(first: u32, rising: bool, count: u32, number: u32) -> bool
-    requires { first + count < 2 ^ 32 }
-    ensures { result ≡ has number (run first rising count) }
+/// Whether one run more may take less memory than its numbers: the last has four numbers or more, or is among the first two.
+fn has_room(runs: &[Run]) -> bool {
+    let count = runs.len();
+    count < 2 || (count < RUNS && runs[count - 1].len() >= 4)
+}
+
+/// Begins a run with a number, where a run may come, and answers whether it did.
+#[tactic(auto, using(crate::proofs::Cuts::run_behind))]
+fn begin(runs: &mut Vec<Run>, number: u32) -> Result<bool, AllocError>
+    ensures longer { IfOk result (λ begun. begun ≡ true → joined runs.new.items ≡ joined runs.old.items ++ number ∷ []) }
+    ensures kept { IfOk result (λ begun. begun ≡ false → joined runs.new.items ≡ joined runs.old.items) }
+    ensures failed { OnErr result (joined runs.new.items ≡ joined runs.old.items) }
 {
-    if rising {
-        first <= number && number < first + count
-    } else {
-        0 < count && number == first
+    let mut run = Run::new();
+    if !has_room(runs.as_slice()) || !run.push(number) {
+        return Ok(false);
     }
+    runs.push(run)?;
+    Ok(true)
+}
+
+/// Puts a number into the runs, where they go on with it, and answers whether they do.
+fn put_in_runs(runs: &mut Vec<Run>, number: u32) -> Result<bool, AllocError>
+    ensures longer { IfOk result (λ put. put ≡ true → joined runs.new.items ≡ joined runs.old.items ++ number ∷ []) }
+    ensures kept { IfOk result (λ put. put ≡ false → joined runs.new.items ≡ joined runs.old.items) }
+    ensures failed { OnErr result (joined runs.new.items ≡ joined runs.old.items) }
+{
+    if prolong(runs, number) {
+        return Ok(true);
+    }
+    begin(runs, number)
+}
+
+/// Puts a number at the end of the runs, or of the others behind them.
+fn put(runs: &mut Vec<Run>, others: &mut Vec<u32>, number: u32) -> Result<(), AllocError>
+    ensures pushed { OnOk result (joined runs.new.items ++ others.new.items ≡ (joined runs.old.items ++ others.old.items) ++ number ∷ []) }
+    ensures kept { OnErr result (joined runs.new.items ++ others.new.items ≡ joined runs.old.items ++ others.old.items) }
+{
+    if others.is_empty() && put_in_runs(runs, number)? {
+        return Ok(());
+    }
+    others.push(number)?;
+    Ok(())
+}
+
+/// Whether runs have a number.
+#[tactic(auto, using(crate::proofs::Cuts::not_in_more, crate::proofs::Cuts::is_there, crate::proofs::Cuts::in_none))]
+fn are_with(runs: &[Run], number: u32) -> bool
+    ensures { result ≡ has number (joined runs.now) }
+{
+    for place in 0..runs.len() {
+        if runs[place].contains(number) {
+            return true;
+        }
+    }
+    false
 }
 
 fn number_at(numbers: &[u32], place: usize) -> Option<u32>
@@ -74,10 +112,9 @@ impl Stretch {
         ensures { result ≡ [] }
     {
         Stretch {
-            first: 0,
-            rising: false,
-            count: 0,
+            runs: Vec::new(alloc),
             others: Vec::new(alloc),
+            count: 0,
         }
     }
 
@@ -86,45 +123,41 @@ impl Stretch {
         ensures pushed { OnOk result (self.new ≡ self.old ++ number ∷ []) }
         ensures kept { OnErr result (self.new ≡ self.old) }
     {
-        if self.others.is_empty() {
-            if let Some((first, rising)) = prolonged(self.first, self.rising, self.count, number) {
-                self.first = first;
-                self.rising = rising;
-                self.count += 1;
-                return Ok(());
-            }
-        }
-        self.others.push(number)?;
+        let Some(count) = self.count.checked_add(1) else {
+            return Err(AllocError);
+        };
+        put(&mut self.runs, &mut self.others, number)?;
+        self.count = count;
         Ok(())
     }
 
     /// The number at a place; none where there is no such place.
-    #[tactic(auto, using(crate::proofs::Runs::in_rising_run, crate::proofs::Runs::in_flat_run, crate::proofs::Runs::behind_run))]
+    #[tactic(auto, using(crate::proofs::Cuts::in_runs, crate::proofs::Cuts::past_more, crate::proofs::Cuts::behind_runs))]
     pub(crate) fn get(&self, place: usize) -> Option<u32>
         ensures { result ≡ slice_get self.now place }
     {
-        let count = self.count as usize;
-        if count <= place {
-            return number_at(self.others.as_slice(), place - count);
+        let mut rest = place;
+        for at in 0..self.runs.len() {
+            let count = self.runs[at].len();
+            if rest < count {
+                return self.runs[at].get(rest);
+            }
+            rest -= count;
         }
-        if self.rising {
-            return Some(self.first + place as u32);
-        }
-        Some(self.first)
+        number_at(self.others.as_slice(), rest)
     }
 
     /// Whether a number is among them.
     pub(crate) fn contains(&self, number: u32) -> bool
         ensures { result ≡ has number self.now }
     {
-        is_in_run(self.first, self.rising, self.count, number) || self.others.contains(&number)
+        are_with(self.runs.as_slice(), number) || self.others.contains(&number)
     }
 
     /// How many there are.
-    #[tactic(auto, using(crate::proofs::Runs::stretch_length))]
     pub(crate) fn len(&self) -> usize
         ensures { result ≡ length self.now }
     {
-        self.count as usize + self.others.len()
+        self.count as usize
     }
 }

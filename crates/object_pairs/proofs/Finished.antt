@@ -75,9 +75,9 @@ four_groups p =
     let f = length-map p.funcs (λ (f : NumberedFunc). length f.locals) in omega arith
 
 -- one row more, by the lists that were read
-pub one_pushed : (table t : List ObjId) (lists : Lists) (js : List ℕ) (node : ℕ) (rows new : List (List ObjId)) (xs ys : List ObjId) → t ≡ table → js ≡ row lists node → ys ≡ xs → new ≡ rows ++ ys ∷ [] → AreDone table lists node rows → ListsExactly compare_objects (Contains (map (object_at t) js)) xs → AreDone table lists (node + 1) new
-one_pushed table t lists js node rows new xs ys a b c e d h =
-    subst (AreDone table lists (node + 1)) (sym (e ∙ ap (λ (z : List ObjId). rows ++ z ∷ []) c))
+pub one_pushed : (table t : List ObjId) (lists : Lists) (js : List ℕ) (node : ℕ) (rows new : List (List ObjId)) (xs : List ObjId) → t ≡ table → js ≡ row lists node → new ≡ rows ++ xs ∷ [] → AreDone table lists node rows → ListsExactly compare_objects (Contains (map (object_at t) js)) xs → AreDone table lists (node + 1) new
+one_pushed table t lists js node rows new xs a b e d h =
+    subst (AreDone table lists (node + 1)) (sym e)
     (one_more table lists node rows xs d (subst (λ (s : List ObjId). ListsExactly compare_objects (Contains (map (object_at s) (row lists node))) xs) a (subst (λ (k : List ℕ). ListsExactly compare_objects (Contains (map (object_at t) k)) xs) b h)))
 
 pub sets_are : (c d : Numbering) (table : List ObjId) (lists : Lists) (rows : List (List ObjId)) (node : ℕ) → c ≡ d → IsTable c table → length table ≡ sum c.objects → IsWithin (sum d.objects) lists → AreDone table lists node rows → node ≡ length lists

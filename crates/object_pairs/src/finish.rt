@@ -15,9 +15,8 @@ use crate::numbers::number_program;
 use exact_lists::each_once;
 use ir_model::object::ObjId;
 use ir_program::program::Program;
-use list_vec::ListVec;
 use numbered_lists::Rows;
-use object_sets::PointsTo;
+use object_sets::{PointsTo, SharedRows};
 use std::alloc::{AllocError, Global};
 
 /// The objects at places of a table, in rising order.
@@ -41,11 +40,11 @@ pub(crate) fn finish(alloc: Global, program: &Program, lists: &Rows) -> Result<P
 {
     let numbering = number_program(alloc, program)?;
     let table = numbering.all_objects(alloc)?;
-    let mut rows = Vec::new(alloc);
+    let mut rows = SharedRows::new(alloc)?;
     for node in 0..lists.len() {
         let places = lists.items(alloc, node)?;
         let objects = named(alloc, table.as_slice(), places.as_slice())?;
-        rows.push(ListVec::new(objects))?;
+        rows.push(objects)?;
     }
     Ok(PointsTo::new(numbering, rows))
 }

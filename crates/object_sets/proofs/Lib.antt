@@ -1,2 +1,4 @@
+pub mod Equal
 pub mod Members
 pub mod Orders
+pub mod Shares

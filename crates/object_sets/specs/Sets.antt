@@ -1,6 +1,6 @@
 -- Beyond the program's claim: only laws, proofs and functions inside the tool cite this file.
 -- Sets of objects as the definition's.
-use Rattle.std.specs.Prelude.{ℕ, Bool, false, ◌&&◌, nat_eq, List, [], get_or, Option, Some, None}
+use Rattle.std.specs.Prelude.{◌≡◌, ℕ, ◌<◌, ◌≤◌, Bool, false, ◌&&◌, nat_eq, List, [], map, length, get_or, Option, Some, None}
 use Rattle.std.specs.List.{list_any}
 use Rattle.std.specs.List.Sorted.{IsStrictlySortedBy}
 use Rattle.ir_model.specs.declared.object.ObjId.{ObjId}
@@ -35,3 +35,17 @@ row_of s n = row_at s.rows (node_number s.numbers n)
 
 abbrev pub sets_of : Sets → ObjectSets
 sets_of s n o = list_any (λ x. same_object (object_by x) o) (row_of s n)
+
+-- rows of which each is one of some lists, by its number
+abbrev pub rows_by : (lists : List (List ObjId)) (numbers : List ℕ) → List (List ObjId)
+rows_by lists numbers = map (λ k. get_or lists k []) numbers
+
+-- each number is that of a list, and there is room for so many numbers of lists that are known
+pub record AreOfLists (lists : List (List ObjId)) (numbers known : List ℕ) : Type 0 where
+  pub each : (k : ℕ) → k < length numbers → get_or numbers k 0 < length lists
+  pub known_count : length known ≡ 1024
+
+-- lists to which others may have come at the end
+pub record IsLonger (old new : List (List ObjId)) : Type 0 where
+  pub count : length old ≤ length new
+  pub kept : (k : ℕ) → k < length old → get_or new k [] ≡ get_or old k []

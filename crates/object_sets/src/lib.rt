@@ -4,7 +4,9 @@
 mod node;
 mod numbering;
 mod points_to;
+mod shared_rows;
 
 pub use node::Node;
 pub use numbering::Numbering;
 pub use points_to::PointsTo;
+pub use shared_rows::SharedRows;

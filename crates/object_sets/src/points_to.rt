@@ -9,15 +9,15 @@ ghost use Rattle.object_sets.specs.Sets.{AreInOrder, sets_of};
 
 use crate::node::Node;
 use crate::numbering::Numbering;
+use crate::shared_rows::SharedRows;
 use ir_model::object::ObjId;
-use list_vec::ListVec;
 use std::marker::Model;
 
 /// A set of objects for each node.
 #[derive(Drop)]
 pub struct PointsTo {
     numbering: Numbering,
-    rows: Vec<ListVec<ObjId>>,
+    rows: SharedRows,
 }
 
 impl Model for PointsTo {
@@ -26,16 +26,16 @@ impl Model for PointsTo {
 
     ghost Value = { Sets };
 
-    ghost view = { λ p. record { numbers = p.numbering; rows = p.rows.items } };
+    ghost view = { λ p. record { numbers = p.numbering; rows = p.rows } };
 
-    ghost invariant = { λ p. AreInOrder p.rows.items };
+    ghost invariant = { λ p. AreInOrder p.rows };
 }
 
 impl PointsTo {
     /// The sets of which each node has the objects of the list at its number, in rising order.
-    pub fn new(numbering: Numbering, rows: Vec<ListVec<ObjId>>) -> PointsTo
-        requires { AreInOrder rows.items }
-        ensures { result ≡ record { numbers = numbering; rows = rows.items } }
+    pub fn new(numbering: Numbering, rows: SharedRows) -> PointsTo
+        requires { AreInOrder rows }
+        ensures { result ≡ record { numbers = numbering; rows = rows } }
     {
         PointsTo { numbering, rows }
     }
@@ -54,9 +54,6 @@ impl PointsTo {
         ensures rising { IsStrictlySortedBy compare_objects result.now }
         ensures exact { result.now ≡ get_or self.now.rows number [] }
     {
-        match self.rows.get(number) {
-            Some(row) => row.as_slice(),
-            None => &[],
-        }
+        self.rows.row(number)
     }
 }

@@ -10,7 +10,7 @@ loop-object-preserved g c =
     record {
       copying =
           copy_next c.args.system.now c.args.state.now c.loop-object.state c.put.new.self c.args.edge c.loop-object.place c.in_ok-place.place c.in-Some.object c.member.result c.loop-object.invariant.copying c.in_ok-place.ensures c.in_ok-put.ensures.put c.requires.apart c.requires.to c.in-Some.ensures.within c.member.ensures.exact c.in-Some.is
-          (asked_allowed c.args.system.now c.args.state.now.pairs.rows c.args.state.now.pairs.objects c.args.state.now.log.items c.args.state.now.edges c.args.state.now.next c.args.edge c.requires.holds c.requires.asked);
+          (asked_allowed c.args.system.now c.args.state.now.pairs.rows c.args.state.now.pairs.objects c.args.state.now.log c.args.state.now.edges c.args.state.now.next c.args.edge c.requires.holds c.requires.asked);
       steps = omega arith;
     }
 

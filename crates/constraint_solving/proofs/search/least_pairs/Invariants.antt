@@ -3,8 +3,8 @@ use Rattle.constraint_solving.proofs.Running.{IsRunning}
 use Rattle.constraint_solving.specs.Searching.{cost}
 use Rattle.constraint_solving.proofs.search.least_pairs.Given as goal
 
-abbrev pub invariant-loop-state : goal.invariant-loop-state
-invariant-loop-state g l =
+abbrev pub invariant-loop-pair : goal.invariant-loop-pair
+invariant-loop-pair g l =
     record {
       running : IsRunning l.system l.state;
       steps : l.steps ≤ l.fn.steps + length l.system.rules.facts.items + cost l.state;
@@ -12,5 +12,5 @@ invariant-loop-state g l =
       objects : l.state.pairs.objects ≡ l.objects;
     }
 
-abbrev pub decreases-loop-state : goal.decreases-loop-state
-decreases-loop-state g l = 2 ^ 64 - l.state.next
+abbrev pub decreases-loop-pair : goal.decreases-loop-pair
+decreases-loop-pair g l = 2 ^ 64 - l.state.next

@@ -1,4 +1,4 @@
-use Rattle.std.proofs.Common.{◌≡◌, ◌-◌, ◌^◌, ◌≤◌, length, take}
+use Rattle.std.proofs.Common.{◌-◌, ◌^◌, ◌≤◌, length, take}
 use Rattle.numbered_lists.specs.Stretches.{AreBitsOf}
 use Rattle.numbered_lists.proofs.bits.bits_of.Given as goal
 

@@ -1,4 +1,4 @@
-use Rattle.std.proofs.Common.{◌≡◌, ◌∙◌, ◌-◌, ◌++◌, ◌∷◌, [], ℕ, suc, List, length, ap, arith}
+use Rattle.std.proofs.Common.{◌∙◌, ◌-◌, ◌++◌, ◌∷◌, [], ℕ, List, length, ap, arith}
 use Rattle.numbered_lists.specs.Stretches.{joined}
 use Rattle.numbered_lists.proofs.Cuts.{more_behind, alike_at, cut_either, pushed_either}
 use Rattle.numbered_lists.proofs.numbers.Numbers.push.Goals as goal
