@@ -14,7 +14,7 @@ passed=0
 failed=0
 out=$(mktemp) || exit 1
 trap 'rm -f "$out"' EXIT
-for part in acesc/tests/run.sh qemu_tests.sh; do
+for part in acesc/tests/run.sh qemu_tests.sh selftest_tests.sh; do
     echo "== $part"
     sh "$part" > "$out" 2>&1
     status=$?

@@ -1,4 +1,3 @@
--- Beyond the program's claim: only laws, proofs and functions inside the tool cite this file.
 -- What the functions of a generated firmware do, by two draws each.
 use Rattle.std.specs.Prelude.{ℕ, ◌<◌, All, zero, suc, ◌+◌, ◌*◌, ◌%◌, List, [], ◌∷◌, ◌++◌, length, Bool, true, false, ◌&&◌, nat_eq, nat_lt, if◌then◌else◌}
 use Rattle.std.proofs.Math.ListN.{get_or}

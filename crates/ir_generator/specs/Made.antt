@@ -1,4 +1,3 @@
--- Beyond the program's claim: only laws, proofs and functions inside the tool cite this file.
 -- The firmware of a seed and a size.
 use Rattle.std.specs.Prelude.{ℕ, ◌+◌, ◌*◌, ◌%◌, min, List, [], ◌∷◌, ◌++◌, map, codes, false, nat_eq, if◌then◌else◌}
 use Rattle.std.specs.List.{range_with_len}

@@ -6,3 +6,4 @@ mod Refused
 mod Words
 mod Same
 mod SameEvents
+pub mod Answering

@@ -123,7 +123,7 @@ true_status : (alike : Bool) (P : Type 0) → Decides alike P → P → verdict_
 true_status true P d h = refl
 true_status false P d h = let wrong : false ≡ true = d.1 h in cc
 
-excluded : RefusalsAndPlansExclude → (seed size : ℕ) → IsPlannable Filename (made seed size) test_board → (r : PlanningRefusal)
+pub excluded : RefusalsAndPlansExclude → (seed size : ℕ) → IsPlannable Filename (made seed size) test_board → (r : PlanningRefusal)
     → r ≢ planning.NoMemory → IsRefusedBy Filename (made seed size) test_board r → ⊥
 excluded law seed size plan r other refused = other (law Filename (made seed size) test_board r plan refused)
 

@@ -1,4 +1,3 @@
--- Beyond the program's claim: only laws, proofs and functions inside the tool cite this file.
 -- What a self-test answers where memory does not run out.
 use Rattle.std.specs.Prelude.{ℕ, ◌+◌, ◌*◌, List, length, Option, None, Bool}
 use Rattle.std.specs.Bool.{Decides}
@@ -8,6 +7,7 @@ use Rattle.words.specs.Runs.{run, events}
 use Rattle.lines.specs.Lines as machine_lines
 use Rattle.aces_reports.specs.declared.failure.Memory.TheVariants as memory
 use Rattle.aces_words.specs.declared.policy.Policy.TheVariants.{Filename}
+use Rattle.aces_words.specs.Requests.{Origin}
 use Rattle.ir_model.specs.Plain.{PlainFirmware, funcs_of}
 use Rattle.ir_model.specs.Resolve.{resolve}
 use Rattle.ir_model.specs.State.{start}
@@ -88,3 +88,7 @@ pub data SelftestAnswer (seed size : ℕ) : Outcome → Type 0 where
   tested : (i : Image) (by : IsTestImage seed size i) (n m : ℕ) (alike : Bool) → TakeSteps seed size i by n m
       → Decides alike (AreAlike (source_ran seed size i by n) (image_ran seed size i by m))
       → SelftestAnswer seed size (done (verdict_status alike) (lines_of seed size i by n m alike) None)
+
+-- the answer to the request, whatever files hold
+abbrev pub AnswerToSelftest : (seed size : ℕ) → (Has : Origin → List ℕ → Type 0) (Exceeds : Origin → Type 0) → Outcome → Type 0
+AnswerToSelftest seed size Has Exceeds = SelftestAnswer seed size

@@ -1,4 +1,3 @@
--- Beyond the program's claim: only laws, proofs and functions inside the tool cite this file.
 -- The board for which generated firmwares are compiled.
 use Rattle.std.specs.Prelude.{[], false}
 use Rattle.plan_model.specs.declared.plan.Board.{Board}

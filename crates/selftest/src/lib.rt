@@ -3,6 +3,7 @@
 
 mod board;
 pub mod laws;
+pub mod printing;
 mod runs;
 pub mod selftesting;
 mod tables;
