@@ -1,4 +1,3 @@
--- Beyond the program's claim: only laws, proofs and functions inside the tool cite this file.
 -- Tokens of the canonical text. A line has its first token, the others each behind a space, and its end.
 use Rattle.std.specs.Prelude.{ℕ, List, [], ◌∷◌, ◌==◌, if◌then◌else◌}
 use Rattle.ir_model.specs.declared.token.Mark.TheVariants.{Comma}

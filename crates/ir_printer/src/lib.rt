@@ -5,5 +5,5 @@ mod declarations;
 mod functions;
 mod insts;
 pub mod print;
-mod tokens;
-mod types;
+pub mod tokens;
+pub mod types;

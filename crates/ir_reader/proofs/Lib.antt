@@ -1,19 +1,19 @@
-mod Tables
+pub mod Tables
 mod Kept
-mod Scanning
+pub mod Scanning
 mod Ends
 mod Separated
 mod Values
 mod Lang
 mod Derive
 mod Theorem
-mod Plain
+pub mod Plain
 mod Pieces
 mod Proper
-mod Texts
+pub mod Texts
 mod Columns
-mod Lefts
-mod Whole
+pub mod Lefts
+pub mod Whole
 mod Stops
 mod Allow
 mod Complete

@@ -1,4 +1,3 @@
--- Beyond the program's claim: only laws, proofs and functions inside the tool cite this file.
 -- What stands at a place of a text.
 use Rattle.std.specs.Prelude.{ℕ, List, [], ◌∷◌, map, Bool, false}
 use Rattle.ir_model.specs.Tokens as model

@@ -1,4 +1,3 @@
--- Beyond the program's claim: only laws, proofs and functions inside the tool cite this file.
 -- The tokens of bytes, by one pass from the first byte on.
 use Rattle.std.specs.Prelude.{ℕ, zero, suc, ◌+◌, ◌-◌, ◌^◌, ◌≡◌, List, [], ◌∷◌, length, Bool, true, false, nat_eq, if◌then◌else◌}
 use Rattle.std.specs.List.{prefix_len, take_while}

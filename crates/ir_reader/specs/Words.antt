@@ -1,4 +1,3 @@
--- Beyond the program's claim: only laws, proofs and functions inside the tool cite this file.
 -- Which reserved word bytes are.
 use Rattle.std.specs.Prelude.{ℕ, List, Option, Some, None, find}
 use Rattle.std.specs.Str.{bytes_eq}

@@ -7,14 +7,14 @@ mod fault;
 mod functions;
 mod instructions;
 pub mod laws;
-mod lexer;
+pub mod lexer;
 mod limits;
-mod position;
+pub mod position;
 mod reader;
 mod reserved;
 mod slots;
 mod terminals;
-mod token;
+pub mod token;
 mod types;
 
 pub use fault::TextFault;

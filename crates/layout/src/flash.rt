@@ -46,6 +46,18 @@ fn flash_blocks(alloc: Global, sizes: &Sizes, code: &[u64]) -> Result<Vec<u64>, 
     Ok(blocks)
 }
 
+/// The sizes of all blocks of flash: that of the tables, then those of the compartments' code.
+///
+/// # Errors
+///
+/// There is no memory for them.
+pub fn all_blocks(alloc: Global, sizes: &Sizes) -> Result<Vec<u64>, AllocError>
+    ensures { IfOk result (λ blocks. blocks.items ≡ flash.flash_blocks sizes.now) }
+{
+    let code = code_blocks(alloc, sizes)?;
+    flash_blocks(alloc, sizes, code.as_slice())
+}
+
 /// Where the block of a number lies: behind all larger ones, and those of its size that come earlier.
 fn spot_at(base: u32, blocks: &[u64], number: usize) -> Spot
     requires there { number < length blocks.now }

@@ -3,8 +3,8 @@
 
 mod blocks;
 mod filled;
-mod flash;
+pub mod flash;
 mod numbers;
 pub mod place;
-mod ram;
+pub mod ram;
 pub mod refusal;

@@ -17,7 +17,7 @@ const MONITOR: u32 = 1024;
 
 /// What a block of RAM is for.
 #[derive(Clone, Copy)]
-pub(crate) enum Purpose {
+pub enum Purpose {
     /// The stack.
     Stack,
     /// The monitor's block.
@@ -55,13 +55,13 @@ impl Purpose {
 
 /// A block of RAM.
 #[derive(Clone, Copy)]
-pub(crate) struct Block {
+pub struct Block {
     /// What it is for.
-    pub(crate) purpose: Purpose,
+    pub purpose: Purpose,
     /// How many of its bytes are used.
-    pub(crate) bytes: u32,
+    pub bytes: u32,
     /// How many bytes it has.
-    pub(crate) size: u32,
+    pub size: u32,
 }
 
 /// The end of a block in which another one may stand.
@@ -224,7 +224,7 @@ fn falling(mut blocks: Vec<Block>) -> Result<Vec<Block>, AllocError>
 /// # Errors
 ///
 /// There is no memory for them, or one has more bytes than 32 bits tell.
-pub(crate) fn falling_blocks(
+pub fn falling_blocks(
     alloc: Global,
     program: &Program,
     fin: &Final,

@@ -34,7 +34,7 @@ pub struct PlannedFirmware {
 }
 
 /// The number of slots of a board.
-fn slots(board: &Board) -> u32
+pub fn slots(board: &Board) -> u32
     requires { IsBoard board.now }
     ensures slots { result ≡ slots_of board.now }
     ensures two { 2 ≤ result }
@@ -44,7 +44,11 @@ fn slots(board: &Board) -> u32
 }
 
 /// The final graph of the compartments of a firmware.
-fn final_graph(
+///
+/// # Errors
+///
+/// There is no memory for it.
+pub fn final_graph(
     alloc: Global,
     program: &Program,
     needs: &Needs,
