@@ -1,0 +1,5 @@
+mod AsRules
+mod Digits
+mod FirstNamed
+mod Misfits
+mod Rows

@@ -1,0 +1,10 @@
+mod Worked
+mod TypeRows
+mod Counted
+mod Split
+mod Fronts
+mod Numbered
+mod FaultPlaces
+mod FaultNames
+mod Begins
+mod PlacesBegin

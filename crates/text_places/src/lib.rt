@@ -1,0 +1,16 @@
+//! Where in the text of a firmware the item stands whose check fails.
+#![tactic(auto)]
+
+mod before;
+mod declarations;
+mod functions;
+pub mod item;
+pub mod laws;
+mod naming;
+mod place;
+mod rows;
+mod tokens;
+mod types;
+
+pub use place::item_place;
+pub use tokens::token_place;
