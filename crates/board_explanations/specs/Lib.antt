@@ -1,0 +1,3 @@
+pub mod KeyLines
+pub mod BoardRules
+pub mod BoardTold

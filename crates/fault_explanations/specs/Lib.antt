@@ -1,0 +1,4 @@
+pub mod Excerpt
+pub mod RuleTexts
+pub mod Expected
+pub mod Explanations

@@ -1,0 +1,4 @@
+pub mod Blocks
+pub mod PlanRules
+pub mod PlanTold
+pub mod Texts
