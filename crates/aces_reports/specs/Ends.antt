@@ -2,7 +2,7 @@
 -- The status and the line of how a command ended.
 use Rattle.std.specs.Prelude.{ℕ, List, [], Result, Ok, Err}
 use Rattle.aces_reports.specs.declared.failure.Done.{Done}
-use Rattle.aces_reports.specs.declared.failure.Done.TheVariants.{Completed, RunFailed, Negative}
+use Rattle.aces_reports.specs.declared.failure.Done.TheVariants.{Completed, RunFailed, Negative, FaultTold, NoRoomTold}
 use Rattle.aces_reports.specs.declared.failure.Failure.{Failure}
 use Rattle.aces_reports.specs.declared.failure.Failure.TheVariants.{Refused, PastLimit, Denied, NoRoom, Unread, Unwritten, Unprinted, NoMemory}
 use Rattle.aces_reports.specs.FaultLines.{fault_line, limit_line, denied_line, room_line, unread_line, unwritten_line, unprinted_line, memory_line}
@@ -11,6 +11,8 @@ abbrev pub status_of : Result Done Failure → ℕ
 status_of (Ok Completed) = 0
 status_of (Ok RunFailed) = 7
 status_of (Ok Negative) = 8
+status_of (Ok FaultTold) = 1
+status_of (Ok NoRoomTold) = 3
 status_of (Err (Refused name fault)) = 1
 status_of (Err (PastLimit which count)) = 1
 status_of (Err (Denied text)) = 3

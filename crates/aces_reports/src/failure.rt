@@ -19,6 +19,10 @@ pub enum Done {
     RunFailed,
     /// With a no to what was asked: status 8.
     Negative,
+    /// With what is wrong with a file, which was printed because it was asked for: status 1.
+    FaultTold,
+    /// With what a board has no room for, which was printed because it was asked for: status 3.
+    NoRoomTold,
 }
 
 /// What is wrong with the content of a file.

@@ -23,6 +23,8 @@ pub fn report<E: Sink>(ended: Result<Done, Failure>, err: &mut E) -> u8
         Ok(Done::Completed) => 0,
         Ok(Done::RunFailed) => 7,
         Ok(Done::Negative) => 8,
+        Ok(Done::FaultTold) => 1,
+        Ok(Done::NoRoomTold) => 3,
         Err(failure) => {
             say_failure(err, &failure);
             failure_status(&failure)

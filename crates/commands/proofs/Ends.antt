@@ -3,12 +3,12 @@ use Rattle.std.proofs.Common.{◌≡◌, ◌≢◌, ℕ, ◌+◌, ◌^◌, ◌<�
 use Rattle.std.proofs.lemmas.Bool.{false≢true}
 use Rattle.outside.specs.Calls.{Call}
 use Rattle.aces_reports.specs.declared.failure.Done.{Done}
-use Rattle.aces_reports.specs.declared.failure.Done.TheVariants.{Completed, RunFailed, Negative}
+use Rattle.aces_reports.specs.declared.failure.Done.TheVariants.{Completed, RunFailed, Negative, FaultTold, NoRoomTold}
 use Rattle.aces_reports.specs.declared.failure.Fault.{Fault}
 use Rattle.aces_reports.specs.declared.failure.Fault.TheVariants.{TooLarge}
 use Rattle.aces_reports.specs.declared.failure.Failure.{Failure}
 use Rattle.aces_reports.specs.declared.failure.Failure.TheVariants.{Refused, PastLimit, Denied, NoRoom, Unread, Unwritten, Unprinted, NoMemory}
-use Rattle.aces_words.specs.Requests.{Request, Run, Bin, Compile, Check, Source, Where, Listing, Stack, Audit, Tables, Watch, State, Help, Who, Why, Symbols, Origin, origins}
+use Rattle.aces_words.specs.Requests.{Request, Run, Bin, Compile, Check, Source, Where, Listing, Stack, Audit, Tables, Watch, State, Help, Who, Why, Symbols, Selftest, Explain, ExplainPlan, Origin, origins}
 use Rattle.commands.specs.Known.{Held, IsMissing, IsNamed}
 use Rattle.commands.specs.Outcomes.{Outcome, refused, past_limit, denied, no_room}
 use Rattle.aces_reports.specs.Sinks.{SinkState}
@@ -36,6 +36,9 @@ nothing_printed A (Who firmware board policy) old new h = h
 nothing_printed A (Why firmware) old new h = h
 nothing_printed A (Where firmware policy tape steps) old new h = h
 nothing_printed A (Symbols firmware board policy) old new h = h
+nothing_printed A (Selftest seed size) old new h = h
+nothing_printed A (Explain firmware) old new h = h
+nothing_printed A (ExplainPlan firmware board policy) old new h = h
 
 -- memory ran out before anything was printed or written
 pub no_memory : (A : Outcome → Type 0) (r : Request) (old new : World) → Quiet old new → new.read_faults ≡ old.read_faults → Does A r old new (Err NoMemory)
@@ -185,6 +188,8 @@ pub did_end : (A : Outcome → Type 0) (r : Request) (old new : World) (o : Outc
 did_end A r old new o Completed a s l p = record { outcome = o; answer = a; ended = s; silent = l; all = p }
 did_end A r old new o RunFailed a s l p = record { outcome = o; answer = a; ended = s; silent = l; all = p }
 did_end A r old new o Negative a s l p = record { outcome = o; answer = a; ended = s; silent = l; all = p }
+did_end A r old new o FaultTold a s l p = record { outcome = o; answer = a; ended = s; silent = l; all = p }
+did_end A r old new o NoRoomTold a s l p = record { outcome = o; answer = a; ended = s; silent = l; all = p }
 
 -- a part for some answers is one for others
 part_also : (A B : Outcome → Type 0) → ((o : Outcome) → A o → B o) → (r : Request) (old new : World) → IsPart A r old new → IsPart B r old new
@@ -207,6 +212,9 @@ printed_also A B m (Who firmware board policy) old new h = h
 printed_also A B m (Why firmware) old new h = h
 printed_also A B m (Where firmware policy tape steps) old new h = h
 printed_also A B m (Symbols firmware board policy) old new h = h
+printed_also A B m (Selftest seed size) old new h = h
+printed_also A B m (Explain firmware) old new h = h
+printed_also A B m (ExplainPlan firmware board policy) old new h = h
 
 -- what did for some answers did for others
 pub did_also : (A B : Outcome → Type 0) → ((o : Outcome) → A o → B o) → (r : Request) (old new : World) (e : Result Done Failure)
@@ -214,6 +222,8 @@ pub did_also : (A B : Outcome → Type 0) → ((o : Outcome) → A o → B o) �
 did_also A B m r old new (Ok Completed) d = record { outcome = d.outcome; answer = m d.outcome d.answer; ended = d.ended; silent = d.silent; all = d.all }
 did_also A B m r old new (Ok RunFailed) d = record { outcome = d.outcome; answer = m d.outcome d.answer; ended = d.ended; silent = d.silent; all = d.all }
 did_also A B m r old new (Ok Negative) d = record { outcome = d.outcome; answer = m d.outcome d.answer; ended = d.ended; silent = d.silent; all = d.all }
+did_also A B m r old new (Ok FaultTold) d = record { outcome = d.outcome; answer = m d.outcome d.answer; ended = d.ended; silent = d.silent; all = d.all }
+did_also A B m r old new (Ok NoRoomTold) d = record { outcome = d.outcome; answer = m d.outcome d.answer; ended = d.ended; silent = d.silent; all = d.all }
 did_also A B m r old new (Err (Refused name f)) d = record { answer = m (refused name.now f) d.answer; quiet = d.quiet; read_faults = d.read_faults }
 did_also A B m r old new (Err (PastLimit which count)) d = record { answer = m (past_limit which count) d.answer; quiet = d.quiet; read_faults = d.read_faults }
 did_also A B m r old new (Err (Denied said)) d = record { answer = m (denied said) d.answer; quiet = d.quiet; read_faults = d.read_faults }
@@ -245,6 +255,8 @@ module _ (A : Outcome → Type 0) (nothing : (o : Outcome) → A o → o.status 
   held_stays (Ok Completed) d n m = absurd (n refl)
   held_stays (Ok RunFailed) d n m = unwritten_by 7 (omega arith) d
   held_stays (Ok Negative) d n m = unwritten_by 8 (omega arith) d
+  held_stays (Ok FaultTold) d n m = unwritten_by 1 (omega arith) d
+  held_stays (Ok NoRoomTold) d n m = unwritten_by 3 (omega arith) d
   held_stays (Err (Refused name f)) d n m = d.quiet.held
   held_stays (Err (PastLimit which count)) d n m = d.quiet.held
   held_stays (Err (Denied said)) d n m = d.quiet.held

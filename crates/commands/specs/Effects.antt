@@ -4,7 +4,7 @@ use Rattle.outside.specs.declared.files.Files as files
 use Rattle.outside.specs.Counts.{Rose}
 use Rattle.outside.specs.Contents.{AddsPrefix}
 use Rattle.aces_reports.specs.declared.failure.Done.{Done}
-use Rattle.aces_reports.specs.declared.failure.Done.TheVariants.{Completed, RunFailed, Negative}
+use Rattle.aces_reports.specs.declared.failure.Done.TheVariants.{Completed, RunFailed, Negative, FaultTold, NoRoomTold}
 use Rattle.aces_reports.specs.declared.failure.Failure.{Failure}
 use Rattle.aces_reports.specs.declared.failure.Failure.TheVariants.{Refused, PastLimit, Denied, NoRoom, Unread, Unwritten, Unprinted, NoMemory}
 use Rattle.aces_words.specs.Requests.{Request, Source, origins, target}
@@ -115,6 +115,8 @@ module _ (Answer : Outcome → Type 0) (request : Request) (old new : World) whe
   Does (Ok Completed) = IsDone 0
   Does (Ok RunFailed) = IsDone 7
   Does (Ok Negative) = IsDone 8
+  Does (Ok FaultTold) = IsDone 1
+  Does (Ok NoRoomTold) = IsDone 3
   Does (Err (Refused name fault)) = IsRefused (refused name.now fault)
   Does (Err (PastLimit which count)) = IsRefused (past_limit which count)
   Does (Err (Denied said)) = IsRefused (denied said)

@@ -17,7 +17,7 @@ use aces_reports::{Done, Failure};
 use commands::loading::load_firmware;
 use ir_model::checked::Checked;
 use ir_model::firmware::FileDecl;
-use lines::count_line;
+use lines::{Line, count_line};
 use outside::{Failed, Files, Sink};
 use std::alloc::Global;
 
@@ -38,6 +38,15 @@ pub fn check<'a, F: Files, O: Sink>(
     }
 }
 
+/// The line of counts of a firmware. It takes no memory.
+pub fn counts_of(checked: &Checked) -> Line
+    ensures { result ≡ counts.count_line (plain.firmware_of checked.now) }
+{
+    let firmware = checked.firmware();
+    let functions = count_functions(firmware.files.as_slice());
+    count_line(functions, firmware.globals.len(), firmware.periphs.len())
+}
+
 /// Prints the line of counts of a firmware.
 fn print_counts<O: Sink>(checked: &Checked, out: &mut O) -> Result<(), Failed>
     ensures lines { IsTrue O.told → OnOk result
@@ -47,9 +56,7 @@ fn print_counts<O: Sink>(checked: &Checked, out: &mut O) -> Result<(), Failed>
     ensures part { IsTrue O.told → OnErr result
         (AddsPrefix (O.written out.old) (O.written out.new) (counts.count_line (plain.firmware_of checked.now))) }
 {
-    let firmware = checked.firmware();
-    let functions = count_functions(firmware.files.as_slice());
-    let line = count_line(functions, firmware.globals.len(), firmware.periphs.len());
+    let line = counts_of(checked);
     out.put(line.as_slice())
 }
 

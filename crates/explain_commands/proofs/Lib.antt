@@ -1,0 +1,4 @@
+mod Lines
+pub mod Answering
+pub mod Explainable
+pub mod PlanAnswering
