@@ -2,10 +2,10 @@
 use Rattle.std.proofs.Common.{◌≡◌, ℕ, ◌⊎◌, inl, inr, List, [], ◌++◌, None, Ok, Err, Result, IfErr, refl, ap, sym, ◌∙◌, subst, append-nil, arith}
 use Rattle.outside.specs.Calls.{Call}
 use Rattle.aces_reports.specs.declared.failure.Done.{Done}
-use Rattle.aces_reports.specs.declared.failure.Done.TheVariants.{Completed, RunFailed, Negative}
+use Rattle.aces_reports.specs.declared.failure.Done.TheVariants.{Completed, RunFailed, Negative, FaultTold, NoRoomTold}
 use Rattle.aces_reports.specs.declared.failure.Failure.{Failure}
 use Rattle.aces_reports.specs.declared.failure.Failure.TheVariants.{Refused, PastLimit, Denied, NoRoom, Unread, Unwritten, Unprinted, NoMemory}
-use Rattle.aces_words.specs.Requests.{Request, Run, Bin, Compile, Check, Source, Where, Listing, Stack, Audit, Tables, Who, Symbols, Help, Watch, State, Why, Asks, IsUsage, Origin}
+use Rattle.aces_words.specs.Requests.{Request, Run, Bin, Compile, Check, Source, Where, Listing, Stack, Audit, Tables, Who, Symbols, Help, Selftest, Watch, State, Why, Explain, ExplainPlan, Asks, IsUsage, Origin}
 use Rattle.aces_reports.specs.FaultLines.{usage_line}
 use Rattle.aces_reports.specs.Sinks.{SinkState, Says}
 use Rattle.aces_reports.specs.Ends.{status_of, line_of}
@@ -19,9 +19,12 @@ use Rattle.planned_commands.specs.Answers.{ListAnswer, StackAnswers, SymbolsAnsw
 use Rattle.planned_commands.proofs.Answering.{both_also}
 use Rattle.who_commands.specs.Answers.{WhoAnswer}
 use Rattle.who_commands.proofs.Answering.{help_also}
+use Rattle.selftest.proofs.Answering.{selftest_also}
 use Rattle.run_inspection.proofs.Answering.{watch_also, state_also}
 use Rattle.reach_commands.proofs.Answering.{why_also}
 use Rattle.where_commands.proofs.Answering.{where_also}
+use Rattle.explain_commands.specs.Plans.{ExplainPlanAnswer}
+use Rattle.explain_commands.proofs.Answering.{explain_also}
 use Rattle.aces_cli.specs.Answer.{CompileAnswer, Answer, no_request, to_request}
 use Rattle.aces_cli.specs.Endings.{IsPlain, IsAnswered, IsPartly, AsksForSource, TellsUnread, TellsUnwritten, TellsUnprinted, TellsOutOfMemory}
 
@@ -42,9 +45,12 @@ module _ (Has Had : Origin → List ℕ → Type 0) (Exceeds Exceeded : Origin �
   answer_also (Who firmware board policy) o a = both_also firmware board (WhoAnswer firmware board policy) Has Had Exceeds Exceeded also large o a
   answer_also (Symbols firmware board policy) o a = both_also firmware board (SymbolsAnswer firmware board policy) Has Had Exceeds Exceeded also large o a
   answer_also Help o a = help_also Has Had Exceeds Exceeded o a
+  answer_also (Selftest seed size) o a = selftest_also Has Had Exceeds Exceeded seed size o a
   answer_also (Watch image tape steps address) o a = watch_also Has Had Exceeds Exceeded also large image tape steps address o a
   answer_also (State image tape steps) o a = state_also Has Had Exceeds Exceeded also large image tape steps o a
   answer_also (Why firmware) o a = why_also Has Had Exceeds Exceeded also large firmware o a
+  answer_also (Explain firmware) o a = explain_also Has Had Exceeds Exceeded also large firmware o a
+  answer_also (ExplainPlan firmware board policy) o a = both_also firmware board (ExplainPlanAnswer firmware board policy) Has Had Exceeds Exceeded also large o a
 
 -- nothing is printed and written, and no fault rose
 nothing_more : (old new : World) (o : Outcome) → Quiet old new → new.read_faults ≡ old.read_faults → o.printed ≡ [] → o.written ≡ None → IsCarriedOut old new o
@@ -91,6 +97,20 @@ module _ (Has : Origin → List ℕ → Type 0) (Exceeds : Origin → Type 0) (w
     all = d.all;
     says = subst (Says err_old err_new) (sym d.silent) l;
   }
+  answered (Ok FaultTold) s q d l p = record {
+    outcome = d.outcome;
+    answer = to_request r d.outcome asks d.answer;
+    ended = d.ended ∙ sym q;
+    all = d.all;
+    says = subst (Says err_old err_new) (sym d.silent) l;
+  }
+  answered (Ok NoRoomTold) s q d l p = record {
+    outcome = d.outcome;
+    answer = to_request r d.outcome asks d.answer;
+    ended = d.ended ∙ sym q;
+    all = d.all;
+    says = subst (Says err_old err_new) (sym d.silent) l;
+  }
   answered (Err (Refused name f)) s q d l p = record {
     outcome = refused name.now f;
     answer = to_request r (refused name.now f) asks d.answer;
@@ -131,6 +151,8 @@ module _ (Has : Origin → List ℕ → Type 0) (Exceeds : Origin → Type 0) (w
   partly (Ok Completed) q d = let f : ⊥ = omega (arith, q) in absurd f
   partly (Ok RunFailed) q d = let f : ⊥ = omega (arith, q) in absurd f
   partly (Ok Negative) q d = let f : ⊥ = omega (arith, q) in absurd f
+  partly (Ok FaultTold) q d = let f : ⊥ = omega (arith, q) in absurd f
+  partly (Ok NoRoomTold) q d = let f : ⊥ = omega (arith, q) in absurd f
   partly (Err (Refused name f)) q d = let f : ⊥ = omega (arith, q) in absurd f
   partly (Err (PastLimit which count)) q d = let f : ⊥ = omega (arith, q) in absurd f
   partly (Err (Denied said)) q d = let f : ⊥ = omega (arith, q) in absurd f
@@ -154,14 +176,19 @@ module _ (Has : Origin → List ℕ → Type 0) (Exceeds : Origin → Type 0) (w
   in_part (Who firmware board policy) h = inl h
   in_part (Symbols firmware board policy) h = inl h
   in_part Help h = inl h
+  in_part (Selftest seed size) h = inl h
   in_part (Watch image tape steps address) h = inl h
   in_part (State image tape steps) h = inl h
   in_part (Why firmware) h = inl h
+  in_part (Explain firmware) h = inl h
+  in_part (ExplainPlan firmware board policy) h = inl h
 
   pub printed_in_part : (e : Result Done Failure) → status_of e ≡ 6 → Does (Answer r Has Exceeds) r old new e → (new.out ≡ old.out) ⊎ IsPartly Has Exceeds words old new
   printed_in_part (Ok Completed) q d = let f : ⊥ = omega (arith, q) in absurd f
   printed_in_part (Ok RunFailed) q d = let f : ⊥ = omega (arith, q) in absurd f
   printed_in_part (Ok Negative) q d = let f : ⊥ = omega (arith, q) in absurd f
+  printed_in_part (Ok FaultTold) q d = let f : ⊥ = omega (arith, q) in absurd f
+  printed_in_part (Ok NoRoomTold) q d = let f : ⊥ = omega (arith, q) in absurd f
   printed_in_part (Err (Refused name f)) q d = let f : ⊥ = omega (arith, q) in absurd f
   printed_in_part (Err (PastLimit which count)) q d = let f : ⊥ = omega (arith, q) in absurd f
   printed_in_part (Err (Denied said)) q d = let f : ⊥ = omega (arith, q) in absurd f
@@ -178,6 +205,8 @@ module _ (A : Outcome → Type 0) (words : List (List ℕ)) (r : Request) (asks 
   unread calls (Ok Completed) q d n l = let f : ⊥ = omega (arith, q) in absurd f
   unread calls (Ok RunFailed) q d n l = let f : ⊥ = omega (arith, q) in absurd f
   unread calls (Ok Negative) q d n l = let f : ⊥ = omega (arith, q) in absurd f
+  unread calls (Ok FaultTold) q d n l = let f : ⊥ = omega (arith, q) in absurd f
+  unread calls (Ok NoRoomTold) q d n l = let f : ⊥ = omega (arith, q) in absurd f
   unread calls (Err (Refused name f)) q d n l = let f : ⊥ = omega (arith, q) in absurd f
   unread calls (Err (PastLimit which count)) q d n l = let f : ⊥ = omega (arith, q) in absurd f
   unread calls (Err (Denied said)) q d n l = let f : ⊥ = omega (arith, q) in absurd f
@@ -192,6 +221,8 @@ module _ (A : Outcome → Type 0) (words : List (List ℕ)) (r : Request) (asks 
   unwritten (Ok Completed) q d l = let f : ⊥ = omega (arith, q) in absurd f
   unwritten (Ok RunFailed) q d l = let f : ⊥ = omega (arith, q) in absurd f
   unwritten (Ok Negative) q d l = let f : ⊥ = omega (arith, q) in absurd f
+  unwritten (Ok FaultTold) q d l = let f : ⊥ = omega (arith, q) in absurd f
+  unwritten (Ok NoRoomTold) q d l = let f : ⊥ = omega (arith, q) in absurd f
   unwritten (Err (Refused name f)) q d l = let f : ⊥ = omega (arith, q) in absurd f
   unwritten (Err (PastLimit which count)) q d l = let f : ⊥ = omega (arith, q) in absurd f
   unwritten (Err (Denied said)) q d l = let f : ⊥ = omega (arith, q) in absurd f
@@ -215,14 +246,19 @@ module _ (A : Outcome → Type 0) (words : List (List ℕ)) (r : Request) (asks 
   quiet_unless (Who firmware board policy) a h = inl h
   quiet_unless (Symbols firmware board policy) a h = inl h
   quiet_unless Help a h = inl h
+  quiet_unless (Selftest seed size) a h = inl h
   quiet_unless (Watch image tape steps address) a h = inl h
   quiet_unless (State image tape steps) a h = inl h
   quiet_unless (Why firmware) a h = inl h
+  quiet_unless (Explain firmware) a h = inl h
+  quiet_unless (ExplainPlan firmware board policy) a h = inl h
 
   pub out_of_memory : (e : Result Done Failure) → status_of e ≡ 6 → Does A r old new e → Says err_old err_new (line_of e) → TellsOutOfMemory words old new err_old err_new
   out_of_memory (Ok Completed) q d l = let f : ⊥ = omega (arith, q) in absurd f
   out_of_memory (Ok RunFailed) q d l = let f : ⊥ = omega (arith, q) in absurd f
   out_of_memory (Ok Negative) q d l = let f : ⊥ = omega (arith, q) in absurd f
+  out_of_memory (Ok FaultTold) q d l = let f : ⊥ = omega (arith, q) in absurd f
+  out_of_memory (Ok NoRoomTold) q d l = let f : ⊥ = omega (arith, q) in absurd f
   out_of_memory (Err (Refused name f)) q d l = let f : ⊥ = omega (arith, q) in absurd f
   out_of_memory (Err (PastLimit which count)) q d l = let f : ⊥ = omega (arith, q) in absurd f
   out_of_memory (Err (Denied said)) q d l = let f : ⊥ = omega (arith, q) in absurd f
@@ -236,6 +272,8 @@ module _ (A : Outcome → Type 0) (words : List (List ℕ)) (r : Request) (asks 
   reads_stay (Ok Completed) d = inr d.all.read_faults
   reads_stay (Ok RunFailed) d = inr d.all.read_faults
   reads_stay (Ok Negative) d = inr d.all.read_faults
+  reads_stay (Ok FaultTold) d = inr d.all.read_faults
+  reads_stay (Ok NoRoomTold) d = inr d.all.read_faults
   reads_stay (Err (Refused name f)) d = inr d.read_faults
   reads_stay (Err (PastLimit which count)) d = inr d.read_faults
   reads_stay (Err (Denied said)) d = inr d.read_faults
@@ -252,6 +290,8 @@ module _ (A : Outcome → Type 0) (words : List (List ℕ)) (r : Request) (asks 
   writes_stay (Ok Completed) d = inr (d.all.write_faults, d.all.faults)
   writes_stay (Ok RunFailed) d = inr (d.all.write_faults, d.all.faults)
   writes_stay (Ok Negative) d = inr (d.all.write_faults, d.all.faults)
+  writes_stay (Ok FaultTold) d = inr (d.all.write_faults, d.all.faults)
+  writes_stay (Ok NoRoomTold) d = inr (d.all.write_faults, d.all.faults)
   writes_stay (Err (Refused name f)) d = inr (writes_of d.quiet)
   writes_stay (Err (PastLimit which count)) d = inr (writes_of d.quiet)
   writes_stay (Err (Denied said)) d = inr (writes_of d.quiet)

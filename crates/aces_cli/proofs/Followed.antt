@@ -1,5 +1,5 @@
 -- Status 0 of `stack` and of `compile` on the same contents.
-use Rattle.std.proofs.Common.{◌≡◌, ℕ, ◌≤◌, Bool, true, false, cond, List, Option, Some, nat_le, refl, subst, arith, IsTrue}
+use Rattle.std.proofs.Common.{◌≡◌, ℕ, ◌≤◌, Bool, true, false, cond, List, nat_le, refl, subst, arith, IsTrue}
 use Rattle.std.proofs.lemmas.Bool.{leb-true}
 use Rattle.ir_model.specs.Plain.{PlainFirmware}
 use Rattle.ir_reader.specs.Laws.{TextsAreUnique}
@@ -10,7 +10,7 @@ use Rattle.aces_words.specs.declared.policy.Policy.{Policy}
 use Rattle.aces_words.specs.Requests.{Request, Compile, Asks, Origin, file_origin, firmware_origin}
 use Rattle.aces_words.proofs.Requests.{requests_are_one}
 use Rattle.commands.specs.Known.{Held, Holds, Exceeds}
-use Rattle.commands.specs.Outcomes.{Outcome, Written}
+use Rattle.commands.specs.Outcomes.{Outcome}
 use Rattle.commands.specs.Effects.{IsRewritten}
 use Rattle.firmware_commands.specs.Firmwares.{IsFirmware}
 use Rattle.stack_paths.specs.declared.answer.StackAnswer.{StackAnswer}
@@ -24,7 +24,7 @@ use Rattle.planned_commands.specs.Answers as stacks
 use Rattle.planned_commands.specs.Answers.{StackAnswers, AnswerToStack}
 use Rattle.aces_cli.specs.Answer as answers
 use Rattle.aces_cli.specs.Answer.{CompileAnswer, AnswerToCompile, Answer, Answers}
-use Rattle.aces_cli.specs.Bounded.{IsFollowed, StackIsEnough, BoundedCallsAreFollowed}
+use Rattle.aces_cli.specs.Bounded.{IsFollowed, BoundedCallsAreFollowed}
 use Rattle.aces_cli.proofs.Good.{held_is_one}
 
 fits_by : (stack : ℕ) (a : StackAnswer) → stack_status stack a ≡ 0 → Fits stack a

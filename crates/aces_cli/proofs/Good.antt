@@ -16,7 +16,7 @@ use Rattle.firmware_stacks.specs.Lines.{stack_status}
 use Rattle.stack_paths.specs.declared.answer.StackAnswer.{StackAnswer}
 use Rattle.stack_paths.specs.declared.answer.StackAnswer.TheVariants.{Cycle, Bound}
 use Rattle.aces_words.specs.declared.policy.Policy.{Policy}
-use Rattle.aces_words.specs.Requests.{Request, Origin, file_origin, firmware_origin}
+use Rattle.aces_words.specs.Requests.{Request, Origin}
 use Rattle.commands.specs.Outcomes.{Outcome}
 use Rattle.commands.specs.Contents.{of_board}
 use Rattle.firmware_commands.specs.Firmwares.{IsFirmware}
@@ -28,11 +28,15 @@ use Rattle.planned_commands.specs.Answers as answers
 use Rattle.planned_commands.proofs.Answering.{both_good}
 use Rattle.who_commands.proofs.Answering.{who_done, good_help}
 use Rattle.who_commands.specs.Answers.{WhoAnswer}
+use Rattle.selftest.proofs.Answering.{selftest_ends}
 use Rattle.aces_cli.proofs.Inspectable.{good_watch, good_state}
 use Rattle.reach_commands.proofs.WellDone.{good_why}
 use Rattle.where_commands.proofs.Findable.{good_where}
-use Rattle.aces_cli.specs.Answer.{CompileAnswer, unplanned, compiled, AnswerToCompile, Answer}
-use Rattle.aces_cli.specs.Complete.{IsCompilable, IsBoundable, IsGood, run, bin, compile, check, source, list, stack, audit, tables, where_it_is, who, symbols, help, watch, state, why, IsDoneBy, GoodRequestsAreDone}
+use Rattle.explain_commands.specs.Plans.{ExplainPlanAnswer}
+use Rattle.explain_commands.proofs.Explainable.{good_explain}
+use Rattle.explain_commands.proofs.PlanAnswering.{explain_plan_done}
+use Rattle.aces_cli.specs.Answer.{CompileAnswer, unplanned, compiled, Answer}
+use Rattle.aces_cli.specs.Complete.{IsCompilable, IsBoundable, IsGood, run, bin, compile, check, source, list, stack, audit, tables, where_it_is, who, symbols, help, selftest, watch, state, why, explain, explain_plan, IsDoneBy, GoodRequestsAreDone}
 use Rattle.aces_cli.proofs.Runnable.{Laws, good_run, good_bin}
 use Rattle.aces_cli.proofs.Auditable.{good_audit, good_tables}
 use Rattle.aces_cli.proofs.SourceRunnable.{is_firmware, firmwares_are_one, good_check, good_source, is_faultless}
@@ -120,9 +124,13 @@ module _ (laws : Laws) where
     good_is_done r o (symbols firmware board policy bytes t h k g) a =
         both_good firmware board (SymbolsAnswer firmware board policy) (λ n. n ≡ 0) Has Exceeds one fits bytes t o h k (symbols_done firmware board policy bytes t o g) a
     good_is_done r o help a = good_help Has Exceeds o a
+    good_is_done r o (selftest seed size plan) a = selftest_ends laws.planned Has Exceeds seed size o plan a
     good_is_done r o (watch image tape steps address bytes t h k g) a = good_watch laws Has Exceeds one fits image tape steps address bytes t o h k g a
     good_is_done r o (state image tape steps bytes t h k g) a = good_state laws Has Exceeds one fits image tape steps bytes t o h k g a
     good_is_done r o (why firmware bytes w h g) a = good_why Has Exceeds one fits firmware bytes o h (λ f k. is_firmware laws.unique laws.faultless w bytes f g k) a
+    good_is_done r o (explain firmware bytes w h g) a = good_explain Has Exceeds one fits firmware bytes o h (λ f k. is_firmware laws.unique laws.faultless w bytes f g k) a
+    good_is_done r o (explain_plan firmware board policy bytes t h k g) a =
+        both_good firmware board (ExplainPlanAnswer firmware board policy) (λ n. n ≡ 0) Has Exceeds one fits bytes t o h k (explain_plan_done firmware board policy bytes t (λ p. plan_none firmware board policy bytes t p g) o) a
 
 pub held_is_one : (held : Held) (s : Origin) (a b : List ℕ) → Holds held s a → Holds held s b → a ≡ b
 held_is_one held s a b h k = let both : Some a ≡ Some b = sym h.there ∙ k.there in cc

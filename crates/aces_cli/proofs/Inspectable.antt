@@ -5,10 +5,10 @@ use Rattle.device_model.specs.Tape as tapes
 use Rattle.image.specs.Text.{IsText}
 use Rattle.aces_reports.specs.declared.failure.Fault.{Fault}
 use Rattle.aces_words.specs.Requests.{Origin, file_origin}
-use Rattle.commands.specs.Answers.{AnswerOnTape, image_large, tape_large, all_read}
+use Rattle.commands.specs.Answers.{image_large, tape_large, all_read}
 use Rattle.commands.specs.Contents.{IsNoImage, IsNoTape}
 use Rattle.commands.specs.Outcomes.{Outcome}
-use Rattle.run_inspection.specs.Answers.{WatchAnswer, StateAnswer, AnswerToWatch, AnswerToState}
+use Rattle.run_inspection.specs.Answers.{AnswerToWatch, AnswerToState}
 use Rattle.run_inspection.proofs.Inspectable.{watch_done, state_done}
 use Rattle.aces_cli.specs.Complete.{IsRunnable}
 use Rattle.aces_cli.proofs.Runnable.{Laws, is_image, is_tape}

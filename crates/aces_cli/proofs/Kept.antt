@@ -1,7 +1,7 @@
 -- An answer with a status other than 0 writes nothing.
 use Rattle.std.proofs.Common.{◌≡◌, ◌≢◌, ℕ, List, None, refl}
 use Rattle.aces_words.specs.declared.policy.Policy.{Policy}
-use Rattle.aces_words.specs.Requests.{Request, Run, Bin, Compile, Check, Source, Where, Listing, Stack, Audit, Tables, Who, Symbols, Help, Watch, State, Why, Origin}
+use Rattle.aces_words.specs.Requests.{Request, Run, Bin, Compile, Check, Source, Where, Listing, Stack, Audit, Tables, Who, Symbols, Help, Selftest, Watch, State, Why, Explain, ExplainPlan, Origin}
 use Rattle.commands.specs.Outcomes.{Outcome}
 use Rattle.commands.proofs.Answering.{run_writes_nothing, bin_writes_nothing}
 use Rattle.audit_commands.proofs.Answering.{audit_writes_nothing, tables_writes_nothing}
@@ -11,9 +11,13 @@ use Rattle.planned_commands.specs.Answers.{ListAnswer, StackAnswers, SymbolsAnsw
 use Rattle.planned_commands.proofs.Answering.{both_write_nothing, plan_writes_nothing, list_writes_nothing, stack_writes_nothing, symbols_write_nothing}
 use Rattle.who_commands.proofs.Answering.{who_writes_nothing, help_writes_nothing}
 use Rattle.who_commands.specs.Answers.{WhoAnswer}
+use Rattle.selftest.proofs.Answering.{selftest_writes_nothing}
 use Rattle.run_inspection.proofs.Answering.{watch_writes_nothing, state_writes_nothing}
 use Rattle.reach_commands.proofs.Answering.{why_writes_nothing}
 use Rattle.where_commands.proofs.Answering.{where_writes_nothing}
+use Rattle.explain_commands.specs.Plans.{ExplainPlanAnswer}
+use Rattle.explain_commands.proofs.Answering.{explain_writes_nothing}
+use Rattle.explain_commands.proofs.PlanAnswering.{explain_plan_writes_nothing}
 use Rattle.aces_cli.specs.Answer.{CompileAnswer, unplanned, compiled, AnswerToCompile, Answer}
 
 of_compile : (firmware board : List ℕ) (policy : Policy) (image bytes text : List ℕ) (o : Outcome) → CompileAnswer firmware board policy image bytes text o
@@ -42,6 +46,9 @@ module _ (Has : Origin → List ℕ → Type 0) (Exceeds : Origin → Type 0) wh
   writes_nothing (Who firmware board policy) o a n = both_write_nothing firmware board (WhoAnswer firmware board policy) (who_writes_nothing firmware board policy) Has Exceeds o a
   writes_nothing (Symbols firmware board policy) o a n = both_write_nothing firmware board (SymbolsAnswer firmware board policy) (symbols_write_nothing firmware board policy) Has Exceeds o a
   writes_nothing Help o a n = help_writes_nothing Has Exceeds o a
+  writes_nothing (Selftest seed size) o a n = selftest_writes_nothing Has Exceeds seed size o a
   writes_nothing (Watch image tape steps address) o a n = watch_writes_nothing Has Exceeds image tape steps address o a
   writes_nothing (State image tape steps) o a n = state_writes_nothing Has Exceeds image tape steps o a
   writes_nothing (Why firmware) o a n = why_writes_nothing Has Exceeds firmware o a
+  writes_nothing (Explain firmware) o a n = explain_writes_nothing Has Exceeds firmware o a
+  writes_nothing (ExplainPlan firmware board policy) o a n = both_write_nothing firmware board (ExplainPlanAnswer firmware board policy) (explain_plan_writes_nothing firmware board policy) Has Exceeds o a

@@ -2,7 +2,7 @@
 use Rattle.std.proofs.Common.{◌≡◌, ℕ, ◌<◌, ◌⊎◌, inl, inr, List, [], ◌∷◌, true, false, Option, Result, Ok, Err, IsTrue, IsNone, refl, ap, sym, ◌∙◌, subst, arith}
 use Rattle.outside.specs.Counts.{Rose, Stayed}
 use Rattle.aces_reports.specs.declared.failure.Done.{Done}
-use Rattle.aces_reports.specs.declared.failure.Done.TheVariants.{Completed, RunFailed, Negative}
+use Rattle.aces_reports.specs.declared.failure.Done.TheVariants.{Completed, RunFailed, Negative, FaultTold, NoRoomTold}
 use Rattle.aces_reports.specs.declared.failure.Failure.{Failure}
 use Rattle.aces_reports.specs.declared.failure.Failure.TheVariants.{Refused, PastLimit, Denied, NoRoom, Unread, Unwritten, Unprinted, NoMemory}
 use Rattle.aces_reports.specs.Ends.{status_of}
@@ -12,7 +12,7 @@ use Rattle.commands.specs.Outcomes.{Outcome, refused, past_limit, denied, no_roo
 use Rattle.aces_cli.specs.Answer.{Answer}
 use Rattle.commands.specs.Effects.{World, Does, IsUnread}
 use Rattle.aces_cli.specs.Endings.{IsPlain}
-use Rattle.aces_cli.specs.Complete.{NoneFailed, AreThere, HasFiles, IsGood, run, bin, compile, check, source, list, stack, audit, tables, where_it_is, who, symbols, help, watch, state, why, IsDoneBy, GoodRequestsAreDone}
+use Rattle.aces_cli.specs.Complete.{NoneFailed, AreThere, HasFiles, IsGood, run, bin, compile, check, source, list, stack, audit, tables, where_it_is, who, symbols, help, selftest, watch, state, why, explain, explain_plan, IsDoneBy, GoodRequestsAreDone}
 use Rattle.aces_words.proofs.Requests.{requests_are_one}
 
 pub is_plain : (s : ℕ) → (s < 4) ⊎ (6 < s) → IsPlain s
@@ -54,9 +54,12 @@ good_is_there held r (tables image bytes i h g) = ((bytes, h.there), tt)
 good_is_there held r (who firmware board policy bytes t h k g) = ((bytes, h.there), ((t, k.there), tt))
 good_is_there held r (symbols firmware board policy bytes t h k g) = ((bytes, h.there), ((t, k.there), tt))
 good_is_there held r help = tt
+good_is_there held r (selftest seed size plan) = tt
 good_is_there held r (watch image tape steps address bytes t h k g) = ((bytes, h.there), ((t, k.there), tt))
 good_is_there held r (state image tape steps bytes t h k g) = ((bytes, h.there), ((t, k.there), tt))
 good_is_there held r (why firmware bytes w h g) = ((bytes, h.there), tt)
+good_is_there held r (explain firmware bytes w h g) = ((bytes, h.there), tt)
+good_is_there held r (explain_plan firmware board policy bytes t h k g) = ((bytes, h.there), ((t, k.there), tt))
 
 -- an outcome that the request has, with a plain status
 record IsSettled (A : Outcome → Type 0) (s : ℕ) : Type 0 where
@@ -73,6 +76,8 @@ module _ (A : Outcome → Type 0) (r : Request) (old new : World) (told : IsTrue
   settles (Ok Completed) d = inl (record { outcome = d.outcome; answer = d.answer; ended = d.ended; plain = is_plain 0 (inl (omega arith)) })
   settles (Ok RunFailed) d = inl (record { outcome = d.outcome; answer = d.answer; ended = d.ended; plain = is_plain 7 (inr (omega arith)) })
   settles (Ok Negative) d = inl (record { outcome = d.outcome; answer = d.answer; ended = d.ended; plain = is_plain 8 (inr (omega arith)) })
+  settles (Ok FaultTold) d = inl (record { outcome = d.outcome; answer = d.answer; ended = d.ended; plain = is_plain 1 (inl (omega arith)) })
+  settles (Ok NoRoomTold) d = inl (record { outcome = d.outcome; answer = d.answer; ended = d.ended; plain = is_plain 3 (inl (omega arith)) })
   settles (Err (Refused name f)) d = inl (record { outcome = refused name.now f; answer = d.answer; ended = refl; plain = is_plain 1 (inl (omega arith)) })
   settles (Err (PastLimit which count)) d = inl (record { outcome = past_limit which count; answer = d.answer; ended = refl; plain = is_plain 1 (inl (omega arith)) })
   settles (Err (Denied said)) d = inl (record { outcome = denied said; answer = d.answer; ended = refl; plain = is_plain 3 (inl (omega arith)) })

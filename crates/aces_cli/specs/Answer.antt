@@ -1,7 +1,7 @@
 -- What a call answers where no call on the outside fails and memory does not run out: the status, what is printed, the
 -- line that tells of a fault, and what is written.
 use Rattle.std.specs.Prelude.{ℕ, List, [], Some}
-use Rattle.aces_words.specs.Requests.{Request, Run, Bin, Compile, Check, Source, Where, Listing, Stack, Audit, Tables, Who, Symbols, Help, Watch, State, Why, Asks, IsUsage, Origin}
+use Rattle.aces_words.specs.Requests.{Request, Run, Bin, Compile, Check, Source, Where, Listing, Stack, Audit, Tables, Who, Symbols, Help, Selftest, Watch, State, Why, Explain, ExplainPlan, Asks, IsUsage, Origin}
 use Rattle.ir_model.specs.Plain.{PlainFirmware}
 use Rattle.aces_cli.specs.Compiled.{IsImageText}
 use Rattle.aces_words.specs.declared.policy.Policy.{Policy}
@@ -16,6 +16,9 @@ use Rattle.who_commands.specs.Answers.{AnswerToWho, AnswerToHelp}
 use Rattle.run_inspection.specs.Answers.{AnswerToWatch, AnswerToState}
 use Rattle.reach_commands.specs.Answers.{AnswerToWhy}
 use Rattle.where_commands.specs.Answers.{AnswerToWhere}
+use Rattle.selftest.specs.Answers.{AnswerToSelftest}
+use Rattle.explain_commands.specs.Answers.{AnswerToExplain}
+use Rattle.explain_commands.specs.Plans.{AnswerToExplainPlan}
 use Rattle.planned_commands.specs.Both.{AnswerByBoth}
 use Rattle.planned_commands.specs.PlanAnswer.{PlanAnswer}
 use Rattle.planned_commands.specs.Answers.{AnswerToList, AnswerToStack, AnswerToSymbols}
@@ -45,9 +48,12 @@ Answer (Tables image) = AnswerToTables image
 Answer (Who firmware board policy) = AnswerToWho firmware board policy
 Answer (Symbols firmware board policy) = AnswerToSymbols firmware board policy
 Answer Help = AnswerToHelp
+Answer (Selftest seed size) = AnswerToSelftest seed size
 Answer (Watch image tape steps address) = AnswerToWatch image tape steps address
 Answer (State image tape steps) = AnswerToState image tape steps
 Answer (Why firmware) = AnswerToWhy firmware
+Answer (Explain firmware) = AnswerToExplain firmware
+Answer (ExplainPlan firmware board policy) = AnswerToExplainPlan firmware board policy
 
 -- the answer to any words
 pub data Answers (Has : Origin → List ℕ → Type 0) (Exceeds : Origin → Type 0) (words : List (List ℕ)) : Outcome → Type 0 where

@@ -11,11 +11,14 @@ use Rattle.board_text.specs.Reading as boards
 use Rattle.firmware_plans.specs.Plannable.{IsPlannable}
 use Rattle.firmware_stacks.specs.Limited.{KeepsLimitsBy}
 use Rattle.aces_words.specs.declared.policy.Policy.{Policy}
-use Rattle.aces_words.specs.Requests.{Request, Run, Bin, Compile, Check, Source, Where, Listing, Stack, Audit, Tables, Who, Symbols, Help, Watch, State, Why, Asks, Origin, origins, file_origin, firmware_origin}
+use Rattle.aces_words.specs.declared.policy.Policy.TheVariants.{Filename}
+use Rattle.aces_words.specs.Requests.{Request, Run, Bin, Compile, Check, Source, Where, Listing, Stack, Audit, Tables, Who, Symbols, Help, Selftest, Watch, State, Why, Explain, ExplainPlan, Asks, Origin, origins, file_origin, firmware_origin}
 use Rattle.commands.specs.Known.{Held, Holds, Exceeds}
 use Rattle.commands.specs.Outcomes.{Outcome}
 use Rattle.firmware_commands.specs.Firmwares.{IsFirmware}
 use Rattle.commands.specs.Effects.{World}
+use Rattle.ir_generator.specs.Made.{made}
+use Rattle.selftest.specs.TestBoard.{test_board}
 use Rattle.aces_cli.specs.Answer.{Answer}
 
 -- no call on files or on what is printed failed
@@ -61,7 +64,7 @@ pub record IsBoundable (policy : Policy) (bytes text : List ℕ) : Type 0 where
   pub is_board : boards.IsRead text board
   pub limits : KeepsLimitsBy policy firmware board
 
--- what the files of a request hold is what it takes: `Has` says which bytes a source within its limit holds
+-- what the files of a request hold is what it takes, and a self-test, which reads none, has a plan on its board: `Has` says which bytes a source within its limit holds
 module _ (Has : Origin → List ℕ → Type 0) where
   pub data IsGood : Request → Type 0 where
     run : (image tape : List ℕ) (steps : ℕ) (bytes text : List ℕ) → Has (file_origin image) bytes → Has (file_origin tape) text →
@@ -85,14 +88,18 @@ module _ (Has : Origin → List ℕ → Type 0) where
     symbols : (firmware board : List ℕ) (policy : Policy) (bytes text : List ℕ) → Has (firmware_origin firmware) bytes → Has (file_origin board) text →
         IsCompilable policy bytes text → IsGood (Symbols firmware board policy)
     help : IsGood Help
+    selftest : (seed size : ℕ) → IsPlannable Filename (made seed size) test_board → IsGood (Selftest seed size)
     watch : (image tape : List ℕ) (steps : ℕ) (address : List ℕ) (bytes text : List ℕ) → Has (file_origin image) bytes → Has (file_origin tape) text →
         IsRunnable bytes text → IsGood (Watch image tape steps address)
     state : (image tape : List ℕ) (steps : ℕ) (bytes text : List ℕ) → Has (file_origin image) bytes → Has (file_origin tape) text →
         IsRunnable bytes text → IsGood (State image tape steps)
     why : (firmware : List ℕ) (bytes : List ℕ) (w : PlainFirmware) → Has (firmware_origin firmware) bytes → IsFirmware w bytes → IsGood (Why firmware)
+    explain : (firmware : List ℕ) (bytes : List ℕ) (w : PlainFirmware) → Has (firmware_origin firmware) bytes → IsFirmware w bytes → IsGood (Explain firmware)
+    explain_plan : (firmware board : List ℕ) (policy : Policy) (bytes text : List ℕ) → Has (firmware_origin firmware) bytes → Has (file_origin board) text →
+        IsCompilable policy bytes text → IsGood (ExplainPlan firmware board policy)
 
--- the status says that all was done: 0, and where a run was asked for also 7, which says that it ended badly, and where a bound also 8, which
--- says that there is none or that the stack is smaller; so where an image was to be checked, which says that it fails
+-- the status says that all was done: 0, and where a run was asked for also 7, which says that it ended badly, or that a self-test differs, and
+-- where a bound also 8, which says that there is none or that the stack is smaller; so where an image was to be checked, which says that it fails
 abbrev pub IsDoneBy : Request → (status : ℕ) → Type 0
 IsDoneBy (Run image tape steps) status = (status ≡ 0) ⊎ (status ≡ 7)
 IsDoneBy (Bin image file) status = status ≡ 0
@@ -107,9 +114,12 @@ IsDoneBy (Tables image) status = (status ≡ 0) ⊎ (status ≡ 8)
 IsDoneBy (Who firmware board policy) status = status ≡ 0
 IsDoneBy (Symbols firmware board policy) status = status ≡ 0
 IsDoneBy Help status = status ≡ 0
+IsDoneBy (Selftest seed size) status = (status ≡ 0) ⊎ (status ≡ 7)
 IsDoneBy (Watch image tape steps address) status = (status ≡ 0) ⊎ (status ≡ 7)
 IsDoneBy (State image tape steps) status = status ≡ 0
 IsDoneBy (Why firmware) status = status ≡ 0
+IsDoneBy (Explain firmware) status = status ≡ 0
+IsDoneBy (ExplainPlan firmware board policy) status = status ≡ 0
 
 -- a good request has no outcome but one that says so
 abbrev pub GoodRequestsAreDone : Type 0

@@ -26,10 +26,11 @@ use std::alloc::Global;
 /// Carries out what the words behind the program's name ask for, and answers the exit status: 0 done, 1 a fault in
 /// the content of a file or a limit of what is compiled that a firmware passes, 2 words that are no request, 3 a board without
 /// room for a firmware, or that denies an address which it reaches, 4 a file that was not read, 5 a file or output that was not written,
-/// 6 want of memory, 7 a run that ended by a stop, by a halt other than 0, or by a fault of the source,
+/// 6 want of memory, 7 a run that ended by a stop, by a halt other than 0, or by a fault of the source, or a self-test that differs,
 /// 8 a no: a stack for which there is no bound, or a smaller stack, or an image that fails a check.
 ///
-/// Where the status is neither 0, 7 nor 8, one line on `err` tells why. A fault of `err` changes no status.
+/// Where the status is neither 0, 7 nor 8, one line on `err` tells why, but for what `explain` prints, which then tells it. A fault of `err` changes
+/// no status.
 pub fn aces<F: Files, O: Sink, E: Sink>(
     alloc: Global,
     words: &[String],
@@ -42,7 +43,7 @@ pub fn aces<F: Files, O: Sink, E: Sink>(
     // The call did what the words ask, of the contents where these are told, and else of the bytes that its own calls gave. Where a file was
     // not read, the last of its calls was to read it, and failed. So the
     // status is 3 exactly where a plan was asked for, what it is made of is read, no limit is passed, and the board denies an address that
-    // the firmware reaches, or a memory of it has no room (`PlanAnswer`).
+    // the firmware reaches, or a memory of it has no room (`PlanAnswer`, and `IsPlanTold` of `explain`).
     ensures answer { IsTrue F.told → IsPlain result →
         IsAnswered (Holds (F.held files.old)) (Exceeds (F.held files.old)) (map string_bytes words.now)
         (world F.Files files.old (sink O.Sink out.old))

@@ -11,11 +11,13 @@ use aces_reports::{Done, Failure};
 use aces_words::{Command, FirmwareCommand, ImageCommand, PlanCommand};
 use audit_commands::{auditing, telling};
 use commands::{bin, run};
+use explain_commands::{explaining, planned};
 use firmware_commands::{check, source};
 use outside::{Files, Sink};
 use planned_commands::{list, stack, symbolizing};
 use reach_commands::commanding;
 use run_inspection::{holding, watching};
+use selftest::printing;
 use std::alloc::Global;
 use where_commands::locating;
 use who_commands::{helping, owning};
@@ -35,6 +37,7 @@ pub(crate) fn perform<'a, F: Files, O: Sink>(
         Command::Firmware(command) => on_firmware(alloc, command, files, out),
         Command::Plan(command) => on_plan(alloc, command, files, out),
         Command::Help => helping::print_help(files, out),
+        Command::Selftest { seed, size } => printing::print_selftest(alloc, seed, size, files, out),
     }
 }
 
@@ -78,6 +81,7 @@ fn on_firmware<'a, F: Files, O: Sink>(
     match command {
         FirmwareCommand::Check { firmware } => check::check(alloc, firmware, files, out),
         FirmwareCommand::Why { firmware } => commanding::why(alloc, firmware, files, out),
+        FirmwareCommand::Explain { firmware } => explaining::explain(alloc, firmware, files, out),
         FirmwareCommand::Source {
             firmware,
             policy,
@@ -130,5 +134,10 @@ fn on_plan<'a, F: Files, O: Sink>(
             board,
             policy,
         } => symbolizing::symbols(alloc, firmware, board, policy, files, out),
+        PlanCommand::Explain {
+            firmware,
+            board,
+            policy,
+        } => planned::explain_plan(alloc, firmware, board, policy, files, out),
     }
 }

@@ -1,10 +1,10 @@
 -- Words ask for one request.
 use Rattle.std.specs.Fmt.{decimal}
 use Rattle.std.proofs.lemmas.Fmt.{decimal_injective}
-use Rattle.std.proofs.Common.{◌≡◌, ℕ, ◌<◌, ◌≤◌, ◌^◌, ◌+◌, ◌*◌, List, [], ◌∷◌, length, get_or, map, refl, ap, sym, ◌∙◌, arith, nat_eq, if◌then◌else◌, codes}
+use Rattle.std.proofs.Common.{◌≡◌, ℕ, ◌<◌, ◌^◌, ◌+◌, ◌*◌, List, [], ◌∷◌, length, get_or, map, refl, ap, sym, ◌∙◌, arith, nat_eq, if◌then◌else◌}
 use Rattle.aces_words.specs.declared.policy.Policy.{Policy}
 use Rattle.aces_words.specs.declared.policy.Policy.TheVariants.{Filename, Optimized, Peripheral}
-use Rattle.aces_words.specs.Requests.{Request, Run, Bin, Watch, State, Audit, Tables, Check, Why, Source, Where, Compile, Listing, Stack, Who, Symbols, Help, policy_word, words_of, IsWithin, Asks}
+use Rattle.aces_words.specs.Requests.{Request, Run, Bin, Watch, State, Audit, Tables, Check, Why, Source, Where, Compile, Listing, Stack, Who, Symbols, Explain, ExplainPlan, Help, Selftest, policy_word, words_of, IsWithin, Asks}
 
 policies_are_one : (p q : Policy) → policy_word p ≡ policy_word q → p ≡ q
 policies_are_one Filename Filename h = refl
@@ -82,7 +82,10 @@ fields_of (Listing firmware board policy) = Text firmware ∷ Text board ∷ By 
 fields_of (Stack firmware board policy) = Text firmware ∷ Text board ∷ By policy ∷ []
 fields_of (Who firmware board policy) = Text firmware ∷ Text board ∷ By policy ∷ []
 fields_of (Symbols firmware board policy) = Text firmware ∷ Text board ∷ By policy ∷ []
+fields_of (Explain firmware) = Text firmware ∷ []
+fields_of (ExplainPlan firmware board policy) = Text firmware ∷ Text board ∷ By policy ∷ []
 fields_of Help = []
+fields_of (Selftest seed size) = Count seed ∷ Count size ∷ []
 
 -- the number of words, with the first and the fourth letter of a command's word, tells which it is
 abbrev code_of : List (List ℕ) → ℕ
@@ -105,7 +108,10 @@ code (Listing firmware board policy) = 222115
 code (Stack firmware board policy) = 236315
 code (Who firmware board policy) = 243715
 code (Symbols firmware board policy) = 236307
+code (Explain firmware) = 207713
+code (ExplainPlan firmware board policy) = 207715
 code Help = 213888
+code (Selftest seed size) = 236338
 
 has_code : (r : Request) → code_of (words_of r) ≡ code r
 has_code (Run image tape steps) = refl
@@ -123,7 +129,10 @@ has_code (Listing firmware board policy) = refl
 has_code (Stack firmware board policy) = refl
 has_code (Who firmware board policy) = refl
 has_code (Symbols firmware board policy) = refl
+has_code (Explain firmware) = refl
+has_code (ExplainPlan firmware board policy) = refl
 has_code Help = refl
+has_code (Selftest seed size) = refl
 
 -- the words behind the command's
 abbrev behind : List (List ℕ) → List (List ℕ)
@@ -146,7 +155,10 @@ has_words (Listing firmware board policy) = refl
 has_words (Stack firmware board policy) = refl
 has_words (Who firmware board policy) = refl
 has_words (Symbols firmware board policy) = refl
+has_words (Explain firmware) = refl
+has_words (ExplainPlan firmware board policy) = refl
 has_words Help = refl
+has_words (Selftest seed size) = refl
 
 abbrev kinds : (code : ℕ) → List ℕ
 kinds c =
@@ -165,6 +177,8 @@ kinds c =
     if nat_eq c 236315 then 0 ∷ 0 ∷ 1 ∷ [] else
     if nat_eq c 243715 then 0 ∷ 0 ∷ 1 ∷ [] else
     if nat_eq c 236307 then 0 ∷ 0 ∷ 1 ∷ [] else
+    if nat_eq c 207713 then 0 ∷ [] else
+    if nat_eq c 207715 then 0 ∷ 0 ∷ 1 ∷ [] else
     if nat_eq c 236338 then 2 ∷ 2 ∷ [] else
     if nat_eq c 213888 then [] else
     []
@@ -185,7 +199,10 @@ has_kinds (Listing firmware board policy) = refl
 has_kinds (Stack firmware board policy) = refl
 has_kinds (Who firmware board policy) = refl
 has_kinds (Symbols firmware board policy) = refl
+has_kinds (Explain firmware) = refl
+has_kinds (ExplainPlan firmware board policy) = refl
 has_kinds Help = refl
+has_kinds (Selftest seed size) = refl
 
 -- the request of a code with its fields
 abbrev text : ℕ → List Field → List ℕ
@@ -214,6 +231,9 @@ request c fs =
     if nat_eq c 236315 then Stack (text 0 fs) (text 1 fs) (policy 2 fs) else
     if nat_eq c 243715 then Who (text 0 fs) (text 1 fs) (policy 2 fs) else
     if nat_eq c 236307 then Symbols (text 0 fs) (text 1 fs) (policy 2 fs) else
+    if nat_eq c 207713 then Explain (text 0 fs) else
+    if nat_eq c 207715 then ExplainPlan (text 0 fs) (text 1 fs) (policy 2 fs) else
+    if nat_eq c 236338 then Selftest (count 0 fs) (count 1 fs) else
     Help
 
 is_request : (r : Request) → request (code r) (fields_of r) ≡ r
@@ -232,7 +252,10 @@ is_request (Listing firmware board policy) = refl
 is_request (Stack firmware board policy) = refl
 is_request (Who firmware board policy) = refl
 is_request (Symbols firmware board policy) = refl
+is_request (Explain firmware) = refl
+is_request (ExplainPlan firmware board policy) = refl
 is_request Help = refl
+is_request (Selftest seed size) = refl
 
 fields_fit : (r : Request) → IsWithin r → all_fit (fields_of r)
 fields_fit (Run image tape steps) h = (tt, (tt, (h, tt)))
@@ -250,7 +273,10 @@ fields_fit (Listing firmware board policy) h = (tt, (tt, (tt, tt)))
 fields_fit (Stack firmware board policy) h = (tt, (tt, (tt, tt)))
 fields_fit (Who firmware board policy) h = (tt, (tt, (tt, tt)))
 fields_fit (Symbols firmware board policy) h = (tt, (tt, (tt, tt)))
+fields_fit (Explain firmware) h = (tt, tt)
+fields_fit (ExplainPlan firmware board policy) h = (tt, (tt, (tt, tt)))
 fields_fit Help h = tt
+fields_fit (Selftest seed size) h = (h.0, (omega (arith, h.2), tt))
 
 pub requests_are_one : (words : List (List ℕ)) (r s : Request) → Asks words r → Asks words s → r ≡ s
 requests_are_one words r s h k =

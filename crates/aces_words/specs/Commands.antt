@@ -10,7 +10,7 @@ use Rattle.aces_words.specs.declared.images.ImageCommand.{ImageCommand}
 use Rattle.aces_words.specs.declared.images.ImageCommand.TheVariants as images
 use Rattle.aces_words.specs.declared.plans.PlanCommand.{PlanCommand}
 use Rattle.aces_words.specs.declared.plans.PlanCommand.TheVariants as plans
-use Rattle.aces_words.specs.Requests.{Request, Run, Bin, Watch, State, Audit, Tables, Check, Why, Source, Where, Compile, Listing, Stack, Who, Symbols, Help, Asks}
+use Rattle.aces_words.specs.Requests.{Request, Run, Bin, Watch, State, Audit, Tables, Check, Why, Source, Where, Compile, Listing, Stack, Who, Symbols, Explain, ExplainPlan, Help, Selftest, Asks}
 
 abbrev pub image_request : ImageCommand → Request
 image_request (images.Run image tape steps) = Run image.now tape.now steps
@@ -25,6 +25,7 @@ firmware_request (firmwares.Check firmware) = Check firmware.now
 firmware_request (firmwares.Why firmware) = Why firmware.now
 firmware_request (firmwares.Source firmware policy tape steps) = Source firmware.now policy tape.now steps
 firmware_request (firmwares.Where firmware policy tape steps) = Where firmware.now policy tape.now steps
+firmware_request (firmwares.Explain firmware) = Explain firmware.now
 
 abbrev pub plan_request : PlanCommand → Request
 plan_request (plans.Compile firmware board policy image) = Compile firmware.now board.now policy image.now
@@ -32,12 +33,14 @@ plan_request (plans.List firmware board policy) = Listing firmware.now board.now
 plan_request (plans.Stack firmware board policy) = Stack firmware.now board.now policy
 plan_request (plans.Who firmware board policy) = Who firmware.now board.now policy
 plan_request (plans.Symbols firmware board policy) = Symbols firmware.now board.now policy
+plan_request (plans.Explain firmware board policy) = ExplainPlan firmware.now board.now policy
 
 abbrev pub request_of : Command → Request
 request_of (commands.Image c) = image_request c
 request_of (commands.Firmware c) = firmware_request c
 request_of (commands.Plan c) = plan_request c
 request_of commands.Help = Help
+request_of (commands.Selftest seed size) = Selftest seed size
 
 -- the words are those of no request that takes an image
 pub record AsksOfNoImage (words : List (List ℕ)) : Type 0 where
@@ -54,6 +57,7 @@ pub record AsksOfNoFirmware (words : List (List ℕ)) : Type 0 where
   pub no_why : (firmware : List ℕ) → Asks words (Why firmware) → ⊥
   pub no_source : (firmware : List ℕ) (policy : Policy) (tape : List ℕ) (steps : ℕ) → Asks words (Source firmware policy tape steps) → ⊥
   pub no_where : (firmware : List ℕ) (policy : Policy) (tape : List ℕ) (steps : ℕ) → Asks words (Where firmware policy tape steps) → ⊥
+  pub no_explain : (firmware : List ℕ) → Asks words (Explain firmware) → ⊥
 
 -- the words are those of no request that takes a firmware and a board
 pub record AsksOfNoPlan (words : List (List ℕ)) : Type 0 where
@@ -62,3 +66,4 @@ pub record AsksOfNoPlan (words : List (List ℕ)) : Type 0 where
   pub no_stack : (firmware board : List ℕ) (policy : Policy) → Asks words (Stack firmware board policy) → ⊥
   pub no_who : (firmware board : List ℕ) (policy : Policy) → Asks words (Who firmware board policy) → ⊥
   pub no_symbols : (firmware board : List ℕ) (policy : Policy) → Asks words (Symbols firmware board policy) → ⊥
+  pub no_explain : (firmware board : List ℕ) (policy : Policy) → Asks words (ExplainPlan firmware board policy) → ⊥

@@ -1,5 +1,5 @@
 -- What the words behind the program's name ask for.
-use Rattle.std.specs.Prelude.{◌≡◌, ℕ, ◌^◌, ◌<◌, List, [], ◌∷◌, Option, Some, None, codes}
+use Rattle.std.specs.Prelude.{◌≡◌, ℕ, ◌^◌, ◌<◌, ◌≤◌, List, [], ◌∷◌, Option, Some, None, codes}
 use Rattle.std.specs.Fmt.{decimal}
 use Rattle.numerals.specs.Numerals.{magnitude, positive}
 use Rattle.numerals.specs.declared.Numeral.{Numeral}
@@ -45,8 +45,14 @@ pub data Request : Type 0 where
   Who : (firmware board : List ℕ) → Policy → Request
   -- tell what lies where in the image of a firmware on a board, the compartments being those of a policy
   Symbols : (firmware board : List ℕ) → Policy → Request
+  -- tell why a firmware is refused and what to do, or that it is not
+  Explain : (firmware : List ℕ) → Request
+  -- tell why a firmware has no plan for a board by a policy and what to do, or that it has one
+  ExplainPlan : (firmware board : List ℕ) → Policy → Request
   -- tell the commands with their words, and the statuses
   Help : Request
+  -- compile the firmware that is made of a seed and a size, and compare a run of its image with one of its source
+  Selftest : (seed size : ℕ) → Request
 
 -- the words of a request; a number is written by its decimal digits, without a leading zero
 abbrev pub words_of : Request → List (List ℕ)
@@ -65,7 +71,10 @@ words_of (Listing firmware board policy) = codes "list" ∷ firmware ∷ board �
 words_of (Stack firmware board policy) = codes "stack" ∷ firmware ∷ board ∷ policy_word policy ∷ []
 words_of (Who firmware board policy) = codes "who" ∷ firmware ∷ board ∷ policy_word policy ∷ []
 words_of (Symbols firmware board policy) = codes "symbols" ∷ firmware ∷ board ∷ policy_word policy ∷ []
+words_of (Explain firmware) = codes "explain" ∷ firmware ∷ []
+words_of (ExplainPlan firmware board policy) = codes "explain" ∷ firmware ∷ board ∷ policy_word policy ∷ []
 words_of Help = codes "help" ∷ []
+words_of (Selftest seed size) = codes "selftest" ∷ decimal seed ∷ decimal size ∷ []
 
 -- the address that a word writes: a number as firmware texts have it, without a sign, of at most 32 bits
 abbrev pub value_of : Numeral → Option ℕ
@@ -79,7 +88,7 @@ address_of word = value_of (positive (magnitude word))
 abbrev pub IsAddress : List ℕ → Type 0
 IsAddress word = (n : ℕ) × (address_of word ≡ Some n)
 
--- its numbers have at most 32 bits
+-- its numbers have at most 32 bits, and a size is from 1 to 200
 abbrev pub IsWithin : Request → Type 0
 IsWithin (Run image tape steps) = steps < 2 ^ 32
 IsWithin (Bin image file) = Unit {0}
@@ -96,7 +105,10 @@ IsWithin (Listing firmware board policy) = Unit {0}
 IsWithin (Stack firmware board policy) = Unit {0}
 IsWithin (Who firmware board policy) = Unit {0}
 IsWithin (Symbols firmware board policy) = Unit {0}
+IsWithin (Explain firmware) = Unit {0}
+IsWithin (ExplainPlan firmware board policy) = Unit {0}
 IsWithin Help = Unit {0}
+IsWithin (Selftest seed size) = (seed < 2 ^ 32) × (1 ≤ size) × (size ≤ 200)
 
 -- these words are those of the request
 pub record Asks (words : List (List ℕ)) (request : Request) : Type 0 where
@@ -143,7 +155,10 @@ origins (Listing firmware board policy) = firmware_origin firmware ∷ file_orig
 origins (Stack firmware board policy) = firmware_origin firmware ∷ file_origin board ∷ []
 origins (Who firmware board policy) = firmware_origin firmware ∷ file_origin board ∷ []
 origins (Symbols firmware board policy) = firmware_origin firmware ∷ file_origin board ∷ []
+origins (Explain firmware) = firmware_origin firmware ∷ []
+origins (ExplainPlan firmware board policy) = firmware_origin firmware ∷ file_origin board ∷ []
 origins Help = []
+origins (Selftest seed size) = []
 
 -- the file that it writes
 abbrev pub target : Request → Option (List ℕ)
@@ -162,4 +177,7 @@ target (Listing firmware board policy) = None
 target (Stack firmware board policy) = None
 target (Who firmware board policy) = None
 target (Symbols firmware board policy) = None
+target (Explain firmware) = None
+target (ExplainPlan firmware board policy) = None
 target Help = None
+target (Selftest seed size) = None

@@ -2,7 +2,7 @@
 
 ghost use Rattle.std.specs.Prelude.{◌≡◌, ◌<◌, ◌^◌, ℕ, List, map, string_bytes, IfSome, IfNone};
 ghost use Rattle.aces_words.specs.declared.policy.Policy.{Policy as ThePolicy};
-ghost use Rattle.aces_words.specs.Requests.{Check, Why, Source, Where, Asks};
+ghost use Rattle.aces_words.specs.Requests.{Check, Why, Source, Where, Explain, Asks};
 ghost use Rattle.aces_words.specs.Commands.{firmware_request, AsksOfNoFirmware};
 
 use crate::numbers::number;
@@ -33,6 +33,10 @@ pub enum FirmwareCommand<'a> {
         tape: &'a str,
         steps: u32,
     },
+    /// Tells why a firmware is refused and what to do, or that it is not.
+    Explain {
+        firmware: &'a str,
+    },
 }
 
 /// The command that takes a firmware and no board that these words ask for, if they ask for one.
@@ -49,7 +53,10 @@ pub(crate) fn firmware_command(words: &[String]) -> Option<FirmwareCommand<'_>>
     if let Some(command) = source_of(words) {
         return Some(command);
     }
-    where_of(words)
+    if let Some(command) = where_of(words) {
+        return Some(command);
+    }
+    explain_of(words)
 }
 
 /// `check FIRMWARE`, if the words are of that form.
@@ -116,6 +123,21 @@ fn where_of(words: &[String]) -> Option<FirmwareCommand<'_>>
                 policy,
                 tape: tape.as_str(),
                 steps,
+            })
+        }
+        _ => None,
+    }
+}
+
+/// `explain FIRMWARE`, if the words are of that form.
+fn explain_of(words: &[String]) -> Option<FirmwareCommand<'_>>
+    ensures command { IfSome result (λ c. Asks (map string_bytes words.now) (firmware_request c)) }
+    ensures none { IfNone result ((firmware : List ℕ) → Asks (map string_bytes words.now) (Explain firmware) → ⊥) }
+{
+    match words {
+        [name, firmware] if name.as_str() == "explain" => {
+            Some(FirmwareCommand::Explain {
+                firmware: firmware.as_str(),
             })
         }
         _ => None,

@@ -22,6 +22,19 @@ pub(crate) fn number(word: &str) -> Option<u32>
     }
 }
 
+/// The number from 1 to 200 whose decimal digits these are, without a leading zero: the size of what is made for a test.
+pub(crate) fn test_size(word: &str) -> Option<u32>
+    ensures size { IfSome result (λ n. decimal n ≡ word.now) }
+    ensures least { IfSome result (λ n. 1 ≤ n) }
+    ensures most { IfSome result (λ n. n ≤ 200) }
+    ensures none { IfNone result ((n : ℕ) → 1 ≤ n → n ≤ 200 → decimal n ≡ word.now → ⊥) }
+{
+    match number(word)? {
+        size @ 1..=200 => Some(size),
+        _ => None,
+    }
+}
+
 /// Whether these bytes are the decimal digits of a number.
 fn spells(digits: &[u8], number: u32) -> bool
     ensures { IsTrue result ↔ (digits.now ≡ decimal number) }

@@ -2,7 +2,7 @@
 
 ghost use Rattle.std.specs.Prelude.{◌≡◌, ◌<◌, ◌^◌, ℕ, List, map, string_bytes, IfSome, IfNone};
 ghost use Rattle.aces_words.specs.declared.policy.Policy.{Policy as ThePolicy};
-ghost use Rattle.aces_words.specs.Requests.{Compile, Listing, Stack, Who, Symbols, Asks};
+ghost use Rattle.aces_words.specs.Requests.{Compile, Listing, Stack, Who, Symbols, ExplainPlan, Asks};
 ghost use Rattle.aces_words.specs.Commands.{plan_request, AsksOfNoPlan};
 
 use crate::policy::Policy;
@@ -41,6 +41,12 @@ pub enum PlanCommand<'a> {
         board: &'a str,
         policy: Policy,
     },
+    /// Tells why a firmware has no plan for a board by a policy and what to do, or that it has one.
+    Explain {
+        firmware: &'a str,
+        board: &'a str,
+        policy: Policy,
+    },
 }
 
 /// The command that takes a firmware and a board that these words ask for, if they ask for one.
@@ -60,7 +66,10 @@ pub(crate) fn plan_command(words: &[String]) -> Option<PlanCommand<'_>>
     if let Some(command) = who_of(words) {
         return Some(command);
     }
-    symbols_of(words)
+    if let Some(command) = symbols_of(words) {
+        return Some(command);
+    }
+    explain_of(words)
 }
 
 /// `compile FIRMWARE BOARD POLICY IMAGE`, if the words are of that form.
@@ -145,6 +154,24 @@ fn symbols_of(words: &[String]) -> Option<PlanCommand<'_>>
         [name, firmware, board, policy] if name.as_str() == "symbols" => {
             let policy = Policy::of_word(policy.as_str())?;
             Some(PlanCommand::Symbols {
+                firmware: firmware.as_str(),
+                board: board.as_str(),
+                policy,
+            })
+        }
+        _ => None,
+    }
+}
+
+/// `explain FIRMWARE BOARD POLICY`, if the words are of that form.
+fn explain_of(words: &[String]) -> Option<PlanCommand<'_>>
+    ensures command { IfSome result (λ c. Asks (map string_bytes words.now) (plan_request c)) }
+    ensures none { IfNone result ((firmware board : List ℕ) (policy : ThePolicy) → Asks (map string_bytes words.now) (ExplainPlan firmware board policy) → ⊥) }
+{
+    match words {
+        [name, firmware, board, policy] if name.as_str() == "explain" => {
+            let policy = Policy::of_word(policy.as_str())?;
+            Some(PlanCommand::Explain {
                 firmware: firmware.as_str(),
                 board: board.as_str(),
                 policy,

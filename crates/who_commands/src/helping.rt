@@ -31,8 +31,12 @@ aces who FIRMWARE BOARD POLICY: who may write, read and use what, and who needs 
 aces why FIRMWARE: what each load, store and call may reach\n\
 aces symbols FIRMWARE BOARD POLICY: what lies where in an image, for a debugger\n\
 aces where FIRMWARE POLICY TAPE N: where the source stands after at most N steps\n\
+aces selftest SEED SIZE: runs source and image of a generated firmware, and compares both\n\
+aces explain FIRMWARE: the first fault of a firmware with its place, what was found, and the rule\n\
+aces explain FIRMWARE BOARD POLICY: the same, and what a board's text or its room refuses\n\
 POLICY is filename, optimized or peripheral\n\
 N is from 0 to 4294967295, in decimal digits without a leading zero\n\
+SEED is as N, and SIZE is from 1 to 200\n\
 ADDRESS is from 0 to 4294967295, as firmwares have numbers: 4096 or 0x1000\n\
 status 0: done\n\
 status 1: a fault in a file, or a limit that a firmware passes\n\
@@ -41,12 +45,12 @@ status 3: a board has no room, or denies what a firmware reaches\n\
 status 4: a file was not read\n\
 status 5: a file or the output was not written\n\
 status 6: memory ran out\n\
-status 7: a run ended badly\n\
+status 7: a run ended badly, or a self-test differs\n\
 status 8: a no of stack, audit or tables\n\
 status 9: the system did not give the words\n"
 }
 
-/// Prints the commands with their words, the policies, what N may be, and the statuses, a line each. No file is touched.
+/// Prints the commands with their words, the policies, what numbers may be, and the statuses, a line each. No file is touched.
 pub fn print_help<'a, F: Files, O: Sink>(files: &F, out: &mut O) -> Result<Done, Failure<'a>>
     ensures { CarriesOut AnswerToHelp F.Files files.now files.now ToHelp (sink O.Sink out.old) (sink O.Sink out.new) result }
 {

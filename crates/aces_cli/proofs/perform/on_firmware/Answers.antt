@@ -11,3 +11,6 @@ returns-in-Source g c = rw c.in-Source.is c.source.ensures
 
 pub returns-in-Where : goal.returns-in-Where
 returns-in-Where g c = rw c.in-Where.is c.locate.ensures
+
+pub returns-in-Explain : goal.returns-in-Explain
+returns-in-Explain g c = rw c.in-Explain.is c.explain.ensures

@@ -15,3 +15,6 @@ returns-in-Who g c = rw c.in-Who.is c.print_owners.ensures
 
 pub returns-in-Symbols : goal.returns-in-Symbols
 returns-in-Symbols g c = rw c.in-Symbols.is c.symbols.ensures
+
+pub returns-in-Explain : goal.returns-in-Explain
+returns-in-Explain g c = rw c.in-Explain.is c.explain_plan.ensures

@@ -11,3 +11,6 @@ returns-in-Plan g c = rw c.in-Plan.is c.on_plan.ensures
 
 pub returns-in-Help : goal.returns-in-Help
 returns-in-Help g c = rw c.in-Help.is c.print_help.ensures
+
+pub returns-in-Selftest : goal.returns-in-Selftest
+returns-in-Selftest g c = rw c.in-Selftest.is c.print_selftest.ensures

@@ -7,6 +7,6 @@ use Rattle.aces_words.proofs.command.Command.of_words.Goals as goal
 pub returns-clause-usage : goal.returns-clause-usage
 returns-clause-usage c =
     let words = map (string_bytes {Z = Global}) c.args.words.now in
-    none_also c.help_of.result _ (IsUsage words)
-    (no_request words c.in_default.ensures.none c.in_default-firmware_command.ensures.none c.in_default-plan_command.ensures.none)
-    c.help_of.ensures.none
+    none_also c.selftest_of.result _ (IsUsage words)
+    (no_request words c.in_default.ensures.none c.in_default-firmware_command.ensures.none c.in_default-plan_command.ensures.none c.in_default-help_of.ensures.none)
+    c.selftest_of.ensures.none
