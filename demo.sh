@@ -43,6 +43,8 @@ show() {
 
 cd "$examples"
 call 10-check check "$examples/satellite.ir"
+sed 's/field at, rate/field at, speed/' "$examples/satellite.ir" > "$work/faulty.ir"
+call 10-explain explain "$work/faulty.ir"
 call 11-list list "$examples/satellite.ir" "$examples/board.toml" filename
 call 12-list list "$examples/satellite.ir" "$examples/board16.toml" filename
 call 13-stack stack "$examples/satellite.ir" "$examples/board.toml" filename
@@ -82,6 +84,7 @@ call 54-audit audit "$work/hostile.image"
 call 55-tables tables "$work/greedy.image"
 call 56-tables tables "$work/monitor.image"
 call 57-state state "$work/hostile.image" "$examples/satellite.tape" 100000
+call 60-selftest selftest 1 50
 
 # changed IMAGE OFFSET writes satellite16.image as that image, but for bytes of its flash from OFFSET on, which come on standard input.
 changed() {
@@ -140,6 +143,10 @@ build=
 echo
 echo "The firmware of a small satellite: a control loop, a sensor driver and a radio, which are to be kept apart."
 show 10-check
+echo
+echo "What is wrong with a text in which a field has another name: where, what was found and expected, and the rule."
+show 10-explain | sed "s:$work/::g"
+[ "$(printed 10-explain | grep -c '^found speed$')" = 1 ]
 
 echo
 echo "Its compartments on a board with 8 regions, and what each may write. The radio may write 4 bytes without need."
@@ -223,5 +230,9 @@ show 55-tables
 show 56-tables
 [ "$(printed 55-tables)" = "no regions 0x08001100" ]
 [ "$(printed 56-tables)" = "no code 0x08000004" ]
+echo
+echo "A firmware that nobody wrote: 50 functions by draws, compiled, and run by its source and by its image."
+show 60-selftest
+[ "$(printed 60-selftest | tail -n 1)" = same ]
 echo
 echo "All of this was run unproved. This proves every crate and builds the program, with a line for each crate: rt ci 2>&1 | tools/progress.py"
