@@ -40,7 +40,7 @@ pub(crate) fn finish(alloc: Global, program: &Program, lists: &Rows) -> Result<P
 {
     let numbering = number_program(alloc, program)?;
     let table = numbering.all_objects(alloc)?;
-    let mut rows = SharedRows::new(alloc)?;
+    let mut rows = SharedRows::new(alloc, lists.len())?;
     for node in 0..lists.len() {
         let places = lists.items(alloc, node)?;
         let objects = named(alloc, table.as_slice(), places.as_slice())?;

@@ -40,10 +40,10 @@ sets_of s n o = list_any (λ x. same_object (object_by x) o) (row_of s n)
 abbrev pub rows_by : (lists : List (List ObjId)) (numbers : List ℕ) → List (List ObjId)
 rows_by lists numbers = map (λ k. get_or lists k []) numbers
 
--- each number is that of a list, and there is room for so many numbers of lists that are known
+-- each number is that of a list, and there is a place for numbers of lists that are known
 pub record AreOfLists (lists : List (List ObjId)) (numbers known : List ℕ) : Type 0 where
   pub each : (k : ℕ) → k < length numbers → get_or numbers k 0 < length lists
-  pub known_count : length known ≡ 1024
+  pub places : 0 < length known
 
 -- lists to which others may have come at the end
 pub record IsLonger (old new : List (List ObjId)) : Type 0 where

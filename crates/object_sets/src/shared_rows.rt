@@ -8,7 +8,7 @@ use list_vec::ListVec;
 use std::alloc::{AllocError, Global};
 use std::marker::Model;
 
-/// How many of the lists that came last are known by their sums.
+/// The most places for lists that are known by their sums.
 const KNOWN: usize = 1024;
 
 /// A list of objects for each row. Equal lists are kept once, where the other came not long ago.
@@ -41,15 +41,16 @@ fn number_of(object: &ObjId) -> u32 {
     }
 }
 
-/// Where a list is looked for among those that are known. Equal lists have the same place.
-fn place_of(objects: &[ObjId]) -> usize
-    ensures { result < 1024 }
+/// Where a list is looked for among so many places for lists that are known. Equal lists have the same place.
+fn place_of(objects: &[ObjId], places: usize) -> usize
+    requires { 0 < places }
+    ensures { result < places }
 {
     let mut sum: u32 = 0;
     for object in objects {
         sum = sum.wrapping_mul(0x0100_0193) ^ number_of(object);
     }
-    (sum.wrapping_mul(0x9e37_79b1) >> 22) as usize
+    (sum.wrapping_mul(0x9e37_79b1) >> 7) as usize % places
 }
 
 /// Whether two lists are equal.
@@ -89,13 +90,13 @@ fn share(
     known: &mut Vec<u32>,
     row: Vec<ObjId>,
 ) -> Result<u32, AllocError>
-    requires { length known.old.items ≡ 1024 }
-    ensures count { length known.new.items ≡ 1024 }
+    requires { 0 < length known.old.items }
+    ensures count { length known.new.items ≡ length known.old.items }
     ensures longer { IsLonger lists.old.items lists.new.items }
     ensures there { IfOk result (λ number. number < length lists.new.items) }
     ensures equal { IfOk result (λ number. get_or lists.new.items number [] ≡ row.items) }
 {
-    let place = place_of(row.as_slice());
+    let place = place_of(row.as_slice(), known.len());
     let number = known[place];
     if is_list(lists.as_slice(), number, row.as_slice()) {
         return Ok(number);
@@ -106,16 +107,17 @@ fn share(
 }
 
 impl SharedRows {
-    /// No rows.
+    /// No rows, with places to know lists by for so many rows that will come.
     ///
     /// # Errors
     ///
-    /// There is no memory for what is known of them.
-    pub fn new(alloc: Global) -> Result<SharedRows, AllocError>
+    /// There is no memory for these places.
+    pub fn new(alloc: Global, expected: usize) -> Result<SharedRows, AllocError>
         ensures { IfOk result (λ rows. rows ≡ []) }
     {
+        let places = if expected < KNOWN { expected + 1 } else { KNOWN };
         let mut known = Vec::new(alloc);
-        known.resize(KNOWN, 0)?;
+        known.resize(places, 0)?;
         Ok(SharedRows {
             lists: Vec::new(alloc),
             numbers: Vec::new(alloc),
