@@ -7,7 +7,7 @@ use Rattle.aces_reports.specs.declared.failure.Failure.{Failure}
 use Rattle.aces_reports.specs.declared.failure.Failure.TheVariants.{Refused, PastLimit, Denied, NoRoom, Unread, Unwritten, Unprinted, NoMemory}
 use Rattle.aces_words.specs.Requests.{Request, Run, Bin, Compile, Check, Source, Where, Listing, Stack, Audit, Tables, Who, Symbols, Help, Selftest, Watch, State, Why, Explain, ExplainPlan, Asks, IsUsage, Origin}
 use Rattle.aces_reports.specs.FaultLines.{usage_line}
-use Rattle.aces_reports.specs.Sinks.{SinkState, Says}
+use Rattle.outside.specs.Sinks.{SinkState, Says}
 use Rattle.aces_reports.specs.Ends.{status_of, line_of}
 use Rattle.commands.specs.Outcomes.{Outcome, refused, past_limit, denied, no_room, usage}
 use Rattle.commands.specs.CarriesOut.{NamesLast}

@@ -6,7 +6,7 @@ use Rattle.ir_reader.specs.Laws.{TextsAreUnique}
 use Rattle.plan_model.specs.declared.plan.Board.{Board}
 use Rattle.board_text.specs.Reading.{IsRead}
 use Rattle.board_text.specs.Laws.{BoardsAreOne}
-use Rattle.aces_words.specs.declared.policy.Policy.{Policy}
+use Rattle.plan_model.specs.declared.policy.Policy.{Policy}
 use Rattle.aces_words.specs.Requests.{Request, Compile, Asks, Origin, file_origin, firmware_origin}
 use Rattle.aces_words.proofs.Requests.{requests_are_one}
 use Rattle.commands.specs.Known.{Held, Holds, Exceeds}

@@ -15,7 +15,7 @@ use Rattle.firmware_stacks.specs.Limited.{KeepsLimitsBy}
 use Rattle.firmware_stacks.specs.Lines.{stack_status}
 use Rattle.stack_paths.specs.declared.answer.StackAnswer.{StackAnswer}
 use Rattle.stack_paths.specs.declared.answer.StackAnswer.TheVariants.{Cycle, Bound}
-use Rattle.aces_words.specs.declared.policy.Policy.{Policy}
+use Rattle.plan_model.specs.declared.policy.Policy.{Policy}
 use Rattle.aces_words.specs.Requests.{Request, Origin}
 use Rattle.commands.specs.Outcomes.{Outcome}
 use Rattle.commands.specs.Contents.{of_board}

@@ -1,6 +1,6 @@
 -- An answer with a status other than 0 writes nothing.
 use Rattle.std.proofs.Common.{◌≡◌, ◌≢◌, ℕ, List, None, refl}
-use Rattle.aces_words.specs.declared.policy.Policy.{Policy}
+use Rattle.plan_model.specs.declared.policy.Policy.{Policy}
 use Rattle.aces_words.specs.Requests.{Request, Run, Bin, Compile, Check, Source, Where, Listing, Stack, Audit, Tables, Who, Symbols, Help, Selftest, Watch, State, Why, Explain, ExplainPlan, Origin}
 use Rattle.commands.specs.Outcomes.{Outcome}
 use Rattle.commands.proofs.Answering.{run_writes_nothing, bin_writes_nothing}

@@ -13,7 +13,7 @@ use Rattle.ir_reader.specs.declared.fault.TextFault.{TextFault}
 use Rattle.ir_reader.specs.declared.fault.TextFault.TheVariants as text
 use Rattle.aces_reports.specs.declared.failure.Fault.{Fault}
 use Rattle.source_output.specs.SourceRuns as source_runs
-use Rattle.aces_words.specs.declared.policy.Policy.{Policy}
+use Rattle.plan_model.specs.declared.policy.Policy.{Policy}
 use Rattle.aces_words.specs.Requests.{Origin, file_origin, firmware_origin}
 use Rattle.commands.specs.Outcomes.{Outcome}
 use Rattle.firmware_commands.specs.Firmwares.{of_text, IsFirmware, IsNoFirmware, no_text, ill_typed}

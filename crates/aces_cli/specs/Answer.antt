@@ -4,7 +4,7 @@ use Rattle.std.specs.Prelude.{ℕ, List, [], Some}
 use Rattle.aces_words.specs.Requests.{Request, Run, Bin, Compile, Check, Source, Where, Listing, Stack, Audit, Tables, Who, Symbols, Help, Selftest, Watch, State, Why, Explain, ExplainPlan, Asks, IsUsage, Origin}
 use Rattle.ir_model.specs.Plain.{PlainFirmware}
 use Rattle.aces_cli.specs.Compiled.{IsImageText}
-use Rattle.aces_words.specs.declared.policy.Policy.{Policy}
+use Rattle.plan_model.specs.declared.policy.Policy.{Policy}
 use Rattle.plan_model.specs.declared.plan.Board.{Board}
 use Rattle.board_text.specs.Reading as boards
 use Rattle.firmware_commands.specs.Firmwares.{IsFirmware}

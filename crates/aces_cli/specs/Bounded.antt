@@ -6,9 +6,9 @@ use Rattle.image.specs.Text.{IsText}
 use Rattle.ir_model.specs.Plain.{PlainFirmware}
 use Rattle.plan_model.specs.declared.plan.Board.{Board}
 use Rattle.board_text.specs.Reading as boards
-use Rattle.aces_words.specs.declared.policy.Policy.{Policy}
+use Rattle.plan_model.specs.declared.policy.Policy.{Policy}
 use Rattle.aces_words.specs.Requests.{file_origin, firmware_origin, Compile, Asks}
-use Rattle.aces_reports.specs.Sinks.{SinkState}
+use Rattle.outside.specs.Sinks.{SinkState}
 use Rattle.compartments.specs.Divisions.{division}
 use Rattle.monitor.specs.Layout.{initial_word_count}
 use Rattle.linked_images.specs.Planned.{planned_tables}

@@ -4,7 +4,7 @@ use Rattle.device_model.specs.declared.image.Image.{Image}
 use Rattle.image.specs.Text.{IsText}
 use Rattle.ir_model.specs.Plain.{PlainFirmware}
 use Rattle.plan_model.specs.declared.plan.Board.{Board}
-use Rattle.aces_words.specs.declared.policy.Policy.{Policy}
+use Rattle.plan_model.specs.declared.policy.Policy.{Policy}
 use Rattle.compiler.specs.ByPolicy.{IsImageBy}
 
 -- the bytes are the text of the image of a firmware for a board by a policy. Its compartments are isolated: on whatever device input, and from

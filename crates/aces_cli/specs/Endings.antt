@@ -2,11 +2,11 @@
 use Rattle.std.specs.Prelude.{◌≡◌, ◌≢◌, ℕ, ◌⊎◌, List, All}
 use Rattle.outside.specs.Calls.{Call}
 use Rattle.outside.specs.Reading.{EndsUnread}
-use Rattle.aces_words.specs.declared.policy.Policy.{Policy}
+use Rattle.plan_model.specs.declared.policy.Policy.{Policy}
 use Rattle.aces_words.specs.Requests.{Request, Source, Asks, Origin}
 use Rattle.commands.specs.Known.{WasRead, WasTooLarge, IsCallOf}
 use Rattle.aces_reports.specs.FaultLines.{unread_line, unwritten_line, unprinted_line, memory_line}
-use Rattle.aces_reports.specs.Sinks.{SinkState, Says}
+use Rattle.outside.specs.Sinks.{SinkState, Says}
 use Rattle.commands.specs.Effects.{World, IsUnread, IsUnwritten, IsUnprinted, IsOutOfMemory, IsCarriedOut, IsBrokenOff}
 use Rattle.commands.specs.Outcomes.{Outcome}
 use Rattle.aces_cli.specs.Answer.{Answers}

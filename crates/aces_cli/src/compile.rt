@@ -10,10 +10,10 @@ ghost use Rattle.commands.specs.Loads.{IsRefusal};
 ghost use Rattle.commands.specs.CarriesOut.{CarriesOut};
 ghost use Rattle.aces_cli.specs.Answer.{CompileAnswer, AnswerToCompile};
 ghost use Rattle.aces_cli.specs.Compiled.{IsImageText};
-ghost use Rattle.aces_reports.specs.Sinks.{SinkState};
+ghost use Rattle.outside.specs.Sinks.{SinkState};
 
 use aces_reports::{Done, Failure};
-use aces_words::Policy;
+use plan_model::Policy;
 use commands::failure::planning_failure;
 use commands::loading::board_of;
 use commands::writing::write;

@@ -10,7 +10,7 @@ ghost use Rattle.outside.specs.Calls.{Call, Calls};
 ghost use Rattle.aces_words.specs.Requests.{Request, Asks, IsUsage};
 ghost use Rattle.commands.specs.Known.{Holds, Exceeds};
 ghost use Rattle.aces_cli.specs.Complete.{NoneFailed, HasFiles, IsGood, IsDoneBy};
-ghost use Rattle.aces_reports.specs.Sinks.{sink};
+ghost use Rattle.outside.specs.Sinks.{sink};
 ghost use Rattle.commands.specs.Effects.{world};
 ghost use Rattle.aces_cli.specs.Bounded.{FollowsBounded};
 ghost use Rattle.aces_cli.specs.Endings.{IsPlain, IsAnswered, IsPartly, IsByCalls, TellsUnwritten, TellsUnprinted, TellsOutOfMemory};

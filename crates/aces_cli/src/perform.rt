@@ -4,7 +4,7 @@ ghost use Rattle.aces_words.specs.Requests.{IsWithin};
 ghost use Rattle.aces_words.specs.Commands.{request_of, image_request, firmware_request, plan_request};
 ghost use Rattle.commands.specs.CarriesOut.{CarriesOut};
 ghost use Rattle.aces_cli.specs.Answer.{Answer};
-ghost use Rattle.aces_reports.specs.Sinks.{sink};
+ghost use Rattle.outside.specs.Sinks.{sink};
 
 use crate::compile;
 use aces_reports::{Done, Failure};

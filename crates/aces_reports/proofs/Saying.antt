@@ -3,7 +3,7 @@ use Rattle.std.proofs.Common.{◌≡◌, ℕ, ◌+◌, ◌/◌, ◌%◌, ◌<◌
 use Rattle.std.specs.Fmt.{decimal}
 use Rattle.std.proofs.lemmas.Fmt.{decimal_digit, decimal_step}
 use Rattle.outside.specs.Counts.{Stayed}
-use Rattle.aces_reports.specs.Sinks.{SinkState, Says}
+use Rattle.outside.specs.Sinks.{SinkState, Says}
 
 -- a count that stayed over two calls stayed over each
 stayed_first : (a b c : ℕ) → a ≤ b → b ≤ c → Stayed a c → Stayed a b

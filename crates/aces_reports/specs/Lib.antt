@@ -1,4 +1,3 @@
-pub mod Sinks
 pub mod FaultLines
 pub mod Ends
 pub mod WordsRefusals

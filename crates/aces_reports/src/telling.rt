@@ -5,7 +5,7 @@ ghost use Rattle.std.specs.Fmt.{decimal};
 ghost use Rattle.board_text.specs.Keys.{path_of};
 ghost use Rattle.aces_reports.specs.FaultLines as lines;
 ghost use Rattle.aces_reports.specs.Ends.{status_of, line_of};
-ghost use Rattle.aces_reports.specs.Sinks.{Says, sink};
+ghost use Rattle.outside.specs.Sinks.{Says, sink};
 
 use crate::failure::{Done, Failure, Fault, Memory};
 use board_text::key::Key;

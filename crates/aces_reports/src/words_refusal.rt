@@ -1,7 +1,7 @@
 //! Words that the system did not give.
 
 ghost use Rattle.std.specs.Prelude.{◌≡◌};
-ghost use Rattle.aces_reports.specs.Sinks.{Says, sink};
+ghost use Rattle.outside.specs.Sinks.{Says, sink};
 ghost use Rattle.aces_reports.specs.WordsRefusals.{refusal_status, refusal_line};
 
 use crate::telling::say;

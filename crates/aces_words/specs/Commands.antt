@@ -1,7 +1,7 @@
 -- Beyond the program's claim: only laws, proofs and functions inside the tool cite this file.
 -- Commands as the code names them.
 use Rattle.std.specs.Prelude.{ℕ, List}
-use Rattle.aces_words.specs.declared.policy.Policy.{Policy}
+use Rattle.plan_model.specs.declared.policy.Policy.{Policy}
 use Rattle.aces_words.specs.declared.command.Command.{Command}
 use Rattle.aces_words.specs.declared.command.Command.TheVariants as commands
 use Rattle.aces_words.specs.declared.firmwares.FirmwareCommand.{FirmwareCommand}

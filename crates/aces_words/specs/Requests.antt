@@ -5,14 +5,8 @@ use Rattle.numerals.specs.Numerals.{magnitude, positive}
 use Rattle.numerals.specs.declared.Numeral.{Numeral}
 use Rattle.numerals.specs.declared.Numeral.TheVariants.{Malformed, TooWide, Value}
 use Rattle.ir_model.specs.TextLimits.{text_limit}
-use Rattle.aces_words.specs.declared.policy.Policy.{Policy}
-use Rattle.aces_words.specs.declared.policy.Policy.TheVariants.{Filename, Optimized, Peripheral}
-
--- the word of a policy
-abbrev pub policy_word : Policy → List ℕ
-policy_word Filename = codes "filename"
-policy_word Optimized = codes "optimized"
-policy_word Peripheral = codes "peripheral"
+use Rattle.plan_model.specs.declared.policy.Policy.{Policy}
+use Rattle.plan_model.specs.PolicyWords.{policy_word}
 
 pub data Request : Type 0 where
   -- run an image on a tape for at most so many machine steps

@@ -1,12 +1,12 @@
 //! The commands on firmwares, without a board.
 
 ghost use Rattle.std.specs.Prelude.{◌≡◌, ◌<◌, ◌^◌, ℕ, List, map, string_bytes, IfSome, IfNone};
-ghost use Rattle.aces_words.specs.declared.policy.Policy.{Policy as ThePolicy};
+ghost use Rattle.plan_model.specs.declared.policy.Policy.{Policy as ThePolicy};
 ghost use Rattle.aces_words.specs.Requests.{Check, Why, Source, Where, Explain, Asks};
 ghost use Rattle.aces_words.specs.Commands.{firmware_request, AsksOfNoFirmware};
 
 use crate::numbers::number;
-use crate::policy::Policy;
+use plan_model::Policy;
 
 /// A command on a firmware without a board, with what its words name.
 #[derive(Clone, Copy)]

@@ -6,11 +6,9 @@ mod firmwares;
 mod images;
 mod numbers;
 mod plans;
-mod policy;
 
 pub use command::Command;
 pub use firmwares::FirmwareCommand;
 pub use images::ImageCommand;
 pub use numbers::address;
 pub use plans::PlanCommand;
-pub use policy::Policy;

@@ -1,11 +1,11 @@
 //! The commands on a firmware and a board.
 
 ghost use Rattle.std.specs.Prelude.{◌≡◌, ◌<◌, ◌^◌, ℕ, List, map, string_bytes, IfSome, IfNone};
-ghost use Rattle.aces_words.specs.declared.policy.Policy.{Policy as ThePolicy};
+ghost use Rattle.plan_model.specs.declared.policy.Policy.{Policy as ThePolicy};
 ghost use Rattle.aces_words.specs.Requests.{Compile, Listing, Stack, Who, Symbols, ExplainPlan, Asks};
 ghost use Rattle.aces_words.specs.Commands.{plan_request, AsksOfNoPlan};
 
-use crate::policy::Policy;
+use plan_model::Policy;
 
 /// A command on a firmware and a board, with what its words name.
 #[derive(Clone, Copy)]

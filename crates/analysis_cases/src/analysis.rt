@@ -11,7 +11,7 @@ use crate::boards::board_line;
 use crate::graphs::{put_graph, put_limit};
 use crate::needs::put_needs;
 use crate::sets::put_sets;
-use aces_words::Policy;
+use plan_model::Policy;
 use anyhow::{Result, bail};
 use case_files::Program as Called;
 use compartments::analysis::firmware_needs;

@@ -3,7 +3,7 @@
 ghost use Rattle.std.specs.Prelude.{◌≡◌, None, Ok, IfOk, IfErr};
 ghost use Rattle.aces_words.specs.Requests.{Audit as ToAudit};
 ghost use Rattle.aces_reports.specs.Ends.{status_of};
-ghost use Rattle.aces_reports.specs.Sinks.{sink};
+ghost use Rattle.outside.specs.Sinks.{sink};
 ghost use Rattle.commands.specs.CarriesOut.{CarriesOut};
 ghost use Rattle.commands.specs.Contents.{IsNoImage};
 ghost use Rattle.commands.specs.Loads.{IsContentFailure};

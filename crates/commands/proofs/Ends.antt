@@ -11,7 +11,7 @@ use Rattle.aces_reports.specs.declared.failure.Failure.TheVariants.{Refused, Pas
 use Rattle.aces_words.specs.Requests.{Request, Run, Bin, Compile, Check, Source, Where, Listing, Stack, Audit, Tables, Watch, State, Help, Who, Why, Symbols, Selftest, Explain, ExplainPlan, Origin, origins}
 use Rattle.commands.specs.Known.{Held, IsMissing, IsNamed}
 use Rattle.commands.specs.Outcomes.{Outcome, refused, past_limit, denied, no_room}
-use Rattle.aces_reports.specs.Sinks.{SinkState}
+use Rattle.outside.specs.Sinks.{SinkState}
 use Rattle.aces_reports.specs.Ends.{status_of}
 use Rattle.commands.specs.Effects.{World, Does, IsDone, Quiet, IsCarriedOut, IsRewritten, IsPart, IsPrintedInPart}
 use Rattle.commands.specs.CarriesOut.{IsKnownLarge, NamesLast}

@@ -6,7 +6,7 @@ use Rattle.aces_reports.specs.declared.failure.Done.{Done}
 use Rattle.aces_reports.specs.declared.failure.Failure.{Failure}
 use Rattle.aces_reports.specs.declared.failure.Failure.TheVariants.{Unprinted}
 use Rattle.aces_reports.specs.Ends.{status_of}
-use Rattle.aces_reports.specs.Sinks.{SinkState, Puts}
+use Rattle.outside.specs.Sinks.{SinkState, Puts}
 use Rattle.aces_words.specs.Requests.{Request, Origin}
 use Rattle.commands.specs.CarriesOut.{CarriesOut, IsKnown, IsKnownLarge}
 use Rattle.commands.specs.Effects.{world}

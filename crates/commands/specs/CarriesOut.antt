@@ -7,7 +7,7 @@ use Rattle.outside.specs.Reading.{EndsUnread}
 use Rattle.aces_reports.specs.declared.failure.Done.{Done}
 use Rattle.aces_reports.specs.declared.failure.Failure.{Failure}
 use Rattle.aces_reports.specs.declared.failure.Failure.TheVariants.{Refused, PastLimit, Denied, NoRoom, Unread, Unwritten, Unprinted, NoMemory}
-use Rattle.aces_reports.specs.Sinks.{SinkState}
+use Rattle.outside.specs.Sinks.{SinkState}
 use Rattle.aces_words.specs.Requests.{Request, Origin}
 use Rattle.commands.specs.Known.{Held, Holds, Exceeds, WasRead, WasTooLarge, IsCallOf}
 use Rattle.commands.specs.Outcomes.{Outcome}

@@ -9,7 +9,7 @@ use Rattle.aces_reports.specs.declared.failure.Failure.{Failure}
 use Rattle.aces_reports.specs.declared.failure.Failure.TheVariants.{Refused, PastLimit, Denied, NoRoom, Unread, Unwritten, Unprinted, NoMemory}
 use Rattle.aces_words.specs.Requests.{Request, Source, origins, target}
 use Rattle.commands.specs.Known.{Held, IsMissing, IsNamed}
-use Rattle.aces_reports.specs.Sinks.{SinkState}
+use Rattle.outside.specs.Sinks.{SinkState}
 use Rattle.commands.specs.Outcomes.{Written, Outcome, refused, past_limit, denied, no_room}
 
 -- the files as they are seen, and the sink of what is printed

@@ -1,7 +1,7 @@
 //! `bin`: the flash bytes of an image, written to a file.
 
 ghost use Rattle.aces_words.specs.Requests.{Bin};
-ghost use Rattle.aces_reports.specs.Sinks.{SinkState};
+ghost use Rattle.outside.specs.Sinks.{SinkState};
 ghost use Rattle.commands.specs.Answers.{AnswerToBin};
 ghost use Rattle.commands.specs.CarriesOut.{CarriesOut};
 

@@ -5,7 +5,7 @@ ghost use Rattle.aces_words.specs.Requests.{Run, file_limit};
 ghost use Rattle.commands.specs.Known.{Held};
 ghost use Rattle.commands.specs.Answers.{RunAnswer, AnswerToRun};
 ghost use Rattle.machine_output.specs.Runs.{end_status};
-ghost use Rattle.aces_reports.specs.Sinks.{sink};
+ghost use Rattle.outside.specs.Sinks.{sink};
 ghost use Rattle.aces_reports.specs.Ends.{status_of};
 ghost use Rattle.commands.specs.CarriesOut.{CarriesOut};
 ghost use Rattle.commands.specs.Effects.{Does};

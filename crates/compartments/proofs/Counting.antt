@@ -11,8 +11,8 @@ use Rattle.plan_model.specs.declared.groups.Groups.{Groups}
 use Rattle.plan_model.specs.Compartments.{AreCompartments}
 use Rattle.plan_model.specs.Facts.{facts, facts_of}
 use Rattle.plan_model.specs.Policies.{filename_groups, optimized_groups, peripheral_groups, by_name, move}
-use Rattle.aces_words.specs.declared.policy.Policy.{Policy}
-use Rattle.aces_words.specs.declared.policy.Policy.TheVariants.{Filename, Optimized, Peripheral}
+use Rattle.plan_model.specs.declared.policy.Policy.{Policy}
+use Rattle.plan_model.specs.declared.policy.Policy.TheVariants.{Filename, Optimized, Peripheral}
 use Rattle.compartments.specs.Divisions.{division, groups_by}
 use Rattle.ir_laws.proofs.Resolved.{as_many}
 use Rattle.grouping.proofs.Moves.{length_moved as each_moved}

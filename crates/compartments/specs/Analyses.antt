@@ -1,6 +1,6 @@
 -- What the functions of a firmware need, and the compartments that a policy makes by that.
 use Rattle.std.specs.Prelude.{◌≡◌, ℕ, List, Bool, false}
-use Rattle.aces_words.specs.declared.policy.Policy.{Policy}
+use Rattle.plan_model.specs.declared.policy.Policy.{Policy}
 use Rattle.ir_model.specs.Plain.{PlainFirmware}
 use Rattle.ir_model.specs.Resolve.{resolve}
 use Rattle.ir_laws.specs.Sets.{ObjectSets}

@@ -1,7 +1,7 @@
 -- The compartments of a firmware by a policy.
 use Rattle.std.specs.Prelude.{ℕ, List}
-use Rattle.aces_words.specs.declared.policy.Policy.{Policy}
-use Rattle.aces_words.specs.declared.policy.Policy.TheVariants.{Filename, Optimized, Peripheral}
+use Rattle.plan_model.specs.declared.policy.Policy.{Policy}
+use Rattle.plan_model.specs.declared.policy.Policy.TheVariants.{Filename, Optimized, Peripheral}
 use Rattle.ir_model.specs.Plain.{PlainFirmware}
 use Rattle.plan_model.specs.declared.groups.FuncFacts.{FuncFacts}
 use Rattle.plan_model.specs.declared.groups.Groups.{Groups}

@@ -9,7 +9,7 @@ ghost use Rattle.plan_model.specs.PointsTo.{IsLeast};
 ghost use Rattle.compartments.specs.Analyses.{AreNeedsOf, AreCompartmentsBy};
 
 use crate::division::division;
-use aces_words::Policy;
+use plan_model::Policy;
 use depend::needs;
 use ir_model::checked::Checked;
 use ir_program::program::Program;

@@ -9,7 +9,7 @@ ghost use Rattle.plan_model.specs.Compartments.{AreCompartments, compartments};
 ghost use Rattle.grouping.specs.Functions.{AreFunctions};
 ghost use Rattle.compartments.specs.Divisions as divisions;
 
-use aces_words::Policy;
+use plan_model::Policy;
 use grouping::facts::facts;
 use grouping::grouping::{Grouping, groups};
 use grouping::tables::{filename_table, optimized_table, peripheral_table};

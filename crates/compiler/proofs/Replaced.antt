@@ -15,7 +15,8 @@ use Rattle.plan_model.specs.Placement.{no_spot, compartment_spot}
 use Rattle.monitor.specs.Page.{filled_up}
 use Rattle.monitor.specs.Confined.{Confined}
 use Rattle.link_model.specs.LinkedImage.{linked}
-use Rattle.linked_images.specs.Planned.{IsPlanned, planned_sizes, plan, planned_image, planned_tables}
+use Rattle.linked_images.specs.Planned.{planned_image, planned_tables}
+use Rattle.planning.specs.PlannedFirmwares.{IsPlanned, planned_sizes, plan}
 use Rattle.linked_images.proofs.Flash.{code_count}
 use Rattle.linked_promises.specs.Regions.{ImagesObeyRules}
 use Rattle.planning.specs.declared.planner.PlannedFirmware.{PlannedFirmware}

@@ -12,7 +12,8 @@ use Rattle.plan_model.specs.declared.graph.Final.{Final}
 use Rattle.plan_model.specs.declared.plan.Board.{Board}
 use Rattle.plan_model.specs.Placement.{compartment_spot}
 use Rattle.monitor.specs.Confined.{Confined}
-use Rattle.linked_images.specs.Planned.{IsPlanned, plan, planned_image, planned_tables}
+use Rattle.linked_images.specs.Planned.{planned_image, planned_tables}
+use Rattle.planning.specs.PlannedFirmwares.{IsPlanned, plan}
 use Rattle.planned_images.specs.Whole.{IsForBoard}
 use Rattle.resets.specs.Reset.{EachRun}
 use Rattle.thread_moves.specs.Runs.{TellsWhoRuns}

@@ -24,7 +24,8 @@ use Rattle.monitor.specs.Reach.{AllBytes, running}
 use Rattle.monitor.specs.Confined.{later}
 use Rattle.monitor.specs.TheCode.{monitor_code}
 use Rattle.linked_images.specs.Laws.{OfPlanned}
-use Rattle.linked_images.specs.Planned.{IsPlanned, planned_image, planned_tables}
+use Rattle.linked_images.specs.Planned.{planned_image, planned_tables}
+use Rattle.planning.specs.PlannedFirmwares.{IsPlanned}
 use Rattle.planned_images.specs.Whole.{PlannedImagesAreSound}
 use Rattle.other_code.specs.Laws.{SoundImagesStaySound}
 use Rattle.other_code.proofs.Stays.{with_other_code}

@@ -34,7 +34,8 @@ use Rattle.layout_laws.specs.RamLaws.{Holds, open_bytes}
 use Rattle.monitor.specs.declared.tables.CompRecord.{CompRecord}
 use Rattle.monitor.specs.Records.{compartment_at, nobody}
 use Rattle.link_model.specs.LinkedTables.{tables_of, comp_record}
-use Rattle.linked_images.specs.Planned.{IsPlanned, plan, planned_tables}
+use Rattle.linked_images.specs.Planned.{planned_tables}
+use Rattle.planning.specs.PlannedFirmwares.{IsPlanned, plan}
 use Rattle.linked_images.proofs.Ranges.{IsUse, block_in, block_size_is}
 use Rattle.linked_promises.proofs.Lists.{each_passing, each_map, below_all}
 use Rattle.linked_promises.proofs.Bearing.{use_region}

@@ -17,7 +17,8 @@ use Rattle.ir_model.specs.Resolve.{resolve}
 use Rattle.plan_model.specs.declared.needs.Needs.{Needs}
 use Rattle.plan_model.specs.declared.graph.Final.{Final}
 use Rattle.plan_model.specs.declared.plan.Board.{Board}
-use Rattle.linked_images.specs.Planned.{IsPlanned, planned_image, planned_tables}
+use Rattle.linked_images.specs.Planned.{planned_image, planned_tables}
+use Rattle.planning.specs.PlannedFirmwares.{IsPlanned}
 use Rattle.other_code.specs.OtherCode.{WithOtherCode}
 use Rattle.denied_ranges.specs.declared.Denied.{Denied}
 use Rattle.denied_ranges.specs.Denied.{IsDenied, InDenied}

@@ -1,6 +1,6 @@
 -- Answers to `explain` with a board write nothing, and end with 0 where nothing refuses a plan.
 use Rattle.std.proofs.Common.{◌≡◌, ℕ, List, None, true, false, refl}
-use Rattle.aces_words.specs.declared.policy.Policy.{Policy}
+use Rattle.plan_model.specs.declared.policy.Policy.{Policy}
 use Rattle.ir_model.specs.Plain.{PlainFirmware}
 use Rattle.plan_model.specs.declared.plan.Board.{Board}
 use Rattle.board_text.specs.declared.fault.BoardFault.{BoardFault}

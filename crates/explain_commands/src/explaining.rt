@@ -4,7 +4,7 @@ ghost use Rattle.std.specs.Prelude.{◌≡◌, ◌≤◌, ◌++◌, length, IsTr
 ghost use Rattle.outside.specs.Counts.{Rose};
 ghost use Rattle.outside.specs.Contents.{AddsPrefix};
 ghost use Rattle.aces_words.specs.Requests.{Explain as ToExplain, firmware_limit};
-ghost use Rattle.aces_reports.specs.Sinks.{sink};
+ghost use Rattle.outside.specs.Sinks.{sink};
 ghost use Rattle.aces_reports.specs.declared.failure.Failure.TheVariants.{NoMemory as WantOfMemory};
 ghost use Rattle.commands.specs.CarriesOut.{CarriesOut};
 ghost use Rattle.explain_commands.specs.Answers.{AnswerToExplain};

@@ -12,7 +12,7 @@ ghost use Rattle.planning.specs.Refusals.{IsPlanningRefusal};
 ghost use Rattle.aces_words.specs.Requests.{ExplainPlan as ToExplain, firmware_limit};
 ghost use Rattle.aces_reports.specs.declared.failure.Failure.TheVariants.{NoMemory as WantOfMemory};
 ghost use Rattle.aces_reports.specs.Ends.{status_of};
-ghost use Rattle.aces_reports.specs.Sinks.{sink};
+ghost use Rattle.outside.specs.Sinks.{sink};
 ghost use Rattle.commands.specs.CarriesOut.{CarriesOut};
 ghost use Rattle.commands.specs.Outcomes.{done};
 ghost use Rattle.firmware_commands.specs.Firmwares.{IsFirmware};
@@ -21,7 +21,7 @@ ghost use Rattle.explain_commands.specs.Plans.{refusal_status, IsPlanTold, Expla
 
 use crate::telling::{Explained, Told, counted, examine};
 use aces_reports::{Done, Failure};
-use aces_words::Policy;
+use plan_model::Policy;
 use board_explanations::telling::board_told;
 use board_text::board::read_board;
 use board_text::fault::BoardFault;

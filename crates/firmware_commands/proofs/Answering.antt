@@ -1,6 +1,6 @@
 -- Answers to `check` and `source`: what is an answer from what follows of what is known, and that no answer writes anything.
 use Rattle.std.proofs.Common.{◌≡◌, ℕ, List, None, refl}
-use Rattle.aces_words.specs.declared.policy.Policy.{Policy}
+use Rattle.plan_model.specs.declared.policy.Policy.{Policy}
 use Rattle.aces_words.specs.Requests.{Origin}
 use Rattle.commands.specs.Outcomes.{Outcome}
 use Rattle.firmware_commands.specs.Answers.{CheckAnswer, SourceAnswer, no_tape, ran, no_firmware, checked, AnswerToCheck, AnswerToSource, tape_large, firmware_large, all_read}

@@ -6,7 +6,7 @@ use Rattle.ir_model.specs.declared.firmware.Firmware.{Firmware}
 use Rattle.ir_model.specs.declared.firmware.Peripheral.{Peripheral}
 use Rattle.ir_model.specs.Plain.{firmware_of}
 use Rattle.ir_program.specs.Windows.{window_of, windows_of}
-use Rattle.aces_words.specs.declared.policy.Policy.{Policy}
+use Rattle.plan_model.specs.declared.policy.Policy.{Policy}
 use Rattle.compartments.specs.Analyses.{AreCompartmentsBy}
 use Rattle.firmware_commands.specs.Firmwares.{IsFirmware}
 use Rattle.firmware_commands.specs.Answers.{SourceAnswer, ran, source_outcome}

@@ -7,7 +7,7 @@ ghost use Rattle.ir_model.specs.declared.firmware.FileDecl.{FileDecl as SourceFi
 ghost use Rattle.ir_model.specs.Plain as plain;
 ghost use Rattle.aces_words.specs.Requests.{Check};
 ghost use Rattle.firmware_commands.specs.Counts as counts;
-ghost use Rattle.aces_reports.specs.Sinks.{sink};
+ghost use Rattle.outside.specs.Sinks.{sink};
 ghost use Rattle.firmware_commands.specs.Answers.{AnswerToCheck};
 ghost use Rattle.commands.specs.CarriesOut.{CarriesOut};
 ghost use Rattle.ir_model.specs.TextLimits.{function_limit};

@@ -8,14 +8,14 @@ ghost use Rattle.source_output.specs.SourceRuns.{end_status};
 ghost use Rattle.aces_words.specs.Requests.{Source, file_limit, firmware_limit};
 ghost use Rattle.commands.specs.Known.{Held};
 ghost use Rattle.firmware_commands.specs.Answers.{SourceAnswer, AnswerToSource};
-ghost use Rattle.aces_reports.specs.Sinks.{sink};
+ghost use Rattle.outside.specs.Sinks.{sink};
 ghost use Rattle.aces_reports.specs.Ends.{status_of};
 ghost use Rattle.commands.specs.CarriesOut.{CarriesOut};
 ghost use Rattle.commands.specs.Effects.{Does};
 
 use crate::reading::firmware_of;
 use aces_reports::{Done, Failure};
-use aces_words::Policy;
+use plan_model::Policy;
 use commands::loading::{load, load_firmware, tape_of};
 use compartments::analysis::open_compartments;
 use ir_model::checked::Checked;

@@ -1,7 +1,7 @@
 -- What `list` prints of a firmware.
 use Rattle.std.specs.Prelude.{◌≡◌, ℕ, List}
-use Rattle.aces_words.specs.declared.policy.Policy.{Policy}
-use Rattle.aces_words.specs.Requests.{policy_word}
+use Rattle.plan_model.specs.declared.policy.Policy.{Policy}
+use Rattle.plan_model.specs.PolicyWords.{policy_word}
 use Rattle.ir_model.specs.Plain.{PlainFirmware}
 use Rattle.ir_model.specs.Resolve.{resolve}
 use Rattle.plan_model.specs.declared.needs.Needs.{Needs}

@@ -8,7 +8,7 @@ ghost use Rattle.plan_model.specs.Boards.{IsBoard};
 ghost use Rattle.firmware_plans.specs.Unplanned.{IsUnplanned};
 ghost use Rattle.firmware_listing.specs.Listings.{IsListing, listing_for};
 
-use aces_words::Policy;
+use plan_model::Policy;
 use firmware_plans::{needs_of, planned_by};
 use ir_model::checked::Checked;
 use ir_program::program::Program;

@@ -1,5 +1,5 @@
 -- What planning refuses is refused by a policy.
-use Rattle.aces_words.specs.declared.policy.Policy.{Policy}
+use Rattle.plan_model.specs.declared.policy.Policy.{Policy}
 use Rattle.ir_model.specs.Plain.{PlainFirmware}
 use Rattle.ir_model.specs.Resolve.{resolve}
 use Rattle.plan_model.specs.declared.needs.Needs.{Needs}

@@ -1,6 +1,6 @@
 -- A firmware that has a plan is refused for want of memory alone, and one that has none for one other reason.
 use Rattle.std.proofs.Common.{◌≡◌, subst}
-use Rattle.aces_words.specs.declared.policy.Policy.{Policy}
+use Rattle.plan_model.specs.declared.policy.Policy.{Policy}
 use Rattle.ir_model.specs.Plain.{PlainFirmware}
 use Rattle.ir_model.specs.Resolve.{resolve}
 use Rattle.plan_model.specs.declared.needs.Needs.{Needs}

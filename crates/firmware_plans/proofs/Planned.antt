@@ -15,7 +15,7 @@ use Rattle.plan_model.specs.FinalGraph.{IsFinal}
 use Rattle.plan_model.specs.Placement.{Fits}
 use Rattle.need_laws.specs.Checked.{LeastSetsServe}
 use Rattle.compartments.specs.Analyses.{AreNeedsOf}
-use Rattle.linked_images.specs.Planned.{IsPlanned}
+use Rattle.planning.specs.PlannedFirmwares.{IsPlanned}
 use Rattle.planning.specs.declared.planner.PlannedFirmware.{PlannedFirmware}
 use Rattle.planning.specs.Planned.{IsPlannedFor}
 

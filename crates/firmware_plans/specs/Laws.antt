@@ -1,7 +1,7 @@
 -- Beyond the program's claim: only laws, proofs and functions inside the tool cite this file.
 -- That a firmware with a plan is not refused, and one without has one reason: statements of laws.
 use Rattle.std.specs.Prelude.{◌≡◌, ◌≢◌}
-use Rattle.aces_words.specs.declared.policy.Policy.{Policy}
+use Rattle.plan_model.specs.declared.policy.Policy.{Policy}
 use Rattle.ir_model.specs.Plain.{PlainFirmware}
 use Rattle.plan_model.specs.declared.plan.Board.{Board}
 use Rattle.planning.specs.declared.refusal.PlanningRefusal.{PlanningRefusal}

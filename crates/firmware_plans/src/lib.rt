@@ -14,7 +14,7 @@ ghost use Rattle.compartments.specs.Divisions as divisions;
 ghost use Rattle.planning.specs.Planned.{IsPlannedFor};
 ghost use Rattle.planning.specs.Refusals.{IsPlanningRefusal};
 
-use aces_words::Policy;
+use plan_model::Policy;
 use compartments::analysis::firmware_needs;
 use compartments::division::division;
 use ir_model::checked::Checked;

@@ -11,7 +11,7 @@ ghost use Rattle.compartments.specs.Divisions as divisions;
 ghost use Rattle.firmware_stacks.specs.Limited.{IsLimited};
 ghost use Rattle.bounded_images.specs.Bounded.{IsStackBy};
 
-use aces_words::Policy;
+use plan_model::Policy;
 use bounded_images::laws::bounded_images;
 use compartments::division::division;
 use compile_limits::passed;

@@ -22,7 +22,8 @@ use Rattle.plan_model.specs.Permission.{may_write, may_read}
 use Rattle.monitor.specs.declared.tables.Tables.{Tables}
 use Rattle.monitor.specs.BlockWords.{current}
 use Rattle.monitor.specs.Confined.{later}
-use Rattle.linked_images.specs.Planned.{IsPlanned, planned_tables}
+use Rattle.linked_images.specs.Planned.{planned_tables}
+use Rattle.planning.specs.PlannedFirmwares.{IsPlanned}
 use Rattle.linked_promises.specs.Permissions.{IsOf, IsOnPeripherals, IsPermitted, OnPeripherals, InData, SlotsArePermitted}
 use Rattle.planned_images.specs.Whole.{IsForBoard}
 use Rattle.device_model.specs.Rules.{ObeysRules}

@@ -18,7 +18,8 @@ use Rattle.monitor.specs.BlockWords.{current}
 use Rattle.monitor.specs.Reach.{InBlock}
 use Rattle.monitor.specs.Confined.{later}
 use Rattle.link_model.specs.LinkedTables.{tables_of}
-use Rattle.linked_images.specs.Planned.{IsPlanned, planned_tables}
+use Rattle.linked_images.specs.Planned.{planned_tables}
+use Rattle.planning.specs.PlannedFirmwares.{IsPlanned}
 use Rattle.linked_images.proofs.Facts.{monitor_size_is}
 use Rattle.linked_promises.specs.Permissions.{IsByteOf, IsOnPeripherals, IsPermitted, OnPeripherals, InData, SlotsArePermitted}
 use Rattle.linked_promises.proofs.GlobalPlaces.{GlobalLaws, in_ram, off_stack, off_monitor}

@@ -10,7 +10,8 @@ use Rattle.plan_model.specs.declared.plan.Board.{Board}
 use Rattle.monitor.specs.declared.tables.Tables.{Tables}
 use Rattle.monitor.specs.BlockWords.{current, loan_number}
 use Rattle.monitor.specs.Confined.{later}
-use Rattle.linked_images.specs.Planned.{IsPlanned, planned_tables}
+use Rattle.linked_images.specs.Planned.{planned_tables}
+use Rattle.planning.specs.PlannedFirmwares.{IsPlanned}
 use Rattle.linked_promises.specs.Permissions.{SlotsArePermitted, SlotsHoldPermissions}
 use Rattle.linked_promises.proofs.GlobalPlaces.{GlobalLaws}
 use Rattle.planned_images.specs.Whole.{IsForBoard}

@@ -24,7 +24,8 @@ use Rattle.monitor.specs.BlockWords.{current}
 use Rattle.monitor.specs.Reach.{AllBytes, InOpenStack}
 use Rattle.monitor.specs.Confined.{later}
 use Rattle.monitor.specs.Handlers.{LoadFor, ForFlash, ForBlock, ForSystem, ForStack, ForLoan, ForReturn}
-use Rattle.linked_images.specs.Planned.{IsPlanned, planned_tables}
+use Rattle.linked_images.specs.Planned.{planned_tables}
+use Rattle.planning.specs.PlannedFirmwares.{IsPlanned}
 use Rattle.linked_promises.specs.Permissions.{IsByteOf, IsPermitted, OnPeripherals, InData, SlotsArePermitted}
 use Rattle.linked_promises.proofs.GlobalPlaces.{GlobalLaws, in_ram}
 use Rattle.planned_images.specs.Whole.{IsForBoard}

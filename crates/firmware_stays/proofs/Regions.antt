@@ -21,7 +21,8 @@ use Rattle.monitor.specs.BlockWords.{current}
 use Rattle.monitor.specs.Reach.{InBlock}
 use Rattle.monitor.specs.Confined.{later}
 use Rattle.link_model.specs.LinkedTables.{tables_of}
-use Rattle.linked_images.specs.Planned.{IsPlanned, plan, planned_sizes, planned_tables}
+use Rattle.linked_images.specs.Planned.{planned_tables}
+use Rattle.planning.specs.PlannedFirmwares.{IsPlanned, plan, planned_sizes}
 use Rattle.linked_images.proofs.Facts.{PlanLaws, monitor_size_is}
 use Rattle.linked_images.proofs.Ranges.{IsUse, block_in, block_size_is}
 use Rattle.linked_promises.proofs.GlobalPlaces.{same_or_other}

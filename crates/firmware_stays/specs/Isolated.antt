@@ -25,7 +25,8 @@ use Rattle.monitor.specs.declared.tables.Tables.{Tables}
 use Rattle.monitor.specs.BlockWords.{current, loan_number}
 use Rattle.monitor.specs.Reach.{running, IsInLoan}
 use Rattle.monitor.specs.Confined.{HasStarted, later}
-use Rattle.linked_images.specs.Planned.{IsPlanned, plan, planned_image, planned_tables}
+use Rattle.linked_images.specs.Planned.{planned_image, planned_tables}
+use Rattle.planning.specs.PlannedFirmwares.{IsPlanned, plan}
 use Rattle.linked_promises.specs.Permissions.{IsByteOf}
 use Rattle.planned_images.specs.Whole.{IsForBoard}
 use Rattle.memory_stays.specs.Acts.{byte_at, OnStack, Acts, Rests}

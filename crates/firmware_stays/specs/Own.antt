@@ -14,7 +14,8 @@ use Rattle.plan_model.specs.RamBlocks.{ForRegion}
 use Rattle.layout_laws.specs.RamLaws.{Holds}
 use Rattle.monitor.specs.declared.tables.Tables.{Tables}
 use Rattle.monitor.specs.Records.{compartment_at}
-use Rattle.linked_images.specs.Planned.{IsPlanned, plan, planned_tables}
+use Rattle.linked_images.specs.Planned.{planned_tables}
+use Rattle.planning.specs.PlannedFirmwares.{IsPlanned, plan}
 use Rattle.memory_stays.specs.Acts.{IsWritable}
 
 module _ (w : PlainFirmware) (n : Needs) (f : Final) (b : Board) where

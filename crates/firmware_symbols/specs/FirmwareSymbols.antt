@@ -1,6 +1,6 @@
 -- What `symbols` prints of a firmware.
 use Rattle.std.specs.Prelude.{◌≡◌, ℕ, List}
-use Rattle.aces_words.specs.declared.policy.Policy.{Policy}
+use Rattle.plan_model.specs.declared.policy.Policy.{Policy}
 use Rattle.ir_model.specs.Plain.{PlainFirmware}
 use Rattle.ir_model.specs.Resolve.{resolve}
 use Rattle.plan_model.specs.declared.needs.Needs.{Needs}

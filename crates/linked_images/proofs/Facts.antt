@@ -28,7 +28,8 @@ use Rattle.monitor.specs.Area.{area}
 use Rattle.monitor.specs.Page.{page}
 use Rattle.link_model.specs.LinkedImage.{flash_size, erased, with_tables, linked}
 use Rattle.link_model.specs.LinkedTables.{tables_of}
-use Rattle.linked_images.specs.Planned.{IsPlanned, planned_sizes, plan, planned_image}
+use Rattle.linked_images.specs.Planned.{planned_image}
+use Rattle.planning.specs.PlannedFirmwares.{IsPlanned, planned_sizes, plan}
 use Rattle.linked_images.proofs.FlashBack.{length-puts}
 use Rattle.linked_images.proofs.Powers.{block_is}
 use Rattle.linked_images.proofs.Flash.{size_is, one_of_sum}

@@ -6,7 +6,8 @@ use Rattle.plan_model.specs.declared.graph.Final.{Final}
 use Rattle.plan_model.specs.declared.plan.Board.{Board}
 use Rattle.monitor.specs.Checks.{header_fails}
 use Rattle.link_model.specs.LinkedImage.{linked}
-use Rattle.linked_images.specs.Planned.{IsPlanned, plan, planned_image}
+use Rattle.linked_images.specs.Planned.{planned_image}
+use Rattle.planning.specs.PlannedFirmwares.{IsPlanned, plan}
 use Rattle.linked_images.proofs.Passing.{and_yes, ne_yes, le_yes, apart_yes, must_yes}
 use Rattle.linked_images.proofs.Facts.{PlanLaws, length_is, flash_least, stack_least, stack_size_is, monitor_in, stack_apart}
 

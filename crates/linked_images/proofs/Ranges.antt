@@ -23,7 +23,8 @@ use Rattle.layout_laws.specs.RamPlaces.{HasBlock, block_for}
 use Rattle.monitor.specs.declared.tables.InitRecord.{InitRecord}
 use Rattle.monitor.specs.Promises.{RangesAreApart}
 use Rattle.link_model.specs.LinkedTables.{Filled, filled, filled_unwritten, init_records, words_begin, tables_of}
-use Rattle.linked_images.specs.Planned.{IsPlanned, plan, planned_tables}
+use Rattle.linked_images.specs.Planned.{planned_tables}
+use Rattle.planning.specs.PlannedFirmwares.{IsPlanned, plan}
 use Rattle.linked_images.proofs.Facts.{PlanLaws}
 use Rattle.layout_laws.proofs.PowersOfTwo.{block_positive}
 use Rattle.linked_images.proofs.Passing.{apart_from}

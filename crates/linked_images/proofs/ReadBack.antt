@@ -26,7 +26,8 @@ use Rattle.monitor.specs.declared.tables.Tables.{Tables}
 use Rattle.link_model.specs.Laws.{CountsAgree}
 use Rattle.link_model.specs.LinkedTables.{tables_of}
 use Rattle.link_model.specs.LinkedImage.{flash_size, erased, with_tables, linked}
-use Rattle.linked_images.specs.Planned.{IsPlanned, planned_sizes, plan, planned_tables, planned_image}
+use Rattle.linked_images.specs.Planned.{planned_tables, planned_image}
+use Rattle.planning.specs.PlannedFirmwares.{IsPlanned, planned_sizes, plan}
 use Rattle.linked_images.proofs.FlashBack.{IsOff, puts, puts_off, puts_in, in_all}
 use Rattle.linked_images.proofs.Flash.{code_ends, tables_end, code_count, code_size_is, tables_size_is, size_is}
 use Rattle.linked_images.proofs.AreaSize.{area_size}

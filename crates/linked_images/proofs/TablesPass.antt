@@ -23,7 +23,8 @@ use Rattle.monitor.specs.Layout.{greatest_code, tables_size, area_end}
 use Rattle.monitor.specs.Checks.{tables_fail}
 use Rattle.link_model.specs.LinkedTables.{comp_record, tables_of}
 use Rattle.link_model.specs.LinkedImage.{linked}
-use Rattle.linked_images.specs.Planned.{IsPlanned, planned_sizes, plan, planned_tables, planned_image}
+use Rattle.linked_images.specs.Planned.{planned_tables, planned_image}
+use Rattle.planning.specs.PlannedFirmwares.{IsPlanned, planned_sizes, plan}
 use Rattle.linked_images.proofs.Passing.{and_yes, le_yes, eq_yes, inside_yes, must_yes, then_yes}
 use Rattle.linked_images.proofs.Flash.{code_size_is}
 use Rattle.linked_images.proofs.Facts.{laid, length_is, needed_most, tables_at_most, tables_block_is, code_blocks_count, code_block_is, code_at_most}

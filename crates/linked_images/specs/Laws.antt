@@ -16,7 +16,8 @@ use Rattle.monitor.specs.Page as first
 use Rattle.monitor.specs.Layout.{page_size}
 use Rattle.monitor.specs.Checks.{header_fails, tables_fail}
 use Rattle.monitor.specs.Promises.{RangesAreApart}
-use Rattle.linked_images.specs.Planned.{IsPlanned, plan, planned_tables, planned_image}
+use Rattle.linked_images.specs.Planned.{planned_tables, planned_image}
+use Rattle.planning.specs.PlannedFirmwares.{IsPlanned, plan}
 
 -- of the image and the tables of each planned firmware
 abbrev pub OfPlanned : (Image → Tables → Type 0) → Type 0

@@ -22,7 +22,8 @@ use Rattle.monitor.specs.Area.{compartment_words, site_words, target_words, init
 use Rattle.monitor.specs.TheCode.{monitor_code}
 use Rattle.link_model.specs.LinkedTables.{comp_record, tables_of}
 use Rattle.link_model.specs.LinkedImage.{linked}
-use Rattle.linked_images.specs.Planned.{IsPlanned, plan, planned_tables, planned_image}
+use Rattle.linked_images.specs.Planned.{planned_tables, planned_image}
+use Rattle.planning.specs.PlannedFirmwares.{IsPlanned, plan}
 use Rattle.linked_images.specs.Laws.{FlashReadsBack}
 use Rattle.linked_images.proofs.Facts.{laid, length_is, flash_least, stack_in, monitor_in}
 use Rattle.plan_model.proofs.KeptLimits.{few}

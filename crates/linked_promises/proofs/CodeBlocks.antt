@@ -26,7 +26,8 @@ use Rattle.monitor.specs.declared.tables.CompRecord.{CompRecord}
 use Rattle.monitor.specs.Setting.{has_code}
 use Rattle.link_model.specs.LinkedTables.{tables_of}
 use Rattle.relation.specs.Builds.{entry_at}
-use Rattle.linked_images.specs.Planned.{IsPlanned, plan, planned_sizes, planned_tables}
+use Rattle.linked_images.specs.Planned.{planned_tables}
+use Rattle.planning.specs.PlannedFirmwares.{IsPlanned, plan, planned_sizes}
 use Rattle.linked_images.proofs.Facts.{PlanLaws, laid, code_block_is, code_blocks_count}
 use Rattle.linked_images.proofs.Flash.{code_count, code_size_is}
 use Rattle.linked_promises.specs.Parts.{CodeIsPlaced}

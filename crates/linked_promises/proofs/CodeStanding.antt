@@ -19,7 +19,8 @@ use Rattle.code_model.specs.Planned.{code_groups, code_places, planned_code}
 use Rattle.code_effects.specs.Items.{ItemsIn, InstructionsInTable, ItemsStand}
 use Rattle.link_model.specs.LinkedImage.{linked}
 use Rattle.monitor.specs.TheCode.{monitor_code}
-use Rattle.linked_images.specs.Planned.{IsPlanned, plan, planned_sizes, planned_image}
+use Rattle.linked_images.specs.Planned.{planned_image}
+use Rattle.planning.specs.PlannedFirmwares.{IsPlanned, plan, planned_sizes}
 use Rattle.linked_images.specs.Laws.{FlashReadsBack}
 use Rattle.linked_images.proofs.Facts.{length_is, code_blocks_count}
 use Rattle.linked_images.proofs.Flash.{code_ends}

@@ -23,7 +23,7 @@ use Rattle.lower_laws.specs.Fitting.{TypedFunctionsFit, TypedJumpsInside}
 use Rattle.lower_laws.specs.Reaching.{CompartmentsReach}
 use Rattle.code_effects.specs.Items.{InstructionsInTable}
 use Rattle.monitor.specs.TheCode.{monitor_code}
-use Rattle.linked_images.specs.Planned.{IsPlanned, plan}
+use Rattle.planning.specs.PlannedFirmwares.{IsPlanned, plan}
 use Rattle.linked_images.proofs.ReadBack.{ReadLaws}
 use Rattle.linked_promises.specs.Parts.{CodeIsPlaced}
 use Rattle.linked_promises.proofs.ByteLists.{below_at}

@@ -26,7 +26,8 @@ use Rattle.plan_model.specs.FinalGraph.{IsFinal}
 use Rattle.plan_model.specs.Slots.{data_slot, cover_slot, slot_uses, slot_regions, code_region, lend_mask, read_mask}
 use Rattle.monitor.specs.Area.{region_words, compartment_words}
 use Rattle.link_model.specs.LinkedTables.{comp_record, tables_of}
-use Rattle.linked_images.specs.Planned.{IsPlanned, plan, planned_sizes, planned_tables}
+use Rattle.linked_images.specs.Planned.{planned_tables}
+use Rattle.planning.specs.PlannedFirmwares.{IsPlanned, plan, planned_sizes}
 use Rattle.linked_images.proofs.Facts.{PlanLaws, laid, code_blocks_count}
 use Rattle.linked_images.proofs.Flash.{code_count}
 use Rattle.linked_images.proofs.Ranges.{block_in}

@@ -20,7 +20,8 @@ use Rattle.plan_model.specs.Placement.{region_spot}
 use Rattle.layout_laws.specs.RamLaws.{open_bytes}
 use Rattle.link_model.specs.LinkedImage.{linked}
 use Rattle.link_model.specs.LinkedTables.{tables_of}
-use Rattle.linked_images.specs.Planned.{IsPlanned, planned_sizes, plan, planned_tables, planned_image}
+use Rattle.linked_images.specs.Planned.{planned_tables, planned_image}
+use Rattle.planning.specs.PlannedFirmwares.{IsPlanned, planned_sizes, plan}
 use Rattle.linked_images.proofs.Facts.{PlanLaws, stack_least, stack_size_is, monitor_size_is}
 use Rattle.linked_images.proofs.Powers.{block_is}
 use Rattle.linked_images.proofs.OpenBytes.{words_held}

@@ -32,7 +32,7 @@ use Rattle.plan_model.specs.RamBlocks.{ForRegion}
 use Rattle.plan_model.specs.Placement.{region_spot}
 use Rattle.plan_model.specs.Slots.{SlotUse, data_rights, data_slot, cover_slot}
 use Rattle.layout_laws.specs.RamLaws.{Holds, open_bytes}
-use Rattle.linked_images.specs.Planned.{IsPlanned, plan, planned_sizes}
+use Rattle.planning.specs.PlannedFirmwares.{IsPlanned, plan, planned_sizes}
 use Rattle.linked_images.proofs.Powers.{block_is}
 use Rattle.linked_images.proofs.OpenBytes.{multiple}
 use Rattle.linked_images.proofs.Ranges.{IsUse, block_size_is, block_in, small}

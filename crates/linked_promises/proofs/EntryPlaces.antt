@@ -14,7 +14,7 @@ use Rattle.plan_model.specs.Placement.{compartment_spot, no_spot}
 use Rattle.code_model.specs.CompartmentCode.{CodeGroups, CodePlaces, compartment_of, members_from, before, total_size, compartment_size, entry_of}
 use Rattle.code_model.specs.Planned.{code_groups, code_places}
 use Rattle.monitor.specs.MonitorCode.{MonitorCode}
-use Rattle.linked_images.specs.Planned.{IsPlanned, plan, planned_sizes}
+use Rattle.planning.specs.PlannedFirmwares.{IsPlanned, plan, planned_sizes}
 use Rattle.linked_images.proofs.Facts.{laid, code_blocks_count, needed_most}
 use Rattle.linked_images.proofs.Flash.{code_count, code_ends}
 use Rattle.linked_images.proofs.ReadBack.{ReadLaws, code_length, code_fits}

@@ -19,7 +19,7 @@ use Rattle.plan_model.specs.Regions.{global_size}
 use Rattle.thread_runs.specs.Areas.{Area, Beside, Laid}
 use Rattle.common_laws.specs.Lists.{Each}
 use Rattle.relation.specs.Relation.{cells_at, objects_at}
-use Rattle.linked_images.specs.Planned.{IsPlanned, plan}
+use Rattle.planning.specs.PlannedFirmwares.{IsPlanned, plan}
 use Rattle.linked_images.proofs.Facts.{stack_in, stack_size_is, stack_least, monitor_in, monitor_size_is}
 use Rattle.linked_images.proofs.Passing.{apart_from}
 use Rattle.ir_laws.proofs.Aligned.{Divides, Aligned, none, more, through, plus, multiple}

@@ -21,7 +21,7 @@ use Rattle.layout_laws.specs.GlobalLaws.{HasAlignments, GlobalsAreLaid, GlobalsA
 use Rattle.layout_laws.specs.RamLaws.{Holds}
 use Rattle.layout_laws.specs.RamPlaces.{block_for}
 use Rattle.layout_laws.proofs.Offsets.{some_global}
-use Rattle.linked_images.specs.Planned.{IsPlanned, plan, planned_sizes}
+use Rattle.planning.specs.PlannedFirmwares.{IsPlanned, plan, planned_sizes}
 use Rattle.linked_images.proofs.Facts.{PlanLaws}
 use Rattle.linked_images.proofs.Powers.{block_is}
 use Rattle.linked_images.proofs.OpenBytes.{multiple}

@@ -38,7 +38,8 @@ use Rattle.link_model.specs.Laws.{CountsAgree}
 use Rattle.link_model.specs.FirstWords.{first_word, first_bytes}
 use Rattle.link_model.specs.LinkedTables.{Filled, filled, object_places, words_begin, tables_of}
 use Rattle.link_model.specs.LinkedImage.{linked}
-use Rattle.linked_images.specs.Planned.{IsPlanned, plan, planned_tables, planned_image}
+use Rattle.linked_images.specs.Planned.{planned_tables, planned_image}
+use Rattle.planning.specs.PlannedFirmwares.{IsPlanned, plan}
 use Rattle.linked_images.specs.Laws.{FlashReadsBack}
 use Rattle.linked_promises.specs.Parts.{linked_build}
 use Rattle.ir_laws.proofs.GlobalShapes.{global_shaped}

@@ -19,7 +19,7 @@ use Rattle.layout.proofs.Searches.{position_is}
 use Rattle.layout_laws.specs.GlobalLaws.{HasAlignments}
 use Rattle.layout_laws.specs.RamPlaces.{block_for}
 use Rattle.layout_laws.proofs.Offsets.{grows}
-use Rattle.linked_images.specs.Planned.{IsPlanned, plan, planned_sizes}
+use Rattle.planning.specs.PlannedFirmwares.{IsPlanned, plan, planned_sizes}
 use Rattle.linked_images.proofs.Facts.{PlanLaws}
 use Rattle.linked_images.proofs.Powers.{block_is}
 use Rattle.linked_images.proofs.Ranges.{globals_for, IsUse, block_in, small}

@@ -16,7 +16,8 @@ use Rattle.monitor.specs.Setting.{may_load, may_store}
 use Rattle.link_model.specs.LinkedImage.{linked}
 use Rattle.link_model.specs.LinkedTables.{tables_of}
 use Rattle.relation.specs.Builds.{global_starts}
-use Rattle.linked_images.specs.Planned.{IsPlanned, planned_tables, planned_image}
+use Rattle.linked_images.specs.Planned.{planned_tables, planned_image}
+use Rattle.planning.specs.PlannedFirmwares.{IsPlanned}
 use Rattle.linked_promises.specs.Parts.{LoansAreKept}
 use Rattle.linked_promises.specs.Globals.{GlobalsArePlaced}
 use Rattle.linked_promises.proofs.GlobalPlaces.{address, in_ram}

@@ -30,7 +30,8 @@ use Rattle.monitor.specs.RegionChecks.{is_data_range}
 use Rattle.monitor.specs.Checks.{is_init, inits_from, inits_fail}
 use Rattle.link_model.specs.LinkedTables.{init_records, words_begin, tables_of}
 use Rattle.link_model.specs.LinkedImage.{linked}
-use Rattle.linked_images.specs.Planned.{IsPlanned, planned_sizes, plan, planned_tables, planned_image}
+use Rattle.linked_images.specs.Planned.{planned_tables, planned_image}
+use Rattle.planning.specs.PlannedFirmwares.{IsPlanned, planned_sizes, plan}
 use Rattle.linked_images.proofs.Facts.{stack_size_is, stack_least, monitor_size_is}
 use Rattle.linked_images.proofs.Powers.{block_is}
 use Rattle.linked_images.proofs.OpenBytes.{multiple, words_held}

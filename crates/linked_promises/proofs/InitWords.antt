@@ -22,7 +22,8 @@ use Rattle.monitor.specs.Layout.{initial_word_count}
 use Rattle.monitor.specs.Area.{init_words}
 use Rattle.link_model.specs.FirstWords.{first_bytes, first_words}
 use Rattle.link_model.specs.LinkedTables.{Filled, object_places, init_records, words_begin, filled, tables_of}
-use Rattle.linked_images.specs.Planned.{IsPlanned, plan, planned_sizes, planned_tables}
+use Rattle.linked_images.specs.Planned.{planned_tables}
+use Rattle.planning.specs.PlannedFirmwares.{IsPlanned, plan, planned_sizes}
 use Rattle.linked_images.proofs.Facts.{laid, needed_most, tables_at_most, tables_block_is}
 use Rattle.linked_images.proofs.Powers.{block_is}
 use Rattle.linked_images.proofs.Ranges.{IsUse, uses, uses_are, filled_for, filled_is, globals_for, block_in, small}

@@ -17,7 +17,8 @@ use Rattle.monitor.specs.Area.{head, compartment_words, site_words, target_words
 use Rattle.link_model.specs.Laws.{CountsAgree}
 use Rattle.link_model.specs.FirstWords.{first_words}
 use Rattle.link_model.specs.LinkedTables.{Filled, filled, object_places, words_begin, tables_of}
-use Rattle.linked_images.specs.Planned.{IsPlanned, plan, planned_tables, planned_image}
+use Rattle.linked_images.specs.Planned.{planned_tables, planned_image}
+use Rattle.planning.specs.PlannedFirmwares.{IsPlanned, plan}
 use Rattle.linked_images.specs.Laws.{FlashReadsBack}
 use Rattle.linked_images.proofs.AreaSize.{area_size}
 use Rattle.linked_images.proofs.Facts.{PlanLaws, laid}

@@ -33,7 +33,8 @@ use Rattle.monitor.specs.Setting.{has_loan, has_read_loan, may_load}
 use Rattle.link_model.specs.LinkedTables.{tables_of, comp_record, lend_sizes}
 use Rattle.link_model.specs.LinkedImage.{linked}
 use Rattle.relation.specs.Linked.{HasLoans}
-use Rattle.linked_images.specs.Planned.{IsPlanned, plan, planned_tables, planned_image}
+use Rattle.linked_images.specs.Planned.{planned_tables, planned_image}
+use Rattle.planning.specs.PlannedFirmwares.{IsPlanned, plan}
 use Rattle.linked_promises.specs.Parts.{linked_build, LoansAreKept, KindsAgree}
 use Rattle.linked_promises.proofs.Bits.{mask_bit}
 use Rattle.linked_promises.proofs.Kept.{kept_final}

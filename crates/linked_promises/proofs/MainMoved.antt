@@ -11,7 +11,8 @@ use Rattle.plan_model.specs.Groups.{compartment_of}
 use Rattle.code_model.specs.Planned.{planned_entry}
 use Rattle.monitor.specs.TheCode.{monitor_code}
 use Rattle.link_model.specs.LinkedTables.{tables_of}
-use Rattle.linked_images.specs.Planned.{IsPlanned, plan, planned_tables, planned_image}
+use Rattle.linked_images.specs.Planned.{planned_tables, planned_image}
+use Rattle.planning.specs.PlannedFirmwares.{IsPlanned, plan}
 use Rattle.plan_model.proofs.KeptLimits.{few}
 use Rattle.linked_images.proofs.ReadBack.{ReadLaws}
 use Rattle.linked_promises.specs.Parts.{CodeIsPlaced}

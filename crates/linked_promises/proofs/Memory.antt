@@ -5,7 +5,7 @@ use Rattle.std.proofs.lemmas.Nat.{div-add-mod', mod_below, pow-add}
 use mathlib.Core.Logic.{⊎_elim}
 use Rattle.link_model.specs.LinkedImage.{linked}
 use Rattle.link_model.specs.LinkedTables.{tables_of}
-use Rattle.linked_images.specs.Planned.{plan}
+use Rattle.planning.specs.PlannedFirmwares.{plan}
 use Rattle.linked_images.proofs.Facts.{PlanLaws, stack_in, stack_size_is, stack_least, monitor_in, monitor_size_is, stack_apart}
 use Rattle.linked_promises.proofs.Windows.{multiple_of, power_split}
 use Rattle.linked_promises.specs.Parts.{MemoryIsLaid}

@@ -35,7 +35,8 @@ use Rattle.monitor.specs.declared.tables.CompRecord.{CompRecord}
 use Rattle.monitor.specs.Records.{compartment_at, nobody}
 use Rattle.monitor.specs.Setting.{may_load, may_store, allows_stores}
 use Rattle.link_model.specs.LinkedTables.{tables_of, comp_record}
-use Rattle.linked_images.specs.Planned.{IsPlanned, plan, planned_sizes, planned_tables, planned_image}
+use Rattle.linked_images.specs.Planned.{planned_tables, planned_image}
+use Rattle.planning.specs.PlannedFirmwares.{IsPlanned, plan, planned_sizes}
 use Rattle.linked_promises.proofs.Bearing.{written_stores, borne_holds}
 use Rattle.linked_promises.proofs.Compartments.{in_compartment}
 use Rattle.linked_promises.proofs.Reach.{one_of, has_listed}

@@ -25,7 +25,7 @@ use Rattle.code_model.specs.Planned.{call_sites, code_groups, code_places}
 use Rattle.code_model.specs.Laws.{SitesAgree}
 use Rattle.lower_laws.specs.Fitting.{TypedFunctionsFit}
 use Rattle.monitor.specs.TheCode.{monitor_code}
-use Rattle.linked_images.specs.Planned.{IsPlanned, plan}
+use Rattle.planning.specs.PlannedFirmwares.{IsPlanned, plan}
 use Rattle.plan_model.proofs.KeptLimits.{few}
 use Rattle.linked_images.proofs.ReadBack.{ReadLaws}
 use Rattle.linked_promises.specs.Parts.{CodeIsPlaced}

@@ -32,7 +32,8 @@ use Rattle.monitor.specs.RegionChecks.{is_code, is_free, is_data, is_read_only, 
 use Rattle.monitor.specs.Checks.{regions_fail}
 use Rattle.link_model.specs.LinkedTables.{comp_record, tables_of}
 use Rattle.link_model.specs.LinkedImage.{linked}
-use Rattle.linked_images.specs.Planned.{IsPlanned, planned_sizes, plan, planned_tables, planned_image}
+use Rattle.linked_images.specs.Planned.{planned_tables, planned_image}
+use Rattle.planning.specs.PlannedFirmwares.{IsPlanned, planned_sizes, plan}
 use Rattle.linked_images.proofs.Facts.{PlanLaws, laid, length_is, needed_most, code_blocks_count, code_block_is, code_at_most}
 use Rattle.linked_images.proofs.Flash.{code_count, code_size_is, code_ends}
 use Rattle.linked_images.proofs.Passing.{and_yes, lt_yes, eq_yes, inside_yes, each_yes}

@@ -12,7 +12,8 @@ use Rattle.plan_model.specs.declared.graph.Final.{Final}
 use Rattle.plan_model.specs.declared.plan.Board.{Board}
 use Rattle.plan_model.specs.declared.plan.Plan.{Plan}
 use Rattle.link_model.specs.LinkedImage.{linked}
-use Rattle.linked_images.specs.Planned.{IsPlanned, plan, planned_sizes, planned_image}
+use Rattle.linked_images.specs.Planned.{planned_image}
+use Rattle.planning.specs.PlannedFirmwares.{IsPlanned, plan, planned_sizes}
 use Rattle.linked_images.proofs.Facts.{PlanLaws, length_is, needed_most, flash_least, stack_in, stack_size_is, monitor_in, monitor_size_is}
 use Rattle.linked_promises.specs.Parts.{MemoryIsLaid}
 use Rattle.linked_promises.specs.Regions.{ImagesObeyRules, MemoryObeysRules}

@@ -27,7 +27,8 @@ use Rattle.code_model.specs.Planned.{code_groups, code_places, planned_entry}
 use Rattle.monitor.specs.declared.tables.TargetRecord.{TargetRecord}
 use Rattle.monitor.specs.Area.{site_words, target_words}
 use Rattle.link_model.specs.LinkedTables.{planned_places, return_address, site_records, target_record, target_records, tables_of}
-use Rattle.linked_images.specs.Planned.{IsPlanned, plan, planned_sizes, planned_tables}
+use Rattle.linked_images.specs.Planned.{planned_tables}
+use Rattle.planning.specs.PlannedFirmwares.{IsPlanned, plan, planned_sizes}
 use Rattle.linked_images.proofs.Facts.{laid, code_blocks_count, needed_most, tables_at_most, tables_block_is}
 use Rattle.linked_images.proofs.Flash.{code_count}
 use Rattle.linked_images.proofs.ReadBack.{ReadLaws, code_length, code_fits}

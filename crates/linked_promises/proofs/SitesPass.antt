@@ -22,7 +22,8 @@ use Rattle.monitor.specs.TheCode.{monitor_code}
 use Rattle.relation.specs.Builds.{Build}
 use Rattle.link_model.specs.Laws.{CountsAgree}
 use Rattle.link_model.specs.LinkedTables.{site_records, target_records, tables_of}
-use Rattle.linked_images.specs.Planned.{IsPlanned, plan, planned_tables}
+use Rattle.linked_images.specs.Planned.{planned_tables}
+use Rattle.planning.specs.PlannedFirmwares.{IsPlanned, plan}
 use Rattle.plan_model.proofs.KeptLimits.{few}
 use Rattle.linked_images.proofs.Passing.{and_yes, lt_yes, eq_yes, must_yes, then_yes, each_yes}
 use Rattle.linked_promises.specs.Parts.{linked_build, CodeIsPlaced, IsPlaced}

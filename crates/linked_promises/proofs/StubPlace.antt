@@ -12,7 +12,8 @@ use Rattle.monitor.specs.Page.{stub_offset}
 use Rattle.monitor.specs.Reset.{reset}
 use Rattle.monitor.specs.Svc.{svc}
 use Rattle.link_model.specs.LinkedTables.{tables_of}
-use Rattle.linked_images.specs.Planned.{IsPlanned, planned_tables}
+use Rattle.linked_images.specs.Planned.{planned_tables}
+use Rattle.planning.specs.PlannedFirmwares.{IsPlanned}
 use Rattle.linked_images.proofs.Facts.{PlanLaws, laid}
 use Rattle.linked_promises.specs.CodeInFlash.{StubIsPlaced}
 use Rattle.gate_steps.proofs.CodeParts.{length_even}

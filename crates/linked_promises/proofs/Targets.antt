@@ -35,7 +35,8 @@ use Rattle.monitor.specs.TheCode.{monitor_code}
 use Rattle.relation.specs.Builds.{entry_at, half_at, places_at}
 use Rattle.link_model.specs.Laws.{CountsAgree}
 use Rattle.link_model.specs.LinkedTables.{planned_places, return_address, site_records, target_record, tables_of}
-use Rattle.linked_images.specs.Planned.{IsPlanned, plan, planned_sizes, planned_tables}
+use Rattle.linked_images.specs.Planned.{planned_tables}
+use Rattle.planning.specs.PlannedFirmwares.{IsPlanned, plan, planned_sizes}
 use Rattle.linked_images.proofs.Facts.{PlanLaws, laid, code_block_is, code_blocks_count}
 use Rattle.linked_images.proofs.Flash.{code_count, code_size_is}
 use Rattle.linked_images.proofs.Passing.{and_yes, lt_yes, eq_yes}

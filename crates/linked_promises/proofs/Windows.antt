@@ -17,7 +17,8 @@ use Rattle.plan_model.specs.declared.needs.Needs.{Needs}
 use Rattle.plan_model.specs.declared.graph.Final.{Final}
 use Rattle.plan_model.specs.declared.plan.Board.{Board}
 use Rattle.link_model.specs.LinkedImage.{linked}
-use Rattle.linked_images.specs.Planned.{IsPlanned, planned_image}
+use Rattle.linked_images.specs.Planned.{planned_image}
+use Rattle.planning.specs.PlannedFirmwares.{IsPlanned}
 use Rattle.linked_images.proofs.Facts.{PlanLaws, length_is, needed_most}
 use Rattle.linked_promises.specs.Parts.{WindowsArePromised}
 use Rattle.linked_promises.proofs.WindowsOpen.{FitsSlots, windows_are_open}

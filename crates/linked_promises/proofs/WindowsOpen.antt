@@ -40,7 +40,8 @@ use Rattle.monitor.specs.declared.tables.CompRecord.{CompRecord}
 use Rattle.monitor.specs.Records.{compartment_at}
 use Rattle.monitor.specs.Setting.{may_load, may_store, allows_stores}
 use Rattle.mpu_model.specs.Protection.{deciding}
-use Rattle.linked_images.specs.Planned.{IsPlanned, plan, planned_tables, planned_image}
+use Rattle.linked_images.specs.Planned.{planned_tables, planned_image}
+use Rattle.planning.specs.PlannedFirmwares.{IsPlanned, plan}
 use Rattle.linked_promises.specs.Parts.{WindowsAreOpen}
 use Rattle.linked_promises.proofs.Bearing.{Bears, Borne, here, there, Written, this, behind, written_behind, borne_holds, written_stores, cover_lets, covers_harmless}
 use Rattle.linked_promises.proofs.Covers.{stays_all}

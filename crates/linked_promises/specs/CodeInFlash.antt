@@ -22,7 +22,8 @@ use Rattle.monitor.specs.Checks.{code_fails}
 use Rattle.monitor.specs.FromFlash.{moved_word_at}
 use Rattle.monitor.specs.Setting.{Setting}
 use Rattle.relation.specs.Builds.{Build, groups_of}
-use Rattle.linked_images.specs.Planned.{IsPlanned, plan, planned_image}
+use Rattle.linked_images.specs.Planned.{planned_image}
+use Rattle.planning.specs.PlannedFirmwares.{IsPlanned, plan}
 use Rattle.linked_images.specs.Laws.{OfPlanned}
 use Rattle.linked_promises.specs.Parts.{linked_build}
 

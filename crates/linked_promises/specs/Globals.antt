@@ -16,7 +16,7 @@ use Rattle.thread_runs.specs.Areas.{Area, Laid}
 use Rattle.thread_runs.specs.Areas as areas
 use Rattle.relation.specs.Builds.{Build, compartment_of}
 use Rattle.relation.specs.Relation.{global_areas}
-use Rattle.linked_images.specs.Planned.{IsPlanned}
+use Rattle.planning.specs.PlannedFirmwares.{IsPlanned}
 use Rattle.linked_promises.specs.Parts.{linked_build}
 
 pub record HasPlacedGlobals (k : Build) : Type 0 where

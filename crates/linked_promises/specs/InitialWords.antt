@@ -11,7 +11,7 @@ use Rattle.monitor.specs.MonitorCode.{MonitorCode}
 use Rattle.monitor.specs.Checks.{inits_fail}
 use Rattle.relation.specs.Relation.{global_areas, object_words}
 use Rattle.relation.specs.Linked.{InFlash}
-use Rattle.linked_images.specs.Planned.{IsPlanned}
+use Rattle.planning.specs.PlannedFirmwares.{IsPlanned}
 use Rattle.linked_images.specs.Laws.{OfPlanned}
 use Rattle.linked_promises.specs.Parts.{linked_build}
 

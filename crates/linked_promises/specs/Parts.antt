@@ -20,7 +20,8 @@ use Rattle.ir_model.specs.Resolved.{window_at}
 use Rattle.relation.specs.Builds.{groups_of, compartment_of, entry_at}
 use Rattle.std.proofs.Math.ListN.{get_or}
 use Rattle.code_model.specs.CompartmentCode.{compartment_size}
-use Rattle.linked_images.specs.Planned.{IsPlanned, plan, planned_tables, planned_image}
+use Rattle.linked_images.specs.Planned.{planned_tables, planned_image}
+use Rattle.planning.specs.PlannedFirmwares.{IsPlanned, plan}
 
 -- what is linked of a planned firmware, with the monitor's code
 abbrev pub linked_build : MonitorCode → PlainFirmware → Needs → Final → Board → Build

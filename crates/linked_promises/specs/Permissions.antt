@@ -22,7 +22,8 @@ use Rattle.plan_model.specs.Permission.{may_write, may_read}
 use Rattle.layout_laws.specs.RamLaws.{Holds}
 use Rattle.monitor.specs.declared.tables.Tables.{Tables}
 use Rattle.monitor.specs.Records.{compartment_at}
-use Rattle.linked_images.specs.Planned.{IsPlanned, plan, planned_tables}
+use Rattle.linked_images.specs.Planned.{planned_tables}
+use Rattle.planning.specs.PlannedFirmwares.{IsPlanned, plan}
 
 -- an address of a range
 abbrev pub IsOf : Cover → (address : ℕ) → Type 0

@@ -9,7 +9,7 @@ use Rattle.device_model.specs.Rules.{ObeysRules}
 use Rattle.monitor.specs.MonitorCode.{MonitorCode}
 use Rattle.monitor.specs.Checks.{regions_fail}
 use Rattle.thread_runs.specs.Owned.{MemoryRules}
-use Rattle.linked_images.specs.Planned.{IsPlanned}
+use Rattle.planning.specs.PlannedFirmwares.{IsPlanned}
 use Rattle.linked_images.specs.Laws.{OfPlanned}
 use Rattle.linked_promises.specs.Parts.{linked_build}
 

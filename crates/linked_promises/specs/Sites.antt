@@ -9,7 +9,7 @@ use Rattle.need_laws.specs.Reached.{HasTarget}
 use Rattle.monitor.specs.Checks.{sites_fail, lends_fail}
 use Rattle.monitor.specs.MonitorCode.{MonitorCode}
 use Rattle.relation.specs.Builds.{Build, compartment_of, entry_at, half_at, site_at}
-use Rattle.linked_images.specs.Planned.{IsPlanned}
+use Rattle.planning.specs.PlannedFirmwares.{IsPlanned}
 use Rattle.linked_images.specs.Laws.{OfPlanned}
 use Rattle.linked_promises.specs.Parts.{linked_build}
 

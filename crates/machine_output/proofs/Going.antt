@@ -17,7 +17,7 @@ use Rattle.watch.specs.declared.session.Pause.TheVariants.{Hit, Ended}
 use Rattle.watch.specs.Sessions.{SessionState}
 use Rattle.watch.specs.Watched.{MissesAll, Says}
 use Rattle.lines.specs.Lines.{event_line}
-use Rattle.aces_reports.specs.Sinks.{SinkState, Puts}
+use Rattle.outside.specs.Sinks.{SinkState, Puts}
 use Rattle.machine_output.specs.Runs.{event_lines}
 use Rattle.machine_output.specs.Watching.{told_line, IsStepped, IsPrinted, IsBroken}
 

@@ -17,7 +17,7 @@ use Rattle.watch.specs.declared.session.Pause.{Pause}
 use Rattle.watch.specs.declared.session.Pause.TheVariants.{Hit, Ended}
 use Rattle.watch.specs.Watched.{MissesAll, HitsLast, Says}
 use Rattle.lines.specs.Lines.{end_line, watch_line}
-use Rattle.aces_reports.specs.Sinks.{SinkState, Puts}
+use Rattle.outside.specs.Sinks.{SinkState, Puts}
 use Rattle.machine_output.specs.Runs.{end_of, event_lines, run_lines, end_status}
 use Rattle.machine_output.specs.Watches.{accesses, AnswersAt, WatchedRun, hit, missed}
 use Rattle.machine_output.specs.Watching.{IsPrinted, IsBroken, IsWhole, IsPart, pause_line, pause_status}

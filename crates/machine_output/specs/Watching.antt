@@ -14,7 +14,7 @@ use Rattle.watch.specs.declared.session.Pause.TheVariants.{Hit, Ended}
 use Rattle.watch.specs.Sessions.{SessionState}
 use Rattle.watch.specs.Watched.{MissesAll, Says}
 use Rattle.lines.specs.Lines.{event_line, end_line, watch_line}
-use Rattle.aces_reports.specs.Sinks.{SinkState}
+use Rattle.outside.specs.Sinks.{SinkState}
 use Rattle.machine_output.specs.Runs.{event_lines, end_status}
 use Rattle.machine_output.specs.Watches.{WatchedRun}
 

@@ -8,7 +8,7 @@ ghost use Rattle.outside.specs.Counts.{Rose};
 ghost use Rattle.outside.specs.Contents.{AddsPrefix};
 ghost use Rattle.device_model.specs.Rules.{ObeysRules};
 ghost use Rattle.lines.specs.Lines as lines;
-ghost use Rattle.aces_reports.specs.Sinks.{Puts, sink};
+ghost use Rattle.outside.specs.Sinks.{Puts, sink};
 ghost use Rattle.machine_output.specs.Runs.{end_of, event_lines, run_lines, HasLine};
 
 use armv7m::laws::{ended_machines, listed_accesses};

@@ -7,7 +7,7 @@ ghost use Rattle.device_model.specs.Rules.{ObeysRules};
 ghost use Rattle.armv7m.specs.declared.state.End.TheVariants.{Limit};
 ghost use Rattle.watch.specs.Answers.{AnswersEqually};
 ghost use Rattle.watch.specs.declared.session.Pause.TheVariants.{Ended};
-ghost use Rattle.aces_reports.specs.Sinks.{Puts, sink};
+ghost use Rattle.outside.specs.Sinks.{Puts, sink};
 ghost use Rattle.machine_output.specs.Runs.{HasLine};
 ghost use Rattle.machine_output.specs.Watches as watches;
 ghost use Rattle.machine_output.specs.Watching as watching;

@@ -3,3 +3,4 @@ pub mod Counts
 pub mod Contents
 pub mod Memory
 pub mod Calls
+pub mod Sinks

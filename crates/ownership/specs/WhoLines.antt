@@ -3,8 +3,8 @@
 use Rattle.std.specs.Prelude.{ℕ, List, [], ◌++◌, codes, length, map, flat_map, if◌then◌else◌, Option, Some, None, position, nat_eq}
 use Rattle.std.specs.Fmt.{decimal}
 use Rattle.lines.specs.Lines.{line_feed}
-use Rattle.aces_words.specs.declared.policy.Policy.{Policy}
-use Rattle.aces_words.specs.declared.policy.Policy.TheVariants.{Filename, Optimized, Peripheral}
+use Rattle.plan_model.specs.declared.policy.Policy.{Policy}
+use Rattle.plan_model.specs.declared.policy.Policy.TheVariants.{Filename, Optimized, Peripheral}
 use Rattle.ir_model.specs.Resolved.{file_of, window_at}
 use Rattle.plan_model.specs.Groups.{compartment_of}
 use Rattle.plan_model.specs.Lists.{numbers_below}

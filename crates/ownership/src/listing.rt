@@ -7,7 +7,7 @@ ghost use Rattle.ownership.specs.WhoLines as lines;
 use crate::calls::put_caller;
 use crate::exposures::put_exposures;
 use crate::objects::{put_compartment, put_global, put_periph};
-use aces_words::Policy;
+use plan_model::Policy;
 use report::subject::Subject;
 use report::text::Text;
 use std::alloc::{AllocError, Global};

@@ -9,7 +9,7 @@ ghost use Rattle.ownership.specs.WhoLines as lines;
 
 use crate::reach::is_tied;
 use crate::ties::Tie;
-use aces_words::Policy;
+use plan_model::Policy;
 use ir_program::program::Program;
 use plan_model::groups::Groups;
 use report::naming::{file_name, global_name, periph_name};

@@ -23,7 +23,8 @@ use Rattle.plan_model.specs.Slots.{kept_mask}
 use Rattle.monitor.specs.declared.tables.CompRecord.{CompRecord}
 use Rattle.monitor.specs.Records.{compartment_at, nobody}
 use Rattle.link_model.specs.LinkedTables.{tables_of, comp_record}
-use Rattle.linked_images.specs.Planned.{IsPlanned, plan, planned_tables}
+use Rattle.linked_images.specs.Planned.{planned_tables}
+use Rattle.planning.specs.PlannedFirmwares.{IsPlanned, plan}
 use Rattle.linked_promises.proofs.Kept.{kept_final}
 use Rattle.permission_laws.specs.Needed.{MasksAreNeeded, PlannedMasksAreNeeded}
 

@@ -30,7 +30,7 @@ use Rattle.plan_model.specs.Lending.{is_local}
 use Rattle.plan_model.specs.Merging.{next}
 use Rattle.plan_model.specs.Permission.{is_set, may_write}
 use Rattle.plan_model.specs.Regions.{region_at, no_region, global_size, size_of}
-use Rattle.linked_images.specs.Planned.{IsPlanned}
+use Rattle.planning.specs.PlannedFirmwares.{IsPlanned}
 use Rattle.linked_promises.proofs.Lists.{any_index, each_map, each_passing, below_all}
 use Rattle.linked_promises.proofs.CoverParts.{each_in_order}
 use Rattle.common_laws.proofs.Lists.{each_at}

@@ -35,7 +35,7 @@ use Rattle.plan_model.specs.Regions.{region_at, no_region, is_user}
 use Rattle.plan_model.proofs.KeptLimits as limits
 use Rattle.need_laws.specs.Laws.{IsThere, NoStepLeavesNeeds}
 use Rattle.need_laws.specs.Reached.{IsListed, ListsPeriph, IsInNeeds}
-use Rattle.linked_images.specs.Planned.{IsPlanned}
+use Rattle.planning.specs.PlannedFirmwares.{IsPlanned}
 use Rattle.linked_promises.proofs.Bits.{mask_bit}
 use Rattle.linked_promises.proofs.Compartments.{in_compartment}
 use Rattle.linked_promises.proofs.FinalRegions as regions

@@ -18,7 +18,8 @@ use Rattle.plan_model.specs.Merging.{next}
 use Rattle.plan_model.specs.Permission.{may_write}
 use Rattle.plan_model.specs.Regions.{region_at, global_size}
 use Rattle.monitor.specs.Records.{compartment_at}
-use Rattle.linked_images.specs.Planned.{IsPlanned, planned_tables}
+use Rattle.linked_images.specs.Planned.{planned_tables}
+use Rattle.planning.specs.PlannedFirmwares.{IsPlanned}
 
 module _ (w : PlainFirmware) (n : Needs) (f : Final) (b : Board) where
   abbrev p : Program

@@ -10,6 +10,7 @@ pub mod Lending
 pub mod CompileLimits
 pub mod Facts
 pub mod Policies
+pub mod PolicyWords
 pub mod Compartments
 pub mod InitialGraph
 pub mod Regions

@@ -6,5 +6,7 @@ pub mod groups;
 pub mod limits;
 pub mod needs;
 pub mod plan;
+mod policy;
 
 pub use plan::Spot;
+pub use policy::Policy;

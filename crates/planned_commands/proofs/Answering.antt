@@ -1,6 +1,6 @@
 -- Answers of commands on a firmware and a board, whatever they answer by what both files hold.
 use Rattle.std.proofs.Common.{◌≡◌, ℕ, List, None, refl, subst}
-use Rattle.aces_words.specs.declared.policy.Policy.{Policy}
+use Rattle.plan_model.specs.declared.policy.Policy.{Policy}
 use Rattle.aces_words.specs.Requests.{Origin, file_origin, firmware_origin}
 use Rattle.commands.specs.Outcomes.{Outcome}
 use Rattle.planned_commands.specs.PlanAnswer.{PlanAnswer, no_firmware, no_board, too_many, meets_denied, no_flash, no_ram}

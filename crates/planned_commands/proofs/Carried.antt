@@ -6,7 +6,7 @@ use Rattle.outside.specs.Calls.{Call}
 use Rattle.aces_reports.specs.declared.failure.Done.{Done}
 use Rattle.aces_reports.specs.declared.failure.Failure.{Failure}
 use Rattle.aces_reports.specs.declared.failure.Failure.TheVariants.{Refused, PastLimit, Denied, NoRoom, Unread, Unwritten, Unprinted, NoMemory}
-use Rattle.aces_reports.specs.Sinks.{SinkState}
+use Rattle.outside.specs.Sinks.{SinkState}
 use Rattle.aces_reports.specs.Ends.{status_of}
 use Rattle.aces_words.specs.Requests.{Request, Origin, origins, file_origin, firmware_origin}
 use Rattle.commands.specs.Known.{Held, IsNamed, IsMissing, IsCallOf}

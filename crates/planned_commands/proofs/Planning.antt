@@ -1,6 +1,6 @@
 -- Firmwares that are not planned.
 use Rattle.std.proofs.Common.{◌≡◌, inl, inr, ℕ, List, None, sym, subst}
-use Rattle.aces_words.specs.declared.policy.Policy.{Policy}
+use Rattle.plan_model.specs.declared.policy.Policy.{Policy}
 use Rattle.ir_model.specs.Plain.{PlainFirmware}
 use Rattle.plan_model.specs.declared.plan.Board.{Board}
 use Rattle.board_text.specs.Reading.{IsRead}

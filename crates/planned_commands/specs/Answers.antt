@@ -2,7 +2,7 @@
 use Rattle.std.specs.Prelude.{ℕ, List, None}
 use Rattle.aces_reports.specs.declared.failure.Fault.{Fault}
 use Rattle.aces_words.specs.Requests.{Origin}
-use Rattle.aces_words.specs.declared.policy.Policy.{Policy}
+use Rattle.plan_model.specs.declared.policy.Policy.{Policy}
 use Rattle.ir_model.specs.Plain.{PlainFirmware}
 use Rattle.plan_model.specs.declared.plan.Board.{Board}
 use Rattle.plan_model.specs.declared.limits.LimitKind.{LimitKind}

@@ -7,7 +7,7 @@ use Rattle.aces_reports.specs.declared.failure.Done.{Done}
 use Rattle.aces_reports.specs.declared.failure.Failure.{Failure}
 use Rattle.aces_reports.specs.declared.failure.Failure.TheVariants.{Refused, PastLimit, Denied, NoRoom, Unread, Unwritten, Unprinted, NoMemory}
 use Rattle.aces_reports.specs.declared.failure.Fault.TheVariants.{TooLarge}
-use Rattle.aces_reports.specs.Sinks.{SinkState, Puts}
+use Rattle.outside.specs.Sinks.{SinkState, Puts}
 use Rattle.aces_words.specs.Requests.{Origin, file_origin, firmware_origin, file_limit, firmware_limit}
 use Rattle.commands.specs.CarriesOut.{IsKnown, IsKnownLarge, NamesLast}
 use Rattle.commands.specs.Loads.{IsLoadFailure}

@@ -2,7 +2,7 @@
 
 ghost use Rattle.std.specs.Prelude.{◌≤◌, IfOk, IfErr, length};
 ghost use Rattle.aces_words.specs.Requests.{firmware_limit};
-ghost use Rattle.aces_reports.specs.Sinks.{sink};
+ghost use Rattle.outside.specs.Sinks.{sink};
 ghost use Rattle.planned_commands.specs.Both.{AreRead, AreNotRead, Prints};
 
 use aces_reports::{Done, Failure};

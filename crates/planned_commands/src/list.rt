@@ -6,11 +6,11 @@ ghost use Rattle.commands.specs.Outcomes.{done};
 ghost use Rattle.commands.specs.Loads.{IsRefusal};
 ghost use Rattle.commands.specs.CarriesOut.{CarriesOut};
 ghost use Rattle.planned_commands.specs.Answers.{ListAnswer, AnswerToList};
-ghost use Rattle.aces_reports.specs.Sinks.{sink};
+ghost use Rattle.outside.specs.Sinks.{sink};
 
 use crate::both::{load_both, print};
 use aces_reports::{Done, Failure};
-use aces_words::Policy;
+use plan_model::Policy;
 use commands::failure::planning_failure;
 use commands::loading::board_of;
 use firmware_commands::reading::firmware_of;

@@ -8,11 +8,11 @@ ghost use Rattle.commands.specs.CarriesOut.{CarriesOut};
 ghost use Rattle.firmware_stacks.specs.Lines.{stack_status};
 ghost use Rattle.planned_commands.specs.Answers.{StackAnswers, AnswerToStack};
 ghost use Rattle.aces_reports.specs.Ends.{status_of};
-ghost use Rattle.aces_reports.specs.Sinks.{sink};
+ghost use Rattle.outside.specs.Sinks.{sink};
 
 use crate::both::{load_both, print};
 use aces_reports::{Done, Failure};
-use aces_words::Policy;
+use plan_model::Policy;
 use commands::failure::planning_failure;
 use commands::loading::board_of;
 use firmware_commands::reading::firmware_of;

@@ -2,7 +2,7 @@
 
 ghost use Rattle.std.specs.Prelude.{◌≤◌, None, IfOk, IfErr, length};
 ghost use Rattle.aces_words.specs.Requests.{Symbols as ToSymbols, firmware_limit};
-ghost use Rattle.aces_reports.specs.Sinks.{sink};
+ghost use Rattle.outside.specs.Sinks.{sink};
 ghost use Rattle.commands.specs.CarriesOut.{CarriesOut};
 ghost use Rattle.commands.specs.Loads.{IsRefusal};
 ghost use Rattle.commands.specs.Outcomes.{done};
@@ -10,7 +10,7 @@ ghost use Rattle.planned_commands.specs.Answers.{SymbolsAnswer, AnswerToSymbols}
 
 use crate::both::{load_both, print};
 use aces_reports::{Done, Failure};
-use aces_words::Policy;
+use plan_model::Policy;
 use commands::failure::planning_failure;
 use commands::loading::board_of;
 use firmware_commands::reading::firmware_of;

@@ -14,7 +14,8 @@ use Rattle.monitor.specs.TheCode.{monitor_code}
 use Rattle.link_model.specs.LinkedImage.{linked}
 use Rattle.simulate.specs.Refines.{Refines}
 use Rattle.refinement.specs.Refinement.{LinkedImagesRefine, LinkedImagesRefineOrStop}
-use Rattle.linked_images.specs.Planned.{plan, planned_tables, planned_image}
+use Rattle.linked_images.specs.Planned.{planned_tables, planned_image}
+use Rattle.planning.specs.PlannedFirmwares.{plan}
 use Rattle.linked_images.specs.Laws.{OfPlanned, PlannedRangesAreApart}
 use Rattle.linked_images.proofs.Facts.{PlanLaws}
 use Rattle.linked_promises.specs.Parts.{KindsAgree}

@@ -8,7 +8,8 @@ use Rattle.plan_model.specs.declared.plan.Board.{Board}
 use Rattle.monitor.specs.Records.{eighth}
 use Rattle.link_model.specs.LinkedImage.{linked}
 use Rattle.link_model.specs.LinkedTables.{tables_of}
-use Rattle.linked_images.specs.Planned.{IsPlanned, planned_tables}
+use Rattle.linked_images.specs.Planned.{planned_tables}
+use Rattle.planning.specs.PlannedFirmwares.{IsPlanned}
 use Rattle.linked_images.proofs.Facts.{PlanLaws, stack_size_is}
 use Rattle.planned_images.specs.Whole.{PlannedImagesAreForBoards}
 

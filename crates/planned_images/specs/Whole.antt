@@ -20,7 +20,8 @@ use Rattle.monitor.specs.Invariant.{Invariant}
 use Rattle.overruns.specs.Guard.{StackLaw}
 use Rattle.never_wrong.specs.NeverWrong.{RefinesOrStops}
 use Rattle.relation.specs.Linked.{Linked}
-use Rattle.linked_images.specs.Planned.{IsPlanned, planned_tables, planned_image}
+use Rattle.linked_images.specs.Planned.{planned_tables, planned_image}
+use Rattle.planning.specs.PlannedFirmwares.{IsPlanned}
 use Rattle.linked_images.specs.Laws.{OfPlanned}
 use Rattle.linked_promises.specs.Parts.{linked_build}
 

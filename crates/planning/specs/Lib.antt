@@ -1,3 +1,4 @@
+pub mod PlannedFirmwares
 pub mod Planned
 pub mod Refusals
 pub mod Laws

@@ -4,7 +4,7 @@ ghost use Rattle.std.specs.Prelude.{◌≡◌, ◌≤◌, ◌++◌, length, None
 ghost use Rattle.outside.specs.Counts.{Rose};
 ghost use Rattle.outside.specs.Contents.{AddsPrefix};
 ghost use Rattle.aces_words.specs.Requests.{Why, firmware_limit};
-ghost use Rattle.aces_reports.specs.Sinks.{sink};
+ghost use Rattle.outside.specs.Sinks.{sink};
 ghost use Rattle.commands.specs.CarriesOut.{CarriesOut};
 ghost use Rattle.commands.specs.Loads.{IsContentFailure};
 ghost use Rattle.commands.specs.Outcomes.{done};

@@ -15,7 +15,8 @@ use Rattle.monitor.specs.declared.tables.Tables.{Tables}
 use Rattle.monitor.specs.Layout.{area_end}
 use Rattle.monitor.specs.Page.{filled_up}
 use Rattle.link_model.specs.LinkedTables.{tables_of}
-use Rattle.linked_images.specs.Planned.{IsPlanned, planned_sizes, plan, planned_tables, planned_image}
+use Rattle.linked_images.specs.Planned.{planned_tables, planned_image}
+use Rattle.planning.specs.PlannedFirmwares.{IsPlanned, planned_sizes, plan}
 use Rattle.linked_images.proofs.FlashBack.{off_all}
 use Rattle.linked_images.proofs.Flash.{code_count, code_size_is, tables_size_is}
 use Rattle.linked_images.proofs.Facts.{laid, tables_block_is, code_blocks_count, code_block_is}

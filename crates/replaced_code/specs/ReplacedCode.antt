@@ -15,7 +15,8 @@ use Rattle.monitor.specs.Page.{filled_up}
 use Rattle.monitor.specs.Confined.{Confined}
 use Rattle.monitor.specs.Promises.{OfSoundImages}
 use Rattle.monitor.specs.TheCode.{monitor_code}
-use Rattle.linked_images.specs.Planned.{IsPlanned, plan, planned_tables, planned_image}
+use Rattle.linked_images.specs.Planned.{planned_tables, planned_image}
+use Rattle.planning.specs.PlannedFirmwares.{IsPlanned, plan}
 use Rattle.linked_images.specs.Laws.{OfPlanned}
 use Rattle.resets.specs.Reset.{EachRun}
 use Rattle.thread_moves.specs.Runs.{TellsWhoRuns}

@@ -4,7 +4,7 @@ ghost use Rattle.std.specs.Prelude.{◌≡◌, ◌≤◌, ℕ, List, None, lengt
 ghost use Rattle.aces_words.specs.Requests.{State as ToState, file_limit};
 ghost use Rattle.words.specs.Runs.{run};
 ghost use Rattle.armv7m.specs.Step.{step};
-ghost use Rattle.aces_reports.specs.Sinks.{sink};
+ghost use Rattle.outside.specs.Sinks.{sink};
 ghost use Rattle.commands.specs.CarriesOut.{CarriesOut};
 ghost use Rattle.commands.specs.Loads.{IsRefusal};
 ghost use Rattle.commands.specs.Outcomes.{done};

@@ -3,7 +3,7 @@
 ghost use Rattle.std.specs.Prelude.{◌≡◌, ◌≤◌, ℕ, Bool, Some, Ok, length};
 ghost use Rattle.aces_words.specs.Requests.{Watch as ToWatch, IsAddress, address_of, file_limit};
 ghost use Rattle.aces_reports.specs.Ends.{status_of};
-ghost use Rattle.aces_reports.specs.Sinks.{sink};
+ghost use Rattle.outside.specs.Sinks.{sink};
 ghost use Rattle.commands.specs.CarriesOut.{CarriesOut};
 ghost use Rattle.commands.specs.Effects.{Does};
 ghost use Rattle.commands.specs.Known.{Held};

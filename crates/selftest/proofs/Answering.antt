@@ -1,6 +1,6 @@
 -- Answers to self-tests: they are the same whatever is known of files, write none, and end with 0 or 7 where the firmware has a plan.
 use Rattle.std.proofs.Common.{◌≡◌, ℕ, ◌⊎◌, inl, inr, List, Bool, true, false, None, refl}
-use Rattle.aces_words.specs.declared.policy.Policy.TheVariants.{Filename}
+use Rattle.plan_model.specs.declared.policy.Policy.TheVariants.{Filename}
 use Rattle.aces_words.specs.Requests.{Origin}
 use Rattle.commands.specs.Outcomes.{Outcome}
 use Rattle.firmware_plans.specs.Laws.{RefusalsAndPlansExclude}

@@ -1,7 +1,7 @@
 -- A generated firmware that is not compiled.
 use Rattle.std.proofs.Common.{◌≡◌, ℕ, Some, None, inl, inr, sym, subst, ◌∙◌}
 use Rattle.aces_reports.specs.declared.failure.Failure.{Failure}
-use Rattle.aces_words.specs.declared.policy.Policy.TheVariants.{Filename}
+use Rattle.plan_model.specs.declared.policy.Policy.TheVariants.{Filename}
 use Rattle.commands.specs.Loads.{IsRefusal, IsPlanningFailure, of_planning}
 use Rattle.denied_plans.specs.declared.Meeting.{Meeting}
 use Rattle.firmware_plans.specs.Unplanned.{IsUnplanned}

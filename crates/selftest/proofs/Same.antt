@@ -11,7 +11,7 @@ use Rattle.armv7m.specs.declared.state.End.TheVariants.{Limit}
 use Rattle.armv7m.specs.State.{State, by_mpu}
 use Rattle.armv7m.specs.Step.{step, event}
 use Rattle.armv7m.proofs.Runs.{next_ended, told_ended}
-use Rattle.aces_words.specs.declared.policy.Policy.TheVariants.{Filename}
+use Rattle.plan_model.specs.declared.policy.Policy.TheVariants.{Filename}
 use Rattle.lines.specs.Lines as lines
 use Rattle.lines.specs.Lines.{line_feed}
 use Rattle.ir_model.specs.Resolve.{resolve}

@@ -6,7 +6,7 @@ use Rattle.armv7m.specs.Step.{step, event}
 use Rattle.words.specs.Runs.{run, events}
 use Rattle.lines.specs.Lines as machine_lines
 use Rattle.aces_reports.specs.declared.failure.Memory.TheVariants as memory
-use Rattle.aces_words.specs.declared.policy.Policy.TheVariants.{Filename}
+use Rattle.plan_model.specs.declared.policy.Policy.TheVariants.{Filename}
 use Rattle.aces_words.specs.Requests.{Origin}
 use Rattle.ir_model.specs.Plain.{PlainFirmware, funcs_of}
 use Rattle.ir_model.specs.Resolve.{resolve}

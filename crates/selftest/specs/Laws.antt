@@ -2,7 +2,7 @@
 -- Self-tests that are the same: the statement of a law.
 use Rattle.std.specs.Prelude.{◌≡◌, ◌≢◌, ℕ, ◌≤◌, None}
 use Rattle.device_model.specs.declared.image.Image.{Image}
-use Rattle.aces_words.specs.declared.policy.Policy.TheVariants.{Filename}
+use Rattle.plan_model.specs.declared.policy.Policy.TheVariants.{Filename}
 use Rattle.ir_model.specs.Resolve.{resolve}
 use Rattle.ir_model.specs.Runs.{source_after}
 use Rattle.ir_generator.specs.Made.{made}

@@ -5,7 +5,7 @@ use Rattle.std.specs.Bool.{Decides}
 use Rattle.device_model.specs.declared.image.Image.{Image}
 use Rattle.armv7m.specs.declared.state.End.TheVariants.{Limit}
 use Rattle.lines.specs.Lines as machine_lines
-use Rattle.aces_words.specs.declared.policy.Policy.TheVariants.{Filename}
+use Rattle.plan_model.specs.declared.policy.Policy.TheVariants.{Filename}
 use Rattle.aces_reports.specs.Ends.{status_of}
 use Rattle.ir_model.specs.Plain.{PlainFirmware, funcs_of}
 use Rattle.ir_model.specs.Resolve.{resolve}

@@ -1,7 +1,7 @@
 //! `selftest`: what a self-test tells is printed.
 
 ghost use Rattle.std.specs.Prelude.{◌≡◌, ◌≤◌};
-ghost use Rattle.aces_reports.specs.Sinks.{sink};
+ghost use Rattle.outside.specs.Sinks.{sink};
 ghost use Rattle.aces_words.specs.Requests.{Selftest as ToSelftest};
 ghost use Rattle.commands.specs.CarriesOut.{CarriesOut};
 ghost use Rattle.selftest.specs.Answers.{AnswerToSelftest};

@@ -8,7 +8,7 @@ ghost use Rattle.counted_runs.specs.Counts.{IsMachineCount};
 ghost use Rattle.simulate.specs.Refines as refines;
 ghost use Rattle.selftest.specs.Tested.{IsSourceTest};
 
-use aces_words::Policy;
+use plan_model::Policy;
 use commands::run::FILL;
 use compartments::analysis::open_compartments;
 use counted_runs::machines::{MachineCount, count_machine};

@@ -12,7 +12,7 @@ use crate::board::test_board;
 use crate::telling::{Told, tell};
 use crate::testing::test;
 use aces_reports::Failure;
-use aces_words::Policy;
+use plan_model::Policy;
 use commands::failure::planning_failure;
 use compiler::compile_by;
 use device_model::image::Image;

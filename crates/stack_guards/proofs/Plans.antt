@@ -14,7 +14,8 @@ use Rattle.layout_laws.specs.RamLaws.{RamIsApart}
 use Rattle.layout_laws.specs.StackLowest.{StackIsLowest}
 use Rattle.monitor.specs.TheCode.{monitor_code}
 use Rattle.link_model.specs.LinkedTables.{tables_of}
-use Rattle.linked_images.specs.Planned.{plan, planned_sizes, planned_image, planned_tables}
+use Rattle.linked_images.specs.Planned.{planned_image, planned_tables}
+use Rattle.planning.specs.PlannedFirmwares.{plan, planned_sizes}
 use Rattle.device_model.specs.Rules.{ObeysRules}
 use Rattle.thread_runs.specs.Owned.{MemoryRules}
 use Rattle.linked_promises.specs.Parts.{linked_build}

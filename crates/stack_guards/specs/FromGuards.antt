@@ -14,7 +14,8 @@ use Rattle.layout_laws.specs.StackLowest.{IsStackLargest}
 use Rattle.monitor.specs.Setting.{setting_of}
 use Rattle.monitor.specs.Invariant.{Invariant}
 use Rattle.monitor.specs.TheCode.{monitor_code}
-use Rattle.linked_images.specs.Planned.{IsPlanned, planned_image, planned_tables}
+use Rattle.linked_images.specs.Planned.{planned_image, planned_tables}
+use Rattle.planning.specs.PlannedFirmwares.{IsPlanned}
 use Rattle.never_wrong.specs.NeverWrong.{RunsAreNeverWrong}
 use Rattle.overruns.specs.Guard.{IsGuarded, StackLaw}
 use Rattle.stack_guards.specs.Guarded.{IsStackGuarded, IsStackLowest, IsBehindMonitor}

@@ -7,7 +7,7 @@ use Rattle.plan_model.specs.declared.graph.Final.{Final}
 use Rattle.plan_model.specs.declared.plan.Board.{Board}
 use Rattle.plan_model.specs.RamBlocks.{ForRegion}
 use Rattle.layout_laws.specs.RamLaws.{Holds}
-use Rattle.linked_images.specs.Planned.{plan}
+use Rattle.planning.specs.PlannedFirmwares.{plan}
 use Rattle.overruns.specs.Ends.{guard_bytes}
 
 module _ (w : PlainFirmware) (n : Needs) (f : Final) (b : Board) where

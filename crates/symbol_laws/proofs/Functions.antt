@@ -26,7 +26,8 @@ use Rattle.code_model.specs.Laws.{PiecesStand}
 use Rattle.code_model.proofs.Compartments.{filled_total}
 use Rattle.code_model.proofs.Members.{member_kept}
 use Rattle.monitor.specs.TheCode.{monitor_code}
-use Rattle.linked_images.specs.Planned.{IsPlanned, plan, planned_sizes, planned_image}
+use Rattle.linked_images.specs.Planned.{planned_image}
+use Rattle.planning.specs.PlannedFirmwares.{IsPlanned, plan, planned_sizes}
 use Rattle.linked_promises.specs.CodeInFlash.{CodeIsExact}
 use Rattle.linked_promises.specs.Parts.{CodeIsPlaced}
 use Rattle.symbol_laws.specs.Standing as standing

@@ -8,7 +8,7 @@ use Rattle.plan_model.specs.Lists.{numbers_below}
 use Rattle.plan_model.specs.Placement.{global_address}
 use Rattle.plan_model.specs.Regions.{global_size}
 use Rattle.grouping.proofs.Below.{all_in_order}
-use Rattle.linked_images.specs.Planned.{plan}
+use Rattle.planning.specs.PlannedFirmwares.{plan}
 use Rattle.linked_promises.specs.Permissions.{IsByteOf}
 use Rattle.symbols.specs.declared.rising.Lying.{Lying}
 use Rattle.symbols.specs.Rising.{rising}

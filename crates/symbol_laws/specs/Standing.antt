@@ -17,7 +17,8 @@ use Rattle.code_model.specs.Sizes.{place_offset}
 use Rattle.code_model.specs.FunctionCode.{lent, function_items, here_items}
 use Rattle.code_model.specs.CompartmentCode.{CodeGroups, CodePlaces, compartment_of, before, label_count, entry_of, places_of, compartment_labels}
 use Rattle.code_model.specs.Planned.{code_groups, code_places}
-use Rattle.linked_images.specs.Planned.{IsPlanned, plan, planned_image}
+use Rattle.linked_images.specs.Planned.{planned_image}
+use Rattle.planning.specs.PlannedFirmwares.{IsPlanned, plan}
 
 -- from this offset on flash has these bytes
 abbrev pub Has : Image → (offset : ℕ) → (bytes : List ℕ) → Type 0

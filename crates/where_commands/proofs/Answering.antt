@@ -1,6 +1,6 @@
 -- Answers to `where`: what is an answer from what follows of what is known, and that none writes anything.
 use Rattle.std.proofs.Common.{◌≡◌, ℕ, List, None, refl}
-use Rattle.aces_words.specs.declared.policy.Policy.{Policy}
+use Rattle.plan_model.specs.declared.policy.Policy.{Policy}
 use Rattle.aces_words.specs.Requests.{Origin}
 use Rattle.commands.specs.Outcomes.{Outcome}
 use Rattle.where_commands.specs.Answers.{WhereAnswer, AnswerToWhere, no_firmware, no_tape, stands, firmware_large, tape_large, all_read}

@@ -1,7 +1,7 @@
 -- A good request to tell where a run stands has no outcome but the one that says that all was done.
 use Rattle.std.proofs.Common.{◌≡◌, ℕ, List, refl, subst}
 use Rattle.aces_reports.specs.declared.failure.Fault.{Fault}
-use Rattle.aces_words.specs.declared.policy.Policy.{Policy}
+use Rattle.plan_model.specs.declared.policy.Policy.{Policy}
 use Rattle.aces_words.specs.Requests.{Origin, file_origin, firmware_origin}
 use Rattle.ir_model.specs.Plain.{PlainFirmware}
 use Rattle.ir_program.specs.Windows.{windows_of}

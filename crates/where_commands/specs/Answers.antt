@@ -4,7 +4,7 @@ use Rattle.device_model.specs.Tape as tapes
 use Rattle.aces_reports.specs.declared.failure.Fault.{Fault}
 use Rattle.aces_reports.specs.declared.failure.Fault.TheVariants.{TooLarge}
 use Rattle.aces_words.specs.Requests.{Origin, file_origin, firmware_origin, file_limit, firmware_limit}
-use Rattle.aces_words.specs.declared.policy.Policy.{Policy}
+use Rattle.plan_model.specs.declared.policy.Policy.{Policy}
 use Rattle.ir_model.specs.Plain.{PlainFirmware}
 use Rattle.ir_program.specs.Windows.{windows_of}
 use Rattle.compartments.specs.Analyses.{AreCompartmentsBy}

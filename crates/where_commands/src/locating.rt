@@ -1,13 +1,13 @@
 //! `where`: a firmware, run from its source on recorded device input, and where the run stands.
 
 ghost use Rattle.aces_words.specs.Requests.{Where as ToPlace};
-ghost use Rattle.aces_reports.specs.Sinks.{sink};
+ghost use Rattle.outside.specs.Sinks.{sink};
 ghost use Rattle.commands.specs.CarriesOut.{CarriesOut};
 ghost use Rattle.where_commands.specs.Answers.{AnswerToWhere};
 
 use crate::telling::told;
 use aces_reports::{Done, Failure};
-use aces_words::Policy;
+use plan_model::Policy;
 use commands::loading::{load, load_firmware};
 use outside::{Files, Sink};
 use std::alloc::Global;

@@ -13,7 +13,7 @@ ghost use Rattle.where_commands.specs.Runs.{AreLines};
 
 use crate::running::{Halt, go, run_out};
 use aces_reports::Failure;
-use aces_words::Policy;
+use plan_model::Policy;
 use commands::loading::tape_of;
 use device_model::tape::Tape;
 use firmware_commands::reading::firmware_of;

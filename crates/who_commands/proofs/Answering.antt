@@ -1,6 +1,6 @@
 -- Answers write no file, and end with 0 where nothing refuses a plan; `help` has one answer whatever is known of files.
 use Rattle.std.proofs.Common.{◌≡◌, ℕ, List, None, refl}
-use Rattle.aces_words.specs.declared.policy.Policy.{Policy}
+use Rattle.plan_model.specs.declared.policy.Policy.{Policy}
 use Rattle.aces_words.specs.Requests.{Origin}
 use Rattle.commands.specs.Outcomes.{Outcome}
 use Rattle.planned_commands.specs.PlanAnswer.{PlanAnswer}

@@ -1,6 +1,6 @@
 -- What `who` and `help` answer where no call on the outside fails and memory does not run out.
 use Rattle.std.specs.Prelude.{ℕ, List, None}
-use Rattle.aces_words.specs.declared.policy.Policy.{Policy}
+use Rattle.plan_model.specs.declared.policy.Policy.{Policy}
 use Rattle.aces_words.specs.Requests.{Origin}
 use Rattle.ir_model.specs.Plain.{PlainFirmware}
 use Rattle.plan_model.specs.declared.plan.Board.{Board}

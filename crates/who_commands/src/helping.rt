@@ -2,7 +2,7 @@
 
 ghost use Rattle.std.specs.Prelude.{◌≡◌};
 ghost use Rattle.aces_words.specs.Requests.{Help as ToHelp};
-ghost use Rattle.aces_reports.specs.Sinks.{sink};
+ghost use Rattle.outside.specs.Sinks.{sink};
 ghost use Rattle.commands.specs.CarriesOut.{CarriesOut};
 ghost use Rattle.who_commands.specs.Answers.{AnswerToHelp};
 ghost use Rattle.who_commands.specs.HelpText as texts;

@@ -2,7 +2,7 @@
 
 ghost use Rattle.std.specs.Prelude.{◌≡◌, ◌≤◌, None, IfOk, IfErr, length};
 ghost use Rattle.aces_words.specs.Requests.{Who as ToWho, firmware_limit};
-ghost use Rattle.aces_reports.specs.Sinks.{sink};
+ghost use Rattle.outside.specs.Sinks.{sink};
 ghost use Rattle.commands.specs.CarriesOut.{CarriesOut};
 ghost use Rattle.commands.specs.Loads.{IsRefusal};
 ghost use Rattle.commands.specs.Outcomes.{done};
@@ -15,7 +15,7 @@ ghost use Rattle.who_commands.specs.Answers.{WhoAnswer, AnswerToWho};
 ghost use Rattle.who_commands.specs.Owners.{AreOwners, owners_for};
 
 use aces_reports::{Done, Failure};
-use aces_words::Policy;
+use plan_model::Policy;
 use commands::failure::planning_failure;
 use commands::loading::board_of;
 use firmware_commands::reading::firmware_of;

@@ -6,7 +6,7 @@ use Rattle.commands.specs.Known.{Holds, Exceeds, WasRead, WasTooLarge, IsCallOf}
 use Rattle.commands.specs.CarriesOut.{IsKnown, IsKnownLarge}
 use Rattle.aces_cli.specs.Answer.{Answer}
 use Rattle.aces_cli.specs.Endings.{IsPlain, IsAnswered}
-use Rattle.aces_reports.specs.Sinks.{sink}
+use Rattle.outside.specs.Sinks.{sink}
 use Rattle.commands.specs.Effects.{world}
 use Rattle.commands.proofs.Ends.{did_also, held_stays}
 use Rattle.aces_cli.proofs.Answered.{answer_also, usage_answered, answered, unread, partly, printed_in_part}

@@ -1,4 +1,4 @@
-use Rattle.aces_reports.specs.Sinks.{sink}
+use Rattle.outside.specs.Sinks.{sink}
 use Rattle.aces_cli.proofs.perform.on_plan.Goals as goal
 
 pub returns-in-Compile : goal.returns-in-Compile

@@ -1,7 +1,7 @@
 use Rattle.std.proofs.Common.{inl, None, Ok, refl, sym, subst}
 use Rattle.std.proofs.lemmas.Result.{err_from_is_err_and}
 use Rattle.aces_reports.specs.Ends.{status_of}
-use Rattle.aces_reports.specs.Sinks.{sink}
+use Rattle.outside.specs.Sinks.{sink}
 use Rattle.aces_words.specs.Requests.{Audit, file_origin}
 use Rattle.commands.specs.CarriesOut.{IsKnown, IsKnownLarge, NamesLast}
 use Rattle.commands.specs.Contents.{IsNoImage}

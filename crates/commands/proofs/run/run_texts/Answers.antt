@@ -7,7 +7,7 @@ use Rattle.aces_words.specs.Requests.{Run}
 use Rattle.commands.specs.Answers.{RunAnswer, no_image, no_tape, ran, run_outcome}
 use Rattle.commands.specs.Contents.{IsNoImage, IsNoTape}
 use Rattle.machine_output.specs.Runs.{fill, end_of, run_lines, end_status}
-use Rattle.aces_reports.specs.Sinks.{sink}
+use Rattle.outside.specs.Sinks.{sink}
 use Rattle.commands.specs.Effects.{Does, World}
 use Rattle.commands.specs.Loads.{IsContentFailure}
 use Rattle.commands.proofs.Ends.{content_failed, did_end}

@@ -5,7 +5,7 @@ use Rattle.aces_words.specs.Requests.{Explain, firmware_origin}
 use Rattle.commands.specs.CarriesOut.{IsKnown, IsKnownLarge, NamesLast}
 use Rattle.explain_commands.specs.Answers.{AnswerToExplain, firmware_large, all_read}
 use Rattle.commands.specs.Outcomes.{done}
-use Rattle.aces_reports.specs.Sinks.{sink}
+use Rattle.outside.specs.Sinks.{sink}
 use Rattle.commands.specs.Effects.{Does, world}
 use Rattle.commands.specs.Loads.{IsLoadFailure, IsRefusal}
 use Rattle.commands.proofs.Asked.{reads_of}

@@ -8,7 +8,7 @@ use Rattle.firmware_commands.specs.Answers.{AnswerToCheck, no_firmware, checked,
 use Rattle.firmware_commands.specs.Firmwares.{IsNoFirmware}
 use Rattle.commands.specs.Outcomes.{done}
 use Rattle.firmware_commands.specs.Counts.{count_line}
-use Rattle.aces_reports.specs.Sinks.{sink}
+use Rattle.outside.specs.Sinks.{sink}
 use Rattle.commands.specs.Effects.{Does, world}
 use Rattle.commands.specs.Loads.{IsLoadFailure, IsContentFailure}
 use Rattle.commands.proofs.Asked.{reads_of}

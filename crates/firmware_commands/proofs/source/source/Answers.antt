@@ -5,7 +5,7 @@ use Rattle.aces_words.specs.Requests.{Source, Origin, file_origin, firmware_orig
 use Rattle.commands.specs.Known.{Held, IsCallOf}
 use Rattle.commands.specs.CarriesOut.{IsKnown, IsKnownLarge, NamesLast}
 use Rattle.firmware_commands.specs.Answers.{AnswerToSource, SourceAnswer, firmware_large, tape_large, all_read}
-use Rattle.aces_reports.specs.Sinks.{sink}
+use Rattle.outside.specs.Sinks.{sink}
 use Rattle.commands.specs.Effects.{Does, world}
 use Rattle.commands.specs.Loads.{IsLoadFailure}
 use Rattle.outside.proofs.Paths.{calls_joined}

@@ -7,7 +7,7 @@ use Rattle.aces_words.specs.Requests.{Source}
 use Rattle.firmware_commands.specs.Answers.{SourceAnswer, no_firmware, no_tape, source_outcome}
 use Rattle.commands.specs.Contents.{IsNoTape}
 use Rattle.firmware_commands.specs.Firmwares.{IsNoFirmware}
-use Rattle.aces_reports.specs.Sinks.{sink}
+use Rattle.outside.specs.Sinks.{sink}
 use Rattle.commands.specs.Effects.{Does, World}
 use Rattle.commands.specs.Loads.{IsContentFailure}
 use Rattle.commands.proofs.Ends.{content_failed, did_end}

@@ -6,7 +6,7 @@ use Rattle.commands.specs.CarriesOut.{IsKnown, IsKnownLarge, NamesLast}
 use Rattle.reach_commands.specs.Answers.{AnswerToWhy, no_firmware, firmware_large, all_read}
 use Rattle.firmware_commands.specs.Firmwares.{IsNoFirmware}
 use Rattle.commands.specs.Outcomes.{done}
-use Rattle.aces_reports.specs.Sinks.{sink}
+use Rattle.outside.specs.Sinks.{sink}
 use Rattle.commands.specs.Effects.{Does, world}
 use Rattle.commands.specs.Loads.{IsLoadFailure, IsContentFailure}
 use Rattle.commands.proofs.Asked.{reads_of}

@@ -1,7 +1,7 @@
 use Rattle.std.proofs.Common.{inl, inr, false, refl, sym, subst}
 use Rattle.std.proofs.lemmas.Result.{err_from_is_err_and}
 use Rattle.aces_words.specs.Requests.{Watch, file_origin}
-use Rattle.aces_reports.specs.Sinks.{sink}
+use Rattle.outside.specs.Sinks.{sink}
 use Rattle.commands.specs.Answers.{image_large, tape_large, all_read}
 use Rattle.commands.specs.CarriesOut.{IsKnown, IsKnownLarge, NamesLast}
 use Rattle.commands.specs.Effects.{Does, world}

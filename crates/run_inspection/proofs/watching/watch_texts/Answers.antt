@@ -4,7 +4,7 @@ use Rattle.device_model.specs.Tape.{queues_of}
 use Rattle.watch.specs.Sessions.{SessionState}
 use Rattle.armv7m.specs.Run.{start}
 use Rattle.aces_words.specs.Requests.{Watch}
-use Rattle.aces_reports.specs.Sinks.{sink}
+use Rattle.outside.specs.Sinks.{sink}
 use Rattle.machine_output.specs.Runs.{fill}
 use Rattle.machine_output.specs.Watching.{IsWhole, IsPart, pause_status}
 use Rattle.commands.specs.Contents.{IsNoImage, IsNoTape}

@@ -1,6 +1,6 @@
 use Rattle.std.proofs.Common.{sym, subst}
 use Rattle.std.proofs.lemmas.Result.{err_from_is_err_and}
-use Rattle.aces_reports.specs.Sinks.{sink}
+use Rattle.outside.specs.Sinks.{sink}
 use Rattle.aces_words.specs.Requests.{Selftest}
 use Rattle.commands.specs.Loads.{IsRefusal}
 use Rattle.commands.proofs.Printing.{printed, unprinted, refused}

@@ -1,5 +1,5 @@
 use Rattle.std.proofs.Common.{◌≡◌, sym, ap, subst, ◌∙◌}
-use Rattle.aces_words.specs.declared.policy.Policy.TheVariants.{Filename}
+use Rattle.plan_model.specs.declared.policy.Policy.TheVariants.{Filename}
 use Rattle.commands.specs.Loads.{IsPlanningFailure}
 use Rattle.firmware_plans.specs.Unplanned.{IsUnplanned}
 use Rattle.ir_generator.specs.Made.{made}

@@ -4,7 +4,7 @@ use Rattle.std.proofs.lemmas.Result.{err_from_is_err_and}
 use Rattle.outside.proofs.Paths.{calls_joined}
 use Rattle.aces_words.specs.Requests.{Where, Origin, file_origin, firmware_origin}
 use Rattle.aces_reports.specs.declared.failure.Done.TheVariants.{Completed}
-use Rattle.aces_reports.specs.Sinks.{sink}
+use Rattle.outside.specs.Sinks.{sink}
 use Rattle.commands.specs.CarriesOut.{IsKnown, IsKnownLarge, NamesLast}
 use Rattle.commands.specs.Effects.{Does, world}
 use Rattle.commands.specs.Known.{Held, IsCallOf}

@@ -1,5 +1,5 @@
 use Rattle.aces_reports.specs.declared.failure.Done.TheVariants.{Completed}
-use Rattle.aces_reports.specs.Sinks.{sink}
+use Rattle.outside.specs.Sinks.{sink}
 use Rattle.aces_words.specs.Requests.{Help}
 use Rattle.commands.proofs.Printing.{printed, unprinted}
 use Rattle.who_commands.specs.Answers.{AnswerToHelp, helped}

@@ -1,8 +1,8 @@
 //! Policies: by which the functions of a firmware are put into compartments.
 
 ghost use Rattle.std.specs.Prelude.{◌≡◌, IfSome, IfNone};
-ghost use Rattle.aces_words.specs.declared.policy.Policy.{Policy as ThePolicy};
-ghost use Rattle.aces_words.specs.Requests.{policy_word};
+ghost use Rattle.plan_model.specs.declared.policy.Policy.{Policy as ThePolicy};
+ghost use Rattle.plan_model.specs.PolicyWords.{policy_word};
 
 /// By what the functions of a firmware are put into compartments.
 #[derive(Clone, Copy, PartialEq, Eq, Debug)]
