@@ -4,12 +4,16 @@ ghost use Rattle.std.specs.Prelude.{◌≡◌, ◌≤◌, ◌<◌, true, OnOk, I
 ghost use Rattle.gate_steps.specs.Lists.{steps_of};
 ghost use Rattle.monitor.specs.MemFault as handler;
 ghost use Rattle.step_lists.specs.Made.{Appends, Ends, constants_of};
-ghost use Rattle.fault_steps.specs.Parts as parts;
 
 use armv7m::CFSR;
 use gate_steps::{GateCond, GateOp};
 use std::alloc::{AllocError, Global};
+use step_lists::halts::{HALT_FAULT, HALT_LOAD, HALT_STORE};
 use step_lists::opening::{closed_up, opened, record_of};
+use step_lists::places::{
+    CUR, FRAME_R0, FRAME_R1, FRAME_RETURN, LOAN_END, LOAN_FROM, LOAN_NUMBER, LOANS,
+};
+use step_lists::values::{LOAN_SIZE, MOST_LOANS, REFUSED_ACCESS};
 use step_lists::{Numbers, StepList};
 use words::memory::Width;
 
@@ -49,7 +53,7 @@ fn has_bit(alloc: Global) -> Result<StepList, AllocError>
     let mut found = StepList::new(alloc);
     found.constant(7, 1)?;
     let mut list = StepList::new(alloc);
-    list.load_word(0, 2, 2)?;
+    list.load_word(0, 2, LOAN_NUMBER)?;
     list.copy(1, 5)?;
     list.alu(GateOp::Shr, 1, 1, 0)?;
     list.constant(0, 1)?;
@@ -75,7 +79,7 @@ fn has_end(alloc: Global) -> Result<StepList, AllocError>
 {
     let width = has_width(alloc)?;
     let mut list = StepList::new(alloc);
-    list.load_word(0, 2, 1)?;
+    list.load_word(0, 2, LOAN_END)?;
     list.test(GateCond::Ule, 4, 0, width, StepList::new(alloc))?;
     Ok(list)
 }
@@ -86,9 +90,9 @@ fn loan_turn(alloc: Global) -> Result<StepList, AllocError>
 {
     let end = has_end(alloc)?;
     let mut list = StepList::new(alloc);
-    list.load_word(0, 2, 0)?;
+    list.load_word(0, 2, LOAN_FROM)?;
     list.test(GateCond::Ule, 0, 4, end, StepList::new(alloc))?;
-    list.constant(0, 12)?;
+    list.constant(0, LOAN_SIZE)?;
     list.alu(GateOp::Add, 2, 2, 0)?;
     Ok(list)
 }
@@ -97,15 +101,15 @@ fn loan_turn(alloc: Global) -> Result<StepList, AllocError>
 fn scan_begun(list: &mut StepList, c: &Numbers, mask_at: u8) -> Result<(), AllocError>
     requires slots { c.now.slots ≤ 12 }
     requires mask { mask_at < 32 }
-    ensures { OnOk result (Appends list.old list.new (parts.scan_begun (constants_of c.now) mask_at)) }
+    ensures { OnOk result (Appends list.old list.new (handler.scan_begun (constants_of c.now) mask_at)) }
 {
     list.copy(2, 6)?;
-    list.load_word(5, 1, 0)?;
+    list.load_word(5, 1, CUR)?;
     record_of(list, c)?;
     list.load_word(5, 6, mask_at)?;
     list.copy(6, 2)?;
-    list.load_word(4, 0, 1)?;
-    list.load_word(3, 1, 3)?;
+    list.load_word(4, 0, FRAME_R1)?;
+    list.load_word(3, 1, LOANS)?;
     list.constant(2, c.loans_at)?;
     list.constant(7, 0)?;
     Ok(())
@@ -119,7 +123,7 @@ fn scan(list: &mut StepList, c: &Numbers, mask_at: u8, code: u8) -> Result<(), A
 {
     let turn = loan_turn(list.allocator())?;
     scan_begun(list, c, mask_at)?;
-    list.repeat(3, 32, turn)?;
+    list.repeat(3, MOST_LOANS, turn)?;
     list.constant(0, 1)?;
     list.must(GateCond::Eq, 7, 0, code)?;
     list.read_psp(0)?;
@@ -133,7 +137,7 @@ fn by_width(
     byte: StepList,
     half: StepList,
 ) -> Result<(), AllocError>
-    ensures { OnOk result (Appends list.old list.new (parts.of_width (steps_of word.steps.items) (steps_of byte.steps.items) (steps_of half.steps.items))) }
+    ensures { OnOk result (Appends list.old list.new (handler.of_width (steps_of word.steps.items) (steps_of byte.steps.items) (steps_of half.steps.items))) }
 {
     let mut narrow = list.other();
     narrow.constant(7, 1)?;
@@ -145,7 +149,7 @@ fn by_width(
 
 /// A store of r5 to the address in r4.
 fn one_store(alloc: Global, width: Width) -> Result<StepList, AllocError>
-    ensures { IfOk result (λ list. steps_of list.steps.items ≡ parts.one_store width) }
+    ensures { IfOk result (λ list. steps_of list.steps.items ≡ handler.one_store width) }
 {
     let mut list = StepList::new(alloc);
     list.store(width, 5, 4)?;
@@ -154,7 +158,7 @@ fn one_store(alloc: Global, width: Width) -> Result<StepList, AllocError>
 
 /// A load of r5 from the address in r4.
 fn one_load(alloc: Global, width: Width) -> Result<StepList, AllocError>
-    ensures { IfOk result (λ list. steps_of list.steps.items ≡ parts.one_load width) }
+    ensures { IfOk result (λ list. steps_of list.steps.items ≡ handler.one_load width) }
 {
     let mut list = StepList::new(alloc);
     list.load(width, 5, 4)?;
@@ -162,8 +166,8 @@ fn one_load(alloc: Global, width: Width) -> Result<StepList, AllocError>
 }
 
 /// The store by the width in r6.
-fn store_by_width(list: &mut StepList) -> Result<(), AllocError>
-    ensures { OnOk result (Appends list.old list.new parts.store_by_width) }
+fn stored(list: &mut StepList) -> Result<(), AllocError>
+    ensures { OnOk result (Appends list.old list.new handler.stored) }
 {
     let word = one_store(list.allocator(), Width::Word)?;
     let byte = one_store(list.allocator(), Width::Byte)?;
@@ -173,8 +177,8 @@ fn store_by_width(list: &mut StepList) -> Result<(), AllocError>
 }
 
 /// The load by the width in r6.
-fn load_by_width(list: &mut StepList) -> Result<(), AllocError>
-    ensures { OnOk result (Appends list.old list.new parts.load_by_width) }
+fn loaded(list: &mut StepList) -> Result<(), AllocError>
+    ensures { OnOk result (Appends list.old list.new handler.loaded) }
 {
     let word = one_load(list.allocator(), Width::Word)?;
     let byte = one_load(list.allocator(), Width::Byte)?;
@@ -187,10 +191,10 @@ fn load_by_width(list: &mut StepList) -> Result<(), AllocError>
 fn finished(list: &mut StepList) -> Result<(), AllocError>
     ensures { OnOk result (Ends list.old list.new handler.finished) }
 {
-    list.load_word(4, 0, 6)?;
+    list.load_word(4, 0, FRAME_RETURN)?;
     list.constant(5, 2)?;
     list.alu(GateOp::Add, 4, 4, 5)?;
-    list.store_word(4, 0, 6)?;
+    list.store_word(4, 0, FRAME_RETURN)?;
     list.constant(4, CFSR)?;
     list.load_word(5, 4, 0)?;
     list.store_word(5, 4, 0)?;
@@ -203,26 +207,35 @@ fn stores(list: &mut StepList, c: &Numbers) -> Result<(), AllocError>
     requires { c.now.slots ≤ 12 }
     ensures { OnOk result (Ends list.old list.new (handler.stores (constants_of c.now))) }
 {
-    scan(list, c, 2 * c.slots + 2, 7)?;
-    list.load_word(5, 0, 0)?;
-    store_by_width(list)?;
+    scan(list, c, c.record_mask(), HALT_STORE)?;
+    list.load_word(5, 0, FRAME_R0)?;
+    stored(list)?;
     finished(list)?;
     Ok(())
 }
 
-/// On a closed board: the stacked r0 from the stacked r1; without a loan the machine halts with 9, and of no load with 8.
+/// The stacked r0 from the stacked r1; without a loan the machine halts with 9.
+fn lent_load(list: &mut StepList, c: &Numbers) -> Result<(), AllocError>
+    requires { c.now.slots ≤ 12 }
+    ensures { OnOk result (Ends list.old list.new (handler.lent_load (constants_of c.now))) }
+{
+    scan(list, c, c.record_reads(), HALT_LOAD)?;
+    loaded(list)?;
+    list.store_word(5, 0, FRAME_R0)?;
+    finished(list)?;
+    Ok(())
+}
+
+/// On a closed board: a load by a loan; of another halfword the machine halts with 8.
 fn closed_loads(alloc: Global, c: &Numbers) -> Result<StepList, AllocError>
     requires { c.now.slots ≤ 12 }
     ensures { IfOk result (λ list. steps_of list.steps.items ≡ handler.loads (constants_of c.now) true) }
 {
     let mut none = StepList::new(alloc);
-    none.halt(8)?;
+    none.halt(HALT_FAULT)?;
     let mut list = StepList::new(alloc);
     widths(&mut list, 0x6808, 0x7808, 0x8808, none)?;
-    scan(&mut list, c, 2 * c.slots + 3, 9)?;
-    load_by_width(&mut list)?;
-    list.store_word(5, 0, 0)?;
-    finished(&mut list)?;
+    lent_load(&mut list, c)?;
     Ok(list)
 }
 
@@ -235,20 +248,20 @@ fn loads(alloc: Global, c: &Numbers) -> Result<StepList, AllocError>
         return closed_loads(alloc, c);
     }
     let mut list = StepList::new(alloc);
-    list.halt(8)?;
+    list.halt(HALT_FAULT)?;
     Ok(list)
 }
 
 /// The fault is a refused data access whose address is known, else the machine halts with 8; its halfword into r4.
 fn fault_asked(list: &mut StepList) -> Result<(), AllocError>
-    ensures { OnOk result (Appends list.old list.new parts.fault_asked) }
+    ensures { OnOk result (Appends list.old list.new handler.fault_asked) }
 {
     list.constant(4, CFSR)?;
     list.load_word(5, 4, 0)?;
-    list.constant(6, 0x82)?;
+    list.constant(6, REFUSED_ACCESS)?;
     list.alu(GateOp::And, 5, 5, 6)?;
-    list.must(GateCond::Eq, 5, 6, 8)?;
-    list.load_word(4, 0, 6)?;
+    list.must(GateCond::Eq, 5, 6, HALT_FAULT)?;
+    list.load_word(4, 0, FRAME_RETURN)?;
     list.load(Width::Half, 4, 4)?;
     Ok(())
 }

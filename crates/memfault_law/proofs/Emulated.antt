@@ -15,7 +15,7 @@ use Rattle.armv7m.specs.declared.state.FaultStatus.{FaultStatus}
 use Rattle.armv7m.specs.declared.state.StopReason.TheVariants.{Unaligned}
 use Rattle.armv7m.specs.State.{State, by_mpu}
 use Rattle.armv7m.specs.System.{in_system, read_system, read_status, write_status}
-use Rattle.gate_steps.specs.Steps.{Steps, Load, Store}
+use Rattle.gate_steps.specs.Steps.{Steps, Load}
 use Rattle.gate_steps.specs.Core.{Core, low_register, with_low, with_system}
 use Rattle.gate_steps.specs.Effect.{Outcome, AtReturn, Stopped}
 use Rattle.gate_steps.proofs.Within.{GivesWithin, const_within, alu_within, at_within, more_within, next_within, yes_within, no_within, system_within}
@@ -24,7 +24,7 @@ use Rattle.monitor.specs.Area.{HasTables}
 use Rattle.monitor.specs.Placed.{Placed}
 use Rattle.monitor.specs.Outcomes.{stacked, moved_on}
 use Rattle.monitor.specs.Constants.{Constants, constants_with}
-use Rattle.monitor.specs.MemFault.{by_width, finished}
+use Rattle.monitor.specs.MemFault.{stored, loaded, finished}
 use Rattle.monitor.specs.Reach.{OfSystem}
 use Rattle.monitor.specs.BlockWords.{top as top_of}
 use Rattle.monitor.specs.Handlers.{ForSystem}
@@ -104,7 +104,7 @@ module _ (i : Image) (t : Tables) (p : Placed i t) (has : HasTables i t) (stub :
     pub store_by_width : (z : Width) (ao : ℕ) {n : ℕ} {s : Steps} {ks : List Steps} {Q : Outcome → Type 0} (q : ProtectionState) (m : List ℕ) (a0 a1 a2 a3 a a5 a7 : ℕ) → IsOff true q → a ≡ i.ram_base + ao → (i.ram_base + ao) % byte_count z ≡ 0 → ao < i.ram_size →
         ((c : Core) → c.ram ≡ m → HandlerRule i t thread Write c (byte_count z) (i.ram_base + ao)) →
         ((m1 : List ℕ) (v7 : ℕ) → m1 ≡ write (byte_count z) ao a5 m → length m1 ≡ length m → W n s ks (core msp psp q u m1 a0 a1 a2 a3 a a5 (byte_count z) v7) Q) →
-        W (13 + n) (by_width (λ width rest. Store width 5 4 0 rest) s) ks (core msp psp q u m a0 a1 a2 a3 a a5 (byte_count z) a7) Q
+        W (13 + n) (stored s) ks (core msp psp q u m a0 a1 a2 a3 a a5 (byte_count z) a7) Q
     store_by_width Word ao q m a0 a1 a2 a3 a a5 a7 off e al hi ok f =
         more_within (const_within (yes_within refl (store_wide_within p.rules ao Word (open_while_off q off.control) (good q off) e al hi (ok _ refl) (λ m1 x l. next_within (f m1 4 x l))))) (omega arith)
     store_by_width Byte ao q m a0 a1 a2 a3 a a5 a7 off e al hi ok f =
@@ -114,7 +114,7 @@ module _ (i : Image) (t : Tables) (p : Placed i t) (has : HasTables i t) (stub :
 
     pub store_by_width_stops : (z : Width) {s : Steps} {ks : List Steps} {Q : Outcome → Type 0} (q : ProtectionState) (m : List ℕ) (a0 a1 a2 a3 a a5 a7 : ℕ) → a < 2 ^ 32 → nat_eq (a % byte_count z) 0 ≡ false →
         ((c : Core) → c.ram ≡ m → HandlerRule i t thread Write c (byte_count z) a) → ((d : Core) → d.ram ≡ m → Q (Stopped Unaligned d)) →
-        W 13 (by_width (λ width rest. Store width 5 4 0 rest) s) ks (core msp psp q u m a0 a1 a2 a3 a a5 (byte_count z) a7) Q
+        W 13 (stored s) ks (core msp psp q u m a0 a1 a2 a3 a a5 (byte_count z) a7) Q
     store_by_width_stops Word q m a0 a1 a2 a3 a a5 a7 lt odd ok f =
         more_within (const_within (yes_within refl (store_unaligned_within a Word refl lt odd (ok _ refl) (f _ refl)))) (omega arith)
     store_by_width_stops Byte q m a0 a1 a2 a3 a a5 a7 lt odd ok f =
@@ -125,7 +125,7 @@ module _ (i : Image) (t : Tables) (p : Placed i t) (has : HasTables i t) (stub :
     pub load_by_width : (z : Width) (ao : ℕ) {n : ℕ} {s : Steps} {ks : List Steps} {Q : Outcome → Type 0} (q : ProtectionState) (m : List ℕ) (a0 a1 a2 a3 a a5 a7 : ℕ) → IsOff true q → a ≡ i.ram_base + ao → (i.ram_base + ao) % byte_count z ≡ 0 → ao < i.ram_size →
         ((c : Core) → c.ram ≡ m → HandlerRule i t thread Read c (byte_count z) (i.ram_base + ao)) →
         ((v v7 : ℕ) → v ≡ read (byte_count z) ao m → W n s ks (core msp psp q u m a0 a1 a2 a3 a v (byte_count z) v7) Q) →
-        W (13 + n) (by_width (λ width rest. Load width 5 4 0 rest) s) ks (core msp psp q u m a0 a1 a2 a3 a a5 (byte_count z) a7) Q
+        W (13 + n) (loaded s) ks (core msp psp q u m a0 a1 a2 a3 a a5 (byte_count z) a7) Q
     load_by_width Word ao q m a0 a1 a2 a3 a a5 a7 off e al hi ok f =
         more_within (const_within (yes_within refl (load_wide_within p.rules ao Word (open_while_off q off.control) e al hi (ok _ refl) (λ v x. next_within (f v 4 x))))) (omega arith)
     load_by_width Byte ao q m a0 a1 a2 a3 a a5 a7 off e al hi ok f =
@@ -135,7 +135,7 @@ module _ (i : Image) (t : Tables) (p : Placed i t) (has : HasTables i t) (stub :
 
     pub load_by_width_stops : (z : Width) {s : Steps} {ks : List Steps} {Q : Outcome → Type 0} (q : ProtectionState) (m : List ℕ) (a0 a1 a2 a3 a a5 a7 : ℕ) → a < 2 ^ 32 → nat_eq (a % byte_count z) 0 ≡ false →
         ((c : Core) → c.ram ≡ m → HandlerRule i t thread Read c (byte_count z) a) → ((d : Core) → d.ram ≡ m → Q (Stopped Unaligned d)) →
-        W 13 (by_width (λ width rest. Load width 5 4 0 rest) s) ks (core msp psp q u m a0 a1 a2 a3 a a5 (byte_count z) a7) Q
+        W 13 (loaded s) ks (core msp psp q u m a0 a1 a2 a3 a a5 (byte_count z) a7) Q
     load_by_width_stops Word q m a0 a1 a2 a3 a a5 a7 lt odd ok f =
         more_within (const_within (yes_within refl (load_unaligned_within a Word refl lt odd (ok _ refl) (f _ refl)))) (omega arith)
     load_by_width_stops Byte q m a0 a1 a2 a3 a a5 a7 lt odd ok f =

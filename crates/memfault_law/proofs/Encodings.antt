@@ -9,7 +9,7 @@ use Rattle.monitor.specs.declared.tables.Tables.{Tables}
 use Rattle.monitor.specs.Constants.{Constants, constants_with}
 use Rattle.monitor.specs.Opening.{bits_of}
 use Rattle.monitor.specs.Offsets.{record_mask, record_reads}
-use Rattle.monitor.specs.MemFault.{loan_turn, scan, by_width, finished, widths, stores, loads, memfault}
+use Rattle.monitor.specs.MemFault.{loan_turn, scan, stored, loaded, finished, widths, stores, loads, memfault}
 use Rattle.handler_runs.proofs.Encodable.{Words, words_fit, times_words}
 use Rattle.monitor_laws.proofs.Encoded.{fits_fields, times_fields, in_table}
 use Rattle.monitor_laws.proofs.Appended.{times_low}
@@ -19,10 +19,10 @@ use Rattle.monitor_laws.proofs.Appended.{times_low}
 -- ---- the handler
 
 abbrev store_end : Steps
-store_end = Load Word 5 0 0 (by_width (λ width rest. Store width 5 4 0 rest) finished)
+store_end = Load Word 5 0 0 (stored finished)
 
 abbrev load_end : Steps
-load_end = by_width (λ width rest. Load width 5 4 0 rest) (Store Word 5 0 0 finished)
+load_end = loaded (Store Word 5 0 0 finished)
 
 finished_words : Words finished
 finished_words = (omega arith, (omega arith, (omega arith, (omega arith, tt))))

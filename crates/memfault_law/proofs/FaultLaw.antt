@@ -23,7 +23,6 @@ use Rattle.gate_steps.proofs.Within.{GivesWithin}
 use Rattle.monitor.specs.declared.tables.Tables.{Tables}
 use Rattle.monitor.specs.Records.{stack_end}
 use Rattle.monitor.specs.Layout.{tables_size}
-use Rattle.monitor.specs.Placed.{Placed}
 use Rattle.monitor.specs.Page.{stub_address, constants, memfault_offset}
 use Rattle.monitor.specs.CodeSize.{CodeFits}
 use Rattle.monitor.specs.Constants.{Constants}
@@ -69,8 +68,6 @@ same_memory : (i : Image) (t : Tables) (from : ℕ) (memory ram : List ℕ) → 
 same_memory i t from memory ram e = record { reads = λ w o off. ap (λ m. read w o m) e; as_long = ap (λ m. length m) e }
 
 module _ (laws : FaultLaws) (i : Image) (t : Tables) (ready : IsReady i t) where
-  p : Placed i t
-  p = ready.placed
 
   rules : ObeysRules i
   rules = ready.placed.rules
@@ -80,9 +77,6 @@ module _ (laws : FaultLaws) (i : Image) (t : Tables) (ready : IsReady i t) where
 
   page_room : 4096 ≤ tables_size t
   page_room = let a = ready.area_inside in omega (arith, a)
-
-  abbrev pc0 : ℕ
-  pc0 = i.flash_base + memfault_offset (constants t)
 
   code_room : memfault_offset (constants t) + code_length (memfault (constants t)) ≤ 4096
   code_room = there.room i t rules ready.behind_page ready.has_page ready.placed.tables_first laws.code_fits

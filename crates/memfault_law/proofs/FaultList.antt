@@ -33,7 +33,7 @@ use Rattle.monitor.specs.Invariant.{IsOrderly}
 use Rattle.monitor.specs.Outcomes.{Outcome as Comes, Halts, StopsAtBus, StopsUnaligned, Resumes, stacked, with_stacked, moved_on, is_open}
 use Rattle.monitor.specs.FaultOutcome.{is_lent, if_aligned, emulated_store, emulated_load, by_half, is_data_fault, fault_outcome}
 use Rattle.monitor.specs.Constants.{Constants, constants_with}
-use Rattle.monitor.specs.MemFault.{widths, scan, by_width, finished, stores, loads, memfault}
+use Rattle.monitor.specs.MemFault.{widths, stored, loaded, lent_load, finished, stores, loads, memfault}
 use Rattle.monitor_laws.proofs.Tables.{record_at, slots_are}
 use Rattle.monitor_laws.proofs.Placement.{writable}
 use Rattle.monitor_laws.proofs.Off.{core, with_unit, IsOff, open_while_off}
@@ -41,7 +41,7 @@ use Rattle.monitor_laws.proofs.Opened.{Handles, FrameIsOpen, eq_false, opened_wi
 use Rattle.monitor_laws.proofs.HandlerRule.{HandlerRule, handlers_reach}
 use Rattle.monitor_laws.proofs.HandlerWords.{InStack, apart_from_block, frame_load_within, frame_store_within}
 use Rattle.handler_runs.proofs.Frames.{stacked_is}
-use Rattle.memfault_law.proofs.Lent.{one_or, hits, hits_are, IsLentBy, lent_by, lent_store, lent_load}
+use Rattle.memfault_law.proofs.Lent.{one_or, hits, hits_are, IsLentBy, lent_by, lent_store_obeys, lent_load_obeys}
 use Rattle.memfault_law.proofs.Wide.{test_within}
 use Rattle.memfault_law.proofs.Scan.{HasMasks, has_masks, scan_within}
 use Rattle.memfault_law.proofs.Emulated.{IsDone, cfsr_within, store_by_width, store_by_width_stops, load_by_width, load_by_width_stops, finished_within}
@@ -60,10 +60,6 @@ pub record HalfThere (i : Image) (o : ℕ) (m : List ℕ) (half : ℕ) : Type 0 
   pub even : offset % 2 ≡ 0
   pub room : offset + 2 ≤ length i.flash
   pub is_half : read 2 offset i.flash ≡ half
-
--- a load by a loan, behind the test of the halfword
-abbrev load_list : Constants → Steps
-load_list c = scan c (record_reads c.slots) 9 (by_width (λ width rest. Load width 5 4 0 rest) (Store Word 5 0 0 finished))
 
 module _ (i : Image) (t : Tables) (p : Placed i t) (has : HasTables i t) (stub : ℕ) (thread : State) (Good : ProtectionState → Type 0) (good : (q : ProtectionState) → IsOff true q → Good q) where
   abbrev k : Constants
@@ -146,11 +142,11 @@ module _ (i : Image) (t : Tables) (p : Placed i t) (has : HasTables i t) (stub :
     found mask w e = found_in m h.is_block mask w e
 
     may_store : (w : ℕ) → is_lent (compartment_at t b.current).mask a w b.loans ≡ true → (c : Core) → c.ram ≡ m → HandlerRule i t thread Write c w a
-    may_store w e c z = lent_store i t thread m a w c z (found (compartment_at t (current i t m)).mask w (subst (λ n. is_lent (compartment_at t n).mask a w b.loans ≡ true) (sym h.is_block.current_is) e))
+    may_store w e c z = lent_store_obeys i t thread m a w c z (found (compartment_at t (current i t m)).mask w (subst (λ n. is_lent (compartment_at t n).mask a w b.loans ≡ true) (sym h.is_block.current_is) e))
 
     may_load : (w : ℕ) → is_lent (compartment_at t b.current).reads a w b.loans ≡ true → (c : Core) → c.ram ≡ m → HandlerRule i t thread Read c w a
     may_load w e c z =
-        lent_load i t thread m a w c z (found (compartment_at t (current i t m)).reads w (subst (λ n. is_lent (compartment_at t n).reads a w b.loans ≡ true) (sym h.is_block.current_is) e))
+        lent_load_obeys i t thread m a w c z (found (compartment_at t (current i t m)).reads w (subst (λ n. is_lent (compartment_at t n).reads a w b.loans ≡ true) (sym h.is_block.current_is) e))
         (found_in thread.ram h.before (running i t thread).reads w (subst (λ n. is_lent (compartment_at t n).reads a w b.loans ≡ true) (sym h.before.current_is) e))
 
     -- it lies in the stack
@@ -227,7 +223,7 @@ module _ (i : Image) (t : Tables) (p : Placed i t) (has : HasTables i t) (stub :
             ∙ loan_off w (stacked i psp m 0) (compartment_at t b.current).mask l x h
 
         stored_within : {ks : List Steps} (v1 v2 v7 x : ℕ) → is_lent (compartment_at t b.current).mask a w b.loans ≡ true → x ≡ read 4 (o + 4 * 0) m → (al : Bool) → nat_eq (a % byte_count z) 0 ≡ al →
-            W 32 (by_width (λ width rest. Store width 5 4 0 rest) finished) ks (core msp psp q u m psp v1 v2 0 a x w v7) StoreEnds
+            W 32 (stored finished) ks (core msp psp q u m psp v1 v2 0 a x w v7) StoreEnds
         stored_within v1 v2 v7 x e ex true f =
             let l = found (compartment_at t b.current).mask w e in
             store_by_width i t p has stub thread Good good msp psp u z (a - i.ram_base) q m psp v1 v2 0 a x v7 off (in_ram (compartment_at t b.current).mask w l) (aligned_is z (compartment_at t b.current).mask l f) (in_size (compartment_at t b.current).mask z l)
@@ -273,7 +269,7 @@ module _ (i : Image) (t : Tables) (p : Placed i t) (has : HasTables i t) (stub :
             ∙ frame_off 0 (read w (a - i.ram_base) m) m (omega arith) x h
 
         loaded_within : {ks : List Steps} (v1 v2 v7 x : ℕ) → is_lent (compartment_at t b.current).reads a w b.loans ≡ true → (al : Bool) → nat_eq (a % byte_count z) 0 ≡ al →
-            W 33 (by_width (λ width rest. Load width 5 4 0 rest) (Store Word 5 0 0 finished)) ks (core msp psp q u m psp v1 v2 0 a x w v7) LoadEnds
+            W 33 (loaded (Store Word 5 0 0 finished)) ks (core msp psp q u m psp v1 v2 0 a x w v7) LoadEnds
         loaded_within v1 v2 v7 x e true f =
             let l = found (compartment_at t b.current).reads w e in
             load_by_width i t p has stub thread Good good msp psp u z (a - i.ram_base) q m psp v1 v2 0 a x v7 off (in_ram (compartment_at t b.current).reads w l) (aligned_is z (compartment_at t b.current).reads l f) (in_size (compartment_at t b.current).reads z l)
@@ -287,8 +283,8 @@ module _ (i : Image) (t : Tables) (p : Placed i t) (has : HasTables i t) (stub :
             (load_by_width_stops i t p has stub thread Good good msp psp u z q m psp v1 v2 0 a x v7 a_word f (may_load w e)
             (λ d y. subst (λ y. Ends y (Stopped Unaligned d)) (sym (load_lent e false f)) (d, refl, y))) (omega arith)
 
-        pub load_list_within : {ks : List Steps} (a2 a3 a4 a5 a7 : ℕ) → W 1600 (load_list k) ks (core msp psp q u m psp k.block a2 a3 a4 a5 w a7) LoadEnds
-        load_list_within a2 a3 a4 a5 a7 =
+        pub lent_load_within : {ks : List Steps} (a2 a3 a4 a5 a7 : ℕ) → W 1600 (lent_load k) ks (core msp psp q u m psp k.block a2 a3 a4 a5 w a7) LoadEnds
+        lent_load_within a2 a3 a4 a5 a7 =
             more_within
             (scan_within i t p has stub thread Good good msp psp u o top b.current (record_reads k.slots) 9 (compartment_at t b.current).reads a (length b.loans) (is_lent (compartment_at t b.current).reads a w b.loans) q m a2 a3 a4 a5 w a7 off ep io below refl h.is_block.current_is h.orderly.current_in reads_there reads_room a_is h.is_block.loan_count_is h.orderly.few (all_hits (compartment_at t b.current).reads w)
             (λ e d y. subst (λ y. Ends y (Halted 9 d)) (sym (load_refused e)) (d, refl, y))
@@ -319,8 +315,8 @@ module _ (i : Image) (t : Tables) (p : Placed i t) (has : HasTables i t) (stub :
         store_of : (z : Width) → by_half i t b psp m half ≡ emulated_store i t b psp m (byte_count z) → {ks : List Steps} (a2 a3 a5 a7 : ℕ) → W 1640 (stores k) ks (core msp psp q u m psp k.block a2 a3 half a5 (byte_count z) a7) HalfEnds
         store_of z e {ks} a2 a3 a5 a7 = subst (λ y. W 1640 (stores k) ks (core msp psp q u m psp k.block a2 a3 half a5 (byte_count z) a7) (Ends y)) (sym e) (more_within (stores_within z cause q off on a2 a3 half a5 a7) (omega arith))
 
-        load_of : (z : Width) → by_half i t b psp m half ≡ emulated_load i t b psp m (byte_count z) → {ks : List Steps} (a2 a3 a5 a7 : ℕ) → W 1600 (load_list k) ks (core msp psp q u m psp k.block a2 a3 half a5 (byte_count z) a7) HalfEnds
-        load_of z e {ks} a2 a3 a5 a7 = subst (λ y. W 1600 (load_list k) ks (core msp psp q u m psp k.block a2 a3 half a5 (byte_count z) a7) (Ends y)) (sym e) (load_list_within z cause q off on a2 a3 half a5 a7)
+        load_of : (z : Width) → by_half i t b psp m half ≡ emulated_load i t b psp m (byte_count z) → {ks : List Steps} (a2 a3 a5 a7 : ℕ) → W 1600 (lent_load k) ks (core msp psp q u m psp k.block a2 a3 half a5 (byte_count z) a7) HalfEnds
+        load_of z e {ks} a2 a3 a5 a7 = subst (λ y. W 1600 (lent_load k) ks (core msp psp q u m psp k.block a2 a3 half a5 (byte_count z) a7) (Ends y)) (sym e) (lent_load_within z cause q off on a2 a3 half a5 a7)
 
         no_access : by_half i t b psp m half ≡ Halts 8 → (d : Core) → d.ram ≡ m → HalfEnds (Halted 8 d)
         no_access e d x = subst (λ y. Ends y (Halted 8 d)) (sym e) (d, refl, x)

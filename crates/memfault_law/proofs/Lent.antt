@@ -148,8 +148,8 @@ module _ (i : Image) (t : Tables) (m : List ℕ) (mask a w : ℕ) where
 
 -- so the access is of a kind that confinement knows
 module _ (i : Image) (t : Tables) (s : State) (m : List ℕ) (a w : ℕ) where
-  pub lent_store : (c : Core) → c.ram ≡ m → IsLentBy i t m (compartment_at t (current i t m)).mask a w (loan_count i t m) → HandlerRule i t s Write c w a
-  lent_store c e l = λ u at k lt. kind u k lt (at.ram ∙ e)
+  pub lent_store_obeys : (c : Core) → c.ram ≡ m → IsLentBy i t m (compartment_at t (current i t m)).mask a w (loan_count i t m) → HandlerRule i t s Write c w a
+  lent_store_obeys c e l = λ u at k lt. kind u k lt (at.ram ∙ e)
     where
       kind : (u : State) (k : ℕ) → k < w → u.ram ≡ m → StoreKind i t u (a + k)
       kind u k lt same = ByLoan l.number (record {
@@ -160,8 +160,8 @@ module _ (i : Image) (t : Tables) (s : State) (m : List ℕ) (a w : ℕ) where
       })
 
   -- a load is lent by the words of s too
-  pub lent_load : (c : Core) → c.ram ≡ m → IsLentBy i t m (compartment_at t (current i t m)).reads a w (loan_count i t m) → IsLentBy i t s.ram (running i t s).reads a w (loan_count i t s.ram) → HandlerRule i t s Read c w a
-  lent_load c e l before = λ u at closed k lt. (kind u k lt (at.ram ∙ e), ForLoan before.number (in_loan k lt))
+  pub lent_load_obeys : (c : Core) → c.ram ≡ m → IsLentBy i t m (compartment_at t (current i t m)).reads a w (loan_count i t m) → IsLentBy i t s.ram (running i t s).reads a w (loan_count i t s.ram) → HandlerRule i t s Read c w a
+  lent_load_obeys c e l before = λ u at closed k lt. (kind u k lt (at.ram ∙ e), ForLoan before.number (in_loan k lt))
     where
       in_loan : (k : ℕ) → k < w → IsInLoan i t s (running i t s).reads before.number (a + k)
       in_loan k lt = record { live = before.live; in_mask = before.in_mask; from_address = (let f = before.from_address in omega (arith, f)); below_end = (let f = before.below_end in omega (arith, f, lt)) }

@@ -1,5 +1,5 @@
 -- The lengths of the monitor's lists, which depend on the number of slots and on the kind of board alone.
-use Rattle.std.proofs.Common.{◌≡◌, ℕ, zero, suc, ◌+◌, ◌-◌, ◌≤◌, min, Bool, true, false, List, ◌++◌, length, replicate, refl, sym, ◌∙◌, arith, length-append}
+use Rattle.std.proofs.Common.{◌≡◌, ℕ, zero, suc, ◌+◌, ◌-◌, ◌<◌, ◌≤◌, min, Bool, true, false, List, ◌++◌, length, replicate, refl, sym, ◌∙◌, arith, length-append}
 use Rattle.std.proofs.lemmas.List.{length-replicate}
 use Rattle.thumb_model.specs.Bytes.{code_bytes}
 use Rattle.armv7m.proofs.CodeParts.{code_size-append, length-code_bytes}
@@ -47,64 +47,23 @@ zeros = record {
 abbrev pub of_kind : Constants → (slots : ℕ) → (closed : Bool) → Constants
 of_kind c n b = record c { slots = n; closed = b }
 
+-- what holds for each of so many numbers of slots, from 0 on, and for both kinds of board
+abbrev pub OfKinds : (count : ℕ) → (ℕ → Bool → Type 0) → Type 0
+OfKinds zero P = Unit {0}
+OfKinds (suc k) P = P 0 true × P 0 false × OfKinds k (λ n. P (suc n))
+
+pub of_kinds : (count : ℕ) (P : ℕ → Bool → Type 0) → OfKinds count P → (n : ℕ) (b : Bool) → n < count → P n b
+of_kinds zero P each n b h = absurd (omega (arith, h))
+of_kinds (suc k) P each zero true h = each.0
+of_kinds (suc k) P each zero false h = each.1
+of_kinds (suc k) P each (suc n) b h = of_kinds k (λ n. P (suc n)) each.2 n b (omega (arith, h))
+
 -- no other number counts
 same_length : (n : ℕ) (b : Bool) (c : Constants) → n ≤ most_slots → stub_offset (of_kind c n b) ≡ stub_offset (of_kind zeros n b)
-same_length zero true c h = refl
-same_length zero false c h = refl
-same_length (suc zero) true c h = refl
-same_length (suc zero) false c h = refl
-same_length (suc (suc zero)) true c h = refl
-same_length (suc (suc zero)) false c h = refl
-same_length (suc (suc (suc zero))) true c h = refl
-same_length (suc (suc (suc zero))) false c h = refl
-same_length (suc (suc (suc (suc zero)))) true c h = refl
-same_length (suc (suc (suc (suc zero)))) false c h = refl
-same_length (suc (suc (suc (suc (suc zero))))) true c h = refl
-same_length (suc (suc (suc (suc (suc zero))))) false c h = refl
-same_length (suc (suc (suc (suc (suc (suc zero)))))) true c h = refl
-same_length (suc (suc (suc (suc (suc (suc zero)))))) false c h = refl
-same_length (suc (suc (suc (suc (suc (suc (suc zero))))))) true c h = refl
-same_length (suc (suc (suc (suc (suc (suc (suc zero))))))) false c h = refl
-same_length (suc (suc (suc (suc (suc (suc (suc (suc zero)))))))) true c h = refl
-same_length (suc (suc (suc (suc (suc (suc (suc (suc zero)))))))) false c h = refl
-same_length (suc (suc (suc (suc (suc (suc (suc (suc (suc zero))))))))) true c h = refl
-same_length (suc (suc (suc (suc (suc (suc (suc (suc (suc zero))))))))) false c h = refl
-same_length (suc (suc (suc (suc (suc (suc (suc (suc (suc (suc zero)))))))))) true c h = refl
-same_length (suc (suc (suc (suc (suc (suc (suc (suc (suc (suc zero)))))))))) false c h = refl
-same_length (suc (suc (suc (suc (suc (suc (suc (suc (suc (suc (suc zero))))))))))) true c h = refl
-same_length (suc (suc (suc (suc (suc (suc (suc (suc (suc (suc (suc zero))))))))))) false c h = refl
-same_length (suc (suc (suc (suc (suc (suc (suc (suc (suc (suc (suc (suc zero)))))))))))) true c h = refl
-same_length (suc (suc (suc (suc (suc (suc (suc (suc (suc (suc (suc (suc zero)))))))))))) false c h = refl
-same_length (suc (suc (suc (suc (suc (suc (suc (suc (suc (suc (suc (suc (suc n))))))))))))) b c h = absurd (omega arith)
+same_length n b c h = of_kinds 13 (λ n b. stub_offset (of_kind c n b) ≡ stub_offset (of_kind zeros n b)) (refl, refl, (refl, refl, (refl, refl, (refl, refl, (refl, refl, (refl, refl, (refl, refl, (refl, refl, (refl, refl, (refl, refl, (refl, refl, (refl, refl, (refl, refl, tt))))))))))))) n b (omega (arith, h))
 
 fits : (n : ℕ) (b : Bool) → n ≤ most_slots → stub_offset (of_kind zeros n b) + stub_size ≤ page_size
-fits zero true h = omega arith
-fits zero false h = omega arith
-fits (suc zero) true h = omega arith
-fits (suc zero) false h = omega arith
-fits (suc (suc zero)) true h = omega arith
-fits (suc (suc zero)) false h = omega arith
-fits (suc (suc (suc zero))) true h = omega arith
-fits (suc (suc (suc zero))) false h = omega arith
-fits (suc (suc (suc (suc zero)))) true h = omega arith
-fits (suc (suc (suc (suc zero)))) false h = omega arith
-fits (suc (suc (suc (suc (suc zero))))) true h = omega arith
-fits (suc (suc (suc (suc (suc zero))))) false h = omega arith
-fits (suc (suc (suc (suc (suc (suc zero)))))) true h = omega arith
-fits (suc (suc (suc (suc (suc (suc zero)))))) false h = omega arith
-fits (suc (suc (suc (suc (suc (suc (suc zero))))))) true h = omega arith
-fits (suc (suc (suc (suc (suc (suc (suc zero))))))) false h = omega arith
-fits (suc (suc (suc (suc (suc (suc (suc (suc zero)))))))) true h = omega arith
-fits (suc (suc (suc (suc (suc (suc (suc (suc zero)))))))) false h = omega arith
-fits (suc (suc (suc (suc (suc (suc (suc (suc (suc zero))))))))) true h = omega arith
-fits (suc (suc (suc (suc (suc (suc (suc (suc (suc zero))))))))) false h = omega arith
-fits (suc (suc (suc (suc (suc (suc (suc (suc (suc (suc zero)))))))))) true h = omega arith
-fits (suc (suc (suc (suc (suc (suc (suc (suc (suc (suc zero)))))))))) false h = omega arith
-fits (suc (suc (suc (suc (suc (suc (suc (suc (suc (suc (suc zero))))))))))) true h = omega arith
-fits (suc (suc (suc (suc (suc (suc (suc (suc (suc (suc (suc zero))))))))))) false h = omega arith
-fits (suc (suc (suc (suc (suc (suc (suc (suc (suc (suc (suc (suc zero)))))))))))) true h = omega arith
-fits (suc (suc (suc (suc (suc (suc (suc (suc (suc (suc (suc (suc zero)))))))))))) false h = omega arith
-fits (suc (suc (suc (suc (suc (suc (suc (suc (suc (suc (suc (suc (suc n))))))))))))) b h = absurd (omega arith)
+fits n b h = of_kinds 13 (λ n b. stub_offset (of_kind zeros n b) + stub_size ≤ page_size) (omega arith, omega arith, (omega arith, omega arith, (omega arith, omega arith, (omega arith, omega arith, (omega arith, omega arith, (omega arith, omega arith, (omega arith, omega arith, (omega arith, omega arith, (omega arith, omega arith, (omega arith, omega arith, (omega arith, omega arith, (omega arith, omega arith, (omega arith, omega arith, tt))))))))))))) n b (omega (arith, h))
 
 few : (t : Tables) → min most_slots (number_of_slots t) ≤ most_slots
 few t = omega arith

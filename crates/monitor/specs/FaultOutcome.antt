@@ -8,6 +8,7 @@ use Rattle.device_model.specs.declared.image.Image.{Image}
 use Rattle.monitor.specs.declared.tables.Tables.{Tables}
 use Rattle.monitor.specs.Records.{compartment_at}
 use Rattle.monitor.specs.Block.{Loan, Block}
+use Rattle.monitor.specs.Halts.{halt_stack, halt_store, halt_fault, halt_load}
 use Rattle.monitor.specs.Outcomes.{Outcome, Halts, StopsUnaligned, Resumes, stacked, with_stacked, moved_on, is_open}
 
 -- the loan holds so many bytes from an address on, and its number is in a mask
@@ -35,14 +36,14 @@ module _ (i : Image) (t : Tables) (m : Block) (psp : ℕ) (memory : List ℕ) wh
   emulated_store w =
       if is_lent (compartment_at t m.current).mask address w m.loans then
       if_aligned w (Resumes m psp (moved_on i psp (write w (address - i.ram_base) value memory)))
-      else Halts 7
+      else Halts halt_store
 
   -- what was read goes to r0, widened with zeros
   abbrev pub emulated_load : (width : ℕ) → Outcome
   emulated_load w =
       if is_lent (compartment_at t m.current).reads address w m.loans then
       if_aligned w (Resumes m psp (moved_on i psp (with_stacked i psp 0 (read w (address - i.ram_base) memory) memory)))
-      else Halts 9
+      else Halts halt_load
 
   -- STR, STRB, STRH r0,[r1,#0] are 0x6008, 0x7008, 0x8008; on a closed board LDR, LDRB, LDRH r0,[r1,#0] too
   abbrev pub by_half : (half : ℕ) → Outcome
@@ -53,7 +54,7 @@ module _ (i : Image) (t : Tables) (m : Block) (psp : ℕ) (memory : List ℕ) wh
       else if t.closed && nat_eq h 0x6808 then emulated_load 4
       else if t.closed && nat_eq h 0x7808 then emulated_load 1
       else if t.closed && nat_eq h 0x8808 then emulated_load 2
-      else Halts 8
+      else Halts halt_fault
 
   -- DACCVIOL and MMARVALID are bits 1 and 7 of CFSR
   abbrev pub is_data_fault : (cfsr : ℕ) → Bool
@@ -61,4 +62,4 @@ module _ (i : Image) (t : Tables) (m : Block) (psp : ℕ) (memory : List ℕ) wh
 
   -- of CFSR, and of the halfword at the return address
   unfoldable pub fault_outcome : (cfsr half : ℕ) → Outcome
-  fault_outcome c h = if is_open i t m psp memory then (if is_data_fault c then by_half h else Halts 8) else Halts 4
+  fault_outcome c h = if is_open i t m psp memory then (if is_data_fault c then by_half h else Halts halt_fault) else Halts halt_stack

@@ -7,7 +7,6 @@ pub mod FromFlash
 pub mod RegionChecks
 pub mod Checks
 pub mod Sound
-pub mod Forms
 pub mod Placed
 pub mod Block
 pub mod BlockWords
@@ -26,6 +25,8 @@ pub mod Law
 pub mod AccessLaw
 pub mod Promises
 pub mod Offsets
+pub mod Halts
+pub mod Values
 pub mod Constants
 pub mod Opening
 pub mod Svc

@@ -7,6 +7,8 @@ use Rattle.gate_steps.specs.declared.steps.GateOp.TheVariants.{Add, Sub, And, Sh
 use Rattle.gate_steps.specs.declared.steps.GateCond.TheVariants.{Eq, Ule}
 use Rattle.gate_steps.specs.Steps.{Steps, End, Const, Copy, Load, Store, Alu, ReadPsp, Test, Repeat, Halt, ◌▸◌}
 use Rattle.monitor.specs.Offsets.{cur, loans, loan_from, loan_end, loan_number, frame_r0, frame_r1, frame_return, record_mask, record_reads}
+use Rattle.monitor.specs.Halts.{halt_store, halt_fault, halt_load}
+use Rattle.monitor.specs.Values.{loan_size, most_loans, refused_access}
 use Rattle.monitor.specs.Constants.{Constants}
 use Rattle.monitor.specs.Opening.{must, opened, closed_up, record_of}
 
@@ -44,14 +46,14 @@ abbrev pub loan_turn : Steps
 loan_turn =
     Load Word 0 2 loan_from
     ▸ Test Ule 0 4 has_end End
-    ▸ Const 0 12
+    ▸ Const 0 loan_size
     ▸ Alu Add 2 2 0
     ▸ End
 
--- some live loan holds the width r6 from the stacked r1 on, and its number is in the mask that stands at this word of CUR's
--- record; else the machine halts with a number. The address is in r4 behind it, the width in r6, PSP in r0
-abbrev pub scan : Constants → (mask_at code : ℕ) → Steps → Steps
-scan c mask_at code rest =
+-- the mask that stands at this word of CUR's record into r5, the width in r6, the stacked r1 into r4; the first loan's address into
+-- r2, how many loans live into r3, and 0 into r7
+abbrev pub scan_begun : Constants → (mask_at : ℕ) → Steps → Steps
+scan_begun c mask_at rest =
     Copy 2 6
     ▸ Load Word 5 1 cur
     ▸ record_of c
@@ -61,7 +63,14 @@ scan c mask_at code rest =
     ▸ Load Word 3 1 loans
     ▸ Const 2 c.loans_at
     ▸ Const 7 0
-    ▸ Repeat 3 32 loan_turn
+    ▸ rest
+
+-- some live loan holds the width r6 from the stacked r1 on, and its number is in the mask that stands at this word of CUR's
+-- record; else the machine halts with a number. The address is in r4 behind it, the width in r6, PSP in r0
+abbrev pub scan : Constants → (mask_at code : ℕ) → Steps → Steps
+scan c mask_at code rest =
+    scan_begun c mask_at
+    ▸ Repeat 3 most_loans loan_turn
     ▸ Const 0 1
     ▸ must Eq 7 0 code
     ▸ ReadPsp 0
@@ -69,9 +78,23 @@ scan c mask_at code rest =
 
 -- ---- the access
 
--- by the width in r6, by r7
-abbrev pub by_width : (Width → Steps → Steps) → Steps → Steps
-by_width access rest = Const 7 4 ▸ Test Eq 6 7 (access Word End) (Const 7 1 ▸ Test Eq 6 7 (access Byte End) (access Half End) ▸ End) ▸ rest
+-- one of three lists by the width in r6, by r7
+abbrev pub of_width : (of_word of_byte of_half : Steps) → Steps → Steps
+of_width w b h rest = Const 7 4 ▸ Test Eq 6 7 w (Const 7 1 ▸ Test Eq 6 7 b h ▸ End) ▸ rest
+
+-- an access of this width: r5 to the address in r4, and from there
+abbrev pub one_store : Width → Steps
+one_store width = Store width 5 4 0 End
+
+abbrev pub one_load : Width → Steps
+one_load width = Load width 5 4 0 End
+
+-- the same by the width in r6
+abbrev pub stored : Steps → Steps
+stored = of_width (one_store Word) (one_store Byte) (one_store Half)
+
+abbrev pub loaded : Steps → Steps
+loaded = of_width (one_load Word) (one_load Byte) (one_load Half)
 
 -- the compartment goes on behind the instruction; the status of the fault is cleared by its own ones
 abbrev pub finished : Steps
@@ -88,32 +111,37 @@ finished =
 -- the stacked r0 to the stacked r1; without a loan halt 7
 abbrev pub stores : Constants → Steps
 stores c =
-    scan c (record_mask c.slots) 7
+    scan c (record_mask c.slots) halt_store
     ▸ Load Word 5 0 frame_r0
-    ▸ by_width (λ width rest. Store width 5 4 0 rest)
+    ▸ stored
     ▸ finished
 
--- of no store: on an open board halt 8; on a closed one LDR, LDRB and LDRH r0, [r1, #0] into the stacked r0, without a loan
--- halt 9
-abbrev pub loads : Constants → (closed : Bool) → Steps
-loads c false = Halt 8 End
-loads c true =
-    widths 0x6808 0x7808 0x8808 (Halt 8 End)
-    ▸ scan c (record_reads c.slots) 9
-    ▸ by_width (λ width rest. Load width 5 4 0 rest)
+-- the stacked r0 from the stacked r1; without a loan halt 9
+abbrev pub lent_load : Constants → Steps
+lent_load c =
+    scan c (record_reads c.slots) halt_load
+    ▸ loaded
     ▸ Store Word 5 0 frame_r0
     ▸ finished
 
--- a refused data access whose address is known (CFSR.DACCVIOL and MMARVALID), by STR, STRB or STRH r0, [r1, #0]; else halt 8
-abbrev pub memfault : Constants → Steps
-memfault c =
-    opened c
-    ▸ Const 4 CFSR
+-- of no store: on an open board halt 8; on a closed one LDR, LDRB and LDRH r0, [r1, #0], of another halfword halt 8
+abbrev pub loads : Constants → (closed : Bool) → Steps
+loads c false = Halt halt_fault End
+loads c true = widths 0x6808 0x7808 0x8808 (Halt halt_fault End) ▸ lent_load c
+
+-- a refused data access whose address is known (CFSR.DACCVIOL and MMARVALID), else halt 8; the halfword at the return address into
+-- r4
+abbrev pub fault_asked : Steps → Steps
+fault_asked rest =
+    Const 4 CFSR
     ▸ Load Word 5 4 0
-    ▸ Const 6 0x82
+    ▸ Const 6 refused_access
     ▸ Alu And 5 5 6
-    ▸ must Eq 5 6 8
+    ▸ must Eq 5 6 halt_fault
     ▸ Load Word 4 0 frame_return
     ▸ Load Half 4 4 0
-    ▸ widths 0x6008 0x7008 0x8008 (loads c c.closed)
-    ▸ stores c
+    ▸ rest
+
+-- such an access by STR, STRB or STRH r0, [r1, #0]
+abbrev pub memfault : Constants → Steps
+memfault c = opened c ▸ fault_asked ▸ widths 0x6008 0x7008 0x8008 (loads c c.closed) ▸ stores c

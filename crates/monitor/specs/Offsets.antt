@@ -113,3 +113,10 @@ init_end = 1
 
 abbrev pub init_from : ℕ
 init_from = 2
+
+-- of a region, in a record and from MPU_RBAR on
+abbrev pub region_rbar : ℕ
+region_rbar = 0
+
+abbrev pub region_rasr : ℕ
+region_rasr = 1

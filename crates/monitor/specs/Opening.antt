@@ -6,7 +6,9 @@ use Rattle.gate_steps.specs.declared.steps.GateOp.TheVariants.{Add, Sub, And, Sh
 use Rattle.gate_steps.specs.declared.steps.GateCond.{GateCond}
 use Rattle.gate_steps.specs.declared.steps.GateCond.TheVariants.{Eq, Ule}
 use Rattle.gate_steps.specs.Steps.{Steps, End, Const, Load, Store, Alu, ReadPsp, Test, Halt, Return, ◌▸◌}
-use Rattle.monitor.specs.Offsets.{top, frame_xpsr, record_code, record_slots}
+use Rattle.monitor.specs.Offsets.{top, frame_xpsr, record_code, record_slots, region_rbar, region_rasr}
+use Rattle.monitor.specs.Halts.{halt_stack}
+use Rattle.monitor.specs.Values.{frame_size, unit_off, unit_on, all_eighths, srd_shift, padded}
 use Rattle.monitor.specs.Constants.{Constants}
 
 -- ---- words of the lists
@@ -35,31 +37,38 @@ bits_of (suc k) n = nat_eq (n / 2 ^ k % 2) 1 ∷ bits_of k n
 
 -- ---- the ends of a handler
 
--- the protection unit is off until the handler ends, so that it may write regions. PSP into r0, the monitor's block into r1,
--- the stack's base into r2, TOP into r3. PSP is not below the stack's base, the frame lies below TOP, and its xPSR tells of no
--- padding (bit 9); else halt 4
-abbrev pub opened : Constants → Steps → Steps
-opened c rest =
-    set_control 6 7 0
-    ▸ ReadPsp 0
+-- PSP into r0, the monitor's block into r1, the stack's base into r2, TOP into r3. PSP is not below the stack's base, and the frame
+-- lies below TOP; else halt 4
+abbrev pub stack_tests : Constants → Steps → Steps
+stack_tests c rest =
+    ReadPsp 0
     ▸ Const 1 c.block
     ▸ Const 2 c.stack
-    ▸ must Ule 2 0 4
+    ▸ must Ule 2 0 halt_stack
     ▸ Load Word 3 1 top
-    ▸ must Ule 0 3 4
+    ▸ must Ule 0 3 halt_stack
     ▸ Alu Sub 4 3 0
-    ▸ Const 5 32
-    ▸ must Ule 5 4 4
-    ▸ Load Word 4 0 frame_xpsr
-    ▸ Const 5 (2 ^ 9)
+    ▸ Const 5 frame_size
+    ▸ must Ule 5 4 halt_stack
+    ▸ rest
+
+-- the frame's xPSR tells of no padding; else halt 4
+abbrev pub status_test : Steps → Steps
+status_test rest =
+    Load Word 4 0 frame_xpsr
+    ▸ Const 5 padded
     ▸ Alu And 4 4 5
     ▸ Const 5 0
-    ▸ must Eq 4 5 4
+    ▸ must Eq 4 5 halt_stack
     ▸ rest
+
+-- the protection unit is off until the handler ends, so that it may write regions; then the tests of the frame
+abbrev pub opened : Constants → Steps → Steps
+opened c rest = set_control 6 7 unit_off ▸ stack_tests c ▸ status_test ▸ rest
 
 -- the unit is on again, with the background for privileged code; the exception return
 abbrev pub closed_up : Steps
-closed_up = set_control 6 7 5 ▸ Return End
+closed_up = set_control 6 7 unit_on ▸ Return End
 
 -- ---- the regions of a compartment
 
@@ -74,35 +83,45 @@ record_of c rest =
     ▸ Alu Add 6 6 7
     ▸ rest
 
--- so many regions, whose words stand from a word of the record at r6 on, by r7; r0 points to MPU_RBAR
+-- one region, whose words stand from a word of the record at r6 on, by r7; r0 points to MPU_RBAR
+abbrev pub region : (from : ℕ) → Steps → Steps
+region from rest =
+    Load Word 7 6 from
+    ▸ Store Word 7 0 region_rbar
+    ▸ Load Word 7 6 (from + region_rasr)
+    ▸ Store Word 7 0 region_rasr
+    ▸ rest
+
+-- so many regions, one's words behind the other's
 abbrev pub regions : (count from : ℕ) → Steps → Steps
 regions zero from rest = rest
-regions (suc n) from rest =
-    Load Word 7 6 from
-    ▸ Store Word 7 0 0
-    ▸ Load Word 7 6 (from + 1)
-    ▸ Store Word 7 0 1
-    ▸ regions n (from + 2) rest
+regions (suc n) from rest = region from ▸ regions n (from + 2) rest
 
--- region 3 for TOP in r3, by r2 and r7: of its eighths those at or above TOP are taken out. SRD is 0xFF shifted to the left by
--- the number of eighths below TOP, in eight bits
-abbrev pub stack_region : Constants → Steps → Steps
-stack_region c rest =
+-- SRD of region 3 for TOP in r3 into r2, by r7: of the stack's eighths those at or above TOP are taken out. It is 0xFF shifted to
+-- the left by the number of eighths below TOP, in eight bits
+abbrev pub closed_eighths : Constants → Steps → Steps
+closed_eighths c rest =
     Const 2 c.stack
     ▸ Alu Sub 7 3 2
     ▸ Const 2 c.eighth
     ▸ Alu Shr 7 7 2
-    ▸ Const 2 0xFF
+    ▸ Const 2 all_eighths
     ▸ Alu Shl 2 2 7
-    ▸ Const 7 0xFF
+    ▸ Const 7 all_eighths
     ▸ Alu And 2 2 7
-    ▸ Const 7 8
+    ▸ rest
+
+-- region 3 for TOP in r3, by r2 and r7
+abbrev pub stack_region : Constants → Steps → Steps
+stack_region c rest =
+    closed_eighths c
+    ▸ Const 7 srd_shift
     ▸ Alu Shl 2 2 7
     ▸ Const 7 c.stack_region.rasr
     ▸ Alu Add 2 2 7
     ▸ Const 7 c.stack_region.rbar
-    ▸ Store Word 7 0 0
-    ▸ Store Word 2 0 1
+    ▸ Store Word 7 0 region_rbar
+    ▸ Store Word 2 0 region_rasr
     ▸ rest
 
 -- regions 2, 3 and the slots of compartment r5, TOP being in r3
@@ -110,7 +129,7 @@ abbrev pub tables_of : Constants → Steps → Steps
 tables_of c rest =
     record_of c
     ▸ Const 0 MPU_RBAR
-    ▸ regions 1 record_code
+    ▸ region record_code
     ▸ stack_region c
     ▸ regions c.slots record_slots
     ▸ rest

@@ -7,6 +7,8 @@ use Rattle.device_model.specs.declared.image.Image.{Image}
 use Rattle.armv7m.specs.Stack.{words_at}
 use Rattle.monitor.specs.declared.tables.Tables.{Tables}
 use Rattle.monitor.specs.Block.{Block}
+use Rattle.monitor.specs.Offsets.{frame_r12, frame_return, frame_xpsr}
+use Rattle.monitor.specs.Values.{frame_size}
 
 pub data Outcome : Type 0 where
   -- by this number, before anything was changed
@@ -18,15 +20,15 @@ pub data Outcome : Type 0 where
   -- the thread goes on: the block, the stack pointer at whose frame it does, and RAM but for the monitor's block
   Resumes : (block : Block) → (psp : ℕ) → (memory : List ℕ) → Outcome
 
--- the words of an exception's frame, by their numbers: r0 to r3, r12, lr, the return address, xPSR
+-- words of an exception's frame, by their numbers
 abbrev pub r12_place : ℕ
-r12_place = 4
+r12_place = frame_r12
 
 abbrev pub return_place : ℕ
-return_place = 6
+return_place = frame_return
 
 abbrev pub status_place : ℕ
-status_place = 7
+status_place = frame_xpsr
 
 -- the eight words of the frame at a stack pointer, and one of them
 abbrev pub frame_in : Image → (psp : ℕ) → (memory : List ℕ) → List ℕ
@@ -46,4 +48,4 @@ moved_on i psp memory = with_stacked i psp return_place (stacked i psp memory re
 -- what both handlers test first: the frame lies in the open stack, and it has no pad
 abbrev pub is_open : Image → Tables → Block → (psp : ℕ) → (memory : List ℕ) → Bool
 is_open i t m psp memory =
-    nat_le t.stack.base psp && (nat_le (psp + 32) m.top && nat_eq (bit_at (stacked i psp memory status_place) 9) 0)
+    nat_le t.stack.base psp && (nat_le (psp + frame_size) m.top && nat_eq (bit_at (stacked i psp memory status_place) 9) 0)

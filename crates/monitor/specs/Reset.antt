@@ -7,7 +7,9 @@ use Rattle.armv7m.specs.declared.TheConstants.{CCR, SHCSR}
 use Rattle.gate_steps.specs.declared.steps.GateOp.TheVariants.{Add, Sub, Shr}
 use Rattle.gate_steps.specs.declared.steps.GateCond.TheVariants.{Eq}
 use Rattle.gate_steps.specs.Steps.{Steps, End, Const, Copy, Load, Store, Alu, WritePsp, WriteControl, Repeat, Go, ◌▸◌}
-use Rattle.monitor.specs.Offsets.{cur, top, depth, loans, mark, init_at, init_end, init_from}
+use Rattle.monitor.specs.Offsets.{cur, top, depth, loans, mark, init_at, init_end, init_from, region_rbar, region_rasr}
+use Rattle.monitor.specs.Halts.{halt_unit}
+use Rattle.monitor.specs.Values.{init_size, unit_on, traps_on, faults_on, unprivileged}
 use Rattle.monitor.specs.Constants.{Constants}
 use Rattle.monitor.specs.Opening.{must, set_control, tables_of}
 
@@ -31,7 +33,7 @@ init_turn c =
     ▸ Const 6 2
     ▸ Alu Shr 4 4 6
     ▸ Repeat 4 c.words word_turn
-    ▸ Const 6 12
+    ▸ Const 6 init_size
     ▸ Alu Add 0 0 6
     ▸ End
 
@@ -47,7 +49,7 @@ unit_is_there c rest =
     Const 0 MPU_TYPE
     ▸ Load Word 6 0 0
     ▸ Const 1 (256 * (c.slots + 4))
-    ▸ must Eq 6 1 10
+    ▸ must Eq 6 1 halt_unit
     ▸ rest
 
 -- the ranges that start-up fills
@@ -69,7 +71,7 @@ first_block c rest =
 
 -- CCR.STKALIGN and CCR.UNALIGN_TRP (B3.2.8); this profile keeps CCR as it is
 abbrev pub traps : Steps → Steps
-traps rest = Const 0 CCR ▸ Const 6 0x208 ▸ Store Word 6 0 0 ▸ rest
+traps rest = Const 0 CCR ▸ Const 6 traps_on ▸ Store Word 6 0 0 ▸ rest
 
 -- regions 0 and 1, which stay; the entry of `main` into r4
 abbrev pub first_regions : Constants → Steps → Steps
@@ -77,30 +79,31 @@ first_regions c rest =
     Copy 4 7
     ▸ Const 0 MPU_RBAR
     ▸ Const 6 c.background.rbar
-    ▸ Store Word 6 0 0
+    ▸ Store Word 6 0 region_rbar
     ▸ Const 6 c.background.rasr
-    ▸ Store Word 6 0 1
+    ▸ Store Word 6 0 region_rasr
     ▸ Const 6 c.tables.rbar
-    ▸ Store Word 6 0 0
+    ▸ Store Word 6 0 region_rbar
     ▸ Const 6 c.tables.rasr
-    ▸ Store Word 6 0 1
+    ▸ Store Word 6 0 region_rasr
     ▸ rest
 
--- SHCSR.MEMFAULTENA; the protection unit; PSP at the stack's end; unprivileged on PSP (CONTROL 3); and to `main`, with the leave
--- stub as link
-abbrev pub go_on : Constants → Steps
-go_on c =
+-- SHCSR.MEMFAULTENA; the protection unit; PSP at the stack's end; CONTROL of a thread into r6, the leave stub into r5
+abbrev pub thread_ready : Constants → Steps → Steps
+thread_ready c rest =
     Const 0 SHCSR
-    ▸ Const 6 0x10000
+    ▸ Const 6 faults_on
     ▸ Store Word 6 0 0
-    ▸ set_control 6 7 5
+    ▸ set_control 6 7 unit_on
     ▸ WritePsp 3
-    ▸ Const 6 3
+    ▸ Const 6 unprivileged
     ▸ Const 5 c.stub_entry
-    ▸ WriteControl 6
-    ▸ Go 4 5
-    ▸ End
+    ▸ rest
+
+-- unprivileged on PSP; and to `main`, with the leave stub as link
+abbrev pub to_main : Steps
+to_main = WriteControl 6 ▸ Go 4 5 ▸ End
 
 -- start-up
 abbrev pub reset : Constants → Steps
-reset c = main_words c ▸ unit_is_there c ▸ copied c ▸ first_block c ▸ traps ▸ first_regions c ▸ tables_of c ▸ go_on c
+reset c = main_words c ▸ unit_is_there c ▸ copied c ▸ first_block c ▸ traps ▸ first_regions c ▸ tables_of c ▸ thread_ready c ▸ to_main

@@ -5,18 +5,20 @@ use Rattle.gate_steps.specs.declared.steps.GateOp.TheVariants.{Add, Sub, And, Sh
 use Rattle.gate_steps.specs.declared.steps.GateCond.TheVariants.{Eq, Ult, Ule}
 use Rattle.gate_steps.specs.Steps.{Steps, End, Const, Copy, Load, Store, Alu, WritePsp, Test, Repeat, Halt, ◌▸◌}
 use Rattle.monitor.specs.Offsets.{cur, top, depth, loans, mark, saved_psp, saved_cur, saved_top, saved_mark, loan_from, loan_end, loan_number, frame_r0, frame_r1, frame_r2, frame_r3, frame_r12, frame_lr, frame_return, frame_xpsr, site_return, site_first, site_count, target_entry, target_compartment}
+use Rattle.monitor.specs.Halts.{halt_end, halt_number, halt_site, halt_target, halt_limit, halt_loan}
+use Rattle.monitor.specs.Values.{frame_size, target_size, most_loans, most_targets, no_compartment, thread_xpsr}
 use Rattle.monitor.specs.Constants.{Constants}
 use Rattle.monitor.specs.Opening.{must, must_not, opened, closed_up, tables_of}
 
 -- ---- 0, enter. Behind `opened` r0 is PSP, r1 the block, r2 the stack's base; r4 is the return address
 
--- the halfword at the return address is the number of a site, whose record has this return address; else halt 2. The site's
--- first target into r5, their number into r6
-abbrev pub site : Constants → Steps → Steps
-site c rest =
+-- the halfword at the return address is the number of a site, else halt 2; the address of its record into r6, by r7: 12 bytes times
+-- the number behind the first
+abbrev pub site_record : Constants → Steps → Steps
+site_record c rest =
     Load Half 5 4 0
     ▸ Const 6 c.sites
-    ▸ must Ult 5 6 2
+    ▸ must Ult 5 6 halt_site
     ▸ Const 6 2
     ▸ Copy 7 5
     ▸ Alu Shl 7 7 6
@@ -24,8 +26,14 @@ site c rest =
     ▸ Alu Add 6 6 7
     ▸ Const 7 c.sites_at
     ▸ Alu Add 6 6 7
+    ▸ rest
+
+-- the record of that site has this return address; else halt 2. The site's first target into r5, their number into r6
+abbrev pub site : Constants → Steps → Steps
+site c rest =
+    site_record c
     ▸ Load Word 7 6 site_return
-    ▸ must Eq 7 4 2
+    ▸ must Eq 7 4 halt_site
     ▸ Load Word 5 6 site_first
     ▸ Load Word 6 6 site_count
     ▸ rest
@@ -35,23 +43,28 @@ abbrev pub target_turn : Steps
 target_turn =
     Load Word 3 7 target_entry
     ▸ Test Eq 3 4 (Load Word 5 7 target_compartment ▸ End) End
-    ▸ Const 3 8
+    ▸ Const 3 target_size
     ▸ Alu Add 7 7 3
     ▸ End
 
--- the stacked r12 is the entry, with bit 0 set, of a target of the site; else halt 3. The compartment of the last such target
--- into r5
-abbrev pub target : Constants → Steps → Steps
-target c rest =
+-- the entry that is asked for, the stacked r12, into r4; the address of the record of target r5 into r7; and no compartment into r5
+abbrev pub target_asked : Constants → Steps → Steps
+target_asked c rest =
     Load Word 4 0 frame_r12
     ▸ Const 7 3
     ▸ Alu Shl 5 5 7
     ▸ Const 7 c.targets_at
     ▸ Alu Add 7 7 5
-    ▸ Const 5 0xFFFFFFFF
-    ▸ Repeat 6 64 target_turn
-    ▸ Const 3 0xFFFFFFFF
-    ▸ must_not Eq 5 3 3
+    ▸ Const 5 no_compartment
+    ▸ rest
+
+-- it is the entry, with bit 0 set, of a target of the site; else halt 3. The compartment of the last such target into r5
+abbrev pub target : Constants → Steps → Steps
+target c rest =
+    target_asked c
+    ▸ Repeat 6 most_targets target_turn
+    ▸ Const 3 no_compartment
+    ▸ must_not Eq 5 3 halt_target
     ▸ rest
 
 -- the new TOP into r3: PSP, rounded down to whole eighths of the stack. It is above the stack's base, else halt 5
@@ -62,7 +75,7 @@ rounded c rest =
     ▸ Alu Shr 3 3 6
     ▸ Alu Shl 3 3 6
     ▸ Const 6 0
-    ▸ must_not Eq 3 6 5
+    ▸ must_not Eq 3 6 halt_limit
     ▸ Alu Add 3 3 2
     ▸ rest
 
@@ -92,11 +105,10 @@ save rest =
     ▸ Store Word 7 6 saved_mark
     ▸ rest
 
--- the callee's frame below the new TOP, its address in r6: the arguments in r0 to r3, the leave stub as link, the entry with
--- bit 0 clear as return address, and the xPSR of a thread
-abbrev pub frame : Constants → Steps → Steps
-frame c rest =
-    Const 6 32
+-- the address of the callee's frame, which is below the new TOP, into r6; the arguments in r0 to r3
+abbrev pub frame_arguments : Steps → Steps
+frame_arguments rest =
+    Const 6 frame_size
     ▸ Alu Sub 6 3 6
     ▸ Load Word 7 0 frame_r0
     ▸ Store Word 7 6 frame_r0
@@ -106,6 +118,13 @@ frame c rest =
     ▸ Store Word 7 6 frame_r2
     ▸ Load Word 7 0 frame_r3
     ▸ Store Word 7 6 frame_r3
+    ▸ rest
+
+-- the callee's frame: behind the arguments the leave stub as link, the entry with bit 0 clear as return address, and the xPSR of a
+-- thread
+abbrev pub frame : Constants → Steps → Steps
+frame c rest =
+    frame_arguments
     ▸ Const 7 0
     ▸ Store Word 7 6 frame_r12
     ▸ Const 7 c.stub_entry
@@ -114,7 +133,7 @@ frame c rest =
     ▸ Const 2 1
     ▸ Alu Sub 7 7 2
     ▸ Store Word 7 6 frame_return
-    ▸ Const 7 0x01000000
+    ▸ Const 7 thread_xpsr
     ▸ Store Word 7 6 frame_xpsr
     ▸ rest
 
@@ -137,13 +156,13 @@ enter c = site c ▸ target c ▸ rounded c ▸ raise ▸ save ▸ frame c ▸ e
 
 -- ---- 1, leave
 
--- without a saved entry the program is at its end: halt 0. The loans of the callee end; CUR, TOP and MARK of the caller; the
--- result in r0 goes to the caller's frame, which is the stack again
-abbrev pub leave : Constants → Steps
-leave c =
+-- without a saved entry the program is at its end: halt 0. The last one is saved no more, its address goes into r6, by r4, and the
+-- loans of the callee end
+abbrev pub left : Steps → Steps
+left rest =
     Load Word 4 1 depth
     ▸ Const 6 0
-    ▸ must_not Eq 4 6 0
+    ▸ must_not Eq 4 6 halt_end
     ▸ Const 6 1
     ▸ Alu Sub 4 4 6
     ▸ Store Word 4 1 depth
@@ -152,7 +171,12 @@ leave c =
     ▸ Const 6 4
     ▸ Alu Shl 4 4 6
     ▸ Alu Add 6 4 1
-    ▸ Load Word 5 6 saved_cur
+    ▸ rest
+
+-- CUR, TOP and MARK of the caller; the result in r0 goes to the caller's frame, which is the stack again
+abbrev pub restored : Steps → Steps
+restored rest =
+    Load Word 5 6 saved_cur
     ▸ Store Word 5 1 cur
     ▸ Load Word 3 6 saved_top
     ▸ Store Word 3 1 top
@@ -162,39 +186,52 @@ leave c =
     ▸ Load Word 7 0 frame_r0
     ▸ Store Word 7 4 frame_r0
     ▸ WritePsp 4
-    ▸ tables_of c
-    ▸ closed_up
+    ▸ rest
+
+-- all of it
+abbrev pub leave : Constants → Steps
+leave c = left ▸ restored ▸ tables_of c ▸ closed_up
 
 -- ---- 2, lend
 
--- the stacked r0 is the address of a local, the stacked r1 its number. Fewer than 32 loans are live; the number is that of a
--- lendable local; the address is a multiple of 4; the local lies between the frame's end and TOP; else halt 6. No sum that is
--- tested wraps: the size is compared with what is left below TOP
-abbrev pub lend : Constants → Steps
-lend c =
+-- the stacked r0, the address of a local, into r4; the stacked r1, its number, into r5; LOANS into r6. Fewer than 32 loans are live;
+-- the number is that of a lendable local; the address is a multiple of 4; else halt 6
+abbrev pub lend_number : Constants → Steps → Steps
+lend_number c rest =
     Load Word 4 0 frame_r0
     ▸ Load Word 5 0 frame_r1
     ▸ Load Word 6 1 loans
-    ▸ Const 7 32
-    ▸ must_not Eq 6 7 6
+    ▸ Const 7 most_loans
+    ▸ must_not Eq 6 7 halt_loan
     ▸ Const 7 c.lends
-    ▸ must Ult 5 7 6
+    ▸ must Ult 5 7 halt_loan
     ▸ Const 7 3
     ▸ Alu And 7 7 4
     ▸ Const 2 0
-    ▸ must Eq 7 2 6
-    ▸ Alu Add 2 5 5
+    ▸ must Eq 7 2 halt_loan
+    ▸ rest
+
+-- the size of the local into r2. The local lies between the frame's end and TOP; else halt 6. No sum that is tested wraps: the size is
+-- compared with what is left below TOP
+abbrev pub lend_place : Constants → Steps → Steps
+lend_place c rest =
+    Alu Add 2 5 5
     ▸ Alu Add 2 2 2
     ▸ Const 7 c.lends_at
     ▸ Alu Add 2 2 7
     ▸ Load Word 2 2 0
-    ▸ Const 7 32
+    ▸ Const 7 frame_size
     ▸ Alu Add 7 0 7
-    ▸ must Ule 7 4 6
-    ▸ must Ule 4 3 6
+    ▸ must Ule 7 4 halt_loan
+    ▸ must Ule 4 3 halt_loan
     ▸ Alu Sub 7 3 4
-    ▸ must Ule 2 7 6
-    ▸ Alu Add 7 6 6
+    ▸ must Ule 2 7 halt_loan
+    ▸ rest
+
+-- the loan behind those that live, and LOANS with it
+abbrev pub lend_entry : Constants → Steps → Steps
+lend_entry c rest =
+    Alu Add 7 6 6
     ▸ Alu Add 7 7 6
     ▸ Alu Add 7 7 7
     ▸ Alu Add 7 7 7
@@ -207,7 +244,11 @@ lend c =
     ▸ Const 3 1
     ▸ Alu Add 6 6 3
     ▸ Store Word 6 1 loans
-    ▸ closed_up
+    ▸ rest
+
+-- all of it
+abbrev pub lend : Constants → Steps
+lend c = lend_number c ▸ lend_place c ▸ lend_entry c ▸ closed_up
 
 -- ---- 3, unlend
 
@@ -216,7 +257,7 @@ abbrev pub unlend : Steps
 unlend =
     Load Word 4 1 loans
     ▸ Load Word 5 1 mark
-    ▸ must_not Eq 4 5 6
+    ▸ must_not Eq 4 5 halt_loan
     ▸ Const 5 1
     ▸ Alu Sub 4 4 5
     ▸ Store Word 4 1 loans
@@ -228,18 +269,19 @@ unlend =
 abbrev pub on_number : (number : ℕ) → (list rest : Steps) → Steps
 on_number n list rest = Const 6 n ▸ Test Eq 5 6 list End ▸ rest
 
--- the number of the SVC is the low byte of the halfword before the return address; above 3: halt 1. The lists of fewer steps are
--- asked for first
-abbrev pub svc : Constants → Steps
-svc c =
-    opened c
-    ▸ Load Word 4 0 frame_return
+-- the number of the SVC, the low byte of the halfword before the return address, into r5; the return address into r4
+abbrev pub svc_number : Steps → Steps
+svc_number rest =
+    Load Word 4 0 frame_return
     ▸ Const 5 2
     ▸ Alu Sub 5 4 5
     ▸ Load Byte 5 5 0
-    ▸ on_number 3 unlend
-    ▸ on_number 2 (lend c)
-    ▸ on_number 0 (enter c)
-    ▸ on_number 1 (leave c)
-    ▸ Halt 1
-    ▸ End
+    ▸ rest
+
+-- the list of the number in r5; above 3: halt 1. The lists of fewer steps are asked for first
+abbrev pub by_number : Constants → Steps
+by_number c = on_number 3 unlend ▸ on_number 2 (lend c) ▸ on_number 0 (enter c) ▸ on_number 1 (leave c) ▸ Halt halt_number ▸ End
+
+-- all of it
+abbrev pub svc : Constants → Steps
+svc c = opened c ▸ svc_number ▸ by_number c

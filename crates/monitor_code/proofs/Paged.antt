@@ -1,5 +1,5 @@
 -- The bytes of words and of instructions behind them, when no branch to a label is among them; and what the page is made of.
-use Rattle.std.proofs.Common.{◌≡◌, ℕ, ◌+◌, ◌-◌, ◌/◌, ◌%◌, ◌^◌, ◌<◌, ◌≤◌, true, ◌&&◌, List, [], ◌∷◌, ◌++◌, Option, None, map, length, length-append, take, get_or, replicate, Result, Ok, Err, IfOk, refl, ap, ap₂, sym, ◌∙◌, arith, append_assoc, append-nil}
+use Rattle.std.proofs.Common.{◌≡◌, ℕ, ◌+◌, ◌-◌, ◌/◌, ◌%◌, ◌^◌, ◌<◌, ◌≤◌, true, ◌&&◌, List, [], ◌∷◌, ◌++◌, Option, None, map, length, length-append, take, get_or, replicate, Result, Ok, Err, IfOk, refl, ap, ap₂, sym, ◌∙◌, arith, append_assoc}
 use Rattle.std.proofs.lemmas.List.{take_more, length-replicate}
 use Rattle.thumb_model.specs.declared.table.Instr.{Instr}
 use Rattle.thumb_model.specs.Table.{encode, width_of}
@@ -75,9 +75,6 @@ one_word a m b ws i d lt p e =
       code = e ∙ ap (λ (x : Assembly). record x { items = x.items ++ Word w ∷ [] }) p.code ∙ ap (λ (xs : List Item). record a { items = xs }) (append_assoc a.items (map Word (take i ws)) (Word w ∷ []) ∙ ap (λ xs. a.items ++ xs) (sym (words-append (take i ws) (w ∷ [])) ∙ ap (λ xs. map Word xs) (sym t)));
       next = omega (arith, ap here e, total-append m.items (Word w ∷ []), p.next, ap (λ (xs : List ℕ). length xs) t, length-append (take i ws) (w ∷ []));
     }
-
-pub no_word : (a : Assembly) → HasWords a a []
-no_word a = record { code = simp append-nil; next = omega arith }
 
 -- ---- lists that may be put
 

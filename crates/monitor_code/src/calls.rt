@@ -88,11 +88,3 @@ pub fn memfault(alloc: Global, t: &Tables) -> Result<Vec<GateStep>, AllocError>
     let numbers = numbers(alloc, t)?;
     Ok(fault_steps::memfault::handler(alloc, &numbers)?.into_vec())
 }
-
-/// The offsets in the page at which start-up has the entry of `main`, and its compartment, each by MOVW and MOVT.
-pub fn main_at() -> (u32, u32)
-    ensures entry { result.0 ≡ flash.main_entry_at }
-    ensures compartment { result.1 ≡ flash.main_compartment_at }
-{
-    (72, 64)
-}

@@ -17,8 +17,8 @@ use Rattle.gate_steps.specs.Code.{load_op, store_op, condition_number, by_moves,
 use Rattle.monitor.specs.declared.tables.Tables.{Tables}
 use Rattle.monitor.specs.Constants.{Constants, constants_with}
 use Rattle.monitor.specs.Opening.{times, bits_of, regions, tables_of}
-use Rattle.monitor.specs.Reset.{init_turn}
-use Rattle.monitor_laws.proofs.ResetList.{last_part, before_control, control_and_go}
+use Rattle.monitor.specs.Reset.{init_turn, thread_ready, to_main}
+use Rattle.monitor_laws.proofs.ResetList.{before_control}
 use Rattle.thumb_model.proofs.Codes.{in_table-append as each_append}
 
 -- registers, offsets and numbers of halts fit into their fields
@@ -193,7 +193,7 @@ pub tables_fields : (c : Constants) (k : Steps) → c.slots ≤ 12 → fits_fiel
 tables_fields c k h = times_fields (bits_of 4 (c.slots + 2)) _ ∙ regions_fields c.slots 2 k (omega (arith, h))
 
 pub before_control_in : (stub : ℕ) (t : Tables) → (constants_with stub t).slots ≤ 12 → EachInTable (code (before_control (constants_with stub t)))
-before_control_in stub t h = in_table (before_control c) (tables_fields c (last_part c) h) fit
+before_control_in stub t h = in_table (before_control c) (tables_fields c (thread_ready c End) h) fit
   where
     c : Constants
     c = constants_with stub t
@@ -204,13 +204,13 @@ before_control_in stub t h = in_table (before_control c) (tables_fields c (last_
     offset_back : (n : ℕ) → IsOffset (2 ^ 24) (negsuc n) → IsOffset (2 ^ 24) (negsuc n)
     offset_back n h = h
 
-    last : Fits (last_part c)
+    last : Fits (thread_ready c End)
     last = (omega arith, (omega arith, (omega arith, (omega arith, (omega arith, (omega arith, tt))))))
 
-    stack : Fits (Rattle.monitor.specs.Opening.stack_region c (regions c.slots 2 (last_part c)))
-    stack = (omega arith, (eighth, (omega arith, (omega arith, (omega arith, (omega arith, (omega arith, regions_fit c.slots 2 (last_part c) last)))))))
+    stack : Fits (Rattle.monitor.specs.Opening.stack_region c (regions c.slots 2 (thread_ready c End)))
+    stack = (omega arith, (eighth, (omega arith, (omega arith, (omega arith, (omega arith, (omega arith, regions_fit c.slots 2 (thread_ready c End) last)))))))
 
-    tables : Fits (tables_of c (last_part c))
+    tables : Fits (tables_of c (thread_ready c End))
     tables = (omega arith, times_fit (bits_of 4 (c.slots + 2)) _ (omega arith, (omega arith, (omega arith, stack))))
 
     turn : Fits (init_turn c)
@@ -219,5 +219,5 @@ before_control_in stub t h = in_table (before_control c) (tables_fields c (last_
     fit : Fits (before_control c)
     fit = (omega arith, (omega arith, (omega arith, (omega (arith, h), (record { from = le_z_yes tt; below = lt_z_yes tt; even = refl }, record { from = le_z_yes tt; below = lt_z_yes tt; even = refl }, tt, tt, (omega arith, (omega arith, (record { from = le_z_yes tt; below = lt_z_yes tt; even = refl }, record { from = le_z_yes tt; below = lt_z_yes tt; even = refl }, turn, (omega arith, (omega arith, (omega arith, (omega arith, (omega arith, (omega arith, (omega arith, (omega arith, (omega arith, (omega arith, tables))))))))))))))))))
 
-pub control_and_go_in : EachInTable (code control_and_go)
-control_and_go_in = in_table control_and_go refl tt
+pub to_main_in : EachInTable (code to_main)
+to_main_in = in_table to_main refl tt

@@ -29,9 +29,6 @@ use Rattle.monitor_laws.proofs.Tables.{counts, three_words}
 use Rattle.monitor_laws.proofs.Opened.{Handles, eq_false}
 use Rattle.monitor_laws.proofs.Placement.{writable}
 
-twelve : (x a b c at v : ℕ) → a ≡ 4 * x → b ≡ add a a → c ≡ add b a → v ≡ add c at → x < 2 ^ 16 → at < 2 ^ 31 → v ≡ at + 12 * x
-twelve x a b c at v h1 h2 h3 h4 l1 l2 = omega (arith, h1, h2, h3, h4, l1, l2)
-
 module _ (i : Image) (t : Tables) (p : Placed i t) (has : HasTables i t) (stub : ℕ) (Good : ProtectionState → Type 0) (Allowed : Rule) {entry_top : ℕ} (handles : Handles i t entry_top Allowed) where
   abbrev k : Constants
   k = constants_with stub t

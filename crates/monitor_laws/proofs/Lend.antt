@@ -12,8 +12,7 @@ use Rattle.device_model.specs.declared.image.Image.{Image}
 use Rattle.armv7m.specs.declared.state.ProtectionState.{ProtectionState}
 use Rattle.armv7m.specs.declared.state.FaultStatus.{FaultStatus}
 use Rattle.armv7m.specs.State.{by_mpu}
-use Rattle.gate_steps.specs.declared.steps.GateOp.TheVariants.{Add}
-use Rattle.gate_steps.specs.Steps.{Steps, Const, Store, Alu, ◌▸◌}
+use Rattle.gate_steps.specs.Steps.{Steps}
 use Rattle.gate_steps.specs.Core.{Core}
 use Rattle.gate_steps.specs.Effect.{Outcome, Halted, AtReturn}
 use Rattle.gate_steps.specs.Safe.{Rule}
@@ -23,10 +22,9 @@ use Rattle.monitor.specs.declared.tables.Tables.{Tables}
 use Rattle.monitor.specs.Records.{stack_end, lend_size}
 use Rattle.monitor.specs.Area.{HasTables}
 use Rattle.monitor.specs.Placed.{Placed}
-use Rattle.monitor.specs.Offsets.{loans, loan_from, loan_end, loan_number}
 use Rattle.monitor.specs.Constants.{Constants, constants_with}
 use Rattle.monitor.specs.Opening.{closed_up}
-use Rattle.monitor.specs.Svc.{lend}
+use Rattle.monitor.specs.Svc.{lend_entry, lend}
 use Rattle.monitor_laws.proofs.Off.{core, with_unit, IsOff, open_while_off}
 use Rattle.monitor_laws.proofs.FlashWords.{has_word}
 use Rattle.monitor_laws.proofs.Placement.{writable, has_lends, lends_offset, lends_is, few_lends, lends_at_is, lends_aligned, loans_at_is}
@@ -50,24 +48,6 @@ pub record MayLend (t : Tables) (psp top live address number : ℕ) : Type 0 whe
 abbrev pub with_loan : (block live address end number : ℕ) → List ℕ → List ℕ
 with_loan b n a e x m = write 4 (b + 12) (n + 1) (write 4 (b + (160 + 12 * n + 8)) x (write 4 (b + (160 + 12 * n + 4)) e (write 4 (b + (160 + 12 * n)) a m)))
 
--- the list behind its tests: address, number and LOANS in r4 to r6, the size in r2
-abbrev noted : Constants → Steps
-noted c =
-    Alu Add 7 6 6
-    ▸ Alu Add 7 7 6
-    ▸ Alu Add 7 7 7
-    ▸ Alu Add 7 7 7
-    ▸ Const 3 c.loans_at
-    ▸ Alu Add 7 7 3
-    ▸ Store Word 4 7 loan_from
-    ▸ Alu Add 2 4 2
-    ▸ Store Word 2 7 loan_end
-    ▸ Store Word 5 7 loan_number
-    ▸ Const 3 1
-    ▸ Alu Add 6 6 3
-    ▸ Store Word 6 1 loans
-    ▸ closed_up
-
 four : (n a b : ℕ) → a ≡ add n n → b ≡ add a a → n < 2 ^ 28 → b ≡ 4 * n
 four n a b x y h = omega (arith, x, y, h)
 
@@ -85,12 +65,12 @@ module _ (i : Image) (t : Tables) (p : Placed i t) (has : HasTables i t) (stub :
   block = t.monitor - i.ram_base
 
   module _ (msp psp : ℕ) (u : FaultStatus) where
-    -- the loan is written, and LOANS counts it
-    noted_within : {ks : List Steps} {Q : Outcome → Type 0} (q : ProtectionState) (m : List ℕ) (live address number size a0 a3 a7 : ℕ) → IsOff true q → Good (with_unit q (record q.mpu { control = 5 })) → live < 32 → address + size < 2 ^ 32 →
+    -- the list behind its tests: address, number and LOANS in r4 to r6, the size in r2. The loan is written, and LOANS counts it
+    entry_within : {ks : List Steps} {Q : Outcome → Type 0} (q : ProtectionState) (m : List ℕ) (live address number size a0 a3 a7 : ℕ) → IsOff true q → Good (with_unit q (record q.mpu { control = 5 })) → live < 32 → address + size < 2 ^ 32 →
         ((q1 : ProtectionState) (new : List ℕ) → q1 ≡ with_unit q (record q.mpu { control = 5 }) → new ≡ with_loan block live address (address + size) number m → length new ≡ length m →
         Q (AtReturn (core msp psp q1 u new a0 k.block (address + size) 1 address number MPU_CTRL 5))) →
-        W 43 (noted k) ks (core msp psp q u m a0 k.block size a3 address number live a7) Q
-    noted_within {ks} {Q} q m live address number size a0 a3 a7 off on few fits go =
+        W 43 (lend_entry k closed_up) ks (core msp psp q u m a0 k.block size a3 address number live a7) Q
+    entry_within {ks} {Q} q m live address number size a0 a3 a7 off on few fits go =
         more_within
         (alu_within (λ b1 f1. alu_within (λ b2 f2. alu_within (λ b3 f3. alu_within (λ b4 f4. const_within (alu_within (λ b f.
         let at : b ≡ i.ram_base + (block + (160 + 12 * live)) = loan_at b b4 (twelve live b1 b2 b3 b4 f1 f2 f3 f4 few) f in
@@ -195,7 +175,7 @@ module _ (i : Image) (t : Tables) (p : Placed i t) (has : HasTables i t) (stub :
         alu_within (λ r er.
         must_within (λ c6. refuse _ refl (λ y. not_high r er (leb-true _ _ c5) (le_false _ _ c6) y.high)) (λ c6.
         let high : address + lend_size t number ≤ top = is_high r er (leb-true _ _ c5) (leb-true _ _ c6) in
-        noted_within q m live address number (lend_size t number) psp top r off on room (fits high) (λ q1 new e1 n1 h1.
+        entry_within q m live address number (lend_size t number) psp top r off on room (fits high) (λ q1 new e1 n1 h1.
         go q1 new e1 (record { room = room; number_in = inside; aligned = aligned; low = low; high = high }) n1 h1)))))))))))))))))))))))))) (omega arith)
       where
         stack_high : i.ram_base + o + 32 ≤ i.ram_base + i.ram_size

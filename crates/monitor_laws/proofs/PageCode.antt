@@ -19,19 +19,19 @@ use Rattle.monitor.specs.declared.tables.Tables.{Tables}
 use Rattle.monitor.specs.Constants.{Constants}
 use Rattle.monitor.specs.Svc.{svc}
 use Rattle.monitor.specs.MemFault.{memfault}
-use Rattle.monitor.specs.Reset.{reset}
+use Rattle.monitor.specs.Reset.{to_main, reset}
 use Rattle.monitor.specs.Page.{reset_offset, svc_offset, memfault_offset, vectors, bytes_of_words, used_bytes, leave_stub, constants, page, vector_to}
 use Rattle.monitor_laws.proofs.Appended.{code_followed}
-use Rattle.monitor_laws.proofs.ResetList.{before_control, control_and_go, reset_parts}
-use Rattle.monitor_laws.proofs.Encoded.{control_and_go_in}
+use Rattle.monitor_laws.proofs.ResetList.{before_control, reset_parts}
+use Rattle.monitor_laws.proofs.Encoded.{to_main_in}
 
 -- a part in the middle
 pub middle : (xs ys zs : List ℕ) (k : ℕ) → k < length ys → get_or (xs ++ (ys ++ zs)) (length xs + k) 0 ≡ get_or ys k 0
 middle xs ys zs k h = get_or-append-add xs (ys ++ zs) k 0 ∙ get_or_append_left ys zs 0 k h
 
 -- start-up's code in two parts
-pub reset_code : (c : Constants) → code (reset c) ≡ code (before_control c) ++ code control_and_go
-reset_code c = ap code (sym (reset_parts c)) ∙ code_followed (before_control c) control_and_go
+pub reset_code : (c : Constants) → code (reset c) ≡ code (before_control c) ++ code to_main
+reset_code c = ap code (sym (reset_parts c)) ∙ code_followed (before_control c) to_main
 
 module _ (i : Image) (t : Tables) (rules : ObeysRules i) (rest : List ℕ) (has : i.flash ≡ page t ++ rest) where
   abbrev k : Constants
@@ -66,11 +66,11 @@ module _ (i : Image) (t : Tables) (rules : ObeysRules i) (rest : List ℕ) (has 
           omega (arith, a, b, l)
 
   -- start-up's code stands there
-  pub has_reset : EachInTable (code (before_control k)) → CodeIn i (i.flash_base + 64) (code (before_control k) ++ code control_and_go)
+  pub has_reset : EachInTable (code (before_control k)) → CodeIn i (i.flash_base + 64) (code (before_control k) ++ code to_main)
   has_reset tables = subst (λ l. CodeIn i (i.flash_base + 64) l) (reset_code k) (bytes_are_code i 64 (code (reset k)) rules (subst EachInTable (sym (reset_code k)) (joined (code (before_control k)) tables)) holds_reset)
     where
-      joined : (xs : List Instr) → EachInTable xs → EachInTable (xs ++ code control_and_go)
-      joined [] h = control_and_go_in
+      joined : (xs : List Instr) → EachInTable xs → EachInTable (xs ++ code to_main)
+      joined [] h = to_main_in
       joined (x ∷ xs) h = (h.0, joined xs h.1)
 
   -- the vectors of the stack and of reset
@@ -97,5 +97,5 @@ parts_length c =
     let a = code_has_its_length (before_control c) in
     let b = code_has_its_length (reset c) in
     let d = ap code_size (reset_code c) in
-    let e = code_size-append (code (before_control c)) (code control_and_go) in
+    let e = code_size-append (code (before_control c)) (code to_main) in
     omega (arith, a, b, d, e)

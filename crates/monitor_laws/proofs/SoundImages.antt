@@ -151,7 +151,7 @@ module _ (code : MonitorCode) (i : Image) (rules : ObeysRules i) (nf : NoneFails
       aligned = let p = product (number_of_slots t) (length t.comps) in let a = rules.flash_aligned in omega (arith, p, a)
 
 -- the tables of a sound image are those that are read
-read_tables : (code : MonitorCode) (i : Image) (t : Tables) → Sound code i t → t ≡ read_from code i
+pub read_tables : (code : MonitorCode) (i : Image) (t : Tables) → Sound code i t → t ≡ read_from code i
 unfolding tables_of
 read_tables code i t s = s.tables
 

@@ -3,14 +3,13 @@ use Rattle.std.proofs.Common.{◌≡◌, ◌≢◌, ℕ, ◌+◌, ◌-◌, ◌*�
 use Rattle.std.proofs.lemmas.Bool.Decides.{nat_tests}
 use Rattle.words.specs.Arithmetic.{subtract}
 use Rattle.words.specs.Bytes.{read, write}
-use Rattle.words.specs.declared.memory.Width.TheVariants.{Byte, Word}
+use Rattle.words.specs.declared.memory.Width.TheVariants.{Byte}
 use Rattle.mpu_model.specs.declared.TheConstants.{MPU_CTRL}
 use Rattle.device_model.specs.declared.image.Image.{Image}
 use Rattle.armv7m.specs.declared.state.ProtectionState.{ProtectionState}
 use Rattle.armv7m.specs.declared.state.FaultStatus.{FaultStatus}
 use Rattle.armv7m.specs.State.{by_mpu, is_unprivileged}
-use Rattle.gate_steps.specs.declared.steps.GateOp.TheVariants.{Sub}
-use Rattle.gate_steps.specs.Steps.{Steps, End, Const, Load, Alu, Halt}
+use Rattle.gate_steps.specs.Steps.{Steps}
 use Rattle.gate_steps.specs.Core.{Core}
 use Rattle.gate_steps.specs.Effect.{Outcome, Halted, AtReturn}
 use Rattle.gate_steps.specs.Safe.{Rule}
@@ -20,9 +19,8 @@ use Rattle.monitor.specs.Records.{stack_end}
 use Rattle.monitor.specs.Area.{HasTables}
 use Rattle.monitor.specs.Placed.{Placed}
 use Rattle.monitor.specs.Constants.{Constants, constants_with}
-use Rattle.monitor.specs.Offsets.{frame_return}
 use Rattle.monitor.specs.Opening.{opened}
-use Rattle.monitor.specs.Svc.{enter, leave, lend, unlend, on_number, svc}
+use Rattle.monitor.specs.Svc.{svc_number, by_number as lists_by_number, svc}
 use Rattle.monitor_laws.proofs.Off.{core, with_unit, IsOff, open_while_off}
 use Rattle.monitor_laws.proofs.Placement.{writable}
 use Rattle.monitor_laws.proofs.Opened.{Handles, FrameIsOpen, opened_within}
@@ -52,11 +50,11 @@ module _ (i : Image) (t : Tables) (p : Placed i t) (has : HasTables i t) (stub :
 
   -- by the number
   abbrev pub by_number : Steps
-  by_number = on_number 3 unlend (on_number 2 (lend k) (on_number 0 (enter k) (on_number 1 (leave k) (Halt 1 End))))
+  by_number = lists_by_number k
 
   -- up to the number
   abbrev pub numbered : Steps → Steps
-  numbered rest = opened k (Load Word 4 0 frame_return (Const 5 2 (Alu Sub 5 4 5 (Load Byte 5 5 0 rest))))
+  numbered rest = opened k (svc_number rest)
 
   module _ (msp psp : ℕ) (u : FaultStatus) where
     -- the number into r5, the return address in r4: 54 steps

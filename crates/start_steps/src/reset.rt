@@ -10,7 +10,12 @@ use armv7m::{CCR, SHCSR};
 use gate_steps::{GateCond, GateOp};
 use mpu_model::{MPU_RBAR, MPU_TYPE};
 use std::alloc::{AllocError, Global};
+use step_lists::halts::HALT_UNIT;
 use step_lists::opening::{set_control, tables_of};
+use step_lists::places::{
+    CUR, DEPTH, INIT_AT, INIT_END, INIT_FROM, LOANS, MARK, REGION_RASR, REGION_RBAR, TOP,
+};
+use step_lists::values::{FAULTS_ON, INIT_SIZE, TRAPS_ON, UNIT_ON, UNPRIVILEGED};
 use step_lists::{Numbers, StepList};
 
 /// One word from flash, at r3, to RAM, at r2.
@@ -32,14 +37,14 @@ fn init_turn(alloc: Global, c: &Numbers) -> Result<StepList, AllocError>
 {
     let turn = word_turn(alloc)?;
     let mut list = StepList::new(alloc);
-    list.load_word(2, 0, 0)?;
-    list.load_word(4, 0, 1)?;
-    list.load_word(3, 0, 2)?;
+    list.load_word(2, 0, INIT_AT)?;
+    list.load_word(4, 0, INIT_END)?;
+    list.load_word(3, 0, INIT_FROM)?;
     list.alu(GateOp::Sub, 4, 4, 2)?;
     list.constant(6, 2)?;
     list.alu(GateOp::Shr, 4, 4, 6)?;
     list.repeat(4, c.words, turn)?;
-    list.constant(6, 12)?;
+    list.constant(6, INIT_SIZE)?;
     list.alu(GateOp::Add, 0, 0, 6)?;
     Ok(list)
 }
@@ -60,7 +65,7 @@ fn unit_is_there(list: &mut StepList, c: &Numbers) -> Result<(), AllocError>
     list.constant(0, MPU_TYPE)?;
     list.load_word(6, 0, 0)?;
     list.constant(1, 256 * (c.slots as u32 + 4))?;
-    list.must(GateCond::Eq, 6, 1, 10)?;
+    list.must(GateCond::Eq, 6, 1, HALT_UNIT)?;
     Ok(())
 }
 
@@ -80,13 +85,13 @@ fn first_block(list: &mut StepList, c: &Numbers) -> Result<(), AllocError>
     ensures { OnOk result (Appends list.old list.new (start.first_block (constants_of c.now))) }
 {
     list.constant(1, c.block)?;
-    list.store_word(5, 1, 0)?;
+    list.store_word(5, 1, CUR)?;
     list.constant(3, c.stack_end)?;
-    list.store_word(3, 1, 1)?;
+    list.store_word(3, 1, TOP)?;
     list.constant(6, 0)?;
-    list.store_word(6, 1, 2)?;
-    list.store_word(6, 1, 3)?;
-    list.store_word(6, 1, 4)?;
+    list.store_word(6, 1, DEPTH)?;
+    list.store_word(6, 1, LOANS)?;
+    list.store_word(6, 1, MARK)?;
     Ok(())
 }
 
@@ -95,7 +100,7 @@ fn traps(list: &mut StepList) -> Result<(), AllocError>
     ensures { OnOk result (Appends list.old list.new start.traps) }
 {
     list.constant(0, CCR)?;
-    list.constant(6, 0x208)?;
+    list.constant(6, TRAPS_ON)?;
     list.store_word(6, 0, 0)?;
     Ok(())
 }
@@ -107,27 +112,34 @@ fn first_regions(list: &mut StepList, c: &Numbers) -> Result<(), AllocError>
     list.copy(4, 7)?;
     list.constant(0, MPU_RBAR)?;
     list.constant(6, c.background.rbar)?;
-    list.store_word(6, 0, 0)?;
+    list.store_word(6, 0, REGION_RBAR)?;
     list.constant(6, c.background.rasr)?;
-    list.store_word(6, 0, 1)?;
+    list.store_word(6, 0, REGION_RASR)?;
     list.constant(6, c.tables.rbar)?;
-    list.store_word(6, 0, 0)?;
+    list.store_word(6, 0, REGION_RBAR)?;
     list.constant(6, c.tables.rasr)?;
-    list.store_word(6, 0, 1)?;
+    list.store_word(6, 0, REGION_RASR)?;
     Ok(())
 }
 
-/// SHCSR, the protection unit, PSP, CONTROL, and to `main`.
-fn go_on(list: &mut StepList, c: &Numbers) -> Result<(), AllocError>
-    ensures { OnOk result (Ends list.old list.new (start.go_on (constants_of c.now))) }
+/// SHCSR, the protection unit, PSP; CONTROL of a thread into r6, and the leave stub into r5.
+fn thread_ready(list: &mut StepList, c: &Numbers) -> Result<(), AllocError>
+    ensures { OnOk result (Appends list.old list.new (start.thread_ready (constants_of c.now))) }
 {
     list.constant(0, SHCSR)?;
-    list.constant(6, 0x10000)?;
+    list.constant(6, FAULTS_ON)?;
     list.store_word(6, 0, 0)?;
-    set_control(list, 6, 7, 5)?;
+    set_control(list, 6, 7, UNIT_ON)?;
     list.write_psp(3)?;
-    list.constant(6, 3)?;
+    list.constant(6, UNPRIVILEGED)?;
     list.constant(5, c.stub_entry)?;
+    Ok(())
+}
+
+/// CONTROL, and to `main`.
+fn to_main(list: &mut StepList) -> Result<(), AllocError>
+    ensures { OnOk result (Ends list.old list.new start.to_main) }
+{
     list.write_control(6)?;
     list.go(4, 5)?;
     Ok(())
@@ -146,6 +158,7 @@ pub fn start_up(alloc: Global, c: &Numbers) -> Result<StepList, AllocError>
     traps(&mut list)?;
     first_regions(&mut list, c)?;
     tables_of(&mut list, c)?;
-    go_on(&mut list, c)?;
+    thread_ready(&mut list, c)?;
+    to_main(&mut list)?;
     Ok(list)
 }

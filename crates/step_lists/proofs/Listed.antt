@@ -8,7 +8,7 @@ use Rattle.gate_steps.specs.declared.steps.GateStep.TheBlock.{Load, Store}
 use Rattle.gate_steps.specs.Steps as list
 use Rattle.gate_steps.specs.Steps.{Steps}
 use Rattle.gate_steps.specs.Lists.{before, all_before}
-use Rattle.monitor.specs.Opening.{regions}
+use Rattle.monitor.specs.Opening.{region, regions}
 use Rattle.gate_steps.proofs.Views.{all_before-append, before-Load, before-Store}
 
 pub one_more : (old new : List GateStep) (s : GateStep) (f : Steps → Steps) → new ≡ old ++ s ∷ [] → ((rest : Steps) → before s rest ≡ f rest) → (rest : Steps) → all_before new rest ≡ all_before old (f rest)
@@ -37,6 +37,6 @@ pub store_words : (from base words : ℕ) (rest : Steps) → before (Store from 
 store_words from base words rest = before-Store from base (4 * words) Word rest ∙ ap (λ n. list.Store Word from base n rest) (of_words words)
 
 -- regions are put one after the other
-pub one_region_more : (new old : List GateStep) (n from : ℕ) → ((rest : Steps) → all_before new rest ≡ all_before old (regions 1 from rest))
+pub one_region_more : (new old : List GateStep) (n from : ℕ) → ((rest : Steps) → all_before new rest ≡ all_before old (region from rest))
     → (rest : Steps) → all_before new (regions n (from + 2) rest) ≡ all_before old (regions (suc n) from rest)
 one_region_more new old n from e rest = e (regions n (from + 2) rest)

@@ -1,5 +1,8 @@
 //! What the lists take of the tables.
 
+ghost use Rattle.std.specs.Prelude.{◌≡◌, ◌≤◌};
+ghost use Rattle.monitor.specs.Offsets.{record_mask, record_reads};
+
 use mpu_model::region::Region;
 
 /// Counts, addresses and words of regions that the lists take of the tables.
@@ -51,4 +54,22 @@ pub struct Numbers {
     pub stub_entry: u32,
     /// Whether loads are refused too.
     pub closed: bool,
+}
+
+impl Numbers {
+    /// The place of a compartment's mask in its record, in words.
+    pub fn record_mask(&self) -> u8
+        requires { self.now.slots ≤ 12 }
+        ensures { result ≡ record_mask self.now.slots }
+    {
+        2 * self.slots + 2
+    }
+
+    /// The place of a compartment's read mask in its record, in words.
+    pub fn record_reads(&self) -> u8
+        requires { self.now.slots ≤ 12 }
+        ensures { result ≡ record_reads self.now.slots }
+    {
+        2 * self.slots + 3
+    }
 }

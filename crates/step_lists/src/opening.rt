@@ -4,10 +4,12 @@ ghost use Rattle.std.specs.Prelude.{◌≡◌, ◌+◌, ◌*◌, ◌≤◌, ◌<
 ghost use Rattle.gate_steps.specs.Steps as steps;
 ghost use Rattle.monitor.specs.Opening as opening;
 ghost use Rattle.step_lists.specs.Made.{Appends, Ends, constants_of};
-ghost use Rattle.step_lists.specs.Parts as parts;
 
+use crate::halts::HALT_STACK;
 use crate::list::StepList;
 use crate::numbers::Numbers;
+use crate::places::{FRAME_XPSR, RECORD_CODE, RECORD_SLOTS, REGION_RASR, REGION_RBAR, TOP};
+use crate::values::{ALL_EIGHTHS, FRAME_SIZE, PADDED, SRD_SHIFT, UNIT_OFF, UNIT_ON};
 use gate_steps::{GateCond, GateOp};
 use mpu_model::{MPU_CTRL, MPU_RBAR};
 use std::alloc::AllocError;
@@ -29,29 +31,29 @@ pub fn set_control(
 
 /// PSP lies in the stack, and the frame below TOP; else the machine halts with 4.
 fn stack_tests(list: &mut StepList, c: &Numbers) -> Result<(), AllocError>
-    ensures { OnOk result (Appends list.old list.new (parts.stack_tests (constants_of c.now))) }
+    ensures { OnOk result (Appends list.old list.new (opening.stack_tests (constants_of c.now))) }
 {
     list.read_psp(0)?;
     list.constant(1, c.block)?;
     list.constant(2, c.stack)?;
-    list.must(GateCond::Ule, 2, 0, 4)?;
-    list.load_word(3, 1, 1)?;
-    list.must(GateCond::Ule, 0, 3, 4)?;
+    list.must(GateCond::Ule, 2, 0, HALT_STACK)?;
+    list.load_word(3, 1, TOP)?;
+    list.must(GateCond::Ule, 0, 3, HALT_STACK)?;
     list.alu(GateOp::Sub, 4, 3, 0)?;
-    list.constant(5, 32)?;
-    list.must(GateCond::Ule, 5, 4, 4)?;
+    list.constant(5, FRAME_SIZE)?;
+    list.must(GateCond::Ule, 5, 4, HALT_STACK)?;
     Ok(())
 }
 
 /// The frame's xPSR has bit 9 clear; else the machine halts with 4.
 fn status_test(list: &mut StepList) -> Result<(), AllocError>
-    ensures { OnOk result (Appends list.old list.new parts.status_test) }
+    ensures { OnOk result (Appends list.old list.new opening.status_test) }
 {
-    list.load_word(4, 0, 7)?;
-    list.constant(5, 1 << 9)?;
+    list.load_word(4, 0, FRAME_XPSR)?;
+    list.constant(5, PADDED)?;
     list.alu(GateOp::And, 4, 4, 5)?;
     list.constant(5, 0)?;
-    list.must(GateCond::Eq, 4, 5, 4)?;
+    list.must(GateCond::Eq, 4, 5, HALT_STACK)?;
     Ok(())
 }
 
@@ -59,7 +61,7 @@ fn status_test(list: &mut StepList) -> Result<(), AllocError>
 pub fn opened(list: &mut StepList, c: &Numbers) -> Result<(), AllocError>
     ensures { OnOk result (Appends list.old list.new (opening.opened (constants_of c.now))) }
 {
-    set_control(list, 6, 7, 0)?;
+    set_control(list, 6, 7, UNIT_OFF)?;
     stack_tests(list, c)?;
     status_test(list)?;
     Ok(())
@@ -69,7 +71,7 @@ pub fn opened(list: &mut StepList, c: &Numbers) -> Result<(), AllocError>
 pub fn closed_up(list: &mut StepList) -> Result<(), AllocError>
     ensures { OnOk result (Ends list.old list.new opening.closed_up) }
 {
-    set_control(list, 6, 7, 5)?;
+    set_control(list, 6, 7, UNIT_ON)?;
     list.exception_return()?;
     Ok(())
 }
@@ -113,12 +115,12 @@ pub fn record_of(list: &mut StepList, c: &Numbers) -> Result<(), AllocError>
 /// One region, whose words stand from a word of the record at r6 on, by r7.
 fn region(list: &mut StepList, from: u8) -> Result<(), AllocError>
     requires { from < 31 }
-    ensures { OnOk result (Appends list.old list.new (opening.regions 1 from)) }
+    ensures { OnOk result (Appends list.old list.new (opening.region from)) }
 {
     list.load_word(7, 6, from)?;
-    list.store_word(7, 0, 0)?;
-    list.load_word(7, 6, from + 1)?;
-    list.store_word(7, 0, 1)?;
+    list.store_word(7, 0, REGION_RBAR)?;
+    list.load_word(7, 6, from + REGION_RASR)?;
+    list.store_word(7, 0, REGION_RASR)?;
     Ok(())
 }
 
@@ -135,15 +137,15 @@ fn regions(list: &mut StepList, count: u8, from: u8) -> Result<(), AllocError>
 
 /// SRD of region 3 for TOP in r3 into r2, by r7.
 fn closed_eighths(list: &mut StepList, c: &Numbers) -> Result<(), AllocError>
-    ensures { OnOk result (Appends list.old list.new (parts.closed_eighths (constants_of c.now))) }
+    ensures { OnOk result (Appends list.old list.new (opening.closed_eighths (constants_of c.now))) }
 {
     list.constant(2, c.stack)?;
     list.alu(GateOp::Sub, 7, 3, 2)?;
     list.constant(2, c.eighth)?;
     list.alu(GateOp::Shr, 7, 7, 2)?;
-    list.constant(2, 0xFF)?;
+    list.constant(2, ALL_EIGHTHS)?;
     list.alu(GateOp::Shl, 2, 2, 7)?;
-    list.constant(7, 0xFF)?;
+    list.constant(7, ALL_EIGHTHS)?;
     list.alu(GateOp::And, 2, 2, 7)?;
     Ok(())
 }
@@ -153,13 +155,13 @@ fn stack_region(list: &mut StepList, c: &Numbers) -> Result<(), AllocError>
     ensures { OnOk result (Appends list.old list.new (opening.stack_region (constants_of c.now))) }
 {
     closed_eighths(list, c)?;
-    list.constant(7, 8)?;
+    list.constant(7, SRD_SHIFT)?;
     list.alu(GateOp::Shl, 2, 2, 7)?;
     list.constant(7, c.stack_region.rasr)?;
     list.alu(GateOp::Add, 2, 2, 7)?;
     list.constant(7, c.stack_region.rbar)?;
-    list.store_word(7, 0, 0)?;
-    list.store_word(2, 0, 1)?;
+    list.store_word(7, 0, REGION_RBAR)?;
+    list.store_word(2, 0, REGION_RASR)?;
     Ok(())
 }
 
@@ -170,8 +172,8 @@ pub fn tables_of(list: &mut StepList, c: &Numbers) -> Result<(), AllocError>
 {
     record_of(list, c)?;
     list.constant(0, MPU_RBAR)?;
-    region(list, 0)?;
+    region(list, RECORD_CODE)?;
     stack_region(list, c)?;
-    regions(list, c.slots, 2)?;
+    regions(list, c.slots, RECORD_SLOTS)?;
     Ok(())
 }

@@ -76,9 +76,9 @@ calm_handles : (i : Image) (t : Tables) (s v w : State) → v.protection.handler
 calm_handles i t s v w h e = record {
   handler = h;
   quiet = ap (λ (u : Turn). u.event) e;
-  stores = subst (λ l. Rattle.armv7m.specs.Confinement.Each (Rattle.monitor.specs.Reach.AllBytes (Rattle.monitor.specs.Reach.StoreKind i t v)) l) (sym (ap (λ (u : Turn). u.stores) e)) tt;
-  loads = λ closed. subst (λ l. Rattle.armv7m.specs.Confinement.Each (Rattle.monitor.specs.Reach.AllBytes (Rattle.monitor.specs.Reach.LoadKind i t v)) l) (sym (ap (λ (u : Turn). u.loads) e)) tt;
-  loads_for = λ closed. subst (λ l. Rattle.armv7m.specs.Confinement.Each (Rattle.monitor.specs.Reach.AllBytes (Rattle.monitor.specs.Handlers.LoadFor i t s)) l) (sym (ap (λ (u : Turn). u.loads) e)) tt;
+  stores = subst (λ l. Rattle.common_laws.specs.Lists.Each (Rattle.monitor.specs.Reach.AllBytes (Rattle.monitor.specs.Reach.StoreKind i t v)) l) (sym (ap (λ (u : Turn). u.stores) e)) tt;
+  loads = λ closed. subst (λ l. Rattle.common_laws.specs.Lists.Each (Rattle.monitor.specs.Reach.AllBytes (Rattle.monitor.specs.Reach.LoadKind i t v)) l) (sym (ap (λ (u : Turn). u.loads) e)) tt;
+  loads_for = λ closed. subst (λ l. Rattle.common_laws.specs.Lists.Each (Rattle.monitor.specs.Reach.AllBytes (Rattle.monitor.specs.Handlers.LoadFor i t s)) l) (sym (ap (λ (u : Turn). u.loads) e)) tt;
 }
 
 module _ (nothing : NothingStops) (equal : holds 0 (compare_flags 0 0) ≡ true) (i : Image) (t : Tables) (stub : ℕ) (s : State) (m : Block) (psp o : ℕ) (memory : List ℕ) (c : Calling i t s m psp o memory) (ret : ℕ) (return_is : read 4 (o + 24) memory ≡ ret) (called : Called i ret 0) (even : ret % 2 ≡ 0) (low_ret : ret < 0x20000000) (none : place i ret ≡ Nowhere) where

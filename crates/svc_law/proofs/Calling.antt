@@ -24,7 +24,6 @@ use Rattle.monitor.specs.Invariant.{IsTop, InvariantHolds}
 use Rattle.monitor.specs.Handlers.{LoadFor, ForStack}
 use Rattle.monitor.specs.Outcomes.{Outcome, Halts, Resumes, stacked, is_open, status_place}
 use Rattle.monitor.specs.SvcOutcome.{word, new_loan, may_lend, lend, unlend_to, by_number, svc_outcome}
-use Rattle.monitor.specs.Constants.{Constants, constants_with}
 use Rattle.monitor_laws.proofs.Off.{core, with_unit, IsOff}
 use Rattle.monitor_laws.proofs.Fetched.{UnitLaws, page_is_fetched}
 use Rattle.monitor_laws.proofs.Opened.{FrameIsOpen}
@@ -51,14 +50,9 @@ pub record Calling (i : Image) (t : Tables) (s : State) (m : Block) (psp o : ℕ
   pub as_long : length memory ≡ i.ram_size
 
 module _ (i : Image) (t : Tables) (stub : ℕ) (s : State) (m : Block) (psp o : ℕ) (memory : List ℕ) (c : Calling i t s m psp o memory) where
-  abbrev k : Constants
-  k = constants_with stub t
 
   abbrev b : ℕ
   b = t.monitor - i.ram_base
-
-  p : Placed i t
-  p = c.placed
 
   -- in the handler, and with the unit off
   abbrev pub in_handler : ProtectionState

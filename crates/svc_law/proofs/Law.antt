@@ -118,9 +118,6 @@ module _ (laws : CallLaws) (i : Image) (t : Tables) (fit : IsFit i t) (s : State
   abbrev stub : ℕ
   stub = stub_address t
 
-  abbrev ret : ℕ
-  ret = s.core.pc + 2
-
   abbrev psp : ℕ
   psp = frame_at s.core.sp
 

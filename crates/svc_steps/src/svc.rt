@@ -4,21 +4,29 @@ ghost use Rattle.std.specs.Prelude.{◌≡◌, ◌≤◌, OnOk, IfOk};
 ghost use Rattle.gate_steps.specs.Lists.{steps_of};
 ghost use Rattle.monitor.specs.Svc as handler;
 ghost use Rattle.step_lists.specs.Made.{Appends, Ends, constants_of};
-ghost use Rattle.svc_steps.specs.Parts as parts;
 
 use gate_steps::{GateCond, GateOp};
 use std::alloc::{AllocError, Global};
+use step_lists::halts::{HALT_END, HALT_LIMIT, HALT_LOAN, HALT_NUMBER, HALT_SITE, HALT_TARGET};
 use step_lists::opening::{closed_up, opened, tables_of};
+use step_lists::places::{
+    CUR, DEPTH, FRAME_LR, FRAME_R0, FRAME_R1, FRAME_R2, FRAME_R3, FRAME_R12, FRAME_RETURN,
+    FRAME_XPSR, LOAN_END, LOAN_FROM, LOAN_NUMBER, LOANS, MARK, SAVED_CUR, SAVED_MARK, SAVED_PSP,
+    SAVED_TOP, SITE_COUNT, SITE_FIRST, SITE_RETURN, TARGET_COMPARTMENT, TARGET_ENTRY, TOP,
+};
+use step_lists::values::{
+    FRAME_SIZE, MOST_LOANS, MOST_TARGETS, NO_COMPARTMENT, TARGET_SIZE, THREAD_XPSR,
+};
 use step_lists::{Numbers, StepList};
 use words::memory::Width;
 
 /// The number at the return address is that of a site; the record of it into r6, by r7. Else the machine halts with 2.
 fn site_record(list: &mut StepList, c: &Numbers) -> Result<(), AllocError>
-    ensures { OnOk result (Appends list.old list.new (parts.site_record (constants_of c.now))) }
+    ensures { OnOk result (Appends list.old list.new (handler.site_record (constants_of c.now))) }
 {
     list.load(Width::Half, 5, 4)?;
     list.constant(6, c.sites)?;
-    list.must(GateCond::Ult, 5, 6, 2)?;
+    list.must(GateCond::Ult, 5, 6, HALT_SITE)?;
     list.constant(6, 2)?;
     list.copy(7, 5)?;
     list.alu(GateOp::Shl, 7, 7, 6)?;
@@ -34,10 +42,10 @@ fn site(list: &mut StepList, c: &Numbers) -> Result<(), AllocError>
     ensures { OnOk result (Appends list.old list.new (handler.site (constants_of c.now))) }
 {
     site_record(list, c)?;
-    list.load_word(7, 6, 0)?;
-    list.must(GateCond::Eq, 7, 4, 2)?;
-    list.load_word(5, 6, 1)?;
-    list.load_word(6, 6, 2)?;
+    list.load_word(7, 6, SITE_RETURN)?;
+    list.must(GateCond::Eq, 7, 4, HALT_SITE)?;
+    list.load_word(5, 6, SITE_FIRST)?;
+    list.load_word(6, 6, SITE_COUNT)?;
     Ok(())
 }
 
@@ -46,11 +54,11 @@ fn target_turn(alloc: Global) -> Result<StepList, AllocError>
     ensures { IfOk result (λ list. steps_of list.steps.items ≡ handler.target_turn) }
 {
     let mut found = StepList::new(alloc);
-    found.load_word(5, 7, 1)?;
+    found.load_word(5, 7, TARGET_COMPARTMENT)?;
     let mut list = StepList::new(alloc);
-    list.load_word(3, 7, 0)?;
+    list.load_word(3, 7, TARGET_ENTRY)?;
     list.test(GateCond::Eq, 3, 4, found, StepList::new(alloc))?;
-    list.constant(3, 8)?;
+    list.constant(3, TARGET_SIZE)?;
     list.alu(GateOp::Add, 7, 7, 3)?;
     Ok(list)
 }
@@ -58,14 +66,14 @@ fn target_turn(alloc: Global) -> Result<StepList, AllocError>
 /// Before the loop over a site's targets: the entry that is asked for into r4, the first target's record into r7, and no
 /// compartment into r5.
 fn target_asked(list: &mut StepList, c: &Numbers) -> Result<(), AllocError>
-    ensures { OnOk result (Appends list.old list.new (parts.target_asked (constants_of c.now))) }
+    ensures { OnOk result (Appends list.old list.new (handler.target_asked (constants_of c.now))) }
 {
-    list.load_word(4, 0, 4)?;
+    list.load_word(4, 0, FRAME_R12)?;
     list.constant(7, 3)?;
     list.alu(GateOp::Shl, 5, 5, 7)?;
     list.constant(7, c.targets_at)?;
     list.alu(GateOp::Add, 7, 7, 5)?;
-    list.constant(5, 0xFFFF_FFFF)?;
+    list.constant(5, NO_COMPARTMENT)?;
     Ok(())
 }
 
@@ -75,9 +83,9 @@ fn target(list: &mut StepList, c: &Numbers) -> Result<(), AllocError>
 {
     let turn = target_turn(list.allocator())?;
     target_asked(list, c)?;
-    list.repeat(6, 64, turn)?;
-    list.constant(3, 0xFFFF_FFFF)?;
-    list.must_not(GateCond::Eq, 5, 3, 3)?;
+    list.repeat(6, MOST_TARGETS, turn)?;
+    list.constant(3, NO_COMPARTMENT)?;
+    list.must_not(GateCond::Eq, 5, 3, HALT_TARGET)?;
     Ok(())
 }
 
@@ -90,7 +98,7 @@ fn rounded(list: &mut StepList, c: &Numbers) -> Result<(), AllocError>
     list.alu(GateOp::Shr, 3, 3, 6)?;
     list.alu(GateOp::Shl, 3, 3, 6)?;
     list.constant(6, 0)?;
-    list.must_not(GateCond::Eq, 3, 6, 5)?;
+    list.must_not(GateCond::Eq, 3, 6, HALT_LIMIT)?;
     list.alu(GateOp::Add, 3, 3, 2)?;
     Ok(())
 }
@@ -99,10 +107,10 @@ fn rounded(list: &mut StepList, c: &Numbers) -> Result<(), AllocError>
 fn raise(list: &mut StepList) -> Result<(), AllocError>
     ensures { OnOk result (Appends list.old list.new handler.raise) }
 {
-    list.load_word(4, 0, 6)?;
+    list.load_word(4, 0, FRAME_RETURN)?;
     list.constant(6, 2)?;
     list.alu(GateOp::Add, 4, 4, 6)?;
-    list.store_word(4, 0, 6)?;
+    list.store_word(4, 0, FRAME_RETURN)?;
     Ok(())
 }
 
@@ -110,35 +118,35 @@ fn raise(list: &mut StepList) -> Result<(), AllocError>
 fn save(list: &mut StepList) -> Result<(), AllocError>
     ensures { OnOk result (Appends list.old list.new handler.save) }
 {
-    list.load_word(4, 1, 2)?;
+    list.load_word(4, 1, DEPTH)?;
     list.constant(6, 4)?;
     list.copy(7, 4)?;
     list.alu(GateOp::Shl, 7, 7, 6)?;
     list.alu(GateOp::Add, 6, 7, 1)?;
-    list.store_word(0, 6, 8)?;
-    list.load_word(7, 1, 0)?;
-    list.store_word(7, 6, 9)?;
-    list.load_word(7, 1, 1)?;
-    list.store_word(7, 6, 10)?;
-    list.load_word(7, 1, 4)?;
-    list.store_word(7, 6, 11)?;
+    list.store_word(0, 6, SAVED_PSP)?;
+    list.load_word(7, 1, CUR)?;
+    list.store_word(7, 6, SAVED_CUR)?;
+    list.load_word(7, 1, TOP)?;
+    list.store_word(7, 6, SAVED_TOP)?;
+    list.load_word(7, 1, MARK)?;
+    list.store_word(7, 6, SAVED_MARK)?;
     Ok(())
 }
 
 /// The address of the callee's frame into r6, and the arguments there.
 fn frame_arguments(list: &mut StepList) -> Result<(), AllocError>
-    ensures { OnOk result (Appends list.old list.new parts.frame_arguments) }
+    ensures { OnOk result (Appends list.old list.new handler.frame_arguments) }
 {
-    list.constant(6, 32)?;
+    list.constant(6, FRAME_SIZE)?;
     list.alu(GateOp::Sub, 6, 3, 6)?;
-    list.load_word(7, 0, 0)?;
-    list.store_word(7, 6, 0)?;
-    list.load_word(7, 0, 1)?;
-    list.store_word(7, 6, 1)?;
-    list.load_word(7, 0, 2)?;
-    list.store_word(7, 6, 2)?;
-    list.load_word(7, 0, 3)?;
-    list.store_word(7, 6, 3)?;
+    list.load_word(7, 0, FRAME_R0)?;
+    list.store_word(7, 6, FRAME_R0)?;
+    list.load_word(7, 0, FRAME_R1)?;
+    list.store_word(7, 6, FRAME_R1)?;
+    list.load_word(7, 0, FRAME_R2)?;
+    list.store_word(7, 6, FRAME_R2)?;
+    list.load_word(7, 0, FRAME_R3)?;
+    list.store_word(7, 6, FRAME_R3)?;
     Ok(())
 }
 
@@ -148,15 +156,15 @@ fn frame(list: &mut StepList, c: &Numbers) -> Result<(), AllocError>
 {
     frame_arguments(list)?;
     list.constant(7, 0)?;
-    list.store_word(7, 6, 4)?;
+    list.store_word(7, 6, FRAME_R12)?;
     list.constant(7, c.stub_entry)?;
-    list.store_word(7, 6, 5)?;
-    list.load_word(7, 0, 4)?;
+    list.store_word(7, 6, FRAME_LR)?;
+    list.load_word(7, 0, FRAME_R12)?;
     list.constant(2, 1)?;
     list.alu(GateOp::Sub, 7, 7, 2)?;
-    list.store_word(7, 6, 6)?;
-    list.constant(7, 0x0100_0000)?;
-    list.store_word(7, 6, 7)?;
+    list.store_word(7, 6, FRAME_RETURN)?;
+    list.constant(7, THREAD_XPSR)?;
+    list.store_word(7, 6, FRAME_XPSR)?;
     Ok(())
 }
 
@@ -166,11 +174,11 @@ fn entered(list: &mut StepList) -> Result<(), AllocError>
 {
     list.constant(7, 1)?;
     list.alu(GateOp::Add, 4, 4, 7)?;
-    list.store_word(4, 1, 2)?;
-    list.store_word(5, 1, 0)?;
-    list.store_word(3, 1, 1)?;
-    list.load_word(7, 1, 3)?;
-    list.store_word(7, 1, 4)?;
+    list.store_word(4, 1, DEPTH)?;
+    list.store_word(5, 1, CUR)?;
+    list.store_word(3, 1, TOP)?;
+    list.load_word(7, 1, LOANS)?;
+    list.store_word(7, 1, MARK)?;
     list.write_psp(6)?;
     Ok(())
 }
@@ -196,16 +204,16 @@ fn enter(alloc: Global, c: &Numbers) -> Result<StepList, AllocError>
 /// The end of the callee: its loans end, and the saved entry is the last one no more. The entry's address into r6, by r4. With
 /// no saved entry the machine halts with 0.
 fn left(list: &mut StepList) -> Result<(), AllocError>
-    ensures { OnOk result (Appends list.old list.new parts.left) }
+    ensures { OnOk result (Appends list.old list.new handler.left) }
 {
-    list.load_word(4, 1, 2)?;
+    list.load_word(4, 1, DEPTH)?;
     list.constant(6, 0)?;
-    list.must_not(GateCond::Eq, 4, 6, 0)?;
+    list.must_not(GateCond::Eq, 4, 6, HALT_END)?;
     list.constant(6, 1)?;
     list.alu(GateOp::Sub, 4, 4, 6)?;
-    list.store_word(4, 1, 2)?;
-    list.load_word(7, 1, 4)?;
-    list.store_word(7, 1, 3)?;
+    list.store_word(4, 1, DEPTH)?;
+    list.load_word(7, 1, MARK)?;
+    list.store_word(7, 1, LOANS)?;
     list.constant(6, 4)?;
     list.alu(GateOp::Shl, 4, 4, 6)?;
     list.alu(GateOp::Add, 6, 4, 1)?;
@@ -214,17 +222,17 @@ fn left(list: &mut StepList) -> Result<(), AllocError>
 
 /// CUR, TOP and MARK of the caller, the result into its frame, and its stack.
 fn restored(list: &mut StepList) -> Result<(), AllocError>
-    ensures { OnOk result (Appends list.old list.new parts.restored) }
+    ensures { OnOk result (Appends list.old list.new handler.restored) }
 {
-    list.load_word(5, 6, 9)?;
-    list.store_word(5, 1, 0)?;
-    list.load_word(3, 6, 10)?;
-    list.store_word(3, 1, 1)?;
-    list.load_word(7, 6, 11)?;
-    list.store_word(7, 1, 4)?;
-    list.load_word(4, 6, 8)?;
-    list.load_word(7, 0, 0)?;
-    list.store_word(7, 4, 0)?;
+    list.load_word(5, 6, SAVED_CUR)?;
+    list.store_word(5, 1, CUR)?;
+    list.load_word(3, 6, SAVED_TOP)?;
+    list.store_word(3, 1, TOP)?;
+    list.load_word(7, 6, SAVED_MARK)?;
+    list.store_word(7, 1, MARK)?;
+    list.load_word(4, 6, SAVED_PSP)?;
+    list.load_word(7, 0, FRAME_R0)?;
+    list.store_word(7, 4, FRAME_R0)?;
     list.write_psp(4)?;
     Ok(())
 }
@@ -244,43 +252,43 @@ fn leave(alloc: Global, c: &Numbers) -> Result<StepList, AllocError>
 
 /// There is room for a loan, and the number is that of a lendable local; else the machine halts with 6.
 fn lend_number(list: &mut StepList, c: &Numbers) -> Result<(), AllocError>
-    ensures { OnOk result (Appends list.old list.new (parts.lend_number (constants_of c.now))) }
+    ensures { OnOk result (Appends list.old list.new (handler.lend_number (constants_of c.now))) }
 {
-    list.load_word(4, 0, 0)?;
-    list.load_word(5, 0, 1)?;
-    list.load_word(6, 1, 3)?;
-    list.constant(7, 32)?;
-    list.must_not(GateCond::Eq, 6, 7, 6)?;
+    list.load_word(4, 0, FRAME_R0)?;
+    list.load_word(5, 0, FRAME_R1)?;
+    list.load_word(6, 1, LOANS)?;
+    list.constant(7, MOST_LOANS)?;
+    list.must_not(GateCond::Eq, 6, 7, HALT_LOAN)?;
     list.constant(7, c.lends)?;
-    list.must(GateCond::Ult, 5, 7, 6)?;
+    list.must(GateCond::Ult, 5, 7, HALT_LOAN)?;
     list.constant(7, 3)?;
     list.alu(GateOp::And, 7, 7, 4)?;
     list.constant(2, 0)?;
-    list.must(GateCond::Eq, 7, 2, 6)?;
+    list.must(GateCond::Eq, 7, 2, HALT_LOAN)?;
     Ok(())
 }
 
 /// The size of the local into r2; it lies between the frame's end and TOP, else the machine halts with 6.
 fn lend_place(list: &mut StepList, c: &Numbers) -> Result<(), AllocError>
-    ensures { OnOk result (Appends list.old list.new (parts.lend_place (constants_of c.now))) }
+    ensures { OnOk result (Appends list.old list.new (handler.lend_place (constants_of c.now))) }
 {
     list.alu(GateOp::Add, 2, 5, 5)?;
     list.alu(GateOp::Add, 2, 2, 2)?;
     list.constant(7, c.lends_at)?;
     list.alu(GateOp::Add, 2, 2, 7)?;
     list.load_word(2, 2, 0)?;
-    list.constant(7, 32)?;
+    list.constant(7, FRAME_SIZE)?;
     list.alu(GateOp::Add, 7, 0, 7)?;
-    list.must(GateCond::Ule, 7, 4, 6)?;
-    list.must(GateCond::Ule, 4, 3, 6)?;
+    list.must(GateCond::Ule, 7, 4, HALT_LOAN)?;
+    list.must(GateCond::Ule, 4, 3, HALT_LOAN)?;
     list.alu(GateOp::Sub, 7, 3, 4)?;
-    list.must(GateCond::Ule, 2, 7, 6)?;
+    list.must(GateCond::Ule, 2, 7, HALT_LOAN)?;
     Ok(())
 }
 
 /// The loan is the last one.
 fn lend_entry(list: &mut StepList, c: &Numbers) -> Result<(), AllocError>
-    ensures { OnOk result (Appends list.old list.new (parts.lend_entry (constants_of c.now))) }
+    ensures { OnOk result (Appends list.old list.new (handler.lend_entry (constants_of c.now))) }
 {
     list.alu(GateOp::Add, 7, 6, 6)?;
     list.alu(GateOp::Add, 7, 7, 6)?;
@@ -288,13 +296,13 @@ fn lend_entry(list: &mut StepList, c: &Numbers) -> Result<(), AllocError>
     list.alu(GateOp::Add, 7, 7, 7)?;
     list.constant(3, c.loans_at)?;
     list.alu(GateOp::Add, 7, 7, 3)?;
-    list.store_word(4, 7, 0)?;
+    list.store_word(4, 7, LOAN_FROM)?;
     list.alu(GateOp::Add, 2, 4, 2)?;
-    list.store_word(2, 7, 1)?;
-    list.store_word(5, 7, 2)?;
+    list.store_word(2, 7, LOAN_END)?;
+    list.store_word(5, 7, LOAN_NUMBER)?;
     list.constant(3, 1)?;
     list.alu(GateOp::Add, 6, 6, 3)?;
-    list.store_word(6, 1, 3)?;
+    list.store_word(6, 1, LOANS)?;
     Ok(())
 }
 
@@ -315,21 +323,21 @@ fn unlend(alloc: Global) -> Result<StepList, AllocError>
     ensures { IfOk result (λ list. steps_of list.steps.items ≡ handler.unlend) }
 {
     let mut list = StepList::new(alloc);
-    list.load_word(4, 1, 3)?;
-    list.load_word(5, 1, 4)?;
-    list.must_not(GateCond::Eq, 4, 5, 6)?;
+    list.load_word(4, 1, LOANS)?;
+    list.load_word(5, 1, MARK)?;
+    list.must_not(GateCond::Eq, 4, 5, HALT_LOAN)?;
     list.constant(5, 1)?;
     list.alu(GateOp::Sub, 4, 4, 5)?;
-    list.store_word(4, 1, 3)?;
+    list.store_word(4, 1, LOANS)?;
     closed_up(&mut list)?;
     Ok(list)
 }
 
 /// The number of the SVC into r5, the return address into r4.
-fn number(list: &mut StepList) -> Result<(), AllocError>
-    ensures { OnOk result (Appends list.old list.new parts.number) }
+fn svc_number(list: &mut StepList) -> Result<(), AllocError>
+    ensures { OnOk result (Appends list.old list.new handler.svc_number) }
 {
-    list.load_word(4, 0, 6)?;
+    list.load_word(4, 0, FRAME_RETURN)?;
     list.constant(5, 2)?;
     list.alu(GateOp::Sub, 5, 4, 5)?;
     list.load(Width::Byte, 5, 5)?;
@@ -346,6 +354,20 @@ fn on_number(list: &mut StepList, number: u32, chosen: StepList) -> Result<(), A
     Ok(())
 }
 
+/// The list of the number in r5. Above 3 the machine halts with 1.
+fn by_number(list: &mut StepList, c: &Numbers) -> Result<(), AllocError>
+    requires { c.now.slots ≤ 12 }
+    ensures { OnOk result (Ends list.old list.new (handler.by_number (constants_of c.now))) }
+{
+    let alloc = list.allocator();
+    on_number(list, 3, unlend(alloc)?)?;
+    on_number(list, 2, lend(alloc, c)?)?;
+    on_number(list, 0, enter(alloc, c)?)?;
+    on_number(list, 1, leave(alloc, c)?)?;
+    list.halt(HALT_NUMBER)?;
+    Ok(())
+}
+
 /// The handler.
 pub fn handler(alloc: Global, c: &Numbers) -> Result<StepList, AllocError>
     requires { c.now.slots ≤ 12 }
@@ -353,11 +375,7 @@ pub fn handler(alloc: Global, c: &Numbers) -> Result<StepList, AllocError>
 {
     let mut list = StepList::new(alloc);
     opened(&mut list, c)?;
-    number(&mut list)?;
-    on_number(&mut list, 3, unlend(alloc)?)?;
-    on_number(&mut list, 2, lend(alloc, c)?)?;
-    on_number(&mut list, 0, enter(alloc, c)?)?;
-    on_number(&mut list, 1, leave(alloc, c)?)?;
-    list.halt(1)?;
+    svc_number(&mut list)?;
+    by_number(&mut list, c)?;
     Ok(list)
 }

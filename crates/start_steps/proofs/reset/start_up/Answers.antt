@@ -4,7 +4,8 @@ use Rattle.start_steps.proofs.reset.start_up.Goals as goal
 
 pub returns : goal.returns
 returns c =
-    c.in_ok-go_on.ensures
+    c.in_ok-to_main.ensures
+    ∙ c.in_ok-thread_ready.ensures _
     ∙ c.in_ok-tables_of.ensures _
     ∙ c.in_ok-first_regions.ensures _
     ∙ c.in_ok-traps.ensures _

@@ -1,33 +1,10 @@
-use Rattle.std.proofs.Common.{◌∙◌, ap}
-use Rattle.gate_steps.specs.Steps.{Steps, End, Halt}
-use Rattle.gate_steps.specs.Lists.{all_before}
-use Rattle.monitor.specs.Constants.{Constants}
-use Rattle.monitor.specs.Svc.{enter, leave, lend, on_number}
-use Rattle.step_lists.specs.Made.{constants_of}
+use Rattle.std.proofs.Common.{◌∙◌}
 use Rattle.step_lists.proofs.Begun.{begins}
 use Rattle.svc_steps.proofs.svc.handler.Goals as goal
 
--- what stands behind each list
-abbrev behind_enter : Constants → Steps
-behind_enter n = on_number 1 (leave n) (Halt 1 End)
-
-abbrev behind_lend : Constants → Steps
-behind_lend n = on_number 0 (enter n) (behind_enter n)
-
-abbrev behind_unlend : Constants → Steps
-behind_unlend n = on_number 2 (lend n) (behind_lend n)
-
 pub returns : goal.returns
 returns c =
-    c.in_ok-halt.ensures End
-    ∙ c.in_ok-on_number-4.ensures _
-    ∙ ap (λ s. all_before c.on_number-3.new.list.steps.items (on_number 1 s (Halt 1 End))) c.in_ok-leave.ensures
-    ∙ c.in_ok-on_number-3.ensures _
-    ∙ ap (λ s. all_before c.on_number-2.new.list.steps.items (on_number 0 s (behind_enter (constants_of c.args.c.now)))) c.in_ok-enter.ensures
-    ∙ c.in_ok-on_number-2.ensures _
-    ∙ ap (λ s. all_before c.on_number.new.list.steps.items (on_number 2 s (behind_lend (constants_of c.args.c.now)))) c.in_ok-lend.ensures
-    ∙ c.in_ok-on_number.ensures _
-    ∙ ap (λ s. all_before c.number.new.list.steps.items (on_number 3 s (behind_unlend (constants_of c.args.c.now)))) c.in_ok-unlend.ensures
-    ∙ c.in_ok-number.ensures _
+    c.in_ok-by_number.ensures
+    ∙ c.in_ok-svc_number.ensures _
     ∙ c.in_ok-opened.ensures _
     ∙ begins c.new-list.result _ c.new-list.ensures

@@ -1,12 +1,9 @@
 use Rattle.std.proofs.Common.{◌∙◌}
-use Rattle.gate_steps.specs.Steps.{End}
-use Rattle.start_steps.proofs.reset.go_on.Goals as goal
+use Rattle.start_steps.proofs.reset.thread_ready.Goals as goal
 
 pub returns : goal.returns
-returns c =
-    c.in_ok-go.ensures End
-    ∙ c.in_ok-write_control.ensures _
-    ∙ c.in_ok-constant-4.ensures _
+returns c = λ rest.
+    c.in_ok-constant-4.ensures rest
     ∙ c.in_ok-constant-3.ensures _
     ∙ c.in_ok-write_psp.ensures _
     ∙ c.in_ok-set_control.ensures _

@@ -1,5 +1,5 @@
 use Rattle.std.proofs.Common.{◌∙◌}
-use Rattle.svc_steps.proofs.svc.number.Goals as goal
+use Rattle.svc_steps.proofs.svc.svc_number.Goals as goal
 
 pub returns : goal.returns
 returns c = λ rest.
