@@ -26,7 +26,7 @@ use Rattle.where_commands.proofs.Answering.{where_also}
 use Rattle.explain_commands.specs.Plans.{ExplainPlanAnswer}
 use Rattle.explain_commands.proofs.Answering.{explain_also}
 use Rattle.aces_cli.specs.Answer.{CompileAnswer, Answer, no_request, to_request}
-use Rattle.aces_cli.specs.Endings.{IsPlain, IsAnswered, IsPartly, AsksForSource, TellsUnread, TellsUnwritten, TellsUnprinted, TellsOutOfMemory}
+use Rattle.aces_cli.specs.Endings.{IsPlain, IsAnswered, IsPartly, TellsUnread}
 
 -- answers from what is known are answers from what follows of it
 module _ (Has Had : Origin → List ℕ → Type 0) (Exceeds Exceeded : Origin → Type 0)
@@ -215,88 +215,3 @@ module _ (A : Outcome → Type 0) (words : List (List ℕ)) (r : Request) (asks 
   unread calls (Err (Unwritten name)) q d n l = let f : ⊥ = omega (arith, q) in absurd f
   unread calls (Err Unprinted) q d n l = let f : ⊥ = omega (arith, q) in absurd f
   unread calls (Err NoMemory) q d n l = let f : ⊥ = omega (arith, q) in absurd f
-
-  pub unwritten : (e : Result Done Failure) → status_of e ≡ 5 → Does A r old new e → Says err_old err_new (line_of e)
-      → TellsUnwritten words old new err_old err_new ⊎ TellsUnprinted old new err_old err_new
-  unwritten (Ok Completed) q d l = let f : ⊥ = omega (arith, q) in absurd f
-  unwritten (Ok RunFailed) q d l = let f : ⊥ = omega (arith, q) in absurd f
-  unwritten (Ok Negative) q d l = let f : ⊥ = omega (arith, q) in absurd f
-  unwritten (Ok FaultTold) q d l = let f : ⊥ = omega (arith, q) in absurd f
-  unwritten (Ok NoRoomTold) q d l = let f : ⊥ = omega (arith, q) in absurd f
-  unwritten (Err (Refused name f)) q d l = let f : ⊥ = omega (arith, q) in absurd f
-  unwritten (Err (PastLimit which count)) q d l = let f : ⊥ = omega (arith, q) in absurd f
-  unwritten (Err (Denied said)) q d l = let f : ⊥ = omega (arith, q) in absurd f
-  unwritten (Err (NoRoom memory c needed available)) q d l = let f : ⊥ = omega (arith, q) in absurd f
-  unwritten (Err (Unread name)) q d l = let f : ⊥ = omega (arith, q) in absurd f
-  unwritten (Err (Unwritten name)) q d l = inl (record { request = r; asks = asks; name = name.now; unwritten = d.0; says = l })
-  unwritten (Err Unprinted) q d l = inr (record { unprinted = d.0; says = l })
-  unwritten (Err NoMemory) q d l = let f : ⊥ = omega (arith, q) in absurd f
-
-  quiet_unless : (s : Request) → Asks words s → IsPrintedInPart A r old new s → (new.out ≡ old.out) ⊎ AsksForSource words
-  quiet_unless (Run image tape steps) a h = inl h
-  quiet_unless (Bin image file) a h = inl h
-  quiet_unless (Compile firmware board policy image) a h = inl h
-  quiet_unless (Check firmware) a h = inl h
-  quiet_unless (Source firmware policy tape steps) a h = inr (record { firmware = firmware; policy = policy; tape = tape; steps = steps; asks = a })
-  quiet_unless (Where firmware policy tape steps) a h = inl h
-  quiet_unless (Listing firmware board policy) a h = inl h
-  quiet_unless (Stack firmware board policy) a h = inl h
-  quiet_unless (Audit image) a h = inl h
-  quiet_unless (Tables image) a h = inl h
-  quiet_unless (Who firmware board policy) a h = inl h
-  quiet_unless (Symbols firmware board policy) a h = inl h
-  quiet_unless Help a h = inl h
-  quiet_unless (Selftest seed size) a h = inl h
-  quiet_unless (Watch image tape steps address) a h = inl h
-  quiet_unless (State image tape steps) a h = inl h
-  quiet_unless (Why firmware) a h = inl h
-  quiet_unless (Explain firmware) a h = inl h
-  quiet_unless (ExplainPlan firmware board policy) a h = inl h
-
-  pub out_of_memory : (e : Result Done Failure) → status_of e ≡ 6 → Does A r old new e → Says err_old err_new (line_of e) → TellsOutOfMemory words old new err_old err_new
-  out_of_memory (Ok Completed) q d l = let f : ⊥ = omega (arith, q) in absurd f
-  out_of_memory (Ok RunFailed) q d l = let f : ⊥ = omega (arith, q) in absurd f
-  out_of_memory (Ok Negative) q d l = let f : ⊥ = omega (arith, q) in absurd f
-  out_of_memory (Ok FaultTold) q d l = let f : ⊥ = omega (arith, q) in absurd f
-  out_of_memory (Ok NoRoomTold) q d l = let f : ⊥ = omega (arith, q) in absurd f
-  out_of_memory (Err (Refused name f)) q d l = let f : ⊥ = omega (arith, q) in absurd f
-  out_of_memory (Err (PastLimit which count)) q d l = let f : ⊥ = omega (arith, q) in absurd f
-  out_of_memory (Err (Denied said)) q d l = let f : ⊥ = omega (arith, q) in absurd f
-  out_of_memory (Err (NoRoom memory c needed available)) q d l = let f : ⊥ = omega (arith, q) in absurd f
-  out_of_memory (Err (Unread name)) q d l = let f : ⊥ = omega (arith, q) in absurd f
-  out_of_memory (Err (Unwritten name)) q d l = let f : ⊥ = omega (arith, q) in absurd f
-  out_of_memory (Err Unprinted) q d l = let f : ⊥ = omega (arith, q) in absurd f
-  out_of_memory (Err NoMemory) q d l = record { out_of_memory = d.0; quiet = quiet_unless r asks d.1; says = l }
-
-  pub reads_stay : (e : Result Done Failure) → Does A r old new e → (status_of e ≡ 4) ⊎ (new.read_faults ≡ old.read_faults)
-  reads_stay (Ok Completed) d = inr d.all.read_faults
-  reads_stay (Ok RunFailed) d = inr d.all.read_faults
-  reads_stay (Ok Negative) d = inr d.all.read_faults
-  reads_stay (Ok FaultTold) d = inr d.all.read_faults
-  reads_stay (Ok NoRoomTold) d = inr d.all.read_faults
-  reads_stay (Err (Refused name f)) d = inr d.read_faults
-  reads_stay (Err (PastLimit which count)) d = inr d.read_faults
-  reads_stay (Err (Denied said)) d = inr d.read_faults
-  reads_stay (Err (NoRoom memory c needed available)) d = inr d.read_faults
-  reads_stay (Err (Unread name)) d = inl refl
-  reads_stay (Err (Unwritten name)) d = inr d.0.read_faults
-  reads_stay (Err Unprinted) d = inr d.0.read_faults
-  reads_stay (Err NoMemory) d = inr d.0.read_faults
-
-  writes_of : Quiet old new → (new.write_faults ≡ old.write_faults) × (new.out.faults ≡ old.out.faults)
-  writes_of q = (q.write_faults, ap (λ (s : SinkState). s.faults) q.out)
-
-  pub writes_stay : (e : Result Done Failure) → Does A r old new e → (status_of e ≡ 5) ⊎ ((new.write_faults ≡ old.write_faults) × (new.out.faults ≡ old.out.faults))
-  writes_stay (Ok Completed) d = inr (d.all.write_faults, d.all.faults)
-  writes_stay (Ok RunFailed) d = inr (d.all.write_faults, d.all.faults)
-  writes_stay (Ok Negative) d = inr (d.all.write_faults, d.all.faults)
-  writes_stay (Ok FaultTold) d = inr (d.all.write_faults, d.all.faults)
-  writes_stay (Ok NoRoomTold) d = inr (d.all.write_faults, d.all.faults)
-  writes_stay (Err (Refused name f)) d = inr (writes_of d.quiet)
-  writes_stay (Err (PastLimit which count)) d = inr (writes_of d.quiet)
-  writes_stay (Err (Denied said)) d = inr (writes_of d.quiet)
-  writes_stay (Err (NoRoom memory c needed available)) d = inr (writes_of d.quiet)
-  writes_stay (Err (Unread name)) d = inr (writes_of d.quiet)
-  writes_stay (Err (Unwritten name)) d = inl refl
-  writes_stay (Err Unprinted) d = inl refl
-  writes_stay (Err NoMemory) d = inr (d.0.write_faults, d.0.faults)

@@ -1,5 +1,5 @@
 -- A good request has no outcome but the one that says that all was done.
-use Rattle.std.proofs.Common.{◌≡◌, ℕ, ◌⊎◌, inl, inr, Bool, true, false, cond, nat_le, length, ◌<◌, ◌≤◌, IsSomeAnd, List, Option, Some, None, refl, sym, ◌∙◌, ap, subst, arith}
+use Rattle.std.proofs.Common.{◌≡◌, ℕ, ◌⊎◌, inl, inr, Bool, true, false, cond, nat_le, length, ◌<◌, ◌≤◌, IsSomeAnd, List, Option, Some, None, refl, sym, ◌∙◌, subst, arith}
 use Rattle.ir_model.specs.Plain.{PlainFirmware}
 use Rattle.plan_model.specs.declared.plan.Board.{Board}
 use Rattle.board_text.specs.declared.fault.BoardFault.{BoardFault}
@@ -7,6 +7,8 @@ use Rattle.board_text.specs.declared.fault.BoardFault.TheVariants as board_fault
 use Rattle.board_text.specs.Reading.{IsRead, IsFault}
 use Rattle.board_text.specs.Laws.{BoardsAreNotRefused}
 use Rattle.aces_reports.specs.declared.failure.Fault.{Fault}
+use Rattle.aces_reports.specs.declared.failure.Fault.TheVariants as faults
+use Rattle.aces_reports.specs.Faults.{is_want_of_memory}
 use Rattle.planning.specs.declared.refusal.PlanningRefusal.{PlanningRefusal}
 use Rattle.planning.specs.declared.refusal.PlanningRefusal.TheVariants as planning
 use Rattle.firmware_plans.specs.Plannable.{IsPlannable}
@@ -18,7 +20,7 @@ use Rattle.stack_paths.specs.declared.answer.StackAnswer.TheVariants.{Cycle, Bou
 use Rattle.plan_model.specs.declared.policy.Policy.{Policy}
 use Rattle.aces_words.specs.Requests.{Request, Origin}
 use Rattle.commands.specs.Outcomes.{Outcome}
-use Rattle.commands.specs.Contents.{of_board}
+use Rattle.commands.specs.Contents.{IsContentFault}
 use Rattle.firmware_commands.specs.Firmwares.{IsFirmware}
 use Rattle.commands.specs.Known.{Held, Holds, Exceeds}
 use Rattle.planned_commands.specs.PlanAnswer as plans
@@ -43,10 +45,10 @@ use Rattle.aces_cli.proofs.SourceRunnable.{is_firmware, firmwares_are_one, good_
 
 -- boards of texts
 module _ (read : BoardsAreNotRefused) where
-  board_has_no_fault : (t : List ℕ) (b : Board) (f : Fault) → IsRead t b → (first : BoardFault) → IsFault t first → of_board first ≡ Some f → ⊥
+  board_has_no_fault : (t : List ℕ) (b : Board) (f : Fault) → IsRead t b → (first : BoardFault) → IsFault t first → IsContentFault (faults.Board first) f → ⊥
   board_has_no_fault t b f h first k q =
       let same : first ≡ board_fault.NoMemory = read t b first h k in
-      let wrong : None ≡ Some f = ap of_board (sym same) ∙ q in
+      let wrong : true ≡ false = subst (λ z. is_want_of_memory (faults.Board z) ≡ false) same q.1 in
       cc
 
 -- a bound fits, or not

@@ -1,5 +1,5 @@
 -- A good request to check a firmware or to run its source has no outcome but the one that says that all was done.
-use Rattle.std.proofs.Common.{◌≡◌, ℕ, ◌⊎◌, inl, inr, List, Option, Some, None, refl, sym, ◌∙◌, subst}
+use Rattle.std.proofs.Common.{◌≡◌, ℕ, ◌⊎◌, inl, inr, List, Option, Some, None, true, false, refl, sym, ◌∙◌, subst}
 use Rattle.device_model.specs.Tape as tapes
 use Rattle.ir_model.specs.declared.token.Excess.TheVariants as excess
 use Rattle.ir_model.specs.Plain.{PlainFirmware}
@@ -12,11 +12,13 @@ use Rattle.ir_reader.specs.First.{IsFirst}
 use Rattle.ir_reader.specs.declared.fault.TextFault.{TextFault}
 use Rattle.ir_reader.specs.declared.fault.TextFault.TheVariants as text
 use Rattle.aces_reports.specs.declared.failure.Fault.{Fault}
+use Rattle.aces_reports.specs.declared.failure.Fault.TheVariants.{Text}
 use Rattle.source_output.specs.SourceRuns as source_runs
 use Rattle.plan_model.specs.declared.policy.Policy.{Policy}
 use Rattle.aces_words.specs.Requests.{Origin, file_origin, firmware_origin}
+use Rattle.commands.specs.Contents.{IsContentFault}
 use Rattle.commands.specs.Outcomes.{Outcome}
-use Rattle.firmware_commands.specs.Firmwares.{of_text, IsFirmware, IsNoFirmware, no_text, ill_typed}
+use Rattle.firmware_commands.specs.Firmwares.{IsFirmware, IsNoFirmware, no_text, ill_typed}
 use Rattle.firmware_commands.specs.Answers.{CheckAnswer, SourceAnswer, no_firmware, no_tape, checked, ran, AnswerToCheck, AnswerToSource, firmware_large, tape_large, all_read}
 use Rattle.where_commands.proofs.Findable.{IsFaultless}
 use Rattle.aces_cli.specs.Complete.{IsSourceRunnable}
@@ -24,8 +26,8 @@ use Rattle.aces_cli.proofs.Runnable.{Laws, is_tape}
 
 -- a text of a typed firmware has no fault, and its firmware is one
 module _ (unique : readers.TextsAreUnique) (faultless : readers.TextsAreFaultless) where
-  text_has_no_fault : (w : PlainFirmware) (bytes : List ℕ) (f : Fault) → firmwares.IsText w bytes → (first : TextFault) → IsFirst bytes first → of_text first ≡ Some f → ⊥
-  text_has_no_fault w bytes f h text.NoMemory k q = (let wrong : None ≡ Some f = q in cc)
+  text_has_no_fault : (w : PlainFirmware) (bytes : List ℕ) (f : Fault) → firmwares.IsText w bytes → (first : TextFault) → IsFirst bytes first → IsContentFault (Text first) f → ⊥
+  text_has_no_fault w bytes f h text.NoMemory k q = (let wrong : true ≡ false = q.1 in cc)
   text_has_no_fault w bytes f h (text.Utf8 at) k q = k.none h.utf8
   text_has_no_fault w bytes f h (text.Syntax pos) k q = faultless w bytes h (inl (pos, k))
   text_has_no_fault w bytes f h (text.NumberTooWide pos) k q = faultless w bytes h (inr (excess.TooWide, pos, k))

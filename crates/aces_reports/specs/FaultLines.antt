@@ -8,8 +8,18 @@ use Rattle.ir_model.specs.declared.check.CheckKind.{CheckKind}
 use Rattle.ir_model.specs.declared.check.CheckKind.TheVariants as kind
 use Rattle.ir_model.specs.declared.check.Place.{Place}
 use Rattle.ir_model.specs.declared.check.Place.TheVariants as place
+use Rattle.image.specs.declared.fault.ImageFault.{ImageFault}
+use Rattle.image.specs.declared.fault.ImageFault.TheVariants as image
+use Rattle.device_model.specs.declared.tape.TapeFault.{TapeFault}
+use Rattle.device_model.specs.declared.tape.TapeFault.TheVariants as tape
+use Rattle.ir_reader.specs.declared.fault.TextFault.{TextFault}
+use Rattle.ir_reader.specs.declared.fault.TextFault.TheVariants as text
+use Rattle.check_faults.specs.declared.fault.CheckFault.{CheckFault}
+use Rattle.check_faults.specs.declared.fault.CheckFault.TheVariants as check
+use Rattle.board_text.specs.declared.fault.BoardFault.{BoardFault}
+use Rattle.board_text.specs.declared.fault.BoardFault.TheVariants as board
 use Rattle.aces_reports.specs.declared.failure.Fault.{Fault}
-use Rattle.aces_reports.specs.declared.failure.Fault.TheVariants.{TooLarge, Short, Magic, Version, Field, Trailing, BadLine, UnknownPeripheral, NotUtf8, Syntax, NumberTooWide, Limit, IllTyped, NotToml, MissingKey, KeyKind, KeyRange, DeniedKind, DeniedRange, ExtraKey}
+use Rattle.aces_reports.specs.declared.failure.Fault.TheVariants.{TooLarge, Image, Tape, Text, Check, Board}
 use Rattle.aces_reports.specs.declared.failure.Memory.{Memory}
 use Rattle.aces_reports.specs.declared.failure.Memory.TheVariants as memory
 use Rattle.board_text.specs.Keys.{path_of}
@@ -76,27 +86,53 @@ place_text (place.Func name) = codes "function " ++ name
 place_text (place.Inst func block inst) = func ++ codes " block " ++ block ++ codes " instruction " ++ decimal inst
 place_text place.Whole = codes "firmware"
 
+-- memory ran out, of whatever was read or made
+abbrev pub memory_line : List ℕ
+memory_line = codes "aces: out of memory" ++ line_feed
+
+-- the lines on what is wrong with a file, by what it is to hold
+
+abbrev pub image_line : (name : List ℕ) → ImageFault → List ℕ
+image_line name image.NoMemory = memory_line
+image_line name (image.Short at) = counted name (codes ": short at ") at line_feed
+image_line name image.Magic = about name (codes ": bad magic" ++ line_feed)
+image_line name (image.Version found) = counted name (codes ": version ") found line_feed
+image_line name (image.Field at) = counted name (codes ": bad field at ") at line_feed
+image_line name (image.Trailing at) = counted name (codes ": trailing at ") at line_feed
+
+abbrev pub tape_line : (name : List ℕ) → TapeFault → List ℕ
+tape_line name tape.NoMemory = memory_line
+tape_line name (tape.BadLine line) = counted name (codes ":") line (codes ": bad line" ++ line_feed)
+tape_line name (tape.UnknownPeripheral line) = counted name (codes ":") line (codes ": unknown peripheral" ++ line_feed)
+
+abbrev pub text_line : (name : List ℕ) → TextFault → List ℕ
+text_line name text.NoMemory = memory_line
+text_line name (text.Utf8 at) = counted name (codes ": byte ") at (codes ": not UTF-8" ++ line_feed)
+text_line name (text.Syntax pos) = placed name pos (codes ": syntax" ++ line_feed)
+text_line name (text.NumberTooWide pos) = placed name pos (codes ": number too wide" ++ line_feed)
+text_line name (text.Limit which pos) = placed name pos (codes ": limit " ++ limit_word which ++ line_feed)
+
+abbrev pub check_line : (name : List ℕ) → CheckFault → List ℕ
+check_line name check.NoMemory = memory_line
+check_line name (check.At kind place) = about name (codes ": " ++ kind_text kind ++ codes " in " ++ place_text place ++ line_feed)
+
+abbrev pub board_line : (name : List ℕ) → BoardFault → List ℕ
+board_line name board.NoMemory = memory_line
+board_line name board.NotToml = about name (codes ": not TOML" ++ line_feed)
+board_line name (board.Missing key) = keyed name (codes ": missing ") (path_of key)
+board_line name (board.Kind key) = keyed name (codes ": kind ") (path_of key)
+board_line name (board.Range key) = keyed name (codes ": range ") (path_of key)
+board_line name (board.DeniedKind path) = keyed name (codes ": kind ") path
+board_line name (board.DeniedRange path) = keyed name (codes ": range ") path
+board_line name (board.Extra path) = keyed name (codes ": extra ") path
+
 abbrev pub fault_line : (name : List ℕ) → Fault → List ℕ
 fault_line name (TooLarge limit) = counted name (codes ": larger than ") limit (codes " bytes" ++ line_feed)
-fault_line name (Short at) = counted name (codes ": short at ") at line_feed
-fault_line name Magic = about name (codes ": bad magic" ++ line_feed)
-fault_line name (Version found) = counted name (codes ": version ") found line_feed
-fault_line name (Field at) = counted name (codes ": bad field at ") at line_feed
-fault_line name (Trailing at) = counted name (codes ": trailing at ") at line_feed
-fault_line name (BadLine line) = counted name (codes ":") line (codes ": bad line" ++ line_feed)
-fault_line name (UnknownPeripheral line) = counted name (codes ":") line (codes ": unknown peripheral" ++ line_feed)
-fault_line name (NotUtf8 at) = counted name (codes ": byte ") at (codes ": not UTF-8" ++ line_feed)
-fault_line name (Syntax pos) = placed name pos (codes ": syntax" ++ line_feed)
-fault_line name (NumberTooWide pos) = placed name pos (codes ": number too wide" ++ line_feed)
-fault_line name (Limit which pos) = placed name pos (codes ": limit " ++ limit_word which ++ line_feed)
-fault_line name (IllTyped kind place) = about name (codes ": " ++ kind_text kind ++ codes " in " ++ place_text place ++ line_feed)
-fault_line name NotToml = about name (codes ": not TOML" ++ line_feed)
-fault_line name (MissingKey key) = keyed name (codes ": missing ") (path_of key)
-fault_line name (KeyKind key) = keyed name (codes ": kind ") (path_of key)
-fault_line name (KeyRange key) = keyed name (codes ": range ") (path_of key)
-fault_line name (DeniedKind path) = keyed name (codes ": kind ") path
-fault_line name (DeniedRange path) = keyed name (codes ": range ") path
-fault_line name (ExtraKey path) = keyed name (codes ": extra ") path
+fault_line name (Image f) = image_line name f
+fault_line name (Tape f) = tape_line name f
+fault_line name (Text f) = text_line name f
+fault_line name (Check f) = check_line name f
+fault_line name (Board f) = board_line name f
 
 -- what a firmware has too much of to be compiled
 abbrev pub compiled_word : LimitKind → List ℕ
@@ -146,6 +182,3 @@ unwritten_line name = codes "aces: cannot write " ++ name ++ line_feed
 
 abbrev pub unprinted_line : List ℕ
 unprinted_line = codes "aces: cannot write output" ++ line_feed
-
-abbrev pub memory_line : List ℕ
-memory_line = codes "aces: out of memory" ++ line_feed

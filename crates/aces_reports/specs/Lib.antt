@@ -1,3 +1,4 @@
 pub mod FaultLines
+pub mod Faults
 pub mod Ends
 pub mod WordsRefusals

@@ -2,10 +2,13 @@
 
 ghost use Rattle.std.specs.Prelude.{◌≡◌};
 ghost use Rattle.aces_reports.specs.declared.failure.Failure.TheVariants.{NoMemory};
+ghost use Rattle.aces_reports.specs.Faults as faults;
 
-use board_text::key::Key;
-use ir_model::check::{CheckKind, Place};
-use ir_model::token::{Pos, TextLimit};
+use board_text::fault::BoardFault;
+use check_faults::CheckFault;
+use device_model::tape::TapeFault;
+use image::fault::ImageFault;
+use ir_reader::TextFault;
 use list_vec::ListVec;
 use plan_model::limits::LimitKind;
 use std::alloc::AllocError;
@@ -25,49 +28,37 @@ pub enum Done {
     NoRoomTold,
 }
 
-/// What is wrong with the content of a file.
+/// What is wrong with the content of a file: the fault that its reader told.
 #[derive(Drop)]
 pub enum Fault {
     /// It has more bytes than this limit.
     TooLarge { limit: u32 },
-    /// The field of an image that begins at this offset is not there whole.
-    Short { at: u32 },
-    /// It does not begin as an image does.
-    Magic,
-    /// An image of this version.
-    Version { found: u32 },
-    /// The value of the field of an image that begins at this offset breaks its rule.
-    Field { at: u32 },
-    /// Bytes from this offset on follow an image.
-    Trailing { at: u32 },
-    /// The line of a tape of this number is neither blank nor a name and a number.
-    BadLine { line: u32 },
-    /// The name in the line of a tape of this number is no peripheral's.
-    UnknownPeripheral { line: u32 },
-    /// The text of a firmware is not UTF-8 from this byte on.
-    NotUtf8 { at: u32 },
-    /// No text of a firmware goes on there as this one does.
-    Syntax { pos: Pos },
-    /// The number that stands there is too wide.
-    NumberTooWide { pos: Pos },
-    /// What stands there passes a limit of firmware texts.
-    Limit { which: TextLimit, pos: Pos },
-    /// A check of a firmware fails, the first in their order.
-    IllTyped { kind: CheckKind, place: Place },
-    /// The text of a board is no TOML document.
-    NotToml,
-    /// A table or key of a board is not there.
-    MissingKey { key: Key },
-    /// A key of a board is no table, no integer or no text.
-    KeyKind { key: Key },
-    /// A key of a board has another value than it may have.
-    KeyRange { key: Key },
-    /// What a board denies is no array of two integers at this key.
-    DeniedKind { path: ListVec<u8> },
-    /// What a board denies has no byte at this key, or one that is no device's.
-    DeniedRange { path: ListVec<u8> },
-    /// A further key stands in the text of a board.
-    ExtraKey { path: ListVec<u8> },
+    /// It is no image.
+    Image(ImageFault),
+    /// It is no tape.
+    Tape(TapeFault),
+    /// It is no text of a firmware.
+    Text(TextFault),
+    /// It is the text of a firmware that a check refuses.
+    Check(CheckFault),
+    /// It describes no board.
+    Board(BoardFault),
+}
+
+impl Fault {
+    /// Whether its reader ran out of memory, so that it tells nothing of the content.
+    pub fn is_want_of_memory(&self) -> bool
+        ensures { result ≡ faults.is_want_of_memory self.now }
+    {
+        matches!(
+            self,
+            Fault::Image(ImageFault::NoMemory)
+                | Fault::Tape(TapeFault::NoMemory)
+                | Fault::Text(TextFault::NoMemory)
+                | Fault::Check(CheckFault::NoMemory)
+                | Fault::Board(BoardFault::NoMemory)
+        )
+    }
 }
 
 /// A memory of a board.

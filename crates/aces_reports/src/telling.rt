@@ -8,9 +8,14 @@ ghost use Rattle.aces_reports.specs.Ends.{status_of, line_of};
 ghost use Rattle.outside.specs.Sinks.{Says, sink};
 
 use crate::failure::{Done, Failure, Fault, Memory};
+use board_text::fault::BoardFault;
 use board_text::key::Key;
+use check_faults::CheckFault;
+use device_model::tape::TapeFault;
+use image::fault::ImageFault;
 use ir_model::check::{CheckKind, Place};
 use ir_model::token::{Pos, TextLimit};
+use ir_reader::TextFault;
 use outside::Sink;
 use plan_model::limits::LimitKind;
 
@@ -66,7 +71,7 @@ fn say_failure<E: Sink>(err: &mut E, failure: &Failure)
             say_named(err, b"aces: cannot write ", name.as_bytes(), b"\n")
         }
         Failure::Unprinted => say(err, b"aces: cannot write output\n"),
-        Failure::NoMemory => say(err, b"aces: out of memory\n"),
+        Failure::NoMemory => say_no_memory(err),
     }
 }
 
@@ -75,6 +80,13 @@ pub fn say<E: Sink>(err: &mut E, piece: &[u8])
     ensures { Says (sink E.Sink err.old) (sink E.Sink err.new) piece.now }
 {
     let _ = err.put(piece);
+}
+
+/// Puts the line on want of memory.
+fn say_no_memory<E: Sink>(err: &mut E)
+    ensures { Says (sink E.Sink err.old) (sink E.Sink err.new) lines.memory_line }
+{
+    say(err, b"aces: out of memory\n");
 }
 
 /// Puts a file's name between two texts.
@@ -143,7 +155,7 @@ fn limit_word(which: TextLimit) -> &'static [u8]
 /// Puts the line on a limit that a text passes.
 fn say_limit<E: Sink>(err: &mut E, name: &[u8], which: TextLimit, pos: Pos)
     ensures { Says (sink E.Sink err.old) (sink E.Sink err.new)
-        (lines.fault_line name.now (Fault.Limit which pos)) }
+        (lines.text_line name.now (TextFault.Limit which pos)) }
 {
     say_placed(err, name, pos, b": limit ");
     say(err, limit_word(which));
@@ -213,9 +225,9 @@ fn say_instruction<E: Sink>(err: &mut E, func: &[u8], block: &[u8], inst: u32)
 }
 
 /// Puts the line on a check of a firmware that fails.
-fn say_check<E: Sink>(err: &mut E, name: &[u8], kind: &CheckKind, place: &Place)
+fn say_failing<E: Sink>(err: &mut E, name: &[u8], kind: &CheckKind, place: &Place)
     ensures { Says (sink E.Sink err.old) (sink E.Sink err.new)
-        (lines.fault_line name.now (Fault.IllTyped kind.now place.now)) }
+        (lines.check_line name.now (CheckFault.At kind.now place.now)) }
 {
     say_named(err, b"aces: ", name, b": ");
     say_kind(err, kind);
@@ -320,6 +332,72 @@ fn say_bytes<E: Sink>(err: &mut E, needed: u64, available: u64)
     say(err, b" bytes\n");
 }
 
+/// Puts the line on a fault of an image.
+fn say_image<E: Sink>(err: &mut E, name: &[u8], fault: ImageFault)
+    ensures { Says (sink E.Sink err.old) (sink E.Sink err.new) (lines.image_line name.now fault) }
+{
+    match fault {
+        ImageFault::NoMemory => say_no_memory(err),
+        ImageFault::Short { at } => say_counted(err, name, b": short at ", at, b"\n"),
+        ImageFault::Magic => say_named(err, b"aces: ", name, b": bad magic\n"),
+        ImageFault::Version { found } => say_counted(err, name, b": version ", found, b"\n"),
+        ImageFault::Field { at } => say_counted(err, name, b": bad field at ", at, b"\n"),
+        ImageFault::Trailing { at } => say_counted(err, name, b": trailing at ", at, b"\n"),
+    }
+}
+
+/// Puts the line on a fault of a tape.
+fn say_tape<E: Sink>(err: &mut E, name: &[u8], fault: &TapeFault)
+    ensures { Says (sink E.Sink err.old) (sink E.Sink err.new) (lines.tape_line name.now fault.now) }
+{
+    match fault {
+        TapeFault::NoMemory => say_no_memory(err),
+        TapeFault::BadLine { line } => say_counted(err, name, b":", *line, b": bad line\n"),
+        TapeFault::UnknownPeripheral { line } => {
+            say_counted(err, name, b":", *line, b": unknown peripheral\n")
+        }
+    }
+}
+
+/// Puts the line on a fault of the text of a firmware.
+fn say_text<E: Sink>(err: &mut E, name: &[u8], fault: &TextFault)
+    ensures { Says (sink E.Sink err.old) (sink E.Sink err.new) (lines.text_line name.now fault.now) }
+{
+    match fault {
+        TextFault::NoMemory => say_no_memory(err),
+        TextFault::Utf8 { at } => say_counted(err, name, b": byte ", *at, b": not UTF-8\n"),
+        TextFault::Syntax { pos } => say_placed(err, name, *pos, b": syntax\n"),
+        TextFault::NumberTooWide { pos } => say_placed(err, name, *pos, b": number too wide\n"),
+        TextFault::Limit { which, pos } => say_limit(err, name, *which, *pos),
+    }
+}
+
+/// Puts the line on what the checks of a firmware tell.
+fn say_check<E: Sink>(err: &mut E, name: &[u8], fault: &CheckFault)
+    ensures { Says (sink E.Sink err.old) (sink E.Sink err.new) (lines.check_line name.now fault.now) }
+{
+    match fault {
+        CheckFault::NoMemory => say_no_memory(err),
+        CheckFault::At { kind, place } => say_failing(err, name, kind, place),
+    }
+}
+
+/// Puts the line on a fault of the text of a board.
+fn say_board<E: Sink>(err: &mut E, name: &[u8], fault: &BoardFault)
+    ensures { Says (sink E.Sink err.old) (sink E.Sink err.new) (lines.board_line name.now fault.now) }
+{
+    match fault {
+        BoardFault::NoMemory => say_no_memory(err),
+        BoardFault::NotToml => say_named(err, b"aces: ", name, b": not TOML\n"),
+        BoardFault::Missing(key) => say_key(err, name, b": missing ", *key),
+        BoardFault::Kind(key) => say_key(err, name, b": kind ", *key),
+        BoardFault::Range(key) => say_key(err, name, b": range ", *key),
+        BoardFault::DeniedKind(path) => say_keyed(err, name, b": kind ", path.as_slice()),
+        BoardFault::DeniedRange(path) => say_keyed(err, name, b": range ", path.as_slice()),
+        BoardFault::Extra(path) => say_keyed(err, name, b": extra ", path.as_slice()),
+    }
+}
+
 /// Puts the line on a fault in the content of a file.
 fn say_fault<E: Sink>(err: &mut E, name: &[u8], fault: &Fault)
     ensures { Says (sink E.Sink err.old) (sink E.Sink err.new)
@@ -327,26 +405,10 @@ fn say_fault<E: Sink>(err: &mut E, name: &[u8], fault: &Fault)
 {
     match fault {
         Fault::TooLarge { limit } => say_counted(err, name, b": larger than ", *limit, b" bytes\n"),
-        Fault::Short { at } => say_counted(err, name, b": short at ", *at, b"\n"),
-        Fault::Magic => say_named(err, b"aces: ", name, b": bad magic\n"),
-        Fault::Version { found } => say_counted(err, name, b": version ", *found, b"\n"),
-        Fault::Field { at } => say_counted(err, name, b": bad field at ", *at, b"\n"),
-        Fault::Trailing { at } => say_counted(err, name, b": trailing at ", *at, b"\n"),
-        Fault::BadLine { line } => say_counted(err, name, b":", *line, b": bad line\n"),
-        Fault::UnknownPeripheral { line } => {
-            say_counted(err, name, b":", *line, b": unknown peripheral\n")
-        }
-        Fault::NotUtf8 { at } => say_counted(err, name, b": byte ", *at, b": not UTF-8\n"),
-        Fault::Syntax { pos } => say_placed(err, name, *pos, b": syntax\n"),
-        Fault::NumberTooWide { pos } => say_placed(err, name, *pos, b": number too wide\n"),
-        Fault::Limit { which, pos } => say_limit(err, name, *which, *pos),
-        Fault::IllTyped { kind, place } => say_check(err, name, kind, place),
-        Fault::NotToml => say_named(err, b"aces: ", name, b": not TOML\n"),
-        Fault::MissingKey { key } => say_key(err, name, b": missing ", *key),
-        Fault::KeyKind { key } => say_key(err, name, b": kind ", *key),
-        Fault::KeyRange { key } => say_key(err, name, b": range ", *key),
-        Fault::DeniedKind { path } => say_keyed(err, name, b": kind ", path.as_slice()),
-        Fault::DeniedRange { path } => say_keyed(err, name, b": range ", path.as_slice()),
-        Fault::ExtraKey { path } => say_keyed(err, name, b": extra ", path.as_slice()),
+        Fault::Image(fault) => say_image(err, name, *fault),
+        Fault::Tape(fault) => say_tape(err, name, fault),
+        Fault::Text(fault) => say_text(err, name, fault),
+        Fault::Check(fault) => say_check(err, name, fault),
+        Fault::Board(fault) => say_board(err, name, fault),
     }
 }

@@ -1,13 +1,13 @@
 //! `audit`: an image from anyone, checked without its compiler.
 
-ghost use Rattle.std.specs.Prelude.{◌≡◌, None, Ok, IfOk, IfErr};
+ghost use Rattle.std.specs.Prelude.{◌≡◌, Ok, IfOk, IfErr};
 ghost use Rattle.aces_words.specs.Requests.{Audit as ToAudit};
 ghost use Rattle.aces_reports.specs.Ends.{status_of};
 ghost use Rattle.outside.specs.Sinks.{sink};
 ghost use Rattle.commands.specs.CarriesOut.{CarriesOut};
 ghost use Rattle.commands.specs.Contents.{IsNoImage};
 ghost use Rattle.commands.specs.Loads.{IsContentFailure};
-ghost use Rattle.commands.specs.Outcomes.{done};
+ghost use Rattle.commands.specs.Tellings.{told_outcome};
 ghost use Rattle.audit_commands.specs.AnswerLine.{answer_status};
 ghost use Rattle.audit_commands.specs.Answers.{AuditAnswer, AnswerToAudit};
 
@@ -16,15 +16,9 @@ use crate::laws::sound_images_are_guarded;
 use aces_reports::{Done, Failure};
 use audit::{Audit, audit};
 use commands::loading::{image_of, load};
+use commands::telling::Told;
 use outside::{Files, Sink};
 use std::alloc::Global;
-
-/// What is printed, and how the command ends.
-#[derive(Drop)]
-pub(crate) struct Told {
-    pub(crate) lines: Vec<u8>,
-    pub(crate) done: Done,
-}
 
 /// How the command ends that answers so.
 fn done_by(answer: &Audit) -> Done
@@ -38,7 +32,7 @@ fn done_by(answer: &Audit) -> Done
 
 /// The answer by the bytes of the image, which stand behind its name. No file is touched.
 fn answered<'a>(alloc: Global, image: &'a str, bytes: &[u8]) -> Result<Told, Failure<'a>>
-    ensures ok { IfOk result (λ told. AuditAnswer image.now bytes.now (done (status_of (Ok told.done)) told.lines.items None)) }
+    ensures ok { IfOk result (λ told. AuditAnswer image.now bytes.now (told_outcome told)) }
     ensures err { IfErr result (λ e. IsContentFailure (IsNoImage bytes.now) image.now e) }
 {
     let read = image_of(alloc, image, bytes)?;

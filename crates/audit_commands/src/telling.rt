@@ -1,28 +1,27 @@
 //! `tables`: what the tables of an image say.
 
-ghost use Rattle.std.specs.Prelude.{◌≡◌, None, Ok, IfOk, IfErr};
+ghost use Rattle.std.specs.Prelude.{IfOk, IfErr};
 ghost use Rattle.aces_words.specs.Requests.{Tables as ToTables};
-ghost use Rattle.aces_reports.specs.Ends.{status_of};
 ghost use Rattle.outside.specs.Sinks.{sink};
 ghost use Rattle.commands.specs.CarriesOut.{CarriesOut};
 ghost use Rattle.commands.specs.Contents.{IsNoImage};
 ghost use Rattle.commands.specs.Loads.{IsContentFailure};
-ghost use Rattle.commands.specs.Outcomes.{done};
+ghost use Rattle.commands.specs.Tellings.{told_outcome};
 ghost use Rattle.audit_commands.specs.Answers.{TablesAnswer, AnswerToTables};
 
 use crate::answer_text::answer_line;
-use crate::auditing::Told;
 use crate::laws::sound_images_are_guarded;
 use aces_reports::{Done, Failure};
 use audit::{Audit, Audited, audited};
 use commands::loading::{image_of, load};
+use commands::telling::Told;
 use outside::{Files, Sink};
 use std::alloc::Global;
 use table_lines::table_lines;
 
 /// What is printed by the bytes of the image, which stand behind its name. No file is touched.
 fn told_of<'a>(alloc: Global, image: &'a str, bytes: &[u8]) -> Result<Told, Failure<'a>>
-    ensures ok { IfOk result (λ told. TablesAnswer image.now bytes.now (done (status_of (Ok told.done)) told.lines.items None)) }
+    ensures ok { IfOk result (λ told. TablesAnswer image.now bytes.now (told_outcome told)) }
     ensures err { IfErr result (λ e. IsContentFailure (IsNoImage bytes.now) image.now e) }
 {
     let read = image_of(alloc, image, bytes)?;

@@ -1,5 +1,4 @@
 mod AsRules
-mod Digits
 mod FirstNamed
 mod Misfits
 mod Rows

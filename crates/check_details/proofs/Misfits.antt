@@ -17,7 +17,8 @@ use Rattle.ir_model.specs.Rules.{is_type, func_type}
 use Rattle.names.specs.Numbers.{has}
 use Rattle.ir_model.specs.Typing.{check, first_failing}
 use Rattle.cells.specs.Cells.{lent_types}
-use Rattle.check_details.specs.FirstValues.{fits, values_lines, value_lines, init_lines, too_many_lines, is_address_in, first_checks, cell_types, global_lines, unless_failing}
+use Rattle.check_scopes.specs.Parts.{address_fits}
+use Rattle.check_details.specs.FirstValues.{fits, values_lines, value_lines, init_lines, too_many_lines, first_checks, cell_types, global_lines, unless_failing}
 
 -- ---- checks that pass
 
@@ -32,10 +33,10 @@ of_function w p c f t b e i =
     subst (λ d. b ≡ fits w p d t) (sym i) (e ∙ two_checks (has (map (λ (g : PlainFunc). g.name) (funcs_of w)) f) (is_type (func_type (funcs_of w) f) t) (Unknown f) BadInit p)
 
 pub of_address : (w : PlainFirmware) (p : Place) (c : Cell) (x : List ℕ) (t : PlainType) (b : Bool)
-    → b ≡ ((has (map (λ (q : Peripheral). q.name) w.periphs) x || has (map (λ (g : PlainGlobal). g.name) w.globals) x) && is_address_in w x t) → c ≡ Address x → b ≡ fits w p c t
+    → b ≡ ((has (map (λ (q : Peripheral). q.name) w.periphs) x || has (map (λ (g : PlainGlobal). g.name) w.globals) x) && address_fits w x t) → c ≡ Address x → b ≡ fits w p c t
 of_address w p c x t b e i =
     subst (λ d. b ≡ fits w p d t) (sym i)
-    (e ∙ two_checks (has (map (λ (q : Peripheral). q.name) w.periphs) x || has (map (λ (g : PlainGlobal). g.name) w.globals) x) (is_address_in w x t) (Unknown x) BadInit p)
+    (e ∙ two_checks (has (map (λ (q : Peripheral). q.name) w.periphs) x || has (map (λ (g : PlainGlobal). g.name) w.globals) x) (address_fits w x t) (Unknown x) BadInit p)
 
 -- ---- pieces behind one another
 

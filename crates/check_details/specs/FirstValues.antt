@@ -6,12 +6,9 @@ use Rattle.ir_model.specs.declared.check.Place.{Place}
 use Rattle.ir_model.specs.declared.check.Place.TheVariants as place
 use Rattle.ir_model.specs.declared.firmware.Cell.{Cell}
 use Rattle.ir_model.specs.declared.firmware.Cell.TheVariants.{Word, Function, Address}
-use Rattle.ir_model.specs.declared.firmware.Peripheral.{Peripheral}
 use Rattle.ir_model.specs.Types.{PlainType}
 use Rattle.ir_model.specs.Plain.{PlainStruct, PlainGlobal, PlainFirmware}
 use Rattle.ir_model.specs.Layout.{CellPlace, known, shape}
-use Rattle.names.specs.Numbers.{has}
-use Rattle.ir_model.specs.Rules.{is_port, is_address, global_type}
 use Rattle.ir_model.specs.Typing.{Checks, Failing, first_failing, cell_checks, structs_checks, periph_checks}
 use Rattle.check_details.specs.Words.{expected, expected_type}
 
@@ -39,10 +36,6 @@ found_value k c = codes "found value " ++ decimal k ++ codes ": " ++ value_text 
 -- the same, and its cell's type
 abbrev pub value_lines : (number : ℕ) → Cell → PlainType → List ℕ
 value_lines k c t = found_value k c ++ expected_type t
-
--- the address of a peripheral, or of a global of a type
-abbrev pub is_address_in : PlainFirmware → List ℕ → PlainType → Bool
-is_address_in w x t = if has (map (λ (q : Peripheral). q.name) w.periphs) x then is_port t else is_address (global_type w.globals x) t
 
 -- a value fits a cell of this type where none of its checks fails
 abbrev pub fits : PlainFirmware → Place → Cell → PlainType → Bool

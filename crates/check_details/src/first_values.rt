@@ -1,14 +1,14 @@
 //! The lines of first values.
 
-ghost use Rattle.std.specs.Prelude.{◌≡◌, ◌&&◌, ◌||◌, ◌++◌, ◌≤◌, ◌^◌, ◌*◌, length, map, nat_lt, OnOk};
+ghost use Rattle.std.specs.Prelude.{◌≡◌, ◌&&◌, ◌||◌, ◌++◌, ◌≤◌, length, map, OnOk};
 ghost use Rattle.ir_model.specs.declared.check.Place.TheVariants as place;
-ghost use Rattle.ir_model.specs.Types as types;
 ghost use Rattle.ir_model.specs.Types.{type_of};
 ghost use Rattle.ir_model.specs.declared.firmware.Peripheral.{Peripheral as PlainPeripheral};
 ghost use Rattle.ir_model.specs.Plain.{PlainFunc, PlainGlobal, global_of, firmware_of, funcs_of};
 ghost use Rattle.ir_model.specs.Rules.{is_type, func_type};
 ghost use Rattle.names.specs.Numbers.{has};
 ghost use Rattle.cells.specs.Cells.{lent_types};
+ghost use Rattle.check_scopes.specs.Parts as parts;
 ghost use Rattle.check_scopes.specs.Scopes.{IsScope};
 ghost use Rattle.check_details.specs.FirstValues as first_values;
 
@@ -17,42 +17,13 @@ use crate::wording::{put, put_count, put_decimal, put_expected_type};
 use cells::put_cell_types;
 use check_faults::CheckFault;
 use check_scopes::Scope;
-use check_scopes::kinds::{is_port, points_to};
-use check_scopes::lookup::{global_named, is_function};
+use check_scopes::lookup::is_function;
+use check_scopes::values::{holds_address, holds_number};
 use declaration_checks::declared::declared;
 use ir_model::firmware::{Cell, Firmware, Global as GlobalDecl};
 use ir_model::types::Ty;
 use names::Name;
 use std::alloc::AllocError;
-
-/// Whether a cell of a type holds a number.
-fn holds_number(ty: &Ty, number: u32) -> bool
-    ensures { result ≡ (types.is_integer (type_of ty.now) && nat_lt number (2 ^ (8 * types.width_of (type_of ty.now)))) }
-{
-    match ty {
-        Ty::U8 => number < 256,
-        Ty::U16 => number < 65_536,
-        Ty::U32 => true,
-        Ty::Ptr(_) => false,
-        Ty::Array(_, _) => false,
-        Ty::Named(_) => false,
-        Ty::Callee(_) => false,
-    }
-}
-
-/// Whether a cell of a type holds the address of a peripheral or a global.
-fn holds_address(scope: &Scope, name: &Name, ty: &Ty) -> bool
-    requires { IsScope scope.now }
-    ensures { result ≡ first_values.is_address_in (firmware_of scope.now.firmware.now) name.now (type_of ty.now) }
-{
-    if scope.periphs.has(name) {
-        return is_port(ty);
-    }
-    match global_named(scope, name) {
-        None => false,
-        Some(target) => points_to(ty, target),
-    }
-}
 
 /// Whether a function is there, and its type is this one.
 fn function_fits(scope: &Scope, name: &Name, ty: &Ty) -> bool
@@ -65,7 +36,7 @@ fn function_fits(scope: &Scope, name: &Name, ty: &Ty) -> bool
 /// Whether a peripheral or a global is there, and its address is of this type.
 fn address_fits(scope: &Scope, name: &Name, ty: &Ty) -> bool
     requires { IsScope scope.now }
-    ensures { result ≡ ((has (map (λ (q : PlainPeripheral). q.name) (firmware_of scope.now.firmware.now).periphs) name.now || has (map (λ (g : PlainGlobal). g.name) (firmware_of scope.now.firmware.now).globals) name.now) && first_values.is_address_in (firmware_of scope.now.firmware.now) name.now (type_of ty.now)) }
+    ensures { result ≡ ((has (map (λ (q : PlainPeripheral). q.name) (firmware_of scope.now.firmware.now).periphs) name.now || has (map (λ (g : PlainGlobal). g.name) (firmware_of scope.now.firmware.now).globals) name.now) && parts.address_fits (firmware_of scope.now.firmware.now) name.now (type_of ty.now)) }
 {
     let known = scope.periphs.has(name) || scope.globals.has(name);
     known && holds_address(scope, name, ty)

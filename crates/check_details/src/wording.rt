@@ -1,7 +1,7 @@
 //! The words of the lines.
 
-ghost use Rattle.std.specs.Prelude.{◌≡◌, ◌<◌, ◌++◌, ◌∷◌, [], false, OnOk};
-ghost use Rattle.std.specs.Fmt.{decimal, digit_glyph};
+ghost use Rattle.std.specs.Prelude.{◌≡◌, ◌++◌, OnOk};
+ghost use Rattle.std.specs.Fmt.{decimal};
 ghost use Rattle.lines.specs.Lines.{hexadecimal};
 ghost use Rattle.ir_model.specs.Types.{type_of, result_of, Pointer};
 ghost use Rattle.check_details.specs.Words as words;
@@ -10,6 +10,7 @@ use ir_model::token::Mark;
 use ir_model::types::Ty;
 use ir_printer::tokens::put_mark;
 use ir_printer::types::put_type;
+use lines::numbers::{decimal_digits, hexadecimal_digits};
 use std::alloc::AllocError;
 
 /// Puts these bytes behind those that are there.
@@ -24,50 +25,21 @@ pub(crate) fn put(out: &mut Vec<u8>, bytes: &[u8]) -> Result<(), AllocError>
 pub(crate) fn put_decimal(out: &mut Vec<u8>, number: u32) -> Result<(), AllocError>
     ensures { OnOk result (out.new.items ≡ out.old.items ++ decimal number) }
 {
-    let digits = number.to_string(*out.allocator())?;
-    out.extend_from_slice(digits.as_bytes())?;
-    Ok(())
+    put(out, decimal_digits(u64::from(number)).as_slice())
 }
 
 /// Puts the decimal digits of a count.
 pub(crate) fn put_count(out: &mut Vec<u8>, count: usize) -> Result<(), AllocError>
     ensures { OnOk result (out.new.items ≡ out.old.items ++ decimal count) }
 {
-    let digits = count.to_string(*out.allocator())?;
-    out.extend_from_slice(digits.as_bytes())?;
-    Ok(())
-}
-
-/// A lower-case hexadecimal digit.
-fn digit(value: u8) -> u8
-    requires { value < 16 }
-    ensures { result ≡ digit_glyph false value }
-{
-    if value < 10 {
-        b'0' + value
-    } else {
-        b'a' - 10 + value
-    }
-}
-
-/// Puts a byte.
-fn put_byte(out: &mut Vec<u8>, byte: u8) -> Result<(), AllocError>
-    ensures { OnOk result (out.new.items ≡ out.old.items ++ byte ∷ []) }
-{
-    out.push(byte)?;
-    Ok(())
+    put(out, decimal_digits(count as u64).as_slice())
 }
 
 /// Puts so many hexadecimal digits of a number.
-#[tactic(auto, unfolding(lines::specs::Lines::hexadecimal))]
 pub(crate) fn put_hexadecimal(out: &mut Vec<u8>, count: u8, number: u32) -> Result<(), AllocError>
     ensures { OnOk result (out.new.items ≡ out.old.items ++ hexadecimal count number) }
 {
-    if count == 0 {
-        return Ok(());
-    }
-    put_hexadecimal(out, count - 1, number / 16)?;
-    put_byte(out, digit((number % 16) as u8))
+    put(out, hexadecimal_digits(count, number).as_slice())
 }
 
 /// Puts the line of what was found, by its words.

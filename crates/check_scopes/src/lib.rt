@@ -5,5 +5,6 @@ pub mod kinds;
 pub mod lookup;
 mod scope;
 pub mod sizes;
+pub mod values;
 
 pub use scope::{FuncScope, Scope};

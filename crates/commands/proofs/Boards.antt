@@ -1,14 +1,15 @@
 -- What a refusal of a board says of the bytes.
-use Rattle.std.proofs.Common.{◌≡◌, ℕ, List, Some}
+use Rattle.std.proofs.Common.{ℕ, List}
 use Rattle.board_text.specs.declared.fault.BoardFault.{BoardFault}
 use Rattle.board_text.specs.Reading.{IsFault}
 use Rattle.aces_reports.specs.declared.failure.Failure.{Failure}
-use Rattle.commands.specs.Contents.{IsNoBoard, of_board}
+use Rattle.aces_reports.specs.declared.failure.Fault.TheVariants.{Board}
+use Rattle.commands.specs.Contents.{IsNoBoard, IsContentFault}
 use Rattle.commands.specs.Loads.{IsContentFailure}
 use Rattle.commands.proofs.Ends.{content_also}
 
 -- bytes that fail a test describe no board
-pub board_refused : (text name : List ℕ) (first : BoardFault) (e : Failure) → IsFault text first → IsContentFailure (λ f. of_board first ≡ Some f) name e
+pub board_refused : (text name : List ℕ) (first : BoardFault) (e : Failure) → IsFault text first → IsContentFailure (IsContentFault (Board first)) name e
     → IsContentFailure (IsNoBoard text) name e
 board_refused text name first e h =
-    content_also (λ f. of_board first ≡ Some f) (IsNoBoard text) (λ f q. record { first = first; found = h; named = q }) name e
+    content_also (IsContentFault (Board first)) (IsNoBoard text) (λ f q. record { first = first; found = h; named = q }) name e

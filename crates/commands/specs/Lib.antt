@@ -5,3 +5,4 @@ pub mod Answers
 pub mod Effects
 pub mod CarriesOut
 pub mod Loads
+pub mod Tellings

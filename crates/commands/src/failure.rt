@@ -1,62 +1,29 @@
-//! The failures that faults of files are.
+//! The failures that faults of files and refusals of planning are.
 
-ghost use Rattle.std.specs.Prelude.{◌≡◌, ◌⊎◌, Some};
-ghost use Rattle.aces_reports.specs.declared.failure.Failure.TheVariants.{Denied, NoMemory, NoRoom, Refused};
+ghost use Rattle.std.specs.Prelude.{◌≡◌, ◌⊎◌};
+ghost use Rattle.aces_reports.specs.declared.failure.Failure.TheVariants.{Denied, NoMemory, NoRoom};
 ghost use Rattle.ir_model.specs.Plain.{firmware_of};
 ghost use Rattle.denial_lines.specs.Lines as denials;
-ghost use Rattle.commands.specs.Contents.{of_board, of_image, of_tape};
+ghost use Rattle.commands.specs.Contents.{IsContentFault};
 ghost use Rattle.commands.specs.Loads.{IsContentFailure, IsPlanningFailure};
 
 use aces_reports::{Failure, Fault, Memory};
-use board_text::fault::BoardFault;
 use denial_lines::meeting_text;
 use denied_plans::Meeting;
-use device_model::tape::TapeFault;
-use image::fault::ImageFault;
 use ir_model::firmware::Firmware;
 use list_vec::ListVec;
 use plan_model::plan::Board;
 use planning::PlanningRefusal;
 use std::alloc::Global;
 
-/// The failure that a fault of an image is.
-pub(crate) fn image_failure(name: &str, fault: ImageFault) -> Failure<'_>
-    ensures { IsContentFailure (λ f. of_image fault ≡ Some f) name.now result }
+/// The failure that a fault of a file's content is: the refusal of the file, or want of memory where its reader met that.
+pub fn content_failure(name: &str, fault: Fault) -> Failure<'_>
+    ensures { IsContentFailure (IsContentFault fault) name.now result }
 {
-    match fault {
-        ImageFault::NoMemory => Failure::NoMemory,
-        ImageFault::Short { at } => refused(name, Fault::Short { at }),
-        ImageFault::Magic => refused(name, Fault::Magic),
-        ImageFault::Version { found } => refused(name, Fault::Version { found }),
-        ImageFault::Field { at } => refused(name, Fault::Field { at }),
-        ImageFault::Trailing { at } => refused(name, Fault::Trailing { at }),
-    }
-}
-
-/// The failure that a fault of a tape is.
-pub(crate) fn tape_failure(name: &str, fault: TapeFault) -> Failure<'_>
-    ensures { IsContentFailure (λ f. of_tape fault ≡ Some f) name.now result }
-{
-    match fault {
-        TapeFault::NoMemory => Failure::NoMemory,
-        TapeFault::BadLine { line } => refused(name, Fault::BadLine { line }),
-        TapeFault::UnknownPeripheral { line } => refused(name, Fault::UnknownPeripheral { line }),
-    }
-}
-
-/// The failure that a fault of a board is.
-pub(crate) fn board_failure(name: &str, fault: BoardFault) -> Failure<'_>
-    ensures { IsContentFailure (λ f. of_board fault ≡ Some f) name.now result }
-{
-    match fault {
-        BoardFault::NoMemory => Failure::NoMemory,
-        BoardFault::NotToml => refused(name, Fault::NotToml),
-        BoardFault::Missing(key) => refused(name, Fault::MissingKey { key }),
-        BoardFault::Kind(key) => refused(name, Fault::KeyKind { key }),
-        BoardFault::Range(key) => refused(name, Fault::KeyRange { key }),
-        BoardFault::DeniedKind(path) => refused(name, Fault::DeniedKind { path }),
-        BoardFault::DeniedRange(path) => refused(name, Fault::DeniedRange { path }),
-        BoardFault::Extra(path) => refused(name, Fault::ExtraKey { path }),
+    if fault.is_want_of_memory() {
+        Failure::NoMemory
+    } else {
+        Failure::Refused { name, fault }
     }
 }
 
@@ -112,11 +79,4 @@ fn no_room<'a>(memory: Memory, compartment: Option<u32>, needed: u64, available:
         needed,
         available,
     }
-}
-
-/// The refusal of a file by a fault of its content.
-pub fn refused(name: &str, fault: Fault) -> Failure<'_>
-    ensures { result ≡ Refused name.entry fault }
-{
-    Failure::Refused { name, fault }
 }

@@ -5,4 +5,5 @@ pub mod bin;
 pub mod failure;
 pub mod loading;
 pub mod run;
+pub mod telling;
 pub mod writing;

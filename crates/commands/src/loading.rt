@@ -12,7 +12,7 @@ ghost use Rattle.board_text.specs.Reading as boards;
 ghost use Rattle.commands.specs.Contents.{IsNoImage, IsNoTape, IsNoBoard};
 ghost use Rattle.commands.specs.Loads.{ReadsEither, IsContentFailure, IsLoadFailure, IsPairFailure};
 
-use crate::failure::{board_failure, image_failure, tape_failure};
+use crate::failure::content_failure;
 use aces_reports::{Failure, Fault};
 use board_text::read_board;
 use device_model::image::{Image, Window};
@@ -133,7 +133,7 @@ pub fn image_of<'a>(alloc: Global, name: &'a str, bytes: &[u8]) -> Result<Image,
 {
     match image::read(alloc, bytes) {
         Ok(image) => Ok(image),
-        Err(fault) => Err(image_failure(name, fault)),
+        Err(fault) => Err(content_failure(name, Fault::Image(fault))),
     }
 }
 
@@ -151,7 +151,7 @@ pub fn tape_of<'a>(
 {
     match Tape::read(alloc, text, windows) {
         Ok(tape) => Ok(tape),
-        Err(fault) => Err(tape_failure(name, fault)),
+        Err(fault) => Err(content_failure(name, Fault::Tape(fault))),
     }
 }
 
@@ -163,6 +163,6 @@ pub fn board_of<'a>(alloc: Global, name: &'a str, text: &[u8]) -> Result<Board, 
 {
     match read_board(alloc, text) {
         Ok(board) => Ok(board),
-        Err(fault) => Err(board_failure(name, fault)),
+        Err(fault) => Err(content_failure(name, Fault::Board(fault))),
     }
 }

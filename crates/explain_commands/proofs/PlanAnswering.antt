@@ -1,17 +1,18 @@
 -- Answers to `explain` with a board write nothing, and end with 0 where nothing refuses a plan.
-use Rattle.std.proofs.Common.{◌≡◌, ℕ, List, None, true, false, refl}
+use Rattle.std.proofs.Common.{◌≡◌, ℕ, List, None, false, refl}
 use Rattle.plan_model.specs.declared.policy.Policy.{Policy}
 use Rattle.ir_model.specs.Plain.{PlainFirmware}
 use Rattle.plan_model.specs.declared.plan.Board.{Board}
 use Rattle.board_text.specs.declared.fault.BoardFault.{BoardFault}
-use Rattle.board_text.specs.declared.fault.BoardFault.TheVariants as board_fault
 use Rattle.board_text.specs.Reading as boards
 use Rattle.planning.specs.declared.refusal.PlanningRefusal.TheVariants.{NoMemory, Limit, Denied, Flash, Ram}
+use Rattle.aces_reports.specs.declared.failure.Fault.TheVariants as faults
+use Rattle.aces_reports.specs.Faults.{is_want_of_memory}
 use Rattle.commands.specs.Outcomes.{Outcome, done}
 use Rattle.firmware_commands.specs.Firmwares.{IsFirmware}
 use Rattle.planned_commands.specs.PlanAnswer as plans
 use Rattle.planned_commands.specs.PlanAnswer.{PlanAnswer}
-use Rattle.explain_commands.specs.Plans.{is_want_of_memory, IsPlanTold, unplanned, planned, ExplainPlanAnswer, no_firmware, no_board, told}
+use Rattle.explain_commands.specs.Plans.{IsPlanTold, unplanned, planned, ExplainPlanAnswer, no_firmware, no_board, told}
 use Rattle.explain_commands.proofs.Explainable.{explain_done}
 
 pub explain_plan_writes_nothing : (firmware board : List ℕ) (policy : Policy) (bytes text : List ℕ) (o : Outcome) → ExplainPlanAnswer firmware board policy bytes text o → o.written ≡ None
@@ -21,15 +22,8 @@ explain_plan_writes_nothing firmware board policy bytes text o (told w b status 
 
 module _ (firmware board : List ℕ) (policy : Policy) (bytes t : List ℕ) (none : (p : Outcome) → PlanAnswer firmware board policy bytes t p → ⊥) where
   -- a board's fault refuses a plan
-  by_board : (w : PlainFirmware) (f : BoardFault) → IsFirmware w bytes → is_want_of_memory f ≡ false → boards.IsFault t f → ⊥
-  by_board w board_fault.NoMemory h n k = let wrong : true ≡ false = n in cc
-  by_board w board_fault.NotToml h n k = none _ (plans.no_board w _ h (record { first = board_fault.NotToml; found = k; named = refl }))
-  by_board w (board_fault.Missing key) h n k = none _ (plans.no_board w _ h (record { first = board_fault.Missing key; found = k; named = refl }))
-  by_board w (board_fault.Kind key) h n k = none _ (plans.no_board w _ h (record { first = board_fault.Kind key; found = k; named = refl }))
-  by_board w (board_fault.Range key) h n k = none _ (plans.no_board w _ h (record { first = board_fault.Range key; found = k; named = refl }))
-  by_board w (board_fault.DeniedKind path) h n k = none _ (plans.no_board w _ h (record { first = board_fault.DeniedKind path; found = k; named = refl }))
-  by_board w (board_fault.DeniedRange path) h n k = none _ (plans.no_board w _ h (record { first = board_fault.DeniedRange path; found = k; named = refl }))
-  by_board w (board_fault.Extra path) h n k = none _ (plans.no_board w _ h (record { first = board_fault.Extra path; found = k; named = refl }))
+  by_board : (w : PlainFirmware) (f : BoardFault) → IsFirmware w bytes → is_want_of_memory (faults.Board f) ≡ false → boards.IsFault t f → ⊥
+  by_board w f h n k = none _ (plans.no_board w (faults.Board f) h (record { first = f; found = k; named = (refl, n) }))
 
   -- what is told of both has status 0
   by_plan : (w : PlainFirmware) (b : Board) (status : ℕ) (lines : List ℕ) → IsFirmware w bytes → boards.IsRead t b → IsPlanTold policy w b status lines → status ≡ 0

@@ -1,11 +1,11 @@
 -- Beyond the program's claim: only laws, proofs and functions inside the tool cite this file.
 -- What is told of the bytes of a firmware, and the firmware where they have no fault.
-use Rattle.std.specs.Prelude.{ℕ, List, Ok, None}
+use Rattle.std.specs.Prelude.{ℕ, List, None}
 use Rattle.ir_model.specs.Plain.{firmware_of}
-use Rattle.aces_reports.specs.Ends.{status_of}
 use Rattle.commands.specs.Outcomes.{done}
+use Rattle.commands.specs.Tellings.{told_outcome}
 use Rattle.firmware_commands.specs.Firmwares.{IsFirmware}
-use Rattle.explain_commands.specs.declared.telling.Told.{Told}
+use Rattle.commands.specs.declared.telling.Told.{Told}
 use Rattle.explain_commands.specs.declared.telling.Explained.{Explained}
 use Rattle.explain_commands.specs.declared.telling.Explained.TheVariants.{Faulty, Fine}
 use Rattle.explain_commands.specs.Answers.{ExplainAnswer}
@@ -17,4 +17,4 @@ IsExplained firmware bytes (Fine checked) = IsFirmware (firmware_of checked) byt
 
 -- lines that are an answer, with how the command ends
 abbrev pub IsTold : (firmware bytes : List ℕ) → Told → Type 0
-IsTold firmware bytes t = ExplainAnswer firmware bytes (done (status_of (Ok t.done)) t.lines.items None)
+IsTold firmware bytes t = ExplainAnswer firmware bytes (told_outcome t)

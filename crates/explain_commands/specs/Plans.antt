@@ -1,5 +1,5 @@
 -- What `explain` answers with a board and a policy, where no call on the outside fails and memory does not run out.
-use Rattle.std.specs.Prelude.{◌≡◌, ℕ, List, None, Bool, true, false}
+use Rattle.std.specs.Prelude.{◌≡◌, ℕ, List, None, false}
 use Rattle.plan_model.specs.declared.policy.Policy.{Policy}
 use Rattle.aces_words.specs.Requests.{Origin}
 use Rattle.ir_model.specs.Plain.{PlainFirmware}
@@ -7,7 +7,6 @@ use Rattle.ir_model.specs.Resolve.{resolve}
 use Rattle.plan_model.specs.declared.needs.Needs.{Needs}
 use Rattle.plan_model.specs.declared.plan.Board.{Board}
 use Rattle.board_text.specs.declared.fault.BoardFault.{BoardFault}
-use Rattle.board_text.specs.declared.fault.BoardFault.TheVariants as board_fault
 use Rattle.board_text.specs.Reading as boards
 use Rattle.compartments.specs.Analyses.{AreNeedsOf}
 use Rattle.compartments.specs.Divisions.{division}
@@ -17,16 +16,13 @@ use Rattle.planning.specs.Refusals.{IsPlanningRefusal}
 use Rattle.firmware_plans.specs.Plannable.{IsPlannable}
 use Rattle.board_explanations.specs.BoardTold.{board_told}
 use Rattle.plan_explanations.specs.PlanTold.{IsRefusalTold}
+use Rattle.aces_reports.specs.declared.failure.Fault.TheVariants as faults
+use Rattle.aces_reports.specs.Faults.{is_want_of_memory}
 use Rattle.commands.specs.Outcomes.{Outcome, done}
 use Rattle.firmware_commands.specs.Counts.{count_line}
 use Rattle.firmware_commands.specs.Firmwares.{IsFirmware}
 use Rattle.planned_commands.specs.Both.{AnswerByBoth}
 use Rattle.explain_commands.specs.Answers.{ExplainAnswer}
-
--- a board's fault that is none, but want of memory
-abbrev pub is_want_of_memory : BoardFault → Bool
-is_want_of_memory board_fault.NoMemory = true
-is_want_of_memory _ = false
 
 -- the status with which `list` refuses so
 abbrev pub refusal_status : PlanningRefusal → ℕ
@@ -46,7 +42,7 @@ pub data IsPlanTold (policy : Policy) (w : PlainFirmware) (b : Board) : (status 
 -- the answer on the bytes of both files: the firmware's fault as it is told without a board, else the board's, else what is told of both
 pub data ExplainPlanAnswer (firmware board : List ℕ) (policy : Policy) (bytes text : List ℕ) : Outcome → Type 0 where
   no_firmware : (lines : List ℕ) → ExplainAnswer firmware bytes (done 1 lines None) → ExplainPlanAnswer firmware board policy bytes text (done 1 lines None)
-  no_board : (w : PlainFirmware) (f : BoardFault) → IsFirmware w bytes → is_want_of_memory f ≡ false → boards.IsFault text f →
+  no_board : (w : PlainFirmware) (f : BoardFault) → IsFirmware w bytes → is_want_of_memory (faults.Board f) ≡ false → boards.IsFault text f →
       ExplainPlanAnswer firmware board policy bytes text (done 1 (board_told board text f) None)
   told : (w : PlainFirmware) (b : Board) (status : ℕ) (lines : List ℕ) → IsFirmware w bytes → boards.IsRead text b → IsPlanTold policy w b status lines →
       ExplainPlanAnswer firmware board policy bytes text (done status lines None)

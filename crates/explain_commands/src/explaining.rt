@@ -10,9 +10,10 @@ ghost use Rattle.commands.specs.CarriesOut.{CarriesOut};
 ghost use Rattle.explain_commands.specs.Answers.{AnswerToExplain};
 ghost use Rattle.explain_commands.specs.Explained.{IsTold};
 
-use crate::telling::{Told, tell};
+use crate::telling::tell;
 use aces_reports::{Done, Failure};
 use commands::loading::load_firmware;
+use commands::telling::Told;
 use outside::{Failed, Files, Sink};
 use std::alloc::Global;
 

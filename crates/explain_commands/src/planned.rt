@@ -1,6 +1,6 @@
 //! `explain` with a board and a policy: why a firmware has no plan.
 
-ghost use Rattle.std.specs.Prelude.{◌≡◌, ◌≤◌, None, Ok, length, IfOk, IfErr};
+ghost use Rattle.std.specs.Prelude.{◌≡◌, ◌≤◌, Ok, length, IfOk, IfErr};
 ghost use Rattle.ir_model.specs.Plain.{firmware_of, funcs_of};
 ghost use Rattle.ir_model.specs.Resolve as definition;
 ghost use Rattle.ir_program.specs.Seen.{program_of};
@@ -12,19 +12,21 @@ ghost use Rattle.planning.specs.Refusals.{IsPlanningRefusal};
 ghost use Rattle.aces_words.specs.Requests.{ExplainPlan as ToExplain, firmware_limit};
 ghost use Rattle.aces_reports.specs.declared.failure.Failure.TheVariants.{NoMemory as WantOfMemory};
 ghost use Rattle.aces_reports.specs.Ends.{status_of};
+ghost use Rattle.aces_reports.specs.Faults as faults;
+ghost use Rattle.aces_reports.specs.declared.failure.Fault.TheVariants.{Board as OfBoard};
 ghost use Rattle.outside.specs.Sinks.{sink};
 ghost use Rattle.commands.specs.CarriesOut.{CarriesOut};
-ghost use Rattle.commands.specs.Outcomes.{done};
+ghost use Rattle.commands.specs.Tellings.{told_outcome};
 ghost use Rattle.firmware_commands.specs.Firmwares.{IsFirmware};
-ghost use Rattle.explain_commands.specs.Plans as plans;
 ghost use Rattle.explain_commands.specs.Plans.{refusal_status, IsPlanTold, ExplainPlanAnswer, AnswerToExplainPlan};
 
-use crate::telling::{Explained, Told, counted, examine};
+use crate::telling::{Explained, counted, examine};
 use aces_reports::{Done, Failure};
 use plan_model::Policy;
 use board_explanations::telling::board_told;
 use board_text::board::read_board;
 use board_text::fault::BoardFault;
+use commands::telling::Told;
 use compartments::division::division;
 use firmware_plans::{needs_of, planned_by};
 use ir_model::checked::Checked;
@@ -106,18 +108,9 @@ fn on_board(
 
 /// Whether a fault of a board is want of memory.
 fn is_want_of_memory(fault: &BoardFault) -> bool
-    ensures { result ≡ plans.is_want_of_memory fault.now }
+    ensures { result ≡ faults.is_want_of_memory (OfBoard fault.now) }
 {
-    match fault {
-        BoardFault::NoMemory => true,
-        BoardFault::NotToml => false,
-        BoardFault::Missing(_) => false,
-        BoardFault::Kind(_) => false,
-        BoardFault::Range(_) => false,
-        BoardFault::DeniedKind(_) => false,
-        BoardFault::DeniedRange(_) => false,
-        BoardFault::Extra(_) => false,
-    }
+    matches!(fault, BoardFault::NoMemory)
 }
 
 /// The lines on a text that is no board's.
@@ -133,7 +126,7 @@ fn no_board(
 ) -> Result<Told, AllocError>
     requires firmware { IsFirmware (firmware_of checked.now) bytes.now }
     requires fault { boards.IsFault text.now fault.now }
-    ensures { IfOk result (λ t. ExplainPlanAnswer firmware.now board.now policy bytes.now text.now (done (status_of (Ok t.done)) t.lines.items None)) }
+    ensures { IfOk result (λ t. ExplainPlanAnswer firmware.now board.now policy bytes.now text.now (told_outcome t)) }
 {
     if is_want_of_memory(fault) {
         return Err(AllocError);
@@ -155,7 +148,7 @@ fn on_text(
     policy: Policy,
 ) -> Result<Told, AllocError>
     requires { IsFirmware (firmware_of checked.now) bytes.now }
-    ensures { IfOk result (λ t. ExplainPlanAnswer firmware.now board.now policy bytes.now text.now (done (status_of (Ok t.done)) t.lines.items None)) }
+    ensures { IfOk result (λ t. ExplainPlanAnswer firmware.now board.now policy bytes.now text.now (told_outcome t)) }
 {
     match read_board(alloc, text) {
         Ok(read) => {
@@ -176,7 +169,7 @@ fn on_both(
     policy: Policy,
 ) -> Result<Told, AllocError>
     requires { length bytes.now ≤ firmware_limit }
-    ensures { IfOk result (λ t. ExplainPlanAnswer firmware.now board.now policy bytes.now text.now (done (status_of (Ok t.done)) t.lines.items None)) }
+    ensures { IfOk result (λ t. ExplainPlanAnswer firmware.now board.now policy bytes.now text.now (told_outcome t)) }
 {
     match examine(alloc, firmware, bytes)? {
         Explained::Faulty(lines) => Ok(Told {
@@ -197,7 +190,7 @@ fn lines_on<'a>(
     policy: Policy,
 ) -> Result<Told, Failure<'a>>
     requires { length bytes.now ≤ firmware_limit }
-    ensures ok { IfOk result (λ t. ExplainPlanAnswer firmware.now board.now policy bytes.now text.now (done (status_of (Ok t.done)) t.lines.items None)) }
+    ensures ok { IfOk result (λ t. ExplainPlanAnswer firmware.now board.now policy bytes.now text.now (told_outcome t)) }
     ensures err { IfErr result (λ e. e ≡ WantOfMemory) }
 {
     let told = on_both(alloc, firmware, bytes, board, text, policy)?;

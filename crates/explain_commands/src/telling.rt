@@ -8,6 +8,7 @@ ghost use Rattle.explain_commands.specs.Explained.{IsExplained, IsTold};
 
 use crate::details::{check_fault, text_fault};
 use aces_reports::Done;
+use commands::telling::Told;
 use firmware_commands::check::counts_of;
 use ir_check::check;
 use ir_model::checked::Checked;
@@ -20,15 +21,6 @@ pub enum Explained {
     Faulty(Vec<u8>),
     /// They are the text of this firmware.
     Fine(Checked),
-}
-
-/// Lines, and how the command ends that prints them.
-#[derive(Drop)]
-pub struct Told {
-    /// The lines.
-    pub lines: Vec<u8>,
-    /// The end: with a fault that was told, or well.
-    pub done: Done,
 }
 
 /// The lines of the first fault of the bytes of a firmware in a file of this name, or the firmware where they have none.

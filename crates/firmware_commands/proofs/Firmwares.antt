@@ -1,5 +1,5 @@
 -- Firmwares: what a refusal says of the bytes, and how many functions a firmware within the limits has.
-use Rattle.std.proofs.Common.{◌≡◌, ℕ, ◌+◌, ◌<◌, ◌≤◌, List, [], ◌∷◌, map, length, get_or, take, Some, refl, ap, sym, subst, ◌∙◌, arith, length-append, flat_map}
+use Rattle.std.proofs.Common.{◌≡◌, ℕ, ◌+◌, ◌<◌, ◌≤◌, List, [], ◌∷◌, map, length, get_or, take, true, false, refl, ap, sym, subst, ◌∙◌, arith, length-append, flat_map}
 use Rattle.std.proofs.lemmas.List.{length-map}
 use Rattle.std.proofs.lemmas.List.Folds.{length-flat_map-take}
 use Rattle.ir_model.specs.declared.firmware.FileDecl.{FileDecl}
@@ -15,31 +15,31 @@ use Rattle.check_faults.specs.Found.{IsFaultOf}
 use Rattle.ir_reader.specs.declared.fault.TextFault.{TextFault}
 use Rattle.ir_reader.specs.First.{IsFirst}
 use Rattle.aces_reports.specs.declared.failure.Fault.{Fault}
-use Rattle.aces_reports.specs.declared.failure.Fault.TheVariants.{IllTyped}
+use Rattle.aces_reports.specs.declared.failure.Fault.TheVariants.{Text, Check}
 use Rattle.aces_reports.specs.declared.failure.Failure.{Failure}
+use Rattle.commands.specs.Contents.{IsContentFault}
 use Rattle.commands.specs.Loads.{IsContentFailure}
 use Rattle.commands.proofs.Ends.{content_also}
-use Rattle.firmware_commands.specs.Firmwares.{of_text, IsNoFirmware, no_text, ill_typed}
+use Rattle.firmware_commands.specs.Firmwares.{IsNoFirmware, no_text, ill_typed}
 use Rattle.firmware_commands.specs.Counts.{count_line}
-use Rattle.firmware_commands.specs.Checks.{of_check}
 use Rattle.lines.specs.Lines as lines
 
 -- bytes with a first fault are the text of no typed firmware
-pub text_refused : (bytes name : List ℕ) (first : TextFault) (e : Failure) → IsFirst bytes first → IsContentFailure (λ f. of_text first ≡ Some f) name e
+pub text_refused : (bytes name : List ℕ) (first : TextFault) (e : Failure) → IsFirst bytes first → IsContentFailure (IsContentFault (Text first)) name e
     → IsContentFailure (IsNoFirmware bytes) name e
 text_refused bytes name first e h =
-    content_also (λ f. of_text first ≡ Some f) (IsNoFirmware bytes) (λ f q. no_text f (record { first = first; found = h; named = q })) name e
+    content_also (IsContentFault (Text first)) (IsNoFirmware bytes) (λ f q. no_text f (record { first = first; found = h; named = q })) name e
 
-not_typed : (w : PlainFirmware) (bytes : List ℕ) (fault : CheckFault) (f : Fault) → firmwares.IsText w bytes → IsFaultOf w fault → of_check fault ≡ Some f → IsNoFirmware bytes f
+not_typed : (w : PlainFirmware) (bytes : List ℕ) (fault : CheckFault) (f : Fault) → firmwares.IsText w bytes → IsFaultOf w fault → IsContentFault (Check fault) f → IsNoFirmware bytes f
 not_typed w bytes (At kind place) f t h q =
-    let e : IllTyped kind place ≡ f = cc in subst (IsNoFirmware bytes) e (ill_typed kind place (record { firmware = w; is_text = t; found = h }))
-not_typed w bytes WantOfMemory f t h q = let g : ⊥ = cc in absurd g
+    subst (IsNoFirmware bytes) (sym q.0) (ill_typed kind place (record { firmware = w; is_text = t; found = h }))
+not_typed w bytes WantOfMemory f t h q = let wrong : true ≡ false = q.1 in cc
 
 -- and so is the text of a firmware of which a check fails
 pub check_refused : (w : PlainFirmware) (bytes name : List ℕ) (fault : CheckFault) (e : Failure) → firmwares.IsText w bytes → IsFaultOf w fault
-    → IsContentFailure (λ f. of_check fault ≡ Some f) name e → IsContentFailure (IsNoFirmware bytes) name e
+    → IsContentFailure (IsContentFault (Check fault)) name e → IsContentFailure (IsNoFirmware bytes) name e
 check_refused w bytes name fault e t h =
-    content_also (λ f. of_check fault ≡ Some f) (IsNoFirmware bytes) (λ f q. not_typed w bytes fault f t h q) name e
+    content_also (IsContentFault (Check fault)) (IsNoFirmware bytes) (λ f q. not_typed w bytes fault f t h q) name e
 
 abbrev functions : List FileDecl → List Func
 functions fs = flat_map (λ (f : FileDecl). f.funcs) fs

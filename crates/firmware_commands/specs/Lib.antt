@@ -1,4 +1,3 @@
 pub mod Firmwares
 pub mod Counts
 pub mod Answers
-pub mod Checks

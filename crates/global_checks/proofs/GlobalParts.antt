@@ -1,5 +1,5 @@
 -- A global's checks in parts.
-use Rattle.std.proofs.Common.{◌≡◌, ℕ, zero, suc, ◌+◌, ◌<◌, ◌≤◌, Bool, true, false, List, [], ◌∷◌, ◌++◌, None, map, take, drop, get_or, ◌⊎◌, inl, inr, length, refl, sym, ap, ◌∙◌, subst, arith, nat_le, Bor}
+use Rattle.std.proofs.Common.{◌≡◌, ℕ, zero, suc, ◌+◌, ◌<◌, ◌≤◌, true, List, [], ◌∷◌, ◌++◌, map, take, drop, get_or, ◌⊎◌, inl, inr, length, refl, sym, ap, ◌∙◌, arith, nat_le, Bor}
 use Rattle.std.proofs.lemmas.Bool.{cases_lt}
 use Rattle.std.proofs.lemmas.Bool.Decides.{nat_tests}
 use Rattle.std.proofs.lemmas.List.{length-map, take_all, length-take-le}
@@ -11,10 +11,7 @@ use Rattle.ir_model.specs.declared.check.Place.TheVariants as place
 use Rattle.ir_model.specs.Types.{PlainType, type_of}
 use Rattle.ir_model.specs.Plain.{PlainStruct, PlainGlobal, PlainFirmware}
 use Rattle.ir_model.specs.Layout.{CellPlace, known, shape}
-use Rattle.ir_model.specs.Typing.{Checks, check, first_failing, global_checks, init_checks, cell_checks}
-use Rattle.check_faults.specs.declared.fault.CheckFault.{CheckFault}
-use Rattle.check_faults.specs.declared.fault.CheckFault.TheVariants.{NoMemory, At}
-use Rattle.check_faults.specs.Found.{Refused, IsFault}
+use Rattle.ir_model.specs.Typing.{check, global_checks, init_checks, cell_checks}
 use Rattle.cells.specs.Cells.{lent_types}
 use Rattle.global_checks.specs.Parts.{named_check, cells_part, values_checks, values_part, global_part}
 use Rattle.check_faults.proofs.Regrouped.{regroup}
@@ -46,40 +43,6 @@ cells_parts w p cs t ts e =
     ap (λ n. check (nat_le (length cs) n) BadInit p ∷ init_checks w p cs (shape (known w.structs) t).cells) (sym (length-map (shape (known w.structs) t).cells (λ (c : CellPlace). c.ty)))
     ∙ (ap (λ xs. check (nat_le (length cs) (length us)) BadInit p ∷ xs) (values_same w p cs (shape (known w.structs) t).cells ∙ sym (values_taken w p cs us))
     ∙ (ap (λ b. check b BadInit p ∷ values_checks w p cs (take (length cs) us)) (sym (length_taken (length cs) us)) ∙ ap (λ us. values_part w p cs us) (sym e)))
-
-no_values_pick : (w : PlainFirmware) (p : Place) (b : Bool) → true ≡ b → first_failing (check b BadInit p ∷ []) ≡ None
-no_values_pick w p b e = subst (λ c. first_failing (check c BadInit p ∷ []) ≡ None) e refl
-
-pub no_values : (w : PlainFirmware) (p : Place) (cs : List Cell) (t : PlainType) → length cs ≡ 0 → first_failing (cells_part w p cs t) ≡ None
-no_values w p [] t e = let l : 0 ≤ length (shape (known w.structs) t).cells = omega arith in let q : true ≡ nat_le 0 (length (shape (known w.structs) t).cells) = grind (arith, nat_tests) in no_values_pick w p (nat_le 0 (length (shape (known w.structs) t).cells)) q
-no_values w p (c ∷ cs) t e = absurd (omega arith)
-
--- more values than cells
-too_many_pick : (p : Place) (b : Bool) (vs : Checks) (e : CheckFault) → b ≡ false → IsFault e BadInit p → Refused (check b BadInit p ∷ vs) e
-too_many_pick p b vs NoMemory h f = tt
-too_many_pick p true vs (At k q) h f = cc
-too_many_pick p false vs (At k q) h f = let a = f.0 in let b = f.1 in cc
-
-pub too_many : (w : PlainFirmware) (p : Place) (cs : List Cell) (ts : List (Bor Ty)) (e : CheckFault) → length ts < length cs → IsFault e BadInit p → Refused (values_part w p cs (lent_types ts)) e
-too_many w p cs ts e l f =
-    let n : length ts ≡ length (lent_types ts) = sym (length-map ts (λ (t : Bor Ty). type_of t.now)) in
-    let m : length (lent_types ts) < length cs = omega arith in
-    let q : nat_le (length cs) (length (lent_types ts)) ≡ false = grind (arith, nat_tests) in
-    too_many_pick p (nat_le (length cs) (length (lent_types ts))) (values_checks w p cs (lent_types ts)) e q f
-
-enough : (w : PlainFirmware) (p : Place) (cs : List Cell) (ts : List (Bor Ty)) → length cs ≤ length ts → values_part w p cs (lent_types ts) ≡ None ∷ values_checks w p cs (lent_types ts)
-enough w p cs ts l =
-    let n : length ts ≡ length (lent_types ts) = sym (length-map ts (λ (t : Bor Ty). type_of t.now)) in
-    let m : length cs ≤ length (lent_types ts) = omega arith in
-    let q : nat_le (length cs) (length (lent_types ts)) ≡ true = grind (arith, nat_tests) in
-    ap (λ b. check b BadInit p ∷ values_checks w p cs (lent_types ts)) q
-
-pub enough_refused : (w : PlainFirmware) (p : Place) (cs : List Cell) (ts : List (Bor Ty)) (e : CheckFault) → length cs ≤ length ts → Refused (values_checks w p cs (lent_types ts)) e → Refused (values_part w p cs (lent_types ts)) e
-enough_refused w p cs ts NoMemory l h = tt
-enough_refused w p cs ts (At k q) l h = ap first_failing (enough w p cs ts l) ∙ h
-
-pub enough_passes : (w : PlainFirmware) (p : Place) (cs : List Cell) (ts : List (Bor Ty)) → length cs ≤ length ts → first_failing (values_checks w p cs (lent_types ts)) ≡ None → first_failing (values_part w p cs (lent_types ts)) ≡ None
-enough_passes w p cs ts l h = ap first_failing (enough w p cs ts l) ∙ h
 
 pub values_next : (w : PlainFirmware) (p : Place) (cs : List Cell) (ts : List (Bor Ty)) (i : ℕ) (x : Cell) (y : Bor Ty) → i < length cs → i < length ts → x ≡ get_or cs i x → y ≡ get_or ts i y
     → values_checks w p (drop i cs) (lent_types (drop i ts)) ≡ cell_checks w p x (type_of y.now) ++ values_checks w p (drop (i + 1) cs) (lent_types (drop (i + 1) ts))

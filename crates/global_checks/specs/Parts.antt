@@ -1,23 +1,15 @@
 -- Beyond the program's claim: only laws, proofs and functions inside the tool cite this file.
 -- The checks of a global, one part among others.
-use Rattle.std.specs.Prelude.{ℕ, List, [], ◌∷◌, ◌++◌, map, nat_le, length, Bool, if◌then◌else◌}
+use Rattle.std.specs.Prelude.{ℕ, List, [], ◌∷◌, ◌++◌, nat_le, length}
 use Rattle.ir_model.specs.declared.check.CheckKind.TheVariants.{BadInit}
 use Rattle.ir_model.specs.declared.check.Place.{Place}
 use Rattle.ir_model.specs.declared.check.Place.TheVariants as place
-use Rattle.ir_model.specs.declared.firmware.Peripheral.{Peripheral}
 use Rattle.ir_model.specs.declared.firmware.Cell.{Cell}
 use Rattle.ir_model.specs.Types.{PlainType}
 use Rattle.ir_model.specs.Plain.{PlainGlobal, PlainFirmware}
 use Rattle.ir_model.specs.Layout.{known, shape}
-use Rattle.names.specs.Numbers.{has}
-use Rattle.ir_model.specs.Rules.{is_port, is_address, global_type}
 use Rattle.ir_model.specs.Typing.{init_checks, cell_checks, Checks, check, is_new, type_checks}
 use Rattle.check_scopes.specs.Parts.{size_check}
-
--- the address of a global or a peripheral
-abbrev pub address_fits : PlainFirmware → List ℕ → PlainType → Bool
-address_fits w x t =
-    if has (map (λ (q : Peripheral). q.name) w.periphs) x then is_port t else is_address (global_type w.globals x) t
 
 -- a global's name and type, and its first values
 abbrev pub named_check : (declared seen : List (List ℕ)) → PlainGlobal → Checks

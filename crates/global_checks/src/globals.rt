@@ -1,14 +1,13 @@
 //! Globals.
 
-ghost use Rattle.std.specs.Prelude.{◌≡◌, ◌&&◌, ◌++◌, ◌∷◌, [], ◌≤◌, ◌<◌, ◌^◌, ◌*◌, map, length, nat_lt, OnOk};
-ghost use Rattle.ir_model.specs.Types as types;
+ghost use Rattle.std.specs.Prelude.{◌≡◌, ◌++◌, ◌∷◌, [], ◌≤◌, map, length, OnOk};
 ghost use Rattle.ir_model.specs.Types.{type_of};
 ghost use Rattle.ir_model.specs.Plain.{global_of, firmware_of};
 ghost use Rattle.ir_model.specs.Typing.{cell_checks, globals_checks};
 ghost use Rattle.check_faults.specs.Found.{Finds};
 ghost use Rattle.check_faults.specs.Spots.{place_of};
 ghost use Rattle.cells.specs.Cells.{lent_types};
-ghost use Rattle.global_checks.specs.Parts.{address_fits, cells_part, values_checks, values_part, named_check, global_part};
+ghost use Rattle.global_checks.specs.Parts.{cells_part, values_checks, values_part, named_check, global_part};
 ghost use Rattle.check_scopes.specs.Scopes.{IsScope};
 
 use cells::put_cell_types;
@@ -17,9 +16,9 @@ use check_faults::new_names::add_new;
 use check_faults::type_names::type_names;
 use check_faults::{CheckFault, Spot};
 use check_scopes::Scope;
-use check_scopes::kinds::{is_port, points_to};
-use check_scopes::lookup::{global_named, is_function};
+use check_scopes::lookup::is_function;
 use check_scopes::sizes::object_size;
+use check_scopes::values::{holds_address, holds_number};
 use firmware_names::periph_names;
 use ir_model::check::CheckKind;
 use ir_model::firmware::{Cell, Global as GlobalDecl};
@@ -28,34 +27,7 @@ use name_tables::Names;
 use names::Name;
 use std::alloc::Global;
 
-fn holds_number(ty: &Ty, number: u32) -> bool
-    ensures { result ≡ (types.is_integer (type_of ty.now) && nat_lt number (2 ^ (8 * types.width_of (type_of ty.now)))) }
-{
-    match ty {
-        Ty::U8 => number < 256,
-        Ty::U16 => number < 65_536,
-        Ty::U32 => true,
-        Ty::Ptr(_) => false,
-        Ty::Array(_, _) => false,
-        Ty::Named(_) => false,
-        Ty::Callee(_) => false,
-    }
-}
-
-fn is_address(scope: &Scope, name: &Name, ty: &Ty) -> bool
-    requires { IsScope scope.now }
-    ensures { result ≡ address_fits (firmware_of scope.now.firmware.now) name.now (type_of ty.now) }
-{
-    if scope.periphs.has(name) {
-        return is_port(ty);
-    }
-    match global_named(scope, name) {
-        None => false,
-        Some(target) => points_to(ty, target),
-    }
-}
-
-#[tactic(auto, using(check_faults::proofs::Order::refused_one, check_faults::proofs::Order::refused_behind, check_faults::proofs::Order::first_behind))]
+#[tactic(auto, using(check_faults::proofs::Order::checks_behind_one))]
 fn function_cell(scope: &Scope, spot: Spot, name: &Name, ty: &Ty) -> Result<(), CheckFault>
     requires { IsScope scope.now }
     ensures { Finds (cell_checks (firmware_of scope.now.firmware.now) (place_of spot.entry) (Cell.Function name.now) (type_of ty.now)) result }
@@ -65,14 +37,14 @@ fn function_cell(scope: &Scope, spot: Spot, name: &Name, ty: &Ty) -> Result<(), 
     Ok(())
 }
 
-#[tactic(auto, using(check_faults::proofs::Order::refused_one, check_faults::proofs::Order::refused_behind, check_faults::proofs::Order::first_behind))]
+#[tactic(auto, using(check_faults::proofs::Order::checks_behind_one))]
 fn address_cell(scope: &Scope, spot: Spot, name: &Name, ty: &Ty) -> Result<(), CheckFault>
     requires { IsScope scope.now }
     ensures { Finds (cell_checks (firmware_of scope.now.firmware.now) (place_of spot.entry) (Cell.Address name.now) (type_of ty.now)) result }
 {
     let known = scope.periphs.has(name) || scope.globals.has(name);
     require_known(known, name, spot)?;
-    require(is_address(scope, name, ty), CheckKind::BadInit, spot)?;
+    require(holds_address(scope, name, ty), CheckKind::BadInit, spot)?;
     Ok(())
 }
 
@@ -128,7 +100,7 @@ fn first_values<'a>(
     Ok(())
 }
 
-#[tactic(auto, using(check_faults::proofs::Order::refused_left, check_faults::proofs::Order::refused_right, check_faults::proofs::Order::first_stays, check_faults::proofs::Order::first_append, check_faults::proofs::Order::refused_one, check_faults::proofs::Order::refused_behind, check_faults::proofs::Order::first_behind))]
+#[tactic(auto, using(check_faults::proofs::Order::checks_in_order, check_faults::proofs::Order::checks_behind_one))]
 fn named<'a>(scope: &Scope, seen: &mut Names<'a>, global: &'a GlobalDecl) -> Result<(), CheckFault>
     ensures finds { Finds (named_check scope.now.structs seen.old (global_of global.now)) result }
     ensures grows { OnOk result (seen.new ≡ seen.old ++ global.now.name ∷ []) }
@@ -139,7 +111,7 @@ fn named<'a>(scope: &Scope, seen: &mut Names<'a>, global: &'a GlobalDecl) -> Res
     Ok(())
 }
 
-#[tactic(auto, using(check_faults::proofs::Order::refused_left, check_faults::proofs::Order::refused_right, check_faults::proofs::Order::first_stays, check_faults::proofs::Order::first_append))]
+#[tactic(auto, using(check_faults::proofs::Order::checks_in_order))]
 fn global<'a>(
     alloc: Global,
     scope: &Scope<'a>,

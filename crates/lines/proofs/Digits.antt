@@ -7,8 +7,8 @@ pub decimal_length : (n : ℕ) → 10 ≤ n → n < 2 ^ 64 → length (decimal n
 decimal_length n h k = ap length (decimal_step n h k) ∙ length-append (decimal (n / 10)) ((48 + n % 10) ∷ [])
 
 -- the digits but the last leave room for it
-pub room_for_last : (old mid : List ℕ) (n : ℕ) → 10 ≤ n → n < 2 ^ 64 → length old + length (decimal n) ≤ 136
-    → mid ≡ old ++ decimal (n / 10) → length mid < 136
+pub room_for_last : (old mid : List ℕ) (n : ℕ) → 10 ≤ n → n < 2 ^ 64 → length old + length (decimal n) ≤ 256
+    → mid ≡ old ++ decimal (n / 10) → length mid < 256
 room_for_last old mid n h k room e =
     omega (arith, decimal_length n h k, ap length e, length-append old (decimal (n / 10)))
 
@@ -19,6 +19,3 @@ with_last old mid new n h k e f = rw (f, e, decimal_step n h k) (append_assoc ol
 
 pub decimal_short : (n : ℕ) → n < 2 ^ 64 → length (decimal n) ≤ 20
 decimal_short n h = length-decimal-le 20 n (omega arith) (omega arith) h
-
-pub length_behind : (old new : List ℕ) (n : ℕ) → n < 2 ^ 64 → new ≡ old ++ decimal n → length new ≤ length old + 20
-length_behind old new n h e = omega (arith, decimal_short n h, ap length e, length-append old (decimal n))

@@ -1,2 +1,2 @@
-pub mod Digits
+mod Digits
 mod Joined

@@ -1,14 +1,17 @@
 //! The printed lines of events, of the ends of runs and of counts, in a buffer of fixed room.
 #![tactic(auto)]
 
-ghost use Rattle.std.specs.Prelude.{◌≡◌, ◌<◌, ◌≤◌, ◌+◌, ◌++◌, ◌∷◌, [], length, false};
-ghost use Rattle.std.specs.Fmt.{decimal, digit_glyph};
+pub mod numbers;
+
+ghost use Rattle.std.specs.Prelude.{◌≡◌, ◌<◌, ◌≤◌, ◌+◌, ◌++◌, [], length};
+ghost use Rattle.std.specs.Fmt.{decimal};
 ghost use Rattle.lines.specs.Lines as lines;
 
 use armv7m::state::{End, StopReason};
 use arrayvec::ArrayVec;
 use device_model::image::Window;
 use events::event::Event;
+use numbers::{decimal_digits, hexadecimal_digits};
 use std::marker::Model;
 
 /// The room for a line, in bytes. That of an event has at most 131: twenty for the digits of the compartment, seven bytes
@@ -28,18 +31,6 @@ impl Model for Line {
     ghost Value = { List ℕ };
 
     ghost view = { λ l. l.bytes.items };
-}
-
-/// A lower-case hexadecimal digit.
-fn digit(value: u8) -> u8
-    requires { value < 16 }
-    ensures { result ≡ digit_glyph false value }
-{
-    if value < 10 {
-        b'0' + value
-    } else {
-        b'a' - 10 + value
-    }
 }
 
 /// How a line names the direction of an access.
@@ -101,50 +92,22 @@ impl Line {
         let _ = self.bytes.try_extend_from_slice(bytes);
     }
 
-    /// Puts one byte behind those that are there.
-    fn append_byte(&mut self, byte: u8)
-        requires { length self.old < 136 }
-        ensures bytes { self.new ≡ self.old ++ byte ∷ [] }
-        ensures length { length self.new ≡ length self.old + 1 }
-    {
-        self.bytes.push(byte);
-    }
-
     /// Puts so many hexadecimal digits of a number behind the bytes that are there.
-    #[tactic(auto, unfolding(crate::specs::Lines::hexadecimal))]
     fn append_hexadecimal(&mut self, count: u8, number: u32)
         requires { length self.old + count ≤ 136 }
         ensures bytes { self.new ≡ self.old ++ lines.hexadecimal count number }
         ensures length { length self.new ≡ length self.old + count }
     {
-        if count == 0 {
-            return;
-        }
-        self.append_hexadecimal(count - 1, number / 16);
-        self.append_byte(digit((number % 16) as u8));
-    }
-
-    /// Puts the decimal digits of a number behind the bytes that are there.
-    #[tactic(auto, using(std::proofs::lemmas::Fmt::decimal_digit, crate::proofs::Digits::decimal_length))]
-    fn append_digits(&mut self, number: u64)
-        requires { length self.old + length (decimal number) ≤ 136 }
-        ensures { self.new ≡ self.old ++ decimal number }
-    {
-        if number < 10 {
-            return self.append_byte(b'0' + number as u8);
-        }
-        self.append_digits(number / 10);
-        self.append_byte(b'0' + (number % 10) as u8);
+        self.append(hexadecimal_digits(count, number).as_slice());
     }
 
     /// Puts a number, which has at most twenty decimal digits, behind the bytes that are there.
-    #[tactic(auto, using(crate::proofs::Digits::decimal_short))]
     fn append_decimal(&mut self, number: u64)
         requires { length self.old + 20 ≤ 136 }
         ensures bytes { self.new ≡ self.old ++ decimal number }
         ensures length { length self.new ≤ length self.old + 20 }
     {
-        self.append_digits(number);
+        self.append(decimal_digits(number).as_slice());
     }
 }
 

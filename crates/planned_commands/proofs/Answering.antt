@@ -51,12 +51,6 @@ pub symbols_write_nothing : (firmware board : List ℕ) (policy : Policy) (bytes
 symbols_write_nothing firmware board policy bytes text o (answers.untold p h) = plan_writes_nothing firmware board policy bytes text o h
 symbols_write_nothing firmware board policy bytes text o (answers.told w b lines h k l) = refl
 
--- and where nothing refuses a plan, they are done
-pub symbols_done : (firmware board : List ℕ) (policy : Policy) (bytes t : List ℕ) (o : Outcome) → ((p : Outcome) → PlanAnswer firmware board policy bytes t p → ⊥)
-    → SymbolsAnswer firmware board policy bytes t o → o.status ≡ 0
-symbols_done firmware board policy bytes t o none (answers.untold p h) = absurd (none o h)
-symbols_done firmware board policy bytes t o none (answers.told w b lines h k l) = refl
-
 pub stack_writes_nothing : (firmware board : List ℕ) (policy : Policy) (bytes text : List ℕ) (o : Outcome) → StackAnswers firmware board policy bytes text o → o.written ≡ None
 stack_writes_nothing firmware board policy bytes text o (answers.no_firmware f h) = refl
 stack_writes_nothing firmware board policy bytes text o (answers.no_board w f h k) = refl

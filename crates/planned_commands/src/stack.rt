@@ -1,8 +1,8 @@
 //! `stack`: the bound on the stack of a firmware on a board.
 
-ghost use Rattle.std.specs.Prelude.{◌≡◌, ◌≤◌, None, Ok, IfOk, IfErr, length};
+ghost use Rattle.std.specs.Prelude.{◌≡◌, ◌≤◌, Ok, IfOk, IfErr, length};
 ghost use Rattle.aces_words.specs.Requests.{Stack, firmware_limit};
-ghost use Rattle.commands.specs.Outcomes.{done};
+ghost use Rattle.commands.specs.Tellings.{told_outcome};
 ghost use Rattle.commands.specs.Loads.{IsRefusal};
 ghost use Rattle.commands.specs.CarriesOut.{CarriesOut};
 ghost use Rattle.firmware_stacks.specs.Lines.{stack_status};
@@ -15,19 +15,13 @@ use aces_reports::{Done, Failure};
 use plan_model::Policy;
 use commands::failure::planning_failure;
 use commands::loading::board_of;
+use commands::telling::Told;
 use firmware_commands::reading::firmware_of;
 use firmware_stacks::stack_of;
 use firmware_stacks::telling::stack_lines;
 use outside::{Files, Sink};
 use stack_paths::answer::StackAnswer;
 use std::alloc::Global;
-
-/// What is printed of a firmware's stack, and how the command ends.
-#[derive(Drop)]
-struct Told {
-    lines: Vec<u8>,
-    done: Done,
-}
 
 /// Prints how many bytes of a board's stack the calls of a firmware need by a policy, and by which path; or the functions that call each other in
 /// turn, for which there is no bound.
@@ -63,7 +57,7 @@ fn bounded<'a>(
     policy: Policy,
 ) -> Result<Told, Failure<'a>>
     requires { length bytes.now ≤ firmware_limit }
-    ensures ok { IfOk result (λ told. StackAnswers firmware.now board.now policy bytes.now text.now (done (status_of (Ok told.done)) told.lines.items None)) }
+    ensures ok { IfOk result (λ told. StackAnswers firmware.now board.now policy bytes.now text.now (told_outcome told)) }
     ensures err { IfErr result (IsRefusal (StackAnswers firmware.now board.now policy bytes.now text.now)) }
 {
     let checked = firmware_of(alloc, firmware, bytes)?;

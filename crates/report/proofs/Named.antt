@@ -89,16 +89,6 @@ pub first_of_files : (files : List FileDecl) (file : FileDecl) (n : ℕ) (f : Fu
 first_of_files [] file n f some e l is = absurd (omega arith)
 first_of_files (x ∷ xs) file n f some e l is = subst (λ (y : FileDecl). names_in (func_of f) ≡ func_names_in (map file_of (y ∷ xs)) n) e (in_first file xs n f l is)
 
--- and one that stands in another
-pub in_later : (file : FileDecl) (more : List FileDecl) (n : ℕ) → length file.funcs ≤ n
-    → func_names_in (map file_of more) (n - length file.funcs) ≡ func_names_in (map file_of (file ∷ more)) n
-in_later file more n l =
-    let mine : List PlainFunc = map func_of file.funcs in
-    let rest : List PlainFunc = flat_map (λ (d : PlainFile). d.funcs) (map file_of more) in
-    let size : length (map names_in mine) ≡ length file.funcs = length-map mine names_in ∙ length-map file.funcs func_of in
-    sym (ap (λ fs. get_or fs n no_func_names) (map-append names_in mine rest)
-    ∙ get_or-append_right (map names_in mine) (map names_in rest) (length file.funcs) n no_func_names size l)
-
 less : (mask bit : ℕ) → mask < 2 ^ 32 → 32 ≤ bit → mask < 2 ^ bit
 less mask bit m b = let up : 2 ^ 32 ≤ 2 ^ bit = pow-le-pow_right {n = 2} (omega arith) b in omega (arith, m, up)
 

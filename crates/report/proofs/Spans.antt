@@ -66,10 +66,6 @@ first_more xs i x d a e f g l is before now =
     now ∙ ap (λ n. a + undeclared_from (span_of x ∷ []) a n) count
     ∙ ap (λ n. a + n) (sym (either (is_declared (map span_of (take i xs))) (is_declared (span_of x ∷ [])) (is_declared (map span_of (take (i + 1) xs))) a (e - a) (more xs i x d l is)))
 
-pub none_more : (xs : List Span) (i : ℕ) (x d : Span) (a : ℕ) → i < length xs → x ≡ get_or xs i d
-    → is_declared (map span_of (take i xs)) a ≡ false → is_among x.base x.size a ≡ false → is_declared (map span_of (take (i + 1) xs)) a ≡ false
-none_more xs i x d a l e before now = more xs i x d l e a ∙ or_from (is_declared (map span_of (take i xs)) a) (is_declared (span_of x ∷ []) a) before (one (span_of x) a now)
-
 -- ---- a window of them has the address
 
 pub declared_at : (xs : List Span) (i : ℕ) (x d : Span) (a : ℕ) → i < length xs → x ≡ get_or xs i d → is_among x.base x.size a ≡ true → is_declared (map span_of xs) a ≡ true

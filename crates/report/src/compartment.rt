@@ -1,7 +1,7 @@
 //! The lines of a compartment.
 
 ghost use Rattle.std.specs.Prelude.{◌≡◌, ◌++◌, OnOk, length, nat_eq};
-ghost use Rattle.plan_model.specs.Groups.{compartment_of};
+ghost use Rattle.plan_model.specs.Groups as groups_of;
 ghost use Rattle.plan_model.specs.Placement as placement;
 ghost use Rattle.report.specs.CompartmentLines as lines;
 ghost use Rattle.report.specs.Subjects.{subject_of};
@@ -12,8 +12,8 @@ use crate::naming::put_func;
 use crate::slots::put_slots;
 use crate::subject::Subject;
 use crate::text::Text;
-use crate::totals::compartment_at;
 use crate::undeclared::put_undeclared;
+use plan_crossings::compartment_of;
 use plan_model::groups::Groups;
 use plan_model::plan::{Plan, Spot};
 use std::alloc::{AllocError, Global};
@@ -51,9 +51,9 @@ fn put_function(text: &mut Text, subject: &Subject<'_>, func: u32) -> Result<(),
 
 /// Whether a function stands in a compartment.
 fn stands_in(groups: &Groups, func: u32, compartment: u32) -> bool
-    ensures { result ≡ nat_eq (compartment_of groups.now func) compartment }
+    ensures { result ≡ nat_eq (groups_of.compartment_of groups.now func) compartment }
 {
-    compartment_at(groups, func) == compartment
+    compartment_of(groups, func) == compartment
 }
 
 /// Puts the lines of a compartment's functions.

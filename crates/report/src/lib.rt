@@ -10,5 +10,5 @@ pub mod naming;
 pub mod slots;
 pub mod subject;
 pub mod text;
-pub mod totals;
+mod totals;
 pub mod undeclared;

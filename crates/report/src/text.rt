@@ -1,10 +1,11 @@
 //! A text that grows.
 
-ghost use Rattle.std.specs.Prelude.{◌≡◌, ◌<◌, ◌++◌, ◌∷◌, [], length, codes, false, IfOk, OnOk};
-ghost use Rattle.std.specs.Fmt.{decimal, digit_glyph};
+ghost use Rattle.std.specs.Prelude.{◌≡◌, ◌++◌, [], OnOk};
+ghost use Rattle.std.specs.Fmt.{decimal};
 ghost use Rattle.lines.specs.Lines.{hexadecimal};
 ghost use Rattle.report.specs.Names.{range_text};
 
+use lines::numbers::{decimal_digits, hexadecimal_digits};
 use std::alloc::{AllocError, Global};
 use std::marker::Model;
 
@@ -20,18 +21,6 @@ impl Model for Text {
     ghost Value = { List ℕ };
 
     ghost view = { λ t. t.bytes.items };
-}
-
-/// A lower-case hexadecimal digit.
-fn digit(value: u8) -> u8
-    requires { value < 16 }
-    ensures { result ≡ digit_glyph false value }
-{
-    if value < 10 {
-        b'0' + value
-    } else {
-        b'a' - 10 + value
-    }
 }
 
 impl Text {
@@ -64,27 +53,15 @@ impl Text {
         Ok(())
     }
 
-    fn put_byte(&mut self, byte: u8) -> Result<(), AllocError>
-        ensures { OnOk result (self.new ≡ self.old ++ byte ∷ []) }
-    {
-        self.bytes.push(byte)?;
-        Ok(())
-    }
-
     /// Puts the decimal digits of a number behind the bytes that are there.
     ///
     /// # Errors
     ///
     /// There is no memory for them.
-    #[tactic(auto, using(std::proofs::lemmas::Fmt::decimal_digit, lines::proofs::Digits::with_last))]
     pub fn put_decimal(&mut self, number: u64) -> Result<(), AllocError>
         ensures { OnOk result (self.new ≡ self.old ++ decimal number) }
     {
-        if number < 10 {
-            return self.put_byte(b'0' + number as u8);
-        }
-        self.put_decimal(number / 10)?;
-        self.put_byte(b'0' + (number % 10) as u8)
+        self.put(decimal_digits(number).as_slice())
     }
 
     /// Puts so many hexadecimal digits of a number behind the bytes that are there.
@@ -92,15 +69,10 @@ impl Text {
     /// # Errors
     ///
     /// There is no memory for them.
-    #[tactic(auto, unfolding(lines::specs::Lines::hexadecimal))]
     pub fn put_hexadecimal(&mut self, count: u8, number: u32) -> Result<(), AllocError>
         ensures { OnOk result (self.new ≡ self.old ++ hexadecimal count number) }
     {
-        if count == 0 {
-            return Ok(());
-        }
-        self.put_hexadecimal(count - 1, number / 16)?;
-        self.put_byte(digit((number % 16) as u8))
+        self.put(hexadecimal_digits(count, number).as_slice())
     }
 
     /// Puts a range of addresses behind the bytes that are there: its base in eight digits, and its size.

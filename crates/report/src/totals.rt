@@ -2,41 +2,17 @@
 
 ghost use Rattle.std.specs.Prelude.{◌≡◌, ◌++◌, OnOk, IfOk, length, filter};
 ghost use Rattle.plan_model.specs.Crossing as crossing;
-ghost use Rattle.plan_model.specs.Groups.{compartment_of};
 ghost use Rattle.report.specs.Listing as listing;
 ghost use Rattle.report.specs.Subjects.{subject_of};
 
 use crate::exposure::sum;
 use crate::subject::Subject;
 use crate::text::Text;
+use plan_crossings::crosses;
 use plan_model::groups::Groups;
 use plan_model::needs::SiteNeed;
 use plan_model::plan::{Plan, Spot};
 use std::alloc::AllocError;
-
-/// The compartment of a function; of one that is not there, 0.
-pub fn compartment_at(groups: &Groups, func: u32) -> u32
-    ensures { result ≡ compartment_of groups.now func }
-{
-    match groups.of.as_slice().get(func as usize) {
-        Some(compartment) => *compartment,
-        None => 0,
-    }
-}
-
-/// Whether a call may go to another compartment.
-pub fn crosses(groups: &Groups, site: &SiteNeed) -> bool
-    ensures { result ≡ crossing.crosses groups.now site.now }
-{
-    let from = compartment_at(groups, site.func);
-    let targets = site.targets.as_slice();
-    for i in 0..targets.len() {
-        if compartment_at(groups, targets[i]) != from {
-            return true;
-        }
-    }
-    false
-}
 
 /// The crossing sites among some calls, and all targets of these.
 #[derive(Clone, Copy)]

@@ -23,7 +23,7 @@ use Rattle.counted_runs.specs.declared.machines.MachineCount.{MachineCount}
 use Rattle.counted_runs.specs.Counts.{IsSourceCount, IsMachineCount}
 use Rattle.selftest.specs.declared.runs.SourceTest.{SourceTest}
 use Rattle.selftest.specs.declared.testing.Tested.{Tested}
-use Rattle.selftest.specs.declared.telling.Told.{Told}
+use Rattle.commands.specs.declared.telling.Told.{Told}
 use Rattle.selftest.specs.Lines.{Ran, AreAlike, firmware_line, division_line, verdict_status, test_lines}
 use Rattle.selftest.specs.Answers.{source_limit, IsTestImage, groups_of, source_ran, image_ran, lines_of, SelftestAnswer, tested}
 use Rattle.selftest.specs.Tested.{IsSourceTest, source_seen, image_seen, IsTested, IsTold}

@@ -20,7 +20,7 @@ use Rattle.counted_runs.specs.declared.machines.MachineCount.{MachineCount}
 use Rattle.counted_runs.specs.Counts.{IsSourceCount}
 use Rattle.selftest.specs.declared.runs.SourceTest.{SourceTest}
 use Rattle.selftest.specs.declared.testing.Tested.{Tested}
-use Rattle.selftest.specs.declared.telling.Told.{Told}
+use Rattle.commands.specs.declared.telling.Told.{Told}
 use Rattle.selftest.specs.Lines.{Ran, AreAlike, firmware_line, division_line, test_lines, verdict_status}
 use Rattle.selftest.specs.Answers.{source_limit, IsTestImage, groups_of, TakeSteps, source_ran, image_ran}
 

@@ -7,5 +7,5 @@ pub mod printing;
 mod runs;
 pub mod selftesting;
 mod tables;
-pub mod telling;
+mod telling;
 mod testing;

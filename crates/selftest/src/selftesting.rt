@@ -1,19 +1,19 @@
 //! A self-test whole: from a seed and a size to its lines.
 
-ghost use Rattle.std.specs.Prelude.{◌≡◌, ◌≤◌, None, Ok, IfOk, IfErr};
+ghost use Rattle.std.specs.Prelude.{◌≡◌, ◌≤◌, IfOk, IfErr};
 ghost use Rattle.ir_model.specs.Plain.{firmware_of};
 ghost use Rattle.ir_generator.specs.Made.{made};
-ghost use Rattle.aces_reports.specs.Ends.{status_of};
 ghost use Rattle.commands.specs.Loads.{IsRefusal};
-ghost use Rattle.commands.specs.Outcomes.{done};
+ghost use Rattle.commands.specs.Tellings.{told_outcome};
 ghost use Rattle.selftest.specs.Answers.{SelftestAnswer, IsTestImage};
 
 use crate::board::test_board;
-use crate::telling::{Told, tell};
+use crate::telling::tell;
 use crate::testing::test;
 use aces_reports::Failure;
 use plan_model::Policy;
 use commands::failure::planning_failure;
+use commands::telling::Told;
 use compiler::compile_by;
 use device_model::image::Image;
 use generated_firmwares::checked;
@@ -31,7 +31,7 @@ fn compared(
     requires most { size ≤ 200 }
     requires firmware { firmware_of firmware.now ≡ made seed size }
     requires image { IsTestImage seed size image.now }
-    ensures { IfOk result (λ told. SelftestAnswer seed size (done (status_of (Ok told.done)) told.lines.items None)) }
+    ensures { IfOk result (λ told. SelftestAnswer seed size (told_outcome told)) }
 {
     let tested = test(alloc, seed, size, firmware, image)?;
     tell(alloc, firmware.firmware(), &tested)
@@ -47,7 +47,7 @@ fn compared(
 pub fn selftest<'a>(alloc: Global, seed: u32, size: u32) -> Result<Told, Failure<'a>>
     requires least { 1 ≤ size }
     requires most { size ≤ 200 }
-    ensures ok { IfOk result (λ told. SelftestAnswer seed size (done (status_of (Ok told.done)) told.lines.items None)) }
+    ensures ok { IfOk result (λ told. SelftestAnswer seed size (told_outcome told)) }
     ensures err { IfErr result (IsRefusal (SelftestAnswer seed size)) }
 {
     let firmware = checked(alloc, seed, size)?;

@@ -14,21 +14,13 @@ ghost use Rattle.selftest.specs.Tested.{source_seen, image_seen, IsTold};
 use crate::testing::Tested;
 use aces_reports::Done;
 use armv7m::state::End;
+use commands::telling::Told;
 use events::event::Event;
 use ir_model::firmware::Firmware;
 use ir_run::outcome::{FaultKind, SourceEnd};
 use lines::{Line, end_line};
 use report::text::Text;
 use std::alloc::{AllocError, Global};
-
-/// What a self-test tells.
-#[derive(Drop)]
-pub struct Told {
-    /// Its five lines.
-    pub lines: Vec<u8>,
-    /// How a command ends that prints them: completed where both runs are alike, else failed.
-    pub done: Done,
-}
 
 /// The line of an end by a fault.
 fn fault_line(kind: FaultKind) -> &'static [u8]
@@ -160,7 +152,7 @@ fn done_by(alike: bool) -> Done
     }
 }
 
-/// What is told of a self-test of a firmware.
+/// What is told of a self-test of a firmware: its five lines, and that the command ends completed where both runs are alike, else failed.
 pub(crate) fn tell(alloc: Global, firmware: &Firmware, tested: &Tested) -> Result<Told, AllocError>
     ensures { IfOk result (IsTold (length firmware.now.globals) (length firmware.now.periphs) tested.now) }
 {

@@ -10,4 +10,4 @@ pub returns-in-Unprinted : goal.returns-in-Unprinted
 returns-in-Unprinted g c = rw c.in-Unprinted.is c.say.ensures
 
 pub returns-in-NoMemory : goal.returns-in-NoMemory
-returns-in-NoMemory g c = rw c.in-NoMemory.is c.say-in-NoMemory.ensures
+returns-in-NoMemory g c = rw c.in-NoMemory.is c.say_no_memory.ensures

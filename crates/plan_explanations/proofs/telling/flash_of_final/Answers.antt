@@ -6,7 +6,7 @@ use Rattle.plan_model.specs.declared.plan.Sizes.{Sizes}
 use Rattle.plan_model.specs.FinalGraph.{IsFinal}
 use Rattle.code_model.specs.Planned.{sizes_of}
 use Rattle.plan_explanations.specs.PlanTold.{flash_told}
-use Rattle.plan_explanations.proofs.Kept.{final_groups}
+use Rattle.planning.proofs.Kept.{final_groups}
 use Rattle.plan_explanations.proofs.telling.flash_of_final.Goals as goal
 
 pub sizes-requires-clause-each : goal.sizes-requires-clause-each

@@ -1,7 +1,8 @@
 use Rattle.std.proofs.Math.Nat.{eq-or-lt_of_le}
 use Rattle.std.proofs.Common.{◌≡◌, ℕ, ◌+◌, ◌<◌, ◌≤◌, inl, inr, None, Some, refl, ap, sym, subst, ◌∙◌, arith}
 use Rattle.words.specs.Runs.{run}
-use Rattle.words.proofs.EventLines.{run_none, run_behind}
+use Rattle.words.proofs.Runs.{run_none}
+use Rattle.words.proofs.EventLines.{run_behind}
 use Rattle.armv7m.specs.State.{State}
 use Rattle.armv7m.specs.Step.{step}
 use Rattle.machine.specs.Machine.{MachineState}

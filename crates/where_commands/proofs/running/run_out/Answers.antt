@@ -1,6 +1,7 @@
 use Rattle.std.proofs.Common.{◌≡◌, ℕ, ◌+◌, ◌≤◌, None, refl, ap, sym, subst, ◌∙◌, arith}
 use Rattle.words.specs.Runs.{run}
-use Rattle.words.proofs.EventLines.{run_none, run_behind}
+use Rattle.words.proofs.Runs.{run_none}
+use Rattle.words.proofs.EventLines.{run_behind}
 use Rattle.ir_model.specs.State.{SourceState}
 use Rattle.ir_model.specs.Step.{source_step}
 use Rattle.source_output.specs.SourceRuns.{ending_of}
