@@ -1,7 +1,6 @@
 -- Beyond the program's claim: only laws, proofs and functions inside the tool cite this file.
 -- Sizes by the crossing sites and the locals that are lent.
 use Rattle.std.specs.Prelude.{ℕ, ◌+◌, ◌*◌, List, [], ◌∷◌, length, map, count_by, sum_by}
-use Rattle.std.specs.Borrow.{Bor}
 use Rattle.std.specs.List.{list_any}
 use Rattle.std.proofs.Math.ListN.{get_or}
 use Rattle.ir_model.specs.Resolved.{Program, func_at}
@@ -17,10 +16,6 @@ use Rattle.code_model.specs.declared.places.CallSite.{CallSite}
 use Rattle.code_model.specs.Sizes as sizes
 use Rattle.code_model.specs.CompartmentCode.{members_from, filled_size}
 use Rattle.code_model.specs.Planned.{call_sites_among}
-
--- sites that are borrowed from the needs
-abbrev pub seen_sites : List (Bor SiteNeed) → List SiteNeed
-seen_sites ss = map (λ (s : Bor SiteNeed). s.now) ss
 
 -- ---- code
 

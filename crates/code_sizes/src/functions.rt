@@ -1,19 +1,44 @@
 //! The bytes of functions, and of compartments.
 
-ghost use Rattle.std.specs.Prelude.{◌≡◌, ◌<◌, length, map, IfOk, IfSome};
+ghost use Rattle.std.specs.Prelude.{◌≡◌, ◌<◌, length, map, count_by, IfOk, IfSome};
+ghost use Rattle.std.specs.List.{list_any};
 ghost use Rattle.ir_model.specs.Resolved.{func_at};
 ghost use Rattle.ir_program.specs.Seen.{known_of, program_of, routine_of};
 ghost use Rattle.plan_model.specs.Lists.{numbers_below};
-ghost use Rattle.code_model.specs.CompartmentCode.{members_from, filled_size};
+ghost use Rattle.plan_model.specs.Lending.{is_local};
+ghost use Rattle.code_model.specs.CompartmentCode.{members_from};
 ghost use Rattle.code_model.specs.Planned.{call_sites_among};
-ghost use Rattle.code_sizes.specs.Parts.{seen_sites, size_with, function_bytes, filled_total};
+ghost use Rattle.plan_crossings.specs.Seen.{seen_sites};
+ghost use Rattle.code_sizes.specs.Parts.{size_with, function_bytes, filled_total};
 
-use crate::calls::{call_sites, lent_count};
 use code_model::CallSite;
 use ir_program::program::{Program, Routine};
 use offsets::sizes::function_size;
+use plan_crossings::call_sites;
 use plan_model::needs::SiteNeed;
+use rounding::rounded_up;
 use std::alloc::{AllocError, Global};
+
+/// Whether a local is one of these.
+fn is_lent(lent: &[(u32, u32)], func: usize, local: usize) -> bool
+    ensures { result ≡ list_any (is_local func local) lent.now }
+{
+    lent.iter()
+        .any(|pair| pair.0 as usize == func && pair.1 as usize == local)
+}
+
+/// How many of a function's locals are among these.
+fn lent_count(lent: &[(u32, u32)], func: usize, locals: usize) -> Option<u32>
+    ensures { IfSome result (λ n. n ≡ count_by (λ k. list_any (is_local func k) lent.now) (numbers_below locals)) }
+{
+    let mut count: u32 = 0;
+    for local in 0..locals {
+        if is_lent(lent, func, local) {
+            count = count.checked_add(1)?;
+        }
+    }
+    Some(count)
+}
 
 /// The function of this number.
 fn routine_at<'a>(program: &'a Program<'a>, func: usize) -> &'a Routine<'a>
@@ -30,15 +55,7 @@ fn size_with(program: &Program, calls: &[CallSite], lent: &[(u32, u32)], func: u
 {
     let routine = routine_at(program, func);
     let count = lent_count(lent, func, routine.locals.len())?;
-    function_size(routine, calls, count)
-}
-
-/// A number of bytes with the NOP that fills it up to a multiple of four, which is half a word.
-fn filled(bytes: u32) -> Option<u32>
-    ensures { IfSome result (λ n. n ≡ filled_size bytes) }
-{
-    let more = bytes.checked_add(3)?;
-    Some(more / 4 * 4)
+    function_size(program, func, calls, count)
 }
 
 /// The bytes of a function, by the crossing sites and the locals that are lent.
@@ -83,7 +100,7 @@ fn compartment_bytes(compartments: &[u32], all: &[u32], compartment: u32) -> Opt
     let mut total: u32 = 0;
     for func in 0..all.len() {
         if compartments[func] == compartment {
-            total = total.checked_add(filled(all[func])?)?;
+            total = total.checked_add(rounded_up(all[func], 4)?)?;
         }
     }
     Some(total)

@@ -1,7 +1,6 @@
 //! How many bytes the code of each compartment has, and the vectors, the monitor and its tables.
 #![tactic(auto)]
 
-mod calls;
 mod functions;
 pub mod sizing;
 mod tables;

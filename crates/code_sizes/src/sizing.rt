@@ -3,13 +3,14 @@
 ghost use Rattle.std.specs.Prelude.{◌≡◌, ◌≤◌, length, IfOk};
 ghost use Rattle.ir_program.specs.Seen.{program_of};
 ghost use Rattle.code_model.specs.Planned.{sizes_of};
-ghost use Rattle.code_sizes.specs.Parts.{seen_sites, code_with};
+ghost use Rattle.plan_crossings.specs.Seen.{seen_sites};
+ghost use Rattle.code_sizes.specs.Parts.{code_with};
 
-use crate::calls::{crossing_sites, lent};
 use crate::functions::{all_bytes, code_bytes};
 use crate::tables::table_bytes;
 use ir_program::program::Program;
 use list_vec::ListVec;
+use plan_crossings::{crossing_sites, lent};
 use plan_model::graph::Final;
 use plan_model::needs::{Needs, SiteNeed};
 use plan_model::plan::Sizes;

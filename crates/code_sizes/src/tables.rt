@@ -2,11 +2,12 @@
 
 ghost use Rattle.std.specs.Prelude.{◌≡◌, ◌+◌, ◌*◌, ◌≤◌, length, sum_by, IfSome};
 ghost use Rattle.ir_program.specs.Seen.{program_of};
-ghost use Rattle.plan_model.specs.Crossing as crossing;
 ghost use Rattle.plan_model.specs.TableSize as table_size;
-ghost use Rattle.code_sizes.specs.Parts.{seen_sites, region_words, block_count, record_bytes};
+ghost use Rattle.plan_crossings.specs.Seen.{seen_sites};
+ghost use Rattle.code_sizes.specs.Parts.{region_words, block_count, record_bytes};
 
 use ir_program::program::Program;
+use plan_crossings::target_count;
 use plan_model::graph::Final;
 use plan_model::needs::SiteNeed;
 use region_sizes::words_in;
@@ -30,20 +31,6 @@ fn initial_words(program: &Program, fin: &Final) -> Option<u32>
     let others = words_in(program, fin.unwritten.as_slice())?;
     let total = words.checked_add(others)?;
     Some(total)
-}
-
-/// How many targets crossing sites have.
-fn target_count(sites: &[&SiteNeed]) -> Option<u32>
-    ensures { IfSome result (λ n. n ≡ crossing.target_count (seen_sites sites.now)) }
-{
-    let mut count: u32 = 0;
-    for site in sites {
-        let Ok(targets) = u32::try_from(site.targets.len()) else {
-            return None;
-        };
-        count = count.checked_add(targets)?;
-    }
-    Some(count)
 }
 
 /// So many bytes behind others, as many times as a count tells.
@@ -75,7 +62,7 @@ fn record_bytes(fin: &Final, sites: &[&SiteNeed], slots: u32) -> Option<u32>
 {
     let head = behind(4096 + 32, 8 * slots + 16, fin.groups.count as usize)?;
     let listed = behind(head, 12, sites.len())?;
-    behind(listed, 8, target_count(sites)? as usize)
+    behind(listed, 8, target_count(sites)?)
 }
 
 /// The bytes of the vectors, the monitor and its tables, by the crossing sites and the locals that are lent.

@@ -5,34 +5,12 @@ ghost use Rattle.std.specs.Prelude.{◌≡◌, ◌-◌, ◌^◌, length, min, fi
 ghost use Rattle.plan_model.specs.Choices.{first_some};
 ghost use Rattle.plan_model.specs.CompileLimits.{first_passed, wide_site};
 ghost use Rattle.plan_model.specs.Crossing as crossing;
-ghost use Rattle.plan_model.specs.Groups.{compartment_of};
-ghost use Rattle.plan_model.specs.Lending as lending;
 ghost use Rattle.compile_limits.specs.Told.{told};
 
+use plan_crossings::{crosses, lent};
 use plan_model::groups::Groups;
 use plan_model::limits::{COMPARTMENT_LIMIT, LENT_LIMIT, LimitKind, SITE_LIMIT, TARGET_LIMIT};
-use plan_model::needs::{Needs, SiteNeed};
-
-/// The compartment of a function.
-fn compartment(groups: &Groups, func: u32) -> u32
-    ensures { result ≡ compartment_of groups.now func }
-{
-    match groups.of.as_slice().get(func as usize) {
-        None => 0,
-        Some(compartment) => *compartment,
-    }
-}
-
-/// Whether a call may go to another compartment.
-fn crosses(groups: &Groups, site: &SiteNeed) -> bool
-    ensures { result ≡ crossing.crosses groups.now site.now }
-{
-    let own = compartment(groups, site.func);
-    site.targets
-        .as_slice()
-        .iter()
-        .any(|target| compartment(groups, *target) != own)
-}
+use plan_model::needs::Needs;
 
 /// How many calls may go to another compartment.
 fn site_count(needs: &Needs, groups: &Groups) -> usize
@@ -59,17 +37,6 @@ fn wide_count(needs: &Needs, groups: &Groups) -> Option<usize>
     None
 }
 
-/// How many locals are lent.
-fn lent_count(needs: &Needs, groups: &Groups) -> usize
-    ensures { result ≡ length (lending.lent needs.now groups.now) }
-{
-    if groups.count > 1 {
-        needs.lendable.len()
-    } else {
-        0
-    }
-}
-
 /// A count in 32 bits, or the greatest number of 32 bits where it passes that.
 fn counted(count: usize) -> u32
     ensures { result ≡ min count (2 ^ 32 - 1) }
@@ -86,7 +53,7 @@ pub fn passed(needs: &Needs, groups: &Groups) -> Option<(LimitKind, u32)>
     if groups.count > COMPARTMENT_LIMIT {
         return Some((LimitKind::Compartments, groups.count));
     }
-    let lent = lent_count(needs, groups);
+    let lent = lent(needs, groups).len();
     if lent > LENT_LIMIT {
         return Some((LimitKind::Lent, counted(lent)));
     }

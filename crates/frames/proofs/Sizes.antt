@@ -1,13 +1,10 @@
 -- The bytes of the first locals.
-use Rattle.std.proofs.Common.{◌≡◌, ℕ, zero, suc, ◌+◌, ◌<◌, ◌≤◌, ◌%◌, List, [], ◌∷◌, ◌++◌, map, take, get_or, length, Some, refl, sym, ap, ◌∙◌, arith}
-use Rattle.ir_model.specs.declared.firmware.Slot.{Slot}
+use Rattle.std.proofs.Common.{◌≡◌, ℕ, zero, suc, ◌+◌, ◌<◌, ◌≤◌, ◌%◌, List, [], ◌∷◌, map, take, Some, refl, ap, ◌∙◌, arith}
 use Rattle.std.specs.List.{slice_get}
-use Rattle.ir_model.specs.Plain.{PlainSlot, slot_of}
+use Rattle.ir_model.specs.Plain.{PlainSlot}
 use Rattle.ir_model.specs.Layout.{Known, shape, rounded_up}
 use Rattle.frames.specs.Places.{offsets_from, Stand}
 use Rattle.ir_model.specs.Frames.{local_size, locals_size}
-use Rattle.ir_model.proofs.Locals.{locals_last}
-use Rattle.std.proofs.lemmas.List.{take_more, length-take}
 
 pub words_of : (ks : List Known) (ls : List PlainSlot) → locals_size ks ls % 4 ≡ 0
 words_of ks [] = refl
@@ -26,15 +23,6 @@ pub ends_within : (ks : List Known) (ls : List PlainSlot) (j : ℕ) (l : PlainSl
 ends_within ks [] j l e = cc
 ends_within ks (x ∷ ls) zero l e = grind arith
 ends_within ks (x ∷ ls) (suc j) l e = let h = ends_within ks ls j l e in omega arith
-
-pub one_more : (ks : List Known) (xs : List Slot) (i : ℕ) (x : Slot) (old new n : ℕ) → i < length xs → x ≡ get_or xs i x → old ≡ locals_size ks (map slot_of (take i xs))
-    → n ≡ local_size ks (slot_of x) → new ≡ old + n → new ≡ locals_size ks (map slot_of (take (i + 1) xs))
-one_more ks xs i x old new n l e h s g =
-    g ∙ (ap (λ m. m + n) h ∙ (ap (λ m. locals_size ks (map slot_of (take i xs)) + m) s
-    ∙ (sym (locals_last ks (take i xs) x) ∙ ap (λ ys. locals_size ks (map slot_of ys)) (sym (take_more xs i x l ∙ ap (λ z. take i xs ++ z ∷ []) (sym e))))))
-
-pub few_first : {A : Type 0} (k : ℕ) (xs : List A) (n : ℕ) → length xs ≤ n → length (take k xs) ≤ n
-few_first k xs n h = omega (arith, length-take k xs)
 
 rounds_up : (n : ℕ) → n ≤ rounded_up n 4
 rounds_up n = omega arith

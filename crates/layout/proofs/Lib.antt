@@ -1,6 +1,5 @@
 pub mod Before
 mod FlashCount
-mod RegionBytes
 pub mod Searches
 mod Smallest
 mod Sorted

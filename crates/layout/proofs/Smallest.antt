@@ -27,9 +27,6 @@ lesser_swap (Some a) (Some b) = ap (λ n. Some n) (omega arith)
 
 -- ---- the least of a list
 
-step : Option ℕ → ℕ → Option ℕ
-step o n = lesser o (Some n)
-
 from : (o : Option ℕ) (ns : List ℕ) → fold (λ p n. lesser p (Some n)) o ns ≡ lesser o (least ns)
 from o [] = sym (lesser_none o)
 from o (n ∷ ns) = from (lesser o (Some n)) ns ∙ (lesser_assoc o (Some n) (least ns) ∙ ap (lesser o) (sym (from (Some n) ns)))

@@ -1,10 +1,7 @@
 -- Beyond the program's claim: only laws, proofs and functions inside the tool cite this file.
 -- The blocks, tails and RAM of the code as the definitions see them.
-use Rattle.std.specs.Prelude.{ℕ, ◌+◌, List, map}
+use Rattle.std.specs.Prelude.{ℕ, List, map}
 use Rattle.std.specs.List.{fold}
-use Rattle.ir_model.specs.Resolved.{Program}
-use Rattle.plan_model.specs.Regions.{global_size}
-use Rattle.plan_model.specs.Blocks.{aligned}
 use Rattle.plan_model.specs.RamBlocks.{RamUse, RamBlock, ForStack, ForMonitor, ForRegion, ForUnwritten}
 use Rattle.plan_model.specs.RamPlacement as definition
 use Rattle.layout.specs.declared.ram.Purpose.{Purpose}
@@ -13,10 +10,6 @@ use Rattle.layout.specs.declared.ram.Block.{Block}
 use Rattle.layout.specs.declared.ram.Tail.{Tail}
 use Rattle.layout.specs.declared.filled.Located.{Located}
 use Rattle.layout.specs.declared.filled.Filled.{Filled}
-
--- where a global ends that is put behind others
-abbrev pub end_behind : Program → (at global : ℕ) → ℕ
-end_behind p at x = aligned p x at + global_size p x
 
 abbrev pub use_seen : Purpose → RamUse
 use_seen Stack = ForStack

@@ -4,9 +4,9 @@ ghost use Rattle.std.specs.Prelude.{◌≡◌, ◌+◌, ◌<◌, ◌^◌, ◌++�
 ghost use Rattle.plan_model.specs.RamPlacement as placement;
 ghost use Rattle.layout.specs.Filling.{use_seen, block_seen, tail_seen, ram_seen, filled_by};
 
-use crate::blocks::rounded_up;
 use crate::ram::{Block, Purpose, Tail};
 use plan_model::Spot;
+use rounding::rounded_up;
 use std::alloc::{AllocError, Global};
 
 /// Where a block lies.
@@ -96,7 +96,9 @@ impl Filled {
         ensures { IfOk result (λ _. ram_seen self.new ≡ placement.with_block_in (ram_seen self.old) number (get_or (map tail_seen self.old.tails.items) number placement.no_tail) (block_seen block)) }
     {
         let tail = tail_at(&self.tails, number);
-        let base = rounded_up(tail.from, block.size) as u32;
+        let Some(base) = rounded_up(tail.from, block.size) else {
+            return Err(AllocError);
+        };
         let left = Tail {
             from: base + block.size,
             to: tail.to,

@@ -13,7 +13,7 @@ ghost use Rattle.plan_model.specs.Regions.{users};
 ghost use Rattle.layout.specs.Filling.{use_seen, ram_seen};
 ghost use Rattle.layout.specs.Placing.{IsRam, IsRamRefusal, IsPlaceRefusal, placed};
 
-use crate::blocks::{block_size, region_bytes};
+use crate::blocks::block_size;
 use crate::filled::{Filled, fill, fill_behind_stack};
 use crate::flash::place_flash;
 use crate::numbers::{first_greatest, least, lesser};
@@ -24,6 +24,7 @@ use list_vec::ListVec;
 use plan_model::Spot;
 use plan_model::graph::{Final, Region};
 use plan_model::plan::{Board, Lowest, Plan, Sizes};
+use region_sizes::region_bytes;
 use std::alloc::{AllocError, Global};
 
 /// Where the blocks of RAM lie.

@@ -7,9 +7,11 @@ ghost use Rattle.plan_model.specs.RamBlocks as parts;
 ghost use Rattle.plan_model.specs.RamPlacement as placement;
 ghost use Rattle.layout.specs.Filling.{use_seen, block_seen, tail_seen};
 
-use crate::blocks::{block_size, region_bytes, rounded_up};
+use crate::blocks::block_size;
 use ir_program::program::Program;
 use plan_model::graph::{Final, Region as DataRegion};
+use region_sizes::region_bytes;
+use rounding::rounded_up;
 use std::alloc::{AllocError, Global};
 
 /// The bytes of the monitor's block.
@@ -109,7 +111,10 @@ impl Block {
     pub(crate) fn fits(self, tail: Tail) -> bool
         ensures { result ≡ placement.fits self.size (tail_seen tail) }
     {
-        rounded_up(tail.from, self.size) + u64::from(self.size) <= u64::from(tail.to)
+        match rounded_up(tail.from, self.size) {
+            None => false,
+            Some(base) => u64::from(base) + u64::from(self.size) <= u64::from(tail.to),
+        }
     }
 
     /// The first tail in which the block may stand.

@@ -12,7 +12,8 @@ ghost use Rattle.plan_model.specs.Placement as placement;
 use ir_program::program::Program;
 use plan_model::graph::Final;
 use plan_model::plan::{Plan, Spot};
-use region_sizes::{extent_of, rounded_up};
+use region_sizes::extent_of;
+use rounding::rounded_up;
 use std::alloc::{AllocError, Global};
 
 /// Where a global begins in the block of some globals.

@@ -1,4 +1,3 @@
-pub mod Lent
 pub mod Grouped
 pub mod Bases
 pub mod Making

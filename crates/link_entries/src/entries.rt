@@ -11,9 +11,9 @@ ghost use Rattle.link_entries.specs.Grouped.{groups_in, HasEachLend};
 
 use crate::numbers::Numbers;
 use ir_program::program::Program;
-use offsets::frame::rounded_up;
 use offsets::sizes::function_size;
 use plan_model::plan::Plan;
+use rounding::rounded_up;
 use std::alloc::{AllocError, Global};
 
 /// How many locals have a number by which they are lent.
@@ -34,10 +34,14 @@ pub fn size_of(program: &Program, numbers: &Numbers, func: usize) -> Option<u32>
     requires { HasEachLend (program_of program.now) numbers.now }
     ensures { IfSome result (λ n. (cs : List ℕ) → n ≡ compartments.size_of (program_of program.now) (groups_in cs numbers.now) func) }
 {
-    let routine = program.funcs.as_slice().get(func)?;
     let sites = numbers.sites.as_slice().get(func)?;
     let lends = numbers.lends.as_slice().get(func)?;
-    function_size(routine, sites.as_slice(), lent_count(lends.as_slice())?)
+    function_size(
+        program,
+        func,
+        sites.as_slice(),
+        lent_count(lends.as_slice())?,
+    )
 }
 
 /// The bytes of each function's code.

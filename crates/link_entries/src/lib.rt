@@ -6,5 +6,4 @@ pub mod making;
 pub mod needed;
 pub mod numbers;
 pub mod records;
-pub mod sites;
 pub mod walks;

@@ -8,14 +8,14 @@ ghost use Rattle.plan_model.specs.Lists.{numbers_below};
 ghost use Rattle.plan_model.specs.Lending.{is_local};
 ghost use Rattle.code_model.specs.declared.places.CallSite as call_site;
 ghost use Rattle.code_model.specs.Planned.{call_sites_among};
-ghost use Rattle.link_entries.specs.Lent.{lent_sites};
+ghost use Rattle.plan_crossings.specs.Seen.{seen_sites};
 ghost use Rattle.link_entries.specs.Grouped.{AreNumbers, AreSmall};
 ghost use Rattle.plan_model.specs.CompileLimits.{site_limit};
 
-use crate::sites::{call_sites, lend_numbers};
 use code_model::CallSite;
 use ir_program::program::Program;
 use list_vec::ListVec;
+use plan_crossings::call_sites;
 use plan_model::limits::{LENT_LIMIT, SITE_LIMIT};
 use plan_model::needs::SiteNeed;
 use std::alloc::{AllocError, Global};
@@ -36,7 +36,7 @@ fn all_sites(
     funcs: usize,
 ) -> Result<Vec<ListVec<CallSite>>, AllocError>
     requires { length sites.now ≤ site_limit }
-    ensures exact { IfOk result (λ all. all.items ≡ map (call_sites_among 0 (lent_sites sites.now)) (numbers_below funcs)) }
+    ensures exact { IfOk result (λ all. all.items ≡ map (call_sites_among 0 (seen_sites sites.now)) (numbers_below funcs)) }
     ensures small { IfOk result (λ all. All (λ ss. All (λ (s : call_site.CallSite). s.number < site_limit) ss) all.items) }
 {
     let mut all = Vec::new(alloc);
@@ -44,6 +44,38 @@ fn all_sites(
         all.push(ListVec::new(call_sites(alloc, sites, func)?))?;
     }
     Ok(all)
+}
+
+/// The number of a local among those that are lent, if it is one.
+fn lend_number(lent: &[(u32, u32)], func: usize, local: usize) -> Option<u32>
+    requires { length lent.now ≤ 32 }
+    ensures exact { result ≡ position (is_local func local) lent.now }
+    ensures small { IfSome result (λ k. k < 32) }
+{
+    for (number, pair) in lent.iter().enumerate() {
+        if pair.0 as usize == func && pair.1 as usize == local {
+            return Some(number as u32);
+        }
+    }
+    None
+}
+
+/// For each of so many locals of a function, its number if it is lent.
+fn lend_numbers(
+    alloc: Global,
+    lent: &[(u32, u32)],
+    func: usize,
+    locals: usize,
+) -> Result<Vec<Option<u32>>, AllocError>
+    requires { length lent.now ≤ 32 }
+    ensures exact { IfOk result (λ numbers. numbers.items ≡ map (λ k. position (is_local func k) lent.now) (numbers_below locals)) }
+    ensures small { IfOk result (λ numbers. All (λ n. IfSome n (λ k. k < 32)) numbers.items) }
+{
+    let mut numbers = Vec::new(alloc);
+    for local in 0..locals {
+        numbers.push(lend_number(lent, func, local))?;
+    }
+    Ok(numbers)
 }
 
 /// How many locals a function has.
@@ -81,7 +113,7 @@ pub fn numbered(
     sites: &[&SiteNeed],
     lent: &[(u32, u32)],
 ) -> Result<Numbers, AllocError>
-    ensures exact { IfOk result (λ x. AreNumbers (program_of program.now) (lent_sites sites.now) lent.now x) }
+    ensures exact { IfOk result (λ x. AreNumbers (program_of program.now) (seen_sites sites.now) lent.now x) }
     ensures small { IfOk result AreSmall }
 {
     if sites.len() > SITE_LIMIT || lent.len() > LENT_LIMIT {

@@ -3,7 +3,7 @@
 ghost use Rattle.std.specs.Prelude.{◌≡◌, ◌++◌, map, IfOk, IfSome, OnOk};
 ghost use Rattle.ir_model.specs.Resolved.{local_at};
 ghost use Rattle.ir_program.specs.Seen.{program_of};
-ghost use Rattle.link_entries.specs.Lent.{lent_sites};
+ghost use Rattle.plan_crossings.specs.Seen.{seen_sites};
 ghost use Rattle.link_entries.specs.Making.{IsReady};
 ghost use Rattle.link_entries.specs.Recorded.{entry_in, offset_with, returns_to, site_records_in, target_in, target_records_in};
 ghost use Rattle.link_model.specs.LinkedTables as records;
@@ -44,7 +44,7 @@ pub fn site_records(
     sites: &[&SiteNeed],
 ) -> Result<Vec<SiteRecord>, AllocError>
     requires { IsReady making.now }
-    ensures { IfOk result (λ all. all.items ≡ site_records_in making.now 0 (lent_sites sites.now)) }
+    ensures { IfOk result (λ all. all.items ≡ site_records_in making.now 0 (seen_sites sites.now)) }
 {
     let mut all = Vec::new(alloc);
     let mut first: u32 = 0;
@@ -105,7 +105,7 @@ pub fn target_records(
     sites: &[&SiteNeed],
 ) -> Result<Vec<TargetRecord>, AllocError>
     requires { IsReady making.now }
-    ensures { IfOk result (λ all. all.items ≡ target_records_in making.now (lent_sites sites.now)) }
+    ensures { IfOk result (λ all. all.items ≡ target_records_in making.now (seen_sites sites.now)) }
 {
     let mut all = Vec::new(alloc);
     for site in sites {

@@ -1,5 +1,5 @@
 -- The tables and the flash that the code makes are those of the definitions.
-use Rattle.std.proofs.Common.{◌≡◌, ℕ, zero, suc, ◌+◌, ◌-◌, List, [], ◌∷◌, length, map, flat_map, fold, get_or, Option, refl, ap, sym, ◌∙◌, subst, length-append, arith}
+use Rattle.std.proofs.Common.{◌≡◌, ℕ, suc, ◌+◌, ◌-◌, List, [], ◌∷◌, length, map, flat_map, fold, get_or, Option, refl, ap, sym, ◌∙◌, subst, length-append, arith}
 use Rattle.std.proofs.lemmas.List.{length-map}
 use Rattle.std.proofs.lemmas.List.Sums.{sum_by-cons}
 use Rattle.words.specs.Bytes.{write_all}
@@ -43,6 +43,7 @@ use Rattle.linker.specs.Placing.{with_code_of, flash_with}
 use Rattle.linker.specs.Parts.{AreAddresses, planned_places, one_if_any, words_at_counts, words_in_blocks, tables_in}
 use Rattle.linker.proofs.Linked.{places_are}
 use Rattle.linker.proofs.Placed.{groups_made}
+use Rattle.common_laws.proofs.Lists.{get_or_mapped}
 
 -- ---- how many records
 
@@ -62,11 +63,6 @@ any_counted (x ∷ xs) = refl
 filled_counted : (f : Final) → length (filled_blocks f) ≡ length f.regions + one_if_any f.unwritten
 filled_counted f =
     omega (arith, length-append (map (λ (r : Region). r.globals) f.regions) (unless_empty f.unwritten), length-map f.regions (λ (r : Region). r.globals), any_counted f.unwritten)
-
-get_or_mapped : {A B : Type 0} (g : A → B) (xs : List A) (k : ℕ) (d : A) → get_or (map g xs) k (g d) ≡ g (get_or xs k d)
-get_or_mapped g [] k d = refl
-get_or_mapped g (x ∷ xs) zero d = refl
-get_or_mapped g (x ∷ xs) (suc k) d = get_or_mapped g xs k d
 
 fold_same : {B A : Type 0} (F G : B → A → B) → ((b : B) (a : A) → F b a ≡ G b a) → (b : B) (xs : List A) → fold F b xs ≡ fold G b xs
 fold_same F G h b [] = refl

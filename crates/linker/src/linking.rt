@@ -6,7 +6,7 @@ ghost use Rattle.ir_program.specs.Windows.{window_of};
 ghost use Rattle.plan_model.specs.Boards.{slots_of};
 ghost use Rattle.link_entries.specs.Grouped.{IsProgram, HasEachLend};
 ghost use Rattle.link_model.specs.LinkedImage.{flash_of, linked};
-ghost use Rattle.link_entries.specs.Lent.{lent_sites};
+ghost use Rattle.plan_crossings.specs.Seen.{seen_sites};
 ghost use Rattle.link_entries.specs.Making.{IsReady, program_in};
 ghost use Rattle.link_entries.specs.Recorded.{entry_in};
 ghost use Rattle.linker.specs.LinkParts.{AreLinkParts};
@@ -25,9 +25,9 @@ use link_entries::entries::{entries, sizes};
 use link_entries::making::Making;
 use link_entries::numbers::{Numbers, numbered};
 use link_entries::records::{entry_at, lend_sizes, site_records, target_records};
-use link_entries::sites::{compartment_of, crossing_sites, lent};
 use list_vec::ListVec;
 use monitor::{InitRecord, SiteRecord, Tables, TargetRecord};
+use plan_crossings::{compartment_of, crossing_sites, lent};
 use plan_model::graph::Final;
 use plan_model::needs::{Needs, SiteNeed};
 use plan_model::plan::{Board, Plan};
@@ -74,7 +74,7 @@ fn make_crossings(
     lent: &[(u32, u32)],
 ) -> Result<Crossings, AllocError>
     requires { IsReady making.now }
-    ensures { IfOk result (λ x. AreCrossings making.now (lent_sites sites.now) lent.now x) }
+    ensures { IfOk result (λ x. AreCrossings making.now (seen_sites sites.now) lent.now x) }
 {
     Ok(Crossings {
         sites: site_records(alloc, making, sites)?,
@@ -154,7 +154,7 @@ fn tables(
     lent: &[(u32, u32)],
 ) -> Result<Tables, AllocError>
     requires { IsReady making.now }
-    ensures { IfOk result (λ t. t ≡ tables_in making.now graph.now board.now (lent_sites sites.now) lent.now) }
+    ensures { IfOk result (λ t. t ≡ tables_in making.now graph.now board.now (seen_sites sites.now) lent.now) }
 {
     let Some(slots) = slots(board) else {
         return Err(AllocError);
@@ -181,7 +181,7 @@ fn tables(
         stack: plan.stack,
         monitor: plan.monitor.base,
         main,
-        main_comp: compartment_of(&graph.groups, usize::from(program.main)),
+        main_comp: compartment_of(&graph.groups, u32::from(program.main)),
         closed: board.closed,
     })
 }

@@ -1,6 +1,6 @@
 -- Blocks that are put piece by piece: what was put, and what is left.
 use Rattle.std.proofs.Common.{◌≡◌, ℕ, suc, ◌+◌, ◌-◌, ◌%◌, ◌<◌, ◌≤◌, Option, Some, List, [], ◌∷◌, ◌++◌, length, get_or, take, drop, set, replicate, flat_map, None, refl, ap, sym, ◌∙◌, append_assoc, arith}
-use Rattle.std.proofs.lemmas.List.{append-nil, drop_more, drop_all, length-map, get_or-map, length-drop, length-replicate, get_or-drop, get_or-replicate, drop-set-lt, drop-drop, drop-replicate, take_more_set}
+use Rattle.std.proofs.lemmas.List.{drop_more, length-map, get_or-map, length-drop, length-replicate, get_or-drop, get_or-replicate, drop-set-lt, drop-drop, drop-replicate, take_more_set}
 use Rattle.std.proofs.lemmas.List.Elements.{All-weaker, All-get_or}
 use Rattle.std.proofs.lemmas.List.Concat.{flat_map-append}
 use Rattle.thumb_asm.specs.declared.item.Item.{Item}
@@ -12,7 +12,7 @@ use Rattle.ir_program.specs.Seen.{known_of, operation_of, sequence_of}
 use Rattle.code_model.specs.declared.places.Places.{Places}
 use Rattle.lower.specs.declared.subject.Subject.{Subject}
 use Rattle.code_model.specs.Places.{site_in, crosses}
-use Rattle.code_model.specs.Templates.{inst_items, term_items}
+use Rattle.code_model.specs.Templates.{inst_items}
 use Rattle.code_model.specs.Sizes.{block_size}
 use Rattle.code_model.specs.FunctionCode.{lent, block_pieces, blocks_pieces, blocks_labels}
 use Rattle.code_model.specs.Fitting.{InstFits, BlockFits}
@@ -42,9 +42,6 @@ module _ (g : NumberedFunc) (q : Places) (first : ℕ) where
   -- the code of a block from a place on, which stands at this address
   abbrev pub block_left : (at block place : ℕ) → List NumberedInst → NumberedTerm → List Item
   block_left at b k is t = flat_map (λ (piece : List Item). piece) (block_pieces g q first at b k is t)
-
-  pub block_end : (at b k : ℕ) (is : List NumberedInst) (t : NumberedTerm) → length is ≤ k → block_left at b k (drop k is) t ≡ term_items g q first t
-  block_end at b k is t h = ap (λ xs. block_left at b k xs t) (drop_all k is h) ∙ append-nil (term_items g q first t)
 
   abbrev piece_at : (at block place : ℕ) → List NumberedInst → List Item
   piece_at at b k is = inst_items g q at (site_in q.sites b k) (get_or is k (Const 0 0))

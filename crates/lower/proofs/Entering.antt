@@ -16,9 +16,6 @@ stores_next t w k l =
     let one : suc k ≡ k + 1 = omega arith in
     ap (λ n. stores_code t n k) more ∙ ap (λ n. store_slot (t k) k ∷ stores_code t (w - (k + 1)) n) one
 
-pub stores_none : (t : ℕ → ℕ) (w : ℕ) → stores_code t (w - w) w ≡ []
-stores_none t w = let none : w - w ≡ 0 = omega arith in ap (λ n. stores_code t n w) none
-
 -- one loan
 abbrev pub loan_code : Lend → List Instr
 loan_code d = slot_address 0 d.slot ∷ byte_into 1 d.number ∷ supervisor_call 2 ∷ []

@@ -1,17 +1,17 @@
 -- What is known of a function whose code is put.
 use Rattle.std.proofs.Common.{◌≡◌, ℕ, zero, suc, ◌+◌, ◌*◌, ◌<◌, ◌≤◌, List, [], ◌∷◌, ◌++◌, length, get_or, drop, Option, Some, None, refl, sym, ap, ◌∙◌, arith}
-use Rattle.std.proofs.lemmas.List.{drop_more, drop_all, get_or-map}
+use Rattle.std.proofs.lemmas.List.{drop_more, drop_all}
 use Rattle.std.proofs.lemmas.List.FromFn.{get_or-map-range_with_len, length-map-range_with_len}
 use Rattle.thumb_asm.specs.declared.item.Label.{Label}
-use Rattle.ir_model.specs.Resolved.{no_func, func_at}
 use Rattle.ir_program.specs.declared.program.Routine.{Routine}
 use Rattle.ir_program.specs.declared.program.Program.{Program}
-use Rattle.ir_program.specs.Seen.{known_of, routine_of, program_of}
+use Rattle.ir_program.specs.Seen.{known_of, routine_of}
 use Rattle.code_model.specs.declared.places.Places.{Places}
 use Rattle.lower.specs.declared.subject.Subject.{Subject}
 use Rattle.code_model.specs.FrameShape.{local_starts, frame_size}
 use Rattle.code_model.specs.Fitting.{FuncFits}
-use Rattle.lower.proofs.Sizing.{same_frame_size, same_local_starts}
+use Rattle.offsets.proofs.Bare.{same_frame_size}
+use Rattle.lower.proofs.Sizing.{same_local_starts}
 use Rattle.code_model.specs.Places.{lends_among}
 use Rattle.lower.specs.Subjects.{func_of, labels_from, first_label, IsSubject}
 use Rattle.code_model.proofs.Frames.{starts_length}
@@ -53,10 +53,6 @@ pub lends_done : (ss : List ℕ) (ns : List (Option ℕ)) (i : ℕ) → length s
 lends_done ss ns i h = ap (λ xs. lends_among xs (drop i ns)) (drop_all i ss h)
 
 pub ruleset lending = (lends_step, lends_done)
-
--- the function of a number
-pub func_is : (p : Program) (f : ℕ) (d : Routine) → f < length p.funcs → func_at (program_of p) f ≡ routine_of (known_of p) (get_or p.funcs f d)
-func_is p f d h = get_or-map (routine_of (known_of p)) p.funcs f d no_func h
 
 -- its frame is that of its registers and locals, whatever the cells of structs
 module _ (p : Program) (r : Routine) (q : Places) (fits : FuncFits q (routine_of (known_of p) r)) where

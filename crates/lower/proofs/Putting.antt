@@ -1,6 +1,6 @@
 -- Pieces that are put one behind the other, and the room that they take.
 use Rattle.std.proofs.Common.{◌≡◌, ℕ, ◌+◌, ◌<◌, ◌^◌, List, [], ◌∷◌, ◌++◌, length, get_or, drop, refl, sym, ap, ◌∙◌, arith, append_assoc}
-use Rattle.std.proofs.lemmas.List.{append-nil, drop_more}
+use Rattle.std.proofs.lemmas.List.{drop_more}
 use Rattle.thumb_model.specs.declared.table.Instr.{Instr}
 use Rattle.thumb_model.specs.Table.{InTable, encode, width_of}
 use Rattle.thumb_asm.specs.declared.item.Item.{Item}
@@ -15,9 +15,6 @@ here_more a xs = let e = total-append a.items xs in omega arith
 
 pub more_more : (a : Assembly) (xs ys : List Item) → with_more (with_more a xs) ys ≡ with_more a (xs ++ ys)
 more_more a xs ys = ap (λ (is : List Item). record a { items = is }) (append_assoc a.items xs ys)
-
-pub more_nothing : (a : Assembly) → with_more a [] ≡ a
-more_nothing a = ap (λ (is : List Item). record a { items = is }) (append-nil a.items)
 
 pub room_first : (a : Assembly) (xs ys : List Item) → HasRoom a (xs ++ ys) → HasRoom a xs
 room_first a xs ys h = let e = total-append xs ys in let b = h.below in record { below = omega arith }

@@ -1,6 +1,6 @@
 -- A whole function is its entry and its blocks.
-use Rattle.std.proofs.Common.{◌≡◌, ℕ, ◌+◌, ◌%◌, ◌<◌, ◌≤◌, ◌^◌, List, ◌++◌, length, take, drop, replicate, Option, None, ap, sym, ◌∙◌, append_assoc, arith}
-use Rattle.std.proofs.lemmas.List.{take_at, drop_at}
+use Rattle.std.proofs.Common.{◌≡◌, ℕ, ◌+◌, ◌%◌, ◌<◌, ◌≤◌, ◌^◌, List, ◌++◌, length, take, replicate, Option, None, ap, sym, ◌∙◌, append_assoc, arith}
+use Rattle.std.proofs.lemmas.List.{take_at}
 use Rattle.std.proofs.lemmas.List.Elements.{All-get_or}
 use Rattle.thumb_asm.specs.declared.item.Item.{Item}
 use Rattle.thumb_asm.specs.Assembly.{Assembly, here, total}
@@ -58,10 +58,6 @@ module _ (s : Subject) (a b : Assembly) (first : first_label s.labels.items ≡ 
       let t = total-append entry (rest_items s (here b) 0) in
       let f = function_total g q (length a.places) (here a) in
       omega arith
-
-  pub blocks_free : drop (first_label s.labels.items) b.places ≡ replicate (length g.blocks) None
-  blocks_free =
-      ap (λ ps. drop (first_label s.labels.items) ps) places ∙ drop_at a.places (replicate (length g.blocks) None) (first_label s.labels.items) (sym first)
 
   pub blocks_room : here a + size_in q g < 2 ^ 31 → HasRoom b (rest_items s (here b) 0)
   blocks_room h = let e = behind_entry in let t = whole_total in let n = entry_total g q in record { below = omega arith }

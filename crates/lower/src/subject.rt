@@ -12,9 +12,10 @@ ghost use Rattle.plan_model.specs.CompileLimits.{site_limit};
 ghost use Rattle.lower.specs.Subjects.{func_of, block_in, lend_of, labels_from, first_label, IsSubject, IsSmallLend};
 ghost use Rattle.code_model.specs.Fitting.{FuncFits};
 
-use crate::frame::{frame_words, local_starts};
+use crate::frame::local_starts;
 use code_model::{CallSite, Places};
 use ir_program::program::{Program, Routine, Sequence};
+use offsets::frame::frame_words;
 use std::alloc::{AllocError, Global};
 use thumb_asm::{Asm, Label};
 
@@ -121,6 +122,9 @@ pub(crate) fn make_subject<'a>(
     ensures asm { OnOk result (asm.new ≡ record asm.old { places = asm.old.places ++ replicate (length (func_at (program_of program.now) func).blocks) None }) }
 {
     let routine = routine_at(program, func);
+    let Some(words) = frame_words(routine) else {
+        return Err(AllocError);
+    };
     let starts = local_starts(alloc, routine)?;
     let lent = lent_among(alloc, starts.as_slice(), places.lends.as_slice())?;
     let labels = new_labels(alloc, asm, routine.blocks.len())?;
@@ -128,7 +132,7 @@ pub(crate) fn make_subject<'a>(
         program,
         routine,
         places,
-        words: frame_words(routine),
+        words: words as usize,
         starts,
         lent,
         labels,

@@ -1,36 +1,39 @@
 //! The frame of a function.
 
-ghost use Rattle.std.specs.Prelude.{◌≡◌, ◌<◌, [], map, IfSome};
-ghost use Rattle.ir_model.specs.Layout.{rounded_up as rounded};
+ghost use Rattle.std.specs.Prelude.{◌≡◌, ◌^◌, ◌≤◌, ◌⊎◌, [], length, map, IfNone, IfSome};
+ghost use Rattle.ir_model.specs.Resolved.{func_at};
 ghost use Rattle.ir_program.specs.Storages.{shape_of};
-ghost use Rattle.ir_program.specs.Seen.{routine_of};
+ghost use Rattle.ir_program.specs.Seen.{program_of, routine_of};
 ghost use Rattle.code_model.specs.FrameShape as frames;
 
-use ir_program::program::{Routine, Storage};
+use crate::routines::routine_at;
+use ir_program::program::{Program, Routine, Storage};
+use rounding::rounded_up;
 
-/// A number of bytes, rounded up to a multiple of another; none where that takes more than 32 bits.
-pub fn rounded_up(bytes: u32, to: u32) -> Option<u32>
-    requires { 0 < to }
-    ensures { IfSome result (λ n. n ≡ rounded bytes to) }
+/// The bytes of a local, rounded up to whole words; none where they pass 32 bits.
+pub fn local_size(local: &Storage) -> Option<u32>
+    ensures value { IfSome result (λ n. n ≡ frames.local_size (shape_of [] local.now)) }
+    ensures none { IfNone result (2 ^ 32 ≤ frames.local_size (shape_of [] local.now)) }
 {
-    let filled = bytes.checked_add(to - 1)?;
-    Some(filled / to * to)
+    rounded_up(local.size, 4)
 }
 
-/// The bytes of locals, each of whole words.
+/// The bytes of locals, each of whole words; none where they pass 32 bits.
 fn locals_size(locals: &[Storage]) -> Option<u32>
-    ensures { IfSome result (λ n. n ≡ frames.locals_size (map (shape_of []) locals.now)) }
+    ensures value { IfSome result (λ n. n ≡ frames.locals_size (map (shape_of []) locals.now)) }
+    ensures none { IfNone result (2 ^ 32 ≤ frames.locals_size (map (shape_of []) locals.now)) }
 {
     let mut total: u32 = 0;
     for local in locals {
-        total = total.checked_add(rounded_up(local.size, 4)?)?;
+        total = total.checked_add(local_size(local)?)?;
     }
     Some(total)
 }
 
-/// The bytes of a function's frame.
-pub fn frame_size(routine: &Routine) -> Option<u32>
-    ensures { IfSome result (λ n. n ≡ frames.frame_size (routine_of [] routine.now)) }
+/// The bytes of a function's frame; none where they pass 32 bits.
+fn routine_frame(routine: &Routine) -> Option<u32>
+    ensures value { IfSome result (λ n. n ≡ frames.frame_size (routine_of [] routine.now)) }
+    ensures none { IfNone result (2 ^ 32 ≤ frames.frame_size (routine_of [] routine.now)) }
 {
     let Ok(registers) = u32::try_from(routine.registers.len()) else {
         return None;
@@ -40,10 +43,20 @@ pub fn frame_size(routine: &Routine) -> Option<u32>
     rounded_up(filled.checked_add(4)?, 8)
 }
 
-/// The words of a function's frame that lie below the return address.
-pub(crate) fn frame_words(routine: &Routine) -> Option<u32>
-    ensures { IfSome result (λ n. n ≡ (frames.frame_shape (routine_of [] routine.now)).words) }
+/// The words of a function's frame that lie below the return address; none where the bytes of the frame pass 32 bits.
+pub fn frame_words(routine: &Routine) -> Option<u32>
+    ensures value { IfSome result (λ n. n ≡ (frames.frame_shape (routine_of [] routine.now)).words) }
+    ensures none { IfNone result (2 ^ 32 ≤ frames.frame_size (routine_of [] routine.now)) }
 {
-    let size = frame_size(routine)?;
+    let size = routine_frame(routine)?;
     Some(size.saturating_sub(4) / 4)
+}
+
+/// The bytes of the frame of the function of a number; none where there is no such function, or they pass 32 bits.
+pub fn frame_size(program: &Program, func: usize) -> Option<u32>
+    ensures value { IfSome result (λ n. n ≡ frames.frame_size (func_at (program_of program.now) func)) }
+    ensures none { IfNone result ((length program.now.funcs ≤ func) ⊎ (2 ^ 32 ≤ frames.frame_size (func_at (program_of program.now) func))) }
+{
+    let routine = routine_at(program, func)?;
+    routine_frame(routine)
 }

@@ -2,5 +2,6 @@
 #![tactic(auto)]
 
 pub mod frame;
+mod routines;
 pub mod sizes;
 pub mod walk;

@@ -1,16 +1,17 @@
 //! The sizes of what stands in a function. None where a number takes more than 32 bits.
 
 ghost use Rattle.std.specs.Prelude.{◌≡◌, ◌+◌, ◌*◌, ◌<◌, ◌≤◌, ℕ, [], length, map, take, IfSome};
-ghost use Rattle.ir_model.specs.Resolved.{NumberedFunc, Does};
+ghost use Rattle.ir_model.specs.Resolved.{NumberedFunc, Does, func_at};
 ghost use Rattle.ir_model.specs.Signatures.{row_length};
-ghost use Rattle.ir_program.specs.Seen.{target_of, operation_of, exit_of, sequence_of, routine_of};
+ghost use Rattle.ir_program.specs.Seen.{target_of, operation_of, exit_of, sequence_of, routine_of, program_of};
 ghost use Rattle.code_model.specs.Places.{crosses};
 ghost use Rattle.code_model.specs.Sizes as sizes;
 
 use crate::frame::frame_words;
+use crate::routines::routine_at;
 use code_model::CallSite;
 use ir_model::firmware::BinOp;
-use ir_program::program::{Exit, Operation, Routine, Sequence, Target};
+use ir_program::program::{Exit, Operation, Program, Routine, Sequence, Target};
 
 /// Whether the call at a place may go to another compartment.
 fn is_crossing(sites: &[CallSite], block: usize, place: usize) -> bool
@@ -220,8 +221,17 @@ fn size_with(routine: &Routine, sites: &[CallSite], lent: u32, blocks: &[Sequenc
 }
 
 /// The bytes of a function whose calls that may go to another compartment are `sites`, and of whose locals so many are lent.
-pub fn function_size(routine: &Routine, sites: &[CallSite], lent: u32) -> Option<u32>
+fn routine_size(routine: &Routine, sites: &[CallSite], lent: u32) -> Option<u32>
     ensures { IfSome result (λ n. n ≡ sizes.function_size (routine_of [] routine.now) sites.now lent) }
 {
     size_with(routine, sites, lent, routine.blocks.as_slice())
+}
+
+/// The bytes of the function of a number, whose calls that may go to another compartment are `sites`, and of whose locals so many
+/// are lent; none where there is no such function.
+pub fn function_size(program: &Program, func: usize, sites: &[CallSite], lent: u32) -> Option<u32>
+    ensures { IfSome result (λ n. (func < length program.now.funcs) × (n ≡ sizes.function_size (func_at (program_of program.now) func) sites.now lent)) }
+{
+    let routine = routine_at(program, func)?;
+    routine_size(routine, sites, lent)
 }

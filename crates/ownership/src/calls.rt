@@ -9,12 +9,12 @@ ghost use Rattle.report.specs.Subjects.{subject_of};
 ghost use Rattle.ownership.specs.Calls as calls;
 ghost use Rattle.ownership.specs.WhoLines as lines;
 
+use plan_crossings::{compartment_of, crosses};
 use plan_model::groups::Groups;
 use plan_model::needs::SiteNeed;
 use report::naming::put_func;
 use report::subject::Subject;
 use report::text::Text;
-use report::totals::{compartment_at, crosses};
 use std::alloc::AllocError;
 
 /// Whether a call is a crossing site of one function that may lead to another.
@@ -54,9 +54,9 @@ fn put_call(
     text.put(b" ")?;
     put_func(text, subject.firmware, callee)?;
     text.put(b" ")?;
-    text.put_decimal(u64::from(compartment_at(groups, caller)))?;
+    text.put_decimal(u64::from(compartment_of(groups, caller)))?;
     text.put(b" ")?;
-    text.put_decimal(u64::from(compartment_at(groups, callee)))?;
+    text.put_decimal(u64::from(compartment_of(groups, callee)))?;
     text.put(b"\n")
 }
 

@@ -1,7 +1,7 @@
 //! How many bytes and words the globals of a region fill, in 32 bits.
 #![tactic(auto)]
 
-ghost use Rattle.std.specs.Prelude.{◌≡◌, ◌+◌, ◌^◌, ◌<◌, ◌⊎◌, IfNone, IfSome};
+ghost use Rattle.std.specs.Prelude.{◌≡◌, ◌^◌, ◌≤◌, ◌⊎◌, IfNone, IfSome};
 ghost use Rattle.ir_model.specs.Layout as layout;
 ghost use Rattle.ir_model.specs.Resolved.{global_at};
 ghost use Rattle.ir_program.specs.Seen.{program_of};
@@ -11,6 +11,7 @@ ghost use Rattle.region_sizes.specs.Passing.{Passes};
 
 use ir_model::extent::Extent;
 use ir_program::program::Program;
+use rounding::rounded_up;
 
 /// The size and the alignment of a global, in bytes, by its number; those of no bytes where the program has no such global.
 pub fn extent_of(program: &Program, global: u32) -> Extent
@@ -24,18 +25,6 @@ pub fn extent_of(program: &Program, global: u32) -> Extent
         },
         None => Extent { size: 0, align: 1 },
     }
-}
-
-/// The least multiple of `to` bytes that is not below a number of bytes; 0 where `to` is 0.
-pub fn rounded_up(bytes: u32, to: u32) -> Option<u32>
-    ensures value { IfSome result (λ n. n ≡ layout.rounded_up bytes to) }
-    ensures none { IfNone result (2 ^ 32 < bytes + to) }
-{
-    if to == 0 {
-        return Some(0);
-    }
-    let filled = bytes.checked_add(to - 1)?;
-    Some(filled / to * to)
 }
 
 /// The bytes of a region of these globals, each at the next multiple of its alignment behind those before it.
@@ -55,7 +44,7 @@ pub fn region_bytes(program: &Program, globals: &[u32]) -> Option<u32>
 /// How many words of four bytes fill a block of these globals.
 pub fn words_in(program: &Program, globals: &[u32]) -> Option<u32>
     ensures value { IfSome result (λ n. n ≡ table_size.words_in (program_of program.now) globals.now) }
-    ensures none { IfNone result (Passes (program_of program.now) 0 globals.now ⊎ (2 ^ 32 < blocks.region_bytes (program_of program.now) globals.now + 4)) }
+    ensures none { IfNone result (Passes (program_of program.now) 0 globals.now ⊎ (2 ^ 32 ≤ layout.rounded_up (blocks.region_bytes (program_of program.now) globals.now) 4)) }
 {
     let bytes = region_bytes(program, globals)?;
     Some(rounded_up(bytes, 4)? / 4)

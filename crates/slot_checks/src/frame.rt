@@ -2,7 +2,7 @@
 
 ghost use Rattle.std.specs.Prelude.{◌≡◌, ◌+◌, ◌*◌, ◌≤◌, length};
 ghost use Rattle.ir_model.specs.Plain.{func_of, firmware_of};
-ghost use Rattle.ir_model.specs.Layout.{known, rounded_up};
+ghost use Rattle.ir_model.specs.Layout.{known, rounded_up as rounded};
 ghost use Rattle.ir_model.specs.Frames.{locals_size};
 ghost use Rattle.ir_model.specs.TextLimits.{register_limit, local_limit};
 ghost use Rattle.ir_model.specs.Typing.{object_limit};
@@ -14,6 +14,7 @@ use check_faults::{CheckFault, Spot};
 use check_scopes::Scope;
 use ir_model::check::CheckKind;
 use ir_model::firmware::Func;
+use rounding::rounded_up;
 
 /// The most bytes of a frame.
 const FRAME_LIMIT: u32 = 992;
@@ -21,10 +22,13 @@ const FRAME_LIMIT: u32 = 992;
 fn frame_bytes(registers: usize, locals: u64) -> u32
     requires registers { registers ≤ register_limit }
     requires locals { locals ≤ local_limit * object_limit }
-    ensures { result ≡ rounded_up (4 * registers + locals + 4) 8 }
+    ensures { result ≡ rounded (4 * registers + locals + 4) 8 }
 {
-    let bytes = (4 * registers as u64 + locals + 11) / 8 * 8;
-    bytes as u32
+    let filled = 4 * registers as u32 + locals as u32 + 4;
+    match rounded_up(filled, 8) {
+        None => unreachable!(),
+        Some(bytes) => bytes,
+    }
 }
 
 /// Whether a function's frame is small enough, its locals having so many bytes.

@@ -3,7 +3,7 @@
 ghost use Rattle.std.specs.Prelude.{◌≡◌, ◌++◌, ◌∷◌, [], map, OnOk, IfOk, length, ◌≤◌, ◌+◌, ◌*◌};
 ghost use Rattle.ir_model.specs.Types.{type_of};
 ghost use Rattle.ir_model.specs.Plain.{slot_of, names_of, firmware_of};
-ghost use Rattle.ir_model.specs.Layout.{known, shape, rounded_up};
+ghost use Rattle.ir_model.specs.Layout.{known, shape, rounded_up as rounded};
 ghost use Rattle.ir_model.specs.Frames.{locals_size};
 ghost use Rattle.ir_model.specs.TextLimits.{local_limit};
 ghost use Rattle.ir_model.specs.Typing.{object_limit, local_checks};
@@ -19,8 +19,9 @@ use check_scopes::Scope;
 use check_scopes::sizes::object_size;
 use ir_model::firmware::Slot;
 use name_tables::Names;
+use rounding::rounded_up;
 
-#[tactic(auto, using(check_faults::proofs::Order::refused_left, check_faults::proofs::Order::refused_right, check_faults::proofs::Order::first_stays, check_faults::proofs::Order::first_append, check_faults::proofs::Order::refused_one, check_faults::proofs::Order::refused_behind, check_faults::proofs::Order::first_behind))]
+#[tactic(auto, using(check_faults::proofs::Order::checks_in_order, check_faults::proofs::Order::checks_behind_one))]
 fn named_slot<'a>(
     scope: &Scope,
     spot: Spot,
@@ -35,7 +36,7 @@ fn named_slot<'a>(
     Ok(())
 }
 
-#[tactic(auto, using(check_faults::proofs::Order::refused_left, check_faults::proofs::Order::refused_right, check_faults::proofs::Order::first_stays, check_faults::proofs::Order::first_append))]
+#[tactic(auto, using(check_faults::proofs::Order::checks_in_order))]
 fn local<'a>(
     scope: &Scope,
     spot: Spot,
@@ -56,10 +57,13 @@ fn local<'a>(
 fn with_local(total: u64, size: u32) -> u64
     requires total { total ≤ local_limit * object_limit }
     requires size { size ≤ object_limit }
-    ensures exact { result ≡ total + rounded_up size 4 }
+    ensures exact { result ≡ total + rounded size 4 }
     ensures most { result ≤ total + object_limit }
 {
-    total + (u64::from(size) + 3) / 4 * 4
+    match rounded_up(size, 4) {
+        None => unreachable!(),
+        Some(bytes) => total + u64::from(bytes),
+    }
 }
 
 /// Whether locals are new, of declared structs, and not too large; and how many bytes they take.

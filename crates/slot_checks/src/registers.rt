@@ -18,7 +18,7 @@ use ir_model::firmware::Slot;
 use ir_model::types::Ty;
 use name_tables::Names;
 
-#[tactic(auto, using(check_faults::proofs::Order::refused_left, check_faults::proofs::Order::refused_right, check_faults::proofs::Order::first_stays, check_faults::proofs::Order::first_append, check_faults::proofs::Order::refused_one, check_faults::proofs::Order::refused_behind, check_faults::proofs::Order::first_behind))]
+#[tactic(auto, using(check_faults::proofs::Order::checks_in_order, check_faults::proofs::Order::checks_behind_one))]
 fn register<'a>(
     declared: &Names,
     spot: Spot,
@@ -51,7 +51,7 @@ pub fn registers<'a>(
 }
 
 /// Whether a result's type is of declared structs, and one that a register has.
-#[tactic(auto, using(check_faults::proofs::Order::refused_left, check_faults::proofs::Order::refused_right, check_faults::proofs::Order::first_stays, check_faults::proofs::Order::first_append))]
+#[tactic(auto, using(check_faults::proofs::Order::checks_in_order))]
 pub fn outcome(declared: &Names, spot: Spot, outcome: &Option<Ty>) -> Result<(), CheckFault>
     ensures { Finds (outcome_checks declared.now (place_of spot.entry) (result_of outcome.now)) result }
 {

@@ -20,7 +20,7 @@ use name_tables::Names;
 use std::alloc::Global;
 
 /// The slots of a function, no name being taken before.
-#[tactic(auto, using(check_faults::proofs::Order::refused_left, check_faults::proofs::Order::refused_right, check_faults::proofs::Order::first_stays, check_faults::proofs::Order::first_append))]
+#[tactic(auto, using(check_faults::proofs::Order::checks_in_order))]
 fn slots_behind<'a>(scope: &Scope, seen: &mut Names<'a>, func: &'a Func) -> Result<u64, CheckFault>
     requires scope { IsScope scope.now }
     requires seen { seen.old ≡ [] }

@@ -1,7 +1,5 @@
 -- What the parts of an image are, by the definitions of the lines.
-use Rattle.std.proofs.Common.{◌≡◌, ℕ, ◌+◌, ◌<◌, List, [], ◌∷◌, length, map, get_or, ap, refl, sym, subst, ◌∙◌}
-use Rattle.std.specs.Borrow.{Bor}
-use Rattle.std.proofs.lemmas.List.{get_or-map}
+use Rattle.std.proofs.Common.{◌≡◌, ℕ, ◌+◌, List, [], ◌∷◌, length, map, get_or, ap, refl, ◌∙◌}
 use Rattle.ir_model.specs.Resolved.{Program, NumberedFunc, func_at}
 use Rattle.plan_model.specs.declared.needs.SiteNeed.{SiteNeed}
 use Rattle.plan_model.specs.declared.needs.Needs.{Needs}
@@ -28,10 +26,6 @@ use Rattle.symbols.specs.declared.rising.Lying.{Lying}
 -- a thing of this number, by the addresses of all
 abbrev pub lying_at : (addresses : List ℕ) → (number : ℕ) → Lying
 lying_at as_ k = record { number = k; address = get_or as_ k 0 }
-
--- of a thing that is not there
-abbrev pub no_lying : Lying
-no_lying = record { number = 0; address = 0 }
 
 module _ (p : Program) (n : Needs) (f : Final) (l : Plan) (b : Board) (x : LinkParts) (are : AreLinkParts p n f l b x) where
   -- a number, or none, for each local
@@ -62,9 +56,3 @@ module _ (p : Program) (n : Needs) (f : Final) (l : Plan) (b : Board) (x : LinkP
   pub returns_made : map ret x.tables.sites ≡ map (return_address p n f l) (crossing_sites n f.groups)
   unfolding tables_of
   returns_made = ap (λ t. map ret t.sites) are.tables ∙ records_return 0 (crossing_sites n f.groups)
-
--- a call that was found among those that are lent
-pub call_found : (ss : List (Bor SiteNeed)) (sites : List SiteNeed) (k : ℕ) (s : Bor SiteNeed) (d : SiteNeed) → map (λ (y : Bor SiteNeed). y.now) ss ≡ sites → k < length ss → s ≡ get_or ss k s
-    → s.now ≡ get_or sites k d
-call_found ss sites k s d e l is =
-    subst (λ (ys : List SiteNeed). s.now ≡ get_or ys k d) e (sym (get_or-map (λ (y : Bor SiteNeed). y.now) ss k s d l ∙ ap (λ (y : Bor SiteNeed). y.now) (sym is)))

@@ -11,9 +11,9 @@ ghost use Rattle.symbols.specs.Made.{AreMade};
 use crate::rising::{Lying, rising};
 use ir_program::program::Program;
 use link_entries::entries::size_of;
-use link_entries::sites::compartment_of;
 use linker::LinkParts;
 use offsets::frame::frame_size;
+use plan_crossings::compartment_of;
 use report::naming::put_func;
 use report::subject::Subject;
 use report::text::Text;
@@ -34,10 +34,7 @@ fn code_size(subject: &Subject<'_>, parts: &LinkParts, func: u32) -> Result<u32,
 fn frame_bytes(program: &Program<'_>, func: u32) -> Result<u32, AllocError>
     ensures { IfOk result (λ n. n ≡ frames.frame_size (func_at (program_of program.now) func)) }
 {
-    let Some(routine) = program.funcs.as_slice().get(func as usize) else {
-        return Err(AllocError);
-    };
-    match frame_size(routine) {
+    match frame_size(program, func as usize) {
         Some(size) => Ok(size),
         None => Err(AllocError),
     }
@@ -55,7 +52,7 @@ fn put_function(
 {
     let size = code_size(subject, parts, of.number)?;
     let frame = frame_bytes(subject.program, of.number)?;
-    let compartment = compartment_of(&subject.graph.groups, of.number as usize);
+    let compartment = compartment_of(&subject.graph.groups, of.number);
     text.put(b"function")?;
     text.put_range(of.address, u64::from(size))?;
     text.put(b" ")?;

@@ -2,15 +2,15 @@
 
 ghost use Rattle.std.specs.Prelude.{◌≡◌, ◌++◌, length, map, IfOk, OnOk};
 ghost use Rattle.monitor.specs.declared.tables.SiteRecord as site_record;
-ghost use Rattle.link_entries.specs.Lent.{lent_sites};
+ghost use Rattle.plan_crossings.specs.Seen.{seen_sites};
 ghost use Rattle.report.specs.Subjects.{subject_of};
 ghost use Rattle.symbols.specs.SiteLines as lines;
 ghost use Rattle.symbols.specs.Made.{AreMade};
 
 use crate::rising::{Lying, rising};
-use link_entries::sites::crossing_sites;
 use linker::LinkParts;
 use monitor::SiteRecord;
+use plan_crossings::crossing_sites;
 use plan_model::needs::SiteNeed;
 use report::naming::put_func;
 use report::subject::Subject;
@@ -59,7 +59,7 @@ fn put_site(
     calls: &[&SiteNeed],
     of: Lying,
 ) -> Result<(), AllocError>
-    requires { lent_sites calls.now ≡ lines.sites (subject_of subject.now) }
+    requires { seen_sites calls.now ≡ lines.sites (subject_of subject.now) }
     ensures { OnOk result (text.new ≡ text.old ++ lines.site_line (subject_of subject.now) of) }
 {
     match calls.get(of.number as usize) {
@@ -99,7 +99,7 @@ fn put_all(
     calls: &[&SiteNeed],
     sites: &[Lying],
 ) -> Result<(), AllocError>
-    requires { lent_sites calls.now ≡ lines.sites (subject_of subject.now) }
+    requires { seen_sites calls.now ≡ lines.sites (subject_of subject.now) }
     ensures { OnOk result (text.new ≡ text.old ++ lines.site_lines_of (subject_of subject.now) sites.now) }
 {
     for i in 0..sites.len() {

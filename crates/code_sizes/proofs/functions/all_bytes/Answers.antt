@@ -1,5 +1,6 @@
 use Rattle.ir_program.specs.Seen.{program_of}
-use Rattle.code_sizes.specs.Parts.{seen_sites, function_bytes}
+use Rattle.plan_crossings.specs.Seen.{seen_sites}
+use Rattle.code_sizes.specs.Parts.{function_bytes}
 use Rattle.code_sizes.proofs.functions.all_bytes.Goals as goal
 use Rattle.plan_model.proofs.Numbers.{mapped_more}
 

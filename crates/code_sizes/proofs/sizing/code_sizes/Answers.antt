@@ -1,7 +1,8 @@
 use Rattle.std.proofs.Common.{ℕ, List, length, ap, ◌∙◌, sym}
 use Rattle.std.proofs.lemmas.List.FromFn.{length-map-range_with_len}
 use Rattle.ir_program.specs.Seen.{program_of}
-use Rattle.code_sizes.specs.Parts.{seen_sites, function_bytes}
+use Rattle.plan_crossings.specs.Seen.{seen_sites}
+use Rattle.code_sizes.specs.Parts.{function_bytes}
 use Rattle.code_sizes.proofs.sizing.code_sizes.Goals as goal
 
 pub code_bytes-requires : goal.code_bytes-requires

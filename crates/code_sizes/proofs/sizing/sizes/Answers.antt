@@ -7,7 +7,8 @@ use Rattle.plan_model.specs.Crossing.{crossing_sites}
 use Rattle.plan_model.specs.TableSize.{initial_words}
 use Rattle.code_model.specs.CompartmentCode.{code_sizes}
 use Rattle.code_model.specs.Planned.{code_groups}
-use Rattle.code_sizes.specs.Parts.{seen_sites, code_with, block_count, record_bytes}
+use Rattle.plan_crossings.specs.Seen.{seen_sites}
+use Rattle.code_sizes.specs.Parts.{code_with, block_count, record_bytes}
 use Rattle.code_sizes.proofs.Same.{code_is, tables_are}
 use Rattle.code_sizes.proofs.sizing.sizes.Goals as goal
 

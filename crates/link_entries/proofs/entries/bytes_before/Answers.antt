@@ -20,7 +20,7 @@ loop-other-preserved c =
           let m = ap (λ fs. filled_total zs fs) (member_kept k ds x lt t) in
           let s = total-append zs (members_from 0 (take k ds) x) k in
           let is = w.total-is in
-          let one = w.in_ok-rounded_up.ensures in
+          let one = w.in_ok-rounded_up.ensures.value in
           let two = w.in_ok-total.ensures.1 in
           omega (arith, m, s, is, one, two, c.loop-other.invariant)
       | else-compartments-other w ↦

@@ -1,6 +1,6 @@
 use Rattle.std.proofs.Common.{◌≡◌, ◌++◌, drop, IfSome}
 use Rattle.ir_program.specs.Seen.{program_of}
-use Rattle.link_entries.specs.Lent.{lent_sites}
+use Rattle.plan_crossings.specs.Seen.{seen_sites}
 use Rattle.link_entries.specs.Recorded.{site_records_in}
 use Rattle.link_entries.specs.Walked.{IsFound}
 use Rattle.link_entries.proofs.records.site_records.Given as goal
@@ -9,6 +9,6 @@ use Rattle.link_entries.proofs.records.site_records.Given as goal
 abbrev pub invariant-loop-site : goal.invariant-loop-site
 invariant-loop-site l =
     record {
-      whole : l.all.items ++ site_records_in l.making l.first (lent_sites (drop l.site-index l.sites)) ≡ site_records_in l.making 0 (lent_sites l.sites);
+      whole : l.all.items ++ site_records_in l.making l.first (seen_sites (drop l.site-index l.sites)) ≡ site_records_in l.making 0 (seen_sites l.sites);
       last : IfSome l.last (IsFound (program_of l.making.program.now) l.making.numbers.now);
     }

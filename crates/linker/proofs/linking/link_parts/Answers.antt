@@ -2,7 +2,7 @@ use Rattle.std.proofs.Common.{◌≡◌, List, ap, sym, ◌∙◌}
 use Rattle.std.specs.Borrow.{Bor}
 use Rattle.plan_model.specs.declared.needs.SiteNeed.{SiteNeed}
 use Rattle.link_entries.specs.declared.making.Making.{Making}
-use Rattle.link_entries.specs.Lent.{lent_sites}
+use Rattle.plan_crossings.specs.Seen.{seen_sites}
 use Rattle.linker.proofs.Linked.{each_lend, made_ready}
 use Rattle.linker.proofs.Same.{numbers_made, tables_made}
 use Rattle.linker.proofs.linking.link_parts.Goals as goal
@@ -27,7 +27,7 @@ returns c =
       numbers = record { ref_ptr = here; now = c.in_ok-numbers.numbers };
       addresses = record { ref_ptr = here; now = c.in_ok-addresses.addresses };
     } in
-    let sites_of : List (Bor SiteNeed) → List SiteNeed = λ xs. lent_sites xs in
+    let sites_of : List (Bor SiteNeed) → List SiteNeed = λ xs. seen_sites xs in
     let es = ap sites_of c.deref.ensures.value ∙ c.in_ok-sites.ensures in
     let es_too = ap sites_of c.deref-2.ensures.value ∙ c.in_ok-sites.ensures in
     let numbers = numbers_made _ n f _ _ c.in_ok-numbers.numbers es c.lent-lent.ensures c.in_ok-numbers.ensures.exact in

@@ -15,10 +15,6 @@ pub local_starts-requires : goal.local_starts-requires
 local_starts-requires c =
     bare_frame c.args.program.now c.routine_at-routine.result.now c.args.places.now (rw c.routine_at-routine.ensures at c.requires.fits)
 
-pub frame_words-requires : goal.frame_words-requires
-frame_words-requires c =
-    bare_frame c.args.program.now c.routine_at-routine.result.now c.args.places.now (rw c.routine_at-routine.ensures at c.requires.fits)
-
 pub lent_among-requires-clause-pairs : goal.lent_among-requires-clause-pairs
 lent_among-requires-clause-pairs c =
     ap length c.as_slice.ensures.value
@@ -37,7 +33,7 @@ returns-clause-subject c =
     let first = ap first_label from ∙ first_is (length c.args.asm.now.places) (length g.blocks) fits.some_block in
     record {
       fits = fits;
-      words = c.frame_words.ensures ∙ sym (same_words ks r);
+      words = c.in-Some.ensures.value ∙ sym (same_words ks r);
       starts = starts;
       near = c.in_ok-starts.ensures.near;
       lent = c.in_ok-lent.ensures.exact
