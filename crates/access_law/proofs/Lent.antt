@@ -184,9 +184,6 @@ module _ (laws : ThreadLaws) (i : Image) (t : Tables) (p : Placed i t) (m : Bloc
     unfolding encode
     held = lies.code
 
-    below_six : op < 6
-    below_six = lies.in_table.0
-
     -- of a loan that holds the access
     module _ (has : ℕ → Bool) (w : ℕ) (lent : IsLentWhole i t m has w s) (l : Loan) (placed : IsLoan t l) (from : l.address ≤ at) (to : at + w ≤ l.end) (some : 0 < w) where
       abbrev c : ℕ

@@ -4,7 +4,7 @@ mod Direct
 mod Memory
 mod Outcomes
 mod Behind
-mod Room
+pub mod Room
 mod Returns
 mod Frames
 mod Lent

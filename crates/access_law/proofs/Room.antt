@@ -61,7 +61,7 @@ no_pad_at sp a = let e : nat_eq (sp % 8) 0 ≡ true = search (nat_tests, arith) 
 clear_bit : (n : ℕ) → nat_eq (n % 2) 1 ≡ false → n % 2 ≡ 0
 clear_bit n e = grind (arith, nat_tests)
 
-low_address : (a : ℕ) → a < 0xE0000000 → in_system a ≡ false
+pub low_address : (a : ℕ) → a < 0xE0000000 → in_system a ≡ false
 low_address a h = let e : nat_lt a 0xE0000000 ≡ true = search (nat_tests, arith) in rw e refl
 
 refused_verdict : (p : ProtectionState) (kind : Access) (w a : ℕ) → a % w ≡ 0 → a < 0xE0000000 → by_mpu p kind a ≡ false → verdict by_mpu p kind w a ≡ Refused

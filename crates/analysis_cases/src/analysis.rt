@@ -9,7 +9,7 @@ ghost use Rattle.plan_model.specs.PointsTo.{IsLeast};
 
 use crate::boards::board_line;
 use crate::graphs::{put_graph, put_limit};
-use crate::needs::put_needs;
+use crate::function_needs::put_needs;
 use crate::sets::put_sets;
 use plan_model::Policy;
 use anyhow::{Result, bail};

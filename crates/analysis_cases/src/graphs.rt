@@ -1,6 +1,6 @@
 //! Graphs and limits as text.
 
-use crate::needs::put_numbers;
+use crate::function_needs::put_numbers;
 use anyhow::Result;
 use plan_model::graph::{Cover, Graph, Region};
 use plan_model::groups::Groups;

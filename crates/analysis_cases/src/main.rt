@@ -4,7 +4,7 @@
 mod analysis;
 mod boards;
 mod graphs;
-mod needs;
+mod function_needs;
 mod sets;
 
 use analysis::Analysis;

@@ -7,14 +7,13 @@ use Rattle.thumb_model.specs.declared.table.Instr.{Instr}
 use Rattle.thumb_model.specs.Decoded.{decoded}
 use Rattle.mpu_model.specs.declared.region.Access.{Access}
 use Rattle.mpu_model.specs.declared.region.Access.TheVariants.{Read, Write, Fetch}
-use Rattle.mpu_model.specs.Protection.{permits, is_on, default_allows}
 use Rattle.device_model.specs.declared.image.Image.{Image}
 use Rattle.mem_bus.specs.Places.{place, is_memory, choose}
 use Rattle.mem_bus.specs.Bus.{fetch_at}
 use Rattle.armv7m.specs.declared.state.CoreRegisters.{CoreRegisters}
 use Rattle.armv7m.specs.declared.state.ProtectionState.{ProtectionState}
 use Rattle.armv7m.specs.declared.state.End.{End}
-use Rattle.armv7m.specs.State.{State, PermissionTest, by_mpu, is_unprivileged}
+use Rattle.armv7m.specs.State.{State, PermissionTest, is_unprivileged}
 use Rattle.armv7m.specs.Act.{Act, Changes, Loads, Stores, LoadsMany, StoresMany, GetsSpecial, SetsSpecial, Exchanges, Calls, Halts, Stops}
 use Rattle.armv7m.specs.Instructions.{act}
 use Rattle.armv7m.specs.System.{in_system, is_system_register}
@@ -200,23 +199,3 @@ module _ (j : PermissionTest) (i : Image) (s : State) where
 pub turn_free : (j : PermissionTest) (i : Image) (s : State) → IsStepAllowed j i s → turn j i s ≡ turn free i s
 unfolding turn
 turn_free j i s may = running_free j i s s.ending may
-
--- ---- the protection unit while it is off
-
-pub off_allows : (p : ProtectionState) (kind : Access) (a : ℕ) → is_on p.mpu ≡ false → default_allows kind a ≡ true → by_mpu p kind a ≡ true
-unfolding by_mpu permits
-off_allows p kind a off default = rw (off, default)
-
-pub off_reads : (p : ProtectionState) (a : ℕ) → is_on p.mpu ≡ false → by_mpu p Read a ≡ true
-off_reads p a off = off_allows p Read a off refl
-
-pub off_writes : (p : ProtectionState) (a : ℕ) → is_on p.mpu ≡ false → by_mpu p Write a ≡ true
-off_writes p a off = off_allows p Write a off refl
-
-pub off_reads_all : (p : ProtectionState) (n a : ℕ) → is_on p.mpu ≡ false → AreAllowed by_mpu p Read a n
-off_reads_all p zero a off = tt
-off_reads_all p (suc n) a off = (off_reads p a off, off_reads_all p n (word (a + 4)) off)
-
-pub off_writes_all : (p : ProtectionState) (n a : ℕ) → is_on p.mpu ≡ false → AreAllowed by_mpu p Write a n
-off_writes_all p zero a off = tt
-off_writes_all p (suc n) a off = (off_writes p a off, off_writes_all p n (word (a + 4)) off)

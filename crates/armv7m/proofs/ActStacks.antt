@@ -1,7 +1,7 @@
 -- What instructions ask for: widths of accesses, the stack pointer that is not in use, and calls.
 use Rattle.std.specs.Prelude.{if◌then◌else◌, ℤ}
 use Rattle.std.proofs.lemmas.Bool.Decides.{nat_tests}
-use Rattle.std.proofs.Common.{◌≡◌, ℕ, ◌+◌, ◌-◌, ◌*◌, ◌%◌, Bool, true, false, inl, inr, List, [], ◌∷◌, length, Option, Some, None, nat_eq, nat_lt, refl, ap, ◌∙◌, arith}
+use Rattle.std.proofs.Common.{◌≡◌, ℕ, ◌+◌, ◌-◌, ◌*◌, ◌%◌, Bool, true, false, inl, inr, List, [], ◌∷◌, length, Option, Some, None, nat_eq, nat_lt, refl, ap, arith}
 use Rattle.words.specs.Arithmetic.{word}
 use Rattle.thumb_model.specs.declared.table.Instr.{Instr}
 use Rattle.thumb_model.specs.declared.table.Instr.TheVariants.{ShiftImmediate, AddSubRegister, AddSubImmediate, DataImmediate, DataRegister, HighRegister, BranchExchange, LoadLiteral, TransferRegister, TransferImmediate, StackRelative, AdjustStack, PushPop, BreakpointNop, TransferMultiple, BranchConditional, CallBranch, BranchLink, BranchWide, MoveWide, MoveTop, Divide, SpecialRegister, Barrier}
@@ -17,9 +17,6 @@ use Rattle.armv7m.specs.ThreadStep.{KeepsStacks}
 
 pub stays : (c : CoreRegisters) → KeepsStacks c c
 stays c = record { in_use = refl; other = refl }
-
-pub stays_by : {c d e : CoreRegisters} → KeepsStacks c d → KeepsStacks d e → KeepsStacks c e
-stays_by h g = record { in_use = g.in_use ∙ h.in_use; other = g.other ∙ h.other }
 
 abbrev pub MaybeStays : CoreRegisters → Option CoreRegisters → Type 0
 MaybeStays c None = Unit {0}

@@ -10,10 +10,9 @@ use Rattle.armv7m.specs.declared.state.CoreRegisters.{CoreRegisters}
 use Rattle.armv7m.specs.declared.state.ProtectionState.{ProtectionState}
 use Rattle.armv7m.specs.declared.state.FaultStatus.{FaultStatus}
 use Rattle.armv7m.specs.declared.state.End.TheVariants.{Halt, InputEnd}
-use Rattle.armv7m.specs.State.{PermissionTest, is_unprivileged, with_register}
-use Rattle.armv7m.specs.Act.{Act, Changes, Loads, Stores, GetsSpecial, SetsSpecial, Halts}
+use Rattle.armv7m.specs.State.{PermissionTest}
+use Rattle.armv7m.specs.Act.{Act, Changes, Loads, Stores, Halts}
 use Rattle.armv7m.specs.Instructions.{act}
-use Rattle.armv7m.specs.System.{read_special, write_special}
 use Rattle.armv7m.specs.declared.answers.Verdict.TheVariants.{ToBus}
 use Rattle.armv7m.specs.Tests.{verdict}
 use Rattle.armv7m.specs.Perform.{perform}
@@ -63,17 +62,6 @@ module _ (j : PermissionTest) (i : Image) (c : CoreRegisters) (p : ProtectionSta
       StepsWith j i (live c p t ram queues) (live d p t ram queues) (output_event i ram k o w u)
   unfolding perform
   stores_window w a k o u d h e v l = steps_with_from (turns (Stores w a u d) h e) (rw (v, l) refl) (rw (v, l) refl)
-
-  -- MSR and MRS
-  pub gets_special : (n r : ℕ) (d : CoreRegisters) → Stands j i p c.pc x → act x (c.pc + size x) c ≡ GetsSpecial n r d →
-      Steps j i (live c p t ram queues) (live (with_register d r (read_special (is_unprivileged p) n (live c p t ram queues))) p t ram queues)
-  unfolding perform
-  gets_special n r d h e = steps_from (turns (GetsSpecial n r d) h e) refl refl
-
-  pub sets_special : (n v : ℕ) (d : CoreRegisters) → Stands j i p c.pc x → act x (c.pc + size x) c ≡ SetsSpecial n v d →
-      Steps j i (live c p t ram queues) (write_special (is_unprivileged p) n v (live c p t ram queues) d)
-  unfolding perform
-  sets_special n v d h e = steps_from (turns (SetsSpecial n v d) h e) refl refl
 
   -- BKPT
   pub halts : (n : ℕ) → Stands j i p c.pc x → act x (c.pc + size x) c ≡ Halts n → Steps j i (live c p t ram queues) (ended (Halt n) (live c p t ram queues))

@@ -1,10 +1,8 @@
 -- Exception entry and return as whole steps.
-use Rattle.std.proofs.Common.{◌≡◌, ℕ, ◌+◌, ◌%◌, ◌<◌, true, false, List, [], ◌∷◌, get_or, Option, None, nat_eq, refl, ap, ◌∙◌, arith, length}
+use Rattle.std.proofs.Common.{◌≡◌, ℕ, ◌+◌, true, false, List, [], ◌∷◌, get_or, Option, None, refl, ap, ◌∙◌, length}
 use Rattle.std.specs.Prelude.{bit_or}
-use Rattle.std.proofs.lemmas.Bool.Decides.{nat_tests}
 use Rattle.words.specs.Bytes.{write_all}
 use Rattle.thumb_model.specs.declared.table.Instr.{Instr}
-use Rattle.mpu_model.specs.declared.region.Access.{Access}
 use Rattle.mpu_model.specs.declared.region.Access.TheVariants.{Read, Write, Fetch}
 use Rattle.device_model.specs.declared.image.Image.{Image}
 use Rattle.armv7m.specs.declared.state.CoreRegisters.{CoreRegisters}
@@ -13,7 +11,6 @@ use Rattle.armv7m.specs.declared.state.FaultStatus.{FaultStatus}
 use Rattle.armv7m.specs.State.{Turn, PermissionTest}
 use Rattle.armv7m.specs.Act.{Loads, Stores, LoadsMany, StoresMany, Exchanges, Calls}
 use Rattle.armv7m.specs.Instructions.{act}
-use Rattle.armv7m.specs.System.{in_system}
 use Rattle.armv7m.specs.declared.answers.Verdict.TheVariants.{Refused}
 use Rattle.armv7m.specs.declared.answers.Verdicts.TheVariants.{RefusedAt}
 use Rattle.armv7m.specs.Tests.{verdict, verdicts, all_open}
@@ -27,14 +24,6 @@ use Rattle.armv7m.proofs.Exec.{steps_from}
 use Rattle.armv7m.proofs.Acts.{turns}
 use Rattle.armv7m.proofs.Stack.{open_in_ram, pushed_are}
 use Rattle.armv7m.proofs.StackWords.{stacked_are}
-
--- a refused access
-pub refused : (j : PermissionTest) (p : ProtectionState) (kind : Access) (w a : ℕ) → a % w ≡ 0 → a < 0xE0000000 → j p kind a ≡ false → verdict j p kind w a ≡ Refused
-unfolding verdict
-refused j p kind w a aligned low denied =
-    let e : nat_eq (a % w) 0 ≡ true = search (nat_tests, arith) in
-    let s : in_system a ≡ false = search (nat_tests, arith) in
-    rw (e, s, denied)
 
 frame_open : (j : PermissionTest) (i : Image) (p : ProtectionState) (sp o : ℕ) → Frame j i p sp o → all_open j i p Write (frame_at sp) 8 ≡ true
 frame_open j i p sp o r = open_in_ram j i p Write 8 (frame_at sp) o r.words r.writes

@@ -22,11 +22,11 @@ pub mod CodeParts
 pub mod Fetches
 pub mod Ends
 mod ActStacks
-pub mod Asked
-pub mod ThreadStep
-pub mod AnyStep
+mod Asked
+mod ThreadStep
+mod AnyStep
 pub mod Turns
-pub mod EntryFrame
+mod EntryFrame
 mod SameBytes
 mod Locality
 mod Accessed

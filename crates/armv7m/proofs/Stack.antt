@@ -3,7 +3,7 @@ use Rattle.std.proofs.Common.{◌≡◌, ℕ, zero, suc, ◌+◌, ◌*◌, ◌<�
 use Rattle.std.proofs.lemmas.Bool.Decides.{nat_tests}
 use Rattle.words.specs.Arithmetic.{word}
 use Rattle.words.specs.Bytes.{write, write_all}
-use Rattle.words.proofs.Bytes.{length-write, cut_small, read_same, read_below_all, read_above_all, read_below, read_above}
+use Rattle.words.proofs.Bytes.{length-write, cut_small, read_same, read_below_all}
 use Rattle.thumb_model.specs.declared.table.Instr.{Instr}
 use Rattle.mpu_model.specs.declared.region.Access.{Access}
 use Rattle.mpu_model.specs.declared.region.Access.TheVariants.{Read, Write}
@@ -106,39 +106,6 @@ cut_words-words [] h = refl
 cut_words-words (v ∷ vs) h =
     let e = cut_small 4 v h.0 in
     let f = cut_words-words vs h.1 in
-    rw (e, f)
-
--- words that lie apart from what is written stay
-pub words_below : (n b w o v : ℕ) (ram : List ℕ) → b + 4 * n ≤ o → words_at n b (write w o v ram) ≡ words_at n b ram
-unfolding words_at
-words_below zero b w o v ram h = refl
-words_below (suc n) b w o v ram h =
-    let e = read_below 4 b w o v ram (omega arith) in
-    let f = words_below n (b + 4) w o v ram (omega arith) in
-    rw (e, f)
-
-pub words_above : (n b w o v : ℕ) (ram : List ℕ) → o + w ≤ b → words_at n b (write w o v ram) ≡ words_at n b ram
-unfolding words_at
-words_above zero b w o v ram h = refl
-words_above (suc n) b w o v ram h =
-    let e = read_above 4 b w o v ram h in
-    let f = words_above n (b + 4) w o v ram (omega arith) in
-    rw (e, f)
-
-pub words_below_all : (n b o : ℕ) (vs ram : List ℕ) → b + 4 * n ≤ o → words_at n b (write_all 4 o vs ram) ≡ words_at n b ram
-unfolding words_at
-words_below_all zero b o vs ram h = refl
-words_below_all (suc n) b o vs ram h =
-    let e = read_below_all 4 b 4 o vs ram (omega arith) in
-    let f = words_below_all n (b + 4) o vs ram (omega arith) in
-    rw (e, f)
-
-pub words_above_all : (n b o : ℕ) (vs ram : List ℕ) → o + 4 * length vs ≤ b → words_at n b (write_all 4 o vs ram) ≡ words_at n b ram
-unfolding words_at
-words_above_all zero b o vs ram h = refl
-words_above_all (suc n) b o vs ram h =
-    let e = read_above_all 4 b 4 o vs ram h in
-    let f = words_above_all n (b + 4) o vs ram (omega arith) in
     rw (e, f)
 
 -- ---- PUSH, POP, STMIA and LDMIA

@@ -1,5 +1,6 @@
 -- What one step may do to memory and protection.
 use Rattle.std.specs.Prelude.{◌≡◌, ◌≢◌, ℕ, ◌+◌, ◌<◌, ◌≤◌, ◌⊎◌, List, [], ◌∷◌, true, false, Some, None, nat_lt}
+use Rattle.common_laws.specs.Lists.{Each}
 use Rattle.mpu_model.specs.declared.region.Access.TheVariants.{Fetch}
 use Rattle.device_model.specs.declared.image.Image.{Image}
 use Rattle.events.specs.declared.event.Event.{Event}
@@ -9,11 +10,6 @@ use Rattle.device_model.specs.Rules.{ObeysRules}
 use Rattle.armv7m.specs.State.{State, Touched, Turn, PermissionTest}
 use Rattle.armv7m.specs.Exceptions.{vector_offset, mem_manage, supervisor_call, fetch_fault}
 use Rattle.armv7m.specs.Step.{turn}
-
--- each element
-abbrev pub Each : {A : Type 0} → (A → Type 0) → List A → Type 0
-Each P [] = Unit {0}
-Each P (x ∷ xs) = P x × Each P xs
 
 -- byte k of RAM lies outside an access
 abbrev pub Misses : Image → ℕ → Touched → Type 0

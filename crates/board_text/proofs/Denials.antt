@@ -24,9 +24,6 @@ Entry = String Global × Value
 pub named_here : (e : Entry) (es : List Entry) → is_name (string_bytes e.0) ≡ true → named (members_view (e ∷ es)) ≡ (string_bytes e.0, view e.1) ∷ named (members_view es)
 named_here e es t = ap (λ (b : Bool). cond b ((string_bytes e.0, view e.1) ∷ named (members_view es)) (named (members_view es))) t
 
-pub named_not : (e : Entry) (es : List Entry) → is_name (string_bytes e.0) ≡ false → named (members_view (e ∷ es)) ≡ named (members_view es)
-named_not e es t = ap (λ (b : Bool). cond b ((string_bytes e.0, view e.1) ∷ named (members_view es)) (named (members_view es))) t
-
 -- ---- arrays that are not of two
 
 pub few_items : (vs : List Value) → length vs < 2 → None ≡ two_in (items_view vs)
@@ -45,10 +42,6 @@ many_items (v ∷ w ∷ x ∷ vs) l = refl
 abbrev pub after : List Denied → Result (List Denied) BoardFault → Result (List Denied) BoardFault
 after ds (Ok es) = Ok (ds ++ es)
 after ds (Err e) = Err e
-
-pub after_none : (r : Result (List Denied) BoardFault) → r ≡ after [] r
-after_none (Ok es) = refl
-after_none (Err e) = refl
 
 pub after_one : (ds : List Denied) (d : Denied) (r : Result (List Denied) BoardFault) → after ds (with_range (Ok d) r) ≡ after (ds ++ d ∷ []) r
 after_one ds d (Ok es) = ap (λ (xs : List Denied). let r : Result (List Denied) BoardFault = Ok xs in r) (sym (append_assoc ds (d ∷ []) es))

@@ -11,8 +11,6 @@ pub closed_start : (first : List (List Bool)) → IsClosedBy 0 first first
 closed_start first = record { kept = λ f g h. h; sound = λ f g h. at_once h; closed = λ f k g l. absurd (omega arith) }
 
 module _ (k : ℕ) (first old new : List (List Bool)) (c : IsClosedBy k first old) (passed : IsPassed k old new) where
-  M : ℕ → ℕ → Type 0
-  M f g = leads old f g ≡ true
 
   now : (f g : ℕ) → (leads old f g || (leads old f k && leads old k g)) ≡ true → leads new f g ≡ true
   now f g h = passed f g ∙ h

@@ -11,7 +11,7 @@ use Rattle.ir_model.specs.declared.extent.TheConstants.{SIZE_LIMIT}
 use Rattle.ir_model.specs.declared.firmware.StructDecl.{StructDecl}
 use Rattle.ir_model.specs.Types.{PlainType, Array, Named, type_of}
 use Rattle.ir_model.specs.Plain.{PlainSlot, PlainStruct, struct_of}
-use Rattle.ir_model.specs.Layout.{CellPlace, FieldPlace, Shape, Known, empty, shape, shape_named, shifted, copies, array_of, with_field, laid_out, field_places, known}
+use Rattle.ir_model.specs.Layout.{CellPlace, FieldPlace, Shape, Known, empty, shape, shifted, copies, array_of, with_field, laid_out, field_places, known}
 use Rattle.ir_model.proofs.Counting.{many_at_least}
 use Rattle.layouts.specs.declared.measure.Measure.{Measure}
 use Rattle.cells.specs.declared.spot.CellSpot.{CellSpot}
@@ -122,13 +122,6 @@ nth_behind ss u t n k m e h b z l = by_count (cases_lt 0 n)
         let q : n * length s.cells ≡ 0 = ap (λ x. x * length s.cells) o ∙ zero-mul (length s.cells) in
         let v : length (shape (known ss) u).cells ≡ length (array_of n s).cells = ap (λ x. length (shape (known ss) x).cells) e in
         omega (arith, c, q, v)
-
--- an element is within the limit where the array is
-pub element_small : (ss : List PlainStruct) (u t : PlainType) (n place : ℕ) → u ≡ Array n t → (shape (known ss) u).size ≤ SIZE_LIMIT → place < n → (shape (known ss) t).size ≤ SIZE_LIMIT
-element_small ss u t n place e b l =
-    let w : (shape (known ss) u).size ≡ n * (shape (known ss) t).size = ap (λ x. (shape (known ss) x).size) e in
-    let r = many_at_least n (shape (known ss) t).size (omega arith) in
-    omega (arith, r, w, b)
 
 next_multiple : (p n s : ℕ) → p < n → p * s + s ≤ n * s
 next_multiple p n s l = let e = suc-mul p s in let m : suc p * s ≤ n * s = grind arith in omega (arith, e, m)
@@ -305,6 +298,3 @@ field_cell_fits ss l j k f c h m e g =
     let r = field_within ss l j f h m e in
     let i : c.at < (shape (known ss) (type_of f.ty.now)).size = inside_nth (shape (known ss) (type_of f.ty.now)).size (shape (known ss) (type_of f.ty.now)).cells k (cell_of c) (good ss (type_of f.ty.now)).inside g in
     omega (arith, r, i)
-
-pub nth_missing : (ss : List PlainStruct) (u : PlainType) (n : List ℕ) (k : ℕ) → u ≡ Named n → shape_named (known ss) n ≡ empty → length (shape (known ss) u).cells ≤ k
-nth_missing ss u n k e h = let q : length (shape (known ss) u).cells ≡ 0 = ap (λ x. length (shape (known ss) x).cells) e ∙ ap (λ (s : Shape). length s.cells) h in omega (arith, q)

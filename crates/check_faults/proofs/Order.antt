@@ -25,6 +25,9 @@ pub refused_right : (a b : Checks) (e : CheckFault) → first_failing a ≡ None
 refused_right a b NoMemory n h = tt
 refused_right a b (At k p) n h = first_append a b n ∙ h
 
+-- for functions that make the checks of several parts
+pub ruleset checks_in_order = (refused_left, refused_right, first_stays, first_append)
+
 -- the same with one check in front
 pub first_behind : (c : Option Failing) (b : Checks) → first_failing (c ∷ []) ≡ None → first_failing (c ∷ b) ≡ first_failing b
 first_behind c b e = first_append (c ∷ []) b e
@@ -34,6 +37,9 @@ refused_one c b e h = refused_left (c ∷ []) b e h
 
 pub refused_behind : (c : Option Failing) (b : Checks) (e : CheckFault) → first_failing (c ∷ []) ≡ None → Refused b e → Refused (c ∷ b) e
 refused_behind c b e n h = refused_right (c ∷ []) b e n h
+
+-- for functions that make one check before those of a part
+pub ruleset checks_behind_one = (refused_one, refused_behind, first_behind)
 
 -- along a loop: what is left to check
 pub passed : (all one rest : Checks) → first_failing all ≡ first_failing (one ++ rest) → first_failing one ≡ None → first_failing all ≡ first_failing rest

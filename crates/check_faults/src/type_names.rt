@@ -14,7 +14,7 @@ use name_tables::Names;
 
 /// Whether each struct in a type is declared, and each that is behind no pointer and no `fn` earlier.
 #[cycle(type_names)]
-#[tactic(auto, using(crate::proofs::Order::refused_left, crate::proofs::Order::refused_right, crate::proofs::Order::first_stays, crate::proofs::Order::first_append))]
+#[tactic(auto, using(crate::proofs::Order::checks_in_order))]
 pub fn type_names<'n>(
     declared: &Names<'n>,
     earlier: &Names<'n>,

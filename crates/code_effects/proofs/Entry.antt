@@ -122,10 +122,6 @@ frame_size n w =
     let e : code_size (sub_by (nat_le w 127) w) ≡ adjust_size w = sub_size (nat_le w 127) w in
     omega arith
 
-lend_size : (ds : List Lend) → code_size (lend_code ds) ≡ 6 * length ds
-lend_size [] = refl
-lend_size (d ∷ ds) = omega (arith, lend_size ds)
-
 -- ---- stores into the frame
 
 -- the last of n + 1 words

@@ -1,5 +1,5 @@
 pub mod Registers
-pub mod Joined
+mod Joined
 mod Moves
 pub mod Items
 pub mod Kept

@@ -1,5 +1,5 @@
 pub mod Frames
-pub mod Totals
+mod Totals
 pub mod PieceSizes
 pub mod FunctionSizes
 pub mod Even

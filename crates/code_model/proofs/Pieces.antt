@@ -18,16 +18,6 @@ use Rattle.code_model.proofs.PieceSizes.{cross_total, icross_total, inst_total, 
 use Rattle.code_model.proofs.FunctionSizes.{block_total}
 use Rattle.thumb_asm.proofs.Items.{total-append}
 
--- it stands so with more in front and behind
-pub among : (front whole behind piece : List Item) (n m : ℕ) → total front + n ≡ m → StandsAt whole n piece → StandsAt (front ++ (whole ++ behind)) m piece
-among front whole behind piece n m e s =
-    record {
-      front = front ++ s.front;
-      rest = s.rest ++ behind;
-      parts = rw s.parts (ap (λ xs. front ++ xs) (append_assoc s.front (piece ++ s.rest) behind ∙ ap (λ xs. s.front ++ xs) (append_assoc piece s.rest behind)) ∙ sym (append_assoc front s.front (piece ++ (s.rest ++ behind))));
-      behind = let t = total-append front s.front in let b = s.behind in omega arith;
-    }
-
 pub behind_it : (front whole piece : List Item) (n m : ℕ) → total front + n ≡ m → StandsAt whole n piece → StandsAt (front ++ whole) m piece
 behind_it front whole piece n m e s =
     record {

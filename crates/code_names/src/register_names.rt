@@ -20,7 +20,7 @@ fn one_known(func: &FuncScope, spot: Spot, name: &Name) -> Result<(), CheckFault
     require_known(func.registers.has(name), name, spot)
 }
 
-#[tactic(auto, using(check_faults::proofs::Order::refused_left, check_faults::proofs::Order::refused_right, check_faults::proofs::Order::first_stays, check_faults::proofs::Order::first_append, check_faults::proofs::Order::refused_one, check_faults::proofs::Order::refused_behind, check_faults::proofs::Order::first_behind))]
+#[tactic(auto, using(check_faults::proofs::Order::checks_in_order, check_faults::proofs::Order::checks_behind_one))]
 fn two_known(func: &FuncScope, spot: Spot, a: &Name, b: &Name) -> Result<(), CheckFault>
     requires { IsFuncScope func.now }
     ensures { Finds (registers_known (func_of func.now.func.now) (place_of spot.entry) (a.now ∷ b.now ∷ [])) result }
@@ -30,7 +30,7 @@ fn two_known(func: &FuncScope, spot: Spot, a: &Name, b: &Name) -> Result<(), Che
     Ok(())
 }
 
-#[tactic(auto, using(check_faults::proofs::Order::refused_left, check_faults::proofs::Order::refused_right, check_faults::proofs::Order::first_stays, check_faults::proofs::Order::first_append, check_faults::proofs::Order::refused_one, check_faults::proofs::Order::refused_behind, check_faults::proofs::Order::first_behind))]
+#[tactic(auto, using(check_faults::proofs::Order::checks_in_order, check_faults::proofs::Order::checks_behind_one))]
 fn three_known(func: &FuncScope, spot: Spot, a: &Name, b: &Name, c: &Name) -> Result<(), CheckFault>
     requires { IsFuncScope func.now }
     ensures { Finds (registers_known (func_of func.now.func.now) (place_of spot.entry) (a.now ∷ b.now ∷ c.now ∷ [])) result }
@@ -77,7 +77,7 @@ fn address_known(scope: &Scope, func: &FuncScope, spot: Spot, name: &Name) -> Re
 }
 
 /// Whether each name of a block's end is there.
-#[tactic(auto, using(check_faults::proofs::Order::refused_left, check_faults::proofs::Order::refused_right, check_faults::proofs::Order::first_stays, check_faults::proofs::Order::first_append, check_faults::proofs::Order::refused_one, check_faults::proofs::Order::refused_behind, check_faults::proofs::Order::first_behind))]
+#[tactic(auto, using(check_faults::proofs::Order::checks_in_order, check_faults::proofs::Order::checks_behind_one))]
 pub fn term_names(func: &FuncScope, spot: Spot, term: &Term) -> Result<(), CheckFault>
     requires { IsFuncScope func.now }
     ensures { Finds (term_names (func_of func.now.func.now) (place_of spot.entry) term.now) result }
@@ -95,7 +95,7 @@ pub fn term_names(func: &FuncScope, spot: Spot, term: &Term) -> Result<(), Check
 }
 
 /// Whether each name of an instruction is there, from left to right.
-#[tactic(auto, using(check_faults::proofs::Order::refused_left, check_faults::proofs::Order::refused_right, check_faults::proofs::Order::first_stays, check_faults::proofs::Order::first_append, check_faults::proofs::Order::refused_one, check_faults::proofs::Order::refused_behind, check_faults::proofs::Order::first_behind))]
+#[tactic(auto, using(check_faults::proofs::Order::checks_in_order, check_faults::proofs::Order::checks_behind_one))]
 pub fn inst_names(
     scope: &Scope,
     func: &FuncScope,

@@ -1,11 +1,10 @@
 -- Calls that a walk over a function lists, one instruction, one block and one function more.
 use Rattle.std.proofs.Common.{◌≡◌, ℕ, zero, suc, ◌+◌, ◌<◌, ◌≤◌, List, [], ◌∷◌, ◌++◌, length, map, take, get_or, refl, sym, ap, subst, ◌∙◌, inl, inr, arith}
 use Rattle.std.specs.Prelude.{◌⊎◌, Contains}
-use Rattle.std.specs.List.{AllZip, range_with_len}
+use Rattle.std.specs.List.{AllZip}
 use Rattle.std.specs.List.Sorted.{IsStrictlySortedBy}
 use Rattle.std.specs.Ordering.{nat_cmp}
-use Rattle.std.proofs.lemmas.List.{append_assoc, append-nil, map-id, map_more, length-take-le, length-map, get_or-map}
-use Rattle.std.proofs.lemmas.List.FromFn.{map-range_with_len_more}
+use Rattle.std.proofs.lemmas.List.{append_assoc, append-nil, map_more, length-take-le, length-map, get_or-map}
 use Rattle.ir_model.specs.Layout.{Known}
 use Rattle.ir_model.specs.Resolved.{Program, NumberedInst, Const, Move, Bin, Cmp, Addr, FAddr, Elem, Field, Load, Store, Call, ICall, NumberedTerm, NumberedBlock, NumberedFunc, no_block, Here, Does, here_in, here, func_at, block_at}
 use Rattle.ir_program.specs.declared.program.Operation.{Operation}
@@ -69,12 +68,6 @@ pub here_there : {X : Type 0} (h : X → NumberedInst) (xs : List X) (t : Number
 here_there h [] t i x l e = absurd (omega arith)
 here_there h (y ∷ ys) t zero x l e = ap (λ z. Does (h z)) (sym e)
 here_there h (y ∷ ys) t (suc i) x l e = here_there h ys t i x (omega arith) e
-
--- ---- numbers
-
-pub numbers_more : (n : ℕ) → range_with_len 0 (n + 1) ≡ range_with_len 0 n ++ n ∷ []
-numbers_more n =
-    sym (map-id (range_with_len 0 (n + 1))) ∙ (map-range_with_len_more (λ (x : ℕ). x) 0 n n (omega arith) ∙ ap (λ l. l ++ n ∷ []) (map-id (range_with_len 0 n)))
 
 -- ---- one instruction
 

@@ -1,6 +1,7 @@
 -- Lists: what holds of each element, elements of joined lists, maps, filters and sums.
-use Rattle.std.proofs.Common.{◌≡◌, ℕ, zero, suc, ◌+◌, ◌<◌, ◌≤◌, Bool, true, false, ◌&&◌, ◌||◌, cond, List, [], ◌∷◌, ◌++◌, length, map, filter, take, drop, get_or, Some, is_some, refl, ap, arith, sym, sum}
-use Rattle.std.specs.List.{list_any, position_from, AllZip, Contains}
+use Rattle.std.proofs.Common.{◌≡◌, ℕ, zero, suc, ◌+◌, ◌<◌, ◌≤◌, Bool, true, false, ◌&&◌, ◌||◌, cond, List, [], ◌∷◌, ◌++◌, length, map, filter, take, drop, get_or, slice_index_or, Some, is_some, refl, ap, arith, sym, subst, sum}
+use Rattle.std.specs.List.{list_any, list_all, position_from, AllZip, Contains}
+use Rattle.std.proofs.lemmas.Bool.{and_parts}
 use Rattle.common_laws.specs.Lists.{Each}
 use Rattle.std.proofs.lemmas.List.Sums.{sum_by-cons}
 
@@ -21,6 +22,30 @@ pub each_both : {A : Type 0} (P : A → Type 0) (xs ys : List A) → Each P xs �
 each_both P [] ys h g = g
 each_both P (x ∷ xs) ys h g = (h.0, each_both P xs ys h.1 g)
 
+-- the front of two lists that are joined
+pub each_left : {A : Type 0} (P : A → Type 0) (xs ys : List A) → Each P (xs ++ ys) → Each P xs
+each_left P [] ys h = tt
+each_left P (x ∷ xs) ys h = (h.0, each_left P xs ys h.1)
+
+-- and the back
+pub each_right : {A : Type 0} (P : A → Type 0) (xs ys : List A) → Each P (xs ++ ys) → Each P ys
+each_right P [] ys h = h
+each_right P (x ∷ xs) ys h = each_right P xs ys h.1
+
+each_there : {A : Type 0} (P : A → Type 0) (xs : List A) (k : ℕ) (d x : A) → k < length xs → slice_index_or xs k d ≡ x → Each P xs → P x
+each_there P [] k d x l e h = absurd (omega arith)
+each_there P (y ∷ ys) zero d x l e h = subst P e h.0
+each_there P (y ∷ ys) (suc k) d x l e h = each_there P ys k d x (omega arith) e h.1
+
+-- an element that the list contains
+pub each_contained : {A : Type 0} (P : A → Type 0) (xs : List A) (x : A) → Contains xs x → Each P xs → P x
+each_contained P xs x c h = each_there P xs c.0 x x c.1 c.2 h
+
+-- a test that each element passes
+pub each_from_list_all : {A : Type 0} (p : A → Bool) (xs : List A) → list_all p xs ≡ true → Each (λ x. p x ≡ true) xs
+each_from_list_all p [] h = tt
+each_from_list_all p (x ∷ xs) h = let r = and_parts (p x) (list_all p xs) h in (r.0, each_from_list_all p xs r.1)
+
 pub each_drop : {A : Type 0} (P : A → Type 0) (n : ℕ) (xs : List A) → Each P xs → Each P (drop n xs)
 each_drop P zero xs h = h
 each_drop P (suc n) [] h = tt
@@ -40,6 +65,11 @@ zip_pushed R (v ∷ vs) (z ∷ zs) x y a r = (a.0, zip_pushed R vs zs x y a.1 r)
 pub mapped_twice : {X Y Z : Type 0} (f : Y → Z) (g : X → Y) (xs : List X) → map f (map g xs) ≡ map (λ x. f (g x)) xs
 mapped_twice f g [] = refl
 mapped_twice f g (x ∷ xs) = ap (λ ys. f (g x) ∷ ys) (mapped_twice f g xs)
+
+pub get_or_mapped : {X Y : Type 0} (g : X → Y) (xs : List X) (k : ℕ) (d : X) → get_or (map g xs) k (g d) ≡ g (get_or xs k d)
+get_or_mapped g [] k d = refl
+get_or_mapped g (x ∷ xs) zero d = refl
+get_or_mapped g (x ∷ xs) (suc k) d = get_or_mapped g xs k d
 
 pub few_kept : {X : Type 0} (q : X → Bool) (xs : List X) → length (filter q xs) ≤ length xs
 few_kept q [] = omega arith

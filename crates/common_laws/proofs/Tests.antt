@@ -1,9 +1,5 @@
 -- Tests that are true.
-use Rattle.std.proofs.Common.{◌≡◌, Bool, true, false, not, ◌||◌, refl, sym}
-
-pub neither : (a b : Bool) → not (a || b) ≡ true → (not a ≡ true) × (not b ≡ true)
-neither true b h = cc
-neither false b h = (refl, h)
+use Rattle.std.proofs.Common.{◌≡◌, Bool, true, false, ◌||◌, refl, sym}
 
 pub turned : (a b c : Bool) → (a || (b || c)) ≡ (b || (a || c))
 turned true true c = refl
@@ -15,3 +11,8 @@ pub same_tests : (x y : Bool) → (x ≡ true → y ≡ true) → (y ≡ true �
 same_tests true y h k = sym (h refl)
 same_tests false true h k = k refl
 same_tests false false h k = refl
+
+-- a test that is not true
+pub is_false : (b : Bool) → (b ≡ true → ⊥) → b ≡ false
+is_false true h = absurd (h refl)
+is_false false h = refl

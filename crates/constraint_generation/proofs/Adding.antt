@@ -1,10 +1,8 @@
 -- One thing is put to the rules.
 use Rattle.std.proofs.Common.{◌≡◌, ℕ, ◌<◌, List, [], ◌∷◌, ◌++◌, length, get_or, set, map, sym, ap, ◌∙◌, subst, arith, ◌⊎◌, inl, inr}
 use Rattle.std.specs.Prelude.{Contains, Vec}
-use Rattle.std.proofs.lemmas.List.{length-append, length-map, get_or-map, get_or-set_same, map-set}
+use Rattle.std.proofs.lemmas.List.{length-map, get_or-map, get_or-set_same, map-set}
 use Rattle.std.proofs.lemmas.List.Elements.{Contains-append_left, Contains-push, Contains-push_cases}
-use Rattle.inclusion_constraints.specs.declared.rules.Pair.{Pair}
-use Rattle.inclusion_constraints.specs.declared.rules.Edge.{Edge}
 use Rattle.inclusion_constraints.specs.declared.rules.Trigger.{Trigger}
 use Rattle.inclusion_constraints.specs.declared.rules.Rules.{Rules}
 use Rattle.inclusion_constraints.specs.Rules.{lists_in}
@@ -14,42 +12,6 @@ use Rattle.inclusion_constraints.proofs.Replaced.{each_replaced}
 pub record IsRow (old new : List (List Trigger)) (n : ℕ) (t : Trigger) : Type 0 where
   pub there : n < length old
   pub is : new ≡ set old n (get_or old n [] ++ t ∷ [])
-
-pub fact_added : (old new : Rules) (x : Pair) → new.facts.items ≡ old.facts.items ++ x ∷ [] → new.copies ≡ old.copies → new.triggers ≡ old.triggers → IsAdded old new (Fact x)
-fact_added old new x e c t = record {
-  added = subst (λ l. Contains l x) (sym e) (Contains-push old.facts.items x);
-  kept = kept;
-  cases = cases;
-  facts = ap length e ∙ length-append old.facts.items (x ∷ []);
-}
-  where
-    kept : (y : Item) → HasItem old y → HasItem new y
-    kept (Fact y) h = subst (λ l. Contains l y) (sym e) (Contains-append_left old.facts.items (x ∷ []) y h)
-    kept (Copy y) h = subst (λ l. Contains l.items y) (sym c) h
-    kept (Asks n y) h = subst (λ l. Contains (get_or (lists_in l) n []) y) (sym t) h
-
-    cases : (y : Item) → HasItem new y → HasItem old y ⊎ (Fact x ≡ y)
-    cases (Fact y) h = elim (Contains-push_cases old.facts.items x y (subst (λ l. Contains l y) e h)) [ inl i ↦ inl i | inr i ↦ inr (ap Fact i) ]
-    cases (Copy y) h = inl (subst (λ l. Contains l.items y) c h)
-    cases (Asks n y) h = inl (subst (λ l. Contains (get_or (lists_in l) n []) y) t h)
-
-pub copy_added : (old new : Rules) (x : Edge) → new.copies.items ≡ old.copies.items ++ x ∷ [] → new.facts ≡ old.facts → new.triggers ≡ old.triggers → IsAdded old new (Copy x)
-copy_added old new x e c t = record {
-  added = subst (λ l. Contains l x) (sym e) (Contains-push old.copies.items x);
-  kept = kept;
-  cases = cases;
-  facts = (let q = ap (λ l. length l.items) c in omega arith);
-}
-  where
-    kept : (y : Item) → HasItem old y → HasItem new y
-    kept (Copy y) h = subst (λ l. Contains l y) (sym e) (Contains-append_left old.copies.items (x ∷ []) y h)
-    kept (Fact y) h = subst (λ l. Contains l.items y) (sym c) h
-    kept (Asks n y) h = subst (λ l. Contains (get_or (lists_in l) n []) y) (sym t) h
-
-    cases : (y : Item) → HasItem new y → HasItem old y ⊎ (Copy x ≡ y)
-    cases (Copy y) h = elim (Contains-push_cases old.copies.items x y (subst (λ l. Contains l y) e h)) [ inl i ↦ inl i | inr i ↦ inr (ap Copy i) ]
-    cases (Fact y) h = inl (subst (λ l. Contains l.items y) c h)
-    cases (Asks n y) h = inl (subst (λ l. Contains (get_or (lists_in l) n []) y) t h)
 
 pub trigger_added : (old new : Rules) (n : ℕ) (x : Trigger) → IsRow (lists_in old.triggers) (lists_in new.triggers) n x → new.facts ≡ old.facts → new.copies ≡ old.copies → IsAdded old new (Asks n x)
 trigger_added old new n x q f c = record {

@@ -55,9 +55,6 @@ module _ (p : Program) where
   store_obeyed S from i j o None e f h = tt
   store_obeyed S from i j o (Some a) e f h = λ m q. ap (λ n. S n (object_from c m)) (content_back c o a f) ∙ h (object_from c m) (sym (at_numbers S from j m e) ∙ q)
 
-  abbrev parameter : PlainType → (g k : ℕ) → Option ℕ
-  parameter t g k = parameter_of p c t g k
-
   given_to : (S : ObjectSets) (from : Node) (j g k : ℕ) (t : PlainType) (b : Bool) (r : Option ℕ) → same (signature p g) t && carries (register_type p g k) ≡ b → node_number c (Register g k) ≡ r → node_number c from ≡ Some j
       → (g < length p.funcs → signature p g ≡ t → carries (register_type p g k) ≡ true → IsWithin S from (Register g k)) → OnEdge (edge_to j (if b then r else None)) (Passes (by_numbers S))
   given_to S from j g k t false r s e f h = tt

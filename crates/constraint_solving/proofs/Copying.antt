@@ -1,7 +1,6 @@
 -- The objects of a node are put to another's, one by one.
 use Rattle.std.proofs.Common.{◌≡◌, ◌≢◌, ℕ, zero, suc, ◌+◌, ◌<◌, ◌≤◌, true, List, [], ◌∷◌, length, get_or, refl, sym, ap, ◌∙◌, subst, arith, inl, inr, Option, Some, None, slice_get, below_more}
 use Rattle.std.proofs.lemmas.List.{get_or_default}
-use Rattle.object_pairs.specs.Tables.{Table}
 use Rattle.numbered_lists.specs.Rows.{Lists, row, added}
 use Rattle.inclusion_constraints.specs.declared.rules.Pair.{Pair}
 use Rattle.inclusion_constraints.specs.declared.rules.Edge.{Edge}
@@ -10,8 +9,8 @@ use Rattle.inclusion_constraints.specs.declared.system.System.{System}
 use Rattle.inclusion_constraints.specs.Rules.{Says, Passes, OnEdge, no_edge}
 use Rattle.inclusion_constraints.specs.declared.rules.Trigger.{Trigger}
 use Rattle.inclusion_constraints.specs.Solutions.{ObeysAll, is_in, IsAsked}
-use Rattle.constraint_solving.specs.Searching.{asked, pair_at, IsSound, Holds, Grown, IsPut, IsCopied, IsFound}
-use Rattle.constraint_solving.proofs.Lists.{taken, added_other, has_at, at_has, added_cases, added_kept, added_new, added_count, added_distinct}
+use Rattle.constraint_solving.specs.Searching.{asked, pair_at, IsSound, Holds, Grown, IsPut, IsCopied}
+use Rattle.constraint_solving.proofs.Lists.{taken, added_other, has_at, at_has, added_cases, added_count, added_distinct}
 use Rattle.constraint_solving.proofs.Putting.{holds_put, grown_put, has_put, grown_none, grown_both}
 use Rattle.constraint_solving.proofs.Firing.{on_some}
 
@@ -91,17 +90,3 @@ sound_edge w rows objects l edges next e g a b d asked copied = let allowed = as
 -- a new edge
 pub holds_edge : (w : System) (s : State) (edges : Lists) (e : Edge) → Holds w s → edges ≡ added s.edges e.from e.to → e.from < length s.pairs.rows → e.to < length s.pairs.rows → e.from ≢ e.to → IsAsked w s.pairs.rows e → ((o : ℕ) → is_in s.pairs.rows e.from o ≡ true → is_in s.pairs.rows e.to o ≡ true) → IsSound w s.pairs.rows s.pairs.objects s.log edges s.next
 holds_edge w s edges e h q a b d asked copied = subst (λ x. IsSound w s.pairs.rows s.pairs.objects s.log x s.next) (sym q) (sound_edge w s.pairs.rows s.pairs.objects s.log s.edges s.next e h a b d asked copied)
-
-pub grown_edge : (s t u : State) (e : Edge) → Grown s t → u.pairs ≡ t.pairs → u.log ≡ t.log → u.edges ≡ added t.edges e.from e.to → Grown s u
-grown_edge s t u e g p l q = grown_both s t u g (record {
-  rows = λ n o h. subst (λ (x : Table). is_in x.rows n o ≡ true) (sym p) h;
-  edges = λ a b h. subst (λ x. is_in x a b ≡ true) (sym q) (added_kept t.edges e.from e.to a b h);
-  log_count = subst (λ (x : List Pair). length t.log ≤ length x) (sym l) (omega arith);
-  log = λ i h. ap (λ (x : List Pair). pair_at x i) l;
-  count = ap (λ (x : Table). length x.rows) p;
-  objects = ap (λ (x : Table). x.objects) p;
-  lengths = λ n. let x = ap (λ (y : Table). length (row y.rows n)) p in omega arith;
-})
-
-pub found_edge : (edges new : Lists) (e : Edge) → new ≡ added edges e.from e.to → e.from < length edges → IsFound new e
-found_edge edges new e q l = inr (subst (λ x. is_in x e.from e.to ≡ true) (sym q) (added_new edges e.from e.to l))

@@ -1,13 +1,13 @@
 -- What is asked for a pair is found, one trigger after another.
-use Rattle.std.proofs.Common.{◌≡◌, ℕ, zero, suc, ◌+◌, ◌<◌, ◌≤◌, true, List, [], ◌∷◌, length, get_or, refl, sym, ◌∙◌, subst, arith, inl, inr, Option, Some, None, slice_get, below_more}
+use Rattle.std.proofs.Common.{◌≡◌, ℕ, ◌+◌, ◌<◌, true, List, [], get_or, refl, sym, ◌∙◌, subst, arith, inl, inr, Option, Some, None, slice_get, below_more}
 use Rattle.inclusion_constraints.specs.declared.rules.Pair.{Pair}
 use Rattle.inclusion_constraints.specs.declared.rules.Edge.{Edge}
 use Rattle.inclusion_constraints.specs.declared.rules.Trigger.{Trigger}
 use Rattle.constraint_solving.specs.declared.state.State.{State}
 use Rattle.inclusion_constraints.specs.declared.system.System.{System}
-use Rattle.inclusion_constraints.specs.Rules.{Says, Passes, OnEdge, lists_in}
-use Rattle.inclusion_constraints.specs.Solutions.{ObeysAll, is_in, IsAsked}
-use Rattle.constraint_solving.specs.Searching.{asked, Holds, Grown, IsFound, IsFired}
+use Rattle.inclusion_constraints.specs.Rules.{OnEdge, lists_in}
+use Rattle.inclusion_constraints.specs.Solutions.{is_in, IsAsked}
+use Rattle.constraint_solving.specs.Searching.{asked, Holds, Grown, IsFound}
 use Rattle.constraint_solving.proofs.Lists.{taken}
 use Rattle.constraint_solving.proofs.Putting.{grown_none, grown_both}
 
@@ -27,23 +27,12 @@ on_edge (Some e) P Q f h = f e h
 pub on_some : (o : Option Edge) (e : Edge) (P : Edge → Type 0) → o ≡ Some e → OnEdge o P → P e
 on_some o e P q h = subst (λ x. OnEdge x P) q h
 
-pub some_on : (o : Option Edge) (e : Edge) (P : Edge → Type 0) → o ≡ Some e → P e → OnEdge o P
-some_on o e P q h = subst (λ x. OnEdge x P) (sym q) h
-
-pub none_on : (o : Option Edge) (P : Edge → Type 0) → o ≡ None → OnEdge o P
-none_on o P q = subst (λ x. OnEdge x P) (sym q) tt
-
 pub found_more : (s t : State) (e : Edge) → Grown s t → IsFound s.edges e → IsFound t.edges e
 found_more s t e g (inl h) = inl h
 found_more s t e g (inr h) = inr (g.edges e.from e.to h)
 
 pub fire_none : (w : System) (s : State) (x : Pair) → Holds w s → IsFiring w s s x 0
 fire_none w s x h = record { holds = h; grown = grown_none s; next = refl; each = λ j l. absurd (omega arith) }
-
-pub fire_allowed : (w : System) (s t : State) (x : Pair) (k : ℕ) (r : Option Trigger) (g : Trigger) → IsFiring w s t x k → is_in s.pairs.rows x.node x.object ≡ true → r ≡ slice_get (get_or (lists_in w.rules.triggers) x.node []) k → r ≡ Some g → (Q : Says) → ObeysAll w Q → OnEdge (asked w g x.object) (Passes Q)
-fire_allowed w s t x k r g c h f e Q q =
-    let i = taken (triggers w x) k g (sym f ∙ e) in
-    subst (λ (y : Trigger). OnEdge (asked w y x.object) (Passes Q)) (i.1 g) (q.triggers x.node k x.object g i.0 (c.holds.below Q q x.node x.object (c.grown.rows x.node x.object h)))
 
 on_made : (o : Option Edge) (P : Edge → Type 0) → ((e : Edge) → o ≡ Some e → P e) → OnEdge o P
 on_made None P h = tt
@@ -66,11 +55,3 @@ fire_next w s t u x k r g c f e h n z q =
           (λ j l d. on_edge (asked w (get_or (triggers w x) j d) x.object) (IsFound t.edges) (IsFound u.edges) (λ a b. found_more t u a n b) (c.each j l d))
           (λ d. subst (λ (y : Trigger). OnEdge (asked w y x.object) (IsFound u.edges)) (sym (i.1 d)) q);
     }
-
-pub trigger_there : (ts : List Trigger) (k : ℕ) (r : Option Trigger) → k < length ts → r ≡ slice_get ts k → r ≡ None → ⊥
-trigger_there [] k r l f e = omega arith
-trigger_there (y ∷ ts) zero r l f e = cc
-trigger_there (y ∷ ts) (suc k) r l f e = trigger_there ts k r (omega arith) f e
-
-pub fire_all : (w : System) (s t : State) (x : Pair) (k : ℕ) → IsFiring w s t x k → length (get_or (lists_in w.rules.triggers) x.node []) ≤ k → IsFired w t.edges x
-fire_all w s t x k c l j d i = c.each j (omega arith) d

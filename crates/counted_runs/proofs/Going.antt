@@ -3,8 +3,8 @@ use Rattle.std.specs.Prelude.{option_to_list}
 use Rattle.std.proofs.Common.{◌≡◌, ℕ, ◌+◌, ◌<◌, ◌≤◌, List, [], ◌∷◌, ◌++◌, Option, Some, None, inl, inr, refl, ap, sym, ◌∙◌, arith, append-nil}
 use Rattle.std.proofs.Math.Nat.{eq-or-lt_of_le}
 use Rattle.words.specs.Runs.{run, events}
-use Rattle.words.proofs.Runs.{events-add}
-use Rattle.words.proofs.EventLines.{run_none, run_behind}
+use Rattle.words.proofs.Runs.{run_none, events-add}
+use Rattle.words.proofs.EventLines.{run_behind}
 use Rattle.counted_runs.specs.TakesSteps.{TakesSteps}
 
 events_none : {S X : Type 0} (step : S → S) (event : S → Option X) (s : S) → events step event 0 s ≡ []

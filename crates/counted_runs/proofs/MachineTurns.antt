@@ -6,6 +6,7 @@ use Rattle.armv7m.specs.declared.state.End.{End}
 use Rattle.machine.specs.declared.Step.{Step}
 use Rattle.machine.specs.declared.Step.TheVariants.{Ran, Event as Told, Ended}
 use Rattle.machine.specs.Machine.{MachineState, answer, answer_by}
+use Rattle.machine.proofs.StepAnswers.{quiet_by as quiet_of, tells_by as tells_of, ended_by as ended_of}
 use Rattle.armv7m.specs.State.{State, Turn, by_mpu}
 use Rattle.armv7m.specs.Step.{turn, step, event}
 use Rattle.armv7m.specs.Ends.{EndsOrGoesOn, StepsEndOrGoOn}
@@ -13,23 +14,6 @@ use Rattle.counted_runs.specs.declared.machines.MachineCount.{MachineCount}
 use Rattle.counted_runs.specs.TakesSteps.{machine_ending_of}
 use Rattle.counted_runs.specs.Counts.{IsMachineCount}
 use Rattle.counted_runs.proofs.Going.{Going, Ending, not_begun, quiet, tells, ended}
-
--- ---- what an answer says of its turn
-
-quiet_of : (o : Option End) (x : Option Event) → Ran ≡ answer_by o x → (o ≡ None) × (x ≡ None)
-quiet_of (Some e) x h = cc
-quiet_of None (Some x) h = cc
-quiet_of None None h = (refl, refl)
-
-tells_of : (o : Option End) (x : Option Event) (y : Event) → Told y ≡ answer_by o x → (o ≡ None) × (x ≡ Some y)
-tells_of (Some e) x y h = cc
-tells_of None None y h = cc
-tells_of None (Some x) y h = (refl, cc)
-
-ended_of : (o : Option End) (x : Option Event) (e : End) → Ended e ≡ answer_by o x → o ≡ Some e
-ended_of (Some d) x e h = cc
-ended_of None (Some x) e h = cc
-ended_of None None e h = cc
 
 -- of a machine that had not ended, a step by which it ends has no event
 silent_by : (s : State) (t : Turn) (e : End) → s.ending ≡ None → EndsOrGoesOn s t → t.to.ending ≡ Some e → t.event ≡ None

@@ -16,7 +16,7 @@ use struct_checks::periphs::periphs;
 use struct_checks::structs::structs;
 
 /// The checks of structs and peripherals, and the tables of the firmware.
-#[tactic(auto, using(check_faults::proofs::Order::refused_left, check_faults::proofs::Order::refused_right, check_faults::proofs::Order::first_stays, check_faults::proofs::Order::first_append))]
+#[tactic(auto, using(check_faults::proofs::Order::checks_in_order))]
 pub fn declared<'a>(alloc: Global, firmware: &'a Firmware) -> Result<Scope<'a>, CheckFault>
     ensures finds { Finds (declared_part (firmware_of firmware.now)) result }
     ensures scope { IfOk result IsScope }

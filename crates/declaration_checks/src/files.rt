@@ -23,7 +23,7 @@ fn func_names<'a>(seen: &mut Names<'a>, funcs: &'a [Func]) -> Result<(), CheckFa
     Ok(())
 }
 
-#[tactic(auto, using(check_faults::proofs::Order::refused_one, check_faults::proofs::Order::refused_behind, check_faults::proofs::Order::first_behind))]
+#[tactic(auto, using(check_faults::proofs::Order::checks_behind_one))]
 fn file<'a>(
     files: &mut Names<'a>,
     seen: &mut Names<'a>,

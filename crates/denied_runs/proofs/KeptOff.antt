@@ -33,14 +33,15 @@ use Rattle.denied_ranges.specs.declared.Denied.{Denied}
 use Rattle.denied_ranges.specs.Denied.{IsDenied, InDenied}
 use Rattle.denied_plans.specs.Meetings.{KeepsOff}
 use Rattle.denied_runs.specs.Denied.{DevicesAreInSlots, NoneIsDenied, PlannedRunsKeepOff}
-use Rattle.denied_runs.proofs.Slots.{SlotLaws, slot_is_allowed}
+use Rattle.linked_promises.proofs.OneSlot.{OwnSlotLaws}
+use Rattle.denied_runs.proofs.Slots.{slot_is_allowed}
 
 -- an address below devices is none of theirs
 low : (ds : List Denied) → Each IsDenied ds → (a : ℕ) → a < 0x40000000 → Each (λ d. InDenied d a → ⊥) ds
 low [] e a lt = tt
 low (d ∷ ds) e a lt = ((λ x. let from = e.0.place.0 in let lo = x.0 in omega (arith, from, lo, lt)), low ds e.1 a lt)
 
-module _ (law : SlotLaws) (w : PlainFirmware) (n : Needs) (f : Final) (b : Board) (is : IsPlanned w n f b) (ds : List Denied) (are : Each IsDenied ds) (off : KeepsOff ds (resolve w) f)
+module _ (law : OwnSlotLaws) (w : PlainFirmware) (n : Needs) (f : Final) (b : Board) (is : IsPlanned w n f b) (ds : List Denied) (are : Each IsDenied ds) (off : KeepsOff ds (resolve w) f)
     (i : Image) (first : State) (slots : DevicesAreInSlots i (planned_tables w n f b) first) where
   abbrev t : Tables
   t = planned_tables w n f b
@@ -56,7 +57,7 @@ module _ (law : SlotLaws) (w : PlainFirmware) (n : Needs) (f : Final) (b : Board
         (λ y h j lt. allowed (later i t first k) (y.address + j) (h j lt)) (slots.stores k x);
   }
 
-pub keep_off : SlotLaws → SoundImagesStaySound → PlannedImagesAreSound → OfPlanned (λ i t. ObeysRules i)
+pub keep_off : OwnSlotLaws → SoundImagesStaySound → PlannedImagesAreSound → OfPlanned (λ i t. ObeysRules i)
     → OfSoundImages monitor_code (λ (i : Image) (t : Tables). EachRun i (DevicesAreInSlots i t)) → PlannedRunsKeepOff
 keep_off law stay sound rules devices w n f b is ds are off flash keeps queues first reset =
     none_is_denied law w n f b is ds are off _ first

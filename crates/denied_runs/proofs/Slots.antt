@@ -1,6 +1,6 @@
 -- No address of devices in a compartment's slots is denied, where a firmware asks for nothing that is.
-use Rattle.std.proofs.Common.{◌≡◌, ℕ, zero, suc, ◌<◌, ◌≤◌, ◌+◌, ◌*◌, ◌/◌, ◌%◌, inl, inr, Bool, true, false, ◌&&◌, cond, nat_lt, List, [], ◌∷◌, length, map, get_or, refl, ap, sym, ◌∙◌, subst, lit<, arith}
-use Rattle.std.proofs.lemmas.Bool.{cases_lt, ltb-true}
+use Rattle.std.proofs.Common.{◌≡◌, ℕ, suc, ◌<◌, ◌≤◌, ◌+◌, ◌%◌, true, false, List, [], ◌∷◌, length, map, get_or, ap, sym, ◌∙◌, subst, lit<, arith}
+use Rattle.std.proofs.lemmas.Bool.{cases_lt}
 use Rattle.std.proofs.lemmas.List.{get_or_past}
 use Rattle.std.proofs.lemmas.List.FromFn.{get_or-map-range_with_len, length-map-range_with_len}
 use Rattle.std.proofs.Math.Pow.{pow_mono}
@@ -9,28 +9,25 @@ use Rattle.armv7m.specs.Confinement.{AnyOf}
 use Rattle.mpu_model.specs.declared.region.Region.{Region}
 use Rattle.mpu_model.specs.declared.words.Rights.TheVariants.{Device}
 use Rattle.mpu_model.specs.Regions.{holds}
-use Rattle.mpu_model.specs.Laws.{RegionsHoldTheirBlocks, RegionsGiveTheirRights}
-use Rattle.mpu_model.specs.Configured.{OpenEighthsAreHeld}
 use Rattle.common_laws.specs.Lists.{Each}
 use Rattle.common_laws.proofs.Lists.{each_both}
 use Rattle.ir_model.specs.Plain.{PlainFirmware}
 use Rattle.ir_model.specs.Resolve.{resolve}
 use Rattle.ir_model.specs.Resolved.{Program}
-use Rattle.ir_laws.specs.Limits.{WindowsLieApart}
 use Rattle.plan_model.specs.declared.needs.Needs.{Needs}
 use Rattle.plan_model.specs.declared.graph.Cover.{Cover}
 use Rattle.plan_model.specs.declared.graph.Final.{Final}
 use Rattle.plan_model.specs.declared.plan.Board.{Board}
 use Rattle.plan_model.specs.declared.plan.Plan.{Plan}
 use Rattle.plan_model.specs.Boards.{slots_of}
-use Rattle.plan_model.specs.Blocks.{block, has_eighths, open_eighths, region_bytes}
+use Rattle.plan_model.specs.Blocks.{block, region_bytes}
 use Rattle.plan_model.specs.Covers.{no_cover}
 use Rattle.plan_model.specs.Lists.{numbers_below}
 use Rattle.plan_model.specs.Regions.{region_at, regions_used, is_user}
 use Rattle.plan_model.specs.RamBlocks.{ForRegion}
 use Rattle.plan_model.specs.Placement.{region_spot}
 use Rattle.plan_model.specs.Slots.{SlotUse, free_slot, data_slot, cover_slot, slot_uses, slots_from, slot_regions}
-use Rattle.layout_laws.specs.RamLaws.{Holds, open_bytes}
+use Rattle.layout_laws.specs.RamLaws.{Holds}
 use Rattle.monitor.specs.declared.tables.CompRecord.{CompRecord}
 use Rattle.monitor.specs.Records.{compartment_at, nobody}
 use Rattle.link_model.specs.LinkedTables.{tables_of, comp_record}
@@ -41,55 +38,19 @@ use Rattle.linked_promises.proofs.Lists.{each_passing, each_map, below_all}
 use Rattle.linked_promises.proofs.Bearing.{use_region}
 use Rattle.linked_promises.proofs.CoverParts.{IsPart}
 use Rattle.linked_promises.proofs.CoverSlots.{covers_are_parts}
-use Rattle.linked_promises.proofs.GlobalPlaces.{GlobalLaws}
 use Rattle.linked_promises.proofs.DataSlots.{slot_holds}
+use Rattle.linked_promises.proofs.OneSlot.{OwnSlotLaws, free_holds, one_slot, open_within}
 use Rattle.denied_ranges.specs.declared.Denied.{Denied}
 use Rattle.denied_ranges.specs.Denied.{InDenied}
 use Rattle.denied_plans.specs.Meetings.{KeepsOff}
 use Rattle.denied_plans.proofs.Apart.{cover_is_allowed}
-
--- what slots rest on
-pub record SlotLaws : Type 0 where
-  pub globals : GlobalLaws
-  pub held : RegionsHoldTheirBlocks
-  pub opened : OpenEighthsAreHeld
-  pub given : RegionsGiveTheirRights
-  pub windows : WindowsLieApart
-
-free_holds : (a number : ℕ) → holds (free_slot number) a ≡ false
-unfolding holds
-free_holds a number = refl
-
--- one of some slots is free, or that of one of these uses
-one_slot : (Q : Region → Type 0) (Goal : Type 0) → ((number : ℕ) → Q (free_slot number) → Goal) → (us : List SlotUse) (n k : ℕ) → n + k ≤ 16
-    → Each (λ u. (m : ℕ) → m < 16 → Q (use_region m u) → Goal) us → AnyOf Q (slots_from n k us) → Goal
-one_slot Q Goal free us n zero l e h = absurd h
-one_slot Q Goal free [] n (suc k) l e (inl q) = free n q
-one_slot Q Goal free [] n (suc k) l e (inr h) = one_slot Q Goal free [] (suc n) k (omega (arith, l)) tt h
-one_slot Q Goal free (u ∷ us) n (suc k) l e (inl q) = e.0 n (omega (arith, l)) q
-one_slot Q Goal free (u ∷ us) n (suc k) l e (inr h) = one_slot Q Goal free us (suc n) k (omega (arith, l)) e.1 h
-
-times : (a b n : ℕ) → a ≤ b → n * a ≤ n * b
-times a b n le = grind (arith, le)
-
--- no more bytes are open than the block has
-open_within : (size bytes : ℕ) → open_bytes size bytes ≤ size
-open_within size bytes = by (has_eighths size) (nat_lt (open_eighths size bytes) 8) refl
-  where
-    by : (t u : Bool) → nat_lt (open_eighths size bytes) 8 ≡ u → cond (t && u) (size / 8 * open_eighths size bytes) size ≤ size
-    by true true e =
-        let few = ltb-true (open_eighths size bytes) 8 e in
-        let m = times (open_eighths size bytes) 8 (size / 8) (omega (arith, few)) in
-        omega (arith, m)
-    by true false e = omega arith
-    by false u e = omega arith
 
 -- what holds of each item, and of each by its place
 with_places : {X : Type 0} (P Q : X → Type 0) (xs : List X) (d : X) → Each P xs → ((k : ℕ) → k < length xs → Q (get_or xs k d)) → Each (λ x. P x × Q x) xs
 with_places P Q [] d e h = tt
 with_places P Q (x ∷ xs) d e h = ((e.0, h 0 (omega arith)), with_places P Q xs d e.1 (λ k l. h (suc k) (omega (arith, l))))
 
-module _ (law : SlotLaws) (w : PlainFirmware) (n : Needs) (f : Final) (b : Board) (ok : IsPlanned w n f b) (ds : List Denied) (off : KeepsOff ds (resolve w) f) where
+module _ (law : OwnSlotLaws) (w : PlainFirmware) (n : Needs) (f : Final) (b : Board) (ok : IsPlanned w n f b) (ds : List Denied) (off : KeepsOff ds (resolve w) f) where
   abbrev p : Program
   p = resolve w
 

@@ -4,11 +4,7 @@ use Rattle.std.specs.Prelude.{◌⊎◌, Contains}
 use Rattle.std.proofs.lemmas.List.{take_all}
 use Rattle.std.proofs.lemmas.List.Elements.{Contains-append_left, Contains-push, Contains-push_cases}
 use Rattle.exact_lists.specs.AnyOf.{AnyOf}
-use Rattle.exact_lists.proofs.Parts.{in_none}
 use Rattle.common_laws.proofs.Lists.{take_next as same_take}
-
-pub any_none : {X : Type 0} (P : X → Type 0) → AnyOf P [] → ⊥
-any_none P a = in_none a.item a.listed
 
 behind : {X : Type 0} (P : X → Type 0) (xs : List X) (x : X) → AnyOf P (xs ++ x ∷ []) → AnyOf P xs ⊎ P x
 behind {X} P xs x a = by (Contains-push_cases xs x a.item a.listed)

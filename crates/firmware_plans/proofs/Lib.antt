@@ -1,4 +1,3 @@
-pub mod Ending
 pub mod Counting
 pub mod Planned
 mod Excluding

@@ -1,6 +1,6 @@
 -- The bytes of a data region's block stay while none of its writers acts.
-use Rattle.std.proofs.Common.{◌≡◌, ℕ, zero, suc, ◌+◌, ◌*◌, ◌/◌, ◌<◌, ◌≤◌, Bool, true, false, ◌&&◌, cond, nat_lt, length, refl, ap, sym, ◌∙◌, subst, arith}
-use Rattle.std.proofs.lemmas.Bool.{false≢true, ltb-true}
+use Rattle.std.proofs.Common.{◌≡◌, ℕ, zero, suc, ◌+◌, ◌<◌, ◌≤◌, true, length, ap, sym, ◌∙◌, subst, arith}
+use Rattle.std.proofs.lemmas.Bool.{false≢true}
 use mathlib.Core.Logic.{⊎_elim}
 use Rattle.device_model.specs.declared.image.Image.{Image}
 use Rattle.armv7m.specs.State.{State}
@@ -10,12 +10,12 @@ use Rattle.plan_model.specs.declared.needs.Needs.{Needs}
 use Rattle.plan_model.specs.declared.graph.Final.{Final}
 use Rattle.plan_model.specs.declared.plan.Board.{Board}
 use Rattle.plan_model.specs.declared.plan.Plan.{Plan}
-use Rattle.plan_model.specs.Blocks.{has_eighths, open_eighths, region_bytes}
+use Rattle.plan_model.specs.Blocks.{region_bytes}
 use Rattle.plan_model.specs.Lists.{has}
 use Rattle.plan_model.specs.Placement.{region_spot}
 use Rattle.plan_model.specs.Regions.{region_at}
 use Rattle.plan_model.specs.RamBlocks.{RamUse, ForStack, ForMonitor, ForRegion}
-use Rattle.layout_laws.specs.RamLaws.{Holds, open_bytes}
+use Rattle.layout_laws.specs.RamLaws.{Holds}
 use Rattle.monitor.specs.declared.tables.Tables.{Tables}
 use Rattle.monitor.specs.BlockWords.{current}
 use Rattle.monitor.specs.Reach.{InBlock}
@@ -26,25 +26,11 @@ use Rattle.planning.specs.PlannedFirmwares.{IsPlanned, plan, planned_sizes}
 use Rattle.linked_images.proofs.Facts.{PlanLaws, monitor_size_is}
 use Rattle.linked_images.proofs.Ranges.{IsUse, block_in, block_size_is}
 use Rattle.linked_promises.proofs.GlobalPlaces.{same_or_other}
+use Rattle.linked_promises.proofs.OneSlot.{open_within}
 use Rattle.memory_stays.specs.Acts.{OnStack, IsWritable}
 use Rattle.memory_stays.specs.Stays.{KeepsMemory}
 use Rattle.firmware_stays.specs.Own.{SlotsAreOwn}
 use Rattle.firmware_stays.specs.Isolated.{RegionsStay}
-
-times : (a b n : ℕ) → a ≤ b → n * a ≤ n * b
-times a b n le = grind (arith, le)
-
--- no more bytes are open than the block has
-open_within : (size bytes : ℕ) → open_bytes size bytes ≤ size
-open_within size bytes = by (has_eighths size) (nat_lt (open_eighths size bytes) 8) refl
-  where
-    by : (t u : Bool) → nat_lt (open_eighths size bytes) 8 ≡ u → cond (t && u) (size / 8 * open_eighths size bytes) size ≤ size
-    by true true e =
-        let few = ltb-true (open_eighths size bytes) 8 e in
-        let m = times (open_eighths size bytes) 8 (size / 8) (omega (arith, few)) in
-        omega (arith, m)
-    by true false e = omega arith
-    by false u e = omega arith
 
 abbrev number_of : RamUse → ℕ
 number_of (ForRegion r) = r

@@ -19,7 +19,7 @@ use code_types::{inst_fits, term_fits};
 use ir_model::check::CheckKind;
 use ir_model::firmware::{Block, Inst, Term};
 
-#[tactic(auto, using(check_faults::proofs::Order::refused_left, check_faults::proofs::Order::refused_right, check_faults::proofs::Order::first_stays, check_faults::proofs::Order::first_append))]
+#[tactic(auto, using(check_faults::proofs::Order::checks_in_order))]
 fn inst(scope: &Scope, func: &FuncScope, spot: Spot, inst: &Inst) -> Result<(), CheckFault>
     requires scope { IsScope scope.now }
     requires func { IsFuncScope func.now }
@@ -30,7 +30,7 @@ fn inst(scope: &Scope, func: &FuncScope, spot: Spot, inst: &Inst) -> Result<(), 
     Ok(())
 }
 
-#[tactic(auto, using(check_faults::proofs::Order::refused_left, check_faults::proofs::Order::refused_right, check_faults::proofs::Order::first_stays, check_faults::proofs::Order::first_append))]
+#[tactic(auto, using(check_faults::proofs::Order::checks_in_order))]
 fn term(func: &FuncScope, spot: Spot, term: &Term) -> Result<(), CheckFault>
     requires { IsFuncScope func.now }
     ensures { Finds (term_check (func_of func.now.func.now) (place_of spot.entry) term.now) result }

@@ -21,7 +21,7 @@ use slot_checks::func_tables::func_scope;
 use slot_checks::slots::slots;
 use std::alloc::Global;
 
-#[tactic(auto, using(check_faults::proofs::Order::refused_left, check_faults::proofs::Order::refused_right, check_faults::proofs::Order::first_stays, check_faults::proofs::Order::first_append, check_faults::proofs::Order::refused_one, check_faults::proofs::Order::refused_behind, check_faults::proofs::Order::first_behind))]
+#[tactic(auto, using(check_faults::proofs::Order::checks_in_order, check_faults::proofs::Order::checks_behind_one))]
 fn body(alloc: Global, scope: &Scope, func: &Func) -> Result<(), CheckFault>
     requires scope { IsScope scope.now }
     requires few { All (λ (b : Block). length b.insts ≤ instruction_limit) func.now.blocks }
@@ -33,7 +33,7 @@ fn body(alloc: Global, scope: &Scope, func: &Func) -> Result<(), CheckFault>
     Ok(())
 }
 
-#[tactic(auto, using(check_faults::proofs::Order::refused_left, check_faults::proofs::Order::refused_right, check_faults::proofs::Order::first_stays, check_faults::proofs::Order::first_append))]
+#[tactic(auto, using(check_faults::proofs::Order::checks_in_order))]
 fn func(alloc: Global, scope: &Scope, func: &Func) -> Result<(), CheckFault>
     requires scope { IsScope scope.now }
     requires small { HasFewItems func.now }

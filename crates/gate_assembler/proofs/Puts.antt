@@ -1,5 +1,5 @@
 -- Instructions that are put one behind the other.
-use Rattle.std.proofs.Common.{◌≡◌, ℕ, ◌+◌, ◌<◌, ◌≤◌, List, [], ◌∷◌, ◌++◌, map, length, get_or, take, refl, ap, ◌∙◌, arith, append_assoc, append-nil, zero, suc}
+use Rattle.std.proofs.Common.{◌≡◌, ℕ, ◌+◌, ◌<◌, ◌≤◌, List, [], ◌∷◌, ◌++◌, map, length, get_or, take, refl, ap, ◌∙◌, arith, append_assoc, zero, suc}
 use Rattle.thumb_model.specs.declared.table.Instr.{Instr}
 use Rattle.thumb_model.specs.Table.{InTable}
 use Rattle.thumb_model.specs.Bytes.{EachInTable}
@@ -14,10 +14,6 @@ use Rattle.thumb_asm.proofs.Items.{total-append}
 map-append : (xs ys : List Instr) → map Plain (xs ++ ys) ≡ map Plain xs ++ map Plain ys
 map-append [] ys = refl
 map-append (x ∷ xs) ys = ap (λ zs. Plain x ∷ zs) (map-append xs ys)
-
--- nothing yet
-pub none_put : (a : Assembly) → HasPut a a []
-none_put a = record { code = simp append-nil; next = omega arith }
 
 -- one part behind the other
 pub put_both : (a b c : Assembly) (xs ys : List Instr) → HasPut a b xs → HasPut b c ys → HasPut a c (xs ++ ys)

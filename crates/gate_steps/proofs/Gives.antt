@@ -1,27 +1,25 @@
 -- Reasoning about a list, step by step: its end, and what each of its accesses reaches. Loaded values and new memories get names.
-use Rattle.std.proofs.Common.{◌≡◌, ℕ, zero, suc, ◌+◌, ◌-◌, ◌*◌, ◌%◌, ◌^◌, ◌<◌, ◌≤◌, ◌⊎◌, ⊎_elim, Bool, true, false, List, [], ◌∷◌, length, nat_lt, refl, sym, ap, ◌∙◌, subst, arith}
+use Rattle.std.proofs.Common.{◌≡◌, ℕ, zero, suc, ◌+◌, ◌-◌, ◌%◌, ◌^◌, ◌<◌, ◌≤◌, ◌⊎◌, ⊎_elim, Bool, true, false, List, [], ◌∷◌, length, nat_lt, refl, sym, ap, ◌∙◌, subst, arith}
 use Rattle.std.proofs.lemmas.Bool.Decides.{nat_tests}
 use Rattle.words.specs.declared.memory.Width.{Width}
-use Rattle.words.specs.declared.memory.Width.TheVariants.{Word}
 use Rattle.words.specs.Width.{byte_count}
 use Rattle.words.specs.Bytes.{read, write}
-use Rattle.words.proofs.Bytes.{read_below, read_above, read_same, read_fits, cut_small, length-write}
+use Rattle.words.proofs.Bytes.{read_below, read_above, read_same, read_fits, cut_small}
 use Rattle.mpu_model.specs.declared.region.Access.TheVariants.{Read, Write}
 use Rattle.device_model.specs.declared.image.Image.{Image}
 use Rattle.device_model.specs.Rules.{ObeysRules}
 use Rattle.mem_bus.specs.Places.{Place, InRam, InFlash, place}
 use Rattle.armv7m.specs.declared.state.ProtectionState.{ProtectionState}
 use Rattle.armv7m.specs.declared.answers.Verdict.TheVariants.{ToBus}
-use Rattle.armv7m.specs.State.{PermissionTest, is_unprivileged}
-use Rattle.armv7m.specs.System.{in_system, is_system_register}
+use Rattle.armv7m.specs.State.{PermissionTest}
 use Rattle.gate_steps.specs.declared.steps.GateOp.{GateOp}
 use Rattle.gate_steps.specs.declared.steps.GateCond.{GateCond}
-use Rattle.gate_steps.specs.Steps.{Steps, End, Const, Copy, Load, Store, Alu, ReadPsp, WritePsp, Test, Repeat, Halt, Return, Go}
-use Rattle.gate_steps.specs.Core.{Core, low_register, with_low, with_ram, with_system, with_psp, is_privileged_on_msp}
+use Rattle.gate_steps.specs.Steps.{Steps, End, Const, Copy, Load, Store, Alu, ReadPsp, WritePsp, Test, Repeat, Halt, Return}
+use Rattle.gate_steps.specs.Core.{Core, low_register, with_low, with_psp, is_privileged_on_msp}
 use Rattle.gate_steps.specs.Accesses.{Value, Written, address_of, load_by, store_by, load, store}
 use Rattle.gate_steps.specs.Effect.{Outcome, Went, Halted, AtReturn, AtBranch, Stopped, Unclaimed, then_do, operation, compared, either, by_zero, after_load, after_store, with_one_less, turns, effect}
 use Rattle.gate_steps.specs.Safe.{Rule, OnValue, OnWritten, OnWent, Either, UnlessZero, AreTurnsSafe, IsSafe}
-use Rattle.armv7m.proofs.ToSystem.{to_system, to_bus}
+use Rattle.armv7m.proofs.ToSystem.{to_bus}
 
 -- ---- memory
 
@@ -149,43 +147,6 @@ module _ {j : PermissionTest} {i : Image} {Good : ProtectionState → Type 0} {A
   wrote_gives d {z} {from} {base} {off} {k} {ks} {c} {Q} e ok g w =
       goes_gives {s = Store z from base off k} (ap (λ g. after_store g c (effect j i k)) e) (λ s. (ok, subst (λ g. OnWritten g (λ d. Good d.protection × IsSafe j i Good Allowed k d)) (sym e) (g, s))) w
 
-  module _ (rules : ObeysRules i) where
-    -- a word of RAM, by its offset
-    pub load_gives : (o : ℕ) {to base off : ℕ} {k : Steps} {ks : List Steps} {c : Core} {Q : Outcome → Type 0} → Open j c.protection → low_register c base + 4 * off ≡ i.ram_base + o → o % 4 ≡ 0 → o + 4 ≤ i.ram_size → Allowed Read c 4 (i.ram_base + o) →
-        ((v : ℕ) → v ≡ read 4 o c.ram → Gives j i Good Allowed k ks (with_low c to v) Q) → Gives j i Good Allowed (Load Word to base off k) ks c Q
-    load_gives o {to} {base} {off} {k} {ks} {c} {Q} f e al hi ok w =
-        let a : ℕ = i.ram_base + o in
-        let r : address_of c 4 base off ≡ a = omega (arith, rules.ram_highest, rules.ram_most) in
-        let l = load_is_at j i c Word base off a (InRam o) f r (omega (arith, rules.ram_aligned)) (omega (arith, rules.ram_highest, rules.ram_most)) (in_ram i a o refl (omega arith)) in
-        value_gives (read 4 o c.ram) {z = Word} l (subst (λ a. Allowed Read c 4 a) (sym r) ok) (w _ refl)
-
-    -- a word or a halfword of flash
-    pub load_flash_gives : (o : ℕ) {z : Width} {to base off : ℕ} {k : Steps} {ks : List Steps} {c : Core} {Q : Outcome → Type 0} → Open j c.protection → low_register c base + byte_count z * off ≡ i.flash_base + o → (i.flash_base + o) % byte_count z ≡ 0 → o < length i.flash → Allowed Read c (byte_count z) (i.flash_base + o) →
-        ((v : ℕ) → v ≡ read (byte_count z) o i.flash → Gives j i Good Allowed k ks (with_low c to v) Q) → Gives j i Good Allowed (Load z to base off k) ks c Q
-    load_flash_gives o {z} {to} {base} {off} {k} {ks} {c} {Q} f e al hi ok w =
-        let a : ℕ = i.flash_base + o in
-        let r : address_of c (byte_count z) base off ≡ a = omega (arith, rules.flash_highest, rules.flash_most) in
-        let l = load_is_at j i c z base off a (InFlash o) f r al (omega (arith, rules.flash_highest, rules.flash_most)) (in_flash i a o rules refl hi) in
-        value_gives (read (byte_count z) o i.flash) {z = z} l (subst (λ a. Allowed Read c (byte_count z) a) (sym r) ok) (w _ refl)
-
-    -- the memory gets a name
-    pub store_gives : (o : ℕ) {from base off : ℕ} {k : Steps} {ks : List Steps} {c : Core} {Q : Outcome → Type 0} → Open j c.protection → Good c.protection → low_register c base + 4 * off ≡ i.ram_base + o → o % 4 ≡ 0 → o + 4 ≤ i.ram_size → Allowed Write c 4 (i.ram_base + o) →
-        ((m : List ℕ) → m ≡ write 4 o (low_register c from) c.ram → length m ≡ length c.ram → Gives j i Good Allowed k ks (with_ram c m) Q) → Gives j i Good Allowed (Store Word from base off k) ks c Q
-    store_gives o {from} {base} {off} {k} {ks} {c} {Q} f g e al hi ok w =
-        let a : ℕ = i.ram_base + o in
-        let r : address_of c 4 base off ≡ a = omega (arith, rules.ram_highest, rules.ram_most) in
-        let l = store_is_at j i c Word from base off a (InRam o) f r (omega (arith, rules.ram_aligned)) (omega (arith, rules.ram_highest, rules.ram_most)) (in_ram i a o refl (omega arith)) in
-        wrote_gives (with_ram c (write 4 o (low_register c from) c.ram)) {z = Word} l (subst (λ a. Allowed Write c 4 a) (sym r) ok) g (w _ refl (length-write 4 o (low_register c from) c.ram))
-
-  -- a register of the system; what it leaves gets a name
-  pub system_gives : (a : ℕ) {from base off : ℕ} {k : Steps} {ks : List Steps} {c : Core} {Q : Outcome → Type 0} → is_unprivileged c.protection ≡ false → low_register c base + 4 * off ≡ a → a % 4 ≡ 0 → a < 2 ^ 32 → in_system a ≡ true → is_system_register a ≡ true → Allowed Write c 4 a → Good (with_system c a (low_register c from)).protection →
-      Gives j i Good Allowed k ks (with_system c a (low_register c from)) Q → Gives j i Good Allowed (Store Word from base off k) ks c Q
-  system_gives a {from} {base} {off} {k} {ks} {c} {Q} u e al lt s r ok g w =
-      let q : address_of c 4 base off ≡ a = omega arith in
-      let v = to_system j c.protection Write a al s u r in
-      let l : store j i Word from base off c ≡ Written (with_system c a (low_register c from)) = rw (q, v) refl in
-      wrote_gives (with_system c a (low_register c from)) {z = Word} l (subst (λ a. Allowed Write c 4 a) (sym q) ok) g w
-
   -- a compound step s, whose own part has the outcome o and is IsSafe by A, and then the rest
   splits_gives : (s k : Steps) (ks : List Steps) (c : Core) (o : Outcome) (A : Type 0) {Q : Outcome → Type 0} → effect j i s c ≡ then_do o (effect j i k) → (A × OnWent o (λ d. IsSafe j i Good Allowed k d) → IsSafe j i Good Allowed s c) → A → Q (then_do o (λ d. all j i Good Allowed k ks d)) → OnWent o (λ d. safe_all j i Good Allowed k ks d) → Gives j i Good Allowed s ks c Q
   unfolding all safe_all
@@ -239,11 +200,6 @@ module _ {j : PermissionTest} {i : Image} {Good : ProtectionState → Type 0} {A
   return_gives {ks = []} q = record { holds = q; sound = tt }
   return_gives {ks = k ∷ ks} q = record { holds = q; sound = (tt, tt) }
 
-  pub go_gives : {to link : ℕ} {k : Steps} {ks : List Steps} {c : Core} {Q : Outcome → Type 0} → Q (AtBranch to link c) → Gives j i Good Allowed (Go to link k) ks c Q
-  unfolding all safe_all
-  go_gives {ks = []} q = record { holds = q; sound = tt }
-  go_gives {ks = k ∷ ks} q = record { holds = q; sound = (tt, tt) }
-
   pub looped : (left : ℕ) (body : Steps) (P : ℕ → Core → Type 0) → ((n : ℕ) (c : Core) → P n c → low_register c left ≡ n) → ((n : ℕ) (c : Core) → P (suc n) c → Gives j i Good Allowed body [] c (λ o. (d : Core) × (o ≡ Went d) × P n (with_one_less left d))) → (most n : ℕ) (c : Core) → n ≤ most → P n c → Looped j i Good Allowed left most body P c
   looped left body P counts turn zero zero c le p = (c, ap (λ v. by_zero v Went (λ c. Unclaimed) c) (counts zero c p), p, tt)
   looped left body P counts turn zero (suc n) c le p = absurd (omega arith)
@@ -265,9 +221,3 @@ module _ {j : PermissionTest} {i : Image} {Good : ProtectionState → Type 0} {A
       let l = looped left body P counts turn most n c le p in
       let w = after l.0 l.2 in
       splits_gives (Repeat left most body k) k ks c (turns most left (effect j i body) c) (AreTurnsSafe most left (effect j i body) (λ d. IsSafe j i Good Allowed body d) c) refl (λ h. h) l.3 (subst Q (sym (ap (λ o. then_do o (λ c. all j i Good Allowed k ks c)) l.1)) w.holds) (subst (λ o. OnWent o (λ d. safe_all j i Good Allowed k ks d)) (sym l.1) w.sound)
-
-  pub weaken_gives : {s : Steps} {ks : List Steps} {c : Core} {Q R : Outcome → Type 0} → ((o : Outcome) → Q o → R o) → Gives j i Good Allowed s ks c Q → Gives j i Good Allowed s ks c R
-  weaken_gives h w = record { holds = h _ w.holds; sound = w.sound }
-
-  pub at_gives : {s : Steps} {ks : List Steps} {c d : Core} {Q : Outcome → Type 0} → c ≡ d → Gives j i Good Allowed s ks d Q → Gives j i Good Allowed s ks c Q
-  at_gives {s} {ks} {c} {d} {Q} e w = subst (λ c. Gives j i Good Allowed s ks c Q) (sym e) w

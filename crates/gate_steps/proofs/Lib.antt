@@ -1,6 +1,5 @@
-mod Verdicts
 pub mod CodeParts
-pub mod Ticks
+mod Ticks
 pub mod Runs
 pub mod Gives
 pub mod Within

@@ -9,13 +9,10 @@ use Rattle.std.proofs.lemmas.Bool.Decides.{nat_tests, eqb_tells}
 use Rattle.names.specs.Numbers.{has}
 use Rattle.ir_generator.specs.Names.{global_name, test_name, file_name}
 use Rattle.ir_generator.proofs.Proper.{at_each}
-
-not_true : (b : Bool) → (b ≡ true → ⊥) → b ≡ false
-not_true true h = absurd (h refl)
-not_true false h = refl
+use Rattle.common_laws.proofs.Tests.{is_false}
 
 pub unequal : (a b : List ℕ) → (a ≡ b → ⊥) → bytes_eq a b ≡ false
-unequal a b h = not_true (bytes_eq a b) (λ e. h ((bytes_eq-Decides a b).0 e))
+unequal a b h = is_false (bytes_eq a b) (λ e. h ((bytes_eq-Decides a b).0 e))
 
 pub equal : (a : List ℕ) → bytes_eq a a ≡ true
 equal a = (bytes_eq-Decides a a).1 refl
@@ -84,9 +81,6 @@ there_right (x ∷ xs) ys n h = either_true (bytes_eq x n) (has (xs ++ ys) n) (t
 
 pub there_behind : (m n : List ℕ) (xs : List (List ℕ)) → has xs n ≡ true → has (m ∷ xs) n ≡ true
 there_behind m n xs h = either_true (bytes_eq m n) (has xs n) h
-
-pub there_first : (n : List ℕ) (xs : List (List ℕ)) → has (n ∷ xs) n ≡ true
-there_first n xs = rw (equal n) refl
 
 -- a property of what a test picks, by what the test says
 pub by_test : {A : Type 0} (P : A → Type 0) (b : Bool) (x y : A) → (b ≡ true → P x) → (b ≡ false → P y) → P (cond b x y)

@@ -12,7 +12,7 @@ use Rattle.ir_model.specs.declared.firmware.Term.{Term}
 use Rattle.ir_model.specs.declared.firmware.Term.TheVariants.{Jump}
 use Rattle.ir_model.specs.Types.{U32, Pointer, Callee, none, more, nothing, gives}
 use Rattle.ir_model.specs.Plain.{PlainFunc, PlainFile, PlainGlobal, PlainFirmware, funcs_of}
-use Rattle.ir_model.specs.Canonical.{Each}
+use Rattle.common_laws.specs.Lists.{Each}
 use Rattle.ir_model.specs.Rules.{global_type, func_type, inst_fits, term_fits}
 use Rattle.ir_model.specs.Typing.{first_failing, func_checks, funcs_checks, code_checks}
 use Rattle.ir_generator.specs.declared.choices.Body.{Body}

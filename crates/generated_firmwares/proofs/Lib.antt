@@ -3,5 +3,5 @@ mod Globals
 mod Files
 mod Functions
 mod Offers
-pub mod Typed
-pub mod Within
+mod Typed
+mod Within

@@ -8,7 +8,7 @@ use Rattle.names.specs.Numbers.{has}
 use Rattle.ir_model.specs.declared.firmware.Peripheral.{Peripheral}
 use Rattle.ir_model.specs.Types.{PlainType, U32, Pointer, Callee, none, more, nothing, gives}
 use Rattle.ir_model.specs.Plain.{PlainFunc, PlainFile}
-use Rattle.ir_model.specs.Canonical.{Each}
+use Rattle.common_laws.specs.Lists.{Each}
 use Rattle.ir_model.specs.Resolve.{row_from}
 use Rattle.ir_model.specs.Rules.{func_type}
 use Rattle.ir_generator.specs.declared.choices.Body.{Body}

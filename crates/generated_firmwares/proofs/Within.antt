@@ -12,7 +12,8 @@ use Rattle.ir_model.specs.declared.token.Excess.{Excess}
 use Rattle.ir_model.specs.Plain.{PlainFunc, PlainFile}
 use Rattle.ir_model.specs.Tokens.{Token, Name, Number, Key, Operation, Comparison, Sign, Marked}
 use Rattle.ir_model.specs.Lines.{Line, lines_of, periph_lines, global_line, global_lines, inst_lines, term_line, close_line, func_lines, funcs_lines, file_lines}
-use Rattle.ir_model.specs.Canonical.{Each, IsProper, PassesNothing, IsWithinLimits}
+use Rattle.common_laws.specs.Lists.{Each}
+use Rattle.ir_model.specs.Canonical.{IsProper, PassesNothing, IsWithinLimits}
 use Rattle.ir_generator.specs.declared.choices.Body.{Body}
 use Rattle.ir_generator.specs.declared.choices.Body.TheVariants.{Adds, Stores, Calls, Lends}
 use Rattle.ir_generator.specs.declared.choices.Choice.{Choice}

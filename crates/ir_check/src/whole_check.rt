@@ -21,7 +21,7 @@ use ir_model::firmware::Firmware;
 use slot_checks::main_function::main_there;
 use std::alloc::Global;
 
-#[tactic(auto, using(check_faults::proofs::Order::refused_left, check_faults::proofs::Order::refused_right, check_faults::proofs::Order::first_stays, check_faults::proofs::Order::first_append))]
+#[tactic(auto, using(check_faults::proofs::Order::checks_in_order))]
 fn code(alloc: Global, scope: &Scope) -> Result<(), CheckFault>
     requires scope { IsScope scope.now }
     requires small { AreSmall scope.now.bodies.items }

@@ -1,5 +1,5 @@
 pub mod Proper
 pub mod Bodies
-pub mod Growing
+mod Growing
 mod Stepping
 mod Worked

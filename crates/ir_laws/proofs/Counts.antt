@@ -8,10 +8,9 @@ use Rattle.ir_model.specs.Resolved.{no_func, file_of}
 use Rattle.ir_model.specs.Resolve.{Scope, scope_of, resolved_func, resolved_global, resolved_block, resolved_inst, window_of, files_from, resolve}
 use Rattle.ir_model.specs.Canonical.{IsWithinLimits}
 use Rattle.common_laws.specs.Lists.{Each}
-use Rattle.ir_model.proofs.ForEach.{each_weaker}
 use Rattle.ir_model.proofs.Limits.{Limited, limited, insts_in, few_structs, few_periphs, few_globals, few_files, few_functions}
 use Rattle.ir_laws.specs.Limits.{inst_count, IsFew, AreFew, CountsOf}
-use Rattle.common_laws.proofs.Lists.{each_both}
+use Rattle.common_laws.proofs.Lists.{each_both, each_to}
 use Rattle.ir_laws.proofs.Resolved.{files_count, rows_length}
 
 -- ---- the files of functions
@@ -25,7 +24,7 @@ files_below k [] = tt
 files_below k (f ∷ fs) =
     each_both (λ (n : ℕ). n < k + length (f ∷ fs)) (replicate (length f.funcs) k) (files_from (suc k) fs)
     (each_copy (λ (n : ℕ). n < k + length (f ∷ fs)) (length f.funcs) k (omega arith))
-    (each_weaker (λ (n : ℕ). n < suc k + length fs) (λ (n : ℕ). n < k + length (f ∷ fs)) (λ n h. omega arith) (files_from (suc k) fs) (files_below (suc k) fs))
+    (each_to (λ (n : ℕ). n < suc k + length fs) (λ (n : ℕ). n < k + length (f ∷ fs)) (files_from (suc k) fs) (λ n h. omega arith) (files_below (suc k) fs))
 
 at_or : (P : ℕ → Type 0) (xs : List ℕ) (n : ℕ) → P 0 → Each P xs → P (get_or xs n 0)
 at_or P [] n d h = d
@@ -88,7 +87,7 @@ module _ (w : PlainFirmware) where
         files = omega arith;
         each = funcs_few (funcs_of w) (limited w l);
         each_file = λ f. at_or (λ (n : ℕ). n < 1024) (files_from 0 w.files) f (omega arith)
-            (each_weaker (λ (n : ℕ). n < 0 + length w.files) (λ (n : ℕ). n < 1024) (λ n h. omega arith) (files_from 0 w.files) (files_below 0 w.files));
+            (each_to (λ (n : ℕ). n < 0 + length w.files) (λ (n : ℕ). n < 1024) (files_from 0 w.files) (λ n h. omega arith) (files_below 0 w.files));
       }
 
   in_files : (f : ℕ) → f < length (funcs_of w) → file_of (resolve w) f < length w.files
@@ -96,7 +95,7 @@ module _ (w : PlainFirmware) where
   in_files f l =
       let u = files_count 0 w.files in
       at_below (λ (n : ℕ). n < length w.files) (files_from 0 w.files) f (omega arith)
-      (each_weaker (λ (n : ℕ). n < 0 + length w.files) (λ (n : ℕ). n < length w.files) (λ n h. omega arith) (files_from 0 w.files) (files_below 0 w.files))
+      (each_to (λ (n : ℕ). n < 0 + length w.files) (λ (n : ℕ). n < length w.files) (files_from 0 w.files) (λ n h. omega arith) (files_below 0 w.files))
 
   pub counts_of : IsWithinLimits w → CountsOf w
   counts_of l = record { structs = few_structs w l; files = few_files w l; each_file = in_files; program = are_few l }

@@ -28,9 +28,6 @@ pub longer : (from m n : ℕ) (cs : List CellPlace) → m ≤ n → IsLaidOut fr
 longer from m n [] l h = omega arith
 longer from m n (c ∷ cs) l h = (h.0, longer (c.at + width_of c.ty) m n cs l h.1)
 
-within : (a b from to : ℕ) (cs : List CellPlace) → a ≤ from → to ≤ b → IsLaidOut from to cs → IsLaidOut a b cs
-within a b from to cs l m h = earlier a from b cs l (longer from to b cs m h)
-
 moved : (d from to : ℕ) (cs : List CellPlace) → IsLaidOut from to cs → IsLaidOut (d + from) (d + to) (shifted d cs)
 moved d from to [] h = omega arith
 moved d from to (c ∷ cs) h = (

@@ -1,7 +1,7 @@
 pub mod Layouts
 mod Accesses
 mod Order
-pub mod Tests
+mod Tests
 mod Names
 mod Structs
 mod Places
@@ -20,6 +20,5 @@ pub mod Moving
 mod Steps
 mod Facts
 mod Fitting
-pub mod Walk
 pub mod Resolved
 pub mod Objects

@@ -211,9 +211,6 @@ module _ (p : Program) (sizes : PlainType → ℕ) (S : ObjectSets) (closed : Cl
   cell_set : (o : Object) (cs : List CellPlace) (vs : List Value) (k : ℕ) (t : PlainType) (v : Value) → (cell_in cs k).ty ≡ t → Cells o cs vs → Holds (S (Content o)) t v → Cells o cs (set vs k v)
   cell_set o cs vs k t v e c h = record { each = set_each (λ i x. Holds (S (Content o)) (cell_in cs i).ty x) vs k v (Number 0) c.each (typed_as p sizes (sym e) h); count = length-set vs k v ∙ c.count }
 
-  ended : {t : SourceTurn} → StateFits p sizes S t.to → IsExpected p S t.did → Turn t
-  ended a b = record { to = a; did = b }
-
   module _ (fr : Frame) (rest : List Frame) (m : Memory) (gf : Frames (fr ∷ rest)) (gm : MemoryFits p sizes S m) (inside : fr.place < length (block_at p fr.func fr.block).insts) where
     sets : (to : ℕ) (v : Value) → Holds (S (Register fr.func to)) (register_type p fr.func to) v → Frames (onward (with_register fr to v) ∷ rest)
     sets to v h = (on_good (with_register fr to v) inside (set_good fr to v gf.0 h), gf.1, gf.2)

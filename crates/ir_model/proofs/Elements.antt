@@ -13,7 +13,7 @@ use Rattle.ir_model.specs.Lines.{Line, marked, plain, name, counted, length_exce
 use Rattle.ir_model.specs.Canonical.{PassesNothing, IsWithinLimits}
 use Rattle.common_laws.specs.Lists.{Each}
 use Rattle.ir_model.specs.Extents.{HasElements, EachHasElements, AllHaveElements}
-use Rattle.ir_model.proofs.ForEach.{each_left, each_right}
+use Rattle.common_laws.proofs.Lists.{each_left, each_right}
 
 length_passes : (n : ℕ) → length_excess n ≡ None → 0 < n
 length_passes zero h = cc

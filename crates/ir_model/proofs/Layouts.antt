@@ -1,8 +1,7 @@
 -- The table of extents: what a name finds in it, and what a walk over structs and types goes down by.
-use Rattle.std.proofs.Common.{◌≡◌, ℕ, zero, suc, ◌+◌, ◌<◌, ◌≤◌, Bool, true, false, cond, List, [], ◌∷◌, ◌++◌, map, take, drop, get_or, length, sum_by, refl, sym, ap, ◌∙◌, arith, Option, Some, None, option_and_then, bytes_eq, if◌then◌else◌}
+use Rattle.std.proofs.Common.{◌≡◌, ℕ, zero, suc, ◌+◌, ◌<◌, Bool, true, false, cond, List, [], ◌∷◌, ◌++◌, map, take, drop, get_or, length, sum_by, refl, sym, ap, ◌∙◌, arith, Option, Some, None, option_and_then, bytes_eq, if◌then◌else◌}
 use Rattle.std.specs.List.{position, position_from}
 use Rattle.std.proofs.lemmas.List.Quantifiers.{position-Some}
-use Rattle.std.proofs.lemmas.List.Sums.{sum_by_more_le}
 use Rattle.std.proofs.lemmas.Iterator.Adapters.{position_from-zero}
 use Rattle.ir_model.specs.declared.extent.Extent.{Extent}
 use Rattle.ir_model.specs.declared.firmware.Slot.{Slot}
@@ -110,13 +109,6 @@ struct_weight s = fields_weight s.fields + 2
 
 abbrev pub structs_weight : List StructDecl → ℕ
 structs_weight ss = sum_by struct_weight ss
-
-pub struct_weighs : (xs : List StructDecl) (i : ℕ) (d : StructDecl) → i < length xs
-    → structs_weight (take i xs) + (fields_weight (get_or xs i d).fields + 2) ≤ structs_weight xs
-struct_weighs xs i d l = sum_by_more_le struct_weight xs i d l
-
-pub slot_weighs : (fs : List Slot) (i : ℕ) (d : Slot) → i < length fs → arrays (type_of (get_or fs i d).ty) + 2 ≤ fields_weight fs
-slot_weighs fs i d l = let h = sum_by_more_le slot_weight fs i d l in omega (arith, h)
 
 -- a field that has no extent, or that passes the limit
 pub field_without : (ks : List Sized) (before : Extent) (fs : List Slot) (i : ℕ) (f : Slot) (all : Option Extent) → i < length fs

@@ -5,7 +5,6 @@ mod Shapes
 pub mod Counting
 pub mod Elements
 pub mod Passing
-pub mod ForEach
 pub mod Limits
 pub mod Typed
 pub mod ObjectOrder

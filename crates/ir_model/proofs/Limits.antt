@@ -21,9 +21,8 @@ use Rattle.ir_model.specs.Canonical.{PassesNothing, IsProper, IsWithinLimits}
 use Rattle.common_laws.specs.Lists.{Each}
 use Rattle.ir_model.specs.Extents.{HasElements}
 use Rattle.ir_model.proofs.Elements.{type_elements}
-use Rattle.ir_model.proofs.ForEach.{each_left, each_right, each_contained}
 use Rattle.ir_model.proofs.NoExcess.{first_none, counted_none, number_fits}
-use Rattle.common_laws.proofs.Lists.{each_both}
+use Rattle.common_laws.proofs.Lists.{each_both, each_left, each_right, each_contained}
 
 abbrev Quiet : Line → Type 0
 Quiet l = Each PassesNothing l
@@ -408,6 +407,3 @@ module _ (w : PlainFirmware) where
 
     pub few_slots : (f : PlainFunc) → Contains (funcs_of w) f → HasFewSlots f
     few_slots f c = (each_contained Limited (funcs_of w) f c limited).slots
-
-    pub constants_are_words : (f : PlainFunc) → Contains (funcs_of w) f → HasWords f
-    constants_are_words f c = (each_contained Limited (funcs_of w) f c limited).words

@@ -1,5 +1,6 @@
 -- The canonical text of a firmware, and the limits that a text keeps.
 use Rattle.std.specs.Prelude.{◌≡◌, ℕ, ◌<◌, List, [], ◌∷◌, ◌++◌, flat_map, length, None, IsTrue}
+use Rattle.common_laws.specs.Lists.{Each}
 use Rattle.ir_model.specs.Plain.{PlainStruct, PlainFunc, PlainFirmware, funcs_of}
 use Rattle.ir_model.specs.Tokens.{Token, Name, Marked, token_bytes}
 use Rattle.ir_model.specs.Lines.{Line, lines_of}
@@ -13,11 +14,6 @@ line_bytes (m ∷ n ∷ ms) = token_bytes m.token ++ 32 ∷ line_bytes (n ∷ ms
 
 unfoldable pub canonical : PlainFirmware → List ℕ
 canonical w = flat_map line_bytes (lines_of w)
-
--- each element
-abbrev pub Each : {A : Type 0} → (A → Type 0) → List A → Type 0
-Each P [] = Unit {0}
-Each P (x ∷ xs) = P x × Each P xs
 
 abbrev pub PassesNothing : Marked → Type 0
 PassesNothing m = m.excess ≡ None

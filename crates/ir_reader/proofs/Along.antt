@@ -23,7 +23,7 @@ use Rattle.ir_reader.proofs.Theorem.{steps}
 use Rattle.ir_reader.proofs.Values.{stepped}
 use Rattle.ir_reader.proofs.Verdicts.{begun, Taken, taken}
 use Rattle.ir_reader.proofs.Whole.{Alike, AreWide, finds_some, token_placed, Prefix, placed_from}
-use Rattle.ir_model.proofs.ForEach.{each_right}
+use Rattle.common_laws.proofs.Lists.{each_right}
 
 -- two fronts of one list
 data Ordered (ps qs rs ss : List Placed) : Type 0 where

@@ -1,4 +1,4 @@
-pub mod Tables
+mod Tables
 mod Kept
 pub mod Scanning
 mod Ends
@@ -7,12 +7,12 @@ mod Values
 mod Lang
 mod Derive
 mod Theorem
-pub mod Plain
+mod Plain
 mod Pieces
 mod Proper
 pub mod Texts
 mod Columns
-pub mod Lefts
+mod Lefts
 pub mod Whole
 mod Stops
 mod Allow

@@ -89,9 +89,6 @@ spells_number w (numerals.Value m) t e h =
     let i : Number m ≡ t = cc in
     subst (λ (u : Token). Spells u w) i (rw e refl)
 
-is_number : (n : Numeral) (t : Token) (bs : List ℕ) → number_from n ≡ Is t → EndsWord bs → IsApart t bs
-is_number n t bs h e = apart_word t bs e
-
 spelled_number : (b : ℕ) (bs : List ℕ) (t : Token) → is_digit b ≡ true → number_from (numeral (take_while continues_word (b ∷ bs))) ≡ Is t → Spelled t (prefix_len continues_word (b ∷ bs)) (b ∷ bs)
 spelled_number b bs t h e =
     record { spells = rw (take_run (b ∷ bs)) (spells_number (take_while continues_word (b ∷ bs)) (numeral (take_while continues_word (b ∷ bs))) t refl e); apart = run_apart t (b ∷ bs); some = prefix_len_some (b ∷ bs) b bs refl (digit_continues b h) }

@@ -15,8 +15,7 @@ use Rattle.ir_reader.proofs.Lang.{Langs, well}
 use Rattle.ir_reader.proofs.Theorem.{steps, text_of, colon_same, fault_token, kept}
 use Rattle.ir_reader.proofs.Ends.{after}
 use Rattle.ir_reader.proofs.Values.{stepped}
-use Rattle.ir_model.proofs.ForEach.{each_left, each_right}
-use Rattle.common_laws.proofs.Lists.{each_both}
+use Rattle.common_laws.proofs.Lists.{each_both, each_left, each_right}
 
 abbrev pub IsShort : Token → Type 0
 IsShort (Name w) = word_excess w ≡ None

@@ -85,11 +85,6 @@ skip_step d st (Sign mark.Arrow) c h = cc
 skip_step d st (Sign _) c h = refl
 skip_step d st _ c h = refl
 
-no_arrow : (s : Symbol) (t : Token) (c : Bool) (e : Option Excess) (more : List Symbol) → takes_arrow s ≡ false → move s t c ≡ Go e more → is_arrow t ≡ false
-no_arrow s (Sign mark.Arrow) c e more h i = let a = arrow_stops s c h in cc
-no_arrow s (Sign _) c e more h i = refl
-no_arrow s _ c e more h i = refl
-
 -- where a token begins what a symbol stands for
 headed : (s : Symbol) (st : List Symbol) → well (s ∷ st) ≡ true → (m : Marked) (x a b : Line) → m ∷ x ≡ a ++ b → Langs st b → Follows s a
     → (Steps (s ∷ st) m x → Steps (s ∷ st) m x) → ((d : ℕ) → s ≡ Machine.Gives d → m ∷ x ≡ b → Steps (s ∷ st) m x) → Steps (s ∷ st) m x

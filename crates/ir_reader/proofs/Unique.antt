@@ -239,12 +239,6 @@ init_behind : (cs : List Cell) (x : Spelling) → BehindGlobal x → NoArrow (sp
 init_behind [] x h = h.0
 init_behind (c ∷ cs) x h = refl
 
-constant_unique : Unique Any (spell_constant as_found)
-constant_unique true true x y h i e = (refl, cc)
-constant_unique false false x y h i e = (refl, cc)
-constant_unique true false x y h i e = cc
-constant_unique false true x y h i e = cc
-
 parts : (a b c x : Spelling) → (a ++ b ++ c) ++ x ≡ a ++ (b ++ (c ++ x))
 parts a b c x = simp append_assoc
 

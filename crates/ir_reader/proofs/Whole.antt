@@ -24,7 +24,7 @@ use Rattle.ir_reader.specs.Words.{word_token}
 use Rattle.ir_reader.specs.Scan.{placed, StartsToken, first_lexeme, lexeme_of, number_from, is_digit, Lexeme, lexeme}
 use Rattle.ir_reader.proofs.Tables.{free_name, keyword_token, operation_token, comparison_token}
 use Rattle.ir_reader.proofs.Scanning.{placed_blank, placed_comment, placed_token, begins_continues, digit_continues, opens_at}
-use Rattle.ir_model.proofs.ForEach.{each_from_list_all}
+use Rattle.common_laws.proofs.Lists.{each_from_list_all}
 use Rattle.ir_model.proofs.NoExcess.{IsNarrow}
 use Rattle.std.proofs.lemmas.Bool.{cond-true, cond-false, and_parts}
 use Rattle.std.proofs.Math.Seq.{take-append_seam, drop-append_seam}

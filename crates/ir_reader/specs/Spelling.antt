@@ -1,8 +1,6 @@
 -- Beyond the program's claim: only laws, proofs and functions inside the tool cite this file.
 -- The tokens of the parts of a firmware, without what they pass, as what is found at their places.
 use Rattle.std.specs.Prelude.{ℕ, List, [], ◌∷◌}
-use Rattle.ir_model.specs.declared.firmware.BinOp.{BinOp}
-use Rattle.ir_model.specs.declared.firmware.CmpOp.{CmpOp}
 use Rattle.ir_model.specs.declared.token.Keyword.{Keyword}
 use Rattle.ir_model.specs.declared.token.Mark.{Mark}
 use Rattle.ir_model.specs.Tokens as model
@@ -23,12 +21,6 @@ Number n = Is (model.Number n)
 
 abbrev pub Key : Keyword → Found
 Key k = Is (model.Key k)
-
-abbrev pub Operation : BinOp → Found
-Operation op = Is (model.Operation op)
-
-abbrev pub Comparison : CmpOp → Found
-Comparison op = Is (model.Comparison op)
 
 abbrev pub Sign : Mark → Found
 Sign m = Is (model.Sign m)

@@ -20,10 +20,9 @@ use Rattle.layout.proofs.Before.{before_fits}
 use Rattle.layout_laws.specs.FlashLaws.{IsIn, IsAligned, ShareNothing, IsFlashLaid, FlashIsLaid}
 use Rattle.layout_laws.proofs.Multiples.{IsMultiple, both, through, no_rest, from_no_rest, sum_of_some}
 use Rattle.layout_laws.proofs.Order.{one_first}
-use Rattle.layout_laws.proofs.PowersOfTwo.{IsPower, Each, each_at, each_taken, flash_powers, quotient}
-
-mebibyte : IsPower 0x100000
-mebibyte = record { exponent = 20; is = refl }
+use Rattle.layout_laws.proofs.PowersOfTwo.{IsPower, flash_powers, quotient, mebibyte}
+use Rattle.common_laws.specs.Lists.{Each}
+use Rattle.common_laws.proofs.Lists.{each_at, each_take}
 
 module _ (s : Sizes) (b : Board) (ok : IsBoard b) (room : flash_needed s ≤ b.flash_size) where
   abbrev sizes : List ℕ
@@ -42,12 +41,12 @@ module _ (s : Sizes) (b : Board) (ok : IsBoard b) (room : flash_needed s ≤ b.f
       let powers = flash_powers s in
       both v (sum (filter (λ x. nat_lt v x) sizes)) (sum (filter (λ x. nat_eq x v) (take k sizes)))
       (sum_of_some v (λ x. nat_lt v x) IsPower (λ x q e. let l = ltb-true v x e in multiple v x p q (omega arith)) sizes powers)
-      (sum_of_some v (λ x. nat_eq x v) IsPower (λ x q e. let l = eqb-true x v e in multiple v x p q (omega arith)) (take k sizes) (each_taken IsPower k sizes powers))
+      (sum_of_some v (λ x. nat_eq x v) IsPower (λ x q e. let l = eqb-true x v e in multiple v x p q (omega arith)) (take k sizes) (each_take IsPower k sizes powers))
 
   aligned_at : (k : ℕ) → k < length sizes → IsAligned (flash_spot b.flash_base sizes k)
   aligned_at k l =
       let v = get_or sizes k 0 in
-      let p = each_at IsPower sizes k (flash_powers s) l in
+      let p = each_at IsPower sizes 0 k (flash_powers s) l in
       let fits = before_fits sizes k l in
       let most = ok.flash_size.most in
       let small : v ≤ 0x100000 = omega arith in

@@ -2,7 +2,7 @@
 use Rattle.std.proofs.Common.{◌≡◌, ℕ, ◌+◌, ◌*◌, ◌/◌, ◌%◌, ◌<◌, Bool, true, false, cond, List, [], ◌∷◌, sum, refl, sym, ap, ◌∙◌, arith}
 use Rattle.std.specs.Prelude.{filter}
 use Rattle.std.proofs.Math.Nat.{mul-mod_left, mul_assoc}
-use Rattle.layout_laws.proofs.PowersOfTwo.{Each}
+use Rattle.common_laws.specs.Lists.{Each}
 use Rattle.std.proofs.lemmas.List.Sums.{sum_by-cons}
 
 -- x is a multiple of v

@@ -1,5 +1,5 @@
 -- Sizes of blocks are powers of two.
-use Rattle.std.proofs.Common.{◌≡◌, ℕ, zero, suc, ◌+◌, ◌-◌, ◌*◌, ◌^◌, ◌<◌, ◌≤◌, ◌⊎◌, inl, inr, Bool, true, false, cond, List, [], ◌∷◌, length, get_or, take, map, max, Some, nat_le, refl, sym, ap, subst, ◌∙◌, arith}
+use Rattle.std.proofs.Common.{◌≡◌, ℕ, zero, suc, ◌+◌, ◌-◌, ◌*◌, ◌^◌, ◌<◌, ◌≤◌, ◌⊎◌, inl, inr, Bool, true, false, cond, List, [], ◌∷◌, map, max, Some, nat_le, refl, sym, ap, subst, ◌∙◌, arith}
 use Rattle.std.specs.List.{fold, range_with_len}
 use Rattle.std.specs.Prelude.{find, unwrap_or}
 use Rattle.std.proofs.lemmas.Nat.{pow-add, pow_pos}
@@ -10,26 +10,15 @@ use Rattle.plan_model.specs.Choices.{greatest}
 use Rattle.plan_model.specs.Covers.{least_power}
 use Rattle.plan_model.specs.Blocks.{block}
 use Rattle.plan_model.specs.FlashPlacement.{flash_blocks, code_blocks, tables_block}
+use Rattle.common_laws.specs.Lists.{Each}
 use Rattle.common_laws.proofs.Powers.{smaller_exponent}
 
 pub record IsPower (x : ℕ) : Type 0 where
   pub exponent : ℕ
   pub is : x ≡ 2 ^ exponent
 
--- each item of a list
-abbrev pub Each : (ℕ → Type 0) → List ℕ → Type 0
-Each P [] = Unit {0}
-Each P (x ∷ xs) = P x × Each P xs
-
-pub each_at : (P : ℕ → Type 0) (xs : List ℕ) (k : ℕ) → Each P xs → k < length xs → P (get_or xs k 0)
-each_at P [] k h l = absurd (omega arith)
-each_at P (x ∷ xs) zero h l = h.0
-each_at P (x ∷ xs) (suc k) h l = each_at P xs k h.1 (omega arith)
-
-pub each_taken : (P : ℕ → Type 0) (k : ℕ) (xs : List ℕ) → Each P xs → Each P (take k xs)
-each_taken P zero xs h = tt
-each_taken P (suc k) [] h = tt
-each_taken P (suc k) (x ∷ xs) h = (h.0, each_taken P k xs h.1)
+pub mebibyte : IsPower 0x100000
+mebibyte = record { exponent = 20; is = refl }
 
 -- ---- blocks
 

@@ -18,13 +18,11 @@ use Rattle.plan_model.specs.Placement.{plan_of, placed_for, region_spot}
 use Rattle.layout_laws.specs.FlashLaws.{IsIn, IsAligned}
 use Rattle.layout_laws.specs.RamPlaces.{block_for, RamIsInside}
 use Rattle.layout_laws.proofs.Multiples.{through, no_rest, from_no_rest}
-use Rattle.layout_laws.proofs.PowersOfTwo.{IsPower, quotient, block_is_power}
+use Rattle.layout_laws.proofs.PowersOfTwo.{IsPower, quotient, block_is_power, mebibyte}
 use Rattle.layout_laws.proofs.Uses.{use_block, AreOwn, all_own, ordered_own, positive}
-use Rattle.layout_laws.proofs.Within.{All, Within, found_in, IsBlockIn, filled_within, empty_within, none_used, stack_within, gap_divides, falls_ordered}
+use Rattle.layout_laws.proofs.Within.{Within, found_in, IsBlockIn, filled_within, empty_within, none_used, stack_within, gap_divides, falls_ordered}
+use Rattle.common_laws.specs.Lists.{Each}
 use Rattle.layout_laws.proofs.RamApart.{falling_own, region_there, region_missing}
-
-mebibyte : IsPower 0x100000
-mebibyte = record { exponent = 20; is = refl }
 
 thousand : IsPower 1024
 thousand = record { exponent = 10; is = refl }
@@ -48,7 +46,7 @@ module _ (p : Program) (f : Final) (s : Sizes) (b : Board) (ok : IsBoard b) (roo
   use_power (ForRegion r) = block_is_power (region_bytes p (region_at f.regions r).globals)
   use_power ForUnwritten = block_is_power (region_bytes p f.unwritten)
 
-  powers : (bs : List RamBlock) → AreOwn p f b.stack bs → All (λ (c : RamBlock). IsPower c.size) bs
+  powers : (bs : List RamBlock) → AreOwn p f b.stack bs → Each (λ (c : RamBlock). IsPower c.size) bs
   powers [] h = tt
   powers (c ∷ cs) h = (subst (λ (d : RamBlock). IsPower d.size) (sym h.0) (use_power c.use_of), powers cs h.1)
 

@@ -14,7 +14,9 @@ use Rattle.plan_model.specs.RamPlacement.{Ram, PlacedBlock, no_tail, tail_for, b
 use Rattle.plan_model.specs.Placement.{plan_of, placed_for, no_spot}
 use Rattle.layout_laws.specs.StackLowest.{IsStackLargest, StackIsLowest}
 use Rattle.layout_laws.proofs.Uses.{spot_in}
-use Rattle.layout_laws.proofs.Within.{All, all_joined, all_ordered}
+use Rattle.layout_laws.proofs.Within.{all_ordered}
+use Rattle.common_laws.specs.Lists.{Each}
+use Rattle.common_laws.proofs.Lists.{each_both}
 
 -- ---- what is placed first stays first
 
@@ -37,7 +39,7 @@ module _ (ram : ℕ) (x : PlacedBlock) where
 
 -- ---- a block that is not smaller than the others is the first of them in falling order
 
-first_placed : (b : RamBlock) (bs : List RamBlock) → All (λ c. c.size ≤ b.size) bs → placed (λ (c d : RamBlock). nat_lt d.size c.size) b bs ≡ b ∷ bs
+first_placed : (b : RamBlock) (bs : List RamBlock) → Each (λ c. c.size ≤ b.size) bs → placed (λ (c d : RamBlock). nat_lt d.size c.size) b bs ≡ b ∷ bs
 first_placed b [] h = refl
 first_placed b (c ∷ cs) h = ap (λ t. cond t (c ∷ placed (λ (d e : RamBlock). nat_lt e.size d.size) b cs) (b ∷ c ∷ cs)) (le-ltb b.size c.size h.0)
 
@@ -55,19 +57,19 @@ module _ (p : Program) (f : Final) (b : Board) where
   IsSmall c = c.size ≤ b.stack
 
   module _ (largest : IsStackLargest p f b) where
-    regions_small : (a n : ℕ) → a + n ≤ length f.regions → All IsSmall (map (region_block p f.regions) (range_with_len a n))
+    regions_small : (a n : ℕ) → a + n ≤ length f.regions → Each IsSmall (map (region_block p f.regions) (range_with_len a n))
     regions_small a zero l = tt
     regions_small a (suc n) l = (largest (ForRegion a) (omega arith), regions_small (a + 1) n (omega arith))
 
-    unwritten_small : (xs : List ℕ) → f.unwritten ≡ xs → All IsSmall (unwritten_block p xs)
+    unwritten_small : (xs : List ℕ) → f.unwritten ≡ xs → Each IsSmall (unwritten_block p xs)
     unwritten_small [] e = tt
     unwritten_small (x ∷ xs) e =
         let some : 0 < length f.unwritten = subst (λ (ys : List ℕ). 0 < length ys) (sym e) (omega arith) in
         (subst (λ (ys : List ℕ). block (region_bytes p ys) ≤ b.stack) e (largest ForUnwritten some), tt)
 
-    others_small : All IsSmall (other_blocks p f)
+    others_small : Each IsSmall (other_blocks p f)
     others_small =
-        (largest ForMonitor tt, all_joined IsSmall (map (region_block p f.regions) (numbers_below (length f.regions))) (unwritten_block p f.unwritten) (regions_small 0 (length f.regions) (omega arith)) (unwritten_small f.unwritten refl))
+        (largest ForMonitor tt, each_both IsSmall (map (region_block p f.regions) (numbers_below (length f.regions))) (unwritten_block p f.unwritten) (regions_small 0 (length f.regions) (omega arith)) (unwritten_small f.unwritten refl))
 
     falls_first : falling (ram_blocks p f b.stack) ≡ stack_block ∷ others
     unfolding ram_blocks

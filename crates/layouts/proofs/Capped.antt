@@ -1,13 +1,10 @@
 -- Measures that are cut off.
-use Rattle.std.proofs.Common.{◌≡◌, ℕ, zero, suc, ◌*◌, ◌^◌, ◌<◌, ◌≤◌, ◌⊎◌, inl, inr, List, length, refl, sym, ap, subst, ◌∙◌, arith}
+use Rattle.std.proofs.Common.{◌≡◌, ℕ, zero, suc, ◌*◌, ◌^◌, ◌<◌, ◌≤◌, ◌⊎◌, inl, inr, length, sym, ap, ◌∙◌, arith}
 use Rattle.std.proofs.lemmas.Bool.{cases_lt}
 use Rattle.std.proofs.Math.Nat.{zero-mul}
-use Rattle.ir_model.specs.Plain.{PlainStruct, struct_of}
-use Rattle.ir_model.specs.Layout.{Shape, empty, array_of}
+use Rattle.ir_model.specs.Layout.{Shape, array_of}
 use Rattle.layouts.specs.declared.measure.Measure.{Measure}
-use Rattle.layouts.specs.declared.table.StructLayout.{StructLayout}
-use Rattle.layouts.specs.Measures.{capped, IsMeasure, struct_shape}
-use Rattle.layouts.specs.Tables.{IsLaid}
+use Rattle.layouts.specs.Measures.{capped, IsMeasure}
 use Rattle.layouts.proofs.Sizes.{length_copies}
 
 pub capped_small : (n : ℕ) → n ≤ 2 ^ 32 → capped n ≡ n
@@ -15,9 +12,6 @@ capped_small n l = omega arith
 
 pub capped_large : (n : ℕ) → 2 ^ 32 ≤ n → capped n ≡ 2 ^ 32
 capped_large n l = omega arith
-
-pub capped_most : (n : ℕ) → capped n ≤ 2 ^ 32
-capped_most n = omega arith
 
 times_least : (n m : ℕ) → m ≤ suc n * m
 times_least n m = grind arith
@@ -33,20 +27,6 @@ capped_times (suc n) a = by_size (cases_lt a (2 ^ 32))
         let p = times_least n (capped a) in
         let q = times_least n a in
         capped_large (suc n * capped a) (omega (arith, e, p)) ∙ sym (capped_large (suc n * a) (omega (arith, q, l)))
-
-pub measure_nothing : (s : Shape) → s ≡ empty → IsMeasure (record { size = 0; align = 1; cells = 0 }) s
-measure_nothing s e = subst (IsMeasure (record { size = 0; align = 1; cells = 0 })) (sym e) (refl, (refl, refl))
-
-pub measure_entry : (ss : List PlainStruct) (l : StructLayout) (s : Shape) → IsLaid ss l → s ≡ struct_shape ss (struct_of l.declaration.now)
-    → IsMeasure (record { size = l.size; align = l.align; cells = l.cells }) s
-measure_entry ss l s h e =
-    subst (IsMeasure (record { size = l.size; align = l.align; cells = l.cells })) (sym e) (
-      h.size ∙ sym (capped_small (struct_shape ss (struct_of l.declaration.now)).size (omega (arith, h.small, h.size))),
-      (
-        h.align,
-        h.cells ∙ sym (capped_small (length (struct_shape ss (struct_of l.declaration.now)).cells) (omega (arith, h.small, h.fewer, h.cells))),
-      ),
-    )
 
 pub measure_array : (n : ℕ) (m : Measure) (s : Shape) → IsMeasure m s → IsMeasure (record { size = capped (n * m.size); align = m.align; cells = capped (n * m.cells) }) (array_of n s)
 measure_array n m s h = (

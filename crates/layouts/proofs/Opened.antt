@@ -61,20 +61,6 @@ pub record IsOpen (ss : List PlainStruct) (fs : List PlainSlot) (bytes boundary 
   pub firsts : map (λ (f : Field). f.first_cell) spots ≡ first_cells (known ss) 0 fs
   pub names : words ≡ names_of fs
 
-pub open_none : (ss : List PlainStruct) (fields : List Field) (names : List (List ℕ)) → fields ≡ [] → names ≡ [] → IsOpen ss [] 0 1 0 fields names
-open_none ss fields names e f = record {
-  size = refl;
-  align = refl;
-  cells = refl;
-  small = omega arith;
-  fewer = omega arith;
-  positive = omega arith;
-  most = omega arith;
-  fields = ap (map place_of) e;
-  firsts = ap (map (λ (f : Field). f.first_cell)) e;
-  names = f;
-}
-
 uncapped : (n m : ℕ) → m ≡ capped n → m ≤ SIZE_LIMIT → m ≡ n
 uncapped n m e l = omega (arith, e)
 

@@ -124,11 +124,6 @@ pub good : (ss : List PlainStruct) (t : PlainType) → Good (shape (known ss) t)
 unfolding known
 good ss t = good_type (known_behind [] ss) t (good_behind [] ss tt)
 
--- a struct with fields behind what is laid out
-pub good_struct : (ss : List PlainStruct) (fs : List PlainSlot) → Good (laid_out (known ss) empty fs)
-unfolding known
-good_struct ss fs = good_fields (known_behind [] ss) empty fs (good_behind [] ss tt) good_empty
-
 -- fields behind what is laid out take no bytes away
 size_grows_by : (ks : List Known) (s : Shape) (fs : List PlainSlot) → AllGood ks → 0 < s.align → s.size ≤ (laid_out ks s fs).size
 size_grows_by ks s [] h p = rounded_at_least s.size s.align p

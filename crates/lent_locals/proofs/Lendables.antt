@@ -111,9 +111,6 @@ pub record AnyBelow (P : ℕ → Type 0) (n : ℕ) : Type 0 where
   pub below : number < n
   pub holds : P number
 
-pub none_below : (P : ℕ → Type 0) → AnyBelow P 0 → ⊥
-none_below P a = let l = a.below in omega arith
-
 -- one function more: `D` holds where `C` did, or of this one
 pub below_step : (P : ℕ → Type 0) (C D : Type 0) (n : ℕ) → C ↔ AnyBelow P n → D ↔ (C ⊎ P n) → D ↔ AnyBelow P (n + 1)
 below_step P C D n c d = ((λ k. to (d.0 k)), λ a. d.1 (from a (cases_lt a.number n)))

@@ -1,6 +1,5 @@
 -- How much flash a planned image has, and where its blocks lie.
 use Rattle.std.proofs.Common.{◌≡◌, ℕ, zero, suc, ◌+◌, ◌<◌, ◌≤◌, List, [], ◌∷◌, length, map, get_or, max, sum, sum_by, refl, sym, ap, ◌∙◌, subst, arith}
-use Rattle.std.specs.List.{fold}
 use Rattle.std.proofs.lemmas.List.{length-map, get_or-map}
 use Rattle.std.proofs.lemmas.List.FromFn.{length-map-range_with_len, get_or-map-range_with_len, fill_by_all}
 use Rattle.std.proofs.lemmas.List.Sums.{sum_by-cons}
@@ -19,10 +18,6 @@ use Rattle.link_model.specs.LinkedImage.{flash_size}
 use Rattle.common_laws.proofs.Lists.{mapped_twice, sum_first as sum_cons}
 
 -- ---- sums
-
-sum_from : (a : ℕ) (xs : List ℕ) → fold ◌+◌ a xs ≡ a + fold ◌+◌ 0 xs
-sum_from a [] = omega arith
-sum_from a (x ∷ xs) = let h = sum_from (a + x) xs in let k = sum_from (0 + x) xs in omega (arith, h, k)
 
 summed : {A : Type 0} (f : A → ℕ) (xs : List A) → sum_by f xs ≡ sum (map f xs)
 summed f [] = refl

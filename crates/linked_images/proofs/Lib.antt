@@ -3,11 +3,11 @@ pub mod Powers
 pub mod Flash
 pub mod Passing
 pub mod Facts
-pub mod Header
+mod Header
 pub mod OpenBytes
 pub mod Ranges
 pub mod AreaSize
 pub mod ReadBack
 pub mod AreaEnd
-pub mod CodeRegions
+mod CodeRegions
 pub mod TablesPass

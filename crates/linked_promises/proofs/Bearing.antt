@@ -9,7 +9,7 @@ use Rattle.mpu_model.specs.Regions.{holds, allows}
 use Rattle.mpu_model.specs.Laws.{RegionsGiveTheirRights}
 use Rattle.mpu_model.specs.Protection.{deciding, or_this}
 use Rattle.mpu_model.specs.RegionWords.{region_of}
-use Rattle.thread_runs.specs.Areas as areas
+use Rattle.common_laws.specs.Lists.{Each}
 use Rattle.plan_model.specs.declared.graph.Cover.{Cover}
 use Rattle.plan_model.specs.Slots.{SlotUse, cover_slot, free_slot, slots_from}
 use Rattle.monitor.specs.Setting.{allows_stores}
@@ -35,12 +35,8 @@ module _ (a : ℕ) where
 
   -- one of them holds it and lets code store, and none behind it stops that
   pub data Written : List SlotUse → Type 0 where
-    this : {u : SlotUse} {us : List SlotUse} → Bears u → Lets u → areas.Each Harmless us → Written (u ∷ us)
+    this : {u : SlotUse} {us : List SlotUse} → Bears u → Lets u → Each Harmless us → Written (u ∷ us)
     behind : {u : SlotUse} {us : List SlotUse} → Written us → Written (u ∷ us)
-
-  pub borne_behind : (us vs : List SlotUse) → Borne vs → Borne (us ++ vs)
-  borne_behind [] vs b = b
-  borne_behind (u ∷ us) vs b = there (borne_behind us vs b)
 
   pub written_behind : (us vs : List SlotUse) → Written vs → Written (us ++ vs)
   written_behind [] vs b = b
@@ -76,7 +72,7 @@ module _ (a : ℕ) where
   allowed_by g (inl f) t = absurd (let wrong : false ≡ true = sym f ∙ t in cc)
   allowed_by g (inr e) t = e
 
-  safe : (us : List SlotUse) (n k : ℕ) → areas.Each Harmless us → n + k ≤ 16 → Safe (deciding (slots_from n k us) a)
+  safe : (us : List SlotUse) (n k : ℕ) → Each Harmless us → n + k ≤ 16 → Safe (deciding (slots_from n k us) a)
   unfolding deciding
   safe [] n zero e m = tt
   safe (u ∷ us) n zero e m = tt
@@ -109,6 +105,6 @@ module _ (given : RegionsGiveTheirRights) (a : ℕ) where
   pub cover_lets : (d : Cover) → Lets a (cover_slot d)
   cover_lets d m l = given m d.base d.size 0 Device (lit< tt) true Write
 
-  pub covers_harmless : (ds : List Cover) → areas.Each (Harmless a) (map cover_slot ds)
+  pub covers_harmless : (ds : List Cover) → Each (Harmless a) (map cover_slot ds)
   covers_harmless [] = tt
   covers_harmless (d ∷ ds) = (λ m l. inr (cover_lets d m l), covers_harmless ds)

@@ -1,6 +1,5 @@
 -- The words of compartments: of their regions and of their masks.
-use Rattle.std.proofs.Common.{◌≡◌, ℕ, ◌+◌, ◌^◌, ◌<◌, ◌≤◌, Bool, true, false, [], ◌∷◌, ◌++◌, length, map, get_or, cond, flat_map, nat_lt, ap, sym, ◌∙◌, subst, lit<, arith}
-use Rattle.std.proofs.lemmas.List.FromFn.{get_or-map-range_with_len}
+use Rattle.std.proofs.Common.{ℕ, ◌+◌, ◌^◌, ◌<◌, ◌≤◌, Bool, true, false, [], ◌∷◌, ◌++◌, length, map, get_or, cond, flat_map, nat_lt, sym, subst, lit<, arith}
 use mathlib.Core.Logic.{⊎_elim}
 use Rattle.common_laws.specs.Lists.{Each}
 use Rattle.mpu_model.specs.declared.words.Rights.TheVariants.{Code}
@@ -21,7 +20,7 @@ use Rattle.plan_model.specs.Regions.{region_at, is_user, regions_used}
 use Rattle.plan_model.specs.Blocks.{region_bytes}
 use Rattle.plan_model.specs.RamBlocks.{ForRegion}
 use Rattle.plan_model.specs.Placement.{region_spot, compartment_spot}
-use Rattle.plan_model.specs.InitialGraph.{mask_of, read_mask_of, mask_where, initial_graph}
+use Rattle.plan_model.specs.InitialGraph.{mask_where}
 use Rattle.plan_model.specs.FinalGraph.{IsFinal}
 use Rattle.plan_model.specs.Slots.{data_slot, cover_slot, slot_uses, slot_regions, code_region, lend_mask, read_mask}
 use Rattle.monitor.specs.Area.{region_words, compartment_words}
@@ -31,13 +30,13 @@ use Rattle.planning.specs.PlannedFirmwares.{IsPlanned, plan, planned_sizes}
 use Rattle.linked_images.proofs.Facts.{PlanLaws, laid, code_blocks_count}
 use Rattle.linked_images.proofs.Flash.{code_count}
 use Rattle.linked_images.proofs.Ranges.{block_in}
-use Rattle.linked_promises.proofs.Kept.{kept_final}
 use Rattle.linked_promises.proofs.CoverParts.{IsPart}
 use Rattle.linked_promises.proofs.CoverSlots.{covers_are_parts}
 use Rattle.linked_promises.proofs.KeptItems.{each_filter}
 use Rattle.linked_promises.proofs.Lists.{each_map, below_all}
 use Rattle.linked_promises.proofs.WordLists.{IsWord, AreWords, each_flat, both_words}
 use Rattle.linked_promises.proofs.RegionWords.{IsLow, region_fits, out_is_byte, slots_fit, mask_fits}
+use Rattle.linked_promises.proofs.Masks.{mask_is, reads_is}
 use Rattle.common_laws.proofs.Lists.{each_both}
 
 -- ---- covers lie among the peripherals
@@ -50,18 +49,6 @@ module _ (p : Program) (n : Needs) (windows : HasWindows p) where
 
     -- ---- masks
 
-    mask_is : (c : ℕ) → c < f.groups.count → get_or f.masks c 0 ≡ mask_of n f.groups c
-    unfolding initial_graph
-    mask_is c l =
-        let k = kept_final p slots (initial_graph p n f.groups) f final in
-        ap (λ ms. get_or ms c 0) k.masks ∙ get_or-map-range_with_len (mask_of n f.groups) 0 f.groups.count c c 0 l (omega arith)
-
-    reads_is : (c : ℕ) → c < f.groups.count → get_or f.reads c 0 ≡ read_mask_of n f.groups c
-    unfolding initial_graph
-    reads_is c l =
-        let k = kept_final p slots (initial_graph p n f.groups) f final in
-        ap (λ ms. get_or ms c 0) k.reads ∙ get_or-map-range_with_len (read_mask_of n f.groups) 0 f.groups.count c c 0 l (omega arith)
-
     or_none : (b : Bool) (m : ℕ) → m < 2 ^ 32 → cond b m 0 < 2 ^ 32
     or_none true m h = h
     or_none false m h = lit< tt
@@ -69,12 +56,12 @@ module _ (p : Program) (n : Needs) (windows : HasWindows p) where
     pub mask_is_word : (c : ℕ) → c < f.groups.count → lend_mask f c < 2 ^ 32
     mask_is_word c l =
         or_none (nat_lt 1 f.groups.count) (get_or f.masks c 0)
-        (subst (λ m. m < 2 ^ 32) (sym (mask_is c l)) (mask_fits n (λ x. writes n f.groups c (Local x.0 x.1))))
+        (subst (λ m. m < 2 ^ 32) (sym (mask_is p n f slots final c l)) (mask_fits n (λ x. writes n f.groups c (Local x.0 x.1))))
 
     pub reads_is_word : (c : ℕ) → c < f.groups.count → read_mask f c < 2 ^ 32
     reads_is_word c l =
         or_none (nat_lt 1 f.groups.count) (get_or f.reads c 0)
-        (subst (λ m. m < 2 ^ 32) (sym (reads_is c l)) (or_none n.closed (mask_where n _) (mask_fits n _)))
+        (subst (λ m. m < 2 ^ 32) (sym (reads_is p n f slots final c l)) (or_none n.closed (mask_where n _) (mask_fits n _)))
 
 -- ---- the regions of a compartment
 

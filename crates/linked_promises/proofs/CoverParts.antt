@@ -10,7 +10,7 @@ use Rattle.std.proofs.Math.Nat.{mul-mod_left}
 use Rattle.std.proofs.lemmas.List.{get_or-set_same, get_or-set_other, get_or_past, length-set}
 use Rattle.ir_model.specs.Resolved.{Program}
 use Rattle.common_laws.proofs.Lists.{each_at, each_both}
-use Rattle.thread_runs.specs.Areas as areas
+use Rattle.common_laws.specs.Lists.{Each}
 use Rattle.plan_model.specs.declared.graph.Cover.{Cover}
 use Rattle.plan_model.specs.declared.graph.Graph.{Graph}
 use Rattle.plan_model.specs.Choices.{Pair, pairs, cheapest}
@@ -33,7 +33,7 @@ pub record IsPart (d : Cover) : Type 0 where
   pub to : d.base + d.size ≤ 0x60000000
 
 abbrev pub AreParts : List Cover → Type 0
-AreParts cs = areas.Each IsPart cs
+AreParts cs = Each IsPart cs
 
 -- ---- the least power that passes
 
@@ -151,15 +151,15 @@ joined_holds c d one two =
 -- ---- lists of covers
 
 module _ {X : Type 0} (P : X → Type 0) where
-  each_placed : (lt : X → X → Bool) (x : X) (ys : List X) → P x → areas.Each P ys → areas.Each P (placed lt x ys)
+  each_placed : (lt : X → X → Bool) (x : X) (ys : List X) → P x → Each P ys → Each P (placed lt x ys)
   each_placed lt x [] h e = (h, tt)
   each_placed lt x (y ∷ ys) h e = by (lt y x) (each_placed lt x ys h e.1)
     where
-      by : (b : Bool) → areas.Each P (placed lt x ys) → areas.Each P (cond b (y ∷ placed lt x ys) (x ∷ y ∷ ys))
+      by : (b : Bool) → Each P (placed lt x ys) → Each P (cond b (y ∷ placed lt x ys) (x ∷ y ∷ ys))
       by true ih = (e.0, ih)
       by false ih = (h, e)
 
-  pub each_in_order : (lt : X → X → Bool) (xs : List X) → areas.Each P xs → areas.Each P (in_order lt xs)
+  pub each_in_order : (lt : X → X → Bool) (xs : List X) → Each P xs → Each P (in_order lt xs)
   each_in_order lt [] e = tt
   each_in_order lt (x ∷ xs) e = each_placed lt x (in_order lt xs) e.0 (each_in_order lt xs e.1)
 
@@ -167,19 +167,19 @@ module _ {X : Type 0} (P : X → Type 0) where
   pick true x y h e = h
   pick false x y h e = e
 
-  each_best : (beats : X → X → Bool) (a : X) (xs : List X) → P a → areas.Each P xs → P (best_of beats a xs)
+  each_best : (beats : X → X → Bool) (a : X) (xs : List X) → P a → Each P xs → P (best_of beats a xs)
   each_best beats a [] h e = h
   each_best beats a (x ∷ xs) h e = each_best beats (cond (beats x a) x a) xs (pick (beats x a) x a e.0 h) e.1
 
 -- ---- the pair that is joined
 
-pairs_are : (m : ℕ) (ns : List ℕ) → areas.Each (λ k. k < m) ns → areas.Each (λ (q : Pair). (q.first < m) × (q.second < m)) (pairs ns)
+pairs_are : (m : ℕ) (ns : List ℕ) → Each (λ k. k < m) ns → Each (λ (q : Pair). (q.first < m) × (q.second < m)) (pairs ns)
 pairs_are m [] e = tt
 pairs_are m (n ∷ ns) e =
     each_both (λ (q : Pair). (q.first < m) × (q.second < m)) (map (λ (k : ℕ). record { first = n; second = k }) ns) (pairs ns)
     (each_map (λ (q : Pair). (q.first < m) × (q.second < m)) (λ (k : ℕ). record { first = n; second = k }) (λ k. k < m) ns (λ k l. (e.0, l)) e.1) (pairs_are m ns e.1)
 
-pub cheapest_is : {X : Type 0} (P : X → Type 0) (cost : X → ℕ) (xs : List X) (x : X) → areas.Each P xs → cheapest cost xs ≡ Some x → P x
+pub cheapest_is : {X : Type 0} (P : X → Type 0) (cost : X → ℕ) (xs : List X) (x : X) → Each P xs → cheapest cost xs ≡ Some x → P x
 cheapest_is P cost [] x e f = absurd (none-some x f)
 cheapest_is P cost (y ∷ ys) x e f =
     subst P (same_Some (best_of (λ z best. nat_lt (cost z) (cost best)) y ys) x f) (each_best P (λ z best. nat_lt (cost z) (cost best)) y ys e.0 e.1)
@@ -191,12 +191,9 @@ chosen cs q e =
 
 -- ---- joins of a graph
 
-abbrev pub HasParts : Graph → Type 0
-HasParts g = (c : ℕ) → AreParts (get_or g.covers c [])
-
 -- what a join has from both of its covers, each cover keeps
 module _ (P : Cover → Type 0) (joins_both : (c d : Cover) → P c → P d → P (joined c d)) where
-  joined_covers : (cs : List Cover) (q : Pair) → cover_pair cs ≡ Some q → areas.Each P cs → areas.Each P (with_joined_cover cs q)
+  joined_covers : (cs : List Cover) (q : Pair) → cover_pair cs ≡ Some q → Each P cs → Each P (with_joined_cover cs q)
   joined_covers cs q e a =
       let m = chosen cs q e in
       let d : Cover = joined (cover_at cs q.first) (cover_at cs q.second) in
@@ -205,26 +202,23 @@ module _ (P : Cover → Type 0) (joins_both : (c d : Cover) → P c → P d → 
         each_filter P (λ (c : Cover). not (is_inside c d)) cs a,
       )
 
-  covers_set : (css : List (List Cover)) (k : ℕ) (new : List Cover) → ((c : ℕ) → areas.Each P (get_or css c [])) → areas.Each P new → (c : ℕ) → areas.Each P (get_or (set css k new) c [])
+  covers_set : (css : List (List Cover)) (k : ℕ) (new : List Cover) → ((c : ℕ) → Each P (get_or css c [])) → Each P new → (c : ℕ) → Each P (get_or (set css k new) c [])
   covers_set css k new a e c = ⊎_elim same other (cases_eq c k)
     where
-      other : (c ≡ k → ⊥) → areas.Each P (get_or (set css k new) c [])
-      other d = subst (areas.Each P) (sym (get_or-set_other css k c new [] d)) (a c)
+      other : (c ≡ k → ⊥) → Each P (get_or (set css k new) c [])
+      other d = subst (Each P) (sym (get_or-set_other css k c new [] d)) (a c)
 
-      same : c ≡ k → areas.Each P (get_or (set css k new) c [])
+      same : c ≡ k → Each P (get_or (set css k new) c [])
       same s =
-          subst (λ j. areas.Each P (get_or (set css k new) j [])) (sym s)
-          (⊎_elim (λ lt. subst (areas.Each P) (sym (get_or-set_same css k new [] lt)) e)
-          (λ le. subst (areas.Each P) (sym (get_or_past (set css k new) k [] (let n = length-set css k new in omega (arith, n, le)))) tt) (cases_lt k (length css)))
+          subst (λ j. Each P (get_or (set css k new) j [])) (sym s)
+          (⊎_elim (λ lt. subst (Each P) (sym (get_or-set_same css k new [] lt)) e)
+          (λ le. subst (Each P) (sym (get_or_past (set css k new) k [] (let n = length-set css k new in omega (arith, n, le)))) tt) (cases_lt k (length css)))
 
-  covers_next : (p : Program) (slots : ℕ) (g h : Graph) → next p slots g ≡ Some h → ((c : ℕ) → areas.Each P (get_or g.covers c [])) → (c : ℕ) → areas.Each P (get_or h.covers c [])
+  covers_next : (p : Program) (slots : ℕ) (g h : Graph) → next p slots g ≡ Some h → ((c : ℕ) → Each P (get_or g.covers c [])) → (c : ℕ) → Each P (get_or h.covers c [])
   covers_next p slots g h e =
-      by_next p (λ g h. ((c : ℕ) → areas.Each P (get_or g.covers c [])) → (c : ℕ) → areas.Each P (get_or h.covers c [])) (λ g q c f a. a)
+      by_next p (λ g h. ((c : ℕ) → Each P (get_or g.covers c [])) → (c : ℕ) → Each P (get_or h.covers c [])) (λ g q c f a. a)
       (λ g c q f a. covers_set g.covers c (with_joined_cover (covers_at g c) q) a (joined_covers (covers_at g c) q f (a c))) slots g h e
 
-  pub covers_all : (p : Program) (slots : ℕ) (g h : Graph) → Merges p slots g h → ((c : ℕ) → areas.Each P (get_or g.covers c [])) → (c : ℕ) → areas.Each P (get_or h.covers c [])
+  pub covers_all : (p : Program) (slots : ℕ) (g h : Graph) → Merges p slots g h → ((c : ℕ) → Each P (get_or g.covers c [])) → (c : ℕ) → Each P (get_or h.covers c [])
   covers_all p slots g h stays a = a
   covers_all p slots g k (joins {h = h} e m) a = covers_all p slots h k m (covers_next p slots g h e a)
-
-pub parts_all : (p : Program) (slots : ℕ) (g h : Graph) → Merges p slots g h → HasParts g → HasParts h
-parts_all p slots g h m a = covers_all IsPart joined_part p slots g h m a

@@ -4,7 +4,7 @@ use Rattle.std.proofs.lemmas.Bool.{cases_lt, or_right}
 use Rattle.std.proofs.lemmas.List.{get_or_past}
 use Rattle.std.proofs.lemmas.List.FromFn.{get_or-map-range_with_len, length-map-range_with_len}
 use mathlib.Core.Logic.{⊎_elim}
-use Rattle.thread_runs.specs.Areas as areas
+use Rattle.common_laws.specs.Lists.{Each}
 use Rattle.windows.specs.Ranges.{is_inside}
 use Rattle.device_model.specs.declared.image.Image.{Image}
 use Rattle.mpu_model.specs.declared.words.Rights.TheVariants.{Device}
@@ -42,28 +42,28 @@ window_part p windows q l =
 
 module _ (p : Program) (P : Cover → Type 0) (window : (q : ℕ) → q < length p.periphs → P (cover_of p q)) where
   module _ (n : Needs) (g : Groups) where
-    first_each : (c : ℕ) → areas.Each P (covers_of p n g c)
+    first_each : (c : ℕ) → Each P (covers_of p n g c)
     first_each c =
         each_in_order P (λ (a b : Cover). nat_lt a.base b.base) (map (cover_of p) (filter (uses n g c) (numbers_below (length p.periphs))))
         (each_map P (cover_of p) (λ j. j < length p.periphs) (filter (uses n g c) (numbers_below (length p.periphs))) window
         (each_filter (λ j. j < length p.periphs) (uses n g c) (numbers_below (length p.periphs)) (below_all 0 (length p.periphs) (length p.periphs) (omega arith))))
 
-    first_at : (c : ℕ) → areas.Each P (get_or (initial_graph p n g).covers c [])
+    first_at : (c : ℕ) → Each P (get_or (initial_graph p n g).covers c [])
     unfolding initial_graph
     first_at c = ⊎_elim inner outer (cases_lt c g.count)
       where
-        inner : c < g.count → areas.Each P (get_or (map (covers_of p n g) (numbers_below g.count)) c [])
-        inner l = subst (areas.Each P) (sym (get_or-map-range_with_len (covers_of p n g) 0 g.count c c [] l (let e : 0 + c ≡ c = omega arith in e))) (first_each c)
+        inner : c < g.count → Each P (get_or (map (covers_of p n g) (numbers_below g.count)) c [])
+        inner l = subst (Each P) (sym (get_or-map-range_with_len (covers_of p n g) 0 g.count c c [] l (let e : 0 + c ≡ c = omega arith in e))) (first_each c)
 
-        outer : g.count ≤ c → areas.Each P (get_or (map (covers_of p n g) (numbers_below g.count)) c [])
+        outer : g.count ≤ c → Each P (get_or (map (covers_of p n g) (numbers_below g.count)) c [])
         outer l =
             let size = length-map-range_with_len (covers_of p n g) 0 g.count in
-            subst (areas.Each P) (sym (get_or_past (map (covers_of p n g) (numbers_below g.count)) c [] (omega (arith, size, l)))) tt
+            subst (Each P) (sym (get_or_past (map (covers_of p n g) (numbers_below g.count)) c [] (omega (arith, size, l)))) tt
 
   -- each cover of the final graph has it
-  pub final_covers : ((c d : Cover) → P c → P d → P (joined c d)) → (n : Needs) (f : Final) (slots : ℕ) → IsFinal p n f.groups slots f → (c : ℕ) → areas.Each P (get_or f.covers c [])
+  pub final_covers : ((c d : Cover) → P c → P d → P (joined c d)) → (n : Needs) (f : Final) (slots : ℕ) → IsFinal p n f.groups slots f → (c : ℕ) → Each P (get_or f.covers c [])
   final_covers joins_both n f slots final c =
-      subst (areas.Each P) (sym (ap (λ (x : Final). get_or x.covers c []) final.is))
+      subst (Each P) (sym (ap (λ (x : Final). get_or x.covers c []) final.is))
       (covers_all P joins_both p slots (initial_graph p n f.groups) final.last final.reached (first_at n f.groups) c)
 
 pub covers_are_parts : (p : Program) (n : Needs) (f : Final) (slots : ℕ) → IsFinal p n f.groups slots f → HasWindows p → (c : ℕ) → AreParts (get_or f.covers c [])

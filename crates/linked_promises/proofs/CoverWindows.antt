@@ -3,7 +3,7 @@ use Rattle.std.proofs.Common.{◌≡◌, ℕ, ◌+◌, ◌*◌, ◌-◌, ◌/◌
 use Rattle.std.proofs.lemmas.Bool.{leb-true, cases_lt, cases_eq, and_from as both, and_parts}
 use Rattle.std.proofs.lemmas.Nat.{div-add-mod'}
 use mathlib.Core.Logic.{⊎_elim}
-use Rattle.thread_runs.specs.Areas as areas
+use Rattle.common_laws.specs.Lists.{Each}
 use Rattle.ir_model.specs.Resolved.{Program}
 use Rattle.ir_laws.specs.Limits.{HasWindows}
 use Rattle.plan_model.specs.declared.needs.Needs.{Needs}
@@ -84,7 +84,7 @@ module _ (p : Program) (windows : HasWindows p) where
         inner = inside_through (cover_of p one.periph) c (joined c d) one.inner (joined_holds c d one.part two.part);
       }
 
-  pub covers_are_filled : (n : Needs) (f : Final) (slots : ℕ) → IsFinal p n f.groups slots f → (c : ℕ) → areas.Each IsFilled (get_or f.covers c [])
+  pub covers_are_filled : (n : Needs) (f : Final) (slots : ℕ) → IsFinal p n f.groups slots f → (c : ℕ) → Each IsFilled (get_or f.covers c [])
   covers_are_filled n f slots final c = final_covers p IsFilled window_filled joined_filled n f slots final c
 
   -- a window that has an address in it lies inside it: else the cover would lie in that window, with another window

@@ -15,7 +15,7 @@ use Rattle.mpu_model.specs.Regions.{holds, allows}
 use Rattle.mpu_model.specs.RegionWords.{region_of}
 use Rattle.mpu_model.specs.Configured.{closed_from, OpenEighthsAreHeld}
 use Rattle.mpu_model.specs.Laws.{RegionsHoldTheirBlocks, RegionsGiveTheirRights}
-use Rattle.thread_runs.specs.Areas as areas
+use Rattle.common_laws.specs.Lists.{Each}
 use Rattle.ir_model.specs.Plain.{PlainFirmware}
 use Rattle.ir_model.specs.Resolve.{resolve}
 use Rattle.ir_model.specs.Resolved.{Program}
@@ -145,14 +145,14 @@ module _ (law : GlobalLaws) (held : RegionsHoldTheirBlocks) (opened : OpenEighth
         by false e = e
         by true e = absurd (law.plans.apart p f s b (ForRegion q) (ForRegion r) a (λ e. d (number_of q r e)) ((slot_holds c q a m h number).0 e) it)
 
-    all_harmless : has (region_at f.regions r).writers c ≡ true → (qs : List ℕ) (ds : List Cover) → areas.Each (λ q. q < length f.regions) qs → areas.Each (Harmless a) (map (data_slot p f l c) qs ++ map cover_slot ds)
+    all_harmless : has (region_at f.regions r).writers c ≡ true → (qs : List ℕ) (ds : List Cover) → Each (λ q. q < length f.regions) qs → Each (Harmless a) (map (data_slot p f l c) qs ++ map cover_slot ds)
     all_harmless writer [] ds e = covers_harmless given a ds
     all_harmless writer (q ∷ qs) ds e = (⊎_elim same (other_harmless q e.0) (cases_eq q r), all_harmless writer qs ds e.1)
       where
         same : q ≡ r → Harmless a (data_slot p f l c q)
         same i = subst (λ k. Harmless a (data_slot p f l c k)) (sym i) (λ m number. inr (data_lets writer m number))
 
-    pub written_data : has (region_at f.regions r).writers c ≡ true → (qs : List ℕ) (ds : List Cover) → areas.Each (λ q. q < length f.regions) qs → has qs r ≡ true
+    pub written_data : has (region_at f.regions r).writers c ≡ true → (qs : List ℕ) (ds : List Cover) → Each (λ q. q < length f.regions) qs → has qs r ≡ true
         → Written a (map (data_slot p f l c) qs ++ map cover_slot ds)
     written_data writer [] ds e h = absurd (let wrong : false ≡ true = h in cc)
     written_data writer (q ∷ qs) ds e h = by (nat_eq q r) refl h (written_data writer qs ds e.1)

@@ -19,7 +19,7 @@ use Rattle.region_graph.proofs.UsersHave.{has_union}
 use Rattle.linked_promises.proofs.Kept.{kept_final}
 use Rattle.linked_promises.proofs.Joins.{EachRegion, SomeRegion, AreApart, StaysOfBoth, StaysOfOne, each_all, some_all, apart_all}
 use Rattle.linked_promises.proofs.Lists.{passing_among}
-use Rattle.linked_promises.proofs.FirstRegions.{first_some, first_apart, first_filled, first_below, first_used, first_writers, first_readers, free_are, are_free}
+use Rattle.linked_promises.proofs.FirstRegions.{first_some, first_apart, first_filled, first_below, first_writers, first_readers, free_are, are_free}
 use Rattle.std.proofs.lemmas.Bool.{or_cases as either}
 
 -- ---- what joins keep
@@ -99,23 +99,9 @@ module _ (p : Program) (n : Needs) (f : Final) (slots : ℕ) (final : IsFinal p 
   pub below : EachRegion (λ q. (x : ℕ) → has q.globals x ≡ true → x < count) f.regions
   below = each_final (λ q. (x : ℕ) → has q.globals x ≡ true → x < count) (each_stays (λ x. x < count)) (first_below p n f.groups)
 
-  pub used : EachRegion (λ q. (x : ℕ) → has q.globals x ≡ true → has_users (users x) ≡ true) f.regions
-  used = each_final (λ q. (x : ℕ) → has q.globals x ≡ true → has_users (users x) ≡ true) (each_stays (λ x. has_users (users x) ≡ true)) (first_used p n f.groups)
-
   -- so do those of no region, which have none
   pub unwritten_below : (x : ℕ) → has f.unwritten x ≡ true → x < count
   unwritten_below x h = (free_are p n f.groups x (subst (λ ns. has ns x ≡ true) unwritten_is h)).0
-
-  pub unwritten_unused : (x : ℕ) → has f.unwritten x ≡ true → has_users (users x) ≡ false
-  unwritten_unused x h = (free_are p n f.groups x (subst (λ ns. has ns x ≡ true) unwritten_is h)).1
-
-  -- a global of a region is not one of them
-  pub not_unwritten : (r x : ℕ) → r < length f.regions → has (region_at f.regions r).globals x ≡ true → has f.unwritten x ≡ false
-  not_unwritten r x l h = by (has f.unwritten x) refl
-    where
-      by : (b : Bool) → has f.unwritten x ≡ b → has f.unwritten x ≡ false
-      by false e = e
-      by true e = absurd (let yes_used = used r l x h in let not_used = unwritten_unused x e in let wrong : true ≡ false = sym yes_used ∙ not_used in cc)
 
   -- a global that has users is in a region, and any other one is in none
   pub in_region : (x : ℕ) → x < count → has_users (users x) ≡ true → SomeRegion (λ q. has q.globals x ≡ true) f.regions

@@ -6,7 +6,7 @@ use Rattle.std.proofs.lemmas.Bool.{and_parts, cases_order, not-true, and_from as
 use Rattle.std.proofs.lemmas.Cmp.{nat_list_eq_equiv}
 use Rattle.std.proofs.lemmas.List.{get_or-map, length-map}
 use mathlib.Core.Logic.{⊎_elim}
-use Rattle.thread_runs.specs.Areas as areas
+use Rattle.common_laws.specs.Lists.{Each}
 use Rattle.ir_model.specs.Resolved.{Program}
 use Rattle.plan_model.specs.declared.needs.Needs.{Needs}
 use Rattle.plan_model.specs.declared.groups.Groups.{Groups}
@@ -28,7 +28,7 @@ module _ {X : Type 0} (same : X → X → Bool) where
   -- no two are the same
   abbrev Differ : List X → Type 0
   Differ [] = Unit {0}
-  Differ (x ∷ xs) = areas.Each (λ y. same x y ≡ false) xs × Differ xs
+  Differ (x ∷ xs) = Each (λ y. same x y ≡ false) xs × Differ xs
 
   differ_kept : (test : X → Bool) (xs : List X) → Differ xs → Differ (filter test xs)
   differ_kept test [] d = tt
@@ -38,7 +38,7 @@ module _ {X : Type 0} (same : X → X → Bool) where
       by true ih = (each_passing (λ y. same x y ≡ false) (λ y. same x y ≡ false) test xs (λ y h t. h) d.0, ih)
       by false ih = ih
 
-  everything : (xs : List X) → areas.Each (λ x. Unit {0}) xs
+  everything : (xs : List X) → Each (λ x. Unit {0}) xs
   everything [] = tt
   everything (x ∷ xs) = (tt, everything xs)
 
@@ -55,7 +55,7 @@ module _ {X : Type 0} (same : X → X → Bool) where
   differ_at d (x ∷ xs) h zero (suc j) l m = each_at (λ y. same x y ≡ false) xs d j h.0 (omega arith)
   differ_at d (x ∷ xs) h (suc i) (suc j) l m = differ_at d xs h.1 i j (omega arith) (omega arith)
 
-  each_distinct : (P : X → Type 0) (xs : List X) → areas.Each P xs → areas.Each P (distinct same xs)
+  each_distinct : (P : X → Type 0) (xs : List X) → Each P xs → Each P (distinct same xs)
   each_distinct P [] e = tt
   each_distinct P (x ∷ xs) e = (e.0, each_passing P P (λ y. not (same x y)) (distinct same xs) (λ y h t. h) (each_distinct P xs e.1))
 
@@ -108,7 +108,7 @@ module _ (p : Program) (n : Needs) (g : Groups) where
     writers : (users global).writers ≡ u.writers
     readers : (users global).readers ≡ u.readers
 
-  each_kind : areas.Each IsKind kinds
+  each_kind : Each IsKind kinds
   each_kind =
       each_distinct same_users IsKind (filter has_users (map users (numbers_below count)))
       (each_passing IsOfGlobal IsKind has_users (map users (numbers_below count)) (λ u h t. record { global = h.global; below = h.below; writers = h.writers; readers = h.readers; some = t })
@@ -175,12 +175,6 @@ module _ (p : Program) (n : Needs) (g : Groups) where
 
   pub first_below : EachRegion (λ q. (x : ℕ) → has q.globals x ≡ true → x < count) first
   first_below r l x h = (is_of r x l h).below
-
-  some_by : (u v : Users) → u.writers ≡ v.writers → u.readers ≡ v.readers → has_users v ≡ true → has_users u ≡ true
-  some_by u v e f t = subst (λ ws. has_users (record { writers = ws; readers = u.readers }) ≡ true) (sym e) (subst (λ rs. has_users (record { writers = v.writers; readers = rs }) ≡ true) (sym f) t)
-
-  pub first_used : EachRegion (λ q. (x : ℕ) → has q.globals x ≡ true → has_users (users x) ≡ true) first
-  first_used r l x h = let i = is_of r x l h in some_by (users x) (kind_at r) i.writers i.readers (kind_is r l).some
 
   pub first_writers : (x c : ℕ) → has (users x).writers c ≡ true → EachRegion (λ q. has q.globals x ≡ true → has q.writers c ≡ true) first
   first_writers x c t r l h = let i = is_of r x l h in subst (λ (q : Region). has q.writers c ≡ true) (sym (region_is r l)) (subst (λ ws. has ws c ≡ true) i.writers t)

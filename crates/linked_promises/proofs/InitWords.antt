@@ -10,7 +10,6 @@ use Rattle.plan_model.specs.declared.needs.Needs.{Needs}
 use Rattle.plan_model.specs.declared.graph.Final.{Final}
 use Rattle.plan_model.specs.declared.plan.Board.{Board}
 use Rattle.plan_model.specs.declared.plan.Plan.{Plan}
-use Rattle.plan_model.specs.declared.plan.Sizes.{Sizes}
 use Rattle.plan_model.specs.Boards.{slots_of}
 use Rattle.plan_model.specs.Blocks.{region_bytes}
 use Rattle.plan_model.specs.Lending.{lent}
@@ -23,7 +22,7 @@ use Rattle.monitor.specs.Area.{init_words}
 use Rattle.link_model.specs.FirstWords.{first_bytes, first_words}
 use Rattle.link_model.specs.LinkedTables.{Filled, object_places, init_records, words_begin, filled, tables_of}
 use Rattle.linked_images.specs.Planned.{planned_tables}
-use Rattle.planning.specs.PlannedFirmwares.{IsPlanned, plan, planned_sizes}
+use Rattle.planning.specs.PlannedFirmwares.{IsPlanned, plan}
 use Rattle.linked_images.proofs.Facts.{laid, needed_most, tables_at_most, tables_block_is}
 use Rattle.linked_images.proofs.Powers.{block_is}
 use Rattle.linked_images.proofs.Ranges.{IsUse, uses, uses_are, filled_for, filled_is, globals_for, block_in, small}
@@ -55,9 +54,6 @@ first_words_fit p n f l b = read_words (words_in p b.globals) 0 (first_bytes p (
 module _ (law : ReadLaws) (sizes : SizesAreLimited) (w : PlainFirmware) (n : Needs) (f : Final) (b : Board) (ok : IsPlanned w n f b) where
   abbrev p : Program
   p = resolve w
-
-  abbrev s : Sizes
-  s = planned_sizes w n f b
 
   abbrev l : Plan
   l = plan w n f b

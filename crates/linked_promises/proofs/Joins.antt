@@ -5,7 +5,7 @@ use Rattle.std.proofs.lemmas.Bool.{cases_lt, cases_eq, or_cases}
 use Rattle.std.proofs.lemmas.List.{get_or-set_same, get_or-set_other, length-set}
 use Rattle.std.proofs.lemmas.List.Edits.{length-remove, get_or-remove_below, get_or-remove_above}
 use mathlib.Core.Logic.{⊎_elim}
-use Rattle.thread_runs.specs.Areas as areas
+use Rattle.common_laws.specs.Lists.{Each}
 use Rattle.ir_model.specs.Resolved.{Program}
 use Rattle.plan_model.specs.declared.graph.Region.{Region}
 use Rattle.plan_model.specs.declared.graph.Graph.{Graph}
@@ -25,30 +25,30 @@ use Rattle.common_laws.proofs.Lists.{each_both}
 abbrev pub IsRising : (bound : ℕ) → Pair → Type 0
 IsRising n q = (q.first < q.second) × (q.second < n)
 
-paired : (a n : ℕ) (ms : List ℕ) → areas.Each (λ m. (a < m) × (m < n)) ms → areas.Each (IsRising n) (map (λ (m : ℕ). record { first = a; second = m }) ms)
+paired : (a n : ℕ) (ms : List ℕ) → Each (λ m. (a < m) × (m < n)) ms → Each (IsRising n) (map (λ (m : ℕ). record { first = a; second = m }) ms)
 paired a n [] e = tt
 paired a n (m ∷ ms) e = (e.0, paired a n ms e.1)
 
-kept_between : (test : ℕ → Bool) (low high from count : ℕ) → low ≤ from → from + count ≤ high → areas.Each (λ m. (low ≤ m) × (m < high)) (filter test (range_with_len from count))
+kept_between : (test : ℕ → Bool) (low high from count : ℕ) → low ≤ from → from + count ≤ high → Each (λ m. (low ≤ m) × (m < high)) (filter test (range_with_len from count))
 kept_between test low high from zero l h = tt
 kept_between test low high from (suc n) l h = by (test from) (kept_between test low high (from + 1) n (omega arith) (omega arith))
   where
-    by : (b : Bool) → areas.Each (λ m. (low ≤ m) × (m < high)) (filter test (range_with_len (from + 1) n)) → areas.Each (λ m. (low ≤ m) × (m < high)) (cond b (from ∷ filter test (range_with_len (from + 1) n)) (filter test (range_with_len (from + 1) n)))
+    by : (b : Bool) → Each (λ m. (low ≤ m) × (m < high)) (filter test (range_with_len (from + 1) n)) → Each (λ m. (low ≤ m) × (m < high)) (cond b (from ∷ filter test (range_with_len (from + 1) n)) (filter test (range_with_len (from + 1) n)))
     by true ih = ((l, omega arith), ih)
     by false ih = ih
 
-all_rising : (test : ℕ → Bool) (a n high : ℕ) → a + n ≤ high → areas.Each (IsRising high) (pairs (filter test (range_with_len a n)))
+all_rising : (test : ℕ → Bool) (a n high : ℕ) → a + n ≤ high → Each (IsRising high) (pairs (filter test (range_with_len a n)))
 all_rising test a zero high h = tt
 all_rising test a (suc n) high h = by (test a) (all_rising test (a + 1) n high (omega arith))
   where
     rest : List ℕ
     rest = filter test (range_with_len (a + 1) n)
 
-    stronger : (ms : List ℕ) → areas.Each (λ m. (a + 1 ≤ m) × (m < high)) ms → areas.Each (λ m. (a < m) × (m < high)) ms
+    stronger : (ms : List ℕ) → Each (λ m. (a + 1 ≤ m) × (m < high)) ms → Each (λ m. (a < m) × (m < high)) ms
     stronger [] e = tt
     stronger (m ∷ ms) e = let l = e.0.0 in ((omega (arith, l), e.0.1), stronger ms e.1)
 
-    by : (b : Bool) → areas.Each (IsRising high) (pairs rest) → areas.Each (IsRising high) (pairs (cond b (a ∷ rest) rest))
+    by : (b : Bool) → Each (IsRising high) (pairs rest) → Each (IsRising high) (pairs (cond b (a ∷ rest) rest))
     by true ih = each_both (IsRising high) (map (λ (m : ℕ). record { first = a; second = m }) rest) (pairs rest) (paired a high rest (stronger rest (kept_between test (a + 1) high (a + 1) n (omega arith) (omega arith)))) ih
     by false ih = ih
 

@@ -2,7 +2,7 @@ pub mod Bits
 pub mod Kept
 pub mod Reach
 pub mod Compartments
-pub mod Covers
+mod Covers
 pub mod CoverParts
 pub mod Bearing
 mod Loans
@@ -12,29 +12,29 @@ mod Memory
 mod CodeBlocks
 pub mod Lists
 mod Products
-pub mod Joins
-pub mod FirstRegions
+mod Joins
+mod FirstRegions
 pub mod FinalRegions
-pub mod Objects
+mod Objects
 pub mod GlobalPlaces
-pub mod GlobalAreas
+mod GlobalAreas
 pub mod DataSlots
 mod Opened
 mod GlobalsPlaced
-pub mod KeptItems
-pub mod Forms
+mod KeptItems
+mod Forms
 mod FlashWords
 mod WindowRules
 mod Rules
 pub mod Masks
-pub mod Readers
+mod Readers
 pub mod CoverSlots
 mod CoverWindows
-pub mod DataSlotForms
+mod DataSlotForms
 mod DataRanges
 mod SlotContents
 mod RegionsPassed
-pub mod ObjectSizes
+mod ObjectSizes
 mod Called
 mod LastTarget
 mod Entries
@@ -42,12 +42,12 @@ mod SiteRecords
 mod LendsPass
 mod SitesPass
 mod Targets
-pub mod ByteLists
-pub mod PageBytes
+mod ByteLists
+mod PageBytes
 mod PageStands
 mod MovedWords
 mod MainWords
-pub mod EntryPlaces
+mod EntryPlaces
 mod MainMoved
 mod StubPlace
 mod TemplateCode
@@ -59,19 +59,19 @@ mod Members
 mod EvenLabels
 mod CompartmentCode
 mod CodeStanding
-pub mod Alignments
+mod Alignments
 mod NoUnwritten
-pub mod GlobalsLow
-pub mod Reading
-pub mod ReadTables
-pub mod WordLists
-pub mod RegionWords
-pub mod SiteNeeds
-pub mod CodeEnds
-pub mod CompartmentWords
-pub mod SiteWords
-pub mod InitWords
-pub mod AreaWords
+mod GlobalsLow
+mod Reading
+mod ReadTables
+mod WordLists
+mod RegionWords
+mod SiteNeeds
+mod CodeEnds
+mod CompartmentWords
+mod SiteWords
+mod InitWords
+mod AreaWords
 mod InitChecks
 mod FirstValues
 mod CellWrites
@@ -79,3 +79,4 @@ mod FilledBlocks
 mod WordsBack
 mod InitialFlash
 mod GlobalsBegin
+pub mod OneSlot

@@ -1,7 +1,7 @@
 -- What holds of each item of a list, of one of them, and of numbers that pass a test.
 use Rattle.std.proofs.Common.{◌≡◌, ℕ, zero, suc, ◌<◌, ◌≤◌, ◌+◌, Bool, true, false, ◌&&◌, ◌||◌, List, [], ◌∷◌, length, map, filter, cond, get_or, nat_eq, refl, ◌∙◌, subst, eq-eqb, eqb-true, arith}
 use Rattle.std.specs.List.{list_any, range_with_len}
-use Rattle.thread_runs.specs.Areas as areas
+use Rattle.common_laws.specs.Lists.{Each}
 use Rattle.plan_model.specs.Lists.{has, numbers_below}
 use Rattle.std.proofs.lemmas.Bool.{and_from as both}
 use Rattle.common_laws.proofs.Lists.{any_kept as any_filtered}
@@ -9,19 +9,19 @@ use Rattle.plan_model.proofs.Numbers.{one_passes}
 
 -- ---- each item
 
-pub each_passing : {X : Type 0} (P Q : X → Type 0) (test : X → Bool) (xs : List X) → ((x : X) → P x → test x ≡ true → Q x) → areas.Each P xs → areas.Each Q (filter test xs)
+pub each_passing : {X : Type 0} (P Q : X → Type 0) (test : X → Bool) (xs : List X) → ((x : X) → P x → test x ≡ true → Q x) → Each P xs → Each Q (filter test xs)
 each_passing P Q test [] h e = tt
 each_passing P Q test (x ∷ xs) h e = by (test x) refl (each_passing P Q test xs h e.1)
   where
-    by : (b : Bool) → test x ≡ b → areas.Each Q (filter test xs) → areas.Each Q (cond b (x ∷ filter test xs) (filter test xs))
+    by : (b : Bool) → test x ≡ b → Each Q (filter test xs) → Each Q (cond b (x ∷ filter test xs) (filter test xs))
     by true t ih = (h x e.0 t, ih)
     by false t ih = ih
 
-pub each_map : {X Y : Type 0} (P : Y → Type 0) (f : X → Y) (Q : X → Type 0) (xs : List X) → ((x : X) → Q x → P (f x)) → areas.Each Q xs → areas.Each P (map f xs)
+pub each_map : {X Y : Type 0} (P : Y → Type 0) (f : X → Y) (Q : X → Type 0) (xs : List X) → ((x : X) → Q x → P (f x)) → Each Q xs → Each P (map f xs)
 each_map P f Q [] h e = tt
 each_map P f Q (x ∷ xs) h e = (h x e.0, each_map P f Q xs h e.1)
 
-pub below_all : (a m k : ℕ) → a + m ≤ k → areas.Each (λ j. j < k) (range_with_len a m)
+pub below_all : (a m k : ℕ) → a + m ≤ k → Each (λ j. j < k) (range_with_len a m)
 below_all a zero k l = tt
 below_all a (suc m) k l = (omega arith, below_all (a + 1) m k (omega arith))
 

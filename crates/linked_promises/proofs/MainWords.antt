@@ -15,7 +15,7 @@ use Rattle.monitor.specs.FromFlash.{moved_word_at}
 use Rattle.monitor.specs.Layout.{page_size}
 use Rattle.monitor.specs.MemFault.{memfault}
 use Rattle.monitor.specs.Page.{vectors, bytes_of_words, used_bytes, leave_stub, constants, page}
-use Rattle.monitor.specs.Reset.{unit_is_there, copied, first_block, traps, first_regions, go_on, reset}
+use Rattle.monitor.specs.Reset.{unit_is_there, copied, first_block, traps, first_regions, thread_ready, to_main, reset}
 use Rattle.monitor.specs.Opening.{tables_of}
 use Rattle.monitor.specs.Svc.{svc}
 use Rattle.monitor_laws.proofs.PageCode.{middle}
@@ -86,7 +86,7 @@ module _ (law : IsRoundTrip) (t : Tables) (flash : List ℕ) (has : (j : ℕ) �
   c = constants t
 
   abbrev behind : Steps
-  behind = unit_is_there c (copied c (first_block c (traps (first_regions c (tables_of c (go_on c))))))
+  behind = unit_is_there c (copied c (first_block c (traps (first_regions c (tables_of c (thread_ready c to_main))))))
 
   in_flash : (j : ℕ) → j < 16 → slice_index flash (64 + j) ≡ get_or (code_bytes (first c.main_compartment c.main (code behind))) j 0
   in_flash j l = has (64 + j) (omega (arith, l)) ∙ reset_byte t j (let e = pairs_long c.main_compartment c.main (code behind) in omega (arith, e, l))

@@ -40,13 +40,13 @@ module _ (p : Program) (n : Needs) (f : Final) where
     from_zero : 0 + c ≡ c
     from_zero = omega arith
 
-    mask_is : get_or f.masks c 0 ≡ mask_of n f.groups c
+    pub mask_is : get_or f.masks c 0 ≡ mask_of n f.groups c
     unfolding initial_graph
     mask_is =
         let k = kept_final p slots (initial_graph p n f.groups) f final in
         ap (λ ms. get_or ms c 0) k.masks ∙ get_or-map-range_with_len (mask_of n f.groups) 0 f.groups.count c c 0 below from_zero
 
-    reads_is : get_or f.reads c 0 ≡ read_mask_of n f.groups c
+    pub reads_is : get_or f.reads c 0 ≡ read_mask_of n f.groups c
     unfolding initial_graph
     reads_is =
         let k = kept_final p slots (initial_graph p n f.groups) f final in

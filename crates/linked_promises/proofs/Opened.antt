@@ -9,14 +9,13 @@ use Rattle.mpu_model.specs.Regions.{holds}
 use Rattle.mpu_model.specs.Protection.{deciding}
 use Rattle.mpu_model.specs.Configured.{OpenEighthsAreHeld}
 use Rattle.mpu_model.specs.Laws.{RegionsHoldTheirBlocks, RegionsGiveTheirRights}
-use Rattle.thread_runs.specs.Areas as areas
+use Rattle.common_laws.specs.Lists.{Each}
 use Rattle.ir_model.specs.declared.object.ObjId.TheVariants.{Global}
 use Rattle.ir_model.specs.Plain.{PlainFirmware}
 use Rattle.ir_model.specs.Resolve.{resolve}
 use Rattle.ir_model.specs.Resolved.{Program}
 use Rattle.ir_model.specs.State.{GlobalObject}
 use Rattle.plan_model.specs.declared.needs.Needs.{Needs}
-use Rattle.plan_model.specs.declared.graph.Graph.{Graph}
 use Rattle.plan_model.specs.declared.graph.Final.{Final}
 use Rattle.plan_model.specs.declared.plan.Board.{Board}
 use Rattle.plan_model.specs.declared.plan.Plan.{Plan}
@@ -27,7 +26,6 @@ use Rattle.plan_model.specs.Groups.{compartment_of, writes, reads}
 use Rattle.plan_model.specs.Regions.{region_at, regions_used, is_user, global_size}
 use Rattle.plan_model.specs.RamBlocks.{ForRegion}
 use Rattle.plan_model.specs.InitialGraph.{initial_graph}
-use Rattle.plan_model.specs.FinalGraph.{IsMerged}
 use Rattle.plan_model.specs.Slots.{data_slot, cover_slot, slot_uses, slot_regions, slots_from}
 use Rattle.layout_laws.specs.RamLaws.{Holds}
 use Rattle.need_laws.specs.Reached.{IsListed}
@@ -45,10 +43,7 @@ use Rattle.linked_promises.proofs.Lists.{passing_among, each_passing, below_all}
 use Rattle.linked_promises.proofs.FinalRegions as regions
 use Rattle.linked_promises.proofs.GlobalPlaces.{GlobalLaws, address, aligns}
 use Rattle.linked_promises.proofs.DataSlots.{written_data, borne_data}
-
--- each compartment has no more regions and covers than slots
-abbrev pub FitsSlots : Type 0
-FitsSlots = (p : Program) (slots : ℕ) (g : Graph) (f : Final) → 2 ≤ slots → IsMerged p slots g f → (c : ℕ) → c < f.groups.count → length (regions_used f.regions c) + length (get_or f.covers c []) ≤ slots
+use Rattle.linked_promises.proofs.WindowsOpen.{FitsSlots}
 
 -- what slots rest on
 pub record SlotLaws : Type 0 where
@@ -91,7 +86,7 @@ module _ (law : SlotLaws) (w : PlainFirmware) (n : Needs) (f : Final) (b : Board
     used : is_user c (region_at f.regions r) ≡ true → has (regions_used f.regions c) r ≡ true
     used u = passing_among (λ q. is_user c (region_at f.regions q)) r (length f.regions) region u
 
-    used_below : areas.Each (λ q. q < length f.regions) (regions_used f.regions c)
+    used_below : Each (λ q. q < length f.regions) (regions_used f.regions c)
     used_below =
         each_passing (λ q. q < length f.regions) (λ q. q < length f.regions) (λ q. is_user c (region_at f.regions q)) (numbers_below (length f.regions)) (λ q h t. h)
         (below_all 0 (length f.regions) (length f.regions) (omega arith))

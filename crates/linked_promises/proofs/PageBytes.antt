@@ -16,7 +16,7 @@ use Rattle.monitor.specs.Page.{vectors, bytes_of_words, used_bytes, leave_stub, 
 use Rattle.handler_runs.proofs.Encodable.{Words, words_fit, times_words, regions_words}
 use Rattle.monitor.specs.Opening.{bits_of, tables_of}
 use Rattle.monitor.specs.Records.{eighth as eighth_of}
-use Rattle.monitor.specs.Reset.{init_turn, go_on, reset}
+use Rattle.monitor.specs.Reset.{init_turn, thread_ready, to_main, reset}
 use Rattle.monitor.specs.Svc.{svc}
 use Rattle.monitor_laws.proofs.Encoded.{tables_fields, in_table}
 use Rattle.svc_law.proofs.SvcEncoded.{svc_in_table}
@@ -50,11 +50,11 @@ module _ (stub : ℕ) (t : Tables) where
   eighth : s.eighth < 2 ^ 32
   eighth = let e = trailing_le 32 (eighth_of t) in omega (arith, e)
 
-  go_words : Words (go_on s)
+  go_words : Words (thread_ready s to_main)
   go_words = (omega arith, (omega arith, (omega arith, (omega arith, (omega arith, (omega arith, tt))))))
 
-  tables_words : Words (tables_of s (go_on s))
-  tables_words = (omega arith, times_words (bits_of 4 (s.slots + 2)) _ (omega arith, (omega arith, (omega arith, (omega arith, (eighth, (omega arith, (omega arith, (omega arith, (omega arith, (omega arith, regions_words s.slots 2 (go_on s) go_words)))))))))))
+  tables_words : Words (tables_of s (thread_ready s to_main))
+  tables_words = (omega arith, times_words (bits_of 4 (s.slots + 2)) _ (omega arith, (omega arith, (omega arith, (omega arith, (eighth, (omega arith, (omega arith, (omega arith, (omega arith, (omega arith, regions_words s.slots 2 (thread_ready s to_main) go_words)))))))))))
 
   turn_words : Words (init_turn s)
   turn_words = (omega arith, ((omega arith, tt), (omega arith, tt)))
@@ -63,7 +63,7 @@ module _ (stub : ℕ) (t : Tables) where
   reset_words = (omega arith, (omega arith, (omega arith, (let f = few_slots stub t in omega (arith, f), (tt, tt, (omega arith, (omega arith, (turn_words, (omega arith, (omega arith, (omega arith, (omega arith, (omega arith, (omega arith, (omega arith, (omega arith, (omega arith, (omega arith, tables_words))))))))))))))))))
 
   reset_in : code_length (reset s) < 2 ^ 16 → EachInTable (code (reset s))
-  reset_in l = in_table (reset s) (tables_fields s (go_on s) (few_slots stub t)) (words_fit (reset s) l reset_words)
+  reset_in l = in_table (reset s) (tables_fields s (thread_ready s to_main) (few_slots stub t)) (words_fit (reset s) l reset_words)
 
 -- ---- all of it
 

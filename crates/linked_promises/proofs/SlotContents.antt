@@ -1,7 +1,7 @@
 -- What the slots of a planned firmware's compartments hold is of their permissions.
-use Rattle.std.proofs.Common.{◌≡◌, ℕ, zero, suc, ◌<◌, ◌≤◌, ◌+◌, ◌*◌, ◌/◌, ◌%◌, inl, inr, Bool, true, false, ◌&&◌, List, [], ◌∷◌, length, map, get_or, cond, nat_eq, nat_lt, refl, ap, sym, ◌∙◌, subst, lit<, arith}
+use Rattle.std.proofs.Common.{◌≡◌, ℕ, ◌<◌, ◌≤◌, ◌%◌, inl, inr, Bool, true, false, ◌&&◌, List, [], ◌∷◌, length, map, get_or, cond, nat_eq, refl, ap, sym, ◌∙◌, subst, lit<, arith}
 use Rattle.std.specs.List.{list_any}
-use Rattle.std.proofs.lemmas.Bool.{ltb-true, cases_lt, or_left, or_right, and_from as both}
+use Rattle.std.proofs.lemmas.Bool.{cases_lt, or_left, or_right, and_from as both}
 use Rattle.std.proofs.lemmas.List.{get_or_past}
 use Rattle.std.proofs.lemmas.List.Folds.{list_any_at}
 use Rattle.std.proofs.lemmas.List.FromFn.{length-map-range_with_len}
@@ -13,7 +13,7 @@ use Rattle.mpu_model.specs.declared.region.Access.TheVariants.{Write}
 use Rattle.mpu_model.specs.declared.words.Rights.TheVariants.{Ram, Background, Device}
 use Rattle.mpu_model.specs.Regions.{holds, permission, allows}
 use Rattle.mpu_model.specs.RegionWords.{region_of}
-use Rattle.thread_runs.specs.Areas as areas
+use Rattle.common_laws.specs.Lists.{Each}
 use Rattle.ir_model.specs.declared.object.ObjId.{ObjId}
 use Rattle.ir_model.specs.declared.object.ObjId.TheVariants.{Global, Periph}
 use Rattle.ir_model.specs.Plain.{PlainFirmware}
@@ -31,14 +31,14 @@ use Rattle.plan_model.specs.declared.plan.Spot.{Spot}
 use Rattle.plan_model.specs.Boards.{slots_of}
 use Rattle.plan_model.specs.Lists.{has, numbers_below}
 use Rattle.plan_model.specs.Regions.{region_at, regions_used, is_user, no_region}
-use Rattle.plan_model.specs.Blocks.{has_eighths, open_eighths, subregions_out, region_bytes}
+use Rattle.plan_model.specs.Blocks.{subregions_out, region_bytes}
 use Rattle.plan_model.specs.Covers.{is_inside}
 use Rattle.plan_model.specs.InitialGraph.{cover_of}
 use Rattle.plan_model.specs.RamBlocks.{RamUse, ForStack, ForMonitor, ForRegion, ForUnwritten}
 use Rattle.plan_model.specs.Placement.{region_spot}
 use Rattle.plan_model.specs.Permission.{may_write, may_read}
-use Rattle.plan_model.specs.Slots.{SlotUse, free_slot, data_slot, cover_slot, slot_uses, slots_from}
-use Rattle.layout_laws.specs.RamLaws.{Holds, open_bytes}
+use Rattle.plan_model.specs.Slots.{SlotUse, free_slot, data_slot, cover_slot, slot_uses}
+use Rattle.layout_laws.specs.RamLaws.{Holds}
 use Rattle.monitor.specs.declared.tables.CompRecord.{CompRecord}
 use Rattle.monitor.specs.Records.{compartment_at, nobody}
 use Rattle.link_model.specs.LinkedTables.{tables_of, comp_record}
@@ -54,16 +54,17 @@ use Rattle.linked_promises.proofs.GlobalPlaces.{placed, byte_held, same_or_other
 use Rattle.linked_promises.proofs.DataSlots.{few_bits, slot_holds}
 use Rattle.linked_promises.proofs.DataRanges as ranges
 use Rattle.linked_promises.proofs.Opened.{SlotLaws, slots_are, slots_at}
+use Rattle.linked_promises.proofs.OneSlot.{free_holds, one_slot, open_within}
 
 -- ---- lists
 
 -- what one item has, one of the list has
-each_among : {X : Type 0} (P : X → Type 0) (xs : List X) → areas.Each (λ x. P x → AnyOf P xs) xs
+each_among : {X : Type 0} (P : X → Type 0) (xs : List X) → Each (λ x. P x → AnyOf P xs) xs
 each_among P [] = tt
 each_among P (x ∷ xs) = (λ h. inl h, each_to (λ y. P y → AnyOf P xs) (λ y. P y → AnyOf P (x ∷ xs)) xs (λ y f h. inr (f h)) (each_among P xs))
 
 -- a test that an item passes, some item of the list passes
-each_passes : {X Y : Type 0} (test : Y → X → Bool) (xs : List X) → areas.Each (λ x. (y : Y) → test y x ≡ true → list_any (test y) xs ≡ true) xs
+each_passes : {X Y : Type 0} (test : Y → X → Bool) (xs : List X) → Each (λ x. (y : Y) → test y x ≡ true → list_any (test y) xs ≡ true) xs
 each_passes test [] = tt
 each_passes {X} {Y} test (x ∷ xs) = (
   λ y e. or_left (test y x) (list_any (test y) xs) e,
@@ -71,40 +72,9 @@ each_passes {X} {Y} test (x ∷ xs) = (
       (λ z f y e. or_right (test y x) (list_any (test y) xs) (f y e)) (each_passes test xs),
 )
 
-each_two : {X : Type 0} (P Q : X → Type 0) (xs : List X) → areas.Each P xs → areas.Each Q xs → areas.Each (λ x. P x × Q x) xs
+each_two : {X : Type 0} (P Q : X → Type 0) (xs : List X) → Each P xs → Each Q xs → Each (λ x. P x × Q x) xs
 each_two P Q [] e h = tt
 each_two P Q (x ∷ xs) e h = ((e.0, h.0), each_two P Q xs e.1 h.1)
-
--- ---- slots
-
-free_holds : (a number : ℕ) → holds (free_slot number) a ≡ false
-unfolding holds
-free_holds a number = refl
-
--- one of these slots that has something is that of one of the uses, if no free slot has it
-module _ (Q : Region → Type 0) (Goal : Type 0) (free : (number : ℕ) → Q (free_slot number) → Goal) where
-  one_slot : (us : List SlotUse) (n k : ℕ) → n + k ≤ 16 → areas.Each (λ u. (m : ℕ) → m < 16 → Q (use_region m u) → Goal) us → AnyOf Q (slots_from n k us) → Goal
-  one_slot us n zero l e h = absurd h
-  one_slot [] n (suc k) l e (inl q) = free n q
-  one_slot [] n (suc k) l e (inr h) = one_slot [] (suc n) k (omega (arith, l)) tt h
-  one_slot (u ∷ us) n (suc k) l e (inl q) = e.0 n (omega (arith, l)) q
-  one_slot (u ∷ us) n (suc k) l e (inr h) = one_slot us (suc n) k (omega (arith, l)) e.1 h
-
--- ---- blocks
-
-times : (a b n : ℕ) → a ≤ b → n * a ≤ n * b
-times a b n l = grind (arith, l)
-
-open_within : (size bytes : ℕ) → open_bytes size bytes ≤ size
-open_within size bytes = by (has_eighths size) (nat_lt (open_eighths size bytes) 8) refl
-  where
-    by : (t u : Bool) → nat_lt (open_eighths size bytes) 8 ≡ u → cond (t && u) (size / 8 * open_eighths size bytes) size ≤ size
-    by true true e =
-        let few = ltb-true (open_eighths size bytes) 8 e in
-        let m = times (open_eighths size bytes) 8 (size / 8) (omega (arith, few)) in
-        omega (arith, m)
-    by true false e = omega arith
-    by false u e = omega arith
 
 module _ (law : SlotLaws) (windows : WindowsLieApart) (w : PlainFirmware) (n : Needs) (f : Final) (b : Board) (ok : IsPlanned w n f b) where
   abbrev p : Program
@@ -185,7 +155,7 @@ module _ (law : SlotLaws) (windows : WindowsLieApart) (w : PlainFirmware) (n : N
     data_serves r (lt, user) m number q =
         InData (in_data may a r lt ((slot_holds law.globals law.held law.opened law.given w n f b ok c r a m lt number).0 (holds_it (use_region m (data_slot p f l c r)) q)) (may_global r m user lt q))
 
-    used : areas.Each (λ r. (r < length f.regions) × (is_user c (region_at f.regions r) ≡ true)) (regions_used f.regions c)
+    used : Each (λ r. (r < length f.regions) × (is_user c (region_at f.regions r) ≡ true)) (regions_used f.regions c)
     used =
         each_passing (λ r. r < length f.regions) (λ r. (r < length f.regions) × (is_user c (region_at f.regions r) ≡ true)) (λ r. is_user c (region_at f.regions r)) (numbers_below (length f.regions))
         (λ r lt t. (lt, t)) (below_all 0 (length f.regions) (length f.regions) (omega arith))
@@ -196,7 +166,7 @@ module _ (law : SlotLaws) (windows : WindowsLieApart) (w : PlainFirmware) (n : N
     abbrev IsGood : Cover → Type 0
     IsGood d = IsFilled p apart_windows d × (((x : Cover) → is_inside x d ≡ true → list_any (is_inside x) covers ≡ true) × (IsOnPeripherals w n f b may a d → AnyOf (IsOnPeripherals w n f b may a) covers))
 
-    good : areas.Each IsGood covers
+    good : Each IsGood covers
     good =
         each_two (IsFilled p apart_windows) (λ d. ((x : Cover) → is_inside x d ≡ true → list_any (is_inside x) covers ≡ true) × (IsOnPeripherals w n f b may a d → AnyOf (IsOnPeripherals w n f b may a) covers)) covers
         (covers_are_filled p apart_windows n f (slots_of b) ok.final c)
@@ -207,7 +177,7 @@ module _ (law : SlotLaws) (windows : WindowsLieApart) (w : PlainFirmware) (n : N
     cover_serves d (filled, has_it) m number q =
         OnPeripherals (has_it.1 (open_range may a d filled (λ x e. may_periph x (has_it.0 (cover_of p x) e)) m number (holds_it (use_region m (cover_slot d)) q)))
 
-    all_serve : areas.Each Serves (slot_uses p f l c)
+    all_serve : Each Serves (slot_uses p f l c)
     all_serve =
         each_both Serves (map (data_slot p f l c) (regions_used f.regions c)) (map cover_slot covers)
         (each_map Serves (data_slot p f l c) (λ r. (r < length f.regions) × (is_user c (region_at f.regions r) ≡ true)) (regions_used f.regions c) data_serves used)

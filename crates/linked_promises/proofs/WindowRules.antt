@@ -21,7 +21,7 @@ use Rattle.ir_model.specs.Resolve.{resolve}
 use Rattle.ir_model.specs.Canonical.{IsWithinLimits}
 use Rattle.common_laws.specs.Lists.{Each}
 use Rattle.ir_model.specs.Typing.{Checks, check, is_new, is_window, periph_checks, IsTyped, is_apart}
-use Rattle.ir_model.proofs.ForEach.{each_left, each_right}
+use Rattle.common_laws.proofs.Lists.{each_left, each_right}
 use Rattle.ir_model.proofs.Passing.{Pass, left, right, holds, behind}
 use Rattle.ir_model.proofs.Typed.{parts_pass}
 use Rattle.ir_model.proofs.Limits.{named_periphs}

@@ -56,7 +56,7 @@ use Rattle.plan_model.proofs.Orders.{any_in_order}
 
 -- ---- needs
 
-periph_has : (qs : List ℕ) (q : ℕ) → Contains qs q → has qs q ≡ true
+pub periph_has : (qs : List ℕ) (q : ℕ) → Contains qs q → has qs q ≡ true
 periph_has qs q c = list_any-from_Any (λ m. nat_eq m q) qs (c.0, q, c.1, c.2, eq-eqb q q refl)
 
 module _ (p : Program) (S : ObjectSets) (closed : Bool) (n : Needs) (are : AreNeeds p S closed n) (g : ℕ) (below : g < length p.funcs) (q : ℕ) where

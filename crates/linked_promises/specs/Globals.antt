@@ -13,7 +13,7 @@ use Rattle.need_laws.specs.Reached.{IsListed}
 use Rattle.monitor.specs.MonitorCode.{MonitorCode}
 use Rattle.monitor.specs.Threads.{base, stack_end, KeepsOff}
 use Rattle.thread_runs.specs.Areas.{Area, Laid}
-use Rattle.thread_runs.specs.Areas as areas
+use Rattle.common_laws.specs.Lists.{Each}
 use Rattle.relation.specs.Builds.{Build, compartment_of}
 use Rattle.relation.specs.Relation.{global_areas}
 use Rattle.planning.specs.PlannedFirmwares.{IsPlanned}
@@ -24,11 +24,11 @@ pub record HasPlacedGlobals (k : Build) : Type 0 where
   -- each lies in RAM, and each of their cells at a multiple of its width
   pub from_base : (x : ℕ) → x < length k.program.globals → base k.setting ≤ get_or k.places.globals x 0
   pub to_end : (x : ℕ) → x < length k.program.globals → get_or k.places.globals x 0 + (global_at k.program x).shape.size ≤ base k.setting + k.setting.image.ram_size
-  pub inside : areas.Each (λ (c : Area). c.at + c.width ≤ k.setting.image.ram_size) (global_areas k)
-  pub aligned : areas.Each (λ (c : Area). (base k.setting + c.at) % c.width ≡ 0) (global_areas k)
+  pub inside : Each (λ (c : Area). c.at + c.width ≤ k.setting.image.ram_size) (global_areas k)
+  pub aligned : Each (λ (c : Area). (base k.setting + c.at) % c.width ≡ 0) (global_areas k)
   -- their cells lie apart, and off the stack and the monitor's block
   pub laid : Laid (global_areas k)
-  pub off : areas.Each (λ (c : Area). KeepsOff k.setting (stack_end k.setting) c.at c.width) (global_areas k)
+  pub off : Each (λ (c : Area). KeepsOff k.setting (stack_end k.setting) c.at c.width) (global_areas k)
   -- a compartment may load and store what its functions' needs list
   pub loads : (f x j : ℕ) → f < length k.program.funcs → IsListed (need_of k.needs f).read (GlobalObject x) → x < length k.program.globals →
       j < (global_at k.program x).shape.size → k.setting.may_load (compartment_of k f) (get_or k.places.globals x 0 + j) ≡ true

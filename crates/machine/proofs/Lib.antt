@@ -4,3 +4,4 @@ mod Machines
 mod MachineRuns
 mod Standing
 pub mod Selected
+pub mod StepAnswers

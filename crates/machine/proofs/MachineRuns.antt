@@ -1,8 +1,9 @@
 -- Runs of a machine's steps, one step in front of others, and what their answers say.
 use Rattle.std.specs.List.{FoldsTo}
 use Rattle.std.specs.Prelude.{option_to_list}
-use Rattle.std.proofs.Common.{◌≡◌, ℕ, suc, ◌++◌, subst, Bool, true, false, List, [], ◌∷◌, Option, Some, None, refl, ap, sym, ◌∙◌, inl, inr, arith}
+use Rattle.std.proofs.Common.{◌≡◌, ℕ, suc, ◌++◌, subst, Bool, true, false, List, ◌∷◌, Option, Some, None, refl, ap, sym, ◌∙◌, arith}
 use Rattle.words.specs.Runs.{run, events}
+use Rattle.words.proofs.Runs.{run_none, events_none}
 use Rattle.device_model.specs.declared.image.Image.{Image}
 use Rattle.events.specs.declared.event.Event.{Event}
 use Rattle.armv7m.specs.declared.state.End.{End}
@@ -10,10 +11,9 @@ use Rattle.armv7m.specs.declared.state.End.TheVariants.{Halt, InputEnd, Limit, S
 use Rattle.machine.specs.declared.Step.TheVariants.{Ran, Event as Told, Ended}
 use Rattle.armv7m.specs.State.{State, Turn, by_mpu}
 use Rattle.armv7m.specs.Step.{turn, step, event}
-use Rattle.armv7m.specs.Ends.{IsOwn, EndsOrGoesOn}
+use Rattle.armv7m.specs.Ends.{IsOwn}
 use Rattle.machine.specs.Machine.{MachineState, HasOwn, answer, answer_by, AcceptsAll, RefusesLast, Says, IsRun}
-use Rattle.armv7m.proofs.Runs.{told_ended}
-use Rattle.armv7m.proofs.Ends.{steps_end_or_go_on}
+use Rattle.machine.proofs.StepAnswers.{ended_by as ended_of, silent as silent_end, own_of}
 
 -- ---- what a step's answer says of its turn
 
@@ -35,19 +35,6 @@ tells_of (Some e) x t y p q h = cc
 tells_of None None t y p q h = cc
 tells_of None (Some x) t y p q h = record { goes_on = p; told = cc }
 
-ended_of : (o : Option End) (x : Option Event) (e : End) → Ended e ≡ answer_by o x → o ≡ Some e
-ended_of (Some d) x e h = cc
-ended_of None (Some x) e h = cc
-ended_of None None e h = cc
-
--- a step after which the machine has ended has no event
-silent_by : (s : State) (t : Turn) (e : End) → EndsOrGoesOn s t → t.to.ending ≡ Some e → (s.ending ≡ Some e → t.event ≡ None) → t.event ≡ None
-silent_by s t e (inl q) h k = k (sym q ∙ h)
-silent_by s t e (inr m) h k = ap (λ (u : Turn). u.event) m.2
-
-silent_end : (i : Image) (s : State) (e : End) → (step i s).ending ≡ Some e → event i s ≡ None
-silent_end i s e h = silent_by s (turn by_mpu i s) e (steps_end_or_go_on by_mpu i s) h (told_ended by_mpu i s e)
-
 -- ---- one step in front
 
 module _ (i : Image) (n : ℕ) (s : State) where
@@ -63,17 +50,9 @@ module _ (i : Image) (n : ℕ) (s : State) where
   unfolding run
   run_on = refl
 
-run_none : (i : Image) (s : State) → run (step i) 0 s ≡ s
-unfolding run
-run_none i s = refl
-
-events_none : (i : Image) (s : State) → events (step i) (event i) 0 s ≡ []
-unfolding events
-events_none i s = refl
-
 module _ {G : Type 0} (calls : G → Event → Bool → G → Type 0) (i : Image) where
   accepts_none : (s : State) (f : G) → AcceptsAll calls i 0 s f f
-  accepts_none s f = rw (events_none i s) refl
+  accepts_none s f = rw (events_none (step i) (event i) s) refl
 
   accepts_quiet : (n : ℕ) (s : State) (f g : G) → event i s ≡ None → AcceptsAll calls i n (step i s) f g → AcceptsAll calls i (suc n) s f g
   accepts_quiet n s f g h a =
@@ -129,10 +108,6 @@ module _ {G : Type 0} (calls : G → Event → Bool → G → Type 0) (i : Image
   says_own limit n s t f (Stop r x) o h a = (h, a)
   says_own limit n s t f Refused o h a = absurd o
 
-own_of : (o : Option End) (e : End) → HasOwn o → o ≡ Some e → IsOwn e
-own_of None e h q = cc
-own_of (Some d) e h q = let p : d ≡ e = cc in subst IsOwn p h
-
 -- ---- runs
 
 -- the machine one step later
@@ -169,14 +144,14 @@ module _ {G : Type 0} (calls : G → Event → Bool → G → Type 0) where
         steps = 1;
         few = omega arith;
         same_image = refl;
-        leads = run_on m.image 0 m.state ∙ run_none m.image (step m.image m.state);
+        leads = run_on m.image 0 m.state ∙ run_none (step m.image) (step m.image m.state);
         says = (
           t.goes_on,
           record {
             before = 0;
             last = refl;
             refused = x;
-            told = ap (event m.image) (run_none m.image m.state) ∙ t.told;
+            told = ap (event m.image) (run_none (step m.image) m.state) ∙ t.told;
             between = f;
             accepts = accepts_none calls m.image m.state f;
             refuses = c;
@@ -191,7 +166,7 @@ module _ {G : Type 0} (calls : G → Event → Bool → G → Type 0) where
         steps = 1;
         few = omega arith;
         same_image = refl;
-        leads = run_on m.image 0 m.state ∙ run_none m.image (step m.image m.state);
+        leads = run_on m.image 0 m.state ∙ run_none (step m.image) (step m.image m.state);
         says = says_own calls m.image (suc rest) 1 m.state (stepped m).state f e (own_of _ e o h) h (accepts_quiet calls m.image 0 m.state f f (silent_end m.image m.state e h) (accepts_none calls m.image (step m.image m.state) f));
       }
 
@@ -200,7 +175,7 @@ module _ {G : Type 0} (calls : G → Event → Bool → G → Type 0) where
     steps = 0;
     few = omega arith;
     same_image = refl;
-    leads = run_none m.image m.state;
+    leads = run_none (step m.image) m.state;
     says = says_own calls m.image 0 0 m.state m.state f e (own_of _ e o h) h (accepts_none calls m.image m.state f);
   }
 
@@ -209,6 +184,6 @@ module _ {G : Type 0} (calls : G → Event → Bool → G → Type 0) where
     steps = 0;
     few = omega arith;
     same_image = refl;
-    leads = run_none m.image m.state;
+    leads = run_none (step m.image) m.state;
     says = (refl, h, accepts_none calls m.image m.state f);
   }

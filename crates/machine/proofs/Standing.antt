@@ -95,5 +95,3 @@ low_there i a x r h =
     short_width : (c : Code) → width_of c ≤ 4
     short_width (Half h) = omega arith
     short_width (Pair h k) = omega arith
-
-pub ruleset standing_rules = (performs, refuses_first, refuses_second, low_there)

@@ -17,7 +17,8 @@ use Rattle.armv7m.specs.Confinement.{EventsAreListed}
 use Rattle.lines.specs.Lines.{event_line}
 use Rattle.machine_output.specs.Runs.{event_lines, end_of, HasLine}
 use Rattle.outside.specs.Sinks.{Puts, sink}
-use Rattle.words.proofs.EventLines.{Each, each_event, lines_cut}
+use Rattle.common_laws.specs.Lists.{Each}
+use Rattle.words.proofs.EventLines.{each_event, lines_cut}
 use Rattle.outside.proofs.Prefixes.{prefix_part}
 use Rattle.machine_output.proofs.Windows.{event_known, name_is_short}
 use Rattle.machine_output.proofs.Ended.{ends_so, same_lines}

@@ -5,7 +5,8 @@ use Rattle.std.proofs.Common.{◌≡◌, ◌≢◌, ℕ, ◌+◌, ◌<◌, ◌�
 use Rattle.outside.specs.Counts.{Rose}
 use Rattle.outside.proofs.Prefixes.{prefix_part}
 use Rattle.words.specs.Runs.{run}
-use Rattle.words.proofs.EventLines.{run_none, run_behind, lines_none, lines_quiet, lines_told, lines_more}
+use Rattle.words.proofs.Runs.{run_none}
+use Rattle.words.proofs.EventLines.{run_behind, lines_none, lines_quiet, lines_told, lines_more}
 use Rattle.device_model.specs.declared.image.Image.{Image}
 use Rattle.device_model.specs.declared.image.Window.{Window}
 use Rattle.events.specs.declared.event.Event.{Event}

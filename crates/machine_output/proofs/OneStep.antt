@@ -1,8 +1,9 @@
 -- A watched run of at most one step, of a machine that goes on.
 use Rattle.std.specs.Prelude.{option_to_list}
 use Rattle.std.specs.List.{FoldsTo}
-use Rattle.std.proofs.Common.{◌≡◌, ℕ, zero, suc, ◌+◌, ◌≤◌, Bool, List, [], ◌∷◌, Option, Some, None, refl, ap, sym, subst, ◌∙◌, arith, append-nil}
+use Rattle.std.proofs.Common.{◌≡◌, ℕ, zero, suc, ◌+◌, ◌≤◌, Bool, List, [], ◌∷◌, Option, Some, None, ap, sym, subst, ◌∙◌, arith}
 use Rattle.words.specs.Runs.{run, events}
+use Rattle.words.proofs.Runs.{run_none, run_one, events_one}
 use Rattle.device_model.specs.declared.image.Image.{Image}
 use Rattle.events.specs.declared.event.Event.{Event}
 use Rattle.armv7m.specs.declared.state.End.{End}
@@ -15,21 +16,9 @@ use Rattle.watch.specs.Sessions.{SessionState}
 use Rattle.watch.specs.Watched.{Says, IsWatched}
 use Rattle.machine_output.specs.Watching.{IsStepped}
 
-run_none : (i : Image) (s : State) → run (step i) 0 s ≡ s
-unfolding run
-run_none i s = refl
-
-run_one : (i : Image) (s : State) → run (step i) 1 s ≡ step i s
-unfolding run
-run_one i s = refl
-
-events_one : (i : Image) (s : State) → events (step i) (event i) 1 s ≡ option_to_list (event i s)
-unfolding events
-events_one i s = append-nil (option_to_list (event i s))
-
 -- no step of a machine that goes on leads to no end
 none_ends : (i : Image) (s t : State) (e : End) → s.ending ≡ None → t.ending ≡ Some e → run (step i) 0 s ≡ t → ⊥
-none_ends i s t e on end leads = let wrong : None ≡ Some e = sym on ∙ (ap (λ (x : State). x.ending) (sym (run_none i s) ∙ leads) ∙ end) in cc
+none_ends i s t e on end leads = let wrong : None ≡ Some e = sym on ∙ (ap (λ (x : State). x.ending) (sym (run_none (step i) s) ∙ leads) ∙ end) in cc
 
 -- a pause says that the step was made
 made : (answers : Event → Bool → Type 0) (i : Image) (n : ℕ) (s t : State) (p : Pause) → n ≤ 1 → s.ending ≡ None → run (step i) n s ≡ t → Says answers i 1 n s t p → n ≡ 1
@@ -53,14 +42,14 @@ once_stepped answers calls old new f g p w kept keeps on fresh =
     let i = old.machine.image in
     let s = old.machine.state in
     let one : w.steps ≡ 1 = made answers i w.steps s new.machine.state p w.few on w.piece.leads w.says in
-    let state : new.machine.state ≡ step i s = sym w.piece.leads ∙ ap (λ n. run (step i) n s) one ∙ run_one i s in
+    let state : new.machine.state ≡ step i s = sym w.piece.leads ∙ ap (λ n. run (step i) n s) one ∙ run_one (step i) s in
     let given = subst (λ n. FoldsTo calls f (events (step i) (event i) n s) g) one w.piece.given in
     record {
       image = w.piece.same_image;
       state = state;
       taken = w.piece.counted ∙ ap (λ n. old.taken + n) one;
       callback = w.same_callback;
-      is_told = kept_of calls kept keeps (event i s) f g fresh (subst (λ es. FoldsTo calls f es g) (events_one i s) given);
+      is_told = kept_of calls kept keeps (event i s) f g fresh (subst (λ es. FoldsTo calls f es g) (events_one (step i) (event i) s) given);
       says = subst (λ t. Says answers i 1 1 s t p) state (subst (λ n. Says answers i 1 n s new.machine.state p) one w.says);
     }
 

@@ -7,9 +7,6 @@ use Rattle.mem_bus.specs.Places.{inside}
 pub inside_true : (b s a : ℕ) → inside b s a ≡ true → (b ≤ a) × (a < b + s)
 inside_true b s a h = (grind (arith, nat_tests), grind (arith, nat_tests))
 
-pub inside_false : (b s a : ℕ) → inside b s a ≡ false → (a < b) ⊎ (b + s ≤ a)
-inside_false b s a h = grind (arith, nat_tests)
-
 pub inside_yes : (b s a : ℕ) → b ≤ a → a < b + s → inside b s a ≡ true
 inside_yes b s a h k = grind (arith, nat_tests)
 

@@ -145,9 +145,6 @@ module _ (laws : ActLaws) (units : AccessLaws) (i : Image) (t : Tables) (p : Pla
         wide_enough : (w : ℕ) → IsAccessWidth w → 0 < w
         wide_enough w h = grind arith
 
-    abbrev InSome : ℕ → Type 0
-    InSome a = AnyOf (λ (g : Region). holds g a ≡ true) (running i t (at n)).slots
-
     any_slot : (gs : List Region) (a : ℕ) → AnyOf (λ (g : Region). (holds g a ≡ true) × (permission g ≡ 3)) gs → AnyOf (λ (g : Region). holds g a ≡ true) gs
     any_slot [] a f = f
     any_slot (g ∷ gs) a (inl f) = inl f.0

@@ -37,13 +37,6 @@ place_more (m ∷ ns) n q = place_next (ns ++ n ∷ []) m q ∙ (ap (λ o. if by
     pick false None true = refl
     pick false None false = refl
 
-place_has : (ns : List (List ℕ)) (n : List ℕ) → is_some (place_in ns n) ≡ has ns n
-place_has ns n = pick (has ns n)
-  where
-    pick : (b : Bool) → is_some (if b then Some (number_of ns n) else None) ≡ b
-    pick true = refl
-    pick false = refl
-
 -- a name that is new
 pub put_new : (ns : List (List ℕ)) (n q : List ℕ) (old new : Option ℕ) → is_some (place_in ns n) ≡ false → old ≡ place_in ns q → new ≡ cond (bytes_eq n q) (Some (length ns)) old → new ≡ place_in (ns ++ n ∷ []) q
 put_new ns n q old new h e f = f ∙ (ap (cond (bytes_eq n q) (Some (length ns))) e ∙ (pick (bytes_eq n q) refl (place_in ns q) refl ∙ sym (place_more ns n q)))

@@ -1,6 +1,6 @@
 -- Lists that are cut into stretches.
 use Rattle.std.proofs.Common.{◌≡◌, ℕ, zero, suc, ◌+◌, ◌-◌, ◌/◌, ◌%◌, ◌<◌, ◌≤◌, Bool, true, false, ◌||◌, List, [], ◌∷◌, ◌++◌, length, get_or, set, take, refl, sym, ap, ◌∙◌, subst, arith, nat_eq, ◌⊎◌, inl, inr, Option, None, slice_get, append_assoc}
-use Rattle.std.proofs.lemmas.List.{append-nil, length-append, length-set, get_or-set_same, get_or-set_other, get_or_append_left, get_or_default, take_all}
+use Rattle.std.proofs.lemmas.List.{append-nil, length-append, length-set, get_or-set_same, get_or-set_other, get_or_default, take_all}
 use Rattle.std.proofs.lemmas.List.Folds.{list_any-append}
 use Rattle.std.proofs.lemmas.Bool.{false≢true, eqb-true, eq-eqb, or_left, or_right, cases_lt}
 use Rattle.std.specs.Prelude.{Result, Ok, Err, OnOk, OnErr}
@@ -92,29 +92,6 @@ joined_more (x ∷ ss) y = ap (λ ys. x ++ ys) (joined_more ss y) ∙ sym (appen
 pub more_behind : (ss : List (List ℕ)) (o : ℕ) (x y : List ℕ) → x ≡ [] → y ≡ x ++ o ∷ [] → joined (ss ++ y ∷ []) ≡ joined ss ++ o ∷ []
 more_behind ss o x y e f = joined_more ss y ∙ ap (λ z. joined ss ++ z) (f ∙ ap (λ z. z ++ o ∷ []) e)
 
-pub cut_behind : (ss : List (List ℕ)) (o : ℕ) (x y : List ℕ) → x ≡ [] → y ≡ x ++ o ∷ [] → (length ss ≡ 0) ⊎ (length (get_or ss (length ss - 1) []) ≡ 256) → AreCut ss → AreCut (ss ++ y ∷ [])
-cut_behind ss o x y e f last c = record { full = λ k l. whole k (cases_lt (suc k) (length ss)) (let n = length-append ss (y ∷ []) in omega arith); short = λ k. at k (cases_lt k (length ss)) }
-  where
-    one : length y ≡ 1
-    one = ap length (f ∙ ap (λ z. z ++ o ∷ []) e)
-
-    whole : (k : ℕ) → (suc k < length ss) ⊎ (length ss ≤ suc k) → suc k < length ss + 1 → length (get_or (ss ++ y ∷ []) k []) ≡ 256
-    whole k (inl l) m = ap length (get_or_append_left ss (y ∷ []) [] k (omega arith)) ∙ c.full k l
-    whole k (inr l) m = elim last [
-      | inl z ↦ absurd (omega arith)
-      | inr z ↦ let i : length ss - 1 ≡ k = omega arith in ap length (get_or_append_left ss (y ∷ []) [] k (omega arith)) ∙ subst (λ j. length (get_or ss j []) ≡ 256) i z
-    ]
-
-    gone : (ss : List (List ℕ)) (k : ℕ) → length ss ≤ k → length (get_or (ss ++ y ∷ []) k []) ≤ 256
-    gone [] zero l = let z = one in omega arith
-    gone [] (suc k) l = omega arith
-    gone (x ∷ ss) zero l = absurd (omega arith)
-    gone (x ∷ ss) (suc k) l = gone ss k (omega arith)
-
-    at : (k : ℕ) → (k < length ss) ⊎ (length ss ≤ k) → length (get_or (ss ++ y ∷ []) k []) ≤ 256
-    at k (inl l) = subst (λ w. length w ≤ 256) (sym (get_or_append_left ss (y ∷ []) [] k l)) (c.short k)
-    at k (inr l) = gone ss k l
-
 -- a number is in the stretches that were looked at
 neither : (a b : Bool) → (a || b) ≡ false → (a ≡ false) × (b ≡ false)
 neither true b i = absurd (false≢true (sym i))
@@ -169,9 +146,6 @@ run_behind ss o x y b e t f = more_behind ss o x y e (f t)
 -- whether the last run goes on or not
 pub gone_on : (ss : List (List ℕ)) (n o : ℕ) (x y : List ℕ) (b : Bool) → suc n ≡ length ss → x ≡ get_or ss n x → (b ≡ true → y ≡ x ++ o ∷ []) → b ≡ true → joined (set ss n y) ≡ joined ss ++ o ∷ []
 gone_on ss n o x y b e f g t = more_in_last ss n o x y e (f ∙ get_or_default ss n x [] (omega arith)) (g t)
-
-pub not_gone_on : (ss : List (List ℕ)) (n : ℕ) (x y : List ℕ) (b : Bool) → x ≡ get_or ss n x → (b ≡ false → y ≡ x) → b ≡ false → joined (set ss n y) ≡ joined ss
-not_gone_on ss n x y b f g t = ap (λ z. joined (set ss n z)) (g t) ∙ ap joined (set_same ss n x f)
 
 -- the place of a number among runs, and behind them
 in_one : (ss : List (List ℕ)) (ys : List ℕ) (at p rest : ℕ) (x : List ℕ) → at < length ss → x ≡ get_or ss at x → rest < length x → rest + length (joined (take at ss)) ≡ p → slice_get x rest ≡ slice_get (joined ss ++ ys) p

@@ -2,4 +2,3 @@ pub mod GroupPlaces
 mod Runs
 mod WordBits
 mod Cuts
-mod RowSteps

@@ -13,9 +13,6 @@ pub stays : (n k : ℕ) → run n false (suc k) ≡ run n false k ++ n ∷ []
 stays n zero = refl
 stays n (suc k) = ap (λ xs. n ∷ xs) (stays n k)
 
-pub started : (first number count : ℕ) (r : Bool) → count ≡ 0 → run number false (count + 1) ≡ run first r count ++ number ∷ []
-started first number count r e = subst (λ k. run number false (k + 1) ≡ run first r k ++ number ∷ []) (sym e) refl
-
 pub stayed : (first number count : ℕ) (r : Bool) → number ≡ first → (count ≡ 1) ⊎ (r ≡ false) → run first false (count + 1) ≡ run first r count ++ number ∷ []
 stayed first number count r e (inl q) =
     subst (λ k. run first false (k + 1) ≡ run first r k ++ number ∷ []) (sym q) (ap (λ m. first ∷ m ∷ []) (sym e))

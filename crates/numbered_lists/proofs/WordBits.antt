@@ -1,5 +1,5 @@
 -- Bits of words of 64.
-use Rattle.std.proofs.Common.{◌≡◌, ℕ, zero, suc, ◌+◌, ◌*◌, ◌/◌, ◌%◌, ◌^◌, ◌<◌, ◌≤◌, Bool, true, false, ◌||◌, List, [], ◌∷◌, ◌++◌, length, get_or, set, take, replicate, refl, sym, ap, ◌∙◌, subst, arith, nat_eq, Option, Some, None, slice_get}
+use Rattle.std.proofs.Common.{◌≡◌, ℕ, zero, suc, ◌+◌, ◌*◌, ◌/◌, ◌%◌, ◌^◌, ◌<◌, ◌≤◌, Bool, true, false, ◌||◌, List, [], ◌∷◌, ◌++◌, length, get_or, set, take, refl, sym, ap, ◌∙◌, subst, arith, nat_eq, Option, Some, None, slice_get}
 use Rattle.std.specs.Int.{bit_at, w64}
 use Rattle.std.specs.Int.RustNames.{bit_or}
 use Rattle.std.proofs.lemmas.Bool.{false≢true, eqb-true, eq-eqb}
@@ -9,27 +9,10 @@ use Rattle.std.proofs.lemmas.List.Folds.{list_any-append}
 use Rattle.std.proofs.lemmas.Nat.Bits.{bit_at_set_same, bit_at_set_other}
 use Rattle.numbered_lists.specs.Rows.{has}
 use Rattle.numbered_lists.specs.Stretches.{bit_in, AreBitsOf}
-
-is_false : (b : Bool) → (b ≡ true → ⊥) → b ≡ false
-is_false true h = absurd (h refl)
-is_false false h = refl
+use Rattle.common_laws.proofs.Tests.{is_false}
 
 other_number : (k o : ℕ) → (k ≡ o → ⊥) → nat_eq k o ≡ false
 other_number k o h = is_false (nat_eq k o) (λ e. h (eqb-true k o e))
-
-no_word : (m p : ℕ) → ◌≡◌ {A = ℕ} (get_or (replicate m 0) p 0) 0
-no_word zero p = refl
-no_word (suc m) zero = refl
-no_word (suc m) (suc p) = no_word m p
-
--- words that are put behind have no bits
-pub filled : (ws : List ℕ) (m p : ℕ) → get_or (ws ++ replicate m 0) p 0 ≡ get_or ws p 0
-filled [] m p = no_word m p
-filled (w ∷ ws) m zero = refl
-filled (w ∷ ws) m (suc p) = filled ws m p
-
-pub bit_filled : (ws : List ℕ) (m k : ℕ) → bit_in (ws ++ replicate m 0) k ≡ bit_in ws k
-bit_filled ws m k = ap (λ w. nat_eq (bit_at w (k % 64)) 1) (filled ws m (k / 64))
 
 -- one bit is set
 pub bit_set : (ws : List ℕ) (n w v : ℕ) → n / 64 < length ws → w ≡ get_or ws (n / 64) w → v ≡ bit_or w (1 * 2 ^ (n % 64) % 2 ^ 64) → (k : ℕ) → bit_in (set ws (n / 64) v) k ≡ (nat_eq k n || bit_in ws k)

@@ -2,16 +2,15 @@
 use Rattle.std.proofs.Common.{◌≡◌, ℕ, zero, suc, ◌+◌, ◌<◌, ◌≤◌, List, [], ◌∷◌, ◌++◌, get_or, length, map, Option, Some, None, refl, sym, ap, ◌∙◌, subst, arith, ◌⊎◌, inl, inr, Contains}
 use Rattle.std.specs.List.Sorted.{IsStrictlySortedBy}
 use Rattle.std.specs.List.{list_any, sum}
-use Rattle.std.proofs.lemmas.List.{length-map, length-append, get_or_append_left, get_or_push}
+use Rattle.std.proofs.lemmas.List.{length-append, get_or_append_left, get_or_push}
 use Rattle.std.proofs.lemmas.Bool.{cases_lt}
 use Rattle.ir_laws.specs.Sets.{Node}
 use Rattle.ir_model.specs.declared.object.ObjId.{ObjId}
 use Rattle.ir_model.specs.Objects.{object_by, compare_objects}
-use Rattle.ir_model.specs.Resolved.{Program, NumberedFunc}
 use Rattle.ir_model.specs.State.{Object}
 use Rattle.plan_model.specs.Lists.{ListsExactly}
 use Rattle.object_sets.specs.declared.numbering.Numbering.{Numbering}
-use Rattle.object_sets.specs.Numbers.{node_number, object_number, object_groups, IsTable}
+use Rattle.object_sets.specs.Numbers.{node_number, object_number, IsTable}
 use Rattle.numbered_lists.specs.Rows.{Lists, row}
 use Rattle.object_sets.specs.Sets.{Sets, AreInOrder, same_object, row_at, sets_of}
 use Rattle.object_pairs.specs.Tables.{IsWithin, has_number, is_pair, sets_by, object_at}
@@ -21,9 +20,6 @@ use Rattle.object_pairs.proofs.Numbered.{lists_numbers}
 pub record AreDone (table : List ObjId) (lists : Lists) (node : ℕ) (rows : List (List ObjId)) : Type 0 where
   pub count : length rows ≡ node
   pub each : (n : ℕ) → n < node → ListsExactly compare_objects (Contains (map (object_at table) (row lists n))) (get_or rows n [])
-
-pub none_done : (table : List ObjId) (lists : Lists) → AreDone table lists 0 []
-none_done table lists = record { count = refl; each = λ n l. absurd (omega (arith, l)) }
 
 pub one_more : (table : List ObjId) (lists : Lists) (node : ℕ) (rows : List (List ObjId)) (xs : List ObjId) → AreDone table lists node rows → ListsExactly compare_objects (Contains (map (object_at table) (row lists node))) xs → AreDone table lists (node + 1) (rows ++ xs ∷ [])
 one_more table lists node rows xs d e = record { count = (let a = length-append rows (xs ∷ []) in let b = d.count in omega arith); each = λ n l. at n l (cases_lt n node) }
@@ -68,11 +64,6 @@ same_sets s table lists t w d n o = at (node_number s.numbers n)
     at : (r : Option ℕ) → list_any (λ x. same_object (object_by x) o) (row_at s.rows r) ≡ is_pair lists r (object_number s.numbers o)
     at None = refl
     at (Some k) = listed s.numbers table lists s.rows t w d k o
-
-pub four_groups : (p : Program) → length (object_groups p) ≡ 3 + length p.funcs
-four_groups p =
-    let e = length-append (map (λ (f : NumberedFunc). length f.locals) p.funcs) (length p.funcs ∷ []) in
-    let f = length-map p.funcs (λ (f : NumberedFunc). length f.locals) in omega arith
 
 -- one row more, by the lists that were read
 pub one_pushed : (table t : List ObjId) (lists : Lists) (js : List ℕ) (node : ℕ) (rows new : List (List ObjId)) (xs : List ObjId) → t ≡ table → js ≡ row lists node → new ≡ rows ++ xs ∷ [] → AreDone table lists node rows → ListsExactly compare_objects (Contains (map (object_at t) js)) xs → AreDone table lists (node + 1) new

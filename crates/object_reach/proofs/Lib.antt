@@ -1,1 +1,1 @@
-pub mod Reached
+mod Reached

@@ -1,4 +1,4 @@
-pub mod Equal
+mod Equal
 pub mod Members
 pub mod Orders
-pub mod Shares
+mod Shares

@@ -7,7 +7,7 @@ use Rattle.monitor.specs.Layout.{area_end}
 use Rattle.monitor.specs.MonitorCode.{MonitorCode}
 use Rattle.monitor.specs.TheCode.{monitor_code}
 use Rattle.monitor.specs.CodeSize.{PagesAreFull}
-use Rattle.monitor.specs.FromFlash.{tables_behind, tables_of}
+use Rattle.monitor.specs.FromFlash.{tables_of}
 use Rattle.monitor.specs.Sound.{Sound}
 use Rattle.monitor.specs.Promises.{OfSoundImages}
 use Rattle.monitor_laws.proofs.Checked.{NoneFails, none_fails, header_is, head_is}
@@ -16,6 +16,8 @@ use Rattle.other_code.specs.Laws.{HasPages, RulesStay, SoundnessStays, IsSound, 
 use Rattle.other_code.proofs.Alike.{Alike}
 use Rattle.other_code.proofs.ReadAlike.{area_behind, tables_alike, area_is}
 use Rattle.other_code.proofs.ChecksAlike.{failures_same}
+use Rattle.monitor_laws.proofs.ReadTables.{read_from}
+use Rattle.monitor_laws.proofs.SoundImages.{read_tables}
 
 -- ---- the rules
 
@@ -43,14 +45,6 @@ rules_stay i flash r long = record {
 }
 
 -- ---- soundness
-
--- the tables that are read from an image's flash
-abbrev read_from : MonitorCode → Image → Tables
-read_from code i = tables_behind code i (drop 4096 i.flash)
-
-read_tables : (code : MonitorCode) (i : Image) (t : Tables) → Sound code i t → t ≡ read_from code i
-unfolding tables_of
-read_tables code i t s = s.tables
 
 same_tables : (code : MonitorCode) (i : Image) (t : Tables) → HasPages code → Sound code i t → (flash : List ℕ) → KeepsTables i t flash → t ≡ read_from code (with_flash i flash)
 same_tables code i t pages s flash k = e ∙ tables_alike code i flash n alike (omega (arith, whole)) (omega (arith, whole, pages.entry)) (omega (arith, whole, pages.compartment)) (omega (arith, whole))

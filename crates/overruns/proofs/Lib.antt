@@ -1,5 +1,5 @@
-pub mod Refusals
-pub mod Guarding
+mod Refusals
+mod Guarding
 pub mod Stops
 pub mod Lends
 pub mod Callees

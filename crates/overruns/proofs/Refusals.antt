@@ -1,5 +1,5 @@
 -- Steps that stop because the frame of the exception that they ask for may not be pushed.
-use Rattle.std.proofs.Common.{◌≡◌, ℕ, suc, ◌+◌, ◌-◌, ◌*◌, ◌%◌, ◌^◌, ◌<◌, ◌≤◌, Bool, true, false, List, [], ◌∷◌, get_or, set, nat_eq, nat_lt, refl, ap, ap₂, ◌∙◌, arith}
+use Rattle.std.proofs.Common.{◌≡◌, ℕ, suc, ◌+◌, ◌-◌, ◌*◌, ◌%◌, ◌^◌, ◌<◌, Bool, true, false, List, [], ◌∷◌, get_or, set, nat_eq, refl, ap, ap₂, ◌∙◌, arith}
 use Rattle.std.proofs.lemmas.Bool.Decides.{nat_tests}
 use Rattle.words.specs.declared.conditions.Flags.{Flags}
 use Rattle.words.specs.Arithmetic.{word}
@@ -17,13 +17,13 @@ use Rattle.armv7m.specs.State.{State, PermissionTest, stops}
 use Rattle.armv7m.specs.Act.{Loads, Stores, StoresMany, Calls}
 use Rattle.armv7m.specs.Instructions.{act, listed}
 use Rattle.armv7m.specs.Tests.{all_open, verdict, verdicts}
-use Rattle.armv7m.specs.System.{in_system}
 use Rattle.armv7m.specs.Exceptions.{frame_at, entered, call, fault, fault_by, is_fault_enabled, is_frame_open, data_status, supervisor_call, mem_manage}
 use Rattle.armv7m.specs.Perform.{perform}
 use Rattle.armv7m.specs.Code.{Stands, Steps}
 use Rattle.armv7m.specs.RunningCode.{Context, body, works, IsLoad, IsStore}
 use Rattle.armv7m.proofs.Exec.{stepped}
 use Rattle.monitor.specs.Threads.{svc}
+use Rattle.access_law.proofs.Room.{low_address}
 
 -- a frame whose first word is refused
 closed_words : (j : PermissionTest) (i : Image) (p : ProtectionState) (a n : ℕ) → j p Write a ≡ false → all_open j i p Write a (suc n) ≡ false
@@ -32,14 +32,6 @@ closed_words j i p a n e = rw e refl
 
 pub closed_frame : (j : PermissionTest) (i : Image) (s : State) → j s.protection Write (frame_at s.core.sp) ≡ false → is_frame_open j i s ≡ false
 closed_frame j i s e = closed_words j i s.protection (frame_at s.core.sp) 7 e
-
-pub frame_is : (sp : ℕ) → sp % 8 ≡ 0 → 32 ≤ sp → sp < 2 ^ 32 → frame_at sp ≡ sp - 32
-frame_is sp a l h =
-    let e : nat_eq (sp % 8) 0 ≡ true = search (nat_tests, arith) in
-    rw e (omega arith)
-
-low_address : (a : ℕ) → a < 0xE0000000 → in_system a ≡ false
-low_address a h = let e : nat_lt a 0xE0000000 ≡ true = search (nat_tests, arith) in rw e refl
 
 refused_word : (j : PermissionTest) (p : ProtectionState) (a : ℕ) → a % 4 ≡ 0 → a < 0xE0000000 → j p Write a ≡ false → verdict j p Write 4 a ≡ Refused
 unfolding verdict

@@ -40,7 +40,8 @@ use Rattle.thread_runs.proofs.Thread.{runs_here, room}
 use Rattle.overruns.specs.Guard.{StackLaw}
 use Rattle.overruns.specs.Ends.{NoFrame}
 use Rattle.overruns.specs.Entries.{EndsShort, most_words}
-use Rattle.overruns.proofs.Refusals.{closed_frame, frame_is, IsShut, stopped, str_stops, push_lr_stops, svc_stops, transfer_store_stops, transfer_load_stops}
+use Rattle.access_law.proofs.Room.{frame_is}
+use Rattle.overruns.proofs.Refusals.{closed_frame, IsShut, stopped, str_stops, push_lr_stops, svc_stops, transfer_store_stops, transfer_load_stops}
 
 -- the code of a frame, by which form of SUB it has
 frame_by : (b : Bool) (n w : ℕ) → List Instr

@@ -34,12 +34,13 @@ use Rattle.planning.specs.PlannedFirmwares.{IsPlanned}
 use Rattle.linked_promises.proofs.Lists.{any_index, each_map, each_passing, below_all}
 use Rattle.linked_promises.proofs.CoverParts.{each_in_order}
 use Rattle.common_laws.proofs.Lists.{each_at}
-use Rattle.thread_runs.specs.Areas as areas
+use Rattle.common_laws.specs.Lists.{Each}
 use Rattle.plan_model.specs.Covers.{no_cover, end_of, is_inside}
 use Rattle.std.proofs.Math.Pow.{pow_mono}
 use Rattle.linked_promises.proofs.Kept.{kept_final}
 use Rattle.permission_laws.specs.Needed.{IsExposed, IsBoundedByNeeds, PlannedPermissionsAreBounded}
-use Rattle.permission_laws.proofs.Masks.{zero_bit, mask_was_told, mask_is}
+use Rattle.linked_promises.proofs.Bits.{zero_bit, mask_was_told}
+use Rattle.linked_promises.proofs.Masks.{mask_is}
 
 -- a number of a list that passes a test is kept
 has_kept : (test : ℕ → Bool) (ns : List ℕ) (x : ℕ) → has ns x ≡ true → test x ≡ true → has (filter test ns) x ≡ true
@@ -116,7 +117,7 @@ module _ (w : PlainFirmware) (n : Needs) (f : Final) (b : Board) (ok : IsPlanned
     where
       inner : c < f.groups.count → writes n f.groups c (Local g l) ≡ true
       inner lt =
-          let r = mask_was_told n (λ x. writes n f.groups c (Local x.0 x.1)) k (sym (ap (λ m. bit_at m k) (mask_is w n f b ok c lt)) ∙ e) in
+          let r = mask_was_told n (λ x. writes n f.groups c (Local x.0 x.1)) k (sym (ap (λ m. bit_at m k) (mask_is (resolve w) n f (slots_of b) ok.final c lt)) ∙ e) in
           let z = position-Some (is_local g l) n.lendable k (0, 0) at in
           let t = and_parts (nat_eq (get_or n.lendable k (0, 0)).0 g) (nat_eq (get_or n.lendable k (0, 0)).1 l) z.1 in
           let func = eqb-true _ _ t.0 in
@@ -138,24 +139,24 @@ module _ (w : PlainFirmware) (n : Needs) (f : Final) (b : Board) (ok : IsPlanned
     abbrev IsUsed : ℕ → Cover → Type 0
     IsUsed c d = (r : ℕ) × (r < length p.periphs) × (uses n f.groups c r ≡ true) × (d ≡ cover_of p r)
 
-    first_used : (c : ℕ) → areas.Each (IsUsed c) (covers_of p n f.groups c)
+    first_used : (c : ℕ) → Each (IsUsed c) (covers_of p n f.groups c)
     first_used c =
         each_in_order (IsUsed c) (λ (a b : Cover). nat_lt a.base b.base) (map (cover_of p) (filter (uses n f.groups c) (numbers_below (length p.periphs))))
         (each_map (IsUsed c) (cover_of p) (λ r. (r < length p.periphs) × (uses n f.groups c r ≡ true)) (filter (uses n f.groups c) (numbers_below (length p.periphs))) (λ r z. (r, z.0, z.1, refl))
         (each_passing (λ r. r < length p.periphs) (λ r. (r < length p.periphs) × (uses n f.groups c r ≡ true)) (uses n f.groups c) (numbers_below (length p.periphs)) (λ r lt t. (lt, t))
         (below_all 0 (length p.periphs) (length p.periphs) (omega arith))))
 
-    first_covers : (c : ℕ) → areas.Each (IsUsed c) (get_or (initial_graph p n f.groups).covers c [])
+    first_covers : (c : ℕ) → Each (IsUsed c) (get_or (initial_graph p n f.groups).covers c [])
     unfolding initial_graph
     first_covers c = ⊎_elim inner outer (cases_lt c f.groups.count)
       where
-        inner : c < f.groups.count → areas.Each (IsUsed c) (get_or (map (covers_of p n f.groups) (numbers_below f.groups.count)) c [])
-        inner l = subst (areas.Each (IsUsed c)) (sym (get_or-map-range_with_len (covers_of p n f.groups) 0 f.groups.count c c [] l (let e : 0 + c ≡ c = omega arith in e))) (first_used c)
+        inner : c < f.groups.count → Each (IsUsed c) (get_or (map (covers_of p n f.groups) (numbers_below f.groups.count)) c [])
+        inner l = subst (Each (IsUsed c)) (sym (get_or-map-range_with_len (covers_of p n f.groups) 0 f.groups.count c c [] l (let e : 0 + c ≡ c = omega arith in e))) (first_used c)
 
-        outer : f.groups.count ≤ c → areas.Each (IsUsed c) (get_or (map (covers_of p n f.groups) (numbers_below f.groups.count)) c [])
+        outer : f.groups.count ≤ c → Each (IsUsed c) (get_or (map (covers_of p n f.groups) (numbers_below f.groups.count)) c [])
         outer l =
             let size = length-map-range_with_len (covers_of p n f.groups) 0 f.groups.count in
-            subst (areas.Each (IsUsed c)) (sym (get_or_past (map (covers_of p n f.groups) (numbers_below f.groups.count)) c [] (omega (arith, size, l)))) tt
+            subst (Each (IsUsed c)) (sym (get_or_past (map (covers_of p n f.groups) (numbers_below f.groups.count)) c [] (omega (arith, size, l)))) tt
 
     no_join : (g h : Graph) → Merges p (slots_of b) g h → next p (slots_of b) g ≡ None → h ≡ g
     no_join g _ stays e = refl
@@ -182,7 +183,7 @@ module _ (w : PlainFirmware) (n : Needs) (f : Final) (b : Board) (ok : IsPlanned
     unfolding may_write
     periphs e c q lt t =
         let same : f.covers ≡ (initial_graph p n f.groups).covers = ap (λ (x : Final). x.covers) ok.final.is ∙ ap (λ (g : Graph). g.covers) (no_join (initial_graph p n f.groups) ok.final.last ok.final.reached e) in
-        let all = subst (λ (cs : List (List Cover)). areas.Each (IsUsed c) (get_or cs c [])) (sym same) (first_covers c) in
+        let all = subst (λ (cs : List (List Cover)). Each (IsUsed c) (get_or cs c [])) (sym same) (first_covers c) in
         let r = any_index (is_inside (cover_of p q)) no_cover (get_or f.covers c []) t in
         let u = each_at (IsUsed c) (get_or f.covers c []) no_cover r.0 all r.1 in
         let is : q ≡ u.0 = inside_is q u.0 lt u.1 (sym (ap (λ (d : Cover). is_inside (cover_of p q) d) u.3) ∙ r.2) in

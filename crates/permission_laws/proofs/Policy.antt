@@ -1,5 +1,5 @@
 -- What needs list, the graph permits.
-use Rattle.std.proofs.Common.{◌≡◌, ◌≢◌, ℕ, ◌<◌, ◌≤◌, ◌+◌, inl, inr, Bool, true, ◌&&◌, ◌||◌, cond, List, [], length, get_or, position, nat_eq, Some, None, refl, ap, ap₂, sym, ◌∙◌, subst, arith, eqb-true, eq-eqb, lt-ltb}
+use Rattle.std.proofs.Common.{◌≡◌, ◌≢◌, ℕ, ◌<◌, ◌≤◌, ◌+◌, inl, inr, Bool, true, ◌&&◌, ◌||◌, cond, [], length, get_or, position, nat_eq, Some, None, refl, ap, ap₂, sym, ◌∙◌, subst, arith, eqb-true, eq-eqb, lt-ltb}
 use Rattle.std.specs.Prelude.{Contains}
 use mathlib.Core.Logic.{⊎_elim}
 use Rattle.std.specs.Int.{bit_at}
@@ -7,7 +7,7 @@ use Rattle.std.specs.List.{list_any}
 use Rattle.std.proofs.lemmas.Bool.{cases_lt, cases_eq, false≢true, and_parts, or_right, and_from as both}
 use Rattle.std.proofs.lemmas.List.{get_or_past}
 use Rattle.std.proofs.lemmas.List.FromFn.{get_or-map-range_with_len}
-use Rattle.std.proofs.lemmas.List.Folds.{list_any_at, list_any-from_Any}
+use Rattle.std.proofs.lemmas.List.Folds.{list_any_at}
 use Rattle.std.specs.List.{position_or_len}
 use Rattle.std.proofs.lemmas.List.Sums.{fails_before_first, passes_at_first}
 use Rattle.ir_model.specs.declared.object.ObjId.TheVariants.{Global, Local}
@@ -41,9 +41,9 @@ use Rattle.linked_promises.proofs.Compartments.{in_compartment}
 use Rattle.linked_promises.proofs.FinalRegions as regions
 use Rattle.linked_promises.proofs.Kept.{kept_final}
 use Rattle.linked_promises.proofs.Reach.{one_of, has_listed}
-use Rattle.linked_promises.proofs.WindowsOpen.{covered}
+use Rattle.linked_promises.proofs.WindowsOpen.{covered, periph_has}
 use Rattle.permission_laws.specs.Policy.{IsAllowed, IsInPolicy, PlannedRunsStayInPolicy}
-use Rattle.permission_laws.proofs.Masks.{mask_is}
+use Rattle.linked_promises.proofs.Masks.{mask_is}
 
 -- ---- the set that has an object that is reached
 
@@ -78,9 +78,6 @@ read_node S f (Does (ICall to g xs)) o x = absurd x
 read_node S f (Ends t) o x = absurd x
 
 -- ---- lists
-
-has_contained : (qs : List ℕ) (q : ℕ) → Contains qs q → has qs q ≡ true
-has_contained qs q c = list_any-from_Any (λ m. nat_eq m q) qs (c.0, q, c.1, c.2, eq-eqb q q refl)
 
 -- a lendable local has a place, and its bit is set where it passes the test of the mask
 bit_there : (n : Needs) (does : ℕ × ℕ → Bool) (h l : ℕ) → length n.lendable ≤ 32 → Contains n.lendable (h, l) → does (h, l) ≡ true → is_set (mask_where n does) (position (is_local h l) n.lendable) ≡ true
@@ -138,7 +135,7 @@ module _ (w : PlainFirmware) (n : Needs) (f : Final) (b : Board) (ok : IsPlanned
   reached q lt u = covered p n f (slots_of b) ok.final c q c_below lt u
 
   used : (q : ℕ) → Contains (need_of n g).periphs q → uses n f.groups c q ≡ true
-  used q h = one_of f.groups (λ y. has (need_of n y).periphs q) g listed (has_contained (need_of n g).periphs q h)
+  used q h = one_of f.groups (λ y. has (need_of n y).periphs q) g listed (periph_has (need_of n g).periphs q h)
 
   -- ---- stores
 
@@ -164,7 +161,7 @@ module _ (w : PlainFirmware) (n : Needs) (f : Final) (b : Board) (ok : IsPlanned
           let x = written (LocalObject h l) i in
           let lendable = ok.needs.lendable.all (h, l) (record { there = there (LocalObject h l) x; cause = OthersWrite g (λ e. d (sym e)) x }) in
           let writer : writes n f.groups c (Local h l) ≡ true = one_of f.groups (λ y. has_object (need_of n y).written (Local h l)) g listed (has_listed (need_of n g).written (LocalObject h l) i) in
-          ap (λ m. is_set m (position (is_local h l) n.lendable)) (mask_is w n f b ok c c_below) ∙ bit_there n (λ y. writes n f.groups c (Local y.0 y.1)) h l few lendable writer
+          ap (λ m. is_set m (position (is_local h l) n.lendable)) (mask_is (resolve w) n f (slots_of b) ok.final c c_below) ∙ bit_there n (λ y. writes n f.groups c (Local y.0 y.1)) h l few lendable writer
   stores (FunctionObject h) i q = subst (λ (x : Object). Rattle.plan_model.specs.Needs.IsWritable p x) i.2 ((ok.needs.funcs g below).written.each i.0 i.1).0
 
   -- ---- loads, on a closed board

@@ -1,4 +1,3 @@
 mod Numbering
-mod Targets
 mod Found
 mod Whole

@@ -11,12 +11,6 @@ use Rattle.std.proofs.lemmas.List.Sums.{sum_by-set}
 use Rattle.reached_numbers.specs.Reached.{Leads, at_first, further, AreReached}
 use Rattle.reached_numbers.specs.Marks.{AreMarks}
 
--- a flag that is set is there
-pub flag_there : (flags : List Bool) (g : ℕ) → get_or flags g false ≡ true → g < length flags
-flag_there [] g h = cc
-flag_there (b ∷ bs) zero h = omega arith
-flag_there (b ∷ bs) (suc g) h = let r = flag_there bs g h in omega arith
-
 -- one more is set
 set_once : (flags : List Bool) (i : ℕ) → i < length flags → get_or flags i false ≡ false → count_by (λ b. b) (set flags i true) ≡ count_by (λ b. b) flags + 1
 set_once flags i l h =

@@ -1,5 +1,5 @@
 -- What the monitor's block says while a frame runs, and what the frame's registers hold.
-use Rattle.std.proofs.Common.{◌≡◌, ℕ, zero, suc, ◌+◌, ◌*◌, ◌<◌, ◌≤◌, Option, Some, None, List, [], ◌∷◌, length, map, get_or, refl, sym, ap, ◌∙◌, arith}
+use Rattle.std.proofs.Common.{◌≡◌, ℕ, ◌+◌, ◌*◌, ◌<◌, ◌≤◌, Option, Some, None, List, [], ◌∷◌, length, refl, sym, ap, ◌∙◌, arith}
 use Rattle.words.specs.Bytes.{read, cut}
 use Rattle.words.proofs.Bytes.{read_fits, cut_small}
 use Rattle.ir_model.specs.Resolved.{Value, Number}
@@ -15,7 +15,7 @@ use Rattle.thread_runs.specs.Areas.{Has}
 use Rattle.thread_runs.specs.Owned.{all_lent, loan_of}
 use Rattle.thread_runs.proofs.Areas.{loaded_spot}
 use Rattle.relation.specs.Builds.{Build, func, lends_at}
-use Rattle.relation.specs.Relation.{word_of, words_of, site_of, areas, held, ceiling_by, ceiling, beneath, block_of, AllFit, IsWhole}
+use Rattle.relation.specs.Relation.{word_of, site_of, areas, held, ceiling_by, ceiling, beneath, block_of, AllFit, IsWhole}
 use Rattle.relation.proofs.Facts.{Facts}
 use Rattle.relation.proofs.Frames.{register_spot}
 
@@ -77,9 +77,6 @@ module _ (k : Build) (places : ℕ → ℕ) where
 pub read_cut : (a v : ℕ) (m : List ℕ) → read 4 a m ≡ v → read 4 a m ≡ cut 4 v
 read_cut a v m e = sym (cut_small 4 (read 4 a m) (read_fits 4 a m)) ∙ ap (λ (x : ℕ). cut 4 x) e
 
-pub cut_again : (a v : ℕ) (m : List ℕ) → read 4 a m ≡ cut 4 v → cut 4 (read 4 a m) ≡ cut 4 v
-cut_again a v m e = cut_small 4 (read 4 a m) (read_fits 4 a m) ∙ e
-
 module _ (k : Build) (places : ℕ → ℕ) (facts : Facts k) where
   -- what a register of the running function holds
   pub register_is : (fr : Frame) (rest : List Frame) (ss : List ℕ) (gs : List (List Value)) (ram : List ℕ) (r : ℕ) → IsWhole k fr → r < length (func k fr.func).regs →
@@ -87,17 +84,6 @@ module _ (k : Build) (places : ℕ → ℕ) (facts : Facts k) where
   register_is fr rest ss gs ram r wh h has =
       loaded_spot (areas k places (wheres (fr ∷ rest))) (held k places ss (fr ∷ rest) gs) _ (record { at = places fr.number + 4 * r; width = 4 }) (word_of k places (register fr r)) (word_of k places (Number 0)) ram has
       (register_spot k places fr rest ss gs r (Number 0) (facts.shapes fr.func) wh (let l = wh.regs in omega arith))
-
-  -- arguments, as words of the caller's frame
-  pub argument_words : (fr : Frame) (as_ : List ℕ) (i : ℕ) → i < length as_ → get_or (words_of k places (map (register fr) as_)) i 0 ≡ word_of k places (register fr (get_or as_ i 0))
-  argument_words fr [] i h = absurd (omega arith)
-  argument_words fr (a ∷ as_) zero h = refl
-  argument_words fr (a ∷ as_) (suc i) h = argument_words fr as_ i (omega arith)
-
-  pub below_at : (n : ℕ) (as_ : List ℕ) (i : ℕ) → AllBelow n as_ → i < length as_ → get_or as_ i 0 < n
-  below_at n [] i b h = absurd (omega arith)
-  below_at n (a ∷ as_) zero b h = b.0
-  below_at n (a ∷ as_) (suc i) b h = below_at n as_ i b.1 (omega arith)
 
   pub below_more : (n w : ℕ) (as_ : List ℕ) → n ≤ w → AllBelow n as_ → AllBelow w as_
   below_more n w [] l b = tt

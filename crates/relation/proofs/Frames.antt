@@ -18,7 +18,8 @@ use Rattle.monitor.specs.Setting.{Setting}
 use Rattle.monitor.specs.Threads.{stack_end}
 use Rattle.thread_runs.specs.Areas.{Area, Laid, Has, IsAt, Inside, Off, Spot}
 use Rattle.common_laws.specs.Lists.{Each}
-use Rattle.thread_runs.proofs.Areas.{each_join, each_as, each_front, each_rest, laid_join, has_join, read_zero, cut_zero, spot_front, spot_back}
+use Rattle.common_laws.proofs.Lists.{each_both, each_to, each_left, each_right}
+use Rattle.thread_runs.proofs.Areas.{laid_join, has_join, read_zero, cut_zero, spot_front, spot_back}
 use Rattle.thread_runs.proofs.Thread.{IsSafe}
 use Rattle.relation.specs.Builds.{Build, func, words_at, starts_at}
 use Rattle.relation.specs.Relation.{slots, cells_at, objects_at, own, word_of, words_of, object_words, site_of, waiting_by, areas, own_words, link, held, IsWhole, ceiling_by, AllFit}
@@ -58,7 +59,7 @@ module _ (k : Build) (places : ℕ → ℕ) (facts : Facts k) where
       ((inr (omega arith), ⊎_elim (λ y. inr (omega arith)) (λ y. inl (omega arith)) ap_), ((inr (omega arith), ⊎_elim (λ y. inr (omega arith)) (λ y. inl (omega arith)) ap_), tt))
 
   pub lower_safe : (p q : ℕ) (cs : List Area) → p ≤ q → Each (IsSafe g q) cs → Each (IsSafe g p) cs
-  lower_safe p q cs h e = each_as (IsSafe g q) (IsSafe g p) cs (λ c s. (⊎_elim (λ y. inl y) (λ y. inr (omega arith)) s.0, s.1)) e
+  lower_safe p q cs h e = each_to (IsSafe g q) (IsSafe g p) cs (λ c s. (⊎_elim (λ y. inl y) (λ y. inr (omega arith)) s.0, s.1)) e
 
   pub record Safe (fs : List Where) : Type 0 where
     pub inside : floor fs ≤ stack_end g
@@ -77,9 +78,9 @@ module _ (k : Build) (places : ℕ → ℕ) (facts : Facts k) where
       let ap_ = facts.rules.apart in
       record {
         inside = omega arith;
-        each = each_join (IsSafe g p) (own k fr.func p) (waiting_by k places (site_of k rest) rest ++ areas k places rest)
-            (each_as (Inside p (p + 4 * (words_at k fr.func) + 4)) (IsSafe g p) (own k fr.func p) (λ c i. (inr i.0, ⊎_elim (λ y. inr (omega (arith, i.0))) (λ y. inl (omega (arith, i.1))) ap_)) (sh.inside p))
-            (each_join (IsSafe g p) (waiting_by k places (site_of k rest) rest) (areas k places rest)
+        each = each_both (IsSafe g p) (own k fr.func p) (waiting_by k places (site_of k rest) rest ++ areas k places rest)
+            (each_to (Inside p (p + 4 * (words_at k fr.func) + 4)) (IsSafe g p) (own k fr.func p) (λ c i. (inr i.0, ⊎_elim (λ y. inr (omega (arith, i.0))) (λ y. inl (omega (arith, i.1))) ap_)) (sh.inside p))
+            (each_both (IsSafe g p) (waiting_by k places (site_of k rest) rest) (areas k places rest)
             (waiting_safe (site_of k rest) rest p f.1 f.0.some top (omega arith) (omega arith))
             (lower_safe p (floor rest) (areas k places rest) (omega arith) s.each));
       }
@@ -97,7 +98,7 @@ module _ (k : Build) (places : ℕ → ℕ) (facts : Facts k) where
       ((omega arith, omega arith), ((omega arith, omega arith), tt))
 
   off_of : (lo hi q : ℕ) (cs : List Area) → g.stack ≤ lo → hi ≤ q → Each (IsSafe g q) cs → Each (Off lo hi) cs
-  off_of lo hi q cs l h e = each_as (IsSafe g q) (Off lo hi) cs (λ c s. ⊎_elim (λ y. inl (omega arith)) (λ y. inr (omega arith)) s.0) e
+  off_of lo hi q cs l h e = each_to (IsSafe g q) (Off lo hi) cs (λ c s. ⊎_elim (λ y. inl (omega arith)) (λ y. inr (omega arith)) s.0) e
 
   -- all areas lie apart
   pub all_laid : (fs : List Where) → AllFit k places fs → Laid (areas k places fs)
@@ -114,8 +115,8 @@ module _ (k : Build) (places : ℕ → ℕ) (facts : Facts k) where
       laid_join p (p + 4 * (words_at k fr.func) + 4) (own k fr.func p) (waiting_by k places x rest ++ areas k places rest) (sh.laid p)
       (laid_join (ceiling_by k places x rest) (floor rest) (waiting_by k places x rest) (areas k places rest) (waiting_laid x rest f.1 so) (all_laid rest f.1) (waiting_inside x rest f.1 so) (off_of (ceiling_by k places x rest) (floor rest) (floor rest) (areas k places rest) (omega arith) (omega arith) s.each))
       (sh.inside p)
-      (each_join (Off p (p + 4 * (words_at k fr.func) + 4)) (waiting_by k places x rest) (areas k places rest)
-      (each_as (Inside (ceiling_by k places x rest) (floor rest)) (Off p (p + 4 * (words_at k fr.func) + 4)) (waiting_by k places x rest) (λ c i. inr (omega (arith, i.0))) (waiting_inside x rest f.1 so))
+      (each_both (Off p (p + 4 * (words_at k fr.func) + 4)) (waiting_by k places x rest) (areas k places rest)
+      (each_to (Inside (ceiling_by k places x rest) (floor rest)) (Off p (p + 4 * (words_at k fr.func) + 4)) (waiting_by k places x rest) (λ c i. inr (omega (arith, i.0))) (waiting_inside x rest f.1 so))
       (off_of p (p + 4 * (words_at k fr.func) + 4) (floor rest) (areas k places rest) (omega arith) (omega arith) s.each))
 
 -- ---- what a new frame holds
@@ -170,8 +171,8 @@ module _ (k : Build) (places : ℕ → ℕ) where
   has_zero_objects o lo hi (s ∷ ss) [] ram n e z l = absurd (omega arith)
   has_zero_objects o lo hi (s ∷ ss) (cs ∷ css) ram n e z l =
       has_join (cells_at (o + s) cs.cells) (objects_at o ss css) (words_of k places (zero_cells cs.cells)) (object_words k places (map zero_local css)) ram
-      (has_zero_cells (o + s) lo hi cs.cells ram (each_front (Inside lo hi) (cells_at (o + s) cs.cells) (objects_at o ss css) e) z l)
-      (has_zero_objects o lo hi ss css ram (omega arith) (each_rest (Inside lo hi) (cells_at (o + s) cs.cells) (objects_at o ss css) e) z l)
+      (has_zero_cells (o + s) lo hi cs.cells ram (each_left (Inside lo hi) (cells_at (o + s) cs.cells) (objects_at o ss css) e) z l)
+      (has_zero_objects o lo hi ss css ram (omega arith) (each_right (Inside lo hi) (cells_at (o + s) cs.cells) (objects_at o ss css) e) z l)
 
   entered_left : (vs : List Value) (ts : List PlainType) (i : ℕ) → i < length vs → i < length ts → get_or (words_of k places (entered vs ts)) i 0 ≡ get_or (words_of k places vs) i 0
   entered_left [] ts i l u = absurd (omega arith)

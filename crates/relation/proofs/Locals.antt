@@ -1,11 +1,11 @@
 -- Cells of locals and globals among the areas, and loans of locals.
-use Rattle.std.proofs.Common.{◌≡◌, ℕ, ◌+◌, ◌*◌, ◌%◌, ◌^◌, ◌<◌, Bool, true, false, if◌then◌else◌, nat_eq, ◌&&◌, Option, Some, None, List, [], ◌∷◌, ◌++◌, length, get_or, set, refl, sym, ap, ◌∙◌, subst, arith, ◌⊎◌, inl, inr}
+use Rattle.std.proofs.Common.{◌≡◌, ℕ, ◌+◌, ◌*◌, ◌<◌, Bool, true, false, if◌then◌else◌, nat_eq, ◌&&◌, Option, Some, None, List, [], ◌∷◌, ◌++◌, length, get_or, set, refl, sym, ap, ◌∙◌, subst, arith, ◌⊎◌, inl, inr}
 use Rattle.std.proofs.lemmas.Bool.Decides.{nat_tests}
 use Rattle.std.proofs.lemmas.List.{length-map}
 use Rattle.words.specs.Bytes.{write, cut}
-use Rattle.words.proofs.Bytes.{write-cut, cut_one, cut_two, cut_four}
+use Rattle.words.proofs.Bytes.{write-cut}
 use Rattle.armv7m.specs.Confinement.{AnyOf}
-use Rattle.ir_model.specs.Types.{PlainType, U8, U16, U32, Pointer, Array, Named, Callee, width_of, is_integer}
+use Rattle.ir_model.specs.Types.{PlainType, width_of, is_integer}
 use Rattle.ir_model.specs.Layout.{CellPlace, Shape, empty}
 use Rattle.ir_model.specs.Resolved.{Value, Number, Code, Null, At, cells_of_local}
 use Rattle.ir_model.specs.Signatures.{cell_in}
@@ -132,22 +132,6 @@ module _ (k : Build) (places : ℕ → ℕ) (facts : Facts k) where
       let r = global_spot rest (statuses_behind (site_of k ws) ss) gl g j v c l a wh.1 lg lj lc in
       spot_back (own k fr.func (places fr.number)) (waiting_by k places (site_of k ws) ws ++ areas k places ws) (own_words k places fr (link k places ws)) _ _ _ _ _ (own_length k places fr (places fr.number) (link k places ws) (facts.shapes fr.func) wh.0)
       (spot_back (waiting_by k places (site_of k ws) ws) (areas k places ws) (waiting_words k places (site_of k ws) (first_or_zero ss) ws) _ _ _ _ _ (length_waiting (site_of k ws) ws (first_or_zero ss)) r)
-
-word_twice : (x : ℕ) → cut 4 (cut 4 x) ≡ cut 4 x
-word_twice x = let a = cut_four x in cut_four (cut 4 x) ∙ (let q : cut 4 x % 2 ^ 32 ≡ x % 2 ^ 32 = omega arith in q) ∙ sym (cut_four x)
-
-cut_twice : (t : PlainType) (x : ℕ) → cut (width_of t) (cut 4 x) ≡ cut (width_of t) x
-cut_twice U8 x = let a = cut_four x in cut_one (cut 4 x) ∙ (let q : cut 4 x % 2 ^ 8 ≡ x % 2 ^ 8 = omega arith in q) ∙ sym (cut_one x)
-cut_twice U16 x = let a = cut_four x in cut_two (cut 4 x) ∙ (let q : cut 4 x % 2 ^ 16 ≡ x % 2 ^ 16 = omega arith in q) ∙ sym (cut_two x)
-cut_twice U32 x = word_twice x
-cut_twice (Pointer t) x = word_twice x
-cut_twice (Array n t) x = word_twice x
-cut_twice (Named n) x = word_twice x
-cut_twice (Callee a r) x = word_twice x
-
--- a stored register is cut to the cell
-pub narrow : (t : PlainType) (a x : ℕ) (m : List ℕ) → write (width_of t) a (cut 4 x) m ≡ write (width_of t) a x m
-narrow t a x m = sym (write-cut (width_of t) a (cut 4 x) m) ∙ ap (λ (y : ℕ). write (width_of t) a y m) (cut_twice t x) ∙ write-cut (width_of t) a x m
 
 module _ (k : Build) (places : ℕ → ℕ) where
   pub stored_value : (t : PlainType) (a : ℕ) (v : Value) (m : List ℕ) → write (width_of t) a (word_of k places v) m ≡ write (width_of t) a (word_of k places (cut_to t v)) m

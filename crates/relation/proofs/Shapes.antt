@@ -5,7 +5,8 @@ use Rattle.ir_model.specs.Layout.{CellPlace, Shape}
 use Rattle.ir_laws.specs.Laws.{IsLaidOut}
 use Rattle.thread_runs.specs.Areas.{Area, Beside, Laid, Inside, Off}
 use Rattle.common_laws.specs.Lists.{Each}
-use Rattle.thread_runs.proofs.Areas.{each_join, each_as, laid_join}
+use Rattle.common_laws.proofs.Lists.{each_both, each_to}
+use Rattle.thread_runs.proofs.Areas.{laid_join}
 use Rattle.relation.specs.Relation.{slots, cells_at, objects_at}
 
 -- rows of cells one behind the other, each inside its size behind its start
@@ -26,8 +27,8 @@ cells_lie o from to (c ∷ cs) l =
     let f = l.0 in
     let h = r.order in
     record {
-      laid = (each_as (Inside (o + (c.at + width_of c.ty)) (o + to)) (Beside (record { at = o + c.at; width = width_of c.ty })) (cells_at o cs) (λ d i. inl (omega (arith, i.0))) r.inside, r.laid);
-      inside = ((omega arith, omega arith), each_as (Inside (o + (c.at + width_of c.ty)) (o + to)) (Inside (o + from) (o + to)) (cells_at o cs) (λ d i. (omega (arith, i.0), i.1)) r.inside);
+      laid = (each_to (Inside (o + (c.at + width_of c.ty)) (o + to)) (Beside (record { at = o + c.at; width = width_of c.ty })) (cells_at o cs) (λ d i. inl (omega (arith, i.0))) r.inside, r.laid);
+      inside = ((omega arith, omega arith), each_to (Inside (o + (c.at + width_of c.ty)) (o + to)) (Inside (o + from) (o + to)) (cells_at o cs) (λ d i. (omega (arith, i.0), i.1)) r.inside);
       order = omega arith;
     }
 
@@ -36,13 +37,13 @@ both lo mid hi cs ds a b =
     let p = a.order in
     let q = b.order in
     record {
-      laid = laid_join lo mid cs ds a.laid b.laid a.inside (each_as (Inside mid hi) (Off lo mid) ds (λ d i. inr i.0) b.inside);
-      inside = each_join (Inside lo hi) cs ds (each_as (Inside lo mid) (Inside lo hi) cs (λ d i. (i.0, omega (arith, i.1))) a.inside) (each_as (Inside mid hi) (Inside lo hi) ds (λ d i. (omega (arith, i.0), i.1)) b.inside);
+      laid = laid_join lo mid cs ds a.laid b.laid a.inside (each_to (Inside mid hi) (Off lo mid) ds (λ d i. inr i.0) b.inside);
+      inside = each_both (Inside lo hi) cs ds (each_to (Inside lo mid) (Inside lo hi) cs (λ d i. (i.0, omega (arith, i.1))) a.inside) (each_to (Inside mid hi) (Inside lo hi) ds (λ d i. (omega (arith, i.0), i.1)) b.inside);
       order = omega arith;
     }
 
 wider : (lo lo2 hi : ℕ) (cs : List Area) → lo ≤ lo2 → Lies lo2 hi cs → Lies lo hi cs
-wider lo lo2 hi cs l a = let p = a.order in record { laid = a.laid; inside = each_as (Inside lo2 hi) (Inside lo hi) cs (λ d i. (omega (arith, i.0), i.1)) a.inside; order = omega arith }
+wider lo lo2 hi cs l a = let p = a.order in record { laid = a.laid; inside = each_to (Inside lo2 hi) (Inside lo hi) cs (λ d i. (omega (arith, i.0), i.1)) a.inside; order = omega arith }
 
 objects_lie : (o from to : ℕ) (ss zs : List ℕ) (css : List Shape) → Rows from to ss zs css → Lies (o + from) (o + to) (objects_at o ss css)
 objects_lie o from to [] [] [] r = record { laid = tt; inside = tt; order = omega arith }
@@ -62,8 +63,8 @@ slots_lie zero o = record { laid = tt; inside = tt; order = omega arith }
 slots_lie (suc n) o =
     let r = slots_lie n (o + 4) in
     record {
-      laid = (each_as (Inside (o + 4) (o + 4 + 4 * n)) (Beside (record { at = o; width = 4 })) (slots (o + 4) n) (λ d i. inl (omega (arith, i.0))) r.inside, r.laid);
-      inside = ((omega arith, omega arith), each_as (Inside (o + 4) (o + 4 + 4 * n)) (Inside o (o + 4 * suc n)) (slots (o + 4) n) (λ d i. (omega (arith, i.0), omega (arith, i.1))) r.inside);
+      laid = (each_to (Inside (o + 4) (o + 4 + 4 * n)) (Beside (record { at = o; width = 4 })) (slots (o + 4) n) (λ d i. inl (omega (arith, i.0))) r.inside, r.laid);
+      inside = ((omega arith, omega arith), each_to (Inside (o + 4) (o + 4 + 4 * n)) (Inside o (o + 4 * suc n)) (slots (o + 4) n) (λ d i. (omega (arith, i.0), omega (arith, i.1))) r.inside);
       order = omega arith;
     }
 

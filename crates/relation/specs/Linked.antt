@@ -16,7 +16,7 @@ use Rattle.code_effects.specs.Items.{ItemsIn}
 use Rattle.monitor.specs.declared.tables.InitRecord.{InitRecord}
 use Rattle.monitor.specs.Threads.{base, stack_end, KeepsOff}
 use Rattle.thread_runs.specs.Areas.{Area, Laid}
-use Rattle.thread_runs.specs.Areas as areas
+use Rattle.common_laws.specs.Lists.{Each}
 use Rattle.thread_runs.specs.Owned.{MemoryRules}
 use Rattle.relation.specs.Builds.{Build, groups_of, func, compartment_of, entry_at, half_at, site_at}
 use Rattle.relation.specs.Relation.{global_areas, object_words}
@@ -58,11 +58,11 @@ module _ (k : Build) where
     -- each lies in RAM, and each of their cells at a multiple of its width
     pub from_base : (x : ℕ) → x < length k.program.globals → base k.setting ≤ get_or k.places.globals x 0
     pub to_end : (x : ℕ) → x < length k.program.globals → get_or k.places.globals x 0 + (global_at k.program x).shape.size ≤ base k.setting + k.setting.image.ram_size
-    pub inside : areas.Each (λ (c : Area). c.at + c.width ≤ k.setting.image.ram_size) (global_areas k)
-    pub aligned : areas.Each (λ (c : Area). (base k.setting + c.at) % c.width ≡ 0) (global_areas k)
+    pub inside : Each (λ (c : Area). c.at + c.width ≤ k.setting.image.ram_size) (global_areas k)
+    pub aligned : Each (λ (c : Area). (base k.setting + c.at) % c.width ≡ 0) (global_areas k)
     -- their cells lie apart, and off the stack and the monitor's block
     pub laid : Laid (global_areas k)
-    pub off : areas.Each (λ (c : Area). KeepsOff k.setting (stack_end k.setting) c.at c.width) (global_areas k)
+    pub off : Each (λ (c : Area). KeepsOff k.setting (stack_end k.setting) c.at c.width) (global_areas k)
     pub initial : (places : ℕ → ℕ) → InFlash (global_areas k) (object_words k places (map (λ (g : NumberedGlobal). g.init) k.program.globals))
     -- a compartment may load and store what its functions' needs list
     pub loads : (f x j : ℕ) → f < length k.program.funcs → IsListed (need_of k.needs f).read (GlobalObject x) → x < length k.program.globals →

@@ -7,7 +7,7 @@ use Rattle.ir_model.specs.Plain.{PlainFirmware}
 use Rattle.ir_model.specs.Lines.{Line, struct_lines, periph_lines, global_lines, file_lines, lines_of}
 use Rattle.ir_model.specs.Canonical.{PassesNothing, IsWithinLimits}
 use Rattle.common_laws.specs.Lists.{Each}
-use Rattle.ir_model.proofs.ForEach.{each_left, each_right}
+use Rattle.common_laws.proofs.Lists.{each_left, each_right}
 use Rattle.ir_model.specs.Resolved.{Program}
 use Rattle.ir_model.specs.Resolve as spans
 use Rattle.ir_model.specs.Resolve.{resolve}

@@ -11,7 +11,8 @@ use Rattle.ir_run.specs.declared.outcome.SourceStep.TheVariants as answer
 use Rattle.ir_run.specs.Acts as acts
 use Rattle.ir_run.specs.Runs.{RunState, IsRunning, IsStep}
 use Rattle.source_output.specs.SourceRuns.{ending_of, end_of}
-use Rattle.words.proofs.EventLines.{run_none, run_behind, run_ended, lines, lines_ended}
+use Rattle.words.proofs.Runs.{run_none}
+use Rattle.words.proofs.EventLines.{run_behind, run_ended, lines, lines_ended}
 
 -- a run that has ended stays, and has no event
 pub ended_stays : (p : Program) (c : List ℕ) (e : SourceEnd) → source_step p c (Ended e) ≡ Ended e
@@ -42,10 +43,6 @@ not_begun r t h = record {
   goes = h;
   taken = t;
 }
-
--- after all steps without an end there is none
-pub no_end : (p : Program) (c : List ℕ) (s : SourceState) (n : ℕ) (r : RunState) → HasRun p c s n r → None ≡ end_of p c n s
-no_end p c s n r h = sym h.goes ∙ ap ending_of h.state
 
 module _ (p : Program) (c : List ℕ) (s : SourceState) (k : ℕ) (old new : RunState) (h : HasRun p c s k old) where
   -- the turn of the next step

@@ -1,14 +1,14 @@
-pub mod Standing
+mod Standing
 pub mod Premises
-pub mod Steps
-pub mod Registers
-pub mod Branches
-pub mod Calls
-pub mod CallCases
-pub mod Returns
-pub mod Cells
-pub mod Reaching
-pub mod Loads
-pub mod Stores
+mod Steps
+mod Registers
+mod Branches
+mod Calls
+mod CallCases
+mod Returns
+mod Cells
+mod Reaching
+mod Loads
+mod Stores
 pub mod Begins
 pub mod AllCases

@@ -28,7 +28,7 @@ fn is_apart(earlier: &[Peripheral], periph: &Peripheral) -> bool
     earlier.iter().all(|other| are_apart(other.base, other.size, periph.base, periph.size))
 }
 
-#[tactic(auto, using(check_faults::proofs::Order::refused_left, check_faults::proofs::Order::refused_right, check_faults::proofs::Order::first_stays, check_faults::proofs::Order::first_append, check_faults::proofs::Order::refused_one, check_faults::proofs::Order::refused_behind, check_faults::proofs::Order::first_behind))]
+#[tactic(auto, using(check_faults::proofs::Order::checks_in_order, check_faults::proofs::Order::checks_behind_one))]
 fn periph<'a>(
     seen: &mut Names<'a>,
     earlier: &[Peripheral],

@@ -18,7 +18,7 @@ use layouts::table::Layouts;
 use name_tables::Names;
 use std::alloc::Global;
 
-#[tactic(auto, using(check_faults::proofs::Order::refused_left, check_faults::proofs::Order::refused_right, check_faults::proofs::Order::first_stays, check_faults::proofs::Order::first_append, check_faults::proofs::Order::refused_one, check_faults::proofs::Order::refused_behind, check_faults::proofs::Order::first_behind))]
+#[tactic(auto, using(check_faults::proofs::Order::checks_in_order, check_faults::proofs::Order::checks_behind_one))]
 fn field<'a, 'n>(
     declared: &Names<'n>,
     earlier: &Names<'n>,
@@ -50,7 +50,7 @@ fn fields<'n>(
     Ok(())
 }
 
-#[tactic(auto, using(check_faults::proofs::Order::refused_left, check_faults::proofs::Order::refused_right, check_faults::proofs::Order::first_stays, check_faults::proofs::Order::first_append, check_faults::proofs::Order::refused_one, check_faults::proofs::Order::refused_behind, check_faults::proofs::Order::first_behind))]
+#[tactic(auto, using(check_faults::proofs::Order::checks_in_order, check_faults::proofs::Order::checks_behind_one))]
 fn named_fields<'n>(
     alloc: Global,
     declared: &Names<'n>,

@@ -32,7 +32,8 @@ use Rattle.linked_promises.specs.CodeInFlash.{CodeIsExact}
 use Rattle.linked_promises.specs.Parts.{CodeIsPlaced}
 use Rattle.symbol_laws.specs.Standing as standing
 use Rattle.symbol_laws.specs.Standing.{Has, FunctionsStand, PlacesStand}
-use Rattle.symbol_laws.proofs.Parts.{get_or_mapped, members_append, middle}
+use Rattle.common_laws.proofs.Lists.{get_or_mapped}
+use Rattle.symbol_laws.proofs.Parts.{members_append, middle}
 
 module _ (w : PlainFirmware) (n : Needs) (f : Final) (b : Board) where
   abbrev s : Sizes

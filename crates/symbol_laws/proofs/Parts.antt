@@ -1,5 +1,5 @@
 -- Parts of code among others, and their bytes.
-use Rattle.std.proofs.Common.{◌≡◌, ℕ, zero, suc, ◌+◌, ◌<◌, List, [], ◌∷◌, ◌++◌, length, map, get_or, Bool, true, false, cond, nat_eq, Option, refl, ap, sym, ◌∙◌, subst, append_assoc, length-append, arith}
+use Rattle.std.proofs.Common.{◌≡◌, ℕ, suc, ◌+◌, ◌<◌, List, [], ◌∷◌, ◌++◌, length, Bool, true, false, cond, nat_eq, Option, refl, ap, sym, ◌∙◌, subst, append_assoc, length-append, arith}
 use Rattle.std.specs.Prelude.{slice_index}
 use Rattle.std.proofs.Math.ListN.{get_or-append}
 use Rattle.std.proofs.lemmas.List.{get_or-append-add}
@@ -10,12 +10,6 @@ use Rattle.thumb_asm.proofs.Decoded.{total_bytes}
 use Rattle.device_model.specs.declared.image.Image.{Image}
 use Rattle.code_model.specs.CompartmentCode.{members_from}
 use Rattle.symbol_laws.specs.Standing.{Has}
-
--- what is made of an item of a list, with what is made of no item as the default
-pub get_or_mapped : {A B : Type 0} (g : A → B) (xs : List A) (k : ℕ) (d : A) → get_or (map g xs) k (g d) ≡ g (get_or xs k d)
-get_or_mapped g [] k d = refl
-get_or_mapped g (x ∷ xs) zero d = refl
-get_or_mapped g (x ∷ xs) (suc k) d = get_or_mapped g xs k d
 
 -- ---- members behind others
 

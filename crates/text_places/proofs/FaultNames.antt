@@ -2,7 +2,7 @@
 use Rattle.std.proofs.Common.{◌≡◌, ◌≤◌, inl, inr, ℕ, List, [], ◌∷◌, ◌++◌, length, map, flat_map, Bool, true, false, not, Some, None, refl, sym, ap, ◌∙◌, subst, append-nil, append_assoc, bytes_eq, if◌then◌else◌}
 use Rattle.std.proofs.lemmas.Slice.Eq.{bytes_eq-Decides}
 use Rattle.common_laws.specs.Lists.{Each}
-use Rattle.common_laws.proofs.Lists.{each_both, each_to}
+use Rattle.common_laws.proofs.Lists.{each_both, each_to, each_left, each_right}
 use Rattle.names.specs.Numbers.{has}
 use Rattle.ir_model.specs.declared.check.CheckKind.{CheckKind}
 use Rattle.ir_model.specs.declared.check.CheckKind.TheVariants.{NoMain}
@@ -12,7 +12,6 @@ use Rattle.ir_model.specs.declared.firmware.Block.{Block}
 use Rattle.ir_model.specs.declared.firmware.Peripheral.{Peripheral}
 use Rattle.ir_model.specs.Plain.{PlainStruct, PlainGlobal, PlainFunc, PlainFile, PlainFirmware, funcs_of}
 use Rattle.ir_model.specs.Typing.{Failing, Checks, check, first_failing, structs_checks, periph_checks, globals_checks, func_name_checks, file_checks, label_checks, func_checks, funcs_checks, has_main, checks, fault_of}
-use Rattle.ir_model.proofs.ForEach.{each_left, each_right}
 use Rattle.ir_model.proofs.Passing.{left, right}
 use Rattle.text_places.specs.Faulty.{Names, struct_row, periph_row, global_row, file_row, func_names}
 use Rattle.text_places.proofs.FaultPlaces.{either, Keeps, keeps_first, one, HasPlaces, structs_keep, periphs_keep, globals_keep, files_keep, func_keeps}

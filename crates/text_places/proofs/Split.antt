@@ -5,11 +5,9 @@ use Rattle.ir_model.specs.declared.token.Pos.{Pos}
 use Rattle.ir_model.specs.Plain.{PlainFirmware}
 use Rattle.ir_model.specs.Tokens.{Token}
 use Rattle.ir_model.specs.Texts.{opens_comment, is_inside_line, IsInsideLine, EndsLine, Leads, here, blank, comment, token, IsText}
-use Rattle.ir_reader.specs.declared.token.Token.{Token as Code}
-use Rattle.ir_reader.specs.declared.token.Token.TheVariants as code
 use Rattle.ir_reader.specs.Found.{End, Placed, finds}
 use Rattle.ir_reader.specs.Scan as scan
-use Rattle.ir_reader.specs.Scan.{placed, later, BeginsWith}
+use Rattle.ir_reader.specs.Scan.{placed}
 use Rattle.ir_reader.proofs.Scanning.{placed_blank, placed_nil}
 use Rattle.ir_reader.proofs.Whole.{finds_some, token_placed, placed_from}
 use Rattle.text_places.specs.Lefts.{left_at}
@@ -20,15 +18,6 @@ use Rattle.text_places.specs.Stands.{StartsToken, Stands, tokens_of}
 none_left : (k : ℕ) → left_at k [] ≡ 0
 none_left zero = refl
 none_left (suc k) = refl
-
-later_goes : (t : Code) (bs : List ℕ) → (t ≡ code.End → ⊥) → later t bs ≡ placed bs
-later_goes code.End bs h = absurd (h refl)
-later_goes (code.Name w) bs h = refl
-later_goes _ bs h = refl
-
--- behind a token that is not the end
-pub left_next : (text behind : List ℕ) (t : Code) (left k j : ℕ) → BeginsWith text t left behind → (t ≡ code.End → ⊥) → k ≡ suc j → left_at k (placed text) ≡ left_at j (placed behind)
-left_next text behind t left k j b h e = ap (λ n. left_at n (placed text)) e ∙ (ap (left_at (suc j)) b ∙ ap (left_at j) (later_goes t behind h))
 
 -- at the end nothing is left
 end_left : (k : ℕ) → left_at k (record { found = End; left = 0 } ∷ []) ≡ 0

@@ -1,5 +1,5 @@
 -- The address of a refused store of the handler's is r1, and so none of the thread's own frame: the frame was pushed where all may write.
-use Rattle.std.proofs.Common.{◌≡◌, ℕ, ◌+◌, ◌-◌, ◌*◌, ◌/◌, ◌%◌, ◌<◌, ◌≤◌, ◌⊎◌, inl, inr, ⊎_elim, Bool, true, false, not, ◌&&◌, Some, bit_or, refl, sym, ap, ap₂, ◌∙◌, subst, arith}
+use Rattle.std.proofs.Common.{◌≡◌, ℕ, ◌+◌, ◌-◌, ◌*◌, ◌/◌, ◌%◌, ◌<◌, ◌≤◌, ◌⊎◌, inl, inr, ⊎_elim, true, false, Some, bit_or, refl, sym, ap, ◌∙◌, subst, arith}
 use Rattle.std.proofs.lemmas.Bool.{false≢true, cases_lt}
 use Rattle.words.specs.Arithmetic.{word}
 use Rattle.words.specs.Bytes.{read}
@@ -95,9 +95,6 @@ module _ (laws : FrameLaws) (i : Image) (t : Tables) (p : Placed i t) (s : State
 
   abbrev psp : ℕ
   psp = frame_at s.core.sp
-
-  user : is_unprivileged s.protection ≡ true
-  user = ap₂ (λ (a b : Bool). not a && b) h.inv.thread h.inv.unprivileged
 
   -- the frame's words may be written
   writable : (k : ℕ) → k < 8 → by_mpu s.protection Write (psp + 4 * k) ≡ true

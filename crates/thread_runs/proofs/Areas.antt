@@ -1,10 +1,10 @@
 -- Areas of RAM that lie apart, and what stays in them.
 use Rattle.std.proofs.Common.{◌≡◌, ℕ, zero, suc, ◌+◌, ◌<◌, ◌≤◌, List, [], ◌∷◌, ◌++◌, length, get_or, set, refl, ap, ◌∙◌, subst, arith, inl, inr, ⊎_elim}
-use Rattle.std.proofs.lemmas.Bool.{cases_lt}
 use Rattle.words.specs.Bytes.{read, write, cut}
 use Rattle.words.proofs.Bytes.{length-write, read_below, read_above, read_same}
 use Rattle.thread_runs.specs.Areas.{Area, Beside, Laid, Has, IsAt, Inside, Off, Spot}
 use Rattle.common_laws.specs.Lists.{Each}
+use Rattle.common_laws.proofs.Lists.{each_both, each_to}
 use Rattle.thread_runs.proofs.Joined.{get_front as get_join}
 
 -- ---- words stay where what changes keeps off
@@ -75,37 +75,13 @@ has_rest [] ds (v ∷ vs) xs ram l h = absurd (omega arith)
 has_rest (c ∷ cs) ds [] xs ram l h = absurd (omega arith)
 has_rest (c ∷ cs) ds (v ∷ vs) xs ram l h = has_rest cs ds vs xs ram (omega arith) h.2
 
-pub each_join : (P : Area → Type 0) (cs ds : List Area) → Each P cs → Each P ds → Each P (cs ++ ds)
-each_join P [] ds a b = b
-each_join P (c ∷ cs) ds a b = (a.0, each_join P cs ds a.1 b)
-
-pub each_front : (P : Area → Type 0) (cs ds : List Area) → Each P (cs ++ ds) → Each P cs
-each_front P [] ds a = tt
-each_front P (c ∷ cs) ds a = (a.0, each_front P cs ds a.1)
-
-pub each_rest : (P : Area → Type 0) (cs ds : List Area) → Each P (cs ++ ds) → Each P ds
-each_rest P [] ds a = a
-each_rest P (c ∷ cs) ds a = each_rest P cs ds a.1
-
-pub each_as : (P Q : Area → Type 0) (cs : List Area) → ((c : Area) → P c → Q c) → Each P cs → Each Q cs
-each_as P Q [] f a = tt
-each_as P Q (c ∷ cs) f a = (f c a.0, each_as P Q cs f a.1)
-
-pub each_both : (P Q R : Area → Type 0) (cs : List Area) → ((c : Area) → P c → Q c → R c) → Each P cs → Each Q cs → Each R cs
-each_both P Q R [] f a b = tt
-each_both P Q R (c ∷ cs) f a b = (f c a.0 b.0, each_both P Q R cs f a.1 b.1)
-
 -- what lies inside a range lies apart from what keeps off it
 pub laid_join : (lo hi : ℕ) (cs ds : List Area) → Laid cs → Laid ds → Each (Inside lo hi) cs → Each (Off lo hi) ds → Laid (cs ++ ds)
 laid_join lo hi [] ds a b i f = b
 laid_join lo hi (c ∷ cs) ds a b i f = (
-  each_join (Beside c) cs ds a.0 (each_as (Off lo hi) (Beside c) ds (λ d o. ⊎_elim (λ y. inr (omega (arith, i.0))) (λ y. inl (omega (arith, i.0))) o) f),
+  each_both (Beside c) cs ds a.0 (each_to (Off lo hi) (Beside c) ds (λ d o. ⊎_elim (λ y. inr (omega (arith, i.0))) (λ y. inl (omega (arith, i.0))) o) f),
   laid_join lo hi cs ds a.1 b i.1 f,
 )
-
-pub laid_rest : (cs ds : List Area) → Laid (cs ++ ds) → Laid ds
-laid_rest [] ds l = l
-laid_rest (c ∷ cs) ds l = laid_rest cs ds l.1
 
 -- ---- spots
 
@@ -167,22 +143,10 @@ read_zero (suc w) a m h =
     let r = read_zero w (a + 1) m (λ i lt. let q : a + 1 + i ≡ a + suc i = omega arith in rw q (h (suc i) (omega arith))) in
     omega arith
 
-zero_cut : cut 1 0 ≡ 0
-unfolding cut
-zero_cut = refl
-
 pub cut_zero : (w : ℕ) → cut w 0 ≡ 0
 unfolding cut
 cut_zero zero = refl
 cut_zero (suc w) = let e = cut_zero w in rw e refl
-
-pub zero_written : (w o i : ℕ) (m : List ℕ) → o ≤ i → i < o + w → o + w ≤ length m → read 1 i (write w o 0 m) ≡ 0
-unfolding write
-zero_written zero o i m l h r = absurd (omega arith)
-zero_written (suc w) o i m l h r =
-    let n : List ℕ = write 1 o 0 m in
-    let len : length n ≡ length m = length-write 1 o 0 m in
-    ⊎_elim (λ x. zero_written w (o + 1) i n (omega arith) (omega arith) (omega arith)) (λ x. let e : i ≡ o = omega arith in rw e (read_below 1 o w (o + 1) 0 n (omega arith) ∙ read_same 1 o 0 m (omega arith) ∙ zero_cut)) (cases_lt o i)
 
 pub has_front : (cs ds : List Area) (vs xs : List ℕ) (ram : List ℕ) → length cs ≡ length vs → Has ram (cs ++ ds) (vs ++ xs) → Has ram cs vs
 has_front [] ds [] xs ram l h = tt

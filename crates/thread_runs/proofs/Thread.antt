@@ -36,10 +36,6 @@ pub at_pc : (g : Setting) (k : ℕ) (s : State) (x : Context) (low : List ℕ) (
     Runs by_mpu g.image k s (works x low sp lr pc f ram queues) es → Runs by_mpu g.image k s (works x low sp lr to f ram queues) es
 at_pc g k s x low sp lr pc to f ram queues es e h = rw e at h
 
-pub from_sp : (g : Setting) (k : ℕ) (t : State) (x : Context) (low : List ℕ) (sp to lr pc : ℕ) (f : Flags) (ram : List ℕ) (queues : List (List ℕ)) (es : List Event) → sp ≡ to →
-    Runs by_mpu g.image k (works x low sp lr pc f ram queues) t es → Runs by_mpu g.image k (works x low to lr pc f ram queues) t es
-from_sp g k t x low sp to lr pc f ram queues es e h = rw e at h
-
 pub to_sp : (g : Setting) (k : ℕ) (s : State) (x : Context) (low : List ℕ) (sp to lr pc : ℕ) (f : Flags) (ram : List ℕ) (queues : List (List ℕ)) (es : List Event) → sp ≡ to →
     Runs by_mpu g.image k s (works x low sp lr pc f ram queues) es → Runs by_mpu g.image k s (works x low to lr pc f ram queues) es
 to_sp g k s x low sp to lr pc f ram queues es e h = rw e at h

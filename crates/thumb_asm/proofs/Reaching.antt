@@ -1,5 +1,5 @@
 -- Pieces that are put one behind the other.
-use Rattle.std.proofs.Common.{◌≡◌, ℕ, zero, suc, ◌+◌, ◌%◌, ◌<◌, ◌≤◌, ◌^◌, Bool, true, false, List, [], ◌∷◌, length, take, if◌then◌else◌, Option, Some, None, refl, sym, ◌∙◌, arith}
+use Rattle.std.proofs.Common.{◌≡◌, ℕ, zero, suc, ◌+◌, ◌%◌, ◌<◌, ◌^◌, Bool, true, false, List, [], ◌∷◌, length, take, if◌then◌else◌, Option, Some, None, refl, sym, ◌∙◌, arith}
 use Rattle.std.proofs.Math.ListN.{get_or}
 use Rattle.std.proofs.lemmas.Option.{none-some}
 use Rattle.thumb_model.specs.Table.{width_of, encode}
@@ -9,7 +9,6 @@ use Rattle.thumb_asm.specs.declared.item.BranchKind.{BranchKind}
 use Rattle.thumb_asm.specs.declared.item.Item.{Item}
 use Rattle.thumb_asm.specs.declared.item.Label.{Label}
 use Rattle.thumb_asm.specs.declared.item.Item.TheVariants.{Plain, Branch, Half, Word}
-use Rattle.thumb_asm.specs.declared.refusal.AsmRefusal.{AsmRefusal}
 use Rattle.thumb_asm.specs.declared.refusal.AsmRefusal.TheVariants.{FarBranch}
 use Rattle.thumb_asm.specs.Assembly.{Assembly, branch_size, size_of, total, place_of, IsItem, AreItems, ArePut, GoesSomewhere, IsAssembly}
 use Rattle.thumb_asm.specs.Finished.{reach, is_near, first_far}
@@ -29,10 +28,6 @@ size_even (Word w) = refl
 pub total_even : (is : List Item) → total is % 2 ≡ 0
 total_even [] = refl
 total_even (i ∷ is) = let a = size_even i in let b = total_even is in omega arith
-
-code_some : (c : Code) → 2 ≤ width_of c
-code_some (code.Half h) = omega arith
-code_some (code.Pair h k) = omega arith
 
 -- where a label was put: at an even distance from the base, and below 2^31
 pub even_place : (a : Assembly) (l p : ℕ) → IsAssembly a → get_or a.places l None ≡ Some p → (p % 2 ≡ a.base % 2) × (p < 2 ^ 31)
@@ -69,29 +64,6 @@ pub put_piece : (ps : List (Option ℕ)) (is : List Item) (k : ℕ) (d : Item) �
 put_piece ps (i ∷ is) zero d h l = (first_put ps i is h).0
 put_piece ps (i ∷ is) (suc k) d h l = put_piece ps is k d (first_put ps i is h).1 (omega arith)
 put_piece ps [] k d h l = absurd (omega arith)
-
--- one piece that reaches, before others
-pub far-next : (ps : List (Option ℕ)) (at : ℕ) (i : Item) (is : List Item) → first_far ps at (i ∷ []) ≡ None → first_far ps at (i ∷ is) ≡ first_far ps (at + size_of i) is
-far-next ps at (Plain x) is h = refl
-far-next ps at (Branch kind to) is h = by_test (is_near (reach kind) at (place_of ps to.number)) h
-  where
-    by_test : (b : Bool) → (if b then None else Some (FarBranch at (place_of ps to.number))) ≡ None
-        → (if b then first_far ps (at + branch_size kind) is else Some (FarBranch at (place_of ps to.number))) ≡ first_far ps (at + branch_size kind) is
-    by_test true h = refl
-    by_test false h = absurd (none-some _ (sym h))
-far-next ps at (Half w) is h = refl
-far-next ps at (Word w) is h = refl
-
-pub far-first : (ps : List (Option ℕ)) (at : ℕ) (i : Item) (is : List Item) (e : AsmRefusal) → first_far ps at (i ∷ []) ≡ Some e → first_far ps at (i ∷ is) ≡ Some e
-far-first ps at (Plain x) is e h = absurd (none-some _ h)
-far-first ps at (Branch kind to) is e h = by_test (is_near (reach kind) at (place_of ps to.number)) h
-  where
-    by_test : (b : Bool) → (if b then None else Some (FarBranch at (place_of ps to.number))) ≡ Some e
-        → (if b then first_far ps (at + branch_size kind) is else Some (FarBranch at (place_of ps to.number))) ≡ Some e
-    by_test true h = absurd (none-some _ h)
-    by_test false h = h
-far-first ps at (Half w) is e h = absurd (none-some _ h)
-far-first ps at (Word w) is e h = absurd (none-some _ h)
 
 pub even_so_far : (at base : ℕ) (xs ys : List Item) → at + total xs ≡ base + total ys → at % 2 ≡ base % 2
 even_so_far at base xs ys e = let x = total_even xs in let y = total_even ys in omega arith

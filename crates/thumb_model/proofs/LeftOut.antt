@@ -1,15 +1,13 @@
 -- What the table leaves out, and how long its instructions are.
-use Rattle.std.proofs.Common.{◌≡◌, ◌≢◌, ℕ, ◌+◌, ◌*◌, ◌/◌, ◌%◌, ◌^◌, ◌<◌, ◌≤◌, refl, subst, arith, rules, if◌then◌else◌, ◌⊎◌, inl, inr, None, nat_eq, nat_lt, true, false}
+use Rattle.std.proofs.Common.{◌≡◌, ◌≢◌, ℕ, ◌+◌, ◌*◌, ◌/◌, ◌%◌, ◌^◌, ◌<◌, ◌≤◌, refl, arith, rules, if◌then◌else◌, ◌⊎◌, inl, inr, None, nat_eq, nat_lt, true, false}
 use Rattle.std.proofs.lemmas.Bool.Decides.{nat_tests}
-use Rattle.std.proofs.lemmas.Bool.{lt-ltb, le-ltb}
 use Rattle.thumb_model.proofs.Relation.{decoded_code-related}
 use Rattle.thumb_model.proofs.Round.{in_special, in_stack, in_multiple, in_last, in_pair, in_divide, in_special_register, here, past, move_value-move_pair}
-use Rattle.thumb_model.specs.Table.{InTable, encode, read_code, move_pair}
+use Rattle.thumb_model.specs.Table.{encode, move_pair}
 use Rattle.thumb_model.specs.Decoded.{decoded, is_general, special_of, stack_of, multiple_of, move_of, special_register_of, divide_of}
 use Rattle.thumb_model.specs.Laws.{IsUndefined, IsSpecial, LeavesOut, IsSelfDelimiting, ShowsItsLength}
 use Rattle.thumb_model.specs.declared.table.Code.{Code}
 use Rattle.thumb_model.specs.declared.table.Code.TheVariants.{Half, Pair}
-use Rattle.thumb_model.specs.declared.table.Instr.{Instr}
 use Rattle.thumb_model.specs.declared.table.Instr.TheVariants.{ShiftImmediate, AddSubRegister, AddSubImmediate, DataImmediate, DataRegister, HighRegister, BranchExchange, LoadLiteral, TransferRegister, TransferImmediate, StackRelative, AdjustStack, PushPop, BreakpointNop, TransferMultiple, BranchConditional, CallBranch, BranchLink, BranchWide, MoveWide, MoveTop, Divide, SpecialRegister, Barrier}
 use Rattle.thumb_model.proofs.Codes.{zero_or_one}
 
@@ -175,14 +173,3 @@ shows_its_length (MoveTop d value) v = omega arith
 shows_its_length (Divide op n d m) v = elim (zero_or_one op v.0) [ inl z ↦ rw z (omega arith) | inr z ↦ rw z (omega arith) ]
 shows_its_length (SpecialRegister op n d s) v = elim (zero_or_one op v.0) [ inl z ↦ rw z (omega arith) | inr z ↦ rw z (omega arith) ]
 shows_its_length (Barrier op) v = omega arith
-
--- so an instruction's halfwords are read as they are, whatever stands behind them
-pub read_code_half : (i : Instr) (h k : ℕ) → InTable i → encode i ≡ Half h → read_code h k ≡ Half h
-read_code_half i h k v e =
-    let below : h < 0xE800 = subst IsSelfDelimiting e (shows_its_length i v) in
-    rw (lt-ltb h 0xE800 below)
-
-pub read_code_pair : (i : Instr) (h k : ℕ) → InTable i → encode i ≡ Pair h k → read_code h k ≡ Pair h k
-read_code_pair i h k v e =
-    let room : (0xE800 ≤ h) × (h < 2 ^ 16) × (k < 2 ^ 16) = subst IsSelfDelimiting e (shows_its_length i v) in
-    rw (le-ltb h 0xE800 room.0)

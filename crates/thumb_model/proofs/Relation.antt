@@ -1,12 +1,12 @@
 -- `decoded` is the relation between halfwords and an instruction.
-use Rattle.std.proofs.Common.{◌≡◌, ℕ, ◌^◌, ◌<◌, ◌≤◌, refl, sym, ◌∙◌, subst, inl, inr, Option, Some, None}
+use Rattle.std.proofs.Common.{◌≡◌, ℕ, ◌^◌, ◌<◌, ◌≤◌, sym, ◌∙◌, subst, inl, inr, Option, Some, None}
 use Rattle.std.specs.Option.{IfSome, IfNone}
 use Rattle.std.proofs.lemmas.Bool.Decides.{leb_tells}
 use Rattle.std.proofs.lemmas.Option.{same_Some}
 use Rattle.std.proofs.lemmas.Bool.{lt-ltb, le-ltb}
 use Rattle.thumb_model.proofs.Sound.{narrow, wide}
 use Rattle.thumb_model.proofs.Round.{decoded_code-encode}
-use Rattle.thumb_model.specs.Table.{InTable, Encodes, encode, read_code}
+use Rattle.thumb_model.specs.Table.{Encodes, read_code}
 use Rattle.thumb_model.specs.Decoded.{decoded, decoded_code, narrow_of, wide_of}
 use Rattle.thumb_model.specs.Laws.{IsUnambiguous, IsRoundTrip, IsUndefined}
 use Rattle.thumb_model.specs.declared.table.Code.{Code}
@@ -29,13 +29,6 @@ decoded-related h k i e = elim (leb_tells 0xE800 h) [
       decoded_code-related (Half h) k i (subst (λ (c : Code). Encodes c i) r e)
 ]
 
--- an instruction of the table is decoded from its one halfword with any behind it, and from its two
-pub decoded_encode_half : (i : Instr) (h k : ℕ) → InTable i → encode i ≡ Half h → decoded h k ≡ Some i
-decoded_encode_half i h k v e = decoded_code-related (Half h) k i (record { in_table = v; halfwords = e })
-
-pub decoded_encode_pair : (i : Instr) (h k : ℕ) → InTable i → encode i ≡ Pair h k → decoded h k ≡ Some i
-decoded_encode_pair i h k v e = decoded_code-related (Pair h k) 0 i (record { in_table = v; halfwords = e })
-
 -- what is decoded is related to its halfwords
 pub Encodes-decoded : (h k : ℕ) → h < 2 ^ 16 → k < 2 ^ 16 → IfSome (decoded h k) (Encodes (read_code h k))
 unfolding decoded
@@ -52,13 +45,6 @@ related-decoded h k i a b e =
 -- nothing is decoded exactly where nothing is related
 pub undefined-decoded : (h k : ℕ) → decoded h k ≡ None → IsUndefined (read_code h k)
 undefined-decoded h k n i e = let s = decoded-related h k i e in cc
-
-pub decoded-undefined : (h k : ℕ) → h < 2 ^ 16 → k < 2 ^ 16 → IsUndefined (read_code h k) → decoded h k ≡ None
-decoded-undefined h k a b n = none_from (decoded h k) refl
-  where
-    none_from : (o : Option Instr) → decoded h k ≡ o → o ≡ None
-    none_from None e = refl
-    none_from (Some i) e = absurd (n i (related-decoded h k i a b e))
 
 pub unambiguous : IsUnambiguous
 unambiguous code i j e f =

@@ -2,10 +2,9 @@
 use Rattle.std.specs.Prelude.{option_to_list}
 use Rattle.std.specs.List.{FoldsTo}
 use Rattle.std.proofs.Math.Nat.{eq-or-lt_of_le}
-use Rattle.std.proofs.Common.{◌≡◌, ℕ, ◌+◌, ◌<◌, ◌≤◌, inl, inr, subst, Bool, true, false, List, [], ◌∷◌, ◌++◌, Option, Some, None, refl, ap, sym, ◌∙◌, arith, append-nil}
+use Rattle.std.proofs.Common.{◌≡◌, ℕ, ◌+◌, ◌<◌, ◌≤◌, inl, inr, subst, Bool, true, false, List, [], ◌∷◌, ◌++◌, Option, Some, None, refl, ap, sym, ◌∙◌, arith}
 use Rattle.words.specs.Runs.{run, events}
-use Rattle.words.proofs.Runs.{run-add, events-add}
-use Rattle.device_model.specs.declared.image.Image.{Image}
+use Rattle.words.proofs.Runs.{run_none, run_one, events_none, events_one, run-add, events-add}
 use Rattle.events.specs.declared.event.Event.{Event}
 use Rattle.armv7m.specs.declared.state.End.{End}
 use Rattle.armv7m.specs.declared.state.End.TheVariants.{Halt, InputEnd, Limit, Stop, Refused}
@@ -20,22 +19,6 @@ folds_on : {P A : Type 0} (R : P → A → P → Type 0) (p : P) (xs ys : List A
 folds_on R p [] ys q r a b = subst (λ u. FoldsTo R u ys r) (sym a) b
 folds_on R p (x ∷ xs) ys q r a b = (a.0, a.1, folds_on R a.0 xs ys q r a.2 b)
 
-run_none : (i : Image) (s : State) → run (step i) 0 s ≡ s
-unfolding run
-run_none i s = refl
-
-events_none : (i : Image) (s : State) → events (step i) (event i) 0 s ≡ []
-unfolding events
-events_none i s = refl
-
-run_one : (i : Image) (s : State) → run (step i) 1 s ≡ step i s
-unfolding run
-run_one i s = refl
-
-events_one : (i : Image) (s : State) → events (step i) (event i) 1 s ≡ option_to_list (event i s)
-unfolding events
-events_one i s = append-nil (option_to_list (event i s))
-
 -- a session one step later
 abbrev pub stepped : {F : Type 0} → SessionState F → SessionState F
 stepped t = record { machine = record t.machine { state = step t.machine.image t.machine.state }; taken = t.taken + 1; callback = t.callback }
@@ -46,15 +29,15 @@ pub no_piece : {F G : Type 0} (calls : G → Event → G → Type 0) (a : Sessio
 no_piece calls a callback f = record {
   counted = omega arith;
   same_image = refl;
-  leads = run_none a.machine.image a.machine.state;
-  given = rw (events_none a.machine.image a.machine.state) refl;
+  leads = run_none (step a.machine.image) a.machine.state;
+  given = rw (events_none (step a.machine.image) (event a.machine.image) a.machine.state) refl;
 }
 
 one_piece : {F G : Type 0} (calls : G → Event → G → Type 0) (t : SessionState F) (g : G) (o : Option Event) (h : G) → event t.machine.image t.machine.state ≡ o → FoldsTo calls g (option_to_list o) h → IsPiece calls 1 t (stepped t) g h
 one_piece calls t g o h is fold =
     let es : events (step t.machine.image) (event t.machine.image) 1 t.machine.state ≡ option_to_list o =
-    events_one t.machine.image t.machine.state ∙ ap option_to_list is in
-    record { counted = refl; same_image = refl; leads = run_one t.machine.image t.machine.state; given = subst (λ l. FoldsTo calls g l h) (sym es) fold }
+    events_one (step t.machine.image) (event t.machine.image) t.machine.state ∙ ap option_to_list is in
+    record { counted = refl; same_image = refl; leads = run_one (step t.machine.image) t.machine.state; given = subst (λ l. FoldsTo calls g l h) (sym es) fold }
 
 pub join : {F G : Type 0} (calls : G → Event → G → Type 0) (j k : ℕ) (a b c : SessionState F) (f g h : G) → IsPiece calls j a b f g → IsPiece calls k b c g h → IsPiece calls (j + k) a c f h
 join {F} {G} calls j k a b c f g h p q =

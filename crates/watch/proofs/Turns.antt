@@ -1,32 +1,16 @@
 -- What the answer of a machine's step says of its state and of its event.
-use Rattle.std.proofs.Common.{◌≡◌, ℕ, zero, suc, ◌≤◌, Bool, Option, Some, None, refl, ap, sym, subst, ◌∙◌, inl, inr, arith}
+use Rattle.std.proofs.Common.{◌≡◌, ℕ, zero, suc, ◌≤◌, Bool, Some, None, refl, sym, subst, ◌∙◌, arith}
 use Rattle.words.specs.Runs.{run}
 use Rattle.device_model.specs.declared.image.Image.{Image}
 use Rattle.events.specs.declared.event.Event.{Event}
 use Rattle.armv7m.specs.declared.state.End.{End}
 use Rattle.armv7m.specs.declared.state.End.TheVariants.{Halt, InputEnd, Limit, Stop, Refused}
 use Rattle.machine.specs.declared.Step.TheVariants.{Ran, Event as Told, Ended}
-use Rattle.armv7m.specs.State.{State, Turn, by_mpu}
+use Rattle.armv7m.specs.State.{State, by_mpu}
 use Rattle.armv7m.specs.Step.{turn, step, event}
-use Rattle.armv7m.specs.Ends.{IsOwn, EndsOrGoesOn}
-use Rattle.machine.specs.Machine.{MachineState, HasOwn, answer, answer_by, IsRun, Says}
-use Rattle.armv7m.proofs.Runs.{told_ended}
-use Rattle.armv7m.proofs.Ends.{steps_end_or_go_on}
-
-quiet_by : (o : Option End) (x : Option Event) → Ran ≡ answer_by o x → (o ≡ None) × (x ≡ None)
-quiet_by (Some e) x h = cc
-quiet_by None (Some x) h = cc
-quiet_by None None h = (refl, refl)
-
-tells_by : (o : Option End) (x : Option Event) (y : Event) → Told y ≡ answer_by o x → (o ≡ None) × (x ≡ Some y)
-tells_by (Some e) x y h = cc
-tells_by None None y h = cc
-tells_by None (Some x) y h = (refl, cc)
-
-ended_by : (o : Option End) (x : Option Event) (e : End) → Ended e ≡ answer_by o x → o ≡ Some e
-ended_by (Some d) x e h = cc
-ended_by None (Some x) e h = cc
-ended_by None None e h = cc
+use Rattle.armv7m.specs.Ends.{IsOwn}
+use Rattle.machine.proofs.StepAnswers.{quiet_by, tells_by, ended_by}
+use Rattle.machine.specs.Machine.{MachineState, answer, IsRun, Says}
 
 -- the machine goes on, and made no event
 pub quiet : (i : Image) (s : State) → Ran ≡ answer (turn by_mpu i s) → ((step i s).ending ≡ None) × (event i s ≡ None)
@@ -39,19 +23,6 @@ tells i s x h = tells_by (step i s).ending (event i s) x h
 -- the machine has ended
 pub ended : (i : Image) (s : State) (e : End) → Ended e ≡ answer (turn by_mpu i s) → (step i s).ending ≡ Some e
 ended i s e h = ended_by (step i s).ending (event i s) e h
-
-silent_by : (s : State) (t : Turn) (e : End) → EndsOrGoesOn s t → t.to.ending ≡ Some e → (s.ending ≡ Some e → t.event ≡ None) → t.event ≡ None
-silent_by s t e (inl q) h k = k (sym q ∙ h)
-silent_by s t e (inr m) h k = ap (λ (u : Turn). u.event) m.2
-
--- a step that ends the machine makes no event
-pub silent : (i : Image) (s : State) (e : End) → (step i s).ending ≡ Some e → event i s ≡ None
-silent i s e h = silent_by s (turn by_mpu i s) e (steps_end_or_go_on by_mpu i s) h (told_ended by_mpu i s e)
-
--- the end of a machine is its own
-pub own_of : (o : Option End) (e : End) → HasOwn o → o ≡ Some e → IsOwn e
-own_of None e h q = cc
-own_of (Some d) e h q = let p : d ≡ e = cc in subst IsOwn p h
 
 -- ---- no step at all
 

@@ -37,9 +37,6 @@ byte_apart (suc w) a v mem j h = byte_apart w (a + 1) (v / 256) (slice_set mem a
 pub byte_below : (w a v : ℕ) (mem : List ℕ) (j : ℕ) → j < a → slice_index (write w a v mem) j ≡ slice_index mem j
 byte_below w a v mem j h = byte_apart w a v mem j (λ k lt e. omega arith)
 
-pub byte_above : (w a v : ℕ) (mem : List ℕ) (j : ℕ) → a + w ≤ j → slice_index (write w a v mem) j ≡ slice_index mem j
-byte_above w a v mem j h = byte_apart w a v mem j (λ k lt e. omega arith)
-
 -- a read sees only the bytes that it reads
 pub read_alike : (w a : ℕ) (m n : List ℕ) → ((i : ℕ) → i < w → slice_index m (a + i) ≡ slice_index n (a + i)) → read w a m ≡ read w a n
 unfolding read

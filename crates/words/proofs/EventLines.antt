@@ -2,21 +2,14 @@
 use Rattle.std.specs.Prelude.{option_to_list, flat_map}
 use Rattle.std.proofs.Common.{◌≡◌, ℕ, zero, suc, ◌+◌, ◌-◌, ◌<◌, ◌≤◌, List, [], ◌∷◌, ◌++◌, Option, Some, None, refl, ap, sym, ◌∙◌, arith, append_assoc, append-nil}
 use Rattle.std.proofs.lemmas.List.Concat.{flat_map-append, flat_map-cons}
+use Rattle.common_laws.specs.Lists.{Each}
 use Rattle.words.specs.Runs.{run, events}
-use Rattle.words.proofs.Runs.{run-add, events-add, run_still, events_still}
+use Rattle.words.proofs.Runs.{run_one, events_one, run-add, events-add, run_still, events_still}
 
 module _ {S : Type 0} (step : S → S) where
-  pub run_none : (s : S) → run step 0 s ≡ s
-  unfolding run
-  run_none s = refl
-
-  run_one : (s : S) → run step 1 s ≡ step s
-  unfolding run
-  run_one s = refl
-
   -- one step behind a run
   pub run_behind : (k : ℕ) (s : S) → run step (k + 1) s ≡ step (run step k s)
-  run_behind k s = run-add step k 1 s ∙ run_one (run step k s)
+  run_behind k s = run-add step k 1 s ∙ run_one step (run step k s)
 
   -- a run whose next step leads to a state that stays
   pub run_ended : (k n : ℕ) (s t : S) → k < n → step (run step k s) ≡ t → step t ≡ t → run step n s ≡ t
@@ -30,12 +23,8 @@ module _ {S E : Type 0} (step : S → S) (event : S → Option E) (line : E → 
   abbrev pub lines : ℕ → S → List ℕ
   lines n s = flat_map line (events step event n s)
 
-  events_one : (s : S) → events step event 1 s ≡ option_to_list (event s)
-  unfolding events
-  events_one s = append-nil (option_to_list (event s))
-
   events_behind : (k : ℕ) (s : S) → events step event (k + 1) s ≡ events step event k s ++ option_to_list (event (run step k s))
-  events_behind k s = events-add step event k 1 s ∙ ap (λ es. events step event k s ++ es) (events_one (run step k s))
+  events_behind k s = events-add step event k 1 s ∙ ap (λ es. events step event k s ++ es) (events_one step event (run step k s))
 
   pub lines_none : (s : S) → lines 0 s ≡ []
   unfolding events
@@ -88,11 +77,6 @@ module _ {S E : Type 0} (step : S → S) (event : S → Option E) (line : E → 
       (ap (events step event (n - (k + 1))) (run_behind step k s ∙ to) ∙ events_still step event (n - (k + 1)) t stays silent)
       ∙ append-nil (events step event (k + 1) s) in
       ap (flat_map line) later ∙ lines_quiet k s quiet
-
--- what each of some events is
-abbrev pub Each : {E : Type 0} → (E → Type 0) → List E → Type 0
-Each P [] = Unit {0}
-Each P (x ∷ xs) = P x × Each P xs
 
 told_first : {E : Type 0} (P : E → Type 0) (o : Option E) (xs : List E) → ((e : E) → o ≡ Some e → P e) → Each P xs → Each P (option_to_list o ++ xs)
 told_first P None xs h all = all

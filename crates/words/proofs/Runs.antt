@@ -3,6 +3,23 @@ use Rattle.std.proofs.Common.{◌≡◌, ℕ, zero, suc, ◌+◌, List, [], ◌�
 use Rattle.std.specs.Option.{option_to_list}
 use Rattle.words.specs.Runs.{run, events, Goes}
 
+-- no step, and one
+pub run_none : {S : Type 0} (step : S → S) (s : S) → run step 0 s ≡ s
+unfolding run
+run_none step s = refl
+
+pub run_one : {S : Type 0} (step : S → S) (s : S) → run step 1 s ≡ step s
+unfolding run
+run_one step s = refl
+
+pub events_none : {S E : Type 0} (step : S → S) (event : S → Option E) (s : S) → events step event 0 s ≡ []
+unfolding events
+events_none step event s = refl
+
+pub events_one : {S E : Type 0} (step : S → S) (event : S → Option E) (s : S) → events step event 1 s ≡ option_to_list (event s)
+unfolding events
+events_one step event s = append-nil (option_to_list (event s))
+
 pub run-add : {S : Type 0} (step : S → S) (j k : ℕ) (s : S) → run step (j + k) s ≡ run step k (run step j s)
 unfolding run
 run-add step zero k s = let e : 0 + k ≡ k = omega arith in rw e

@@ -7,7 +7,8 @@ use Rattle.watch.specs.declared.session.Pause.TheVariants.{Ended}
 use Rattle.watch.specs.Answers.{AnswersEqually}
 use Rattle.watch.specs.Sessions.{SessionState}
 use Rattle.watch.specs.Watched.{IsWatched}
-use Rattle.watch.proofs.Turns.{quiet, tells, ended, silent, own_of, idle, idle_ended, idle_going}
+use Rattle.machine.proofs.StepAnswers.{silent, own_of}
+use Rattle.watch.proofs.Turns.{quiet, tells, ended, idle, idle_ended, idle_going}
 use Rattle.watch.proofs.Pieces.{Went, went_none, misses_none, went_quiet, misses_quiet, went_told, misses_told, pause_hit, pause_ended, pause_over, pause_at_once}
 use Rattle.watch.proofs.session.Session.go.Goals as goal
 use Rattle.watch.proofs.session.Session.go.Goals.{in-Ran, in-Event+else-ask}

@@ -1,1 +1,0 @@
--- Where the tests of an access lead.
