@@ -25,7 +25,7 @@ FUNCTION = re.compile(r"([A-Za-z]\w*)::(?:\w+::)*(\w+)")
 ROW = re.compile(r"^\| (`\w+`(?:, `\w+`)*) \|", re.M)
 MAPPED = re.compile(r"(?<=^  )\w+(?= )|(?<=  )\w+(?=  |\n)", re.M)
 DECLARED = re.compile(r"\b(?:fn|struct|enum|trait|const|mod|type) (\w+)")
-CASES = re.compile(r"`(\w+_cases)`: ([\d,]+) cases|([\d,]+) cases that are data(?:: it is run [^`]*| )?\(`(\w+_cases)`\)")
+CASES = re.compile(r"`(test_\w+)`: ([\d,]+) cases|([\d,]+) cases that are data(?:: it is run [^`]*| )?\(`(test_\w+)`\)")
 
 
 class Crate(NamedTuple):

@@ -2,7 +2,7 @@
 #![tactic(auto)]
 
 use aces_cli::{WordsRefusal, aces, refuse_words};
-use outside::{HostFiles, HostSink};
+use base_outside::{HostFiles, HostSink};
 use std::io::ErrorKind;
 use std::process::ExitCode;
 use std::{env, io};

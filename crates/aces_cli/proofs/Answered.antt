@@ -1,30 +1,30 @@
 -- What the top call says, from what its command did.
 use Rattle.std.proofs.Common.{◌≡◌, ℕ, ◌⊎◌, inl, inr, List, [], ◌++◌, None, Ok, Err, Result, IfErr, refl, ap, sym, ◌∙◌, subst, append-nil, arith}
-use Rattle.outside.specs.Calls.{Call}
+use Rattle.base_outside.specs.Calls.{Call}
 use Rattle.aces_reports.specs.declared.failure.Done.{Done}
 use Rattle.aces_reports.specs.declared.failure.Done.TheVariants.{Completed, RunFailed, Negative, FaultTold, NoRoomTold}
 use Rattle.aces_reports.specs.declared.failure.Failure.{Failure}
 use Rattle.aces_reports.specs.declared.failure.Failure.TheVariants.{Refused, PastLimit, Denied, NoRoom, Unread, Unwritten, Unprinted, NoMemory}
 use Rattle.aces_words.specs.Requests.{Request, Run, Bin, Compile, Check, Source, Where, Listing, Stack, Audit, Tables, Who, Symbols, Help, Selftest, Watch, State, Why, Explain, ExplainPlan, Asks, IsUsage, Origin}
 use Rattle.aces_reports.specs.FaultLines.{usage_line}
-use Rattle.outside.specs.Sinks.{SinkState, Says}
+use Rattle.base_outside.specs.Sinks.{SinkState, Says}
 use Rattle.aces_reports.specs.Ends.{status_of, line_of}
-use Rattle.commands.specs.Outcomes.{Outcome, refused, past_limit, denied, no_room, usage}
-use Rattle.commands.specs.CarriesOut.{NamesLast}
-use Rattle.commands.specs.Effects.{World, Does, Quiet, IsCarriedOut, IsPart, IsPrintedInPart}
-use Rattle.commands.proofs.Answering.{run_also, bin_also}
-use Rattle.audit_commands.proofs.Answering.{audit_also, tables_also}
-use Rattle.firmware_commands.proofs.Answering.{check_also, source_also}
-use Rattle.planned_commands.specs.Answers.{ListAnswer, StackAnswers, SymbolsAnswer}
-use Rattle.planned_commands.proofs.Answering.{both_also}
-use Rattle.who_commands.specs.Answers.{WhoAnswer}
-use Rattle.who_commands.proofs.Answering.{help_also}
-use Rattle.selftest.proofs.Answering.{selftest_also}
-use Rattle.run_inspection.proofs.Answering.{watch_also, state_also}
-use Rattle.reach_commands.proofs.Answering.{why_also}
-use Rattle.where_commands.proofs.Answering.{where_also}
-use Rattle.explain_commands.specs.Plans.{ExplainPlanAnswer}
-use Rattle.explain_commands.proofs.Answering.{explain_also}
+use Rattle.aces_files.specs.Outcomes.{Outcome, refused, past_limit, denied, no_room, usage}
+use Rattle.aces_files.specs.CarriesOut.{NamesLast}
+use Rattle.aces_files.specs.Effects.{World, Does, Quiet, IsCarriedOut, IsPart, IsPrintedInPart}
+use Rattle.aces_files.proofs.Answering.{run_also, bin_also}
+use Rattle.aces_audit.proofs.Answering.{audit_also, tables_also}
+use Rattle.aces_firmwares.proofs.Answering.{check_also, source_also}
+use Rattle.aces_plans.specs.Answers.{ListAnswer, StackAnswers, SymbolsAnswer}
+use Rattle.aces_plans.proofs.Answering.{both_also}
+use Rattle.aces_who.specs.Answers.{WhoAnswer}
+use Rattle.aces_who.proofs.Answering.{help_also}
+use Rattle.aces_selftest.proofs.Answering.{selftest_also}
+use Rattle.aces_inspection.proofs.Answering.{watch_also, state_also}
+use Rattle.aces_why.proofs.Answering.{why_also}
+use Rattle.aces_where.proofs.Answering.{where_also}
+use Rattle.aces_explain.specs.Plans.{ExplainPlanAnswer}
+use Rattle.aces_explain.proofs.Answering.{explain_also}
 use Rattle.aces_cli.specs.Answer.{CompileAnswer, Answer, no_request, to_request}
 use Rattle.aces_cli.specs.Endings.{IsPlain, IsAnswered, IsPartly, TellsUnread}
 

@@ -1,11 +1,11 @@
 -- A good request to check an image, or to tell what its tables say, has no outcome but those that say that all was done.
 use Rattle.std.proofs.Common.{◌≡◌, ℕ, ◌⊎◌, List, subst}
-use Rattle.device_model.specs.declared.image.Image.{Image}
-use Rattle.image.specs.Text.{IsText}
+use Rattle.machine_devices.specs.declared.image.Image.{Image}
+use Rattle.machine_image.specs.Text.{IsText}
 use Rattle.aces_words.specs.Requests.{Origin, file_origin}
-use Rattle.commands.specs.Outcomes.{Outcome}
-use Rattle.audit_commands.specs.Answers.{AuditAnswer, TablesAnswer, no_image, told, AnswerToAudit, AnswerToTables, image_large, all_read}
-use Rattle.audit_commands.proofs.Answering.{yes_or_no}
+use Rattle.aces_files.specs.Outcomes.{Outcome}
+use Rattle.aces_audit.specs.Answers.{AuditAnswer, TablesAnswer, no_image, told, AnswerToAudit, AnswerToTables, image_large, all_read}
+use Rattle.aces_audit.proofs.Answering.{yes_or_no}
 use Rattle.aces_cli.proofs.Runnable.{Laws, is_image}
 
 module _ (laws : Laws) where

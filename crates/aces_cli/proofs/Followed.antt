@@ -4,24 +4,24 @@ use Rattle.std.proofs.lemmas.Bool.{leb-true}
 use Rattle.ir_model.specs.Plain.{PlainFirmware}
 use Rattle.ir_reader.specs.Laws.{TextsAreUnique}
 use Rattle.plan_model.specs.declared.plan.Board.{Board}
-use Rattle.board_text.specs.Reading.{IsRead}
-use Rattle.board_text.specs.Laws.{BoardsAreOne}
+use Rattle.plan_board.specs.Reading.{IsRead}
+use Rattle.plan_board.specs.Laws.{BoardsAreOne}
 use Rattle.plan_model.specs.declared.policy.Policy.{Policy}
 use Rattle.aces_words.specs.Requests.{Request, Compile, Asks, Origin, file_origin, firmware_origin}
 use Rattle.aces_words.proofs.Requests.{requests_are_one}
-use Rattle.commands.specs.Known.{Held, Holds, Exceeds}
-use Rattle.commands.specs.Outcomes.{Outcome}
-use Rattle.commands.specs.Effects.{IsRewritten}
-use Rattle.firmware_commands.specs.Firmwares.{IsFirmware}
-use Rattle.stack_paths.specs.declared.answer.StackAnswer.{StackAnswer}
-use Rattle.stack_paths.specs.declared.answer.StackAnswer.TheVariants.{Cycle, Bound}
-use Rattle.bounded_images.specs.Bounded.{Fits, ImagesRefineWhole}
-use Rattle.firmware_stacks.specs.Lines.{stack_status}
-use Rattle.planned_commands.specs.PlanAnswer as plans
-use Rattle.planned_commands.specs.PlanAnswer.{PlanAnswer}
-use Rattle.planned_commands.specs.Both as boths
-use Rattle.planned_commands.specs.Answers as stacks
-use Rattle.planned_commands.specs.Answers.{StackAnswers, AnswerToStack}
+use Rattle.aces_files.specs.Known.{Held, Holds, Exceeds}
+use Rattle.aces_files.specs.Outcomes.{Outcome}
+use Rattle.aces_files.specs.Effects.{IsRewritten}
+use Rattle.aces_firmwares.specs.Firmwares.{IsFirmware}
+use Rattle.refine_stack.specs.declared.answer.StackAnswer.{StackAnswer}
+use Rattle.refine_stack.specs.declared.answer.StackAnswer.TheVariants.{Cycle, Bound}
+use Rattle.aces_stack_laws.specs.Bounded.{Fits, ImagesRefineWhole}
+use Rattle.aces_stack.specs.Lines.{stack_status}
+use Rattle.aces_plans.specs.PlanAnswer as plans
+use Rattle.aces_plans.specs.PlanAnswer.{PlanAnswer}
+use Rattle.aces_plans.specs.Both as boths
+use Rattle.aces_plans.specs.Answers as stacks
+use Rattle.aces_plans.specs.Answers.{StackAnswers, AnswerToStack}
 use Rattle.aces_cli.specs.Answer as answers
 use Rattle.aces_cli.specs.Answer.{CompileAnswer, AnswerToCompile, Answer, Answers}
 use Rattle.aces_cli.specs.Bounded.{IsFollowed, BoundedCallsAreFollowed}

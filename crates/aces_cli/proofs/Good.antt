@@ -2,41 +2,41 @@
 use Rattle.std.proofs.Common.{◌≡◌, ℕ, ◌⊎◌, inl, inr, Bool, true, false, cond, nat_le, length, ◌<◌, ◌≤◌, IsSomeAnd, List, Option, Some, None, refl, sym, ◌∙◌, subst, arith}
 use Rattle.ir_model.specs.Plain.{PlainFirmware}
 use Rattle.plan_model.specs.declared.plan.Board.{Board}
-use Rattle.board_text.specs.declared.fault.BoardFault.{BoardFault}
-use Rattle.board_text.specs.declared.fault.BoardFault.TheVariants as board_fault
-use Rattle.board_text.specs.Reading.{IsRead, IsFault}
-use Rattle.board_text.specs.Laws.{BoardsAreNotRefused}
+use Rattle.plan_board.specs.declared.fault.BoardFault.{BoardFault}
+use Rattle.plan_board.specs.declared.fault.BoardFault.TheVariants as board_fault
+use Rattle.plan_board.specs.Reading.{IsRead, IsFault}
+use Rattle.plan_board.specs.Laws.{BoardsAreNotRefused}
 use Rattle.aces_reports.specs.declared.failure.Fault.{Fault}
 use Rattle.aces_reports.specs.declared.failure.Fault.TheVariants as faults
 use Rattle.aces_reports.specs.Faults.{is_want_of_memory}
-use Rattle.planning.specs.declared.refusal.PlanningRefusal.{PlanningRefusal}
-use Rattle.planning.specs.declared.refusal.PlanningRefusal.TheVariants as planning
-use Rattle.firmware_plans.specs.Plannable.{IsPlannable}
-use Rattle.firmware_plans.specs.Unplanned.{IsRefusedBy}
-use Rattle.firmware_stacks.specs.Limited.{KeepsLimitsBy}
-use Rattle.firmware_stacks.specs.Lines.{stack_status}
-use Rattle.stack_paths.specs.declared.answer.StackAnswer.{StackAnswer}
-use Rattle.stack_paths.specs.declared.answer.StackAnswer.TheVariants.{Cycle, Bound}
+use Rattle.plan.specs.declared.refusal.PlanningRefusal.{PlanningRefusal}
+use Rattle.plan.specs.declared.refusal.PlanningRefusal.TheVariants as planning
+use Rattle.plan_firmwares.specs.Plannable.{IsPlannable}
+use Rattle.plan_firmwares.specs.Unplanned.{IsRefusedBy}
+use Rattle.aces_stack.specs.Limited.{KeepsLimitsBy}
+use Rattle.aces_stack.specs.Lines.{stack_status}
+use Rattle.refine_stack.specs.declared.answer.StackAnswer.{StackAnswer}
+use Rattle.refine_stack.specs.declared.answer.StackAnswer.TheVariants.{Cycle, Bound}
 use Rattle.plan_model.specs.declared.policy.Policy.{Policy}
 use Rattle.aces_words.specs.Requests.{Request, Origin}
-use Rattle.commands.specs.Outcomes.{Outcome}
-use Rattle.commands.specs.Contents.{IsContentFault}
-use Rattle.firmware_commands.specs.Firmwares.{IsFirmware}
-use Rattle.commands.specs.Known.{Held, Holds, Exceeds}
-use Rattle.planned_commands.specs.PlanAnswer as plans
-use Rattle.planned_commands.specs.PlanAnswer.{PlanAnswer}
-use Rattle.planned_commands.specs.Answers.{ListAnswer, StackAnswers, SymbolsAnswer, AnswerToList, AnswerToStack, no_firmware, no_board, too_many, bounded}
-use Rattle.planned_commands.specs.Answers as answers
-use Rattle.planned_commands.proofs.Answering.{both_good}
-use Rattle.who_commands.proofs.Answering.{who_done, good_help}
-use Rattle.who_commands.specs.Answers.{WhoAnswer}
-use Rattle.selftest.proofs.Answering.{selftest_ends}
+use Rattle.aces_files.specs.Outcomes.{Outcome}
+use Rattle.aces_files.specs.Contents.{IsContentFault}
+use Rattle.aces_firmwares.specs.Firmwares.{IsFirmware}
+use Rattle.aces_files.specs.Known.{Held, Holds, Exceeds}
+use Rattle.aces_plans.specs.PlanAnswer as plans
+use Rattle.aces_plans.specs.PlanAnswer.{PlanAnswer}
+use Rattle.aces_plans.specs.Answers.{ListAnswer, StackAnswers, SymbolsAnswer, AnswerToList, AnswerToStack, no_firmware, no_board, too_many, bounded}
+use Rattle.aces_plans.specs.Answers as answers
+use Rattle.aces_plans.proofs.Answering.{both_good}
+use Rattle.aces_who.proofs.Answering.{who_done, good_help}
+use Rattle.aces_who.specs.Answers.{WhoAnswer}
+use Rattle.aces_selftest.proofs.Answering.{selftest_ends}
 use Rattle.aces_cli.proofs.Inspectable.{good_watch, good_state}
-use Rattle.reach_commands.proofs.WellDone.{good_why}
-use Rattle.where_commands.proofs.Findable.{good_where}
-use Rattle.explain_commands.specs.Plans.{ExplainPlanAnswer}
-use Rattle.explain_commands.proofs.Explainable.{good_explain}
-use Rattle.explain_commands.proofs.PlanAnswering.{explain_plan_done}
+use Rattle.aces_why.proofs.WellDone.{good_why}
+use Rattle.aces_where.proofs.Findable.{good_where}
+use Rattle.aces_explain.specs.Plans.{ExplainPlanAnswer}
+use Rattle.aces_explain.proofs.Explainable.{good_explain}
+use Rattle.aces_explain.proofs.PlanAnswering.{explain_plan_done}
 use Rattle.aces_cli.specs.Answer.{CompileAnswer, unplanned, compiled, Answer}
 use Rattle.aces_cli.specs.Complete.{IsCompilable, IsBoundable, IsGood, run, bin, compile, check, source, list, stack, audit, tables, where_it_is, who, symbols, help, selftest, watch, state, why, explain, explain_plan, IsDoneBy, GoodRequestsAreDone}
 use Rattle.aces_cli.proofs.Runnable.{Laws, good_run, good_bin}

@@ -1,15 +1,15 @@
 -- A good request to look into a run has no outcome but those that say that all was done.
 use Rattle.std.proofs.Common.{◌≡◌, ℕ, ◌⊎◌, List, None, subst}
-use Rattle.device_model.specs.declared.image.Image.{Image}
-use Rattle.device_model.specs.Tape as tapes
-use Rattle.image.specs.Text.{IsText}
+use Rattle.machine_devices.specs.declared.image.Image.{Image}
+use Rattle.machine_devices.specs.Tape as tapes
+use Rattle.machine_image.specs.Text.{IsText}
 use Rattle.aces_reports.specs.declared.failure.Fault.{Fault}
 use Rattle.aces_words.specs.Requests.{Origin, file_origin}
-use Rattle.commands.specs.Answers.{image_large, tape_large, all_read}
-use Rattle.commands.specs.Contents.{IsNoImage, IsNoTape}
-use Rattle.commands.specs.Outcomes.{Outcome}
-use Rattle.run_inspection.specs.Answers.{AnswerToWatch, AnswerToState}
-use Rattle.run_inspection.proofs.Inspectable.{watch_done, state_done}
+use Rattle.aces_files.specs.Answers.{image_large, tape_large, all_read}
+use Rattle.aces_files.specs.Contents.{IsNoImage, IsNoTape}
+use Rattle.aces_files.specs.Outcomes.{Outcome}
+use Rattle.aces_inspection.specs.Answers.{AnswerToWatch, AnswerToState}
+use Rattle.aces_inspection.proofs.Inspectable.{watch_done, state_done}
 use Rattle.aces_cli.specs.Complete.{IsRunnable}
 use Rattle.aces_cli.proofs.Runnable.{Laws, is_image, is_tape}
 

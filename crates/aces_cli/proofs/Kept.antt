@@ -2,22 +2,22 @@
 use Rattle.std.proofs.Common.{◌≡◌, ◌≢◌, ℕ, List, None, refl}
 use Rattle.plan_model.specs.declared.policy.Policy.{Policy}
 use Rattle.aces_words.specs.Requests.{Request, Run, Bin, Compile, Check, Source, Where, Listing, Stack, Audit, Tables, Who, Symbols, Help, Selftest, Watch, State, Why, Explain, ExplainPlan, Origin}
-use Rattle.commands.specs.Outcomes.{Outcome}
-use Rattle.commands.proofs.Answering.{run_writes_nothing, bin_writes_nothing}
-use Rattle.audit_commands.proofs.Answering.{audit_writes_nothing, tables_writes_nothing}
-use Rattle.firmware_commands.proofs.Answering.{check_writes_nothing, source_writes_nothing}
-use Rattle.planned_commands.specs.Both.{firmware_large, board_large, all_read}
-use Rattle.planned_commands.specs.Answers.{ListAnswer, StackAnswers, SymbolsAnswer}
-use Rattle.planned_commands.proofs.Answering.{both_write_nothing, plan_writes_nothing, list_writes_nothing, stack_writes_nothing, symbols_write_nothing}
-use Rattle.who_commands.proofs.Answering.{who_writes_nothing, help_writes_nothing}
-use Rattle.who_commands.specs.Answers.{WhoAnswer}
-use Rattle.selftest.proofs.Answering.{selftest_writes_nothing}
-use Rattle.run_inspection.proofs.Answering.{watch_writes_nothing, state_writes_nothing}
-use Rattle.reach_commands.proofs.Answering.{why_writes_nothing}
-use Rattle.where_commands.proofs.Answering.{where_writes_nothing}
-use Rattle.explain_commands.specs.Plans.{ExplainPlanAnswer}
-use Rattle.explain_commands.proofs.Answering.{explain_writes_nothing}
-use Rattle.explain_commands.proofs.PlanAnswering.{explain_plan_writes_nothing}
+use Rattle.aces_files.specs.Outcomes.{Outcome}
+use Rattle.aces_files.proofs.Answering.{run_writes_nothing, bin_writes_nothing}
+use Rattle.aces_audit.proofs.Answering.{audit_writes_nothing, tables_writes_nothing}
+use Rattle.aces_firmwares.proofs.Answering.{check_writes_nothing, source_writes_nothing}
+use Rattle.aces_plans.specs.Both.{firmware_large, board_large, all_read}
+use Rattle.aces_plans.specs.Answers.{ListAnswer, StackAnswers, SymbolsAnswer}
+use Rattle.aces_plans.proofs.Answering.{both_write_nothing, plan_writes_nothing, list_writes_nothing, stack_writes_nothing, symbols_write_nothing}
+use Rattle.aces_who.proofs.Answering.{who_writes_nothing, help_writes_nothing}
+use Rattle.aces_who.specs.Answers.{WhoAnswer}
+use Rattle.aces_selftest.proofs.Answering.{selftest_writes_nothing}
+use Rattle.aces_inspection.proofs.Answering.{watch_writes_nothing, state_writes_nothing}
+use Rattle.aces_why.proofs.Answering.{why_writes_nothing}
+use Rattle.aces_where.proofs.Answering.{where_writes_nothing}
+use Rattle.aces_explain.specs.Plans.{ExplainPlanAnswer}
+use Rattle.aces_explain.proofs.Answering.{explain_writes_nothing}
+use Rattle.aces_explain.proofs.PlanAnswering.{explain_plan_writes_nothing}
 use Rattle.aces_cli.specs.Answer.{CompileAnswer, unplanned, compiled, AnswerToCompile, Answer}
 
 of_compile : (firmware board : List ℕ) (policy : Policy) (image bytes text : List ℕ) (o : Outcome) → CompileAnswer firmware board policy image bytes text o

@@ -1,23 +1,23 @@
 -- A good request to run an image or to write an image's flash has no outcome but the one that says that all was done.
 use Rattle.std.proofs.Common.{◌≡◌, ℕ, zero, suc, ◌⊎◌, inl, inr, List, None, Some, refl, sym, ◌∙◌, subst}
-use Rattle.device_model.specs.declared.image.Image.{Image}
-use Rattle.device_model.specs.declared.image.Window.{Window}
-use Rattle.device_model.specs.Tape as tapes
-use Rattle.image.specs.Text as images
-use Rattle.image.specs.Faults as image_faults
+use Rattle.machine_devices.specs.declared.image.Image.{Image}
+use Rattle.machine_devices.specs.declared.image.Window.{Window}
+use Rattle.machine_devices.specs.Tape as tapes
+use Rattle.machine_image.specs.Text as images
+use Rattle.machine_image.specs.Faults as image_faults
 use Rattle.ir_reader.specs.Laws as readers
-use Rattle.board_text.specs.Laws.{BoardsAreOne, BoardsAreNotRefused}
+use Rattle.plan_board.specs.Laws.{BoardsAreOne, BoardsAreNotRefused}
 use Rattle.aces_reports.specs.declared.failure.Fault.{Fault}
-use Rattle.firmware_plans.specs.Laws.{RefusalsAndPlansExclude}
-use Rattle.firmware_stacks.specs.Laws.{LimitsExclude}
-use Rattle.armv7m.specs.declared.state.End.{End}
-use Rattle.armv7m.specs.declared.state.End.TheVariants.{Halt, InputEnd, Limit, Stop, Refused}
-use Rattle.armv7m.specs.Run.{start}
+use Rattle.plan_firmwares.specs.Laws.{RefusalsAndPlansExclude}
+use Rattle.aces_stack.specs.Laws.{LimitsExclude}
+use Rattle.machine_model.specs.declared.state.End.{End}
+use Rattle.machine_model.specs.declared.state.End.TheVariants.{Halt, InputEnd, Limit, Stop, Refused}
+use Rattle.machine_model.specs.Run.{start}
 use Rattle.machine_output.specs.Runs as machine
 use Rattle.aces_words.specs.Requests.{Origin, file_origin}
-use Rattle.commands.specs.Outcomes.{Outcome}
-use Rattle.commands.specs.Contents.{IsNoImage, IsNoTape}
-use Rattle.commands.specs.Answers.{RunAnswer, BinAnswer, no_image, no_tape, ran, wrote, AnswerToRun, AnswerToBin, image_large, tape_large, all_read}
+use Rattle.aces_files.specs.Outcomes.{Outcome}
+use Rattle.aces_files.specs.Contents.{IsNoImage, IsNoTape}
+use Rattle.aces_files.specs.Answers.{RunAnswer, BinAnswer, no_image, no_tape, ran, wrote, AnswerToRun, AnswerToBin, image_large, tape_large, all_read}
 use Rattle.aces_cli.specs.Complete.{IsRunnable}
 
 -- a text that is a tape has no fault

@@ -1,16 +1,16 @@
 -- Where no call failed and the files are there, a command ends with an outcome of its request, or for want of memory.
 use Rattle.std.proofs.Common.{◌≡◌, ℕ, ◌<◌, ◌⊎◌, inl, inr, List, [], ◌∷◌, true, false, Option, Result, Ok, Err, IsTrue, IsNone, refl, ap, sym, ◌∙◌, subst, arith}
-use Rattle.outside.specs.Counts.{Rose, Stayed}
+use Rattle.base_outside.specs.Counts.{Rose, Stayed}
 use Rattle.aces_reports.specs.declared.failure.Done.{Done}
 use Rattle.aces_reports.specs.declared.failure.Done.TheVariants.{Completed, RunFailed, Negative, FaultTold, NoRoomTold}
 use Rattle.aces_reports.specs.declared.failure.Failure.{Failure}
 use Rattle.aces_reports.specs.declared.failure.Failure.TheVariants.{Refused, PastLimit, Denied, NoRoom, Unread, Unwritten, Unprinted, NoMemory}
 use Rattle.aces_reports.specs.Ends.{status_of}
 use Rattle.aces_words.specs.Requests.{Request, Asks, Origin, origins}
-use Rattle.commands.specs.Known.{Held, Holds, Exceeds, IsMissing}
-use Rattle.commands.specs.Outcomes.{Outcome, refused, past_limit, denied, no_room}
+use Rattle.aces_files.specs.Known.{Held, Holds, Exceeds, IsMissing}
+use Rattle.aces_files.specs.Outcomes.{Outcome, refused, past_limit, denied, no_room}
 use Rattle.aces_cli.specs.Answer.{Answer}
-use Rattle.commands.specs.Effects.{World, Does, IsUnread}
+use Rattle.aces_files.specs.Effects.{World, Does, IsUnread}
 use Rattle.aces_cli.specs.Endings.{IsPlain}
 use Rattle.aces_cli.specs.Complete.{NoneFailed, AreThere, HasFiles, IsGood, run, bin, compile, check, source, list, stack, audit, tables, where_it_is, who, symbols, help, selftest, watch, state, why, explain, explain_plan, IsDoneBy, GoodRequestsAreDone}
 use Rattle.aces_words.proofs.Requests.{requests_are_one}

@@ -1,6 +1,6 @@
 -- A good request to check a firmware or to run its source has no outcome but the one that says that all was done.
 use Rattle.std.proofs.Common.{◌≡◌, ℕ, ◌⊎◌, inl, inr, List, Option, Some, None, true, false, refl, sym, ◌∙◌, subst}
-use Rattle.device_model.specs.Tape as tapes
+use Rattle.machine_devices.specs.Tape as tapes
 use Rattle.ir_model.specs.declared.token.Excess.TheVariants as excess
 use Rattle.ir_model.specs.Plain.{PlainFirmware}
 use Rattle.ir_model.specs.Typing.{fault_of}
@@ -13,14 +13,14 @@ use Rattle.ir_reader.specs.declared.fault.TextFault.{TextFault}
 use Rattle.ir_reader.specs.declared.fault.TextFault.TheVariants as text
 use Rattle.aces_reports.specs.declared.failure.Fault.{Fault}
 use Rattle.aces_reports.specs.declared.failure.Fault.TheVariants.{Text}
-use Rattle.source_output.specs.SourceRuns as source_runs
+use Rattle.ir_output.specs.SourceRuns as source_runs
 use Rattle.plan_model.specs.declared.policy.Policy.{Policy}
 use Rattle.aces_words.specs.Requests.{Origin, file_origin, firmware_origin}
-use Rattle.commands.specs.Contents.{IsContentFault}
-use Rattle.commands.specs.Outcomes.{Outcome}
-use Rattle.firmware_commands.specs.Firmwares.{IsFirmware, IsNoFirmware, no_text, ill_typed}
-use Rattle.firmware_commands.specs.Answers.{CheckAnswer, SourceAnswer, no_firmware, no_tape, checked, ran, AnswerToCheck, AnswerToSource, firmware_large, tape_large, all_read}
-use Rattle.where_commands.proofs.Findable.{IsFaultless}
+use Rattle.aces_files.specs.Contents.{IsContentFault}
+use Rattle.aces_files.specs.Outcomes.{Outcome}
+use Rattle.aces_firmwares.specs.Firmwares.{IsFirmware, IsNoFirmware, no_text, ill_typed}
+use Rattle.aces_firmwares.specs.Answers.{CheckAnswer, SourceAnswer, no_firmware, no_tape, checked, ran, AnswerToCheck, AnswerToSource, firmware_large, tape_large, all_read}
+use Rattle.aces_where.proofs.Findable.{IsFaultless}
 use Rattle.aces_cli.specs.Complete.{IsSourceRunnable}
 use Rattle.aces_cli.proofs.Runnable.{Laws, is_tape}
 

@@ -6,22 +6,22 @@ use Rattle.ir_model.specs.Plain.{PlainFirmware}
 use Rattle.aces_cli.specs.Compiled.{IsImageText}
 use Rattle.plan_model.specs.declared.policy.Policy.{Policy}
 use Rattle.plan_model.specs.declared.plan.Board.{Board}
-use Rattle.board_text.specs.Reading as boards
-use Rattle.firmware_commands.specs.Firmwares.{IsFirmware}
-use Rattle.commands.specs.Outcomes.{Outcome, done, usage}
-use Rattle.commands.specs.Answers.{AnswerToRun, AnswerToBin}
-use Rattle.audit_commands.specs.Answers.{AnswerToAudit, AnswerToTables}
-use Rattle.firmware_commands.specs.Answers.{AnswerToCheck, AnswerToSource}
-use Rattle.who_commands.specs.Answers.{AnswerToWho, AnswerToHelp}
-use Rattle.run_inspection.specs.Answers.{AnswerToWatch, AnswerToState}
-use Rattle.reach_commands.specs.Answers.{AnswerToWhy}
-use Rattle.where_commands.specs.Answers.{AnswerToWhere}
-use Rattle.selftest.specs.Answers.{AnswerToSelftest}
-use Rattle.explain_commands.specs.Answers.{AnswerToExplain}
-use Rattle.explain_commands.specs.Plans.{AnswerToExplainPlan}
-use Rattle.planned_commands.specs.Both.{AnswerByBoth}
-use Rattle.planned_commands.specs.PlanAnswer.{PlanAnswer}
-use Rattle.planned_commands.specs.Answers.{AnswerToList, AnswerToStack, AnswerToSymbols}
+use Rattle.plan_board.specs.Reading as boards
+use Rattle.aces_firmwares.specs.Firmwares.{IsFirmware}
+use Rattle.aces_files.specs.Outcomes.{Outcome, done, usage}
+use Rattle.aces_files.specs.Answers.{AnswerToRun, AnswerToBin}
+use Rattle.aces_audit.specs.Answers.{AnswerToAudit, AnswerToTables}
+use Rattle.aces_firmwares.specs.Answers.{AnswerToCheck, AnswerToSource}
+use Rattle.aces_who.specs.Answers.{AnswerToWho, AnswerToHelp}
+use Rattle.aces_inspection.specs.Answers.{AnswerToWatch, AnswerToState}
+use Rattle.aces_why.specs.Answers.{AnswerToWhy}
+use Rattle.aces_where.specs.Answers.{AnswerToWhere}
+use Rattle.aces_selftest.specs.Answers.{AnswerToSelftest}
+use Rattle.aces_explain.specs.Answers.{AnswerToExplain}
+use Rattle.aces_explain.specs.Plans.{AnswerToExplainPlan}
+use Rattle.aces_plans.specs.Both.{AnswerByBoth}
+use Rattle.aces_plans.specs.PlanAnswer.{PlanAnswer}
+use Rattle.aces_plans.specs.Answers.{AnswerToList, AnswerToStack, AnswerToSymbols}
 
 -- the answer to `compile` on the bytes of both files
 pub data CompileAnswer (firmware board : List ℕ) (policy : Policy) (image bytes text : List ℕ) : Outcome → Type 0 where

@@ -1,24 +1,24 @@
 -- What `stack` and `compile` say together of the same files: where both answer with status 0, the image refines the firmware with no premise on
 -- the stack.
 use Rattle.std.specs.Prelude.{◌≡◌, ℕ, List, Some, IsTrue}
-use Rattle.device_model.specs.declared.image.Image.{Image}
-use Rattle.image.specs.Text.{IsText}
+use Rattle.machine_devices.specs.declared.image.Image.{Image}
+use Rattle.machine_image.specs.Text.{IsText}
 use Rattle.ir_model.specs.Plain.{PlainFirmware}
 use Rattle.plan_model.specs.declared.plan.Board.{Board}
-use Rattle.board_text.specs.Reading as boards
+use Rattle.plan_board.specs.Reading as boards
 use Rattle.plan_model.specs.declared.policy.Policy.{Policy}
 use Rattle.aces_words.specs.Requests.{file_origin, firmware_origin, Compile, Asks}
-use Rattle.outside.specs.Sinks.{SinkState}
-use Rattle.compartments.specs.Divisions.{division}
-use Rattle.monitor.specs.Layout.{initial_word_count}
-use Rattle.linked_images.specs.Planned.{planned_tables}
-use Rattle.compiler.specs.ByPolicy.{IsImageBy}
-use Rattle.stack_laws.specs.Whole.{RefinesWhole}
-use Rattle.commands.specs.Known.{Held, Holds, Exceeds}
-use Rattle.commands.specs.Outcomes.{Outcome}
-use Rattle.commands.specs.Effects.{World}
-use Rattle.firmware_commands.specs.Firmwares.{IsFirmware}
-use Rattle.planned_commands.specs.Answers.{AnswerToStack}
+use Rattle.base_outside.specs.Sinks.{SinkState}
+use Rattle.plan_compartments.specs.Divisions.{division}
+use Rattle.monitor_model.specs.Layout.{initial_word_count}
+use Rattle.image_promises.specs.Planned.{planned_tables}
+use Rattle.aces_compiler.specs.ByPolicy.{IsImageBy}
+use Rattle.aces_stack_laws.specs.Whole.{RefinesWhole}
+use Rattle.aces_files.specs.Known.{Held, Holds, Exceeds}
+use Rattle.aces_files.specs.Outcomes.{Outcome}
+use Rattle.aces_files.specs.Effects.{World}
+use Rattle.aces_firmwares.specs.Firmwares.{IsFirmware}
+use Rattle.aces_plans.specs.Answers.{AnswerToStack}
 use Rattle.aces_cli.specs.Endings.{IsAnswered}
 
 -- a name holds the text of an image that the firmware in a file gets for the board in another by the policy; and the image refines the firmware

@@ -1,11 +1,11 @@
 -- What `compile` writes.
 use Rattle.std.specs.Prelude.{ℕ, List}
-use Rattle.device_model.specs.declared.image.Image.{Image}
-use Rattle.image.specs.Text.{IsText}
+use Rattle.machine_devices.specs.declared.image.Image.{Image}
+use Rattle.machine_image.specs.Text.{IsText}
 use Rattle.ir_model.specs.Plain.{PlainFirmware}
 use Rattle.plan_model.specs.declared.plan.Board.{Board}
 use Rattle.plan_model.specs.declared.policy.Policy.{Policy}
-use Rattle.compiler.specs.ByPolicy.{IsImageBy}
+use Rattle.aces_compiler.specs.ByPolicy.{IsImageBy}
 
 -- the bytes are the text of the image of a firmware for a board by a policy. Its compartments are isolated: on whatever device input, and from
 -- whatever a reset leaves, the bytes of a global and of the stack change, and peripherals are accessed, by those compartments alone that may;

@@ -1,24 +1,24 @@
 -- Where a command does all that it was asked for, unless memory runs out: no call on the outside fails, and what its files hold is good.
 use Rattle.std.specs.Prelude.{◌≡◌, ℕ, ◌⊎◌, List, [], ◌∷◌, Some, None}
-use Rattle.outside.specs.Counts.{Stayed}
-use Rattle.device_model.specs.declared.image.Image.{Image}
-use Rattle.device_model.specs.Tape as tapes
-use Rattle.image.specs.Text.{IsText}
+use Rattle.base_outside.specs.Counts.{Stayed}
+use Rattle.machine_devices.specs.declared.image.Image.{Image}
+use Rattle.machine_devices.specs.Tape as tapes
+use Rattle.machine_image.specs.Text.{IsText}
 use Rattle.ir_model.specs.Plain.{PlainFirmware}
 use Rattle.ir_program.specs.Windows.{windows_of}
 use Rattle.plan_model.specs.declared.plan.Board.{Board}
-use Rattle.board_text.specs.Reading as boards
-use Rattle.firmware_plans.specs.Plannable.{IsPlannable}
-use Rattle.firmware_stacks.specs.Limited.{KeepsLimitsBy}
+use Rattle.plan_board.specs.Reading as boards
+use Rattle.plan_firmwares.specs.Plannable.{IsPlannable}
+use Rattle.aces_stack.specs.Limited.{KeepsLimitsBy}
 use Rattle.plan_model.specs.declared.policy.Policy.{Policy}
 use Rattle.plan_model.specs.declared.policy.Policy.TheVariants.{Filename}
 use Rattle.aces_words.specs.Requests.{Request, Run, Bin, Compile, Check, Source, Where, Listing, Stack, Audit, Tables, Who, Symbols, Help, Selftest, Watch, State, Why, Explain, ExplainPlan, Asks, Origin, origins, file_origin, firmware_origin}
-use Rattle.commands.specs.Known.{Held, Holds, Exceeds}
-use Rattle.commands.specs.Outcomes.{Outcome}
-use Rattle.firmware_commands.specs.Firmwares.{IsFirmware}
-use Rattle.commands.specs.Effects.{World}
+use Rattle.aces_files.specs.Known.{Held, Holds, Exceeds}
+use Rattle.aces_files.specs.Outcomes.{Outcome}
+use Rattle.aces_firmwares.specs.Firmwares.{IsFirmware}
+use Rattle.aces_files.specs.Effects.{World}
 use Rattle.ir_generator.specs.Made.{made}
-use Rattle.selftest.specs.TestBoard.{test_board}
+use Rattle.aces_selftest.specs.TestBoard.{test_board}
 use Rattle.aces_cli.specs.Answer.{Answer}
 
 -- no call on files or on what is printed failed

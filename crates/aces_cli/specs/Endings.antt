@@ -1,14 +1,14 @@
 -- What a call did to the outside, by the status with which it ended.
 use Rattle.std.specs.Prelude.{◌≡◌, ◌≢◌, ℕ, ◌⊎◌, List, All}
-use Rattle.outside.specs.Calls.{Call}
-use Rattle.outside.specs.Reading.{EndsUnread}
+use Rattle.base_outside.specs.Calls.{Call}
+use Rattle.base_outside.specs.Reading.{EndsUnread}
 use Rattle.plan_model.specs.declared.policy.Policy.{Policy}
 use Rattle.aces_words.specs.Requests.{Request, Source, Asks, Origin}
-use Rattle.commands.specs.Known.{WasRead, WasTooLarge, IsCallOf}
+use Rattle.aces_files.specs.Known.{WasRead, WasTooLarge, IsCallOf}
 use Rattle.aces_reports.specs.FaultLines.{unread_line, unwritten_line, unprinted_line, memory_line}
-use Rattle.outside.specs.Sinks.{SinkState, Says}
-use Rattle.commands.specs.Effects.{World, IsUnread, IsUnwritten, IsUnprinted, IsOutOfMemory, IsCarriedOut, IsBrokenOff}
-use Rattle.commands.specs.Outcomes.{Outcome}
+use Rattle.base_outside.specs.Sinks.{SinkState, Says}
+use Rattle.aces_files.specs.Effects.{World, IsUnread, IsUnwritten, IsUnprinted, IsOutOfMemory, IsCarriedOut, IsBrokenOff}
+use Rattle.aces_files.specs.Outcomes.{Outcome}
 use Rattle.aces_cli.specs.Answer.{Answers}
 
 -- a status that comes by no failing call and no want of memory

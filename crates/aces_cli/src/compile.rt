@@ -3,26 +3,26 @@
 ghost use Rattle.std.specs.Prelude.{◌≤◌, ℕ, List, Some, [], IfOk, IfErr, length};
 ghost use Rattle.ir_model.specs.Plain as plain;
 ghost use Rattle.plan_model.specs.Boards.{IsBoard};
-ghost use Rattle.firmware_plans.specs.Unplanned.{IsUnplanned};
+ghost use Rattle.plan_firmwares.specs.Unplanned.{IsUnplanned};
 ghost use Rattle.aces_words.specs.Requests.{Compile, firmware_limit};
-ghost use Rattle.commands.specs.Outcomes.{done};
-ghost use Rattle.commands.specs.Loads.{IsRefusal};
-ghost use Rattle.commands.specs.CarriesOut.{CarriesOut};
+ghost use Rattle.aces_files.specs.Outcomes.{done};
+ghost use Rattle.aces_files.specs.Loads.{IsRefusal};
+ghost use Rattle.aces_files.specs.CarriesOut.{CarriesOut};
 ghost use Rattle.aces_cli.specs.Answer.{CompileAnswer, AnswerToCompile};
 ghost use Rattle.aces_cli.specs.Compiled.{IsImageText};
-ghost use Rattle.outside.specs.Sinks.{SinkState};
+ghost use Rattle.base_outside.specs.Sinks.{SinkState};
 
+use aces_compiler::{CompileRefusal, compile_by};
+use aces_files::failure::planning_failure;
+use aces_files::loading::board_of;
+use aces_files::writing::write;
+use aces_firmwares::reading::firmware_of;
+use aces_plans::both::load_both;
 use aces_reports::{Done, Failure};
-use plan_model::Policy;
-use commands::failure::planning_failure;
-use commands::loading::board_of;
-use commands::writing::write;
-use compiler::{CompileRefusal, compile_by};
-use firmware_commands::reading::firmware_of;
+use base_outside::Files;
 use ir_model::checked::Checked;
-use outside::Files;
+use plan_model::Policy;
 use plan_model::plan::Board;
-use planned_commands::both::load_both;
 use std::alloc::Global;
 
 /// Writes the image of a firmware for a board by a policy to a file. Whatever takes the output is left as it is.
@@ -85,6 +85,6 @@ fn image_text(
     ensures refused { IfErr result (IsUnplanned policy (plain.firmware_of firmware.now) board.now) }
 {
     let image = compile_by(alloc, firmware, board, policy)?;
-    let out = image::write(alloc, &image)?;
+    let out = machine_image::write(alloc, &image)?;
     Ok(out)
 }

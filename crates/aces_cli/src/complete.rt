@@ -3,11 +3,11 @@
 ghost use Rattle.aces_cli.specs.Bounded.{BoundedCallsAreFollowed};
 ghost use Rattle.aces_cli.specs.Complete.{GoodRequestsAreDone};
 
-use board_text::laws::boards_are_one;
-use firmware_plans::laws::refusals_and_plans_exclude;
-use firmware_stacks::laws::limits_exclude;
-use image::laws::{faults as image_faults, texts as image_texts};
+use aces_stack::laws::limits_exclude;
 use ir_reader::laws::{faults, texts};
+use machine_image::laws::{faults as image_faults, texts as image_texts};
+use plan_board::laws::boards_are_one;
+use plan_firmwares::laws::refusals_and_plans_exclude;
 
 /// Where the files of a request hold what it takes, its only outcome is the one that says that all was done.
 pub fn good_requests()

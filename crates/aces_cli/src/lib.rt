@@ -6,20 +6,20 @@ mod complete;
 mod perform;
 
 ghost use Rattle.std.specs.Prelude.{◌≡◌, ◌≢◌, ◌↔◌, ◌⊎◌, List, map, IsTrue, string_bytes};
-ghost use Rattle.outside.specs.Calls.{Call, Calls};
+ghost use Rattle.base_outside.specs.Calls.{Call, Calls};
 ghost use Rattle.aces_words.specs.Requests.{Request, Asks, IsUsage};
-ghost use Rattle.commands.specs.Known.{Holds, Exceeds};
+ghost use Rattle.aces_files.specs.Known.{Holds, Exceeds};
 ghost use Rattle.aces_cli.specs.Complete.{NoneFailed, HasFiles, IsGood, IsDoneBy};
-ghost use Rattle.outside.specs.Sinks.{sink};
-ghost use Rattle.commands.specs.Effects.{world};
+ghost use Rattle.base_outside.specs.Sinks.{sink};
+ghost use Rattle.aces_files.specs.Effects.{world};
 ghost use Rattle.aces_cli.specs.Bounded.{FollowsBounded};
 ghost use Rattle.aces_cli.specs.Endings.{IsPlain, IsAnswered, IsPartly, IsByCalls, TellsUnwritten, TellsUnprinted, TellsOutOfMemory};
 
 use aces_reports::{report, say};
 pub use aces_reports::{WordsRefusal, refuse_words};
 use aces_words::Command;
+use base_outside::{Files, Sink};
 use complete::{bounded_calls, good_requests};
-use outside::{Files, Sink};
 use perform::perform;
 use std::alloc::Global;
 

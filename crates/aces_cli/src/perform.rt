@@ -2,25 +2,25 @@
 
 ghost use Rattle.aces_words.specs.Requests.{IsWithin};
 ghost use Rattle.aces_words.specs.Commands.{request_of, image_request, firmware_request, plan_request};
-ghost use Rattle.commands.specs.CarriesOut.{CarriesOut};
+ghost use Rattle.aces_files.specs.CarriesOut.{CarriesOut};
 ghost use Rattle.aces_cli.specs.Answer.{Answer};
-ghost use Rattle.outside.specs.Sinks.{sink};
+ghost use Rattle.base_outside.specs.Sinks.{sink};
 
 use crate::compile;
+use aces_audit::{auditing, telling};
+use aces_explain::{explaining, planned};
+use aces_files::{bin, run};
+use aces_firmwares::{check, source};
+use aces_inspection::{holding, watching};
+use aces_plans::{list, stack, symbolizing};
 use aces_reports::{Done, Failure};
+use aces_selftest::printing;
+use aces_where::locating;
+use aces_who::{helping, owning};
+use aces_why::commanding;
 use aces_words::{Command, FirmwareCommand, ImageCommand, PlanCommand};
-use audit_commands::{auditing, telling};
-use commands::{bin, run};
-use explain_commands::{explaining, planned};
-use firmware_commands::{check, source};
-use outside::{Files, Sink};
-use planned_commands::{list, stack, symbolizing};
-use reach_commands::commanding;
-use run_inspection::{holding, watching};
-use selftest::printing;
+use base_outside::{Files, Sink};
 use std::alloc::Global;
-use where_commands::locating;
-use who_commands::{helping, owning};
 
 /// Carries out a command.
 pub(crate) fn perform<'a, F: Files, O: Sink>(

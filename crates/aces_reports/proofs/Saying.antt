@@ -2,8 +2,8 @@
 use Rattle.std.proofs.Common.{◌≡◌, ℕ, ◌+◌, ◌/◌, ◌%◌, ◌<◌, ◌≤◌, ◌^◌, List, [], ◌∷◌, ◌++◌, ap, sym, ◌∙◌, subst, arith, append_assoc, append-nil, IsTrue}
 use Rattle.std.specs.Fmt.{decimal}
 use Rattle.std.proofs.lemmas.Fmt.{decimal_digit, decimal_step}
-use Rattle.outside.specs.Counts.{Stayed}
-use Rattle.outside.specs.Sinks.{SinkState, Says}
+use Rattle.base_outside.specs.Counts.{Stayed}
+use Rattle.base_outside.specs.Sinks.{SinkState, Says}
 
 -- a count that stayed over two calls stayed over each
 stayed_first : (a b c : ℕ) → a ≤ b → b ≤ c → Stayed a c → Stayed a b

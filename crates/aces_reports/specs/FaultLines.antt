@@ -8,21 +8,21 @@ use Rattle.ir_model.specs.declared.check.CheckKind.{CheckKind}
 use Rattle.ir_model.specs.declared.check.CheckKind.TheVariants as kind
 use Rattle.ir_model.specs.declared.check.Place.{Place}
 use Rattle.ir_model.specs.declared.check.Place.TheVariants as place
-use Rattle.image.specs.declared.fault.ImageFault.{ImageFault}
-use Rattle.image.specs.declared.fault.ImageFault.TheVariants as image
-use Rattle.device_model.specs.declared.tape.TapeFault.{TapeFault}
-use Rattle.device_model.specs.declared.tape.TapeFault.TheVariants as tape
+use Rattle.machine_image.specs.declared.fault.ImageFault.{ImageFault}
+use Rattle.machine_image.specs.declared.fault.ImageFault.TheVariants as image
+use Rattle.machine_devices.specs.declared.tape.TapeFault.{TapeFault}
+use Rattle.machine_devices.specs.declared.tape.TapeFault.TheVariants as tape
 use Rattle.ir_reader.specs.declared.fault.TextFault.{TextFault}
 use Rattle.ir_reader.specs.declared.fault.TextFault.TheVariants as text
-use Rattle.check_faults.specs.declared.fault.CheckFault.{CheckFault}
-use Rattle.check_faults.specs.declared.fault.CheckFault.TheVariants as check
-use Rattle.board_text.specs.declared.fault.BoardFault.{BoardFault}
-use Rattle.board_text.specs.declared.fault.BoardFault.TheVariants as board
+use Rattle.ir_check_scopes.specs.declared.fault.CheckFault.{CheckFault}
+use Rattle.ir_check_scopes.specs.declared.fault.CheckFault.TheVariants as check
+use Rattle.plan_board.specs.declared.fault.BoardFault.{BoardFault}
+use Rattle.plan_board.specs.declared.fault.BoardFault.TheVariants as board
 use Rattle.aces_reports.specs.declared.failure.Fault.{Fault}
 use Rattle.aces_reports.specs.declared.failure.Fault.TheVariants.{TooLarge, Image, Tape, Text, Check, Board}
 use Rattle.aces_reports.specs.declared.failure.Memory.{Memory}
 use Rattle.aces_reports.specs.declared.failure.Memory.TheVariants as memory
-use Rattle.board_text.specs.Keys.{path_of}
+use Rattle.plan_board.specs.Keys.{path_of}
 use Rattle.plan_model.specs.declared.limits.LimitKind.{LimitKind}
 use Rattle.plan_model.specs.declared.limits.LimitKind.TheVariants as compiled
 

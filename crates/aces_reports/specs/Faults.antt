@@ -1,10 +1,10 @@
 -- Whether what stopped the reading of a file is a fault of its content.
 use Rattle.std.specs.Prelude.{Bool, true, false}
-use Rattle.image.specs.declared.fault.ImageFault.TheVariants as image
-use Rattle.device_model.specs.declared.tape.TapeFault.TheVariants as tape
+use Rattle.machine_image.specs.declared.fault.ImageFault.TheVariants as image
+use Rattle.machine_devices.specs.declared.tape.TapeFault.TheVariants as tape
 use Rattle.ir_reader.specs.declared.fault.TextFault.TheVariants as text
-use Rattle.check_faults.specs.declared.fault.CheckFault.TheVariants as check
-use Rattle.board_text.specs.declared.fault.BoardFault.TheVariants as board
+use Rattle.ir_check_scopes.specs.declared.fault.CheckFault.TheVariants as check
+use Rattle.plan_board.specs.declared.fault.BoardFault.TheVariants as board
 use Rattle.aces_reports.specs.declared.failure.Fault.{Fault}
 use Rattle.aces_reports.specs.declared.failure.Fault.TheVariants.{Image, Tape, Text, Check, Board}
 

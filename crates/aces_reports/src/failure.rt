@@ -4,12 +4,12 @@ ghost use Rattle.std.specs.Prelude.{◌≡◌};
 ghost use Rattle.aces_reports.specs.declared.failure.Failure.TheVariants.{NoMemory};
 ghost use Rattle.aces_reports.specs.Faults as faults;
 
-use board_text::fault::BoardFault;
-use check_faults::CheckFault;
-use device_model::tape::TapeFault;
-use image::fault::ImageFault;
+use base_lists::ListVec;
+use ir_check_scopes::CheckFault;
 use ir_reader::TextFault;
-use list_vec::ListVec;
+use machine_devices::tape::TapeFault;
+use machine_image::fault::ImageFault;
+use plan_board::fault::BoardFault;
 use plan_model::limits::LimitKind;
 use std::alloc::AllocError;
 

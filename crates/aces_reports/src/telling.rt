@@ -2,21 +2,21 @@
 
 ghost use Rattle.std.specs.Prelude.{◌≡◌, ◌++◌, Err};
 ghost use Rattle.std.specs.Fmt.{decimal};
-ghost use Rattle.board_text.specs.Keys.{path_of};
+ghost use Rattle.plan_board.specs.Keys.{path_of};
 ghost use Rattle.aces_reports.specs.FaultLines as lines;
 ghost use Rattle.aces_reports.specs.Ends.{status_of, line_of};
-ghost use Rattle.outside.specs.Sinks.{Says, sink};
+ghost use Rattle.base_outside.specs.Sinks.{Says, sink};
 
 use crate::failure::{Done, Failure, Fault, Memory};
-use board_text::fault::BoardFault;
-use board_text::key::Key;
-use check_faults::CheckFault;
-use device_model::tape::TapeFault;
-use image::fault::ImageFault;
+use base_outside::Sink;
+use ir_check_scopes::CheckFault;
 use ir_model::check::{CheckKind, Place};
 use ir_model::token::{Pos, TextLimit};
 use ir_reader::TextFault;
-use outside::Sink;
+use machine_devices::tape::TapeFault;
+use machine_image::fault::ImageFault;
+use plan_board::fault::BoardFault;
+use plan_board::key::Key;
 use plan_model::limits::LimitKind;
 
 /// The exit status of how a command ended. Where something stopped it, its line is put.

@@ -1,11 +1,11 @@
 //! Words that the system did not give.
 
 ghost use Rattle.std.specs.Prelude.{◌≡◌};
-ghost use Rattle.outside.specs.Sinks.{Says, sink};
+ghost use Rattle.base_outside.specs.Sinks.{Says, sink};
 ghost use Rattle.aces_reports.specs.WordsRefusals.{refusal_status, refusal_line};
 
 use crate::telling::say;
-use outside::Sink;
+use base_outside::Sink;
 
 /// Why the words behind the program's name are not there.
 #[derive(Clone, Copy, PartialEq, Eq, Debug)]

@@ -1,7 +1,7 @@
 -- Addresses as words write them.
 use Rattle.std.proofs.Common.{◌≡◌, ℕ, ◌≤◌, List, [], ◌∷◌, length, get_or, nat_eq, None, false, refl, ap, ◌∙◌, arith}
 use Rattle.std.proofs.lemmas.Bool.{ne_eqb}
-use Rattle.numerals.specs.Numerals.{numeral}
+use Rattle.base_numerals.specs.Numerals.{numeral}
 use Rattle.aces_words.specs.Requests.{value_of, address_of}
 
 -- a sign is no digit

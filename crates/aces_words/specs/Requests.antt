@@ -1,9 +1,9 @@
 -- What the words behind the program's name ask for.
 use Rattle.std.specs.Prelude.{◌≡◌, ℕ, ◌^◌, ◌<◌, ◌≤◌, List, [], ◌∷◌, Option, Some, None, codes}
 use Rattle.std.specs.Fmt.{decimal}
-use Rattle.numerals.specs.Numerals.{magnitude, positive}
-use Rattle.numerals.specs.declared.Numeral.{Numeral}
-use Rattle.numerals.specs.declared.Numeral.TheVariants.{Malformed, TooWide, Value}
+use Rattle.base_numerals.specs.Numerals.{magnitude, positive}
+use Rattle.base_numerals.specs.declared.Numeral.{Numeral}
+use Rattle.base_numerals.specs.declared.Numeral.TheVariants.{Malformed, TooWide, Value}
 use Rattle.ir_model.specs.TextLimits.{text_limit}
 use Rattle.plan_model.specs.declared.policy.Policy.{Policy}
 use Rattle.plan_model.specs.PolicyWords.{policy_word}

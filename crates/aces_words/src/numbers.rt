@@ -4,7 +4,7 @@ ghost use Rattle.std.specs.Prelude.{◌≡◌, ◌↔◌, ◌^◌, ◌<◌, ◌�
 ghost use Rattle.std.specs.Fmt.{decimal};
 ghost use Rattle.aces_words.specs.Requests.{address_of, value_of};
 
-use numerals::{Numeral, read_numeral};
+use base_numerals::{Numeral, read_numeral};
 
 /// The number below 2^32 whose decimal digits these are, without a leading zero.
 pub(crate) fn number(word: &str) -> Option<u32>

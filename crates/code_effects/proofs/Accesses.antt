@@ -1,21 +1,21 @@
 -- The code of loads and stores.
 use Rattle.std.proofs.Common.{◌≡◌, ℕ, ◌+◌, ◌*◌, ◌<◌, List, [], ◌∷◌, get_or, set, Option, Some, None, refl, subst, arith}
-use Rattle.words.specs.declared.conditions.Flags.{Flags}
-use Rattle.words.specs.Arithmetic.{word}
-use Rattle.words.specs.Bytes.{read, write, cut}
-use Rattle.words.proofs.Bytes.{read_fits}
-use Rattle.thumb_model.specs.declared.table.Instr.{Instr}
-use Rattle.thumb_model.specs.declared.table.Instr.TheVariants.{TransferImmediate}
-use Rattle.mpu_model.specs.declared.region.Access.TheVariants.{Read, Write}
-use Rattle.device_model.specs.declared.image.Image.{Image}
-use Rattle.mem_bus.specs.Places.{InRam, InFlash, InWindow}
-use Rattle.armv7m.specs.declared.state.End.TheVariants.{InputEnd}
-use Rattle.armv7m.specs.State.{PermissionTest}
-use Rattle.armv7m.specs.Code.{Stands, CodeAt, Steps}
-use Rattle.armv7m.specs.Events.{input_event, output_event, ended}
-use Rattle.armv7m.specs.RunningCode.{works, IsLoad, IsStore}
-use Rattle.armv7m.proofs.Exec.{stay, next_step, next_event}
-use Rattle.armv7m.proofs.Transfers.{ldr_sp, str_sp, load_ram, load_flash, load_window, load_nothing, store_ram, store_window, loads_words, loads_halves, loads_bytes, stores_words, stores_halves, stores_bytes}
+use Rattle.base_words.specs.declared.conditions.Flags.{Flags}
+use Rattle.base_words.specs.Arithmetic.{word}
+use Rattle.base_words.specs.Bytes.{read, write, cut}
+use Rattle.base_words.proofs.Bytes.{read_fits}
+use Rattle.machine_thumb.specs.declared.table.Instr.{Instr}
+use Rattle.machine_thumb.specs.declared.table.Instr.TheVariants.{TransferImmediate}
+use Rattle.machine_protection.specs.declared.region.Access.TheVariants.{Read, Write}
+use Rattle.machine_devices.specs.declared.image.Image.{Image}
+use Rattle.machine_bus.specs.Places.{InRam, InFlash, InWindow}
+use Rattle.machine_model.specs.declared.state.End.TheVariants.{InputEnd}
+use Rattle.machine_model.specs.State.{PermissionTest}
+use Rattle.machine_model.specs.Code.{Stands, CodeAt, Steps}
+use Rattle.machine_model.specs.Events.{input_event, output_event, ended}
+use Rattle.machine_model.specs.RunningCode.{works, IsLoad, IsStore}
+use Rattle.machine_model.proofs.Exec.{stay, next_step, next_event}
+use Rattle.machine_model.proofs.Transfers.{ldr_sp, str_sp, load_ram, load_flash, load_window, load_nothing, store_ram, store_window, loads_words, loads_halves, loads_bytes, stores_words, stores_halves, stores_bytes}
 use Rattle.ir_model.specs.Types.{PlainType, U8, U16, U32, Pointer, Array, Named, Callee, width_of}
 use Rattle.ir_model.specs.Resolved.{NumberedFunc, Load, Store}
 use Rattle.code_model.specs.declared.places.Places.{Places}

@@ -1,16 +1,16 @@
 -- The code of addresses, of elements and of fields.
 use Rattle.std.proofs.Common.{◌≡◌, ℕ, zero, suc, ◌+◌, ◌*◌, ◌/◌, ◌%◌, ◌^◌, ◌<◌, ◌≤◌, List, [], ◌∷◌, length, get_or, Option, refl, subst, arith}
 use Rattle.std.proofs.lemmas.Bool.Decides.{nat_tests}
-use Rattle.words.specs.Arithmetic.{word, add, multiply}
-use Rattle.words.specs.Flags.{result_flags, add_flags}
-use Rattle.words.specs.Bytes.{write}
-use Rattle.device_model.specs.declared.image.Image.{Image}
-use Rattle.armv7m.specs.State.{PermissionTest}
-use Rattle.armv7m.specs.Code.{CodeAt}
-use Rattle.armv7m.proofs.Exec.{stay, next_step, onward}
-use Rattle.armv7m.proofs.InstructionEffects.{operation_gives}
-use Rattle.armv7m.proofs.Transfers.{ldr_sp, str_sp, add_d_sp}
-use Rattle.armv7m.proofs.Constants.{word_into, adds}
+use Rattle.base_words.specs.Arithmetic.{word, add, multiply}
+use Rattle.base_words.specs.Flags.{result_flags, add_flags}
+use Rattle.base_words.specs.Bytes.{write}
+use Rattle.machine_devices.specs.declared.image.Image.{Image}
+use Rattle.machine_model.specs.State.{PermissionTest}
+use Rattle.machine_model.specs.Code.{CodeAt}
+use Rattle.machine_model.proofs.Exec.{stay, next_step, onward}
+use Rattle.machine_model.proofs.InstructionEffects.{operation_gives}
+use Rattle.machine_model.proofs.Transfers.{ldr_sp, str_sp, add_d_sp}
+use Rattle.machine_model.proofs.Constants.{word_into, adds}
 use Rattle.ir_model.specs.Layout.{Shape}
 use Rattle.ir_model.specs.Resolved.{NumberedFunc, Named, TheGlobal, ThePeriph, TheLocal, Addr, FAddr, Elem, Field}
 use Rattle.code_model.specs.declared.places.Places.{Places}

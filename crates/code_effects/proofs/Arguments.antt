@@ -1,15 +1,15 @@
 -- Words of the frame into the registers from r0 on.
 use Rattle.std.proofs.Common.{◌≡◌, ℕ, zero, suc, ◌+◌, ◌*◌, ◌<◌, ◌≤◌, List, [], ◌∷◌, length, get_or, set, length-set, get_or-set_same, get_or-set_other, refl, sym, ap, ◌∙◌, arith}
-use Rattle.words.specs.declared.conditions.Flags.{Flags}
-use Rattle.words.specs.Bytes.{read}
-use Rattle.device_model.specs.declared.image.Image.{Image}
-use Rattle.armv7m.specs.State.{PermissionTest}
-use Rattle.armv7m.specs.Code.{CodeAt, Runs}
-use Rattle.armv7m.specs.Running.{code_size}
-use Rattle.armv7m.specs.Stack.{Room}
-use Rattle.armv7m.specs.RunningCode.{Context, works}
-use Rattle.armv7m.proofs.Exec.{stay, next_step}
-use Rattle.armv7m.proofs.Transfers.{ldr_sp}
+use Rattle.base_words.specs.declared.conditions.Flags.{Flags}
+use Rattle.base_words.specs.Bytes.{read}
+use Rattle.machine_devices.specs.declared.image.Image.{Image}
+use Rattle.machine_model.specs.State.{PermissionTest}
+use Rattle.machine_model.specs.Code.{CodeAt, Runs}
+use Rattle.machine_model.specs.Running.{code_size}
+use Rattle.machine_model.specs.Stack.{Room}
+use Rattle.machine_model.specs.RunningCode.{Context, works}
+use Rattle.machine_model.proofs.Exec.{stay, next_step}
+use Rattle.machine_model.proofs.Transfers.{ldr_sp}
 use Rattle.code_model.specs.Calls.{args_code}
 use Rattle.code_effects.specs.Points.{Point, Holds, known}
 use Rattle.code_effects.specs.Frames.{slot}

@@ -1,17 +1,17 @@
 -- Pieces that were put into an assembly: their instructions are in the table, and their bytes fill it.
 use Rattle.std.proofs.Common.{◌≡◌, ℕ, ◌+◌, ◌%◌, ◌<◌, ◌^◌, List, [], ◌∷◌, length, None, IsSome, sym, ◌∙◌, subst, arith}
 use Rattle.std.proofs.Math.ListN.{get_or}
-use Rattle.thumb_asm.specs.declared.item.Item.{Item}
-use Rattle.thumb_asm.specs.declared.item.Item.TheVariants.{Plain, Branch, Half, Word}
-use Rattle.thumb_asm.specs.Assembly.{Assembly, branch_size, size_of, total, here, place_of, AreItems, ArePut, IsAssembly}
-use Rattle.thumb_asm.specs.Finished.{first_far}
-use Rattle.armv7m.specs.Code.{size}
-use Rattle.armv7m.proofs.CodeParts.{width-encode}
+use Rattle.machine_thumb_asm.specs.declared.item.Item.{Item}
+use Rattle.machine_thumb_asm.specs.declared.item.Item.TheVariants.{Plain, Branch, Half, Word}
+use Rattle.machine_thumb_asm.specs.Assembly.{Assembly, branch_size, size_of, total, here, place_of, AreItems, ArePut, IsAssembly}
+use Rattle.machine_thumb_asm.specs.Finished.{first_far}
+use Rattle.machine_model.specs.Code.{size}
+use Rattle.machine_model.proofs.CodeParts.{width-encode}
 use Rattle.code_effects.specs.Items.{InstructionsInTable}
-use Rattle.common_laws.proofs.Options.{some_is}
-use Rattle.thumb_asm.proofs.Items.{branch_even}
-use Rattle.thumb_asm.proofs.Reaching.{even_place as place_is, near_first, size_even}
-use Rattle.thumb_asm.proofs.Decoded.{branch_in_table}
+use Rattle.base_laws.proofs.Options.{some_is}
+use Rattle.machine_thumb_asm.proofs.Items.{branch_even}
+use Rattle.machine_thumb_asm.proofs.Reaching.{even_place as place_is, near_first, size_even}
+use Rattle.machine_thumb_asm.proofs.Decoded.{branch_in_table}
 
 label_is : (a : Assembly) (l : ℕ) → IsAssembly a → IsSome (get_or a.places l None) → (place_of a.places l % 2 ≡ a.base % 2) × (place_of a.places l < 2 ^ 31)
 label_is a l h p =

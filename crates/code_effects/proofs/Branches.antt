@@ -1,16 +1,16 @@
 -- The code at a block's end.
 use Rattle.std.specs.Prelude.{pos, if◌then◌else◌}
 use Rattle.std.proofs.Common.{◌≡◌, ℕ, ◌+◌, ◌*◌, ◌^◌, ◌<◌, List, [], ◌∷◌, Bool, true, false, Option, nat_eq, refl, arith}
-use Rattle.words.specs.declared.conditions.Flags.{Flags}
-use Rattle.words.specs.Flags.{holds, compare_flags}
-use Rattle.words.proofs.Bytes.{read_fits}
-use Rattle.thumb_asm.specs.Assembly.{place_of}
-use Rattle.thumb_asm.specs.Finished.{distance}
-use Rattle.device_model.specs.declared.image.Image.{Image}
-use Rattle.armv7m.specs.State.{PermissionTest}
-use Rattle.armv7m.proofs.Exec.{stay, next_step}
-use Rattle.armv7m.proofs.InstructionEffects.{cmp_immediate, b_taken, b_not_taken, b_wide}
-use Rattle.armv7m.proofs.Transfers.{ldr_sp}
+use Rattle.base_words.specs.declared.conditions.Flags.{Flags}
+use Rattle.base_words.specs.Flags.{holds, compare_flags}
+use Rattle.base_words.proofs.Bytes.{read_fits}
+use Rattle.machine_thumb_asm.specs.Assembly.{place_of}
+use Rattle.machine_thumb_asm.specs.Finished.{distance}
+use Rattle.machine_devices.specs.declared.image.Image.{Image}
+use Rattle.machine_model.specs.State.{PermissionTest}
+use Rattle.machine_model.proofs.Exec.{stay, next_step}
+use Rattle.machine_model.proofs.InstructionEffects.{cmp_immediate, b_taken, b_not_taken, b_wide}
+use Rattle.machine_model.proofs.Transfers.{ldr_sp}
 use Rattle.ir_model.specs.Resolved.{NumberedFunc, Jump, Branch}
 use Rattle.code_model.specs.declared.places.Places.{Places}
 use Rattle.code_model.specs.Templates.{term_items}

@@ -1,21 +1,21 @@
 -- The code of calls.
 use Rattle.std.specs.Prelude.{ℤ, is_some}
 use Rattle.std.proofs.Common.{◌≡◌, ℕ, suc, ◌+◌, ◌*◌, ◌%◌, ◌^◌, ◌<◌, ◌≤◌, List, [], ◌∷◌, length, get_or, set, get_or-set_same, Option, Some, None, true, false, refl, sym, ap, ◌∙◌, subst, arith}
-use Rattle.words.specs.Arithmetic.{moved}
-use Rattle.thumb_model.specs.declared.table.Instr.TheVariants.{BranchLink, BranchExchange}
-use Rattle.thumb_asm.specs.declared.item.Item.TheVariants.{Half}
-use Rattle.thumb_asm.specs.Assembly.{total}
-use Rattle.thumb_asm.specs.Finished.{distance}
-use Rattle.device_model.specs.declared.image.Image.{Image}
-use Rattle.armv7m.specs.State.{PermissionTest}
-use Rattle.armv7m.specs.Code.{HoldsHalf, Stands, CodeAt}
-use Rattle.armv7m.specs.Running.{code_size}
-use Rattle.armv7m.specs.RunningCode.{Context}
-use Rattle.armv7m.proofs.Exec.{stay, next_step, onward}
-use Rattle.armv7m.proofs.CodeParts.{code_size-append, code_at-append}
-use Rattle.armv7m.proofs.InstructionEffects.{bl, mov_to_r12}
-use Rattle.armv7m.proofs.Transfers.{ldr_sp, blx_r12}
-use Rattle.armv7m.proofs.Constants.{word_into_r12}
+use Rattle.base_words.specs.Arithmetic.{moved}
+use Rattle.machine_thumb.specs.declared.table.Instr.TheVariants.{BranchLink, BranchExchange}
+use Rattle.machine_thumb_asm.specs.declared.item.Item.TheVariants.{Half}
+use Rattle.machine_thumb_asm.specs.Assembly.{total}
+use Rattle.machine_thumb_asm.specs.Finished.{distance}
+use Rattle.machine_devices.specs.declared.image.Image.{Image}
+use Rattle.machine_model.specs.State.{PermissionTest}
+use Rattle.machine_model.specs.Code.{HoldsHalf, Stands, CodeAt}
+use Rattle.machine_model.specs.Running.{code_size}
+use Rattle.machine_model.specs.RunningCode.{Context}
+use Rattle.machine_model.proofs.Exec.{stay, next_step, onward}
+use Rattle.machine_model.proofs.CodeParts.{code_size-append, code_at-append}
+use Rattle.machine_model.proofs.InstructionEffects.{bl, mov_to_r12}
+use Rattle.machine_model.proofs.Transfers.{ldr_sp, blx_r12}
+use Rattle.machine_model.proofs.Constants.{word_into_r12}
 use Rattle.ir_model.specs.Resolved.{NumberedFunc, Call, ICall}
 use Rattle.code_model.specs.declared.places.Places.{Places}
 use Rattle.code_model.specs.Places.{entry_address}

@@ -1,17 +1,17 @@
 -- The code of comparisons.
 use Rattle.std.specs.Prelude.{nat_eq, nat_lt, nat_le, not, pos}
 use Rattle.std.proofs.Common.{◌≡◌, ℕ, ◌+◌, ◌*◌, ◌^◌, ◌<◌, List, [], ◌∷◌, Bool, true, false, Option, arith}
-use Rattle.words.specs.declared.conditions.Flags.{Flags}
-use Rattle.words.specs.Arithmetic.{signed_less, signed_at_most}
-use Rattle.words.specs.Flags.{holds, compare_flags, result_flags}
-use Rattle.words.specs.Bytes.{write}
-use Rattle.words.proofs.Bytes.{read_fits}
-use Rattle.device_model.specs.declared.image.Image.{Image}
-use Rattle.armv7m.specs.State.{PermissionTest}
-use Rattle.armv7m.specs.Code.{CodeAt}
-use Rattle.armv7m.proofs.Exec.{stay, next_step}
-use Rattle.armv7m.proofs.InstructionEffects.{cmp, movs, b_taken, b_not_taken, b}
-use Rattle.armv7m.proofs.Transfers.{ldr_sp, str_sp}
+use Rattle.base_words.specs.declared.conditions.Flags.{Flags}
+use Rattle.base_words.specs.Arithmetic.{signed_less, signed_at_most}
+use Rattle.base_words.specs.Flags.{holds, compare_flags, result_flags}
+use Rattle.base_words.specs.Bytes.{write}
+use Rattle.base_words.proofs.Bytes.{read_fits}
+use Rattle.machine_devices.specs.declared.image.Image.{Image}
+use Rattle.machine_model.specs.State.{PermissionTest}
+use Rattle.machine_model.specs.Code.{CodeAt}
+use Rattle.machine_model.proofs.Exec.{stay, next_step}
+use Rattle.machine_model.proofs.InstructionEffects.{cmp, movs, b_taken, b_not_taken, b}
+use Rattle.machine_model.proofs.Transfers.{ldr_sp, str_sp}
 use Rattle.ir_model.specs.declared.firmware.CmpOp.{CmpOp}
 use Rattle.ir_model.specs.declared.firmware.CmpOp.TheVariants.{Eq, Ne, Ult, Ule, Slt, Sle}
 use Rattle.ir_model.specs.Resolved.{NumberedFunc}

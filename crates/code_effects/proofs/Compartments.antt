@@ -4,11 +4,11 @@ use Rattle.std.proofs.Math.ListN.{get_or-append}
 use Rattle.std.proofs.lemmas.Bool.Decides.{nat_tests}
 use Rattle.std.proofs.lemmas.List.{get_or-append-add}
 use Rattle.std.proofs.lemmas.List.Concat.{flat_map-append}
-use Rattle.thumb_asm.specs.declared.item.Item.{Item}
-use Rattle.thumb_asm.specs.Assembly.{total, put_at}
-use Rattle.device_model.specs.declared.image.Image.{Image}
-use Rattle.armv7m.specs.declared.state.ProtectionState.{ProtectionState}
-use Rattle.armv7m.specs.State.{PermissionTest}
+use Rattle.machine_thumb_asm.specs.declared.item.Item.{Item}
+use Rattle.machine_thumb_asm.specs.Assembly.{total, put_at}
+use Rattle.machine_devices.specs.declared.image.Image.{Image}
+use Rattle.machine_model.specs.declared.state.ProtectionState.{ProtectionState}
+use Rattle.machine_model.specs.State.{PermissionTest}
 use Rattle.ir_model.specs.Resolved.{Program, func_at}
 use Rattle.code_model.specs.declared.places.Places.{Places}
 use Rattle.code_model.specs.Sizes.{entry_size, place_offset}
@@ -19,7 +19,7 @@ use Rattle.code_effects.specs.Items.{ItemsAt}
 use Rattle.code_effects.specs.Compartments.{CompartmentsStand}
 use Rattle.code_effects.proofs.Items.{parts_at, items_at}
 use Rattle.code_effects.proofs.Functions.{functions_stand}
-use Rattle.thumb_asm.proofs.Items.{total-append}
+use Rattle.machine_thumb_asm.proofs.Items.{total-append}
 use Rattle.code_model.proofs.Labels.{labels_length}
 use Rattle.code_model.proofs.Compartments.{filled_total}
 

@@ -2,9 +2,9 @@
 use Rattle.std.proofs.Common.{◌≡◌, ℕ, ◌+◌, ◌^◌, ◌<◌, arith, w32}
 use Rattle.std.specs.Prelude.{ℤ, pos, negsuc, ◌+ℤ◌, FitsSigned}
 use Rattle.std.proofs.lemmas.Int.{ints}
-use Rattle.words.specs.Arithmetic.{moved}
-use Rattle.words.proofs.Arithmetic.{moved_is}
-use Rattle.thumb_asm.specs.Finished.{distance}
+use Rattle.base_words.specs.Arithmetic.{moved}
+use Rattle.base_words.proofs.Arithmetic.{moved_is}
+use Rattle.machine_thumb_asm.specs.Finished.{distance}
 
 -- forward over so many bytes
 pub skips : (pc k to : ℕ) → pc < 2 ^ 31 → k < 2 ^ 30 → pc + k ≡ to → moved pc (pos k) ≡ to

@@ -2,23 +2,23 @@
 use Rattle.std.proofs.Common.{◌≡◌, ℕ, zero, suc, ◌+◌, ◌-◌, ◌*◌, ◌^◌, ◌<◌, ◌≤◌, Bool, true, false, nat_le, if◌then◌else◌, List, [], ◌∷◌, ◌++◌, length, get_or, set, Option, refl, sym, ap, ◌∙◌, subst, arith, inl, inr, ⊎_elim}
 use Rattle.std.proofs.lemmas.Bool.{cases_lt}
 use Rattle.std.proofs.lemmas.Bool.Decides.{nat_tests}
-use Rattle.words.specs.Bytes.{read, write, cut}
-use Rattle.words.proofs.Bytes.{length-write, read_same}
-use Rattle.words.specs.declared.conditions.Flags.{Flags}
-use Rattle.words.specs.Flags.{result_flags}
-use Rattle.thumb_model.specs.declared.table.Instr.{Instr}
-use Rattle.thumb_model.specs.declared.table.Instr.TheVariants.{PushPop}
-use Rattle.device_model.specs.declared.image.Image.{Image}
-use Rattle.armv7m.specs.declared.state.ProtectionState.{ProtectionState}
-use Rattle.armv7m.specs.State.{State, PermissionTest}
-use Rattle.armv7m.specs.Code.{Stands, CodeAt, Steps, Runs}
-use Rattle.armv7m.specs.Running.{code_size}
-use Rattle.armv7m.specs.Stack.{Room}
-use Rattle.armv7m.specs.RunningCode.{Context, works}
-use Rattle.armv7m.proofs.Exec.{stay, next_step, onward}
-use Rattle.armv7m.proofs.CodeParts.{code_size-append, code_at-append}
-use Rattle.armv7m.proofs.InstructionEffects.{movs}
-use Rattle.armv7m.proofs.Transfers.{str_sp, add_d_sp, sub_sp, push_lr}
+use Rattle.base_words.specs.Bytes.{read, write, cut}
+use Rattle.base_words.proofs.Bytes.{length-write, read_same}
+use Rattle.base_words.specs.declared.conditions.Flags.{Flags}
+use Rattle.base_words.specs.Flags.{result_flags}
+use Rattle.machine_thumb.specs.declared.table.Instr.{Instr}
+use Rattle.machine_thumb.specs.declared.table.Instr.TheVariants.{PushPop}
+use Rattle.machine_devices.specs.declared.image.Image.{Image}
+use Rattle.machine_model.specs.declared.state.ProtectionState.{ProtectionState}
+use Rattle.machine_model.specs.State.{State, PermissionTest}
+use Rattle.machine_model.specs.Code.{Stands, CodeAt, Steps, Runs}
+use Rattle.machine_model.specs.Running.{code_size}
+use Rattle.machine_model.specs.Stack.{Room}
+use Rattle.machine_model.specs.RunningCode.{Context, works}
+use Rattle.machine_model.proofs.Exec.{stay, next_step, onward}
+use Rattle.machine_model.proofs.CodeParts.{code_size-append, code_at-append}
+use Rattle.machine_model.proofs.InstructionEffects.{movs}
+use Rattle.machine_model.proofs.Transfers.{str_sp, add_d_sp, sub_sp, push_lr}
 use Rattle.ir_model.specs.Resolved.{NumberedFunc}
 use Rattle.ir_model.specs.Signatures.{row_length}
 use Rattle.code_model.specs.declared.places.Places.{Places}

@@ -1,11 +1,11 @@
 -- Runs keep what every step keeps of a state.
 use Rattle.std.proofs.Common.{ℕ, zero, suc, subst}
-use Rattle.words.specs.Runs.{run}
-use Rattle.device_model.specs.declared.image.Image.{Image}
-use Rattle.device_model.specs.Rules.{ObeysRules}
-use Rattle.armv7m.specs.State.{State, PermissionTest}
-use Rattle.armv7m.specs.Code.{next}
-use Rattle.armv7m.specs.Shape.{StateFits, StepsKeepShape}
+use Rattle.base_words.specs.Runs.{run}
+use Rattle.machine_devices.specs.declared.image.Image.{Image}
+use Rattle.machine_devices.specs.Rules.{ObeysRules}
+use Rattle.machine_model.specs.State.{State, PermissionTest}
+use Rattle.machine_model.specs.Code.{next}
+use Rattle.machine_model.specs.Shape.{StateFits, StepsKeepShape}
 use Rattle.code_effects.specs.Points.{RunsFit}
 
 still_fits : StepsKeepShape → (j : PermissionTest) (i : Image) → ObeysRules i → (k : ℕ) (s : State) → StateFits i s → StateFits i (run (next j i) k s)

@@ -1,10 +1,10 @@
 -- The code of a whole function.
 use Rattle.std.proofs.Common.{◌≡◌, ℕ, zero, suc, ◌+◌, ◌<◌, List, [], ◌∷◌, ◌++◌, length, take, get_or, Option, Some, None, ap, ◌∙◌, subst, arith, rules}
-use Rattle.device_model.specs.declared.image.Image.{Image}
-use Rattle.thumb_asm.specs.declared.item.Item.{Item}
-use Rattle.thumb_asm.specs.Assembly.{total}
-use Rattle.armv7m.specs.declared.state.ProtectionState.{ProtectionState}
-use Rattle.armv7m.specs.State.{PermissionTest}
+use Rattle.machine_devices.specs.declared.image.Image.{Image}
+use Rattle.machine_thumb_asm.specs.declared.item.Item.{Item}
+use Rattle.machine_thumb_asm.specs.Assembly.{total}
+use Rattle.machine_model.specs.declared.state.ProtectionState.{ProtectionState}
+use Rattle.machine_model.specs.State.{PermissionTest}
 use Rattle.ir_model.specs.Resolved.{NumberedInst, NumberedTerm, NumberedBlock, NumberedFunc, Here, Does, Ends, here_in, no_block}
 use Rattle.code_model.specs.declared.places.Places.{Places}
 use Rattle.code_model.specs.declared.places.CallSite.{CallSite}

@@ -1,22 +1,22 @@
 -- Where flash holds the bytes of pieces, they stand there.
 use Rattle.std.proofs.Common.{◌≡◌, ℕ, ◌+◌, ◌/◌, ◌%◌, ◌^◌, ◌<◌, List, [], ◌∷◌, ◌++◌, length, Option, get_or, refl, sym, ◌∙◌, arith, subst, length-append}
 use Rattle.std.proofs.lemmas.List.{get_or-append-add, append-nil}
-use Rattle.words.specs.Bytes.{read}
-use Rattle.thumb_model.specs.declared.table.Instr.{Instr}
-use Rattle.thumb_model.specs.Table.{InTable, encode}
-use Rattle.thumb_model.specs.Bytes.{bytes_of_half, bytes_of_code}
-use Rattle.thumb_model.proofs.Codes.{length-bytes_of_code}
-use Rattle.thumb_asm.specs.declared.item.Item.{Item}
-use Rattle.thumb_asm.specs.declared.item.Item.TheVariants.{Plain, Branch, Half, Word}
-use Rattle.thumb_asm.specs.Assembly.{branch_size, size_of, place_of}
-use Rattle.thumb_asm.specs.Finished.{branch, bytes_at, bytes_from}
-use Rattle.device_model.specs.declared.image.Image.{Image}
-use Rattle.device_model.specs.Rules.{ObeysRules}
-use Rattle.mem_bus.proofs.Offsets.{in_flash}
-use Rattle.armv7m.specs.Code.{size, HoldsHalf, Lies}
-use Rattle.armv7m.specs.CodeBytes.{HoldsBytes}
-use Rattle.armv7m.proofs.CodeParts.{width-encode}
-use Rattle.armv7m.proofs.CodeBytes.{bytes_are_code, bytes_first as first_bytes}
+use Rattle.base_words.specs.Bytes.{read}
+use Rattle.machine_thumb.specs.declared.table.Instr.{Instr}
+use Rattle.machine_thumb.specs.Table.{InTable, encode}
+use Rattle.machine_thumb.specs.Bytes.{bytes_of_half, bytes_of_code}
+use Rattle.machine_thumb.proofs.Codes.{length-bytes_of_code}
+use Rattle.machine_thumb_asm.specs.declared.item.Item.{Item}
+use Rattle.machine_thumb_asm.specs.declared.item.Item.TheVariants.{Plain, Branch, Half, Word}
+use Rattle.machine_thumb_asm.specs.Assembly.{branch_size, size_of, place_of}
+use Rattle.machine_thumb_asm.specs.Finished.{branch, bytes_at, bytes_from}
+use Rattle.machine_devices.specs.declared.image.Image.{Image}
+use Rattle.machine_devices.specs.Rules.{ObeysRules}
+use Rattle.machine_bus.proofs.Offsets.{in_flash}
+use Rattle.machine_model.specs.Code.{size, HoldsHalf, Lies}
+use Rattle.machine_model.specs.CodeBytes.{HoldsBytes}
+use Rattle.machine_model.proofs.CodeParts.{width-encode}
+use Rattle.machine_model.proofs.CodeBytes.{bytes_are_code, bytes_first as first_bytes}
 use Rattle.code_effects.specs.Items.{ItemsIn, InstructionsInTable, ItemsStand}
 use Rattle.code_effects.proofs.Assembled.{in_table}
 use Rattle.code_effects.proofs.Items.{branch_size_is, parts_in, parts_at, plain_code, may_run}

@@ -1,20 +1,20 @@
 -- Pieces that stand in memory: their parts, and where they stand by their bytes.
 use Rattle.std.proofs.Common.{◌≡◌, ℕ, ◌+◌, ◌<◌, ◌≤◌, true, List, [], ◌∷◌, ◌++◌, Option, refl, arith, subst}
-use Rattle.thumb_model.specs.declared.table.Instr.{Instr}
-use Rattle.thumb_asm.specs.declared.item.BranchKind.{BranchKind}
-use Rattle.thumb_asm.specs.declared.item.BranchKind.TheVariants.{Cond, Short, Long, Link}
-use Rattle.thumb_asm.specs.declared.item.Item.{Item}
-use Rattle.thumb_asm.specs.declared.item.Item.TheVariants.{Plain, Branch, Half, Word}
-use Rattle.thumb_asm.specs.Assembly.{branch_size, total, place_of}
-use Rattle.thumb_asm.specs.Finished.{branch}
-use Rattle.mpu_model.specs.declared.region.Access.TheVariants.{Fetch}
-use Rattle.device_model.specs.declared.image.Image.{Image}
-use Rattle.armv7m.specs.declared.state.ProtectionState.{ProtectionState}
-use Rattle.armv7m.specs.State.{PermissionTest}
-use Rattle.armv7m.specs.Code.{size, Lies, Stands, CodeAt}
-use Rattle.armv7m.specs.Running.{code_size}
-use Rattle.armv7m.proofs.Exec.{code_may_run}
-use Rattle.armv7m.proofs.CodeParts.{width-encode}
+use Rattle.machine_thumb.specs.declared.table.Instr.{Instr}
+use Rattle.machine_thumb_asm.specs.declared.item.BranchKind.{BranchKind}
+use Rattle.machine_thumb_asm.specs.declared.item.BranchKind.TheVariants.{Cond, Short, Long, Link}
+use Rattle.machine_thumb_asm.specs.declared.item.Item.{Item}
+use Rattle.machine_thumb_asm.specs.declared.item.Item.TheVariants.{Plain, Branch, Half, Word}
+use Rattle.machine_thumb_asm.specs.Assembly.{branch_size, total, place_of}
+use Rattle.machine_thumb_asm.specs.Finished.{branch}
+use Rattle.machine_protection.specs.declared.region.Access.TheVariants.{Fetch}
+use Rattle.machine_devices.specs.declared.image.Image.{Image}
+use Rattle.machine_model.specs.declared.state.ProtectionState.{ProtectionState}
+use Rattle.machine_model.specs.State.{PermissionTest}
+use Rattle.machine_model.specs.Code.{size, Lies, Stands, CodeAt}
+use Rattle.machine_model.specs.Running.{code_size}
+use Rattle.machine_model.proofs.Exec.{code_may_run}
+use Rattle.machine_model.proofs.CodeParts.{width-encode}
 use Rattle.code_model.specs.Words.{plain}
 use Rattle.code_effects.specs.Items.{ItemsIn, ItemsAt}
 

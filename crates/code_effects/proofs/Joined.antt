@@ -1,13 +1,13 @@
 -- Runs from point to point, by runs from state to state.
 use Rattle.std.proofs.Common.{◌≡◌, ℕ, ◌+◌, List, [], ◌∷◌, ◌++◌, length, Option, refl, arith}
-use Rattle.words.specs.declared.conditions.Flags.{Flags}
-use Rattle.device_model.specs.declared.image.Image.{Image}
-use Rattle.events.specs.declared.event.Event.{Event}
-use Rattle.armv7m.specs.declared.state.End.{End}
-use Rattle.armv7m.specs.State.{State, PermissionTest}
-use Rattle.armv7m.specs.Code.{Runs}
-use Rattle.armv7m.specs.RunningCode.{Context, works}
-use Rattle.armv7m.proofs.Exec.{onward}
+use Rattle.base_words.specs.declared.conditions.Flags.{Flags}
+use Rattle.machine_devices.specs.declared.image.Image.{Image}
+use Rattle.base_events.specs.declared.event.Event.{Event}
+use Rattle.machine_model.specs.declared.state.End.{End}
+use Rattle.machine_model.specs.State.{State, PermissionTest}
+use Rattle.machine_model.specs.Code.{Runs}
+use Rattle.machine_model.specs.RunningCode.{Context, works}
+use Rattle.machine_model.proofs.Exec.{onward}
 use Rattle.code_effects.specs.Points.{Point, Holds, state_at, Arrives, Leads, Reaches, Finishes, RunsJoin}
 use Rattle.code_effects.proofs.Registers.{holds_nothing}
 

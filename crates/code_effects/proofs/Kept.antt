@@ -1,7 +1,7 @@
 -- Memory outside of a range stays.
 use Rattle.std.proofs.Common.{◌≡◌, ◌≤◌, ◌+◌, ◌⊎◌, ℕ, List, length, ⊎_elim, refl, ◌∙◌, arith}
-use Rattle.words.specs.Bytes.{read, write}
-use Rattle.words.proofs.Bytes.{length-write, read_below, read_above}
+use Rattle.base_words.specs.Bytes.{read, write}
+use Rattle.base_words.proofs.Bytes.{length-write, read_below, read_above}
 
 pub record Kept (lo hi : ℕ) (old new : List ℕ) : Type 0 where
   pub reads : (w a : ℕ) → (a + w ≤ lo) ⊎ (hi ≤ a) → read w a new ≡ read w a old

@@ -1,12 +1,12 @@
 -- A number into a word of the frame, and r0 into one.
 use Rattle.std.proofs.Common.{◌≡◌, ℕ, ◌+◌, ◌*◌, ◌^◌, ◌<◌, [], ◌∷◌, ◌++◌, refl, sym, subst, arith}
-use Rattle.words.specs.Bytes.{write}
-use Rattle.device_model.specs.declared.image.Image.{Image}
-use Rattle.armv7m.specs.State.{PermissionTest}
-use Rattle.armv7m.specs.Code.{Stands, CodeAt}
-use Rattle.armv7m.proofs.Exec.{stay, next_step, onward}
-use Rattle.armv7m.proofs.Transfers.{str_sp}
-use Rattle.armv7m.proofs.Constants.{word_into}
+use Rattle.base_words.specs.Bytes.{write}
+use Rattle.machine_devices.specs.declared.image.Image.{Image}
+use Rattle.machine_model.specs.State.{PermissionTest}
+use Rattle.machine_model.specs.Code.{Stands, CodeAt}
+use Rattle.machine_model.proofs.Exec.{stay, next_step, onward}
+use Rattle.machine_model.proofs.Transfers.{str_sp}
+use Rattle.machine_model.proofs.Constants.{word_into}
 use Rattle.code_model.specs.Words.{word_into as word_code, save}
 use Rattle.code_effects.specs.Points.{Point, known, Leads, Arrives, state_at}
 use Rattle.code_effects.specs.Frames.{HasFrame}

@@ -1,23 +1,23 @@
 -- The code of numbers, of copies, and of operations on two numbers.
 use Rattle.std.specs.Prelude.{bit_and, bit_or, bit_xor}
 use Rattle.std.proofs.Common.{◌≡◌, ℕ, ◌+◌, ◌*◌, ◌^◌, ◌<◌, List, [], ◌∷◌, Option, refl, arith}
-use Rattle.words.specs.declared.conditions.Flags.{Flags}
-use Rattle.words.specs.Arithmetic.{add, subtract, multiply, unsigned_quotient, signed_quotient, unsigned_remainder, signed_remainder, bit_clear, shift_left, shift_right, shift_right_signed, shifted_left_carry, shifted_right_carry, shifted_right_signed_carry}
-use Rattle.words.specs.Flags.{result_flags, add_flags, compare_flags}
-use Rattle.words.specs.Bytes.{write}
-use Rattle.words.proofs.Bytes.{read_fits}
-use Rattle.thumb_model.specs.declared.table.Instr.{Instr}
-use Rattle.thumb_model.specs.declared.table.Instr.TheVariants.{AddSubRegister, DataRegister, Divide}
-use Rattle.device_model.specs.declared.image.Image.{Image}
-use Rattle.armv7m.specs.State.{PermissionTest}
-use Rattle.armv7m.specs.declared.answers.Outcome.TheVariants.{Gives}
-use Rattle.armv7m.specs.DataOperations.{operation as operated}
-use Rattle.armv7m.specs.Code.{size, Stands, CodeAt, Steps}
-use Rattle.armv7m.specs.RunningCode.{works}
-use Rattle.armv7m.proofs.Exec.{stay, next_step}
-use Rattle.armv7m.proofs.InstructionEffects.{operation_gives, udiv, sdiv}
-use Rattle.armv7m.proofs.Transfers.{ldr_sp, str_sp}
-use Rattle.armv7m.proofs.Constants.{adds, subs}
+use Rattle.base_words.specs.declared.conditions.Flags.{Flags}
+use Rattle.base_words.specs.Arithmetic.{add, subtract, multiply, unsigned_quotient, signed_quotient, unsigned_remainder, signed_remainder, bit_clear, shift_left, shift_right, shift_right_signed, shifted_left_carry, shifted_right_carry, shifted_right_signed_carry}
+use Rattle.base_words.specs.Flags.{result_flags, add_flags, compare_flags}
+use Rattle.base_words.specs.Bytes.{write}
+use Rattle.base_words.proofs.Bytes.{read_fits}
+use Rattle.machine_thumb.specs.declared.table.Instr.{Instr}
+use Rattle.machine_thumb.specs.declared.table.Instr.TheVariants.{AddSubRegister, DataRegister, Divide}
+use Rattle.machine_devices.specs.declared.image.Image.{Image}
+use Rattle.machine_model.specs.State.{PermissionTest}
+use Rattle.machine_model.specs.declared.answers.Outcome.TheVariants.{Gives}
+use Rattle.machine_model.specs.DataOperations.{operation as operated}
+use Rattle.machine_model.specs.Code.{size, Stands, CodeAt, Steps}
+use Rattle.machine_model.specs.RunningCode.{works}
+use Rattle.machine_model.proofs.Exec.{stay, next_step}
+use Rattle.machine_model.proofs.InstructionEffects.{operation_gives, udiv, sdiv}
+use Rattle.machine_model.proofs.Transfers.{ldr_sp, str_sp}
+use Rattle.machine_model.proofs.Constants.{adds, subs}
 use Rattle.ir_model.specs.declared.firmware.BinOp.{BinOp}
 use Rattle.ir_model.specs.declared.firmware.BinOp.TheVariants.{Add, Sub, Mul, Udiv, Sdiv, Urem, Srem, And, Or, Xor, Bic, Shl, Shr, Sar}
 use Rattle.ir_model.specs.Resolved.{NumberedFunc, Const, Move, Bin}

@@ -2,14 +2,14 @@
 use Rattle.std.proofs.Common.{◌≡◌, ℕ, ◌+◌, ◌-◌, ◌*◌, ◌%◌, ◌^◌, ◌<◌, Bool, true, false, nat_le, if◌then◌else◌, List, [], ◌∷◌, ◌++◌, length, Option, Some, None, refl, inl, inr, subst, arith}
 use Rattle.std.proofs.lemmas.Bool.{cases_lt}
 use Rattle.std.proofs.lemmas.Bool.Decides.{nat_tests}
-use Rattle.thumb_model.specs.declared.table.Instr.TheVariants.{PushPop}
-use Rattle.device_model.specs.declared.image.Image.{Image}
-use Rattle.armv7m.specs.State.{PermissionTest}
-use Rattle.armv7m.specs.Code.{Stands, CodeAt}
-use Rattle.armv7m.specs.Running.{code_size}
-use Rattle.armv7m.proofs.Exec.{stay, next_step}
-use Rattle.armv7m.proofs.CodeParts.{code_size-append, code_at-append}
-use Rattle.armv7m.proofs.Transfers.{ldr_sp, add_sp, pop_pc}
+use Rattle.machine_thumb.specs.declared.table.Instr.TheVariants.{PushPop}
+use Rattle.machine_devices.specs.declared.image.Image.{Image}
+use Rattle.machine_model.specs.State.{PermissionTest}
+use Rattle.machine_model.specs.Code.{Stands, CodeAt}
+use Rattle.machine_model.specs.Running.{code_size}
+use Rattle.machine_model.proofs.Exec.{stay, next_step}
+use Rattle.machine_model.proofs.CodeParts.{code_size-append, code_at-append}
+use Rattle.machine_model.proofs.Transfers.{ldr_sp, add_sp, pop_pc}
 use Rattle.ir_model.specs.Resolved.{NumberedFunc, Ret}
 use Rattle.code_model.specs.declared.places.Places.{Places}
 use Rattle.code_model.specs.FrameShape.{frame_shape}

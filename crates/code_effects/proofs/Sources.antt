@@ -1,8 +1,8 @@
 -- The code of an instruction that sets a register does what the source's step does.
 use Rattle.std.proofs.Common.{Bool, true, false, ◌≡◌, ℕ, ◌+◌, ◌*◌, ◌^◌, ◌<◌, ◌≤◌, List, [], Option, refl, ap, ◌∙◌, subst, arith, rules}
-use Rattle.words.specs.Arithmetic.{word}
-use Rattle.device_model.specs.declared.image.Image.{Image}
-use Rattle.armv7m.specs.State.{PermissionTest}
+use Rattle.base_words.specs.Arithmetic.{word}
+use Rattle.machine_devices.specs.declared.image.Image.{Image}
+use Rattle.machine_model.specs.State.{PermissionTest}
 use Rattle.ir_model.specs.declared.firmware.BinOp.{BinOp}
 use Rattle.ir_model.specs.declared.firmware.BinOp.TheVariants.{Urem, Srem}
 use Rattle.ir_model.specs.Resolved.{Value, Number, Code, Null, At, Instance, TheGlobal, ThePeriph, TheLocal, NumberedFunc, NumberedInst, Const, Move, Bin, Cmp, Addr, FAddr, Elem, Field, Load, Store, Call, ICall}

@@ -2,17 +2,17 @@
 -- What the code of loads and stores does, by where the pointer leads.
 use Rattle.std.specs.Prelude.{◌≡◌, ℕ, ◌+◌, ◌*◌, ◌%◌, ◌<◌, List, [], ◌∷◌, Option, Some, None, true, is_some}
 use Rattle.std.proofs.Math.ListN.{get_or, set}
-use Rattle.words.specs.Bytes.{read, write, cut}
-use Rattle.thumb_model.specs.declared.table.Instr.TheVariants.{TransferImmediate}
-use Rattle.mpu_model.specs.declared.region.Access.{Access}
-use Rattle.mpu_model.specs.declared.region.Access.TheVariants.{Read, Write}
-use Rattle.device_model.specs.declared.image.Image.{Image}
-use Rattle.mem_bus.specs.Places.{Place, InRam, InFlash, InWindow, place}
-use Rattle.armv7m.specs.declared.state.End.TheVariants.{InputEnd}
-use Rattle.armv7m.specs.State.{PermissionTest}
-use Rattle.armv7m.specs.Code.{Stands}
-use Rattle.armv7m.specs.Events.{input_event, output_event}
-use Rattle.armv7m.specs.RunningCode.{IsLoad, IsStore}
+use Rattle.base_words.specs.Bytes.{read, write, cut}
+use Rattle.machine_thumb.specs.declared.table.Instr.TheVariants.{TransferImmediate}
+use Rattle.machine_protection.specs.declared.region.Access.{Access}
+use Rattle.machine_protection.specs.declared.region.Access.TheVariants.{Read, Write}
+use Rattle.machine_devices.specs.declared.image.Image.{Image}
+use Rattle.machine_bus.specs.Places.{Place, InRam, InFlash, InWindow, place}
+use Rattle.machine_model.specs.declared.state.End.TheVariants.{InputEnd}
+use Rattle.machine_model.specs.State.{PermissionTest}
+use Rattle.machine_model.specs.Code.{Stands}
+use Rattle.machine_model.specs.Events.{input_event, output_event}
+use Rattle.machine_model.specs.RunningCode.{IsLoad, IsStore}
 use Rattle.ir_model.specs.Types.{PlainType, width_of}
 use Rattle.ir_model.specs.Resolved.{NumberedFunc, Load, Store}
 use Rattle.code_model.specs.declared.places.Places.{Places}

@@ -2,9 +2,9 @@
 -- What the code of addresses, of elements and of fields does.
 use Rattle.std.specs.Prelude.{◌≡◌, ℕ, ◌+◌, ◌*◌, ◌^◌, ◌<◌, ◌≤◌, List, [], Option}
 use Rattle.std.proofs.Math.ListN.{get_or}
-use Rattle.words.specs.Arithmetic.{word}
-use Rattle.device_model.specs.declared.image.Image.{Image}
-use Rattle.armv7m.specs.State.{PermissionTest}
+use Rattle.base_words.specs.Arithmetic.{word}
+use Rattle.machine_devices.specs.declared.image.Image.{Image}
+use Rattle.machine_model.specs.State.{PermissionTest}
 use Rattle.ir_model.specs.Resolved.{NumberedFunc, Named, TheGlobal, ThePeriph, TheLocal, Addr, FAddr, Elem, Field}
 use Rattle.code_model.specs.declared.places.Places.{Places}
 use Rattle.code_model.specs.Places.{global_address, window_address, entry_address}

@@ -1,9 +1,9 @@
 -- Beyond the program's claim: only laws, proofs and functions inside the tool cite this file.
 -- What the code at a block's end does, where the run stays in the function. Block b of the function is label first + b.
 use Rattle.std.specs.Prelude.{ℕ, ◌+◌, ◌^◌, ◌<◌, List, [], Option, nat_eq, if◌then◌else◌}
-use Rattle.device_model.specs.declared.image.Image.{Image}
-use Rattle.thumb_asm.specs.Assembly.{place_of}
-use Rattle.armv7m.specs.State.{PermissionTest}
+use Rattle.machine_devices.specs.declared.image.Image.{Image}
+use Rattle.machine_thumb_asm.specs.Assembly.{place_of}
+use Rattle.machine_model.specs.State.{PermissionTest}
 use Rattle.ir_model.specs.Resolved.{NumberedFunc, Jump, Branch}
 use Rattle.code_model.specs.declared.places.Places.{Places}
 use Rattle.code_effects.specs.Points.{Point, Leads}

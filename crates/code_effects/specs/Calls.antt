@@ -2,10 +2,10 @@
 -- What the code of calls does, up to the callee's entry and from its return on. A call that may go to another compartment is an SVC:
 -- for it there are the halves before and behind.
 use Rattle.std.specs.Prelude.{◌≡◌, ℕ, ◌+◌, ◌*◌, ◌%◌, ◌^◌, ◌<◌, ◌≤◌, List, [], ◌∷◌, length, map, Option, Some, None, is_some, false}
-use Rattle.words.specs.Bytes.{write}
-use Rattle.device_model.specs.declared.image.Image.{Image}
-use Rattle.armv7m.specs.State.{PermissionTest}
-use Rattle.armv7m.specs.Code.{HoldsHalf, Stands}
+use Rattle.base_words.specs.Bytes.{write}
+use Rattle.machine_devices.specs.declared.image.Image.{Image}
+use Rattle.machine_model.specs.State.{PermissionTest}
+use Rattle.machine_model.specs.Code.{HoldsHalf, Stands}
 use Rattle.ir_model.specs.Resolved.{NumberedFunc, Call, ICall}
 use Rattle.code_model.specs.declared.places.Places.{Places}
 use Rattle.code_model.specs.Places.{entry_address}

@@ -2,10 +2,10 @@
 -- The code of a compartment that stands at its base: where each of its functions stands, and where the labels of blocks lead.
 use Rattle.std.specs.Prelude.{◌≡◌, ℕ, ◌+◌, ◌<◌, length}
 use Rattle.std.proofs.Math.ListN.{get_or}
-use Rattle.thumb_asm.specs.Assembly.{place_of}
-use Rattle.device_model.specs.declared.image.Image.{Image}
-use Rattle.armv7m.specs.declared.state.ProtectionState.{ProtectionState}
-use Rattle.armv7m.specs.State.{PermissionTest}
+use Rattle.machine_thumb_asm.specs.Assembly.{place_of}
+use Rattle.machine_devices.specs.declared.image.Image.{Image}
+use Rattle.machine_model.specs.declared.state.ProtectionState.{ProtectionState}
+use Rattle.machine_model.specs.State.{PermissionTest}
 use Rattle.ir_model.specs.Resolved.{Program, func_at}
 use Rattle.code_model.specs.Sizes.{place_offset}
 use Rattle.code_model.specs.FunctionCode.{lent, function_items}

@@ -2,11 +2,11 @@
 -- What the code at a function's entry does. `w` words of the frame lie below the return address.
 use Rattle.std.specs.Prelude.{◌≡◌, ℕ, suc, ◌+◌, ◌*◌, ◌^◌, ◌<◌, ◌≤◌, ◌⊎◌, List, [], ◌∷◌, length, Option, nat_le, if◌then◌else◌}
 use Rattle.std.proofs.Math.ListN.{get_or}
-use Rattle.words.specs.Bytes.{read, cut}
-use Rattle.device_model.specs.declared.image.Image.{Image}
-use Rattle.armv7m.specs.State.{PermissionTest}
-use Rattle.armv7m.specs.Code.{Stands}
-use Rattle.armv7m.specs.Stack.{Room}
+use Rattle.base_words.specs.Bytes.{read, cut}
+use Rattle.machine_devices.specs.declared.image.Image.{Image}
+use Rattle.machine_model.specs.State.{PermissionTest}
+use Rattle.machine_model.specs.Code.{Stands}
+use Rattle.machine_model.specs.Stack.{Room}
 use Rattle.ir_model.specs.Resolved.{NumberedFunc}
 use Rattle.ir_model.specs.Signatures.{row_length}
 use Rattle.code_model.specs.declared.places.Places.{Places}

@@ -2,10 +2,10 @@
 -- The frame of a running function, and the code of its instructions where it stands. Words of a frame are counted from the stack
 -- pointer on, which stands `o` bytes behind RAM's base.
 use Rattle.std.specs.Prelude.{ℕ, ◌+◌, ◌*◌, List, [], Option, is_some}
-use Rattle.words.specs.Bytes.{read, write}
-use Rattle.device_model.specs.declared.image.Image.{Image}
-use Rattle.armv7m.specs.State.{PermissionTest}
-use Rattle.armv7m.specs.Stack.{Room}
+use Rattle.base_words.specs.Bytes.{read, write}
+use Rattle.machine_devices.specs.declared.image.Image.{Image}
+use Rattle.machine_model.specs.State.{PermissionTest}
+use Rattle.machine_model.specs.Stack.{Room}
 use Rattle.ir_model.specs.Resolved.{NumberedInst, NumberedTerm, NumberedFunc}
 use Rattle.code_model.specs.declared.places.Places.{Places}
 use Rattle.code_model.specs.Templates.{entry_items, inst_items, term_items}

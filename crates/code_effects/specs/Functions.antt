@@ -2,9 +2,9 @@
 -- The code of a whole function that stands at an address: where the code of each place stands, and how places follow each other.
 use Rattle.std.specs.Prelude.{◌≡◌, ℕ, suc, ◌+◌, ◌<◌, ◌≤◌, List, length, Option, Some, None}
 use Rattle.std.proofs.Math.ListN.{get_or}
-use Rattle.device_model.specs.declared.image.Image.{Image}
-use Rattle.armv7m.specs.declared.state.ProtectionState.{ProtectionState}
-use Rattle.armv7m.specs.State.{PermissionTest}
+use Rattle.machine_devices.specs.declared.image.Image.{Image}
+use Rattle.machine_model.specs.declared.state.ProtectionState.{ProtectionState}
+use Rattle.machine_model.specs.State.{PermissionTest}
 use Rattle.ir_model.specs.Resolved.{NumberedInst, NumberedFunc, Does, no_block}
 use Rattle.ir_model.specs.Signatures.{here_of}
 use Rattle.code_model.specs.declared.places.Places.{Places}

@@ -1,19 +1,19 @@
 -- Beyond the program's claim: only laws, proofs and functions inside the tool cite this file.
 -- Pieces of an assembly that stand in memory. `labels` has the address of each label that was put, and `at` is the first piece's.
 use Rattle.std.specs.Prelude.{◌≡◌, ℕ, ◌+◌, ◌/◌, ◌%◌, ◌^◌, ◌<◌, ◌≤◌, List, [], ◌∷◌, ◌++◌, Option, true, None}
-use Rattle.thumb_model.specs.declared.table.Instr.{Instr}
-use Rattle.thumb_model.specs.Table.{InTable}
-use Rattle.thumb_asm.specs.declared.item.Item.{Item}
-use Rattle.thumb_asm.specs.declared.item.Item.TheVariants.{Plain, Branch, Half, Word}
-use Rattle.thumb_asm.specs.Assembly.{Assembly, branch_size, total, place_of, ArePut, IsAssembly}
-use Rattle.thumb_asm.specs.Finished.{branch, first_far, bytes_from}
-use Rattle.mpu_model.specs.declared.region.Access.TheVariants.{Fetch}
-use Rattle.device_model.specs.declared.image.Image.{Image}
-use Rattle.device_model.specs.Rules.{ObeysRules}
-use Rattle.armv7m.specs.declared.state.ProtectionState.{ProtectionState}
-use Rattle.armv7m.specs.State.{PermissionTest}
-use Rattle.armv7m.specs.Code.{size, HoldsHalf, Lies, Stands, CodeAt}
-use Rattle.armv7m.specs.CodeBytes.{HoldsBytes}
+use Rattle.machine_thumb.specs.declared.table.Instr.{Instr}
+use Rattle.machine_thumb.specs.Table.{InTable}
+use Rattle.machine_thumb_asm.specs.declared.item.Item.{Item}
+use Rattle.machine_thumb_asm.specs.declared.item.Item.TheVariants.{Plain, Branch, Half, Word}
+use Rattle.machine_thumb_asm.specs.Assembly.{Assembly, branch_size, total, place_of, ArePut, IsAssembly}
+use Rattle.machine_thumb_asm.specs.Finished.{branch, first_far, bytes_from}
+use Rattle.machine_protection.specs.declared.region.Access.TheVariants.{Fetch}
+use Rattle.machine_devices.specs.declared.image.Image.{Image}
+use Rattle.machine_devices.specs.Rules.{ObeysRules}
+use Rattle.machine_model.specs.declared.state.ProtectionState.{ProtectionState}
+use Rattle.machine_model.specs.State.{PermissionTest}
+use Rattle.machine_model.specs.Code.{size, HoldsHalf, Lies, Stands, CodeAt}
+use Rattle.machine_model.specs.CodeBytes.{HoldsBytes}
 use Rattle.code_model.specs.Words.{plain}
 
 -- flash holds them, each branch being one to its label

@@ -1,8 +1,8 @@
 -- Beyond the program's claim: only laws, proofs and functions inside the tool cite this file.
 -- What the code of numbers, of copies, and of operations on two numbers does.
 use Rattle.std.specs.Prelude.{ℕ, ◌^◌, ◌<◌, List, [], Option}
-use Rattle.device_model.specs.declared.image.Image.{Image}
-use Rattle.armv7m.specs.State.{PermissionTest}
+use Rattle.machine_devices.specs.declared.image.Image.{Image}
+use Rattle.machine_model.specs.State.{PermissionTest}
 use Rattle.ir_model.specs.declared.firmware.BinOp.{BinOp}
 use Rattle.ir_model.specs.declared.firmware.BinOp.TheVariants.{Urem, Srem}
 use Rattle.ir_model.specs.Resolved.{NumberedFunc, Const, Move, Bin}

@@ -2,15 +2,15 @@
 -- Where a thread stands in generated code, and runs from one such point to another.
 use Rattle.std.specs.Prelude.{◌≡◌, ℕ, ◌+◌, List, [], ◌++◌, length, map, Option, Some, None}
 use Rattle.std.proofs.Math.ListN.{get_or, set}
-use Rattle.words.specs.declared.conditions.Flags.{Flags}
-use Rattle.device_model.specs.declared.image.Image.{Image}
-use Rattle.events.specs.declared.event.Event.{Event}
-use Rattle.device_model.specs.Rules.{ObeysRules}
-use Rattle.armv7m.specs.declared.state.End.{End}
-use Rattle.armv7m.specs.State.{State, PermissionTest}
-use Rattle.armv7m.specs.Code.{Runs}
-use Rattle.armv7m.specs.Shape.{StateFits}
-use Rattle.armv7m.specs.RunningCode.{Context, works}
+use Rattle.base_words.specs.declared.conditions.Flags.{Flags}
+use Rattle.machine_devices.specs.declared.image.Image.{Image}
+use Rattle.base_events.specs.declared.event.Event.{Event}
+use Rattle.machine_devices.specs.Rules.{ObeysRules}
+use Rattle.machine_model.specs.declared.state.End.{End}
+use Rattle.machine_model.specs.State.{State, PermissionTest}
+use Rattle.machine_model.specs.Code.{Runs}
+use Rattle.machine_model.specs.Shape.{StateFits}
+use Rattle.machine_model.specs.RunningCode.{Context, works}
 
 -- what is known of a thread between two of its instructions. `registers` has what r0 and the registers behind it hold, as far as that
 -- is known: no code counts on the others, nor on the flags

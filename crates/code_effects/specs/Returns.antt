@@ -1,9 +1,9 @@
 -- Beyond the program's claim: only laws, proofs and functions inside the tool cite this file.
 -- What the code of a return does. `w` words of the frame lie below the return address.
 use Rattle.std.specs.Prelude.{◌≡◌, ℕ, ◌+◌, ◌*◌, ◌%◌, ◌<◌, List, [], ◌∷◌, Option, Some, None, nat_le, if◌then◌else◌}
-use Rattle.device_model.specs.declared.image.Image.{Image}
-use Rattle.armv7m.specs.State.{PermissionTest}
-use Rattle.armv7m.specs.Code.{Stands}
+use Rattle.machine_devices.specs.declared.image.Image.{Image}
+use Rattle.machine_model.specs.State.{PermissionTest}
+use Rattle.machine_model.specs.Code.{Stands}
 use Rattle.ir_model.specs.Resolved.{NumberedFunc, Ret}
 use Rattle.code_model.specs.declared.places.Places.{Places}
 use Rattle.code_model.specs.FrameShape.{frame_shape}

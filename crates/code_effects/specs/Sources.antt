@@ -2,9 +2,9 @@
 -- The code of an instruction that sets a register does what the source's step does: where the words of the frame are those of the
 -- source's registers, it leads to the frame with the new value's word in that register.
 use Rattle.std.specs.Prelude.{◌≡◌, ℕ, ◌+◌, ◌^◌, ◌<◌, ◌≤◌, List, [], Option}
-use Rattle.words.specs.Arithmetic.{word}
-use Rattle.device_model.specs.declared.image.Image.{Image}
-use Rattle.armv7m.specs.State.{PermissionTest}
+use Rattle.base_words.specs.Arithmetic.{word}
+use Rattle.machine_devices.specs.declared.image.Image.{Image}
+use Rattle.machine_model.specs.State.{PermissionTest}
 use Rattle.ir_model.specs.Resolved.{Value, Number, Code, Null, At, Instance, OfGlobal, OfPeriph, OfLocal, Named, TheGlobal, ThePeriph, TheLocal, NumberedFunc, NumberedInst, Const, Move, Bin, Cmp, Addr, FAddr, Elem, Field}
 use Rattle.ir_model.specs.State.{Frame}
 use Rattle.ir_model.specs.Step.{register, Sets, act}

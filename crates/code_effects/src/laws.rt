@@ -1,8 +1,8 @@
 //! What the code of each template does: functions that do nothing, whose contract is the law.
 
 ghost use Rattle.std.specs.Prelude.{ℕ, List, Option};
-ghost use Rattle.device_model.specs.declared.image.Image.{Image};
-ghost use Rattle.armv7m.specs.State.{PermissionTest};
+ghost use Rattle.machine_devices.specs.declared.image.Image.{Image};
+ghost use Rattle.machine_model.specs.State.{PermissionTest};
 ghost use Rattle.ir_model.specs.Resolved.{NumberedFunc};
 ghost use Rattle.code_model.specs.declared.places.Places.{Places};
 ghost use Rattle.code_effects.specs.Points.{Point, RunsJoin, RunsFit};
@@ -24,7 +24,7 @@ pub fn runs()
     ensures join { RunsJoin }
     ensures fit { RunsFit }
 {
-    armv7m::running::shapes();
+    machine_model::running::shapes();
 }
 
 /// Pieces of an assembly stand where flash has their bytes, and so do their parts.
@@ -55,7 +55,7 @@ pub fn comparisons()
     ensures { (j : PermissionTest) (i : Image) (g : NumberedFunc) (q : Places) (labels : List (Option ℕ)) (site : Option ℕ) (p : Point) (o n : ℕ) →
         ComparisonEffects j i g q labels site p o n }
 {
-    words::laws::comparisons();
+    base_words::laws::comparisons();
 }
 
 /// Addresses, elements and fields; and offsets in an object are added as the source adds them.
@@ -70,7 +70,7 @@ pub fn sources()
     ensures { (j : PermissionTest) (i : Image) (g : NumberedFunc) (q : Places) (labels : List (Option ℕ)) (site : Option ℕ) (p : Point) (o n : ℕ) →
         SourceEffects j i g q labels site p o n }
 {
-    words::laws::comparisons();
+    base_words::laws::comparisons();
 }
 
 /// Loads and stores in RAM, flash and windows, of each width; and the halves before and behind an access that a handler makes.
@@ -87,7 +87,7 @@ pub fn branches()
     ensures { (j : PermissionTest) (i : Image) (g : NumberedFunc) (q : Places) (labels : List (Option ℕ)) (first : ℕ) (p : Point) (o n : ℕ) →
         BranchEffects j i g q labels first p o n }
 {
-    words::laws::comparisons();
+    base_words::laws::comparisons();
 }
 
 /// Calls and indirect calls: within a compartment up to the callee's entry, across up to the SVC, and from the return on.

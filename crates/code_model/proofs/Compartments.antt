@@ -1,7 +1,7 @@
 -- The code of a compartment has its size, and entries stand at multiples of four.
 use Rattle.std.proofs.Common.{◌≡◌, ℕ, ◌+◌, ◌%◌, List, [], ◌∷◌, ◌++◌, length, get_or, flat_map, nat_eq, refl, arith}
-use Rattle.thumb_asm.specs.declared.item.Item.{Item}
-use Rattle.thumb_asm.specs.Assembly.{total}
+use Rattle.machine_thumb_asm.specs.declared.item.Item.{Item}
+use Rattle.machine_thumb_asm.specs.Assembly.{total}
 use Rattle.ir_model.specs.Resolved.{Program, func_at}
 use Rattle.code_model.specs.FrameShape.{local_starts}
 use Rattle.code_model.specs.Places.{lends_among}
@@ -10,7 +10,7 @@ use Rattle.code_model.specs.CompartmentCode.{CodeGroups, CodePlaces, filled_size
 use Rattle.code_model.specs.Laws.{CompartmentsHold}
 use Rattle.code_model.proofs.FunctionSizes.{function_total}
 use Rattle.code_model.proofs.Even.{function_even}
-use Rattle.thumb_asm.proofs.Items.{total-append}
+use Rattle.machine_thumb_asm.proofs.Items.{total-append}
 use Rattle.code_model.proofs.Filling.{filling_by}
 
 module _ (p : Program) (groups : CodeGroups) where

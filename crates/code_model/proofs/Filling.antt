@@ -1,7 +1,7 @@
 use Rattle.std.proofs.Common.{◌≡◌, ℕ, ◌+◌, ◌%◌, ◌≢◌, List, [], ◌∷◌, length, Bool, true, false, nat_eq, refl, arith, suc, ◌*◌}
 use Rattle.std.proofs.lemmas.Bool.{eqb-true, eqb-false}
-use Rattle.thumb_model.specs.Table.{encode}
-use Rattle.thumb_asm.specs.Assembly.{total}
+use Rattle.machine_thumb.specs.Table.{encode}
+use Rattle.machine_thumb_asm.specs.Assembly.{total}
 use Rattle.code_model.specs.CompartmentCode.{filled_size, filling}
 use Rattle.code_model.specs.Words.{plain}
 use Rattle.code_model.specs.Calls.{args_code}

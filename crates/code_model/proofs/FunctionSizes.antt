@@ -1,8 +1,8 @@
 -- The code of a whole function has the size that is told without addresses.
 use Rattle.std.proofs.Common.{◌≡◌, ℕ, suc, ◌+◌, List, [], ◌∷◌, flat_map, refl, arith}
 use Rattle.std.proofs.lemmas.List.Concat.{flat_map-append}
-use Rattle.thumb_asm.specs.declared.item.Item.{Item}
-use Rattle.thumb_asm.specs.Assembly.{total}
+use Rattle.machine_thumb_asm.specs.declared.item.Item.{Item}
+use Rattle.machine_thumb_asm.specs.Assembly.{total}
 use Rattle.ir_model.specs.Resolved.{NumberedInst, NumberedTerm, NumberedBlock, NumberedFunc}
 use Rattle.code_model.specs.declared.places.Places.{Places}
 use Rattle.code_model.specs.Places.{site_in, crosses}
@@ -11,7 +11,7 @@ use Rattle.code_model.specs.Sizes.{inst_size, term_size, insts_size, block_size,
 use Rattle.code_model.specs.FunctionCode.{lent, block_pieces, blocks_pieces, function_items}
 use Rattle.code_model.specs.Laws.{SizesHold}
 use Rattle.code_model.proofs.PieceSizes.{inst_total, term_total, entry_total}
-use Rattle.thumb_asm.proofs.Items.{total-append}
+use Rattle.machine_thumb_asm.proofs.Items.{total-append}
 
 module _ (g : NumberedFunc) (q : Places) where
   pub block_total : (first at b k : ℕ) (is : List NumberedInst) (t : NumberedTerm) →

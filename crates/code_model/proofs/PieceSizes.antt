@@ -1,12 +1,12 @@
 -- The code of each instruction, of each block's end and of an entry has the size that is told without addresses.
 use Rattle.std.proofs.Common.{◌≡◌, ℕ, ℤ, zero, suc, ◌+◌, ◌*◌, ◌-◌, List, [], ◌∷◌, ◌++◌, length, Bool, true, false, Option, Some, None, nat_le, refl, arith}
 use Rattle.std.specs.Prelude.{is_some}
-use Rattle.thumb_model.specs.Table.{encode}
-use Rattle.thumb_model.specs.declared.table.Instr.{Instr}
-use Rattle.thumb_model.specs.declared.table.Instr.TheVariants.{BranchLink, BranchExchange, PushPop}
-use Rattle.thumb_asm.specs.declared.item.Item.TheVariants.{Half}
-use Rattle.thumb_asm.specs.Assembly.{total}
-use Rattle.thumb_asm.specs.Finished.{distance}
+use Rattle.machine_thumb.specs.Table.{encode}
+use Rattle.machine_thumb.specs.declared.table.Instr.{Instr}
+use Rattle.machine_thumb.specs.declared.table.Instr.TheVariants.{BranchLink, BranchExchange, PushPop}
+use Rattle.machine_thumb_asm.specs.declared.item.Item.TheVariants.{Half}
+use Rattle.machine_thumb_asm.specs.Assembly.{total}
+use Rattle.machine_thumb_asm.specs.Finished.{distance}
 use Rattle.ir_model.specs.declared.firmware.BinOp.{BinOp}
 use Rattle.ir_model.specs.declared.firmware.BinOp.TheVariants.{Add, Sub, Mul, Udiv, Sdiv, Urem, Srem, And, Or, Xor, Bic, Shl, Shr, Sar}
 use Rattle.ir_model.specs.Types.{PlainType, U8, U16, U32, Pointer, Array, Named, Callee}
@@ -25,7 +25,7 @@ use Rattle.code_model.specs.Templates.{lends_of, entry_items, inst_items, term_i
 use Rattle.code_model.specs.Sizes.{bin_size, addr_size, save_size, call_size, icall_size, inst_size, adjust_size, term_size, entry_size}
 use Rattle.code_model.specs.FunctionCode.{lent}
 use Rattle.code_model.proofs.Totals.{total-plain-append}
-use Rattle.thumb_asm.proofs.Items.{total-append}
+use Rattle.machine_thumb_asm.proofs.Items.{total-append}
 use Rattle.code_model.proofs.Filling.{args_total}
 
 bin_total : (op : BinOp) (to a b : ℕ) → total (plain (bin_code op to a b)) ≡ bin_size op

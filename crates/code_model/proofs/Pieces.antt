@@ -1,9 +1,9 @@
 -- The code of a place stands in the function's code at the place's offset.
 use Rattle.std.proofs.Common.{◌≡◌, ℕ, zero, suc, ◌+◌, ◌-◌, ◌<◌, ◌≤◌, List, [], ◌∷◌, ◌++◌, length, take, get_or, flat_map, Some, refl, sym, ap, ◌∙◌, arith, append_assoc}
 use Rattle.std.proofs.lemmas.List.Concat.{flat_map-append}
-use Rattle.thumb_asm.specs.declared.item.Item.{Item}
-use Rattle.thumb_asm.specs.declared.item.Item.TheVariants.{Half}
-use Rattle.thumb_asm.specs.Assembly.{total}
+use Rattle.machine_thumb_asm.specs.declared.item.Item.{Item}
+use Rattle.machine_thumb_asm.specs.declared.item.Item.TheVariants.{Half}
+use Rattle.machine_thumb_asm.specs.Assembly.{total}
 use Rattle.ir_model.specs.Resolved.{NumberedInst, NumberedTerm, NumberedBlock, NumberedFunc, Here, Does, Ends, Const, Move, Bin, Cmp, Addr, FAddr, Elem, Field, Load, Store, Call, ICall, here_in, no_block}
 use Rattle.ir_model.specs.Signatures.{here_of}
 use Rattle.code_model.specs.declared.places.Places.{Places}
@@ -16,7 +16,7 @@ use Rattle.code_model.specs.FunctionCode.{lent, here_items, block_pieces, blocks
 use Rattle.code_model.specs.Laws.{StandsAt, IsCall, PiecesStand}
 use Rattle.code_model.proofs.PieceSizes.{cross_total, icross_total, inst_total, entry_total}
 use Rattle.code_model.proofs.FunctionSizes.{block_total}
-use Rattle.thumb_asm.proofs.Items.{total-append}
+use Rattle.machine_thumb_asm.proofs.Items.{total-append}
 
 pub behind_it : (front whole piece : List Item) (n m : ℕ) → total front + n ≡ m → StandsAt whole n piece → StandsAt (front ++ whole) m piece
 behind_it front whole piece n m e s =

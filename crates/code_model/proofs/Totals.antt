@@ -1,7 +1,7 @@
 -- Sizes of pieces one behind the other.
 use Rattle.std.proofs.Common.{◌≡◌, ◌+◌, List, [], ◌∷◌, ◌++◌, arith}
-use Rattle.thumb_model.specs.declared.table.Instr.{Instr}
-use Rattle.thumb_asm.specs.Assembly.{total}
+use Rattle.machine_thumb.specs.declared.table.Instr.{Instr}
+use Rattle.machine_thumb_asm.specs.Assembly.{total}
 use Rattle.code_model.specs.Words.{plain}
 
 pub total-plain-append : (xs ys : List Instr) → total (plain (xs ++ ys)) ≡ total (plain xs) + total (plain ys)

@@ -1,8 +1,8 @@
 -- The code of addresses, and of loads and stores through them.
 use Rattle.std.specs.Prelude.{ℕ, ◌+◌, ◌/◌, List, [], ◌∷◌, ◌++◌, nat_le, if◌then◌else◌}
 use Rattle.std.proofs.Math.ListN.{get_or}
-use Rattle.thumb_model.specs.declared.table.Instr.{Instr}
-use Rattle.thumb_model.specs.declared.table.Instr.TheVariants.{AddSubRegister, DataRegister, TransferImmediate}
+use Rattle.machine_thumb.specs.declared.table.Instr.{Instr}
+use Rattle.machine_thumb.specs.declared.table.Instr.TheVariants.{AddSubRegister, DataRegister, TransferImmediate}
 use Rattle.ir_model.specs.Types.{PlainType, U8, U16}
 use Rattle.ir_model.specs.Resolved.{Named, TheGlobal, ThePeriph, TheLocal}
 use Rattle.code_model.specs.declared.places.Places.{Places}

@@ -1,12 +1,12 @@
 -- The code of calls: arguments into r0 to r3, the call, and r0 into the register that keeps the result. A call that may go to
 -- another compartment is an SVC #0 with the callee in r12, and behind it a halfword with the number of its site.
 use Rattle.std.specs.Prelude.{ℕ, ℤ, suc, ◌+◌, List, [], ◌∷◌, ◌++◌, Option, Some, None}
-use Rattle.thumb_model.specs.declared.table.Instr.{Instr}
-use Rattle.thumb_model.specs.declared.table.Instr.TheVariants.{HighRegister, BranchExchange, BranchLink}
-use Rattle.thumb_asm.specs.declared.item.Item.{Item}
-use Rattle.thumb_asm.specs.declared.item.Item.TheVariants.{Half}
-use Rattle.thumb_asm.specs.Assembly.{total}
-use Rattle.thumb_asm.specs.Finished.{distance}
+use Rattle.machine_thumb.specs.declared.table.Instr.{Instr}
+use Rattle.machine_thumb.specs.declared.table.Instr.TheVariants.{HighRegister, BranchExchange, BranchLink}
+use Rattle.machine_thumb_asm.specs.declared.item.Item.{Item}
+use Rattle.machine_thumb_asm.specs.declared.item.Item.TheVariants.{Half}
+use Rattle.machine_thumb_asm.specs.Assembly.{total}
+use Rattle.machine_thumb_asm.specs.Finished.{distance}
 use Rattle.code_model.specs.Words.{load_slot, save_code, word_into, supervisor_call, plain}
 
 -- LDR of these words of the frame into registers from this one on

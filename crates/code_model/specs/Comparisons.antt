@@ -1,7 +1,7 @@
 -- The code of comparisons: 1 where the condition holds, else 0.
 use Rattle.std.specs.Prelude.{ℕ, pos, List, [], ◌∷◌}
-use Rattle.thumb_model.specs.declared.table.Instr.{Instr}
-use Rattle.thumb_model.specs.declared.table.Instr.TheVariants.{DataRegister, BranchConditional, CallBranch}
+use Rattle.machine_thumb.specs.declared.table.Instr.{Instr}
+use Rattle.machine_thumb.specs.declared.table.Instr.TheVariants.{DataRegister, BranchConditional, CallBranch}
 use Rattle.ir_model.specs.declared.firmware.CmpOp.{CmpOp}
 use Rattle.ir_model.specs.declared.firmware.CmpOp.TheVariants.{Eq, Ne, Ult, Ule, Slt, Sle}
 use Rattle.code_model.specs.Words.{load_slot, save, byte_into}

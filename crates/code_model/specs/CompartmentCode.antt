@@ -3,9 +3,9 @@
 use Rattle.std.specs.Prelude.{ℕ, suc, ◌+◌, ◌%◌, List, [], ◌∷◌, ◌++◌, length, map, take, Option, nat_eq, if◌then◌else◌}
 use Rattle.std.specs.List.{flat_map, range_with_len}
 use Rattle.std.proofs.Math.ListN.{get_or}
-use Rattle.thumb_model.specs.declared.table.Instr.TheVariants.{BreakpointNop}
-use Rattle.thumb_asm.specs.declared.item.Item.{Item}
-use Rattle.thumb_asm.specs.Finished.{bytes_from}
+use Rattle.machine_thumb.specs.declared.table.Instr.TheVariants.{BreakpointNop}
+use Rattle.machine_thumb_asm.specs.declared.item.Item.{Item}
+use Rattle.machine_thumb_asm.specs.Finished.{bytes_from}
 use Rattle.ir_model.specs.Layout.{rounded_up}
 use Rattle.ir_model.specs.Resolved.{Program, func_at}
 use Rattle.code_model.specs.declared.places.CallSite.{CallSite}

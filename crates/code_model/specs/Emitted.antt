@@ -3,10 +3,10 @@
 use Rattle.std.specs.Prelude.{◌≡◌, ℕ, ◌+◌, ◌%◌, ◌<◌, ◌≤◌, ◌^◌, List, [], ◌∷◌, ◌++◌, length, Some}
 use Rattle.std.proofs.Math.ListN.{set}
 use Rattle.std.specs.List.{All}
-use Rattle.thumb_model.specs.declared.table.Instr.{Instr}
-use Rattle.thumb_model.specs.Table.{InTable}
-use Rattle.thumb_asm.specs.declared.item.Item.{Item}
-use Rattle.thumb_asm.specs.Assembly.{Assembly, here, total}
+use Rattle.machine_thumb.specs.declared.table.Instr.{Instr}
+use Rattle.machine_thumb.specs.Table.{InTable}
+use Rattle.machine_thumb_asm.specs.declared.item.Item.{Item}
+use Rattle.machine_thumb_asm.specs.Assembly.{Assembly, here, total}
 use Rattle.ir_model.specs.Resolved.{NumberedFunc}
 use Rattle.code_model.specs.declared.places.Places.{Places}
 use Rattle.code_model.specs.Sizes.{function_size}

@@ -1,8 +1,8 @@
 -- The code at a function's entry and at its return. `words` of its frame lie below the return address. A lent local is lent to other
 -- compartments for as long as the function runs, by SVC #2 and SVC #3; in an image of one compartment no local is lent.
 use Rattle.std.specs.Prelude.{ℕ, zero, suc, ◌-◌, List, [], ◌∷◌, ◌++◌, Bool, true, false, Option, Some, None, nat_le}
-use Rattle.thumb_model.specs.declared.table.Instr.{Instr}
-use Rattle.thumb_model.specs.declared.table.Instr.TheVariants.{AdjustStack, PushPop}
+use Rattle.machine_thumb.specs.declared.table.Instr.{Instr}
+use Rattle.machine_thumb.specs.declared.table.Instr.TheVariants.{AdjustStack, PushPop}
 use Rattle.code_model.specs.Places.{Lend}
 use Rattle.code_model.specs.Words.{load_slot, store_slot, byte_into, slot_address, supervisor_call}
 

@@ -1,7 +1,7 @@
 -- The code of a whole function: its entry, and the code of its blocks one behind the other.
 use Rattle.std.specs.Prelude.{ℕ, suc, ◌+◌, List, [], ◌∷◌, ◌++◌, length, Option, Some}
 use Rattle.std.specs.List.{flat_map}
-use Rattle.thumb_asm.specs.declared.item.Item.{Item}
+use Rattle.machine_thumb_asm.specs.declared.item.Item.{Item}
 use Rattle.ir_model.specs.Resolved.{NumberedInst, NumberedTerm, NumberedBlock, NumberedFunc, Here, Does, Ends}
 use Rattle.code_model.specs.declared.places.Places.{Places}
 use Rattle.code_model.specs.Places.{site_in, crosses}

@@ -2,15 +2,15 @@
 -- What holds of all code: statements of laws.
 use Rattle.std.specs.Prelude.{◌≡◌, ℕ, ◌+◌, ◌%◌, ◌<◌, ◌≤◌, List, [], ◌∷◌, ◌++◌, length, Option, Some, is_some}
 use Rattle.std.proofs.Math.ListN.{get_or}
-use Rattle.thumb_asm.specs.declared.item.Item.{Item}
-use Rattle.thumb_asm.specs.declared.item.Item.TheVariants.{Half}
-use Rattle.thumb_asm.specs.Assembly.{total}
+use Rattle.machine_thumb_asm.specs.declared.item.Item.{Item}
+use Rattle.machine_thumb_asm.specs.declared.item.Item.TheVariants.{Half}
+use Rattle.machine_thumb_asm.specs.Assembly.{total}
 use Rattle.ir_model.specs.Plain.{PlainFunc}
 use Rattle.ir_model.specs.Frames as frames
 use Rattle.ir_model.specs.Resolved.{Program, NumberedInst, NumberedTerm, NumberedFunc, Call, ICall, Here, Does, no_block}
 use Rattle.ir_model.specs.Resolve.{Scope, resolved_func}
 use Rattle.ir_model.specs.Signatures.{here_of}
-use Rattle.frames.specs.Places as named
+use Rattle.code_frames.specs.Places as named
 use Rattle.plan_model.specs.declared.needs.Needs.{Needs}
 use Rattle.plan_model.specs.declared.groups.Groups.{Groups}
 use Rattle.plan_model.specs.Crossing.{site_number}

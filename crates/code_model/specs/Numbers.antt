@@ -1,7 +1,7 @@
 -- The code of numbers, of copies, and of operations on two numbers.
 use Rattle.std.specs.Prelude.{ℕ, List, [], ◌∷◌, ◌++◌}
-use Rattle.thumb_model.specs.declared.table.Instr.{Instr}
-use Rattle.thumb_model.specs.declared.table.Instr.TheVariants.{AddSubRegister, DataRegister, Divide}
+use Rattle.machine_thumb.specs.declared.table.Instr.{Instr}
+use Rattle.machine_thumb.specs.declared.table.Instr.TheVariants.{AddSubRegister, DataRegister, Divide}
 use Rattle.ir_model.specs.declared.firmware.BinOp.{BinOp}
 use Rattle.ir_model.specs.declared.firmware.BinOp.TheVariants.{Add, Sub, Mul, Udiv, Sdiv, Urem, Srem, And, Or, Xor, Bic, Shl, Shr, Sar}
 use Rattle.code_model.specs.Words.{load_slot, save, word_into}

@@ -1,11 +1,11 @@
 -- The code of each instruction and of each block's end, as pieces of an assembly. Block b of the function is label first + b.
 use Rattle.std.specs.Prelude.{ℕ, ◌+◌, pos, List, [], ◌∷◌, ◌++◌, Option}
-use Rattle.thumb_model.specs.declared.table.Instr.{Instr}
-use Rattle.thumb_model.specs.declared.table.Instr.TheVariants.{DataImmediate, BranchConditional}
-use Rattle.thumb_asm.specs.declared.item.BranchKind.TheVariants.{Long}
-use Rattle.thumb_asm.specs.declared.item.Label.{Label}
-use Rattle.thumb_asm.specs.declared.item.Item.{Item}
-use Rattle.thumb_asm.specs.declared.item.Item.TheVariants.{Branch}
+use Rattle.machine_thumb.specs.declared.table.Instr.{Instr}
+use Rattle.machine_thumb.specs.declared.table.Instr.TheVariants.{DataImmediate, BranchConditional}
+use Rattle.machine_thumb_asm.specs.declared.item.BranchKind.TheVariants.{Long}
+use Rattle.machine_thumb_asm.specs.declared.item.Label.{Label}
+use Rattle.machine_thumb_asm.specs.declared.item.Item.{Item}
+use Rattle.machine_thumb_asm.specs.declared.item.Item.TheVariants.{Branch}
 use Rattle.ir_model.specs.Resolved as ir
 use Rattle.ir_model.specs.Resolved.{NumberedInst, NumberedTerm, NumberedFunc}
 use Rattle.ir_model.specs.Signatures.{row_length}

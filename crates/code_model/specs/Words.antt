@@ -2,10 +2,10 @@
 -- register k of the function, where it has that register. Code uses r0 to r3 and r12 alone, and nothing is kept in them
 -- between two instructions of the firmware.
 use Rattle.std.specs.Prelude.{ℕ, ◌/◌, ◌%◌, ◌^◌, pos, List, [], ◌∷◌, map, Option, Some, None}
-use Rattle.thumb_model.specs.declared.table.Instr.{Instr}
-use Rattle.thumb_model.specs.declared.table.Instr.TheVariants.{DataImmediate, StackRelative, CallBranch, MoveWide, MoveTop}
-use Rattle.thumb_asm.specs.declared.item.Item.{Item}
-use Rattle.thumb_asm.specs.declared.item.Item.TheVariants.{Plain}
+use Rattle.machine_thumb.specs.declared.table.Instr.{Instr}
+use Rattle.machine_thumb.specs.declared.table.Instr.TheVariants.{DataImmediate, StackRelative, CallBranch, MoveWide, MoveTop}
+use Rattle.machine_thumb_asm.specs.declared.item.Item.{Item}
+use Rattle.machine_thumb_asm.specs.declared.item.Item.TheVariants.{Plain}
 
 -- LDR t, [SP, #4 k]
 abbrev pub load_slot : (t k : ℕ) → Instr

@@ -1,6 +1,6 @@
 //! What the code of a function needs from outside.
 
-use list_vec::ListVec;
+use base_lists::ListVec;
 
 /// A call of a function that may go to another compartment.
 #[derive(Clone, Copy, PartialEq, Eq, Debug)]

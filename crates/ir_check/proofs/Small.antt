@@ -7,11 +7,11 @@ use Rattle.ir_model.specs.declared.firmware.Block.{Block}
 use Rattle.ir_model.specs.declared.firmware.Func.{Func}
 use Rattle.ir_model.specs.Plain.{PlainFirmware, func_of, funcs_of, slot_of}
 use Rattle.ir_model.specs.Canonical.{IsWithinLimits}
-use Rattle.common_laws.specs.Lists.{Each}
+use Rattle.base_laws.specs.Lists.{Each}
 use Rattle.ir_model.specs.TextLimits.{instruction_limit}
 use Rattle.ir_model.specs.FewItems.{HasFewItems}
 use Rattle.ir_model.proofs.Limits.{Limited, limited, insts_in}
-use Rattle.check_scopes.specs.Scopes.{AreSmall, lent_funcs}
+use Rattle.ir_check_scopes.specs.Scopes.{AreSmall, lent_funcs}
 
 few_insts : (bs : List Block) → insts_in bs ≤ instruction_limit → All (λ (b : Block). length b.insts ≤ instruction_limit) bs
 few_insts [] h = All-nil (λ (b : Block). length b.insts ≤ instruction_limit)

@@ -5,11 +5,11 @@ use Rattle.ir_model.specs.declared.check.Place.TheVariants as place
 use Rattle.ir_model.specs.declared.firmware.Peripheral.{Peripheral}
 use Rattle.ir_model.specs.Plain.{PlainGlobal, PlainFirmware, funcs_of}
 use Rattle.ir_model.specs.Typing.{Checks, check, checks, first_failing, globals_checks, file_checks, funcs_checks, has_main}
-use Rattle.check_faults.specs.declared.fault.CheckFault.{CheckFault}
-use Rattle.check_faults.specs.Found.{Refused, Finds}
-use Rattle.declaration_checks.specs.Parts.{declared_part}
+use Rattle.ir_check_scopes.specs.declared.fault.CheckFault.{CheckFault}
+use Rattle.ir_check_scopes.specs.Found.{Refused, Finds}
+use Rattle.ir_check_declarations.specs.DeclarationParts.{declared_part}
 use Rattle.ir_check.specs.Parts.{code_part}
-use Rattle.check_faults.proofs.Order.{refused_left, refused_right, first_append}
+use Rattle.ir_check_scopes.proofs.Order.{refused_left, refused_right, first_append}
 
 regroup : (a g f u m : Checks) → (((a ++ g) ++ f) ++ u) ++ m ≡ a ++ (((g ++ f) ++ u) ++ m)
 regroup a g f u m =

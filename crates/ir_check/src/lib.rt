@@ -3,5 +3,5 @@
 
 mod whole_check;
 
-pub use check_faults::CheckFault;
+pub use ir_check_scopes::CheckFault;
 pub use whole_check::check;

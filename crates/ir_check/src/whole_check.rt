@@ -4,24 +4,23 @@ ghost use Rattle.std.specs.Prelude.{◌≡◌, IfOk, IfErr, OnOk};
 ghost use Rattle.ir_model.specs.Plain.{firmware_of};
 ghost use Rattle.ir_model.specs.Canonical.{IsWithinLimits};
 ghost use Rattle.ir_model.specs.Typing.{checks, IsTyped};
-ghost use Rattle.check_faults.specs.Found.{Finds, IsFaultOf};
+ghost use Rattle.ir_check_scopes.specs.Found.{Finds, IsFaultOf};
 ghost use Rattle.ir_check.specs.Parts.{code_part};
-ghost use Rattle.check_scopes.specs.Scopes.{IsScope, AreSmall};
+ghost use Rattle.ir_check_scopes.specs.Scopes.{IsScope, AreSmall};
 
-use check_faults::found::require;
-use check_faults::{CheckFault, Spot};
-use check_scopes::Scope;
-use declaration_checks::declared::declared;
-use declaration_checks::files::files;
-use function_checks::funcs::funcs;
-use global_checks::globals::globals;
+use ir_check_declarations::declared::declared;
+use ir_check_declarations::files::files;
+use ir_check_functions::funcs::funcs;
+use ir_check_functions::main_function::main_there;
+use ir_check_globals::globals::globals;
+use ir_check_scopes::found::require;
+use ir_check_scopes::{CheckFault, Scope, Spot};
 use ir_model::check::CheckKind;
 use ir_model::checked::Checked;
 use ir_model::firmware::Firmware;
-use slot_checks::main_function::main_there;
 use std::alloc::Global;
 
-#[tactic(auto, using(check_faults::proofs::Order::checks_in_order))]
+#[tactic(auto, using(ir_check_scopes::proofs::Order::checks_in_order))]
 fn code(alloc: Global, scope: &Scope) -> Result<(), CheckFault>
     requires scope { IsScope scope.now }
     requires small { AreSmall scope.now.bodies.items }

@@ -4,7 +4,7 @@ use Rattle.std.specs.List.{range_with_len}
 use Rattle.std.proofs.lemmas.Bool.Decides.{nat_tests}
 use Rattle.std.proofs.lemmas.List.{at_drop_more, map_push}
 use Rattle.std.proofs.lemmas.List.FromFn.{map-range_with_len_more}
-use Rattle.device_model.specs.Queues.{pushed}
+use Rattle.machine_devices.specs.Queues.{pushed}
 use Rattle.ir_model.specs.Plain.{PlainFunc}
 use Rattle.ir_generator.specs.declared.choices.Choice.{Choice}
 use Rattle.ir_generator.specs.Functions.{test_func}

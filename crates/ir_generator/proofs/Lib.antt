@@ -1,3 +1,10 @@
+mod Apart
+mod Globals
+mod Files
+mod Functions
+mod Offers
+mod Typed
+mod Within
 pub mod Proper
 pub mod Bodies
 mod Growing

@@ -4,7 +4,7 @@ use Rattle.std.specs.Prelude.{IsTrue, codes}
 use Rattle.std.specs.List.{range_with_len, list_all}
 use Rattle.std.proofs.lemmas.Grind.{common_steps}
 use Rattle.std.specs.Fmt.{decimal, digits}
-use Rattle.names.specs.Names.{is_name, is_reserved, reserved, declaration_words, instruction_words, type_words, operation_words, comparison_words, IsName}
+use Rattle.base_names.specs.Names.{is_name, is_reserved, reserved, declaration_words, instruction_words, type_words, operation_words, comparison_words, IsName}
 use Rattle.ir_generator.specs.Names.{port_name, global_name, test_name, file_name}
 
 -- what a test of each number of a range says of one of them

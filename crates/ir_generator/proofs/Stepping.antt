@@ -1,7 +1,7 @@
 -- One draw more, one choice more, one word more.
 use Rattle.std.proofs.Common.{ℕ, zero, suc, ◌+◌, ◌*◌, ◌≡◌, List, [], ◌∷◌, ◌++◌, map, refl, arith}
 use Rattle.std.specs.List.{range_with_len}
-use Rattle.device_model.specs.Queues.{pushed}
+use Rattle.machine_devices.specs.Queues.{pushed}
 use Rattle.ir_generator.specs.Draws.{stirred, state_after, given, draw}
 use Rattle.ir_generator.specs.Choices.{chosen, choices}
 use Rattle.ir_generator.proofs.Growing.{taped_more}

@@ -1,7 +1,7 @@
 //! The functions of a generated firmware.
 
 ghost use Rattle.std.specs.Prelude.{◌≡◌, ◌<◌, ◌≤◌, ◌∷◌, [], map, codes, Some, IfOk};
-ghost use Rattle.names.specs.Names.{IsName};
+ghost use Rattle.base_names.specs.Names.{IsName};
 ghost use Rattle.ir_model.specs.Plain.{slot_of, func_of};
 ghost use Rattle.ir_generator.specs.declared.choices.Body.TheVariants as body;
 ghost use Rattle.ir_generator.specs.Choices.{IsWithin};
@@ -10,10 +10,10 @@ ghost use Rattle.ir_generator.specs.Functions as spec;
 use crate::choices::Body;
 use crate::naming::{global_name, port_name, test_name};
 use crate::parts::{Code, one_pointer, one_word, put_pointer, put_word};
+use base_lists::ListVec;
+use base_names::Name;
 use ir_model::firmware::{BinOp, Block, Func, Inst, Slot, Term};
 use ir_model::types::Ty;
-use list_vec::ListVec;
-use names::Name;
 use std::alloc::{AllocError, Global};
 
 /// A block of these instructions that returns, with a register where there is one.

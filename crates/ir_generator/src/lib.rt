@@ -1,6 +1,7 @@
-//! Firmwares made from a seed: for each seed and size one typed firmware, with recorded input for it.
+//! A firmware for each seed and size, by draws; each passes the checks.
 #![tactic(auto)]
 
+mod checked_firmwares;
 pub mod choices;
 pub mod draws;
 mod functions;
@@ -8,3 +9,5 @@ pub mod make;
 mod naming;
 mod parts;
 pub mod tape;
+
+pub use checked_firmwares::checked;

@@ -2,7 +2,7 @@
 
 ghost use Rattle.std.specs.Prelude.{◌≡◌, ◌<◌, ◌≤◌, ◌+◌, ◌*◌, ◌^◌, ◌++◌, ◌∷◌, [], min, map, length, IfOk, OnOk};
 ghost use Rattle.std.specs.List.{range_with_len};
-ghost use Rattle.names.specs.Names.{IsName};
+ghost use Rattle.base_names.specs.Names.{IsName};
 ghost use Rattle.ir_model.specs.Plain.{firmware_of, file_of, func_of, global_of};
 ghost use Rattle.ir_generator.specs.Choices.{IsWithin, AreWithin};
 ghost use Rattle.ir_generator.specs.Made as spec;
@@ -10,10 +10,10 @@ ghost use Rattle.ir_generator.specs.Made as spec;
 use crate::choices::{Choice, choices};
 use crate::functions::{main_func, support, test_func};
 use crate::naming::{file_name, global_name, port_name};
+use base_lists::ListVec;
+use base_names::Name;
 use ir_model::firmware::{FileDecl, Firmware, Func, Global as GlobalDecl, Peripheral};
 use ir_model::types::Ty;
-use list_vec::ListVec;
-use names::Name;
 use std::alloc::{AllocError, Global};
 
 /// How many files hold the functions that are drawn.

@@ -1,10 +1,10 @@
 //! The names in a generated firmware.
 
 ghost use Rattle.std.specs.Prelude.{◌≡◌, ◌<◌, IfOk};
-ghost use Rattle.names.specs.Names.{IsName};
+ghost use Rattle.base_names.specs.Names.{IsName};
 ghost use Rattle.ir_generator.specs.Names as spec;
 
-use names::Name;
+use base_names::Name;
 use std::alloc::{AllocError, Global};
 
 /// The name of a peripheral.

@@ -2,16 +2,16 @@
 
 ghost use Rattle.std.specs.Prelude.{◌≡◌, ◌<◌, ◌≤◌, ◌∷◌, [], ◌++◌, map, codes, Some, None, IfOk, OnOk};
 ghost use Rattle.std.specs.List.{range_with_len};
-ghost use Rattle.names.specs.Names.{IsName};
+ghost use Rattle.base_names.specs.Names.{IsName};
 ghost use Rattle.ir_model.specs.declared.firmware.Inst.TheVariants as inst;
 ghost use Rattle.ir_model.specs.Plain.{slot_of};
 ghost use Rattle.ir_generator.specs.Functions as spec;
 
 use crate::naming::test_name;
+use base_lists::ListVec;
+use base_names::Name;
 use ir_model::firmware::{BinOp, Inst, Slot};
 use ir_model::types::Ty;
-use list_vec::ListVec;
-use names::Name;
 use std::alloc::{AllocError, Global};
 use std::marker::Model;
 

@@ -5,7 +5,7 @@ ghost use Rattle.ir_generator.specs.Draws.{state_after};
 ghost use Rattle.ir_generator.specs.Taped.{taped};
 
 use crate::draws::Draws;
-use device_model::tape::Tape;
+use machine_devices::tape::Tape;
 use std::alloc::{AllocError, Global};
 
 /// The peripherals of a generated firmware.

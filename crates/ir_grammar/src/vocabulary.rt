@@ -3,9 +3,9 @@
 ghost use Rattle.std.specs.Prelude.{◌≡◌};
 ghost use Rattle.ir_model.specs.Tokens.{keyword_bytes, mark_bytes, operation_bytes, comparison_bytes};
 
+use base_names::reserved;
 use ir_model::firmware::{BinOp, CmpOp};
 use ir_model::token::{Keyword, Mark};
-use names::reserved;
 
 /// Every keyword.
 pub const KEYWORDS: [Keyword; 23] = [

@@ -2,8 +2,8 @@
 use Rattle.std.proofs.Common.{◌≡◌, ℕ, zero, suc, ◌+◌, ◌%◌, ◌<◌, ◌≤◌, Bool, true, false, List, [], ◌∷◌, length, Option, Some, None, nat_eq, nat_le, refl, subst, arith}
 use Rattle.std.proofs.lemmas.Bool.{leb-true, and_parts}
 use Rattle.std.proofs.Math.ListN.{get_or}
-use Rattle.words.specs.Bytes.{cut}
-use Rattle.events.specs.declared.event.Event.{Event}
+use Rattle.base_words.specs.Bytes.{cut}
+use Rattle.base_events.specs.declared.event.Event.{Event}
 use Rattle.ir_model.specs.Types.{PlainType, is_integer, width_of}
 use Rattle.ir_model.specs.Layout.{cell_at}
 use Rattle.ir_model.specs.Resolved.{Program, Value, Instance, OfGlobal, OfPeriph, OfLocal, NumberedTerm, Jump, Branch, Ret, Here, Does, Ends, global_at, window_at, NumberedWindow, no_window, cells_of_global, cells_of_local, here}

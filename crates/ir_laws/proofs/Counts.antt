@@ -7,10 +7,10 @@ use Rattle.ir_model.specs.Layout.{known, shape}
 use Rattle.ir_model.specs.Resolved.{no_func, file_of}
 use Rattle.ir_model.specs.Resolve.{Scope, scope_of, resolved_func, resolved_global, resolved_block, resolved_inst, window_of, files_from, resolve}
 use Rattle.ir_model.specs.Canonical.{IsWithinLimits}
-use Rattle.common_laws.specs.Lists.{Each}
+use Rattle.base_laws.specs.Lists.{Each}
 use Rattle.ir_model.proofs.Limits.{Limited, limited, insts_in, few_structs, few_periphs, few_globals, few_files, few_functions}
 use Rattle.ir_laws.specs.Limits.{inst_count, IsFew, AreFew, CountsOf}
-use Rattle.common_laws.proofs.Lists.{each_both, each_to}
+use Rattle.base_laws.proofs.Lists.{each_both, each_to}
 use Rattle.ir_laws.proofs.Resolved.{files_count, rows_length}
 
 -- ---- the files of functions

@@ -12,10 +12,10 @@ use Rattle.ir_model.specs.declared.extent.Extent.{Extent}
 use Rattle.ir_model.specs.Types.{PlainType, U8, U16, U32, Pointer, Array, Named, Callee}
 use Rattle.ir_model.specs.Plain.{PlainSlot, PlainStruct, PlainGlobal, PlainFunc, PlainFirmware, funcs_of, names_of}
 use Rattle.ir_model.specs.Layout.{Shape, known, shape, laid_out, empty}
-use Rattle.names.specs.Numbers.{has}
+use Rattle.base_names.specs.Numbers.{has}
 use Rattle.ir_model.specs.Extents.{Counted, counted_named, is_counted, are_counted, counted_behind, counted, HasElements, extent, sized, pair_of}
 use Rattle.ir_model.specs.Canonical.{IsWithinLimits}
-use Rattle.common_laws.specs.Lists.{Each}
+use Rattle.base_laws.specs.Lists.{Each}
 use Rattle.ir_model.specs.Typing.{Checks, check, is_new, type_checks, object_limit, field_checks, struct_checks, structs_checks, local_checks, init_checks, global_checks, globals_checks, func_checks, funcs_checks, IsTyped}
 use Rattle.ir_model.proofs.Passing.{Pass, left, right, holds}
 use Rattle.ir_model.proofs.Counting.{Tied, extent_tied}
@@ -23,7 +23,7 @@ use Rattle.ir_model.proofs.Elements.{firmware_elements}
 use Rattle.ir_model.proofs.Limits.{Limited, HasParts, limited, global_elements}
 use Rattle.ir_model.proofs.Typed.{structs_named, parts_pass, by_parts}
 use Rattle.ir_laws.specs.Limits.{HasLayout, HasLayouts}
-use Rattle.common_laws.proofs.Lists.{each_both}
+use Rattle.base_laws.proofs.Lists.{each_both}
 
 abbrev Counts : Counted → Type 0
 Counts k = k.counts ≡ true

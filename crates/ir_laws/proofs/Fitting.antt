@@ -1,6 +1,6 @@
 -- Every state of a run fits.
 use Rattle.std.proofs.Common.{ℕ, zero, suc, Option, Some, None, List, true, refl}
-use Rattle.words.specs.Runs.{run}
+use Rattle.base_words.specs.Runs.{run}
 use Rattle.ir_model.specs.Types.{PlainType}
 use Rattle.ir_model.specs.Resolved.{Program, Value, Number, Code, Null, At, NumberedInst, Const, Move, Bin, Cmp, Addr, FAddr, Elem, Field, Load, Store, Call, ICall, NumberedTerm, Jump, Branch, Ret, Here, Does, Ends, here}
 use Rattle.ir_model.specs.Resolve.{resolve}

@@ -11,7 +11,7 @@ use Rattle.ir_model.specs.Plain.{PlainSlot, PlainFunc, PlainFirmware, names_of, 
 use Rattle.ir_model.specs.Layout.{known, shape}
 use Rattle.ir_model.specs.Resolved.{no_func}
 use Rattle.ir_model.specs.Resolve.{Scope, scope_of, row_from, resolved_func, resolved_block, resolve}
-use Rattle.common_laws.specs.Lists.{Each}
+use Rattle.base_laws.specs.Lists.{Each}
 use Rattle.ir_model.specs.Typing.{Checks, check, is_new, type_checks, object_limit, register_checks, local_checks, func_checks, funcs_checks}
 use Rattle.ir_model.specs.Signatures.{in_row, row_length}
 use Rattle.ir_model.proofs.Passing.{Pass, left, right, holds}
@@ -20,7 +20,7 @@ use Rattle.ir_model.proofs.Typed.{structs_named, by_parts}
 use Rattle.ir_laws.specs.Typed.{FuncTyped}
 use Rattle.ir_laws.proofs.Names.{EachSlot}
 use Rattle.ir_laws.proofs.Places.{sizes, IsSmall, AreSmall, blocks_typed}
-use Rattle.common_laws.proofs.Lists.{each_both}
+use Rattle.base_laws.proofs.Lists.{each_both}
 
 pub register_types : (ds : List (List ℕ)) (p : Place) (seen : List (List ℕ)) (ss : List PlainSlot) → Pass (register_checks ds p seen ss) → Each (λ (s : PlainSlot). IsTrue (is_register_type s.ty)) ss
 register_types ds p seen [] h = tt

@@ -14,7 +14,7 @@ use Rattle.ir_model.specs.Types.{PlainType, target_of, is_integer, width_of}
 use Rattle.ir_model.specs.Plain.{PlainFunc, PlainGlobal, PlainFirmware, funcs_of}
 use Rattle.ir_model.specs.Layout.{CellPlace, known, shape}
 use Rattle.ir_model.specs.Resolved.{Value, Number, Code, At, OfGlobal, OfPeriph, no_global}
-use Rattle.names.specs.Numbers.{has, number_of}
+use Rattle.base_names.specs.Numbers.{has, number_of}
 use Rattle.ir_model.specs.Resolve.{Scope, scope_of, resolved_func, resolved_global, window_of, value_of, filled, resolve}
 use Rattle.ir_model.specs.Rules.{global_type, func_type, is_type, is_address, is_port}
 use Rattle.ir_model.specs.Typing.{Checks, check, is_new, type_checks, object_limit, cell_checks, init_checks, global_checks, globals_checks}

@@ -5,9 +5,9 @@ use Rattle.std.proofs.lemmas.List.{length-map}
 use Rattle.ir_model.specs.Types.{PlainType, Callee}
 use Rattle.ir_model.specs.Plain.{PlainSlot, PlainFunc, PlainGlobal, names_of}
 use Rattle.ir_model.specs.Resolved.{NumberedFunc, no_func}
-use Rattle.names.specs.Numbers.{has, number_of}
+use Rattle.base_names.specs.Numbers.{has, number_of}
 use Rattle.ir_model.specs.Resolve.{Scope, resolved_func, row_from}
-use Rattle.names.proofs.Below.{number_below}
+use Rattle.base_names.proofs.Below.{number_below}
 use Rattle.ir_model.specs.Rules.{slot_type, global_type, func_type}
 
 pub number_in : {A : Type 0} (f : A → List ℕ) (xs : List A) (n : List ℕ) → has (map f xs) n ≡ true → number_of (map f xs) n < length xs

@@ -17,10 +17,10 @@ use Rattle.ir_model.specs.Plain.{PlainSlot, PlainFunc, PlainGlobal, PlainFirmwar
 use Rattle.ir_model.specs.Layout.{known, shape, fields_named}
 use Rattle.ir_model.specs.Resolved.{NumberedFunc, no_block, func_at, here_in, TheGlobal, ThePeriph, TheLocal}
 use Rattle.ir_model.specs.Resolved as numbered
-use Rattle.names.specs.Numbers.{has, number_of}
+use Rattle.base_names.specs.Numbers.{has, number_of}
 use Rattle.ir_model.specs.Resolve.{scope_of, register_number, type_named, offset_named, field_offset, named_by, optional, resolved_inst, resolved_term, resolved_block, resolved_func, resolved_global, window_of, labels_of, resolve}
 use Rattle.ir_model.specs.Extents.{HasElements}
-use Rattle.common_laws.specs.Lists.{Each}
+use Rattle.base_laws.specs.Lists.{Each}
 use Rattle.ir_model.specs.Rules.{slot_type, global_type, field_type, func_type, is_address, is_port, is_address_of, is_element, is_field, holds_cell, fit, takes_result, kept_type, is_number, inst_fits, term_fits}
 use Rattle.ir_model.specs.Typing.{Checks, check, is_known, registers_known, optional_name, has_address, has_func, inst_names, label_known, term_names, code_checks, blocks_checks}
 use Rattle.ir_model.proofs.Passing.{Pass, left, right, holds, behind}

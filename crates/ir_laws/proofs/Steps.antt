@@ -3,8 +3,8 @@ use Rattle.std.proofs.Common.{◌≡◌, ℕ, zero, suc, ◌+◌, ◌*◌, ◌<�
 use Rattle.std.specs.Prelude.{if◌then◌else◌}
 use Rattle.std.proofs.lemmas.Bool.{eqb-true, and_parts}
 use Rattle.std.proofs.lemmas.List.{length-set, length-map}
-use Rattle.words.specs.Arithmetic.{word}
-use Rattle.words.specs.Bytes.{cut}
+use Rattle.base_words.specs.Arithmetic.{word}
+use Rattle.base_words.specs.Bytes.{cut}
 use Rattle.ir_model.specs.Types.{PlainType, U32, Pointer, Callee, PlainTypes, PlainResult, gives, is_integer, width_of}
 use Rattle.ir_model.specs.Layout.{CellPlace, Shape, empty, cell_at}
 use Rattle.ir_model.specs.Resolved.{Program, Value, Number, Instance, OfGlobal, OfPeriph, OfLocal, TheGlobal, ThePeriph, TheLocal, NumberedGlobal, NumberedInst, Const, Move, Bin, Cmp, Addr, FAddr, Elem, Field, Load, Store, Call, ICall, NumberedTerm, Jump, Branch, Ret, Here, Does, Ends, no_global, func_at, global_at, cells_of_global, cells_of_local, block_at, register_type, here, here_in}

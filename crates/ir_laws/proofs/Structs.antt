@@ -9,15 +9,15 @@ use Rattle.ir_model.specs.declared.check.Place.TheVariants as place
 use Rattle.ir_model.specs.Types.{PlainType, U8, U16, U32, Pointer, Array, Named, Callee}
 use Rattle.ir_model.specs.Plain.{PlainSlot, PlainStruct}
 use Rattle.ir_model.specs.Layout.{Shape, Known, FieldPlace, empty, shape_named, fields_named, array_of, shape, rounded_up, with_field, laid_out, field_places, with_struct, known_behind, known}
-use Rattle.names.specs.Numbers.{has}
+use Rattle.base_names.specs.Numbers.{has}
 use Rattle.ir_model.specs.Resolve.{offset_named}
-use Rattle.common_laws.specs.Lists.{Each}
+use Rattle.base_laws.specs.Lists.{Each}
 use Rattle.ir_model.specs.Rules.{field_type}
 use Rattle.ir_model.specs.Typing.{Checks, check, is_new, type_checks, object_limit, field_checks, struct_checks, structs_checks}
 use Rattle.ir_model.proofs.Passing.{Pass, left, right, holds}
 use Rattle.ir_model.proofs.Counting.{rounded_at_least}
 use Rattle.ir_laws.proofs.Layouts.{AreSound, sound, sound_empty, sound_more, sound_fields}
-use Rattle.common_laws.proofs.Lists.{each_both}
+use Rattle.base_laws.proofs.Lists.{each_both}
 
 more_aligned : (m n : ℕ) → 0 < m → 0 < max m n
 more_aligned m n h = omega arith

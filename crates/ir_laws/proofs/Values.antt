@@ -1,7 +1,7 @@
 -- Values that fit their types: zeros, and numbers that are widened where they are loaded and cut where they are stored.
 use Rattle.std.proofs.Common.{◌≡◌, ℕ, suc, ◌*◌, ◌^◌, ◌<◌, ◌≤◌, Bool, true, false, List, [], ◌∷◌, length, refl, sym, ap, subst, arith}
 use Rattle.std.specs.Prelude.{if◌then◌else◌}
-use Rattle.words.specs.Bytes.{cut}
+use Rattle.base_words.specs.Bytes.{cut}
 use Rattle.ir_model.specs.Types.{PlainType, U8, U16, U32, Pointer, Array, Named, Callee, is_integer, width_of}
 use Rattle.ir_model.specs.Resolved.{Program, Value, Number, Null}
 use Rattle.ir_model.specs.Resolve.{zero_of}

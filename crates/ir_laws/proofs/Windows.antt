@@ -2,14 +2,14 @@
 use Rattle.std.proofs.Common.{◌≡◌, ◌≢◌, inl, inr, ◌<◌, ℕ, zero, suc, true, not, List, [], ◌∷◌, ◌++◌, length, get_or, map, refl, sym, ap, subst, append_assoc, append-nil, arith}
 use Rattle.std.proofs.lemmas.List.{length-map}
 use Rattle.std.proofs.lemmas.Bool.{and_parts}
-use Rattle.windows.specs.Ranges.{AreApart, are_apart, IsWindowRange}
-use Rattle.windows.proofs.Decisions.{decides_apart, decides_window}
+use Rattle.base_ranges.specs.Ranges.{AreApart, are_apart, IsWindowRange}
+use Rattle.base_ranges.proofs.Decisions.{decides_apart, decides_window}
 use Rattle.ir_model.specs.declared.check.CheckKind.TheVariants.{Twice, BadWindow, WindowOverlap}
 use Rattle.ir_model.specs.declared.check.Place.TheVariants as place
 use Rattle.ir_model.specs.declared.firmware.Peripheral.{Peripheral}
 use Rattle.ir_model.specs.Plain.{PlainFirmware}
 use Rattle.ir_model.specs.Resolved.{NumberedWindow, no_window}
-use Rattle.names.specs.Numbers.{has}
+use Rattle.base_names.specs.Numbers.{has}
 use Rattle.ir_model.specs.Resolve.{window_of, resolve}
 use Rattle.ir_model.specs.Typing.{Checks, check, is_new, is_window, is_apart, periph_checks, IsTyped}
 use Rattle.ir_model.proofs.Passing.{Pass, left, right, holds, behind}

@@ -1,9 +1,9 @@
 -- Operations on words give words, and a cut number has its width.
 use Rattle.std.proofs.Common.{◌≡◌, ℕ, ◌*◌, ◌^◌, ◌<◌, Bool, true, false, arith}
 use Rattle.std.proofs.lemmas.Nat.{and_le_l, or_lt, xor_lt}
-use Rattle.words.specs.Bytes.{cut}
-use Rattle.words.proofs.Bytes.{cut_is}
-use Rattle.words.proofs.Arithmetic.{unsigned_quotient_fits, signed_quotient_fits, unsigned_remainder_fits, signed_remainder_fits, bit_clear_fits, shift_left_fits, shift_right_fits, shift_right_signed_fits}
+use Rattle.base_words.specs.Bytes.{cut}
+use Rattle.base_words.proofs.Bytes.{cut_is}
+use Rattle.base_words.proofs.Arithmetic.{unsigned_quotient_fits, signed_quotient_fits, unsigned_remainder_fits, signed_remainder_fits, bit_clear_fits, shift_left_fits, shift_right_fits, shift_right_signed_fits}
 use Rattle.ir_model.specs.declared.firmware.BinOp.{BinOp}
 use Rattle.ir_model.specs.declared.firmware.BinOp.TheVariants.{Add, Sub, Mul, Udiv, Sdiv, Urem, Srem, And, Or, Xor, Bic, Shl, Shr, Sar}
 use Rattle.ir_model.specs.Types.{PlainType, U8, U16, U32, Pointer, Array, Named, Callee, is_integer, width_of}

@@ -1,7 +1,7 @@
 -- Beyond the program's claim: only laws, proofs and functions inside the tool cite this file.
 -- Laws of layouts and of source runs.
 use Rattle.std.specs.Prelude.{◌≡◌, ℕ, ◌+◌, ◌<◌, ◌≤◌, List, [], ◌∷◌, length, Some}
-use Rattle.events.specs.declared.event.Event.{Event}
+use Rattle.base_events.specs.declared.event.Event.{Event}
 use Rattle.ir_model.specs.Types.{PlainType, width_of}
 use Rattle.ir_model.specs.Plain.{PlainStruct, PlainFirmware}
 use Rattle.ir_model.specs.Layout.{CellPlace, known, shape}

@@ -1,7 +1,7 @@
 -- Beyond the program's claim: only laws, proofs and functions inside the tool cite this file.
 -- The limits of a program: how many items it has, how large its objects are, and where its windows lie.
 use Rattle.std.specs.Prelude.{◌≡◌, ◌≢◌, ℕ, ◌+◌, ◌<◌, ◌≤◌, List, [], ◌∷◌, length, Some}
-use Rattle.windows.specs.Ranges.{AreApart, IsWindowRange}
+use Rattle.base_ranges.specs.Ranges.{AreApart, IsWindowRange}
 use Rattle.ir_model.specs.Types.{PlainType}
 use Rattle.ir_model.specs.Plain.{PlainSlot, PlainGlobal, PlainFunc, PlainFirmware, funcs_of}
 use Rattle.ir_model.specs.Layout.{known, shape}
@@ -9,7 +9,7 @@ use Rattle.ir_model.specs.Resolved.{Program, NumberedBlock, NumberedFunc, func_a
 use Rattle.ir_model.specs.Resolve.{resolve}
 use Rattle.ir_model.specs.Extents.{layout_of}
 use Rattle.ir_model.specs.Canonical.{IsWithinLimits}
-use Rattle.common_laws.specs.Lists.{Each}
+use Rattle.base_laws.specs.Lists.{Each}
 use Rattle.ir_model.specs.TextLimits.{struct_limit, periph_limit, global_limit, file_limit, function_limit, parameter_limit, register_limit, local_limit, block_limit, instruction_limit}
 use Rattle.ir_model.specs.Typing.{object_limit, IsTyped}
 use Rattle.ir_model.specs.Signatures.{row_length}

@@ -11,9 +11,9 @@ use Rattle.ir_model.specs.declared.token.Excess.{Excess}
 use Rattle.ir_model.specs.Tokens.{Key, Sign}
 use Rattle.ir_model.specs.Lines.{Line, marked, plain, name, counted, length_excess, type_tokens, slot_tokens, more_slots, slots_tokens, struct_lines, periph_lines, global_lines, file_lines, lines_of}
 use Rattle.ir_model.specs.Canonical.{PassesNothing, IsWithinLimits}
-use Rattle.common_laws.specs.Lists.{Each}
+use Rattle.base_laws.specs.Lists.{Each}
 use Rattle.ir_model.specs.Extents.{HasElements, EachHasElements, AllHaveElements}
-use Rattle.common_laws.proofs.Lists.{each_left, each_right}
+use Rattle.base_laws.proofs.Lists.{each_left, each_right}
 
 length_passes : (n : ℕ) → length_excess n ≡ None → 0 < n
 length_passes zero h = cc

@@ -3,7 +3,7 @@
 use Rattle.std.proofs.Common.{◌≡◌, ℕ, ◌+◌, ◌^◌, ◌<◌, ◌≤◌, Bool, true, false, List, [], ◌∷◌, ◌++◌, length, Option, Some, None, arith, length-append, flat_map}
 use Rattle.std.specs.Prelude.{IsTrue}
 use Rattle.std.specs.List.{Contains}
-use Rattle.names.specs.Names.{is_name}
+use Rattle.base_names.specs.Names.{is_name}
 use Rattle.ir_model.specs.declared.firmware.Inst.{Inst}
 use Rattle.ir_model.specs.declared.firmware.Inst.TheVariants as inst
 use Rattle.ir_model.specs.declared.firmware.Block.{Block}
@@ -18,11 +18,11 @@ use Rattle.ir_model.specs.Types.{PlainType, U8, U16, U32, Pointer, Array, Named,
 use Rattle.ir_model.specs.Tokens.{Token, Key, Marked, Sign}
 use Rattle.ir_model.specs.Lines.{Line, name, register, arguments, more_arguments, kept, type_tokens, init_tokens, counted, word_excess, plain, slot_tokens, more_slots, slots_tokens, result_tokens, global_start, func_line, close_line, term_line, label_line, inst_line, inst_lines, block_lines, local_lines, reg_lines, func_lines, funcs_lines, file_lines, struct_lines, periph_lines, global_lines, lines_of}
 use Rattle.ir_model.specs.Canonical.{PassesNothing, IsProper, IsWithinLimits}
-use Rattle.common_laws.specs.Lists.{Each}
+use Rattle.base_laws.specs.Lists.{Each}
 use Rattle.ir_model.specs.Extents.{HasElements}
 use Rattle.ir_model.proofs.Elements.{type_elements}
 use Rattle.ir_model.proofs.NoExcess.{first_none, counted_none, number_fits}
-use Rattle.common_laws.proofs.Lists.{each_both, each_left, each_right, each_contained}
+use Rattle.base_laws.proofs.Lists.{each_both, each_left, each_right, each_contained}
 
 abbrev Quiet : Line → Type 0
 Quiet l = Each PassesNothing l

@@ -1,7 +1,7 @@
 -- What follows where a token passes nothing.
 use Rattle.std.proofs.Common.{◌≡◌, ◌<◌, ◌≤◌, ◌^◌, ℕ, List, Bool, true, false, refl, Option, Some, None, length, arith, nat_lt, nat_le, if◌then◌else◌}
 use Rattle.std.proofs.lemmas.Grind.{common_steps}
-use Rattle.names.specs.Names.{is_name, is_word, is_reserved}
+use Rattle.base_names.specs.Names.{is_name, is_word, is_reserved}
 use Rattle.ir_model.specs.declared.token.Excess.{Excess}
 use Rattle.ir_model.specs.declared.token.Excess.TheVariants.{TooWide, Passes}
 use Rattle.ir_model.specs.declared.token.TextLimit.{TextLimit}

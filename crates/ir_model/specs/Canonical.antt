@@ -1,10 +1,10 @@
 -- The canonical text of a firmware, and the limits that a text keeps.
 use Rattle.std.specs.Prelude.{◌≡◌, ℕ, ◌<◌, List, [], ◌∷◌, ◌++◌, flat_map, length, None, IsTrue}
-use Rattle.common_laws.specs.Lists.{Each}
+use Rattle.base_laws.specs.Lists.{Each}
 use Rattle.ir_model.specs.Plain.{PlainStruct, PlainFunc, PlainFirmware, funcs_of}
 use Rattle.ir_model.specs.Tokens.{Token, Name, Marked, token_bytes}
 use Rattle.ir_model.specs.Lines.{Line, lines_of}
-use Rattle.names.specs.Names.{is_name}
+use Rattle.base_names.specs.Names.{is_name}
 
 -- the tokens of a line with one space between them, and its end
 abbrev pub line_bytes : Line → List ℕ

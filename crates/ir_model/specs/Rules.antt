@@ -8,7 +8,7 @@ use Rattle.ir_model.specs.declared.firmware.Peripheral.{Peripheral}
 use Rattle.ir_model.specs.Types.{PlainType, U32, Pointer, Array, Named, Callee, PlainTypes, none, more, PlainResult, nothing, gives, same, same_result, is_integer, is_register_type}
 use Rattle.ir_model.specs.Plain.{PlainSlot, PlainGlobal, PlainFunc, PlainFirmware, funcs_of, names_of}
 use Rattle.ir_model.specs.Layout.{Known, FieldPlace, fields_named}
-use Rattle.names.specs.Numbers.{has}
+use Rattle.base_names.specs.Numbers.{has}
 use Rattle.ir_model.specs.Resolve.{row_from, type_named, scope_of}
 
 -- the first of a name

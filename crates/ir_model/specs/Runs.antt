@@ -1,7 +1,7 @@
 -- A run of the source from its start, on recorded input. `compartments` has a number for each function.
 use Rattle.std.specs.Prelude.{ℕ, List}
-use Rattle.words.specs.Runs.{run, events}
-use Rattle.events.specs.declared.event.Event.{Event}
+use Rattle.base_words.specs.Runs.{run, events}
+use Rattle.base_events.specs.declared.event.Event.{Event}
 use Rattle.ir_model.specs.Resolved.{Program}
 use Rattle.ir_model.specs.State.{SourceState, start}
 use Rattle.ir_model.specs.Step.{source_step, source_event}

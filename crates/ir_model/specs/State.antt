@@ -1,6 +1,6 @@
 -- The state of a source run: frames, contents, and the words that each peripheral has left.
 use Rattle.std.specs.Prelude.{ℕ, List, [], ◌∷◌, map, Option}
-use Rattle.events.specs.declared.event.Event.{Event}
+use Rattle.base_events.specs.declared.event.Event.{Event}
 use Rattle.ir_model.specs.Types.{PlainType}
 use Rattle.ir_model.specs.Layout.{CellPlace, Shape}
 use Rattle.ir_model.specs.Resolved.{Instance, OfGlobal, OfPeriph, OfLocal, Value, NumberedGlobal, Program, func_at}

@@ -1,9 +1,9 @@
 -- One source step: an instruction or a block's end.
 use Rattle.std.specs.Prelude.{ℕ, suc, ◌+◌, ◌*◌, ◌%◌, List, [], ◌∷◌, Bool, true, false, not, ◌&&◌, Option, Some, None, nat_eq, nat_lt, nat_le, if◌then◌else◌, map, bit_and, bit_or, bit_xor}
 use Rattle.std.proofs.Math.ListN.{get_or, set}
-use Rattle.words.specs.Arithmetic.{word, add, subtract, multiply, unsigned_quotient, signed_quotient, unsigned_remainder, signed_remainder, bit_clear, shift_left, shift_right, shift_right_signed, signed_less, signed_at_most}
-use Rattle.words.specs.Bytes.{cut}
-use Rattle.events.specs.declared.event.Event.{Event}
+use Rattle.base_words.specs.Arithmetic.{word, add, subtract, multiply, unsigned_quotient, signed_quotient, unsigned_remainder, signed_remainder, bit_clear, shift_left, shift_right, shift_right_signed, signed_less, signed_at_most}
+use Rattle.base_words.specs.Bytes.{cut}
+use Rattle.base_events.specs.declared.event.Event.{Event}
 use Rattle.ir_model.specs.declared.firmware.BinOp.{BinOp}
 use Rattle.ir_model.specs.declared.firmware.BinOp.TheVariants.{Add, Sub, Mul, Udiv, Sdiv, Urem, Srem, And, Or, Xor, Bic, Shl, Shr, Sar}
 use Rattle.ir_model.specs.declared.firmware.CmpOp.{CmpOp}

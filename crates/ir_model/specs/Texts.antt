@@ -3,10 +3,10 @@
 use Rattle.std.specs.Prelude.{◌≡◌, ℕ, ◌+◌, ◌-◌, ◌^◌, ◌<◌, ◌≤◌, List, [], ◌∷◌, ◌++◌, map, length, take, Bool, true, false, not, ◌||◌, Some, nat_eq, count_by, IsUtf8}
 use Rattle.std.specs.List.{suffix_len}
 use Rattle.std.specs.Str.{IsValidUpTo}
-use Rattle.numerals.specs.declared.Numeral.{Numeral}
-use Rattle.numerals.specs.declared.Numeral.TheVariants.{Malformed, TooWide, Value}
-use Rattle.numerals.specs.Numerals.{numeral}
-use Rattle.names.specs.Names.{continues_word, is_word, is_reserved}
+use Rattle.base_numerals.specs.declared.Numeral.{Numeral}
+use Rattle.base_numerals.specs.declared.Numeral.TheVariants.{Malformed, TooWide, Value}
+use Rattle.base_numerals.specs.Numerals.{numeral}
+use Rattle.base_names.specs.Names.{continues_word, is_word, is_reserved}
 use Rattle.ir_model.specs.declared.token.Mark.TheVariants.{Colon}
 use Rattle.ir_model.specs.declared.token.Excess.{Excess}
 use Rattle.ir_model.specs.declared.token.Pos.{Pos}
@@ -14,7 +14,7 @@ use Rattle.ir_model.specs.Plain.{PlainStruct, PlainFunc, PlainFirmware, funcs_of
 use Rattle.ir_model.specs.Tokens.{Token, Name, Number, Key, Operation, Comparison, Sign, Marked, keyword_bytes, operation_bytes, comparison_bytes, mark_bytes}
 use Rattle.ir_model.specs.Lines.{Line, lines_of, marked}
 use Rattle.ir_model.specs.Canonical.{PassesNothing, IsWithinLimits}
-use Rattle.common_laws.specs.Lists.{Each}
+use Rattle.base_laws.specs.Lists.{Each}
 
 -- space, tab, CR or LF
 abbrev pub is_blank : ℕ → Bool

@@ -1,7 +1,7 @@
 -- Tokens of a firmware text, and their spelling.
 use Rattle.std.specs.Prelude.{ℕ, List, codes, Option}
 use Rattle.std.specs.Fmt.{decimal}
-use Rattle.names.specs.declared.reserved.TheConstants as reserved
+use Rattle.base_names.specs.declared.reserved.TheConstants as reserved
 use Rattle.ir_model.specs.declared.firmware.BinOp.{BinOp}
 use Rattle.ir_model.specs.declared.firmware.BinOp.TheVariants.{Add, Sub, Mul, Udiv, Sdiv, Urem, Srem, And, Or, Xor, Bic, Shl, Shr, Sar}
 use Rattle.ir_model.specs.declared.firmware.CmpOp.{CmpOp}

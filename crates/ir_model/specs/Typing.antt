@@ -2,7 +2,7 @@
 -- fails, and its fault is the first that fails.
 use Rattle.std.specs.Prelude.{◌≡◌, ℕ, suc, ◌*◌, ◌^◌, List, [], ◌∷◌, ◌++◌, map, length, Bool, true, false, not, ◌&&◌, ◌||◌, Option, Some, None, nat_lt, nat_le, if◌then◌else◌}
 use Rattle.std.specs.List.{list_all}
-use Rattle.windows.specs.Ranges.{are_apart, is_window_size, is_window_place}
+use Rattle.base_ranges.specs.Ranges.{are_apart, is_window_size, is_window_place}
 use Rattle.ir_model.specs.declared.check.CheckKind.{CheckKind}
 use Rattle.ir_model.specs.declared.check.CheckKind.TheVariants.{Unknown, Twice, IllTyped, NoMain, BadWindow, WindowOverlap, BadInit, ObjectTooLarge, FrameTooLarge}
 use Rattle.ir_model.specs.declared.check.Place.{Place}
@@ -18,7 +18,7 @@ use Rattle.ir_model.specs.declared.firmware.Peripheral.{Peripheral}
 use Rattle.ir_model.specs.Types.{PlainType, U8, U16, U32, Pointer, Array, Named, Callee, PlainTypes, none, more, PlainResult, nothing, gives, is_integer, is_register_type, width_of}
 use Rattle.ir_model.specs.Plain.{PlainSlot, PlainStruct, PlainGlobal, PlainFunc, PlainFile, PlainFirmware, names_of, funcs_of, regs_of}
 use Rattle.ir_model.specs.Layout.{Known, known, CellPlace, shape, laid_out, empty}
-use Rattle.names.specs.Numbers.{has}
+use Rattle.base_names.specs.Numbers.{has}
 use Rattle.ir_model.specs.Resolve.{labels_of, main_name}
 use Rattle.ir_model.specs.Frames.{frame_size}
 use Rattle.ir_model.specs.Rules.{global_type, func_type, is_type, is_address, is_port, inst_fits, term_fits}

@@ -1,6 +1,6 @@
 //! What can be wrong with a firmware, and where.
 
-use names::Name;
+use base_names::Name;
 use std::fmt;
 
 /// A check that fails.

@@ -4,7 +4,7 @@ ghost use Rattle.std.specs.Prelude.{◌≡◌, length, map, IfOk};
 ghost use Rattle.ir_model.specs.Types.{Callee, types_from, type_of, boxed_result_of};
 
 use crate::types::{Signature, Ty};
-use list_vec::ListVec;
+use base_lists::ListVec;
 use std::alloc::{AllocError, Global};
 
 /// The type of a function that takes these parameters and gives this result.

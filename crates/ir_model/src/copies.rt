@@ -10,8 +10,8 @@ use crate::firmware::{
     StructDecl, Term,
 };
 use crate::types::Ty;
-use list_vec::ListVec;
-use names::Name;
+use base_lists::ListVec;
+use base_names::Name;
 use std::alloc::{AllocError, Global};
 
 fn clone_list<T: Clone>(alloc: Global, list: &ListVec<T>) -> Result<ListVec<T>, AllocError>

@@ -1,8 +1,8 @@
 //! The parts of a firmware.
 
 use crate::types::Ty;
-use list_vec::ListVec;
-use names::Name;
+use base_lists::ListVec;
+use base_names::Name;
 
 /// A name with its type: a field, a parameter, a register or a local.
 #[derive(Drop)]

@@ -5,7 +5,7 @@ ghost use Rattle.ir_model.specs.Types.{type_of};
 ghost use Rattle.ir_model.specs.Plain.{slot_of, struct_of, firmware_of};
 ghost use Rattle.ir_model.specs.Lines.{type_tokens};
 ghost use Rattle.ir_model.specs.Canonical.{PassesNothing, IsWithinLimits};
-ghost use Rattle.common_laws.specs.Lists.{Each};
+ghost use Rattle.base_laws.specs.Lists.{Each};
 ghost use Rattle.ir_model.specs.Layout.{known, shape, rounded_up};
 ghost use Rattle.ir_model.specs.Extents as extents;
 ghost use Rattle.ir_model.specs.Extents.{IsOf, IsSized, IsSmall, layout_of, sized};
@@ -13,7 +13,7 @@ ghost use Rattle.ir_model.specs.Extents.{IsOf, IsSized, IsSmall, layout_of, size
 use crate::extent::{Extent, SIZE_LIMIT};
 use crate::firmware::{Firmware, Slot, StructDecl};
 use crate::types::Ty;
-use names::Name;
+use base_names::Name;
 
 fn limited(size: u64, align: u32) -> Option<Extent>
     requires positive { 0 < align }

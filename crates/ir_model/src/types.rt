@@ -1,7 +1,7 @@
 //! The types of the firmware language.
 
-use list_vec::ListVec;
-use names::Name;
+use base_lists::ListVec;
+use base_names::Name;
 
 /// A type.
 #[cycle(types)]

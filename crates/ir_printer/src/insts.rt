@@ -10,9 +10,9 @@ use crate::tokens::{
     end_line, put_comparison, put_keyword, put_mark, put_number, put_operation, put_separator,
     put_word, start_keyword, start_word,
 };
+use base_names::Name;
 use ir_model::firmware::{Inst, Term};
 use ir_model::token::{Keyword, Mark};
-use names::Name;
 use std::alloc::AllocError;
 
 fn start_assignment(out: &mut Vec<u8>, to: &Name) -> Result<(), AllocError>

@@ -5,10 +5,10 @@ ghost use Rattle.ir_model.specs.declared.token.Mark.TheVariants as mark;
 ghost use Rattle.ir_model.specs.Tokens as token;
 ghost use Rattle.ir_printer.specs.Pieces.{first, next, line_end, separator};
 
+use base_names::Name;
 use ir_grammar::vocabulary::{comparison_text, keyword_text, mark_text, operation_text};
 use ir_model::firmware::{BinOp, CmpOp};
 use ir_model::token::{Keyword, Mark};
-use names::Name;
 use std::alloc::AllocError;
 
 /// Writes a keyword as the first token of a line.

@@ -1,6 +1,6 @@
 -- The windows of a firmware's peripherals.
 use Rattle.std.specs.Prelude.{List, map}
-use Rattle.device_model.specs.declared.image.Window.{Window}
+use Rattle.machine_devices.specs.declared.image.Window.{Window}
 use Rattle.ir_model.specs.declared.firmware.Peripheral.{Peripheral}
 use Rattle.ir_model.specs.Plain.{PlainFirmware}
 

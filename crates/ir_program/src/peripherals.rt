@@ -3,9 +3,9 @@
 ghost use Rattle.std.specs.Prelude.{◌≡◌, map, IfOk};
 ghost use Rattle.ir_program.specs.Windows.{window_of};
 
-use device_model::image::Window;
+use base_lists::ListVec;
 use ir_model::firmware::Peripheral;
-use list_vec::ListVec;
+use machine_devices::image::Window;
 use std::alloc::{AllocError, Global};
 
 fn window(alloc: Global, periph: &Peripheral) -> Result<Window, AllocError>

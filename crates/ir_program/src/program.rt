@@ -1,10 +1,10 @@
 //! A firmware with numbers for its names.
 
 use crate::value::Value;
+use base_lists::ListVec;
+use ir_layouts::table::Layouts;
 use ir_model::firmware::{BinOp, CmpOp, Func};
 use ir_model::types::Ty;
-use layouts::table::Layouts;
-use list_vec::ListVec;
 
 /// What a global or a local is made of. Its cells are those of its type.
 #[derive(Clone, Copy)]

@@ -3,7 +3,7 @@ use Rattle.std.proofs.Common.{◌≡◌, ◌⊎◌, inl, inr, ℕ, [], ◌∷◌
 use Rattle.ir_model.specs.declared.token.Excess.{Excess}
 use Rattle.ir_model.specs.declared.token.Mark.TheVariants as mark
 use Rattle.ir_model.specs.Canonical.{PassesNothing}
-use Rattle.common_laws.specs.Lists.{Each}
+use Rattle.base_laws.specs.Lists.{Each}
 use Rattle.ir_model.specs.Plain.{PlainFirmware}
 use Rattle.ir_model.specs.Tokens.{Token, Name, Number, Key, Operation, Comparison, Sign, Marked}
 use Rattle.ir_model.specs.Lines.{Line, marked, lines_of, word_excess, counted, or_else}
@@ -23,7 +23,7 @@ use Rattle.ir_reader.proofs.Theorem.{steps}
 use Rattle.ir_reader.proofs.Values.{stepped}
 use Rattle.ir_reader.proofs.Verdicts.{begun, Taken, taken}
 use Rattle.ir_reader.proofs.Whole.{Alike, AreWide, finds_some, token_placed, Prefix, placed_from}
-use Rattle.common_laws.proofs.Lists.{each_right}
+use Rattle.base_laws.proofs.Lists.{each_right}
 
 -- two fronts of one list
 data Ordered (ps qs rs ss : List Placed) : Type 0 where

@@ -1,13 +1,13 @@
 -- For all that is expected there are tokens that stand there.
 use Rattle.std.proofs.Common.{◌≡◌, ℕ, ◌+◌, [], ◌∷◌, ◌++◌, List, Bool, true, false, refl, ◌∙◌, subst, Option, None, length, arith}
-use Rattle.names.specs.Names.{is_reserved, reserved, declaration_words, instruction_words, type_words, operation_words, comparison_words}
+use Rattle.base_names.specs.Names.{is_reserved, reserved, declaration_words, instruction_words, type_words, operation_words, comparison_words}
 use Rattle.ir_model.specs.declared.firmware.Block.{Block}
 use Rattle.ir_model.specs.declared.firmware.Cell.TheVariants as cell
 use Rattle.ir_model.specs.declared.firmware.Inst.{Inst}
 use Rattle.ir_model.specs.declared.firmware.Term.TheVariants as term
 use Rattle.ir_model.specs.declared.token.Excess.{Excess}
 use Rattle.ir_model.specs.declared.token.Mark.TheVariants as mark
-use Rattle.common_laws.specs.Lists.{Each}
+use Rattle.base_laws.specs.Lists.{Each}
 use Rattle.ir_model.specs.Types.{U8, nothing, gives}
 use Rattle.ir_model.specs.Types as types
 use Rattle.ir_model.specs.Plain.{PlainSlot, PlainFunc, PlainFile}
@@ -20,7 +20,7 @@ use Rattle.ir_reader.proofs.Derive.{follows}
 use Rattle.ir_reader.proofs.Lang
 use Rattle.ir_reader.proofs.Lang.{Langs, none, some, Follows, next, ends, skips}
 use Rattle.ir_reader.proofs.Theorem.{split}
-use Rattle.common_laws.proofs.Lists.{each_both}
+use Rattle.base_laws.proofs.Lists.{each_both}
 
 abbrev pub Free : Marked → Type 0
 Free m = IsFree m.token

@@ -7,7 +7,7 @@ use Rattle.ir_model.specs.declared.token.Excess.TheVariants as excess
 use Rattle.ir_model.specs.declared.token.Mark.TheVariants as mark
 use Rattle.ir_model.specs.declared.token.Pos.{Pos}
 use Rattle.ir_model.specs.declared.firmware.Firmware.{Firmware}
-use Rattle.common_laws.specs.Lists.{Each}
+use Rattle.base_laws.specs.Lists.{Each}
 use Rattle.ir_model.specs.Plain.{PlainFirmware, funcs_of}
 use Rattle.ir_model.specs.Tokens.{Token, Sign, Marked}
 use Rattle.ir_model.specs.Lines.{Line, marked, lines_of}
@@ -36,7 +36,7 @@ use Rattle.ir_reader.proofs.Stops.{stopped, Stopped, Why, stuck, bad, short, ove
 use Rattle.ir_reader.proofs.Texts.{all_functions}
 use Rattle.ir_reader.proofs.Verdicts.{begun, taken, none_there, none_ends, each_there}
 use Rattle.ir_reader.proofs.Whole.{finds_some, finds_from}
-use Rattle.common_laws.proofs.Lists.{each_both}
+use Rattle.base_laws.proofs.Lists.{each_both}
 
 -- what stands where a text begins is a firmware's
 pub record Made (l : Line) : Type 0 where

@@ -1,6 +1,6 @@
 -- What follows where the token of a type or of a cell passes nothing.
 use Rattle.std.proofs.Common.{◌≡◌, ◌<◌, ◌^◌, ℕ, List, Bool, true, false, Option, Some, None, nat_lt, if◌then◌else◌}
-use Rattle.names.specs.Names.{is_name, is_word, is_reserved}
+use Rattle.base_names.specs.Names.{is_name, is_word, is_reserved}
 use Rattle.ir_model.specs.declared.token.Excess.{Excess}
 use Rattle.ir_model.specs.declared.token.Excess.TheVariants.{TooWide}
 use Rattle.ir_model.specs.declared.token.TextLimit.{TextLimit}

@@ -1,7 +1,7 @@
 -- A fault stands in the text.
 use Rattle.std.proofs.Common.{◌≡◌, ◌≤◌, ℕ, ◌-◌, [], ◌∷◌, List, Bool, true, false, refl, sym, ap, ◌∙◌, subst, Option, Some, None, length, zero, suc, arith, if◌then◌else◌}
 use Rattle.std.specs.List.{prefix_len}
-use Rattle.common_laws.specs.Lists.{Each}
+use Rattle.base_laws.specs.Lists.{Each}
 use Rattle.ir_model.specs.Texts.{is_blank, opens_comment, is_inside_line}
 use Rattle.ir_reader.specs.declared.error.Fault.{Fault}
 use Rattle.ir_reader.specs.Found.{Found, Is, Bad, End, Placed, colon_first}

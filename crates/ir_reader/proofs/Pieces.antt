@@ -4,13 +4,13 @@ use Rattle.std.proofs.lemmas.Grind.{common_steps}
 use Rattle.std.specs.List.{prefix_len, take_while}
 use Rattle.std.proofs.lemmas.List.Sums.{take_while-cons}
 use Rattle.std.proofs.lemmas.List.{take-append-drop}
-use Rattle.numerals.specs.declared.Numeral.{Numeral}
-use Rattle.numerals.specs.declared.Numeral.TheVariants as numerals
-use Rattle.numerals.specs.Numerals.{numeral}
-use Rattle.names.specs.Names.{begins_word, continues_word, is_word}
+use Rattle.base_numerals.specs.declared.Numeral.{Numeral}
+use Rattle.base_numerals.specs.declared.Numeral.TheVariants as numerals
+use Rattle.base_numerals.specs.Numerals.{numeral}
+use Rattle.base_names.specs.Names.{begins_word, continues_word, is_word}
 use Rattle.ir_model.specs.declared.token.Mark.{Mark}
 use Rattle.ir_model.specs.declared.token.Mark.TheVariants as mark
-use Rattle.common_laws.specs.Lists.{Each}
+use Rattle.base_laws.specs.Lists.{Each}
 use Rattle.ir_model.specs.Tokens.{Token, Name, Number, Key, Operation, Comparison, Sign, mark_bytes}
 use Rattle.ir_model.specs.Texts.{is_blank, opens_comment, is_inside_line, EndsLine, Spells, EndsWord, IsApart, Leads, here, blank, comment, token}
 use Rattle.ir_reader.specs.Found.{Found, Is, Bad, End, Placed, finds}

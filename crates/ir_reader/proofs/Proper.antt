@@ -3,7 +3,7 @@ use Rattle.std.proofs.Common.{◌≡◌, ◌<◌, ℕ, [], ◌∷◌, ◌++◌, 
 use Rattle.ir_model.specs.declared.token.Excess.{Excess}
 use Rattle.ir_model.specs.declared.token.TextLimit.TheVariants as limit
 use Rattle.ir_model.specs.Canonical.{PassesNothing, IsProper}
-use Rattle.common_laws.specs.Lists.{Each}
+use Rattle.base_laws.specs.Lists.{Each}
 use Rattle.ir_model.specs.Tokens.{Token, Name, Number, Key, Operation, Comparison, Sign, Marked}
 use Rattle.ir_model.specs.Lines.{Line, word_excess, number_excess, length_excess, counted, depth_excess, or_else}
 use Rattle.ir_model.specs.Texts.{joined, tokens, IsFree, Leads, here, blank, comment, token, Spells}
@@ -15,7 +15,7 @@ use Rattle.ir_reader.proofs.Lang.{Langs, well}
 use Rattle.ir_reader.proofs.Theorem.{steps, text_of, colon_same, fault_token, kept}
 use Rattle.ir_reader.proofs.Ends.{after}
 use Rattle.ir_reader.proofs.Values.{stepped}
-use Rattle.common_laws.proofs.Lists.{each_both, each_left, each_right}
+use Rattle.base_laws.proofs.Lists.{each_both, each_left, each_right}
 
 abbrev pub IsShort : Token → Type 0
 IsShort (Name w) = word_excess w ≡ None

@@ -4,7 +4,7 @@ use Rattle.std.proofs.lemmas.Grind.{common_steps}
 use Rattle.std.specs.List.{prefix_len, take_while, list_all}
 use Rattle.std.proofs.lemmas.List.Sums.{take_while-cons}
 use Rattle.std.proofs.lemmas.Bool.{eqb-true}
-use Rattle.names.specs.Names.{begins_word, continues_word, is_word}
+use Rattle.base_names.specs.Names.{begins_word, continues_word, is_word}
 use Rattle.ir_model.specs.Texts.{is_blank, is_inside_line, opens_comment}
 use Rattle.ir_model.specs.Tokens as model
 use Rattle.ir_reader.specs.declared.token.Token.{Token}

@@ -1,7 +1,7 @@
 -- Lists with commas between their things.
 use Rattle.std.proofs.Common.{◌≡◌, ◌<◌, [], ◌∷◌, ◌++◌, map, List, refl, sym, ◌∙◌, append_assoc, length, arith}
 use Rattle.ir_model.specs.declared.token.Mark.TheVariants.{Comma, Equal, OpenBrace}
-use Rattle.common_laws.specs.Lists.{Each}
+use Rattle.base_laws.specs.Lists.{Each}
 use Rattle.ir_grammar.specs.Spelling.{separated, spell_init, spell_cells}
 use Rattle.ir_grammar.proofs.Separated.{separated_push}
 use Rattle.ir_reader.specs.Spelling.{Spelling, Sign, as_found}

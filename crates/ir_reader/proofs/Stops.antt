@@ -5,7 +5,7 @@ use Rattle.ir_model.specs.declared.token.Excess.{Excess}
 use Rattle.ir_model.specs.declared.token.Mark.TheVariants as mark
 use Rattle.ir_model.specs.Tokens.{Token, Name, Number, Key, Operation, Comparison, Sign, Marked}
 use Rattle.ir_model.specs.Canonical.{PassesNothing}
-use Rattle.common_laws.specs.Lists.{Each}
+use Rattle.base_laws.specs.Lists.{Each}
 use Rattle.ir_model.specs.Lines.{Line, marked}
 use Rattle.ir_model.specs.Texts.{tokens, begins_colon}
 use Rattle.ir_reader.specs.declared.error.Fault.{Fault}

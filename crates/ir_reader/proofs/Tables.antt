@@ -4,7 +4,7 @@ use Rattle.std.specs.List.{list_any}
 use Rattle.std.specs.Str.{bytes_eq}
 use Rattle.std.proofs.lemmas.List.Folds.{list_any-append}
 use Rattle.std.proofs.lemmas.Slice.Eq.{bytes_eq-Decides}
-use Rattle.names.specs.Names.{is_reserved, reserved, declaration_words, instruction_words, type_words, operation_words, comparison_words}
+use Rattle.base_names.specs.Names.{is_reserved, reserved, declaration_words, instruction_words, type_words, operation_words, comparison_words}
 use Rattle.ir_grammar.specs.declared.vocabulary.TheConstants.{KEYWORDS, OPERATIONS, COMPARISONS}
 use Rattle.ir_model.specs.declared.firmware.BinOp.{BinOp}
 use Rattle.ir_model.specs.declared.firmware.CmpOp.{CmpOp}

@@ -26,7 +26,7 @@ use Rattle.ir_reader.proofs.Scanning.{placed_nil}
 use Rattle.ir_reader.proofs.Unique.{firmware_unique}
 use Rattle.ir_reader.proofs.Whole.{finds_from}
 use Rattle.ir_reader.proofs.Theorem.{sound_from, none_from, text_of}
-use Rattle.common_laws.proofs.Lists.{each_both, each_left, each_right}
+use Rattle.base_laws.proofs.Lists.{each_both, each_left, each_right}
 
 -- the marks of a firmware stand where a text begins
 pub firmware_is : (w : PlainFirmware) → HasFields w.structs → AllHaveBlocks w.files → Langs (Structs 0 ∷ []) (joined (lines_of w))

@@ -3,11 +3,11 @@ use Rattle.std.proofs.Common.{◌≡◌, ◌<◌, ◌≤◌, ◌⊎◌, inl, inr
 use Rattle.std.proofs.lemmas.Grind.{common_steps}
 use Rattle.std.proofs.lemmas.Bool.Decides.{nat_tests}
 use Rattle.std.specs.List.{prefix_len, take_while}
-use Rattle.numerals.specs.declared.Numeral.{Numeral}
-use Rattle.numerals.specs.declared.Numeral.TheVariants as numerals
-use Rattle.numerals.specs.Numerals as numbers
-use Rattle.numerals.specs.Numerals.{numeral}
-use Rattle.names.specs.Names.{begins_word, continues_word, is_word, all_continue}
+use Rattle.base_numerals.specs.declared.Numeral.{Numeral}
+use Rattle.base_numerals.specs.declared.Numeral.TheVariants as numerals
+use Rattle.base_numerals.specs.Numerals as numbers
+use Rattle.base_numerals.specs.Numerals.{numeral}
+use Rattle.base_names.specs.Names.{begins_word, continues_word, is_word, all_continue}
 use Rattle.ir_model.specs.declared.firmware.BinOp.{BinOp}
 use Rattle.ir_model.specs.declared.firmware.BinOp.TheVariants as op
 use Rattle.ir_model.specs.declared.firmware.CmpOp.{CmpOp}
@@ -16,7 +16,7 @@ use Rattle.ir_model.specs.declared.token.Keyword.{Keyword}
 use Rattle.ir_model.specs.declared.token.Keyword.TheVariants as key
 use Rattle.ir_model.specs.declared.token.Mark.{Mark}
 use Rattle.ir_model.specs.declared.token.Mark.TheVariants as mark
-use Rattle.common_laws.specs.Lists.{Each}
+use Rattle.base_laws.specs.Lists.{Each}
 use Rattle.ir_model.specs.Tokens.{Token, Name, Number, Key, Operation, Comparison, Sign, mark_bytes, keyword_bytes, operation_bytes, comparison_bytes}
 use Rattle.ir_model.specs.Texts.{is_blank, opens_comment, is_inside_line, EndsLine, StandsFor, Spells, EndsWord, IsApart, Leads, here, blank, comment, token}
 use Rattle.ir_reader.specs.Found.{Is, Placed, finds}
@@ -24,7 +24,7 @@ use Rattle.ir_reader.specs.Words.{word_token}
 use Rattle.ir_reader.specs.Scan.{placed, StartsToken, first_lexeme, lexeme_of, number_from, is_digit, Lexeme, lexeme}
 use Rattle.ir_reader.proofs.Tables.{free_name, keyword_token, operation_token, comparison_token}
 use Rattle.ir_reader.proofs.Scanning.{placed_blank, placed_comment, placed_token, begins_continues, digit_continues, opens_at}
-use Rattle.common_laws.proofs.Lists.{each_from_list_all}
+use Rattle.base_laws.proofs.Lists.{each_from_list_all}
 use Rattle.ir_model.proofs.NoExcess.{IsNarrow}
 use Rattle.std.proofs.lemmas.Bool.{cond-true, cond-false, and_parts}
 use Rattle.std.proofs.Math.Seq.{take-append_seam, drop-append_seam}

@@ -9,7 +9,7 @@ use Rattle.ir_model.specs.declared.firmware.Inst.{Inst}
 use Rattle.ir_model.specs.declared.firmware.Term.{Term}
 use Rattle.ir_model.specs.declared.firmware.Func.{Func}
 use Rattle.ir_model.specs.declared.firmware.FileDecl.{FileDecl}
-use Rattle.common_laws.specs.Lists.{Each}
+use Rattle.base_laws.specs.Lists.{Each}
 use Rattle.ir_model.specs.Plain.{PlainFunc, PlainFile, func_of, file_of}
 use Rattle.ir_model.specs.Tokens as model
 use Rattle.ir_reader.specs.declared.error.ReadError.{ReadError}

@@ -1,12 +1,12 @@
 -- Beyond the program's claim: only laws, proofs and functions inside the tool cite this file.
 -- What a function answers that reads the front of a text.
 use Rattle.std.specs.Prelude.{ℕ, List, [], ◌∷◌, ◌++◌, length, ◌≡◌, ◌<◌, Option, Some, None, Result, Ok, Err, Bool, true, false, not, nat_eq}
-use Rattle.names.specs.Names.{is_word, is_reserved}
+use Rattle.base_names.specs.Names.{is_word, is_reserved}
 use Rattle.std.specs.Borrow.{Bor}
 use Rattle.ir_model.specs.declared.token.Excess.{Excess}
 use Rattle.ir_model.specs.declared.token.Keyword.{Keyword}
 use Rattle.ir_model.specs.declared.token.Mark.{Mark}
-use Rattle.common_laws.specs.Lists.{Each}
+use Rattle.base_laws.specs.Lists.{Each}
 use Rattle.ir_model.specs.Plain.{PlainStruct}
 use Rattle.ir_model.specs.TextLimits.{global_limit}
 use Rattle.ir_model.specs.Tokens.{Name, Key, Sign}

@@ -1,10 +1,10 @@
 -- The tokens of bytes, by one pass from the first byte on.
 use Rattle.std.specs.Prelude.{ℕ, zero, suc, ◌+◌, ◌-◌, ◌^◌, ◌≡◌, List, [], ◌∷◌, length, Bool, true, false, nat_eq, if◌then◌else◌}
 use Rattle.std.specs.List.{prefix_len, take_while}
-use Rattle.numerals.specs.declared.Numeral.{Numeral}
-use Rattle.numerals.specs.declared.Numeral.TheVariants as numeral
-use Rattle.numerals.specs.Numerals.{numeral}
-use Rattle.names.specs.Names.{begins_word, continues_word, is_word, is_reserved, is_between}
+use Rattle.base_numerals.specs.declared.Numeral.{Numeral}
+use Rattle.base_numerals.specs.declared.Numeral.TheVariants as numeral
+use Rattle.base_numerals.specs.Numerals.{numeral}
+use Rattle.base_names.specs.Names.{begins_word, continues_word, is_word, is_reserved, is_between}
 use Rattle.ir_model.specs.declared.token.Mark.TheVariants as mark
 use Rattle.ir_model.specs.Tokens.{Number, Sign}
 use Rattle.ir_model.specs.Texts.{is_blank, opens_comment, is_inside_line}

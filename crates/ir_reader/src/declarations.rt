@@ -1,7 +1,7 @@
 //! Structs, peripherals and globals at the front of a text.
 
 ghost use Rattle.std.specs.Prelude.{◌≡◌, ◌<◌, ◌≤◌, ◌+◌, [], ◌∷◌, ◌++◌, map, flat_map, length, OnOk, IfOk, None};
-ghost use Rattle.common_laws.specs.Lists.{Each};
+ghost use Rattle.base_laws.specs.Lists.{Each};
 ghost use Rattle.ir_model.specs.Plain.{struct_of, global_of};
 ghost use Rattle.ir_model.specs.TextLimits.{global_limit, cell_limit};
 ghost use Rattle.ir_model.specs.declared.token.Keyword.TheVariants as key;
@@ -19,10 +19,10 @@ use crate::limits::{counted, keep, number_excess};
 use crate::slots::{fields, slot};
 use crate::terminals::{behind_mark, behind_word, global_word, mark, name, number, syntax};
 use crate::token::Token;
+use base_lists::ListVec;
 use ir_model::firmware::{Cell, Global as GlobalDecl, Peripheral, Slot, StructDecl};
 use ir_model::text_limits::{CELL_LIMIT, GLOBAL_LIMIT, PERIPH_LIMIT, STRUCT_LIMIT};
 use ir_model::token::{Keyword, Mark, TextLimit};
-use list_vec::ListVec;
 use std::alloc::Global;
 
 /// A struct behind the word `struct`, and the text behind it.

@@ -20,12 +20,12 @@ use crate::limits::{counted, keep};
 use crate::slots::{outcome, params, slot};
 use crate::terminals::{behind_mark, behind_word, mark, name, name_behind, syntax};
 use crate::token::Token;
+use base_lists::ListVec;
+use base_names::Name;
 use ir_model::firmware::{Block, FileDecl, Func, Inst, Slot, Term};
 use ir_model::text_limits::{BLOCK_LIMIT, FILE_LIMIT, FUNCTION_LIMIT, LOCAL_LIMIT, REGISTER_LIMIT};
 use ir_model::token::{Keyword, Mark, TextLimit};
 use ir_model::types::Ty;
-use list_vec::ListVec;
-use names::Name;
 use std::alloc::Global;
 
 /// The instructions of a block behind so many others, and its end, and the text behind them.

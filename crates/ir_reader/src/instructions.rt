@@ -17,11 +17,11 @@ use crate::limits::{counted, keep, number_excess, or_else, word_excess};
 use crate::slots::args;
 use crate::terminals::{mark, name, syntax};
 use crate::token::Token;
+use base_lists::ListVec;
+use base_names::Name;
 use ir_model::firmware::{Inst, Term};
 use ir_model::text_limits::INSTRUCTION_LIMIT;
 use ir_model::token::{Keyword, Mark, TextLimit};
-use list_vec::ListVec;
-use names::Name;
 use std::alloc::Global;
 
 /// An instruction or the end of a block.

@@ -2,8 +2,8 @@
 
 ghost use Rattle.std.specs.Prelude.{◌≡◌, ◌≤◌, ◌<◌, length, IsTrue};
 ghost use Rattle.std.specs.List.{prefix_len};
-ghost use Rattle.names.specs.Names.{continues_word, is_word};
-ghost use Rattle.numerals.specs.Numerals.{numeral};
+ghost use Rattle.base_names.specs.Names.{continues_word, is_word};
+ghost use Rattle.base_numerals.specs.Numerals.{numeral};
 ghost use Rattle.ir_model.specs.Texts.{is_blank, is_inside_line};
 ghost use Rattle.ir_reader.specs.Found.{found_of, Is};
 ghost use Rattle.ir_reader.specs.Words.{word_token};
@@ -13,9 +13,9 @@ ghost use Rattle.ir_reader.specs.Scan as scan;
 
 use crate::reserved::word_token;
 use crate::token::Token;
+use base_names::{may_begin_word, may_continue_word};
+use base_numerals::{Numeral, read_numeral};
 use ir_model::token::Mark;
-use names::{may_begin_word, may_continue_word};
-use numerals::{Numeral, read_numeral};
 
 fn is_digit(b: u8) -> bool
     ensures { result ≡ is_digit b }

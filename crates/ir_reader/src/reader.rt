@@ -19,9 +19,9 @@ use crate::error::{Fault, FaultKind, ReadError};
 use crate::fault::TextFault;
 use crate::functions::files;
 use crate::position::position;
+use base_lists::ListVec;
 use ir_model::firmware::Firmware;
 use ir_model::token::Excess;
-use list_vec::ListVec;
 use std::alloc::Global;
 
 /// The firmware of a text, or its first fault by the bytes that are left there.

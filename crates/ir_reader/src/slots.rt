@@ -15,11 +15,11 @@ use crate::error::ReadError;
 use crate::limits::counted;
 use crate::terminals::{behind_mark, mark, name, name_behind};
 use crate::types::ty;
+use base_names::Name;
 use ir_model::firmware::Slot;
 use ir_model::text_limits::{FIELD_LIMIT, PARAMETER_LIMIT};
 use ir_model::token::{Excess, Mark, TextLimit};
 use ir_model::types::Ty;
-use names::Name;
 use std::alloc::Global;
 
 /// A name with its type, whose first token may pass something else first, and the text behind it.

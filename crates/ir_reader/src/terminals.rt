@@ -11,8 +11,8 @@ use crate::error::{Fault, FaultKind, ReadError};
 use crate::lexer::lex;
 use crate::limits::{keep, number_excess, or_else, word_excess};
 use crate::token::Token;
+use base_names::Name;
 use ir_model::token::{Excess, Keyword, Mark};
-use names::Name;
 use std::alloc::Global;
 
 /// What stands at a place may not stand there.

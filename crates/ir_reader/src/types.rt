@@ -15,11 +15,11 @@ use crate::lexer::lex;
 use crate::limits::{counted, depth_excess, keep, length_excess, or_else, word_excess};
 use crate::terminals::{behind_mark, mark, syntax};
 use crate::token::Token;
+use base_lists::ListVec;
+use base_names::Name;
 use ir_model::text_limits::PARAMETER_LIMIT;
 use ir_model::token::{Excess, Keyword, Mark, TextLimit};
 use ir_model::types::{Signature, Ty};
-use list_vec::ListVec;
-use names::Name;
 use std::alloc::Global;
 
 /// An array's length, and the text behind it.

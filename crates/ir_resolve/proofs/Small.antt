@@ -9,7 +9,7 @@ use Rattle.ir_model.specs.declared.firmware.Slot.{Slot}
 use Rattle.ir_model.specs.Plain.{PlainSlot, PlainGlobal, PlainFunc, PlainFirmware, slot_of, global_of, func_of, funcs_of}
 use Rattle.ir_model.specs.Layout.{shape, empty}
 use Rattle.ir_model.specs.Canonical.{IsWithinLimits}
-use Rattle.common_laws.specs.Lists.{Each}
+use Rattle.base_laws.specs.Lists.{Each}
 use Rattle.ir_model.specs.Typing.{object_limit}
 use Rattle.ir_model.specs.Resolved.{no_func, no_global}
 use Rattle.ir_model.specs.Resolve.{Scope, scope_of, resolved_func, resolved_global, resolve}

@@ -10,10 +10,10 @@ use crate::scope::{
     field_offset, func_number, label_number, named, register_number, register_type,
 };
 use crate::tables::{FuncTables, Scope};
+use base_lists::ListVec;
+use base_names::Name;
 use ir_model::firmware::{Block, Inst, Term};
 use ir_program::program::{Exit, Operation, Sequence};
-use list_vec::ListVec;
-use names::Name;
 use std::alloc::{AllocError, Global};
 
 fn optional_number(tables: &FuncTables, name: &Option<Name>) -> Option<usize>

@@ -6,7 +6,7 @@ ghost use Rattle.ir_model.specs.Plain.{firmware_of, func_of, struct_of};
 ghost use Rattle.ir_model.specs.Canonical.{IsWithinLimits};
 ghost use Rattle.ir_model.specs.Typing.{IsTyped};
 ghost use Rattle.ir_model.specs.TextLimits.{file_limit};
-ghost use Rattle.names.specs.Numbers.{number_of};
+ghost use Rattle.base_names.specs.Numbers.{number_of};
 ghost use Rattle.ir_model.specs.Resolve as definition;
 ghost use Rattle.ir_program.specs.Seen.{program_of, variable_of, span_of, routine_of, cell_count, cell_counts, local_counts, HasCounts};
 ghost use Rattle.ir_program.specs.declared.program.Variable.{Variable as VariableOf};
@@ -16,11 +16,11 @@ use crate::routines::{all_funcs, file_numbers, routines};
 use crate::scope::named_scope;
 use crate::tables::Scope;
 use crate::variables::variables;
+use base_lists::ListVec;
 use ir_laws::limits::sizes;
 use ir_model::checked::Checked;
 use ir_model::firmware::{Firmware, Func};
 use ir_program::program::{Program, Routine, Span, Variable};
-use list_vec::ListVec;
 use std::alloc::{AllocError, Global};
 
 fn spans(alloc: Global, firmware: &Firmware) -> Result<ListVec<Span>, AllocError>

@@ -15,11 +15,11 @@ use crate::operations::sequences;
 use crate::scope::func_tables;
 use crate::storage::storage;
 use crate::tables::Scope;
+use base_lists::ListVec;
+use ir_layouts::table::Layouts;
 use ir_model::firmware::{Firmware, Func, Slot};
 use ir_model::types::Ty;
 use ir_program::program::{Routine, Storage};
-use layouts::table::Layouts;
-use list_vec::ListVec;
 use std::alloc::{AllocError, Global};
 
 fn push_types<'a>(types: &mut Vec<&'a Ty>, slots: &'a [Slot]) -> Result<(), AllocError>

@@ -2,7 +2,7 @@
 
 ghost use Rattle.std.specs.Prelude.{◌≡◌, map, IfOk};
 ghost use Rattle.ir_model.specs.Plain.{firmware_of, func_of, funcs_of};
-ghost use Rattle.names.specs.Numbers.{number_of};
+ghost use Rattle.base_names.specs.Numbers.{number_of};
 ghost use Rattle.ir_model.specs.Resolve as resolving;
 ghost use Rattle.ir_model.specs.Typing.{IsTyped};
 ghost use Rattle.ir_model.specs.FewItems.{HasFewLocals};
@@ -12,15 +12,15 @@ ghost use Rattle.ir_resolve.specs.Scopes.{scope_of, named_func, AreTables, AreFe
 
 use crate::routines::register_types;
 use crate::tables::{FuncTables, Scope};
-use firmware_names::{
+use base_names::Name;
+use ir_firmware_names::{
     func_names, global_names, label_names, local_names, periph_names, register_names,
 };
+use ir_layouts::fault::LayoutFault;
+use ir_layouts::table::Layouts;
 use ir_model::firmware::{Firmware, Func};
 use ir_model::types::Ty;
 use ir_program::program::Target;
-use layouts::fault::LayoutFault;
-use layouts::table::Layouts;
-use names::Name;
 use std::alloc::{AllocError, Global};
 
 fn struct_layouts(alloc: Global, firmware: &Firmware) -> Result<Layouts<'_>, AllocError>

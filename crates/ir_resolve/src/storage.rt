@@ -7,9 +7,9 @@ ghost use Rattle.ir_model.specs.Layout.{known, shape};
 ghost use Rattle.ir_program.specs.Storages.{shape_of};
 ghost use Rattle.ir_resolve.specs.Scopes.{IsSmall};
 
+use ir_layouts::table::Layouts;
 use ir_model::types::Ty;
 use ir_program::program::Storage;
-use layouts::table::Layouts;
 
 /// What a global or a local of a type is made of.
 pub(crate) fn storage<'a>(layouts: &Layouts<'a>, ty: &'a Ty) -> Storage<'a>

@@ -1,10 +1,10 @@
 //! The names of a firmware and of a function, as tables.
 
+use base_lists::ListVec;
+use ir_layouts::table::Layouts;
 use ir_model::firmware::Func;
 use ir_model::types::Ty;
-use layouts::table::Layouts;
-use list_vec::ListVec;
-use name_tables::Names;
+use ir_names::Names;
 
 /// The names of a firmware, and the layouts of its structs.
 #[derive(Drop)]

@@ -13,11 +13,11 @@ ghost use Rattle.ir_program.specs.declared.program.Variable.{Variable};
 use crate::scope::func_number;
 use crate::storage::storage;
 use crate::tables::Scope;
+use base_lists::ListVec;
 use ir_model::firmware::{Cell, Firmware, Global as GlobalDecl};
 use ir_model::types::Ty;
 use ir_program::program::Variable;
 use ir_program::value::Value;
-use list_vec::ListVec;
 use std::alloc::{AllocError, Global};
 
 /// What a cell holds that a text gives.

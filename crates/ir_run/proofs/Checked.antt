@@ -1,7 +1,7 @@
 -- Runs of the programs of checked firmwares, one step further.
 use Rattle.std.proofs.Common.{◌≡◌, ℕ, suc, ◌+◌, ◌<◌, ◌≤◌, ◌^◌, List, [], ◌∷◌, ap, sym, ◌∙◌, subst, arith}
-use Rattle.words.proofs.Runs.{run_none}
-use Rattle.words.proofs.EventLines.{run_behind}
+use Rattle.base_words.proofs.Runs.{run_none}
+use Rattle.base_words.proofs.EventLines.{run_behind}
 use Rattle.ir_model.specs.Types.{PlainType}
 use Rattle.ir_model.specs.Resolved.{Program, func_at, NumberedInst, Const, Move, Bin, Cmp, Addr, FAddr, Elem, Field, Load, Store, Call, ICall, Here, Does, Ends, here}
 use Rattle.ir_model.specs.Resolve.{resolve}

@@ -5,7 +5,7 @@ use Rattle.ir_model.specs.Layout.{CellPlace}
 use Rattle.ir_model.specs.Resolved.{Value}
 use Rattle.ir_model.specs.Resolve.{filled, zero_of}
 use Rattle.ir_model.specs.State.{entered, zero_cells}
-use Rattle.cells.specs.Cells.{types_of}
+use Rattle.ir_cells.specs.Cells.{types_of}
 
 pub filled_entered : (cs : List CellPlace) (vs : List Value) → filled cs vs ≡ entered vs (types_of cs)
 filled_entered [] vs = refl

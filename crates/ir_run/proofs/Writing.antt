@@ -2,7 +2,7 @@
 use Rattle.std.proofs.Common.{◌≡◌, ℕ, zero, suc, List, [], ◌∷◌, map, get_or, set, refl, ap, ◌∙◌, Some}
 use Rattle.std.specs.List.{slice_get}
 use Rattle.std.proofs.lemmas.List.{map-set}
-use Rattle.device_model.specs.Input.{without_first}
+use Rattle.machine_devices.specs.Input.{without_first}
 use Rattle.ir_program.specs.declared.value.Value.{Value as Held}
 use Rattle.ir_program.specs.Values.{value_of}
 

@@ -16,13 +16,13 @@ use crate::frame::Frame;
 use crate::outcome::FaultKind;
 use crate::request::Act;
 use crate::sizes::element_size;
+use base_lists::ListVec;
+use base_words::operations;
+use ir_layouts::table::Layouts;
 use ir_model::types::Ty;
 use ir_program::program::{Operation, Target};
 use ir_program::value::{Address, Instance, Value};
-use layouts::table::Layouts;
-use list_vec::ListVec;
 use std::alloc::{AllocError, Global};
-use words::operations;
 
 fn address_of(frame: &Frame, of: Target) -> Value
     ensures { value_of result ≡ step.address_of (frame_of frame.now) (target_of of) }

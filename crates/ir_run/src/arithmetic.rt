@@ -4,9 +4,9 @@ ghost use Rattle.std.specs.Prelude.{◌≡◌};
 ghost use Rattle.ir_model.specs.Step as step;
 ghost use Rattle.ir_program.specs.Values.{value_of};
 
+use base_words::operations;
 use ir_model::firmware::{BinOp, CmpOp};
 use ir_program::value::Value;
-use words::operations;
 
 /// What an operation makes of two numbers.
 #[tactic(auto, unfolding(ir_model::specs::Step::binary))]

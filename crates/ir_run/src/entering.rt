@@ -9,19 +9,19 @@ ghost use Rattle.ir_program.specs.Values.{value_of};
 ghost use Rattle.ir_program.specs.Storages.{shape_of};
 ghost use Rattle.ir_model.specs.Plain.{struct_of};
 ghost use Rattle.ir_model.specs.Layout.{known, shape};
-ghost use Rattle.cells.specs.Cells.{lent_types, types_of};
+ghost use Rattle.ir_cells.specs.Cells.{lent_types, types_of};
 ghost use Rattle.ir_program.specs.Seen.{routine_of, program_of, local_counts, cell_counts, HasCounts};
 ghost use Rattle.ir_run.specs.Acts.{frame_of};
 ghost use Rattle.ir_run.specs.Counts.{HasCount, HaveCounts};
 
 use crate::contents::{Contents, Values};
 use crate::frame::Frame;
-use cells::put_cell_types;
+use ir_cells::put_cell_types;
+use ir_layouts::table::Layouts;
 use ir_model::types::Ty;
 use ir_program::program::{Program, Routine, Storage};
 use ir_program::types::zero;
 use ir_program::value::Value;
-use layouts::table::Layouts;
 use std::alloc::{AllocError, Global};
 
 // What a register holds when its function is entered.

@@ -1,6 +1,6 @@
 //! What a step answers.
 
-use events::event::Event;
+use base_events::event::Event;
 use thiserror::Error;
 
 /// A fault of the source.

@@ -3,7 +3,7 @@
 use crate::below::Below;
 use crate::contents::Contents;
 use crate::frame::Frame;
-use device_model::tape::Tape;
+use machine_devices::tape::Tape;
 
 /// The state of a run that has not ended.
 #[derive(Drop)]

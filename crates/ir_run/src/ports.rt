@@ -15,7 +15,7 @@ use crate::outcome::{SourceEnd, SourceStep};
 use crate::parts::Parts;
 use crate::registers::{advance, write_register};
 use crate::typed_cells::{cut_number, has_port, width_of};
-use events::event::Event;
+use base_events::event::Event;
 use ir_model::types::Ty;
 use ir_program::program::Program;
 use ir_program::value::Value;

@@ -1,9 +1,9 @@
 //! What instructions ask for.
 
 use crate::outcome::FaultKind;
+use base_lists::ListVec;
 use ir_model::types::Ty;
 use ir_program::value::{Address, Value};
-use list_vec::ListVec;
 
 /// What an instruction asks for.
 #[derive(Drop)]

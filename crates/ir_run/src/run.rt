@@ -14,13 +14,13 @@ use crate::parts::Parts;
 use crate::reads::{Spot, spots};
 use crate::starting::started;
 use crate::turn::turn;
-use device_model::tape::Tape;
+use base_lists::ListVec;
 use ir_laws::runs::{moves, registers, values};
 use ir_laws::typing::places;
 use ir_laws::{events, frames};
 use ir_program::program::Program;
 use ir_program::value::Value;
-use list_vec::ListVec;
+use machine_devices::tape::Tape;
 use std::alloc::{AllocError, Global};
 use std::marker::Model;
 

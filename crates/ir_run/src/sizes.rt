@@ -6,8 +6,8 @@ ghost use Rattle.ir_model.specs.Layout.{known, shape};
 ghost use Rattle.ir_model.specs.Typing.{object_limit};
 ghost use Rattle.ir_program.specs.Storages.{pointee_of};
 
+use ir_layouts::table::Layouts;
 use ir_model::types::Ty;
-use layouts::table::Layouts;
 
 /// The size of an element that is no larger than an object; none is u32.
 pub fn element_size(layouts: &Layouts, ty: Option<&Ty>) -> u32

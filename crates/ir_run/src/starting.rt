@@ -14,9 +14,9 @@ use crate::below::Below;
 use crate::contents::Contents;
 use crate::entering::{first_contents, new_frame};
 use crate::parts::Parts;
-use device_model::tape::Tape;
+use ir_layouts::table::Layouts;
 use ir_program::program::{Program, Variable};
-use layouts::table::Layouts;
+use machine_devices::tape::Tape;
 use std::alloc::{AllocError, Global};
 
 fn initial_contents<'a>(

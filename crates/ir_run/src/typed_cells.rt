@@ -1,7 +1,7 @@
 //! Cells and ports by their types.
 
 ghost use Rattle.std.specs.Prelude.{◌≡◌, ◌<◌, map};
-ghost use Rattle.words.specs.Bytes.{cut};
+ghost use Rattle.base_words.specs.Bytes.{cut};
 ghost use Rattle.ir_model.specs.Types as types;
 ghost use Rattle.ir_model.specs.Types.{type_of};
 ghost use Rattle.ir_model.specs.Layout.{known, shape, cell_at};
@@ -11,20 +11,20 @@ ghost use Rattle.ir_program.specs.Values.{value_of};
 ghost use Rattle.ir_program.specs.Storages.{pointee_of};
 ghost use Rattle.ir_run.specs.Cells.{is_port};
 
+use ir_layouts::table::Layouts;
 use ir_model::types::Ty;
 use ir_program::types::is_integer;
 use ir_program::value::Value;
-use layouts::table::Layouts;
 
 /// The number of the cell at an offset of an object of a type; `ty` is the cell's type, and none is u32.
 pub fn cell_number(layouts: &Layouts, object: &Ty, at: u32, ty: Option<&Ty>) -> Option<u32>
     ensures { result ≡ cell_at (shape (known (map struct_of layouts.now)) (type_of object.now)).cells at (pointee_of ty.entry) }
 {
     match ty {
-        Some(ty) => cells::cell_number(layouts, object, at, ty),
+        Some(ty) => ir_cells::cell_number(layouts, object, at, ty),
         None => {
             let word = Ty::U32;
-            cells::cell_number(layouts, object, at, &word)
+            ir_cells::cell_number(layouts, object, at, &word)
         }
     }
 }
@@ -63,7 +63,7 @@ pub fn has_port(size: u32, at: u32, ty: Option<&Ty>) -> bool
 }
 
 /// The number in the low bytes of another, as many as the type is wide.
-#[tactic(auto, unfolding(words::specs::Bytes::cut))]
+#[tactic(auto, unfolding(base_words::specs::Bytes::cut))]
 pub fn cut_number(ty: Option<&Ty>, number: u32) -> u32
     ensures { result ≡ cut (types.width_of (pointee_of ty.entry)) number }
 {

@@ -1,25 +1,25 @@
 -- Runs of a machine whose callback puts the line of each event: what is printed, and how they end.
 use Rattle.std.specs.Prelude.{flat_map, unwrap_or, IsTrue}
 use Rattle.std.proofs.Common.{◌≡◌, ◌≢◌, ℕ, ◌<◌, Bool, true, false, List, [], ◌∷◌, ◌++◌, Some, None, refl, ap, sym, subst, ◌∙◌, arith, append_assoc, append-nil}
-use Rattle.outside.specs.declared.sink.Sink as sinks
-use Rattle.outside.specs.Counts.{Rose}
-use Rattle.outside.specs.Contents.{AddsPrefix}
-use Rattle.words.specs.Runs.{run, events}
-use Rattle.device_model.specs.declared.image.Window.{Window}
-use Rattle.events.specs.declared.event.Event.{Event}
-use Rattle.device_model.specs.Rules.{ObeysRules}
-use Rattle.armv7m.specs.declared.state.End.{End}
-use Rattle.armv7m.specs.declared.state.End.TheVariants.{Halt, InputEnd, Limit, Stop, Refused}
-use Rattle.armv7m.specs.State.{State}
-use Rattle.armv7m.specs.Step.{step, event}
-use Rattle.machine.specs.Machine.{MachineState, Accepts, AcceptsAll, IsRun, Says}
-use Rattle.armv7m.specs.Confinement.{EventsAreListed}
-use Rattle.lines.specs.Lines.{event_line}
+use Rattle.base_outside.specs.declared.sink.Sink as sinks
+use Rattle.base_outside.specs.Counts.{Rose}
+use Rattle.base_outside.specs.Contents.{AddsPrefix}
+use Rattle.base_words.specs.Runs.{run, events}
+use Rattle.machine_devices.specs.declared.image.Window.{Window}
+use Rattle.base_events.specs.declared.event.Event.{Event}
+use Rattle.machine_devices.specs.Rules.{ObeysRules}
+use Rattle.machine_model.specs.declared.state.End.{End}
+use Rattle.machine_model.specs.declared.state.End.TheVariants.{Halt, InputEnd, Limit, Stop, Refused}
+use Rattle.machine_model.specs.State.{State}
+use Rattle.machine_model.specs.Step.{step, event}
+use Rattle.machine_emulator.specs.Machine.{MachineState, Accepts, AcceptsAll, IsRun, Says}
+use Rattle.machine_model.specs.Confinement.{EventsAreListed}
+use Rattle.machine_lines.specs.Lines.{event_line}
 use Rattle.machine_output.specs.Runs.{event_lines, end_of, HasLine}
-use Rattle.outside.specs.Sinks.{Puts, sink}
-use Rattle.common_laws.specs.Lists.{Each}
-use Rattle.words.proofs.EventLines.{each_event, lines_cut}
-use Rattle.outside.proofs.Prefixes.{prefix_part}
+use Rattle.base_outside.specs.Sinks.{Puts, sink}
+use Rattle.base_laws.specs.Lists.{Each}
+use Rattle.base_words.proofs.EventLines.{each_event, lines_cut}
+use Rattle.base_outside.proofs.Prefixes.{prefix_part}
 use Rattle.machine_output.proofs.Windows.{event_known, name_is_short}
 use Rattle.machine_output.proofs.Ended.{ends_so, same_lines}
 

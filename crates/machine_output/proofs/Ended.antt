@@ -1,15 +1,15 @@
 -- A run in which the machine ends: later steps tell nothing.
 use Rattle.std.specs.Prelude.{unwrap_or}
 use Rattle.std.proofs.Common.{◌≡◌, ℕ, ◌+◌, ◌-◌, ◌≤◌, [], Some, ap, sym, ◌∙◌, arith}
-use Rattle.words.specs.Runs.{run, events}
-use Rattle.words.proofs.Runs.{run-add}
-use Rattle.words.proofs.EventLines.{lines_silent}
-use Rattle.device_model.specs.declared.image.Image.{Image}
-use Rattle.armv7m.specs.declared.state.End.{End}
-use Rattle.armv7m.specs.declared.state.End.TheVariants.{Limit}
-use Rattle.armv7m.specs.State.{State}
-use Rattle.armv7m.specs.Step.{step, event}
-use Rattle.lines.specs.Lines.{event_line}
+use Rattle.base_words.specs.Runs.{run, events}
+use Rattle.base_words.proofs.Runs.{run-add}
+use Rattle.base_words.proofs.EventLines.{lines_silent}
+use Rattle.machine_devices.specs.declared.image.Image.{Image}
+use Rattle.machine_model.specs.declared.state.End.{End}
+use Rattle.machine_model.specs.declared.state.End.TheVariants.{Limit}
+use Rattle.machine_model.specs.State.{State}
+use Rattle.machine_model.specs.Step.{step, event}
+use Rattle.machine_lines.specs.Lines.{event_line}
 use Rattle.machine_output.specs.Runs.{event_lines, end_of}
 
 module _ (i : Image) (stays : (n : ℕ) (s : State) (e : End) → s.ending ≡ Some e → run (step i) n s ≡ s)

@@ -2,23 +2,23 @@
 use Rattle.std.proofs.Math.Nat.{eq-or-lt_of_le}
 use Rattle.std.specs.Prelude.{IfSome}
 use Rattle.std.proofs.Common.{◌≡◌, ◌≢◌, ℕ, ◌+◌, ◌<◌, ◌≤◌, inl, inr, Bool, true, false, List, ◌++◌, Option, Some, None, IsTrue, refl, ap, sym, subst, ◌∙◌, arith, append-nil, append_assoc}
-use Rattle.outside.specs.Counts.{Rose}
-use Rattle.outside.proofs.Prefixes.{prefix_part}
-use Rattle.words.specs.Runs.{run}
-use Rattle.words.proofs.Runs.{run_none}
-use Rattle.words.proofs.EventLines.{run_behind, lines_none, lines_quiet, lines_told, lines_more}
-use Rattle.device_model.specs.declared.image.Image.{Image}
-use Rattle.device_model.specs.declared.image.Window.{Window}
-use Rattle.events.specs.declared.event.Event.{Event}
-use Rattle.armv7m.specs.declared.state.End.TheVariants.{Halt, InputEnd, Limit, Stop, Refused}
-use Rattle.armv7m.specs.State.{State}
-use Rattle.armv7m.specs.Step.{step, event}
-use Rattle.watch.specs.declared.session.Pause.{Pause}
-use Rattle.watch.specs.declared.session.Pause.TheVariants.{Hit, Ended}
-use Rattle.watch.specs.Sessions.{SessionState}
-use Rattle.watch.specs.Watched.{MissesAll, Says}
-use Rattle.lines.specs.Lines.{event_line}
-use Rattle.outside.specs.Sinks.{SinkState, Puts}
+use Rattle.base_outside.specs.Counts.{Rose}
+use Rattle.base_outside.proofs.Prefixes.{prefix_part}
+use Rattle.base_words.specs.Runs.{run}
+use Rattle.base_words.proofs.Runs.{run_none}
+use Rattle.base_words.proofs.EventLines.{run_behind, lines_none, lines_quiet, lines_told, lines_more}
+use Rattle.machine_devices.specs.declared.image.Image.{Image}
+use Rattle.machine_devices.specs.declared.image.Window.{Window}
+use Rattle.base_events.specs.declared.event.Event.{Event}
+use Rattle.machine_model.specs.declared.state.End.TheVariants.{Halt, InputEnd, Limit, Stop, Refused}
+use Rattle.machine_model.specs.State.{State}
+use Rattle.machine_model.specs.Step.{step, event}
+use Rattle.machine_watch.specs.declared.session.Pause.{Pause}
+use Rattle.machine_watch.specs.declared.session.Pause.TheVariants.{Hit, Ended}
+use Rattle.machine_watch.specs.Sessions.{SessionState}
+use Rattle.machine_watch.specs.Watched.{MissesAll, Says}
+use Rattle.machine_lines.specs.Lines.{event_line}
+use Rattle.base_outside.specs.Sinks.{SinkState, Puts}
 use Rattle.machine_output.specs.Runs.{event_lines}
 use Rattle.machine_output.specs.Watching.{told_line, IsStepped, IsPrinted, IsBroken}
 

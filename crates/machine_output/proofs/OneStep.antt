@@ -2,18 +2,18 @@
 use Rattle.std.specs.Prelude.{option_to_list}
 use Rattle.std.specs.List.{FoldsTo}
 use Rattle.std.proofs.Common.{◌≡◌, ℕ, zero, suc, ◌+◌, ◌≤◌, Bool, List, [], ◌∷◌, Option, Some, None, ap, sym, subst, ◌∙◌, arith}
-use Rattle.words.specs.Runs.{run, events}
-use Rattle.words.proofs.Runs.{run_none, run_one, events_one}
-use Rattle.device_model.specs.declared.image.Image.{Image}
-use Rattle.events.specs.declared.event.Event.{Event}
-use Rattle.armv7m.specs.declared.state.End.{End}
-use Rattle.armv7m.specs.declared.state.End.TheVariants.{Halt, InputEnd, Limit, Stop, Refused}
-use Rattle.armv7m.specs.State.{State}
-use Rattle.armv7m.specs.Step.{step, event}
-use Rattle.watch.specs.declared.session.Pause.{Pause}
-use Rattle.watch.specs.declared.session.Pause.TheVariants.{Hit, Ended}
-use Rattle.watch.specs.Sessions.{SessionState}
-use Rattle.watch.specs.Watched.{Says, IsWatched}
+use Rattle.base_words.specs.Runs.{run, events}
+use Rattle.base_words.proofs.Runs.{run_none, run_one, events_one}
+use Rattle.machine_devices.specs.declared.image.Image.{Image}
+use Rattle.base_events.specs.declared.event.Event.{Event}
+use Rattle.machine_model.specs.declared.state.End.{End}
+use Rattle.machine_model.specs.declared.state.End.TheVariants.{Halt, InputEnd, Limit, Stop, Refused}
+use Rattle.machine_model.specs.State.{State}
+use Rattle.machine_model.specs.Step.{step, event}
+use Rattle.machine_watch.specs.declared.session.Pause.{Pause}
+use Rattle.machine_watch.specs.declared.session.Pause.TheVariants.{Hit, Ended}
+use Rattle.machine_watch.specs.Sessions.{SessionState}
+use Rattle.machine_watch.specs.Watched.{Says, IsWatched}
 use Rattle.machine_output.specs.Watching.{IsStepped}
 
 -- no step of a machine that goes on leads to no end

@@ -3,21 +3,21 @@ use Rattle.std.specs.Prelude.{unwrap_or}
 use Rattle.std.proofs.Math.Nat.{eq-or-lt_of_le}
 use Rattle.std.proofs.lemmas.Bool.{cases_lt}
 use Rattle.std.proofs.Common.{◌≡◌, ℕ, zero, suc, ◌+◌, ◌-◌, ◌<◌, ◌≤◌, ◌⊎◌, inl, inr, Bool, true, false, [], ◌++◌, Option, Some, None, IsTrue, refl, ap, sym, subst, ◌∙◌, arith, append_assoc, append-nil}
-use Rattle.outside.specs.Counts.{Rose}
-use Rattle.outside.proofs.Prefixes.{prefix_part, prefix_longer}
-use Rattle.words.specs.Runs.{run, events}
-use Rattle.words.proofs.Runs.{run-add}
-use Rattle.device_model.specs.declared.image.Image.{Image}
-use Rattle.events.specs.declared.event.Event.{Event}
-use Rattle.armv7m.specs.declared.state.End.{End}
-use Rattle.armv7m.specs.declared.state.End.TheVariants.{Halt, InputEnd, Limit, Stop, Refused}
-use Rattle.armv7m.specs.State.{State}
-use Rattle.armv7m.specs.Step.{step, event}
-use Rattle.watch.specs.declared.session.Pause.{Pause}
-use Rattle.watch.specs.declared.session.Pause.TheVariants.{Hit, Ended}
-use Rattle.watch.specs.Watched.{MissesAll, HitsLast, Says}
-use Rattle.lines.specs.Lines.{end_line, watch_line}
-use Rattle.outside.specs.Sinks.{SinkState, Puts}
+use Rattle.base_outside.specs.Counts.{Rose}
+use Rattle.base_outside.proofs.Prefixes.{prefix_part, prefix_longer}
+use Rattle.base_words.specs.Runs.{run, events}
+use Rattle.base_words.proofs.Runs.{run-add}
+use Rattle.machine_devices.specs.declared.image.Image.{Image}
+use Rattle.base_events.specs.declared.event.Event.{Event}
+use Rattle.machine_model.specs.declared.state.End.{End}
+use Rattle.machine_model.specs.declared.state.End.TheVariants.{Halt, InputEnd, Limit, Stop, Refused}
+use Rattle.machine_model.specs.State.{State}
+use Rattle.machine_model.specs.Step.{step, event}
+use Rattle.machine_watch.specs.declared.session.Pause.{Pause}
+use Rattle.machine_watch.specs.declared.session.Pause.TheVariants.{Hit, Ended}
+use Rattle.machine_watch.specs.Watched.{MissesAll, HitsLast, Says}
+use Rattle.machine_lines.specs.Lines.{end_line, watch_line}
+use Rattle.base_outside.specs.Sinks.{SinkState, Puts}
 use Rattle.machine_output.specs.Runs.{end_of, event_lines, run_lines, end_status}
 use Rattle.machine_output.specs.Watches.{accesses, AnswersAt, WatchedRun, hit, missed}
 use Rattle.machine_output.specs.Watching.{IsPrinted, IsBroken, IsWhole, IsPart, pause_line, pause_status}

@@ -1,15 +1,15 @@
 -- Each event of a machine is one of a window, and the names of windows are short.
 use Rattle.std.proofs.Common.{◌≡◌, ℕ, zero, suc, ◌+◌, ◌-◌, ◌<◌, ◌≤◌, ◌⊎◌, inl, inr, Bool, true, false, List, [], ◌∷◌, length, Some, arith}
-use Rattle.names.proofs.Lengths.{name_lengths}
-use Rattle.device_model.specs.declared.image.Image.{Image}
-use Rattle.device_model.specs.declared.image.Window.{Window}
-use Rattle.events.specs.declared.event.Event.{Event}
-use Rattle.mem_bus.specs.Places.{Place, InRam, InFlash, InWindow, inside, choose, find_window, place}
-use Rattle.device_model.specs.Rules.{ObeysRules, AreWindows}
-use Rattle.armv7m.specs.State.{State, Touched, by_mpu}
-use Rattle.armv7m.specs.Step.{turn, event}
-use Rattle.armv7m.specs.Confinement.{AnyOf, EventsAreListed}
-use Rattle.lines.specs.Lines.{name_of}
+use Rattle.base_names.proofs.Lengths.{name_lengths}
+use Rattle.machine_devices.specs.declared.image.Image.{Image}
+use Rattle.machine_devices.specs.declared.image.Window.{Window}
+use Rattle.base_events.specs.declared.event.Event.{Event}
+use Rattle.machine_bus.specs.Places.{Place, InRam, InFlash, InWindow, inside, choose, find_window, place}
+use Rattle.machine_devices.specs.Rules.{ObeysRules, AreWindows}
+use Rattle.machine_model.specs.State.{State, Touched, by_mpu}
+use Rattle.machine_model.specs.Step.{turn, event}
+use Rattle.machine_model.specs.Confinement.{AnyOf, EventsAreListed}
+use Rattle.machine_lines.specs.Lines.{name_of}
 
 some_of : {A : Type 0} (P : A → Type 0) (xs : List A) → AnyOf P xs → (x : A) × P x
 some_of P [] h = absurd h

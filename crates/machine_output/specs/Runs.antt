@@ -1,14 +1,14 @@
 -- What is printed of a run, and how it ends.
 use Rattle.std.specs.Prelude.{ℕ, ◌<◌, ◌≤◌, length, suc, zero, List, ◌++◌, flat_map, unwrap_or}
-use Rattle.words.specs.Runs.{run, events}
-use Rattle.device_model.specs.declared.image.Image.{Image}
-use Rattle.device_model.specs.declared.image.Window.{Window}
-use Rattle.events.specs.declared.event.Event.{Event}
-use Rattle.armv7m.specs.declared.state.End.{End}
-use Rattle.armv7m.specs.declared.state.End.TheVariants.{Halt, InputEnd, Limit, Stop, Refused}
-use Rattle.armv7m.specs.State.{State}
-use Rattle.armv7m.specs.Step.{step, event}
-use Rattle.lines.specs.Lines.{name_of, event_line, end_line}
+use Rattle.base_words.specs.Runs.{run, events}
+use Rattle.machine_devices.specs.declared.image.Image.{Image}
+use Rattle.machine_devices.specs.declared.image.Window.{Window}
+use Rattle.base_events.specs.declared.event.Event.{Event}
+use Rattle.machine_model.specs.declared.state.End.{End}
+use Rattle.machine_model.specs.declared.state.End.TheVariants.{Halt, InputEnd, Limit, Stop, Refused}
+use Rattle.machine_model.specs.State.{State}
+use Rattle.machine_model.specs.Step.{step, event}
+use Rattle.machine_lines.specs.Lines.{name_of, event_line, end_line}
 
 -- the byte that RAM holds at the start of a run
 abbrev pub fill : ℕ

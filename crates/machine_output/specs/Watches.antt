@@ -1,12 +1,12 @@
 -- Runs that end at an access of one address: how they end, and what is printed of them.
 use Rattle.std.specs.Prelude.{◌≡◌, ℕ, ◌+◌, ◌≤◌, List, ◌++◌, Bool, false, Option, Some, None, slice_get}
-use Rattle.device_model.specs.declared.image.Image.{Image}
-use Rattle.device_model.specs.declared.image.Window.{Window}
-use Rattle.events.specs.declared.event.Event.{Event}
-use Rattle.mem_bus.specs.Places.{inside}
-use Rattle.armv7m.specs.State.{State}
-use Rattle.watch.specs.Watched.{MissesAll, HitsLast}
-use Rattle.lines.specs.Lines.{watch_line}
+use Rattle.machine_devices.specs.declared.image.Image.{Image}
+use Rattle.machine_devices.specs.declared.image.Window.{Window}
+use Rattle.base_events.specs.declared.event.Event.{Event}
+use Rattle.machine_bus.specs.Places.{inside}
+use Rattle.machine_model.specs.State.{State}
+use Rattle.machine_watch.specs.Watched.{MissesAll, HitsLast}
+use Rattle.machine_lines.specs.Lines.{watch_line}
 use Rattle.machine_output.specs.Runs.{end_of, event_lines, run_lines, end_status}
 
 -- whether an event is an access of this address: it is one of a window, and its bytes from the window's base and the offset on have the

@@ -1,20 +1,20 @@
 -- Beyond the program's claim: only laws, proofs and functions inside the tool cite this file.
 -- Watched runs as they are made and printed, step by step. Below, `answers` says of an event that the watch may give this answer on it.
 use Rattle.std.specs.Prelude.{◌≡◌, ℕ, ◌+◌, ◌<◌, ◌≤◌, List, [], ◌++◌, Bool, Option, Some, None, IsTrue}
-use Rattle.outside.specs.Counts.{Rose}
-use Rattle.outside.specs.Contents.{AddsPrefix}
-use Rattle.words.specs.Runs.{run}
-use Rattle.device_model.specs.declared.image.Image.{Image}
-use Rattle.device_model.specs.declared.image.Window.{Window}
-use Rattle.events.specs.declared.event.Event.{Event}
-use Rattle.armv7m.specs.State.{State}
-use Rattle.armv7m.specs.Step.{step, event}
-use Rattle.watch.specs.declared.session.Pause.{Pause}
-use Rattle.watch.specs.declared.session.Pause.TheVariants.{Hit, Ended}
-use Rattle.watch.specs.Sessions.{SessionState}
-use Rattle.watch.specs.Watched.{MissesAll, Says}
-use Rattle.lines.specs.Lines.{event_line, end_line, watch_line}
-use Rattle.outside.specs.Sinks.{SinkState}
+use Rattle.base_outside.specs.Counts.{Rose}
+use Rattle.base_outside.specs.Contents.{AddsPrefix}
+use Rattle.base_words.specs.Runs.{run}
+use Rattle.machine_devices.specs.declared.image.Image.{Image}
+use Rattle.machine_devices.specs.declared.image.Window.{Window}
+use Rattle.base_events.specs.declared.event.Event.{Event}
+use Rattle.machine_model.specs.State.{State}
+use Rattle.machine_model.specs.Step.{step, event}
+use Rattle.machine_watch.specs.declared.session.Pause.{Pause}
+use Rattle.machine_watch.specs.declared.session.Pause.TheVariants.{Hit, Ended}
+use Rattle.machine_watch.specs.Sessions.{SessionState}
+use Rattle.machine_watch.specs.Watched.{MissesAll, Says}
+use Rattle.machine_lines.specs.Lines.{event_line, end_line, watch_line}
+use Rattle.base_outside.specs.Sinks.{SinkState}
 use Rattle.machine_output.specs.Runs.{event_lines, end_status}
 use Rattle.machine_output.specs.Watches.{WatchedRun}
 

@@ -4,20 +4,20 @@
 pub mod watching;
 
 ghost use Rattle.std.specs.Prelude.{◌≡◌, ◌≤◌, ◌++◌, IsTrue, IfOk, OnErr, OnOk, None};
-ghost use Rattle.outside.specs.Counts.{Rose};
-ghost use Rattle.outside.specs.Contents.{AddsPrefix};
-ghost use Rattle.device_model.specs.Rules.{ObeysRules};
-ghost use Rattle.lines.specs.Lines as lines;
-ghost use Rattle.outside.specs.Sinks.{Puts, sink};
+ghost use Rattle.base_outside.specs.Counts.{Rose};
+ghost use Rattle.base_outside.specs.Contents.{AddsPrefix};
+ghost use Rattle.machine_devices.specs.Rules.{ObeysRules};
+ghost use Rattle.machine_lines.specs.Lines as lines;
+ghost use Rattle.base_outside.specs.Sinks.{Puts, sink};
 ghost use Rattle.machine_output.specs.Runs.{end_of, event_lines, run_lines, HasLine};
 
-use armv7m::laws::{ended_machines, listed_accesses};
-use armv7m::state::End;
-use device_model::image::{Image, Window};
-use events::event::Event;
-use lines::{end_line, event_line};
-use machine::Machine;
-use outside::{Failed, Sink};
+use base_events::event::Event;
+use base_outside::{Failed, Sink};
+use machine_devices::image::{Image, Window};
+use machine_emulator::Machine;
+use machine_lines::{end_line, event_line};
+use machine_model::laws::{ended_machines, listed_accesses};
+use machine_model::state::End;
 
 /// Runs a machine of this image for at most so many steps, puts the line of each event, and then that of the end, by one put
 /// each. Answers how it ended. Takes no memory.

@@ -2,24 +2,24 @@
 
 ghost use Rattle.std.specs.Prelude.{◌≡◌, ◌≢◌, ◌+◌, ◌<◌, ◌^◌, Bool, None, IsTrue, IsFalse, IfSome, IfOk, OnErr};
 ghost use Rattle.std.specs.Fn.{FnReturnsAt};
-ghost use Rattle.mem_bus.specs.Places.{inside};
-ghost use Rattle.device_model.specs.Rules.{ObeysRules};
-ghost use Rattle.armv7m.specs.declared.state.End.TheVariants.{Limit};
-ghost use Rattle.watch.specs.Answers.{AnswersEqually};
-ghost use Rattle.watch.specs.declared.session.Pause.TheVariants.{Ended};
-ghost use Rattle.outside.specs.Sinks.{Puts, sink};
+ghost use Rattle.machine_bus.specs.Places.{inside};
+ghost use Rattle.machine_devices.specs.Rules.{ObeysRules};
+ghost use Rattle.machine_model.specs.declared.state.End.TheVariants.{Limit};
+ghost use Rattle.machine_watch.specs.Answers.{AnswersEqually};
+ghost use Rattle.machine_watch.specs.declared.session.Pause.TheVariants.{Ended};
+ghost use Rattle.base_outside.specs.Sinks.{Puts, sink};
 ghost use Rattle.machine_output.specs.Runs.{HasLine};
 ghost use Rattle.machine_output.specs.Watches as watches;
 ghost use Rattle.machine_output.specs.Watching as watching;
 
 use crate::put_event;
-use armv7m::laws::{ended_machines, listed_accesses};
-use armv7m::state::End;
-use device_model::image::{Image, Window};
-use events::event::Event;
-use lines::{Line, end_line, watch_line};
-use outside::{Failed, Sink};
-use watch::session::{Pause, Session};
+use base_events::event::Event;
+use base_outside::{Failed, Sink};
+use machine_devices::image::{Image, Window};
+use machine_lines::{Line, end_line, watch_line};
+use machine_model::laws::{ended_machines, listed_accesses};
+use machine_model::state::End;
+use machine_watch::session::{Pause, Session};
 
 /// Whether the address is among so many bytes from an offset behind a base on.
 fn has_byte(base: u32, offset: u32, width: u8, address: u32) -> bool

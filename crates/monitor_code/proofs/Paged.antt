@@ -1,28 +1,28 @@
 -- The bytes of words and of instructions behind them, when no branch to a label is among them; and what the page is made of.
 use Rattle.std.proofs.Common.{◌≡◌, ℕ, ◌+◌, ◌-◌, ◌/◌, ◌%◌, ◌^◌, ◌<◌, ◌≤◌, true, ◌&&◌, List, [], ◌∷◌, ◌++◌, Option, None, map, length, length-append, take, get_or, replicate, Result, Ok, Err, IfOk, refl, ap, ap₂, sym, ◌∙◌, arith, append_assoc}
 use Rattle.std.proofs.lemmas.List.{take_more, length-replicate}
-use Rattle.thumb_model.specs.declared.table.Instr.{Instr}
-use Rattle.thumb_model.specs.Table.{encode, width_of}
-use Rattle.thumb_model.specs.Bytes.{bytes_of_half, bytes_of_code, code_bytes}
-use Rattle.thumb_asm.specs.declared.item.Item.{Item}
-use Rattle.thumb_asm.specs.declared.item.Item.TheVariants.{Plain, Word}
-use Rattle.thumb_asm.specs.Assembly.{Assembly, ArePut, here}
-use Rattle.thumb_asm.specs.Finished.{bytes_from, first_far, assembled}
-use Rattle.gate_steps.specs.Steps.{Steps, names_low}
-use Rattle.gate_steps.specs.Lists.{steps_of}
-use Rattle.gate_steps.specs.Code.{code, code_length}
-use Rattle.gate_assembler.specs.Emitted.{MayPut, HasPut, has_near_offsets}
-use Rattle.monitor.specs.Layout.{page_size}
-use Rattle.monitor.specs.Constants.{Constants, most_slots}
-use Rattle.monitor.specs.Svc.{svc}
-use Rattle.monitor.specs.MemFault.{memfault}
-use Rattle.monitor.specs.Reset.{reset}
-use Rattle.monitor.specs.declared.tables.Tables.{Tables}
-use Rattle.monitor.specs.Page.{bytes_of_words, stub_offset, svc_offset, memfault_offset, filled_up, leave_stub, monitor_code, vectors, constants, used_bytes, page}
+use Rattle.machine_thumb.specs.declared.table.Instr.{Instr}
+use Rattle.machine_thumb.specs.Table.{encode, width_of}
+use Rattle.machine_thumb.specs.Bytes.{bytes_of_half, bytes_of_code, code_bytes}
+use Rattle.machine_thumb_asm.specs.declared.item.Item.{Item}
+use Rattle.machine_thumb_asm.specs.declared.item.Item.TheVariants.{Plain, Word}
+use Rattle.machine_thumb_asm.specs.Assembly.{Assembly, ArePut, here}
+use Rattle.machine_thumb_asm.specs.Finished.{bytes_from, first_far, assembled}
+use Rattle.monitor_steps.specs.Steps.{Steps, names_low}
+use Rattle.monitor_steps.specs.Lists.{steps_of}
+use Rattle.monitor_steps.specs.Code.{code, code_length}
+use Rattle.monitor_assembler.specs.Emitted.{MayPut, HasPut, has_near_offsets}
+use Rattle.monitor_model.specs.Layout.{page_size}
+use Rattle.monitor_program.specs.Constants.{Constants, most_slots}
+use Rattle.monitor_program.specs.Svc.{svc}
+use Rattle.monitor_program.specs.MemFault.{memfault}
+use Rattle.monitor_program.specs.Reset.{reset}
+use Rattle.monitor_model.specs.declared.tables.Tables.{Tables}
+use Rattle.monitor_program.specs.Page.{bytes_of_words, stub_offset, svc_offset, memfault_offset, filled_up, leave_stub, monitor_code, vectors, constants, used_bytes, page}
 use Rattle.monitor_code.specs.declared.calls.Lists.{Lists}
 use Rattle.monitor_code.specs.Whole.{fits, HasWords, AreLists, CanPut, lists_code, vector_words}
 use Rattle.monitor_code.proofs.Fits.{lists_fit}
-use Rattle.thumb_asm.proofs.Items.{total-append}
+use Rattle.machine_thumb_asm.proofs.Items.{total-append}
 use Rattle.std.proofs.lemmas.Bool.{and_parts as parts_of}
 
 word_bytes : (w : ℕ) → bytes_of_half (w % 2 ^ 16) ++ bytes_of_half (w / 2 ^ 16) ≡ w % 256 ∷ w / 2 ^ 8 % 256 ∷ w / 2 ^ 16 % 256 ∷ w / 2 ^ 24 ∷ []

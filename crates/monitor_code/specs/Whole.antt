@@ -1,19 +1,19 @@
 -- Beyond the program's claim: only laws, proofs and functions inside the tool cite this file.
 -- The three lists together, and the code of them with the leave stub.
 use Rattle.std.specs.Prelude.{◌≡◌, ℕ, ◌+◌, ◌*◌, ◌<◌, ◌^◌, Bool, true, ◌&&◌, List, ◌∷◌, ◌++◌, length, map, replicate}
-use Rattle.thumb_model.specs.declared.table.Instr.{Instr}
-use Rattle.thumb_asm.specs.declared.item.Item.TheVariants.{Word}
-use Rattle.thumb_asm.specs.Assembly.{Assembly, here}
-use Rattle.gate_steps.specs.Steps.{Steps, names_low}
-use Rattle.gate_steps.specs.Lists.{steps_of}
-use Rattle.gate_steps.specs.Code.{code, code_length}
-use Rattle.monitor.specs.Constants.{Constants}
-use Rattle.monitor.specs.Svc.{svc}
-use Rattle.monitor.specs.MemFault.{memfault}
-use Rattle.monitor.specs.Reset.{reset}
-use Rattle.monitor.specs.Page.{leave_stub, vector_to, reset_offset}
-use Rattle.monitor.specs.declared.tables.Tables.{Tables}
-use Rattle.gate_assembler.specs.Emitted.{has_near_offsets}
+use Rattle.machine_thumb.specs.declared.table.Instr.{Instr}
+use Rattle.machine_thumb_asm.specs.declared.item.Item.TheVariants.{Word}
+use Rattle.machine_thumb_asm.specs.Assembly.{Assembly, here}
+use Rattle.monitor_steps.specs.Steps.{Steps, names_low}
+use Rattle.monitor_steps.specs.Lists.{steps_of}
+use Rattle.monitor_steps.specs.Code.{code, code_length}
+use Rattle.monitor_program.specs.Constants.{Constants}
+use Rattle.monitor_program.specs.Svc.{svc}
+use Rattle.monitor_program.specs.MemFault.{memfault}
+use Rattle.monitor_program.specs.Reset.{reset}
+use Rattle.monitor_program.specs.Page.{leave_stub, vector_to, reset_offset}
+use Rattle.monitor_model.specs.declared.tables.Tables.{Tables}
+use Rattle.monitor_assembler.specs.Emitted.{has_near_offsets}
 use Rattle.monitor_code.specs.declared.calls.Lists.{Lists}
 
 -- they are those of the definitions

@@ -1,22 +1,22 @@
 //! The monitor's lists for tables.
 
 ghost use Rattle.std.specs.Prelude.{◌≡◌, ◌≤◌, ◌<◌, ◌^◌, IfOk};
-ghost use Rattle.gate_steps.specs.Lists.{steps_of};
-ghost use Rattle.monitor.specs.Svc as svc_handler;
-ghost use Rattle.monitor.specs.MemFault as fault_handler;
-ghost use Rattle.monitor.specs.Reset as start;
-ghost use Rattle.monitor.specs.Page as flash;
-ghost use Rattle.step_lists.specs.Made.{constants_of};
+ghost use Rattle.monitor_steps.specs.Lists.{steps_of};
+ghost use Rattle.monitor_program.specs.Svc as svc_handler;
+ghost use Rattle.monitor_program.specs.MemFault as fault_handler;
+ghost use Rattle.monitor_program.specs.Reset as start;
+ghost use Rattle.monitor_program.specs.Page as flash;
+ghost use Rattle.monitor_lists.specs.Made.{constants_of};
 ghost use Rattle.monitor_code.specs.Whole.{AreLists};
 
-use gate_assembler::length_of;
-use gate_steps::GateStep;
-use monitor::Tables;
-use monitor::code_size::page_is_full;
+use monitor_assembler::length_of;
 use monitor_constants::without_stub;
-use start_steps::reset::start_up;
+use monitor_lists::Numbers;
+use monitor_lists::reset::start_up;
+use monitor_model::Tables;
+use monitor_program::code_size::page_is_full;
+use monitor_steps::GateStep;
 use std::alloc::{AllocError, Global};
-use step_lists::Numbers;
 
 /// The three lists.
 #[derive(Drop)]
@@ -36,8 +36,8 @@ pub(crate) fn all_lists(alloc: Global, numbers: &Numbers) -> Result<Lists, Alloc
 {
     Ok(Lists {
         start: start_up(alloc, numbers)?.into_vec(),
-        svc: svc_steps::svc::handler(alloc, numbers)?.into_vec(),
-        memfault: fault_steps::memfault::handler(alloc, numbers)?.into_vec(),
+        svc: monitor_lists::svc::handler(alloc, numbers)?.into_vec(),
+        memfault: monitor_lists::memfault::handler(alloc, numbers)?.into_vec(),
     })
 }
 
@@ -78,7 +78,7 @@ pub fn svc(alloc: Global, t: &Tables) -> Result<Vec<GateStep>, AllocError>
     ensures { IfOk result (λ steps. steps_of steps.items ≡ svc_handler.svc (flash.constants t.now)) }
 {
     let numbers = numbers(alloc, t)?;
-    Ok(svc_steps::svc::handler(alloc, &numbers)?.into_vec())
+    Ok(monitor_lists::svc::handler(alloc, &numbers)?.into_vec())
 }
 
 /// The handler of MemManage for these tables.
@@ -86,5 +86,5 @@ pub fn memfault(alloc: Global, t: &Tables) -> Result<Vec<GateStep>, AllocError>
     ensures { IfOk result (λ steps. steps_of steps.items ≡ fault_handler.memfault (flash.constants t.now)) }
 {
     let numbers = numbers(alloc, t)?;
-    Ok(fault_steps::memfault::handler(alloc, &numbers)?.into_vec())
+    Ok(monitor_lists::memfault::handler(alloc, &numbers)?.into_vec())
 }

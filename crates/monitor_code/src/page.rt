@@ -1,21 +1,21 @@
 //! The first bytes of flash.
 
 ghost use Rattle.std.specs.Prelude.{◌≡◌, ◌+◌, ◌*◌, ◌≤◌, ◌<◌, ◌^◌, None, length, OnOk, IfOk};
-ghost use Rattle.thumb_asm.specs.Assembly as assembly;
-ghost use Rattle.thumb_asm.specs.Finished.{assembled, first_far};
-ghost use Rattle.gate_assembler.specs.Emitted.{HasPut};
-ghost use Rattle.monitor.specs.Page as flash;
-ghost use Rattle.step_lists.specs.Made.{constants_of};
+ghost use Rattle.machine_thumb_asm.specs.Assembly as assembly;
+ghost use Rattle.machine_thumb_asm.specs.Finished.{assembled, first_far};
+ghost use Rattle.monitor_assembler.specs.Emitted.{HasPut};
+ghost use Rattle.monitor_program.specs.Page as flash;
+ghost use Rattle.monitor_lists.specs.Made.{constants_of};
 ghost use Rattle.monitor_code.specs.Whole.{CanPut, HasWords, lists_code, vector_words};
 
 use crate::calls::{Lists, all_lists, numbers};
-use gate_assembler::{assemble, length_of};
-use monitor::Tables;
-use monitor::code_size::page_is_full;
+use machine_thumb::Instr;
+use machine_thumb_asm::{Asm, AsmRefusal};
+use monitor_assembler::{assemble, length_of};
+use monitor_lists::Numbers;
+use monitor_model::Tables;
+use monitor_program::code_size::page_is_full;
 use std::alloc::{AllocError, Global};
-use step_lists::Numbers;
-use thumb_asm::{Asm, AsmRefusal};
-use thumb_model::Instr;
 
 /// The address of a handler, with bit 0 set, modulo 2^32.
 fn vector_to(t: &Tables, offset: u32) -> u32

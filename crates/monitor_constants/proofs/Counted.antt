@@ -10,18 +10,18 @@ use Rattle.std.proofs.lemmas.Nat.{mul-mod_first, mul-mod_second}
 use Rattle.plan_model.specs.Covers.{least_power}
 use Rattle.plan_model.specs.Blocks.{block}
 use Rattle.plan_model.proofs.Powers.{next_power_is_block}
-use Rattle.words.specs.Arithmetic.{word}
-use Rattle.mpu_model.specs.declared.region.Region.{Region}
-use Rattle.mpu_model.specs.declared.words.Rights.{Rights}
-use Rattle.mpu_model.specs.declared.words.Rights.TheVariants.{Background}
-use Rattle.mpu_model.specs.RegionWords.{rights_word, size_field, region_of}
+use Rattle.base_words.specs.Arithmetic.{word}
+use Rattle.machine_protection.specs.declared.region.Region.{Region}
+use Rattle.machine_protection.specs.declared.words.Rights.{Rights}
+use Rattle.machine_protection.specs.declared.words.Rights.TheVariants.{Background}
+use Rattle.machine_protection.specs.RegionWords.{rights_word, size_field, region_of}
 use Rattle.std.proofs.lemmas.List.{drop_more}
-use Rattle.mpu_model.specs.Regions.{size_log}
-use Rattle.monitor.specs.declared.tables.CompRecord.{CompRecord}
-use Rattle.monitor.specs.Layout.{greatest_code}
-use Rattle.monitor.specs.Constants.{background_of, region_words}
+use Rattle.machine_protection.specs.Regions.{size_log}
+use Rattle.monitor_model.specs.declared.tables.CompRecord.{CompRecord}
+use Rattle.monitor_model.specs.Layout.{greatest_code}
+use Rattle.monitor_program.specs.Constants.{background_of, region_words}
 use Rattle.monitor_constants.specs.Sizes.{most}
-use Rattle.common_laws.proofs.Powers.{none_found as find_none}
+use Rattle.base_laws.proofs.Powers.{none_found as find_none}
 
 -- ---- as far as they fit
 

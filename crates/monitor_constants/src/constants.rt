@@ -1,19 +1,19 @@
 //! What the lists take of the tables, counted and added up.
 
 ghost use Rattle.std.specs.Prelude.{◌≡◌, ℕ, ◌+◌, ◌-◌, ◌*◌, ◌<◌, ◌≤◌, ◌^◌, min};
-ghost use Rattle.words.specs.Arithmetic.{word};
-ghost use Rattle.mpu_model.specs.declared.words.Rights.TheVariants.{Code, Stack};
-ghost use Rattle.mpu_model.specs.RegionWords as words;
-ghost use Rattle.monitor.specs.Records as records;
-ghost use Rattle.monitor.specs.Layout as layout;
-ghost use Rattle.monitor.specs.Constants.{constants_with, background_of, region_words};
-ghost use Rattle.step_lists.specs.Made.{constants_of};
+ghost use Rattle.base_words.specs.Arithmetic.{word};
+ghost use Rattle.machine_protection.specs.declared.words.Rights.TheVariants.{Code, Stack};
+ghost use Rattle.machine_protection.specs.RegionWords as words;
+ghost use Rattle.monitor_model.specs.Records as records;
+ghost use Rattle.monitor_model.specs.Layout as layout;
+ghost use Rattle.monitor_program.specs.Constants.{constants_with, background_of, region_words};
+ghost use Rattle.monitor_lists.specs.Made.{constants_of};
 ghost use Rattle.monitor_constants.specs.Sizes.{most};
 
 use crate::sizes::{block_of, greatest_code, word_count};
-use monitor::Tables;
-use mpu_model::region::Region;
-use step_lists::Numbers;
+use machine_protection::region::Region;
+use monitor_lists::Numbers;
+use monitor_model::Tables;
 
 /// The number of slots of each compartment; 4 where there is no compartment.
 pub fn number_of_slots(t: &Tables) -> usize

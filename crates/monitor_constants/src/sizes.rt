@@ -2,11 +2,11 @@
 
 ghost use Rattle.std.specs.Prelude.{◌≡◌, ℕ, ◌*◌, ◌<◌, ◌≤◌, ◌^◌, length, min, sum_by};
 ghost use Rattle.plan_model.specs.Blocks.{block};
-ghost use Rattle.monitor.specs.Records.{words_in};
-ghost use Rattle.monitor.specs.Layout as layout;
+ghost use Rattle.monitor_model.specs.Records.{words_in};
+ghost use Rattle.monitor_model.specs.Layout as layout;
 ghost use Rattle.monitor_constants.specs.Sizes.{most};
 
-use monitor::{CompRecord, InitRecord};
+use monitor_model::{CompRecord, InitRecord};
 
 /// How many words start-up copies into these ranges, or as many as fit 64 bits.
 pub fn word_count(inits: &[InitRecord]) -> u64

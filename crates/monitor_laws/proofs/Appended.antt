@@ -1,10 +1,10 @@
 -- A list with another behind it, and its code.
 use Rattle.std.proofs.Common.{◌≡◌, ℕ, zero, suc, ◌+◌, Bool, true, false, List, [], ◌∷◌, ◌++◌, refl, sym, ap, ◌∙◌, append_assoc}
-use Rattle.thumb_model.specs.declared.table.Instr.TheVariants.{DataImmediate, BranchWide}
-use Rattle.gate_steps.specs.Steps.{Steps, End, Const, Copy, Load, Store, Alu, ReadPsp, WritePsp, WriteControl, Test, Repeat, Halt, Return, Go, names_low}
-use Rattle.gate_steps.specs.Code.{operation_code, code_length, code}
-use Rattle.monitor.specs.Constants.{Constants}
-use Rattle.monitor.specs.Opening.{times, bits_of, regions, record_of, stack_region, tables_of}
+use Rattle.machine_thumb.specs.declared.table.Instr.TheVariants.{DataImmediate, BranchWide}
+use Rattle.monitor_steps.specs.Steps.{Steps, End, Const, Copy, Load, Store, Alu, ReadPsp, WritePsp, WriteControl, Test, Repeat, Halt, Return, Go, names_low}
+use Rattle.monitor_steps.specs.Code.{operation_code, code_length, code}
+use Rattle.monitor_program.specs.Constants.{Constants}
+use Rattle.monitor_program.specs.Opening.{times, bits_of, regions, record_of, stack_region, tables_of}
 
 -- s, and behind it r
 abbrev pub followed_by : (s r : Steps) → Steps
@@ -61,7 +61,7 @@ record_followed c k r = ap (λ s. Const 6 0 s) (times_followed 6 5 (bits_of 4 (c
 pub tables_followed : (c : Constants) (k r : Steps) → followed_by (tables_of c k) r ≡ tables_of c (followed_by k r)
 tables_followed c k r =
     record_followed c _ r
-    ∙ ap (λ s. record_of c (Const 0 Rattle.mpu_model.specs.declared.TheConstants.MPU_RBAR (regions 1 0 (stack_region c s)))) (regions_followed c.slots 2 k r)
+    ∙ ap (λ s. record_of c (Const 0 Rattle.machine_protection.specs.declared.TheConstants.MPU_RBAR (regions 1 0 (stack_region c s)))) (regions_followed c.slots 2 k r)
 
 -- they name r0 to r7
 pub times_low : (bs : List Bool) (k : Steps) → names_low (times 6 5 bs k) ≡ names_low k

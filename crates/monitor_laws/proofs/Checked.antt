@@ -2,23 +2,23 @@
 use Rattle.std.proofs.Common.{◌≡◌, ◌≢◌, ℕ, ◌+◌, ◌*◌, ◌%◌, ◌≤◌, Bool, true, false, not, ◌&&◌, List, [], ◌∷◌, ◌++◌, length, nat_eq, nat_lt, nat_le, Option, Some, None, refl, sym, ap₂, arith}
 use Rattle.std.proofs.lemmas.Bool.Decides.{nat_tests}
 use Rattle.std.proofs.lemmas.Bool.{ltb-true, eqb-true, leb-true, and_parts as both}
-use Rattle.device_model.specs.declared.image.Image.{Image}
-use Rattle.device_model.specs.Rules.{block_size}
-use Rattle.common_laws.specs.Lists.{Each}
-use Rattle.windows.specs.Ranges.{IsInside, AreApart, are_apart, is_inside}
-use Rattle.windows.proofs.Decisions.{decides_inside, decides_apart}
-use Rattle.monitor.specs.declared.sound.AuditCheck.{AuditCheck}
-use Rattle.monitor.specs.declared.sound.AuditCheck.TheVariants as check
-use Rattle.monitor.specs.declared.tables.TargetRecord.{TargetRecord}
-use Rattle.monitor.specs.declared.tables.Tables.{Tables}
-use Rattle.monitor.specs.Records.{compartment_at}
-use Rattle.monitor.specs.Layout.{page_size, head_size, head_at, compartment_size, compartments_at, sites_at, targets_at, area_end, tables_size}
-use Rattle.monitor.specs.RegionChecks.{is_compartment}
-use Rattle.monitor.specs.Checks.{must, and_then, each_record, header_fails, tables_fail, difference, code_fails, regions_fail, is_entry, is_target, is_site, sites_fail, lends_fail, inits_fail}
-use Rattle.monitor.specs.MonitorCode.{MonitorCode}
-use Rattle.monitor.specs.Sound.{Failure, unless, first_failure, Sound}
-use Rattle.monitor.specs.Placed.{IsEntry}
-use Rattle.mpu_model.specs.Regions.{holds}
+use Rattle.machine_devices.specs.declared.image.Image.{Image}
+use Rattle.machine_devices.specs.Rules.{block_size}
+use Rattle.base_laws.specs.Lists.{Each}
+use Rattle.base_ranges.specs.Ranges.{IsInside, AreApart, are_apart, is_inside}
+use Rattle.base_ranges.proofs.Decisions.{decides_inside, decides_apart}
+use Rattle.monitor_model.specs.declared.sound.AuditCheck.{AuditCheck}
+use Rattle.monitor_model.specs.declared.sound.AuditCheck.TheVariants as check
+use Rattle.monitor_model.specs.declared.tables.TargetRecord.{TargetRecord}
+use Rattle.monitor_model.specs.declared.tables.Tables.{Tables}
+use Rattle.monitor_model.specs.Records.{compartment_at}
+use Rattle.monitor_model.specs.Layout.{page_size, head_size, head_at, compartment_size, compartments_at, sites_at, targets_at, area_end, tables_size}
+use Rattle.monitor_model.specs.RegionChecks.{is_compartment}
+use Rattle.monitor_model.specs.Checks.{must, and_then, each_record, header_fails, tables_fail, difference, code_fails, regions_fail, is_entry, is_target, is_site, sites_fail, lends_fail, inits_fail}
+use Rattle.monitor_model.specs.MonitorCode.{MonitorCode}
+use Rattle.monitor_model.specs.Sound.{Failure, unless, first_failure, Sound}
+use Rattle.monitor_model.specs.Placed.{IsEntry}
+use Rattle.machine_protection.specs.Regions.{holds}
 
 pub is_not : (a b : ℕ) → not (nat_eq a b) ≡ true → a ≢ b
 is_not a b h = grind (arith, nat_tests)

@@ -2,29 +2,29 @@
 use Rattle.std.proofs.Common.{◌≡◌, ℕ, zero, suc, ◌+◌, ◌-◌, ◌*◌, ◌%◌, ◌^◌, ◌<◌, ◌≤◌, List, [], ◌∷◌, length, get_or, refl, sym, ap, ◌∙◌, subst, arith}
 use Rattle.std.specs.Prelude.{flat_map, sum_by}
 use Rattle.std.proofs.lemmas.List.Sums.{sum_by-cons}
-use Rattle.words.specs.Arithmetic.{word, add, subtract, shift_right}
-use Rattle.words.specs.Bytes.{read, write, write_all}
-use Rattle.words.specs.declared.memory.Width.TheVariants.{Word}
-use Rattle.mpu_model.specs.declared.region.Access.TheVariants.{Read, Write}
-use Rattle.device_model.specs.declared.image.Image.{Image}
-use Rattle.device_model.specs.Rules.{ObeysRules}
-use Rattle.armv7m.specs.declared.state.ProtectionState.{ProtectionState}
-use Rattle.armv7m.specs.declared.state.FaultStatus.{FaultStatus}
-use Rattle.armv7m.specs.State.{by_mpu}
-use Rattle.armv7m.specs.Stack.{words_at}
-use Rattle.common_laws.specs.Lists.{Each}
-use Rattle.gate_steps.specs.Steps.{Steps, Repeat}
-use Rattle.gate_steps.specs.Core.{Core, low_register}
-use Rattle.gate_steps.specs.Effect.{Outcome, Went, with_one_less}
-use Rattle.gate_steps.specs.Safe.{Rule}
-use Rattle.gate_steps.proofs.Gives.{Open}
-use Rattle.gate_steps.proofs.Within.{GivesWithin, end_within, const_within, alu_within, at_within, more_within, loop_within, load_flash_within, store_within}
-use Rattle.monitor.specs.declared.tables.InitRecord.{InitRecord}
-use Rattle.monitor.specs.Records.{words_in}
-use Rattle.monitor.specs.Area.{init_words}
-use Rattle.monitor.specs.Starts.{with_words, with_all_words}
-use Rattle.monitor.specs.Constants.{Constants}
-use Rattle.monitor.specs.Reset.{word_turn, init_turn}
+use Rattle.base_words.specs.Arithmetic.{word, add, subtract, shift_right}
+use Rattle.base_words.specs.Bytes.{read, write, write_all}
+use Rattle.base_words.specs.declared.memory.Width.TheVariants.{Word}
+use Rattle.machine_protection.specs.declared.region.Access.TheVariants.{Read, Write}
+use Rattle.machine_devices.specs.declared.image.Image.{Image}
+use Rattle.machine_devices.specs.Rules.{ObeysRules}
+use Rattle.machine_model.specs.declared.state.ProtectionState.{ProtectionState}
+use Rattle.machine_model.specs.declared.state.FaultStatus.{FaultStatus}
+use Rattle.machine_model.specs.State.{by_mpu}
+use Rattle.machine_model.specs.Stack.{words_at}
+use Rattle.base_laws.specs.Lists.{Each}
+use Rattle.monitor_steps.specs.Steps.{Steps, Repeat}
+use Rattle.monitor_steps.specs.Core.{Core, low_register}
+use Rattle.monitor_steps.specs.Effect.{Outcome, Went, with_one_less}
+use Rattle.monitor_steps.specs.Safe.{Rule}
+use Rattle.monitor_steps.proofs.Gives.{Open}
+use Rattle.monitor_steps.proofs.Within.{GivesWithin, end_within, const_within, alu_within, at_within, more_within, loop_within, load_flash_within, store_within}
+use Rattle.monitor_model.specs.declared.tables.InitRecord.{InitRecord}
+use Rattle.monitor_model.specs.Records.{words_in}
+use Rattle.monitor_model.specs.Area.{init_words}
+use Rattle.monitor_model.specs.Starts.{with_words, with_all_words}
+use Rattle.monitor_program.specs.Constants.{Constants}
+use Rattle.monitor_program.specs.Reset.{word_turn, init_turn}
 use Rattle.monitor_laws.proofs.Numbers.{quarter}
 use Rattle.monitor_laws.proofs.Off.{core}
 use Rattle.monitor_laws.proofs.FlashWords.{Has}

@@ -1,19 +1,19 @@
 -- The effect of the steps that write a compartment's tables, from any core.
 use Rattle.std.proofs.Common.{◌≡◌, ℕ, ◌^◌, ◌<◌, ◌≤◌, false, List, [], ◌∷◌, length, get_or, refl, sym, ap, ◌∙◌, arith}
-use Rattle.mpu_model.specs.Configured.{written}
-use Rattle.device_model.specs.declared.image.Image.{Image}
-use Rattle.armv7m.specs.declared.state.ProtectionState.{ProtectionState}
-use Rattle.armv7m.specs.State.{by_mpu}
-use Rattle.gate_steps.specs.Steps.{Steps, End}
-use Rattle.gate_steps.specs.Core.{Core, low_register}
-use Rattle.gate_steps.specs.Effect.{Outcome, Went}
-use Rattle.gate_steps.specs.Ticks.{ticks}
-use Rattle.gate_steps.specs.Safe.{Rule}
-use Rattle.gate_steps.proofs.Gives.{gives_effect}
-use Rattle.gate_steps.proofs.Within.{GivesWithin, ticks_all, end_within, at_within}
-use Rattle.monitor.specs.Records.{compartment_at}
-use Rattle.monitor.specs.Constants.{constants_with}
-use Rattle.monitor.specs.Opening.{tables_of}
+use Rattle.machine_protection.specs.Configured.{written}
+use Rattle.machine_devices.specs.declared.image.Image.{Image}
+use Rattle.machine_model.specs.declared.state.ProtectionState.{ProtectionState}
+use Rattle.machine_model.specs.State.{by_mpu}
+use Rattle.monitor_steps.specs.Steps.{Steps, End}
+use Rattle.monitor_steps.specs.Core.{Core, low_register}
+use Rattle.monitor_steps.specs.Effect.{Outcome, Went}
+use Rattle.monitor_steps.specs.Ticks.{ticks}
+use Rattle.monitor_steps.specs.Safe.{Rule}
+use Rattle.monitor_steps.proofs.Gives.{gives_effect}
+use Rattle.monitor_steps.proofs.Within.{GivesWithin, ticks_all, end_within, at_within}
+use Rattle.monitor_model.specs.Records.{compartment_at}
+use Rattle.monitor_program.specs.Constants.{constants_with}
+use Rattle.monitor_program.specs.Opening.{tables_of}
 use Rattle.monitor_laws.specs.RegionsWritten.{HasWritten, TablesAreWritten}
 use Rattle.monitor_laws.proofs.Off.{core, IsOff, Allows}
 use Rattle.monitor_laws.proofs.Written.{tables_within}

@@ -4,22 +4,22 @@ use Rattle.std.proofs.lemmas.Bool.Decides.{nat_tests}
 use Rattle.std.proofs.lemmas.Nat.{trailing_le}
 use Rattle.std.specs.Int.Signed.{le_z_yes, lt_z_yes}
 use Rattle.std.proofs.lemmas.Bool.{ltb-true, and_parts as both}
-use Rattle.thumb_model.specs.Table.{IsGeneral, IsOffset}
-use Rattle.thumb_model.specs.Bytes.{EachInTable}
-use Rattle.words.specs.declared.memory.Width.{Width}
-use Rattle.words.specs.declared.memory.Width.TheVariants.{Byte, Half, Word}
-use Rattle.gate_steps.specs.declared.steps.GateOp.{GateOp}
-use Rattle.gate_steps.specs.declared.steps.GateOp.TheVariants.{Add, Sub, And, Or, Shl, Shr}
-use Rattle.gate_steps.specs.declared.steps.GateCond.{GateCond}
-use Rattle.gate_steps.specs.declared.steps.GateCond.TheVariants.{Eq, Ult, Ule}
-use Rattle.gate_steps.specs.Steps.{Steps, End, Const, Copy, Load, Store, Alu, ReadPsp, WritePsp, WriteControl, Test, Repeat, Halt, Return, Go, is_low}
-use Rattle.gate_steps.specs.Code.{load_op, store_op, condition_number, by_moves, operation_code, code_length, code}
-use Rattle.monitor.specs.declared.tables.Tables.{Tables}
-use Rattle.monitor.specs.Constants.{Constants, constants_with}
-use Rattle.monitor.specs.Opening.{times, bits_of, regions, tables_of}
-use Rattle.monitor.specs.Reset.{init_turn, thread_ready, to_main}
+use Rattle.machine_thumb.specs.Table.{IsGeneral, IsOffset}
+use Rattle.machine_thumb.specs.Bytes.{EachInTable}
+use Rattle.base_words.specs.declared.memory.Width.{Width}
+use Rattle.base_words.specs.declared.memory.Width.TheVariants.{Byte, Half, Word}
+use Rattle.monitor_steps.specs.declared.steps.GateOp.{GateOp}
+use Rattle.monitor_steps.specs.declared.steps.GateOp.TheVariants.{Add, Sub, And, Or, Shl, Shr}
+use Rattle.monitor_steps.specs.declared.steps.GateCond.{GateCond}
+use Rattle.monitor_steps.specs.declared.steps.GateCond.TheVariants.{Eq, Ult, Ule}
+use Rattle.monitor_steps.specs.Steps.{Steps, End, Const, Copy, Load, Store, Alu, ReadPsp, WritePsp, WriteControl, Test, Repeat, Halt, Return, Go, is_low}
+use Rattle.monitor_steps.specs.Code.{load_op, store_op, condition_number, by_moves, operation_code, code_length, code}
+use Rattle.monitor_model.specs.declared.tables.Tables.{Tables}
+use Rattle.monitor_program.specs.Constants.{Constants, constants_with}
+use Rattle.monitor_program.specs.Opening.{times, bits_of, regions, tables_of}
+use Rattle.monitor_program.specs.Reset.{init_turn, thread_ready, to_main}
 use Rattle.monitor_laws.proofs.ResetList.{before_control}
-use Rattle.thumb_model.proofs.Codes.{in_table-append as each_append}
+use Rattle.machine_thumb.proofs.Codes.{in_table-append as each_append}
 
 -- registers, offsets and numbers of halts fit into their fields
 abbrev pub fits_fields : Steps → Bool
@@ -199,7 +199,7 @@ before_control_in stub t h = in_table (before_control c) (tables_fields c (threa
     c = constants_with stub t
 
     eighth : c.eighth < 2 ^ 32
-    eighth = let e = trailing_le 32 (Rattle.monitor.specs.Records.eighth t) in omega (arith, e)
+    eighth = let e = trailing_le 32 (Rattle.monitor_model.specs.Records.eighth t) in omega (arith, e)
 
     offset_back : (n : ℕ) → IsOffset (2 ^ 24) (negsuc n) → IsOffset (2 ^ 24) (negsuc n)
     offset_back n h = h
@@ -207,7 +207,7 @@ before_control_in stub t h = in_table (before_control c) (tables_fields c (threa
     last : Fits (thread_ready c End)
     last = (omega arith, (omega arith, (omega arith, (omega arith, (omega arith, (omega arith, tt))))))
 
-    stack : Fits (Rattle.monitor.specs.Opening.stack_region c (regions c.slots 2 (thread_ready c End)))
+    stack : Fits (Rattle.monitor_program.specs.Opening.stack_region c (regions c.slots 2 (thread_ready c End)))
     stack = (omega arith, (eighth, (omega arith, (omega arith, (omega arith, (omega arith, (omega arith, regions_fit c.slots 2 (thread_ready c End) last)))))))
 
     tables : Fits (tables_of c (thread_ready c End))

@@ -1,24 +1,24 @@
 -- A part of enter: the callee's frame below the new TOP.
 use Rattle.std.proofs.Common.{◌≡◌, ℕ, ◌+◌, ◌-◌, ◌*◌, ◌^◌, ◌<◌, ◌≤◌, ◌⊎◌, inl, inr, ⊎_elim, true, List, length, nat_lt, refl, ap, ◌∙◌, arith}
 use Rattle.std.proofs.lemmas.Bool.Decides.{nat_tests}
-use Rattle.words.specs.Arithmetic.{subtract}
-use Rattle.words.specs.declared.memory.Width.TheVariants.{Word}
-use Rattle.words.specs.Bytes.{read, write}
-use Rattle.device_model.specs.declared.image.Image.{Image}
-use Rattle.armv7m.specs.declared.state.ProtectionState.{ProtectionState}
-use Rattle.armv7m.specs.declared.state.FaultStatus.{FaultStatus}
-use Rattle.armv7m.specs.State.{by_mpu}
-use Rattle.gate_steps.specs.Steps.{Steps, Store}
-use Rattle.gate_steps.specs.Core.{Core, low_register, with_ram}
-use Rattle.gate_steps.specs.Effect.{Outcome}
-use Rattle.gate_steps.specs.Safe.{Rule}
-use Rattle.gate_steps.proofs.Gives.{word_fits}
-use Rattle.gate_steps.proofs.Within.{GivesWithin, const_within, alu_within, at_within, more_within}
-use Rattle.monitor.specs.declared.tables.Tables.{Tables}
-use Rattle.monitor.specs.Area.{HasTables}
-use Rattle.monitor.specs.Placed.{Placed}
-use Rattle.monitor.specs.Constants.{Constants, constants_with}
-use Rattle.monitor.specs.Svc.{frame}
+use Rattle.base_words.specs.Arithmetic.{subtract}
+use Rattle.base_words.specs.declared.memory.Width.TheVariants.{Word}
+use Rattle.base_words.specs.Bytes.{read, write}
+use Rattle.machine_devices.specs.declared.image.Image.{Image}
+use Rattle.machine_model.specs.declared.state.ProtectionState.{ProtectionState}
+use Rattle.machine_model.specs.declared.state.FaultStatus.{FaultStatus}
+use Rattle.machine_model.specs.State.{by_mpu}
+use Rattle.monitor_steps.specs.Steps.{Steps, Store}
+use Rattle.monitor_steps.specs.Core.{Core, low_register, with_ram}
+use Rattle.monitor_steps.specs.Effect.{Outcome}
+use Rattle.monitor_steps.specs.Safe.{Rule}
+use Rattle.monitor_steps.proofs.Gives.{word_fits}
+use Rattle.monitor_steps.proofs.Within.{GivesWithin, const_within, alu_within, at_within, more_within}
+use Rattle.monitor_model.specs.declared.tables.Tables.{Tables}
+use Rattle.monitor_model.specs.Area.{HasTables}
+use Rattle.monitor_model.specs.Placed.{Placed}
+use Rattle.monitor_program.specs.Constants.{Constants, constants_with}
+use Rattle.monitor_program.specs.Svc.{frame}
 use Rattle.monitor_laws.proofs.Off.{core, IsOff}
 use Rattle.monitor_laws.proofs.Opened.{Handles}
 use Rattle.monitor_laws.proofs.Placement.{writable}

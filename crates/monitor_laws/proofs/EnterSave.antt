@@ -1,22 +1,22 @@
 -- Parts of enter: the return address rises, the caller's words are saved, and the block's words become the callee's.
 use Rattle.std.proofs.Common.{◌≡◌, ℕ, ◌+◌, ◌-◌, ◌*◌, ◌%◌, ◌^◌, ◌<◌, ◌≤◌, inl, inr, true, List, length, refl, ap, ◌∙◌, arith}
-use Rattle.words.specs.Arithmetic.{add}
-use Rattle.words.specs.Bytes.{read, write}
-use Rattle.device_model.specs.declared.image.Image.{Image}
-use Rattle.armv7m.specs.declared.state.ProtectionState.{ProtectionState}
-use Rattle.armv7m.specs.declared.state.FaultStatus.{FaultStatus}
-use Rattle.armv7m.specs.State.{by_mpu}
-use Rattle.gate_steps.specs.Steps.{Steps}
-use Rattle.gate_steps.specs.Core.{Core}
-use Rattle.gate_steps.specs.Effect.{Outcome}
-use Rattle.gate_steps.specs.Safe.{Rule}
-use Rattle.gate_steps.proofs.Gives.{word_fits}
-use Rattle.gate_steps.proofs.Within.{GivesWithin, const_within, copy_within, alu_within, at_within, more_within}
-use Rattle.monitor.specs.declared.tables.Tables.{Tables}
-use Rattle.monitor.specs.Area.{HasTables}
-use Rattle.monitor.specs.Placed.{Placed}
-use Rattle.monitor.specs.Constants.{Constants, constants_with}
-use Rattle.monitor.specs.Svc.{raise, save, entered}
+use Rattle.base_words.specs.Arithmetic.{add}
+use Rattle.base_words.specs.Bytes.{read, write}
+use Rattle.machine_devices.specs.declared.image.Image.{Image}
+use Rattle.machine_model.specs.declared.state.ProtectionState.{ProtectionState}
+use Rattle.machine_model.specs.declared.state.FaultStatus.{FaultStatus}
+use Rattle.machine_model.specs.State.{by_mpu}
+use Rattle.monitor_steps.specs.Steps.{Steps}
+use Rattle.monitor_steps.specs.Core.{Core}
+use Rattle.monitor_steps.specs.Effect.{Outcome}
+use Rattle.monitor_steps.specs.Safe.{Rule}
+use Rattle.monitor_steps.proofs.Gives.{word_fits}
+use Rattle.monitor_steps.proofs.Within.{GivesWithin, const_within, copy_within, alu_within, at_within, more_within}
+use Rattle.monitor_model.specs.declared.tables.Tables.{Tables}
+use Rattle.monitor_model.specs.Area.{HasTables}
+use Rattle.monitor_model.specs.Placed.{Placed}
+use Rattle.monitor_program.specs.Constants.{Constants, constants_with}
+use Rattle.monitor_program.specs.Svc.{raise, save, entered}
 use Rattle.monitor_laws.proofs.Numbers.{shl4}
 use Rattle.monitor_laws.proofs.Off.{core, IsOff}
 use Rattle.monitor_laws.proofs.Opened.{Handles, block_load_within, block_store_within, on_msp}

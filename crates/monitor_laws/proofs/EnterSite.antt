@@ -2,26 +2,26 @@
 use Rattle.std.proofs.Common.{◌≡◌, ℕ, zero, suc, ◌+◌, ◌-◌, ◌*◌, ◌%◌, ◌^◌, ◌<◌, ◌≤◌, true, List, length, refl, sym, ap, ◌∙◌, arith}
 use Rattle.std.specs.Prelude.{flat_map}
 use Rattle.std.proofs.lemmas.Bool.{ltb-true, eqb-true, ltb-false}
-use Rattle.words.specs.Arithmetic.{add}
-use Rattle.words.specs.declared.memory.Width.TheVariants.{Half, Word}
-use Rattle.words.specs.Bytes.{read}
-use Rattle.device_model.specs.declared.image.Image.{Image}
-use Rattle.device_model.specs.Rules.{ObeysRules}
-use Rattle.armv7m.specs.declared.state.ProtectionState.{ProtectionState}
-use Rattle.armv7m.specs.declared.state.FaultStatus.{FaultStatus}
-use Rattle.armv7m.specs.State.{by_mpu}
-use Rattle.gate_steps.specs.Steps.{Steps, Load}
-use Rattle.gate_steps.specs.Core.{Core, low_register, with_low}
-use Rattle.gate_steps.specs.Effect.{Outcome, Halted}
-use Rattle.gate_steps.specs.Safe.{Rule}
-use Rattle.gate_steps.proofs.Within.{GivesWithin, const_within, copy_within, alu_within, at_within, more_within, must_within, load_flash_within}
-use Rattle.monitor.specs.declared.tables.Tables.{Tables}
-use Rattle.monitor.specs.Records.{site_at, no_site, number_of_slots}
-use Rattle.monitor.specs.Layout.{head_at}
-use Rattle.monitor.specs.Area.{HasTables, compartment_words, site_words, head, area}
-use Rattle.monitor.specs.Placed.{Placed}
-use Rattle.monitor.specs.Constants.{Constants, constants_with}
-use Rattle.monitor.specs.Svc.{site}
+use Rattle.base_words.specs.Arithmetic.{add}
+use Rattle.base_words.specs.declared.memory.Width.TheVariants.{Half, Word}
+use Rattle.base_words.specs.Bytes.{read}
+use Rattle.machine_devices.specs.declared.image.Image.{Image}
+use Rattle.machine_devices.specs.Rules.{ObeysRules}
+use Rattle.machine_model.specs.declared.state.ProtectionState.{ProtectionState}
+use Rattle.machine_model.specs.declared.state.FaultStatus.{FaultStatus}
+use Rattle.machine_model.specs.State.{by_mpu}
+use Rattle.monitor_steps.specs.Steps.{Steps, Load}
+use Rattle.monitor_steps.specs.Core.{Core, low_register, with_low}
+use Rattle.monitor_steps.specs.Effect.{Outcome, Halted}
+use Rattle.monitor_steps.specs.Safe.{Rule}
+use Rattle.monitor_steps.proofs.Within.{GivesWithin, const_within, copy_within, alu_within, at_within, more_within, must_within, load_flash_within}
+use Rattle.monitor_model.specs.declared.tables.Tables.{Tables}
+use Rattle.monitor_model.specs.Records.{site_at, no_site, number_of_slots}
+use Rattle.monitor_model.specs.Layout.{head_at}
+use Rattle.monitor_model.specs.Area.{HasTables, compartment_words, site_words, head, area}
+use Rattle.monitor_model.specs.Placed.{Placed}
+use Rattle.monitor_program.specs.Constants.{Constants, constants_with}
+use Rattle.monitor_program.specs.Svc.{site}
 use Rattle.monitor_laws.proofs.Numbers.{shl2, product}
 use Rattle.monitor_laws.proofs.Off.{core, IsOff, open_while_off}
 use Rattle.monitor_laws.proofs.FlashWords.{Has, flash_has, has_front, has_back, has_record, records_length}

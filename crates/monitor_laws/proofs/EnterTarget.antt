@@ -2,26 +2,26 @@
 use Rattle.std.proofs.Common.{◌≡◌, ◌≢◌, ℕ, zero, suc, ◌+◌, ◌-◌, ◌*◌, ◌%◌, ◌^◌, ◌<◌, ◌≤◌, Bool, true, false, List, [], length, nat_eq, refl, sym, ap, ◌∙◌, arith}
 use Rattle.std.proofs.Math.Nat.{zero-add}
 use Rattle.std.proofs.lemmas.Bool.{eqb-true}
-use Rattle.words.specs.Arithmetic.{add, subtract}
-use Rattle.words.specs.declared.memory.Width.TheVariants.{Word}
-use Rattle.words.specs.Bytes.{read}
-use Rattle.device_model.specs.declared.image.Image.{Image}
-use Rattle.mem_bus.specs.Places.{choose}
-use Rattle.armv7m.specs.declared.state.ProtectionState.{ProtectionState}
-use Rattle.armv7m.specs.declared.state.FaultStatus.{FaultStatus}
-use Rattle.armv7m.specs.State.{by_mpu}
-use Rattle.gate_steps.specs.declared.steps.GateOp.TheVariants.{Add}
-use Rattle.gate_steps.specs.declared.steps.GateCond.TheVariants.{Eq}
-use Rattle.gate_steps.specs.Steps.{Steps, End, Const, Load, Alu, Test}
-use Rattle.gate_steps.specs.Core.{Core, low_register}
-use Rattle.gate_steps.specs.Effect.{Outcome, Went, Halted, with_one_less}
-use Rattle.gate_steps.specs.Safe.{Rule}
-use Rattle.gate_steps.proofs.Within.{GivesWithin, const_within, alu_within, at_within, more_within, must_not_within, yes_within, no_within, next_within, end_within, loop_within}
-use Rattle.monitor.specs.declared.tables.Tables.{Tables}
-use Rattle.monitor.specs.Area.{HasTables}
-use Rattle.monitor.specs.Placed.{Placed}
-use Rattle.monitor.specs.Constants.{Constants, constants_with}
-use Rattle.monitor.specs.Svc.{target, target_turn}
+use Rattle.base_words.specs.Arithmetic.{add, subtract}
+use Rattle.base_words.specs.declared.memory.Width.TheVariants.{Word}
+use Rattle.base_words.specs.Bytes.{read}
+use Rattle.machine_devices.specs.declared.image.Image.{Image}
+use Rattle.machine_bus.specs.Places.{choose}
+use Rattle.machine_model.specs.declared.state.ProtectionState.{ProtectionState}
+use Rattle.machine_model.specs.declared.state.FaultStatus.{FaultStatus}
+use Rattle.machine_model.specs.State.{by_mpu}
+use Rattle.monitor_steps.specs.declared.steps.GateOp.TheVariants.{Add}
+use Rattle.monitor_steps.specs.declared.steps.GateCond.TheVariants.{Eq}
+use Rattle.monitor_steps.specs.Steps.{Steps, End, Const, Load, Alu, Test}
+use Rattle.monitor_steps.specs.Core.{Core, low_register}
+use Rattle.monitor_steps.specs.Effect.{Outcome, Went, Halted, with_one_less}
+use Rattle.monitor_steps.specs.Safe.{Rule}
+use Rattle.monitor_steps.proofs.Within.{GivesWithin, const_within, alu_within, at_within, more_within, must_not_within, yes_within, no_within, next_within, end_within, loop_within}
+use Rattle.monitor_model.specs.declared.tables.Tables.{Tables}
+use Rattle.monitor_model.specs.Area.{HasTables}
+use Rattle.monitor_model.specs.Placed.{Placed}
+use Rattle.monitor_program.specs.Constants.{Constants, constants_with}
+use Rattle.monitor_program.specs.Svc.{target, target_turn}
 use Rattle.monitor_laws.proofs.Numbers.{shl3}
 use Rattle.monitor_laws.proofs.Off.{core, IsOff}
 use Rattle.monitor_laws.proofs.Opened.{Handles, eq_false}

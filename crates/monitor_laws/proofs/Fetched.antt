@@ -3,30 +3,30 @@ use Rattle.std.proofs.Common.{◌≡◌, ℕ, ◌+◌, ◌-◌, ◌/◌, ◌%◌
 use Rattle.std.proofs.lemmas.Nat.Bits.{bit_at-zero}
 use Rattle.std.proofs.lemmas.Bool.Decides.{nat_tests}
 use Rattle.std.specs.Int.{IsPowerOfTwo, bit_at}
-use Rattle.mpu_model.specs.declared.region.Region.{Region}
-use Rattle.mpu_model.specs.declared.region.Access.TheVariants.{Fetch}
-use Rattle.mpu_model.specs.declared.words.Rights.TheVariants.{Code, Stack}
-use Rattle.mpu_model.specs.Regions.{holds, allows, ap_reads, permission, is_executable}
-use Rattle.mpu_model.specs.RegionWords.{IsHeld}
-use Rattle.mpu_model.specs.Protection.{permits, deciding}
-use Rattle.mpu_model.specs.Laws.{kept_region, RegionsAreKept, RegionsHoldTheirBlocks, RegionsGiveTheirRights}
-use Rattle.mpu_model.specs.Configured.{closed_from}
-use Rattle.mpu_model.proofs.Configured.{closed_byte}
-use Rattle.device_model.specs.declared.image.Image.{Image}
-use Rattle.windows.specs.Ranges.{IsPowerBetween}
-use Rattle.armv7m.specs.declared.state.ProtectionState.{ProtectionState}
-use Rattle.armv7m.specs.State.{by_mpu, is_unprivileged}
-use Rattle.common_laws.specs.Lists.{Each}
-use Rattle.monitor.specs.declared.tables.CompRecord.{CompRecord}
-use Rattle.monitor.specs.declared.tables.Tables.{Tables}
-use Rattle.monitor.specs.Records.{compartment_at, nobody, eighth}
-use Rattle.monitor.specs.Layout.{tables_size}
-use Rattle.monitor.specs.Regions.{tables_region, stack_region, regions_for}
-use Rattle.monitor.specs.Placed.{Placed, IsCompartment, IsSlot, InFlashOf}
+use Rattle.machine_protection.specs.declared.region.Region.{Region}
+use Rattle.machine_protection.specs.declared.region.Access.TheVariants.{Fetch}
+use Rattle.machine_protection.specs.declared.words.Rights.TheVariants.{Code, Stack}
+use Rattle.machine_protection.specs.Regions.{holds, allows, ap_reads, permission, is_executable}
+use Rattle.machine_protection.specs.RegionWords.{IsHeld}
+use Rattle.machine_protection.specs.Protection.{permits, deciding}
+use Rattle.machine_protection.specs.Laws.{kept_region, RegionsAreKept, RegionsHoldTheirBlocks, RegionsGiveTheirRights}
+use Rattle.machine_protection.specs.Configured.{closed_from}
+use Rattle.machine_protection.proofs.Configured.{closed_byte}
+use Rattle.machine_devices.specs.declared.image.Image.{Image}
+use Rattle.base_ranges.specs.Ranges.{IsPowerBetween}
+use Rattle.machine_model.specs.declared.state.ProtectionState.{ProtectionState}
+use Rattle.machine_model.specs.State.{by_mpu, is_unprivileged}
+use Rattle.base_laws.specs.Lists.{Each}
+use Rattle.monitor_model.specs.declared.tables.CompRecord.{CompRecord}
+use Rattle.monitor_model.specs.declared.tables.Tables.{Tables}
+use Rattle.monitor_model.specs.Records.{compartment_at, nobody, eighth}
+use Rattle.monitor_model.specs.Layout.{tables_size}
+use Rattle.monitor_model.specs.Regions.{tables_region, stack_region, regions_for}
+use Rattle.monitor_model.specs.Placed.{Placed, IsCompartment, IsSlot, InFlashOf}
 use Rattle.monitor_laws.proofs.Tables.{stack_size}
 use Rattle.std.proofs.lemmas.Bool.{and_parts}
-use Rattle.common_laws.proofs.Lists.{each_at}
-use Rattle.monitor.proofs.Multiples.{divides}
+use Rattle.base_laws.proofs.Lists.{each_at}
+use Rattle.monitor_model.proofs.Multiples.{divides}
 
 -- the laws of the protection unit
 pub record UnitLaws : Type 0 where

@@ -1,13 +1,13 @@
 -- The monitor's block as start-up leaves it.
 use Rattle.std.proofs.Common.{◌≡◌, ℕ, ◌+◌, ◌-◌, ◌^◌, ◌<◌, ◌≤◌, ◌⊎◌, inl, inr, ⊎_elim, List, length, ap, ◌∙◌, arith}
-use Rattle.words.specs.Bytes.{read, write}
-use Rattle.words.proofs.Bytes.{read_below, read_above, length-write}
-use Rattle.device_model.specs.declared.image.Image.{Image}
-use Rattle.gate_steps.proofs.Gives.{word_same, word_apart}
-use Rattle.monitor.specs.declared.tables.Tables.{Tables}
-use Rattle.monitor.specs.Records.{stack_end}
-use Rattle.monitor.specs.Block.{first_block}
-use Rattle.monitor.specs.BlockWords.{IsBlock}
+use Rattle.base_words.specs.Bytes.{read, write}
+use Rattle.base_words.proofs.Bytes.{read_below, read_above, length-write}
+use Rattle.machine_devices.specs.declared.image.Image.{Image}
+use Rattle.monitor_steps.proofs.Gives.{word_same, word_apart}
+use Rattle.monitor_model.specs.declared.tables.Tables.{Tables}
+use Rattle.monitor_model.specs.Records.{stack_end}
+use Rattle.monitor_model.specs.Block.{first_block}
+use Rattle.monitor_model.specs.BlockWords.{IsBlock}
 use Rattle.monitor_laws.proofs.ResetList.{with_block}
 
 pub block_length : (b c p : ℕ) (m : List ℕ) → length (with_block b c p m) ≡ length m

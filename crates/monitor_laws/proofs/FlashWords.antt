@@ -1,12 +1,12 @@
 -- The words of the tables in flash, part by part.
 use Rattle.std.proofs.Common.{◌≡◌, ℕ, zero, suc, ◌+◌, ◌-◌, ◌*◌, ◌<◌, ◌≤◌, List, [], ◌∷◌, ◌++◌, length, get_or, ap, subst, arith}
 use Rattle.std.specs.Prelude.{flat_map}
-use Rattle.words.specs.Bytes.{read}
-use Rattle.mpu_model.specs.declared.region.Region.{Region}
-use Rattle.device_model.specs.declared.image.Image.{Image}
-use Rattle.armv7m.specs.Stack.{words_at}
-use Rattle.common_laws.specs.Lists.{Each}
-use Rattle.monitor.specs.Area.{region_words, FlashHas}
+use Rattle.base_words.specs.Bytes.{read}
+use Rattle.machine_protection.specs.declared.region.Region.{Region}
+use Rattle.machine_devices.specs.declared.image.Image.{Image}
+use Rattle.machine_model.specs.Stack.{words_at}
+use Rattle.base_laws.specs.Lists.{Each}
+use Rattle.monitor_model.specs.Area.{region_words, FlashHas}
 use Rattle.monitor_laws.proofs.Written.{HasRegions}
 
 -- flash holds these words from an offset on

@@ -1,27 +1,27 @@
 -- What the steps of a handler may access, as a rule of the language: the kinds of confinement, at any state with the core's RAM and
 -- protection. What they load may be loaded for the thread's instruction too.
 use Rattle.std.proofs.Common.{◌≡◌, ℕ, ◌+◌, ◌-◌, ◌<◌, ◌≤◌, true, length, refl, sym, ap, ◌∙◌, subst, arith}
-use Rattle.words.specs.Bytes.{read}
-use Rattle.mpu_model.specs.declared.region.Access.{Access}
-use Rattle.mpu_model.specs.declared.region.Access.TheVariants.{Read, Write, Fetch}
-use Rattle.device_model.specs.declared.image.Image.{Image}
-use Rattle.mem_bus.specs.Places.{place, InFlash}
-use Rattle.words.specs.Runs.{run}
-use Rattle.armv7m.specs.declared.state.ProtectionState.{ProtectionState}
-use Rattle.armv7m.specs.State.{State, Touched, by_mpu}
-use Rattle.armv7m.specs.Step.{turn, step}
-use Rattle.gate_steps.specs.Runs.{IsFine, Leads}
-use Rattle.gate_steps.specs.Core.{Core, core_of}
-use Rattle.gate_steps.specs.Safe.{Rule}
-use Rattle.gate_steps.proofs.Gives.{in_flash}
-use Rattle.monitor.specs.declared.tables.Tables.{Tables}
-use Rattle.monitor.specs.Reach.{AllBytes, InBlock, StoreKind, ByStack, ByBlock, BySystem, LoadKind, OfFlash, OfStack, OfBlock}
-use Rattle.monitor.specs.Placed.{Placed}
-use Rattle.monitor.specs.BlockWords.{top}
-use Rattle.monitor.specs.Handlers.{LoadFor, ForFlash, ForBlock, ForStack, Handles as IsHandlers, Leads as HandlerLeads}
+use Rattle.base_words.specs.Bytes.{read}
+use Rattle.machine_protection.specs.declared.region.Access.{Access}
+use Rattle.machine_protection.specs.declared.region.Access.TheVariants.{Read, Write, Fetch}
+use Rattle.machine_devices.specs.declared.image.Image.{Image}
+use Rattle.machine_bus.specs.Places.{place, InFlash}
+use Rattle.base_words.specs.Runs.{run}
+use Rattle.machine_model.specs.declared.state.ProtectionState.{ProtectionState}
+use Rattle.machine_model.specs.State.{State, Touched, by_mpu}
+use Rattle.machine_model.specs.Step.{turn, step}
+use Rattle.monitor_steps.specs.Runs.{IsFine, Leads}
+use Rattle.monitor_steps.specs.Core.{Core, core_of}
+use Rattle.monitor_steps.specs.Safe.{Rule}
+use Rattle.monitor_steps.proofs.Gives.{in_flash}
+use Rattle.monitor_model.specs.declared.tables.Tables.{Tables}
+use Rattle.monitor_model.specs.Reach.{AllBytes, InBlock, StoreKind, ByStack, ByBlock, BySystem, LoadKind, OfFlash, OfStack, OfBlock}
+use Rattle.monitor_model.specs.Placed.{Placed}
+use Rattle.monitor_model.specs.BlockWords.{top}
+use Rattle.monitor_model.specs.Handlers.{LoadFor, ForFlash, ForBlock, ForStack, Handles as IsHandlers, Leads as HandlerLeads}
 use Rattle.monitor_laws.proofs.Opened.{Handles}
 use Rattle.monitor_laws.proofs.Ranges.{still}
-use Rattle.common_laws.proofs.Lists.{each_to}
+use Rattle.base_laws.proofs.Lists.{each_to}
 
 -- a state that accesses as this core does
 pub record IsAt (c : Core) (u : State) : Type 0 where

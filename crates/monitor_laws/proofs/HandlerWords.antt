@@ -1,25 +1,25 @@
 -- Words of saved entries and of stacked frames, as the lists of the handlers reach them; PSP written; what stores leave.
 use Rattle.std.proofs.Common.{◌≡◌, ℕ, ◌+◌, ◌-◌, ◌*◌, ◌%◌, ◌<◌, ◌≤◌, ◌⊎◌, inl, inr, ⊎_elim, true, List, [], ◌∷◌, length, nat_lt, refl, sym, ap, ◌∙◌, subst, arith}
 use Rattle.std.proofs.lemmas.Bool.Decides.{nat_tests}
-use Rattle.words.specs.declared.memory.Width.TheVariants.{Word}
-use Rattle.words.specs.Bytes.{read, write}
-use Rattle.words.proofs.Bytes.{read_below, read_above, length-write}
-use Rattle.mpu_model.specs.declared.region.Access.TheVariants.{Read, Write}
-use Rattle.device_model.specs.declared.image.Image.{Image}
-use Rattle.device_model.specs.Rules.{ObeysRules}
-use Rattle.armv7m.specs.declared.state.ProtectionState.{ProtectionState}
-use Rattle.armv7m.specs.State.{PermissionTest, by_mpu}
-use Rattle.gate_steps.specs.Steps.{Steps, Load, Store, WritePsp}
-use Rattle.gate_steps.specs.Core.{Core, low_register, with_low, with_ram, with_psp, is_privileged_on_msp}
-use Rattle.gate_steps.specs.Effect.{Outcome, Unclaimed, either, effect}
-use Rattle.gate_steps.specs.Ticks.{then_ticks, either_ticks, ticks}
-use Rattle.gate_steps.specs.Safe.{Rule}
-use Rattle.gate_steps.proofs.Gives.{set_psp_gives}
-use Rattle.gate_steps.proofs.Within.{GivesWithin, ticks_all, load_within, store_within}
-use Rattle.monitor.specs.declared.tables.Tables.{Tables}
-use Rattle.monitor.specs.Records.{stack_end}
-use Rattle.monitor.specs.Area.{HasTables}
-use Rattle.monitor.specs.Placed.{Placed}
+use Rattle.base_words.specs.declared.memory.Width.TheVariants.{Word}
+use Rattle.base_words.specs.Bytes.{read, write}
+use Rattle.base_words.proofs.Bytes.{read_below, read_above, length-write}
+use Rattle.machine_protection.specs.declared.region.Access.TheVariants.{Read, Write}
+use Rattle.machine_devices.specs.declared.image.Image.{Image}
+use Rattle.machine_devices.specs.Rules.{ObeysRules}
+use Rattle.machine_model.specs.declared.state.ProtectionState.{ProtectionState}
+use Rattle.machine_model.specs.State.{PermissionTest, by_mpu}
+use Rattle.monitor_steps.specs.Steps.{Steps, Load, Store, WritePsp}
+use Rattle.monitor_steps.specs.Core.{Core, low_register, with_low, with_ram, with_psp, is_privileged_on_msp}
+use Rattle.monitor_steps.specs.Effect.{Outcome, Unclaimed, either, effect}
+use Rattle.monitor_steps.specs.Ticks.{then_ticks, either_ticks, ticks}
+use Rattle.monitor_steps.specs.Safe.{Rule}
+use Rattle.monitor_steps.proofs.Gives.{set_psp_gives}
+use Rattle.monitor_steps.proofs.Within.{GivesWithin, ticks_all, load_within, store_within}
+use Rattle.monitor_model.specs.declared.tables.Tables.{Tables}
+use Rattle.monitor_model.specs.Records.{stack_end}
+use Rattle.monitor_model.specs.Area.{HasTables}
+use Rattle.monitor_model.specs.Placed.{Placed}
 use Rattle.monitor_laws.proofs.Off.{IsOff, open_while_off}
 use Rattle.monitor_laws.proofs.Opened.{Handles}
 use Rattle.monitor_laws.proofs.Placement.{writable}

@@ -1,29 +1,29 @@
 -- The list of leave: halt 0 where no call waits; else the caller goes on with the callee's result.
 use Rattle.std.proofs.Common.{◌≡◌, ℕ, suc, ◌+◌, ◌-◌, ◌*◌, ◌/◌, ◌^◌, ◌<◌, ◌≤◌, true, List, ◌∷◌, length, refl, ap, ◌∙◌, arith}
 use Rattle.std.proofs.lemmas.Bool.{eqb-true}
-use Rattle.words.specs.Bytes.{read}
-use Rattle.mpu_model.specs.declared.region.Region.{Region}
-use Rattle.mpu_model.specs.declared.TheConstants.{MPU_CTRL, MPU_RBAR}
-use Rattle.mpu_model.specs.Registers.{Registers}
-use Rattle.mpu_model.specs.Laws.{kept_region}
-use Rattle.mpu_model.specs.Configured.{written}
-use Rattle.device_model.specs.declared.image.Image.{Image}
-use Rattle.armv7m.specs.declared.state.ProtectionState.{ProtectionState}
-use Rattle.armv7m.specs.declared.state.FaultStatus.{FaultStatus}
-use Rattle.armv7m.specs.State.{by_mpu}
-use Rattle.gate_steps.specs.Steps.{Steps}
-use Rattle.gate_steps.specs.Core.{Core}
-use Rattle.gate_steps.specs.Effect.{Outcome, Halted, AtReturn}
-use Rattle.gate_steps.specs.Safe.{Rule}
-use Rattle.gate_steps.proofs.Within.{GivesWithin, const_within, alu_within, at_within, more_within, must_not_within}
-use Rattle.monitor.specs.declared.tables.Tables.{Tables}
-use Rattle.monitor.specs.Records.{compartment_at, number_of_slots}
-use Rattle.monitor.specs.Area.{HasTables}
-use Rattle.monitor.specs.Regions.{background, tables_region, regions_for}
-use Rattle.monitor.specs.Placed.{Placed}
-use Rattle.monitor.specs.Invariant.{IsTop}
-use Rattle.monitor.specs.Constants.{Constants, constants_with}
-use Rattle.monitor.specs.Svc.{leave}
+use Rattle.base_words.specs.Bytes.{read}
+use Rattle.machine_protection.specs.declared.region.Region.{Region}
+use Rattle.machine_protection.specs.declared.TheConstants.{MPU_CTRL, MPU_RBAR}
+use Rattle.machine_protection.specs.Registers.{Registers}
+use Rattle.machine_protection.specs.Laws.{kept_region}
+use Rattle.machine_protection.specs.Configured.{written}
+use Rattle.machine_devices.specs.declared.image.Image.{Image}
+use Rattle.machine_model.specs.declared.state.ProtectionState.{ProtectionState}
+use Rattle.machine_model.specs.declared.state.FaultStatus.{FaultStatus}
+use Rattle.machine_model.specs.State.{by_mpu}
+use Rattle.monitor_steps.specs.Steps.{Steps}
+use Rattle.monitor_steps.specs.Core.{Core}
+use Rattle.monitor_steps.specs.Effect.{Outcome, Halted, AtReturn}
+use Rattle.monitor_steps.specs.Safe.{Rule}
+use Rattle.monitor_steps.proofs.Within.{GivesWithin, const_within, alu_within, at_within, more_within, must_not_within}
+use Rattle.monitor_model.specs.declared.tables.Tables.{Tables}
+use Rattle.monitor_model.specs.Records.{compartment_at, number_of_slots}
+use Rattle.monitor_model.specs.Area.{HasTables}
+use Rattle.monitor_model.specs.Regions.{background, tables_region, regions_for}
+use Rattle.monitor_model.specs.Placed.{Placed}
+use Rattle.monitor_model.specs.Invariant.{IsTop}
+use Rattle.monitor_program.specs.Constants.{Constants, constants_with}
+use Rattle.monitor_program.specs.Svc.{leave}
 use Rattle.monitor_laws.proofs.Numbers.{shl4}
 use Rattle.monitor_laws.proofs.Off.{core, with_unit, IsOff}
 use Rattle.monitor_laws.proofs.Written.{open_stack, tables_within}

@@ -1,13 +1,13 @@
 -- The words that leave stores: five of the block, and the result in the frame that waits.
 use Rattle.std.proofs.Common.{◌≡◌, ℕ, suc, ◌+◌, ◌-◌, ◌*◌, ◌/◌, ◌%◌, ◌^◌, ◌<◌, ◌≤◌, ◌⊎◌, inl, inr, ⊎_elim, List, length, ap, ◌∙◌, arith}
-use Rattle.words.specs.Arithmetic.{add, subtract}
-use Rattle.words.specs.Bytes.{read, write}
-use Rattle.device_model.specs.declared.image.Image.{Image}
-use Rattle.gate_steps.proofs.Gives.{word_same, word_apart, word_fits}
-use Rattle.monitor.specs.declared.tables.Tables.{Tables}
-use Rattle.monitor.specs.Area.{HasTables}
-use Rattle.monitor.specs.Placed.{Placed}
-use Rattle.monitor.specs.Constants.{Constants, constants_with}
+use Rattle.base_words.specs.Arithmetic.{add, subtract}
+use Rattle.base_words.specs.Bytes.{read, write}
+use Rattle.machine_devices.specs.declared.image.Image.{Image}
+use Rattle.monitor_steps.proofs.Gives.{word_same, word_apart, word_fits}
+use Rattle.monitor_model.specs.declared.tables.Tables.{Tables}
+use Rattle.monitor_model.specs.Area.{HasTables}
+use Rattle.monitor_model.specs.Placed.{Placed}
+use Rattle.monitor_program.specs.Constants.{Constants, constants_with}
 use Rattle.monitor_laws.proofs.Placement.{block_is, writable}
 use Rattle.monitor_laws.proofs.HandlerWords.{Changed, changed_write, changed_in, changed_none, InStack, apart_from_block}
 

@@ -3,28 +3,28 @@ use Rattle.std.proofs.Common.{◌≡◌, ◌≢◌, ℕ, ◌+◌, ◌-◌, ◌*�
 use Rattle.std.proofs.lemmas.Nat.{and_comm, and_mask}
 use Rattle.std.specs.Prelude.{bit_and}
 use Rattle.std.proofs.lemmas.Bool.{ltb-true, eqb-true, leb-true, ltb-false}
-use Rattle.words.specs.Arithmetic.{add, subtract}
-use Rattle.words.specs.Bytes.{read, write}
-use Rattle.words.specs.declared.memory.Width.TheVariants.{Word}
-use Rattle.mpu_model.specs.declared.region.Access.TheVariants.{Write}
-use Rattle.mpu_model.specs.declared.TheConstants.{MPU_CTRL}
-use Rattle.device_model.specs.declared.image.Image.{Image}
-use Rattle.armv7m.specs.declared.state.ProtectionState.{ProtectionState}
-use Rattle.armv7m.specs.declared.state.FaultStatus.{FaultStatus}
-use Rattle.armv7m.specs.State.{by_mpu}
-use Rattle.gate_steps.specs.Steps.{Steps}
-use Rattle.gate_steps.specs.Core.{Core}
-use Rattle.gate_steps.specs.Effect.{Outcome, Halted, AtReturn}
-use Rattle.gate_steps.specs.Safe.{Rule}
-use Rattle.gate_steps.proofs.Gives.{word_fits}
-use Rattle.gate_steps.proofs.Within.{GivesWithin, const_within, alu_within, at_within, more_within, yes_within, no_within, next_within, must_within, must_not_within, load_within, load_flash_within, store_within}
-use Rattle.monitor.specs.declared.tables.Tables.{Tables}
-use Rattle.monitor.specs.Records.{stack_end, lend_size}
-use Rattle.monitor.specs.Area.{HasTables}
-use Rattle.monitor.specs.Placed.{Placed}
-use Rattle.monitor.specs.Constants.{Constants, constants_with}
-use Rattle.monitor.specs.Opening.{closed_up}
-use Rattle.monitor.specs.Svc.{lend_entry, lend}
+use Rattle.base_words.specs.Arithmetic.{add, subtract}
+use Rattle.base_words.specs.Bytes.{read, write}
+use Rattle.base_words.specs.declared.memory.Width.TheVariants.{Word}
+use Rattle.machine_protection.specs.declared.region.Access.TheVariants.{Write}
+use Rattle.machine_protection.specs.declared.TheConstants.{MPU_CTRL}
+use Rattle.machine_devices.specs.declared.image.Image.{Image}
+use Rattle.machine_model.specs.declared.state.ProtectionState.{ProtectionState}
+use Rattle.machine_model.specs.declared.state.FaultStatus.{FaultStatus}
+use Rattle.machine_model.specs.State.{by_mpu}
+use Rattle.monitor_steps.specs.Steps.{Steps}
+use Rattle.monitor_steps.specs.Core.{Core}
+use Rattle.monitor_steps.specs.Effect.{Outcome, Halted, AtReturn}
+use Rattle.monitor_steps.specs.Safe.{Rule}
+use Rattle.monitor_steps.proofs.Gives.{word_fits}
+use Rattle.monitor_steps.proofs.Within.{GivesWithin, const_within, alu_within, at_within, more_within, yes_within, no_within, next_within, must_within, must_not_within, load_within, load_flash_within, store_within}
+use Rattle.monitor_model.specs.declared.tables.Tables.{Tables}
+use Rattle.monitor_model.specs.Records.{stack_end, lend_size}
+use Rattle.monitor_model.specs.Area.{HasTables}
+use Rattle.monitor_model.specs.Placed.{Placed}
+use Rattle.monitor_program.specs.Constants.{Constants, constants_with}
+use Rattle.monitor_program.specs.Opening.{closed_up}
+use Rattle.monitor_program.specs.Svc.{lend_entry, lend}
 use Rattle.monitor_laws.proofs.Off.{core, with_unit, IsOff, open_while_off}
 use Rattle.monitor_laws.proofs.FlashWords.{has_word}
 use Rattle.monitor_laws.proofs.Placement.{writable, has_lends, lends_offset, lends_is, few_lends, lends_at_is, lends_aligned, loans_at_is}

@@ -2,8 +2,8 @@
 use Rattle.std.proofs.Common.{◌≡◌, ℕ, zero, suc, ◌+◌, ◌-◌, ◌*◌, ◌/◌, ◌%◌, ◌^◌, ◌<◌, ◌≤◌, ◌⊎◌, inl, inr, Bool, true, false, List, [], ◌∷◌, length, refl, sym, ap, ◌∙◌, arith}
 use Rattle.std.specs.Prelude.{bit_and}
 use Rattle.std.proofs.lemmas.Nat.{div-mul-add}
-use Rattle.words.specs.Arithmetic.{word, shift_left, shift_right}
-use Rattle.monitor.specs.Opening.{bits_of}
+use Rattle.base_words.specs.Arithmetic.{word, shift_left, shift_right}
+use Rattle.monitor_program.specs.Opening.{bits_of}
 
 -- ---- shifts
 

@@ -1,26 +1,26 @@
 -- The protection unit off: privileged code reaches all, and writes the unit's registers.
 use Rattle.std.proofs.Common.{◌≡◌, ℕ, ◌+◌, ◌*◌, ◌/◌, ◌%◌, ◌^◌, ◌<◌, ◌≤◌, ◌⊎◌, inl, inr, Bool, true, false, List, [], ◌∷◌, length, nat_eq, nat_lt, refl, sym, ap, ◌∙◌, subst, arith}
 use Rattle.std.proofs.lemmas.Bool.Decides.{nat_tests}
-use Rattle.words.specs.declared.memory.Width.TheVariants.{Word}
-use Rattle.mpu_model.specs.declared.region.Access.TheVariants.{Read, Write, Fetch}
-use Rattle.mpu_model.specs.declared.TheConstants.{MPU_CTRL, MPU_RBAR, MPU_RASR}
-use Rattle.mpu_model.specs.Registers.{Registers, write_address, write_register}
-use Rattle.mpu_model.specs.Protection.{permits}
-use Rattle.device_model.specs.declared.image.Image.{Image}
-use Rattle.device_model.specs.Rules.{ObeysRules}
-use Rattle.armv7m.specs.declared.state.ProtectionState.{ProtectionState}
-use Rattle.armv7m.specs.declared.state.FaultStatus.{FaultStatus}
-use Rattle.armv7m.specs.State.{by_mpu, is_unprivileged}
-use Rattle.armv7m.specs.System.{in_system, is_system_register, write_status, read_system}
-use Rattle.armv7m.proofs.ToSystem.{to_system}
-use Rattle.gate_steps.specs.Steps.{Steps, Load, Store}
-use Rattle.gate_steps.specs.Core.{Core, low_register, with_low}
-use Rattle.gate_steps.specs.Accesses.{Value, address_of, load}
-use Rattle.gate_steps.specs.Effect.{Outcome}
-use Rattle.gate_steps.specs.Safe.{Rule}
-use Rattle.gate_steps.proofs.Gives.{Open}
-use Rattle.gate_steps.proofs.Within.{GivesWithin, at_within, const_within, value_within, system_within}
-use Rattle.monitor.specs.Opening.{set_control}
+use Rattle.base_words.specs.declared.memory.Width.TheVariants.{Word}
+use Rattle.machine_protection.specs.declared.region.Access.TheVariants.{Read, Write, Fetch}
+use Rattle.machine_protection.specs.declared.TheConstants.{MPU_CTRL, MPU_RBAR, MPU_RASR}
+use Rattle.machine_protection.specs.Registers.{Registers, write_address, write_register}
+use Rattle.machine_protection.specs.Protection.{permits}
+use Rattle.machine_devices.specs.declared.image.Image.{Image}
+use Rattle.machine_devices.specs.Rules.{ObeysRules}
+use Rattle.machine_model.specs.declared.state.ProtectionState.{ProtectionState}
+use Rattle.machine_model.specs.declared.state.FaultStatus.{FaultStatus}
+use Rattle.machine_model.specs.State.{by_mpu, is_unprivileged}
+use Rattle.machine_model.specs.System.{in_system, is_system_register, write_status, read_system}
+use Rattle.machine_model.proofs.ToSystem.{to_system}
+use Rattle.monitor_steps.specs.Steps.{Steps, Load, Store}
+use Rattle.monitor_steps.specs.Core.{Core, low_register, with_low}
+use Rattle.monitor_steps.specs.Accesses.{Value, address_of, load}
+use Rattle.monitor_steps.specs.Effect.{Outcome}
+use Rattle.monitor_steps.specs.Safe.{Rule}
+use Rattle.monitor_steps.proofs.Gives.{Open}
+use Rattle.monitor_steps.proofs.Within.{GivesWithin, at_within, const_within, value_within, system_within}
+use Rattle.monitor_program.specs.Opening.{set_control}
 
 -- a core by its parts
 abbrev pub core : (msp psp : ℕ) → ProtectionState → FaultStatus → List ℕ → (a0 a1 a2 a3 a4 a5 a6 a7 : ℕ) → Core
@@ -109,7 +109,7 @@ module _ (i : Image) (rules : ObeysRules i) (Good : ProtectionState → Type 0) 
         let q : ProtectionState = with_unit p (record p.mpu { control = v }) in
         let small : v % 8 ≡ v = omega arith in
         let e : write_register MPU_CTRL v p.mpu ≡ record p.mpu { control = v } = control_written v p.mpu ∙ ap (λ v. record p.mpu { control = v }) small in
-        let same : Rattle.gate_steps.specs.Core.with_system c1 MPU_CTRL v ≡ core msp psp q u m a0 a1 a2 a3 a4 a5 MPU_CTRL v =
+        let same : Rattle.monitor_steps.specs.Core.with_system c1 MPU_CTRL v ≡ core msp psp q u m a0 a1 a2 a3 a4 a5 MPU_CTRL v =
         ap (λ r. record c1 { protection = with_unit p r; status = write_status MPU_CTRL v u }) e ∙ ap (λ s. record c1 { protection = q; status = s }) (status_stays MPU_CTRL v u (inl refl)) in
         const_within (const_within
         (system_within MPU_CTRL priv refl refl (omega arith) refl refl (allows.system _ MPU_CTRL mode refl refl) (subst Good (ap (λ c. c.protection) (sym same)) ok)

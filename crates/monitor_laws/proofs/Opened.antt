@@ -4,28 +4,28 @@ use Rattle.std.proofs.lemmas.Bool.Decides.{nat_tests}
 use Rattle.std.proofs.lemmas.Nat.Bits.{and_pow}
 use Rattle.std.specs.Prelude.{bit_and}
 use Rattle.std.proofs.lemmas.Bool.{eqb-true, leb-true}
-use Rattle.words.specs.declared.memory.Width.TheVariants.{Word}
-use Rattle.words.specs.Bytes.{read, write}
-use Rattle.mpu_model.specs.declared.region.Access.{Access}
-use Rattle.mpu_model.specs.declared.region.Access.TheVariants.{Read, Write}
-use Rattle.mpu_model.specs.declared.TheConstants.{MPU_CTRL}
-use Rattle.device_model.specs.declared.image.Image.{Image}
-use Rattle.device_model.specs.Rules.{ObeysRules}
-use Rattle.armv7m.specs.declared.state.ProtectionState.{ProtectionState}
-use Rattle.armv7m.specs.declared.state.FaultStatus.{FaultStatus}
-use Rattle.armv7m.specs.State.{by_mpu, is_unprivileged}
-use Rattle.gate_steps.specs.Steps.{Steps, Load, Store}
-use Rattle.gate_steps.specs.Core.{Core, low_register}
-use Rattle.gate_steps.specs.Effect.{Outcome, Halted}
-use Rattle.gate_steps.specs.Safe.{Rule}
-use Rattle.gate_steps.proofs.Gives.{word_fits}
-use Rattle.gate_steps.proofs.Within.{GivesWithin, const_within, alu_within, at_within, more_within, must_within, psp_within, load_within, store_within}
-use Rattle.monitor.specs.declared.tables.Tables.{Tables}
-use Rattle.monitor.specs.Records.{stack_end}
-use Rattle.monitor.specs.Area.{HasTables}
-use Rattle.monitor.specs.Placed.{Placed}
-use Rattle.monitor.specs.Constants.{Constants, constants_with}
-use Rattle.monitor.specs.Opening.{opened}
+use Rattle.base_words.specs.declared.memory.Width.TheVariants.{Word}
+use Rattle.base_words.specs.Bytes.{read, write}
+use Rattle.machine_protection.specs.declared.region.Access.{Access}
+use Rattle.machine_protection.specs.declared.region.Access.TheVariants.{Read, Write}
+use Rattle.machine_protection.specs.declared.TheConstants.{MPU_CTRL}
+use Rattle.machine_devices.specs.declared.image.Image.{Image}
+use Rattle.machine_devices.specs.Rules.{ObeysRules}
+use Rattle.machine_model.specs.declared.state.ProtectionState.{ProtectionState}
+use Rattle.machine_model.specs.declared.state.FaultStatus.{FaultStatus}
+use Rattle.machine_model.specs.State.{by_mpu, is_unprivileged}
+use Rattle.monitor_steps.specs.Steps.{Steps, Load, Store}
+use Rattle.monitor_steps.specs.Core.{Core, low_register}
+use Rattle.monitor_steps.specs.Effect.{Outcome, Halted}
+use Rattle.monitor_steps.specs.Safe.{Rule}
+use Rattle.monitor_steps.proofs.Gives.{word_fits}
+use Rattle.monitor_steps.proofs.Within.{GivesWithin, const_within, alu_within, at_within, more_within, must_within, psp_within, load_within, store_within}
+use Rattle.monitor_model.specs.declared.tables.Tables.{Tables}
+use Rattle.monitor_model.specs.Records.{stack_end}
+use Rattle.monitor_model.specs.Area.{HasTables}
+use Rattle.monitor_model.specs.Placed.{Placed}
+use Rattle.monitor_program.specs.Constants.{Constants, constants_with}
+use Rattle.monitor_program.specs.Opening.{opened}
 use Rattle.monitor_laws.proofs.Off.{core, with_unit, IsOff, Allows, open_while_off, set_control_within}
 use Rattle.monitor_laws.proofs.Placement.{block_is, writable}
 
@@ -83,13 +83,13 @@ module _ (i : Image) (t : Tables) (p : Placed i t) (has : HasTables i t) (stub :
 
   -- a word of the block, whose address a register has
   pub block_load_within : (off : ℕ) {n to b : ℕ} {s : Steps} {ks : List Steps} {c : Core} {Q : Outcome → Type 0} → IsOff true c.protection → low_register c b ≡ k.block → nat_lt off 136 ≡ true →
-      ((v : ℕ) → v ≡ read 4 (block + 4 * off) c.ram → W n s ks (Rattle.gate_steps.specs.Core.with_low c to v) Q) → W (1 + n) (Load Word to b off s) ks c Q
+      ((v : ℕ) → v ≡ read 4 (block + 4 * off) c.ram → W n s ks (Rattle.monitor_steps.specs.Core.with_low c to v) Q) → W (1 + n) (Load Word to b off s) ks c Q
   block_load_within off {b = b} {c = c} q e h f =
       let z : off < 136 = grind (arith, nat_tests, h) in
       load_within rules (block + 4 * off) (open_while_off c.protection q.control) (block_at off (low_register c b) e) (block_aligned off) (block_room off z) (handles.block Read c (4 * off) q.mode (omega (arith, z))) f
 
   pub block_store_within : (off : ℕ) {n from b : ℕ} {s : Steps} {ks : List Steps} {c : Core} {Q : Outcome → Type 0} → IsOff true c.protection → low_register c b ≡ k.block → nat_lt off 136 ≡ true →
-      ((m : List ℕ) → m ≡ write 4 (block + 4 * off) (low_register c from) c.ram → length m ≡ length c.ram → W n s ks (Rattle.gate_steps.specs.Core.with_ram c m) Q) → W (1 + n) (Store Word from b off s) ks c Q
+      ((m : List ℕ) → m ≡ write 4 (block + 4 * off) (low_register c from) c.ram → length m ≡ length c.ram → W n s ks (Rattle.monitor_steps.specs.Core.with_ram c m) Q) → W (1 + n) (Store Word from b off s) ks c Q
   block_store_within off {from = from} {b = b} {c = c} q e h f =
       let z : off < 136 = grind (arith, nat_tests, h) in
       store_within rules (block + 4 * off) (open_while_off c.protection q.control) (good c.protection q) (block_at off (low_register c b) e) (block_aligned off) (block_room off z) (handles.block Write c (4 * off) q.mode (omega (arith, z))) f
@@ -129,10 +129,10 @@ module _ (i : Image) (t : Tables) (p : Placed i t) (has : HasTables i t) (stub :
         not_high : (top : ℕ) → top ≡ read 4 (block + 4) m → top < psp → i.ram_base + o + 32 ≤ read 4 (block + 4) m → ⊥
         not_high top e l x = omega (arith, e, l, x, ep)
 
-        is_high : (top d : ℕ) → top ≡ read 4 (block + 4) m → psp ≤ top → d ≡ Rattle.words.specs.Arithmetic.subtract top psp → 32 ≤ d → i.ram_base + o + 32 ≤ read 4 (block + 4) m
+        is_high : (top d : ℕ) → top ≡ read 4 (block + 4) m → psp ≤ top → d ≡ Rattle.base_words.specs.Arithmetic.subtract top psp → 32 ≤ d → i.ram_base + o + 32 ≤ read 4 (block + 4) m
         is_high top d e l ed x = let f = word_fits (block + 4) m in omega (arith, e, l, ed, x, ep, f)
 
-        not_room : (top d : ℕ) → top ≡ read 4 (block + 4) m → psp ≤ top → d ≡ Rattle.words.specs.Arithmetic.subtract top psp → d < 32 → i.ram_base + o + 32 ≤ read 4 (block + 4) m → ⊥
+        not_room : (top d : ℕ) → top ≡ read 4 (block + 4) m → psp ≤ top → d ≡ Rattle.base_words.specs.Arithmetic.subtract top psp → d < 32 → i.ram_base + o + 32 ≤ read 4 (block + 4) m → ⊥
         not_room top d e l ed x h = let f = word_fits (block + 4) m in omega (arith, e, l, ed, x, ep, f, h)
 
         frame_at : psp ≡ i.ram_base + o → psp + 4 * 7 ≡ i.ram_base + (o + 28)

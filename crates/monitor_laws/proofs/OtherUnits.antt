@@ -1,15 +1,15 @@
 -- Start-up on a unit with another number of regions.
 use Rattle.std.proofs.Common.{◌≡◌, ℕ, ◌+◌, ◌*◌, ◌^◌, List, [], length, get_or, set, length-set, get_or-set_same, get_or-set_other, refl, sym, ◌∙◌, arith}
 use Rattle.std.proofs.lemmas.Bool.{eqb-true}
-use Rattle.mpu_model.specs.declared.TheConstants.{MPU_TYPE}
-use Rattle.armv7m.specs.State.{by_mpu}
-use Rattle.armv7m.specs.System.{read_system}
-use Rattle.gate_steps.specs.Core.{Core}
-use Rattle.gate_steps.specs.Effect.{Halted}
-use Rattle.gate_steps.proofs.Gives.{gives_effect}
-use Rattle.gate_steps.proofs.Within.{GivesWithin, const_within, must_within}
-use Rattle.monitor.specs.Constants.{Constants}
-use Rattle.monitor.specs.Reset.{reset}
+use Rattle.machine_protection.specs.declared.TheConstants.{MPU_TYPE}
+use Rattle.machine_model.specs.State.{by_mpu}
+use Rattle.machine_model.specs.System.{read_system}
+use Rattle.monitor_steps.specs.Core.{Core}
+use Rattle.monitor_steps.specs.Effect.{Halted}
+use Rattle.monitor_steps.proofs.Gives.{gives_effect}
+use Rattle.monitor_steps.proofs.Within.{GivesWithin, const_within, must_within}
+use Rattle.monitor_program.specs.Constants.{Constants}
+use Rattle.monitor_program.specs.Reset.{reset}
 use Rattle.monitor_laws.specs.StartUp.{OtherUnitsHalt}
 use Rattle.monitor_laws.proofs.Off.{system_load_within}
 use Rattle.monitor_laws.proofs.ResetList.{type_is}

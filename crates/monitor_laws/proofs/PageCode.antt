@@ -1,26 +1,26 @@
 -- The page in flash: start-up's code, and the vectors of reset.
 use Rattle.std.proofs.Common.{◌≡◌, ℕ, ◌+◌, ◌-◌, ◌^◌, ◌<◌, ◌≤◌, List, [], ◌∷◌, ◌++◌, length, get_or, replicate, sym, ap, ◌∙◌, subst, arith, length-append, append_assoc, get_or-append-add}
 use Rattle.std.proofs.lemmas.List.{get_or_append_left}
-use Rattle.words.specs.Bytes.{read}
-use Rattle.words.proofs.Bytes.{read-append_left}
-use Rattle.thumb_model.specs.declared.table.Instr.{Instr}
-use Rattle.thumb_model.specs.Bytes.{code_bytes, EachInTable}
-use Rattle.thumb_model.proofs.Codes.{code_bytes-append}
-use Rattle.device_model.specs.declared.image.Image.{Image}
-use Rattle.device_model.specs.Rules.{ObeysRules}
-use Rattle.armv7m.specs.Code.{CodeIn}
-use Rattle.armv7m.specs.CodeBytes.{HoldsBytes}
-use Rattle.armv7m.specs.Running.{code_size}
-use Rattle.armv7m.proofs.CodeBytes.{bytes_are_code}
-use Rattle.armv7m.proofs.CodeParts.{code_size-append}
-use Rattle.gate_steps.specs.Code.{code, code_length}
-use Rattle.gate_steps.proofs.CodeParts.{code_has_its_length}
-use Rattle.monitor.specs.declared.tables.Tables.{Tables}
-use Rattle.monitor.specs.Constants.{Constants}
-use Rattle.monitor.specs.Svc.{svc}
-use Rattle.monitor.specs.MemFault.{memfault}
-use Rattle.monitor.specs.Reset.{to_main, reset}
-use Rattle.monitor.specs.Page.{reset_offset, svc_offset, memfault_offset, vectors, bytes_of_words, used_bytes, leave_stub, constants, page, vector_to}
+use Rattle.base_words.specs.Bytes.{read}
+use Rattle.base_words.proofs.Bytes.{read-append_left}
+use Rattle.machine_thumb.specs.declared.table.Instr.{Instr}
+use Rattle.machine_thumb.specs.Bytes.{code_bytes, EachInTable}
+use Rattle.machine_thumb.proofs.Codes.{code_bytes-append}
+use Rattle.machine_devices.specs.declared.image.Image.{Image}
+use Rattle.machine_devices.specs.Rules.{ObeysRules}
+use Rattle.machine_model.specs.Code.{CodeIn}
+use Rattle.machine_model.specs.CodeBytes.{HoldsBytes}
+use Rattle.machine_model.specs.Running.{code_size}
+use Rattle.machine_model.proofs.CodeBytes.{bytes_are_code}
+use Rattle.machine_model.proofs.CodeParts.{code_size-append}
+use Rattle.monitor_steps.specs.Code.{code, code_length}
+use Rattle.monitor_steps.proofs.CodeParts.{code_has_its_length}
+use Rattle.monitor_model.specs.declared.tables.Tables.{Tables}
+use Rattle.monitor_program.specs.Constants.{Constants}
+use Rattle.monitor_program.specs.Svc.{svc}
+use Rattle.monitor_program.specs.MemFault.{memfault}
+use Rattle.monitor_program.specs.Reset.{to_main, reset}
+use Rattle.monitor_program.specs.Page.{reset_offset, svc_offset, memfault_offset, vectors, bytes_of_words, used_bytes, leave_stub, constants, page, vector_to}
 use Rattle.monitor_laws.proofs.Appended.{code_followed}
 use Rattle.monitor_laws.proofs.ResetList.{before_control, reset_parts}
 use Rattle.monitor_laws.proofs.Encoded.{to_main_in}

@@ -3,17 +3,17 @@ use Rattle.std.proofs.Common.{◌≡◌, ℕ, ◌+◌, ◌-◌, ◌*◌, ◌/◌
 use Rattle.std.proofs.lemmas.Bool.Decides.{nat_tests}
 use Rattle.std.proofs.lemmas.List.Sums.{sum_by-cons}
 use Rattle.std.specs.Prelude.{sum_by}
-use Rattle.mpu_model.specs.declared.region.Access.TheVariants.{Read, Write, Fetch}
-use Rattle.device_model.specs.declared.image.Image.{Image}
-use Rattle.armv7m.specs.System.{in_system}
-use Rattle.armv7m.specs.Confinement.{AnyOf}
-use Rattle.common_laws.specs.Lists.{Each}
-use Rattle.gate_steps.specs.Core.{Core}
-use Rattle.gate_steps.specs.Safe.{Rule}
-use Rattle.monitor.specs.declared.tables.InitRecord.{InitRecord}
-use Rattle.monitor.specs.declared.tables.Tables.{Tables}
-use Rattle.monitor.specs.Records.{words_in}
-use Rattle.monitor.specs.Reach.{StartKind, ToBlock, ToSystem, ToInit}
+use Rattle.machine_protection.specs.declared.region.Access.TheVariants.{Read, Write, Fetch}
+use Rattle.machine_devices.specs.declared.image.Image.{Image}
+use Rattle.machine_model.specs.System.{in_system}
+use Rattle.machine_model.specs.Confinement.{AnyOf}
+use Rattle.base_laws.specs.Lists.{Each}
+use Rattle.monitor_steps.specs.Core.{Core}
+use Rattle.monitor_steps.specs.Safe.{Rule}
+use Rattle.monitor_model.specs.declared.tables.InitRecord.{InitRecord}
+use Rattle.monitor_model.specs.declared.tables.Tables.{Tables}
+use Rattle.monitor_model.specs.Records.{words_in}
+use Rattle.monitor_model.specs.Reach.{StartKind, ToBlock, ToSystem, ToInit}
 use Rattle.monitor_laws.specs.StartUp.{IsInit}
 use Rattle.monitor_laws.proofs.Off.{Allows}
 use Rattle.monitor_laws.proofs.Copies.{IsCopied}

@@ -1,23 +1,23 @@
 -- The tables that are read from an image's flash stand there.
 use Rattle.std.proofs.Common.{◌≡◌, ℕ, zero, suc, ◌+◌, ◌-◌, ◌*◌, ◌≤◌, List, [], ◌∷◌, ◌++◌, length, min, take, drop, refl, sym, ap, ap₂, ◌∙◌, subst, arith, length-append}
 use Rattle.std.specs.Prelude.{flat_map, sum_by}
-use Rattle.words.specs.Bytes.{read}
-use Rattle.device_model.specs.declared.image.Image.{Image}
-use Rattle.armv7m.specs.Stack.{words_at}
-use Rattle.common_laws.specs.Lists.{Each}
-use Rattle.monitor.specs.declared.tables.CompRecord.{CompRecord}
-use Rattle.monitor.specs.declared.tables.Tables.{Tables}
+use Rattle.base_words.specs.Bytes.{read}
+use Rattle.machine_devices.specs.declared.image.Image.{Image}
+use Rattle.machine_model.specs.Stack.{words_at}
+use Rattle.base_laws.specs.Lists.{Each}
+use Rattle.monitor_model.specs.declared.tables.CompRecord.{CompRecord}
+use Rattle.monitor_model.specs.declared.tables.Tables.{Tables}
 use Rattle.std.proofs.lemmas.List.{take-append-drop, length-take}
 use Rattle.std.proofs.lemmas.Bool.Decides.{nat_tests}
-use Rattle.words.proofs.Bytes.{read-append_right}
-use Rattle.monitor.specs.Records.{words_in, slots_of_first, number_of_slots}
-use Rattle.monitor.specs.Layout.{head_at, compartment_size, area_end, initial_word_count}
-use Rattle.monitor.specs.Area.{HasTables}
+use Rattle.base_words.proofs.Bytes.{read-append_right}
+use Rattle.monitor_model.specs.Records.{words_in, slots_of_first, number_of_slots}
+use Rattle.monitor_model.specs.Layout.{head_at, compartment_size, area_end, initial_word_count}
+use Rattle.monitor_model.specs.Area.{HasTables}
 use Rattle.monitor_laws.proofs.Tables.{least_of}
 use Rattle.monitor_laws.proofs.Numbers.{product}
-use Rattle.monitor.specs.Area.{region_words, compartment_words, site_words, target_words, init_words, head, area}
-use Rattle.monitor.specs.FromFlash.{records, word_at, region_at, comp_record_at, site_record_at, target_record_at, init_record_at, comp_count, site_count, target_count, lend_count, init_count, sites_offset, targets_offset, lends_offset, inits_offset, tables_behind}
-use Rattle.monitor.specs.MonitorCode.{MonitorCode}
+use Rattle.monitor_model.specs.Area.{region_words, compartment_words, site_words, target_words, init_words, head, area}
+use Rattle.monitor_model.specs.FromFlash.{records, word_at, region_at, comp_record_at, site_record_at, target_record_at, init_record_at, comp_count, site_count, target_count, lend_count, init_count, sites_offset, targets_offset, lends_offset, inits_offset, tables_behind}
+use Rattle.monitor_model.specs.MonitorCode.{MonitorCode}
 
 pub length-records : {A : Type 0} (f : ℕ → A) (z n o : ℕ) → length (records f z n o) ≡ n
 length-records f z zero o = refl

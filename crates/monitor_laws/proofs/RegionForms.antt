@@ -6,21 +6,21 @@ use Rattle.std.proofs.lemmas.Nat.Gcd.{dvd_of_mod-eq-zero}
 use Rattle.std.proofs.Math.Nat.{div-div-eq-div-mul, div-mul_cancel}
 use Rattle.std.specs.Int.{bit_at}
 use Rattle.std.proofs.lemmas.Bool.{ltb-true, eqb-true, leb-true, and_parts as both, not-true, or_cases}
-use Rattle.mpu_model.specs.declared.region.Region.{Region}
-use Rattle.mpu_model.specs.declared.words.Rights.{Rights}
-use Rattle.mpu_model.specs.declared.words.Rights.TheVariants.{Background, Code, Ram, Device}
-use Rattle.mpu_model.specs.Regions.{holds, size_log, is_enabled, is_of_legal_size, is_in_block, is_taken_out, permission}
-use Rattle.mpu_model.specs.RegionWords.{rights_word}
-use Rattle.mpu_model.specs.Configured.{AreNumbered}
-use Rattle.device_model.specs.declared.image.Image.{Image}
-use Rattle.windows.specs.Ranges.{IsInside, AreApart, is_inside, are_apart}
-use Rattle.windows.proofs.Decisions.{decides_inside, decides_apart}
-use Rattle.device_model.specs.Rules.{ObeysRules, block_size}
-use Rattle.monitor.specs.declared.tables.CompRecord.{CompRecord}
-use Rattle.monitor.specs.declared.tables.Tables.{Tables}
-use Rattle.common_laws.specs.Lists.{Each}
-use Rattle.monitor.specs.RegionChecks.{is_data_range, base_of, size_of, taken_out, has_form, eighths_hold_data, holds_data, is_code, is_free, is_data, is_read_only, is_cover, is_slot, are_slots, is_mask, is_compartment}
-use Rattle.monitor.specs.Placed.{IsCode, IsSlot, IsSlotByte, InFlashOf}
+use Rattle.machine_protection.specs.declared.region.Region.{Region}
+use Rattle.machine_protection.specs.declared.words.Rights.{Rights}
+use Rattle.machine_protection.specs.declared.words.Rights.TheVariants.{Background, Code, Ram, Device}
+use Rattle.machine_protection.specs.Regions.{holds, size_log, is_enabled, is_of_legal_size, is_in_block, is_taken_out, permission}
+use Rattle.machine_protection.specs.RegionWords.{rights_word}
+use Rattle.machine_protection.specs.Configured.{AreNumbered}
+use Rattle.machine_devices.specs.declared.image.Image.{Image}
+use Rattle.base_ranges.specs.Ranges.{IsInside, AreApart, is_inside, are_apart}
+use Rattle.base_ranges.proofs.Decisions.{decides_inside, decides_apart}
+use Rattle.machine_devices.specs.Rules.{ObeysRules, block_size}
+use Rattle.monitor_model.specs.declared.tables.CompRecord.{CompRecord}
+use Rattle.monitor_model.specs.declared.tables.Tables.{Tables}
+use Rattle.base_laws.specs.Lists.{Each}
+use Rattle.monitor_model.specs.RegionChecks.{is_data_range, base_of, size_of, taken_out, has_form, eighths_hold_data, holds_data, is_code, is_free, is_data, is_read_only, is_cover, is_slot, are_slots, is_mask, is_compartment}
+use Rattle.monitor_model.specs.Placed.{IsCode, IsSlot, IsSlotByte, InFlashOf}
 
 -- ---- forms
 

@@ -5,13 +5,13 @@ use Rattle.std.proofs.lemmas.Nat.{pow-add}
 use Rattle.std.specs.Prelude.{find, unwrap_or}
 use Rattle.std.specs.List.{range_with_len}
 use Rattle.std.specs.Int.{IsPowerOfTwo}
-use Rattle.mpu_model.specs.Regions.{size_log}
+use Rattle.machine_protection.specs.Regions.{size_log}
 use Rattle.plan_model.specs.Covers.{powers_of_two, least_power}
 use Rattle.plan_model.specs.Blocks.{block}
-use Rattle.common_laws.specs.Lists.{Each}
-use Rattle.monitor.specs.declared.tables.CompRecord.{CompRecord}
-use Rattle.monitor.specs.declared.tables.Tables.{Tables}
-use Rattle.monitor.specs.Layout.{greatest_code, tables_size, area_end}
+use Rattle.base_laws.specs.Lists.{Each}
+use Rattle.monitor_model.specs.declared.tables.CompRecord.{CompRecord}
+use Rattle.monitor_model.specs.declared.tables.Tables.{Tables}
+use Rattle.monitor_model.specs.Layout.{greatest_code, tables_size, area_end}
 
 -- a power of two that is at least 32
 abbrev pub IsSize : ℕ → Type 0

@@ -3,25 +3,25 @@ use Rattle.std.proofs.Common.{◌≡◌, ℕ, ◌+◌, ◌-◌, ◌*◌, ◌/◌
 use Rattle.std.proofs.lemmas.List.Sums.{sum_by-cons}
 use Rattle.std.specs.Prelude.{sum_by}
 use Rattle.std.proofs.lemmas.Bool.{ltb-true, eqb-true, and_parts as both}
-use Rattle.device_model.specs.declared.image.Image.{Image}
-use Rattle.device_model.specs.Rules.{ObeysRules, IsStack, block_size}
-use Rattle.common_laws.specs.Lists.{Each}
-use Rattle.windows.specs.Ranges.{IsInside, AreApart, is_inside, are_apart}
-use Rattle.windows.proofs.Decisions.{decides_inside}
-use Rattle.monitor.specs.declared.tables.CompRecord.{CompRecord}
-use Rattle.monitor.specs.declared.tables.InitRecord.{InitRecord}
-use Rattle.monitor.specs.declared.tables.Tables.{Tables}
-use Rattle.monitor.specs.Records.{words_in, number_of_slots}
-use Rattle.monitor.specs.Layout.{initial_words_at, initial_word_count, inits_at, tables_size, area_end}
-use Rattle.monitor.specs.Area.{HasTables}
-use Rattle.monitor.specs.MonitorCode.{MonitorCode}
-use Rattle.monitor.specs.FromFlash.{tables_of}
-use Rattle.monitor.specs.RegionChecks.{is_data_range, is_compartment}
-use Rattle.monitor.specs.Checks.{must, inits_from, is_init}
-use Rattle.monitor.specs.Sound.{Sound}
-use Rattle.monitor.specs.Placed.{Placed, IsCompartment, SoundImagesArePlaced}
-use Rattle.monitor.specs.Promises.{ImagesStart}
-use Rattle.monitor.specs.TheCode.{monitor_code}
+use Rattle.machine_devices.specs.declared.image.Image.{Image}
+use Rattle.machine_devices.specs.Rules.{ObeysRules, IsStack, block_size}
+use Rattle.base_laws.specs.Lists.{Each}
+use Rattle.base_ranges.specs.Ranges.{IsInside, AreApart, is_inside, are_apart}
+use Rattle.base_ranges.proofs.Decisions.{decides_inside}
+use Rattle.monitor_model.specs.declared.tables.CompRecord.{CompRecord}
+use Rattle.monitor_model.specs.declared.tables.InitRecord.{InitRecord}
+use Rattle.monitor_model.specs.declared.tables.Tables.{Tables}
+use Rattle.monitor_model.specs.Records.{words_in, number_of_slots}
+use Rattle.monitor_model.specs.Layout.{initial_words_at, initial_word_count, inits_at, tables_size, area_end}
+use Rattle.monitor_model.specs.Area.{HasTables}
+use Rattle.monitor_model.specs.MonitorCode.{MonitorCode}
+use Rattle.monitor_model.specs.FromFlash.{tables_of}
+use Rattle.monitor_model.specs.RegionChecks.{is_data_range, is_compartment}
+use Rattle.monitor_model.specs.Checks.{must, inits_from, is_init}
+use Rattle.monitor_model.specs.Sound.{Sound}
+use Rattle.monitor_model.specs.Placed.{Placed, IsCompartment, SoundImagesArePlaced}
+use Rattle.monitor_model.specs.Promises.{ImagesStart}
+use Rattle.monitor_program.specs.TheCode.{monitor_code}
 use Rattle.monitor_laws.specs.StartUp.{IsInit, IsReady, ReadyImagesStart}
 use Rattle.monitor_laws.proofs.Checked.{must_none, and_none, begins_with, NoneFails, none_fails, Header, header_is, TableHead, head_is, regions_are, entries_are}
 use Rattle.monitor_laws.proofs.RegionForms.{Grounds, comp_is}

@@ -1,26 +1,26 @@
 -- The handler of SVC up to its number, and the whole of it for numbers of unlend and above.
 use Rattle.std.proofs.Common.{◌≡◌, ◌≢◌, ℕ, ◌+◌, ◌-◌, ◌*◌, ◌%◌, ◌^◌, ◌<◌, ◌≤◌, true, false, List, [], length, nat_eq, refl, ap, ◌∙◌, arith}
 use Rattle.std.proofs.lemmas.Bool.Decides.{nat_tests}
-use Rattle.words.specs.Arithmetic.{subtract}
-use Rattle.words.specs.Bytes.{read, write}
-use Rattle.words.specs.declared.memory.Width.TheVariants.{Byte}
-use Rattle.mpu_model.specs.declared.TheConstants.{MPU_CTRL}
-use Rattle.device_model.specs.declared.image.Image.{Image}
-use Rattle.armv7m.specs.declared.state.ProtectionState.{ProtectionState}
-use Rattle.armv7m.specs.declared.state.FaultStatus.{FaultStatus}
-use Rattle.armv7m.specs.State.{by_mpu, is_unprivileged}
-use Rattle.gate_steps.specs.Steps.{Steps}
-use Rattle.gate_steps.specs.Core.{Core}
-use Rattle.gate_steps.specs.Effect.{Outcome, Halted, AtReturn}
-use Rattle.gate_steps.specs.Safe.{Rule}
-use Rattle.gate_steps.proofs.Within.{GivesWithin, const_within, alu_within, at_within, more_within, yes_within, no_within, next_within, halt_within, load_within, load_flash_within}
-use Rattle.monitor.specs.declared.tables.Tables.{Tables}
-use Rattle.monitor.specs.Records.{stack_end}
-use Rattle.monitor.specs.Area.{HasTables}
-use Rattle.monitor.specs.Placed.{Placed}
-use Rattle.monitor.specs.Constants.{Constants, constants_with}
-use Rattle.monitor.specs.Opening.{opened}
-use Rattle.monitor.specs.Svc.{svc_number, by_number as lists_by_number, svc}
+use Rattle.base_words.specs.Arithmetic.{subtract}
+use Rattle.base_words.specs.Bytes.{read, write}
+use Rattle.base_words.specs.declared.memory.Width.TheVariants.{Byte}
+use Rattle.machine_protection.specs.declared.TheConstants.{MPU_CTRL}
+use Rattle.machine_devices.specs.declared.image.Image.{Image}
+use Rattle.machine_model.specs.declared.state.ProtectionState.{ProtectionState}
+use Rattle.machine_model.specs.declared.state.FaultStatus.{FaultStatus}
+use Rattle.machine_model.specs.State.{by_mpu, is_unprivileged}
+use Rattle.monitor_steps.specs.Steps.{Steps}
+use Rattle.monitor_steps.specs.Core.{Core}
+use Rattle.monitor_steps.specs.Effect.{Outcome, Halted, AtReturn}
+use Rattle.monitor_steps.specs.Safe.{Rule}
+use Rattle.monitor_steps.proofs.Within.{GivesWithin, const_within, alu_within, at_within, more_within, yes_within, no_within, next_within, halt_within, load_within, load_flash_within}
+use Rattle.monitor_model.specs.declared.tables.Tables.{Tables}
+use Rattle.monitor_model.specs.Records.{stack_end}
+use Rattle.monitor_model.specs.Area.{HasTables}
+use Rattle.monitor_model.specs.Placed.{Placed}
+use Rattle.monitor_program.specs.Constants.{Constants, constants_with}
+use Rattle.monitor_program.specs.Opening.{opened}
+use Rattle.monitor_program.specs.Svc.{svc_number, by_number as lists_by_number, svc}
 use Rattle.monitor_laws.proofs.Off.{core, with_unit, IsOff, open_while_off}
 use Rattle.monitor_laws.proofs.Placement.{writable}
 use Rattle.monitor_laws.proofs.Opened.{Handles, FrameIsOpen, opened_within}

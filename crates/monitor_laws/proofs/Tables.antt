@@ -3,30 +3,30 @@ use Rattle.std.proofs.Common.{◌≡◌, ℕ, ◌+◌, ◌-◌, ◌*◌, ◌/◌
 use Rattle.std.specs.Prelude.{flat_map, ◌↔◌}
 use Rattle.std.specs.Int.{trailing_zeros, w32, bit_at}
 use Rattle.std.specs.Int.Count.{count_trailing_zeros}
-use Rattle.mpu_model.specs.declared.region.Region.{Region}
-use Rattle.mpu_model.specs.RegionWords.{region_of, size_field}
-use Rattle.mpu_model.specs.Registers.{Registers}
-use Rattle.mpu_model.specs.Laws.{kept_region}
-use Rattle.mpu_model.specs.Configured.{closed_from, AreNumbered, written, AreWritten}
-use Rattle.mpu_model.proofs.Configured.{lists_are_written, eighths_are_closed}
-use Rattle.device_model.specs.declared.image.Image.{Image}
-use Rattle.device_model.specs.Rules.{ObeysRules}
-use Rattle.common_laws.specs.Lists.{Each}
-use Rattle.windows.specs.Ranges.{IsPowerBetween}
-use Rattle.monitor.specs.declared.tables.CompRecord.{CompRecord}
-use Rattle.monitor.specs.declared.tables.SiteRecord.{SiteRecord}
-use Rattle.monitor.specs.declared.tables.TargetRecord.{TargetRecord}
-use Rattle.monitor.specs.declared.tables.Tables.{Tables}
-use Rattle.monitor.specs.Records.{nobody, compartment_at, number_of_slots, eighth}
-use Rattle.monitor.specs.Layout.{head_at}
-use Rattle.monitor.specs.Area.{region_words, compartment_words, site_words, target_words, head, area}
-use Rattle.monitor.specs.Regions.{background, tables_region, stack_region, regions_for}
-use Rattle.monitor.specs.Constants.{Constants, constants_with}
+use Rattle.machine_protection.specs.declared.region.Region.{Region}
+use Rattle.machine_protection.specs.RegionWords.{region_of, size_field}
+use Rattle.machine_protection.specs.Registers.{Registers}
+use Rattle.machine_protection.specs.Laws.{kept_region}
+use Rattle.machine_protection.specs.Configured.{closed_from, AreNumbered, written, AreWritten}
+use Rattle.machine_protection.proofs.Configured.{lists_are_written, eighths_are_closed}
+use Rattle.machine_devices.specs.declared.image.Image.{Image}
+use Rattle.machine_devices.specs.Rules.{ObeysRules}
+use Rattle.base_laws.specs.Lists.{Each}
+use Rattle.base_ranges.specs.Ranges.{IsPowerBetween}
+use Rattle.monitor_model.specs.declared.tables.CompRecord.{CompRecord}
+use Rattle.monitor_model.specs.declared.tables.SiteRecord.{SiteRecord}
+use Rattle.monitor_model.specs.declared.tables.TargetRecord.{TargetRecord}
+use Rattle.monitor_model.specs.declared.tables.Tables.{Tables}
+use Rattle.monitor_model.specs.Records.{nobody, compartment_at, number_of_slots, eighth}
+use Rattle.monitor_model.specs.Layout.{head_at}
+use Rattle.monitor_model.specs.Area.{region_words, compartment_words, site_words, target_words, head, area}
+use Rattle.monitor_model.specs.Regions.{background, tables_region, stack_region, regions_for}
+use Rattle.monitor_program.specs.Constants.{Constants, constants_with}
 use Rattle.monitor_laws.specs.RegionsWritten.{IsNumbered, Writable, StackIsClosedAboveTop}
 use Rattle.monitor_laws.proofs.Numbers.{times_over, below_256, product}
 use Rattle.monitor_laws.proofs.Written.{HasRegions, HasRecord, Shaped, open_stack}
 use Rattle.monitor_laws.proofs.FlashWords.{Has, flash_has, has_front, has_back, has_record, has_regions}
-use Rattle.common_laws.proofs.Lists.{each_to, each_at}
+use Rattle.base_laws.proofs.Lists.{each_to, each_at}
 
 -- ---- the stack's size
 

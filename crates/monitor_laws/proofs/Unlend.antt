@@ -1,24 +1,24 @@
 -- The end of both handlers, and the list of unlend.
 use Rattle.std.proofs.Common.{◌≡◌, ◌≢◌, ℕ, ◌+◌, ◌-◌, true, List, length, refl, sym, ap, ◌∙◌, arith}
 use Rattle.std.proofs.lemmas.Bool.{eqb-true}
-use Rattle.words.specs.Arithmetic.{subtract}
-use Rattle.words.specs.Bytes.{read, write}
-use Rattle.mpu_model.specs.declared.TheConstants.{MPU_CTRL}
-use Rattle.device_model.specs.declared.image.Image.{Image}
-use Rattle.armv7m.specs.declared.state.ProtectionState.{ProtectionState}
-use Rattle.armv7m.specs.declared.state.FaultStatus.{FaultStatus}
-use Rattle.armv7m.specs.State.{by_mpu}
-use Rattle.gate_steps.specs.Steps.{Steps}
-use Rattle.gate_steps.specs.Core.{Core}
-use Rattle.gate_steps.specs.Effect.{Outcome, Halted, AtReturn}
-use Rattle.gate_steps.specs.Safe.{Rule}
-use Rattle.gate_steps.proofs.Within.{GivesWithin, const_within, alu_within, more_within, must_not_within, return_within}
-use Rattle.monitor.specs.declared.tables.Tables.{Tables}
-use Rattle.monitor.specs.Area.{HasTables}
-use Rattle.monitor.specs.Placed.{Placed}
-use Rattle.monitor.specs.Constants.{Constants, constants_with}
-use Rattle.monitor.specs.Opening.{closed_up}
-use Rattle.monitor.specs.Svc.{unlend}
+use Rattle.base_words.specs.Arithmetic.{subtract}
+use Rattle.base_words.specs.Bytes.{read, write}
+use Rattle.machine_protection.specs.declared.TheConstants.{MPU_CTRL}
+use Rattle.machine_devices.specs.declared.image.Image.{Image}
+use Rattle.machine_model.specs.declared.state.ProtectionState.{ProtectionState}
+use Rattle.machine_model.specs.declared.state.FaultStatus.{FaultStatus}
+use Rattle.machine_model.specs.State.{by_mpu}
+use Rattle.monitor_steps.specs.Steps.{Steps}
+use Rattle.monitor_steps.specs.Core.{Core}
+use Rattle.monitor_steps.specs.Effect.{Outcome, Halted, AtReturn}
+use Rattle.monitor_steps.specs.Safe.{Rule}
+use Rattle.monitor_steps.proofs.Within.{GivesWithin, const_within, alu_within, more_within, must_not_within, return_within}
+use Rattle.monitor_model.specs.declared.tables.Tables.{Tables}
+use Rattle.monitor_model.specs.Area.{HasTables}
+use Rattle.monitor_model.specs.Placed.{Placed}
+use Rattle.monitor_program.specs.Constants.{Constants, constants_with}
+use Rattle.monitor_program.specs.Opening.{closed_up}
+use Rattle.monitor_program.specs.Svc.{unlend}
 use Rattle.monitor_laws.proofs.Off.{core, with_unit, IsOff, set_control_within}
 use Rattle.monitor_laws.proofs.Opened.{Handles, eq_false, block_load_within, block_store_within}
 

@@ -1,24 +1,24 @@
 -- The tables of a compartment are written: regions 2, 3 and its slots.
 use Rattle.std.proofs.Common.{◌≡◌, ℕ, ◌+◌, ◌-◌, ◌*◌, ◌/◌, ◌%◌, ◌^◌, ◌<◌, ◌≤◌, inl, inr, Bool, true, false, List, [], ◌∷◌, length, refl, sym, ap, ◌∙◌, subst, arith}
 use Rattle.std.specs.Prelude.{bit_and}
-use Rattle.words.specs.Bytes.{read}
-use Rattle.words.specs.declared.memory.Width.TheVariants.{Word}
-use Rattle.mpu_model.specs.declared.region.Region.{Region}
-use Rattle.mpu_model.specs.declared.TheConstants.{MPU_RBAR, MPU_RASR}
-use Rattle.mpu_model.specs.Registers.{write_register}
-use Rattle.mpu_model.specs.Configured.{written}
-use Rattle.device_model.specs.declared.image.Image.{Image}
-use Rattle.device_model.specs.Rules.{ObeysRules}
-use Rattle.armv7m.specs.declared.state.ProtectionState.{ProtectionState}
-use Rattle.armv7m.specs.declared.state.FaultStatus.{FaultStatus}
-use Rattle.armv7m.specs.State.{by_mpu}
-use Rattle.gate_steps.specs.Steps.{Steps, Load, Store}
-use Rattle.gate_steps.specs.Core.{Core}
-use Rattle.gate_steps.specs.Effect.{Outcome}
-use Rattle.gate_steps.specs.Safe.{Rule}
-use Rattle.gate_steps.proofs.Within.{GivesWithin, const_within, alu_within, more_within, load_flash_within}
-use Rattle.monitor.specs.Constants.{Constants}
-use Rattle.monitor.specs.Opening.{bits_of, times, record_of, regions, stack_region, tables_of}
+use Rattle.base_words.specs.Bytes.{read}
+use Rattle.base_words.specs.declared.memory.Width.TheVariants.{Word}
+use Rattle.machine_protection.specs.declared.region.Region.{Region}
+use Rattle.machine_protection.specs.declared.TheConstants.{MPU_RBAR, MPU_RASR}
+use Rattle.machine_protection.specs.Registers.{write_register}
+use Rattle.machine_protection.specs.Configured.{written}
+use Rattle.machine_devices.specs.declared.image.Image.{Image}
+use Rattle.machine_devices.specs.Rules.{ObeysRules}
+use Rattle.machine_model.specs.declared.state.ProtectionState.{ProtectionState}
+use Rattle.machine_model.specs.declared.state.FaultStatus.{FaultStatus}
+use Rattle.machine_model.specs.State.{by_mpu}
+use Rattle.monitor_steps.specs.Steps.{Steps, Load, Store}
+use Rattle.monitor_steps.specs.Core.{Core}
+use Rattle.monitor_steps.specs.Effect.{Outcome}
+use Rattle.monitor_steps.specs.Safe.{Rule}
+use Rattle.monitor_steps.proofs.Within.{GivesWithin, const_within, alu_within, more_within, load_flash_within}
+use Rattle.monitor_program.specs.Constants.{Constants}
+use Rattle.monitor_program.specs.Opening.{bits_of, times, record_of, regions, stack_region, tables_of}
 use Rattle.monitor_laws.proofs.Numbers.{shl3, shl8, shr_by, times_over, srd_is, srd_word, horner, Small, times_is, times_ticks, product_ticks}
 use Rattle.monitor_laws.proofs.Off.{core, with_unit, IsOff, Allows, open_while_off, status_stays, rbar_control, rasr_control, unit_within}
 

@@ -3,26 +3,26 @@
 -- both handlers alike.
 use Rattle.std.specs.Prelude.{◌≡◌, ℕ, ◌+◌, ◌*◌, ◌/◌, ◌%◌, ◌^◌, ◌<◌, ◌≤◌, ◌↔◌, List, [], ◌∷◌, length, false}
 use Rattle.std.specs.Int.{bit_at}
-use Rattle.mpu_model.specs.declared.region.Region.{Region}
-use Rattle.mpu_model.specs.Laws.{kept_region}
-use Rattle.mpu_model.specs.Configured.{AreNumbered}
-use Rattle.device_model.specs.declared.image.Image.{Image}
-use Rattle.windows.specs.Ranges.{IsPowerBetween, IsInside}
-use Rattle.device_model.specs.Rules.{ObeysRules}
-use Rattle.armv7m.specs.State.{by_mpu, is_unprivileged}
-use Rattle.common_laws.specs.Lists.{Each}
-use Rattle.gate_steps.specs.Steps.{End}
-use Rattle.gate_steps.specs.Core.{Core, low_register}
-use Rattle.gate_steps.specs.Effect.{Went, effect}
-use Rattle.gate_steps.specs.Ticks.{ticks}
-use Rattle.monitor.specs.declared.tables.CompRecord.{CompRecord}
-use Rattle.monitor.specs.declared.tables.Tables.{Tables}
-use Rattle.monitor.specs.Records.{number_of_slots, eighth}
-use Rattle.monitor.specs.Area.{HasTables}
-use Rattle.monitor.specs.Regions.{background, tables_region, stack_region, regions_for}
-use Rattle.monitor.specs.Invariant.{IsTop}
-use Rattle.monitor.specs.Constants.{constants_with}
-use Rattle.monitor.specs.Opening.{tables_of}
+use Rattle.machine_protection.specs.declared.region.Region.{Region}
+use Rattle.machine_protection.specs.Laws.{kept_region}
+use Rattle.machine_protection.specs.Configured.{AreNumbered}
+use Rattle.machine_devices.specs.declared.image.Image.{Image}
+use Rattle.base_ranges.specs.Ranges.{IsPowerBetween, IsInside}
+use Rattle.machine_devices.specs.Rules.{ObeysRules}
+use Rattle.machine_model.specs.State.{by_mpu, is_unprivileged}
+use Rattle.base_laws.specs.Lists.{Each}
+use Rattle.monitor_steps.specs.Steps.{End}
+use Rattle.monitor_steps.specs.Core.{Core, low_register}
+use Rattle.monitor_steps.specs.Effect.{Went, effect}
+use Rattle.monitor_steps.specs.Ticks.{ticks}
+use Rattle.monitor_model.specs.declared.tables.CompRecord.{CompRecord}
+use Rattle.monitor_model.specs.declared.tables.Tables.{Tables}
+use Rattle.monitor_model.specs.Records.{number_of_slots, eighth}
+use Rattle.monitor_model.specs.Area.{HasTables}
+use Rattle.monitor_model.specs.Regions.{background, tables_region, stack_region, regions_for}
+use Rattle.monitor_model.specs.Invariant.{IsTop}
+use Rattle.monitor_program.specs.Constants.{constants_with}
+use Rattle.monitor_program.specs.Opening.{tables_of}
 use Rattle.plan_model.specs.CompileLimits.{compartment_limit}
 
 -- as many slots as the others, and words that go to the regions of their numbers

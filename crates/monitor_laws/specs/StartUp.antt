@@ -1,22 +1,22 @@
 -- Beyond the program's claim: only laws, proofs and functions inside the tool cite this file.
 -- Start-up, of tables that are placed, and on a processor with another protection unit.
 use Rattle.std.specs.Prelude.{◌≡◌, ◌≢◌, ℕ, ◌+◌, ◌-◌, ◌%◌, ◌<◌, ◌≤◌, List, ◌++◌, length, false}
-use Rattle.device_model.specs.declared.image.Image.{Image}
-use Rattle.armv7m.specs.State.{by_mpu, is_unprivileged}
-use Rattle.common_laws.specs.Lists.{Each}
-use Rattle.gate_steps.specs.Steps.{Steps}
-use Rattle.gate_steps.specs.Core.{Core}
-use Rattle.gate_steps.specs.Effect.{Halted, effect}
-use Rattle.windows.specs.Ranges.{IsInside}
-use Rattle.monitor.specs.declared.tables.InitRecord.{InitRecord}
-use Rattle.monitor.specs.declared.tables.Tables.{Tables}
-use Rattle.monitor.specs.Layout.{tables_size, area_end}
-use Rattle.monitor.specs.Area.{HasTables}
-use Rattle.monitor.specs.Placed.{Placed}
-use Rattle.monitor.specs.Constants.{Constants}
-use Rattle.monitor.specs.Reset.{reset}
-use Rattle.monitor.specs.Page.{page, stub_address}
-use Rattle.monitor.specs.Starts.{Starts}
+use Rattle.machine_devices.specs.declared.image.Image.{Image}
+use Rattle.machine_model.specs.State.{by_mpu, is_unprivileged}
+use Rattle.base_laws.specs.Lists.{Each}
+use Rattle.monitor_steps.specs.Steps.{Steps}
+use Rattle.monitor_steps.specs.Core.{Core}
+use Rattle.monitor_steps.specs.Effect.{Halted, effect}
+use Rattle.base_ranges.specs.Ranges.{IsInside}
+use Rattle.monitor_model.specs.declared.tables.InitRecord.{InitRecord}
+use Rattle.monitor_model.specs.declared.tables.Tables.{Tables}
+use Rattle.monitor_model.specs.Layout.{tables_size, area_end}
+use Rattle.monitor_model.specs.Area.{HasTables}
+use Rattle.monitor_model.specs.Placed.{Placed}
+use Rattle.monitor_program.specs.Constants.{Constants}
+use Rattle.monitor_program.specs.Reset.{reset}
+use Rattle.monitor_program.specs.Page.{page, stub_address}
+use Rattle.monitor_model.specs.Starts.{Starts}
 
 -- a range of at least one word in RAM, and as many bytes in flash
 pub record IsInit (i : Image) (x : InitRecord) : Type 0 where

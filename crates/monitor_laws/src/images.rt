@@ -1,8 +1,8 @@
 //! Sound images. Each function is a law and does nothing.
 
-ghost use Rattle.monitor.specs.Placed.{SoundImagesArePlaced};
-ghost use Rattle.monitor.specs.Promises.{ImagesStart};
-ghost use Rattle.monitor.specs.TheCode.{monitor_code};
+ghost use Rattle.monitor_model.specs.Placed.{SoundImagesArePlaced};
+ghost use Rattle.monitor_model.specs.Promises.{ImagesStart};
+ghost use Rattle.monitor_program.specs.TheCode.{monitor_code};
 
 use crate::start_up::ready_images_start;
 

@@ -2,10 +2,12 @@
 
 ghost use Rattle.monitor_laws.specs.StartUp.{OtherUnitsHalt, ReadyImagesStart};
 
-use armv7m::running::{shapes, templates};
-use monitor::code_size::page_is_full;
-use mpu_model::laws::{regions_are_kept, regions_give_their_rights, regions_hold_their_blocks};
-use words::laws::comparisons;
+use base_words::laws::comparisons;
+use machine_model::running::{shapes, templates};
+use machine_protection::laws::{
+    regions_are_kept, regions_give_their_rights, regions_hold_their_blocks,
+};
+use monitor_program::code_size::page_is_full;
 
 /// A machine that is started on an image whose tables are placed comes to the first instruction of `main`: within the steps that
 /// are counted, of which each stores only to the monitor's block, to system registers and to the ranges with initial words,

@@ -8,7 +8,7 @@ use Rattle.plan_model.specs.Groups.{compartment_of}
 use Rattle.plan_model.specs.Crossing.{crosses, crossing_sites, stands_at, site_number}
 use Rattle.need_laws.specs.Reached.{HasTarget}
 use Rattle.need_laws.specs.Laws.{CallsStayInside, FramesAreGrouped}
-use Rattle.exact_lists.proofs.Members.{filtered, any_in, none_found}
+use Rattle.need_lists.proofs.Members.{filtered, any_in, none_found}
 use Rattle.need_laws.proofs.Listed.{call_has_target}
 
 pub stands_here : (f b k : ℕ) (s : SiteNeed) → s.func ≡ f → s.block ≡ b → s.inst ≡ k → stands_at f b k s ≡ true

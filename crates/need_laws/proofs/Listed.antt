@@ -12,8 +12,8 @@ use Rattle.plan_model.specs.Lists.{numbers_below}
 use Rattle.plan_model.specs.Calls.{CallPlace, calls_from, calls_of, call_places, IsSiteOf}
 use Rattle.plan_model.specs.Needs.{need_of, IsData, IsWritable, AreNeeds}
 use Rattle.need_laws.specs.Reached.{IsListed, ListsPeriph, HasTarget}
-use Rattle.exact_lists.proofs.Parts.{head, tail, joined, number_in}
-use Rattle.exact_lists.proofs.Members.{partner}
+use Rattle.need_lists.proofs.Parts.{head, tail, joined, number_in}
+use Rattle.need_lists.proofs.Members.{partner}
 
 -- ---- objects by their numbers
 

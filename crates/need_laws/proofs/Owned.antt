@@ -14,7 +14,7 @@ use Rattle.plan_model.specs.Lendable.{LendCause, OthersWrite, OthersRead, CallsI
 use Rattle.plan_model.specs.Lending.{is_local, lent, lend_number}
 use Rattle.plan_model.specs.Needs.{AreNeeds}
 use Rattle.need_laws.specs.Laws.{WaitingFramesReach, IsOwn, FramesAreOwn, OtherLocalsAreLendable, LendableLocalsHaveNumbers}
-use Rattle.exact_lists.proofs.Members.{none_found}
+use Rattle.need_lists.proofs.Members.{none_found}
 
 -- ---- which functions reach which
 

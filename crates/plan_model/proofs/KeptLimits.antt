@@ -4,7 +4,7 @@ use Rattle.std.specs.Prelude.{find}
 use Rattle.std.specs.Bool.{then_some}
 use Rattle.std.proofs.lemmas.Bool.Decides.{nat_tests}
 use Rattle.std.proofs.lemmas.List.Sums.{sum_by-cons}
-use Rattle.common_laws.specs.Lists.{Each}
+use Rattle.base_laws.specs.Lists.{Each}
 use Rattle.plan_model.specs.declared.needs.SiteNeed.{SiteNeed}
 use Rattle.plan_model.specs.declared.needs.Needs.{Needs}
 use Rattle.plan_model.specs.declared.groups.Groups.{Groups}
@@ -13,7 +13,7 @@ use Rattle.plan_model.specs.declared.limits.LimitKind.TheVariants.{Compartments,
 use Rattle.plan_model.specs.CompileLimits.{above, wide_site, first_passed, KeepsLimits}
 use Rattle.plan_model.specs.Crossing.{crossing_sites, target_count}
 use Rattle.plan_model.specs.Lending.{lent}
-use Rattle.common_laws.proofs.Options.{none_mapped as unmapped}
+use Rattle.base_laws.proofs.Options.{none_mapped as unmapped}
 use Rattle.plan_model.proofs.Choices.{none_first as none_of}
 
 kept : (most count : ℕ) (kind : LimitKind) → above most kind count ≡ None → count ≤ most

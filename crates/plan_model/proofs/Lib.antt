@@ -1,3 +1,4 @@
+pub mod Meeting
 pub mod Orders
 pub mod Powers
 pub mod Numbers

@@ -6,7 +6,7 @@ use Rattle.std.specs.List.{list_any}
 use Rattle.std.specs.List.Sorted.{IsSortedBy, IsStableBy, ties}
 use Rattle.std.proofs.lemmas.List.Sorted.{sorted_far}
 use Rattle.plan_model.specs.Lists.{placed, in_order}
-use Rattle.common_laws.proofs.Tests.{turned}
+use Rattle.base_laws.proofs.Tests.{turned}
 
 -- ---- filters, by the test of the first item
 

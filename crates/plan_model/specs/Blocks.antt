@@ -1,7 +1,7 @@
 -- Blocks of memory: their sizes, where the globals of a region stand in its block, and which eighths of a block stay open.
 use Rattle.std.specs.Prelude.{ℕ, ◌+◌, ◌-◌, ◌/◌, Bool, List, [], ◌∷◌, get_or, if◌then◌else◌, nat_eq, nat_le}
 use Rattle.std.specs.List.{position_or_len}
-use Rattle.mpu_model.specs.Configured.{closed_from}
+use Rattle.machine_protection.specs.Configured.{closed_from}
 use Rattle.ir_model.specs.Layout.{rounded_up}
 use Rattle.ir_model.specs.Resolved.{Program, global_at}
 use Rattle.plan_model.specs.Regions.{global_size}

@@ -1,11 +1,11 @@
 -- The rules that a board obeys.
 use Rattle.std.specs.Prelude.{◌≡◌, ℕ, ◌-◌, ◌%◌, ◌≤◌, ◌⊎◌, length}
-use Rattle.windows.specs.Ranges.{IsPowerBetween}
-use Rattle.device_model.specs.Rules.{least_stack, greatest_stack, memory_limit, last_flash_base, first_ram_base, last_ram_base, least_ram, ram_unit}
-use Rattle.common_laws.specs.Lists.{Each}
+use Rattle.base_ranges.specs.Ranges.{IsPowerBetween}
+use Rattle.machine_devices.specs.Rules.{least_stack, greatest_stack, memory_limit, last_flash_base, first_ram_base, last_ram_base, least_ram, ram_unit}
+use Rattle.base_laws.specs.Lists.{Each}
 use Rattle.plan_model.specs.declared.plan.Board.{Board}
-use Rattle.denied_ranges.specs.declared.TheConstants.{DENIED_LIMIT}
-use Rattle.denied_ranges.specs.Denied.{IsDenied}
+use Rattle.plan_model.specs.declared.denied_ranges.TheConstants.{DENIED_LIMIT}
+use Rattle.plan_model.specs.Denied.{IsDenied}
 
 -- a multiple of 32 from 1,024 to 1,048,576: flash has a size that RAM may have
 pub record IsMemorySize (n : ℕ) : Type 0 where

@@ -1,3 +1,4 @@
+pub mod Denied
 pub mod Lists
 pub mod Choices
 pub mod PointsTo

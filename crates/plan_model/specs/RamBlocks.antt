@@ -1,6 +1,6 @@
 -- The blocks of RAM: what they are for, and their sizes.
 use Rattle.std.specs.Prelude.{ℕ, Bool, true, false, List, [], ◌∷◌, ◌++◌, length, map, nat_eq, nat_lt}
-use Rattle.device_model.specs.Rules.{block_size}
+use Rattle.machine_devices.specs.Rules.{block_size}
 use Rattle.ir_model.specs.Resolved.{Program}
 use Rattle.plan_model.specs.declared.graph.Region.{Region}
 use Rattle.plan_model.specs.declared.graph.Final.{Final}

@@ -1,9 +1,9 @@
 -- The words of the protection unit's regions while a compartment runs: number 2, and those from number 4 on; and its masks.
 use Rattle.std.specs.Prelude.{ℕ, zero, suc, ◌+◌, ◌^◌, List, [], ◌∷◌, ◌++◌, map, get_or, if◌then◌else◌, nat_lt}
-use Rattle.mpu_model.specs.declared.region.Region.{Region}
-use Rattle.mpu_model.specs.declared.words.Rights.{Rights}
-use Rattle.mpu_model.specs.declared.words.Rights.TheVariants.{Background, Code, Ram, Device}
-use Rattle.mpu_model.specs.RegionWords.{region_of}
+use Rattle.machine_protection.specs.declared.region.Region.{Region}
+use Rattle.machine_protection.specs.declared.words.Rights.{Rights}
+use Rattle.machine_protection.specs.declared.words.Rights.TheVariants.{Background, Code, Ram, Device}
+use Rattle.machine_protection.specs.RegionWords.{region_of}
 use Rattle.ir_model.specs.Resolved.{Program}
 use Rattle.plan_model.specs.declared.graph.Cover.{Cover}
 use Rattle.plan_model.specs.declared.graph.Final.{Final}

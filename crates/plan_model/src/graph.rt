@@ -1,7 +1,7 @@
 //! The graph of compartments and regions: who writes and reads which globals, and which peripherals each compartment has.
 
 use crate::groups::Groups;
-use list_vec::ListVec;
+use base_lists::ListVec;
 
 /// Globals that lie together in one block, because the same compartments reach them. Each list is in rising order.
 #[derive(Drop)]

@@ -1,7 +1,7 @@
 //! What a policy knows of a function, and the compartments that it makes.
 
-use list_vec::ListVec;
-use names::Name;
+use base_lists::ListVec;
+use base_names::Name;
 
 /// What a policy knows of a function.
 #[derive(Drop)]

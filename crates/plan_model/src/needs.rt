@@ -1,7 +1,7 @@
 //! What the functions of a firmware may reach.
 
+use base_lists::ListVec;
 use ir_model::object::ObjId;
-use list_vec::ListVec;
 
 /// What a function may reach by its own instructions. Each list is in rising order, without repeats.
 #[derive(Drop)]

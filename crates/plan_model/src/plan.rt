@@ -1,7 +1,7 @@
 //! A board, and where the blocks of an image lie on it.
 
-use denied_ranges::Denied;
-use list_vec::ListVec;
+use crate::Denied;
+use base_lists::ListVec;
 
 /// A block of memory.
 #[derive(Clone, Copy, PartialEq, Eq, Debug)]

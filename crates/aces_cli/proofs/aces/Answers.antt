@@ -2,13 +2,13 @@ use Rattle.std.proofs.Common.{inl, [], refl, subst, arith, ◌∙◌, sym, map, 
 use Rattle.std.proofs.lemmas.List.Elements.{All-nil, All-weaker}
 use Rattle.aces_words.specs.Commands.{request_of}
 use Rattle.aces_words.specs.Requests.{Request, Asks}
-use Rattle.commands.specs.Known.{Holds, Exceeds, WasRead, WasTooLarge, IsCallOf}
-use Rattle.commands.specs.CarriesOut.{IsKnown, IsKnownLarge}
+use Rattle.aces_files.specs.Known.{Holds, Exceeds, WasRead, WasTooLarge, IsCallOf}
+use Rattle.aces_files.specs.CarriesOut.{IsKnown, IsKnownLarge}
 use Rattle.aces_cli.specs.Answer.{Answer}
 use Rattle.aces_cli.specs.Endings.{IsPlain, IsAnswered}
-use Rattle.outside.specs.Sinks.{sink}
-use Rattle.commands.specs.Effects.{world}
-use Rattle.commands.proofs.Ends.{did_also, held_stays}
+use Rattle.base_outside.specs.Sinks.{sink}
+use Rattle.aces_files.specs.Effects.{world}
+use Rattle.aces_files.proofs.Ends.{did_also, held_stays}
 use Rattle.aces_cli.proofs.Answered.{answer_also, usage_answered, answered, unread, partly, printed_in_part}
 use Rattle.aces_cli.proofs.Kept.{writes_nothing}
 use Rattle.aces_cli.proofs.Settled.{is_plain, settled, complete}

@@ -1,8 +1,8 @@
 use Rattle.std.proofs.Common.{rules, IsTrue, ◌++◌, List, ap, sym, ◌∙◌, subst, Bor, MutBor}
-use Rattle.device_model.specs.declared.image.Image.{Image}
-use Rattle.device_model.specs.declared.image.Window.{Window}
-use Rattle.device_model.specs.Rules.{ObeysRules}
-use Rattle.armv7m.specs.State.{by_mpu}
+use Rattle.machine_devices.specs.declared.image.Image.{Image}
+use Rattle.machine_devices.specs.declared.image.Window.{Window}
+use Rattle.machine_devices.specs.Rules.{ObeysRules}
+use Rattle.machine_model.specs.State.{by_mpu}
 use Rattle.machine_output.specs.Runs.{end_of, event_lines}
 use Rattle.machine_output.proofs.Callbacks.{printed_all, printed_part}
 use Rattle.machine_output.proofs.print_events.Goals as goal

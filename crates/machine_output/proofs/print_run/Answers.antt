@@ -1,7 +1,7 @@
 use Rattle.std.proofs.Common.{[], ◌++◌, ap, sym, append-nil}
-use Rattle.lines.specs.Lines.{end_line}
+use Rattle.machine_lines.specs.Lines.{end_line}
 use Rattle.machine_output.specs.Runs.{end_of, event_lines}
-use Rattle.outside.proofs.Prefixes.{prefix_part, prefix_longer, on_err}
+use Rattle.base_outside.proofs.Prefixes.{prefix_part, prefix_longer, on_err}
 use Rattle.machine_output.proofs.print_run.Goals as goal
 
 pub returns-in_err-end-clause-part : goal.returns-in_err-end-clause-part

@@ -3,17 +3,17 @@ use Rattle.std.proofs.lemmas.List.Elements.{All-append}
 use Rattle.std.proofs.lemmas.Result.{err_from_is_err_and}
 use Rattle.aces_reports.specs.declared.failure.Done.TheVariants.{Completed}
 use Rattle.aces_words.specs.Requests.{Compile, file_origin, firmware_origin}
-use Rattle.commands.specs.Known.{IsCallOf}
-use Rattle.commands.specs.CarriesOut.{IsKnown, IsKnownLarge}
+use Rattle.aces_files.specs.Known.{IsCallOf}
+use Rattle.aces_files.specs.CarriesOut.{IsKnown, IsKnownLarge}
 use Rattle.aces_cli.specs.Answer.{AnswerToCompile, CompileAnswer}
-use Rattle.commands.specs.Outcomes.{done}
-use Rattle.commands.specs.Effects.{world}
-use Rattle.commands.specs.Loads.{IsRefusal}
-use Rattle.outside.proofs.Paths.{calls_joined}
-use Rattle.commands.proofs.Asked.{known_before, writes_of}
-use Rattle.commands.proofs.Ends.{did_end}
-use Rattle.planned_commands.specs.Both.{AreNotRead, all_read}
-use Rattle.planned_commands.proofs.Carried.{both_asked, not_read, refused}
+use Rattle.aces_files.specs.Outcomes.{done}
+use Rattle.aces_files.specs.Effects.{world}
+use Rattle.aces_files.specs.Loads.{IsRefusal}
+use Rattle.base_outside.proofs.Paths.{calls_joined}
+use Rattle.aces_files.proofs.Asked.{known_before, writes_of}
+use Rattle.aces_files.proofs.Ends.{did_end}
+use Rattle.aces_plans.specs.Both.{AreNotRead, all_read}
+use Rattle.aces_plans.proofs.Carried.{both_asked, not_read, refused}
 use Rattle.aces_cli.proofs.compile.compile.Goals as goal
 
 pub returns-in_err-both : goal.returns-in_err-both

@@ -1,4 +1,4 @@
-use Rattle.outside.specs.Sinks.{sink}
+use Rattle.base_outside.specs.Sinks.{sink}
 use Rattle.aces_cli.proofs.perform.on_image.Goals as goal
 
 pub returns-in-Run : goal.returns-in-Run

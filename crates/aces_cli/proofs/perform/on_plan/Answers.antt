@@ -1,4 +1,4 @@
-use Rattle.outside.specs.Sinks.{sink}
+use Rattle.base_outside.specs.Sinks.{sink}
 use Rattle.aces_cli.proofs.perform.on_plan.Goals as goal
 
 pub returns-in-Compile : goal.returns-in-Compile

@@ -1,5 +1,5 @@
 use Rattle.std.proofs.Common.{refl}
-use Rattle.outside.specs.Sinks.{sink}
+use Rattle.base_outside.specs.Sinks.{sink}
 use Rattle.aces_reports.proofs.Saying.{says_digit, says_digits}
 use Rattle.aces_reports.proofs.telling.+say_number.Goals as goal
 use Rattle.aces_reports.proofs.telling.+say_number.Goals.{then-number-ge10, else-number-ge10}

@@ -1,7 +1,7 @@
 use Rattle.std.specs.Prelude.{codes}
 use Rattle.std.proofs.Common.{◌++◌, refl}
 use Rattle.aces_reports.specs.FaultLines as lines
-use Rattle.outside.specs.Sinks.{sink}
+use Rattle.base_outside.specs.Sinks.{sink}
 use Rattle.aces_reports.proofs.Saying.{says_both}
 use Rattle.aces_reports.proofs.telling.say_past_limit.Goals as goal
 

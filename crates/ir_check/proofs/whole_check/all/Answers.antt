@@ -1,7 +1,7 @@
 use Rattle.std.proofs.Common.{ap, ◌∙◌}
 use Rattle.ir_model.specs.Plain.{firmware_of, funcs_of}
 use Rattle.ir_model.specs.Typing.{checks}
-use Rattle.check_faults.proofs.Order.{told}
+use Rattle.ir_check_scopes.proofs.Order.{told}
 use Rattle.ir_check.proofs.Small.{are_small}
 use Rattle.ir_check.proofs.Whole.{all_left, all_behind}
 use Rattle.ir_check.proofs.whole_check.all.Goals as goal

@@ -1,5 +1,5 @@
 use Rattle.std.proofs.Common.{◌≡◌, true}
-use Rattle.names.specs.Names.{begins_word}
+use Rattle.base_names.specs.Names.{begins_word}
 use Rattle.ir_reader.proofs.Scanning.{word_run}
 use Rattle.ir_reader.proofs.lexer.token.Goals as goal
 

@@ -1,7 +1,7 @@
 use Rattle.std.proofs.Common.{Err, [], ap, map, subst, ◌∙◌}
 use Rattle.ir_model.specs.Plain.{firmware_of, struct_of}
-use Rattle.layouts.specs.Tables.{HasTooLarge}
-use Rattle.layouts.proofs.SmallStructs.{none_too_large}
+use Rattle.ir_layouts.specs.Tables.{HasTooLarge}
+use Rattle.ir_layouts.proofs.SmallStructs.{none_too_large}
 use Rattle.ir_resolve.proofs.scope.struct_layouts.Goals as goal
 
 pub unreachable-requires : goal.unreachable-requires

@@ -3,7 +3,7 @@ use Rattle.ir_model.specs.Plain.{struct_of}
 use Rattle.ir_model.specs.Layout.{known, shape}
 use Rattle.ir_model.specs.Resolved.{At}
 use Rattle.ir_model.specs.Step.{act, with_pointer, register, number_in, Sets}
-use Rattle.words.specs.Arithmetic.{word}
+use Rattle.base_words.specs.Arithmetic.{word}
 use Rattle.ir_program.specs.Storages.{pointee_of}
 use Rattle.ir_program.specs.Values.{instance_of}
 use Rattle.ir_run.specs.Acts.{frame_of}

@@ -2,7 +2,7 @@ use Rattle.std.proofs.Common.{◌++◌, ◌≤◌, ap, ◌∙◌, map, length, t
 use Rattle.std.proofs.lemmas.List.{length-map, take_all}
 use Rattle.ir_model.specs.Plain.{struct_of}
 use Rattle.ir_model.specs.Layout.{known, CellPlace}
-use Rattle.cells.specs.Cells.{lent_types, types_of}
+use Rattle.ir_cells.specs.Cells.{lent_types, types_of}
 use Rattle.ir_program.specs.Storages.{shape_of}
 use Rattle.ir_run.proofs.entering.cell_types.Goals as goal
 

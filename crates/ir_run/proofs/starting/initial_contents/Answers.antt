@@ -3,7 +3,7 @@ use Rattle.ir_model.specs.Plain.{struct_of}
 use Rattle.ir_model.specs.Layout.{known}
 use Rattle.ir_model.specs.Resolved.{NumberedGlobal}
 use Rattle.ir_model.specs.State.{entered}
-use Rattle.cells.specs.Cells.{types_of}
+use Rattle.ir_cells.specs.Cells.{types_of}
 use Rattle.ir_program.specs.declared.program.Variable.{Variable}
 use Rattle.ir_program.specs.Values.{value_of}
 use Rattle.ir_program.specs.Storages.{shape_of}

@@ -1,10 +1,10 @@
 use Rattle.std.proofs.Common.{◌≡◌, ◌+◌, true, false, refl, ap, sym, subst, ◌∙◌, arith}
 use Rattle.std.specs.Prelude.{IfSome}
 use Rattle.std.specs.Fn.{FnReturnsAt}
-use Rattle.armv7m.specs.Step.{step, event}
-use Rattle.watch.specs.Answers.{AnswersEqually}
-use Rattle.watch.specs.Watched.{Says}
-use Rattle.outside.specs.Sinks.{Puts, sink}
+use Rattle.machine_model.specs.Step.{step, event}
+use Rattle.machine_watch.specs.Answers.{AnswersEqually}
+use Rattle.machine_watch.specs.Watched.{Says}
+use Rattle.base_outside.specs.Sinks.{Puts, sink}
 use Rattle.machine_output.specs.Runs.{HasLine}
 use Rattle.machine_output.proofs.Windows.{event_known, name_is_short}
 use Rattle.machine_output.proofs.Going.{IsGoing, going_none, going_more, paused, broken, ran_out, stepped_says, stepped_puts, stepped_to, told_has}

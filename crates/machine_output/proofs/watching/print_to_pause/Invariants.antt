@@ -1,6 +1,6 @@
 use Rattle.std.proofs.Common.{◌≡◌, ◌+◌}
 use Rattle.std.specs.Fn.{FnReturnsAt}
-use Rattle.outside.specs.Sinks.{sink}
+use Rattle.base_outside.specs.Sinks.{sink}
 use Rattle.machine_output.proofs.Going.{IsGoing}
 use Rattle.machine_output.proofs.watching.print_to_pause.Given as goal
 

@@ -1,9 +1,9 @@
 use Rattle.std.proofs.Common.{refl, ap, sym, subst, ◌∙◌}
 use Rattle.std.specs.Fn.{FnReturnsAt}
-use Rattle.armv7m.specs.State.{Turn, by_mpu}
-use Rattle.outside.specs.Sinks.{Puts, sink}
+use Rattle.machine_model.specs.State.{Turn, by_mpu}
+use Rattle.base_outside.specs.Sinks.{Puts, sink}
 use Rattle.machine_output.specs.Watching.{pause_line}
-use Rattle.outside.proofs.Prefixes.{on_err}
+use Rattle.base_outside.proofs.Prefixes.{on_err}
 use Rattle.machine_output.proofs.Pauses.{part_of, whole_of, part_with}
 use Rattle.machine_output.proofs.watching.print_watched.Goals as goal
 

@@ -1,12 +1,12 @@
 use Rattle.std.proofs.Common.{◌≡◌, ◌+◌, ◌≤◌, List, [], ℕ, None, length, subst, ap, sym, ◌∙◌, arith}
-use Rattle.thumb_asm.specs.Assembly.{Assembly, ArePut, here}
-use Rattle.thumb_asm.specs.Finished.{first_far}
-use Rattle.gate_steps.specs.Lists.{steps_of}
-use Rattle.gate_steps.specs.Code.{code_length}
-use Rattle.monitor.specs.Layout.{page_size}
-use Rattle.monitor.specs.Constants.{Constants}
-use Rattle.monitor.specs.Page.{stub_offset, svc_offset, memfault_offset, used_bytes, page, filled_up}
-use Rattle.step_lists.specs.Made.{constants_of}
+use Rattle.machine_thumb_asm.specs.Assembly.{Assembly, ArePut, here}
+use Rattle.machine_thumb_asm.specs.Finished.{first_far}
+use Rattle.monitor_steps.specs.Lists.{steps_of}
+use Rattle.monitor_steps.specs.Code.{code_length}
+use Rattle.monitor_model.specs.Layout.{page_size}
+use Rattle.monitor_program.specs.Constants.{Constants}
+use Rattle.monitor_program.specs.Page.{stub_offset, svc_offset, memfault_offset, used_bytes, page, filled_up}
+use Rattle.monitor_lists.specs.Made.{constants_of}
 use Rattle.monitor_code.specs.Whole.{lists_code}
 use Rattle.monitor_code.proofs.Paged.{all_fit_in, joined, all_put, all_near, page_bytes, if_ok, used_is_short}
 use Rattle.monitor_code.proofs.page.page.Goals as goal

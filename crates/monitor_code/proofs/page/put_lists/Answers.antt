@@ -1,12 +1,12 @@
 use Rattle.std.proofs.Common.{◌++◌, pos, subst, sym, ap, arith}
-use Rattle.thumb_model.specs.declared.table.Instr.TheVariants.{CallBranch}
-use Rattle.armv7m.proofs.CodeParts.{width-encode}
-use Rattle.gate_steps.specs.Lists.{steps_of}
-use Rattle.gate_steps.specs.Code.{code, code_length}
-use Rattle.gate_steps.proofs.CodeParts.{code_has_its_length}
-use Rattle.gate_assembler.specs.Emitted.{MayPut, HasPut}
-use Rattle.gate_assembler.proofs.Puts.{put_both, put_one}
-use Rattle.monitor.specs.Page.{leave_stub}
+use Rattle.machine_thumb.specs.declared.table.Instr.TheVariants.{CallBranch}
+use Rattle.machine_model.proofs.CodeParts.{width-encode}
+use Rattle.monitor_steps.specs.Lists.{steps_of}
+use Rattle.monitor_steps.specs.Code.{code, code_length}
+use Rattle.monitor_steps.proofs.CodeParts.{code_has_its_length}
+use Rattle.monitor_assembler.specs.Emitted.{MayPut, HasPut}
+use Rattle.monitor_assembler.proofs.Puts.{put_both, put_one}
+use Rattle.monitor_program.specs.Page.{leave_stub}
 use Rattle.monitor_code.proofs.Paged.{may_put}
 use Rattle.monitor_code.proofs.page.put_lists.Goals as goal
 

@@ -1,9 +1,9 @@
 use Rattle.std.proofs.Common.{◌≡◌, ℕ, ◌+◌, ◌-◌, ◌*◌, length, min, refl, ap, ap₂, ◌∙◌, arith}
 use Rattle.std.specs.Prelude.{List, sum_by}
-use Rattle.monitor.specs.declared.tables.InitRecord.{InitRecord}
-use Rattle.monitor.specs.declared.tables.Tables.{Tables}
-use Rattle.monitor.specs.Records.{number_of_slots, words_in}
-use Rattle.monitor.specs.Layout.{area_end, initial_word_count}
+use Rattle.monitor_model.specs.declared.tables.InitRecord.{InitRecord}
+use Rattle.monitor_model.specs.declared.tables.Tables.{Tables}
+use Rattle.monitor_model.specs.Records.{number_of_slots, words_in}
+use Rattle.monitor_model.specs.Layout.{area_end, initial_word_count}
 use Rattle.monitor_constants.specs.Sizes.{most}
 use Rattle.monitor_constants.proofs.Counted.{product, plus, four_times, record_size}
 use Rattle.monitor_constants.proofs.constants.area_size.Goals as goal

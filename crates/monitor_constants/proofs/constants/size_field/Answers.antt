@@ -1,5 +1,5 @@
 use Rattle.std.proofs.Common.{◌-◌, sym, ap, ◌∙◌}
-use Rattle.mpu_model.specs.RegionWords.{size_field}
+use Rattle.machine_protection.specs.RegionWords.{size_field}
 use Rattle.monitor_constants.proofs.Counted.{zeros_of_greatest}
 use Rattle.monitor_constants.proofs.constants.size_field.Goals as goal
 

@@ -1,7 +1,7 @@
 use Rattle.std.proofs.Common.{ap, ◌∙◌}
-use Rattle.mpu_model.specs.RegionWords.{size_field}
+use Rattle.machine_protection.specs.RegionWords.{size_field}
 use Rattle.monitor_constants.proofs.Counted.{region_by_field}
-use Rattle.mpu_model.specs.declared.words.Rights.TheVariants.{Stack}
+use Rattle.machine_protection.specs.declared.words.Rights.TheVariants.{Stack}
 use Rattle.monitor_constants.proofs.constants.stack_region.Goals as goal
 
 pub returns : goal.returns

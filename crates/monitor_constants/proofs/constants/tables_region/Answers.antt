@@ -1,7 +1,7 @@
 use Rattle.std.proofs.Common.{ap, ◌∙◌}
-use Rattle.mpu_model.specs.declared.words.Rights.TheVariants.{Code}
-use Rattle.mpu_model.specs.RegionWords.{size_field}
-use Rattle.monitor.specs.Layout.{tables_size}
+use Rattle.machine_protection.specs.declared.words.Rights.TheVariants.{Code}
+use Rattle.machine_protection.specs.RegionWords.{size_field}
+use Rattle.monitor_model.specs.Layout.{tables_size}
 use Rattle.monitor_constants.proofs.Counted.{region_by_field}
 use Rattle.monitor_constants.proofs.constants.tables_region.Goals as goal
 

@@ -1,5 +1,5 @@
 use Rattle.std.proofs.Common.{◌-◌, ap, arith}
-use Rattle.monitor.specs.Layout.{area_end, greatest_code, tables_size}
+use Rattle.monitor_model.specs.Layout.{area_end, greatest_code, tables_size}
 use Rattle.monitor_constants.proofs.constants.tables_size.Goals as goal
 
 pub returns-clause-exact : goal.returns-clause-exact

@@ -1,8 +1,8 @@
 use Rattle.std.proofs.Common.{◌≡◌, ◌+◌, ◌*◌, length, min, ap, ap₂, ◌∙◌, arith}
-use Rattle.words.specs.Arithmetic.{word}
-use Rattle.monitor.specs.Records.{number_of_slots}
-use Rattle.monitor.specs.Layout.{compartments_at, sites_at, targets_at, lends_at, inits_at}
-use Rattle.monitor.specs.Constants.{most_slots}
+use Rattle.base_words.specs.Arithmetic.{word}
+use Rattle.monitor_model.specs.Records.{number_of_slots}
+use Rattle.monitor_model.specs.Layout.{compartments_at, sites_at, targets_at, lends_at, inits_at}
+use Rattle.monitor_program.specs.Constants.{most_slots}
 use Rattle.monitor_constants.proofs.Counted.{wrapped_behind}
 use Rattle.monitor_constants.proofs.constants.without_stub.Goals as goal
 

@@ -1,9 +1,9 @@
 use Rattle.std.proofs.Common.{◌≡◌, ◌^◌, ap, arith, get_or}
 use Rattle.std.proofs.Math.Pow.{pow_mono}
 use Rattle.std.proofs.lemmas.List.{drop_all}
-use Rattle.mpu_model.specs.Regions.{size_log}
-use Rattle.monitor.specs.declared.tables.CompRecord.{CompRecord}
-use Rattle.monitor.specs.Layout.{greatest_code}
+use Rattle.machine_protection.specs.Regions.{size_log}
+use Rattle.monitor_model.specs.declared.tables.CompRecord.{CompRecord}
+use Rattle.monitor_model.specs.Layout.{greatest_code}
 use Rattle.monitor_constants.proofs.Counted.{greatest_more}
 use Rattle.monitor_constants.proofs.sizes.greatest_code.Goals as goal
 

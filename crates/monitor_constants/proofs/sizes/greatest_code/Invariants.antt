@@ -1,5 +1,5 @@
 use Rattle.std.proofs.Common.{◌≡◌, ◌^◌, ◌≤◌, max, drop}
-use Rattle.monitor.specs.Layout.{greatest_code}
+use Rattle.monitor_model.specs.Layout.{greatest_code}
 use Rattle.monitor_constants.proofs.sizes.greatest_code.Given as goal
 
 abbrev pub invariant-loop-compartment : goal.invariant-loop-compartment

@@ -1,7 +1,7 @@
 use Rattle.std.proofs.Common.{◌≡◌, ◌*◌, ◌^◌, ◌≤◌, length, min, ap, ◌∙◌, arith}
 use Rattle.std.specs.Prelude.{sum_by}
 use Rattle.std.proofs.lemmas.List.{take_all}
-use Rattle.monitor.specs.Records.{words_in}
+use Rattle.monitor_model.specs.Records.{words_in}
 use Rattle.monitor_constants.specs.Sizes.{most}
 use Rattle.monitor_constants.proofs.Counted.{all_fit}
 use Rattle.monitor_constants.proofs.sizes.word_count.Goals as goal

@@ -1,6 +1,6 @@
 use Rattle.std.proofs.Common.{◌≡◌, ◌*◌, ◌^◌, ◌≤◌, min, take}
 use Rattle.std.specs.Prelude.{sum_by}
-use Rattle.monitor.specs.Records.{words_in}
+use Rattle.monitor_model.specs.Records.{words_in}
 use Rattle.monitor_constants.specs.Sizes.{most}
 use Rattle.monitor_constants.proofs.sizes.word_count.Given as goal
 

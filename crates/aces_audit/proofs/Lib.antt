@@ -1,0 +1,4 @@
+pub mod Answering
+mod Guarding
+mod Beyond
+mod SlotsTold

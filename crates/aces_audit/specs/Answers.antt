@@ -1,0 +1,39 @@
+-- What `audit` and `tables` answer where no call on the outside fails and memory does not run out.
+use Rattle.std.specs.Prelude.{ℕ, List, None}
+use Rattle.machine_devices.specs.declared.image.Image.{Image}
+use Rattle.machine_image.specs.Text.{IsText}
+use Rattle.monitor_audit.specs.declared.answer.Audit.{Audit}
+use Rattle.monitor_audit.specs.declared.answer.Audit.TheVariants.{Yes, No}
+use Rattle.monitor_audit.specs.Answers.{own_tables, IsAudit}
+use Rattle.aces_audit.specs.TableLines.{table_lines}
+use Rattle.aces_reports.specs.declared.failure.Fault.{Fault}
+use Rattle.aces_reports.specs.declared.failure.Fault.TheVariants.{TooLarge}
+use Rattle.aces_words.specs.Requests.{Origin, file_origin, file_limit}
+use Rattle.aces_files.specs.Contents.{IsNoImage}
+use Rattle.aces_files.specs.Outcomes.{Outcome, done, refused}
+use Rattle.aces_audit.specs.AnswerLine.{answer_line, answer_status}
+use Rattle.aces_audit.specs.Guarded.{IsGuardedWhereYes}
+
+-- the answer to `audit` on the bytes of the image: what the checks find, and what holds of an image that is answered yes
+pub data AuditAnswer (image : List ℕ) (bytes : List ℕ) : Outcome → Type 0 where
+  no_image : (f : Fault) → IsNoImage bytes f → AuditAnswer image bytes (refused image f)
+  told : (i : Image) (a : Audit) → IsText i bytes → IsAudit i a → IsGuardedWhereYes i a → AuditAnswer image bytes (done (answer_status a) (answer_line a) None)
+
+-- what `tables` prints of an image that is answered so
+abbrev pub tables_text : Image → Audit → List ℕ
+tables_text i (Yes compartments sites) = table_lines i (own_tables i)
+tables_text i (No check at) = answer_line (No check at)
+
+-- the answer to `tables`: what the tables say, where `audit` says yes, and else the line of `audit`
+pub data TablesAnswer (image : List ℕ) (bytes : List ℕ) : Outcome → Type 0 where
+  no_image : (f : Fault) → IsNoImage bytes f → TablesAnswer image bytes (refused image f)
+  told : (i : Image) (a : Audit) → IsText i bytes → IsAudit i a → IsGuardedWhereYes i a → TablesAnswer image bytes (done (answer_status a) (tables_text i a) None)
+
+-- the answers to both requests, as those to `run` and `bin` stand in `Answers` of `commands`
+pub data AnswerToAudit (image : List ℕ) (Has : Origin → List ℕ → Type 0) (Exceeds : Origin → Type 0) : Outcome → Type 0 where
+  image_large : Exceeds (file_origin image) → AnswerToAudit image Has Exceeds (refused image (TooLarge file_limit))
+  all_read : (bytes : List ℕ) (o : Outcome) → Has (file_origin image) bytes → AuditAnswer image bytes o → AnswerToAudit image Has Exceeds o
+
+pub data AnswerToTables (image : List ℕ) (Has : Origin → List ℕ → Type 0) (Exceeds : Origin → Type 0) : Outcome → Type 0 where
+  image_large : Exceeds (file_origin image) → AnswerToTables image Has Exceeds (refused image (TooLarge file_limit))
+  all_read : (bytes : List ℕ) (o : Outcome) → Has (file_origin image) bytes → TablesAnswer image bytes o → AnswerToTables image Has Exceeds o

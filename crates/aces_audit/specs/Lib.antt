@@ -1,0 +1,6 @@
+pub mod AnswerLine
+pub mod Guarded
+pub mod Answers
+pub mod SlotLines
+pub mod TableLines
+pub mod Laws

@@ -1,0 +1,14 @@
+//! The commands `audit` and `tables`, and what a yes tells of an image.
+#![tactic(auto)]
+
+mod all_lines;
+pub mod answer_text;
+pub mod auditing;
+mod compartments;
+pub mod laws;
+mod records;
+mod slots;
+pub mod table_laws;
+pub mod telling;
+
+pub use all_lines::table_lines;

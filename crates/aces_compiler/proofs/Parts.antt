@@ -1,0 +1,154 @@
+-- How groups, needs and plan of a firmware hang together.
+use Rattle.std.proofs.Common.{◌≡◌, ℕ, List, length, refl, ap, sym, subst, ◌∙◌}
+use Rattle.std.proofs.lemmas.List.{length-map}
+use Rattle.std.proofs.lemmas.Slice.Zip.{AllZip-long}
+use Rattle.ir_model.specs.Plain.{PlainFirmware, funcs_of}
+use Rattle.ir_model.specs.Canonical.{IsWithinLimits}
+use Rattle.ir_model.specs.Typing.{IsTyped}
+use Rattle.ir_model.specs.Resolved.{Program}
+use Rattle.ir_model.specs.Resolve.{resolve}
+use Rattle.ir_program.specs.declared.program.Program as programs
+use Rattle.ir_program.specs.Seen.{program_of, routine_of, known_of}
+use Rattle.plan_model.specs.declared.groups.FuncFacts.{FuncFacts}
+use Rattle.plan_model.specs.declared.groups.Groups.{Groups}
+use Rattle.plan_model.specs.declared.needs.Needs.{Needs}
+use Rattle.plan_model.specs.declared.plan.Board.{Board}
+use Rattle.plan_model.specs.declared.plan.Sizes.{Sizes}
+use Rattle.plan_model.specs.Boards.{IsBoard, slots_of}
+use Rattle.plan_model.specs.Compartments.{AreCompartments, compartments}
+use Rattle.plan_model.specs.CompileLimits.{KeepsLimits}
+use Rattle.plan_model.specs.FinalGraph.{IsFinal}
+use Rattle.plan_model.specs.Placement.{Fits, plan_of}
+use Rattle.need_laws.specs.Checked.{LeastSetsServe}
+use Rattle.plan_compartments.specs.Analyses.{AreNeedsOf}
+use Rattle.plan_policies.specs.Callbacks.{AreAnswers}
+use Rattle.machine_devices.specs.declared.image.Image.{Image}
+use Rattle.machine_devices.specs.Rules.{ObeysRules}
+use Rattle.machine_model.specs.Reset.{EachRun}
+use Rattle.monitor_model.specs.declared.tables.Tables.{Tables}
+use Rattle.monitor_model.specs.Confined.{Confined}
+use Rattle.monitor_model.specs.Layout.{initial_word_count}
+use Rattle.monitor_model.specs.MonitorLaw.{MonitorLaw}
+use Rattle.monitor_program.specs.Page.{stub_address}
+use Rattle.monitor_model.specs.Starts.{Starts}
+use Rattle.refine_model.specs.Refines.{Refines}
+use Rattle.image_promises.specs.Planned.{planned_image, planned_tables}
+use Rattle.plan.specs.PlannedFirmwares.{IsPlanned, plan}
+use Rattle.image_promises.specs.Regions.{ImagesObeyRules}
+use Rattle.image_promises.specs.Permissions.{SlotsHoldPermissions}
+use Rattle.image_promises.specs.Whole.{IsForBoard, PlannedImagesAreForBoards, PlannedImagesAreConfined, PlannedImagesRefine}
+use Rattle.image_promises.specs.Needed.{PlannedMasksAreNeeded, PlannedPermissionsAreBounded}
+use Rattle.image_promises.specs.Policy.{PlannedRunsStayInPolicy}
+use Rattle.monitor_runs.specs.Runs.{TellsWhoRuns}
+use Rattle.machine_model.specs.State.{State}
+use Rattle.image_runs.specs.Denied.{NoneIsDenied, PlannedRunsKeepOff}
+use Rattle.image_runs.specs.OtherCode.{WithOtherCode}
+use Rattle.image_runs.specs.ReplacedCode.{PlannedImagesKeepPromises, PlannedImagesStayIsolated}
+use Rattle.image_runs.specs.Isolated.{IsIsolated, PlannedRunsAreIsolated}
+use Rattle.image_runs.specs.Own.{PlannedSlotsAreOwn}
+use Rattle.image_runs.specs.Whole.{KeepsTheInvariant, PlannedImagesKeepTheInvariant, PlannedImagesKeepTheLaw, PlannedImagesStart, PlannedImagesTellWhoRuns}
+use Rattle.aces_printed_runs.specs.PrintedRuns.{RefiningImagesAreAlike}
+use Rattle.refine.specs.NeverWrong.{RunsAreNeverWrong}
+use Rattle.image_promises.specs.Guarded.{IsStackGuarded}
+use Rattle.image_promises.specs.FromGuards.{GuardedImagesAreNeverWrong, LargestStacksAreGuarded}
+use Rattle.plan.specs.declared.planner.PlannedFirmware.{PlannedFirmware}
+use Rattle.plan.specs.Planned.{IsPlannedFor}
+use Rattle.aces_compiler.specs.Compiled.{IsImageFor}
+use Rattle.ir_laws.proofs.Resolved.{as_many}
+
+-- ---- how many functions there are
+
+pub routines : (p : programs.Program) (w : PlainFirmware) → program_of p ≡ resolve w → length p.funcs ≡ length (resolve w).funcs
+routines p w e = sym (length-map p.funcs (routine_of (known_of p))) ∙ ap (λ (q : Program). length q.funcs) e
+
+pub each_need : (w : PlainFirmware) (b : Board) (n : Needs) → AreNeedsOf w b.closed n → length n.funcs ≡ length (funcs_of w)
+each_need w b n h = h.needs.count ∙ as_many w
+
+-- by the answers of a callback
+pub answered_compartments : (w : PlainFirmware) (n : Needs) (answers : FuncFacts → ℕ → Type 0) (fs : List FuncFacts) (g : Groups) → length fs ≡ length (funcs_of w)
+    → (groups : List ℕ) × AreAnswers answers fs groups × (g ≡ compartments groups) → AreCompartments (resolve w) g
+answered_compartments w n answers fs g e (groups, h, is) =
+    record { groups = groups; each = AllZip-long answers fs groups h ∙ (e ∙ sym (as_many w)); are = is }
+
+-- ---- a firmware that is planned
+
+pub plan_is : (w : PlainFirmware) (n : Needs) (b : Board) (g : Groups) (x : PlannedFirmware) → IsPlannedFor (resolve w) n g b x → x.plan ≡ plan w n x.graph b
+plan_is w n b g x k = k.placed.plan ∙ ap (λ (s : Sizes). plan_of (resolve w) x.graph s b) k.placed.sizes
+
+-- what holds of the image of each planned firmware
+pub record Promises : Type 0 where
+  pub rules : ImagesObeyRules
+  pub board : PlannedImagesAreForBoards
+  pub moves : PlannedImagesTellWhoRuns
+  pub isolated : PlannedRunsAreIsolated
+  pub confined : PlannedImagesAreConfined
+  pub keep : PlannedImagesKeepPromises
+  pub stay_isolated : PlannedImagesStayIsolated
+  pub off : PlannedRunsKeepOff
+  pub permissions : SlotsHoldPermissions
+  pub slots : PlannedSlotsAreOwn
+  pub masks : PlannedMasksAreNeeded
+  pub needed : PlannedPermissionsAreBounded
+  pub policy : PlannedRunsStayInPolicy
+  pub law : PlannedImagesKeepTheLaw
+  pub starts : PlannedImagesStart
+  pub invariant : PlannedImagesKeepTheInvariant
+  pub refined : PlannedImagesRefine
+  pub never_wrong : GuardedImagesAreNeverWrong
+  pub guarded : LargestStacksAreGuarded
+  pub alike : RefiningImagesAreAlike
+
+module _ (w : PlainFirmware) (n : Needs) (b : Board) (g : Groups) (x : PlannedFirmware) (k : IsPlannedFor (resolve w) n g b x) where
+  -- its image, with all that is promised of it
+  pub is_image : IsPlanned w n x.graph b → AreNeedsOf w b.closed n → Promises → (i : Image) → i ≡ planned_image w n x.graph b → IsImageFor w n b g i
+  is_image is needs all i e =
+      record {
+        graph = x.graph;
+        groups = k.groups;
+        planned = is;
+        linked = e;
+        rules = rules;
+        board = board;
+        moves = of_image (λ (j : Image). TellsWhoRuns j t) (all.moves w n x.graph b is);
+        isolated = of_image (λ (j : Image). EachRun j (IsIsolated w n x.graph b j t)) (all.isolated w n x.graph b is);
+        confined = of_image (λ (j : Image). Confined j t) (all.confined w n x.graph b is);
+        moves_with_other_code = of_image (λ (j : Image). WithOtherCode TellsWhoRuns j t) (all.keep.moves w n x.graph b is);
+        isolated_with_other_code = of_image (λ (j : Image). WithOtherCode (λ (l : Image) (u : Tables). EachRun l (IsIsolated w n x.graph b l u)) j t) (all.stay_isolated w n x.graph b is);
+        confined_with_other_code = of_image (λ (j : Image). WithOtherCode Confined j t) (all.keep.confined w n x.graph b is);
+        denied = of_image (λ (j : Image). WithOtherCode (λ (l : Image) (u : Tables). EachRun l (λ (first : State). NoneIsDenied l u first b.denied)) j t) (all.off w n x.graph b is b.denied is.board.denied k.off);
+        permissions = all.permissions w n x.graph b is;
+        slots = all.slots w n x.graph b is;
+        masks = all.masks w n x.graph b is;
+        needed = all.needed w n x.graph b is;
+        policy = all.policy w n x.graph b is;
+        stub = stub_address t;
+        law = of_image (λ (j : Image). MonitorLaw j t (stub_address t)) (all.law w n x.graph b is);
+        starts = of_image (λ (j : Image). Starts j t (stub_address t)) (all.starts w n x.graph b is);
+        invariant = of_image (λ (j : Image). KeepsTheInvariant j t) (all.invariant w n x.graph b is);
+        refines = refines;
+        never_wrong = never_wrong;
+        guarded = all.guarded w n x.graph b;
+        alike = all.alike w n g b.stack (initial_word_count t) i rules board.windows refines;
+      }
+    where
+      t : Tables
+      t = planned_tables w n x.graph b
+
+      of_image : (P : Image → Type 0) → P (planned_image w n x.graph b) → P i
+      of_image P h = subst P (sym e) h
+
+      rules : ObeysRules i
+      rules = of_image ObeysRules (all.rules w n x.graph b is)
+
+      board : IsForBoard w b i
+      board = of_image (IsForBoard w b) (all.board w n x.graph b is)
+
+      refines : Refines w n g b.stack (initial_word_count t) i
+      refines = of_image (Refines w n g b.stack (initial_word_count t))
+          (subst (λ (y : Groups). Refines w n y b.stack (initial_word_count t) (planned_image w n x.graph b)) k.groups
+          (all.refined w needs.sets n x.graph b is needs.least needs.needs))
+
+      never_wrong : IsStackGuarded w n x.graph b → RunsAreNeverWrong w g i
+      never_wrong guarded = of_image (RunsAreNeverWrong w g)
+          (subst (λ (y : Groups). RunsAreNeverWrong w y (planned_image w n x.graph b)) k.groups
+          (all.never_wrong w needs.sets n x.graph b is needs.least needs.needs guarded))

@@ -1,0 +1,14 @@
+pub mod KeyLines
+pub mod BoardRules
+pub mod BoardTold
+pub mod Answers
+pub mod Explained
+pub mod Plans
+pub mod Excerpt
+pub mod RuleTexts
+pub mod Expected
+pub mod Explanations
+pub mod Blocks
+pub mod PlanRules
+pub mod PlanTold
+pub mod Texts

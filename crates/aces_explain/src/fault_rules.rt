@@ -1,0 +1,137 @@
+//! The rule behind each fault.
+
+ghost use Rattle.std.specs.Prelude.{◌≡◌};
+ghost use Rattle.aces_explain.specs.RuleTexts as rules;
+
+use ir_model::check::{CheckKind, Place};
+use ir_model::token::{Excess, TextLimit};
+
+/// That of bytes that are not UTF-8.
+pub(crate) fn utf8_rule() -> &'static [u8]
+    ensures { result.now ≡ rules.utf8_rule }
+{
+    b"a text is UTF-8, and letters beyond ASCII stand in comments alone"
+}
+
+/// That of syntax.
+pub(crate) fn syntax_rule() -> &'static [u8]
+    ensures { result.now ≡ rules.syntax_rule }
+{
+    b"a text has structs, peripherals, globals and files in this order, and each token where the grammar has it"
+}
+
+/// That of a limit.
+fn limit_rule(which: TextLimit) -> &'static [u8]
+    ensures { result.now ≡ rules.limit_rule which }
+{
+    match which {
+        TextLimit::Name => b"a word has at most 64 bytes",
+        TextLimit::Struct => b"a text has at most 256 structs",
+        TextLimit::Field => b"a struct has at most 64 fields",
+        TextLimit::Depth => b"a type stands in at most 7 others, each in the one before",
+        TextLimit::Array => b"an array has from 1 to 65536 elements",
+        TextLimit::Cell => b"a global has at most 65536 first values",
+        TextLimit::Periph => b"a text has at most 64 peripherals",
+        TextLimit::Global => b"a text has at most 1024 globals",
+        TextLimit::File => b"a text has at most 1024 files",
+        TextLimit::Function => b"the files of a text have at most 1024 functions, all together",
+        TextLimit::Param => {
+            b"a function has at most 4 parameters, a call 4 arguments, and fn 4 types between its brackets"
+        }
+        TextLimit::Register => b"a function has at most 120 registers, its parameters counted",
+        TextLimit::Local => b"a function has at most 64 locals",
+        TextLimit::Block => b"a function has at most 1024 blocks",
+        TextLimit::Instruction => {
+            b"a function has at most 16384 instructions, ends of blocks not counted"
+        }
+    }
+}
+
+/// That of what a token passes.
+pub(crate) fn excess_rule(excess: Excess) -> &'static [u8]
+    ensures { result.now ≡ rules.excess_rule excess }
+{
+    match excess {
+        Excess::TooWide => b"a number is from -2147483648 to 4294967295",
+        Excess::Passes(which) => limit_rule(which),
+    }
+}
+
+/// That of a name that is not there, by the place.
+fn unknown_rule(place: &Place) -> &'static [u8]
+    ensures { result.now ≡ rules.unknown_rule place.now }
+{
+    match place {
+        Place::Struct(_) => {
+            b"a struct in a type is declared, and earlier where it stands behind no * and in no fn"
+        }
+        Place::Global(_) => {
+            b"a struct in a type is declared, addr has a global or a peripheral, and fn a function"
+        }
+        Place::Func(_) => b"a struct in a type is declared",
+        Place::Inst { .. } => {
+            b"registers and labels are those of the function, addr has a local, a peripheral or a global, and call and faddr have a function"
+        }
+        Place::Periph(_) | Place::File(_) | Place::Whole => b"a name is declared",
+    }
+}
+
+/// That of a name that is there already, by the place.
+fn twice_rule(place: &Place) -> &'static [u8]
+    ensures { result.now ≡ rules.twice_rule place.now }
+{
+    match place {
+        Place::Struct(_) => b"the names of structs differ, and those of the fields of a struct",
+        Place::Periph(_) | Place::Global(_) => {
+            b"the names of peripherals, globals and functions differ, all together"
+        }
+        Place::File(_) => b"the names of files differ",
+        Place::Func(_) => {
+            b"the names of peripherals, globals and functions differ, all together; in a function those of parameters, locals and registers, all together, and those of labels"
+        }
+        Place::Inst { .. } | Place::Whole => b"names differ",
+    }
+}
+
+/// That of types that do not fit, by the place.
+fn type_rule(place: &Place) -> &'static [u8]
+    ensures { result.now ≡ rules.type_rule place.now }
+{
+    match place {
+        Place::Func(_) => {
+            b"the type of a parameter, a result or a register is u32, a pointer or a function"
+        }
+        Place::Inst { .. } => {
+            b"operands and results have the types that the instruction asks for"
+        }
+        Place::Struct(_) | Place::Periph(_) | Place::Global(_) | Place::File(_) | Place::Whole => {
+            b"types fit"
+        }
+    }
+}
+
+/// That of a check that fails there.
+pub(crate) fn check_rule(kind: &CheckKind, place: &Place) -> &'static [u8]
+    ensures { result.now ≡ rules.check_rule kind.now place.now }
+{
+    match kind {
+        CheckKind::Unknown(_) => unknown_rule(place),
+        CheckKind::Twice(_) => twice_rule(place),
+        CheckKind::IllTyped => type_rule(place),
+        CheckKind::NoMain => {
+            b"one function is called main, and it has no parameter and no result"
+        }
+        CheckKind::BadWindow => {
+            b"a peripheral's size is a power of two from 32 to 65536, and its base a multiple of it from 0x40000000 to 0x5fffffff"
+        }
+        CheckKind::WindowOverlap => b"two peripherals have no address in common",
+        CheckKind::BadInit => {
+            b"a global has no more first values than cells, and each fits its cell: a number its width, addr and fn its type"
+        }
+        CheckKind::ObjectTooLarge =>
+            b"a struct, a global and a local have at most 65536 bytes each",
+        CheckKind::FrameTooLarge { .. } => {
+            b"a frame has at most 992 bytes: 4 for each parameter, each register and the return address, and the locals, each in whole words, rounded up to a multiple of 8"
+        }
+    }
+}

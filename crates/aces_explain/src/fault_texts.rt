@@ -1,0 +1,103 @@
+//! What is wrong with a text, in the words of the line that `check` prints.
+
+ghost use Rattle.std.specs.Prelude.{◌≡◌, ◌++◌, OnOk};
+ghost use Rattle.aces_reports.specs.FaultLines as lines;
+ghost use Rattle.aces_explain.specs.Explanations as explanations;
+
+use ir_model::check::{CheckKind, Place};
+use ir_model::token::{Excess, TextLimit};
+use plan_report::text::Text;
+use std::alloc::AllocError;
+
+/// What passes a limit of texts.
+fn limit_word(which: TextLimit) -> &'static [u8]
+    ensures { result.now ≡ lines.limit_word which }
+{
+    match which {
+        TextLimit::Name => b"name",
+        TextLimit::Struct => b"struct",
+        TextLimit::Field => b"field",
+        TextLimit::Depth => b"depth",
+        TextLimit::Array => b"array",
+        TextLimit::Cell => b"cell",
+        TextLimit::Periph => b"periph",
+        TextLimit::Global => b"global",
+        TextLimit::File => b"file",
+        TextLimit::Function => b"function",
+        TextLimit::Param => b"param",
+        TextLimit::Register => b"register",
+        TextLimit::Local => b"local",
+        TextLimit::Block => b"block",
+        TextLimit::Instruction => b"instruction",
+    }
+}
+
+/// Puts two texts.
+fn put_both(text: &mut Text, first: &[u8], second: &[u8]) -> Result<(), AllocError>
+    ensures { OnOk result (text.new ≡ text.old ++ (first.now ++ second.now)) }
+{
+    text.put(first)?;
+    text.put(second)
+}
+
+/// Puts what a token passes.
+pub(crate) fn put_passed(text: &mut Text, excess: Excess) -> Result<(), AllocError>
+    ensures { OnOk result (text.new ≡ text.old ++ explanations.excess_text excess) }
+{
+    match excess {
+        Excess::TooWide => text.put(b"number too wide"),
+        Excess::Passes(which) => put_both(text, b"limit ", limit_word(which)),
+    }
+}
+
+/// Puts how many bytes a frame would have.
+fn put_frame(text: &mut Text, bytes: u32) -> Result<(), AllocError>
+    ensures { OnOk result (text.new ≡ text.old ++ lines.kind_text (CheckKind.FrameTooLarge bytes)) }
+{
+    text.put(b"frame of ")?;
+    text.put_decimal(u64::from(bytes))?;
+    text.put(b" bytes")
+}
+
+/// Puts which check of a firmware fails.
+pub(crate) fn put_kind(text: &mut Text, kind: &CheckKind) -> Result<(), AllocError>
+    ensures { OnOk result (text.new ≡ text.old ++ lines.kind_text kind.now) }
+{
+    match kind {
+        CheckKind::Unknown(name) => put_both(text, b"unknown ", name.as_slice()),
+        CheckKind::Twice(name) => put_both(text, b"twice ", name.as_slice()),
+        CheckKind::IllTyped => text.put(b"type"),
+        CheckKind::NoMain => text.put(b"no main"),
+        CheckKind::BadWindow => text.put(b"bad window"),
+        CheckKind::WindowOverlap => text.put(b"windows overlap"),
+        CheckKind::BadInit => text.put(b"bad init"),
+        CheckKind::ObjectTooLarge => text.put(b"object too large"),
+        CheckKind::FrameTooLarge { bytes } => put_frame(text, *bytes),
+    }
+}
+
+/// Puts the place of an instruction.
+fn put_instruction(text: &mut Text, func: &[u8], block: &[u8], inst: u32) -> Result<(), AllocError>
+    ensures { OnOk result (text.new ≡ text.old ++ lines.place_text (Place.Inst func.now block.now inst)) }
+{
+    put_both(text, func, b" block ")?;
+    put_both(text, block, b" instruction ")?;
+    text.put_decimal(u64::from(inst))
+}
+
+/// Puts where a check of a firmware fails.
+pub(crate) fn put_place(text: &mut Text, place: &Place) -> Result<(), AllocError>
+    ensures { OnOk result (text.new ≡ text.old ++ lines.place_text place.now) }
+{
+    match place {
+        Place::Struct(name) => put_both(text, b"struct ", name.as_slice()),
+        Place::Periph(name) => put_both(text, b"peripheral ", name.as_slice()),
+        Place::Global(name) => put_both(text, b"global ", name.as_slice()),
+        Place::File(name) => put_both(text, b"file ", name.as_slice()),
+        Place::Func(name) => put_both(text, b"function ", name.as_slice()),
+        Place::Inst { func, block, inst } => {
+            put_instruction(text, func.as_slice(), block.as_slice(), *inst)
+        }
+        Place::Whole => text.put(b"firmware"),
+    }
+}

@@ -1,0 +1,222 @@
+//! `explain` with a board and a policy: why a firmware has no plan.
+
+ghost use Rattle.std.specs.Prelude.{◌≡◌, ◌≤◌, Ok, length, IfOk, IfErr};
+ghost use Rattle.ir_model.specs.Plain.{firmware_of, funcs_of};
+ghost use Rattle.ir_model.specs.Resolve as definition;
+ghost use Rattle.ir_program.specs.Seen.{program_of};
+ghost use Rattle.plan_model.specs.Boards.{IsBoard};
+ghost use Rattle.plan_board.specs.Reading as boards;
+ghost use Rattle.plan_compartments.specs.Analyses.{AreNeedsOf};
+ghost use Rattle.plan_compartments.specs.Divisions as divisions;
+ghost use Rattle.plan.specs.Refusals.{IsPlanningRefusal};
+ghost use Rattle.aces_words.specs.Requests.{ExplainPlan as ToExplain, firmware_limit};
+ghost use Rattle.aces_reports.specs.declared.failure.Failure.TheVariants.{NoMemory as WantOfMemory};
+ghost use Rattle.aces_reports.specs.Ends.{status_of};
+ghost use Rattle.aces_reports.specs.Faults as faults;
+ghost use Rattle.aces_reports.specs.declared.failure.Fault.TheVariants.{Board as OfBoard};
+ghost use Rattle.base_outside.specs.Sinks.{sink};
+ghost use Rattle.aces_files.specs.CarriesOut.{CarriesOut};
+ghost use Rattle.aces_files.specs.Tellings.{told_outcome};
+ghost use Rattle.aces_firmwares.specs.Firmwares.{IsFirmware};
+ghost use Rattle.aces_explain.specs.Plans.{refusal_status, IsPlanTold, ExplainPlanAnswer, AnswerToExplainPlan};
+
+use crate::board_telling::board_told;
+use crate::plan_telling::refusal_told;
+use crate::telling::{Explained, counted, examine};
+use aces_files::telling::Told;
+use aces_plans::both::{load_both, print};
+use aces_reports::{Done, Failure};
+use base_outside::{Files, Sink};
+use ir_model::checked::Checked;
+use ir_program::program::Program;
+use ir_resolve::resolving::resolve;
+use plan::PlanningRefusal;
+use plan_board::board::read_board;
+use plan_board::fault::BoardFault;
+use plan_compartments::division::division;
+use plan_firmwares::{needs_of, planned_by};
+use plan_model::Policy;
+use plan_model::needs::Needs;
+use plan_model::plan::Board;
+use std::alloc::{AllocError, Global};
+
+/// How the command ends behind the lines of a refusal.
+fn done_by(refusal: PlanningRefusal) -> Result<Done, AllocError>
+    ensures { IfOk result (λ d. status_of (Ok d) ≡ refusal_status refusal) }
+{
+    match refusal {
+        PlanningRefusal::NoMemory => Err(AllocError),
+        PlanningRefusal::Limit { .. } => Ok(Done::FaultTold),
+        PlanningRefusal::Denied(_) | PlanningRefusal::Flash { .. } | PlanningRefusal::Ram { .. } =>
+            Ok(Done::NoRoomTold),
+    }
+}
+
+/// The lines on why a firmware has no plan for a board.
+fn unplanned(
+    alloc: Global,
+    firmware: &Checked,
+    program: &Program,
+    needs: &Needs,
+    policy: Policy,
+    board: &Board,
+    refusal: PlanningRefusal,
+) -> Result<Told, AllocError>
+    requires program { program_of program.now ≡ definition.resolve (firmware_of firmware.now) }
+    requires each { length needs.now.funcs ≡ length (funcs_of (firmware_of firmware.now)) }
+    requires needs { AreNeedsOf (firmware_of firmware.now) board.now.closed needs.now }
+    requires board { IsBoard board.now }
+    requires refused { IsPlanningRefusal (definition.resolve (firmware_of firmware.now)) needs.now
+        (divisions.division policy (firmware_of firmware.now) needs.now) board.now refusal }
+    ensures { IfOk result (λ t. IsPlanTold policy (firmware_of firmware.now) board.now (status_of (Ok t.done)) t.lines.items) }
+{
+    let done = done_by(refusal)?;
+    let groups = division(alloc, firmware, needs, policy)?;
+    let lines = refusal_told(
+        alloc,
+        firmware.firmware(),
+        program,
+        needs,
+        groups,
+        board,
+        refusal,
+    )?;
+    Ok(Told { lines, done })
+}
+
+/// The lines on a firmware and a board: why there is no plan by a policy, or the counts of the firmware.
+fn on_board(
+    alloc: Global,
+    firmware: &Checked,
+    policy: Policy,
+    board: &Board,
+) -> Result<Told, AllocError>
+    requires { IsBoard board.now }
+    ensures { IfOk result (λ t. IsPlanTold policy (firmware_of firmware.now) board.now (status_of (Ok t.done)) t.lines.items) }
+{
+    firmware.firmware();
+    let program = resolve(alloc, firmware)?;
+    let needs = needs_of(alloc, firmware, &program, board.closed)?;
+    match planned_by(alloc, firmware, &program, &needs, policy, board) {
+        Ok(_) => Ok(Told {
+            lines: counted(alloc, firmware)?,
+            done: Done::Completed,
+        }),
+        Err(refusal) => unplanned(alloc, firmware, &program, &needs, policy, board, refusal),
+    }
+}
+
+/// Whether a fault of a board is want of memory.
+fn is_want_of_memory(fault: &BoardFault) -> bool
+    ensures { result ≡ faults.is_want_of_memory (OfBoard fault.now) }
+{
+    matches!(fault, BoardFault::NoMemory)
+}
+
+/// The lines on a text that is no board's.
+fn no_board(
+    alloc: Global,
+    firmware: &str,
+    checked: &Checked,
+    bytes: &[u8],
+    board: &str,
+    text: &[u8],
+    policy: Policy,
+    fault: &BoardFault,
+) -> Result<Told, AllocError>
+    requires firmware { IsFirmware (firmware_of checked.now) bytes.now }
+    requires fault { boards.IsFault text.now fault.now }
+    ensures { IfOk result (λ t. ExplainPlanAnswer firmware.now board.now policy bytes.now text.now (told_outcome t)) }
+{
+    if is_want_of_memory(fault) {
+        return Err(AllocError);
+    }
+    Ok(Told {
+        lines: board_told(alloc, board.as_bytes(), text, fault)?,
+        done: Done::FaultTold,
+    })
+}
+
+/// The lines on a firmware without a fault and the bytes of a board's file.
+fn on_text(
+    alloc: Global,
+    firmware: &str,
+    checked: &Checked,
+    bytes: &[u8],
+    board: &str,
+    text: &[u8],
+    policy: Policy,
+) -> Result<Told, AllocError>
+    requires { IsFirmware (firmware_of checked.now) bytes.now }
+    ensures { IfOk result (λ t. ExplainPlanAnswer firmware.now board.now policy bytes.now text.now (told_outcome t)) }
+{
+    match read_board(alloc, text) {
+        Ok(read) => {
+            let told = on_board(alloc, checked, policy, &read)?;
+            Ok(told)
+        }
+        Err(fault) => no_board(alloc, firmware, checked, bytes, board, text, policy, &fault),
+    }
+}
+
+/// The lines by the bytes of both files, each behind its name.
+fn on_both(
+    alloc: Global,
+    firmware: &str,
+    bytes: &[u8],
+    board: &str,
+    text: &[u8],
+    policy: Policy,
+) -> Result<Told, AllocError>
+    requires { length bytes.now ≤ firmware_limit }
+    ensures { IfOk result (λ t. ExplainPlanAnswer firmware.now board.now policy bytes.now text.now (told_outcome t)) }
+{
+    match examine(alloc, firmware, bytes)? {
+        Explained::Faulty(lines) => Ok(Told {
+            lines,
+            done: Done::FaultTold,
+        }),
+        Explained::Fine(checked) => on_text(alloc, firmware, &checked, bytes, board, text, policy),
+    }
+}
+
+/// The same lines, or want of memory as the failure that it is.
+fn lines_on<'a>(
+    alloc: Global,
+    firmware: &'a str,
+    bytes: &[u8],
+    board: &'a str,
+    text: &[u8],
+    policy: Policy,
+) -> Result<Told, Failure<'a>>
+    requires { length bytes.now ≤ firmware_limit }
+    ensures ok { IfOk result (λ t. ExplainPlanAnswer firmware.now board.now policy bytes.now text.now (told_outcome t)) }
+    ensures err { IfErr result (λ e. e ≡ WantOfMemory) }
+{
+    let told = on_both(alloc, firmware, bytes, board, text, policy)?;
+    Ok(told)
+}
+
+/// Reads a firmware and a board, and prints the first fault of either, or why the firmware has no plan for the board by a policy, or the line of
+/// counts.
+pub fn explain_plan<'a, F: Files, O: Sink>(
+    alloc: Global,
+    firmware: &'a str,
+    board: &'a str,
+    policy: Policy,
+    files: &mut F,
+    out: &mut O,
+) -> Result<Done, Failure<'a>>
+    ensures { CarriesOut (AnswerToExplainPlan firmware.now board.now policy) F.Files files.old files.new (ToExplain firmware.now board.now policy) (sink O.Sink out.old) (sink O.Sink out.new) result }
+{
+    let both = load_both(alloc, files, firmware, board)?;
+    let told = lines_on(
+        alloc,
+        firmware,
+        both.firmware.as_slice(),
+        board,
+        both.board.as_slice(),
+        policy,
+    )?;
+    print(told.lines.as_slice(), told.done, out)
+}

@@ -1,0 +1,120 @@
+//! `source`: the source of a firmware, run on recorded device input.
+
+ghost use Rattle.std.specs.Prelude.{◌≡◌, ◌≤◌, ℕ, Bool, Ok, IfOk, length};
+ghost use Rattle.ir_model.specs.Plain as plain;
+ghost use Rattle.plan_compartments.specs.Analyses.{AreCompartmentsBy};
+ghost use Rattle.ir_output.specs.Ends.{seen_end};
+ghost use Rattle.ir_output.specs.SourceRuns.{end_status};
+ghost use Rattle.aces_words.specs.Requests.{Source, file_limit, firmware_limit};
+ghost use Rattle.aces_files.specs.Known.{Held};
+ghost use Rattle.aces_firmwares.specs.Answers.{SourceAnswer, AnswerToSource};
+ghost use Rattle.base_outside.specs.Sinks.{sink};
+ghost use Rattle.aces_reports.specs.Ends.{status_of};
+ghost use Rattle.aces_files.specs.CarriesOut.{CarriesOut};
+ghost use Rattle.aces_files.specs.Effects.{Does};
+
+use crate::reading::firmware_of;
+use aces_files::loading::{load, load_firmware, tape_of};
+use aces_reports::{Done, Failure};
+use base_outside::{Files, Sink};
+use ir_model::checked::Checked;
+use ir_output::{Broken, print_source};
+use ir_program::peripherals::windows;
+use ir_resolve::resolving::resolve;
+use ir_run::outcome::SourceEnd;
+use need_points_to::solve;
+use plan_compartments::analysis::open_compartments;
+use plan_model::Policy;
+use std::alloc::{AllocError, Global};
+
+/// Runs the source of a firmware on a tape for at most so many steps, in the compartments of a policy, and prints the events
+/// and the end.
+pub fn source<'a, F: Files, O: Sink>(
+    alloc: Global,
+    firmware: &'a str,
+    policy: Policy,
+    tape: &'a str,
+    steps: u32,
+    files: &mut F,
+    out: &mut O,
+) -> Result<Done, Failure<'a>>
+    ensures { CarriesOut (AnswerToSource firmware.now policy tape.now steps) F.Files files.old files.new (Source firmware.now policy tape.now steps) (sink O.Sink out.old) (sink O.Sink out.new) result }
+{
+    let bytes = load_firmware(alloc, files, firmware)?;
+    let text = load(alloc, files, tape)?;
+    source_texts(
+        alloc,
+        firmware,
+        policy,
+        bytes.as_slice(),
+        tape,
+        text.as_slice(),
+        steps,
+        out,
+    )
+}
+
+/// The compartment of each function of a firmware by a policy, by what its functions need on an open board.
+///
+/// # Errors
+///
+/// There is no memory for it.
+pub fn compartments_of(
+    alloc: Global,
+    firmware: &Checked,
+    policy: Policy,
+) -> Result<Vec<u32>, AllocError>
+    ensures { IfOk result (λ of. AreCompartmentsBy policy (plain.firmware_of firmware.now) of.items) }
+{
+    let program = resolve(alloc, firmware)?;
+    let sets = solve(alloc, &program)?;
+    open_compartments(alloc, firmware, &program, &sets, policy)
+}
+
+/// The same on the bytes of both files, each behind its name. No file is touched.
+fn source_texts<'a, O: Sink>(
+    alloc: Global,
+    firmware: &'a str,
+    policy: Policy,
+    bytes: &[u8],
+    tape: &'a str,
+    text: &[u8],
+    steps: u32,
+    out: &mut O,
+) -> Result<Done, Failure<'a>>
+    requires firmware_fits { length bytes.now ≤ firmware_limit }
+    requires tape_fits { length text.now ≤ file_limit }
+    ensures { (told : Bool) (held : Held) (reads writes : ℕ) → Does
+        (SourceAnswer firmware.now policy tape.now steps bytes.now text.now) (Source firmware.now policy tape.now steps)
+        (record { told = told; held = held; read_faults = reads; write_faults = writes; out = sink O.Sink out.old })
+        (record { told = told; held = held; read_faults = reads; write_faults = writes; out = sink O.Sink out.new })
+        result }
+{
+    let checked = firmware_of(alloc, firmware, bytes)?;
+    let compartments = compartments_of(alloc, &checked, policy)?;
+    let windows = windows(alloc, checked.firmware().periphs.as_slice())?;
+    let tape_read = tape_of(alloc, tape, text, windows.as_slice())?;
+    match print_source(
+        alloc,
+        &checked,
+        windows.as_slice(),
+        compartments,
+        tape_read,
+        steps,
+        out,
+    ) {
+        Ok(end) => Ok(done(end)),
+        Err(Broken::Unprinted) => Err(Failure::Unprinted),
+        Err(Broken::NoMemory) => Err(Failure::NoMemory),
+    }
+}
+
+/// How a run ends that ends so; none where it ran all its steps.
+fn done(end: Option<SourceEnd>) -> Done
+    ensures { status_of (Ok result) ≡ end_status (seen_end end) }
+{
+    match end {
+        Some(SourceEnd::Fault(_)) => Done::RunFailed,
+        Some(SourceEnd::Returned | SourceEnd::InputEnd) | None => Done::Completed,
+    }
+}

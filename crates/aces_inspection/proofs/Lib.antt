@@ -1,0 +1,4 @@
+pub mod Answering
+pub mod Inspectable
+mod Placed
+mod Joined

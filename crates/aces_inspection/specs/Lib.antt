@@ -1,0 +1,4 @@
+pub mod Answers
+pub mod CoreLines
+pub mod MemoryLines
+pub mod StateLines

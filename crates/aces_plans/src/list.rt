@@ -1,0 +1,63 @@
+//! `list`: the compartments of a firmware on a board.
+
+ghost use Rattle.std.specs.Prelude.{◌≤◌, None, IfOk, IfErr, length};
+ghost use Rattle.aces_words.specs.Requests.{Listing, firmware_limit};
+ghost use Rattle.aces_files.specs.Outcomes.{done};
+ghost use Rattle.aces_files.specs.Loads.{IsRefusal};
+ghost use Rattle.aces_files.specs.CarriesOut.{CarriesOut};
+ghost use Rattle.aces_plans.specs.Answers.{ListAnswer, AnswerToList};
+ghost use Rattle.base_outside.specs.Sinks.{sink};
+
+use crate::both::{load_both, print};
+use aces_files::failure::planning_failure;
+use aces_files::loading::board_of;
+use aces_firmwares::reading::firmware_of;
+use aces_listing::listing_of;
+use aces_reports::{Done, Failure};
+use base_outside::{Files, Sink};
+use plan_model::Policy;
+use std::alloc::Global;
+
+/// Prints the compartments of a firmware by a policy, and what lies where on a board.
+pub fn list<'a, F: Files, O: Sink>(
+    alloc: Global,
+    firmware: &'a str,
+    board: &'a str,
+    policy: Policy,
+    files: &mut F,
+    out: &mut O,
+) -> Result<Done, Failure<'a>>
+    ensures { CarriesOut (AnswerToList firmware.now board.now policy) F.Files files.old files.new (Listing firmware.now board.now policy) (sink O.Sink out.old) (sink O.Sink out.new) result }
+{
+    let both = load_both(alloc, files, firmware, board)?;
+    let lines = listed(
+        alloc,
+        firmware,
+        both.firmware.as_slice(),
+        board,
+        both.board.as_slice(),
+        policy,
+    )?;
+    print(lines.as_slice(), Done::Completed, out)
+}
+
+/// The listing by the bytes of both files, each behind its name. No file is touched.
+fn listed<'a>(
+    alloc: Global,
+    firmware: &'a str,
+    bytes: &[u8],
+    board: &'a str,
+    text: &[u8],
+    policy: Policy,
+) -> Result<Vec<u8>, Failure<'a>>
+    requires { length bytes.now ≤ firmware_limit }
+    ensures ok { IfOk result (λ lines. ListAnswer firmware.now board.now policy bytes.now text.now (done 0 lines.items None)) }
+    ensures err { IfErr result (IsRefusal (ListAnswer firmware.now board.now policy bytes.now text.now)) }
+{
+    let checked = firmware_of(alloc, firmware, bytes)?;
+    let read = board_of(alloc, board, text)?;
+    match listing_of(alloc, &checked, &read, policy) {
+        Ok(lines) => Ok(lines),
+        Err(refusal) => Err(planning_failure(alloc, checked.firmware(), &read, refusal)),
+    }
+}

@@ -1,0 +1,74 @@
+//! Both runs of a self-test, on the same recorded input.
+
+ghost use Rattle.std.specs.Prelude.{◌≡◌, ◌+◌, ◌*◌, ◌≤◌, length, IfOk};
+ghost use Rattle.machine_devices.specs.Rules.{ObeysRules};
+ghost use Rattle.ir_model.specs.Plain.{firmware_of};
+ghost use Rattle.aces_printed_runs.specs.PrintedRuns.{begin};
+ghost use Rattle.aces_selftest.specs.Counts.{IsMachineCount};
+ghost use Rattle.refine_model.specs.Refines as refines;
+ghost use Rattle.aces_selftest.specs.Tested.{IsSourceTest};
+
+use crate::machines::{MachineCount, count_machine};
+use crate::sources::{SourceCount, count_source};
+use aces_files::run::FILL;
+use ir_model::checked::Checked;
+use ir_resolve::resolving::resolve;
+use ir_run::run::SourceRun;
+use machine_devices::image::Image;
+use machine_devices::tape::Tape;
+use machine_emulator::Machine;
+use need_points_to::solve;
+use plan_compartments::analysis::open_compartments;
+use plan_model::Policy;
+use std::alloc::{AllocError, Global};
+
+/// How many steps a source is run at most.
+const SOURCE_LIMIT: u32 = 100_000;
+
+/// A run of a source, and how many functions it has.
+#[derive(Drop)]
+pub(crate) struct SourceTest {
+    pub(crate) functions: usize,
+    pub(crate) count: SourceCount,
+}
+
+/// Runs the source of a firmware in the compartments of its files.
+pub(crate) fn run_source(
+    alloc: Global,
+    firmware: &Checked,
+    tape: Tape,
+) -> Result<SourceTest, AllocError>
+    ensures { IfOk result (IsSourceTest (firmware_of firmware.now) tape) }
+{
+    firmware.firmware();
+    let program = resolve(alloc, firmware)?;
+    let functions = program.funcs.len();
+    let sets = solve(alloc, &program)?;
+    let compartments = open_compartments(alloc, firmware, &program, &sets, Policy::Filename)?;
+    let mut run = SourceRun::start(alloc, program, compartments, tape)?;
+    let count = count_source(alloc, &mut run, SOURCE_LIMIT)?;
+    Ok(SourceTest { functions, count })
+}
+
+/// How many steps a machine may take for so many of the source, with so many initial words.
+pub(crate) fn machine_limit(steps: u32, words: usize) -> u64
+    requires { words ≤ 0x100000 }
+    ensures { result ≡ refines.step_limit * (steps + 1) + refines.word_limit * words }
+{
+    16384 * (u64::from(steps) + 1) + 64 * words as u64
+}
+
+/// Runs an image.
+pub(crate) fn run_image(
+    alloc: Global,
+    image: &Image,
+    tape: Tape,
+    limit: u64,
+) -> Result<MachineCount, AllocError>
+    requires rules { ObeysRules image.now }
+    requires queues { length tape ≡ length image.now.windows }
+    ensures { IfOk result (IsMachineCount image.now limit (begin image.now tape)) }
+{
+    let mut machine = Machine::start(alloc, image, tape, FILL)?;
+    count_machine(alloc, &mut machine, limit)
+}

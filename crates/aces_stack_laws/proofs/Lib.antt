@@ -1,0 +1,6 @@
+mod Whole
+mod Eighths
+mod Loans
+mod Frames
+mod Within
+mod There

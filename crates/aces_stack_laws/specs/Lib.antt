@@ -1,0 +1,4 @@
+pub mod Bounded
+pub mod ImageLaws
+pub mod Whole
+pub mod StackLaws

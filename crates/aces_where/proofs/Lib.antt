@@ -1,0 +1,4 @@
+mod Rows
+mod Stops
+pub mod Answering
+pub mod Findable

@@ -1,0 +1,6 @@
+pub mod Answering
+pub mod WellDone
+mod Numbering
+mod Found
+mod Whole
+mod Marking

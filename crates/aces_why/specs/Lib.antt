@@ -1,0 +1,10 @@
+pub mod Answers
+pub mod Subjects
+pub mod Findings
+pub mod Numbered
+pub mod Lines
+pub mod Shared
+pub mod Warnings
+pub mod Told
+pub mod Reached
+pub mod Marks

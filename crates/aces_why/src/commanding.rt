@@ -1,0 +1,58 @@
+//! `why`: a firmware, read and checked, and what its loads, stores and calls may reach.
+
+ghost use Rattle.std.specs.Prelude.{◌≡◌, ◌≤◌, ◌++◌, length, None, IsTrue, OnErr, OnOk, IfOk, IfErr};
+ghost use Rattle.base_outside.specs.Counts.{Rose};
+ghost use Rattle.base_outside.specs.Contents.{AddsPrefix};
+ghost use Rattle.aces_words.specs.Requests.{Why, firmware_limit};
+ghost use Rattle.base_outside.specs.Sinks.{sink};
+ghost use Rattle.aces_files.specs.CarriesOut.{CarriesOut};
+ghost use Rattle.aces_files.specs.Loads.{IsContentFailure};
+ghost use Rattle.aces_files.specs.Outcomes.{done};
+ghost use Rattle.aces_firmwares.specs.Firmwares.{IsNoFirmware};
+ghost use Rattle.aces_why.specs.Answers.{WhyAnswer, AnswerToWhy};
+
+use crate::telling::reach_lines;
+use aces_files::loading::load_firmware;
+use aces_firmwares::reading::firmware_of;
+use aces_reports::{Done, Failure};
+use base_outside::{Failed, Files, Sink};
+use std::alloc::Global;
+
+/// The lines on the firmware of which these bytes of a file are the text.
+fn told<'a>(alloc: Global, firmware: &'a str, bytes: &[u8]) -> Result<Vec<u8>, Failure<'a>>
+    requires { length bytes.now ≤ firmware_limit }
+    ensures ok { IfOk result (λ lines. WhyAnswer firmware.now bytes.now (done 0 lines.items None)) }
+    ensures err { IfErr result (λ e. IsContentFailure (IsNoFirmware bytes.now) firmware.now e) }
+{
+    let checked = firmware_of(alloc, firmware, bytes)?;
+    let lines = reach_lines(alloc, &checked)?;
+    Ok(lines)
+}
+
+/// Prints lines.
+fn print<O: Sink>(lines: &[u8], out: &mut O) -> Result<(), Failed>
+    ensures lines { IsTrue O.told → OnOk result (O.written out.new ≡ O.written out.old ++ lines.now) }
+    ensures faultless { OnOk result (O.faults out.new ≡ O.faults out.old) }
+    ensures cause { OnErr result (Rose (O.faults out.old) (O.faults out.new)) }
+    ensures part { IsTrue O.told → OnErr result (AddsPrefix (O.written out.old) (O.written out.new) lines.now) }
+{
+    out.put(lines)
+}
+
+/// Reads and checks a firmware, and prints what each of its loads, stores and calls may reach, which registers stand for several
+/// objects and are stored through, and the warnings.
+pub fn why<'a, F: Files, O: Sink>(
+    alloc: Global,
+    firmware: &'a str,
+    files: &mut F,
+    out: &mut O,
+) -> Result<Done, Failure<'a>>
+    ensures { CarriesOut (AnswerToWhy firmware.now) F.Files files.old files.new (Why firmware.now) (sink O.Sink out.old) (sink O.Sink out.new) result }
+{
+    let bytes = load_firmware(alloc, files, firmware)?;
+    let lines = told(alloc, firmware, bytes.as_slice())?;
+    match print(lines.as_slice(), out) {
+        Ok(()) => Ok(Done::Completed),
+        Err(_) => Err(Failure::Unprinted),
+    }
+}

@@ -1,4 +1,0 @@
-mod Turns
-mod Reached
-mod Counted
-mod Answered

@@ -1,3 +1,0 @@
-pub mod AnswerLine
-pub mod Guarded
-pub mod Answers

@@ -1,8 +1,0 @@
-use Rattle.board_text.proofs.OneAnswer.{boards_are_one, boards_are_not_refused}
-use Rattle.board_text.proofs.laws.boards_are_one.Goals as goal
-
-pub returns-clause-one : goal.returns-clause-one
-returns-clause-one c = boards_are_one
-
-pub returns-clause-read : goal.returns-clause-read
-returns-clause-read c = boards_are_not_refused

@@ -1,9 +1,0 @@
-use Rattle.std.proofs.Common.{length}
-use Rattle.call_reach.specs.Reaching.{IsSquare, IsClosedBy}
-use Rattle.call_reach.proofs.reaching.close.Given as goal
-
-abbrev pub invariant-loop-through : goal.invariant-loop-through
-invariant-loop-through l = record {
-  square : IsSquare (length l.initial.rows.items) l.rows.items;
-  closed : IsClosedBy l.through l.initial.rows.items l.rows.items;
-}

@@ -1,8 +1,0 @@
-use Rattle.std.proofs.Common.{◌≡◌, map}
-use Rattle.plan_model.specs.Lists.{numbers_below}
-use Rattle.code_model.specs.CompartmentCode.{members_from}
-use Rattle.code_sizes.specs.Parts.{filled_total}
-use Rattle.code_sizes.proofs.functions.code_bytes.Given as goal
-
-abbrev pub invariant-loop-compartment : goal.invariant-loop-compartment
-invariant-loop-compartment l = l.code.items ≡ map (λ c. filled_total l.all (members_from 0 l.compartments c)) (numbers_below l.compartment)

@@ -1,6 +1,0 @@
-mod Joined
-pub mod Funcs
-mod Used
-pub mod Matched
-mod Walked
-pub mod Bounded

@@ -1,4 +1,0 @@
-pub mod Uses
-pub mod Accesses
-pub mod Bounds
-pub mod Sites

@@ -1,5 +1,0 @@
-use Rattle.compartments.proofs.OneAnswer.{divisions_are_one}
-use Rattle.compartments.proofs.laws.divisions_are_one.Goals as goal
-
-pub returns : goal.returns
-returns c = divisions_are_one

@@ -1,5 +1,0 @@
-use Rattle.compartments.proofs.OneAnswer.{needs_are_one}
-use Rattle.compartments.proofs.laws.needs_are_one.Goals as goal
-
-pub returns : goal.returns
-returns c = needs_are_one

@@ -1,5 +1,0 @@
-use Rattle.confine.proofs.ThreadSteps.{steps_are_confined}
-use Rattle.confine.proofs.threads.steps_are_confined.Goals as goal
-
-pub returns : goal.returns
-returns c = steps_are_confined c.unprivileged_accesses.ensures.reached c.threads_reach.ensures

@@ -1,5 +1,0 @@
-use Rattle.std.proofs.Common.{[]}
-use Rattle.constraint_generation.proofs.generator.Generator.rules.Goals as goal
-
-pub returns : goal.returns
-returns c = c.in_ok-put_program.ensures.more [] (c.in_ok-rules.ensures c.args.self.now.numbering)

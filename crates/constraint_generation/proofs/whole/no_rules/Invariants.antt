@@ -1,6 +1,0 @@
-use Rattle.std.proofs.Common.{◌≡◌, ℕ, get_or, []}
-use Rattle.inclusion_constraints.specs.Rules.{lists_in}
-use Rattle.constraint_generation.proofs.whole.no_rules.Given as goal
-
-abbrev pub invariant-loop : goal.invariant-loop
-invariant-loop l = (n : ℕ) → get_or (lists_in l.triggers) n [] ≡ []

@@ -1,4 +1,0 @@
-pub mod Lengths
-mod Going
-mod SourceTurns
-mod MachineTurns

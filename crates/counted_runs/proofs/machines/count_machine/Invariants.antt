@@ -1,6 +1,0 @@
-use Rattle.counted_runs.proofs.MachineTurns.{Runs}
-use Rattle.counted_runs.proofs.machines.count_machine.Given as goal
-
--- so many steps were made, none ended the machine, and what they told is kept
-abbrev pub invariant-loop-made : goal.invariant-loop-made
-invariant-loop-made l = Runs l.fn.machine.image l.fn.machine.state l.made l.machine l.events.items

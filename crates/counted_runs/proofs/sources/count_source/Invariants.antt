@@ -1,6 +1,0 @@
-use Rattle.counted_runs.proofs.SourceTurns.{Runs}
-use Rattle.counted_runs.proofs.sources.count_source.Given as goal
-
--- so many steps were made, none ended the run, and what they told is kept
-abbrev pub invariant-loop-made : goal.invariant-loop-made
-invariant-loop-made l = Runs l.fn.run.program l.fn.run.compartments l.fn.run.state l.made l.run l.events.items

@@ -1,2 +1,0 @@
-pub mod TakesSteps
-pub mod Counts

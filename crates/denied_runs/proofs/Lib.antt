@@ -1,3 +1,0 @@
-mod Devices
-mod Slots
-mod KeptOff

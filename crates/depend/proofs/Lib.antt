@@ -1,2 +1,0 @@
-mod FunctionTargets
-mod Gathered

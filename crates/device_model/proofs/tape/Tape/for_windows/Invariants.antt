@@ -1,6 +1,0 @@
-use Rattle.std.proofs.Common.{◌≡◌, take}
-use Rattle.device_model.specs.Queues.{all_empty}
-use Rattle.device_model.proofs.tape.Tape.for_windows.Given as goal
-
-abbrev pub invariant-loop-window : goal.invariant-loop-window
-invariant-loop-window l = l.list.items ≡ all_empty (take l._window-index l.names)

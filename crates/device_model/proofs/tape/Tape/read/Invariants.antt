@@ -1,9 +1,0 @@
-use Rattle.std.proofs.Common.{length}
-use Rattle.device_model.proofs.Reading.{IsReading}
-use Rattle.device_model.proofs.tape.Tape.read.Given as goal
-
-abbrev pub invariant-loop-end : goal.invariant-loop-end
-invariant-loop-end l = IsReading l.text l.names l.line l.rest l.tape
-
-abbrev pub decreases-loop-end : goal.decreases-loop-end
-decreases-loop-end l = length l.rest

@@ -1,5 +1,0 @@
-use Rattle.std.proofs.Common.{length}
-use Rattle.expected_tokens.proofs.stack.+behind_row.Given as goal
-
-abbrev pub decreases-behind_row : goal.decreases-behind_row
-decreases-behind_row l = length l.rows.now

@@ -1,5 +1,0 @@
-use Rattle.std.proofs.Common.{length}
-use Rattle.expected_tokens.proofs.telling.+put_expected.Given as goal
-
-abbrev pub decreases-put_expected : goal.decreases-put_expected
-decreases-put_expected l = length l.symbols.now

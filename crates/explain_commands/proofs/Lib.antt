@@ -1,4 +1,0 @@
-mod Lines
-pub mod Answering
-pub mod Explainable
-pub mod PlanAnswering

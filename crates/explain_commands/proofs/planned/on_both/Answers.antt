@@ -1,5 +1,0 @@
-use Rattle.explain_commands.specs.Plans.{no_firmware}
-use Rattle.explain_commands.proofs.planned.on_both.Goals as goal
-
-pub returns-in-Faulty : goal.returns-in-Faulty
-returns-in-Faulty c = no_firmware c.in-Faulty.lines.items (rw c.in-Faulty.is at c.in_ok-lines.ensures)

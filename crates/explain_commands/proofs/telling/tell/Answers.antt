@@ -1,7 +1,0 @@
-use Rattle.ir_model.specs.Plain.{firmware_of}
-use Rattle.explain_commands.specs.Answers.{fine}
-use Rattle.explain_commands.proofs.telling.tell.Goals as goal
-
-pub returns-in_ok-counted-in-Fine : goal.returns-in_ok-counted-in-Fine
-returns-in_ok-counted-in-Fine c =
-    rw c.in_ok-counted-in-Fine.ensures (fine (firmware_of c.in-Fine.checked) (rw c.in-Fine.is at c.in_ok-lines.ensures))

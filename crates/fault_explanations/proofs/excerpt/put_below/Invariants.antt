@@ -1,7 +1,0 @@
-use Rattle.std.proofs.Common.{◌≡◌, ◌++◌, map, take}
-use Rattle.fault_explanations.specs.Excerpt.{below}
-use Rattle.fault_explanations.proofs.excerpt.put_below.Given as goal
-
--- what stands below the bytes so far
-abbrev pub invariant-loop-i : goal.invariant-loop-i
-invariant-loop-i l = l.text ≡ l.initial.text ++ map below (take l.i l.bytes)

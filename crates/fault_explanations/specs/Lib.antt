@@ -1,4 +1,0 @@
-pub mod Excerpt
-pub mod RuleTexts
-pub mod Expected
-pub mod Explanations

@@ -1,7 +1,0 @@
-mod Globals
-mod Accesses
-mod OwnRegions
-mod Readers
-mod Regions
-mod Isolation
-mod Composed

@@ -1,9 +1,0 @@
-use Rattle.gate_steps.specs.Runs.{GoodBy}
-use Rattle.gate_steps.proofs.CodeParts.{flash_has_code, code_has_its_length}
-use Rattle.gate_steps.proofs.laws.code_stands.Goals as goal
-
-pub returns-clause-in_flash : goal.returns-clause-in_flash
-returns-clause-in_flash c = λ j i good. flash_has_code j i (GoodBy good)
-
-pub returns-clause-length : goal.returns-clause-length
-returns-clause-length c = code_has_its_length

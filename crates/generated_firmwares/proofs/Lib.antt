@@ -1,7 +1,0 @@
-mod Apart
-mod Globals
-mod Files
-mod Functions
-mod Offers
-mod Typed
-mod Within

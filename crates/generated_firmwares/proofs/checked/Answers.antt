@@ -1,7 +1,0 @@
-use Rattle.std.proofs.Common.{sym, subst}
-use Rattle.ir_model.specs.Canonical.{IsWithinLimits}
-use Rattle.generated_firmwares.proofs.Within.{made_is_within}
-use Rattle.generated_firmwares.proofs.checked.Goals as goal
-
-pub new-requires-clause-within : goal.new-requires-clause-within
-new-requires-clause-within c = subst IsWithinLimits (sym c.in_ok-firmware.ensures) (made_is_within c.args.seed c.args.size c.requires.least c.requires.most)

@@ -1,6 +1,0 @@
-use Rattle.std.proofs.Common.{◌≡◌, true}
-use Rattle.monitor.specs.RegionChecks.{eighths_hold_data}
-use Rattle.image_checks.proofs.forms.eighths_hold_data.Given as goal
-
-abbrev pub invariant-loop-number : goal.invariant-loop-number
-invariant-loop-number l = eighths_hold_data l.image l.tables l.region l.number ≡ true

@@ -1,8 +1,0 @@
-use Rattle.std.proofs.Common.{◌≡◌, ◌+◌, ◌*◌, drop}
-use Rattle.monitor.specs.Layout.{lends_at}
-use Rattle.monitor.specs.Checks.{each_record, is_lend}
-use Rattle.image_checks.proofs.lends.lends_fault.Given as goal
-
--- what is left decides
-abbrev pub invariant-loop-size : goal.invariant-loop-size
-invariant-loop-size l = record { left : each_record is_lend l.at 4 (drop l.size-index l.size-items) ≡ each_record is_lend (lends_at l.tables) 4 l.size-items; place : l.at ≡ lends_at l.tables + 4 * l.size-index }

@@ -1,7 +1,0 @@
-use Rattle.std.proofs.Common.{◌≡◌, ◌+◌, drop}
-use Rattle.monitor.specs.Checks.{difference}
-use Rattle.image_checks.proofs.page.code_fault.Given as goal
-
--- what is left decides
-abbrev pub invariant-loop-index : goal.invariant-loop-index
-invariant-loop-index l = record { left : difference (drop l.index l.wanted) (drop l.index l.flash) l.at ≡ difference l.wanted l.flash l.base; place : l.at ≡ l.base + l.index }

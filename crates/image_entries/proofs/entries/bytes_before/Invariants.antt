@@ -1,0 +1,8 @@
+use Rattle.std.proofs.Common.{◌≡◌, take}
+use Rattle.code_model.specs.CompartmentCode.{members_from}
+use Rattle.image_entries.specs.Bases.{filled_total}
+use Rattle.image_entries.proofs.entries.bytes_before.Given as goal
+
+abbrev pub invariant-loop-other : goal.invariant-loop-other
+invariant-loop-other l =
+    l.total ≡ filled_total l.sizes (members_from 0 (take l.other l.compartments) l.compartment)

@@ -1,0 +1,136 @@
+-- The globals that a compartment needs are open to it.
+use Rattle.std.proofs.Common.{◌≡◌, ℕ, ◌<◌, ◌≤◌, ◌+◌, true, [], length, map, get_or, ap, ◌∙◌, arith}
+use Rattle.std.specs.List.{list_any}
+use Rattle.std.proofs.lemmas.List.{length-map, length-append}
+use Rattle.std.proofs.lemmas.Bool.{or_left, or_right}
+use mathlib.Core.Logic.{⊎_elim}
+use Rattle.machine_protection.specs.declared.region.Region.{Region}
+use Rattle.machine_protection.specs.Regions.{holds}
+use Rattle.machine_protection.specs.Protection.{deciding}
+use Rattle.machine_protection.specs.Configured.{OpenEighthsAreHeld}
+use Rattle.machine_protection.specs.Laws.{RegionsHoldTheirBlocks, RegionsGiveTheirRights}
+use Rattle.base_laws.specs.Lists.{Each}
+use Rattle.ir_model.specs.declared.object.ObjId.TheVariants.{Global}
+use Rattle.ir_model.specs.Plain.{PlainFirmware}
+use Rattle.ir_model.specs.Resolve.{resolve}
+use Rattle.ir_model.specs.Resolved.{Program}
+use Rattle.ir_model.specs.State.{GlobalObject}
+use Rattle.plan_model.specs.declared.needs.Needs.{Needs}
+use Rattle.plan_model.specs.declared.graph.Final.{Final}
+use Rattle.plan_model.specs.declared.plan.Board.{Board}
+use Rattle.plan_model.specs.declared.plan.Plan.{Plan}
+use Rattle.plan_model.specs.Boards.{slots_of}
+use Rattle.plan_model.specs.Lists.{has, numbers_below}
+use Rattle.plan_model.specs.Needs.{need_of, has_object}
+use Rattle.plan_model.specs.Groups.{compartment_of, writes, reads}
+use Rattle.plan_model.specs.Regions.{region_at, regions_used, is_user, global_size}
+use Rattle.plan_model.specs.RamBlocks.{ForRegion}
+use Rattle.plan_model.specs.InitialGraph.{initial_graph}
+use Rattle.plan_model.specs.Slots.{data_slot, cover_slot, slot_uses, slot_regions, slots_from}
+use Rattle.plan_layout_laws.specs.RamLaws.{Holds}
+use Rattle.need_laws.specs.Reached.{IsListed}
+use Rattle.monitor_model.specs.declared.tables.CompRecord.{CompRecord}
+use Rattle.monitor_model.specs.Records.{compartment_at, nobody}
+use Rattle.monitor_model.specs.Setting.{may_load, may_store, allows_stores}
+use Rattle.image_model.specs.LinkedTables.{tables_of, comp_record}
+use Rattle.image_promises.specs.Planned.{planned_tables, planned_image}
+use Rattle.plan.specs.PlannedFirmwares.{IsPlanned, plan, planned_sizes}
+use Rattle.image_promises.proofs.Bearing.{written_stores, borne_holds}
+use Rattle.image_promises.proofs.Compartments.{in_compartment}
+use Rattle.image_promises.proofs.Reach.{one_of, has_listed}
+use Rattle.std.proofs.lemmas.List.FromFn.{get_or-map-range_with_len}
+use Rattle.image_promises.proofs.Lists.{passing_among, each_passing, below_all}
+use Rattle.image_promises.proofs.FinalRegions as regions
+use Rattle.image_promises.proofs.GlobalPlaces.{GlobalLaws, address, aligns}
+use Rattle.image_promises.proofs.DataSlots.{written_data, borne_data}
+use Rattle.image_promises.proofs.WindowsOpen.{FitsSlots}
+
+-- what slots rest on
+pub record SlotLaws : Type 0 where
+  pub globals : GlobalLaws
+  pub held : RegionsHoldTheirBlocks
+  pub opened : OpenEighthsAreHeld
+  pub given : RegionsGiveTheirRights
+  pub few : FitsSlots
+
+module _ (law : SlotLaws) (w : PlainFirmware) (n : Needs) (f : Final) (b : Board) (ok : IsPlanned w n f b) where
+  abbrev p : Program
+  p = resolve w
+
+  abbrev l : Plan
+  l = plan w n f b
+
+  abbrev place : ℕ → ℕ
+  place x = address law.globals w n f b ok x
+
+  -- ---- a compartment's slots
+
+  pub slots_are : (2 ≤ slots_of b) × (4 + slots_of b ≤ 16)
+  slots_are = ⊎_elim (λ e. (omega (arith, e), omega (arith, e))) (λ e. (omega (arith, e), omega (arith, e))) ok.board.regions
+
+  uses_few : (c : ℕ) → c < f.groups.count → length (slot_uses p f l c) ≤ slots_of b
+  uses_few c m =
+      let most = law.few p (slots_of b) (initial_graph p n f.groups) f slots_are.0 ok.final c m in
+      let one = length-append (map (data_slot p f l c) (regions_used f.regions c)) (map cover_slot (get_or f.covers c [])) in
+      let two = length-map (regions_used f.regions c) (data_slot p f l c) in
+      let three = length-map (get_or f.covers c []) cover_slot in
+      omega (arith, most, one, two, three)
+
+  pub slots_at : (c : ℕ) → c < f.groups.count → (compartment_at (planned_tables w n f b) c).slots ≡ slots_from 4 (slots_of b) (slot_uses p f l c)
+  unfolding tables_of slot_regions
+  slots_at c m =
+      ap (λ (r : CompRecord). r.slots) (get_or-map-range_with_len (comp_record p f l (slots_of b)) 0 f.groups.count c c nobody m (let e : 0 + c ≡ c = omega arith in e))
+
+  -- those of its regions come first
+  module _ (c : ℕ) (there : c < f.groups.count) (r : ℕ) (region : r < length f.regions) (a : ℕ) (it : Holds p f l (ForRegion r) a) where
+    used : is_user c (region_at f.regions r) ≡ true → has (regions_used f.regions c) r ≡ true
+    used u = passing_among (λ q. is_user c (region_at f.regions q)) r (length f.regions) region u
+
+    used_below : Each (λ q. q < length f.regions) (regions_used f.regions c)
+    used_below =
+        each_passing (λ q. q < length f.regions) (λ q. q < length f.regions) (λ q. is_user c (region_at f.regions q)) (numbers_below (length f.regions)) (λ q h t. h)
+        (below_all 0 (length f.regions) (length f.regions) (omega arith))
+
+    region_stores : has (region_at f.regions r).writers c ≡ true → may_store (planned_tables w n f b) c a ≡ true
+    unfolding may_store
+    region_stores writer =
+        ap (λ gs. allows_stores (deciding gs a)) (slots_at c there)
+        ∙ written_stores a (slot_uses p f l c) 4 (slots_of b)
+        (written_data law.globals law.held law.opened law.given w n f b ok c a r region it writer (regions_used f.regions c) (get_or f.covers c []) used_below
+        (used (or_left (has (region_at f.regions r).writers c) (has (region_at f.regions r).readers c) writer)))
+        (uses_few c there) slots_are.1
+
+    region_loads : is_user c (region_at f.regions r) ≡ true → may_load (planned_image w n f b) (planned_tables w n f b) c a ≡ true
+    unfolding may_load
+    region_loads user =
+        or_right _ _
+        (or_left (list_any (λ (g : Region). holds g a) (compartment_at (planned_tables w n f b) c).slots) _
+        (ap (list_any (λ (g : Region). holds g a)) (slots_at c there)
+        ∙ borne_holds a (slot_uses p f l c) 4 (slots_of b)
+        (borne_data law.globals law.held law.opened law.given w n f b ok c a r region it (regions_used f.regions c) (get_or f.covers c []) (used user))
+        (uses_few c there) slots_are.1))
+
+  -- ---- a function's needs
+
+  held_at : (x j r : ℕ) → j < global_size p x → r < length f.regions → has (region_at f.regions r).globals x ≡ true → Holds p f l (ForRegion r) (place x + j)
+  held_at x j r k h i = (law.globals.held p f (planned_sizes w n f b) b ok.board ok.fits (aligns law.globals w n f b ok) x j k).0 r (regions.region_is p n f (slots_of b) ok.final r x h i)
+
+  pub stores : (g x j : ℕ) → g < length p.funcs → IsListed (need_of n g).written (GlobalObject x) → x < length p.globals → j < global_size p x
+      → may_store (planned_tables w n f b) (compartment_of f.groups g) (place x + j) ≡ true
+  stores g x j m listed there k =
+      let c = compartment_of f.groups g in
+      let inn = in_compartment p f.groups ok.groups g m in
+      let writer : writes n f.groups c (Global x) ≡ true = one_of f.groups (λ y. has_object (need_of n y).written (Global x)) g inn.listed (has_listed (need_of n g).written (GlobalObject x) listed) in
+      let some = regions.in_region p n f (slots_of b) ok.final x there (regions.written_used p n f (slots_of b) ok.final x c inn.below writer) in
+      region_stores c inn.below some.0 some.1 (place x + j) (held_at x j some.0 k some.1 some.2) (regions.writers p n f (slots_of b) ok.final x c inn.below writer some.0 some.1 some.2)
+
+  pub closed_loads : b.closed ≡ true → (g x j : ℕ) → g < length p.funcs → IsListed (need_of n g).read (GlobalObject x) → x < length p.globals → j < global_size p x
+      → may_load (planned_image w n f b) (planned_tables w n f b) (compartment_of f.groups g) (place x + j) ≡ true
+  closed_loads closed g x j m listed there k =
+      let c = compartment_of f.groups g in
+      let inn = in_compartment p f.groups ok.groups g m in
+      let kind : n.closed ≡ true = ok.needs.kind ∙ closed in
+      let reader : reads n f.groups c (Global x) ≡ true = one_of f.groups (λ y. has_object (need_of n y).read (Global x)) g inn.listed (has_listed (need_of n g).read (GlobalObject x) listed) in
+      let some = regions.in_region p n f (slots_of b) ok.final x there (regions.read_used p n f (slots_of b) ok.final x c kind inn.below reader) in
+      region_loads c inn.below some.0 some.1 (place x + j) (held_at x j some.0 k some.1 some.2)
+      (or_right (has (region_at f.regions some.0).writers c) (has (region_at f.regions some.0).readers c) (regions.readers p n f (slots_of b) ok.final x c kind inn.below reader some.0 some.1 some.2))

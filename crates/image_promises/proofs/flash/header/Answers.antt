@@ -1,0 +1,8 @@
+use Rattle.image_promises.proofs.Facts.{PlanLaws}
+use Rattle.image_promises.proofs.Header.{header_passes}
+use Rattle.image_promises.proofs.flash.header.Goals as goal
+
+pub returns : goal.returns
+returns c =
+    let law : PlanLaws = record { flash = c.flash.ensures; apart = c.ram.ensures; there = c.places.ensures.there; inside = c.places.ensures.inside } in
+    header_passes law

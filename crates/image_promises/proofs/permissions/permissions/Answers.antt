@@ -1,0 +1,18 @@
+use Rattle.image_promises.proofs.SlotContents.{slots_hold_permissions}
+use Rattle.image_promises.proofs.permissions.permissions.Goals as goal
+
+pub returns : goal.returns
+returns c =
+    slots_hold_permissions
+    (record {
+      globals = record {
+        plans = record { flash = c.flash.ensures; apart = c.ram.ensures; there = c.places.ensures.there; inside = c.places.ensures.inside };
+        laid = c.globals.ensures.laid;
+        held = c.globals.ensures.held;
+      };
+      held = c.regions_hold_their_blocks.ensures;
+      opened = c.open_eighths_are_held.ensures.held;
+      given = c.regions_give_their_rights.ensures;
+      few = c.final_graph_fits_slots.ensures;
+    })
+    c.windows.ensures

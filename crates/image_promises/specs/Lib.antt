@@ -1,0 +1,16 @@
+pub mod Planned
+pub mod Laws
+pub mod Parts
+pub mod Globals
+pub mod Regions
+pub mod Sites
+pub mod CodeInFlash
+pub mod TablesInFlash
+pub mod InitialWords
+pub mod Permissions
+pub mod Needed
+pub mod Policy
+pub mod PlannedAudits
+pub mod Whole
+pub mod Guarded
+pub mod FromGuards

@@ -1,0 +1,63 @@
+//! Each function is a law and does nothing.
+
+ghost use Rattle.image_promises.specs.FromGuards.{GuardedPlansGuard, LowestStacksAreGuarded, LargestStacksAreGuarded, StacksBehindMonitorsAreGuarded, GuardedStacksServe, GuardedImagesAreNeverWrong};
+
+use crate::images::{refined_or_stopped, sound};
+use crate::permissions::permissions;
+use crate::regions::{images, memory};
+use monitor_laws::images::sound_images_are_placed;
+use monitor_sound::promises::{handlers_keep_the_law, stubs_stand};
+use plan_layout_laws::{ram, stack};
+use refine::never_wrong::never_wrong;
+use refine::overruns::guards_serve;
+
+/// Where no data region has a byte in the guard below the stack, no compartment may store there.
+pub fn guarded()
+    ensures { GuardedPlansGuard }
+{
+    permissions();
+    images();
+    memory();
+}
+
+/// So it is where the stack is the lowest block of RAM.
+pub fn lowest()
+    ensures { LowestStacksAreGuarded }
+{}
+
+/// So it is where the board asks for the stack lowest in RAM, and where no other block of RAM is larger.
+pub fn largest()
+    ensures { LargestStacksAreGuarded }
+{
+    lowest();
+    stack();
+}
+
+/// And where the monitor's block lies right below the stack.
+pub fn behind()
+    ensures { StacksBehindMonitorsAreGuarded }
+{
+    ram();
+}
+
+/// So the law of the stack holds of the planned image.
+pub fn stacks()
+    ensures { GuardedStacksServe }
+{
+    guarded();
+    sound();
+    images();
+    sound_images_are_placed();
+    guards_serve();
+    handlers_keep_the_law();
+    stubs_stand();
+}
+
+/// The image of a planned firmware whose stack is guarded is never wrong, only stopped.
+pub fn images_are_never_wrong()
+    ensures { GuardedImagesAreNeverWrong }
+{
+    stacks();
+    refined_or_stopped();
+    never_wrong();
+}

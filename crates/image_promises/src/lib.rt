@@ -1,0 +1,16 @@
+//! The image of a planned firmware: sound, confined, linked, refining its firmware, and permitting no more than what functions need.
+#![tactic(auto)]
+
+pub mod audits;
+pub mod code;
+pub mod flash;
+pub mod globals;
+pub mod guards;
+pub mod images;
+pub mod initial;
+pub mod needed;
+pub mod permissions;
+pub mod promises;
+pub mod regions;
+pub mod sites;
+pub mod tables;

@@ -1,0 +1,16 @@
+mod Devices
+mod Slots
+mod KeptOff
+mod Globals
+mod Accesses
+mod OwnRegions
+mod Readers
+mod Regions
+mod Isolation
+mod Composed
+mod Alike
+mod ReadAlike
+mod ChecksAlike
+pub mod Stays
+mod Behind
+pub mod Kept

@@ -1,0 +1,5 @@
+use Rattle.image_runs.proofs.Stays.{rules_stay}
+use Rattle.image_runs.proofs.other_code.rules.Goals as goal
+
+pub returns : goal.returns
+returns c = rules_stay

@@ -1,0 +1,5 @@
+use Rattle.image_runs.proofs.Stays.{soundness_stays}
+use Rattle.image_runs.proofs.other_code.sound.Goals as goal
+
+pub returns : goal.returns
+returns c = soundness_stays

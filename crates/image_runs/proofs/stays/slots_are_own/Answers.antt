@@ -1,0 +1,17 @@
+use Rattle.image_runs.proofs.OwnRegions.{planned_slots_are_own}
+use Rattle.image_runs.proofs.stays.slots_are_own.Goals as goal
+
+pub returns : goal.returns
+returns c =
+    planned_slots_are_own
+    (record {
+      globals = record {
+        plans = record { flash = c.flash.ensures; apart = c.ram.ensures; there = c.places.ensures.there; inside = c.places.ensures.inside };
+        laid = c.globals.ensures.laid;
+        held = c.globals.ensures.held;
+      };
+      held = c.regions_hold_their_blocks.ensures;
+      opened = c.open_eighths_are_held.ensures.held;
+      given = c.regions_give_their_rights.ensures;
+      windows = c.windows.ensures;
+    })

@@ -1,0 +1,4 @@
+mod SymbolParts
+mod Functions
+mod Lines
+mod Parts

@@ -1,0 +1,27 @@
+//! Laws: functions that do nothing, whose contract is the law.
+
+ghost use Rattle.image_symbols.specs.Standing.{FunctionsStand, PlacesStand};
+ghost use Rattle.image_symbols.specs.Told.{LinesTellPlaces, LinesTellBytes};
+
+/// In the image of a planned firmware the bytes of each function's code stand at its address.
+pub fn functions_stand()
+    ensures { FunctionsStand }
+{
+    image_promises::promises::code();
+    image_promises::code::code();
+}
+
+/// And so do those of each place of its blocks.
+pub fn places_stand()
+    ensures { PlacesStand }
+{
+    functions_stand();
+    code_model::laws::sizes();
+    code_model::laws::pieces();
+}
+
+/// Each thing has one place among its lines, with its address; and the bytes of a global's line are those of the global.
+pub fn lines_tell()
+    ensures places { LinesTellPlaces }
+    ensures bytes { LinesTellBytes }
+{}

@@ -1,4 +1,0 @@
-pub mod Rules
-pub mod Demands
-pub mod Gathered
-pub mod Solutions

@@ -1,0 +1,2 @@
+pub mod DeclarationParts
+pub mod StructParts

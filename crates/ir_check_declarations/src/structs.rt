@@ -1,0 +1,99 @@
+//! Structs.
+
+ghost use Rattle.std.specs.Prelude.{◌≡◌, ◌++◌, ◌∷◌, [], map, OnOk, IfOk};
+ghost use Rattle.ir_model.specs.Plain.{slot_of, struct_of};
+ghost use Rattle.ir_model.specs.Typing.{field_checks, struct_checks, structs_checks};
+ghost use Rattle.ir_check_scopes.specs.Found.{Finds};
+ghost use Rattle.ir_check_scopes.specs.Spots.{place_of};
+ghost use Rattle.ir_check_declarations.specs.StructParts.{field_check, fields_part};
+
+use ir_check_scopes::found::fault;
+use ir_check_scopes::new_names::{add_new, require_new};
+use ir_check_scopes::type_names::type_names;
+use ir_check_scopes::{CheckFault, Spot};
+use ir_layouts::fault::LayoutFault;
+use ir_layouts::table::Layouts;
+use ir_model::check::CheckKind;
+use ir_model::firmware::{Slot, StructDecl};
+use ir_names::Names;
+use std::alloc::Global;
+
+#[tactic(auto, using(ir_check_scopes::proofs::Order::checks_in_order, ir_check_scopes::proofs::Order::checks_behind_one))]
+fn field<'a, 'n>(
+    declared: &Names<'n>,
+    earlier: &Names<'n>,
+    spot: Spot,
+    seen: &mut Names<'a>,
+    slot: &'a Slot,
+) -> Result<(), CheckFault>
+    ensures finds { Finds (field_check declared.now earlier.now (place_of spot.entry) seen.old (slot_of slot.now)) result }
+    ensures grows { OnOk result (seen.new ≡ seen.old ++ slot.now.name ∷ []) }
+{
+    add_new(seen, &slot.name, spot)?;
+    type_names(declared, earlier, spot, &slot.ty)?;
+    Ok(())
+}
+
+fn fields<'n>(
+    alloc: Global,
+    declared: &Names<'n>,
+    earlier: &Names<'n>,
+    spot: Spot,
+    slots: &[Slot],
+) -> Result<(), CheckFault>
+    ensures { Finds (field_checks declared.now earlier.now (place_of spot.entry) [] (map slot_of slots.now)) result }
+{
+    let mut seen = Names::new(alloc);
+    for slot in slots {
+        field(declared, earlier, spot, &mut seen, slot)?;
+    }
+    Ok(())
+}
+
+#[tactic(auto, using(ir_check_scopes::proofs::Order::checks_in_order, ir_check_scopes::proofs::Order::checks_behind_one))]
+fn named_fields<'n>(
+    alloc: Global,
+    declared: &Names<'n>,
+    earlier: &Names<'n>,
+    of: &StructDecl,
+) -> Result<(), CheckFault>
+    ensures { Finds (fields_part declared.now earlier.now (struct_of of.now)) result }
+{
+    let spot = Spot::Struct(&of.name);
+    require_new(earlier, &of.name, spot)?;
+    fields(alloc, declared, earlier, spot, of.fields.as_slice())?;
+    Ok(())
+}
+
+fn structure<'n>(
+    alloc: Global,
+    declared: &Names<'n>,
+    layouts: &mut Layouts<'n>,
+    of: &'n StructDecl,
+) -> Result<(), CheckFault>
+    ensures finds { Finds (struct_checks declared.now (map struct_of layouts.old) (struct_of of.now)) result }
+    ensures grows { OnOk result (layouts.new ≡ layouts.old ++ of.now ∷ []) }
+{
+    named_fields(alloc, declared, layouts.names(), of)?;
+    match layouts.push(of) {
+        Ok(()) => Ok(()),
+        Err(LayoutFault::TooLarge) => Err(fault(CheckKind::ObjectTooLarge, Spot::Struct(&of.name))),
+        Err(LayoutFault::NoMemory) => Err(CheckFault::NoMemory),
+    }
+}
+
+/// The checks of structs, and their layouts.
+pub fn structs<'n>(
+    alloc: Global,
+    declared: &Names<'n>,
+    structs: &'n [StructDecl],
+) -> Result<Layouts<'n>, CheckFault>
+    ensures finds { Finds (structs_checks declared.now [] (map struct_of structs.now)) result }
+    ensures all { IfOk result (λ l. l ≡ structs.now) }
+{
+    let mut layouts = Layouts::new(alloc);
+    for declaration in structs {
+        structure(alloc, declared, &mut layouts, declaration)?;
+    }
+    Ok(layouts)
+}

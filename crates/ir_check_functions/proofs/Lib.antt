@@ -1,0 +1,3 @@
+mod FuncParts
+mod LocalSizes
+mod SlotNames

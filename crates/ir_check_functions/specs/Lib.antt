@@ -1,0 +1,2 @@
+pub mod FunctionParts
+pub mod SlotParts

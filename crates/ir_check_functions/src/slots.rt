@@ -1,0 +1,49 @@
+//! The slots of a function.
+
+ghost use Rattle.std.specs.Prelude.{◌≡◌, ◌*◌, ◌≤◌, [], IfOk};
+ghost use Rattle.ir_model.specs.Plain.{func_of, firmware_of};
+ghost use Rattle.ir_model.specs.Layout.{known};
+ghost use Rattle.ir_model.specs.Frames.{locals_size};
+ghost use Rattle.ir_model.specs.TextLimits.{local_limit};
+ghost use Rattle.ir_model.specs.FewItems.{HasFewLocals};
+ghost use Rattle.ir_model.specs.Typing.{object_limit};
+ghost use Rattle.ir_check_scopes.specs.Found.{Finds};
+ghost use Rattle.ir_check_functions.specs.SlotParts.{slots_part};
+ghost use Rattle.ir_check_scopes.specs.Scopes.{IsScope};
+
+use crate::locals::locals;
+use crate::registers::{outcome, registers};
+use ir_check_scopes::{CheckFault, Scope, Spot};
+use ir_model::firmware::Func;
+use ir_names::Names;
+use std::alloc::Global;
+
+/// The slots of a function, no name being taken before.
+#[tactic(auto, using(ir_check_scopes::proofs::Order::checks_in_order))]
+fn slots_behind<'a>(scope: &Scope, seen: &mut Names<'a>, func: &'a Func) -> Result<u64, CheckFault>
+    requires scope { IsScope scope.now }
+    requires seen { seen.old ≡ [] }
+    requires few { HasFewLocals func.now }
+    ensures finds { Finds (slots_part scope.now.structs (firmware_of scope.now.firmware.now) (func_of func.now)) result }
+    ensures size { IfOk result (λ n. n ≡ locals_size (known (firmware_of scope.now.firmware.now).structs) (func_of func.now).locals) }
+    ensures most { IfOk result (λ n. n ≤ local_limit * object_limit) }
+{
+    let spot = Spot::Func(&func.name);
+    registers(&scope.structs, spot, seen, func.params.as_slice())?;
+    outcome(&scope.structs, spot, &func.result)?;
+    let size = locals(scope, spot, seen, func.locals.as_slice())?;
+    registers(&scope.structs, spot, seen, func.regs.as_slice())?;
+    Ok(size)
+}
+
+/// The checks of a function's parameters, result, locals and registers; and how many bytes the locals take.
+pub fn slots(alloc: Global, scope: &Scope, func: &Func) -> Result<u64, CheckFault>
+    requires scope { IsScope scope.now }
+    requires few { HasFewLocals func.now }
+    ensures finds { Finds (slots_part scope.now.structs (firmware_of scope.now.firmware.now) (func_of func.now)) result }
+    ensures size { IfOk result (λ n. n ≡ locals_size (known (firmware_of scope.now.firmware.now).structs) (func_of func.now).locals) }
+    ensures most { IfOk result (λ n. n ≤ local_limit * object_limit) }
+{
+    let mut seen = Names::new(alloc);
+    slots_behind(scope, &mut seen, func)
+}

@@ -1,0 +1,4 @@
+pub mod Found
+pub mod Spots
+pub mod Parts
+pub mod Scopes

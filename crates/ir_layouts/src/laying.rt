@@ -1,0 +1,71 @@
+//! A struct is laid out field by field.
+
+ghost use Rattle.std.specs.Prelude.{◌≡◌, ◌<◌, ◌≤◌, ◌+◌, map, Err, IfOk};
+ghost use Rattle.ir_model.specs.Plain.{struct_of};
+ghost use Rattle.ir_model.specs.Layout.{rounded_up};
+ghost use Rattle.ir_layouts.specs.Measures.{IsTooLarge};
+ghost use Rattle.ir_layouts.specs.Tables.{IsLaid};
+
+use crate::fault::LayoutFault;
+use crate::table::{Field, Layouts, StructLayout};
+use ir_model::extent::SIZE_LIMIT;
+use ir_model::firmware::StructDecl;
+use ir_names::Names;
+
+fn round_up(size: u32, align: u32) -> u32
+    requires positive { 0 < align }
+    requires align { align ≤ 4 }
+    requires size { size ≤ SIZE_LIMIT }
+    ensures exact { result ≡ rounded_up size align }
+    ensures small { result < size + align }
+{
+    (size + (align - 1)) / align * align
+}
+
+impl<'a> Layouts<'a> {
+    /// A struct, laid out by those that are there.
+    pub(crate) fn laid_out(
+        &self,
+        declaration: &'a StructDecl,
+    ) -> Result<StructLayout<'a>, LayoutFault>
+        ensures laid { IfOk result (IsLaid (map struct_of self.now)) }
+        ensures same { IfOk result (λ l. l.declaration.now ≡ declaration.now) }
+        ensures too_large { result ≡ Err LayoutFault.TooLarge → IsTooLarge (map struct_of self.now) (struct_of declaration.now) }
+    {
+        let alloc = *self.structs.allocator();
+        let slots = declaration.fields.as_slice();
+        let (mut size, mut align, mut cells) = (0u32, 1u32, 0u32);
+        let mut fields = Vec::new(alloc);
+        let mut names = Names::new(alloc);
+        for slot in slots {
+            let inner = self.measure(&slot.ty);
+            let at = round_up(size, inner.align);
+            let end = u64::from(at) + inner.size;
+            if end > u64::from(SIZE_LIMIT) {
+                return Err(LayoutFault::TooLarge);
+            }
+            fields.push(Field {
+                name: &slot.name,
+                ty: &slot.ty,
+                at,
+                first_cell: cells,
+            })?;
+            names.push(&slot.name)?;
+            size = end as u32;
+            align = align.max(inner.align);
+            cells += inner.cells as u32;
+        }
+        let size = round_up(size, align);
+        if size > SIZE_LIMIT {
+            return Err(LayoutFault::TooLarge);
+        }
+        Ok(StructLayout {
+            declaration,
+            size,
+            align,
+            cells,
+            fields,
+            names,
+        })
+    }
+}

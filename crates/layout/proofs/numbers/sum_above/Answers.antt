@@ -1,8 +1,0 @@
-use Rattle.std.proofs.Common.{nat_lt, arith}
-use Rattle.layout.proofs.Before.{room_for_next}
-use Rattle.layout.proofs.numbers.sum_above.Goals as goal
-
-pub overflow_add-total : goal.overflow_add-total
-overflow_add-total c =
-    let room = room_for_next (λ n. nat_lt c.args.least n) c.args.numbers.now c.loop-number.number-index c.loop-number-test.true in
-    omega arith

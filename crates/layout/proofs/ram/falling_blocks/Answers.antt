@@ -1,7 +1,0 @@
-use Rattle.std.proofs.Common.{◌∙◌, ap}
-use Rattle.std.proofs.lemmas.Result.{IfOk-weaker}
-use Rattle.plan_model.specs.RamBlocks as parts
-use Rattle.layout.proofs.ram.falling_blocks.Goals as goal
-
-pub returns : goal.returns
-returns c = IfOk-weaker c.falling.result _ _ (λ bs h. h ∙ ap parts.falling c.in_ok-ram_blocks.ensures) c.falling.ensures

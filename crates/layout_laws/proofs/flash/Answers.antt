@@ -1,5 +1,0 @@
-use Rattle.layout_laws.proofs.FlashBlocks.{flash_is_laid}
-use Rattle.layout_laws.proofs.flash.Goals as goal
-
-pub returns : goal.returns
-returns c = flash_is_laid

@@ -1,5 +1,0 @@
-use Rattle.layout_laws.proofs.RamApart.{ram_is_apart}
-use Rattle.layout_laws.proofs.ram.Goals as goal
-
-pub returns : goal.returns
-returns c = ram_is_apart

@@ -1,5 +1,0 @@
-use Rattle.layout_laws.proofs.StackBase.{stack_is_lowest}
-use Rattle.layout_laws.proofs.stack.Goals as goal
-
-pub returns : goal.returns
-returns c = stack_is_lowest

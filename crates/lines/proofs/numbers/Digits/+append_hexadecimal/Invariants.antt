@@ -1,4 +1,0 @@
-use Rattle.lines.proofs.numbers.Digits.+append_hexadecimal.Given as goal
-
-abbrev pub decreases-append_hexadecimal : goal.decreases-append_hexadecimal
-decreases-append_hexadecimal l = l.count

@@ -1,8 +1,0 @@
-use Rattle.std.proofs.Common.{◌≡◌, take}
-use Rattle.code_model.specs.CompartmentCode.{members_from}
-use Rattle.link_entries.specs.Bases.{filled_total}
-use Rattle.link_entries.proofs.entries.bytes_before.Given as goal
-
-abbrev pub invariant-loop-other : goal.invariant-loop-other
-invariant-loop-other l =
-    l.total ≡ filled_total l.sizes (members_from 0 (take l.other l.compartments) l.compartment)

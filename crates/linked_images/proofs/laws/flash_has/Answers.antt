@@ -1,9 +1,0 @@
-use Rattle.linked_images.proofs.Facts.{PlanLaws}
-use Rattle.linked_images.proofs.ReadBack.{ReadLaws, page_byte, area_word, code_byte}
-use Rattle.linked_images.proofs.laws.flash_has.Goals as goal
-
-pub returns : goal.returns
-returns c =
-    let plans : PlanLaws = record { flash = c.flash.ensures; apart = c.ram.ensures; there = c.places.ensures.there; inside = c.places.ensures.inside } in
-    let law : ReadLaws = record { plans = plans; code = c.compartments.ensures; counts = c.counts.ensures; pages = c.page_is_full.ensures.full } in
-    record { page = page_byte law; words = area_word law; code = code_byte law }

@@ -1,8 +1,0 @@
-use Rattle.linked_images.proofs.Facts.{PlanLaws}
-use Rattle.linked_images.proofs.Ranges.{ranges_are_apart}
-use Rattle.linked_images.proofs.laws.ranges.Goals as goal
-
-pub returns : goal.returns
-returns c =
-    let law : PlanLaws = record { flash = c.flash.ensures; apart = c.ram.ensures; there = c.places.ensures.there; inside = c.places.ensures.inside } in
-    λ w n f b ok. ranges_are_apart law w n f b ok

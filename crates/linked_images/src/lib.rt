@@ -1,4 +1,0 @@
-//! Laws of the images of planned firmwares.
-#![tactic(auto)]
-
-pub mod laws;

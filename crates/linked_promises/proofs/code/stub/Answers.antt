@@ -1,8 +1,0 @@
-use Rattle.linked_images.proofs.Facts.{PlanLaws}
-use Rattle.linked_promises.proofs.StubPlace.{stub_is_placed}
-use Rattle.linked_promises.proofs.code.stub.Goals as goal
-
-pub returns : goal.returns
-returns c =
-    let plans : PlanLaws = record { flash = c.flash.ensures; apart = c.ram.ensures; there = c.places.ensures.there; inside = c.places.ensures.inside } in
-    stub_is_placed plans c.page_is_full.ensures.fits c.page_is_full.ensures.stub

@@ -1,5 +1,0 @@
-use Rattle.linked_promises.proofs.CodeBlocks.{code_is_placed}
-use Rattle.linked_promises.proofs.laws.code.Goals as goal
-
-pub returns : goal.returns
-returns c = code_is_placed (record { flash = c.flash.ensures; apart = c.ram.ensures; there = c.places.ensures.there; inside = c.places.ensures.inside }) c.regions_hold_their_blocks.ensures

@@ -1,5 +1,0 @@
-use Rattle.linked_promises.proofs.Memory.{memory_is_laid}
-use Rattle.linked_promises.proofs.laws.memory.Goals as goal
-
-pub returns : goal.returns
-returns c = memory_is_laid (record { flash = c.flash.ensures; apart = c.ram.ensures; there = c.places.ensures.there; inside = c.places.ensures.inside })

@@ -1,5 +1,0 @@
-use Rattle.linked_promises.proofs.Rules.{memory_obeys_rules}
-use Rattle.linked_promises.proofs.regions.memory.Goals as goal
-
-pub returns : goal.returns
-returns c = memory_obeys_rules c.images.ensures c.memory.ensures

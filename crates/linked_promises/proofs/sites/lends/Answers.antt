@@ -1,5 +1,0 @@
-use Rattle.linked_promises.proofs.LendsPass.{lends_pass}
-use Rattle.linked_promises.proofs.sites.lends.Goals as goal
-
-pub returns : goal.returns
-returns c = lends_pass c.sizes.ensures

@@ -1,5 +1,0 @@
-use Rattle.lower_laws.proofs.Functions.{functions_reach}
-use Rattle.lower_laws.proofs.laws.functions.Goals as goal
-
-pub returns : goal.returns
-returns c = functions_reach c.sizes.ensures.hold

@@ -1,7 +1,0 @@
-mod Lists
-mod Loaded
-mod Machines
-mod MachineRuns
-mod Standing
-pub mod Selected
-pub mod StepAnswers

@@ -1,4 +1,0 @@
-use Rattle.machine.proofs.exceptions.+read_words.Given as goal
-
-abbrev pub decreases-read_words : goal.decreases-read_words
-decreases-read_words l = l.count

@@ -1,4 +1,0 @@
-use Rattle.machine.proofs.parts.Parts.+get_words.Given as goal
-
-abbrev pub decreases-get_words : goal.decreases-get_words
-decreases-get_words l = l.count

@@ -1,5 +1,0 @@
-pub mod Parts
-pub mod Accesses
-pub mod Fetches
-pub mod Machine
-pub mod Reads

@@ -1,9 +1,0 @@
--- All bytes of an aligned access pass the same tests of ranges.
-use Rattle.mem_bus.proofs.Placed.{place_further, place-nowhere}
-use Rattle.mem_bus.proofs.laws.accesses.Goals as goal
-
-pub returns-clause-bytes : goal.returns-clause-bytes
-returns-clause-bytes c = place_further
-
-pub returns-clause-nowhere : goal.returns-clause-nowhere
-returns-clause-nowhere c = place-nowhere

@@ -1,8 +1,0 @@
-mod Wide
-mod Lent
-mod Scan
-mod Emulated
-mod FaultList
-pub mod Encodings
-mod FaultCode
-mod FaultLaw

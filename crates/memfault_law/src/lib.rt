@@ -1,4 +1,0 @@
-//! What the handler of MemManage leaves, as a theorem.
-#![tactic(auto)]
-
-pub mod faults;

@@ -1,5 +1,0 @@
-use Rattle.memory_stays.proofs.WrongMonitors.{not_beyond_the_stack}
-use Rattle.memory_stays.proofs.refused.starts_beyond_the_stack.Goals as goal
-
-pub returns : goal.returns
-returns c = not_beyond_the_stack

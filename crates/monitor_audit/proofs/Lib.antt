@@ -1,0 +1,10 @@
+mod AuditTurns
+mod Reached
+mod Counted
+mod Answered
+mod Reading
+mod Checking
+mod Finding
+mod Made
+mod CheckTurns
+mod Eighths

@@ -1,8 +1,0 @@
-use Rattle.monitor_examples.proofs.SmallLists.{computes_steps, computes_code}
-use Rattle.monitor_examples.proofs.steps.small_lists.Goals as goal
-
-pub returns-clause-effects : goal.returns-clause-effects
-returns-clause-effects c = computes_steps
-
-pub returns-clause-code : goal.returns-clause-code
-returns-clause-code c = computes_code

@@ -1,0 +1,24 @@
+pub mod Mode
+pub mod Encodable
+pub mod Blocks
+pub mod Frames
+pub mod Entry
+pub mod Returned
+mod Wide
+mod Lent
+mod Scan
+mod Emulated
+mod FaultList
+pub mod Encodings
+mod FaultCode
+mod FaultLaw
+pub mod SvcEncoded
+mod SvcCode
+mod Targets
+mod Enter
+mod Memories
+mod Calling
+mod Crossing
+mod Numbers
+mod Bus
+mod Law

@@ -1,0 +1,11 @@
+use Rattle.std.proofs.Common.{◌∙◌}
+use Rattle.monitor_lists.proofs.opening.record_of.Goals as goal
+
+pub returns : goal.returns
+returns c = λ rest.
+    c.in_ok-alu-2.ensures rest
+    ∙ c.in_ok-constant-3.ensures _
+    ∙ c.in_ok-alu.ensures _
+    ∙ c.in_ok-constant-2.ensures _
+    ∙ c.in_ok-times.ensures _
+    ∙ c.in_ok-constant.ensures _

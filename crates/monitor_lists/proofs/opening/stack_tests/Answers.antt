@@ -1,0 +1,14 @@
+use Rattle.std.proofs.Common.{◌∙◌}
+use Rattle.monitor_lists.proofs.opening.stack_tests.Goals as goal
+
+pub returns : goal.returns
+returns c = λ rest.
+    c.in_ok-must-3.ensures rest
+    ∙ c.in_ok-constant-3.ensures _
+    ∙ c.in_ok-alu.ensures _
+    ∙ c.in_ok-must-2.ensures _
+    ∙ c.in_ok-load_word.ensures _
+    ∙ c.in_ok-must.ensures _
+    ∙ c.in_ok-constant-2.ensures _
+    ∙ c.in_ok-constant.ensures _
+    ∙ c.in_ok-read_psp.ensures _

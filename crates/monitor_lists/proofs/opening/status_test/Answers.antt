@@ -1,0 +1,10 @@
+use Rattle.std.proofs.Common.{◌∙◌}
+use Rattle.monitor_lists.proofs.opening.status_test.Goals as goal
+
+pub returns : goal.returns
+returns c = λ rest.
+    c.in_ok-must.ensures rest
+    ∙ c.in_ok-constant-2.ensures _
+    ∙ c.in_ok-alu.ensures _
+    ∙ c.in_ok-constant.ensures _
+    ∙ c.in_ok-load_word.ensures _

@@ -1,0 +1,15 @@
+use Rattle.std.proofs.Common.{◌∙◌}
+use Rattle.monitor_lists.proofs.reset.first_regions.Goals as goal
+
+pub returns : goal.returns
+returns c = λ rest.
+    c.in_ok-store_word-4.ensures rest
+    ∙ c.in_ok-constant-5.ensures _
+    ∙ c.in_ok-store_word-3.ensures _
+    ∙ c.in_ok-constant-4.ensures _
+    ∙ c.in_ok-store_word-2.ensures _
+    ∙ c.in_ok-constant-3.ensures _
+    ∙ c.in_ok-store_word.ensures _
+    ∙ c.in_ok-constant-2.ensures _
+    ∙ c.in_ok-constant.ensures _
+    ∙ c.in_ok-copy.ensures _

@@ -1,0 +1,18 @@
+use Rattle.std.proofs.Common.{◌∙◌}
+use Rattle.monitor_lists.proofs.svc.lend_entry.Goals as goal
+
+pub returns : goal.returns
+returns c = λ rest.
+    c.in_ok-store_word-4.ensures rest
+    ∙ c.in_ok-alu-7.ensures _
+    ∙ c.in_ok-constant-2.ensures _
+    ∙ c.in_ok-store_word-3.ensures _
+    ∙ c.in_ok-store_word-2.ensures _
+    ∙ c.in_ok-alu-6.ensures _
+    ∙ c.in_ok-store_word.ensures _
+    ∙ c.in_ok-alu-5.ensures _
+    ∙ c.in_ok-constant.ensures _
+    ∙ c.in_ok-alu-4.ensures _
+    ∙ c.in_ok-alu-3.ensures _
+    ∙ c.in_ok-alu-2.ensures _
+    ∙ c.in_ok-alu.ensures _

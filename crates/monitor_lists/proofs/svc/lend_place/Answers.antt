@@ -1,0 +1,16 @@
+use Rattle.std.proofs.Common.{◌∙◌}
+use Rattle.monitor_lists.proofs.svc.lend_place.Goals as goal
+
+pub returns : goal.returns
+returns c = λ rest.
+    c.in_ok-must-3.ensures rest
+    ∙ c.in_ok-alu-5.ensures _
+    ∙ c.in_ok-must-2.ensures _
+    ∙ c.in_ok-must.ensures _
+    ∙ c.in_ok-alu-4.ensures _
+    ∙ c.in_ok-constant-2.ensures _
+    ∙ c.in_ok-load_word.ensures _
+    ∙ c.in_ok-alu-3.ensures _
+    ∙ c.in_ok-constant.ensures _
+    ∙ c.in_ok-alu-2.ensures _
+    ∙ c.in_ok-alu.ensures _

@@ -1,0 +1,24 @@
+mod Permits
+mod ThreadLaws
+mod Direct
+mod Memory
+mod Outcomes
+mod Behind
+pub mod Room
+mod Returns
+mod Frames
+mod Lent
+mod WholeLaw
+mod Places
+mod Resumed
+mod CallRules
+mod Enter
+mod Leave
+mod Loans
+mod Copied
+mod Starting
+mod Serve
+mod ShortOfStack
+mod Audited
+mod Stub
+mod Composed

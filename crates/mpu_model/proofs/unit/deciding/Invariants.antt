@@ -1,6 +1,0 @@
-use Rattle.std.proofs.Common.{◌≡◌, take}
-use Rattle.mpu_model.specs.Protection.{deciding}
-use Rattle.mpu_model.proofs.unit.deciding.Given as goal
-
-abbrev pub invariant-loop-region : goal.invariant-loop-region
-invariant-loop-region l = l.found ≡ deciding (take l.region-index l.regions) l.addr

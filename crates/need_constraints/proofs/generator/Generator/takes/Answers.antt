@@ -1,0 +1,19 @@
+use Rattle.std.proofs.Common.{◌≡◌, refl, true, false, arith}
+use Rattle.std.proofs.lemmas.Result.{on_ok_weaker}
+use Rattle.ir_model.specs.Types.{type_of}
+use Rattle.need_sets.specs.Nodes.{node_by}
+use Rattle.need_sets.specs.declared.rules.Trigger.TheVariants as trigger
+use Rattle.need_sets.specs.Demands.{TakesFrom}
+use Rattle.need_sets.specs.Gathered.{Asks}
+use Rattle.need_constraints.proofs.Gathering.{gathers_carried, gathers_idle}
+use Rattle.need_constraints.proofs.generator.Generator.takes.Goals as goal
+
+pub returns-then-not-carried : goal.returns-then-not-carried
+returns-then-not-carried c =
+    let b : c.args.carried ≡ false = grind arith in
+    gathers_idle c.args.self.now.numbering c.args.rules.now c.args.carried (TakesFrom (node_by c.args.pointer.now) (type_of c.args.ty.now) (node_by c.args.to.now)) b
+
+pub returns : goal.returns
+returns c =
+    let b : c.args.carried ≡ true = grind arith in
+    on_ok_weaker c.add_trigger.result (λ a. gathers_carried c.args.self.now.numbering c.args.rules.now c.add_trigger.new.rules c.args.carried (TakesFrom (node_by c.args.pointer.now) (type_of c.args.ty.now) (node_by c.args.to.now)) (Asks c.in_ok-pointer.pointer (trigger.Outcome c.args.ty c.in_ok-to.to)) b (c.in_ok-pointer.ensures, c.in_ok-to.ensures, refl) a) c.add_trigger.ensures

@@ -1,0 +1,8 @@
+pub mod Rules
+pub mod Demands
+pub mod Gathered
+pub mod Solutions
+pub mod Tables
+pub mod Nodes
+pub mod Numbers
+pub mod Sets

@@ -1,0 +1,123 @@
+//! The numbers of nodes and objects.
+
+ghost use Rattle.std.specs.Prelude.{◌≡◌, ◌+◌, ◌<◌, length, IfOk, OnOk};
+ghost use Rattle.std.specs.List.{sum};
+ghost use Rattle.need_numbers.specs.Groups.{place_of, start_of};
+ghost use Rattle.ir_model.specs.Objects.{object_by};
+ghost use Rattle.need_sets.specs.Nodes.{node_by};
+ghost use Rattle.need_sets.specs.Numbers.{object_number, node_number, IsTable};
+
+use crate::node::Node;
+use ir_model::object::ObjId;
+use need_numbers::Groups;
+use std::alloc::{AllocError, Global};
+
+/// How nodes and objects are numbered: objects in their order, and nodes with the registers of all functions first, then
+/// the contents of the objects, then the results of the functions.
+#[derive(Drop)]
+pub struct Numbering {
+    /// How many functions there are.
+    pub funcs: u32,
+    /// The objects in groups: globals, peripherals, the locals of each function, functions.
+    pub objects: Groups,
+    /// The nodes in groups: the registers of each function, contents, results.
+    pub nodes: Groups,
+}
+
+impl Numbering {
+    fn item(&self, group: usize, item: u32) -> ObjId
+        requires { group < 3 + self.now.funcs }
+        ensures { object_number self.now (object_by result) ≡ place_of self.now.objects group item }
+    {
+        match group {
+            0 => ObjId::Global(item),
+            1 => ObjId::Periph(item),
+            _ => {
+                let func = group - 2;
+                if func < self.funcs as usize {
+                    ObjId::Local {
+                        func: func as u32,
+                        local: item,
+                    }
+                } else {
+                    ObjId::Func(item)
+                }
+            }
+        }
+    }
+
+    fn put_items(&self, table: &mut Vec<ObjId>, group: usize) -> Result<(), AllocError>
+        requires group { group < 3 + self.now.funcs }
+        requires count { length table.old.items ≡ start_of self.now.objects group }
+        requires table { IsTable self.now table.old.items }
+        ensures count { OnOk result (length table.new.items ≡ start_of self.now.objects (group + 1)) }
+        ensures table { OnOk result (IsTable self.now table.new.items) }
+    {
+        for item in 0..self.objects.count(group) {
+            table.push(self.item(group, item))?;
+        }
+        Ok(())
+    }
+
+    /// All objects, each at the place of its number.
+    ///
+    /// # Errors
+    ///
+    /// There is no memory for them.
+    pub fn all_objects(&self, alloc: Global) -> Result<Vec<ObjId>, AllocError>
+        requires { length self.now.objects ≡ 3 + self.now.funcs }
+        ensures count { IfOk result (λ table. length table.items ≡ sum self.now.objects) }
+        ensures table { IfOk result (λ table. IsTable self.now table.items) }
+    {
+        let mut table = Vec::new(alloc);
+        for group in 0..self.objects.len() {
+            self.put_items(&mut table, group)?;
+        }
+        Ok(table)
+    }
+
+    /// The number of an object; none where it is not there.
+    pub fn object(&self, object: &ObjId) -> Option<u32>
+        ensures { result ≡ object_number self.now (object_by object.now) }
+    {
+        match *object {
+            ObjId::Global(global) => self.objects.place(0, global),
+            ObjId::Periph(periph) => self.objects.place(1, periph),
+            ObjId::Local { func, local } => {
+                if func < self.funcs {
+                    self.objects.place(2 + func as usize, local)
+                } else {
+                    None
+                }
+            }
+            ObjId::Func(func) => self.objects.place(2 + self.funcs as usize, func),
+        }
+    }
+
+    /// The number of the node that is the content of an object, by the object's number; none where the object is not there.
+    pub fn content(&self, object: u32) -> Option<u32>
+        ensures { result ≡ place_of self.now.nodes self.now.funcs object }
+    {
+        self.nodes.place(self.funcs as usize, object)
+    }
+
+    /// The number of a node; none where it is not there.
+    pub fn node(&self, node: &Node) -> Option<u32>
+        ensures { result ≡ node_number self.now (node_by node.now) }
+    {
+        match node {
+            Node::Reg { func, reg } => {
+                if *func < self.funcs {
+                    self.nodes.place(*func as usize, *reg)
+                } else {
+                    None
+                }
+            }
+            Node::Content(object) => {
+                let number = self.object(object)?;
+                self.nodes.place(self.funcs as usize, number)
+            }
+            Node::Result(func) => self.nodes.place(1 + self.funcs as usize, *func),
+        }
+    }
+}

@@ -1,0 +1,22 @@
+use Rattle.std.proofs.Common.{ℕ}
+use Rattle.std.specs.List.{flat_map}
+use Rattle.ir_model.specs.Resolved.{block_at}
+use Rattle.ir_program.specs.Seen.{program_of}
+use Rattle.plan_model.specs.Lists.{numbers_below}
+use Rattle.plan_model.specs.Calls.{calls_from}
+use Rattle.needs.proofs.Walked.{adds_none, adds_more, same_adds}
+use Rattle.needs.proofs.sites.push_sites.Goals as goal
+use Rattle.plan_model.proofs.Numbers.{flat_numbers}
+
+pub loop-block-init : goal.loop-block-init
+loop-block-init c = λ S h. adds_none (program_of c.args.program.now) S c.args.sites.now.items
+
+pub loop-block-preserved : goal.loop-block-preserved
+loop-block-preserved c = λ S h.
+    let p = program_of c.args.program.now in
+    let f = c.args.func in
+    let b = c.loop-block.block in
+    same_adds p S c.args.sites.now.items c.push_block_sites.new.sites.items _ _ (flat_numbers (λ (x : ℕ). calls_from f x 0 (block_at p f x).insts) b)
+    (adds_more p S c.args.sites.now.items c.loop-block.sites.items c.push_block_sites.new.sites.items
+    (flat_map (λ (x : ℕ). calls_from f x 0 (block_at p f x).insts) (numbers_below b)) (calls_from f b 0 (block_at p f b).insts)
+    (c.loop-block.invariant S h) (c.in_ok-push_block_sites.ensures S h))

@@ -1,9 +1,0 @@
-use Rattle.std.proofs.Common.{◌-◌, ◌^◌, ◌≤◌, length, take}
-use Rattle.numbered_lists.specs.Stretches.{AreBitsOf}
-use Rattle.numbered_lists.proofs.bits.bits_of.Given as goal
-
-abbrev pub invariant-loop-number : goal.invariant-loop-number
-invariant-loop-number l = record { bits : AreBitsOf (take l.place l.numbers) l.words.items; upto : l.place ≤ length l.numbers }
-
-abbrev pub decreases-loop-number : goal.decreases-loop-number
-decreases-loop-number l = 2 ^ 32 - l.place

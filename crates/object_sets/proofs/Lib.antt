@@ -1,4 +1,0 @@
-mod Equal
-pub mod Members
-pub mod Orders
-mod Shares

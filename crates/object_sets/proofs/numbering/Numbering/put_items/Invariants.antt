@@ -1,7 +1,0 @@
-use Rattle.std.proofs.Common.{◌≡◌, ◌+◌, length}
-use Rattle.numbered_lists.specs.Groups.{start_of}
-use Rattle.object_sets.specs.Numbers.{IsTable}
-use Rattle.object_sets.proofs.numbering.Numbering.put_items.Given as goal
-
-abbrev pub invariant-loop-item : goal.invariant-loop-item
-invariant-loop-item l = record { count : length l.table.items ≡ start_of l.self.objects l.group + l.item; table : IsTable l.self l.table.items }

@@ -1,4 +1,0 @@
-mod Alike
-mod ReadAlike
-mod ChecksAlike
-pub mod Stays

@@ -1,2 +1,0 @@
-pub mod OtherCode
-pub mod Laws

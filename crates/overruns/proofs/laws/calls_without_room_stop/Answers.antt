@@ -1,7 +1,0 @@
-use Rattle.monitor.specs.Invariant.{Invariant}
-use Rattle.monitor.specs.Setting.{setting_of}
-use Rattle.overruns.proofs.Stops.{call_stops}
-use Rattle.overruns.proofs.laws.calls_without_room_stop.Goals as goal
-
-pub returns : goal.returns
-returns c code i t law rules stack = call_stops (setting_of code i t) (Invariant i t) law rules stack

@@ -1,5 +1,0 @@
-use Rattle.ownership.proofs.Exact.{add_up, are_unneeded}
-use Rattle.ownership.proofs.laws.exposures_are_exact.Goals as goal
-
-pub returns : goal.returns
-returns c s k = (add_up s k, are_unneeded s k)

@@ -1,5 +1,0 @@
-pub mod Ties
-pub mod Exposed
-pub mod Calls
-pub mod WhoLines
-pub mod Laws

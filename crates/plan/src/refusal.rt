@@ -1,0 +1,81 @@
+//! Why a firmware is not planned for a board.
+
+ghost use Rattle.std.specs.Prelude.{◌≡◌};
+ghost use Rattle.plan.specs.Refusals.{of_place};
+
+use plan_denials::Meeting;
+use plan_layout::refusal::PlaceRefusal;
+use plan_model::limits::LimitKind;
+use std::alloc::AllocError;
+
+/// Why a firmware is not planned for a board: limits are tested first, then what the board denies, then flash, then RAM.
+#[derive(Clone, Copy, PartialEq, Eq, Debug)]
+pub enum PlanningRefusal {
+    /// Memory ran out, or a number passes 32 bits, as none of a checked firmware does.
+    NoMemory,
+    /// A limit of what is compiled is passed.
+    Limit {
+        /// The first that is.
+        which: LimitKind,
+        /// The count that passes it.
+        count: u32,
+    },
+    /// A range of addresses that the firmware asks for meets one that the board denies: the first that does.
+    Denied(Meeting),
+    /// The blocks of flash have more bytes than flash.
+    Flash {
+        /// The first compartment with the largest code block.
+        compartment: Option<u32>,
+        /// The bytes of the blocks.
+        needed: u64,
+        /// The bytes of flash.
+        available: u64,
+    },
+    /// The blocks of RAM outside tails have more bytes than RAM.
+    Ram {
+        /// The lowest user of the first data region with the largest block.
+        compartment: Option<u32>,
+        /// The bytes of the blocks outside tails.
+        needed: u64,
+        /// The bytes of RAM.
+        available: u64,
+    },
+}
+
+impl From<AllocError> for PlanningRefusal {
+    ghost use Rattle.std.specs.Prelude.{◌≡◌};
+    ghost use Rattle.plan.specs.declared.refusal.PlanningRefusal.TheVariants.{NoMemory};
+
+    ghost from_gives = { λ _ e. e ≡ NoMemory };
+
+    fn from(_: AllocError) -> Self {
+        PlanningRefusal::NoMemory
+    }
+}
+
+/// The refusal of placement as one of planning.
+pub(crate) fn unplaced(refusal: PlaceRefusal) -> PlanningRefusal
+    ensures { result ≡ of_place refusal }
+{
+    match refusal {
+        PlaceRefusal::NoMemory => PlanningRefusal::NoMemory,
+        PlaceRefusal::Flash {
+            compartment,
+            needed,
+            available,
+        } => PlanningRefusal::Flash {
+            compartment,
+            needed,
+            available,
+        },
+        PlaceRefusal::Ram {
+            compartment,
+            needed,
+            available,
+        } => PlanningRefusal::Ram {
+            compartment,
+            needed,
+            available,
+        },
+    }
+}

@@ -1,4 +1,0 @@
-pub mod Blocks
-pub mod PlanRules
-pub mod PlanTold
-pub mod Texts

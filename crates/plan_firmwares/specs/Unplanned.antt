@@ -1,0 +1,25 @@
+-- Why a firmware has no plan for a board by a policy.
+use Rattle.plan_model.specs.declared.policy.Policy.{Policy}
+use Rattle.ir_model.specs.Plain.{PlainFirmware}
+use Rattle.ir_model.specs.Resolve.{resolve}
+use Rattle.plan_model.specs.declared.needs.Needs.{Needs}
+use Rattle.plan_model.specs.declared.plan.Board.{Board}
+use Rattle.plan_compartments.specs.Analyses.{AreNeedsOf}
+use Rattle.plan_compartments.specs.Divisions.{division}
+use Rattle.plan.specs.declared.refusal.PlanningRefusal.{PlanningRefusal}
+use Rattle.plan.specs.declared.refusal.PlanningRefusal.TheVariants.{NoMemory, Limit, Denied, Flash, Ram}
+use Rattle.plan.specs.Refusals.{IsPlanningRefusal}
+
+-- in the compartments of the policy, by the needs on a board of its kind, there is no plan, for this
+pub record IsRefusedBy (policy : Policy) (w : PlainFirmware) (b : Board) (r : PlanningRefusal) : Type 0 where
+  pub needs : Needs
+  pub are_needs : AreNeedsOf w b.closed needs
+  pub refused : IsPlanningRefusal (resolve w) needs (division policy w needs) b r
+
+-- a refusal for want of memory says nothing else
+abbrev pub IsUnplanned : Policy → PlainFirmware → Board → PlanningRefusal → Type 0
+IsUnplanned policy w b NoMemory = Unit {0}
+IsUnplanned policy w b (Limit k c) = IsRefusedBy policy w b (Limit k c)
+IsUnplanned policy w b (Denied m) = IsRefusedBy policy w b (Denied m)
+IsUnplanned policy w b (Flash c m a) = IsRefusedBy policy w b (Flash c m a)
+IsUnplanned policy w b (Ram c m a) = IsRefusedBy policy w b (Ram c m a)

@@ -1,0 +1,6 @@
+use Rattle.std.proofs.Common.{◌≡◌, take, max}
+use Rattle.std.specs.List.{fold}
+use Rattle.plan_layout.proofs.numbers.greatest.Given as goal
+
+abbrev pub invariant-loop-number : goal.invariant-loop-number
+invariant-loop-number l = l.most ≡ fold max 0 (take l.number-index l.numbers)

@@ -1,0 +1,7 @@
+mod Told
+pub mod Growing
+mod Named
+mod Firsts
+mod Spans
+mod Gaps
+mod Exact

@@ -1,4 +1,0 @@
-mod Checked
-mod Stacks
-mod Linking
-mod Composed

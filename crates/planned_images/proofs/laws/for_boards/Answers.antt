@@ -1,5 +1,0 @@
-use Rattle.planned_images.proofs.Stacks.{are_for_boards}
-use Rattle.planned_images.proofs.laws.for_boards.Goals as goal
-
-pub returns : goal.returns
-returns c = are_for_boards (record { flash = c.flash.ensures; apart = c.ram.ensures; there = c.places.ensures.there; inside = c.places.ensures.inside })

@@ -1,7 +1,0 @@
-use Rattle.planned_images.proofs.Composed.{refine_firmwares}
-use Rattle.planned_images.proofs.laws.refined.Goals as goal
-
-pub returns : goal.returns
-returns c =
-    refine_firmwares (record { flash = c.flash.ensures; apart = c.ram.ensures; there = c.places.ensures.there; inside = c.places.ensures.inside })
-    c.sound.ensures c.images.ensures c.linked.ensures c.kind.ensures c.ranges-2.ensures c.sound_images_serve_simulation.ensures c.refinement.ensures

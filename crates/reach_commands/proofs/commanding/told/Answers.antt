@@ -1,6 +1,0 @@
-use Rattle.ir_model.specs.Plain.{firmware_of}
-use Rattle.reach_commands.specs.Answers.{told}
-use Rattle.reach_commands.proofs.commanding.told.Goals as goal
-
-pub returns-clause-ok : goal.returns-clause-ok
-returns-clause-ok c = told (firmware_of c.in_ok-checked.checked) c.in_ok-lines.lines.items c.in_ok-checked.ensures.ok c.in_ok-lines.ensures

@@ -1,3 +1,0 @@
-mod Numbering
-mod Found
-mod Whole

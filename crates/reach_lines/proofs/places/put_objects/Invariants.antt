@@ -1,7 +1,0 @@
-use Rattle.std.proofs.Common.{◌≡◌, ◌++◌, flat_map, take}
-use Rattle.ir_model.specs.Plain.{firmware_of}
-use Rattle.reach_lines.specs.Lines.{object_text}
-use Rattle.reach_lines.proofs.places.put_objects.Given as goal
-
-abbrev pub invariant-loop-i : goal.invariant-loop-i
-invariant-loop-i l = l.text ≡ l.initial.text ++ flat_map (object_text (firmware_of l.firmware)) (take l.i l.objects)

@@ -1,8 +1,0 @@
-use Rattle.std.proofs.Common.{◌≡◌, true, take}
-use Rattle.std.specs.List.{list_all}
-use Rattle.ir_program.specs.Seen.{program_of}
-use Rattle.reach_lines.specs.Warnings.{is_constant}
-use Rattle.reach_lines.proofs.warnings.are_constants.Given as goal
-
-abbrev pub invariant-loop-i : goal.invariant-loop-i
-invariant-loop-i l = list_all (is_constant (program_of l.program)) (take l.i l.objects) ≡ true

@@ -1,9 +1,0 @@
-use Rattle.std.proofs.Common.{◌≡◌, ◌++◌, map, take}
-use Rattle.ir_program.specs.Seen.{span_of}
-use Rattle.reach_lines.specs.Warnings.{periph_line}
-use Rattle.reach_lines.specs.Numbered.{numbered}
-use Rattle.reach_lines.specs.Subjects.{subject_of}
-use Rattle.reach_lines.proofs.warnings.put_periphs.Given as goal
-
-abbrev pub invariant-loop-periph : goal.invariant-loop-periph
-invariant-loop-periph l = l.text ≡ l.initial.text ++ numbered (periph_line (subject_of l.subject)) 0 (map span_of (take l.periph l.periphs))

@@ -1,0 +1,13 @@
+use Rattle.monitor_confined.proofs.Reaches.{UnitLaws}
+use Rattle.refine.proofs.Guarding.{guards_serve}
+use Rattle.refine.proofs.overruns.guards_serve.Goals as goal
+
+pub returns : goal.returns
+returns c =
+    let laws : UnitLaws = record {
+      permit = c.kept_lists_decide.ensures.unprivileged;
+      opened = c.open_eighths_are_held.ensures.held;
+      rights = c.regions_give_their_rights.ensures;
+      held = c.regions_hold_their_blocks.ensures;
+    } in
+    guards_serve laws c.calls_run_short.ensures

@@ -1,0 +1,16 @@
+pub mod NeverWrong
+pub mod Ends
+pub mod Guard
+pub mod Entries
+pub mod Entered
+pub mod Called
+pub mod Refinement
+pub mod SourceLaws
+pub mod Builds
+pub mod Relation
+pub mod Linked
+pub mod Cases
+pub mod Serving
+pub mod CodeLaws
+pub mod Owned
+pub mod Areas

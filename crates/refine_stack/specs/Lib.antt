@@ -1,0 +1,9 @@
+pub mod Listed
+pub mod Taken
+pub mod Far
+pub mod Worst
+pub mod Found
+pub mod Paths
+pub mod Cycles
+pub mod Bounds
+pub mod Answers

@@ -1,5 +1,0 @@
-mod Counts
-mod Given
-mod Runs
-mod Whole
-mod Images

@@ -1,5 +1,0 @@
-use Rattle.refinement.proofs.Images.{images_refine}
-use Rattle.refinement.proofs.laws.refinement.Goals as goal
-
-pub returns : goal.returns
-returns c = images_refine c.code.ensures c.sources.ensures

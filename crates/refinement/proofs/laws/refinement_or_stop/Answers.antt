@@ -1,5 +1,0 @@
-use Rattle.refinement.proofs.Images.{images_refine_or_stop}
-use Rattle.refinement.proofs.laws.refinement_or_stop.Goals as goal
-
-pub returns : goal.returns
-returns c = images_refine_or_stop c.code.ensures c.sources.ensures

@@ -1,4 +1,0 @@
-pub mod Builds
-pub mod Relation
-pub mod Linked
-pub mod Cases

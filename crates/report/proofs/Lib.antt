@@ -1,6 +1,0 @@
-pub mod Growing
-mod Named
-mod Firsts
-mod Spans
-mod Gaps
-mod Exact

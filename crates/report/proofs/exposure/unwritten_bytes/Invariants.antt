@@ -1,8 +1,0 @@
-use Rattle.std.proofs.Common.{◌≡◌, take}
-use Rattle.ir_program.specs.Seen.{program_of}
-use Rattle.plan_model.specs.Regions.{size_of}
-use Rattle.plan_model.specs.Exposure.{never_written}
-use Rattle.report.proofs.exposure.unwritten_bytes.Given as goal
-
-abbrev pub invariant-loop-i : goal.invariant-loop-i
-invariant-loop-i l = l.bytes ≡ size_of (program_of l.subject.program.now) (never_written l.subject.needs.now l.subject.graph.now.groups l.compartment (record l.region { globals = take l.i l.region.globals }))

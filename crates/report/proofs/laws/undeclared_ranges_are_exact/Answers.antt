@@ -1,5 +1,0 @@
-use Rattle.report.proofs.Exact.{undeclared_ranges_are_exact}
-use Rattle.report.proofs.laws.undeclared_ranges_are_exact.Goals as goal
-
-pub returns : goal.returns
-returns c = undeclared_ranges_are_exact

@@ -1,7 +1,0 @@
-use Rattle.std.proofs.Common.{◌≡◌, false, map, take}
-use Rattle.ir_program.specs.Seen.{span_of}
-use Rattle.report.specs.Undeclared.{is_declared}
-use Rattle.report.proofs.undeclared.behind.Given as goal
-
-abbrev pub invariant-loop-i : goal.invariant-loop-i
-invariant-loop-i l = is_declared (map span_of (take l.i l.spans)) l.address ≡ false

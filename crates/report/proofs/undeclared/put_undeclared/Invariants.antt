@@ -1,7 +1,0 @@
-use Rattle.std.proofs.Common.{◌≡◌, ◌++◌, flat_map, take}
-use Rattle.report.specs.CompartmentLines.{undeclared_in, covers}
-use Rattle.report.specs.Subjects.{subject_of}
-use Rattle.report.proofs.undeclared.put_undeclared.Given as goal
-
-abbrev pub invariant-loop-i : goal.invariant-loop-i
-invariant-loop-i l = l.text ≡ l.initial.text ++ flat_map (undeclared_in (subject_of l.subject) l.words) (take l.i (covers (subject_of l.subject) l.compartment))

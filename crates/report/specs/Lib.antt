@@ -1,5 +1,0 @@
-pub mod Subjects
-pub mod Names
-pub mod Undeclared
-pub mod CompartmentLines
-pub mod Listing

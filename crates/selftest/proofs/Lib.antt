@@ -1,9 +1,0 @@
-mod Boards
-mod Starts
-mod Image
-mod Ran
-mod Refused
-mod Words
-mod Same
-mod SameEvents
-pub mod Answering

@@ -1,8 +1,0 @@
-use Rattle.std.proofs.Common.{ap, ◌∙◌}
-use Rattle.machine.specs.Machine.{MachineState}
-use Rattle.machine_output.specs.Runs.{fill}
-use Rattle.selftest.proofs.Starts.{machine_goes}
-use Rattle.selftest.proofs.runs.run_image.Goals as goal
-
-pub count_machine-requires : goal.count_machine-requires
-count_machine-requires c = ap (λ (m : MachineState). m.state.ending) c.in_ok-machine.ensures ∙ machine_goes c.args.image.now c.args.tape fill

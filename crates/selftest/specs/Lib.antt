@@ -1,5 +1,0 @@
-pub mod TestBoard
-pub mod Lines
-pub mod Answers
-pub mod Tested
-pub mod Laws

@@ -1,2 +1,0 @@
-mod LocalSizes
-mod SlotNames

@@ -1,3 +1,0 @@
-mod Audited
-mod Stub
-mod Composed

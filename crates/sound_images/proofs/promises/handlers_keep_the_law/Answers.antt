@@ -1,5 +1,0 @@
-use Rattle.sound_images.proofs.Composed.{handlers_keep}
-use Rattle.sound_images.proofs.promises.handlers_keep_the_law.Goals as goal
-
-pub returns : goal.returns
-returns c = handlers_keep c.svc_keeps_the_law.ensures c.faults_keep_the_law.ensures

@@ -1,5 +1,0 @@
-use Rattle.sound_images.proofs.Composed.{laws_confine}
-use Rattle.sound_images.proofs.promises.sound_laws_confine.Goals as goal
-
-pub returns : goal.returns
-returns c = laws_confine c.sound_images_are_placed.ensures c.laws_confine.ensures

@@ -1,5 +1,0 @@
-use Rattle.sound_images.proofs.Composed.{stubs}
-use Rattle.sound_images.proofs.promises.stubs_stand.Goals as goal
-
-pub returns : goal.returns
-returns c = stubs c.sound_images_are_placed.ensures c.instructions.ensures.from_bytes c.page_is_full.ensures.fits c.page_is_full.ensures.stub

@@ -1,4 +1,0 @@
-//! What is promised of sound images, from the laws of handlers: confinement, the access law, and the law of the simulation.
-#![tactic(auto)]
-
-pub mod promises;

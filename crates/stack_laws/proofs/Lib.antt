@@ -1,5 +1,0 @@
-mod Eighths
-mod Loans
-mod Frames
-mod Within
-mod There

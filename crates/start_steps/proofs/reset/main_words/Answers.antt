@@ -1,7 +1,0 @@
-use Rattle.std.proofs.Common.{◌∙◌}
-use Rattle.start_steps.proofs.reset.main_words.Goals as goal
-
-pub returns : goal.returns
-returns c = λ rest.
-    c.in_ok-constant-2.ensures rest
-    ∙ c.in_ok-constant.ensures _

@@ -1,4 +1,0 @@
-//! Start-up as a list of steps.
-#![tactic(auto)]
-
-pub mod reset;

@@ -1,7 +1,0 @@
-use Rattle.std.proofs.Common.{◌≡◌, ◌-◌, ◌++◌, flat_map}
-use Rattle.plan_model.specs.Lists.{numbers_below}
-use Rattle.state_lines.specs.MemoryLines.{call_line}
-use Rattle.state_lines.proofs.blocks.put_calls.Given as goal
-
-abbrev pub invariant-loop-i : goal.invariant-loop-i
-invariant-loop-i l = l.text ≡ l.initial.text ++ flat_map (λ k. call_line l.machine.image l.machine.state l.block (l.count - 1 - k)) (numbers_below l.i)

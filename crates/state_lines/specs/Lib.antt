@@ -1,3 +1,0 @@
-pub mod CoreLines
-pub mod MemoryLines
-pub mod StateLines

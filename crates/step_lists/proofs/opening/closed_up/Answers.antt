@@ -1,8 +1,0 @@
-use Rattle.std.proofs.Common.{◌∙◌}
-use Rattle.gate_steps.specs.Steps.{End}
-use Rattle.step_lists.proofs.opening.closed_up.Goals as goal
-
-pub returns : goal.returns
-returns c =
-    c.in_ok-exception_return.ensures End
-    ∙ c.in_ok-set_control.ensures _

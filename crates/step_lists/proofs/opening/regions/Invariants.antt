@@ -1,9 +1,0 @@
-use Rattle.std.proofs.Common.{◌≡◌, ◌+◌, ◌-◌, ◌*◌}
-use Rattle.gate_steps.specs.Steps.{Steps}
-use Rattle.gate_steps.specs.Lists.{all_before}
-use Rattle.monitor.specs.Opening as opening
-use Rattle.step_lists.proofs.opening.regions.Given as goal
-
-abbrev pub invariant-loop-i : goal.invariant-loop-i
-invariant-loop-i l =
-    (rest : Steps) → all_before l.list.steps.items (opening.regions (l.count - l.i) (l.from + 2 * l.i) rest) ≡ all_before l.initial.list.steps.items (opening.regions l.count l.from rest)

@@ -1,5 +1,0 @@
-use Rattle.symbol_laws.proofs.Functions.{functions}
-use Rattle.symbol_laws.proofs.laws.functions_stand.Goals as goal
-
-pub returns : goal.returns
-returns c = functions c.code.ensures c.code-2.ensures.exact

@@ -1,7 +1,0 @@
-use Rattle.std.proofs.Common.{◌≡◌, ◌++◌, flat_map, take}
-use Rattle.report.specs.Subjects.{subject_of}
-use Rattle.symbols.specs.FunctionLines.{function_line}
-use Rattle.symbols.proofs.function_lines.put_functions.Given as goal
-
-abbrev pub invariant-loop-i : goal.invariant-loop-i
-invariant-loop-i l = l.text ≡ l.initial.text ++ flat_map (function_line (subject_of l.subject)) (take l.i l.functions)

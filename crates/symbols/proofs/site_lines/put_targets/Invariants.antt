@@ -1,7 +1,0 @@
-use Rattle.std.proofs.Common.{◌≡◌, ◌++◌, flat_map, take}
-use Rattle.report.specs.Subjects.{subject_of}
-use Rattle.symbols.specs.SiteLines.{target_text}
-use Rattle.symbols.proofs.site_lines.put_targets.Given as goal
-
-abbrev pub invariant-loop-i : goal.invariant-loop-i
-invariant-loop-i l = l.text ≡ l.initial.text ++ flat_map (target_text (subject_of l.subject)) (take l.i l.funcs)

@@ -1,3 +1,0 @@
-pub mod SlotLines
-pub mod TableLines
-pub mod Laws

@@ -1,0 +1,189 @@
+//! The program that the cases call: the first word says which analysis, the second of which file.
+
+ghost use Rattle.std.specs.Prelude.{◌≡◌, length};
+ghost use Rattle.ir_model.specs.Plain.{firmware_of, funcs_of};
+ghost use Rattle.ir_model.specs.Resolve.{resolve};
+ghost use Rattle.ir_program.specs.Seen.{program_of};
+ghost use Rattle.need_sets.specs.Sets.{sets_of};
+ghost use Rattle.plan_model.specs.PointsTo.{IsLeast};
+
+use crate::boards::board_line;
+use crate::function_needs::put_needs;
+use crate::graphs::{put_graph, put_limit};
+use crate::sets::put_sets;
+use anyhow::{Result, bail};
+use base_outside::{MemFiles, MemSink, Sink, read_whole};
+use ir_check::check;
+use ir_model::checked::Checked;
+use ir_model::text_limits::TEXT_LIMIT;
+use ir_program::program::Program;
+use ir_resolve::resolving::resolve;
+use need_points_to::solve;
+use need_sets::PointsTo;
+use plan_compartments::analysis::firmware_needs;
+use plan_compartments::division::division;
+use plan_graph::initial::initial;
+use plan_graph::merge::merge;
+use plan_model::Policy;
+use plan_model::graph::{Final, Graph};
+use plan_model::groups::Groups;
+use plan_model::needs::Needs;
+use std::alloc::Global;
+use test_files::Program as Called;
+
+/// The analyses.
+pub(crate) struct Analysis;
+
+impl Called for Analysis {
+    fn call(
+        &self,
+        alloc: Global,
+        words: &[String],
+        files: &mut MemFiles,
+        out: &mut MemSink,
+        _err: &mut MemSink,
+    ) -> u8 {
+        let Ok(text) = answer(alloc, words, files) else {
+            return 1;
+        };
+        match out.put(text.as_bytes()) {
+            Ok(()) => 0,
+            Err(_) => 5,
+        }
+    }
+}
+
+/// What the words ask for.
+fn answer(alloc: Global, words: &[String], files: &mut MemFiles) -> Result<String> {
+    if words.len() != 5 {
+        bail!("not five words");
+    }
+    let Ok(bytes) = read_whole(alloc, files, words[1].as_str(), u64::from(TEXT_LIMIT)) else {
+        bail!("not read");
+    };
+    if words[0].as_str() == "board" {
+        return board_line(alloc, bytes.as_slice());
+    }
+    let Ok(firmware) = ir_reader::read(alloc, bytes.as_slice()) else {
+        bail!("no firmware");
+    };
+    let Ok(checked) = check(alloc, firmware) else {
+        bail!("not typed");
+    };
+    analysed(alloc, &checked, words)
+}
+
+/// The policy of a word; where it is none, that of the files.
+fn policy_of(word: &str) -> Policy {
+    match word {
+        "optimized" => Policy::Optimized,
+        "peripheral" => Policy::Peripheral,
+        _ => Policy::Filename,
+    }
+}
+
+/// The text of an analysis of a firmware: which, of which file, under which policy, on which board, in how many slots.
+fn analysed(alloc: Global, firmware: &Checked, words: &[String]) -> Result<String>
+    requires { length words.now ≡ 5 }
+{
+    let program = resolve(alloc, firmware)?;
+    let sets = solve(alloc, &program)?;
+    if words[0].as_str() == "sets" {
+        return sets_text(alloc, &program, &sets);
+    }
+    by_needs(alloc, firmware, &program, &sets, words)
+}
+
+fn sets_text(alloc: Global, program: &Program, sets: &PointsTo) -> Result<String> {
+    let mut text = String::new(alloc);
+    put_sets(alloc, &mut text, program, sets)?;
+    Ok(text)
+}
+
+fn needs_text(alloc: Global, needs: &Needs) -> Result<String> {
+    let mut text = String::new(alloc);
+    put_needs(alloc, &mut text, needs)?;
+    Ok(text)
+}
+
+fn limit_text(alloc: Global, needs: &Needs, groups: &Groups) -> Result<String> {
+    let mut text = String::new(alloc);
+    put_limit(alloc, &mut text, needs, groups)?;
+    Ok(text)
+}
+
+fn graph_text(alloc: Global, graph: &Graph) -> Result<String> {
+    let mut text = String::new(alloc);
+    put_graph(alloc, &mut text, graph)?;
+    Ok(text)
+}
+
+/// The text of needs, or of what comes of them.
+fn by_needs(
+    alloc: Global,
+    firmware: &Checked,
+    program: &Program,
+    sets: &PointsTo,
+    words: &[String],
+) -> Result<String>
+    requires words { length words.now ≡ 5 }
+    requires program { program_of program.now ≡ resolve (firmware_of firmware.now) }
+    requires sets { IsLeast (program_of program.now) (sets_of sets.now) }
+{
+    let closed = words[3].as_str() == "closed";
+    let needs = firmware_needs(alloc, firmware, program, sets, closed)?;
+    if words[0].as_str() == "needs" {
+        return needs_text(alloc, &needs);
+    }
+    by_groups(alloc, firmware, program, &needs, words)
+}
+
+/// The text of the first limit that is passed, or of the graph.
+fn by_groups(
+    alloc: Global,
+    firmware: &Checked,
+    program: &Program,
+    needs: &Needs,
+    words: &[String],
+) -> Result<String>
+    requires words { length words.now ≡ 5 }
+    requires needs { length needs.now.funcs ≡ length (funcs_of (firmware_of firmware.now)) }
+{
+    let groups = division(alloc, firmware, needs, policy_of(words[2].as_str()))?;
+    if words[0].as_str() == "limit" {
+        return limit_text(alloc, needs, &groups);
+    }
+    let slots: u32 = words[4].parse()?;
+    by_graph(alloc, program, needs, groups, slots)
+}
+
+/// The text of the graph before any join, or where there are slots to fit, of the merged one.
+fn by_graph(
+    alloc: Global,
+    program: &Program,
+    needs: &Needs,
+    groups: Groups,
+    slots: u32,
+) -> Result<String> {
+    if groups.of.len() != needs.funcs.len() {
+        bail!("not a compartment for each function");
+    }
+    let graph = initial(alloc, program, needs, groups)?;
+    if slots < 2 {
+        return graph_text(alloc, &graph);
+    }
+    let last = merge(alloc, program, graph, slots)?;
+    merged_text(alloc, last)
+}
+
+fn merged_text(alloc: Global, last: Final) -> Result<String> {
+    let graph = Graph {
+        groups: last.groups,
+        regions: last.regions,
+        unwritten: last.unwritten,
+        covers: last.covers,
+        masks: last.masks,
+        reads: last.reads,
+    };
+    graph_text(alloc, &graph)
+}

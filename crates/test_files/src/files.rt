@@ -1,0 +1,71 @@
+//! What cases do with files beside calls of a program.
+
+use anyhow::{Result, bail};
+use base_outside::{Files, MemFiles, read_whole};
+use std::alloc::Global;
+
+/// The most bytes of a file that is compared or patched.
+const MOST: u64 = 4_194_304;
+
+/// Compares two files.
+///
+/// # Errors
+///
+/// They differ, or one of them is not read.
+pub fn same(alloc: Global, files: &mut MemFiles, file: &str, other: &str) -> Result<()> {
+    let one = bytes_of(alloc, files, file)?;
+    let two = bytes_of(alloc, files, other)?;
+    if one.as_slice() != two.as_slice() {
+        bail!("they differ");
+    }
+    Ok(())
+}
+
+/// Writes a file with the bytes of one, but from a place on those of another.
+///
+/// # Errors
+///
+/// The place is no number, the bytes reach past the file's end, a file is not read, or the new one is not written.
+pub fn patch(
+    alloc: Global,
+    files: &mut MemFiles,
+    file: &str,
+    place: &str,
+    code: &str,
+    name: &str,
+) -> Result<()> {
+    let place: usize = place.parse()?;
+    let mut bytes = bytes_of(alloc, files, file)?;
+    let code = bytes_of(alloc, files, code)?;
+    for (k, byte) in code.iter().enumerate() {
+        match bytes.get_mut(place.saturating_add(k)) {
+            Some(old) => *old = *byte,
+            None => bail!("past the end"),
+        }
+    }
+    put(files, name, &bytes)
+}
+
+/// The bytes of a file.
+///
+/// # Errors
+///
+/// It is not read.
+pub fn bytes_of(alloc: Global, files: &mut MemFiles, name: &str) -> Result<Vec<u8>> {
+    match read_whole(alloc, files, name, MOST) {
+        Ok(bytes) => Ok(bytes),
+        Err(_) => bail!("not read"),
+    }
+}
+
+/// Makes a name hold these bytes.
+///
+/// # Errors
+///
+/// They are not written.
+pub fn put(files: &mut MemFiles, name: &str, bytes: &[u8]) -> Result<()> {
+    if files.create(name).is_err() || files.append(name, bytes).is_err() {
+        bail!("not written");
+    }
+    Ok(())
+}

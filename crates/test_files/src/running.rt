@@ -1,0 +1,178 @@
+//! Cases that are run and compared.
+
+use crate::call::{Call, Held, Wanted};
+use crate::case::Case;
+use crate::program::Program;
+use crate::section::Section;
+use anyhow::{Context, Result, bail, ensure};
+use base_outside::{MemEntry, MemFiles, MemSink, names_differ};
+use std::alloc::Global;
+
+/// How many bytes each sink takes.
+const ROOM: u32 = 1_048_576;
+
+/// A name, and the bytes that it held before a call, if it was there.
+#[derive(Drop)]
+struct Before<'a> {
+    name: &'a str,
+    bytes: Option<Vec<u8>>,
+}
+
+/// Runs a case. An error tells what differs first, or what is wrong with the text of the case.
+pub(crate) fn run_case<P: Program>(
+    alloc: Global,
+    program: &P,
+    text: &str,
+    given: &[Section],
+    texts: &[Section],
+) -> Result<()> {
+    let Case {
+        names,
+        entries,
+        fails,
+        keep,
+        calls,
+    } = Case::read(alloc, text, given, texts)?;
+    let mut files = files_of(alloc, entries, fails, keep)?;
+    run_calls(
+        alloc,
+        program,
+        names.as_slice(),
+        calls.as_slice(),
+        &mut files,
+    )
+}
+
+fn files_of(alloc: Global, entries: Vec<MemEntry>, fails: Vec<u64>, keep: u32) -> Result<MemFiles> {
+    ensure!(names_differ(&entries), "two files have one name");
+    Ok(MemFiles::new(alloc, entries, fails, keep)?)
+}
+
+fn run_calls<P: Program>(
+    alloc: Global,
+    program: &P,
+    names: &[String],
+    calls: &[Call],
+    files: &mut MemFiles,
+) -> Result<()> {
+    let mut known = held_before(alloc, names, files)?;
+    for call in calls {
+        compare_call(alloc, program, call, files, &mut known)?;
+    }
+    Ok(())
+}
+
+fn held_before<'a>(
+    alloc: Global,
+    names: &'a [String],
+    files: &MemFiles,
+) -> Result<Vec<Before<'a>>> {
+    let mut known = Vec::new(alloc);
+    for name in names {
+        let name = name.as_str();
+        let bytes = copied(alloc, files.held(name))?;
+        known.push(Before { name, bytes })?;
+    }
+    Ok(known)
+}
+
+/// Makes a call and compares what it leaves.
+fn compare_call<P: Program>(
+    alloc: Global,
+    program: &P,
+    call: &Call,
+    files: &mut MemFiles,
+    known: &mut [Before<'_>],
+) -> Result<()> {
+    run_call(alloc, program, call, files)?;
+    for before in known {
+        compare_file(alloc, before, files, &call.held)?;
+    }
+    for held in call.held.iter() {
+        let name = held.name.as_str();
+        ensure!(files.held(name).is_some(), "{name} is not there");
+    }
+    Ok(())
+}
+
+/// Makes a call and compares what it prints and answers.
+fn run_call<P: Program>(
+    alloc: Global,
+    program: &P,
+    call: &Call,
+    files: &mut MemFiles,
+) -> Result<()> {
+    let mut out = MemSink::new(alloc, ROOM, call.out_fails.clone()?)?;
+    let mut err = MemSink::new(alloc, ROOM, call.err_fails.clone()?)?;
+    let status = program.call(alloc, &call.words, files, &mut out, &mut err);
+    compare_printed(call, status, out.bytes(), err.bytes())
+}
+
+fn compare_printed(call: &Call, status: u8, out: &[u8], err: &[u8]) -> Result<()> {
+    compare("err", err, &call.err)?;
+    compare("out", out, &call.out)?;
+    ensure!(status == call.status, "status is {status}");
+    Ok(())
+}
+
+fn copied(alloc: Global, bytes: Option<&[u8]>) -> Result<Option<Vec<u8>>> {
+    match bytes {
+        Some(bytes) => Ok(Some(bytes.to_vec(alloc)?)),
+        None => Ok(None),
+    }
+}
+
+/// Tells the first line in which a text differs from what is wanted.
+fn compare(what: &str, bytes: &[u8], wanted: &[u8]) -> Result<()> {
+    if bytes == wanted {
+        return Ok(());
+    }
+    let text = str::from_utf8(bytes).context(what)?;
+    let mut others = str::from_utf8(wanted).context(what)?.lines();
+    for line in text.lines() {
+        ensure!(others.next() == Some(line), "{what} has {line:?}");
+    }
+    bail!("{what} ends too early")
+}
+
+/// Compares what a file holds with what is said of it, and else with what it held before.
+fn compare_file(
+    alloc: Global,
+    before: &mut Before<'_>,
+    files: &MemFiles,
+    held: &[Held],
+) -> Result<()> {
+    let name = before.name;
+    let bytes = files.held(name);
+    let mut told = false;
+    for fact in held {
+        if fact.name.as_str() == name {
+            ensure!(holds(bytes, &fact.wanted), "{name} is not as wanted");
+            told = true;
+        }
+    }
+    let same = match (bytes, &before.bytes) {
+        (Some(bytes), Some(old)) => bytes == old.as_slice(),
+        (None, None) => true,
+        _ => false,
+    };
+    if !same {
+        ensure!(told, "{name} has changed");
+        before.bytes = copied(alloc, bytes)?;
+    }
+    Ok(())
+}
+
+fn holds(bytes: Option<&[u8]>, wanted: &Wanted) -> bool {
+    let Some(bytes) = bytes else {
+        return false;
+    };
+    match wanted {
+        Wanted::Whole(all) => bytes == all.as_slice(),
+        Wanted::Part(place, part) => match bytes.get(*place..) {
+            Some(rest) => rest.starts_with(part),
+            None => false,
+        },
+        Wanted::Size(size) => bytes.len() == *size,
+    }
+}

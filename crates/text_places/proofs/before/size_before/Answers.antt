@@ -1,9 +1,0 @@
-use Rattle.std.proofs.Common.{arith}
-use Rattle.std.proofs.lemmas.Grind.{common_steps}
-use Rattle.ir_model.specs.Plain.{struct_of}
-use Rattle.text_places.specs.Sizes.{struct_size}
-use Rattle.text_places.proofs.Fronts.{sum_front}
-use Rattle.text_places.proofs.before.size_before.Goals as goal
-
-pub returns-in-Struct : goal.returns-in-Struct
-returns-in-Struct c = let e = sum_front struct_size struct_of c.in-Struct.number c.args.firmware.now.structs in grind (arith, common_steps, e)

@@ -1,6 +1,0 @@
-use Rattle.std.proofs.Common.{◌≡◌, take}
-use Rattle.text_places.specs.Sizes.{cells_size}
-use Rattle.text_places.proofs.declarations.cells_size.Given as goal
-
-abbrev pub invariant-loop-cell : goal.invariant-loop-cell
-invariant-loop-cell l = l.size ≡ cells_size (take l.cell-index l.cells)

@@ -1,5 +1,0 @@
-use Rattle.text_places.proofs.PlacesBegin.{items_begin}
-use Rattle.text_places.proofs.laws.items_begin.Goals as goal
-
-pub returns : goal.returns
-returns c = items_begin

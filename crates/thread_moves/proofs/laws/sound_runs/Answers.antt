@@ -1,5 +1,0 @@
-use Rattle.thread_moves.proofs.Together.{sound_images_tell}
-use Rattle.thread_moves.proofs.laws.sound_runs.Goals as goal
-
-pub returns : goal.returns
-returns c = sound_images_tell c.who_runs.ensures c.calls_come_back.ensures c.unread_bytes.ensures

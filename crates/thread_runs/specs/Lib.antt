@@ -1,3 +1,0 @@
-pub mod CodeLaws
-pub mod Owned
-pub mod Areas

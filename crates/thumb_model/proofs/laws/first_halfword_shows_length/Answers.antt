@@ -1,6 +1,0 @@
--- By the lemma of that name.
-use Rattle.thumb_model.proofs.LeftOut.{shows_its_length}
-use Rattle.thumb_model.proofs.laws.first_halfword_shows_length.Goals as goal
-
-pub returns : goal.returns
-returns c = shows_its_length

@@ -1,3 +1,0 @@
-mod Stops
-pub mod Answering
-pub mod Findable

@@ -1,3 +1,0 @@
-pub mod HelpText
-pub mod Owners
-pub mod Answers
