@@ -4,9 +4,10 @@
     tools/check_pages.py
 
 It looks at README.md, docs/*.md and the README.md of each crate. A finding is a path, a function or a type that a page names and that is not
-there; a file of definitions that its crate's page does not name; a crate that one of the lists of crates leaves out, or that is not in
-crates.txt; a number of cases that is not the one that the program of the cases prints. A path without its crate is looked for in the crates
-that the same paragraph or row of a table names, in the crate whose page it is, and in those of which the page names the folder `specs/`.
+there; a file of definitions that its crate's page does not name; a crate that one of the lists of crates leaves out, that stands elsewhere on the
+map of docs/ARCHITECTURE.md than in crates.txt, that uses one which does not stand before it, or whose name does not begin with its layer; a number
+of cases that is not the one that the program of the cases prints. A path without its crate is looked for in the crates that the same paragraph or
+row of a table names, in the crate whose page it is, and in those of which the page names the folder `specs/`.
 """
 
 import glob
@@ -22,8 +23,11 @@ CRATE_FOLDERS = ("src", "specs", "proofs", "must-fail")
 QUOTED = re.compile(r"`([^`\n]+)`")
 PART = re.compile(r"\n\s*\n|\n(?=\|)")
 FUNCTION = re.compile(r"([A-Za-z]\w*)::(?:\w+::)*(\w+)")
-ROW = re.compile(r"^\| (`\w+`(?:, `\w+`)*) \|", re.M)
-MAPPED = re.compile(r"(?<=^  )\w+(?= )|(?<=  )\w+(?=  |\n)", re.M)
+LISTED = re.compile(r"^(?:# (?P<layer>.+)|(?P<crate>\w+):(?P<used>.*))$", re.M)
+MAPPED = re.compile(r"^  (?:([a-z]\w+)  |(.+\.)$)", re.M)
+# How the names of crates begin, layer by layer, and the names that are of another form.
+LAYERS = ("base_", "machine_", "ir_", "plan_model", "need_", "code_", "plan_", "monitor_", "refine_", "image_", "aces_", "test_", "example_")
+WHOLE = {"needs": "need_", "plan": "plan_", "refine": "refine_", "aces": "aces_"}
 DECLARED = re.compile(r"\b(?:fn|struct|enum|trait|const|mod|type) (\w+)")
 CASES = re.compile(r"`(test_\w+)`: ([\d,]+) cases|([\d,]+) cases that are data(?:: it is run [^`]*| )?\(`(test_\w+)`\)")
 
@@ -114,17 +118,41 @@ def specs(name: str, crate: Crate) -> Iterator[str]:
 
 
 def lists(crates: dict[str, Crate]) -> Iterator[str]:
-    """Crates that PROVED, ARCHITECTURE's map or crates.txt leaves out, and names of rows in PROVED that are no crate."""
-    proved = text_of("docs/PROVED.md")
+    """Crates that PROVED, ARCHITECTURE's map or crates.txt leaves out."""
     listed = {
-        "docs/PROVED.md": set(QUOTED.findall(proved)),
-        "docs/ARCHITECTURE.md": set(MAPPED.findall(text_of("docs/ARCHITECTURE.md").split("```")[1])),
+        "docs/PROVED.md": set(QUOTED.findall(text_of("docs/PROVED.md"))),
+        "docs/ARCHITECTURE.md": set(mapped()),
         "crates.txt": set(crates),
     }
     folders = {path.split("/")[1] for path in glob.glob("crates/*/")}
     for page, names in listed.items():
         yield from (f"{page}: {name} is not named" for name in sorted(folders.union(crates) - names))
-    yield from (f"docs/PROVED.md: {name} is no crate" for row in ROW.findall(proved) for name in QUOTED.findall(row) if name not in crates)
+
+
+def mapped() -> list[str]:
+    """The layers and crates on ARCHITECTURE's map, in its order."""
+    return [crate or layer for crate, layer in MAPPED.findall(text_of("docs/ARCHITECTURE.md").split("```")[1])]
+
+
+def order() -> Iterator[str]:
+    """Where the map first differs from crates.txt; crates that use one which does not stand before them, or are not named by their layer."""
+    lines = list(LISTED.finditer(text_of("crates.txt")))[1:]
+    entries = [line["layer"] or line["crate"] for line in lines]
+    apart = [f"{there} stands where crates.txt has {entry}" for entry, there in zip(entries, mapped()) if entry != there]
+    yield from (f"docs/ARCHITECTURE.md: {line}" for line in apart[:1])
+    names = {line["crate"] for line in lines}
+    before: set[str] = set()
+    layers = iter(LAYERS)
+    prefix = ""
+    for line in lines:
+        crate = line["crate"]
+        if not crate:
+            prefix = next(layers, "")
+            continue
+        if not crate.startswith(prefix or "?") and WHOLE.get(crate) != prefix:
+            yield f"crates.txt: {crate} does not begin with {prefix}"
+        yield from (f"crates.txt: {crate} uses {used}, which does not stand before it" for used in line["used"].split() if used in names - before)
+        before.add(crate)
 
 
 def findings() -> Iterator[str]:
@@ -140,6 +168,7 @@ def findings() -> Iterator[str]:
         if os.path.exists(page):
             yield from specs(name, crates[name])
     yield from lists(crates)
+    yield from order()
 
 
 def main() -> int:

@@ -5,8 +5,8 @@
     tools/claim_reach.py names     # the same, with the names of the definitions
     tools/claim_reach.py beyond    # the files of definitions of which the claim reaches nothing
     tools/claim_reach.py mark      # has the first line of each of these files say so, and of no other
-    tools/claim_reach.py files compiler/specs/Compiled.antt IsImageFor      # what one definition reaches
-    tools/claim_reach.py files compiler/specs/Compiled.antt IsImageFor linked      # and what it reaches without some of its fields
+    tools/claim_reach.py files aces_compiler/specs/Compiled.antt IsImageFor      # what one definition reaches
+    tools/claim_reach.py files aces_compiler/specs/Compiled.antt IsImageFor linked      # and what it reaches without some of its fields
 
 A definition reaches those whose names stand in it, in its own file or by its file's imports. A variable that has the name of
 a definition counts as that, so a little too much may be listed, and nothing too little. What the kit defines is not listed.

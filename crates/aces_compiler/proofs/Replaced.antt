@@ -17,7 +17,7 @@ use Rattle.monitor_model.specs.Confined.{Confined}
 use Rattle.image_model.specs.LinkedImage.{linked}
 use Rattle.image_promises.specs.Planned.{planned_image, planned_tables}
 use Rattle.plan.specs.PlannedFirmwares.{IsPlanned, planned_sizes, plan}
-use Rattle.image_promises.proofs.Flash.{code_count}
+use Rattle.image_promises.proofs.FlashParts.{code_count}
 use Rattle.image_promises.specs.Regions.{ImagesObeyRules}
 use Rattle.plan.specs.declared.planner.PlannedFirmware.{PlannedFirmware}
 use Rattle.plan.specs.Planned.{IsPlannedFor}

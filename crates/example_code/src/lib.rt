@@ -1,5 +1,5 @@
 //! Code of functions, computed from the definitions. Each function is a law, whose clauses say what a definition gives at
-//! values that were worked out by hand, and does nothing. No crate stands on this one.
+//! values that were worked out by hand, and does nothing. Only examples stand on this one.
 #![tactic(auto)]
 
 pub mod functions;

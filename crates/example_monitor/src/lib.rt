@@ -1,5 +1,5 @@
 //! Examples of the monitor's definitions, computed. Each function is a law, whose clauses say what a definition gives at values
-//! that were worked out by hand or by another model, and does nothing. No crate stands on this one.
+//! that were worked out by hand or by another model, and does nothing. Only examples stand on this one.
 #![tactic(auto)]
 
 pub mod handlers;

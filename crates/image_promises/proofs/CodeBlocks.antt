@@ -29,7 +29,7 @@ use Rattle.refine.specs.Builds.{entry_at}
 use Rattle.image_promises.specs.Planned.{planned_tables}
 use Rattle.plan.specs.PlannedFirmwares.{IsPlanned, plan, planned_sizes}
 use Rattle.image_promises.proofs.Facts.{PlanLaws, laid, code_block_is, code_blocks_count}
-use Rattle.image_promises.proofs.Flash.{code_count, code_size_is}
+use Rattle.image_promises.proofs.FlashParts.{code_count, code_size_is}
 use Rattle.image_promises.specs.Parts.{CodeIsPlaced}
 use Rattle.image_promises.proofs.Compartments.{in_compartment}
 use Rattle.image_promises.proofs.Loans.{record_of}

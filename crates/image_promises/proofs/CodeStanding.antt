@@ -23,7 +23,7 @@ use Rattle.image_promises.specs.Planned.{planned_image}
 use Rattle.plan.specs.PlannedFirmwares.{IsPlanned, plan, planned_sizes}
 use Rattle.image_promises.specs.Laws.{FlashReadsBack}
 use Rattle.image_promises.proofs.Facts.{length_is, code_blocks_count}
-use Rattle.image_promises.proofs.Flash.{code_ends}
+use Rattle.image_promises.proofs.FlashParts.{code_ends}
 use Rattle.image_promises.proofs.ReadBack.{code_fits}
 use Rattle.image_promises.proofs.CompartmentCode.{CodeLaws, code_in_table, code_bytes}
 use Rattle.image_promises.proofs.EntryPlaces.{base_is, from_base}

@@ -28,7 +28,7 @@ use Rattle.image_model.specs.LinkedTables.{comp_record, tables_of}
 use Rattle.image_promises.specs.Planned.{planned_tables}
 use Rattle.plan.specs.PlannedFirmwares.{IsPlanned, plan, planned_sizes}
 use Rattle.image_promises.proofs.Facts.{PlanLaws, laid, code_blocks_count}
-use Rattle.image_promises.proofs.Flash.{code_count}
+use Rattle.image_promises.proofs.FlashParts.{code_count}
 use Rattle.image_promises.proofs.Ranges.{block_in}
 use Rattle.image_promises.proofs.CoverParts.{IsPart}
 use Rattle.image_promises.proofs.CoverSlots.{covers_are_parts}

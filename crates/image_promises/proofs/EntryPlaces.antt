@@ -16,7 +16,7 @@ use Rattle.code_model.specs.Planned.{code_groups, code_places}
 use Rattle.monitor_model.specs.MonitorCode.{MonitorCode}
 use Rattle.plan.specs.PlannedFirmwares.{IsPlanned, plan, planned_sizes}
 use Rattle.image_promises.proofs.Facts.{laid, code_blocks_count, needed_most}
-use Rattle.image_promises.proofs.Flash.{code_count, code_ends}
+use Rattle.image_promises.proofs.FlashParts.{code_count, code_ends}
 use Rattle.image_promises.proofs.ReadBack.{ReadLaws, code_length, code_fits}
 use Rattle.image_promises.specs.Parts.{CodeIsPlaced, IsPlaced, linked_build}
 

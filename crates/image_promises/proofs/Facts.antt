@@ -32,7 +32,7 @@ use Rattle.image_promises.specs.Planned.{planned_image}
 use Rattle.plan.specs.PlannedFirmwares.{IsPlanned, planned_sizes, plan}
 use Rattle.image_promises.proofs.FlashBack.{length-puts}
 use Rattle.image_promises.proofs.Powers.{block_is}
-use Rattle.image_promises.proofs.Flash.{size_is, one_of_sum}
+use Rattle.image_promises.proofs.FlashParts.{size_is, one_of_sum}
 use Rattle.image_promises.proofs.Passing.{apart_from}
 use Rattle.base_laws.proofs.Lists.{sum_first as sum_cons}
 

@@ -1,6 +1,6 @@
 pub mod FlashBack
 pub mod Powers
-pub mod Flash
+pub mod FlashParts
 pub mod Passing
 pub mod Facts
 mod Header

@@ -29,7 +29,7 @@ use Rattle.image_model.specs.LinkedImage.{flash_size, erased, with_tables, linke
 use Rattle.image_promises.specs.Planned.{planned_tables, planned_image}
 use Rattle.plan.specs.PlannedFirmwares.{IsPlanned, planned_sizes, plan}
 use Rattle.image_promises.proofs.FlashBack.{IsOff, puts, puts_off, puts_in, in_all}
-use Rattle.image_promises.proofs.Flash.{code_ends, tables_end, code_count, code_size_is, tables_size_is, size_is}
+use Rattle.image_promises.proofs.FlashParts.{code_ends, tables_end, code_count, code_size_is, tables_size_is, size_is}
 use Rattle.image_promises.proofs.AreaSize.{area_size}
 use Rattle.image_promises.proofs.Facts.{PlanLaws, laid, code_blocks_count, tables_block_is, code_block_is}
 use Rattle.machine_thumb_asm.proofs.Decoded.{total_bytes}

@@ -35,7 +35,7 @@ use Rattle.image_model.specs.LinkedImage.{linked}
 use Rattle.image_promises.specs.Planned.{planned_tables, planned_image}
 use Rattle.plan.specs.PlannedFirmwares.{IsPlanned, planned_sizes, plan}
 use Rattle.image_promises.proofs.Facts.{PlanLaws, laid, length_is, needed_most, code_blocks_count, code_block_is, code_at_most}
-use Rattle.image_promises.proofs.Flash.{code_count, code_size_is, code_ends}
+use Rattle.image_promises.proofs.FlashParts.{code_count, code_size_is, code_ends}
 use Rattle.image_promises.proofs.Passing.{and_yes, lt_yes, eq_yes, inside_yes, each_yes}
 use Rattle.image_promises.proofs.Bearing.{use_region}
 use Rattle.image_promises.proofs.CoverParts.{AreParts}

@@ -30,7 +30,7 @@ use Rattle.image_model.specs.LinkedTables.{planned_places, return_address, site_
 use Rattle.image_promises.specs.Planned.{planned_tables}
 use Rattle.plan.specs.PlannedFirmwares.{IsPlanned, plan, planned_sizes}
 use Rattle.image_promises.proofs.Facts.{laid, code_blocks_count, needed_most, tables_at_most, tables_block_is}
-use Rattle.image_promises.proofs.Flash.{code_count}
+use Rattle.image_promises.proofs.FlashParts.{code_count}
 use Rattle.image_promises.proofs.ReadBack.{ReadLaws, code_length, code_fits}
 use Rattle.plan_model.proofs.KeptLimits.{few}
 use Rattle.image_promises.proofs.TablesPass.{some}

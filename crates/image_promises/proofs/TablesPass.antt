@@ -26,7 +26,7 @@ use Rattle.image_model.specs.LinkedImage.{linked}
 use Rattle.image_promises.specs.Planned.{planned_tables, planned_image}
 use Rattle.plan.specs.PlannedFirmwares.{IsPlanned, planned_sizes, plan}
 use Rattle.image_promises.proofs.Passing.{and_yes, le_yes, eq_yes, inside_yes, must_yes, then_yes}
-use Rattle.image_promises.proofs.Flash.{code_size_is}
+use Rattle.image_promises.proofs.FlashParts.{code_size_is}
 use Rattle.image_promises.proofs.Facts.{laid, length_is, needed_most, tables_at_most, tables_block_is, code_blocks_count, code_block_is, code_at_most}
 use Rattle.image_promises.proofs.ReadBack.{ReadLaws}
 use Rattle.plan_model.proofs.KeptLimits.{few, few_targets}

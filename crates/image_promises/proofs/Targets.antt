@@ -38,7 +38,7 @@ use Rattle.image_model.specs.LinkedTables.{planned_places, return_address, site_
 use Rattle.image_promises.specs.Planned.{planned_tables}
 use Rattle.plan.specs.PlannedFirmwares.{IsPlanned, plan, planned_sizes}
 use Rattle.image_promises.proofs.Facts.{PlanLaws, laid, code_block_is, code_blocks_count}
-use Rattle.image_promises.proofs.Flash.{code_count, code_size_is}
+use Rattle.image_promises.proofs.FlashParts.{code_count, code_size_is}
 use Rattle.image_promises.proofs.Passing.{and_yes, lt_yes, eq_yes}
 use Rattle.image_promises.specs.Parts.{linked_build, CodeIsPlaced, IsPlaced}
 use Rattle.image_promises.specs.Sites.{TargetsAreThere}

@@ -18,7 +18,7 @@ use Rattle.image_model.specs.LinkedTables.{tables_of}
 use Rattle.image_promises.specs.Planned.{planned_tables, planned_image}
 use Rattle.plan.specs.PlannedFirmwares.{IsPlanned, planned_sizes, plan}
 use Rattle.image_promises.proofs.FlashBack.{off_all}
-use Rattle.image_promises.proofs.Flash.{code_count, code_size_is, tables_size_is}
+use Rattle.image_promises.proofs.FlashParts.{code_count, code_size_is, tables_size_is}
 use Rattle.image_promises.proofs.Facts.{laid, tables_block_is, code_blocks_count, code_block_is}
 use Rattle.image_promises.proofs.ReadBack.{ReadLaws}
 use Rattle.image_promises.proofs.AreaEnd.{some_compartment, end_is}

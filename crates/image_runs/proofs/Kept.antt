@@ -17,7 +17,7 @@ use Rattle.monitor_runs.specs.Stays.{KeepsMemory}
 use Rattle.image_runs.specs.Isolated.{KeptRunsAreIsolated}
 use Rattle.image_runs.specs.OtherCode.{with_flash}
 use Rattle.image_runs.specs.Laws.{RulesStay, SoundImagesStaySound}
-use Rattle.image_runs.proofs.Stays.{with_other_code}
+use Rattle.image_runs.proofs.CodeStays.{with_other_code}
 use Rattle.image_runs.specs.ReplacedCode.{SoundImagesKeepPromises, PlannedImagesKeepPromises, PlannedImagesStayIsolated}
 
 pub of_sound_images : SoundImagesStaySound → SoundImagesAreConfined monitor_code → OfSoundImages monitor_code TellsWhoRuns

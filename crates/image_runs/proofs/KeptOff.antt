@@ -28,7 +28,7 @@ use Rattle.image_promises.specs.Planned.{planned_image, planned_tables}
 use Rattle.plan.specs.PlannedFirmwares.{IsPlanned}
 use Rattle.image_promises.specs.Whole.{PlannedImagesAreSound}
 use Rattle.image_runs.specs.Laws.{SoundImagesStaySound}
-use Rattle.image_runs.proofs.Stays.{with_other_code}
+use Rattle.image_runs.proofs.CodeStays.{with_other_code}
 use Rattle.plan_model.specs.declared.denied_ranges.Denied.{Denied}
 use Rattle.plan_model.specs.Denied.{IsDenied, InDenied}
 use Rattle.plan_denials.specs.Meetings.{KeepsOff}

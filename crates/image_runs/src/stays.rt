@@ -75,7 +75,7 @@ pub fn slots_are_own()
 }
 
 /// A run of any image for the board that has the planned tables, whatever its code, is isolated where memory is kept (`KeepsMemory` of
-/// `memory_stays`).
+/// `monitor_runs`).
 pub fn kept_runs_are_isolated()
     ensures { KeptRunsAreIsolated }
 {

@@ -1,7 +1,7 @@
 mod Apart
 mod Globals
 mod Files
-mod Functions
+mod CheckedFunctions
 mod Offers
 mod Typed
 mod Within

@@ -21,7 +21,7 @@ use Rattle.std.specs.List.{list_all}
 use Rattle.ir_generator.proofs.Apart.{unequal_numbers, there_left, there_right, there_behind, equal, by_test, here_or_later}
 use Rattle.ir_generator.proofs.Globals.{global_there, global_is_word}
 use Rattle.ir_generator.proofs.Files.{names}
-use Rattle.ir_generator.proofs.Functions.{Offers}
+use Rattle.ir_generator.proofs.CheckedFunctions.{Offers}
 
 -- the functions of files
 abbrev pub drawn : List Choice → (from count : ℕ) → List PlainFunc

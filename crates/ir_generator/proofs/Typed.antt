@@ -19,7 +19,7 @@ use Rattle.ir_generator.proofs.Bodies.{choices_within, choices_length}
 use Rattle.ir_generator.proofs.Apart.{absent_append, absent_behind}
 use Rattle.ir_generator.proofs.Globals.{globals_pass, others_absent}
 use Rattle.ir_generator.proofs.Files.{Before, files_pass}
-use Rattle.ir_generator.proofs.Functions.{functions_pass}
+use Rattle.ir_generator.proofs.CheckedFunctions.{functions_pass}
 use Rattle.ir_generator.proofs.Offers.{offers, drawn}
 
 both : (a b : Checks) → first_failing a ≡ None → first_failing b ≡ None → first_failing (a ++ b) ≡ None

@@ -72,6 +72,10 @@ tail_found ts b k e = by (holds_globals b.use_of) e
 pub fits_seen : (size : ℕ) (t : Tail) (u : definition.Tail) → tail_seen t ≡ u → fits size u ≡ true → rounded_up t.from size + size ≤ t.to
 fits_seen size t u e f = leb-true (rounded_up t.from size + size) t.to (ap (fits size) e ∙ f)
 
+-- from its base on
+pub block_ends : (size base : ℕ) (t : Tail) (u : definition.Tail) → tail_seen t ≡ u → base ≡ rounded_up t.from size → fits size u ≡ true → base + size ≤ t.to
+block_ends size base t u e r f = let room = fits_seen size t u e f in omega (arith, r)
+
 -- a block that is put into it
 pub in_tail : (used k base : ℕ) (ts us : List Tail) (t : Tail) (b : RamBlock) (ls : List PlacedBlock) → tail_seen t ≡ get_or (map tail_seen ts) k no_tail → base ≡ rounded_up t.from b.size
     → us ≡ set ts k (record { from = base + b.size; to = t.to })

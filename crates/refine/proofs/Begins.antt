@@ -35,7 +35,7 @@ use Rattle.refine.specs.Entries.{RunsShort, LacksRoom}
 use Rattle.refine.specs.Called.{CalleeStands, IsCalled}
 use Rattle.refine.proofs.Lends.{behind}
 use Rattle.refine.proofs.Callees.{inside}
-use Rattle.refine.proofs.ThreadCalls.{Called}
+use Rattle.refine.specs.Begun.{Called}
 use Rattle.code_effects.proofs.Registers.{holds_nothing}
 use Rattle.code_model.specs.Places.{Lend}
 use Rattle.refine.proofs.Premises.{Premises}

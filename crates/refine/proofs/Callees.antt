@@ -25,7 +25,7 @@ use Rattle.code_effects.proofs.Registers.{holds_nothing, known_holds}
 use Rattle.refine.specs.CodeLaws.{CodeLaws}
 use Rattle.refine.specs.Owned.{owner, Owns, MemoryRules}
 use Rattle.refine.proofs.Thread.{call_owned, runs_here, room, fits_after, fits_sp, stays_at, stays_on}
-use Rattle.refine.proofs.Entry.{Filled}
+use Rattle.refine.specs.Begun.{Filled}
 use Rattle.refine.proofs.ThreadCalls.{frame_words, frame_words_fit}
 use Rattle.refine.specs.Ends.{NoEighth}
 use Rattle.refine.specs.Entries.{RunsShort, LacksRoom}

@@ -26,8 +26,9 @@ use Rattle.refine.specs.Areas.{Has as Holds}
 use Rattle.refine.specs.Owned.{Owns, all_lent}
 use Rattle.refine.proofs.Areas.{has_join}
 use Rattle.refine.proofs.Thread.{at_pc, fits_pc, started, has_stays}
-use Rattle.refine.proofs.Entry.{Filled}
-use Rattle.refine.proofs.ThreadCalls.{frame_words, Called, Crossed}
+use Rattle.refine.specs.Begun.{Filled}
+use Rattle.refine.specs.Begun.{Called, Crossed}
+use Rattle.refine.proofs.ThreadCalls.{frame_words}
 use Rattle.refine.specs.Builds.{Build, compartment_of, func, words_at, lends_at, places_at, labels_at, entry_at, code_at, behind_at, site_at}
 use Rattle.refine.specs.Relation.{own, words_of, own_words, link_by, waiting_by, waiting_words, statuses_behind, first_or_zero, IsStatusBy, Wait, areas, held, ceiling_by, beneath, block_of, Fits as HasPlace, IsAmple}
 use Rattle.refine.specs.Cases.{Follows, IsBeyond}

@@ -22,14 +22,9 @@ use Rattle.code_effects.specs.Entry.{Entered, entry_steps}
 use Rattle.code_effects.proofs.Registers.{holds_known}
 use Rattle.refine.specs.CodeLaws.{CodeLaws}
 use Rattle.refine.specs.Owned.{Owns, MemoryRules}
+use Rattle.refine.specs.Begun.{Filled, Goes}
 use Rattle.code_effects.proofs.Kept.{Kept}
 use Rattle.refine.proofs.Thread.{runs_here, room}
-
--- a frame o bytes behind RAM's base, of w words below the return address: the arguments are in its first words, the others are clear
-pub record Filled (o w link : ℕ) (arguments : List ℕ) (ram : List ℕ) : Type 0 where
-  pub given : (k : ℕ) → k < length arguments → read 4 (o + 4 * k) ram ≡ cut 4 (get_or arguments k 0)
-  pub cleared : (k : ℕ) → length arguments ≤ k → k < w → read 4 (o + 4 * k) ram ≡ 0
-  pub return_address : read 4 (o + 4 * w) ram ≡ cut 4 link
 
 few_steps : (w : ℕ) → entry_steps w ≤ 4 + w
 few_steps w = by (nat_le w 127)
@@ -44,21 +39,6 @@ some_steps w = by (nat_le w 127)
     by : (b : Bool) → 1 ≤ (if b then 3 + w else 4 + w)
     by true = omega arith
     by false = omega arith
-
-module _ (g : Setting) (Inv : Block → Context → List ℕ → Type 0) where
-  -- from a state, in so many steps at most, on there
-  pub record Goes (most : ℕ) (from : State) (m : Block) (sp pc below : ℕ) (ram : List ℕ) (queues : List (List ℕ)) : Type 0 where
-    pub count : ℕ
-    pub within : count ≤ most
-    pub context : Context
-    pub low : List ℕ
-    pub lr : ℕ
-    pub flags : Flags
-    pub memory : List ℕ
-    pub fits : StateFits g.image (works context low sp lr pc flags memory queues)
-    pub runs : Runs by_mpu g.image count from (works context low sp lr pc flags memory queues) []
-    pub invariant : Inv m context memory
-    pub stays : Stays g below ram memory
 
 module _ (g : Setting) (Inv : Block → Context → List ℕ → Type 0) (law : Law g Inv) (rules : MemoryRules g) (laws : CodeLaws) (fn : NumberedFunc) (q : Places) (labels : List (Option ℕ)) where
   -- the frame, right below the caller's stack pointer

@@ -26,7 +26,8 @@ use Rattle.monitor_sound.specs.HaltingCalls.{HaltsBy}
 use Rattle.refine.specs.CodeLaws.{CodeLaws}
 use Rattle.refine.specs.Owned.{owner, Owns, MemoryRules, loan_of, all_lent, Lendable}
 use Rattle.refine.proofs.Thread.{call_owned, at_pc, fits_pc, fits_after, runs_here, inv_kept, stays_kept, stays_none, stays_on}
-use Rattle.refine.proofs.Entry.{Goes, frames}
+use Rattle.refine.specs.Begun.{Goes}
+use Rattle.refine.proofs.Entry.{frames}
 use Rattle.refine.specs.Ends.{NamesStack, NoLoan}
 use Rattle.refine.specs.Entries.{EndsShort, RunsShort, LacksRoom}
 use Rattle.refine.specs.Entered.{IsEntered}

@@ -25,7 +25,7 @@ use Rattle.code_effects.proofs.Registers.{holds_nothing, known_holds}
 use Rattle.refine.specs.CodeLaws.{CodeLaws}
 use Rattle.refine.specs.Owned.{owner, Owns, MemoryRules, loan_of, all_lent}
 use Rattle.refine.proofs.Thread.{call_owned, at_pc, to_sp, fits_pc, fits_sp, fits_after, runs_here, room, stays_none, stays_on}
-use Rattle.refine.proofs.Entry.{Goes}
+use Rattle.refine.specs.Begun.{Goes}
 
 -- what r0 holds behind a return of word r of a frame
 abbrev pub IsResult : Option ℕ → (o : ℕ) → (ram low : List ℕ) → Type 0

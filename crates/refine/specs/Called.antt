@@ -25,7 +25,7 @@ use Rattle.monitor_model.specs.Threads.{svc, base}
 use Rattle.monitor_model.specs.Law.{Law}
 use Rattle.refine.specs.CodeLaws.{CodeLaws}
 use Rattle.refine.specs.Owned.{Owns, MemoryRules, Lendable, all_lent}
-use Rattle.refine.proofs.ThreadCalls.{Called, Crossed}
+use Rattle.refine.specs.Begun.{Called, Crossed}
 use Rattle.refine.specs.Entries.{RunsShort, LacksRoom, most_words}
 
 -- where the part of the stack ends that is left to a callee of another compartment, below a frame that lies there

@@ -3,6 +3,7 @@ pub mod Ends
 pub mod Guard
 pub mod Entries
 pub mod Entered
+pub mod Begun
 pub mod Called
 pub mod Refinement
 pub mod SourceLaws

@@ -1,4 +1,4 @@
-use Rattle.image_runs.proofs.Stays.{soundness_stays}
+use Rattle.image_runs.proofs.CodeStays.{soundness_stays}
 use Rattle.image_runs.proofs.other_code.sound.Goals as goal
 
 pub returns : goal.returns

@@ -1,4 +1,4 @@
-use Rattle.image_runs.proofs.Stays.{all_stay_sound}
+use Rattle.image_runs.proofs.CodeStays.{all_stay_sound}
 use Rattle.image_runs.proofs.other_code.stay_sound.Goals as goal
 
 pub returns : goal.returns
