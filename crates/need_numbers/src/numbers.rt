@@ -1,28 +1,36 @@
 //! Numbers in the order in which they came.
 
-ghost use Rattle.std.specs.Prelude.{◌≡◌, ◌++◌, ◌∷◌, [], slice_get, OnOk, OnErr};
+ghost use Rattle.std.specs.Prelude.{◌≡◌, ◌++◌, ◌∷◌, [], is_some, not, slice_get, OnOk, OnErr};
 ghost use Rattle.need_numbers.specs.Rows.{has};
 
-use crate::stretch::Stretch;
+use crate::stretches::Stretches;
 use std::alloc::{AllocError, Global};
 use std::marker::Model;
 
-/// A list of numbers, in stretches of 256. Where eight and more follow one another they take less than two bytes each.
+/// How many numbers stand by themselves at most.
+const FIRST: usize = 8;
+
+/// A list of numbers. The first of them stand by themselves, where each is found at once; those behind them are cut into stretches, where they
+/// take less memory.
 #[derive(Drop)]
 pub struct Numbers {
-    alloc: Global,
-    stretches: Vec<Stretch>,
+    first: Vec<u32>,
+    others: Stretches,
 }
 
 impl Model for Numbers {
-    ghost use Rattle.std.specs.Prelude.{ℕ, List};
-    ghost use Rattle.need_numbers.specs.Stretches.{joined, AreCut};
+    ghost use Rattle.std.specs.Prelude.{ℕ, List, ◌++◌};
 
     ghost Value = { List ℕ };
 
-    ghost view = { λ n. joined n.stretches.items };
+    ghost view = { λ n. n.first.items ++ n.others };
+}
 
-    ghost invariant = { λ n. AreCut n.stretches.items };
+/// The number at a place of a slice; none where there is no such place.
+pub(crate) fn number_at(numbers: &[u32], place: usize) -> Option<u32>
+    ensures { result ≡ slice_get numbers.now place }
+{
+    numbers.get(place).copied()
 }
 
 impl Numbers {
@@ -31,17 +39,24 @@ impl Numbers {
         ensures { result ≡ [] }
     {
         Numbers {
-            alloc,
-            stretches: Vec::new(alloc),
+            first: Vec::new(alloc),
+            others: Stretches::new(alloc),
         }
     }
 
+    /// Whether there are none.
+    pub fn is_empty(&self) -> bool
+        ensures { is_some (slice_get self.now 0) ≡ not result }
+    {
+        self.get(0).is_none()
+    }
+
     /// Takes all numbers out.
-    #[tactic(auto, using(crate::proofs::Cuts::none_cut))]
     pub fn clear(&mut self)
         ensures { self.new ≡ [] }
     {
-        self.stretches.clear();
+        self.first.clear();
+        self.others.clear();
     }
 
     /// Puts a number at the end.
@@ -49,42 +64,36 @@ impl Numbers {
     /// # Errors
     ///
     /// There is no memory for it. Then the numbers are as they were.
+
+    #[tactic(auto, using(crate::proofs::Runs::behind_first))]
     pub fn push(&mut self, number: u32) -> Result<(), AllocError>
         ensures pushed { OnOk result (self.new ≡ self.old ++ number ∷ []) }
         ensures kept { OnErr result (self.new ≡ self.old) }
     {
-        let count = self.stretches.len();
-        if count == 0 || self.stretches[count - 1].len() == 256 {
-            let mut next = Stretch::new(self.alloc);
-            next.push(number)?;
-            self.stretches.push(next)?;
+        if self.first.len() < FIRST && self.others.is_empty() {
+            self.first.push(number)?;
             return Ok(());
         }
-        self.stretches[count - 1].push(number)
+        self.others.push(number)
     }
 
     /// The number at a place; none where there is no such place.
-    #[tactic(auto, using(crate::proofs::Cuts::placed, crate::proofs::Cuts::none_there))]
+    #[tactic(auto, using(crate::proofs::Runs::among_first, crate::proofs::Runs::among_others))]
     pub fn get(&self, place: usize) -> Option<u32>
         ensures { result ≡ slice_get self.now place }
     {
-        if place / 256 < self.stretches.len() {
-            self.stretches[place / 256].get(place % 256)
+        let count = self.first.len();
+        if place < count {
+            number_at(self.first.as_slice(), place)
         } else {
-            None
+            self.others.get(place - count)
         }
     }
 
     /// Whether a number is among them.
-    #[tactic(auto, using(crate::proofs::Cuts::not_in_more, crate::proofs::Cuts::is_there, crate::proofs::Cuts::in_none))]
     pub fn contains(&self, number: u32) -> bool
         ensures { result ≡ has number self.now }
     {
-        for place in 0..self.stretches.len() {
-            if self.stretches[place].contains(number) {
-                return true;
-            }
-        }
-        false
+        self.first.contains(&number) || self.others.contains(number)
     }
 }

@@ -1,5 +1,8 @@
 -- Pairs that are kept as two lists: what comes at the end, and what stands at a place.
-use Rattle.std.proofs.Common.{◌≡◌, ℕ, zero, suc, List, [], ◌∷◌, ◌++◌, length, refl, ap, arith, Some, None, slice_get}
+use Rattle.std.proofs.Common.{◌≡◌, ℕ, zero, suc, ◌+◌, ◌-◌, ◌<◌, ◌≤◌, Bool, true, List, [], ◌∷◌, ◌++◌, length, refl, ap, sym, ◌∙◌, arith, Option, Some, None, slice_get}
+use Rattle.std.specs.Prelude.{not, is_some}
+use Rattle.std.proofs.lemmas.Bool.{false≢true}
+use Rattle.std.proofs.lemmas.List.{append-nil}
 use Rattle.need_sets.specs.declared.rules.Pair.{Pair}
 use Rattle.need_solving.specs.Logs.{pairs_of}
 
@@ -26,3 +29,22 @@ no_object [] os k e = refl
 no_object (x ∷ ns) [] k e = refl
 no_object (x ∷ ns) (y ∷ os) zero e = cc
 no_object (x ∷ ns) (y ∷ os) (suc k) e = no_object ns os k e
+
+-- the pair at a place of two lists, of which one is behind the other
+pub among_first : (xs ys : List Pair) (k : ℕ) (r : Option Pair) → k < length xs → r ≡ slice_get xs k → r ≡ slice_get (xs ++ ys) k
+among_first [] ys k r l e = absurd (omega arith)
+among_first (x ∷ xs) ys zero r l e = e
+among_first (x ∷ xs) ys (suc k) r l e = among_first xs ys k r (omega arith) e
+
+right : (xs ys : List Pair) (p q : ℕ) → p ≡ length xs + q → slice_get (xs ++ ys) p ≡ slice_get ys q
+right [] ys p q e = let f : p ≡ q = omega arith in ap (slice_get ys) f
+right (x ∷ xs) ys zero q e = absurd (omega arith)
+right (x ∷ xs) ys (suc p) q e = right xs ys p q (omega arith)
+
+pub among_others : (xs ys : List Pair) (k : ℕ) (r : Option Pair) → length xs ≤ k → r ≡ slice_get ys (k - length xs) → r ≡ slice_get (xs ++ ys) k
+among_others xs ys k r l e = e ∙ sym (right xs ys k (k - length xs) (omega arith))
+
+-- one pair more behind the first of two lists, where the second has none
+pub behind_first : (xs ys : List Pair) (o : Pair) (b : Bool) → is_some (slice_get ys 0) ≡ not b → b ≡ true → (xs ++ o ∷ []) ++ ys ≡ (xs ++ ys) ++ o ∷ []
+behind_first xs [] o b e f = append-nil (xs ++ o ∷ []) ∙ ap (λ zs. zs ++ o ∷ []) (sym (append-nil xs))
+behind_first xs (y ∷ ys) o b e f = absurd (false≢true (sym (e ∙ ap not f)))

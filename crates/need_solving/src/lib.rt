@@ -2,6 +2,7 @@
 #![tactic(auto)]
 
 mod callees;
+mod columns;
 mod log;
 mod search;
 mod state;

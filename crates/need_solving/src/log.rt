@@ -2,29 +2,36 @@
 
 ghost use Rattle.std.specs.Prelude.{◌≡◌, ◌++◌, ◌∷◌, [], slice_get, OnOk};
 
-use need_numbers::Numbers;
+use crate::columns::Columns;
 use need_sets::Pair;
 use std::alloc::{AllocError, Global};
 use std::marker::Model;
 
-/// Pairs in the order in which they were found. Many of one node with objects that follow one another, or of one object with such nodes,
-/// take little memory.
+/// How many pairs stand by themselves at most.
+const FIRST: usize = 4_096;
+
+/// Pairs in the order in which they were found. The first of them, all of a small firmware, stand by themselves, where each is put and found
+/// at once; those behind them are in columns, where they take less memory.
 #[derive(Drop)]
 pub(crate) struct Log {
-    nodes: Numbers,
-    objects: Numbers,
+    first: Vec<Pair>,
+    others: Columns,
 }
 
 impl Model for Log {
-    ghost use Rattle.std.specs.Prelude.{◌≡◌, List, length};
+    ghost use Rattle.std.specs.Prelude.{List, ◌++◌};
     ghost use Rattle.need_sets.specs.declared.rules.Pair.{Pair as FoundPair};
-    ghost use Rattle.need_solving.specs.Logs.{pairs_of};
 
     ghost Value = { List FoundPair };
 
-    ghost view = { λ l. pairs_of l.nodes l.objects };
+    ghost view = { λ l. l.first.items ++ l.others };
+}
 
-    ghost invariant = { λ l. length l.nodes ≡ length l.objects };
+/// The pair at a place of a slice; none where there is no such place.
+fn pair_at(pairs: &[Pair], place: usize) -> Option<Pair>
+    ensures { result ≡ slice_get pairs.now place }
+{
+    pairs.get(place).copied()
 }
 
 impl Log {
@@ -33,32 +40,33 @@ impl Log {
         ensures { result ≡ [] }
     {
         Log {
-            nodes: Numbers::new(alloc),
-            objects: Numbers::new(alloc),
+            first: Vec::new(alloc),
+            others: Columns::new(alloc),
         }
     }
 
-    /// Puts a pair at the end. Where there is no memory for it, no pair is left.
-    #[tactic(auto, using(crate::proofs::LogPairs::pushed))]
+    /// Puts a pair at the end. Where there is no memory for it, pairs may be lost.
+    #[tactic(auto, using(crate::proofs::LogPairs::behind_first))]
     pub(crate) fn push(&mut self, pair: Pair) -> Result<(), AllocError>
         ensures { OnOk result (self.new ≡ self.old ++ pair ∷ []) }
     {
-        self.nodes.push(pair.node)?;
-        let Ok(()) = self.objects.push(pair.object) else {
-            self.nodes.clear();
-            self.objects.clear();
-            return Err(AllocError);
-        };
-        Ok(())
+        if self.first.len() < FIRST && self.others.is_empty() {
+            self.first.push(pair)?;
+            return Ok(());
+        }
+        self.others.push(pair)
     }
 
     /// The pair at a place; none where there is no such place.
-    #[tactic(auto, using(crate::proofs::LogPairs::stands, crate::proofs::LogPairs::no_node, crate::proofs::LogPairs::no_object))]
+    #[tactic(auto, using(crate::proofs::LogPairs::among_first, crate::proofs::LogPairs::among_others))]
     pub(crate) fn get(&self, place: usize) -> Option<Pair>
         ensures { result ≡ slice_get self.now place }
     {
-        let node = self.nodes.get(place)?;
-        let object = self.objects.get(place)?;
-        Some(Pair { node, object })
+        let count = self.first.len();
+        if place < count {
+            pair_at(self.first.as_slice(), place)
+        } else {
+            self.others.get(place - count)
+        }
     }
 }
