@@ -1,3 +1,2 @@
 mod Routines
-mod Totals
 mod LookedUp

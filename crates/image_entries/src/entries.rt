@@ -6,13 +6,13 @@ ghost use Rattle.ir_program.specs.Seen.{program_of};
 ghost use Rattle.plan_model.specs.Lists.{numbers_below};
 ghost use Rattle.code_model.specs.CompartmentCode as compartments;
 ghost use Rattle.code_model.specs.CompartmentCode.{members_from};
-ghost use Rattle.image_entries.specs.Bases.{base_in, filled_total, entry_in, entries_in};
+ghost use Rattle.image_entries.specs.Bases.{base_in, entry_in, entries_in};
 ghost use Rattle.image_entries.specs.Grouped.{groups_in, HasEachLend};
 
 use crate::numbers::Numbers;
 use code_offsets::sizes::function_size;
 use ir_program::program::Program;
-use ir_rounding::rounded_up;
+use plan_crossings::bytes_before;
 use plan_model::plan::Plan;
 use std::alloc::{AllocError, Global};
 
@@ -57,21 +57,6 @@ pub fn sizes(alloc: Global, program: &Program, numbers: &Numbers) -> Result<Vec<
         sizes.push(size)?;
     }
     Ok(sizes)
-}
-
-/// The bytes of the functions of a compartment that stand before a number, each filled up to a multiple of four.
-fn bytes_before(compartments: &[u32], sizes: &[u32], compartment: u32, func: usize) -> Option<u32>
-    requires each { length compartments.now ≡ length sizes.now }
-    requires inside { func ≤ length sizes.now }
-    ensures { IfSome result (λ n. n ≡ filled_total sizes.now (members_from 0 (take func compartments.now) compartment)) }
-{
-    let mut total: u32 = 0;
-    for other in 0..func {
-        if compartments[other] == compartment {
-            total = total.checked_add(rounded_up(sizes[other], 4)?)?;
-        }
-    }
-    Some(total)
 }
 
 /// The first address of a compartment's code.

@@ -13,30 +13,20 @@ use Rattle.code_model.specs.CompartmentCode.{CodeGroups, CodePlaces, members_fro
 use Rattle.image_entries.specs.declared.numbers.Numbers.{Numbers}
 use Rattle.image_entries.specs.Grouped.{groups_in}
 use Rattle.image_linker.specs.Parts.{planned_places}
-use Rattle.image_entries.specs.Bases.{filled_total, entry_in, entries_in}
+use Rattle.image_entries.specs.Bases.{entry_in, entries_in}
+use Rattle.plan_crossings.specs.Filled.{filled_total}
+use Rattle.plan_crossings.proofs.Totals.{totals}
 
 module _ (p : Program) (groups : CodeGroups) (zs : List ℕ) (n : ℕ) (are : zs ≡ map (size_of p groups) (numbers_below n)) where
   one_size : (f : ℕ) → f < n → get_or zs f 0 ≡ size_of p groups f
   one_size f l = ap (λ xs. get_or xs f 0) are ∙ get_or-map-range_with_len (size_of p groups) 0 n f f 0 l (omega arith)
-
-  totals : (f : ℕ) (ds : List ℕ) (c : ℕ) → f + length ds ≤ n → filled_total zs (members_from f ds c) ≡ total_size p groups (members_from f ds c)
-  totals f [] c l = refl
-  totals f (d ∷ ds) c l =
-      let h = totals (suc f) ds c (omega arith) in
-      let e = one_size f (omega arith) in
-      by (nat_eq d c) h (ap filled_size e)
-    where
-      by : (b : Bool) → filled_total zs (members_from (suc f) ds c) ≡ total_size p groups (members_from (suc f) ds c) → filled_size (get_or zs f 0) ≡ filled_size (size_of p groups f) →
-          filled_total zs (cond b (f ∷ members_from (suc f) ds c) (members_from (suc f) ds c)) ≡ total_size p groups (cond b (f ∷ members_from (suc f) ds c) (members_from (suc f) ds c))
-      by true h e = omega (arith, h, e)
-      by false h e = h
 
   module _ (l : Plan) (at : CodePlaces) (bases : at.bases ≡ map (λ (s : Spot). s.base) l.code) (each : length groups.compartments ≡ n) where
     one_entry : (h : ℕ) → h < n → entry_in l groups.compartments zs h ≡ entry_of p groups at h
     one_entry h lt =
         let c = get_or groups.compartments h 0 in
         let short = length-take-le h groups.compartments (omega (arith, each, lt)) in
-        let t = totals 0 (take h groups.compartments) c (omega (arith, short, each, lt)) in
+        let t = totals p groups zs n one_size 0 (take h groups.compartments) c (omega (arith, short, each, lt)) in
         let b = ap (λ xs. get_or xs c 0) bases in
         omega (arith, t, b)
 

@@ -1,5 +1,7 @@
-//! The calls that may go to another compartment, and the locals that are lent.
+//! The calls that may go to another compartment, the locals that are lent, and the bytes of a compartment's functions.
 #![tactic(auto)]
+
+mod filled;
 
 ghost use Rattle.std.specs.Prelude.{◌≡◌, ◌<◌, length, IfOk, IfSome};
 ghost use Rattle.std.specs.List.{All};
@@ -10,6 +12,7 @@ ghost use Rattle.code_model.specs.Planned.{call_sites_among};
 ghost use Rattle.plan_crossings.specs.Seen.{seen_sites};
 
 use code_model::CallSite;
+pub use filled::bytes_before;
 use plan_model::groups::Groups;
 use plan_model::needs::{Needs, SiteNeed};
 use std::alloc::{AllocError, Global};

@@ -1,7 +1,8 @@
 -- The sizes that the code makes are those of the definitions.
-use Rattle.std.proofs.Common.{◌≡◌, ℕ, suc, ◌+◌, ◌*◌, ◌<◌, ◌≤◌, Bool, true, false, List, [], ◌∷◌, ◌++◌, cond, length, map, sum_by, get_or, nat_eq, refl, ap, sym, ◌∙◌, length-append, arith}
+use Rattle.std.proofs.Common.{◌≡◌, ℕ, suc, ◌+◌, ◌*◌, ◌<◌, ◌≤◌, Bool, true, false, List, [], ◌∷◌, ◌++◌, cond, length, map, sum_by, get_or, nat_eq, take, Option, None, Some, refl, ap, sym, ◌∙◌, length-append, arith}
 use Rattle.std.specs.List.{list_any}
-use Rattle.std.proofs.lemmas.List.{length-map}
+use Rattle.std.specs.Prelude.{IfSome}
+use Rattle.std.proofs.lemmas.List.{length-map, take_all}
 use Rattle.std.proofs.lemmas.List.FromFn.{get_or-map-range_with_len, length-map-range_with_len}
 use Rattle.std.proofs.lemmas.List.Sums.{sum_by-cons}
 use Rattle.ir_model.specs.Resolved.{Program, func_at}
@@ -19,7 +20,9 @@ use Rattle.code_model.specs.Places.{lends_among}
 use Rattle.code_model.specs.Sizes.{function_size}
 use Rattle.code_model.specs.CompartmentCode.{members_from, filled_size, total_size, size_of, lends_of, code_sizes}
 use Rattle.code_model.specs.Planned.{call_sites, code_groups}
-use Rattle.plan_sizes.specs.Parts.{function_bytes, filled_total, code_with, region_words, block_count, record_bytes}
+use Rattle.plan_sizes.specs.Parts.{function_bytes, code_with, region_words, block_count, record_bytes}
+use Rattle.plan_crossings.specs.Filled.{filled_total}
+use Rattle.plan_crossings.proofs.Totals.{totals}
 use Rattle.plan_sizes.proofs.Lends.{has_place, some_counted}
 use Rattle.code_model.proofs.Frames.{starts_length}
 use Rattle.code_model.proofs.Lends.{lends_counted}
@@ -50,26 +53,18 @@ module _ (p : Program) (n : Needs) (g : Groups) where
   listed_size : (f : ℕ) → f < length p.funcs → get_or all f 0 ≡ size_of p (code_groups p n g) f
   listed_size f l = get_or-map-range_with_len bytes 0 (length p.funcs) f f 0 l (omega arith) ∙ sym (one_size f l)
 
-  totals : (f : ℕ) (ds : List ℕ) (c : ℕ) → f + length ds ≤ length p.funcs → filled_total all (members_from f ds c) ≡ total_size p (code_groups p n g) (members_from f ds c)
-  totals f [] c l = refl
-  totals f (d ∷ ds) c l =
-      let h = totals (suc f) ds c (omega arith) in
-      let e = listed_size f (omega arith) in
-      by (nat_eq d c) h (ap filled_size e)
-    where
-      by : (b : Bool) → filled_total all (members_from (suc f) ds c) ≡ total_size p (code_groups p n g) (members_from (suc f) ds c) →
-          filled_size (get_or all f 0) ≡ filled_size (size_of p (code_groups p n g) f) →
-          filled_total all (cond b (f ∷ members_from (suc f) ds c) (members_from (suc f) ds c)) ≡ total_size p (code_groups p n g) (cond b (f ∷ members_from (suc f) ds c) (members_from (suc f) ds c))
-      by true h e = omega (arith, h, e)
-      by false h e = h
-
   map_same : (F G : ℕ → ℕ) → ((c : ℕ) → F c ≡ G c) → (cs : List ℕ) → map F cs ≡ map G cs
   map_same F G h [] = refl
   map_same F G h (c ∷ cs) = ap (λ x. x ∷ map F cs) (h c) ∙ ap (λ xs. G c ∷ xs) (map_same F G h cs)
 
   pub code_is : length g.of ≡ length p.funcs → code_with p g (crossing_sites n g) (lent n g) ≡ code_sizes p (code_groups p n g) g.count
   code_is each =
-      map_same (λ c. filled_total all (members_from 0 g.of c)) (λ c. total_size p (code_groups p n g) (members_from 0 g.of c)) (λ c. totals 0 g.of c (omega (arith, each))) (numbers_below g.count)
+      map_same (λ c. filled_total all (members_from 0 g.of c)) (λ c. total_size p (code_groups p n g) (members_from 0 g.of c)) (λ c. totals p (code_groups p n g) all (length p.funcs) listed_size 0 g.of c (omega (arith, each))) (numbers_below g.count)
+
+-- the functions of a compartment that stand before the number of all are all of them
+pub of_all : (all ds : List ℕ) (c k : ℕ) (r : Option ℕ) → length ds ≡ length all → k ≡ length all → IfSome r (λ m. m ≡ filled_total all (members_from 0 (take k ds) c)) → IfSome r (λ m. m ≡ filled_total all (members_from 0 ds c))
+of_all all ds c k None e f h = tt
+of_all all ds c k (Some m) e f h = h ∙ ap (λ xs. filled_total all (members_from 0 xs c)) (take_all k ds (omega arith))
 
 -- ---- tables
 

@@ -14,7 +14,8 @@ use Rattle.plan_model.specs.Lending.{is_local}
 use Rattle.plan_model.specs.TableSize.{words_in, unless_empty}
 use Rattle.code_model.specs.declared.places.CallSite.{CallSite}
 use Rattle.code_model.specs.Sizes as sizes
-use Rattle.code_model.specs.CompartmentCode.{members_from, filled_size}
+use Rattle.code_model.specs.CompartmentCode.{members_from}
+use Rattle.plan_crossings.specs.Filled.{filled_total}
 use Rattle.code_model.specs.Planned.{call_sites_among}
 
 -- ---- code
@@ -26,11 +27,6 @@ size_with p calls lent f =
 
 abbrev pub function_bytes : Program → List SiteNeed → (lent : List (ℕ × ℕ)) → (func : ℕ) → ℕ
 function_bytes p ss lent f = size_with p (call_sites_among 0 ss f) lent f
-
--- these functions, each filled up, by the bytes of all
-abbrev pub filled_total : (all funcs : List ℕ) → ℕ
-filled_total all [] = 0
-filled_total all (f ∷ fs) = filled_size (get_or all f 0) + filled_total all fs
 
 -- each compartment
 abbrev pub code_with : Program → Groups → List SiteNeed → (lent : List (ℕ × ℕ)) → List ℕ

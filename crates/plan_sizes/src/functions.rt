@@ -8,14 +8,14 @@ ghost use Rattle.plan_model.specs.Lists.{numbers_below};
 ghost use Rattle.plan_model.specs.Lending.{is_local};
 ghost use Rattle.code_model.specs.CompartmentCode.{members_from};
 ghost use Rattle.code_model.specs.Planned.{call_sites_among};
+ghost use Rattle.plan_crossings.specs.Filled.{filled_total};
 ghost use Rattle.plan_crossings.specs.Seen.{seen_sites};
-ghost use Rattle.plan_sizes.specs.Parts.{size_with, function_bytes, filled_total};
+ghost use Rattle.plan_sizes.specs.Parts.{size_with, function_bytes};
 
 use code_model::CallSite;
 use code_offsets::sizes::function_size;
 use ir_program::program::{Program, Routine};
-use ir_rounding::rounded_up;
-use plan_crossings::call_sites;
+use plan_crossings::{bytes_before, call_sites};
 use plan_model::needs::SiteNeed;
 use std::alloc::{AllocError, Global};
 
@@ -93,17 +93,12 @@ pub(crate) fn all_bytes(
 }
 
 /// The bytes of a compartment, by the compartments and the bytes of all functions.
+#[tactic(auto, using(crate::proofs::Same::of_all))]
 fn compartment_bytes(compartments: &[u32], all: &[u32], compartment: u32) -> Option<u32>
     requires { length compartments.now ≡ length all.now }
     ensures { IfSome result (λ n. n ≡ filled_total all.now (members_from 0 compartments.now compartment)) }
 {
-    let mut total: u32 = 0;
-    for func in 0..all.len() {
-        if compartments[func] == compartment {
-            total = total.checked_add(rounded_up(all[func], 4)?)?;
-        }
-    }
-    Some(total)
+    bytes_before(compartments, all, compartment, all.len())
 }
 
 /// The bytes of so many compartments.

@@ -1,5 +1,5 @@
 use Rattle.code_model.specs.CompartmentCode.{members_from}
-use Rattle.plan_sizes.specs.Parts.{filled_total}
+use Rattle.plan_crossings.specs.Filled.{filled_total}
 use Rattle.plan_sizes.proofs.functions.code_bytes.Goals as goal
 use Rattle.plan_model.proofs.Numbers.{mapped_more}
 

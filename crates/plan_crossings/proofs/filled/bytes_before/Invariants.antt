@@ -1,7 +1,7 @@
 use Rattle.std.proofs.Common.{◌≡◌, take}
 use Rattle.code_model.specs.CompartmentCode.{members_from}
-use Rattle.image_entries.specs.Bases.{filled_total}
-use Rattle.image_entries.proofs.entries.bytes_before.Given as goal
+use Rattle.plan_crossings.specs.Filled.{filled_total}
+use Rattle.plan_crossings.proofs.filled.bytes_before.Given as goal
 
 abbrev pub invariant-loop-other : goal.invariant-loop-other
 invariant-loop-other l =

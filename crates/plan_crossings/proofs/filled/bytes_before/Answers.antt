@@ -1,11 +1,11 @@
 use Rattle.std.proofs.Common.{◌<◌, length, take, get_or, ap, arith}
 use Rattle.std.proofs.lemmas.Bool.{eq-eqb, ne_eqb}
 use Rattle.code_model.specs.CompartmentCode.{members_from}
-use Rattle.image_entries.specs.Bases.{filled_total}
+use Rattle.plan_crossings.specs.Filled.{filled_total}
 use Rattle.code_model.proofs.Members.{member_kept, member_dropped}
-use Rattle.image_entries.proofs.Totals.{total-append}
-use Rattle.image_entries.proofs.entries.bytes_before.Goals as goal
-use Rattle.image_entries.proofs.entries.bytes_before.Goals.{then-compartments-other+in_ok-rounded_up+in_ok-total, else-compartments-other}
+use Rattle.plan_crossings.proofs.Totals.{total-append}
+use Rattle.plan_crossings.proofs.filled.bytes_before.Goals as goal
+use Rattle.plan_crossings.proofs.filled.bytes_before.Goals.{then-compartments-other+in_ok-rounded_up+in_ok-total, else-compartments-other}
 
 pub loop-other-preserved : goal.loop-other-preserved
 loop-other-preserved c =
