@@ -6,7 +6,7 @@ ghost use Rattle.ir_model.specs.Canonical.{IsWithinLimits};
 ghost use Rattle.ir_model.specs.Typing.{checks, IsTyped};
 ghost use Rattle.ir_check_scopes.specs.Found.{Finds, IsFaultOf};
 ghost use Rattle.ir_check.specs.Parts.{code_part};
-ghost use Rattle.ir_check_scopes.specs.Scopes.{IsScope, AreSmall};
+ghost use Rattle.ir_check_scopes.specs.Scopes.{AreSmall};
 
 use ir_check_declarations::declared::declared;
 use ir_check_declarations::files::files;
@@ -22,8 +22,7 @@ use std::alloc::Global;
 
 #[tactic(auto, using(ir_check_scopes::proofs::Order::checks_in_order))]
 fn code(alloc: Global, scope: &Scope) -> Result<(), CheckFault>
-    requires scope { IsScope scope.now }
-    requires small { AreSmall scope.now.bodies.items }
+    requires { AreSmall scope.now.bodies.items }
     ensures { Finds (code_part (firmware_of scope.now.firmware.now)) result }
 {
     globals(alloc, scope)?;

@@ -4,7 +4,6 @@ ghost use Rattle.std.specs.Prelude.{◌≡◌, IfOk};
 ghost use Rattle.ir_model.specs.Plain.{firmware_of};
 ghost use Rattle.ir_check_scopes.specs.Found.{Finds};
 ghost use Rattle.ir_check_declarations.specs.DeclarationParts.{declared_part};
-ghost use Rattle.ir_check_scopes.specs.Scopes.{IsScope};
 
 use crate::periphs::periphs;
 use crate::structs::structs;
@@ -18,7 +17,6 @@ use std::alloc::Global;
 #[tactic(auto, using(ir_check_scopes::proofs::Order::checks_in_order))]
 pub fn declared<'a>(alloc: Global, firmware: &'a Firmware) -> Result<Scope<'a>, CheckFault>
     ensures finds { Finds (declared_part (firmware_of firmware.now)) result }
-    ensures scope { IfOk result IsScope }
     ensures firmware { IfOk result (λ s. s.firmware.now ≡ firmware.now) }
 {
     let names = struct_names(alloc, firmware.structs.as_slice())?;

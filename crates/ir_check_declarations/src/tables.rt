@@ -1,8 +1,8 @@
 //! The tables of a firmware.
 
 ghost use Rattle.std.specs.Prelude.{◌≡◌, ◌++◌, map, flat_map, OnOk, IfOk};
-ghost use Rattle.ir_model.specs.Plain.{PlainFunc, PlainFile, PlainGlobal, PlainStruct, func_of, file_of, struct_of, firmware_of, funcs_of};
-ghost use Rattle.ir_check_scopes.specs.Scopes.{IsScope, lent_funcs};
+ghost use Rattle.ir_model.specs.Plain.{PlainFunc, PlainGlobal, PlainStruct, struct_of, firmware_of, funcs_of};
+ghost use Rattle.ir_check_scopes.specs.Scopes.{lent, declared_funcs};
 
 use ir_check_scopes::Scope;
 use ir_firmware_names::{func_names, global_names};
@@ -12,7 +12,7 @@ use ir_names::Names;
 use std::alloc::{AllocError, Global};
 
 fn put_funcs<'a>(bodies: &mut Vec<&'a Func>, funcs: &'a [Func]) -> Result<(), AllocError>
-    ensures { OnOk result (lent_funcs bodies.new.items ≡ lent_funcs bodies.old.items ++ map func_of funcs.now) }
+    ensures { OnOk result (lent bodies.new.items ≡ lent bodies.old.items ++ funcs.now) }
 {
     for func in funcs {
         bodies.push(func)?;
@@ -21,7 +21,7 @@ fn put_funcs<'a>(bodies: &mut Vec<&'a Func>, funcs: &'a [Func]) -> Result<(), Al
 }
 
 fn all_funcs(alloc: Global, files: &[FileDecl]) -> Result<Vec<&Func>, AllocError>
-    ensures { IfOk result (λ v. lent_funcs v.items ≡ flat_map (λ (f : PlainFile). f.funcs) (map file_of files.now)) }
+    ensures { IfOk result (λ v. lent v.items ≡ flat_map (λ f. f.funcs) files.now) }
 {
     let mut bodies = Vec::new(alloc);
     for file in files {
@@ -39,7 +39,7 @@ struct Below<'a> {
 
 fn names_below(alloc: Global, firmware: &Firmware) -> Result<Below<'_>, AllocError>
     ensures globals { IfOk result (λ b. b.globals ≡ map (λ (g : PlainGlobal). g.name) (firmware_of firmware.now).globals) }
-    ensures bodies { IfOk result (λ b. lent_funcs b.bodies.items ≡ funcs_of (firmware_of firmware.now)) }
+    ensures bodies { IfOk result (λ b. lent b.bodies.items ≡ declared_funcs firmware.now) }
     ensures funcs { IfOk result (λ b. b.funcs ≡ map (λ (f : PlainFunc). f.name) (funcs_of (firmware_of firmware.now))) }
 {
     let bodies = all_funcs(alloc, firmware.files.as_slice())?;
@@ -63,8 +63,7 @@ pub fn scope<'a>(
     requires structs { structs ≡ map (λ (s : PlainStruct). s.name) (map struct_of firmware.now.structs) }
     requires layouts { layouts ≡ firmware.now.structs }
     requires periphs { periphs ≡ map (λ p. p.name) firmware.now.periphs }
-    ensures scope { IfOk result IsScope }
-    ensures firmware { IfOk result (λ s. s.firmware.now ≡ firmware.now) }
+    ensures { IfOk result (λ s. s.firmware.now ≡ firmware.now) }
 {
     let Below {
         globals,

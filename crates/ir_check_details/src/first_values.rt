@@ -9,7 +9,6 @@ ghost use Rattle.ir_model.specs.Rules.{is_type, func_type};
 ghost use Rattle.base_names.specs.Numbers.{has};
 ghost use Rattle.ir_cells.specs.Cells.{lent_types};
 ghost use Rattle.ir_check_scopes.specs.Parts as parts;
-ghost use Rattle.ir_check_scopes.specs.Scopes.{IsScope};
 ghost use Rattle.ir_check_details.specs.FirstValues as first_values;
 
 use crate::lookup::global_declared;
@@ -26,7 +25,6 @@ use std::alloc::AllocError;
 
 /// Whether a function is there, and its type is this one.
 fn function_fits(scope: &Scope, name: &Name, ty: &Ty) -> bool
-    requires { IsScope scope.now }
     ensures { result ≡ (has (map (λ (g : PlainFunc). g.name) (funcs_of (firmware_of scope.now.firmware.now))) name.now && is_type (func_type (funcs_of (firmware_of scope.now.firmware.now)) name.now) (type_of ty.now)) }
 {
     scope.funcs.has(name) && is_function(scope, name, ty)
@@ -34,7 +32,6 @@ fn function_fits(scope: &Scope, name: &Name, ty: &Ty) -> bool
 
 /// Whether a peripheral or a global is there, and its address is of this type.
 fn address_fits(scope: &Scope, name: &Name, ty: &Ty) -> bool
-    requires { IsScope scope.now }
     ensures { result ≡ ((has (map (λ (q : PlainPeripheral). q.name) (firmware_of scope.now.firmware.now).periphs) name.now || has (map (λ (g : PlainGlobal). g.name) (firmware_of scope.now.firmware.now).globals) name.now) && parts.address_fits (firmware_of scope.now.firmware.now) name.now (type_of ty.now)) }
 {
     let known = scope.periphs.has(name) || scope.globals.has(name);
@@ -43,7 +40,6 @@ fn address_fits(scope: &Scope, name: &Name, ty: &Ty) -> bool
 
 /// Whether a first value of a global fits a cell of a type.
 fn fits(scope: &Scope, global: &Name, cell: &Cell, ty: &Ty) -> bool
-    requires { IsScope scope.now }
     ensures { result ≡ first_values.fits (firmware_of scope.now.firmware.now) (place.Global global.now) cell.now (type_of ty.now) }
 {
     match cell {
@@ -110,8 +106,7 @@ fn put_values(
     cells: &[Cell],
     types: &[&Ty],
 ) -> Result<(), AllocError>
-    requires scope { IsScope scope.now }
-    requires count { length cells.now ≤ length types.now }
+    requires { length cells.now ≤ length types.now }
     ensures { OnOk result (out.new.items ≡ out.old.items ++ first_values.values_lines (firmware_of scope.now.firmware.now) (place.Global global.now) 1 cells.now (lent_types types.now)) }
 {
     for i in 0..cells.len() {
@@ -131,7 +126,6 @@ fn put_typed(
     global: &GlobalDecl,
     types: &[&Ty],
 ) -> Result<(), AllocError>
-    requires { IsScope scope.now }
     ensures { OnOk result (out.new.items ≡ out.old.items ++ first_values.init_lines (firmware_of scope.now.firmware.now) (global_of global.now) (lent_types types.now)) }
 {
     let init = global.init.as_slice();
@@ -148,7 +142,6 @@ fn put_init<'a>(
     scope: &Scope<'a>,
     global: &'a GlobalDecl,
 ) -> Result<(), AllocError>
-    requires { IsScope scope.now }
     ensures { OnOk result (out.new.items ≡ out.old.items ++ first_values.init_lines (firmware_of scope.now.firmware.now) (global_of global.now) (first_values.cell_types (firmware_of scope.now.firmware.now) (type_of global.now.ty))) }
 {
     let mut types = Vec::new(*out.allocator());

@@ -5,7 +5,6 @@ ghost use Rattle.ir_model.specs.Types.{type_of, same_result, Callee, result_of, 
 ghost use Rattle.ir_model.specs.Plain.{func_of, slot_of};
 ghost use Rattle.ir_model.specs.Resolve.{type_named, row_from};
 ghost use Rattle.ir_model.specs.Rules as rules;
-ghost use Rattle.ir_check_scopes.specs.Scopes.{IsFuncScope};
 
 use base_names::Name;
 use ir_check_scopes::FuncScope;
@@ -15,7 +14,6 @@ use ir_model::types::Ty;
 use ir_types::equal::same_type;
 
 fn fit_slots(func: &FuncScope, params: &[Slot], args: &[Name]) -> bool
-    requires { IsFuncScope func.now }
     ensures { result ≡ rules.fit (row_from (map slot_of params.now)) (map (type_named (func_of func.now.func.now)) args.now) }
 {
     match params {
@@ -32,7 +30,6 @@ fn fit_slots(func: &FuncScope, params: &[Slot], args: &[Name]) -> bool
 }
 
 fn fit_types(func: &FuncScope, params: &[Ty], args: &[Name]) -> bool
-    requires { IsFuncScope func.now }
     ensures { result ≡ rules.fit (types_from (map type_of params.now)) (map (type_named (func_of func.now.func.now)) args.now) }
 {
     match params {
@@ -49,7 +46,6 @@ fn fit_types(func: &FuncScope, params: &[Ty], args: &[Name]) -> bool
 }
 
 fn takes(func: &FuncScope, outcome: &Option<Ty>, to: &Option<Name>) -> bool
-    requires { IsFuncScope func.now }
     ensures { result ≡ rules.takes_result (result_of outcome.now) (rules.kept_type (func_of func.now.func.now) to.now) }
 {
     match to {
@@ -62,7 +58,6 @@ fn takes(func: &FuncScope, outcome: &Option<Ty>, to: &Option<Name>) -> bool
 }
 
 fn takes_boxed(func: &FuncScope, outcome: &Option<Box<Ty>>, to: &Option<Name>) -> bool
-    requires { IsFuncScope func.now }
     ensures { result ≡ rules.takes_result (boxed_result_of outcome.now) (rules.kept_type (func_of func.now.func.now) to.now) }
 {
     match to {
@@ -76,7 +71,6 @@ fn takes_boxed(func: &FuncScope, outcome: &Option<Box<Ty>>, to: &Option<Name>) -
 
 /// Whether a call of a function fits it.
 pub fn is_call(func: &FuncScope, callee: &Func, args: &[Name], to: &Option<Name>) -> bool
-    requires { IsFuncScope func.now }
     ensures { result ≡ rules.is_call (Some (Callee (row_from (func_of callee.now).params) (func_of callee.now).outcome)) (map (type_named (func_of func.now.func.now)) args.now) (rules.kept_type (func_of func.now.func.now) to.now) }
 {
     fit_slots(func, callee.params.as_slice(), args) && takes(func, &callee.result, to)
@@ -84,7 +78,6 @@ pub fn is_call(func: &FuncScope, callee: &Func, args: &[Name], to: &Option<Name>
 
 /// Whether a call of what has this type fits it.
 pub fn is_icall(func: &FuncScope, callee: &Ty, args: &[Name], to: &Option<Name>) -> bool
-    requires { IsFuncScope func.now }
     ensures { result ≡ rules.is_call (Some (type_of callee.now)) (map (type_named (func_of func.now.func.now)) args.now) (rules.kept_type (func_of func.now.func.now) to.now) }
 {
     match callee {
@@ -101,7 +94,6 @@ pub fn is_icall(func: &FuncScope, callee: &Ty, args: &[Name], to: &Option<Name>)
 
 /// Whether a function may end with this value.
 pub fn is_outcome(func: &FuncScope, value: &Option<Name>) -> bool
-    requires { IsFuncScope func.now }
     ensures { result ≡ same_result (func_of func.now.func.now).outcome (rules.returned_type (func_of func.now.func.now) value.now) }
 {
     match &func.func.result {

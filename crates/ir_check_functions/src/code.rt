@@ -9,7 +9,6 @@ ghost use Rattle.ir_model.specs.Typing.{blocks_checks, code_checks};
 ghost use Rattle.ir_check_scopes.specs.Found.{Finds};
 ghost use Rattle.ir_check_functions.specs.FunctionParts.{inst_check, term_check};
 ghost use Rattle.ir_check_scopes.specs.Spots.{place_of};
-ghost use Rattle.ir_check_scopes.specs.Scopes.{IsScope, IsFuncScope};
 
 use crate::register_names::{inst_names, term_names};
 use crate::{inst_fits, term_fits};
@@ -20,8 +19,6 @@ use ir_model::firmware::{Block, Inst, Term};
 
 #[tactic(auto, using(ir_check_scopes::proofs::Order::checks_in_order))]
 fn inst(scope: &Scope, func: &FuncScope, spot: Spot, inst: &Inst) -> Result<(), CheckFault>
-    requires scope { IsScope scope.now }
-    requires func { IsFuncScope func.now }
     ensures { Finds (inst_check (firmware_of scope.now.firmware.now) (func_of func.now.func.now) (place_of spot.entry) inst.now) result }
 {
     inst_names(scope, func, spot, inst)?;
@@ -31,7 +28,6 @@ fn inst(scope: &Scope, func: &FuncScope, spot: Spot, inst: &Inst) -> Result<(), 
 
 #[tactic(auto, using(ir_check_scopes::proofs::Order::checks_in_order))]
 fn term(func: &FuncScope, spot: Spot, term: &Term) -> Result<(), CheckFault>
-    requires { IsFuncScope func.now }
     ensures { Finds (term_check (func_of func.now.func.now) (place_of spot.entry) term.now) result }
 {
     term_names(func, spot, term)?;
@@ -40,9 +36,7 @@ fn term(func: &FuncScope, spot: Spot, term: &Term) -> Result<(), CheckFault>
 }
 
 fn block(scope: &Scope, func: &FuncScope, block: &Block) -> Result<(), CheckFault>
-    requires scope { IsScope scope.now }
-    requires func { IsFuncScope func.now }
-    requires few { length block.now.insts ≤ instruction_limit }
+    requires { length block.now.insts ≤ instruction_limit }
     ensures { Finds (code_checks (firmware_of scope.now.firmware.now) (func_of func.now.func.now) block.now.label 0 block.now.insts block.now.term) result }
 {
     let insts = block.insts.as_slice();
@@ -57,9 +51,7 @@ fn block(scope: &Scope, func: &FuncScope, block: &Block) -> Result<(), CheckFaul
 
 /// The checks of blocks.
 pub fn blocks(scope: &Scope, func: &FuncScope, blocks: &[Block]) -> Result<(), CheckFault>
-    requires scope { IsScope scope.now }
-    requires func { IsFuncScope func.now }
-    requires few { All (λ (b : Code). length b.insts ≤ instruction_limit) blocks.now }
+    requires { All (λ (b : Code). length b.insts ≤ instruction_limit) blocks.now }
     ensures { Finds (blocks_checks (firmware_of scope.now.firmware.now) (func_of func.now.func.now) blocks.now) result }
 {
     for code in blocks {

@@ -6,7 +6,6 @@ ghost use Rattle.ir_model.specs.Plain.{func_of, firmware_of, funcs_of};
 ghost use Rattle.ir_model.specs.Resolve.{type_named};
 ghost use Rattle.ir_model.specs.Layout.{known, fields_named};
 ghost use Rattle.ir_model.specs.Rules as rules;
-ghost use Rattle.ir_check_scopes.specs.Scopes.{IsScope, IsFuncScope};
 
 use crate::calls::{is_call, is_icall, is_outcome};
 use base_names::Name;
@@ -77,7 +76,6 @@ fn holds_cell(pointer: &Ty, register: &Ty) -> bool
 }
 
 fn is_field_of(scope: &Scope, of: &Name, field: &Name, to: &Ty) -> bool
-    requires { IsScope scope.now }
     ensures { result ≡ rules.is_address (rules.field_type (fields_named (known (firmware_of scope.now.firmware.now).structs) of.now) field.now) (type_of to.now) }
 {
     match field_named(scope, of, field) {
@@ -87,7 +85,6 @@ fn is_field_of(scope: &Scope, of: &Name, field: &Name, to: &Ty) -> bool
 }
 
 fn is_field(scope: &Scope, base: &Ty, field: &Name, to: &Ty) -> bool
-    requires { IsScope scope.now }
     ensures { result ≡ rules.is_field (known (firmware_of scope.now.firmware.now).structs) (type_of base.now) field.now (type_of to.now) }
 {
     match base {
@@ -110,8 +107,6 @@ fn is_field(scope: &Scope, base: &Ty, field: &Name, to: &Ty) -> bool
 }
 
 fn is_address_of(scope: &Scope, func: &FuncScope, name: &Name, to: &Ty) -> bool
-    requires scope { IsScope scope.now }
-    requires func { IsFuncScope func.now }
     ensures { result ≡ rules.is_address_of (firmware_of scope.now.firmware.now) (func_of func.now.func.now) name.now (type_of to.now) }
 {
     if let Some(ty) = local_named(func, name) {
@@ -127,14 +122,12 @@ fn is_address_of(scope: &Scope, func: &FuncScope, name: &Name, to: &Ty) -> bool
 }
 
 fn is_number(func: &FuncScope, name: &Name) -> bool
-    requires { IsFuncScope func.now }
     ensures { result ≡ rules.is_number (func_of func.now.func.now) name.now }
 {
     is_word(register_type(func, name))
 }
 
 fn are_numbers(func: &FuncScope, a: &Name, b: &Name, c: &Name) -> bool
-    requires { IsFuncScope func.now }
     ensures { result ≡ rules.is_number (func_of func.now.func.now) a.now && (rules.is_number (func_of func.now.func.now) b.now && rules.is_number (func_of func.now.func.now) c.now) }
 {
     is_number(func, a) && is_number(func, b) && is_number(func, c)
@@ -147,8 +140,6 @@ fn is_named_call(
     args: &[Name],
     to: &Option<Name>,
 ) -> bool
-    requires scope { IsScope scope.now }
-    requires func { IsFuncScope func.now }
     ensures { result ≡ rules.is_call (rules.func_type (funcs_of (firmware_of scope.now.firmware.now)) callee.now) (map (type_named (func_of func.now.func.now)) args.now) (rules.kept_type (func_of func.now.func.now) to.now) }
 {
     match func_named(scope, callee) {
@@ -160,8 +151,6 @@ fn is_named_call(
 /// Whether an instruction's types fit.
 #[tactic(auto, unfolding(ir_model::specs::Rules::inst_fits))]
 pub fn inst_fits(scope: &Scope, func: &FuncScope, inst: &Inst) -> bool
-    requires scope { IsScope scope.now }
-    requires func { IsFuncScope func.now }
     ensures { result ≡ rules.inst_fits (firmware_of scope.now.firmware.now) (func_of func.now.func.now) inst.now }
 {
     match inst {
@@ -197,7 +186,6 @@ pub fn inst_fits(scope: &Scope, func: &FuncScope, inst: &Inst) -> bool
 /// Whether the types of a block's end fit.
 #[tactic(auto, unfolding(ir_model::specs::Rules::term_fits))]
 pub fn term_fits(func: &FuncScope, term: &Term) -> bool
-    requires { IsFuncScope func.now }
     ensures { result ≡ rules.term_fits (func_of func.now.func.now) term.now }
 {
     match term {

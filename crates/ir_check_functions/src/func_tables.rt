@@ -3,7 +3,6 @@
 ghost use Rattle.std.specs.Prelude.{◌≡◌, IfOk};
 ghost use Rattle.ir_model.specs.Plain.{func_of};
 ghost use Rattle.ir_model.specs.Resolve.{labels_of};
-ghost use Rattle.ir_check_scopes.specs.Scopes.{IsFuncScope};
 
 use ir_check_scopes::FuncScope;
 use ir_firmware_names::{local_names, register_names};
@@ -19,8 +18,7 @@ pub fn func_scope<'a>(
     labels: Names<'a>,
 ) -> Result<FuncScope<'a>, AllocError>
     requires { labels ≡ labels_of (func_of func.now) }
-    ensures scope { IfOk result IsFuncScope }
-    ensures func { IfOk result (λ s. s.func.now ≡ func.now) }
+    ensures { IfOk result (λ s. s.func.now ≡ func.now) }
 {
     let registers = register_names(alloc, func)?;
     let locals = local_names(alloc, func)?;

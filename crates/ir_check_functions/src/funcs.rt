@@ -9,7 +9,7 @@ ghost use Rattle.ir_model.specs.FewItems.{HasFewItems};
 ghost use Rattle.ir_model.specs.Typing.{funcs_checks};
 ghost use Rattle.ir_check_scopes.specs.Found.{Finds};
 ghost use Rattle.ir_check_functions.specs.FunctionParts.{body_part, func_part};
-ghost use Rattle.ir_check_scopes.specs.Scopes.{IsScope, AreSmall};
+ghost use Rattle.ir_check_scopes.specs.Scopes.{AreSmall};
 
 use crate::code::blocks;
 use crate::frame::frame;
@@ -22,8 +22,7 @@ use std::alloc::Global;
 
 #[tactic(auto, using(ir_check_scopes::proofs::Order::checks_in_order, ir_check_scopes::proofs::Order::checks_behind_one))]
 fn body(alloc: Global, scope: &Scope, func: &Func) -> Result<(), CheckFault>
-    requires scope { IsScope scope.now }
-    requires few { All (λ (b : Block). length b.insts ≤ instruction_limit) func.now.blocks }
+    requires { All (λ (b : Block). length b.insts ≤ instruction_limit) func.now.blocks }
     ensures { Finds (body_part (firmware_of scope.now.firmware.now) (func_of func.now)) result }
 {
     let labels = labels(alloc, Spot::Func(&func.name), func.blocks.as_slice())?;
@@ -34,8 +33,7 @@ fn body(alloc: Global, scope: &Scope, func: &Func) -> Result<(), CheckFault>
 
 #[tactic(auto, using(ir_check_scopes::proofs::Order::checks_in_order))]
 fn func(alloc: Global, scope: &Scope, func: &Func) -> Result<(), CheckFault>
-    requires scope { IsScope scope.now }
-    requires small { HasFewItems func.now }
+    requires { HasFewItems func.now }
     ensures { Finds (func_part scope.now.structs (firmware_of scope.now.firmware.now) (func_of func.now)) result }
 {
     let locals = slots(alloc, scope, func)?;
@@ -46,8 +44,7 @@ fn func(alloc: Global, scope: &Scope, func: &Func) -> Result<(), CheckFault>
 
 /// The checks of all functions.
 pub fn funcs(alloc: Global, scope: &Scope) -> Result<(), CheckFault>
-    requires scope { IsScope scope.now }
-    requires small { AreSmall scope.now.bodies.items }
+    requires { AreSmall scope.now.bodies.items }
     ensures { Finds (funcs_checks (firmware_of scope.now.firmware.now) (funcs_of (firmware_of scope.now.firmware.now))) result }
 {
     for body in &scope.bodies {

@@ -10,7 +10,6 @@ ghost use Rattle.ir_model.specs.Typing.{object_limit, local_checks};
 ghost use Rattle.ir_check_scopes.specs.Found.{Finds};
 ghost use Rattle.ir_check_scopes.specs.Spots.{place_of};
 ghost use Rattle.ir_check_functions.specs.SlotParts.{local_check, slot_check};
-ghost use Rattle.ir_check_scopes.specs.Scopes.{IsScope};
 
 use ir_check_scopes::new_names::add_new;
 use ir_check_scopes::sizes::object_size;
@@ -42,7 +41,6 @@ fn local<'a>(
     seen: &mut Names<'a>,
     slot: &'a Slot,
 ) -> Result<u32, CheckFault>
-    requires { IsScope scope.now }
     ensures finds { Finds (local_check (firmware_of scope.now.firmware.now) scope.now.structs (place_of spot.entry) seen.old (slot_of slot.now)) result }
     ensures grows { OnOk result (seen.new ≡ seen.old ++ slot.now.name ∷ []) }
     ensures size { IfOk result (λ n. n ≡ (shape (known (firmware_of scope.now.firmware.now).structs) (type_of slot.now.ty)).size) }
@@ -72,8 +70,7 @@ pub fn locals<'a>(
     seen: &mut Names<'a>,
     slots: &'a [Slot],
 ) -> Result<u64, CheckFault>
-    requires scope { IsScope scope.now }
-    requires few { length slots.now ≤ local_limit }
+    requires { length slots.now ≤ local_limit }
     ensures finds { Finds (local_checks (firmware_of scope.now.firmware.now) scope.now.structs (place_of spot.entry) seen.old (map slot_of slots.now)) result }
     ensures grows { OnOk result (seen.new ≡ seen.old ++ names_of (map slot_of slots.now)) }
     ensures size { IfOk result (λ n. n ≡ locals_size (known (firmware_of scope.now.firmware.now).structs) (map slot_of slots.now)) }

@@ -5,7 +5,6 @@ ghost use Rattle.ir_model.specs.Types.{Callee, none, nothing, same};
 ghost use Rattle.ir_model.specs.Resolve.{row_from};
 ghost use Rattle.ir_model.specs.Plain.{func_of, firmware_of};
 ghost use Rattle.ir_model.specs.Typing.{has_main};
-ghost use Rattle.ir_check_scopes.specs.Scopes.{IsScope};
 
 use ir_check_scopes::Scope;
 use ir_check_scopes::lookup::word_named;
@@ -25,7 +24,6 @@ fn is_main(func: &Func) -> bool
 
 /// Whether there is a `main`, with neither parameters nor a result.
 pub fn main_there(scope: &Scope) -> bool
-    requires { IsScope scope.now }
     ensures { result ≡ has_main (firmware_of scope.now.firmware.now) }
 {
     match word_named(scope, b"main") {

@@ -5,7 +5,6 @@ ghost use Rattle.ir_model.specs.Plain.{func_of, firmware_of};
 ghost use Rattle.ir_model.specs.Typing.{registers_known, label_known, optional_name, inst_names, term_names, is_known, has_address};
 ghost use Rattle.ir_check_scopes.specs.Found.{Finds};
 ghost use Rattle.ir_check_scopes.specs.Spots.{place_of};
-ghost use Rattle.ir_check_scopes.specs.Scopes.{IsScope, IsFuncScope};
 
 use base_names::Name;
 use ir_check_scopes::found::require_known;
@@ -13,7 +12,6 @@ use ir_check_scopes::{CheckFault, FuncScope, Scope, Spot};
 use ir_model::firmware::{Inst, Term};
 
 fn one_known(func: &FuncScope, spot: Spot, name: &Name) -> Result<(), CheckFault>
-    requires { IsFuncScope func.now }
     ensures { Finds (registers_known (func_of func.now.func.now) (place_of spot.entry) (name.now ∷ [])) result }
 {
     require_known(func.registers.has(name), name, spot)
@@ -21,7 +19,6 @@ fn one_known(func: &FuncScope, spot: Spot, name: &Name) -> Result<(), CheckFault
 
 #[tactic(auto, using(ir_check_scopes::proofs::Order::checks_in_order, ir_check_scopes::proofs::Order::checks_behind_one))]
 fn two_known(func: &FuncScope, spot: Spot, a: &Name, b: &Name) -> Result<(), CheckFault>
-    requires { IsFuncScope func.now }
     ensures { Finds (registers_known (func_of func.now.func.now) (place_of spot.entry) (a.now ∷ b.now ∷ [])) result }
 {
     one_known(func, spot, a)?;
@@ -31,7 +28,6 @@ fn two_known(func: &FuncScope, spot: Spot, a: &Name, b: &Name) -> Result<(), Che
 
 #[tactic(auto, using(ir_check_scopes::proofs::Order::checks_in_order, ir_check_scopes::proofs::Order::checks_behind_one))]
 fn three_known(func: &FuncScope, spot: Spot, a: &Name, b: &Name, c: &Name) -> Result<(), CheckFault>
-    requires { IsFuncScope func.now }
     ensures { Finds (registers_known (func_of func.now.func.now) (place_of spot.entry) (a.now ∷ b.now ∷ c.now ∷ [])) result }
 {
     one_known(func, spot, a)?;
@@ -40,7 +36,6 @@ fn three_known(func: &FuncScope, spot: Spot, a: &Name, b: &Name, c: &Name) -> Re
 }
 
 fn all_known(func: &FuncScope, spot: Spot, names: &[Name]) -> Result<(), CheckFault>
-    requires { IsFuncScope func.now }
     ensures { Finds (registers_known (func_of func.now.func.now) (place_of spot.entry) names.now) result }
 {
     for name in names {
@@ -50,7 +45,6 @@ fn all_known(func: &FuncScope, spot: Spot, names: &[Name]) -> Result<(), CheckFa
 }
 
 fn kept_known(func: &FuncScope, spot: Spot, name: &Option<Name>) -> Result<(), CheckFault>
-    requires { IsFuncScope func.now }
     ensures { Finds (registers_known (func_of func.now.func.now) (place_of spot.entry) (optional_name name.now)) result }
 {
     match name {
@@ -60,15 +54,12 @@ fn kept_known(func: &FuncScope, spot: Spot, name: &Option<Name>) -> Result<(), C
 }
 
 fn label_known(func: &FuncScope, spot: Spot, label: &Name) -> Result<(), CheckFault>
-    requires { IsFuncScope func.now }
     ensures { Finds (label_known (func_of func.now.func.now) (place_of spot.entry) label.now ∷ []) result }
 {
     require_known(func.labels.has(label), label, spot)
 }
 
 fn address_known(scope: &Scope, func: &FuncScope, spot: Spot, name: &Name) -> Result<(), CheckFault>
-    requires scope { IsScope scope.now }
-    requires func { IsFuncScope func.now }
     ensures { Finds (is_known (has_address (firmware_of scope.now.firmware.now) (func_of func.now.func.now) name.now) name.now (place_of spot.entry) ∷ []) result }
 {
     let known = func.locals.has(name) || scope.periphs.has(name) || scope.globals.has(name);
@@ -78,7 +69,6 @@ fn address_known(scope: &Scope, func: &FuncScope, spot: Spot, name: &Name) -> Re
 /// Whether each name of a block's end is there.
 #[tactic(auto, using(ir_check_scopes::proofs::Order::checks_in_order, ir_check_scopes::proofs::Order::checks_behind_one))]
 pub fn term_names(func: &FuncScope, spot: Spot, term: &Term) -> Result<(), CheckFault>
-    requires { IsFuncScope func.now }
     ensures { Finds (term_names (func_of func.now.func.now) (place_of spot.entry) term.now) result }
 {
     match term {
@@ -101,8 +91,6 @@ pub fn inst_names(
     spot: Spot,
     inst: &Inst,
 ) -> Result<(), CheckFault>
-    requires scope { IsScope scope.now }
-    requires func { IsFuncScope func.now }
     ensures { Finds (inst_names (firmware_of scope.now.firmware.now) (func_of func.now.func.now) (place_of spot.entry) inst.now) result }
 {
     match inst {

@@ -9,7 +9,6 @@ ghost use Rattle.ir_model.specs.FewItems.{HasFewLocals};
 ghost use Rattle.ir_model.specs.Typing.{object_limit};
 ghost use Rattle.ir_check_scopes.specs.Found.{Finds};
 ghost use Rattle.ir_check_functions.specs.SlotParts.{slots_part};
-ghost use Rattle.ir_check_scopes.specs.Scopes.{IsScope};
 
 use crate::locals::locals;
 use crate::registers::{outcome, registers};
@@ -21,7 +20,6 @@ use std::alloc::Global;
 /// The slots of a function, no name being taken before.
 #[tactic(auto, using(ir_check_scopes::proofs::Order::checks_in_order))]
 fn slots_behind<'a>(scope: &Scope, seen: &mut Names<'a>, func: &'a Func) -> Result<u64, CheckFault>
-    requires scope { IsScope scope.now }
     requires seen { seen.old ≡ [] }
     requires few { HasFewLocals func.now }
     ensures finds { Finds (slots_part scope.now.structs (firmware_of scope.now.firmware.now) (func_of func.now)) result }
@@ -38,8 +36,7 @@ fn slots_behind<'a>(scope: &Scope, seen: &mut Names<'a>, func: &'a Func) -> Resu
 
 /// The checks of a function's parameters, result, locals and registers; and how many bytes the locals take.
 pub fn slots(alloc: Global, scope: &Scope, func: &Func) -> Result<u64, CheckFault>
-    requires scope { IsScope scope.now }
-    requires few { HasFewLocals func.now }
+    requires { HasFewLocals func.now }
     ensures finds { Finds (slots_part scope.now.structs (firmware_of scope.now.firmware.now) (func_of func.now)) result }
     ensures size { IfOk result (λ n. n ≡ locals_size (known (firmware_of scope.now.firmware.now).structs) (func_of func.now).locals) }
     ensures most { IfOk result (λ n. n ≤ local_limit * object_limit) }

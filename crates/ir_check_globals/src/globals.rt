@@ -8,7 +8,6 @@ ghost use Rattle.ir_check_scopes.specs.Found.{Finds};
 ghost use Rattle.ir_check_scopes.specs.Spots.{place_of};
 ghost use Rattle.ir_cells.specs.Cells.{lent_types};
 ghost use Rattle.ir_check_globals.specs.Parts.{cells_part, values_checks, values_part, named_check, global_part};
-ghost use Rattle.ir_check_scopes.specs.Scopes.{IsScope};
 
 use base_names::Name;
 use ir_cells::put_cell_types;
@@ -28,7 +27,6 @@ use std::alloc::Global;
 
 #[tactic(auto, using(ir_check_scopes::proofs::Order::checks_behind_one))]
 fn function_cell(scope: &Scope, spot: Spot, name: &Name, ty: &Ty) -> Result<(), CheckFault>
-    requires { IsScope scope.now }
     ensures { Finds (cell_checks (firmware_of scope.now.firmware.now) (place_of spot.entry) (Cell.Function name.now) (type_of ty.now)) result }
 {
     require_known(scope.funcs.has(name), name, spot)?;
@@ -38,7 +36,6 @@ fn function_cell(scope: &Scope, spot: Spot, name: &Name, ty: &Ty) -> Result<(), 
 
 #[tactic(auto, using(ir_check_scopes::proofs::Order::checks_behind_one))]
 fn address_cell(scope: &Scope, spot: Spot, name: &Name, ty: &Ty) -> Result<(), CheckFault>
-    requires { IsScope scope.now }
     ensures { Finds (cell_checks (firmware_of scope.now.firmware.now) (place_of spot.entry) (Cell.Address name.now) (type_of ty.now)) result }
 {
     let known = scope.periphs.has(name) || scope.globals.has(name);
@@ -48,7 +45,6 @@ fn address_cell(scope: &Scope, spot: Spot, name: &Name, ty: &Ty) -> Result<(), C
 }
 
 fn value(scope: &Scope, spot: Spot, cell: &Cell, ty: &Ty) -> Result<(), CheckFault>
-    requires { IsScope scope.now }
     ensures { Finds (cell_checks (firmware_of scope.now.firmware.now) (place_of spot.entry) cell.now (type_of ty.now)) result }
 {
     match cell {
@@ -59,8 +55,7 @@ fn value(scope: &Scope, spot: Spot, cell: &Cell, ty: &Ty) -> Result<(), CheckFau
 }
 
 fn values(scope: &Scope, spot: Spot, cells: &[Cell], types: &[&Ty]) -> Result<(), CheckFault>
-    requires scope { IsScope scope.now }
-    requires count { length cells.now ≤ length types.now }
+    requires { length cells.now ≤ length types.now }
     ensures { Finds (values_checks (firmware_of scope.now.firmware.now) (place_of spot.entry) cells.now (lent_types types.now)) result }
 {
     for i in 0..cells.len() {
@@ -70,7 +65,6 @@ fn values(scope: &Scope, spot: Spot, cells: &[Cell], types: &[&Ty]) -> Result<()
 }
 
 fn typed_values(scope: &Scope, spot: Spot, cells: &[Cell], types: &[&Ty]) -> Result<(), CheckFault>
-    requires { IsScope scope.now }
     ensures { Finds (values_part (firmware_of scope.now.firmware.now) (place_of spot.entry) cells.now (lent_types types.now)) result }
 {
     if cells.len() > types.len() {
@@ -86,7 +80,6 @@ fn first_values<'a>(
     spot: Spot,
     global: &'a GlobalDecl,
 ) -> Result<(), CheckFault>
-    requires { IsScope scope.now }
     ensures { Finds (cells_part (firmware_of scope.now.firmware.now) (place_of spot.entry) global.now.init (type_of global.now.ty)) result }
 {
     let init = global.init.as_slice();
@@ -117,7 +110,6 @@ fn global<'a>(
     seen: &mut Names<'a>,
     global: &'a GlobalDecl,
 ) -> Result<(), CheckFault>
-    requires { IsScope scope.now }
     ensures finds { Finds (global_part scope.now.structs (firmware_of scope.now.firmware.now) seen.old (global_of global.now)) result }
     ensures grows { OnOk result (seen.new ≡ seen.old ++ global.now.name ∷ []) }
 {
@@ -130,7 +122,6 @@ fn global<'a>(
 
 /// The checks of globals.
 pub fn globals(alloc: Global, scope: &Scope) -> Result<(), CheckFault>
-    requires { IsScope scope.now }
     ensures { Finds (globals_checks (firmware_of scope.now.firmware.now) (map (λ p. p.name) scope.now.firmware.now.periphs) (map global_of scope.now.firmware.now.globals)) result }
 {
     let mut seen = periph_names(alloc, scope.firmware.periphs.as_slice())?;

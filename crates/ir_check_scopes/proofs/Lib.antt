@@ -1,3 +1,4 @@
 pub mod Order
 pub mod Regrouped
+pub mod LentFuncs
 mod NamedTypes

@@ -7,7 +7,6 @@ ghost use Rattle.ir_model.specs.Layout.{known, fields_named};
 ghost use Rattle.base_names.specs.Numbers.{has};
 ghost use Rattle.ir_model.specs.Resolve.{type_named, row_from};
 ghost use Rattle.ir_model.specs.Rules.{slot_type, global_type, func_type, field_type, is_type};
-ghost use Rattle.ir_check_scopes.specs.Scopes.{IsScope, IsFuncScope};
 
 use crate::scope::{FuncScope, Scope};
 use base_names::Name;
@@ -17,7 +16,6 @@ use ir_types::callee::is_callee;
 
 /// The type of a register; of a name that no register has, `u32`.
 pub fn register_type<'s>(scope: &'s FuncScope<'s>, name: &Name) -> &'s Ty
-    requires { IsFuncScope scope.now }
     ensures { type_of result.now ≡ type_named (func_of scope.now.func.now) name.now }
 {
     let Some(place) = scope.registers.number(name) else {
@@ -33,7 +31,6 @@ pub fn register_type<'s>(scope: &'s FuncScope<'s>, name: &Name) -> &'s Ty
 
 /// The type of a local.
 pub fn local_named<'s>(scope: &'s FuncScope<'s>, name: &Name) -> Option<&'s Ty>
-    requires { IsFuncScope scope.now }
     ensures there { is_some result ≡ has (names_of (func_of scope.now.func.now).locals) name.now }
     ensures ty { IfSome result (λ t. slot_type (func_of scope.now.func.now).locals name.now ≡ Some (type_of t.now)) }
 {
@@ -45,7 +42,6 @@ pub fn local_named<'s>(scope: &'s FuncScope<'s>, name: &Name) -> Option<&'s Ty>
 
 /// The type of a global.
 pub fn global_named<'s>(scope: &'s Scope<'s>, name: &Name) -> Option<&'s Ty>
-    requires { IsScope scope.now }
     ensures { MatchOption result (global_type (firmware_of scope.now.firmware.now).globals name.now ≡ None) (λ t. global_type (firmware_of scope.now.firmware.now).globals name.now ≡ Some (type_of t.now)) }
 {
     let Some(place) = scope.globals.number(name) else {
@@ -55,8 +51,8 @@ pub fn global_named<'s>(scope: &'s Scope<'s>, name: &Name) -> Option<&'s Ty>
 }
 
 /// A function.
+#[tactic(auto, using(crate::proofs::LentFuncs::funcs_counted))]
 pub fn func_named<'s>(scope: &'s Scope<'s>, name: &Name) -> Option<&'s Func>
-    requires { IsScope scope.now }
     ensures { MatchOption result (func_type (funcs_of (firmware_of scope.now.firmware.now)) name.now ≡ None) (λ f. func_type (funcs_of (firmware_of scope.now.firmware.now)) name.now ≡ Some (Callee (row_from (func_of f.now).params) (func_of f.now).outcome)) }
 {
     let Some(place) = scope.funcs.number(name) else {
@@ -66,8 +62,8 @@ pub fn func_named<'s>(scope: &'s Scope<'s>, name: &Name) -> Option<&'s Func>
 }
 
 /// A function of a given word.
+#[tactic(auto, using(crate::proofs::LentFuncs::funcs_counted))]
 pub fn word_named<'s>(scope: &'s Scope<'s>, word: &[u8]) -> Option<&'s Func>
-    requires { IsScope scope.now }
     ensures { MatchOption result (func_type (funcs_of (firmware_of scope.now.firmware.now)) word.now ≡ None) (λ f. func_type (funcs_of (firmware_of scope.now.firmware.now)) word.now ≡ Some (Callee (row_from (func_of f.now).params) (func_of f.now).outcome)) }
 {
     let Some(place) = scope.funcs.find(word) else {
@@ -78,7 +74,6 @@ pub fn word_named<'s>(scope: &'s Scope<'s>, word: &[u8]) -> Option<&'s Func>
 
 /// The type of a struct's field.
 pub fn field_named<'s>(scope: &'s Scope<'s>, of: &Name, field: &Name) -> Option<&'s Ty>
-    requires { IsScope scope.now }
     ensures { MatchOption result (field_type (fields_named (known (firmware_of scope.now.firmware.now).structs) of.now) field.now ≡ None) (λ t. field_type (fields_named (known (firmware_of scope.now.firmware.now).structs) of.now) field.now ≡ Some (type_of t.now)) }
 {
     match scope.layouts.field(of, field) {
@@ -89,7 +84,6 @@ pub fn field_named<'s>(scope: &'s Scope<'s>, of: &Name, field: &Name) -> Option<
 
 /// Whether a type is that of a function of this name.
 pub fn is_function(scope: &Scope, name: &Name, to: &Ty) -> bool
-    requires { IsScope scope.now }
     ensures { result ≡ is_type (func_type (funcs_of (firmware_of scope.now.firmware.now)) name.now) (type_of to.now) }
 {
     match func_named(scope, name) {

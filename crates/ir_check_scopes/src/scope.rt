@@ -1,11 +1,20 @@
 //! What the checks of functions look names up in.
 
+ghost use Rattle.std.specs.Prelude.{◌≡◌, map};
+ghost use Rattle.std.specs.Coded.{codes, Coded-set};
+ghost use Rattle.ir_model.specs.declared.firmware.Peripheral.{Peripheral};
+ghost use Rattle.ir_model.specs.declared.types.Ty.TheVariants.{U32};
+ghost use Rattle.ir_model.specs.contracts.types.Ty as types;
+ghost use Rattle.ir_model.specs.Plain.{PlainStruct, PlainGlobal, PlainFunc, firmware_of, func_of, funcs_of, names_of, regs_of};
+ghost use Rattle.ir_model.specs.Resolve.{labels_of};
+ghost use Rattle.ir_check_scopes.specs.Scopes.{lent, declared_funcs};
+
 use ir_layouts::table::Layouts;
 use ir_model::firmware::{Firmware, Func};
 use ir_model::types::Ty;
 use ir_names::Names;
 
-/// A firmware with its names, and the layouts of its structs.
+/// A firmware with its names, and the layouts of its structs. Each table has what the firmware has, in its order.
 #[derive(Drop)]
 pub struct Scope<'a> {
     /// The firmware.
@@ -22,9 +31,15 @@ pub struct Scope<'a> {
     pub funcs: Names<'a>,
     /// These functions.
     pub bodies: Vec<&'a Func>,
+    pub ghost all_structs: { structs ≡ map (λ (d : PlainStruct). d.name) (firmware_of firmware.now).structs },
+    pub ghost all_layouts: { layouts ≡ firmware.now.structs } by { Coded-set (Prim.hlevel (codes, types.the_row.coded)) _ _ },
+    pub ghost all_periphs: { periphs ≡ map (λ (q : Peripheral). q.name) (firmware_of firmware.now).periphs },
+    pub ghost all_globals: { globals ≡ map (λ (g : PlainGlobal). g.name) (firmware_of firmware.now).globals },
+    pub ghost all_funcs: { funcs ≡ map (λ (f : PlainFunc). f.name) (funcs_of (firmware_of firmware.now)) },
+    pub ghost all_bodies: { lent bodies.items ≡ declared_funcs firmware.now } by { Coded-set (Prim.hlevel (codes, types.the_row.coded)) _ _ },
 }
 
-/// A function with its names.
+/// A function with its names. Each table has what the function has, in its order.
 #[derive(Drop)]
 pub struct FuncScope<'a> {
     /// The function.
@@ -37,4 +52,8 @@ pub struct FuncScope<'a> {
     pub labels: Names<'a>,
     /// The type of a number.
     pub number: Ty,
+    pub ghost all_registers: { registers ≡ names_of (regs_of (func_of func.now)) },
+    pub ghost all_locals: { locals ≡ names_of (func_of func.now).locals },
+    pub ghost all_labels: { labels ≡ labels_of (func_of func.now) },
+    pub ghost number_is_word: { number ≡ U32 } by { Coded-set types.the_row.coded _ _ },
 }

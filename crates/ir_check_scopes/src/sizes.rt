@@ -8,7 +8,6 @@ ghost use Rattle.ir_model.specs.Typing.{object_limit};
 ghost use Rattle.ir_check_scopes.specs.Found.{Finds};
 ghost use Rattle.ir_check_scopes.specs.Spots.{place_of};
 ghost use Rattle.ir_check_scopes.specs.Parts.{size_check};
-ghost use Rattle.ir_check_scopes.specs.Scopes.{IsScope};
 
 use crate::found::require;
 use crate::scope::Scope;
@@ -19,7 +18,6 @@ use ir_model::types::Ty;
 
 /// Whether a type has a size that an object may have, and this size.
 pub fn object_size(scope: &Scope, spot: Spot, ty: &Ty) -> Result<u32, CheckFault>
-    requires { IsScope scope.now }
     ensures finds { Finds (size_check (firmware_of scope.now.firmware.now) (place_of spot.entry) (type_of ty.now)) result }
     ensures size { IfOk result (λ n. n ≡ (shape (known (firmware_of scope.now.firmware.now).structs) (type_of ty.now)).size) }
     ensures small { IfOk result (λ n. n ≤ object_limit) }

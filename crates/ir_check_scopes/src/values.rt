@@ -5,7 +5,6 @@ ghost use Rattle.ir_model.specs.Types as types;
 ghost use Rattle.ir_model.specs.Types.{type_of};
 ghost use Rattle.ir_model.specs.Plain.{firmware_of};
 ghost use Rattle.ir_check_scopes.specs.Parts.{address_fits};
-ghost use Rattle.ir_check_scopes.specs.Scopes.{IsScope};
 
 use crate::kinds::{is_port, points_to};
 use crate::lookup::global_named;
@@ -30,7 +29,6 @@ pub fn holds_number(ty: &Ty, number: u32) -> bool
 
 /// Whether a cell of a type holds the address of a peripheral, or else of a global.
 pub fn holds_address(scope: &Scope, name: &Name, ty: &Ty) -> bool
-    requires { IsScope scope.now }
     ensures { result ≡ address_fits (firmware_of scope.now.firmware.now) name.now (type_of ty.now) }
 {
     if scope.periphs.has(name) {

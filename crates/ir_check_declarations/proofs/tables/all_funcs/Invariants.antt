@@ -1,8 +1,7 @@
-use Rattle.std.proofs.Common.{◌≡◌, map, take}
-use Rattle.std.specs.Prelude.{flat_map}
-use Rattle.ir_model.specs.Plain.{PlainFile, file_of}
-use Rattle.ir_check_scopes.specs.Scopes.{lent_funcs}
+use Rattle.std.proofs.Common.{◌≡◌, take, flat_map}
+use Rattle.ir_model.specs.declared.firmware.FileDecl.{FileDecl}
+use Rattle.ir_check_scopes.specs.Scopes.{lent}
 use Rattle.ir_check_declarations.proofs.tables.all_funcs.Given as goal
 
 abbrev pub invariant-loop-file : goal.invariant-loop-file
-invariant-loop-file l = lent_funcs l.bodies.items ≡ flat_map (λ (f : PlainFile). f.funcs) (map file_of (take l.file-index l.files))
+invariant-loop-file l = lent l.bodies.items ≡ flat_map (λ (f : FileDecl). f.funcs) (take l.file-index l.files)

@@ -13,4 +13,4 @@ returns-in_err-blocks c =
     (refused_right (label_checks (place.Func c.args.func.now.name) [] c.args.func.now.blocks) (blocks_checks (firmware_of c.args.scope.now.firmware.now) (func_of c.args.func.now) c.args.func.now.blocks) c.in_err-blocks.field-0.0
     (subst (λ bs. first_failing (label_checks (place.Func c.args.func.now.name) [] bs) ≡ None) c.as_slice.ensures c.in_ok-labels.ensures.finds)
     (subst (λ bs. Refused (blocks_checks (firmware_of c.args.scope.now.firmware.now) (func_of c.args.func.now) bs) c.in_err-blocks.field-0.0) c.as_slice-2.ensures
-    (subst (λ g. Refused (blocks_checks (firmware_of c.args.scope.now.firmware.now) (func_of g) c.as_slice-2.result.now) c.in_err-blocks.field-0.0) c.in_ok-inner.ensures.func c.in_err-blocks.ensures)))
+    (subst (λ g. Refused (blocks_checks (firmware_of c.args.scope.now.firmware.now) (func_of g) c.as_slice-2.result.now) c.in_err-blocks.field-0.0) c.in_ok-inner.ensures c.in_err-blocks.ensures)))

@@ -18,7 +18,7 @@ returns-in_err-typed_values c =
     ap lent_types c.as_slice.ensures.value ∙ (c.in_ok-put_cell_types.ensures
     ∙ (ap (λ ts. take (length c.as_slice-init.result.now) (lent_types ts ++ types_of (shape (known (map struct_of c.args.scope.now.layouts)) (type_of c.args.global.now.ty)).cells)) c.new-types.ensures.items
     ∙ (ap (λ n. take n (types_of (shape (known (map struct_of c.args.scope.now.layouts)) (type_of c.args.global.now.ty)).cells)) (ap length c.as_slice-init.ensures)
-    ∙ ap (λ (ss : List StructDecl). take (length c.args.global.now.init) (types_of (shape (known (map struct_of ss)) (type_of c.args.global.now.ty)).cells)) c.requires.layouts))) in
+    ∙ ap (λ (ss : List StructDecl). take (length c.args.global.now.init) (types_of (shape (known (map struct_of ss)) (type_of c.args.global.now.ty)).cells)) c.args.scope.now.all_layouts))) in
     let same : cells_part (firmware_of c.args.scope.now.firmware.now) (place_of c.args.spot) c.args.global.now.init (type_of c.args.global.now.ty) ≡ values_part (firmware_of c.args.scope.now.firmware.now) (place_of c.args.spot) c.args.global.now.init (lent_types c.as_slice.result.now) = cells_parts (firmware_of c.args.scope.now.firmware.now) (place_of c.args.spot) c.args.global.now.init (type_of c.args.global.now.ty) (lent_types c.as_slice.result.now) listed in
     told (cells_part (firmware_of c.args.scope.now.firmware.now) (place_of c.args.spot) c.args.global.now.init (type_of c.args.global.now.ty)) c.from_residual-in_err-typed_values.result c.in_err-typed_values.field-0.0 c.from_residual-in_err-typed_values.ensures.1
     (subst (λ cs. Refused cs c.in_err-typed_values.field-0.0) (sym same)
@@ -30,7 +30,7 @@ returns c =
     ap lent_types c.as_slice.ensures.value ∙ (c.in_ok-put_cell_types.ensures
     ∙ (ap (λ ts. take (length c.as_slice-init.result.now) (lent_types ts ++ types_of (shape (known (map struct_of c.args.scope.now.layouts)) (type_of c.args.global.now.ty)).cells)) c.new-types.ensures.items
     ∙ (ap (λ n. take n (types_of (shape (known (map struct_of c.args.scope.now.layouts)) (type_of c.args.global.now.ty)).cells)) (ap length c.as_slice-init.ensures)
-    ∙ ap (λ (ss : List StructDecl). take (length c.args.global.now.init) (types_of (shape (known (map struct_of ss)) (type_of c.args.global.now.ty)).cells)) c.requires.layouts))) in
+    ∙ ap (λ (ss : List StructDecl). take (length c.args.global.now.init) (types_of (shape (known (map struct_of ss)) (type_of c.args.global.now.ty)).cells)) c.args.scope.now.all_layouts))) in
     let same : cells_part (firmware_of c.args.scope.now.firmware.now) (place_of c.args.spot) c.args.global.now.init (type_of c.args.global.now.ty) ≡ values_part (firmware_of c.args.scope.now.firmware.now) (place_of c.args.spot) c.args.global.now.init (lent_types c.as_slice.result.now) = cells_parts (firmware_of c.args.scope.now.firmware.now) (place_of c.args.spot) c.args.global.now.init (type_of c.args.global.now.ty) (lent_types c.as_slice.result.now) listed in
     ap first_failing same
     ∙ subst (λ is. first_failing (values_part (firmware_of c.args.scope.now.firmware.now) (place_of c.args.spot) is (lent_types c.as_slice.result.now)) ≡ None) c.as_slice-init.ensures c.in_ok-typed_values.ensures

@@ -14,7 +14,7 @@ returns-in_err-global c =
     (stop_at (λ (gs : List Global). globals_checks (firmware_of c.args.scope.now.firmware.now) c.loop-declaration.seen (map global_of gs))
     (λ (gs : List Global). globals_checks (firmware_of c.args.scope.now.firmware.now) (c.loop-declaration.seen ++ c.declaration-item.result.name ∷ []) (map global_of gs))
     (globals_checks (firmware_of c.args.scope.now.firmware.now) (map (λ (q : Peripheral). q.name) c.args.scope.now.firmware.now.periphs) (map global_of c.args.scope.now.firmware.now.globals)) (c.args.scope.now.firmware.now.globals) c.loop-declaration.declaration-index c.declaration-item.result (global_part c.args.scope.now.structs (firmware_of c.args.scope.now.firmware.now) c.loop-declaration.seen (global_of c.declaration-item.result)) c.in_err-global.field-0.0
-    (let l : c.loop-declaration.declaration-index < length c.as_slice-declaration-items.result.now = omega arith in rw c.as_slice-declaration-items.ensures at l) (rw c.as_slice-declaration-items.ensures at c.declaration-item.is) (λ r. ap (λ cs. cs ++ globals_checks (firmware_of c.args.scope.now.firmware.now) (c.loop-declaration.seen ++ c.declaration-item.result.name ∷ []) (map global_of r)) (global_parts (firmware_of c.args.scope.now.firmware.now) c.loop-declaration.seen (global_of c.declaration-item.result) c.args.scope.now.structs c.requires.structs)) c.loop-declaration.invariant c.in_err-global.ensures.finds)
+    (let l : c.loop-declaration.declaration-index < length c.as_slice-declaration-items.result.now = omega arith in rw c.as_slice-declaration-items.ensures at l) (rw c.as_slice-declaration-items.ensures at c.declaration-item.is) (λ r. ap (λ cs. cs ++ globals_checks (firmware_of c.args.scope.now.firmware.now) (c.loop-declaration.seen ++ c.declaration-item.result.name ∷ []) (map global_of r)) (global_parts (firmware_of c.args.scope.now.firmware.now) c.loop-declaration.seen (global_of c.declaration-item.result) c.args.scope.now.structs c.args.scope.now.all_structs)) c.loop-declaration.invariant c.in_err-global.ensures.finds)
 
 pub loop-declaration-preserved : goal.loop-declaration-preserved
 loop-declaration-preserved c =
@@ -22,4 +22,4 @@ loop-declaration-preserved c =
     (go_on (λ (gs : List Global). globals_checks (firmware_of c.args.scope.now.firmware.now) c.loop-declaration.seen (map global_of gs))
     (λ (gs : List Global). globals_checks (firmware_of c.args.scope.now.firmware.now) (c.loop-declaration.seen ++ c.declaration-item.result.name ∷ []) (map global_of gs))
     (globals_checks (firmware_of c.args.scope.now.firmware.now) (map (λ (q : Peripheral). q.name) c.args.scope.now.firmware.now.periphs) (map global_of c.args.scope.now.firmware.now.globals)) (c.args.scope.now.firmware.now.globals) c.loop-declaration.declaration-index c.declaration-item.result (global_part c.args.scope.now.structs (firmware_of c.args.scope.now.firmware.now) c.loop-declaration.seen (global_of c.declaration-item.result))
-    (let l : c.loop-declaration.declaration-index < length c.as_slice-declaration-items.result.now = omega arith in rw c.as_slice-declaration-items.ensures at l) (rw c.as_slice-declaration-items.ensures at c.declaration-item.is) (λ r. ap (λ cs. cs ++ globals_checks (firmware_of c.args.scope.now.firmware.now) (c.loop-declaration.seen ++ c.declaration-item.result.name ∷ []) (map global_of r)) (global_parts (firmware_of c.args.scope.now.firmware.now) c.loop-declaration.seen (global_of c.declaration-item.result) c.args.scope.now.structs c.requires.structs)) c.loop-declaration.invariant c.in_ok-global.ensures.finds)
+    (let l : c.loop-declaration.declaration-index < length c.as_slice-declaration-items.result.now = omega arith in rw c.as_slice-declaration-items.ensures at l) (rw c.as_slice-declaration-items.ensures at c.declaration-item.is) (λ r. ap (λ cs. cs ++ globals_checks (firmware_of c.args.scope.now.firmware.now) (c.loop-declaration.seen ++ c.declaration-item.result.name ∷ []) (map global_of r)) (global_parts (firmware_of c.args.scope.now.firmware.now) c.loop-declaration.seen (global_of c.declaration-item.result) c.args.scope.now.structs c.args.scope.now.all_structs)) c.loop-declaration.invariant c.in_ok-global.ensures.finds)
