@@ -19,7 +19,6 @@ use Rattle.plan_model.specs.Compartments.{AreCompartments, compartments}
 use Rattle.plan_model.specs.CompileLimits.{KeepsLimits}
 use Rattle.plan_model.specs.FinalGraph.{IsFinal}
 use Rattle.plan_model.specs.Placement.{Fits, plan_of}
-use Rattle.need_laws.specs.Checked.{LeastSetsServe}
 use Rattle.plan_compartments.specs.Analyses.{AreNeedsOf}
 use Rattle.plan_policies.specs.Callbacks.{AreAnswers}
 use Rattle.machine_devices.specs.declared.image.Image.{Image}
@@ -34,35 +33,25 @@ use Rattle.monitor_model.specs.Starts.{Starts}
 use Rattle.refine_model.specs.Refines.{Refines}
 use Rattle.image_promises.specs.Planned.{planned_image, planned_tables}
 use Rattle.plan.specs.PlannedFirmwares.{IsPlanned, plan}
-use Rattle.image_promises.specs.Regions.{ImagesObeyRules}
-use Rattle.image_promises.specs.Permissions.{SlotsHoldPermissions}
-use Rattle.image_promises.specs.Whole.{IsForBoard, PlannedImagesAreForBoards, PlannedImagesAreConfined, PlannedImagesRefine}
-use Rattle.image_promises.specs.Needed.{PlannedMasksAreNeeded, PlannedPermissionsAreBounded}
-use Rattle.image_promises.specs.Policy.{PlannedRunsStayInPolicy}
+use Rattle.image_promises.specs.Whole.{IsForBoard}
 use Rattle.monitor_runs.specs.Runs.{TellsWhoRuns}
 use Rattle.machine_model.specs.State.{State}
-use Rattle.image_runs.specs.Denied.{NoneIsDenied, PlannedRunsKeepOff}
+use Rattle.image_runs.specs.Denied.{NoneIsDenied}
 use Rattle.image_runs.specs.OtherCode.{WithOtherCode}
-use Rattle.image_runs.specs.ReplacedCode.{PlannedImagesKeepPromises, PlannedImagesStayIsolated}
-use Rattle.image_runs.specs.Isolated.{IsIsolated, PlannedRunsAreIsolated}
-use Rattle.image_runs.specs.Own.{PlannedSlotsAreOwn}
-use Rattle.image_runs.specs.Whole.{KeepsTheInvariant, PlannedImagesKeepTheInvariant, PlannedImagesKeepTheLaw, PlannedImagesStart, PlannedImagesTellWhoRuns}
-use Rattle.aces_printed_runs.specs.PrintedRuns.{RefiningImagesAreAlike}
+use Rattle.image_runs.specs.Isolated.{IsIsolated}
+use Rattle.image_runs.specs.Whole.{KeepsTheInvariant}
 use Rattle.refine.specs.NeverWrong.{RunsAreNeverWrong}
 use Rattle.image_promises.specs.Guarded.{IsStackGuarded}
-use Rattle.image_promises.specs.FromGuards.{GuardedImagesAreNeverWrong, LargestStacksAreGuarded}
 use Rattle.plan.specs.declared.planner.PlannedFirmware.{PlannedFirmware}
 use Rattle.plan.specs.Planned.{IsPlannedFor}
 use Rattle.aces_compiler.specs.Compiled.{IsImageFor}
+use Rattle.aces_compiler.specs.Promises.{Promises}
 use Rattle.ir_laws.proofs.Resolved.{as_many}
 
 -- ---- how many functions there are
 
 pub routines : (p : programs.Program) (w : PlainFirmware) → program_of p ≡ resolve w → length p.funcs ≡ length (resolve w).funcs
 routines p w e = sym (length-map p.funcs (routine_of (known_of p))) ∙ ap (λ (q : Program). length q.funcs) e
-
-pub each_need : (w : PlainFirmware) (b : Board) (n : Needs) → AreNeedsOf w b.closed n → length n.funcs ≡ length (funcs_of w)
-each_need w b n h = h.needs.count ∙ as_many w
 
 -- by the answers of a callback
 pub answered_compartments : (w : PlainFirmware) (n : Needs) (answers : FuncFacts → ℕ → Type 0) (fs : List FuncFacts) (g : Groups) → length fs ≡ length (funcs_of w)
@@ -72,31 +61,12 @@ answered_compartments w n answers fs g e (groups, h, is) =
 
 -- ---- a firmware that is planned
 
+-- in the compartments of its own graph
+pub in_own_groups : (p : Program) (n : Needs) (b : Board) (g : Groups) (x : PlannedFirmware) → IsPlannedFor p n g b x → IsPlannedFor p n x.graph.groups b x
+in_own_groups p n b g x k = subst (λ (y : Groups). IsPlannedFor p n y b x) (sym k.groups) k
+
 pub plan_is : (w : PlainFirmware) (n : Needs) (b : Board) (g : Groups) (x : PlannedFirmware) → IsPlannedFor (resolve w) n g b x → x.plan ≡ plan w n x.graph b
 plan_is w n b g x k = k.placed.plan ∙ ap (λ (s : Sizes). plan_of (resolve w) x.graph s b) k.placed.sizes
-
--- what holds of the image of each planned firmware
-pub record Promises : Type 0 where
-  pub rules : ImagesObeyRules
-  pub board : PlannedImagesAreForBoards
-  pub moves : PlannedImagesTellWhoRuns
-  pub isolated : PlannedRunsAreIsolated
-  pub confined : PlannedImagesAreConfined
-  pub keep : PlannedImagesKeepPromises
-  pub stay_isolated : PlannedImagesStayIsolated
-  pub off : PlannedRunsKeepOff
-  pub permissions : SlotsHoldPermissions
-  pub slots : PlannedSlotsAreOwn
-  pub masks : PlannedMasksAreNeeded
-  pub needed : PlannedPermissionsAreBounded
-  pub policy : PlannedRunsStayInPolicy
-  pub law : PlannedImagesKeepTheLaw
-  pub starts : PlannedImagesStart
-  pub invariant : PlannedImagesKeepTheInvariant
-  pub refined : PlannedImagesRefine
-  pub never_wrong : GuardedImagesAreNeverWrong
-  pub guarded : LargestStacksAreGuarded
-  pub alike : RefiningImagesAreAlike
 
 module _ (w : PlainFirmware) (n : Needs) (b : Board) (g : Groups) (x : PlannedFirmware) (k : IsPlannedFor (resolve w) n g b x) where
   -- its image, with all that is promised of it

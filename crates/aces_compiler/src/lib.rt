@@ -2,10 +2,11 @@
 #![tactic(auto)]
 
 pub mod compiling;
-pub mod policies;
+mod laws;
+pub mod pipeline;
 pub mod replacing;
 
-pub use compiling::{compile, compile_groups};
+pub use compiling::compile;
+pub use pipeline::{compile_by, compile_groups};
 pub use plan::PlanningRefusal as CompileRefusal;
-pub use policies::compile_by;
 pub use replacing::{CodeRefusal, compile_with_code};

@@ -14,18 +14,15 @@ ghost use Rattle.monitor_program.specs.Page as pages;
 ghost use Rattle.image_runs.specs.OtherCode.{with_flash};
 ghost use Rattle.aces_compiler.specs.WithCode.{IsImageWithCode, IsCompiledWithCode, IsGroupsRefusal, IsCodeRefusal};
 
-use crate::compiling::{grouped, linked};
+use crate::compiling::grouped;
+use crate::laws::promised;
+use crate::pipeline::written;
 use base_lists::ListVec;
 use image_linker::put_bytes;
-use image_promises::images::for_boards;
-use image_promises::regions::images;
-use image_runs::other_code::rules;
-use image_runs::replaced_code::{kept, planned_images_keep_promises, planned_images_stay_isolated};
 use ir_model::checked::Checked;
 use ir_program::program::Program;
 use machine_devices::image::Image;
 use monitor_code::page::filled_up;
-use need_laws::least_sets;
 use plan::{PlanningRefusal, planned};
 use plan_model::Spot;
 use plan_model::groups::{FuncFacts, Groups};
@@ -114,19 +111,13 @@ fn groups_with_code(
     ensures refused { IfErr result (IsGroupsRefusal (firmware_of firmware.now) needs.now board.now groups compartment code.now) }
 {
     firmware.firmware();
-    least_sets();
-    images();
-    for_boards();
-    rules();
-    kept();
-    planned_images_keep_promises();
-    planned_images_stay_isolated();
+    promised();
     let made = match planned(alloc, program, needs, groups, board) {
         Ok(made) => made,
         Err(PlanningRefusal::NoMemory) => return Err(CodeRefusal::NoMemory),
         Err(refusal) => return Err(CodeRefusal::Refused(refusal)),
     };
-    let image = linked(alloc, firmware, program, needs, &made, board)?;
+    let image = written(alloc, firmware, program, needs, &made, board)?;
     let Some(spot) = made.plan.code.as_slice().get(compartment as usize) else {
         return Err(CodeRefusal::Compartment);
     };

@@ -1,14 +1,10 @@
 //! `explain` with a board and a policy: why a firmware has no plan.
 
 ghost use Rattle.std.specs.Prelude.{◌≡◌, ◌≤◌, Ok, length, IfOk, IfErr};
-ghost use Rattle.ir_model.specs.Plain.{firmware_of, funcs_of};
-ghost use Rattle.ir_model.specs.Resolve as definition;
-ghost use Rattle.ir_program.specs.Seen.{program_of};
+ghost use Rattle.ir_model.specs.Plain.{firmware_of};
 ghost use Rattle.plan_model.specs.Boards.{IsBoard};
 ghost use Rattle.plan_board.specs.Reading as boards;
-ghost use Rattle.plan_compartments.specs.Analyses.{AreNeedsOf};
-ghost use Rattle.plan_compartments.specs.Divisions as divisions;
-ghost use Rattle.plan.specs.Refusals.{IsPlanningRefusal};
+ghost use Rattle.plan_firmwares.specs.Analysed.{IsAnalysisOf, IsRefusalOf};
 ghost use Rattle.aces_words.specs.Requests.{ExplainPlan as ToExplain, firmware_limit};
 ghost use Rattle.aces_reports.specs.declared.failure.Failure.TheVariants.{NoMemory as WantOfMemory};
 ghost use Rattle.aces_reports.specs.Ends.{status_of};
@@ -28,15 +24,11 @@ use aces_plans::both::{load_both, print};
 use aces_reports::{Done, Failure};
 use base_outside::{Files, Sink};
 use ir_model::checked::Checked;
-use ir_program::program::Program;
-use ir_resolve::resolving::resolve;
 use plan::PlanningRefusal;
 use plan_board::board::read_board;
 use plan_board::fault::BoardFault;
-use plan_compartments::division::division;
-use plan_firmwares::{needs_of, planned_by};
+use plan_firmwares::{Analysis, analyse, planned_by};
 use plan_model::Policy;
-use plan_model::needs::Needs;
 use plan_model::plan::Board;
 use std::alloc::{AllocError, Global};
 
@@ -56,27 +48,27 @@ fn done_by(refusal: PlanningRefusal) -> Result<Done, AllocError>
 fn unplanned(
     alloc: Global,
     firmware: &Checked,
-    program: &Program,
-    needs: &Needs,
+    analysis: Analysis<'_>,
     policy: Policy,
     board: &Board,
     refusal: PlanningRefusal,
 ) -> Result<Told, AllocError>
-    requires program { program_of program.now ≡ definition.resolve (firmware_of firmware.now) }
-    requires each { length needs.now.funcs ≡ length (funcs_of (firmware_of firmware.now)) }
-    requires needs { AreNeedsOf (firmware_of firmware.now) board.now.closed needs.now }
+    requires analysis { IsAnalysisOf policy (firmware_of firmware.now) board.now.closed analysis }
     requires board { IsBoard board.now }
-    requires refused { IsPlanningRefusal (definition.resolve (firmware_of firmware.now)) needs.now
-        (divisions.division policy (firmware_of firmware.now) needs.now) board.now refusal }
+    requires refused { IsRefusalOf analysis board.now refusal }
     ensures { IfOk result (λ t. IsPlanTold policy (firmware_of firmware.now) board.now (status_of (Ok t.done)) t.lines.items) }
 {
     let done = done_by(refusal)?;
-    let groups = division(alloc, firmware, needs, policy)?;
+    let Analysis {
+        program,
+        needs,
+        groups,
+    } = analysis;
     let lines = refusal_told(
         alloc,
         firmware.firmware(),
-        program,
-        needs,
+        &program,
+        &needs,
         groups,
         board,
         refusal,
@@ -95,14 +87,13 @@ fn on_board(
     ensures { IfOk result (λ t. IsPlanTold policy (firmware_of firmware.now) board.now (status_of (Ok t.done)) t.lines.items) }
 {
     firmware.firmware();
-    let program = resolve(alloc, firmware)?;
-    let needs = needs_of(alloc, firmware, &program, board.closed)?;
-    match planned_by(alloc, firmware, &program, &needs, policy, board) {
+    let analysis = analyse(alloc, firmware, policy, board.closed)?;
+    match planned_by(alloc, &analysis, board) {
         Ok(_) => Ok(Told {
             lines: counted(alloc, firmware)?,
             done: Done::Completed,
         }),
-        Err(refusal) => unplanned(alloc, firmware, &program, &needs, policy, board, refusal),
+        Err(refusal) => unplanned(alloc, firmware, analysis, policy, board, refusal),
     }
 }
 

@@ -20,10 +20,8 @@ use base_outside::{Files, Sink};
 use ir_model::checked::Checked;
 use ir_output::{Broken, print_source};
 use ir_program::peripherals::windows;
-use ir_resolve::resolving::resolve;
 use ir_run::outcome::SourceEnd;
-use need_points_to::solve;
-use plan_compartments::analysis::open_compartments;
+use plan_firmwares::{Analysis, analyse};
 use plan_model::Policy;
 use std::alloc::{AllocError, Global};
 
@@ -66,9 +64,13 @@ pub fn compartments_of(
 ) -> Result<Vec<u32>, AllocError>
     ensures { IfOk result (λ of. AreCompartmentsBy policy (plain.firmware_of firmware.now) of.items) }
 {
-    let program = resolve(alloc, firmware)?;
-    let sets = solve(alloc, &program)?;
-    open_compartments(alloc, firmware, &program, &sets, policy)
+    let analysis = analyse(alloc, firmware, policy, false)?;
+    let Analysis {
+        program: _program,
+        needs: _needs,
+        groups,
+    } = analysis;
+    Ok(groups.of.into_vec())
 }
 
 /// The same on the bytes of both files, each behind its name. No file is touched.

@@ -2,7 +2,7 @@
 
 ghost use Rattle.std.specs.Prelude.{◌≡◌, IfOk, IfErr, length};
 ghost use Rattle.ir_model.specs.Plain.{firmware_of};
-ghost use Rattle.ir_model.specs.Resolve as definition;
+ghost use Rattle.ir_model.specs.Resolve.{resolve};
 ghost use Rattle.ir_program.specs.Seen.{program_of};
 ghost use Rattle.plan_model.specs.Boards.{IsBoard};
 ghost use Rattle.plan_firmwares.specs.Unplanned.{IsUnplanned};
@@ -10,13 +10,10 @@ ghost use Rattle.aces_listing.specs.Listings.{IsListing, listing_for};
 
 use image_promises::needed::{permissions_are_bounded, runs_stay_in_policy};
 use ir_model::checked::Checked;
-use ir_program::program::Program;
-use ir_resolve::resolving::resolve;
 use need_laws::least_sets;
 use plan::{PlannedFirmware, PlanningRefusal};
-use plan_firmwares::{needs_of, planned_by};
+use plan_firmwares::{Analysis, analyse, planned_by};
 use plan_model::Policy;
-use plan_model::needs::Needs;
 use plan_model::plan::Board;
 use plan_report::listing::listing;
 use plan_report::subject::Subject;
@@ -26,20 +23,19 @@ use std::alloc::{AllocError, Global};
 fn told(
     alloc: Global,
     firmware: &Checked,
-    program: &Program,
-    needs: &Needs,
+    analysis: &Analysis,
     made: &PlannedFirmware,
     policy: Policy,
     board: &Board,
 ) -> Result<Vec<u8>, AllocError>
-    requires program { program_of program.now ≡ definition.resolve (firmware_of firmware.now) }
-    requires each { length made.now.graph.groups.of ≡ length needs.now.funcs }
-    ensures { IfOk result (λ lines. lines.items ≡ listing_for policy (firmware_of firmware.now) needs.now made.now board.now) }
+    requires program { program_of analysis.now.program ≡ resolve (firmware_of firmware.now) }
+    requires each { length made.now.graph.groups.of ≡ length analysis.now.needs.funcs }
+    ensures { IfOk result (λ lines. lines.items ≡ listing_for policy (firmware_of firmware.now) analysis.now.needs made.now board.now) }
 {
     let subject = Subject {
         firmware: firmware.firmware(),
-        program,
-        needs,
+        program: &analysis.program,
+        needs: &analysis.needs,
         graph: &made.graph,
         plan: &made.plan,
         board,
@@ -66,9 +62,8 @@ pub fn listing_of(
     least_sets();
     permissions_are_bounded();
     runs_stay_in_policy();
-    let program = resolve(alloc, firmware)?;
-    let needs = needs_of(alloc, firmware, &program, board.closed)?;
-    let made = planned_by(alloc, firmware, &program, &needs, policy, board)?;
-    let lines = told(alloc, firmware, &program, &needs, &made, policy, board)?;
+    let analysis = analyse(alloc, firmware, policy, board.closed)?;
+    let made = planned_by(alloc, &analysis, board)?;
+    let lines = told(alloc, firmware, &analysis, &made, policy, board)?;
     Ok(lines)
 }

@@ -12,13 +12,11 @@ use crate::machines::{MachineCount, count_machine};
 use crate::sources::{SourceCount, count_source};
 use aces_files::run::FILL;
 use ir_model::checked::Checked;
-use ir_resolve::resolving::resolve;
 use ir_run::run::SourceRun;
 use machine_devices::image::Image;
 use machine_devices::tape::Tape;
 use machine_emulator::Machine;
-use need_points_to::solve;
-use plan_compartments::analysis::open_compartments;
+use plan_firmwares::{Analysis, analyse};
 use plan_model::Policy;
 use std::alloc::{AllocError, Global};
 
@@ -41,11 +39,14 @@ pub(crate) fn run_source(
     ensures { IfOk result (IsSourceTest (firmware_of firmware.now) tape) }
 {
     firmware.firmware();
-    let program = resolve(alloc, firmware)?;
+    let analysis = analyse(alloc, firmware, Policy::Filename, false)?;
+    let Analysis {
+        program,
+        needs: _needs,
+        groups,
+    } = analysis;
     let functions = program.funcs.len();
-    let sets = solve(alloc, &program)?;
-    let compartments = open_compartments(alloc, firmware, &program, &sets, Policy::Filename)?;
-    let mut run = SourceRun::start(alloc, program, compartments, tape)?;
+    let mut run = SourceRun::start(alloc, program, groups.of.into_vec(), tape)?;
     let count = count_source(alloc, &mut run, SOURCE_LIMIT)?;
     Ok(SourceTest { functions, count })
 }

@@ -1,8 +1,8 @@
 //! The symbols of a firmware on a board by a policy.
 
-ghost use Rattle.std.specs.Prelude.{◌≡◌, IfOk, IfErr, length};
+ghost use Rattle.std.specs.Prelude.{◌≡◌, IfOk, IfErr};
 ghost use Rattle.ir_model.specs.Plain.{firmware_of};
-ghost use Rattle.ir_model.specs.Resolve as definition;
+ghost use Rattle.ir_model.specs.Resolve.{resolve};
 ghost use Rattle.ir_program.specs.Seen.{program_of};
 ghost use Rattle.plan_model.specs.Boards.{IsBoard};
 ghost use Rattle.plan_firmwares.specs.Unplanned.{IsUnplanned};
@@ -10,12 +10,9 @@ ghost use Rattle.aces_symbols.specs.FirmwareSymbols.{AreSymbols, symbols_for};
 
 use image_symbols::symbols;
 use ir_model::checked::Checked;
-use ir_program::program::Program;
-use ir_resolve::resolving::resolve;
 use plan::{PlannedFirmware, PlanningRefusal};
-use plan_firmwares::{needs_of, planned_by};
+use plan_firmwares::{Analysis, analyse, planned_by};
 use plan_model::Policy;
-use plan_model::needs::Needs;
 use plan_model::plan::Board;
 use plan_report::subject::Subject;
 use std::alloc::{AllocError, Global};
@@ -24,18 +21,17 @@ use std::alloc::{AllocError, Global};
 fn told(
     alloc: Global,
     firmware: &Checked,
-    program: &Program,
-    needs: &Needs,
+    analysis: &Analysis,
     made: &PlannedFirmware,
     board: &Board,
 ) -> Result<Vec<u8>, AllocError>
-    requires { program_of program.now ≡ definition.resolve (firmware_of firmware.now) }
-    ensures { IfOk result (λ lines. lines.items ≡ symbols_for (firmware_of firmware.now) needs.now made.now board.now) }
+    requires { program_of analysis.now.program ≡ resolve (firmware_of firmware.now) }
+    ensures { IfOk result (λ lines. lines.items ≡ symbols_for (firmware_of firmware.now) analysis.now.needs made.now board.now) }
 {
     let subject = Subject {
         firmware: firmware.firmware(),
-        program,
-        needs,
+        program: &analysis.program,
+        needs: &analysis.needs,
         graph: &made.graph,
         plan: &made.plan,
         board,
@@ -59,9 +55,8 @@ pub fn symbols_of(
     ensures refused { IfErr result (IsUnplanned policy (firmware_of firmware.now) board.now) }
 {
     firmware.firmware();
-    let program = resolve(alloc, firmware)?;
-    let needs = needs_of(alloc, firmware, &program, board.closed)?;
-    let made = planned_by(alloc, firmware, &program, &needs, policy, board)?;
-    let lines = told(alloc, firmware, &program, &needs, &made, board)?;
+    let analysis = analyse(alloc, firmware, policy, board.closed)?;
+    let made = planned_by(alloc, &analysis, board)?;
+    let lines = told(alloc, firmware, &analysis, &made, board)?;
     Ok(lines)
 }

@@ -8,7 +8,7 @@ ghost use Rattle.aces_files.specs.Loads.{IsRefusal};
 ghost use Rattle.aces_files.specs.Outcomes.{done};
 ghost use Rattle.plan_firmwares.specs.Unplanned.{IsUnplanned};
 ghost use Rattle.ir_model.specs.Plain.{firmware_of as plain_of};
-ghost use Rattle.ir_model.specs.Resolve as definition;
+ghost use Rattle.ir_model.specs.Resolve.{resolve};
 ghost use Rattle.ir_program.specs.Seen.{program_of};
 ghost use Rattle.plan_model.specs.Boards.{IsBoard};
 ghost use Rattle.aces_who.specs.Answers.{WhoAnswer, AnswerToWho};
@@ -23,12 +23,9 @@ use aces_plans::both::{load_both, print};
 use aces_reports::{Done, Failure};
 use base_outside::{Files, Sink};
 use ir_model::checked::Checked;
-use ir_program::program::Program;
-use ir_resolve::resolving::resolve;
 use plan::{PlannedFirmware, PlanningRefusal};
-use plan_firmwares::{needs_of, planned_by};
+use plan_firmwares::{Analysis, analyse, planned_by};
 use plan_model::Policy;
-use plan_model::needs::Needs;
 use plan_model::plan::Board;
 use plan_report::subject::Subject;
 use std::alloc::{AllocError, Global};
@@ -37,20 +34,19 @@ use std::alloc::{AllocError, Global};
 fn lines_of(
     alloc: Global,
     firmware: &Checked,
-    program: &Program,
-    needs: &Needs,
+    analysis: &Analysis,
     made: &PlannedFirmware,
     policy: Policy,
     board: &Board,
 ) -> Result<Vec<u8>, AllocError>
-    requires program { program_of program.now ≡ definition.resolve (plain_of firmware.now) }
-    requires each { length made.now.graph.groups.of ≡ length needs.now.funcs }
-    ensures { IfOk result (λ lines. lines.items ≡ owners_for policy (plain_of firmware.now) needs.now made.now board.now) }
+    requires program { program_of analysis.now.program ≡ resolve (plain_of firmware.now) }
+    requires each { length made.now.graph.groups.of ≡ length analysis.now.needs.funcs }
+    ensures { IfOk result (λ lines. lines.items ≡ owners_for policy (plain_of firmware.now) analysis.now.needs made.now board.now) }
 {
     let subject = Subject {
         firmware: firmware.firmware(),
-        program,
-        needs,
+        program: &analysis.program,
+        needs: &analysis.needs,
         graph: &made.graph,
         plan: &made.plan,
         board,
@@ -75,10 +71,9 @@ pub fn owners_of(
 {
     firmware.firmware();
     exposures_are_exact();
-    let program = resolve(alloc, firmware)?;
-    let needs = needs_of(alloc, firmware, &program, board.closed)?;
-    let made = planned_by(alloc, firmware, &program, &needs, policy, board)?;
-    let lines = lines_of(alloc, firmware, &program, &needs, &made, policy, board)?;
+    let analysis = analyse(alloc, firmware, policy, board.closed)?;
+    let made = planned_by(alloc, &analysis, board)?;
+    let lines = lines_of(alloc, firmware, &analysis, &made, policy, board)?;
     Ok(lines)
 }
 

@@ -1,20 +1,18 @@
-//! What the functions of a firmware need, and their compartments by that.
+//! What the functions of a firmware need.
 
-ghost use Rattle.std.specs.Prelude.{◌≡◌, IfOk, length, false};
+ghost use Rattle.std.specs.Prelude.{◌≡◌, IfOk, length};
 ghost use Rattle.ir_model.specs.Plain.{firmware_of, funcs_of};
 ghost use Rattle.ir_model.specs.Resolve.{resolve};
 ghost use Rattle.ir_program.specs.Seen.{program_of};
 ghost use Rattle.need_sets.specs.Sets.{sets_of};
 ghost use Rattle.plan_model.specs.PointsTo.{IsLeast};
-ghost use Rattle.plan_compartments.specs.Analyses.{AreNeedsOf, AreCompartmentsBy};
+ghost use Rattle.plan_compartments.specs.Analyses.{AreNeedsOf};
 
-use crate::division::division;
 use ir_model::checked::Checked;
 use ir_program::program::Program;
 use need_laws::least_sets;
 use need_sets::PointsTo;
 use needs::needs;
-use plan_model::Policy;
 use plan_model::needs::Needs;
 use std::alloc::{AllocError, Global};
 
@@ -39,25 +37,4 @@ pub fn firmware_needs(
     least_sets();
     let found = needs(alloc, program, sets, closed)?;
     Ok(found)
-}
-
-/// The compartment of each function of a firmware by a policy, by what the functions need on an open board.
-///
-/// # Errors
-///
-/// There is no memory for them.
-pub fn open_compartments(
-    alloc: Global,
-    firmware: &Checked,
-    program: &Program,
-    sets: &PointsTo,
-    policy: Policy,
-) -> Result<Vec<u32>, AllocError>
-    requires program { program_of program.now ≡ resolve (firmware_of firmware.now) }
-    requires sets { IsLeast (program_of program.now) (sets_of sets.now) }
-    ensures { IfOk result (λ of. AreCompartmentsBy policy (firmware_of firmware.now) of.items) }
-{
-    let needs = firmware_needs(alloc, firmware, program, sets, false)?;
-    let groups = division(alloc, firmware, &needs, policy)?;
-    Ok(groups.of.into_vec())
 }

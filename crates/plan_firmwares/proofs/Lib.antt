@@ -1,3 +1,4 @@
+pub mod Analysing
 pub mod Counting
 pub mod Planned
 mod Excluding

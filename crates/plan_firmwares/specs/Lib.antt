@@ -1,3 +1,4 @@
+pub mod Analysed
 pub mod Unplanned
 pub mod Plannable
 pub mod Laws

@@ -1,11 +1,6 @@
 //! The program that the cases call: the first word says which analysis, the second of which file.
 
 ghost use Rattle.std.specs.Prelude.{◌≡◌, length};
-ghost use Rattle.ir_model.specs.Plain.{firmware_of, funcs_of};
-ghost use Rattle.ir_model.specs.Resolve.{resolve};
-ghost use Rattle.ir_program.specs.Seen.{program_of};
-ghost use Rattle.need_sets.specs.Sets.{sets_of};
-ghost use Rattle.plan_model.specs.PointsTo.{IsLeast};
 
 use crate::boards::board_line;
 use crate::function_needs::put_needs;
@@ -16,12 +11,9 @@ use base_outside::{MemFiles, MemSink, Sink, read_whole};
 use ir_check::check;
 use ir_model::checked::Checked;
 use ir_model::text_limits::TEXT_LIMIT;
-use ir_program::program::Program;
 use ir_resolve::resolving::resolve;
 use need_points_to::solve;
-use need_sets::PointsTo;
-use plan_compartments::analysis::firmware_needs;
-use plan_compartments::division::division;
+use plan_firmwares::{Analysis as Analysed, analyse};
 use plan_graph::initial::initial;
 use plan_graph::merge::merge;
 use plan_model::Policy;
@@ -86,17 +78,23 @@ fn policy_of(word: &str) -> Policy {
 fn analysed(alloc: Global, firmware: &Checked, words: &[String]) -> Result<String>
     requires { length words.now ≡ 5 }
 {
-    let program = resolve(alloc, firmware)?;
-    let sets = solve(alloc, &program)?;
     if words[0].as_str() == "sets" {
-        return sets_text(alloc, &program, &sets);
+        return sets_text(alloc, firmware);
     }
-    by_needs(alloc, firmware, &program, &sets, words)
+    let closed = words[3].as_str() == "closed";
+    let made = analyse(alloc, firmware, policy_of(words[2].as_str()), closed)?;
+    match words[0].as_str() {
+        "needs" => needs_text(alloc, &made.needs),
+        "limit" => limit_text(alloc, &made.needs, &made.groups),
+        _ => by_graph(alloc, made, words[4].parse()?),
+    }
 }
 
-fn sets_text(alloc: Global, program: &Program, sets: &PointsTo) -> Result<String> {
+fn sets_text(alloc: Global, firmware: &Checked) -> Result<String> {
+    let program = resolve(alloc, firmware)?;
+    let sets = solve(alloc, &program)?;
     let mut text = String::new(alloc);
-    put_sets(alloc, &mut text, program, sets)?;
+    put_sets(alloc, &mut text, &program, &sets)?;
     Ok(text)
 }
 
@@ -118,61 +116,18 @@ fn graph_text(alloc: Global, graph: &Graph) -> Result<String> {
     Ok(text)
 }
 
-/// The text of needs, or of what comes of them.
-fn by_needs(
-    alloc: Global,
-    firmware: &Checked,
-    program: &Program,
-    sets: &PointsTo,
-    words: &[String],
-) -> Result<String>
-    requires words { length words.now ≡ 5 }
-    requires program { program_of program.now ≡ resolve (firmware_of firmware.now) }
-    requires sets { IsLeast (program_of program.now) (sets_of sets.now) }
-{
-    let closed = words[3].as_str() == "closed";
-    let needs = firmware_needs(alloc, firmware, program, sets, closed)?;
-    if words[0].as_str() == "needs" {
-        return needs_text(alloc, &needs);
-    }
-    by_groups(alloc, firmware, program, &needs, words)
-}
-
-/// The text of the first limit that is passed, or of the graph.
-fn by_groups(
-    alloc: Global,
-    firmware: &Checked,
-    program: &Program,
-    needs: &Needs,
-    words: &[String],
-) -> Result<String>
-    requires words { length words.now ≡ 5 }
-    requires needs { length needs.now.funcs ≡ length (funcs_of (firmware_of firmware.now)) }
-{
-    let groups = division(alloc, firmware, needs, policy_of(words[2].as_str()))?;
-    if words[0].as_str() == "limit" {
-        return limit_text(alloc, needs, &groups);
-    }
-    let slots: u32 = words[4].parse()?;
-    by_graph(alloc, program, needs, groups, slots)
-}
-
 /// The text of the graph before any join, or where there are slots to fit, of the merged one.
-fn by_graph(
-    alloc: Global,
-    program: &Program,
-    needs: &Needs,
-    groups: Groups,
-    slots: u32,
-) -> Result<String> {
-    if groups.of.len() != needs.funcs.len() {
-        bail!("not a compartment for each function");
-    }
-    let graph = initial(alloc, program, needs, groups)?;
+fn by_graph(alloc: Global, made: Analysed<'_>, slots: u32) -> Result<String> {
+    let Analysed {
+        program,
+        needs,
+        groups,
+    } = made;
+    let graph = initial(alloc, &program, &needs, groups)?;
     if slots < 2 {
         return graph_text(alloc, &graph);
     }
-    let last = merge(alloc, program, graph, slots)?;
+    let last = merge(alloc, &program, graph, slots)?;
     merged_text(alloc, last)
 }
 

@@ -12,8 +12,8 @@ use anyhow::{Result, bail};
 use base_outside::MemFiles;
 use ir_model::checked::Checked;
 use ir_model::text_limits::FUNCTION_LIMIT;
-use ir_resolve::resolving::resolve;
-use plan_firmwares::needs_of;
+use plan_firmwares::analyse;
+use plan_model::Policy;
 use plan_model::groups::FuncFacts;
 use plan_model::plan::Board;
 use plan_policies::grouping::Grouping;
@@ -94,9 +94,8 @@ fn loaded(
 fn divided(alloc: Global, firmware: &Checked, board: &Board, count: u32) -> Result<Vec<u8>>
     requires { IsBoard board.now }
 {
-    let program = resolve(alloc, firmware)?;
-    let needs = needs_of(alloc, firmware, &program, board.closed)?;
-    let functions = needs.funcs.len();
+    let analysis = analyse(alloc, firmware, Policy::Filename, board.closed)?;
+    let functions = analysis.needs.funcs.len();
     if functions == 0 || functions > MOST as usize || count == 0 || count > MOST {
         bail!("no grouping");
     }
@@ -105,7 +104,14 @@ fn divided(alloc: Global, firmware: &Checked, board: &Board, count: u32) -> Resu
         ensures { result ≡ facts.now.index % count }
     { facts.index % count };
     let grouping = Grouping::new(by_number, functions as u32, count);
-    let made = compile(alloc, firmware, &program, &needs, board, &grouping);
+    let made = compile(
+        alloc,
+        firmware,
+        &analysis.program,
+        &analysis.needs,
+        board,
+        &grouping,
+    );
     let Grouping {
         callback: _callback,
         functions: _functions,
@@ -127,9 +133,8 @@ fn replaced(
 ) -> Result<Vec<u8>>
     requires { IsBoard board.now }
 {
-    let program = resolve(alloc, firmware)?;
-    let needs = needs_of(alloc, firmware, &program, board.closed)?;
-    let functions = needs.funcs.len();
+    let analysis = analyse(alloc, firmware, Policy::Filename, board.closed)?;
+    let functions = analysis.needs.funcs.len();
     if functions == 0 || functions > MOST as usize {
         bail!("no grouping");
     }
@@ -140,8 +145,8 @@ fn replaced(
     let made = compile_with_code(
         alloc,
         firmware,
-        &program,
-        &needs,
+        &analysis.program,
+        &analysis.needs,
         board,
         &grouping,
         compartment,

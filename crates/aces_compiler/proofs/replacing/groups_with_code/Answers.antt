@@ -19,8 +19,8 @@ planned-requires-clause-each c =
     let w = firmware_of c.args.firmware.now in
     each_compartment (resolve w) c.args.groups c.requires.groups ∙ sym (routines c.args.program.now w c.requires.program)
 
-pub linked-requires-clause-plan : goal.linked-requires-clause-plan
-linked-requires-clause-plan c =
+pub written-requires-clause-plan : goal.written-requires-clause-plan
+written-requires-clause-plan c =
     let w = firmware_of c.args.firmware.now in
     let made = c.in-Ok.made in
     let planned = subst (λ (p : Program). IsPlannedFor p c.args.needs.now c.args.groups c.args.board.now made) c.requires.program c.in-Ok.ensures.ok in
@@ -35,7 +35,7 @@ returns-in_default-clause-refused c =
     let made = c.in-Ok.made in
     let planned = subst (λ (p : Program). IsPlannedFor p n groups b made) c.requires.program c.in-Ok.ensures.ok in
     let are = subst (AreCompartments (resolve w)) (sym planned.groups) c.requires.groups in
-    let is = is_planned w n b groups made planned c.least_sets.ensures.serve c.firmware.ensures.typed c.firmware.ensures.within c.requires.needs c.requires.board are in
+    let is = is_planned w n b groups made planned c.promised.ensures.serve c.firmware.ensures.typed c.firmware.ensures.within c.requires.needs c.requires.board are in
     beyond w n b groups made planned is c.args.compartment c.as_slice.result.now c.as_slice.ensures c.in_default.ensures.lookup.3
 
 pub returns-then-code-spot-clause-refused : goal.returns-then-code-spot-clause-refused
@@ -47,7 +47,7 @@ returns-then-code-spot-clause-refused c =
     let made = c.in-Ok.made in
     let planned = subst (λ (p : Program). IsPlannedFor p n groups b made) c.requires.program c.in-Ok.ensures.ok in
     let are = subst (AreCompartments (resolve w)) (sym planned.groups) c.requires.groups in
-    let is = is_planned w n b groups made planned c.least_sets.ensures.serve c.firmware.ensures.typed c.firmware.ensures.within c.requires.needs c.requires.board are in
+    let is = is_planned w n b groups made planned c.promised.ensures.serve c.firmware.ensures.typed c.firmware.ensures.within c.requires.needs c.requires.board are in
     let found = c.in-Some.ensures.lookup in
     too_long w n b groups made planned is c.args.compartment c.args.code.now c.in-Some.spot.now c.as_slice.result.now c.as_slice.ensures found.3.0 found.3.1 c.if-code-spot.true
 
@@ -60,7 +60,8 @@ returns-clause-ok c =
     let made = c.in-Ok.made in
     let planned = subst (λ (p : Program). IsPlannedFor p n groups b made) c.requires.program c.in-Ok.ensures.ok in
     let are = subst (AreCompartments (resolve w)) (sym planned.groups) c.requires.groups in
-    let is = is_planned w n b groups made planned c.least_sets.ensures.serve c.firmware.ensures.typed c.firmware.ensures.within c.requires.needs c.requires.board are in
+    let is = is_planned w n b groups made planned c.promised.ensures.serve c.firmware.ensures.typed c.firmware.ensures.within c.requires.needs c.requires.board are in
     let found = c.in-Some.ensures.lookup in
+    let all = c.promised.ensures in
     with_code w n b groups made planned is c.args.compartment c.args.code.now c.in-Some.spot.now c.as_slice.result.now c.as_slice.ensures found.3.0 found.3.1 c.if-code-spot.false
-    c.kept.ensures c.rules.ensures c.planned_images_keep_promises.ensures c.planned_images_stay_isolated.ensures c.images.ensures c.for_boards.ensures c.in_ok-image.image c.in_ok-with_block.field-0 c.in_ok-image.ensures c.in_ok-with_block.ensures
+    all.kept all.rules_stay all.keep all.stay_isolated all.rules all.board c.in_ok-image.image c.in_ok-with_block.field-0 c.in_ok-image.ensures c.in_ok-with_block.ensures

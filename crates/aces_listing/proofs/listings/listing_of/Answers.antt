@@ -1,24 +1,39 @@
+use Rattle.std.proofs.Common.{sym, subst}
+use Rattle.std.proofs.lemmas.Result.{err_from_is_err_and}
 use Rattle.ir_model.specs.Plain.{firmware_of}
 use Rattle.plan_compartments.specs.Divisions.{division}
+use Rattle.plan_firmwares.specs.Analysed.{IsRefusalOf}
+use Rattle.plan_firmwares.proofs.Analysing.{unplanned}
 use Rattle.plan_firmwares.proofs.Planned.{is_planned}
 use Rattle.aces_listing.proofs.listings.listing_of.Goals as goal
+
+pub returns-in_err-made-clause-refused : goal.returns-in_err-made-clause-refused
+returns-in_err-made-clause-refused c =
+    let b = c.args.board.now in
+    let a = c.in_ok-analysis.analysis in
+    let x = err_from_is_err_and c.from_residual-in_err-made.result c.from_residual-in_err-made.ensures.1 in
+    rw x.1 (unplanned c.args.policy (firmware_of c.args.firmware.now) b a c.in_ok-analysis.ensures.exact x.0 (subst (IsRefusalOf a b) (sym x.2) c.in_err-made.ensures.refused))
+
+pub told-requires-clause-program : goal.told-requires-clause-program
+told-requires-clause-program c = c.in_ok-analysis.ensures.exact.program
 
 pub returns-clause-ok : goal.returns-clause-ok
 returns-clause-ok c =
     let w = firmware_of c.args.firmware.now in
     let b = c.args.board.now in
-    let n = c.in_ok-needs.needs in
+    let a = c.in_ok-analysis.ensures.exact in
+    let n = c.in_ok-analysis.analysis.needs in
     let made = c.in_ok-made.made in
-    let planned = c.in_ok-made.ensures.ok in
+    let plan = c.in_ok-made.ensures.ok c.args.policy w a in
     let is =
-    is_planned w n b (division c.args.policy w n) made planned c.least_sets.ensures.serve c.firmware.ensures.typed c.firmware.ensures.within
-    c.in_ok-needs.ensures.exact c.requires c.in_ok-made.ensures.compartments
+    is_planned w n b (division c.args.policy w n) made plan.planned c.least_sets.ensures.serve c.firmware.ensures.typed c.firmware.ensures.within
+    a.needs c.requires plan.compartments
     in
     record {
       needs = n;
-      are_needs = c.in_ok-needs.ensures.exact;
+      are_needs = a.needs;
       made = made;
-      is_planned = planned;
+      is_planned = plan.planned;
       permitted = c.runs_stay_in_policy.ensures w n made.graph b is;
       needed = c.permissions_are_bounded.ensures w n made.graph b is;
       same = c.in_ok-lines.ensures;

@@ -5,5 +5,6 @@ use Rattle.aces_stack.proofs.answers.within.Goals as goal
 
 pub bound-requires-clause-there : goal.bound-requires-clause-there
 bound-requires-clause-there c =
-    sites_there (program_of c.args.program.now) (firmware_of c.args.firmware.now) c.args.board.now.closed c.args.needs.now c.places.ensures c.least_sets.ensures.serve c.functions_are_there.ensures
-    c.requires.program c.firmware.ensures.typed c.firmware.ensures.within c.requires.needs
+    let a = c.args.analysis.now in
+    sites_there (program_of a.program) (firmware_of c.args.firmware.now) c.args.board.now.closed a.needs c.places.ensures c.least_sets.ensures.serve c.functions_are_there.ensures
+    c.requires.analysis.program c.firmware.ensures.typed c.firmware.ensures.within c.requires.analysis.needs

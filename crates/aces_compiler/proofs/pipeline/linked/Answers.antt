@@ -1,0 +1,21 @@
+use Rattle.ir_model.specs.Plain.{firmware_of}
+use Rattle.plan_firmwares.proofs.Planned.{is_planned}
+use Rattle.aces_compiler.proofs.Parts.{plan_is, is_image}
+use Rattle.aces_compiler.proofs.pipeline.linked.Goals as goal
+
+pub written-requires-clause-plan : goal.written-requires-clause-plan
+written-requires-clause-plan c =
+    let made = c.args.planned.now in
+    plan_is (firmware_of c.args.firmware.now) c.args.needs.now c.args.board.now made.graph.groups made c.requires.planned
+
+pub returns : goal.returns
+returns c =
+    let w = firmware_of c.args.firmware.now in
+    let n = c.args.needs.now in
+    let b = c.args.board.now in
+    let made = c.args.planned.now in
+    let groups = made.graph.groups in
+    let all = c.promised.ensures in
+    let is =
+    is_planned w n b groups made c.requires.planned all.serve c.firmware.ensures.typed c.firmware.ensures.within c.requires.needs c.requires.board c.requires.groups in
+    is_image w n b groups made c.requires.planned is c.requires.needs all c.in_ok-image.image c.in_ok-image.ensures

@@ -1,0 +1,134 @@
+//! The way from a checked firmware to its image: it is analysed, planned for a board, and linked.
+
+ghost use Rattle.std.specs.Prelude.{◌≡◌, IfOk, IfErr};
+ghost use Rattle.ir_model.specs.Plain.{firmware_of};
+ghost use Rattle.ir_model.specs.Resolve.{resolve};
+ghost use Rattle.ir_program.specs.Seen.{program_of};
+ghost use Rattle.plan_model.specs.Boards.{IsBoard};
+ghost use Rattle.plan_model.specs.Compartments.{AreCompartments};
+ghost use Rattle.plan_compartments.specs.Analyses.{AreNeedsOf};
+ghost use Rattle.plan.specs.Planned.{IsPlannedFor};
+ghost use Rattle.plan.specs.PlannedFirmwares.{plan};
+ghost use Rattle.plan.specs.Refusals.{IsPlanningRefusal};
+ghost use Rattle.plan_firmwares.specs.Unplanned.{IsUnplanned};
+ghost use Rattle.image_promises.specs.Planned.{planned_image};
+ghost use Rattle.aces_compiler.specs.ByPolicy.{IsImageBy};
+ghost use Rattle.aces_compiler.specs.Compiled.{IsImageFor};
+
+use crate::laws::promised;
+use image_linker::link;
+use ir_model::checked::Checked;
+use ir_program::program::Program;
+use machine_devices::image::Image;
+use plan::{PlannedFirmware, PlanningRefusal, planned};
+use plan_compartments::laws::divisions_are_one;
+use plan_firmwares::{analyse, planned_by};
+use plan_model::Policy;
+use plan_model::groups::Groups;
+use plan_model::needs::Needs;
+use plan_model::plan::Board;
+use std::alloc::{AllocError, Global};
+
+/// The image of a firmware for a board, its compartments being those of a policy.
+///
+/// # Errors
+///
+/// There is no memory, a limit of what is compiled is passed, an address that the firmware asks for is one that the board denies, or the
+/// blocks have more bytes than a memory of the board.
+pub fn compile_by(
+    alloc: Global,
+    firmware: &Checked,
+    board: &Board,
+    policy: Policy,
+) -> Result<Image, PlanningRefusal>
+    requires { IsBoard board.now }
+    ensures ok { IfOk result (IsImageBy policy (firmware_of firmware.now) board.now) }
+    ensures refused { IfErr result (IsUnplanned policy (firmware_of firmware.now) board.now) }
+{
+    divisions_are_one();
+    let analysis = analyse(alloc, firmware, policy, board.closed)?;
+    let made = planned_by(alloc, &analysis, board)?;
+    let image = linked(
+        alloc,
+        firmware,
+        &analysis.program,
+        &analysis.needs,
+        &made,
+        board,
+    )?;
+    Ok(image)
+}
+
+/// The image of a firmware that is planned for a board, of which all is promised.
+fn linked(
+    alloc: Global,
+    firmware: &Checked,
+    program: &Program,
+    needs: &Needs,
+    planned: &PlannedFirmware,
+    board: &Board,
+) -> Result<Image, AllocError>
+    requires program { program_of program.now ≡ resolve (firmware_of firmware.now) }
+    requires needs { AreNeedsOf (firmware_of firmware.now) board.now.closed needs.now }
+    requires groups { AreCompartments (resolve (firmware_of firmware.now)) planned.now.graph.groups }
+    requires planned { IsPlannedFor (resolve (firmware_of firmware.now)) needs.now planned.now.graph.groups board.now planned.now }
+    requires board { IsBoard board.now }
+    ensures { IfOk result (IsImageFor (firmware_of firmware.now) needs.now board.now planned.now.graph.groups) }
+{
+    firmware.firmware();
+    promised();
+    let image = written(alloc, firmware, program, needs, planned, board)?;
+    Ok(image)
+}
+
+/// The image of a firmware that is planned for a board.
+pub(crate) fn written(
+    alloc: Global,
+    firmware: &Checked,
+    program: &Program,
+    needs: &Needs,
+    planned: &PlannedFirmware,
+    board: &Board,
+) -> Result<Image, AllocError>
+    requires program { program_of program.now ≡ resolve (firmware_of firmware.now) }
+    requires plan { planned.now.plan ≡ plan (firmware_of firmware.now) needs.now planned.now.graph board.now }
+    ensures { IfOk result (λ image. image ≡ planned_image (firmware_of firmware.now) needs.now planned.now.graph board.now) }
+{
+    let periphs = firmware.firmware().periphs.as_slice();
+    link(
+        alloc,
+        periphs,
+        program,
+        needs,
+        &planned.graph,
+        &planned.plan,
+        board,
+    )
+}
+
+/// The image of a firmware for a board, its compartments being these: their graph is joined until the protection unit can hold it, all
+/// blocks are placed, and code and tables are written.
+///
+/// # Errors
+///
+/// There is no memory, a limit of what is compiled is passed, an address that the firmware asks for is one that the board denies, or the
+/// blocks have more bytes than a memory of the board.
+pub fn compile_groups(
+    alloc: Global,
+    firmware: &Checked,
+    program: &Program,
+    needs: &Needs,
+    groups: Groups,
+    board: &Board,
+) -> Result<Image, PlanningRefusal>
+    requires program { program_of program.now ≡ resolve (firmware_of firmware.now) }
+    requires needs { AreNeedsOf (firmware_of firmware.now) board.now.closed needs.now }
+    requires groups { AreCompartments (resolve (firmware_of firmware.now)) groups }
+    requires board { IsBoard board.now }
+    ensures ok { IfOk result (IsImageFor (firmware_of firmware.now) needs.now board.now groups) }
+    ensures refused { IfErr result (IsPlanningRefusal (resolve (firmware_of firmware.now)) needs.now groups board.now) }
+{
+    let made = planned(alloc, program, needs, groups, board)?;
+    let image = linked(alloc, firmware, program, needs, &made, board)?;
+    Ok(image)
+}

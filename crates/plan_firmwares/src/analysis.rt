@@ -1,0 +1,22 @@
+//! What a firmware is analysed to.
+
+ghost use Rattle.std.specs.Prelude.{◌≡◌, length};
+
+use ir_program::program::Program;
+use plan_model::groups::Groups;
+use plan_model::needs::Needs;
+
+/// What a firmware is analysed to: its program of numbers, what its functions need on a kind of board, and the compartments of a policy.
+#[derive(Drop)]
+pub struct Analysis<'a> {
+    /// The firmware with numbers for its names.
+    pub program: Program<'a>,
+    /// What its functions may reach.
+    pub needs: Needs,
+    /// Its compartments.
+    pub groups: Groups,
+    /// There is a need of each function.
+    pub ghost each_need: { length needs.funcs ≡ length program.funcs },
+    /// There is a compartment for each function.
+    pub ghost each_group: { length groups.of ≡ length needs.funcs },
+}
