@@ -132,11 +132,11 @@ module _ (Has : Origin → List ℕ → Type 0) (Exceeds : Origin → Type 0) (w
     all = nothing_more old new (denied said) d.quiet d.read_faults refl refl;
     says = l;
   }
-  answered (Err (NoRoom memory c needed available)) s q d l p = record {
-    outcome = no_room memory c needed available;
-    answer = to_request r (no_room memory c needed available) asks d.answer;
+  answered (Err (NoRoom lack)) s q d l p = record {
+    outcome = no_room lack;
+    answer = to_request r (no_room lack) asks d.answer;
     ended = sym q;
-    all = nothing_more old new (no_room memory c needed available) d.quiet d.read_faults refl refl;
+    all = nothing_more old new (no_room lack) d.quiet d.read_faults refl refl;
     says = l;
   }
   answered (Err (Unread name)) s q d l p = absurd (p.no_read_fault q)
@@ -156,7 +156,7 @@ module _ (Has : Origin → List ℕ → Type 0) (Exceeds : Origin → Type 0) (w
   partly (Err (Refused name f)) q d = let f : ⊥ = omega (arith, q) in absurd f
   partly (Err (PastLimit which count)) q d = let f : ⊥ = omega (arith, q) in absurd f
   partly (Err (Denied said)) q d = let f : ⊥ = omega (arith, q) in absurd f
-  partly (Err (NoRoom memory c needed available)) q d = let f : ⊥ = omega (arith, q) in absurd f
+  partly (Err (NoRoom lack)) q d = let f : ⊥ = omega (arith, q) in absurd f
   partly (Err (Unread name)) q d = let f : ⊥ = omega (arith, q) in absurd f
   partly (Err (Unwritten name)) q d = part_of d.1
   partly (Err Unprinted) q d = part_of d.1
@@ -192,7 +192,7 @@ module _ (Has : Origin → List ℕ → Type 0) (Exceeds : Origin → Type 0) (w
   printed_in_part (Err (Refused name f)) q d = let f : ⊥ = omega (arith, q) in absurd f
   printed_in_part (Err (PastLimit which count)) q d = let f : ⊥ = omega (arith, q) in absurd f
   printed_in_part (Err (Denied said)) q d = let f : ⊥ = omega (arith, q) in absurd f
-  printed_in_part (Err (NoRoom memory c needed available)) q d = let f : ⊥ = omega (arith, q) in absurd f
+  printed_in_part (Err (NoRoom lack)) q d = let f : ⊥ = omega (arith, q) in absurd f
   printed_in_part (Err (Unread name)) q d = let f : ⊥ = omega (arith, q) in absurd f
   printed_in_part (Err (Unwritten name)) q d = let f : ⊥ = omega (arith, q) in absurd f
   printed_in_part (Err Unprinted) q d = let f : ⊥ = omega (arith, q) in absurd f
@@ -210,7 +210,7 @@ module _ (A : Outcome → Type 0) (words : List (List ℕ)) (r : Request) (asks 
   unread calls (Err (Refused name f)) q d n l = let f : ⊥ = omega (arith, q) in absurd f
   unread calls (Err (PastLimit which count)) q d n l = let f : ⊥ = omega (arith, q) in absurd f
   unread calls (Err (Denied said)) q d n l = let f : ⊥ = omega (arith, q) in absurd f
-  unread calls (Err (NoRoom memory c needed available)) q d n l = let f : ⊥ = omega (arith, q) in absurd f
+  unread calls (Err (NoRoom lack)) q d n l = let f : ⊥ = omega (arith, q) in absurd f
   unread calls (Err (Unread name)) q d n l = record { request = r; asks = asks; name = name.now; unread = d; last = n; says = l }
   unread calls (Err (Unwritten name)) q d n l = let f : ⊥ = omega (arith, q) in absurd f
   unread calls (Err Unprinted) q d n l = let f : ⊥ = omega (arith, q) in absurd f

@@ -61,8 +61,7 @@ plan_fails firmware board policy bytes text o (plans.no_firmware f h) e = omega 
 plan_fails firmware board policy bytes text o (plans.no_board w f h k) e = omega (arith, e)
 plan_fails firmware board policy bytes text o (plans.too_many w b which count h k r) e = omega (arith, e)
 plan_fails firmware board policy bytes text o (plans.meets_denied w b m h k r) e = omega (arith, e)
-plan_fails firmware board policy bytes text o (plans.no_flash w b c n a h k r) e = omega (arith, e)
-plan_fails firmware board policy bytes text o (plans.no_ram w b c n a h k r) e = omega (arith, e)
+plan_fails firmware board policy bytes text o (plans.lacks_room w b lack h k r) e = omega (arith, e)
 
 module _ (unique : TextsAreUnique) (one : BoardsAreOne) (told : Bool) (yes_told : IsTrue told) (old new : Held) (firmware board : List ℕ) (policy : Policy) (image : List ℕ) where
   follow : (bytes text : List ℕ) (o : Outcome) → Holds old (firmware_origin firmware) bytes → Holds old (file_origin board) text → Promises policy bytes text

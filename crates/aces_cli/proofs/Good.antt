@@ -76,10 +76,8 @@ module _ (laws : Laws) where
       let wrong : planning.Limit which count ≡ planning.NoMemory = planned_one policy bytes t w b (planning.Limit which count) g h k r in cc
   plan_none firmware board policy bytes t o g (plans.meets_denied w b m h k r) =
       let wrong : planning.Denied m ≡ planning.NoMemory = planned_one policy bytes t w b (planning.Denied m) g h k r in cc
-  plan_none firmware board policy bytes t o g (plans.no_flash w b c n a h k r) =
-      let wrong : planning.Flash c n a ≡ planning.NoMemory = planned_one policy bytes t w b (planning.Flash c n a) g h k r in cc
-  plan_none firmware board policy bytes t o g (plans.no_ram w b c n a h k r) =
-      let wrong : planning.Ram c n a ≡ planning.NoMemory = planned_one policy bytes t w b (planning.Ram c n a) g h k r in cc
+  plan_none firmware board policy bytes t o g (plans.lacks_room w b lack h k r) =
+      let wrong : planning.Room lack ≡ planning.NoMemory = planned_one policy bytes t w b (planning.Room lack) g h k r in cc
 
   list_done : (firmware board : List ℕ) (policy : Policy) (bytes t : List ℕ) (o : Outcome) → IsCompilable policy bytes t → ListAnswer firmware board policy bytes t o → o.status ≡ 0
   list_done firmware board policy bytes t o g (answers.unplanned p h) = absurd (plan_none firmware board policy bytes t o g h)

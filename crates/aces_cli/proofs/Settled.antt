@@ -81,7 +81,7 @@ module _ (A : Outcome → Type 0) (r : Request) (old new : World) (told : IsTrue
   settles (Err (Refused name f)) d = inl (record { outcome = refused name.now f; answer = d.answer; ended = refl; plain = is_plain 1 (inl (omega arith)) })
   settles (Err (PastLimit which count)) d = inl (record { outcome = past_limit which count; answer = d.answer; ended = refl; plain = is_plain 1 (inl (omega arith)) })
   settles (Err (Denied said)) d = inl (record { outcome = denied said; answer = d.answer; ended = refl; plain = is_plain 3 (inl (omega arith)) })
-  settles (Err (NoRoom memory c needed available)) d = inl (record { outcome = no_room memory c needed available; answer = d.answer; ended = refl; plain = is_plain 3 (inl (omega arith)) })
+  settles (Err (NoRoom lack)) d = inl (record { outcome = no_room lack; answer = d.answer; ended = refl; plain = is_plain 3 (inl (omega arith)) })
   settles (Err (Unread name)) d = absurd (not_unread name.now d)
   settles (Err (Unwritten name)) d = absurd (not_risen old.write_faults new.write_faults none.write_faults d.0.rose)
   settles (Err Unprinted) d = absurd (not_risen old.out.faults new.out.faults none.out_faults d.0.rose)

@@ -5,7 +5,7 @@ use Rattle.ir_model.specs.Plain.{PlainFirmware}
 use Rattle.plan_model.specs.declared.plan.Board.{Board}
 use Rattle.plan_board.specs.declared.fault.BoardFault.{BoardFault}
 use Rattle.plan_board.specs.Reading as boards
-use Rattle.plan.specs.declared.refusal.PlanningRefusal.TheVariants.{NoMemory, Limit, Denied, Flash, Ram}
+use Rattle.plan.specs.declared.refusal.PlanningRefusal.TheVariants.{NoMemory, Limit, Denied, Room}
 use Rattle.aces_reports.specs.declared.failure.Fault.TheVariants as faults
 use Rattle.aces_reports.specs.Faults.{is_want_of_memory}
 use Rattle.aces_files.specs.Outcomes.{Outcome, done}
@@ -31,8 +31,7 @@ module _ (firmware board : List ℕ) (policy : Policy) (bytes t : List ℕ) (non
   by_plan w b status lines h k (unplanned n NoMemory l a r x) = absurd x
   by_plan w b status lines h k (unplanned n (Limit which count) l a r x) = absurd (none _ (plans.too_many w b which count h k (record { needs = n; are_needs = a; refused = r })))
   by_plan w b status lines h k (unplanned n (Denied m) l a r x) = absurd (none _ (plans.meets_denied w b m h k (record { needs = n; are_needs = a; refused = r })))
-  by_plan w b status lines h k (unplanned n (Flash c needed available) l a r x) = absurd (none _ (plans.no_flash w b c needed available h k (record { needs = n; are_needs = a; refused = r })))
-  by_plan w b status lines h k (unplanned n (Ram c needed available) l a r x) = absurd (none _ (plans.no_ram w b c needed available h k (record { needs = n; are_needs = a; refused = r })))
+  by_plan w b status lines h k (unplanned n (Room lack) l a r x) = absurd (none _ (plans.lacks_room w b lack h k (record { needs = n; are_needs = a; refused = r })))
 
   pub explain_plan_done : (o : Outcome) → ExplainPlanAnswer firmware board policy bytes t o → o.status ≡ 0
   explain_plan_done o (no_firmware lines h) = explain_done firmware bytes (done 1 lines None) (λ f k. none _ (plans.no_firmware f k)) h

@@ -1,5 +1,5 @@
 -- What is told of a firmware that has no plan for a board: why, what its blocks are where a memory has no room, and the rule.
-use Rattle.std.specs.Prelude.{◌≡◌, ℕ, List, ◌++◌, Option, codes}
+use Rattle.std.specs.Prelude.{◌≡◌, ℕ, List, ◌++◌, codes}
 use Rattle.std.specs.Fmt.{decimal}
 use Rattle.machine_lines.specs.Lines.{line_feed}
 use Rattle.ir_model.specs.Plain.{PlainFirmware}
@@ -14,10 +14,13 @@ use Rattle.plan_model.specs.Boards.{slots_of}
 use Rattle.plan_model.specs.FinalGraph.{IsFinal}
 use Rattle.code_model.specs.Planned.{sizes_of}
 use Rattle.plan_denials.specs.declared.Meeting.{Meeting}
+use Rattle.plan_layout.specs.declared.refusal.Lack.{Lack}
+use Rattle.plan_layout.specs.declared.refusal.Memory.{Memory}
+use Rattle.plan_layout.specs.declared.refusal.Memory.TheVariants as memory
 use Rattle.plan_report.specs.Lines.{meeting_text}
-use Rattle.aces_reports.specs.FaultLines.{compiled_word, compartment_word, bytes_text}
+use Rattle.aces_reports.specs.FaultLines.{compiled_word, memory_word, compartment_word, bytes_text}
 use Rattle.plan.specs.declared.refusal.PlanningRefusal.{PlanningRefusal}
-use Rattle.plan.specs.declared.refusal.PlanningRefusal.TheVariants.{NoMemory, Limit, Denied, Flash, Ram}
+use Rattle.plan.specs.declared.refusal.PlanningRefusal.TheVariants.{NoMemory, Limit, Denied, Room}
 use Rattle.aces_explain.specs.Blocks.{ram_lines, flash_lines}
 use Rattle.aces_explain.specs.PlanRules.{limit_of, limit_rule, denied_rule, flash_rule, ram_rule}
 
@@ -42,15 +45,14 @@ denied_told w b m = denied_text (meeting_text w b m) m
 
 -- ---- no room: the line that `list` has behind `aces: `, and the blocks of a graph
 
-abbrev pub room_line : (memory : List ℕ) → (compartment : Option ℕ) → (needed available : ℕ) → List ℕ
-room_line memory c needed available = memory ++ codes ": compartment " ++ compartment_word c ++ bytes_text needed available
+abbrev pub room_line : Lack → List ℕ
+room_line lack = memory_word lack.memory ++ codes ": compartment " ++ compartment_word lack.compartment ++ bytes_text lack.needed lack.available
 
-abbrev pub flash_told : Sizes → (compartment : Option ℕ) → (needed available : ℕ) → List ℕ
-flash_told s c needed available = room_line (codes "flash") c needed available ++ flash_lines s ++ rule_line flash_rule
+abbrev pub flash_told : Sizes → Lack → List ℕ
+flash_told s lack = room_line lack ++ flash_lines s ++ rule_line flash_rule
 
-abbrev pub ram_told : PlainFirmware → Program → Final → Board → (compartment : Option ℕ) → (needed available : ℕ) → List ℕ
-ram_told w p f b c needed available =
-    room_line (codes "ram") c needed available ++ ram_lines w p f b.stack ++ rule_line (ram_rule b.lowest)
+abbrev pub ram_told : PlainFirmware → Program → Final → Board → Lack → List ℕ
+ram_told w p f b lack = room_line lack ++ ram_lines w p f b.stack ++ rule_line (ram_rule b.lowest)
 
 -- ---- a refusal
 
@@ -60,11 +62,14 @@ pub record IsToldOfFinal (p : Program) (n : Needs) (g : Groups) (b : Board) (tol
   pub final : IsFinal p n g (slots_of b) graph
   pub same : text ≡ told graph
 
+-- by the memory that has no room
+abbrev pub IsRoomTold : PlainFirmware → Program → Needs → Groups → Board → Lack → Memory → (text : List ℕ) → Type 0
+IsRoomTold w p n g b lack memory.Flash text = IsToldOfFinal p n g b (λ f. flash_told (sizes_of p n f (slots_of b)) lack) text
+IsRoomTold w p n g b lack memory.Ram text = IsToldOfFinal p n g b (λ f. ram_told w p f b lack) text
+
 -- of want of memory nothing is told
 abbrev pub IsRefusalTold : PlainFirmware → Program → Needs → Groups → Board → PlanningRefusal → (text : List ℕ) → Type 0
 IsRefusalTold w p n g b NoMemory text = ⊥
 IsRefusalTold w p n g b (Limit k count) text = text ≡ limit_told k count
 IsRefusalTold w p n g b (Denied m) text = text ≡ denied_told w b m
-IsRefusalTold w p n g b (Flash c needed available) text =
-    IsToldOfFinal p n g b (λ f. flash_told (sizes_of p n f (slots_of b)) c needed available) text
-IsRefusalTold w p n g b (Ram c needed available) text = IsToldOfFinal p n g b (λ f. ram_told w p f b c needed available) text
+IsRefusalTold w p n g b (Room lack) text = IsRoomTold w p n g b lack lack.memory text

@@ -11,7 +11,7 @@ use Rattle.plan_board.specs.Reading as boards
 use Rattle.plan_compartments.specs.Analyses.{AreNeedsOf}
 use Rattle.plan_compartments.specs.Divisions.{division}
 use Rattle.plan.specs.declared.refusal.PlanningRefusal.{PlanningRefusal}
-use Rattle.plan.specs.declared.refusal.PlanningRefusal.TheVariants.{NoMemory, Limit, Denied, Flash, Ram}
+use Rattle.plan.specs.declared.refusal.PlanningRefusal.TheVariants.{NoMemory, Limit, Denied, Room}
 use Rattle.plan.specs.Refusals.{IsPlanningRefusal}
 use Rattle.plan_firmwares.specs.Plannable.{IsPlannable}
 use Rattle.aces_explain.specs.BoardTold.{board_told}
@@ -29,8 +29,7 @@ abbrev pub refusal_status : PlanningRefusal → ℕ
 refusal_status NoMemory = 6
 refusal_status (Limit k count) = 1
 refusal_status (Denied m) = 3
-refusal_status (Flash c needed available) = 3
-refusal_status (Ram c needed available) = 3
+refusal_status (Room lack) = 3
 
 -- what is told of a firmware on a board by a policy: why it has no plan, in the compartments of the policy and by the needs on a board of its
 -- kind; or the counts of the firmware

@@ -16,6 +16,7 @@ use ir_program::program::Program;
 use plan::PlanningRefusal;
 use plan::planner::{final_graph, slots};
 use plan_denials::Meeting;
+use plan_layout::refusal::{Lack, Memory};
 use plan_model::graph::Final;
 use plan_model::groups::Groups;
 use plan_model::limits::LimitKind;
@@ -25,17 +26,6 @@ use plan_report::meeting_text;
 use plan_report::text::Text;
 use plan_sizes::sizes;
 use std::alloc::{AllocError, Global};
-
-/// A memory that has no room, as a refusal tells it.
-#[derive(Clone, Copy)]
-pub(crate) struct Lack {
-    /// The compartment that is named, if there is one.
-    pub(crate) compartment: Option<u32>,
-    /// The bytes that are needed.
-    pub(crate) needed: u64,
-    /// The bytes that there are.
-    pub(crate) available: u64,
-}
 
 /// What is told of a limit.
 fn limit_told(alloc: Global, which: LimitKind, count: u32) -> Result<Vec<u8>, AllocError>
@@ -73,16 +63,10 @@ fn denied_told(
 
 /// What is told of flash that has no room.
 fn flash_told(alloc: Global, sizes: &Sizes, lack: Lack) -> Result<Vec<u8>, AllocError>
-    ensures { IfOk result (λ text. text.items ≡ told.flash_told sizes.now lack.compartment lack.needed lack.available) }
+    ensures { IfOk result (λ text. text.items ≡ told.flash_told sizes.now lack) }
 {
     let mut text = Text::new(alloc);
-    put_room(
-        &mut text,
-        b"flash",
-        lack.compartment,
-        lack.needed,
-        lack.available,
-    )?;
+    put_room(&mut text, lack)?;
     put_flash(alloc, &mut text, sizes)?;
     put_flash_rule(&mut text)?;
     Ok(text.into_bytes())
@@ -97,16 +81,10 @@ fn ram_told(
     board: &Board,
     lack: Lack,
 ) -> Result<Vec<u8>, AllocError>
-    ensures { IfOk result (λ text. text.items ≡ told.ram_told (firmware_of firmware.now) (program_of program.now) graph.now board.now lack.compartment lack.needed lack.available) }
+    ensures { IfOk result (λ text. text.items ≡ told.ram_told (firmware_of firmware.now) (program_of program.now) graph.now board.now lack) }
 {
     let mut text = Text::new(alloc);
-    put_room(
-        &mut text,
-        b"ram",
-        lack.compartment,
-        lack.needed,
-        lack.available,
-    )?;
+    put_room(&mut text, lack)?;
     put_ram(alloc, &mut text, firmware, program, graph, board.stack)?;
     put_ram_rule(&mut text, board.lowest)?;
     Ok(text.into_bytes())
@@ -124,7 +102,7 @@ fn flash_of_final(
     requires board { IsBoard board.now }
     requires needs { length groups.of ≡ length needs.now.funcs }
     requires each { length groups.of ≡ length program.now.funcs }
-    ensures { IfOk result (λ text. told.IsToldOfFinal (program_of program.now) needs.now groups board.now (λ f. told.flash_told (sizes_of (program_of program.now) needs.now f (slots_of board.now)) lack.compartment lack.needed lack.available) text.items) }
+    ensures { IfOk result (λ text. told.IsToldOfFinal (program_of program.now) needs.now groups board.now (λ f. told.flash_told (sizes_of (program_of program.now) needs.now f (slots_of board.now)) lack) text.items) }
 {
     let count = slots(board);
     let graph = final_graph(alloc, program, needs, groups, count)?;
@@ -144,10 +122,31 @@ fn ram_of_final(
 ) -> Result<Vec<u8>, AllocError>
     requires board { IsBoard board.now }
     requires needs { length groups.of ≡ length needs.now.funcs }
-    ensures { IfOk result (λ text. told.IsToldOfFinal (program_of program.now) needs.now groups board.now (λ f. told.ram_told (firmware_of firmware.now) (program_of program.now) f board.now lack.compartment lack.needed lack.available) text.items) }
+    ensures { IfOk result (λ text. told.IsToldOfFinal (program_of program.now) needs.now groups board.now (λ f. told.ram_told (firmware_of firmware.now) (program_of program.now) f board.now lack) text.items) }
 {
     let graph = final_graph(alloc, program, needs, groups, slots(board))?;
     ram_told(alloc, firmware, program, &graph, board, lack)
+}
+
+/// What is told of a memory that has no room for the blocks of the final graph.
+fn room_told(
+    alloc: Global,
+    firmware: &Firmware,
+    program: &Program,
+    needs: &Needs,
+    groups: Groups,
+    board: &Board,
+    lack: Lack,
+) -> Result<Vec<u8>, AllocError>
+    requires board { IsBoard board.now }
+    requires needs { length groups.of ≡ length needs.now.funcs }
+    requires each { length groups.of ≡ length program.now.funcs }
+    ensures { IfOk result (λ text. told.IsRoomTold (firmware_of firmware.now) (program_of program.now) needs.now groups board.now lack lack.memory text.items) }
+{
+    match lack.memory {
+        Memory::Flash => flash_of_final(alloc, program, needs, groups, board, lack),
+        Memory::Ram => ram_of_final(alloc, firmware, program, needs, groups, board, lack),
+    }
 }
 
 /// What is told of a firmware that was refused so by planning: why, the blocks of the final graph where a memory has no room for them, and
@@ -174,29 +173,8 @@ pub fn refusal_told(
         PlanningRefusal::NoMemory => Err(AllocError),
         PlanningRefusal::Limit { which, count } => limit_told(alloc, which, count),
         PlanningRefusal::Denied(meeting) => denied_told(alloc, firmware, board, meeting),
-        PlanningRefusal::Flash {
-            compartment,
-            needed,
-            available,
-        } => {
-            let lack = Lack {
-                compartment,
-                needed,
-                available,
-            };
-            flash_of_final(alloc, program, needs, groups, board, lack)
-        }
-        PlanningRefusal::Ram {
-            compartment,
-            needed,
-            available,
-        } => {
-            let lack = Lack {
-                compartment,
-                needed,
-                available,
-            };
-            ram_of_final(alloc, firmware, program, needs, groups, board, lack)
+        PlanningRefusal::Room(lack) => {
+            room_told(alloc, firmware, program, needs, groups, board, lack)
         }
     }
 }

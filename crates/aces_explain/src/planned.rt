@@ -39,8 +39,7 @@ fn done_by(refusal: PlanningRefusal) -> Result<Done, AllocError>
     match refusal {
         PlanningRefusal::NoMemory => Err(AllocError),
         PlanningRefusal::Limit { .. } => Ok(Done::FaultTold),
-        PlanningRefusal::Denied(_) | PlanningRefusal::Flash { .. } | PlanningRefusal::Ram { .. } =>
-            Ok(Done::NoRoomTold),
+        PlanningRefusal::Denied(_) | PlanningRefusal::Room(_) => Ok(Done::NoRoomTold),
     }
 }
 

@@ -4,6 +4,8 @@ ghost use Rattle.std.specs.Prelude.{◌≡◌, ◌++◌, OnOk};
 ghost use Rattle.aces_reports.specs.FaultLines.{compartment_word, bytes_text};
 ghost use Rattle.aces_explain.specs.PlanTold as told;
 
+use aces_reports::memory_word;
+use plan_layout::refusal::Lack;
 use plan_report::text::Text;
 use std::alloc::AllocError;
 
@@ -38,17 +40,11 @@ fn put_bytes(text: &mut Text, needed: u64, available: u64) -> Result<(), AllocEr
 }
 
 /// Puts the line on a memory that has no room.
-pub(crate) fn put_room(
-    text: &mut Text,
-    memory: &[u8],
-    compartment: Option<u32>,
-    needed: u64,
-    available: u64,
-) -> Result<(), AllocError>
-    ensures { OnOk result (text.new ≡ text.old ++ told.room_line memory.now compartment needed available) }
+pub(crate) fn put_room(text: &mut Text, lack: Lack) -> Result<(), AllocError>
+    ensures { OnOk result (text.new ≡ text.old ++ told.room_line lack) }
 {
-    text.put(memory)?;
+    text.put(memory_word(lack.memory))?;
     text.put(b": compartment ")?;
-    put_compartment(text, compartment)?;
-    put_bytes(text, needed, available)
+    put_compartment(text, lack.compartment)?;
+    put_bytes(text, lack.needed, lack.available)
 }

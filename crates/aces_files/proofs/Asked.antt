@@ -56,7 +56,7 @@ pub names_behind : (earlier calls : List Call) (e : Failure) → NamesLast calls
 names_behind earlier calls (Refused name f) h = h
 names_behind earlier calls (PastLimit which count) h = h
 names_behind earlier calls (Denied said) h = h
-names_behind earlier calls (NoRoom memory c needed available) h = h
+names_behind earlier calls (NoRoom lack) h = h
 names_behind earlier calls (Unread name) h = unread_behind earlier calls name.now h
 names_behind earlier calls (Unwritten name) h = h
 names_behind earlier calls Unprinted h = h

@@ -60,7 +60,7 @@ load_failed A Exceeds r s old new quiet named missing large (Refused name f) h =
 }
 load_failed A Exceeds r s old new quiet named missing large (PastLimit which count) h = absurd h
 load_failed A Exceeds r s old new quiet named missing large (Denied said) h = absurd h
-load_failed A Exceeds r s old new quiet named missing large (NoRoom memory c needed available) h = absurd h
+load_failed A Exceeds r s old new quiet named missing large (NoRoom lack) h = absurd h
 load_failed A Exceeds r s old new quiet named missing large (Unread name) h = record {
   named = subst (IsNamed (origins r)) (sym h.0) named;
   cause = elim h.1 [ inl rose ↦ inl rose | inr gone ↦ inr (gone.0, subst (IsMissing old.held (origins r)) (sym h.0) (missing gone.0 gone.1)) ];
@@ -76,7 +76,7 @@ pub load_behind : (told : Bool) (held : Held) (earlier calls : List Call) (s : O
 load_behind told held earlier calls s before after (Refused name f) h = (h.0, h.1, large_behind told held earlier calls s h.2, h.3)
 load_behind told held earlier calls s before after (PastLimit which count) h = h
 load_behind told held earlier calls s before after (Denied said) h = h
-load_behind told held earlier calls s before after (NoRoom memory c needed available) h = h
+load_behind told held earlier calls s before after (NoRoom lack) h = h
 load_behind told held earlier calls s before after (Unread name) h = h
 load_behind told held earlier calls s before after (Unwritten name) h = h
 load_behind told held earlier calls s before after Unprinted h = h
@@ -93,7 +93,7 @@ content_failed A IsFault r name old new quiet reads answer (Refused n f) h = rec
 }
 content_failed A IsFault r name old new quiet reads answer (PastLimit which count) h = absurd h
 content_failed A IsFault r name old new quiet reads answer (Denied said) h = absurd h
-content_failed A IsFault r name old new quiet reads answer (NoRoom memory c needed available) h = absurd h
+content_failed A IsFault r name old new quiet reads answer (NoRoom lack) h = absurd h
 content_failed A IsFault r name old new quiet reads answer (Unread n) h = absurd h
 content_failed A IsFault r name old new quiet reads answer (Unwritten n) h = absurd h
 content_failed A IsFault r name old new quiet reads answer Unprinted h = absurd h
@@ -104,7 +104,7 @@ pub content_names : (calls : List Call) (IsFault : Fault → Type 0) (name : Lis
 content_names calls IsFault name (Refused n f) h = tt
 content_names calls IsFault name (PastLimit which count) h = absurd h
 content_names calls IsFault name (Denied said) h = absurd h
-content_names calls IsFault name (NoRoom memory c needed available) h = absurd h
+content_names calls IsFault name (NoRoom lack) h = absurd h
 content_names calls IsFault name (Unread n) h = absurd h
 content_names calls IsFault name (Unwritten n) h = absurd h
 content_names calls IsFault name Unprinted h = absurd h
@@ -115,7 +115,7 @@ pub content_also : (P Q : Fault → Type 0) → ((f : Fault) → P f → Q f) �
 content_also P Q m name (Refused n f) h = (h.0, m f h.1)
 content_also P Q m name (PastLimit which count) h = h
 content_also P Q m name (Denied said) h = h
-content_also P Q m name (NoRoom memory c needed available) h = h
+content_also P Q m name (NoRoom lack) h = h
 content_also P Q m name (Unread n) h = h
 content_also P Q m name (Unwritten n) h = h
 content_also P Q m name Unprinted h = h
@@ -127,7 +127,7 @@ pub refusal_did : (A : Outcome → Type 0) (r : Request) (old new : World) → Q
 refusal_did A r old new quiet reads (Refused n f) h = record { answer = h; quiet = quiet; read_faults = reads }
 refusal_did A r old new quiet reads (PastLimit which count) h = record { answer = h; quiet = quiet; read_faults = reads }
 refusal_did A r old new quiet reads (Denied said) h = record { answer = h; quiet = quiet; read_faults = reads }
-refusal_did A r old new quiet reads (NoRoom memory c needed available) h = record { answer = h; quiet = quiet; read_faults = reads }
+refusal_did A r old new quiet reads (NoRoom lack) h = record { answer = h; quiet = quiet; read_faults = reads }
 refusal_did A r old new quiet reads (Unread n) h = absurd h
 refusal_did A r old new quiet reads (Unwritten n) h = absurd h
 refusal_did A r old new quiet reads Unprinted h = absurd h
@@ -138,7 +138,7 @@ pub refusal_names : (calls : List Call) (A : Outcome → Type 0) (e : Failure) �
 refusal_names calls A (Refused n f) h = tt
 refusal_names calls A (PastLimit which count) h = tt
 refusal_names calls A (Denied said) h = tt
-refusal_names calls A (NoRoom memory c needed available) h = tt
+refusal_names calls A (NoRoom lack) h = tt
 refusal_names calls A (Unread n) h = absurd h
 refusal_names calls A (Unwritten n) h = absurd h
 refusal_names calls A Unprinted h = absurd h
@@ -149,7 +149,7 @@ pub refusal_also : (A B : Outcome → Type 0) → ((o : Outcome) → A o → B o
 refusal_also A B m (Refused n f) h = m (refused n.now f) h
 refusal_also A B m (PastLimit which count) h = m (past_limit which count) h
 refusal_also A B m (Denied said) h = m (denied said) h
-refusal_also A B m (NoRoom memory c needed available) h = m (no_room memory c needed available) h
+refusal_also A B m (NoRoom lack) h = m (no_room lack) h
 refusal_also A B m (Unread n) h = h
 refusal_also A B m (Unwritten n) h = h
 refusal_also A B m Unprinted h = h
@@ -160,7 +160,7 @@ pub content_refused : (A : Outcome → Type 0) (IsFault : Fault → Type 0) (nam
 content_refused A IsFault name answer (Refused n f) h = subst (λ x. A (refused x f)) (sym h.0) (answer f h.1)
 content_refused A IsFault name answer (PastLimit which count) h = absurd h
 content_refused A IsFault name answer (Denied said) h = absurd h
-content_refused A IsFault name answer (NoRoom memory c needed available) h = absurd h
+content_refused A IsFault name answer (NoRoom lack) h = absurd h
 content_refused A IsFault name answer (Unread n) h = absurd h
 content_refused A IsFault name answer (Unwritten n) h = absurd h
 content_refused A IsFault name answer Unprinted h = absurd h
@@ -175,7 +175,7 @@ untouched_names calls A r held old new (Ok d) h = tt
 untouched_names calls A r held old new (Err (Refused name f)) h = tt
 untouched_names calls A r held old new (Err (PastLimit which count)) h = tt
 untouched_names calls A r held old new (Err (Denied said)) h = tt
-untouched_names calls A r held old new (Err (NoRoom memory c needed available)) h = tt
+untouched_names calls A r held old new (Err (NoRoom lack)) h = tt
 untouched_names calls A r held old new (Err (Unread name)) h =
     absurd (elim h.cause [ inl rose ↦ let few : 0 + 1 < 2 ^ 64 = omega arith in let wrong = rose few in omega (arith, wrong) | inr gone ↦ false≢true gone.0 ])
 untouched_names calls A r held old new (Err (Unwritten name)) h = tt
@@ -227,7 +227,7 @@ did_also A B m r old new (Ok NoRoomTold) d = record { outcome = d.outcome; answe
 did_also A B m r old new (Err (Refused name f)) d = record { answer = m (refused name.now f) d.answer; quiet = d.quiet; read_faults = d.read_faults }
 did_also A B m r old new (Err (PastLimit which count)) d = record { answer = m (past_limit which count) d.answer; quiet = d.quiet; read_faults = d.read_faults }
 did_also A B m r old new (Err (Denied said)) d = record { answer = m (denied said) d.answer; quiet = d.quiet; read_faults = d.read_faults }
-did_also A B m r old new (Err (NoRoom memory c needed available)) d = record { answer = m (no_room memory c needed available) d.answer; quiet = d.quiet; read_faults = d.read_faults }
+did_also A B m r old new (Err (NoRoom lack)) d = record { answer = m (no_room lack) d.answer; quiet = d.quiet; read_faults = d.read_faults }
 did_also A B m r old new (Err (Unread name)) d = d
 did_also A B m r old new (Err (Unwritten name)) d = (d.0, part_also A B m r old new d.1)
 did_also A B m r old new (Err Unprinted) d = (d.0, part_also A B m r old new d.1)
@@ -260,7 +260,7 @@ module _ (A : Outcome → Type 0) (nothing : (o : Outcome) → A o → o.status 
   held_stays (Err (Refused name f)) d n m = d.quiet.held
   held_stays (Err (PastLimit which count)) d n m = d.quiet.held
   held_stays (Err (Denied said)) d n m = d.quiet.held
-  held_stays (Err (NoRoom memory c needed available)) d n m = d.quiet.held
+  held_stays (Err (NoRoom lack)) d n m = d.quiet.held
   held_stays (Err (Unread name)) d n m = d.quiet.held
   held_stays (Err (Unwritten name)) d n m = absurd (m refl)
   held_stays (Err Unprinted) d n m = d.0.held

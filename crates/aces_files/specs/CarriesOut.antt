@@ -25,7 +25,7 @@ abbrev pub NamesLast : List Call → Failure → Type 0
 NamesLast calls (Refused name fault) = Unit {0}
 NamesLast calls (PastLimit which count) = Unit {0}
 NamesLast calls (Denied said) = Unit {0}
-NamesLast calls (NoRoom memory compartment needed available) = Unit {0}
+NamesLast calls (NoRoom lack) = Unit {0}
 NamesLast calls (Unread name) = EndsUnread name.now calls
 NamesLast calls (Unwritten name) = Unit {0}
 NamesLast calls Unprinted = Unit {0}

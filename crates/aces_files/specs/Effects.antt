@@ -120,7 +120,7 @@ module _ (Answer : Outcome → Type 0) (request : Request) (old new : World) whe
   Does (Err (Refused name fault)) = IsRefused (refused name.now fault)
   Does (Err (PastLimit which count)) = IsRefused (past_limit which count)
   Does (Err (Denied said)) = IsRefused (denied said)
-  Does (Err (NoRoom memory compartment needed available)) = IsRefused (no_room memory compartment needed available)
+  Does (Err (NoRoom lack)) = IsRefused (no_room lack)
   Does (Err (Unread name)) = IsUnread request old new name.now
   Does (Err (Unwritten name)) = IsUnwritten request old new name.now × IsPart
   Does (Err Unprinted) = IsUnprinted old new × IsPart

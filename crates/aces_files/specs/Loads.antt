@@ -9,7 +9,6 @@ use Rattle.aces_reports.specs.declared.failure.Fault.TheVariants.{TooLarge}
 use Rattle.aces_reports.specs.declared.failure.Failure.{Failure}
 use Rattle.aces_reports.specs.declared.failure.Failure.TheVariants.{Refused, PastLimit, Denied, NoRoom, Unread, Unwritten, Unprinted, NoMemory}
 use Rattle.aces_words.specs.Requests.{Origin}
-use Rattle.aces_reports.specs.declared.failure.Memory.TheVariants as memory
 use Rattle.ir_model.specs.Plain.{PlainFirmware}
 use Rattle.plan_model.specs.declared.plan.Board.{Board}
 use Rattle.plan_report.specs.Lines.{meeting_text}
@@ -23,7 +22,7 @@ abbrev pub IsContentFailure : (IsFault : Fault → Type 0) → (name : List ℕ)
 IsContentFailure IsFault name (Refused n f) = (n.now ≡ name) × IsFault f
 IsContentFailure IsFault name (PastLimit which count) = ⊥
 IsContentFailure IsFault name (Denied said) = ⊥
-IsContentFailure IsFault name (NoRoom memory compartment needed available) = ⊥
+IsContentFailure IsFault name (NoRoom lack) = ⊥
 IsContentFailure IsFault name (Unread n) = ⊥
 IsContentFailure IsFault name (Unwritten n) = ⊥
 IsContentFailure IsFault name Unprinted = ⊥
@@ -34,7 +33,7 @@ abbrev pub IsRefusal : (Answer : Outcome → Type 0) → Failure → Type 0
 IsRefusal A (Refused n f) = A (refused n.now f)
 IsRefusal A (PastLimit which count) = A (past_limit which count)
 IsRefusal A (Denied said) = A (denied said)
-IsRefusal A (NoRoom memory compartment needed available) = A (no_room memory compartment needed available)
+IsRefusal A (NoRoom lack) = A (no_room lack)
 IsRefusal A (Unread n) = ⊥
 IsRefusal A (Unwritten n) = ⊥
 IsRefusal A Unprinted = ⊥
@@ -45,8 +44,7 @@ abbrev pub of_planning : PlainFirmware → Board → PlanningRefusal → Failure
 of_planning w b planning.NoMemory = NoMemory
 of_planning w b (planning.Limit which count) = PastLimit which count
 of_planning w b (planning.Denied m) = Denied (meeting_text w b m)
-of_planning w b (planning.Flash c needed available) = NoRoom memory.Flash c needed available
-of_planning w b (planning.Ram c needed available) = NoRoom memory.Ram c needed available
+of_planning w b (planning.Room lack) = NoRoom lack
 
 -- that one, or memory ran out for its line
 abbrev pub IsPlanningFailure : PlainFirmware → Board → PlanningRefusal → Failure → Type 0
@@ -58,7 +56,7 @@ module _ (Exceeds : Origin → Type 0) (told : Bool) (held : Held) (s : Origin) 
   IsLoadFailure (Refused name f) = (name.now ≡ s.name) × (f ≡ TooLarge s.limit) × Exceeds s × (faults_after ≡ faults_before)
   IsLoadFailure (PastLimit which count) = ⊥
   IsLoadFailure (Denied said) = ⊥
-  IsLoadFailure (NoRoom memory compartment needed available) = ⊥
+  IsLoadFailure (NoRoom lack) = ⊥
   IsLoadFailure (Unread name) = (name.now ≡ s.name) × (Rose faults_before faults_after ⊎ (IsTrue told × IsNone (held s.name)))
   IsLoadFailure (Unwritten name) = ⊥
   IsLoadFailure Unprinted = ⊥

@@ -1,8 +1,8 @@
 -- What an outcome of a call is: the status, what is printed, the line that tells of a fault, and what is written.
 use Rattle.std.specs.Prelude.{ℕ, List, [], Option, None}
 use Rattle.aces_reports.specs.declared.failure.Fault.{Fault}
-use Rattle.aces_reports.specs.declared.failure.Memory.{Memory}
 use Rattle.aces_reports.specs.FaultLines.{fault_line, limit_line, denied_line, room_line, usage_line}
+use Rattle.plan_layout.specs.declared.refusal.Lack.{Lack}
 use Rattle.plan_model.specs.declared.limits.LimitKind.{LimitKind}
 
 -- the bytes that a name is made to hold
@@ -31,8 +31,8 @@ past_limit which count = record { status = 1; printed = []; line = limit_line wh
 abbrev pub denied : (text : List ℕ) → Outcome
 denied text = record { status = 3; printed = []; line = denied_line text; written = None }
 
-abbrev pub no_room : Memory → (compartment : Option ℕ) → (needed available : ℕ) → Outcome
-no_room m c needed available = record { status = 3; printed = []; line = room_line m c needed available; written = None }
+abbrev pub no_room : Lack → Outcome
+no_room lack = record { status = 3; printed = []; line = room_line lack; written = None }
 
 abbrev pub usage : Outcome
 usage = record { status = 2; printed = []; line = usage_line; written = None }

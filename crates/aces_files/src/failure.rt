@@ -1,13 +1,13 @@
 //! The failures that faults of files and refusals of planning are.
 
 ghost use Rattle.std.specs.Prelude.{◌≡◌, ◌⊎◌};
-ghost use Rattle.aces_reports.specs.declared.failure.Failure.TheVariants.{Denied, NoMemory, NoRoom};
+ghost use Rattle.aces_reports.specs.declared.failure.Failure.TheVariants.{Denied, NoMemory};
 ghost use Rattle.ir_model.specs.Plain.{firmware_of};
 ghost use Rattle.plan_report.specs.Lines as denials;
 ghost use Rattle.aces_files.specs.Contents.{IsContentFault};
 ghost use Rattle.aces_files.specs.Loads.{IsContentFailure, IsPlanningFailure};
 
-use aces_reports::{Failure, Fault, Memory};
+use aces_reports::{Failure, Fault};
 use base_lists::ListVec;
 use ir_model::firmware::Firmware;
 use plan::PlanningRefusal;
@@ -40,16 +40,7 @@ pub fn planning_failure<'a>(
         PlanningRefusal::NoMemory => Failure::NoMemory,
         PlanningRefusal::Limit { which, count } => Failure::PastLimit { which, count },
         PlanningRefusal::Denied(meeting) => denied_failure(alloc, firmware, board, meeting),
-        PlanningRefusal::Flash {
-            compartment,
-            needed,
-            available,
-        } => no_room(Memory::Flash, compartment, needed, available),
-        PlanningRefusal::Ram {
-            compartment,
-            needed,
-            available,
-        } => no_room(Memory::Ram, compartment, needed, available),
+        PlanningRefusal::Room(lack) => Failure::NoRoom(lack),
     }
 }
 
@@ -67,16 +58,5 @@ fn denied_failure<'a>(
             text: ListVec::new(text),
         },
         Err(_) => Failure::NoMemory,
-    }
-}
-
-fn no_room<'a>(memory: Memory, compartment: Option<u32>, needed: u64, available: u64) -> Failure<'a>
-    ensures { result ≡ NoRoom memory compartment needed available }
-{
-    Failure::NoRoom {
-        memory,
-        compartment,
-        needed,
-        available,
     }
 }

@@ -24,7 +24,7 @@ pub failure_behind : (told : Bool) (held : Held) (earlier calls : List Call) (s 
 failure_behind told held earlier calls s before after (Refused name f) h = (h.0, h.1, large_behind told held earlier calls s h.2, h.3)
 failure_behind told held earlier calls s before after (PastLimit which count) h = h
 failure_behind told held earlier calls s before after (Denied said) h = h
-failure_behind told held earlier calls s before after (NoRoom memory c needed available) h = h
+failure_behind told held earlier calls s before after (NoRoom lack) h = h
 failure_behind told held earlier calls s before after (Unread name) h = h
 failure_behind told held earlier calls s before after (Unwritten name) h = h
 failure_behind told held earlier calls s before after Unprinted h = h
@@ -89,7 +89,7 @@ module _ {F : Type 0} (of : files.Ghosts F) (old new : F) (firmware board : List
     printed before after lines d a (Err (Refused name f)) p = absurd p
     printed before after lines d a (Err (PastLimit which count)) p = absurd p
     printed before after lines d a (Err (Denied said)) p = absurd p
-    printed before after lines d a (Err (NoRoom memory c needed available)) p = absurd p
+    printed before after lines d a (Err (NoRoom lack)) p = absurd p
     printed before after lines d a (Err (Unread name)) p = absurd p
     printed before after lines d a (Err (Unwritten name)) p = absurd p
     printed before after lines d a (Err Unprinted) p = (

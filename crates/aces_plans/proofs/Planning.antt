@@ -5,7 +5,7 @@ use Rattle.ir_model.specs.Plain.{PlainFirmware}
 use Rattle.plan_model.specs.declared.plan.Board.{Board}
 use Rattle.plan_board.specs.Reading.{IsRead}
 use Rattle.plan.specs.declared.refusal.PlanningRefusal.{PlanningRefusal}
-use Rattle.plan.specs.declared.refusal.PlanningRefusal.TheVariants.{NoMemory, Limit, Denied, Flash, Ram}
+use Rattle.plan.specs.declared.refusal.PlanningRefusal.TheVariants.{NoMemory, Limit, Denied, Room}
 use Rattle.plan_firmwares.specs.Unplanned.{IsUnplanned}
 use Rattle.aces_reports.specs.declared.failure.Failure.{Failure}
 use Rattle.aces_firmwares.specs.Firmwares.{IsFirmware}
@@ -14,7 +14,7 @@ use Rattle.aces_stack.specs.Lines.{stack_lines, stack_status}
 use Rattle.refine_stack.specs.declared.answer.StackAnswer.{StackAnswer}
 use Rattle.aces_stack_laws.specs.Bounded.{IsStackBy}
 use Rattle.aces_files.specs.Outcomes.{Outcome, done}
-use Rattle.aces_plans.specs.PlanAnswer.{PlanAnswer, too_many, meets_denied, no_flash, no_ram}
+use Rattle.aces_plans.specs.PlanAnswer.{PlanAnswer, too_many, meets_denied, lacks_room}
 use Rattle.aces_plans.specs.Answers.{StackAnswers, bounded}
 use Rattle.aces_plans.specs.Answers as answers
 use Rattle.aces_files.specs.Loads.{IsRefusal, IsPlanningFailure, of_planning}
@@ -30,8 +30,7 @@ unplanned : (firmware board : List ℕ) (policy : Policy) (bytes text : List ℕ
 unplanned firmware board policy bytes text w b f k NoMemory h = tt
 unplanned firmware board policy bytes text w b f k (Limit which count) h = too_many w b which count f k h
 unplanned firmware board policy bytes text w b f k (Denied m) h = meets_denied w b m f k h
-unplanned firmware board policy bytes text w b f k (Flash c n a) h = no_flash w b c n a f k h
-unplanned firmware board policy bytes text w b f k (Ram c n a) h = no_ram w b c n a f k h
+unplanned firmware board policy bytes text w b f k (Room lack) h = lacks_room w b lack f k h
 
 pub planning_refused : (firmware board : List ℕ) (policy : Policy) (bytes text : List ℕ) (w : PlainFirmware) (b : Board) → IsFirmware w bytes → IsRead text b
     → (r : PlanningRefusal) (e : Failure) → IsUnplanned policy w b r → IsPlanningFailure w b r e → IsRefusal (PlanAnswer firmware board policy bytes text) e
@@ -44,8 +43,7 @@ limited : (firmware board : List ℕ) (policy : Policy) (bytes text : List ℕ) 
 limited firmware board policy bytes text w b f k NoMemory h = tt
 limited firmware board policy bytes text w b f k (Limit which count) h = answers.too_many w b which count f k h
 limited firmware board policy bytes text w b f k (Denied m) h = absurd h
-limited firmware board policy bytes text w b f k (Flash c n a) h = absurd h
-limited firmware board policy bytes text w b f k (Ram c n a) h = absurd h
+limited firmware board policy bytes text w b f k (Room lack) h = absurd h
 
 pub limits_refused : (firmware board : List ℕ) (policy : Policy) (bytes text : List ℕ) (w : PlainFirmware) (b : Board) → IsFirmware w bytes → IsRead text b
     → (r : PlanningRefusal) (e : Failure) → IsLimited policy w b r → IsPlanningFailure w b r e → IsRefusal (StackAnswers firmware board policy bytes text) e

@@ -1,7 +1,7 @@
 -- Why a firmware has no plan, by the bytes of its files: what `list`, `compile` and `symbols` are refused for.
-use Rattle.std.specs.Prelude.{ℕ, List, Option}
+use Rattle.std.specs.Prelude.{ℕ, List}
 use Rattle.aces_reports.specs.declared.failure.Fault.{Fault}
-use Rattle.aces_reports.specs.declared.failure.Memory.TheVariants as memory
+use Rattle.plan_layout.specs.declared.refusal.Lack.{Lack}
 use Rattle.plan_model.specs.declared.policy.Policy.{Policy}
 use Rattle.ir_model.specs.Plain.{PlainFirmware}
 use Rattle.plan_model.specs.declared.plan.Board.{Board}
@@ -24,7 +24,5 @@ pub data PlanAnswer (firmware board : List ℕ) (policy : Policy) (bytes text : 
       IsRefusedBy policy w b (planning.Limit which count) → PlanAnswer firmware board policy bytes text (past_limit which count)
   meets_denied : (w : PlainFirmware) (b : Board) (m : Meeting) → IsFirmware w bytes → boards.IsRead text b →
       IsRefusedBy policy w b (planning.Denied m) → PlanAnswer firmware board policy bytes text (denied (meeting_text w b m))
-  no_flash : (w : PlainFirmware) (b : Board) (c : Option ℕ) (needed available : ℕ) → IsFirmware w bytes → boards.IsRead text b →
-      IsRefusedBy policy w b (planning.Flash c needed available) → PlanAnswer firmware board policy bytes text (no_room memory.Flash c needed available)
-  no_ram : (w : PlainFirmware) (b : Board) (c : Option ℕ) (needed available : ℕ) → IsFirmware w bytes → boards.IsRead text b →
-      IsRefusedBy policy w b (planning.Ram c needed available) → PlanAnswer firmware board policy bytes text (no_room memory.Ram c needed available)
+  lacks_room : (w : PlainFirmware) (b : Board) (lack : Lack) → IsFirmware w bytes → boards.IsRead text b →
+      IsRefusedBy policy w b (planning.Room lack) → PlanAnswer firmware board policy bytes text (no_room lack)

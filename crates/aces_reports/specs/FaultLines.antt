@@ -20,8 +20,9 @@ use Rattle.plan_board.specs.declared.fault.BoardFault.{BoardFault}
 use Rattle.plan_board.specs.declared.fault.BoardFault.TheVariants as board
 use Rattle.aces_reports.specs.declared.failure.Fault.{Fault}
 use Rattle.aces_reports.specs.declared.failure.Fault.TheVariants.{TooLarge, Image, Tape, Text, Check, Board}
-use Rattle.aces_reports.specs.declared.failure.Memory.{Memory}
-use Rattle.aces_reports.specs.declared.failure.Memory.TheVariants as memory
+use Rattle.plan_layout.specs.declared.refusal.Lack.{Lack}
+use Rattle.plan_layout.specs.declared.refusal.Memory.{Memory}
+use Rattle.plan_layout.specs.declared.refusal.Memory.TheVariants as memory
 use Rattle.plan_board.specs.Keys.{path_of}
 use Rattle.plan_model.specs.declared.limits.LimitKind.{LimitKind}
 use Rattle.plan_model.specs.declared.limits.LimitKind.TheVariants as compiled
@@ -167,9 +168,9 @@ abbrev pub bytes_text : (needed available : ℕ) → List ℕ
 bytes_text needed available = codes ": needs " ++ decimal needed ++ codes " of " ++ decimal available ++ codes " bytes" ++ line_feed
 
 -- a memory has no room: the compartment that takes most of it, what is needed, and what there is
-abbrev pub room_line : Memory → (compartment : Option ℕ) → (needed available : ℕ) → List ℕ
-room_line m c needed available =
-    codes "aces: " ++ memory_word m ++ codes ": compartment " ++ compartment_word c ++ bytes_text needed available
+abbrev pub room_line : Lack → List ℕ
+room_line lack =
+    codes "aces: " ++ memory_word lack.memory ++ codes ": compartment " ++ compartment_word lack.compartment ++ bytes_text lack.needed lack.available
 
 abbrev pub usage_line : List ℕ
 usage_line = codes "aces: usage" ++ line_feed

@@ -10,6 +10,7 @@ use ir_reader::TextFault;
 use machine_devices::tape::TapeFault;
 use machine_image::fault::ImageFault;
 use plan_board::fault::BoardFault;
+use plan_layout::refusal::Lack;
 use plan_model::limits::LimitKind;
 use std::alloc::AllocError;
 
@@ -61,46 +62,21 @@ impl Fault {
     }
 }
 
-/// A memory of a board.
-#[derive(Clone, Copy)]
-pub enum Memory {
-    Flash,
-    Ram,
-}
-
 /// What stopped a command.
 #[derive(Drop)]
 pub enum Failure<'a> {
     /// The content of a file: status 1.
-    Refused {
-        name: &'a str,
-        fault: Fault,
-    },
+    Refused { name: &'a str, fault: Fault },
     /// A firmware has more of this than is compiled: status 1.
-    PastLimit {
-        which: LimitKind,
-        count: u32,
-    },
+    PastLimit { which: LimitKind, count: u32 },
     /// A range of addresses that a firmware asks for meets one that the board denies, as this text tells: status 3.
-    Denied {
-        text: ListVec<u8>,
-    },
-    /// The blocks of a firmware need more bytes than a memory of the board has: status 3. The compartment is the one that takes
-    /// most of it, if one does.
-    NoRoom {
-        memory: Memory,
-        compartment: Option<u32>,
-        needed: u64,
-        available: u64,
-    },
+    Denied { text: ListVec<u8> },
+    /// The blocks of a firmware need more bytes than a memory of the board has: status 3.
+    NoRoom(Lack),
     /// A file that was not read: status 4.
-    Unread {
-        name: &'a str,
-    },
+    Unread { name: &'a str },
     /// A file that was not written: status 5.
-    Unwritten {
-        name: &'a str,
-    },
+    Unwritten { name: &'a str },
     /// Output that was not written: status 5.
     Unprinted,
     /// Want of memory: status 6.

@@ -5,6 +5,6 @@ mod failure;
 mod telling;
 mod words_refusal;
 
-pub use failure::{Done, Failure, Fault, Memory};
-pub use telling::{report, say};
+pub use failure::{Done, Failure, Fault};
+pub use telling::{memory_word, report, say};
 pub use words_refusal::{WordsRefusal, refuse_words};

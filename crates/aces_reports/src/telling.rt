@@ -7,7 +7,7 @@ ghost use Rattle.aces_reports.specs.FaultLines as lines;
 ghost use Rattle.aces_reports.specs.Ends.{status_of, line_of};
 ghost use Rattle.base_outside.specs.Sinks.{Says, sink};
 
-use crate::failure::{Done, Failure, Fault, Memory};
+use crate::failure::{Done, Failure, Fault};
 use base_outside::Sink;
 use ir_check_scopes::CheckFault;
 use ir_model::check::{CheckKind, Place};
@@ -17,6 +17,7 @@ use machine_devices::tape::TapeFault;
 use machine_image::fault::ImageFault;
 use plan_board::fault::BoardFault;
 use plan_board::key::Key;
+use plan_layout::refusal::{Lack, Memory};
 use plan_model::limits::LimitKind;
 
 /// The exit status of how a command ended. Where something stopped it, its line is put.
@@ -43,7 +44,7 @@ fn failure_status(failure: &Failure) -> u8
 {
     match failure {
         Failure::Refused { .. } | Failure::PastLimit { .. } => 1,
-        Failure::Denied { .. } | Failure::NoRoom { .. } => 3,
+        Failure::Denied { .. } | Failure::NoRoom(_) => 3,
         Failure::Unread { .. } => 4,
         Failure::Unwritten { .. } | Failure::Unprinted => 5,
         Failure::NoMemory => 6,
@@ -58,12 +59,7 @@ fn say_failure<E: Sink>(err: &mut E, failure: &Failure)
         Failure::Refused { name, fault } => say_fault(err, name.as_bytes(), fault),
         Failure::PastLimit { which, count } => say_past_limit(err, *which, *count),
         Failure::Denied { text } => say_named(err, b"aces: deny: ", text.as_slice(), b"\n"),
-        Failure::NoRoom {
-            memory,
-            compartment,
-            needed,
-            available,
-        } => say_no_room(err, *memory, *compartment, *needed, *available),
+        Failure::NoRoom(lack) => say_no_room(err, *lack),
         Failure::Unread { name } => {
             say_named(err, b"aces: cannot read ", name.as_bytes(), b"\n")
         }
@@ -284,7 +280,7 @@ fn say_count<E: Sink>(err: &mut E, count: u32)
 }
 
 /// The word of a memory.
-fn memory_word(memory: Memory) -> &'static [u8]
+pub fn memory_word(memory: Memory) -> &'static [u8]
     ensures { result.now ≡ lines.memory_word memory }
 {
     match memory {
@@ -304,21 +300,14 @@ fn say_compartment<E: Sink>(err: &mut E, compartment: Option<u32>)
 }
 
 /// Puts the line on a memory that has no room.
-fn say_no_room<E: Sink>(
-    err: &mut E,
-    memory: Memory,
-    compartment: Option<u32>,
-    needed: u64,
-    available: u64,
-)
-    ensures { Says (sink E.Sink err.old) (sink E.Sink err.new)
-        (lines.room_line memory compartment needed available) }
+fn say_no_room<E: Sink>(err: &mut E, lack: Lack)
+    ensures { Says (sink E.Sink err.old) (sink E.Sink err.new) (lines.room_line lack) }
 {
     say(err, b"aces: ");
-    say(err, memory_word(memory));
+    say(err, memory_word(lack.memory));
     say(err, b": compartment ");
-    say_compartment(err, compartment);
-    say_bytes(err, needed, available);
+    say_compartment(err, lack.compartment);
+    say_bytes(err, lack.needed, lack.available);
 }
 
 /// Puts how many bytes are needed, and how many there are.

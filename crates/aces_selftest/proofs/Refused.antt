@@ -9,9 +9,9 @@ use Rattle.ir_generator.specs.Made.{made}
 use Rattle.ir_model.specs.Plain.{PlainFirmware}
 use Rattle.ir_model.specs.Resolve.{resolve}
 use Rattle.plan.specs.declared.refusal.PlanningRefusal.{PlanningRefusal}
-use Rattle.plan.specs.declared.refusal.PlanningRefusal.TheVariants.{NoMemory, Limit, Denied, Flash, Ram}
+use Rattle.plan.specs.declared.refusal.PlanningRefusal.TheVariants.{NoMemory, Limit, Denied, Room}
 use Rattle.aces_selftest.specs.TestBoard.{test_board}
-use Rattle.aces_selftest.specs.Answers.{SelftestAnswer, too_many, no_flash, no_ram}
+use Rattle.aces_selftest.specs.Answers.{SelftestAnswer, too_many, lacks_room}
 use Rattle.aces_selftest.proofs.Boards.{keeps_off}
 
 -- the board of self-tests denies nothing
@@ -23,8 +23,7 @@ unplanned : (seed size : ℕ) (r : PlanningRefusal) → IsUnplanned Filename (ma
 unplanned seed size NoMemory h = tt
 unplanned seed size (Limit which count) h = too_many which count h
 unplanned seed size (Denied m) h = absurd (never_denied (made seed size) m h)
-unplanned seed size (Flash c n a) h = no_flash c n a h
-unplanned seed size (Ram c n a) h = no_ram c n a h
+unplanned seed size (Room lack) h = lacks_room lack h
 
 pub refused : (seed size : ℕ) (r : PlanningRefusal) (e : Failure) → IsUnplanned Filename (made seed size) test_board r
     → IsPlanningFailure (made seed size) test_board r e → IsRefusal (SelftestAnswer seed size) e

@@ -36,7 +36,7 @@ use Rattle.aces_selftest.proofs.Lengths.{Settled, settled}
 use Rattle.aces_files.specs.Outcomes.{Outcome}
 use Rattle.aces_selftest.specs.TestBoard.{test_board}
 use Rattle.aces_selftest.specs.Lines.{AreAlike, verdict_status}
-use Rattle.aces_selftest.specs.Answers.{source_limit, IsTestImage, groups_of, words_of, TakeSteps, source_ran, image_ran, SelftestAnswer, too_many, no_flash, no_ram, tested}
+use Rattle.aces_selftest.specs.Answers.{source_limit, IsTestImage, groups_of, words_of, TakeSteps, source_ran, image_ran, SelftestAnswer, too_many, lacks_room, tested}
 use Rattle.aces_selftest.specs.Laws.{EndsWell, GoodSelftestsAreSame}
 use Rattle.aces_selftest.proofs.Image.{queues}
 
@@ -129,9 +129,6 @@ excluded law seed size plan r other refused = other (law Filename (made seed siz
 
 pub good_selftests_are_same : RefusalsAndPlansExclude → StartsAreResets → GoodSelftestsAreSame
 good_selftests_are_same law starts seed size plan well o (too_many which count h) = absurd (excluded law seed size plan (planning.Limit which count) (λ e. cc) h)
-good_selftests_are_same law starts seed size plan well o (no_flash k needed available h) =
-    absurd (excluded law seed size plan (planning.Flash k needed available) (λ e. cc) h)
-good_selftests_are_same law starts seed size plan well o (no_ram k needed available h) =
-    absurd (excluded law seed size plan (planning.Ram k needed available) (λ e. cc) h)
+good_selftests_are_same law starts seed size plan well o (lacks_room lack h) = absurd (excluded law seed size plan (planning.Room lack) (λ e. cc) h)
 good_selftests_are_same law starts seed size plan well o (tested i by n m a take decides) =
     true_status a (AreAlike (source_ran seed size i by n) (image_ran seed size i by m)) decides (alike seed size i by starts n m take (well i by))

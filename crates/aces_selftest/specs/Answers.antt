@@ -1,11 +1,11 @@
 -- What a self-test answers where memory does not run out.
-use Rattle.std.specs.Prelude.{ℕ, ◌+◌, ◌*◌, List, length, Option, None, Bool}
+use Rattle.std.specs.Prelude.{ℕ, ◌+◌, ◌*◌, List, length, None, Bool}
 use Rattle.std.specs.Bool.{Decides}
 use Rattle.machine_devices.specs.declared.image.Image.{Image}
 use Rattle.machine_model.specs.Step.{step, event}
 use Rattle.base_words.specs.Runs.{run, events}
 use Rattle.machine_lines.specs.Lines as machine_lines
-use Rattle.aces_reports.specs.declared.failure.Memory.TheVariants as memory
+use Rattle.plan_layout.specs.declared.refusal.Lack.{Lack}
 use Rattle.plan_model.specs.declared.policy.Policy.TheVariants.{Filename}
 use Rattle.aces_words.specs.Requests.{Origin}
 use Rattle.ir_model.specs.Plain.{PlainFirmware, funcs_of}
@@ -81,10 +81,7 @@ module _ (seed size : ℕ) (i : Image) (by : IsTestImage seed size i) where
 -- it is refused as `compile` refuses it; else both runs are told, and compared
 pub data SelftestAnswer (seed size : ℕ) : Outcome → Type 0 where
   too_many : (which : LimitKind) (count : ℕ) → IsRefusedBy Filename (made seed size) test_board (planning.Limit which count) → SelftestAnswer seed size (past_limit which count)
-  no_flash : (compartment : Option ℕ) (needed available : ℕ) → IsRefusedBy Filename (made seed size) test_board (planning.Flash compartment needed available) →
-      SelftestAnswer seed size (no_room memory.Flash compartment needed available)
-  no_ram : (compartment : Option ℕ) (needed available : ℕ) → IsRefusedBy Filename (made seed size) test_board (planning.Ram compartment needed available) →
-      SelftestAnswer seed size (no_room memory.Ram compartment needed available)
+  lacks_room : (lack : Lack) → IsRefusedBy Filename (made seed size) test_board (planning.Room lack) → SelftestAnswer seed size (no_room lack)
   tested : (i : Image) (by : IsTestImage seed size i) (n m : ℕ) (alike : Bool) → TakeSteps seed size i by n m
       → Decides alike (AreAlike (source_ran seed size i by n) (image_ran seed size i by m))
       → SelftestAnswer seed size (done (verdict_status alike) (lines_of seed size i by n m alike) None)

@@ -7,7 +7,7 @@ use Rattle.plan_model.specs.CompileLimits.{KeepsLimits}
 use Rattle.plan_compartments.specs.Analyses.{AreNeedsOf}
 use Rattle.plan_compartments.specs.Divisions.{division}
 use Rattle.plan.specs.declared.refusal.PlanningRefusal.{PlanningRefusal}
-use Rattle.plan.specs.declared.refusal.PlanningRefusal.TheVariants.{NoMemory, Limit, Denied, Flash, Ram}
+use Rattle.plan.specs.declared.refusal.PlanningRefusal.TheVariants.{NoMemory, Limit, Denied, Room}
 use Rattle.plan_firmwares.specs.Unplanned.{IsRefusedBy}
 
 -- in the compartments of the policy, by the needs on a board of its kind, no limit of what is compiled is passed. No memory of the board is
@@ -22,5 +22,4 @@ abbrev pub IsLimited : Policy → PlainFirmware → Board → PlanningRefusal �
 IsLimited policy w b NoMemory = Unit {0}
 IsLimited policy w b (Limit k c) = IsRefusedBy policy w b (Limit k c)
 IsLimited policy w b (Denied m) = ⊥
-IsLimited policy w b (Flash c m a) = ⊥
-IsLimited policy w b (Ram c m a) = ⊥
+IsLimited policy w b (Room lack) = ⊥

@@ -26,7 +26,7 @@ use Rattle.plan_layout.specs.Placing.{flash_refusal, ram_refusal}
 use Rattle.plan_layout.specs.Placing as placing
 use Rattle.plan.specs.declared.planner.PlannedFirmware.{PlannedFirmware}
 use Rattle.plan.specs.declared.refusal.PlanningRefusal.{PlanningRefusal}
-use Rattle.plan.specs.declared.refusal.PlanningRefusal.TheVariants.{NoMemory, Limit, Denied, Flash, Ram}
+use Rattle.plan.specs.declared.refusal.PlanningRefusal.TheVariants.{NoMemory, Limit, Denied, Room}
 use Rattle.plan.specs.Planned.{IsPlannedFor}
 use Rattle.plan_denials.specs.declared.Meeting.{Meeting}
 use Rattle.plan_denials.specs.Meetings.{first_meeting, KeepsOff}
@@ -76,8 +76,7 @@ module _ (one : GraphsAreOne) (p : Program) (n : Needs) (g : Groups) (b : Board)
   not_refused x NoMemory k h = refl
   not_refused x (Limit w c) k h = absurd (no_limit (first_passed n g) (w, c) k.limits h)
   not_refused x (Denied m) k h = absurd (asks x m k h)
-  not_refused x (Flash c m a) k h = absurd (has_room x _ k h)
-  not_refused x (Ram c m a) k h = absurd (has_room x _ k h)
+  not_refused x (Room lack) k h = absurd (has_room x _ k h)
 
   same_plan : (x y : PlannedFirmware) → IsPlannedFor p n g b x → IsPlannedFor p n g b y → x ≡ y
   same_plan x y k h =
@@ -133,23 +132,15 @@ module _ (one : GraphsAreOne) (p : Program) (n : Needs) (g : Groups) (b : Board)
   same_refusal (Limit w c) NoMemory a d h k = absurd (d refl)
   same_refusal (Limit w c) (Limit v e) a d h k = same_limit w v c e h k
   same_refusal (Limit w c) (Denied m) a d h k = absurd (limit_or_denied w c m h k)
-  same_refusal (Limit w c) (Flash e m x) a d h k = absurd (limit_or_room w c (place.Flash e m x) h k)
-  same_refusal (Limit w c) (Ram e m x) a d h k = absurd (limit_or_room w c (place.Ram e m x) h k)
+  same_refusal (Limit w c) (Room l) a d h k = absurd (limit_or_room w c (place.Room l) h k)
   same_refusal (Denied m) NoMemory a d h k = absurd (d refl)
   same_refusal (Denied m) (Limit v e) a d h k = absurd (limit_or_denied v e m k h)
   same_refusal (Denied m) (Denied o) a d h k = same_meeting m o h k
-  same_refusal (Denied m) (Flash e o y) a d h k = absurd (denied_or_room m (place.Flash e o y) h k)
-  same_refusal (Denied m) (Ram e o y) a d h k = absurd (denied_or_room m (place.Ram e o y) h k)
-  same_refusal (Flash c m x) (Denied o) a d h k = absurd (denied_or_room o (place.Flash c m x) k h)
-  same_refusal (Ram c m x) (Denied o) a d h k = absurd (denied_or_room o (place.Ram c m x) k h)
-  same_refusal (Flash c m x) NoMemory a d h k = absurd (d refl)
-  same_refusal (Flash c m x) (Limit v e) a d h k = absurd (limit_or_room v e (place.Flash c m x) k h)
-  same_refusal (Flash c m x) (Flash e o y) a d h k = same_room (place.Flash c m x) (place.Flash e o y) h k
-  same_refusal (Flash c m x) (Ram e o y) a d h k = same_room (place.Flash c m x) (place.Ram e o y) h k
-  same_refusal (Ram c m x) NoMemory a d h k = absurd (d refl)
-  same_refusal (Ram c m x) (Limit v e) a d h k = absurd (limit_or_room v e (place.Ram c m x) k h)
-  same_refusal (Ram c m x) (Flash e o y) a d h k = same_room (place.Ram c m x) (place.Flash e o y) h k
-  same_refusal (Ram c m x) (Ram e o y) a d h k = same_room (place.Ram c m x) (place.Ram e o y) h k
+  same_refusal (Denied m) (Room l) a d h k = absurd (denied_or_room m (place.Room l) h k)
+  same_refusal (Room l) NoMemory a d h k = absurd (d refl)
+  same_refusal (Room l) (Limit v e) a d h k = absurd (limit_or_room v e (place.Room l) k h)
+  same_refusal (Room l) (Denied o) a d h k = absurd (denied_or_room o (place.Room l) k h)
+  same_refusal (Room l) (Room o) a d h k = same_room (place.Room l) (place.Room o) h k
 
 pub planning_refusals_are_one : GraphsAreOne → PlanningRefusalsAreOne
 planning_refusals_are_one one p n g b r s a d h k = same_refusal one p n g b r s a d h k

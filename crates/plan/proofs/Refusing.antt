@@ -21,7 +21,7 @@ use Rattle.plan_layout.specs.Placing.{flash_refusal, ram_refusal}
 use Rattle.plan_layout.specs.Placing as placing
 use Rattle.plan.specs.declared.planner.PlannedFirmware.{PlannedFirmware}
 use Rattle.plan.specs.declared.refusal.PlanningRefusal.{PlanningRefusal}
-use Rattle.plan.specs.declared.refusal.PlanningRefusal.TheVariants.{NoMemory, Limit, Denied, Flash, Ram}
+use Rattle.plan.specs.declared.refusal.PlanningRefusal.TheVariants.{NoMemory, Limit, Denied, Room}
 use Rattle.plan.specs.Planned.{IsPlaced, IsPlannedFor}
 use Rattle.plan.specs.Refusals.{IsRoomRefusal, IsPlanningRefusal}
 use Rattle.plan_denials.specs.Meetings.{KeepsOff}
@@ -61,8 +61,7 @@ planning_refused : (p : Program) (n : Needs) (g : Groups) (b : Board) (f : Final
 planning_refused p n g b f NoMemory l k d h = tt
 planning_refused p n g b f (Limit w c) l k d h = absurd h
 planning_refused p n g b f (Denied m) l k d h = absurd h
-planning_refused p n g b f (Flash c m a) l k d h = record { limits = l; graph = f; final = k; off = d; refused = h }
-planning_refused p n g b f (Ram c m a) l k d h = record { limits = l; graph = f; final = k; off = d; refused = h }
+planning_refused p n g b f (Room lack) l k d h = record { limits = l; graph = f; final = k; off = d; refused = h }
 
 -- ---- where no limit is passed
 

@@ -16,13 +16,12 @@ use Rattle.plan_layout.specs.Placing as placing
 use Rattle.plan_denials.specs.declared.Meeting.{Meeting}
 use Rattle.plan_denials.specs.Meetings.{first_meeting, KeepsOff}
 use Rattle.plan.specs.declared.refusal.PlanningRefusal.{PlanningRefusal}
-use Rattle.plan.specs.declared.refusal.PlanningRefusal.TheVariants.{NoMemory, Limit, Denied, Flash, Ram}
+use Rattle.plan.specs.declared.refusal.PlanningRefusal.TheVariants.{NoMemory, Limit, Denied, Room}
 
 -- a refusal of placement
 abbrev pub of_place : PlaceRefusal → PlanningRefusal
 of_place place.NoMemory = NoMemory
-of_place (place.Flash c m a) = Flash c m a
-of_place (place.Ram c m a) = Ram c m a
+of_place (place.Room lack) = Room lack
 
 -- the blocks of this graph are refused
 abbrev pub AreRefused : Program → Needs → Final → Board → PlaceRefusal → Type 0
@@ -48,13 +47,11 @@ abbrev pub IsPlanningRefusal : Program → Needs → Groups → Board → Planni
 IsPlanningRefusal p n g b NoMemory = Unit {0}
 IsPlanningRefusal p n g b (Limit k c) = option_map told (first_passed n g) ≡ Some (k, c)
 IsPlanningRefusal p n g b (Denied m) = AsksForDenied p n g b m
-IsPlanningRefusal p n g b (Flash c m a) = HasNoRoom p n g b (place.Flash c m a)
-IsPlanningRefusal p n g b (Ram c m a) = HasNoRoom p n g b (place.Ram c m a)
+IsPlanningRefusal p n g b (Room lack) = HasNoRoom p n g b (place.Room lack)
 
 -- a refusal of the blocks of a graph
 abbrev pub IsRoomRefusal : Program → Needs → Final → Board → PlanningRefusal → Type 0
 IsRoomRefusal p n f b NoMemory = Unit {0}
 IsRoomRefusal p n f b (Limit k c) = ⊥
 IsRoomRefusal p n f b (Denied m) = ⊥
-IsRoomRefusal p n f b (Flash c m a) = AreRefused p n f b (place.Flash c m a)
-IsRoomRefusal p n f b (Ram c m a) = AreRefused p n f b (place.Ram c m a)
+IsRoomRefusal p n f b (Room lack) = AreRefused p n f b (place.Room lack)

@@ -5,5 +5,6 @@ pub mod laws;
 pub mod planner;
 pub mod refusal;
 
+pub use plan_layout::refusal::{Lack, Memory};
 pub use planner::{PlannedFirmware, planned};
 pub use refusal::PlanningRefusal;

@@ -4,7 +4,7 @@ ghost use Rattle.std.specs.Prelude.{◌≡◌};
 ghost use Rattle.plan.specs.Refusals.{of_place};
 
 use plan_denials::Meeting;
-use plan_layout::refusal::PlaceRefusal;
+use plan_layout::refusal::{Lack, PlaceRefusal};
 use plan_model::limits::LimitKind;
 use std::alloc::AllocError;
 
@@ -22,24 +22,8 @@ pub enum PlanningRefusal {
     },
     /// A range of addresses that the firmware asks for meets one that the board denies: the first that does.
     Denied(Meeting),
-    /// The blocks of flash have more bytes than flash.
-    Flash {
-        /// The first compartment with the largest code block.
-        compartment: Option<u32>,
-        /// The bytes of the blocks.
-        needed: u64,
-        /// The bytes of flash.
-        available: u64,
-    },
-    /// The blocks of RAM outside tails have more bytes than RAM.
-    Ram {
-        /// The lowest user of the first data region with the largest block.
-        compartment: Option<u32>,
-        /// The bytes of the blocks outside tails.
-        needed: u64,
-        /// The bytes of RAM.
-        available: u64,
-    },
+    /// The blocks of a memory have more bytes than it.
+    Room(Lack),
 }
 
 impl From<AllocError> for PlanningRefusal {
@@ -59,23 +43,6 @@ pub(crate) fn unplaced(refusal: PlaceRefusal) -> PlanningRefusal
 {
     match refusal {
         PlaceRefusal::NoMemory => PlanningRefusal::NoMemory,
-        PlaceRefusal::Flash {
-            compartment,
-            needed,
-            available,
-        } => PlanningRefusal::Flash {
-            compartment,
-            needed,
-            available,
-        },
-        PlaceRefusal::Ram {
-            compartment,
-            needed,
-            available,
-        } => PlanningRefusal::Ram {
-            compartment,
-            needed,
-            available,
-        },
+        PlaceRefusal::Room(lack) => PlanningRefusal::Room(lack),
     }
 }

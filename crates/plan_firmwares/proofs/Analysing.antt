@@ -13,7 +13,7 @@ use Rattle.plan_model.specs.Compartments.{AreCompartments}
 use Rattle.plan_compartments.specs.Analyses.{AreNeedsOf}
 use Rattle.plan.specs.declared.planner.PlannedFirmware.{PlannedFirmware}
 use Rattle.plan.specs.declared.refusal.PlanningRefusal.{PlanningRefusal}
-use Rattle.plan.specs.declared.refusal.PlanningRefusal.TheVariants.{NoMemory, Limit, Denied, Flash, Ram}
+use Rattle.plan.specs.declared.refusal.PlanningRefusal.TheVariants.{NoMemory, Limit, Denied, Room}
 use Rattle.plan.specs.Planned.{IsPlannedFor}
 use Rattle.plan.specs.Refusals.{IsPlanningRefusal}
 use Rattle.plan_firmwares.specs.declared.analysis.Analysis.{Analysis}
@@ -45,5 +45,4 @@ module _ (policy : Policy) (w : PlainFirmware) (b : Board) (a : Analysis) (h : I
   unplanned NoMemory k = tt
   unplanned (Limit which count) k = record { needs = a.needs; are_needs = h.needs; refused = k policy w h }
   unplanned (Denied m) k = record { needs = a.needs; are_needs = h.needs; refused = k policy w h }
-  unplanned (Flash c m n) k = record { needs = a.needs; are_needs = h.needs; refused = k policy w h }
-  unplanned (Ram c m n) k = record { needs = a.needs; are_needs = h.needs; refused = k policy w h }
+  unplanned (Room lack) k = record { needs = a.needs; are_needs = h.needs; refused = k policy w h }

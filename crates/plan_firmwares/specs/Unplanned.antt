@@ -7,7 +7,7 @@ use Rattle.plan_model.specs.declared.plan.Board.{Board}
 use Rattle.plan_compartments.specs.Analyses.{AreNeedsOf}
 use Rattle.plan_compartments.specs.Divisions.{division}
 use Rattle.plan.specs.declared.refusal.PlanningRefusal.{PlanningRefusal}
-use Rattle.plan.specs.declared.refusal.PlanningRefusal.TheVariants.{NoMemory, Limit, Denied, Flash, Ram}
+use Rattle.plan.specs.declared.refusal.PlanningRefusal.TheVariants.{NoMemory, Limit, Denied, Room}
 use Rattle.plan.specs.Refusals.{IsPlanningRefusal}
 
 -- in the compartments of the policy, by the needs on a board of its kind, there is no plan, for this
@@ -21,5 +21,4 @@ abbrev pub IsUnplanned : Policy → PlainFirmware → Board → PlanningRefusal 
 IsUnplanned policy w b NoMemory = Unit {0}
 IsUnplanned policy w b (Limit k c) = IsRefusedBy policy w b (Limit k c)
 IsUnplanned policy w b (Denied m) = IsRefusedBy policy w b (Denied m)
-IsUnplanned policy w b (Flash c m a) = IsRefusedBy policy w b (Flash c m a)
-IsUnplanned policy w b (Ram c m a) = IsRefusedBy policy w b (Ram c m a)
+IsUnplanned policy w b (Room lack) = IsRefusedBy policy w b (Room lack)

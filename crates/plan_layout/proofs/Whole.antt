@@ -9,7 +9,7 @@ use Rattle.plan_model.specs.FlashPlacement.{flash_needed}
 use Rattle.plan_model.specs.RamPlacement.{ram_needed}
 use Rattle.plan_model.specs.Placement.{plan_of}
 use Rattle.plan_layout.specs.declared.refusal.PlaceRefusal.{PlaceRefusal}
-use Rattle.plan_layout.specs.declared.refusal.PlaceRefusal.TheVariants.{NoMemory, Flash, Ram}
+use Rattle.plan_layout.specs.declared.refusal.PlaceRefusal.TheVariants.{NoMemory, Room}
 use Rattle.plan_layout.specs.declared.flash.FlashPlan.{FlashPlan}
 use Rattle.plan_layout.specs.declared.place.RamPlan.{RamPlan}
 use Rattle.plan_layout.specs.Placing.{flash_refusal, ram_refusal, placed, IsPlaceRefusal, IsFlash, IsFlashRefusal, IsRam, IsRamRefusal}
@@ -58,14 +58,12 @@ module _ (p : Program) (f : Final) (s : Sizes) (b : Board) where
   pub flash_refused : (e : PlaceRefusal) → IsFlashRefusal s b e → IsPlaceRefusal p f s b e
   unfolding placed
   flash_refused NoMemory h = tt
-  flash_refused (Flash c n a) h =
-      told (flash_refusal s b) (Flash c n a) h.1 (first flash_fails ram_fails (flash_refusal s b) (ram_refusal p f b) (plan_of p f s b) (lt-ltb b.flash_size (flash_needed s) h.0))
-  flash_refused (Ram c n a) h = absurd h
+  flash_refused (Room lack) h =
+      told (flash_refusal s b) (Room lack) h.1 (first flash_fails ram_fails (flash_refusal s b) (ram_refusal p f b) (plan_of p f s b) (lt-ltb b.flash_size (flash_needed s) h.0))
 
   pub ram_refused : (e : PlaceRefusal) → flash_needed s ≤ b.flash_size → IsRamRefusal p f b e → IsPlaceRefusal p f s b e
   unfolding placed
   ram_refused NoMemory l h = tt
-  ram_refused (Flash c n a) l h = absurd h
-  ram_refused (Ram c n a) l h =
-      told (ram_refusal p f b) (Ram c n a) h.1
+  ram_refused (Room lack) l h =
+      told (ram_refusal p f b) (Room lack) h.1
       (second flash_fails ram_fails (flash_refusal s b) (ram_refusal p f b) (plan_of p f s b) (le-ltb b.flash_size (flash_needed s) l) (lt-ltb b.ram_size (ram_needed p f b) h.0))

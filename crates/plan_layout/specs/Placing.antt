@@ -10,18 +10,19 @@ use Rattle.plan_model.specs.FlashPlacement.{tables_spot, code_spot, flash_needed
 use Rattle.plan_model.specs.RamBlocks.{ForStack, ForMonitor, ForRegion, ForUnwritten}
 use Rattle.plan_model.specs.RamPlacement.{ram_of, ram_needed, ram_named, spot_for}
 use Rattle.plan_model.specs.Placement.{plan_of, placed_for}
+use Rattle.plan_layout.specs.declared.refusal.Memory.TheVariants as memory
 use Rattle.plan_layout.specs.declared.refusal.PlaceRefusal.{PlaceRefusal}
-use Rattle.plan_layout.specs.declared.refusal.PlaceRefusal.TheVariants.{NoMemory, Flash, Ram}
+use Rattle.plan_layout.specs.declared.refusal.PlaceRefusal.TheVariants.{NoMemory, Room}
 use Rattle.plan_layout.specs.declared.flash.FlashPlan.{FlashPlan}
 use Rattle.plan_layout.specs.declared.place.RamPlan.{RamPlan}
 
 -- where flash is too small
 abbrev pub flash_refusal : Sizes → Board → PlaceRefusal
-flash_refusal s b = Flash (flash_named s) (flash_needed s) b.flash_size
+flash_refusal s b = Room (record { memory = memory.Flash; compartment = flash_named s; needed = flash_needed s; available = b.flash_size })
 
 -- where RAM is
 abbrev pub ram_refusal : Program → Final → Board → PlaceRefusal
-ram_refusal p f b = Ram (ram_named p f) (ram_needed p f b) b.ram_size
+ram_refusal p f b = Room (record { memory = memory.Ram; compartment = ram_named p f; needed = ram_needed p f b; available = b.ram_size })
 
 -- a refusal where a sum passes a memory's size, flash first; else the plan
 unfoldable pub placed : Program → Final → Sizes → Board → Result Plan PlaceRefusal
@@ -32,8 +33,7 @@ placed p f s b =
 -- a refusal for want of memory says nothing of the blocks
 abbrev pub IsPlaceRefusal : Program → Final → Sizes → Board → PlaceRefusal → Type 0
 IsPlaceRefusal p f s b NoMemory = Unit {0}
-IsPlaceRefusal p f s b (Flash c n a) = placed p f s b ≡ Err (Flash c n a)
-IsPlaceRefusal p f s b (Ram c n a) = placed p f s b ≡ Err (Ram c n a)
+IsPlaceRefusal p f s b (Room lack) = placed p f s b ≡ Err (Room lack)
 
 -- ---- flash alone
 
@@ -44,8 +44,7 @@ pub record IsFlash (s : Sizes) (b : Board) (l : FlashPlan) : Type 0 where
 
 abbrev pub IsFlashRefusal : Sizes → Board → PlaceRefusal → Type 0
 IsFlashRefusal s b NoMemory = Unit {0}
-IsFlashRefusal s b (Flash c n a) = (b.flash_size < flash_needed s) × (Flash c n a ≡ flash_refusal s b)
-IsFlashRefusal s b (Ram c n a) = ⊥
+IsFlashRefusal s b (Room lack) = (b.flash_size < flash_needed s) × (Room lack ≡ flash_refusal s b)
 
 -- ---- RAM alone
 
@@ -58,5 +57,4 @@ pub record IsRam (p : Program) (f : Final) (b : Board) (l : RamPlan) : Type 0 wh
 
 abbrev pub IsRamRefusal : Program → Final → Board → PlaceRefusal → Type 0
 IsRamRefusal p f b NoMemory = Unit {0}
-IsRamRefusal p f b (Flash c n a) = ⊥
-IsRamRefusal p f b (Ram c n a) = (b.ram_size < ram_needed p f b) × (Ram c n a ≡ ram_refusal p f b)
+IsRamRefusal p f b (Room lack) = (b.ram_size < ram_needed p f b) × (Room lack ≡ ram_refusal p f b)

@@ -8,7 +8,7 @@ ghost use Rattle.plan_layout.specs.Placing.{IsFlash, IsFlashRefusal};
 
 use crate::blocks::block_size;
 use crate::numbers::{first_greatest, greatest, sum, sum_above, sum_equal};
-use crate::refusal::PlaceRefusal;
+use crate::refusal::{Lack, Memory, PlaceRefusal};
 use base_lists::ListVec;
 use plan_model::Spot;
 use plan_model::plan::{Board, Sizes};
@@ -104,11 +104,12 @@ fn refuse(sizes: &Sizes, code: &[u64], needed: u64, board: &Board) -> PlaceRefus
             Err(_) => return PlaceRefusal::NoMemory,
         },
     };
-    PlaceRefusal::Flash {
+    PlaceRefusal::Room(Lack {
+        memory: Memory::Flash,
         compartment,
         needed,
         available: u64::from(board.flash_size),
-    }
+    })
 }
 
 /// Where the blocks of flash lie, by the sizes of those of code.

@@ -18,7 +18,7 @@ use crate::filled::{Filled, fill, fill_behind_stack};
 use crate::flash::place_flash;
 use crate::numbers::{first_greatest, least, lesser};
 use crate::ram::{Purpose, falling_blocks, falling_others};
-use crate::refusal::PlaceRefusal;
+use crate::refusal::{Lack, Memory, PlaceRefusal};
 use base_lists::ListVec;
 use code_regions::region_bytes;
 use ir_program::program::Program;
@@ -116,11 +116,12 @@ fn ram_plan(
     ensures refused { IfErr result (IsRamRefusal (program_of program.now) fin.now board.now) }
 {
     if memory.used > board.ram_size {
-        return Err(PlaceRefusal::Ram {
+        return Err(PlaceRefusal::Room(Lack {
+            memory: Memory::Ram,
             compartment: ram_named(alloc, program, fin)?,
             needed: u64::from(memory.used),
             available: u64::from(board.ram_size),
-        });
+        }));
     }
     let regions = region_spots(alloc, memory, fin.regions.len())?;
     Ok(RamPlan {

@@ -2,29 +2,34 @@
 
 use std::alloc::AllocError;
 
+/// A memory of a board.
+#[derive(Clone, Copy, PartialEq, Eq, Debug)]
+pub enum Memory {
+    Flash,
+    Ram,
+}
+
+/// Want of room: a memory of the board has fewer bytes than the blocks ask for.
+#[derive(Clone, Copy, PartialEq, Eq, Debug)]
+pub struct Lack {
+    /// The memory.
+    pub memory: Memory,
+    /// In flash the first compartment with the largest code block; in RAM the lowest user of the first data region with the
+    /// largest block.
+    pub compartment: Option<u32>,
+    /// The bytes of the blocks, in RAM of those outside tails.
+    pub needed: u64,
+    /// The bytes of the memory.
+    pub available: u64,
+}
+
 /// Why blocks are not placed: those of flash are tested first.
 #[derive(Clone, Copy, PartialEq, Eq, Debug)]
 pub enum PlaceRefusal {
     /// Memory ran out, or a region has more bytes than 32 bits tell, which no checked firmware has.
     NoMemory,
-    /// The blocks of flash have more bytes than flash.
-    Flash {
-        /// The first compartment with the largest code block.
-        compartment: Option<u32>,
-        /// The bytes of the blocks.
-        needed: u64,
-        /// The bytes of flash.
-        available: u64,
-    },
-    /// The blocks of RAM outside tails have more bytes than RAM.
-    Ram {
-        /// The lowest user of the first data region with the largest block.
-        compartment: Option<u32>,
-        /// The bytes of the blocks outside tails.
-        needed: u64,
-        /// The bytes of RAM.
-        available: u64,
-    },
+    /// The blocks of a memory have more bytes than it.
+    Room(Lack),
 }
 
 impl From<AllocError> for PlaceRefusal {

@@ -26,6 +26,6 @@ returns c =
     (λ text h. record {
       graph = graph;
       final = final;
-      same = h ∙ ap (λ (s : Sizes). flash_told s lack.compartment lack.needed lack.available) sized;
+      same = h ∙ ap (λ (s : Sizes). flash_told s lack) sized;
     })
     c.flash_told.ensures
