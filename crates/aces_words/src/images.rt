@@ -1,7 +1,8 @@
 //! The commands on images.
 
-ghost use Rattle.std.specs.Prelude.{◌≡◌, ◌<◌, ◌^◌, ℕ, List, map, string_bytes, IfSome, IfNone};
-ghost use Rattle.aces_words.specs.Requests.{Run, Bin, Watch, State, Audit, Tables, Asks};
+ghost use Rattle.std.specs.Prelude.{◌∷◌, map, string_bytes, IfSome, IfNone};
+ghost use Rattle.std.specs.Fmt.{decimal};
+ghost use Rattle.aces_words.specs.Requests.{Asks};
 ghost use Rattle.aces_words.specs.Commands.{image_request, AsksOfNoImage};
 
 use crate::numbers::{address, number};
@@ -48,121 +49,47 @@ pub(crate) fn image_command(words: &[String]) -> Option<ImageCommand<'_>>
     ensures command { IfSome result (λ c. Asks (map string_bytes words.now) (image_request c)) }
     ensures none { IfNone result (AsksOfNoImage (map string_bytes words.now)) }
 {
-    if let Some(command) = run_of(words) {
-        return Some(command);
-    }
-    if let Some(command) = bin_of(words) {
-        return Some(command);
-    }
-    if let Some(command) = watch_of(words) {
-        return Some(command);
-    }
-    if let Some(command) = state_of(words) {
-        return Some(command);
-    }
-    if let Some(command) = audit_of(words) {
-        return Some(command);
-    }
-    tables_of(words)
-}
-
-/// `run IMAGE TAPE N`, if the words are of that form.
-fn run_of(words: &[String]) -> Option<ImageCommand<'_>>
-    ensures command { IfSome result (λ c. Asks (map string_bytes words.now) (image_request c)) }
-    ensures none { IfNone result ((image tape : List ℕ) (steps : ℕ) → Asks (map string_bytes words.now) (Run image tape steps) → ⊥) }
-{
-    match words {
-        [name, image, tape, steps] if name.as_str() == "run" => {
+    let [name, image, rest @ ..] = words else {
+        return None;
+    };
+    let (name, image) = (name.as_str(), image.as_str());
+    match (name, rest) {
+        ("audit", []) => Some(ImageCommand::Audit { image }),
+        ("tables", []) => Some(ImageCommand::Tables { image }),
+        ("bin", [file]) => Some(ImageCommand::Bin {
+            image,
+            file: file.as_str(),
+        }),
+        (_, [tape, steps, rest @ ..]) => {
             let steps = number(steps.as_str())?;
-            Some(ImageCommand::Run {
-                image: image.as_str(),
-                tape: tape.as_str(),
-                steps,
-            })
+            tape_command(name, image, tape.as_str(), steps, rest)
         }
         _ => None,
     }
 }
 
-/// `bin IMAGE FILE`, if the words are of that form.
-fn bin_of(words: &[String]) -> Option<ImageCommand<'_>>
-    ensures command { IfSome result (λ c. Asks (map string_bytes words.now) (image_request c)) }
-    ensures none { IfNone result ((image file : List ℕ) → Asks (map string_bytes words.now) (Bin image file) → ⊥) }
+/// The command of this name that runs an image on a tape for at most so many machine steps, with the words behind their number.
+fn tape_command<'a>(
+    name: &str,
+    image: &'a str,
+    tape: &'a str,
+    steps: u32,
+    rest: &'a [String],
+) -> Option<ImageCommand<'a>>
+    ensures command { IfSome result (λ c. Asks (name.now ∷ image.now ∷ tape.now ∷ decimal steps ∷ map string_bytes rest.now) (image_request c)) }
+    ensures none { IfNone result (AsksOfNoImage (name.now ∷ image.now ∷ tape.now ∷ decimal steps ∷ map string_bytes rest.now)) }
 {
-    match words {
-        [name, image, file] if name.as_str() == "bin" => {
-            Some(ImageCommand::Bin {
-                image: image.as_str(),
-                file: file.as_str(),
-            })
-        }
-        _ => None,
-    }
-}
-
-/// `watch IMAGE TAPE N ADDR`, if the words are of that form.
-fn watch_of(words: &[String]) -> Option<ImageCommand<'_>>
-    ensures command { IfSome result (λ c. Asks (map string_bytes words.now) (image_request c)) }
-    ensures none { IfNone result ((image tape : List ℕ) (steps : ℕ) (address : List ℕ) → Asks (map string_bytes words.now) (Watch image tape steps address) → ⊥) }
-{
-    match words {
-        [name, image, tape, steps, word] if name.as_str() == "watch" => {
-            let steps = number(steps.as_str())?;
+    match (name, rest) {
+        ("run", []) => Some(ImageCommand::Run { image, tape, steps }),
+        ("state", []) => Some(ImageCommand::State { image, tape, steps }),
+        ("watch", [word]) => {
             let word = word.as_str();
             address(word)?;
             Some(ImageCommand::Watch {
-                image: image.as_str(),
-                tape: tape.as_str(),
+                image,
+                tape,
                 steps,
                 address: word,
-            })
-        }
-        _ => None,
-    }
-}
-
-/// `state IMAGE TAPE N`, if the words are of that form.
-fn state_of(words: &[String]) -> Option<ImageCommand<'_>>
-    ensures command { IfSome result (λ c. Asks (map string_bytes words.now) (image_request c)) }
-    ensures none { IfNone result ((image tape : List ℕ) (steps : ℕ) → Asks (map string_bytes words.now) (State image tape steps) → ⊥) }
-{
-    match words {
-        [name, image, tape, steps] if name.as_str() == "state" => {
-            let steps = number(steps.as_str())?;
-            Some(ImageCommand::State {
-                image: image.as_str(),
-                tape: tape.as_str(),
-                steps,
-            })
-        }
-        _ => None,
-    }
-}
-
-/// `audit IMAGE`, if the words are of that form.
-fn audit_of(words: &[String]) -> Option<ImageCommand<'_>>
-    ensures command { IfSome result (λ c. Asks (map string_bytes words.now) (image_request c)) }
-    ensures none { IfNone result ((image : List ℕ) → Asks (map string_bytes words.now) (Audit image) → ⊥) }
-{
-    match words {
-        [name, image] if name.as_str() == "audit" => {
-            Some(ImageCommand::Audit {
-                image: image.as_str(),
-            })
-        }
-        _ => None,
-    }
-}
-
-/// `tables IMAGE`, if the words are of that form.
-fn tables_of(words: &[String]) -> Option<ImageCommand<'_>>
-    ensures command { IfSome result (λ c. Asks (map string_bytes words.now) (image_request c)) }
-    ensures none { IfNone result ((image : List ℕ) → Asks (map string_bytes words.now) (Tables image) → ⊥) }
-{
-    match words {
-        [name, image] if name.as_str() == "tables" => {
-            Some(ImageCommand::Tables {
-                image: image.as_str(),
             })
         }
         _ => None,

@@ -1,8 +1,8 @@
 //! The commands on a firmware and a board.
 
-ghost use Rattle.std.specs.Prelude.{◌≡◌, ◌<◌, ◌^◌, ℕ, List, map, string_bytes, IfSome, IfNone};
-ghost use Rattle.plan_model.specs.declared.policy.Policy.{Policy as ThePolicy};
-ghost use Rattle.aces_words.specs.Requests.{Compile, Listing, Stack, Who, Symbols, ExplainPlan, Asks};
+ghost use Rattle.std.specs.Prelude.{◌∷◌, [], map, string_bytes, IfSome, IfNone};
+ghost use Rattle.plan_model.specs.PolicyWords.{policy_word};
+ghost use Rattle.aces_words.specs.Requests.{Asks};
 ghost use Rattle.aces_words.specs.Commands.{plan_request, AsksOfNoPlan};
 
 use plan_model::Policy;
@@ -54,129 +54,59 @@ pub(crate) fn plan_command(words: &[String]) -> Option<PlanCommand<'_>>
     ensures command { IfSome result (λ c. Asks (map string_bytes words.now) (plan_request c)) }
     ensures none { IfNone result (AsksOfNoPlan (map string_bytes words.now)) }
 {
-    if let Some(command) = compile_of(words) {
-        return Some(command);
-    }
-    if let Some(command) = list_of(words) {
-        return Some(command);
-    }
-    if let Some(command) = stack_of(words) {
-        return Some(command);
-    }
-    if let Some(command) = who_of(words) {
-        return Some(command);
-    }
-    if let Some(command) = symbols_of(words) {
-        return Some(command);
-    }
-    explain_of(words)
-}
-
-/// `compile FIRMWARE BOARD POLICY IMAGE`, if the words are of that form.
-fn compile_of(words: &[String]) -> Option<PlanCommand<'_>>
-    ensures command { IfSome result (λ c. Asks (map string_bytes words.now) (plan_request c)) }
-    ensures none { IfNone result ((firmware board : List ℕ) (policy : ThePolicy) (image : List ℕ) → Asks (map string_bytes words.now) (Compile firmware board policy image) → ⊥) }
-{
-    match words {
-        [name, firmware, board, policy, image] if name.as_str() == "compile" => {
-            let policy = Policy::of_word(policy.as_str())?;
-            Some(PlanCommand::Compile {
-                firmware: firmware.as_str(),
-                board: board.as_str(),
-                policy,
-                image: image.as_str(),
-            })
-        }
+    let [name, firmware, board, policy, rest @ ..] = words else {
+        return None;
+    };
+    let (firmware, board) = (firmware.as_str(), board.as_str());
+    let policy = Policy::of_word(policy.as_str())?;
+    match (name.as_str(), rest) {
+        (name, []) => told_command(name, firmware, board, policy),
+        ("compile", [image]) => Some(PlanCommand::Compile {
+            firmware,
+            board,
+            policy,
+            image: image.as_str(),
+        }),
         _ => None,
     }
 }
 
-/// `list FIRMWARE BOARD POLICY`, if the words are of that form.
-fn list_of(words: &[String]) -> Option<PlanCommand<'_>>
-    ensures command { IfSome result (λ c. Asks (map string_bytes words.now) (plan_request c)) }
-    ensures none { IfNone result ((firmware board : List ℕ) (policy : ThePolicy) → Asks (map string_bytes words.now) (Listing firmware board policy) → ⊥) }
+/// The command of this name that tells something of a firmware on a board by a policy, and writes no file.
+fn told_command<'a>(
+    name: &str,
+    firmware: &'a str,
+    board: &'a str,
+    policy: Policy,
+) -> Option<PlanCommand<'a>>
+    ensures command { IfSome result (λ c. Asks (name.now ∷ firmware.now ∷ board.now ∷ policy_word policy ∷ []) (plan_request c)) }
+    ensures none { IfNone result (AsksOfNoPlan (name.now ∷ firmware.now ∷ board.now ∷ policy_word policy ∷ [])) }
 {
-    match words {
-        [name, firmware, board, policy] if name.as_str() == "list" => {
-            let policy = Policy::of_word(policy.as_str())?;
-            Some(PlanCommand::List {
-                firmware: firmware.as_str(),
-                board: board.as_str(),
-                policy,
-            })
-        }
-        _ => None,
-    }
-}
-
-/// `stack FIRMWARE BOARD POLICY`, if the words are of that form.
-fn stack_of(words: &[String]) -> Option<PlanCommand<'_>>
-    ensures command { IfSome result (λ c. Asks (map string_bytes words.now) (plan_request c)) }
-    ensures none { IfNone result ((firmware board : List ℕ) (policy : ThePolicy) → Asks (map string_bytes words.now) (Stack firmware board policy) → ⊥) }
-{
-    match words {
-        [name, firmware, board, policy] if name.as_str() == "stack" => {
-            let policy = Policy::of_word(policy.as_str())?;
-            Some(PlanCommand::Stack {
-                firmware: firmware.as_str(),
-                board: board.as_str(),
-                policy,
-            })
-        }
-        _ => None,
-    }
-}
-
-/// `who FIRMWARE BOARD POLICY`, if the words are of that form.
-fn who_of(words: &[String]) -> Option<PlanCommand<'_>>
-    ensures command { IfSome result (λ c. Asks (map string_bytes words.now) (plan_request c)) }
-    ensures none { IfNone result ((firmware board : List ℕ) (policy : ThePolicy) → Asks (map string_bytes words.now) (Who firmware board policy) → ⊥) }
-{
-    match words {
-        [name, firmware, board, policy] if name.as_str() == "who" => {
-            let policy = Policy::of_word(policy.as_str())?;
-            Some(PlanCommand::Who {
-                firmware: firmware.as_str(),
-                board: board.as_str(),
-                policy,
-            })
-        }
-        _ => None,
-    }
-}
-
-/// `symbols FIRMWARE BOARD POLICY`, if the words are of that form.
-fn symbols_of(words: &[String]) -> Option<PlanCommand<'_>>
-    ensures command { IfSome result (λ c. Asks (map string_bytes words.now) (plan_request c)) }
-    ensures none { IfNone result ((firmware board : List ℕ) (policy : ThePolicy) → Asks (map string_bytes words.now) (Symbols firmware board policy) → ⊥) }
-{
-    match words {
-        [name, firmware, board, policy] if name.as_str() == "symbols" => {
-            let policy = Policy::of_word(policy.as_str())?;
-            Some(PlanCommand::Symbols {
-                firmware: firmware.as_str(),
-                board: board.as_str(),
-                policy,
-            })
-        }
-        _ => None,
-    }
-}
-
-/// `explain FIRMWARE BOARD POLICY`, if the words are of that form.
-fn explain_of(words: &[String]) -> Option<PlanCommand<'_>>
-    ensures command { IfSome result (λ c. Asks (map string_bytes words.now) (plan_request c)) }
-    ensures none { IfNone result ((firmware board : List ℕ) (policy : ThePolicy) → Asks (map string_bytes words.now) (ExplainPlan firmware board policy) → ⊥) }
-{
-    match words {
-        [name, firmware, board, policy] if name.as_str() == "explain" => {
-            let policy = Policy::of_word(policy.as_str())?;
-            Some(PlanCommand::Explain {
-                firmware: firmware.as_str(),
-                board: board.as_str(),
-                policy,
-            })
-        }
+    match name {
+        "list" => Some(PlanCommand::List {
+            firmware,
+            board,
+            policy,
+        }),
+        "stack" => Some(PlanCommand::Stack {
+            firmware,
+            board,
+            policy,
+        }),
+        "who" => Some(PlanCommand::Who {
+            firmware,
+            board,
+            policy,
+        }),
+        "symbols" => Some(PlanCommand::Symbols {
+            firmware,
+            board,
+            policy,
+        }),
+        "explain" => Some(PlanCommand::Explain {
+            firmware,
+            board,
+            policy,
+        }),
         _ => None,
     }
 }
