@@ -7,8 +7,8 @@ use Rattle.monitor_audit.specs.declared.answer.Audit.TheVariants.{Yes, No}
 use Rattle.monitor_audit.specs.Answers.{own_tables, IsAudit}
 use Rattle.aces_audit.specs.TableLines.{table_lines}
 use Rattle.aces_reports.specs.declared.failure.Fault.{Fault}
-use Rattle.aces_reports.specs.declared.failure.Fault.TheVariants.{TooLarge}
-use Rattle.aces_words.specs.Requests.{Origin, file_origin, file_limit}
+use Rattle.aces_words.specs.Requests.{Origin, file_origin}
+use Rattle.aces_files.specs.Answers.{AnswerByFile}
 use Rattle.aces_files.specs.Contents.{IsNoImage}
 use Rattle.aces_files.specs.Outcomes.{Outcome, done, refused}
 use Rattle.aces_audit.specs.AnswerLine.{answer_line, answer_status}
@@ -29,11 +29,9 @@ pub data TablesAnswer (image : List ℕ) (bytes : List ℕ) : Outcome → Type 0
   no_image : (f : Fault) → IsNoImage bytes f → TablesAnswer image bytes (refused image f)
   told : (i : Image) (a : Audit) → IsText i bytes → IsAudit i a → IsGuardedWhereYes i a → TablesAnswer image bytes (done (answer_status a) (tables_text i a) None)
 
--- the answers to both requests, as those to `run` and `bin` stand in `Answers` of `commands`
-pub data AnswerToAudit (image : List ℕ) (Has : Origin → List ℕ → Type 0) (Exceeds : Origin → Type 0) : Outcome → Type 0 where
-  image_large : Exceeds (file_origin image) → AnswerToAudit image Has Exceeds (refused image (TooLarge file_limit))
-  all_read : (bytes : List ℕ) (o : Outcome) → Has (file_origin image) bytes → AuditAnswer image bytes o → AnswerToAudit image Has Exceeds o
+-- the answers to both requests
+abbrev pub AnswerToAudit : (image : List ℕ) (Has : Origin → List ℕ → Type 0) (Exceeds : Origin → Type 0) → Outcome → Type 0
+AnswerToAudit image = AnswerByFile (file_origin image) (AuditAnswer image)
 
-pub data AnswerToTables (image : List ℕ) (Has : Origin → List ℕ → Type 0) (Exceeds : Origin → Type 0) : Outcome → Type 0 where
-  image_large : Exceeds (file_origin image) → AnswerToTables image Has Exceeds (refused image (TooLarge file_limit))
-  all_read : (bytes : List ℕ) (o : Outcome) → Has (file_origin image) bytes → TablesAnswer image bytes o → AnswerToTables image Has Exceeds o
+abbrev pub AnswerToTables : (image : List ℕ) (Has : Origin → List ℕ → Type 0) (Exceeds : Origin → Type 0) → Outcome → Type 0
+AnswerToTables image = AnswerByFile (file_origin image) (TablesAnswer image)

@@ -14,7 +14,7 @@ ghost use Rattle.aces_audit.specs.Answers.{AuditAnswer, AnswerToAudit};
 use crate::answer_text::answer_line;
 use crate::laws::sound_images_are_guarded;
 use aces_files::loading::{image_of, load};
-use aces_files::telling::Told;
+use aces_files::telling::{Told, print};
 use aces_reports::{Done, Failure};
 use base_outside::{Files, Sink};
 use monitor_audit::{Audit, audit};
@@ -56,8 +56,5 @@ pub fn audit_image<'a, F: Files, O: Sink>(
 {
     let bytes = load(alloc, files, image)?;
     let told = answered(alloc, image, bytes.as_slice())?;
-    match out.put(told.lines.as_slice()) {
-        Ok(()) => Ok(told.done),
-        Err(_) => Err(Failure::Unprinted),
-    }
+    print(told.lines.as_slice(), told.done, out)
 }

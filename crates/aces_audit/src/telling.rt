@@ -13,7 +13,7 @@ use crate::answer_text::answer_line;
 use crate::laws::sound_images_are_guarded;
 use crate::table_lines;
 use aces_files::loading::{image_of, load};
-use aces_files::telling::Told;
+use aces_files::telling::{Told, print};
 use aces_reports::{Done, Failure};
 use base_outside::{Files, Sink};
 use monitor_audit::{Audit, Audited, audited};
@@ -55,8 +55,5 @@ pub fn tables<'a, F: Files, O: Sink>(
 {
     let bytes = load(alloc, files, image)?;
     let told = told_of(alloc, image, bytes.as_slice())?;
-    match out.put(told.lines.as_slice()) {
-        Ok(()) => Ok(told.done),
-        Err(_) => Err(Failure::Unprinted),
-    }
+    print(told.lines.as_slice(), told.done, out)
 }

@@ -5,26 +5,26 @@ use Rattle.aces_reports.specs.declared.failure.Done.{Done}
 use Rattle.aces_reports.specs.declared.failure.Done.TheVariants.{Completed, RunFailed, Negative, FaultTold, NoRoomTold}
 use Rattle.aces_reports.specs.declared.failure.Failure.{Failure}
 use Rattle.aces_reports.specs.declared.failure.Failure.TheVariants.{Refused, PastLimit, Denied, NoRoom, Unread, Unwritten, Unprinted, NoMemory}
-use Rattle.aces_words.specs.Requests.{Request, Run, Bin, Compile, Check, Source, Where, Listing, Stack, Audit, Tables, Who, Symbols, Help, Selftest, Watch, State, Why, Explain, ExplainPlan, Asks, IsUsage, Origin}
+use Rattle.aces_words.specs.Requests.{Request, Run, Bin, Compile, Check, Source, Where, Listing, Stack, Audit, Tables, Who, Symbols, Help, Selftest, Watch, State, Why, Explain, ExplainPlan, Asks, IsUsage, Origin, file_origin, firmware_origin}
 use Rattle.aces_reports.specs.FaultLines.{usage_line}
 use Rattle.base_outside.specs.Sinks.{SinkState, Says}
 use Rattle.aces_reports.specs.Ends.{status_of, line_of}
 use Rattle.aces_files.specs.Outcomes.{Outcome, refused, past_limit, denied, no_room, usage}
 use Rattle.aces_files.specs.CarriesOut.{NamesLast}
 use Rattle.aces_files.specs.Effects.{World, Does, Quiet, IsCarriedOut, IsPart, IsPrintedInPart}
-use Rattle.aces_files.proofs.Answering.{run_also, bin_also}
-use Rattle.aces_audit.proofs.Answering.{audit_also, tables_also}
-use Rattle.aces_firmwares.proofs.Answering.{check_also, source_also}
+use Rattle.aces_files.specs.Answers.{RunAnswer, BinAnswer}
+use Rattle.aces_files.proofs.Answering.{by_file_also, by_files_also}
+use Rattle.aces_audit.specs.Answers.{AuditAnswer, TablesAnswer}
+use Rattle.aces_firmwares.specs.Answers.{CheckAnswer, SourceAnswer}
 use Rattle.aces_plans.specs.Answers.{ListAnswer, StackAnswers, SymbolsAnswer}
-use Rattle.aces_plans.proofs.Answering.{both_also}
 use Rattle.aces_who.specs.Answers.{WhoAnswer}
 use Rattle.aces_who.proofs.Answering.{help_also}
 use Rattle.aces_selftest.proofs.Answering.{selftest_also}
-use Rattle.aces_inspection.proofs.Answering.{watch_also, state_also}
-use Rattle.aces_why.proofs.Answering.{why_also}
-use Rattle.aces_where.proofs.Answering.{where_also}
+use Rattle.aces_inspection.specs.Answers.{WatchAnswer, StateAnswer}
+use Rattle.aces_why.specs.Answers.{WhyAnswer}
+use Rattle.aces_where.specs.Answers.{WhereAnswer}
+use Rattle.aces_explain.specs.Answers.{ExplainAnswer}
 use Rattle.aces_explain.specs.Plans.{ExplainPlanAnswer}
-use Rattle.aces_explain.proofs.Answering.{explain_also}
 use Rattle.aces_cli.specs.Answer.{CompileAnswer, Answer, no_request, to_request}
 use Rattle.aces_cli.specs.Endings.{IsPlain, IsAnswered, IsPartly, TellsUnread}
 
@@ -32,25 +32,25 @@ use Rattle.aces_cli.specs.Endings.{IsPlain, IsAnswered, IsPartly, TellsUnread}
 module _ (Has Had : Origin → List ℕ → Type 0) (Exceeds Exceeded : Origin → Type 0)
     (also : (s : Origin) (bytes : List ℕ) → Has s bytes → Had s bytes) (large : (s : Origin) → Exceeds s → Exceeded s) where
   pub answer_also : (r : Request) (o : Outcome) → Answer r Has Exceeds o → Answer r Had Exceeded o
-  answer_also (Run image tape steps) o a = run_also Has Had Exceeds Exceeded also large image tape steps o a
-  answer_also (Bin image file) o a = bin_also Has Had Exceeds Exceeded also large image file o a
-  answer_also (Compile firmware board policy image) o a = both_also firmware board (CompileAnswer firmware board policy image) Has Had Exceeds Exceeded also large o a
-  answer_also (Check firmware) o a = check_also Has Had Exceeds Exceeded also large firmware o a
-  answer_also (Source firmware policy tape steps) o a = source_also Has Had Exceeds Exceeded also large firmware policy tape steps o a
-  answer_also (Where firmware policy tape steps) o a = where_also Has Had Exceeds Exceeded also large firmware policy tape steps o a
-  answer_also (Listing firmware board policy) o a = both_also firmware board (ListAnswer firmware board policy) Has Had Exceeds Exceeded also large o a
-  answer_also (Stack firmware board policy) o a = both_also firmware board (StackAnswers firmware board policy) Has Had Exceeds Exceeded also large o a
-  answer_also (Audit image) o a = audit_also Has Had Exceeds Exceeded also large image o a
-  answer_also (Tables image) o a = tables_also Has Had Exceeds Exceeded also large image o a
-  answer_also (Who firmware board policy) o a = both_also firmware board (WhoAnswer firmware board policy) Has Had Exceeds Exceeded also large o a
-  answer_also (Symbols firmware board policy) o a = both_also firmware board (SymbolsAnswer firmware board policy) Has Had Exceeds Exceeded also large o a
+  answer_also (Run image tape steps) o a = by_files_also Has Had Exceeds Exceeded also large (file_origin image) (file_origin tape) (RunAnswer image tape steps) o a
+  answer_also (Bin image file) o a = by_file_also Has Had Exceeds Exceeded also large (file_origin image) (BinAnswer image file) o a
+  answer_also (Compile firmware board policy image) o a = by_files_also Has Had Exceeds Exceeded also large (firmware_origin firmware) (file_origin board) (CompileAnswer firmware board policy image) o a
+  answer_also (Check firmware) o a = by_file_also Has Had Exceeds Exceeded also large (firmware_origin firmware) (CheckAnswer firmware) o a
+  answer_also (Source firmware policy tape steps) o a = by_files_also Has Had Exceeds Exceeded also large (firmware_origin firmware) (file_origin tape) (SourceAnswer firmware policy tape steps) o a
+  answer_also (Where firmware policy tape steps) o a = by_files_also Has Had Exceeds Exceeded also large (firmware_origin firmware) (file_origin tape) (WhereAnswer firmware policy tape steps) o a
+  answer_also (Listing firmware board policy) o a = by_files_also Has Had Exceeds Exceeded also large (firmware_origin firmware) (file_origin board) (ListAnswer firmware board policy) o a
+  answer_also (Stack firmware board policy) o a = by_files_also Has Had Exceeds Exceeded also large (firmware_origin firmware) (file_origin board) (StackAnswers firmware board policy) o a
+  answer_also (Audit image) o a = by_file_also Has Had Exceeds Exceeded also large (file_origin image) (AuditAnswer image) o a
+  answer_also (Tables image) o a = by_file_also Has Had Exceeds Exceeded also large (file_origin image) (TablesAnswer image) o a
+  answer_also (Who firmware board policy) o a = by_files_also Has Had Exceeds Exceeded also large (firmware_origin firmware) (file_origin board) (WhoAnswer firmware board policy) o a
+  answer_also (Symbols firmware board policy) o a = by_files_also Has Had Exceeds Exceeded also large (firmware_origin firmware) (file_origin board) (SymbolsAnswer firmware board policy) o a
   answer_also Help o a = help_also Has Had Exceeds Exceeded o a
   answer_also (Selftest seed size) o a = selftest_also Has Had Exceeds Exceeded seed size o a
-  answer_also (Watch image tape steps address) o a = watch_also Has Had Exceeds Exceeded also large image tape steps address o a
-  answer_also (State image tape steps) o a = state_also Has Had Exceeds Exceeded also large image tape steps o a
-  answer_also (Why firmware) o a = why_also Has Had Exceeds Exceeded also large firmware o a
-  answer_also (Explain firmware) o a = explain_also Has Had Exceeds Exceeded also large firmware o a
-  answer_also (ExplainPlan firmware board policy) o a = both_also firmware board (ExplainPlanAnswer firmware board policy) Has Had Exceeds Exceeded also large o a
+  answer_also (Watch image tape steps address) o a = by_files_also Has Had Exceeds Exceeded also large (file_origin image) (file_origin tape) (WatchAnswer image tape steps address) o a
+  answer_also (State image tape steps) o a = by_files_also Has Had Exceeds Exceeded also large (file_origin image) (file_origin tape) (StateAnswer image tape steps) o a
+  answer_also (Why firmware) o a = by_file_also Has Had Exceeds Exceeded also large (firmware_origin firmware) (WhyAnswer firmware) o a
+  answer_also (Explain firmware) o a = by_file_also Has Had Exceeds Exceeded also large (firmware_origin firmware) (ExplainAnswer firmware) o a
+  answer_also (ExplainPlan firmware board policy) o a = by_files_also Has Had Exceeds Exceeded also large (firmware_origin firmware) (file_origin board) (ExplainPlanAnswer firmware board policy) o a
 
 -- nothing is printed and written, and no fault rose
 nothing_more : (old new : World) (o : Outcome) → Quiet old new → new.read_faults ≡ old.read_faults → o.printed ≡ [] → o.written ≡ None → IsCarriedOut old new o

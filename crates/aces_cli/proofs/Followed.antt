@@ -9,6 +9,7 @@ use Rattle.plan_board.specs.Laws.{BoardsAreOne}
 use Rattle.plan_model.specs.declared.policy.Policy.{Policy}
 use Rattle.aces_words.specs.Requests.{Request, Compile, Asks, Origin, file_origin, firmware_origin}
 use Rattle.aces_words.proofs.Requests.{requests_are_one}
+use Rattle.aces_files.specs.Answers as files
 use Rattle.aces_files.specs.Known.{Held, Holds, Exceeds}
 use Rattle.aces_files.specs.Outcomes.{Outcome}
 use Rattle.aces_files.specs.Effects.{IsRewritten}
@@ -19,7 +20,6 @@ use Rattle.aces_stack_laws.specs.Bounded.{Fits, ImagesRefineWhole}
 use Rattle.aces_stack.specs.Lines.{stack_status}
 use Rattle.aces_plans.specs.PlanAnswer as plans
 use Rattle.aces_plans.specs.PlanAnswer.{PlanAnswer}
-use Rattle.aces_plans.specs.Both as boths
 use Rattle.aces_plans.specs.Answers as stacks
 use Rattle.aces_plans.specs.Answers.{StackAnswers, AnswerToStack}
 use Rattle.aces_cli.specs.Answer as answers
@@ -91,18 +91,18 @@ module _ (unique : TextsAreUnique) (one : BoardsAreOne) (told : Bool) (yes_told 
 
   compile_by : (bytes text : List ℕ) (o : Outcome) → Holds old (firmware_origin firmware) bytes → Holds old (file_origin board) text → Promises policy bytes text
       → AnswerToCompile firmware board policy image (Holds old) (Exceeds old) o → o.status ≡ 0 → IsRewritten told o.written old new → IsFollowed policy old firmware board new image
-  compile_by bytes text o hb ht g (boths.firmware_large x) e written = let f : ⊥ = omega (arith, e) in absurd f
-  compile_by bytes text o hb ht g (boths.board_large bytes1 h1 x) e written = let f : ⊥ = omega (arith, e) in absurd f
-  compile_by bytes text o hb ht g (boths.all_read bytes1 text1 o1 h1 t1 a) e written =
+  compile_by bytes text o hb ht g (files.first_large x) e written = let f : ⊥ = omega (arith, e) in absurd f
+  compile_by bytes text o hb ht g (files.second_large bytes1 h1 x) e written = let f : ⊥ = omega (arith, e) in absurd f
+  compile_by bytes text o hb ht g (files.both_read bytes1 text1 o1 h1 t1 a) e written =
       follow bytes1 text1 o1 h1 t1
       (subst (Promises policy bytes1) (held_is_one old (file_origin board) text text1 ht t1)
       (subst (λ (z : List ℕ). Promises policy z text) (held_is_one old (firmware_origin firmware) bytes bytes1 hb h1) g)) a e written
 
   stack_by : (s o : Outcome) → AnswerToStack firmware board policy (Holds old) (Exceeds old) s → s.status ≡ 0
       → AnswerToCompile firmware board policy image (Holds old) (Exceeds old) o → o.status ≡ 0 → IsRewritten told o.written old new → IsFollowed policy old firmware board new image
-  stack_by s o (boths.firmware_large x) z a e written = let f : ⊥ = omega (arith, z) in absurd f
-  stack_by s o (boths.board_large bytes h x) z a e written = let f : ⊥ = omega (arith, z) in absurd f
-  stack_by s o (boths.all_read bytes text p h t b) z a e written = compile_by bytes text o h t (promised firmware board policy bytes text p b z) a e written
+  stack_by s o (files.first_large x) z a e written = let f : ⊥ = omega (arith, z) in absurd f
+  stack_by s o (files.second_large bytes h x) z a e written = let f : ⊥ = omega (arith, z) in absurd f
+  stack_by s o (files.both_read bytes text p h t b) z a e written = compile_by bytes text o h t (promised firmware board policy bytes text p b z) a e written
 
 -- the answer to words that ask to compile
 compile_answer : (Has : Origin → List ℕ → Type 0) (Exceed : Origin → Type 0) (words : List (List ℕ)) (firmware board : List ℕ) (policy : Policy) (image : List ℕ) (o : Outcome)

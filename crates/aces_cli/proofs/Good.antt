@@ -18,30 +18,37 @@ use Rattle.aces_stack.specs.Lines.{stack_status}
 use Rattle.refine_stack.specs.declared.answer.StackAnswer.{StackAnswer}
 use Rattle.refine_stack.specs.declared.answer.StackAnswer.TheVariants.{Cycle, Bound}
 use Rattle.plan_model.specs.declared.policy.Policy.{Policy}
-use Rattle.aces_words.specs.Requests.{Request, Origin}
+use Rattle.aces_words.specs.Requests.{Request, Origin, file_origin, firmware_origin}
+use Rattle.aces_files.specs.Answers.{RunAnswer, BinAnswer}
+use Rattle.aces_files.proofs.Answering.{by_file_ends, by_files_end}
 use Rattle.aces_files.specs.Outcomes.{Outcome}
 use Rattle.aces_files.specs.Contents.{IsContentFault}
+use Rattle.aces_audit.specs.Answers.{AuditAnswer, TablesAnswer}
+use Rattle.aces_firmwares.specs.Answers.{CheckAnswer, SourceAnswer}
 use Rattle.aces_firmwares.specs.Firmwares.{IsFirmware}
 use Rattle.aces_files.specs.Known.{Held, Holds, Exceeds}
 use Rattle.aces_plans.specs.PlanAnswer as plans
 use Rattle.aces_plans.specs.PlanAnswer.{PlanAnswer}
 use Rattle.aces_plans.specs.Answers.{ListAnswer, StackAnswers, SymbolsAnswer, AnswerToList, AnswerToStack, no_firmware, no_board, too_many, bounded}
 use Rattle.aces_plans.specs.Answers as answers
-use Rattle.aces_plans.proofs.Answering.{both_good}
 use Rattle.aces_who.proofs.Answering.{who_done, good_help}
 use Rattle.aces_who.specs.Answers.{WhoAnswer}
 use Rattle.aces_selftest.proofs.Answering.{selftest_ends}
-use Rattle.aces_cli.proofs.Inspectable.{good_watch, good_state}
-use Rattle.aces_why.proofs.WellDone.{good_why}
-use Rattle.aces_where.proofs.Findable.{good_where}
+use Rattle.aces_inspection.specs.Answers.{WatchAnswer, StateAnswer}
+use Rattle.aces_cli.proofs.Inspectable.{watch_ends, state_ends}
+use Rattle.aces_why.specs.Answers.{WhyAnswer}
+use Rattle.aces_why.proofs.WellDone.{why_done}
+use Rattle.aces_where.specs.Answers.{WhereAnswer}
+use Rattle.aces_where.proofs.Findable.{where_done}
+use Rattle.aces_explain.specs.Answers.{ExplainAnswer}
 use Rattle.aces_explain.specs.Plans.{ExplainPlanAnswer}
-use Rattle.aces_explain.proofs.Explainable.{good_explain}
+use Rattle.aces_explain.proofs.Explainable.{explain_done}
 use Rattle.aces_explain.proofs.PlanAnswering.{explain_plan_done}
 use Rattle.aces_cli.specs.Answer.{CompileAnswer, unplanned, compiled, Answer}
 use Rattle.aces_cli.specs.Complete.{IsCompilable, IsBoundable, IsGood, run, bin, compile, check, source, list, stack, audit, tables, where_it_is, who, symbols, help, selftest, watch, state, why, explain, explain_plan, IsDoneBy, GoodRequestsAreDone}
-use Rattle.aces_cli.proofs.Runnable.{Laws, good_run, good_bin}
-use Rattle.aces_cli.proofs.Auditable.{good_audit, good_tables}
-use Rattle.aces_cli.proofs.SourceRunnable.{is_firmware, firmwares_are_one, good_check, good_source, is_faultless}
+use Rattle.aces_cli.proofs.Runnable.{Laws, run_done, bin_done}
+use Rattle.aces_cli.proofs.Auditable.{audit_done, tables_done}
+use Rattle.aces_cli.proofs.SourceRunnable.{is_firmware, firmwares_are_one, check_done, source_done, is_faultless}
 
 -- boards of texts
 module _ (read : BoardsAreNotRefused) where
@@ -106,31 +113,42 @@ module _ (laws : Laws) where
 
   module _ (Has : Origin → List ℕ → Type 0) (Exceeds : Origin → Type 0) (one : (s : Origin) (a b : List ℕ) → Has s a → Has s b → a ≡ b) (fits : (s : Origin) (a : List ℕ) → Has s a → Exceeds s → ⊥) where
     good_is_done : (r : Request) (o : Outcome) → IsGood Has r → Answer r Has Exceeds o → IsDoneBy r o.status
-    good_is_done r o (run image tape steps bytes t h k g) a = good_run laws Has Exceeds one fits image tape steps bytes t o h k g a
-    good_is_done r o (bin image file bytes i h g) a = good_bin laws Has Exceeds one fits image file bytes i o h g a
+    good_is_done r o (run image tape steps bytes t h k g) a =
+        by_files_end Has Exceeds one fits (λ n. (n ≡ 0) ⊎ (n ≡ 7)) (file_origin image) (file_origin tape) (RunAnswer image tape steps) bytes t o h k (run_done laws image tape steps bytes t o g) a
+    good_is_done r o (bin image file bytes i h g) a =
+        by_file_ends Has Exceeds one fits (λ n. n ≡ 0) (file_origin image) (BinAnswer image file) bytes o h (bin_done laws image file bytes o i g) a
     good_is_done r o (compile firmware board policy image bytes t h k g) a =
-        both_good firmware board (CompileAnswer firmware board policy image) (λ n. n ≡ 0) Has Exceeds one fits bytes t o h k (compile_done firmware board policy image bytes t o g) a
-    good_is_done r o (check firmware bytes w h g) a = good_check laws Has Exceeds one fits firmware bytes w o h g a
-    good_is_done r o (source firmware policy tape steps bytes t h k g) a = good_source laws Has Exceeds one fits firmware policy tape steps bytes t o h k g a
-    good_is_done r o (where_it_is firmware policy tape steps bytes t h k g) a = good_where Has Exceeds one fits firmware policy tape steps bytes t o h k (is_faultless laws bytes t g) a
+        by_files_end Has Exceeds one fits (λ n. n ≡ 0) (firmware_origin firmware) (file_origin board) (CompileAnswer firmware board policy image) bytes t o h k (compile_done firmware board policy image bytes t o g) a
+    good_is_done r o (check firmware bytes w h g) a =
+        by_file_ends Has Exceeds one fits (λ n. n ≡ 0) (firmware_origin firmware) (CheckAnswer firmware) bytes o h (check_done laws firmware bytes o w g) a
+    good_is_done r o (source firmware policy tape steps bytes t h k g) a =
+        by_files_end Has Exceeds one fits (λ n. (n ≡ 0) ⊎ (n ≡ 7)) (firmware_origin firmware) (file_origin tape) (SourceAnswer firmware policy tape steps) bytes t o h k (source_done laws firmware policy tape steps bytes t o g) a
+    good_is_done r o (where_it_is firmware policy tape steps bytes t h k g) a =
+        by_files_end Has Exceeds one fits (λ n. n ≡ 0) (firmware_origin firmware) (file_origin tape) (WhereAnswer firmware policy tape steps) bytes t o h k (where_done firmware policy tape steps bytes t o (is_faultless laws bytes t g)) a
     good_is_done r o (list firmware board policy bytes t h k g) a =
-        both_good firmware board (ListAnswer firmware board policy) (λ n. n ≡ 0) Has Exceeds one fits bytes t o h k (list_done firmware board policy bytes t o g) a
+        by_files_end Has Exceeds one fits (λ n. n ≡ 0) (firmware_origin firmware) (file_origin board) (ListAnswer firmware board policy) bytes t o h k (list_done firmware board policy bytes t o g) a
     good_is_done r o (stack firmware board policy bytes t h k g) a =
-        both_good firmware board (StackAnswers firmware board policy) (λ n. (n ≡ 0) ⊎ (n ≡ 8)) Has Exceeds one fits bytes t o h k (stack_done firmware board policy bytes t o g) a
-    good_is_done r o (audit image bytes i h g) a = good_audit laws Has Exceeds one fits image bytes i o h g a
-    good_is_done r o (tables image bytes i h g) a = good_tables laws Has Exceeds one fits image bytes i o h g a
+        by_files_end Has Exceeds one fits (λ n. (n ≡ 0) ⊎ (n ≡ 8)) (firmware_origin firmware) (file_origin board) (StackAnswers firmware board policy) bytes t o h k (stack_done firmware board policy bytes t o g) a
+    good_is_done r o (audit image bytes i h g) a =
+        by_file_ends Has Exceeds one fits (λ n. (n ≡ 0) ⊎ (n ≡ 8)) (file_origin image) (AuditAnswer image) bytes o h (audit_done laws image bytes o i g) a
+    good_is_done r o (tables image bytes i h g) a =
+        by_file_ends Has Exceeds one fits (λ n. (n ≡ 0) ⊎ (n ≡ 8)) (file_origin image) (TablesAnswer image) bytes o h (tables_done laws image bytes o i g) a
     good_is_done r o (who firmware board policy bytes t h k g) a =
-        both_good firmware board (WhoAnswer firmware board policy) (λ n. n ≡ 0) Has Exceeds one fits bytes t o h k (who_done firmware board policy bytes t o (λ p. plan_none firmware board policy bytes t p g)) a
+        by_files_end Has Exceeds one fits (λ n. n ≡ 0) (firmware_origin firmware) (file_origin board) (WhoAnswer firmware board policy) bytes t o h k (who_done firmware board policy bytes t o (λ p. plan_none firmware board policy bytes t p g)) a
     good_is_done r o (symbols firmware board policy bytes t h k g) a =
-        both_good firmware board (SymbolsAnswer firmware board policy) (λ n. n ≡ 0) Has Exceeds one fits bytes t o h k (symbols_done firmware board policy bytes t o g) a
+        by_files_end Has Exceeds one fits (λ n. n ≡ 0) (firmware_origin firmware) (file_origin board) (SymbolsAnswer firmware board policy) bytes t o h k (symbols_done firmware board policy bytes t o g) a
     good_is_done r o help a = good_help Has Exceeds o a
     good_is_done r o (selftest seed size plan) a = selftest_ends laws.planned Has Exceeds seed size o plan a
-    good_is_done r o (watch image tape steps address bytes t h k g) a = good_watch laws Has Exceeds one fits image tape steps address bytes t o h k g a
-    good_is_done r o (state image tape steps bytes t h k g) a = good_state laws Has Exceeds one fits image tape steps bytes t o h k g a
-    good_is_done r o (why firmware bytes w h g) a = good_why Has Exceeds one fits firmware bytes o h (λ f k. is_firmware laws.unique laws.faultless w bytes f g k) a
-    good_is_done r o (explain firmware bytes w h g) a = good_explain Has Exceeds one fits firmware bytes o h (λ f k. is_firmware laws.unique laws.faultless w bytes f g k) a
+    good_is_done r o (watch image tape steps address bytes t h k g) a =
+        by_files_end Has Exceeds one fits (λ n. (n ≡ 0) ⊎ (n ≡ 7)) (file_origin image) (file_origin tape) (WatchAnswer image tape steps address) bytes t o h k (watch_ends laws image tape steps address bytes t o g) a
+    good_is_done r o (state image tape steps bytes t h k g) a =
+        by_files_end Has Exceeds one fits (λ n. n ≡ 0) (file_origin image) (file_origin tape) (StateAnswer image tape steps) bytes t o h k (state_ends laws image tape steps bytes t o g) a
+    good_is_done r o (why firmware bytes w h g) a =
+        by_file_ends Has Exceeds one fits (λ n. n ≡ 0) (firmware_origin firmware) (WhyAnswer firmware) bytes o h (why_done firmware bytes o (λ f k. is_firmware laws.unique laws.faultless w bytes f g k)) a
+    good_is_done r o (explain firmware bytes w h g) a =
+        by_file_ends Has Exceeds one fits (λ n. n ≡ 0) (firmware_origin firmware) (ExplainAnswer firmware) bytes o h (explain_done firmware bytes o (λ f k. is_firmware laws.unique laws.faultless w bytes f g k)) a
     good_is_done r o (explain_plan firmware board policy bytes t h k g) a =
-        both_good firmware board (ExplainPlanAnswer firmware board policy) (λ n. n ≡ 0) Has Exceeds one fits bytes t o h k (explain_plan_done firmware board policy bytes t (λ p. plan_none firmware board policy bytes t p g) o) a
+        by_files_end Has Exceeds one fits (λ n. n ≡ 0) (firmware_origin firmware) (file_origin board) (ExplainPlanAnswer firmware board policy) bytes t o h k (explain_plan_done firmware board policy bytes t (λ p. plan_none firmware board policy bytes t p g) o) a
 
 pub held_is_one : (held : Held) (s : Origin) (a b : List ℕ) → Holds held s a → Holds held s b → a ≡ b
 held_is_one held s a b h k = let both : Some a ≡ Some b = sym h.there ∙ k.there in cc

@@ -14,10 +14,9 @@ use Rattle.machine_model.specs.declared.state.End.{End}
 use Rattle.machine_model.specs.declared.state.End.TheVariants.{Halt, InputEnd, Limit, Stop, Refused}
 use Rattle.machine_model.specs.Run.{start}
 use Rattle.machine_output.specs.Runs as machine
-use Rattle.aces_words.specs.Requests.{Origin, file_origin}
 use Rattle.aces_files.specs.Outcomes.{Outcome}
 use Rattle.aces_files.specs.Contents.{IsNoImage, IsNoTape}
-use Rattle.aces_files.specs.Answers.{RunAnswer, BinAnswer, no_image, no_tape, ran, wrote, AnswerToRun, AnswerToBin, image_large, tape_large, all_read}
+use Rattle.aces_files.specs.Answers.{RunAnswer, BinAnswer, no_image, no_tape, ran, wrote}
 use Rattle.aces_cli.specs.Complete.{IsRunnable}
 
 -- a text that is a tape has no fault
@@ -48,24 +47,12 @@ module _ (laws : Laws) where
   pub is_image : (i : Image) (bytes : List ℕ) (f : Fault) → images.IsText i bytes → IsNoImage bytes f → ⊥
   is_image i bytes f h k = let wrong : None ≡ Some k.first = sym (laws.no_fault i bytes h) ∙ k.found in cc
 
-  run_done : (image tape : List ℕ) (steps : ℕ) (bytes t : List ℕ) (o : Outcome) → IsRunnable bytes t → RunAnswer image tape steps bytes t o → (o.status ≡ 0) ⊎ (o.status ≡ 7)
+  pub run_done : (image tape : List ℕ) (steps : ℕ) (bytes t : List ℕ) (o : Outcome) → IsRunnable bytes t → RunAnswer image tape steps bytes t o → (o.status ≡ 0) ⊎ (o.status ≡ 7)
   run_done image tape steps bytes t o g (no_image f k) = absurd (is_image g.image bytes f g.is_text k)
   run_done image tape steps bytes t o g (no_tape i f h k) =
       absurd (is_tape i.windows t f (subst (λ (z : Image). tapes.first_fault t z.windows ≡ None) (laws.images g.image i bytes g.is_text h) g.tape) k)
   run_done image tape steps bytes t o g (ran i h k) = machine_ends (machine.end_of i steps (start i (tapes.queues_of t i.windows) machine.fill))
 
-  bin_done : (image file bytes : List ℕ) (o : Outcome) (i : Image) → images.IsText i bytes → BinAnswer image file bytes o → o.status ≡ 0
+  pub bin_done : (image file bytes : List ℕ) (o : Outcome) (i : Image) → images.IsText i bytes → BinAnswer image file bytes o → o.status ≡ 0
   bin_done image file bytes o i h (no_image f k) = absurd (is_image i bytes f h k)
   bin_done image file bytes o i h (wrote j k) = refl
-
-  module _ (Has : Origin → List ℕ → Type 0) (Exceeds : Origin → Type 0) (one : (s : Origin) (a b : List ℕ) → Has s a → Has s b → a ≡ b) (fits : (s : Origin) (a : List ℕ) → Has s a → Exceeds s → ⊥) where
-    pub good_run : (image tape : List ℕ) (steps : ℕ) (bytes t : List ℕ) (o : Outcome) → Has (file_origin image) bytes → Has (file_origin tape) t → IsRunnable bytes t
-        → AnswerToRun image tape steps Has Exceeds o → (o.status ≡ 0) ⊎ (o.status ≡ 7)
-    good_run image tape steps bytes t o h k g (image_large e) = absurd (fits _ bytes h e)
-    good_run image tape steps bytes t o h k g (tape_large bytes1 h1 e) = absurd (fits _ t k e)
-    good_run image tape steps bytes t o h k g (all_read bytes1 t1 o1 h1 k1 a) =
-        run_done image tape steps bytes1 t1 o (subst (IsRunnable bytes1) (one _ t t1 k k1) (subst (λ z. IsRunnable z t) (one _ bytes bytes1 h h1) g)) a
-
-    pub good_bin : (image file bytes : List ℕ) (i : Image) (o : Outcome) → Has (file_origin image) bytes → images.IsText i bytes → AnswerToBin image file Has Exceeds o → o.status ≡ 0
-    good_bin image file bytes i o h g (image_large e) = absurd (fits _ bytes h e)
-    good_bin image file bytes i o h g (all_read bytes1 o1 h1 a) = bin_done image file bytes1 o i (subst (images.IsText i) (one _ bytes bytes1 h h1) g) a

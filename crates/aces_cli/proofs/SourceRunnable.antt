@@ -15,11 +15,10 @@ use Rattle.aces_reports.specs.declared.failure.Fault.{Fault}
 use Rattle.aces_reports.specs.declared.failure.Fault.TheVariants.{Text}
 use Rattle.ir_output.specs.SourceRuns as source_runs
 use Rattle.plan_model.specs.declared.policy.Policy.{Policy}
-use Rattle.aces_words.specs.Requests.{Origin, file_origin, firmware_origin}
 use Rattle.aces_files.specs.Contents.{IsContentFault}
 use Rattle.aces_files.specs.Outcomes.{Outcome}
 use Rattle.aces_firmwares.specs.Firmwares.{IsFirmware, IsNoFirmware, no_text, ill_typed}
-use Rattle.aces_firmwares.specs.Answers.{CheckAnswer, SourceAnswer, no_firmware, no_tape, checked, ran, AnswerToCheck, AnswerToSource, firmware_large, tape_large, all_read}
+use Rattle.aces_firmwares.specs.Answers.{CheckAnswer, SourceAnswer, no_firmware, no_tape, checked, ran}
 use Rattle.aces_where.proofs.Findable.{IsFaultless}
 use Rattle.aces_cli.specs.Complete.{IsSourceRunnable}
 use Rattle.aces_cli.proofs.Runnable.{Laws, is_tape}
@@ -50,7 +49,7 @@ source_ends (Some OutOfInput) = inl refl
 source_ends (Some (Faulted f)) = inr refl
 
 module _ (laws : Laws) where
-  check_done : (firmware bytes : List ℕ) (o : Outcome) (w : PlainFirmware) → IsFirmware w bytes → CheckAnswer firmware bytes o → o.status ≡ 0
+  pub check_done : (firmware bytes : List ℕ) (o : Outcome) (w : PlainFirmware) → IsFirmware w bytes → CheckAnswer firmware bytes o → o.status ≡ 0
   check_done firmware bytes o w h (no_firmware f k) = absurd (is_firmware laws.unique laws.faultless w bytes f h k)
   check_done firmware bytes o w h (checked v k) = refl
 
@@ -61,22 +60,10 @@ module _ (laws : Laws) where
         tape = λ w f h k. is_tape (windows_of w) t f (subst (λ (z : PlainFirmware). tapes.first_fault t (windows_of z) ≡ None) (firmwares_are_one laws.unique laws.faultless g.firmware w bytes g.is_firmware h) g.tape) k;
       }
 
-  source_done : (firmware : List ℕ) (policy : Policy) (tape : List ℕ) (steps : ℕ) (bytes t : List ℕ) (o : Outcome) → IsSourceRunnable bytes t
+  pub source_done : (firmware : List ℕ) (policy : Policy) (tape : List ℕ) (steps : ℕ) (bytes t : List ℕ) (o : Outcome) → IsSourceRunnable bytes t
       → SourceAnswer firmware policy tape steps bytes t o → (o.status ≡ 0) ⊎ (o.status ≡ 7)
   source_done firmware policy tape steps bytes t o g (no_firmware f k) = absurd (is_firmware laws.unique laws.faultless g.firmware bytes f g.is_firmware k)
   source_done firmware policy tape steps bytes t o g (no_tape w f h k) =
       absurd (is_tape (windows_of w) t f (subst (λ (z : PlainFirmware). tapes.first_fault t (windows_of z) ≡ None) (firmwares_are_one laws.unique laws.faultless g.firmware w bytes g.is_firmware h) g.tape) k)
   source_done firmware policy tape steps bytes t o g (ran w compartments h k a) =
       source_ends (source_runs.source_end w compartments (tapes.queues_of t (windows_of w)) steps)
-
-  module _ (Has : Origin → List ℕ → Type 0) (Exceeds : Origin → Type 0) (one : (s : Origin) (a b : List ℕ) → Has s a → Has s b → a ≡ b) (fits : (s : Origin) (a : List ℕ) → Has s a → Exceeds s → ⊥) where
-    pub good_check : (firmware bytes : List ℕ) (w : PlainFirmware) (o : Outcome) → Has (firmware_origin firmware) bytes → IsFirmware w bytes → AnswerToCheck firmware Has Exceeds o → o.status ≡ 0
-    good_check firmware bytes w o h g (firmware_large e) = absurd (fits _ bytes h e)
-    good_check firmware bytes w o h g (all_read bytes1 o1 h1 a) = check_done firmware bytes1 o w (subst (IsFirmware w) (one _ bytes bytes1 h h1) g) a
-
-    pub good_source : (firmware : List ℕ) (policy : Policy) (tape : List ℕ) (steps : ℕ) (bytes t : List ℕ) (o : Outcome) → Has (firmware_origin firmware) bytes → Has (file_origin tape) t
-        → IsSourceRunnable bytes t → AnswerToSource firmware policy tape steps Has Exceeds o → (o.status ≡ 0) ⊎ (o.status ≡ 7)
-    good_source firmware policy tape steps bytes t o h k g (firmware_large e) = absurd (fits _ bytes h e)
-    good_source firmware policy tape steps bytes t o h k g (tape_large bytes1 h1 e) = absurd (fits _ t k e)
-    good_source firmware policy tape steps bytes t o h k g (all_read bytes1 t1 o1 h1 k1 a) =
-        source_done firmware policy tape steps bytes1 t1 o (subst (IsSourceRunnable bytes1) (one _ t t1 k k1) (subst (λ z. IsSourceRunnable z t) (one _ bytes bytes1 h h1) g)) a

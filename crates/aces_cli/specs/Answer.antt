@@ -1,7 +1,7 @@
 -- What a call answers where no call on the outside fails and memory does not run out: the status, what is printed, the
 -- line that tells of a fault, and what is written.
 use Rattle.std.specs.Prelude.{ℕ, List, [], Some}
-use Rattle.aces_words.specs.Requests.{Request, Run, Bin, Compile, Check, Source, Where, Listing, Stack, Audit, Tables, Who, Symbols, Help, Selftest, Watch, State, Why, Explain, ExplainPlan, Asks, IsUsage, Origin}
+use Rattle.aces_words.specs.Requests.{Request, Run, Bin, Compile, Check, Source, Where, Listing, Stack, Audit, Tables, Who, Symbols, Help, Selftest, Watch, State, Why, Explain, ExplainPlan, Asks, IsUsage, Origin, file_origin, firmware_origin}
 use Rattle.ir_model.specs.Plain.{PlainFirmware}
 use Rattle.aces_cli.specs.Compiled.{IsImageText}
 use Rattle.plan_model.specs.declared.policy.Policy.{Policy}
@@ -9,7 +9,7 @@ use Rattle.plan_model.specs.declared.plan.Board.{Board}
 use Rattle.plan_board.specs.Reading as boards
 use Rattle.aces_firmwares.specs.Firmwares.{IsFirmware}
 use Rattle.aces_files.specs.Outcomes.{Outcome, done, usage}
-use Rattle.aces_files.specs.Answers.{AnswerToRun, AnswerToBin}
+use Rattle.aces_files.specs.Answers.{AnswerByFiles, AnswerToRun, AnswerToBin}
 use Rattle.aces_audit.specs.Answers.{AnswerToAudit, AnswerToTables}
 use Rattle.aces_firmwares.specs.Answers.{AnswerToCheck, AnswerToSource}
 use Rattle.aces_who.specs.Answers.{AnswerToWho, AnswerToHelp}
@@ -19,7 +19,6 @@ use Rattle.aces_where.specs.Answers.{AnswerToWhere}
 use Rattle.aces_selftest.specs.Answers.{AnswerToSelftest}
 use Rattle.aces_explain.specs.Answers.{AnswerToExplain}
 use Rattle.aces_explain.specs.Plans.{AnswerToExplainPlan}
-use Rattle.aces_plans.specs.Both.{AnswerByBoth}
 use Rattle.aces_plans.specs.PlanAnswer.{PlanAnswer}
 use Rattle.aces_plans.specs.Answers.{AnswerToList, AnswerToStack, AnswerToSymbols}
 
@@ -31,7 +30,7 @@ pub data CompileAnswer (firmware board : List ℕ) (policy : Policy) (image byte
 
 -- the answer to that request
 abbrev pub AnswerToCompile : (firmware board : List ℕ) → Policy → (image : List ℕ) → (Has : Origin → List ℕ → Type 0) (Exceeds : Origin → Type 0) → Outcome → Type 0
-AnswerToCompile firmware board policy image = AnswerByBoth firmware board (CompileAnswer firmware board policy image)
+AnswerToCompile firmware board policy image = AnswerByFiles (firmware_origin firmware) (file_origin board) (CompileAnswer firmware board policy image)
 
 -- the answer to a request
 abbrev pub Answer : Request → (Has : Origin → List ℕ → Type 0) (Exceeds : Origin → Type 0) → Outcome → Type 0

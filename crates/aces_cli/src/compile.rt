@@ -14,10 +14,9 @@ ghost use Rattle.base_outside.specs.Sinks.{SinkState};
 
 use aces_compiler::{CompileRefusal, compile_by};
 use aces_files::failure::planning_failure;
-use aces_files::loading::board_of;
+use aces_files::loading::{board_of, load_firmware_and};
 use aces_files::writing::write;
 use aces_firmwares::reading::firmware_of;
-use aces_plans::both::load_both;
 use aces_reports::{Done, Failure};
 use base_outside::Files;
 use ir_model::checked::Checked;
@@ -36,13 +35,13 @@ pub(crate) fn compile<'a, F: Files>(
 ) -> Result<Done, Failure<'a>>
     ensures { (out : SinkState) → CarriesOut (AnswerToCompile firmware.now board.now policy image.now) F.Files files.old files.new (Compile firmware.now board.now policy image.now) out out result }
 {
-    let both = load_both(alloc, files, firmware, board)?;
+    let both = load_firmware_and(alloc, files, firmware, board)?;
     let compiled = compiled(
         alloc,
         firmware,
-        both.firmware.as_slice(),
+        both.first.as_slice(),
         board,
-        both.board.as_slice(),
+        both.second.as_slice(),
         policy,
     )?;
     match write(files, image, compiled.as_slice()) {

@@ -1,5 +1,5 @@
 -- A good request has no outcome but the one that says that all was done.
-use Rattle.std.proofs.Common.{◌≡◌, ℕ, List, refl, subst}
+use Rattle.std.proofs.Common.{◌≡◌, ℕ, List, refl}
 use Rattle.ir_model.specs.declared.token.Excess.{Excess}
 use Rattle.ir_model.specs.declared.token.Excess.TheVariants.{TooWide, Passes}
 use Rattle.ir_model.specs.declared.token.Pos.{Pos}
@@ -8,11 +8,10 @@ use Rattle.ir_reader.specs.declared.fault.TextFault.TheVariants.{Utf8, Syntax, N
 use Rattle.ir_check_scopes.specs.declared.fault.CheckFault.TheVariants.{At}
 use Rattle.aces_reports.specs.declared.failure.Fault.{Fault}
 use Rattle.aces_reports.specs.declared.failure.Fault.TheVariants.{Text, Check}
-use Rattle.aces_words.specs.Requests.{Origin, firmware_origin}
 use Rattle.aces_files.specs.Outcomes.{Outcome}
 use Rattle.aces_firmwares.specs.Firmwares.{IsNoFirmware}
 use Rattle.aces_firmwares.specs.Firmwares as firmwares
-use Rattle.aces_explain.specs.Answers.{ExplainAnswer, not_utf8, unexpected, passed, ill_typed, fine, AnswerToExplain, firmware_large, all_read}
+use Rattle.aces_explain.specs.Answers.{ExplainAnswer, not_utf8, unexpected, passed, ill_typed, fine}
 
 -- a limit that bytes pass is a fault of theirs
 passing : (bytes : List ℕ) (excess : Excess) (pos : Pos) → PassesAt bytes excess pos → ((f : Fault) → IsNoFirmware bytes f → ⊥) → ⊥
@@ -31,10 +30,3 @@ explain_done firmware bytes o faultless (passed excess pos h) = absurd (passing 
 explain_done firmware bytes o faultless (ill_typed w f pos h k p) =
     absurd (faultless (Check (At f.kind f.place)) (firmwares.ill_typed f.kind f.place (record { firmware = w; is_text = h; found = k })))
 explain_done firmware bytes o faultless (fine w h) = refl
-
--- by what the file of the request holds
-pub good_explain : (Has : Origin → List ℕ → Type 0) (Exceeds : Origin → Type 0) (one : (s : Origin) (a b : List ℕ) → Has s a → Has s b → a ≡ b) (fits : (s : Origin) (a : List ℕ) → Has s a → Exceeds s → ⊥)
-    (firmware bytes : List ℕ) (o : Outcome) → Has (firmware_origin firmware) bytes → ((f : Fault) → IsNoFirmware bytes f → ⊥) → AnswerToExplain firmware Has Exceeds o → o.status ≡ 0
-good_explain Has Exceeds one fits firmware bytes o h faultless (firmware_large e) = absurd (fits _ bytes h e)
-good_explain Has Exceeds one fits firmware bytes o h faultless (all_read bytes1 o1 k a) =
-    explain_done firmware bytes o faultless (subst (λ z. ExplainAnswer firmware z o) (one _ bytes1 bytes k h) a)

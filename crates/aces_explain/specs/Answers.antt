@@ -1,7 +1,6 @@
 -- What `explain` answers where no call on the outside fails and memory does not run out.
 use Rattle.std.specs.Prelude.{◌≡◌, ℕ, List, Some, None}
-use Rattle.aces_reports.specs.declared.failure.Fault.TheVariants.{TooLarge}
-use Rattle.aces_words.specs.Requests.{Origin, firmware_origin, firmware_limit}
+use Rattle.aces_words.specs.Requests.{Origin, firmware_origin}
 use Rattle.ir_model.specs.declared.token.Excess.{Excess}
 use Rattle.ir_model.specs.declared.token.Pos.{Pos}
 use Rattle.ir_model.specs.Plain.{PlainFirmware}
@@ -14,7 +13,8 @@ use Rattle.ir_text_places.specs.Stands.{Stands}
 use Rattle.ir_expected_tokens.specs.SyntaxLines.{syntax_lines}
 use Rattle.ir_check_details.specs.CheckLines.{check_lines}
 use Rattle.aces_explain.specs.Explanations.{utf8_told, syntax_told, passed_told, check_told}
-use Rattle.aces_files.specs.Outcomes.{Outcome, done, refused}
+use Rattle.aces_files.specs.Answers.{AnswerByFile}
+use Rattle.aces_files.specs.Outcomes.{Outcome, done}
 use Rattle.aces_firmwares.specs.Counts.{count_line}
 use Rattle.aces_firmwares.specs.Firmwares.{IsFirmware}
 
@@ -28,6 +28,5 @@ pub data ExplainAnswer (firmware : List ℕ) (bytes : List ℕ) : Outcome → Ty
   fine : (w : PlainFirmware) → IsFirmware w bytes → ExplainAnswer firmware bytes (done 0 (count_line w) None)
 
 -- the answer to the request
-pub data AnswerToExplain (firmware : List ℕ) (Has : Origin → List ℕ → Type 0) (Exceeds : Origin → Type 0) : Outcome → Type 0 where
-  firmware_large : Exceeds (firmware_origin firmware) → AnswerToExplain firmware Has Exceeds (refused firmware (TooLarge firmware_limit))
-  all_read : (bytes : List ℕ) (o : Outcome) → Has (firmware_origin firmware) bytes → ExplainAnswer firmware bytes o → AnswerToExplain firmware Has Exceeds o
+abbrev pub AnswerToExplain : (firmware : List ℕ) (Has : Origin → List ℕ → Type 0) (Exceeds : Origin → Type 0) → Outcome → Type 0
+AnswerToExplain firmware = AnswerByFile (firmware_origin firmware) (ExplainAnswer firmware)

@@ -1,7 +1,7 @@
 -- What `explain` answers with a board and a policy, where no call on the outside fails and memory does not run out.
 use Rattle.std.specs.Prelude.{◌≡◌, ℕ, List, None, false}
 use Rattle.plan_model.specs.declared.policy.Policy.{Policy}
-use Rattle.aces_words.specs.Requests.{Origin}
+use Rattle.aces_words.specs.Requests.{Origin, file_origin, firmware_origin}
 use Rattle.ir_model.specs.Plain.{PlainFirmware}
 use Rattle.ir_model.specs.Resolve.{resolve}
 use Rattle.plan_model.specs.declared.needs.Needs.{Needs}
@@ -18,10 +18,10 @@ use Rattle.aces_explain.specs.BoardTold.{board_told}
 use Rattle.aces_explain.specs.PlanTold.{IsRefusalTold}
 use Rattle.aces_reports.specs.declared.failure.Fault.TheVariants as faults
 use Rattle.aces_reports.specs.Faults.{is_want_of_memory}
+use Rattle.aces_files.specs.Answers.{AnswerByFiles}
 use Rattle.aces_files.specs.Outcomes.{Outcome, done}
 use Rattle.aces_firmwares.specs.Counts.{count_line}
 use Rattle.aces_firmwares.specs.Firmwares.{IsFirmware}
-use Rattle.aces_plans.specs.Both.{AnswerByBoth}
 use Rattle.aces_explain.specs.Answers.{ExplainAnswer}
 
 -- the status with which `list` refuses so
@@ -48,4 +48,4 @@ pub data ExplainPlanAnswer (firmware board : List ℕ) (policy : Policy) (bytes 
 
 -- the answer to the request
 abbrev pub AnswerToExplainPlan : (firmware board : List ℕ) → Policy → (Has : Origin → List ℕ → Type 0) (Exceeds : Origin → Type 0) → Outcome → Type 0
-AnswerToExplainPlan firmware board policy = AnswerByBoth firmware board (ExplainPlanAnswer firmware board policy)
+AnswerToExplainPlan firmware board policy = AnswerByFiles (firmware_origin firmware) (file_origin board) (ExplainPlanAnswer firmware board policy)

@@ -1,8 +1,6 @@
 //! `explain`: a firmware, read and checked, and what is wrong with it.
 
-ghost use Rattle.std.specs.Prelude.{◌≡◌, ◌≤◌, ◌++◌, length, IsTrue, OnErr, OnOk, IfOk, IfErr};
-ghost use Rattle.base_outside.specs.Counts.{Rose};
-ghost use Rattle.base_outside.specs.Contents.{AddsPrefix};
+ghost use Rattle.std.specs.Prelude.{◌≡◌, ◌≤◌, length, IfOk, IfErr};
 ghost use Rattle.aces_words.specs.Requests.{Explain as ToExplain, firmware_limit};
 ghost use Rattle.base_outside.specs.Sinks.{sink};
 ghost use Rattle.aces_reports.specs.declared.failure.Failure.TheVariants.{NoMemory as WantOfMemory};
@@ -12,9 +10,9 @@ ghost use Rattle.aces_explain.specs.Explained.{IsTold};
 
 use crate::telling::tell;
 use aces_files::loading::load_firmware;
-use aces_files::telling::Told;
+use aces_files::telling::{Told, print};
 use aces_reports::{Done, Failure};
-use base_outside::{Failed, Files, Sink};
+use base_outside::{Files, Sink};
 use std::alloc::Global;
 
 /// The lines on the bytes of a firmware, and how the command ends.
@@ -25,16 +23,6 @@ fn lines_on<'a>(alloc: Global, firmware: &'a str, bytes: &[u8]) -> Result<Told, 
 {
     let told = tell(alloc, firmware, bytes)?;
     Ok(told)
-}
-
-/// Prints lines.
-fn print<O: Sink>(lines: &[u8], out: &mut O) -> Result<(), Failed>
-    ensures lines { IsTrue O.told → OnOk result (O.written out.new ≡ O.written out.old ++ lines.now) }
-    ensures faultless { OnOk result (O.faults out.new ≡ O.faults out.old) }
-    ensures cause { OnErr result (Rose (O.faults out.old) (O.faults out.new)) }
-    ensures part { IsTrue O.told → OnErr result (AddsPrefix (O.written out.old) (O.written out.new) lines.now) }
-{
-    out.put(lines)
 }
 
 /// Reads and checks a firmware, and prints what is wrong with it: the place, the line of the text, what was found and expected, and the rule; or the
@@ -49,8 +37,5 @@ pub fn explain<'a, F: Files, O: Sink>(
 {
     let bytes = load_firmware(alloc, files, firmware)?;
     let told = lines_on(alloc, firmware, bytes.as_slice())?;
-    match print(told.lines.as_slice(), out) {
-        Ok(()) => Ok(told.done),
-        Err(_) => Err(Failure::Unprinted),
-    }
+    print(told.lines.as_slice(), told.done, out)
 }

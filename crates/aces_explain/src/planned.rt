@@ -19,8 +19,8 @@ ghost use Rattle.aces_explain.specs.Plans.{refusal_status, IsPlanTold, ExplainPl
 use crate::board_telling::board_told;
 use crate::plan_telling::refusal_told;
 use crate::telling::{Explained, counted, examine};
-use aces_files::telling::Told;
-use aces_plans::both::{load_both, print};
+use aces_files::loading::load_firmware_and;
+use aces_files::telling::{Told, print};
 use aces_reports::{Done, Failure};
 use base_outside::{Files, Sink};
 use ir_model::checked::Checked;
@@ -199,13 +199,13 @@ pub fn explain_plan<'a, F: Files, O: Sink>(
 ) -> Result<Done, Failure<'a>>
     ensures { CarriesOut (AnswerToExplainPlan firmware.now board.now policy) F.Files files.old files.new (ToExplain firmware.now board.now policy) (sink O.Sink out.old) (sink O.Sink out.new) result }
 {
-    let both = load_both(alloc, files, firmware, board)?;
+    let both = load_firmware_and(alloc, files, firmware, board)?;
     let told = lines_on(
         alloc,
         firmware,
-        both.firmware.as_slice(),
+        both.first.as_slice(),
         board,
-        both.board.as_slice(),
+        both.second.as_slice(),
         policy,
     )?;
     print(told.lines.as_slice(), told.done, out)

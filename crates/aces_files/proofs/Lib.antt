@@ -3,6 +3,8 @@ mod Boards
 mod Whole
 pub mod Asked
 pub mod Ends
+mod Reading
+pub mod OneFile
+pub mod TwoFiles
 pub mod Printing
 pub mod Answering
-pub mod Pairs

@@ -1,7 +1,7 @@
 -- What reading a source whole tells.
-use Rattle.std.proofs.Common.{◌≡◌, ◌∙◌, ℕ, ◌<◌, ◌≤◌, ◌⊎◌, inl, inr, List, [], length, Bool, Some, Result, Err, IsTrue, IsSomeAnd, sym, append-nil}
+use Rattle.std.proofs.Common.{◌≡◌, ◌∙◌, ℕ, ◌<◌, ◌≤◌, ◌⊎◌, inl, inr, List, [], length, Bool, Some, Result, Ok, Err, IsTrue, IsSomeAnd, sym, append-nil}
 use Rattle.base_outside.specs.declared.reading.ReadRefusal.{ReadRefusal}
-use Rattle.base_outside.specs.declared.reading.ReadRefusal.TheVariants.{TooLong, Failed}
+use Rattle.base_outside.specs.declared.reading.ReadRefusal.TheVariants.{TooLong, Failed, NoMemory}
 use Rattle.base_outside.specs.Calls.{Call}
 use Rattle.base_outside.specs.Reading.{ReadsWhole, AsksSize}
 use Rattle.aces_files.specs.Known.{Held}
@@ -23,3 +23,9 @@ large_alone told held calls name limit h large = (record { before = []; size = h
 -- where it is refused for another reason, what holds unless it failed holds
 pub long_not_failed : {T : Type 0} (P : Type 0) (r : Result T ReadRefusal) → r ≡ Err TooLong → (r ≡ Err Failed) ⊎ P → P
 long_not_failed P r h k = elim k [ inl f ↦ let wrong : Err TooLong ≡ Err Failed = sym h ∙ f in cc | inr p ↦ p ]
+
+pub want_not_failed : {T : Type 0} (P : Type 0) (r : Result T ReadRefusal) → r ≡ Err NoMemory → (r ≡ Err Failed) ⊎ P → P
+want_not_failed P r h k = elim k [ inl f ↦ let wrong : Err NoMemory ≡ Err Failed = sym h ∙ f in cc | inr p ↦ p ]
+
+pub read_not_failed : {T : Type 0} (P : Type 0) (t : T) (r : Result T ReadRefusal) → r ≡ Ok t → (r ≡ Err Failed) ⊎ P → P
+read_not_failed P t r h k = elim k [ inl f ↦ let wrong : Ok t ≡ Err Failed = sym h ∙ f in cc | inr p ↦ p ]

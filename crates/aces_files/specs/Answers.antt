@@ -1,4 +1,4 @@
--- What `run` and `bin` answer where no call on the outside fails and memory does not run out.
+-- What a request on one or two files answers where no call on the outside fails and memory does not run out, and so `run` and `bin`.
 use Rattle.std.specs.Prelude.{◌≡◌, ℕ, List, [], Some, None}
 use Rattle.machine_devices.specs.declared.image.Image.{Image}
 use Rattle.machine_devices.specs.Tape as tapes
@@ -6,7 +6,7 @@ use Rattle.machine_image.specs.Text.{IsText}
 use Rattle.machine_model.specs.Run.{start}
 use Rattle.aces_reports.specs.declared.failure.Fault.{Fault}
 use Rattle.aces_reports.specs.declared.failure.Fault.TheVariants.{TooLarge}
-use Rattle.aces_words.specs.Requests.{Origin, file_origin, file_limit}
+use Rattle.aces_words.specs.Requests.{Origin, file_origin}
 use Rattle.machine_output.specs.Runs.{fill, end_of, run_lines, end_status}
 use Rattle.aces_files.specs.Contents.{IsNoImage, IsNoTape}
 use Rattle.aces_files.specs.Outcomes.{Outcome, done, refused}
@@ -28,19 +28,21 @@ pub data BinAnswer (image file : List ℕ) (bytes : List ℕ) : Outcome → Type
   no_image : (f : Fault) → IsNoImage bytes f → BinAnswer image file bytes (refused image f)
   wrote : (i : Image) → IsText i bytes → BinAnswer image file bytes (done 0 [] (Some (record { name = file; bytes = i.flash })))
 
--- The answer to a request: by the first source that is larger than its limit, each one before it being there, and else by the
--- contents of all of them. `Has` says which bytes a source within its limit holds, and `Exceeds` that one is larger than its limit.
--- Of a request on an image and a tape `Answer` is the answer on the bytes of both files.
-pub data AnswerOnTape (image tape : List ℕ) (Answer : (bytes text : List ℕ) → Outcome → Type 0) (Has : Origin → List ℕ → Type 0) (Exceeds : Origin → Type 0) : Outcome → Type 0 where
-  image_large : Exceeds (file_origin image) → AnswerOnTape image tape Answer Has Exceeds (refused image (TooLarge file_limit))
-  tape_large : (bytes : List ℕ) → Has (file_origin image) bytes → Exceeds (file_origin tape) →
-      AnswerOnTape image tape Answer Has Exceeds (refused tape (TooLarge file_limit))
-  all_read : (bytes text : List ℕ) (o : Outcome) → Has (file_origin image) bytes → Has (file_origin tape) text →
-      Answer bytes text o → AnswerOnTape image tape Answer Has Exceeds o
+-- The answer to a request on one file, by what it answers by the bytes of that file. `Has` says which bytes a source within its limit holds, and
+-- `Exceeds` that one is larger than its limit.
+pub data AnswerByFile (s : Origin) (A : (bytes : List ℕ) → Outcome → Type 0) (Has : Origin → List ℕ → Type 0) (Exceeds : Origin → Type 0) : Outcome → Type 0 where
+  too_large : Exceeds s → AnswerByFile s A Has Exceeds (refused s.name (TooLarge s.limit))
+  read : (bytes : List ℕ) (o : Outcome) → Has s bytes → A bytes o → AnswerByFile s A Has Exceeds o
 
+-- The same on two files: by the first that is larger than its limit, the one before it being there, and else by the bytes of both.
+pub data AnswerByFiles (s t : Origin) (A : (bytes text : List ℕ) → Outcome → Type 0) (Has : Origin → List ℕ → Type 0) (Exceeds : Origin → Type 0) : Outcome → Type 0 where
+  first_large : Exceeds s → AnswerByFiles s t A Has Exceeds (refused s.name (TooLarge s.limit))
+  second_large : (bytes : List ℕ) → Has s bytes → Exceeds t → AnswerByFiles s t A Has Exceeds (refused t.name (TooLarge t.limit))
+  both_read : (bytes text : List ℕ) (o : Outcome) → Has s bytes → Has t text → A bytes text o → AnswerByFiles s t A Has Exceeds o
+
+-- the answers to these requests
 abbrev pub AnswerToRun : (image tape : List ℕ) (steps : ℕ) (Has : Origin → List ℕ → Type 0) (Exceeds : Origin → Type 0) → Outcome → Type 0
-AnswerToRun image tape steps = AnswerOnTape image tape (RunAnswer image tape steps)
+AnswerToRun image tape steps = AnswerByFiles (file_origin image) (file_origin tape) (RunAnswer image tape steps)
 
-pub data AnswerToBin (image file : List ℕ) (Has : Origin → List ℕ → Type 0) (Exceeds : Origin → Type 0) : Outcome → Type 0 where
-  image_large : Exceeds (file_origin image) → AnswerToBin image file Has Exceeds (refused image (TooLarge file_limit))
-  all_read : (bytes : List ℕ) (o : Outcome) → Has (file_origin image) bytes → BinAnswer image file bytes o → AnswerToBin image file Has Exceeds o
+abbrev pub AnswerToBin : (image file : List ℕ) (Has : Origin → List ℕ → Type 0) (Exceeds : Origin → Type 0) → Outcome → Type 0
+AnswerToBin image file = AnswerByFile (file_origin image) (BinAnswer image file)

@@ -1,7 +1,8 @@
 -- Beyond the program's claim: only laws, proofs and functions inside the tool cite this file.
 -- What the steps of a command answer before it ends.
-use Rattle.std.specs.Prelude.{◌≡◌, ℕ, ◌⊎◌, List, Bool, IsTrue, IsNone}
-use Rattle.base_outside.specs.Calls.{Call}
+use Rattle.std.specs.Prelude.{◌≡◌, ℕ, ◌⊎◌, List, All, Bool, IsTrue, IsNone}
+use Rattle.base_outside.specs.declared.files.Files as files
+use Rattle.base_outside.specs.Calls.{Call, Calls}
 use Rattle.base_outside.specs.Counts.{Rose}
 use Rattle.base_outside.specs.Reading.{Reads}
 use Rattle.aces_reports.specs.declared.failure.Fault.{Fault}
@@ -15,6 +16,7 @@ use Rattle.plan_report.specs.Lines.{meeting_text}
 use Rattle.plan.specs.declared.refusal.PlanningRefusal.{PlanningRefusal}
 use Rattle.plan.specs.declared.refusal.PlanningRefusal.TheVariants as planning
 use Rattle.aces_files.specs.Known.{Held}
+use Rattle.aces_files.specs.CarriesOut.{IsKnown, IsKnownLarge, NamesLast}
 use Rattle.aces_files.specs.Outcomes.{Outcome, refused, past_limit, denied, no_room}
 
 -- a file's content is refused by such a fault, or memory ran out
@@ -66,9 +68,48 @@ module _ (Exceeds : Origin → Type 0) (told : Bool) (held : Held) (s : Origin) 
 abbrev pub ReadsEither : (first second : List ℕ) → Call → Type 0
 ReadsEither first second call = Reads first call ⊎ Reads second call
 
--- why one of two sources was not read whole: the first was not, or the first holds these bytes and the second was not
-abbrev pub IsPairFailure : (Has : Origin → List ℕ → Type 0) (Exceeds : Origin → Type 0) (told : Bool) (held : Held) (first second : Origin)
-    (faults_before faults_after : ℕ) → Failure → Type 0
-IsPairFailure Has Exceeds told held s t before after e =
-    IsLoadFailure Exceeds told held s before after e
-    ⊎ (((bytes : List ℕ) × Has s bytes) × IsLoadFailure Exceeds told held t before after e)
+-- what reading did
+module _ {F : Type 0} (of : files.Ghosts F) (old new : F) where
+  -- a file was read whole, and nothing else was done
+  pub record IsRead (s : Origin) (bytes : List ℕ) : Type 0 where
+    pub calls : List Call
+    pub are : Calls of.called old calls new
+    pub reads : All (Reads s.name) calls
+    pub known : IsKnown of.told (of.held old) calls s bytes
+    pub same : of.held new ≡ of.held old
+    pub read_faults : of.read_faults new ≡ of.read_faults old
+    pub write_faults : of.write_faults new ≡ of.write_faults old
+
+  -- it was not, and why
+  pub record IsNotRead (s : Origin) (e : Failure) : Type 0 where
+    pub calls : List Call
+    pub are : Calls of.called old calls new
+    pub reads : All (Reads s.name) calls
+    pub cause : IsLoadFailure (IsKnownLarge of.told (of.held old) calls) of.told (of.held old) s (of.read_faults old) (of.read_faults new) e
+    pub last : NamesLast calls e
+    pub same : of.held new ≡ of.held old
+    pub write_faults : of.write_faults new ≡ of.write_faults old
+
+  -- two files were read whole, the second behind the first, and nothing else was done
+  pub record AreRead (s t : Origin) (bytes text : List ℕ) : Type 0 where
+    pub calls : List Call
+    pub are : Calls of.called old calls new
+    pub reads : All (ReadsEither s.name t.name) calls
+    pub first_known : IsKnown of.told (of.held old) calls s bytes
+    pub second_known : IsKnown of.told (of.held old) calls t text
+    pub same : of.held new ≡ of.held old
+    pub read_faults : of.read_faults new ≡ of.read_faults old
+    pub write_faults : of.write_faults new ≡ of.write_faults old
+
+  -- one of them was not, and why: the first, or the first holds these bytes and it was the second
+  pub record AreNotRead (s t : Origin) (e : Failure) : Type 0 where
+    pub calls : List Call
+    pub are : Calls of.called old calls new
+    pub reads : All (ReadsEither s.name t.name) calls
+    pub cause :
+        IsLoadFailure (IsKnownLarge of.told (of.held old) calls) of.told (of.held old) s (of.read_faults old) (of.read_faults new) e
+        ⊎ (((bytes : List ℕ) × IsKnown of.told (of.held old) calls s bytes)
+        × IsLoadFailure (IsKnownLarge of.told (of.held old) calls) of.told (of.held old) t (of.read_faults old) (of.read_faults new) e)
+    pub last : NamesLast calls e
+    pub same : of.held new ≡ of.held old
+    pub write_faults : of.write_faults new ≡ of.write_faults old

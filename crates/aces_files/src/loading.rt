@@ -1,16 +1,13 @@
 //! Reading the files of a command.
 
-ghost use Rattle.std.specs.Prelude.{◌≡◌, ◌≤◌, List, All, length, None, IfOk, IfErr, OnOk};
+ghost use Rattle.std.specs.Prelude.{◌≡◌, ◌≤◌, length, None, IfOk, IfErr, OnOk};
 ghost use Rattle.machine_image.specs.Text.{IsText};
 ghost use Rattle.machine_devices.specs.Tape as tapes;
-ghost use Rattle.base_outside.specs.Calls.{Call, Calls};
-ghost use Rattle.base_outside.specs.Reading.{Reads};
 ghost use Rattle.aces_words.specs.Requests.{file_origin, firmware_origin, file_limit, firmware_limit};
-ghost use Rattle.aces_files.specs.CarriesOut.{IsKnown, IsKnownLarge, NamesLast};
 ghost use Rattle.plan_model.specs.Boards.{IsBoard};
 ghost use Rattle.plan_board.specs.Reading as boards;
 ghost use Rattle.aces_files.specs.Contents.{IsNoImage, IsNoTape, IsNoBoard};
-ghost use Rattle.aces_files.specs.Loads.{ReadsEither, IsContentFailure, IsLoadFailure, IsPairFailure};
+ghost use Rattle.aces_files.specs.Loads.{IsContentFailure, IsRead, IsNotRead, AreRead, AreNotRead};
 
 use crate::failure::content_failure;
 use aces_reports::{Failure, Fault};
@@ -25,25 +22,6 @@ use std::alloc::Global;
 /// How many bytes an image, a tape or a board may have.
 const FILE_LIMIT: u32 = 16_777_216;
 
-/// The bytes of an image, of a tape or of a board.
-pub fn load<'a, F: Files>(
-    alloc: Global,
-    files: &mut F,
-    name: &'a str,
-) -> Result<Vec<u8>, Failure<'a>>
-    ensures few { IfOk result (λ bytes. length bytes.items ≤ file_limit) }
-    ensures calls { (calls : List Call) × Calls F.called files.old calls files.new × All (Reads name.now) calls
-        × IfOk result (λ bytes. IsKnown F.told (F.held files.old) calls (file_origin name.now) bytes.items)
-        × IfErr result (IsLoadFailure (IsKnownLarge F.told (F.held files.old) calls) F.told (F.held files.old)
-        (file_origin name.now) (F.read_faults files.old) (F.read_faults files.new))
-        × IfErr result (NamesLast calls) }
-    ensures same { F.held files.new ≡ F.held files.old }
-    ensures reads { OnOk result (F.read_faults files.new ≡ F.read_faults files.old) }
-    ensures writes { F.write_faults files.new ≡ F.write_faults files.old }
-{
-    load_within(alloc, files, name, FILE_LIMIT)
-}
-
 /// The bytes of two files.
 #[derive(Drop)]
 pub struct Both {
@@ -53,30 +31,17 @@ pub struct Both {
     pub second: Vec<u8>,
 }
 
-/// The bytes of two files, of which the second is read behind the first, each an image, a tape or a board.
-pub fn load_both<'a, F: Files>(
+/// The bytes of an image, of a tape or of a board.
+pub fn load<'a, F: Files>(
     alloc: Global,
     files: &mut F,
-    first: &'a str,
-    second: &'a str,
-) -> Result<Both, Failure<'a>>
-    ensures few { IfOk result (λ both. length both.second.items ≤ file_limit) }
-    ensures calls { (calls : List Call) × Calls F.called files.old calls files.new × All (ReadsEither first.now second.now) calls
-        × IfOk result (λ both. IsKnown F.told (F.held files.old) calls (file_origin first.now) both.first.items
-        × IsKnown F.told (F.held files.old) calls (file_origin second.now) both.second.items)
-        × IfErr result (IsPairFailure (IsKnown F.told (F.held files.old) calls) (IsKnownLarge F.told (F.held files.old) calls) F.told (F.held files.old)
-        (file_origin first.now) (file_origin second.now) (F.read_faults files.old) (F.read_faults files.new))
-        × IfErr result (NamesLast calls) }
-    ensures same { F.held files.new ≡ F.held files.old }
-    ensures reads { OnOk result (F.read_faults files.new ≡ F.read_faults files.old) }
-    ensures writes { F.write_faults files.new ≡ F.write_faults files.old }
+    name: &'a str,
+) -> Result<Vec<u8>, Failure<'a>>
+    ensures few { IfOk result (λ bytes. length bytes.items ≤ file_limit) }
+    ensures read { IfOk result (λ bytes. IsRead F.Files files.old files.new (file_origin name.now) bytes.items) }
+    ensures unread { IfErr result (IsNotRead F.Files files.old files.new (file_origin name.now)) }
 {
-    let front = load(alloc, files, first)?;
-    let behind = load(alloc, files, second)?;
-    Ok(Both {
-        first: front,
-        second: behind,
-    })
+    load_within(alloc, files, name, FILE_LIMIT)
 }
 
 /// The bytes of a firmware.
@@ -86,16 +51,61 @@ pub fn load_firmware<'a, F: Files>(
     name: &'a str,
 ) -> Result<Vec<u8>, Failure<'a>>
     ensures few { IfOk result (λ bytes. length bytes.items ≤ firmware_limit) }
-    ensures calls { (calls : List Call) × Calls F.called files.old calls files.new × All (Reads name.now) calls
-        × IfOk result (λ bytes. IsKnown F.told (F.held files.old) calls (firmware_origin name.now) bytes.items)
-        × IfErr result (IsLoadFailure (IsKnownLarge F.told (F.held files.old) calls) F.told (F.held files.old)
-        (firmware_origin name.now) (F.read_faults files.old) (F.read_faults files.new))
-        × IfErr result (NamesLast calls) }
-    ensures same { F.held files.new ≡ F.held files.old }
-    ensures reads { OnOk result (F.read_faults files.new ≡ F.read_faults files.old) }
-    ensures writes { F.write_faults files.new ≡ F.write_faults files.old }
+    ensures read { IfOk result (λ bytes. IsRead F.Files files.old files.new (firmware_origin name.now) bytes.items) }
+    ensures unread { IfErr result (IsNotRead F.Files files.old files.new (firmware_origin name.now)) }
 {
     load_within(alloc, files, name, TEXT_LIMIT)
+}
+
+/// The bytes of an image and of a tape.
+pub fn load_both<'a, F: Files>(
+    alloc: Global,
+    files: &mut F,
+    image: &'a str,
+    tape: &'a str,
+) -> Result<Both, Failure<'a>>
+    ensures few { IfOk result (λ both. length both.second.items ≤ file_limit) }
+    ensures read { IfOk result (λ both. AreRead F.Files files.old files.new (file_origin image.now) (file_origin tape.now) both.first.items both.second.items) }
+    ensures unread { IfErr result (AreNotRead F.Files files.old files.new (file_origin image.now) (file_origin tape.now)) }
+{
+    load_two(alloc, files, image, FILE_LIMIT, tape, FILE_LIMIT)
+}
+
+/// The bytes of a firmware, and of a board or of a tape.
+pub fn load_firmware_and<'a, F: Files>(
+    alloc: Global,
+    files: &mut F,
+    firmware: &'a str,
+    other: &'a str,
+) -> Result<Both, Failure<'a>>
+    ensures firmware_few { IfOk result (λ both. length both.first.items ≤ firmware_limit) }
+    ensures other_few { IfOk result (λ both. length both.second.items ≤ file_limit) }
+    ensures read { IfOk result (λ both. AreRead F.Files files.old files.new (firmware_origin firmware.now) (file_origin other.now) both.first.items both.second.items) }
+    ensures unread { IfErr result (AreNotRead F.Files files.old files.new (firmware_origin firmware.now) (file_origin other.now)) }
+{
+    load_two(alloc, files, firmware, TEXT_LIMIT, other, FILE_LIMIT)
+}
+
+/// The bytes of two files, each of which may have so many, and of which the second is read behind the first.
+pub fn load_two<'a, F: Files>(
+    alloc: Global,
+    files: &mut F,
+    first: &'a str,
+    first_limit: u32,
+    second: &'a str,
+    second_limit: u32,
+) -> Result<Both, Failure<'a>>
+    ensures first_few { IfOk result (λ both. length both.first.items ≤ first_limit) }
+    ensures second_few { IfOk result (λ both. length both.second.items ≤ second_limit) }
+    ensures read { IfOk result (λ both. AreRead F.Files files.old files.new (record { name = first.now; limit = first_limit }) (record { name = second.now; limit = second_limit }) both.first.items both.second.items) }
+    ensures unread { IfErr result (AreNotRead F.Files files.old files.new (record { name = first.now; limit = first_limit }) (record { name = second.now; limit = second_limit })) }
+{
+    let front = load_within(alloc, files, first, first_limit)?;
+    let behind = load_within(alloc, files, second, second_limit)?;
+    Ok(Both {
+        first: front,
+        second: behind,
+    })
 }
 
 /// The bytes of a file that may have so many.
@@ -106,14 +116,8 @@ fn load_within<'a, F: Files>(
     limit: u32,
 ) -> Result<Vec<u8>, Failure<'a>>
     ensures few { IfOk result (λ bytes. length bytes.items ≤ limit) }
-    ensures calls { (calls : List Call) × Calls F.called files.old calls files.new × All (Reads name.now) calls
-        × IfOk result (λ bytes. IsKnown F.told (F.held files.old) calls (record { name = name.now; limit = limit }) bytes.items)
-        × IfErr result (IsLoadFailure (IsKnownLarge F.told (F.held files.old) calls) F.told (F.held files.old)
-        (record { name = name.now; limit = limit }) (F.read_faults files.old) (F.read_faults files.new))
-        × IfErr result (NamesLast calls) }
-    ensures same { F.held files.new ≡ F.held files.old }
-    ensures reads { OnOk result (F.read_faults files.new ≡ F.read_faults files.old) }
-    ensures writes { F.write_faults files.new ≡ F.write_faults files.old }
+    ensures read { IfOk result (λ bytes. IsRead F.Files files.old files.new (record { name = name.now; limit = limit }) bytes.items) }
+    ensures unread { IfErr result (IsNotRead F.Files files.old files.new (record { name = name.now; limit = limit })) }
 {
     match read_whole(alloc, files, name, u64::from(limit)) {
         Ok(bytes) => Ok(bytes),

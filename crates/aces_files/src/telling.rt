@@ -1,6 +1,10 @@
 //! What a command prints.
 
-use aces_reports::Done;
+ghost use Rattle.base_outside.specs.Sinks.{sink};
+ghost use Rattle.aces_files.specs.Tellings.{Prints};
+
+use aces_reports::{Done, Failure};
+use base_outside::Sink;
 
 /// Lines, and how the command ends that prints them.
 #[derive(Drop)]
@@ -9,4 +13,14 @@ pub struct Told {
     pub lines: Vec<u8>,
     /// The end.
     pub done: Done,
+}
+
+/// Prints these lines, and ends the command so.
+pub fn print<'a, O: Sink>(lines: &[u8], done: Done, out: &mut O) -> Result<Done, Failure<'a>>
+    ensures { Prints (sink O.Sink out.old) (sink O.Sink out.new) lines.now done result }
+{
+    match out.put(lines) {
+        Ok(()) => Ok(done),
+        Err(_) => Err(Failure::Unprinted),
+    }
 }

@@ -2,13 +2,13 @@
 use Rattle.std.specs.Prelude.{◌≡◌, ℕ, List, None}
 use Rattle.machine_devices.specs.Tape as tapes
 use Rattle.aces_reports.specs.declared.failure.Fault.{Fault}
-use Rattle.aces_reports.specs.declared.failure.Fault.TheVariants.{TooLarge}
-use Rattle.aces_words.specs.Requests.{Origin, file_origin, firmware_origin, file_limit, firmware_limit}
+use Rattle.aces_words.specs.Requests.{Origin, file_origin, firmware_origin}
 use Rattle.plan_model.specs.declared.policy.Policy.{Policy}
 use Rattle.ir_model.specs.Plain.{PlainFirmware}
 use Rattle.ir_program.specs.Windows.{windows_of}
 use Rattle.plan_compartments.specs.Analyses.{AreCompartmentsBy}
 use Rattle.ir_output.specs.SourceRuns.{source_lines, source_status}
+use Rattle.aces_files.specs.Answers.{AnswerByFile, AnswerByFiles}
 use Rattle.aces_files.specs.Contents.{IsNoTape}
 use Rattle.aces_files.specs.Outcomes.{Outcome, done, refused}
 use Rattle.aces_firmwares.specs.Counts.{count_line}
@@ -33,14 +33,9 @@ pub data SourceAnswer (firmware : List ℕ) (policy : Policy) (tape : List ℕ) 
   ran : (w : PlainFirmware) (compartments : List ℕ) → IsFirmware w bytes → tapes.first_fault text (windows_of w) ≡ None → AreCompartmentsBy policy w compartments →
       SourceAnswer firmware policy tape steps bytes text (source_outcome w compartments text steps)
 
--- the answers to both requests, as those to `run` and `bin` stand in `Answers` of `commands`
-pub data AnswerToCheck (firmware : List ℕ) (Has : Origin → List ℕ → Type 0) (Exceeds : Origin → Type 0) : Outcome → Type 0 where
-  firmware_large : Exceeds (firmware_origin firmware) → AnswerToCheck firmware Has Exceeds (refused firmware (TooLarge firmware_limit))
-  all_read : (bytes : List ℕ) (o : Outcome) → Has (firmware_origin firmware) bytes → CheckAnswer firmware bytes o → AnswerToCheck firmware Has Exceeds o
+-- the answers to both requests
+abbrev pub AnswerToCheck : (firmware : List ℕ) (Has : Origin → List ℕ → Type 0) (Exceeds : Origin → Type 0) → Outcome → Type 0
+AnswerToCheck firmware = AnswerByFile (firmware_origin firmware) (CheckAnswer firmware)
 
-pub data AnswerToSource (firmware : List ℕ) (policy : Policy) (tape : List ℕ) (steps : ℕ) (Has : Origin → List ℕ → Type 0) (Exceeds : Origin → Type 0) : Outcome → Type 0 where
-  firmware_large : Exceeds (firmware_origin firmware) → AnswerToSource firmware policy tape steps Has Exceeds (refused firmware (TooLarge firmware_limit))
-  tape_large : (bytes : List ℕ) → Has (firmware_origin firmware) bytes → Exceeds (file_origin tape) →
-      AnswerToSource firmware policy tape steps Has Exceeds (refused tape (TooLarge file_limit))
-  all_read : (bytes text : List ℕ) (o : Outcome) → Has (firmware_origin firmware) bytes → Has (file_origin tape) text →
-      SourceAnswer firmware policy tape steps bytes text o → AnswerToSource firmware policy tape steps Has Exceeds o
+abbrev pub AnswerToSource : (firmware : List ℕ) → Policy → (tape : List ℕ) (steps : ℕ) (Has : Origin → List ℕ → Type 0) (Exceeds : Origin → Type 0) → Outcome → Type 0
+AnswerToSource firmware policy tape steps = AnswerByFiles (firmware_origin firmware) (file_origin tape) (SourceAnswer firmware policy tape steps)

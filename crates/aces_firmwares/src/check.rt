@@ -1,8 +1,6 @@
 //! `check`: a firmware, read and checked, and how much of what it has.
 
-ghost use Rattle.std.specs.Prelude.{◌≡◌, ◌≤◌, ◌++◌, length, flat_map, IsTrue, OnErr, OnOk};
-ghost use Rattle.base_outside.specs.Counts.{Rose};
-ghost use Rattle.base_outside.specs.Contents.{AddsPrefix};
+ghost use Rattle.std.specs.Prelude.{◌≡◌, ◌≤◌, length, flat_map};
 ghost use Rattle.ir_model.specs.declared.firmware.FileDecl.{FileDecl as SourceFile};
 ghost use Rattle.ir_model.specs.Plain as plain;
 ghost use Rattle.aces_words.specs.Requests.{Check};
@@ -14,8 +12,9 @@ ghost use Rattle.ir_model.specs.TextLimits.{function_limit};
 
 use crate::reading::firmware_of;
 use aces_files::loading::load_firmware;
+use aces_files::telling::print;
 use aces_reports::{Done, Failure};
-use base_outside::{Failed, Files, Sink};
+use base_outside::{Files, Sink};
 use ir_model::checked::Checked;
 use ir_model::firmware::FileDecl;
 use machine_lines::{Line, count_line};
@@ -32,10 +31,8 @@ pub fn check<'a, F: Files, O: Sink>(
 {
     let bytes = load_firmware(alloc, files, firmware)?;
     let checked = firmware_of(alloc, firmware, bytes.as_slice())?;
-    match print_counts(&checked, out) {
-        Ok(()) => Ok(Done::Completed),
-        Err(_) => Err(Failure::Unprinted),
-    }
+    let line = counts_of(&checked);
+    print(line.as_slice(), Done::Completed, out)
 }
 
 /// The line of counts of a firmware. It takes no memory.
@@ -45,19 +42,6 @@ pub fn counts_of(checked: &Checked) -> Line
     let firmware = checked.firmware();
     let functions = count_functions(firmware.files.as_slice());
     count_line(functions, firmware.globals.len(), firmware.periphs.len())
-}
-
-/// Prints the line of counts of a firmware.
-fn print_counts<O: Sink>(checked: &Checked, out: &mut O) -> Result<(), Failed>
-    ensures lines { IsTrue O.told → OnOk result
-        (O.written out.new ≡ O.written out.old ++ counts.count_line (plain.firmware_of checked.now)) }
-    ensures faultless { OnOk result (O.faults out.new ≡ O.faults out.old) }
-    ensures cause { OnErr result (Rose (O.faults out.old) (O.faults out.new)) }
-    ensures part { IsTrue O.told → OnErr result
-        (AddsPrefix (O.written out.old) (O.written out.new) (counts.count_line (plain.firmware_of checked.now))) }
-{
-    let line = counts_of(checked);
-    out.put(line.as_slice())
 }
 
 /// How many functions these files have.

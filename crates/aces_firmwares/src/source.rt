@@ -14,7 +14,7 @@ ghost use Rattle.aces_files.specs.CarriesOut.{CarriesOut};
 ghost use Rattle.aces_files.specs.Effects.{Does};
 
 use crate::reading::firmware_of;
-use aces_files::loading::{load, load_firmware, tape_of};
+use aces_files::loading::{load_firmware_and, tape_of};
 use aces_reports::{Done, Failure};
 use base_outside::{Files, Sink};
 use ir_model::checked::Checked;
@@ -38,15 +38,14 @@ pub fn source<'a, F: Files, O: Sink>(
 ) -> Result<Done, Failure<'a>>
     ensures { CarriesOut (AnswerToSource firmware.now policy tape.now steps) F.Files files.old files.new (Source firmware.now policy tape.now steps) (sink O.Sink out.old) (sink O.Sink out.new) result }
 {
-    let bytes = load_firmware(alloc, files, firmware)?;
-    let text = load(alloc, files, tape)?;
+    let both = load_firmware_and(alloc, files, firmware, tape)?;
     source_texts(
         alloc,
         firmware,
         policy,
-        bytes.as_slice(),
+        both.first.as_slice(),
         tape,
-        text.as_slice(),
+        both.second.as_slice(),
         steps,
         out,
     )

@@ -8,13 +8,11 @@ use Rattle.machine_model.specs.declared.state.End.{End}
 use Rattle.machine_model.specs.declared.state.End.TheVariants.{Halt, InputEnd, Limit, Stop, Refused}
 use Rattle.machine_model.specs.State.{State}
 use Rattle.aces_reports.specs.declared.failure.Fault.{Fault}
-use Rattle.aces_words.specs.Requests.{Origin, file_origin}
 use Rattle.machine_output.specs.Runs.{end_of, end_status}
 use Rattle.machine_output.specs.Watches.{WatchedRun, hit, missed}
-use Rattle.aces_files.specs.Answers.{AnswerOnTape, image_large, tape_large, all_read}
 use Rattle.aces_files.specs.Contents.{IsNoImage, IsNoTape}
 use Rattle.aces_files.specs.Outcomes.{Outcome}
-use Rattle.aces_inspection.specs.Answers.{WatchAnswer, StateAnswer, AnswerToWatch, AnswerToState, no_image, no_tape, watched, holds}
+use Rattle.aces_inspection.specs.Answers.{WatchAnswer, StateAnswer, no_image, no_tape, watched, holds}
 
 -- how runs end
 ends : (e : End) → (end_status e ≡ 0) ⊎ (end_status e ≡ 7)

@@ -8,10 +8,10 @@ use Rattle.machine_model.specs.State.{State}
 use Rattle.machine_model.specs.Step.{step}
 use Rattle.machine_model.specs.Run.{start, after}
 use Rattle.aces_reports.specs.declared.failure.Fault.{Fault}
-use Rattle.aces_words.specs.Requests.{Origin, address_of}
+use Rattle.aces_words.specs.Requests.{Origin, file_origin, address_of}
 use Rattle.machine_output.specs.Runs.{fill}
 use Rattle.machine_output.specs.Watches.{WatchedRun}
-use Rattle.aces_files.specs.Answers.{AnswerOnTape}
+use Rattle.aces_files.specs.Answers.{AnswerByFiles}
 use Rattle.aces_files.specs.Contents.{IsNoImage, IsNoTape}
 use Rattle.aces_files.specs.Outcomes.{Outcome, done, refused}
 use Rattle.aces_inspection.specs.StateLines.{state_lines}
@@ -40,7 +40,7 @@ pub data StateAnswer (image tape : List ℕ) (steps : ℕ) (bytes text : List �
 
 -- the answers to both requests, as that to `run`
 abbrev pub AnswerToWatch : (image tape : List ℕ) (steps : ℕ) (address : List ℕ) (Has : Origin → List ℕ → Type 0) (Exceeds : Origin → Type 0) → Outcome → Type 0
-AnswerToWatch image tape steps address = AnswerOnTape image tape (WatchAnswer image tape steps address)
+AnswerToWatch image tape steps address = AnswerByFiles (file_origin image) (file_origin tape) (WatchAnswer image tape steps address)
 
 abbrev pub AnswerToState : (image tape : List ℕ) (steps : ℕ) (Has : Origin → List ℕ → Type 0) (Exceeds : Origin → Type 0) → Outcome → Type 0
-AnswerToState image tape steps = AnswerOnTape image tape (StateAnswer image tape steps)
+AnswerToState image tape steps = AnswerByFiles (file_origin image) (file_origin tape) (StateAnswer image tape steps)

@@ -13,6 +13,7 @@ ghost use Rattle.aces_inspection.specs.Answers.{StateAnswer, AnswerToState, IsRu
 use crate::state_lines;
 use aces_files::loading::{Both, image_of, load_both, tape_of};
 use aces_files::run::FILL;
+use aces_files::telling::print;
 use aces_reports::{Done, Failure};
 use base_outside::{Files, Sink};
 use machine_emulator::Machine;
@@ -68,8 +69,5 @@ pub fn state<'a, F: Files, O: Sink>(
 {
     let both = load_both(alloc, files, image, tape)?;
     let lines = held_lines(alloc, image, tape, &both, steps)?;
-    match out.put(lines.as_slice()) {
-        Ok(()) => Ok(Done::Completed),
-        Err(_) => Err(Failure::Unprinted),
-    }
+    print(lines.as_slice(), Done::Completed, out)
 }

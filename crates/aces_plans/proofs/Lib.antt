@@ -1,3 +1,2 @@
 pub mod Planning
-pub mod Carried
 pub mod Answering

@@ -1,7 +1,7 @@
 -- What `list`, `symbols` and `stack` answer where no call on the outside fails and memory does not run out.
 use Rattle.std.specs.Prelude.{ℕ, List, None}
 use Rattle.aces_reports.specs.declared.failure.Fault.{Fault}
-use Rattle.aces_words.specs.Requests.{Origin}
+use Rattle.aces_words.specs.Requests.{Origin, file_origin, firmware_origin}
 use Rattle.plan_model.specs.declared.policy.Policy.{Policy}
 use Rattle.ir_model.specs.Plain.{PlainFirmware}
 use Rattle.plan_model.specs.declared.plan.Board.{Board}
@@ -14,10 +14,10 @@ use Rattle.aces_stack.specs.Lines.{stack_lines, stack_status}
 use Rattle.refine_stack.specs.declared.answer.StackAnswer.{StackAnswer}
 use Rattle.aces_stack_laws.specs.Bounded.{IsStackBy}
 use Rattle.plan_firmwares.specs.Unplanned.{IsRefusedBy}
+use Rattle.aces_files.specs.Answers.{AnswerByFiles}
 use Rattle.aces_files.specs.Contents.{IsNoBoard}
 use Rattle.aces_files.specs.Outcomes.{Outcome, done, refused, past_limit}
 use Rattle.aces_firmwares.specs.Firmwares.{IsNoFirmware, IsFirmware}
-use Rattle.aces_plans.specs.Both.{AnswerByBoth}
 use Rattle.aces_plans.specs.PlanAnswer.{PlanAnswer}
 
 -- the answer to `list` on the bytes of both files
@@ -43,10 +43,10 @@ pub data StackAnswers (firmware board : List ℕ) (policy : Policy) (bytes text 
 
 -- the answers to these requests
 abbrev pub AnswerToList : (firmware board : List ℕ) → Policy → (Has : Origin → List ℕ → Type 0) (Exceeds : Origin → Type 0) → Outcome → Type 0
-AnswerToList firmware board policy = AnswerByBoth firmware board (ListAnswer firmware board policy)
+AnswerToList firmware board policy = AnswerByFiles (firmware_origin firmware) (file_origin board) (ListAnswer firmware board policy)
 
 abbrev pub AnswerToSymbols : (firmware board : List ℕ) → Policy → (Has : Origin → List ℕ → Type 0) (Exceeds : Origin → Type 0) → Outcome → Type 0
-AnswerToSymbols firmware board policy = AnswerByBoth firmware board (SymbolsAnswer firmware board policy)
+AnswerToSymbols firmware board policy = AnswerByFiles (firmware_origin firmware) (file_origin board) (SymbolsAnswer firmware board policy)
 
 abbrev pub AnswerToStack : (firmware board : List ℕ) → Policy → (Has : Origin → List ℕ → Type 0) (Exceeds : Origin → Type 0) → Outcome → Type 0
-AnswerToStack firmware board policy = AnswerByBoth firmware board (StackAnswers firmware board policy)
+AnswerToStack firmware board policy = AnswerByFiles (firmware_origin firmware) (file_origin board) (StackAnswers firmware board policy)

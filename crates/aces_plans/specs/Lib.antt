@@ -1,3 +1,2 @@
 pub mod PlanAnswer
-pub mod Both
 pub mod Answers

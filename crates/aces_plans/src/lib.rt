@@ -1,7 +1,6 @@
 //! Commands on a firmware and a board.
 #![tactic(auto)]
 
-pub mod both;
 pub mod list;
 pub mod stack;
 pub mod symbolizing;

@@ -8,9 +8,9 @@ ghost use Rattle.aces_files.specs.CarriesOut.{CarriesOut};
 ghost use Rattle.aces_plans.specs.Answers.{ListAnswer, AnswerToList};
 ghost use Rattle.base_outside.specs.Sinks.{sink};
 
-use crate::both::{load_both, print};
 use aces_files::failure::planning_failure;
-use aces_files::loading::board_of;
+use aces_files::loading::{board_of, load_firmware_and};
+use aces_files::telling::print;
 use aces_firmwares::reading::firmware_of;
 use aces_listing::listing_of;
 use aces_reports::{Done, Failure};
@@ -29,13 +29,13 @@ pub fn list<'a, F: Files, O: Sink>(
 ) -> Result<Done, Failure<'a>>
     ensures { CarriesOut (AnswerToList firmware.now board.now policy) F.Files files.old files.new (Listing firmware.now board.now policy) (sink O.Sink out.old) (sink O.Sink out.new) result }
 {
-    let both = load_both(alloc, files, firmware, board)?;
+    let both = load_firmware_and(alloc, files, firmware, board)?;
     let lines = listed(
         alloc,
         firmware,
-        both.firmware.as_slice(),
+        both.first.as_slice(),
         board,
-        both.board.as_slice(),
+        both.second.as_slice(),
         policy,
     )?;
     print(lines.as_slice(), Done::Completed, out)

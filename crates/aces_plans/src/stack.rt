@@ -10,10 +10,9 @@ ghost use Rattle.aces_plans.specs.Answers.{StackAnswers, AnswerToStack};
 ghost use Rattle.aces_reports.specs.Ends.{status_of};
 ghost use Rattle.base_outside.specs.Sinks.{sink};
 
-use crate::both::{load_both, print};
 use aces_files::failure::planning_failure;
-use aces_files::loading::board_of;
-use aces_files::telling::Told;
+use aces_files::loading::{board_of, load_firmware_and};
+use aces_files::telling::{Told, print};
 use aces_firmwares::reading::firmware_of;
 use aces_reports::{Done, Failure};
 use aces_stack::stack_of;
@@ -35,13 +34,13 @@ pub fn stack<'a, F: Files, O: Sink>(
 ) -> Result<Done, Failure<'a>>
     ensures { CarriesOut (AnswerToStack firmware.now board.now policy) F.Files files.old files.new (Stack firmware.now board.now policy) (sink O.Sink out.old) (sink O.Sink out.new) result }
 {
-    let both = load_both(alloc, files, firmware, board)?;
+    let both = load_firmware_and(alloc, files, firmware, board)?;
     let told = bounded(
         alloc,
         firmware,
-        both.firmware.as_slice(),
+        both.first.as_slice(),
         board,
-        both.board.as_slice(),
+        both.second.as_slice(),
         policy,
     )?;
     print(told.lines.as_slice(), told.done, out)

@@ -2,12 +2,12 @@
 use Rattle.std.specs.Prelude.{◌≡◌, ℕ, List, None}
 use Rattle.machine_devices.specs.Tape as tapes
 use Rattle.aces_reports.specs.declared.failure.Fault.{Fault}
-use Rattle.aces_reports.specs.declared.failure.Fault.TheVariants.{TooLarge}
-use Rattle.aces_words.specs.Requests.{Origin, file_origin, firmware_origin, file_limit, firmware_limit}
+use Rattle.aces_words.specs.Requests.{Origin, file_origin, firmware_origin}
 use Rattle.plan_model.specs.declared.policy.Policy.{Policy}
 use Rattle.ir_model.specs.Plain.{PlainFirmware}
 use Rattle.ir_program.specs.Windows.{windows_of}
 use Rattle.plan_compartments.specs.Analyses.{AreCompartmentsBy}
+use Rattle.aces_files.specs.Answers.{AnswerByFiles}
 use Rattle.aces_files.specs.Contents.{IsNoTape}
 use Rattle.aces_files.specs.Outcomes.{Outcome, done, refused}
 use Rattle.aces_firmwares.specs.Firmwares.{IsNoFirmware, IsFirmware}
@@ -21,10 +21,6 @@ pub data WhereAnswer (firmware : List ℕ) (policy : Policy) (tape : List ℕ) (
       → AreCompartmentsBy policy w compartments → AreLines w compartments (tapes.queues_of text (windows_of w)) limit lines
       → WhereAnswer firmware policy tape limit bytes text (done 0 lines None)
 
--- the answer to the request, as that to `source`
-pub data AnswerToWhere (firmware : List ℕ) (policy : Policy) (tape : List ℕ) (limit : ℕ) (Has : Origin → List ℕ → Type 0) (Exceeds : Origin → Type 0) : Outcome → Type 0 where
-  firmware_large : Exceeds (firmware_origin firmware) → AnswerToWhere firmware policy tape limit Has Exceeds (refused firmware (TooLarge firmware_limit))
-  tape_large : (bytes : List ℕ) → Has (firmware_origin firmware) bytes → Exceeds (file_origin tape) →
-      AnswerToWhere firmware policy tape limit Has Exceeds (refused tape (TooLarge file_limit))
-  all_read : (bytes text : List ℕ) (o : Outcome) → Has (firmware_origin firmware) bytes → Has (file_origin tape) text →
-      WhereAnswer firmware policy tape limit bytes text o → AnswerToWhere firmware policy tape limit Has Exceeds o
+-- the answer to the request
+abbrev pub AnswerToWhere : (firmware : List ℕ) → Policy → (tape : List ℕ) (limit : ℕ) (Has : Origin → List ℕ → Type 0) (Exceeds : Origin → Type 0) → Outcome → Type 0
+AnswerToWhere firmware policy tape limit = AnswerByFiles (firmware_origin firmware) (file_origin tape) (WhereAnswer firmware policy tape limit)

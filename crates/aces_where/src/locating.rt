@@ -6,7 +6,8 @@ ghost use Rattle.aces_files.specs.CarriesOut.{CarriesOut};
 ghost use Rattle.aces_where.specs.Answers.{AnswerToWhere};
 
 use crate::telling::told;
-use aces_files::loading::{load, load_firmware};
+use aces_files::loading::load_firmware_and;
+use aces_files::telling::print;
 use aces_reports::{Done, Failure};
 use base_outside::{Files, Sink};
 use plan_model::Policy;
@@ -26,19 +27,15 @@ pub fn locate<'a, F: Files, O: Sink>(
     ensures { CarriesOut (AnswerToWhere firmware.now policy tape.now steps) F.Files files.old files.new (ToPlace firmware.now policy tape.now steps)
         (sink O.Sink out.old) (sink O.Sink out.new) result }
 {
-    let bytes = load_firmware(alloc, files, firmware)?;
-    let text = load(alloc, files, tape)?;
+    let both = load_firmware_and(alloc, files, firmware, tape)?;
     let lines = told(
         alloc,
         firmware,
         policy,
-        bytes.as_slice(),
+        both.first.as_slice(),
         tape,
-        text.as_slice(),
+        both.second.as_slice(),
         steps,
     )?;
-    match out.put(lines.as_slice()) {
-        Ok(()) => Ok(Done::Completed),
-        Err(_) => Err(Failure::Unprinted),
-    }
+    print(lines.as_slice(), Done::Completed, out)
 }

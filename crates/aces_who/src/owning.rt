@@ -17,9 +17,9 @@ ghost use Rattle.aces_who.specs.Owners.{AreOwners, owners_for};
 use crate::laws::exposures_are_exact;
 use crate::listing::who_lines;
 use aces_files::failure::planning_failure;
-use aces_files::loading::board_of;
+use aces_files::loading::{board_of, load_firmware_and};
+use aces_files::telling::print;
 use aces_firmwares::reading::firmware_of;
-use aces_plans::both::{load_both, print};
 use aces_reports::{Done, Failure};
 use base_outside::{Files, Sink};
 use ir_model::checked::Checked;
@@ -88,13 +88,13 @@ pub fn print_owners<'a, F: Files, O: Sink>(
 ) -> Result<Done, Failure<'a>>
     ensures { CarriesOut (AnswerToWho firmware.now board.now policy) F.Files files.old files.new (ToWho firmware.now board.now policy) (sink O.Sink out.old) (sink O.Sink out.new) result }
 {
-    let both = load_both(alloc, files, firmware, board)?;
+    let both = load_firmware_and(alloc, files, firmware, board)?;
     let lines = told(
         alloc,
         firmware,
-        both.firmware.as_slice(),
+        both.first.as_slice(),
         board,
-        both.board.as_slice(),
+        both.second.as_slice(),
         policy,
     )?;
     print(lines.as_slice(), Done::Completed, out)

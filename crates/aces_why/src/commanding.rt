@@ -1,8 +1,6 @@
 //! `why`: a firmware, read and checked, and what its loads, stores and calls may reach.
 
-ghost use Rattle.std.specs.Prelude.{◌≡◌, ◌≤◌, ◌++◌, length, None, IsTrue, OnErr, OnOk, IfOk, IfErr};
-ghost use Rattle.base_outside.specs.Counts.{Rose};
-ghost use Rattle.base_outside.specs.Contents.{AddsPrefix};
+ghost use Rattle.std.specs.Prelude.{◌≤◌, length, None, IfOk, IfErr};
 ghost use Rattle.aces_words.specs.Requests.{Why, firmware_limit};
 ghost use Rattle.base_outside.specs.Sinks.{sink};
 ghost use Rattle.aces_files.specs.CarriesOut.{CarriesOut};
@@ -13,9 +11,10 @@ ghost use Rattle.aces_why.specs.Answers.{WhyAnswer, AnswerToWhy};
 
 use crate::telling::reach_lines;
 use aces_files::loading::load_firmware;
+use aces_files::telling::print;
 use aces_firmwares::reading::firmware_of;
 use aces_reports::{Done, Failure};
-use base_outside::{Failed, Files, Sink};
+use base_outside::{Files, Sink};
 use std::alloc::Global;
 
 /// The lines on the firmware of which these bytes of a file are the text.
@@ -27,16 +26,6 @@ fn told<'a>(alloc: Global, firmware: &'a str, bytes: &[u8]) -> Result<Vec<u8>, F
     let checked = firmware_of(alloc, firmware, bytes)?;
     let lines = reach_lines(alloc, &checked)?;
     Ok(lines)
-}
-
-/// Prints lines.
-fn print<O: Sink>(lines: &[u8], out: &mut O) -> Result<(), Failed>
-    ensures lines { IsTrue O.told → OnOk result (O.written out.new ≡ O.written out.old ++ lines.now) }
-    ensures faultless { OnOk result (O.faults out.new ≡ O.faults out.old) }
-    ensures cause { OnErr result (Rose (O.faults out.old) (O.faults out.new)) }
-    ensures part { IsTrue O.told → OnErr result (AddsPrefix (O.written out.old) (O.written out.new) lines.now) }
-{
-    out.put(lines)
 }
 
 /// Reads and checks a firmware, and prints what each of its loads, stores and calls may reach, which registers stand for several
@@ -51,8 +40,5 @@ pub fn why<'a, F: Files, O: Sink>(
 {
     let bytes = load_firmware(alloc, files, firmware)?;
     let lines = told(alloc, firmware, bytes.as_slice())?;
-    match print(lines.as_slice(), out) {
-        Ok(()) => Ok(Done::Completed),
-        Err(_) => Err(Failure::Unprinted),
-    }
+    print(lines.as_slice(), Done::Completed, out)
 }

@@ -3,17 +3,17 @@ use Rattle.std.proofs.lemmas.List.Elements.{All-append}
 use Rattle.std.proofs.lemmas.Result.{err_from_is_err_and}
 use Rattle.aces_reports.specs.declared.failure.Done.TheVariants.{Completed}
 use Rattle.aces_words.specs.Requests.{Compile, file_origin, firmware_origin}
+use Rattle.aces_files.specs.Answers.{both_read}
 use Rattle.aces_files.specs.Known.{IsCallOf}
 use Rattle.aces_files.specs.CarriesOut.{IsKnown, IsKnownLarge}
 use Rattle.aces_cli.specs.Answer.{AnswerToCompile, CompileAnswer}
 use Rattle.aces_files.specs.Outcomes.{done}
 use Rattle.aces_files.specs.Effects.{world}
-use Rattle.aces_files.specs.Loads.{IsRefusal}
+use Rattle.aces_files.specs.Loads.{IsRefusal, AreNotRead}
 use Rattle.base_outside.proofs.Paths.{calls_joined}
 use Rattle.aces_files.proofs.Asked.{known_before, writes_of}
 use Rattle.aces_files.proofs.Ends.{did_end}
-use Rattle.aces_plans.specs.Both.{AreNotRead, all_read}
-use Rattle.aces_plans.proofs.Carried.{both_asked, not_read, refused}
+use Rattle.aces_files.proofs.TwoFiles.{asked, not_read, refused}
 use Rattle.aces_cli.proofs.compile.compile.Goals as goal
 
 pub returns-in_err-both : goal.returns-in_err-both
@@ -23,8 +23,8 @@ returns-in_err-both g c out =
     let image = c.args.image.now in
     let policy = c.args.policy in
     let x = err_from_is_err_and c.from_residual.result c.from_residual.ensures.1 in
-    rw x.1 (not_read g.F.Files c.args.files.now c.load_both.new.files firmware board (Compile firmware board policy image) refl (CompileAnswer firmware board policy image) out x.0
-    (subst (AreNotRead g.F.Files c.args.files.now c.load_both.new.files firmware board) (sym x.2) c.in_err-both.ensures.unread))
+    rw x.1 (not_read g.F.Files c.args.files.now c.load_firmware_and.new.files (firmware_origin firmware) (file_origin board) (Compile firmware board policy image) refl (CompileAnswer firmware board policy image) out x.0
+    (subst (AreNotRead g.F.Files c.args.files.now c.load_firmware_and.new.files (firmware_origin firmware) (file_origin board)) (sym x.2) c.in_err-both.ensures.unread))
 
 pub returns-in_err-compiled : goal.returns-in_err-compiled
 returns-in_err-compiled g c out =
@@ -32,11 +32,11 @@ returns-in_err-compiled g c out =
     let board = c.args.board.now in
     let image = c.args.image.now in
     let policy = c.args.policy in
-    let bytes = c.in_ok-both.both.firmware.items in
-    let text = c.in_ok-both.both.board.items in
+    let bytes = c.in_ok-both.both.first.items in
+    let text = c.in_ok-both.both.second.items in
     let x = err_from_is_err_and c.from_residual-in_err-compiled.result c.from_residual-in_err-compiled.ensures.1 in
     let here = rw (c.as_slice.ensures.value, c.as_slice-2.ensures.value) at c.in_err-compiled.ensures.err in
-    rw x.1 (refused g.F.Files c.args.files.now c.load_both.new.files firmware board (Compile firmware board policy image) refl (CompileAnswer firmware board policy image)
+    rw x.1 (refused g.F.Files c.args.files.now c.load_firmware_and.new.files (firmware_origin firmware) (file_origin board) (Compile firmware board policy image) refl (CompileAnswer firmware board policy image)
     bytes text c.in_ok-both.ensures.read out x.0 (subst (IsRefusal (CompileAnswer firmware board policy image bytes text)) (sym x.2) (here image)))
 
 pub returns-in-Ok : goal.returns-in-Ok
@@ -45,8 +45,8 @@ returns-in-Ok g c out =
     let board = c.args.board.now in
     let image = c.args.image.now in
     let policy = c.args.policy in
-    let bytes = c.in_ok-both.both.firmware.items in
-    let text = c.in_ok-both.both.board.items in
+    let bytes = c.in_ok-both.both.first.items in
+    let text = c.in_ok-both.both.second.items in
     let written = c.in_ok-compiled.compiled.items in
     let r = Compile firmware board policy image in
     let of = g.F.Files in
@@ -54,16 +54,16 @@ returns-in-Ok g c out =
     let read = c.in_ok-both.ensures.read in
     let last = c.in-Ok.ensures.calls in
     let made = read.calls ++ last.0 in
-    let known_first = known_before of.told (of.held files) read.calls last.0 (firmware_origin firmware) bytes read.firmware_read in
-    let known = known_before of.told (of.held files) read.calls last.0 (file_origin board) text read.board_read in (
+    let known_first = known_before of.told (of.held files) read.calls last.0 (firmware_origin firmware) bytes read.first_known in
+    let known = known_before of.told (of.held files) read.calls last.0 (file_origin board) text read.second_known in (
       made,
-      calls_joined of.called files c.load_both.new.files c.write.new.files read.calls last.0 read.are last.1,
-      All-append (IsCallOf r) read.calls last.0 (both_asked of files c.load_both.new.files firmware board r refl (CompileAnswer firmware board policy image) read.calls read.reads)
+      calls_joined of.called files c.load_firmware_and.new.files c.write.new.files read.calls last.0 read.are last.1,
+      All-append (IsCallOf r) read.calls last.0 (asked of files c.load_firmware_and.new.files (firmware_origin firmware) (file_origin board) r refl (CompileAnswer firmware board policy image) read.calls read.reads)
           (writes_of r image c.as_slice-3.result.now refl last.0 last.2),
       did_end (AnswerToCompile firmware board policy image (IsKnown of.told (of.held files) made) (IsKnownLarge of.told (of.held files) made)) r
           (world of files out) (world of c.write.new.files out)
           (done 0 [] (Some (record { name = image; bytes = written }))) Completed
-          (all_read bytes text _ known_first known
+          (both_read bytes text _ known_first known
           (let here = rw (c.as_slice.ensures.value, c.as_slice-2.ensures.value) at c.in_ok-compiled.ensures.ok in here image))
           refl refl
           (record {
@@ -82,8 +82,8 @@ returns g c out =
     let board = c.args.board.now in
     let image = c.args.image.now in
     let policy = c.args.policy in
-    let bytes = c.in_ok-both.both.firmware.items in
-    let text = c.in_ok-both.both.board.items in
+    let bytes = c.in_ok-both.both.first.items in
+    let text = c.in_ok-both.both.second.items in
     let written = c.in_ok-compiled.compiled.items in
     let r = Compile firmware board policy image in
     let of = g.F.Files in
@@ -91,11 +91,11 @@ returns g c out =
     let read = c.in_ok-both.ensures.read in
     let last = c.in-Err.ensures.calls in
     let made = read.calls ++ last.0 in
-    let known_first = known_before of.told (of.held files) read.calls last.0 (firmware_origin firmware) bytes read.firmware_read in
-    let known = known_before of.told (of.held files) read.calls last.0 (file_origin board) text read.board_read in (
+    let known_first = known_before of.told (of.held files) read.calls last.0 (firmware_origin firmware) bytes read.first_known in
+    let known = known_before of.told (of.held files) read.calls last.0 (file_origin board) text read.second_known in (
       made,
-      calls_joined of.called files c.load_both.new.files c.write.new.files read.calls last.0 read.are last.1,
-      All-append (IsCallOf r) read.calls last.0 (both_asked of files c.load_both.new.files firmware board r refl (CompileAnswer firmware board policy image) read.calls read.reads)
+      calls_joined of.called files c.load_firmware_and.new.files c.write.new.files read.calls last.0 read.are last.1,
+      All-append (IsCallOf r) read.calls last.0 (asked of files c.load_firmware_and.new.files (firmware_origin firmware) (file_origin board) r refl (CompileAnswer firmware board policy image) read.calls read.reads)
           (writes_of r image c.as_slice-3.result.now refl last.0 last.2),
       (
         record {
@@ -106,7 +106,7 @@ returns g c out =
         },
         record {
           outcome = done 0 [] (Some (record { name = image; bytes = written }));
-          answer = all_read bytes text _ known_first known
+          answer = both_read bytes text _ known_first known
               (let here = rw (c.as_slice.ensures.value, c.as_slice-2.ensures.value) at c.in_ok-compiled.ensures.ok in here image);
           part = record {
             printed = λ t. (0, sym (append-nil out.written));

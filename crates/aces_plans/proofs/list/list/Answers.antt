@@ -2,11 +2,10 @@ use Rattle.std.proofs.Common.{refl, sym, subst}
 use Rattle.std.proofs.lemmas.Result.{err_from_is_err_and}
 use Rattle.aces_reports.specs.declared.failure.Done.TheVariants.{Completed}
 use Rattle.base_outside.specs.Sinks.{sink}
-use Rattle.aces_words.specs.Requests.{Listing}
-use Rattle.aces_files.specs.Loads.{IsRefusal}
-use Rattle.aces_plans.specs.Both.{AreNotRead}
+use Rattle.aces_words.specs.Requests.{Listing, file_origin, firmware_origin}
+use Rattle.aces_files.specs.Loads.{IsRefusal, AreNotRead}
 use Rattle.aces_plans.specs.Answers.{ListAnswer}
-use Rattle.aces_plans.proofs.Carried.{not_read, refused, printed}
+use Rattle.aces_files.proofs.TwoFiles.{not_read, refused, printed}
 use Rattle.aces_plans.proofs.list.list.Goals as goal
 
 pub returns-in_err-both : goal.returns-in_err-both
@@ -15,18 +14,18 @@ returns-in_err-both g c =
     let board = c.args.board.now in
     let policy = c.args.policy in
     let x = err_from_is_err_and c.from_residual.result c.from_residual.ensures.1 in
-    rw x.1 (not_read g.F.Files c.args.files.now c.load_both.new.files firmware board (Listing firmware board policy) refl (ListAnswer firmware board policy) (sink g.O.Sink c.args.out.now) x.0
-    (subst (AreNotRead g.F.Files c.args.files.now c.load_both.new.files firmware board) (sym x.2) c.in_err-both.ensures.unread))
+    rw x.1 (not_read g.F.Files c.args.files.now c.load_firmware_and.new.files (firmware_origin firmware) (file_origin board) (Listing firmware board policy) refl (ListAnswer firmware board policy) (sink g.O.Sink c.args.out.now) x.0
+    (subst (AreNotRead g.F.Files c.args.files.now c.load_firmware_and.new.files (firmware_origin firmware) (file_origin board)) (sym x.2) c.in_err-both.ensures.unread))
 
 pub returns-in_err-lines : goal.returns-in_err-lines
 returns-in_err-lines g c =
     let firmware = c.args.firmware.now in
     let board = c.args.board.now in
     let policy = c.args.policy in
-    let bytes = c.in_ok-both.both.firmware.items in
-    let text = c.in_ok-both.both.board.items in
+    let bytes = c.in_ok-both.both.first.items in
+    let text = c.in_ok-both.both.second.items in
     let x = err_from_is_err_and c.from_residual-in_err-lines.result c.from_residual-in_err-lines.ensures.1 in
-    rw x.1 (refused g.F.Files c.args.files.now c.load_both.new.files firmware board (Listing firmware board policy) refl (ListAnswer firmware board policy) bytes text c.in_ok-both.ensures.read
+    rw x.1 (refused g.F.Files c.args.files.now c.load_firmware_and.new.files (firmware_origin firmware) (file_origin board) (Listing firmware board policy) refl (ListAnswer firmware board policy) bytes text c.in_ok-both.ensures.read
     (sink g.O.Sink c.args.out.now) x.0
     (subst (IsRefusal (ListAnswer firmware board policy bytes text)) (sym x.2) (rw (c.as_slice.ensures.value, c.as_slice-2.ensures.value) at c.in_err-lines.ensures.err)))
 
@@ -35,9 +34,9 @@ returns g c =
     let firmware = c.args.firmware.now in
     let board = c.args.board.now in
     let policy = c.args.policy in
-    let bytes = c.in_ok-both.both.firmware.items in
-    let text = c.in_ok-both.both.board.items in
-    printed g.F.Files c.args.files.now c.load_both.new.files firmware board (Listing firmware board policy) refl (ListAnswer firmware board policy) bytes text c.in_ok-both.ensures.read
+    let bytes = c.in_ok-both.both.first.items in
+    let text = c.in_ok-both.both.second.items in
+    printed g.F.Files c.args.files.now c.load_firmware_and.new.files (firmware_origin firmware) (file_origin board) (Listing firmware board policy) refl (ListAnswer firmware board policy) bytes text c.in_ok-both.ensures.read
     (sink g.O.Sink c.args.out.now) (sink g.O.Sink c.print.new.out) c.in_ok-lines.lines.items Completed
     (rw (c.as_slice.ensures.value, c.as_slice-2.ensures.value) at c.in_ok-lines.ensures.ok) c.print.result
     (rw c.as_slice-3.ensures.value at c.print.ensures)

@@ -1,167 +1,48 @@
-use Rattle.std.proofs.Common.{◌∙◌, inl, inr, None, refl, sym, subst, ◌++◌}
-use Rattle.std.proofs.lemmas.List.Elements.{All-append}
+use Rattle.std.proofs.Common.{refl, sym, subst}
 use Rattle.std.proofs.lemmas.Result.{err_from_is_err_and}
-use Rattle.base_outside.proofs.Paths.{calls_joined}
-use Rattle.aces_words.specs.Requests.{Where, Origin, file_origin, firmware_origin}
 use Rattle.aces_reports.specs.declared.failure.Done.TheVariants.{Completed}
 use Rattle.base_outside.specs.Sinks.{sink}
-use Rattle.aces_files.specs.CarriesOut.{IsKnown, IsKnownLarge, NamesLast}
-use Rattle.aces_files.specs.Effects.{Does, world}
-use Rattle.aces_files.specs.Known.{Held, IsCallOf}
-use Rattle.aces_files.specs.Loads.{IsLoadFailure, IsRefusal}
-use Rattle.aces_files.specs.Outcomes.{done}
-use Rattle.aces_files.proofs.Asked.{known_before, known_behind, large_behind, names_behind, reads_of}
-use Rattle.aces_files.proofs.Ends.{load_failed, refusal_did, refusal_also, refusal_names, did_end}
-use Rattle.aces_where.specs.Answers.{AnswerToWhere, WhereAnswer, firmware_large, tape_large, all_read}
+use Rattle.aces_words.specs.Requests.{Where, file_origin, firmware_origin}
+use Rattle.aces_files.specs.Loads.{IsRefusal, AreNotRead}
+use Rattle.aces_files.proofs.TwoFiles.{not_read, refused, printed}
+use Rattle.aces_where.specs.Answers.{WhereAnswer}
 use Rattle.aces_where.proofs.locating.locate.Goals as goal
 
-pub returns-in_err-bytes : goal.returns-in_err-bytes
-returns-in_err-bytes g c =
+pub returns-in_err-both : goal.returns-in_err-both
+returns-in_err-both g c =
     let firmware = c.args.firmware.now in
-    let r = Where firmware c.args.policy c.args.tape.now c.args.steps in
-    let made = c.in_err-bytes.ensures.calls in
-    let large = IsKnownLarge g.F.Files.told (g.F.Files.held c.args.files.now) made.0 in
-    let all = AnswerToWhere firmware c.args.policy c.args.tape.now c.args.steps (IsKnown g.F.Files.told (g.F.Files.held c.args.files.now) made.0) large in
-    let old = world g.F.Files c.args.files.now (sink g.O.Sink c.args.out.now) in
-    let new = world g.F.Files c.load_firmware.new.files (sink g.O.Sink c.args.out.now) in
-    let x = err_from_is_err_and c.from_residual.result c.from_residual.ensures.1 in (
-      made.0,
-      made.1,
-      reads_of r firmware (inl refl) made.0 made.2,
-      subst (Does all r old new) (sym x.1)
-          (load_failed all large r (firmware_origin firmware) old new
-          (record { held = c.load_firmware.ensures.same; write_faults = c.load_firmware.ensures.writes; out = refl })
-          (inl refl) (λ t n. inl (refl, n)) (λ e. firmware_large e) x.0
-          (subst (IsLoadFailure large old.told old.held (firmware_origin firmware) old.read_faults new.read_faults) (sym x.2) made.4)),
-      rw x.1 (subst (NamesLast made.0) (sym x.2) made.5),
-    )
-
-pub returns-in_err-text : goal.returns-in_err-text
-returns-in_err-text g c =
-    let firmware = c.args.firmware.now in
+    let policy = c.args.policy in
     let tape = c.args.tape.now in
-    let r = Where firmware c.args.policy tape c.args.steps in
-    let told = g.F.Files.told in
-    let first = c.in_ok-bytes.ensures.calls in
-    let second = c.in_err-text.ensures.calls in
-    let made = first.0 ++ second.0 in
-    let large : Held → Origin → Type 0 = λ held s. IsKnownLarge told held second.0 s in
-    let all = AnswerToWhere firmware c.args.policy tape c.args.steps (IsKnown told (g.F.Files.held c.args.files.now) made) (IsKnownLarge told (g.F.Files.held c.args.files.now) made) in
-    let old = world g.F.Files c.args.files.now (sink g.O.Sink c.args.out.now) in
-    let mid = world g.F.Files c.load_firmware.new.files (sink g.O.Sink c.args.out.now) in
-    let new = world g.F.Files c.load.new.files (sink g.O.Sink c.args.out.now) in
-    let bytes = c.in_ok-bytes.bytes.items in
-    let x = err_from_is_err_and c.from_residual-in_err-text.result c.from_residual-in_err-text.ensures.1 in
-    let failed = subst (IsLoadFailure (large mid.held) told mid.held (file_origin tape) mid.read_faults new.read_faults) (sym x.2) second.4 in
-    let held_too = subst (λ h. IsLoadFailure (large h) told h (file_origin tape) mid.read_faults new.read_faults x.0) c.load_firmware.ensures.same failed in
-    let reads_too = subst (λ k. IsLoadFailure (large old.held) told old.held (file_origin tape) k new.read_faults x.0) c.in_ok-bytes.ensures.reads held_too in
-    let known = known_before told old.held first.0 second.0 (firmware_origin firmware) bytes first.3 in (
-      made,
-      calls_joined g.F.Files.called c.args.files.now c.load_firmware.new.files c.load.new.files first.0 second.0 first.1 second.1,
-      All-append (IsCallOf r) first.0 second.0 (reads_of r firmware (inl refl) first.0 first.2) (reads_of r tape (inr (inl refl)) second.0 second.2),
-      subst (Does all r old new) (sym x.1)
-          (load_failed all (large old.held) r (file_origin tape) old new
-          (record { held = c.load.ensures.same ∙ c.load_firmware.ensures.same; write_faults = c.load.ensures.writes ∙ c.load_firmware.ensures.writes; out = refl })
-          (inr (inl refl)) (λ t n. inr ((bytes, first.3.1 t), inl (refl, n)))
-          (λ e. tape_large bytes known (large_behind told old.held first.0 second.0 (file_origin tape) e)) x.0 reads_too),
-      rw x.1 (names_behind first.0 second.0 x.0 (subst (NamesLast second.0) (sym x.2) second.5)),
-    )
+    let steps = c.args.steps in
+    let s = firmware_origin firmware in
+    let t = file_origin tape in
+    let x = err_from_is_err_and c.from_residual.result c.from_residual.ensures.1 in
+    rw x.1 (not_read g.F.Files c.args.files.now c.load_firmware_and.new.files s t (Where firmware policy tape steps) refl (WhereAnswer firmware policy tape steps) (sink g.O.Sink c.args.out.now) x.0
+    (subst (AreNotRead g.F.Files c.args.files.now c.load_firmware_and.new.files s t) (sym x.2) c.in_err-both.ensures.unread))
 
 pub returns-in_err-lines : goal.returns-in_err-lines
 returns-in_err-lines g c =
     let firmware = c.args.firmware.now in
+    let policy = c.args.policy in
     let tape = c.args.tape.now in
     let steps = c.args.steps in
-    let r = Where firmware c.args.policy tape steps in
-    let bytes = c.in_ok-bytes.bytes.items in
-    let text = c.in_ok-text.text.items in
-    let of = g.F.Files in
-    let files = c.args.files.now in
-    let first = c.in_ok-bytes.ensures.calls in
-    let second = c.in_ok-text.ensures.calls in
-    let made = first.0 ++ second.0 in
-    let all = AnswerToWhere firmware c.args.policy tape steps (IsKnown of.told (of.held files) made) (IsKnownLarge of.told (of.held files) made) in
-    let some = WhereAnswer firmware c.args.policy tape steps bytes text in
-    let old = world of files (sink g.O.Sink c.args.out.now) in
-    let new = world of c.load.new.files (sink g.O.Sink c.args.out.now) in
-    let known_first = known_before of.told (of.held files) first.0 second.0 (firmware_origin firmware) bytes first.3 in
-    let known = known_behind of.told (of.held files) first.0 second.0 (file_origin tape) text (rw c.load_firmware.ensures.same at second.3) in
+    let s = firmware_origin firmware in
+    let t = file_origin tape in
+    let both = c.in_ok-both.both in
     let x = err_from_is_err_and c.from_residual-in_err-lines.result c.from_residual-in_err-lines.ensures.1 in
-    let failed = subst (IsRefusal some) (sym x.2) (rw (c.as_slice.ensures.value, c.as_slice-2.ensures.value) at c.in_err-lines.ensures.err) in (
-      made,
-      calls_joined of.called files c.load_firmware.new.files c.load.new.files first.0 second.0 first.1 second.1,
-      All-append (IsCallOf r) first.0 second.0 (reads_of r firmware (inl refl) first.0 first.2) (reads_of r tape (inr (inl refl)) second.0 second.2),
-      subst (Does all r old new) (sym x.1)
-          (refusal_did all r old new
-          (record { held = c.load.ensures.same ∙ c.load_firmware.ensures.same; write_faults = c.load.ensures.writes ∙ c.load_firmware.ensures.writes; out = refl })
-          (c.in_ok-text.ensures.reads ∙ c.in_ok-bytes.ensures.reads) x.0
-          (refusal_also some all (λ o a. all_read bytes text o known_first known a) x.0 failed)),
-      rw x.1 (refusal_names made some x.0 failed),
-    )
-
-pub returns-in-Ok : goal.returns-in-Ok
-returns-in-Ok g c =
-    let firmware = c.args.firmware.now in
-    let tape = c.args.tape.now in
-    let steps = c.args.steps in
-    let r = Where firmware c.args.policy tape steps in
-    let bytes = c.in_ok-bytes.bytes.items in
-    let text = c.in_ok-text.text.items in
-    let of = g.F.Files in
-    let files = c.args.files.now in
-    let first = c.in_ok-bytes.ensures.calls in
-    let second = c.in_ok-text.ensures.calls in
-    let made = first.0 ++ second.0 in
-    let known_first = known_before of.told (of.held files) first.0 second.0 (firmware_origin firmware) bytes first.3 in
-    let known = known_behind of.told (of.held files) first.0 second.0 (file_origin tape) text (rw c.load_firmware.ensures.same at second.3) in (
-      made,
-      calls_joined of.called files c.load_firmware.new.files c.load.new.files first.0 second.0 first.1 second.1,
-      All-append (IsCallOf r) first.0 second.0 (reads_of r firmware (inl refl) first.0 first.2) (reads_of r tape (inr (inl refl)) second.0 second.2),
-      did_end (AnswerToWhere firmware c.args.policy tape steps (IsKnown of.told (of.held files) made) (IsKnownLarge of.told (of.held files) made)) r
-          (world of files (sink g.O.Sink c.args.out.now)) (world of c.load.new.files (sink g.O.Sink c.put.new.self))
-          (done 0 c.in_ok-lines.lines.items None) Completed
-          (all_read bytes text _ known_first known (rw (c.as_slice.ensures.value, c.as_slice-2.ensures.value) at c.in_ok-lines.ensures.ok))
-          refl refl
-          (record {
-            printed = λ t. rw c.as_slice-3.ensures.value at (c.in-Ok.ensures.bytes t);
-            held = c.load.ensures.same ∙ c.load_firmware.ensures.same;
-            read_faults = c.in_ok-text.ensures.reads ∙ c.in_ok-bytes.ensures.reads;
-            write_faults = c.load.ensures.writes ∙ c.load_firmware.ensures.writes;
-            faults = c.in-Ok.ensures.counts.only_failed;
-          }),
-      tt,
-    )
+    rw x.1 (refused g.F.Files c.args.files.now c.load_firmware_and.new.files s t (Where firmware policy tape steps) refl (WhereAnswer firmware policy tape steps) both.first.items both.second.items c.in_ok-both.ensures.read (sink g.O.Sink c.args.out.now) x.0
+    (subst (IsRefusal (WhereAnswer firmware policy tape steps both.first.items both.second.items)) (sym x.2)
+    (rw (c.as_slice.ensures.value, c.as_slice-2.ensures.value) at c.in_err-lines.ensures.err)))
 
 pub returns : goal.returns
 returns g c =
     let firmware = c.args.firmware.now in
+    let policy = c.args.policy in
     let tape = c.args.tape.now in
     let steps = c.args.steps in
-    let r = Where firmware c.args.policy tape steps in
-    let bytes = c.in_ok-bytes.bytes.items in
-    let text = c.in_ok-text.text.items in
-    let of = g.F.Files in
-    let files = c.args.files.now in
-    let first = c.in_ok-bytes.ensures.calls in
-    let second = c.in_ok-text.ensures.calls in
-    let made = first.0 ++ second.0 in
-    let known_first = known_before of.told (of.held files) first.0 second.0 (firmware_origin firmware) bytes first.3 in
-    let known = known_behind of.told (of.held files) first.0 second.0 (file_origin tape) text (rw c.load_firmware.ensures.same at second.3) in (
-      made,
-      calls_joined of.called files c.load_firmware.new.files c.load.new.files first.0 second.0 first.1 second.1,
-      All-append (IsCallOf r) first.0 second.0 (reads_of r firmware (inl refl) first.0 first.2) (reads_of r tape (inr (inl refl)) second.0 second.2),
-      (
-        record {
-          rose = c.in-Err.ensures.cause;
-          held = c.load.ensures.same ∙ c.load_firmware.ensures.same;
-          read_faults = c.in_ok-text.ensures.reads ∙ c.in_ok-bytes.ensures.reads;
-          write_faults = c.load.ensures.writes ∙ c.load_firmware.ensures.writes;
-        },
-        record {
-          outcome = done 0 c.in_ok-lines.lines.items None;
-          answer = all_read bytes text _ known_first known (rw (c.as_slice.ensures.value, c.as_slice-2.ensures.value) at c.in_ok-lines.ensures.ok);
-          part = record { printed = λ t. rw c.as_slice-3.ensures.value at c.in-Err.ensures.failed; held = c.load.ensures.same ∙ c.load_firmware.ensures.same };
-        },
-      ),
-      tt,
-    )
+    let s = firmware_origin firmware in
+    let t = file_origin tape in
+    let both = c.in_ok-both.both in
+    printed g.F.Files c.args.files.now c.load_firmware_and.new.files s t (Where firmware policy tape steps) refl (WhereAnswer firmware policy tape steps) both.first.items both.second.items c.in_ok-both.ensures.read
+    (sink g.O.Sink c.args.out.now) (sink g.O.Sink c.print.new.out) c.in_ok-lines.lines.items Completed
+    (rw (c.as_slice.ensures.value, c.as_slice-2.ensures.value) at c.in_ok-lines.ensures.ok) c.print.result (rw c.as_slice-3.ensures.value at c.print.ensures)

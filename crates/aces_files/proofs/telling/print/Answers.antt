@@ -1,5 +1,5 @@
 use Rattle.std.proofs.Common.{refl}
-use Rattle.aces_plans.proofs.both.print.Goals as goal
+use Rattle.aces_files.proofs.telling.print.Goals as goal
 
 pub returns-in-Ok : goal.returns-in-Ok
 returns-in-Ok g c = (refl, (c.in-Ok.ensures.counts.only_failed, c.in-Ok.ensures.bytes))
