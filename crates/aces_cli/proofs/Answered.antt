@@ -27,6 +27,7 @@ use Rattle.aces_explain.specs.Answers.{ExplainAnswer}
 use Rattle.aces_explain.specs.Plans.{ExplainPlanAnswer}
 use Rattle.aces_cli.specs.Answer.{CompileAnswer, Answer, no_request, to_request}
 use Rattle.aces_cli.specs.Endings.{IsPlain, IsAnswered, IsPartly, TellsUnread}
+use Rattle.aces_cli.specs.Seen.{between}
 
 -- answers from what is known are answers from what follows of it
 module _ (Has Had : Origin → List ℕ → Type 0) (Exceeds Exceeded : Origin → Type 0)
@@ -63,7 +64,7 @@ nothing_more old new o q r p w = record {
 }
 
 pub usage_answered : (Has : Origin → List ℕ → Type 0) (Exceeds : Origin → Type 0) (words : List (List ℕ)) (w : World) (err_old err_new : SinkState)
-    → IsUsage words → Says err_old err_new usage_line → IsAnswered Has Exceeds words w w err_old err_new 2
+    → IsUsage words → Says err_old err_new usage_line → IsAnswered Has Exceeds words (between w w err_old err_new) 2
 usage_answered Has Exceeds words w err_old err_new u s = record {
   outcome = usage;
   answer = no_request u;
@@ -75,7 +76,7 @@ usage_answered Has Exceeds words w err_old err_new u s = record {
 module _ (Has : Origin → List ℕ → Type 0) (Exceeds : Origin → Type 0) (words : List (List ℕ)) (r : Request) (asks : Asks words r)
     (old new : World) (err_old err_new : SinkState) where
   pub answered : (e : Result Done Failure) (s : ℕ) → s ≡ status_of e → Does (Answer r Has Exceeds) r old new e → Says err_old err_new (line_of e)
-      → IsPlain s → IsAnswered Has Exceeds words old new err_old err_new s
+      → IsPlain s → IsAnswered Has Exceeds words (between old new err_old err_new) s
   answered (Ok Completed) s q d l p = record {
     outcome = d.outcome;
     answer = to_request r d.outcome asks d.answer;
@@ -144,10 +145,10 @@ module _ (Has : Origin → List ℕ → Type 0) (Exceeds : Origin → Type 0) (w
   answered (Err Unprinted) s q d l p = absurd (p.no_write_fault q)
   answered (Err NoMemory) s q d l p = absurd (p.no_want_of_memory q)
 
-  part_of : IsPart (Answer r Has Exceeds) r old new → IsPartly Has Exceeds words old new
+  part_of : IsPart (Answer r Has Exceeds) r old new → IsPartly Has Exceeds words (between old new err_old err_new)
   part_of p = record { outcome = p.outcome; answer = to_request r p.outcome asks p.answer; part = p.part }
 
-  pub partly : (e : Result Done Failure) → status_of e ≡ 5 → Does (Answer r Has Exceeds) r old new e → IsPartly Has Exceeds words old new
+  pub partly : (e : Result Done Failure) → status_of e ≡ 5 → Does (Answer r Has Exceeds) r old new e → IsPartly Has Exceeds words (between old new err_old err_new)
   partly (Ok Completed) q d = let f : ⊥ = omega (arith, q) in absurd f
   partly (Ok RunFailed) q d = let f : ⊥ = omega (arith, q) in absurd f
   partly (Ok Negative) q d = let f : ⊥ = omega (arith, q) in absurd f
@@ -162,7 +163,7 @@ module _ (Has : Origin → List ℕ → Type 0) (Exceeds : Origin → Type 0) (w
   partly (Err Unprinted) q d = part_of d.1
   partly (Err NoMemory) q d = let f : ⊥ = omega (arith, q) in absurd f
 
-  in_part : (s : Request) → IsPrintedInPart (Answer r Has Exceeds) r old new s → (new.out ≡ old.out) ⊎ IsPartly Has Exceeds words old new
+  in_part : (s : Request) → IsPrintedInPart (Answer r Has Exceeds) r old new s → (new.out ≡ old.out) ⊎ IsPartly Has Exceeds words (between old new err_old err_new)
   in_part (Run image tape steps) h = inl h
   in_part (Bin image file) h = inl h
   in_part (Compile firmware board policy image) h = inl h
@@ -183,7 +184,7 @@ module _ (Has : Origin → List ℕ → Type 0) (Exceeds : Origin → Type 0) (w
   in_part (Explain firmware) h = inl h
   in_part (ExplainPlan firmware board policy) h = inl h
 
-  pub printed_in_part : (e : Result Done Failure) → status_of e ≡ 6 → Does (Answer r Has Exceeds) r old new e → (new.out ≡ old.out) ⊎ IsPartly Has Exceeds words old new
+  pub printed_in_part : (e : Result Done Failure) → status_of e ≡ 6 → Does (Answer r Has Exceeds) r old new e → (new.out ≡ old.out) ⊎ IsPartly Has Exceeds words (between old new err_old err_new)
   printed_in_part (Ok Completed) q d = let f : ⊥ = omega (arith, q) in absurd f
   printed_in_part (Ok RunFailed) q d = let f : ⊥ = omega (arith, q) in absurd f
   printed_in_part (Ok Negative) q d = let f : ⊥ = omega (arith, q) in absurd f
@@ -201,7 +202,7 @@ module _ (Has : Origin → List ℕ → Type 0) (Exceeds : Origin → Type 0) (w
 module _ (A : Outcome → Type 0) (words : List (List ℕ)) (r : Request) (asks : Asks words r)
     (old new : World) (err_old err_new : SinkState) where
   pub unread : (calls : List Call) (e : Result Done Failure) → status_of e ≡ 4 → Does A r old new e → IfErr e (NamesLast calls) → Says err_old err_new (line_of e)
-      → TellsUnread calls words old new err_old err_new
+      → TellsUnread calls words (between old new err_old err_new)
   unread calls (Ok Completed) q d n l = let f : ⊥ = omega (arith, q) in absurd f
   unread calls (Ok RunFailed) q d n l = let f : ⊥ = omega (arith, q) in absurd f
   unread calls (Ok Negative) q d n l = let f : ⊥ = omega (arith, q) in absurd f

@@ -112,6 +112,6 @@ compile_answer Has Exceed words firmware board policy image o asks (answers.to_r
     subst (λ (q : Request). Answer q Has Exceed p) (requests_are_one words r (Compile firmware board policy image) asked asks) a
 
 pub bounded_calls_are_followed : TextsAreUnique → BoardsAreOne → BoundedCallsAreFollowed
-bounded_calls_are_followed unique one words old new err_old err_new told is firmware board policy image asks s =
-    stack_by unique one old.told told old.held new.held firmware board policy image s.outcome is.outcome s.answer s.ended
-    (compile_answer (Holds old.held) (Exceeds old.held) words firmware board policy image is.outcome asks is.answer) is.ended is.all.held
+bounded_calls_are_followed unique one words v told is firmware board policy image asks s =
+    stack_by unique one v.old.told told v.old.held v.new.held firmware board policy image s.outcome is.outcome s.answer s.ended
+    (compile_answer (Holds v.old.held) (Exceeds v.old.held) words firmware board policy image is.outcome asks is.answer) is.ended is.all.held

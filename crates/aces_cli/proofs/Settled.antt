@@ -1,6 +1,7 @@
 -- Where no call failed and the files are there, a command ends with an outcome of its request, or for want of memory.
 use Rattle.std.proofs.Common.{◌≡◌, ℕ, ◌<◌, ◌⊎◌, inl, inr, List, [], ◌∷◌, true, false, Option, Result, Ok, Err, IsTrue, IsNone, refl, ap, sym, ◌∙◌, subst, arith}
 use Rattle.base_outside.specs.Counts.{Rose, Stayed}
+use Rattle.base_outside.specs.Sinks.{SinkState}
 use Rattle.aces_reports.specs.declared.failure.Done.{Done}
 use Rattle.aces_reports.specs.declared.failure.Done.TheVariants.{Completed, RunFailed, Negative, FaultTold, NoRoomTold}
 use Rattle.aces_reports.specs.declared.failure.Failure.{Failure}
@@ -12,6 +13,7 @@ use Rattle.aces_files.specs.Outcomes.{Outcome, refused, past_limit, denied, no_r
 use Rattle.aces_cli.specs.Answer.{Answer}
 use Rattle.aces_files.specs.Effects.{World, Does, IsUnread}
 use Rattle.aces_cli.specs.Endings.{IsPlain}
+use Rattle.aces_cli.specs.Seen.{between}
 use Rattle.aces_cli.specs.Complete.{NoneFailed, AreThere, HasFiles, IsGood, run, bin, compile, check, source, list, stack, audit, tables, where_it_is, who, symbols, help, selftest, watch, state, why, explain, explain_plan, IsDoneBy, GoodRequestsAreDone}
 use Rattle.aces_words.proofs.Requests.{requests_are_one}
 
@@ -68,7 +70,7 @@ record IsSettled (A : Outcome → Type 0) (s : ℕ) : Type 0 where
   pub ended : outcome.status ≡ s
   pub plain : IsPlain s
 
-module _ (A : Outcome → Type 0) (r : Request) (old new : World) (told : IsTrue old.told) (none : NoneFailed old new) (there : AreThere old.held (origins r)) where
+module _ (A : Outcome → Type 0) (r : Request) (old new : World) (err_old err_new : SinkState) (told : IsTrue old.told) (none : NoneFailed (between old new err_old err_new)) (there : AreThere old.held (origins r)) where
   not_unread : (name : List ℕ) → IsUnread r old new name → ⊥
   not_unread name u = elim u.cause [ inl rose ↦ not_risen old.read_faults new.read_faults none.read_faults rose | inr gone ↦ not_missing old.held (origins r) name there gone.1 ]
 
@@ -87,12 +89,13 @@ module _ (A : Outcome → Type 0) (r : Request) (old new : World) (told : IsTrue
   settles (Err Unprinted) d = absurd (not_risen old.out.faults new.out.faults none.out_faults d.0.rose)
   settles (Err NoMemory) d = inr refl
 
-module _ (words : List (List ℕ)) (r : Request) (asks : Asks words r) (old new : World) (told : IsTrue old.told) (none : NoneFailed old new)
+module _ (words : List (List ℕ)) (r : Request) (asks : Asks words r) (old new : World) (err_old err_new : SinkState) (told : IsTrue old.told)
+    (none : NoneFailed (between old new err_old err_new))
     (e : Result Done Failure) (s : ℕ) (ends : s ≡ status_of e) where
   -- the files are there
   pub settled : (A : Outcome → Type 0) → Does A r old new e → HasFiles old.held words → IsPlain s ⊎ (s ≡ 6)
   settled A d files =
-      elim (settles A r old new told none (files r asks) e d) [
+      elim (settles A r old new err_old err_new told none (files r asks) e d) [
         | inl o ↦ inl (subst IsPlain (sym ends) o.plain)
         | inr six ↦ inr (ends ∙ six)
       ]
@@ -100,7 +103,7 @@ module _ (words : List (List ℕ)) (r : Request) (asks : Asks words r) (old new 
   -- what they hold is good
   good_is_done : GoodRequestsAreDone → Does (Answer r (Holds old.held) (Exceeds old.held)) r old new e → IsGood (Holds old.held) r → IsDoneBy r s ⊎ (s ≡ 6)
   good_is_done law d good =
-      elim (settles (Answer r (Holds old.held) (Exceeds old.held)) r old new told none (good_is_there old.held r good) e d) [
+      elim (settles (Answer r (Holds old.held) (Exceeds old.held)) r old new err_old err_new told none (good_is_there old.held r good) e d) [
         | inl o ↦ inl (subst (IsDoneBy r) (o.ended ∙ sym ends) (law old.held r o.outcome good o.answer))
         | inr six ↦ inr (ends ∙ six)
       ]

@@ -8,7 +8,6 @@ use Rattle.plan_model.specs.declared.plan.Board.{Board}
 use Rattle.plan_board.specs.Reading as boards
 use Rattle.plan_model.specs.declared.policy.Policy.{Policy}
 use Rattle.aces_words.specs.Requests.{file_origin, firmware_origin, Compile, Asks}
-use Rattle.base_outside.specs.Sinks.{SinkState}
 use Rattle.plan_compartments.specs.Divisions.{division}
 use Rattle.monitor_model.specs.Layout.{initial_word_count}
 use Rattle.image_promises.specs.Planned.{planned_tables}
@@ -16,10 +15,10 @@ use Rattle.aces_compiler.specs.ByPolicy.{IsImageBy}
 use Rattle.aces_stack_laws.specs.Whole.{RefinesWhole}
 use Rattle.aces_files.specs.Known.{Held, Holds, Exceeds}
 use Rattle.aces_files.specs.Outcomes.{Outcome}
-use Rattle.aces_files.specs.Effects.{World}
 use Rattle.aces_firmwares.specs.Firmwares.{IsFirmware}
 use Rattle.aces_plans.specs.Answers.{AnswerToStack}
 use Rattle.aces_cli.specs.Endings.{IsAnswered}
+use Rattle.aces_cli.specs.Seen.{Seen}
 
 -- a name holds the text of an image that the firmware in a file gets for the board in another by the policy; and the image refines the firmware
 -- with no premise but that the source meets no fault
@@ -54,5 +53,5 @@ FollowsBounded words old new =
 -- a call that did what its words ask, with status 0, has this: the statement of a law
 abbrev pub BoundedCallsAreFollowed : Type 0
 BoundedCallsAreFollowed =
-    (words : List (List ℕ)) (old new : World) (err_old err_new : SinkState) → IsTrue old.told →
-    IsAnswered (Holds old.held) (Exceeds old.held) words old new err_old err_new 0 → FollowsBounded words old.held new.held
+    (words : List (List ℕ)) (s : Seen) → IsTrue s.old.told →
+    IsAnswered (Holds s.old.held) (Exceeds s.old.held) words s 0 → FollowsBounded words s.old.held s.new.held

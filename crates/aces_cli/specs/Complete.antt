@@ -16,16 +16,16 @@ use Rattle.aces_words.specs.Requests.{Request, Run, Bin, Compile, Check, Source,
 use Rattle.aces_files.specs.Known.{Held, Holds, Exceeds}
 use Rattle.aces_files.specs.Outcomes.{Outcome}
 use Rattle.aces_firmwares.specs.Firmwares.{IsFirmware}
-use Rattle.aces_files.specs.Effects.{World}
 use Rattle.ir_generator.specs.Made.{made}
 use Rattle.aces_selftest.specs.TestBoard.{test_board}
 use Rattle.aces_cli.specs.Answer.{Answer}
+use Rattle.aces_cli.specs.Seen.{Seen}
 
 -- no call on files or on what is printed failed
-pub record NoneFailed (old new : World) : Type 0 where
-  pub read_faults : Stayed old.read_faults new.read_faults
-  pub write_faults : Stayed old.write_faults new.write_faults
-  pub out_faults : Stayed old.out.faults new.out.faults
+pub record NoneFailed (s : Seen) : Type 0 where
+  pub read_faults : Stayed s.old.read_faults s.new.read_faults
+  pub write_faults : Stayed s.old.write_faults s.new.write_faults
+  pub out_faults : Stayed s.old.out.faults s.new.out.faults
 
 -- each of these files is there
 abbrev pub AreThere : Held → List Origin → Type 0

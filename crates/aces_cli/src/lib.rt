@@ -10,8 +10,8 @@ ghost use Rattle.base_outside.specs.Calls.{Call, Calls};
 ghost use Rattle.aces_words.specs.Requests.{Request, Asks, IsUsage};
 ghost use Rattle.aces_files.specs.Known.{Holds, Exceeds};
 ghost use Rattle.aces_cli.specs.Complete.{NoneFailed, HasFiles, IsGood, IsDoneBy};
+ghost use Rattle.aces_cli.specs.Seen.{seen};
 ghost use Rattle.base_outside.specs.Sinks.{sink};
-ghost use Rattle.aces_files.specs.Effects.{world};
 ghost use Rattle.aces_cli.specs.Bounded.{FollowsBounded};
 ghost use Rattle.aces_cli.specs.Endings.{IsPlain, IsAnswered, IsPartly, IsByCalls, TellsUnwritten, TellsUnprinted, TellsOutOfMemory};
 
@@ -46,53 +46,34 @@ pub fn aces<F: Files, O: Sink, E: Sink>(
     // the firmware reaches, or a memory of it has no room (`PlanAnswer`, and `IsPlanTold` of `explain`).
     ensures answer { IsTrue F.told → IsPlain result →
         IsAnswered (Holds (F.held files.old)) (Exceeds (F.held files.old)) (map string_bytes words.now)
-        (world F.Files files.old (sink O.Sink out.old))
-        (world F.Files files.new (sink O.Sink out.new))
-        (sink E.Sink err.old) (sink E.Sink err.new) result }
+        (seen F.Files O.Sink E.Sink files.old files.new out.old out.new err.old err.new) result }
     ensures calls { (calls : List Call) × Calls F.called files.old calls files.new
         × IsByCalls calls (map string_bytes words.now)
-        (world F.Files files.old (sink O.Sink out.old))
-        (world F.Files files.new (sink O.Sink out.new))
-        (sink E.Sink err.old) (sink E.Sink err.new) result }
+        (seen F.Files O.Sink E.Sink files.old files.new out.old out.new err.old err.new) result }
 
     ensures read_faults { (result ≡ 4) ⊎ (F.read_faults files.new ≡ F.read_faults files.old) }
 
-    ensures unwritten { result ≡ 5 → TellsUnwritten (map string_bytes words.now)
-        (world F.Files files.old (sink O.Sink out.old))
-        (world F.Files files.new (sink O.Sink out.new))
-        (sink E.Sink err.old) (sink E.Sink err.new)
-        ⊎ TellsUnprinted
-        (world F.Files files.old (sink O.Sink out.old))
-        (world F.Files files.new (sink O.Sink out.new))
-        (sink E.Sink err.old) (sink E.Sink err.new) }
+    ensures unwritten { result ≡ 5 → TellsUnwritten (map string_bytes words.now) (seen F.Files O.Sink E.Sink files.old files.new out.old out.new err.old err.new)
+        ⊎ TellsUnprinted (seen F.Files O.Sink E.Sink files.old files.new out.old out.new err.old err.new) }
     ensures write_faults { (result ≡ 5) ⊎ ((F.write_faults files.new ≡ F.write_faults files.old)
         × (O.faults out.new ≡ O.faults out.old)) }
 
     // What was printed and written before a fault is a prefix of what the words ask.
     ensures partly { IsTrue F.told → result ≡ 5 →
         IsPartly (Holds (F.held files.old)) (Exceeds (F.held files.old)) (map string_bytes words.now)
-        (world F.Files files.old (sink O.Sink out.old))
-        (world F.Files files.new (sink O.Sink out.new)) }
+        (seen F.Files O.Sink E.Sink files.old files.new out.old out.new err.old err.new) }
 
     // After want of memory nothing was printed, but of a run of the source the first lines.
-    ensures memory { result ≡ 6 → TellsOutOfMemory (map string_bytes words.now)
-        (world F.Files files.old (sink O.Sink out.old))
-        (world F.Files files.new (sink O.Sink out.new))
-        (sink E.Sink err.old) (sink E.Sink err.new) }
+    ensures memory { result ≡ 6 → TellsOutOfMemory (map string_bytes words.now) (seen F.Files O.Sink E.Sink files.old files.new out.old out.new err.old err.new) }
     ensures printed_in_part { IsTrue F.told → result ≡ 6 → (sink O.Sink out.new ≡ sink O.Sink out.old)
         ⊎ IsPartly (Holds (F.held files.old)) (Exceeds (F.held files.old)) (map string_bytes words.now)
-        (world F.Files files.old (sink O.Sink out.old))
-        (world F.Files files.new (sink O.Sink out.new)) }
+        (seen F.Files O.Sink E.Sink files.old files.new out.old out.new err.old err.new) }
 
     // Where contents are told and no call failed, a command whose files are there ends by what they hold, or for want of memory; and
     // where what they hold is good, all was done or memory ran out.
-    ensures settled { IsTrue F.told → NoneFailed
-        (world F.Files files.old (sink O.Sink out.old))
-        (world F.Files files.new (sink O.Sink out.new)) →
+    ensures settled { IsTrue F.told → NoneFailed (seen F.Files O.Sink E.Sink files.old files.new out.old out.new err.old err.new) →
         HasFiles (F.held files.old) (map string_bytes words.now) → IsPlain result ⊎ (result ≡ 6) }
-    ensures complete { IsTrue F.told → NoneFailed
-        (world F.Files files.old (sink O.Sink out.old))
-        (world F.Files files.new (sink O.Sink out.new)) →
+    ensures complete { IsTrue F.told → NoneFailed (seen F.Files O.Sink E.Sink files.old files.new out.old out.new err.old err.new) →
         (r : Request) → Asks (map string_bytes words.now) r → IsGood (Holds (F.held files.old)) r →
         IsDoneBy r result ⊎ (result ≡ 6) }
 

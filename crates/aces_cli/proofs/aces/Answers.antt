@@ -6,6 +6,7 @@ use Rattle.aces_files.specs.Known.{Holds, Exceeds, WasRead, WasTooLarge, IsCallO
 use Rattle.aces_files.specs.CarriesOut.{IsKnown, IsKnownLarge}
 use Rattle.aces_cli.specs.Answer.{Answer}
 use Rattle.aces_cli.specs.Endings.{IsPlain, IsAnswered}
+use Rattle.aces_cli.specs.Seen.{between}
 use Rattle.base_outside.specs.Sinks.{sink}
 use Rattle.aces_files.specs.Effects.{world}
 use Rattle.aces_files.proofs.Ends.{did_also, held_stays}
@@ -132,7 +133,7 @@ returns-in-Some-clause-settled g c told none there =
     let d = c.perform-ended.ensures in
     let r = request_of c.in-Some.command in
     settled (map (string_bytes {Z = Global}) c.args.words.now) r c.in-Some.ensures.command
-    (world of files (sink g.O.Sink c.args.out.now)) (world of c.perform-ended.new.files (sink g.O.Sink c.perform-ended.new.out)) told none c.perform-ended.result c.report.result c.report.ensures.status
+    (world of files (sink g.O.Sink c.args.out.now)) (world of c.perform-ended.new.files (sink g.O.Sink c.perform-ended.new.out)) (sink g.E.Sink c.args.err.now) (sink g.E.Sink c.report.new.err) told none c.perform-ended.result c.report.result c.report.ensures.status
     (Answer r (IsKnown of.told (of.held files) d.0) (IsKnownLarge of.told (of.held files) d.0)) d.3 there
 
 pub returns-in-Some-clause-complete : goal.returns-in-Some-clause-complete
@@ -144,7 +145,7 @@ returns-in-Some-clause-complete g c told none q asks good =
     let old = world of files (sink g.O.Sink c.args.out.now) in
     let new = world of c.perform-ended.new.files (sink g.O.Sink c.perform-ended.new.out) in
     let also = answer_also (IsKnown of.told (of.held files) d.0) (Holds (of.held files)) (IsKnownLarge of.told (of.held files) d.0) (Exceeds (of.held files)) (λ s b k. k.1 told) (λ s k. k.1 told) r in
-    complete (map (string_bytes {Z = Global}) c.args.words.now) r c.in-Some.ensures.command old new told none c.perform-ended.result c.report.result c.report.ensures.status
+    complete (map (string_bytes {Z = Global}) c.args.words.now) r c.in-Some.ensures.command old new (sink g.E.Sink c.args.err.now) (sink g.E.Sink c.report.new.err) told none c.perform-ended.result c.report.result c.report.ensures.status
     c.good_requests.ensures
     (did_also (Answer r (IsKnown of.told (of.held files) d.0) (IsKnownLarge of.told (of.held files) d.0)) (Answer r (Holds (of.held files)) (Exceeds (of.held files))) also r old new c.perform-ended.result d.3)
     q asks good
@@ -169,4 +170,4 @@ returns-in-Some-clause-bounded g c told zero =
     let did = did_also (Answer r (IsKnown of.told (of.held files) d.0) (IsKnownLarge of.told (of.held files) d.0)) (Answer r has exceeds) also r old new c.perform-ended.result d.3 in
     let is = answered has exceeds words r c.in-Some.ensures.command old new err_old err_new c.perform-ended.result c.report.result c.report.ensures.status did
     c.report.ensures.line (subst IsPlain (sym zero) (is_plain 0 (inl (omega arith)))) in
-    c.bounded_calls.ensures words old new err_old err_new told (subst (IsAnswered has exceeds words old new err_old err_new) zero is)
+    c.bounded_calls.ensures words (between old new err_old err_new) told (subst (IsAnswered has exceeds words (between old new err_old err_new)) zero is)
