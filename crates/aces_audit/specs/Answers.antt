@@ -14,20 +14,27 @@ use Rattle.aces_files.specs.Outcomes.{Outcome, done, refused}
 use Rattle.aces_audit.specs.AnswerLine.{answer_line, answer_status}
 use Rattle.aces_audit.specs.Guarded.{IsGuardedWhereYes}
 
--- the answer to `audit` on the bytes of the image: what the checks find, and what holds of an image that is answered yes
-pub data AuditAnswer (image : List ℕ) (bytes : List ℕ) : Outcome → Type 0 where
-  no_image : (f : Fault) → IsNoImage bytes f → AuditAnswer image bytes (refused image f)
-  told : (i : Image) (a : Audit) → IsText i bytes → IsAudit i a → IsGuardedWhereYes i a → AuditAnswer image bytes (done (answer_status a) (answer_line a) None)
+-- an answer on the bytes of the image, by what is printed of the image and of what the checks find: what they find, and what holds of an image that is
+-- answered yes
+pub data ImageAnswer (text : Image → Audit → List ℕ) (image : List ℕ) (bytes : List ℕ) : Outcome → Type 0 where
+  no_image : (f : Fault) → IsNoImage bytes f → ImageAnswer text image bytes (refused image f)
+  told : (i : Image) (a : Audit) → IsText i bytes → IsAudit i a → IsGuardedWhereYes i a → ImageAnswer text image bytes (done (answer_status a) (text i a) None)
 
--- what `tables` prints of an image that is answered so
+-- what `audit` prints of an image that is answered so
+abbrev pub audit_text : Image → Audit → List ℕ
+audit_text i a = answer_line a
+
+-- what `tables` prints of it: what the tables say, where `audit` says yes, and else the line of `audit`
 abbrev pub tables_text : Image → Audit → List ℕ
 tables_text i (Yes compartments sites) = table_lines i (own_tables i)
 tables_text i (No check at) = answer_line (No check at)
 
--- the answer to `tables`: what the tables say, where `audit` says yes, and else the line of `audit`
-pub data TablesAnswer (image : List ℕ) (bytes : List ℕ) : Outcome → Type 0 where
-  no_image : (f : Fault) → IsNoImage bytes f → TablesAnswer image bytes (refused image f)
-  told : (i : Image) (a : Audit) → IsText i bytes → IsAudit i a → IsGuardedWhereYes i a → TablesAnswer image bytes (done (answer_status a) (tables_text i a) None)
+-- the answers to `audit` and to `tables` on the bytes of the image
+abbrev pub AuditAnswer : (image bytes : List ℕ) → Outcome → Type 0
+AuditAnswer = ImageAnswer audit_text
+
+abbrev pub TablesAnswer : (image bytes : List ℕ) → Outcome → Type 0
+TablesAnswer = ImageAnswer tables_text
 
 -- the answers to both requests
 abbrev pub AnswerToAudit : (image : List ℕ) (Has : Origin → List ℕ → Type 0) (Exceeds : Origin → Type 0) → Outcome → Type 0
