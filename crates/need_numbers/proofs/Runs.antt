@@ -1,8 +1,6 @@
 -- Runs of numbers.
-use Rattle.std.proofs.Common.{◌≡◌, ℕ, zero, suc, ◌+◌, ◌-◌, ◌<◌, ◌≤◌, Bool, true, false, ◌||◌, List, [], ◌∷◌, ◌++◌, length, refl, sym, ap, ◌∙◌, subst, arith, nat_eq, nat_lt, nat_le, ◌⊎◌, inl, inr, Option, Some, None, slice_get}
+use Rattle.std.proofs.Common.{◌≡◌, ℕ, zero, suc, ◌+◌, ◌<◌, ◌≤◌, Bool, true, false, ◌||◌, List, [], ◌∷◌, ◌++◌, length, refl, sym, ap, ◌∙◌, subst, arith, nat_eq, nat_lt, nat_le, ◌⊎◌, inl, inr, Some, None, slice_get}
 use Rattle.std.proofs.lemmas.Bool.{false≢true, ltb-true, leb-true, lt-ltb, eqb-true, eq-eqb, or_left, or_right, or_cases}
-use Rattle.std.specs.Prelude.{not, is_some}
-use Rattle.std.proofs.lemmas.List.{append-nil}
 use Rattle.base_laws.proofs.Tests.{same_tests}
 use Rattle.need_numbers.specs.Rows.{has}
 use Rattle.need_numbers.specs.Stretches.{run}
@@ -74,18 +72,6 @@ pub get_right : (xs ys : List ℕ) (p q : ℕ) → p ≡ length xs + q → slice
 get_right [] ys p q e = let f : p ≡ q = omega arith in ap (slice_get ys) f
 get_right (x ∷ xs) ys zero q e = absurd (omega arith)
 get_right (x ∷ xs) ys (suc p) q e = get_right xs ys p q (omega arith)
-
--- the number at a place of two lists, of which one is behind the other
-pub among_first : (xs ys : List ℕ) (p : ℕ) (r : Option ℕ) → p < length xs → r ≡ slice_get xs p → r ≡ slice_get (xs ++ ys) p
-among_first xs ys p r l e = e ∙ sym (get_left xs ys p l)
-
-pub among_others : (xs ys : List ℕ) (p : ℕ) (r : Option ℕ) → length xs ≤ p → r ≡ slice_get ys (p - length xs) → r ≡ slice_get (xs ++ ys) p
-among_others xs ys p r l e = e ∙ sym (get_right xs ys p (p - length xs) (omega arith))
-
--- one number more behind the first of two lists, where the second has none
-pub behind_first : (xs ys : List ℕ) (o : ℕ) (b : Bool) → is_some (slice_get ys 0) ≡ not b → b ≡ true → (xs ++ o ∷ []) ++ ys ≡ (xs ++ ys) ++ o ∷ []
-behind_first xs [] o b e f = append-nil (xs ++ o ∷ []) ∙ ap (λ zs. zs ++ o ∷ []) (sym (append-nil xs))
-behind_first xs (y ∷ ys) o b e f = absurd (false≢true (sym (e ∙ ap not f)))
 
 rising_at : (n k p : ℕ) → p < k → slice_get (run n true k) p ≡ Some (n + p)
 rising_at n zero p l = absurd (omega arith)

@@ -9,7 +9,6 @@ mod rows;
 mod run;
 mod steps;
 mod stretch;
-mod stretches;
 
 pub use groups::Groups;
 pub use numbers::Numbers;

@@ -1,36 +1,28 @@
 //! Numbers in the order in which they came.
 
-ghost use Rattle.std.specs.Prelude.{◌≡◌, ◌++◌, ◌∷◌, [], is_some, not, slice_get, OnOk, OnErr};
+ghost use Rattle.std.specs.Prelude.{◌≡◌, ◌++◌, ◌∷◌, [], slice_get, OnOk, OnErr};
 ghost use Rattle.need_numbers.specs.Rows.{has};
 
-use crate::stretches::Stretches;
+use crate::stretch::Stretch;
 use std::alloc::{AllocError, Global};
 use std::marker::Model;
 
-/// How many numbers stand by themselves at most.
-const FIRST: usize = 8;
-
-/// A list of numbers. The first of them stand by themselves, where each is found at once; those behind them are cut into stretches, where they
-/// take less memory.
+/// A list of numbers, in stretches of 256. Where eight and more follow one another they take less than two bytes each.
 #[derive(Drop)]
 pub struct Numbers {
-    first: Vec<u32>,
-    others: Stretches,
+    alloc: Global,
+    stretches: Vec<Stretch>,
 }
 
 impl Model for Numbers {
-    ghost use Rattle.std.specs.Prelude.{ℕ, List, ◌++◌};
+    ghost use Rattle.std.specs.Prelude.{ℕ, List};
+    ghost use Rattle.need_numbers.specs.Stretches.{joined, AreCut};
 
     ghost Value = { List ℕ };
 
-    ghost view = { λ n. n.first.items ++ n.others };
-}
+    ghost view = { λ n. joined n.stretches.items };
 
-/// The number at a place of a slice; none where there is no such place.
-pub(crate) fn number_at(numbers: &[u32], place: usize) -> Option<u32>
-    ensures { result ≡ slice_get numbers.now place }
-{
-    numbers.get(place).copied()
+    ghost invariant = { λ n. AreCut n.stretches.items };
 }
 
 impl Numbers {
@@ -39,24 +31,17 @@ impl Numbers {
         ensures { result ≡ [] }
     {
         Numbers {
-            first: Vec::new(alloc),
-            others: Stretches::new(alloc),
+            alloc,
+            stretches: Vec::new(alloc),
         }
     }
 
-    /// Whether there are none.
-    pub fn is_empty(&self) -> bool
-        ensures { is_some (slice_get self.now 0) ≡ not result }
-    {
-        self.get(0).is_none()
-    }
-
     /// Takes all numbers out.
+    #[tactic(auto, using(crate::proofs::Cuts::none_cut))]
     pub fn clear(&mut self)
         ensures { self.new ≡ [] }
     {
-        self.first.clear();
-        self.others.clear();
+        self.stretches.clear();
     }
 
     /// Puts a number at the end.
@@ -64,36 +49,42 @@ impl Numbers {
     /// # Errors
     ///
     /// There is no memory for it. Then the numbers are as they were.
-
-    #[tactic(auto, using(crate::proofs::Runs::behind_first))]
     pub fn push(&mut self, number: u32) -> Result<(), AllocError>
         ensures pushed { OnOk result (self.new ≡ self.old ++ number ∷ []) }
         ensures kept { OnErr result (self.new ≡ self.old) }
     {
-        if self.first.len() < FIRST && self.others.is_empty() {
-            self.first.push(number)?;
+        let count = self.stretches.len();
+        if count == 0 || self.stretches[count - 1].len() == 256 {
+            let mut next = Stretch::new(self.alloc);
+            next.push(number)?;
+            self.stretches.push(next)?;
             return Ok(());
         }
-        self.others.push(number)
+        self.stretches[count - 1].push(number)
     }
 
     /// The number at a place; none where there is no such place.
-    #[tactic(auto, using(crate::proofs::Runs::among_first, crate::proofs::Runs::among_others))]
+    #[tactic(auto, using(crate::proofs::Cuts::placed, crate::proofs::Cuts::none_there))]
     pub fn get(&self, place: usize) -> Option<u32>
         ensures { result ≡ slice_get self.now place }
     {
-        let count = self.first.len();
-        if place < count {
-            number_at(self.first.as_slice(), place)
+        if place / 256 < self.stretches.len() {
+            self.stretches[place / 256].get(place % 256)
         } else {
-            self.others.get(place - count)
+            None
         }
     }
 
     /// Whether a number is among them.
+    #[tactic(auto, using(crate::proofs::Cuts::not_in_more, crate::proofs::Cuts::is_there, crate::proofs::Cuts::in_none))]
     pub fn contains(&self, number: u32) -> bool
         ensures { result ≡ has number self.now }
     {
-        self.first.contains(&number) || self.others.contains(number)
+        for place in 0..self.stretches.len() {
+            if self.stretches[place].contains(number) {
+                return true;
+            }
+        }
+        false
     }
 }

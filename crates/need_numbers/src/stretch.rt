@@ -4,7 +4,6 @@ ghost use Rattle.std.specs.Prelude.{◌≡◌, ◌++◌, ◌∷◌, [], true, fa
 ghost use Rattle.need_numbers.specs.Rows.{has};
 ghost use Rattle.need_numbers.specs.Stretches.{joined};
 
-use crate::numbers::number_at;
 use crate::run::Run;
 use std::alloc::{AllocError, Global};
 use std::marker::Model;
@@ -99,6 +98,12 @@ fn are_with(runs: &[Run], number: u32) -> bool
         }
     }
     false
+}
+
+fn number_at(numbers: &[u32], place: usize) -> Option<u32>
+    ensures { result ≡ slice_get numbers.now place }
+{
+    numbers.get(place).copied()
 }
 
 impl Stretch {

@@ -10,8 +10,8 @@ use std::marker::Model;
 /// How many pairs stand by themselves at most.
 const FIRST: usize = 4_096;
 
-/// Pairs in the order in which they were found. The first of them, all of a small firmware, stand by themselves, where each is put and found
-/// at once; those behind them are in columns, where they take less memory.
+/// Pairs in the order in which they were found. The first 4,096 stand by themselves, of eight bytes each; those behind them are in columns, where
+/// many take less memory.
 #[derive(Drop)]
 pub(crate) struct Log {
     first: Vec<Pair>,

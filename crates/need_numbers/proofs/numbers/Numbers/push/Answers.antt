@@ -1,7 +1,7 @@
 use Rattle.std.proofs.Common.{◌∙◌, ◌-◌, ◌++◌, ◌∷◌, [], ℕ, List, length, ap, arith}
 use Rattle.need_numbers.specs.Stretches.{joined}
 use Rattle.need_numbers.proofs.Cuts.{more_behind, alike_at, cut_either, pushed_either}
-use Rattle.need_numbers.proofs.stretches.Stretches.push.Goals as goal
+use Rattle.need_numbers.proofs.numbers.Numbers.push.Goals as goal
 
 pub returns-then-count-eq0-clause-pushed : goal.returns-then-count-eq0-clause-pushed
 returns-then-count-eq0-clause-pushed c =
