@@ -2,7 +2,7 @@
 
 ghost use Rattle.std.specs.Prelude.{ℕ, ◌≡◌, ◌+◌, ◌<◌, ◌≤◌, ◌%◌, List, length, Option, Some};
 ghost use Rattle.std.specs.List.{slice_get, Contains};
-ghost use Rattle.ir_model.specs.Plain.{PlainSlot, PlainFunc, PlainFirmware, regs_of, funcs_of};
+ghost use Rattle.ir_model.specs.Plain.{PlainBinding, PlainFunc, PlainFirmware, regs_of, funcs_of};
 ghost use Rattle.ir_model.specs.Layout.{Known, known, shape};
 ghost use Rattle.ir_model.specs.Frames.{frame_size};
 ghost use Rattle.ir_model.specs.Typing.{IsTyped, frame_limit};
@@ -15,16 +15,16 @@ pub fn parts()
     ensures least { (ks : List Known) (f : PlainFunc) → 8 ≤ frame_size ks f }
     ensures rows { (ks : List Known) (f : PlainFunc) →
         Stand (register_offset (length (regs_of f))) (return_offset ks f) (local_offsets ks f) (local_sizes ks f) }
-    ensures offsets { (ks : List Known) (f : PlainFunc) (k : ℕ) (l : PlainSlot) → slice_get f.locals k ≡ Some l →
+    ensures offsets { (ks : List Known) (f : PlainFunc) (k : ℕ) (l : PlainBinding) → slice_get f.locals k ≡ Some l →
         slice_get (local_offsets ks f) k ≡ Some (local_offset ks f k) }
     ensures registers { (j k : ℕ) → j < k → register_offset j + 4 ≤ register_offset k }
     ensures registers_first { (ks : List Known) (f : PlainFunc) (j k : ℕ) → j < length (regs_of f) →
         register_offset j + 4 ≤ local_offset ks f k }
-    ensures locals { (ks : List Known) (f : PlainFunc) (j k : ℕ) (l : PlainSlot) → slice_get f.locals j ≡ Some l → j < k →
+    ensures locals { (ks : List Known) (f : PlainFunc) (j k : ℕ) (l : PlainBinding) → slice_get f.locals j ≡ Some l → j < k →
         local_offset ks f j + (shape ks l.ty).size ≤ local_offset ks f k }
     ensures registers_inside { (ks : List Known) (f : PlainFunc) (k : ℕ) → k < length (regs_of f) →
         register_offset k + 4 ≤ return_offset ks f }
-    ensures locals_inside { (ks : List Known) (f : PlainFunc) (k : ℕ) (l : PlainSlot) → slice_get f.locals k ≡ Some l →
+    ensures locals_inside { (ks : List Known) (f : PlainFunc) (k : ℕ) (l : PlainBinding) → slice_get f.locals k ≡ Some l →
         local_offset ks f k + (shape ks l.ty).size ≤ return_offset ks f }
     ensures return_last { (ks : List Known) (f : PlainFunc) → return_offset ks f + 4 ≡ frame_size ks f }
     ensures registers_aligned { (k : ℕ) → register_offset k % 4 ≡ 0 }

@@ -1,7 +1,7 @@
 -- The frame of a function by numbers is its frame by names.
 use Rattle.std.proofs.Common.{◌≡◌, ℕ, ◌+◌, ◌*◌, List, [], ◌∷◌, map, length, refl, ap, suc}
 use Rattle.std.proofs.lemmas.List.{length-map}
-use Rattle.ir_model.specs.Plain.{PlainSlot, PlainFunc, regs_of}
+use Rattle.ir_model.specs.Plain.{PlainBinding, PlainFunc, regs_of}
 use Rattle.ir_model.specs.Layout.{Known, shape, Shape}
 use Rattle.ir_model.specs.Frames as frames
 use Rattle.ir_model.specs.Resolve.{Scope, resolved_func}
@@ -9,16 +9,16 @@ use Rattle.code_frames.specs.Places as named
 use Rattle.code_model.specs.FrameShape.{locals_size, starts_from, local_size}
 use Rattle.code_model.specs.Laws.{FramesAgree}
 
-sizes_agree : (ks : List Known) (ls : List PlainSlot) → locals_size (map (λ (l : PlainSlot). shape ks l.ty) ls) ≡ frames.locals_size ks ls
+sizes_agree : (ks : List Known) (ls : List PlainBinding) → locals_size (map (λ (l : PlainBinding). shape ks l.ty) ls) ≡ frames.locals_size ks ls
 sizes_agree ks [] = refl
 sizes_agree ks (l ∷ ls) = ap (λ n. frames.local_size ks l + n) (sizes_agree ks ls)
 
-starts_agree : (ks : List Known) (n : ℕ) (ls : List PlainSlot) → starts_from n (map (λ (l : PlainSlot). shape ks l.ty) ls) ≡ named.offsets_from ks n ls
+starts_agree : (ks : List Known) (n : ℕ) (ls : List PlainBinding) → starts_from n (map (λ (l : PlainBinding). shape ks l.ty) ls) ≡ named.offsets_from ks n ls
 starts_agree ks n [] = refl
 starts_agree ks n (l ∷ ls) = ap (λ ns. n ∷ ns) (starts_agree ks (n + frames.local_size ks l) ls)
 
 registers_agree : (s : Scope) (f : PlainFunc) → length (resolved_func s f).regs ≡ length (regs_of f)
-registers_agree s f = length-map (regs_of f) (λ (r : PlainSlot). r.ty)
+registers_agree s f = length-map (regs_of f) (λ (r : PlainBinding). r.ty)
 
 pub frames_agree : FramesAgree
 frames_agree = record {

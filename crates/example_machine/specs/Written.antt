@@ -10,15 +10,15 @@ use Rattle.ir_model.specs.declared.firmware.Block.{Block}
 use Rattle.ir_model.specs.declared.firmware.Cell.{Cell}
 use Rattle.ir_model.specs.declared.firmware.Peripheral.{Peripheral}
 use Rattle.ir_model.specs.Types.{PlainType, PlainResult, nothing}
-use Rattle.ir_model.specs.Plain.{PlainSlot, PlainStruct, PlainGlobal, PlainFunc, PlainFile, PlainFirmware}
+use Rattle.ir_model.specs.Plain.{PlainBinding, PlainStruct, PlainGlobal, PlainFunc, PlainFile, PlainFirmware}
 use Rattle.ir_model.specs.Resolve.{resolve}
 use Rattle.ir_model.specs.State.{SourceState, start}
 use Rattle.ir_model.specs.Step.{source_step, source_event}
 
-abbrev pub slot : List ℕ → PlainType → PlainSlot
+abbrev pub slot : List ℕ → PlainType → PlainBinding
 slot n t = record { name = n; ty = t }
 
-abbrev pub struct : List ℕ → List PlainSlot → PlainStruct
+abbrev pub struct : List ℕ → List PlainBinding → PlainStruct
 struct n fs = record { name = n; fields = fs }
 
 abbrev pub periph : List ℕ → (base size : ℕ) → Peripheral
@@ -30,7 +30,7 @@ global n t cs = record { name = n; constant = false; ty = t; init = cs }
 abbrev pub block : List ℕ → List Inst → Term → Block
 block l is t = record { label = l; insts = is; term = t }
 
-abbrev pub func : List ℕ → (params : List PlainSlot) → PlainResult → (locals regs : List PlainSlot) → List Block → PlainFunc
+abbrev pub func : List ℕ → (params : List PlainBinding) → PlainResult → (locals regs : List PlainBinding) → List Block → PlainFunc
 func n ps r ls rs bs = record { name = n; params = ps; outcome = r; locals = ls; regs = rs; blocks = bs }
 
 abbrev pub file : List ℕ → List PlainFunc → PlainFile
@@ -40,7 +40,7 @@ abbrev pub firmware : List PlainStruct → List Peripheral → List PlainGlobal 
 firmware ss ps gs fs = record { structs = ss; periphs = ps; globals = gs; files = fs }
 
 -- a firmware of one function `main`
-abbrev pub only_main : List PlainStruct → List PlainGlobal → (locals regs : List PlainSlot) → List Inst → PlainFirmware
+abbrev pub only_main : List PlainStruct → List PlainGlobal → (locals regs : List PlainBinding) → List Inst → PlainFirmware
 only_main ss gs ls rs is =
     firmware ss [] gs (file (109 ∷ []) (func (109 ∷ 97 ∷ 105 ∷ 110 ∷ []) [] nothing ls rs (block (98 ∷ 48 ∷ []) is (term.Ret None) ∷ []) ∷ []) ∷ [])
 

@@ -1,7 +1,7 @@
 -- No global of a firmware has the alignment 0.
 use Rattle.std.proofs.Common.{ℕ, zero, suc, ◌<◌, List, [], ◌∷◌, ◌++◌, map, get_or, bytes_eq, arith}
 use Rattle.ir_model.specs.Types.{PlainType, U8, U16, U32, Pointer, Array, Named, Callee}
-use Rattle.ir_model.specs.Plain.{PlainSlot, PlainStruct, PlainGlobal, PlainFirmware}
+use Rattle.ir_model.specs.Plain.{PlainBinding, PlainStruct, PlainGlobal, PlainFirmware}
 use Rattle.ir_model.specs.Layout.{Shape, Known, empty, shape_named, shape, with_field, laid_out, with_struct, known_behind, known}
 use Rattle.ir_model.specs.Resolved.{no_global}
 use Rattle.ir_model.specs.Resolve.{Scope, scope_of, resolved_global, resolve}
@@ -25,7 +25,7 @@ aligned ks (Array n t) h = aligned ks t h
 aligned ks (Named n) h = named ks n h
 aligned ks (Callee a r) h = omega arith
 
-laid : (ks : List Known) (s : Shape) (fs : List PlainSlot) → 0 < s.align → 0 < (laid_out ks s fs).align
+laid : (ks : List Known) (s : Shape) (fs : List PlainBinding) → 0 < s.align → 0 < (laid_out ks s fs).align
 laid ks s [] h = h
 laid ks s (f ∷ fs) h = laid ks (with_field ks s f.ty) fs (omega (arith, h))
 

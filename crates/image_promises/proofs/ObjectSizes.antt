@@ -5,7 +5,7 @@ use Rattle.ir_model.specs.declared.check.CheckKind.TheVariants.{Unknown, ObjectT
 use Rattle.ir_model.specs.declared.check.Place.{Place}
 use Rattle.ir_model.specs.declared.check.Place.TheVariants as place
 use Rattle.ir_model.specs.Types.{PlainType, U8, U16, U32, Pointer, Array, Named, Callee}
-use Rattle.ir_model.specs.Plain.{PlainSlot, PlainStruct, PlainGlobal, PlainFunc, PlainFirmware, funcs_of, names_of}
+use Rattle.ir_model.specs.Plain.{PlainBinding, PlainStruct, PlainGlobal, PlainFunc, PlainFirmware, funcs_of, names_of}
 use Rattle.ir_model.specs.Layout.{Shape, Known, empty, shape_named, shape, with_field, laid_out, field_places, with_struct, known_behind, known}
 use Rattle.ir_model.specs.Resolved.{no_global, no_func, func_at, global_at, local_at}
 use Rattle.base_names.specs.Numbers.{has}
@@ -50,7 +50,7 @@ type_large ds p ks (Callee b r) a h e = omega arith
 -- ---- structs
 
 -- fields behind what has a byte already
-behind_large : (ds : List (List ℕ)) (p : Place) (seen : List (List ℕ)) (ks : List Known) (s : Shape) (fs : List PlainSlot) → AreLarge ks → 0 < s.size → 0 < s.align
+behind_large : (ds : List (List ℕ)) (p : Place) (seen : List (List ℕ)) (ks : List Known) (s : Shape) (fs : List PlainBinding) → AreLarge ks → 0 < s.size → 0 < s.align
     → Pass (field_checks ds (names_in ks) p seen fs) → EachHasElements fs → 0 < (laid_out ks s fs).size
 behind_large ds p seen ks s [] a some align h e = let r = rounded_at_least s.size s.align align in omega (arith, r, some)
 behind_large ds p seen ks s (f ∷ fs) a some align h e =
@@ -59,7 +59,7 @@ behind_large ds p seen ks s (f ∷ fs) a some align h e =
     let own = type_large ds p ks f.ty a (right (is_new seen f.name p ∷ []) (type_checks ds (names_in ks) p f.ty) (left front rest h)) e.0 in
     behind_large ds p (seen ++ f.name ∷ []) ks (with_field ks s f.ty) fs a (omega (arith, own)) (omega (arith, align)) (right front rest h) e.1
 
-fields_large : (ds : List (List ℕ)) (p : Place) (ks : List Known) (fs : List PlainSlot) → AreLarge ks → 0 < length fs
+fields_large : (ds : List (List ℕ)) (p : Place) (ks : List Known) (fs : List PlainBinding) → AreLarge ks → 0 < length fs
     → Pass (field_checks ds (names_in ks) p [] fs) → EachHasElements fs → 0 < (laid_out ks empty fs).size
 fields_large ds p ks [] a some h e = absurd (omega (arith, some))
 fields_large ds p ks (f ∷ fs) a some h e =
@@ -133,8 +133,8 @@ module _ (w : PlainFirmware) (typed : IsTyped w) (within : IsWithinLimits w) whe
 
   -- ---- locals
 
-  locals_large : (p : Place) (seen : List (List ℕ)) (ls : List PlainSlot) → Pass (local_checks w (structs_named w) p seen ls) → Each HasParts ls
-      → (l : ℕ) → l < length ls → 0 < (get_or (map (λ (s : PlainSlot). shape (known w.structs) s.ty) ls) l empty).size
+  locals_large : (p : Place) (seen : List (List ℕ)) (ls : List PlainBinding) → Pass (local_checks w (structs_named w) p seen ls) → Each HasParts ls
+      → (l : ℕ) → l < length ls → 0 < (get_or (map (λ (s : PlainBinding). shape (known w.structs) s.ty) ls) l empty).size
   locals_large p seen [] h e l lt = absurd (omega (arith, lt))
   locals_large p seen (s ∷ ls) h e zero lt =
       let names : Checks = type_checks (structs_named w) (structs_named w) p s.ty in
@@ -152,7 +152,7 @@ module _ (w : PlainFirmware) (typed : IsTyped w) (within : IsWithinLimits w) whe
       → l < length (get_or (map (resolved_func (scope_of w)) fs) f no_func).locals → 0 < (get_or (get_or (map (resolved_func (scope_of w)) fs) f no_func).locals l empty).size
   local_in [] h e f l lt = absurd (omega (arith, lt))
   local_in (g ∷ fs) h e zero l lt =
-      let m = length-map g.locals (λ (s : PlainSlot). shape (known w.structs) s.ty) in
+      let m = length-map g.locals (λ (s : PlainBinding). shape (known w.structs) s.ty) in
       locals_large (place.Func g.name) (names_of g.params) g.locals (by_parts w g (left (func_checks w g) (funcs_checks w fs) h)).locals e.0.locals l (omega (arith, lt, m))
   local_in (g ∷ fs) h e (suc f) l lt = local_in fs (right (func_checks w g) (funcs_checks w fs) h) e.1 f l lt
 

@@ -2,7 +2,7 @@
 use Rattle.std.proofs.Common.{◌≡◌, ℕ, zero, suc, ◌+◌, ◌<◌, ◌≤◌, List, [], ◌∷◌, ◌++◌, take, get_or, length, sym, ap, ◌∙◌, arith, None, length-append}
 use Rattle.std.proofs.lemmas.List.{append_assoc, append-nil}
 use Rattle.ir_model.specs.Types.{PlainType}
-use Rattle.ir_model.specs.Plain.{PlainSlot, PlainStruct}
+use Rattle.ir_model.specs.Plain.{PlainBinding, PlainStruct}
 use Rattle.ir_model.specs.Layout.{CellPlace, FieldPlace, Shape, Known, shape, shifted, rounded_up, with_field, laid_out, field_places, known, cell_at}
 use Rattle.ir_model.proofs.Counting.{rounded_at_least}
 use Rattle.ir_layouts.proofs.Sizes.{good, inside_shifted}
@@ -12,7 +12,7 @@ abbrev pub fields_cells : List Known → List FieldPlace → List CellPlace
 fields_cells ks [] = []
 fields_cells ks (p ∷ ps) = shifted p.at (shape ks p.ty).cells ++ fields_cells ks ps
 
-pub laid_cells : (ks : List Known) (s : Shape) (fs : List PlainSlot) → (laid_out ks s fs).cells ≡ s.cells ++ fields_cells ks (field_places ks s fs)
+pub laid_cells : (ks : List Known) (s : Shape) (fs : List PlainBinding) → (laid_out ks s fs).cells ≡ s.cells ++ fields_cells ks (field_places ks s fs)
 laid_cells ks s [] = sym (append-nil s.cells)
 laid_cells ks s (f ∷ fs) =
     laid_cells ks (with_field ks s f.ty) fs
@@ -23,7 +23,7 @@ abbrev pub Follow : List Known → ℕ → List FieldPlace → Type 0
 Follow ks n [] = Unit {0}
 Follow ks n (p ∷ ps) = (n ≤ p.at) × Follow ks (p.at + (shape ks p.ty).size) ps
 
-pub fields_follow : (ss : List PlainStruct) (s : Shape) (fs : List PlainSlot) → Follow (known ss) s.size (field_places (known ss) s fs)
+pub fields_follow : (ss : List PlainStruct) (s : Shape) (fs : List PlainBinding) → Follow (known ss) s.size (field_places (known ss) s fs)
 fields_follow ss s [] = tt
 fields_follow ss s (f ∷ fs) =
     let g = good ss f.ty in

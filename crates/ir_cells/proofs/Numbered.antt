@@ -10,7 +10,7 @@ use Rattle.std.proofs.lemmas.Option.{slice_get_within}
 use Rattle.ir_model.specs.declared.extent.TheConstants.{SIZE_LIMIT}
 use Rattle.ir_model.specs.declared.firmware.StructDecl.{StructDecl}
 use Rattle.ir_model.specs.Types.{PlainType, Array, Named, type_of}
-use Rattle.ir_model.specs.Plain.{PlainSlot, PlainStruct, struct_of}
+use Rattle.ir_model.specs.Plain.{PlainBinding, PlainStruct, struct_of}
 use Rattle.ir_model.specs.Layout.{CellPlace, FieldPlace, Shape, Known, empty, shape, shifted, copies, array_of, with_field, laid_out, field_places, known}
 use Rattle.ir_model.proofs.Counting.{many_at_least}
 use Rattle.ir_layouts.specs.declared.measure.Measure.{Measure}
@@ -196,7 +196,7 @@ nth_in_field ks (p ∷ ps) (suc j) k rest d c l g e =
     nth_right (shifted p.at (shape ks p.ty).cells) (fields_cells ks ps) k (length (fields_cells ks (take j ps)) + rest) (omega (arith, e, a))
     ∙ nth_in_field ks ps j (length (fields_cells ks (take j ps)) + rest) rest d c (omega arith) g refl
 
-field_ends : (ss : List PlainStruct) (s : Shape) (fs : List PlainSlot) (j : ℕ) (d : FieldPlace) → 0 < s.align → j < length (field_places (known ss) s fs)
+field_ends : (ss : List PlainStruct) (s : Shape) (fs : List PlainBinding) (j : ℕ) (d : FieldPlace) → 0 < s.align → j < length (field_places (known ss) s fs)
     → (get_or (field_places (known ss) s fs) j d).at + (shape (known ss) (get_or (field_places (known ss) s fs) j d).ty).size ≤ (laid_out (known ss) s fs).size
 field_ends ss s [] j d p l = absurd (omega arith)
 field_ends ss s (f ∷ fs) zero d p l =

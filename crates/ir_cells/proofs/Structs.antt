@@ -3,7 +3,7 @@ use Rattle.std.proofs.Common.{◌≡◌, ℕ, zero, suc, ◌+◌, ◌-◌, ◌<�
 use Rattle.std.proofs.lemmas.List.{get_or-map, length-map}
 use Rattle.std.specs.List.Sorted.{IsNonDecreasingBy}
 use Rattle.ir_model.specs.Types.{PlainType, type_of}
-use Rattle.ir_model.specs.Plain.{PlainSlot, PlainStruct, struct_of}
+use Rattle.ir_model.specs.Plain.{PlainBinding, PlainStruct, struct_of}
 use Rattle.ir_model.specs.Layout.{FieldPlace, Shape, Known, empty, shape, shifted, rounded_up, with_field, field_places, known, cell_at}
 use Rattle.ir_layouts.specs.declared.table.Field.{Field}
 use Rattle.ir_layouts.specs.declared.table.StructLayout.{StructLayout}
@@ -32,7 +32,7 @@ offsets_rise ss l h = λ i j d m n.
     let q = get_or-map place_of l.fields.items j d (place_of d) n in
     subst (λ x. x ≤ (get_or l.fields.items j d).at) (ap (λ (x : FieldPlace). x.at) p) (subst (λ x. (get_or (places l) i (place_of d)).at ≤ x) (ap (λ (x : FieldPlace). x.at) q) r)
 
-first_at_place : (ks : List Known) (n : ℕ) (s : Shape) (fs : List PlainSlot) (k e : ℕ) → k < length fs
+first_at_place : (ks : List Known) (n : ℕ) (s : Shape) (fs : List PlainBinding) (k e : ℕ) → k < length fs
     → get_or (first_cells ks n fs) k e ≡ n + length (fields_cells ks (take k (field_places ks s fs)))
 first_at_place ks n s [] k e l = absurd (omega arith)
 first_at_place ks n s (f ∷ fs) zero e l = omega arith
@@ -43,7 +43,7 @@ first_at_place ks n s (f ∷ fs) (suc k) e l =
     let b = length_shifted at (shape ks f.ty).cells in
     omega (arith, r, a, b)
 
-places_count : (ks : List Known) (s : Shape) (fs : List PlainSlot) → length (field_places ks s fs) ≡ length fs
+places_count : (ks : List Known) (s : Shape) (fs : List PlainBinding) → length (field_places ks s fs) ≡ length fs
 places_count ks s [] = refl
 places_count ks s (f ∷ fs) = ap suc (places_count ks (with_field ks s f.ty) fs)
 
@@ -51,7 +51,7 @@ places_count ks s (f ∷ fs) = ap suc (places_count ks (with_field ks s f.ty) fs
 pub first_cell_at : (ss : List PlainStruct) (l : StructLayout) (k : ℕ) (d : Field) → IsLaid ss l → k < length l.fields.items
     → (get_or l.fields.items k d).first_cell ≡ length (fields_cells (known ss) (take k (places l)))
 first_cell_at ss l k d h m =
-    let fs : List PlainSlot = (struct_of l.declaration.now).fields in
+    let fs : List PlainBinding = (struct_of l.declaration.now).fields in
     let c : length l.fields.items ≡ length fs = sym (length-map l.fields.items place_of) ∙ (ap length h.fields ∙ places_count (known ss) empty fs) in
     sym (get_or-map (λ (f : Field). f.first_cell) l.fields.items k d 0 m)
     ∙ (ap (λ xs. get_or xs k 0) h.firsts

@@ -4,7 +4,7 @@ use Rattle.std.specs.List.{slice_get}
 use Rattle.std.proofs.lemmas.List.{get_or-map, length-map}
 use Rattle.ir_model.specs.declared.firmware.StructDecl.{StructDecl}
 use Rattle.ir_model.specs.Types.{type_of}
-use Rattle.ir_model.specs.Plain.{PlainSlot, PlainStruct, struct_of}
+use Rattle.ir_model.specs.Plain.{PlainBinding, PlainStruct, struct_of}
 use Rattle.ir_model.specs.Layout.{FieldPlace, Shape, Known, empty, with_field, field_places, known}
 use Rattle.ir_model.proofs.Arrays.{arrays}
 use Rattle.ir_layouts.specs.declared.table.Field.{Field}
@@ -12,7 +12,7 @@ use Rattle.ir_layouts.specs.declared.table.StructLayout.{StructLayout}
 use Rattle.ir_layouts.specs.Fields.{place_of}
 use Rattle.ir_layouts.specs.Tables.{IsLaid}
 
-abbrev fields_weight : List PlainSlot → ℕ
+abbrev fields_weight : List PlainBinding → ℕ
 fields_weight [] = 0
 fields_weight (f ∷ fs) = suc (arrays f.ty) + fields_weight fs
 
@@ -20,7 +20,7 @@ abbrev pub structs_weight : List StructDecl → ℕ
 structs_weight [] = 0
 structs_weight (s ∷ ss) = suc (fields_weight (struct_of s).fields) + structs_weight ss
 
-place_weighs : (ks : List Known) (s : Shape) (fs : List PlainSlot) (k : ℕ) (d : FieldPlace) → k < length (field_places ks s fs)
+place_weighs : (ks : List Known) (s : Shape) (fs : List PlainBinding) (k : ℕ) (d : FieldPlace) → k < length (field_places ks s fs)
     → arrays (get_or (field_places ks s fs) k d).ty < fields_weight fs
 place_weighs ks s [] k d l = absurd (omega arith)
 place_weighs ks s (f ∷ fs) zero d l = omega arith

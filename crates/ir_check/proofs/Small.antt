@@ -5,7 +5,7 @@ use Rattle.std.proofs.lemmas.List.Elements.{All-nil, All-cons}
 use Rattle.std.specs.List.{All}
 use Rattle.ir_model.specs.declared.firmware.Block.{Block}
 use Rattle.ir_model.specs.declared.firmware.Func.{Func}
-use Rattle.ir_model.specs.Plain.{PlainFirmware, func_of, funcs_of, slot_of}
+use Rattle.ir_model.specs.Plain.{PlainFirmware, func_of, funcs_of, binding_of}
 use Rattle.ir_model.specs.Canonical.{IsWithinLimits}
 use Rattle.base_laws.specs.Lists.{Each}
 use Rattle.ir_model.specs.TextLimits.{instruction_limit}
@@ -19,12 +19,12 @@ few_insts (b ∷ bs) h = All-cons (λ (b : Block). length b.insts ≤ instructio
 
 small_func : (f : Func) → Limited (func_of f) → HasFewItems f
 small_func f h =
-    let a = length-append (map slot_of f.params) (map slot_of f.regs) in
-    let p = length-map f.params slot_of in
-    let r = length-map f.regs slot_of in
-    let l = length-map f.locals slot_of in
-    let h0 = h.slots.registers in
-    let h1 = h.slots.locals in
+    let a = length-append (map binding_of f.params) (map binding_of f.regs) in
+    let p = length-map f.params binding_of in
+    let r = length-map f.regs binding_of in
+    let l = length-map f.locals binding_of in
+    let h0 = h.bindings.registers in
+    let h1 = h.bindings.locals in
     record { registers = omega arith; locals = omega arith; insts = few_insts f.blocks h.insts }
 
 small_funcs : (fs : List (Bor Func)) → Each Limited (lent_funcs fs) → AreSmall fs

@@ -1,7 +1,7 @@
 //! Structs.
 
 ghost use Rattle.std.specs.Prelude.{◌≡◌, ◌++◌, ◌∷◌, [], map, OnOk, IfOk};
-ghost use Rattle.ir_model.specs.Plain.{slot_of, struct_of};
+ghost use Rattle.ir_model.specs.Plain.{binding_of, struct_of};
 ghost use Rattle.ir_model.specs.Typing.{field_checks, struct_checks, structs_checks};
 ghost use Rattle.ir_check_scopes.specs.Found.{Finds};
 ghost use Rattle.ir_check_scopes.specs.Spots.{place_of};
@@ -14,7 +14,7 @@ use ir_check_scopes::{CheckFault, Spot};
 use ir_layouts::fault::LayoutFault;
 use ir_layouts::table::Layouts;
 use ir_model::check::CheckKind;
-use ir_model::firmware::{Slot, StructDecl};
+use ir_model::firmware::{Binding, StructDecl};
 use ir_names::Names;
 use std::alloc::Global;
 
@@ -24,13 +24,13 @@ fn field<'a, 'n>(
     earlier: &Names<'n>,
     spot: Spot,
     seen: &mut Names<'a>,
-    slot: &'a Slot,
+    binding: &'a Binding,
 ) -> Result<(), CheckFault>
-    ensures finds { Finds (field_check declared.now earlier.now (place_of spot.entry) seen.old (slot_of slot.now)) result }
-    ensures grows { OnOk result (seen.new ≡ seen.old ++ slot.now.name ∷ []) }
+    ensures finds { Finds (field_check declared.now earlier.now (place_of spot.entry) seen.old (binding_of binding.now)) result }
+    ensures grows { OnOk result (seen.new ≡ seen.old ++ binding.now.name ∷ []) }
 {
-    add_new(seen, &slot.name, spot)?;
-    type_names(declared, earlier, spot, &slot.ty)?;
+    add_new(seen, &binding.name, spot)?;
+    type_names(declared, earlier, spot, &binding.ty)?;
     Ok(())
 }
 
@@ -39,13 +39,13 @@ fn fields<'n>(
     declared: &Names<'n>,
     earlier: &Names<'n>,
     spot: Spot,
-    slots: &[Slot],
+    bindings: &[Binding],
 ) -> Result<(), CheckFault>
-    ensures { Finds (field_checks declared.now earlier.now (place_of spot.entry) [] (map slot_of slots.now)) result }
+    ensures { Finds (field_checks declared.now earlier.now (place_of spot.entry) [] (map binding_of bindings.now)) result }
 {
     let mut seen = Names::new(alloc);
-    for slot in slots {
-        field(declared, earlier, spot, &mut seen, slot)?;
+    for binding in bindings {
+        field(declared, earlier, spot, &mut seen, binding)?;
     }
     Ok(())
 }

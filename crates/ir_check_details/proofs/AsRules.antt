@@ -1,10 +1,10 @@
 -- What names mean here is what they mean in the rules of types: functions over all files, and fields of structs.
 use Rattle.std.proofs.Common.{◌≡◌, ℕ, Bool, true, false, List, [], ◌∷◌, ◌++◌, map, flat_map, Option, Some, None, if◌then◌else◌, refl, bytes_eq, ap, ◌∙◌}
 use Rattle.ir_model.specs.Types.{PlainType}
-use Rattle.ir_model.specs.Plain.{PlainSlot, PlainStruct, PlainFunc, PlainFile, PlainFirmware, funcs_of}
+use Rattle.ir_model.specs.Plain.{PlainBinding, PlainStruct, PlainFunc, PlainFile, PlainFirmware, funcs_of}
 use Rattle.ir_model.specs.Layout.{Known, Shape, FieldPlace, known, known_behind, with_struct, with_field, fields_named, field_places, laid_out, empty}
 use Rattle.base_names.specs.Numbers.{has}
-use Rattle.ir_model.specs.Rules.{slot_type, func_type, field_type}
+use Rattle.ir_model.specs.Rules.{binding_type, func_type, field_type}
 use Rattle.ir_check_details.specs.Found.{func_named, func_in, or_else, struct_named, signature_of}
 
 -- ---- functions
@@ -33,12 +33,12 @@ same_func w n = func_of_files w.files n
 
 abbrev field_found : Option PlainStruct → List ℕ → Option PlainType
 field_found None f = None
-field_found (Some s) f = slot_type s.fields f
+field_found (Some s) f = binding_type s.fields f
 
 abbrev names_of_known : List Known → List (List ℕ)
 names_of_known ks = map (λ (k : Known). k.name) ks
 
-places : (ks : List Known) (u : Shape) (ss : List PlainSlot) (f : List ℕ) → field_type (field_places ks u ss) f ≡ slot_type ss f
+places : (ks : List Known) (u : Shape) (ss : List PlainBinding) (f : List ℕ) → field_type (field_places ks u ss) f ≡ binding_type ss f
 places ks u [] f = refl
 places ks u (s ∷ ss) f = ap (λ o. if bytes_eq s.name f then Some s.ty else o) (places ks (with_field ks u s.ty) ss f)
 
@@ -68,7 +68,7 @@ no_more : (ks : List Known) (n f : List ℕ) → field_type (fields_named ks n) 
 no_more [] n f = refl
 no_more (k ∷ ks) n f = pick_none (bytes_eq k.name n) (has (names_of_known ks) n) k.fields (fields_named ks n) f (no_more ks n f)
 
-pick_struct : (b : Bool) (s : PlainStruct) (o : Option PlainStruct) (f : List ℕ) (a : Option PlainType) → a ≡ slot_type s.fields f
+pick_struct : (b : Bool) (s : PlainStruct) (o : Option PlainStruct) (f : List ℕ) (a : Option PlainType) → a ≡ binding_type s.fields f
     → (if b then a else field_found o f) ≡ field_found (if b then Some s else o) f
 pick_struct true s o f a e = e
 pick_struct false s o f a e = refl

@@ -1,9 +1,9 @@
--- Of a function, the instruction or the slot whose types do not fit; and of `main`.
+-- Of a function, the instruction or the binding whose types do not fit; and of `main`.
 use Rattle.std.specs.Prelude.{ℕ, List, [], ◌∷◌, ◌++◌, length, codes, nat_eq, Option, Some, None, slice_get, if◌then◌else◌}
 use Rattle.ir_model.specs.declared.firmware.Inst.{Inst}
 use Rattle.ir_model.specs.declared.firmware.Block.{Block}
 use Rattle.ir_model.specs.Types.{PlainResult, nothing, gives, is_register_type}
-use Rattle.ir_model.specs.Plain.{PlainSlot, PlainFunc, PlainFirmware}
+use Rattle.ir_model.specs.Plain.{PlainBinding, PlainFunc, PlainFirmware}
 use Rattle.ir_model.specs.Resolve.{main_name}
 use Rattle.ir_check_details.specs.Words.{found_typed, expected}
 use Rattle.ir_check_details.specs.Found.{func_in, block_named, signature_of}
@@ -26,30 +26,30 @@ place_lines w l k (Some f) = block_lines w f k (block_named f.blocks l)
 
 -- ---- parameters, results and registers
 
--- the first slot that is of no register type
-abbrev pub no_register : List PlainSlot → Option PlainSlot
+-- the first binding that is of no register type
+abbrev pub no_register : List PlainBinding → Option PlainBinding
 no_register [] = None
 no_register (s ∷ ss) = if is_register_type s.ty then no_register ss else Some s
 
-abbrev pub slot_lines : PlainSlot → List ℕ
-slot_lines s = found_typed s.name s.ty ++ expected (codes "u32, a pointer or a function")
+abbrev pub binding_lines : PlainBinding → List ℕ
+binding_lines s = found_typed s.name s.ty ++ expected (codes "u32, a pointer or a function")
 
--- a result stands like a slot with the name `result`
-abbrev pub result_slot : PlainResult → List PlainSlot
-result_slot nothing = []
-result_slot (gives t) = record { name = codes "result"; ty = t } ∷ []
+-- a result stands like a binding with the name `result`
+abbrev pub result_binding : PlainResult → List PlainBinding
+result_binding nothing = []
+result_binding (gives t) = record { name = codes "result"; ty = t } ∷ []
 
-abbrev pub odd_slot_lines : Option PlainSlot → List ℕ
-odd_slot_lines None = []
-odd_slot_lines (Some s) = slot_lines s
+abbrev pub odd_binding_lines : Option PlainBinding → List ℕ
+odd_binding_lines None = []
+odd_binding_lines (Some s) = binding_lines s
 
 -- the parameters, the result and the registers in this order
-abbrev pub slots_of : PlainFunc → List PlainSlot
-slots_of f = f.params ++ result_slot f.outcome ++ f.regs
+abbrev pub bindings_of : PlainFunc → List PlainBinding
+bindings_of f = f.params ++ result_binding f.outcome ++ f.regs
 
 abbrev pub func_lines : Option PlainFunc → List ℕ
 func_lines None = []
-func_lines (Some f) = odd_slot_lines (no_register (slots_of f))
+func_lines (Some f) = odd_binding_lines (no_register (bindings_of f))
 
 -- ---- `main`
 

@@ -2,10 +2,10 @@
 use Rattle.std.specs.Prelude.{ℕ, List, [], ◌∷◌, ◌++◌, map, codes, Bool, true, false, Option, Some, None, if◌then◌else◌}
 use Rattle.ir_model.specs.declared.firmware.Peripheral.{Peripheral}
 use Rattle.ir_model.specs.Types.{PlainType, U32, Pointer, Named, is_integer, is_register_type, element_of}
-use Rattle.ir_model.specs.Plain.{PlainSlot, PlainStruct, PlainFunc, PlainFirmware}
+use Rattle.ir_model.specs.Plain.{PlainBinding, PlainStruct, PlainFunc, PlainFirmware}
 use Rattle.base_names.specs.Numbers.{has}
 use Rattle.ir_model.specs.Resolve.{type_named}
-use Rattle.ir_model.specs.Rules.{slot_type, global_type, is_number}
+use Rattle.ir_model.specs.Rules.{binding_type, global_type, is_number}
 use Rattle.ir_check_details.specs.Words.{found, found_typed, expected, expected_type}
 use Rattle.ir_check_details.specs.Found.{func_in, struct_named, signature_of}
 
@@ -35,7 +35,7 @@ expected_address None false None = []
 
 abbrev pub addr_lines : PlainFirmware → PlainFunc → (to of : List ℕ) → List ℕ
 addr_lines w f to x =
-    found_register f to ++ expected_address (slot_type f.locals x) (has (map (λ (q : Peripheral). q.name) w.periphs) x) (global_type w.globals x)
+    found_register f to ++ expected_address (binding_type f.locals x) (has (map (λ (q : Peripheral). q.name) w.periphs) x) (global_type w.globals x)
 
 -- a function that is there
 abbrev pub expected_func : Option PlainFunc → List ℕ
@@ -58,25 +58,25 @@ abbrev pub elem_lines : PlainFunc → (to base index : List ℕ) → List ℕ
 elem_lines f to base i = if is_number f i then element_lines f to base (type_named f base) else number_lines f i
 
 -- names with `or` between two
-abbrev pub or_more : List PlainSlot → List ℕ
+abbrev pub or_more : List PlainBinding → List ℕ
 or_more [] = []
 or_more (s ∷ ss) = codes " or " ++ s.name ++ or_more ss
 
-abbrev pub any_of : List PlainSlot → List ℕ
+abbrev pub any_of : List PlainBinding → List ℕ
 any_of [] = []
 any_of (s ∷ ss) = s.name ++ or_more ss
 
 -- a field that is not there
-abbrev pub no_field_lines : (field : List ℕ) → (fields : List PlainSlot) → List ℕ
+abbrev pub no_field_lines : (field : List ℕ) → (fields : List PlainBinding) → List ℕ
 no_field_lines n ss = found n ++ expected (any_of ss)
 
 -- the pointer to a field of a struct with these fields, by the type of the field if it is there
-abbrev pub named_field_lines : PlainFunc → (to field : List ℕ) → (fields : List PlainSlot) → Option PlainType → List ℕ
+abbrev pub named_field_lines : PlainFunc → (to field : List ℕ) → (fields : List PlainBinding) → Option PlainType → List ℕ
 named_field_lines f to n ss None = no_field_lines n ss
 named_field_lines f to n ss (Some t) = found_register f to ++ expected_type (Pointer t)
 
-abbrev pub struct_field_lines : PlainFunc → (to field : List ℕ) → (fields : List PlainSlot) → List ℕ
-struct_field_lines f to n ss = named_field_lines f to n ss (slot_type ss n)
+abbrev pub struct_field_lines : PlainFunc → (to field : List ℕ) → (fields : List PlainBinding) → List ℕ
+struct_field_lines f to n ss = named_field_lines f to n ss (binding_type ss n)
 
 -- the same, where the struct is there
 abbrev pub of_struct_lines : PlainFunc → (to field : List ℕ) → Option PlainStruct → List ℕ

@@ -4,9 +4,9 @@ ghost use Rattle.std.specs.Prelude.{◌≡◌, ◌++◌, map, option_map, Some, 
 ghost use Rattle.std.specs.Borrow.{Bor};
 ghost use Rattle.std.specs.List.{slice_get};
 ghost use Rattle.ir_model.specs.declared.types.Ty.{U32};
-ghost use Rattle.ir_model.specs.declared.firmware.Slot.{Slot as SlotValue};
+ghost use Rattle.ir_model.specs.declared.firmware.Binding.{Binding as BindingValue};
 ghost use Rattle.ir_model.specs.Types.{type_of, result_of};
-ghost use Rattle.ir_model.specs.Plain.{slot_of, func_of, firmware_of};
+ghost use Rattle.ir_model.specs.Plain.{binding_of, func_of, firmware_of};
 ghost use Rattle.ir_model.specs.Resolve.{main_name};
 ghost use Rattle.ir_check_details.specs.Found as found;
 ghost use Rattle.ir_check_details.specs.Functions as lines;
@@ -17,7 +17,7 @@ use crate::lookup::{Site, block_named, func_named};
 use crate::wording::{put, put_expected, put_found_typed};
 use base_names::Name;
 use ir_check_scopes::kinds::is_register_type;
-use ir_model::firmware::{Block, Firmware, Func, Slot};
+use ir_model::firmware::{Binding, Block, Firmware, Func};
 use ir_model::types::Ty;
 use std::alloc::AllocError;
 
@@ -95,43 +95,47 @@ pub(crate) fn put_place(
     }
 }
 
-/// The first slot that is of no register type.
-fn no_register<'s>(slots: &'s [Slot]) -> Option<&'s Slot>
-    ensures { option_map (λ (s : Bor SlotValue). slot_of s.now) result ≡ lines.no_register (map slot_of slots.now) }
+/// The first binding that is of no register type.
+fn no_register<'s>(bindings: &'s [Binding]) -> Option<&'s Binding>
+    ensures { option_map (λ (s : Bor BindingValue). binding_of s.now) result ≡ lines.no_register (map binding_of bindings.now) }
 {
-    match slots {
+    match bindings {
         [] => None,
-        [slot, more @ ..] => {
-            if is_register_type(&slot.ty) {
+        [binding, more @ ..] => {
+            if is_register_type(&binding.ty) {
                 no_register(more)
             } else {
-                Some(slot)
+                Some(binding)
             }
         }
     }
 }
 
-/// Puts the lines of a slot that is of no register type.
-fn put_slot(out: &mut Vec<u8>, name: &[u8], ty: &Ty) -> Result<(), AllocError>
-    ensures { OnOk result (out.new.items ≡ out.old.items ++ lines.slot_lines (record { name = name.now; ty = type_of ty.now })) }
+/// Puts the lines of a binding that is of no register type.
+fn put_binding(out: &mut Vec<u8>, name: &[u8], ty: &Ty) -> Result<(), AllocError>
+    ensures { OnOk result (out.new.items ≡ out.old.items ++ lines.binding_lines (record { name = name.now; ty = type_of ty.now })) }
 {
     put_found_typed(out, name, ty)?;
     put_expected(out, b"u32, a pointer or a function")
 }
 
 /// Puts the lines of the first register that is of no register type.
-fn put_odd_register(out: &mut Vec<u8>, regs: &[Slot]) -> Result<(), AllocError>
-    ensures { OnOk result (out.new.items ≡ out.old.items ++ lines.odd_slot_lines (lines.no_register (map slot_of regs.now))) }
+fn put_odd_register(out: &mut Vec<u8>, regs: &[Binding]) -> Result<(), AllocError>
+    ensures { OnOk result (out.new.items ≡ out.old.items ++ lines.odd_binding_lines (lines.no_register (map binding_of regs.now))) }
 {
     match no_register(regs) {
         None => Ok(()),
-        Some(slot) => put_slot(out, slot.name.as_slice(), &slot.ty),
+        Some(binding) => put_binding(out, binding.name.as_slice(), &binding.ty),
     }
 }
 
 /// Puts the lines of the result or the first register that is of no register type.
-fn put_odd_result(out: &mut Vec<u8>, outcome: &Option<Ty>, regs: &[Slot]) -> Result<(), AllocError>
-    ensures { OnOk result (out.new.items ≡ out.old.items ++ lines.odd_slot_lines (lines.no_register (lines.result_slot (result_of outcome.now) ++ map slot_of regs.now))) }
+fn put_odd_result(
+    out: &mut Vec<u8>,
+    outcome: &Option<Ty>,
+    regs: &[Binding],
+) -> Result<(), AllocError>
+    ensures { OnOk result (out.new.items ≡ out.old.items ++ lines.odd_binding_lines (lines.no_register (lines.result_binding (result_of outcome.now) ++ map binding_of regs.now))) }
 {
     match outcome {
         None => put_odd_register(out, regs),
@@ -139,7 +143,7 @@ fn put_odd_result(out: &mut Vec<u8>, outcome: &Option<Ty>, regs: &[Slot]) -> Res
             if is_register_type(ty) {
                 put_odd_register(out, regs)
             } else {
-                put_slot(out, b"result", ty)
+                put_binding(out, b"result", ty)
             }
         }
     }
@@ -151,7 +155,7 @@ fn put_odd(out: &mut Vec<u8>, func: &Func) -> Result<(), AllocError>
     ensures { OnOk result (out.new.items ≡ out.old.items ++ lines.func_lines (Some (func_of func.now))) }
 {
     match no_register(func.params.as_slice()) {
-        Some(slot) => put_slot(out, slot.name.as_slice(), &slot.ty),
+        Some(binding) => put_binding(out, binding.name.as_slice(), &binding.ty),
         None => put_odd_result(out, &func.result, func.regs.as_slice()),
     }
 }

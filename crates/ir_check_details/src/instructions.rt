@@ -5,9 +5,9 @@ ghost use Rattle.base_names.specs.Numbers.{has};
 ghost use Rattle.ir_model.specs.declared.firmware.Peripheral.{Peripheral as PlainPeripheral};
 ghost use Rattle.ir_model.specs.declared.types.Ty.{U32};
 ghost use Rattle.ir_model.specs.Types.{type_of, Pointer, element_of};
-ghost use Rattle.ir_model.specs.Plain.{slot_of, func_of, firmware_of};
+ghost use Rattle.ir_model.specs.Plain.{binding_of, func_of, firmware_of};
 ghost use Rattle.ir_model.specs.Resolve.{row_from};
-ghost use Rattle.ir_model.specs.Rules.{slot_type, global_type};
+ghost use Rattle.ir_model.specs.Rules.{binding_type, global_type};
 ghost use Rattle.ir_grammar.specs.Spelling.{spell_row, spell_more_row};
 ghost use Rattle.ir_printer.specs.Pieces.{as_bytes};
 ghost use Rattle.ir_check_details.specs.Found as found;
@@ -15,14 +15,15 @@ ghost use Rattle.ir_check_details.specs.Words as words;
 ghost use Rattle.ir_check_details.specs.Instructions as lines;
 
 use crate::lookup::{
-    Site, func_named, global_named, has_periph, is_number, register_type, slot_named, struct_named,
+    Site, binding_named, func_named, global_named, has_periph, is_number, register_type,
+    struct_named,
 };
 use crate::wording::{
     put, put_expected, put_expected_pointer, put_expected_type, put_found, put_found_typed,
 };
 use base_names::Name;
 use ir_check_scopes::kinds::{is_integer, is_register_type};
-use ir_model::firmware::{Firmware, Func, Slot};
+use ir_model::firmware::{Binding, Firmware, Func};
 use ir_model::token::{Keyword, Mark};
 use ir_model::types::Ty;
 use ir_printer::tokens::{put_keyword, put_mark};
@@ -103,9 +104,9 @@ fn put_outer_address(out: &mut Vec<u8>, firmware: &Firmware, of: &Name) -> Resul
 
 /// Puts the line of the address that `addr` takes.
 fn put_address(out: &mut Vec<u8>, site: &Site<'_>, of: &Name) -> Result<(), AllocError>
-    ensures { OnOk result (out.new.items ≡ out.old.items ++ lines.expected_address (slot_type (func_of site.now.func.now).locals of.now) (has (map (λ (q : PlainPeripheral). q.name) (firmware_of site.now.firmware.now).periphs) of.now) (global_type (firmware_of site.now.firmware.now).globals of.now)) }
+    ensures { OnOk result (out.new.items ≡ out.old.items ++ lines.expected_address (binding_type (func_of site.now.func.now).locals of.now) (has (map (λ (q : PlainPeripheral). q.name) (firmware_of site.now.firmware.now).periphs) of.now) (global_type (firmware_of site.now.firmware.now).globals of.now)) }
 {
-    match slot_named(site.func.locals.as_slice(), of.as_slice()) {
+    match binding_named(site.func.locals.as_slice(), of.as_slice()) {
         Some(ty) => put_expected_pointer(out, ty),
         None => put_outer_address(out, site.firmware, of),
     }
@@ -126,8 +127,8 @@ pub(crate) fn put_addr(
 }
 
 /// Puts the types of parameters behind the first, and the closing bracket.
-fn put_more_params(out: &mut Vec<u8>, params: &[Slot]) -> Result<(), AllocError>
-    ensures { OnOk result (out.new.items ≡ out.old.items ++ spell_more_row as_bytes (row_from (map slot_of params.now))) }
+fn put_more_params(out: &mut Vec<u8>, params: &[Binding]) -> Result<(), AllocError>
+    ensures { OnOk result (out.new.items ≡ out.old.items ++ spell_more_row as_bytes (row_from (map binding_of params.now))) }
 {
     match params {
         [] => put_mark(out, Mark::Close),
@@ -140,8 +141,8 @@ fn put_more_params(out: &mut Vec<u8>, params: &[Slot]) -> Result<(), AllocError>
 }
 
 /// Puts the types of parameters, and the closing bracket.
-fn put_params(out: &mut Vec<u8>, params: &[Slot]) -> Result<(), AllocError>
-    ensures { OnOk result (out.new.items ≡ out.old.items ++ spell_row as_bytes (row_from (map slot_of params.now))) }
+fn put_params(out: &mut Vec<u8>, params: &[Binding]) -> Result<(), AllocError>
+    ensures { OnOk result (out.new.items ≡ out.old.items ++ spell_row as_bytes (row_from (map binding_of params.now))) }
 {
     match params {
         [] => put_mark(out, Mark::Close),
@@ -258,8 +259,8 @@ pub(crate) fn put_elem(
 }
 
 /// Puts names, each behind an `or`.
-fn put_or_more(out: &mut Vec<u8>, fields: &[Slot]) -> Result<(), AllocError>
-    ensures { OnOk result (out.new.items ≡ out.old.items ++ lines.or_more (map slot_of fields.now)) }
+fn put_or_more(out: &mut Vec<u8>, fields: &[Binding]) -> Result<(), AllocError>
+    ensures { OnOk result (out.new.items ≡ out.old.items ++ lines.or_more (map binding_of fields.now)) }
 {
     match fields {
         [] => Ok(()),
@@ -272,8 +273,8 @@ fn put_or_more(out: &mut Vec<u8>, fields: &[Slot]) -> Result<(), AllocError>
 }
 
 /// Puts names with `or` between two.
-fn put_any(out: &mut Vec<u8>, fields: &[Slot]) -> Result<(), AllocError>
-    ensures { OnOk result (out.new.items ≡ out.old.items ++ lines.any_of (map slot_of fields.now)) }
+fn put_any(out: &mut Vec<u8>, fields: &[Binding]) -> Result<(), AllocError>
+    ensures { OnOk result (out.new.items ≡ out.old.items ++ lines.any_of (map binding_of fields.now)) }
 {
     match fields {
         [] => Ok(()),
@@ -285,8 +286,8 @@ fn put_any(out: &mut Vec<u8>, fields: &[Slot]) -> Result<(), AllocError>
 }
 
 /// Puts the lines of a field that is not among these.
-fn put_no_field(out: &mut Vec<u8>, field: &Name, fields: &[Slot]) -> Result<(), AllocError>
-    ensures { OnOk result (out.new.items ≡ out.old.items ++ lines.no_field_lines field.now (map slot_of fields.now)) }
+fn put_no_field(out: &mut Vec<u8>, field: &Name, fields: &[Binding]) -> Result<(), AllocError>
+    ensures { OnOk result (out.new.items ≡ out.old.items ++ lines.no_field_lines field.now (map binding_of fields.now)) }
 {
     put_found(out, field.as_slice())?;
     put(out, b"expected ")?;
@@ -300,12 +301,12 @@ fn put_struct_field(
     site: &Site<'_>,
     to: &Name,
     field: &Name,
-    fields: &[Slot],
+    fields: &[Binding],
 ) -> Result<(), AllocError>
     requires { site.now.number.now ≡ U32 }
-    ensures { OnOk result (out.new.items ≡ out.old.items ++ lines.struct_field_lines (func_of site.now.func.now) to.now field.now (map slot_of fields.now)) }
+    ensures { OnOk result (out.new.items ≡ out.old.items ++ lines.struct_field_lines (func_of site.now.func.now) to.now field.now (map binding_of fields.now)) }
 {
-    match slot_named(fields, field.as_slice()) {
+    match binding_named(fields, field.as_slice()) {
         None => put_no_field(out, field, fields),
         Some(ty) => {
             put_register(out, site, to)?;

@@ -11,15 +11,15 @@ ghost use Rattle.ir_model.specs.declared.firmware.Global.{Global as GlobalValue}
 ghost use Rattle.ir_model.specs.declared.firmware.StructDecl.{StructDecl as StructValue};
 ghost use Rattle.ir_model.specs.declared.types.Ty.{Ty as TyValue, U32};
 ghost use Rattle.ir_model.specs.Types.{type_of};
-ghost use Rattle.ir_model.specs.Plain.{slot_of, struct_of, global_of, func_of, file_of};
+ghost use Rattle.ir_model.specs.Plain.{binding_of, struct_of, global_of, func_of, file_of};
 ghost use Rattle.ir_model.specs.Resolve.{type_named};
-ghost use Rattle.ir_model.specs.Rules.{slot_type, global_type, is_number};
+ghost use Rattle.ir_model.specs.Rules.{binding_type, global_type, is_number};
 ghost use Rattle.ir_check_details.specs.Found as found;
 ghost use Rattle.ir_check_details.specs.FirstValues as first_values;
 
 use base_names::Name;
 use ir_model::firmware::{
-    Block, FileDecl, Firmware, Func, Global as GlobalDecl, Peripheral, Slot, StructDecl,
+    Binding, Block, FileDecl, Firmware, Func, Global as GlobalDecl, Peripheral, StructDecl,
 };
 use ir_model::types::Ty;
 use ir_types::equal::same_type;
@@ -42,17 +42,17 @@ fn is_word(name: &Name, word: &[u8]) -> bool
     name.as_slice() == word
 }
 
-/// The type of a slot.
-pub(crate) fn slot_named<'s>(slots: &'s [Slot], word: &[u8]) -> Option<&'s Ty>
-    ensures { option_map (λ (t : Bor TyValue). type_of t.now) result ≡ slot_type (map slot_of slots.now) word.now }
+/// The type of a binding.
+pub(crate) fn binding_named<'s>(bindings: &'s [Binding], word: &[u8]) -> Option<&'s Ty>
+    ensures { option_map (λ (t : Bor TyValue). type_of t.now) result ≡ binding_type (map binding_of bindings.now) word.now }
 {
-    match slots {
+    match bindings {
         [] => None,
-        [slot, more @ ..] => {
-            if is_word(&slot.name, word) {
-                Some(&slot.ty)
+        [binding, more @ ..] => {
+            if is_word(&binding.name, word) {
+                Some(&binding.ty)
             } else {
-                slot_named(more, word)
+                binding_named(more, word)
             }
         }
     }
@@ -182,9 +182,9 @@ pub(crate) fn register_type<'a>(site: &Site<'a>, name: &Name) -> &'a Ty
     requires { site.now.number.now ≡ U32 }
     ensures { type_of result.now ≡ type_named (func_of site.now.func.now) name.now }
 {
-    match slot_named(site.func.params.as_slice(), name.as_slice()) {
+    match binding_named(site.func.params.as_slice(), name.as_slice()) {
         Some(ty) => ty,
-        None => match slot_named(site.func.regs.as_slice(), name.as_slice()) {
+        None => match binding_named(site.func.regs.as_slice(), name.as_slice()) {
             Some(ty) => ty,
             None => site.number,
         },

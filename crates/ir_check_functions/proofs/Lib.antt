@@ -1,3 +1,3 @@
 mod FuncParts
 mod LocalSizes
-mod SlotNames
+mod BindingNames

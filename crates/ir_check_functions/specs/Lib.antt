@@ -1,2 +1,2 @@
 pub mod FunctionParts
-pub mod SlotParts
+pub mod BindingParts

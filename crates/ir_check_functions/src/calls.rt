@@ -2,19 +2,19 @@
 
 ghost use Rattle.std.specs.Prelude.{◌≡◌, Some, map};
 ghost use Rattle.ir_model.specs.Types.{type_of, same_result, Callee, result_of, boxed_result_of, types_from};
-ghost use Rattle.ir_model.specs.Plain.{func_of, slot_of};
+ghost use Rattle.ir_model.specs.Plain.{func_of, binding_of};
 ghost use Rattle.ir_model.specs.Resolve.{type_named, row_from};
 ghost use Rattle.ir_model.specs.Rules as rules;
 
 use base_names::Name;
 use ir_check_scopes::FuncScope;
 use ir_check_scopes::lookup::register_type;
-use ir_model::firmware::{Func, Slot};
+use ir_model::firmware::{Binding, Func};
 use ir_model::types::Ty;
 use ir_types::equal::same_type;
 
-fn fit_slots(func: &FuncScope, params: &[Slot], args: &[Name]) -> bool
-    ensures { result ≡ rules.fit (row_from (map slot_of params.now)) (map (type_named (func_of func.now.func.now)) args.now) }
+fn fit_bindings(func: &FuncScope, params: &[Binding], args: &[Name]) -> bool
+    ensures { result ≡ rules.fit (row_from (map binding_of params.now)) (map (type_named (func_of func.now.func.now)) args.now) }
 {
     match params {
         [] => match args {
@@ -24,7 +24,7 @@ fn fit_slots(func: &FuncScope, params: &[Slot], args: &[Name]) -> bool
         [param, more @ ..] => match args {
             [] => false,
             [arg, rest @ ..] => same_type(&param.ty, register_type(&*func, arg))
-                && fit_slots(func, more, rest),
+                && fit_bindings(func, more, rest),
         },
     }
 }
@@ -73,7 +73,7 @@ fn takes_boxed(func: &FuncScope, outcome: &Option<Box<Ty>>, to: &Option<Name>) -
 pub fn is_call(func: &FuncScope, callee: &Func, args: &[Name], to: &Option<Name>) -> bool
     ensures { result ≡ rules.is_call (Some (Callee (row_from (func_of callee.now).params) (func_of callee.now).outcome)) (map (type_named (func_of func.now.func.now)) args.now) (rules.kept_type (func_of func.now.func.now) to.now) }
 {
-    fit_slots(func, callee.params.as_slice(), args) && takes(func, &callee.result, to)
+    fit_bindings(func, callee.params.as_slice(), args) && takes(func, &callee.result, to)
 }
 
 /// Whether a call of what has this type fits it.

@@ -7,7 +7,7 @@ ghost use Rattle.ir_model.specs.Frames.{locals_size};
 ghost use Rattle.ir_model.specs.TextLimits.{register_limit, local_limit};
 ghost use Rattle.ir_model.specs.Typing.{object_limit};
 ghost use Rattle.ir_check_scopes.specs.Found.{Finds};
-ghost use Rattle.ir_check_functions.specs.SlotParts.{frame_part};
+ghost use Rattle.ir_check_functions.specs.BindingParts.{frame_part};
 
 use ir_check_scopes::found::require;
 use ir_check_scopes::{CheckFault, Scope, Spot};

@@ -11,11 +11,11 @@ ghost use Rattle.ir_check_scopes.specs.Found.{Finds};
 ghost use Rattle.ir_check_functions.specs.FunctionParts.{body_part, func_part};
 ghost use Rattle.ir_check_scopes.specs.Scopes.{AreSmall};
 
+use crate::bindings::bindings;
 use crate::code::blocks;
 use crate::frame::frame;
 use crate::func_tables::func_scope;
 use crate::labels::labels;
-use crate::slots::slots;
 use ir_check_scopes::{CheckFault, Scope, Spot};
 use ir_model::firmware::Func;
 use std::alloc::Global;
@@ -36,7 +36,7 @@ fn func(alloc: Global, scope: &Scope, func: &Func) -> Result<(), CheckFault>
     requires { HasFewItems func.now }
     ensures { Finds (func_part scope.now.structs (firmware_of scope.now.firmware.now) (func_of func.now)) result }
 {
-    let locals = slots(alloc, scope, func)?;
+    let locals = bindings(alloc, scope, func)?;
     frame(scope, func, locals)?;
     body(alloc, scope, func)?;
     Ok(())

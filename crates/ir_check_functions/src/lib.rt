@@ -1,6 +1,7 @@
 //! The checks of functions: parameters, result, locals, registers and frame, and their code.
 #![tactic(auto)]
 
+pub mod bindings;
 mod calls;
 mod code;
 mod fits;
@@ -12,6 +13,5 @@ mod locals;
 pub mod main_function;
 pub mod register_names;
 mod registers;
-pub mod slots;
 
 pub use fits::{inst_fits, term_fits};

@@ -2,35 +2,35 @@
 
 ghost use Rattle.std.specs.Prelude.{◌≡◌, ◌++◌, ◌∷◌, [], map, OnOk, IfOk, length, ◌≤◌, ◌+◌, ◌*◌};
 ghost use Rattle.ir_model.specs.Types.{type_of};
-ghost use Rattle.ir_model.specs.Plain.{slot_of, names_of, firmware_of};
+ghost use Rattle.ir_model.specs.Plain.{binding_of, names_of, firmware_of};
 ghost use Rattle.ir_model.specs.Layout.{known, shape, rounded_up as rounded};
 ghost use Rattle.ir_model.specs.Frames.{locals_size};
 ghost use Rattle.ir_model.specs.TextLimits.{local_limit};
 ghost use Rattle.ir_model.specs.Typing.{object_limit, local_checks};
 ghost use Rattle.ir_check_scopes.specs.Found.{Finds};
 ghost use Rattle.ir_check_scopes.specs.Spots.{place_of};
-ghost use Rattle.ir_check_functions.specs.SlotParts.{local_check, slot_check};
+ghost use Rattle.ir_check_functions.specs.BindingParts.{local_check, binding_check};
 
 use ir_check_scopes::new_names::add_new;
 use ir_check_scopes::sizes::object_size;
 use ir_check_scopes::type_names::type_names;
 use ir_check_scopes::{CheckFault, Scope, Spot};
-use ir_model::firmware::Slot;
+use ir_model::firmware::Binding;
 use ir_names::Names;
 use ir_rounding::rounded_up;
 
 #[tactic(auto, using(ir_check_scopes::proofs::Order::checks_in_order, ir_check_scopes::proofs::Order::checks_behind_one))]
-fn named_slot<'a>(
+fn named_binding<'a>(
     scope: &Scope,
     spot: Spot,
     seen: &mut Names<'a>,
-    slot: &'a Slot,
+    binding: &'a Binding,
 ) -> Result<(), CheckFault>
-    ensures finds { Finds (slot_check scope.now.structs (place_of spot.entry) seen.old (slot_of slot.now)) result }
-    ensures grows { OnOk result (seen.new ≡ seen.old ++ slot.now.name ∷ []) }
+    ensures finds { Finds (binding_check scope.now.structs (place_of spot.entry) seen.old (binding_of binding.now)) result }
+    ensures grows { OnOk result (seen.new ≡ seen.old ++ binding.now.name ∷ []) }
 {
-    add_new(seen, &slot.name, spot)?;
-    type_names(&scope.structs, &scope.structs, spot, &slot.ty)?;
+    add_new(seen, &binding.name, spot)?;
+    type_names(&scope.structs, &scope.structs, spot, &binding.ty)?;
     Ok(())
 }
 
@@ -39,15 +39,15 @@ fn local<'a>(
     scope: &Scope,
     spot: Spot,
     seen: &mut Names<'a>,
-    slot: &'a Slot,
+    binding: &'a Binding,
 ) -> Result<u32, CheckFault>
-    ensures finds { Finds (local_check (firmware_of scope.now.firmware.now) scope.now.structs (place_of spot.entry) seen.old (slot_of slot.now)) result }
-    ensures grows { OnOk result (seen.new ≡ seen.old ++ slot.now.name ∷ []) }
-    ensures size { IfOk result (λ n. n ≡ (shape (known (firmware_of scope.now.firmware.now).structs) (type_of slot.now.ty)).size) }
+    ensures finds { Finds (local_check (firmware_of scope.now.firmware.now) scope.now.structs (place_of spot.entry) seen.old (binding_of binding.now)) result }
+    ensures grows { OnOk result (seen.new ≡ seen.old ++ binding.now.name ∷ []) }
+    ensures size { IfOk result (λ n. n ≡ (shape (known (firmware_of scope.now.firmware.now).structs) (type_of binding.now.ty)).size) }
     ensures small { IfOk result (λ n. n ≤ object_limit) }
 {
-    named_slot(scope, spot, seen, slot)?;
-    let size = object_size(scope, spot, &slot.ty)?;
+    named_binding(scope, spot, seen, binding)?;
+    let size = object_size(scope, spot, &binding.ty)?;
     Ok(size)
 }
 
@@ -68,17 +68,17 @@ pub fn locals<'a>(
     scope: &Scope,
     spot: Spot,
     seen: &mut Names<'a>,
-    slots: &'a [Slot],
+    bindings: &'a [Binding],
 ) -> Result<u64, CheckFault>
-    requires { length slots.now ≤ local_limit }
-    ensures finds { Finds (local_checks (firmware_of scope.now.firmware.now) scope.now.structs (place_of spot.entry) seen.old (map slot_of slots.now)) result }
-    ensures grows { OnOk result (seen.new ≡ seen.old ++ names_of (map slot_of slots.now)) }
-    ensures size { IfOk result (λ n. n ≡ locals_size (known (firmware_of scope.now.firmware.now).structs) (map slot_of slots.now)) }
+    requires { length bindings.now ≤ local_limit }
+    ensures finds { Finds (local_checks (firmware_of scope.now.firmware.now) scope.now.structs (place_of spot.entry) seen.old (map binding_of bindings.now)) result }
+    ensures grows { OnOk result (seen.new ≡ seen.old ++ names_of (map binding_of bindings.now)) }
+    ensures size { IfOk result (λ n. n ≡ locals_size (known (firmware_of scope.now.firmware.now).structs) (map binding_of bindings.now)) }
     ensures most { IfOk result (λ n. n ≤ local_limit * object_limit) }
 {
     let mut total = 0;
-    for slot in slots {
-        let size = local(scope, spot, seen, slot)?;
+    for binding in bindings {
+        let size = local(scope, spot, seen, binding)?;
         total = with_local(total, size);
     }
     Ok(total)

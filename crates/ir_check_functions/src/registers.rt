@@ -2,11 +2,11 @@
 
 ghost use Rattle.std.specs.Prelude.{◌≡◌, ◌++◌, ◌∷◌, [], map, OnOk};
 ghost use Rattle.ir_model.specs.Types.{result_of};
-ghost use Rattle.ir_model.specs.Plain.{slot_of, names_of};
+ghost use Rattle.ir_model.specs.Plain.{binding_of, names_of};
 ghost use Rattle.ir_model.specs.Typing.{register_checks, outcome_checks};
 ghost use Rattle.ir_check_scopes.specs.Found.{Finds};
 ghost use Rattle.ir_check_scopes.specs.Spots.{place_of};
-ghost use Rattle.ir_check_functions.specs.SlotParts.{register_check};
+ghost use Rattle.ir_check_functions.specs.BindingParts.{register_check};
 
 use ir_check_scopes::found::require;
 use ir_check_scopes::kinds::is_register_type;
@@ -14,7 +14,7 @@ use ir_check_scopes::new_names::add_new;
 use ir_check_scopes::type_names::type_names;
 use ir_check_scopes::{CheckFault, Spot};
 use ir_model::check::CheckKind;
-use ir_model::firmware::Slot;
+use ir_model::firmware::Binding;
 use ir_model::types::Ty;
 use ir_names::Names;
 
@@ -23,14 +23,14 @@ fn register<'a>(
     declared: &Names,
     spot: Spot,
     seen: &mut Names<'a>,
-    slot: &'a Slot,
+    binding: &'a Binding,
 ) -> Result<(), CheckFault>
-    ensures finds { Finds (register_check declared.now (place_of spot.entry) seen.old (slot_of slot.now)) result }
-    ensures grows { OnOk result (seen.new ≡ seen.old ++ slot.now.name ∷ []) }
+    ensures finds { Finds (register_check declared.now (place_of spot.entry) seen.old (binding_of binding.now)) result }
+    ensures grows { OnOk result (seen.new ≡ seen.old ++ binding.now.name ∷ []) }
 {
-    add_new(seen, &slot.name, spot)?;
-    type_names(declared, declared, spot, &slot.ty)?;
-    require(is_register_type(&slot.ty), CheckKind::IllTyped, spot)?;
+    add_new(seen, &binding.name, spot)?;
+    type_names(declared, declared, spot, &binding.ty)?;
+    require(is_register_type(&binding.ty), CheckKind::IllTyped, spot)?;
     Ok(())
 }
 
@@ -39,13 +39,13 @@ pub fn registers<'a>(
     declared: &Names,
     spot: Spot,
     seen: &mut Names<'a>,
-    slots: &'a [Slot],
+    bindings: &'a [Binding],
 ) -> Result<(), CheckFault>
-    ensures finds { Finds (register_checks declared.now (place_of spot.entry) seen.old (map slot_of slots.now)) result }
-    ensures grows { OnOk result (seen.new ≡ seen.old ++ names_of (map slot_of slots.now)) }
+    ensures finds { Finds (register_checks declared.now (place_of spot.entry) seen.old (map binding_of bindings.now)) result }
+    ensures grows { OnOk result (seen.new ≡ seen.old ++ names_of (map binding_of bindings.now)) }
 {
-    for slot in slots {
-        register(declared, spot, seen, slot)?;
+    for binding in bindings {
+        register(declared, spot, seen, binding)?;
     }
     Ok(())
 }

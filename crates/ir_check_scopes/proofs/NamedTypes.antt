@@ -1,37 +1,37 @@
 -- What a name stands for, by its place in a list.
 use Rattle.std.proofs.Common.{◌≡◌, ℕ, zero, suc, ◌+◌, ◌-◌, ◌<◌, ◌≤◌, Bool, true, false, List, [], ◌∷◌, ◌++◌, map, get_or, length, Option, Some, None, if◌then◌else◌, refl, sym, ap, ◌∙◌, arith, bytes_eq}
-use Rattle.ir_model.specs.declared.firmware.Slot.{Slot}
+use Rattle.ir_model.specs.declared.firmware.Binding.{Binding}
 use Rattle.ir_model.specs.declared.firmware.Global.{Global}
 use Rattle.ir_model.specs.Types.{PlainType, U32, Callee, type_of}
-use Rattle.ir_model.specs.Plain.{PlainSlot, PlainGlobal, PlainFunc, slot_of, global_of, names_of, types_of}
+use Rattle.ir_model.specs.Plain.{PlainBinding, PlainGlobal, PlainFunc, binding_of, global_of, names_of, types_of}
 use Rattle.base_names.specs.Numbers.{has, number_of}
 use Rattle.ir_model.specs.Resolve.{row_from}
-use Rattle.ir_model.specs.Rules.{slot_type, global_type, func_type}
+use Rattle.ir_model.specs.Rules.{binding_type, global_type, func_type}
 
 absent_pick : (b : Bool) (t : PlainType) (ts : List PlainType) (k : ℕ) (h : Bool) → (if b then true else h) ≡ false → (h ≡ false → get_or ts k U32 ≡ U32) → get_or (t ∷ ts) (if b then zero else suc k) U32 ≡ U32
 absent_pick true t ts k h e f = cc
 absent_pick false t ts k h e f = f e
 
-pub absent : (ss : List PlainSlot) (n : List ℕ) → has (names_of ss) n ≡ false → get_or (types_of ss) (number_of (names_of ss) n) U32 ≡ U32
+pub absent : (ss : List PlainBinding) (n : List ℕ) → has (names_of ss) n ≡ false → get_or (types_of ss) (number_of (names_of ss) n) U32 ≡ U32
 absent [] n h = refl
 absent (s ∷ ss) n h = absent_pick (bytes_eq s.name n) s.ty (types_of ss) (number_of (names_of ss) n) (has (names_of ss) n) h (absent ss n)
 
-pub param_at : (ps : List Slot) (ss : List PlainSlot) (k : ℕ) (d : Slot) → k < length ps → get_or (types_of (map slot_of ps ++ ss)) k U32 ≡ type_of (get_or ps k d).ty
+pub param_at : (ps : List Binding) (ss : List PlainBinding) (k : ℕ) (d : Binding) → k < length ps → get_or (types_of (map binding_of ps ++ ss)) k U32 ≡ type_of (get_or ps k d).ty
 param_at [] ss k d l = absurd (omega arith)
 param_at (p ∷ ps) ss zero d l = refl
 param_at (p ∷ ps) ss (suc k) d l = param_at ps ss k d (omega arith)
 
-reg_only : (rs : List Slot) (k : ℕ) (d : Slot) → k < length rs → get_or (types_of (map slot_of rs)) k U32 ≡ type_of (get_or rs k d).ty
+reg_only : (rs : List Binding) (k : ℕ) (d : Binding) → k < length rs → get_or (types_of (map binding_of rs)) k U32 ≡ type_of (get_or rs k d).ty
 reg_only [] k d l = absurd (omega arith)
 reg_only (r ∷ rs) zero d l = refl
 reg_only (r ∷ rs) (suc k) d l = reg_only rs k d (omega arith)
 
-pub reg_at : (ps rs : List Slot) (k : ℕ) (d : Slot) → length ps ≤ k → k - length ps < length rs → get_or (types_of (map slot_of ps ++ map slot_of rs)) k U32 ≡ type_of (get_or rs (k - length ps) d).ty
+pub reg_at : (ps rs : List Binding) (k : ℕ) (d : Binding) → length ps ≤ k → k - length ps < length rs → get_or (types_of (map binding_of ps ++ map binding_of rs)) k U32 ≡ type_of (get_or rs (k - length ps) d).ty
 reg_at [] rs k d l m = let q : k - 0 ≡ k = omega arith in reg_only rs k d (omega arith) ∙ ap (λ j. type_of (get_or rs j d).ty) (sym q)
 reg_at (p ∷ ps) rs zero d l m = absurd (omega arith)
 reg_at (p ∷ ps) rs (suc k) d l m = let q : suc k - suc (length ps) ≡ k - length ps = omega arith in reg_at ps rs k d (omega arith) (omega arith) ∙ ap (λ j. type_of (get_or rs j d).ty) (sym q)
 
-pub counted : (ps rs : List Slot) → length (names_of (map slot_of ps ++ map slot_of rs)) ≡ length ps + length rs
+pub counted : (ps rs : List Binding) → length (names_of (map binding_of ps ++ map binding_of rs)) ≡ length ps + length rs
 counted [] [] = refl
 counted [] (r ∷ rs) = let h = counted [] rs in omega arith
 counted (p ∷ ps) rs = let h = counted ps rs in omega arith
@@ -45,12 +45,12 @@ nowhere_pick : {B : Type 0} (b h : Bool) (t : B) (o : Option B) → (if b then t
 nowhere_pick true h t o i g = cc
 nowhere_pick false h t o i g = g i
 
-slot_there : (ss : List Slot) (n : List ℕ) (d : Slot) → has (names_of (map slot_of ss)) n ≡ true → slot_type (map slot_of ss) n ≡ Some (type_of (get_or ss (number_of (names_of (map slot_of ss)) n) d).ty)
-slot_there [] n d h = cc
-slot_there (s ∷ ss) n d h = there_pick (bytes_eq s.name n) (has (names_of (map slot_of ss)) n) (type_of s.ty) (slot_type (map slot_of ss) n) (λ (x : Slot). type_of x.ty) s ss (number_of (names_of (map slot_of ss)) n) d h refl (slot_there ss n d)
+binding_there : (ss : List Binding) (n : List ℕ) (d : Binding) → has (names_of (map binding_of ss)) n ≡ true → binding_type (map binding_of ss) n ≡ Some (type_of (get_or ss (number_of (names_of (map binding_of ss)) n) d).ty)
+binding_there [] n d h = cc
+binding_there (s ∷ ss) n d h = there_pick (bytes_eq s.name n) (has (names_of (map binding_of ss)) n) (type_of s.ty) (binding_type (map binding_of ss) n) (λ (x : Binding). type_of x.ty) s ss (number_of (names_of (map binding_of ss)) n) d h refl (binding_there ss n d)
 
-pub slot_at : (ss : List Slot) (n : List ℕ) (k : ℕ) (d : Slot) → has (names_of (map slot_of ss)) n ≡ true → k ≡ number_of (names_of (map slot_of ss)) n → slot_type (map slot_of ss) n ≡ Some (type_of (get_or ss k d).ty)
-slot_at ss n k d h e = slot_there ss n d h ∙ ap (λ j. Some (type_of (get_or ss j d).ty)) (sym e)
+pub binding_at : (ss : List Binding) (n : List ℕ) (k : ℕ) (d : Binding) → has (names_of (map binding_of ss)) n ≡ true → k ≡ number_of (names_of (map binding_of ss)) n → binding_type (map binding_of ss) n ≡ Some (type_of (get_or ss k d).ty)
+binding_at ss n k d h e = binding_there ss n d h ∙ ap (λ j. Some (type_of (get_or ss j d).ty)) (sym e)
 
 abbrev globals_named : List Global → List (List ℕ)
 globals_named gs = map (λ (g : PlainGlobal). g.name) (map global_of gs)

@@ -6,7 +6,7 @@ ghost use Rattle.ir_model.specs.Plain.{func_of, firmware_of, funcs_of, names_of}
 ghost use Rattle.ir_model.specs.Layout.{known, fields_named};
 ghost use Rattle.base_names.specs.Numbers.{has};
 ghost use Rattle.ir_model.specs.Resolve.{type_named, row_from};
-ghost use Rattle.ir_model.specs.Rules.{slot_type, global_type, func_type, field_type, is_type};
+ghost use Rattle.ir_model.specs.Rules.{binding_type, global_type, func_type, field_type, is_type};
 
 use crate::scope::{FuncScope, Scope};
 use base_names::Name;
@@ -32,7 +32,7 @@ pub fn register_type<'s>(scope: &'s FuncScope<'s>, name: &Name) -> &'s Ty
 /// The type of a local.
 pub fn local_named<'s>(scope: &'s FuncScope<'s>, name: &Name) -> Option<&'s Ty>
     ensures there { is_some result ≡ has (names_of (func_of scope.now.func.now).locals) name.now }
-    ensures ty { IfSome result (λ t. slot_type (func_of scope.now.func.now).locals name.now ≡ Some (type_of t.now)) }
+    ensures ty { IfSome result (λ t. binding_type (func_of scope.now.func.now).locals name.now ≡ Some (type_of t.now)) }
 {
     let Some(place) = scope.locals.number(name) else {
         return None;

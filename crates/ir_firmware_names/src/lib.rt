@@ -2,9 +2,9 @@
 #![tactic(auto)]
 
 ghost use Rattle.std.specs.Prelude.{◌≡◌, ◌++◌, map, OnOk, IfOk};
-ghost use Rattle.ir_model.specs.Plain.{PlainStruct, PlainGlobal, slot_of, struct_of, global_of, func_of, names_of, regs_of};
+ghost use Rattle.ir_model.specs.Plain.{PlainStruct, PlainGlobal, binding_of, struct_of, global_of, func_of, names_of, regs_of};
 
-use ir_model::firmware::{Block, Func, Global as GlobalDecl, Peripheral, Slot, StructDecl};
+use ir_model::firmware::{Binding, Block, Func, Global as GlobalDecl, Peripheral, StructDecl};
 use ir_names::Names;
 use std::alloc::{AllocError, Global};
 
@@ -73,12 +73,12 @@ pub fn add_globals<'a>(names: &mut Names<'a>, globals: &'a [GlobalDecl]) -> Resu
     Ok(())
 }
 
-/// Puts the names of slots behind others.
-pub fn add_slots<'a>(names: &mut Names<'a>, slots: &'a [Slot]) -> Result<(), AllocError>
-    ensures { OnOk result (names.new ≡ names.old ++ names_of (map slot_of slots.now)) }
+/// Puts the names of bindings behind others.
+pub fn add_bindings<'a>(names: &mut Names<'a>, bindings: &'a [Binding]) -> Result<(), AllocError>
+    ensures { OnOk result (names.new ≡ names.old ++ names_of (map binding_of bindings.now)) }
 {
-    for slot in slots {
-        names.push(&slot.name)?;
+    for binding in bindings {
+        names.push(&binding.name)?;
     }
     Ok(())
 }
@@ -92,8 +92,8 @@ pub fn register_names(alloc: Global, func: &Func) -> Result<Names<'_>, AllocErro
     ensures { IfOk result (λ n. n ≡ names_of (regs_of (func_of func.now))) }
 {
     let mut names = Names::new(alloc);
-    add_slots(&mut names, func.params.as_slice())?;
-    add_slots(&mut names, func.regs.as_slice())?;
+    add_bindings(&mut names, func.params.as_slice())?;
+    add_bindings(&mut names, func.regs.as_slice())?;
     Ok(names)
 }
 
@@ -106,6 +106,6 @@ pub fn local_names(alloc: Global, func: &Func) -> Result<Names<'_>, AllocError>
     ensures { IfOk result (λ n. n ≡ names_of (func_of func.now).locals) }
 {
     let mut names = Names::new(alloc);
-    add_slots(&mut names, func.locals.as_slice())?;
+    add_bindings(&mut names, func.locals.as_slice())?;
     Ok(names)
 }

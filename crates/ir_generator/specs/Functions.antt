@@ -7,16 +7,16 @@ use Rattle.ir_model.specs.declared.firmware.Inst.TheVariants.{Addr, Load, Store,
 use Rattle.ir_model.specs.declared.firmware.Term.TheVariants.{Jump, Ret}
 use Rattle.ir_model.specs.declared.firmware.Block.{Block}
 use Rattle.ir_model.specs.Types.{U32, Pointer, nothing, gives}
-use Rattle.ir_model.specs.Plain.{PlainSlot, PlainFunc}
+use Rattle.ir_model.specs.Plain.{PlainBinding, PlainFunc}
 use Rattle.ir_generator.specs.declared.choices.Body.{Body}
 use Rattle.ir_generator.specs.declared.choices.Body.TheVariants.{Adds, Stores, Calls, Lends}
 use Rattle.ir_generator.specs.Names.{port_name, global_name, test_name}
 
 -- `n: u32`, and `n: *u32`
-abbrev pub word : List ℕ → PlainSlot
+abbrev pub word : List ℕ → PlainBinding
 word n = record { name = n; ty = U32 }
 
-abbrev pub pointer : List ℕ → PlainSlot
+abbrev pub pointer : List ℕ → PlainBinding
 pointer n = record { name = n; ty = Pointer U32 }
 
 abbrev pub block : (label : List ℕ) → List Inst → Option (List ℕ) → Block
@@ -52,13 +52,13 @@ lending =
     ∷ Load (codes "v") (codes "p")
     ∷ []
 
-abbrev pub locals_by : Body → List PlainSlot
+abbrev pub locals_by : Body → List PlainBinding
 locals_by (Adds a) = []
 locals_by (Stores a) = []
 locals_by (Calls a) = []
 locals_by Lends = word (codes "x") ∷ []
 
-abbrev pub regs_by : Body → List PlainSlot
+abbrev pub regs_by : Body → List PlainBinding
 regs_by (Adds a) = pointer (codes "p") ∷ word (codes "w") ∷ []
 regs_by (Stores a) = pointer (codes "p") ∷ []
 regs_by (Calls a) = word (codes "w") ∷ []
@@ -78,7 +78,7 @@ value_by (Calls a) = codes "w"
 value_by Lends = codes "v"
 
 -- `tn(v: u32) -> u32`
-abbrev pub test_with : ℕ → (locals regs : List PlainSlot) → List Block → PlainFunc
+abbrev pub test_with : ℕ → (locals regs : List PlainBinding) → List Block → PlainFunc
 test_with n ls rs bs =
     record { name = test_name n; params = word (codes "v") ∷ []; outcome = gives U32; locals = ls; regs = rs; blocks = bs }
 

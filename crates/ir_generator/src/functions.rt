@@ -2,7 +2,7 @@
 
 ghost use Rattle.std.specs.Prelude.{◌≡◌, ◌<◌, ◌≤◌, ◌∷◌, [], map, codes, Some, IfOk};
 ghost use Rattle.base_names.specs.Names.{IsName};
-ghost use Rattle.ir_model.specs.Plain.{slot_of, func_of};
+ghost use Rattle.ir_model.specs.Plain.{binding_of, func_of};
 ghost use Rattle.ir_generator.specs.declared.choices.Body.TheVariants as body;
 ghost use Rattle.ir_generator.specs.Choices.{IsWithin};
 ghost use Rattle.ir_generator.specs.Functions as spec;
@@ -12,7 +12,7 @@ use crate::naming::{global_name, port_name, test_name};
 use crate::parts::{Code, one_pointer, one_word, put_pointer, put_word};
 use base_lists::ListVec;
 use base_names::Name;
-use ir_model::firmware::{BinOp, Block, Func, Inst, Slot, Term};
+use ir_model::firmware::{BinOp, Binding, Block, Func, Inst, Term};
 use ir_model::types::Ty;
 use std::alloc::{AllocError, Global};
 
@@ -68,12 +68,12 @@ fn test_blocks(alloc: Global, code: Code, value: &[u8]) -> Result<Vec<Block>, Al
 fn test(
     alloc: Global,
     number: u32,
-    locals: Vec<Slot>,
-    regs: Vec<Slot>,
+    locals: Vec<Binding>,
+    regs: Vec<Binding>,
     blocks: Vec<Block>,
 ) -> Result<Func, AllocError>
     requires { number < 200 }
-    ensures { IfOk result (λ func. func_of func ≡ spec.test_with number (map slot_of locals.items) (map slot_of regs.items) blocks.items) }
+    ensures { IfOk result (λ func. func_of func ≡ spec.test_with number (map binding_of locals.items) (map binding_of regs.items) blocks.items) }
 {
     let name = test_name(alloc, number)?;
     let params = one_word(alloc, b"v")?;
@@ -278,8 +278,8 @@ fn main_blocks(alloc: Global, size: u32) -> Result<Vec<Block>, AllocError>
 
 /// The registers of `main`.
 #[tactic(auto, using(crate::proofs::Proper::fixed_rules))]
-fn main_regs(alloc: Global) -> Result<Vec<Slot>, AllocError>
-    ensures { IfOk result (λ regs. map slot_of regs.items ≡ spec.pointer (codes "p") ∷ spec.pointer (codes "q") ∷ spec.word (codes "v") ∷ []) }
+fn main_regs(alloc: Global) -> Result<Vec<Binding>, AllocError>
+    ensures { IfOk result (λ regs. map binding_of regs.items ≡ spec.pointer (codes "p") ∷ spec.pointer (codes "q") ∷ spec.word (codes "v") ∷ []) }
 {
     let mut regs = one_pointer(alloc, b"p")?;
     put_pointer(alloc, &mut regs, b"q")?;

@@ -1,16 +1,16 @@
-//! Slots and instructions of generated functions.
+//! Bindings and instructions of generated functions.
 
 ghost use Rattle.std.specs.Prelude.{◌≡◌, ◌<◌, ◌≤◌, ◌∷◌, [], ◌++◌, map, codes, Some, None, IfOk, OnOk};
 ghost use Rattle.std.specs.List.{range_with_len};
 ghost use Rattle.base_names.specs.Names.{IsName};
 ghost use Rattle.ir_model.specs.declared.firmware.Inst.TheVariants as inst;
-ghost use Rattle.ir_model.specs.Plain.{slot_of};
+ghost use Rattle.ir_model.specs.Plain.{binding_of};
 ghost use Rattle.ir_generator.specs.Functions as spec;
 
 use crate::naming::test_name;
 use base_lists::ListVec;
 use base_names::Name;
-use ir_model::firmware::{BinOp, Inst, Slot};
+use ir_model::firmware::{BinOp, Binding, Inst};
 use ir_model::types::Ty;
 use std::alloc::{AllocError, Global};
 use std::marker::Model;
@@ -30,57 +30,61 @@ impl Model for Code {
     ghost view = { λ c. c.insts.items };
 }
 
-/// A list of one slot of a word.
-pub(crate) fn one_word(alloc: Global, name: &[u8]) -> Result<Vec<Slot>, AllocError>
+/// A list of one binding of a word.
+pub(crate) fn one_word(alloc: Global, name: &[u8]) -> Result<Vec<Binding>, AllocError>
     requires { IsName name.now }
-    ensures { IfOk result (λ slots. map slot_of slots.items ≡ spec.word name.now ∷ []) }
+    ensures { IfOk result (λ bindings. map binding_of bindings.items ≡ spec.word name.now ∷ []) }
 {
-    let mut slots = Vec::new(alloc);
-    put_word(alloc, &mut slots, name)?;
-    Ok(slots)
+    let mut bindings = Vec::new(alloc);
+    put_word(alloc, &mut bindings, name)?;
+    Ok(bindings)
 }
 
-/// A list of one slot of a pointer to words.
-pub(crate) fn one_pointer(alloc: Global, name: &[u8]) -> Result<Vec<Slot>, AllocError>
+/// A list of one binding of a pointer to words.
+pub(crate) fn one_pointer(alloc: Global, name: &[u8]) -> Result<Vec<Binding>, AllocError>
     requires { IsName name.now }
-    ensures { IfOk result (λ slots. map slot_of slots.items ≡ spec.pointer name.now ∷ []) }
+    ensures { IfOk result (λ bindings. map binding_of bindings.items ≡ spec.pointer name.now ∷ []) }
 {
-    let mut slots = Vec::new(alloc);
-    put_pointer(alloc, &mut slots, name)?;
-    Ok(slots)
+    let mut bindings = Vec::new(alloc);
+    put_pointer(alloc, &mut bindings, name)?;
+    Ok(bindings)
 }
 
-/// Puts a slot of a word last.
-pub(crate) fn put_word(alloc: Global, slots: &mut Vec<Slot>, name: &[u8]) -> Result<(), AllocError>
-    requires { IsName name.now }
-    ensures { OnOk result (map slot_of slots.new.items ≡ map slot_of slots.old.items ++ spec.word name.now ∷ []) }
-{
-    let name = Name::of(alloc, name)?;
-    slots.push(Slot { name, ty: Ty::U32 })?;
-    Ok(())
-}
-
-/// Puts a slot of a pointer to words last.
-pub(crate) fn put_pointer(
+/// Puts a binding of a word last.
+pub(crate) fn put_word(
     alloc: Global,
-    slots: &mut Vec<Slot>,
+    bindings: &mut Vec<Binding>,
     name: &[u8],
 ) -> Result<(), AllocError>
     requires { IsName name.now }
-    ensures { OnOk result (map slot_of slots.new.items ≡ map slot_of slots.old.items ++ spec.pointer name.now ∷ []) }
+    ensures { OnOk result (map binding_of bindings.new.items ≡ map binding_of bindings.old.items ++ spec.word name.now ∷ []) }
 {
-    let slot = pointer(alloc, name)?;
-    slots.push(slot)?;
+    let name = Name::of(alloc, name)?;
+    bindings.push(Binding { name, ty: Ty::U32 })?;
     Ok(())
 }
 
-fn pointer(alloc: Global, name: &[u8]) -> Result<Slot, AllocError>
+/// Puts a binding of a pointer to words last.
+pub(crate) fn put_pointer(
+    alloc: Global,
+    bindings: &mut Vec<Binding>,
+    name: &[u8],
+) -> Result<(), AllocError>
     requires { IsName name.now }
-    ensures { IfOk result (λ slot. slot_of slot ≡ spec.pointer name.now) }
+    ensures { OnOk result (map binding_of bindings.new.items ≡ map binding_of bindings.old.items ++ spec.pointer name.now ∷ []) }
+{
+    let binding = pointer(alloc, name)?;
+    bindings.push(binding)?;
+    Ok(())
+}
+
+fn pointer(alloc: Global, name: &[u8]) -> Result<Binding, AllocError>
+    requires { IsName name.now }
+    ensures { IfOk result (λ binding. binding_of binding ≡ spec.pointer name.now) }
 {
     let target = Box::new(alloc, Ty::U32)?;
     let name = Name::of(alloc, name)?;
-    Ok(Slot {
+    Ok(Binding {
         name,
         ty: Ty::Ptr(target),
     })

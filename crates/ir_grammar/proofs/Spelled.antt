@@ -15,11 +15,11 @@ use Rattle.ir_model.specs.declared.token.Mark.TheVariants as mark
 use Rattle.ir_model.specs.declared.token.TextLimit.{TextLimit}
 use Rattle.ir_model.specs.declared.token.TextLimit.TheVariants as limit
 use Rattle.ir_model.specs.Types.{PlainType, U8, U16, U32, Pointer, Array, Named, Callee, PlainTypes, none, more, PlainResult, nothing, gives}
-use Rattle.ir_model.specs.Plain.{PlainSlot, PlainStruct, PlainGlobal, PlainFunc, PlainFile, PlainFirmware}
+use Rattle.ir_model.specs.Plain.{PlainBinding, PlainStruct, PlainGlobal, PlainFunc, PlainFile, PlainFirmware}
 use Rattle.ir_model.specs.Tokens.{Marked, Token, Name, Number, Key, Sign}
 use Rattle.ir_model.specs.TextLimits.{field_limit, parameter_limit}
-use Rattle.ir_model.specs.Lines.{Line, plain, name, type_tokens, row_tokens, more_tokens, result_tokens, slot_tokens, counted, more_slots, slots_tokens, cell_tokens, more_cells, init_tokens, arguments, more_arguments, inst_line, inst_lines, term_line, block_lines, local_lines, reg_lines, close_line, func_line, func_lines, funcs_lines, file_lines, struct_line, struct_lines, periph_lines, global_line, global_lines, global_start, lines_of}
-use Rattle.ir_grammar.specs.Spelling.{Glyphs, separated, spell_type, spell_row, spell_more_row, spell_gives, spell_slot, spell_struct, spell_structs, spell_periphs, spell_cell, spell_cells, spell_init, spell_constant, spell_global, spell_globals, spell_args, spell_assigned, spell_inst, spell_term, spell_block, spell_head, spell_locals, spell_regs, spell_func, spell_file, spell_firmware}
+use Rattle.ir_model.specs.Lines.{Line, plain, name, type_tokens, row_tokens, more_tokens, result_tokens, binding_tokens, counted, more_bindings, bindings_tokens, cell_tokens, more_cells, init_tokens, arguments, more_arguments, inst_line, inst_lines, term_line, block_lines, local_lines, reg_lines, close_line, func_line, func_lines, funcs_lines, file_lines, struct_line, struct_lines, periph_lines, global_line, global_lines, global_start, lines_of}
+use Rattle.ir_grammar.specs.Spelling.{Glyphs, separated, spell_type, spell_row, spell_more_row, spell_gives, spell_binding, spell_struct, spell_structs, spell_periphs, spell_cell, spell_cells, spell_init, spell_constant, spell_global, spell_globals, spell_args, spell_assigned, spell_inst, spell_term, spell_block, spell_head, spell_locals, spell_regs, spell_func, spell_file, spell_firmware}
 
 module _ {X : Type 0} (g : Glyphs X) where
   -- tokens behind another, and then the rest
@@ -70,24 +70,24 @@ module _ {X : Type 0} (g : Glyphs X) where
     result_put d nothing z = refl
     result_put d (gives t) z = put (Sign mark.Arrow) _ _ z (type_put None d t z)
 
-  slot_put : (x : Option Excess) (s : PlainSlot) (z : List X) → behind (slot_tokens x s) z ≡ spell_slot g s ++ z
-  slot_put x s z = put (Name s.name) _ _ z (put (Sign mark.Colon) _ _ z (type_put None 0 s.ty z))
+  binding_put : (x : Option Excess) (s : PlainBinding) (z : List X) → behind (binding_tokens x s) z ≡ spell_binding g s ++ z
+  binding_put x s z = put (Name s.name) _ _ z (put (Sign mark.Colon) _ _ z (type_put None 0 s.ty z))
 
-  slots_from : (l : TextLimit) (x : Option Excess) (k most : ℕ) (s : PlainSlot) (ss : List PlainSlot) (z : List X) → behind (slot_tokens x s ++ more_slots l k most ss) z ≡ separated g (spell_slot g) (s ∷ ss) ++ z
-  slots_from l x k most s [] z = ap (λ y. behind y z) (append-nil (slot_tokens x s)) ∙ slot_put x s z
-  slots_from l x k most s (t ∷ ts) z =
-      behind_append (slot_tokens x s) (more_slots l k most (t ∷ ts)) z
-      ∙ (slot_put x s _
-      ∙ (ap (λ y. spell_slot g s ++ y) (put (Sign mark.Comma) _ _ z (slots_from l (counted k most l None) (k + 1) most t ts z)) ∙ sym (append_assoc (spell_slot g s) _ z)))
+  bindings_from : (l : TextLimit) (x : Option Excess) (k most : ℕ) (s : PlainBinding) (ss : List PlainBinding) (z : List X) → behind (binding_tokens x s ++ more_bindings l k most ss) z ≡ separated g (spell_binding g) (s ∷ ss) ++ z
+  bindings_from l x k most s [] z = ap (λ y. behind y z) (append-nil (binding_tokens x s)) ∙ binding_put x s z
+  bindings_from l x k most s (t ∷ ts) z =
+      behind_append (binding_tokens x s) (more_bindings l k most (t ∷ ts)) z
+      ∙ (binding_put x s _
+      ∙ (ap (λ y. spell_binding g s ++ y) (put (Sign mark.Comma) _ _ z (bindings_from l (counted k most l None) (k + 1) most t ts z)) ∙ sym (append_assoc (spell_binding g s) _ z)))
 
-  slots_put : (l : TextLimit) (most : ℕ) (ss : List PlainSlot) (z : List X) → behind (slots_tokens l most ss) z ≡ separated g (spell_slot g) ss ++ z
-  slots_put l most [] z = refl
-  slots_put l most (s ∷ ss) z = slots_from l None 1 most s ss z
+  bindings_put : (l : TextLimit) (most : ℕ) (ss : List PlainBinding) (z : List X) → behind (bindings_tokens l most ss) z ≡ separated g (spell_binding g) ss ++ z
+  bindings_put l most [] z = refl
+  bindings_put l most (s ∷ ss) z = bindings_from l None 1 most s ss z
 
   struct_put : (k : ℕ) (s : PlainStruct) → whole (struct_line k s) ≡ spell_struct g s
   struct_put k s =
       ap (λ y. g.first (Key key.Struct) ++ (g.next (Name s.name) ++ (g.next (Sign mark.OpenBrace) ++ y)))
-      (behind_append (slots_tokens limit.Field field_limit s.fields) (plain (Sign mark.CloseBrace) ∷ []) g.line_end ∙ slots_put limit.Field field_limit s.fields _)
+      (behind_append (bindings_tokens limit.Field field_limit s.fields) (plain (Sign mark.CloseBrace) ∷ []) g.line_end ∙ bindings_put limit.Field field_limit s.fields _)
 
   cell_put : (k : ℕ) (c : Cell) (z : List X) → behind (cell_tokens k c) z ≡ spell_cell g c ++ z
   cell_put k (cell.Word n) z = refl
@@ -110,11 +110,11 @@ module _ {X : Type 0} (g : Glyphs X) where
 
   global_put : (k : ℕ) (d : PlainGlobal) → whole (global_line k d) ≡ spell_global g d
   global_put k d =
-      let s : PlainSlot = record { name = d.name; ty = d.ty } in
-      ap whole (append_assoc (global_start d.constant _) (slot_tokens None s) (init_tokens d.init))
+      let s : PlainBinding = record { name = d.name; ty = d.ty } in
+      ap whole (append_assoc (global_start d.constant _) (binding_tokens None s) (init_tokens d.init))
       ∙ (start_put d.constant _ (name d.name) _
-      ∙ (ap (λ y. spell_constant g d.constant ++ y) (behind_append (slot_tokens None s) (init_tokens d.init) g.line_end ∙ (slot_put None s _ ∙ ap (λ y. spell_slot g s ++ y) (init_put d.init)))
-      ∙ sym (append_assoc (spell_constant g d.constant) (spell_slot g s) (spell_init g d.init))))
+      ∙ (ap (λ y. spell_constant g d.constant ++ y) (behind_append (binding_tokens None s) (init_tokens d.init) g.line_end ∙ (binding_put None s _ ∙ ap (λ y. spell_binding g s ++ y) (init_put d.init)))
+      ∙ sym (append_assoc (spell_constant g d.constant) (spell_binding g s) (spell_init g d.init))))
 
   args_from : (k : ℕ) (a : List ℕ) (as_ : List (List ℕ)) → g.next (Name a) ++ behind (more_arguments k as_) g.line_end ≡ spell_args g (a ∷ as_)
   args_from k a [] = refl
@@ -136,8 +136,8 @@ module _ {X : Type 0} (g : Glyphs X) where
   term_put (term.Ret (Some r)) = refl
   term_put _ = refl
 
-  slot_line_put : (t : Token) (s : PlainSlot) → g.first t ++ behind (slot_tokens None s) g.line_end ≡ g.first t ++ (spell_slot g s ++ g.line_end)
-  slot_line_put t s = ap (λ y. g.first t ++ y) (slot_put None s g.line_end)
+  binding_line_put : (t : Token) (s : PlainBinding) → g.first t ++ behind (binding_tokens None s) g.line_end ≡ g.first t ++ (spell_binding g s ++ g.line_end)
+  binding_line_put t s = ap (λ y. g.first t ++ y) (binding_put None s g.line_end)
 
   -- Lists of lines.
   join : (a b c d : List X) → a ≡ b → c ≡ d → a ++ c ≡ b ++ d
@@ -165,13 +165,13 @@ module _ {X : Type 0} (g : Glyphs X) where
   insts_put n [] = refl
   insts_put n (i ∷ is) = join _ _ _ _ (inst_put _ i) (insts_put (n + 1) is)
 
-  locals_put : (k : ℕ) (ss : List PlainSlot) → wholes (local_lines k ss) ≡ spell_locals g ss
+  locals_put : (k : ℕ) (ss : List PlainBinding) → wholes (local_lines k ss) ≡ spell_locals g ss
   locals_put k [] = refl
-  locals_put k (s ∷ ss) = join _ _ _ _ (slot_line_put (Key key.Local) s) (locals_put (k + 1) ss)
+  locals_put k (s ∷ ss) = join _ _ _ _ (binding_line_put (Key key.Local) s) (locals_put (k + 1) ss)
 
-  regs_put : (k : ℕ) (ss : List PlainSlot) → wholes (reg_lines k ss) ≡ spell_regs g ss
+  regs_put : (k : ℕ) (ss : List PlainBinding) → wholes (reg_lines k ss) ≡ spell_regs g ss
   regs_put k [] = refl
-  regs_put k (s ∷ ss) = join _ _ _ _ (slot_line_put (Key key.Reg) s) (regs_put (k + 1) ss)
+  regs_put k (s ∷ ss) = join _ _ _ _ (binding_line_put (Key key.Reg) s) (regs_put (k + 1) ss)
 
   blocks_put : (k n : ℕ) (bs : List Block) → wholes (block_lines k n bs) ≡ flat_map (spell_block g) bs
   blocks_put k n [] = refl
@@ -185,10 +185,10 @@ module _ {X : Type 0} (g : Glyphs X) where
   head_put : (k : ℕ) (f : PlainFunc) → whole (func_line k f) ≡ g.first (Key key.Func) ++ spell_head g f.name f.params f.outcome
   head_put k f =
       ap (λ y. g.first (Key key.Func) ++ (g.next (Name f.name) ++ (g.next (Sign mark.Open) ++ y)))
-      (behind_append (slots_tokens limit.Param parameter_limit f.params ++ (plain (Sign mark.Close) ∷ result_tokens 0 f.outcome)) (plain (Sign mark.OpenBrace) ∷ []) g.line_end
-      ∙ (behind_append (slots_tokens limit.Param parameter_limit f.params) (plain (Sign mark.Close) ∷ result_tokens 0 f.outcome) _
-      ∙ (slots_put limit.Param parameter_limit f.params _
-      ∙ (ap (λ y. separated g (spell_slot g) f.params ++ (g.next (Sign mark.Close) ++ y)) (result_put 0 f.outcome _) ∙ sym (append_assoc (separated g (spell_slot g) f.params) (g.next (Sign mark.Close)) _)))))
+      (behind_append (bindings_tokens limit.Param parameter_limit f.params ++ (plain (Sign mark.Close) ∷ result_tokens 0 f.outcome)) (plain (Sign mark.OpenBrace) ∷ []) g.line_end
+      ∙ (behind_append (bindings_tokens limit.Param parameter_limit f.params) (plain (Sign mark.Close) ∷ result_tokens 0 f.outcome) _
+      ∙ (bindings_put limit.Param parameter_limit f.params _
+      ∙ (ap (λ y. separated g (spell_binding g) f.params ++ (g.next (Sign mark.Close) ++ y)) (result_put 0 f.outcome _) ∙ sym (append_assoc (separated g (spell_binding g) f.params) (g.next (Sign mark.Close)) _)))))
 
   func_put : (n : ℕ) (f : PlainFunc) → wholes (func_lines n f) ≡ spell_func g f
   func_put n f =

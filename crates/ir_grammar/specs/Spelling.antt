@@ -11,7 +11,7 @@ use Rattle.ir_model.specs.declared.firmware.Peripheral.{Peripheral}
 use Rattle.ir_model.specs.declared.token.Keyword.TheVariants as key
 use Rattle.ir_model.specs.declared.token.Mark.TheVariants.{OpenBrace, CloseBrace, Open, Close, OpenSquare, CloseSquare, Comma, Colon, Equal, Star, Arrow}
 use Rattle.ir_model.specs.Types.{PlainType, U8, U16, U32, Pointer, Array, Named, Callee, PlainTypes, none, more, PlainResult, nothing, gives}
-use Rattle.ir_model.specs.Plain.{PlainSlot, PlainStruct, PlainGlobal, PlainFunc, PlainFile, PlainFirmware}
+use Rattle.ir_model.specs.Plain.{PlainBinding, PlainStruct, PlainGlobal, PlainFunc, PlainFile, PlainFirmware}
 use Rattle.ir_model.specs.Tokens.{Token, Name, Number, Key, Operation, Comparison, Sign}
 
 -- what is put for the first token of a line, for a token behind another, and for the ends of a line and of the text
@@ -53,12 +53,12 @@ module _ {X : Type 0} (g : Glyphs X) where
     spell_gives (gives t) = g.next (Sign Arrow) ++ spell_type t
 
   -- Declarations.
-  abbrev pub spell_slot : PlainSlot → List X
-  spell_slot s = g.next (Name s.name) ++ (g.next (Sign Colon) ++ spell_type s.ty)
+  abbrev pub spell_binding : PlainBinding → List X
+  spell_binding s = g.next (Name s.name) ++ (g.next (Sign Colon) ++ spell_type s.ty)
 
   -- fields, the closing brace and the end of the line
-  abbrev pub spell_fields : List PlainSlot → List X
-  spell_fields ss = separated spell_slot ss ++ (g.next (Sign CloseBrace) ++ g.line_end)
+  abbrev pub spell_fields : List PlainBinding → List X
+  spell_fields ss = separated spell_binding ss ++ (g.next (Sign CloseBrace) ++ g.line_end)
 
   abbrev pub spell_struct : PlainStruct → List X
   spell_struct s = g.first (Key key.Struct) ++ (g.next (Name s.name) ++ (g.next (Sign OpenBrace) ++ spell_fields s.fields))
@@ -90,7 +90,7 @@ module _ {X : Type 0} (g : Glyphs X) where
   spell_constant false = g.first (Key key.Global)
 
   abbrev pub spell_global : PlainGlobal → List X
-  spell_global d = spell_constant d.constant ++ spell_slot (record { name = d.name; ty = d.ty }) ++ spell_init d.init
+  spell_global d = spell_constant d.constant ++ spell_binding (record { name = d.name; ty = d.ty }) ++ spell_init d.init
 
   abbrev pub spell_globals : List PlainGlobal → List X
   spell_globals ds = flat_map spell_global ds
@@ -151,28 +151,28 @@ module _ {X : Type 0} (g : Glyphs X) where
   abbrev pub spell_blocks : List Block → List X
   spell_blocks bs = flat_map spell_block bs ++ (g.first (Sign CloseBrace) ++ g.line_end)
 
-  abbrev pub spell_local : PlainSlot → List X
-  spell_local s = g.first (Key key.Local) ++ (spell_slot s ++ g.line_end)
+  abbrev pub spell_local : PlainBinding → List X
+  spell_local s = g.first (Key key.Local) ++ (spell_binding s ++ g.line_end)
 
-  abbrev pub spell_locals : List PlainSlot → List X
+  abbrev pub spell_locals : List PlainBinding → List X
   spell_locals ss = flat_map spell_local ss
 
-  abbrev pub spell_reg : PlainSlot → List X
-  spell_reg s = g.first (Key key.Reg) ++ (spell_slot s ++ g.line_end)
+  abbrev pub spell_reg : PlainBinding → List X
+  spell_reg s = g.first (Key key.Reg) ++ (spell_binding s ++ g.line_end)
 
-  abbrev pub spell_regs : List PlainSlot → List X
+  abbrev pub spell_regs : List PlainBinding → List X
   spell_regs ss = flat_map spell_reg ss
 
   -- the parameters and the closing bracket
-  abbrev pub spell_params : List PlainSlot → List X
-  spell_params ps = separated spell_slot ps ++ g.next (Sign Close)
+  abbrev pub spell_params : List PlainBinding → List X
+  spell_params ps = separated spell_binding ps ++ g.next (Sign Close)
 
   -- a function from its name to its opening brace, and behind it
-  abbrev pub spell_head : List ℕ → List PlainSlot → PlainResult → List X
+  abbrev pub spell_head : List ℕ → List PlainBinding → PlainResult → List X
   spell_head name params outcome =
       g.next (Name name) ++ (g.next (Sign Open) ++ (spell_params params ++ (spell_gives outcome ++ (g.next (Sign OpenBrace) ++ g.line_end))))
 
-  abbrev pub spell_body : List PlainSlot → List PlainSlot → List Block → List X
+  abbrev pub spell_body : List PlainBinding → List PlainBinding → List Block → List X
   spell_body locals regs blocks = spell_locals locals ++ (spell_regs regs ++ spell_blocks blocks)
 
   abbrev pub spell_func : PlainFunc → List X

@@ -4,7 +4,7 @@ use Rattle.std.specs.Prelude.{bytes_eq, if◌then◌else◌}
 use Rattle.std.proofs.Math.Nat.{add-mul, mul-mod_left}
 use Rattle.std.proofs.lemmas.Bool.{eqb-true, and_parts}
 use Rattle.ir_model.specs.Types.{PlainType, U8, U16, U32, Pointer, Array, Named, Callee, same, width_of}
-use Rattle.ir_model.specs.Plain.{PlainSlot, PlainStruct, PlainGlobal, PlainFunc, PlainFirmware, funcs_of}
+use Rattle.ir_model.specs.Plain.{PlainBinding, PlainStruct, PlainGlobal, PlainFunc, PlainFirmware, funcs_of}
 use Rattle.ir_model.specs.Layout.{CellPlace, Shape, Known, shape, shape_named, empty, shifted, copies, one_cell, rounded_up, with_field, laid_out, field_places, with_struct, known_behind, known, cell_at, one_later}
 use Rattle.ir_model.specs.Resolved.{no_func, no_global}
 use Rattle.ir_model.specs.Resolve.{scope_of, resolved_func, resolved_global, resolve}
@@ -134,7 +134,7 @@ after_fair ks s t h g = let u = shape_whole ks t h in let a = s.align in let b =
       (wider (shape ks t).align (max s.align (shape ks t).align) (shifted (rounded_up s.size (shape ks t).align) (shape ks t).cells) (divides_max_right s.align (shape ks t).align g.small u.fair.small) (moved (shape ks t).align (rounded_up s.size (shape ks t).align) (shape ks t).cells (up_divides s.size (shape ks t).align) u.fair.cells));
 }
 
-laid_whole : (ks : List Known) (s : Shape) (fs : List PlainSlot) → AllWhole ks → Fair s → Whole (laid_out ks s fs)
+laid_whole : (ks : List Known) (s : Shape) (fs : List PlainBinding) → AllWhole ks → Fair s → Whole (laid_out ks s fs)
 laid_whole ks s [] h g = record { fair = record { small = g.small; cells = g.cells }; size = up_divides s.size s.align }
 laid_whole ks s (f ∷ fs) h g = laid_whole ks (with_field ks s f.ty) fs h (after_fair ks s f.ty h g)
 
@@ -173,7 +173,7 @@ globals_have w [] g = no_cells
 globals_have w (x ∷ gs) zero = type_cells w.structs x.ty
 globals_have w (x ∷ gs) (suc g) = globals_have w gs g
 
-locals_have : (w : PlainFirmware) (ls : List PlainSlot) (l : ℕ) → AreCells (get_or (map (λ (l : PlainSlot). shape (known w.structs) l.ty) ls) l empty).cells
+locals_have : (w : PlainFirmware) (ls : List PlainBinding) (l : ℕ) → AreCells (get_or (map (λ (l : PlainBinding). shape (known w.structs) l.ty) ls) l empty).cells
 locals_have w [] l = no_cells
 locals_have w (x ∷ ls) zero = type_cells w.structs x.ty
 locals_have w (x ∷ ls) (suc l) = locals_have w ls l

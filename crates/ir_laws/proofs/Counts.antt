@@ -2,7 +2,7 @@
 use Rattle.std.proofs.Common.{length-append, ◌≡◌, ℕ, zero, suc, ◌+◌, ◌<◌, List, [], ◌∷◌, length, replicate, refl, get_or, map, arith}
 use Rattle.std.proofs.lemmas.List.{length-map}
 use Rattle.ir_model.specs.declared.firmware.Block.{Block}
-use Rattle.ir_model.specs.Plain.{PlainSlot, PlainFunc, PlainFile, PlainFirmware, funcs_of, regs_of}
+use Rattle.ir_model.specs.Plain.{PlainBinding, PlainFunc, PlainFile, PlainFirmware, funcs_of, regs_of}
 use Rattle.ir_model.specs.Layout.{known, shape}
 use Rattle.ir_model.specs.Resolved.{no_func, file_of}
 use Rattle.ir_model.specs.Resolve.{Scope, scope_of, resolved_func, resolved_global, resolved_block, resolved_inst, window_of, files_from, resolve}
@@ -52,14 +52,14 @@ module _ (w : PlainFirmware) where
   func_few : (f : PlainFunc) → Limited f → IsFew (resolved_func scope f)
   func_few f l =
       let a = rows_length f.params in
-      let b = length-map (regs_of f) (λ (s : PlainSlot). s.ty) in
+      let b = length-map (regs_of f) (λ (s : PlainBinding). s.ty) in
       let c = length-append f.params f.regs in
-      let d = length-map f.locals (λ (s : PlainSlot). shape (known w.structs) s.ty) in
+      let d = length-map f.locals (λ (s : PlainBinding). shape (known w.structs) s.ty) in
       let e = length-map f.blocks (resolved_block scope f) in
       let i = insts_same f f.blocks in
-      let l0 = l.slots.parameters in
-      let l1 = l.slots.registers in
-      let l2 = l.slots.locals in
+      let l0 = l.bindings.parameters in
+      let l1 = l.bindings.registers in
+      let l2 = l.bindings.locals in
       let l3 = l.blocks in
       let l4 = l.insts in
       record { params = omega arith; registers = omega arith; locals = omega arith; blocks = omega arith; insts = omega arith }

@@ -10,7 +10,7 @@ use Rattle.ir_model.specs.declared.check.Place.TheVariants as place
 use Rattle.ir_model.specs.declared.firmware.Peripheral.{Peripheral}
 use Rattle.ir_model.specs.declared.extent.Extent.{Extent}
 use Rattle.ir_model.specs.Types.{PlainType, U8, U16, U32, Pointer, Array, Named, Callee}
-use Rattle.ir_model.specs.Plain.{PlainSlot, PlainStruct, PlainGlobal, PlainFunc, PlainFirmware, funcs_of, names_of}
+use Rattle.ir_model.specs.Plain.{PlainBinding, PlainStruct, PlainGlobal, PlainFunc, PlainFirmware, funcs_of, names_of}
 use Rattle.ir_model.specs.Layout.{Shape, known, shape, laid_out, empty}
 use Rattle.base_names.specs.Numbers.{has}
 use Rattle.ir_model.specs.Extents.{Counted, counted_named, is_counted, are_counted, counted_behind, counted, HasElements, extent, sized, pair_of}
@@ -48,7 +48,7 @@ type_counts ds p ks (Array n t) c h = type_counts ds p ks t c h
 type_counts ds p ks (Named n) c h = named_counts ks n c (holds (has (names_in ks) n) (Unknown n) p [] h)
 type_counts ds p ks (Callee a r) c h = refl
 
-fields_count : (ds : List (List ℕ)) (p : Place) (seen : List (List ℕ)) (ks : List Counted) (fs : List PlainSlot) → Each Counts ks
+fields_count : (ds : List (List ℕ)) (p : Place) (seen : List (List ℕ)) (ks : List Counted) (fs : List PlainBinding) → Each Counts ks
     → Pass (field_checks ds (names_in ks) p seen fs) → are_counted ks fs ≡ true
 fields_count ds p seen ks [] c h = refl
 fields_count ds p seen ks (f ∷ fs) c h =
@@ -113,7 +113,7 @@ module _ (w : PlainFirmware) (typed : IsTyped w) (limits : IsWithinLimits w) whe
       tied_pair (extent (sized w.structs) t) (shape (known w.structs) t) (is_counted (counted w.structs) t) (declared_counts p t h)
       (extent_tied w.structs t (firmware_elements w limits) e) s
 
-  laid_locals : (p : Place) (seen : List (List ℕ)) (ss : List PlainSlot) → Each HasParts ss → Pass (local_checks w declared p seen ss) → Each (λ (s : PlainSlot). HasLayout w s.ty) ss
+  laid_locals : (p : Place) (seen : List (List ℕ)) (ss : List PlainBinding) → Each HasParts ss → Pass (local_checks w declared p seen ss) → Each (λ (s : PlainBinding). HasLayout w s.ty) ss
   laid_locals p seen [] e h = tt
   laid_locals p seen (s ∷ ss) e h =
       let front : Checks = is_new seen s.name p ∷ type_checks declared declared p s.ty in
@@ -126,7 +126,7 @@ module _ (w : PlainFirmware) (typed : IsTyped w) (limits : IsWithinLimits w) whe
         laid_locals p (seen ++ s.name ∷ []) ss e.1 (right (front ++ size) rest h),
       )
 
-  laid_funcs : (fs : List PlainFunc) → Each Limited fs → Pass (funcs_checks w fs) → Each (λ (f : PlainFunc). Each (λ (s : PlainSlot). HasLayout w s.ty) f.locals) fs
+  laid_funcs : (fs : List PlainFunc) → Each Limited fs → Pass (funcs_checks w fs) → Each (λ (f : PlainFunc). Each (λ (s : PlainBinding). HasLayout w s.ty) f.locals) fs
   laid_funcs [] l h = tt
   laid_funcs (f ∷ fs) l h =
       let q = by_parts w f (left (func_checks w f) (funcs_checks w fs) h) in

@@ -7,7 +7,7 @@ use Rattle.ir_model.specs.declared.check.CheckKind.TheVariants.{IllTyped, Object
 use Rattle.ir_model.specs.declared.check.Place.{Place}
 use Rattle.ir_model.specs.declared.check.Place.TheVariants as place
 use Rattle.ir_model.specs.Types.{U32, is_register_type}
-use Rattle.ir_model.specs.Plain.{PlainSlot, PlainFunc, PlainFirmware, names_of, types_of, regs_of}
+use Rattle.ir_model.specs.Plain.{PlainBinding, PlainFunc, PlainFirmware, names_of, types_of, regs_of}
 use Rattle.ir_model.specs.Layout.{known, shape}
 use Rattle.ir_model.specs.Resolved.{no_func}
 use Rattle.ir_model.specs.Resolve.{Scope, scope_of, row_from, resolved_func, resolved_block, resolve}
@@ -18,11 +18,11 @@ use Rattle.ir_model.proofs.Passing.{Pass, left, right, holds}
 use Rattle.ir_model.proofs.Limits.{Limited}
 use Rattle.ir_model.proofs.Typed.{structs_named, by_parts}
 use Rattle.ir_laws.specs.Typed.{FuncTyped}
-use Rattle.ir_laws.proofs.Names.{EachSlot}
+use Rattle.ir_laws.proofs.Names.{EachBinding}
 use Rattle.ir_laws.proofs.Places.{sizes, IsSmall, AreSmall, blocks_typed}
 use Rattle.base_laws.proofs.Lists.{each_both}
 
-pub register_types : (ds : List (List ℕ)) (p : Place) (seen : List (List ℕ)) (ss : List PlainSlot) → Pass (register_checks ds p seen ss) → Each (λ (s : PlainSlot). IsTrue (is_register_type s.ty)) ss
+pub register_types : (ds : List (List ℕ)) (p : Place) (seen : List (List ℕ)) (ss : List PlainBinding) → Pass (register_checks ds p seen ss) → Each (λ (s : PlainBinding). IsTrue (is_register_type s.ty)) ss
 register_types ds p seen [] h = tt
 register_types ds p seen (s ∷ ss) h =
     let front : Checks = is_new seen s.name p ∷ type_checks ds ds p s.ty in
@@ -32,7 +32,7 @@ register_types ds p seen (s ∷ ss) h =
       register_types ds p (seen ++ s.name ∷ []) ss (right (front ++ c) rest h),
     )
 
-pub small_locals : (w : PlainFirmware) (ds : List (List ℕ)) (p : Place) (seen : List (List ℕ)) (ss : List PlainSlot) → Pass (local_checks w ds p seen ss) → EachSlot (IsSmall w) ss
+pub small_locals : (w : PlainFirmware) (ds : List (List ℕ)) (p : Place) (seen : List (List ℕ)) (ss : List PlainBinding) → Pass (local_checks w ds p seen ss) → EachBinding (IsSmall w) ss
 small_locals w ds p seen [] h = tt
 small_locals w ds p seen (s ∷ ss) h =
     let front : Checks = is_new seen s.name p ∷ type_checks ds ds p s.ty in
@@ -44,12 +44,12 @@ small_locals w ds p seen (s ∷ ss) h =
 
 -- ---- a function
 
-register_at : (ss : List PlainSlot) (r : ℕ) → Each (λ (s : PlainSlot). IsTrue (is_register_type s.ty)) ss → IsTrue (is_register_type (get_or (types_of ss) r U32))
+register_at : (ss : List PlainBinding) (r : ℕ) → Each (λ (s : PlainBinding). IsTrue (is_register_type s.ty)) ss → IsTrue (is_register_type (get_or (types_of ss) r U32))
 register_at [] r h = refl
 register_at (s ∷ ss) zero h = h.0
 register_at (s ∷ ss) (suc r) h = register_at ss r h.1
 
-param_at : (ps rs : List PlainSlot) (k : ℕ) → k < row_length (row_from ps) → (k < length (types_of (ps ++ rs))) × (get_or (types_of (ps ++ rs)) k U32 ≡ in_row (row_from ps) k)
+param_at : (ps rs : List PlainBinding) (k : ℕ) → k < row_length (row_from ps) → (k < length (types_of (ps ++ rs))) × (get_or (types_of (ps ++ rs)) k U32 ≡ in_row (row_from ps) k)
 param_at [] rs k h = absurd (omega arith)
 param_at (s ∷ ps) rs zero h = (omega arith, refl)
 param_at (s ∷ ps) rs (suc k) h = let r = param_at ps rs k (omega arith) in let a = r.0 in (omega arith, r.1)
@@ -63,7 +63,7 @@ module _ (w : PlainFirmware) where
       let q = by_parts w f h in
       let p : Place = place.Func f.name in
       let ds : List (List ℕ) = structs_named w in
-      let types = each_both (λ (s : PlainSlot). IsTrue (is_register_type s.ty)) f.params f.regs
+      let types = each_both (λ (s : PlainBinding). IsTrue (is_register_type s.ty)) f.params f.regs
       (register_types ds p [] f.params q.params)
       (register_types ds p (names_of f.params ++ names_of f.locals) f.regs q.regs) in
       record {

@@ -2,7 +2,7 @@
 use Rattle.std.proofs.Common.{ℕ, zero, suc, ◌+◌, ◌*◌, ◌<◌, ◌≤◌, Bool, true, false, if◌then◌else◌, bytes_eq, max, List, [], ◌∷◌, ◌++◌, map, arith}
 use Rattle.std.proofs.Math.ListN.{get_or}
 use Rattle.ir_model.specs.Types.{PlainType, U8, U16, U32, Pointer, Array, Named, Callee, width_of}
-use Rattle.ir_model.specs.Plain.{PlainSlot, PlainStruct, PlainFunc, PlainFirmware, funcs_of}
+use Rattle.ir_model.specs.Plain.{PlainBinding, PlainStruct, PlainFunc, PlainFirmware, funcs_of}
 use Rattle.ir_model.specs.Layout.{CellPlace, Shape, Known, empty, shape_named, shifted, copies, one_cell, array_of, shape, rounded_up, with_field, laid_out, field_places, with_struct, known_behind, known}
 use Rattle.ir_model.specs.Resolved.{NumberedGlobal, NumberedFunc, no_global, no_func}
 use Rattle.ir_model.specs.Resolve.{scope_of, resolved_global, resolved_func, resolve}
@@ -100,7 +100,7 @@ sound_field ks s t a h =
     let u = sound ks t a in
     sound_behind s (shape ks t) (rounded_up s.size (shape ks t).align) (rounded_at_least s.size (shape ks t).align u.aligned) h u
 
-pub sound_fields : (ks : List Known) (s : Shape) (fs : List PlainSlot) → AreSound ks → IsSound s → IsSound (laid_out ks s fs)
+pub sound_fields : (ks : List Known) (s : Shape) (fs : List PlainBinding) → AreSound ks → IsSound s → IsSound (laid_out ks s fs)
 sound_fields ks s [] a h =
     record { aligned = h.aligned; cells = longer 0 s.size (rounded_up s.size s.align) s.cells (rounded_at_least s.size s.align h.aligned) h.cells }
 sound_fields ks s (f ∷ fs) a h = sound_fields ks (with_field ks s f.ty) fs a (sound_field ks s f.ty a h)
@@ -139,7 +139,7 @@ HasLocalsApart f = (l : ℕ) → AreApart (get_or f.locals l empty).cells
 
 locals_apart : (w : PlainFirmware) (f : PlainFunc) → HasLocalsApart (resolved_func (scope_of w) f)
 locals_apart w f l =
-    at_each (λ (s : Shape). AreApart s.cells) (λ (s : PlainSlot). shape (known w.structs) s.ty) f.locals l empty none_apart (λ s. type_apart w.structs s.ty)
+    at_each (λ (s : Shape). AreApart s.cells) (λ (s : PlainBinding). shape (known w.structs) s.ty) f.locals l empty none_apart (λ s. type_apart w.structs s.ty)
 
 pub cells_of_firmwares : CellsOfFirmwares
 unfolding resolve

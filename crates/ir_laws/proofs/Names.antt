@@ -3,12 +3,12 @@ use Rattle.std.proofs.Common.{◌≡◌, ℕ, zero, suc, ◌<◌, Bool, true, fa
 use Rattle.std.specs.Prelude.{bytes_eq, if◌then◌else◌}
 use Rattle.std.proofs.lemmas.List.{length-map}
 use Rattle.ir_model.specs.Types.{PlainType, Callee}
-use Rattle.ir_model.specs.Plain.{PlainSlot, PlainFunc, PlainGlobal, names_of}
+use Rattle.ir_model.specs.Plain.{PlainBinding, PlainFunc, PlainGlobal, names_of}
 use Rattle.ir_model.specs.Resolved.{NumberedFunc, no_func}
 use Rattle.base_names.specs.Numbers.{has, number_of}
 use Rattle.ir_model.specs.Resolve.{Scope, resolved_func, row_from}
 use Rattle.base_names.proofs.Below.{number_below}
-use Rattle.ir_model.specs.Rules.{slot_type, global_type, func_type}
+use Rattle.ir_model.specs.Rules.{binding_type, global_type, func_type}
 
 pub number_in : {A : Type 0} (f : A → List ℕ) (xs : List A) (n : List ℕ) → has (map f xs) n ≡ true → number_of (map f xs) n < length xs
 number_in f xs n h = let a = number_below (map f xs) n h in let b = length-map xs f in omega arith
@@ -32,7 +32,7 @@ pub func_found : (s : Scope) (fs : List PlainFunc) (n : List ℕ) (t : PlainType
 func_found s [] n t h = cc
 func_found s (f ∷ fs) n t h = func_by s (bytes_eq f.name n) f fs n t h (func_found s fs n t)
 
--- a global and a slot by its name
+-- a global and a binding by its name
 global_by : (P : PlainType → Type 0) (b : Bool) (g : PlainGlobal) (gs : List PlainGlobal) (n : List ℕ) (t : PlainType)
     → (if b then Some g.ty else global_type gs n) ≡ Some t → P g.ty
     → (global_type gs n ≡ Some t → (number_of (map (λ (g : PlainGlobal). g.name) gs) n < length gs) × P t)
@@ -49,18 +49,18 @@ pub global_found : (P : PlainType → Type 0) (gs : List PlainGlobal) (n : List 
 global_found P [] n t q h = cc
 global_found P (g ∷ gs) n t q h = global_by P (bytes_eq g.name n) g gs n t h q.0 (global_found P gs n t q.1)
 
-slot_by : (P : PlainType → Type 0) (b : Bool) (s : PlainSlot) (ss : List PlainSlot) (n : List ℕ) (t : PlainType)
-    → (if b then Some s.ty else slot_type ss n) ≡ Some t → P s.ty
-    → (slot_type ss n ≡ Some t → (number_of (names_of ss) n < length ss) × P t)
+binding_by : (P : PlainType → Type 0) (b : Bool) (s : PlainBinding) (ss : List PlainBinding) (n : List ℕ) (t : PlainType)
+    → (if b then Some s.ty else binding_type ss n) ≡ Some t → P s.ty
+    → (binding_type ss n ≡ Some t → (number_of (names_of ss) n < length ss) × P t)
     → ((if b then zero else suc (number_of (names_of ss) n)) < suc (length ss)) × P t
-slot_by P true s ss n t h q ih = let e : s.ty ≡ t = cc in (omega arith, subst P e q)
-slot_by P false s ss n t h q ih = let i = ih h in let a = i.0 in (omega arith, i.1)
+binding_by P true s ss n t h q ih = let e : s.ty ≡ t = cc in (omega arith, subst P e q)
+binding_by P false s ss n t h q ih = let i = ih h in let a = i.0 in (omega arith, i.1)
 
-abbrev pub EachSlot : (PlainType → Type 0) → List PlainSlot → Type 0
-EachSlot P [] = Unit {0}
-EachSlot P (s ∷ ss) = P s.ty × EachSlot P ss
+abbrev pub EachBinding : (PlainType → Type 0) → List PlainBinding → Type 0
+EachBinding P [] = Unit {0}
+EachBinding P (s ∷ ss) = P s.ty × EachBinding P ss
 
-pub slot_found : (P : PlainType → Type 0) (ss : List PlainSlot) (n : List ℕ) (t : PlainType) → EachSlot P ss → slot_type ss n ≡ Some t
+pub binding_found : (P : PlainType → Type 0) (ss : List PlainBinding) (n : List ℕ) (t : PlainType) → EachBinding P ss → binding_type ss n ≡ Some t
     → (number_of (names_of ss) n < length ss) × P t
-slot_found P [] n t q h = cc
-slot_found P (s ∷ ss) n t q h = slot_by P (bytes_eq s.name n) s ss n t h q.0 (slot_found P ss n t q.1)
+binding_found P [] n t q h = cc
+binding_found P (s ∷ ss) n t q h = binding_by P (bytes_eq s.name n) s ss n t h q.0 (binding_found P ss n t q.1)

@@ -13,7 +13,7 @@ use Rattle.ir_model.specs.declared.check.CheckKind.TheVariants.{Unknown, IllType
 use Rattle.ir_model.specs.declared.check.Place.{Place}
 use Rattle.ir_model.specs.declared.check.Place.TheVariants as place
 use Rattle.ir_model.specs.Types.{PlainType, U8, U16, U32, Pointer, Array, Named, Callee, PlainTypes, PlainResult, nothing, gives, target_of, element_of}
-use Rattle.ir_model.specs.Plain.{PlainSlot, PlainFunc, PlainGlobal, PlainFirmware, names_of, types_of, funcs_of, regs_of}
+use Rattle.ir_model.specs.Plain.{PlainBinding, PlainFunc, PlainGlobal, PlainFirmware, names_of, types_of, funcs_of, regs_of}
 use Rattle.ir_model.specs.Layout.{known, shape, fields_named}
 use Rattle.ir_model.specs.Resolved.{NumberedFunc, no_block, func_at, here_in, TheGlobal, ThePeriph, TheLocal}
 use Rattle.ir_model.specs.Resolved as numbered
@@ -21,13 +21,13 @@ use Rattle.base_names.specs.Numbers.{has, number_of}
 use Rattle.ir_model.specs.Resolve.{scope_of, register_number, type_named, offset_named, field_offset, named_by, optional, resolved_inst, resolved_term, resolved_block, resolved_func, resolved_global, window_of, labels_of, resolve}
 use Rattle.ir_model.specs.Extents.{HasElements}
 use Rattle.base_laws.specs.Lists.{Each}
-use Rattle.ir_model.specs.Rules.{slot_type, global_type, field_type, func_type, is_address, is_port, is_address_of, is_element, is_field, holds_cell, fit, takes_result, kept_type, is_number, inst_fits, term_fits}
+use Rattle.ir_model.specs.Rules.{binding_type, global_type, field_type, func_type, is_address, is_port, is_address_of, is_element, is_field, holds_cell, fit, takes_result, kept_type, is_number, inst_fits, term_fits}
 use Rattle.ir_model.specs.Typing.{Checks, check, is_known, registers_known, optional_name, has_address, has_func, inst_names, label_known, term_names, code_checks, blocks_checks}
 use Rattle.ir_model.proofs.Passing.{Pass, left, right, holds, behind}
 use Rattle.ir_model.proofs.SameTypes.{same_sound, result_sound}
 use Rattle.ir_laws.specs.Typed.{Has, KeepsResult, CallTyped, CellTyped, IsThere, InstTyped, EndTyped, HereTyped}
 use Rattle.ir_model.proofs.Limits.{HasWord, HasFewArguments, PointsWell}
-use Rattle.ir_laws.proofs.Names.{number_in, func_found, global_found, slot_found, EachGlobal, EachSlot}
+use Rattle.ir_laws.proofs.Names.{number_in, func_found, global_found, binding_found, EachGlobal, EachBinding}
 use Rattle.ir_laws.proofs.Tests.{element_sound, element_smaller, held_sound, is_type_sound, is_address_sound, is_port_sound, integer_size, fit_count, fit_each, kept_sound, call_sound}
 
 params_same : (a b : PlainTypes) (r s : PlainResult) → Callee a r ≡ Callee b s → a ≡ b
@@ -58,8 +58,8 @@ module _ (w : PlainFirmware) where
 
     known_here : (r : List ℕ) → has (names_of (regs_of f)) r ≡ true → IsKnown r
     known_here r h =
-        let a = number_in (λ (s : PlainSlot). s.name) (regs_of f) r h in
-        let c = length-map (regs_of f) (λ (s : PlainSlot). s.ty) in
+        let a = number_in (λ (s : PlainBinding). s.name) (regs_of f) r h in
+        let c = length-map (regs_of f) (λ (s : PlainBinding). s.ty) in
         omega arith
 
     all_known : (p : Place) (rs : List (List ℕ)) → Pass (registers_known f p rs) → Each IsKnown rs
@@ -111,15 +111,15 @@ module _ (w : PlainFirmware) where
 
     -- ---- addresses
 
-    module _ (locals : EachSlot IsSmall f.locals) (small : AreSmall) (registers : Each PointsWell (regs_of f)) where
+    module _ (locals : EachBinding IsSmall f.locals) (small : AreSmall) (registers : Each PointsWell (regs_of f)) where
       abbrev AddrOf : List ℕ → PlainType → numbered.Named → Type 0
       AddrOf x t d = (u : PlainType) × (t ≡ Pointer u) × IsSmall u × IsThere (resolve w) g d
 
-      local_of : (x : List ℕ) (t : PlainType) → is_address (slot_type f.locals x) t ≡ true → AddrOf x t (TheLocal (number_of (names_of f.locals) x))
+      local_of : (x : List ℕ) (t : PlainType) → is_address (binding_type f.locals x) t ≡ true → AddrOf x t (TheLocal (number_of (names_of f.locals) x))
       local_of x t h =
-          let a = is_address_sound (slot_type f.locals x) t h in
-          let b = slot_found IsSmall f.locals x a.0 locals a.1 in
-          let n = length-map f.locals (λ (l : PlainSlot). shape (known w.structs) l.ty) in
+          let a = is_address_sound (binding_type f.locals x) t h in
+          let b = binding_found IsSmall f.locals x a.0 locals a.1 in
+          let n = length-map f.locals (λ (l : PlainBinding). shape (known w.structs) l.ty) in
           let c = b.0 in
           (a.0, a.2, b.1, omega arith)
 
@@ -147,7 +147,7 @@ module _ (w : PlainFirmware) where
       outer_by false x t e h = global_of x t h
 
       named_of : (b : Bool) (x : List ℕ) (t : PlainType)
-          → (if b then is_address (slot_type f.locals x) t
+          → (if b then is_address (binding_type f.locals x) t
           else if has (map (λ (q : Peripheral). q.name) w.periphs) x then is_port t
           else is_address (global_type w.globals x) t) ≡ true
           → AddrOf x t (if b then TheLocal (number_of (names_of f.locals) x)
@@ -161,7 +161,7 @@ module _ (w : PlainFirmware) where
 
       -- ---- parts
 
-      elements_at : (ss : List PlainSlot) (k : ℕ) → Each PointsWell ss → HasElements (target_of (get_or (types_of ss) k U32))
+      elements_at : (ss : List PlainBinding) (k : ℕ) → Each PointsWell ss → HasElements (target_of (get_or (types_of ss) k U32))
       elements_at [] k h = tt
       elements_at (s ∷ ss) zero h = h.0
       elements_at (s ∷ ss) (suc k) h = elements_at ss k h.1

@@ -1,6 +1,6 @@
 use Rattle.std.proofs.Common.{◌≡◌, ℕ, List, length, refl, ap, length-append, suc, [], ◌∷◌, replicate, arith}
 use Rattle.std.proofs.lemmas.List.{length-map, length-replicate}
-use Rattle.ir_model.specs.Plain.{PlainSlot, PlainFirmware, funcs_of, PlainFile}
+use Rattle.ir_model.specs.Plain.{PlainBinding, PlainFirmware, funcs_of, PlainFile}
 use Rattle.ir_model.specs.Resolve as definition
 use Rattle.ir_model.specs.Resolve.{row_from, resolve, files_from}
 use Rattle.ir_model.specs.Signatures.{row_length}
@@ -21,6 +21,6 @@ files_count k (f ∷ fs) =
     omega arith
 
 -- a row of parameters is as long as their list
-pub rows_length : (ps : List PlainSlot) → row_length (row_from ps) ≡ length ps
+pub rows_length : (ps : List PlainBinding) → row_length (row_from ps) ≡ length ps
 rows_length [] = refl
 rows_length (p ∷ ps) = ap suc (rows_length ps)

@@ -3,7 +3,7 @@ use Rattle.std.proofs.Common.{◌≤◌, ℕ, zero, suc, List, [], ◌∷◌, ge
 use Rattle.ir_model.specs.declared.check.Place.{Place}
 use Rattle.ir_model.specs.declared.check.Place.TheVariants as place
 use Rattle.ir_model.specs.declared.firmware.Peripheral.{Peripheral}
-use Rattle.ir_model.specs.Plain.{PlainSlot, PlainFunc, PlainGlobal, PlainFirmware, names_of, funcs_of}
+use Rattle.ir_model.specs.Plain.{PlainBinding, PlainFunc, PlainGlobal, PlainFirmware, names_of, funcs_of}
 use Rattle.ir_model.specs.Layout.{shape, empty}
 use Rattle.ir_model.specs.Resolved.{no_func, no_global}
 use Rattle.ir_model.specs.Resolve.{Scope, scope_of, resolved_func, resolved_global, resolve}
@@ -11,7 +11,7 @@ use Rattle.ir_model.specs.Typing.{object_limit, func_checks, funcs_checks, IsTyp
 use Rattle.ir_model.proofs.Passing.{Pass, left, right}
 use Rattle.ir_model.proofs.Typed.{structs_named, parts_pass, by_parts}
 use Rattle.ir_laws.specs.Limits.{HasSmallObjects}
-use Rattle.ir_laws.proofs.Names.{EachGlobal, EachSlot}
+use Rattle.ir_laws.proofs.Names.{EachGlobal, EachBinding}
 use Rattle.ir_laws.proofs.Places.{IsSmall}
 use Rattle.ir_laws.proofs.Functions.{small_locals}
 use Rattle.ir_laws.proofs.Globals.{small_globals}
@@ -25,7 +25,7 @@ module _ (w : PlainFirmware) where
   small_global (x ∷ gs) zero h = h.0
   small_global (x ∷ gs) (suc g) h = small_global gs g h.1
 
-  small_local : (ls : List PlainSlot) (l : ℕ) → EachSlot (IsSmall w) ls → (get_or (map (λ (s : PlainSlot). shape scope.known s.ty) ls) l empty).size ≤ object_limit
+  small_local : (ls : List PlainBinding) (l : ℕ) → EachBinding (IsSmall w) ls → (get_or (map (λ (s : PlainBinding). shape scope.known s.ty) ls) l empty).size ≤ object_limit
   small_local [] l h = omega arith
   small_local (x ∷ ls) zero h = h.0
   small_local (x ∷ ls) (suc l) h = small_local ls l h.1

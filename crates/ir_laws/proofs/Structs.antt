@@ -7,7 +7,7 @@ use Rattle.ir_model.specs.declared.check.CheckKind.TheVariants.{Unknown, ObjectT
 use Rattle.ir_model.specs.declared.check.Place.{Place}
 use Rattle.ir_model.specs.declared.check.Place.TheVariants as place
 use Rattle.ir_model.specs.Types.{PlainType, U8, U16, U32, Pointer, Array, Named, Callee}
-use Rattle.ir_model.specs.Plain.{PlainSlot, PlainStruct}
+use Rattle.ir_model.specs.Plain.{PlainBinding, PlainStruct}
 use Rattle.ir_model.specs.Layout.{Shape, Known, FieldPlace, empty, shape_named, fields_named, array_of, shape, rounded_up, with_field, laid_out, field_places, with_struct, known_behind, known}
 use Rattle.base_names.specs.Numbers.{has}
 use Rattle.ir_model.specs.Resolve.{offset_named}
@@ -23,7 +23,7 @@ more_aligned : (m n : ℕ) → 0 < m → 0 < max m n
 more_aligned m n h = omega arith
 
 -- a struct is as large as what is laid out first
-grows : (ks : List Known) (s : Shape) (fs : List PlainSlot) → AreSound ks → 0 < s.align → s.size ≤ (laid_out ks s fs).size
+grows : (ks : List Known) (s : Shape) (fs : List PlainBinding) → AreSound ks → 0 < s.align → s.size ≤ (laid_out ks s fs).size
 grows ks s [] a h = rounded_at_least s.size s.align h
 grows ks s (f ∷ fs) a h =
     let r = grows ks (with_field ks s f.ty) fs a (more_aligned s.align (shape ks f.ty).align h) in
@@ -39,7 +39,7 @@ lies_by : (ks : List Known) (b : Bool) (f : FieldPlace) (fs : List FieldPlace) (
 lies_by ks true f fs n size h r u e = let q : f.ty ≡ u = cc in subst (λ (v : PlainType). f.at + (shape ks v).size ≤ size) q h
 lies_by ks false f fs n size h r u e = r u e
 
-lies_in : (ks : List Known) (s : Shape) (fs : List PlainSlot) (n : List ℕ) → AreSound ks → 0 < s.align → LiesIn ks (field_places ks s fs) n (laid_out ks s fs).size
+lies_in : (ks : List Known) (s : Shape) (fs : List PlainBinding) (n : List ℕ) → AreSound ks → 0 < s.align → LiesIn ks (field_places ks s fs) n (laid_out ks s fs).size
 lies_in ks s [] n a h u e = cc
 lies_in ks s (f ∷ fs) n a h u e =
     let next : Shape = with_field ks s f.ty in
@@ -52,7 +52,7 @@ offset_by : (b : Bool) (m n size : ℕ) → m ≤ size → n ≤ size → (if b 
 offset_by true m n size h g = h
 offset_by false m n size h g = g
 
-offset_in : (ks : List Known) (s : Shape) (fs : List PlainSlot) (n : List ℕ) → AreSound ks → 0 < s.align → offset_named (field_places ks s fs) n ≤ (laid_out ks s fs).size
+offset_in : (ks : List Known) (s : Shape) (fs : List PlainBinding) (n : List ℕ) → AreSound ks → 0 < s.align → offset_named (field_places ks s fs) n ≤ (laid_out ks s fs).size
 offset_in ks s [] n a h = omega arith
 offset_in ks s (f ∷ fs) n a h =
     let next : Shape = with_field ks s f.ty in
@@ -89,7 +89,7 @@ field_by : (ds es : List (List ℕ)) (p : Place) (b : Bool) (t : PlainType) (o :
 field_by ds es p true t o h r u e = let q : t ≡ u = cc in subst (λ (v : PlainType). Pass (type_checks ds es p v)) q h
 field_by ds es p false t o h r u e = r u e
 
-field_passes : (ds es : List (List ℕ)) (p : Place) (seen : List (List ℕ)) (ks : List Known) (s : Shape) (fs : List PlainSlot) (n : List ℕ) → Pass (field_checks ds es p seen fs)
+field_passes : (ds es : List (List ℕ)) (p : Place) (seen : List (List ℕ)) (ks : List Known) (s : Shape) (fs : List PlainBinding) (n : List ℕ) → Pass (field_checks ds es p seen fs)
     → (u : PlainType) → field_type (field_places ks s fs) n ≡ Some u → Pass (type_checks ds es p u)
 field_passes ds es p seen ks s [] n h u e = cc
 field_passes ds es p seen ks s (f ∷ fs) n h u e =

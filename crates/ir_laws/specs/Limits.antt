@@ -3,7 +3,7 @@
 use Rattle.std.specs.Prelude.{◌≡◌, ◌≢◌, ℕ, ◌+◌, ◌<◌, ◌≤◌, List, [], ◌∷◌, length, Some}
 use Rattle.base_ranges.specs.Ranges.{AreApart, IsWindowRange}
 use Rattle.ir_model.specs.Types.{PlainType}
-use Rattle.ir_model.specs.Plain.{PlainSlot, PlainGlobal, PlainFunc, PlainFirmware, funcs_of}
+use Rattle.ir_model.specs.Plain.{PlainBinding, PlainGlobal, PlainFunc, PlainFirmware, funcs_of}
 use Rattle.ir_model.specs.Layout.{known, shape}
 use Rattle.ir_model.specs.Resolved.{Program, NumberedBlock, NumberedFunc, func_at, global_at, local_at, window_at, file_of}
 use Rattle.ir_model.specs.Resolve.{resolve}
@@ -51,7 +51,7 @@ HasLayout w t = layout_of w.structs t ≡ Some ((shape (known w.structs) t).size
 
 pub record HasLayouts (w : PlainFirmware) : Type 0 where
   pub globals : Each (λ (g : PlainGlobal). HasLayout w g.ty) w.globals
-  pub locals : Each (λ (f : PlainFunc). Each (λ (s : PlainSlot). HasLayout w s.ty) f.locals) (funcs_of w)
+  pub locals : Each (λ (f : PlainFunc). Each (λ (s : PlainBinding). HasLayout w s.ty) f.locals) (funcs_of w)
 
 -- the counts of a firmware that is within the limits, typed or not
 pub record CountsOf (w : PlainFirmware) : Type 0 where

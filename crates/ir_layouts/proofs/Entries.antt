@@ -5,7 +5,7 @@ use Rattle.std.proofs.lemmas.List.{take-map, length-map, map-append, take-append
 use Rattle.std.proofs.Math.Seq.{take-append_seam, get_or-append_seam}
 use Rattle.std.proofs.lemmas.Bool.{false≢true, cases_lt}
 use Rattle.ir_model.specs.declared.firmware.StructDecl.{StructDecl}
-use Rattle.ir_model.specs.Plain.{PlainSlot, struct_of, names_of}
+use Rattle.ir_model.specs.Plain.{PlainBinding, struct_of, names_of}
 use Rattle.ir_model.specs.Layout.{FieldPlace, Shape, Known, known, empty, with_field, field_places, fields_named}
 use Rattle.ir_model.specs.Rules.{field_type}
 use Rattle.ir_model.specs.Types.{type_of}
@@ -85,7 +85,7 @@ laid_pop ns ms ls ks js l count a e c f g =
     let h : js ≡ ls = f ∙ (ap (λ x. take x ks) n ∙ (ap (take (length ls)) e ∙ take-append_seam ls (l ∷ []))) in
     subst (λ x. AreLaid x js) (sym g) (subst (AreLaid ns) (sym h) a)
 
-names_of_places : (ks : List Known) (s : Shape) (fs : List PlainSlot) → names_of fs ≡ map (λ (p : FieldPlace). p.name) (field_places ks s fs)
+names_of_places : (ks : List Known) (s : Shape) (fs : List PlainBinding) → names_of fs ≡ map (λ (p : FieldPlace). p.name) (field_places ks s fs)
 names_of_places ks s [] = refl
 names_of_places ks s (f ∷ fs) = ap (λ ns. f.name ∷ ns) (names_of_places ks (with_field ks s f.ty) fs)
 

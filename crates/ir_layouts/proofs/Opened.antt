@@ -2,9 +2,9 @@
 use Rattle.std.proofs.Common.{◌≡◌, ℕ, ◌+◌, ◌<◌, ◌≤◌, max, List, [], ◌∷◌, ◌++◌, map, take, drop, get_or, length, refl, sym, ap, subst, ◌∙◌, arith, length-append}
 use Rattle.std.proofs.lemmas.List.{map-append, map_more, take-append-drop, take_all}
 use Rattle.ir_model.specs.declared.extent.TheConstants.{SIZE_LIMIT}
-use Rattle.ir_model.specs.declared.firmware.Slot.{Slot}
+use Rattle.ir_model.specs.declared.firmware.Binding.{Binding}
 use Rattle.ir_model.specs.Types.{PlainType, type_of}
-use Rattle.ir_model.specs.Plain.{PlainSlot, PlainStruct, slot_of, struct_of, names_of}
+use Rattle.ir_model.specs.Plain.{PlainBinding, PlainStruct, binding_of, struct_of, names_of}
 use Rattle.ir_model.specs.Layout.{Shape, Known, empty, shape, shifted, rounded_up, with_field, laid_out, field_places, known}
 use Rattle.ir_model.proofs.Counting.{rounded_at_least}
 use Rattle.ir_layouts.specs.declared.measure.Measure.{Measure}
@@ -16,23 +16,23 @@ use Rattle.ir_layouts.specs.Tables.{IsLaid, first_cells}
 use Rattle.ir_layouts.proofs.Sizes.{good, length_shifted, size_grows}
 
 -- what is laid out behind these fields, before it is closed
-abbrev pub after : List Known → Shape → List PlainSlot → Shape
+abbrev pub after : List Known → Shape → List PlainBinding → Shape
 after ks s [] = s
 after ks s (f ∷ fs) = after ks (with_field ks s f.ty) fs
 
-laid_after : (ks : List Known) (s : Shape) (fs : List PlainSlot) → laid_out ks s fs ≡ laid_out ks (after ks s fs) []
+laid_after : (ks : List Known) (s : Shape) (fs : List PlainBinding) → laid_out ks s fs ≡ laid_out ks (after ks s fs) []
 laid_after ks s [] = refl
 laid_after ks s (f ∷ fs) = laid_after ks (with_field ks s f.ty) fs
 
-laid_split : (ks : List Known) (s : Shape) (xs ys : List PlainSlot) → laid_out ks s (xs ++ ys) ≡ laid_out ks (after ks s xs) ys
+laid_split : (ks : List Known) (s : Shape) (xs ys : List PlainBinding) → laid_out ks s (xs ++ ys) ≡ laid_out ks (after ks s xs) ys
 laid_split ks s [] ys = refl
 laid_split ks s (x ∷ xs) ys = laid_split ks (with_field ks s x.ty) xs ys
 
-after_more : (ks : List Known) (s : Shape) (xs : List PlainSlot) (x : PlainSlot) → after ks s (xs ++ x ∷ []) ≡ with_field ks (after ks s xs) x.ty
+after_more : (ks : List Known) (s : Shape) (xs : List PlainBinding) (x : PlainBinding) → after ks s (xs ++ x ∷ []) ≡ with_field ks (after ks s xs) x.ty
 after_more ks s [] x = refl
 after_more ks s (y ∷ xs) x = after_more ks (with_field ks s y.ty) xs x
 
-places_more : (ks : List Known) (s : Shape) (xs : List PlainSlot) (x : PlainSlot)
+places_more : (ks : List Known) (s : Shape) (xs : List PlainBinding) (x : PlainBinding)
     → field_places ks s (xs ++ x ∷ []) ≡ field_places ks s xs ++ record { name = x.name; at = rounded_up (after ks s xs).size (shape ks x.ty).align; ty = x.ty } ∷ []
 places_more ks s [] x = refl
 places_more ks s (y ∷ xs) x =
@@ -43,13 +43,13 @@ count_with ks s t =
     length-append s.cells (shifted (rounded_up s.size (shape ks t).align) (shape ks t).cells)
     ∙ ap (λ n. length s.cells + n) (length_shifted (rounded_up s.size (shape ks t).align) (shape ks t).cells)
 
-firsts_more : (ks : List Known) (s : Shape) (n : ℕ) (xs : List PlainSlot) (x : PlainSlot) → n ≡ length s.cells → first_cells ks n (xs ++ x ∷ []) ≡ first_cells ks n xs ++ length (after ks s xs).cells ∷ []
+firsts_more : (ks : List Known) (s : Shape) (n : ℕ) (xs : List PlainBinding) (x : PlainBinding) → n ≡ length s.cells → first_cells ks n (xs ++ x ∷ []) ≡ first_cells ks n xs ++ length (after ks s xs).cells ∷ []
 firsts_more ks s n [] x e = ap (λ m. m ∷ []) e
 firsts_more ks s n (y ∷ xs) x e =
     ap (λ ms. n ∷ ms) (firsts_more ks (with_field ks s y.ty) (n + length (shape ks y.ty).cells) xs x (ap (λ m. m + length (shape ks y.ty).cells) e ∙ sym (count_with ks s y.ty)))
 
 -- what is laid out of a struct so far
-pub record IsOpen (ss : List PlainStruct) (fs : List PlainSlot) (bytes boundary count : ℕ) (spots : List Field) (words : List (List ℕ)) : Type 0 where
+pub record IsOpen (ss : List PlainStruct) (fs : List PlainBinding) (bytes boundary count : ℕ) (spots : List Field) (words : List (List ℕ)) : Type 0 where
   pub size : bytes ≡ (after (known ss) empty fs).size
   pub align : boundary ≡ (after (known ss) empty fs).align
   pub cells : count ≡ length (after (known ss) empty fs).cells
@@ -65,7 +65,7 @@ uncapped : (n m : ℕ) → m ≡ capped n → m ≤ SIZE_LIMIT → m ≡ n
 uncapped n m e l = omega (arith, e)
 
 -- one more field
-pub open_more : (ss : List PlainStruct) (xs : List PlainSlot) (x : PlainSlot) (size align cells : ℕ) (fields : List Field) (names : List (List ℕ)) (m : Measure) (at : ℕ) (f : Field)
+pub open_more : (ss : List PlainStruct) (xs : List PlainBinding) (x : PlainBinding) (size align cells : ℕ) (fields : List Field) (names : List (List ℕ)) (m : Measure) (at : ℕ) (f : Field)
     → IsOpen ss xs size align cells fields names → IsMeasure m (shape (known ss) x.ty) → (0 < m.align) × (m.align ≤ 4) → m.cells ≤ m.size → at ≡ rounded_up size m.align → at + m.size ≤ SIZE_LIMIT
     → place_of f ≡ record { name = x.name; at = at; ty = x.ty } → f.first_cell ≡ cells
     → IsOpen ss (xs ++ x ∷ []) (at + m.size) (max align m.align) (cells + m.cells) (fields ++ f ∷ []) (names ++ x.name ∷ [])
@@ -92,27 +92,27 @@ open_more ss xs x size align cells fields names m at f o h a c r l p q =
           ∙ (ap (λ z. field_places ks empty xs ++ z ∷ []) (p ∙ ap (λ n. record { name = x.name; at = n; ty = x.ty }) ra) ∙ sym (places_more ks empty xs x)));
       firsts = map-append (λ (f : Field). f.first_cell) fields (f ∷ []) ∙ (ap (λ ps. ps ++ f.first_cell ∷ []) o.firsts
           ∙ (ap (λ z. first_cells ks 0 xs ++ z ∷ []) (q ∙ o.cells) ∙ sym (firsts_more ks empty 0 xs x refl)));
-      names = ap (λ ns. ns ++ x.name ∷ []) o.names ∙ sym (map-append (λ (y : PlainSlot). y.name) xs (x ∷ []));
+      names = ap (λ ns. ns ++ x.name ∷ []) o.names ∙ sym (map-append (λ (y : PlainBinding). y.name) xs (x ∷ []));
     }
 
 -- the struct is too large as soon as a field ends past the limit
-pub open_large : (ss : List PlainStruct) (slots : List Slot) (i : ℕ) (x : Slot) (s : PlainStruct) (size align cells : ℕ) (fields : List Field) (names : List (List ℕ)) (m : Measure) (at : ℕ)
-    → IsOpen ss (map slot_of (take i slots)) size align cells fields names → IsMeasure m (shape (known ss) (type_of x.ty)) → 0 < m.align → at ≡ rounded_up size m.align → SIZE_LIMIT < at + m.size
-    → i < length slots → x ≡ get_or slots i x → s.fields ≡ map slot_of slots → IsTooLarge ss s
-open_large ss slots i x s size align cells fields names m at o h p r l b g e =
+pub open_large : (ss : List PlainStruct) (bindings : List Binding) (i : ℕ) (x : Binding) (s : PlainStruct) (size align cells : ℕ) (fields : List Field) (names : List (List ℕ)) (m : Measure) (at : ℕ)
+    → IsOpen ss (map binding_of (take i bindings)) size align cells fields names → IsMeasure m (shape (known ss) (type_of x.ty)) → 0 < m.align → at ≡ rounded_up size m.align → SIZE_LIMIT < at + m.size
+    → i < length bindings → x ≡ get_or bindings i x → s.fields ≡ map binding_of bindings → IsTooLarge ss s
+open_large ss bindings i x s size align cells fields names m at o h p r l b g e =
     let ks : List Known = known ss in
-    let xs : List PlainSlot = map slot_of (take i slots) in
-    let t : map slot_of (take (i + 1) slots) ≡ xs ++ slot_of x ∷ [] = map_more slot_of slots i x b ∙ ap (λ y. xs ++ slot_of y ∷ []) (sym g) in
-    let whole : map slot_of slots ≡ (xs ++ slot_of x ∷ []) ++ map slot_of (drop (i + 1) slots) =
-    ap (map slot_of) (sym (take-append-drop (i + 1) slots)) ∙ (map-append slot_of (take (i + 1) slots) (drop (i + 1) slots) ∙ ap (λ ys. ys ++ map slot_of (drop (i + 1) slots)) t) in
+    let xs : List PlainBinding = map binding_of (take i bindings) in
+    let t : map binding_of (take (i + 1) bindings) ≡ xs ++ binding_of x ∷ [] = map_more binding_of bindings i x b ∙ ap (λ y. xs ++ binding_of y ∷ []) (sym g) in
+    let whole : map binding_of bindings ≡ (xs ++ binding_of x ∷ []) ++ map binding_of (drop (i + 1) bindings) =
+    ap (map binding_of) (sym (take-append-drop (i + 1) bindings)) ∙ (map-append binding_of (take (i + 1) bindings) (drop (i + 1) bindings) ∙ ap (λ ys. ys ++ map binding_of (drop (i + 1) bindings)) t) in
     let w : Shape = with_field ks (after ks empty xs) (type_of x.ty) in
     let u : Shape = shape ks (type_of x.ty) in
     let gu = good ss (type_of x.ty) in
     let wa : 0 < w.align = omega (arith, gu.positive) in
-    let grows = size_grows ss w (map slot_of (drop (i + 1) slots)) wa in
-    let same : laid_out ks empty s.fields ≡ laid_out ks w (map slot_of (drop (i + 1) slots)) =
-    ap (laid_out ks empty) (e ∙ whole) ∙ (laid_split ks empty (xs ++ slot_of x ∷ []) (map slot_of (drop (i + 1) slots)) ∙ ap (λ z. laid_out ks z (map slot_of (drop (i + 1) slots))) (after_more ks empty xs (slot_of x))) in
-    let sz : (laid_out ks empty s.fields).size ≡ (laid_out ks w (map slot_of (drop (i + 1) slots))).size = ap (λ (z : Shape). z.size) same in
+    let grows = size_grows ss w (map binding_of (drop (i + 1) bindings)) wa in
+    let same : laid_out ks empty s.fields ≡ laid_out ks w (map binding_of (drop (i + 1) bindings)) =
+    ap (laid_out ks empty) (e ∙ whole) ∙ (laid_split ks empty (xs ++ binding_of x ∷ []) (map binding_of (drop (i + 1) bindings)) ∙ ap (λ z. laid_out ks z (map binding_of (drop (i + 1) bindings))) (after_more ks empty xs (binding_of x))) in
+    let sz : (laid_out ks empty s.fields).size ≡ (laid_out ks w (map binding_of (drop (i + 1) bindings))).size = ap (λ (z : Shape). z.size) same in
     let ra : at ≡ rounded_up (after ks empty xs).size u.align = r ∙ (ap (λ n. rounded_up n m.align) o.size ∙ ap (rounded_up (after ks empty xs).size) h.1.0) in
     let cap : m.size ≤ u.size = at_most_size u.size m.size h.0 in
     omega (arith, grows, sz, ra, cap, l)
@@ -144,26 +144,26 @@ open_laid ss l size o r b =
       names = o.names;
     }
 
-open_same : (ss : List PlainStruct) (fs gs : List PlainSlot) (size align cells size_next align_next : ℕ) (fields fields_next : List Field) (names names_next : List (List ℕ)) → fs ≡ gs → size ≡ size_next → align ≡ align_next
+open_same : (ss : List PlainStruct) (fs gs : List PlainBinding) (size align cells size_next align_next : ℕ) (fields fields_next : List Field) (names names_next : List (List ℕ)) → fs ≡ gs → size ≡ size_next → align ≡ align_next
     → fields ≡ fields_next → names ≡ names_next → IsOpen ss fs size align cells fields names → IsOpen ss gs size_next align_next cells fields_next names_next
 open_same ss fs gs size align cells sn an fields fn names nn a b c d e o =
     subst (λ x. IsOpen ss x sn an cells fn nn) a (subst (λ x. IsOpen ss fs x an cells fn nn) b (subst (λ x. IsOpen ss fs size x cells fn nn) c
     (subst (λ x. IsOpen ss fs size align cells x nn) d (subst (λ x. IsOpen ss fs size align cells fields x) e o))))
 
--- a step of the loop over slots
-pub open_step : (ss : List PlainStruct) (slots : List Slot) (i : ℕ) (x : Slot) (size align cells : ℕ) (fields : List Field) (names : List (List ℕ)) (m : Measure) (at : ℕ) (f : Field)
+-- a step of the loop over bindings
+pub open_step : (ss : List PlainStruct) (bindings : List Binding) (i : ℕ) (x : Binding) (size align cells : ℕ) (fields : List Field) (names : List (List ℕ)) (m : Measure) (at : ℕ) (f : Field)
     (start align_next : ℕ) (fields_next : List Field) (names_next : List (List ℕ))
-    → IsOpen ss (map slot_of (take i slots)) size align cells fields names → IsMeasure m (shape (known ss) (type_of x.ty)) → (0 < m.align) × (m.align ≤ 4) → m.cells ≤ m.size
+    → IsOpen ss (map binding_of (take i bindings)) size align cells fields names → IsMeasure m (shape (known ss) (type_of x.ty)) → (0 < m.align) × (m.align ≤ 4) → m.cells ≤ m.size
     → at ≡ rounded_up size m.align → at + m.size ≤ SIZE_LIMIT → place_of f ≡ record { name = x.name; at = at; ty = type_of x.ty } → f.first_cell ≡ cells
-    → i < length slots → x ≡ get_or slots i x → start ≡ at → align_next ≡ max align m.align → fields_next ≡ fields ++ f ∷ [] → names_next ≡ names ++ x.name ∷ []
-    → IsOpen ss (map slot_of (take (i + 1) slots)) (start + m.size) align_next (cells + m.cells) fields_next names_next
-open_step ss slots i x size align cells fields names m at f start an fn nn o h a c r l p q b g s t u v =
-    open_same ss (map slot_of (take i slots) ++ slot_of x ∷ []) (map slot_of (take (i + 1) slots)) (at + m.size) (max align m.align) (cells + m.cells) (start + m.size) an (fields ++ f ∷ []) fn (names ++ x.name ∷ []) nn
-    (sym (map_more slot_of slots i x b ∙ ap (λ y. map slot_of (take i slots) ++ slot_of y ∷ []) (sym g))) (ap (λ n. n + m.size) (sym s)) (sym t) (sym u) (sym v)
-    (open_more ss (map slot_of (take i slots)) (slot_of x) size align cells fields names m at f o h a c r l p q)
+    → i < length bindings → x ≡ get_or bindings i x → start ≡ at → align_next ≡ max align m.align → fields_next ≡ fields ++ f ∷ [] → names_next ≡ names ++ x.name ∷ []
+    → IsOpen ss (map binding_of (take (i + 1) bindings)) (start + m.size) align_next (cells + m.cells) fields_next names_next
+open_step ss bindings i x size align cells fields names m at f start an fn nn o h a c r l p q b g s t u v =
+    open_same ss (map binding_of (take i bindings) ++ binding_of x ∷ []) (map binding_of (take (i + 1) bindings)) (at + m.size) (max align m.align) (cells + m.cells) (start + m.size) an (fields ++ f ∷ []) fn (names ++ x.name ∷ []) nn
+    (sym (map_more binding_of bindings i x b ∙ ap (λ y. map binding_of (take i bindings) ++ binding_of y ∷ []) (sym g))) (ap (λ n. n + m.size) (sym s)) (sym t) (sym u) (sym v)
+    (open_more ss (map binding_of (take i bindings)) (binding_of x) size align cells fields names m at f o h a c r l p q)
 
 -- all fields are laid out
-pub open_whole : (ss : List PlainStruct) (slots : List Slot) (i : ℕ) (s : PlainStruct) (size align cells : ℕ) (fields : List Field) (names : List (List ℕ)) → length slots ≤ i → s.fields ≡ map slot_of slots
-    → IsOpen ss (map slot_of (take i slots)) size align cells fields names → IsOpen ss s.fields size align cells fields names
-open_whole ss slots i s size align cells fields names l e o =
-    subst (λ x. IsOpen ss x size align cells fields names) (ap (map slot_of) (take_all i slots l) ∙ sym e) o
+pub open_whole : (ss : List PlainStruct) (bindings : List Binding) (i : ℕ) (s : PlainStruct) (size align cells : ℕ) (fields : List Field) (names : List (List ℕ)) → length bindings ≤ i → s.fields ≡ map binding_of bindings
+    → IsOpen ss (map binding_of (take i bindings)) size align cells fields names → IsOpen ss s.fields size align cells fields names
+open_whole ss bindings i s size align cells fields names l e o =
+    subst (λ x. IsOpen ss x size align cells fields names) (ap (map binding_of) (take_all i bindings l) ∙ sym e) o

@@ -2,7 +2,7 @@
 use Rattle.std.proofs.Common.{◌≡◌, ℕ, zero, suc, ◌<◌, ◌≤◌, Bool, true, false, List, [], ◌∷◌, ◌++◌, map, take, refl, sym, ap, subst, ◌∙◌, arith, Some, bytes_eq, if◌then◌else◌}
 use Rattle.std.specs.List.{slice_get}
 use Rattle.ir_model.specs.declared.firmware.StructDecl.{StructDecl}
-use Rattle.ir_model.specs.Plain.{PlainStruct, slot_of, struct_of}
+use Rattle.ir_model.specs.Plain.{PlainStruct, binding_of, struct_of}
 use Rattle.ir_model.specs.Layout.{Shape, Known, FieldPlace, empty, shape_named, fields_named, laid_out, field_places, known_behind, known}
 use Rattle.base_names.specs.Numbers.{has, number_of}
 use Rattle.ir_layouts.specs.Measures.{struct_shape}
@@ -90,7 +90,7 @@ abbrev before : List Known → List StructDecl → ℕ → List Known
 before ks ss k = known_behind ks (map struct_of (take k ss))
 
 there_from : (ks : List Known) (ss : List StructDecl) (b : ℕ) (n : List ℕ) (k : ℕ) (s : StructDecl) → Lacks ks n → FirstAt n ss k → k < b → slice_get ss k ≡ Some s
-    → Gives (before ks ss b) n (laid_out (before ks ss k) empty (map slot_of s.fields)) (field_places (before ks ss k) empty (map slot_of s.fields))
+    → Gives (before ks ss b) n (laid_out (before ks ss k) empty (map binding_of s.fields)) (field_places (before ks ss k) empty (map binding_of s.fields))
 there_from ks _ zero n k s l f h g = absurd (omega arith)
 there_from ks _ (suc b) n _ s l (first x ss e) h g =
     let same : x ≡ s = cc in
@@ -104,7 +104,7 @@ there_from ks _ (suc b) n _ s l (next x ss k e f) h g =
 
 -- among the first so many a name means the first struct that has it
 pub there : (ss : List StructDecl) (b : ℕ) (n : List ℕ) (k : ℕ) (s : StructDecl) → FirstAt n ss k → k < b → slice_get ss k ≡ Some s
-    → Gives (known (map struct_of (take b ss))) n (struct_shape (map struct_of (take k ss)) (struct_of s)) (field_places (known (map struct_of (take k ss))) empty (map slot_of s.fields))
+    → Gives (known (map struct_of (take b ss))) n (struct_shape (map struct_of (take k ss)) (struct_of s)) (field_places (known (map struct_of (take k ss))) empty (map binding_of s.fields))
 unfolding known
 there ss b n k s f h g = there_from [] ss b n k s tt f h g
 

@@ -2,7 +2,7 @@
 use Rattle.std.proofs.Common.{◌≡◌, ℕ, zero, suc, ◌+◌, ◌*◌, ◌<◌, ◌≤◌, max, Bool, true, false, List, [], ◌∷◌, ◌++◌, length, refl, sym, ap, subst, ◌∙◌, arith, bytes_eq, if◌then◌else◌, length-append, zero-add}
 use Rattle.std.proofs.Math.Nat.{suc-mul, zero-mul, mul-le-mul_left}
 use Rattle.ir_model.specs.Types.{PlainType, U8, U16, U32, Pointer, Array, Named, Callee}
-use Rattle.ir_model.specs.Plain.{PlainSlot, PlainStruct}
+use Rattle.ir_model.specs.Plain.{PlainBinding, PlainStruct}
 use Rattle.ir_model.specs.Layout.{CellPlace, Shape, Known, empty, shape, shape_named, shifted, copies, array_of, rounded_up, with_field, laid_out, field_places, known, known_behind}
 use Rattle.ir_model.proofs.Counting.{rounded_at_least}
 
@@ -103,7 +103,7 @@ good_field ks s t g h =
       fewer = omega (arith, l, e, r, g.fewer, h.fewer);
     }
 
-good_fields : (ks : List Known) (s : Shape) (fs : List PlainSlot) → AllGood ks → Good s → Good (laid_out ks s fs)
+good_fields : (ks : List Known) (s : Shape) (fs : List PlainBinding) → AllGood ks → Good s → Good (laid_out ks s fs)
 good_fields ks s [] h g =
     let r = rounded_at_least s.size s.align g.positive in record {
       positive = g.positive;
@@ -125,7 +125,7 @@ unfolding known
 good ss t = good_type (known_behind [] ss) t (good_behind [] ss tt)
 
 -- fields behind what is laid out take no bytes away
-size_grows_by : (ks : List Known) (s : Shape) (fs : List PlainSlot) → AllGood ks → 0 < s.align → s.size ≤ (laid_out ks s fs).size
+size_grows_by : (ks : List Known) (s : Shape) (fs : List PlainBinding) → AllGood ks → 0 < s.align → s.size ≤ (laid_out ks s fs).size
 size_grows_by ks s [] h p = rounded_at_least s.size s.align p
 size_grows_by ks s (f ∷ fs) h p =
     let g = good_type ks f.ty h in
@@ -134,6 +134,6 @@ size_grows_by ks s (f ∷ fs) h p =
     let more = size_grows_by ks (with_field ks s f.ty) fs h q in
     omega (arith, r, more)
 
-pub size_grows : (ss : List PlainStruct) (s : Shape) (fs : List PlainSlot) → 0 < s.align → s.size ≤ (laid_out (known ss) s fs).size
+pub size_grows : (ss : List PlainStruct) (s : Shape) (fs : List PlainBinding) → 0 < s.align → s.size ≤ (laid_out (known ss) s fs).size
 unfolding known
 size_grows ss s fs p = size_grows_by (known_behind [] ss) s fs (good_behind [] ss tt) p

@@ -5,7 +5,7 @@ use Rattle.std.specs.List.{slice_get}
 use Rattle.std.proofs.Math.ListN.{get_or}
 use Rattle.ir_model.specs.declared.extent.TheConstants.{SIZE_LIMIT}
 use Rattle.ir_model.specs.declared.firmware.StructDecl.{StructDecl}
-use Rattle.ir_model.specs.Plain.{PlainSlot, PlainStruct, struct_of, names_of}
+use Rattle.ir_model.specs.Plain.{PlainBinding, PlainStruct, struct_of, names_of}
 use Rattle.ir_model.specs.Layout.{FieldPlace, Known, known, shape, shape_named, empty, field_places}
 use Rattle.ir_layouts.specs.declared.table.Field.{Field}
 use Rattle.ir_layouts.specs.declared.table.StructLayout.{StructLayout}
@@ -13,7 +13,7 @@ use Rattle.ir_layouts.specs.Measures.{struct_shape, IsTooLarge}
 use Rattle.ir_layouts.specs.Fields.{place_of}
 
 -- how many cells lie before each field, if so many lie before the first
-abbrev pub first_cells : List Known → ℕ → List PlainSlot → List ℕ
+abbrev pub first_cells : List Known → ℕ → List PlainBinding → List ℕ
 first_cells ks n [] = []
 first_cells ks n (f ∷ fs) = n ∷ first_cells ks (n + length (shape ks f.ty).cells) fs
 

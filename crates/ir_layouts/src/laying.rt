@@ -33,24 +33,24 @@ impl<'a> Layouts<'a> {
         ensures too_large { result ≡ Err LayoutFault.TooLarge → IsTooLarge (map struct_of self.now) (struct_of declaration.now) }
     {
         let alloc = *self.structs.allocator();
-        let slots = declaration.fields.as_slice();
+        let bindings = declaration.fields.as_slice();
         let (mut size, mut align, mut cells) = (0u32, 1u32, 0u32);
         let mut fields = Vec::new(alloc);
         let mut names = Names::new(alloc);
-        for slot in slots {
-            let inner = self.measure(&slot.ty);
+        for binding in bindings {
+            let inner = self.measure(&binding.ty);
             let at = round_up(size, inner.align);
             let end = u64::from(at) + inner.size;
             if end > u64::from(SIZE_LIMIT) {
                 return Err(LayoutFault::TooLarge);
             }
             fields.push(Field {
-                name: &slot.name,
-                ty: &slot.ty,
+                name: &binding.name,
+                ty: &binding.ty,
                 at,
                 first_cell: cells,
             })?;
-            names.push(&slot.name)?;
+            names.push(&binding.name)?;
             size = end as u32;
             align = align.max(inner.align);
             cells += inner.cells as u32;

@@ -6,7 +6,7 @@ use Rattle.std.proofs.lemmas.Nat.{div-add-mod'}
 use Rattle.ir_model.specs.declared.extent.Extent.{Extent}
 use Rattle.ir_model.specs.declared.extent.TheConstants.{SIZE_LIMIT}
 use Rattle.ir_model.specs.Types.{PlainType, U8, U16, U32, Pointer, Array, Named, Callee}
-use Rattle.ir_model.specs.Plain.{PlainSlot, PlainStruct}
+use Rattle.ir_model.specs.Plain.{PlainBinding, PlainStruct}
 use Rattle.ir_model.specs.Layout.{Shape, Known, empty, shape, shape_named, array_of, rounded_up, with_field, laid_out, field_places, known, known_behind}
 use Rattle.ir_model.specs.Extents.{Sized, extent_named, limited, of_many, extent, behind, closed, extent_behind, fields_extent, nothing_yet, sized_behind, sized, layout_of, pair_of, Counted, counted_named, is_counted, are_counted, counted_behind, counted, HasElements, EachHasElements, AllHaveElements, IsSized}
 use Rattle.ir_model.proofs.Alignments.{positive_first}
@@ -172,7 +172,7 @@ and_and : (a b c : Bool) → a && b && c ≡ a && (b && c)
 and_and true b c = refl
 and_and false b c = refl
 
-tie_fields : (ks : List Sized) (ms : List Known) (cs : List Counted) (b : Option Extent) (s : Shape) (c : Bool) (fs : List PlainSlot) → Tables ks ms cs → EachHasElements fs
+tie_fields : (ks : List Sized) (ms : List Known) (cs : List Counted) (b : Option Extent) (s : Shape) (c : Bool) (fs : List PlainBinding) → Tables ks ms cs → EachHasElements fs
     → 0 < s.align → Tied b s c → Tied (extent_behind ks b fs) (laid_out ms s fs) (c && are_counted cs fs) × (0 < (laid_out ms s fs).align)
 tie_fields ks ms cs b s c [] a e p h = (tied_same (option_and_then closed b) (laid_out ms s []) c (c && true) (sym (and_true c)) (tie_closed b s c p h), p)
 tie_fields ks ms cs b s c (f ∷ fs) a e p h =

@@ -4,10 +4,10 @@ use Rattle.std.specs.List.{position, position_from}
 use Rattle.std.proofs.lemmas.List.Quantifiers.{position-Some}
 use Rattle.std.proofs.lemmas.Iterator.Adapters.{position_from-zero}
 use Rattle.ir_model.specs.declared.extent.Extent.{Extent}
-use Rattle.ir_model.specs.declared.firmware.Slot.{Slot}
+use Rattle.ir_model.specs.declared.firmware.Binding.{Binding}
 use Rattle.ir_model.specs.declared.firmware.StructDecl.{StructDecl}
 use Rattle.ir_model.specs.Types.{type_of}
-use Rattle.ir_model.specs.Plain.{PlainSlot, PlainStruct, slot_of, struct_of}
+use Rattle.ir_model.specs.Plain.{PlainBinding, PlainStruct, binding_of, struct_of}
 use Rattle.ir_model.specs.Extents.{Sized, extent_named, fields_extent, extent_behind, extent, behind, sized_behind, sized}
 use Rattle.ir_model.proofs.Arrays.{arrays}
 
@@ -48,16 +48,16 @@ first_behind n v ks (s ∷ ss) f = first_behind n v (ks ++ record { name = s.nam
 -- a name finds the struct that is the first with it, laid out by those before
 named_at : (ks : List Sized) (xs : List StructDecl) (n : List ℕ) (i : ℕ) (d : StructDecl) → Lacks ks n → i < length xs → bytes_eq (get_or xs i d).name n ≡ true
     → ((k : ℕ) → k < i → bytes_eq (get_or xs k d).name n ≡ false)
-    → extent_named (sized_behind ks (map struct_of xs)) n ≡ fields_extent (sized_behind ks (map struct_of (take i xs))) (map slot_of (get_or xs i d).fields)
+    → extent_named (sized_behind ks (map struct_of xs)) n ≡ fields_extent (sized_behind ks (map struct_of (take i xs))) (map binding_of (get_or xs i d).fields)
 named_at ks [] n i d h l e f = absurd (omega arith)
 named_at ks (s ∷ xs) n zero d h l e f =
-    first_named n _ _ (first_behind n _ _ (map struct_of xs) (first_last n ks (record { name = s.name; extent = fields_extent ks (map slot_of s.fields) }) h e))
+    first_named n _ _ (first_behind n _ _ (map struct_of xs) (first_last n ks (record { name = s.name; extent = fields_extent ks (map binding_of s.fields) }) h e))
 named_at ks (s ∷ xs) n (suc i) d h l e f =
-    named_at (ks ++ record { name = s.name; extent = fields_extent ks (map slot_of s.fields) } ∷ []) xs n i d
+    named_at (ks ++ record { name = s.name; extent = fields_extent ks (map binding_of s.fields) } ∷ []) xs n i d
     (lacks_more ks n _ h (f zero (omega arith))) (omega arith) e (λ k m. f (suc k) (omega arith))
 
 pub named_found : (xs : List StructDecl) (n : List ℕ) (i : ℕ) (d : StructDecl) → position (λ (s : StructDecl). bytes_eq s.name n) xs ≡ Some i
-    → extent_named (sized (map struct_of xs)) n ≡ fields_extent (sized (map struct_of (take i xs))) (map slot_of (get_or xs i d).fields)
+    → extent_named (sized (map struct_of xs)) n ≡ fields_extent (sized (map struct_of (take i xs))) (map binding_of (get_or xs i d).fields)
 unfolding sized
 named_found xs n i d e =
     let p = position-Some (λ (s : StructDecl). bytes_eq s.name n) xs i d e in
@@ -76,7 +76,7 @@ named_missing : (ks : List Sized) (xs : List StructDecl) (n : List ℕ) (j : ℕ
 named_missing ks [] n j h e = lacks_named ks n h
 named_missing ks (s ∷ xs) n j h e =
     missing_on _ (bytes_eq s.name n) j _ e
-    (λ f g. named_missing (ks ++ record { name = s.name; extent = fields_extent ks (map slot_of s.fields) } ∷ []) xs n (j + 1) (lacks_more ks n _ h f) g)
+    (λ f g. named_missing (ks ++ record { name = s.name; extent = fields_extent ks (map binding_of s.fields) } ∷ []) xs n (j + 1) (lacks_more ks n _ h f) g)
 
 pub named_nowhere : (xs : List StructDecl) (n : List ℕ) → position (λ (s : StructDecl). bytes_eq s.name n) xs ≡ None
     → extent_named (sized (map struct_of xs)) n ≡ None
@@ -84,25 +84,25 @@ unfolding sized
 named_nowhere xs n e = named_missing [] xs n 0 tt (sym (position_from-zero (λ (s : StructDecl). bytes_eq s.name n) xs) ∙ e)
 
 -- fields one by one
-pub behind_step : (ks : List Sized) (s : Option Extent) (fs : List Slot) (i : ℕ) (d : Slot) → i < length fs
-    → extent_behind ks s (map slot_of (drop i fs))
-    ≡ extent_behind ks (option_and_then (λ b. option_and_then (behind b) (extent ks (type_of (get_or fs i d).ty))) s) (map slot_of (drop (i + 1) fs))
+pub behind_step : (ks : List Sized) (s : Option Extent) (fs : List Binding) (i : ℕ) (d : Binding) → i < length fs
+    → extent_behind ks s (map binding_of (drop i fs))
+    ≡ extent_behind ks (option_and_then (λ b. option_and_then (behind b) (extent ks (type_of (get_or fs i d).ty))) s) (map binding_of (drop (i + 1) fs))
 behind_step ks s [] i d l = absurd (omega arith)
 behind_step ks s (f ∷ fs) zero d l = refl
 behind_step ks s (f ∷ fs) (suc i) d l =
     let q : suc i + 1 ≡ suc (i + 1) = omega arith in
     behind_step ks s fs i d (omega arith)
-    ∙ ap (λ n. extent_behind ks (option_and_then (λ b. option_and_then (behind b) (extent ks (type_of (get_or fs i d).ty))) s) (map slot_of (drop n (f ∷ fs)))) (sym q)
+    ∙ ap (λ n. extent_behind ks (option_and_then (λ b. option_and_then (behind b) (extent ks (type_of (get_or fs i d).ty))) s) (map binding_of (drop n (f ∷ fs)))) (sym q)
 
-pub behind_none : (ks : List Sized) (fs : List PlainSlot) → extent_behind ks None fs ≡ None
+pub behind_none : (ks : List Sized) (fs : List PlainBinding) → extent_behind ks None fs ≡ None
 behind_none ks [] = refl
 behind_none ks (f ∷ fs) = behind_none ks fs
 
-abbrev pub slot_weight : Slot → ℕ
-slot_weight f = arrays (type_of f.ty) + 2
+abbrev pub binding_weight : Binding → ℕ
+binding_weight f = arrays (type_of f.ty) + 2
 
-abbrev pub fields_weight : List Slot → ℕ
-fields_weight fs = sum_by slot_weight fs
+abbrev pub fields_weight : List Binding → ℕ
+fields_weight fs = sum_by binding_weight fs
 
 abbrev pub struct_weight : StructDecl → ℕ
 struct_weight s = fields_weight s.fields + 2
@@ -111,17 +111,17 @@ abbrev pub structs_weight : List StructDecl → ℕ
 structs_weight ss = sum_by struct_weight ss
 
 -- a field that has no extent, or that passes the limit
-pub field_without : (ks : List Sized) (before : Extent) (fs : List Slot) (i : ℕ) (f : Slot) (all : Option Extent) → i < length fs
-    → all ≡ extent_behind ks (Some before) (map slot_of (drop i fs)) → None ≡ extent ks (type_of (get_or fs i f).ty) → None ≡ all
+pub field_without : (ks : List Sized) (before : Extent) (fs : List Binding) (i : ℕ) (f : Binding) (all : Option Extent) → i < length fs
+    → all ≡ extent_behind ks (Some before) (map binding_of (drop i fs)) → None ≡ extent ks (type_of (get_or fs i f).ty) → None ≡ all
 field_without ks before fs i f all l h n =
     sym (h ∙ (behind_step ks (Some before) fs i f l
-    ∙ (ap (λ o. extent_behind ks (option_and_then (behind before) o) (map slot_of (drop (i + 1) fs))) (sym n)
-    ∙ behind_none ks (map slot_of (drop (i + 1) fs)))))
+    ∙ (ap (λ o. extent_behind ks (option_and_then (behind before) o) (map binding_of (drop (i + 1) fs))) (sym n)
+    ∙ behind_none ks (map binding_of (drop (i + 1) fs)))))
 
-pub field_passes : (ks : List Sized) (before field : Extent) (fs : List Slot) (i : ℕ) (f : Slot) (all : Option Extent) → i < length fs
-    → all ≡ extent_behind ks (Some before) (map slot_of (drop i fs)) → Some field ≡ extent ks (type_of (get_or fs i f).ty) → None ≡ behind before field → None ≡ all
+pub field_passes : (ks : List Sized) (before field : Extent) (fs : List Binding) (i : ℕ) (f : Binding) (all : Option Extent) → i < length fs
+    → all ≡ extent_behind ks (Some before) (map binding_of (drop i fs)) → Some field ≡ extent ks (type_of (get_or fs i f).ty) → None ≡ behind before field → None ≡ all
 field_passes ks before field fs i f all l h n m =
     sym (h ∙ (behind_step ks (Some before) fs i f l
-    ∙ (ap (λ o. extent_behind ks (option_and_then (behind before) o) (map slot_of (drop (i + 1) fs))) (sym n)
-    ∙ (ap (λ o. extent_behind ks o (map slot_of (drop (i + 1) fs))) (sym m)
-    ∙ behind_none ks (map slot_of (drop (i + 1) fs))))))
+    ∙ (ap (λ o. extent_behind ks (option_and_then (behind before) o) (map binding_of (drop (i + 1) fs))) (sym n)
+    ∙ (ap (λ o. extent_behind ks o (map binding_of (drop (i + 1) fs))) (sym m)
+    ∙ behind_none ks (map binding_of (drop (i + 1) fs))))))

@@ -12,11 +12,11 @@ use Rattle.ir_model.specs.declared.token.Excess.{Excess}
 use Rattle.ir_model.specs.declared.token.Mark.TheVariants.{Colon, Close, OpenBrace, Comma}
 use Rattle.ir_model.specs.declared.token.TextLimit.{TextLimit}
 use Rattle.ir_model.specs.declared.token.TextLimit.TheVariants as limit
-use Rattle.ir_model.specs.Plain.{PlainSlot, PlainStruct, PlainGlobal, PlainFunc, PlainFile, PlainFirmware, funcs_of, regs_of}
+use Rattle.ir_model.specs.Plain.{PlainBinding, PlainStruct, PlainGlobal, PlainFunc, PlainFile, PlainFirmware, funcs_of, regs_of}
 use Rattle.ir_model.specs.declared.token.Keyword.TheVariants as key
 use Rattle.ir_model.specs.Types.{PlainType, U8, U16, U32, Pointer, Array, Named, Callee, target_of}
 use Rattle.ir_model.specs.Tokens.{Token, Key, Marked, Sign}
-use Rattle.ir_model.specs.Lines.{Line, name, register, arguments, more_arguments, kept, type_tokens, init_tokens, counted, word_excess, plain, slot_tokens, more_slots, slots_tokens, result_tokens, global_start, func_line, close_line, term_line, label_line, inst_line, inst_lines, block_lines, local_lines, reg_lines, func_lines, funcs_lines, file_lines, struct_lines, periph_lines, global_lines, lines_of}
+use Rattle.ir_model.specs.Lines.{Line, name, register, arguments, more_arguments, kept, type_tokens, init_tokens, counted, word_excess, plain, binding_tokens, more_bindings, bindings_tokens, result_tokens, global_start, func_line, close_line, term_line, label_line, inst_line, inst_lines, block_lines, local_lines, reg_lines, func_lines, funcs_lines, file_lines, struct_lines, periph_lines, global_lines, lines_of}
 use Rattle.ir_model.specs.Canonical.{PassesNothing, IsProper, IsWithinLimits}
 use Rattle.base_laws.specs.Lists.{Each}
 use Rattle.ir_model.specs.Extents.{HasElements}
@@ -90,42 +90,42 @@ files_in k n (f ∷ fs) b h =
     let r = files_in (k + 1) (n + length f.funcs) fs (omega arith) (each_right Quiet front (file_lines (k + 1) (n + length f.funcs) fs) h.1) in
     omega arith
 
--- ---- the slots of a function
+-- ---- the bindings of a function
 
-locals_in : (k : ℕ) (ls : List PlainSlot) → k ≤ 64 → Each Quiet (local_lines k ls) → k + length ls ≤ 64
+locals_in : (k : ℕ) (ls : List PlainBinding) → k ≤ 64 → Each Quiet (local_lines k ls) → k + length ls ≤ 64
 locals_in k [] b h = omega arith
 locals_in k (s ∷ ls) b h =
     let c = counted_none k 64 limit.Local None h.0.0 in
     let r = locals_in (k + 1) ls (omega arith) h.1 in
     omega arith
 
-registers_in : (k : ℕ) (rs : List PlainSlot) → k ≤ 120 → Each Quiet (reg_lines k rs) → k + length rs ≤ 120
+registers_in : (k : ℕ) (rs : List PlainBinding) → k ≤ 120 → Each Quiet (reg_lines k rs) → k + length rs ≤ 120
 registers_in k [] b h = omega arith
 registers_in k (s ∷ rs) b h =
     let c = counted_none k 120 limit.Register None h.0.0 in
     let r = registers_in (k + 1) rs (omega arith) h.1 in
     omega arith
 
-more_in : (k : ℕ) (ss : List PlainSlot) → k ≤ 4 → Quiet (more_slots limit.Param k 4 ss) → k + length ss ≤ 4
+more_in : (k : ℕ) (ss : List PlainBinding) → k ≤ 4 → Quiet (more_bindings limit.Param k 4 ss) → k + length ss ≤ 4
 more_in k [] b h = omega arith
 more_in k (s ∷ ss) b h =
     let c = counted_none k 4 limit.Param None (first_none (counted k 4 limit.Param None) (word_excess s.name) h.1.0) in
-    let r = more_in (k + 1) ss (omega arith) (each_right PassesNothing (slot_tokens (counted k 4 limit.Param None) s) (more_slots limit.Param (k + 1) 4 ss) h.1) in
+    let r = more_in (k + 1) ss (omega arith) (each_right PassesNothing (binding_tokens (counted k 4 limit.Param None) s) (more_bindings limit.Param (k + 1) 4 ss) h.1) in
     omega arith
 
-parameters_in : (ss : List PlainSlot) → Quiet (slots_tokens limit.Param 4 ss) → length ss ≤ 4
+parameters_in : (ss : List PlainBinding) → Quiet (bindings_tokens limit.Param 4 ss) → length ss ≤ 4
 parameters_in [] h = omega arith
 parameters_in (s ∷ ss) h =
-    let r = more_in 1 ss (omega arith) (each_right PassesNothing (slot_tokens None s) (more_slots limit.Param 1 4 ss) h) in
+    let r = more_in 1 ss (omega arith) (each_right PassesNothing (binding_tokens None s) (more_bindings limit.Param 1 4 ss) h) in
     omega arith
 
 -- ---- arrays have elements
 
--- the array that a register points to, and that of a slot
-abbrev pub PointsWell : PlainSlot → Type 0
+-- the array that a register points to, and that of a binding
+abbrev pub PointsWell : PlainBinding → Type 0
 PointsWell s = HasElements (target_of s.ty)
 
-abbrev pub HasParts : PlainSlot → Type 0
+abbrev pub HasParts : PlainBinding → Type 0
 HasParts s = HasElements s.ty
 
 target_elements : (x : Option Excess) (d : ℕ) (t : PlainType) → Each PassesNothing (type_tokens x d t) → HasElements (target_of t)
@@ -137,24 +137,24 @@ target_elements x d (Array n t) h = tt
 target_elements x d (Named n) h = tt
 target_elements x d (Callee a r) h = tt
 
-more_registers : (l : TextLimit) (k most : ℕ) (ss : List PlainSlot) → Each PassesNothing (more_slots l k most ss) → Each PointsWell ss
+more_registers : (l : TextLimit) (k most : ℕ) (ss : List PlainBinding) → Each PassesNothing (more_bindings l k most ss) → Each PointsWell ss
 more_registers l k most [] h = tt
 more_registers l k most (s ∷ ss) h =
-    let slot : Line = plain (Sign Comma) ∷ slot_tokens (counted k most l None) s in
-    let first = each_left PassesNothing slot (more_slots l (k + 1) most ss) h in
-    (target_elements None 0 s.ty first.1.1.1, more_registers l (k + 1) most ss (each_right PassesNothing slot (more_slots l (k + 1) most ss) h))
+    let binding : Line = plain (Sign Comma) ∷ binding_tokens (counted k most l None) s in
+    let first = each_left PassesNothing binding (more_bindings l (k + 1) most ss) h in
+    (target_elements None 0 s.ty first.1.1.1, more_registers l (k + 1) most ss (each_right PassesNothing binding (more_bindings l (k + 1) most ss) h))
 
-slot_registers : (l : TextLimit) (most : ℕ) (ss : List PlainSlot) → Each PassesNothing (slots_tokens l most ss) → Each PointsWell ss
-slot_registers l most [] h = tt
-slot_registers l most (s ∷ ss) h =
-    let first = each_left PassesNothing (slot_tokens None s) (more_slots l 1 most ss) h in
-    (target_elements None 0 s.ty first.1.1, more_registers l 1 most ss (each_right PassesNothing (slot_tokens None s) (more_slots l 1 most ss) h))
+binding_registers : (l : TextLimit) (most : ℕ) (ss : List PlainBinding) → Each PassesNothing (bindings_tokens l most ss) → Each PointsWell ss
+binding_registers l most [] h = tt
+binding_registers l most (s ∷ ss) h =
+    let first = each_left PassesNothing (binding_tokens None s) (more_bindings l 1 most ss) h in
+    (target_elements None 0 s.ty first.1.1, more_registers l 1 most ss (each_right PassesNothing (binding_tokens None s) (more_bindings l 1 most ss) h))
 
-line_registers : (k : ℕ) (ss : List PlainSlot) → Each Quiet (reg_lines k ss) → Each PointsWell ss
+line_registers : (k : ℕ) (ss : List PlainBinding) → Each Quiet (reg_lines k ss) → Each PointsWell ss
 line_registers k [] h = tt
 line_registers k (s ∷ ss) h = (target_elements None 0 s.ty h.0.1.1.1, line_registers (k + 1) ss h.1)
 
-locals_parts : (k : ℕ) (ss : List PlainSlot) → Each Quiet (local_lines k ss) → Each HasParts ss
+locals_parts : (k : ℕ) (ss : List PlainBinding) → Each Quiet (local_lines k ss) → Each HasParts ss
 locals_parts k [] h = tt
 locals_parts k (s ∷ ss) h = (type_elements None 0 s.ty h.0.1.1.1, locals_parts (k + 1) ss h.1)
 
@@ -167,19 +167,19 @@ globals_parts k (g ∷ gs) h =
     (type_elements None 0 g.ty own.1.1, globals_parts (k + 1) gs h.1)
 
 -- at most 4 parameters, 120 registers with them, and 64 locals
-pub record HasFewSlots (f : PlainFunc) : Type 0 where
+pub record HasFewBindings (f : PlainFunc) : Type 0 where
   pub parameters : length f.params ≤ 4
   pub registers : length (regs_of f) ≤ 120
   pub locals : length f.locals ≤ 64
 
-slots_of : (k : ℕ) (f : PlainFunc) → Quiet (func_line k f) → Quiet (slots_tokens limit.Param 4 f.params)
-slots_of k f h =
+bindings_of : (k : ℕ) (f : PlainFunc) → Quiet (func_line k f) → Quiet (bindings_tokens limit.Param 4 f.params)
+bindings_of k f h =
     let behind : Line = plain (Sign Close) ∷ result_tokens 0 f.outcome in
-    let slots : Line = slots_tokens limit.Param 4 f.params in
-    each_left PassesNothing slots behind (each_left PassesNothing (slots ++ behind) (plain (Sign OpenBrace) ∷ []) h.1.1.1)
+    let bindings : Line = bindings_tokens limit.Param 4 f.params in
+    each_left PassesNothing bindings behind (each_left PassesNothing (bindings ++ behind) (plain (Sign OpenBrace) ∷ []) h.1.1.1)
 
 parameters_of : (k : ℕ) (f : PlainFunc) → Quiet (func_line k f) → length f.params ≤ 4
-parameters_of k f h = parameters_in f.params (slots_of k f h)
+parameters_of k f h = parameters_in f.params (bindings_of k f h)
 
 -- ---- constants
 
@@ -297,7 +297,7 @@ blocks_few k n (x ∷ bs) a b h =
 
 -- what is said of a function in the lines of its file
 pub record Limited (f : PlainFunc) : Type 0 where
-  pub slots : HasFewSlots f
+  pub bindings : HasFewBindings f
   pub registers : Each PointsWell (regs_of f)
   pub locals : Each HasParts f.locals
   pub words : HasWords f
@@ -322,9 +322,9 @@ small_func k f h =
     let b0 = b.0 in
     let b1 = b.1 in
     record {
-      slots = record { parameters = p; registers = omega arith; locals = omega arith };
+      bindings = record { parameters = p; registers = omega arith; locals = omega arith };
       registers = each_both PointsWell f.params f.regs
-          (slot_registers limit.Param 4 f.params (slots_of k f top.0))
+          (binding_registers limit.Param 4 f.params (bindings_of k f top.0))
           (line_registers (length f.params) f.regs (each_right Quiet first registers both));
       locals = locals_parts 0 f.locals top.1;
       words = words_in_blocks 0 0 f.blocks code;
@@ -405,5 +405,5 @@ module _ (w : PlainFirmware) where
     pub limited : Each Limited (funcs_of w)
     limited = small_in_files 0 0 w.files (of_files Quiet h.tokens)
 
-    pub few_slots : (f : PlainFunc) → Contains (funcs_of w) f → HasFewSlots f
-    few_slots f c = (each_contained Limited (funcs_of w) f c limited).slots
+    pub few_bindings : (f : PlainFunc) → Contains (funcs_of w) f → HasFewBindings f
+    few_bindings f c = (each_contained Limited (funcs_of w) f c limited).bindings

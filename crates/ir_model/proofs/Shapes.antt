@@ -3,7 +3,7 @@ use Rattle.std.proofs.Common.{◌≡◌, ℕ, ◌+◌, ◌*◌, max, Bool, true,
 use Rattle.ir_model.specs.declared.extent.Extent.{Extent}
 use Rattle.ir_model.specs.declared.extent.TheConstants.{SIZE_LIMIT}
 use Rattle.ir_model.specs.Types.{PlainType, U8, U16, U32, Pointer, Array, Named, Callee}
-use Rattle.ir_model.specs.Plain.{PlainSlot, PlainStruct}
+use Rattle.ir_model.specs.Plain.{PlainBinding, PlainStruct}
 use Rattle.ir_model.specs.Layout.{Shape, Known, empty, shape, shape_named, array_of, rounded_up, with_field, laid_out, field_places, known, known_behind}
 use Rattle.ir_model.specs.Extents.{Sized, extent_named, of_many, extent, behind, closed, extent_behind, fields_extent, nothing_yet, sized_behind, sized, pair_of, IsOf, IsSmall}
 
@@ -71,7 +71,7 @@ fits_closed (Some b) s h =
     let p : rounded_up b.size b.align ≡ rounded_up s.size s.align = cc in
     fits_if (nat_le (rounded_up b.size b.align) SIZE_LIMIT) _ (record s { size = rounded_up s.size s.align }) (p, h.1)
 
-fits_fields : (ks : List Sized) (ms : List Known) (b : Option Extent) (s : Shape) (fs : List PlainSlot) → Agree ks ms → Fits b s
+fits_fields : (ks : List Sized) (ms : List Known) (b : Option Extent) (s : Shape) (fs : List PlainBinding) → Agree ks ms → Fits b s
     → Fits (extent_behind ks b fs) (laid_out ms s fs)
 fits_fields ks ms b s [] a h = fits_closed b s h
 fits_fields ks ms b s (f ∷ fs) a h =

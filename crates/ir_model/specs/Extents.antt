@@ -4,7 +4,7 @@ use Rattle.std.specs.Prelude.{◌≡◌, Bool, ◌&&◌, true, false, IsTrue, �
 use Rattle.ir_model.specs.declared.extent.Extent.{Extent}
 use Rattle.ir_model.specs.declared.extent.TheConstants.{SIZE_LIMIT}
 use Rattle.ir_model.specs.Types.{PlainType, U8, U16, U32, Pointer, Array, Named, Callee}
-use Rattle.ir_model.specs.Plain.{PlainSlot, PlainStruct}
+use Rattle.ir_model.specs.Plain.{PlainBinding, PlainStruct}
 use Rattle.ir_model.specs.Layout.{Shape, known, shape, rounded_up}
 
 -- a struct that counts as declared, with its extent where it has one
@@ -44,14 +44,14 @@ abbrev pub closed : Extent → Option Extent
 closed s = limited (record { size = rounded_up s.size s.align; align = s.align })
 
 -- fields behind what is laid out, which may be nothing already
-abbrev pub extent_behind : List Sized → Option Extent → List PlainSlot → Option Extent
+abbrev pub extent_behind : List Sized → Option Extent → List PlainBinding → Option Extent
 extent_behind ks s [] = option_and_then closed s
 extent_behind ks s (f ∷ fs) = extent_behind ks (option_and_then (λ b. option_and_then (behind b) (extent ks f.ty)) s) fs
 
 abbrev pub nothing_yet : Extent
 nothing_yet = record { size = 0; align = 1 }
 
-abbrev pub fields_extent : List Sized → List PlainSlot → Option Extent
+abbrev pub fields_extent : List Sized → List PlainBinding → Option Extent
 fields_extent ks fs = extent_behind ks (Some nothing_yet) fs
 
 abbrev pub sized_behind : List Sized → List PlainStruct → List Sized
@@ -93,7 +93,7 @@ is_counted ks (Array n t) = is_counted ks t
 is_counted ks (Named n) = counted_named ks n
 is_counted ks _ = true
 
-abbrev pub are_counted : List Counted → List PlainSlot → Bool
+abbrev pub are_counted : List Counted → List PlainBinding → Bool
 are_counted ks [] = true
 are_counted ks (f ∷ fs) = is_counted ks f.ty && are_counted ks fs
 
@@ -109,7 +109,7 @@ abbrev pub HasElements : PlainType → Type 0
 HasElements (Array n t) = (0 < n) × HasElements t
 HasElements _ = Unit {0}
 
-abbrev pub EachHasElements : List PlainSlot → Type 0
+abbrev pub EachHasElements : List PlainBinding → Type 0
 EachHasElements [] = Unit {0}
 EachHasElements (f ∷ fs) = HasElements f.ty × EachHasElements fs
 

@@ -1,7 +1,7 @@
 -- Sizes, alignments, and where the cells of a type lie. Sizes and offsets are in bytes.
 use Rattle.std.specs.Prelude.{ℕ, zero, suc, ◌+◌, ◌-◌, ◌*◌, ◌/◌, List, [], ◌∷◌, ◌++◌, if◌then◌else◌, max, Option, Some, None, ◌&&◌, nat_eq, bytes_eq}
 use Rattle.ir_model.specs.Types.{PlainType, U8, U16, U32, Pointer, Array, Named, Callee, same}
-use Rattle.ir_model.specs.Plain.{PlainSlot, PlainStruct}
+use Rattle.ir_model.specs.Plain.{PlainBinding, PlainStruct}
 
 -- a place of a type that holds one value
 pub record CellPlace : Type 0 where
@@ -72,11 +72,11 @@ with_field ks s t =
     let at : ℕ = rounded_up s.size u.align in
     record { size = at + u.size; align = max s.align u.align; cells = s.cells ++ shifted at u.cells }
 
-abbrev pub laid_out : List Known → Shape → List PlainSlot → Shape
+abbrev pub laid_out : List Known → Shape → List PlainBinding → Shape
 laid_out ks s [] = record s { size = rounded_up s.size s.align }
 laid_out ks s (f ∷ fs) = laid_out ks (with_field ks s f.ty) fs
 
-abbrev pub field_places : List Known → Shape → List PlainSlot → List FieldPlace
+abbrev pub field_places : List Known → Shape → List PlainBinding → List FieldPlace
 field_places ks s [] = []
 field_places ks s (f ∷ fs) =
     record { name = f.name; at = rounded_up s.size (shape ks f.ty).align; ty = f.ty } ∷ field_places ks (with_field ks s f.ty) fs

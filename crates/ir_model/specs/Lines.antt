@@ -14,7 +14,7 @@ use Rattle.ir_model.specs.declared.token.Mark.TheVariants.{OpenBrace, CloseBrace
 use Rattle.ir_model.specs.declared.token.TextLimit.{TextLimit}
 use Rattle.ir_model.specs.declared.token.TextLimit.TheVariants as limit
 use Rattle.ir_model.specs.Types.{PlainType, U8, U16, U32, Pointer, Array, Named, Callee, PlainTypes, none, more, PlainResult, nothing, gives}
-use Rattle.ir_model.specs.Plain.{PlainSlot, PlainStruct, PlainGlobal, PlainFunc, PlainFile, PlainFirmware}
+use Rattle.ir_model.specs.Plain.{PlainBinding, PlainStruct, PlainGlobal, PlainFunc, PlainFile, PlainFirmware}
 use Rattle.ir_model.specs.TextLimits.{word_limit, struct_limit, field_limit, periph_limit, global_limit, cell_limit, array_limit, depth_limit, file_limit, function_limit, parameter_limit, register_limit, local_limit, block_limit, instruction_limit}
 use Rattle.ir_model.specs.Tokens.{Token, Name, Number, Key, Operation, Comparison, Sign, Marked}
 use Rattle.ir_model.specs.declared.token.Excess.{Excess}
@@ -86,21 +86,21 @@ abbrev mutual
   result_tokens d (gives t) = plain (Sign Arrow) ∷ type_tokens None d t
 
 -- a name with its type, behind so many others of a list that has a limit
-abbrev pub slot_tokens : Option Excess → PlainSlot → Line
-slot_tokens x s = (marked (Name s.name) (or_else x (word_excess s.name)) ∷ plain (Sign Colon) ∷ []) ++ type_tokens None 0 s.ty
+abbrev pub binding_tokens : Option Excess → PlainBinding → Line
+binding_tokens x s = (marked (Name s.name) (or_else x (word_excess s.name)) ∷ plain (Sign Colon) ∷ []) ++ type_tokens None 0 s.ty
 
--- slots behind the first, each behind a comma
-abbrev pub more_slots : TextLimit → (before most : ℕ) → List PlainSlot → Line
-more_slots l k most [] = []
-more_slots l k most (s ∷ ss) = (plain (Sign Comma) ∷ slot_tokens (counted k most l None) s) ++ more_slots l (k + 1) most ss
+-- bindings behind the first, each behind a comma
+abbrev pub more_bindings : TextLimit → (before most : ℕ) → List PlainBinding → Line
+more_bindings l k most [] = []
+more_bindings l k most (s ∷ ss) = (plain (Sign Comma) ∷ binding_tokens (counted k most l None) s) ++ more_bindings l (k + 1) most ss
 
-abbrev pub slots_tokens : TextLimit → (most : ℕ) → List PlainSlot → Line
-slots_tokens l most [] = []
-slots_tokens l most (s ∷ ss) = slot_tokens None s ++ more_slots l 1 most ss
+abbrev pub bindings_tokens : TextLimit → (most : ℕ) → List PlainBinding → Line
+bindings_tokens l most [] = []
+bindings_tokens l most (s ∷ ss) = binding_tokens None s ++ more_bindings l 1 most ss
 
 abbrev pub struct_line : (before : ℕ) → PlainStruct → Line
 struct_line k s =
-    (marked (Key key.Struct) (counted k struct_limit limit.Struct None) ∷ name s.name ∷ plain (Sign OpenBrace) ∷ slots_tokens limit.Field field_limit s.fields) ++ plain (Sign CloseBrace) ∷ []
+    (marked (Key key.Struct) (counted k struct_limit limit.Struct None) ∷ name s.name ∷ plain (Sign OpenBrace) ∷ bindings_tokens limit.Field field_limit s.fields) ++ plain (Sign CloseBrace) ∷ []
 
 abbrev pub periph_line : (before : ℕ) → Peripheral → Line
 periph_line k p = marked (Key key.Periph) (counted k periph_limit limit.Periph None) ∷ name p.name ∷ number p.base ∷ number p.size ∷ []
@@ -181,19 +181,19 @@ block_lines k n [] = []
 block_lines k n (b ∷ bs) =
     (label_line k b.label ∷ inst_lines n b.insts) ++ (term_line b.term ∷ []) ++ block_lines (k + 1) (n + length b.insts) bs
 
-abbrev pub local_lines : (before : ℕ) → List PlainSlot → List Line
+abbrev pub local_lines : (before : ℕ) → List PlainBinding → List Line
 local_lines k [] = []
 local_lines k (s ∷ ss) =
     ((marked (Key key.Local) (counted k local_limit limit.Local None) ∷ name s.name ∷ plain (Sign Colon) ∷ []) ++ type_tokens None 0 s.ty) ∷ local_lines (k + 1) ss
 
-abbrev pub reg_lines : (before : ℕ) → List PlainSlot → List Line
+abbrev pub reg_lines : (before : ℕ) → List PlainBinding → List Line
 reg_lines k [] = []
 reg_lines k (s ∷ ss) =
     ((marked (Key key.Reg) (counted k register_limit limit.Register None) ∷ name s.name ∷ plain (Sign Colon) ∷ []) ++ type_tokens None 0 s.ty) ∷ reg_lines (k + 1) ss
 
 abbrev pub func_line : (before : ℕ) → PlainFunc → Line
 func_line k f =
-    (marked (Key key.Func) (counted k function_limit limit.Function None) ∷ name f.name ∷ plain (Sign Open) ∷ slots_tokens limit.Param parameter_limit f.params) ++ (plain (Sign Close) ∷ result_tokens 0 f.outcome) ++ plain (Sign OpenBrace) ∷ []
+    (marked (Key key.Func) (counted k function_limit limit.Function None) ∷ name f.name ∷ plain (Sign Open) ∷ bindings_tokens limit.Param parameter_limit f.params) ++ (plain (Sign Close) ∷ result_tokens 0 f.outcome) ++ plain (Sign OpenBrace) ∷ []
 
 abbrev pub close_line : Line
 close_line = plain (Sign CloseBrace) ∷ []

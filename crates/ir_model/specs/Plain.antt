@@ -1,6 +1,6 @@
 -- A firmware as plain data. Names are lists of bytes; what holds no type is as the code has it.
 use Rattle.std.specs.Prelude.{ℕ, List, ◌++◌, map, flat_map, Bool}
-use Rattle.ir_model.specs.declared.firmware.Slot.{Slot}
+use Rattle.ir_model.specs.declared.firmware.Binding.{Binding}
 use Rattle.ir_model.specs.declared.firmware.StructDecl.{StructDecl}
 use Rattle.ir_model.specs.declared.firmware.Peripheral.{Peripheral}
 use Rattle.ir_model.specs.declared.firmware.Global.{Global}
@@ -11,13 +11,13 @@ use Rattle.ir_model.specs.declared.firmware.FileDecl.{FileDecl}
 use Rattle.ir_model.specs.declared.firmware.Firmware.{Firmware}
 use Rattle.ir_model.specs.Types.{PlainType, PlainResult, type_of, result_of}
 
-pub record PlainSlot : Type 0 where
+pub record PlainBinding : Type 0 where
   pub name : List ℕ
   pub ty : PlainType
 
 pub record PlainStruct : Type 0 where
   pub name : List ℕ
-  pub fields : List PlainSlot
+  pub fields : List PlainBinding
 
 pub record PlainGlobal : Type 0 where
   pub name : List ℕ
@@ -27,10 +27,10 @@ pub record PlainGlobal : Type 0 where
 
 pub record PlainFunc : Type 0 where
   pub name : List ℕ
-  pub params : List PlainSlot
+  pub params : List PlainBinding
   pub outcome : PlainResult
-  pub locals : List PlainSlot
-  pub regs : List PlainSlot
+  pub locals : List PlainBinding
+  pub regs : List PlainBinding
   pub blocks : List Block
 
 pub record PlainFile : Type 0 where
@@ -43,11 +43,11 @@ pub record PlainFirmware : Type 0 where
   pub globals : List PlainGlobal
   pub files : List PlainFile
 
-abbrev pub slot_of : Slot → PlainSlot
-slot_of s = record { name = s.name; ty = type_of s.ty }
+abbrev pub binding_of : Binding → PlainBinding
+binding_of s = record { name = s.name; ty = type_of s.ty }
 
 abbrev pub struct_of : StructDecl → PlainStruct
-struct_of s = record { name = s.name; fields = map slot_of s.fields }
+struct_of s = record { name = s.name; fields = map binding_of s.fields }
 
 abbrev pub global_of : Global → PlainGlobal
 global_of g = record { name = g.name; constant = g.constant; ty = type_of g.ty; init = g.init }
@@ -56,10 +56,10 @@ abbrev pub func_of : Func → PlainFunc
 func_of f =
     record {
       name = f.name;
-      params = map slot_of f.params;
+      params = map binding_of f.params;
       outcome = result_of f.«result»;
-      locals = map slot_of f.locals;
-      regs = map slot_of f.regs;
+      locals = map binding_of f.locals;
+      regs = map binding_of f.regs;
       blocks = f.blocks;
     }
 
@@ -75,16 +75,16 @@ firmware_of w =
       files = map file_of w.files;
     }
 
-abbrev pub names_of : List PlainSlot → List (List ℕ)
-names_of ss = map (λ (s : PlainSlot). s.name) ss
+abbrev pub names_of : List PlainBinding → List (List ℕ)
+names_of ss = map (λ (s : PlainBinding). s.name) ss
 
-abbrev pub types_of : List PlainSlot → List PlainType
-types_of ss = map (λ (s : PlainSlot). s.ty) ss
+abbrev pub types_of : List PlainBinding → List PlainType
+types_of ss = map (λ (s : PlainBinding). s.ty) ss
 
 -- the functions of all files in order, by which they have their numbers
 abbrev pub funcs_of : PlainFirmware → List PlainFunc
 funcs_of w = flat_map (λ (f : PlainFile). f.funcs) w.files
 
 -- the registers of a function, its parameters first
-abbrev pub regs_of : PlainFunc → List PlainSlot
+abbrev pub regs_of : PlainFunc → List PlainBinding
 regs_of f = f.params ++ f.regs

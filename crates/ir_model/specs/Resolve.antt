@@ -11,7 +11,7 @@ use Rattle.ir_model.specs.declared.firmware.Cell.{Cell}
 use Rattle.ir_model.specs.declared.firmware.Cell.TheVariants.{Word, Function, Address}
 use Rattle.ir_model.specs.declared.firmware.Peripheral.{Peripheral}
 use Rattle.ir_model.specs.Types.{PlainType, U32, Named, PlainTypes, none, more, target_of, element_of, is_integer}
-use Rattle.ir_model.specs.Plain.{PlainSlot, PlainFunc, PlainGlobal, PlainFile, PlainFirmware, names_of, types_of, funcs_of, regs_of}
+use Rattle.ir_model.specs.Plain.{PlainBinding, PlainFunc, PlainGlobal, PlainFile, PlainFirmware, names_of, types_of, funcs_of, regs_of}
 use Rattle.ir_model.specs.Layout.{Known, known, Shape, shape, FieldPlace, fields_named, CellPlace}
 use Rattle.ir_model.specs.Resolved.{OfGlobal, OfPeriph, Value, Number, Code, Null, At, TheGlobal, ThePeriph, TheLocal, NumberedInst, Const, Move, Bin, Cmp, Addr, FAddr, Elem, Field, Load, Store, Call, ICall, NumberedTerm, Jump, Branch, Ret, NumberedBlock, NumberedFunc, NumberedGlobal, NumberedWindow, Program}
 use Rattle.ir_model.specs.Resolved as numbered
@@ -32,7 +32,7 @@ scope_of w =
       funcs = map (λ (f : PlainFunc). f.name) (funcs_of w);
     }
 
-abbrev pub row_from : List PlainSlot → PlainTypes
+abbrev pub row_from : List PlainBinding → PlainTypes
 row_from [] = none
 row_from (s ∷ ss) = more s.ty (row_from ss)
 
@@ -94,7 +94,7 @@ resolved_func s f =
       params = row_from f.params;
       outcome = f.outcome;
       regs = types_of (regs_of f);
-      locals = map (λ (l : PlainSlot). shape s.known l.ty) f.locals;
+      locals = map (λ (l : PlainBinding). shape s.known l.ty) f.locals;
       blocks = map (resolved_block s f) f.blocks;
     }
 

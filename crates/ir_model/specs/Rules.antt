@@ -6,15 +6,15 @@ use Rattle.ir_model.specs.declared.firmware.Term.{Term}
 use Rattle.ir_model.specs.declared.firmware.Term.TheVariants as term
 use Rattle.ir_model.specs.declared.firmware.Peripheral.{Peripheral}
 use Rattle.ir_model.specs.Types.{PlainType, U32, Pointer, Array, Named, Callee, PlainTypes, none, more, PlainResult, nothing, gives, same, same_result, is_integer, is_register_type}
-use Rattle.ir_model.specs.Plain.{PlainSlot, PlainGlobal, PlainFunc, PlainFirmware, funcs_of, names_of}
+use Rattle.ir_model.specs.Plain.{PlainBinding, PlainGlobal, PlainFunc, PlainFirmware, funcs_of, names_of}
 use Rattle.ir_model.specs.Layout.{Known, FieldPlace, fields_named}
 use Rattle.base_names.specs.Numbers.{has}
 use Rattle.ir_model.specs.Resolve.{row_from, type_named, scope_of}
 
 -- the first of a name
-abbrev pub slot_type : List PlainSlot → List ℕ → Option PlainType
-slot_type [] n = None
-slot_type (s ∷ ss) n = if bytes_eq s.name n then Some s.ty else slot_type ss n
+abbrev pub binding_type : List PlainBinding → List ℕ → Option PlainType
+binding_type [] n = None
+binding_type (s ∷ ss) n = if bytes_eq s.name n then Some s.ty else binding_type ss n
 
 abbrev pub global_type : List PlainGlobal → List ℕ → Option PlainType
 global_type [] n = None
@@ -46,7 +46,7 @@ is_port _ = false
 -- the address that `addr` takes: of a local first
 abbrev pub is_address_of : PlainFirmware → PlainFunc → List ℕ → PlainType → Bool
 is_address_of w f x t =
-    if has (names_of f.locals) x then is_address (slot_type f.locals x) t
+    if has (names_of f.locals) x then is_address (binding_type f.locals x) t
     else if has (map (λ (p : Peripheral). p.name) w.periphs) x then is_port t
     else is_address (global_type w.globals x) t
 

@@ -16,7 +16,7 @@ use Rattle.ir_model.specs.declared.firmware.Cell.{Cell}
 use Rattle.ir_model.specs.declared.firmware.Cell.TheVariants.{Word, Function, Address}
 use Rattle.ir_model.specs.declared.firmware.Peripheral.{Peripheral}
 use Rattle.ir_model.specs.Types.{PlainType, U8, U16, U32, Pointer, Array, Named, Callee, PlainTypes, none, more, PlainResult, nothing, gives, is_integer, is_register_type, width_of}
-use Rattle.ir_model.specs.Plain.{PlainSlot, PlainStruct, PlainGlobal, PlainFunc, PlainFile, PlainFirmware, names_of, funcs_of, regs_of}
+use Rattle.ir_model.specs.Plain.{PlainBinding, PlainStruct, PlainGlobal, PlainFunc, PlainFile, PlainFirmware, names_of, funcs_of, regs_of}
 use Rattle.ir_model.specs.Layout.{Known, known, CellPlace, shape, laid_out, empty}
 use Rattle.base_names.specs.Numbers.{has}
 use Rattle.ir_model.specs.Resolve.{labels_of, main_name}
@@ -70,7 +70,7 @@ abbrev pub object_limit : ℕ
 object_limit = 65536
 
 -- structs: the name, the fields, and after the last field the size
-abbrev pub field_checks : (declared earlier : List (List ℕ)) → Place → (seen : List (List ℕ)) → List PlainSlot → Checks
+abbrev pub field_checks : (declared earlier : List (List ℕ)) → Place → (seen : List (List ℕ)) → List PlainBinding → Checks
 field_checks ds es p seen [] = []
 field_checks ds es p seen (s ∷ ss) =
     (is_new seen s.name p ∷ type_checks ds es p s.ty) ++ field_checks ds es p (seen ++ s.name ∷ []) ss
@@ -140,7 +140,7 @@ file_checks es seen (f ∷ fs) =
     ++ file_checks (es ++ f.name ∷ []) (seen ++ map (λ (g : PlainFunc). g.name) f.funcs) fs
 
 -- parameters and registers: the name, the type's names, a register's type
-abbrev pub register_checks : (declared : List (List ℕ)) → Place → (seen : List (List ℕ)) → List PlainSlot → Checks
+abbrev pub register_checks : (declared : List (List ℕ)) → Place → (seen : List (List ℕ)) → List PlainBinding → Checks
 register_checks ds p seen [] = []
 register_checks ds p seen (s ∷ ss) =
     (is_new seen s.name p ∷ type_checks ds ds p s.ty) ++ check (is_register_type s.ty) IllTyped p ∷ [] ++ register_checks ds p (seen ++ s.name ∷ []) ss
@@ -149,7 +149,7 @@ abbrev pub outcome_checks : (declared : List (List ℕ)) → Place → PlainResu
 outcome_checks ds p nothing = []
 outcome_checks ds p (gives t) = type_checks ds ds p t ++ check (is_register_type t) IllTyped p ∷ []
 
-abbrev pub local_checks : PlainFirmware → (declared : List (List ℕ)) → Place → (seen : List (List ℕ)) → List PlainSlot → Checks
+abbrev pub local_checks : PlainFirmware → (declared : List (List ℕ)) → Place → (seen : List (List ℕ)) → List PlainBinding → Checks
 local_checks w ds p seen [] = []
 local_checks w ds p seen (s ∷ ss) =
     (is_new seen s.name p ∷ type_checks ds ds p s.ty) ++ check (nat_le (shape (known w.structs) s.ty).size object_limit) ObjectTooLarge p ∷ [] ++ local_checks w ds p (seen ++ s.name ∷ []) ss
@@ -211,7 +211,7 @@ blocks_checks w f (b ∷ bs) = code_checks w f b.label 0 b.insts b.term ++ block
 abbrev pub frame_limit : ℕ
 frame_limit = 992
 
--- a function: its slots in order, its frame, its labels, and its code
+-- a function: its bindings in order, its frame, its labels, and its code
 abbrev pub func_checks : PlainFirmware → PlainFunc → Checks
 func_checks w f =
     let p : Place = place.Func f.name in

@@ -10,7 +10,7 @@ pub enum CheckKind {
     Unknown(Name),
     /// A name that something before it has.
     Twice(Name),
-    /// An instruction, a block's end or a slot whose types do not fit.
+    /// An instruction, a block's end or a binding whose types do not fit.
     IllTyped,
     /// There is no function `main` without parameters and result.
     NoMain,

@@ -6,7 +6,7 @@ ghost use Rattle.ir_model.specs.Plain.{firmware_of};
 ghost use Rattle.ir_model.specs.Types.{result_of};
 
 use crate::firmware::{
-    Block, Cell, FileDecl, Firmware, Func, Global as GlobalDecl, Inst, Peripheral, Slot,
+    Binding, Block, Cell, FileDecl, Firmware, Func, Global as GlobalDecl, Inst, Peripheral,
     StructDecl, Term,
 };
 use crate::types::Ty;
@@ -42,16 +42,16 @@ fn clone_three(a: &Name, b: &Name, c: &Name) -> Result<(Name, Name, Name), Alloc
     Ok((a.clone()?, b.clone()?, c.clone()?))
 }
 
-impl Clone for Slot {
+impl Clone for Binding {
     ghost use Rattle.std.specs.Prelude.{◌≡◌};
-    ghost use Rattle.ir_model.specs.Plain.{slot_of};
+    ghost use Rattle.ir_model.specs.Plain.{binding_of};
 
-    ghost is_clone = { λ x y. slot_of y ≡ slot_of x };
+    ghost is_clone = { λ x y. binding_of y ≡ binding_of x };
 
     fn clone(&self) -> Result<Self, AllocError> {
         let name = self.name.clone()?;
         let ty = self.ty.clone()?;
-        Ok(Slot { name, ty })
+        Ok(Binding { name, ty })
     }
 }
 

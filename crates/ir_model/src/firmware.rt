@@ -6,7 +6,7 @@ use base_names::Name;
 
 /// A name with its type: a field, a parameter, a register or a local.
 #[derive(Drop)]
-pub struct Slot {
+pub struct Binding {
     /// Its name.
     pub name: Name,
     /// Its type.
@@ -19,7 +19,7 @@ pub struct StructDecl {
     /// Its name.
     pub name: Name,
     /// Its fields in order.
-    pub fields: ListVec<Slot>,
+    pub fields: ListVec<Binding>,
 }
 
 /// A peripheral.
@@ -247,13 +247,13 @@ pub struct Func {
     /// Its name.
     pub name: Name,
     /// Its parameters in order.
-    pub params: ListVec<Slot>,
+    pub params: ListVec<Binding>,
     /// Its result's type, where it has one.
     pub result: Option<Ty>,
     /// Its locals in order.
-    pub locals: ListVec<Slot>,
+    pub locals: ListVec<Binding>,
     /// Its registers in order, without the parameters.
-    pub regs: ListVec<Slot>,
+    pub regs: ListVec<Binding>,
     /// Its blocks in order; it begins with the first.
     pub blocks: ListVec<Block>,
 }

@@ -2,7 +2,7 @@
 
 ghost use Rattle.std.specs.Prelude.{◌≡◌, ◌↔◌, ◌+◌, ◌<◌, ◌≤◌, List, length, map, max, take, Option, IsSome, IfSome, slice_index, bytes_eq, position};
 ghost use Rattle.ir_model.specs.Types.{type_of};
-ghost use Rattle.ir_model.specs.Plain.{slot_of, struct_of, firmware_of};
+ghost use Rattle.ir_model.specs.Plain.{binding_of, struct_of, firmware_of};
 ghost use Rattle.ir_model.specs.Lines.{type_tokens};
 ghost use Rattle.ir_model.specs.Canonical.{PassesNothing, IsWithinLimits};
 ghost use Rattle.base_laws.specs.Lists.{Each};
@@ -11,7 +11,7 @@ ghost use Rattle.ir_model.specs.Extents as extents;
 ghost use Rattle.ir_model.specs.Extents.{IsOf, IsSized, IsSmall, layout_of, sized};
 
 use crate::extent::{Extent, SIZE_LIMIT};
-use crate::firmware::{Firmware, Slot, StructDecl};
+use crate::firmware::{Binding, Firmware, StructDecl};
 use crate::types::Ty;
 use base_names::Name;
 
@@ -95,8 +95,8 @@ fn type_extent(structs: &[StructDecl], ty: &Ty) -> Option<Extent>
 }
 
 #[cycle(layout)]
-fn fields_extent(structs: &[StructDecl], fields: &[Slot]) -> Option<Extent>
-    ensures exact { result ≡ extents.fields_extent (sized (map struct_of structs.now)) (map slot_of fields.now) }
+fn fields_extent(structs: &[StructDecl], fields: &[Binding]) -> Option<Extent>
+    ensures exact { result ≡ extents.fields_extent (sized (map struct_of structs.now)) (map binding_of fields.now) }
     ensures small { IfSome result IsSmall }
 {
     let mut before = Extent { size: 0, align: 1 };

@@ -1,34 +1,34 @@
 //! Structs, peripherals and globals of the canonical text.
 
 ghost use Rattle.std.specs.Prelude.{◌≡◌, ◌++◌, map, OnOk};
-ghost use Rattle.ir_model.specs.Plain.{slot_of, struct_of, global_of};
-ghost use Rattle.ir_grammar.specs.Spelling.{separated, spell_slot, spell_struct, spell_periph, spell_cell, spell_init, spell_constant, spell_global};
+ghost use Rattle.ir_model.specs.Plain.{binding_of, struct_of, global_of};
+ghost use Rattle.ir_grammar.specs.Spelling.{separated, spell_binding, spell_struct, spell_periph, spell_cell, spell_init, spell_constant, spell_global};
 ghost use Rattle.ir_printer.specs.Pieces.{as_bytes};
 
 use crate::tokens::{
     end_line, put_keyword, put_mark, put_number, put_separator, put_word, start_keyword,
 };
 use crate::types::put_type;
-use ir_model::firmware::{Cell, Global as GlobalDecl, Peripheral, Slot, StructDecl};
+use ir_model::firmware::{Binding, Cell, Global as GlobalDecl, Peripheral, StructDecl};
 use ir_model::token::{Keyword, Mark};
 use std::alloc::AllocError;
 
 /// Writes a name with its type.
-pub fn put_slot(out: &mut Vec<u8>, slot: &Slot) -> Result<(), AllocError>
-    ensures { OnOk result (out.new.items ≡ out.old.items ++ spell_slot as_bytes (slot_of slot.now)) }
+pub fn put_binding(out: &mut Vec<u8>, binding: &Binding) -> Result<(), AllocError>
+    ensures { OnOk result (out.new.items ≡ out.old.items ++ spell_binding as_bytes (binding_of binding.now)) }
 {
-    put_word(out, &slot.name)?;
+    put_word(out, &binding.name)?;
     put_mark(out, Mark::Colon)?;
-    put_type(out, &slot.ty)
+    put_type(out, &binding.ty)
 }
 
 /// Writes names with their types, a comma between two.
-pub fn put_slots(out: &mut Vec<u8>, slots: &[Slot]) -> Result<(), AllocError>
-    ensures { OnOk result (out.new.items ≡ out.old.items ++ separated as_bytes (spell_slot as_bytes) (map slot_of slots.now)) }
+pub fn put_bindings(out: &mut Vec<u8>, bindings: &[Binding]) -> Result<(), AllocError>
+    ensures { OnOk result (out.new.items ≡ out.old.items ++ separated as_bytes (spell_binding as_bytes) (map binding_of bindings.now)) }
 {
-    for (i, slot) in slots.iter().enumerate() {
+    for (i, binding) in bindings.iter().enumerate() {
         put_separator(out, i)?;
-        put_slot(out, slot)?;
+        put_binding(out, binding)?;
     }
     Ok(())
 }
@@ -40,7 +40,7 @@ pub fn put_struct(out: &mut Vec<u8>, decl: &StructDecl) -> Result<(), AllocError
     start_keyword(out, Keyword::Struct)?;
     put_word(out, &decl.name)?;
     put_mark(out, Mark::OpenBrace)?;
-    put_slots(out, decl.fields.as_slice())?;
+    put_bindings(out, decl.fields.as_slice())?;
     put_mark(out, Mark::CloseBrace)?;
     end_line(out)
 }

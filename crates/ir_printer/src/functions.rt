@@ -2,17 +2,17 @@
 
 ghost use Rattle.std.specs.Prelude.{◌≡◌, ◌++◌, map, flat_map, OnOk};
 ghost use Rattle.ir_model.specs.declared.token.Keyword.TheVariants as key;
-ghost use Rattle.ir_model.specs.Plain.{slot_of, func_of};
+ghost use Rattle.ir_model.specs.Plain.{binding_of, func_of};
 ghost use Rattle.ir_model.specs.Tokens as token;
 ghost use Rattle.ir_model.specs.Types.{result_of};
 ghost use Rattle.ir_grammar.specs.Spelling.{spell_inst, spell_block, spell_local, spell_locals, spell_reg, spell_regs, spell_params, spell_head, spell_func};
 ghost use Rattle.ir_printer.specs.Pieces.{first, as_bytes};
 
-use crate::declarations::{put_slot, put_slots};
+use crate::declarations::{put_binding, put_bindings};
 use crate::insts::{put_inst, put_term};
 use crate::tokens::{close, end_line, open, put_mark, put_word, start_keyword, start_word};
 use crate::types::put_result;
-use ir_model::firmware::{Block, Func, Inst, Slot};
+use ir_model::firmware::{Binding, Block, Func, Inst};
 use ir_model::token::{Keyword, Mark};
 use std::alloc::AllocError;
 
@@ -44,16 +44,16 @@ fn put_blocks(out: &mut Vec<u8>, blocks: &[Block]) -> Result<(), AllocError>
     Ok(())
 }
 
-fn put_local(out: &mut Vec<u8>, local: &Slot) -> Result<(), AllocError>
-    ensures { OnOk result (out.new.items ≡ out.old.items ++ spell_local as_bytes (slot_of local.now)) }
+fn put_local(out: &mut Vec<u8>, local: &Binding) -> Result<(), AllocError>
+    ensures { OnOk result (out.new.items ≡ out.old.items ++ spell_local as_bytes (binding_of local.now)) }
 {
     start_keyword(out, Keyword::Local)?;
-    put_slot(out, local)?;
+    put_binding(out, local)?;
     end_line(out)
 }
 
-fn put_locals(out: &mut Vec<u8>, locals: &[Slot]) -> Result<(), AllocError>
-    ensures { OnOk result (out.new.items ≡ out.old.items ++ spell_locals as_bytes (map slot_of locals.now)) }
+fn put_locals(out: &mut Vec<u8>, locals: &[Binding]) -> Result<(), AllocError>
+    ensures { OnOk result (out.new.items ≡ out.old.items ++ spell_locals as_bytes (map binding_of locals.now)) }
 {
     for local in locals {
         put_local(out, local)?;
@@ -61,16 +61,16 @@ fn put_locals(out: &mut Vec<u8>, locals: &[Slot]) -> Result<(), AllocError>
     Ok(())
 }
 
-fn put_reg(out: &mut Vec<u8>, reg: &Slot) -> Result<(), AllocError>
-    ensures { OnOk result (out.new.items ≡ out.old.items ++ spell_reg as_bytes (slot_of reg.now)) }
+fn put_reg(out: &mut Vec<u8>, reg: &Binding) -> Result<(), AllocError>
+    ensures { OnOk result (out.new.items ≡ out.old.items ++ spell_reg as_bytes (binding_of reg.now)) }
 {
     start_keyword(out, Keyword::Reg)?;
-    put_slot(out, reg)?;
+    put_binding(out, reg)?;
     end_line(out)
 }
 
-fn put_regs(out: &mut Vec<u8>, regs: &[Slot]) -> Result<(), AllocError>
-    ensures { OnOk result (out.new.items ≡ out.old.items ++ spell_regs as_bytes (map slot_of regs.now)) }
+fn put_regs(out: &mut Vec<u8>, regs: &[Binding]) -> Result<(), AllocError>
+    ensures { OnOk result (out.new.items ≡ out.old.items ++ spell_regs as_bytes (map binding_of regs.now)) }
 {
     for reg in regs {
         put_reg(out, reg)?;
@@ -79,15 +79,15 @@ fn put_regs(out: &mut Vec<u8>, regs: &[Slot]) -> Result<(), AllocError>
 }
 
 // Parameters and the closing bracket.
-fn put_params(out: &mut Vec<u8>, params: &[Slot]) -> Result<(), AllocError>
-    ensures { OnOk result (out.new.items ≡ out.old.items ++ spell_params as_bytes (map slot_of params.now)) }
+fn put_params(out: &mut Vec<u8>, params: &[Binding]) -> Result<(), AllocError>
+    ensures { OnOk result (out.new.items ≡ out.old.items ++ spell_params as_bytes (map binding_of params.now)) }
 {
-    put_slots(out, params)?;
+    put_bindings(out, params)?;
     put_mark(out, Mark::Close)
 }
 
 fn put_func_head(out: &mut Vec<u8>, func: &Func) -> Result<(), AllocError>
-    ensures { OnOk result (out.new.items ≡ out.old.items ++ (first (token.Key key.Func) ++ spell_head as_bytes func.now.name (map slot_of func.now.params) (result_of func.now.«result»))) }
+    ensures { OnOk result (out.new.items ≡ out.old.items ++ (first (token.Key key.Func) ++ spell_head as_bytes func.now.name (map binding_of func.now.params) (result_of func.now.«result»))) }
 {
     start_keyword(out, Keyword::Func)?;
     put_word(out, &func.name)?;

@@ -13,9 +13,9 @@ use Rattle.ir_model.specs.declared.token.Mark.TheVariants as mark
 use Rattle.ir_model.specs.declared.token.TextLimit.TheVariants as limit
 use Rattle.ir_model.specs.Types.{PlainType, U8, U16, U32, Pointer, Array, Named, Callee, PlainResult, nothing, gives}
 use Rattle.ir_model.specs.Types as types
-use Rattle.ir_model.specs.Plain.{PlainSlot, PlainFunc}
+use Rattle.ir_model.specs.Plain.{PlainBinding, PlainFunc}
 use Rattle.ir_model.specs.Tokens.{Token, Name, Number, Key, Operation, Comparison, Sign, Marked}
-use Rattle.ir_model.specs.Lines.{Line, marked, plain, name, counted, word_excess, or_else, type_tokens, more_tokens, result_tokens, slots_tokens, more_slots, arguments, inst_line, inst_lines, local_lines, reg_lines, term_line, block_lines, close_line, funcs_lines, file_lines}
+use Rattle.ir_model.specs.Lines.{Line, marked, plain, name, counted, word_excess, or_else, type_tokens, more_tokens, result_tokens, bindings_tokens, more_bindings, arguments, inst_line, inst_lines, local_lines, reg_lines, term_line, block_lines, close_line, funcs_lines, file_lines}
 use Rattle.ir_model.specs.Texts.{joined}
 use Rattle.ir_reader.specs.Machine
 use Rattle.ir_reader.specs.Machine.{Symbol, Move, Go, Stop, Skip, To, step, move}
@@ -135,11 +135,11 @@ allow_gives d _ = Lang.gives_is d nothing
 
 -- lists in declarations
 
-abbrev slot : List ℕ → PlainType → PlainSlot
-slot w t = record { name = w; ty = t }
+abbrev binding : List ℕ → PlainType → PlainBinding
+binding w t = record { name = w; ty = t }
 
 fields_next : (k : ℕ) (a : Line) → Langs (Machine.Word (counted k 64 limit.Field None) ∷ Machine.Mk mark.Colon ∷ Machine.Ty None 0 ∷ Machine.MoreFields (k + 1) ∷ []) a → Lang.Lang (Machine.MoreFields k) (plain (Sign mark.Comma) ∷ a)
-fields_next k a (some (Lang.word_is x w) (some (Lang.mark_is m) (some (Lang.type_is y d t) (some (Lang.more_fields_is j ss) none)))) = lang_same _ _ _ (Lang.more_fields_is k (slot w t ∷ ss)) (simp (append_assoc, append-nil))
+fields_next k a (some (Lang.word_is x w) (some (Lang.mark_is m) (some (Lang.type_is y d t) (some (Lang.more_fields_is j ss) none)))) = lang_same _ _ _ (Lang.more_fields_is k (binding w t ∷ ss)) (simp (append_assoc, append-nil))
 
 allow_more_fields : (k : ℕ) (m : Mark) → Allows (Machine.MoreFields k) (Sign m) (Machine.more_fields_mark k m)
 allow_more_fields k mark.Comma = fields_next k
@@ -151,8 +151,8 @@ params_none a (some (Lang.gives_is d r) (some (Lang.mark_is m) (some (Lang.local
 
 params_from : (w : List ℕ) (t : PlainType) (b : Line) → Lang.Lang (Machine.MoreParams 1) b → Lang.Lang Machine.Params (name w ∷ plain (Sign mark.Colon) ∷ (type_tokens None 0 t ++ b))
 params_from w t b (Lang.more_params_is k ps n r ls rs c cs e) =
-    let q : n ≡ length (slot w t ∷ ps) = omega arith in
-    rw q (lang_same _ _ _ (Lang.params_is (slot w t ∷ ps) r ls rs c cs) (ap (λ z. name w ∷ plain (Sign mark.Colon) ∷ z) (append_assoc (type_tokens None 0 t) (more_slots limit.Param 1 4 ps) (behind_params (length (slot w t ∷ ps)) r ls rs c cs))))
+    let q : n ≡ length (binding w t ∷ ps) = omega arith in
+    rw q (lang_same _ _ _ (Lang.params_is (binding w t ∷ ps) r ls rs c cs) (ap (λ z. name w ∷ plain (Sign mark.Colon) ∷ z) (append_assoc (type_tokens None 0 t) (more_bindings limit.Param 1 4 ps) (behind_params (length (binding w t ∷ ps)) r ls rs c cs))))
 
 params_some : (w : List ℕ) (a : Line) → Langs (Machine.Mk mark.Colon ∷ Machine.Ty None 0 ∷ Machine.MoreParams 1 ∷ []) a → Lang.Lang Machine.Params (name w ∷ a)
 params_some w a (some (Lang.mark_is m) (some (Lang.type_is x d t) (some {a = b} r none))) = rw (append-nil b) (params_from w t b r)
@@ -164,16 +164,16 @@ allow_params_mark _ = tt
 more_params_from : (k : ℕ) (w : List ℕ) (t : PlainType) (b : Line) → Lang.Lang (Machine.MoreParams (k + 1)) b
     → Lang.Lang (Machine.MoreParams k) (plain (Sign mark.Comma) ∷ marked (Name w) (or_else (counted k 4 limit.Param None) (word_excess w)) ∷ plain (Sign mark.Colon) ∷ (type_tokens None 0 t ++ b))
 more_params_from k w t b (Lang.more_params_is j ps n r ls rs c cs e) =
-    let q : n ≡ k + length (slot w t ∷ ps) = omega arith in
-    lang_same _ _ _ (Lang.more_params_is k (slot w t ∷ ps) n r ls rs c cs q)
-    (ap (λ z. plain (Sign mark.Comma) ∷ marked (Name w) (or_else (counted k 4 limit.Param None) (word_excess w)) ∷ plain (Sign mark.Colon) ∷ z) (append_assoc (type_tokens None 0 t) (more_slots limit.Param (k + 1) 4 ps) (behind_params n r ls rs c cs)))
+    let q : n ≡ k + length (binding w t ∷ ps) = omega arith in
+    lang_same _ _ _ (Lang.more_params_is k (binding w t ∷ ps) n r ls rs c cs q)
+    (ap (λ z. plain (Sign mark.Comma) ∷ marked (Name w) (or_else (counted k 4 limit.Param None) (word_excess w)) ∷ plain (Sign mark.Colon) ∷ z) (append_assoc (type_tokens None 0 t) (more_bindings limit.Param (k + 1) 4 ps) (behind_params n r ls rs c cs)))
 
 more_params_next : (k : ℕ) (a : Line) → Langs (Machine.Word (counted k 4 limit.Param None) ∷ Machine.Mk mark.Colon ∷ Machine.Ty None 0 ∷ Machine.MoreParams (k + 1) ∷ []) a → Lang.Lang (Machine.MoreParams k) (plain (Sign mark.Comma) ∷ a)
 more_params_next k a (some (Lang.word_is x w) (some (Lang.mark_is m) (some (Lang.type_is y d t) (some {a = b} r none)))) = rw (append-nil b) (more_params_from k w t b r)
 
 more_params_none : (k : ℕ) (a : Line) → Langs (Machine.body k) a → Lang.Lang (Machine.MoreParams k) (plain (Sign mark.Close) ∷ a)
 more_params_none k a (some (Lang.gives_is d r) (some (Lang.mark_is m) (some (Lang.locals_is j p ls rs b bs) none))) =
-    let q : k ≡ k + length {A = PlainSlot} [] = omega arith in
+    let q : k ≡ k + length {A = PlainBinding} [] = omega arith in
     lang_same _ _ _ (Lang.more_params_is k [] k r ls rs b bs q) (simp append-nil)
 
 allow_more_params : (k : ℕ) (m : Mark) → Allows (Machine.MoreParams k) (Sign m) (Machine.more_params_mark k m)
@@ -352,14 +352,14 @@ allow_more_args k _ = tt
 
 -- declarations
 
-funcs_from : (k n : ℕ) (w : List ℕ) (ps : List PlainSlot) (r : PlainResult) (ls rs : List PlainSlot) (b : Block) (bs : List Block) (rest : Line) → Lang.Lang (Machine.Funcs k (n + 1)) rest
-    → Lang.Lang (Machine.Funcs k n) (marked (Key key.Func) (counted n 1024 limit.Function None) ∷ name w ∷ plain (Sign mark.Open) ∷ ((slots_tokens limit.Param 4 ps ++ behind_params (length ps) r ls rs b bs) ++ rest))
+funcs_from : (k n : ℕ) (w : List ℕ) (ps : List PlainBinding) (r : PlainResult) (ls rs : List PlainBinding) (b : Block) (bs : List Block) (rest : Line) → Lang.Lang (Machine.Funcs k (n + 1)) rest
+    → Lang.Lang (Machine.Funcs k n) (marked (Key key.Func) (counted n 1024 limit.Function None) ∷ name w ∷ plain (Sign mark.Open) ∷ ((bindings_tokens limit.Param 4 ps ++ behind_params (length ps) r ls rs b bs) ++ rest))
 funcs_from k n w ps r ls rs b bs rest (Lang.funcs_is j i fs files m e h g) =
     let q : m ≡ n + length (record { name = w; params = ps; outcome = r; locals = ls; regs = rs; blocks = b ∷ bs } ∷ fs) = omega arith in
     let s : 0 < length (b ∷ bs) = omega arith in
     lang_same _ _ _ (Lang.funcs_is k n (record { name = w; params = ps; outcome = r; locals = ls; regs = rs; blocks = b ∷ bs } ∷ fs) files m q (s, h) g)
     (ap (λ z. marked (Key key.Func) (counted n 1024 limit.Function None) ∷ name w ∷ plain (Sign mark.Open) ∷ z)
-    (sym (func_flat (slots_tokens limit.Param 4 ps) (result_tokens 0 r) (plain (Sign mark.Close)) (plain (Sign mark.OpenBrace)) (local_lines 0 ls) (reg_lines (length ps) rs) (block_lines 0 0 (b ∷ bs)) (close_line ∷ []) (funcs_lines (n + 1) fs) (close_line ∷ file_lines k m files))))
+    (sym (func_flat (bindings_tokens limit.Param 4 ps) (result_tokens 0 r) (plain (Sign mark.Close)) (plain (Sign mark.OpenBrace)) (local_lines 0 ls) (reg_lines (length ps) rs) (block_lines 0 0 (b ∷ bs)) (close_line ∷ []) (funcs_lines (n + 1) fs) (close_line ∷ file_lines k m files))))
 
 funcs_some : (k n : ℕ) (a : Line) → Langs (Machine.Word None ∷ Machine.Mk mark.Open ∷ Machine.Params ∷ Machine.Funcs k (n + 1) ∷ []) a → Lang.Lang (Machine.Funcs k n) (marked (Key key.Func) (counted n 1024 limit.Function None) ∷ a)
 funcs_some k n a (some (Lang.word_is x w) (some (Lang.mark_is m) (some (Lang.params_is ps r ls rs b bs) (some {a = c} l none)))) = rw (append-nil c) (funcs_from k n w ps r ls rs b bs c l)
@@ -465,8 +465,8 @@ allow_periphs_key k w = widened (Machine.Globals 0) (Machine.Periphs k) (Key w) 
 struct_some : (k : ℕ) (a : Line) → Langs (Machine.Word None ∷ Machine.Mk mark.OpenBrace ∷ Machine.Word None ∷ Machine.Mk mark.Colon ∷ Machine.Ty None 0 ∷ Machine.MoreFields 1 ∷ Machine.Structs (k + 1) ∷ []) a
     → Lang.Lang (Machine.Structs k) (marked (Key key.Struct) (counted k 256 limit.Struct None) ∷ a)
 struct_some k a (some (Lang.word_is x n) (some (Lang.mark_is m) (some (Lang.word_is y w) (some (Lang.mark_is o) (some (Lang.type_is z d t) (some (Lang.more_fields_is j fs) (some (Lang.structs_is i ss ps gs files e h) none))))))) =
-    let s : 0 < length (slot w t ∷ fs) = omega arith in
-    lang_same _ _ _ (Lang.structs_is k (record { name = n; fields = slot w t ∷ fs } ∷ ss) ps gs files (s, e) h) (simp (append_assoc, append-nil))
+    let s : 0 < length (binding w t ∷ fs) = omega arith in
+    lang_same _ _ _ (Lang.structs_is k (record { name = n; fields = binding w t ∷ fs } ∷ ss) ps gs files (s, e) h) (simp (append_assoc, append-nil))
 
 allow_structs_key : (k : ℕ) (w : Keyword) → Allows (Machine.Structs k) (Key w) (Machine.structs_key k w)
 allow_structs_key k key.Struct = struct_some k
@@ -476,7 +476,7 @@ regs_first : (k : ℕ) (a : Line) → Lang.Lang (Machine.First 0 0) a → Lang.L
 regs_first k a (Lang.first_is i j b bs) = Lang.regs_is k [] b bs
 
 reg_some : (k : ℕ) (a : Line) → Langs (Machine.Word None ∷ Machine.Mk mark.Colon ∷ Machine.Ty None 0 ∷ Machine.Regs (k + 1) ∷ []) a → Lang.Lang (Machine.Regs k) (marked (Key key.Reg) (counted k 120 limit.Register None) ∷ a)
-reg_some k a (some (Lang.word_is x w) (some (Lang.mark_is m) (some (Lang.type_is y d t) (some (Lang.regs_is j rs b bs) none)))) = lang_same _ _ _ (Lang.regs_is k (slot w t ∷ rs) b bs) (simp append-nil)
+reg_some k a (some (Lang.word_is x w) (some (Lang.mark_is m) (some (Lang.type_is y d t) (some (Lang.regs_is j rs b bs) none)))) = lang_same _ _ _ (Lang.regs_is k (binding w t ∷ rs) b bs) (simp append-nil)
 
 allow_regs_key : (k : ℕ) (w : Keyword) → Allows (Machine.Regs k) (Key w) (Machine.regs_key k w)
 allow_regs_key k key.Reg = reg_some k
@@ -491,7 +491,7 @@ locals_regs : (k p : ℕ) (a : Line) → Lang.Lang (Machine.Regs p) a → Lang.L
 locals_regs k p a (Lang.regs_is j rs b bs) = Lang.locals_is k p [] rs b bs
 
 local_some : (k p : ℕ) (a : Line) → Langs (Machine.Word None ∷ Machine.Mk mark.Colon ∷ Machine.Ty None 0 ∷ Machine.Locals (k + 1) p ∷ []) a → Lang.Lang (Machine.Locals k p) (marked (Key key.Local) (counted k 64 limit.Local None) ∷ a)
-local_some k p a (some (Lang.word_is x w) (some (Lang.mark_is m) (some (Lang.type_is y d t) (some (Lang.locals_is j q ls rs b bs) none)))) = lang_same _ _ _ (Lang.locals_is k p (slot w t ∷ ls) rs b bs) (simp append-nil)
+local_some k p a (some (Lang.word_is x w) (some (Lang.mark_is m) (some (Lang.type_is y d t) (some (Lang.locals_is j q ls rs b bs) none)))) = lang_same _ _ _ (Lang.locals_is k p (binding w t ∷ ls) rs b bs) (simp append-nil)
 
 allow_locals_key : (k p : ℕ) (w : Keyword) → Allows (Machine.Locals k p) (Key w) (Machine.locals_key k p w)
 allow_locals_key k p key.Local = local_some k p

@@ -10,7 +10,7 @@ use Rattle.ir_model.specs.declared.token.Mark.TheVariants as mark
 use Rattle.base_laws.specs.Lists.{Each}
 use Rattle.ir_model.specs.Types.{U8, nothing, gives}
 use Rattle.ir_model.specs.Types as types
-use Rattle.ir_model.specs.Plain.{PlainSlot, PlainFunc, PlainFile}
+use Rattle.ir_model.specs.Plain.{PlainBinding, PlainFunc, PlainFile}
 use Rattle.ir_model.specs.Tokens.{Token, Name, Sign, Marked}
 use Rattle.ir_model.specs.Lines.{Line}
 use Rattle.ir_model.specs.Texts.{tokens, begins_colon, is_colon, IsFree}
@@ -69,7 +69,7 @@ filled (Machine.MoreRow d k) = by _ _ _ (Lang.more_row_is d k types.none nothing
 filled (Machine.Gives d) = by _ _ _ (Lang.gives_is d (gives U8)) (tt, (tt, tt)) refl
 filled (Machine.MoreFields k) = by _ _ _ (Lang.more_fields_is k []) (tt, tt) refl
 filled Machine.Params = by _ _ _ (Lang.params_is [] nothing [] [] short_block []) (tt, (tt, (letter_free, (tt, (tt, (tt, tt)))))) refl
-filled (Machine.MoreParams k) = by _ _ _ (Lang.more_params_is k [] k nothing [] [] short_block [] (none_behind PlainSlot k)) (tt, (tt, (letter_free, (tt, (tt, (tt, tt)))))) refl
+filled (Machine.MoreParams k) = by _ _ _ (Lang.more_params_is k [] k nothing [] [] short_block [] (none_behind PlainBinding k)) (tt, (tt, (letter_free, (tt, (tt, (tt, tt)))))) refl
 filled (Machine.Locals k p) = by _ _ _ (Lang.locals_is k p [] [] short_block []) (letter_free, (tt, (tt, (tt, tt)))) refl
 filled (Machine.Regs k) = by _ _ _ (Lang.regs_is k [] short_block []) (letter_free, (tt, (tt, (tt, tt)))) refl
 filled (Machine.First k n) = by _ _ _ (Lang.first_is k n short_block []) (letter_free, (tt, (tt, (tt, tt)))) refl

@@ -15,9 +15,9 @@ use Rattle.ir_model.specs.declared.token.Mark.TheVariants as mark
 use Rattle.ir_model.specs.declared.token.TextLimit.TheVariants as limit
 use Rattle.ir_model.specs.Types.{PlainType, U8, U16, U32, Pointer, Array, Named, Callee, PlainTypes, PlainResult, nothing, gives}
 use Rattle.ir_model.specs.Types as types
-use Rattle.ir_model.specs.Plain.{PlainSlot, PlainStruct, PlainGlobal, PlainFunc, PlainFile}
+use Rattle.ir_model.specs.Plain.{PlainBinding, PlainStruct, PlainGlobal, PlainFunc, PlainFile}
 use Rattle.ir_model.specs.Tokens.{Number, Key, Sign, Marked}
-use Rattle.ir_model.specs.Lines.{Line, marked, plain, name, number, counted, length_excess, type_tokens, row_tokens, more_tokens, result_tokens, slot_tokens, more_slots, slots_tokens, cell_tokens, more_cells, init_tokens, arguments, more_arguments, inst_line, inst_lines, term_line, block_lines, local_lines, reg_lines, close_line, funcs_lines, file_lines, struct_line, struct_lines, periph_lines, global_lines, global_start}
+use Rattle.ir_model.specs.Lines.{Line, marked, plain, name, number, counted, length_excess, type_tokens, row_tokens, more_tokens, result_tokens, binding_tokens, more_bindings, bindings_tokens, cell_tokens, more_cells, init_tokens, arguments, more_arguments, inst_line, inst_lines, term_line, block_lines, local_lines, reg_lines, close_line, funcs_lines, file_lines, struct_line, struct_lines, periph_lines, global_lines, global_start}
 use Rattle.ir_model.specs.Texts.{joined}
 use Rattle.ir_reader.specs.Machine
 use Rattle.ir_reader.specs.Machine.{Symbol, mark_number}
@@ -81,32 +81,32 @@ follows_gives d (gives t) = next _ _ (Machine.Ty None d ∷ []) (λ b. refl) ref
 
 -- lists in declarations
 
-slot_langs : (x : Option Excess) (s : PlainSlot) (st : List Symbol) (ms : Line) → Langs st ms → Langs (Machine.Word x ∷ Machine.Mk mark.Colon ∷ Machine.Ty None 0 ∷ st) (slot_tokens x s ++ ms)
-slot_langs x s st ms l = some (Lang.word_is x s.name) (some (Lang.mark_is mark.Colon) (some (Lang.type_is None 0 s.ty) l))
+binding_langs : (x : Option Excess) (s : PlainBinding) (st : List Symbol) (ms : Line) → Langs st ms → Langs (Machine.Word x ∷ Machine.Mk mark.Colon ∷ Machine.Ty None 0 ∷ st) (binding_tokens x s ++ ms)
+binding_langs x s st ms l = some (Lang.word_is x s.name) (some (Lang.mark_is mark.Colon) (some (Lang.type_is None 0 s.ty) l))
 
-follows_more_fields : (k : ℕ) (ss : List PlainSlot) → Follows (Machine.MoreFields k) (more_slots limit.Field k 64 ss ++ plain (Sign mark.CloseBrace) ∷ [])
+follows_more_fields : (k : ℕ) (ss : List PlainBinding) → Follows (Machine.MoreFields k) (more_bindings limit.Field k 64 ss ++ plain (Sign mark.CloseBrace) ∷ [])
 follows_more_fields k [] = next _ _ [] (λ b. refl) refl none
 follows_more_fields k (s ∷ ss) =
-    next _ _ _ (λ b. refl) refl (nest _ (slot_tokens (counted k 64 limit.Field None) s) (more_slots limit.Field (k + 1) 64 ss) (plain (Sign mark.CloseBrace) ∷ []) (slot_langs (counted k 64 limit.Field None) s _ _ (last (Lang.more_fields_is (k + 1) ss))))
+    next _ _ _ (λ b. refl) refl (nest _ (binding_tokens (counted k 64 limit.Field None) s) (more_bindings limit.Field (k + 1) 64 ss) (plain (Sign mark.CloseBrace) ∷ []) (binding_langs (counted k 64 limit.Field None) s _ _ (last (Lang.more_fields_is (k + 1) ss))))
 
-body_langs : (n k : ℕ) (r : PlainResult) (ls rs : List PlainSlot) (b : Block) (bs : List Block) → n ≡ k
+body_langs : (n k : ℕ) (r : PlainResult) (ls rs : List PlainBinding) (b : Block) (bs : List Block) → n ≡ k
     → Langs (Machine.body k) (result_tokens 0 r ++ plain (Sign mark.OpenBrace) ∷ joined (local_lines 0 ls ++ (reg_lines n rs ++ (block_lines 0 0 (b ∷ bs) ++ close_line ∷ []))))
 body_langs n k r ls rs b bs e = rw e (some (Lang.gives_is 0 r) (some (Lang.mark_is mark.OpenBrace) (last (Lang.locals_is 0 k ls rs b bs))))
 
-follows_params : (ps : List PlainSlot) (r : PlainResult) (ls rs : List PlainSlot) (b : Block) (bs : List Block) → Follows Machine.Params (slots_tokens limit.Param 4 ps ++ behind_params (length ps) r ls rs b bs)
+follows_params : (ps : List PlainBinding) (r : PlainResult) (ls rs : List PlainBinding) (b : Block) (bs : List Block) → Follows Machine.Params (bindings_tokens limit.Param 4 ps ++ behind_params (length ps) r ls rs b bs)
 follows_params [] r ls rs b bs = next _ _ (Machine.body 0) (λ b. refl) refl (body_langs 0 0 r ls rs b bs refl)
 follows_params (s ∷ ss) r ls rs b bs =
     let e : length (s ∷ ss) ≡ 1 + length ss = omega arith in
     next _ _ (Machine.Mk mark.Colon ∷ Machine.Ty None 0 ∷ Machine.MoreParams 1 ∷ []) (λ b. refl) refl
-    (nest _ (plain (Sign mark.Colon) ∷ type_tokens None 0 s.ty) (more_slots limit.Param 1 4 ss) (behind_params (length (s ∷ ss)) r ls rs b bs)
+    (nest _ (plain (Sign mark.Colon) ∷ type_tokens None 0 s.ty) (more_bindings limit.Param 1 4 ss) (behind_params (length (s ∷ ss)) r ls rs b bs)
     (some (Lang.mark_is mark.Colon) (some (Lang.type_is None 0 s.ty) (last (Lang.more_params_is 1 ss (length (s ∷ ss)) r ls rs b bs e)))))
 
-follows_more_params : (k : ℕ) (ps : List PlainSlot) (n : ℕ) (r : PlainResult) (ls rs : List PlainSlot) (b : Block) (bs : List Block) → n ≡ k + length ps
-    → Follows (Machine.MoreParams k) (more_slots limit.Param k 4 ps ++ behind_params n r ls rs b bs)
+follows_more_params : (k : ℕ) (ps : List PlainBinding) (n : ℕ) (r : PlainResult) (ls rs : List PlainBinding) (b : Block) (bs : List Block) → n ≡ k + length ps
+    → Follows (Machine.MoreParams k) (more_bindings limit.Param k 4 ps ++ behind_params n r ls rs b bs)
 follows_more_params k [] n r ls rs b bs e = let i : n ≡ k = omega arith in next _ _ (Machine.body k) (λ b. refl) refl (body_langs n k r ls rs b bs i)
 follows_more_params k (s ∷ ss) n r ls rs b bs e =
     let i : n ≡ k + 1 + length ss = omega arith in
-    next _ _ _ (λ b. refl) refl (nest _ (slot_tokens (counted k 4 limit.Param None) s) (more_slots limit.Param (k + 1) 4 ss) (behind_params n r ls rs b bs) (slot_langs (counted k 4 limit.Param None) s _ _ (last (Lang.more_params_is (k + 1) ss n r ls rs b bs i))))
+    next _ _ _ (λ b. refl) refl (nest _ (binding_tokens (counted k 4 limit.Param None) s) (more_bindings limit.Param (k + 1) 4 ss) (behind_params n r ls rs b bs) (binding_langs (counted k 4 limit.Param None) s _ _ (last (Lang.more_params_is (k + 1) ss n r ls rs b bs i))))
 
 -- blocks
 
@@ -119,14 +119,14 @@ follows_blocks : (k n : ℕ) (bs : List Block) → Follows (Machine.Blocks k n) 
 follows_blocks k n [] = next _ _ [] (λ b. refl) refl none
 follows_blocks k n (b ∷ bs) = next _ _ (Machine.Mk mark.Colon ∷ Machine.Insts (k + 1) n ∷ []) (λ b. refl) refl (block_langs k n b bs)
 
-follows_regs : (k : ℕ) (rs : List PlainSlot) (b : Block) (bs : List Block) → Follows (Machine.Regs k) (joined (reg_lines k rs ++ (block_lines 0 0 (b ∷ bs) ++ close_line ∷ [])))
+follows_regs : (k : ℕ) (rs : List PlainBinding) (b : Block) (bs : List Block) → Follows (Machine.Regs k) (joined (reg_lines k rs ++ (block_lines 0 0 (b ∷ bs) ++ close_line ∷ [])))
 follows_regs k [] b bs = next _ _ (Machine.Mk mark.Colon ∷ Machine.Insts 1 0 ∷ []) (λ b. refl) refl (block_langs 0 0 b bs)
-follows_regs k (r ∷ rs) b bs = next _ _ _ (λ b. refl) refl (slot_langs None r _ _ (last (Lang.regs_is (k + 1) rs b bs)))
+follows_regs k (r ∷ rs) b bs = next _ _ _ (λ b. refl) refl (binding_langs None r _ _ (last (Lang.regs_is (k + 1) rs b bs)))
 
-follows_locals : (k p : ℕ) (ls rs : List PlainSlot) (b : Block) (bs : List Block) → Follows (Machine.Locals k p) (joined (local_lines k ls ++ (reg_lines p rs ++ (block_lines 0 0 (b ∷ bs) ++ close_line ∷ []))))
+follows_locals : (k p : ℕ) (ls rs : List PlainBinding) (b : Block) (bs : List Block) → Follows (Machine.Locals k p) (joined (local_lines k ls ++ (reg_lines p rs ++ (block_lines 0 0 (b ∷ bs) ++ close_line ∷ []))))
 follows_locals k p [] [] b bs = next _ _ (Machine.Mk mark.Colon ∷ Machine.Insts 1 0 ∷ []) (λ b. refl) refl (block_langs 0 0 b bs)
-follows_locals k p [] (r ∷ rs) b bs = next _ _ _ (λ b. refl) refl (slot_langs None r _ _ (last (Lang.regs_is (p + 1) rs b bs)))
-follows_locals k p (l ∷ ls) rs b bs = next _ _ _ (λ b. refl) refl (slot_langs None l _ _ (last (Lang.locals_is (k + 1) p ls rs b bs)))
+follows_locals k p [] (r ∷ rs) b bs = next _ _ _ (λ b. refl) refl (binding_langs None r _ _ (last (Lang.regs_is (p + 1) rs b bs)))
+follows_locals k p (l ∷ ls) rs b bs = next _ _ _ (λ b. refl) refl (binding_langs None l _ _ (last (Lang.locals_is (k + 1) p ls rs b bs)))
 
 follows_after_ret : (k n : ℕ) (r : Option (List ℕ)) (bs : List Block) → Follows (Machine.AfterRet k n) (ret_tail r ++ joined (block_lines k n bs ++ close_line ∷ []))
 follows_after_ret k n None [] = next _ _ [] (λ b. refl) refl none
@@ -195,18 +195,18 @@ follows_more_args k (a ∷ as_) = next _ _ (Machine.Word (counted k 4 limit.Para
 
 -- declarations
 
-func_langs : (n : ℕ) (name_ : List ℕ) (ps : List PlainSlot) (r : PlainResult) (ls rs : List PlainSlot) (b : Block) (bs : List Block) (st : List Symbol) (ms : Line) → Langs st ms
-    → Langs (Machine.Word None ∷ Machine.Mk mark.Open ∷ Machine.Params ∷ st) (name name_ ∷ plain (Sign mark.Open) ∷ ((slots_tokens limit.Param 4 ps ++ behind_params (length ps) r ls rs b bs) ++ ms))
+func_langs : (n : ℕ) (name_ : List ℕ) (ps : List PlainBinding) (r : PlainResult) (ls rs : List PlainBinding) (b : Block) (bs : List Block) (st : List Symbol) (ms : Line) → Langs st ms
+    → Langs (Machine.Word None ∷ Machine.Mk mark.Open ∷ Machine.Params ∷ st) (name name_ ∷ plain (Sign mark.Open) ∷ ((bindings_tokens limit.Param 4 ps ++ behind_params (length ps) r ls rs b bs) ++ ms))
 func_langs n name_ ps r ls rs b bs st ms l = some (Lang.word_is None name_) (some (Lang.mark_is mark.Open) (some (Lang.params_is ps r ls rs b bs) l))
 
-follows_func : (k n : ℕ) (name_ : List ℕ) (ps : List PlainSlot) (r : PlainResult) (ls rs : List PlainSlot) (blocks : List Block) (fs : List PlainFunc) (files : List PlainFile) (m : ℕ)
+follows_func : (k n : ℕ) (name_ : List ℕ) (ps : List PlainBinding) (r : PlainResult) (ls rs : List PlainBinding) (blocks : List Block) (fs : List PlainFunc) (files : List PlainFile) (m : ℕ)
     → 0 < length blocks → Langs (Machine.Funcs k (n + 1) ∷ []) (joined (funcs_lines (n + 1) fs ++ (close_line ∷ file_lines k m files)))
     → Follows (Machine.Funcs k n) (joined (funcs_lines n (record { name = name_; params = ps; outcome = r; locals = ls; regs = rs; blocks = blocks } ∷ fs) ++ (close_line ∷ file_lines k m files)))
 follows_func k n name_ ps r ls rs [] fs files m h l = absurd (omega arith)
 follows_func k n name_ ps r ls rs (b ∷ bs) fs files m h l =
     next _ _ (Machine.Word None ∷ Machine.Mk mark.Open ∷ Machine.Params ∷ Machine.Funcs k (n + 1) ∷ []) (λ b. refl) refl
     (same _ _ _ (func_langs n name_ ps r ls rs b bs _ _ l)
-    (ap (λ z. name name_ ∷ plain (Sign mark.Open) ∷ z) (func_flat (slots_tokens limit.Param 4 ps) (result_tokens 0 r) (plain (Sign mark.Close)) (plain (Sign mark.OpenBrace)) (local_lines 0 ls) (reg_lines (length ps) rs) (block_lines 0 0 (b ∷ bs)) (close_line ∷ []) (funcs_lines (n + 1) fs) (close_line ∷ file_lines k m files))))
+    (ap (λ z. name name_ ∷ plain (Sign mark.Open) ∷ z) (func_flat (bindings_tokens limit.Param 4 ps) (result_tokens 0 r) (plain (Sign mark.Close)) (plain (Sign mark.OpenBrace)) (local_lines 0 ls) (reg_lines (length ps) rs) (block_lines 0 0 (b ∷ bs)) (close_line ∷ []) (funcs_lines (n + 1) fs) (close_line ∷ file_lines k m files))))
 
 files_at : (k m n : ℕ) (files : List PlainFile) → AllHaveBlocks files → m ≡ n → Langs (Machine.Files k n ∷ []) (joined (file_lines k m files))
 files_at k m n files h e = rw e (last (Lang.files_is k n files h))
@@ -291,13 +291,13 @@ follows_structs k [] [] (g ∷ gs) files e h = by_start g.constant
 follows_structs k [] (p ∷ ps) gs files e h = next _ _ (Machine.Word None ∷ Machine.Num ∷ Machine.Num ∷ Machine.Periphs 1 ∷ []) (λ b. refl) refl (periph_langs 0 p ps gs files h)
 follows_structs k (s ∷ ss) ps gs files e h = by_fields s.fields e.0
   where
-    by_fields : (fields : List PlainSlot) → 0 < length fields
+    by_fields : (fields : List PlainBinding) → 0 < length fields
         → Follows (Machine.Structs k) (struct_line k (record { name = s.name; fields = fields }) ++ joined (struct_lines (k + 1) ss ++ (periph_lines 0 ps ++ (global_lines 0 gs ++ file_lines 0 0 files))))
     by_fields [] i = absurd (omega arith)
     by_fields (f ∷ fs) i =
         next _ _ (Machine.Word None ∷ Machine.Mk mark.OpenBrace ∷ Machine.Word None ∷ Machine.Mk mark.Colon ∷ Machine.Ty None 0 ∷ Machine.MoreFields 1 ∷ Machine.Structs (k + 1) ∷ []) (λ b. refl) refl
-        (same _ _ _ (some (Lang.word_is None s.name) (some (Lang.mark_is mark.OpenBrace) (slot_langs None f _ _ (some (Lang.more_fields_is 1 fs) (last (Lang.structs_is (k + 1) ss ps gs files e.1 h))))))
-        (three (name s.name ∷ plain (Sign mark.OpenBrace) ∷ slot_tokens None f) (more_slots limit.Field 1 64 fs) (plain (Sign mark.CloseBrace) ∷ []) (joined (struct_lines (k + 1) ss ++ (periph_lines 0 ps ++ (global_lines 0 gs ++ file_lines 0 0 files))))))
+        (same _ _ _ (some (Lang.word_is None s.name) (some (Lang.mark_is mark.OpenBrace) (binding_langs None f _ _ (some (Lang.more_fields_is 1 fs) (last (Lang.structs_is (k + 1) ss ps gs files e.1 h))))))
+        (three (name s.name ∷ plain (Sign mark.OpenBrace) ∷ binding_tokens None f) (more_bindings limit.Field 1 64 fs) (plain (Sign mark.CloseBrace) ∷ []) (joined (struct_lines (k + 1) ss ++ (periph_lines 0 ps ++ (global_lines 0 gs ++ file_lines 0 0 files))))))
 
 nat_eq_same : (n : ℕ) → nat_eq n n ≡ true
 nat_eq_same n = search (rules, tests)

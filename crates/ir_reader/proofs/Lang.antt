@@ -14,9 +14,9 @@ use Rattle.ir_model.specs.declared.token.Mark.{Mark}
 use Rattle.ir_model.specs.declared.token.Mark.TheVariants as mark
 use Rattle.ir_model.specs.declared.token.TextLimit.TheVariants as limit
 use Rattle.ir_model.specs.Types.{PlainType, PlainTypes, PlainResult}
-use Rattle.ir_model.specs.Plain.{PlainSlot, PlainStruct, PlainGlobal, PlainFunc, PlainFile}
+use Rattle.ir_model.specs.Plain.{PlainBinding, PlainStruct, PlainGlobal, PlainFunc, PlainFile}
 use Rattle.ir_model.specs.Tokens.{Name, Number, Key, Operation, Comparison, Sign, Marked}
-use Rattle.ir_model.specs.Lines.{Line, marked, plain, name, number, word_excess, length_excess, or_else, type_tokens, row_tokens, more_tokens, result_tokens, more_slots, slots_tokens, cell_tokens, more_cells, init_tokens, more_arguments, inst_lines, term_line, block_lines, local_lines, reg_lines, close_line, funcs_lines, file_lines, struct_lines, periph_lines, global_lines}
+use Rattle.ir_model.specs.Lines.{Line, marked, plain, name, number, word_excess, length_excess, or_else, type_tokens, row_tokens, more_tokens, result_tokens, more_bindings, bindings_tokens, cell_tokens, more_cells, init_tokens, more_arguments, inst_lines, term_line, block_lines, local_lines, reg_lines, close_line, funcs_lines, file_lines, struct_lines, periph_lines, global_lines}
 use Rattle.ir_model.specs.Texts.{joined, tokens, begins_colon}
 use Rattle.ir_reader.specs.Machine
 use Rattle.ir_reader.specs.Machine.{Symbol, Go, move, is_last}
@@ -24,7 +24,7 @@ use Rattle.ir_reader.specs.Reading.{HasFields}
 use Rattle.ir_reader.specs.Parts.{HasBlocks, AllHaveBlocks}
 
 -- a function behind its parameters
-abbrev pub behind_params : (params : ℕ) → PlainResult → List PlainSlot → List PlainSlot → Block → List Block → Line
+abbrev pub behind_params : (params : ℕ) → PlainResult → List PlainBinding → List PlainBinding → Block → List Block → Line
 behind_params p r ls rs b bs =
     plain (Sign mark.Close) ∷ (result_tokens 0 r ++ plain (Sign mark.OpenBrace) ∷ joined (local_lines 0 ls ++ (reg_lines p rs ++ (block_lines 0 0 (b ∷ bs) ++ close_line ∷ []))))
 
@@ -53,12 +53,12 @@ pub data Lang : Symbol → Line → Type 0 where
   row_is : (d : ℕ) (ts : PlainTypes) (r : PlainResult) → Lang (Machine.Row d) (row_tokens d ts ++ result_tokens d r)
   more_row_is : (d k : ℕ) (ts : PlainTypes) (r : PlainResult) → Lang (Machine.MoreRow d k) (more_tokens d k ts ++ result_tokens d r)
   gives_is : (d : ℕ) (r : PlainResult) → Lang (Machine.Gives d) (result_tokens d r)
-  more_fields_is : (k : ℕ) (ss : List PlainSlot) → Lang (Machine.MoreFields k) (more_slots limit.Field k 64 ss ++ plain (Sign mark.CloseBrace) ∷ [])
-  params_is : (ps : List PlainSlot) (r : PlainResult) (ls rs : List PlainSlot) (b : Block) (bs : List Block) → Lang Machine.Params (slots_tokens limit.Param 4 ps ++ behind_params (length ps) r ls rs b bs)
-  more_params_is : (k : ℕ) (ps : List PlainSlot) (n : ℕ) (r : PlainResult) (ls rs : List PlainSlot) (b : Block) (bs : List Block) → n ≡ k + length ps
-      → Lang (Machine.MoreParams k) (more_slots limit.Param k 4 ps ++ behind_params n r ls rs b bs)
-  locals_is : (k p : ℕ) (ls rs : List PlainSlot) (b : Block) (bs : List Block) → Lang (Machine.Locals k p) (joined (local_lines k ls ++ (reg_lines p rs ++ (block_lines 0 0 (b ∷ bs) ++ close_line ∷ []))))
-  regs_is : (k : ℕ) (rs : List PlainSlot) (b : Block) (bs : List Block) → Lang (Machine.Regs k) (joined (reg_lines k rs ++ (block_lines 0 0 (b ∷ bs) ++ close_line ∷ [])))
+  more_fields_is : (k : ℕ) (ss : List PlainBinding) → Lang (Machine.MoreFields k) (more_bindings limit.Field k 64 ss ++ plain (Sign mark.CloseBrace) ∷ [])
+  params_is : (ps : List PlainBinding) (r : PlainResult) (ls rs : List PlainBinding) (b : Block) (bs : List Block) → Lang Machine.Params (bindings_tokens limit.Param 4 ps ++ behind_params (length ps) r ls rs b bs)
+  more_params_is : (k : ℕ) (ps : List PlainBinding) (n : ℕ) (r : PlainResult) (ls rs : List PlainBinding) (b : Block) (bs : List Block) → n ≡ k + length ps
+      → Lang (Machine.MoreParams k) (more_bindings limit.Param k 4 ps ++ behind_params n r ls rs b bs)
+  locals_is : (k p : ℕ) (ls rs : List PlainBinding) (b : Block) (bs : List Block) → Lang (Machine.Locals k p) (joined (local_lines k ls ++ (reg_lines p rs ++ (block_lines 0 0 (b ∷ bs) ++ close_line ∷ []))))
+  regs_is : (k : ℕ) (rs : List PlainBinding) (b : Block) (bs : List Block) → Lang (Machine.Regs k) (joined (reg_lines k rs ++ (block_lines 0 0 (b ∷ bs) ++ close_line ∷ [])))
   first_is : (k n : ℕ) (b : Block) (bs : List Block) → Lang (Machine.First k n) (joined (block_lines k n (b ∷ bs) ++ close_line ∷ []))
   insts_is : (k n : ℕ) (is : List Inst) (t : Term) (bs : List Block) (m : ℕ) → m ≡ n + length is → Lang (Machine.Insts k n) (joined (inst_lines n is ++ (term_line t ∷ (block_lines k m bs ++ close_line ∷ []))))
   after_ret_is : (k n : ℕ) (r : Option (List ℕ)) (bs : List Block) → Lang (Machine.AfterRet k n) (ret_tail r ++ joined (block_lines k n bs ++ close_line ∷ []))

@@ -11,11 +11,11 @@ use Rattle.ir_model.specs.declared.token.Keyword.TheVariants as key
 use Rattle.ir_model.specs.declared.token.Mark.{Mark}
 use Rattle.ir_model.specs.declared.token.Mark.TheVariants as mark
 use Rattle.ir_model.specs.Types.{U8, U16, U32, Pointer, Array, Named, Callee, PlainTypes, none, more, nothing, gives}
-use Rattle.ir_model.specs.Plain.{PlainSlot, PlainStruct, PlainGlobal, PlainFunc, PlainFile, PlainFirmware}
+use Rattle.ir_model.specs.Plain.{PlainBinding, PlainStruct, PlainGlobal, PlainFunc, PlainFile, PlainFirmware}
 use Rattle.ir_model.specs.Tokens as model
 use Rattle.ir_reader.specs.Found.{Found, Is, End}
 use Rattle.ir_reader.specs.Reading.{is_found_key}
-use Rattle.ir_grammar.specs.Spelling.{spell_type, spell_row, spell_more_row, spell_gives, separated, spell_slot, spell_fields, spell_struct, spell_structs, spell_periph, spell_periphs, spell_cell, spell_cells, spell_init, spell_constant, spell_global, spell_globals, spell_word, spell_args, spell_inst, spell_term, spell_block, spell_blocks, spell_local, spell_reg, spell_locals, spell_regs, spell_head, spell_body, spell_func, spell_funcs, spell_file, spell_files, spell_firmware}
+use Rattle.ir_grammar.specs.Spelling.{spell_type, spell_row, spell_more_row, spell_gives, separated, spell_binding, spell_fields, spell_struct, spell_structs, spell_periph, spell_periphs, spell_cell, spell_cells, spell_init, spell_constant, spell_global, spell_globals, spell_word, spell_args, spell_inst, spell_term, spell_block, spell_blocks, spell_local, spell_reg, spell_locals, spell_regs, spell_head, spell_body, spell_func, spell_funcs, spell_file, spell_files, spell_firmware}
 use Rattle.ir_reader.specs.Spelling.{Spelling, Name, Key, Sign, as_found}
 
 -- the first of a spelling passes a test
@@ -158,25 +158,25 @@ is_name_found _ = false
 abbrev Any : Spelling → Type 0
 Any x = Unit {0}
 
-slot_unique : Unique NoArrow (spell_slot as_found)
-slot_unique s r x y h i e =
+binding_unique : Unique NoArrow (spell_binding as_found)
+binding_unique s r x y h i e =
     let g : (spell_type as_found) s.ty ++ x ≡ spell_type as_found r.ty ++ y = cc in
     let o = type_unique s.ty r.ty x y h i g in
     let n : s.name ≡ r.name = cc in
-    (same_slot s r n o.0, o.1)
+    (same_binding s r n o.0, o.1)
   where
-    same_slot : (s r : PlainSlot) → s.name ≡ r.name → s.ty ≡ r.ty → s ≡ r
-    same_slot s r n t = let e : ◌≡◌ {A = PlainSlot} (record { name = s.name; ty = s.ty }) (record { name = r.name; ty = r.ty }) = rw (n, t) refl in e
+    same_binding : (s r : PlainBinding) → s.name ≡ r.name → s.ty ≡ r.ty → s ≡ r
+    same_binding s r n t = let e : ◌≡◌ {A = PlainBinding} (record { name = s.name; ty = s.ty }) (record { name = r.name; ty = r.ty }) = rw (n, t) refl in e
 
-slots_unique : (m : Mark) → (Sign mark.Comma ≡ Sign m → ⊥) → is_arrow (Sign m) ≡ false → (as_ bs : List PlainSlot) (x y : Spelling) → separated as_found (spell_slot as_found) as_ ++ Sign m ∷ x ≡ separated as_found (spell_slot as_found) bs ++ Sign m ∷ y → One as_ bs x y
-slots_unique m n a = separated_unique is_name_found NoArrow (spell_slot as_found) (Sign m) slot_unique (λ a x. refl) (λ z. refl) (λ z. a) n refl
+bindings_unique : (m : Mark) → (Sign mark.Comma ≡ Sign m → ⊥) → is_arrow (Sign m) ≡ false → (as_ bs : List PlainBinding) (x y : Spelling) → separated as_found (spell_binding as_found) as_ ++ Sign m ∷ x ≡ separated as_found (spell_binding as_found) bs ++ Sign m ∷ y → One as_ bs x y
+bindings_unique m n a = separated_unique is_name_found NoArrow (spell_binding as_found) (Sign m) binding_unique (λ a x. refl) (λ z. refl) (λ z. a) n refl
 
 -- declarations
 
 struct_unique : Unique Any (spell_struct as_found)
 struct_unique s r x y h i e =
     let g : (spell_fields as_found) s.fields ++ x ≡ spell_fields as_found r.fields ++ y = cc in
-    let o = slots_unique mark.CloseBrace (λ h. cc) refl s.fields r.fields x y (sym (append_assoc (separated as_found (spell_slot as_found) s.fields) (Sign mark.CloseBrace ∷ []) x) ∙ (g ∙ append_assoc (separated as_found (spell_slot as_found) r.fields) (Sign mark.CloseBrace ∷ []) y)) in
+    let o = bindings_unique mark.CloseBrace (λ h. cc) refl s.fields r.fields x y (sym (append_assoc (separated as_found (spell_binding as_found) s.fields) (Sign mark.CloseBrace ∷ []) x) ∙ (g ∙ append_assoc (separated as_found (spell_binding as_found) r.fields) (Sign mark.CloseBrace ∷ []) y)) in
     let n : s.name ≡ r.name = cc in
     (same_struct s r n o.0, o.1)
   where
@@ -250,12 +250,12 @@ name_behind_constant false true x y v w e = cc
 
 global_unique : Unique BehindGlobal (spell_global as_found)
 global_unique g d x y h i e =
-    let k = sym (parts (spell_constant as_found g.constant) (spell_slot as_found (record { name = g.name; ty = g.ty })) (spell_init as_found g.init) x) ∙ (e ∙ parts (spell_constant as_found d.constant) (spell_slot as_found (record { name = d.name; ty = d.ty })) (spell_init as_found d.init) y) in
+    let k = sym (parts (spell_constant as_found g.constant) (spell_binding as_found (record { name = g.name; ty = g.ty })) (spell_init as_found g.init) x) ∙ (e ∙ parts (spell_constant as_found d.constant) (spell_binding as_found (record { name = d.name; ty = d.ty })) (spell_init as_found d.init) y) in
     let c = name_behind_constant g.constant d.constant _ _ g.name d.name k in
-    let s = slot_unique (record { name = g.name; ty = g.ty }) (record { name = d.name; ty = d.ty }) (spell_init as_found g.init ++ x) (spell_init as_found d.init ++ y) (init_behind g.init x h) (init_behind d.init y i) c.1 in
+    let s = binding_unique (record { name = g.name; ty = g.ty }) (record { name = d.name; ty = d.ty }) (spell_init as_found g.init ++ x) (spell_init as_found d.init ++ y) (init_behind g.init x h) (init_behind d.init y i) c.1 in
     let j = init_unique g.init d.init x y h.1 i.1 s.1 in
-    let n : g.name ≡ d.name = ap (λ (z : PlainSlot). z.name) s.0 in
-    let t : g.ty ≡ d.ty = ap (λ (z : PlainSlot). z.ty) s.0 in
+    let n : g.name ≡ d.name = ap (λ (z : PlainBinding). z.name) s.0 in
+    let t : g.ty ≡ d.ty = ap (λ (z : PlainBinding). z.ty) s.0 in
     (same_global g d n c.0 t j.0, j.1)
   where
     same_global : (g d : PlainGlobal) → g.name ≡ d.name → g.constant ≡ d.constant → g.ty ≡ d.ty → g.init ≡ d.init → g ≡ d
@@ -271,8 +271,8 @@ is_global_start _ = false
 global_starts : Starts is_global_start BehindGlobal (spell_global as_found)
 global_starts g x = by_constant g.constant
   where
-    by_constant : (c : Bool) → (first_is is_global_start ((spell_constant as_found c ++ spell_slot as_found (record { name = g.name; ty = g.ty }) ++ spell_init as_found g.init) ++ x) ≡ true)
-        × BehindGlobal ((spell_constant as_found c ++ spell_slot as_found (record { name = g.name; ty = g.ty }) ++ spell_init as_found g.init) ++ x)
+    by_constant : (c : Bool) → (first_is is_global_start ((spell_constant as_found c ++ spell_binding as_found (record { name = g.name; ty = g.ty }) ++ spell_init as_found g.init) ++ x) ≡ true)
+        × BehindGlobal ((spell_constant as_found c ++ spell_binding as_found (record { name = g.name; ty = g.ty }) ++ spell_init as_found g.init) ++ x)
     by_constant true = (refl, (refl, refl))
     by_constant false = (refl, (refl, refl))
 
@@ -408,20 +408,20 @@ blocks_unique as_ bs x y e =
 
 -- functions and files
 
-keyed_unique : (f : Found) → Unique NoArrow (λ (s : PlainSlot). f ∷ (spell_slot as_found s ++ []))
+keyed_unique : (f : Found) → Unique NoArrow (λ (s : PlainBinding). f ∷ (spell_binding as_found s ++ []))
 keyed_unique f s r x y h i e =
-    let g : (spell_slot as_found s ++ []) ++ x ≡ (spell_slot as_found r ++ []) ++ y = cc in
-    slot_unique s r x y h i (sym (ap (λ z. z ++ x) (append-nil (spell_slot as_found s))) ∙ (g ∙ ap (λ z. z ++ y) (append-nil (spell_slot as_found r))))
+    let g : (spell_binding as_found s ++ []) ++ x ≡ (spell_binding as_found r ++ []) ++ y = cc in
+    binding_unique s r x y h i (sym (ap (λ z. z ++ x) (append-nil (spell_binding as_found s))) ∙ (g ∙ ap (λ z. z ++ y) (append-nil (spell_binding as_found r))))
 
 blocks_first : (p : Found → Bool) (bs : List Block) (x : Spelling) → p (Sign mark.CloseBrace) ≡ false → ((w : List ℕ) → p (Name w) ≡ false) → first_is p (spell_blocks as_found bs ++ x) ≡ false
 blocks_first p [] x h i = h
 blocks_first p (b ∷ bs) x h i = i b.label
 
-regs_first : (p : Found → Bool) (rs : List PlainSlot) (bs : List Block) (x : Spelling) → p (Sign mark.CloseBrace) ≡ false → ((w : List ℕ) → p (Name w) ≡ false) → p (Key key.Reg) ≡ false → first_is p (spell_regs as_found rs ++ (spell_blocks as_found bs ++ x)) ≡ false
+regs_first : (p : Found → Bool) (rs : List PlainBinding) (bs : List Block) (x : Spelling) → p (Sign mark.CloseBrace) ≡ false → ((w : List ℕ) → p (Name w) ≡ false) → p (Key key.Reg) ≡ false → first_is p (spell_regs as_found rs ++ (spell_blocks as_found bs ++ x)) ≡ false
 regs_first p [] bs x h i j = blocks_first p bs x h i
 regs_first p (r ∷ rs) bs x h i j = j
 
-body_unique : (ls ms rs ss : List PlainSlot) (bs ds : List Block) (x y : Spelling) → spell_body as_found ls rs bs ++ x ≡ spell_body as_found ms ss ds ++ y → (ls ≡ ms) × (rs ≡ ss) × One bs ds x y
+body_unique : (ls ms rs ss : List PlainBinding) (bs ds : List Block) (x y : Spelling) → spell_body as_found ls rs bs ++ x ≡ spell_body as_found ms ss ds ++ y → (ls ≡ ms) × (rs ≡ ss) × One bs ds x y
 body_unique ls ms rs ss bs ds x y e =
     let g = sym (nested (spell_locals as_found ls) (spell_regs as_found rs) (spell_blocks as_found bs) x) ∙ (e ∙ nested (spell_locals as_found ms) (spell_regs as_found ss) (spell_blocks as_found ds) y) in
     let l = list_unique (is_found_key key.Local) NoArrow (spell_local as_found) (λ a x. (refl, refl)) (keyed_unique (Key key.Local)) ls ms (spell_regs as_found rs ++ (spell_blocks as_found bs ++ x)) (spell_regs as_found ss ++ (spell_blocks as_found ds ++ y))
@@ -439,11 +439,11 @@ body_unique ls ms rs ss bs ds x y e =
 func_unique : Unique Any (spell_func as_found)
 func_unique f g x y h i e =
     let k : (spell_head as_found f.name f.params f.outcome ++ spell_body as_found f.locals f.regs f.blocks) ++ x ≡ (spell_head as_found g.name g.params g.outcome ++ spell_body as_found g.locals g.regs g.blocks) ++ y = cc in
-    let s = sym (flat (separated as_found (spell_slot as_found) f.params) (spell_gives as_found f.outcome) (spell_body as_found f.locals f.regs f.blocks) x f.name) ∙ (k ∙ flat (separated as_found (spell_slot as_found) g.params) (spell_gives as_found g.outcome) (spell_body as_found g.locals g.regs g.blocks) y g.name) in
+    let s = sym (flat (separated as_found (spell_binding as_found) f.params) (spell_gives as_found f.outcome) (spell_body as_found f.locals f.regs f.blocks) x f.name) ∙ (k ∙ flat (separated as_found (spell_binding as_found) g.params) (spell_gives as_found g.outcome) (spell_body as_found g.locals g.regs g.blocks) y g.name) in
     let n : f.name ≡ g.name = cc in
-    let t : (separated as_found) (spell_slot as_found) f.params ++ (Sign mark.Close ∷ (spell_gives as_found f.outcome ++ (Sign mark.OpenBrace ∷ (spell_body as_found f.locals f.regs f.blocks ++ x))))
-    ≡ separated as_found (spell_slot as_found) g.params ++ (Sign mark.Close ∷ (spell_gives as_found g.outcome ++ (Sign mark.OpenBrace ∷ (spell_body as_found g.locals g.regs g.blocks ++ y)))) = cc in
-    let p = slots_unique mark.Close (λ h. cc) refl f.params g.params _ _ t in
+    let t : (separated as_found) (spell_binding as_found) f.params ++ (Sign mark.Close ∷ (spell_gives as_found f.outcome ++ (Sign mark.OpenBrace ∷ (spell_body as_found f.locals f.regs f.blocks ++ x))))
+    ≡ separated as_found (spell_binding as_found) g.params ++ (Sign mark.Close ∷ (spell_gives as_found g.outcome ++ (Sign mark.OpenBrace ∷ (spell_body as_found g.locals g.regs g.blocks ++ y)))) = cc in
+    let p = bindings_unique mark.Close (λ h. cc) refl f.params g.params _ _ t in
     let o = gives_unique f.outcome g.outcome _ _ refl refl p.1 in
     let b : (spell_body as_found) f.locals f.regs f.blocks ++ x ≡ spell_body as_found g.locals g.regs g.blocks ++ y = cc (o.1) in
     let d = body_unique f.locals g.locals f.regs g.regs f.blocks g.blocks x y b in
@@ -487,7 +487,7 @@ globals_first : (p : Found → Bool) (gs : List PlainGlobal) (fs : List PlainFil
 globals_first p [] fs h i j k = files_first p fs h i
 globals_first p (g ∷ gs) fs h i j k = by_constant g.constant
   where
-    by_constant : (c : Bool) → first_is p (((spell_constant as_found c ++ spell_slot as_found (record { name = g.name; ty = g.ty }) ++ spell_init as_found g.init) ++ spell_globals as_found gs) ++ spell_files as_found fs) ≡ false
+    by_constant : (c : Bool) → first_is p (((spell_constant as_found c ++ spell_binding as_found (record { name = g.name; ty = g.ty }) ++ spell_init as_found g.init) ++ spell_globals as_found gs) ++ spell_files as_found fs) ≡ false
     by_constant true = j
     by_constant false = k
 

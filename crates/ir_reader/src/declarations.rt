@@ -13,14 +13,14 @@ ghost use Rattle.ir_grammar.specs.Spelling as grammar;
 ghost use Rattle.ir_reader.specs.Spelling as spelling;
 ghost use Rattle.ir_reader.specs.Spelling.{as_found};
 
+use crate::bindings::{binding, fields};
 use crate::error::ReadError;
 use crate::lexer::lex;
 use crate::limits::{counted, keep, number_excess};
-use crate::slots::{fields, slot};
 use crate::terminals::{behind_mark, behind_word, global_word, mark, name, number, syntax};
 use crate::token::Token;
 use base_lists::ListVec;
-use ir_model::firmware::{Cell, Global as GlobalDecl, Peripheral, Slot, StructDecl};
+use ir_model::firmware::{Binding, Cell, Global as GlobalDecl, Peripheral, StructDecl};
 use ir_model::text_limits::{CELL_LIMIT, GLOBAL_LIMIT, PERIPH_LIMIT, STRUCT_LIMIT};
 use ir_model::token::{Keyword, Mark, TextLimit};
 use std::alloc::Global;
@@ -177,7 +177,7 @@ fn global_behind(
     requires { before < global_limit }
     ensures { ReadsBehind (grammar.spell_constant as_found constant) (λ x. global_of x.0) (grammar.spell_global as_found) (Expected.global_rest before) (Expected.Globals (before + 1) ∷ []) (placed text.now) (λ x. placed x.1.now) result }
 {
-    let (Slot { name, ty }, rest) = slot(alloc, None, text)?;
+    let (Binding { name, ty }, rest) = binding(alloc, None, text)?;
     let (init, rest) = init(alloc, before + 1, rest)?;
     let init = ListVec::new(init);
     Ok((

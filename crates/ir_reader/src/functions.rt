@@ -2,7 +2,7 @@
 
 ghost use Rattle.std.specs.Prelude.{◌≡◌, ◌<◌, ◌≤◌, ◌+◌, [], ◌∷◌, ◌++◌, map, flat_map, length, OnOk, IfOk, None, ℕ};
 ghost use Rattle.ir_model.specs.Types.{result_of};
-ghost use Rattle.ir_model.specs.Plain.{slot_of, func_of, file_of};
+ghost use Rattle.ir_model.specs.Plain.{binding_of, func_of, file_of};
 ghost use Rattle.ir_model.specs.TextLimits.{function_limit, parameter_limit, block_limit, instruction_limit};
 ghost use Rattle.ir_model.specs.declared.token.Keyword.TheVariants as key;
 ghost use Rattle.ir_reader.specs.Machine as Expected;
@@ -13,16 +13,16 @@ ghost use Rattle.ir_grammar.specs.Spelling as grammar;
 ghost use Rattle.ir_reader.specs.Spelling as spelling;
 ghost use Rattle.ir_reader.specs.Spelling.{as_found};
 
+use crate::bindings::{binding, outcome, params};
 use crate::error::ReadError;
 use crate::instructions::{Step, line};
 use crate::lexer::lex;
 use crate::limits::{counted, keep};
-use crate::slots::{outcome, params, slot};
 use crate::terminals::{behind_mark, behind_word, mark, name, name_behind, syntax};
 use crate::token::Token;
 use base_lists::ListVec;
 use base_names::Name;
-use ir_model::firmware::{Block, FileDecl, Func, Inst, Slot, Term};
+use ir_model::firmware::{Binding, Block, FileDecl, Func, Inst, Term};
 use ir_model::text_limits::{BLOCK_LIMIT, FILE_LIMIT, FUNCTION_LIMIT, LOCAL_LIMIT, REGISTER_LIMIT};
 use ir_model::token::{Keyword, Mark, TextLimit};
 use ir_model::types::Ty;
@@ -96,14 +96,14 @@ fn blocks(alloc: Global, text: &[u8]) -> Result<(Vec<Block>, &[u8]), ReadError>
 
 /// The locals of a function, and the text behind them.
 #[tactic(auto, using(crate::proofs::Ends::locals_end, ir_model::proofs::NoExcess::counted_none))]
-fn locals(alloc: Global, params: usize, text: &[u8]) -> Result<(Vec<Slot>, &[u8]), ReadError>
-    ensures { Reads (λ x. map slot_of x.0.items) (grammar.spell_locals as_found) (Expected.Locals 0 params ∷ []) (Expected.Regs params ∷ []) (placed text.now) (λ x. placed x.1.now) result }
+fn locals(alloc: Global, params: usize, text: &[u8]) -> Result<(Vec<Binding>, &[u8]), ReadError>
+    ensures { Reads (λ x. map binding_of x.0.items) (grammar.spell_locals as_found) (Expected.Locals 0 params ∷ []) (Expected.Regs params ∷ []) (placed text.now) (λ x. placed x.1.now) result }
 {
     let mut locals = Vec::new(alloc);
     let mut rest = text;
     while let Some((left, behind)) = behind_word(Keyword::Local, rest) {
         keep(counted(locals.len(), LOCAL_LIMIT, TextLimit::Local), left)?;
-        let (next, behind) = slot(alloc, None, behind)?;
+        let (next, behind) = binding(alloc, None, behind)?;
         locals.push(next)?;
         rest = behind;
     }
@@ -112,9 +112,9 @@ fn locals(alloc: Global, params: usize, text: &[u8]) -> Result<(Vec<Slot>, &[u8]
 
 /// The registers of a function, and the text behind them.
 #[tactic(auto, using(crate::proofs::Ends::regs_end, ir_model::proofs::NoExcess::counted_none))]
-fn regs(alloc: Global, params: usize, text: &[u8]) -> Result<(Vec<Slot>, &[u8]), ReadError>
+fn regs(alloc: Global, params: usize, text: &[u8]) -> Result<(Vec<Binding>, &[u8]), ReadError>
     requires { params ≤ parameter_limit }
-    ensures { Reads (λ x. map slot_of x.0.items) (grammar.spell_regs as_found) (Expected.Regs params ∷ []) (Expected.First 0 0 ∷ []) (placed text.now) (λ x. placed x.1.now) result }
+    ensures { Reads (λ x. map binding_of x.0.items) (grammar.spell_regs as_found) (Expected.Regs params ∷ []) (Expected.First 0 0 ∷ []) (placed text.now) (λ x. placed x.1.now) result }
 {
     let mut regs = Vec::new(alloc);
     let mut rest = text;
@@ -123,7 +123,7 @@ fn regs(alloc: Global, params: usize, text: &[u8]) -> Result<(Vec<Slot>, &[u8]),
             counted(params + regs.len(), REGISTER_LIMIT, TextLimit::Register),
             left,
         )?;
-        let (next, behind) = slot(alloc, None, behind)?;
+        let (next, behind) = binding(alloc, None, behind)?;
         regs.push(next)?;
         rest = behind;
     }
@@ -133,8 +133,8 @@ fn regs(alloc: Global, params: usize, text: &[u8]) -> Result<(Vec<Slot>, &[u8]),
 /// What stands between the opening brace of a function and the text behind it.
 #[derive(Drop)]
 struct Body {
-    locals: Vec<Slot>,
-    regs: Vec<Slot>,
+    locals: Vec<Binding>,
+    regs: Vec<Binding>,
     blocks: Vec<Block>,
 }
 
@@ -142,14 +142,14 @@ struct Body {
 #[derive(Drop)]
 struct Head {
     name: Name,
-    params: Vec<Slot>,
+    params: Vec<Binding>,
     outcome: Option<Ty>,
 }
 
 /// A function behind the word `func`, up to its opening brace, and the text behind it.
 fn function_head(alloc: Global, text: &[u8]) -> Result<(Head, &[u8]), ReadError>
     ensures limit { IfOk result (λ x. length x.0.params.items ≤ parameter_limit) }
-    ensures read { ReadsTo (λ x. x.0) (λ h. grammar.spell_head as_found h.name (map slot_of h.params.items) (result_of h.outcome)) Expected.func_rest (λ x. Expected.Locals 0 (length x.0.params.items) ∷ []) (placed text.now) (λ x. placed x.1.now) result }
+    ensures read { ReadsTo (λ x. x.0) (λ h. grammar.spell_head as_found h.name (map binding_of h.params.items) (result_of h.outcome)) Expected.func_rest (λ x. Expected.Locals 0 (length x.0.params.items) ∷ []) (placed text.now) (λ x. placed x.1.now) result }
 {
     let (name, rest) = name(alloc, text)?;
     let rest = mark(Mark::Open, rest)?;
@@ -170,7 +170,7 @@ fn function_head(alloc: Global, text: &[u8]) -> Result<(Head, &[u8]), ReadError>
 fn function_body(alloc: Global, params: usize, text: &[u8]) -> Result<(Body, &[u8]), ReadError>
     requires { params ≤ parameter_limit }
     ensures some { IfOk result (λ x. 0 < length x.0.blocks.items) }
-    ensures read { Reads (λ x. x.0) (λ b. grammar.spell_body as_found (map slot_of b.locals.items) (map slot_of b.regs.items) b.blocks.items) (Expected.Locals 0 params ∷ []) [] (placed text.now) (λ x. placed x.1.now) result }
+    ensures read { Reads (λ x. x.0) (λ b. grammar.spell_body as_found (map binding_of b.locals.items) (map binding_of b.regs.items) b.blocks.items) (Expected.Locals 0 params ∷ []) [] (placed text.now) (λ x. placed x.1.now) result }
 {
     let (locals, rest) = locals(alloc, params, text)?;
     let (regs, rest) = regs(alloc, params, rest)?;

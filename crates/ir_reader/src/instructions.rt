@@ -11,10 +11,10 @@ ghost use Rattle.ir_grammar.specs.Spelling as grammar;
 ghost use Rattle.ir_reader.specs.Spelling as spelling;
 ghost use Rattle.ir_reader.specs.Spelling.{as_found};
 
+use crate::bindings::args;
 use crate::error::ReadError;
 use crate::lexer::lex;
 use crate::limits::{counted, keep, number_excess, or_else, word_excess};
-use crate::slots::args;
 use crate::terminals::{mark, name, syntax};
 use crate::token::Token;
 use base_lists::ListVec;

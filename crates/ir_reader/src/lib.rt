@@ -1,6 +1,7 @@
 //! Firmwares from their texts.
 #![tactic(auto)]
 
+mod bindings;
 mod declarations;
 mod error;
 mod fault;
@@ -12,7 +13,6 @@ mod limits;
 pub mod position;
 mod reader;
 mod reserved;
-mod slots;
 mod terminals;
 pub mod token;
 mod types;

@@ -5,8 +5,8 @@ use Rattle.std.proofs.lemmas.List.Elements.{All-nil, All-cons}
 use Rattle.ir_model.specs.declared.firmware.Func.{Func}
 use Rattle.ir_model.specs.declared.firmware.Global.{Global}
 use Rattle.ir_model.specs.declared.firmware.Peripheral.{Peripheral}
-use Rattle.ir_model.specs.declared.firmware.Slot.{Slot}
-use Rattle.ir_model.specs.Plain.{PlainSlot, PlainGlobal, PlainFunc, PlainFirmware, slot_of, global_of, func_of, funcs_of}
+use Rattle.ir_model.specs.declared.firmware.Binding.{Binding}
+use Rattle.ir_model.specs.Plain.{PlainBinding, PlainGlobal, PlainFunc, PlainFirmware, binding_of, global_of, func_of, funcs_of}
 use Rattle.ir_model.specs.Layout.{shape, empty}
 use Rattle.ir_model.specs.Canonical.{IsWithinLimits}
 use Rattle.base_laws.specs.Lists.{Each}
@@ -17,7 +17,7 @@ use Rattle.ir_model.proofs.Limits.{Limited, limited, few_globals, few_periphs, f
 use Rattle.ir_laws.specs.Limits.{HasSmallObjects}
 use Rattle.ir_resolve.specs.declared.tables.Scope as code
 use Rattle.ir_resolve.specs.Scopes as tables
-use Rattle.ir_resolve.specs.Scopes.{AreFew, IsSmall, AreSmallGlobals, AreSmallSlots, IsSmallFunc, AreSmallFuncs}
+use Rattle.ir_resolve.specs.Scopes.{AreFew, IsSmall, AreSmallGlobals, AreSmallBindings, IsSmallFunc, AreSmallFuncs}
 
 module _ (w : PlainFirmware) where
   abbrev scope : Scope
@@ -40,15 +40,15 @@ module _ (w : PlainFirmware) where
   globals_in [] h = All-nil (λ (x : Global). IsSmall scope.known x.ty)
   globals_in (g ∷ gs) h = All-cons (λ (x : Global). IsSmall scope.known x.ty) g gs (h 0) (globals_in gs (λ k. h (suc k)))
 
-  slots_in : (ss : List Slot) → ((l : ℕ) → (get_or (map (λ (s : PlainSlot). shape scope.known s.ty) (map slot_of ss)) l empty).size ≤ object_limit) → AreSmallSlots scope.known ss
-  slots_in [] h = All-nil (λ (x : Slot). IsSmall scope.known x.ty)
-  slots_in (s ∷ ss) h = All-cons (λ (x : Slot). IsSmall scope.known x.ty) s ss (h 0) (slots_in ss (λ k. h (suc k)))
+  bindings_in : (ss : List Binding) → ((l : ℕ) → (get_or (map (λ (s : PlainBinding). shape scope.known s.ty) (map binding_of ss)) l empty).size ≤ object_limit) → AreSmallBindings scope.known ss
+  bindings_in [] h = All-nil (λ (x : Binding). IsSmall scope.known x.ty)
+  bindings_in (s ∷ ss) h = All-cons (λ (x : Binding). IsSmall scope.known x.ty) s ss (h 0) (bindings_in ss (λ k. h (suc k)))
 
   func_in : (f : Func) → Limited (func_of f) → ((l : ℕ) → (get_or (resolved_func scope (func_of f)).locals l empty).size ≤ object_limit) → IsSmallFunc scope.known f
   func_in f b h =
-      let n = length-map f.locals slot_of in
-      let m = b.slots.locals in
-      record { few = omega arith; small = slots_in f.locals h }
+      let n = length-map f.locals binding_of in
+      let m = b.bindings.locals in
+      record { few = omega arith; small = bindings_in f.locals h }
 
   funcs_in : (fs : List (Bor Func)) → Each Limited (map (λ f. func_of f.now) fs)
       → ((f l : ℕ) → (get_or (get_or (map (resolved_func scope) (map (λ f. func_of f.now) fs)) f no_func).locals l empty).size ≤ object_limit)

@@ -5,7 +5,7 @@ use Rattle.std.specs.List.{All}
 use Rattle.std.specs.Borrow.{Bor}
 use Rattle.ir_model.specs.declared.firmware.Func.{Func}
 use Rattle.ir_model.specs.declared.firmware.Global.{Global}
-use Rattle.ir_model.specs.declared.firmware.Slot.{Slot}
+use Rattle.ir_model.specs.declared.firmware.Binding.{Binding}
 use Rattle.ir_model.specs.declared.types.Ty.{Ty}
 use Rattle.ir_model.specs.Types.{type_of}
 use Rattle.ir_model.specs.Plain.{PlainFunc, struct_of, func_of, names_of, types_of, regs_of}
@@ -46,13 +46,13 @@ IsSmall ks t = (shape ks (type_of t)).size ≤ object_limit
 abbrev pub AreSmallGlobals : List Known → List Global → Type 0
 AreSmallGlobals ks gs = All (λ (g : Global). IsSmall ks g.ty) gs
 
-abbrev pub AreSmallSlots : List Known → List Slot → Type 0
-AreSmallSlots ks ss = All (λ (s : Slot). IsSmall ks s.ty) ss
+abbrev pub AreSmallBindings : List Known → List Binding → Type 0
+AreSmallBindings ks ss = All (λ (s : Binding). IsSmall ks s.ty) ss
 
 -- a function with few locals, and small ones
 pub record IsSmallFunc (ks : List Known) (f : Func) : Type 0 where
   pub few : HasFewLocals f
-  pub small : AreSmallSlots ks f.locals
+  pub small : AreSmallBindings ks f.locals
 
 abbrev pub AreSmallFuncs : List Known → List (Bor Func) → Type 0
 AreSmallFuncs ks fs = All (λ (f : Bor Func). IsSmallFunc ks f.now) fs

@@ -3,12 +3,12 @@
 ghost use Rattle.std.specs.Prelude.{◌≡◌, ◌≤◌, ◌++◌, length, map, flat_map, replicate, IfOk, OnOk};
 ghost use Rattle.ir_model.specs.Types.{type_of};
 ghost use Rattle.ir_model.specs.Layout.{known, shape, Shape};
-ghost use Rattle.ir_model.specs.Plain.{PlainFunc, PlainFile, struct_of, slot_of, func_of, file_of, firmware_of, types_of, regs_of, funcs_of};
+ghost use Rattle.ir_model.specs.Plain.{PlainFunc, PlainFile, struct_of, binding_of, func_of, file_of, firmware_of, types_of, regs_of, funcs_of};
 ghost use Rattle.ir_model.specs.TextLimits.{file_limit};
 ghost use Rattle.ir_model.specs.Resolve as resolving;
 ghost use Rattle.ir_program.specs.Seen.{routine_of, local_counts, cell_counts};
 ghost use Rattle.ir_program.specs.Storages.{shape_of};
-ghost use Rattle.ir_resolve.specs.Scopes.{scope_of, AreFew, AreSmallSlots, IsSmallFunc, AreSmallFuncs};
+ghost use Rattle.ir_resolve.specs.Scopes.{scope_of, AreFew, AreSmallBindings, IsSmallFunc, AreSmallFuncs};
 ghost use Rattle.ir_program.specs.declared.program.Storage.{Storage};
 
 use crate::operations::sequences;
@@ -17,16 +17,16 @@ use crate::storage::storage;
 use crate::tables::Scope;
 use base_lists::ListVec;
 use ir_layouts::table::Layouts;
-use ir_model::firmware::{Firmware, Func, Slot};
+use ir_model::firmware::{Binding, Firmware, Func};
 use ir_model::types::Ty;
 use ir_program::program::{Routine, Storage};
 use std::alloc::{AllocError, Global};
 
-fn push_types<'a>(types: &mut Vec<&'a Ty>, slots: &'a [Slot]) -> Result<(), AllocError>
-    ensures { OnOk result (map (λ t. type_of t.now) types.new.items ≡ map (λ t. type_of t.now) types.old.items ++ types_of (map slot_of slots.now)) }
+fn push_types<'a>(types: &mut Vec<&'a Ty>, bindings: &'a [Binding]) -> Result<(), AllocError>
+    ensures { OnOk result (map (λ t. type_of t.now) types.new.items ≡ map (λ t. type_of t.now) types.old.items ++ types_of (map binding_of bindings.now)) }
 {
-    for i in 0..slots.len() {
-        types.push(&slots[i].ty)?;
+    for i in 0..bindings.len() {
+        types.push(&bindings[i].ty)?;
     }
     Ok(())
 }
@@ -44,15 +44,15 @@ pub(crate) fn register_types(alloc: Global, func: &Func) -> Result<ListVec<&Ty>,
 fn locals<'a>(
     alloc: Global,
     layouts: &Layouts<'a>,
-    slots: &'a [Slot],
+    bindings: &'a [Binding],
 ) -> Result<ListVec<Storage<'a>>, AllocError>
-    requires { AreSmallSlots (known (map struct_of layouts.now)) slots.now }
-    ensures shapes { IfOk result (λ ls. map (shape_of (known (map struct_of layouts.now))) ls ≡ map (λ l. shape (known (map struct_of layouts.now)) l.ty) (map slot_of slots.now)) }
-    ensures cells { IfOk result (λ ls. map (λ (s : Storage). s.cells) ls ≡ map (λ (s : Shape). length s.cells) (map (λ l. shape (known (map struct_of layouts.now)) l.ty) (map slot_of slots.now))) }
+    requires { AreSmallBindings (known (map struct_of layouts.now)) bindings.now }
+    ensures shapes { IfOk result (λ ls. map (shape_of (known (map struct_of layouts.now))) ls ≡ map (λ l. shape (known (map struct_of layouts.now)) l.ty) (map binding_of bindings.now)) }
+    ensures cells { IfOk result (λ ls. map (λ (s : Storage). s.cells) ls ≡ map (λ (s : Shape). length s.cells) (map (λ l. shape (known (map struct_of layouts.now)) l.ty) (map binding_of bindings.now))) }
 {
     let mut locals = Vec::new(alloc);
-    for slot in slots {
-        locals.push(storage(layouts, &slot.ty))?;
+    for binding in bindings {
+        locals.push(storage(layouts, &binding.ty))?;
     }
     Ok(ListVec::new(locals))
 }

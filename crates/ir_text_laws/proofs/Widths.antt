@@ -13,9 +13,9 @@ use Rattle.ir_model.specs.declared.token.Mark.TheVariants.{OpenBrace, CloseBrace
 use Rattle.ir_model.specs.declared.token.TextLimit.{TextLimit}
 use Rattle.ir_model.specs.declared.token.TextLimit.TheVariants as limit
 use Rattle.ir_model.specs.Types.{PlainType, U8, U16, U32, Pointer, Array, Named, Callee, PlainTypes, none, more, PlainResult, nothing, gives}
-use Rattle.ir_model.specs.Plain.{PlainSlot, PlainStruct, PlainGlobal, PlainFunc, PlainFile, PlainFirmware}
+use Rattle.ir_model.specs.Plain.{PlainBinding, PlainStruct, PlainGlobal, PlainFunc, PlainFile, PlainFirmware}
 use Rattle.ir_model.specs.Tokens.{Token, Number, Sign, Marked}
-use Rattle.ir_model.specs.Lines.{Line, counted, plain, name, type_tokens, row_tokens, more_tokens, result_tokens, slot_tokens, more_slots, slots_tokens, struct_line, struct_lines, periph_line, periph_lines, cell_tokens, more_cells, init_tokens, global_start, global_line, global_lines, arguments, more_arguments, inst_line, inst_lines, term_line, block_lines, local_lines, reg_lines, func_line, func_lines, funcs_lines, close_line, file_lines, lines_of}
+use Rattle.ir_model.specs.Lines.{Line, counted, plain, name, type_tokens, row_tokens, more_tokens, result_tokens, binding_tokens, more_bindings, bindings_tokens, struct_line, struct_lines, periph_line, periph_lines, cell_tokens, more_cells, init_tokens, global_start, global_line, global_lines, arguments, more_arguments, inst_line, inst_lines, term_line, block_lines, local_lines, reg_lines, func_line, func_lines, funcs_lines, close_line, file_lines, lines_of}
 use Rattle.base_laws.specs.Lists.{Each}
 use Rattle.ir_model.proofs.NoExcess.{number_fits, length_fits}
 use Rattle.base_laws.proofs.Lists.{each_both}
@@ -57,20 +57,20 @@ mutual
   result_kept d nothing = tt
   result_kept d (gives t) = (tt, type_kept None d t)
 
-slot_kept : (x : Option Excess) (s : PlainSlot) → AreKept (slot_tokens x s)
-slot_kept x s = (tt, (tt, type_kept None 0 s.ty))
+binding_kept : (x : Option Excess) (s : PlainBinding) → AreKept (binding_tokens x s)
+binding_kept x s = (tt, (tt, type_kept None 0 s.ty))
 
-more_slots_kept : (l : TextLimit) (k most : ℕ) (ss : List PlainSlot) → AreKept (more_slots l k most ss)
-more_slots_kept l k most [] = tt
-more_slots_kept l k most (s ∷ ss) =
-    (tt, join (slot_tokens (counted k most l None) s) (more_slots l (k + 1) most ss) (slot_kept (counted k most l None) s) (more_slots_kept l (k + 1) most ss))
+more_bindings_kept : (l : TextLimit) (k most : ℕ) (ss : List PlainBinding) → AreKept (more_bindings l k most ss)
+more_bindings_kept l k most [] = tt
+more_bindings_kept l k most (s ∷ ss) =
+    (tt, join (binding_tokens (counted k most l None) s) (more_bindings l (k + 1) most ss) (binding_kept (counted k most l None) s) (more_bindings_kept l (k + 1) most ss))
 
-slots_kept : (l : TextLimit) (most : ℕ) (ss : List PlainSlot) → AreKept (slots_tokens l most ss)
-slots_kept l most [] = tt
-slots_kept l most (s ∷ ss) = join (slot_tokens None s) (more_slots l 1 most ss) (slot_kept None s) (more_slots_kept l 1 most ss)
+bindings_kept : (l : TextLimit) (most : ℕ) (ss : List PlainBinding) → AreKept (bindings_tokens l most ss)
+bindings_kept l most [] = tt
+bindings_kept l most (s ∷ ss) = join (binding_tokens None s) (more_bindings l 1 most ss) (binding_kept None s) (more_bindings_kept l 1 most ss)
 
 struct_kept : (k : ℕ) (s : PlainStruct) → AreKept (struct_line k s)
-struct_kept k s = (tt, (tt, (tt, join (slots_tokens limit.Field 64 s.fields) (plain (Sign CloseBrace) ∷ []) (slots_kept limit.Field 64 s.fields) (tt, tt))))
+struct_kept k s = (tt, (tt, (tt, join (bindings_tokens limit.Field 64 s.fields) (plain (Sign CloseBrace) ∷ []) (bindings_kept limit.Field 64 s.fields) (tt, tt))))
 
 periph_kept : (k : ℕ) (p : Peripheral) → AreKept (periph_line k p)
 periph_kept k p = (tt, (tt, (number_fits p.base None, (number_fits p.size None, tt))))
@@ -142,11 +142,11 @@ blocks_kept k n (b ∷ bs) = (
       (blocks_kept (k + 1) (n + length b.insts) bs),
 )
 
-locals_kept : (k : ℕ) (ss : List PlainSlot) → Each AreKept (local_lines k ss)
+locals_kept : (k : ℕ) (ss : List PlainBinding) → Each AreKept (local_lines k ss)
 locals_kept k [] = tt
 locals_kept k (s ∷ ss) = ((tt, (tt, (tt, type_kept None 0 s.ty))), locals_kept (k + 1) ss)
 
-regs_kept : (k : ℕ) (ss : List PlainSlot) → Each AreKept (reg_lines k ss)
+regs_kept : (k : ℕ) (ss : List PlainBinding) → Each AreKept (reg_lines k ss)
 regs_kept k [] = tt
 regs_kept k (s ∷ ss) = ((tt, (tt, (tt, type_kept None 0 s.ty))), regs_kept (k + 1) ss)
 
@@ -157,8 +157,8 @@ head_kept k f = (
     tt,
     (
       tt,
-      join (slots_tokens limit.Param 4 f.params ++ (plain (Sign Close) ∷ result_tokens 0 f.outcome)) (plain (Sign OpenBrace) ∷ [])
-          (join (slots_tokens limit.Param 4 f.params) (plain (Sign Close) ∷ result_tokens 0 f.outcome) (slots_kept limit.Param 4 f.params) (tt, result_kept 0 f.outcome))
+      join (bindings_tokens limit.Param 4 f.params ++ (plain (Sign Close) ∷ result_tokens 0 f.outcome)) (plain (Sign OpenBrace) ∷ [])
+          (join (bindings_tokens limit.Param 4 f.params) (plain (Sign Close) ∷ result_tokens 0 f.outcome) (bindings_kept limit.Param 4 f.params) (tt, result_kept 0 f.outcome))
           (tt, tt),
     ),
   ),

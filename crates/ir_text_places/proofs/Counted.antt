@@ -16,15 +16,15 @@ use Rattle.ir_model.specs.declared.token.Excess.{Excess}
 use Rattle.ir_model.specs.declared.token.TextLimit.{TextLimit}
 use Rattle.ir_model.specs.declared.token.TextLimit.TheVariants as limit
 use Rattle.ir_model.specs.Types.{PlainType, U8, U16, U32, Pointer, Array, Named, Callee, PlainTypes, none, more, PlainResult, nothing, gives}
-use Rattle.ir_model.specs.Plain.{PlainSlot, PlainStruct, PlainGlobal, PlainFunc, PlainFile, PlainFirmware, funcs_of}
+use Rattle.ir_model.specs.Plain.{PlainBinding, PlainStruct, PlainGlobal, PlainFunc, PlainFile, PlainFirmware, funcs_of}
 use Rattle.ir_model.specs.Tokens.{Marked, Token, Key, Sign}
 use Rattle.ir_model.specs.TextLimits.{field_limit, parameter_limit, global_limit, function_limit, instruction_limit}
-use Rattle.ir_model.specs.Lines.{Line, marked, plain, name, counted, type_tokens, row_tokens, more_tokens, result_tokens, slot_tokens, more_slots, slots_tokens, struct_line, struct_lines, periph_lines, cell_tokens, more_cells, init_tokens, global_start, global_line, global_lines, arguments, more_arguments, kept, inst_line, inst_lines, term_line, label_line, block_lines, local_lines, reg_lines, func_line, close_line, func_lines, funcs_lines, file_lines}
+use Rattle.ir_model.specs.Lines.{Line, marked, plain, name, counted, type_tokens, row_tokens, more_tokens, result_tokens, binding_tokens, more_bindings, bindings_tokens, struct_line, struct_lines, periph_lines, cell_tokens, more_cells, init_tokens, global_start, global_line, global_lines, arguments, more_arguments, kept, inst_line, inst_lines, term_line, label_line, block_lines, local_lines, reg_lines, func_line, close_line, func_lines, funcs_lines, file_lines}
 use Rattle.ir_model.specs.Texts.{joined}
 use Rattle.ir_text_places.specs.declared.item.Item.{Item}
 use Rattle.ir_text_places.specs.declared.item.Item.TheVariants as item
 use Rattle.ir_text_places.specs.Items.{count, file_line, func_before, place_before, code_before, declaration_lines, tokens_before}
-use Rattle.ir_text_places.specs.Sizes.{closed, type_size, row_size, result_size, slot_size, slots_size, struct_size, cell_size, cells_size, init_size, start_size, global_size, kept_size, call_size, inst_size, insts_size, term_size, block_size, lines_size, head_size, front_size, func_size, funcs_size, file_size, func_start, place_start, code_start, declarations_size, size_before}
+use Rattle.ir_text_places.specs.Sizes.{closed, type_size, row_size, result_size, binding_size, bindings_size, struct_size, cell_size, cells_size, init_size, start_size, global_size, kept_size, call_size, inst_size, insts_size, term_size, block_size, lines_size, head_size, front_size, func_size, funcs_size, file_size, func_start, place_start, code_start, declarations_size, size_before}
 
 -- ---- types
 
@@ -64,39 +64,39 @@ mutual
   result_length d nothing = refl
   result_length d (gives t) = let h = type_length None d t in omega arith
 
--- ---- slots
+-- ---- bindings
 
-slot_length : (x : Option Excess) (s : PlainSlot) → length (slot_tokens x s) ≡ slot_size s
-slot_length x s = let h = type_length None 0 s.ty in omega arith
+binding_length : (x : Option Excess) (s : PlainBinding) → length (binding_tokens x s) ≡ binding_size s
+binding_length x s = let h = type_length None 0 s.ty in omega arith
 
-slots_more : (s : PlainSlot) (ss : List PlainSlot) → slots_size (s ∷ ss) ≡ suc (slot_size s + slots_size ss)
-slots_more s ss = let e = sum_by-cons (λ (s : PlainSlot). suc (slot_size s)) s ss in omega arith
+bindings_more : (s : PlainBinding) (ss : List PlainBinding) → bindings_size (s ∷ ss) ≡ suc (binding_size s + bindings_size ss)
+bindings_more s ss = let e = sum_by-cons (λ (s : PlainBinding). suc (binding_size s)) s ss in omega arith
 
-more_slots_length : (l : TextLimit) (k most : ℕ) (ss : List PlainSlot) → length (more_slots l k most ss) ≡ slots_size ss
-more_slots_length l k most [] = refl
-more_slots_length l k most (s ∷ ss) =
+more_bindings_length : (l : TextLimit) (k most : ℕ) (ss : List PlainBinding) → length (more_bindings l k most ss) ≡ bindings_size ss
+more_bindings_length l k most [] = refl
+more_bindings_length l k most (s ∷ ss) =
     let x : Option Excess = counted k most l None in
-    let e = length-append (slot_tokens x s) (more_slots l (k + 1) most ss) in
-    let h = slot_length x s in
-    let i = more_slots_length l (k + 1) most ss in
-    let j = slots_more s ss in
+    let e = length-append (binding_tokens x s) (more_bindings l (k + 1) most ss) in
+    let h = binding_length x s in
+    let i = more_bindings_length l (k + 1) most ss in
+    let j = bindings_more s ss in
     omega arith
 
--- slots and the mark behind them
-slots_closed : (l : TextLimit) (most : ℕ) (ss : List PlainSlot) (m : Marked) → length (slots_tokens l most ss ++ m ∷ []) ≡ closed (slots_size ss)
-slots_closed l most [] m = refl
-slots_closed l most (s ∷ ss) m =
-    let d = length-append (slots_tokens l most (s ∷ ss)) (m ∷ []) in
-    let e = length-append (slot_tokens None s) (more_slots l 1 most ss) in
-    let h = slot_length None s in
-    let i = more_slots_length l 1 most ss in
-    let c : closed (slots_size (s ∷ ss)) ≡ suc (slot_size s + slots_size ss) = ap closed (slots_more s ss) in
+-- bindings and the mark behind them
+bindings_closed : (l : TextLimit) (most : ℕ) (ss : List PlainBinding) (m : Marked) → length (bindings_tokens l most ss ++ m ∷ []) ≡ closed (bindings_size ss)
+bindings_closed l most [] m = refl
+bindings_closed l most (s ∷ ss) m =
+    let d = length-append (bindings_tokens l most (s ∷ ss)) (m ∷ []) in
+    let e = length-append (binding_tokens None s) (more_bindings l 1 most ss) in
+    let h = binding_length None s in
+    let i = more_bindings_length l 1 most ss in
+    let c : closed (bindings_size (s ∷ ss)) ≡ suc (binding_size s + bindings_size ss) = ap closed (bindings_more s ss) in
     omega arith
 
 -- ---- declarations
 
 struct_length : (k : ℕ) (s : PlainStruct) → length (struct_line k s) ≡ struct_size s
-struct_length k s = let h = slots_closed limit.Field field_limit s.fields (plain (Sign CloseBrace)) in omega arith
+struct_length k s = let h = bindings_closed limit.Field field_limit s.fields (plain (Sign CloseBrace)) in omega arith
 
 cell_length : (k : ℕ) (c : Cell) → length (cell_tokens k c) ≡ cell_size c
 cell_length k (cell.Word n) = refl
@@ -231,35 +231,35 @@ blocks_count k n (b ∷ bs) =
     let j = sum_by-cons block_size b bs in
     omega arith
 
-locals_count : (k : ℕ) (ss : List PlainSlot) → count (local_lines k ss) ≡ lines_size ss
+locals_count : (k : ℕ) (ss : List PlainBinding) → count (local_lines k ss) ≡ lines_size ss
 locals_count k [] = refl
 locals_count k (s ∷ ss) =
     let e = length-append (type_tokens None 0 s.ty) (joined (local_lines (k + 1) ss)) in
     let h = type_length None 0 s.ty in
     let i = locals_count (k + 1) ss in
-    let j = slots_more s ss in
+    let j = bindings_more s ss in
     omega arith
 
-regs_count : (k : ℕ) (ss : List PlainSlot) → count (reg_lines k ss) ≡ lines_size ss
+regs_count : (k : ℕ) (ss : List PlainBinding) → count (reg_lines k ss) ≡ lines_size ss
 regs_count k [] = refl
 regs_count k (s ∷ ss) =
     let e = length-append (type_tokens None 0 s.ty) (joined (reg_lines (k + 1) ss)) in
     let h = type_length None 0 s.ty in
     let i = regs_count (k + 1) ss in
-    let j = slots_more s ss in
+    let j = bindings_more s ss in
     omega arith
 
 -- ---- functions and files
 
 head_length : (k : ℕ) (f : PlainFunc) → length (func_line k f) ≡ head_size f
 head_length k f =
-    let slots : Line = slots_tokens limit.Param parameter_limit f.params in
-    let begin : Line = marked (Key key.Func) (counted k function_limit limit.Function None) ∷ name f.name ∷ plain (Sign Open) ∷ slots in
+    let bindings : Line = bindings_tokens limit.Param parameter_limit f.params in
+    let begin : Line = marked (Key key.Func) (counted k function_limit limit.Function None) ∷ name f.name ∷ plain (Sign Open) ∷ bindings in
     let outcome : Line = plain (Sign Close) ∷ result_tokens 0 f.outcome in
     let d = length-append (begin ++ outcome) (plain (Sign OpenBrace) ∷ []) in
     let e = length-append begin outcome in
-    let g = length-append slots (plain (Sign Close) ∷ []) in
-    let h = slots_closed limit.Param parameter_limit f.params (plain (Sign Close)) in
+    let g = length-append bindings (plain (Sign Close) ∷ []) in
+    let h = bindings_closed limit.Param parameter_limit f.params (plain (Sign Close)) in
     let i = result_length 0 f.outcome in
     omega arith
 

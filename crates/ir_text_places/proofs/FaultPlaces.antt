@@ -15,7 +15,7 @@ use Rattle.ir_model.specs.declared.firmware.Cell.{Cell}
 use Rattle.ir_model.specs.declared.firmware.Cell.TheVariants.{Word, Function, Address}
 use Rattle.ir_model.specs.declared.firmware.Peripheral.{Peripheral}
 use Rattle.ir_model.specs.Types.{PlainType, U8, U16, U32, Pointer, Array, Named, Callee, PlainTypes, none, more, PlainResult, nothing, gives, is_register_type}
-use Rattle.ir_model.specs.Plain.{PlainSlot, PlainStruct, PlainGlobal, PlainFunc, PlainFile, PlainFirmware, names_of}
+use Rattle.ir_model.specs.Plain.{PlainBinding, PlainStruct, PlainGlobal, PlainFunc, PlainFile, PlainFirmware, names_of}
 use Rattle.ir_model.specs.Layout.{CellPlace, known, shape}
 use Rattle.ir_model.specs.Frames.{frame_size}
 use Rattle.ir_model.specs.Rules.{inst_fits, term_fits}
@@ -68,12 +68,12 @@ module _ (Q : Place → Type 0) where
       results ds nothing = tt
       results ds (gives t) = types ds ds t
 
-    fields : (ds es seen : List (List ℕ)) (ss : List PlainSlot) → Each Keeps (field_checks ds es p seen ss)
+    fields : (ds es seen : List (List ℕ)) (ss : List PlainBinding) → Each Keeps (field_checks ds es p seen ss)
     fields ds es seen [] = tt
     fields ds es seen (s ∷ ss) =
         (one _ _ p q, each_both Keeps (type_checks ds es p s.ty) (field_checks ds es p (seen ++ s.name ∷ []) ss) (types ds es s.ty) (fields ds es (seen ++ s.name ∷ []) ss))
 
-    registers : (ds seen : List (List ℕ)) (ss : List PlainSlot) → Each Keeps (register_checks ds p seen ss)
+    registers : (ds seen : List (List ℕ)) (ss : List PlainBinding) → Each Keeps (register_checks ds p seen ss)
     registers ds seen [] = tt
     registers ds seen (s ∷ ss) =
         let first : Checks = is_new seen s.name p ∷ type_checks ds ds p s.ty in
@@ -86,7 +86,7 @@ module _ (Q : Place → Type 0) where
     outcomes ds nothing = tt
     outcomes ds (gives t) = each_both Keeps (type_checks ds ds p t) _ (types ds ds t) (one _ _ p q, tt)
 
-    locals : (w : PlainFirmware) (ds seen : List (List ℕ)) (ss : List PlainSlot) → Each Keeps (local_checks w ds p seen ss)
+    locals : (w : PlainFirmware) (ds seen : List (List ℕ)) (ss : List PlainBinding) → Each Keeps (local_checks w ds p seen ss)
     locals w ds seen [] = tt
     locals w ds seen (s ∷ ss) =
         let first : Checks = is_new seen s.name p ∷ type_checks ds ds p s.ty in
@@ -211,13 +211,13 @@ module _ (Q : Place → Type 0) where
       let p : Place = place.Func f.name in
       let ds : List (List ℕ) = map (λ (s : PlainStruct). s.name) w.structs in
       let n : ℕ = frame_size (known w.structs) f in
-      let slots : Checks =
+      let bindings : Checks =
       register_checks ds p [] f.params
       ++ outcome_checks ds p f.outcome
       ++ local_checks w ds p (names_of f.params) f.locals
       ++ register_checks ds p (names_of f.params ++ names_of f.locals) f.regs in
       let frame : Checks = check (nat_le n frame_limit) (FrameTooLarge n) p ∷ label_checks p [] f.blocks in
-      by_part w f e q h slots frame
+      by_part w f e q h bindings frame
       (each_both Keeps _ (register_checks ds p (names_of f.params ++ names_of f.locals) f.regs)
       (each_both Keeps _ (local_checks w ds p (names_of f.params) f.locals)
       (each_both Keeps (register_checks ds p [] f.params) (outcome_checks ds p f.outcome) (registers p q ds [] f.params) (outcomes p q ds f.outcome))
@@ -232,10 +232,10 @@ module _ (Q : Place → Type 0) where
       labels_pass false k p cs i = cc
 
       by_part : (w : PlainFirmware) (f : PlainFunc) (e : Failing) → Q (place.Func f.name) → (first_failing (label_checks (place.Func f.name) [] f.blocks) ≡ None → Each (HasPlaces f) f.blocks)
-          → (slots frame : Checks) → Each Keeps slots → Each Keeps frame → (first_failing frame ≡ None → first_failing (label_checks (place.Func f.name) [] f.blocks) ≡ None)
-          → first_failing (slots ++ frame ++ blocks_checks w f f.blocks) ≡ Some e → Q e.place
-      by_part w f e q h slots frame s r l x =
-          elim (either (slots ++ frame) (blocks_checks w f f.blocks) e x) [
-            | inl a ↦ keeps_first (slots ++ frame) e (each_both Keeps slots frame s r) a
-            | inr b ↦ keeps_first (blocks_checks w f f.blocks) e (blocks_keep w f f.blocks (h (l (passes_right slots frame b.0)))) b.1
+          → (bindings frame : Checks) → Each Keeps bindings → Each Keeps frame → (first_failing frame ≡ None → first_failing (label_checks (place.Func f.name) [] f.blocks) ≡ None)
+          → first_failing (bindings ++ frame ++ blocks_checks w f f.blocks) ≡ Some e → Q e.place
+      by_part w f e q h bindings frame s r l x =
+          elim (either (bindings ++ frame) (blocks_checks w f f.blocks) e x) [
+            | inl a ↦ keeps_first (bindings ++ frame) e (each_both Keeps bindings frame s r) a
+            | inr b ↦ keeps_first (blocks_checks w f f.blocks) e (blocks_keep w f f.blocks (h (l (passes_right bindings frame b.0)))) b.1
           ]

@@ -4,7 +4,7 @@ use Rattle.std.specs.List.{sum_by}
 use Rattle.std.proofs.lemmas.List.{take-map}
 use Rattle.ir_model.specs.declared.firmware.Func.{Func}
 use Rattle.ir_model.specs.declared.firmware.StructDecl.{StructDecl}
-use Rattle.ir_model.specs.Plain.{func_of, struct_of, names_of, slot_of}
+use Rattle.ir_model.specs.Plain.{func_of, struct_of, names_of, binding_of}
 use Rattle.ir_model.specs.Resolve.{labels_of}
 use Rattle.ir_text_places.specs.Faulty.{first_fields, first_labels}
 use Rattle.ir_text_places.specs.Sizes.{block_size, front_size, place_start, code_start, lent_funcs}
@@ -25,5 +25,5 @@ code_of fs k b i f l e = ap (code_start b i) (drop_at (λ (f : Bor Func). func_o
 pub labels_at : (fs : List (Bor Func)) (k : ℕ) (f : Bor Func) → k < length fs → f ≡ get_or fs k f → first_labels (drop k (lent_funcs fs)) ≡ labels_of (func_of (get_or fs k f).now)
 labels_at fs k f l e = ap first_labels (drop_at (λ (f : Bor Func). func_of f.now) fs k f l e) ∙ ap (λ (g : Bor Func). labels_of (func_of g.now)) e
 
-pub fields_at : (ss : List StructDecl) (k : ℕ) (s : StructDecl) → k < length ss → s ≡ get_or ss k s → first_fields (drop k (map struct_of ss)) ≡ names_of (map slot_of (get_or ss k s).fields)
-fields_at ss k s l e = ap first_fields (drop_at struct_of ss k s l e) ∙ ap (λ (d : StructDecl). names_of (map slot_of d.fields)) e
+pub fields_at : (ss : List StructDecl) (k : ℕ) (s : StructDecl) → k < length ss → s ≡ get_or ss k s → first_fields (drop k (map struct_of ss)) ≡ names_of (map binding_of (get_or ss k s).fields)
+fields_at ss k s l e = ap first_fields (drop_at struct_of ss k s l e) ∙ ap (λ (d : StructDecl). names_of (map binding_of d.fields)) e

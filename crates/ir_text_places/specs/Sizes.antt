@@ -11,7 +11,7 @@ use Rattle.ir_model.specs.declared.firmware.Func.{Func}
 use Rattle.ir_model.specs.declared.firmware.Cell.{Cell}
 use Rattle.ir_model.specs.declared.firmware.Cell.TheVariants.{Word, Function, Address}
 use Rattle.ir_model.specs.Types.{PlainType, U8, U16, U32, Pointer, Array, Named, Callee, PlainTypes, none, more, PlainResult, nothing, gives}
-use Rattle.ir_model.specs.Plain.{PlainSlot, PlainStruct, PlainGlobal, PlainFunc, PlainFile, PlainFirmware, func_of, funcs_of}
+use Rattle.ir_model.specs.Plain.{PlainBinding, PlainStruct, PlainGlobal, PlainFunc, PlainFile, PlainFirmware, func_of, funcs_of}
 use Rattle.ir_text_places.specs.declared.item.Item.{Item}
 use Rattle.ir_text_places.specs.declared.item.Item.TheVariants as item
 
@@ -39,14 +39,14 @@ abbrev mutual
   result_size nothing = 0
   result_size (gives t) = 1 + type_size t
 
-abbrev pub slot_size : PlainSlot → ℕ
-slot_size s = 2 + type_size s.ty
+abbrev pub binding_size : PlainBinding → ℕ
+binding_size s = 2 + type_size s.ty
 
-abbrev pub slots_size : List PlainSlot → ℕ
-slots_size ss = sum_by (λ (s : PlainSlot). suc (slot_size s)) ss
+abbrev pub bindings_size : List PlainBinding → ℕ
+bindings_size ss = sum_by (λ (s : PlainBinding). suc (binding_size s)) ss
 
 abbrev pub struct_size : PlainStruct → ℕ
-struct_size s = 3 + closed (slots_size s.fields)
+struct_size s = 3 + closed (bindings_size s.fields)
 
 abbrev pub cell_size : Cell → ℕ
 cell_size (Word n) = 1
@@ -101,11 +101,11 @@ abbrev pub block_size : Block → ℕ
 block_size b = 2 + (insts_size b.insts + term_size b.term)
 
 -- a local or a register, with the word before it and one more
-abbrev pub lines_size : List PlainSlot → ℕ
-lines_size ss = slots_size ss
+abbrev pub lines_size : List PlainBinding → ℕ
+lines_size ss = bindings_size ss
 
 abbrev pub head_size : PlainFunc → ℕ
-head_size f = 4 + (closed (slots_size f.params) + result_size f.outcome)
+head_size f = 4 + (closed (bindings_size f.params) + result_size f.outcome)
 
 -- a function before its blocks
 abbrev pub front_size : PlainFunc → ℕ

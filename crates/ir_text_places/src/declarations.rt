@@ -1,11 +1,11 @@
 //! How many tokens structs, peripherals and globals have.
 
 ghost use Rattle.std.specs.Prelude.{◌≡◌, ◌*◌, map, length, take, IfOk, sum_by};
-ghost use Rattle.ir_model.specs.Plain.{slot_of, struct_of, global_of, firmware_of};
+ghost use Rattle.ir_model.specs.Plain.{binding_of, struct_of, global_of, firmware_of};
 ghost use Rattle.ir_text_places.specs.Sizes as sizes;
 
 use crate::types::{add, closed, type_size};
-use ir_model::firmware::{Cell, Firmware, Global as GlobalDecl, Peripheral, Slot, StructDecl};
+use ir_model::firmware::{Binding, Cell, Firmware, Global as GlobalDecl, Peripheral, StructDecl};
 use std::alloc::AllocError;
 
 /// The first items of a slice, or all where there are not so many.
@@ -22,12 +22,12 @@ pub fn front<T>(items: &[T], count: usize) -> &[T]
 
 /// The tokens of names with their types, each with the token behind it.
 #[tactic(auto, using(std::proofs::lemmas::List::Sums::sum_by_more))]
-pub fn slots_size(slots: &[Slot]) -> Result<u64, AllocError>
-    ensures { IfOk result (λ n. n ≡ sizes.slots_size (map slot_of slots.now)) }
+pub fn bindings_size(bindings: &[Binding]) -> Result<u64, AllocError>
+    ensures { IfOk result (λ n. n ≡ sizes.bindings_size (map binding_of bindings.now)) }
 {
     let mut size = 0;
-    for slot in slots {
-        let more = add(3, type_size(&slot.ty)?)?;
+    for binding in bindings {
+        let more = add(3, type_size(&binding.ty)?)?;
         size = add(size, more)?;
     }
     Ok(size)
@@ -36,7 +36,7 @@ pub fn slots_size(slots: &[Slot]) -> Result<u64, AllocError>
 fn struct_size(decl: &StructDecl) -> Result<u64, AllocError>
     ensures { IfOk result (λ n. n ≡ sizes.struct_size (struct_of decl.now)) }
 {
-    let fields = slots_size(decl.fields.as_slice())?;
+    let fields = bindings_size(decl.fields.as_slice())?;
     add(3, closed(fields))
 }
 

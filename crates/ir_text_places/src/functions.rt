@@ -1,10 +1,10 @@
 //! How many tokens functions and files have.
 
 ghost use Rattle.std.specs.Prelude.{◌≡◌, ◌*◌, map, length, IfOk, sum_by};
-ghost use Rattle.ir_model.specs.Plain.{slot_of, func_of, file_of};
+ghost use Rattle.ir_model.specs.Plain.{binding_of, func_of, file_of};
 ghost use Rattle.ir_text_places.specs.Sizes as sizes;
 
-use crate::declarations::slots_size;
+use crate::declarations::bindings_size;
 use crate::types::{add, closed, result_size};
 use base_names::Name;
 use ir_model::firmware::{Block, FileDecl, Func, Inst, Term};
@@ -102,7 +102,7 @@ pub fn blocks_size(blocks: &[Block]) -> Result<u64, AllocError>
 fn head_size(func: &Func) -> Result<u64, AllocError>
     ensures { IfOk result (λ n. n ≡ sizes.head_size (func_of func.now)) }
 {
-    let params = slots_size(func.params.as_slice())?;
+    let params = bindings_size(func.params.as_slice())?;
     let outcome = result_size(&func.result)?;
     let behind = add(closed(params), outcome)?;
     add(4, behind)
@@ -113,10 +113,10 @@ pub fn front_size(func: &Func) -> Result<u64, AllocError>
     ensures { IfOk result (λ n. n ≡ sizes.front_size (func_of func.now)) }
 {
     let head = head_size(func)?;
-    let locals = slots_size(func.locals.as_slice())?;
-    let regs = slots_size(func.regs.as_slice())?;
-    let slots = add(locals, regs)?;
-    add(head, slots)
+    let locals = bindings_size(func.locals.as_slice())?;
+    let regs = bindings_size(func.regs.as_slice())?;
+    let bindings = add(locals, regs)?;
+    add(head, bindings)
 }
 
 fn func_size(func: &Func) -> Result<u64, AllocError>

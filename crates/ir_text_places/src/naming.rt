@@ -10,8 +10,8 @@ ghost use Rattle.ir_text_places.specs.Sizes.{lent_funcs};
 
 use crate::item::Item;
 use crate::rows::{
-    again, number, number_alone, number_in, put_files, put_funcs, put_globals, put_labels,
-    put_periphs, put_slots, put_structs,
+    again, number, number_alone, number_in, put_bindings, put_files, put_funcs, put_globals,
+    put_labels, put_periphs, put_structs,
 };
 use base_names::Name;
 use ir_model::check::{CheckKind, Place};
@@ -72,7 +72,7 @@ fn has_two_fields(
         return Ok(false);
     }
     let mut row = Vec::new(alloc);
-    put_slots(&mut row, structs[number].fields.as_slice())?;
+    put_bindings(&mut row, structs[number].fields.as_slice())?;
     Ok(again(row.as_slice(), name).is_some())
 }
 

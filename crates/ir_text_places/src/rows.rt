@@ -3,7 +3,7 @@
 ghost use Rattle.std.specs.Prelude.{◌≡◌, ◌≤◌, ◌++◌, [], map, length, true, false, OnOk, MatchOption, bytes_eq};
 ghost use Rattle.std.specs.List.{position};
 ghost use Rattle.base_names.specs.Numbers.{has, number_of};
-ghost use Rattle.ir_model.specs.Plain.{PlainStruct, PlainGlobal, PlainFile, PlainFunc, slot_of, struct_of, global_of, file_of, names_of};
+ghost use Rattle.ir_model.specs.Plain.{PlainStruct, PlainGlobal, PlainFile, PlainFunc, binding_of, struct_of, global_of, file_of, names_of};
 ghost use Rattle.ir_text_places.specs.Faulty as faulty;
 ghost use Rattle.ir_text_places.specs.Faulty.{has_twice, second_of};
 ghost use Rattle.ir_text_places.specs.Rows.{names_in};
@@ -11,7 +11,7 @@ ghost use Rattle.ir_text_places.specs.Sizes.{lent_funcs};
 
 use base_names::Name;
 use ir_model::firmware::{
-    Block, FileDecl, Func, Global as GlobalDecl, Peripheral, Slot, StructDecl,
+    Binding, Block, FileDecl, Func, Global as GlobalDecl, Peripheral, StructDecl,
 };
 use std::alloc::AllocError;
 
@@ -65,12 +65,12 @@ pub fn put_funcs<'a>(row: &mut Vec<&'a Name>, bodies: &[&'a Func]) -> Result<(),
     Ok(())
 }
 
-/// Puts the names of slots behind others.
-pub fn put_slots<'a>(row: &mut Vec<&'a Name>, slots: &'a [Slot]) -> Result<(), AllocError>
-    ensures { OnOk result (names_in row.new.items ≡ names_in row.old.items ++ names_of (map slot_of slots.now)) }
+/// Puts the names of bindings behind others.
+pub fn put_bindings<'a>(row: &mut Vec<&'a Name>, bindings: &'a [Binding]) -> Result<(), AllocError>
+    ensures { OnOk result (names_in row.new.items ≡ names_in row.old.items ++ names_of (map binding_of bindings.now)) }
 {
-    for slot in slots {
-        row.push(&slot.name)?;
+    for binding in bindings {
+        row.push(&binding.name)?;
     }
     Ok(())
 }

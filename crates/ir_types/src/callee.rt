@@ -2,15 +2,15 @@
 
 ghost use Rattle.std.specs.Prelude.{◌≡◌, ◌↔◌, map, IsTrue};
 ghost use Rattle.ir_model.specs.Types.{type_of, same, same_row, same_result, Callee, result_of, boxed_result_of, types_from};
-ghost use Rattle.ir_model.specs.Plain.{func_of, slot_of};
+ghost use Rattle.ir_model.specs.Plain.{func_of, binding_of};
 ghost use Rattle.ir_model.specs.Resolve.{row_from};
 
 use crate::equal::same_type;
-use ir_model::firmware::{Func, Slot};
+use ir_model::firmware::{Binding, Func};
 use ir_model::types::Ty;
 
-fn is_row(params: &[Slot], types: &[Ty]) -> bool
-    ensures { result ≡ same_row (row_from (map slot_of params.now)) (types_from (map type_of types.now)) }
+fn is_row(params: &[Binding], types: &[Ty]) -> bool
+    ensures { result ≡ same_row (row_from (map binding_of params.now)) (types_from (map type_of types.now)) }
 {
     match params {
         [] => match types {

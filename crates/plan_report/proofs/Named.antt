@@ -5,10 +5,10 @@ use Rattle.std.proofs.lemmas.Option.{get_or_from_slice_get, slice_get_within, sl
 use Rattle.std.proofs.Math.Nat.{div-eq_of_lt, pow-le-pow_right}
 use Rattle.std.proofs.Math.ListN.{get_or-eq_default}
 use Rattle.std.proofs.lemmas.List.{length-map, get_or-map, get_or_append_left, get_or-append_right, map-append}
-use Rattle.ir_model.specs.Plain.{PlainFile, PlainFunc, PlainSlot, PlainGlobal, func_of, file_of, slot_of, global_of}
+use Rattle.ir_model.specs.Plain.{PlainFile, PlainFunc, PlainBinding, PlainGlobal, func_of, file_of, binding_of, global_of}
 use Rattle.ir_model.specs.declared.firmware.Block.{Block}
 use Rattle.ir_model.specs.declared.firmware.Func.{Func}
-use Rattle.ir_model.specs.declared.firmware.Slot.{Slot}
+use Rattle.ir_model.specs.declared.firmware.Binding.{Binding}
 use Rattle.ir_model.specs.declared.firmware.Global.{Global}
 use Rattle.ir_model.specs.declared.firmware.FileDecl.{FileDecl}
 use Rattle.std.proofs.lemmas.List.FromFn.{length-range_with_len, get_or-range_with_len}
@@ -46,25 +46,25 @@ file_found xs i x l e = sym (made_at (λ (d : PlainFile). d.name) file_of xs i x
 pub file_missing : (xs : List FileDecl) (i : ℕ) → length xs ≤ i → [] ≡ get_or (map (λ (d : PlainFile). d.name) (map file_of xs)) i []
 file_missing xs i l = sym (missing (λ (d : PlainFile). d.name) file_of xs i [] l)
 
-pub slot_found : (xs : List Slot) (i : ℕ) (x : Slot) → i < length xs → x ≡ get_or xs i x → x.name ≡ get_or (map (λ (s : PlainSlot). s.name) (map slot_of xs)) i []
-slot_found xs i x l e = sym (made_at (λ (s : PlainSlot). s.name) slot_of xs i x [] l e)
+pub binding_found : (xs : List Binding) (i : ℕ) (x : Binding) → i < length xs → x ≡ get_or xs i x → x.name ≡ get_or (map (λ (s : PlainBinding). s.name) (map binding_of xs)) i []
+binding_found xs i x l e = sym (made_at (λ (s : PlainBinding). s.name) binding_of xs i x [] l e)
 
-pub slot_missing : (xs : List Slot) (i : ℕ) → length xs ≤ i → [] ≡ get_or (map (λ (s : PlainSlot). s.name) (map slot_of xs)) i []
-slot_missing xs i l = sym (missing (λ (s : PlainSlot). s.name) slot_of xs i [] l)
+pub binding_missing : (xs : List Binding) (i : ℕ) → length xs ≤ i → [] ≡ get_or (map (λ (s : PlainBinding). s.name) (map binding_of xs)) i []
+binding_missing xs i l = sym (missing (λ (s : PlainBinding). s.name) binding_of xs i [] l)
 
 -- the registers of a function, its parameters first
-abbrev slot_names : List Slot → List (List ℕ)
-slot_names ss = map (λ (s : PlainSlot). s.name) (map slot_of ss)
+abbrev binding_names : List Binding → List (List ℕ)
+binding_names ss = map (λ (s : PlainBinding). s.name) (map binding_of ss)
 
-pub is_param : (ps rs : List Slot) (i : ℕ) (n : List ℕ) → i < length ps → n ≡ get_or (slot_names ps) i [] → n ≡ get_or (map (λ (s : PlainSlot). s.name) (map slot_of ps ++ map slot_of rs)) i []
+pub is_param : (ps rs : List Binding) (i : ℕ) (n : List ℕ) → i < length ps → n ≡ get_or (binding_names ps) i [] → n ≡ get_or (map (λ (s : PlainBinding). s.name) (map binding_of ps ++ map binding_of rs)) i []
 is_param ps rs i n l e =
-    let inside : i < length (slot_names ps) = omega (arith, l, length-map ps slot_of, length-map (map slot_of ps) (λ (s : PlainSlot). s.name)) in
-    e ∙ sym (ap (λ ns. get_or ns i []) (map-append (λ (s : PlainSlot). s.name) (map slot_of ps) (map slot_of rs)) ∙ get_or_append_left (slot_names ps) (slot_names rs) [] i inside)
+    let inside : i < length (binding_names ps) = omega (arith, l, length-map ps binding_of, length-map (map binding_of ps) (λ (s : PlainBinding). s.name)) in
+    e ∙ sym (ap (λ ns. get_or ns i []) (map-append (λ (s : PlainBinding). s.name) (map binding_of ps) (map binding_of rs)) ∙ get_or_append_left (binding_names ps) (binding_names rs) [] i inside)
 
-pub is_register : (ps rs : List Slot) (i : ℕ) (n : List ℕ) → length ps ≤ i → n ≡ get_or (slot_names rs) (i - length ps) [] → n ≡ get_or (map (λ (s : PlainSlot). s.name) (map slot_of ps ++ map slot_of rs)) i []
+pub is_register : (ps rs : List Binding) (i : ℕ) (n : List ℕ) → length ps ≤ i → n ≡ get_or (binding_names rs) (i - length ps) [] → n ≡ get_or (map (λ (s : PlainBinding). s.name) (map binding_of ps ++ map binding_of rs)) i []
 is_register ps rs i n l e =
-    let size : length (slot_names ps) ≡ length ps = length-map (map slot_of ps) (λ (s : PlainSlot). s.name) ∙ length-map ps slot_of in
-    e ∙ sym (ap (λ ns. get_or ns i []) (map-append (λ (s : PlainSlot). s.name) (map slot_of ps) (map slot_of rs)) ∙ get_or-append_right (slot_names ps) (slot_names rs) (length ps) i [] size l)
+    let size : length (binding_names ps) ≡ length ps = length-map (map binding_of ps) (λ (s : PlainBinding). s.name) ∙ length-map ps binding_of in
+    e ∙ sym (ap (λ ns. get_or ns i []) (map-append (λ (s : PlainBinding). s.name) (map binding_of ps) (map binding_of rs)) ∙ get_or-append_right (binding_names ps) (binding_names rs) (length ps) i [] size l)
 
 pub label_found : (xs : List Block) (i : ℕ) (x : Block) → i < length xs → x ≡ get_or xs i x → x.label ≡ get_or (map (λ (b : Block). b.label) xs) i []
 label_found xs i x l e = sym (named (λ (b : Block). b.label) xs i x [] (slice_get-get_or xs i x l ∙ ap Some (sym e)))

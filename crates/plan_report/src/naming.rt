@@ -1,11 +1,11 @@
 //! The names of things by their numbers.
 
 ghost use Rattle.std.specs.Prelude.{◌≡◌, ◌++◌, codes, map, get_or, [], OnOk};
-ghost use Rattle.ir_model.specs.Plain.{file_of, firmware_of, func_of, names_of, slot_of};
+ghost use Rattle.ir_model.specs.Plain.{file_of, firmware_of, func_of, names_of, binding_of};
 ghost use Rattle.plan_report.specs.Names as names;
 
 use crate::text::Text;
-use ir_model::firmware::{FileDecl, Firmware, Func, Slot};
+use ir_model::firmware::{FileDecl, Firmware, Func, Binding};
 use std::alloc::AllocError;
 
 /// The function of a number, counted over these files in order.
@@ -39,13 +39,13 @@ pub fn put_func(text: &mut Text, firmware: &Firmware, func: u32) -> Result<(), A
     }
 }
 
-/// The name of the slot of a number; of one that is not there, no byte.
-#[tactic(auto, using(crate::proofs::Named::slot_found, crate::proofs::Named::slot_missing))]
-fn slot_name(slots: &[Slot], number: usize) -> &[u8]
-    ensures { result.now ≡ get_or (names_of (map slot_of slots.now)) number [] }
+/// The name of the binding of a number; of one that is not there, no byte.
+#[tactic(auto, using(crate::proofs::Named::binding_found, crate::proofs::Named::binding_missing))]
+fn binding_name(bindings: &[Binding], number: usize) -> &[u8]
+    ensures { result.now ≡ get_or (names_of (map binding_of bindings.now)) number [] }
 {
-    if number < slots.len() {
-        slots[number].name.as_slice()
+    if number < bindings.len() {
+        bindings[number].name.as_slice()
     } else {
         b""
     }
@@ -55,7 +55,7 @@ fn slot_name(slots: &[Slot], number: usize) -> &[u8]
 fn local_name(func: &Func, local: u32) -> &[u8]
     ensures { result.now ≡ get_or (names.names_in (func_of func.now)).locals local [] }
 {
-    slot_name(func.locals.as_slice(), local as usize)
+    binding_name(func.locals.as_slice(), local as usize)
 }
 
 /// The name of a function's register, its parameters first; of one that is not there, no byte.
@@ -65,9 +65,9 @@ fn register_name(func: &Func, register: usize) -> &[u8]
 {
     let params = func.params.as_slice();
     if register < params.len() {
-        slot_name(params, register)
+        binding_name(params, register)
     } else {
-        slot_name(func.regs.as_slice(), register - params.len())
+        binding_name(func.regs.as_slice(), register - params.len())
     }
 }
 

@@ -5,7 +5,7 @@ use Rattle.std.proofs.lemmas.List.{length-map}
 use Rattle.std.proofs.lemmas.List.Elements.{All-map}
 use Rattle.std.proofs.lemmas.List.FromFn.{get_or-map-range_with_len}
 use Rattle.std.specs.Prelude.{IfSome}
-use Rattle.ir_model.specs.Plain.{PlainFirmware, PlainSlot, PlainGlobal, PlainFunc, funcs_of}
+use Rattle.ir_model.specs.Plain.{PlainFirmware, PlainBinding, PlainGlobal, PlainFunc, funcs_of}
 use Rattle.ir_model.specs.Layout.{Shape, empty, rounded_up, known, shape}
 use Rattle.ir_model.specs.Resolved.{Program, NumberedFunc, NumberedGlobal, NumberedWindow, func_at, global_at, local_at, cells_of_global, cells_of_local, no_func, no_global}
 use Rattle.ir_model.specs.Resolve.{resolve, scope_of, resolved_func, resolved_global}
@@ -40,7 +40,7 @@ module _ (cells : CellsOfTypes) (w : PlainFirmware) where
       by (g ∷ gs) zero = cells w.structs g.ty
       by (g ∷ gs) (suc x) = by gs x
 
-  laid_slots : (ls : List PlainSlot) (l : ℕ) → IsLaidOut 0 (get_or (map (λ (s : PlainSlot). shape (known w.structs) s.ty) ls) l empty).size (get_or (map (λ (s : PlainSlot). shape (known w.structs) s.ty) ls) l empty).cells
+  laid_slots : (ls : List PlainBinding) (l : ℕ) → IsLaidOut 0 (get_or (map (λ (s : PlainBinding). shape (known w.structs) s.ty) ls) l empty).size (get_or (map (λ (s : PlainBinding). shape (known w.structs) s.ty) ls) l empty).cells
   laid_slots [] l = omega arith
   laid_slots (s ∷ ls) zero = cells w.structs s.ty
   laid_slots (s ∷ ls) (suc l) = laid_slots ls l

@@ -1,6 +1,6 @@
 use Rattle.std.proofs.Common.{◌≡◌, ◌∙◌, ap, sym, subst, map, ◌+◌, get_or, arith, length, false, ◌<◌, ◌-◌, ◌≤◌}
 use Rattle.ir_model.specs.Types.{type_of, U32}
-use Rattle.ir_model.specs.Plain.{func_of, slot_of, names_of, types_of, regs_of}
+use Rattle.ir_model.specs.Plain.{func_of, binding_of, names_of, types_of, regs_of}
 use Rattle.base_names.specs.Numbers.{has, number_of}
 use Rattle.ir_check_scopes.proofs.NamedTypes.{counted, absent, param_at, reg_at}
 use Rattle.ir_check_scopes.proofs.lookup.register_type.Goals as goal
@@ -17,7 +17,7 @@ returns-then-place-params c =
     sym (c.in-Some.ensures.1.0 ∙ ap (λ ns. number_of ns c.args.name.now) c.args.scope.now.all_registers) in
     let l : c.in-Some.place < length c.args.scope.now.func.now.params = subst (λ xs. c.in-Some.place < length xs) c.as_slice-params.ensures c.if-place-params.true in
     sym (ap (λ j. get_or (types_of (regs_of (func_of c.args.scope.now.func.now))) j U32) k
-    ∙ (param_at c.args.scope.now.func.now.params (map slot_of c.args.scope.now.func.now.regs) c.in-Some.place c.index-params-place.result l
+    ∙ (param_at c.args.scope.now.func.now.params (map binding_of c.args.scope.now.func.now.regs) c.in-Some.place c.index-params-place.result l
     ∙ ap (λ xs. type_of (get_or xs c.in-Some.place c.index-params-place.result).ty) (sym c.as_slice-params.ensures)))
 
 pub returns : goal.returns

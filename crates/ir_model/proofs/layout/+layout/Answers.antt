@@ -1,6 +1,6 @@
 use Rattle.std.proofs.Common.{ap, sym, map, take}
 use Rattle.ir_model.specs.Types.{type_of}
-use Rattle.ir_model.specs.Plain.{slot_of, struct_of}
+use Rattle.ir_model.specs.Plain.{binding_of, struct_of}
 use Rattle.ir_model.specs.Extents as extents
 use Rattle.ir_model.specs.Extents.{sized}
 use Rattle.ir_model.proofs.Layouts.{field_without, field_passes, named_found, named_nowhere}
@@ -23,4 +23,4 @@ pub type_extent-returns-in_ok-place-in-Named-clause-exact : goal.type_extent-ret
 type_extent-returns-in_ok-place-in-Named-clause-exact t c =
     let h = named_found c.args.structs.now c.in-Named.name c.in_ok-place-in-Named.place c.index-structs-place.result (sym c.in_ok-place-in-Named.ensures) in
     let g = ap (λ u. extents.extent (sized (map struct_of c.args.structs.now)) (type_of u)) c.in-Named.is in
-    let e = ap (λ s. extents.fields_extent (sized (map struct_of (take c.in_ok-place-in-Named.place c.args.structs.now))) (map slot_of s.fields)) c.index-structs-place.is in cc
+    let e = ap (λ s. extents.fields_extent (sized (map struct_of (take c.in_ok-place-in-Named.place c.args.structs.now))) (map binding_of s.fields)) c.index-structs-place.is in cc

@@ -1,5 +1,5 @@
 use Rattle.std.proofs.Common.{◌≡◌, ◌≤◌, ◌+◌, ◌-◌, length, ◌∷◌, ◌++◌, map, flat_map, List}
-use Rattle.ir_model.specs.Plain.{slot_of}
+use Rattle.ir_model.specs.Plain.{binding_of}
 use Rattle.ir_reader.specs.Found.{finds}
 use Rattle.ir_reader.specs.Machine as expected
 use Rattle.ir_reader.specs.Machine.{Symbol, fault}
@@ -10,7 +10,7 @@ use Rattle.ir_reader.proofs.functions.regs.Given as goal
 
 abbrev pub invariant-loop-left : goal.invariant-loop-left
 invariant-loop-left l = record {
-  spelled : finds (placed l.text) ≡ flat_map (spell_reg as_found) (map slot_of l.regs.items) ++ finds (placed l.rest);
+  spelled : finds (placed l.text) ≡ flat_map (spell_reg as_found) (map binding_of l.regs.items) ++ finds (placed l.rest);
   passed : (st : List Symbol) → fault (expected.Regs l.params ∷ st) (placed l.text) ≡ fault (expected.Regs (l.params + length l.regs.items) ∷ st) (placed l.rest);
   limit : l.params + length l.regs.items ≤ 120;
 }

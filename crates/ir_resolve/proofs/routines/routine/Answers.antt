@@ -1,7 +1,7 @@
 use Rattle.std.proofs.Common.{refl, ap, ◌∙◌, map, length}
 use Rattle.ir_model.specs.declared.firmware.Func.{Func}
 use Rattle.ir_model.specs.Layout.{known, shape, Shape}
-use Rattle.ir_model.specs.Plain.{PlainSlot, struct_of, slot_of, func_of, types_of, regs_of}
+use Rattle.ir_model.specs.Plain.{PlainBinding, struct_of, binding_of, func_of, types_of, regs_of}
 use Rattle.ir_model.specs.Resolve.{resolved_block}
 use Rattle.ir_resolve.specs.Scopes.{scope_of}
 use Rattle.ir_resolve.proofs.Functions.{same_function}
@@ -13,10 +13,10 @@ returns-clause-exact c =
     let same = c.in_ok-tables.ensures.same in
     same_function _ _ refl refl
     (c.in_ok-tables.ensures.tables.types ∙ ap (λ (f : Func). types_of (regs_of (func_of f))) same)
-    (c.in_ok-locals.ensures.shapes ∙ ap (λ z. map (λ (l : PlainSlot). shape ks l.ty) (map slot_of z)) c.as_slice.ensures)
+    (c.in_ok-locals.ensures.shapes ∙ ap (λ z. map (λ (l : PlainBinding). shape ks l.ty) (map binding_of z)) c.as_slice.ensures)
     (c.in_ok-blocks.ensures ∙ ap (λ (f : Func). map (resolved_block (scope_of c.args.scope.now) (func_of f)) f.blocks) same)
 
 pub returns-clause-cells : goal.returns-clause-cells
 returns-clause-cells c =
     let ks = known (map struct_of c.args.scope.now.layouts) in
-    c.in_ok-locals.ensures.cells ∙ ap (λ z. map (λ (s : Shape). length s.cells) (map (λ (l : PlainSlot). shape ks l.ty) (map slot_of z))) c.as_slice.ensures
+    c.in_ok-locals.ensures.cells ∙ ap (λ z. map (λ (s : Shape). length s.cells) (map (λ (l : PlainBinding). shape ks l.ty) (map binding_of z))) c.as_slice.ensures

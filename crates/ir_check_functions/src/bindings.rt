@@ -1,4 +1,4 @@
-//! The slots of a function.
+//! The bindings of a function.
 
 ghost use Rattle.std.specs.Prelude.{◌≡◌, ◌*◌, ◌≤◌, [], IfOk};
 ghost use Rattle.ir_model.specs.Plain.{func_of, firmware_of};
@@ -8,7 +8,7 @@ ghost use Rattle.ir_model.specs.TextLimits.{local_limit};
 ghost use Rattle.ir_model.specs.FewItems.{HasFewLocals};
 ghost use Rattle.ir_model.specs.Typing.{object_limit};
 ghost use Rattle.ir_check_scopes.specs.Found.{Finds};
-ghost use Rattle.ir_check_functions.specs.SlotParts.{slots_part};
+ghost use Rattle.ir_check_functions.specs.BindingParts.{bindings_part};
 
 use crate::locals::locals;
 use crate::registers::{outcome, registers};
@@ -17,12 +17,16 @@ use ir_model::firmware::Func;
 use ir_names::Names;
 use std::alloc::Global;
 
-/// The slots of a function, no name being taken before.
+/// The bindings of a function, no name being taken before.
 #[tactic(auto, using(ir_check_scopes::proofs::Order::checks_in_order))]
-fn slots_behind<'a>(scope: &Scope, seen: &mut Names<'a>, func: &'a Func) -> Result<u64, CheckFault>
+fn bindings_behind<'a>(
+    scope: &Scope,
+    seen: &mut Names<'a>,
+    func: &'a Func,
+) -> Result<u64, CheckFault>
     requires seen { seen.old ≡ [] }
     requires few { HasFewLocals func.now }
-    ensures finds { Finds (slots_part scope.now.structs (firmware_of scope.now.firmware.now) (func_of func.now)) result }
+    ensures finds { Finds (bindings_part scope.now.structs (firmware_of scope.now.firmware.now) (func_of func.now)) result }
     ensures size { IfOk result (λ n. n ≡ locals_size (known (firmware_of scope.now.firmware.now).structs) (func_of func.now).locals) }
     ensures most { IfOk result (λ n. n ≤ local_limit * object_limit) }
 {
@@ -35,12 +39,12 @@ fn slots_behind<'a>(scope: &Scope, seen: &mut Names<'a>, func: &'a Func) -> Resu
 }
 
 /// The checks of a function's parameters, result, locals and registers; and how many bytes the locals take.
-pub fn slots(alloc: Global, scope: &Scope, func: &Func) -> Result<u64, CheckFault>
+pub fn bindings(alloc: Global, scope: &Scope, func: &Func) -> Result<u64, CheckFault>
     requires { HasFewLocals func.now }
-    ensures finds { Finds (slots_part scope.now.structs (firmware_of scope.now.firmware.now) (func_of func.now)) result }
+    ensures finds { Finds (bindings_part scope.now.structs (firmware_of scope.now.firmware.now) (func_of func.now)) result }
     ensures size { IfOk result (λ n. n ≡ locals_size (known (firmware_of scope.now.firmware.now).structs) (func_of func.now).locals) }
     ensures most { IfOk result (λ n. n ≤ local_limit * object_limit) }
 {
     let mut seen = Names::new(alloc);
-    slots_behind(scope, &mut seen, func)
+    bindings_behind(scope, &mut seen, func)
 }

@@ -5,7 +5,7 @@ use Rattle.ir_reader.specs.Machine.{Symbol, fault}
 use Rattle.ir_reader.specs.Scan.{placed}
 use Rattle.ir_grammar.specs.Spelling.{separated, spell_word}
 use Rattle.ir_reader.specs.Spelling.{as_found}
-use Rattle.ir_reader.proofs.slots.args.Given as goal
+use Rattle.ir_reader.proofs.bindings.args.Given as goal
 
 abbrev pub invariant-loop-behind : goal.invariant-loop-behind
 invariant-loop-behind l = record {

@@ -1,16 +1,16 @@
 use Rattle.std.proofs.Common.{◌≡◌, ◌<◌, ◌≤◌, ◌-◌, length, ◌∷◌, ◌++◌, map, List}
-use Rattle.ir_model.specs.Plain.{slot_of}
+use Rattle.ir_model.specs.Plain.{binding_of}
 use Rattle.ir_reader.specs.Found.{finds}
 use Rattle.ir_reader.specs.Machine as expected
 use Rattle.ir_reader.specs.Machine.{Symbol, fault}
 use Rattle.ir_reader.specs.Scan.{placed}
-use Rattle.ir_grammar.specs.Spelling.{separated, spell_slot}
+use Rattle.ir_grammar.specs.Spelling.{separated, spell_binding}
 use Rattle.ir_reader.specs.Spelling.{as_found}
-use Rattle.ir_reader.proofs.slots.params.Given as goal
+use Rattle.ir_reader.proofs.bindings.params.Given as goal
 
 abbrev pub invariant-loop-behind : goal.invariant-loop-behind
 invariant-loop-behind l = record {
-  spelled : finds (placed l.text) ≡ separated as_found (spell_slot as_found) (map slot_of l.params.items) ++ finds (placed l.rest);
+  spelled : finds (placed l.text) ≡ separated as_found (spell_binding as_found) (map binding_of l.params.items) ++ finds (placed l.rest);
   passed : (st : List Symbol) → fault (expected.Params ∷ st) (placed l.text) ≡ fault (expected.MoreParams (length l.params.items) ∷ st) (placed l.rest);
   some : 0 < length l.params.items;
   limit : length l.params.items ≤ 4;

@@ -9,7 +9,7 @@ use Rattle.ir_reader.specs.Spelling.{Sign, as_found}
 use Rattle.ir_reader.proofs.Ends.{args_end}
 use Rattle.ir_model.proofs.NoExcess.{counted_none}
 use Rattle.ir_reader.proofs.Separated.{read_next, read_closed}
-use Rattle.ir_reader.proofs.slots.args.Goals as goal
+use Rattle.ir_reader.proofs.bindings.args.Goals as goal
 
 pub loop-behind-preserved : goal.loop-behind-preserved
 loop-behind-preserved c =
