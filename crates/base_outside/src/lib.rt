@@ -7,11 +7,11 @@ mod counts;
 mod files;
 mod host;
 mod mem_entry;
+mod mem_file;
 mod mem_files;
 mod mem_sink;
 mod reading;
 mod sink;
-mod slot;
 
 pub use counts::counts_compose;
 pub use files::{Failed, Files};

@@ -6,7 +6,7 @@ ghost use Rattle.std.specs.Str.{bytes_eq};
 ghost use Rattle.base_outside.specs.Counts.{Counts};
 ghost use Rattle.base_outside.specs.Memory.{next, IsFailing, held, room, held_in, room_in, room_left_in, entry_of, names_differ, Passes, Rewrites, PassesRoom, kept, faults_after, IsCalled};
 
-use crate::slot::Slot;
+use crate::mem_file::MemFile;
 use crate::{Failed, Files, MemEntry};
 use std::alloc::{AllocError, Global};
 use std::marker::Model;
@@ -14,7 +14,7 @@ use std::marker::Model;
 /// Files in memory: a fixed set of names, each with a fixed room, and calls that fail by their numbers.
 #[derive(Drop)]
 pub struct MemFiles {
-    slots: Vec<Slot>,
+    files: Vec<MemFile>,
     fails: Vec<u64>,
     keep: usize,
     calls: u64,
@@ -28,7 +28,7 @@ impl Model for MemFiles {
     ghost Value = { FilesState };
 
     ghost view = { λ f. record {
-      entries = f.slots.items;
+      entries = f.files.items;
       fails = f.fails.items;
       keep = f.keep;
       calls = f.calls;
@@ -60,12 +60,12 @@ impl MemFiles {
           write_faults = 0;
         }) }
     {
-        let mut slots = Vec::with_capacity(alloc, entries.len())?;
+        let mut files = Vec::with_capacity(alloc, entries.len())?;
         for entry in entries {
-            slots.push(Slot::new(entry)?)?;
+            files.push(MemFile::new(entry)?)?;
         }
         Ok(MemFiles {
-            slots,
+            files,
             fails,
             keep: keep as usize,
             calls: 0,
@@ -78,7 +78,7 @@ impl MemFiles {
     pub fn held(&self, name: &str) -> Option<&[u8]>
         ensures { option_copied result ≡ held self.now name.now }
     {
-        held_by(&self.slots, name.as_bytes())
+        held_by(&self.files, name.as_bytes())
     }
 
     /// How many calls to read have failed on a name that is there.
@@ -186,7 +186,7 @@ impl Files for MemFiles {
         ensures writes { Counts self.old.write_faults self.new.write_faults result }
     {
         let fails = self.count_call();
-        if fails || !clear(&mut self.slots, name.as_bytes()) {
+        if fails || !clear(&mut self.files, name.as_bytes()) {
             self.write_faults = self.write_faults.saturating_add(1);
             return Err(Failed);
         }
@@ -214,16 +214,16 @@ impl Files for MemFiles {
     {
         let fails = self.count_call();
         let name = name.as_bytes();
-        let Some(left) = room_left(&self.slots, name) else {
+        let Some(left) = room_left(&self.files, name) else {
             return Err(Failed);
         };
         if fails || left < piece.len() {
             let kept = self.keep.min(left).min(piece.len());
-            add(&mut self.slots, name, &piece[..kept]);
+            add(&mut self.files, name, &piece[..kept]);
             self.write_faults = self.write_faults.saturating_add(1);
             return Err(Failed);
         }
-        add(&mut self.slots, name, piece);
+        add(&mut self.files, name, piece);
         Ok(())
     }
 }
@@ -247,57 +247,57 @@ fn is_among(numbers: &[u64], number: u64) -> bool
 }
 
 // The bytes that are held under a name.
-fn held_by<'a>(slots: &'a [Slot], name: &[u8]) -> Option<&'a [u8]>
-    ensures { option_copied result ≡ held_in slots.now name.now }
+fn held_by<'a>(files: &'a [MemFile], name: &[u8]) -> Option<&'a [u8]>
+    ensures { option_copied result ≡ held_in files.now name.now }
 {
-    match slot_of(slots, name) {
-        Some(slot) => slot.held(),
+    match file_of(files, name) {
+        Some(file) => file.held(),
         None => None,
     }
 }
 
-fn slot_of<'a>(slots: &'a [Slot], name: &[u8]) -> Option<&'a Slot>
-    ensures { option_copied result ≡ entry_of slots.now name.now }
+fn file_of<'a>(files: &'a [MemFile], name: &[u8]) -> Option<&'a MemFile>
+    ensures { option_copied result ≡ entry_of files.now name.now }
 {
-    slots.iter().find(|slot| slot.is_named(name))
+    files.iter().find(|file| file.is_named(name))
 }
 
 // Where the first entry of a name stands.
-fn place_of(slots: &[Slot], name: &[u8]) -> Option<usize>
-    ensures { result ≡ position (λ entry. bytes_eq entry.name name.now) slots.now }
+fn place_of(files: &[MemFile], name: &[u8]) -> Option<usize>
+    ensures { result ≡ position (λ entry. bytes_eq entry.name name.now) files.now }
 {
-    slots.iter().position(|slot| slot.is_named(name))
+    files.iter().position(|file| file.is_named(name))
 }
 
 // How many more bytes may be added to a name, if it is there.
-fn room_left(slots: &[Slot], name: &[u8]) -> Option<usize>
-    ensures { result ≡ room_left_in slots.now name.now }
+fn room_left(files: &[MemFile], name: &[u8]) -> Option<usize>
+    ensures { result ≡ room_left_in files.now name.now }
 {
-    match slot_of(slots, name) {
-        Some(slot) => slot.room_left(),
+    match file_of(files, name) {
+        Some(file) => file.room_left(),
         None => None,
     }
 }
 
 // Makes a name hold no bytes, if it is an entry.
-fn clear(slots: &mut [Slot], name: &[u8]) -> bool
-    ensures entry { IsTrue result ↔ IsSome (room_in slots.old name.now) }
-    ensures cleared { OnTrue result (Rewrites slots.old slots.new name.now []) }
-    ensures same { OnFalse result (slots.new ≡ slots.old) }
+fn clear(files: &mut [MemFile], name: &[u8]) -> bool
+    ensures entry { IsTrue result ↔ IsSome (room_in files.old name.now) }
+    ensures cleared { OnTrue result (Rewrites files.old files.new name.now []) }
+    ensures same { OnFalse result (files.new ≡ files.old) }
 {
-    let Some(place) = place_of(slots, name) else {
+    let Some(place) = place_of(files, name) else {
         return false;
     };
-    slots[place].clear();
+    files[place].clear();
     true
 }
 
 // Adds a piece to a name that is there and has room for it.
-fn add(slots: &mut [Slot], name: &[u8], piece: &[u8])
-    requires { IsSomeAnd (room_left_in slots.old name.now) (λ left. length piece.now ≤ left) }
-    ensures { IfSome (held_in slots.old name.now) (λ bytes. Rewrites slots.old slots.new name.now (bytes ++ piece.now)) }
+fn add(files: &mut [MemFile], name: &[u8], piece: &[u8])
+    requires { IsSomeAnd (room_left_in files.old name.now) (λ left. length piece.now ≤ left) }
+    ensures { IfSome (held_in files.old name.now) (λ bytes. Rewrites files.old files.new name.now (bytes ++ piece.now)) }
 {
-    if let Some(place) = place_of(slots, name) {
-        slots[place].add(piece);
+    if let Some(place) = place_of(files, name) {
+        files[place].add(piece);
     }
 }

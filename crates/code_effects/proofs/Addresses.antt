@@ -16,12 +16,12 @@ use Rattle.ir_model.specs.Resolved.{NumberedFunc, Named, TheGlobal, ThePeriph, T
 use Rattle.code_model.specs.declared.places.Places.{Places}
 use Rattle.code_model.specs.FrameShape.{local_size, starts_from, local_starts}
 use Rattle.code_model.specs.Places.{global_address, window_address, entry_address}
-use Rattle.code_model.specs.Words.{save, slot_address}
+use Rattle.code_model.specs.Words.{save, home_address}
 use Rattle.code_model.specs.Addresses.{scale_of}
 use Rattle.code_model.specs.Templates.{inst_items}
 use Rattle.code_model.specs.Sizes.{inst_size}
 use Rattle.code_effects.specs.Points.{Point, Leads}
-use Rattle.code_effects.specs.Frames.{HasFrame, slot, HasInst, behind}
+use Rattle.code_effects.specs.Frames.{HasFrame, home, HasInst, behind}
 use Rattle.code_effects.specs.Addresses.{named_address, CanName, addr_steps, AddressEffects, OffsetsAgree}
 use Rattle.code_effects.proofs.Moves.{number_by}
 use Rattle.code_effects.proofs.Joined.{landed, leads_by}
@@ -36,7 +36,7 @@ starts_are_words from (s ∷ ss) (suc l) h = starts_are_words (from + local_size
 
 module _ (j : PermissionTest) (i : Image) (p : Point) (o n : ℕ) where
   -- the address of a word of the frame
-  local_by : (to k : ℕ) → HasFrame j i p o n → to < n → k ≤ n → CodeAt j i p.context.protection p.pc (slot_address 0 k ∷ save to ∷ []) →
+  local_by : (to k : ℕ) → HasFrame j i p o n → to < n → k ≤ n → CodeAt j i p.context.protection p.pc (home_address 0 k ∷ save to ∷ []) →
       Leads j i 2 p (record p { registers = []; pc = p.pc + 4; ram = write 4 (o + 4 * to) (p.sp + 4 * k) p.ram }) []
   local_by to k room lt le code =
       let w = room.words in
@@ -65,11 +65,11 @@ module _ (j : PermissionTest) (i : Image) (g : NumberedFunc) (q : Places) (label
   faddr to f room lt fits code = number_by j i p o n to (entry_address q f + 1) room lt fits code
 
   pub elem : (to base index size : ℕ) → HasFrame j i p o n → to < n → base < n → index < n → HasInst j i g q labels p p.pc site (Elem to base index size) →
-      Leads j i 7 p (behind o p site (Elem to base index size) to (word (slot o p base + slot o p index * scale_of size))) []
+      Leads j i 7 p (behind o p site (Elem to base index size) to (word (home o p base + home o p index * scale_of size))) []
   unfolding inst_items inst_size
   elem to base index size room lt lb li code =
-      let y : ℕ = slot o p base in
-      let z : ℕ = slot o p index in
+      let y : ℕ = home o p base in
+      let z : ℕ = home o p index in
       let s : ℕ = scale_of size in
       let m : ℕ = multiply z s in
       let e : word (y + z * s) ≡ add y m = omega arith in
@@ -84,10 +84,10 @@ module _ (j : PermissionTest) (i : Image) (g : NumberedFunc) (q : Places) (label
       (next_step (str_sp j i p.context (add y m ∷ m ∷ s ∷ rest) p.sp p.lr (p.pc + 2 + 2 + 4 + 4 + 2 + 2) (add_flags y m 0) p.ram p.queues 0 to o n room lt code.1.1.1.1.1.1.0) (stay j i)))))))))
 
   pub field : (to base offset : ℕ) → HasFrame j i p o n → to < n → base < n → offset < 2 ^ 32 → HasInst j i g q labels p p.pc site (Field to base offset) →
-      Leads j i 5 p (behind o p site (Field to base offset) to (word (slot o p base + offset))) []
+      Leads j i 5 p (behind o p site (Field to base offset) to (word (home o p base + offset))) []
   unfolding inst_items inst_size
   field to base k room lt lb fits code =
-      let y : ℕ = slot o p base in
+      let y : ℕ = home o p base in
       leads_by j i 5 p _ [] (λ a b c rest f h.
       landed j i 5 _ p.context [] (add y k ∷ k ∷ c ∷ rest) p.sp p.lr (p.pc + 2 + 4 + 4 + 2 + 2) (p.pc + 14) (add_flags y k 0) (write 4 (o + 4 * to) (add y k) p.ram) p.queues [] (omega arith) (holds_nothing (add y k ∷ k ∷ c ∷ rest) (omega arith))
       (next_step (ldr_sp j i p.context (a ∷ b ∷ c ∷ rest) p.sp p.lr p.pc f p.ram p.queues 0 base o n room lb code.0)

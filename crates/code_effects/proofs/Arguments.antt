@@ -12,8 +12,8 @@ use Rattle.machine_model.proofs.Exec.{stay, next_step}
 use Rattle.machine_model.proofs.Transfers.{ldr_sp}
 use Rattle.code_model.specs.Calls.{args_code}
 use Rattle.code_effects.specs.Points.{Point, Holds, known}
-use Rattle.code_effects.specs.Frames.{slot}
-use Rattle.code_effects.specs.Calls.{AllBelow, slots}
+use Rattle.code_effects.specs.Frames.{home}
+use Rattle.code_effects.specs.Calls.{AllBelow, homes}
 use Rattle.code_effects.proofs.Joined.{ends_at}
 use Rattle.code_effects.proofs.Registers.{holds_known}
 
@@ -57,17 +57,17 @@ args_size k (a ∷ as_) = omega (arith, args_size (suc k) as_)
 
 -- ---- what is known of them
 
-slot_of : (o : ℕ) (p : Point) (ks : List ℕ) (k : ℕ) → k < length ks → get_or (slots o p ks) k 0 ≡ slot o p (get_or ks k 0)
-slot_of o p [] k l = absurd (omega arith)
-slot_of o p (x ∷ xs) zero l = refl
-slot_of o p (x ∷ xs) (suc k) l = slot_of o p xs k (omega arith)
+home_of : (o : ℕ) (p : Point) (ks : List ℕ) (k : ℕ) → k < length ks → get_or (homes o p ks) k 0 ≡ home o p (get_or ks k 0)
+home_of o p [] k l = absurd (omega arith)
+home_of o p (x ∷ xs) zero l = refl
+home_of o p (x ∷ xs) (suc k) l = home_of o p xs k (omega arith)
 
-length-slots : (o : ℕ) (p : Point) (ks : List ℕ) → length (slots o p ks) ≡ length ks
-length-slots o p [] = refl
-length-slots o p (x ∷ xs) = ap suc (length-slots o p xs)
+length-homes : (o : ℕ) (p : Point) (ks : List ℕ) → length (homes o p ks) ≡ length ks
+length-homes o p [] = refl
+length-homes o p (x ∷ xs) = ap suc (length-homes o p xs)
 
 -- the arguments are in r0 and the registers behind it
-pub holds_slots : (o : ℕ) (p : Point) (ks after : List ℕ) → length after ≡ 8 → ((k : ℕ) → k < length ks → get_or after (0 + k) 0 ≡ slot o p (get_or ks k 0)) → Holds (known (slots o p ks)) after
-holds_slots o p ks after h g =
-    let e = length-slots o p ks in
-    holds_known (slots o p ks) after h (λ k l. let z : k ≡ 0 + k = omega arith in ap (λ (t : ℕ). get_or after t 0) z ∙ g k (omega arith) ∙ sym (slot_of o p ks k (omega arith)))
+pub holds_homes : (o : ℕ) (p : Point) (ks after : List ℕ) → length after ≡ 8 → ((k : ℕ) → k < length ks → get_or after (0 + k) 0 ≡ home o p (get_or ks k 0)) → Holds (known (homes o p ks)) after
+holds_homes o p ks after h g =
+    let e = length-homes o p ks in
+    holds_known (homes o p ks) after h (λ k l. let z : k ≡ 0 + k = omega arith in ap (λ (t : ℕ). get_or after t 0) z ∙ g k (omega arith) ∙ sym (home_of o p ks k (omega arith)))

@@ -15,7 +15,7 @@ use Rattle.ir_model.specs.Resolved.{NumberedFunc, Jump, Branch}
 use Rattle.code_model.specs.declared.places.Places.{Places}
 use Rattle.code_model.specs.Templates.{term_items}
 use Rattle.code_effects.specs.Points.{Point, Leads}
-use Rattle.code_effects.specs.Frames.{HasFrame, slot, HasTerm}
+use Rattle.code_effects.specs.Frames.{HasFrame, home, HasTerm}
 use Rattle.code_effects.specs.Branches.{at_block, BranchEffects}
 use Rattle.code_effects.proofs.Comparisons.{Conditions}
 use Rattle.code_effects.proofs.Distances.{skips, goes_to}
@@ -31,11 +31,11 @@ module _ (j : PermissionTest) (i : Image) (g : NumberedFunc) (q : Places) (label
       landed j i 1 _ p.context [] (a ∷ b ∷ c ∷ rest) p.sp p.lr to to f p.ram p.queues [] refl (holds_nothing (a ∷ b ∷ c ∷ rest) (omega arith))
       (next_step (b_wide j i p.context (a ∷ b ∷ c ∷ rest) p.sp p.lr p.pc f p.ram p.queues to (distance p.pc to) (goes_to p.pc to (omega arith) (omega arith)) code.0) (stay j i)))
 
-  branch_by : (t : Bool) (on yes_ no_ : ℕ) → holds 0 (compare_flags (slot o p on) 0) ≡ t → HasFrame j i p o n → on < n → p.pc < 2 ^ 30 → place_of labels (first + yes_) < 2 ^ 30 → place_of labels (first + no_) < 2 ^ 30 →
+  branch_by : (t : Bool) (on yes_ no_ : ℕ) → holds 0 (compare_flags (home o p on) 0) ≡ t → HasFrame j i p o n → on < n → p.pc < 2 ^ 30 → place_of labels (first + yes_) < 2 ^ 30 → place_of labels (first + no_) < 2 ^ 30 →
       HasTerm j i g q labels first p p.pc (Branch on yes_ no_) → Leads j i 4 p (at_block labels first p (if t then no_ else yes_)) []
   unfolding term_items
   branch_by true on yes_ no_ t room lt low ly ln code =
-      let v : ℕ = slot o p on in
+      let v : ℕ = home o p on in
       let g0 : Flags = compare_flags v 0 in
       let to : ℕ = place_of labels (first + no_) in
       leads_by j i 4 p _ [] (λ a b c rest f h.
@@ -45,7 +45,7 @@ module _ (j : PermissionTest) (i : Image) (g : NumberedFunc) (q : Places) (label
       (next_step (b_taken j i p.context (v ∷ b ∷ c ∷ rest) p.sp p.lr (p.pc + 2 + 2) g0 p.ram p.queues 0 (p.pc + 2 + 2 + 2 + 4) (pos 2) t (skips (p.pc + 2 + 2 + 4) 2 _ (omega arith) (omega arith) (omega arith)) code.1.1.0)
       (next_step (b_wide j i p.context (v ∷ b ∷ c ∷ rest) p.sp p.lr (p.pc + 2 + 2 + 2 + 4) g0 p.ram p.queues to (distance (p.pc + 2 + 2 + 2 + 4) to) (goes_to (p.pc + 2 + 2 + 2 + 4) to (omega arith) (omega arith)) code.1.1.1.1.0) (stay j i))))))
   branch_by false on yes_ no_ t room lt low ly ln code =
-      let v : ℕ = slot o p on in
+      let v : ℕ = home o p on in
       let g0 : Flags = compare_flags v 0 in
       let to : ℕ = place_of labels (first + yes_) in
       leads_by j i 4 p _ [] (λ a b c rest f h.
@@ -58,5 +58,5 @@ module _ (j : PermissionTest) (i : Image) (g : NumberedFunc) (q : Places) (label
 pub branch_effects : Conditions → (j : PermissionTest) (i : Image) (g : NumberedFunc) (q : Places) (labels : List (Option ℕ)) (first : ℕ) (p : Point) (o n : ℕ) → BranchEffects j i g q labels first p o n
 branch_effects cs j i g q labels first p o n = record {
   jump = jump j i g q labels first p o n;
-  branch = λ on a b room lt low la lb code. branch_by j i g q labels first p o n (nat_eq (slot o p on) 0) on a b (cs.equal (slot o p on) 0 (read_fits 4 (o + 4 * on) p.ram) (omega arith)) room lt low la lb code;
+  branch = λ on a b room lt low la lb code. branch_by j i g q labels first p o n (nat_eq (home o p on) 0) on a b (cs.equal (home o p on) 0 (read_fits 4 (o + 4 * on) p.ram) (omega arith)) room lt low la lb code;
 }

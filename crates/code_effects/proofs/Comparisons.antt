@@ -21,7 +21,7 @@ use Rattle.code_model.specs.Comparisons.{condition, cmp_code}
 use Rattle.code_model.specs.Templates.{inst_items}
 use Rattle.code_model.specs.Sizes.{inst_size}
 use Rattle.code_effects.specs.Points.{Point, Leads}
-use Rattle.code_effects.specs.Frames.{HasFrame, slot}
+use Rattle.code_effects.specs.Frames.{HasFrame, home}
 use Rattle.code_effects.specs.Comparisons.{cmp_steps, ComparisonEffects}
 use Rattle.code_effects.proofs.Distances.{skips}
 use Rattle.code_effects.proofs.Items.{plain_code}
@@ -47,11 +47,11 @@ condition_is c Slt x y h l = c.signed_below x y h l
 condition_is c Sle x y h l = c.signed_at_most x y h l
 
 module _ (j : PermissionTest) (i : Image) (p : Point) (o n : ℕ) where
-  pub cmp_by : (t : Bool) (op : CmpOp) (to a b : ℕ) → holds (condition op) (compare_flags (slot o p a) (slot o p b)) ≡ t → HasFrame j i p o n → to < n → a < n → b < n → p.pc < 2 ^ 30 →
+  pub cmp_by : (t : Bool) (op : CmpOp) (to a b : ℕ) → holds (condition op) (compare_flags (home o p a) (home o p b)) ≡ t → HasFrame j i p o n → to < n → a < n → b < n → p.pc < 2 ^ 30 →
       CodeAt j i p.context.protection p.pc (cmp_code op to a b) → Leads j i (cmp_steps t) p (record p { registers = []; pc = p.pc + 16; ram = write 4 (o + 4 * to) (bit t) p.ram }) []
   cmp_by true op to a b0 t room lt la lb low code =
-      let va : ℕ = slot o p a in
-      let vb : ℕ = slot o p b0 in
+      let va : ℕ = home o p a in
+      let vb : ℕ = home o p b0 in
       let g : Flags = compare_flags va vb in
       leads_by j i 6 p _ [] (λ d0 d1 d2 rest f h.
       landed j i 6 _ p.context [] (1 ∷ vb ∷ d2 ∷ rest) p.sp p.lr (p.pc + 2 + 2 + 2 + 2 + 2 + 2 + 2 + 2) (p.pc + 16) (result_flags g 1) (write 4 (o + 4 * to) 1 p.ram) p.queues [] (omega arith) (holds_nothing (1 ∷ vb ∷ d2 ∷ rest) (omega arith))
@@ -62,8 +62,8 @@ module _ (j : PermissionTest) (i : Image) (p : Point) (o n : ℕ) where
       (next_step (movs j i p.context (va ∷ vb ∷ d2 ∷ rest) p.sp p.lr (p.pc + 2 + 2 + 2 + 2 + 2 + 2) g p.ram p.queues 0 1 code.1.1.1.1.1.1.0)
       (next_step (str_sp j i p.context (1 ∷ vb ∷ d2 ∷ rest) p.sp p.lr (p.pc + 2 + 2 + 2 + 2 + 2 + 2 + 2) (result_flags g 1) p.ram p.queues 0 to o n room lt code.1.1.1.1.1.1.1.0) (stay j i))))))))
   cmp_by false op to a b0 t room lt la lb low code =
-      let va : ℕ = slot o p a in
-      let vb : ℕ = slot o p b0 in
+      let va : ℕ = home o p a in
+      let vb : ℕ = home o p b0 in
       let g : Flags = compare_flags va vb in
       leads_by j i 7 p _ [] (λ d0 d1 d2 rest f h.
       landed j i 7 _ p.context [] (0 ∷ vb ∷ d2 ∷ rest) p.sp p.lr (p.pc + 2 + 2 + 2 + 2 + 2 + 2 + 2 + 2) (p.pc + 16) (result_flags g 0) (write 4 (o + 4 * to) 0 p.ram) p.queues [] (omega arith) (holds_nothing (0 ∷ vb ∷ d2 ∷ rest) (omega arith))
@@ -78,5 +78,5 @@ module _ (j : PermissionTest) (i : Image) (p : Point) (o n : ℕ) where
 pub comparison_effects : Conditions → (j : PermissionTest) (i : Image) (g : NumberedFunc) (q : Places) (labels : List (Option ℕ)) (site : Option ℕ) (p : Point) (o n : ℕ) → ComparisonEffects j i g q labels site p o n
 unfolding inst_items inst_size
 comparison_effects cs j i g q labels site p o n op to a b room lt la lb low code =
-    cmp_by j i p o n (compared op (slot o p a) (slot o p b)) op to a b (condition_is cs op (slot o p a) (slot o p b) (read_fits 4 (o + 4 * a) p.ram) (read_fits 4 (o + 4 * b) p.ram)) room lt la lb low
+    cmp_by j i p o n (compared op (home o p a) (home o p b)) op to a b (condition_is cs op (home o p a) (home o p b) (read_fits 4 (o + 4 * a) p.ram) (read_fits 4 (o + 4 * b) p.ram)) room lt la lb low
     (plain_code j i p.context.protection labels (cmp_code op to a b) p.pc code)

@@ -24,7 +24,7 @@ use Rattle.ir_model.specs.Signatures.{row_length}
 use Rattle.code_model.specs.declared.places.Places.{Places}
 use Rattle.code_model.specs.FrameShape.{frame_shape}
 use Rattle.code_model.specs.Places.{Lend}
-use Rattle.code_model.specs.Words.{byte_into, slot_address, supervisor_call}
+use Rattle.code_model.specs.Words.{byte_into, home_address, supervisor_call}
 use Rattle.code_model.specs.Entry.{sub_by, stores_code, frame_code, lend_code, enter_code}
 use Rattle.code_model.specs.Templates.{lends_of}
 use Rattle.code_model.specs.Sizes.{adjust_size, entry_size}
@@ -248,36 +248,36 @@ module _ (j : PermissionTest) (i : Image) (g : NumberedFunc) (q : Places) (label
   -- ---- lends
 
   lend_at : (ds : List Lend) (k at : ℕ) → k < length ds → CodeAt j i p.context.protection at (lend_code ds) →
-      CodeAt j i p.context.protection (at + 6 * k) (slot_address 0 (get_or ds k no_lend).slot ∷ byte_into 1 (get_or ds k no_lend).number ∷ supervisor_call 2 ∷ [])
+      CodeAt j i p.context.protection (at + 6 * k) (home_address 0 (get_or ds k no_lend).home ∷ byte_into 1 (get_or ds k no_lend).number ∷ supervisor_call 2 ∷ [])
   lend_at [] k at l code = absurd (omega arith)
   lend_at (d ∷ ds) zero at l code =
       let z : at ≡ at + 0 = omega arith in
-      subst (λ (a : ℕ). CodeAt j i p.context.protection a (slot_address 0 d.slot ∷ byte_into 1 d.number ∷ supervisor_call 2 ∷ [])) z (code.0, (code.1.0, (code.1.1.0, tt)))
+      subst (λ (a : ℕ). CodeAt j i p.context.protection a (home_address 0 d.home ∷ byte_into 1 d.number ∷ supervisor_call 2 ∷ [])) z (code.0, (code.1.0, (code.1.1.0, tt)))
   lend_at (d ∷ ds) (suc k) at l code =
       let e : Lend = get_or ds k no_lend in
       let z : at + 2 + 2 + 2 + 6 * k ≡ at + 6 * suc k = omega arith in
-      subst (λ (a : ℕ). CodeAt j i p.context.protection a (slot_address 0 e.slot ∷ byte_into 1 e.number ∷ supervisor_call 2 ∷ [])) z (lend_at ds k (at + 2 + 2 + 2) (omega arith) code.1.1.1)
+      subst (λ (a : ℕ). CodeAt j i p.context.protection a (home_address 0 e.home ∷ byte_into 1 e.number ∷ supervisor_call 2 ∷ [])) z (lend_at ds k (at + 2 + 2 + 2) (omega arith) code.1.1.1)
 
   entry_goes_on : (k : ℕ) → entry_size g k ≡ code_size (frame_code (row_length g.params) (frame_shape g).words) + 6 * k
   unfolding entry_size
   entry_goes_on k = let e = frame_size (row_length g.params) (frame_shape g).words in omega arith
 
   this_lend : (at k : ℕ) → k < length (lends_of g q) → HasEntry j i g q labels p at →
-      CodeAt j i p.context.protection (at + entry_size g k) (slot_address 0 (get_or (lends_of g q) k no_lend).slot ∷ byte_into 1 (get_or (lends_of g q) k no_lend).number ∷ supervisor_call 2 ∷ [])
+      CodeAt j i p.context.protection (at + entry_size g k) (home_address 0 (get_or (lends_of g q) k no_lend).home ∷ byte_into 1 (get_or (lends_of g q) k no_lend).number ∷ supervisor_call 2 ∷ [])
   this_lend at k l code =
       let d : Lend = get_or (lends_of g q) k no_lend in
       let n : ℕ = code_size (frame_code (row_length g.params) (frame_shape g).words) in
       let e = entry_goes_on k in
       let z : at + n + 6 * k ≡ at + entry_size g k = omega arith in
-      subst (λ (a : ℕ). CodeAt j i p.context.protection a (slot_address 0 d.slot ∷ byte_into 1 d.number ∷ supervisor_call 2 ∷ [])) z (lend_at (lends_of g q) k (at + n) l (entry_code_at at code).1)
+      subst (λ (a : ℕ). CodeAt j i p.context.protection a (home_address 0 d.home ∷ byte_into 1 d.number ∷ supervisor_call 2 ∷ [])) z (lend_at (lends_of g q) k (at + n) l (entry_code_at at code).1)
 
-  lend_by : (at slot number : ℕ) → p.sp + 4 * slot < 2 ^ 32 → CodeAt j i p.context.protection at (slot_address 0 slot ∷ byte_into 1 number ∷ supervisor_call 2 ∷ []) →
-      Leads j i 2 (record p { pc = at }) (record p { registers = known ((p.sp + 4 * slot) ∷ number ∷ []); pc = at + 4 }) []
-  lend_by at slot number fits code =
-      let v : ℕ = p.sp + 4 * slot in
+  lend_by : (at home number : ℕ) → p.sp + 4 * home < 2 ^ 32 → CodeAt j i p.context.protection at (home_address 0 home ∷ byte_into 1 number ∷ supervisor_call 2 ∷ []) →
+      Leads j i 2 (record p { pc = at }) (record p { registers = known ((p.sp + 4 * home) ∷ number ∷ []); pc = at + 4 }) []
+  lend_by at home number fits code =
+      let v : ℕ = p.sp + 4 * home in
       leads_by j i 2 _ _ [] (λ a b c rest f h.
       landed j i 2 _ p.context (known (v ∷ number ∷ [])) (v ∷ number ∷ c ∷ rest) p.sp p.lr (at + 2 + 2) (at + 4) (result_flags f number) p.ram p.queues [] (omega arith) (holds_by _ (v ∷ number ∷ c ∷ rest) (omega arith) (refl, (refl, tt)))
-      (next_step (add_d_sp j i p.context (a ∷ b ∷ c ∷ rest) p.sp p.lr at f p.ram p.queues 0 slot fits code.0)
+      (next_step (add_d_sp j i p.context (a ∷ b ∷ c ∷ rest) p.sp p.lr at f p.ram p.queues 0 home fits code.0)
       (next_step (movs j i p.context (v ∷ b ∷ c ∷ rest) p.sp p.lr (at + 2) f p.ram p.queues 1 number code.1.0) (stay j i))))
 
   lend_here : (at k : ℕ) → k < length (lends_of g q) → HasEntry j i g q labels p at → Stands j i p.context.protection (at + entry_size g k + 4) (supervisor_call 2)
@@ -291,7 +291,7 @@ module _ (j : PermissionTest) (i : Image) (g : NumberedFunc) (q : Places) (label
 pub entry_effects : (j : PermissionTest) (i : Image) (g : NumberedFunc) (q : Places) (labels : List (Option ℕ)) (p : Point) (o to : ℕ) → EntryEffects j i g q labels p o to
 entry_effects j i g q labels p o to = record {
   frame = the_frame j i g q labels p o to;
-  lend = λ at k l fits code. lend_by j i g q labels p o to (at + entry_size g k) (get_or (lends_of g q) k no_lend).slot (get_or (lends_of g q) k no_lend).number fits (this_lend j i g q labels p o to at k l code);
+  lend = λ at k l fits code. lend_by j i g q labels p o to (at + entry_size g k) (get_or (lends_of g q) k no_lend).home (get_or (lends_of g q) k no_lend).number fits (this_lend j i g q labels p o to at k l code);
   lend_stands = lend_here j i g q labels p o to;
   next_lend = lend_behind j i g q labels p o to;
 }

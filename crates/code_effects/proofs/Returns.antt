@@ -19,7 +19,7 @@ use Rattle.code_model.specs.Entry.{add_by, add_code, unlend_code, result_code, l
 use Rattle.code_model.specs.Templates.{lends_of, term_items}
 use Rattle.code_model.specs.FunctionCode.{lent}
 use Rattle.code_effects.specs.Points.{Point, known, Leads}
-use Rattle.code_effects.specs.Frames.{HasFrame, slot, HasTerm}
+use Rattle.code_effects.specs.Frames.{HasFrame, home, HasTerm}
 use Rattle.code_effects.specs.Calls.{IsBelow, keep_steps}
 use Rattle.code_effects.specs.Returns.{return_steps, result_known, ReturnEffects}
 use Rattle.code_effects.proofs.Entry.{last_room}
@@ -51,13 +51,13 @@ module _ (j : PermissionTest) (i : Image) (p : Point) (o w : ℕ) where
   result_by at None room below code = leads_by j i 0 _ _ [] (λ a b c rest f h.
       landed j i 0 _ p.context [] (a ∷ b ∷ c ∷ rest) p.sp p.lr at (at + 0) f p.ram p.queues [] (omega arith) (holds_nothing (a ∷ b ∷ c ∷ rest) (omega arith)) (stay j i))
   result_by at (Some k) room below code =
-      let v : ℕ = slot o p k in
+      let v : ℕ = home o p k in
       leads_by j i 1 _ _ [] (λ a b c rest f h.
       landed j i 1 _ p.context (known (v ∷ [])) (v ∷ b ∷ c ∷ rest) p.sp p.lr (at + 2) (at + 2) f p.ram p.queues [] refl (holds_by _ (v ∷ b ∷ c ∷ rest) (omega arith) (refl, tt))
       (next_step (ldr_sp j i p.context (a ∷ b ∷ c ∷ rest) p.sp p.lr at f p.ram p.queues 0 k o (w + 1) room below code.0) (stay j i)))
 
   -- ADD SP once or twice, and POP
-  pop_by : (b : Bool) (registers : List (Option ℕ)) (at to : ℕ) → nat_le w 127 ≡ b → HasFrame j i p o (w + 1) → slot o p w ≡ to + 1 → to % 2 ≡ 0 → CodeAt j i p.context.protection at (add_by b w ++ PushPop 1 0 1 0 ∷ []) →
+  pop_by : (b : Bool) (registers : List (Option ℕ)) (at to : ℕ) → nat_le w 127 ≡ b → HasFrame j i p o (w + 1) → home o p w ≡ to + 1 → to % 2 ≡ 0 → CodeAt j i p.context.protection at (add_by b w ++ PushPop 1 0 1 0 ∷ []) →
       Leads j i (if b then 2 else 3) (record p { registers = registers; pc = at }) (record p { registers = registers; sp = p.sp + 4 * (w + 1); pc = to }) []
   pop_by true registers at to e room is even code =
       let ws = room.words in
@@ -93,7 +93,7 @@ module _ (j : PermissionTest) (i : Image) (g : NumberedFunc) (q : Places) (label
       unlend_at j i p (lends_of g q) k at l d.0
 
   leave_here : (r : Option ℕ) (to : ℕ) → HasFrame j i p o ((frame_shape g).words + 1) → IsBelow ((frame_shape g).words + 1) r →
-      slot o p (frame_shape g).words ≡ to + 1 → to % 2 ≡ 0 → HasTerm j i g q labels first p at (Ret r) →
+      home o p (frame_shape g).words ≡ to + 1 → to % 2 ≡ 0 → HasTerm j i g q labels first p at (Ret r) →
       Leads j i (return_steps (frame_shape g).words r) (record p { pc = at + 2 * lent g q })
       (record p { registers = result_known o p r; sp = p.sp + 4 * ((frame_shape g).words + 1); pc = to }) []
   unfolding term_items

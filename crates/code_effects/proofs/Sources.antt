@@ -11,7 +11,7 @@ use Rattle.ir_model.specs.Step.{register, number_in, binary, compared, bit, Sour
 use Rattle.code_model.specs.declared.places.Places.{Places}
 use Rattle.code_model.specs.Addresses.{scale_of}
 use Rattle.code_effects.specs.Points.{Point, Leads}
-use Rattle.code_effects.specs.Frames.{HasFrame, slot, HasInst, behind}
+use Rattle.code_effects.specs.Frames.{HasFrame, home, HasInst, behind}
 use Rattle.code_effects.specs.Numbers.{bin_steps}
 use Rattle.code_effects.specs.Comparisons.{cmp_steps}
 use Rattle.code_effects.specs.Sources.{word_of, IsNumber, Shows, IsSound, SetsWord, SourceEffects}
@@ -54,18 +54,18 @@ module _ (cs : Conditions) (j : PermissionTest) (i : Image) (g : NumberedFunc) (
   finish y t to u v e s =
       subst (λ (w : Value). Sets1 y to (word_of q address w)) (ap set_value e) (subst (λ (k : ℕ). Sets1 y k (word_of q address u)) (ap set_to e) s)
 
-  number_slot : (k : ℕ) → Shows q address fr r o p → k < r → IsNumber (register fr k) → slot o p k ≡ number_in (register fr k)
-  number_slot k sh l h = sh.registers k l ∙ number_word q address (register fr k) h
+  number_home : (k : ℕ) → Shows q address fr r o p → k < r → IsNumber (register fr k) → home o p k ≡ number_in (register fr k)
+  number_home k sh l h = sh.registers k l ∙ number_word q address (register fr k) h
 
   elem_by : (t base index size to : ℕ) (v b : Value) → register fr base ≡ b → with_pointer b (λ ob at. Sets t (At ob (word (at + number_in (register fr index) * size)))) ≡ Sets to v →
       IsSound g q address fr p.sp r n (Elem t base index size) → Shows q address fr r o p → r ≤ n → HasFrame j i p o n → HasInst j i g q labels p p.pc site (Elem t base index size) → Sets1 (Elem t base index size) to (word_of q address v)
   elem_by t base index size to v (At ob at) eb e ok sh le room code =
       let x : ℕ = number_in (register fr index) in
-      let sb : slot o p base ≡ word (address ob + at) = sh.registers base ok.1 ∙ ap (word_of q address) eb in
-      let si : slot o p index ≡ x = number_slot index sh ok.2 ok.3 in
+      let sb : home o p base ≡ word (address ob + at) = sh.registers base ok.1 ∙ ap (word_of q address) eb in
+      let si : home o p index ≡ x = number_home index sh ok.2 ok.3 in
       let sc : scale_of size ≡ size = offsets_agree.scaled size ok.4 in
-      let a : word (slot o p base + slot o p index * scale_of size) ≡ word (address ob + word (at + x * size)) =
-      ap (λ (u : ℕ). word (u + slot o p index * scale_of size)) sb
+      let a : word (home o p base + home o p index * scale_of size) ≡ word (address ob + word (at + x * size)) =
+      ap (λ (u : ℕ). word (u + home o p index * scale_of size)) sb
       ∙ (ap (λ (u : ℕ). word (word (address ob + at) + u * scale_of size)) si
       ∙ (ap (λ (u : ℕ). word (word (address ob + at) + x * u)) sc
       ∙ offsets_agree.moved (address ob) at (x * size))) in
@@ -79,8 +79,8 @@ module _ (cs : Conditions) (j : PermissionTest) (i : Image) (g : NumberedFunc) (
   field_by : (t base offset to : ℕ) (v b : Value) → register fr base ≡ b → with_pointer b (λ ob at. Sets t (At ob (word (at + offset)))) ≡ Sets to v →
       IsSound g q address fr p.sp r n (Field t base offset) → Shows q address fr r o p → r ≤ n → HasFrame j i p o n → HasInst j i g q labels p p.pc site (Field t base offset) → Sets1 (Field t base offset) to (word_of q address v)
   field_by t base offset to v (At ob at) eb e ok sh le room code =
-      let sb : slot o p base ≡ word (address ob + at) = sh.registers base ok.1 ∙ ap (word_of q address) eb in
-      let a : word (slot o p base + offset) ≡ word (address ob + word (at + offset)) = ap (λ (u : ℕ). word (u + offset)) sb ∙ offsets_agree.moved (address ob) at offset in
+      let sb : home o p base ≡ word (address ob + at) = sh.registers base ok.1 ∙ ap (word_of q address) eb in
+      let a : word (home o p base + offset) ≡ word (address ob + word (at + offset)) = ap (λ (u : ℕ). word (u + offset)) sb ∙ offsets_agree.moved (address ob) at offset in
       let l0 = ok.0 in let l1 = ok.1 in
       finish (Field t base offset) t to (At ob (word (at + offset))) v e
       (to_word (Field t base offset) t _ _ 5 a (omega arith) (omega arith) (field j i g q labels site p o n t base offset room (omega arith) (omega arith) ok.2 code))
@@ -103,19 +103,19 @@ module _ (cs : Conditions) (j : PermissionTest) (i : Image) (g : NumberedFunc) (
       let l0 = ok.0 in let l1 = ok.1 in let l2 = ok.2 in
       let x : ℕ = number_in (register fr a) in
       let z : ℕ = number_in (register fr b) in
-      let w : binary op (slot o p a) (slot o p b) ≡ binary op x z =
-      ap (λ (u : ℕ). binary op u (slot o p b)) (number_slot a sh ok.1 ok.3) ∙ ap (λ (u : ℕ). binary op x u) (number_slot b sh ok.2 ok.4) in
+      let w : binary op (home o p a) (home o p b) ≡ binary op x z =
+      ap (λ (u : ℕ). binary op u (home o p b)) (number_home a sh ok.1 ok.3) ∙ ap (λ (u : ℕ). binary op x u) (number_home b sh ok.2 ok.4) in
       let f = bin_few op in
       finish (Bin op t a b) t to (Number (binary op x z)) v e (to_word (Bin op t a b) t _ _ (bin_steps op) w f.0 f.1 (bin j i g q labels site p o n op t a b room (omega arith) (omega arith) (omega arith) code))
   source_by (Cmp op t a b) to v e ok sh le room low code =
       let l0 = ok.0 in let l1 = ok.1 in let l2 = ok.2 in
       let x : ℕ = number_in (register fr a) in
       let z : ℕ = number_in (register fr b) in
-      let w : bit (compared op (slot o p a) (slot o p b)) ≡ bit (compared op x z) =
-      ap (λ (u : ℕ). bit (compared op u (slot o p b))) (number_slot a sh ok.1 ok.3) ∙ ap (λ (u : ℕ). bit (compared op x u)) (number_slot b sh ok.2 ok.4) in
-      let f = cmp_few (compared op (slot o p a) (slot o p b)) in
+      let w : bit (compared op (home o p a) (home o p b)) ≡ bit (compared op x z) =
+      ap (λ (u : ℕ). bit (compared op u (home o p b))) (number_home a sh ok.1 ok.3) ∙ ap (λ (u : ℕ). bit (compared op x u)) (number_home b sh ok.2 ok.4) in
+      let f = cmp_few (compared op (home o p a) (home o p b)) in
       finish (Cmp op t a b) t to (Number (bit (compared op x z))) v e
-      (to_word (Cmp op t a b) t _ _ (cmp_steps (compared op (slot o p a) (slot o p b))) w f.0 f.1 (comparison_effects cs j i g q labels site p o n op t a b room (omega arith) (omega arith) (omega arith) low code))
+      (to_word (Cmp op t a b) t _ _ (cmp_steps (compared op (home o p a) (home o p b))) w f.0 f.1 (comparison_effects cs j i g q labels site p o n op t a b room (omega arith) (omega arith) (omega arith) low code))
   source_by (Addr t (TheGlobal x)) to v e ok sh le room low code =
       let l0 = ok.0 in
       finish (Addr t (TheGlobal x)) t to (address_of fr (TheGlobal x)) v e (to_word (Addr t (TheGlobal x)) t _ _ 3 (at_start _ _ ok.3 ok.2) (omega arith) (omega arith) (addr j i g q labels site p o n t (TheGlobal x) room (omega arith) ok.1 code))

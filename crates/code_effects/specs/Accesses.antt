@@ -19,7 +19,7 @@ use Rattle.code_model.specs.declared.places.Places.{Places}
 use Rattle.code_model.specs.Addresses.{load_at, store_at}
 use Rattle.code_model.specs.Sizes.{inst_size}
 use Rattle.code_effects.specs.Points.{Point, known, Leads, Finishes}
-use Rattle.code_effects.specs.Frames.{HasFrame, slot, HasInst, behind}
+use Rattle.code_effects.specs.Frames.{HasFrame, home, HasInst, behind}
 
 -- an access that protection allows, of an address that is a multiple of its width and leads to this place
 pub record Reach (j : PermissionTest) (i : Image) (p : Point) (kind : Access) (width address : ℕ) (to : Place) : Type 0 where
@@ -35,30 +35,30 @@ behind_store p site to from t = record p { registers = []; pc = p.pc + inst_size
 module _ (j : PermissionTest) (i : Image) (g : NumberedFunc) (q : Places) (labels : List (Option ℕ)) (site : Option ℕ) (p : Point) (o n : ℕ) where
   pub record LoadEffects : Type 0 where
     pub ram : (to from at : ℕ) (t : PlainType) → HasFrame j i p o n → to < n → from < n → HasInst j i g q labels p p.pc site (Load to from t) →
-        Reach j i p Read (width_of t) (slot o p from) (InRam at) → Leads j i 3 p (behind o p site (Load to from t) to (read (width_of t) at p.ram)) []
+        Reach j i p Read (width_of t) (home o p from) (InRam at) → Leads j i 3 p (behind o p site (Load to from t) to (read (width_of t) at p.ram)) []
     pub flash : (to from at : ℕ) (t : PlainType) → HasFrame j i p o n → to < n → from < n → HasInst j i g q labels p p.pc site (Load to from t) →
-        Reach j i p Read (width_of t) (slot o p from) (InFlash at) → Leads j i 3 p (behind o p site (Load to from t) to (read (width_of t) at i.flash)) []
+        Reach j i p Read (width_of t) (home o p from) (InFlash at) → Leads j i 3 p (behind o p site (Load to from t) to (read (width_of t) at i.flash)) []
     -- the window's next recorded word, and none: the run ends
     pub window : (to from w at u : ℕ) (us : List ℕ) (t : PlainType) → HasFrame j i p o n → to < n → from < n → HasInst j i g q labels p p.pc site (Load to from t) →
-        Reach j i p Read (width_of t) (slot o p from) (InWindow w at) → get_or p.queues w [] ≡ u ∷ us →
+        Reach j i p Read (width_of t) (home o p from) (InWindow w at) → get_or p.queues w [] ≡ u ∷ us →
         Leads j i 3 p (record (behind o p site (Load to from t) to (cut (width_of t) u)) { queues = set p.queues w us }) (input_event i p.ram w at (width_of t) u ∷ [])
     pub nothing : (to from w at : ℕ) (t : PlainType) → HasFrame j i p o n → from < n → HasInst j i g q labels p p.pc site (Load to from t) →
-        Reach j i p Read (width_of t) (slot o p from) (InWindow w at) → get_or p.queues w [] ≡ [] → Finishes j i 2 p InputEnd []
+        Reach j i p Read (width_of t) (home o p from) (InWindow w at) → get_or p.queues w [] ≡ [] → Finishes j i 2 p InputEnd []
     -- up to the access itself, where a handler makes it, and from there on, v being what it loaded
     pub before : (to from : ℕ) (t : PlainType) → HasFrame j i p o n → from < n → HasInst j i g q labels p p.pc site (Load to from t) →
-        Leads j i 1 p (record p { registers = None ∷ Some (slot o p from) ∷ []; pc = p.pc + 2 }) []
+        Leads j i 1 p (record p { registers = None ∷ Some (home o p from) ∷ []; pc = p.pc + 2 }) []
     pub access : (to from at : ℕ) (t : PlainType) → HasInst j i g q labels p at site (Load to from t) → Stands j i p.context.protection (at + 2) (load_at t)
     pub after : (to from at v : ℕ) (t : PlainType) → HasFrame j i p o n → to < n → HasInst j i g q labels p at site (Load to from t) →
         Leads j i 1 (record p { registers = known (v ∷ []); pc = at + 4 }) (record p { registers = []; pc = at + inst_size (is_some site) (Load to from t); ram = write 4 (o + 4 * to) v p.ram }) []
 
   pub record StoreEffects : Type 0 where
     pub ram : (to from at : ℕ) (t : PlainType) → HasFrame j i p o n → to < n → from < n → HasInst j i g q labels p p.pc site (Store to from t) →
-        Reach j i p Write (width_of t) (slot o p to) (InRam at) → Leads j i 3 p (record (behind_store p site to from t) { ram = write (width_of t) at (slot o p from) p.ram }) []
+        Reach j i p Write (width_of t) (home o p to) (InRam at) → Leads j i 3 p (record (behind_store p site to from t) { ram = write (width_of t) at (home o p from) p.ram }) []
     pub window : (to from w at : ℕ) (t : PlainType) → HasFrame j i p o n → to < n → from < n → HasInst j i g q labels p p.pc site (Store to from t) →
-        Reach j i p Write (width_of t) (slot o p to) (InWindow w at) → Leads j i 3 p (behind_store p site to from t) (output_event i p.ram w at (width_of t) (slot o p from) ∷ [])
+        Reach j i p Write (width_of t) (home o p to) (InWindow w at) → Leads j i 3 p (behind_store p site to from t) (output_event i p.ram w at (width_of t) (home o p from) ∷ [])
     -- up to the access itself, where a handler makes it
     pub before : (to from : ℕ) (t : PlainType) → HasFrame j i p o n → to < n → from < n → HasInst j i g q labels p p.pc site (Store to from t) →
-        Leads j i 2 p (record p { registers = known (slot o p from ∷ slot o p to ∷ []); pc = p.pc + 4 }) []
+        Leads j i 2 p (record p { registers = known (home o p from ∷ home o p to ∷ []); pc = p.pc + 4 }) []
     pub access : (to from at : ℕ) (t : PlainType) → HasInst j i g q labels p at site (Store to from t) → Stands j i p.context.protection (at + 4) (store_at t)
 
 -- the access has the width of its type

@@ -11,7 +11,7 @@ use Rattle.code_model.specs.Places.{global_address, window_address, entry_addres
 use Rattle.code_model.specs.FrameShape.{local_starts}
 use Rattle.code_model.specs.Addresses.{scale_of}
 use Rattle.code_effects.specs.Points.{Point, Leads}
-use Rattle.code_effects.specs.Frames.{HasFrame, slot, HasInst, behind}
+use Rattle.code_effects.specs.Frames.{HasFrame, home, HasInst, behind}
 use Rattle.ir_model.specs.Typing.{object_limit}
 
 -- where the objects that `addr` names stand
@@ -40,9 +40,9 @@ module _ (j : PermissionTest) (i : Image) (g : NumberedFunc) (q : Places) (label
         Leads j i 3 p (behind o p site (FAddr to f) to (entry_address q f + 1)) []
     -- the scale is the size of an element, up to the largest object's
     pub elem : (to base index size : ℕ) → HasFrame j i p o n → to < n → base < n → index < n → HasInst j i g q labels p p.pc site (Elem to base index size) →
-        Leads j i 7 p (behind o p site (Elem to base index size) to (word (slot o p base + slot o p index * scale_of size))) []
+        Leads j i 7 p (behind o p site (Elem to base index size) to (word (home o p base + home o p index * scale_of size))) []
     pub field : (to base offset : ℕ) → HasFrame j i p o n → to < n → base < n → offset < 2 ^ 32 → HasInst j i g q labels p p.pc site (Field to base offset) →
-        Leads j i 5 p (behind o p site (Field to base offset) to (word (slot o p base + offset))) []
+        Leads j i 5 p (behind o p site (Field to base offset) to (word (home o p base + offset))) []
 
 -- elements and fields of an object that stands at an address: as the source counts its offsets, modulo 2^32
 pub record OffsetsAgree : Type 0 where

@@ -12,10 +12,10 @@ use Rattle.code_model.specs.Places.{entry_address}
 use Rattle.code_model.specs.Words.{supervisor_call}
 use Rattle.code_model.specs.Sizes.{call_size, icall_size, inst_size}
 use Rattle.code_effects.specs.Points.{Point, known, with_r12, Leads}
-use Rattle.code_effects.specs.Frames.{HasFrame, slot, HasInst}
+use Rattle.code_effects.specs.Frames.{HasFrame, home, HasInst}
 
-abbrev pub slots : (o : ℕ) → Point → List ℕ → List ℕ
-slots o p ks = map (slot o p) ks
+abbrev pub homes : (o : ℕ) → Point → List ℕ → List ℕ
+homes o p ks = map (home o p) ks
 
 abbrev pub AllBelow : (n : ℕ) → List ℕ → Type 0
 AllBelow n [] = Unit {0}
@@ -43,20 +43,20 @@ module _ (j : PermissionTest) (i : Image) (g : NumberedFunc) (q : Places) (label
   pub record CallEffects : Type 0 where
     pub call : (to : Option ℕ) (f : ℕ) (args : List ℕ) → HasFrame j i p o n → AllBelow n args → length args ≤ 4 → p.pc < 2 ^ 30 → entry_address q f < 2 ^ 30 →
         HasInst j i g q labels p p.pc None (Call to f args) →
-        Leads j i (length args + 1) p (record p { registers = known (slots o p args); lr = p.pc + call_size false args + 1; pc = entry_address q f }) []
+        Leads j i (length args + 1) p (record p { registers = known (homes o p args); lr = p.pc + call_size false args + 1; pc = entry_address q f }) []
     pub icall : (to : Option ℕ) (h callee : ℕ) (args : List ℕ) → HasFrame j i p o n → h < n → AllBelow n args → length args ≤ 4 → length p.context.high ≡ 5 →
-        slot o p h ≡ callee + 1 → callee % 2 ≡ 0 → HasInst j i g q labels p p.pc None (ICall to h args) →
-        Leads j i (length args + 3) p (record p { context = with_r12 p.context (callee + 1); registers = known (slots o p args); lr = p.pc + icall_size false args + 1; pc = callee }) []
+        home o p h ≡ callee + 1 → callee % 2 ≡ 0 → HasInst j i g q labels p p.pc None (ICall to h args) →
+        Leads j i (length args + 3) p (record p { context = with_r12 p.context (callee + 1); registers = known (homes o p args); lr = p.pc + icall_size false args + 1; pc = callee }) []
 
   -- across: at the SVC, with the callee's entry, its bit 0 set, in r12
   pub record CrossingEffects : Type 0 where
     pub call : (s : ℕ) (to : Option ℕ) (f : ℕ) (args : List ℕ) → HasFrame j i p o n → AllBelow n args → length args ≤ 4 → length p.context.high ≡ 5 → entry_address q f + 1 < 2 ^ 32 →
         HasInst j i g q labels p p.pc (Some s) (Call to f args) →
-        Leads j i (length args + 2) p (record p { context = with_r12 p.context (entry_address q f + 1); registers = known (slots o p args); pc = p.pc + (8 + 2 * length args) }) []
+        Leads j i (length args + 2) p (record p { context = with_r12 p.context (entry_address q f + 1); registers = known (homes o p args); pc = p.pc + (8 + 2 * length args) }) []
     pub call_stands : (at s : ℕ) (to : Option ℕ) (f : ℕ) (args : List ℕ) → HasInst j i g q labels p at (Some s) (Call to f args) → HasCrossing j i p (at + (8 + 2 * length args)) s
     pub icall : (s : ℕ) (to : Option ℕ) (h : ℕ) (args : List ℕ) → HasFrame j i p o n → h < n → AllBelow n args → length args ≤ 4 →
         HasInst j i g q labels p p.pc (Some s) (ICall to h args) →
-        Leads j i (length args + 2) p (record p { context = with_r12 p.context (slot o p h); registers = known (slots o p args); pc = p.pc + (4 + 2 * length args) }) []
+        Leads j i (length args + 2) p (record p { context = with_r12 p.context (home o p h); registers = known (homes o p args); pc = p.pc + (4 + 2 * length args) }) []
     pub icall_stands : (at s : ℕ) (to : Option ℕ) (h : ℕ) (args : List ℕ) → HasInst j i g q labels p at (Some s) (ICall to h args) → HasCrossing j i p (at + (4 + 2 * length args)) s
 
   -- from the return on, v being in r0

@@ -32,7 +32,7 @@ abbrev pub entry_steps : (words : ℕ) → ℕ
 entry_steps w = if nat_le w 127 then 3 + w else 4 + w
 
 abbrev pub no_lend : Lend
-no_lend = record { slot = 0; number = 0 }
+no_lend = record { home = 0; number = 0 }
 
 -- the frame stands from `to` on, right below the caller's stack pointer
 pub record FrameMade (j : PermissionTest) (i : Image) (g : NumberedFunc) (p : Point) (o to : ℕ) (arguments : List ℕ) : Type 0 where
@@ -46,9 +46,9 @@ module _ (j : PermissionTest) (i : Image) (g : NumberedFunc) (q : Places) (label
     pub frame : (arguments : List ℕ) → length arguments ≡ row_length g.params → length arguments ≤ (frame_shape g).words → to + 4 * ((frame_shape g).words + 1) ≡ p.sp →
         length p.ram ≡ i.ram_size → Room j i p.context.protection to o ((frame_shape g).words + 1) → HasEntry j i g q labels p p.pc → FrameMade j i g p o to arguments
     -- up to the SVC of a lend: the local's address in r0, and its number in r1
-    pub lend : (at k : ℕ) → k < length (lends_of g q) → p.sp + 4 * (get_or (lends_of g q) k no_lend).slot < 2 ^ 32 → HasEntry j i g q labels p at →
+    pub lend : (at k : ℕ) → k < length (lends_of g q) → p.sp + 4 * (get_or (lends_of g q) k no_lend).home < 2 ^ 32 → HasEntry j i g q labels p at →
         Leads j i 2 (record p { pc = at + entry_size g k })
-        (record p { registers = known ((p.sp + 4 * (get_or (lends_of g q) k no_lend).slot) ∷ (get_or (lends_of g q) k no_lend).number ∷ []); pc = at + entry_size g k + 4 }) []
+        (record p { registers = known ((p.sp + 4 * (get_or (lends_of g q) k no_lend).home) ∷ (get_or (lends_of g q) k no_lend).number ∷ []); pc = at + entry_size g k + 4 }) []
     pub lend_stands : (at k : ℕ) → k < length (lends_of g q) → HasEntry j i g q labels p at → Stands j i p.context.protection (at + entry_size g k + 4) (supervisor_call 2)
     -- behind it the next lend begins, or the first block
     pub next_lend : (at k : ℕ) → at + entry_size g k + 4 + 2 ≡ at + entry_size g (suc k)

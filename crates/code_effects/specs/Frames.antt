@@ -18,8 +18,8 @@ abbrev pub HasFrame : PermissionTest → Image → Point → (o n : ℕ) → Typ
 HasFrame j i p o n = Room j i p.context.protection p.sp o n
 
 -- what word k holds: register k of the function, where it has that register
-abbrev pub slot : (o : ℕ) → Point → (k : ℕ) → ℕ
-slot o p k = read 4 (o + 4 * k) p.ram
+abbrev pub home : (o : ℕ) → Point → (k : ℕ) → ℕ
+home o p k = read 4 (o + 4 * k) p.ram
 
 -- the code of an instruction stands at an address. `site` is the site of a call that may go to another compartment
 abbrev pub HasInst : PermissionTest → Image → NumberedFunc → Places → (labels : List (Option ℕ)) → Point → (at : ℕ) → (site : Option ℕ) → NumberedInst → Type 0

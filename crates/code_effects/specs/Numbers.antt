@@ -9,7 +9,7 @@ use Rattle.ir_model.specs.Resolved.{NumberedFunc, Const, Move, Bin}
 use Rattle.ir_model.specs.Step.{binary}
 use Rattle.code_model.specs.declared.places.Places.{Places}
 use Rattle.code_effects.specs.Points.{Point, Leads}
-use Rattle.code_effects.specs.Frames.{HasFrame, slot, HasInst, behind}
+use Rattle.code_effects.specs.Frames.{HasFrame, home, HasInst, behind}
 
 -- LDR, LDR, the operation, STR; a remainder takes two instructions more
 abbrev pub bin_steps : BinOp → ℕ
@@ -20,7 +20,7 @@ bin_steps _ = 4
 module _ (j : PermissionTest) (i : Image) (g : NumberedFunc) (q : Places) (labels : List (Option ℕ)) (site : Option ℕ) (p : Point) (o n : ℕ) where
   pub record NumberEffects : Type 0 where
     pub const : (to v : ℕ) → HasFrame j i p o n → to < n → v < 2 ^ 32 → HasInst j i g q labels p p.pc site (Const to v) → Leads j i 3 p (behind o p site (Const to v) to v) []
-    pub move : (to from : ℕ) → HasFrame j i p o n → to < n → from < n → HasInst j i g q labels p p.pc site (Move to from) → Leads j i 2 p (behind o p site (Move to from) to (slot o p from)) []
+    pub move : (to from : ℕ) → HasFrame j i p o n → to < n → from < n → HasInst j i g q labels p p.pc site (Move to from) → Leads j i 2 p (behind o p site (Move to from) to (home o p from)) []
     -- the result is the source's: of divisions and remainders, also by 0, and of shifts by any amount
     pub bin : (op : BinOp) (to a b : ℕ) → HasFrame j i p o n → to < n → a < n → b < n → HasInst j i g q labels p p.pc site (Bin op to a b) →
-        Leads j i (bin_steps op) p (behind o p site (Bin op to a b) to (binary op (slot o p a) (slot o p b))) []
+        Leads j i (bin_steps op) p (behind o p site (Bin op to a b) to (binary op (home o p a) (home o p b))) []

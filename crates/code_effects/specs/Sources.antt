@@ -12,7 +12,7 @@ use Rattle.ir_model.specs.Typing.{object_limit}
 use Rattle.code_model.specs.declared.places.Places.{Places}
 use Rattle.code_model.specs.Places.{entry_address}
 use Rattle.code_effects.specs.Points.{Point, Leads}
-use Rattle.code_effects.specs.Frames.{HasFrame, slot, HasInst, behind}
+use Rattle.code_effects.specs.Frames.{HasFrame, home, HasInst, behind}
 use Rattle.code_effects.specs.Addresses.{named_address, CanName}
 
 -- the word that stands for a value, by the addresses of objects
@@ -34,7 +34,7 @@ object_of fr (TheLocal l) = OfLocal fr.func fr.number l
 
 -- the words of the frame are those of its first `count` registers
 pub record Shows (q : Places) (address : Instance → ℕ) (fr : Frame) (count o : ℕ) (p : Point) : Type 0 where
-  pub registers : (k : ℕ) → k < count → slot o p k ≡ word_of q address (register fr k)
+  pub registers : (k : ℕ) → k < count → home o p k ≡ word_of q address (register fr k)
 
 -- what types and places promise of an instruction: its registers are the function's, numbers are words, operands of operations are
 -- numbers, objects stand where code expects them, and an element is no larger than any object

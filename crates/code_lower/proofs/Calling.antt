@@ -6,7 +6,7 @@ use Rattle.machine_thumb.specs.declared.table.Instr.{Instr}
 use Rattle.machine_thumb_asm.specs.declared.item.Item.{Item}
 use Rattle.machine_thumb_asm.specs.declared.item.Item.TheVariants.{Half}
 use Rattle.machine_thumb_asm.specs.Assembly.{Assembly, here, total}
-use Rattle.code_model.specs.Words.{plain, load_slot, save_code, word_into, supervisor_call}
+use Rattle.code_model.specs.Words.{plain, load_home, save_code, word_into, supervisor_call}
 use Rattle.code_model.specs.Calls.{args_code, call_code, cross_code, callee_code, icall_code, icross_code, call_items}
 use Rattle.code_model.specs.Emitted.{with_more, HasRoom, IsNear}
 use Rattle.code_model.proofs.PieceSizes.{call_items_total}
@@ -15,15 +15,15 @@ use Rattle.code_model.proofs.Filling.{args_total}
 
 module _ (as_ : List ℕ) (i : ℕ) (d : ℕ) (l : i < length as_) where
   abbrev next_arg : List Instr
-  next_arg = load_slot i (get_or as_ i d) ∷ []
+  next_arg = load_home i (get_or as_ i d) ∷ []
 
   abbrev other_args : List Instr
   other_args = args_code (i + 1) (drop (i + 1) as_)
 
-  args_more : args_code i (drop i as_) ≡ load_slot i (get_or as_ i d) ∷ other_args
+  args_more : args_code i (drop i as_) ≡ load_home i (get_or as_ i d) ∷ other_args
   args_more =
       let one : suc i ≡ i + 1 = omega arith in
-      ap (args_code i) (drop_more as_ i d l) ∙ ap (λ k. load_slot i (get_or as_ i d) ∷ args_code k (drop (i + 1) as_)) one
+      ap (args_code i) (drop_more as_ i d l) ∙ ap (λ k. load_home i (get_or as_ i d) ∷ args_code k (drop (i + 1) as_)) one
 
   pub arg_room : (a : Assembly) → HasRoom a (plain (args_code i (drop i as_))) → HasRoom a (plain next_arg)
   arg_room a h = room_first a (plain next_arg) (plain other_args) (rw args_more at h)

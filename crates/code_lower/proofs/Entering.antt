@@ -5,20 +5,20 @@ use Rattle.machine_thumb.specs.declared.table.Instr.{Instr}
 use Rattle.machine_thumb.specs.declared.table.Instr.TheVariants.{PushPop}
 use Rattle.code_lower.specs.declared.subject.Lent.{Lent}
 use Rattle.code_model.specs.Places.{Lend}
-use Rattle.code_model.specs.Words.{plain, store_slot, slot_address, byte_into, supervisor_call}
+use Rattle.code_model.specs.Words.{plain, store_home, home_address, byte_into, supervisor_call}
 use Rattle.code_model.specs.Entry.{sub_code, add_code, stores_code, frame_code, lend_code, unlend_code, result_code, leave_code}
 use Rattle.code_lower.specs.Subjects.{lend_of}
 use Rattle.code_lower.proofs.Putting.{plain-append}
 
-pub stores_next : (t : ℕ → ℕ) (w k : ℕ) → k < w → stores_code t (w - k) k ≡ (store_slot (t k) k ∷ []) ++ stores_code t (w - (k + 1)) (k + 1)
+pub stores_next : (t : ℕ → ℕ) (w k : ℕ) → k < w → stores_code t (w - k) k ≡ (store_home (t k) k ∷ []) ++ stores_code t (w - (k + 1)) (k + 1)
 stores_next t w k l =
     let more : w - k ≡ suc (w - (k + 1)) = omega arith in
     let one : suc k ≡ k + 1 = omega arith in
-    ap (λ n. stores_code t n k) more ∙ ap (λ n. store_slot (t k) k ∷ stores_code t (w - (k + 1)) n) one
+    ap (λ n. stores_code t n k) more ∙ ap (λ n. store_home (t k) k ∷ stores_code t (w - (k + 1)) n) one
 
 -- one loan
 abbrev pub loan_code : Lend → List Instr
-loan_code d = slot_address 0 d.slot ∷ byte_into 1 d.number ∷ supervisor_call 2 ∷ []
+loan_code d = home_address 0 d.home ∷ byte_into 1 d.number ∷ supervisor_call 2 ∷ []
 
 -- all are alike, so the last is as the first
 unlends_turn : (ds : List Lend) → unlend_code ds ++ supervisor_call 3 ∷ [] ≡ supervisor_call 3 ∷ unlend_code ds

@@ -19,10 +19,10 @@ use Rattle.code_model.specs.FunctionCode.{block_pieces, blocks_pieces, blocks_la
 use Rattle.code_model.specs.Fitting.{FuncFits}
 
 abbrev pub lend_of : Lent → Lend
-lend_of l = record { slot = l.slot; number = l.number }
+lend_of l = record { home = l.home; number = l.number }
 
 abbrev pub IsSmallLend : Lent → Type 0
-IsSmallLend l = (l.slot < 256) × (l.number < 32)
+IsSmallLend l = (l.home < 256) × (l.number < 32)
 
 -- so many labels, numbered from this one on
 abbrev pub labels_from : (first count : ℕ) → List Label

@@ -12,7 +12,7 @@ ghost use Rattle.code_model.specs.Addresses as address;
 ghost use Rattle.code_model.specs.Addresses.{elem_code, field_code, load_code, store_code};
 ghost use Rattle.code_model.specs.Emitted.{with_more, HasRoom};
 
-use crate::instructions::{load_slot, put, save, slot_address, word_into};
+use crate::instructions::{home_address, load_home, put, save, word_into};
 use ir_layouts::table::Layouts;
 use ir_model::types::Ty;
 use machine_thumb::Instr;
@@ -20,13 +20,13 @@ use machine_thumb_asm::Asm;
 use std::alloc::AllocError;
 
 /// The address of a word of the frame into a register of the function.
-pub(crate) fn put_local_address(asm: &mut Asm, to: usize, slot: usize) -> Result<(), AllocError>
+pub(crate) fn put_local_address(asm: &mut Asm, to: usize, home: usize) -> Result<(), AllocError>
     requires to_near { to < 256 }
-    requires slot_near { slot < 256 }
-    requires room { HasRoom asm.old (plain (word.slot_address 0 slot ∷ word.save to ∷ [])) }
-    ensures { OnOk result (asm.new ≡ with_more asm.old (plain (word.slot_address 0 slot ∷ word.save to ∷ []))) }
+    requires home_near { home < 256 }
+    requires room { HasRoom asm.old (plain (word.home_address 0 home ∷ word.save to ∷ [])) }
+    ensures { OnOk result (asm.new ≡ with_more asm.old (plain (word.home_address 0 home ∷ word.save to ∷ []))) }
 {
-    put(asm, &[slot_address(0, slot), save(to)])
+    put(asm, &[home_address(0, home), save(to)])
 }
 
 /// The size of an element, as it is multiplied: no object is larger than 65,536 bytes, so a larger element is never pointed to.
@@ -73,8 +73,8 @@ pub(crate) fn put_elem(
     let [low, high] = word_into(2, scale(layouts, element));
     let product = Instr::DataRegister { op: 13, m: 2, d: 1 };
     let code = [
-        load_slot(0, base),
-        load_slot(1, index),
+        load_home(0, base),
+        load_home(1, index),
         low,
         high,
         product,
@@ -97,7 +97,7 @@ pub(crate) fn put_field(
     ensures { OnOk result (asm.new ≡ with_more asm.old (plain (field_code to base offset))) }
 {
     let [low, high] = word_into(1, offset);
-    put(asm, &[load_slot(0, base), low, high, sum(), save(to)])
+    put(asm, &[load_home(0, base), low, high, sum(), save(to)])
 }
 
 /// LDRB, LDRH or LDR r0, [r1, #0], by the type that is pointed to.
@@ -140,7 +140,7 @@ pub(crate) fn put_load(
     requires room { HasRoom asm.old (plain (load_code to from (pointee_of ty))) }
     ensures { OnOk result (asm.new ≡ with_more asm.old (plain (load_code to from (pointee_of ty.entry)))) }
 {
-    put(asm, &[load_slot(1, from), load_at(ty), save(to)])
+    put(asm, &[load_home(1, from), load_at(ty), save(to)])
 }
 
 /// A register of the function to where another points.
@@ -155,5 +155,5 @@ pub(crate) fn put_store(
     requires room { HasRoom asm.old (plain (store_code to from (pointee_of ty))) }
     ensures { OnOk result (asm.new ≡ with_more asm.old (plain (store_code to from (pointee_of ty.entry)))) }
 {
-    put(asm, &[load_slot(1, to), load_slot(0, from), store_at(ty)])
+    put(asm, &[load_home(1, to), load_home(0, from), store_at(ty)])
 }

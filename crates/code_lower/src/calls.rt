@@ -13,7 +13,7 @@ ghost use Rattle.code_model.specs.Calls.{args_code, cross_code, callee_code, ica
 ghost use Rattle.code_model.specs.Emitted.{with_more, HasRoom, IsNear};
 ghost use Rattle.plan_model.specs.CompileLimits.{site_limit};
 
-use crate::instructions::{load_slot, put, save, supervisor_call, word_into};
+use crate::instructions::{load_home, put, save, supervisor_call, word_into};
 use machine_thumb::Instr;
 use machine_thumb_asm::Asm;
 use std::alloc::AllocError;
@@ -26,7 +26,7 @@ fn put_args(asm: &mut Asm, args: &[usize]) -> Result<(), AllocError>
     ensures { OnOk result (asm.new ≡ with_more asm.old (plain (args_code 0 args.now))) }
 {
     for (register, arg) in args.iter().enumerate() {
-        put(asm, &[load_slot(register as u8, *arg)])?;
+        put(asm, &[load_home(register as u8, *arg)])?;
     }
     Ok(())
 }
@@ -157,7 +157,7 @@ fn put_callee(asm: &mut Asm, callee: usize, args: &[usize]) -> Result<(), AllocE
     ensures { OnOk result (asm.new ≡ with_more asm.old (plain (callee_code callee args.now))) }
 {
     let into_r12 = Instr::HighRegister { op: 2, m: 0, d: 12 };
-    put(asm, &[load_slot(0, callee), into_r12])?;
+    put(asm, &[load_home(0, callee), into_r12])?;
     put_args(asm, args)
 }
 

@@ -6,7 +6,7 @@ ghost use Rattle.code_model.specs.Comparisons as comparison;
 ghost use Rattle.code_model.specs.Comparisons.{cmp_code};
 ghost use Rattle.code_model.specs.Emitted.{with_more, HasRoom};
 
-use crate::instructions::{byte_into, load_slot, put, save};
+use crate::instructions::{byte_into, load_home, put, save};
 use ir_model::firmware::CmpOp;
 use machine_thumb::Instr;
 use machine_thumb_asm::Asm;
@@ -53,8 +53,8 @@ pub(crate) fn put_cmp(
     put(
         asm,
         &[
-            load_slot(0, a),
-            load_slot(1, b),
+            load_home(0, a),
+            load_home(1, b),
             Instr::DataRegister { op: 10, m: 1, d: 0 },
             over_two,
             byte_into(0, 0),

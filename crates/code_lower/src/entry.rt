@@ -9,7 +9,7 @@ ghost use Rattle.code_model.specs.Entry.{sub_code, add_code, stores_code, frame_
 ghost use Rattle.code_lower.specs.Subjects.{lend_of, IsSmallLend};
 ghost use Rattle.code_model.specs.Emitted.{with_more, HasRoom};
 
-use crate::instructions::{byte_into, load_slot, put, slot_address, store_slot, supervisor_call};
+use crate::instructions::{byte_into, home_address, load_home, put, store_home, supervisor_call};
 use crate::subject::Lent;
 use machine_thumb::Instr;
 use machine_thumb_asm::Asm;
@@ -64,7 +64,7 @@ fn put_params(asm: &mut Asm, params: usize) -> Result<(), AllocError>
     ensures { OnOk result (asm.new ≡ with_more asm.old (plain (stores_code (λ k. k) params 0))) }
 {
     for k in 0..params {
-        put(asm, &[store_slot(k as u8, k)])?;
+        put(asm, &[store_home(k as u8, k)])?;
     }
     Ok(())
 }
@@ -77,7 +77,7 @@ fn put_clears(asm: &mut Asm, from: usize, words: usize) -> Result<(), AllocError
     ensures { OnOk result (asm.new ≡ with_more asm.old (plain (stores_code (λ k. 0) (words - from) from))) }
 {
     for k in from..words {
-        put(asm, &[store_slot(0, k)])?;
+        put(asm, &[store_home(0, k)])?;
     }
     Ok(())
 }
@@ -111,7 +111,7 @@ fn put_lends(asm: &mut Asm, lent: &[Lent]) -> Result<(), AllocError>
 {
     for lend in lent {
         let code = [
-            slot_address(0, lend.slot),
+            home_address(0, lend.home),
             byte_into(1, lend.number as u8),
             supervisor_call(2),
         ];
@@ -157,7 +157,7 @@ fn put_outcome(asm: &mut Asm, outcome: Option<usize>) -> Result<(), AllocError>
 {
     match outcome {
         None => Ok(()),
-        Some(register) => put(asm, &[load_slot(0, register)]),
+        Some(register) => put(asm, &[load_home(0, register)]),
     }
 }
 

@@ -11,10 +11,10 @@ use machine_thumb_asm::Asm;
 use std::alloc::AllocError;
 
 /// LDR t, [SP, #4 k]
-pub(crate) fn load_slot(t: u8, k: usize) -> Instr
+pub(crate) fn load_home(t: u8, k: usize) -> Instr
     requires low { t < 8 }
     requires near { k < 256 }
-    ensures code { result ≡ word.load_slot t k }
+    ensures code { result ≡ word.load_home t k }
     ensures in_table { InTable result }
 {
     Instr::StackRelative {
@@ -26,10 +26,10 @@ pub(crate) fn load_slot(t: u8, k: usize) -> Instr
 }
 
 /// STR t, [SP, #4 k]
-pub(crate) fn store_slot(t: u8, k: usize) -> Instr
+pub(crate) fn store_home(t: u8, k: usize) -> Instr
     requires low { t < 8 }
     requires near { k < 256 }
-    ensures code { result ≡ word.store_slot t k }
+    ensures code { result ≡ word.store_home t k }
     ensures in_table { InTable result }
 {
     Instr::StackRelative {
@@ -46,14 +46,14 @@ pub(crate) fn save(k: usize) -> Instr
     ensures code { result ≡ word.save k }
     ensures in_table { InTable result }
 {
-    store_slot(0, k)
+    store_home(0, k)
 }
 
 /// ADD d, SP, #4 k: the address of a word of the frame.
-pub(crate) fn slot_address(d: u8, k: usize) -> Instr
+pub(crate) fn home_address(d: u8, k: usize) -> Instr
     requires low { d < 8 }
     requires near { k < 256 }
-    ensures code { result ≡ word.slot_address d k }
+    ensures code { result ≡ word.home_address d k }
     ensures in_table { InTable result }
 {
     Instr::StackRelative {

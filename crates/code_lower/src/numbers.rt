@@ -9,7 +9,7 @@ ghost use Rattle.machine_thumb.specs.Table.{InTable};
 ghost use Rattle.machine_thumb.specs.declared.table.Instr.TheVariants.{Divide, DataRegister, AddSubRegister};
 ghost use Rattle.ir_model.specs.declared.firmware.BinOp.TheVariants as ops;
 
-use crate::instructions::{load_slot, put, save, word_into};
+use crate::instructions::{load_home, put, save, word_into};
 use ir_model::firmware::BinOp;
 use machine_thumb::Instr;
 use machine_thumb_asm::Asm;
@@ -32,7 +32,7 @@ pub(crate) fn put_move(asm: &mut Asm, to: usize, from: usize) -> Result<(), Allo
     requires room { HasRoom asm.old (plain (move_code to from)) }
     ensures { OnOk result (asm.new ≡ with_more asm.old (plain (move_code to from))) }
 {
-    put(asm, &[load_slot(0, from), save(to)])
+    put(asm, &[load_home(0, from), save(to)])
 }
 
 /// The instruction that computes r0 from r0 and r1.
@@ -110,7 +110,7 @@ pub(crate) fn put_bin(
     requires room { HasRoom asm.old (plain (bin_code op to a b)) }
     ensures { OnOk result (asm.new ≡ with_more asm.old (plain (bin_code op to a b))) }
 {
-    put(asm, &[load_slot(0, a), load_slot(1, b)])?;
+    put(asm, &[load_home(0, a), load_home(1, b)])?;
     put_operation(asm, op)?;
     put(asm, &[save(to)])
 }

@@ -23,7 +23,7 @@ use std::alloc::{AllocError, Global};
 #[derive(Clone, Copy)]
 pub(crate) struct Lent {
     /// The first of its words in the frame.
-    pub slot: usize,
+    pub home: usize,
     /// The number by which it is lent.
     pub number: u32,
 }
@@ -58,8 +58,8 @@ fn push_lent(lent: &mut Vec<Lent>, start: u32, number: Option<u32>) -> Result<()
     match number {
         None => Ok(()),
         Some(number) => {
-            let slot = (start / 4) as usize;
-            lent.push(Lent { slot, number })?;
+            let home = (start / 4) as usize;
+            lent.push(Lent { home, number })?;
             Ok(())
         }
     }
@@ -180,7 +180,7 @@ impl Subject<'_> {
     }
 
     /// The first word of a local in the frame.
-    pub(crate) fn slot(&self, local: usize) -> usize
+    pub(crate) fn home(&self, local: usize) -> usize
         requires subject { IsSubject self.now }
         requires there { local < length (func_of self.now).locals }
         ensures exact { result ≡ get_or (frame_shape (func_of self.now)).starts local 0 / 4 }

@@ -17,7 +17,7 @@ use crate::addresses::{put_elem, put_field, put_load, put_local_address, put_sto
 use crate::calls::{put_call, put_icall};
 use crate::comparisons::put_cmp;
 use crate::entry::{put_enter, put_leave};
-use crate::instructions::{load_slot, put};
+use crate::instructions::{load_home, put};
 use crate::numbers::{put_bin, put_const, put_move};
 use crate::subject::Subject;
 use ir_program::program::{Exit, Operation, Target};
@@ -41,7 +41,7 @@ fn put_addr(asm: &mut Asm, subject: &Subject, to: usize, of: Target) -> Result<(
             let address = subject.places.windows.as_slice()[periph as usize];
             put_const(asm, to, address)
         }
-        Target::Local(local) => put_local_address(asm, to, subject.slot(local as usize)),
+        Target::Local(local) => put_local_address(asm, to, subject.home(local as usize)),
     }
 }
 
@@ -114,7 +114,7 @@ fn put_branch(
         imm8: 0,
     };
     let over_one = Instr::BranchConditional { cond: 0, offset: 2 };
-    put(asm, &[load_slot(0, on), compare, over_one])?;
+    put(asm, &[load_home(0, on), compare, over_one])?;
     asm.branch(BranchKind::Long, subject.label(yes))?;
     asm.branch(BranchKind::Long, subject.label(no))
 }

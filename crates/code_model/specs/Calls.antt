@@ -7,12 +7,12 @@ use Rattle.machine_thumb_asm.specs.declared.item.Item.{Item}
 use Rattle.machine_thumb_asm.specs.declared.item.Item.TheVariants.{Half}
 use Rattle.machine_thumb_asm.specs.Assembly.{total}
 use Rattle.machine_thumb_asm.specs.Finished.{distance}
-use Rattle.code_model.specs.Words.{load_slot, save_code, word_into, supervisor_call, plain}
+use Rattle.code_model.specs.Words.{load_home, save_code, word_into, supervisor_call, plain}
 
 -- LDR of these words of the frame into registers from this one on
 abbrev pub args_code : (register : ℕ) → List ℕ → List Instr
 args_code r [] = []
-args_code r (a ∷ more) = load_slot r a ∷ args_code (suc r) more
+args_code r (a ∷ more) = load_home r a ∷ args_code (suc r) more
 
 -- BL
 abbrev pub call_code : (args : List ℕ) → ℤ → List Instr
@@ -23,7 +23,7 @@ cross_code entry args = (word_into 12 (entry + 1) ++ args_code 0 args) ++ superv
 
 -- LDR r0 and MOV r12, r0: the function whose address a register of the function holds
 abbrev pub callee_code : (callee : ℕ) → (args : List ℕ) → List Instr
-callee_code h args = load_slot 0 h ∷ HighRegister 2 0 12 ∷ args_code 0 args
+callee_code h args = load_home 0 h ∷ HighRegister 2 0 12 ∷ args_code 0 args
 
 -- BLX r12
 abbrev pub icall_code : (callee : ℕ) → (args : List ℕ) → List Instr

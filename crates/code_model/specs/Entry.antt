@@ -4,7 +4,7 @@ use Rattle.std.specs.Prelude.{ℕ, zero, suc, ◌-◌, List, [], ◌∷◌, ◌+
 use Rattle.machine_thumb.specs.declared.table.Instr.{Instr}
 use Rattle.machine_thumb.specs.declared.table.Instr.TheVariants.{AdjustStack, PushPop}
 use Rattle.code_model.specs.Places.{Lend}
-use Rattle.code_model.specs.Words.{load_slot, store_slot, byte_into, slot_address, supervisor_call}
+use Rattle.code_model.specs.Words.{load_home, store_home, byte_into, home_address, supervisor_call}
 
 -- SUB SP and ADD SP by so many words: one instruction reaches 127 words, and two the largest frame
 abbrev pub sub_by : (once : Bool) → (words : ℕ) → List Instr
@@ -24,7 +24,7 @@ add_code w = add_by (nat_le w 127) w
 -- STR of a register t(k) into each of so many words k, from this one on
 abbrev pub stores_code : (t : ℕ → ℕ) → (count from : ℕ) → List Instr
 stores_code t zero k = []
-stores_code t (suc n) k = store_slot (t k) k ∷ stores_code t n (suc k)
+stores_code t (suc n) k = store_home (t k) k ∷ stores_code t n (suc k)
 
 -- PUSH {lr}; SUB SP; the parameters from r0 on into the first words; MOVS r0, #0; and r0 into all the others
 unfoldable pub frame_code : (params words : ℕ) → List Instr
@@ -33,7 +33,7 @@ frame_code n w = (PushPop 0 1 0 0 ∷ sub_code w) ++ (stores_code (λ k. k) n 0 
 -- ADD r0, SP; MOVS r1, #number; SVC #2, for each
 abbrev pub lend_code : List Lend → List Instr
 lend_code [] = []
-lend_code (d ∷ ds) = slot_address 0 d.slot ∷ byte_into 1 d.number ∷ supervisor_call 2 ∷ lend_code ds
+lend_code (d ∷ ds) = home_address 0 d.home ∷ byte_into 1 d.number ∷ supervisor_call 2 ∷ lend_code ds
 
 abbrev pub enter_code : (params words : ℕ) → List Lend → List Instr
 enter_code n w ds = frame_code n w ++ lend_code ds
@@ -45,7 +45,7 @@ unlend_code (d ∷ ds) = unlend_code ds ++ supervisor_call 3 ∷ []
 
 abbrev pub result_code : Option ℕ → List Instr
 result_code None = []
-result_code (Some k) = load_slot 0 k ∷ []
+result_code (Some k) = load_home 0 k ∷ []
 
 -- the result into r0; ADD SP; POP {pc}
 abbrev pub leave_code : (words : ℕ) → List Lend → (result : Option ℕ) → List Instr

@@ -4,13 +4,13 @@ use Rattle.machine_thumb.specs.declared.table.Instr.{Instr}
 use Rattle.machine_thumb.specs.declared.table.Instr.TheVariants.{AddSubRegister, DataRegister, Divide}
 use Rattle.ir_model.specs.declared.firmware.BinOp.{BinOp}
 use Rattle.ir_model.specs.declared.firmware.BinOp.TheVariants.{Add, Sub, Mul, Udiv, Sdiv, Urem, Srem, And, Or, Xor, Bic, Shl, Shr, Sar}
-use Rattle.code_model.specs.Words.{load_slot, save, word_into}
+use Rattle.code_model.specs.Words.{load_home, save, word_into}
 
 abbrev pub const_code : (to value : ℕ) → List Instr
 const_code to v = word_into 0 v ++ save to ∷ []
 
 abbrev pub move_code : (to from : ℕ) → List Instr
-move_code to from = load_slot 0 from ∷ save to ∷ []
+move_code to from = load_home 0 from ∷ save to ∷ []
 
 -- ADDS, SUBS r0, r0, r1; MULS r0, r1; UDIV, SDIV r0, r0, r1; ANDS, ORRS, EORS, BICS, LSLS, LSRS, ASRS r0, r1. A remainder is
 -- UDIV or SDIV r2, r0, r1; MULS r2, r1; SUBS r0, r0, r2
@@ -31,4 +31,4 @@ operation Shr = DataRegister 3 1 0 ∷ []
 operation Sar = DataRegister 4 1 0 ∷ []
 
 abbrev pub bin_code : BinOp → (to a b : ℕ) → List Instr
-bin_code op to a b = load_slot 0 a ∷ load_slot 1 b ∷ operation op ++ save to ∷ []
+bin_code op to a b = load_home 0 a ∷ load_home 1 b ∷ operation op ++ save to ∷ []

@@ -23,7 +23,7 @@ crosses ss b k = is_some (site_in ss b k)
 
 -- a local that is lent: the first of its words in the frame, and the number by which it is lent
 pub record Lend : Type 0 where
-  pub slot : ℕ
+  pub home : ℕ
   pub number : ℕ
 
 -- of the locals that begin there and have these numbers, those that are lent
@@ -31,4 +31,4 @@ abbrev pub lends_among : (starts : List ℕ) → List (Option ℕ) → List Lend
 lends_among [] ns = []
 lends_among (s ∷ ss) [] = []
 lends_among (s ∷ ss) (None ∷ ns) = lends_among ss ns
-lends_among (s ∷ ss) (Some n ∷ ns) = record { slot = s / 4; number = n } ∷ lends_among ss ns
+lends_among (s ∷ ss) (Some n ∷ ns) = record { home = s / 4; number = n } ∷ lends_among ss ns

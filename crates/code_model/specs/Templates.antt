@@ -12,7 +12,7 @@ use Rattle.ir_model.specs.Signatures.{row_length}
 use Rattle.code_model.specs.declared.places.Places.{Places}
 use Rattle.code_model.specs.FrameShape.{frame_shape}
 use Rattle.code_model.specs.Places.{Lend, entry_address, lends_among}
-use Rattle.code_model.specs.Words.{load_slot, plain}
+use Rattle.code_model.specs.Words.{load_home, plain}
 use Rattle.code_model.specs.Numbers.{const_code, move_code, bin_code}
 use Rattle.code_model.specs.Comparisons.{cmp_code}
 use Rattle.code_model.specs.Addresses.{addr_code, faddr_code, elem_code, field_code, load_code, store_code}
@@ -47,7 +47,7 @@ jump_items first b = let l : Label = record { number = first + b } in Branch Lon
 
 -- LDR r0; CMP r0, #0; BEQ over the next branch
 abbrev pub test_code : (on : ℕ) → List Instr
-test_code on = load_slot 0 on ∷ DataImmediate 1 0 0 ∷ BranchConditional 0 (pos 2) ∷ []
+test_code on = load_home 0 on ∷ DataImmediate 1 0 0 ∷ BranchConditional 0 (pos 2) ∷ []
 
 unfoldable pub term_items : NumberedFunc → Places → (first : ℕ) → NumberedTerm → List Item
 term_items g q first (ir.Jump b) = jump_items first b

@@ -8,16 +8,16 @@ use Rattle.machine_thumb_asm.specs.declared.item.Item.{Item}
 use Rattle.machine_thumb_asm.specs.declared.item.Item.TheVariants.{Plain}
 
 -- LDR t, [SP, #4 k]
-abbrev pub load_slot : (t k : ℕ) → Instr
-load_slot t k = StackRelative 1 t 0 k
+abbrev pub load_home : (t k : ℕ) → Instr
+load_home t k = StackRelative 1 t 0 k
 
 -- STR t, [SP, #4 k]
-abbrev pub store_slot : (t k : ℕ) → Instr
-store_slot t k = StackRelative 0 t 0 k
+abbrev pub store_home : (t k : ℕ) → Instr
+store_home t k = StackRelative 0 t 0 k
 
 -- r0 into a register of the function
 abbrev pub save : ℕ → Instr
-save k = store_slot 0 k
+save k = store_home 0 k
 
 -- where a result is kept, if it is
 abbrev pub save_code : Option ℕ → List Instr
@@ -25,8 +25,8 @@ save_code None = []
 save_code (Some k) = save k ∷ []
 
 -- ADD d, SP, #4 k: the address of a word of the frame
-abbrev pub slot_address : (d k : ℕ) → Instr
-slot_address d k = StackRelative 2 0 d k
+abbrev pub home_address : (d k : ℕ) → Instr
+home_address d k = StackRelative 2 0 d k
 
 -- MOVS d, #n
 abbrev pub byte_into : (d n : ℕ) → Instr

@@ -26,15 +26,15 @@ pub record ComputesFrames : Type 0 where
   pub mixed_size : frame_size mixed ≡ 32
   pub mixed_shape : frame_shape mixed ≡ record { words = 7; registers = 3; starts = 12 ∷ 16 ∷ 24 ∷ [] }
   -- the byte and the word are lent
-  pub mixed_lends : lends_among (12 ∷ 16 ∷ 24 ∷ []) (Some 0 ∷ None ∷ Some 31 ∷ []) ≡ record { slot = 3; number = 0 } ∷ record { slot = 6; number = 31 } ∷ []
+  pub mixed_lends : lends_among (12 ∷ 16 ∷ 24 ∷ []) (Some 0 ∷ None ∷ Some 31 ∷ []) ≡ record { home = 3; number = 0 } ∷ record { home = 6; number = 31 } ∷ []
   -- PUSH {lr}; SUB SP, #28; the parameters; MOVS r0, #0; five words; and the loans
-  pub mixed_entry : code_bytes (enter_code 2 7 (record { slot = 3; number = 0 } ∷ record { slot = 6; number = 31 } ∷ [])) ≡ halves (
+  pub mixed_entry : code_bytes (enter_code 2 7 (record { home = 3; number = 0 } ∷ record { home = 6; number = 31 } ∷ [])) ≡ halves (
       0xB500 ∷ 0xB087 ∷ 0x9000 ∷ 0x9101 ∷ 0x2000 ∷ 0x9002 ∷ 0x9003 ∷ 0x9004 ∷ 0x9005 ∷ 0x9006
       ∷ 0xA803 ∷ 0x2100 ∷ 0xDF02
       ∷ 0xA806 ∷ 0x211F ∷ 0xDF02 ∷ [])
   pub mixed_entry_size : entry_size mixed 2 ≡ 32
   -- SVC #3 twice; LDR r0, [SP, #8]; ADD SP, #28; POP {pc}
-  pub mixed_return : code_bytes (leave_code 7 (record { slot = 3; number = 0 } ∷ record { slot = 6; number = 31 } ∷ []) (Some 2)) ≡ halves (
+  pub mixed_return : code_bytes (leave_code 7 (record { home = 3; number = 0 } ∷ record { home = 6; number = 31 } ∷ []) (Some 2)) ≡ halves (
       0xDF03 ∷ 0xDF03 ∷ 0x9802 ∷ 0xB007 ∷ 0xBD00 ∷ [])
   pub near_size : frame_size (with_bytes 508) ≡ 512
   pub near_words : (frame_shape (with_bytes 508)).words ≡ 127

@@ -12,7 +12,7 @@ use Rattle.ir_model.specs.declared.firmware.BinOp.TheVariants as bin
 use Rattle.ir_model.specs.declared.firmware.CmpOp.{CmpOp}
 use Rattle.ir_model.specs.declared.firmware.CmpOp.TheVariants as cmp
 use Rattle.code_model.specs.Places.{Lend}
-use Rattle.code_model.specs.Words.{load_slot, store_slot, save_code, slot_address, byte_into, word_into, supervisor_call}
+use Rattle.code_model.specs.Words.{load_home, store_home, save_code, home_address, byte_into, word_into, supervisor_call}
 use Rattle.code_model.specs.Numbers.{const_code, move_code, operation, bin_code}
 use Rattle.code_model.specs.Comparisons.{condition, cmp_code}
 use Rattle.code_model.specs.Addresses.{scale_of, elem_code, field_code, load_at, store_at, load_code, store_code}
@@ -22,13 +22,13 @@ use Rattle.code_model.proofs.Scales.{scale_small}
 
 -- ---- single instructions
 
-pub load_in : (t k : ℕ) → t < 8 → k < 256 → InTable (load_slot t k)
+pub load_in : (t k : ℕ) → t < 8 → k < 256 → InTable (load_home t k)
 load_in t k a b = (omega arith, a, omega arith, b, λ e. refl, λ e. absurd (omega (arith, e)))
 
-pub store_in : (t k : ℕ) → t < 8 → k < 256 → InTable (store_slot t k)
+pub store_in : (t k : ℕ) → t < 8 → k < 256 → InTable (store_home t k)
 store_in t k a b = (omega arith, a, omega arith, b, λ e. refl, λ e. absurd (omega (arith, e)))
 
-pub address_in : (d k : ℕ) → d < 8 → k < 256 → InTable (slot_address d k)
+pub address_in : (d k : ℕ) → d < 8 → k < 256 → InTable (home_address d k)
 address_in d k a b = (omega arith, omega arith, a, b, λ e. absurd (omega (arith, e)), λ e. refl)
 
 pub byte_in : (d n : ℕ) → d < 8 → n < 256 → InTable (byte_into d n)
@@ -172,11 +172,11 @@ frame_in n w few l = (
 -- loans of words of the frame, by small numbers
 abbrev pub LendsFit : List Lend → Type 0
 LendsFit [] = Unit {0}
-LendsFit (d ∷ ds) = (d.slot < 256) × (d.number < 256) × LendsFit ds
+LendsFit (d ∷ ds) = (d.home < 256) × (d.number < 256) × LendsFit ds
 
 lend_in : (ds : List Lend) → LendsFit ds → EachInTable (lend_code ds)
 lend_in [] h = tt
-lend_in (d ∷ ds) h = (address_in 0 d.slot (omega arith) h.0, (byte_in 1 d.number (omega arith) h.1, (supervisor_in 2 (omega arith), lend_in ds h.2)))
+lend_in (d ∷ ds) h = (address_in 0 d.home (omega arith) h.0, (byte_in 1 d.number (omega arith) h.1, (supervisor_in 2 (omega arith), lend_in ds h.2)))
 
 pub enter_in : (n w : ℕ) (ds : List Lend) → n ≤ 4 → w ≤ 254 → LendsFit ds → EachInTable (enter_code n w ds)
 enter_in n w ds few l h = in_table-append (frame_code n w) (lend_code ds) (frame_in n w few l) (lend_in ds h)

@@ -31,21 +31,21 @@ use Rattle.machine_model.proofs.ToSystem.{to_bus}
 
 -- ---- words below a stack pointer
 
-slot_address : (i : Image) (sp o n k : ℕ) → Words i sp o n → k < n → word (sp + 4 * k) ≡ sp + 4 * k
-slot_address i sp o n k w h = omega (arith, w.is_at, w.fits, w.low)
+pushed_address : (i : Image) (sp o n k : ℕ) → Words i sp o n → k < n → word (sp + 4 * k) ≡ sp + 4 * k
+pushed_address i sp o n k w h = omega (arith, w.is_at, w.fits, w.low)
 
-slot : (i : Image) (sp o n k : ℕ) → Words i sp o n → k < n → Words i (word (sp + 4 * k)) (o + 4 * k) 1
-slot i sp o n k w h =
-    let e = slot_address i sp o n k w h in
+pushed_words : (i : Image) (sp o n k : ℕ) → Words i sp o n → k < n → Words i (word (sp + 4 * k)) (o + 4 * k) 1
+pushed_words i sp o n k w h =
+    let e = pushed_address i sp o n k w h in
     rw e (record { is_at = omega (arith, w.is_at); aligned = omega (arith, w.aligned); fits = omega (arith, w.fits); low = w.low })
 
-slot_place : (i : Image) (sp o n k : ℕ) → Words i sp o n → k < n → place i (word (sp + 4 * k)) ≡ InRam (o + 4 * k)
-slot_place i sp o n k w h = head_place i (word (sp + 4 * k)) (o + 4 * k) 0 (slot i sp o n k w h)
+pushed_place : (i : Image) (sp o n k : ℕ) → Words i sp o n → k < n → place i (word (sp + 4 * k)) ≡ InRam (o + 4 * k)
+pushed_place i sp o n k w h = head_place i (word (sp + 4 * k)) (o + 4 * k) 0 (pushed_words i sp o n k w h)
 
-slot_verdict : (j : PermissionTest) (i : Image) (p : ProtectionState) (kind : Access) (sp o n k : ℕ) → Words i sp o n → May j p kind sp n → k < n → verdict j p kind 4 (word (sp + 4 * k)) ≡ ToBus
-slot_verdict j i p kind sp o n k w m h =
-    let e = slot_address i sp o n k w h in
-    word_verdict j i p kind (word (sp + 4 * k)) (o + 4 * k) 0 (slot i sp o n k w h) (rw e (m k h))
+pushed_verdict : (j : PermissionTest) (i : Image) (p : ProtectionState) (kind : Access) (sp o n k : ℕ) → Words i sp o n → May j p kind sp n → k < n → verdict j p kind 4 (word (sp + 4 * k)) ≡ ToBus
+pushed_verdict j i p kind sp o n k w m h =
+    let e = pushed_address i sp o n k w h in
+    word_verdict j i p kind (word (sp + 4 * k)) (o + 4 * k) 0 (pushed_words i sp o n k w h) (rw e (m k h))
 
 -- ---- widths
 
@@ -83,16 +83,16 @@ module _ (j : PermissionTest) (i : Image) (x : Context) (low : List ℕ) (sp lr 
       Steps j i (works x low sp lr pc f ram queues) (works x (set low t (read 4 (o + 4 * k) ram)) sp lr (pc + 2) f ram queues)
   unfolding act
   ldr_sp t k o n r h st =
-      let v = slot_verdict j i x.protection Read sp o n k r.words r.reads h in
-      let l = slot_place i sp o n k r.words h in
+      let v = pushed_verdict j i x.protection Read sp o n k r.words r.reads h in
+      let l = pushed_place i sp o n k r.words h in
       loads_ram j i (body x low sp lr pc f) x.protection x.status ram queues (StackRelative 1 t 0 k) 4 (word (sp + 4 * k)) (o + 4 * k) (λ u. body x (set low t u) sp lr (pc + 2) f) st refl v l
 
   pub str_sp : (t k o n : ℕ) → Room j i x.protection sp o n → k < n → Stands j i x.protection pc (StackRelative 0 t 0 k) →
       Steps j i (works x low sp lr pc f ram queues) (works x low sp lr (pc + 2) f (write 4 (o + 4 * k) (get_or low t 0) ram) queues)
   unfolding act
   str_sp t k o n r h st =
-      let v = slot_verdict j i x.protection Write sp o n k r.words r.writes h in
-      let l = slot_place i sp o n k r.words h in
+      let v = pushed_verdict j i x.protection Write sp o n k r.words r.writes h in
+      let l = pushed_place i sp o n k r.words h in
       stores_ram j i (body x low sp lr pc f) x.protection x.status ram queues (StackRelative 0 t 0 k) 4 (word (sp + 4 * k)) (o + 4 * k) (get_or low t 0) (body x low sp lr (pc + 2) f) st refl v l
 
   -- ADD d, sp, #4 k

@@ -144,7 +144,7 @@ eighths k h = ⊎_elim (λ lt. absurd (let below = pow_below k 3 lt in omega ari
         omega arith
 
 pub open_eighths_are_held : OpenEighthsAreHeld
-open_eighths_are_held slot base size n rights few power big high multiple n8 a = (λ h. forth (r.0 h), λ h. r.1 (back h))
+open_eighths_are_held number base size n rights few power big high multiple n8 a = (λ h. forth (r.0 h), λ h. r.1 (back h))
   where
     e : ℕ
     e = size / 8
@@ -152,8 +152,8 @@ open_eighths_are_held slot base size n rights few power big high multiple n8 a =
     srd_byte : closed_from n < 2 ^ 8
     srd_byte = let p : 0 < 2 ^ n = pow_pos n in omega arith
 
-    r : (holds (region_of slot base size (closed_from n) rights) a ≡ true) ↔ IsHeld base size (closed_from n) a
-    r = held rights slot base size (closed_from n) few power (omega arith) high multiple srd_byte a
+    r : (holds (region_of number base size (closed_from n) rights) a ≡ true) ↔ IsHeld base size (closed_from n) a
+    r = held rights number base size (closed_from n) few power (omega arith) high multiple srd_byte a
 
     whole : size ≡ 8 * (size / 8)
     whole = subst (λ (s : ℕ). s ≡ 8 * (s / 8)) (sym power.1) (eighths power.0 (subst (λ (s : ℕ). 2 ^ 8 ≤ s) power.1 big))

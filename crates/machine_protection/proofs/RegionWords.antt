@@ -105,16 +105,16 @@ is_held g q k srd a five on size eighths base = (λ h. forth ((holds_says g a).0
         )
 
 -- the region of a block whose size is a power of two and whose base is a multiple of it
-held_pow : (rights : Rights) (slot q k srd a : ℕ) → slot < 16 → 5 ≤ k → k < 32 → srd < 256 → (holds (region_of slot (q * 2 ^ k) (2 ^ k) srd rights) a ≡ true) ↔ IsHeld (q * 2 ^ k) (2 ^ k) srd a
+held_pow : (rights : Rights) (number q k srd a : ℕ) → number < 16 → 5 ≤ k → k < 32 → srd < 256 → (holds (region_of number (q * 2 ^ k) (2 ^ k) srd rights) a ≡ true) ↔ IsHeld (q * 2 ^ k) (2 ^ k) srd a
 unfolding region_of
-held_pow rights slot q k srd a few five lt byte =
+held_pow rights number q k srd a few five lt byte =
     let s = size_field (2 ^ k) in
     let zeros : s ≡ k - 1 = ap (λ n. n - 1) (trailing_zeros-pow k lt) in
     let p = parts rights srd s byte (omega arith) in
     let pos : 32 ≤ 2 ^ k = pow-le-pow_right {n = 2} (lit< tt) {i = 5} five in
-    let rest : 2 ^ 4 + slot < 2 ^ k = omega arith in
-    let base : (q * 2 ^ k + 2 ^ 4 + slot) / 2 ^ k ≡ q = ap (λ n. n / 2 ^ k) (let sum : q * 2 ^ k + 2 ^ 4 + slot ≡ q * 2 ^ k + (2 ^ 4 + slot) = omega arith in sum) ∙ div-mul-add q (2 ^ k) (2 ^ 4 + slot) rest in
-    is_held (region_of slot (q * 2 ^ k) (2 ^ k) srd rights) q k srd a five p.enabled (ap (λ n. n + 1) (p.size ∙ zeros) ∙ (let up : k - 1 + 1 ≡ k = omega arith in up)) p.eighths base
+    let rest : 2 ^ 4 + number < 2 ^ k = omega arith in
+    let base : (q * 2 ^ k + 2 ^ 4 + number) / 2 ^ k ≡ q = ap (λ n. n / 2 ^ k) (let sum : q * 2 ^ k + 2 ^ 4 + number ≡ q * 2 ^ k + (2 ^ 4 + number) = omega arith in sum) ∙ div-mul-add q (2 ^ k) (2 ^ 4 + number) rest in
+    is_held (region_of number (q * 2 ^ k) (2 ^ k) srd rights) q k srd a five p.enabled (ap (λ n. n + 1) (p.size ∙ zeros) ∙ (let up : k - 1 + 1 ≡ k = omega arith in up)) p.eighths base
 
 -- the exponent of a size from 32 bytes on
 exponent_range : (k : ℕ) → 32 ≤ 2 ^ k → 2 ^ k < 2 ^ 32 → (5 ≤ k) × (k < 32)
@@ -148,18 +148,18 @@ base_room base size power low high multiple small =
     omega arith
 
 -- the region of a block holds what its eighths leave of it
-pub held : (rights : Rights) (slot base size srd : ℕ) → slot < 16 → IsPowerOfTwo size → 32 ≤ size → size < 2 ^ 32 → base % size ≡ 0 → srd < 256 → (a : ℕ) → (holds (region_of slot base size srd rights) a ≡ true) ↔ IsHeld base size srd a
-held rights slot base size srd few power low high multiple byte a =
+pub held : (rights : Rights) (number base size srd : ℕ) → number < 16 → IsPowerOfTwo size → 32 ≤ size → size < 2 ^ 32 → base % size ≡ 0 → srd < 256 → (a : ℕ) → (holds (region_of number base size srd rights) a ≡ true) ↔ IsHeld base size srd a
+held rights number base size srd few power low high multiple byte a =
     let k = power.0 in
     let range = exponent_range k (subst (λ n. 32 ≤ n) power.1 low) (subst (λ n. n < 2 ^ 32) power.1 high) in
     let q = base / size in
     let whole : q * 2 ^ k ≡ base = ap (λ n. q * n) (sym power.1) ∙ sym (quotient base size (omega arith) multiple) in
-    let P : ℕ → ℕ → Type 0 = λ b n. (holds (region_of slot b n srd rights) a ≡ true) ↔ IsHeld b n srd a in
-    subst (λ b. P b size) whole (subst (λ n. P (q * 2 ^ k) n) (sym power.1) (held_pow rights slot q k srd a few range.0 range.1 byte))
+    let P : ℕ → ℕ → Type 0 = λ b n. (holds (region_of number b n srd rights) a ≡ true) ↔ IsHeld b n srd a in
+    subst (λ b. P b size) whole (subst (λ n. P (q * 2 ^ k) n) (sym power.1) (held_pow rights number q k srd a few range.0 range.1 byte))
 
 -- the law of blocks, with its premises in the order of the law
 pub regions_hold_their_blocks : RegionsHoldTheirBlocks
-regions_hold_their_blocks slot base size srd rights few power low high multiple byte a = held rights slot base size srd few power low high multiple byte a
+regions_hold_their_blocks number base size srd rights few power low high multiple byte a = held rights number base size srd few power low high multiple byte a
 
 -- what a region allows, by MPU_RASR from bit 24 on
 abbrev allows_by : (high : ℕ) (u : Bool) → Access → Bool
@@ -210,7 +210,7 @@ allowed_by rights g high u kind = by_high g u kind ∙ ap (λ n. allows_by n u k
 
 pub regions_give_their_rights : RegionsGiveTheirRights
 unfolding region_of
-regions_give_their_rights slot base size srd rights byte u kind =
+regions_give_their_rights number base size srd rights byte u kind =
     let few = trailing_le 32 size in
     let p = parts rights srd (size_field size) byte (omega arith) in
-    allowed_by rights (region_of slot base size srd rights) p.high u kind
+    allowed_by rights (region_of number base size srd rights) p.high u kind

@@ -53,9 +53,9 @@ EighthsAreClosed = (n i : ℕ) → i < 8 → (bit_at (closed_from n) i ≡ 1) �
 
 abbrev pub OpenEighthsAreHeld : Type 0
 OpenEighthsAreHeld =
-    (slot base size n : ℕ) (rights : Rights) →
-    slot < 16 → IsPowerOfTwo size → 2 ^ 8 ≤ size → size < 2 ^ 32 → base % size ≡ 0 → n ≤ 8 →
-    (a : ℕ) → IsTrue (holds (region_of slot base size (closed_from n) rights) a) ↔ ((base ≤ a) × (a < base + n * (size / 8)))
+    (number base size n : ℕ) (rights : Rights) →
+    number < 16 → IsPowerOfTwo size → 2 ^ 8 ≤ size → size < 2 ^ 32 → base % size ≡ 0 → n ≤ 8 →
+    (a : ℕ) → IsTrue (holds (region_of number base size (closed_from n) rights) a) ↔ ((base ≤ a) × (a < base + n * (size / 8)))
 
 -- ---- writes
 

@@ -56,12 +56,12 @@ TheHighestDecides = (gs : List Region) (a : ℕ) → IsScanned gs a
 -- the region for a block holds what its eighths leave of the block
 abbrev pub RegionsHoldTheirBlocks : Type 0
 RegionsHoldTheirBlocks =
-    (slot base size srd : ℕ) (rights : Rights) →
-    slot < 16 → IsPowerOfTwo size → 32 ≤ size → size < 2 ^ 32 → base % size ≡ 0 → srd < 2 ^ 8 →
-    (a : ℕ) → IsTrue (holds (region_of slot base size srd rights) a) ↔ IsHeld base size srd a
+    (number base size srd : ℕ) (rights : Rights) →
+    number < 16 → IsPowerOfTwo size → 32 ≤ size → size < 2 ^ 32 → base % size ≡ 0 → srd < 2 ^ 8 →
+    (a : ℕ) → IsTrue (holds (region_of number base size srd rights) a) ↔ IsHeld base size srd a
 
 -- and allows what its rights say
 abbrev pub RegionsGiveTheirRights : Type 0
 RegionsGiveTheirRights =
-    (slot base size srd : ℕ) (rights : Rights) → srd < 2 ^ 8 →
-    (u : Bool) (kind : Access) → allows (region_of slot base size srd rights) u kind ≡ may rights u kind
+    (number base size srd : ℕ) (rights : Rights) → srd < 2 ^ 8 →
+    (u : Bool) (kind : Access) → allows (region_of number base size srd rights) u kind ≡ may rights u kind

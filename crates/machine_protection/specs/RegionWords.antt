@@ -19,10 +19,10 @@ rights_word Device = 0x13010001
 abbrev pub size_field : ℕ → ℕ
 size_field size = trailing_zeros w32 size - 1
 
--- the words for the block of `size` bytes at `base`: MPU_RBAR is the base with VALID and the slot's number,
+-- the words for the block of `size` bytes at `base`: MPU_RBAR is the base with VALID and the region's number,
 -- and bit i of `srd` takes out the i-th eighth of the block
-unfoldable pub region_of : (slot base size srd : ℕ) → Rights → Region
-region_of slot base size srd rights = record { rbar = base + 2 ^ 4 + slot; rasr = rights_word rights + srd * 2 ^ 8 + size_field size * 2 }
+unfoldable pub region_of : (number base size srd : ℕ) → Rights → Region
+region_of number base size srd rights = record { rbar = base + 2 ^ 4 + number; rasr = rights_word rights + srd * 2 ^ 8 + size_field size * 2 }
 
 -- an address of the block whose eighth is not taken out; below 256 bytes a block has no eighths
 pub record IsHeld (base size srd a : ℕ) : Type 0 where

@@ -37,20 +37,20 @@ impl Rights {
     }
 }
 
-/// The words of the region for the block of `size` bytes at `base`, in a slot of the unit; bit i of `srd` takes out
+/// The words of the region for the block of `size` bytes at `base`, as the region of this number; bit i of `srd` takes out
 /// the i-th eighth of the block (B3.5.8 and B3.5.9). Takes no memory.
 #[tactic(auto, unfolding(crate::specs::RegionWords::region_of))]
-pub fn region(slot: u8, base: u32, size: Pow2, srd: u8, rights: Rights) -> Region
-    requires slot { slot < 16 }
+pub fn region(number: u8, base: u32, size: Pow2, srd: u8, rights: Rights) -> Region
+    requires number { number < 16 }
     requires size { 32 ≤ size }
     requires base { base % size ≡ 0 }
-    ensures words { result ≡ words.region_of slot base size srd rights }
+    ensures words { result ≡ words.region_of number base size srd rights }
     ensures holds { (a : ℕ) → IsTrue (regions.holds result a) ↔ words.IsHeld base size srd a }
     ensures rights { (u : Bool) (kind : Access) → regions.allows result u kind ≡ words.may rights u kind }
 {
     let size_field = size.get().trailing_zeros() - 1;
     Region {
-        rbar: base + 16 + u32::from(slot),
+        rbar: base + 16 + u32::from(number),
         rasr: rights.word() + u32::from(srd) * 256 + size_field * 2,
     }
 }

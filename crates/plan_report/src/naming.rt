@@ -5,7 +5,7 @@ ghost use Rattle.ir_model.specs.Plain.{file_of, firmware_of, func_of, names_of, 
 ghost use Rattle.plan_report.specs.Names as names;
 
 use crate::text::Text;
-use ir_model::firmware::{FileDecl, Firmware, Func, Binding};
+use ir_model::firmware::{Binding, FileDecl, Firmware, Func};
 use std::alloc::AllocError;
 
 /// The function of a number, counted over these files in order.

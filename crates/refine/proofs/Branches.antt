@@ -14,7 +14,7 @@ use Rattle.ir_laws.specs.States.{FrameFits}
 use Rattle.code_model.specs.Templates.{term_items}
 use Rattle.monitor_model.specs.Block.{Block}
 use Rattle.code_effects.specs.Points.{Point, Leads}
-use Rattle.code_effects.specs.Frames.{slot}
+use Rattle.code_effects.specs.Frames.{home}
 use Rattle.code_effects.specs.Items.{ItemsAt}
 use Rattle.code_effects.specs.Branches.{at_block}
 use Rattle.code_effects.proofs.Registers.{holds_nothing}
@@ -72,7 +72,7 @@ module _ (k : Build) (Inv : Block → Context → List ℕ → Type 0) (sizes : 
         let n = w.numbers k.program sizes S fr on ff ty.0 in
         let rm = frame_room k Inv sizes S w places fr rest st.context st.ram st.fits st.invariant in
         let leads = (w.laws.branches by_mpu k.setting.image (func k fr.func) (places_at k fr.func) (labels_at k fr.func) (first_at k fr.func) p (places fr.number) (words_at k fr.func)).branch on a b rm (omega arith) low (block_low a ty.1) (block_low b ty.2) (term_runs (Branch on a b) e) in
-        let word : slot (places fr.number) p on ≡ number_in (register fr on) = register_word k Inv sizes S w places fr rest m t st ff on lt ∙ ap (λ (v : Value). word_of k places v) n.is ∙ sym (ap number_in n.is) in
+        let word : home (places fr.number) p on ≡ number_in (register fr on) = register_word k Inv sizes S w places fr rest m t st ff on lt ∙ ap (λ (v : Value). word_of k places v) n.is ∙ sym (ap number_in n.is) in
         jumps (if nat_eq (number_in (register fr on)) 0 then b else a) 4 (inside (nat_eq (number_in (register fr on)) 0) ty.1 ty.2) (omega arith) (omega arith)
         (subst (λ (z : ℕ). Leads by_mpu k.setting.image 4 p (at_block (labels_at k fr.func) (first_at k fr.func) p (if nat_eq z 0 then b else a)) []) word leads)
       where

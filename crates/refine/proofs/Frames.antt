@@ -22,7 +22,7 @@ use Rattle.base_laws.proofs.Lists.{each_both, each_to, each_left, each_right}
 use Rattle.refine.proofs.Areas.{laid_join, has_join, read_zero, cut_zero, spot_front, spot_back}
 use Rattle.refine.proofs.Thread.{IsSafe}
 use Rattle.refine.specs.Builds.{Build, func, words_at, starts_at}
-use Rattle.refine.specs.Relation.{slots, cells_at, objects_at, own, word_of, words_of, object_words, site_of, waiting_by, areas, own_words, link, held, IsWhole, ceiling_by, AllFit}
+use Rattle.refine.specs.Relation.{homes, cells_at, objects_at, own, word_of, words_of, object_words, site_of, waiting_by, areas, own_words, link, held, IsWhole, ceiling_by, AllFit}
 use Rattle.refine.proofs.Facts.{GoodShape, Facts}
 
 module _ (k : Build) (places : ℕ → ℕ) (facts : Facts k) where
@@ -121,15 +121,15 @@ module _ (k : Build) (places : ℕ → ℕ) (facts : Facts k) where
 
 -- ---- what a new frame holds
 
-pub has_slots : (n o : ℕ) (ws ram : List ℕ) → length ws ≡ n → ((i : ℕ) → i < n → read 4 (o + 4 * i) ram ≡ cut 4 (get_or ws i 0)) → o + 4 * n ≤ length ram → Has ram (slots o n) ws
-has_slots zero o [] ram l r h = tt
-has_slots zero o (w ∷ ws) ram l r h = absurd (omega arith)
-has_slots (suc n) o [] ram l r h = absurd (omega arith)
-has_slots (suc n) o (w ∷ ws) ram l r h =
+pub has_homes : (n o : ℕ) (ws ram : List ℕ) → length ws ≡ n → ((i : ℕ) → i < n → read 4 (o + 4 * i) ram ≡ cut 4 (get_or ws i 0)) → o + 4 * n ≤ length ram → Has ram (homes o n) ws
+has_homes zero o [] ram l r h = tt
+has_homes zero o (w ∷ ws) ram l r h = absurd (omega arith)
+has_homes (suc n) o [] ram l r h = absurd (omega arith)
+has_homes (suc n) o (w ∷ ws) ram l r h =
     let z : o + 4 * 0 ≡ o = omega arith in (
       ap (λ (a : ℕ). read 4 a ram) (sym z) ∙ r 0 (omega arith),
       omega arith,
-      has_slots n (o + 4) ws ram (omega arith) (λ i u. let y : o + 4 + 4 * i ≡ o + 4 * suc i = omega arith in ap (λ (a : ℕ). read 4 a ram) y ∙ r (suc i) (omega arith)) (omega arith),
+      has_homes n (o + 4) ws ram (omega arith) (λ i u. let y : o + 4 + 4 * i ≡ o + 4 * suc i = omega arith in ap (λ (a : ℕ). read 4 a ram) y ∙ r (suc i) (omega arith)) (omega arith),
     )
 
 byte_zero : (i a : ℕ) (m : List ℕ) → read 4 a m ≡ 0 → i < 4 → read 1 (a + i) m ≡ 0
@@ -200,7 +200,7 @@ module _ (k : Build) (places : ℕ → ℕ) where
       let w : ℕ = (words_at k f) in
       let ob = sh.registers in
       let lr : length (words_of k places (entered vs ts)) ≡ length ts = length-map (entered vs ts) (word_of k places) ∙ entered_length vs ts in
-      let regs : Has ram (slots o (length ts)) (words_of k places (entered vs ts)) = has_slots (length ts) o (words_of k places (entered vs ts)) ram lr
+      let regs : Has ram (homes o (length ts)) (words_of k places (entered vs ts)) = has_homes (length ts) o (words_of k places (entered vs ts)) ram lr
       (λ i u. ⊎_elim
       (λ y. args i y ∙ ap (λ (v : ℕ). cut 4 v) (sym (entered_left vs ts i (omega arith) u)))
       (λ y. zeros i y (omega arith) ∙ sym (cut_zero 4) ∙ ap (λ (v : ℕ). cut 4 v) (sym (entered_right vs ts i (omega arith))))
@@ -208,21 +208,21 @@ module _ (k : Build) (places : ℕ → ℕ) where
       (omega arith) in
       let locals = has_zero_objects o (o + 4 * length ts) (o + 4 * w) (starts_at k f) (func k f).locals ram sh.starts (sh.locals_inside o)
       (λ i a b. bytes_zero o (length ts) w i ram (λ j c d. zeros j (omega arith) d) a b) (omega arith) in
-      has_join (slots o (length ts)) (objects_at o (starts_at k f) (func k f).locals ++ record { at = o + 4 * w; width = 4 } ∷ []) (words_of k places (entered vs ts)) (object_words k places (map zero_local (func k f).locals) ++ l ∷ []) ram regs
+      has_join (homes o (length ts)) (objects_at o (starts_at k f) (func k f).locals ++ record { at = o + 4 * w; width = 4 } ∷ []) (words_of k places (entered vs ts)) (object_words k places (map zero_local (func k f).locals) ++ l ∷ []) ram regs
       (has_join (objects_at o (starts_at k f) (func k f).locals) (record { at = o + 4 * w; width = 4 } ∷ []) (object_words k places (map zero_local (func k f).locals)) (l ∷ []) ram locals (back, omega arith, tt))
 
 -- ---- one register
 
-slot_spot : (n o r v : ℕ) (ws : List ℕ) → length ws ≡ n → r < n → Spot (slots o n) ws (record { at = o + 4 * r; width = 4 }) (get_or ws r 0) v (set ws r v)
-slot_spot zero o r v ws l h = absurd (omega arith)
-slot_spot (suc n) o r v [] l h = absurd (omega arith)
-slot_spot (suc n) o zero v (w ∷ ws) l h = record { index = 0; is_at = let z : o ≡ o + 4 * 0 = omega arith in ap (λ (a : ℕ). record { at = a; width = 4 }) z; holds = refl; sets = refl }
-slot_spot (suc n) o (suc r) v (w ∷ ws) l h =
-    let s = slot_spot n (o + 4) r v ws (omega arith) (omega arith) in
+home_spot : (n o r v : ℕ) (ws : List ℕ) → length ws ≡ n → r < n → Spot (homes o n) ws (record { at = o + 4 * r; width = 4 }) (get_or ws r 0) v (set ws r v)
+home_spot zero o r v ws l h = absurd (omega arith)
+home_spot (suc n) o r v [] l h = absurd (omega arith)
+home_spot (suc n) o zero v (w ∷ ws) l h = record { index = 0; is_at = let z : o ≡ o + 4 * 0 = omega arith in ap (λ (a : ℕ). record { at = a; width = 4 }) z; holds = refl; sets = refl }
+home_spot (suc n) o (suc r) v (w ∷ ws) l h =
+    let s = home_spot n (o + 4) r v ws (omega arith) (omega arith) in
     let z : o + 4 + 4 * r ≡ o + 4 * suc r = omega arith in
     record {
       index = suc s.index;
-      is_at = subst (λ (a : ℕ). IsAt (slots (o + 4) n) s.index (record { at = a; width = 4 })) z s.is_at;
+      is_at = subst (λ (a : ℕ). IsAt (homes (o + 4) n) s.index (record { at = a; width = 4 })) z s.is_at;
       holds = s.holds;
       sets = ap (λ (xs : List ℕ). w ∷ xs) s.sets;
     }
@@ -232,9 +232,9 @@ map_set f [] r v = refl
 map_set f (x ∷ vs) zero v = refl
 map_set f (x ∷ vs) (suc r) v = ap (λ (xs : List ℕ). f x ∷ xs) (map_set f vs r v)
 
-pub length_slots : (n o : ℕ) → length (slots o n) ≡ n
-length_slots zero o = refl
-length_slots (suc n) o = ap suc (length_slots n (o + 4))
+pub length_homes : (n o : ℕ) → length (homes o n) ≡ n
+length_homes zero o = refl
+length_homes (suc n) o = ap suc (length_homes n (o + 4))
 
 length_cells : (o : ℕ) (cs : List CellPlace) → length (cells_at o cs) ≡ length cs
 length_cells o [] = refl
@@ -262,11 +262,11 @@ module _ (k : Build) (places : ℕ → ℕ) where
       let obs = length_objects o ss css fr.locals sh.starts wh.locals in
       let n : ℕ = length (func k fr.func).regs in
       let z : List Area = record { at = o + 4 * (words_at k fr.func); width = 4 } ∷ [] in
-      let a = length-append (slots o n) (objects_at o ss css ++ z) in
+      let a = length-append (homes o n) (objects_at o ss css ++ z) in
       let b = length-append (objects_at o ss css) z in
       let c = length-append (words_of k places fr.regs) (object_words k places fr.locals ++ l ∷ []) in
       let d = length-append (object_words k places fr.locals) (l ∷ []) in
-      let e = length_slots n o in
+      let e = length_homes n o in
       let f = length-map fr.regs (word_of k places) in
       let w = wh.regs in
       omega arith
@@ -279,11 +279,11 @@ module _ (k : Build) (places : ℕ → ℕ) where
       let n : ℕ = length (func k fr.func).regs in
       let o : ℕ = places fr.number in
       let lw : length (words_of k places fr.regs) ≡ n = length-map fr.regs (word_of k places) ∙ wh.regs in
-      let s = slot_spot n o r (word_of k places v) (words_of k places fr.regs) lw (omega arith) in
-      let s2 : Spot (slots o n) (words_of k places fr.regs) (record { at = o + 4 * r; width = 4 }) (word_of k places (get_or fr.regs r (Number 0))) (word_of k places v) (words_of k places (set fr.regs r v)) =
+      let s = home_spot n o r (word_of k places v) (words_of k places fr.regs) lw (omega arith) in
+      let s2 : Spot (homes o n) (words_of k places fr.regs) (record { at = o + 4 * r; width = 4 }) (word_of k places (get_or fr.regs r (Number 0))) (word_of k places v) (words_of k places (set fr.regs r v)) =
       record { index = s.index; is_at = s.is_at; holds = s.holds ∙ get_or-map (word_of k places) fr.regs r (Number 0) 0 h; sets = s.sets ∙ sym (map_set (word_of k places) fr.regs r v) } in
       spot_front (own k fr.func o) (waiting_by k places (site_of k (wheres rest)) (wheres rest) ++ areas k places (wheres rest)) (own_words k places fr (link k places (wheres rest))) _ _ _ _ _ (own_length fr o (link k places (wheres rest)) sh wh)
-      (spot_front (slots o n) _ (words_of k places fr.regs) _ _ _ _ _ (length_slots n o ∙ sym lw) s2)
+      (spot_front (homes o n) _ (words_of k places fr.regs) _ _ _ _ _ (length_homes n o ∙ sym lw) s2)
 
 -- ---- cells of locals
 

@@ -40,14 +40,14 @@ module _ (cells : CellsOfTypes) (w : PlainFirmware) where
       by (g ∷ gs) zero = cells w.structs g.ty
       by (g ∷ gs) (suc x) = by gs x
 
-  laid_slots : (ls : List PlainBinding) (l : ℕ) → IsLaidOut 0 (get_or (map (λ (s : PlainBinding). shape (known w.structs) s.ty) ls) l empty).size (get_or (map (λ (s : PlainBinding). shape (known w.structs) s.ty) ls) l empty).cells
-  laid_slots [] l = omega arith
-  laid_slots (s ∷ ls) zero = cells w.structs s.ty
-  laid_slots (s ∷ ls) (suc l) = laid_slots ls l
+  laid_homes : (ls : List PlainBinding) (l : ℕ) → IsLaidOut 0 (get_or (map (λ (s : PlainBinding). shape (known w.structs) s.ty) ls) l empty).size (get_or (map (λ (s : PlainBinding). shape (known w.structs) s.ty) ls) l empty).cells
+  laid_homes [] l = omega arith
+  laid_homes (s ∷ ls) zero = cells w.structs s.ty
+  laid_homes (s ∷ ls) (suc l) = laid_homes ls l
 
   laid_funcs : (fs : List PlainFunc) (f l : ℕ) → IsLaidOut 0 (get_or (get_or (map (resolved_func (scope_of w)) fs) f no_func).locals l empty).size (get_or (get_or (map (resolved_func (scope_of w)) fs) f no_func).locals l empty).cells
   laid_funcs [] f l = omega arith
-  laid_funcs (x ∷ fs) zero l = laid_slots x.locals l
+  laid_funcs (x ∷ fs) zero l = laid_homes x.locals l
   laid_funcs (x ∷ fs) (suc f) l = laid_funcs fs f l
 
   pub laid_locals : (f l : ℕ) → IsLaidOut 0 (local_at (resolve w) f l).size (cells_of_local (resolve w) f l)

@@ -83,18 +83,18 @@ module _ (g : Setting) (Inv : Block → Context → List ℕ → Type 0) (law : 
       let p : Point = record { context = x; registers = []; sp = base g + o; lr = lr; pc = at + entry_size fn k; ram = ram; queues = queues } in
       let effects = laws.entry by_mpu g.image fn q labels p o (base g + o) in
       let has = runs_here g Inv law rules laws m x ram labels at (entry_items fn q) i code in
-      let low_enough : base g + o + 4 * d.slot < 2 ^ 32 = omega (arith, ok.0.1) in
-      let small : base g + o + 4 * (get_or (lends_of fn q) k no_lend).slot < 2 ^ 32 = subst (λ (y : Lend). base g + o + 4 * y.slot < 2 ^ 32) (sym is) low_enough in
+      let low_enough : base g + o + 4 * d.home < 2 ^ 32 = omega (arith, ok.0.1) in
+      let small : base g + o + 4 * (get_or (lends_of fn q) k no_lend).home < 2 ^ 32 = subst (λ (y : Lend). base g + o + 4 * y.home < 2 ^ 32) (sym is) low_enough in
       let led = (effects.lend at k kl small has).arrives low f (holds_nothing low ft.core.low_count) in
       let pc1 : ℕ = at + entry_size fn k + 4 in
-      let words : List ℕ = (base g + o + 4 * (get_or (lends_of fn q) k no_lend).slot) ∷ (get_or (lends_of fn q) k no_lend).number ∷ [] in
+      let words : List ℕ = (base g + o + 4 * (get_or (lends_of fn q) k no_lend).home) ∷ (get_or (lends_of fn q) k no_lend).number ∷ [] in
       let stands = (laws.entry (owner g m.current) g.image fn q labels p o (base g + o)).lend_stands at k kl (code.stands x.protection) in
       record {
         low = led.low;
         flags = led.flags;
         runs = led.runs;
         fits = fits_after g Inv law rules laws 2 _ _ [] ft led.runs;
-        address = known_holds words led.low led.holds 0 (omega arith) ∙ ap (λ (y : Lend). base g + o + 4 * y.slot) is;
+        address = known_holds words led.low led.holds 0 (omega arith) ∙ ap (λ (y : Lend). base g + o + 4 * y.home) is;
         number = known_holds words led.low led.holds 1 (omega arith) ∙ ap (λ (y : Lend). y.number) is;
         lies = stands.lies;
         owned = call_owned g m.current x.protection pc1 2 stands;

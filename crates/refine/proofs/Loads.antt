@@ -39,7 +39,7 @@ use Rattle.code_model.specs.Templates.{inst_items}
 use Rattle.monitor_model.specs.Block.{Block}
 use Rattle.monitor_model.specs.Threads.{base, OffFrame, IsLentTo}
 use Rattle.code_effects.specs.Points.{Point}
-use Rattle.code_effects.specs.Frames.{slot}
+use Rattle.code_effects.specs.Frames.{home}
 use Rattle.code_effects.specs.Items.{ItemsAt}
 use Rattle.code_effects.specs.Accesses.{Reach}
 use Rattle.code_effects.proofs.Registers.{holds_nothing, holds_known}
@@ -114,7 +114,7 @@ module _ (k : Build) (Inv : Block → Context → List ℕ → Type 0) (sizes : 
       next = sym (next_code k w.facts.rules w.laws w.linked.code fr.func fr.block fr.place y sf.0.0.func e)
 
       -- where the pointer leads
-      address : (o : Instance) (c a : ℕ) → register fr from ≡ At o c → address_of k places o + c ≡ a → a < 2 ^ 32 → slot (places fr.number) p from ≡ a
+      address : (o : Instance) (c a : ℕ) → register fr from ≡ At o c → address_of k places o + c ≡ a → a < 2 ^ 32 → home (places fr.number) p from ≡ a
       address o c a points addr small =
           register_word k Inv sizes S w places fr rest m t st sf.0.0 from typed.from.there ∙ ap (λ (v : Value). word_of k places v) points ∙ ap word addr ∙ (let z : word a ≡ a = omega arith in z)
 
@@ -167,7 +167,7 @@ module _ (k : Build) (Inv : Block → Context → List ℕ → Type 0) (sizes : 
           let wd = w.laws.widths.loads ty in
           let lies = subst (λ (z : Instr). Lies k.setting.image (pc + 2) z) wd.1 stands.lies in
           let off = subst (λ (z : ℕ). OffFrame k.setting oc a.at z) wid (pl.off_frame room) in
-          let r1 : get_or b.low 1 0 ≡ base k.setting + a.at = b.holds.each 1 (slot oc p from) refl ∙ pa in
+          let r1 : get_or b.low 1 0 ≡ base k.setting + a.at = b.holds.each 1 (home oc p from) refl ∙ pa in
           let x = w.law.reach.loads block st.context b.low oc st.lr (pc + 2) b.flags st.ram m.queues wd.0 (width_of ty) (base k.setting + a.at) a.at wd.2
           (record { invariant = st.invariant; room = is_open k places (where_of fr) (wheres rest) st.fits room; fits = ft; lies = lies; owned = own_code (owner k.setting block.current) k.setting.image st.context.protection (pc + 2) (load_at ty) stands })
           r1 al pl.in_ram_at off lent in
@@ -205,7 +205,7 @@ module _ (k : Build) (Inv : Block → Context → List ℕ → Type 0) (sizes : 
           let stands = effects.access to from pc ty (runs_of st.context st.ram st.invariant) in
           let wd = w.laws.widths.loads ty in
           let st1 = subst (λ (z : Instr). CodeStands by_mpu k.setting.image st.context.protection (pc + 2) z) wd.1 stands in
-          let r1 : get_or b.low 1 0 ≡ base k.setting + a.at = b.holds.each 1 (slot oc p from) refl ∙ pa in
+          let r1 : get_or b.low 1 0 ≡ base k.setting + a.at = b.holds.each 1 (home oc p from) refl ∙ pa in
           let f0 = st.fits.0 in
           let q = load_ends k.setting Inv w.law w.facts.rules stack block st.context b.low oc st.lr (pc + 2) wd.0 (width_of ty) (base k.setting + a.at) b.flags st.ram m.queues st.invariant f0.aligned f0.room less wd.2 r1 al (omega arith) nope st1 in
           let r0 = started k.setting 1 t _ _ [] st.is_state b.runs in
@@ -259,7 +259,7 @@ module _ (k : Build) (Inv : Block → Context → List ℕ → Type 0) (sizes : 
       port_load : (q c : ℕ) → q < length k.program.periphs → register fr from ≡ At (OfPeriph q) c → TurnFollows (load k.program k.groups.of fr rest m to (OfPeriph q) c ty)
       port_load q c h points = by (is_integer ty) (nat_eq (c % width_of ty) 0) (nat_le (c + width_of ty) (window_at k.program q).size) refl refl refl
         where
-          reached : c % width_of ty ≡ 0 → c + width_of ty ≤ (window_at k.program q).size → Reach by_mpu k.setting.image p Read (width_of ty) (slot (places fr.number) p from) (InWindow q c)
+          reached : c % width_of ty ≡ 0 → c + width_of ty ≤ (window_at k.program q).size → Reach by_mpu k.setting.image p Read (width_of ty) (home (places fr.number) p from) (InWindow q c)
           reached al ins =
               let b = w.linked.windows.bases q h in
               let u = w.windows.each q h in

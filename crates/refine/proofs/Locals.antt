@@ -20,9 +20,9 @@ use Rattle.refine.specs.Areas.{Area, Spot}
 use Rattle.refine.specs.Owned.{all_lent, loan_of}
 use Rattle.refine.proofs.Areas.{spot_front, spot_back}
 use Rattle.refine.specs.Builds.{Build, func, words_at, starts_at, lends_at, global_starts}
-use Rattle.refine.specs.Relation.{own, objects_at, slots, object_words, word_of, words_of, site_of, waiting_by, waiting_words, statuses_behind, first_or_zero, areas, held, own_words, link, beneath, block_of, IsWhole, AllWhole}
+use Rattle.refine.specs.Relation.{own, objects_at, homes, object_words, word_of, words_of, site_of, waiting_by, waiting_words, statuses_behind, first_or_zero, areas, held, own_words, link, beneath, block_of, IsWhole, AllWhole}
 use Rattle.refine.proofs.Facts.{Facts}
-use Rattle.refine.proofs.Frames.{own_length, length_slots, length_objects, object_spot}
+use Rattle.refine.proofs.Frames.{own_length, length_homes, length_objects, object_spot}
 use Rattle.ir_laws.proofs.Moving.{wheres_stay}
 
 pub is_it : (fr : Frame) (f n : ℕ) → is_frame fr f n ≡ true → (fr.number ≡ n) × (fr.func ≡ f)
@@ -87,7 +87,7 @@ module _ (k : Build) (places : ℕ → ℕ) (facts : Facts k) where
       let li : ℕ = link k places ws in
       let s0 = object_spot k places o l j v starts cells fr.locals c sh.starts wh.locals ll lj lc in
       let s1 = spot_front (objects_at o starts cells) z (object_words k places fr.locals) (li ∷ []) _ _ _ _ (length_objects k places o starts cells fr.locals sh.starts wh.locals) s0 in
-      let s2 = spot_back (slots o n) (objects_at o starts cells ++ z) (words_of k places fr.regs) (object_words k places fr.locals ++ li ∷ []) _ _ _ _ (length_slots n o ∙ sym wh.regs ∙ sym (length-map fr.regs (word_of k places))) s1 in
+      let s2 = spot_back (homes o n) (objects_at o starts cells ++ z) (words_of k places fr.regs) (object_words k places fr.locals ++ li ∷ []) _ _ _ _ (length_homes n o ∙ sym wh.regs ∙ sym (length-map fr.regs (word_of k places))) s1 in
       spot_front (own k fr.func o) (waiting_by k places (site_of k ws) ws ++ areas k places ws) (own_words k places fr li) _ _ _ _ _ (own_length k places fr o li sh wh) s2
 
   -- a cell of a local of a live frame

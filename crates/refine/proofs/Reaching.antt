@@ -26,16 +26,16 @@ use Rattle.refine.proofs.Cells.{aligned_sum, Found, own_open, any_open, frame_en
 use Rattle.ir_laws.proofs.Layouts.{positive_width}
 
 -- a local with a number is lent
-lend_among : (ss : List ℕ) (ns : List (Option ℕ)) (l n : ℕ) → l < length ss → get_or ns l None ≡ Some n → IsLend (record { slot = get_or ss l 0 / 4; number = n }) (lends_among ss ns)
+lend_among : (ss : List ℕ) (ns : List (Option ℕ)) (l n : ℕ) → l < length ss → get_or ns l None ≡ Some n → IsLend (record { home = get_or ss l 0 / 4; number = n }) (lends_among ss ns)
 lend_among [] ns l n h e = absurd (omega arith)
 lend_among (s ∷ ss) [] l n h e = cc
 lend_among (s ∷ ss) (None ∷ ns) zero n h e = cc
 lend_among (s ∷ ss) (None ∷ ns) (suc l) n h e = lend_among ss ns l n (omega arith) e
-lend_among (s ∷ ss) (Some x ∷ ns) zero n h e = let y : x ≡ n = cc in inl (ap (λ (z : ℕ). record { slot = s / 4; number = z }) y)
+lend_among (s ∷ ss) (Some x ∷ ns) zero n h e = let y : x ≡ n = cc in inl (ap (λ (z : ℕ). record { home = s / 4; number = z }) y)
 lend_among (s ∷ ss) (Some x ∷ ns) (suc l) n h e = inr (lend_among ss ns l n (omega arith) e)
 
 module _ (k : Build) (Inv : Block → Context → List ℕ → Type 0) (sizes : PlainType → ℕ) (S : ObjectSets) (w : Premises k Inv sizes S) (places : ℕ → ℕ) where
-  lend_there : (f l n : ℕ) → f < length k.program.funcs → l < length (func k f).locals → lend_number k.needs k.groups f l ≡ Some n → IsLend (record { slot = get_or (starts_at k f) l 0 / 4; number = n }) (lends_at k f)
+  lend_there : (f l n : ℕ) → f < length k.program.funcs → l < length (func k f).locals → lend_number k.needs k.groups f l ≡ Some n → IsLend (record { home = get_or (starts_at k f) l 0 / 4; number = n }) (lends_at k f)
   unfolding places_at
   lend_there f l n hf hl e =
       let st = (w.facts.shapes f).starts in
@@ -78,7 +78,7 @@ module _ (k : Build) (Inv : Block → Context → List ℕ → Type 0) (sizes : 
         lend_number k.needs k.groups f l ≡ Some number → has number ≡ true →
         IsLentTo k.setting has (block_of k places (wheres (fr ∷ rest))) (base k.setting + (places n + get_or (starts_at k f) l 0 + (cell_in (cells_of_local k.program f l) j).at)) (width_of ty)
     lent_cell has f n l c j number ty h live hf hl fo e mask =
-        let d : Lend = record { slot = get_or (starts_at k f) l 0 / 4; number = number } in
+        let d : Lend = record { home = get_or (starts_at k f) l 0 / 4; number = number } in
         let sa = (w.facts.shapes f).local_aligned l hl in
         let pl = fo.place in
         let ins = fo.inside in

@@ -33,11 +33,11 @@ use Rattle.refine.proofs.Areas.{has_front, has_rest}
 use Rattle.refine.proofs.Thread.{to_sp, fits_sp, started, has_stays, fits_after}
 use Rattle.refine.proofs.ThreadReturns.{result_below_more, IsResult, returns, leaves}
 use Rattle.refine.specs.Builds.{Build, compartment_of, func, words_at, starts_at, lends_at, places_at, labels_at, first_at, code_at, behind_at, site_at}
-use Rattle.refine.specs.Relation.{own, slots, objects_at, object_words, word_of, words_of, own_words, link_by, waiting_by, waiting_words, statuses_behind, first_or_zero, others, IsStatusBy, Wait, areas, held, ceiling_by, beneath, block_of, AllFit, IsWhole}
+use Rattle.refine.specs.Relation.{own, homes, objects_at, object_words, word_of, words_of, own_words, link_by, waiting_by, waiting_words, statuses_behind, first_or_zero, others, IsStatusBy, Wait, areas, held, ceiling_by, beneath, block_of, AllFit, IsWhole}
 use Rattle.refine.specs.Cases.{Follows}
 use Rattle.refine.specs.Serving.{Serves, CaseServes}
 use Rattle.refine.specs.Called.{part_end}
-use Rattle.refine.proofs.Frames.{crossing_room, safe, lower_safe, own_length, length_slots, length_objects}
+use Rattle.refine.proofs.Frames.{crossing_room, safe, lower_safe, own_length, length_homes, length_objects}
 use Rattle.refine.proofs.Blocks.{all_lent_is, top_least, marks}
 use Rattle.refine.proofs.Limits.{words_are}
 use Rattle.refine.proofs.Premises.{Premises}
@@ -170,7 +170,7 @@ module _ (k : Build) (Inv : Block → Context → List ℕ → Type 0) (sizes : 
       let ol = own_length k places fr o l sh wh in
       let z : List Area = record { at = o + 4 * words_at k fr.func; width = 4 } ∷ [] in
       let f = has_front (own k fr.func o) xs (own_words k places fr l) ys ram ol has in
-      let f1 = has_rest (slots o n) (objects_at o starts (func k fr.func).locals ++ z) (words_of k places fr.regs) (object_words k places fr.locals ++ l ∷ []) ram (length_slots n o ∙ sym wh.regs ∙ sym (length-map fr.regs (word_of k places))) f in
+      let f1 = has_rest (homes o n) (objects_at o starts (func k fr.func).locals ++ z) (words_of k places fr.regs) (object_words k places fr.locals ++ l ∷ []) ram (length_homes n o ∙ sym wh.regs ∙ sym (length-map fr.regs (word_of k places))) f in
       let f2 = has_rest (objects_at o starts (func k fr.func).locals) z (object_words k places fr.locals) (l ∷ []) ram (length_objects k places o starts (func k fr.func).locals fr.locals sh.starts wh.locals) f1 in
       record { link = f2.0; rest_has = has_rest (own k fr.func o) xs (own_words k places fr l) ys ram ol has }
 

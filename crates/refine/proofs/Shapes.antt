@@ -7,7 +7,7 @@ use Rattle.refine.specs.Areas.{Area, Beside, Laid, Inside, Off}
 use Rattle.base_laws.specs.Lists.{Each}
 use Rattle.base_laws.proofs.Lists.{each_both, each_to}
 use Rattle.refine.proofs.Areas.{laid_join}
-use Rattle.refine.specs.Relation.{slots, cells_at, objects_at}
+use Rattle.refine.specs.Relation.{homes, cells_at, objects_at}
 
 -- rows of cells one behind the other, each inside its size behind its start
 abbrev pub Rows : (from to : ℕ) → (starts sizes : List ℕ) → List Shape → Type 0
@@ -58,28 +58,28 @@ objects_lie o from to (s ∷ ss) (z ∷ zs) (cs ∷ css) r =
     let f = r.0 in
     wider (o + from) (o + s + 0) (o + to) _ (omega arith) (both (o + s + 0) (o + s + z) (o + to) (cells_at (o + s) cs.cells) (objects_at o ss css) a (subst (λ (n : ℕ). Lies n (o + to) (objects_at o ss css)) p b))
 
-slots_lie : (n o : ℕ) → Lies o (o + 4 * n) (slots o n)
-slots_lie zero o = record { laid = tt; inside = tt; order = omega arith }
-slots_lie (suc n) o =
-    let r = slots_lie n (o + 4) in
+homes_lie : (n o : ℕ) → Lies o (o + 4 * n) (homes o n)
+homes_lie zero o = record { laid = tt; inside = tt; order = omega arith }
+homes_lie (suc n) o =
+    let r = homes_lie n (o + 4) in
     record {
-      laid = (each_to (Inside (o + 4) (o + 4 + 4 * n)) (Beside (record { at = o; width = 4 })) (slots (o + 4) n) (λ d i. inl (omega (arith, i.0))) r.inside, r.laid);
-      inside = ((omega arith, omega arith), each_to (Inside (o + 4) (o + 4 + 4 * n)) (Inside o (o + 4 * suc n)) (slots (o + 4) n) (λ d i. (omega (arith, i.0), omega (arith, i.1))) r.inside);
+      laid = (each_to (Inside (o + 4) (o + 4 + 4 * n)) (Beside (record { at = o; width = 4 })) (homes (o + 4) n) (λ d i. inl (omega (arith, i.0))) r.inside, r.laid);
+      inside = ((omega arith, omega arith), each_to (Inside (o + 4) (o + 4 + 4 * n)) (Inside o (o + 4 * suc n)) (homes (o + 4) n) (λ d i. (omega (arith, i.0), omega (arith, i.1))) r.inside);
       order = omega arith;
     }
 
 -- registers, locals, and the return address behind so many words
 pub record FrameLies (o regs words : ℕ) (ss : List ℕ) (css : List Shape) : Type 0 where
-  pub laid : Laid (slots o regs ++ (objects_at o ss css ++ record { at = o + 4 * words; width = 4 } ∷ []))
-  pub inside : Each (Inside o (o + 4 * words + 4)) (slots o regs ++ (objects_at o ss css ++ record { at = o + 4 * words; width = 4 } ∷ []))
+  pub laid : Laid (homes o regs ++ (objects_at o ss css ++ record { at = o + 4 * words; width = 4 } ∷ []))
+  pub inside : Each (Inside o (o + 4 * words + 4)) (homes o regs ++ (objects_at o ss css ++ record { at = o + 4 * words; width = 4 } ∷ []))
   pub locals_inside : Each (Inside (o + 4 * regs) (o + 4 * words)) (objects_at o ss css)
 
 pub frame_lies : (o regs words : ℕ) (ss zs : List ℕ) (css : List Shape) → Rows (4 * regs) (4 * words) ss zs css → FrameLies o regs words ss css
 frame_lies o regs words ss zs css r =
-    let a = slots_lie regs o in
+    let a = homes_lie regs o in
     let b = objects_lie o (4 * regs) (4 * words) ss zs css r in
     let q = b.order in
     let c : Lies (o + 4 * words) (o + 4 * words + 4) (record { at = o + 4 * words; width = 4 } ∷ []) = record { laid = (tt, tt); inside = ((omega arith, omega arith), tt); order = omega arith } in
-    let d = both o (o + 4 * regs) (o + 4 * words + 4) (slots o regs) (objects_at o ss css ++ record { at = o + 4 * words; width = 4 } ∷ []) a
+    let d = both o (o + 4 * regs) (o + 4 * words + 4) (homes o regs) (objects_at o ss css ++ record { at = o + 4 * words; width = 4 } ∷ []) a
     (both (o + 4 * regs) (o + 4 * words) (o + 4 * words + 4) (objects_at o ss css) (record { at = o + 4 * words; width = 4 } ∷ []) b c) in
     record { laid = d.laid; inside = d.inside; locals_inside = b.inside }

@@ -35,7 +35,7 @@ use Rattle.code_model.specs.Templates.{inst_items}
 use Rattle.monitor_model.specs.Block.{Block}
 use Rattle.monitor_model.specs.Threads.{base, OffFrame, IsLentTo}
 use Rattle.code_effects.specs.Points.{Point}
-use Rattle.code_effects.specs.Frames.{slot}
+use Rattle.code_effects.specs.Frames.{home}
 use Rattle.code_effects.specs.Items.{ItemsAt}
 use Rattle.code_effects.specs.Accesses.{Reach}
 use Rattle.code_effects.proofs.Registers.{holds_nothing, known_holds}
@@ -104,19 +104,19 @@ module _ (k : Build) (Inv : Block → Context → List ℕ → Type 0) (sizes : 
       next : code_at k fr.func fr.block fr.place + inst_size (is_some site) y ≡ code_at k fr.func fr.block (suc fr.place)
       next = sym (next_code k w.facts.rules w.laws w.linked.code fr.func fr.block fr.place y sf.0.0.func e)
 
-      address : (o : Instance) (c a : ℕ) → register fr to ≡ At o c → address_of k places o + c ≡ a → a < 2 ^ 32 → slot (places fr.number) p to ≡ a
+      address : (o : Instance) (c a : ℕ) → register fr to ≡ At o c → address_of k places o + c ≡ a → a < 2 ^ 32 → home (places fr.number) p to ≡ a
       address o c a points addr small =
           register_word k Inv sizes S w places fr rest m t st sf.0.0 to typed.from.there ∙ ap (λ (v : Value). word_of k places v) points ∙ ap word addr ∙ (let z : word a ≡ a = omega arith in z)
 
-      held_word : slot (places fr.number) p from ≡ word_of k places (register fr from)
+      held_word : home (places fr.number) p from ≡ word_of k places (register fr from)
       held_word = register_word k Inv sizes S w places fr rest m t st sf.0.0 from typed.held.there
 
       -- memory has the new word
       has_stored : (a : Area) (fs : List Frame) (gl : List (List Value)) (old : ℕ) → a.width ≡ width_of ty → Spot (areas k places (wheres (fr ∷ rest))) (held k places st.statuses (fr ∷ rest) m.globals) a old (word_of k places value) (held k places st.statuses fs gl) →
-          Holds (write (width_of ty) a.at (slot (places fr.number) p from) st.ram) (areas k places (wheres (fr ∷ rest))) (held k places st.statuses fs gl)
+          Holds (write (width_of ty) a.at (home (places fr.number) p from) st.ram) (areas k places (wheres (fr ∷ rest))) (held k places st.statuses fs gl)
       has_stored a fs gl old wid sp =
           let h0 = stored_spot (areas k places (wheres (fr ∷ rest))) (held k places st.statuses (fr ∷ rest) m.globals) (held k places st.statuses fs gl) a old (word_of k places value) st.ram (all_laid k places w.facts (wheres (fr ∷ rest)) st.fits) st.has sp in
-          let we : write a.width a.at (word_of k places value) st.ram ≡ write (width_of ty) a.at (slot (places fr.number) p from) st.ram =
+          let we : write a.width a.at (word_of k places value) st.ram ≡ write (width_of ty) a.at (home (places fr.number) p from) st.ram =
           ap (λ (z : ℕ). write z a.at (word_of k places value) st.ram) wid ∙ sym (stored_value k places ty a.at (register fr from) st.ram) ∙ ap (λ (z : ℕ). write (width_of ty) a.at z st.ram) (sym held_word) in
           subst (λ (z : List ℕ). Holds z (areas k places (wheres (fr ∷ rest))) (held k places st.statuses fs gl)) we h0
 
@@ -133,7 +133,7 @@ module _ (k : Build) (Inv : Block → Context → List ℕ → Type 0) (sizes : 
           let rg = (w.facts.shapes fr.func).registers in
           let lt = typed.held.there in
           let lf = typed.from.there in
-          let u : ℕ = slot (places fr.number) p from in
+          let u : ℕ = home (places fr.number) p from in
           let new : List ℕ = write (width_of ty) a.at u st.ram in
           let l = (w.laws.stores by_mpu k.setting.image (func k fr.func) (places_at k fr.func) (labels_at k fr.func) site p (places fr.number) (words_at k fr.func)).ram to from a.at ty
           (frame_room k Inv sizes S w places fr rest st.context st.ram st.fits st.invariant) (omega arith) (omega arith) runs_of reach in
@@ -170,8 +170,8 @@ module _ (k : Build) (Inv : Block → Context → List ℕ → Type 0) (sizes : 
           let wd = w.laws.widths.stores ty in
           let lies = subst (λ (z : Instr). Lies k.setting.image (pc + 4) z) wd.1 stands.lies in
           let off = subst (λ (z : ℕ). OffFrame k.setting oc a.at z) wid (pl.off_frame room) in
-          let words : List ℕ = slot oc p from ∷ slot oc p to ∷ [] in
-          let r0 : get_or b.low 0 0 ≡ slot oc p from = known_holds words b.low b.holds 0 (omega arith) in
+          let words : List ℕ = home oc p from ∷ home oc p to ∷ [] in
+          let r0 : get_or b.low 0 0 ≡ home oc p from = known_holds words b.low b.holds 0 (omega arith) in
           let r1 : get_or b.low 1 0 ≡ base k.setting + a.at = known_holds words b.low b.holds 1 (omega arith) ∙ pa in
           let x = w.law.reach.stores block st.context b.low oc st.lr (pc + 4) b.flags st.ram m.queues wd.0 (width_of ty) (base k.setting + a.at) a.at wd.2
           (record { invariant = st.invariant; room = is_open k places (where_of fr) (wheres rest) st.fits room; fits = ft; lies = lies; owned = own_code (owner k.setting block.current) k.setting.image st.context.protection (pc + 4) (store_at ty) stands })
@@ -206,7 +206,7 @@ module _ (k : Build) (Inv : Block → Context → List ℕ → Type 0) (sizes : 
           let stands = (w.laws.stores by_mpu k.setting.image (func k fr.func) (places_at k fr.func) (labels_at k fr.func) site p oc (words_at k fr.func)).access to from pc ty runs_of in
           let wd = w.laws.widths.stores ty in
           let st1 = subst (λ (z : Instr). Stands by_mpu k.setting.image st.context.protection (pc + 4) z) wd.1 stands in
-          let words : List ℕ = slot oc p from ∷ slot oc p to ∷ [] in
+          let words : List ℕ = home oc p from ∷ home oc p to ∷ [] in
           let r1 : get_or b.low 1 0 ≡ base k.setting + a.at = known_holds words b.low b.holds 1 (omega arith) ∙ pa in
           let f0 = st.fits.0 in
           let e = store_ends k.setting Inv w.law w.facts.rules stack block st.context b.low oc st.lr (pc + 4) wd.0 (width_of ty) (base k.setting + a.at) b.flags st.ram m.queues st.invariant f0.aligned f0.room less wd.2 r1 al (omega arith) nope st1 in
@@ -287,12 +287,12 @@ module _ (k : Build) (Inv : Block → Context → List ℕ → Type 0) (sizes : 
               let d = l.arrives st.low st.flags (holds_nothing st.low st.state_fits.core.low_count) in
               let ut32 : widened ty ≡ U32 = rw i refl in
               let is = w.numbers k.program sizes S fr from sf.0.0 (record { there = typed.held.there; ty = typed.held.ty ∙ ut32 }) in
-              let ev : output_event k.setting.image st.ram q c (width_of ty) (slot (places fr.number) p from) ≡ record { compartment = compartment_of k fr.func; periph = q; offset = c; width = width_of ty; write = true; value = number_in value } =
-              ap (λ (z : ℕ). record { compartment = z; periph = q; offset = c; width = width_of ty; write = true; value = cut (width_of ty) (slot (places fr.number) p from) }) (w.law.keeps.current _ _ _ st.invariant ∙ st.fits.0.current)
+              let ev : output_event k.setting.image st.ram q c (width_of ty) (home (places fr.number) p from) ≡ record { compartment = compartment_of k fr.func; periph = q; offset = c; width = width_of ty; write = true; value = number_in value } =
+              ap (λ (z : ℕ). record { compartment = z; periph = q; offset = c; width = width_of ty; write = true; value = cut (width_of ty) (home (places fr.number) p from) }) (w.law.keeps.current _ _ _ st.invariant ∙ st.fits.0.current)
               ∙ ap (λ (z : ℕ). record { compartment = compartment_of k fr.func; periph = q; offset = c; width = width_of ty; write = true; value = z }) (ap (λ (z : ℕ). cut (width_of ty) z) held_word ∙ sym (number_held i (register fr from) is)) in
               let pc : ℕ = code_at k fr.func fr.block fr.place + inst_size (is_some site) y in
               let told : Event = record { compartment = compartment_of k fr.func; periph = q; offset = c; width = width_of ty; write = true; value = number_in value } in
-              let out : Event = output_event k.setting.image st.ram q c (width_of ty) (slot (places fr.number) p from) in
+              let out : Event = output_event k.setting.image st.ram q c (width_of ty) (home (places fr.number) p from) in
               let end : State = works st.context d.low (base k.setting + places fr.number) st.lr pc d.flags st.ram m.queues in
               let r0 = started k.setting 3 t (state_of k Inv sizes S w places fr rest m t st) end (out ∷ []) st.is_state d.runs in
               let ft = fits_after k.setting Inv w.law w.facts.rules w.laws 3 (state_of k Inv sizes S w places fr rest m t st) end (out ∷ []) st.state_fits d.runs in

@@ -34,7 +34,7 @@ module _ (g : Setting) where
   module _ (o : ℕ) where
     -- the loan of a local of a frame o bytes behind RAM's base
     abbrev pub loan_of : Lend → Loan
-    loan_of d = record { address = base g + o + 4 * d.slot; end = base g + o + 4 * d.slot + get_or g.sizes d.number 0; number = d.number }
+    loan_of d = record { address = base g + o + 4 * d.home; end = base g + o + 4 * d.home + get_or g.sizes d.number 0; number = d.number }
 
     abbrev pub all_lent : Block → List Lend → Block
     all_lent m [] = m
@@ -43,4 +43,4 @@ module _ (g : Setting) where
   -- each lent local has a size, and lies in the frame below the return address, of so many words
   abbrev pub Lendable : (words : ℕ) → List Lend → Type 0
   Lendable w [] = Unit {0}
-  Lendable w (d ∷ ds) = ((d.number < length g.sizes) × (4 * d.slot + get_or g.sizes d.number 0 ≤ 4 * w)) × Lendable w ds
+  Lendable w (d ∷ ds) = ((d.number < length g.sizes) × (4 * d.home + get_or g.sizes d.number 0 ≤ 4 * w)) × Lendable w ds

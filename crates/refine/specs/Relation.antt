@@ -22,9 +22,9 @@ use Rattle.refine.specs.Areas.{Area, Has}
 use Rattle.refine.specs.Owned.{all_lent}
 use Rattle.refine.specs.Builds.{Build, compartment_of, func, words_at, starts_at, lends_at, entry_at, code_at, behind_at, site_at, global_starts}
 
-abbrev pub slots : (at count : ℕ) → List Area
-slots at zero = []
-slots at (suc n) = record { at = at; width = 4 } ∷ slots (at + 4) n
+abbrev pub homes : (at count : ℕ) → List Area
+homes at zero = []
+homes at (suc n) = record { at = at; width = 4 } ∷ homes (at + 4) n
 
 abbrev pub cells_at : ℕ → List CellPlace → List Area
 cells_at o [] = []
@@ -60,7 +60,7 @@ IsStatusBy (Some x) s = IsStatus s
 module _ (k : Build) where
   -- the areas of a function's frame that lies there: registers, cells of locals, return address
   abbrev pub own : (func at : ℕ) → List Area
-  own f at = slots at (length (func k f).regs) ++ (objects_at at (starts_at k f) (func k f).locals ++ record { at = at + 4 * words_at k f; width = 4 } ∷ [])
+  own f at = homes at (length (func k f).regs) ++ (objects_at at (starts_at k f) (func k f).locals ++ record { at = at + 4 * words_at k f; width = 4 } ∷ [])
 
   abbrev pub global_areas : List Area
   global_areas = objects_at 0 (global_starts k) (global_shapes k.program)

@@ -11,7 +11,7 @@ use machine_protection::laws::{
 use monitor_confined::protection::threads_reach;
 use monitor_sound::calls::calls_run_short;
 
-/// Where no slot that a compartment may write lies in the guard below the stack, the unit refuses each store there.
+/// Where no home that a compartment may write lies in the guard below the stack, the unit refuses each store there.
 pub fn guards_refuse()
     ensures { GuardsRefuse }
 {

@@ -8,9 +8,9 @@ use machine_protection::{MPU_CTRL, MPU_RASR, MPU_RBAR, MPU_RNR, MPU_TYPE};
 use std::process::Abort;
 use std::test::Fail;
 
-/// A slot, the base and the size of a block, the eighths that are taken out, what it is for, and the words of its region.
+/// A number, the base and the size of a block, the eighths that are taken out, what it is for, and the words of its region.
 struct Block {
-    slot: u8,
+    number: u8,
     base: u32,
     bytes: u32,
     srd: u8,
@@ -20,29 +20,29 @@ struct Block {
 
 #[rattlefmt::skip]
 const BLOCKS: &[Block] = &[
-    Block { slot: 0, base: 0, bytes: 0x4000_0000, srd: 0, rights: Rights::Background, words: (0x0000_0010, 0x1206_003b) },
-    Block { slot: 1, base: 0x0800_0000, bytes: 2048, srd: 0, rights: Rights::Code, words: (0x0800_0011, 0x0602_0015) },
-    Block { slot: 3, base: 0x2000_f800, bytes: 2048, srd: 0, rights: Rights::Stack, words: (0x2000_f813, 0x1306_0015) },
-    Block { slot: 3, base: 0x2000_f800, bytes: 2048, srd: 0xf0, rights: Rights::Stack, words: (0x2000_f813, 0x1306_f015) },
-    Block { slot: 4, base: 0x4001_2000, bytes: 1024, srd: 0, rights: Rights::Device, words: (0x4001_2014, 0x1301_0013) },
-    Block { slot: 5, base: 0x2000_0400, bytes: 1024, srd: 0, rights: Rights::Ram, words: (0x2000_0415, 0x1306_0013) },
-    Block { slot: 6, base: 0x2000_0c00, bytes: 32, srd: 0, rights: Rights::Ram, words: (0x2000_0c16, 0x1306_0009) },
-    Block { slot: 7, base: 0x2000_0700, bytes: 256, srd: 0, rights: Rights::Ram, words: (0x2000_0717, 0x1306_000f) },
-    Block { slot: 4, base: 0x2000_0c00, bytes: 1024, srd: 0xe0, rights: Rights::Ram, words: (0x2000_0c14, 0x1306_e013) },
-    Block { slot: 4, base: 0x2000_0f00, bytes: 256, srd: 0x80, rights: Rights::Ram, words: (0x2000_0f14, 0x1306_800f) },
+    Block { number: 0, base: 0, bytes: 0x4000_0000, srd: 0, rights: Rights::Background, words: (0x0000_0010, 0x1206_003b) },
+    Block { number: 1, base: 0x0800_0000, bytes: 2048, srd: 0, rights: Rights::Code, words: (0x0800_0011, 0x0602_0015) },
+    Block { number: 3, base: 0x2000_f800, bytes: 2048, srd: 0, rights: Rights::Stack, words: (0x2000_f813, 0x1306_0015) },
+    Block { number: 3, base: 0x2000_f800, bytes: 2048, srd: 0xf0, rights: Rights::Stack, words: (0x2000_f813, 0x1306_f015) },
+    Block { number: 4, base: 0x4001_2000, bytes: 1024, srd: 0, rights: Rights::Device, words: (0x4001_2014, 0x1301_0013) },
+    Block { number: 5, base: 0x2000_0400, bytes: 1024, srd: 0, rights: Rights::Ram, words: (0x2000_0415, 0x1306_0013) },
+    Block { number: 6, base: 0x2000_0c00, bytes: 32, srd: 0, rights: Rights::Ram, words: (0x2000_0c16, 0x1306_0009) },
+    Block { number: 7, base: 0x2000_0700, bytes: 256, srd: 0, rights: Rights::Ram, words: (0x2000_0717, 0x1306_000f) },
+    Block { number: 4, base: 0x2000_0c00, bytes: 1024, srd: 0xe0, rights: Rights::Ram, words: (0x2000_0c14, 0x1306_e013) },
+    Block { number: 4, base: 0x2000_0f00, bytes: 256, srd: 0x80, rights: Rights::Ram, words: (0x2000_0f14, 0x1306_800f) },
 ];
 
 fn check_block(rt: &impl Abort, block: &Block) -> Result<(), Fail> {
     let size = Pow2::new(block.bytes).ok_or("a power of two")?;
-    assert!(rt; block.slot < 16);
+    assert!(rt; block.number < 16);
     assert!(rt; size.get() >= 32);
     assert_eq!(rt; block.base % size.get(), 0);
     let (rbar, rasr) = block.words;
     assert_eq!(rt;
-        region(block.slot, block.base, size, block.srd, block.rights),
+        region(block.number, block.base, size, block.srd, block.rights),
         Region { rbar, rasr },
-        "slot {}",
-        block.slot
+        "region {}",
+        block.number
     );
     Ok(())
 }

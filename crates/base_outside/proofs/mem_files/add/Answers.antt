@@ -6,14 +6,14 @@ use Rattle.base_outside.proofs.mem_files.add.Goals as goal
 
 pub add-requires : goal.add-requires
 add-requires c =
-    room_for c.args.slots.now c.args.name.now c.in-Some.place (length c.args.piece.now) c.index-slots-place.result
+    room_for c.args.files.now c.args.name.now c.in-Some.place (length c.args.piece.now) c.index-files-place.result
     (sym c.place_of.ensures ∙ c.in-Some.is) c.requires
 
 pub returns-in-Some : goal.returns-in-Some
 returns-in-Some c =
-    adds c.args.slots.now c.args.name.now c.args.piece.now c.in-Some.place c.add.new.self c.index-slots-place.result
+    adds c.args.files.now c.args.name.now c.args.piece.now c.in-Some.place c.add.new.self c.index-files-place.result
     (sym c.place_of.ensures ∙ c.in-Some.is) c.add.ensures
 
 pub returns-in_default : goal.returns-in_default
 returns-in_default c =
-    rw (found_nowhere (λ (e : Entry). bytes_eq e.name c.args.name.now) c.args.slots.now (sym c.place_of.ensures ∙ c.in_default.is)) tt
+    rw (found_nowhere (λ (e : Entry). bytes_eq e.name c.args.name.now) c.args.files.now (sym c.place_of.ensures ∙ c.in_default.is)) tt

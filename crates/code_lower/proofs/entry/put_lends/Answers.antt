@@ -11,17 +11,17 @@ pub put-requires-clause-room : goal.put-requires-clause-room
 put-requires-clause-room c =
     let ls = c.args.lent.now in
     let i = c.loop-lend.lend-index in
-    let d : Lent = get_or ls i (record { slot = 0; number = 0 }) in
-    rw (c.slot_address.ensures.code, c.byte_into.ensures.code, c.supervisor_call.ensures.code) (step_first (lend_code (map lend_of (drop i ls))) (loan_code (lend_of d)) (lend_code (map lend_of (drop (i + 1) ls))) (lends_next ls i _ (omega arith)) c.loop-lend.asm c.loop-lend.invariant.room)
+    let d : Lent = get_or ls i (record { home = 0; number = 0 }) in
+    rw (c.home_address.ensures.code, c.byte_into.ensures.code, c.supervisor_call.ensures.code) (step_first (lend_code (map lend_of (drop i ls))) (loan_code (lend_of d)) (lend_code (map lend_of (drop (i + 1) ls))) (lends_next ls i _ (omega arith)) c.loop-lend.asm c.loop-lend.invariant.room)
 
 pub loop-lend-preserved : goal.loop-lend-preserved
 loop-lend-preserved c =
     let ls = c.args.lent.now in
     let i = c.loop-lend.lend-index in
-    let d : Lent = get_or ls i (record { slot = 0; number = 0 }) in
+    let d : Lent = get_or ls i (record { home = 0; number = 0 }) in
     let code : List Instr = lend_code (map lend_of (drop i ls)) in
     let rest : List Instr = lend_code (map lend_of (drop (i + 1) ls)) in
-    rw (c.in_ok-put.ensures, c.slot_address.ensures.code, c.byte_into.ensures.code, c.supervisor_call.ensures.code)
+    rw (c.in_ok-put.ensures, c.home_address.ensures.code, c.byte_into.ensures.code, c.supervisor_call.ensures.code)
     record {
       whole = step_whole code (loan_code (lend_of d)) rest (lends_next ls i _ (omega arith)) c.loop-lend.asm ∙ c.loop-lend.invariant.whole;
       room = step_rest code (loan_code (lend_of d)) rest (lends_next ls i _ (omega arith)) c.loop-lend.asm c.loop-lend.invariant.room;

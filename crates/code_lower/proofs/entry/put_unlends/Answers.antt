@@ -12,14 +12,14 @@ pub put-requires-clause-room : goal.put-requires-clause-room
 put-requires-clause-room c =
     let ls = c.args.lent.now in
     let i = c.loop-lend._lend-index in
-    let d : Lent = get_or ls i (record { slot = 0; number = 0 }) in
+    let d : Lent = get_or ls i (record { home = 0; number = 0 }) in
     rw c.supervisor_call.ensures.code (step_first (unlend_code (map lend_of (drop i ls))) (supervisor_call 3 ∷ []) (unlend_code (map lend_of (drop (i + 1) ls))) (unlends_next ls i d (omega arith)) c.loop-lend.asm c.loop-lend.invariant.room)
 
 pub loop-lend-preserved : goal.loop-lend-preserved
 loop-lend-preserved c =
     let ls = c.args.lent.now in
     let i = c.loop-lend._lend-index in
-    let d : Lent = get_or ls i (record { slot = 0; number = 0 }) in
+    let d : Lent = get_or ls i (record { home = 0; number = 0 }) in
     let code : List Instr = unlend_code (map lend_of (drop i ls)) in
     let rest : List Instr = unlend_code (map lend_of (drop (i + 1) ls)) in
     rw (c.in_ok-put.ensures, c.supervisor_call.ensures.code)

@@ -14,7 +14,7 @@ branch-asm-requires-clause-room c =
     let n = first_label c.args.subject.now.labels.items in
     let x : List Item = plain (test_code c.args.on) in
     let y : List Item = jump_items n c.args.yes ++ jump_items n c.args.no in
-    let r = left_fits c.args.asm.now c.put.new.asm x y (rw c.load_slot.ensures.code at c.in_ok-put.ensures) c.requires.room in
+    let r = left_fits c.args.asm.now c.put.new.asm x y (rw c.load_home.ensures.code at c.in_ok-put.ensures) c.requires.room in
     omega (arith, r.below)
 
 pub branch-asm-requires-2-clause-room : goal.branch-asm-requires-2-clause-room
@@ -22,7 +22,7 @@ branch-asm-requires-2-clause-room c =
     let n = first_label c.args.subject.now.labels.items in
     let x : List Item = plain (test_code c.args.on) in
     let y : List Item = jump_items n c.args.yes ++ jump_items n c.args.no in
-    let r = left_fits c.args.asm.now c.put.new.asm x y (rw c.load_slot.ensures.code at c.in_ok-put.ensures) c.requires.room in
+    let r = left_fits c.args.asm.now c.put.new.asm x y (rw c.load_home.ensures.code at c.in_ok-put.ensures) c.requires.room in
     let e = ap here c.in_ok-branch.ensures.ok in
     let f = here_more c.put.new.asm (Branch Long c.label.result ∷ []) in
     omega (arith, r.below, e, f)

@@ -37,4 +37,4 @@ returns-clause-holds c = λ a.
     let power = is_power c.get.result c.args.size c.get.ensures.number c.get.ensures.power in
     let small = is_small c.get.result c.args.size c.get.ensures.number c.get.type_inv in
     rw (c.get.ensures.number, c.from.ensures, c.word.ensures.exact, c.from-2.ensures)
-    (held c.args.rights c.args.slot c.args.base c.args.size c.args.srd c.requires.slot power c.requires.size small c.requires.base (omega arith) a)
+    (held c.args.rights c.args.number c.args.base c.args.size c.args.srd c.requires.number power c.requires.size small c.requires.base (omega arith) a)

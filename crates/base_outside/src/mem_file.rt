@@ -8,14 +8,14 @@ use std::alloc::AllocError;
 use std::marker::Model;
 
 #[derive(Drop)]
-pub(crate) struct Slot {
+pub(crate) struct MemFile {
     name: Vec<u8>,
     there: bool,
     bytes: Vec<u8>,
     room: usize,
 }
 
-impl Model for Slot {
+impl Model for MemFile {
     ghost use Rattle.std.specs.Prelude.{◌≤◌, length, Some, None, vec_capacity, if◌then◌else◌};
     ghost use Rattle.base_outside.specs.Memory.{Entry};
 
@@ -30,10 +30,10 @@ impl Model for Slot {
     ghost invariant = { λ s. (length s.bytes.items ≤ s.room) × (s.room ≤ vec_capacity s.bytes) };
 }
 
-impl Slot {
+impl MemFile {
     // Takes the memory for the whole room.
-    pub(crate) fn new(entry: MemEntry) -> Result<Slot, AllocError>
-        ensures { IfOk result (λ slot. slot ≡ entry) }
+    pub(crate) fn new(entry: MemEntry) -> Result<MemFile, AllocError>
+        ensures { IfOk result (λ file. file ≡ entry) }
     {
         let MemEntry {
             name,
@@ -43,7 +43,7 @@ impl Slot {
         } = entry;
         let room = room as usize;
         bytes.reserve_exact(room - bytes.len())?;
-        Ok(Slot {
+        Ok(MemFile {
             name,
             there,
             bytes,

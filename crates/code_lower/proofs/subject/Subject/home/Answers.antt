@@ -2,7 +2,7 @@ use Rattle.std.proofs.Common.{ℕ, List, ◌/◌, ◌<◌, length, get_or, ap, �
 use Rattle.std.proofs.lemmas.List.{get_or_read}
 use Rattle.std.proofs.lemmas.List.Elements.{All-get_or}
 use Rattle.code_lower.proofs.Preparing.{locals_length}
-use Rattle.code_lower.proofs.subject.Subject.slot.Goals as goal
+use Rattle.code_lower.proofs.subject.Subject.home.Goals as goal
 
 pub index-requires : goal.index-requires
 index-requires c =
