@@ -7,7 +7,7 @@ use Rattle.aces_reports.specs.declared.failure.Failure.{Failure}
 use Rattle.aces_reports.specs.declared.failure.Failure.TheVariants.{Refused, PastLimit, Denied, NoRoom, Unread, Unwritten, Unprinted, NoMemory}
 use Rattle.aces_words.specs.Requests.{Request, Run, Bin, Compile, Check, Source, Where, Listing, Stack, Audit, Tables, Who, Symbols, Help, Selftest, Watch, State, Why, Explain, ExplainPlan, Asks, IsUsage, Origin, file_origin, firmware_origin}
 use Rattle.aces_reports.specs.FaultLines.{usage_line}
-use Rattle.base_outside.specs.Sinks.{SinkState, Says}
+use Rattle.base_outside.specs.Sinks.{SinkState, PutsLine}
 use Rattle.aces_reports.specs.Ends.{status_of, line_of}
 use Rattle.aces_files.specs.Outcomes.{Outcome, refused, past_limit, denied, no_room, usage}
 use Rattle.aces_files.specs.CarriesOut.{NamesLast}
@@ -64,7 +64,7 @@ nothing_more old new o q r p w = record {
 }
 
 pub usage_answered : (Has : Origin → List ℕ → Type 0) (Exceeds : Origin → Type 0) (words : List (List ℕ)) (w : World) (err_old err_new : SinkState)
-    → IsUsage words → Says err_old err_new usage_line → IsAnswered Has Exceeds words (between w w err_old err_new) 2
+    → IsUsage words → PutsLine err_old err_new usage_line → IsAnswered Has Exceeds words (between w w err_old err_new) 2
 usage_answered Has Exceeds words w err_old err_new u s = record {
   outcome = usage;
   answer = no_request u;
@@ -75,42 +75,42 @@ usage_answered Has Exceeds words w err_old err_new u s = record {
 
 module _ (Has : Origin → List ℕ → Type 0) (Exceeds : Origin → Type 0) (words : List (List ℕ)) (r : Request) (asks : Asks words r)
     (old new : World) (err_old err_new : SinkState) where
-  pub answered : (e : Result Done Failure) (s : ℕ) → s ≡ status_of e → Does (Answer r Has Exceeds) r old new e → Says err_old err_new (line_of e)
+  pub answered : (e : Result Done Failure) (s : ℕ) → s ≡ status_of e → Does (Answer r Has Exceeds) r old new e → PutsLine err_old err_new (line_of e)
       → IsPlain s → IsAnswered Has Exceeds words (between old new err_old err_new) s
   answered (Ok Completed) s q d l p = record {
     outcome = d.outcome;
     answer = to_request r d.outcome asks d.answer;
     ended = d.ended ∙ sym q;
     all = d.all;
-    says = subst (Says err_old err_new) (sym d.silent) l;
+    says = subst (PutsLine err_old err_new) (sym d.silent) l;
   }
   answered (Ok RunFailed) s q d l p = record {
     outcome = d.outcome;
     answer = to_request r d.outcome asks d.answer;
     ended = d.ended ∙ sym q;
     all = d.all;
-    says = subst (Says err_old err_new) (sym d.silent) l;
+    says = subst (PutsLine err_old err_new) (sym d.silent) l;
   }
   answered (Ok Negative) s q d l p = record {
     outcome = d.outcome;
     answer = to_request r d.outcome asks d.answer;
     ended = d.ended ∙ sym q;
     all = d.all;
-    says = subst (Says err_old err_new) (sym d.silent) l;
+    says = subst (PutsLine err_old err_new) (sym d.silent) l;
   }
   answered (Ok FaultTold) s q d l p = record {
     outcome = d.outcome;
     answer = to_request r d.outcome asks d.answer;
     ended = d.ended ∙ sym q;
     all = d.all;
-    says = subst (Says err_old err_new) (sym d.silent) l;
+    says = subst (PutsLine err_old err_new) (sym d.silent) l;
   }
   answered (Ok NoRoomTold) s q d l p = record {
     outcome = d.outcome;
     answer = to_request r d.outcome asks d.answer;
     ended = d.ended ∙ sym q;
     all = d.all;
-    says = subst (Says err_old err_new) (sym d.silent) l;
+    says = subst (PutsLine err_old err_new) (sym d.silent) l;
   }
   answered (Err (Refused name f)) s q d l p = record {
     outcome = refused name.now f;
@@ -201,7 +201,7 @@ module _ (Has : Origin → List ℕ → Type 0) (Exceeds : Origin → Type 0) (w
 
 module _ (A : Outcome → Type 0) (words : List (List ℕ)) (r : Request) (asks : Asks words r)
     (old new : World) (err_old err_new : SinkState) where
-  pub unread : (calls : List Call) (e : Result Done Failure) → status_of e ≡ 4 → Does A r old new e → IfErr e (NamesLast calls) → Says err_old err_new (line_of e)
+  pub unread : (calls : List Call) (e : Result Done Failure) → status_of e ≡ 4 → Does A r old new e → IfErr e (NamesLast calls) → PutsLine err_old err_new (line_of e)
       → TellsUnread calls words (between old new err_old err_new)
   unread calls (Ok Completed) q d n l = let f : ⊥ = omega (arith, q) in absurd f
   unread calls (Ok RunFailed) q d n l = let f : ⊥ = omega (arith, q) in absurd f

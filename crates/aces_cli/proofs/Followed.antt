@@ -10,7 +10,7 @@ use Rattle.plan_model.specs.declared.policy.Policy.{Policy}
 use Rattle.aces_words.specs.Requests.{Request, Compile, Asks, Origin, file_origin, firmware_origin}
 use Rattle.aces_words.proofs.Requests.{requests_are_one}
 use Rattle.aces_files.specs.Answers as files
-use Rattle.aces_files.specs.Known.{Held, Holds, Exceeds}
+use Rattle.aces_files.specs.Known.{Held, HoldsWithin, Exceeds}
 use Rattle.aces_files.specs.Outcomes.{Outcome}
 use Rattle.aces_files.specs.Effects.{IsRewritten}
 use Rattle.aces_firmwares.specs.Firmwares.{IsFirmware}
@@ -64,7 +64,7 @@ plan_fails firmware board policy bytes text o (plans.meets_denied w b m h k r) e
 plan_fails firmware board policy bytes text o (plans.lacks_room w b lack h k r) e = omega (arith, e)
 
 module _ (unique : TextsAreUnique) (one : BoardsAreOne) (told : Bool) (yes_told : IsTrue told) (old new : Held) (firmware board : List ℕ) (policy : Policy) (image : List ℕ) where
-  follow : (bytes text : List ℕ) (o : Outcome) → Holds old (firmware_origin firmware) bytes → Holds old (file_origin board) text → Promises policy bytes text
+  follow : (bytes text : List ℕ) (o : Outcome) → HoldsWithin old (firmware_origin firmware) bytes → HoldsWithin old (file_origin board) text → Promises policy bytes text
       → CompileAnswer firmware board policy image bytes text o → o.status ≡ 0 → IsRewritten told o.written old new → IsFollowed policy old firmware board new image
   follow bytes text o hb ht g (answers.unplanned p u) e written = absurd (plan_fails firmware board policy bytes text p u e)
   follow bytes text o hb ht g (answers.compiled w b out h k t) e written =
@@ -89,8 +89,8 @@ module _ (unique : TextsAreUnique) (one : BoardsAreOne) (told : Bool) (yes_told 
         refines = whole t.image t.is_image;
       }
 
-  compile_by : (bytes text : List ℕ) (o : Outcome) → Holds old (firmware_origin firmware) bytes → Holds old (file_origin board) text → Promises policy bytes text
-      → AnswerToCompile firmware board policy image (Holds old) (Exceeds old) o → o.status ≡ 0 → IsRewritten told o.written old new → IsFollowed policy old firmware board new image
+  compile_by : (bytes text : List ℕ) (o : Outcome) → HoldsWithin old (firmware_origin firmware) bytes → HoldsWithin old (file_origin board) text → Promises policy bytes text
+      → AnswerToCompile firmware board policy image (HoldsWithin old) (Exceeds old) o → o.status ≡ 0 → IsRewritten told o.written old new → IsFollowed policy old firmware board new image
   compile_by bytes text o hb ht g (files.first_large x) e written = let f : ⊥ = omega (arith, e) in absurd f
   compile_by bytes text o hb ht g (files.second_large bytes1 h1 x) e written = let f : ⊥ = omega (arith, e) in absurd f
   compile_by bytes text o hb ht g (files.both_read bytes1 text1 o1 h1 t1 a) e written =
@@ -98,8 +98,8 @@ module _ (unique : TextsAreUnique) (one : BoardsAreOne) (told : Bool) (yes_told 
       (subst (Promises policy bytes1) (held_is_one old (file_origin board) text text1 ht t1)
       (subst (λ (z : List ℕ). Promises policy z text) (held_is_one old (firmware_origin firmware) bytes bytes1 hb h1) g)) a e written
 
-  stack_by : (s o : Outcome) → AnswerToStack firmware board policy (Holds old) (Exceeds old) s → s.status ≡ 0
-      → AnswerToCompile firmware board policy image (Holds old) (Exceeds old) o → o.status ≡ 0 → IsRewritten told o.written old new → IsFollowed policy old firmware board new image
+  stack_by : (s o : Outcome) → AnswerToStack firmware board policy (HoldsWithin old) (Exceeds old) s → s.status ≡ 0
+      → AnswerToCompile firmware board policy image (HoldsWithin old) (Exceeds old) o → o.status ≡ 0 → IsRewritten told o.written old new → IsFollowed policy old firmware board new image
   stack_by s o (files.first_large x) z a e written = let f : ⊥ = omega (arith, z) in absurd f
   stack_by s o (files.second_large bytes h x) z a e written = let f : ⊥ = omega (arith, z) in absurd f
   stack_by s o (files.both_read bytes text p h t b) z a e written = compile_by bytes text o h t (promised firmware board policy bytes text p b z) a e written
@@ -114,4 +114,4 @@ compile_answer Has Exceed words firmware board policy image o asks (answers.to_r
 pub bounded_calls_are_followed : TextsAreUnique → BoardsAreOne → BoundedCallsAreFollowed
 bounded_calls_are_followed unique one words v told is firmware board policy image asks s =
     stack_by unique one v.old.told told v.old.held v.new.held firmware board policy image s.outcome is.outcome s.answer s.ended
-    (compile_answer (Holds v.old.held) (Exceeds v.old.held) words firmware board policy image is.outcome asks is.answer) is.ended is.all.held
+    (compile_answer (HoldsWithin v.old.held) (Exceeds v.old.held) words firmware board policy image is.outcome asks is.answer) is.ended is.all.held

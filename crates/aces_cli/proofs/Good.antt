@@ -26,7 +26,7 @@ use Rattle.aces_files.specs.Contents.{IsContentFault}
 use Rattle.aces_audit.specs.Answers.{AuditAnswer, TablesAnswer}
 use Rattle.aces_firmwares.specs.Answers.{CheckAnswer, SourceAnswer}
 use Rattle.aces_firmwares.specs.Firmwares.{IsFirmware}
-use Rattle.aces_files.specs.Known.{Held, Holds, Exceeds}
+use Rattle.aces_files.specs.Known.{Held, HoldsWithin, Exceeds}
 use Rattle.aces_plans.specs.PlanAnswer as plans
 use Rattle.aces_plans.specs.PlanAnswer.{PlanAnswer}
 use Rattle.aces_plans.specs.Answers.{ListAnswer, StackAnswers, SymbolsAnswer, AnswerToList, AnswerToStack, no_firmware, no_board, too_many, bounded}
@@ -150,14 +150,14 @@ module _ (laws : Laws) where
     good_is_done r o (explain_plan firmware board policy bytes t h k g) a =
         by_files_end Has Exceeds one fits (λ n. n ≡ 0) (firmware_origin firmware) (file_origin board) (ExplainPlanAnswer firmware board policy) bytes t o h k (explain_plan_done firmware board policy bytes t (λ p. plan_none firmware board policy bytes t p g) o) a
 
-pub held_is_one : (held : Held) (s : Origin) (a b : List ℕ) → Holds held s a → Holds held s b → a ≡ b
+pub held_is_one : (held : Held) (s : Origin) (a b : List ℕ) → HoldsWithin held s a → HoldsWithin held s b → a ≡ b
 held_is_one held s a b h k = let both : Some a ≡ Some b = sym h.there ∙ k.there in cc
 
-held_fits : (held : Held) (s : Origin) (a : List ℕ) → Holds held s a → Exceeds held s → ⊥
+held_fits : (held : Held) (s : Origin) (a : List ℕ) → HoldsWithin held s a → Exceeds held s → ⊥
 held_fits held s a h e =
     let more : s.limit < length a = subst (λ (x : Option (List ℕ)). IsSomeAnd x (λ bytes. s.limit < length bytes)) h.there e in
     let within : length a ≤ s.limit = h.within in
     omega (arith, more, within)
 
 pub good_requests_are_done : Laws → GoodRequestsAreDone
-good_requests_are_done laws held r o g a = good_is_done laws (Holds held) (Exceeds held) (held_is_one held) (held_fits held) r o g a
+good_requests_are_done laws held r o g a = good_is_done laws (HoldsWithin held) (Exceeds held) (held_is_one held) (held_fits held) r o g a

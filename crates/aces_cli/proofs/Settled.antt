@@ -8,7 +8,7 @@ use Rattle.aces_reports.specs.declared.failure.Failure.{Failure}
 use Rattle.aces_reports.specs.declared.failure.Failure.TheVariants.{Refused, PastLimit, Denied, NoRoom, Unread, Unwritten, Unprinted, NoMemory}
 use Rattle.aces_reports.specs.Ends.{status_of}
 use Rattle.aces_words.specs.Requests.{Request, Asks, Origin, origins}
-use Rattle.aces_files.specs.Known.{Held, Holds, Exceeds, IsMissing}
+use Rattle.aces_files.specs.Known.{Held, HoldsWithin, Exceeds, IsMissing}
 use Rattle.aces_files.specs.Outcomes.{Outcome, refused, past_limit, denied, no_room}
 use Rattle.aces_cli.specs.Answer.{Answer}
 use Rattle.aces_files.specs.Effects.{World, Does, IsUnread}
@@ -42,7 +42,7 @@ not_missing held (s ∷ ss) name ((b, there), more) (inl (same, gone)) =
     cc
 not_missing held (s ∷ ss) name ((b, there), more) (inr (here, m)) = not_missing held ss name more m
 
-good_is_there : (held : Held) (r : Request) → IsGood (Holds held) r → AreThere held (origins r)
+good_is_there : (held : Held) (r : Request) → IsGood (HoldsWithin held) r → AreThere held (origins r)
 good_is_there held r (run image tape steps bytes t h k g) = ((bytes, h.there), ((t, k.there), tt))
 good_is_there held r (bin image file bytes i h g) = ((bytes, h.there), tt)
 good_is_there held r (compile firmware board policy image bytes t h k g) = ((bytes, h.there), ((t, k.there), tt))
@@ -101,15 +101,15 @@ module _ (words : List (List ℕ)) (r : Request) (asks : Asks words r) (old new 
       ]
 
   -- what they hold is good
-  good_is_done : GoodRequestsAreDone → Does (Answer r (Holds old.held) (Exceeds old.held)) r old new e → IsGood (Holds old.held) r → IsDoneBy r s ⊎ (s ≡ 6)
+  good_is_done : GoodRequestsAreDone → Does (Answer r (HoldsWithin old.held) (Exceeds old.held)) r old new e → IsGood (HoldsWithin old.held) r → IsDoneBy r s ⊎ (s ≡ 6)
   good_is_done law d good =
-      elim (settles (Answer r (Holds old.held) (Exceeds old.held)) r old new err_old err_new told none (good_is_there old.held r good) e d) [
+      elim (settles (Answer r (HoldsWithin old.held) (Exceeds old.held)) r old new err_old err_new told none (good_is_there old.held r good) e d) [
         | inl o ↦ inl (subst (IsDoneBy r) (o.ended ∙ sym ends) (law old.held r o.outcome good o.answer))
         | inr six ↦ inr (ends ∙ six)
       ]
 
-  pub complete : GoodRequestsAreDone → Does (Answer r (Holds old.held) (Exceeds old.held)) r old new e
-      → (q : Request) → Asks words q → IsGood (Holds old.held) q → IsDoneBy q s ⊎ (s ≡ 6)
+  pub complete : GoodRequestsAreDone → Does (Answer r (HoldsWithin old.held) (Exceeds old.held)) r old new e
+      → (q : Request) → Asks words q → IsGood (HoldsWithin old.held) q → IsDoneBy q s ⊎ (s ≡ 6)
   complete law d q asked good =
       let same : r ≡ q = requests_are_one words r q asks asked in
-      subst (λ z. IsDoneBy z s ⊎ (s ≡ 6)) same (good_is_done law d (subst (IsGood (Holds old.held)) (sym same) good))
+      subst (λ z. IsDoneBy z s ⊎ (s ≡ 6)) same (good_is_done law d (subst (IsGood (HoldsWithin old.held)) (sym same) good))

@@ -13,7 +13,7 @@ use Rattle.monitor_model.specs.Layout.{initial_word_count}
 use Rattle.image_promises.specs.Planned.{planned_tables}
 use Rattle.aces_compiler.specs.ByPolicy.{IsImageBy}
 use Rattle.aces_stack_laws.specs.Whole.{RefinesWhole}
-use Rattle.aces_files.specs.Known.{Held, Holds, Exceeds}
+use Rattle.aces_files.specs.Known.{Held, HoldsWithin, Exceeds}
 use Rattle.aces_files.specs.Outcomes.{Outcome}
 use Rattle.aces_firmwares.specs.Firmwares.{IsFirmware}
 use Rattle.aces_plans.specs.Answers.{AnswerToStack}
@@ -25,8 +25,8 @@ use Rattle.aces_cli.specs.Seen.{Seen}
 pub record IsFollowed (policy : Policy) (old : Held) (firmware board : List ℕ) (new : Held) (image : List ℕ) : Type 0 where
   pub bytes : List ℕ
   pub text : List ℕ
-  pub has_bytes : Holds old (firmware_origin firmware) bytes
-  pub has_text : Holds old (file_origin board) text
+  pub has_bytes : HoldsWithin old (firmware_origin firmware) bytes
+  pub has_text : HoldsWithin old (file_origin board) text
   pub w : PlainFirmware
   pub b : Board
   pub is_firmware : IsFirmware w bytes
@@ -41,7 +41,7 @@ pub record IsFollowed (policy : Policy) (old : Held) (firmware board : List ℕ)
 -- `stack` has an answer with status 0 to these files
 pub record StackIsEnough (held : Held) (firmware board : List ℕ) (policy : Policy) : Type 0 where
   pub outcome : Outcome
-  pub answer : AnswerToStack firmware board policy (Holds held) (Exceeds held) outcome
+  pub answer : AnswerToStack firmware board policy (HoldsWithin held) (Exceeds held) outcome
   pub ended : outcome.status ≡ 0
 
 -- the words ask to compile, and what the files held has such an answer: then such an image is held
@@ -54,4 +54,4 @@ FollowsBounded words old new =
 abbrev pub BoundedCallsAreFollowed : Type 0
 BoundedCallsAreFollowed =
     (words : List (List ℕ)) (s : Seen) → IsTrue s.old.told →
-    IsAnswered (Holds s.old.held) (Exceeds s.old.held) words s 0 → FollowsBounded words s.old.held s.new.held
+    IsAnswered (HoldsWithin s.old.held) (Exceeds s.old.held) words s 0 → FollowsBounded words s.old.held s.new.held

@@ -13,7 +13,7 @@ use Rattle.aces_stack.specs.Limited.{KeepsLimitsBy}
 use Rattle.plan_model.specs.declared.policy.Policy.{Policy}
 use Rattle.plan_model.specs.declared.policy.Policy.TheVariants.{Filename}
 use Rattle.aces_words.specs.Requests.{Request, Run, Bin, Compile, Check, Source, Where, Listing, Stack, Audit, Tables, Who, Symbols, Help, Selftest, Watch, State, Why, Explain, ExplainPlan, Asks, Origin, origins, file_origin, firmware_origin}
-use Rattle.aces_files.specs.Known.{Held, Holds, Exceeds}
+use Rattle.aces_files.specs.Known.{Held, HoldsWithin, Exceeds}
 use Rattle.aces_files.specs.Outcomes.{Outcome}
 use Rattle.aces_firmwares.specs.Firmwares.{IsFirmware}
 use Rattle.ir_generator.specs.Made.{made}
@@ -123,4 +123,4 @@ IsDoneBy (ExplainPlan firmware board policy) status = status ≡ 0
 
 -- a good request has no outcome but one that says so
 abbrev pub GoodRequestsAreDone : Type 0
-GoodRequestsAreDone = (held : Held) (r : Request) (o : Outcome) → IsGood (Holds held) r → Answer r (Holds held) (Exceeds held) o → IsDoneBy r o.status
+GoodRequestsAreDone = (held : Held) (r : Request) (o : Outcome) → IsGood (HoldsWithin held) r → Answer r (HoldsWithin held) (Exceeds held) o → IsDoneBy r o.status

@@ -6,7 +6,7 @@ use Rattle.plan_model.specs.declared.policy.Policy.{Policy}
 use Rattle.aces_words.specs.Requests.{Request, Source, Asks, Origin}
 use Rattle.aces_files.specs.Known.{WasRead, WasTooLarge, IsCallOf}
 use Rattle.aces_reports.specs.FaultLines.{unread_line, unwritten_line, unprinted_line, memory_line}
-use Rattle.base_outside.specs.Sinks.{Says}
+use Rattle.base_outside.specs.Sinks.{PutsLine}
 use Rattle.aces_files.specs.Effects.{IsUnread, IsUnwritten, IsUnprinted, IsOutOfMemory, IsCarriedOut, IsBrokenOff}
 use Rattle.aces_files.specs.Outcomes.{Outcome}
 use Rattle.aces_cli.specs.Answer.{Answers}
@@ -25,7 +25,7 @@ pub record IsAnswered (Has : Origin → List ℕ → Type 0) (Exceeds : Origin �
   pub answer : Answers Has Exceeds words outcome
   pub ended : outcome.status ≡ status
   pub all : IsCarriedOut s.old s.new outcome
-  pub says : Says s.err_old s.err_new outcome.line
+  pub says : PutsLine s.err_old s.err_new outcome.line
 
 -- the call was broken off in the midst of what the words ask
 pub record IsPartly (Has : Origin → List ℕ → Type 0) (Exceeds : Origin → Type 0) (words : List (List ℕ))
@@ -42,7 +42,7 @@ pub record TellsUnread (calls : List Call) (words : List (List ℕ)) (s : Seen) 
   pub name : List ℕ
   pub unread : IsUnread request s.old s.new name
   pub last : EndsUnread name calls
-  pub says : Says s.err_old s.err_new (unread_line name)
+  pub says : PutsLine s.err_old s.err_new (unread_line name)
 
 -- what was done by the answers of these calls, all of which read a file that the words name for reading or write the one that they name
 -- for writing: what the words ask, and the first part of it after status 5 or 6; and after status 4, which file was not read
@@ -59,11 +59,11 @@ pub record TellsUnwritten (words : List (List ℕ)) (s : Seen) : Type 0 where
   pub asks : Asks words request
   pub name : List ℕ
   pub unwritten : IsUnwritten request s.old s.new name
-  pub says : Says s.err_old s.err_new (unwritten_line name)
+  pub says : PutsLine s.err_old s.err_new (unwritten_line name)
 
 pub record TellsUnprinted (s : Seen) : Type 0 where
   pub unprinted : IsUnprinted s.old s.new
-  pub says : Says s.err_old s.err_new unprinted_line
+  pub says : PutsLine s.err_old s.err_new unprinted_line
 
 -- the words ask for a run of the source
 pub record AsksForSource (words : List (List ℕ)) : Type 0 where
@@ -77,4 +77,4 @@ pub record AsksForSource (words : List (List ℕ)) : Type 0 where
 pub record TellsOutOfMemory (words : List (List ℕ)) (s : Seen) : Type 0 where
   pub out_of_memory : IsOutOfMemory s.old s.new
   pub quiet : (s.new.out ≡ s.old.out) ⊎ AsksForSource words
-  pub says : Says s.err_old s.err_new memory_line
+  pub says : PutsLine s.err_old s.err_new memory_line

@@ -8,7 +8,7 @@ mod perform;
 ghost use Rattle.std.specs.Prelude.{◌≡◌, ◌≢◌, ◌↔◌, ◌⊎◌, List, map, IsTrue, string_bytes};
 ghost use Rattle.base_outside.specs.Calls.{Call, Calls};
 ghost use Rattle.aces_words.specs.Requests.{Request, Asks, IsUsage};
-ghost use Rattle.aces_files.specs.Known.{Holds, Exceeds};
+ghost use Rattle.aces_files.specs.Known.{HoldsWithin, Exceeds};
 ghost use Rattle.aces_cli.specs.Complete.{NoneFailed, HasFiles, IsGood, IsDoneBy};
 ghost use Rattle.aces_cli.specs.Seen.{seen};
 ghost use Rattle.base_outside.specs.Sinks.{sink};
@@ -45,7 +45,7 @@ pub fn aces<F: Files, O: Sink, E: Sink>(
     // status is 3 exactly where a plan was asked for, what it is made of is read, no limit is passed, and the board denies an address that
     // the firmware reaches, or a memory of it has no room (`PlanAnswer`, and `IsPlanTold` of `explain`).
     ensures answer { IsTrue F.told → IsPlain result →
-        IsAnswered (Holds (F.held files.old)) (Exceeds (F.held files.old)) (map string_bytes words.now)
+        IsAnswered (HoldsWithin (F.held files.old)) (Exceeds (F.held files.old)) (map string_bytes words.now)
         (seen F.Files O.Sink E.Sink files.old files.new out.old out.new err.old err.new) result }
     ensures calls { (calls : List Call) × Calls F.called files.old calls files.new
         × IsByCalls calls (map string_bytes words.now)
@@ -60,13 +60,13 @@ pub fn aces<F: Files, O: Sink, E: Sink>(
 
     // What was printed and written before a fault is a prefix of what the words ask.
     ensures partly { IsTrue F.told → result ≡ 5 →
-        IsPartly (Holds (F.held files.old)) (Exceeds (F.held files.old)) (map string_bytes words.now)
+        IsPartly (HoldsWithin (F.held files.old)) (Exceeds (F.held files.old)) (map string_bytes words.now)
         (seen F.Files O.Sink E.Sink files.old files.new out.old out.new err.old err.new) }
 
     // After want of memory nothing was printed, but of a run of the source the first lines.
     ensures memory { result ≡ 6 → TellsOutOfMemory (map string_bytes words.now) (seen F.Files O.Sink E.Sink files.old files.new out.old out.new err.old err.new) }
     ensures printed_in_part { IsTrue F.told → result ≡ 6 → (sink O.Sink out.new ≡ sink O.Sink out.old)
-        ⊎ IsPartly (Holds (F.held files.old)) (Exceeds (F.held files.old)) (map string_bytes words.now)
+        ⊎ IsPartly (HoldsWithin (F.held files.old)) (Exceeds (F.held files.old)) (map string_bytes words.now)
         (seen F.Files O.Sink E.Sink files.old files.new out.old out.new err.old err.new) }
 
     // Where contents are told and no call failed, a command whose files are there ends by what they hold, or for want of memory; and
@@ -74,7 +74,7 @@ pub fn aces<F: Files, O: Sink, E: Sink>(
     ensures settled { IsTrue F.told → NoneFailed (seen F.Files O.Sink E.Sink files.old files.new out.old out.new err.old err.new) →
         HasFiles (F.held files.old) (map string_bytes words.now) → IsPlain result ⊎ (result ≡ 6) }
     ensures complete { IsTrue F.told → NoneFailed (seen F.Files O.Sink E.Sink files.old files.new out.old out.new err.old err.new) →
-        (r : Request) → Asks (map string_bytes words.now) r → IsGood (Holds (F.held files.old)) r →
+        (r : Request) → Asks (map string_bytes words.now) r → IsGood (HoldsWithin (F.held files.old)) r →
         IsDoneBy r result ⊎ (result ≡ 6) }
 
     // Where the words ask to compile and the status is 0, and what the files held has an answer of `stack` with status 0 too, the image file holds

@@ -9,13 +9,13 @@ use Rattle.aces_reports.specs.declared.failure.Failure.{Failure}
 use Rattle.aces_reports.specs.declared.failure.Failure.TheVariants.{Refused, PastLimit, Denied, NoRoom, Unread, Unwritten, Unprinted, NoMemory}
 use Rattle.base_outside.specs.Sinks.{SinkState}
 use Rattle.aces_words.specs.Requests.{Request, Origin}
-use Rattle.aces_files.specs.Known.{Held, Holds, Exceeds, WasRead, WasTooLarge, IsCallOf}
+use Rattle.aces_files.specs.Known.{Held, HoldsWithin, Exceeds, WasRead, WasTooLarge, IsCallOf}
 use Rattle.aces_files.specs.Outcomes.{Outcome}
 use Rattle.aces_files.specs.Effects.{Does, world}
 
 -- what these calls answered, and what the files held where that is told
 abbrev pub IsKnown : (told : Bool) → Held → List Call → Origin → List ℕ → Type 0
-IsKnown told held calls s bytes = WasRead calls s bytes × (IsTrue told → Holds held s bytes)
+IsKnown told held calls s bytes = WasRead calls s bytes × (IsTrue told → HoldsWithin held s bytes)
 
 abbrev pub IsKnownLarge : (told : Bool) → Held → List Call → Origin → Type 0
 IsKnownLarge told held calls s = WasTooLarge calls s × (IsTrue told → Exceeds held s)

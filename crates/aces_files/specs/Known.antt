@@ -9,7 +9,7 @@ abbrev pub Held : Type 0
 Held = List ℕ → Option (List ℕ)
 
 -- the source holds these bytes, which are within its limit
-pub record Holds (held : Held) (s : Origin) (bytes : List ℕ) : Type 0 where
+pub record HoldsWithin (held : Held) (s : Origin) (bytes : List ℕ) : Type 0 where
   pub there : held s.name ≡ Some bytes
   pub within : length bytes ≤ s.limit
 
@@ -21,7 +21,7 @@ Exceeds held s = IsSomeAnd (held s.name) (λ bytes. s.limit < length bytes)
 abbrev pub IsMissing : Held → List Origin → (name : List ℕ) → Type 0
 IsMissing held [] name = ⊥
 IsMissing held (s ∷ more) name =
-    ((s.name ≡ name) × IsNone (held name)) ⊎ (((bytes : List ℕ) × Holds held s bytes) × IsMissing held more name)
+    ((s.name ≡ name) × IsNone (held name)) ⊎ (((bytes : List ℕ) × HoldsWithin held s bytes) × IsMissing held more name)
 
 -- a name is that of a source
 abbrev pub IsNamed : List Origin → (name : List ℕ) → Type 0

@@ -3,7 +3,7 @@ use Rattle.std.proofs.Common.{◌≡◌, ℕ, ◌+◌, ◌/◌, ◌%◌, ◌<◌
 use Rattle.std.specs.Fmt.{decimal}
 use Rattle.std.proofs.lemmas.Fmt.{decimal_digit, decimal_step}
 use Rattle.base_outside.specs.Counts.{Stayed}
-use Rattle.base_outside.specs.Sinks.{SinkState, Says}
+use Rattle.base_outside.specs.Sinks.{SinkState, PutsLine}
 
 -- a count that stayed over two calls stayed over each
 stayed_first : (a b c : ℕ) → a ≤ b → b ≤ c → Stayed a c → Stayed a b
@@ -12,7 +12,7 @@ stayed_first a b c h k s = let e = s.same in let r = s.could_rise in record { sa
 stayed_second : (a b c : ℕ) → a ≤ b → b ≤ c → Stayed a c → Stayed b c
 stayed_second a b c h k s = let e = s.same in let r = s.could_rise in record { same = omega arith; could_rise = omega arith }
 
-pub says_both : (a b c : SinkState) (x y : List ℕ) → b.told ≡ a.told → Says a b x → Says b c y → Says a c (x ++ y)
+pub says_both : (a b c : SinkState) (x y : List ℕ) → b.told ≡ a.told → PutsLine a b x → PutsLine b c y → PutsLine a c (x ++ y)
 says_both a b c x y t p q =
     let h = p.never_falls in
     let k = q.never_falls in
@@ -24,13 +24,13 @@ says_both a b c x y t p q =
           ∙ append_assoc a.written x y;
     }
 
-pub says_nothing : (a : SinkState) → Says a a []
+pub says_nothing : (a : SinkState) → PutsLine a a []
 says_nothing a = record { never_falls = omega arith; said = λ t s. sym (append-nil a.written) }
 
-pub says_digit : (a c : SinkState) (n : ℕ) → n < 10 → Says a c ((48 + n % 10) ∷ []) → Says a c (decimal n)
+pub says_digit : (a c : SinkState) (n : ℕ) → n < 10 → PutsLine a c ((48 + n % 10) ∷ []) → PutsLine a c (decimal n)
 says_digit a c n h p =
     let e : n % 10 ≡ n = omega arith in
-    subst (Says a c) (ap (λ d. (48 + d) ∷ []) e ∙ sym (decimal_digit n h)) p
+    subst (PutsLine a c) (ap (λ d. (48 + d) ∷ []) e ∙ sym (decimal_digit n h)) p
 
-pub says_digits : (a b c : SinkState) (n : ℕ) → 10 ≤ n → n < 2 ^ 64 → b.told ≡ a.told → Says a b (decimal (n / 10)) → Says b c ((48 + n % 10) ∷ []) → Says a c (decimal n)
-says_digits a b c n h k t p q = subst (Says a c) (sym (decimal_step n h (omega arith))) (says_both a b c _ _ t p q)
+pub says_digits : (a b c : SinkState) (n : ℕ) → 10 ≤ n → n < 2 ^ 64 → b.told ≡ a.told → PutsLine a b (decimal (n / 10)) → PutsLine b c ((48 + n % 10) ∷ []) → PutsLine a c (decimal n)
+says_digits a b c n h k t p q = subst (PutsLine a c) (sym (decimal_step n h (omega arith))) (says_both a b c _ _ t p q)

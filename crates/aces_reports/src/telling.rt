@@ -5,7 +5,7 @@ ghost use Rattle.std.specs.Fmt.{decimal};
 ghost use Rattle.plan_board.specs.Keys.{path_of};
 ghost use Rattle.aces_reports.specs.FaultLines as lines;
 ghost use Rattle.aces_reports.specs.Ends.{status_of, line_of};
-ghost use Rattle.base_outside.specs.Sinks.{Says, sink};
+ghost use Rattle.base_outside.specs.Sinks.{PutsLine, sink};
 
 use crate::failure::{Done, Failure, Fault};
 use base_outside::Sink;
@@ -23,7 +23,7 @@ use plan_model::limits::LimitKind;
 /// The exit status of how a command ended. Where something stopped it, its line is put.
 pub fn report<E: Sink>(ended: Result<Done, Failure>, err: &mut E) -> u8
     ensures status { result ≡ status_of ended.entry }
-    ensures line { Says (sink E.Sink err.old) (sink E.Sink err.new) (line_of ended.entry) }
+    ensures line { PutsLine (sink E.Sink err.old) (sink E.Sink err.new) (line_of ended.entry) }
 {
     match ended {
         Ok(Done::Completed) => 0,
@@ -53,7 +53,7 @@ fn failure_status(failure: &Failure) -> u8
 
 /// Puts the line on what stopped a command.
 fn say_failure<E: Sink>(err: &mut E, failure: &Failure)
-    ensures { Says (sink E.Sink err.old) (sink E.Sink err.new) (line_of (Err failure.now)) }
+    ensures { PutsLine (sink E.Sink err.old) (sink E.Sink err.new) (line_of (Err failure.now)) }
 {
     match failure {
         Failure::Refused { name, fault } => say_fault(err, name.as_bytes(), fault),
@@ -73,21 +73,21 @@ fn say_failure<E: Sink>(err: &mut E, failure: &Failure)
 
 /// Puts a piece. A fault of the sink changes nothing else.
 pub fn say<E: Sink>(err: &mut E, piece: &[u8])
-    ensures { Says (sink E.Sink err.old) (sink E.Sink err.new) piece.now }
+    ensures { PutsLine (sink E.Sink err.old) (sink E.Sink err.new) piece.now }
 {
     let _ = err.put(piece);
 }
 
 /// Puts the line on want of memory.
 fn say_no_memory<E: Sink>(err: &mut E)
-    ensures { Says (sink E.Sink err.old) (sink E.Sink err.new) lines.memory_line }
+    ensures { PutsLine (sink E.Sink err.old) (sink E.Sink err.new) lines.memory_line }
 {
     say(err, b"aces: out of memory\n");
 }
 
 /// Puts a file's name between two texts.
 fn say_named<E: Sink>(err: &mut E, before: &[u8], name: &[u8], after: &[u8])
-    ensures { Says (sink E.Sink err.old) (sink E.Sink err.new)
+    ensures { PutsLine (sink E.Sink err.old) (sink E.Sink err.new)
         (before.now ++ name.now ++ after.now) }
 {
     say(err, before);
@@ -97,7 +97,7 @@ fn say_named<E: Sink>(err: &mut E, before: &[u8], name: &[u8], after: &[u8])
 
 /// Puts the decimal digits of a number.
 fn say_number<E: Sink>(err: &mut E, number: u64)
-    ensures { Says (sink E.Sink err.old) (sink E.Sink err.new) (decimal number) }
+    ensures { PutsLine (sink E.Sink err.old) (sink E.Sink err.new) (decimal number) }
 {
     if number >= 10 {
         say_number(err, number / 10);
@@ -107,7 +107,7 @@ fn say_number<E: Sink>(err: &mut E, number: u64)
 
 /// Puts a line on a file: its name, and a number between two texts behind it.
 fn say_counted<E: Sink>(err: &mut E, name: &[u8], before: &[u8], number: u32, after: &[u8])
-    ensures { Says (sink E.Sink err.old) (sink E.Sink err.new)
+    ensures { PutsLine (sink E.Sink err.old) (sink E.Sink err.new)
         (lines.counted name.now before.now number after.now) }
 {
     say_named(err, b"aces: ", name, before);
@@ -117,7 +117,7 @@ fn say_counted<E: Sink>(err: &mut E, name: &[u8], before: &[u8], number: u32, af
 
 /// Puts a line on a place in a file: its name, a line and a column of it, and a text behind them.
 fn say_placed<E: Sink>(err: &mut E, name: &[u8], pos: Pos, text: &[u8])
-    ensures { Says (sink E.Sink err.old) (sink E.Sink err.new)
+    ensures { PutsLine (sink E.Sink err.old) (sink E.Sink err.new)
         (lines.placed name.now pos text.now) }
 {
     say_counted(err, name, b":", pos.line, b":");
@@ -150,7 +150,7 @@ fn limit_word(which: TextLimit) -> &'static [u8]
 
 /// Puts the line on a limit that a text passes.
 fn say_limit<E: Sink>(err: &mut E, name: &[u8], which: TextLimit, pos: Pos)
-    ensures { Says (sink E.Sink err.old) (sink E.Sink err.new)
+    ensures { PutsLine (sink E.Sink err.old) (sink E.Sink err.new)
         (lines.text_line name.now (TextFault.Limit which pos)) }
 {
     say_placed(err, name, pos, b": limit ");
@@ -160,7 +160,7 @@ fn say_limit<E: Sink>(err: &mut E, name: &[u8], which: TextLimit, pos: Pos)
 
 /// Puts two texts.
 fn say_both<E: Sink>(err: &mut E, first: &[u8], second: &[u8])
-    ensures { Says (sink E.Sink err.old) (sink E.Sink err.new) (first.now ++ second.now) }
+    ensures { PutsLine (sink E.Sink err.old) (sink E.Sink err.new) (first.now ++ second.now) }
 {
     say(err, first);
     say(err, second);
@@ -168,7 +168,7 @@ fn say_both<E: Sink>(err: &mut E, first: &[u8], second: &[u8])
 
 /// Puts which check of a firmware fails.
 fn say_kind<E: Sink>(err: &mut E, kind: &CheckKind)
-    ensures { Says (sink E.Sink err.old) (sink E.Sink err.new) (lines.kind_text kind.now) }
+    ensures { PutsLine (sink E.Sink err.old) (sink E.Sink err.new) (lines.kind_text kind.now) }
 {
     match kind {
         CheckKind::Unknown(name) => say_both(err, b"unknown ", name.as_slice()),
@@ -185,7 +185,7 @@ fn say_kind<E: Sink>(err: &mut E, kind: &CheckKind)
 
 /// Puts how many bytes a frame would have.
 fn say_frame<E: Sink>(err: &mut E, bytes: u32)
-    ensures { Says (sink E.Sink err.old) (sink E.Sink err.new)
+    ensures { PutsLine (sink E.Sink err.old) (sink E.Sink err.new)
         (lines.kind_text (CheckKind.FrameTooLarge bytes)) }
 {
     say(err, b"frame of ");
@@ -195,7 +195,7 @@ fn say_frame<E: Sink>(err: &mut E, bytes: u32)
 
 /// Puts where a check of a firmware fails.
 fn say_place<E: Sink>(err: &mut E, place: &Place)
-    ensures { Says (sink E.Sink err.old) (sink E.Sink err.new) (lines.place_text place.now) }
+    ensures { PutsLine (sink E.Sink err.old) (sink E.Sink err.new) (lines.place_text place.now) }
 {
     match place {
         Place::Struct(name) => say_both(err, b"struct ", name.as_slice()),
@@ -212,7 +212,7 @@ fn say_place<E: Sink>(err: &mut E, place: &Place)
 
 /// Puts the place of an instruction.
 fn say_instruction<E: Sink>(err: &mut E, func: &[u8], block: &[u8], inst: u32)
-    ensures { Says (sink E.Sink err.old) (sink E.Sink err.new)
+    ensures { PutsLine (sink E.Sink err.old) (sink E.Sink err.new)
         (lines.place_text (Place.Inst func.now block.now inst)) }
 {
     say_named(err, func, b" block ", block);
@@ -222,7 +222,7 @@ fn say_instruction<E: Sink>(err: &mut E, func: &[u8], block: &[u8], inst: u32)
 
 /// Puts the line on a check of a firmware that fails.
 fn say_failing<E: Sink>(err: &mut E, name: &[u8], kind: &CheckKind, place: &Place)
-    ensures { Says (sink E.Sink err.old) (sink E.Sink err.new)
+    ensures { PutsLine (sink E.Sink err.old) (sink E.Sink err.new)
         (lines.check_line name.now (CheckFault.At kind.now place.now)) }
 {
     say_named(err, b"aces: ", name, b": ");
@@ -234,7 +234,7 @@ fn say_failing<E: Sink>(err: &mut E, name: &[u8], kind: &CheckKind, place: &Plac
 
 /// Puts a line on a key of a file: its name, and the key behind a text.
 fn say_keyed<E: Sink>(err: &mut E, name: &[u8], text: &[u8], key: &[u8])
-    ensures { Says (sink E.Sink err.old) (sink E.Sink err.new)
+    ensures { PutsLine (sink E.Sink err.old) (sink E.Sink err.new)
         (lines.keyed name.now text.now key.now) }
 {
     say_named(err, b"aces: ", name, text);
@@ -243,7 +243,7 @@ fn say_keyed<E: Sink>(err: &mut E, name: &[u8], text: &[u8], key: &[u8])
 
 /// The same of a key of a board.
 fn say_key<E: Sink>(err: &mut E, name: &[u8], text: &[u8], key: Key)
-    ensures { Says (sink E.Sink err.old) (sink E.Sink err.new)
+    ensures { PutsLine (sink E.Sink err.old) (sink E.Sink err.new)
         (lines.keyed name.now text.now (path_of key)) }
 {
     say_keyed(err, name, text, key.path().as_bytes());
@@ -263,7 +263,7 @@ fn compiled_word(which: LimitKind) -> &'static [u8]
 
 /// Puts the line on a limit of what is compiled.
 fn say_past_limit<E: Sink>(err: &mut E, which: LimitKind, count: u32)
-    ensures { Says (sink E.Sink err.old) (sink E.Sink err.new) (lines.limit_line which count) }
+    ensures { PutsLine (sink E.Sink err.old) (sink E.Sink err.new) (lines.limit_line which count) }
 {
     say(err, b"aces: limit ");
     say(err, compiled_word(which));
@@ -272,7 +272,7 @@ fn say_past_limit<E: Sink>(err: &mut E, which: LimitKind, count: u32)
 
 /// Puts how much there is of something, behind its word.
 fn say_count<E: Sink>(err: &mut E, count: u32)
-    ensures { Says (sink E.Sink err.old) (sink E.Sink err.new) (lines.count_text count) }
+    ensures { PutsLine (sink E.Sink err.old) (sink E.Sink err.new) (lines.count_text count) }
 {
     say(err, b" ");
     say_number(err, u64::from(count));
@@ -291,7 +291,7 @@ pub fn memory_word(memory: Memory) -> &'static [u8]
 
 /// Puts a compartment, or `-` where there is none.
 fn say_compartment<E: Sink>(err: &mut E, compartment: Option<u32>)
-    ensures { Says (sink E.Sink err.old) (sink E.Sink err.new) (lines.compartment_word compartment) }
+    ensures { PutsLine (sink E.Sink err.old) (sink E.Sink err.new) (lines.compartment_word compartment) }
 {
     match compartment {
         None => say(err, b"-"),
@@ -301,7 +301,7 @@ fn say_compartment<E: Sink>(err: &mut E, compartment: Option<u32>)
 
 /// Puts the line on a memory that has no room.
 fn say_no_room<E: Sink>(err: &mut E, lack: Lack)
-    ensures { Says (sink E.Sink err.old) (sink E.Sink err.new) (lines.room_line lack) }
+    ensures { PutsLine (sink E.Sink err.old) (sink E.Sink err.new) (lines.room_line lack) }
 {
     say(err, b"aces: ");
     say(err, memory_word(lack.memory));
@@ -312,7 +312,7 @@ fn say_no_room<E: Sink>(err: &mut E, lack: Lack)
 
 /// Puts how many bytes are needed, and how many there are.
 fn say_bytes<E: Sink>(err: &mut E, needed: u64, available: u64)
-    ensures { Says (sink E.Sink err.old) (sink E.Sink err.new) (lines.bytes_text needed available) }
+    ensures { PutsLine (sink E.Sink err.old) (sink E.Sink err.new) (lines.bytes_text needed available) }
 {
     say(err, b": needs ");
     say_number(err, needed);
@@ -323,7 +323,7 @@ fn say_bytes<E: Sink>(err: &mut E, needed: u64, available: u64)
 
 /// Puts the line on a fault of an image.
 fn say_image<E: Sink>(err: &mut E, name: &[u8], fault: ImageFault)
-    ensures { Says (sink E.Sink err.old) (sink E.Sink err.new) (lines.image_line name.now fault) }
+    ensures { PutsLine (sink E.Sink err.old) (sink E.Sink err.new) (lines.image_line name.now fault) }
 {
     match fault {
         ImageFault::NoMemory => say_no_memory(err),
@@ -337,7 +337,7 @@ fn say_image<E: Sink>(err: &mut E, name: &[u8], fault: ImageFault)
 
 /// Puts the line on a fault of a tape.
 fn say_tape<E: Sink>(err: &mut E, name: &[u8], fault: &TapeFault)
-    ensures { Says (sink E.Sink err.old) (sink E.Sink err.new) (lines.tape_line name.now fault.now) }
+    ensures { PutsLine (sink E.Sink err.old) (sink E.Sink err.new) (lines.tape_line name.now fault.now) }
 {
     match fault {
         TapeFault::NoMemory => say_no_memory(err),
@@ -350,7 +350,7 @@ fn say_tape<E: Sink>(err: &mut E, name: &[u8], fault: &TapeFault)
 
 /// Puts the line on a fault of the text of a firmware.
 fn say_text<E: Sink>(err: &mut E, name: &[u8], fault: &TextFault)
-    ensures { Says (sink E.Sink err.old) (sink E.Sink err.new) (lines.text_line name.now fault.now) }
+    ensures { PutsLine (sink E.Sink err.old) (sink E.Sink err.new) (lines.text_line name.now fault.now) }
 {
     match fault {
         TextFault::NoMemory => say_no_memory(err),
@@ -363,7 +363,7 @@ fn say_text<E: Sink>(err: &mut E, name: &[u8], fault: &TextFault)
 
 /// Puts the line on what the checks of a firmware tell.
 fn say_check<E: Sink>(err: &mut E, name: &[u8], fault: &CheckFault)
-    ensures { Says (sink E.Sink err.old) (sink E.Sink err.new) (lines.check_line name.now fault.now) }
+    ensures { PutsLine (sink E.Sink err.old) (sink E.Sink err.new) (lines.check_line name.now fault.now) }
 {
     match fault {
         CheckFault::NoMemory => say_no_memory(err),
@@ -373,7 +373,7 @@ fn say_check<E: Sink>(err: &mut E, name: &[u8], fault: &CheckFault)
 
 /// Puts the line on a fault of the text of a board.
 fn say_board<E: Sink>(err: &mut E, name: &[u8], fault: &BoardFault)
-    ensures { Says (sink E.Sink err.old) (sink E.Sink err.new) (lines.board_line name.now fault.now) }
+    ensures { PutsLine (sink E.Sink err.old) (sink E.Sink err.new) (lines.board_line name.now fault.now) }
 {
     match fault {
         BoardFault::NoMemory => say_no_memory(err),
@@ -389,7 +389,7 @@ fn say_board<E: Sink>(err: &mut E, name: &[u8], fault: &BoardFault)
 
 /// Puts the line on a fault in the content of a file.
 fn say_fault<E: Sink>(err: &mut E, name: &[u8], fault: &Fault)
-    ensures { Says (sink E.Sink err.old) (sink E.Sink err.new)
+    ensures { PutsLine (sink E.Sink err.old) (sink E.Sink err.new)
         (lines.fault_line name.now fault.now) }
 {
     match fault {

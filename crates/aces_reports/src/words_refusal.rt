@@ -1,7 +1,7 @@
 //! Words that the system did not give.
 
 ghost use Rattle.std.specs.Prelude.{◌≡◌};
-ghost use Rattle.base_outside.specs.Sinks.{Says, sink};
+ghost use Rattle.base_outside.specs.Sinks.{PutsLine, sink};
 ghost use Rattle.aces_reports.specs.WordsRefusals.{refusal_status, refusal_line};
 
 use crate::telling::say;
@@ -20,7 +20,7 @@ pub enum WordsRefusal {
 /// of memory. A fault of `err` changes no status. It takes no memory.
 pub fn refuse_words<E: Sink>(refusal: WordsRefusal, err: &mut E) -> u8
     ensures status { result ≡ refusal_status refusal }
-    ensures line { Says (sink E.Sink err.old) (sink E.Sink err.new) (refusal_line refusal) }
+    ensures line { PutsLine (sink E.Sink err.old) (sink E.Sink err.new) (refusal_line refusal) }
 {
     match refusal {
         WordsRefusal::NotText => {

@@ -14,7 +14,7 @@ abbrev pub sink : {O : Type 0} → sinks.Ghosts O → O → SinkState
 sink of out = record { told = of.told; written = of.written out; faults = of.faults out }
 
 -- a line was added, where the sink tells what was written and no fault of it rose
-pub record Says (old new : SinkState) (line : List ℕ) : Type 0 where
+pub record PutsLine (old new : SinkState) (line : List ℕ) : Type 0 where
   pub never_falls : old.faults ≤ new.faults
   pub said : IsTrue old.told → Stayed old.faults new.faults → new.written ≡ old.written ++ line
 

@@ -11,7 +11,7 @@ use Rattle.machine_devices.specs.declared.image.Image.{Image}
 use Rattle.machine_bus.specs.Places.{InRam, InFlash, InWindow}
 use Rattle.machine_model.specs.declared.state.End.TheVariants.{InputEnd}
 use Rattle.machine_model.specs.State.{PermissionTest}
-use Rattle.machine_model.specs.Code.{Stands, CodeAt, Steps}
+use Rattle.machine_model.specs.Code.{Stands, CodeAt, StepsQuietly}
 use Rattle.machine_model.specs.Events.{input_event, output_event, ended}
 use Rattle.machine_model.specs.RunningCode.{works, IsLoad, IsStore}
 use Rattle.machine_model.proofs.Exec.{stay, next_step, next_event}
@@ -66,7 +66,7 @@ module _ (j : PermissionTest) (i : Image) (p : Point) (o n : ℕ) where
   -- a load that tells nothing
   record Fetches (op v from : ℕ) : Type 0 where
     step : (a c : ℕ) (rest : List ℕ) (f : Flags) → Stands j i p.context.protection (p.pc + 2) (TransferImmediate op 0 1 0) →
-        Steps j i (works p.context (a ∷ home o p from ∷ c ∷ rest) p.sp p.lr (p.pc + 2) f p.ram p.queues) (works p.context (v ∷ home o p from ∷ c ∷ rest) p.sp p.lr (p.pc + 2 + 2) f p.ram p.queues)
+        StepsQuietly j i (works p.context (a ∷ home o p from ∷ c ∷ rest) p.sp p.lr (p.pc + 2) f p.ram p.queues) (works p.context (v ∷ home o p from ∷ c ∷ rest) p.sp p.lr (p.pc + 2 + 2) f p.ram p.queues)
 
   quiet_load : (op to from v : ℕ) → HasFrame j i p o n → to < n → from < n → LoadCode p.pc op to from → Fetches op v from →
       Leads j i 3 p (record p { registers = []; pc = p.pc + 6; ram = write 4 (o + 4 * to) v p.ram }) []

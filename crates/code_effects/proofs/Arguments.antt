@@ -11,7 +11,7 @@ use Rattle.machine_model.specs.RunningCode.{Context, works}
 use Rattle.machine_model.proofs.Exec.{stay, next_step}
 use Rattle.machine_model.proofs.Transfers.{ldr_sp}
 use Rattle.code_model.specs.Calls.{args_code}
-use Rattle.code_effects.specs.Points.{Point, Holds, known}
+use Rattle.code_effects.specs.Points.{Point, AreAsKnown, known}
 use Rattle.code_effects.specs.Frames.{home}
 use Rattle.code_effects.specs.Calls.{AllBelow, homes}
 use Rattle.code_effects.proofs.Joined.{ends_at}
@@ -67,7 +67,7 @@ length-homes o p [] = refl
 length-homes o p (x ∷ xs) = ap suc (length-homes o p xs)
 
 -- the arguments are in r0 and the registers behind it
-pub holds_homes : (o : ℕ) (p : Point) (ks after : List ℕ) → length after ≡ 8 → ((k : ℕ) → k < length ks → get_or after (0 + k) 0 ≡ home o p (get_or ks k 0)) → Holds (known (homes o p ks)) after
+pub holds_homes : (o : ℕ) (p : Point) (ks after : List ℕ) → length after ≡ 8 → ((k : ℕ) → k < length ks → get_or after (0 + k) 0 ≡ home o p (get_or ks k 0)) → AreAsKnown (known (homes o p ks)) after
 holds_homes o p ks after h g =
     let e = length-homes o p ks in
     holds_known (homes o p ks) after h (λ k l. let z : k ≡ 0 + k = omega arith in ap (λ (t : ℕ). get_or after t 0) z ∙ g k (omega arith) ∙ sym (home_of o p ks k (omega arith)))

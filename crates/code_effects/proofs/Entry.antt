@@ -11,7 +11,7 @@ use Rattle.machine_thumb.specs.declared.table.Instr.TheVariants.{PushPop}
 use Rattle.machine_devices.specs.declared.image.Image.{Image}
 use Rattle.machine_model.specs.declared.state.ProtectionState.{ProtectionState}
 use Rattle.machine_model.specs.State.{State, PermissionTest}
-use Rattle.machine_model.specs.Code.{Stands, CodeAt, Steps, Runs}
+use Rattle.machine_model.specs.Code.{Stands, CodeAt, StepsQuietly, Runs}
 use Rattle.machine_model.specs.Running.{code_size}
 use Rattle.machine_model.specs.Stack.{Room}
 use Rattle.machine_model.specs.RunningCode.{Context, works}
@@ -28,7 +28,7 @@ use Rattle.code_model.specs.Words.{byte_into, home_address, supervisor_call}
 use Rattle.code_model.specs.Entry.{sub_by, stores_code, frame_code, lend_code, enter_code}
 use Rattle.code_model.specs.Templates.{lends_of}
 use Rattle.code_model.specs.Sizes.{adjust_size, entry_size}
-use Rattle.code_effects.specs.Points.{Point, Holds, known, Leads}
+use Rattle.code_effects.specs.Points.{Point, AreAsKnown, known, Leads}
 use Rattle.code_effects.specs.Frames.{HasEntry}
 use Rattle.code_effects.specs.Entry.{Entered, no_lend, FrameMade, EntryEffects}
 use Rattle.code_effects.proofs.Items.{plain_code}
@@ -147,7 +147,7 @@ module _ (j : PermissionTest) (i : Image) (x : Context) where
       ends_at j i (suc n) _ x low sp lr _ _ f (stored o value n (suc k) ram1) queues [] e
       (stores_value (str_sp j i x low sp lr pc f ram queues (t k) k o most r (omega arith) code.0) (is k (omega arith)) c)
     where
-      stores_value : {u : State} {v : ℕ} → Steps j i (works x low sp lr pc f ram queues) (works x low sp lr (pc + 2) f (write 4 (o + 4 * k) v ram) queues) → v ≡ value k →
+      stores_value : {u : State} {v : ℕ} → StepsQuietly j i (works x low sp lr pc f ram queues) (works x low sp lr (pc + 2) f (write 4 (o + 4 * k) v ram) queues) → v ≡ value k →
           Runs j i n (works x low sp lr (pc + 2) f (write 4 (o + 4 * k) (value k) ram) queues) u [] → Runs j i (suc n) (works x low sp lr pc f ram queues) u []
       stores_value s e g = next_step (rw e at s) g
 
@@ -172,7 +172,7 @@ steps_are false n w h = omega arith
 -- ---- the frame
 
 module _ (j : PermissionTest) (i : Image) (p : Point) (o to : ℕ) where
-  made : (b : Bool) (w : ℕ) (vs low : List ℕ) (f : Flags) → nat_le w 127 ≡ b → Holds (known vs) low → length vs ≤ w → to + 4 * (w + 1) ≡ p.sp → Room j i p.context.protection to o (w + 1) →
+  made : (b : Bool) (w : ℕ) (vs low : List ℕ) (f : Flags) → nat_le w 127 ≡ b → AreAsKnown (known vs) low → length vs ≤ w → to + 4 * (w + 1) ≡ p.sp → Room j i p.context.protection to o (w + 1) →
       CodeAt j i p.context.protection p.pc (frame_by b (length vs) w) →
       Runs j i (suc ((if b then 1 else 2) + (length vs + suc (w - length vs)))) (works p.context low p.sp p.lr p.pc f p.ram p.queues)
       (works p.context (set low 0 0) to p.lr (p.pc + code_size (frame_by b (length vs) w)) (result_flags f 0) (frame_ram o (length vs) w p.lr (λ k. get_or vs k 0) p.ram) p.queues) []

@@ -8,7 +8,7 @@ use Rattle.machine_model.specs.State.{State, PermissionTest}
 use Rattle.machine_model.specs.Code.{Runs}
 use Rattle.machine_model.specs.RunningCode.{Context, works}
 use Rattle.machine_model.proofs.Exec.{onward}
-use Rattle.code_effects.specs.Points.{Point, Holds, state_at, Arrives, Leads, Reaches, Finishes, RunsJoin}
+use Rattle.code_effects.specs.Points.{Point, AreAsKnown, state_at, Arrives, Leads, Reaches, Finishes, RunsJoin}
 use Rattle.code_effects.proofs.Registers.{holds_nothing}
 
 module _ (j : PermissionTest) (i : Image) where
@@ -18,7 +18,7 @@ module _ (j : PermissionTest) (i : Image) where
   ends_at k s x low sp lr pc to f ram queues es e h = rw e at h
 
   pub arrives_at : (k : ℕ) (s : State) (x : Context) (registers : List (Option ℕ)) (low : List ℕ) (sp sp2 lr lr2 pc to : ℕ) (f : Flags) (ram : List ℕ) (queues : List (List ℕ)) (es : List Event) → sp ≡ sp2 → lr ≡ lr2 → pc ≡ to →
-      Holds registers low → Runs j i k s (works x low sp lr pc f ram queues) es → Arrives j i k s (record { context = x; registers = registers; sp = sp2; lr = lr2; pc = to; ram = ram; queues = queues }) es
+      AreAsKnown registers low → Runs j i k s (works x low sp lr pc f ram queues) es → Arrives j i k s (record { context = x; registers = registers; sp = sp2; lr = lr2; pc = to; ram = ram; queues = queues }) es
   arrives_at k s x registers low sp sp2 lr lr2 pc to f ram queues es a b c h g = record { low = low; flags = f; holds = h; runs = rw (a, b, c) at g }
 
   -- and one whose steps are counted in another way
@@ -26,16 +26,16 @@ module _ (j : PermissionTest) (i : Image) where
   counted k m e h = rw e at h
 
   -- where the program counter alone is written in another way
-  pub landed : (k : ℕ) (s : State) (x : Context) (known : List (Option ℕ)) (low : List ℕ) (sp lr pc to : ℕ) (f : Flags) (ram : List ℕ) (queues : List (List ℕ)) (es : List Event) → pc ≡ to → Holds known low →
+  pub landed : (k : ℕ) (s : State) (x : Context) (known : List (Option ℕ)) (low : List ℕ) (sp lr pc to : ℕ) (f : Flags) (ram : List ℕ) (queues : List (List ℕ)) (es : List Event) → pc ≡ to → AreAsKnown known low →
       Runs j i k s (works x low sp lr pc f ram queues) es → Arrives j i k s (record { context = x; registers = known; sp = sp; lr = lr; pc = to; ram = ram; queues = queues }) es
   landed k s x known low sp lr pc to f ram queues es e h g = arrives_at k s x known low sp sp lr lr pc to f ram queues es refl refl e h g
 
   -- the three registers that most code works with, apart
   pub leads_from : (k : ℕ) (p q : Point) (es : List Event) →
-      ((a b c : ℕ) (rest : List ℕ) (f : Flags) → length rest ≡ 5 → Holds p.registers (a ∷ b ∷ c ∷ rest) → Arrives j i k (state_at p (a ∷ b ∷ c ∷ rest) f) q es) → Leads j i k p q es
+      ((a b c : ℕ) (rest : List ℕ) (f : Flags) → length rest ≡ 5 → AreAsKnown p.registers (a ∷ b ∷ c ∷ rest) → Arrives j i k (state_at p (a ∷ b ∷ c ∷ rest) f) q es) → Leads j i k p q es
   leads_from k p q es g = record { arrives = λ low f h. by g low f h.eight h }
     where
-      by : ((a b c : ℕ) (rest : List ℕ) (f : Flags) → length rest ≡ 5 → Holds p.registers (a ∷ b ∷ c ∷ rest) → Arrives j i k (state_at p (a ∷ b ∷ c ∷ rest) f) q es) → (low : List ℕ) (f : Flags) → length low ≡ 8 → Holds p.registers low →
+      by : ((a b c : ℕ) (rest : List ℕ) (f : Flags) → length rest ≡ 5 → AreAsKnown p.registers (a ∷ b ∷ c ∷ rest) → Arrives j i k (state_at p (a ∷ b ∷ c ∷ rest) f) q es) → (low : List ℕ) (f : Flags) → length low ≡ 8 → AreAsKnown p.registers low →
           Arrives j i k (state_at p low f) q es
       by g [] f h l = absurd (omega arith)
       by g (a ∷ []) f h l = absurd (omega arith)

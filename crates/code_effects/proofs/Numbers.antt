@@ -12,7 +12,7 @@ use Rattle.machine_devices.specs.declared.image.Image.{Image}
 use Rattle.machine_model.specs.State.{PermissionTest}
 use Rattle.machine_model.specs.declared.answers.Outcome.TheVariants.{Gives}
 use Rattle.machine_model.specs.DataOperations.{operation as operated}
-use Rattle.machine_model.specs.Code.{size, Stands, CodeAt, Steps}
+use Rattle.machine_model.specs.Code.{size, Stands, CodeAt, StepsQuietly}
 use Rattle.machine_model.specs.RunningCode.{works}
 use Rattle.machine_model.proofs.Exec.{stay, next_step}
 use Rattle.machine_model.proofs.InstructionEffects.{operation_gives, udiv, sdiv}
@@ -50,7 +50,7 @@ module _ (j : PermissionTest) (i : Image) (g : NumberedFunc) (q : Places) (label
   -- one instruction on r0 and r1 that gives its result in r0
   record OneStep (a b c : ℕ) (rest : List ℕ) (f : Flags) (y : Instr) (v : ℕ) : Type 0 where
     flags : Flags
-    steps : Steps j i (works p.context (a ∷ b ∷ c ∷ rest) p.sp p.lr (p.pc + 2 + 2) f p.ram p.queues) (works p.context (v ∷ b ∷ c ∷ rest) p.sp p.lr (p.pc + 2 + 2 + size y) flags p.ram p.queues)
+    steps : StepsQuietly j i (works p.context (a ∷ b ∷ c ∷ rest) p.sp p.lr (p.pc + 2 + 2) f p.ram p.queues) (works p.context (v ∷ b ∷ c ∷ rest) p.sp p.lr (p.pc + 2 + 2 + size y) flags p.ram p.queues)
 
   abbrev Gives1 : (a b : ℕ) → Instr → (v : ℕ) → Type 0
   Gives1 a b y v = (c : ℕ) (rest : List ℕ) (f : Flags) → Stands j i p.context.protection (p.pc + 2 + 2) y → OneStep a b c rest f y v
@@ -74,7 +74,7 @@ module _ (j : PermissionTest) (i : Image) (g : NumberedFunc) (q : Places) (label
 
   -- a remainder by a quotient in r2
   record Quotient (a b c : ℕ) (rest : List ℕ) (f : Flags) (d : ℕ) : Type 0 where
-    steps : Steps j i (works p.context (a ∷ b ∷ c ∷ rest) p.sp p.lr (p.pc + 2 + 2) f p.ram p.queues) (works p.context (a ∷ b ∷ d ∷ rest) p.sp p.lr (p.pc + 2 + 2 + 4) f p.ram p.queues)
+    steps : StepsQuietly j i (works p.context (a ∷ b ∷ c ∷ rest) p.sp p.lr (p.pc + 2 + 2) f p.ram p.queues) (works p.context (a ∷ b ∷ d ∷ rest) p.sp p.lr (p.pc + 2 + 2 + 4) f p.ram p.queues)
 
   rest_of : (kind to a b d : ℕ) → HasFrame j i p o n → to < n → a < n → b < n →
       ((c : ℕ) (rest : List ℕ) (f : Flags) → Stands j i p.context.protection (p.pc + 2 + 2) (Divide kind 0 2 1) → Quotient (home o p a) (home o p b) c rest f d) →

@@ -24,7 +24,7 @@ pub record Point : Type 0 where
   pub queues : List (List ℕ)
 
 -- r0 to r7 hold what is known of them
-pub record Holds (known : List (Option ℕ)) (low : List ℕ) : Type 0 where
+pub record AreAsKnown (known : List (Option ℕ)) (low : List ℕ) : Type 0 where
   pub eight : length low ≡ 8
   pub each : (k v : ℕ) → get_or known k None ≡ Some v → get_or low k 0 ≡ v
 
@@ -43,12 +43,12 @@ state_at p low f = works p.context low p.sp p.lr p.pc f p.ram p.queues
 pub record Arrives (j : PermissionTest) (i : Image) (count : ℕ) (s : State) (q : Point) (es : List Event) : Type 0 where
   pub low : List ℕ
   pub flags : Flags
-  pub holds : Holds q.registers low
+  pub holds : AreAsKnown q.registers low
   pub runs : Runs j i count s (state_at q low flags) es
 
 -- and from a point, whatever its other registers and its flags are
 pub record Leads (j : PermissionTest) (i : Image) (count : ℕ) (p q : Point) (es : List Event) : Type 0 where
-  pub arrives : (low : List ℕ) (f : Flags) → Holds p.registers low → Arrives j i count (state_at p low f) q es
+  pub arrives : (low : List ℕ) (f : Flags) → AreAsKnown p.registers low → Arrives j i count (state_at p low f) q es
 
 -- so many steps lead from this state to this end
 pub record Reaches (j : PermissionTest) (i : Image) (count : ℕ) (s : State) (e : End) (es : List Event) : Type 0 where
@@ -57,7 +57,7 @@ pub record Reaches (j : PermissionTest) (i : Image) (count : ℕ) (s : State) (e
   pub runs : Runs j i count s last es
 
 pub record Finishes (j : PermissionTest) (i : Image) (count : ℕ) (p : Point) (e : End) (es : List Event) : Type 0 where
-  pub reaches : (low : List ℕ) (f : Flags) → Holds p.registers low → Reaches j i count (state_at p low f) e es
+  pub reaches : (low : List ℕ) (f : Flags) → AreAsKnown p.registers low → Reaches j i count (state_at p low f) e es
 
 -- one run behind another; and where less need be known of registers, less is enough
 pub record RunsJoin : Type 0 where

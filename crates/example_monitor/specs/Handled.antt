@@ -3,7 +3,7 @@
 use Rattle.std.specs.Prelude.{◌≡◌, ℕ, List, [], ◌∷◌, true, false, Some, replicate}
 use Rattle.machine_protection.specs.Registers.{blank, at_reset}
 use Rattle.machine_model.specs.State.{by_mpu}
-use Rattle.monitor_steps.specs.Steps.{Steps}
+use Rattle.monitor_steps.specs.Steps.{PrivilegedSteps}
 use Rattle.monitor_steps.specs.Core.{Core}
 use Rattle.monitor_steps.specs.Effect.{Outcome, effect}
 use Rattle.monitor_program.specs.Constants.{Constants}
@@ -20,7 +20,7 @@ open_board = constants (sample 3 false)
 abbrev pub closed_board : Constants
 closed_board = constants (sample 3 true)
 
-abbrev pub does : Steps → Core → Outcome
+abbrev pub does : PrivilegedSteps → Core → Outcome
 does s c = effect by_mpu image s c
 
 -- the first compartment runs, with the whole stack; the second was entered by it; and lent words

@@ -2,7 +2,7 @@
 -- How many bytes of code the monitor has, and how many steps at most, on boards with 8 and 16 regions. The tests of the
 -- number of an SVC count with all four lists, of which a run takes one.
 use Rattle.std.specs.Prelude.{◌≡◌, ℕ, ◌+◌, true, false}
-use Rattle.monitor_steps.specs.Steps.{Steps}
+use Rattle.monitor_steps.specs.Steps.{PrivilegedSteps}
 use Rattle.monitor_steps.specs.Code.{code_length}
 use Rattle.monitor_steps.specs.Ticks.{most_ticks}
 use Rattle.monitor_program.specs.Constants.{Constants}
@@ -25,7 +25,7 @@ abbrev pub twelve_closed : Constants
 twelve_closed = constants (sample 11 true)
 
 -- a list has so many bytes of code, and makes at most so many steps
-pub record Measures (s : Steps) (bytes steps : ℕ) : Type 0 where
+pub record Measures (s : PrivilegedSteps) (bytes steps : ℕ) : Type 0 where
   pub bytes_are : code_length s ≡ bytes
   pub steps_are : most_ticks s ≡ steps
 

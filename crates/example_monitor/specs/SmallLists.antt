@@ -9,7 +9,7 @@ use Rattle.machine_model.specs.declared.TheConstants.{CFSR}
 use Rattle.machine_model.specs.State.{by_mpu}
 use Rattle.monitor_steps.specs.declared.steps.GateOp.TheVariants.{Add, Sub, And, Or, Shl, Shr}
 use Rattle.monitor_steps.specs.declared.steps.GateCond.TheVariants.{Ult}
-use Rattle.monitor_steps.specs.Steps.{Steps, End, Const, Copy, Load, Store, Alu, ReadPsp, WritePsp, WriteControl, Test, Repeat, Halt, Return, Go, ◌▸◌}
+use Rattle.monitor_steps.specs.Steps.{PrivilegedSteps, End, Const, Copy, Load, Store, Alu, ReadPsp, WritePsp, WriteControl, Test, Repeat, Halt, Return, Go, ◌▸◌}
 use Rattle.monitor_steps.specs.Core.{Core}
 use Rattle.monitor_steps.specs.Effect.{Outcome, Went, Halted, AtReturn, AtBranch, Stopped, Unclaimed, effect}
 use Rattle.monitor_steps.specs.Code.{code, code_length}
@@ -37,15 +37,15 @@ begin = core (0 ∷ 1 ∷ 2 ∷ 3 ∷ 4 ∷ 5 ∷ 6 ∷ 7 ∷ []) zeros
 abbrev pub unprivileged : Core
 unprivileged = record begin { protection = record { handler = false; unprivileged = true; mpu = at_reset 8 } }
 
-abbrev pub does : Steps → Core → Outcome
+abbrev pub does : PrivilegedSteps → Core → Outcome
 does s c = effect by_mpu image s c
 
 -- three times 7, by a loop of at most so many turns
-abbrev pub times_seven : (most : ℕ) → Steps
+abbrev pub times_seven : (most : ℕ) → PrivilegedSteps
 times_seven most = Const 0 0 ▸ Const 1 3 ▸ Const 2 7 ▸ Repeat 1 most (Alu Add 0 0 2 ▸ End) ▸ End
 
 -- r3 where r1 is below r2, else the end
-abbrev pub chooses : Steps
+abbrev pub chooses : PrivilegedSteps
 chooses = Test Ult 1 2 (Copy 4 3 ▸ End) (Halt 9 ▸ End) ▸ Copy 5 3 ▸ End
 
 pub record ComputesSteps : Type 0 where
@@ -79,7 +79,7 @@ pub record ComputesSteps : Type 0 where
   pub returns : does (Return ▸ Copy 0 1 ▸ End) begin ≡ AtReturn begin
 
 -- the code has these halfwords, and as many bytes as are counted
-pub record IsCode (s : Steps) (bytes : List ℕ) (size : ℕ) : Type 0 where
+pub record IsCode (s : PrivilegedSteps) (bytes : List ℕ) (size : ℕ) : Type 0 where
   pub code_is : code_bytes (code s) ≡ bytes
   pub length_is : code_length s ≡ size
 

@@ -82,14 +82,14 @@ module _ (q : Places) where
     abbrev step : List ℕ → ℕ → List ℕ
     step mem y = with_global p q y (off y) mem
 
-    abbrev Holds : (x : ℕ) → List ℕ → Type 0
-    Holds x mem = HasCells (off x) (global_at p x).shape.cells (global_at p x).init mem
+    abbrev HasInit : (x : ℕ) → List ℕ → Type 0
+    HasInit x mem = HasCells (off x) (global_at p x).shape.cells (global_at p x).init mem
 
     step_length : (mem : List ℕ) (y : ℕ) → length (step mem y) ≡ length mem
     step_length mem y = length-with_cells (off y) (global_at p y).shape.cells (global_at p y).init mem
 
     -- a write of another global
-    step_off : (x y : ℕ) (mem : List ℕ) → has xs x ≡ true → has xs y ≡ true → x ≢ y → Holds x mem → Holds x (step mem y)
+    step_off : (x y : ℕ) (mem : List ℕ) → has xs x ≡ true → has xs y ≡ true → x ≢ y → HasInit x mem → HasInit x (step mem y)
     step_off x y mem hx hy ne h =
         cells_alike (off x) (off x) 0 (global_size p x) (global_at p x).shape.cells (global_at p x).init mem (step mem y) (shaped x) (λ w a le. by w a le (laid.apart x y hx hy ne)) h
       where
@@ -99,25 +99,25 @@ module _ (q : Places) where
         by w a le (inr e) =
             read_over w (off x + a) (off y) 0 (global_size p y) (global_at p y).shape.cells (global_at p y).init mem (shaped y) (omega (arith, le, e))
 
-    step_on : (x : ℕ) (mem : List ℕ) → has xs x ≡ true → region_bytes p xs ≤ length mem → Holds x (step mem x)
+    step_on : (x : ℕ) (mem : List ℕ) → has xs x ≡ true → region_bytes p xs ≤ length mem → HasInit x (step mem x)
     step_on x mem hx room =
         let among = laid.among x hx in
         cells_written (off x) 0 (global_size p x) (global_at p x).shape.cells (global_at p x).init mem (shaped x) (omega (arith, room, among))
 
-    folded : (x : ℕ) → has xs x ≡ true → (ys : List ℕ) (mem : List ℕ) → Each (λ y. has xs y ≡ true) ys → region_bytes p xs ≤ length mem → (has ys x ≡ true) ⊎ Holds x mem → Holds x (fold step mem ys)
+    folded : (x : ℕ) → has xs x ≡ true → (ys : List ℕ) (mem : List ℕ) → Each (λ y. has xs y ≡ true) ys → region_bytes p xs ≤ length mem → (has ys x ≡ true) ⊎ HasInit x mem → HasInit x (fold step mem ys)
     folded x hx [] mem all room (inl h) = cc
     folded x hx [] mem all room (inr h) = h
     folded x hx (y ∷ ys) mem all room h =
         let long = step_length mem y in
         folded x hx ys (step mem y) all.1 (omega (arith, room, long)) (⊎_elim same other (cases_eq x y))
       where
-        same : x ≡ y → (has ys x ≡ true) ⊎ Holds x (step mem y)
-        same e = inr (subst (λ z. Holds x (step mem z)) e (step_on x mem hx room))
+        same : x ≡ y → (has ys x ≡ true) ⊎ HasInit x (step mem y)
+        same e = inr (subst (λ z. HasInit x (step mem z)) e (step_on x mem hx room))
 
-        other : x ≢ y → (has ys x ≡ true) ⊎ Holds x (step mem y)
+        other : x ≢ y → (has ys x ≡ true) ⊎ HasInit x (step mem y)
         other ne = by h
           where
-            by : (has (y ∷ ys) x ≡ true) ⊎ Holds x mem → (has ys x ≡ true) ⊎ Holds x (step mem y)
+            by : (has (y ∷ ys) x ≡ true) ⊎ HasInit x mem → (has ys x ≡ true) ⊎ HasInit x (step mem y)
             by (inl g) = inl (rest (nat_eq y x) refl g)
               where
                 rest : (b : Bool) → nat_eq y x ≡ b → (b || has ys x) ≡ true → has ys x ≡ true
@@ -134,7 +134,7 @@ module _ (q : Places) where
         later false e = e
 
     -- the block of these globals has the first values of each
-    pub block_holds : (x : ℕ) → has xs x ≡ true → Holds x (first_bytes p q xs)
+    pub block_holds : (x : ℕ) → has xs x ≡ true → HasInit x (first_bytes p q xs)
     block_holds x hx =
         let long = length-replicate {A = ℕ} (4 * words_in p xs) 0 in
         let up = rounded_at_least (region_bytes p xs) 4 (omega arith) in

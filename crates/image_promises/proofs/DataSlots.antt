@@ -31,7 +31,7 @@ use Rattle.plan_model.specs.Blocks.{block, has_eighths, open_eighths, subregions
 use Rattle.plan_model.specs.RamBlocks.{ForRegion}
 use Rattle.plan_model.specs.Placement.{region_spot}
 use Rattle.plan_model.specs.Slots.{SlotUse, data_rights, data_slot, cover_slot}
-use Rattle.plan_layout_laws.specs.RamLaws.{Holds, open_bytes}
+use Rattle.plan_layout_laws.specs.RamLaws.{HoldsAddress, open_bytes}
 use Rattle.plan.specs.PlannedFirmwares.{IsPlanned, plan, planned_sizes}
 use Rattle.image_promises.proofs.Powers.{block_is}
 use Rattle.image_promises.proofs.OpenBytes.{multiple}
@@ -114,7 +114,7 @@ module _ (law : GlobalLaws) (held : RegionsHoldTheirBlocks) (opened : OpenEighth
   is_use : (r : ℕ) → r < length f.regions → IsUse f (ForRegion r)
   is_use r h = record { of_globals = tt; there = h }
 
-  pub slot_holds : (c r a m : ℕ) → r < length f.regions → m < 16 → IsTrue (holds (use_region m (data_slot p f l c r)) a) ↔ Holds p f l (ForRegion r) a
+  pub slot_holds : (c r a m : ℕ) → r < length f.regions → m < 16 → IsTrue (holds (use_region m (data_slot p f l c r)) a) ↔ HoldsAddress p f l (ForRegion r) a
   slot_holds c r a m h number =
       let u = is_use r h in
       let size : (region_spot l r).size ≡ block (bytes_of r) = block_size_is law.plans w n f b ok (ForRegion r) u in
@@ -126,7 +126,7 @@ module _ (law : GlobalLaws) (held : RegionsHoldTheirBlocks) (opened : OpenEighth
       open_held held opened (data_rights (region_at f.regions r) c) m a (region_spot l r).base (region_spot l r).size (bytes_of r) number (is.0.0, exact) (omega (arith, exact, least)) (omega (arith, size, most))
       (subst (λ z. (region_spot l r).base % z ≡ 0) (sym size) (block_in law.plans w n f b ok (ForRegion r) u).1) (omega (arith, size, room))
 
-  module _ (c a r : ℕ) (there_is : r < length f.regions) (it : Holds p f l (ForRegion r) a) where
+  module _ (c a r : ℕ) (there_is : r < length f.regions) (it : HoldsAddress p f l (ForRegion r) a) where
     data_bears : Bears a (data_slot p f l c r)
     data_bears m number = (slot_holds c r a m there_is number).1 it
 

@@ -18,7 +18,7 @@ use Rattle.plan_model.specs.Blocks.{block, region_bytes, offset_in_region}
 use Rattle.plan_model.specs.RamBlocks.{RamUse, ForStack, ForMonitor, ForRegion, ForUnwritten}
 use Rattle.plan_model.specs.Placement.{region_with, address_in, global_address}
 use Rattle.plan_layout_laws.specs.GlobalLaws.{HasAlignments, GlobalsAreLaid, GlobalsAreHeld}
-use Rattle.plan_layout_laws.specs.RamLaws.{Holds}
+use Rattle.plan_layout_laws.specs.RamLaws.{HoldsAddress}
 use Rattle.plan_layout_laws.specs.RamPlaces.{block_for}
 use Rattle.plan_layout_laws.proofs.Offsets.{some_global}
 use Rattle.plan.specs.PlannedFirmwares.{IsPlanned, plan, planned_sizes}
@@ -103,7 +103,7 @@ module _ (law : GlobalLaws) (w : PlainFirmware) (n : Needs) (f : Final) (b : Boa
     pub is_use : IsUse f use_of
     pub has_it : has (globals_for f use_of) x ≡ true
     pub address_is : address x ≡ (block_for l use_of).base + offset_in_region p (globals_for f use_of) x
-    pub holds : (byte : ℕ) → byte < global_size p x → Holds p f l use_of (address x + byte)
+    pub holds : (byte : ℕ) → byte < global_size p x → HoldsAddress p f l use_of (address x + byte)
 
   placed_by : (x : ℕ) → x < count → (o : Option ℕ) → region_with f x ≡ o → IsPlaced x
   unfolding global_address
@@ -160,12 +160,12 @@ module _ (law : GlobalLaws) (w : PlainFirmware) (n : Needs) (f : Final) (b : Boa
     pub low : address x ≤ z
     pub high : z < address x + global_size p x
 
-  pub byte_held : (x : ℕ) (i : IsPlaced x) (z : ℕ) → IsByte x z → Holds p f l i.use_of z
+  pub byte_held : (x : ℕ) (i : IsPlaced x) (z : ℕ) → IsByte x z → HoldsAddress p f l i.use_of z
   byte_held x i z y =
       let low = y.low in
       let high = y.high in
       let there : address x + (z - address x) ≡ z = omega (arith, low) in
-      subst (Holds p f l i.use_of) there (i.holds (z - address x) (omega (arith, low, high)))
+      subst (HoldsAddress p f l i.use_of) there (i.holds (z - address x) (omega (arith, low, high)))
 
   -- two share no byte
   pub apart : (x y z : ℕ) → x < count → y < count → x ≢ y → IsByte x z → IsByte y z → ⊥

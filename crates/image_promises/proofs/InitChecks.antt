@@ -22,7 +22,7 @@ use Rattle.plan_model.specs.TableSize.{words_in}
 use Rattle.plan_model.specs.RamBlocks.{RamUse, ForStack, ForMonitor, ForRegion, ForUnwritten}
 use Rattle.plan_model.specs.Placement.{region_spot, no_spot}
 use Rattle.plan_layout_laws.specs.GlobalLaws.{GlobalsAreLaid}
-use Rattle.plan_layout_laws.specs.RamLaws.{Holds, open_bytes}
+use Rattle.plan_layout_laws.specs.RamLaws.{HoldsAddress, open_bytes}
 use Rattle.plan_layout_laws.specs.RamPlaces.{block_for}
 use Rattle.monitor_model.specs.declared.tables.Tables.{Tables}
 use Rattle.monitor_model.specs.Layout.{initial_words_at, inits_at}
@@ -92,7 +92,7 @@ module _ (law : ReadLaws) (typing : TypedOverNumbers) (laid : GlobalsAreLaid) (w
   held : (u : RamUse) → IsUse f u → (4 * words u ≤ room u) × (0 < room u)
   held u h = words_held (bytes u) (small law.plans w n f b ok u h)
 
-  holds_it : (u : RamUse) → IsUse f u → (x : ℕ) → base u ≤ x → x < base u + room u → Holds p f l u x
+  holds_it : (u : RamUse) → IsUse f u → (x : ℕ) → base u ≤ x → x < base u + room u → HoldsAddress p f l u x
   holds_it ForStack h x a c = absurd h.of_globals
   holds_it ForMonitor h x a c = absurd h.of_globals
   holds_it (ForRegion r) h x a c =

@@ -7,7 +7,7 @@ use Rattle.machine_thumb.specs.Table.{encode}
 use Rattle.machine_thumb.specs.Bytes.{code_bytes}
 use Rattle.machine_thumb.specs.Laws.{IsRoundTrip}
 use Rattle.machine_thumb.proofs.Codes.{code_bytes-append}
-use Rattle.monitor_steps.specs.Steps.{Steps}
+use Rattle.monitor_steps.specs.Steps.{PrivilegedSteps}
 use Rattle.monitor_steps.specs.Code.{code}
 use Rattle.monitor_model.specs.declared.tables.Tables.{Tables}
 use Rattle.monitor_program.specs.Constants.{Constants}
@@ -85,7 +85,7 @@ module _ (law : IsRoundTrip) (t : Tables) (flash : List ℕ) (has : (j : ℕ) �
   abbrev c : Constants
   c = constants t
 
-  abbrev behind : Steps
+  abbrev behind : PrivilegedSteps
   behind = unit_is_there c (copied c (first_block c (traps (first_regions c (tables_of c (thread_ready c to_main))))))
 
   in_flash : (j : ℕ) → j < 16 → slice_index flash (64 + j) ≡ get_or (code_bytes (first c.main_compartment c.main (code behind))) j 0

@@ -27,7 +27,7 @@ use Rattle.plan_model.specs.Regions.{region_at, regions_used, is_user, global_si
 use Rattle.plan_model.specs.RamBlocks.{ForRegion}
 use Rattle.plan_model.specs.InitialGraph.{initial_graph}
 use Rattle.plan_model.specs.Slots.{data_slot, cover_slot, slot_uses, slot_regions, slots_from}
-use Rattle.plan_layout_laws.specs.RamLaws.{Holds}
+use Rattle.plan_layout_laws.specs.RamLaws.{HoldsAddress}
 use Rattle.need_laws.specs.Reached.{IsListed}
 use Rattle.monitor_model.specs.declared.tables.CompRecord.{CompRecord}
 use Rattle.monitor_model.specs.Records.{compartment_at, nobody}
@@ -82,7 +82,7 @@ module _ (law : SlotLaws) (w : PlainFirmware) (n : Needs) (f : Final) (b : Board
       ap (λ (r : CompRecord). r.slots) (get_or-map-range_with_len (comp_record p f l (slots_of b)) 0 f.groups.count c c nobody m (let e : 0 + c ≡ c = omega arith in e))
 
   -- those of its regions come first
-  module _ (c : ℕ) (there : c < f.groups.count) (r : ℕ) (region : r < length f.regions) (a : ℕ) (it : Holds p f l (ForRegion r) a) where
+  module _ (c : ℕ) (there : c < f.groups.count) (r : ℕ) (region : r < length f.regions) (a : ℕ) (it : HoldsAddress p f l (ForRegion r) a) where
     used : is_user c (region_at f.regions r) ≡ true → has (regions_used f.regions c) r ≡ true
     used u = passing_among (λ q. is_user c (region_at f.regions q)) r (length f.regions) region u
 
@@ -112,7 +112,7 @@ module _ (law : SlotLaws) (w : PlainFirmware) (n : Needs) (f : Final) (b : Board
 
   -- ---- a function's needs
 
-  held_at : (x j r : ℕ) → j < global_size p x → r < length f.regions → has (region_at f.regions r).globals x ≡ true → Holds p f l (ForRegion r) (place x + j)
+  held_at : (x j r : ℕ) → j < global_size p x → r < length f.regions → has (region_at f.regions r).globals x ≡ true → HoldsAddress p f l (ForRegion r) (place x + j)
   held_at x j r k h i = (law.globals.held p f (planned_sizes w n f b) b ok.board ok.fits (aligns law.globals w n f b ok) x j k).0 r (regions.region_is p n f (slots_of b) ok.final r x h i)
 
   pub stores : (g x j : ℕ) → g < length p.funcs → IsListed (need_of n g).written (GlobalObject x) → x < length p.globals → j < global_size p x

@@ -18,7 +18,7 @@ use Rattle.plan_model.specs.Blocks.{block, region_bytes}
 use Rattle.plan_model.specs.TableSize.{words_in}
 use Rattle.plan_model.specs.RamBlocks.{RamUse, ForStack, ForMonitor, ForRegion, ForUnwritten}
 use Rattle.plan_model.specs.Placement.{region_spot, no_spot}
-use Rattle.plan_layout_laws.specs.RamLaws.{Holds, open_bytes}
+use Rattle.plan_layout_laws.specs.RamLaws.{HoldsAddress, open_bytes}
 use Rattle.plan_layout_laws.specs.RamPlaces.{HasBlock, block_for}
 use Rattle.monitor_model.specs.declared.tables.InitRecord.{InitRecord}
 use Rattle.monitor_model.specs.Promises.{RangesAreApart}
@@ -148,7 +148,7 @@ module _ (law : PlanLaws) (w : PlainFirmware) (n : Needs) (f : Final) (b : Board
   abbrev room : RamUse → ℕ
   room u = open_bytes (block (bytes u)) (bytes u)
 
-  holds_it : (u : RamUse) → IsUse f u → (x : ℕ) → (block_for l u).base ≤ x → x < (block_for l u).base + room u → Holds p f l u x
+  holds_it : (u : RamUse) → IsUse f u → (x : ℕ) → (block_for l u).base ≤ x → x < (block_for l u).base + room u → HoldsAddress p f l u x
   holds_it ForStack h x a c = absurd h.of_globals
   holds_it ForMonitor h x a c = absurd h.of_globals
   holds_it (ForRegion r) h x a c = (a, subst (λ z. x < (region_spot l r).base + open_bytes z (bytes (ForRegion r))) (sym (block_size_is (ForRegion r) h)) c)

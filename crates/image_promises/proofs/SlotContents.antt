@@ -38,7 +38,7 @@ use Rattle.plan_model.specs.RamBlocks.{RamUse, ForStack, ForMonitor, ForRegion, 
 use Rattle.plan_model.specs.Placement.{region_spot}
 use Rattle.plan_model.specs.Permission.{may_write, may_read}
 use Rattle.plan_model.specs.Slots.{SlotUse, free_slot, data_slot, cover_slot, slot_uses}
-use Rattle.plan_layout_laws.specs.RamLaws.{Holds}
+use Rattle.plan_layout_laws.specs.RamLaws.{HoldsAddress}
 use Rattle.monitor_model.specs.declared.tables.CompRecord.{CompRecord}
 use Rattle.monitor_model.specs.Records.{compartment_at, nobody}
 use Rattle.image_model.specs.LinkedTables.{tables_of, comp_record}
@@ -91,13 +91,13 @@ module _ (law : SlotLaws) (windows : WindowsLieApart) (w : PlainFirmware) (n : N
 
   -- ---- data
 
-  alone : (a r : ℕ) → Holds p f l (ForRegion r) a → (u : RamUse) → Holds p f l u a → u ≡ ForRegion r
+  alone : (a r : ℕ) → HoldsAddress p f l (ForRegion r) a → (u : RamUse) → HoldsAddress p f l u a → u ≡ ForRegion r
   alone a r held ForStack h = absurd (law.globals.plans.apart p f s b ForStack (ForRegion r) a (λ e. cc) h held)
   alone a r held ForMonitor h = absurd (law.globals.plans.apart p f s b ForMonitor (ForRegion r) a (λ e. cc) h held)
   alone a r held (ForRegion q) h = ⊎_elim (λ e. e) (λ d. absurd (law.globals.plans.apart p f s b (ForRegion q) (ForRegion r) a d h held)) (same_or_other (ForRegion q) (ForRegion r) tt tt)
   alone a r held ForUnwritten h = absurd (law.globals.plans.apart p f s b ForUnwritten (ForRegion r) a (λ e. cc) h held)
 
-  in_data : (may : ObjId → Bool) (a r : ℕ) → r < length f.regions → Holds p f l (ForRegion r) a → ((x : ℕ) → has (region_at f.regions r).globals x ≡ true → may (Global x) ≡ true) → IsInData w n f b may a
+  in_data : (may : ObjId → Bool) (a r : ℕ) → r < length f.regions → HoldsAddress p f l (ForRegion r) a → ((x : ℕ) → has (region_at f.regions r).globals x ≡ true → may (Global x) ≡ true) → IsInData w n f b may a
   in_data may a r lt held may_global =
       let inside = ranges.inside law.globals.plans w n f b ok r lt in
       let low = inside.0 in

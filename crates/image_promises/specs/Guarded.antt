@@ -6,7 +6,7 @@ use Rattle.plan_model.specs.declared.needs.Needs.{Needs}
 use Rattle.plan_model.specs.declared.graph.Final.{Final}
 use Rattle.plan_model.specs.declared.plan.Board.{Board}
 use Rattle.plan_model.specs.RamBlocks.{ForRegion}
-use Rattle.plan_layout_laws.specs.RamLaws.{Holds}
+use Rattle.plan_layout_laws.specs.RamLaws.{HoldsAddress}
 use Rattle.plan.specs.PlannedFirmwares.{plan}
 use Rattle.refine.specs.Ends.{guard_bytes}
 
@@ -15,7 +15,7 @@ module _ (w : PlainFirmware) (n : Needs) (f : Final) (b : Board) where
   abbrev pub IsStackGuarded : Type 0
   IsStackGuarded =
       (a r : ℕ) → b.ram_base ≤ a → a < (plan w n f b).stack.base → (plan w n f b).stack.base ≤ a + guard_bytes →
-      Holds (resolve w) f (plan w n f b) (ForRegion r) a → ⊥
+      HoldsAddress (resolve w) f (plan w n f b) (ForRegion r) a → ⊥
 
   abbrev pub IsStackLowest : Type 0
   IsStackLowest = (plan w n f b).stack.base ≡ b.ram_base

@@ -19,7 +19,7 @@ use Rattle.plan_model.specs.InitialGraph.{cover_of}
 use Rattle.plan_model.specs.RamBlocks.{RamUse, ForRegion}
 use Rattle.plan_model.specs.Placement.{global_address}
 use Rattle.plan_model.specs.Permission.{may_write, may_read}
-use Rattle.plan_layout_laws.specs.RamLaws.{Holds}
+use Rattle.plan_layout_laws.specs.RamLaws.{HoldsAddress}
 use Rattle.monitor_model.specs.declared.tables.Tables.{Tables}
 use Rattle.monitor_model.specs.Records.{compartment_at}
 use Rattle.image_promises.specs.Planned.{planned_tables}
@@ -55,8 +55,8 @@ module _ (w : PlainFirmware) (n : Needs) (f : Final) (b : Board) where
     pub to : a < b.ram_base + b.ram_size
     pub region : ℕ
     pub there : region < length f.regions
-    pub held : Holds program f (plan w n f b) (ForRegion region) a
-    pub alone : (u : RamUse) → Holds program f (plan w n f b) u a → u ≡ ForRegion region
+    pub held : HoldsAddress program f (plan w n f b) (ForRegion region) a
+    pub alone : (u : RamUse) → HoldsAddress program f (plan w n f b) u a → u ≡ ForRegion region
     pub permitted : (x : ℕ) → x < length program.globals → IsByteOf x a → may (Global x) ≡ true
 
   -- one or the other

@@ -15,7 +15,7 @@ use Rattle.plan_model.specs.Lists.{has}
 use Rattle.plan_model.specs.Placement.{region_spot}
 use Rattle.plan_model.specs.Regions.{region_at}
 use Rattle.plan_model.specs.RamBlocks.{RamUse, ForStack, ForMonitor, ForRegion}
-use Rattle.plan_layout_laws.specs.RamLaws.{Holds}
+use Rattle.plan_layout_laws.specs.RamLaws.{HoldsAddress}
 use Rattle.monitor_model.specs.declared.tables.Tables.{Tables}
 use Rattle.monitor_model.specs.BlockWords.{current}
 use Rattle.monitor_model.specs.Reach.{InBlock}
@@ -43,7 +43,7 @@ module _ (law : PlanLaws) (w : PlainFirmware) (n : Needs) (f : Final) (b : Board
   abbrev l : Plan
   l = plan w n f b
 
-  module _ (r a : ℕ) (lt : r < length f.regions) (held : Holds (resolve w) f l (ForRegion r) a) where
+  module _ (r a : ℕ) (lt : r < length f.regions) (held : HoldsAddress (resolve w) f l (ForRegion r) a) where
     of_region : IsUse f (ForRegion r)
     of_region = record { of_globals = tt; there = lt }
 

@@ -27,7 +27,7 @@ use Rattle.plan_model.specs.Regions.{region_at, regions_used, is_user}
 use Rattle.plan_model.specs.RamBlocks.{ForRegion}
 use Rattle.plan_model.specs.Placement.{region_spot}
 use Rattle.plan_model.specs.Slots.{SlotUse, free_slot, data_slot, cover_slot, slot_uses, slots_from, slot_regions}
-use Rattle.plan_layout_laws.specs.RamLaws.{Holds}
+use Rattle.plan_layout_laws.specs.RamLaws.{HoldsAddress}
 use Rattle.monitor_model.specs.declared.tables.CompRecord.{CompRecord}
 use Rattle.monitor_model.specs.Records.{compartment_at, nobody}
 use Rattle.image_model.specs.LinkedTables.{tables_of, comp_record}
@@ -78,7 +78,7 @@ module _ (law : OwnSlotLaws) (w : PlainFirmware) (n : Needs) (f : Final) (b : Bo
     -- data lies lower
     data_serves : (r : ℕ) → (r < length f.regions) × (is_user c (region_at f.regions r) ≡ true) → Serves (data_slot p f l c r)
     data_serves r (lt, user) m number q =
-        let h : Holds p f (plan w n f b) (ForRegion r) a = (slot_holds law.globals law.held law.opened law.given w n f b ok c r a m lt number).0 q in
+        let h : HoldsAddress p f (plan w n f b) (ForRegion r) a = (slot_holds law.globals law.held law.opened law.given w n f b ok c r a m lt number).0 q in
         let u : IsUse f (ForRegion r) = record { of_globals = tt; there = lt } in
         let inside = (block_in law.globals.plans w n f b ok (ForRegion r) u).0 in
         let room = open_within (region_spot (plan w n f b) r).size (region_bytes p (region_at f.regions r).globals) in

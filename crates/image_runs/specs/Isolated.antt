@@ -18,7 +18,7 @@ use Rattle.plan_model.specs.Groups.{writes}
 use Rattle.plan_model.specs.Lists.{has}
 use Rattle.plan_model.specs.Regions.{region_at}
 use Rattle.plan_model.specs.RamBlocks.{ForRegion}
-use Rattle.plan_layout_laws.specs.RamLaws.{Holds}
+use Rattle.plan_layout_laws.specs.RamLaws.{HoldsAddress}
 use Rattle.plan_model.specs.Lending.{lent}
 use Rattle.plan_model.specs.Permission.{may_write, may_read}
 use Rattle.monitor_model.specs.declared.tables.Tables.{Tables}
@@ -63,7 +63,7 @@ module _ (w : PlainFirmware) (n : Needs) (f : Final) (b : Board) (i : Image) (t 
   -- the same of any byte of a data region's block, padding too: it stays while none of the region's writers acts
   abbrev pub RegionsStay : Type 0
   RegionsStay =
-      (r a from to : ℕ) → r < length f.regions → Holds p f (plan w n f b) (ForRegion r) a → Rests i t first from → Rests i t first to → from ≤ to
+      (r a from to : ℕ) → r < length f.regions → HoldsAddress p f (plan w n f b) (ForRegion r) a → Rests i t first from → Rests i t first to → from ≤ to
       → ((k : ℕ) → from ≤ k → k < to → Acts i t first k → has (region_at f.regions r).writers (acting k) ≡ false)
       → byte_at i (at to) a ≡ byte_at i (at from) a
 

@@ -11,7 +11,7 @@ use Rattle.plan_model.specs.declared.plan.Board.{Board}
 use Rattle.plan_model.specs.Lists.{has}
 use Rattle.plan_model.specs.Regions.{region_at, is_user}
 use Rattle.plan_model.specs.RamBlocks.{ForRegion}
-use Rattle.plan_layout_laws.specs.RamLaws.{Holds}
+use Rattle.plan_layout_laws.specs.RamLaws.{HoldsAddress}
 use Rattle.monitor_model.specs.declared.tables.Tables.{Tables}
 use Rattle.monitor_model.specs.Records.{compartment_at}
 use Rattle.image_promises.specs.Planned.{planned_tables}
@@ -27,7 +27,7 @@ module _ (w : PlainFirmware) (n : Needs) (f : Final) (b : Board) where
     pub region : ℕ
     pub there : region < length f.regions
     pub mine : passes region ≡ true
-    pub held : Holds (resolve w) f (plan w n f b) (ForRegion region) a
+    pub held : HoldsAddress (resolve w) f (plan w n f b) (ForRegion region) a
 
   -- below the peripherals' part of the memory map a slot holds bytes of a data region's block alone: one that all may write, of a
   -- region of which the compartment is a writer; any, of a region that it uses

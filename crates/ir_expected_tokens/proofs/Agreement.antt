@@ -18,21 +18,21 @@ use Rattle.ir_expected_tokens.proofs.Closed.{token_goes_on, closed_after}
 use Rattle.ir_expected_tokens.proofs.Moves.{Follows, move_follows, end_stops}
 
 -- what is taken, by a step of the machine
-abbrev pub Steps : Step → Option (List Symbol) → Type 0
-Steps (To x more) all = all ≡ Some (all_uncounted more)
-Steps Stuck all = all ≡ None
+abbrev pub ComesTo : Step → Option (List Symbol) → Type 0
+ComesTo (To x more) all = all ≡ Some (all_uncounted more)
+ComesTo Stuck all = all ≡ None
 
 abbrev step_of : Move → List Machine.Symbol → Step → Step
 step_of m ss others = elim m [ Go x more ↦ To x (more ++ ss) | Stop ↦ Stuck | Skip ↦ others ]
 
-by_move : (m : Move) (ss : List Machine.Symbol) (others : Step) (all below : Option (List Symbol)) → Follows m all below (all_uncounted ss) → Steps others below → Steps (step_of m ss others) all
+by_move : (m : Move) (ss : List Machine.Symbol) (others : Step) (all below : Option (List Symbol)) → Follows m all below (all_uncounted ss) → ComesTo others below → ComesTo (step_of m ss others) all
 by_move (Go x more) ss others all below f i = f ∙ ap Some (sym (flat_map-append uncounted more ss))
 by_move Stop ss others all below f i = f
 by_move Skip ss (To x more) all below f i = f ∙ i
 by_move Skip ss Stuck all below f i = f ∙ i
 
 -- a token makes the same of what is expected in the table and in the machine
-pub step_follows : (ss : List Machine.Symbol) (t : model.Token) (c : Bool) → Steps (step ss t c) (taken (all_uncounted ss) (token_class t) c)
+pub step_follows : (ss : List Machine.Symbol) (t : model.Token) (c : Bool) → ComesTo (step ss t c) (taken (all_uncounted ss) (token_class t) c)
 step_follows [] t c = refl
 step_follows (s ∷ ss) t c =
     by_move (move s t c) ss (step ss t c) (taken (all_uncounted (s ∷ ss)) (token_class t) c) (taken (all_uncounted ss) (token_class t) c) (move_follows s t c (all_uncounted ss)) (step_follows ss t c)
@@ -56,7 +56,7 @@ abbrev Again : List Placed → Fault → Type 0
 Again ps f = (ss : List Machine.Symbol) → closed (all_uncounted ss) ≡ true → fault ss ps ≡ Some f → IsStuckAt (stuck (all_uncounted ss) ps) f.left
 
 by_step : (ss : List Machine.Symbol) (p : Placed) (ps : List Placed) (f : Fault) (t : model.Token) (c : Bool) → closed (all_uncounted ss) ≡ true → Again ps f → f.kind ≡ kind.Syntax
-    → (s : Step) (all : Option (List Symbol)) → taken (all_uncounted ss) (token_class t) c ≡ all → Steps s all → fault_after p ps s ≡ Some f → IsStuckAt (going (all_uncounted ss) p ps all) f.left
+    → (s : Step) (all : Option (List Symbol)) → taken (all_uncounted ss) (token_class t) c ≡ all → ComesTo s all → fault_after p ps s ≡ Some f → IsStuckAt (going (all_uncounted ss) p ps all) f.left
 by_step ss p ps f t c w again k (To None more) (Some us) a i e =
     let same : us ≡ all_uncounted more = cc in
     let v : closed (all_uncounted more) ≡ true = subst (λ z. closed z ≡ true) same (closed_after (all_uncounted ss) (token_class t) c us (token_goes_on t) w a) in

@@ -21,7 +21,7 @@ use Rattle.ir_expected_tokens.specs.Laws.{closed, EndsMayStand, TextsHaveNoLines
 use Rattle.ir_expected_tokens.specs.Stuck.{token_class, is_end, stuck}
 use Rattle.ir_expected_tokens.specs.SyntaxLines.{found_line, expected_line, last_bytes}
 use Rattle.ir_expected_tokens.specs.Uncounted.{all_uncounted}
-use Rattle.ir_expected_tokens.proofs.Agreement.{Steps, step_follows, fault_after, going}
+use Rattle.ir_expected_tokens.proofs.Agreement.{ComesTo, step_follows, fault_after, going}
 use Rattle.ir_expected_tokens.proofs.Closed.{token_goes_on, closed_after, gives_closed}
 use Rattle.ir_expected_tokens.proofs.Fitting.{fits, all_well}
 use Rattle.ir_expected_tokens.proofs.Moves.{end_stops}
@@ -124,7 +124,7 @@ end_taken (Machine.Structs n ∷ ss) c m w = refl
 
 by_step : (ss : List Machine.Symbol) (p : Placed) (ps : List Placed) (t : model.Token) (c : Bool) → closed (all_uncounted ss) ≡ true
     → ((vs : List Machine.Symbol) → closed (all_uncounted vs) ≡ true → fault vs ps ≡ None → stuck (all_uncounted vs) ps ≡ None)
-    → (s : Step) (all : Option (List Symbol)) → taken (all_uncounted ss) (token_class t) c ≡ all → Steps s all → fault_after p ps s ≡ None → going (all_uncounted ss) p ps all ≡ None
+    → (s : Step) (all : Option (List Symbol)) → taken (all_uncounted ss) (token_class t) c ≡ all → ComesTo s all → fault_after p ps s ≡ None → going (all_uncounted ss) p ps all ≡ None
 by_step ss p ps t c w again (To None more) (Some us) e i f =
     let same : us ≡ all_uncounted more = cc in
     let v : closed (all_uncounted more) ≡ true = subst (λ z. closed z ≡ true) same (closed_after (all_uncounted ss) (token_class t) c us (token_goes_on t) w e) in

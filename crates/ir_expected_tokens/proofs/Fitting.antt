@@ -14,7 +14,7 @@ use Rattle.ir_expected_tokens.specs.Laws.{is_among, goes, ExpectedMayStand}
 use Rattle.ir_expected_tokens.specs.Stuck.{token_class}
 use Rattle.ir_expected_tokens.specs.Uncounted.{uncounted, all_uncounted}
 use Rattle.ir_expected_tokens.proofs.Closed.{taken_by}
-use Rattle.ir_expected_tokens.proofs.Agreement.{Steps, step_follows}
+use Rattle.ir_expected_tokens.proofs.Agreement.{ComesTo, step_follows}
 
 -- a result is expected before blocks alone
 abbrev begins_blocks : List Symbol → Bool
@@ -87,7 +87,7 @@ fits (s ∷ ss) c colon w = by_test (is_result s c colon) refl (both (is_before 
     by_test true h p again = by_result s ss c colon h (result_only s c colon h) p.0
     by_test false h p again = by_symbol s ss c colon h (again p.1)
 
-step_taken : (s : Step) (all : Option (List Symbol)) → Steps s all → is_some all ≡ goes s
+step_taken : (s : Step) (all : Option (List Symbol)) → ComesTo s all → is_some all ≡ goes s
 step_taken (To x more) all h = ap is_some h
 step_taken Stuck all h = ap is_some h
 

@@ -53,8 +53,8 @@ found_cell : (cs : List CellPlace) (a : ℕ) (t : PlainType) → FoundCell cs t 
 found_cell cs a t = found_by cs a t (cell_at cs a t) refl
 
 module _ (p : Program) (sizes : PlainType → ℕ) (S : ObjectSets) (closed : Closed p S) (typed : Typed p sizes) where
-  abbrev Holds : (Object → Bool) → PlainType → Value → Type 0
-  Holds X t v = Fits p sizes X t v
+  abbrev FitsType : (Object → Bool) → PlainType → Value → Type 0
+  FitsType X t v = Fits p sizes X t v
 
   abbrev Frames : List Frame → Type 0
   Frames fs = FramesFit p sizes S fs
@@ -68,25 +68,25 @@ module _ (p : Program) (sizes : PlainType → ℕ) (S : ObjectSets) (closed : Cl
   -- ---- what an instruction asks for
 
   abbrev GoodAct : (f : ℕ) → Here → SourceAct → Type 0
-  GoodAct f h (Sets to v) = Holds (S (Register f to)) (register_type p f to) v
+  GoodAct f h (Sets to v) = FitsType (S (Register f to)) (register_type p f to) v
   GoodAct f h (Fails e) = Unit {0}
   GoodAct f h (Loads to o a t) = ReadsAt S f h (object_of o) × (register_type p f to ≡ widened t) × (carries t ≡ true → IsWithin S (Content (object_of o)) (Register f to))
-  GoodAct f h (Stores o a t v) = WritesAt S f h (object_of o) × Holds (S (Content (object_of o))) t (cut_to t v)
-  GoodAct f h (Enters g vs) = CallsAt p S f h g × (g < length p.funcs) × ((k : ℕ) → k < length vs → Holds (S (Register g k)) (register_type p g k) (get_or vs k (Number 0))) × AnswerFits p sizes S f g (result_register h)
+  GoodAct f h (Stores o a t v) = WritesAt S f h (object_of o) × FitsType (S (Content (object_of o))) t (cut_to t v)
+  GoodAct f h (Enters g vs) = CallsAt p S f h g × (g < length p.funcs) × ((k : ℕ) → k < length vs → FitsType (S (Register g k)) (register_type p g k) (get_or vs k (Number 0))) × AnswerFits p sizes S f g (result_register h)
 
-  placed : (Q : SourceAct → Type 0) (X : Object → Bool) (u : PlainType) (v : Value) (go : Instance → ℕ → SourceAct) → Holds X (Pointer u) v
+  placed : (Q : SourceAct → Type 0) (X : Object → Bool) (u : PlainType) (v : Value) (go : Instance → ℕ → SourceAct) → FitsType X (Pointer u) v
       → ((o : Instance) (k : ℕ) → X (object_of o) ≡ true → IsPlaced p o → sizes u ≤ object_limit → Q (go o k)) → Q (Fails NullFault) → Q (with_pointer v go)
   placed Q X u v go (number n e l) h z = cc
   placed Q X u v go (null e) h z = z
   placed Q X u v go (at o k e l i s) h z = h o k e i s
 
-  coded : (Q : SourceAct → Type 0) (X : Object → Bool) (a : PlainTypes) (r : PlainResult) (v : Value) (go : ℕ → SourceAct) → Holds X (Callee a r) v
+  coded : (Q : SourceAct → Type 0) (X : Object → Bool) (a : PlainTypes) (r : PlainResult) (v : Value) (go : ℕ → SourceAct) → FitsType X (Callee a r) v
       → ((g : ℕ) → signature p g ≡ Callee a r → X (FunctionObject g) ≡ true → g < length p.funcs → Q (go g)) → Q (Fails NullFault) → Q (with_code v go)
   coded Q X a r v go (number n e l) h z = cc
   coded Q X a r v go (null e) h z = z
   coded Q X a r v go (code g s e i) h z = h g s e i
 
-  address_fits : (fr : Frame) (of : numbered.Named) (u : PlainType) (X : Object → Bool) → X (named_object fr.func of) ≡ true → IsThere p (func_at p fr.func) of → sizes u ≤ object_limit → Holds X (Pointer u) (address_of fr of)
+  address_fits : (fr : Frame) (of : numbered.Named) (u : PlainType) (X : Object → Bool) → X (named_object fr.func of) ≡ true → IsThere p (func_at p fr.func) of → sizes u ≤ object_limit → FitsType X (Pointer u) (address_of fr of)
   address_fits fr (TheGlobal g) u X e i s = at (OfGlobal g) 0 e (omega arith) i s
   address_fits fr (ThePeriph q) u X e i s = at (OfPeriph q) 0 e (omega arith) i s
   address_fits fr (TheLocal l) u X e i s = at (OfLocal fr.func fr.number l) 0 e (omega arith) i s
@@ -105,7 +105,7 @@ module _ (p : Program) (sizes : PlainType → ℕ) (S : ObjectSets) (closed : Cl
   call_good fr h to g args good l t c s e = (
     s,
     l,
-    map_at fr.regs args (λ k v. Holds (S (Register g k)) (register_type p g k) v)
+    map_at fr.regs args (λ k v. FitsType (S (Register g k)) (register_type p g k) v)
         (λ k m.
         let n : k < row_length (func_at p g).params = subst (λ (x : ℕ). k < x) t.count m in
         flow p sizes (c.arguments k m) (typed_as p sizes ((t.arguments k m).ty ∙ sym ((typed.funcs g).params k n).ty) (good.regs (get_or args k 0)))),
@@ -145,10 +145,10 @@ module _ (p : Program) (sizes : PlainType → ℕ) (S : ObjectSets) (closed : Cl
 
   -- ---- frames
 
-  set_good : (fr : Frame) (to : ℕ) (v : Value) → Good fr → Holds (S (Register fr.func to)) (register_type p fr.func to) v → Good (with_register fr to v)
+  set_good : (fr : Frame) (to : ℕ) (v : Value) → Good fr → FitsType (S (Register fr.func to)) (register_type p fr.func to) v → Good (with_register fr to v)
   set_good fr to v good h =
       record {
-        regs = set_each (λ r x. Holds (S (Register fr.func r)) (register_type p fr.func r) x) fr.regs to v (Number 0) good.regs h;
+        regs = set_each (λ r x. FitsType (S (Register fr.func r)) (register_type p fr.func r) x) fr.regs to v (Number 0) good.regs h;
         locals = good.locals;
         registers = length-set fr.regs to v ∙ good.registers;
         objects = good.objects;
@@ -208,11 +208,11 @@ module _ (p : Program) (sizes : PlainType → ℕ) (S : ObjectSets) (closed : Cl
 
   -- ---- loads and stores of a running frame
 
-  cell_set : (o : Object) (cs : List CellPlace) (vs : List Value) (k : ℕ) (t : PlainType) (v : Value) → (cell_in cs k).ty ≡ t → Cells o cs vs → Holds (S (Content o)) t v → Cells o cs (set vs k v)
-  cell_set o cs vs k t v e c h = record { each = set_each (λ i x. Holds (S (Content o)) (cell_in cs i).ty x) vs k v (Number 0) c.each (typed_as p sizes (sym e) h); count = length-set vs k v ∙ c.count }
+  cell_set : (o : Object) (cs : List CellPlace) (vs : List Value) (k : ℕ) (t : PlainType) (v : Value) → (cell_in cs k).ty ≡ t → Cells o cs vs → FitsType (S (Content o)) t v → Cells o cs (set vs k v)
+  cell_set o cs vs k t v e c h = record { each = set_each (λ i x. FitsType (S (Content o)) (cell_in cs i).ty x) vs k v (Number 0) c.each (typed_as p sizes (sym e) h); count = length-set vs k v ∙ c.count }
 
   module _ (fr : Frame) (rest : List Frame) (m : Memory) (gf : Frames (fr ∷ rest)) (gm : MemoryFits p sizes S m) (inside : fr.place < length (block_at p fr.func fr.block).insts) where
-    sets : (to : ℕ) (v : Value) → Holds (S (Register fr.func to)) (register_type p fr.func to) v → Frames (onward (with_register fr to v) ∷ rest)
+    sets : (to : ℕ) (v : Value) → FitsType (S (Register fr.func to)) (register_type p fr.func to) v → Frames (onward (with_register fr to v) ∷ rest)
     sets to v h = (on_good (with_register fr to v) inside (set_good fr to v gf.0 h), gf.1, gf.2)
 
     passes : Frames (onward fr ∷ rest)
@@ -242,7 +242,7 @@ module _ (p : Program) (sizes : PlainType → ℕ) (S : ObjectSets) (closed : Cl
       load_good c (OfLocal f k l) a s n = load_local_good f l a (frame_in (fr ∷ rest) f k) s (found_frame (fr ∷ rest) f k gf) n
 
     module _ (t : PlainType) (v : Value) where
-      store_global_good : (g : ℕ) (constant : Bool) (k : Option ℕ) → Holds (S (Content (GlobalObject g))) t v → FoundCell (cells_of_global p g) t k → IsExpected p S (Stored fr.func (GlobalObject g)) → Turn (store_global fr rest m g constant v k)
+      store_global_good : (g : ℕ) (constant : Bool) (k : Option ℕ) → FitsType (S (Content (GlobalObject g))) t v → FoundCell (cells_of_global p g) t k → IsExpected p S (Stored fr.func (GlobalObject g)) → Turn (store_global fr rest m g constant v k)
       store_global_good g constant None h q n = record { to = tt; did = tt }
       store_global_good g true (Some k) h q n = record { to = tt; did = tt }
       store_global_good g false (Some k) h q n =
@@ -251,11 +251,11 @@ module _ (p : Program) (sizes : PlainType → ℕ) (S : ObjectSets) (closed : Cl
             did = n;
           }
 
-      store_cell_good : (f i l : ℕ) (vs : List Value) (k : Option ℕ) → Holds (S (Content (LocalObject f l))) t v → Cells (LocalObject f l) (cells_of_local p f l) vs → FoundCell (cells_of_local p f l) t k → IsExpected p S (Stored fr.func (LocalObject f l)) → Turn (store_cell fr rest m f i l vs v k)
+      store_cell_good : (f i l : ℕ) (vs : List Value) (k : Option ℕ) → FitsType (S (Content (LocalObject f l))) t v → Cells (LocalObject f l) (cells_of_local p f l) vs → FoundCell (cells_of_local p f l) t k → IsExpected p S (Stored fr.func (LocalObject f l)) → Turn (store_cell fr rest m f i l vs v k)
       store_cell_good f i l vs None h c q n = record { to = tt; did = tt }
       store_cell_good f i l vs (Some k) h c q n = record { to = (with_local_good (onward fr ∷ rest) f i l (set vs k v) passes (cell_set (LocalObject f l) (cells_of_local p f l) vs k t v q c h), gm); did = n }
 
-      store_local_good : (f i l a : ℕ) (x : Option Frame) → Holds (S (Content (LocalObject f l))) t v → FoundFrame f x → IsExpected p S (Stored fr.func (LocalObject f l)) → Turn (store_local p fr rest m f i l a t v x)
+      store_local_good : (f i l a : ℕ) (x : Option Frame) → FitsType (S (Content (LocalObject f l))) t v → FoundFrame f x → IsExpected p S (Stored fr.func (LocalObject f l)) → Turn (store_local p fr rest m f i l a t v x)
       store_local_good f i l a None h q n = record { to = tt; did = tt }
       store_local_good f i l a (Some x) h q n =
           store_cell_good f i l (get_or x.locals l []) (cell_at (cells_of_local p f l) a t) h (subst (λ y. Cells (LocalObject y l) (cells_of_local p y l) (get_or x.locals l [])) q.1 (q.0.locals l)) (found_cell (cells_of_local p f l) a t) n
@@ -264,7 +264,7 @@ module _ (p : Program) (sizes : PlainType → ℕ) (S : ObjectSets) (closed : Cl
       store_port_good c q a false n = record { to = tt; did = tt }
       store_port_good c q a true n = record { to = (passes, gm); did = n }
 
-      store_good : (c : List ℕ) (o : Instance) (a : ℕ) → Holds (S (Content (object_of o))) t v → IsExpected p S (Stored fr.func (object_of o)) → Turn (store p c fr rest m o a t v)
+      store_good : (c : List ℕ) (o : Instance) (a : ℕ) → FitsType (S (Content (object_of o))) t v → IsExpected p S (Stored fr.func (object_of o)) → Turn (store p c fr rest m o a t v)
       store_good c (OfGlobal g) a h n = store_global_good g (global_at p g).constant (cell_at (cells_of_global p g) a t) h (found_cell (cells_of_global p g) a t) n
       store_good c (OfPeriph q) a h n = store_port_good c q a (has_port p q a t) n
       store_good c (OfLocal f i l) a h n = store_local_good f i l a (frame_in (fr ∷ rest) f i) h (found_frame (fr ∷ rest) f i gf) n
@@ -278,23 +278,23 @@ module _ (p : Program) (sizes : PlainType → ℕ) (S : ObjectSets) (closed : Cl
   entered_each P (v ∷ vs) (t ∷ ts) h z zero = h zero (omega arith)
   entered_each P (v ∷ vs) (t ∷ ts) h z (suc k) = entered_each (λ j. P (suc j)) vs ts (λ j l. h (suc j) (omega arith)) (λ j. z (suc j)) k
 
-  zero_each : (X : Object → Bool) (cs : List CellPlace) (k : ℕ) → Holds X (cell_in cs k).ty (get_or (zero_cells cs) k (Number 0))
+  zero_each : (X : Object → Bool) (cs : List CellPlace) (k : ℕ) → FitsType X (cell_in cs k).ty (get_or (zero_cells cs) k (Number 0))
   zero_each X [] k = number 0 refl (omega arith)
   zero_each X (c ∷ cs) zero = zero_fits p sizes X c.ty
   zero_each X (c ∷ cs) (suc k) = zero_each X cs k
 
   abbrev ZeroRow : (Object → Bool) → List CellPlace → List Value → Type 0
-  ZeroRow X cs vs = ((k : ℕ) → Holds X (cell_in cs k).ty (get_or vs k (Number 0))) × (length vs ≡ length cs)
+  ZeroRow X cs vs = ((k : ℕ) → FitsType X (cell_in cs k).ty (get_or vs k (Number 0))) × (length vs ≡ length cs)
 
   zero_rows : (X : ℕ → Object → Bool) (ls : List Shape) (l : ℕ) → ZeroRow (X l) (get_or ls l empty).cells (get_or (map zero_local ls) l [])
   zero_rows X [] l = (λ k. number 0 refl (omega arith), refl)
   zero_rows X (s ∷ ls) zero = (zero_each (X zero) s.cells, length-map s.cells (λ (x : CellPlace). zero_of x.ty))
   zero_rows X (s ∷ ls) (suc l) = zero_rows (λ j. X (suc j)) ls l
 
-  frame_good : (g n : ℕ) (vs : List Value) → g < length p.funcs → ((k : ℕ) → k < length vs → Holds (S (Register g k)) (register_type p g k) (get_or vs k (Number 0))) → Good (frame_of p g n vs)
+  frame_good : (g n : ℕ) (vs : List Value) → g < length p.funcs → ((k : ℕ) → k < length vs → FitsType (S (Register g k)) (register_type p g k) (get_or vs k (Number 0))) → Good (frame_of p g n vs)
   frame_good g n vs l h =
       record {
-        regs = entered_each (λ k t v. Holds (S (Register g k)) t v) vs (func_at p g).regs h (λ k t. zero_fits p sizes (S (Register g k)) t);
+        regs = entered_each (λ k t v. FitsType (S (Register g k)) t v) vs (func_at p g).regs h (λ k t. zero_fits p sizes (S (Register g k)) t);
         locals = λ i. (let r = zero_rows (λ j. S (Content (LocalObject g j))) (func_at p g).locals i in record { each = r.0; count = r.1 });
         registers = entered_length vs (func_at p g).regs;
         objects = length-map (func_at p g).locals zero_local;
@@ -321,7 +321,7 @@ module _ (p : Program) (sizes : PlainType → ℕ) (S : ObjectSets) (closed : Cl
       }
 
   abbrev Gives : (g : ℕ) → Value → Type 0
-  Gives g v = (t : PlainType) → (func_at p g).outcome ≡ gives t → Holds (S (Outcome g)) t v
+  Gives g v = (t : PlainType) → (func_at p g).outcome ≡ gives t → FitsType (S (Outcome g)) t v
 
   answered_good : (fr : Frame) (g : ℕ) (to : Option ℕ) (v : Value) → Good fr → AnswerFits p sizes S fr.func g to → Gives g v → fr.place < length (block_at p fr.func fr.block).insts → Good (onward (answered fr to v))
   answered_good fr g None v good a h l = on_good fr l good
@@ -366,7 +366,7 @@ module _ (p : Program) (sizes : PlainType → ℕ) (S : ObjectSets) (closed : Cl
 
   -- ---- a run
 
-  named_fits : (X : Object → Bool) (t : PlainType) (v : Value) → Holds (λ _. true) t v → IsOf X v → Holds X t v
+  named_fits : (X : Object → Bool) (t : PlainType) (v : Value) → FitsType (λ _. true) t v → IsOf X v → FitsType X t v
   named_fits X t v (number n e l) h = number n e l
   named_fits X t v (null e) h = null e
   named_fits X t v (at o k e l i s) h = at o k h l i s
@@ -384,7 +384,7 @@ module _ (p : Program) (sizes : PlainType → ℕ) (S : ObjectSets) (closed : Cl
     record {
       globals = λ g. record {
         each = λ k.
-            subst (λ (vs : List Value). Holds (S (Content (GlobalObject g))) (cell_in (cells_of_global p g) k).ty (get_or vs k (Number 0))) (sym (init_of p.globals g))
+            subst (λ (vs : List Value). FitsType (S (Content (GlobalObject g))) (cell_in (cells_of_global p g) k).ty (get_or vs k (Number 0))) (sym (init_of p.globals g))
             (named_fits (S (Content (GlobalObject g))) _ _ (typed.cells g k) (closed.cells g k));
         count = ap length (init_of p.globals g) ∙ typed.counts g;
       };

@@ -18,7 +18,7 @@ use Rattle.ir_reader.proofs.Lang.{Langs, well}
 use Rattle.ir_reader.proofs.Allow.{stands}
 use Rattle.ir_reader.proofs.Ends.{after}
 use Rattle.ir_reader.proofs.Values.{stepped}
-use Rattle.ir_reader.proofs.Theorem.{steps, Steps}
+use Rattle.ir_reader.proofs.Theorem.{steps, TakesToken}
 
 -- the token that a colon follows or not makes no difference to whether it may stand
 move_flag : (s : Symbol) (t : Token) (c d : Bool) → move s t c ≡ Stop → move s t d ≡ Stop
@@ -131,7 +131,7 @@ colon_end ts (n ∷ front) [] at ps s f i = cc
 colon_end ts (n ∷ front) (p ∷ before) at ps s f i = let h : p.found ≡ Is n.token = cc in rw h refl
 
 -- the stack behind a token is one
-step_same : (st stack : List Symbol) (t : Token) (n : Marked) (x : Line) (ps : List Placed) → step st t (colon_first ps) ≡ To None stack → n.token ≡ t → begins_colon (tokens x) ≡ colon_first ps → (q : Steps st n x) → q.stack ≡ stack
+step_same : (st stack : List Symbol) (t : Token) (n : Marked) (x : Line) (ps : List Placed) → step st t (colon_first ps) ≡ To None stack → n.token ≡ t → begins_colon (tokens x) ≡ colon_first ps → (q : TakesToken st n x) → q.stack ≡ stack
 step_same st stack t n x ps e i c q =
     let g : step st t (colon_first ps) ≡ To n.excess q.stack = subst (λ (b : Bool). step st t b ≡ To n.excess q.stack) c (subst (λ (z : Token). step st z (begins_colon (tokens x)) ≡ To n.excess q.stack) i q.goes) in
     cc

@@ -59,7 +59,7 @@ well_step s (q ∷ st) more h f = by_bottom (at_bottom s) h f
     by_bottom false h f = well_more more (q ∷ st) f h
 
 -- what a token makes of what is expected, where it stands for it
-pub record Steps (st : List Symbol) (m : Marked) (x : Line) : Type 0 where
+pub record TakesToken (st : List Symbol) (m : Marked) (x : Line) : Type 0 where
   pub stack : List Symbol
   pub goes : step st m.token (begins_colon (tokens x)) ≡ To m.excess stack
   pub well : well stack ≡ true
@@ -87,7 +87,7 @@ skip_step d st _ c h = refl
 
 -- where a token begins what a symbol stands for
 headed : (s : Symbol) (st : List Symbol) → well (s ∷ st) ≡ true → (m : Marked) (x a b : Line) → m ∷ x ≡ a ++ b → Langs st b → Follows s a
-    → (Steps (s ∷ st) m x → Steps (s ∷ st) m x) → ((d : ℕ) → s ≡ Machine.Gives d → m ∷ x ≡ b → Steps (s ∷ st) m x) → Steps (s ∷ st) m x
+    → (TakesToken (s ∷ st) m x → TakesToken (s ∷ st) m x) → ((d : ℕ) → s ≡ Machine.Gives d → m ∷ x ≡ b → TakesToken (s ∷ st) m x) → TakesToken (s ∷ st) m x
 headed s st w m x a b e r (next n ms more h f l) k skip =
     let same : n ≡ m = cc in
     let rest : x ≡ ms ++ b = cc in
@@ -98,7 +98,7 @@ headed s st w m x a b e r (next n ms more h f l) k skip =
     record { stack = more ++ st; goes = subst Q (sym rest) (subst P same goes); well = well_step s st more w f; others = subst R (sym rest) (both more st ms b l r) }
 headed s [] w m x a b e r (ends i j) k skip = nothing r e
   where
-    nothing : {b : Line} → Langs [] b → m ∷ x ≡ b → Steps (s ∷ []) m x
+    nothing : {b : Line} → Langs [] b → m ∷ x ≡ b → TakesToken (s ∷ []) m x
     nothing none e = cc
 headed s (q ∷ st) w m x a b e r (ends i j) k skip = let n : not (at_bottom s) ≡ true = (and_parts (not (at_bottom s)) _ w).0 in absurd (contra (at_bottom s) i n)
   where
@@ -116,7 +116,7 @@ first_takes : (q : Symbol) (st : List Symbol) → below (q ∷ st) ≡ true → 
 first_takes q [] h = not-true (takes_arrow q) h
 first_takes q (r ∷ st) h = not-true (takes_arrow q) (and_parts (not (takes_arrow q)) _ h).0
 
-passed_over : (d : ℕ) (st : List Symbol) (m : Marked) (x : Line) → below st ≡ true → Steps st m x → Steps (Machine.Gives d ∷ st) m x
+passed_over : (d : ℕ) (st : List Symbol) (m : Marked) (x : Line) → below st ≡ true → TakesToken st m x → TakesToken (Machine.Gives d ∷ st) m x
 passed_over d [] m x w s = let g = s.goes in cc
 passed_over d (q ∷ st) m x w s =
     record { stack = s.stack; goes = skip_step d (q ∷ st) m.token _ (not_arrow q st m.token _ m.excess s.stack (first_takes q st w) s.goes) ∙ s.goes; well = s.well; others = s.others }
@@ -132,16 +132,16 @@ pub split : (s : Symbol) (st : List Symbol) (ms : Line) → Langs (s ∷ st) ms 
 split s st ms (some {a = a} {b = b} l r) = record { a = a; b = b; first = l; others = r; whole = refl }
 
 -- a token takes the stack to what may stand behind it
-pub steps : (st : List Symbol) → well st ≡ true → (m : Marked) (x : Line) → Langs st (m ∷ x) → Steps st m x
+pub steps : (st : List Symbol) → well st ≡ true → (m : Marked) (x : Line) → Langs st (m ∷ x) → TakesToken st m x
 steps [] w m x l = elim l [ ]
 steps (s ∷ st) w m x l =
     let p = split s st (m ∷ x) l in
     headed s st w m x p.a p.b p.whole p.others (follows s p.a p.first) (λ z. z) (skip p.b p.others (steps st (below_well st (below_of s st w)) m x))
   where
-    skip : (b : Line) → Langs st b → (Langs st (m ∷ x) → Steps st m x) → (d : ℕ) → s ≡ Machine.Gives d → m ∷ x ≡ b → Steps (s ∷ st) m x
+    skip : (b : Line) → Langs st b → (Langs st (m ∷ x) → TakesToken st m x) → (d : ℕ) → s ≡ Machine.Gives d → m ∷ x ≡ b → TakesToken (s ∷ st) m x
     skip b r again d i e =
         let P : Line → Type 0 = λ z. Langs st z in
-        let Q : Symbol → Type 0 = λ z. Steps (z ∷ st) m x in
+        let Q : Symbol → Type 0 = λ z. TakesToken (z ∷ st) m x in
         subst Q (sym i) (passed_over d st m x (below_of s st w) (again (subst P (sym e) r)))
 
 -- the tokens of a text, and its end

@@ -6,7 +6,7 @@ use Rattle.machine_devices.specs.declared.image.Image.{Image}
 use Rattle.machine_devices.specs.declared.image.Window.{Window}
 use Rattle.machine_devices.specs.Rules.{ObeysRules, AreWindows}
 use Rattle.machine_bus.specs.Places.{Place, InRam, InFlash, InWindow, Nowhere, inside, choose, find_window, place}
-use Rattle.machine_bus.specs.Access.{AnyHolds, Holds}
+use Rattle.machine_bus.specs.Access.{AnyWindowHolds, HoldsBytes}
 use Rattle.machine_bus.proofs.Ranges.{inside_true}
 use Rattle.machine_bus.proofs.Addresses.{place-ram, place-flash}
 use Rattle.machine_bus.proofs.Placed.{holds_nowhere}
@@ -87,7 +87,7 @@ flash_offsets i a o r = (flash_at i a o, λ h. in_flash i a o r h.0 h.1)
 
 -- ---- the mebibyte of flash
 
-pub no_window : (ws : List Window) (a : ℕ) → AreWindows ws → a < 0x40000000 → AnyHolds ws a 1 → ⊥
+pub no_window : (ws : List Window) (a : ℕ) → AreWindows ws → a < 0x40000000 → AnyWindowHolds ws a 1 → ⊥
 no_window [] a w lt h = h
 no_window (x ∷ xs) a w lt (inl h) = let lo = w.0.range.place.0 in let b = h.0 in omega arith
 no_window (x ∷ xs) a w lt (inr h) = no_window xs a w.2 lt h
@@ -96,7 +96,7 @@ pub flash_alone : (i : Image) (a : ℕ) → ObeysRules i → i.flash_base ≤ a 
 flash_alone i a r lo hi mapped =
     ⊎_elim (λ lt. place-flash i a r lo lt) (λ le. absurd (mapped (holds_nowhere i a 1 r (inl refl) (omega arith) (none le)))) (cases_lt a (i.flash_base + length i.flash))
   where
-    none : i.flash_base + length i.flash ≤ a → Holds i a 1 → ⊥
+    none : i.flash_base + length i.flash ≤ a → HoldsBytes i a 1 → ⊥
     none le (inl h) = let x = h.0 in let y = r.ram_lowest in let z = r.flash_highest in omega arith
     none le (inr (inl h)) = let x = h.1 in omega arith
     none le (inr (inr h)) = no_window i.windows a r.windows (let z = r.flash_highest in omega arith) h

@@ -9,7 +9,7 @@ use Rattle.machine_devices.specs.declared.image.Window.{Window}
 use Rattle.machine_bus.specs.Places.{Place, InRam, InFlash, InWindow, Nowhere, inside, choose, find_window, place}
 use Rattle.machine_devices.specs.Rules.{ObeysRules, IsWindow, AreWindows}
 use Rattle.machine_bus.proofs.Ranges.{inside_true, inside_yes}
-use Rattle.machine_bus.specs.Access.{further, HasBytes, Fits, AnyHolds, Holds}
+use Rattle.machine_bus.specs.Access.{further, HasBytes, Fits, AnyWindowHolds, HoldsBytes}
 use Rattle.base_laws.proofs.Tests.{same_tests}
 
 -- a range that begins and ends at multiples of 4
@@ -152,7 +152,7 @@ positive w (inl e) = omega arith
 positive w (inr (inl e)) = omega arith
 positive w (inr (inr e)) = omega arith
 
-windows_miss : (ws : List Window) (k a w : ℕ) → 0 < w → find_window ws k a ≡ Nowhere → AnyHolds ws a w → ⊥
+windows_miss : (ws : List Window) (k a w : ℕ) → 0 < w → find_window ws k a ≡ Nowhere → AnyWindowHolds ws a w → ⊥
 unfolding find_window
 windows_miss [] k a w p e h = h
 windows_miss (x ∷ xs) k a w p e (inl h) = (let t = inside_yes x.base x.size a h.0 (omega (arith, h.1)) in let f : InWindow k (a - x.base) ≡ Nowhere = rw t at e in cc)
@@ -162,7 +162,7 @@ windows_miss (x ∷ xs) k a w p e (inr h) = by_test (inside x.base x.size a) e (
     by_test true g ih = cc
     by_test false g ih = ih g
 
-misses_windows : (ws : List Window) (k a w : ℕ) → AreWindows ws → IsAccessWidth w → a % w ≡ 0 → (AnyHolds ws a w → ⊥) → find_window ws k a ≡ Nowhere
+misses_windows : (ws : List Window) (k a w : ℕ) → AreWindows ws → IsAccessWidth w → a % w ≡ 0 → (AnyWindowHolds ws a w → ⊥) → find_window ws k a ≡ Nowhere
 unfolding find_window
 misses_windows [] k a w h v m n = refl
 misses_windows (x ∷ xs) k a w h v m n = by_test (inside x.base x.size a) refl (misses_windows xs (suc k) a w h.2 v m (λ g. n (inr g)))
@@ -174,7 +174,7 @@ misses_windows (x ∷ xs) k a w h v m n = by_test (inside x.base x.size a) refl 
         absurd (n (inl (b.0, inside_ends x.base x.size a w (window_aligned x h.0) v m b.1))))
     by_test false e ih = ih
 
-pub nowhere_holds : (i : Image) (a w : ℕ) → IsAccessWidth w → place i a ≡ Nowhere → Holds i a w → ⊥
+pub nowhere_holds : (i : Image) (a w : ℕ) → IsAccessWidth w → place i a ≡ Nowhere → HoldsBytes i a w → ⊥
 unfolding place
 nowhere_holds i a w v e (inl h) =
     (let n = positive w v in
@@ -196,7 +196,7 @@ nowhere_holds i a w v e (inr (inr h)) =
     by_tests false true g ih = cc
     by_tests false false g ih = ih g
 
-pub holds_nowhere : (i : Image) (a w : ℕ) → ObeysRules i → IsAccessWidth w → a % w ≡ 0 → (Holds i a w → ⊥) → place i a ≡ Nowhere
+pub holds_nowhere : (i : Image) (a w : ℕ) → ObeysRules i → IsAccessWidth w → a % w ≡ 0 → (HoldsBytes i a w → ⊥) → place i a ≡ Nowhere
 unfolding place
 holds_nowhere i a w r v m n = by_tests (inside i.ram_base i.ram_size a) (inside i.flash_base (length i.flash) a) refl refl
   where
@@ -210,7 +210,7 @@ holds_nowhere i a w r v m n = by_tests (inside i.ram_base i.ram_size a) (inside 
         absurd (n (inr (inl (b.0, inside_ends i.flash_base (length i.flash) a w (flash_aligned i r) v m b.1)))))
     by_tests false false e f = misses_windows i.windows 0 a w r.windows v m (λ g. n (inr (inr g)))
 
-pub place-nowhere : (i : Image) (a w : ℕ) → ObeysRules i → IsAccessWidth w → a % w ≡ 0 → (place i a ≡ Nowhere) ↔ (Holds i a w → ⊥)
+pub place-nowhere : (i : Image) (a w : ℕ) → ObeysRules i → IsAccessWidth w → a % w ≡ 0 → (place i a ≡ Nowhere) ↔ (HoldsBytes i a w → ⊥)
 place-nowhere i a w r v m = (nowhere_holds i a w v, holds_nowhere i a w r v m)
 
 pub ruleset access_rules = (place_fits)

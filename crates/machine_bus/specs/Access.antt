@@ -25,10 +25,10 @@ Fits (InWindow k o) w i = HasBytes i.windows k o w
 Fits Nowhere w i = Unit {0}
 
 -- some window holds these bytes
-abbrev pub AnyHolds : List Window → (address width : ℕ) → Type 0
-AnyHolds [] a w = ⊥
-AnyHolds (x ∷ xs) a w = IsInside a w x.base x.size ⊎ AnyHolds xs a w
+abbrev pub AnyWindowHolds : List Window → (address width : ℕ) → Type 0
+AnyWindowHolds [] a w = ⊥
+AnyWindowHolds (x ∷ xs) a w = IsInside a w x.base x.size ⊎ AnyWindowHolds xs a w
 
 -- RAM, flash or a window holds all these bytes
-abbrev pub Holds : Image → (address width : ℕ) → Type 0
-Holds i a w = IsInside a w i.ram_base i.ram_size ⊎ (IsInside a w i.flash_base (length i.flash) ⊎ AnyHolds i.windows a w)
+abbrev pub HoldsBytes : Image → (address width : ℕ) → Type 0
+HoldsBytes i a w = IsInside a w i.ram_base i.ram_size ⊎ (IsInside a w i.flash_base (length i.flash) ⊎ AnyWindowHolds i.windows a w)

@@ -2,7 +2,7 @@
 
 ghost use Rattle.std.specs.Prelude.{◌≡◌, ◌≢◌, ◌↔◌, ℕ, ◌+◌, ◌-◌, ◌%◌, ◌<◌, ◌≤◌, List, length, slice_get, Some};
 ghost use Rattle.machine_protection.specs.Protection.{IsAccessWidth};
-ghost use Rattle.machine_bus.specs.Access.{further, Fits, Holds};
+ghost use Rattle.machine_bus.specs.Access.{further, Fits, HoldsBytes};
 ghost use Rattle.machine_bus.specs.Bus.{put_at};
 ghost use Rattle.machine_devices.specs.Input.{taken};
 ghost use Rattle.machine_bus.specs.Places.{Place, InRam, InFlash, InWindow, Nowhere, place};
@@ -22,7 +22,7 @@ pub fn accesses()
     ensures fits { (i : Image) (a w : ℕ) → ObeysRules i → IsAccessWidth w → a % w ≡ 0 →
         Fits (place i a) w i }
     ensures nowhere { (i : Image) (a w : ℕ) → ObeysRules i → IsAccessWidth w → a % w ≡ 0 →
-        (place i a ≡ Nowhere) ↔ ¬ (Holds i a w) }
+        (place i a ≡ Nowhere) ↔ ¬ (HoldsBytes i a w) }
 {}
 
 /// The addresses of RAM, of flash and of each window lead to it.

@@ -12,7 +12,7 @@ use Rattle.machine_emulator.specs.declared.Step.TheVariants.{Ran, Event as Told,
 use Rattle.machine_model.specs.State.{State, Turn, by_mpu}
 use Rattle.machine_model.specs.Step.{turn, step, event}
 use Rattle.machine_model.specs.Ends.{IsOwn}
-use Rattle.machine_emulator.specs.Machine.{MachineState, HasOwn, answer, answer_by, AcceptsAll, RefusesLast, Says, IsRun}
+use Rattle.machine_emulator.specs.Machine.{MachineState, HasOwn, answer, answer_by, AcceptsAll, RefusesLast, IsEndOf, IsRun}
 use Rattle.machine_emulator.proofs.StepAnswers.{ended_by as ended_of, silent as silent_end, own_of}
 
 -- ---- what a step's answer says of its turn
@@ -86,14 +86,14 @@ module _ {G : Type 0} (calls : G → Event → Bool → G → Type 0) (i : Image
     refuses = r.refuses;
   }
 
-  says_quiet : (limit n : ℕ) (s t : State) (f g : G) (e : End) → event i s ≡ None → Says calls i limit n (step i s) t f g e → Says calls i (suc limit) (suc n) s t f g e
+  says_quiet : (limit n : ℕ) (s t : State) (f g : G) (e : End) → event i s ≡ None → IsEndOf calls i limit n (step i s) t f g e → IsEndOf calls i (suc limit) (suc n) s t f g e
   says_quiet limit n s t f g (Halt k) h y = (y.0, accepts_quiet n s f g h y.1)
   says_quiet limit n s t f g InputEnd h y = (y.0, accepts_quiet n s f g h y.1)
   says_quiet limit n s t f g Limit h y = (ap suc y.0, y.1, accepts_quiet n s f g h y.2)
   says_quiet limit n s t f g (Stop r a) h y = (y.0, accepts_quiet n s f g h y.1)
   says_quiet limit n s t f g Refused h y = (y.0, refuses_quiet n s f g h y.1)
 
-  says_told : (limit n : ℕ) (s t : State) (x : Event) (f m g : G) (e : End) → event i s ≡ Some x → calls f x true m → Says calls i limit n (step i s) t m g e → Says calls i (suc limit) (suc n) s t f g e
+  says_told : (limit n : ℕ) (s t : State) (x : Event) (f m g : G) (e : End) → event i s ≡ Some x → calls f x true m → IsEndOf calls i limit n (step i s) t m g e → IsEndOf calls i (suc limit) (suc n) s t f g e
   says_told limit n s t x f m g (Halt k) h c y = (y.0, accepts_told n s x f m g h c y.1)
   says_told limit n s t x f m g InputEnd h c y = (y.0, accepts_told n s x f m g h c y.1)
   says_told limit n s t x f m g Limit h c y = (ap suc y.0, y.1, accepts_told n s x f m g h c y.2)
@@ -101,7 +101,7 @@ module _ {G : Type 0} (calls : G → Event → Bool → G → Type 0) (i : Image
   says_told limit n s t x f m g Refused h c y = (y.0, refuses_told n s x f m g h c y.1)
 
   -- the machine's own end, where nothing more was told
-  says_own : (limit n : ℕ) (s t : State) (f : G) (e : End) → IsOwn e → t.ending ≡ Some e → AcceptsAll calls i n s f f → Says calls i limit n s t f f e
+  says_own : (limit n : ℕ) (s t : State) (f : G) (e : End) → IsOwn e → t.ending ≡ Some e → AcceptsAll calls i n s f f → IsEndOf calls i limit n s t f f e
   says_own limit n s t f (Halt k) o h a = (h, a)
   says_own limit n s t f InputEnd o h a = (h, a)
   says_own limit n s t f Limit o h a = absurd o

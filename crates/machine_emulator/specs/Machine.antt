@@ -60,12 +60,12 @@ pub record RefusesLast {G : Type 0} (calls : G → Event → Bool → G → Type
   pub refuses : calls between refused false g
 
 -- what the answer of a run says, of which so many steps ran from one state to another
-abbrev pub Says : {G : Type 0} (calls : G → Event → Bool → G → Type 0) → Image → (limit steps : ℕ) → (old new : State) → G → G → End → Type 0
-Says calls i limit n s t f g (Halt k) = (t.ending ≡ Some (Halt k)) × AcceptsAll calls i n s f g
-Says calls i limit n s t f g InputEnd = (t.ending ≡ Some InputEnd) × AcceptsAll calls i n s f g
-Says calls i limit n s t f g Limit = (n ≡ limit) × (t.ending ≡ None) × AcceptsAll calls i n s f g
-Says calls i limit n s t f g (Stop r a) = (t.ending ≡ Some (Stop r a)) × AcceptsAll calls i n s f g
-Says calls i limit n s t f g Refused = (t.ending ≡ None) × RefusesLast calls i n s f g
+abbrev pub IsEndOf : {G : Type 0} (calls : G → Event → Bool → G → Type 0) → Image → (limit steps : ℕ) → (old new : State) → G → G → End → Type 0
+IsEndOf calls i limit n s t f g (Halt k) = (t.ending ≡ Some (Halt k)) × AcceptsAll calls i n s f g
+IsEndOf calls i limit n s t f g InputEnd = (t.ending ≡ Some InputEnd) × AcceptsAll calls i n s f g
+IsEndOf calls i limit n s t f g Limit = (n ≡ limit) × (t.ending ≡ None) × AcceptsAll calls i n s f g
+IsEndOf calls i limit n s t f g (Stop r a) = (t.ending ≡ Some (Stop r a)) × AcceptsAll calls i n s f g
+IsEndOf calls i limit n s t f g Refused = (t.ending ≡ None) × RefusesLast calls i n s f g
 
 -- a run of at most so many steps, which took the callback from one state to another
 pub record IsRun {G : Type 0} (calls : G → Event → Bool → G → Type 0) (limit : ℕ) (old new : MachineState) (f g : G) (e : End) : Type 0 where
@@ -73,4 +73,4 @@ pub record IsRun {G : Type 0} (calls : G → Event → Bool → G → Type 0) (l
   pub few : steps ≤ limit
   pub same_image : new.image ≡ old.image
   pub leads : run (step old.image) steps old.state ≡ new.state
-  pub says : Says calls old.image limit steps old.state new.state f g e
+  pub says : IsEndOf calls old.image limit steps old.state new.state f g e

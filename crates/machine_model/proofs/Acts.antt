@@ -17,7 +17,7 @@ use Rattle.machine_model.specs.declared.answers.Verdict.TheVariants.{ToBus}
 use Rattle.machine_model.specs.Tests.{verdict}
 use Rattle.machine_model.specs.Perform.{perform}
 use Rattle.machine_model.specs.Step.{turn}
-use Rattle.machine_model.specs.Code.{size, Stands, live, Steps}
+use Rattle.machine_model.specs.Code.{size, Stands, live, StepsQuietly}
 use Rattle.machine_model.specs.Events.{StepsWith, input_event, output_event, ended}
 use Rattle.machine_model.proofs.Exec.{stepped, steps_from, steps_with_from}
 
@@ -25,17 +25,17 @@ module _ (j : PermissionTest) (i : Image) (c : CoreRegisters) (p : ProtectionSta
   pub turns : (a : Act) → Stands j i p c.pc x → act x (c.pc + size x) c ≡ a → turn j i (live c p t ram queues) ≡ perform j i a (live c p t ram queues)
   turns a h e = stepped j i c p t ram queues x h ∙ ap (λ y. perform j i y (live c p t ram queues)) e
 
-  pub changes : (d : CoreRegisters) → Stands j i p c.pc x → act x (c.pc + size x) c ≡ Changes d → Steps j i (live c p t ram queues) (live d p t ram queues)
+  pub changes : (d : CoreRegisters) → Stands j i p c.pc x → act x (c.pc + size x) c ≡ Changes d → StepsQuietly j i (live c p t ram queues) (live d p t ram queues)
   unfolding perform
   changes d h e = steps_from (turns (Changes d) h e) refl refl
 
   pub loads_ram : (w a o : ℕ) (go : ℕ → CoreRegisters) → Stands j i p c.pc x → act x (c.pc + size x) c ≡ Loads w a go → verdict j p Read w a ≡ ToBus → place i a ≡ InRam o →
-      Steps j i (live c p t ram queues) (live (go (read w o ram)) p t ram queues)
+      StepsQuietly j i (live c p t ram queues) (live (go (read w o ram)) p t ram queues)
   unfolding perform
   loads_ram w a o go h e v l = steps_from (turns (Loads w a go) h e) (rw (v, l) refl) (rw (v, l) refl)
 
   pub loads_flash : (w a o : ℕ) (go : ℕ → CoreRegisters) → Stands j i p c.pc x → act x (c.pc + size x) c ≡ Loads w a go → verdict j p Read w a ≡ ToBus → place i a ≡ InFlash o →
-      Steps j i (live c p t ram queues) (live (go (read w o i.flash)) p t ram queues)
+      StepsQuietly j i (live c p t ram queues) (live (go (read w o i.flash)) p t ram queues)
   unfolding perform
   loads_flash w a o go h e v l = steps_from (turns (Loads w a go) h e) (rw (v, l) refl) (rw (v, l) refl)
 
@@ -49,12 +49,12 @@ module _ (j : PermissionTest) (i : Image) (c : CoreRegisters) (p : ProtectionSta
   -- and has none left
   pub loads_nothing : (w a k o : ℕ) (go : ℕ → CoreRegisters) → Stands j i p c.pc x → act x (c.pc + size x) c ≡ Loads w a go → verdict j p Read w a ≡ ToBus → place i a ≡ InWindow k o →
       get_or queues k [] ≡ [] →
-      Steps j i (live c p t ram queues) (ended InputEnd (live c p t ram queues))
+      StepsQuietly j i (live c p t ram queues) (ended InputEnd (live c p t ram queues))
   unfolding perform
   loads_nothing w a k o go h e v l q = steps_from (turns (Loads w a go) h e) (rw (v, l, q) refl) (rw (v, l, q) refl)
 
   pub stores_ram : (w a o u : ℕ) (d : CoreRegisters) → Stands j i p c.pc x → act x (c.pc + size x) c ≡ Stores w a u d → verdict j p Write w a ≡ ToBus → place i a ≡ InRam o →
-      Steps j i (live c p t ram queues) (live d p t (write w o u ram) queues)
+      StepsQuietly j i (live c p t ram queues) (live d p t (write w o u ram) queues)
   unfolding perform
   stores_ram w a o u d h e v l = steps_from (turns (Stores w a u d) h e) (rw (v, l, l) refl) (rw (v, l) refl)
 
@@ -64,6 +64,6 @@ module _ (j : PermissionTest) (i : Image) (c : CoreRegisters) (p : ProtectionSta
   stores_window w a k o u d h e v l = steps_with_from (turns (Stores w a u d) h e) (rw (v, l) refl) (rw (v, l) refl)
 
   -- BKPT
-  pub halts : (n : ℕ) → Stands j i p c.pc x → act x (c.pc + size x) c ≡ Halts n → Steps j i (live c p t ram queues) (ended (Halt n) (live c p t ram queues))
+  pub halts : (n : ℕ) → Stands j i p c.pc x → act x (c.pc + size x) c ≡ Halts n → StepsQuietly j i (live c p t ram queues) (ended (Halt n) (live c p t ram queues))
   unfolding perform
   halts n h e = steps_from (turns (Halts n) h e) refl refl

@@ -12,7 +12,7 @@ use Rattle.machine_model.specs.Act.{Loads, Stores, Exchanges}
 use Rattle.machine_model.specs.declared.answers.Outcome.TheVariants.{Gives}
 use Rattle.machine_model.specs.Instructions.{act}
 use Rattle.machine_model.specs.Perform.{perform}
-use Rattle.machine_model.specs.Code.{Stands, Steps, Runs}
+use Rattle.machine_model.specs.Code.{Stands, StepsQuietly, Runs}
 use Rattle.machine_model.specs.RunningCode.{Context, body, works, IsLoad, IsStore}
 use Rattle.machine_model.proofs.Exec.{steps_from, stay, next_step}
 use Rattle.machine_model.proofs.Acts.{turns, changes}
@@ -37,29 +37,29 @@ halves_are v h = omega arith
 module _ (j : PermissionTest) (i : Image) (x : Context) (low : List ℕ) (sp lr pc : ℕ) (f : Flags) (ram : List ℕ) (queues : List (List ℕ)) where
   -- ADDS d, n, m; SUBS d, n, m
   pub adds : (m n d : ℕ) → Stands j i x.protection pc (AddSubRegister 0 m n d) →
-      Steps j i (works x low sp lr pc f ram queues) (works x (set low d (add (get_or low n 0) (get_or low m 0))) sp lr (pc + 2) (add_flags (get_or low n 0) (get_or low m 0) 0) ram queues)
+      StepsQuietly j i (works x low sp lr pc f ram queues) (works x (set low d (add (get_or low n 0) (get_or low m 0))) sp lr (pc + 2) (add_flags (get_or low n 0) (get_or low m 0) 0) ram queues)
   adds m n d st = sum_gives j i x low sp lr pc f ram queues 0 m n d (add (get_or low n 0) (get_or low m 0)) (add_flags (get_or low n 0) (get_or low m 0) 0)
       (gives _ _ _ (sum_is (get_or low n 0) (get_or low m 0))) st
 
   pub subs : (m n d : ℕ) → get_or low m 0 < 2 ^ 32 → Stands j i x.protection pc (AddSubRegister 1 m n d) →
-      Steps j i (works x low sp lr pc f ram queues) (works x (set low d (subtract (get_or low n 0) (get_or low m 0))) sp lr (pc + 2) (compare_flags (get_or low n 0) (get_or low m 0)) ram queues)
+      StepsQuietly j i (works x low sp lr pc f ram queues) (works x (set low d (subtract (get_or low n 0) (get_or low m 0))) sp lr (pc + 2) (compare_flags (get_or low n 0) (get_or low m 0)) ram queues)
   subs m n d h st = sum_gives j i x low sp lr pc f ram queues 1 m n d (subtract (get_or low n 0) (get_or low m 0)) (compare_flags (get_or low n 0) (get_or low m 0))
       (gives _ _ _ (difference_is (get_or low n 0) (get_or low m 0) h)) st
 
   -- ADDS d, #n; SUBS d, #n
   pub adds_immediate : (d n : ℕ) → Stands j i x.protection pc (DataImmediate 2 d n) →
-      Steps j i (works x low sp lr pc f ram queues) (works x (set low d (add (get_or low d 0) n)) sp lr (pc + 2) (add_flags (get_or low d 0) n 0) ram queues)
+      StepsQuietly j i (works x low sp lr pc f ram queues) (works x (set low d (add (get_or low d 0) n)) sp lr (pc + 2) (add_flags (get_or low d 0) n 0) ram queues)
   adds_immediate d n st = immediate_gives j i x low sp lr pc f ram queues 2 d n (add (get_or low d 0) n) (add_flags (get_or low d 0) n 0)
       (gives _ _ _ (sum_is (get_or low d 0) n)) st
 
   pub subs_immediate : (d n : ℕ) → n < 2 ^ 32 → Stands j i x.protection pc (DataImmediate 3 d n) →
-      Steps j i (works x low sp lr pc f ram queues) (works x (set low d (subtract (get_or low d 0) n)) sp lr (pc + 2) (compare_flags (get_or low d 0) n) ram queues)
+      StepsQuietly j i (works x low sp lr pc f ram queues) (works x (set low d (subtract (get_or low d 0) n)) sp lr (pc + 2) (compare_flags (get_or low d 0) n) ram queues)
   subs_immediate d n h st = immediate_gives j i x low sp lr pc f ram queues 3 d n (subtract (get_or low d 0) n) (compare_flags (get_or low d 0) n)
       (gives _ _ _ (difference_is (get_or low d 0) n h)) st
 
   -- MOV d, m of low registers
   pub mov_low : (m d : ℕ) → m < 8 → d < 8 → Stands j i x.protection pc (HighRegister 2 m d) →
-      Steps j i (works x low sp lr pc f ram queues) (works x (set low d (get_or low m 0)) sp lr (pc + 2) f ram queues)
+      StepsQuietly j i (works x low sp lr pc f ram queues) (works x (set low d (get_or low m 0)) sp lr (pc + 2) f ram queues)
   unfolding act
   mov_low m d a b st =
       let r = register_low (body x low sp lr pc f) m a in
@@ -68,19 +68,19 @@ module _ (j : PermissionTest) (i : Image) (x : Context) (low : List ℕ) (sp lr 
 
   -- MOVW and MOVT of r12
   pub movw_r12 : (n : ℕ) → Stands j i x.protection pc (MoveWide 12 n) →
-      Steps j i (works x low sp lr pc f ram queues) (works (record x { high = set x.high 4 n }) low sp lr (pc + 4) f ram queues)
+      StepsQuietly j i (works x low sp lr pc f ram queues) (works (record x { high = set x.high 4 n }) low sp lr (pc + 4) f ram queues)
   unfolding act
   movw_r12 n st = changes j i (body x low sp lr pc f) x.protection x.status ram queues (MoveWide 12 n) (body (record x { high = set x.high 4 n }) low sp lr (pc + 4) f) st refl
 
   pub movt_r12 : (n : ℕ) → Stands j i x.protection pc (MoveTop 12 n) →
-      Steps j i (works x low sp lr pc f ram queues) (works (record x { high = set x.high 4 (get_or x.high 4 0 % 2 ^ 16 + n * 2 ^ 16) }) low sp lr (pc + 4) f ram queues)
+      StepsQuietly j i (works x low sp lr pc f ram queues) (works (record x { high = set x.high 4 (get_or x.high 4 0 % 2 ^ 16 + n * 2 ^ 16) }) low sp lr (pc + 4) f ram queues)
   unfolding act
   movt_r12 n st =
       changes j i (body x low sp lr pc f) x.protection x.status ram queues (MoveTop 12 n) (body (record x { high = set x.high 4 (get_or x.high 4 0 % 2 ^ 16 + n * 2 ^ 16) }) low sp lr (pc + 4) f) st refl
 
   -- BX m that is no exception return
   pub bx_low : (m to : ℕ) → m < 8 → get_or low m 0 ≡ to + 1 → to % 2 ≡ 0 → to < 0xFFFFFFF0 → Stands j i x.protection pc (BranchExchange 0 m) →
-      Steps j i (works x low sp lr pc f ram queues) (works x low sp lr to f ram queues)
+      StepsQuietly j i (works x low sp lr pc f ram queues) (works x low sp lr to f ram queues)
   unfolding act perform
   bx_low m to h is even below st =
       let a = not_return x.protection.handler (to + 1) 0xFFFFFFFD (omega arith) in

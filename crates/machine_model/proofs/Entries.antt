@@ -18,7 +18,7 @@ use Rattle.machine_model.specs.Exceptions.{words_from, frame_at, frame_of, entry
 use Rattle.machine_model.specs.Perform.{perform, after_load, after_store, after_loads, after_stores}
 use Rattle.machine_model.specs.declared.answers.Fetched.TheVariants.{NotAllowed}
 use Rattle.machine_model.specs.Step.{turn, fetch, fetched}
-use Rattle.machine_model.specs.Code.{size, Stands, live, Steps}
+use Rattle.machine_model.specs.Code.{size, Stands, live, StepsQuietly}
 use Rattle.machine_model.specs.Stack.{Words, words_at, May, Frame}
 use Rattle.machine_model.proofs.Exec.{steps_from}
 use Rattle.machine_model.proofs.Acts.{turns}
@@ -46,7 +46,7 @@ module _ (j : PermissionTest) (i : Image) (c : CoreRegisters) (p : ProtectionSta
 
   -- SVC
   pub calls : (x : Instr) (o next : ℕ) → act x (c.pc + size x) c ≡ Calls next → p.handler ≡ false → Frame j i p c.sp o → Stands j i p c.pc x →
-      Steps j i (live c p t ram queues) (live (entry_core i supervisor_call c) (record p { handler = true }) t (write_all 4 o (frame_of c next) ram) queues)
+      StepsQuietly j i (live c p t ram queues) (live (entry_core i supervisor_call c) (record p { handler = true }) t (write_all 4 o (frame_of c next) ram) queues)
   unfolding perform
   calls x o next is h r st =
       let e = enters o supervisor_call next t r in
@@ -59,7 +59,7 @@ module _ (j : PermissionTest) (i : Image) (c : CoreRegisters) (p : ProtectionSta
   -- a store, and a load, that protection refuses
   pub faults_store : (x : Instr) (w a v o : ℕ) (d : CoreRegisters) → act x (c.pc + size x) c ≡ Stores w a v d → verdict j p Write w a ≡ Refused →
       p.handler ≡ false → is_fault_enabled t ≡ true → Frame j i p c.sp o → Stands j i p c.pc x →
-      Steps j i (live c p t ram queues)
+      StepsQuietly j i (live c p t ram queues)
       (live (entry_core i mem_manage c) (record p { handler = true }) (record t { cfsr = bit_or t.cfsr 0x82; mmfar = a }) (write_all 4 o (frame_of c c.pc) ram) queues)
   unfolding perform
   faults_store x w a v o d is denied h en r st =
@@ -69,7 +69,7 @@ module _ (j : PermissionTest) (i : Image) (c : CoreRegisters) (p : ProtectionSta
 
   pub faults_load : (x : Instr) (w a o : ℕ) (go : ℕ → CoreRegisters) → act x (c.pc + size x) c ≡ Loads w a go → verdict j p Read w a ≡ Refused →
       p.handler ≡ false → is_fault_enabled t ≡ true → Frame j i p c.sp o → Stands j i p c.pc x →
-      Steps j i (live c p t ram queues)
+      StepsQuietly j i (live c p t ram queues)
       (live (entry_core i mem_manage c) (record p { handler = true }) (record t { cfsr = bit_or t.cfsr 0x82; mmfar = a }) (write_all 4 o (frame_of c c.pc) ram) queues)
   unfolding perform
   faults_load x w a o go is denied h en r st =
@@ -80,7 +80,7 @@ module _ (j : PermissionTest) (i : Image) (c : CoreRegisters) (p : ProtectionSta
   -- several words, of which protection refuses one
   pub faults_stores : (x : Instr) (a y o : ℕ) (vs : List ℕ) (d : CoreRegisters) → act x (c.pc + size x) c ≡ StoresMany a vs d → verdicts j i p Write a (length vs) ≡ RefusedAt y →
       p.handler ≡ false → is_fault_enabled t ≡ true → Frame j i p c.sp o → Stands j i p c.pc x →
-      Steps j i (live c p t ram queues)
+      StepsQuietly j i (live c p t ram queues)
       (live (entry_core i mem_manage c) (record p { handler = true }) (record t { cfsr = bit_or t.cfsr 0x82; mmfar = y }) (write_all 4 o (frame_of c c.pc) ram) queues)
   unfolding perform
   faults_stores x a y o vs d is denied h en r st =
@@ -90,7 +90,7 @@ module _ (j : PermissionTest) (i : Image) (c : CoreRegisters) (p : ProtectionSta
 
   pub faults_loads : (x : Instr) (a n y o : ℕ) (go : List ℕ → Option CoreRegisters) → act x (c.pc + size x) c ≡ LoadsMany a n go → verdicts j i p Read a n ≡ RefusedAt y →
       p.handler ≡ false → is_fault_enabled t ≡ true → Frame j i p c.sp o → Stands j i p c.pc x →
-      Steps j i (live c p t ram queues)
+      StepsQuietly j i (live c p t ram queues)
       (live (entry_core i mem_manage c) (record p { handler = true }) (record t { cfsr = bit_or t.cfsr 0x82; mmfar = y }) (write_all 4 o (frame_of c c.pc) ram) queues)
   unfolding perform
   faults_loads x a n y o go is denied h en r st =
@@ -100,7 +100,7 @@ module _ (j : PermissionTest) (i : Image) (c : CoreRegisters) (p : ProtectionSta
 
   -- a fetch that is refused
   pub faults_fetch : (o : ℕ) → j p Fetch c.pc ≡ false → p.handler ≡ false → is_fault_enabled t ≡ true → Frame j i p c.sp o →
-      Steps j i (live c p t ram queues)
+      StepsQuietly j i (live c p t ram queues)
       (live (entry_core i mem_manage c) (record p { handler = true }) (record t { cfsr = bit_or t.cfsr 1 }) (write_all 4 o (frame_of c c.pc) ram) queues)
   unfolding turn fetch
   faults_fetch o denied h en r =
@@ -112,7 +112,7 @@ module _ (j : PermissionTest) (i : Image) (c : CoreRegisters) (p : ProtectionSta
   -- BX lr back to a thread on PSP, and on MSP
   pub returns_to_psp : (x : Instr) (o : ℕ) → act x (c.pc + size x) c ≡ Exchanges return_on_psp → p.handler ≡ true → Words i c.other_sp o 8 → May j (record p { handler = false }) Read c.other_sp 8 → is_thread (get_or (words_at 8 o ram) 7 0) ≡ true →
       Stands j i p c.pc x →
-      Steps j i (live c p t ram queues) (live (unstacked true c c.other_sp (words_at 8 o ram)) (record p { handler = false }) t ram queues)
+      StepsQuietly j i (live c p t ram queues) (live (unstacked true c c.other_sp (words_at 8 o ram)) (record p { handler = false }) t ram queues)
   unfolding perform
   returns_to_psp x o is h w m thread st =
       let a = open_in_ram j i (record p { handler = false }) Read 8 c.other_sp o w m in
@@ -121,7 +121,7 @@ module _ (j : PermissionTest) (i : Image) (c : CoreRegisters) (p : ProtectionSta
 
   pub returns_to_msp : (x : Instr) (o : ℕ) → act x (c.pc + size x) c ≡ Exchanges return_on_msp → p.handler ≡ true → Words i c.sp o 8 → May j (record p { handler = false }) Read c.sp 8 → is_thread (get_or (words_at 8 o ram) 7 0) ≡ true →
       Stands j i p c.pc x →
-      Steps j i (live c p t ram queues) (live (unstacked false c c.sp (words_at 8 o ram)) (record p { handler = false }) t ram queues)
+      StepsQuietly j i (live c p t ram queues) (live (unstacked false c c.sp (words_at 8 o ram)) (record p { handler = false }) t ram queues)
   unfolding perform
   returns_to_msp x o is h w m thread st =
       let a = open_in_ram j i (record p { handler = false }) Read 8 c.sp o w m in

@@ -24,7 +24,7 @@ use Rattle.machine_model.specs.declared.answers.Fetched.TheVariants.{Took}
 use Rattle.machine_model.specs.Step.{turn, fetch, fetched}
 use Rattle.machine_model.specs.Running.{code_size, CodeMayRun, CodeHasParts}
 use Rattle.machine_model.specs.Events.{StepsWith}
-use Rattle.machine_model.specs.Code.{size, HoldsCode, MayFetch, Stands, CodeIn, live, Steps, Runs}
+use Rattle.machine_model.specs.Code.{size, HoldsCode, MayFetch, Stands, CodeIn, live, StepsQuietly, Runs}
 
 -- one halfword stands below 0xE800, and the first of two from there on
 abbrev pub HasForm : Code → (size : ℕ) → Type 0
@@ -117,7 +117,7 @@ stepped j i c p t ram queues x h =
 
 -- ---- steps one after another
 
-pub steps_from : {j : PermissionTest} {i : Image} {s t : State} {u : Turn} → turn j i s ≡ u → u.to ≡ t → u.event ≡ None → Steps j i s t
+pub steps_from : {j : PermissionTest} {i : Image} {s t : State} {u : Turn} → turn j i s ≡ u → u.to ≡ t → u.event ≡ None → StepsQuietly j i s t
 steps_from e f g = record { leads = ap (λ u. u.to) e ∙ f; quiet = ap (λ u. u.event) e ∙ g }
 
 pub steps_with_from : {j : PermissionTest} {i : Image} {s t : State} {e : Event} {u : Turn} → turn j i s ≡ u → u.to ≡ t → u.event ≡ Some e → StepsWith j i s t e
@@ -127,7 +127,7 @@ pub stay : (j : PermissionTest) (i : Image) {s : State} → Runs j i 0 s s []
 stay j i = stay_run
 
 -- one more step in front
-pub next_step : {j : PermissionTest} {i : Image} {k : ℕ} {s t u : State} {es : List Event} → Steps j i s t → Runs j i k t u es → Runs j i (suc k) s u es
+pub next_step : {j : PermissionTest} {i : Image} {k : ℕ} {s t u : State} {es : List Event} → StepsQuietly j i s t → Runs j i k t u es → Runs j i (suc k) s u es
 next_step a g = next_run a.leads a.quiet g
 
 pub next_event : {j : PermissionTest} {i : Image} {k : ℕ} {s t u : State} {e : Event} {es : List Event} → StepsWith j i s t e → Runs j i k t u es → Runs j i (suc k) s u (e ∷ es)

@@ -7,7 +7,7 @@ use Rattle.machine_model.specs.declared.state.End.{End}
 use Rattle.machine_model.specs.State.{State, PermissionTest, by_mpu, calm}
 use Rattle.machine_model.specs.Step.{turn, running, step, event}
 use Rattle.machine_model.specs.Run.{start, after, events_after}
-use Rattle.machine_model.specs.Code.{next, told}
+use Rattle.machine_model.specs.Code.{next, event_of}
 
 -- ---- a machine that has ended
 
@@ -18,14 +18,14 @@ turn_ended j i s e ended = ap (λ o. running o j i s) ended
 pub next_ended : (j : PermissionTest) (i : Image) (s : State) (e : End) → s.ending ≡ Some e → next j i s ≡ s
 next_ended j i s e ended = ap (λ t. t.to) (turn_ended j i s e ended)
 
-pub told_ended : (j : PermissionTest) (i : Image) (s : State) (e : End) → s.ending ≡ Some e → told j i s ≡ None
+pub told_ended : (j : PermissionTest) (i : Image) (s : State) (e : End) → s.ending ≡ Some e → event_of j i s ≡ None
 told_ended j i s e ended = ap (λ t. t.event) (turn_ended j i s e ended)
 
 pub run_ended : (j : PermissionTest) (i : Image) (n : ℕ) (s : State) (e : End) → s.ending ≡ Some e → run (next j i) n s ≡ s
 run_ended j i n s e ended = run_still (next j i) n s (next_ended j i s e ended)
 
-pub events_ended : (j : PermissionTest) (i : Image) (n : ℕ) (s : State) (e : End) → s.ending ≡ Some e → events (next j i) (told j i) n s ≡ []
-events_ended j i n s e ended = events_still (next j i) (told j i) n s (next_ended j i s e ended) (told_ended j i s e ended)
+pub events_ended : (j : PermissionTest) (i : Image) (n : ℕ) (s : State) (e : End) → s.ending ≡ Some e → events (next j i) (event_of j i) n s ≡ []
+events_ended j i n s e ended = events_still (next j i) (event_of j i) n s (next_ended j i s e ended) (told_ended j i s e ended)
 
 -- ---- the machine from its start
 

@@ -21,7 +21,7 @@ use Rattle.machine_model.specs.Tests.{verdict, verdicts, all_open}
 use Rattle.machine_model.specs.Exceptions.{push_words}
 use Rattle.machine_model.specs.Perform.{perform, get_words, put_words}
 use Rattle.machine_model.specs.Stack.{Words, words_at, cut_words, AreWords, May}
-use Rattle.machine_model.specs.Code.{size, Stands, live, Steps}
+use Rattle.machine_model.specs.Code.{size, Stands, live, StepsQuietly}
 use Rattle.machine_model.proofs.Exec.{steps_from}
 use Rattle.machine_model.proofs.Acts.{turns}
 use Rattle.machine_model.proofs.StackWords.{behind, head_place}
@@ -112,7 +112,7 @@ cut_words-words (v ∷ vs) h =
 
 module _ (j : PermissionTest) (i : Image) (c : CoreRegisters) (p : ProtectionState) (t : FaultStatus) (ram : List ℕ) (queues : List (List ℕ)) (x : Instr) where
   pub stores_many : (a o : ℕ) (vs : List ℕ) (d : CoreRegisters) → Stands j i p c.pc x → act x (c.pc + size x) c ≡ StoresMany a vs d → Words i a o (length vs) → May j p Write a (length vs) →
-      Steps j i (live c p t ram queues) (live d p t (write_all 4 o vs ram) queues)
+      StepsQuietly j i (live c p t ram queues) (live d p t (write_all 4 o vs ram) queues)
   unfolding perform
   stores_many a o vs d h e w m =
       let v = words_verdict j i p Write (length vs) a o w m in
@@ -121,7 +121,7 @@ module _ (j : PermissionTest) (i : Image) (c : CoreRegisters) (p : ProtectionSta
 
   pub loads_many : (a o n : ℕ) (go : List ℕ → Option CoreRegisters) (d : CoreRegisters) → Stands j i p c.pc x → act x (c.pc + size x) c ≡ LoadsMany a n go → Words i a o n → May j p Read a n →
       go (words_at n o ram) ≡ Some d →
-      Steps j i (live c p t ram queues) (live d p t ram queues)
+      StepsQuietly j i (live c p t ram queues) (live d p t ram queues)
   unfolding perform
   loads_many a o n go d h e w m f =
       let v = words_verdict j i p Read n a o w m in

@@ -10,12 +10,12 @@ use Rattle.machine_model.specs.State.{State, PermissionTest}
 use Rattle.machine_model.specs.Act.{Exchanges}
 use Rattle.machine_model.specs.Instructions.{act}
 use Rattle.machine_model.specs.Exceptions.{frame_at, frame_of, entry_core, vector, supervisor_call, return_on_psp, return_on_msp, is_thread, flags_of, with_pad, unstacked}
-use Rattle.machine_model.specs.Code.{Stands, live, Steps}
+use Rattle.machine_model.specs.Code.{Stands, live, StepsQuietly}
 use Rattle.machine_model.specs.Stack.{Words, words_at, May, Frame}
 use Rattle.machine_model.specs.RunningCode.{Context, body, works}
 use Rattle.machine_model.proofs.Entries.{calls, returns_to_psp, returns_to_msp}
 
-pub steps_to : {j : PermissionTest} {i : Image} {s t u : State} → Steps j i s t → t ≡ u → Steps j i s u
+pub steps_to : {j : PermissionTest} {i : Image} {s t u : State} → StepsQuietly j i s t → t ≡ u → StepsQuietly j i s u
 steps_to a e = record { leads = a.leads ∙ e; quiet = a.quiet }
 
 module _ (j : PermissionTest) (i : Image) (x : Context) (low : List ℕ) (sp lr pc : ℕ) (f : Flags) (ram : List ℕ) (queues : List (List ℕ)) where
@@ -29,7 +29,7 @@ module _ (j : PermissionTest) (i : Image) (x : Context) (low : List ℕ) (sp lr 
 
   -- SVC of a thread on PSP, and on MSP
   pub svc_from_psp : (n o : ℕ) → x.on_psp ≡ true → x.protection.handler ≡ false → Frame j i x.protection sp o → Stands j i x.protection pc (CallBranch 0 n (pos 0)) →
-      Steps j i (works x low sp lr pc f ram queues)
+      StepsQuietly j i (works x low sp lr pc f ram queues)
       (works (record x { other_sp = frame_at sp; on_psp = false; protection = record x.protection { handler = true } }) low x.other_sp return_on_psp (vector i supervisor_call) f
       (write_all 4 o (frame_of (body x low sp lr pc f) (pc + 2)) ram) queues)
   unfolding act
@@ -38,7 +38,7 @@ module _ (j : PermissionTest) (i : Image) (x : Context) (low : List ℕ) (sp lr 
       (ap (λ c. live c (record x.protection { handler = true }) x.status (write_all 4 o (frame_of (body x low sp lr pc f) (pc + 2)) ram) queues) (entry_from_psp supervisor_call m))
 
   pub svc_from_msp : (n o : ℕ) → x.on_psp ≡ false → x.protection.handler ≡ false → Frame j i x.protection sp o → Stands j i x.protection pc (CallBranch 0 n (pos 0)) →
-      Steps j i (works x low sp lr pc f ram queues)
+      StepsQuietly j i (works x low sp lr pc f ram queues)
       (works (record x { on_psp = false; protection = record x.protection { handler = true } }) low (frame_at sp) return_on_msp (vector i supervisor_call) f
       (write_all 4 o (frame_of (body x low sp lr pc f) (pc + 2)) ram) queues)
   unfolding act
@@ -49,7 +49,7 @@ module _ (j : PermissionTest) (i : Image) (x : Context) (low : List ℕ) (sp lr 
   -- BX lr of a handler, by the words of the frame
   pub bx_to_psp : (o a b c d e link ret status : ℕ) → lr ≡ return_on_psp → x.protection.handler ≡ true → Words i x.other_sp o 8 → May j (record x.protection { handler = false }) Read x.other_sp 8 →
       words_at 8 o ram ≡ a ∷ b ∷ c ∷ d ∷ e ∷ link ∷ ret ∷ status ∷ [] → is_thread status ≡ true → Stands j i x.protection pc (BranchExchange 0 14) →
-      Steps j i (works x low sp lr pc f ram queues)
+      StepsQuietly j i (works x low sp lr pc f ram queues)
       (works (record x { high = set x.high 4 e; other_sp = sp; on_psp = true; protection = record x.protection { handler = false } }) (set (set (set (set low 0 a) 1 b) 2 c) 3 d)
       (with_pad (nat_eq (status / 2 ^ 9 % 2) 1) (word (x.other_sp + 32))) link (ret / 2 * 2) (flags_of status) ram queues)
   unfolding act
@@ -59,7 +59,7 @@ module _ (j : PermissionTest) (i : Image) (x : Context) (low : List ℕ) (sp lr 
 
   pub bx_to_msp : (o a b c d e link ret status : ℕ) → lr ≡ return_on_msp → x.protection.handler ≡ true → Words i sp o 8 → May j (record x.protection { handler = false }) Read sp 8 →
       words_at 8 o ram ≡ a ∷ b ∷ c ∷ d ∷ e ∷ link ∷ ret ∷ status ∷ [] → is_thread status ≡ true → Stands j i x.protection pc (BranchExchange 0 14) →
-      Steps j i (works x low sp lr pc f ram queues)
+      StepsQuietly j i (works x low sp lr pc f ram queues)
       (works (record x { high = set x.high 4 e; on_psp = false; protection = record x.protection { handler = false } }) (set (set (set (set low 0 a) 1 b) 2 c) 3 d)
       (with_pad (nat_eq (status / 2 ^ 9 % 2) 1) (word (sp + 32))) link (ret / 2 * 2) (flags_of status) ram queues)
   unfolding act

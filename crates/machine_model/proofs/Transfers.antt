@@ -19,7 +19,7 @@ use Rattle.machine_model.specs.Instructions.{act, listed}
 use Rattle.machine_model.specs.declared.answers.Verdict.TheVariants.{ToBus}
 use Rattle.machine_model.specs.Tests.{verdict}
 use Rattle.machine_model.specs.Perform.{perform}
-use Rattle.machine_model.specs.Code.{size, Stands, live, Steps}
+use Rattle.machine_model.specs.Code.{size, Stands, live, StepsQuietly}
 use Rattle.machine_model.specs.Stack.{Words, words_at, May, Room}
 use Rattle.machine_model.specs.Events.{StepsWith, input_event, output_event, ended}
 use Rattle.machine_model.specs.RunningCode.{Context, body, works, IsLoad, IsStore}
@@ -73,14 +73,14 @@ not_return false v n h = refl
 not_return true v n h = search (nat_tests, arith)
 
 module _ (j : PermissionTest) (i : Image) (x : Context) (low : List ℕ) (sp lr pc : ℕ) (f : Flags) (ram : List ℕ) (queues : List (List ℕ)) where
-  by_change : (y : Instr) (d : CoreRegisters) → act y (pc + size y) (body x low sp lr pc f) ≡ Changes d → Stands j i x.protection pc y → Steps j i (works x low sp lr pc f ram queues) (live d x.protection x.status ram queues)
+  by_change : (y : Instr) (d : CoreRegisters) → act y (pc + size y) (body x low sp lr pc f) ≡ Changes d → Stands j i x.protection pc y → StepsQuietly j i (works x low sp lr pc f ram queues) (live d x.protection x.status ram queues)
   by_change y d e st = changes j i (body x low sp lr pc f) x.protection x.status ram queues y d st e
 
   -- ---- the stack
 
   -- LDR t, [sp, #4 k] and STR
   pub ldr_sp : (t k o n : ℕ) → Room j i x.protection sp o n → k < n → Stands j i x.protection pc (StackRelative 1 t 0 k) →
-      Steps j i (works x low sp lr pc f ram queues) (works x (set low t (read 4 (o + 4 * k) ram)) sp lr (pc + 2) f ram queues)
+      StepsQuietly j i (works x low sp lr pc f ram queues) (works x (set low t (read 4 (o + 4 * k) ram)) sp lr (pc + 2) f ram queues)
   unfolding act
   ldr_sp t k o n r h st =
       let v = pushed_verdict j i x.protection Read sp o n k r.words r.reads h in
@@ -88,7 +88,7 @@ module _ (j : PermissionTest) (i : Image) (x : Context) (low : List ℕ) (sp lr 
       loads_ram j i (body x low sp lr pc f) x.protection x.status ram queues (StackRelative 1 t 0 k) 4 (word (sp + 4 * k)) (o + 4 * k) (λ u. body x (set low t u) sp lr (pc + 2) f) st refl v l
 
   pub str_sp : (t k o n : ℕ) → Room j i x.protection sp o n → k < n → Stands j i x.protection pc (StackRelative 0 t 0 k) →
-      Steps j i (works x low sp lr pc f ram queues) (works x low sp lr (pc + 2) f (write 4 (o + 4 * k) (get_or low t 0) ram) queues)
+      StepsQuietly j i (works x low sp lr pc f ram queues) (works x low sp lr (pc + 2) f (write 4 (o + 4 * k) (get_or low t 0) ram) queues)
   unfolding act
   str_sp t k o n r h st =
       let v = pushed_verdict j i x.protection Write sp o n k r.words r.writes h in
@@ -97,7 +97,7 @@ module _ (j : PermissionTest) (i : Image) (x : Context) (low : List ℕ) (sp lr 
 
   -- ADD d, sp, #4 k
   pub add_d_sp : (d k : ℕ) → sp + 4 * k < 2 ^ 32 → Stands j i x.protection pc (StackRelative 2 0 d k) →
-      Steps j i (works x low sp lr pc f ram queues) (works x (set low d (sp + 4 * k)) sp lr (pc + 2) f ram queues)
+      StepsQuietly j i (works x low sp lr pc f ram queues) (works x (set low d (sp + 4 * k)) sp lr (pc + 2) f ram queues)
   unfolding act
   add_d_sp d k h st =
       let e : word (sp + 4 * k) ≡ sp + 4 * k = omega arith in
@@ -105,14 +105,14 @@ module _ (j : PermissionTest) (i : Image) (x : Context) (low : List ℕ) (sp lr 
 
   -- ADD sp, #4 k and SUB
   pub add_sp : (k : ℕ) → sp + 4 * k < 2 ^ 32 → Stands j i x.protection pc (AdjustStack 0 k) →
-      Steps j i (works x low sp lr pc f ram queues) (works x low (sp + 4 * k) lr (pc + 2) f ram queues)
+      StepsQuietly j i (works x low sp lr pc f ram queues) (works x low (sp + 4 * k) lr (pc + 2) f ram queues)
   unfolding act
   add_sp k h st =
       let e : word (sp + 4 * k) ≡ sp + 4 * k = omega arith in
       by_change (AdjustStack 0 k) (body x low (sp + 4 * k) lr (pc + 2) f) (rw e refl) st
 
   pub sub_sp : (k to : ℕ) → to + 4 * k ≡ sp → sp < 2 ^ 32 → Stands j i x.protection pc (AdjustStack 1 k) →
-      Steps j i (works x low sp lr pc f ram queues) (works x low to lr (pc + 2) f ram queues)
+      StepsQuietly j i (works x low sp lr pc f ram queues) (works x low to lr (pc + 2) f ram queues)
   unfolding act
   sub_sp k to is h st =
       let e : word (sp + 2 ^ 32 - 4 * k) ≡ to = omega arith in
@@ -120,7 +120,7 @@ module _ (j : PermissionTest) (i : Image) (x : Context) (low : List ℕ) (sp lr 
 
   -- PUSH {lr} and POP {pc}
   pub push_lr : (to o : ℕ) → to + 4 ≡ sp → Room j i x.protection to o 1 → Stands j i x.protection pc (PushPop 0 1 0 0) →
-      Steps j i (works x low sp lr pc f ram queues) (works x low to lr (pc + 2) f (write 4 o lr ram) queues)
+      StepsQuietly j i (works x low sp lr pc f ram queues) (works x low to lr (pc + 2) f (write 4 o lr ram) queues)
   unfolding act listed write_all
   push_lr to o is r st =
       let w = r.words in
@@ -128,7 +128,7 @@ module _ (j : PermissionTest) (i : Image) (x : Context) (low : List ℕ) (sp lr 
       stores_many j i (body x low sp lr pc f) x.protection x.status ram queues (PushPop 0 1 0 0) to o (lr ∷ []) (body x low to lr (pc + 2) f) st (rw e refl) r.words r.writes
 
   pub pop_pc : (o to : ℕ) → Room j i x.protection sp o 1 → read 4 o ram ≡ to + 1 → to % 2 ≡ 0 → Stands j i x.protection pc (PushPop 1 0 1 0) →
-      Steps j i (works x low sp lr pc f ram queues) (works x low (sp + 4) lr to f ram queues)
+      StepsQuietly j i (works x low sp lr pc f ram queues) (works x low (sp + 4) lr to f ram queues)
   unfolding act listed words_at
   pop_pc o to r is even st =
       let w = r.words in
@@ -140,14 +140,14 @@ module _ (j : PermissionTest) (i : Image) (x : Context) (low : List ℕ) (sp lr 
   -- ---- LDR, LDRH and LDRB t, [n, #w k]
 
   pub load_ram : (op w k n t a o : ℕ) → IsLoad op w → word (get_or low n 0 + w * k) ≡ a → a % w ≡ 0 → a < 0xE0000000 → j x.protection Read a ≡ true → place i a ≡ InRam o → Stands j i x.protection pc (TransferImmediate op k n t) →
-      Steps j i (works x low sp lr pc f ram queues) (works x (set low t (read w o ram)) sp lr (pc + 2) f ram queues)
+      StepsQuietly j i (works x low sp lr pc f ram queues) (works x (set low t (read w o ram)) sp lr (pc + 2) f ram queues)
   unfolding act
   load_ram op w k n t a o is at aligned below may l st =
       let e = is k (get_or low n 0) t (pc + 2) (body x low sp lr pc f) in
       loads_ram j i (body x low sp lr pc f) x.protection x.status ram queues (TransferImmediate op k n t) w a o (λ u. body x (set low t u) sp lr (pc + 2) f) st (rw (e, at) refl) (to_bus j x.protection Read w a aligned below may) l
 
   pub load_flash : (op w k n t a o : ℕ) → IsLoad op w → word (get_or low n 0 + w * k) ≡ a → a % w ≡ 0 → a < 0xE0000000 → j x.protection Read a ≡ true → place i a ≡ InFlash o → Stands j i x.protection pc (TransferImmediate op k n t) →
-      Steps j i (works x low sp lr pc f ram queues) (works x (set low t (read w o i.flash)) sp lr (pc + 2) f ram queues)
+      StepsQuietly j i (works x low sp lr pc f ram queues) (works x (set low t (read w o i.flash)) sp lr (pc + 2) f ram queues)
   unfolding act
   load_flash op w k n t a o is at aligned below may l st =
       let e = is k (get_or low n 0) t (pc + 2) (body x low sp lr pc f) in
@@ -162,7 +162,7 @@ module _ (j : PermissionTest) (i : Image) (x : Context) (low : List ℕ) (sp lr 
       loads_window j i (body x low sp lr pc f) x.protection x.status ram queues (TransferImmediate op k n t) w a q o u us (λ u. body x (set low t u) sp lr (pc + 2) f) st (rw (e, at) refl) (to_bus j x.protection Read w a aligned below may) l some
 
   pub load_nothing : (op w k n t a q o : ℕ) → IsLoad op w → word (get_or low n 0 + w * k) ≡ a → a % w ≡ 0 → a < 0xE0000000 → j x.protection Read a ≡ true → place i a ≡ InWindow q o → get_or queues q [] ≡ [] → Stands j i x.protection pc (TransferImmediate op k n t) →
-      Steps j i (works x low sp lr pc f ram queues) (ended InputEnd (works x low sp lr pc f ram queues))
+      StepsQuietly j i (works x low sp lr pc f ram queues) (ended InputEnd (works x low sp lr pc f ram queues))
   unfolding act
   load_nothing op w k n t a q o is at aligned below may l none st =
       let e = is k (get_or low n 0) t (pc + 2) (body x low sp lr pc f) in
@@ -170,7 +170,7 @@ module _ (j : PermissionTest) (i : Image) (x : Context) (low : List ℕ) (sp lr 
 
   -- LDR t, [pc, #4 k]
   pub ldr_literal : (k t a o : ℕ) → word ((pc + 4) / 4 * 4 + 4 * k) ≡ a → a % 4 ≡ 0 → a < 0xE0000000 → j x.protection Read a ≡ true → place i a ≡ InFlash o → Stands j i x.protection pc (LoadLiteral t k) →
-      Steps j i (works x low sp lr pc f ram queues) (works x (set low t (read 4 o i.flash)) sp lr (pc + 2) f ram queues)
+      StepsQuietly j i (works x low sp lr pc f ram queues) (works x (set low t (read 4 o i.flash)) sp lr (pc + 2) f ram queues)
   unfolding act
   ldr_literal k t a o at aligned below may l st =
       let z : pc + 2 + 2 ≡ pc + 4 = omega arith in
@@ -179,7 +179,7 @@ module _ (j : PermissionTest) (i : Image) (x : Context) (low : List ℕ) (sp lr 
   -- ---- STR, STRH and STRB t, [n, #w k]
 
   pub store_ram : (op w k n t a o : ℕ) → IsStore op w → word (get_or low n 0 + w * k) ≡ a → a % w ≡ 0 → a < 0xE0000000 → j x.protection Write a ≡ true → place i a ≡ InRam o → Stands j i x.protection pc (TransferImmediate op k n t) →
-      Steps j i (works x low sp lr pc f ram queues) (works x low sp lr (pc + 2) f (write w o (get_or low t 0) ram) queues)
+      StepsQuietly j i (works x low sp lr pc f ram queues) (works x low sp lr (pc + 2) f (write w o (get_or low t 0) ram) queues)
   unfolding act
   store_ram op w k n t a o is at aligned below may l st =
       let e = is k (get_or low n 0) t (pc + 2) (body x low sp lr pc f) in
@@ -196,7 +196,7 @@ module _ (j : PermissionTest) (i : Image) (x : Context) (low : List ℕ) (sp lr 
 
   -- BLX r12
   pub blx_r12 : (to : ℕ) → get_or x.high 4 0 ≡ to + 1 → to % 2 ≡ 0 → Stands j i x.protection pc (BranchExchange 1 12) →
-      Steps j i (works x low sp lr pc f ram queues) (works x low sp (pc + 2 + 1) to f ram queues)
+      StepsQuietly j i (works x low sp lr pc f ram queues) (works x low sp (pc + 2 + 1) to f ram queues)
   unfolding act
   blx_r12 to is even st =
       let odd : nat_eq ((to + 1) % 2) 1 ≡ true = search (nat_tests, arith) in
@@ -205,7 +205,7 @@ module _ (j : PermissionTest) (i : Image) (x : Context) (low : List ℕ) (sp lr 
 
   -- BX lr that is no exception return
   pub bx_lr : (to : ℕ) → lr ≡ to + 1 → to % 2 ≡ 0 → to < 0xFFFFFFF0 → Stands j i x.protection pc (BranchExchange 0 14) →
-      Steps j i (works x low sp lr pc f ram queues) (works x low sp lr to f ram queues)
+      StepsQuietly j i (works x low sp lr pc f ram queues) (works x low sp lr to f ram queues)
   unfolding act perform
   bx_lr to is even below st =
       let a = not_return x.protection.handler (to + 1) 0xFFFFFFFD (omega arith) in

@@ -69,14 +69,14 @@ live c p t ram queues = record { core = c; protection = p; status = t; ram = ram
 abbrev pub next : PermissionTest → Image → State → State
 next j i s = (turn j i s).to
 
-abbrev pub told : PermissionTest → Image → State → Option Event
-told j i s = (turn j i s).event
+abbrev pub event_of : PermissionTest → Image → State → Option Event
+event_of j i s = (turn j i s).event
 
 -- one step without an event
-pub record Steps (j : PermissionTest) (i : Image) (s t : State) : Type 0 where
+pub record StepsQuietly (j : PermissionTest) (i : Image) (s t : State) : Type 0 where
   pub leads : next j i s ≡ t
-  pub quiet : told j i s ≡ None
+  pub quiet : event_of j i s ≡ None
 
 -- k steps with these events
 abbrev pub Runs : PermissionTest → Image → (count : ℕ) → State → State → List Event → Type 0
-Runs j i k s t es = Goes (next j i) (told j i) k s t es
+Runs j i k s t es = Goes (next j i) (event_of j i) k s t es

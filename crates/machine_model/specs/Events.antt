@@ -7,12 +7,12 @@ use Rattle.base_events.specs.declared.event.Event.{Event}
 use Rattle.machine_model.specs.declared.state.End.{End}
 use Rattle.machine_model.specs.State.{State, PermissionTest}
 use Rattle.machine_bus.specs.Memory.{compartment_of}
-use Rattle.machine_model.specs.Code.{next, told}
+use Rattle.machine_model.specs.Code.{next, event_of}
 
 -- one step with this event
 pub record StepsWith (j : PermissionTest) (i : Image) (s t : State) (e : Event) : Type 0 where
   pub leads : next j i s ≡ t
-  pub tells : told j i s ≡ Some e
+  pub tells : event_of j i s ≡ Some e
 
 -- of a load whose word was this, and of a store of this value
 abbrev pub input_event : Image → (ram : List ℕ) → (periph offset width value : ℕ) → Event

@@ -23,7 +23,7 @@ use Rattle.machine_model.specs.System.{read_system, write_status}
 use Rattle.machine_model.specs.declared.answers.Verdict.TheVariants.{ToSystem}
 use Rattle.machine_model.specs.Tests.{verdict}
 use Rattle.machine_model.specs.Exceptions.{frame_at, frame_of, vector, supervisor_call, return_on_psp, return_on_msp, is_thread, flags_of, with_pad}
-use Rattle.machine_model.specs.Code.{Stands, Steps, Runs}
+use Rattle.machine_model.specs.Code.{Stands, StepsQuietly, Runs}
 use Rattle.machine_model.specs.Stack.{Words, words_at, May, Room, Frame}
 use Rattle.machine_model.specs.Events.{StepsWith, input_event, output_event, ended}
 use Rattle.machine_model.specs.RunningCode.{Context, body, works, IsLoad, IsStore}
@@ -31,7 +31,7 @@ use Rattle.machine_model.specs.RunningCode.{Context, body, works, IsLoad, IsStor
 module _ (j : PermissionTest) (i : Image) (x : Context) (low : List ℕ) (sp lr pc : ℕ) (f : Flags) (ram : List ℕ) (queues : List (List ℕ)) where
   -- an instruction that stands at the program counter leads there, without an event or with this one
   abbrev pub Makes : Instr → State → Type 0
-  Makes y t = Stands j i x.protection pc y → Steps j i (works x low sp lr pc f ram queues) t
+  Makes y t = Stands j i x.protection pc y → StepsQuietly j i (works x low sp lr pc f ram queues) t
 
   abbrev pub Tells : Instr → Event → State → Type 0
   Tells y e t = Stands j i x.protection pc y → StepsWith j i (works x low sp lr pc f ram queues) t e

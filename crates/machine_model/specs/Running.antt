@@ -21,7 +21,7 @@ use Rattle.machine_model.specs.Tests.{verdict, verdicts}
 use Rattle.machine_model.specs.Exceptions.{frame_of, entry_core, is_fault_enabled, supervisor_call, mem_manage, return_on_psp, return_on_msp, is_thread, unstacked, fetch_status, data_status}
 use Rattle.machine_model.specs.Perform.{perform}
 use Rattle.machine_model.specs.Step.{turn}
-use Rattle.machine_model.specs.Code.{size, Stands, CodeIn, CodeAt, live, Steps, Runs}
+use Rattle.machine_model.specs.Code.{size, Stands, CodeIn, CodeAt, live, StepsQuietly, Runs}
 use Rattle.machine_model.specs.Stack.{Words, words_at, May, Frame}
 use Rattle.machine_model.specs.Events.{StepsWith, input_event, output_event, ended}
 
@@ -62,14 +62,14 @@ SizesAreEven = (xs : List Instr) → code_size xs % 2 ≡ 0
 
 -- a step in front of a run, and a run behind a run
 pub record RunsGoOn (j : PermissionTest) (i : Image) : Type 0 where
-  pub next_step : (k : ℕ) (s t u : State) (es : List Event) → Steps j i s t → Runs j i k t u es → Runs j i (suc k) s u es
+  pub next_step : (k : ℕ) (s t u : State) (es : List Event) → StepsQuietly j i s t → Runs j i k t u es → Runs j i (suc k) s u es
   pub next_event : (k : ℕ) (s t u : State) (e : Event) (es : List Event) → StepsWith j i s t e → Runs j i k t u es → Runs j i (suc k) s u (e ∷ es)
   pub onward : (m k : ℕ) (s t u : State) (xs ys : List Event) → Runs j i m s t xs → Runs j i k t u ys → Runs j i (m + k) s u (xs ++ ys)
 
 module _ (j : PermissionTest) (i : Image) (c : CoreRegisters) (p : ProtectionState) (t : FaultStatus) (ram : List ℕ) (queues : List (List ℕ)) (x : Instr) where
   -- where the instruction stands at the program counter, the step leads there
   abbrev pub LeadsTo : State → Type 0
-  LeadsTo s = Stands j i p c.pc x → Steps j i (live c p t ram queues) s
+  LeadsTo s = Stands j i p c.pc x → StepsQuietly j i (live c p t ram queues) s
 
   abbrev pub LeadsWith : Event → State → Type 0
   LeadsWith e s = Stands j i p c.pc x → StepsWith j i (live c p t ram queues) s e
@@ -113,7 +113,7 @@ module _ (j : PermissionTest) (i : Image) (c : CoreRegisters) (p : ProtectionSta
         LeadsTo (live (entry_core i mem_manage c) (record p { handler = true }) (data_status y t) (write_all 4 o (frame_of c c.pc) ram) queues)
     -- a fetch that is refused, whatever stands there
     pub faults_fetch : (o : ℕ) → j p Fetch c.pc ≡ false → p.handler ≡ false → is_fault_enabled t ≡ true → Frame j i p c.sp o →
-        Steps j i (live c p t ram queues)
+        StepsQuietly j i (live c p t ram queues)
         (live (entry_core i mem_manage c) (record p { handler = true }) (fetch_status t) (write_all 4 o (frame_of c c.pc) ram) queues)
     pub returns_to_psp : (o : ℕ) → act x (c.pc + size x) c ≡ Exchanges return_on_psp → p.handler ≡ true → Words i c.other_sp o 8 → May j (record p { handler = false }) Read c.other_sp 8 →
         is_thread (get_or (words_at 8 o ram) 7 0) ≡ true → LeadsTo (live (unstacked true c c.other_sp (words_at 8 o ram)) (record p { handler = false }) t ram queues)

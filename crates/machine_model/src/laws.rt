@@ -7,7 +7,7 @@ ghost use Rattle.machine_model.specs.declared.state.End.{End};
 ghost use Rattle.machine_model.specs.State.{State, PermissionTest, calm};
 ghost use Rattle.machine_model.specs.Step.{turn, step, event};
 ghost use Rattle.machine_model.specs.Run.{after, events_after};
-ghost use Rattle.machine_model.specs.Code.{next, told};
+ghost use Rattle.machine_model.specs.Code.{next, event_of};
 ghost use Rattle.machine_model.specs.Ends.{StepsEndOrGoOn};
 ghost use Rattle.machine_model.specs.AccessLaw.{AllowedStepsAreFree};
 ghost use Rattle.machine_model.specs.Locality.{StepsReadWhatTheyList};
@@ -21,7 +21,7 @@ pub fn ended_machines()
     ensures run { (j : PermissionTest) (i : Image) (n : ℕ) (s : State) (e : End) →
         s.ending ≡ Some e → run (next j i) n s ≡ s }
     ensures events { (j : PermissionTest) (i : Image) (n : ℕ) (s : State) (e : End) →
-        s.ending ≡ Some e → events (next j i) (told j i) n s ≡ [] }
+        s.ending ≡ Some e → events (next j i) (event_of j i) n s ≡ [] }
 {}
 
 /// A step that ends the machine does nothing else: the state is the same but for the end, which is the machine's own,

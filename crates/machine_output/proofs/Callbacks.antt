@@ -12,7 +12,7 @@ use Rattle.machine_model.specs.declared.state.End.{End}
 use Rattle.machine_model.specs.declared.state.End.TheVariants.{Halt, InputEnd, Limit, Stop, Refused}
 use Rattle.machine_model.specs.State.{State}
 use Rattle.machine_model.specs.Step.{step, event}
-use Rattle.machine_emulator.specs.Machine.{MachineState, Accepts, AcceptsAll, IsRun, Says}
+use Rattle.machine_emulator.specs.Machine.{MachineState, Accepts, AcceptsAll, IsRun, IsEndOf}
 use Rattle.machine_model.specs.Confinement.{EventsAreListed}
 use Rattle.machine_lines.specs.Lines.{event_line}
 use Rattle.machine_output.specs.Runs.{event_lines, end_of, HasLine}
@@ -93,7 +93,7 @@ module _ {G O : Type 0} (of : sinks.Ghosts O) (out : G → O) (name : G → ℕ)
             subst (λ m. Printed f (event_lines i m s) g) all (lines_put r.steps g a),
           )
 
-      all_by : (d : End) → d ≢ Refused → Says calls old.image n r.steps old.state new.state f g d
+      all_by : (d : End) → d ≢ Refused → IsEndOf calls old.image n r.steps old.state new.state f g d
           → (d ≡ end_of old.image n old.state) × Printed f (event_lines old.image n old.state) g
       all_by (Halt c) other h = ended (Halt c) h.0 h.1
       all_by InputEnd other h = ended InputEnd h.0 h.1
@@ -101,7 +101,7 @@ module _ {G O : Type 0} (of : sinks.Ghosts O) (out : G → O) (name : G → ℕ)
       all_by (Stop q a) other h = ended (Stop q a) h.0 h.1
       all_by Refused other h = absurd (other refl)
 
-      part_by : Says calls old.image n r.steps old.state new.state f g Refused
+      part_by : IsEndOf calls old.image n r.steps old.state new.state f g Refused
           → (name g ≡ name f) × Rose (of.faults (out f)) (of.faults (out g))
           × (IsTrue of.told → AddsPrefix (of.written (out f)) (of.written (out g)) (event_lines old.image n old.state))
       part_by h =
@@ -130,4 +130,4 @@ module _ {G O : Type 0} (of : sinks.Ghosts O) (out : G → O) (name : G → ℕ)
       pub printed_part : e ≡ Refused
           → (name g ≡ name f) × Rose (of.faults (out f)) (of.faults (out g))
           × (IsTrue of.told → AddsPrefix (of.written (out f)) (of.written (out g)) (event_lines old.image n old.state))
-      printed_part refused = part_by (subst (λ d. Says calls old.image n r.steps old.state new.state f g d) refused r.says)
+      printed_part refused = part_by (subst (λ d. IsEndOf calls old.image n r.steps old.state new.state f g d) refused r.says)

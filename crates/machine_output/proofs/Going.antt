@@ -16,7 +16,7 @@ use Rattle.machine_model.specs.Step.{step, event}
 use Rattle.machine_watch.specs.declared.session.Pause.{Pause}
 use Rattle.machine_watch.specs.declared.session.Pause.TheVariants.{Hit, Ended}
 use Rattle.machine_watch.specs.Sessions.{SessionState}
-use Rattle.machine_watch.specs.Watched.{MissesAll, Says}
+use Rattle.machine_watch.specs.Watched.{MissesAll, IsPauseOf}
 use Rattle.machine_lines.specs.Lines.{event_line}
 use Rattle.base_outside.specs.Sinks.{SinkState, Puts}
 use Rattle.machine_output.specs.Runs.{event_lines}
@@ -70,7 +70,7 @@ module _ (answers : Event → Bool → Type 0) (i : Image) (s : State) (old : Si
         ∙ append_assoc old.written (event_lines i k s) (told_line i.windows (event i t)) ∙ ap (λ x. old.written ++ x) (sym line)
 
     -- the run goes on behind the step
-    pub going_more : now.told ≡ old.told → Puts now later (told_line i.windows (event i t)) true → Says answers i 1 1 t (step i t) (Ended Limit)
+    pub going_more : now.told ≡ old.told → Puts now later (told_line i.windows (event i t)) true → IsPauseOf answers i 1 1 t (step i t) (Ended Limit)
         → IsGoing answers i s old (k + 1) (step i t) later
     going_more same p h = record {
       leads = next;
@@ -81,7 +81,7 @@ module _ (answers : Event → Bool → Type 0) (i : Image) (s : State) (old : Si
     }
 
     -- what a pause says of the step it says of the run
-    says_all : (p : Pause) → p ≢ Ended Limit → Says answers i 1 1 t (step i t) p → Says answers i limit (k + 1) s (run (step i) (k + 1) s) p
+    says_all : (p : Pause) → p ≢ Ended Limit → IsPauseOf answers i 1 1 t (step i t) p → IsPauseOf answers i limit (k + 1) s (run (step i) (k + 1) s) p
     says_all (Hit e) other h =
         let l = h.last in
         let first : h.before ≡ 0 = omega arith in
@@ -100,7 +100,7 @@ module _ (answers : Event → Bool → Type 0) (i : Image) (s : State) (old : Si
 
     -- it pauses behind the step
     pub paused : (p : Pause) → p ≢ Ended Limit → k < limit → now.told ≡ old.told → Puts now later (told_line i.windows (event i t)) true
-        → Says answers i 1 1 t (step i t) p → IsPrinted answers i limit s old later p
+        → IsPauseOf answers i 1 1 t (step i t) p → IsPrinted answers i limit s old later p
     paused p other few same put h = record { steps = k + 1; few = omega arith; says = says_all p other h; faults = put.0 ∙ g.faults; added = added same put }
 
     -- the step's line was not put
@@ -131,10 +131,10 @@ module _ (answers : Event → Bool → Type 0) (i : Image) (s : State) (old : Si
 
 pub stepped_says : {F : Type 0} (answers : F → Event → Bool → Type 0) (i : Image) (callback : F) (here later : SessionState F) (told : Option Event) (p : Pause)
     → here.callback ≡ callback → here.machine.image ≡ i → IsStepped (answers here.callback) here later told p
-    → Says (answers callback) i 1 1 here.machine.state (step i here.machine.state) p
+    → IsPauseOf (answers callback) i 1 1 here.machine.state (step i here.machine.state) p
 stepped_says answers i callback here later told p same image w =
-    subst (λ j. Says (answers callback) j 1 1 here.machine.state (step j here.machine.state) p) image
-    (subst (λ f. Says (answers f) here.machine.image 1 1 here.machine.state (step here.machine.image here.machine.state) p) same w.says)
+    subst (λ j. IsPauseOf (answers callback) j 1 1 here.machine.state (step j here.machine.state) p) image
+    (subst (λ f. IsPauseOf (answers f) here.machine.image 1 1 here.machine.state (step here.machine.image here.machine.state) p) same w.says)
 
 pub stepped_puts : {F : Type 0} (answers : Event → Bool → Type 0) (i : Image) (windows : List Window) (here after : SessionState F) (told : Option Event) (p : Pause) (now later : SinkState) (put : Bool)
     → windows ≡ i.windows → here.machine.image ≡ i → IsStepped answers here after told p → Puts now later (told_line windows told) put

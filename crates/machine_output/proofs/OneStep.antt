@@ -13,7 +13,7 @@ use Rattle.machine_model.specs.Step.{step, event}
 use Rattle.machine_watch.specs.declared.session.Pause.{Pause}
 use Rattle.machine_watch.specs.declared.session.Pause.TheVariants.{Hit, Ended}
 use Rattle.machine_watch.specs.Sessions.{SessionState}
-use Rattle.machine_watch.specs.Watched.{Says, IsWatched}
+use Rattle.machine_watch.specs.Watched.{IsPauseOf, IsWatched}
 use Rattle.machine_output.specs.Watching.{IsStepped}
 
 -- no step of a machine that goes on leads to no end
@@ -21,7 +21,7 @@ none_ends : (i : Image) (s t : State) (e : End) → s.ending ≡ None → t.endi
 none_ends i s t e on end leads = let wrong : None ≡ Some e = sym on ∙ (ap (λ (x : State). x.ending) (sym (run_none (step i) s) ∙ leads) ∙ end) in cc
 
 -- a pause says that the step was made
-made : (answers : Event → Bool → Type 0) (i : Image) (n : ℕ) (s t : State) (p : Pause) → n ≤ 1 → s.ending ≡ None → run (step i) n s ≡ t → Says answers i 1 n s t p → n ≡ 1
+made : (answers : Event → Bool → Type 0) (i : Image) (n : ℕ) (s t : State) (p : Pause) → n ≤ 1 → s.ending ≡ None → run (step i) n s ≡ t → IsPauseOf answers i 1 n s t p → n ≡ 1
 made answers i (suc n) s t p few on leads h = omega arith
 made answers i zero s t (Hit e) few on leads h = let l = h.last in omega arith
 made answers i zero s t (Ended (Halt c)) few on leads h = absurd (none_ends i s t (Halt c) on h.0 leads)
@@ -50,7 +50,7 @@ once_stepped answers calls old new f g p w kept keeps on fresh =
       taken = w.piece.counted ∙ ap (λ n. old.taken + n) one;
       callback = w.same_callback;
       is_told = kept_of calls kept keeps (event i s) f g fresh (subst (λ es. FoldsTo calls f es g) (events_one (step i) (event i) s) given);
-      says = subst (λ t. Says answers i 1 1 s t p) state (subst (λ n. Says answers i 1 n s new.machine.state p) one w.says);
+      says = subst (λ t. IsPauseOf answers i 1 1 s t p) state (subst (λ n. IsPauseOf answers i 1 n s new.machine.state p) one w.says);
     }
 
 -- what no call changes

@@ -15,7 +15,7 @@ use Rattle.machine_model.specs.State.{State}
 use Rattle.machine_model.specs.Step.{step, event}
 use Rattle.machine_watch.specs.declared.session.Pause.{Pause}
 use Rattle.machine_watch.specs.declared.session.Pause.TheVariants.{Hit, Ended}
-use Rattle.machine_watch.specs.Watched.{MissesAll, HitsLast, Says}
+use Rattle.machine_watch.specs.Watched.{MissesAll, HitsLast, IsPauseOf}
 use Rattle.machine_lines.specs.Lines.{end_line, watch_line}
 use Rattle.base_outside.specs.Sinks.{SinkState, Puts}
 use Rattle.machine_output.specs.Runs.{end_of, event_lines, run_lines, end_status}
@@ -113,7 +113,7 @@ module _ (i : Image) (a : ℕ) (s : State) where
         (missed (misses_later k e few end m)))
 
     -- which run it is
-    run_of : (k : ℕ) (p : Pause) → k ≤ limit → Says at i limit k s (run (step i) k s) p → WatchedRun i a limit s (pause_status p) (event_lines i k s ++ pause_line a p)
+    run_of : (k : ℕ) (p : Pause) → k ≤ limit → IsPauseOf at i limit k s (run (step i) k s) p → WatchedRun i a limit s (pause_status p) (event_lines i k s ++ pause_line a p)
     run_of k (Hit e) few h = hit k e few h
     run_of k (Ended (Halt c)) few h = ended k (Halt c) few h.0 h.1
     run_of k (Ended InputEnd) few h = ended k InputEnd few h.0 h.1
@@ -125,7 +125,7 @@ module _ (i : Image) (a : ℕ) (s : State) where
     run_of k (Ended (Stop r b)) few h = ended k (Stop r b) few h.0 h.1
     run_of k (Ended Refused) few h = absurd h.0
 
-    says_also : (A : Event → Bool → Type 0) → ((e : Event) (b : Bool) → A e b → at e b) → (k : ℕ) (t : State) (p : Pause) → Says A i limit k s t p → Says at i limit k s t p
+    says_also : (A : Event → Bool → Type 0) → ((e : Event) (b : Bool) → A e b → at e b) → (k : ℕ) (t : State) (p : Pause) → IsPauseOf A i limit k s t p → IsPauseOf at i limit k s t p
     says_also A also k t (Hit e) h = record {
       before = h.before;
       last = h.last;

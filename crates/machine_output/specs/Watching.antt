@@ -12,7 +12,7 @@ use Rattle.machine_model.specs.Step.{step, event}
 use Rattle.machine_watch.specs.declared.session.Pause.{Pause}
 use Rattle.machine_watch.specs.declared.session.Pause.TheVariants.{Hit, Ended}
 use Rattle.machine_watch.specs.Sessions.{SessionState}
-use Rattle.machine_watch.specs.Watched.{MissesAll, Says}
+use Rattle.machine_watch.specs.Watched.{MissesAll, IsPauseOf}
 use Rattle.machine_lines.specs.Lines.{event_line, end_line, watch_line}
 use Rattle.base_outside.specs.Sinks.{SinkState}
 use Rattle.machine_output.specs.Runs.{event_lines, end_status}
@@ -30,13 +30,13 @@ pub record IsStepped {F : Type 0} (answers : Event → Bool → Type 0) (old new
   pub taken : new.taken ≡ old.taken + 1
   pub callback : new.callback ≡ old.callback
   pub is_told : told ≡ event old.machine.image old.machine.state
-  pub says : Says answers old.machine.image 1 1 old.machine.state (step old.machine.image old.machine.state) p
+  pub says : IsPauseOf answers old.machine.image 1 1 old.machine.state (step old.machine.image old.machine.state) p
 
 -- a run of at most so many steps paused so, and the lines of its events were printed
 pub record IsPrinted (answers : Event → Bool → Type 0) (i : Image) (limit : ℕ) (s : State) (old new : SinkState) (p : Pause) : Type 0 where
   pub steps : ℕ
   pub few : steps ≤ limit
-  pub says : Says answers i limit steps s (run (step i) steps s) p
+  pub says : IsPauseOf answers i limit steps s (run (step i) steps s) p
   pub faults : new.faults ≡ old.faults
   pub added : IsTrue old.told → new.written ≡ old.written ++ event_lines i steps s
 

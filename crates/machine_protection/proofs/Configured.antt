@@ -38,20 +38,20 @@ kept_decides (g ∷ gs) a =
     ∙ ap (λ o. or_this (holds g a) (kept_region g) o) (kept_decides gs a)
     ∙ kept_or (holds g a) g (deciding gs a)
 
--- what the scan says of the regions that were written
-abbrev Says : List Region → ℕ → Option Region → Type 0
-Says gs a None = NoneOf gs a
-Says gs a (Some g) = IsLast gs a g
+-- what the scan scan_is of the regions that were written
+abbrev IsScan : List Region → ℕ → Option Region → Type 0
+IsScan gs a None = NoneOf gs a
+IsScan gs a (Some g) = IsLast gs a g
 
-says_more : (g : Region) (gs : List Region) (a : ℕ) (b : Bool) → holds g a ≡ b → (o : Option Region) → Says gs a o → Says (g ∷ gs) a (or_this b g o)
-says_more g gs a b e (Some x) h = inl h
-says_more g gs a true e None h = inr (refl, e, h)
-says_more g gs a false e None h = (e, h)
+scan_more : (g : Region) (gs : List Region) (a : ℕ) (b : Bool) → holds g a ≡ b → (o : Option Region) → IsScan gs a o → IsScan (g ∷ gs) a (or_this b g o)
+scan_more g gs a b e (Some x) h = inl h
+scan_more g gs a true e None h = inr (refl, e, h)
+scan_more g gs a false e None h = (e, h)
 
-says : (gs : List Region) (a : ℕ) → Says gs a (deciding gs a)
+scan_is : (gs : List Region) (a : ℕ) → IsScan gs a (deciding gs a)
 unfolding deciding
-says [] a = tt
-says (g ∷ gs) a = says_more g gs a (holds g a) refl (deciding gs a) (says gs a)
+scan_is [] a = tt
+scan_is (g ∷ gs) a = scan_more g gs a (holds g a) refl (deciding gs a) (scan_is gs a)
 
 none_decides : (gs : List Region) (a : ℕ) → NoneOf gs a → deciding gs a ≡ None
 unfolding deciding
@@ -71,12 +71,12 @@ last_decides (g ∷ gs) a x (inr h) =
     let q = h.0 in
     rw (e, k) (ap Some (sym q))
 
-some_kept : (gs : List Region) (a : ℕ) (x : Region) (o : Option Region) → Says gs a o → kept_option o ≡ Some x → (g : Region) × (x ≡ kept_region g) × IsLast gs a g
+some_kept : (gs : List Region) (a : ℕ) (x : Region) (o : Option Region) → IsScan gs a o → kept_option o ≡ Some x → (g : Region) × (x ≡ kept_region g) × IsLast gs a g
 unfolding kept_option
 some_kept gs a x None h e = cc
 some_kept gs a x (Some g) h e = let q : kept_region g ≡ x = cc in (g, sym q, h)
 
-none_kept : (gs : List Region) (a : ℕ) (o : Option Region) → Says gs a o → kept_option o ≡ None → NoneOf gs a
+none_kept : (gs : List Region) (a : ℕ) (o : Option Region) → IsScan gs a o → kept_option o ≡ None → NoneOf gs a
 unfolding kept_option
 none_kept gs a None h e = h
 none_kept gs a (Some g) h e = cc
@@ -85,11 +85,11 @@ pub kept_lists_decide : KeptListsDecide
 unfolding kept_option
 kept_lists_decide gs a = record {
   some = λ x. (
-    λ e. some_kept gs a x (deciding gs a) (says gs a) (sym (kept_decides gs a) ∙ e),
+    λ e. some_kept gs a x (deciding gs a) (scan_is gs a) (sym (kept_decides gs a) ∙ e),
     λ h. kept_decides gs a ∙ ap kept_option (last_decides gs a h.0 h.2) ∙ ap Some (sym h.1),
   );
   none = (
-    λ e. none_kept gs a (deciding gs a) (says gs a) (sym (kept_decides gs a) ∙ e),
+    λ e. none_kept gs a (deciding gs a) (scan_is gs a) (sym (kept_decides gs a) ∙ e),
     λ h. kept_decides gs a ∙ ap kept_option (none_decides gs a h),
   );
 }
@@ -108,7 +108,7 @@ pub kept_units_permit_the_same : KeptUnitsPermitTheSame
 unfolding permits
 kept_units_permit_the_same m u kind a = ap (λ t. while_on (is_on m) (default_allows kind a) t) (decided_kept m.regions (has_background m) u kind a)
 
-allowed_last : (gs : List Region) (b : Bool) (kind : Access) (a : ℕ) (o : Option Region) → Says gs a o → decided o b true kind a ≡ true → (g : Region) × IsLast gs a g × (allows g true kind ≡ true)
+allowed_last : (gs : List Region) (b : Bool) (kind : Access) (a : ℕ) (o : Option Region) → IsScan gs a o → decided o b true kind a ≡ true → (g : Region) × IsLast gs a g × (allows g true kind ≡ true)
 allowed_last gs b kind a None h e = absurd (false≢true e)
 allowed_last gs b kind a (Some g) h e = (g, h, e)
 
@@ -121,7 +121,7 @@ on_permits gs m kind a on e =
 
 pub kept_lists_permit : KeptListsPermit
 kept_lists_permit gs m kind a on e = (
-  λ h. allowed_last gs (has_background m) kind a (deciding gs a) (says gs a) (sym (on_permits gs m kind a on e) ∙ h),
+  λ h. allowed_last gs (has_background m) kind a (deciding gs a) (scan_is gs a) (sym (on_permits gs m kind a on e) ∙ h),
   λ h. on_permits gs m kind a on e ∙ ap (λ o. decided o (has_background m) true kind a) (last_decides gs a h.0 h.1) ∙ h.2,
 )
 

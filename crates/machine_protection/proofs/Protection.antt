@@ -9,32 +9,32 @@ use Rattle.machine_protection.specs.Laws.{TheHighestDecides}
 use Rattle.machine_protection.specs.Protection.{Decides, NoneHolds, is_on, has_background, default_allows, Allowed, WhileOff, ByRegion, ByBackground, or_this, deciding, decided, while_on, permits, PermitsIsAllowed}
 
 -- what the regions say of an address, by the answer of the scan
-abbrev Says : List Region → ℕ → Option Region → Type 0
-Says gs a None = NoneHolds gs a
-Says gs a (Some g) = (i : ℕ) × Decides gs a i g
+abbrev IsScan : List Region → ℕ → Option Region → Type 0
+IsScan gs a None = NoneHolds gs a
+IsScan gs a (Some g) = (i : ℕ) × Decides gs a i g
 
-says_more : (g : Region) (gs : List Region) (a : ℕ) (b : Bool) → holds g a ≡ b → (o : Option Region) → Says gs a o → Says (g ∷ gs) a (or_this b g o)
-says_more g gs a b e (Some q) s = (suc s.0, record { stands = s.1.stands; holds_it = s.1.holds_it; highest = λ j h. later j h })
+scan_more : (g : Region) (gs : List Region) (a : ℕ) (b : Bool) → holds g a ≡ b → (o : Option Region) → IsScan gs a o → IsScan (g ∷ gs) a (or_this b g o)
+scan_more g gs a b e (Some q) s = (suc s.0, record { stands = s.1.stands; holds_it = s.1.holds_it; highest = λ j h. later j h })
   where
     later : (j : ℕ) (h : Region) → suc s.0 < j → slice_get (g ∷ gs) j ≡ Some h → holds h a ≡ false
     later zero h lt at = absurd (omega arith)
     later (suc j) h lt at = s.1.highest j h (omega arith) at
-says_more g gs a true e None s = (0, record { stands = refl; holds_it = e; highest = λ j h. later j h })
+scan_more g gs a true e None s = (0, record { stands = refl; holds_it = e; highest = λ j h. later j h })
   where
     later : (j : ℕ) (h : Region) → 0 < j → slice_get (g ∷ gs) j ≡ Some h → holds h a ≡ false
     later zero h lt at = absurd (omega arith)
     later (suc j) h lt at = s j h at
-says_more g gs a false e None s = λ j h. later j h
+scan_more g gs a false e None s = λ j h. later j h
   where
     later : (j : ℕ) (h : Region) → slice_get (g ∷ gs) j ≡ Some h → holds h a ≡ false
     later zero h at = let same : g ≡ h = cc in subst (λ x. holds x a ≡ false) same e
     later (suc j) h at = s j h at
 
 -- the scan's answer is what the regions say
-deciding_says : (gs : List Region) (a : ℕ) → Says gs a (deciding gs a)
+deciding_says : (gs : List Region) (a : ℕ) → IsScan gs a (deciding gs a)
 unfolding deciding
 deciding_says [] a = λ j h at. cc
-deciding_says (g ∷ gs) a = says_more g gs a (holds g a) refl (deciding gs a) (deciding_says gs a)
+deciding_says (g ∷ gs) a = scan_more g gs a (holds g a) refl (deciding gs a) (deciding_says gs a)
 
 -- at most one region decides
 decides_once : (gs : List Region) (a i j : ℕ) (g h : Region) → Decides gs a i g → Decides gs a j h → g ≡ h
@@ -51,17 +51,17 @@ decides_once gs a i j g h d e = ⊎_elim below (λ le. ⊎_elim above (λ ge. sa
 
 -- the scan finds a region exactly where it decides
 pub deciding_some : (gs : List Region) (a : ℕ) (g : Region) → (deciding gs a ≡ Some g) ↔ ((i : ℕ) × Decides gs a i g)
-deciding_some gs a g = (λ e. subst (λ o. Says gs a o) e (deciding_says gs a), λ d. found d (deciding gs a) (deciding_says gs a))
+deciding_some gs a g = (λ e. subst (λ o. IsScan gs a o) e (deciding_says gs a), λ d. found d (deciding gs a) (deciding_says gs a))
   where
-    found : ((i : ℕ) × Decides gs a i g) → (o : Option Region) → Says gs a o → o ≡ Some g
+    found : ((i : ℕ) × Decides gs a i g) → (o : Option Region) → IsScan gs a o → o ≡ Some g
     found d (Some h) s = ap Some (decides_once gs a s.0 d.0 h g s.1 d.1)
     found d None s = let no = s d.0 g d.1.stands in let yes' = d.1.holds_it in cc
 
 -- and none exactly where none holds the address
 pub deciding_none : (gs : List Region) (a : ℕ) → (deciding gs a ≡ None) ↔ NoneHolds gs a
-deciding_none gs a = (λ e. subst (λ o. Says gs a o) e (deciding_says gs a), λ n. found n (deciding gs a) (deciding_says gs a))
+deciding_none gs a = (λ e. subst (λ o. IsScan gs a o) e (deciding_says gs a), λ n. found n (deciding gs a) (deciding_says gs a))
   where
-    found : NoneHolds gs a → (o : Option Region) → Says gs a o → o ≡ None
+    found : NoneHolds gs a → (o : Option Region) → IsScan gs a o → o ≡ None
     found n None s = refl
     found n (Some h) s = let no = n s.0 h s.1.stands in let yes' = s.1.holds_it in cc
 

@@ -10,7 +10,7 @@ use Rattle.machine_model.specs.State.{State, by_mpu}
 use Rattle.machine_model.specs.Step.{turn, step, event}
 use Rattle.machine_model.specs.Ends.{IsOwn}
 use Rattle.machine_emulator.proofs.StepAnswers.{quiet_by, tells_by, ended_by}
-use Rattle.machine_emulator.specs.Machine.{MachineState, answer, IsRun, Says}
+use Rattle.machine_emulator.specs.Machine.{MachineState, answer, IsRun, IsEndOf}
 
 -- the machine goes on, and made no event
 pub quiet : (i : Image) (s : State) → Ran ≡ answer (turn by_mpu i s) → ((step i s).ending ≡ None) × (event i s ≡ None)
@@ -38,7 +38,7 @@ module _ {A : Type 0} (calls : A → Event → Bool → A → Type 0) (m n : Mac
       let q : n.state ≡ m.state = sym r.leads ∙ run_of_none m.image m.state r.steps r.few in
       λ i. record { image = r.same_image i; state = q i }
 
-  own_by : (k : ℕ) (e : End) → k ≤ 0 → (e ≡ Limit → ⊥) → Says calls m.image 0 k m.state n.state f g e → (n.state.ending ≡ Some e) × IsOwn e
+  own_by : (k : ℕ) (e : End) → k ≤ 0 → (e ≡ Limit → ⊥) → IsEndOf calls m.image 0 k m.state n.state f g e → (n.state.ending ≡ Some e) × IsOwn e
   own_by k (Halt c) l other h = (h.0, tt)
   own_by k InputEnd l other h = (h.0, tt)
   own_by k Limit l other h = absurd (other refl)
@@ -51,4 +51,4 @@ module _ {A : Type 0} (calls : A → Event → Bool → A → Type 0) (m n : Mac
 
   -- and where it is the limit the machine goes on
   pub idle_going : (e : End) → e ≡ Limit → IsRun calls 0 m n f g e → n.state.ending ≡ None
-  idle_going e is r = (subst (Says calls m.image 0 r.steps m.state n.state f g) is r.says).1
+  idle_going e is r = (subst (IsEndOf calls m.image 0 r.steps m.state n.state f g) is r.says).1

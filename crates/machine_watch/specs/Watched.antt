@@ -35,9 +35,9 @@ EndsBy limit n t (Stop r a) = t.ending ≡ Some (Stop r a)
 EndsBy limit n t Refused = ⊥
 
 -- what a pause says of so many steps from one state to another
-abbrev pub Says : (answers : Event → Bool → Type 0) → Image → (limit steps : ℕ) → (old new : State) → Pause → Type 0
-Says answers i limit n s t (Hit e) = HitsLast answers i n s e
-Says answers i limit n s t (Ended e) = EndsBy limit n t e × MissesAll answers i n s
+abbrev pub IsPauseOf : (answers : Event → Bool → Type 0) → Image → (limit steps : ℕ) → (old new : State) → Pause → Type 0
+IsPauseOf answers i limit n s t (Hit e) = HitsLast answers i n s e
+IsPauseOf answers i limit n s t (Ended e) = EndsBy limit n t e × MissesAll answers i n s
 
 -- A piece of the plain run: so many steps of the machine from one session to another, whose events are given in turn; `calls` says
 -- that what an event is given to may go from one state to another.
@@ -55,7 +55,7 @@ pub record IsWatched {F G : Type 0} (answers : Event → Bool → Type 0) (calls
   pub piece : IsPiece calls steps old new f g
   pub same_callback : new.callback ≡ old.callback
   pub goes_on : (k : ℕ) → k < steps → (run (step old.machine.image) k old.machine.state).ending ≡ None
-  pub says : Says answers old.machine.image limit steps old.machine.state new.machine.state p
+  pub says : IsPauseOf answers old.machine.image limit steps old.machine.state new.machine.state p
 
 -- two pieces one after the other are one, and where another watch is taken nothing is run
 pub record PiecesJoin (F : Type 0) {G : Type 0} (calls : G → Event → G → Type 0) : Type 0 where

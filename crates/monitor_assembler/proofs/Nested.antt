@@ -4,7 +4,7 @@ use Rattle.machine_thumb.specs.declared.table.Instr.TheVariants.{BranchWide}
 use Rattle.machine_thumb_asm.specs.Assembly.{Assembly, here}
 use Rattle.monitor_steps.specs.declared.steps.GateCond.{GateCond}
 use Rattle.monitor_steps.specs.declared.steps.GateStep.{GateStep}
-use Rattle.monitor_steps.specs.Steps.{Steps, End, Test, Repeat, names_low, is_low}
+use Rattle.monitor_steps.specs.Steps.{PrivilegedSteps, End, Test, Repeat, names_low, is_low}
 use Rattle.monitor_steps.specs.Lists.{before, steps_of}
 use Rattle.monitor_steps.specs.Code.{code, code_length}
 use Rattle.monitor_steps.proofs.CodeParts.{code_has_its_length}
@@ -38,7 +38,7 @@ step_is_put a b c ss i d s lt is p q =
 
 -- ---- a test
 
-pub may_put_first : (a b : Assembly) (cond : GateCond) (x y : ℕ) (ys ns : Steps) → MayPut a (Test cond x y ys ns End) → here b ≡ here a + 8 → MayPut b ys
+pub may_put_first : (a b : Assembly) (cond : GateCond) (x y : ℕ) (ys ns : PrivilegedSteps) → MayPut a (Test cond x y ys ns End) → here b ≡ here a + 8 → MayPut b ys
 may_put_first a b cond x y ys ns m h =
     let r = both_are (names_low ys && names_low ns) true (both_are (is_low x && is_low y) ((names_low ys && names_low ns) && true) m.registers).1 in
     let o = both_are (has_near_offsets ys && has_near_offsets ns) true m.offsets in
@@ -49,7 +49,7 @@ may_put_first a b cond x y ys ns m h =
       room = omega (arith, m.room);
     }
 
-pub may_put_second : (a b : Assembly) (cond : GateCond) (x y : ℕ) (ys ns : Steps) → MayPut a (Test cond x y ys ns End) → here b ≡ here a + 12 + code_length ys → MayPut b ns
+pub may_put_second : (a b : Assembly) (cond : GateCond) (x y : ℕ) (ys ns : PrivilegedSteps) → MayPut a (Test cond x y ys ns End) → here b ≡ here a + 12 + code_length ys → MayPut b ns
 may_put_second a b cond x y ys ns m h =
     let r = both_are (names_low ys && names_low ns) true (both_are (is_low x && is_low y) ((names_low ys && names_low ns) && true) m.registers).1 in
     let o = both_are (has_near_offsets ys && has_near_offsets ns) true m.offsets in
@@ -60,7 +60,7 @@ may_put_second a b cond x y ys ns m h =
       room = omega (arith, m.room);
     }
 
-pub test_is_put : (a b c d e : Assembly) (cond : GateCond) (x y : ℕ) (ys ns : Steps) → HasPut a b (choice_code cond x y (code_length ys)) → HasPut b c (code ys)
+pub test_is_put : (a b c d e : Assembly) (cond : GateCond) (x y : ℕ) (ys ns : PrivilegedSteps) → HasPut a b (choice_code cond x y (code_length ys)) → HasPut b c (code ys)
     → HasPut c d (BranchWide (pos (code_length ns)) ∷ []) → HasPut d e (code ns) → HasPut a e (code (Test cond x y ys ns End))
 test_is_put a b c d e cond x y ys ns p q r s =
     let skip = BranchWide (pos (code_length ns)) ∷ [] in
@@ -72,7 +72,7 @@ test_is_put a b c d e cond x y ys ns p q r s =
 
 -- ---- a loop
 
-pub may_put_body : (a b : Assembly) (left most : ℕ) (body : Steps) → MayPut a (Repeat left most body End) → here b ≡ here a + 8 → MayPut b body
+pub may_put_body : (a b : Assembly) (left most : ℕ) (body : PrivilegedSteps) → MayPut a (Repeat left most body End) → here b ≡ here a + 8 → MayPut b body
 may_put_body a b left most body m h = record {
   registers = (both_are (names_low body) true (both_are (is_low left) (names_low body && true) m.registers).1).0;
   offsets = (both_are (has_near_offsets body) true m.offsets).0;
@@ -80,7 +80,7 @@ may_put_body a b left most body m h = record {
   room = omega (arith, m.room);
 }
 
-pub loop_is_put : (a b c d : Assembly) (left most : ℕ) (body : Steps) → HasPut a b (loop_head left (code_length body)) → HasPut b c (code body)
+pub loop_is_put : (a b c d : Assembly) (left most : ℕ) (body : PrivilegedSteps) → HasPut a b (loop_head left (code_length body)) → HasPut b c (code body)
     → HasPut c d (loop_end left (code_length body)) → HasPut a d (code (Repeat left most body End))
 loop_is_put a b c d left most body p q r =
     let pq = put_both a b c (loop_head left (code_length body)) (code body) p q in

@@ -6,12 +6,12 @@ use Rattle.machine_thumb.specs.declared.table.Instr.TheVariants.{DataImmediate, 
 use Rattle.machine_thumb_asm.specs.declared.item.Item.TheVariants.{Plain}
 use Rattle.machine_thumb_asm.specs.Assembly.{Assembly, here}
 use Rattle.machine_model.specs.Running.{code_size}
-use Rattle.monitor_steps.specs.Steps.{Steps, End, Const, Copy, Load, Store, Alu, ReadPsp, WritePsp, WriteControl, Test, Repeat, Halt, Return, Go, names_low}
+use Rattle.monitor_steps.specs.Steps.{PrivilegedSteps, End, Const, Copy, Load, Store, Alu, ReadPsp, WritePsp, WriteControl, Test, Repeat, Halt, Return, Go, names_low}
 use Rattle.monitor_steps.specs.declared.steps.GateCond.{GateCond}
 use Rattle.monitor_steps.specs.Code.{code_length, condition_number}
 
 -- each load and store is at most 31 widths from its base
-abbrev pub has_near_offsets : Steps → Bool
+abbrev pub has_near_offsets : PrivilegedSteps → Bool
 has_near_offsets End = true
 has_near_offsets (Const to number rest) = has_near_offsets rest
 has_near_offsets (Copy to from rest) = has_near_offsets rest
@@ -30,7 +30,7 @@ has_near_offsets (Go to link rest) = has_near_offsets rest
 
 -- a list whose code an assembler can take: its registers are r0 to r7, its offsets are near, its branches reach, and
 -- the addresses stay below 2^31
-pub record MayPut (a : Assembly) (s : Steps) : Type 0 where
+pub record MayPut (a : Assembly) (s : PrivilegedSteps) : Type 0 where
   pub registers : names_low s ≡ true
   pub offsets : has_near_offsets s ≡ true
   pub short : code_length s < 2 ^ 24

@@ -8,7 +8,7 @@ use Rattle.machine_thumb_asm.specs.declared.item.Item.{Item}
 use Rattle.machine_thumb_asm.specs.declared.item.Item.TheVariants.{Plain, Word}
 use Rattle.machine_thumb_asm.specs.Assembly.{Assembly, ArePut, here}
 use Rattle.machine_thumb_asm.specs.Finished.{bytes_from, first_far, assembled}
-use Rattle.monitor_steps.specs.Steps.{Steps, names_low}
+use Rattle.monitor_steps.specs.Steps.{PrivilegedSteps, names_low}
 use Rattle.monitor_steps.specs.Lists.{steps_of}
 use Rattle.monitor_steps.specs.Code.{code, code_length}
 use Rattle.monitor_assembler.specs.Emitted.{MayPut, HasPut, has_near_offsets}
@@ -78,7 +78,7 @@ one_word a m b ws i d lt p e =
 
 -- ---- lists that may be put
 
-pub may_put : (a : Assembly) (s : Steps) → fits s ≡ true → here a + code_length s < 2 ^ 24 → MayPut a s
+pub may_put : (a : Assembly) (s : PrivilegedSteps) → fits s ≡ true → here a + code_length s < 2 ^ 24 → MayPut a s
 may_put a s h room = record {
   registers = (parts_of (names_low s) (has_near_offsets s) h).0;
   offsets = (parts_of (names_low s) (has_near_offsets s) h).1;

@@ -4,7 +4,7 @@ use Rattle.std.specs.Prelude.{◌≡◌, ℕ, ◌+◌, ◌*◌, ◌<◌, ◌^◌
 use Rattle.machine_thumb.specs.declared.table.Instr.{Instr}
 use Rattle.machine_thumb_asm.specs.declared.item.Item.TheVariants.{Word}
 use Rattle.machine_thumb_asm.specs.Assembly.{Assembly, here}
-use Rattle.monitor_steps.specs.Steps.{Steps, names_low}
+use Rattle.monitor_steps.specs.Steps.{PrivilegedSteps, names_low}
 use Rattle.monitor_steps.specs.Lists.{steps_of}
 use Rattle.monitor_steps.specs.Code.{code, code_length}
 use Rattle.monitor_program.specs.Constants.{Constants}
@@ -37,7 +37,7 @@ abbrev pub lists_code : Lists → List Instr
 lists_code l = code (steps_of l.start.items) ++ (code (steps_of l.svc.items) ++ (code (steps_of l.memfault.items) ++ leave_stub))
 
 -- a list names r0 to r7 alone, and its offsets are near
-abbrev pub fits : Steps → Bool
+abbrev pub fits : PrivilegedSteps → Bool
 fits s = names_low s && has_near_offsets s
 
 -- all of it may be put

@@ -29,7 +29,7 @@ use Rattle.machine_model.specs.Running.{code_size}
 use Rattle.machine_model.proofs.Exec.{code_may_run, stepped}
 use Rattle.machine_model.proofs.Transfers.{loads_halves}
 use Rattle.machine_model.proofs.Turns.{changes_turn}
-use Rattle.monitor_steps.specs.Steps.{Steps, End, Const, Test}
+use Rattle.monitor_steps.specs.Steps.{PrivilegedSteps, End, Const, Test}
 use Rattle.monitor_steps.specs.declared.steps.GateCond.TheVariants.{Eq}
 use Rattle.monitor_steps.specs.Core.{Core}
 use Rattle.monitor_steps.specs.Effect.{Outcome as GateOutcome, Went}
@@ -96,13 +96,13 @@ module _ (nothing : NothingStops) (equal : holds 0 (compare_flags 0 0) ≡ true)
 
   -- ---- the list in two parts
 
-  abbrev pub before : Steps
+  abbrev pub before : PrivilegedSteps
   before = up_to_number i t c.placed c.tables stub (IsGood i) (HandlerRule i t s) (reach i t stub s m psp o memory c) (good_while_off i c.placed.rules) (on_number 3 unlend (on_number 2 (lend k) (Const 6 0 End)))
 
-  abbrev pub others : Steps
+  abbrev pub others : PrivilegedSteps
   others = on_number 1 (leave k) (Rattle.monitor_steps.specs.Steps.Halt 1 End)
 
-  abbrev pub the_test : Steps
+  abbrev pub the_test : PrivilegedSteps
   the_test = Test Eq 5 6 (enter k) End others
 
   parts : followed_by before the_test ≡ svc k

@@ -15,7 +15,7 @@ use Rattle.machine_model.specs.declared.state.FaultStatus.{FaultStatus}
 use Rattle.machine_model.specs.declared.state.StopReason.TheVariants.{Unaligned}
 use Rattle.machine_model.specs.State.{State, by_mpu}
 use Rattle.machine_model.specs.System.{in_system, read_system, read_status, write_status}
-use Rattle.monitor_steps.specs.Steps.{Steps, Load}
+use Rattle.monitor_steps.specs.Steps.{PrivilegedSteps, Load}
 use Rattle.monitor_steps.specs.Core.{Core, low_register, with_low, with_system}
 use Rattle.monitor_steps.specs.Effect.{Outcome, AtReturn, Stopped}
 use Rattle.monitor_steps.proofs.Within.{GivesWithin, const_within, alu_within, at_within, more_within, next_within, yes_within, no_within, system_within}
@@ -74,7 +74,7 @@ module _ (i : Image) (t : Tables) (p : Placed i t) (has : HasTables i t) (stub :
   abbrev k : Constants
   k = constants_with stub t
 
-  abbrev W : ℕ → Steps → List Steps → Core → (Outcome → Type 0) → Type 0
+  abbrev W : ℕ → PrivilegedSteps → List PrivilegedSteps → Core → (Outcome → Type 0) → Type 0
   W n s ks c Q = GivesWithin by_mpu i Good (HandlerRule i t thread) n s ks c Q
 
   abbrev block : ℕ
@@ -90,7 +90,7 @@ module _ (i : Image) (t : Tables) (p : Placed i t) (has : HasTables i t) (stub :
       within k lt = search (Rattle.std.proofs.lemmas.Bool.Decides.nat_tests, arith)
 
   -- CFSR into a register
-  pub cfsr_within : {n to base : ℕ} {s : Steps} {ks : List Steps} {c : Core} {Q : Outcome → Type 0} → IsOff true c.protection → low_register c base ≡ CFSR → W n s ks (with_low c to c.status.cfsr) Q → W (1 + n) (Load Word to base 0 s) ks c Q
+  pub cfsr_within : {n to base : ℕ} {s : PrivilegedSteps} {ks : List PrivilegedSteps} {c : Core} {Q : Outcome → Type 0} → IsOff true c.protection → low_register c base ≡ CFSR → W n s ks (with_low c to c.status.cfsr) Q → W (1 + n) (Load Word to base 0 s) ks c Q
   cfsr_within {n} {to} {base} {s} {ks} {c} {Q} off e w =
       system_load_within CFSR off.privileged (at (low_register c base) e) refl (omega arith) refl refl (loads_cfsr c off.mode)
       (at_within (ap (λ v. with_low c to v) (read_cfsr c.protection c.status)) w)
@@ -101,7 +101,7 @@ module _ (i : Image) (t : Tables) (p : Placed i t) (has : HasTables i t) (stub :
   module _ (msp psp : ℕ) (u : FaultStatus) where
     -- ---- by the width in r6
 
-    pub store_by_width : (z : Width) (ao : ℕ) {n : ℕ} {s : Steps} {ks : List Steps} {Q : Outcome → Type 0} (q : ProtectionState) (m : List ℕ) (a0 a1 a2 a3 a a5 a7 : ℕ) → IsOff true q → a ≡ i.ram_base + ao → (i.ram_base + ao) % byte_count z ≡ 0 → ao < i.ram_size →
+    pub store_by_width : (z : Width) (ao : ℕ) {n : ℕ} {s : PrivilegedSteps} {ks : List PrivilegedSteps} {Q : Outcome → Type 0} (q : ProtectionState) (m : List ℕ) (a0 a1 a2 a3 a a5 a7 : ℕ) → IsOff true q → a ≡ i.ram_base + ao → (i.ram_base + ao) % byte_count z ≡ 0 → ao < i.ram_size →
         ((c : Core) → c.ram ≡ m → HandlerRule i t thread Write c (byte_count z) (i.ram_base + ao)) →
         ((m1 : List ℕ) (v7 : ℕ) → m1 ≡ write (byte_count z) ao a5 m → length m1 ≡ length m → W n s ks (core msp psp q u m1 a0 a1 a2 a3 a a5 (byte_count z) v7) Q) →
         W (13 + n) (stored s) ks (core msp psp q u m a0 a1 a2 a3 a a5 (byte_count z) a7) Q
@@ -112,7 +112,7 @@ module _ (i : Image) (t : Tables) (p : Placed i t) (has : HasTables i t) (stub :
     store_by_width Half ao q m a0 a1 a2 a3 a a5 a7 off e al hi ok f =
         more_within (const_within (no_within refl (const_within (no_within refl (store_wide_within p.rules ao Half (open_while_off q off.control) (good q off) e al hi (ok _ refl) (λ m1 x l. next_within (next_within (f m1 1 x l)))))))) (omega arith)
 
-    pub store_by_width_stops : (z : Width) {s : Steps} {ks : List Steps} {Q : Outcome → Type 0} (q : ProtectionState) (m : List ℕ) (a0 a1 a2 a3 a a5 a7 : ℕ) → a < 2 ^ 32 → nat_eq (a % byte_count z) 0 ≡ false →
+    pub store_by_width_stops : (z : Width) {s : PrivilegedSteps} {ks : List PrivilegedSteps} {Q : Outcome → Type 0} (q : ProtectionState) (m : List ℕ) (a0 a1 a2 a3 a a5 a7 : ℕ) → a < 2 ^ 32 → nat_eq (a % byte_count z) 0 ≡ false →
         ((c : Core) → c.ram ≡ m → HandlerRule i t thread Write c (byte_count z) a) → ((d : Core) → d.ram ≡ m → Q (Stopped Unaligned d)) →
         W 13 (stored s) ks (core msp psp q u m a0 a1 a2 a3 a a5 (byte_count z) a7) Q
     store_by_width_stops Word q m a0 a1 a2 a3 a a5 a7 lt odd ok f =
@@ -122,7 +122,7 @@ module _ (i : Image) (t : Tables) (p : Placed i t) (has : HasTables i t) (stub :
     store_by_width_stops Half q m a0 a1 a2 a3 a a5 a7 lt odd ok f =
         more_within (const_within (no_within refl (const_within (no_within refl (store_unaligned_within a Half refl lt odd (ok _ refl) (f _ refl)))))) (omega arith)
 
-    pub load_by_width : (z : Width) (ao : ℕ) {n : ℕ} {s : Steps} {ks : List Steps} {Q : Outcome → Type 0} (q : ProtectionState) (m : List ℕ) (a0 a1 a2 a3 a a5 a7 : ℕ) → IsOff true q → a ≡ i.ram_base + ao → (i.ram_base + ao) % byte_count z ≡ 0 → ao < i.ram_size →
+    pub load_by_width : (z : Width) (ao : ℕ) {n : ℕ} {s : PrivilegedSteps} {ks : List PrivilegedSteps} {Q : Outcome → Type 0} (q : ProtectionState) (m : List ℕ) (a0 a1 a2 a3 a a5 a7 : ℕ) → IsOff true q → a ≡ i.ram_base + ao → (i.ram_base + ao) % byte_count z ≡ 0 → ao < i.ram_size →
         ((c : Core) → c.ram ≡ m → HandlerRule i t thread Read c (byte_count z) (i.ram_base + ao)) →
         ((v v7 : ℕ) → v ≡ read (byte_count z) ao m → W n s ks (core msp psp q u m a0 a1 a2 a3 a v (byte_count z) v7) Q) →
         W (13 + n) (loaded s) ks (core msp psp q u m a0 a1 a2 a3 a a5 (byte_count z) a7) Q
@@ -133,7 +133,7 @@ module _ (i : Image) (t : Tables) (p : Placed i t) (has : HasTables i t) (stub :
     load_by_width Half ao q m a0 a1 a2 a3 a a5 a7 off e al hi ok f =
         more_within (const_within (no_within refl (const_within (no_within refl (load_wide_within p.rules ao Half (open_while_off q off.control) e al hi (ok _ refl) (λ v x. next_within (next_within (f v 1 x)))))))) (omega arith)
 
-    pub load_by_width_stops : (z : Width) {s : Steps} {ks : List Steps} {Q : Outcome → Type 0} (q : ProtectionState) (m : List ℕ) (a0 a1 a2 a3 a a5 a7 : ℕ) → a < 2 ^ 32 → nat_eq (a % byte_count z) 0 ≡ false →
+    pub load_by_width_stops : (z : Width) {s : PrivilegedSteps} {ks : List PrivilegedSteps} {Q : Outcome → Type 0} (q : ProtectionState) (m : List ℕ) (a0 a1 a2 a3 a a5 a7 : ℕ) → a < 2 ^ 32 → nat_eq (a % byte_count z) 0 ≡ false →
         ((c : Core) → c.ram ≡ m → HandlerRule i t thread Read c (byte_count z) a) → ((d : Core) → d.ram ≡ m → Q (Stopped Unaligned d)) →
         W 13 (loaded s) ks (core msp psp q u m a0 a1 a2 a3 a a5 (byte_count z) a7) Q
     load_by_width_stops Word q m a0 a1 a2 a3 a a5 a7 lt odd ok f =
@@ -145,7 +145,7 @@ module _ (i : Image) (t : Tables) (p : Placed i t) (has : HasTables i t) (stub :
 
     -- ---- the end: the return address rises by 2, CFSR is cleared, and the unit is on again
 
-    pub finished_within : (o top : ℕ) (r : ProtectionState) {ks : List Steps} {Q : Outcome → Type 0} (q : ProtectionState) (m : List ℕ) (a1 a2 a3 a4 a5 a6 a7 : ℕ) → IsOff true q → psp ≡ i.ram_base + o → InStack i t o top → i.ram_base + (o + 32) ≤ top_of i t thread.ram → read 4 (block + 4) m ≡ top → u.cfsr ≡ 0x82 →
+    pub finished_within : (o top : ℕ) (r : ProtectionState) {ks : List PrivilegedSteps} {Q : Outcome → Type 0} (q : ProtectionState) (m : List ℕ) (a1 a2 a3 a4 a5 a6 a7 : ℕ) → IsOff true q → psp ≡ i.ram_base + o → InStack i t o top → i.ram_base + (o + 32) ≤ top_of i t thread.ram → read 4 (block + 4) m ≡ top → u.cfsr ≡ 0x82 →
         with_unit q (record q.mpu { control = 5 }) ≡ r → Good r → ((d : Core) → IsDone msp psp r u (moved_on i psp m) d → Q (AtReturn d)) →
         W 19 finished ks (core msp psp q u m psp a1 a2 a3 a4 a5 a6 a7) Q
     finished_within o top r {ks} {Q} q m a1 a2 a3 a4 a5 a6 a7 off ep io below et ec on good_on f =

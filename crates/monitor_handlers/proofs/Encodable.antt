@@ -2,7 +2,7 @@
 use Rattle.std.proofs.Common.{◌≡◌, ℕ, zero, suc, pos, negsuc, ◌+◌, ◌%◌, ◌^◌, ◌<◌, Bool, true, false, List, [], ◌∷◌, arith}
 use Rattle.std.proofs.lemmas.Int.{ints}
 use Rattle.machine_thumb.specs.Table.{IsOffset}
-use Rattle.monitor_steps.specs.Steps.{Steps, End, Const, Copy, Load, Store, Alu, ReadPsp, WritePsp, WriteControl, Test, Repeat, Halt, Return, Go}
+use Rattle.monitor_steps.specs.Steps.{PrivilegedSteps, End, Const, Copy, Load, Store, Alu, ReadPsp, WritePsp, WriteControl, Test, Repeat, Halt, Return, Go}
 use Rattle.monitor_steps.specs.Code.{code_length}
 use Rattle.monitor_program.specs.Opening.{times, regions}
 use Rattle.monitor_laws.proofs.Encoded.{Fits}
@@ -17,7 +17,7 @@ backward : (n : ℕ) → n < 2 ^ 20 → n % 2 ≡ 1 → IsOffset (2 ^ 24) (negsu
 backward n h e = record { from = omega (arith, ints, h); below = omega (arith, ints, h); even = omega (arith, ints, h, e) }
 
 -- every number is a word
-abbrev pub Words : Steps → Type 0
+abbrev pub Words : PrivilegedSteps → Type 0
 Words End = Unit {0}
 Words (Const to n k) = (n < 2 ^ 32) × Words k
 Words (Copy to from k) = Words k
@@ -34,7 +34,7 @@ Words (Return k) = Words k
 Words (Go to link k) = Words k
 
 -- so short code fits
-pub words_fit : (s : Steps) → code_length s < 2 ^ 16 → Words s → Fits s
+pub words_fit : (s : PrivilegedSteps) → code_length s < 2 ^ 16 → Words s → Fits s
 words_fit End l w = tt
 words_fit (Const to n k) l w = (w.0, words_fit k (omega (arith, l)) w.1)
 words_fit (Copy to from k) l w = words_fit k (omega (arith, l)) w
@@ -66,11 +66,11 @@ words_fit (Go to link k) l w = words_fit k (omega (arith, l)) w
 
 -- ---- the tables
 
-pub times_words : (bs : List Bool) (k : Steps) → Words k → Words (times 6 5 bs k)
+pub times_words : (bs : List Bool) (k : PrivilegedSteps) → Words k → Words (times 6 5 bs k)
 times_words [] k h = h
 times_words (true ∷ bs) k h = times_words bs k h
 times_words (false ∷ bs) k h = times_words bs k h
 
-pub regions_words : (n w : ℕ) (k : Steps) → Words k → Words (regions n w k)
+pub regions_words : (n w : ℕ) (k : PrivilegedSteps) → Words k → Words (regions n w k)
 regions_words zero w k h = h
 regions_words (suc n) w k h = regions_words n (w + 2) k h

@@ -3,7 +3,7 @@ use Rattle.std.proofs.Common.{◌≡◌, ℕ, ◌+◌, ◌^◌, ◌<◌, ◌≤�
 use Rattle.std.proofs.lemmas.Bool.Decides.{nat_tests}
 use Rattle.machine_thumb.specs.Bytes.{EachInTable}
 use Rattle.base_words.specs.declared.memory.Width.TheVariants.{Word}
-use Rattle.monitor_steps.specs.Steps.{Steps, End, Load, Store, Halt, names_low}
+use Rattle.monitor_steps.specs.Steps.{PrivilegedSteps, End, Load, Store, Halt, names_low}
 use Rattle.monitor_steps.specs.Code.{code_length, code}
 use Rattle.monitor_model.specs.declared.tables.Tables.{Tables}
 use Rattle.monitor_program.specs.Constants.{Constants, constants_with}
@@ -18,10 +18,10 @@ use Rattle.monitor_laws.proofs.Appended.{times_low}
 
 -- ---- the handler
 
-abbrev store_end : Steps
+abbrev store_end : PrivilegedSteps
 store_end = Load Word 5 0 0 (stored finished)
 
-abbrev load_end : Steps
+abbrev load_end : PrivilegedSteps
 load_end = loaded (Store Word 5 0 0 finished)
 
 finished_words : Words finished
@@ -40,10 +40,10 @@ module _ (stub : ℕ) (t : Tables) where
   turn_words : Words loan_turn
   turn_words = (((((omega arith, ((omega arith, tt), tt, tt)), tt, tt), tt, tt), tt, (omega arith, tt)))
 
-  scan_words : (field code : ℕ) (k : Steps) → Words k → Words (scan c field code k)
+  scan_words : (field code : ℕ) (k : PrivilegedSteps) → Words k → Words (scan c field code k)
   scan_words field code k w = (omega arith, times_words (bits_of 4 (c.slots + 2)) _ (omega arith, (omega arith, (omega arith, (omega arith, (turn_words, (omega arith, (tt, tt, w))))))))
 
-  widths_words : (a b d : ℕ) (other k : Steps) → a < 2 ^ 32 → b < 2 ^ 32 → d < 2 ^ 32 → Words other → Words k → Words (widths a b d other k)
+  widths_words : (a b d : ℕ) (other k : PrivilegedSteps) → a < 2 ^ 32 → b < 2 ^ 32 → d < 2 ^ 32 → Words other → Words k → Words (widths a b d other k)
   widths_words a b d other k x y z o w = (x, ((omega arith, tt), (y, ((omega arith, tt), (z, ((omega arith, tt), o, tt)), tt)), w))
 
   stores_words : Words (stores c)
@@ -58,7 +58,7 @@ module _ (stub : ℕ) (t : Tables) where
 
   -- ---- names and fields
 
-  scan_low : (field code : ℕ) (k : Steps) → names_low k ≡ true → names_low (scan c field code k) ≡ true
+  scan_low : (field code : ℕ) (k : PrivilegedSteps) → names_low k ≡ true → names_low (scan c field code k) ≡ true
   scan_low field code k e = times_low (bits_of 4 (c.slots + 2)) _ ∙ e
 
   stores_low : names_low (stores c) ≡ true
@@ -71,7 +71,7 @@ module _ (stub : ℕ) (t : Tables) where
   pub memfault_low : names_low (memfault c) ≡ true
   memfault_low = let e = stores_low in let f = loads_low t.closed in rw (e, f) refl
 
-  scan_fields : (field code : ℕ) (k : Steps) → nat_lt field 32 ≡ true → nat_lt code 256 ≡ true → fits_fields k ≡ true → fits_fields (scan c field code k) ≡ true
+  scan_fields : (field code : ℕ) (k : PrivilegedSteps) → nat_lt field 32 ≡ true → nat_lt code 256 ≡ true → fits_fields k ≡ true → fits_fields (scan c field code k) ≡ true
   scan_fields field code k x y e = times_fields (bits_of 4 (c.slots + 2)) _ ∙ rw (x, y, e) refl
 
   small_field : (n : ℕ) → n < 32 → nat_lt n 32 ≡ true

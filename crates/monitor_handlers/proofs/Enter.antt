@@ -8,7 +8,7 @@ use Rattle.machine_devices.specs.declared.image.Image.{Image}
 use Rattle.machine_model.specs.declared.state.ProtectionState.{ProtectionState}
 use Rattle.machine_model.specs.declared.state.FaultStatus.{FaultStatus}
 use Rattle.machine_model.specs.State.{by_mpu}
-use Rattle.monitor_steps.specs.Steps.{Steps}
+use Rattle.monitor_steps.specs.Steps.{PrivilegedSteps}
 use Rattle.monitor_steps.specs.Core.{Core}
 use Rattle.monitor_steps.specs.Effect.{Outcome, Halted, AtReturn}
 use Rattle.monitor_steps.specs.Safe.{Rule}
@@ -157,7 +157,7 @@ module _ (i : Image) (t : Tables) (p : Placed i t) (has : HasTables i t) (stub :
   abbrev k : Constants
   k = constants_with stub t
 
-  abbrev W : ℕ → Steps → List Steps → Core → (Outcome → Type 0) → Type 0
+  abbrev W : ℕ → PrivilegedSteps → List PrivilegedSteps → Core → (Outcome → Type 0) → Type 0
   W n s ks c Q = GivesWithin by_mpu i Good Allowed n s ks c Q
 
   abbrev here : ℕ
@@ -238,7 +238,7 @@ module _ (i : Image) (t : Tables) (p : Placed i t) (has : HasTables i t) (stub :
         psp_new = let e = fo_is in omega (arith, e)
 
         -- from the new TOP on
-        rest_within : (g : TargetRecord) {ks : List Steps} {Q : Outcome → Type 0} (a4 a7 : ℕ) → IsEntry t g.entry g.compartment → g.entry ≡ read 4 (o + 16) m →
+        rest_within : (g : TargetRecord) {ks : List PrivilegedSteps} {Q : Outcome → Type 0} (a4 a7 : ℕ) → IsEntry t g.entry g.compartment → g.entry ≡ read 4 (o + 16) m →
             ((c : Core) → EndsEnter q o d ret g m c → Q (AtReturn c)) →
             W 219 (Rattle.monitor_program.specs.Svc.raise (Rattle.monitor_program.specs.Svc.save (Rattle.monitor_program.specs.Svc.frame k (Rattle.monitor_program.specs.Svc.entered (Rattle.monitor_program.specs.Opening.tables_of k Rattle.monitor_program.specs.Opening.closed_up))))) ks
             (core msp psp q u m psp k.block k.stack (rounded t psp) a4 g.compartment 0 a7) Q
@@ -308,7 +308,7 @@ module _ (i : Image) (t : Tables) (p : Placed i t) (has : HasTables i t) (stub :
         none_by None e n = e
         none_by (Some g) e n = absurd (let c : g.compartment ≡ 0xFFFFFFFF = sym (found_is ∙ ap compartment_of e) ∙ n in let x = (is_target g e).1.compartment_in in let y = p.most in omega (arith, c, x, y))
 
-        picked_within : {ks : List Steps} {Q : Outcome → Type 0} (l : Option TargetRecord) (v4 v7 : ℕ) → last ≡ l → found ≢ 0xFFFFFFFF →
+        picked_within : {ks : List PrivilegedSteps} {Q : Outcome → Type 0} (l : Option TargetRecord) (v4 v7 : ℕ) → last ≡ l → found ≢ 0xFFFFFFFF →
             ((c : Core) (g : TargetRecord) → c.ram ≡ m → last ≡ Some g → rounded t psp ≡ t.stack.base → Q (Halted 5 c)) →
             ((c : Core) (g : TargetRecord) → last ≡ Some g → IsEntry t g.entry g.compartment → NewTop i t p psp → EndsEnter q o d ret g m c → Q (AtReturn c)) →
             W 244 (Rattle.monitor_program.specs.Svc.rounded k (Rattle.monitor_program.specs.Svc.raise (Rattle.monitor_program.specs.Svc.save (Rattle.monitor_program.specs.Svc.frame k (Rattle.monitor_program.specs.Svc.entered (Rattle.monitor_program.specs.Opening.tables_of k Rattle.monitor_program.specs.Opening.closed_up)))))) ks
@@ -322,7 +322,7 @@ module _ (i : Image) (t : Tables) (p : Placed i t) (has : HasTables i t) (stub :
         few_steps : 25 + 16 * (site_at t (read 2 ro i.flash)).count + 244 ≤ 1293
         few_steps = let f = (a.sites (read 2 ro i.flash) lt).few in omega (arith, f)
 
-        target_on : {ks : List Steps} {Q : Outcome → Type 0} (v7 : ℕ) →
+        target_on : {ks : List PrivilegedSteps} {Q : Outcome → Type 0} (v7 : ℕ) →
             ((c : Core) → c.ram ≡ m → last ≡ None → Q (Halted 3 c)) →
             ((c : Core) (g : TargetRecord) → c.ram ≡ m → last ≡ Some g → rounded t psp ≡ t.stack.base → Q (Halted 5 c)) →
             ((c : Core) (g : TargetRecord) → last ≡ Some g → IsEntry t g.entry g.compartment → NewTop i t p psp → EndsEnter q o d ret g m c → Q (AtReturn c)) →
@@ -336,7 +336,7 @@ module _ (i : Image) (t : Tables) (p : Placed i t) (has : HasTables i t) (stub :
             (λ v4 w7 n. picked_within last v4 w7 refl n r5 go)) few_steps
 
       -- all of it: 306 steps, and 16 for each target of the site
-      pub enter_within : {ks : List Steps} {Q : Outcome → Type 0} (a5 a6 a7 : ℕ) →
+      pub enter_within : {ks : List PrivilegedSteps} {Q : Outcome → Type 0} (a5 a6 a7 : ℕ) →
           ((c : Core) → c.ram ≡ m → (read 2 ro i.flash < length t.sites → (site_at t (read 2 ro i.flash)).ret ≡ ret → ⊥) → Q (Halted 2 c)) →
           ((c : Core) → c.ram ≡ m → read 2 ro i.flash < length t.sites → (site_at t (read 2 ro i.flash)).ret ≡ ret → last ≡ None → Q (Halted 3 c)) →
           ((c : Core) (g : TargetRecord) → c.ram ≡ m → read 2 ro i.flash < length t.sites → (site_at t (read 2 ro i.flash)).ret ≡ ret → last ≡ Some g → rounded t psp ≡ t.stack.base → Q (Halted 5 c)) →

@@ -16,7 +16,7 @@ use Rattle.machine_model.specs.declared.state.ProtectionState.{ProtectionState}
 use Rattle.machine_model.specs.declared.state.FaultStatus.{FaultStatus}
 use Rattle.machine_model.specs.declared.state.StopReason.TheVariants.{Unaligned}
 use Rattle.machine_model.specs.State.{State, by_mpu, is_unprivileged}
-use Rattle.monitor_steps.specs.Steps.{Steps, End, Load, Store}
+use Rattle.monitor_steps.specs.Steps.{PrivilegedSteps, End, Load, Store}
 use Rattle.monitor_steps.specs.Core.{Core}
 use Rattle.monitor_steps.specs.Effect.{Outcome, Halted, AtReturn, Stopped}
 use Rattle.monitor_steps.proofs.Gives.{word_fits}
@@ -65,7 +65,7 @@ module _ (i : Image) (t : Tables) (p : Placed i t) (has : HasTables i t) (stub :
   abbrev k : Constants
   k = constants_with stub t
 
-  abbrev W : ℕ → Steps → List Steps → Core → (Outcome → Type 0) → Type 0
+  abbrev W : ℕ → PrivilegedSteps → List PrivilegedSteps → Core → (Outcome → Type 0) → Type 0
   W n s ks c Q = GivesWithin by_mpu i Good (HandlerRule i t thread) n s ks c Q
 
   abbrev block : ℕ
@@ -222,7 +222,7 @@ module _ (i : Image) (t : Tables) (p : Placed i t) (has : HasTables i t) (stub :
             frame_off 24 (stacked i psp (write w (a - i.ram_base) (stacked i psp m 0) m) 6 + 2) (write w (a - i.ram_base) (stacked i psp m 0) m) (omega arith) x h
             ∙ loan_off w (stacked i psp m 0) (compartment_at t b.current).mask l x h
 
-        stored_within : {ks : List Steps} (v1 v2 v7 x : ℕ) → is_lent (compartment_at t b.current).mask a w b.loans ≡ true → x ≡ read 4 (o + 4 * 0) m → (al : Bool) → nat_eq (a % byte_count z) 0 ≡ al →
+        stored_within : {ks : List PrivilegedSteps} (v1 v2 v7 x : ℕ) → is_lent (compartment_at t b.current).mask a w b.loans ≡ true → x ≡ read 4 (o + 4 * 0) m → (al : Bool) → nat_eq (a % byte_count z) 0 ≡ al →
             W 32 (stored finished) ks (core msp psp q u m psp v1 v2 0 a x w v7) StoreEnds
         stored_within v1 v2 v7 x e ex true f =
             let l = found (compartment_at t b.current).mask w e in
@@ -236,7 +236,7 @@ module _ (i : Image) (t : Tables) (p : Placed i t) (has : HasTables i t) (stub :
             (store_by_width_stops i t p has stub thread Good good msp psp u z q m psp v1 v2 0 a x v7 a_word f (may_store w e)
             (λ d y. subst (λ y. Ends y (Stopped Unaligned d)) (sym (store_lent e false f)) (d, refl, y))) (omega arith)
 
-        pub stores_within : {ks : List Steps} (a2 a3 a4 a5 a7 : ℕ) → W 1600 (stores k) ks (core msp psp q u m psp k.block a2 a3 a4 a5 w a7) StoreEnds
+        pub stores_within : {ks : List PrivilegedSteps} (a2 a3 a4 a5 a7 : ℕ) → W 1600 (stores k) ks (core msp psp q u m psp k.block a2 a3 a4 a5 w a7) StoreEnds
         stores_within a2 a3 a4 a5 a7 =
             more_within
             (scan_within i t p has stub thread Good good msp psp u o top b.current (record_mask k.slots) 7 (compartment_at t b.current).mask a (length b.loans) (is_lent (compartment_at t b.current).mask a w b.loans) q m a2 a3 a4 a5 w a7 off ep io below refl h.is_block.current_is h.orderly.current_in mask_there mask_room a_is h.is_block.loan_count_is h.orderly.few (all_hits (compartment_at t b.current).mask w)
@@ -268,7 +268,7 @@ module _ (i : Image) (t : Tables) (p : Placed i t) (has : HasTables i t) (stub :
             frame_off 24 (stacked i psp (with_stacked i psp 0 (read w (a - i.ram_base) m) m) 6 + 2) (with_stacked i psp 0 (read w (a - i.ram_base) m) m) (omega arith) x h
             ∙ frame_off 0 (read w (a - i.ram_base) m) m (omega arith) x h
 
-        loaded_within : {ks : List Steps} (v1 v2 v7 x : ℕ) → is_lent (compartment_at t b.current).reads a w b.loans ≡ true → (al : Bool) → nat_eq (a % byte_count z) 0 ≡ al →
+        loaded_within : {ks : List PrivilegedSteps} (v1 v2 v7 x : ℕ) → is_lent (compartment_at t b.current).reads a w b.loans ≡ true → (al : Bool) → nat_eq (a % byte_count z) 0 ≡ al →
             W 33 (loaded (Store Word 5 0 0 finished)) ks (core msp psp q u m psp v1 v2 0 a x w v7) LoadEnds
         loaded_within v1 v2 v7 x e true f =
             let l = found (compartment_at t b.current).reads w e in
@@ -283,7 +283,7 @@ module _ (i : Image) (t : Tables) (p : Placed i t) (has : HasTables i t) (stub :
             (load_by_width_stops i t p has stub thread Good good msp psp u z q m psp v1 v2 0 a x v7 a_word f (may_load w e)
             (λ d y. subst (λ y. Ends y (Stopped Unaligned d)) (sym (load_lent e false f)) (d, refl, y))) (omega arith)
 
-        pub lent_load_within : {ks : List Steps} (a2 a3 a4 a5 a7 : ℕ) → W 1600 (lent_load k) ks (core msp psp q u m psp k.block a2 a3 a4 a5 w a7) LoadEnds
+        pub lent_load_within : {ks : List PrivilegedSteps} (a2 a3 a4 a5 a7 : ℕ) → W 1600 (lent_load k) ks (core msp psp q u m psp k.block a2 a3 a4 a5 w a7) LoadEnds
         lent_load_within a2 a3 a4 a5 a7 =
             more_within
             (scan_within i t p has stub thread Good good msp psp u o top b.current (record_reads k.slots) 9 (compartment_at t b.current).reads a (length b.loans) (is_lent (compartment_at t b.current).reads a w b.loans) q m a2 a3 a4 a5 w a7 off ep io below refl h.is_block.current_is h.orderly.current_in reads_there reads_room a_is h.is_block.loan_count_is h.orderly.few (all_hits (compartment_at t b.current).reads w)
@@ -292,7 +292,7 @@ module _ (i : Image) (t : Tables) (p : Placed i t) (has : HasTables i t) (stub :
 
       -- ---- by the halfword in r4
 
-      widths_within : (first second third half : ℕ) {n : ℕ} {other s : Steps} {ks : List Steps} {Q : Outcome → Type 0} (q : ProtectionState) (a0 a1 a2 a3 a5 a6 a7 : ℕ) →
+      widths_within : (first second third half : ℕ) {n : ℕ} {other s : PrivilegedSteps} {ks : List PrivilegedSteps} {Q : Outcome → Type 0} (q : ProtectionState) (a0 a1 a2 a3 a5 a6 a7 : ℕ) →
           (nat_eq half first ≡ true → (x : ℕ) → W n s ks (core msp psp q u m a0 a1 a2 a3 half x 4 a7) Q) →
           (nat_eq half first ≡ false → nat_eq half second ≡ true → (x : ℕ) → W n s ks (core msp psp q u m a0 a1 a2 a3 half x 1 a7) Q) →
           (nat_eq half first ≡ false → nat_eq half second ≡ false → nat_eq half third ≡ true → (x : ℕ) → W n s ks (core msp psp q u m a0 a1 a2 a3 half x 2 a7) Q) →
@@ -312,16 +312,16 @@ module _ (i : Image) (t : Tables) (p : Placed i t) (has : HasTables i t) (stub :
         abbrev HalfEnds : Outcome → Type 0
         HalfEnds = Ends (by_half i t b psp m half)
 
-        store_of : (z : Width) → by_half i t b psp m half ≡ emulated_store i t b psp m (byte_count z) → {ks : List Steps} (a2 a3 a5 a7 : ℕ) → W 1640 (stores k) ks (core msp psp q u m psp k.block a2 a3 half a5 (byte_count z) a7) HalfEnds
+        store_of : (z : Width) → by_half i t b psp m half ≡ emulated_store i t b psp m (byte_count z) → {ks : List PrivilegedSteps} (a2 a3 a5 a7 : ℕ) → W 1640 (stores k) ks (core msp psp q u m psp k.block a2 a3 half a5 (byte_count z) a7) HalfEnds
         store_of z e {ks} a2 a3 a5 a7 = subst (λ y. W 1640 (stores k) ks (core msp psp q u m psp k.block a2 a3 half a5 (byte_count z) a7) (Ends y)) (sym e) (more_within (stores_within z cause q off on a2 a3 half a5 a7) (omega arith))
 
-        load_of : (z : Width) → by_half i t b psp m half ≡ emulated_load i t b psp m (byte_count z) → {ks : List Steps} (a2 a3 a5 a7 : ℕ) → W 1600 (lent_load k) ks (core msp psp q u m psp k.block a2 a3 half a5 (byte_count z) a7) HalfEnds
+        load_of : (z : Width) → by_half i t b psp m half ≡ emulated_load i t b psp m (byte_count z) → {ks : List PrivilegedSteps} (a2 a3 a5 a7 : ℕ) → W 1600 (lent_load k) ks (core msp psp q u m psp k.block a2 a3 half a5 (byte_count z) a7) HalfEnds
         load_of z e {ks} a2 a3 a5 a7 = subst (λ y. W 1600 (lent_load k) ks (core msp psp q u m psp k.block a2 a3 half a5 (byte_count z) a7) (Ends y)) (sym e) (lent_load_within z cause q off on a2 a3 half a5 a7)
 
         no_access : by_half i t b psp m half ≡ Halts 8 → (d : Core) → d.ram ≡ m → HalfEnds (Halted 8 d)
         no_access e d x = subst (λ y. Ends y (Halted 8 d)) (sym e) (d, refl, x)
 
-        loads_within : nat_eq half 0x6008 ≡ false → nat_eq half 0x7008 ≡ false → nat_eq half 0x8008 ≡ false → (closed : Bool) → t.closed ≡ closed → {ks : List Steps} (a2 a3 a5 a6 a7 : ℕ) →
+        loads_within : nat_eq half 0x6008 ≡ false → nat_eq half 0x7008 ≡ false → nat_eq half 0x8008 ≡ false → (closed : Bool) → t.closed ≡ closed → {ks : List PrivilegedSteps} (a2 a3 a5 a6 a7 : ℕ) →
             W 1640 (loads k closed) ks (core msp psp q u m psp k.block a2 a3 half a5 a6 a7) HalfEnds
         loads_within n1 n2 n3 false c a2 a3 a5 a6 a7 = more_within (halt_within (no_access (rw (n1, n2, n3, c) refl) _ refl)) (omega arith)
         loads_within n1 n2 n3 true c a2 a3 a5 a6 a7 =
@@ -332,7 +332,7 @@ module _ (i : Image) (t : Tables) (p : Placed i t) (has : HasTables i t) (stub :
             (λ d f e x. load_of Half (rw (n1, n2, n3, c, d, f, e) refl) a2 a3 x a7)
             (λ d f e x. more_within (halt_within (no_access (rw (n1, n2, n3, c, d, f, e) refl) _ refl)) (omega arith))) (omega arith)
 
-        half_within : {ks : List Steps} (a2 a3 a5 a6 a7 : ℕ) → W 1660 (widths 0x6008 0x7008 0x8008 (loads k t.closed) (stores k)) ks (core msp psp q u m psp k.block a2 a3 half a5 a6 a7) HalfEnds
+        half_within : {ks : List PrivilegedSteps} (a2 a3 a5 a6 a7 : ℕ) → W 1660 (widths 0x6008 0x7008 0x8008 (loads k t.closed) (stores k)) ks (core msp psp q u m psp k.block a2 a3 half a5 a6 a7) HalfEnds
         half_within a2 a3 a5 a6 a7 =
             more_within
             (widths_within 0x6008 0x7008 0x8008 half {n = 1640} q psp k.block a2 a3 a5 a6 a7

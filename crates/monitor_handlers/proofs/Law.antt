@@ -17,7 +17,7 @@ use Rattle.machine_model.specs.Exceptions.{supervisor_call, return_on_psp, is_fr
 use Rattle.machine_model.proofs.Exec.{code_parts}
 use Rattle.machine_model.proofs.CodeParts.{code_size-append}
 use Rattle.monitor_steps.specs.Core.{Core}
-use Rattle.monitor_steps.specs.Steps.{Steps, names_low}
+use Rattle.monitor_steps.specs.Steps.{PrivilegedSteps, names_low}
 use Rattle.monitor_steps.specs.Effect.{Outcome as GateOutcome, Went, effect}
 use Rattle.monitor_steps.specs.Code.{code, code_length}
 use Rattle.monitor_steps.specs.Ticks.{ticks}
@@ -191,7 +191,7 @@ module _ (laws : CallLaws) (i : Image) (t : Tables) (fit : IsFit i t) (s : State
   from_is = entry.entered laws.entry i t p s m inv alive opened supervisor_call (s.core.pc + 2) s.status pc0 (vector_is i t p.rules fit.behind fit.has_page p.tables_first laws.code_fits)
 
   -- a list whose code stands there leads as a handler to its outcome
-  led : (b : ℕ) (l : Steps) (R : GateOutcome → Type 0) → names_low l ≡ true → code_length l ≤ code_length (svc k) → CodeIn i pc0 (code l) → by.W i t stub s m psp o memory calling b l [] first R →
+  led : (b : ℕ) (l : PrivilegedSteps) (R : GateOutcome → Type 0) → names_low l ≡ true → code_length l ≤ code_length (svc k) → CodeIn i pc0 (code l) → by.W i t stub s m psp o memory calling b l [] first R →
       Leads i t s b from (GateShows by_mpu i (IsGood i) return_on_psp s.queues (effect by_mpu i l first) (pc0 + code_length l)) × R (effect by_mpu i l first)
   led b l R names short stands w = (
     record { count = run.count; within = (let a = run.within in let t = ticks_of i (IsGood i) (HandlerRule i t s) b l first R w in omega (arith, a, t)); each = run.each; holds = run.holds },
@@ -289,10 +289,10 @@ module _ (laws : CallLaws) (i : Image) (t : Tables) (fit : IsFit i t) (s : State
     called_zero : Called i (s.core.pc + 2) 0
     called_zero = subst (λ x. Called i (s.core.pc + 2) x) zero_is called
 
-    abbrev before : Steps
+    abbrev before : PrivilegedSteps
     before = bus.before laws.nothing equal_zero i t stub s m psp o memory calling (s.core.pc + 2) return_is called_zero ret_even ret_small nowhere
 
-    abbrev the_test : Steps
+    abbrev the_test : PrivilegedSteps
     the_test = bus.the_test laws.nothing equal_zero i t stub s m psp o memory calling (s.core.pc + 2) return_is called_zero ret_even ret_small nowhere
 
     parts : code (svc k) ≡ code before ++ code the_test

@@ -8,7 +8,7 @@ use Rattle.machine_model.specs.declared.answers.Verdict.{Verdict}
 use Rattle.machine_model.specs.declared.answers.Verdict.TheVariants.{ToBus, ToSystem, Refused, Bad}
 use Rattle.machine_model.specs.declared.state.ProtectionState.{ProtectionState}
 use Rattle.machine_model.specs.State.{PermissionTest, by_mpu}
-use Rattle.monitor_steps.specs.Steps.{Steps, End, Const, Copy, Load, Store, Alu, ReadPsp, WritePsp, WriteControl, Test, Repeat, Halt, Return, Go}
+use Rattle.monitor_steps.specs.Steps.{PrivilegedSteps, End, Const, Copy, Load, Store, Alu, ReadPsp, WritePsp, WriteControl, Test, Repeat, Halt, Return, Go}
 use Rattle.monitor_steps.specs.Core.{Core, low_register, with_low, with_psp, with_privilege, on_process_stack, is_privileged_on_msp}
 use Rattle.monitor_steps.specs.Accesses.{LoadResult, Value, LoadStops, LoadUnclaimed, StoreResult, Written, StoreStops, StoreUnclaimed, store_at, store_by, load, store}
 use Rattle.monitor_handlers.specs.Modes.{InMode}
@@ -87,7 +87,7 @@ module _ (h : Bool) where
   control_keeps false false p v c f e k = tt
 
   module _ (j : PermissionTest) (i : Image) where
-    pub mode_kept : (s : Steps) (c : Core) → Is c → InMode h (effect j i s c)
+    pub mode_kept : (s : PrivilegedSteps) (c : Core) → Is c → InMode h (effect j i s c)
     mode_kept End c e = e
     mode_kept (Const to n k) c e = mode_kept k (with_low c to n) e
     mode_kept (Copy to from k) c e = mode_kept k (with_low c to (low_register c from)) e

@@ -7,7 +7,7 @@ use Rattle.machine_devices.specs.Rules.{block_size}
 use Rattle.machine_bus.specs.Places.{InFlash, place}
 use Rattle.machine_model.specs.declared.state.ProtectionState.{ProtectionState}
 use Rattle.machine_model.specs.State.{State, by_mpu}
-use Rattle.monitor_steps.specs.Steps.{Steps}
+use Rattle.monitor_steps.specs.Steps.{PrivilegedSteps}
 use Rattle.monitor_steps.specs.Core.{Core}
 use Rattle.monitor_steps.specs.Effect.{Outcome as GateOutcome, Halted}
 use Rattle.monitor_steps.proofs.Within.{GivesWithin, const_within, at_within, more_within, yes_within, no_within, next_within}
@@ -42,7 +42,7 @@ module _ (i : Image) (t : Tables) (stub : ℕ) (s : State) (m : Block) (psp o : 
   pub reach : Handles i t (top i t s.ram) (HandlerRule i t s)
   reach = handlers_reach i t s c.placed
 
-  abbrev pub W : ℕ → Steps → List Steps → Core → (GateOutcome → Type 0) → Type 0
+  abbrev pub W : ℕ → PrivilegedSteps → List PrivilegedSteps → Core → (GateOutcome → Type 0) → Type 0
   W n l ks d Q = GivesWithin by_mpu i (IsGood i) (HandlerRule i t s) n l ks d Q
 
   abbrev pub Q : Outcome → GateOutcome → Type 0
@@ -58,7 +58,7 @@ module _ (i : Image) (t : Tables) (stub : ℕ) (s : State) (m : Block) (psp o : 
   abbrev pub at_number : (ret n : ℕ) → Core
   at_number ret n = core msp psp here s.status memory psp k.block k.stack m.top ret n MPU_CTRL 0
 
-  abbrev pub numbers : Steps
+  abbrev pub numbers : PrivilegedSteps
   numbers = listed i t c.placed c.tables stub (IsGood i) (HandlerRule i t s) reach (good_while_off i c.placed.rules)
 
   module _ (unit : UnitLaws) (f : FrameIsOpen i t o memory) where

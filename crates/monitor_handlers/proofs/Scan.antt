@@ -11,7 +11,7 @@ use Rattle.machine_model.specs.declared.state.ProtectionState.{ProtectionState}
 use Rattle.machine_model.specs.declared.state.FaultStatus.{FaultStatus}
 use Rattle.machine_model.specs.State.{State, by_mpu}
 use Rattle.monitor_steps.specs.declared.steps.GateOp.TheVariants.{Add}
-use Rattle.monitor_steps.specs.Steps.{Steps, End, Const, Load, Alu, Repeat}
+use Rattle.monitor_steps.specs.Steps.{PrivilegedSteps, End, Const, Load, Alu, Repeat}
 use Rattle.monitor_steps.specs.Core.{Core, low_register, with_low}
 use Rattle.monitor_steps.specs.Effect.{Outcome, Went, Halted, with_one_less}
 use Rattle.monitor_steps.proofs.Within.{GivesWithin, const_within, copy_within, alu_within, at_within, more_within, end_within, next_within, must_within, psp_within, load_within, load_flash_within, loop_within}
@@ -75,7 +75,7 @@ module _ (i : Image) (t : Tables) (p : Placed i t) (has : HasTables i t) (stub :
     abbrev k : Constants
     k = constants_with stub t
 
-    abbrev pub W : ℕ → Steps → List Steps → Core → (Outcome → Type 0) → Type 0
+    abbrev pub W : ℕ → PrivilegedSteps → List PrivilegedSteps → Core → (Outcome → Type 0) → Type 0
     W n s ks c Q = GivesWithin by_mpu i Good (HandlerRule i t thread) n s ks c Q
 
     abbrev block : ℕ
@@ -85,7 +85,7 @@ module _ (i : Image) (t : Tables) (p : Placed i t) (has : HasTables i t) (stub :
     handles = handlers_reach i t thread p
 
     -- a word of the loan numbered d
-    loan_load_within : (d off x : ℕ) {n to b : ℕ} {s : Steps} {ks : List Steps} {c : Core} {Q : Outcome → Type 0} → IsOff true c.protection → low_register c b ≡ t.monitor + (160 + 12 * d) → d < 32 → off < 3 → x ≡ 160 + 12 * d + 4 * off →
+    loan_load_within : (d off x : ℕ) {n to b : ℕ} {s : PrivilegedSteps} {ks : List PrivilegedSteps} {c : Core} {Q : Outcome → Type 0} → IsOff true c.protection → low_register c b ≡ t.monitor + (160 + 12 * d) → d < 32 → off < 3 → x ≡ 160 + 12 * d + 4 * off →
         ((v : ℕ) → v ≡ read 4 (block + x) c.ram → W n s ks (with_low c to v) Q) → W (1 + n) (Load Word to b off s) ks c Q
     loan_load_within d off x {b = b} {c = c} q e few h is f =
         load_within p.rules (block + x) (open_while_off c.protection q.control) (at (low_register c b) e) aligned room (handles.block Read c x q.mode inside) f
@@ -188,7 +188,7 @@ module _ (i : Image) (t : Tables) (p : Placed i t) (has : HasTables i t) (stub :
             one_is h k l j = rw (h, k, l, j) refl
 
         -- the whole loop
-        loans_within : {b : ℕ} {s : Steps} {ks : List Steps} {Q : Outcome → Type 0} (a0 a1 a2 : ℕ) → a2 ≡ t.monitor + 160 → ((v0 v1 v2 : ℕ) → W b s ks (core msp psp q u m v0 v1 v2 0 a mask w (hits i t m mask a w count)) Q) →
+        loans_within : {b : ℕ} {s : PrivilegedSteps} {ks : List PrivilegedSteps} {Q : Outcome → Type 0} (a0 a1 a2 : ℕ) → a2 ≡ t.monitor + 160 → ((v0 v1 v2 : ℕ) → W b s ks (core msp psp q u m v0 v1 v2 0 a mask w (hits i t m mask a w count)) Q) →
             W (46 * count + 3 + b) (Repeat 3 32 loan_turn s) ks (core msp psp q u m a0 a1 a2 count a mask w 0) Q
         loans_within {b} {s} {ks} {Q} a0 a1 a2 e f =
             loop_within Scanning (λ n. 42) (λ n. 46 * n + 3) count (omega arith) (λ n. omega arith) (λ n c r. ap (λ c. low_register c 3) r.is) (λ n c r. turn_within n c r) few
@@ -205,7 +205,7 @@ module _ (i : Image) (t : Tables) (p : Placed i t) (has : HasTables i t) (stub :
             no_more = omega (arith, e)
 
       -- the scan, by a mask in flash: it halts where no loan holds the access
-      pub scan_within : (o top cur field code mask a count : ℕ) (lent : Bool) {b : ℕ} {s : Steps} {ks : List Steps} {Q : Outcome → Type 0} (q : ProtectionState) (m : List ℕ) (a2 a3 a4 a5 w a7 : ℕ) → IsOff true q → psp ≡ i.ram_base + o → InStack i t o top → i.ram_base + (o + 32) ≤ top_of i t thread.ram → read 4 (block + 4) m ≡ top →
+      pub scan_within : (o top cur field code mask a count : ℕ) (lent : Bool) {b : ℕ} {s : PrivilegedSteps} {ks : List PrivilegedSteps} {Q : Outcome → Type 0} (q : ProtectionState) (m : List ℕ) (a2 a3 a4 a5 w a7 : ℕ) → IsOff true q → psp ≡ i.ram_base + o → InStack i t o top → i.ram_base + (o + 32) ≤ top_of i t thread.ram → read 4 (block + 4) m ≡ top →
           read 4 (block + 0) m ≡ cur → cur < length t.comps → read 4 (record_at i t (writable i t p has stub) stub cur + 4 * field) i.flash ≡ mask → record_at i t (writable i t p has stub) stub cur + 4 * field + 4 ≤ length i.flash →
           read 4 (o + 4) m ≡ a → read 4 (block + 12) m ≡ count → count ≤ 32 → hits i t m mask a w count ≡ one_or lent 0 →
           (lent ≡ false → (d : Core) → d.ram ≡ m → Q (Halted code d)) →

@@ -16,7 +16,7 @@ use Rattle.machine_model.specs.declared.answers.Verdict.TheVariants.{Bad}
 use Rattle.machine_model.specs.State.{PermissionTest}
 use Rattle.machine_model.specs.Tests.{verdict}
 use Rattle.monitor_steps.specs.declared.steps.GateCond.{GateCond}
-use Rattle.monitor_steps.specs.Steps.{Steps, Load, Store, Test}
+use Rattle.monitor_steps.specs.Steps.{PrivilegedSteps, Load, Store, Test}
 use Rattle.monitor_steps.specs.Core.{Core, low_register, with_low, with_ram}
 use Rattle.monitor_steps.specs.Accesses.{LoadStops, StoreStops, address_of, load, store}
 use Rattle.monitor_steps.specs.Effect.{Outcome, Stopped, then_do, compared, after_load, after_store, effect}
@@ -31,7 +31,7 @@ bad_verdict j p kind w a e = rw e refl
 
 module _ {j : PermissionTest} {i : Image} {Good : ProtectionState → Type 0} {Allowed : Rule} where
   -- both answers
-  pub test_within : {m : ℕ} {t : GateCond} {a b : ℕ} {ys ns k : Steps} {ks : List Steps} {c : Core} {Q : Outcome → Type 0} → (compared t (low_register c a) (low_register c b) ≡ true → GivesWithin j i Good Allowed m ys (k ∷ ks) c Q) →
+  pub test_within : {m : ℕ} {t : GateCond} {a b : ℕ} {ys ns k : PrivilegedSteps} {ks : List PrivilegedSteps} {c : Core} {Q : Outcome → Type 0} → (compared t (low_register c a) (low_register c b) ≡ true → GivesWithin j i Good Allowed m ys (k ∷ ks) c Q) →
       (compared t (low_register c a) (low_register c b) ≡ false → GivesWithin j i Good Allowed m ns (k ∷ ks) c Q) → GivesWithin j i Good Allowed (4 + m) (Test t a b ys ns k) ks c Q
   test_within {m} {t} {a} {b} {ys} {ns} {k} {ks} {c} {Q} y n = pick (compared t (low_register c a) (low_register c b)) refl
     where
@@ -40,7 +40,7 @@ module _ {j : PermissionTest} {i : Image} {Good : ProtectionState → Type 0} {A
       pick false e = no_within e (n e)
 
   -- a load that stops the machine, and a store
-  pub load_stops_within : (r : StopReason) {z : Width} {to base off : ℕ} {k : Steps} {ks : List Steps} {c : Core} {Q : Outcome → Type 0} → load j i z base off c ≡ LoadStops r → Allowed Read c (byte_count z) (address_of c (byte_count z) base off) → Q (Stopped r c) → GivesWithin j i Good Allowed 1 (Load z to base off k) ks c Q
+  pub load_stops_within : (r : StopReason) {z : Width} {to base off : ℕ} {k : PrivilegedSteps} {ks : List PrivilegedSteps} {c : Core} {Q : Outcome → Type 0} → load j i z base off c ≡ LoadStops r → Allowed Read c (byte_count z) (address_of c (byte_count z) base off) → Q (Stopped r c) → GivesWithin j i Good Allowed 1 (Load z to base off k) ks c Q
   unfolding ticks_all all safe_all
   load_stops_within r {z} {to} {base} {off} {k} {ks = []} {c} {Q} e ok q = record {
     gives = record {
@@ -60,7 +60,7 @@ module _ {j : PermissionTest} {i : Image} {Good : ProtectionState → Type 0} {A
         omega (arith, s);
   }
 
-  pub store_stops_within : (r : StopReason) {z : Width} {from base off : ℕ} {k : Steps} {ks : List Steps} {c : Core} {Q : Outcome → Type 0} → store j i z from base off c ≡ StoreStops r → Allowed Write c (byte_count z) (address_of c (byte_count z) base off) → Q (Stopped r c) → GivesWithin j i Good Allowed 1 (Store z from base off k) ks c Q
+  pub store_stops_within : (r : StopReason) {z : Width} {from base off : ℕ} {k : PrivilegedSteps} {ks : List PrivilegedSteps} {c : Core} {Q : Outcome → Type 0} → store j i z from base off c ≡ StoreStops r → Allowed Write c (byte_count z) (address_of c (byte_count z) base off) → Q (Stopped r c) → GivesWithin j i Good Allowed 1 (Store z from base off k) ks c Q
   unfolding ticks_all all safe_all
   store_stops_within r {z} {from} {base} {off} {k} {ks = []} {c} {Q} e ok q = record {
     gives = record {
@@ -82,7 +82,7 @@ module _ {j : PermissionTest} {i : Image} {Good : ProtectionState → Type 0} {A
 
   module _ (rules : ObeysRules i) where
     -- a load from RAM at an offset, of any width, where the address is its multiple; and one that is none
-    pub load_wide_within : {n : ℕ} (o : ℕ) (z : Width) {to base : ℕ} {k : Steps} {ks : List Steps} {c : Core} {Q : Outcome → Type 0} → Open j c.protection → low_register c base ≡ i.ram_base + o → (i.ram_base + o) % byte_count z ≡ 0 → o < i.ram_size → Allowed Read c (byte_count z) (i.ram_base + o) →
+    pub load_wide_within : {n : ℕ} (o : ℕ) (z : Width) {to base : ℕ} {k : PrivilegedSteps} {ks : List PrivilegedSteps} {c : Core} {Q : Outcome → Type 0} → Open j c.protection → low_register c base ≡ i.ram_base + o → (i.ram_base + o) % byte_count z ≡ 0 → o < i.ram_size → Allowed Read c (byte_count z) (i.ram_base + o) →
         ((v : ℕ) → v ≡ read (byte_count z) o c.ram → GivesWithin j i Good Allowed n k ks (with_low c to v) Q) → GivesWithin j i Good Allowed (1 + n) (Load z to base 0 k) ks c Q
     load_wide_within o z {to} {base} {k} {ks} {c} {Q} f e al hi ok w =
         let a : ℕ = i.ram_base + o in
@@ -90,7 +90,7 @@ module _ {j : PermissionTest} {i : Image} {Good : ProtectionState → Type 0} {A
         let l = load_is_at j i c z base 0 a (InRam o) f r al (omega (arith, hi, rules.ram_highest, rules.ram_most)) (in_ram i a o refl hi) in
         value_within (read (byte_count z) o c.ram) {z = z} l (subst (λ a. Allowed Read c (byte_count z) a) (sym r) ok) (w _ refl)
 
-    pub store_wide_within : {n : ℕ} (o : ℕ) (z : Width) {from base : ℕ} {k : Steps} {ks : List Steps} {c : Core} {Q : Outcome → Type 0} → Open j c.protection → Good c.protection → low_register c base ≡ i.ram_base + o → (i.ram_base + o) % byte_count z ≡ 0 → o < i.ram_size → Allowed Write c (byte_count z) (i.ram_base + o) →
+    pub store_wide_within : {n : ℕ} (o : ℕ) (z : Width) {from base : ℕ} {k : PrivilegedSteps} {ks : List PrivilegedSteps} {c : Core} {Q : Outcome → Type 0} → Open j c.protection → Good c.protection → low_register c base ≡ i.ram_base + o → (i.ram_base + o) % byte_count z ≡ 0 → o < i.ram_size → Allowed Write c (byte_count z) (i.ram_base + o) →
         ((m : List ℕ) → m ≡ write (byte_count z) o (low_register c from) c.ram → length m ≡ length c.ram → GivesWithin j i Good Allowed n k ks (with_ram c m) Q) → GivesWithin j i Good Allowed (1 + n) (Store z from base 0 k) ks c Q
     store_wide_within o z {from} {base} {k} {ks} {c} {Q} f g e al hi ok w =
         let a : ℕ = i.ram_base + o in
@@ -98,14 +98,14 @@ module _ {j : PermissionTest} {i : Image} {Good : ProtectionState → Type 0} {A
         let l = store_is_at j i c z from base 0 a (InRam o) f r al (omega (arith, hi, rules.ram_highest, rules.ram_most)) (in_ram i a o refl hi) in
         wrote_within (with_ram c (write (byte_count z) o (low_register c from) c.ram)) {z = z} l (subst (λ a. Allowed Write c (byte_count z) a) (sym r) ok) g (w _ refl (length-write (byte_count z) o (low_register c from) c.ram))
 
-  pub load_unaligned_within : (a : ℕ) (z : Width) {to base : ℕ} {k : Steps} {ks : List Steps} {c : Core} {Q : Outcome → Type 0} → low_register c base ≡ a → a < 2 ^ 32 → nat_eq (a % byte_count z) 0 ≡ false → Allowed Read c (byte_count z) a → Q (Stopped Unaligned c) → GivesWithin j i Good Allowed 1 (Load z to base 0 k) ks c Q
+  pub load_unaligned_within : (a : ℕ) (z : Width) {to base : ℕ} {k : PrivilegedSteps} {ks : List PrivilegedSteps} {c : Core} {Q : Outcome → Type 0} → low_register c base ≡ a → a < 2 ^ 32 → nat_eq (a % byte_count z) 0 ≡ false → Allowed Read c (byte_count z) a → Q (Stopped Unaligned c) → GivesWithin j i Good Allowed 1 (Load z to base 0 k) ks c Q
   load_unaligned_within a z {to} {base} {k} {ks} {c} {Q} e lt off ok q =
       let r : address_of c (byte_count z) base 0 ≡ a = omega (arith, e, lt) in
       let v = bad_verdict j c.protection Read (byte_count z) a off in
       let l : load j i z base 0 c ≡ LoadStops Unaligned = rw (r, v) refl in
       load_stops_within Unaligned {z = z} l (subst (λ a. Allowed Read c (byte_count z) a) (sym r) ok) q
 
-  pub store_unaligned_within : (a : ℕ) (z : Width) {from base : ℕ} {k : Steps} {ks : List Steps} {c : Core} {Q : Outcome → Type 0} → low_register c base ≡ a → a < 2 ^ 32 → nat_eq (a % byte_count z) 0 ≡ false → Allowed Write c (byte_count z) a → Q (Stopped Unaligned c) → GivesWithin j i Good Allowed 1 (Store z from base 0 k) ks c Q
+  pub store_unaligned_within : (a : ℕ) (z : Width) {from base : ℕ} {k : PrivilegedSteps} {ks : List PrivilegedSteps} {c : Core} {Q : Outcome → Type 0} → low_register c base ≡ a → a < 2 ^ 32 → nat_eq (a % byte_count z) 0 ≡ false → Allowed Write c (byte_count z) a → Q (Stopped Unaligned c) → GivesWithin j i Good Allowed 1 (Store z from base 0 k) ks c Q
   store_unaligned_within a z {from} {base} {k} {ks} {c} {Q} e lt off ok q =
       let r : address_of c (byte_count z) base 0 ≡ a = omega (arith, e, lt) in
       let v = bad_verdict j c.protection Write (byte_count z) a off in

@@ -3,7 +3,7 @@
 use Rattle.std.specs.Prelude.{◌≡◌, Bool}
 use Rattle.machine_devices.specs.declared.image.Image.{Image}
 use Rattle.machine_model.specs.State.{PermissionTest}
-use Rattle.monitor_steps.specs.Steps.{Steps}
+use Rattle.monitor_steps.specs.Steps.{PrivilegedSteps}
 use Rattle.monitor_steps.specs.Core.{Core}
 use Rattle.monitor_steps.specs.Effect.{Outcome, Went, Halted, AtReturn, AtBranch, Stopped, Unclaimed, effect}
 
@@ -17,4 +17,4 @@ InMode h (Stopped r d) = d.protection.handler ≡ h
 InMode h Unclaimed = Unit {0}
 
 abbrev pub ListsKeepTheMode : Type 0
-ListsKeepTheMode = (h : Bool) (j : PermissionTest) (i : Image) (s : Steps) (c : Core) → c.protection.handler ≡ h → InMode h (effect j i s c)
+ListsKeepTheMode = (h : Bool) (j : PermissionTest) (i : Image) (s : PrivilegedSteps) (c : Core) → c.protection.handler ≡ h → InMode h (effect j i s c)

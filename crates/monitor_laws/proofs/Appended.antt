@@ -1,13 +1,13 @@
 -- A list with another behind it, and its code.
 use Rattle.std.proofs.Common.{◌≡◌, ℕ, zero, suc, ◌+◌, Bool, true, false, List, [], ◌∷◌, ◌++◌, refl, sym, ap, ◌∙◌, append_assoc}
 use Rattle.machine_thumb.specs.declared.table.Instr.TheVariants.{DataImmediate, BranchWide}
-use Rattle.monitor_steps.specs.Steps.{Steps, End, Const, Copy, Load, Store, Alu, ReadPsp, WritePsp, WriteControl, Test, Repeat, Halt, Return, Go, names_low}
+use Rattle.monitor_steps.specs.Steps.{PrivilegedSteps, End, Const, Copy, Load, Store, Alu, ReadPsp, WritePsp, WriteControl, Test, Repeat, Halt, Return, Go, names_low}
 use Rattle.monitor_steps.specs.Code.{operation_code, code_length, code}
 use Rattle.monitor_program.specs.Constants.{Constants}
 use Rattle.monitor_program.specs.Opening.{times, bits_of, regions, record_of, stack_region, tables_of}
 
 -- s, and behind it r
-abbrev pub followed_by : (s r : Steps) → Steps
+abbrev pub followed_by : (s r : PrivilegedSteps) → PrivilegedSteps
 followed_by End r = r
 followed_by (Const to n k) r = Const to n (followed_by k r)
 followed_by (Copy to from k) r = Copy to from (followed_by k r)
@@ -23,7 +23,7 @@ followed_by (Halt n k) r = Halt n (followed_by k r)
 followed_by (Return k) r = Return (followed_by k r)
 followed_by (Go to link k) r = Go to link (followed_by k r)
 
-pub code_followed : (s r : Steps) → code (followed_by s r) ≡ code s ++ code r
+pub code_followed : (s r : PrivilegedSteps) → code (followed_by s r) ≡ code s ++ code r
 code_followed End r = refl
 code_followed (Const to n k) r = rw (code_followed k r) refl
 code_followed (Copy to from k) r = rw (code_followed k r) refl
@@ -46,32 +46,32 @@ code_followed (Halt n k) r = rw (code_followed k r) refl
 code_followed (Return k) r = rw (code_followed k r) refl
 code_followed (Go to link k) r = rw (code_followed k r) refl
 
-times_followed : (to from : ℕ) (bs : List Bool) (k r : Steps) → followed_by (times to from bs k) r ≡ times to from bs (followed_by k r)
+times_followed : (to from : ℕ) (bs : List Bool) (k r : PrivilegedSteps) → followed_by (times to from bs k) r ≡ times to from bs (followed_by k r)
 times_followed to from [] k r = refl
 times_followed to from (true ∷ bs) k r = rw (times_followed to from bs k r) refl
 times_followed to from (false ∷ bs) k r = rw (times_followed to from bs k r) refl
 
-regions_followed : (n w : ℕ) (k r : Steps) → followed_by (regions n w k) r ≡ regions n w (followed_by k r)
+regions_followed : (n w : ℕ) (k r : PrivilegedSteps) → followed_by (regions n w k) r ≡ regions n w (followed_by k r)
 regions_followed zero w k r = refl
 regions_followed (suc n) w k r = rw (regions_followed n (w + 2) k r) refl
 
-record_followed : (c : Constants) (k r : Steps) → followed_by (record_of c k) r ≡ record_of c (followed_by k r)
+record_followed : (c : Constants) (k r : PrivilegedSteps) → followed_by (record_of c k) r ≡ record_of c (followed_by k r)
 record_followed c k r = ap (λ s. Const 6 0 s) (times_followed 6 5 (bits_of 4 (c.slots + 2)) _ r)
 
-pub tables_followed : (c : Constants) (k r : Steps) → followed_by (tables_of c k) r ≡ tables_of c (followed_by k r)
+pub tables_followed : (c : Constants) (k r : PrivilegedSteps) → followed_by (tables_of c k) r ≡ tables_of c (followed_by k r)
 tables_followed c k r =
     record_followed c _ r
     ∙ ap (λ s. record_of c (Const 0 Rattle.machine_protection.specs.declared.TheConstants.MPU_RBAR (regions 1 0 (stack_region c s)))) (regions_followed c.slots 2 k r)
 
 -- they name r0 to r7
-pub times_low : (bs : List Bool) (k : Steps) → names_low (times 6 5 bs k) ≡ names_low k
+pub times_low : (bs : List Bool) (k : PrivilegedSteps) → names_low (times 6 5 bs k) ≡ names_low k
 times_low [] k = refl
 times_low (true ∷ bs) k = times_low bs k
 times_low (false ∷ bs) k = times_low bs k
 
-regions_low : (n w : ℕ) (k : Steps) → names_low (regions n w k) ≡ names_low k
+regions_low : (n w : ℕ) (k : PrivilegedSteps) → names_low (regions n w k) ≡ names_low k
 regions_low zero w k = refl
 regions_low (suc n) w k = regions_low n (w + 2) k
 
-pub tables_low : (c : Constants) (k : Steps) → names_low (tables_of c k) ≡ names_low k
+pub tables_low : (c : Constants) (k : PrivilegedSteps) → names_low (tables_of c k) ≡ names_low k
 tables_low c k = times_low (bits_of 4 (c.slots + 2)) _ ∙ regions_low c.slots 2 k

@@ -13,7 +13,7 @@ use Rattle.machine_model.specs.declared.state.FaultStatus.{FaultStatus}
 use Rattle.machine_model.specs.State.{by_mpu}
 use Rattle.machine_model.specs.Stack.{words_at}
 use Rattle.base_laws.specs.Lists.{Each}
-use Rattle.monitor_steps.specs.Steps.{Steps, Repeat}
+use Rattle.monitor_steps.specs.Steps.{PrivilegedSteps, Repeat}
 use Rattle.monitor_steps.specs.Core.{Core, low_register}
 use Rattle.monitor_steps.specs.Effect.{Outcome, Went, with_one_less}
 use Rattle.monitor_steps.specs.Safe.{Rule}
@@ -89,7 +89,7 @@ pub copying_is_short : (i : Image) (Allowed : Rule) (xs : List InitRecord) → E
 copying_is_short i Allowed xs e = last_steps_are_few i Allowed xs xs (length xs) (length xs) e (all_are_last xs)
 
 module _ (i : Image) (rules : ObeysRules i) (t : Constants) (Good : ProtectionState → Type 0) (Allowed : Rule) where
-  abbrev R : ℕ → Steps → List Steps → Core → (Outcome → Type 0) → Type 0
+  abbrev R : ℕ → PrivilegedSteps → List PrivilegedSteps → Core → (Outcome → Type 0) → Type 0
   R n s ks c Q = GivesWithin by_mpu i Good Allowed n s ks c Q
 
   module _ (may_read : (c : Core) (w o : ℕ) → o + w ≤ length i.flash → Allowed Read c w (i.flash_base + o)) (msp psp : ℕ) (u : FaultStatus) (q : ProtectionState) (open_q : Open by_mpu q) (good_q : Good q) where
@@ -178,7 +178,7 @@ module _ (i : Image) (rules : ObeysRules i) (t : Constants) (Good : ProtectionSt
         one_off a = let m = rules.ram_most in omega (arith, a, m)
 
     -- the words of one range, in 16 steps a word
-    words_within : (x : InitRecord) (ram : List ℕ) (a0 a1 a5 a7 : ℕ) {b : ℕ} {k : Steps} {ks : List Steps} {Q : Outcome → Type 0} (a6 : ℕ) → IsCopied i Allowed x → words_in x ≤ t.words →
+    words_within : (x : InitRecord) (ram : List ℕ) (a0 a1 a5 a7 : ℕ) {b : ℕ} {k : PrivilegedSteps} {ks : List PrivilegedSteps} {Q : Outcome → Type 0} (a6 : ℕ) → IsCopied i Allowed x → words_in x ≤ t.words →
         ((v2 v3 v6 : ℕ) → R b k ks (core msp psp q u (with_words i x ram) a0 a1 v2 v3 0 a5 v6 a7) Q) →
         R (16 * words_in x + 3 + b) (Repeat 4 t.words word_turn k) ks (core msp psp q u ram a0 a1 x.at x.from (words_in x) a5 a6 a7) Q
     words_within x ram a0 a1 a5 a7 {b} {k} {ks} {Q} a6 h few w =
@@ -331,7 +331,7 @@ module _ (i : Image) (rules : ObeysRules i) (t : Constants) (Good : ProtectionSt
             (fill_one final xs a5 a7 total n x left p.offset p.v0 p.v2 p.v3 p.v4 p.v6 p.ram small l hs.0 ws.0 hs.1 ws.1 has p.aligned p.at fin)
 
     -- the whole copying
-    pub fill_within : (xs : List InitRecord) (ram : List ℕ) (a5 a7 o : ℕ) {b : ℕ} {k : Steps} {ks : List Steps} {Q : Outcome → Type 0} (a2 a3 a4 a6 : ℕ) → Each (IsCopied i Allowed) xs → Each (λ x. words_in x ≤ t.words) xs → Has i o (flat_map init_words xs) → o % 4 ≡ 0 → length xs < 2 ^ 20 → length xs ≤ t.inits →
+    pub fill_within : (xs : List InitRecord) (ram : List ℕ) (a5 a7 o : ℕ) {b : ℕ} {k : PrivilegedSteps} {ks : List PrivilegedSteps} {Q : Outcome → Type 0} (a2 a3 a4 a6 : ℕ) → Each (IsCopied i Allowed) xs → Each (λ x. words_in x ≤ t.words) xs → Has i o (flat_map init_words xs) → o % 4 ≡ 0 → length xs < 2 ^ 20 → length xs ≤ t.inits →
         ((v0 v2 v3 v4 v6 : ℕ) → R b k ks (core msp psp q u (with_all_words i xs ram) v0 0 v2 v3 v4 a5 v6 a7) Q) →
         R (last_steps xs (length xs) (length xs) + b) (Repeat 1 t.inits (init_turn t) k) ks (core msp psp q u ram (i.flash_base + o) (length xs) a2 a3 a4 a5 a6 a7) Q
     fill_within xs ram a5 a7 o {b} {k} {ks} {Q} a2 a3 a4 a6 hs ws has al small few w =

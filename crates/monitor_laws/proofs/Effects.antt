@@ -4,7 +4,7 @@ use Rattle.machine_protection.specs.Configured.{written}
 use Rattle.machine_devices.specs.declared.image.Image.{Image}
 use Rattle.machine_model.specs.declared.state.ProtectionState.{ProtectionState}
 use Rattle.machine_model.specs.State.{by_mpu}
-use Rattle.monitor_steps.specs.Steps.{Steps, End}
+use Rattle.monitor_steps.specs.Steps.{PrivilegedSteps, End}
 use Rattle.monitor_steps.specs.Core.{Core, low_register}
 use Rattle.monitor_steps.specs.Effect.{Outcome, Went}
 use Rattle.monitor_steps.specs.Ticks.{ticks}
@@ -20,7 +20,7 @@ use Rattle.monitor_laws.proofs.Written.{tables_within}
 use Rattle.monitor_laws.proofs.Tables.{shaped, has_compartment, record_at, top_is, unit_is}
 
 -- what a bound tells of the list itself
-pub ticks_of : (i : Image) (Good : ProtectionState → Type 0) (Allowed : Rule) (n : ℕ) (s : Steps) (c : Core) (Q : Outcome → Type 0) → GivesWithin by_mpu i Good Allowed n s [] c Q → ticks by_mpu i s c ≤ n
+pub ticks_of : (i : Image) (Good : ProtectionState → Type 0) (Allowed : Rule) (n : ℕ) (s : PrivilegedSteps) (c : Core) (Q : Outcome → Type 0) → GivesWithin by_mpu i Good Allowed n s [] c Q → ticks by_mpu i s c ≤ n
 unfolding ticks_all
 ticks_of i Good Allowed n s c Q w = w.spent
 

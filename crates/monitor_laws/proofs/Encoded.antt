@@ -12,7 +12,7 @@ use Rattle.monitor_steps.specs.declared.steps.GateOp.{GateOp}
 use Rattle.monitor_steps.specs.declared.steps.GateOp.TheVariants.{Add, Sub, And, Or, Shl, Shr}
 use Rattle.monitor_steps.specs.declared.steps.GateCond.{GateCond}
 use Rattle.monitor_steps.specs.declared.steps.GateCond.TheVariants.{Eq, Ult, Ule}
-use Rattle.monitor_steps.specs.Steps.{Steps, End, Const, Copy, Load, Store, Alu, ReadPsp, WritePsp, WriteControl, Test, Repeat, Halt, Return, Go, is_low}
+use Rattle.monitor_steps.specs.Steps.{PrivilegedSteps, End, Const, Copy, Load, Store, Alu, ReadPsp, WritePsp, WriteControl, Test, Repeat, Halt, Return, Go, is_low}
 use Rattle.monitor_steps.specs.Code.{load_op, store_op, condition_number, by_moves, operation_code, code_length, code}
 use Rattle.monitor_model.specs.declared.tables.Tables.{Tables}
 use Rattle.monitor_program.specs.Constants.{Constants, constants_with}
@@ -22,7 +22,7 @@ use Rattle.monitor_laws.proofs.ResetList.{before_control}
 use Rattle.machine_thumb.proofs.Codes.{in_table-append as each_append}
 
 -- registers, offsets and numbers of halts fit into their fields
-abbrev pub fits_fields : Steps → Bool
+abbrev pub fits_fields : PrivilegedSteps → Bool
 fits_fields End = true
 fits_fields (Const to n k) = is_low to && fits_fields k
 fits_fields (Copy to from k) = (is_low to && is_low from) && fits_fields k
@@ -39,7 +39,7 @@ fits_fields (Return k) = fits_fields k
 fits_fields (Go to link k) = (is_low to && is_low link) && fits_fields k
 
 -- numbers are words, and branches reach
-abbrev pub Fits : Steps → Type 0
+abbrev pub Fits : PrivilegedSteps → Type 0
 Fits End = Unit {0}
 Fits (Const to n k) = (n < 2 ^ 32) × Fits k
 Fits (Copy to from k) = Fits k
@@ -92,7 +92,7 @@ condition_small Ule = omega arith
 two_offset : IsOffset 256 (pos 2)
 two_offset = record { from = le_z_yes tt; below = lt_z_yes tt; even = refl }
 
-pub in_table : (s : Steps) → fits_fields s ≡ true → Fits s → EachInTable (code s)
+pub in_table : (s : PrivilegedSteps) → fits_fields s ≡ true → Fits s → EachInTable (code s)
 in_table End f n = tt
 in_table (Const to v k) f n =
     let p = both (is_low to) (fits_fields k) f in
@@ -168,28 +168,28 @@ in_table (Go to link k) f n =
 
 -- ---- products and regions
 
-times_fit : (bs : List Bool) (k : Steps) → Fits k → Fits (times 6 5 bs k)
+times_fit : (bs : List Bool) (k : PrivilegedSteps) → Fits k → Fits (times 6 5 bs k)
 times_fit [] k h = h
 times_fit (true ∷ bs) k h = times_fit bs k h
 times_fit (false ∷ bs) k h = times_fit bs k h
 
-pub times_fields : (bs : List Bool) (k : Steps) → fits_fields (times 6 5 bs k) ≡ fits_fields k
+pub times_fields : (bs : List Bool) (k : PrivilegedSteps) → fits_fields (times 6 5 bs k) ≡ fits_fields k
 times_fields [] k = refl
 times_fields (true ∷ bs) k = times_fields bs k
 times_fields (false ∷ bs) k = times_fields bs k
 
-regions_fit : (n w : ℕ) (k : Steps) → Fits k → Fits (regions n w k)
+regions_fit : (n w : ℕ) (k : PrivilegedSteps) → Fits k → Fits (regions n w k)
 regions_fit zero w k h = h
 regions_fit (suc n) w k h = regions_fit n (w + 2) k h
 
-regions_fields : (n w : ℕ) (k : Steps) → w + 2 * n ≤ 32 → fits_fields (regions n w k) ≡ fits_fields k
+regions_fields : (n w : ℕ) (k : PrivilegedSteps) → w + 2 * n ≤ 32 → fits_fields (regions n w k) ≡ fits_fields k
 regions_fields zero w k h = refl
 regions_fields (suc n) w k h =
     let a : nat_lt w 32 ≡ true = search (nat_tests, arith) in
     let b : nat_lt (w + 1) 32 ≡ true = search (nat_tests, arith) in
     rw (a, b) (regions_fields n (w + 2) k (omega (arith, h)))
 
-pub tables_fields : (c : Constants) (k : Steps) → c.slots ≤ 12 → fits_fields (tables_of c k) ≡ fits_fields k
+pub tables_fields : (c : Constants) (k : PrivilegedSteps) → c.slots ≤ 12 → fits_fields (tables_of c k) ≡ fits_fields k
 tables_fields c k h = times_fields (bits_of 4 (c.slots + 2)) _ ∙ regions_fields c.slots 2 k (omega (arith, h))
 
 pub before_control_in : (stub : ℕ) (t : Tables) → (constants_with stub t).slots ≤ 12 → EachInTable (code (before_control (constants_with stub t)))

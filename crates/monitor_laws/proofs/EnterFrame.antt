@@ -8,7 +8,7 @@ use Rattle.machine_devices.specs.declared.image.Image.{Image}
 use Rattle.machine_model.specs.declared.state.ProtectionState.{ProtectionState}
 use Rattle.machine_model.specs.declared.state.FaultStatus.{FaultStatus}
 use Rattle.machine_model.specs.State.{by_mpu}
-use Rattle.monitor_steps.specs.Steps.{Steps, Store}
+use Rattle.monitor_steps.specs.Steps.{PrivilegedSteps, Store}
 use Rattle.monitor_steps.specs.Core.{Core, low_register, with_ram}
 use Rattle.monitor_steps.specs.Effect.{Outcome}
 use Rattle.monitor_steps.specs.Safe.{Rule}
@@ -133,14 +133,14 @@ module _ (i : Image) (t : Tables) (p : Placed i t) (has : HasTables i t) (stub :
   abbrev k : Constants
   k = constants_with stub t
 
-  abbrev W : ℕ → Steps → List Steps → Core → (Outcome → Type 0) → Type 0
+  abbrev W : ℕ → PrivilegedSteps → List PrivilegedSteps → Core → (Outcome → Type 0) → Type 0
   W n s ks c Q = GivesWithin by_mpu i Good Allowed n s ks c Q
 
   abbrev here : ℕ
   here = t.monitor - i.ram_base
 
   -- a store into the open stack leaves TOP as it is
-  kept_store_within : (o top off : ℕ) {n from b : ℕ} {s : Steps} {ks : List Steps} {c : Core} {Q : Outcome → Type 0} → IsOff true c.protection → InStack i t o top → low_register c b ≡ i.ram_base + o → nat_lt off 8 ≡ true → read 4 (here + 4) c.ram ≡ top →
+  kept_store_within : (o top off : ℕ) {n from b : ℕ} {s : PrivilegedSteps} {ks : List PrivilegedSteps} {c : Core} {Q : Outcome → Type 0} → IsOff true c.protection → InStack i t o top → low_register c b ≡ i.ram_base + o → nat_lt off 8 ≡ true → read 4 (here + 4) c.ram ≡ top →
       ((m : List ℕ) → m ≡ write 4 (o + 4 * off) (low_register c from) c.ram → length m ≡ length c.ram → read 4 (here + 4) m ≡ top → W n s ks (with_ram c m) Q) → W (1 + n) (Store Word from b off s) ks c Q
   kept_store_within o top off {from = from} {b = b} {c = c} q io e h et f =
       frame_store_within i t p has stub Good Allowed handles good o top off q io e h et (λ m w z. f m w z (beside (here + 4) (o + 4 * off) (low_register c from) c.ram m w (away off h) ∙ et))
@@ -152,7 +152,7 @@ module _ (i : Image) (t : Tables) (p : Placed i t) (has : HasTables i t) (stub :
 
   module _ (msp psp : ℕ) (u : FaultStatus) where
     -- the new TOP is behind the frame at offset fo; the entry has bit 0 set in the caller's r12
-    pub frame_within : (o fo top entry new_top : ℕ) {b : ℕ} {s : Steps} {ks : List Steps} {Q : Outcome → Type 0} (q : ProtectionState) (m : List ℕ) (a1 a2 a4 a5 a6 a7 : ℕ) → IsOff true q → psp ≡ i.ram_base + o → InStack i t o top → i.ram_base + (o + 32) ≤ entry_top → InStack i t fo top → fo + 32 ≤ o → new_top ≡ i.ram_base + (fo + 32) → read 4 (here + 4) m ≡ top → read 4 (o + 16) m ≡ entry + 1 → k.stub_entry < 2 ^ 32 → length m ≡ i.ram_size →
+    pub frame_within : (o fo top entry new_top : ℕ) {b : ℕ} {s : PrivilegedSteps} {ks : List PrivilegedSteps} {Q : Outcome → Type 0} (q : ProtectionState) (m : List ℕ) (a1 a2 a4 a5 a6 a7 : ℕ) → IsOff true q → psp ≡ i.ram_base + o → InStack i t o top → i.ram_base + (o + 32) ≤ entry_top → InStack i t fo top → fo + 32 ≤ o → new_top ≡ i.ram_base + (fo + 32) → read 4 (here + 4) m ≡ top → read 4 (o + 16) m ≡ entry + 1 → k.stub_entry < 2 ^ 32 → length m ≡ i.ram_size →
         ((m8 : List ℕ) → Framed k.stub_entry o fo entry m m8 → W b s ks (core msp psp q u m8 psp a1 1 new_top a4 a5 (i.ram_base + fo) 0x01000000) Q) → W (33 + b) (frame k s) ks (core msp psp q u m psp a1 a2 new_top a4 a5 a6 a7) Q
     frame_within o fo top entry new_top {b} {s} {ks} {Q} q m a1 a2 a4 a5 a6 a7 off ep io below jo apart et3 et ee small zm f =
         more_within

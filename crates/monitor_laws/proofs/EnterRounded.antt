@@ -7,7 +7,7 @@ use Rattle.machine_devices.specs.declared.image.Image.{Image}
 use Rattle.machine_model.specs.declared.state.ProtectionState.{ProtectionState}
 use Rattle.machine_model.specs.declared.state.FaultStatus.{FaultStatus}
 use Rattle.machine_model.specs.State.{by_mpu}
-use Rattle.monitor_steps.specs.Steps.{Steps}
+use Rattle.monitor_steps.specs.Steps.{PrivilegedSteps}
 use Rattle.monitor_steps.specs.Core.{Core}
 use Rattle.monitor_steps.specs.Effect.{Outcome, Halted}
 use Rattle.monitor_steps.specs.Safe.{Rule}
@@ -37,7 +37,7 @@ module _ (i : Image) (t : Tables) (p : Placed i t) (has : HasTables i t) (stub :
   abbrev k : Constants
   k = constants_with stub t
 
-  abbrev W : ℕ → Steps → List Steps → Core → (Outcome → Type 0) → Type 0
+  abbrev W : ℕ → PrivilegedSteps → List PrivilegedSteps → Core → (Outcome → Type 0) → Type 0
   W n s ks c Q = GivesWithin by_mpu i Good Allowed n s ks c Q
 
   size_is : StackSize t.stack.size
@@ -45,7 +45,7 @@ module _ (i : Image) (t : Tables) (p : Placed i t) (has : HasTables i t) (stub :
 
   module _ (msp psp : ℕ) (u : FaultStatus) where
     -- of a frame in the stack
-    pub rounded_within : {b : ℕ} {s : Steps} {ks : List Steps} {Q : Outcome → Type 0} (q : ProtectionState) (m : List ℕ) (a1 a3 a4 a5 a6 a7 : ℕ) → t.stack.base ≤ psp → psp ≤ stack_end t →
+    pub rounded_within : {b : ℕ} {s : PrivilegedSteps} {ks : List PrivilegedSteps} {Q : Outcome → Type 0} (q : ProtectionState) (m : List ℕ) (a1 a3 a4 a5 a6 a7 : ℕ) → t.stack.base ≤ psp → psp ≤ stack_end t →
         ((d : Core) → d.ram ≡ m → rounded_down t psp ≡ t.stack.base → Q (Halted 5 d)) →
         (0 < (psp - t.stack.base) / eighth t → W b s ks (core msp psp q u m psp a1 k.stack (rounded_down t psp) a4 a5 0 a7) Q) →
         W (25 + b) (rounded k s) ks (core msp psp q u m psp a1 k.stack a3 a4 a5 a6 a7) Q

@@ -10,7 +10,7 @@ use Rattle.machine_devices.specs.Rules.{ObeysRules}
 use Rattle.machine_model.specs.declared.state.ProtectionState.{ProtectionState}
 use Rattle.machine_model.specs.declared.state.FaultStatus.{FaultStatus}
 use Rattle.machine_model.specs.State.{by_mpu}
-use Rattle.monitor_steps.specs.Steps.{Steps, Load}
+use Rattle.monitor_steps.specs.Steps.{PrivilegedSteps, Load}
 use Rattle.monitor_steps.specs.Core.{Core, low_register, with_low}
 use Rattle.monitor_steps.specs.Effect.{Outcome, Halted}
 use Rattle.monitor_steps.specs.Safe.{Rule}
@@ -33,7 +33,7 @@ module _ (i : Image) (t : Tables) (p : Placed i t) (has : HasTables i t) (stub :
   abbrev k : Constants
   k = constants_with stub t
 
-  abbrev W : ℕ → Steps → List Steps → Core → (Outcome → Type 0) → Type 0
+  abbrev W : ℕ → PrivilegedSteps → List PrivilegedSteps → Core → (Outcome → Type 0) → Type 0
   W n s ks c Q = GivesWithin by_mpu i Good Allowed n s ks c Q
 
   rules : ObeysRules i
@@ -74,19 +74,19 @@ module _ (i : Image) (t : Tables) (p : Placed i t) (has : HasTables i t) (stub :
   sites_aligned n = let e = p.tables_first in omega (arith, e)
 
   -- a word of flash, whose base's address a register has
-  pub flash_word_within : (o off : ℕ) {n to b : ℕ} {s : Steps} {ks : List Steps} {c : Core} {Q : Outcome → Type 0} → IsOff true c.protection → low_register c b ≡ i.flash_base + o → o % 4 ≡ 0 → o + 4 * off + 4 ≤ length i.flash →
+  pub flash_word_within : (o off : ℕ) {n to b : ℕ} {s : PrivilegedSteps} {ks : List PrivilegedSteps} {c : Core} {Q : Outcome → Type 0} → IsOff true c.protection → low_register c b ≡ i.flash_base + o → o % 4 ≡ 0 → o + 4 * off + 4 ≤ length i.flash →
       ((v : ℕ) → v ≡ read 4 (o + 4 * off) i.flash → W n s ks (with_low c to v) Q) → W (1 + n) (Load Word to b off s) ks c Q
   flash_word_within o off {b = b} {c = c} q e al hi f =
       load_flash_within rules (o + 4 * off) {z = Word} (open_while_off c.protection q.control) (omega (arith, e)) (let a = rules.flash_aligned in omega (arith, al, a)) (omega (arith, hi)) (handles.plain.flash c 4 (o + 4 * off) hi) f
 
-  half_within : (o : ℕ) {n to b : ℕ} {s : Steps} {ks : List Steps} {c : Core} {Q : Outcome → Type 0} → IsOff true c.protection → low_register c b ≡ i.flash_base + o → o % 2 ≡ 0 → o + 2 ≤ length i.flash →
+  half_within : (o : ℕ) {n to b : ℕ} {s : PrivilegedSteps} {ks : List PrivilegedSteps} {c : Core} {Q : Outcome → Type 0} → IsOff true c.protection → low_register c b ≡ i.flash_base + o → o % 2 ≡ 0 → o + 2 ≤ length i.flash →
       ((v : ℕ) → v ≡ read 2 o i.flash → W n s ks (with_low c to v) Q) → W (1 + n) (Load Half to b 0 s) ks c Q
   half_within o {b = b} {c = c} q e al hi f =
       load_flash_within rules o {z = Half} (open_while_off c.protection q.control) (omega (arith, e)) (let a = rules.flash_aligned in omega (arith, al, a)) (omega (arith, hi)) (handles.plain.flash c 2 o hi) f
 
   module _ (msp psp : ℕ) (u : FaultStatus) where
     -- the return address is that of flash offset ro; halt 2 where the halfword there is no site's number, or the site's return address another
-    pub site_within : (ret ro : ℕ) {b : ℕ} {s : Steps} {ks : List Steps} {Q : Outcome → Type 0} (q : ProtectionState) (m : List ℕ) (a0 a1 a2 a3 a5 a6 a7 : ℕ) → IsOff true q → ret ≡ i.flash_base + ro → ro % 2 ≡ 0 → ro + 2 ≤ length i.flash →
+    pub site_within : (ret ro : ℕ) {b : ℕ} {s : PrivilegedSteps} {ks : List PrivilegedSteps} {Q : Outcome → Type 0} (q : ProtectionState) (m : List ℕ) (a0 a1 a2 a3 a5 a6 a7 : ℕ) → IsOff true q → ret ≡ i.flash_base + ro → ro % 2 ≡ 0 → ro + 2 ≤ length i.flash →
         ((d : Core) → d.ram ≡ m → (read 2 ro i.flash < length t.sites → (site_at t (read 2 ro i.flash)).ret ≡ ret → ⊥) → Q (Halted 2 d)) →
         ((v7 : ℕ) → read 2 ro i.flash < length t.sites → (site_at t (read 2 ro i.flash)).ret ≡ ret → W b s ks (core msp psp q u m a0 a1 a2 a3 ret (site_at t (read 2 ro i.flash)).first (site_at t (read 2 ro i.flash)).count v7) Q) →
         W (37 + b) (site k s) ks (core msp psp q u m a0 a1 a2 a3 ret a5 a6 a7) Q

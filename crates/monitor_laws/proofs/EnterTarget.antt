@@ -12,7 +12,7 @@ use Rattle.machine_model.specs.declared.state.FaultStatus.{FaultStatus}
 use Rattle.machine_model.specs.State.{by_mpu}
 use Rattle.monitor_steps.specs.declared.steps.GateOp.TheVariants.{Add}
 use Rattle.monitor_steps.specs.declared.steps.GateCond.TheVariants.{Eq}
-use Rattle.monitor_steps.specs.Steps.{Steps, End, Const, Load, Alu, Test}
+use Rattle.monitor_steps.specs.Steps.{PrivilegedSteps, End, Const, Load, Alu, Test}
 use Rattle.monitor_steps.specs.Core.{Core, low_register}
 use Rattle.monitor_steps.specs.Effect.{Outcome, Went, Halted, with_one_less}
 use Rattle.monitor_steps.specs.Safe.{Rule}
@@ -37,7 +37,7 @@ module _ (i : Image) (t : Tables) (p : Placed i t) (has : HasTables i t) (stub :
   abbrev k : Constants
   k = constants_with stub t
 
-  abbrev W : ℕ → Steps → List Steps → Core → (Outcome → Type 0) → Type 0
+  abbrev W : ℕ → PrivilegedSteps → List PrivilegedSteps → Core → (Outcome → Type 0) → Type 0
   W n s ks c Q = GivesWithin by_mpu i Good Allowed n s ks c Q
 
   -- the records of a site's targets stand in flash
@@ -117,7 +117,7 @@ module _ (i : Image) (t : Tables) (p : Placed i t) (has : HasTables i t) (stub :
             (no_within h (next_within (tail_within v3 (chosen i.flash to e r.done) (sym (picked false v3 (read 4 (to + 8 * r.done + 4) i.flash) (chosen i.flash to e r.done) e3 h))))) (omega arith)
 
     -- the entry is the caller's r12
-    pub target_within : (first count to o top : ℕ) {b : ℕ} {s : Steps} {ks : List Steps} {Q : Outcome → Type 0} (q : ProtectionState) (m : List ℕ) (a1 a2 a3 a4 a7 : ℕ) → IsOff true q → psp ≡ i.ram_base + o → InStack i t o top → i.ram_base + (o + 32) ≤ entry_top → read 4 (t.monitor - i.ram_base + 4) m ≡ top → HasTargets first count to →
+    pub target_within : (first count to o top : ℕ) {b : ℕ} {s : PrivilegedSteps} {ks : List PrivilegedSteps} {Q : Outcome → Type 0} (q : ProtectionState) (m : List ℕ) (a1 a2 a3 a4 a7 : ℕ) → IsOff true q → psp ≡ i.ram_base + o → InStack i t o top → i.ram_base + (o + 32) ≤ entry_top → read 4 (t.monitor - i.ram_base + 4) m ≡ top → HasTargets first count to →
         ((d : Core) → d.ram ≡ m → chosen i.flash to (read 4 (o + 16) m) count ≡ 0xFFFFFFFF → Q (Halted 3 d)) →
         ((v4 v7 : ℕ) → chosen i.flash to (read 4 (o + 16) m) count ≢ 0xFFFFFFFF → W b s ks (core msp psp q u m psp a1 a2 0xFFFFFFFF v4 (chosen i.flash to (read 4 (o + 16) m) count) 0 v7) Q) →
         W (25 + 16 * count + b) (target k s) ks (core msp psp q u m psp a1 a2 a3 a4 first count a7) Q

@@ -9,7 +9,7 @@ use Rattle.machine_devices.specs.declared.image.Image.{Image}
 use Rattle.machine_devices.specs.Rules.{ObeysRules}
 use Rattle.machine_model.specs.declared.state.ProtectionState.{ProtectionState}
 use Rattle.machine_model.specs.State.{PermissionTest, by_mpu}
-use Rattle.monitor_steps.specs.Steps.{Steps, Load, Store, WritePsp}
+use Rattle.monitor_steps.specs.Steps.{PrivilegedSteps, Load, Store, WritePsp}
 use Rattle.monitor_steps.specs.Core.{Core, low_register, with_low, with_ram, with_psp, is_privileged_on_msp}
 use Rattle.monitor_steps.specs.Effect.{Outcome, Unclaimed, either, effect}
 use Rattle.monitor_steps.specs.Ticks.{then_ticks, either_ticks, ticks}
@@ -25,7 +25,7 @@ use Rattle.monitor_laws.proofs.Opened.{Handles}
 use Rattle.monitor_laws.proofs.Placement.{writable}
 
 -- PSP, with steps behind it
-pub write_psp_within : {j : PermissionTest} {i : Image} {Good : ProtectionState → Type 0} {Allowed : Rule} {n from : ℕ} {k : Steps} {ks : List Steps} {c : Core} {Q : Outcome → Type 0} → is_privileged_on_msp c ≡ true → GivesWithin j i Good Allowed n k ks (with_psp c (low_register c from)) Q → GivesWithin j i Good Allowed (1 + n) (WritePsp from k) ks c Q
+pub write_psp_within : {j : PermissionTest} {i : Image} {Good : ProtectionState → Type 0} {Allowed : Rule} {n from : ℕ} {k : PrivilegedSteps} {ks : List PrivilegedSteps} {c : Core} {Q : Outcome → Type 0} → is_privileged_on_msp c ≡ true → GivesWithin j i Good Allowed n k ks (with_psp c (low_register c from)) Q → GivesWithin j i Good Allowed (1 + n) (WritePsp from k) ks c Q
 unfolding ticks_all
 write_psp_within {j} {i} {Good} {Allowed} {n} {from} {k} {ks = []} {c} {Q} e w = record {
   gives = set_psp_gives e w.gives;
@@ -77,7 +77,7 @@ apart_from_block i t o top p s =
     ⊎_elim (λ x. inl (omega (arith, l, h, e, b, x))) (λ x. inr (omega (arith, l, h, e, b, x))) p.apart
 
 module _ (i : Image) (t : Tables) (p : Placed i t) (has : HasTables i t) (stub : ℕ) (Good : ProtectionState → Type 0) (Allowed : Rule) {entry_top : ℕ} (handles : Handles i t entry_top Allowed) (good : (q : ProtectionState) → IsOff true q → Good q) where
-  abbrev W : ℕ → Steps → List Steps → Core → (Outcome → Type 0) → Type 0
+  abbrev W : ℕ → PrivilegedSteps → List PrivilegedSteps → Core → (Outcome → Type 0) → Type 0
   W n s ks c Q = GivesWithin by_mpu i Good Allowed n s ks c Q
 
   rules : ObeysRules i
@@ -99,13 +99,13 @@ module _ (i : Image) (t : Tables) (p : Placed i t) (has : HasTables i t) (stub :
   entry_room d off h k = let l = p.block_inside.0 in let m = p.block_inside.1 in omega (arith, h, k, l, m)
 
   -- a word of the saved entry numbered d; a register has the address 32 bytes before it
-  pub entry_load_within : (d off : ℕ) {n to b : ℕ} {s : Steps} {ks : List Steps} {c : Core} {Q : Outcome → Type 0} → IsOff true c.protection → low_register c b ≡ t.monitor + 16 * d → d < 8 → nat_lt off 12 ≡ true →
+  pub entry_load_within : (d off : ℕ) {n to b : ℕ} {s : PrivilegedSteps} {ks : List PrivilegedSteps} {c : Core} {Q : Outcome → Type 0} → IsOff true c.protection → low_register c b ≡ t.monitor + 16 * d → d < 8 → nat_lt off 12 ≡ true →
       ((v : ℕ) → v ≡ read 4 (block + (16 * d + 4 * off)) c.ram → W n s ks (with_low c to v) Q) → W (1 + n) (Load Word to b off s) ks c Q
   entry_load_within d off {b = b} {c = c} q e few h f =
       let z : off < 12 = lt_true off 12 h in
       load_within rules (block + (16 * d + 4 * off)) (open_while_off c.protection q.control) (entry_at d off (low_register c b) e) (entry_aligned d off) (entry_room d off few z) (handles.block Read c (16 * d + 4 * off) q.mode (omega (arith, z, few))) f
 
-  pub entry_store_within : (d off : ℕ) {n from b : ℕ} {s : Steps} {ks : List Steps} {c : Core} {Q : Outcome → Type 0} → IsOff true c.protection → low_register c b ≡ t.monitor + 16 * d → d < 8 → nat_lt off 12 ≡ true →
+  pub entry_store_within : (d off : ℕ) {n from b : ℕ} {s : PrivilegedSteps} {ks : List PrivilegedSteps} {c : Core} {Q : Outcome → Type 0} → IsOff true c.protection → low_register c b ≡ t.monitor + 16 * d → d < 8 → nat_lt off 12 ≡ true →
       ((m : List ℕ) → m ≡ write 4 (block + (16 * d + 4 * off)) (low_register c from) c.ram → length m ≡ length c.ram → W n s ks (with_ram c m) Q) → W (1 + n) (Store Word from b off s) ks c Q
   entry_store_within d off {b = b} {c = c} q e few h f =
       let z : off < 12 = lt_true off 12 h in
@@ -130,13 +130,13 @@ module _ (i : Image) (t : Tables) (p : Placed i t) (has : HasTables i t) (stub :
   frame_below o off below lt = omega (arith, below, lt)
 
   -- a word of a frame, whose address a register has; TOP stands in the block
-  pub frame_load_within : (o top off : ℕ) {n to b : ℕ} {s : Steps} {ks : List Steps} {c : Core} {Q : Outcome → Type 0} → IsOff true c.protection → InStack i t o top → i.ram_base + (o + 32) ≤ entry_top → low_register c b ≡ i.ram_base + o → nat_lt off 8 ≡ true → read 4 (block + 4) c.ram ≡ top →
+  pub frame_load_within : (o top off : ℕ) {n to b : ℕ} {s : PrivilegedSteps} {ks : List PrivilegedSteps} {c : Core} {Q : Outcome → Type 0} → IsOff true c.protection → InStack i t o top → i.ram_base + (o + 32) ≤ entry_top → low_register c b ≡ i.ram_base + o → nat_lt off 8 ≡ true → read 4 (block + 4) c.ram ≡ top →
       ((v : ℕ) → v ≡ read 4 (o + 4 * off) c.ram → W n s ks (with_low c to v) Q) → W (1 + n) (Load Word to b off s) ks c Q
   frame_load_within o top off {b = b} {c = c} q s below e h et f =
       let z : off < 8 = lt_true off 8 h in
       load_within rules (o + 4 * off) (open_while_off c.protection q.control) (frame_at o off (low_register c b) e) (frame_aligned o off s.aligned) (frame_room o top off s z) (handles.stack_load c (o + 4 * off) (frame_low o top off s) (frame_high o top off (read 4 (block + 4) c.ram) s z et) (frame_below o off below z)) f
 
-  pub frame_store_within : (o top off : ℕ) {n from b : ℕ} {s : Steps} {ks : List Steps} {c : Core} {Q : Outcome → Type 0} → IsOff true c.protection → InStack i t o top → low_register c b ≡ i.ram_base + o → nat_lt off 8 ≡ true → read 4 (block + 4) c.ram ≡ top →
+  pub frame_store_within : (o top off : ℕ) {n from b : ℕ} {s : PrivilegedSteps} {ks : List PrivilegedSteps} {c : Core} {Q : Outcome → Type 0} → IsOff true c.protection → InStack i t o top → low_register c b ≡ i.ram_base + o → nat_lt off 8 ≡ true → read 4 (block + 4) c.ram ≡ top →
       ((m : List ℕ) → m ≡ write 4 (o + 4 * off) (low_register c from) c.ram → length m ≡ length c.ram → W n s ks (with_ram c m) Q) → W (1 + n) (Store Word from b off s) ks c Q
   frame_store_within o top off {b = b} {c = c} q s e h et f =
       let z : off < 8 = lt_true off 8 h in

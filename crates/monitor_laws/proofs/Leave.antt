@@ -11,7 +11,7 @@ use Rattle.machine_devices.specs.declared.image.Image.{Image}
 use Rattle.machine_model.specs.declared.state.ProtectionState.{ProtectionState}
 use Rattle.machine_model.specs.declared.state.FaultStatus.{FaultStatus}
 use Rattle.machine_model.specs.State.{by_mpu}
-use Rattle.monitor_steps.specs.Steps.{Steps}
+use Rattle.monitor_steps.specs.Steps.{PrivilegedSteps}
 use Rattle.monitor_steps.specs.Core.{Core}
 use Rattle.monitor_steps.specs.Effect.{Outcome, Halted, AtReturn}
 use Rattle.monitor_steps.specs.Safe.{Rule}
@@ -44,7 +44,7 @@ module _ (i : Image) (t : Tables) (p : Placed i t) (has : HasTables i t) (stub :
   abbrev k : Constants
   k = constants_with stub t
 
-  abbrev W : ℕ → Steps → List Steps → Core → (Outcome → Type 0) → Type 0
+  abbrev W : ℕ → PrivilegedSteps → List PrivilegedSteps → Core → (Outcome → Type 0) → Type 0
   W n s ks c Q = GivesWithin by_mpu i Good Allowed n s ks c Q
 
   abbrev block : ℕ
@@ -56,7 +56,7 @@ module _ (i : Image) (t : Tables) (p : Placed i t) (has : HasTables i t) (stub :
 
   module _ (msp psp : ℕ) (u : FaultStatus) where
     -- without a call that waits
-    pub leave_last_within : {ks : List Steps} {Q : Outcome → Type 0} (q : ProtectionState) (m : List ℕ) (a0 a2 a3 a4 a5 a6 a7 : ℕ) → IsOff true q → read 4 (block + 8) m ≡ 0 →
+    pub leave_last_within : {ks : List PrivilegedSteps} {Q : Outcome → Type 0} (q : ProtectionState) (m : List ℕ) (a0 a2 a3 a4 a5 a6 a7 : ℕ) → IsOff true q → read 4 (block + 8) m ≡ 0 →
         ((d : Core) → d.ram ≡ m → Q (Halted 0 d)) →
         W 8 (leave k) ks (core msp psp q u m a0 k.block a2 a3 a4 a5 a6 a7) Q
     leave_last_within {ks} {Q} q m a0 a2 a3 a4 a5 a6 a7 off none refuse =
@@ -66,7 +66,7 @@ module _ (i : Image) (t : Tables) (p : Placed i t) (has : HasTables i t) (stub :
 
     -- the last call that waits goes on: RAM is as HasLeft tells, PSP is that of its frame, and the unit has the regions of its compartment
     -- and of its TOP
-    pub leave_within : {ks : List Steps} {Q : Outcome → Type 0} (o d back current top mark below : ℕ) (q : ProtectionState) (m : List ℕ) (a2 a3 a4 a5 a6 a7 : ℕ) → psp ≡ i.ram_base + o → IsOff true q → Leaving i t p has stub m d back current top mark → InStack i t back top → InStack i t o top → i.ram_base + (o + 32) ≤ entry_top →
+    pub leave_within : {ks : List PrivilegedSteps} {Q : Outcome → Type 0} (o d back current top mark below : ℕ) (q : ProtectionState) (m : List ℕ) (a2 a3 a4 a5 a6 a7 : ℕ) → psp ≡ i.ram_base + o → IsOff true q → Leaving i t p has stub m d back current top mark → InStack i t back top → InStack i t o top → i.ram_base + (o + 32) ≤ entry_top →
         (is : IsTop t below top) → current < length t.comps → HasFirstRegions i t q.mpu →
         ((q1 : ProtectionState) → q1 ≡ with_unit q (with_regions current is.0 q.mpu) → q1.mpu.regions ≡ regions_for i t current top → Good (with_unit q1 (record q1.mpu { control = 5 }))) →
         ((q1 : ProtectionState) (new : List ℕ) (b0 b2 b4 b6 b7 : ℕ) → q1 ≡ with_unit q (record (with_regions current is.0 q.mpu) { control = 5 }) → q1.mpu.regions ≡ regions_for i t current top → HasLeft i t p has stub o m new d back current top mark →

@@ -12,7 +12,7 @@ use Rattle.machine_devices.specs.declared.image.Image.{Image}
 use Rattle.machine_model.specs.declared.state.ProtectionState.{ProtectionState}
 use Rattle.machine_model.specs.declared.state.FaultStatus.{FaultStatus}
 use Rattle.machine_model.specs.State.{by_mpu}
-use Rattle.monitor_steps.specs.Steps.{Steps}
+use Rattle.monitor_steps.specs.Steps.{PrivilegedSteps}
 use Rattle.monitor_steps.specs.Core.{Core}
 use Rattle.monitor_steps.specs.Effect.{Outcome, Halted, AtReturn}
 use Rattle.monitor_steps.specs.Safe.{Rule}
@@ -58,7 +58,7 @@ module _ (i : Image) (t : Tables) (p : Placed i t) (has : HasTables i t) (stub :
   abbrev k : Constants
   k = constants_with stub t
 
-  abbrev W : ℕ → Steps → List Steps → Core → (Outcome → Type 0) → Type 0
+  abbrev W : ℕ → PrivilegedSteps → List PrivilegedSteps → Core → (Outcome → Type 0) → Type 0
   W n s ks c Q = GivesWithin by_mpu i Good Allowed n s ks c Q
 
   abbrev block : ℕ
@@ -66,7 +66,7 @@ module _ (i : Image) (t : Tables) (p : Placed i t) (has : HasTables i t) (stub :
 
   module _ (msp psp : ℕ) (u : FaultStatus) where
     -- the list behind its tests: address, number and LOANS in r4 to r6, the size in r2. The loan is written, and LOANS counts it
-    entry_within : {ks : List Steps} {Q : Outcome → Type 0} (q : ProtectionState) (m : List ℕ) (live address number size a0 a3 a7 : ℕ) → IsOff true q → Good (with_unit q (record q.mpu { control = 5 })) → live < 32 → address + size < 2 ^ 32 →
+    entry_within : {ks : List PrivilegedSteps} {Q : Outcome → Type 0} (q : ProtectionState) (m : List ℕ) (live address number size a0 a3 a7 : ℕ) → IsOff true q → Good (with_unit q (record q.mpu { control = 5 })) → live < 32 → address + size < 2 ^ 32 →
         ((q1 : ProtectionState) (new : List ℕ) → q1 ≡ with_unit q (record q.mpu { control = 5 }) → new ≡ with_loan block live address (address + size) number m → length new ≡ length m →
         Q (AtReturn (core msp psp q1 u new a0 k.block (address + size) 1 address number MPU_CTRL 5))) →
         W 43 (lend_entry k closed_up) ks (core msp psp q u m a0 k.block size a3 address number live a7) Q
@@ -144,7 +144,7 @@ module _ (i : Image) (t : Tables) (p : Placed i t) (has : HasTables i t) (stub :
             ∙ ap (λ m. write 4 (block + (160 + 12 * live + 4)) (address + size) m) g1))
 
     -- the loan that is asked for, where it may be made; else halt 6
-    pub lend_within : {ks : List Steps} {Q : Outcome → Type 0} (q : ProtectionState) (o top live address number : ℕ) (m : List ℕ) (a2 a4 a5 a6 a7 : ℕ) → IsOff true q → Good (with_unit q (record q.mpu { control = 5 })) → psp ≡ i.ram_base + o → o % 4 ≡ 0 → FrameIsOpen i t o m → top ≡ read 4 (block + 4) m → top ≤ stack_end t → top ≤ entry_top →
+    pub lend_within : {ks : List PrivilegedSteps} {Q : Outcome → Type 0} (q : ProtectionState) (o top live address number : ℕ) (m : List ℕ) (a2 a4 a5 a6 a7 : ℕ) → IsOff true q → Good (with_unit q (record q.mpu { control = 5 })) → psp ≡ i.ram_base + o → o % 4 ≡ 0 → FrameIsOpen i t o m → top ≡ read 4 (block + 4) m → top ≤ stack_end t → top ≤ entry_top →
         read 4 o m ≡ address → read 4 (o + 4) m ≡ number → read 4 (block + 12) m ≡ live → live ≤ 32 →
         ((d : Core) → d.ram ≡ m → (MayLend t psp top live address number → ⊥) → Q (Halted 6 d)) →
         ((q1 : ProtectionState) (new : List ℕ) → q1 ≡ with_unit q (record q.mpu { control = 5 }) → MayLend t psp top live address number → new ≡ with_loan block live address (address + lend_size t number) number m → length new ≡ length m →

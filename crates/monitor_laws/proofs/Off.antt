@@ -13,7 +13,7 @@ use Rattle.machine_model.specs.declared.state.FaultStatus.{FaultStatus}
 use Rattle.machine_model.specs.State.{by_mpu, is_unprivileged}
 use Rattle.machine_model.specs.System.{in_system, is_system_register, write_status, read_system}
 use Rattle.machine_model.proofs.ToSystem.{to_system}
-use Rattle.monitor_steps.specs.Steps.{Steps, Load, Store}
+use Rattle.monitor_steps.specs.Steps.{PrivilegedSteps, Load, Store}
 use Rattle.monitor_steps.specs.Core.{Core, low_register, with_low}
 use Rattle.monitor_steps.specs.Accesses.{Value, address_of, load}
 use Rattle.monitor_steps.specs.Effect.{Outcome}
@@ -57,7 +57,7 @@ unfolding write_register
 control_written v m = refl
 
 -- a register of the system into a register
-pub system_load_within : {i : Image} {Good : ProtectionState → Type 0} {Allowed : Rule} (a : ℕ) {n to base off : ℕ} {k : Steps} {ks : List Steps} {c : Core} {Q : Outcome → Type 0} → is_unprivileged c.protection ≡ false → low_register c base + 4 * off ≡ a → a % 4 ≡ 0 → a < 2 ^ 32 → in_system a ≡ true → is_system_register a ≡ true → Allowed Read c 4 a →
+pub system_load_within : {i : Image} {Good : ProtectionState → Type 0} {Allowed : Rule} (a : ℕ) {n to base off : ℕ} {k : PrivilegedSteps} {ks : List PrivilegedSteps} {c : Core} {Q : Outcome → Type 0} → is_unprivileged c.protection ≡ false → low_register c base + 4 * off ≡ a → a % 4 ≡ 0 → a < 2 ^ 32 → in_system a ≡ true → is_system_register a ≡ true → Allowed Read c 4 a →
     GivesWithin by_mpu i Good Allowed n k ks (with_low c to (read_system a c.protection c.status)) Q → GivesWithin by_mpu i Good Allowed (1 + n) (Load Word to base off k) ks c Q
 system_load_within {i} {Good} {Allowed} a {n} {to} {base} {off} {k} {ks} {c} {Q} u e al lt s r ok w =
     let q : address_of c 4 base off ≡ a = omega (arith, e, lt) in
@@ -85,11 +85,11 @@ unfolding write_register
 rasr_control v m = refl
 
 module _ (i : Image) (rules : ObeysRules i) (Good : ProtectionState → Type 0) (Allowed : Rule) (h : Bool) (allows : Allows i Allowed h) (good : (q : ProtectionState) → IsOff h q → Good q) where
-  abbrev pub Within : ℕ → Steps → List Steps → Core → (Outcome → Type 0) → Type 0
+  abbrev pub Within : ℕ → PrivilegedSteps → List PrivilegedSteps → Core → (Outcome → Type 0) → Type 0
   Within n s ks c Q = GivesWithin by_mpu i Good Allowed n s ks c Q
 
   -- a register of the unit that leaves MPU_CTRL as it is
-  pub unit_within : (a : ℕ) {n from base off : ℕ} {k : Steps} {ks : List Steps} {c : Core} {Q : Outcome → Type 0} → low_register c base + 4 * off ≡ a → a % 4 ≡ 0 → a < 2 ^ 32 → in_system a ≡ true → is_system_register a ≡ true → IsOff h c.protection →
+  pub unit_within : (a : ℕ) {n from base off : ℕ} {k : PrivilegedSteps} {ks : List PrivilegedSteps} {c : Core} {Q : Outcome → Type 0} → low_register c base + 4 * off ≡ a → a % 4 ≡ 0 → a < 2 ^ 32 → in_system a ≡ true → is_system_register a ≡ true → IsOff h c.protection →
       write_status a (low_register c from) c.status ≡ c.status → (write_register a (low_register c from) c.protection.mpu).control ≡ c.protection.mpu.control →
       ((q : ProtectionState) → q ≡ with_unit c.protection (write_register a (low_register c from) c.protection.mpu) → IsOff h q → Within n k ks (record c { protection = q }) Q) →
       Within (1 + n) (Store Word from base off k) ks c Q
@@ -101,7 +101,7 @@ module _ (i : Image) (rules : ObeysRules i) (Good : ProtectionState → Type 0) 
 
   module _ (msp psp : ℕ) (u : FaultStatus) where
     -- MPU_CTRL, by r6 and r7
-    pub set_control_within : {n : ℕ} {k : Steps} {ks : List Steps} {Q : Outcome → Type 0} (v : ℕ) (p : ProtectionState) (m : List ℕ) (a0 a1 a2 a3 a4 a5 a6 a7 : ℕ) → p.handler ≡ h → is_unprivileged p ≡ false → v < 8 → Good (with_unit p (record p.mpu { control = v })) →
+    pub set_control_within : {n : ℕ} {k : PrivilegedSteps} {ks : List PrivilegedSteps} {Q : Outcome → Type 0} (v : ℕ) (p : ProtectionState) (m : List ℕ) (a0 a1 a2 a3 a4 a5 a6 a7 : ℕ) → p.handler ≡ h → is_unprivileged p ≡ false → v < 8 → Good (with_unit p (record p.mpu { control = v })) →
         ((q : ProtectionState) → q ≡ with_unit p (record p.mpu { control = v }) → Within n k ks (core msp psp q u m a0 a1 a2 a3 a4 a5 MPU_CTRL v) Q) →
         Within (2 + (2 + (1 + n))) (set_control 6 7 v k) ks (core msp psp p u m a0 a1 a2 a3 a4 a5 a6 a7) Q
     set_control_within {n} {k} {ks} {Q} v p m a0 a1 a2 a3 a4 a5 a6 a7 mode priv lt ok f =

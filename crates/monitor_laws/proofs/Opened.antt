@@ -14,7 +14,7 @@ use Rattle.machine_devices.specs.Rules.{ObeysRules}
 use Rattle.machine_model.specs.declared.state.ProtectionState.{ProtectionState}
 use Rattle.machine_model.specs.declared.state.FaultStatus.{FaultStatus}
 use Rattle.machine_model.specs.State.{by_mpu, is_unprivileged}
-use Rattle.monitor_steps.specs.Steps.{Steps, Load, Store}
+use Rattle.monitor_steps.specs.Steps.{PrivilegedSteps, Load, Store}
 use Rattle.monitor_steps.specs.Core.{Core, low_register}
 use Rattle.monitor_steps.specs.Effect.{Outcome, Halted}
 use Rattle.monitor_steps.specs.Safe.{Rule}
@@ -63,7 +63,7 @@ module _ (i : Image) (t : Tables) (p : Placed i t) (has : HasTables i t) (stub :
   abbrev k : Constants
   k = constants_with stub t
 
-  abbrev W : ℕ → Steps → List Steps → Core → (Outcome → Type 0) → Type 0
+  abbrev W : ℕ → PrivilegedSteps → List PrivilegedSteps → Core → (Outcome → Type 0) → Type 0
   W n s ks c Q = GivesWithin by_mpu i Good Allowed n s ks c Q
 
   rules : ObeysRules i
@@ -82,13 +82,13 @@ module _ (i : Image) (t : Tables) (p : Placed i t) (has : HasTables i t) (stub :
   block_room off h = let l = p.block_inside.0 in let m = p.block_inside.1 in omega (arith, h, l, m)
 
   -- a word of the block, whose address a register has
-  pub block_load_within : (off : ℕ) {n to b : ℕ} {s : Steps} {ks : List Steps} {c : Core} {Q : Outcome → Type 0} → IsOff true c.protection → low_register c b ≡ k.block → nat_lt off 136 ≡ true →
+  pub block_load_within : (off : ℕ) {n to b : ℕ} {s : PrivilegedSteps} {ks : List PrivilegedSteps} {c : Core} {Q : Outcome → Type 0} → IsOff true c.protection → low_register c b ≡ k.block → nat_lt off 136 ≡ true →
       ((v : ℕ) → v ≡ read 4 (block + 4 * off) c.ram → W n s ks (Rattle.monitor_steps.specs.Core.with_low c to v) Q) → W (1 + n) (Load Word to b off s) ks c Q
   block_load_within off {b = b} {c = c} q e h f =
       let z : off < 136 = grind (arith, nat_tests, h) in
       load_within rules (block + 4 * off) (open_while_off c.protection q.control) (block_at off (low_register c b) e) (block_aligned off) (block_room off z) (handles.block Read c (4 * off) q.mode (omega (arith, z))) f
 
-  pub block_store_within : (off : ℕ) {n from b : ℕ} {s : Steps} {ks : List Steps} {c : Core} {Q : Outcome → Type 0} → IsOff true c.protection → low_register c b ≡ k.block → nat_lt off 136 ≡ true →
+  pub block_store_within : (off : ℕ) {n from b : ℕ} {s : PrivilegedSteps} {ks : List PrivilegedSteps} {c : Core} {Q : Outcome → Type 0} → IsOff true c.protection → low_register c b ≡ k.block → nat_lt off 136 ≡ true →
       ((m : List ℕ) → m ≡ write 4 (block + 4 * off) (low_register c from) c.ram → length m ≡ length c.ram → W n s ks (Rattle.monitor_steps.specs.Core.with_ram c m) Q) → W (1 + n) (Store Word from b off s) ks c Q
   block_store_within off {from = from} {b = b} {c = c} q e h f =
       let z : off < 136 = grind (arith, nat_tests, h) in
@@ -96,7 +96,7 @@ module _ (i : Image) (t : Tables) (p : Placed i t) (has : HasTables i t) (stub :
 
   module _ (msp psp : ℕ) (u : FaultStatus) where
     -- the three tests with their halts: 46 steps at most
-    pub opened_within : {b : ℕ} {s : Steps} {ks : List Steps} {Q : Outcome → Type 0} (q : ProtectionState) (o : ℕ) (m : List ℕ) (a0 a1 a2 a3 a4 a5 a6 a7 : ℕ) → q.handler ≡ true → is_unprivileged q ≡ false → psp ≡ i.ram_base + o → o % 4 ≡ 0 → o < 2 ^ 31 → read 4 (block + 4) m ≤ stack_end t → read 4 (block + 4) m ≤ entry_top →
+    pub opened_within : {b : ℕ} {s : PrivilegedSteps} {ks : List PrivilegedSteps} {Q : Outcome → Type 0} (q : ProtectionState) (o : ℕ) (m : List ℕ) (a0 a1 a2 a3 a4 a5 a6 a7 : ℕ) → q.handler ≡ true → is_unprivileged q ≡ false → psp ≡ i.ram_base + o → o % 4 ≡ 0 → o < 2 ^ 31 → read 4 (block + 4) m ≤ stack_end t → read 4 (block + 4) m ≤ entry_top →
         ((d : Core) → d.ram ≡ m → (FrameIsOpen i t o m → ⊥) → Q (Halted 4 d)) →
         ((q1 : ProtectionState) (v4 : ℕ) → q1 ≡ with_unit q (record q.mpu { control = 0 }) → IsOff true q1 → FrameIsOpen i t o m → W b s ks (core msp psp q1 u m psp k.block k.stack (read 4 (block + 4) m) v4 0 MPU_CTRL 0) Q) →
         W (46 + b) (opened k s) ks (core msp psp q u m a0 a1 a2 a3 a4 a5 a6 a7) Q

@@ -34,10 +34,10 @@ starts_allow i t = record { flash = λ c w o h. tt; system = λ c a h al s. λ k
 pub starts_write_block : (t : Tables) (c : Core) (o : ℕ) → o + 4 ≤ 1024 → StartRule t Write c 4 (t.monitor + o)
 starts_write_block t c o h = λ k lt. ToBlock (omega arith, omega (arith, h, lt))
 
-abbrev Holds : (a : ℕ) → InitRecord → Type 0
-Holds a n = (n.at ≤ a) × (a < n.end)
+abbrev Fills : (a : ℕ) → InitRecord → Type 0
+Fills a n = (n.at ≤ a) × (a < n.end)
 
-copied_each : (i : Image) (t : Tables) (xs : List InitRecord) → ((a : ℕ) → AnyOf (Holds a) xs → AnyOf (Holds a) t.inits) → Each (IsInit i) xs → Each (IsCopied i (StartRule t)) xs
+copied_each : (i : Image) (t : Tables) (xs : List InitRecord) → ((a : ℕ) → AnyOf (Fills a) xs → AnyOf (Fills a) t.inits) → Each (IsInit i) xs → Each (IsCopied i (StartRule t)) xs
 copied_each i t [] up e = tt
 copied_each i t (x ∷ xs) up e = (first e.0, copied_each i t xs (λ a h. up a (inr h)) e.1)
   where

@@ -9,7 +9,7 @@ use Rattle.machine_devices.specs.declared.image.Image.{Image}
 use Rattle.machine_model.specs.declared.state.ProtectionState.{ProtectionState}
 use Rattle.machine_model.specs.declared.state.FaultStatus.{FaultStatus}
 use Rattle.machine_model.specs.State.{by_mpu, is_unprivileged}
-use Rattle.monitor_steps.specs.Steps.{Steps}
+use Rattle.monitor_steps.specs.Steps.{PrivilegedSteps}
 use Rattle.monitor_steps.specs.Core.{Core}
 use Rattle.monitor_steps.specs.Effect.{Outcome, Halted, AtReturn}
 use Rattle.monitor_steps.specs.Safe.{Rule}
@@ -42,23 +42,23 @@ module _ (i : Image) (t : Tables) (p : Placed i t) (has : HasTables i t) (stub :
   abbrev k : Constants
   k = constants_with stub t
 
-  abbrev W : ℕ → Steps → List Steps → Core → (Outcome → Type 0) → Type 0
+  abbrev W : ℕ → PrivilegedSteps → List PrivilegedSteps → Core → (Outcome → Type 0) → Type 0
   W n s ks c Q = GivesWithin by_mpu i Good Allowed n s ks c Q
 
   abbrev block : ℕ
   block = t.monitor - i.ram_base
 
   -- by the number
-  abbrev pub by_number : Steps
+  abbrev pub by_number : PrivilegedSteps
   by_number = lists_by_number k
 
   -- up to the number
-  abbrev pub numbered : Steps → Steps
+  abbrev pub numbered : PrivilegedSteps → PrivilegedSteps
   numbered rest = opened k (svc_number rest)
 
   module _ (msp psp : ℕ) (u : FaultStatus) where
     -- the number into r5, the return address in r4: 54 steps
-    pub numbered_within : {b : ℕ} {s : Steps} {Q : Outcome → Type 0} (q : ProtectionState) (o n : ℕ) (m : List ℕ) (a0 a1 a2 a3 a4 a5 a6 a7 : ℕ) → q.handler ≡ true → is_unprivileged q ≡ false → psp ≡ i.ram_base + o → o % 4 ≡ 0 → o < 2 ^ 31 → read 4 (block + 4) m ≤ stack_end t → read 4 (block + 4) m ≤ entry_top → Called i (read 4 (o + 24) m) n →
+    pub numbered_within : {b : ℕ} {s : PrivilegedSteps} {Q : Outcome → Type 0} (q : ProtectionState) (o n : ℕ) (m : List ℕ) (a0 a1 a2 a3 a4 a5 a6 a7 : ℕ) → q.handler ≡ true → is_unprivileged q ≡ false → psp ≡ i.ram_base + o → o % 4 ≡ 0 → o < 2 ^ 31 → read 4 (block + 4) m ≤ stack_end t → read 4 (block + 4) m ≤ entry_top → Called i (read 4 (o + 24) m) n →
         ((d : Core) → d.ram ≡ m → (FrameIsOpen i t o m → ⊥) → Q (Halted 4 d)) →
         ((q1 : ProtectionState) → q1 ≡ with_unit q (record q.mpu { control = 0 }) → IsOff true q1 → FrameIsOpen i t o m → W b s [] (core msp psp q1 u m psp k.block k.stack (read 4 (block + 4) m) (read 4 (o + 24) m) n MPU_CTRL 0) Q) →
         W (54 + b) (numbered s) [] (core msp psp q u m a0 a1 a2 a3 a4 a5 a6 a7) Q

@@ -8,7 +8,7 @@ use Rattle.machine_devices.specs.declared.image.Image.{Image}
 use Rattle.machine_model.specs.declared.state.ProtectionState.{ProtectionState}
 use Rattle.machine_model.specs.declared.state.FaultStatus.{FaultStatus}
 use Rattle.machine_model.specs.State.{by_mpu}
-use Rattle.monitor_steps.specs.Steps.{Steps}
+use Rattle.monitor_steps.specs.Steps.{PrivilegedSteps}
 use Rattle.monitor_steps.specs.Core.{Core}
 use Rattle.monitor_steps.specs.Effect.{Outcome, Halted, AtReturn}
 use Rattle.monitor_steps.specs.Safe.{Rule}
@@ -26,7 +26,7 @@ module _ (i : Image) (t : Tables) (p : Placed i t) (has : HasTables i t) (stub :
   abbrev k : Constants
   k = constants_with stub t
 
-  abbrev W : ℕ → Steps → List Steps → Core → (Outcome → Type 0) → Type 0
+  abbrev W : ℕ → PrivilegedSteps → List PrivilegedSteps → Core → (Outcome → Type 0) → Type 0
   W n s ks c Q = GivesWithin by_mpu i Good Allowed n s ks c Q
 
   abbrev block : ℕ
@@ -34,7 +34,7 @@ module _ (i : Image) (t : Tables) (p : Placed i t) (has : HasTables i t) (stub :
 
   module _ (msp psp : ℕ) (u : FaultStatus) where
     -- the unit on again, and the exception return
-    pub closed_within : {ks : List Steps} {Q : Outcome → Type 0} (q : ProtectionState) (m : List ℕ) (a0 a1 a2 a3 a4 a5 a6 a7 : ℕ) → IsOff true q → Good (with_unit q (record q.mpu { control = 5 })) →
+    pub closed_within : {ks : List PrivilegedSteps} {Q : Outcome → Type 0} (q : ProtectionState) (m : List ℕ) (a0 a1 a2 a3 a4 a5 a6 a7 : ℕ) → IsOff true q → Good (with_unit q (record q.mpu { control = 5 })) →
         ((q1 : ProtectionState) → q1 ≡ with_unit q (record q.mpu { control = 5 }) → Q (AtReturn (core msp psp q1 u m a0 a1 a2 a3 a4 a5 MPU_CTRL 5))) →
         W 7 closed_up ks (core msp psp q u m a0 a1 a2 a3 a4 a5 a6 a7) Q
     closed_within q m a0 a1 a2 a3 a4 a5 a6 a7 off on f =
@@ -43,7 +43,7 @@ module _ (i : Image) (t : Tables) (p : Placed i t) (has : HasTables i t) (stub :
         return_within (f q1 e))) (omega arith)
 
     -- the last loan ends, where LOANS is not MARK; else halt 6
-    pub unlend_within : {ks : List Steps} {Q : Outcome → Type 0} (q : ProtectionState) (m : List ℕ) (a0 a2 a3 a4 a5 a6 a7 : ℕ) → IsOff true q → Good (with_unit q (record q.mpu { control = 5 })) →
+    pub unlend_within : {ks : List PrivilegedSteps} {Q : Outcome → Type 0} (q : ProtectionState) (m : List ℕ) (a0 a2 a3 a4 a5 a6 a7 : ℕ) → IsOff true q → Good (with_unit q (record q.mpu { control = 5 })) →
         ((d : Core) → d.ram ≡ m → read 4 (block + 12) m ≡ read 4 (block + 16) m → Q (Halted 6 d)) →
         ((q1 : ProtectionState) (new : List ℕ) (v4 : ℕ) → q1 ≡ with_unit q (record q.mpu { control = 5 }) → read 4 (block + 12) m ≢ read 4 (block + 16) m → new ≡ write 4 (block + 12) (subtract (read 4 (block + 12) m) 1) m → length new ≡ length m →
         Q (AtReturn (core msp psp q1 u new a0 k.block a2 a3 v4 1 MPU_CTRL 5))) →

@@ -12,7 +12,7 @@ use Rattle.machine_devices.specs.Rules.{ObeysRules}
 use Rattle.machine_model.specs.declared.state.ProtectionState.{ProtectionState}
 use Rattle.machine_model.specs.declared.state.FaultStatus.{FaultStatus}
 use Rattle.machine_model.specs.State.{by_mpu}
-use Rattle.monitor_steps.specs.Steps.{Steps, Load, Store}
+use Rattle.monitor_steps.specs.Steps.{PrivilegedSteps, Load, Store}
 use Rattle.monitor_steps.specs.Core.{Core}
 use Rattle.monitor_steps.specs.Effect.{Outcome}
 use Rattle.monitor_steps.specs.Safe.{Rule}
@@ -48,12 +48,12 @@ pub record Shaped (t : Constants) : Type 0 where
   pub rasr : t.stack_region.rasr < 2 ^ 31
 
 module _ (i : Image) (rules : ObeysRules i) (t : Constants) (Good : ProtectionState → Type 0) (Allowed : Rule) (h : Bool) (allows : Allows i Allowed h) (good : (q : ProtectionState) → IsOff h q → Good q) where
-  abbrev W : ℕ → Steps → List Steps → Core → (Outcome → Type 0) → Type 0
+  abbrev W : ℕ → PrivilegedSteps → List PrivilegedSteps → Core → (Outcome → Type 0) → Type 0
   W n s ks c Q = GivesWithin by_mpu i Good Allowed n s ks c Q
 
   module _ (msp psp : ℕ) (u : FaultStatus) where
     -- both words of a region
-    pub region_within : (g : Region) (o fo : ℕ) {b w : ℕ} {k : Steps} {ks : List Steps} {Q : Outcome → Type 0} (q : ProtectionState) (m : List ℕ) (a1 a2 a3 a4 a5 a6 a7 : ℕ) → IsOff h q → a6 ≡ i.flash_base + o → fo ≡ o + 4 * w → o % 4 ≡ 0 → fo + 8 ≤ length i.flash →
+    pub region_within : (g : Region) (o fo : ℕ) {b w : ℕ} {k : PrivilegedSteps} {ks : List PrivilegedSteps} {Q : Outcome → Type 0} (q : ProtectionState) (m : List ℕ) (a1 a2 a3 a4 a5 a6 a7 : ℕ) → IsOff h q → a6 ≡ i.flash_base + o → fo ≡ o + 4 * w → o % 4 ≡ 0 → fo + 8 ≤ length i.flash →
         read 4 fo i.flash ≡ g.rbar → read 4 (fo + 4) i.flash ≡ g.rasr →
         ((p : ProtectionState) (v7 : ℕ) → p ≡ with_unit q (written (g ∷ []) q.mpu) → IsOff h p → W b k ks (core msp psp p u m MPU_RBAR a1 a2 a3 a4 a5 a6 v7) Q) →
         W (1 + (1 + (1 + (1 + b)))) (Load Word 7 6 w (Store Word 7 0 0 (Load Word 7 6 (w + 1) (Store Word 7 0 1 k)))) ks (core msp psp q u m MPU_RBAR a1 a2 a3 a4 a5 a6 a7) Q
@@ -68,7 +68,7 @@ module _ (i : Image) (rules : ObeysRules i) (t : Constants) (Good : ProtectionSt
         f q2 x (e2 ∙ ap (λ p. with_unit p (write_register MPU_RASR x q1.mpu)) e1 ∙ ap (λ n. with_unit q n) both) off2))))
 
     -- as many as there are, from a word of the record on
-    pub regions_within : (gs : List Region) (o w : ℕ) {b : ℕ} {k : Steps} {ks : List Steps} {Q : Outcome → Type 0} (q : ProtectionState) (m : List ℕ) (a1 a2 a3 a4 a5 a6 a7 : ℕ) → IsOff h q → a6 ≡ i.flash_base + o → o % 4 ≡ 0 → HasRegions i gs (o + 4 * w) →
+    pub regions_within : (gs : List Region) (o w : ℕ) {b : ℕ} {k : PrivilegedSteps} {ks : List PrivilegedSteps} {Q : Outcome → Type 0} (q : ProtectionState) (m : List ℕ) (a1 a2 a3 a4 a5 a6 a7 : ℕ) → IsOff h q → a6 ≡ i.flash_base + o → o % 4 ≡ 0 → HasRegions i gs (o + 4 * w) →
         ((p : ProtectionState) (v7 : ℕ) → p ≡ with_unit q (written gs q.mpu) → IsOff h p → W b k ks (core msp psp p u m MPU_RBAR a1 a2 a3 a4 a5 a6 v7) Q) →
         W (4 * length gs + b) (regions (length gs) w k) ks (core msp psp q u m MPU_RBAR a1 a2 a3 a4 a5 a6 a7) Q
     regions_within [] o w q m a1 a2 a3 a4 a5 a6 a7 off e6 al has f = more_within (f q a7 refl off) (omega arith)
@@ -80,7 +80,7 @@ module _ (i : Image) (rules : ObeysRules i) (t : Constants) (Good : ProtectionSt
         f q2 v (ee ∙ ap (λ p. with_unit p (written gs p.mpu)) e1) off2))) (omega arith)
 
     -- a register times a number
-    times_within : (bs : List Bool) (x y : ℕ) {b : ℕ} {k : Steps} {ks : List Steps} {Q : Outcome → Type 0} (q : ProtectionState) (m : List ℕ) (a0 a1 a2 a3 a4 a7 : ℕ) → Small bs x y →
+    times_within : (bs : List Bool) (x y : ℕ) {b : ℕ} {k : PrivilegedSteps} {ks : List PrivilegedSteps} {Q : Outcome → Type 0} (q : ProtectionState) (m : List ℕ) (a0 a1 a2 a3 a4 a7 : ℕ) → Small bs x y →
         ((v : ℕ) → v ≡ horner bs x y → W b k ks (core msp psp q u m a0 a1 a2 a3 a4 y v a7) Q) →
         W (times_ticks bs + b) (times 6 5 bs k) ks (core msp psp q u m a0 a1 a2 a3 a4 y x a7) Q
     times_within [] x y q m a0 a1 a2 a3 a4 a7 small f = more_within (f x refl) (omega arith)
@@ -96,7 +96,7 @@ module _ (i : Image) (rules : ObeysRules i) (t : Constants) (Good : ProtectionSt
         subst (λ z. W (times_ticks bs + b) (times 6 5 bs k) ks (core msp psp q u m a0 a1 a2 a3 a4 y z a7) Q) (sym e) (times_within bs (x + x) y q m a0 a1 a2 a3 a4 a7 small.1 f))) (omega arith)
 
     -- the record of a compartment, at offset o of flash
-    pub record_of_within : (cur o : ℕ) {b : ℕ} {k : Steps} {ks : List Steps} {Q : Outcome → Type 0} (q : ProtectionState) (m : List ℕ) (a0 a1 a2 a3 a4 a6 a7 : ℕ) → 4 ≤ t.slots → t.slots ≤ 12 → cur < 2 ^ 16 → t.compartments_at + (8 * t.slots + 16) * cur ≡ i.flash_base + o → i.flash_base + o < 2 ^ 31 →
+    pub record_of_within : (cur o : ℕ) {b : ℕ} {k : PrivilegedSteps} {ks : List PrivilegedSteps} {Q : Outcome → Type 0} (q : ProtectionState) (m : List ℕ) (a0 a1 a2 a3 a4 a6 a7 : ℕ) → 4 ≤ t.slots → t.slots ≤ 12 → cur < 2 ^ 16 → t.compartments_at + (8 * t.slots + 16) * cur ≡ i.flash_base + o → i.flash_base + o < 2 ^ 31 →
         ((v v7 : ℕ) → v ≡ i.flash_base + o → W b k ks (core msp psp q u m a0 a1 a2 a3 a4 cur v v7) Q) →
         W (46 + b) (record_of t k) ks (core msp psp q u m a0 a1 a2 a3 a4 cur a6 a7) Q
     record_of_within cur o {b} {k} {ks} {Q} q m a0 a1 a2 a3 a4 a6 a7 lo hi few at end f =
@@ -113,7 +113,7 @@ module _ (i : Image) (rules : ObeysRules i) (t : Constants) (Good : ProtectionSt
         spent a = omega (arith, a)
 
     -- region 3
-    pub stack_region_within : (n top : ℕ) {b : ℕ} {k : Steps} {ks : List Steps} {Q : Outcome → Type 0} (q : ProtectionState) (m : List ℕ) (a1 a2 a4 a5 a6 a7 : ℕ) → IsOff h q → t.eighth ≤ 13 → 1 ≤ n → n ≤ 8 → top ≡ t.stack + n * 2 ^ t.eighth → t.stack + 8 * 2 ^ t.eighth < 2 ^ 31 → t.stack_region.rasr < 2 ^ 31 →
+    pub stack_region_within : (n top : ℕ) {b : ℕ} {k : PrivilegedSteps} {ks : List PrivilegedSteps} {Q : Outcome → Type 0} (q : ProtectionState) (m : List ℕ) (a1 a2 a4 a5 a6 a7 : ℕ) → IsOff h q → t.eighth ≤ 13 → 1 ≤ n → n ≤ 8 → top ≡ t.stack + n * 2 ^ t.eighth → t.stack + 8 * 2 ^ t.eighth < 2 ^ 31 → t.stack_region.rasr < 2 ^ 31 →
         ((p : ProtectionState) (v2 v7 : ℕ) → p ≡ with_unit q (written (open_stack t n ∷ []) q.mpu) → IsOff h p → W b k ks (core msp psp p u m MPU_RBAR a1 v2 top a4 a5 a6 v7) Q) →
         W (40 + b) (stack_region t k) ks (core msp psp q u m MPU_RBAR a1 a2 top a4 a5 a6 a7) Q
     stack_region_within n top {b} {k} {ks} {Q} q m a1 a2 a4 a5 a6 a7 off most some few et hi small f =
@@ -136,7 +136,7 @@ module _ (i : Image) (rules : ObeysRules i) (t : Constants) (Good : ProtectionSt
         ap (λ p. write_register MPU_RASR a p.mpu) e1 ∙ ap (λ a. write_register MPU_RASR a (write_register MPU_RBAR t.stack_region.rbar q.mpu)) ae in
         f q2 a t.stack_region.rbar (e2 ∙ ap (λ p. with_unit p (write_register MPU_RASR a q1.mpu)) e1 ∙ ap (λ n. with_unit q n) both) off2)))))))))))))))) (omega arith)
 
-    pub tables_within : (cur o n top : ℕ) (code : Region) (slots : List Region) {b : ℕ} {k : Steps} {ks : List Steps} {Q : Outcome → Type 0} (q : ProtectionState) (m : List ℕ) (a0 a1 a2 a4 a6 a7 : ℕ) → IsOff h q → Shaped t → HasRecord i t cur o code slots → cur < 2 ^ 16 → 1 ≤ n → n ≤ 8 → top ≡ t.stack + n * 2 ^ t.eighth →
+    pub tables_within : (cur o n top : ℕ) (code : Region) (slots : List Region) {b : ℕ} {k : PrivilegedSteps} {ks : List PrivilegedSteps} {Q : Outcome → Type 0} (q : ProtectionState) (m : List ℕ) (a0 a1 a2 a4 a6 a7 : ℕ) → IsOff h q → Shaped t → HasRecord i t cur o code slots → cur < 2 ^ 16 → 1 ≤ n → n ≤ 8 → top ≡ t.stack + n * 2 ^ t.eighth →
         ((p : ProtectionState) (v2 v6 v7 : ℕ) → p ≡ with_unit q (written (code ∷ (open_stack t n ∷ slots)) q.mpu) → IsOff h p → W b k ks (core msp psp p u m MPU_RBAR a1 v2 top a4 cur v6 v7) Q) →
         W (140 + b) (tables_of t k) ks (core msp psp q u m a0 a1 a2 top a4 cur a6 a7) Q
     tables_within cur o n top code slots {b} {k} {ks} {Q} q m a0 a1 a2 a4 a6 a7 off sh r few some most et f =

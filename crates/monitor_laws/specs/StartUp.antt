@@ -4,7 +4,7 @@ use Rattle.std.specs.Prelude.{◌≡◌, ◌≢◌, ℕ, ◌+◌, ◌-◌, ◌%�
 use Rattle.machine_devices.specs.declared.image.Image.{Image}
 use Rattle.machine_model.specs.State.{by_mpu, is_unprivileged}
 use Rattle.base_laws.specs.Lists.{Each}
-use Rattle.monitor_steps.specs.Steps.{Steps}
+use Rattle.monitor_steps.specs.Steps.{PrivilegedSteps}
 use Rattle.monitor_steps.specs.Core.{Core}
 use Rattle.monitor_steps.specs.Effect.{Halted, effect}
 use Rattle.base_ranges.specs.Ranges.{IsInside}
@@ -41,7 +41,7 @@ abbrev pub ReadyImagesStart : Type 0
 ReadyImagesStart = (i : Image) (t : Tables) → IsReady i t → Starts i t (stub_address t)
 
 -- a list halts, with the protection unit and RAM as they were
-pub record HaltsUnchanged (i : Image) (s : Steps) (before : Core) (number : ℕ) : Type 0 where
+pub record HaltsUnchanged (i : Image) (s : PrivilegedSteps) (before : Core) (number : ℕ) : Type 0 where
   pub after : Core
   pub halts : effect by_mpu i s before ≡ Halted number after
   pub protection : after.protection ≡ before.protection

@@ -1,18 +1,18 @@
 -- Beyond the program's claim: only laws, proofs and functions inside the tool cite this file.
 -- What is made: lists of steps, and the constants that they take of the tables.
 use Rattle.std.specs.Prelude.{◌≡◌}
-use Rattle.monitor_steps.specs.Steps.{Steps}
+use Rattle.monitor_steps.specs.Steps.{PrivilegedSteps}
 use Rattle.monitor_steps.specs.Lists.{all_before, steps_of}
 use Rattle.monitor_program.specs.Constants.{Constants}
 use Rattle.monitor_lists.specs.declared.numbers.Numbers.{Numbers}
 use Rattle.monitor_lists.specs.declared.list.StepList.{StepList}
 
 -- steps were put behind all that a list has
-abbrev pub Appends : (old new : StepList) → (Steps → Steps) → Type 0
-Appends old new f = (rest : Steps) → all_before new.steps.items rest ≡ all_before old.steps.items (f rest)
+abbrev pub Appends : (old new : StepList) → (PrivilegedSteps → PrivilegedSteps) → Type 0
+Appends old new f = (rest : PrivilegedSteps) → all_before new.steps.items rest ≡ all_before old.steps.items (f rest)
 
 -- and with them the list ends
-abbrev pub Ends : (old new : StepList) → (end : Steps) → Type 0
+abbrev pub Ends : (old new : StepList) → (end : PrivilegedSteps) → Type 0
 Ends old new end = steps_of new.steps.items ≡ all_before old.steps.items end
 
 -- the constants as the definitions have them

@@ -10,7 +10,7 @@ use Rattle.machine_thumb.specs.declared.table.Instr.{Instr}
 use Rattle.machine_thumb.specs.declared.table.Instr.TheVariants.{TransferImmediate}
 use Rattle.machine_devices.specs.declared.image.Image.{Image}
 use Rattle.machine_devices.specs.Rules.{block_size}
-use Rattle.machine_bus.specs.Access.{Holds}
+use Rattle.machine_bus.specs.Access.{HoldsBytes}
 use Rattle.machine_model.specs.declared.state.FaultStatus.{FaultStatus}
 use Rattle.machine_model.specs.declared.state.End.{End}
 use Rattle.machine_model.specs.declared.state.End.TheVariants.{Stop}
@@ -49,7 +49,7 @@ module _ (i : Image) (t : Tables) (m : Block) where
   -- an access is aligned, one memory or window holds all of it, and each of its bytes is in reach
   pub record InReach (Reaches : ℕ → Type 0) (width address : ℕ) : Type 0 where
     pub aligned : address % width ≡ 0
-    pub whole : Holds i address width
+    pub whole : HoldsBytes i address width
     pub bytes : (k : ℕ) → k < width → Reaches (address + k)
 
   abbrev pub WordsInReach : (address count : ℕ) → Type 0

@@ -3,7 +3,7 @@ use Rattle.std.specs.Prelude.{ℕ}
 use Rattle.base_words.specs.declared.memory.Width.TheVariants.{Byte, Half, Word}
 use Rattle.monitor_steps.specs.declared.steps.GateOp.TheVariants.{Add, Sub, And, Shl, Shr}
 use Rattle.monitor_steps.specs.declared.steps.GateCond.TheVariants.{Eq, Ult, Ule}
-use Rattle.monitor_steps.specs.Steps.{Steps, End, Const, Copy, Load, Store, Alu, WritePsp, Test, Repeat, Halt, ◌▸◌}
+use Rattle.monitor_steps.specs.Steps.{PrivilegedSteps, End, Const, Copy, Load, Store, Alu, WritePsp, Test, Repeat, Halt, ◌▸◌}
 use Rattle.monitor_model.specs.Offsets.{cur, top, depth, loans, mark, saved_psp, saved_cur, saved_top, saved_mark, loan_from, loan_end, loan_number, frame_r0, frame_r1, frame_r2, frame_r3, frame_r12, frame_lr, frame_return, frame_xpsr, site_return, site_first, site_count, target_entry, target_compartment}
 use Rattle.monitor_model.specs.Halts.{halt_end, halt_number, halt_site, halt_target, halt_limit, halt_loan}
 use Rattle.monitor_model.specs.Values.{frame_size, target_size, most_loans, most_targets, no_compartment, thread_xpsr}
@@ -14,7 +14,7 @@ use Rattle.monitor_program.specs.Opening.{must, must_not, opened, closed_up, tab
 
 -- the halfword at the return address is the number of a site, else halt 2; the address of its record into r6, by r7: 12 bytes times
 -- the number behind the first
-abbrev pub site_record : Constants → Steps → Steps
+abbrev pub site_record : Constants → PrivilegedSteps → PrivilegedSteps
 site_record c rest =
     Load Half 5 4 0
     ▸ Const 6 c.sites
@@ -29,7 +29,7 @@ site_record c rest =
     ▸ rest
 
 -- the record of that site has this return address; else halt 2. The site's first target into r5, their number into r6
-abbrev pub site : Constants → Steps → Steps
+abbrev pub site : Constants → PrivilegedSteps → PrivilegedSteps
 site c rest =
     site_record c
     ▸ Load Word 7 6 site_return
@@ -39,7 +39,7 @@ site c rest =
     ▸ rest
 
 -- where the target at r7 has the entry that is asked for, its compartment into r5; then the next target
-abbrev pub target_turn : Steps
+abbrev pub target_turn : PrivilegedSteps
 target_turn =
     Load Word 3 7 target_entry
     ▸ Test Eq 3 4 (Load Word 5 7 target_compartment ▸ End) End
@@ -48,7 +48,7 @@ target_turn =
     ▸ End
 
 -- the entry that is asked for, the stacked r12, into r4; the address of the record of target r5 into r7; and no compartment into r5
-abbrev pub target_asked : Constants → Steps → Steps
+abbrev pub target_asked : Constants → PrivilegedSteps → PrivilegedSteps
 target_asked c rest =
     Load Word 4 0 frame_r12
     ▸ Const 7 3
@@ -59,7 +59,7 @@ target_asked c rest =
     ▸ rest
 
 -- it is the entry, with bit 0 set, of a target of the site; else halt 3. The compartment of the last such target into r5
-abbrev pub target : Constants → Steps → Steps
+abbrev pub target : Constants → PrivilegedSteps → PrivilegedSteps
 target c rest =
     target_asked c
     ▸ Repeat 6 most_targets target_turn
@@ -68,7 +68,7 @@ target c rest =
     ▸ rest
 
 -- the new TOP into r3: PSP, rounded down to whole eighths of the stack. It is above the stack's base, else halt 5
-abbrev pub rounded : Constants → Steps → Steps
+abbrev pub rounded : Constants → PrivilegedSteps → PrivilegedSteps
 rounded c rest =
     Alu Sub 3 0 2
     ▸ Const 6 c.eighth
@@ -80,7 +80,7 @@ rounded c rest =
     ▸ rest
 
 -- the caller goes on behind the halfword
-abbrev pub raise : Steps → Steps
+abbrev pub raise : PrivilegedSteps → PrivilegedSteps
 raise rest =
     Load Word 4 0 frame_return
     ▸ Const 6 2
@@ -89,7 +89,7 @@ raise rest =
     ▸ rest
 
 -- PSP, CUR, TOP and MARK into the saved entry numbered DEPTH, which stays in r4
-abbrev pub save : Steps → Steps
+abbrev pub save : PrivilegedSteps → PrivilegedSteps
 save rest =
     Load Word 4 1 depth
     ▸ Const 6 4
@@ -106,7 +106,7 @@ save rest =
     ▸ rest
 
 -- the address of the callee's frame, which is below the new TOP, into r6; the arguments in r0 to r3
-abbrev pub frame_arguments : Steps → Steps
+abbrev pub frame_arguments : PrivilegedSteps → PrivilegedSteps
 frame_arguments rest =
     Const 6 frame_size
     ▸ Alu Sub 6 3 6
@@ -122,7 +122,7 @@ frame_arguments rest =
 
 -- the callee's frame: behind the arguments the leave stub as link, the entry with bit 0 clear as return address, and the xPSR of a
 -- thread
-abbrev pub frame : Constants → Steps → Steps
+abbrev pub frame : Constants → PrivilegedSteps → PrivilegedSteps
 frame c rest =
     frame_arguments
     ▸ Const 7 0
@@ -138,7 +138,7 @@ frame c rest =
     ▸ rest
 
 -- one entry more is saved; the callee's compartment, its TOP, the loans that were live before it, and its stack
-abbrev pub entered : Steps → Steps
+abbrev pub entered : PrivilegedSteps → PrivilegedSteps
 entered rest =
     Const 7 1
     ▸ Alu Add 4 4 7
@@ -151,14 +151,14 @@ entered rest =
     ▸ rest
 
 -- all of it
-abbrev pub enter : Constants → Steps
+abbrev pub enter : Constants → PrivilegedSteps
 enter c = site c ▸ target c ▸ rounded c ▸ raise ▸ save ▸ frame c ▸ entered ▸ tables_of c ▸ closed_up
 
 -- ---- 1, leave
 
 -- without a saved entry the program is at its end: halt 0. The last one is saved no more, its address goes into r6, by r4, and the
 -- loans of the callee end
-abbrev pub left : Steps → Steps
+abbrev pub left : PrivilegedSteps → PrivilegedSteps
 left rest =
     Load Word 4 1 depth
     ▸ Const 6 0
@@ -174,7 +174,7 @@ left rest =
     ▸ rest
 
 -- CUR, TOP and MARK of the caller; the result in r0 goes to the caller's frame, which is the stack again
-abbrev pub restored : Steps → Steps
+abbrev pub restored : PrivilegedSteps → PrivilegedSteps
 restored rest =
     Load Word 5 6 saved_cur
     ▸ Store Word 5 1 cur
@@ -189,14 +189,14 @@ restored rest =
     ▸ rest
 
 -- all of it
-abbrev pub leave : Constants → Steps
+abbrev pub leave : Constants → PrivilegedSteps
 leave c = left ▸ restored ▸ tables_of c ▸ closed_up
 
 -- ---- 2, lend
 
 -- the stacked r0, the address of a local, into r4; the stacked r1, its number, into r5; LOANS into r6. Fewer than 32 loans are live;
 -- the number is that of a lendable local; the address is a multiple of 4; else halt 6
-abbrev pub lend_number : Constants → Steps → Steps
+abbrev pub lend_number : Constants → PrivilegedSteps → PrivilegedSteps
 lend_number c rest =
     Load Word 4 0 frame_r0
     ▸ Load Word 5 0 frame_r1
@@ -213,7 +213,7 @@ lend_number c rest =
 
 -- the size of the local into r2. The local lies between the frame's end and TOP; else halt 6. No sum that is tested wraps: the size is
 -- compared with what is left below TOP
-abbrev pub lend_place : Constants → Steps → Steps
+abbrev pub lend_place : Constants → PrivilegedSteps → PrivilegedSteps
 lend_place c rest =
     Alu Add 2 5 5
     ▸ Alu Add 2 2 2
@@ -229,7 +229,7 @@ lend_place c rest =
     ▸ rest
 
 -- the loan behind those that live, and LOANS with it
-abbrev pub lend_entry : Constants → Steps → Steps
+abbrev pub lend_entry : Constants → PrivilegedSteps → PrivilegedSteps
 lend_entry c rest =
     Alu Add 7 6 6
     ▸ Alu Add 7 7 6
@@ -247,13 +247,13 @@ lend_entry c rest =
     ▸ rest
 
 -- all of it
-abbrev pub lend : Constants → Steps
+abbrev pub lend : Constants → PrivilegedSteps
 lend c = lend_number c ▸ lend_place c ▸ lend_entry c ▸ closed_up
 
 -- ---- 3, unlend
 
 -- the last loan ends; it is one that the running function made, else halt 6
-abbrev pub unlend : Steps
+abbrev pub unlend : PrivilegedSteps
 unlend =
     Load Word 4 1 loans
     ▸ Load Word 5 1 mark
@@ -266,11 +266,11 @@ unlend =
 -- ---- the handler
 
 -- where the number in r5 is this one, a list, which ends the handler; else the rest
-abbrev pub on_number : (number : ℕ) → (list rest : Steps) → Steps
+abbrev pub on_number : (number : ℕ) → (list rest : PrivilegedSteps) → PrivilegedSteps
 on_number n list rest = Const 6 n ▸ Test Eq 5 6 list End ▸ rest
 
 -- the number of the SVC, the low byte of the halfword before the return address, into r5; the return address into r4
-abbrev pub svc_number : Steps → Steps
+abbrev pub svc_number : PrivilegedSteps → PrivilegedSteps
 svc_number rest =
     Load Word 4 0 frame_return
     ▸ Const 5 2
@@ -279,9 +279,9 @@ svc_number rest =
     ▸ rest
 
 -- the list of the number in r5; above 3: halt 1. The lists of fewer steps are asked for first
-abbrev pub by_number : Constants → Steps
+abbrev pub by_number : Constants → PrivilegedSteps
 by_number c = on_number 3 unlend ▸ on_number 2 (lend c) ▸ on_number 0 (enter c) ▸ on_number 1 (leave c) ▸ Halt halt_number ▸ End
 
 -- all of it
-abbrev pub svc : Constants → Steps
+abbrev pub svc : Constants → PrivilegedSteps
 svc c = opened c ▸ svc_number ▸ by_number c

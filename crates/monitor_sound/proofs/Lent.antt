@@ -26,7 +26,7 @@ use Rattle.machine_model.specs.AccessLaw.{free}
 use Rattle.machine_model.specs.Instructions.{act}
 use Rattle.machine_model.specs.Perform.{perform}
 use Rattle.machine_model.specs.Exceptions.{frame_at, frame_of, entered, mem_manage, flags_of, stacked_status}
-use Rattle.machine_model.specs.Code.{HoldsHalf, Lies, Stands, Steps}
+use Rattle.machine_model.specs.Code.{HoldsHalf, Lies, Stands, StepsQuietly}
 use Rattle.machine_model.specs.Step.{turn, step, event}
 use Rattle.machine_model.specs.RunningCode.{works, IsStore, IsLoad}
 use Rattle.monitor_model.specs.declared.tables.Tables.{Tables}
@@ -278,8 +278,8 @@ module _ (laws : ThreadLaws) (i : Image) (t : Tables) (p : Placed i t) (stub : �
   abbrev pub working : State
   working = works (context_of s) s.core.low s.core.sp s.core.lr s.core.pc s.core.flags s.ram s.queues
 
-  steps_here : (j : PermissionTest) (v : State) → Steps j i working v → Steps j i s v
-  steps_here j v x = subst (λ (z : State). Steps j i z v) (sym (live_is s live)) x
+  steps_here : (j : PermissionTest) (v : State) → StepsQuietly j i working v → StepsQuietly j i s v
+  steps_here j v x = subst (λ (z : State). StepsQuietly j i z v) (sym (live_is s live)) x
 
   is_reached : (low ram : List ℕ) → works (context_of s) low s.core.sp s.core.lr (s.core.pc + 2) s.core.flags ram s.queues ≡ reached s low ram
   is_reached low ram = sym (live_is (reached s low ram) live)
@@ -332,7 +332,7 @@ module _ (laws : ThreadLaws) (i : Image) (t : Tables) (p : Placed i t) (stub : �
     abbrev pub stored_state : State
     stored_state = works (context_of s) s.core.low s.core.sp s.core.lr (s.core.pc + 2) s.core.flags stored_ram s.queues
 
-    store_step : (j : PermissionTest) → Stands j i s.protection s.core.pc (TransferImmediate op 0 1 0) → j s.protection Write a ≡ true → Steps j i s stored_state
+    store_step : (j : PermissionTest) → Stands j i s.protection s.core.pc (TransferImmediate op 0 1 0) → j s.protection Write a ≡ true → StepsQuietly j i s stored_state
     store_step j st ok =
         let l = store_loan in
         let z = in_stack laws i t p m s h live op lies code (has_loan t m.current) w lent l.loan l.placed l.from l.to store_some in
@@ -426,7 +426,7 @@ module _ (laws : ThreadLaws) (i : Image) (t : Tables) (p : Placed i t) (stub : �
     abbrev pub loaded_state : State
     loaded_state = works (context_of s) loaded_low s.core.sp s.core.lr (s.core.pc + 2) s.core.flags s.ram s.queues
 
-    load_step : (j : PermissionTest) → Stands j i s.protection s.core.pc (TransferImmediate op 0 1 0) → j s.protection Read la ≡ true → Steps j i s loaded_state
+    load_step : (j : PermissionTest) → Stands j i s.protection s.core.pc (TransferImmediate op 0 1 0) → j s.protection Read la ≡ true → StepsQuietly j i s loaded_state
     load_step j st ok =
         let l = load_loan in
         let z = in_stack laws i t p m s h live op lies code (has_read_loan i t m.current) w lent l.loan l.placed l.from l.to load_some in

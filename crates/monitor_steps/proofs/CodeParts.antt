@@ -12,7 +12,7 @@ use Rattle.machine_model.proofs.Exec.{code_may_run}
 use Rattle.machine_model.proofs.CodeParts.{code_size-append}
 use Rattle.monitor_steps.specs.declared.steps.GateOp.{GateOp}
 use Rattle.monitor_steps.specs.declared.steps.GateOp.TheVariants.{Add, Sub, And, Or, Shl, Shr}
-use Rattle.monitor_steps.specs.Steps.{Steps, End, Const, Copy, Load, Store, Alu, ReadPsp, WritePsp, WriteControl, Test, Repeat, Halt, Return, Go}
+use Rattle.monitor_steps.specs.Steps.{PrivilegedSteps, End, Const, Copy, Load, Store, Alu, ReadPsp, WritePsp, WriteControl, Test, Repeat, Halt, Return, Go}
 use Rattle.monitor_steps.specs.Code.{by_moves, operation_code, two_address_length, operation_length, code_length, code}
 use Rattle.monitor_steps.specs.Runs.{HasCode}
 
@@ -29,7 +29,7 @@ operation_has_its_length Or to a b = by_moves_has_its_length (nat_eq to a) (nat_
 operation_has_its_length Shl to a b = by_moves_has_its_length (nat_eq to a) (nat_eq to b) 2 to a b
 operation_has_its_length Shr to a b = by_moves_has_its_length (nat_eq to a) (nat_eq to b) 3 to a b
 
-pub code_has_its_length : (s : Steps) → code_size (code s) ≡ code_length s
+pub code_has_its_length : (s : PrivilegedSteps) → code_size (code s) ≡ code_length s
 code_has_its_length End = refl
 code_has_its_length (Const to n k) = omega (arith, code_has_its_length k)
 code_has_its_length (Copy to from k) = omega (arith, code_has_its_length k)
@@ -69,7 +69,7 @@ module _ (j : PermissionTest) (i : Image) (Good : ProtectionState → Type 0) wh
       subst (λ n. HasCode j i Good n b) e (has_back (pc + size y) a b h.1)
 
   -- code behind a list's own
-  pub behind : (s : Steps) (pc : ℕ) (ys : List Instr) → HasCode j i Good pc (code s ++ ys) → HasCode j i Good (pc + code_length s) ys
+  pub behind : (s : PrivilegedSteps) (pc : ℕ) (ys : List Instr) → HasCode j i Good pc (code s ++ ys) → HasCode j i Good (pc + code_length s) ys
   behind s pc ys h = subst (λ n. HasCode j i Good (pc + n) ys) (code_has_its_length s) (has_back pc (code s) ys h)
 
 -- ---- lengths are even
@@ -87,7 +87,7 @@ operation_even Or a b = two_even a b
 operation_even Shl a b = two_even a b
 operation_even Shr a b = two_even a b
 
-pub length_even : (s : Steps) → code_length s % 2 ≡ 0
+pub length_even : (s : PrivilegedSteps) → code_length s % 2 ≡ 0
 length_even End = refl
 length_even (Const to n k) = let h = length_even k in omega (arith, h)
 length_even (Copy to from k) = let h = length_even k in omega (arith, h)

@@ -46,7 +46,7 @@ use Rattle.monitor_steps.specs.declared.steps.GateOp.{GateOp}
 use Rattle.monitor_steps.specs.declared.steps.GateOp.TheVariants.{Add, Sub, And, Or, Shl, Shr}
 use Rattle.monitor_steps.specs.declared.steps.GateCond.{GateCond}
 use Rattle.monitor_steps.specs.declared.steps.GateCond.TheVariants.{Eq, Ult, Ule}
-use Rattle.monitor_steps.specs.Steps.{Steps, End, Const, Copy, Load, Store, Alu, ReadPsp, WritePsp, WriteControl, Test, Repeat, Halt, Return, Go, names_low, is_low}
+use Rattle.monitor_steps.specs.Steps.{PrivilegedSteps, End, Const, Copy, Load, Store, Alu, ReadPsp, WritePsp, WriteControl, Test, Repeat, Halt, Return, Go, names_low, is_low}
 use Rattle.monitor_steps.specs.Core.{Core, core_of, low_register, with_low, with_ram, with_system, is_privileged_on_msp}
 use Rattle.monitor_steps.specs.Accesses.{address_of, load_by, store_by}
 use Rattle.monitor_steps.specs.Effect.{Outcome, Went, Halted, AtReturn, AtBranch, Stopped, Unclaimed, then_do, operation, compared, after_load, after_store, either, by_zero, after_control, with_one_less, turns, effect}
@@ -612,7 +612,7 @@ module _ (j : PermissionTest) (i : Image) (lr : ℕ) (queues : List (List ℕ)) 
     pick_more true m n = omega arith
     pick_more false m n = omega arith
 
-    pub code_has_effect : (s : Steps) (pc : ℕ) (x : Scratch) (c : Core) → names_low s ≡ true → pc + code_length s < 2 ^ 30 → HasCode pc (code s) → Good c.protection → Fits (at pc x c) → IsSafe j i Good Allowed s c → Has (ticks j i s c) pc x c (effect j i s c) (pc + code_length s)
+    pub code_has_effect : (s : PrivilegedSteps) (pc : ℕ) (x : Scratch) (c : Core) → names_low s ≡ true → pc + code_length s < 2 ^ 30 → HasCode pc (code s) → Good c.protection → Fits (at pc x c) → IsSafe j i Good Allowed s c → Has (ticks j i s c) pc x c (effect j i s c) (pc + code_length s)
     code_has_effect End pc x c lo hi h g f sf = none (at pc x c) (Shows (Went c) (pc + 0)) (let e : pc ≡ pc + 0 = omega arith in subst (λ p. Shows (Went c) p (at pc x c)) e (x, refl, g, f))
     code_has_effect (Const to n k) pc x c lo hi h g f sf =
         let p = both _ _ lo in

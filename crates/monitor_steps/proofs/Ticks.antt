@@ -2,7 +2,7 @@
 use Rattle.std.proofs.Common.{◌≡◌, ℕ, zero, suc, ◌+◌, ◌*◌, ◌/◌, ◌%◌, ◌≤◌, max, Bool, true, false, nat_eq, arith}
 use Rattle.machine_devices.specs.declared.image.Image.{Image}
 use Rattle.machine_model.specs.State.{PermissionTest}
-use Rattle.monitor_steps.specs.Steps.{Steps, End, Const, Copy, Load, Store, Alu, ReadPsp, WritePsp, WriteControl, Test, Repeat, Halt, Return, Go}
+use Rattle.monitor_steps.specs.Steps.{PrivilegedSteps, End, Const, Copy, Load, Store, Alu, ReadPsp, WritePsp, WriteControl, Test, Repeat, Halt, Return, Go}
 use Rattle.monitor_steps.specs.Core.{Core, low_register, with_low, with_psp, is_privileged_on_msp}
 use Rattle.monitor_steps.specs.Accesses.{LoadResult, Value, LoadStops, LoadUnclaimed, StoreResult, Written, StoreStops, StoreUnclaimed, load, store}
 use Rattle.monitor_steps.specs.Effect.{Outcome, Went, Halted, AtReturn, AtBranch, Stopped, Unclaimed, operation, compared, either, with_one_less, turns, effect}
@@ -49,7 +49,7 @@ module _ (j : PermissionTest) (i : Image) where
       let e : suc most * (b + 4) ≡ most * (b + 4) + (b + 4) = grind arith in
       zero_most (low_register c left) 3 (count c + 4 + then_ticks (body c) (λ d. turn_ticks most left body count (with_one_less left d))) (suc most * (b + 4) + 3) (omega arith) (omega (arith, one, rest, e))
 
-  pub ticks_are_bounded : (s : Steps) (c : Core) → ticks j i s c ≤ most_ticks s
+  pub ticks_are_bounded : (s : PrivilegedSteps) (c : Core) → ticks j i s c ≤ most_ticks s
   ticks_are_bounded End c = omega arith
   ticks_are_bounded (Const to n k) c = omega (arith, ticks_are_bounded k (with_low c to n))
   ticks_are_bounded (Copy to from k) c = omega (arith, ticks_are_bounded k (with_low c to (low_register c from)))

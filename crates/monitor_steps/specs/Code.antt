@@ -8,7 +8,7 @@ use Rattle.monitor_steps.specs.declared.steps.GateOp.{GateOp}
 use Rattle.monitor_steps.specs.declared.steps.GateOp.TheVariants.{Add, Sub, And, Or, Shl, Shr}
 use Rattle.monitor_steps.specs.declared.steps.GateCond.{GateCond}
 use Rattle.monitor_steps.specs.declared.steps.GateCond.TheVariants.{Eq, Ult, Ule}
-use Rattle.monitor_steps.specs.Steps.{Steps, End, Const, Copy, Load, Store, Alu, ReadPsp, WritePsp, WriteControl, Test, Repeat, Halt, Return, Go}
+use Rattle.monitor_steps.specs.Steps.{PrivilegedSteps, End, Const, Copy, Load, Store, Alu, ReadPsp, WritePsp, WriteControl, Test, Repeat, Halt, Return, Go}
 
 -- LDRB, LDRH, LDR and STRB, STRH, STR, as the form of encoding counts them
 abbrev pub load_op : Width → ℕ
@@ -62,7 +62,7 @@ operation_length Shl a b = two_address_length a b
 operation_length Shr a b = two_address_length a b
 
 -- how many bytes the code of a list has
-abbrev pub code_length : Steps → ℕ
+abbrev pub code_length : PrivilegedSteps → ℕ
 code_length End = 0
 code_length (Const to number rest) = 8 + code_length rest
 code_length (Copy to from rest) = 2 + code_length rest
@@ -96,7 +96,7 @@ repeat_code left n body rest =
     ∷ (body ++ (DataImmediate 3 left 1 ∷ BranchWide (negsuc (n + 13)) ∷ rest))
 
 -- of a list
-abbrev pub code : Steps → List Instr
+abbrev pub code : PrivilegedSteps → List Instr
 code End = []
 -- MOVW and MOVT also where the number is small: no number changes a length
 code (Const to number rest) = MoveWide to (number % 2 ^ 16) ∷ MoveTop to (number / 2 ^ 16) ∷ code rest

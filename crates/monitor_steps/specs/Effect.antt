@@ -9,7 +9,7 @@ use Rattle.monitor_steps.specs.declared.steps.GateOp.{GateOp}
 use Rattle.monitor_steps.specs.declared.steps.GateOp.TheVariants.{Add, Sub, And, Or, Shl, Shr}
 use Rattle.monitor_steps.specs.declared.steps.GateCond.{GateCond}
 use Rattle.monitor_steps.specs.declared.steps.GateCond.TheVariants.{Eq, Ult, Ule}
-use Rattle.monitor_steps.specs.Steps.{Steps, End, Const, Copy, Load, Store, Alu, ReadPsp, WritePsp, WriteControl, Test, Repeat, Halt, Return, Go}
+use Rattle.monitor_steps.specs.Steps.{PrivilegedSteps, End, Const, Copy, Load, Store, Alu, ReadPsp, WritePsp, WriteControl, Test, Repeat, Halt, Return, Go}
 use Rattle.monitor_steps.specs.Core.{Core, low_register, with_low, with_psp, with_privilege, on_process_stack, is_privileged_on_msp}
 use Rattle.monitor_steps.specs.Accesses.{LoadResult, Value, LoadStops, LoadUnclaimed, StoreResult, Written, StoreStops, StoreUnclaimed, load, store}
 
@@ -93,7 +93,7 @@ turns (suc n) left body = λ c. by_zero (low_register c left) Went (λ c. then_d
 
 module _ (j : PermissionTest) (i : Image) where
   -- step by step
-  abbrev pub effect : Steps → Core → Outcome
+  abbrev pub effect : PrivilegedSteps → Core → Outcome
   effect End c = Went c
   effect (Const to number rest) c = effect rest (with_low c to number)
   effect (Copy to from rest) c = effect rest (with_low c to (low_register c from))

@@ -19,7 +19,7 @@ use Rattle.machine_model.specs.Running.{code_size}
 use Rattle.machine_model.specs.Shape.{StateFits}
 use Rattle.machine_model.specs.Events.{ended}
 use Rattle.base_laws.specs.Lists.{Each}
-use Rattle.monitor_steps.specs.Steps.{Steps, names_low}
+use Rattle.monitor_steps.specs.Steps.{PrivilegedSteps, names_low}
 use Rattle.monitor_steps.specs.Core.{Core, core_of}
 use Rattle.monitor_steps.specs.Effect.{Outcome, Went, Halted, AtReturn, AtBranch, Stopped, Unclaimed, effect}
 use Rattle.monitor_steps.specs.Code.{code, code_length}
@@ -68,10 +68,10 @@ module _ (j : PermissionTest) (i : Image) (Good : ProtectionState → Type 0) (A
     pub loads : Each (λ (t : Touched). Allowed Read (core_of s) t.width t.address) (turn j i s).loads
 
   -- within so many steps, each of them fine, the machine comes to where a fact holds
-  pub record Leads (most : ℕ) (s : State) (Holds : State → Type 0) : Type 0 where
+  pub record Leads (most : ℕ) (s : State) (Reached : State → Type 0) : Type 0 where
     pub steps : ℕ
     pub within : steps ≤ most
-    pub holds : Holds (run (next j i) steps s)
+    pub holds : Reached (run (next j i) steps s)
     pub each : (k : ℕ) → k < steps → IsFine (run (next j i) k s)
 
 module _ (j : PermissionTest) (i : Image) (Good : ProtectionState → Type 0) (lr : ℕ) (queues : List (List ℕ)) where
@@ -94,7 +94,7 @@ module _ (j : PermissionTest) (i : Image) (Good : ProtectionState → Type 0) (l
 
 module _ (j : PermissionTest) (i : Image) (Good : ProtectionState → Type 0) (Allowed : Rule) where
   -- what is asked of a list, of the place of its code, and of the core before it
-  pub record MayStart (lr : ℕ) (queues : List (List ℕ)) (s : Steps) (pc : ℕ) (x : Scratch) (c : Core) : Type 0 where
+  pub record MayStart (lr : ℕ) (queues : List (List ℕ)) (s : PrivilegedSteps) (pc : ℕ) (x : Scratch) (c : Core) : Type 0 where
     pub registers_are_low : names_low s ≡ true
     pub below : pc + code_length s < 2 ^ 30
     pub code_stands : HasCode j i Good pc (code s)
@@ -106,7 +106,7 @@ module _ (j : PermissionTest) (i : Image) (Good : ProtectionState → Type 0) (A
   -- and the program counter
   abbrev pub CodeHasEffect : Type 0
   CodeHasEffect =
-      (lr : ℕ) (queues : List (List ℕ)) (s : Steps) (pc : ℕ) (x : Scratch) (c : Core) → ObeysRules i → MayStart lr queues s pc x c →
+      (lr : ℕ) (queues : List (List ℕ)) (s : PrivilegedSteps) (pc : ℕ) (x : Scratch) (c : Core) → ObeysRules i → MayStart lr queues s pc x c →
       Leads j i Good Allowed (ticks j i s c) (at lr queues pc x c) (Shows j i Good lr queues (effect j i s c) (pc + code_length s))
 
 -- whatever test tells which protection is good, and whatever test tells what may be accessed
@@ -125,7 +125,7 @@ AllFlashHasCode = (j : PermissionTest) (i : Image) (good : ProtectionState → B
 
 -- the code of a list is as long as is counted, and a run is no longer than the most
 abbrev pub CodeHasItsLength : Type 0
-CodeHasItsLength = (s : Steps) → code_size (code s) ≡ code_length s
+CodeHasItsLength = (s : PrivilegedSteps) → code_size (code s) ≡ code_length s
 
 abbrev pub TicksAreBounded : Type 0
-TicksAreBounded = (j : PermissionTest) (i : Image) (s : Steps) (c : Core) → ticks j i s c ≤ most_ticks s
+TicksAreBounded = (j : PermissionTest) (i : Image) (s : PrivilegedSteps) (c : Core) → ticks j i s c ≤ most_ticks s

@@ -7,7 +7,7 @@ use Rattle.machine_protection.specs.declared.region.Access.TheVariants.{Read, Wr
 use Rattle.machine_devices.specs.declared.image.Image.{Image}
 use Rattle.machine_model.specs.declared.state.ProtectionState.{ProtectionState}
 use Rattle.machine_model.specs.State.{PermissionTest}
-use Rattle.monitor_steps.specs.Steps.{Steps, End, Const, Copy, Load, Store, Alu, ReadPsp, WritePsp, WriteControl, Test, Repeat, Halt, Return, Go}
+use Rattle.monitor_steps.specs.Steps.{PrivilegedSteps, End, Const, Copy, Load, Store, Alu, ReadPsp, WritePsp, WriteControl, Test, Repeat, Halt, Return, Go}
 use Rattle.monitor_steps.specs.Core.{Core, low_register, with_low, with_psp, with_privilege, on_process_stack, is_privileged_on_msp}
 use Rattle.monitor_steps.specs.Accesses.{LoadResult, Value, LoadStops, LoadUnclaimed, StoreResult, Written, StoreStops, StoreUnclaimed, address_of, load, store}
 use Rattle.monitor_steps.specs.Effect.{Outcome, Went, Halted, AtReturn, AtBranch, Stopped, Unclaimed, operation, compared, either, with_one_less, turns, effect}
@@ -58,7 +58,7 @@ AreTurnsSafe (suc n) left body S c =
 
 -- `Good` is what has to hold of mode and protection at each step: that the code may be fetched under it
 module _ (j : PermissionTest) (i : Image) (Good : ProtectionState → Type 0) (Allowed : Rule) where
-  abbrev pub IsSafe : Steps → Core → Type 0
+  abbrev pub IsSafe : PrivilegedSteps → Core → Type 0
   IsSafe End c = Unit {0}
   IsSafe (Const to number rest) c = IsSafe rest (with_low c to number)
   IsSafe (Copy to from rest) c = IsSafe rest (with_low c to (low_register c from))

@@ -6,39 +6,39 @@ use Rattle.monitor_steps.specs.declared.steps.GateCond.{GateCond}
 
 -- a list of steps: its first step, with the rest of the list behind it. What stands behind a halt, a return or a branch is
 -- code too, which is never run
-pub data Steps : Type 0 where
-  End : Steps
+pub data PrivilegedSteps : Type 0 where
+  End : PrivilegedSteps
   -- a number, and the value of another register, into a register
-  Const : (to number : ℕ) (rest : Steps) → Steps
-  Copy : (to from : ℕ) (rest : Steps) → Steps
+  Const : (to number : ℕ) (rest : PrivilegedSteps) → PrivilegedSteps
+  Copy : (to from : ℕ) (rest : PrivilegedSteps) → PrivilegedSteps
   -- a load with zeros before the value, and a store of a register's low bytes. The offset counts widths
-  Load : (width : Width) (to base offset : ℕ) (rest : Steps) → Steps
-  Store : (width : Width) (from base offset : ℕ) (rest : Steps) → Steps
+  Load : (width : Width) (to base offset : ℕ) (rest : PrivilegedSteps) → PrivilegedSteps
+  Store : (width : Width) (from base offset : ℕ) (rest : PrivilegedSteps) → PrivilegedSteps
   -- an operation on the registers a and b
-  Alu : (op : GateOp) (to a b : ℕ) (rest : Steps) → Steps
+  Alu : (op : GateOp) (to a b : ℕ) (rest : PrivilegedSteps) → PrivilegedSteps
   -- the process stack pointer, and CONTROL
-  ReadPsp : (to : ℕ) (rest : Steps) → Steps
-  WritePsp : (from : ℕ) (rest : Steps) → Steps
-  WriteControl : (from : ℕ) (rest : Steps) → Steps
+  ReadPsp : (to : ℕ) (rest : PrivilegedSteps) → PrivilegedSteps
+  WritePsp : (from : ℕ) (rest : PrivilegedSteps) → PrivilegedSteps
+  WriteControl : (from : ℕ) (rest : PrivilegedSteps) → PrivilegedSteps
   -- one of two lists, by a comparison of the registers a and b; then the rest
-  Test : (cond : GateCond) (a b : ℕ) (if_true if_false rest : Steps) → Steps
+  Test : (cond : GateCond) (a b : ℕ) (if_true if_false rest : PrivilegedSteps) → PrivilegedSteps
   -- the body while the register `left` is not 0, one being taken off it behind each turn; at most `most` turns
-  Repeat : (left most : ℕ) (body rest : Steps) → Steps
+  Repeat : (left most : ℕ) (body rest : PrivilegedSteps) → PrivilegedSteps
   -- BKPT; the exception return; a branch to the address in a register, with the link register from another
-  Halt : (code : ℕ) (rest : Steps) → Steps
-  Return : (rest : Steps) → Steps
-  Go : (to link : ℕ) (rest : Steps) → Steps
+  Halt : (code : ℕ) (rest : PrivilegedSteps) → PrivilegedSteps
+  Return : (rest : PrivilegedSteps) → PrivilegedSteps
+  Go : (to link : ℕ) (rest : PrivilegedSteps) → PrivilegedSteps
 
 -- steps in front of the rest
 infixr 0 ◌▸◌
-abbrev pub ◌▸◌ : (Steps → Steps) → Steps → Steps
+abbrev pub ◌▸◌ : (PrivilegedSteps → PrivilegedSteps) → PrivilegedSteps → PrivilegedSteps
 steps ▸ rest = steps rest
 
 abbrev pub is_low : ℕ → Bool
 is_low register = nat_lt register 8
 
 -- every register that the list names is one of r0 to r7
-abbrev pub names_low : Steps → Bool
+abbrev pub names_low : PrivilegedSteps → Bool
 names_low End = true
 names_low (Const to number rest) = is_low to && names_low rest
 names_low (Copy to from rest) = (is_low to && is_low from) && names_low rest

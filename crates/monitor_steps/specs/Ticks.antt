@@ -3,13 +3,13 @@
 use Rattle.std.specs.Prelude.{ℕ, zero, suc, ◌+◌, ◌*◌, ◌/◌, ◌%◌, max, Bool, true, false, nat_eq}
 use Rattle.machine_devices.specs.declared.image.Image.{Image}
 use Rattle.machine_model.specs.State.{PermissionTest}
-use Rattle.monitor_steps.specs.Steps.{Steps, End, Const, Copy, Load, Store, Alu, ReadPsp, WritePsp, WriteControl, Test, Repeat, Halt, Return, Go}
+use Rattle.monitor_steps.specs.Steps.{PrivilegedSteps, End, Const, Copy, Load, Store, Alu, ReadPsp, WritePsp, WriteControl, Test, Repeat, Halt, Return, Go}
 use Rattle.monitor_steps.specs.Core.{Core, low_register, with_low, with_psp, with_privilege, on_process_stack, is_privileged_on_msp}
 use Rattle.monitor_steps.specs.Accesses.{LoadResult, Value, LoadStops, LoadUnclaimed, StoreResult, Written, StoreStops, StoreUnclaimed, load, store}
 use Rattle.monitor_steps.specs.Effect.{Outcome, Went, Halted, AtReturn, AtBranch, Stopped, Unclaimed, operation, compared, either, with_one_less, turns, effect}
 
 -- at most, whatever it is run on: loops count with all their turns, tests with their longer list
-abbrev pub most_ticks : Steps → ℕ
+abbrev pub most_ticks : PrivilegedSteps → ℕ
 most_ticks End = 0
 most_ticks (Const to number rest) = 2 + most_ticks rest
 most_ticks (Copy to from rest) = 1 + most_ticks rest
@@ -66,7 +66,7 @@ turn_ticks (suc n) left body count c =
 
 module _ (j : PermissionTest) (i : Image) where
   -- from this core, at most: an operation counts with four steps, also where its code is shorter, and a test with four of its own
-  abbrev pub ticks : Steps → Core → ℕ
+  abbrev pub ticks : PrivilegedSteps → Core → ℕ
   ticks End c = 0
   ticks (Const to number rest) c = 2 + ticks rest (with_low c to number)
   ticks (Copy to from rest) c = 1 + ticks rest (with_low c to (low_register c from))

@@ -7,10 +7,10 @@ mod numbers;
 mod row;
 mod rows;
 mod run;
-mod steps;
+mod step_count;
 mod stretch;
 
 pub use groups::Groups;
 pub use numbers::Numbers;
 pub use rows::Rows;
-pub use steps::Steps;
+pub use step_count::StepCount;

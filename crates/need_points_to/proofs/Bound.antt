@@ -12,7 +12,7 @@ use Rattle.need_numbers.specs.Rows.{Lists}
 use Rattle.need_sets.specs.Sets.{Sets, sets_of, row_of}
 use Rattle.need_sets.specs.Tables.{sets_by}
 use Rattle.need_sets.specs.declared.system.System.{System}
-use Rattle.need_sets.specs.Rules.{Says}
+use Rattle.need_sets.specs.Rules.{Relation}
 use Rattle.need_sets.specs.Solutions.{ObeysAll, is_in, IsBounded}
 use Rattle.need_sets.specs.Demands.{demands_of}
 use Rattle.need_sets.specs.Gathered.{Represents}
@@ -23,7 +23,7 @@ use Rattle.need_points_to.proofs.Least.{by_obeys}
 use Rattle.need_points_to.proofs.Summing.{edges_bound}
 
 pub within_bound : (w : System) (p : Program) (rows : Lists) (count : ℕ) → program_of w.program.now ≡ p → w.numbering ≡ numbering_of p → Represents (numbering_of p) w.rules (demands_of p)
-    → ((Q : Says) → ObeysAll w Q → (n o : ℕ) → is_in rows n o ≡ true → Q n o ≡ true) → IsBounded w rows count
+    → ((Q : Relation) → ObeysAll w Q → (n o : ℕ) → is_in rows n o ≡ true → Q n o ≡ true) → IsBounded w rows count
     → (s : Sets) → ((n : Node) (o : Object) → sets_of s n o ≡ sets_by (numbering_of p) rows n o) → IsWithinBound p s count
 within_bound w p rows count e f r least b s same = record { bound = at }
   where

@@ -20,14 +20,14 @@ use Rattle.need_sets.specs.declared.rules.Pair.{Pair}
 use Rattle.need_sets.specs.declared.rules.Trigger.{Trigger}
 use Rattle.need_sets.specs.declared.rules.Trigger.TheVariants as trigger
 use Rattle.need_sets.specs.declared.rules.Rules.{Rules}
-use Rattle.need_sets.specs.Rules.{Says, Passes, OnEdge, Obeys, no_pair, no_edge, edge_of, edge_to, edge_from, of_callee, callee_of, parameter_of, outcome_of, lists_in}
+use Rattle.need_sets.specs.Rules.{Relation, Passes, OnEdge, Obeys, no_pair, no_edge, edge_of, edge_to, edge_from, of_callee, callee_of, parameter_of, outcome_of, lists_in}
 use Rattle.need_sets.specs.Solutions.{is_in}
 use Rattle.need_sets.specs.Demands.{Demand, HasObject, PassesOn, LoadsTo, StoresFrom, GivesTo, TakesFrom, Meets, demands_of}
 use Rattle.need_sets.specs.Gathered.{Item, Fact, Copy, Asks, HasItem, IsNumbered, Represents}
 use Rattle.need_points_to.proofs.Back.{object_from, node_from, object_back, node_back, content_back, content_there, register_there, callee_there, callee_back}
 use Rattle.base_laws.proofs.Options.{guarded}
 
-abbrev pub ItemObeyed : Program → Says → Item → Type 0
+abbrev pub ItemObeyed : Program → Relation → Item → Type 0
 ItemObeyed p Q (Fact x) = Q x.node x.object ≡ true
 ItemObeyed p Q (Copy e) = Passes Q e
 ItemObeyed p Q (Asks n t) = (o : ℕ) → Q n o ≡ true → OnEdge (edge_of p (numbering_of p) t o) (Passes Q)
@@ -38,7 +38,7 @@ module _ (p : Program) where
 
   -- ---- sets as numbers say
 
-  abbrev pub by_numbers : ObjectSets → Says
+  abbrev pub by_numbers : ObjectSets → Relation
   by_numbers S i j = S (node_from c i) (object_from c j)
 
   at_numbers : (S : ObjectSets) (n : Node) (i o : ℕ) → node_number c n ≡ Some i → by_numbers S i o ≡ S n (object_from c o)
@@ -185,12 +185,12 @@ module _ (p : Program) where
 
   -- ---- all rules
 
-  pub items_obeyed : (r : Rules) (Q : Says) → Obeys p c r.facts.items r.copies.items (lists_in r.triggers) Q → (x : Item) → HasItem r x → ItemObeyed p Q x
+  pub items_obeyed : (r : Rules) (Q : Relation) → Obeys p c r.facts.items r.copies.items (lists_in r.triggers) Q → (x : Item) → HasItem r x → ItemObeyed p Q x
   items_obeyed r Q h (Fact x) i = subst (λ (y : Pair). Q y.node y.object ≡ true) (get_or_default r.facts.items i.0 no_pair x i.1 ∙ i.2) (h.facts i.0 i.1)
   items_obeyed r Q h (Copy x) i = subst (Passes Q) (get_or_default r.copies.items i.0 no_edge x i.1 ∙ i.2) (h.copies i.0 i.1)
   items_obeyed r Q h (Asks n t) i = λ o q. subst (λ (y : Trigger). OnEdge (edge_of p c y o) (Passes Q)) i.2 (h.triggers n i.0 o t i.1 q)
 
-  pub obeys_from : (r : Rules) (Q : Says) → ((x : Item) → HasItem r x → ItemObeyed p Q x) → Obeys p c r.facts.items r.copies.items (lists_in r.triggers) Q
+  pub obeys_from : (r : Rules) (Q : Relation) → ((x : Item) → HasItem r x → ItemObeyed p Q x) → Obeys p c r.facts.items r.copies.items (lists_in r.triggers) Q
   obeys_from r Q h = record {
     facts = λ k l. h (Fact (get_or r.facts.items k no_pair)) (Contains-get_or r.facts.items k no_pair l);
     copies = λ k l. h (Copy (get_or r.copies.items k no_edge)) (Contains-get_or r.copies.items k no_edge l);

@@ -12,7 +12,7 @@ use Rattle.need_sets.specs.Numbers.{object_number, node_number, numbering_of}
 use Rattle.need_numbers.specs.Rows.{Lists}
 use Rattle.need_sets.specs.Tables.{is_pair, sets_by}
 use Rattle.need_sets.specs.declared.system.System.{System}
-use Rattle.need_sets.specs.Rules.{Says, Obeys, lists_in}
+use Rattle.need_sets.specs.Rules.{Relation, Obeys, lists_in}
 use Rattle.need_sets.specs.Solutions.{ObeysAll, is_in}
 use Rattle.need_sets.specs.Demands.{demands_of}
 use Rattle.need_sets.specs.Gathered.{Represents}
@@ -34,18 +34,18 @@ pair_of rows (Some i) None e = absurd (false≢true e)
 pair_of rows (Some i) (Some j) e = record { node = i; object = j; node_is = refl; object_is = refl; has = e }
 
 -- the program and the numbering of a system
-obeys_by : (w : System) (p : Program) (Q : Says) → program_of w.program.now ≡ p → w.numbering ≡ numbering_of p → ObeysAll w Q → Obeys p (numbering_of p) w.rules.facts.items w.rules.copies.items (lists_in w.rules.triggers) Q
+obeys_by : (w : System) (p : Program) (Q : Relation) → program_of w.program.now ≡ p → w.numbering ≡ numbering_of p → ObeysAll w Q → Obeys p (numbering_of p) w.rules.facts.items w.rules.copies.items (lists_in w.rules.triggers) Q
 obeys_by w p Q e f h =
     subst (λ (x : Program). Obeys x (numbering_of p) w.rules.facts.items w.rules.copies.items (lists_in w.rules.triggers) Q) e
     (subst (λ (c : Numbering). Obeys (program_of w.program.now) c w.rules.facts.items w.rules.copies.items (lists_in w.rules.triggers) Q) f h)
 
-pub by_obeys : (w : System) (p : Program) (Q : Says) → program_of w.program.now ≡ p → w.numbering ≡ numbering_of p → Obeys p (numbering_of p) w.rules.facts.items w.rules.copies.items (lists_in w.rules.triggers) Q → ObeysAll w Q
+pub by_obeys : (w : System) (p : Program) (Q : Relation) → program_of w.program.now ≡ p → w.numbering ≡ numbering_of p → Obeys p (numbering_of p) w.rules.facts.items w.rules.copies.items (lists_in w.rules.triggers) Q → ObeysAll w Q
 by_obeys w p Q e f h =
     subst (λ (c : Numbering). Obeys (program_of w.program.now) c w.rules.facts.items w.rules.copies.items (lists_in w.rules.triggers) Q) (sym f)
     (subst (λ (x : Program). Obeys x (numbering_of p) w.rules.facts.items w.rules.copies.items (lists_in w.rules.triggers) Q) (sym e) h)
 
 pub least_found : (w : System) (p : Program) (rows : Lists) → program_of w.program.now ≡ p → w.numbering ≡ numbering_of p → Represents (numbering_of p) w.rules (demands_of p) → ObeysAll w (is_in rows)
-    → ((Q : Says) → ObeysAll w Q → (n o : ℕ) → is_in rows n o ≡ true → Q n o ≡ true) → IsLeast p (sets_by (numbering_of p) rows)
+    → ((Q : Relation) → ObeysAll w Q → (n o : ℕ) → is_in rows n o ≡ true → Q n o ≡ true) → IsLeast p (sets_by (numbering_of p) rows)
 least_found w p rows e f r h least = record {
   closed = closed_from p (sets_by (numbering_of p) rows) (all_met p w.rules rows r (obeys_by w p (is_in rows) e f h));
   least = λ S q n o i.

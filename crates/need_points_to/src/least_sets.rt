@@ -13,7 +13,7 @@ ghost use Rattle.need_points_to.specs.Edges.{IsWithinBound};
 
 use ir_program::program::Program;
 use need_constraints::generate;
-use need_numbers::Steps;
+use need_numbers::StepCount;
 use need_sets::{Pairs, PointsTo, number_program};
 use need_solving::least_pairs;
 use std::alloc::{AllocError, Global};
@@ -23,7 +23,7 @@ use std::sync::ledger::{Blank, Ledger};
 fn search<L: Ledger>(
     alloc: Global,
     program: &Program,
-    steps: &mut Steps<L>,
+    steps: &mut StepCount<L>,
 ) -> Result<Pairs, AllocError>
     requires { HasCounts program.now }
     ensures nodes { IfOk result (λ pairs. length pairs.rows ≡ sum (numbering_of (program_of program.now)).nodes) }
@@ -47,7 +47,7 @@ fn search<L: Ledger>(
 pub fn solve_counted<L: Ledger>(
     alloc: Global,
     program: &Program,
-    steps: &mut Steps<L>,
+    steps: &mut StepCount<L>,
 ) -> Result<PointsTo, AllocError>
     requires { HasCounts program.now }
     ensures least { IfOk result (λ sets. IsLeast (program_of program.now) (sets_of sets)) }
@@ -68,7 +68,7 @@ fn solve_on<L: Ledger>(
     requires counts { HasCounts program.now }
     ensures { IfOk result (λ sets. IsLeast (program_of program.now) (sets_of sets)) }
 {
-    let mut steps = Steps::<L>::new(blank);
+    let mut steps = StepCount::<L>::new(blank);
     solve_counted(alloc, program, &mut steps)
 }
 

@@ -45,10 +45,10 @@ edge_of p c (trigger.Argument t from k) o = edge_to from (of_callee (callee_of c
 edge_of p c (trigger.Outcome t to) o = edge_from (of_callee (callee_of c o) (outcome_of p c (type_of t.now))) to
 
 -- for each node and each object, whether the node has the object
-abbrev pub Says : Type 0
-Says = ℕ → ℕ → Bool
+abbrev pub Relation : Type 0
+Relation = ℕ → ℕ → Bool
 
-abbrev pub Passes : Says → Edge → Type 0
+abbrev pub Passes : Relation → Edge → Type 0
 Passes S e = (o : ℕ) → S e.from o ≡ true → S e.to o ≡ true
 
 abbrev pub OnEdge : Option Edge → (Edge → Type 0) → Type 0
@@ -66,7 +66,7 @@ abbrev pub lists_in : {A : Type 0} → Vec (Vec Trigger A) A → List (List Trig
 lists_in {A = A} v = map (λ (x : Vec Trigger A). x.items) v.items
 
 -- what each object of a pointer asks
-pub record Obeys (p : Program) (c : Numbering) (fs : List Pair) (es : List Edge) (ts : List (List Trigger)) (S : Says) : Type 0 where
+pub record Obeys (p : Program) (c : Numbering) (fs : List Pair) (es : List Edge) (ts : List (List Trigger)) (S : Relation) : Type 0 where
   pub facts : (k : ℕ) → k < length fs → S (get_or fs k no_pair).node (get_or fs k no_pair).object ≡ true
   pub copies : (k : ℕ) → k < length es → Passes S (get_or es k no_edge)
   pub triggers : (n k o : ℕ) (d : Trigger) → k < length (get_or ts n []) → S n o ≡ true → OnEdge (edge_of p c (get_or (get_or ts n []) k d) o) (Passes S)

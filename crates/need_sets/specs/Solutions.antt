@@ -7,9 +7,9 @@ use Rattle.need_numbers.specs.Rows.{Lists, has, row}
 use Rattle.need_sets.specs.declared.rules.Edge.{Edge}
 use Rattle.need_sets.specs.declared.rules.Trigger.{Trigger}
 use Rattle.need_sets.specs.declared.system.System.{System}
-use Rattle.need_sets.specs.Rules.{Says, edge_of, lists_in, Obeys}
+use Rattle.need_sets.specs.Rules.{Relation, edge_of, lists_in, Obeys}
 
-abbrev pub ObeysAll : System → Says → Type 0
+abbrev pub ObeysAll : System → Relation → Type 0
 ObeysAll w S = Obeys (program_of w.program.now) w.numbering w.rules.facts.items w.rules.copies.items (lists_in w.rules.triggers) S
 
 -- the object is in the list of the node

@@ -13,7 +13,7 @@ ghost use Rattle.need_sets.specs.Tables.{Table, sets_by};
 use crate::PointsTo;
 use crate::finish::finish;
 use ir_program::program::Program;
-use need_numbers::{Rows, Steps};
+use need_numbers::{Rows, StepCount};
 use std::alloc::{AllocError, Global};
 use std::marker::Model;
 use std::sync::ledger::Ledger;
@@ -57,7 +57,7 @@ impl Pairs {
         &mut self,
         node: u32,
         object: u32,
-        steps: &mut Steps<L>,
+        steps: &mut StepCount<L>,
     ) -> Result<bool, AllocError>
         requires node { node < length self.old.rows }
         requires object { object < self.old.objects }
@@ -72,7 +72,7 @@ impl Pairs {
     }
 
     /// The object at a place of a node's list, from 0; none where the list has no such place. One step.
-    pub fn member<L: Ledger>(&self, node: u32, place: u32, steps: &mut Steps<L>) -> Option<u32>
+    pub fn member<L: Ledger>(&self, node: u32, place: u32, steps: &mut StepCount<L>) -> Option<u32>
         requires node { node < length self.now.rows }
         ensures exact { result ≡ slice_get (row self.now.rows node) place }
         ensures within { IfSome result (λ object. object < self.now.objects) }

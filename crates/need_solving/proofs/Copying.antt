@@ -6,16 +6,16 @@ use Rattle.need_sets.specs.declared.rules.Pair.{Pair}
 use Rattle.need_sets.specs.declared.rules.Edge.{Edge}
 use Rattle.need_solving.specs.declared.state.State.{State}
 use Rattle.need_sets.specs.declared.system.System.{System}
-use Rattle.need_sets.specs.Rules.{Says, Passes, OnEdge, no_edge}
+use Rattle.need_sets.specs.Rules.{Relation, Passes, OnEdge, no_edge}
 use Rattle.need_sets.specs.declared.rules.Trigger.{Trigger}
 use Rattle.need_sets.specs.Solutions.{ObeysAll, is_in, IsAsked}
-use Rattle.need_solving.specs.Searching.{asked, pair_at, IsSound, Holds, Grown, IsPut, IsCopied}
+use Rattle.need_solving.specs.Searching.{asked, pair_at, IsSound, IsSoundState, Grown, IsPut, IsCopied}
 use Rattle.need_solving.proofs.Lists.{taken, added_other, has_at, at_has, added_cases, added_count, added_distinct}
 use Rattle.need_solving.proofs.Putting.{holds_put, grown_put, has_put, grown_none, grown_both}
 use Rattle.need_solving.proofs.Firing.{on_some}
 
 pub record IsCopying (w : System) (s t : State) (e : Edge) (k : ℕ) : Type 0 where
-  pub holds : Holds w t
+  pub holds : IsSoundState w t
   pub grown : Grown s t
   pub edges : t.edges ≡ s.edges
   pub next : t.next ≡ s.next
@@ -28,10 +28,10 @@ none_left [] k e = omega arith
 none_left (y ∷ xs) zero e = cc
 none_left (y ∷ xs) (suc k) e = let h = none_left xs k e in omega arith
 
-pub copy_none : (w : System) (s : State) (e : Edge) → Holds w s → IsCopying w s s e 0
+pub copy_none : (w : System) (s : State) (e : Edge) → IsSoundState w s → IsCopying w s s e 0
 copy_none w s e h = record { holds = h; grown = grown_none s; edges = refl; next = refl; same = refl; upto = omega arith; each = λ j l. absurd (omega arith) }
 
-pub copy_next : (w : System) (s t u : State) (e : Edge) (k m o : ℕ) (r : Option ℕ) → IsCopying w s t e k → m ≡ k + 1 → IsPut t u e.to o → e.from ≢ e.to → e.to < length s.pairs.rows → o < t.pairs.objects → r ≡ slice_get (row t.pairs.rows e.from) k → r ≡ Some o → ((Q : Says) → ObeysAll w Q → Passes Q e) → IsCopying w s u e m
+pub copy_next : (w : System) (s t u : State) (e : Edge) (k m o : ℕ) (r : Option ℕ) → IsCopying w s t e k → m ≡ k + 1 → IsPut t u e.to o → e.from ≢ e.to → e.to < length s.pairs.rows → o < t.pairs.objects → r ≡ slice_get (row t.pairs.rows e.from) k → r ≡ Some o → ((Q : Relation) → ObeysAll w Q → Passes Q e) → IsCopying w s u e m
 copy_next w s t u e k i o r c z q d l b f g allowed = subst (IsCopying w s u e) (sym z) (
     let h = taken (row t.pairs.rows e.from) k o (sym f ∙ g) in
     let n = c.grown.count in
@@ -62,7 +62,7 @@ copy_all w s t e k r c f g =
     }
 
 -- what is asked for is passed on by all sets that obey
-pub asked_allowed : (w : System) (rows : Lists) (objects : ℕ) (l : List Pair) (edges : Lists) (next : ℕ) (e : Edge) → IsSound w rows objects l edges next → IsAsked w rows e → (Q : Says) → ObeysAll w Q → Passes Q e
+pub asked_allowed : (w : System) (rows : Lists) (objects : ℕ) (l : List Pair) (edges : Lists) (next : ℕ) (e : Edge) → IsSound w rows objects l edges next → IsAsked w rows e → (Q : Relation) → ObeysAll w Q → Passes Q e
 asked_allowed w rows objects l edges next e g (inl i) Q q = subst (Passes Q) (get_or_default w.rules.copies.items i.0 no_edge e i.1 ∙ i.2) (q.copies i.0 i.1)
 asked_allowed w rows objects l edges next e g (inr t) Q q =
     on_some (asked w t.by t.object) e (Passes Q) t.asks
@@ -88,5 +88,5 @@ sound_edge w rows objects l edges next e g a b d asked copied = let allowed = as
 }
 
 -- a new edge
-pub holds_edge : (w : System) (s : State) (edges : Lists) (e : Edge) → Holds w s → edges ≡ added s.edges e.from e.to → e.from < length s.pairs.rows → e.to < length s.pairs.rows → e.from ≢ e.to → IsAsked w s.pairs.rows e → ((o : ℕ) → is_in s.pairs.rows e.from o ≡ true → is_in s.pairs.rows e.to o ≡ true) → IsSound w s.pairs.rows s.pairs.objects s.log edges s.next
+pub holds_edge : (w : System) (s : State) (edges : Lists) (e : Edge) → IsSoundState w s → edges ≡ added s.edges e.from e.to → e.from < length s.pairs.rows → e.to < length s.pairs.rows → e.from ≢ e.to → IsAsked w s.pairs.rows e → ((o : ℕ) → is_in s.pairs.rows e.from o ≡ true → is_in s.pairs.rows e.to o ≡ true) → IsSound w s.pairs.rows s.pairs.objects s.log edges s.next
 holds_edge w s edges e h q a b d asked copied = subst (λ x. IsSound w s.pairs.rows s.pairs.objects s.log x s.next) (sym q) (sound_edge w s.pairs.rows s.pairs.objects s.log s.edges s.next e h a b d asked copied)

@@ -7,7 +7,7 @@ use Rattle.need_solving.specs.declared.state.State.{State}
 use Rattle.need_sets.specs.declared.system.System.{System}
 use Rattle.need_sets.specs.Rules.{OnEdge, lists_in}
 use Rattle.need_sets.specs.Solutions.{is_in, IsAsked}
-use Rattle.need_solving.specs.Searching.{asked, Holds, Grown, IsFound}
+use Rattle.need_solving.specs.Searching.{asked, IsSoundState, Grown, IsFound}
 use Rattle.need_solving.proofs.Lists.{taken}
 use Rattle.need_solving.proofs.Putting.{grown_none, grown_both}
 
@@ -15,7 +15,7 @@ abbrev triggers : System → Pair → List Trigger
 triggers w x = get_or (lists_in w.rules.triggers) x.node []
 
 pub record IsFiring (w : System) (s t : State) (x : Pair) (k : ℕ) : Type 0 where
-  pub holds : Holds w t
+  pub holds : IsSoundState w t
   pub grown : Grown s t
   pub next : t.next ≡ s.next
   pub each : (j : ℕ) → j < k → (d : Trigger) → OnEdge (asked w (get_or (get_or (lists_in w.rules.triggers) x.node []) j d) x.object) (IsFound t.edges)
@@ -31,7 +31,7 @@ pub found_more : (s t : State) (e : Edge) → Grown s t → IsFound s.edges e �
 found_more s t e g (inl h) = inl h
 found_more s t e g (inr h) = inr (g.edges e.from e.to h)
 
-pub fire_none : (w : System) (s : State) (x : Pair) → Holds w s → IsFiring w s s x 0
+pub fire_none : (w : System) (s : State) (x : Pair) → IsSoundState w s → IsFiring w s s x 0
 fire_none w s x h = record { holds = h; grown = grown_none s; next = refl; each = λ j l. absurd (omega arith) }
 
 on_made : (o : Option Edge) (P : Edge → Type 0) → ((e : Edge) → o ≡ Some e → P e) → OnEdge o P
@@ -44,7 +44,7 @@ fire_asked w s t x k r g c h f e =
     let i = taken (triggers w x) k g (sym f ∙ e) in
     on_made (asked w g x.object) (IsAsked w t.pairs.rows) (λ a q. inr (record { node = x.node; object = x.object; by = g; listed = (k, i.0, i.1 g); has = c.grown.rows x.node x.object h; asks = q }))
 
-pub fire_next : (w : System) (s t u : State) (x : Pair) (k : ℕ) (r : Option Trigger) (g : Trigger) → IsFiring w s t x k → r ≡ slice_get (get_or (lists_in w.rules.triggers) x.node []) k → r ≡ Some g → Holds w u → Grown t u → u.next ≡ t.next → OnEdge (asked w g x.object) (IsFound u.edges) → IsFiring w s u x (k + 1)
+pub fire_next : (w : System) (s t u : State) (x : Pair) (k : ℕ) (r : Option Trigger) (g : Trigger) → IsFiring w s t x k → r ≡ slice_get (get_or (lists_in w.rules.triggers) x.node []) k → r ≡ Some g → IsSoundState w u → Grown t u → u.next ≡ t.next → OnEdge (asked w g x.object) (IsFound u.edges) → IsFiring w s u x (k + 1)
 fire_next w s t u x k r g c f e h n z q =
     let i = taken (triggers w x) k g (sym f ∙ e) in
     record {

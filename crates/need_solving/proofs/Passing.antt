@@ -6,26 +6,26 @@ use Rattle.need_sets.specs.declared.rules.Pair.{Pair}
 use Rattle.need_solving.specs.declared.state.State.{State}
 use Rattle.need_sets.specs.declared.system.System.{System}
 use Rattle.need_sets.specs.Solutions.{is_in}
-use Rattle.need_solving.specs.Searching.{pair_at, IsSound, Holds, Grown, IsPut}
+use Rattle.need_solving.specs.Searching.{pair_at, IsSound, IsSoundState, Grown, IsPut}
 use Rattle.need_solving.proofs.Lists.{taken, has_at, at_has}
 use Rattle.need_solving.proofs.Putting.{holds_put, grown_put, has_put, grown_none, grown_both}
 use Rattle.need_solving.proofs.Copying.{none_left}
 
 -- the pair that comes next
 pub record IsNext (w : System) (s : State) (x : Pair) : Type 0 where
-  pub holds : Holds w s
+  pub holds : IsSoundState w s
   pub next_in : s.next < length s.log
   pub is : x ≡ pair_at s.log s.next
 
 pub record IsPassing (w : System) (s t : State) (x : Pair) (k : ℕ) : Type 0 where
-  pub holds : Holds w t
+  pub holds : IsSoundState w t
   pub grown : Grown s t
   pub edges : t.edges ≡ s.edges
   pub next : t.next ≡ s.next
   pub upto : k ≤ length (row s.edges x.node)
   pub each : (j : ℕ) → j < k → is_in t.pairs.rows (get_or (row t.edges x.node) j 0) x.object ≡ true
 
-pub pass_none : (w : System) (s : State) (x : Pair) → Holds w s → IsPassing w s s x 0
+pub pass_none : (w : System) (s : State) (x : Pair) → IsSoundState w s → IsPassing w s s x 0
 pass_none w s x h = record { holds = h; grown = grown_none s; edges = refl; next = refl; upto = omega arith; each = λ j l. absurd (omega arith) }
 
 pub there : (w : System) (s t : State) (x : Pair) → IsNext w s x → Grown s t → is_in t.pairs.rows x.node x.object ≡ true
@@ -44,7 +44,7 @@ object_there w s t x k n c =
 edge_there : (w : System) (t : State) (x : Pair) (k to : ℕ) (r : Option ℕ) → r ≡ slice_get (row t.edges x.node) k → r ≡ Some to → is_in t.edges x.node to ≡ true
 edge_there w t x k to r f g = let h = taken (row t.edges x.node) k to (sym f ∙ g) in subst (λ y. is_in t.edges x.node y ≡ true) (h.1 0) (at_has (row t.edges x.node) k h.0)
 
-pub target_there : (w : System) (t : State) (x : Pair) (k to : ℕ) (r : Option ℕ) → Holds w t → r ≡ slice_get (row t.edges x.node) k → r ≡ Some to → to < length t.pairs.rows
+pub target_there : (w : System) (t : State) (x : Pair) (k to : ℕ) (r : Option ℕ) → IsSoundState w t → r ≡ slice_get (row t.edges x.node) k → r ≡ Some to → to < length t.pairs.rows
 target_there w t x k to r h f g = h.targets x.node to (edge_there w t x k to r f g)
 
 pub pass_next : (w : System) (s t u : State) (x : Pair) (k m to : ℕ) (r : Option ℕ) → IsNext w s x → IsPassing w s t x k → m ≡ k + 1 → IsPut t u to x.object → r ≡ slice_get (row t.edges x.node) k → r ≡ Some to → IsPassing w s u x m

@@ -9,7 +9,7 @@ use Rattle.need_sets.specs.declared.rules.Edge.{Edge}
 use Rattle.need_solving.specs.declared.state.State.{State}
 use Rattle.need_sets.specs.declared.system.System.{System}
 use Rattle.need_sets.specs.Solutions.{is_in, total, IsBounded}
-use Rattle.need_solving.specs.Searching.{pair_at, Holds, Grown, IsCopied, handled, charge, cost, IsPaid}
+use Rattle.need_solving.specs.Searching.{pair_at, IsSoundState, Grown, IsCopied, handled, charge, cost, IsPaid}
 use Rattle.need_sets.proofs.Totals.{total_grows}
 use Rattle.need_solving.proofs.Lists.{added_longer, added_more}
 use Rattle.need_solving.proofs.Handled.{handled_same, handled_more, handled_next}
@@ -55,7 +55,7 @@ cost_grown s t g e n l =
     charge_grows s t a (omega arith) (g.lengths a) (omega arith)))
 
 -- a new edge, along which all was copied
-pub paid_link : (w : System) (s t u : State) (e : Edge) (m n : ℕ) → Holds w s → IsCopied s t e → u.pairs ≡ t.pairs → u.log ≡ t.log → u.edges ≡ added t.edges e.from e.to → u.next ≡ t.next → is_in t.edges e.from e.to ≡ false → e.from < length s.pairs.rows
+pub paid_link : (w : System) (s t u : State) (e : Edge) (m n : ℕ) → IsSoundState w s → IsCopied s t e → u.pairs ≡ t.pairs → u.log ≡ t.log → u.edges ≡ added t.edges e.from e.to → u.next ≡ t.next → is_in t.edges e.from e.to ≡ false → e.from < length s.pairs.rows
     → n ≤ m + 1 + 2 * length (row s.pairs.rows e.from) → IsPaid s u m n
 unfolding cost
 paid_link w s t u e m n h c p l q z new b steps =
@@ -126,7 +126,7 @@ paid_pass s t u x m n g ed nx l is p lo q z b steps =
         omega arith
 
 -- at the end
-pub bounded : (w : System) (s : State) (m n : ℕ) → Holds w s → length s.log ≤ s.next → n ≤ m + length w.rules.facts.items + cost s → IsBounded w s.pairs.rows (n - m)
+pub bounded : (w : System) (s : State) (m n : ℕ) → IsSoundState w s → length s.log ≤ s.next → n ≤ m + length w.rules.facts.items + cost s → IsBounded w s.pairs.rows (n - m)
 unfolding cost
 bounded w s m n h l b = record {
   edges = s.edges;

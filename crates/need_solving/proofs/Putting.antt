@@ -6,9 +6,9 @@ use Rattle.need_numbers.specs.Rows.{Lists, row, added}
 use Rattle.need_sets.specs.declared.rules.Pair.{Pair}
 use Rattle.need_solving.specs.declared.state.State.{State}
 use Rattle.need_sets.specs.declared.system.System.{System}
-use Rattle.need_sets.specs.Rules.{Says}
+use Rattle.need_sets.specs.Rules.{Relation}
 use Rattle.need_sets.specs.Solutions.{ObeysAll, is_in, IsAsked, IsNeeded}
-use Rattle.need_solving.specs.Searching.{pair_at, IsLogged, one_if, handled, IsSound, Holds, Grown, IsPut}
+use Rattle.need_solving.specs.Searching.{pair_at, IsLogged, one_if, handled, IsSound, IsSoundState, Grown, IsPut}
 use Rattle.need_sets.specs.declared.rules.Edge.{Edge}
 use Rattle.need_solving.proofs.Handled.{handled_same}
 use Rattle.need_solving.proofs.Lists.{put_cases, put_kept, put_new, put_more, put_longer, put_distinct, added_kept, added_new, added_count, added_longer}
@@ -82,7 +82,7 @@ counted_new rows l n o a h b =
         let grown = put_longer rows n o a in
         omega arith
 
-sound_new : (w : System) (rows : Lists) (objects : ℕ) (l : List Pair) (edges : Lists) (next n o : ℕ) → IsSound w rows objects l edges next → n < length rows → o < objects → is_in rows n o ≡ false → ((Q : Says) → ObeysAll w Q → Q n o ≡ true)
+sound_new : (w : System) (rows : Lists) (objects : ℕ) (l : List Pair) (edges : Lists) (next n o : ℕ) → IsSound w rows objects l edges next → n < length rows → o < objects → is_in rows n o ≡ false → ((Q : Relation) → ObeysAll w Q → Q n o ≡ true)
     → IsSound w (set rows n (row rows n ++ o ∷ [])) objects (l ++ record { node = n; object = o } ∷ []) edges next
 sound_new w rows objects l edges next n o g a b new allowed =
     let e = length-set rows n (row rows n ++ o ∷ []) in
@@ -106,7 +106,7 @@ sound_new w rows objects l edges next n o g a b new allowed =
           subst (λ (p : Pair). is_in (set rows n (row rows n ++ o ∷ [])) m p.object ≡ true) (sym r) (put_kept rows n o m _ (g.flows i m h (subst (λ (p : Pair). is_in edges p.node m ≡ true) r q)));
     }
 
-sound_put : (w : System) (rows : Lists) (objects : ℕ) (l : List Pair) (edges : Lists) (next n o : ℕ) → IsSound w rows objects l edges next → n < length rows → o < objects → ((Q : Says) → ObeysAll w Q → Q n o ≡ true)
+sound_put : (w : System) (rows : Lists) (objects : ℕ) (l : List Pair) (edges : Lists) (next n o : ℕ) → IsSound w rows objects l edges next → n < length rows → o < objects → ((Q : Relation) → ObeysAll w Q → Q n o ≡ true)
     → IsSound w (added rows n o) objects (if is_in rows n o then l else l ++ record { node = n; object = o } ∷ []) edges next
 sound_put w rows objects l edges next n o g a b allowed = pick (is_in rows n o) refl
   where
@@ -114,7 +114,7 @@ sound_put w rows objects l edges next n o g a b allowed = pick (is_in rows n o) 
     pick true e = g
     pick false e = sound_new w rows objects l edges next n o g a b e allowed
 
-pub holds_put : (w : System) (s t : State) (n o : ℕ) → Holds w s → IsPut s t n o → n < length s.pairs.rows → o < s.pairs.objects → ((Q : Says) → ObeysAll w Q → Q n o ≡ true) → Holds w t
+pub holds_put : (w : System) (s t : State) (n o : ℕ) → IsSoundState w s → IsPut s t n o → n < length s.pairs.rows → o < s.pairs.objects → ((Q : Relation) → ObeysAll w Q → Q n o ≡ true) → IsSoundState w t
 holds_put w s t n o h q a b allowed =
     subst (λ r. IsSound w r t.pairs.objects t.log t.edges t.next) (sym q.rows)
     (subst (λ m. IsSound w (added s.pairs.rows n o) m t.log t.edges t.next) (sym q.objects)

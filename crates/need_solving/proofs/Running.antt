@@ -10,7 +10,7 @@ use Rattle.need_solving.specs.declared.state.State.{State}
 use Rattle.need_sets.specs.declared.system.System.{System}
 use Rattle.need_sets.specs.Rules.{Passes, OnEdge, no_edge, lists_in}
 use Rattle.need_sets.specs.Solutions.{ObeysAll, is_in}
-use Rattle.need_solving.specs.Searching.{asked, pair_at, IsSound, Holds, Grown, IsFound, IsFired, IsLogged}
+use Rattle.need_solving.specs.Searching.{asked, pair_at, IsSound, IsSoundState, Grown, IsFound, IsFired, IsLogged}
 use Rattle.need_solving.proofs.Putting.{grown_both}
 use Rattle.need_solving.proofs.Firing.{on_edge, found_more}
 
@@ -44,7 +44,7 @@ sound_none w n m = record {
 }
 
 pub record IsRunning (w : System) (s : State) : Type 0 where
-  pub holds : Holds w s
+  pub holds : IsSoundState w s
   pub facts : (k : ℕ) → k < length w.rules.facts.items → is_in s.pairs.rows (pair_at w.rules.facts.items k).node (pair_at w.rules.facts.items k).object ≡ true
   pub copies : (k : ℕ) → k < length w.rules.copies.items → IsFound s.edges (get_or w.rules.copies.items k no_edge)
   pub fired : (i : ℕ) → i < s.next → IsFired w s.edges (pair_at s.log i)
@@ -52,7 +52,7 @@ pub record IsRunning (w : System) (s : State) : Type 0 where
 pub fired_more : (w : System) (s t : State) (x : Pair) → Grown s t → IsFired w s.edges x → IsFired w t.edges x
 fired_more w s t x g f k d l = on_edge (asked w (get_or (get_or (lists_in w.rules.triggers) x.node []) k d) x.object) (IsFound s.edges) (IsFound t.edges) (λ e h. found_more s t e g h) (f k d l)
 
-pub run_next : (w : System) (s t u : State) (x : Pair) → IsRunning w s → x ≡ pair_at s.log s.next → s.next < length s.log → Grown s t → t.next ≡ s.next + 1 → Holds w u → Grown t u → u.next ≡ t.next → IsFired w u.edges x → IsRunning w u
+pub run_next : (w : System) (s t u : State) (x : Pair) → IsRunning w s → x ≡ pair_at s.log s.next → s.next < length s.log → Grown s t → t.next ≡ s.next + 1 → IsSoundState w u → Grown t u → u.next ≡ t.next → IsFired w u.edges x → IsRunning w u
 run_next w s t u x r e l g n h v m f = record {
   holds = h;
   facts = λ k i. all.rows _ _ (r.facts k i);
@@ -66,7 +66,7 @@ run_next w s t u x r e l g n h v m f = record {
     all : Grown s u
     all = grown_both s t u g v
 
-passes : (w : System) (s : State) (e : Edge) → Holds w s → length s.log ≤ s.next → IsFound s.edges e → Passes (is_in s.pairs.rows) e
+passes : (w : System) (s : State) (e : Edge) → IsSoundState w s → length s.log ≤ s.next → IsFound s.edges e → Passes (is_in s.pairs.rows) e
 passes w s e h l (inl q) o i = subst (λ n. is_in s.pairs.rows n o ≡ true) q i
 passes w s e h l (inr q) o i =
     let g = h.logged e.from o i in
@@ -88,7 +88,7 @@ run_all w s r l = record {
         let at_object = subst (λ x. OnEdge (asked w (get_or (get_or (lists_in w.rules.triggers) n []) k d) x) (IsFound s.edges)) g.object (at_node k d i) in
         on_edge (asked w (get_or (get_or (lists_in w.rules.triggers) n []) k d) o) (IsFound s.edges) (Passes (is_in s.pairs.rows)) (λ e b. passes w s e r.holds l b) at_object
 
-pub run_begin : (w : System) (s t u : State) → Holds w u → Grown t u → ((k : ℕ) → k < length w.rules.facts.items → is_in t.pairs.rows (pair_at w.rules.facts.items k).node (pair_at w.rules.facts.items k).object ≡ true) → ((k : ℕ) → k < length w.rules.copies.items → IsFound u.edges (get_or w.rules.copies.items k no_edge)) → s.next ≡ 0 → t.next ≡ s.next → u.next ≡ t.next → IsRunning w u
+pub run_begin : (w : System) (s t u : State) → IsSoundState w u → Grown t u → ((k : ℕ) → k < length w.rules.facts.items → is_in t.pairs.rows (pair_at w.rules.facts.items k).node (pair_at w.rules.facts.items k).object ≡ true) → ((k : ℕ) → k < length w.rules.copies.items → IsFound u.edges (get_or w.rules.copies.items k no_edge)) → s.next ≡ 0 → t.next ≡ s.next → u.next ≡ t.next → IsRunning w u
 run_begin w s t u h g fs cs a b c = record { holds = h; facts = λ k l. g.rows _ _ (fs k l); copies = cs; fired = λ i l. absurd (omega arith) }
 
 pub sound_begin : (w : System) (rows edges : Lists) (objects : ℕ) (l : List Pair) (n m : ℕ) → rows ≡ replicate n [] → objects ≡ m → l ≡ [] → edges ≡ replicate n [] → IsSound w rows objects l edges 0

@@ -6,17 +6,17 @@ use Rattle.need_solving.specs.declared.state.State.{State}
 use Rattle.need_sets.specs.declared.system.System.{System}
 use Rattle.need_sets.specs.Rules.{no_edge}
 use Rattle.need_sets.specs.Solutions.{is_in}
-use Rattle.need_solving.specs.Searching.{pair_at, Holds, Grown, IsPut, IsFound}
+use Rattle.need_solving.specs.Searching.{pair_at, IsSoundState, Grown, IsPut, IsFound}
 use Rattle.need_solving.proofs.Putting.{holds_put, grown_put, has_put, grown_none, grown_both}
 use Rattle.need_solving.proofs.Firing.{found_more}
 
 pub record IsPutting (w : System) (s t : State) (k : ℕ) : Type 0 where
-  pub holds : Holds w t
+  pub holds : IsSoundState w t
   pub grown : Grown s t
   pub next : t.next ≡ s.next
   pub each : (j : ℕ) → j < k → is_in t.pairs.rows (pair_at w.rules.facts.items j).node (pair_at w.rules.facts.items j).object ≡ true
 
-pub put_none : (w : System) (s : State) → Holds w s → IsPutting w s s 0
+pub put_none : (w : System) (s : State) → IsSoundState w s → IsPutting w s s 0
 put_none w s h = record { holds = h; grown = grown_none s; next = refl; each = λ j l. absurd (omega arith) }
 
 pub put_next : (w : System) (s t u : State) (x : Pair) (k : ℕ) → IsPutting w s t k → x ≡ pair_at w.rules.facts.items k → k < length w.rules.facts.items → IsPut t u x.node x.object → x.node < length t.pairs.rows → x.object < t.pairs.objects → IsPutting w s u (k + 1)
@@ -30,15 +30,15 @@ put_next w s t u x k c e l q a b = record {
 }
 
 pub record IsLinking (w : System) (s t : State) (k : ℕ) : Type 0 where
-  pub holds : Holds w t
+  pub holds : IsSoundState w t
   pub grown : Grown s t
   pub next : t.next ≡ s.next
   pub each : (j : ℕ) → j < k → IsFound t.edges (get_or w.rules.copies.items j no_edge)
 
-pub link_none : (w : System) (s : State) → Holds w s → IsLinking w s s 0
+pub link_none : (w : System) (s : State) → IsSoundState w s → IsLinking w s s 0
 link_none w s h = record { holds = h; grown = grown_none s; next = refl; each = λ j l. absurd (omega arith) }
 
-pub link_next : (w : System) (s t u : State) (e : Edge) (k : ℕ) → IsLinking w s t k → e ≡ get_or w.rules.copies.items k no_edge → Holds w u → Grown t u → u.next ≡ t.next → IsFound u.edges e → IsLinking w s u (k + 1)
+pub link_next : (w : System) (s t u : State) (e : Edge) (k : ℕ) → IsLinking w s t k → e ≡ get_or w.rules.copies.items k no_edge → IsSoundState w u → Grown t u → u.next ≡ t.next → IsFound u.edges e → IsLinking w s u (k + 1)
 link_next w s t u e k c q h g n f = record {
   holds = h;
   grown = grown_both s t u c.grown g;

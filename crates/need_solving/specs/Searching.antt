@@ -9,7 +9,7 @@ use Rattle.need_sets.specs.declared.rules.Edge.{Edge}
 use Rattle.need_sets.specs.declared.rules.Trigger.{Trigger}
 use Rattle.need_solving.specs.declared.state.State.{State}
 use Rattle.need_sets.specs.declared.system.System.{System}
-use Rattle.need_sets.specs.Rules.{Says, OnEdge, no_pair, edge_of, lists_in}
+use Rattle.need_sets.specs.Rules.{Relation, OnEdge, no_pair, edge_of, lists_in}
 use Rattle.need_sets.specs.Solutions.{ObeysAll, is_in, IsNeeded, total}
 
 abbrev pub pair_at : List Pair → ℕ → Pair
@@ -45,16 +45,16 @@ pub record IsSound (w : System) (rows : Lists) (objects : ℕ) (l : List Pair) (
   pub object_in : (i : ℕ) → i < length l → (pair_at l i).object < objects
   pub kept : (i : ℕ) → i < length l → is_in rows (pair_at l i).node (pair_at l i).object ≡ true
   pub targets : (a b : ℕ) → is_in edges a b ≡ true → b < length rows
-  pub below : (Q : Says) → ObeysAll w Q → (n o : ℕ) → is_in rows n o ≡ true → Q n o ≡ true
-  pub justified : (Q : Says) → ObeysAll w Q → (a b o : ℕ) → is_in edges a b ≡ true → Q a o ≡ true → Q b o ≡ true
+  pub below : (Q : Relation) → ObeysAll w Q → (n o : ℕ) → is_in rows n o ≡ true → Q n o ≡ true
+  pub justified : (Q : Relation) → ObeysAll w Q → (a b o : ℕ) → is_in edges a b ≡ true → Q a o ≡ true → Q b o ≡ true
   pub once : (a : ℕ) → IsDistinct nat_eq (row edges a)
   pub apart : (a : ℕ) → IsDistinct nat_eq (row rows a)
   pub needed : (a b : ℕ) → is_in edges a b ≡ true → IsNeeded w rows a b
   pub counted : (a : ℕ) → handled a (length l) l ≤ length (row rows a)
   pub flows : (i b : ℕ) → i < next → is_in edges (pair_at l i).node b ≡ true → is_in rows b (pair_at l i).object ≡ true
 
-abbrev pub Holds : System → State → Type 0
-Holds w s = IsSound w s.pairs.rows s.pairs.objects s.log s.edges s.next
+abbrev pub IsSoundState : System → State → Type 0
+IsSoundState w s = IsSound w s.pairs.rows s.pairs.objects s.log s.edges s.next
 
 pub record Grown (old new : State) : Type 0 where
   pub rows : (n o : ℕ) → is_in old.pairs.rows n o ≡ true → is_in new.pairs.rows n o ≡ true

@@ -2,15 +2,15 @@
 
 ghost use Rattle.std.specs.Prelude.{◌≡◌, ◌≢◌, ◌+◌, ◌-◌, ◌*◌, ◌^◌, ◌<◌, ◌≤◌, ℕ, true, [], length, get_or, slice_get, OnOk, IfOk};
 ghost use Rattle.need_sets.specs.declared.system.System as systems;
-ghost use Rattle.need_sets.specs.Rules.{Says, OnEdge, no_edge, lists_in};
+ghost use Rattle.need_sets.specs.Rules.{Relation, OnEdge, no_edge, lists_in};
 ghost use Rattle.need_numbers.specs.Rows.{row};
 ghost use Rattle.need_sets.specs.Solutions.{ObeysAll, is_in, IsAsked, IsBounded};
-ghost use Rattle.need_solving.specs.Searching.{asked, pair_at, IsFound, Holds, Grown, IsPut, IsCopied, IsFired, cost, IsPaid};
+ghost use Rattle.need_solving.specs.Searching.{asked, pair_at, IsFound, IsSoundState, Grown, IsPut, IsCopied, IsFired, cost, IsPaid};
 
 use crate::callees::asked_edge;
 use crate::log::Log;
 use crate::state::State;
-use need_numbers::{Rows, Steps};
+use need_numbers::{Rows, StepCount};
 use need_sets::{Edge, Pair, Pairs, System, Trigger};
 use std::alloc::{AllocError, Global};
 use std::sync::ledger::Ledger;
@@ -41,7 +41,7 @@ impl State {
         &mut self,
         node: u32,
         object: u32,
-        steps: &mut Steps<L>,
+        steps: &mut StepCount<L>,
     ) -> Result<(), AllocError>
         requires node { node < length self.old.pairs.rows }
         requires object { object < self.old.pairs.objects }
@@ -78,14 +78,14 @@ fn copy<L: Ledger>(
     system: &System,
     state: &mut State,
     edge: Edge,
-    steps: &mut Steps<L>,
+    steps: &mut StepCount<L>,
 ) -> Result<(), AllocError>
-    requires holds { Holds system.now state.old }
+    requires holds { IsSoundState system.now state.old }
     requires from { edge.from < length state.old.pairs.rows }
     requires to { edge.to < length state.old.pairs.rows }
     requires apart { edge.from ≢ edge.to }
     requires asked { IsAsked system.now state.old.pairs.rows edge }
-    ensures holds { OnOk result (Holds system.now state.new) }
+    ensures holds { OnOk result (IsSoundState system.now state.new) }
     ensures copied { OnOk result (IsCopied state.old state.new edge) }
     ensures counted { OnOk result (steps.new ≤ steps.old + 1 + 2 * length (row state.old.pairs.rows edge.from)) }
 {
@@ -102,11 +102,11 @@ fn link<L: Ledger>(
     system: &System,
     state: &mut State,
     edge: Edge,
-    steps: &mut Steps<L>,
+    steps: &mut StepCount<L>,
 ) -> Result<(), AllocError>
-    requires holds { Holds system.now state.old }
+    requires holds { IsSoundState system.now state.old }
     requires asked { IsAsked system.now state.old.pairs.rows edge }
-    ensures holds { OnOk result (Holds system.now state.new) }
+    ensures holds { OnOk result (IsSoundState system.now state.new) }
     ensures grown { OnOk result (Grown state.old state.new) }
     ensures next { OnOk result (state.new.next ≡ state.old.next) }
     ensures found { OnOk result (IsFound state.new.edges edge) }
@@ -132,12 +132,12 @@ fn pass_on<L: Ledger>(
     system: &System,
     state: &mut State,
     pair: Pair,
-    steps: &mut Steps<L>,
+    steps: &mut StepCount<L>,
 ) -> Result<(), AllocError>
-    requires holds { Holds system.now state.old }
+    requires holds { IsSoundState system.now state.old }
     requires next { state.old.next < length state.old.log }
     requires pair { pair ≡ pair_at state.old.log state.old.next }
-    ensures holds { OnOk result (Holds system.now state.new) }
+    ensures holds { OnOk result (IsSoundState system.now state.new) }
     ensures grown { OnOk result (Grown state.old state.new) }
     ensures next { OnOk result (state.new.next ≡ state.old.next + 1) }
     ensures fits { OnOk result (state.new.next < 2 ^ 64) }
@@ -158,11 +158,11 @@ fn pull<L: Ledger>(
     state: &mut State,
     trigger: &Trigger,
     object: u32,
-    steps: &mut Steps<L>,
+    steps: &mut StepCount<L>,
 ) -> Result<(), AllocError>
-    requires holds { Holds system.now state.old }
+    requires holds { IsSoundState system.now state.old }
     requires asked { OnEdge (asked system.now trigger.now object) (IsAsked system.now state.old.pairs.rows) }
-    ensures holds { OnOk result (Holds system.now state.new) }
+    ensures holds { OnOk result (IsSoundState system.now state.new) }
     ensures grown { OnOk result (Grown state.old state.new) }
     ensures next { OnOk result (state.new.next ≡ state.old.next) }
     ensures found { OnOk result (OnEdge (asked system.now trigger.now object) (IsFound state.new.edges)) }
@@ -179,11 +179,11 @@ fn fire<L: Ledger>(
     system: &System,
     state: &mut State,
     pair: Pair,
-    steps: &mut Steps<L>,
+    steps: &mut StepCount<L>,
 ) -> Result<(), AllocError>
-    requires holds { Holds system.now state.old }
+    requires holds { IsSoundState system.now state.old }
     requires there { is_in state.old.pairs.rows pair.node pair.object ≡ true }
-    ensures holds { OnOk result (Holds system.now state.new) }
+    ensures holds { OnOk result (IsSoundState system.now state.new) }
     ensures grown { OnOk result (Grown state.old state.new) }
     ensures next { OnOk result (state.new.next ≡ state.old.next) }
     ensures fired { OnOk result (IsFired system.now state.new.edges pair) }
@@ -216,11 +216,11 @@ fn put_facts<L: Ledger>(
     system: &System,
     state: &mut State,
     objects: u32,
-    steps: &mut Steps<L>,
+    steps: &mut StepCount<L>,
 ) -> Result<(), AllocError>
-    requires holds { Holds system.now state.old }
+    requires holds { IsSoundState system.now state.old }
     requires objects { objects ≡ state.old.pairs.objects }
-    ensures holds { OnOk result (Holds system.now state.new) }
+    ensures holds { OnOk result (IsSoundState system.now state.new) }
     ensures grown { OnOk result (Grown state.old state.new) }
     ensures next { OnOk result (state.new.next ≡ state.old.next) }
     ensures counted { OnOk result (steps.new + cost state.old ≤ steps.old + length system.now.rules.facts.items + cost state.new) }
@@ -240,10 +240,10 @@ fn put_facts<L: Ledger>(
 fn put_copies<L: Ledger>(
     system: &System,
     state: &mut State,
-    steps: &mut Steps<L>,
+    steps: &mut StepCount<L>,
 ) -> Result<(), AllocError>
-    requires holds { Holds system.now state.old }
-    ensures holds { OnOk result (Holds system.now state.new) }
+    requires holds { IsSoundState system.now state.old }
+    ensures holds { OnOk result (IsSoundState system.now state.new) }
     ensures grown { OnOk result (Grown state.old state.new) }
     ensures next { OnOk result (state.new.next ≡ state.old.next) }
     ensures paid { OnOk result (IsPaid state.old state.new steps.old steps.new) }
@@ -258,7 +258,7 @@ fn put_copies<L: Ledger>(
 
 /// A search that has found nothing, of any system.
 fn begin(alloc: Global, nodes: u32, objects: u32) -> Result<State, AllocError>
-    ensures holds { IfOk result (λ state. (w : systems.System) → Holds w state) }
+    ensures holds { IfOk result (λ state. (w : systems.System) → IsSoundState w state) }
     ensures objects { IfOk result (λ state. state.pairs.objects ≡ objects) }
     ensures count { IfOk result (λ state. length state.pairs.rows ≡ nodes) }
     ensures next { IfOk result (λ state. state.next ≡ 0) }
@@ -283,13 +283,13 @@ pub fn least_pairs<L: Ledger>(
     alloc: Global,
     nodes: u32,
     objects: u32,
-    steps: &mut Steps<L>,
+    steps: &mut StepCount<L>,
 ) -> Result<Pairs, AllocError>
     ensures closed { IfOk result (λ pairs. ObeysAll system.now (is_in pairs.rows)) }
     ensures bounded { IfOk result (λ pairs. IsBounded system.now pairs.rows (steps.new - steps.old)) }
     ensures count { IfOk result (λ pairs. length pairs.rows ≡ nodes) }
     ensures objects { IfOk result (λ pairs. pairs.objects ≡ objects) }
-    ensures least { IfOk result (λ pairs. (Q : Says) → ObeysAll system.now Q → (n o : ℕ) → is_in pairs.rows n o ≡ true → Q n o ≡ true) }
+    ensures least { IfOk result (λ pairs. (Q : Relation) → ObeysAll system.now Q → (n o : ℕ) → is_in pairs.rows n o ≡ true → Q n o ≡ true) }
 {
     let mut state = begin(alloc, nodes, objects)?;
     put_facts(system, &mut state, objects, steps)?;

@@ -78,7 +78,7 @@ whole c d h k =
     let high : highest c d / 2 ^ 32 ≡ 0 = omega arith in
     eq-eqb (lowest c d / 2 ^ 32) (highest c d / 2 ^ 32) (low ∙ sym high)
 
-pub record Holds (c d j : Cover) : Type 0 where
+pub record JoinsBoth (c d j : Cover) : Type 0 where
   pub one : is_inside c j ≡ true
   pub other : is_inside d j ≡ true
   pub fits : CoverFits j
@@ -96,11 +96,11 @@ range_fits k n low small e l =
     let part : low / n * n ≤ low = omega arith in
     (omega arith, subst (λ x. low / n * n + n ≤ x) (sym split) (within (low / n) n (2 ^ (32 - k)) low some below part))
 
-pub joined_holds : (c d : Cover) → CoverFits c → CoverFits d → Holds c d (joined c d)
+pub joined_holds : (c d : Cover) → CoverFits c → CoverFits d → JoinsBoth c d (joined c d)
 unfolding joined
 joined_holds c d h k = by (joined_size c d) (least_passes (one_range c d) (whole c d h k))
   where
-    by : (n : ℕ) → IsPower (one_range c d) n → Holds c d (record { base = lowest c d / n * n; size = n })
+    by : (n : ℕ) → IsPower (one_range c d) n → JoinsBoth c d (record { base = lowest c d / n * n; size = n })
     by n power =
         let some : 0 < n = subst (λ x. 0 < x) (sym power.is) (pow_pos power.exponent) in
         let inside = inside_joined c d n some (eqb-true (lowest c d / n) (highest c d / n) power.passes) in

@@ -18,7 +18,7 @@ use Rattle.plan_model.specs.RamBlocks.{RamUse, ForRegion, ForUnwritten}
 use Rattle.plan_model.specs.Placement.{Fits, plan_of, region_with, global_address, address_in}
 use Rattle.plan_layout.proofs.Searches.{position_is}
 use Rattle.plan_layout_laws.specs.GlobalLaws.{HasAlignments, GlobalsAreHeld}
-use Rattle.plan_layout_laws.specs.RamLaws.{open_bytes, IsAmong, Holds}
+use Rattle.plan_layout_laws.specs.RamLaws.{open_bytes, IsAmong, HoldsAddress}
 use Rattle.plan_layout_laws.specs.RamPlaces.{block_for}
 use Rattle.plan_layout_laws.proofs.Offsets.{some_global, laid}
 use Rattle.plan_layout_laws.proofs.PowersOfTwo.{block_positive}
@@ -75,17 +75,17 @@ module _ (p : Program) (f : Final) (s : Sizes) (b : Board) (ok : IsBoard b) (fit
       let room = bytes_held u (region_bytes p globals) e in
       (omega arith, omega arith)
 
-  in_region : (x byte r : ℕ) → byte < global_size p x → region_with f x ≡ Some r → Holds p f plan (ForRegion r) (global_address p f plan x + byte)
+  in_region : (x byte r : ℕ) → byte < global_size p x → region_with f x ≡ Some r → HoldsAddress p f plan (ForRegion r) (global_address p f plan x + byte)
   unfolding global_address
   in_region x byte r l e =
       let found = position_is (λ (q : Region). has q.globals x) f.regions r no_region (sym e) in
-      subst (λ (o : Option ℕ). Holds p f plan (ForRegion r) (address_in p f plan x o + byte)) (sym e)
+      subst (λ (o : Option ℕ). HoldsAddress p f plan (ForRegion r) (address_in p f plan x o + byte)) (sym e)
       (byte_held (ForRegion r) (region_at f.regions r).globals x byte (ram_is_there p f s b (ForRegion r) found.0) found.1 l)
 
-  in_none : (x byte : ℕ) → byte < global_size p x → region_with f x ≡ None → has f.unwritten x ≡ true → Holds p f plan ForUnwritten (global_address p f plan x + byte)
+  in_none : (x byte : ℕ) → byte < global_size p x → region_with f x ≡ None → has f.unwritten x ≡ true → HoldsAddress p f plan ForUnwritten (global_address p f plan x + byte)
   unfolding global_address
   in_none x byte l e h =
-      subst (λ (o : Option ℕ). Holds p f plan ForUnwritten (address_in p f plan x o + byte)) (sym e)
+      subst (λ (o : Option ℕ). HoldsAddress p f plan ForUnwritten (address_in p f plan x o + byte)) (sym e)
       (byte_held ForUnwritten f.unwritten x byte (ram_is_there p f s b ForUnwritten (some_global f.unwritten x h)) h l)
 
 pub globals_are_held : GlobalsAreHeld

@@ -18,7 +18,7 @@ use Rattle.plan_model.specs.Regions.{region_at}
 use Rattle.plan_model.specs.RamBlocks.{RamUse, ForStack, ForMonitor, ForRegion, ForUnwritten, RamBlock, full_block, other_blocks, ram_blocks, falling}
 use Rattle.plan_model.specs.RamPlacement.{Ram, PlacedBlock, ram_by, ram_of}
 use Rattle.plan_model.specs.Placement.{plan_of, placed_for, region_spot, no_spot}
-use Rattle.plan_layout_laws.specs.RamLaws.{open_bytes, IsAmong, Holds, RamIsApart}
+use Rattle.plan_layout_laws.specs.RamLaws.{open_bytes, IsAmong, HoldsAddress, RamIsApart}
 use Rattle.plan_layout_laws.proofs.Filling.{Entry, placed, Filled, filled_all, filled_behind}
 use Rattle.plan_layout_laws.proofs.Hits.{held}
 use Rattle.plan_layout_laws.proofs.Uses.{use_block, AreOwn, others_own, all_own, ordered_own, positive, own_at, no_entry, InEntry, IsFound, spot_in, found, hit_twice}
@@ -121,7 +121,7 @@ module _ (p : Program) (f : Final) (s : Sizes) (b : Board) where
       let n = length-map-range_with_len (λ (q : ℕ). placed_for ram (ForRegion q)) 0 count in
       get_or_past (map (λ (q : ℕ). placed_for ram (ForRegion q)) (numbers_below count)) r no_spot (omega arith)
 
-  in_plan : (u : RamUse) (x : ℕ) → Holds p f (plan_of p f s b) u x → InOne u x
+  in_plan : (u : RamUse) (x : ℕ) → HoldsAddress p f (plan_of p f s b) u x → InOne u x
   unfolding plan_of
   in_plan ForStack x h = in_entry ForStack x (placed_for ram ForStack) (by_entries ForStack) h
   in_plan ForMonitor x h = in_entry ForMonitor x (placed_for ram ForMonitor) (by_entries ForMonitor) h

@@ -12,7 +12,7 @@ use Rattle.plan_model.specs.Regions.{global_size}
 use Rattle.plan_model.specs.Blocks.{offset_in_region, region_bytes}
 use Rattle.plan_model.specs.RamBlocks.{ForRegion, ForUnwritten}
 use Rattle.plan_model.specs.Placement.{Fits, plan_of, region_with, global_address}
-use Rattle.plan_layout_laws.specs.RamLaws.{Holds}
+use Rattle.plan_layout_laws.specs.RamLaws.{HoldsAddress}
 
 -- no alignment is 0
 abbrev pub HasAlignments : Program → Type 0
@@ -32,5 +32,5 @@ GlobalsAreLaid = (p : Program) (globals : List ℕ) → HasAlignments p → AreL
 abbrev pub GlobalsAreHeld : Type 0
 GlobalsAreHeld =
     (p : Program) (f : Final) (s : Sizes) (b : Board) → IsBoard b → Fits p f s b → HasAlignments p → (x byte : ℕ) → byte < global_size p x →
-    ((r : ℕ) → region_with f x ≡ Some r → Holds p f (plan_of p f s b) (ForRegion r) (global_address p f (plan_of p f s b) x + byte))
-    × (region_with f x ≡ None → has f.unwritten x ≡ true → Holds p f (plan_of p f s b) ForUnwritten (global_address p f (plan_of p f s b) x + byte))
+    ((r : ℕ) → region_with f x ≡ Some r → HoldsAddress p f (plan_of p f s b) (ForRegion r) (global_address p f (plan_of p f s b) x + byte))
+    × (region_with f x ≡ None → has f.unwritten x ≡ true → HoldsAddress p f (plan_of p f s b) ForUnwritten (global_address p f (plan_of p f s b) x + byte))

@@ -21,13 +21,13 @@ IsAmong s n x = (s.base ≤ x) × (x < s.base + n)
 
 -- the block for a use holds an address: the stack and the monitor's block hold all of theirs, blocks of globals those that are
 -- not taken out
-abbrev pub Holds : Program → Final → Plan → RamUse → (address : ℕ) → Type 0
-Holds p f l ForStack x = IsAmong l.stack l.stack.size x
-Holds p f l ForMonitor x = IsAmong l.monitor l.monitor.size x
-Holds p f l (ForRegion r) x = IsAmong (region_spot l r) (open_bytes (region_spot l r).size (region_bytes p (region_at f.regions r).globals)) x
-Holds p f l ForUnwritten x = IsAmong (unwrap_or l.unwritten no_spot) (open_bytes (unwrap_or l.unwritten no_spot).size (region_bytes p f.unwritten)) x
+abbrev pub HoldsAddress : Program → Final → Plan → RamUse → (address : ℕ) → Type 0
+HoldsAddress p f l ForStack x = IsAmong l.stack l.stack.size x
+HoldsAddress p f l ForMonitor x = IsAmong l.monitor l.monitor.size x
+HoldsAddress p f l (ForRegion r) x = IsAmong (region_spot l r) (open_bytes (region_spot l r).size (region_bytes p (region_at f.regions r).globals)) x
+HoldsAddress p f l ForUnwritten x = IsAmong (unwrap_or l.unwritten no_spot) (open_bytes (unwrap_or l.unwritten no_spot).size (region_bytes p f.unwritten)) x
 
 -- no two blocks of RAM hold the same address
 abbrev pub RamIsApart : Type 0
 RamIsApart = (p : Program) (f : Final) (s : Sizes) (b : Board) (u v : RamUse) (address : ℕ) → u ≢ v
-    → Holds p f (plan_of p f s b) u address → Holds p f (plan_of p f s b) v address → ⊥
+    → HoldsAddress p f (plan_of p f s b) u address → HoldsAddress p f (plan_of p f s b) v address → ⊥

@@ -22,7 +22,7 @@ use Rattle.monitor_model.specs.Block.{Block, entered}
 use Rattle.monitor_model.specs.Setting.{Setting}
 use Rattle.monitor_model.specs.Threads.{base}
 use Rattle.code_effects.specs.Calls.{AllBelow}
-use Rattle.refine.specs.Areas.{Has as Holds}
+use Rattle.refine.specs.Areas.{Has as MemoryHas}
 use Rattle.refine.specs.Owned.{Owns, all_lent}
 use Rattle.refine.proofs.Areas.{has_join}
 use Rattle.refine.proofs.Thread.{at_pc, fits_pc, started, has_stays}
@@ -72,7 +72,7 @@ module _ (k : Build) (Inv : Block → Context → List ℕ → Type 0) (sizes : 
 
     -- the new frame's own words
     new_own : (h o l : ℕ) (args new : List ℕ) → AllBelow (length (func k fr.func).regs) args → length args ≤ length (func k h).regs → Filled o (words_at k h) l (frame_words (places fr.number) st.ram args) new → o + 4 * words_at k h + 4 ≤ length new →
-        Holds new (own k h o) (own_words k places (callee_frame h args) l)
+        MemoryHas new (own k h o) (own_words k places (callee_frame h args) l)
     new_own h o l args new b few fl fits =
         let n = length-map args (λ (a : ℕ). read 4 (places fr.number + 4 * a) st.ram) in
         own_has k places h o (length args) (map (register fr) args) l new (w.facts.shapes h) (length-map args (register fr)) few
@@ -96,7 +96,7 @@ module _ (k : Build) (Inv : Block → Context → List ℕ → Type 0) (sizes : 
         let len = w.law.keeps.as_long _ _ _ e.invariant in
         let rf = w.facts.rules.fits in
         let ow = new_own h o link args e.memory b few c.filled (omega arith) in
-        let ow2 = subst (λ (l : ℕ). Holds e.memory (own k h o) (own_words k places nf l)) eb ow in
+        let ow2 = subst (λ (l : ℕ). MemoryHas e.memory (own k h o) (own_words k places nf l)) eb ow in
         let has0 = has_join (own k h o) (areas k places (wheres (fr ∷ rest))) (own_words k places nf (behind_at k fr.func fr.block fr.place + 1)) (held k places st.statuses (fr ∷ rest) m.globals) e.memory ow2 old in
         record {
           steps = e.count;
@@ -114,7 +114,7 @@ module _ (k : Build) (Inv : Block → Context → List ℕ → Type 0) (sizes : 
             is_state = refl;
             state_fits = fits_pc gs e.context e.low (base gs + o) e.lr pc (code_at k h 0 0) e.flags e.memory m.queues ep e.fits;
             invariant = subst (λ (x : Option ℕ). Inv (all_lent gs o (beneath k places x h (wheres (fr ∷ rest)) bl) (lends_at k h)) e.context e.memory) (sym site) e.invariant;
-            has = subst (λ (x : Option ℕ). Holds e.memory (own k h o ++ (waiting_by k places x (wheres (fr ∷ rest)) ++ areas k places (wheres (fr ∷ rest))))
+            has = subst (λ (x : Option ℕ). MemoryHas e.memory (own k h o ++ (waiting_by k places x (wheres (fr ∷ rest)) ++ areas k places (wheres (fr ∷ rest))))
                 (own_words k places nf (link_by k places x (wheres (fr ∷ rest))) ++ (waiting_words k places x (first_or_zero st.statuses) (wheres (fr ∷ rest)) ++ held k places (statuses_behind x st.statuses) (fr ∷ rest) m.globals))) (sym site) has0;
             threads = subst (λ (x : Option ℕ). IsStatusBy x (first_or_zero st.statuses) × Wait k (statuses_behind x st.statuses) (wheres (fr ∷ rest))) (sym site) (tt, st.threads);
             fits = (fit, st.fits);
@@ -146,7 +146,7 @@ module _ (k : Build) (Inv : Block → Context → List ℕ → Type 0) (sizes : 
         let len = w.law.keeps.as_long _ _ _ e.invariant in
         let rf = w.facts.rules.fits in
         let ow = new_own h o (gs.stub + 1) args e.memory b few d.filled (omega arith) in
-        let wt : Holds e.memory (record { at = oc - 8; width = 4 } ∷ record { at = oc - 4; width = 4 } ∷ []) (behind_at k fr.func fr.block fr.place ∷ c.status ∷ []) =
+        let wt : MemoryHas e.memory (record { at = oc - 8; width = 4 } ∷ record { at = oc - 4; width = 4 } ∷ []) (behind_at k fr.func fr.block fr.place ∷ c.status ∷ []) =
         (read_cut (oc - 8) (behind_at k fr.func fr.block fr.place) e.memory (c.saved_return ∙ eb), omega arith, (read_cut (oc - 4) c.status e.memory c.saved_status, omega arith, tt)) in
         let has0 = has_join (own k h o) _ (own_words k places nf (gs.stub + 1)) _ e.memory ow
         (has_join (record { at = oc - 8; width = 4 } ∷ record { at = oc - 4; width = 4 } ∷ []) (areas k places (wheres (fr ∷ rest))) (behind_at k fr.func fr.block fr.place ∷ c.status ∷ []) (held k places st.statuses (fr ∷ rest) m.globals) e.memory wt old) in
@@ -167,7 +167,7 @@ module _ (k : Build) (Inv : Block → Context → List ℕ → Type 0) (sizes : 
             is_state = refl;
             state_fits = fits_pc gs e.context e.low (base gs + o) e.lr pc (code_at k h 0 0) e.flags e.memory m.queues ep e.fits;
             invariant = subst (λ (x : Option ℕ). Inv (all_lent gs o (beneath k places x h (wheres (fr ∷ rest)) bl) (lends_at k h)) e.context e.memory) (sym site) inv;
-            has = subst (λ (x : Option ℕ). Holds e.memory (own k h o ++ (waiting_by k places x (wheres (fr ∷ rest)) ++ areas k places (wheres (fr ∷ rest))))
+            has = subst (λ (x : Option ℕ). MemoryHas e.memory (own k h o ++ (waiting_by k places x (wheres (fr ∷ rest)) ++ areas k places (wheres (fr ∷ rest))))
                 (own_words k places nf (link_by k places x (wheres (fr ∷ rest))) ++ (waiting_words k places x c.status (wheres (fr ∷ rest)) ++ held k places (statuses_behind x (c.status ∷ st.statuses)) (fr ∷ rest) m.globals))) (sym site) has0;
             threads = subst (λ (x : Option ℕ). IsStatusBy x c.status × Wait k (statuses_behind x (c.status ∷ st.statuses)) (wheres (fr ∷ rest))) (sym site) ((c.thread, c.no_pad, small_read (oc - 4) c.status e.memory c.saved_status), st.threads);
             fits = (fit, st.fits);

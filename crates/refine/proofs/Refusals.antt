@@ -1,4 +1,4 @@
--- Steps that stop because the frame of the exception that they ask for may not be pushed.
+-- StepsQuietly that stop because the frame of the exception that they ask for may not be pushed.
 use Rattle.std.proofs.Common.{◌≡◌, ℕ, suc, ◌+◌, ◌-◌, ◌*◌, ◌%◌, ◌^◌, ◌<◌, Bool, true, false, List, [], ◌∷◌, get_or, set, nat_eq, refl, ap, ap₂, ◌∙◌, arith}
 use Rattle.std.proofs.lemmas.Bool.Decides.{nat_tests}
 use Rattle.base_words.specs.declared.conditions.Flags.{Flags}
@@ -19,7 +19,7 @@ use Rattle.machine_model.specs.Instructions.{act, listed}
 use Rattle.machine_model.specs.Tests.{all_open, verdict, verdicts}
 use Rattle.machine_model.specs.Exceptions.{frame_at, entered, call, fault, fault_by, is_fault_enabled, is_frame_open, data_status, supervisor_call, mem_manage}
 use Rattle.machine_model.specs.Perform.{perform}
-use Rattle.machine_model.specs.Code.{Stands, Steps}
+use Rattle.machine_model.specs.Code.{Stands, StepsQuietly}
 use Rattle.machine_model.specs.RunningCode.{Context, body, works, IsLoad, IsStore}
 use Rattle.machine_model.proofs.Exec.{stepped}
 use Rattle.monitor_model.specs.Threads.{svc}
@@ -91,7 +91,7 @@ module _ (j : PermissionTest) (i : Image) (x : Context) (low : List ℕ) (sp lr 
 
   module _ (h : IsShut j i here) where
     -- STR t, [sp, #4 k]
-    pub str_stops : (t k a : ℕ) → word (sp + 4 * k) ≡ a → a % 4 ≡ 0 → a < 0xE0000000 → j x.protection Write a ≡ false → Stands j i x.protection pc (StackRelative 0 t 0 k) → Steps j i here (stopped here)
+    pub str_stops : (t k a : ℕ) → word (sp + 4 * k) ≡ a → a % 4 ≡ 0 → a < 0xE0000000 → j x.protection Write a ≡ false → Stands j i x.protection pc (StackRelative 0 t 0 k) → StepsQuietly j i here (stopped here)
     unfolding act
     str_stops t k a is al below nope st =
         let e = stepped j i (body x low sp lr pc f) x.protection x.status ram queues (StackRelative 0 t 0 k) st in
@@ -100,7 +100,7 @@ module _ (j : PermissionTest) (i : Image) (x : Context) (low : List ℕ) (sp lr 
         record { leads = ap (λ u. u.to) w; quiet = ap (λ u. u.event) w }
 
     -- PUSH {lr}
-    pub push_lr_stops : (to : ℕ) → to + 4 ≡ sp → sp < 2 ^ 32 → to % 4 ≡ 0 → to < 0xE0000000 → j x.protection Write to ≡ false → Stands j i x.protection pc (PushPop 0 1 0 0) → Steps j i here (stopped here)
+    pub push_lr_stops : (to : ℕ) → to + 4 ≡ sp → sp < 2 ^ 32 → to % 4 ≡ 0 → to < 0xE0000000 → j x.protection Write to ≡ false → Stands j i x.protection pc (PushPop 0 1 0 0) → StepsQuietly j i here (stopped here)
     unfolding act listed
     push_lr_stops to is top al below nope st =
         let e = stepped j i (body x low sp lr pc f) x.protection x.status ram queues (PushPop 0 1 0 0) st in
@@ -110,7 +110,7 @@ module _ (j : PermissionTest) (i : Image) (x : Context) (low : List ℕ) (sp lr 
         record { leads = ap (λ u. u.to) w; quiet = ap (λ u. u.event) w }
 
     -- SVC
-    pub svc_stops : (n : ℕ) → Stands j i x.protection pc (svc n) → Steps j i here (stopped here)
+    pub svc_stops : (n : ℕ) → Stands j i x.protection pc (svc n) → StepsQuietly j i here (stopped here)
     unfolding act
     svc_stops n st =
         let e = stepped j i (body x low sp lr pc f) x.protection x.status ram queues (svc n) st in
@@ -118,7 +118,7 @@ module _ (j : PermissionTest) (i : Image) (x : Context) (low : List ℕ) (sp lr 
         record { leads = ap (λ u. u.to) w; quiet = ap (λ u. u.event) w }
 
     -- STR, STRH and STRB t, [n, #0], and LDR, LDRH and LDRB
-    pub transfer_store_stops : (op w n t a : ℕ) → IsStore op w → get_or low n 0 ≡ a → a % w ≡ 0 → a < 0xE0000000 → j x.protection Write a ≡ false → Stands j i x.protection pc (TransferImmediate op 0 n t) → Steps j i here (stopped here)
+    pub transfer_store_stops : (op w n t a : ℕ) → IsStore op w → get_or low n 0 ≡ a → a % w ≡ 0 → a < 0xE0000000 → j x.protection Write a ≡ false → Stands j i x.protection pc (TransferImmediate op 0 n t) → StepsQuietly j i here (stopped here)
     unfolding act
     transfer_store_stops op w n t a is at al below nope st =
         let e = is 0 (get_or low n 0) t (pc + 2) (body x low sp lr pc f) in
@@ -129,7 +129,7 @@ module _ (j : PermissionTest) (i : Image) (x : Context) (low : List ℕ) (sp lr 
         let u = s ∙ ap (λ y. perform j i y here) q ∙ store_stops_at j i here h w a (get_or low t 0) (body x low sp lr (pc + 2) f) al below nope in
         record { leads = ap (λ v. v.to) u; quiet = ap (λ v. v.event) u }
 
-    pub transfer_load_stops : (op w n t a : ℕ) → IsLoad op w → get_or low n 0 ≡ a → a % w ≡ 0 → a < 0xE0000000 → j x.protection Read a ≡ false → Stands j i x.protection pc (TransferImmediate op 0 n t) → Steps j i here (stopped here)
+    pub transfer_load_stops : (op w n t a : ℕ) → IsLoad op w → get_or low n 0 ≡ a → a % w ≡ 0 → a < 0xE0000000 → j x.protection Read a ≡ false → Stands j i x.protection pc (TransferImmediate op 0 n t) → StepsQuietly j i here (stopped here)
     unfolding act
     transfer_load_stops op w n t a is at al below nope st =
         let e = is 0 (get_or low n 0) t (pc + 2) (body x low sp lr pc f) in

@@ -27,7 +27,7 @@ use Rattle.monitor_model.specs.Threads.{base, stack_end, first_block}
 use Rattle.code_effects.specs.Points.{Point, Leads, known}
 use Rattle.code_effects.specs.Calls.{IsBelow, keep_steps, kept_in}
 use Rattle.code_effects.proofs.Registers.{holds_known}
-use Rattle.refine.specs.Areas.{Area, Has as Holds}
+use Rattle.refine.specs.Areas.{Area, Has as MemoryHas}
 use Rattle.refine.specs.Owned.{Owns, all_lent}
 use Rattle.refine.proofs.Areas.{has_front, has_rest}
 use Rattle.refine.proofs.Thread.{to_sp, fits_sp, started, has_stays, fits_after}
@@ -144,7 +144,7 @@ module _ (k : Build) (Inv : Block → Context → List ℕ → Type 0) (sizes : 
   resume : (c : Frame) (rest : List Frame) (m : Memory) (to : Option ℕ) (v : Value) (t : State) (n : ℕ) (x : Context) (low : List ℕ) (lr : ℕ) (f : Flags) (ram : List ℕ) (ss : List ℕ) → 1 ≤ n → n ≤ 16383 →
       Runs by_mpu k.setting.image n t (works x low (base k.setting + places c.number) lr (behind_at k c.func c.block c.place) f ram m.queues) [] →
       StateFits k.setting.image (works x low (base k.setting + places c.number) lr (behind_at k c.func c.block c.place) f ram m.queues) → Inv (block_of k places (wheres (c ∷ rest))) x ram →
-      Holds ram (areas k places (wheres (c ∷ rest))) (held k places ss (c ∷ rest) m.globals) → Keeps c to low v → Wait k ss (wheres (c ∷ rest)) → AllFit k places (wheres (c ∷ rest)) → IsWhole k c → Resumes c to →
+      MemoryHas ram (areas k places (wheres (c ∷ rest))) (held k places ss (c ∷ rest) m.globals) → Keeps c to low v → Wait k ss (wheres (c ∷ rest)) → AllFit k places (wheres (c ∷ rest)) → IsWhole k c → Resumes c to →
       Follows k Inv places t (Running (placed (answered c to v) ∷ rest) m) []
   resume c rest m None v t n x low lr f ram ss l u runs ft i has ks wt fit wh rs =
       let a = (rs.keeps x (get_or low 0 0) (places c.number) (base k.setting + places c.number) lr ram m.queues rest fit i refl refl tt).arrives low f (holds_known (get_or low 0 0 ∷ []) low ft.core.low_count (first_is low)) in
@@ -159,9 +159,9 @@ module _ (k : Build) (Inv : Block → Context → List ℕ → Type 0) (sizes : 
 
   record Behind (fr : Frame) (l : ℕ) (xs : List Area) (ys ram : List ℕ) : Type 0 where
     link : read 4 (places fr.number + 4 * words_at k fr.func) ram ≡ cut 4 l
-    rest_has : Holds ram xs ys
+    rest_has : MemoryHas ram xs ys
 
-  behind_own : (fr : Frame) (l : ℕ) (xs : List Area) (ys ram : List ℕ) → IsWhole k fr → Holds ram (own k fr.func (places fr.number) ++ xs) (own_words k places fr l ++ ys) → Behind fr l xs ys ram
+  behind_own : (fr : Frame) (l : ℕ) (xs : List Area) (ys ram : List ℕ) → IsWhole k fr → MemoryHas ram (own k fr.func (places fr.number) ++ xs) (own_words k places fr l ++ ys) → Behind fr l xs ys ram
   behind_own fr l xs ys ram wh has =
       let o : ℕ = places fr.number in
       let sh = w.facts.shapes fr.func in
@@ -209,7 +209,7 @@ module _ (k : Build) (Inv : Block → Context → List ℕ → Type 0) (sizes : 
         let cb : (block_of k places (wheres (fr ∷ c ∷ rest))).current ≡ bl.current = f0.current ∙ sym cu ∙ (all_lent_is gs o bl (lends_at k fr.func)).current in
         let code = subst (λ (z : ℕ). Owns gs z (labels_at k fr.func) (code_at k fr.func fr.block fr.place) (term_items (func k fr.func) (places_at k fr.func) (first_at k fr.func) (Ret r))) cb (owned_end k Inv sizes S w places fr (c ∷ rest) f0 (Ret r) ff e) in
         let inv = subst (λ (x : Option ℕ). Inv (all_lent gs o (beneath k places x fr.func (wheres (c ∷ rest)) bl) (lends_at k fr.func)) st.context st.ram) site st.invariant in
-        let has = subst (λ (x : Option ℕ). Holds st.ram (own k fr.func o ++ (waiting_by k places x (wheres (c ∷ rest)) ++ areas k places (wheres (c ∷ rest)))) (own_words k places fr (link_by k places x (wheres (c ∷ rest))) ++ (waiting_words k places x (first_or_zero st.statuses) (wheres (c ∷ rest)) ++ held k places (statuses_behind x st.statuses) (c ∷ rest) m.globals))) site st.has in
+        let has = subst (λ (x : Option ℕ). MemoryHas st.ram (own k fr.func o ++ (waiting_by k places x (wheres (c ∷ rest)) ++ areas k places (wheres (c ∷ rest)))) (own_words k places fr (link_by k places x (wheres (c ∷ rest))) ++ (waiting_words k places x (first_or_zero st.statuses) (wheres (c ∷ rest)) ++ held k places (statuses_behind x st.statuses) (c ∷ rest) m.globals))) site st.has in
         let wt = subst (λ (x : Option ℕ). IsStatusBy x (first_or_zero st.statuses) × Wait k (statuses_behind x st.statuses) (wheres (c ∷ rest))) site st.threads in
         let bh = behind_own fr (link_by k places None (wheres (c ∷ rest))) _ _ st.ram wh has in
         let tl = top_least k places (where_of c) (wheres rest) st.fits.1 in
@@ -253,7 +253,7 @@ module _ (k : Build) (Inv : Block → Context → List ℕ → Type 0) (sizes : 
         let ends : o + 4 * v + 4 ≡ top = subst (λ (x : Option ℕ). o + 4 * v + 4 ≡ ceiling_by k places x (wheres (c ∷ rest))) site f0.ends in
         let code = subst (λ (z : ℕ). Owns gs z (labels_at k fr.func) (code_at k fr.func fr.block fr.place) (term_items (func k fr.func) (places_at k fr.func) (first_at k fr.func) (Ret r))) f0.current (owned_end k Inv sizes S w places fr (c ∷ rest) f0 (Ret r) ff e) in
         let inv = subst (λ (x : Option ℕ). Inv (all_lent gs o (beneath k places x fr.func (wheres (c ∷ rest)) bl) (lends_at k fr.func)) st.context st.ram) site st.invariant in
-        let has = subst (λ (x : Option ℕ). Holds st.ram (own k fr.func o ++ (waiting_by k places x (wheres (c ∷ rest)) ++ areas k places (wheres (c ∷ rest)))) (own_words k places fr (link_by k places x (wheres (c ∷ rest))) ++ (waiting_words k places x (first_or_zero st.statuses) (wheres (c ∷ rest)) ++ held k places (statuses_behind x st.statuses) (c ∷ rest) m.globals))) site st.has in
+        let has = subst (λ (x : Option ℕ). MemoryHas st.ram (own k fr.func o ++ (waiting_by k places x (wheres (c ∷ rest)) ++ areas k places (wheres (c ∷ rest)))) (own_words k places fr (link_by k places x (wheres (c ∷ rest))) ++ (waiting_words k places x (first_or_zero st.statuses) (wheres (c ∷ rest)) ++ held k places (statuses_behind x st.statuses) (c ∷ rest) m.globals))) site st.has in
         let wt = subst (λ (x : Option ℕ). IsStatusBy x (first_or_zero st.statuses) × Wait k (statuses_behind x st.statuses) (wheres (c ∷ rest))) site st.threads in
         let bh = behind_own fr (link_by k places (Some number) (wheres (c ∷ rest))) _ _ st.ram wh has in
         let rh = bh.rest_has in

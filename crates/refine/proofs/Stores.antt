@@ -40,7 +40,7 @@ use Rattle.code_effects.specs.Items.{ItemsAt}
 use Rattle.code_effects.specs.Accesses.{Reach}
 use Rattle.code_effects.proofs.Registers.{holds_nothing, known_holds}
 use Rattle.refine_model.specs.Refines.{HasFault}
-use Rattle.refine.specs.Areas.{Area, Spot, Has as Holds}
+use Rattle.refine.specs.Areas.{Area, Spot, Has as MemoryHas}
 use Rattle.refine.specs.Owned.{owner}
 use Rattle.refine.proofs.Areas.{stored_spot}
 use Rattle.refine.proofs.Thread.{started, fits_after, at_pc, fits_pc, has_stays}
@@ -113,12 +113,12 @@ module _ (k : Build) (Inv : Block → Context → List ℕ → Type 0) (sizes : 
 
       -- memory has the new word
       has_stored : (a : Area) (fs : List Frame) (gl : List (List Value)) (old : ℕ) → a.width ≡ width_of ty → Spot (areas k places (wheres (fr ∷ rest))) (held k places st.statuses (fr ∷ rest) m.globals) a old (word_of k places value) (held k places st.statuses fs gl) →
-          Holds (write (width_of ty) a.at (home (places fr.number) p from) st.ram) (areas k places (wheres (fr ∷ rest))) (held k places st.statuses fs gl)
+          MemoryHas (write (width_of ty) a.at (home (places fr.number) p from) st.ram) (areas k places (wheres (fr ∷ rest))) (held k places st.statuses fs gl)
       has_stored a fs gl old wid sp =
           let h0 = stored_spot (areas k places (wheres (fr ∷ rest))) (held k places st.statuses (fr ∷ rest) m.globals) (held k places st.statuses fs gl) a old (word_of k places value) st.ram (all_laid k places w.facts (wheres (fr ∷ rest)) st.fits) st.has sp in
           let we : write a.width a.at (word_of k places value) st.ram ≡ write (width_of ty) a.at (home (places fr.number) p from) st.ram =
           ap (λ (z : ℕ). write z a.at (word_of k places value) st.ram) wid ∙ sym (stored_value k places ty a.at (register fr from) st.ram) ∙ ap (λ (z : ℕ). write (width_of ty) a.at z st.ram) (sym held_word) in
-          subst (λ (z : List ℕ). Holds z (areas k places (wheres (fr ∷ rest))) (held k places st.statuses fs gl)) we h0
+          subst (λ (z : List ℕ). MemoryHas z (areas k places (wheres (fr ∷ rest))) (held k places st.statuses fs gl)) we h0
 
       -- where the protection unit permits it
       direct : (o : Instance) (c : ℕ) (a : Area) (n : Memory) (fs : List Frame) (old : ℕ) → register fr to ≡ At o c → address_of k places o + c ≡ base k.setting + a.at → a.width ≡ width_of ty → (base k.setting + a.at) % width_of ty ≡ 0 →
@@ -181,7 +181,7 @@ module _ (k : Build) (Inv : Block → Context → List ℕ → Type 0) (sizes : 
           let runs0 = started k.setting 2 t (state_of k Inv sizes S w places fr rest m t st) mid [] st.is_state b.runs in
           let runs1 = at_pc k.setting x.count _ x.context x.low (base k.setting + oc) x.lr _ (pc + inst_size (is_some site) y) x.flags x.memory m.queues [] e6 x.runs in
           let sa = safe k places w.facts (wheres (fr ∷ rest)) st.fits in
-          let h0 = subst (λ (z : ℕ). Holds (write (width_of ty) a.at z st.ram) (areas k places (wheres (fr ∷ rest))) (held k places st.statuses fs m.globals)) (sym r0) (has_stored a fs m.globals old wid sp) in
+          let h0 = subst (λ (z : ℕ). MemoryHas (write (width_of ty) a.at z st.ram) (areas k places (wheres (fr ∷ rest))) (held k places st.statuses fs m.globals)) (sym r0) (has_stored a fs m.globals old wid sp) in
           let h1 = has_stays k.setting oc (write (width_of ty) a.at (get_or b.low 0 0) st.ram) x.memory (areas k places (wheres (fr ∷ rest))) (held k places st.statuses fs m.globals) x.stays sa.each h0 in
           goes_on k Inv sizes S w places fr rest m fs st.statuses t fr.block (suc fr.place) (2 + x.count) x.context x.low x.lr (pc + inst_size (is_some site) y) x.flags x.memory [] (omega arith) (let z = x.within in omega arith)
           (behind_run by_mpu k.setting.image runs0 runs1) (fits_pc k.setting x.context x.low (base k.setting + oc) x.lr _ (pc + inst_size (is_some site) y) x.flags x.memory m.queues e6 x.fits) next x.invariant h1 st.threads st.fits stand

@@ -18,7 +18,7 @@ use Rattle.monitor_model.specs.Block.{Block, lent, entered}
 use Rattle.monitor_model.specs.Setting.{Setting}
 use Rattle.monitor_model.specs.Threads.{lend_steps, base, stack_end, HasRoom}
 use Rattle.monitor_model.specs.Law.{Law}
-use Rattle.code_effects.specs.Points.{Point, Holds}
+use Rattle.code_effects.specs.Points.{Point, AreAsKnown}
 use Rattle.code_effects.specs.Calls.{IsBelow, keep_steps}
 use Rattle.code_effects.specs.Returns.{return_steps, result_known}
 use Rattle.code_effects.proofs.Registers.{holds_nothing, known_holds}
@@ -32,7 +32,7 @@ abbrev pub IsResult : Option ℕ → (o : ℕ) → (ram low : List ℕ) → Type
 IsResult None o ram low = Unit {0}
 IsResult (Some r) o ram low = get_or low 0 0 ≡ read 4 (o + 4 * r) ram
 
-result_held : (r : Option ℕ) (o : ℕ) (p : Point) (low : List ℕ) → Holds (result_known o p r) low → IsResult r o p.ram low
+result_held : (r : Option ℕ) (o : ℕ) (p : Point) (low : List ℕ) → AreAsKnown (result_known o p r) low → IsResult r o p.ram low
 result_held None o p low h = tt
 result_held (Some r) o p low h = known_holds (read 4 (o + 4 * r) p.ram ∷ []) low h 0 (omega arith)
 

@@ -2,7 +2,7 @@ use Rattle.std.proofs.Common.{inl, [], refl, subst, arith, ◌∙◌, sym, map, 
 use Rattle.std.proofs.lemmas.List.Elements.{All-nil, All-weaker}
 use Rattle.aces_words.specs.Commands.{request_of}
 use Rattle.aces_words.specs.Requests.{Request, Asks}
-use Rattle.aces_files.specs.Known.{Holds, Exceeds, WasRead, WasTooLarge, IsCallOf}
+use Rattle.aces_files.specs.Known.{HoldsWithin, Exceeds, WasRead, WasTooLarge, IsCallOf}
 use Rattle.aces_files.specs.CarriesOut.{IsKnown, IsKnownLarge}
 use Rattle.aces_cli.specs.Answer.{Answer}
 use Rattle.aces_cli.specs.Endings.{IsPlain, IsAnswered}
@@ -17,7 +17,7 @@ use Rattle.aces_cli.proofs.aces.Goals as goal
 
 pub returns-in-None-clause-answer : goal.returns-in-None-clause-answer
 returns-in-None-clause-answer g c told plain =
-    usage_answered (Holds (g.F.Files.held c.args.files.now)) (Exceeds (g.F.Files.held c.args.files.now)) (map (string_bytes {Z = Global}) c.args.words.now)
+    usage_answered (HoldsWithin (g.F.Files.held c.args.files.now)) (Exceeds (g.F.Files.held c.args.files.now)) (map (string_bytes {Z = Global}) c.args.words.now)
     (world g.F.Files c.args.files.now (sink g.O.Sink c.args.out.now)) (sink g.E.Sink c.args.err.now) (sink g.E.Sink c.say.new.err)
     c.in-None.ensures.usage c.say.ensures
 
@@ -44,10 +44,10 @@ returns-in-Some-clause-answer g c told plain =
     let r = request_of c.in-Some.command in
     let old = world of files (sink g.O.Sink c.args.out.now) in
     let new = world of c.perform-ended.new.files (sink g.O.Sink c.perform-ended.new.out) in
-    let also = answer_also (IsKnown of.told (of.held files) d.0) (Holds (of.held files)) (IsKnownLarge of.told (of.held files) d.0) (Exceeds (of.held files)) (λ s b k. k.1 told) (λ s k. k.1 told) r in
-    answered (Holds (of.held files)) (Exceeds (of.held files)) (map (string_bytes {Z = Global}) c.args.words.now) r c.in-Some.ensures.command
+    let also = answer_also (IsKnown of.told (of.held files) d.0) (HoldsWithin (of.held files)) (IsKnownLarge of.told (of.held files) d.0) (Exceeds (of.held files)) (λ s b k. k.1 told) (λ s k. k.1 told) r in
+    answered (HoldsWithin (of.held files)) (Exceeds (of.held files)) (map (string_bytes {Z = Global}) c.args.words.now) r c.in-Some.ensures.command
     old new (sink g.E.Sink c.args.err.now) (sink g.E.Sink c.report.new.err) c.perform-ended.result c.report.result c.report.ensures.status
-    (did_also (Answer r (IsKnown of.told (of.held files) d.0) (IsKnownLarge of.told (of.held files) d.0)) (Answer r (Holds (of.held files)) (Exceeds (of.held files))) also r old new c.perform-ended.result d.3)
+    (did_also (Answer r (IsKnown of.told (of.held files) d.0) (IsKnownLarge of.told (of.held files) d.0)) (Answer r (HoldsWithin (of.held files)) (Exceeds (of.held files))) also r old new c.perform-ended.result d.3)
     c.report.ensures.line plain
 
 pub returns-in-Some-clause-calls : goal.returns-in-Some-clause-calls
@@ -90,10 +90,10 @@ returns-in-Some-clause-partly g c told five =
     let r = request_of c.in-Some.command in
     let old = world of files (sink g.O.Sink c.args.out.now) in
     let new = world of c.perform-ended.new.files (sink g.O.Sink c.perform-ended.new.out) in
-    let also = answer_also (IsKnown of.told (of.held files) d.0) (Holds (of.held files)) (IsKnownLarge of.told (of.held files) d.0) (Exceeds (of.held files)) (λ s b k. k.1 told) (λ s k. k.1 told) r in
-    partly (Holds (of.held files)) (Exceeds (of.held files)) (map (string_bytes {Z = Global}) c.args.words.now) r c.in-Some.ensures.command
+    let also = answer_also (IsKnown of.told (of.held files) d.0) (HoldsWithin (of.held files)) (IsKnownLarge of.told (of.held files) d.0) (Exceeds (of.held files)) (λ s b k. k.1 told) (λ s k. k.1 told) r in
+    partly (HoldsWithin (of.held files)) (Exceeds (of.held files)) (map (string_bytes {Z = Global}) c.args.words.now) r c.in-Some.ensures.command
     old new (sink g.E.Sink c.args.err.now) (sink g.E.Sink c.report.new.err) c.perform-ended.result (sym c.report.ensures.status ∙ five)
-    (did_also (Answer r (IsKnown of.told (of.held files) d.0) (IsKnownLarge of.told (of.held files) d.0)) (Answer r (Holds (of.held files)) (Exceeds (of.held files))) also r old new c.perform-ended.result d.3)
+    (did_also (Answer r (IsKnown of.told (of.held files) d.0) (IsKnownLarge of.told (of.held files) d.0)) (Answer r (HoldsWithin (of.held files)) (Exceeds (of.held files))) also r old new c.perform-ended.result d.3)
 
 pub returns-in-Some-clause-printed_in_part : goal.returns-in-Some-clause-printed_in_part
 returns-in-Some-clause-printed_in_part g c told six =
@@ -103,10 +103,10 @@ returns-in-Some-clause-printed_in_part g c told six =
     let r = request_of c.in-Some.command in
     let old = world of files (sink g.O.Sink c.args.out.now) in
     let new = world of c.perform-ended.new.files (sink g.O.Sink c.perform-ended.new.out) in
-    let also = answer_also (IsKnown of.told (of.held files) d.0) (Holds (of.held files)) (IsKnownLarge of.told (of.held files) d.0) (Exceeds (of.held files)) (λ s b k. k.1 told) (λ s k. k.1 told) r in
-    printed_in_part (Holds (of.held files)) (Exceeds (of.held files)) (map (string_bytes {Z = Global}) c.args.words.now) r c.in-Some.ensures.command
+    let also = answer_also (IsKnown of.told (of.held files) d.0) (HoldsWithin (of.held files)) (IsKnownLarge of.told (of.held files) d.0) (Exceeds (of.held files)) (λ s b k. k.1 told) (λ s k. k.1 told) r in
+    printed_in_part (HoldsWithin (of.held files)) (Exceeds (of.held files)) (map (string_bytes {Z = Global}) c.args.words.now) r c.in-Some.ensures.command
     old new (sink g.E.Sink c.args.err.now) (sink g.E.Sink c.report.new.err) c.perform-ended.result (sym c.report.ensures.status ∙ six)
-    (did_also (Answer r (IsKnown of.told (of.held files) d.0) (IsKnownLarge of.told (of.held files) d.0)) (Answer r (Holds (of.held files)) (Exceeds (of.held files))) also r old new c.perform-ended.result d.3)
+    (did_also (Answer r (IsKnown of.told (of.held files) d.0) (IsKnownLarge of.told (of.held files) d.0)) (Answer r (HoldsWithin (of.held files)) (Exceeds (of.held files))) also r old new c.perform-ended.result d.3)
 
 pub returns-in-Some-clause-kept : goal.returns-in-Some-clause-kept
 returns-in-Some-clause-kept g c some whole =
@@ -144,10 +144,10 @@ returns-in-Some-clause-complete g c told none q asks good =
     let r = request_of c.in-Some.command in
     let old = world of files (sink g.O.Sink c.args.out.now) in
     let new = world of c.perform-ended.new.files (sink g.O.Sink c.perform-ended.new.out) in
-    let also = answer_also (IsKnown of.told (of.held files) d.0) (Holds (of.held files)) (IsKnownLarge of.told (of.held files) d.0) (Exceeds (of.held files)) (λ s b k. k.1 told) (λ s k. k.1 told) r in
+    let also = answer_also (IsKnown of.told (of.held files) d.0) (HoldsWithin (of.held files)) (IsKnownLarge of.told (of.held files) d.0) (Exceeds (of.held files)) (λ s b k. k.1 told) (λ s k. k.1 told) r in
     complete (map (string_bytes {Z = Global}) c.args.words.now) r c.in-Some.ensures.command old new (sink g.E.Sink c.args.err.now) (sink g.E.Sink c.report.new.err) told none c.perform-ended.result c.report.result c.report.ensures.status
     c.good_requests.ensures
-    (did_also (Answer r (IsKnown of.told (of.held files) d.0) (IsKnownLarge of.told (of.held files) d.0)) (Answer r (Holds (of.held files)) (Exceeds (of.held files))) also r old new c.perform-ended.result d.3)
+    (did_also (Answer r (IsKnown of.told (of.held files) d.0) (IsKnownLarge of.told (of.held files) d.0)) (Answer r (HoldsWithin (of.held files)) (Exceeds (of.held files))) also r old new c.perform-ended.result d.3)
     q asks good
 
 pub returns-in-None-clause-bounded : goal.returns-in-None-clause-bounded
@@ -164,7 +164,7 @@ returns-in-Some-clause-bounded g c told zero =
     let new = world of c.perform-ended.new.files (sink g.O.Sink c.perform-ended.new.out) in
     let err_old = sink g.E.Sink c.args.err.now in
     let err_new = sink g.E.Sink c.report.new.err in
-    let has = Holds (of.held files) in
+    let has = HoldsWithin (of.held files) in
     let exceeds = Exceeds (of.held files) in
     let also = answer_also (IsKnown of.told (of.held files) d.0) has (IsKnownLarge of.told (of.held files) d.0) exceeds (λ s b k. k.1 told) (λ s k. k.1 told) r in
     let did = did_also (Answer r (IsKnown of.told (of.held files) d.0) (IsKnownLarge of.told (of.held files) d.0)) (Answer r has exceeds) also r old new c.perform-ended.result d.3 in

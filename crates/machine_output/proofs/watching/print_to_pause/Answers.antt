@@ -3,7 +3,7 @@ use Rattle.std.specs.Prelude.{IfSome}
 use Rattle.std.specs.Fn.{FnReturnsAt}
 use Rattle.machine_model.specs.Step.{step, event}
 use Rattle.machine_watch.specs.Answers.{AnswersEqually}
-use Rattle.machine_watch.specs.Watched.{Says}
+use Rattle.machine_watch.specs.Watched.{IsPauseOf}
 use Rattle.base_outside.specs.Sinks.{Puts, sink}
 use Rattle.machine_output.specs.Runs.{HasLine}
 use Rattle.machine_output.proofs.Windows.{event_known, name_is_short}
@@ -80,7 +80,7 @@ loop-step-preserved g c =
     let now = sink g.O.Sink c.loop-step.out in
     let later = sink g.O.Sink c.put_told.new.out in
     let says = stepped_says (λ f. FnReturnsAt g.F.Fn f) i first.callback here next _ _ v.callback image w in
-    let on = subst (Says (FnReturnsAt g.F.Fn first.callback) i 1 1 here.machine.state (step i here.machine.state)) (c.goes_on.ensures.yes c.if-not-goes_on.false) says in
+    let on = subst (IsPauseOf (FnReturnsAt g.F.Fn first.callback) i 1 1 here.machine.state (step i here.machine.state)) (c.goes_on.ensures.yes c.if-not-goes_on.false) says in
     let done = subst (Puts now later _) c.if-not-put_told.false c.put_told.ensures in
     let put = stepped_puts _ i _ here next _ _ now later true c.as_slice-windows.ensures image w done in
     let before = v.taken in

@@ -1,5 +1,5 @@
 use Rattle.std.proofs.Common.{◌∙◌, ap}
-use Rattle.monitor_steps.specs.Steps.{Steps, End, Halt}
+use Rattle.monitor_steps.specs.Steps.{PrivilegedSteps, End, Halt}
 use Rattle.monitor_steps.specs.Lists.{all_before}
 use Rattle.monitor_program.specs.Constants.{Constants}
 use Rattle.monitor_model.specs.Halts.{halt_number}
@@ -8,13 +8,13 @@ use Rattle.monitor_lists.specs.Made.{constants_of}
 use Rattle.monitor_lists.proofs.svc.by_number.Goals as goal
 
 -- what stands behind each list
-abbrev behind_enter : Constants → Steps
+abbrev behind_enter : Constants → PrivilegedSteps
 behind_enter n = on_number 1 (leave n) (Halt halt_number End)
 
-abbrev behind_lend : Constants → Steps
+abbrev behind_lend : Constants → PrivilegedSteps
 behind_lend n = on_number 0 (enter n) (behind_enter n)
 
-abbrev behind_unlend : Constants → Steps
+abbrev behind_unlend : Constants → PrivilegedSteps
 behind_unlend n = on_number 2 (lend n) (behind_lend n)
 
 pub returns : goal.returns

@@ -1,4 +1,4 @@
-//! Steps that are counted.
+//! StepCount that are counted.
 
 ghost use Rattle.std.specs.Prelude.{◌≡◌, ◌+◌, ◌<◌};
 
@@ -7,12 +7,12 @@ use std::sync::ledger::{Blank, Book, Ledger, Share};
 
 /// How many steps were taken. It takes no bytes, and only `tick` changes it.
 #[derive(Drop)]
-pub struct Steps<L: Ledger> {
+pub struct StepCount<L: Ledger> {
     book: Book<L>,
     share: Share<L>,
 }
 
-impl<L: Ledger> Model for Steps<L> {
+impl<L: Ledger> Model for StepCount<L> {
     ghost use Rattle.std.specs.Prelude.{ℕ, ◌<◌};
 
     ghost Value = { ℕ };
@@ -22,16 +22,16 @@ impl<L: Ledger> Model for Steps<L> {
     ghost invariant = { λ s. 0 < s.share.parts };
 }
 
-impl<L: Ledger> Steps<L> {
+impl<L: Ledger> StepCount<L> {
     /// No steps yet, counted in a new ledger.
-    pub fn new(blank: Blank) -> Steps<L>
+    pub fn new(blank: Blank) -> StepCount<L>
         requires name { blank.name ≡ L.name }
         requires parts { blank.parts ≡ L.parts }
         requires some { 0 < blank.parts }
         ensures { result ≡ 0 }
     {
         let (book, share) = blank.open::<L>();
-        Steps { book, share }
+        StepCount { book, share }
     }
 
     /// One step more.
