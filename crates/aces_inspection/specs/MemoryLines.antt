@@ -6,7 +6,7 @@ use Rattle.base_ranges.specs.Ranges.{is_inside}
 use Rattle.plan_model.specs.Lists.{numbers_below}
 use Rattle.machine_devices.specs.declared.image.Image.{Image}
 use Rattle.machine_bus.specs.Bus.{word_at}
-use Rattle.machine_bus.specs.Places.{place}
+use Rattle.machine_bus.specs.Locations.{location}
 use Rattle.machine_model.specs.declared.state.CoreRegisters.{CoreRegisters}
 use Rattle.machine_model.specs.State.{State}
 use Rattle.monitor_model.specs.BlockWords.{current_offset, top_offset, depth_offset, loans_offset, saved_offset, loan_offset}
@@ -35,7 +35,7 @@ pub record IsBlockAt (block : ℕ) : Type 0 where
 module _ (i : Image) (s : State) where
   -- the word of memory at an address
   abbrev pub word : (address : ℕ) → ℕ
-  word a = word_at (place i a) i s.ram
+  word a = word_at (location i a) i s.ram
 
   -- ---- the frame
 

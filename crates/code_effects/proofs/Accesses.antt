@@ -8,7 +8,7 @@ use Rattle.machine_thumb.specs.declared.table.Instr.{Instr}
 use Rattle.machine_thumb.specs.declared.table.Instr.TheVariants.{TransferImmediate}
 use Rattle.machine_protection.specs.declared.region.Access.TheVariants.{Read, Write}
 use Rattle.machine_devices.specs.declared.image.Image.{Image}
-use Rattle.machine_bus.specs.Places.{InRam, InFlash, InWindow}
+use Rattle.machine_bus.specs.Locations.{InRam, InFlash, InWindow}
 use Rattle.machine_model.specs.declared.state.End.TheVariants.{InputEnd}
 use Rattle.machine_model.specs.State.{PermissionTest}
 use Rattle.machine_model.specs.Code.{Stands, CodeAt, StepsQuietly}

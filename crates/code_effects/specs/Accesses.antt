@@ -7,7 +7,7 @@ use Rattle.machine_thumb.specs.declared.table.Instr.TheVariants.{TransferImmedia
 use Rattle.machine_protection.specs.declared.region.Access.{Access}
 use Rattle.machine_protection.specs.declared.region.Access.TheVariants.{Read, Write}
 use Rattle.machine_devices.specs.declared.image.Image.{Image}
-use Rattle.machine_bus.specs.Places.{Place, InRam, InFlash, InWindow, place}
+use Rattle.machine_bus.specs.Locations.{Location, InRam, InFlash, InWindow, location}
 use Rattle.machine_model.specs.declared.state.End.TheVariants.{InputEnd}
 use Rattle.machine_model.specs.State.{PermissionTest}
 use Rattle.machine_model.specs.Code.{Stands}
@@ -21,12 +21,12 @@ use Rattle.code_model.specs.Sizes.{inst_size}
 use Rattle.code_effects.specs.Points.{Point, known, Leads, Finishes}
 use Rattle.code_effects.specs.Frames.{HasFrame, home, HasInst, behind}
 
--- an access that protection allows, of an address that is a multiple of its width and leads to this place
-pub record Reach (j : PermissionTest) (i : Image) (p : Point) (kind : Access) (width address : ℕ) (to : Place) : Type 0 where
+-- an access that protection allows, of an address that is a multiple of its width and leads to this location
+pub record Reach (j : PermissionTest) (i : Image) (p : Point) (kind : Access) (width address : ℕ) (to : Location) : Type 0 where
   pub aligned : address % width ≡ 0
   pub low : address < 0xE0000000
   pub allowed : j p.context.protection kind address ≡ true
-  pub leads : place i address ≡ to
+  pub leads : location i address ≡ to
 
 -- behind a store
 abbrev pub behind_store : Point → (site : Option ℕ) → (to from : ℕ) → PlainType → Point

@@ -1,13 +1,13 @@
 -- What the handler of SVC comes to, computed.
 use Rattle.std.proofs.Common.{refl}
 use Rattle.base_words.specs.Bytes.{read, write, write_all}
-use Rattle.machine_bus.specs.Places.{place, find_window}
+use Rattle.machine_bus.specs.Locations.{location, find_window}
 use Rattle.machine_model.specs.Stack.{words_at}
 use Rattle.monitor_model.specs.SvcOutcome.{svc_outcome}
 use Rattle.example_monitor.specs.Calls.{ComputesCalls}
 
 pub computes_calls : ComputesCalls
-unfolding read write write_all place find_window words_at svc_outcome
+unfolding read write write_all location find_window words_at svc_outcome
 computes_calls = record {
   enters = refl;
   enters_lent = refl;

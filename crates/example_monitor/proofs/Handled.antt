@@ -10,7 +10,7 @@ use Rattle.machine_protection.specs.Regions.{holds}
 use Rattle.machine_protection.specs.Protection.{permits, deciding}
 use Rattle.machine_protection.specs.Registers.{read_register, write_register}
 use Rattle.machine_protection.specs.RegionWords.{region_of}
-use Rattle.machine_bus.specs.Places.{place, find_window}
+use Rattle.machine_bus.specs.Locations.{location, find_window}
 use Rattle.machine_model.specs.State.{by_mpu}
 use Rattle.machine_model.specs.System.{read_system, read_status, write_status}
 use Rattle.machine_model.specs.Tests.{verdict}
@@ -18,7 +18,7 @@ use Rattle.machine_model.specs.Stack.{words_at}
 use Rattle.example_monitor.specs.Handled.{ComputesCalls, ComputesLoans, ComputesHalts}
 
 pub computes_calls : ComputesCalls
-unfolding count_trailing_zeros count_leading_zeros tables_size block least_power shift_left shift_right bit_clear read write write_all holds permits deciding read_register write_register region_of place find_window by_mpu read_system read_status write_status verdict words_at
+unfolding count_trailing_zeros count_leading_zeros tables_size block least_power shift_left shift_right bit_clear read write write_all holds permits deciding read_register write_register region_of location find_window by_mpu read_system read_status write_status verdict words_at
 computes_calls = record {
   enters = refl;
   skips_the_number = refl;
@@ -26,7 +26,7 @@ computes_calls = record {
 }
 
 pub computes_loans : ComputesLoans
-unfolding count_trailing_zeros count_leading_zeros tables_size block least_power shift_left shift_right bit_clear read write write_all holds permits deciding read_register write_register region_of place find_window by_mpu read_system read_status write_status verdict words_at
+unfolding count_trailing_zeros count_leading_zeros tables_size block least_power shift_left shift_right bit_clear read write write_all holds permits deciding read_register write_register region_of location find_window by_mpu read_system read_status write_status verdict words_at
 computes_loans = record {
   lends = refl;
   unlends = refl;
@@ -36,7 +36,7 @@ computes_loans = record {
 }
 
 pub computes_halts : ComputesHalts
-unfolding count_trailing_zeros count_leading_zeros tables_size block least_power shift_left shift_right bit_clear read write write_all holds permits deciding read_register write_register region_of place find_window by_mpu read_system read_status write_status verdict words_at
+unfolding count_trailing_zeros count_leading_zeros tables_size block least_power shift_left shift_right bit_clear read write write_all holds permits deciding read_register write_register region_of location find_window by_mpu read_system read_status write_status verdict words_at
 computes_halts = record {
   ends = refl;
   number = refl;

@@ -6,7 +6,7 @@ use Rattle.machine_protection.specs.Regions.{holds}
 use Rattle.machine_protection.specs.Protection.{permits, deciding}
 use Rattle.machine_protection.specs.Registers.{read_register, write_register}
 use Rattle.machine_protection.specs.RegionWords.{region_of}
-use Rattle.machine_bus.specs.Places.{place, find_window}
+use Rattle.machine_bus.specs.Locations.{location, find_window}
 use Rattle.machine_model.specs.State.{by_mpu}
 use Rattle.machine_model.specs.System.{read_system, read_status, write_status}
 use Rattle.machine_model.specs.Tests.{verdict}
@@ -15,7 +15,7 @@ use Rattle.machine_thumb.specs.Table.{encode}
 use Rattle.example_monitor.specs.SmallLists.{ComputesSteps, ComputesCode}
 
 pub computes_steps : ComputesSteps
-unfolding shift_left shift_right bit_clear read write write_all holds permits deciding read_register write_register region_of place find_window by_mpu read_system read_status write_status verdict words_at encode
+unfolding shift_left shift_right bit_clear read write write_all holds permits deciding read_register write_register region_of location find_window by_mpu read_system read_status write_status verdict words_at encode
 computes_steps = record {
   loops = refl;
   loops_too_often = refl;
@@ -34,7 +34,7 @@ computes_steps = record {
 }
 
 pub computes_code : ComputesCode
-unfolding shift_left shift_right bit_clear read write write_all holds permits deciding read_register write_register region_of place find_window by_mpu read_system read_status write_status verdict words_at encode
+unfolding shift_left shift_right bit_clear read write write_all holds permits deciding read_register write_register region_of location find_window by_mpu read_system read_status write_status verdict words_at encode
 computes_code = record {
   constant = record { code_is = refl; length_is = refl };
   sum = record { code_is = refl; length_is = refl };

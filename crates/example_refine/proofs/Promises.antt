@@ -8,7 +8,7 @@ use Rattle.base_names.specs.Names.{is_name, is_reserved, reserved, declaration_w
 use Rattle.machine_thumb.specs.Table.{encode}
 use Rattle.machine_protection.specs.Regions.{holds}
 use Rattle.machine_protection.specs.Protection.{deciding}
-use Rattle.machine_bus.specs.Places.{inside, place, find_window, InWindow}
+use Rattle.machine_bus.specs.Locations.{inside, location, find_window, InWindow}
 use Rattle.machine_devices.specs.Rules.{ObeysRules, IsWindow}
 use Rattle.machine_model.specs.CodeBytes.{HoldsBytes}
 use Rattle.ir_model.specs.declared.object.ObjId.TheVariants.{Global, Local}
@@ -41,7 +41,7 @@ use Rattle.need_lists.proofs.Parts.{in_none}
 
 window_name : IsWindow (record { name = 84 ∷ 73 ∷ 77 ∷ []; base = 0x40010000; size = 128 })
 unfolding is_name is_reserved reserved declaration_words instruction_words type_words operation_words comparison_words
-window_name = record { named = refl; range = record { power = (7, omega arith, omega arith, refl); aligned = refl; place = (omega arith, omega arith) } }
+window_name = record { named = refl; range = record { power = (7, omega arith, omega arith, refl); aligned = refl; location = (omega arith, omega arith) } }
 
 flash_length : length flash ≡ 1148
 unfolding encode frame_code inst_items term_items inst_size term_size entry_size site_number lend_number
@@ -64,7 +64,7 @@ obeys =
       ram_blocks = refl;
       monitor = inr (refl, (omega arith, omega arith));
       regions = inl refl;
-      stack = inr (record { size = (11, omega arith, omega arith, refl); aligned = refl; place = (omega arith, omega arith) });
+      stack = inr (record { size = (11, omega arith, omega arith, refl); aligned = refl; location = (omega arith, omega arith) });
       count = omega arith;
       windows = (window_name, tt, tt);
     }
@@ -286,7 +286,7 @@ in_window : (j : ℕ) → j < 128 → inside 0x40010000 128 (0x40010000 + j) ≡
 in_window j h = in_range 0x40010000 128 (0x40010000 + j) (omega arith) (omega arith)
 
 windows : HasWindows build
-unfolding place find_window
+unfolding location find_window
 windows = record { bases = bases; aligned = aligned; leads = leads; loads = λ f q j h i u l. absurd (no_periph_read f q h i); stores = stores }
   where
     bases : (q : ℕ) → q < 1 → get_or places.windows q 0 ≡ (window_at program q).base
@@ -297,7 +297,7 @@ windows = record { bases = bases; aligned = aligned; leads = leads; loads = λ f
     aligned zero h = refl
     aligned (suc q) h = absurd (omega arith)
 
-    leads : (q at : ℕ) → q < 1 → at < (window_at program q).size → place image ((window_at program q).base + at) ≡ InWindow q at
+    leads : (q at : ℕ) → q < 1 → at < (window_at program q).size → location image ((window_at program q).base + at) ≡ InWindow q at
     leads zero at h l =
         let n = flash_length in
         let r : inside 0x20000000 4096 (0x40010000 + at) ≡ false = below_range 0x20000000 4096 (0x40010000 + at) (omega arith) in

@@ -25,7 +25,7 @@ use Rattle.plan_model.specs.InitialGraph.{mask_of, read_mask_of, mask_where, ini
 use Rattle.plan_model.specs.FinalGraph.{IsFinal}
 use Rattle.plan_model.specs.Slots.{kept_mask}
 use Rattle.need_laws.specs.Reached.{IsListed}
-use Rattle.machine_bus.specs.Places.{inside}
+use Rattle.machine_bus.specs.Locations.{inside}
 use Rattle.monitor_model.specs.declared.tables.CompRecord.{CompRecord}
 use Rattle.monitor_model.specs.Records.{compartment_at, nobody}
 use Rattle.monitor_model.specs.MonitorCode.{MonitorCode}

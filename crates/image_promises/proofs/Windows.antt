@@ -4,7 +4,7 @@ use Rattle.std.proofs.Math.Nat.{mul-mod_left, mul_assoc}
 use Rattle.std.proofs.lemmas.Nat.{div-add-mod', pow-add}
 use Rattle.std.proofs.lemmas.List.{get_or-map, length-map}
 use mathlib.Core.Logic.{⊎_elim}
-use Rattle.machine_bus.specs.Places.{InRam, InFlash, InWindow, inside, choose, find_window, place}
+use Rattle.machine_bus.specs.Locations.{InRam, InFlash, InWindow, inside, choose, find_window, location}
 use Rattle.ir_model.specs.declared.firmware.Peripheral.{Peripheral}
 use Rattle.ir_model.specs.Plain.{PlainFirmware}
 use Rattle.ir_model.specs.Resolve as numbers
@@ -71,8 +71,8 @@ module _ (law : PlanLaws) (apart : WindowsLieApart) (w : PlainFirmware) (n : Nee
       ⊎_elim (λ le. inside_no one.base one.size a (inl (omega (arith, le, from, to)))) (λ le. behind_it one.base one.size a (omega (arith, le, from, to)))
       (windows.apart q r l (omega arith) (λ e. omega (arith, e, h)))
 
-  leads : (q at : ℕ) → q < length (resolve w).periphs → at < (window_at (resolve w) q).size → place (planned_image w n f b) ((window_at (resolve w) q).base + at) ≡ InWindow q at
-  unfolding place linked
+  leads : (q at : ℕ) → q < length (resolve w).periphs → at < (window_at (resolve w) q).size → location (planned_image w n f b) ((window_at (resolve w) q).base + at) ≡ InWindow q at
+  unfolding location linked
   leads q at l m =
       let i = windows.each q l in
       let from = i.place.0 in

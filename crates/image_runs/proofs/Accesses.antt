@@ -5,7 +5,7 @@ use Rattle.machine_model.specs.State.{State}
 use Rattle.machine_model.specs.Confinement.{AnyOf}
 use Rattle.machine_devices.specs.declared.image.Image.{Image}
 use Rattle.machine_devices.specs.declared.image.Window.{Window}
-use Rattle.machine_bus.specs.Places.{place, InWindow}
+use Rattle.machine_bus.specs.Locations.{location, InWindow}
 use Rattle.ir_model.specs.declared.firmware.Peripheral.{Peripheral}
 use Rattle.ir_model.specs.declared.object.ObjId.TheVariants.{Periph}
 use Rattle.ir_model.specs.Plain.{PlainFirmware}
@@ -47,8 +47,8 @@ module _ (w : PlainFirmware) (n : Needs) (f : Final) (b : Board) (ok : IsPlanned
   unfolding resolve
   periphs_are = refl
 
-  -- the address of a place of a window is one of that peripheral's
-  in_cover : (a q offset : ℕ) → place i a ≡ InWindow q offset → (q < length (resolve w).periphs) × IsOf (cover_of (resolve w) q) a
+  -- the address of a location of a window is one of that peripheral's
+  in_cover : (a q offset : ℕ) → location i a ≡ InWindow q offset → (q < length (resolve w).periphs) × IsOf (cover_of (resolve w) q) a
   in_cover a q offset e =
       let z = place_window i a q offset e in
       let r = window_found w.periphs q z.window (ap (λ (ws : List Window). slice_get ws q) (sym board.windows) ∙ z.is_window) in
@@ -65,12 +65,12 @@ module _ (w : PlainFirmware) (n : Needs) (f : Final) (b : Board) (ok : IsPlanned
   same_permission c q e = e
 
   -- the ranges of a compartment
-  on_range : (c a q offset : ℕ) → place i a ≡ InWindow q offset → (ds : List Cover) → AnyOf (IsOnPeripherals w n f b (may_read (resolve w) n f c) a) ds → may_read (resolve w) n f c (Periph q) ≡ true
+  on_range : (c a q offset : ℕ) → location i a ≡ InWindow q offset → (ds : List Cover) → AnyOf (IsOnPeripherals w n f b (may_read (resolve w) n f c) a) ds → may_read (resolve w) n f c (Periph q) ≡ true
   on_range c a q offset e [] h = absurd h
   on_range c a q offset e (d ∷ ds) (inl h) = let z = in_cover a q offset e in h.permitted q a z.0 z.1 h.holds
   on_range c a q offset e (d ∷ ds) (inr h) = on_range c a q offset e ds h
 
-  uses_it : (c a q offset : ℕ) → place i a ≡ InWindow q offset → IsPermitted w n f b (may_read (resolve w) n f c) c a → may_write (resolve w) n f c (Periph q) ≡ true
+  uses_it : (c a q offset : ℕ) → location i a ≡ InWindow q offset → IsPermitted w n f b (may_read (resolve w) n f c) c a → may_write (resolve w) n f c (Periph q) ≡ true
   uses_it c a q offset e (OnPeripherals o) = same_permission c q (on_range c a q offset e _ o)
   uses_it c a q offset e (InData d) =
       absurd (let h = high i rules a q offset e in let x = d.to in let z = ok.board.ram_highest in let u = ok.board.ram_size.most in omega (arith, h, x, z, u))

@@ -4,7 +4,7 @@ use Rattle.machine_protection.specs.declared.region.Region.{Region}
 use Rattle.machine_protection.specs.Regions.{holds}
 use Rattle.machine_devices.specs.declared.image.Image.{Image}
 use Rattle.machine_devices.specs.Rules.{ObeysRules}
-use Rattle.machine_bus.specs.Places.{Place, InRam, InFlash, place}
+use Rattle.machine_bus.specs.Locations.{Location, InRam, InFlash, location}
 use Rattle.machine_bus.proofs.Offsets.{in_ram as ram_place}
 use Rattle.machine_bus.proofs.Ranges.{inside_true}
 use Rattle.machine_model.specs.State.{State, Touched, by_mpu}
@@ -80,12 +80,12 @@ module _ (law : GlobalLaws) (w : PlainFirmware) (n : Needs) (f : Final) (b : Boa
         let lowest = rules.ram_lowest in
         omega (arith, hi, lo, highest, lowest)
 
-    not_flash : (o : ℕ) → place i a ≡ InFlash o → ⊥
+    not_flash : (o : ℕ) → location i a ≡ InFlash o → ⊥
     not_flash o e =
         let m = in_memory in
         let lo = m.0 in
         let hi = m.1 in
-        let r : place i a ≡ InRam (a - i.ram_base) = ram_place i a (a - i.ram_base) (omega (arith, lo)) (omega (arith, lo, hi)) in
+        let r : location i a ≡ InRam (a - i.ram_base) = ram_place i a (a - i.ram_base) (omega (arith, lo)) (omega (arith, lo, hi)) in
         let wrong : InRam (a - i.ram_base) ≡ InFlash o = sym r ∙ e in
         cc
 

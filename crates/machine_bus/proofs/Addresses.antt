@@ -5,16 +5,16 @@ use Rattle.machine_devices.specs.declared.image.Image.{Image}
 use Rattle.machine_devices.specs.declared.image.Window.{Window}
 use Rattle.base_ranges.specs.Ranges.{AreApart}
 use Rattle.machine_devices.specs.Rules.{ObeysRules, IsWindow, IsApart, AreWindows, IsMonitor}
-use Rattle.machine_bus.specs.Places.{InRam, InFlash, InWindow, inside, find_window, place}
+use Rattle.machine_bus.specs.Locations.{InRam, InFlash, InWindow, inside, find_window, location}
 use Rattle.machine_bus.proofs.Ranges.{inside_yes, inside_no}
 
-pub place-ram : (i : Image) (a : ℕ) → i.ram_base ≤ a → a < i.ram_base + i.ram_size → place i a ≡ InRam (a - i.ram_base)
-unfolding place
-place-ram i a l h = rw (inside_yes i.ram_base i.ram_size a l h) refl
+pub location-ram : (i : Image) (a : ℕ) → i.ram_base ≤ a → a < i.ram_base + i.ram_size → location i a ≡ InRam (a - i.ram_base)
+unfolding location
+location-ram i a l h = rw (inside_yes i.ram_base i.ram_size a l h) refl
 
-pub place-flash : (i : Image) (a : ℕ) → ObeysRules i → i.flash_base ≤ a → a < i.flash_base + length i.flash → place i a ≡ InFlash (a - i.flash_base)
-unfolding place
-place-flash i a r l h =
+pub location-flash : (i : Image) (a : ℕ) → ObeysRules i → i.flash_base ≤ a → a < i.flash_base + length i.flash → location i a ≡ InFlash (a - i.flash_base)
+unfolding location
+location-flash i a r l h =
     let apart : inside i.ram_base i.ram_size a ≡ false = inside_no i.ram_base i.ram_size a (inl (omega (arith, r.ram_lowest, r.flash_highest, r.flash_most))) in
     rw (apart, inside_yes i.flash_base (length i.flash) a l h) refl
 
@@ -48,24 +48,24 @@ find_window-window (x ∷ xs) first (suc k) a w h e l g =
     outside (inl p) = inr (omega arith)
     outside (inr p) = inl (omega arith)
 
-pub place-window : (i : Image) (a k : ℕ) (w : Window) → ObeysRules i → slice_get i.windows k ≡ Some w → w.base ≤ a → a < w.base + w.size
-    → place i a ≡ InWindow k (a - w.base)
-unfolding place
-place-window i a k w r e l g =
+pub location-window : (i : Image) (a k : ℕ) (w : Window) → ObeysRules i → slice_get i.windows k ≡ Some w → w.base ≤ a → a < w.base + w.size
+    → location i a ≡ InWindow k (a - w.base)
+unfolding location
+location-window i a k w r e l g =
     let p = (window_at i.windows k w r.windows e).range.place in
     let ram = inside_no i.ram_base i.ram_size a (inr (omega (arith, p.0, r.ram_highest, r.ram_most))) in
     let flash = inside_no i.flash_base (length i.flash) a (inr (omega (arith, p.0, r.flash_highest, r.flash_most))) in
     let none : 0 + k ≡ k = omega arith in
     rw (ram, flash) (find_window-window i.windows 0 k a w r.windows e l g ∙ ap (λ n. InWindow n (a - w.base)) none)
 
-pub place-monitor : (i : Image) → ObeysRules i → (i.monitor ≡ 0 → ⊥) → place i i.monitor ≡ InRam (i.monitor - i.ram_base)
-place-monitor i r n = by_case r.monitor
+pub location-monitor : (i : Image) → ObeysRules i → (i.monitor ≡ 0 → ⊥) → location i i.monitor ≡ InRam (i.monitor - i.ram_base)
+location-monitor i r n = by_case r.monitor
   where
-    by_case : IsMonitor i → place i i.monitor ≡ InRam (i.monitor - i.ram_base)
+    by_case : IsMonitor i → location i i.monitor ≡ InRam (i.monitor - i.ram_base)
     by_case (inl e) = absurd (n e)
-    by_case (inr m) = place-ram i i.monitor m.1.0 (omega (arith, m.1.1))
+    by_case (inr m) = location-ram i i.monitor m.1.0 (omega (arith, m.1.1))
 
-pub ruleset place_rules = (place-ram, place-flash, place-window, place-monitor)
+pub ruleset place_rules = (location-ram, location-flash, location-window, location-monitor)
 
 pub monitor_aligned : (i : Image) → ObeysRules i → i.monitor % 4 ≡ 0
 monitor_aligned i r = by_case r.monitor
@@ -74,4 +74,4 @@ monitor_aligned i r = by_case r.monitor
     by_case (inl e) = omega arith
     by_case (inr m) = omega (arith, m.0)
 
-pub ruleset monitor_rules = (place-monitor, monitor_aligned)
+pub ruleset monitor_rules = (location-monitor, monitor_aligned)

@@ -1,4 +1,4 @@
--- The place of an aligned access.
+-- The location of an aligned access.
 use Rattle.std.proofs.Common.{◌≡◌, ◌<◌, ◌≤◌, inl, inr, ℕ, ◌+◌, ◌-◌, ◌*◌, ◌/◌, ◌%◌, ◌^◌, List, [], ◌∷◌, refl, ap, ◌∙◌, Bool, true, false, length, suc, arith}
 use Rattle.std.specs.Prelude.{◌↔◌}
 use Rattle.std.proofs.lemmas.Nat.{pow-add}
@@ -6,7 +6,7 @@ use Rattle.std.proofs.Math.Nat.{mul-mod_right, mul_assoc, div-add-mod}
 use Rattle.machine_protection.specs.Protection.{IsAccessWidth}
 use Rattle.machine_devices.specs.declared.image.Image.{Image}
 use Rattle.machine_devices.specs.declared.image.Window.{Window}
-use Rattle.machine_bus.specs.Places.{Place, InRam, InFlash, InWindow, Nowhere, inside, choose, find_window, place}
+use Rattle.machine_bus.specs.Locations.{Location, InRam, InFlash, InWindow, Nowhere, inside, choose, find_window, location}
 use Rattle.machine_devices.specs.Rules.{ObeysRules, IsWindow, AreWindows}
 use Rattle.machine_bus.proofs.Ranges.{inside_true, inside_yes}
 use Rattle.machine_bus.specs.Access.{further, HasBytes, Fits, AnyWindowHolds, HoldsBytes}
@@ -63,7 +63,7 @@ flash_aligned i r = record { base = omega (arith, r.flash_aligned); size = r.fla
 
 -- ---- further bytes
 
-further-choose : (t u : Bool) (p q r s : Place) (j : ℕ) → t ≡ u → (u ≡ true → p ≡ further j r) → q ≡ further j s
+further-choose : (t u : Bool) (p q r s : Location) (j : ℕ) → t ≡ u → (u ≡ true → p ≡ further j r) → q ≡ further j s
     → choose t p q ≡ further j (choose u r s)
 further-choose true true p q r s j e h k = h refl
 further-choose true false p q r s j e h k = cc
@@ -80,8 +80,8 @@ window_further (x ∷ xs) k a w j h v m l =
     (λ t. (let b = inside_true x.base x.size a t in let e : a + j - x.base ≡ a - x.base + j = omega arith in ap (InWindow k) e))
     (window_further xs (suc k) a w j h.2 v m l)
 
-pub place_further : (i : Image) (a w j : ℕ) → ObeysRules i → IsAccessWidth w → a % w ≡ 0 → j < w → place i (a + j) ≡ further j (place i a)
-unfolding place
+pub place_further : (i : Image) (a w j : ℕ) → ObeysRules i → IsAccessWidth w → a % w ≡ 0 → j < w → location i (a + j) ≡ further j (location i a)
+unfolding location
 place_further i a w j r v m l =
     further-choose (inside i.ram_base i.ram_size (a + j)) (inside i.ram_base i.ram_size a) (InRam (a + j - i.ram_base)) _ (InRam (a - i.ram_base)) _ j
     (inside_further i.ram_base i.ram_size a w j (ram_aligned i r) v m l)
@@ -93,14 +93,14 @@ place_further i a w j r v m l =
 
 -- ---- all bytes fit
 
--- a place found among the later ones of some windows
-abbrev FitsWindow : List Window → (first : ℕ) → Place → (width : ℕ) → Type 0
+-- a location found among the later ones of some windows
+abbrev FitsWindow : List Window → (first : ℕ) → Location → (width : ℕ) → Type 0
 FitsWindow ws first (InRam o) w = ⊥
 FitsWindow ws first (InFlash o) w = ⊥
 FitsWindow ws first (InWindow k o) w = (first ≤ k) × HasBytes ws (k - first) o w
 FitsWindow ws first Nowhere w = Unit {0}
 
-fits-later : (x : Window) (xs : List Window) (k : ℕ) (p : Place) (w : ℕ) → FitsWindow xs (suc k) p w → FitsWindow (x ∷ xs) k p w
+fits-later : (x : Window) (xs : List Window) (k : ℕ) (p : Location) (w : ℕ) → FitsWindow xs (suc k) p w → FitsWindow (x ∷ xs) k p w
 fits-later x xs k (InRam o) w h = h
 fits-later x xs k (InFlash o) w h = h
 fits-later x xs k (InWindow n o) w h =
@@ -120,14 +120,14 @@ window_fits (x ∷ xs) k a w h v m = by_test (inside x.base x.size a) refl (fits
         (omega arith, rw zero_less (x, refl, omega (arith, inside_ends x.base x.size a w (window_aligned x h.0) v m b.1))))
     by_test false e ih = ih
 
-fits_window : (i : Image) (p : Place) (w : ℕ) → FitsWindow i.windows 0 p w → Fits p w i
+fits_window : (i : Image) (p : Location) (w : ℕ) → FitsWindow i.windows 0 p w → Fits p w i
 fits_window i (InRam o) w h = absurd h
 fits_window i (InFlash o) w h = absurd h
 fits_window i (InWindow k o) w h = (let e : k - 0 ≡ k = omega arith in rw e at h.1)
 fits_window i Nowhere w h = tt
 
-pub place_fits : (i : Image) (a w : ℕ) → ObeysRules i → IsAccessWidth w → a % w ≡ 0 → Fits (place i a) w i
-unfolding place
+pub place_fits : (i : Image) (a w : ℕ) → ObeysRules i → IsAccessWidth w → a % w ≡ 0 → Fits (location i a) w i
+unfolding location
 place_fits i a w r v m = by_ram (inside i.ram_base i.ram_size a) refl (by_flash (inside i.flash_base (length i.flash) a) refl)
   where
     by_flash : (t : Bool) → inside i.flash_base (length i.flash) a ≡ t
@@ -174,8 +174,8 @@ misses_windows (x ∷ xs) k a w h v m n = by_test (inside x.base x.size a) refl 
         absurd (n (inl (b.0, inside_ends x.base x.size a w (window_aligned x h.0) v m b.1))))
     by_test false e ih = ih
 
-pub nowhere_holds : (i : Image) (a w : ℕ) → IsAccessWidth w → place i a ≡ Nowhere → HoldsBytes i a w → ⊥
-unfolding place
+pub nowhere_holds : (i : Image) (a w : ℕ) → IsAccessWidth w → location i a ≡ Nowhere → HoldsBytes i a w → ⊥
+unfolding location
 nowhere_holds i a w v e (inl h) =
     (let n = positive w v in
     let t = inside_yes i.ram_base i.ram_size a h.0 (omega (arith, h.1)) in let f : InRam (a - i.ram_base) ≡ Nowhere = rw t at e in cc)
@@ -196,8 +196,8 @@ nowhere_holds i a w v e (inr (inr h)) =
     by_tests false true g ih = cc
     by_tests false false g ih = ih g
 
-pub holds_nowhere : (i : Image) (a w : ℕ) → ObeysRules i → IsAccessWidth w → a % w ≡ 0 → (HoldsBytes i a w → ⊥) → place i a ≡ Nowhere
-unfolding place
+pub holds_nowhere : (i : Image) (a w : ℕ) → ObeysRules i → IsAccessWidth w → a % w ≡ 0 → (HoldsBytes i a w → ⊥) → location i a ≡ Nowhere
+unfolding location
 holds_nowhere i a w r v m n = by_tests (inside i.ram_base i.ram_size a) (inside i.flash_base (length i.flash) a) refl refl
   where
     by_tests : (t u : Bool) → inside i.ram_base i.ram_size a ≡ t → inside i.flash_base (length i.flash) a ≡ u
@@ -210,7 +210,7 @@ holds_nowhere i a w r v m n = by_tests (inside i.ram_base i.ram_size a) (inside 
         absurd (n (inr (inl (b.0, inside_ends i.flash_base (length i.flash) a w (flash_aligned i r) v m b.1)))))
     by_tests false false e f = misses_windows i.windows 0 a w r.windows v m (λ g. n (inr (inr g)))
 
-pub place-nowhere : (i : Image) (a w : ℕ) → ObeysRules i → IsAccessWidth w → a % w ≡ 0 → (place i a ≡ Nowhere) ↔ (HoldsBytes i a w → ⊥)
-place-nowhere i a w r v m = (nowhere_holds i a w v, holds_nowhere i a w r v m)
+pub location-nowhere : (i : Image) (a w : ℕ) → ObeysRules i → IsAccessWidth w → a % w ≡ 0 → (location i a ≡ Nowhere) ↔ (HoldsBytes i a w → ⊥)
+location-nowhere i a w r v m = (nowhere_holds i a w v, holds_nowhere i a w r v m)
 
 pub ruleset access_rules = (place_fits)

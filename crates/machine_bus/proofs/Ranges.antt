@@ -1,7 +1,7 @@
 -- The test whether an address lies in a range.
 use Rattle.std.proofs.Common.{◌≡◌, ◌<◌, ◌≤◌, ◌⊎◌, ℕ, ◌+◌, true, false, arith}
 use Rattle.std.proofs.lemmas.Bool.Decides.{nat_tests}
-use Rattle.machine_bus.specs.Places.{inside}
+use Rattle.machine_bus.specs.Locations.{inside}
 
 -- what the test of a range tells
 pub inside_true : (b s a : ℕ) → inside b s a ≡ true → (b ≤ a) × (a < b + s)

@@ -1,7 +1,7 @@
 -- The search for the window of an address, one window after another.
 use Rattle.std.proofs.Common.{◌≡◌, ◌<◌, ◌≤◌, ℕ, zero, suc, ◌+◌, ◌-◌, List, [], ◌∷◌, refl, true, false, length, arith, get_or, drop, drop-cons, add-one}
 use Rattle.machine_devices.specs.declared.image.Window.{Window}
-use Rattle.machine_bus.specs.Places.{InWindow, Nowhere, inside, find_window}
+use Rattle.machine_bus.specs.Locations.{InWindow, Nowhere, inside, find_window}
 
 pub find_window-at : (ws : List Window) (n k a : ℕ) (w : Window) → n < length ws → w ≡ get_or ws n w → inside w.base w.size a ≡ true
     → find_window (drop n ws) k a ≡ InWindow k (a - w.base)

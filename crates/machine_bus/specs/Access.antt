@@ -3,11 +3,11 @@
 use Rattle.std.specs.Prelude.{◌≡◌, ℕ, ◌+◌, ◌≤◌, ◌⊎◌, List, [], ◌∷◌, length, slice_get, Some}
 use Rattle.machine_devices.specs.declared.image.Image.{Image}
 use Rattle.machine_devices.specs.declared.image.Window.{Window}
-use Rattle.machine_bus.specs.Places.{Place, InRam, InFlash, InWindow, Nowhere}
+use Rattle.machine_bus.specs.Locations.{Location, InRam, InFlash, InWindow, Nowhere}
 use Rattle.base_ranges.specs.Ranges.{IsInside}
 
 -- the place that lies further on
-abbrev pub further : ℕ → Place → Place
+abbrev pub further : ℕ → Location → Location
 further n (InRam o) = InRam (o + n)
 further n (InFlash o) = InFlash (o + n)
 further n (InWindow k o) = InWindow k (o + n)
@@ -18,7 +18,7 @@ abbrev pub HasBytes : List Window → (number offset width : ℕ) → Type 0
 HasBytes windows k o width = (w : Window) × (slice_get windows k ≡ Some w) × (o + width ≤ w.size)
 
 -- this many bytes lie at the place
-abbrev pub Fits : Place → (width : ℕ) → Image → Type 0
+abbrev pub Fits : Location → (width : ℕ) → Image → Type 0
 Fits (InRam o) w i = o + w ≤ i.ram_size
 Fits (InFlash o) w i = o + w ≤ length i.flash
 Fits (InWindow k o) w i = HasBytes i.windows k o w

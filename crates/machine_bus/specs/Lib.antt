@@ -1,4 +1,4 @@
-pub mod Places
+pub mod Locations
 pub mod Bus
 pub mod Access
 pub mod Memory

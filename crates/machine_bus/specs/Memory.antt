@@ -4,7 +4,7 @@ use Rattle.base_words.specs.Bytes.{read}
 use Rattle.machine_devices.specs.declared.image.Image.{Image}
 use Rattle.machine_bus.specs.declared.answer.Loaded.{Loaded}
 use Rattle.machine_bus.specs.declared.answer.Loaded.TheVariants.{Value, Device, NoInput, Unmapped}
-use Rattle.machine_bus.specs.Places.{Place, InRam, InFlash, InWindow, Nowhere, place}
+use Rattle.machine_bus.specs.Locations.{Location, InRam, InFlash, InWindow, Nowhere, location}
 use Rattle.machine_devices.specs.Rules.{ObeysRules}
 use Rattle.machine_bus.specs.Bus.{load_at, put_at}
 use Rattle.machine_devices.specs.Input.{taken}
@@ -33,13 +33,13 @@ after_load NoInput m = m
 after_load Unmapped m = m
 
 abbrev pub load_from : Memory → (address width : ℕ) → Loaded
-load_from m a w = load_at (place m.image a) m.image m.ram m.queues w
+load_from m a w = load_at (location m.image a) m.image m.ram m.queues w
 
 abbrev pub after_store : Memory → (address width value : ℕ) → Memory
-after_store m a w v = record m { ram = put_at (place m.image a) w v m.ram }
+after_store m a w v = record m { ram = put_at (location m.image a) w v m.ram }
 
--- the byte at a place of flash or RAM
-abbrev pub byte_at : Place → Image → (ram : List ℕ) → Option ℕ
+-- the byte at a location of flash or RAM
+abbrev pub byte_at : Location → Image → (ram : List ℕ) → Option ℕ
 byte_at (InRam o) i ram = Some (read 1 o ram)
 byte_at (InFlash o) i ram = Some (read 1 o i.flash)
 byte_at (InWindow k o) i ram = None

@@ -6,7 +6,7 @@ ghost use Rattle.base_words.specs.Width.{byte_count};
 ghost use Rattle.machine_protection.specs.Protection.{IsAccessWidth};
 ghost use Rattle.machine_bus.specs.Bus as accesses;
 ghost use Rattle.machine_bus.specs.Memory as memory;
-ghost use Rattle.machine_bus.specs.Places as places;
+ghost use Rattle.machine_bus.specs.Locations as places;
 ghost use Rattle.machine_devices.specs.Rules.{ObeysRules};
 
 use crate::answer::{Loaded, Stored};
@@ -113,7 +113,7 @@ impl Bus {
     pub fn store(&mut self, addr: u32, width: u8, value: u32) -> Stored
         requires width { IsAccessWidth width }
         requires aligned { addr % width ≡ 0 }
-        ensures stored { result ≡ accesses.store_at (places.place self.old.image addr) }
+        ensures stored { result ≡ accesses.store_at (places.location self.old.image addr) }
         ensures after { self.new ≡ memory.after_store self.old addr width value }
     {
         match find_access(&self.image, addr, width) {
@@ -129,7 +129,7 @@ impl Bus {
     /// Fetches a halfword of code from flash or RAM; windows give none.
     pub fn fetch(&self, addr: u32) -> Option<u16>
         requires { addr % 2 ≡ 0 }
-        ensures { result ≡ accesses.fetch_at (places.place self.now.image addr) self.now.image self.now.ram }
+        ensures { result ≡ accesses.fetch_at (places.location self.now.image addr) self.now.image self.now.ram }
     {
         match find_access(&self.image, addr, 2) {
             Target::Ram(offset) => Some(read_half(&self.ram, offset as usize)),
@@ -143,7 +143,7 @@ impl Bus {
     /// The word of flash or RAM at an address, and 0 where neither holds it. No window takes part.
     pub fn word(&self, addr: u32) -> u32
         requires { addr % 4 ≡ 0 }
-        ensures { result ≡ accesses.word_at (places.place self.now.image addr) self.now.image self.now.ram }
+        ensures { result ≡ accesses.word_at (places.location self.now.image addr) self.now.image self.now.ram }
     {
         match find_access(&self.image, addr, 4) {
             Target::Ram(offset) => read_value(&self.ram, offset as usize, Width::Word),
@@ -156,7 +156,7 @@ impl Bus {
 
     /// The byte of flash or RAM at an address; none exactly where neither holds it.
     pub fn byte(&self, addr: u32) -> Option<u8>
-        ensures { result ≡ memory.byte_at (places.place self.now.image addr) self.now.image self.now.ram }
+        ensures { result ≡ memory.byte_at (places.location self.now.image addr) self.now.image self.now.ram }
     {
         match find_access(&self.image, addr, 1) {
             Target::Ram(offset) => Some(read_byte(&self.ram, offset as usize)),
@@ -181,7 +181,7 @@ impl Bus {
 
     /// Whether memory lies at an address that takes this kind of access; flash takes no stores.
     pub fn is_memory(&self, kind: Access, addr: u32) -> bool
-        ensures { result ≡ places.is_memory kind (places.place self.now.image addr) }
+        ensures { result ≡ places.is_memory kind (places.location self.now.image addr) }
     {
         match find(&self.image, addr) {
             Target::Ram(_) => true,

@@ -3,7 +3,7 @@
 ghost use Rattle.std.specs.Prelude.{◌≡◌, ◌%◌, ◌≤◌, length};
 ghost use Rattle.machine_protection.specs.Protection.{IsAccessWidth};
 ghost use Rattle.machine_bus.specs.Access.{Fits};
-ghost use Rattle.machine_bus.specs.Places as places;
+ghost use Rattle.machine_bus.specs.Locations as places;
 ghost use Rattle.machine_devices.specs.Rules.{ObeysRules};
 ghost use Rattle.machine_bus.specs.Targets.{place_of};
 
@@ -50,10 +50,10 @@ fn find_window(windows: &[Window], addr: u32) -> Target
 }
 
 /// Where an address leads.
-#[tactic(auto, unfolding(crate::specs::Places::place))]
+#[tactic(auto, unfolding(crate::specs::Locations::location))]
 pub(crate) fn find(image: &Image, addr: u32) -> Target
     requires { ObeysRules image.now }
-    ensures { place_of result ≡ places.place image.now addr }
+    ensures { place_of result ≡ places.location image.now addr }
 {
     if is_inside(image.ram_base, image.ram_size as usize, addr) {
         return Target::Ram(addr - image.ram_base);
@@ -70,7 +70,7 @@ pub(crate) fn find_access(image: &Image, addr: u32, width: u8) -> Target
     requires rules { ObeysRules image.now }
     requires width { IsAccessWidth width }
     requires aligned { addr % width ≡ 0 }
-    ensures place { place_of result ≡ places.place image.now addr }
+    ensures place { place_of result ≡ places.location image.now addr }
     ensures fits { Fits (place_of result) width image.now }
 {
     find(image, addr)

@@ -5,7 +5,7 @@ use Rattle.base_words.proofs.Bytes.{read_fits, cut_is}
 use Rattle.machine_devices.specs.declared.image.Image.{Image}
 use Rattle.machine_bus.specs.declared.answer.Loaded.{Loaded}
 use Rattle.machine_bus.specs.declared.answer.Loaded.TheVariants.{Value, Device, NoInput, Unmapped}
-use Rattle.machine_bus.specs.Places.{Place, InRam, InFlash, InWindow, Nowhere}
+use Rattle.machine_bus.specs.Locations.{Location, InRam, InFlash, InWindow, Nowhere}
 use Rattle.machine_bus.specs.Bus.{load_at, input}
 use Rattle.machine_devices.specs.Input.{queue}
 
@@ -22,7 +22,7 @@ input_below (u ∷ us) k o w =
     let a = one-le-pow w 256 (omega arith) in
     omega arith
 
-pub loaded_below : (p : Place) (i : Image) (ram : List ℕ) (queues : List (List ℕ)) (w : ℕ) → IsBelow (load_at p i ram queues w) (256 ^ w)
+pub loaded_below : (p : Location) (i : Image) (ram : List ℕ) (queues : List (List ℕ)) (w : ℕ) → IsBelow (load_at p i ram queues w) (256 ^ w)
 loaded_below (InRam o) i ram queues w = read_fits w o ram
 loaded_below (InFlash o) i ram queues w = read_fits w o i.flash
 loaded_below (InWindow k o) i ram queues w = input_below (queue queues k) k o w

@@ -5,7 +5,7 @@ use Rattle.std.proofs.Common.{to_z, of_z, w8, w16, w32}
 use Rattle.machine_model.specs.declared.state.CoreRegisters.{CoreRegisters}
 use Rattle.machine_devices.specs.declared.image.Image.{Image}
 use Rattle.machine_bus.specs.Bus.{load_at, store_at}
-use Rattle.machine_bus.specs.Places.{place}
+use Rattle.machine_bus.specs.Locations.{location}
 use Rattle.machine_model.specs.Perform.{loaded, stored}
 use Rattle.machine_model.specs.State.{State, Turn, at, low_at}
 use Rattle.machine_model.specs.Act.{Act, Loads}
@@ -41,7 +41,7 @@ load_extended t signed w a next c = Loads w a (λ v. low_at c next t (extended s
 -- the load and the store themselves, once the tests have led to the bus
 abbrev pub loaded_extended : Image → (register : ℕ) → (signed : Bool) → (width address : ℕ) → (next : ℕ) → State → Turn
 loaded_extended i t signed w a next s =
-    loaded (load_at (place i a) i s.ram s.queues w) i w a s (λ v. low_at s.core next t (extended signed w v))
+    loaded (load_at (location i a) i s.ram s.queues w) i w a s (λ v. low_at s.core next t (extended signed w v))
 
 abbrev pub stored_at : Image → (width address value : ℕ) → (next : ℕ) → State → Turn
-stored_at i w a v next s = stored (store_at (place i a)) i w a v s (at s.core next)
+stored_at i w a v next s = stored (store_at (location i a)) i w a v s (at s.core next)

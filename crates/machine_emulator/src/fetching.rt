@@ -3,7 +3,7 @@
 ghost use Rattle.std.specs.Prelude.{◌≡◌, ◌+◌, ◌%◌, ◌<◌, ◌^◌, true, false, IsTrue, IsFalse, IfSome, None};
 ghost use Rattle.machine_protection.specs.declared.region.Access.TheVariants.{Fetch};
 ghost use Rattle.machine_bus.specs.Bus.{fetch_at};
-ghost use Rattle.machine_bus.specs.Places.{place};
+ghost use Rattle.machine_bus.specs.Locations.{location};
 ghost use Rattle.machine_emulator.specs.Fetches.{IsLow};
 ghost use Rattle.machine_emulator.specs.Code.{IsCodeOf, StandsIn};
 ghost use Rattle.machine_emulator.specs.Parts.{state_of, left, left_by};
@@ -37,7 +37,7 @@ impl Parts {
     /// The halfword of code at an address.
     fn fetch_half(&self, address: u32) -> Option<u16>
         requires { address % 2 ≡ 0 }
-        ensures half { result ≡ fetch_at (place self.now.bus.image address)
+        ensures half { result ≡ fetch_at (location self.now.bus.image address)
             self.now.bus.image self.now.bus.ram }
         ensures low { IfSome result (λ half. address < 2 ^ 31) }
     {

@@ -4,7 +4,7 @@
 ghost use Rattle.std.specs.Prelude.{◌≡◌, ◌<◌, length, not, IfOk};
 ghost use Rattle.std.specs.Fn.{CalledAt};
 ghost use Rattle.machine_bus.specs.Memory.{byte_at};
-ghost use Rattle.machine_bus.specs.Places.{place};
+ghost use Rattle.machine_bus.specs.Locations.{location};
 ghost use Rattle.machine_devices.specs.Rules.{ObeysRules};
 ghost use Rattle.machine_protection.specs.Registers.{at_reset};
 
@@ -184,7 +184,7 @@ impl Machine {
 
     /// The byte of flash or RAM at an address; none exactly where neither holds it.
     pub fn byte(&self, addr: u32) -> Option<u8>
-        ensures { result ≡ byte_at (place self.now.image addr) self.now.image self.now.state.ram }
+        ensures { result ≡ byte_at (location self.now.image addr) self.now.image self.now.state.ram }
     {
         self.parts.bus.byte(addr)
     }

@@ -2,7 +2,7 @@
 
 ghost use Rattle.std.specs.Prelude.{◌≡◌, ◌%◌};
 ghost use Rattle.machine_bus.specs.Bus.{word_at};
-ghost use Rattle.machine_bus.specs.Places.{place};
+ghost use Rattle.machine_bus.specs.Locations.{location};
 ghost use Rattle.machine_emulator.specs.Reads as reads;
 
 use crate::Machine;
@@ -53,7 +53,7 @@ impl Machine {
     /// The word of flash or RAM at an address, and 0 where neither holds it. No window takes part.
     pub fn word(&self, address: u32) -> u32
         requires { address % 4 ≡ 0 }
-        ensures { result ≡ word_at (place self.now.image address) self.now.image self.now.state.ram }
+        ensures { result ≡ word_at (location self.now.image address) self.now.image self.now.state.ram }
     {
         self.parts.bus.word(address)
     }

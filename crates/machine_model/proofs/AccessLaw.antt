@@ -8,7 +8,7 @@ use Rattle.machine_thumb.specs.Decoded.{decoded}
 use Rattle.machine_protection.specs.declared.region.Access.{Access}
 use Rattle.machine_protection.specs.declared.region.Access.TheVariants.{Read, Write, Fetch}
 use Rattle.machine_devices.specs.declared.image.Image.{Image}
-use Rattle.machine_bus.specs.Places.{place, is_memory, choose}
+use Rattle.machine_bus.specs.Locations.{location, is_memory, choose}
 use Rattle.machine_bus.specs.Bus.{fetch_at}
 use Rattle.machine_model.specs.declared.state.CoreRegisters.{CoreRegisters}
 use Rattle.machine_model.specs.declared.state.ProtectionState.{ProtectionState}
@@ -76,7 +76,7 @@ never_refused : (i : Image) (p : ProtectionState) (kind : Access) (n a : ℕ) �
 unfolding verdicts verdict
 never_refused i p kind zero a = tt
 never_refused i p kind (suc n) a =
-    tested_not (nat_eq (a % 4) 0) (in_system a) (is_unprivileged p) (is_system_register a) (is_memory kind (place i a)) a
+    tested_not (nat_eq (a % 4) 0) (in_system a) (is_unprivileged p) (is_system_register a) (is_memory kind (location i a)) a
     (verdicts free i p kind (word (a + 4)) n) (never_refused i p kind n (word (a + 4)))
 
 pub same_verdicts : (j : PermissionTest) (i : Image) (p : ProtectionState) (kind : Access) (n a : ℕ) → AreAllowed j p kind a n → verdicts j i p kind a n ≡ verdicts free i p kind a n
@@ -166,7 +166,7 @@ pub fetch_free : (j : PermissionTest) (i : Image) (s : State) → IsStepAllowed 
 unfolding fetch
 fetch_free j i s may =
     let first : j s.protection Fetch s.core.pc ≡ true = may.first in
-    rw first (halves_free (fetch_at (place i s.core.pc) i s.ram) (fetch_at (place i (s.core.pc + 2)) i s.ram) (j s.protection Fetch (s.core.pc + 2)) may.second)
+    rw first (halves_free (fetch_at (location i s.core.pc) i s.ram) (fetch_at (location i (s.core.pc + 2)) i s.ram) (j s.protection Fetch (s.core.pc + 2)) may.second)
 
 size_allowed : (is_short : Bool) (k : Option ℕ) (h : ℕ) → by_size is_short true k h ≡ NotAllowed → ⊥
 size_allowed true k h e = cc
@@ -179,7 +179,7 @@ halves_allowed (Some h) k e = size_allowed (nat_lt h 0xE800) k h e
 
 fetch_allowed : (i : Image) (s : State) → fetch free i s ≡ NotAllowed → ⊥
 unfolding fetch
-fetch_allowed i s e = halves_allowed (fetch_at (place i s.core.pc) i s.ram) (fetch_at (place i (s.core.pc + 2)) i s.ram) e
+fetch_allowed i s e = halves_allowed (fetch_at (location i s.core.pc) i s.ram) (fetch_at (location i (s.core.pc + 2)) i s.ram) e
 
 module _ (j : PermissionTest) (i : Image) (s : State) where
   performed_free : (o : Option Instr) (next : ℕ) → ((x : Instr) → o ≡ Some x → IsAllowed j s (act x next s.core)) → performed o j i next s ≡ performed o free i next s

@@ -7,7 +7,7 @@ use Rattle.machine_protection.specs.declared.region.Access.{Access}
 use Rattle.machine_protection.specs.declared.region.Access.TheVariants.{Read, Write, Fetch}
 use Rattle.machine_protection.specs.declared.TheConstants.{MPU_TYPE, MPU_CTRL, MPU_RNR, MPU_RBAR, MPU_RASR}
 use Rattle.machine_devices.specs.declared.image.Image.{Image}
-use Rattle.machine_bus.specs.Places.{Nowhere, place, is_memory, choose}
+use Rattle.machine_bus.specs.Locations.{Nowhere, location, is_memory, choose}
 use Rattle.machine_model.specs.declared.TheConstants.{CCR, SHCSR, CFSR, MMFAR}
 use Rattle.machine_model.specs.declared.answers.Verdict.TheVariants.{ToBus}
 use Rattle.machine_model.specs.declared.answers.Verdicts.TheVariants.{BadOne}
@@ -31,18 +31,18 @@ not_memory Read = refl
 not_memory Write = refl
 not_memory Fetch = refl
 
-module _ (j : PermissionTest) (i : Image) (s : State) (a : ℕ) (nothing : place i a ≡ Nowhere) where
+module _ (j : PermissionTest) (i : Image) (s : State) (a : ℕ) (nothing : location i a ≡ Nowhere) where
   first_bad : (kind : Access) (n : ℕ) → verdict j s.protection kind 4 a ≡ ToBus → verdicts j i s.protection kind a (suc n) ≡ BadOne Bus
   unfolding verdicts
   first_bad kind n e =
-      let m : is_memory kind (place i a) ≡ false = ap (is_memory kind) nothing ∙ not_memory kind in
+      let m : is_memory kind (location i a) ≡ false = ap (is_memory kind) nothing ∙ not_memory kind in
       rw (e, m) refl
 
   not_mapped : s.core.pc ≡ a → j s.protection Fetch a ≡ true → fetch j i s ≡ NotMapped
   unfolding fetch
   not_mapped p may =
       let f : j s.protection Fetch s.core.pc ≡ true = ap (j s.protection Fetch) p ∙ may in
-      let n : place i s.core.pc ≡ Nowhere = ap (place i) p ∙ nothing in
+      let n : location i s.core.pc ≡ Nowhere = ap (location i) p ∙ nothing in
       rw (f, n) refl
 
   stops_at_nothing : StopsAtNothing j i s a

@@ -5,7 +5,7 @@ use Rattle.base_words.specs.Bytes.{read, write, cut}
 use Rattle.machine_thumb.specs.declared.table.Instr.{Instr}
 use Rattle.machine_protection.specs.declared.region.Access.TheVariants.{Read, Write}
 use Rattle.machine_devices.specs.declared.image.Image.{Image}
-use Rattle.machine_bus.specs.Places.{InRam, InFlash, InWindow, place}
+use Rattle.machine_bus.specs.Locations.{InRam, InFlash, InWindow, location}
 use Rattle.machine_model.specs.declared.state.CoreRegisters.{CoreRegisters}
 use Rattle.machine_model.specs.declared.state.ProtectionState.{ProtectionState}
 use Rattle.machine_model.specs.declared.state.FaultStatus.{FaultStatus}
@@ -29,36 +29,36 @@ module _ (j : PermissionTest) (i : Image) (c : CoreRegisters) (p : ProtectionSta
   unfolding perform
   changes d h e = steps_from (turns (Changes d) h e) refl refl
 
-  pub loads_ram : (w a o : ℕ) (go : ℕ → CoreRegisters) → Stands j i p c.pc x → act x (c.pc + size x) c ≡ Loads w a go → verdict j p Read w a ≡ ToBus → place i a ≡ InRam o →
+  pub loads_ram : (w a o : ℕ) (go : ℕ → CoreRegisters) → Stands j i p c.pc x → act x (c.pc + size x) c ≡ Loads w a go → verdict j p Read w a ≡ ToBus → location i a ≡ InRam o →
       StepsQuietly j i (live c p t ram queues) (live (go (read w o ram)) p t ram queues)
   unfolding perform
   loads_ram w a o go h e v l = steps_from (turns (Loads w a go) h e) (rw (v, l) refl) (rw (v, l) refl)
 
-  pub loads_flash : (w a o : ℕ) (go : ℕ → CoreRegisters) → Stands j i p c.pc x → act x (c.pc + size x) c ≡ Loads w a go → verdict j p Read w a ≡ ToBus → place i a ≡ InFlash o →
+  pub loads_flash : (w a o : ℕ) (go : ℕ → CoreRegisters) → Stands j i p c.pc x → act x (c.pc + size x) c ≡ Loads w a go → verdict j p Read w a ≡ ToBus → location i a ≡ InFlash o →
       StepsQuietly j i (live c p t ram queues) (live (go (read w o i.flash)) p t ram queues)
   unfolding perform
   loads_flash w a o go h e v l = steps_from (turns (Loads w a go) h e) (rw (v, l) refl) (rw (v, l) refl)
 
   -- a window gives its next word
-  pub loads_window : (w a k o u : ℕ) (us : List ℕ) (go : ℕ → CoreRegisters) → Stands j i p c.pc x → act x (c.pc + size x) c ≡ Loads w a go → verdict j p Read w a ≡ ToBus → place i a ≡ InWindow k o →
+  pub loads_window : (w a k o u : ℕ) (us : List ℕ) (go : ℕ → CoreRegisters) → Stands j i p c.pc x → act x (c.pc + size x) c ≡ Loads w a go → verdict j p Read w a ≡ ToBus → location i a ≡ InWindow k o →
       get_or queues k [] ≡ u ∷ us →
       StepsWith j i (live c p t ram queues) (live (go (cut w u)) p t ram (set queues k us)) (input_event i ram k o w u)
   unfolding perform
   loads_window w a k o u us go h e v l q = steps_with_from (turns (Loads w a go) h e) (rw (v, l, q, q) refl) (rw (v, l, q) refl)
 
   -- and has none left
-  pub loads_nothing : (w a k o : ℕ) (go : ℕ → CoreRegisters) → Stands j i p c.pc x → act x (c.pc + size x) c ≡ Loads w a go → verdict j p Read w a ≡ ToBus → place i a ≡ InWindow k o →
+  pub loads_nothing : (w a k o : ℕ) (go : ℕ → CoreRegisters) → Stands j i p c.pc x → act x (c.pc + size x) c ≡ Loads w a go → verdict j p Read w a ≡ ToBus → location i a ≡ InWindow k o →
       get_or queues k [] ≡ [] →
       StepsQuietly j i (live c p t ram queues) (ended InputEnd (live c p t ram queues))
   unfolding perform
   loads_nothing w a k o go h e v l q = steps_from (turns (Loads w a go) h e) (rw (v, l, q) refl) (rw (v, l, q) refl)
 
-  pub stores_ram : (w a o u : ℕ) (d : CoreRegisters) → Stands j i p c.pc x → act x (c.pc + size x) c ≡ Stores w a u d → verdict j p Write w a ≡ ToBus → place i a ≡ InRam o →
+  pub stores_ram : (w a o u : ℕ) (d : CoreRegisters) → Stands j i p c.pc x → act x (c.pc + size x) c ≡ Stores w a u d → verdict j p Write w a ≡ ToBus → location i a ≡ InRam o →
       StepsQuietly j i (live c p t ram queues) (live d p t (write w o u ram) queues)
   unfolding perform
   stores_ram w a o u d h e v l = steps_from (turns (Stores w a u d) h e) (rw (v, l, l) refl) (rw (v, l) refl)
 
-  pub stores_window : (w a k o u : ℕ) (d : CoreRegisters) → Stands j i p c.pc x → act x (c.pc + size x) c ≡ Stores w a u d → verdict j p Write w a ≡ ToBus → place i a ≡ InWindow k o →
+  pub stores_window : (w a k o u : ℕ) (d : CoreRegisters) → Stands j i p c.pc x → act x (c.pc + size x) c ≡ Stores w a u d → verdict j p Write w a ≡ ToBus → location i a ≡ InWindow k o →
       StepsWith j i (live c p t ram queues) (live d p t ram queues) (output_event i ram k o w u)
   unfolding perform
   stores_window w a k o u d h e v l = steps_with_from (turns (Stores w a u d) h e) (rw (v, l) refl) (rw (v, l) refl)

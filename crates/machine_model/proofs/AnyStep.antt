@@ -9,7 +9,7 @@ use Rattle.machine_protection.specs.declared.region.Access.TheVariants.{Read, Wr
 use Rattle.machine_bus.specs.declared.answer.Loaded.{Loaded}
 use Rattle.machine_bus.specs.declared.answer.Loaded.TheVariants.{Value, Device, NoInput, Unmapped}
 use Rattle.machine_devices.specs.declared.image.Image.{Image}
-use Rattle.machine_bus.specs.Places.{Place, InRam, InFlash, InWindow, Nowhere, place}
+use Rattle.machine_bus.specs.Locations.{Location, InRam, InFlash, InWindow, Nowhere, location}
 use Rattle.machine_bus.specs.Bus.{load_at, store_at, put_at}
 use Rattle.machine_model.specs.declared.state.CoreRegisters.{CoreRegisters}
 use Rattle.machine_model.specs.declared.state.FaultStatus.{FaultStatus}
@@ -42,7 +42,7 @@ put_ram i (v ∷ vs) a s k h = put_ram i vs (word (a + 4)) (word_to (in_system a
   where
     one : (b : Bool) → get_or (word_to b i a v s).ram k 0 ≡ get_or s.ram k 0
     one true = refl
-    one false = put_kept (place i a) 4 v s.ram k h.0
+    one false = put_kept (location i a) 4 v s.ram k h.0
 
 abbrev InSpace : List Touched → Type 0
 InSpace xs = AnyOf (λ (x : Touched). in_system x.address ≡ true) xs
@@ -54,9 +54,9 @@ Leaves s t = (t.protection.mpu ≡ s.protection.mpu) × (t.status ≡ s.status)
 put_space : (i : Image) (vs : List ℕ) (a : ℕ) (s : State) → Leaves s (put_words i a vs s) ⊎ InSpace (words_from a (length vs))
 unfolding put_words words_from
 put_space i [] a s = inl (refl, refl)
-put_space i (v ∷ vs) a s = one (in_system a) refl (put_space i vs (word (a + 4)) (record s { ram = put_at (place i a) 4 v s.ram }))
+put_space i (v ∷ vs) a s = one (in_system a) refl (put_space i vs (word (a + 4)) (record s { ram = put_at (location i a) 4 v s.ram }))
   where
-    one : (b : Bool) → in_system a ≡ b → Leaves s (put_words i (word (a + 4)) vs (record s { ram = put_at (place i a) 4 v s.ram })) ⊎ InSpace (words_from (word (a + 4)) (length vs)) → Leaves s (put_words i (word (a + 4)) vs (word_to b i a v s)) ⊎ InSpace (record { width = 4; address = a } ∷ words_from (word (a + 4)) (length vs))
+    one : (b : Bool) → in_system a ≡ b → Leaves s (put_words i (word (a + 4)) vs (record s { ram = put_at (location i a) 4 v s.ram })) ⊎ InSpace (words_from (word (a + 4)) (length vs)) → Leaves s (put_words i (word (a + 4)) vs (word_to b i a v s)) ⊎ InSpace (record { width = 4; address = a } ∷ words_from (word (a + 4)) (length vs))
     one true e r = inr (inl e)
     one false e r = ⊎_elim (λ l. inl l) (λ f. inr (inr f)) r
 
@@ -85,19 +85,19 @@ module _ (j : PermissionTest) (i : Image) (s : State) where
   loaded_any Unmapped w a go = still _ _ _ refl refl refl
 
   load_any : (v : Verdict) (w a : ℕ) (go : ℕ → CoreRegisters) → AnyStep i s (after_load v j i w a s go)
-  load_any ToBus w a go = loaded_any (load_at (place i a) i s.ram s.queues w) w a go
+  load_any ToBus w a go = loaded_any (load_at (location i a) i s.ram s.queues w) w a go
   load_any ToSystem w a go = still _ _ _ refl refl refl
   load_any Refused w a go = fault_any s.protection.handler (is_fault_enabled s.status) _
   load_any (Bad r) w a go = still _ _ _ refl refl refl
 
-  stored_any : (l : Place) (w a v : ℕ) (c : CoreRegisters) → AnyStep i s (stored (store_at l) i w a v s c)
-  stored_any (InRam o) w a v c = record { ram = λ k h. put_kept (place i a) w v s.ram k h.0; unit = inl refl; status = inl refl }
+  stored_any : (l : Location) (w a v : ℕ) (c : CoreRegisters) → AnyStep i s (stored (store_at l) i w a v s c)
+  stored_any (InRam o) w a v c = record { ram = λ k h. put_kept (location i a) w v s.ram k h.0; unit = inl refl; status = inl refl }
   stored_any (InFlash o) w a v c = still _ _ _ refl refl refl
   stored_any (InWindow k o) w a v c = record { ram = λ k h. refl; unit = inl refl; status = inl refl }
   stored_any Nowhere w a v c = still _ _ _ refl refl refl
 
   store_any : (v : Verdict) (w a x : ℕ) (c : CoreRegisters) → verdict j s.protection Write w a ≡ v → AnyStep i s (after_store v j i w a x s c)
-  store_any ToBus w a x c e = stored_any (place i a) w a x c
+  store_any ToBus w a x c e = stored_any (location i a) w a x c
   store_any ToSystem w a x c e = let y = (verdict_to_system j s.protection Write w a e).1.within in record { ram = λ k h. refl; unit = inr (inl y); status = inr (inr (inl y)) }
   store_any Refused w a x c e = fault_any s.protection.handler (is_fault_enabled s.status) _
   store_any (Bad r) w a x c e = still _ _ _ refl refl refl

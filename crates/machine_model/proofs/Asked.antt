@@ -5,7 +5,7 @@ use Rattle.machine_protection.specs.declared.region.Access.TheVariants.{Read, Wr
 use Rattle.machine_devices.specs.declared.image.Image.{Image}
 use Rattle.machine_bus.specs.declared.answer.Loaded.{Loaded}
 use Rattle.machine_bus.specs.declared.answer.Loaded.TheVariants.{Value, Device, NoInput, Unmapped}
-use Rattle.machine_bus.specs.Places.{Place, InRam, InFlash, InWindow, Nowhere, place}
+use Rattle.machine_bus.specs.Locations.{Location, InRam, InFlash, InWindow, Nowhere, location}
 use Rattle.machine_bus.specs.Bus.{load_at, store_at}
 use Rattle.machine_model.specs.declared.state.CoreRegisters.{CoreRegisters}
 use Rattle.machine_model.specs.State.{State, Turn, PermissionTest, is_unprivileged, with_core}
@@ -58,20 +58,20 @@ module _ (j : PermissionTest) (i : Image) (s : State) where
     loaded_done Unmapped = Stopped _ refl
 
     load_done : (v : Verdict) → verdict j s.protection Read w a ≡ v → DoesAct j i s (Loads w a go) (after_load v j i w a s go)
-    load_done ToBus e = loaded_done (load_at (place i a) i s.ram s.queues w)
+    load_done ToBus e = loaded_done (load_at (location i a) i s.ram s.queues w)
     load_done ToSystem e = Completed refl refl refl
     load_done Refused e = fault_done (Loads w a go) a (inl (inl (refl, verdict_refused j s.protection Read w a e)))
     load_done (Bad r) e = Stopped _ refl
 
   module _ (w a x : ℕ) (c : CoreRegisters) where
-    stored_done : (l : Place) → DoesAct j i s (Stores w a x c) (stored (store_at l) i w a x s c)
+    stored_done : (l : Location) → DoesAct j i s (Stores w a x c) (stored (store_at l) i w a x s c)
     stored_done (InRam o) = Completed refl refl refl
     stored_done (InFlash o) = Stopped _ refl
     stored_done (InWindow k o) = Completed refl refl refl
     stored_done Nowhere = Stopped _ refl
 
     store_done : (v : Verdict) → verdict j s.protection Write w a ≡ v → DoesAct j i s (Stores w a x c) (after_store v j i w a x s c)
-    store_done ToBus e = stored_done (place i a)
+    store_done ToBus e = stored_done (location i a)
     store_done ToSystem e = Completed refl refl refl
     store_done Refused e = fault_done (Stores w a x c) a (inr (inl (refl, verdict_refused j s.protection Write w a e)))
     store_done (Bad r) e = Stopped _ refl

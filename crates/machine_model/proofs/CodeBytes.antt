@@ -11,7 +11,7 @@ use Rattle.machine_thumb.specs.declared.table.Code.TheVariants.{Half, Pair}
 use Rattle.machine_thumb.specs.declared.table.Instr.{Instr}
 use Rattle.machine_thumb.specs.declared.table.Instr.TheVariants.{BranchLink, BranchWide, MoveWide, MoveTop, Divide, SpecialRegister, Barrier}
 use Rattle.machine_devices.specs.declared.image.Image.{Image}
-use Rattle.machine_bus.specs.Places.{InFlash, place, inside}
+use Rattle.machine_bus.specs.Locations.{InFlash, location, inside}
 use Rattle.machine_devices.specs.Rules.{ObeysRules}
 use Rattle.machine_model.specs.Code.{size, HoldsHalf, HoldsCode, Lies}
 use Rattle.machine_thumb.specs.Bytes.{bytes_of_code, code_bytes}
@@ -48,8 +48,8 @@ encode_fits x v = half_fits (encode x) (size x) (encode_form x v) refl
 
 -- ---- bytes
 
-in_flash : (i : Image) (o : ℕ) → ObeysRules i → o < length i.flash → place i (i.flash_base + o) ≡ InFlash o
-unfolding place
+in_flash : (i : Image) (o : ℕ) → ObeysRules i → o < length i.flash → location i (i.flash_base + o) ≡ InFlash o
+unfolding location
 in_flash i o r h =
     let b : i.flash_base + o < 0x20000000 = omega (arith, r.flash_highest, r.flash_most) in
     let l = r.ram_lowest in

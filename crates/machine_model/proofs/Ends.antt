@@ -10,7 +10,7 @@ use Rattle.machine_bus.specs.declared.answer.Loaded.{Loaded}
 use Rattle.machine_bus.specs.declared.answer.Loaded.TheVariants.{Value, Device, NoInput, Unmapped}
 use Rattle.machine_bus.specs.declared.answer.Stored.{Stored}
 use Rattle.machine_bus.specs.declared.answer.Stored.TheVariants.{Done, Device as Taken, Unmapped as NotTaken}
-use Rattle.machine_bus.specs.Places.{place}
+use Rattle.machine_bus.specs.Locations.{location}
 use Rattle.machine_bus.specs.Bus.{load_at, store_at}
 use Rattle.machine_model.specs.declared.state.CoreRegisters.{CoreRegisters}
 use Rattle.machine_model.specs.declared.state.FaultStatus.{FaultStatus}
@@ -65,7 +65,7 @@ loaded_ends NoInput i w a s go = inr (_, tt, refl)
 loaded_ends Unmapped i w a s go = inr (_, tt, refl)
 
 after_load_ends : (v : Verdict) (j : PermissionTest) (i : Image) (w a : ℕ) (s : State) (go : ℕ → CoreRegisters) → EndsOrGoesOn s (after_load v j i w a s go)
-after_load_ends ToBus j i w a s go = loaded_ends (load_at (place i a) i s.ram s.queues w) i w a s go
+after_load_ends ToBus j i w a s go = loaded_ends (load_at (location i a) i s.ram s.queues w) i w a s go
 after_load_ends ToSystem j i w a s go = inl refl
 after_load_ends Refused j i w a s go = data_fault_ends j i a s
 after_load_ends (Bad r) j i w a s go = inr (_, tt, refl)
@@ -76,7 +76,7 @@ stored_ends (Taken k o) i w a v s c = inl refl
 stored_ends NotTaken i w a v s c = inr (_, tt, refl)
 
 after_store_ends : (d : Verdict) (j : PermissionTest) (i : Image) (w a v : ℕ) (s : State) (c : CoreRegisters) → EndsOrGoesOn s (after_store d j i w a v s c)
-after_store_ends ToBus j i w a v s c = stored_ends (store_at (place i a)) i w a v s c
+after_store_ends ToBus j i w a v s c = stored_ends (store_at (location i a)) i w a v s c
 after_store_ends ToSystem j i w a v s c = inl refl
 after_store_ends Refused j i w a v s c = data_fault_ends j i a s
 after_store_ends (Bad r) j i w a v s c = inr (_, tt, refl)

@@ -6,7 +6,7 @@ use Rattle.machine_protection.specs.declared.region.Access.TheVariants.{Write}
 use Rattle.machine_devices.specs.declared.image.Image.{Image}
 use Rattle.machine_devices.specs.Rules.{ObeysRules}
 use Rattle.machine_bus.specs.Access.{Fits}
-use Rattle.machine_bus.specs.Places.{Place, InRam, InFlash, InWindow, Nowhere, place, is_memory}
+use Rattle.machine_bus.specs.Locations.{Location, InRam, InFlash, InWindow, Nowhere, location, is_memory}
 use Rattle.machine_bus.proofs.Placed.{place_fits}
 use Rattle.machine_bus.proofs.Offsets.{ram_at}
 use Rattle.machine_model.specs.declared.state.ProtectionState.{ProtectionState}
@@ -19,7 +19,7 @@ use Rattle.machine_model.specs.EntryFrame.{OpenFramesAreWords}
 use Rattle.machine_model.proofs.Stack.{pushed_are}
 use Rattle.machine_model.proofs.Tested.{open_tests, frame_aligned}
 
-memory_ram : (l : Place) → is_memory Write l ≡ true → (o : ℕ) × (l ≡ InRam o)
+memory_ram : (l : Location) → is_memory Write l ≡ true → (o : ℕ) × (l ≡ InRam o)
 memory_ram (InRam o) e = (o, refl)
 memory_ram (InFlash o) e = absurd (false≢true e)
 memory_ram (InWindow k o) e = absurd (false≢true e)
@@ -30,9 +30,9 @@ module _ (j : PermissionTest) (i : Image) (rules : ObeysRules i) (p : Protection
   first_word : (n a : ℕ) → a % 4 ≡ 0 → all_open j i p Write a (suc n) ≡ true → (o : ℕ) × (i.ram_base + o ≡ a) × (o + 4 ≤ i.ram_size) × (j p Write a ≡ true) × (all_open j i p Write (word (a + 4)) n ≡ true)
   unfolding all_open
   first_word n a al e =
-      let b = open_tests (j p Write a) (is_memory Write (place i a)) (all_open j i p Write (word (a + 4)) n) e in
-      let r = memory_ram (place i a) b.1 in
-      (r.0, (ram_at i a r.0 r.1).0, subst (λ (l : Place). Fits l 4 i) r.1 (place_fits i a 4 rules (inr (inr refl)) al), b.0, b.2)
+      let b = open_tests (j p Write a) (is_memory Write (location i a)) (all_open j i p Write (word (a + 4)) n) e in
+      let r = memory_ram (location i a) b.1 in
+      (r.0, (ram_at i a r.0 r.1).0, subst (λ (l : Location). Fits l 4 i) r.1 (place_fits i a 4 rules (inr (inr refl)) al), b.0, b.2)
 
   low : i.ram_base + i.ram_size ≤ 0x40000000
   low = let hi = rules.ram_highest in let much = rules.ram_most in omega arith

@@ -7,7 +7,7 @@ use Rattle.base_words.proofs.Bytes.{read_fits}
 use Rattle.machine_devices.specs.declared.image.Image.{Image}
 use Rattle.machine_devices.specs.declared.image.Window.{Window}
 use Rattle.machine_devices.specs.Rules.{ObeysRules}
-use Rattle.machine_bus.specs.Places.{Place, InRam, InFlash, InWindow, Nowhere, place, choose, inside, find_window}
+use Rattle.machine_bus.specs.Locations.{Location, InRam, InFlash, InWindow, Nowhere, location, choose, inside, find_window}
 use Rattle.machine_bus.specs.Bus.{fetch_at}
 use Rattle.machine_model.specs.State.{State, PermissionTest}
 use Rattle.machine_model.specs.declared.answers.Fetched.{Fetched}
@@ -46,19 +46,19 @@ first_fits false o al2 o2 pc q f g = tt
 first_fits true None al2 o2 pc q f g = tt
 first_fits true (Some h) al2 o2 pc q f g = by_size_fits (nat_lt h 0xE800) al2 o2 h pc q f.0 f.1 g
 
-abbrev PlaceFits : (pc : ℕ) → Place → Type 0
+abbrev PlaceFits : (pc : ℕ) → Location → Type 0
 PlaceFits pc (InRam o) = pc < 2 ^ 31
 PlaceFits pc (InFlash o) = pc < 2 ^ 31
 PlaceFits pc (InWindow k o) = Unit {0}
 PlaceFits pc Nowhere = Unit {0}
 
-fetch_at_fits : (p : Place) (i : Image) (pc : ℕ) (ram : List ℕ) → PlaceFits pc p → HalfFits pc (fetch_at p i ram)
+fetch_at_fits : (p : Location) (i : Image) (pc : ℕ) (ram : List ℕ) → PlaceFits pc p → HalfFits pc (fetch_at p i ram)
 fetch_at_fits (InRam o) i pc ram f = let h = read_fits 2 o ram in (h, f)
 fetch_at_fits (InFlash o) i pc ram f = let h = read_fits 2 o i.flash in (h, f)
 fetch_at_fits (InWindow k o) i pc ram f = tt
 fetch_at_fits Nowhere i pc ram f = tt
 
-choose_place : (b : Bool) (x y : Place) (pc : ℕ) → (b ≡ true → PlaceFits pc x) → PlaceFits pc y → PlaceFits pc (choose b x y)
+choose_place : (b : Bool) (x y : Location) (pc : ℕ) → (b ≡ true → PlaceFits pc x) → PlaceFits pc y → PlaceFits pc (choose b x y)
 choose_place true x y pc f g = f refl
 choose_place false x y pc f g = g
 
@@ -67,8 +67,8 @@ unfolding find_window
 window_place [] k pc = tt
 window_place (w ∷ ws) k pc = choose_place (inside w.base w.size pc) (InWindow k (pc - w.base)) (find_window ws (suc k) pc) pc (λ e. tt) (window_place ws (suc k) pc)
 
-place_fits : (i : Image) (pc : ℕ) → ObeysRules i → PlaceFits pc (place i pc)
-unfolding place
+place_fits : (i : Image) (pc : ℕ) → ObeysRules i → PlaceFits pc (location i pc)
+unfolding location
 place_fits i pc r =
     choose_place (inside i.ram_base i.ram_size pc) (InRam (pc - i.ram_base)) _ pc
     (λ e. omega (arith, inside_below i.ram_base i.ram_size pc e, r.ram_highest, r.ram_most))
@@ -79,14 +79,14 @@ place_fits i pc r =
 pub fetch_fits : (i : Image) (j : PermissionTest) (s : State) → ObeysRules i → FetchedFits s.core.pc (fetch j i s)
 unfolding fetch
 fetch_fits i j s r =
-    first_fits _ _ _ _ s.core.pc (s.core.pc + 2) (fetch_at_fits (place i s.core.pc) i s.core.pc s.ram (place_fits i s.core.pc r))
-    (fetch_at_fits (place i (s.core.pc + 2)) i (s.core.pc + 2) s.ram (place_fits i (s.core.pc + 2) r))
+    first_fits _ _ _ _ s.core.pc (s.core.pc + 2) (fetch_at_fits (location i s.core.pc) i s.core.pc s.ram (place_fits i s.core.pc r))
+    (fetch_at_fits (location i (s.core.pc + 2)) i (s.core.pc + 2) s.ram (place_fits i (s.core.pc + 2) r))
 
-at_place : (p : Place) (i : Image) (a : ℕ) (ram : List ℕ) → PlaceFits a p → IfSome (fetch_at p i ram) (λ h. a < 2 ^ 31)
+at_place : (p : Location) (i : Image) (a : ℕ) (ram : List ℕ) → PlaceFits a p → IfSome (fetch_at p i ram) (λ h. a < 2 ^ 31)
 at_place (InRam o) i a ram f = f
 at_place (InFlash o) i a ram f = f
 at_place (InWindow k o) i a ram f = tt
 at_place Nowhere i a ram f = tt
 
-pub fetched_low : (i : Image) (a : ℕ) (ram : List ℕ) (o : Option ℕ) → ObeysRules i → o ≡ fetch_at (place i a) i ram → IfSome o (λ h. a < 2 ^ 31)
-fetched_low i a ram o r e = rw e (at_place (place i a) i a ram (place_fits i a r))
+pub fetched_low : (i : Image) (a : ℕ) (ram : List ℕ) (o : Option ℕ) → ObeysRules i → o ≡ fetch_at (location i a) i ram → IfSome o (λ h. a < 2 ^ 31)
+fetched_low i a ram o r e = rw e (at_place (location i a) i a ram (place_fits i a r))

@@ -12,7 +12,7 @@ use Rattle.machine_bus.specs.declared.answer.Loaded.{Loaded}
 use Rattle.machine_bus.specs.declared.answer.Loaded.TheVariants.{Value, Device, NoInput, Unmapped}
 use Rattle.machine_devices.specs.declared.image.Image.{Image}
 use Rattle.machine_devices.specs.declared.image.Window.{Window}
-use Rattle.machine_bus.specs.Places.{Place, InRam, InFlash, InWindow, Nowhere, inside, choose, find_window, place, is_memory}
+use Rattle.machine_bus.specs.Locations.{Location, InRam, InFlash, InWindow, Nowhere, inside, choose, find_window, location, is_memory}
 use Rattle.machine_devices.specs.Rules.{ObeysRules}
 use Rattle.machine_bus.specs.Bus.{load_at, store_at}
 use Rattle.machine_model.specs.declared.state.CoreRegisters.{CoreRegisters}
@@ -39,7 +39,7 @@ use Rattle.machine_bus.proofs.Ranges.{outside_behind as outside_below}
 
 -- an access that does not lead to flash
 abbrev pub NotFlash : Image → Touched → Type 0
-NotFlash i x = (o : ℕ) → place i x.address ≢ InFlash o
+NotFlash i x = (o : ℕ) → location i x.address ≢ InFlash o
 
 -- no store of what a step answers leads to flash
 abbrev pub SparesFlash : Image → Turn → Type 0
@@ -48,13 +48,13 @@ SparesFlash i t = Each (NotFlash i) t.stores
 -- ---- places
 
 -- memory that takes stores is not flash
-memory_not_flash : (l : Place) (o : ℕ) → is_memory Write l ≡ true → l ≢ InFlash o
+memory_not_flash : (l : Location) (o : ℕ) → is_memory Write l ≡ true → l ≢ InFlash o
 memory_not_flash (InRam p) o h e = cc
 memory_not_flash (InFlash p) o h e = absurd (false≢true h)
 memory_not_flash (InWindow k p) o h e = cc
 memory_not_flash Nowhere o h e = cc
 
-choose_window : (here : Bool) (k p o : ℕ) (l : Place) → l ≢ InFlash o → choose here (InWindow k p) l ≢ InFlash o
+choose_window : (here : Bool) (k p o : ℕ) (l : Location) → l ≢ InFlash o → choose here (InWindow k p) l ≢ InFlash o
 choose_window true k p o l h e = cc
 choose_window false k p o l h e = h e
 
@@ -63,7 +63,7 @@ unfolding find_window
 window_not_flash [] k a o e = cc
 window_not_flash (w ∷ ws) k a o e = choose_window (inside w.base w.size a) k (a - w.base) o (find_window ws (suc k) a) (window_not_flash ws (suc k) a o) e
 
-choose_place : (in_ram in_flash : Bool) (p q o : ℕ) (l : Place) → in_flash ≡ false → l ≢ InFlash o → choose in_ram (InRam p) (choose in_flash (InFlash q) l) ≢ InFlash o
+choose_place : (in_ram in_flash : Bool) (p q o : ℕ) (l : Location) → in_flash ≡ false → l ≢ InFlash o → choose in_ram (InRam p) (choose in_flash (InFlash q) l) ≢ InFlash o
 choose_place true f p q o l out h e = cc
 choose_place false true p q o l out h e = absurd (false≢true (sym out))
 choose_place false false p q o l out h e = h e
@@ -72,8 +72,8 @@ system_high : (a : ℕ) → in_system a ≡ true → 0xE0000000 ≤ a
 system_high a h = grind (arith, nat_tests)
 
 -- flash ends below the system control space
-system_not_flash : (i : Image) (a o : ℕ) → ObeysRules i → in_system a ≡ true → place i a ≢ InFlash o
-unfolding place
+system_not_flash : (i : Image) (a o : ℕ) → ObeysRules i → in_system a ≡ true → location i a ≢ InFlash o
+unfolding location
 system_not_flash i a o rules h e =
     let high = system_high a h in
     let highest : i.flash_base ≤ 0x1FE00000 = rules.flash_highest in
@@ -107,8 +107,8 @@ module _ (j : PermissionTest) (i : Image) (rules : ObeysRules i) (p : Protection
   unfolding verdicts words_from
   words_not_flash zero a e = tt
   words_not_flash (suc n) a e =
-      let g = first_good (verdict j p Write 4 a) (is_memory Write (place i a)) a (verdicts j i p Write (word (a + 4)) n) e in (
-        λ o. ⊎_elim (λ memory. memory_not_flash (place i a) o memory) (λ system. system_not_flash i a o rules (verdict_in_system j p Write 4 a system)) g.0,
+      let g = first_good (verdict j p Write 4 a) (is_memory Write (location i a)) a (verdicts j i p Write (word (a + 4)) n) e in (
+        λ o. ⊎_elim (λ memory. memory_not_flash (location i a) o memory) (λ system. system_not_flash i a o rules (verdict_in_system j p Write 4 a system)) g.0,
         words_not_flash n (word (a + 4)) g.1,
       )
 
@@ -116,8 +116,8 @@ module _ (j : PermissionTest) (i : Image) (rules : ObeysRules i) (p : Protection
   unfolding all_open words_from
   open_not_flash zero a e = tt
   open_not_flash (suc n) a e =
-      let t = open_tests (j p Write a) (is_memory Write (place i a)) (all_open j i p Write (word (a + 4)) n) e in
-      (λ o. memory_not_flash (place i a) o t.1, open_not_flash n (word (a + 4)) t.2)
+      let t = open_tests (j p Write a) (is_memory Write (location i a)) (all_open j i p Write (word (a + 4)) n) e in
+      (λ o. memory_not_flash (location i a) o t.1, open_not_flash n (word (a + 4)) t.2)
 
 -- ---- a step
 
@@ -142,19 +142,19 @@ module _ (j : PermissionTest) (i : Image) (rules : ObeysRules i) (s : State) whe
   loaded_spares Unmapped w a go = tt
 
   load_spares : (v : Verdict) (w a : ℕ) (go : ℕ → CoreRegisters) → SparesFlash i (after_load v j i w a s go)
-  load_spares ToBus w a go = loaded_spares (load_at (place i a) i s.ram s.queues w) w a go
+  load_spares ToBus w a go = loaded_spares (load_at (location i a) i s.ram s.queues w) w a go
   load_spares ToSystem w a go = tt
   load_spares Refused w a go = fault_spares s.protection.handler (is_fault_enabled s.status) _
   load_spares (Bad r) w a go = tt
 
-  stored_spares : (l : Place) (w a v : ℕ) (c : CoreRegisters) → place i a ≡ l → SparesFlash i (stored (store_at l) i w a v s c)
+  stored_spares : (l : Location) (w a v : ℕ) (c : CoreRegisters) → location i a ≡ l → SparesFlash i (stored (store_at l) i w a v s c)
   stored_spares (InRam p) w a v c is = (λ o e. cc, tt)
   stored_spares (InFlash p) w a v c is = tt
   stored_spares (InWindow k p) w a v c is = (λ o e. cc, tt)
   stored_spares Nowhere w a v c is = tt
 
   store_spares : (v : Verdict) (w a x : ℕ) (c : CoreRegisters) → verdict j s.protection Write w a ≡ v → SparesFlash i (after_store v j i w a x s c)
-  store_spares ToBus w a x c e = stored_spares (place i a) w a x c refl
+  store_spares ToBus w a x c e = stored_spares (location i a) w a x c refl
   store_spares ToSystem w a x c e = (λ o. system_not_flash i a o rules (verdict_in_system j s.protection Write w a e), tt)
   store_spares Refused w a x c e = fault_spares s.protection.handler (is_fault_enabled s.status) _
   store_spares (Bad r) w a x c e = tt

@@ -7,7 +7,7 @@ use Rattle.machine_thumb.specs.Decoded.{decoded}
 use Rattle.machine_protection.specs.declared.region.Access.TheVariants.{Read, Write, Fetch}
 use Rattle.base_events.specs.declared.event.Event.{Event}
 use Rattle.machine_devices.specs.declared.image.Image.{Image}
-use Rattle.machine_bus.specs.Places.{Place, InRam, InFlash, InWindow, Nowhere, choose, place}
+use Rattle.machine_bus.specs.Locations.{Location, InRam, InFlash, InWindow, Nowhere, choose, location}
 use Rattle.machine_bus.specs.Bus.{input, load_at, store_at, fetch_at}
 use Rattle.machine_devices.specs.Input.{queue}
 use Rattle.machine_model.specs.declared.state.CoreRegisters.{CoreRegisters}
@@ -42,30 +42,30 @@ module _ (j : PermissionTest) (i : Image) (s : State) where
   fault_lists false false t e h = cc
   fault_lists false true t e h = entered_lists (is_frame_open j i s) mem_manage s.core.pc t e h
 
-  input_lists : (q : List ℕ) (k o w a : ℕ) (go : ℕ → CoreRegisters) → place i a ≡ InWindow k o → ListsEvent i (loaded (input q k o w) i w a s go)
+  input_lists : (q : List ℕ) (k o w a : ℕ) (go : ℕ → CoreRegisters) → location i a ≡ InWindow k o → ListsEvent i (loaded (input q k o w) i w a s go)
   input_lists [] k o w a go is e h = cc
-  input_lists (x ∷ xs) k o w a go is e h = subst (λ (v : Event). AnyOf (λ (y : Touched). (y.width ≡ v.width) × (place i y.address ≡ InWindow v.periph v.offset)) (choose v.write [] ((record { width = w; address = a }) ∷ []))) (same_Some _ e h) (inl (refl, is))
+  input_lists (x ∷ xs) k o w a go is e h = subst (λ (v : Event). AnyOf (λ (y : Touched). (y.width ≡ v.width) × (location i y.address ≡ InWindow v.periph v.offset)) (choose v.write [] ((record { width = w; address = a }) ∷ []))) (same_Some _ e h) (inl (refl, is))
 
-  loaded_lists : (l : Place) (w a : ℕ) (go : ℕ → CoreRegisters) → place i a ≡ l → ListsEvent i (loaded (load_at l i s.ram s.queues w) i w a s go)
+  loaded_lists : (l : Location) (w a : ℕ) (go : ℕ → CoreRegisters) → location i a ≡ l → ListsEvent i (loaded (load_at l i s.ram s.queues w) i w a s go)
   loaded_lists (InRam o) w a go is e h = cc
   loaded_lists (InFlash o) w a go is e h = cc
   loaded_lists (InWindow k o) w a go is e h = input_lists (queue s.queues k) k o w a go is e h
   loaded_lists Nowhere w a go is e h = cc
 
   load_lists : (v : Verdict) (w a : ℕ) (go : ℕ → CoreRegisters) → ListsEvent i (after_load v j i w a s go)
-  load_lists ToBus w a go e h = loaded_lists (place i a) w a go refl e h
+  load_lists ToBus w a go e h = loaded_lists (location i a) w a go refl e h
   load_lists ToSystem w a go e h = cc
   load_lists Refused w a go e h = fault_lists s.protection.handler (is_fault_enabled s.status) _ e h
   load_lists (Bad r) w a go e h = cc
 
-  stored_lists : (l : Place) (w a v : ℕ) (c : CoreRegisters) → place i a ≡ l → ListsEvent i (stored (store_at l) i w a v s c)
+  stored_lists : (l : Location) (w a v : ℕ) (c : CoreRegisters) → location i a ≡ l → ListsEvent i (stored (store_at l) i w a v s c)
   stored_lists (InRam o) w a v c is e h = cc
   stored_lists (InFlash o) w a v c is e h = cc
-  stored_lists (InWindow k o) w a v c is e h = subst (λ (x : Event). AnyOf (λ (y : Touched). (y.width ≡ x.width) × (place i y.address ≡ InWindow x.periph x.offset)) (choose x.write ((record { width = w; address = a }) ∷ []) [])) (same_Some _ e h) (inl (refl, is))
+  stored_lists (InWindow k o) w a v c is e h = subst (λ (x : Event). AnyOf (λ (y : Touched). (y.width ≡ x.width) × (location i y.address ≡ InWindow x.periph x.offset)) (choose x.write ((record { width = w; address = a }) ∷ []) [])) (same_Some _ e h) (inl (refl, is))
   stored_lists Nowhere w a v c is e h = cc
 
   store_lists : (v : Verdict) (w a x : ℕ) (c : CoreRegisters) → ListsEvent i (after_store v j i w a x s c)
-  store_lists ToBus w a x c e h = stored_lists (place i a) w a x c refl e h
+  store_lists ToBus w a x c e h = stored_lists (location i a) w a x c refl e h
   store_lists ToSystem w a x c e h = cc
   store_lists Refused w a x c e h = fault_lists s.protection.handler (is_fault_enabled s.status) _ e h
   store_lists (Bad r) w a x c e h = cc
@@ -141,15 +141,15 @@ pub first_refused : (j : PermissionTest) (i : Image) (s : State) → s.ending �
 unfolding turn fetch
 first_refused j i s live may =
     ap (λ o. running o j i s) live
-    ∙ ap (λ x. fetched (first_half x (fetch_at (place i s.core.pc) i s.ram) (j s.protection Fetch (s.core.pc + 2)) (fetch_at (place i (s.core.pc + 2)) i s.ram)) j i s) may
+    ∙ ap (λ x. fetched (first_half x (fetch_at (location i s.core.pc) i s.ram) (j s.protection Fetch (s.core.pc + 2)) (fetch_at (location i (s.core.pc + 2)) i s.ram)) j i s) may
 
-pub second_refused : (j : PermissionTest) (i : Image) (s : State) (h : ℕ) → s.ending ≡ None → j s.protection Fetch s.core.pc ≡ true → fetch_at (place i s.core.pc) i s.ram ≡ Some h → nat_lt h 0xE800 ≡ false → j s.protection Fetch (s.core.pc + 2) ≡ false → turn j i s ≡ fetch_fault j i s
+pub second_refused : (j : PermissionTest) (i : Image) (s : State) (h : ℕ) → s.ending ≡ None → j s.protection Fetch s.core.pc ≡ true → fetch_at (location i s.core.pc) i s.ram ≡ Some h → nat_lt h 0xE800 ≡ false → j s.protection Fetch (s.core.pc + 2) ≡ false → turn j i s ≡ fetch_fault j i s
 unfolding turn fetch
 second_refused j i s h live first is long may =
-    let k : Option ℕ = fetch_at (place i (s.core.pc + 2)) i s.ram in
+    let k : Option ℕ = fetch_at (location i (s.core.pc + 2)) i s.ram in
     let al : Bool = j s.protection Fetch (s.core.pc + 2) in
     ap (λ o. running o j i s) live
-    ∙ ap (λ x. fetched (first_half x (fetch_at (place i s.core.pc) i s.ram) al k) j i s) first
+    ∙ ap (λ x. fetched (first_half x (fetch_at (location i s.core.pc) i s.ram) al k) j i s) first
     ∙ ap (λ o. fetched (first_half true o al k) j i s) is
     ∙ ap (λ b. fetched (by_size b al k h) j i s) long
     ∙ ap (λ x. fetched (by_size false x k h) j i s) may

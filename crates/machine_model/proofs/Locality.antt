@@ -12,10 +12,10 @@ use Rattle.machine_devices.specs.declared.image.Image.{Image}
 use Rattle.base_events.specs.declared.event.Event.{Event}
 use Rattle.machine_devices.specs.Input.{queue}
 use Rattle.machine_devices.specs.Rules.{ObeysRules}
-use Rattle.machine_bus.specs.Places.{Place, InRam, InFlash, InWindow, Nowhere, place}
+use Rattle.machine_bus.specs.Locations.{Location, InRam, InFlash, InWindow, Nowhere, location}
 use Rattle.machine_bus.specs.Bus.{load_at, input, store_at, put_at, word_at, fetch_at}
 use Rattle.machine_bus.specs.Memory.{compartment_of}
-use Rattle.machine_bus.proofs.Addresses.{place-monitor}
+use Rattle.machine_bus.proofs.Addresses.{location-monitor}
 use Rattle.machine_bus.proofs.Offsets.{ram_at}
 use Rattle.machine_bus.proofs.Lengths.{length-put_at}
 use Rattle.machine_model.specs.declared.state.CoreRegisters.{CoreRegisters}
@@ -49,27 +49,27 @@ use Rattle.machine_model.proofs.Tested.{verdict_to_system}
 -- ---- several words
 
 hit_put : (i : Image) (a v : ℕ) (m n : List ℕ) (k : ℕ) → length n ≡ length m → Hits i k (record { width = 4; address = a }) →
-    get_or (put_at (place i a) 4 v n) k 0 ≡ get_or (put_at (place i a) 4 v m) k 0
-hit_put i a v m n k l h = put_hits (place i a) 4 v h.offset m n k l h.is_at h.from h.before
+    get_or (put_at (location i a) 4 v n) k 0 ≡ get_or (put_at (location i a) 4 v m) k 0
+hit_put i a v m n k l h = put_hits (location i a) 4 v h.offset m n k l h.is_at h.from h.before
 
 pushes_keep : (i : Image) (vs : List ℕ) (a : ℕ) (m n : List ℕ) (k : ℕ) → length n ≡ length m → get_or n k 0 ≡ get_or m k 0 →
     get_or (push_words i a vs n) k 0 ≡ get_or (push_words i a vs m) k 0
 unfolding push_words
 pushes_keep i [] a m n k l h = h
 pushes_keep i (v ∷ vs) a m n k l h =
-    pushes_keep i vs (word (a + 4)) (put_at (place i a) 4 v m) (put_at (place i a) 4 v n) k (put_lengths (place i a) 4 v m n l) (put_keeps (place i a) 4 v m n k l h)
+    pushes_keep i vs (word (a + 4)) (put_at (location i a) 4 v m) (put_at (location i a) 4 v n) k (put_lengths (location i a) 4 v m n l) (put_keeps (location i a) 4 v m n k l h)
 
 pushes_hit : (i : Image) (vs : List ℕ) (a : ℕ) (m n : List ℕ) (k : ℕ) → length n ≡ length m → AnyOf (Hits i k) (words_from a (length vs)) →
     get_or (push_words i a vs n) k 0 ≡ get_or (push_words i a vs m) k 0
 unfolding push_words words_from
 pushes_hit i [] a m n k l h = absurd h
 pushes_hit i (v ∷ vs) a m n k l (inl h) =
-    pushes_keep i vs (word (a + 4)) (put_at (place i a) 4 v m) (put_at (place i a) 4 v n) k (put_lengths (place i a) 4 v m n l) (hit_put i a v m n k l h)
+    pushes_keep i vs (word (a + 4)) (put_at (location i a) 4 v m) (put_at (location i a) 4 v n) k (put_lengths (location i a) 4 v m n l) (hit_put i a v m n k l h)
 pushes_hit i (v ∷ vs) a m n k l (inr h) =
-    pushes_hit i vs (word (a + 4)) (put_at (place i a) 4 v m) (put_at (place i a) 4 v n) k (put_lengths (place i a) 4 v m n l) h
+    pushes_hit i vs (word (a + 4)) (put_at (location i a) 4 v m) (put_at (location i a) 4 v n) k (put_lengths (location i a) 4 v m n l) h
 
 -- RAM ends below the system control space
-ram_not_system : (i : Image) (a o : ℕ) → ObeysRules i → place i a ≡ InRam o → in_system a ≡ true → ⊥
+ram_not_system : (i : Image) (a o : ℕ) → ObeysRules i → location i a ≡ InRam o → in_system a ≡ true → ⊥
 ram_not_system i a o r e s =
     let p = ram_at i a o e in
     let high : i.ram_base ≤ 0x3FF00000 = r.ram_highest in
@@ -85,13 +85,13 @@ module _ (i : Image) (a v : ℕ) (vs : List ℕ) where
   one_state : (b : Bool) (s : State) (n : List ℕ) → ((t : State) (m : List ℕ) → SameBut (put_words i (word (a + 4)) vs t) (put_words i (word (a + 4)) vs (record t { ram = m }))) →
       SameBut (put_words i (word (a + 4)) vs (word_to b i a v s)) (put_words i (word (a + 4)) vs (word_to b i a v (record s { ram = n })))
   one_state true s n ih = ih (write_system a v s) n
-  one_state false s n ih = ih (record s { ram = put_at (place i a) 4 v s.ram }) (put_at (place i a) 4 v n)
+  one_state false s n ih = ih (record s { ram = put_at (location i a) 4 v s.ram }) (put_at (location i a) 4 v n)
 
   one_keeps : (b : Bool) (s : State) (n : List ℕ) (k : ℕ) → length n ≡ length s.ram → get_or n k 0 ≡ get_or s.ram k 0 →
       ((t : State) (m : List ℕ) → length m ≡ length t.ram → get_or m k 0 ≡ get_or t.ram k 0 → get_or (put_words i (word (a + 4)) vs (record t { ram = m })).ram k 0 ≡ get_or (put_words i (word (a + 4)) vs t).ram k 0) →
       get_or (put_words i (word (a + 4)) vs (word_to b i a v (record s { ram = n }))).ram k 0 ≡ get_or (put_words i (word (a + 4)) vs (word_to b i a v s)).ram k 0
   one_keeps true s n k l h ih = ih (write_system a v s) n l h
-  one_keeps false s n k l h ih = ih (record s { ram = put_at (place i a) 4 v s.ram }) (put_at (place i a) 4 v n) (put_lengths (place i a) 4 v s.ram n l) (put_keeps (place i a) 4 v s.ram n k l h)
+  one_keeps false s n k l h ih = ih (record s { ram = put_at (location i a) 4 v s.ram }) (put_at (location i a) 4 v n) (put_lengths (location i a) 4 v s.ram n l) (put_keeps (location i a) 4 v s.ram n k l h)
 
 words_state : (i : Image) (vs : List ℕ) (a : ℕ) (s : State) (n : List ℕ) → SameBut (put_words i a vs s) (put_words i a vs (record s { ram = n }))
 unfolding put_words
@@ -109,13 +109,13 @@ module _ (i : Image) (r : ObeysRules i) (a v : ℕ) (vs : List ℕ) where
       get_or (put_words i (word (a + 4)) vs (word_to b i a v (record s { ram = n }))).ram k 0 ≡ get_or (put_words i (word (a + 4)) vs (word_to b i a v s)).ram k 0
   first_hit true e s n k l h = absurd (ram_not_system i a h.offset r h.is_at e)
   first_hit false e s n k l h =
-      words_keep i vs (word (a + 4)) (record s { ram = put_at (place i a) 4 v s.ram }) (put_at (place i a) 4 v n) k (put_lengths (place i a) 4 v s.ram n l) (hit_put i a v s.ram n k l h)
+      words_keep i vs (word (a + 4)) (record s { ram = put_at (location i a) 4 v s.ram }) (put_at (location i a) 4 v n) k (put_lengths (location i a) 4 v s.ram n l) (hit_put i a v s.ram n k l h)
 
   later_hit : (b : Bool) (s : State) (n : List ℕ) (k : ℕ) → length n ≡ length s.ram →
       ((t : State) (m : List ℕ) → length m ≡ length t.ram → get_or (put_words i (word (a + 4)) vs (record t { ram = m })).ram k 0 ≡ get_or (put_words i (word (a + 4)) vs t).ram k 0) →
       get_or (put_words i (word (a + 4)) vs (word_to b i a v (record s { ram = n }))).ram k 0 ≡ get_or (put_words i (word (a + 4)) vs (word_to b i a v s)).ram k 0
   later_hit true s n k l ih = ih (write_system a v s) n l
-  later_hit false s n k l ih = ih (record s { ram = put_at (place i a) 4 v s.ram }) (put_at (place i a) 4 v n) (put_lengths (place i a) 4 v s.ram n l)
+  later_hit false s n k l ih = ih (record s { ram = put_at (location i a) 4 v s.ram }) (put_at (location i a) 4 v n) (put_lengths (location i a) 4 v s.ram n l)
 
 words_hit : (i : Image) → ObeysRules i → (vs : List ℕ) (a : ℕ) (s : State) (n : List ℕ) (k : ℕ) → length n ≡ length s.ram → AnyOf (Hits i k) (words_from a (length vs)) →
     get_or (put_words i a vs (record s { ram = n })).ram k 0 ≡ get_or (put_words i a vs s).ram k 0
@@ -131,12 +131,12 @@ words_length i (v ∷ vs) a s = words_length i vs (word (a + 4)) (word_to (in_sy
   where
     one : (b : Bool) → length (word_to b i a v s).ram ≡ length s.ram
     one true = refl
-    one false = length-put_at (place i a) 4 v s.ram
+    one false = length-put_at (location i a) 4 v s.ram
 
 module _ (i : Image) (s : State) (other : List ℕ) where
   word_same : (b : Bool) (a : ℕ) → Agree i s.ram other (record { width = 4; address = a }) → word_from b i a (record s { ram = other }) ≡ word_from b i a s
   word_same true a h = refl
-  word_same false a h = word_agrees i s.ram other (place i a) a refl h
+  word_same false a h = word_agrees i s.ram other (location i a) a refl h
 
   got_same : (n a : ℕ) → Each (Agree i s.ram other) (words_from a n) → get_words i a n (record s { ram = other }) ≡ get_words i a n s
   unfolding get_words words_from
@@ -149,14 +149,14 @@ module _ (i : Image) (s : State) (other : List ℕ) where
   unfolding stacked_words words_from
   stacked_same zero a h = refl
   stacked_same (suc n) a h =
-      ap (λ w. w ∷ stacked_words i (word (a + 4)) n other) (word_agrees i s.ram other (place i a) a refl h.0)
-      ∙ ap (λ ws. word_at (place i a) i s.ram ∷ ws) (stacked_same n (word (a + 4)) h.1)
+      ap (λ w. w ∷ stacked_words i (word (a + 4)) n other) (word_agrees i s.ram other (location i a) a refl h.0)
+      ∙ ap (λ ws. word_at (location i a) i s.ram ∷ ws) (stacked_same n (word (a + 4)) h.1)
 
   compartment_same : ObeysRules i → (i.monitor ≢ 0 → Agree i s.ram other (record { width = 4; address = i.monitor })) → compartment_of i other ≡ compartment_of i s.ram
   compartment_same r h =
       ⊎_elim
       (λ t. let e : nat_eq i.monitor 0 ≡ true = t.0 in rw e refl)
-      (λ t. ap (λ (w : ℕ). if nat_eq i.monitor 0 then 0 else w) (read_agrees i s.ram other 4 i.monitor (i.monitor - i.ram_base) (h t.1) (place-monitor i r t.1)))
+      (λ t. ap (λ (w : ℕ). if nat_eq i.monitor 0 then 0 else w) (read_agrees i s.ram other 4 i.monitor (i.monitor - i.ram_base) (h t.1) (location-monitor i r t.1)))
       (eqb_tells i.monitor 0)
 
 -- ---- one turn
@@ -216,7 +216,7 @@ module _ (j : PermissionTest) (i : Image) (r : ObeysRules i) (s : State) (other 
       written = λ k x. absurd x;
     }
 
-    loaded_same : (p : Place) → place i a ≡ p → Agrees (loaded (load_at p i s.ram s.queues w) i w a s go) →
+    loaded_same : (p : Location) → location i a ≡ p → Agrees (loaded (load_at p i s.ram s.queues w) i w a s go) →
         Local i other (loaded (load_at p i s.ram s.queues w) i w a s go) (loaded (load_at p i other s.queues w) i w a (record s { ram = other }) go)
     loaded_same (InRam o) e h =
         let same : read w o other ≡ read w o s.ram = read_agrees i s.ram other w a o h.loads.0 e in
@@ -226,20 +226,20 @@ module _ (j : PermissionTest) (i : Image) (r : ObeysRules i) (s : State) (other 
     loaded_same Nowhere e h = calm_same _ _ _
 
     load_same : (v : Verdict) → Agrees (after_load v j i w a s go) → Local i other (after_load v j i w a s go) (after_load v j i w a (record s { ram = other }) go)
-    load_same ToBus h = loaded_same (place i a) refl h
+    load_same ToBus h = loaded_same (location i a) refl h
     load_same ToSystem h = calm_same _ _ _
     load_same Refused h = fault_same s.protection.handler (is_fault_enabled s.status) _
     load_same (Bad x) h = calm_same _ _ _
 
   module _ (w a v : ℕ) (c : CoreRegisters) where
-    stored_same : (p : Place) → place i a ≡ p → Agrees (stored (store_at p) i w a v s c) → Local i other (stored (store_at p) i w a v s c) (stored (store_at p) i w a v (record s { ram = other }) c)
+    stored_same : (p : Location) → location i a ≡ p → Agrees (stored (store_at p) i w a v s c) → Local i other (stored (store_at p) i w a v s c) (stored (store_at p) i w a v (record s { ram = other }) c)
     stored_same (InRam o) e h = record {
       stores = refl;
       loads = refl;
       event = refl;
       to = refl;
-      size = length-put_at (place i a) w v other;
-      written = λ k. ⊎_elim (λ x. put_hits (place i a) w v x.offset s.ram other k size x.is_at x.from x.before) (λ x. absurd x);
+      size = length-put_at (location i a) w v other;
+      written = λ k. ⊎_elim (λ x. put_hits (location i a) w v x.offset s.ram other k size x.is_at x.from x.before) (λ x. absurd x);
     }
     stored_same (InFlash o) e h = calm_same _ _ _
     stored_same (InWindow p o) e h = record {
@@ -248,7 +248,7 @@ module _ (j : PermissionTest) (i : Image) (r : ObeysRules i) (s : State) (other 
       event = ap (λ (m : ℕ). Some (record { compartment = m; periph = p; offset = o; width = w; write = true; value = cut w v })) (compartment_same i s other r (h.compartment _ refl));
       to = refl;
       size = refl;
-      written = λ k. ⊎_elim (λ x. let is : place i a ≡ InRam x.offset = x.is_at in absurd (window_not_ram (sym e ∙ is))) (λ x. absurd x);
+      written = λ k. ⊎_elim (λ x. let is : location i a ≡ InRam x.offset = x.is_at in absurd (window_not_ram (sym e ∙ is))) (λ x. absurd x);
     }
       where
         window_not_ram : {q : ℕ} → InWindow p o ≡ InRam q → ⊥
@@ -256,7 +256,7 @@ module _ (j : PermissionTest) (i : Image) (r : ObeysRules i) (s : State) (other 
     stored_same Nowhere e h = calm_same _ _ _
 
     store_same : (d : Verdict) → verdict j s.protection Write w a ≡ d → Agrees (after_store d j i w a v s c) → Local i other (after_store d j i w a v s c) (after_store d j i w a v (record s { ram = other }) c)
-    store_same ToBus e h = stored_same (place i a) refl h
+    store_same ToBus e h = stored_same (location i a) refl h
     store_same ToSystem e h = record {
       stores = refl;
       loads = refl;
@@ -360,7 +360,7 @@ module _ (j : PermissionTest) (i : Image) (r : ObeysRules i) (s : State) (other 
 
 -- ---- the fetch
 
-half_agrees : (i : Image) (ram other : List ℕ) (p : Place) (a : ℕ) → place i a ≡ p → Agree i ram other (record { width = 2; address = a }) → fetch_at p i other ≡ fetch_at p i ram
+half_agrees : (i : Image) (ram other : List ℕ) (p : Location) (a : ℕ) → location i a ≡ p → Agree i ram other (record { width = 2; address = a }) → fetch_at p i other ≡ fetch_at p i ram
 half_agrees i ram other (InRam o) a e h = ap Some (read_agrees i ram other 2 a o h e)
 half_agrees i ram other (InFlash o) a e h = refl
 half_agrees i ram other (InWindow k o) a e h = refl
@@ -387,10 +387,10 @@ first_same true o p al2 q e = ap (λ x. first_half true x al2 q) (e refl)
 fetch_same : (j : PermissionTest) (i : Image) (s : State) (other : List ℕ) → AgreeOnReads j i s other → fetch j i (record s { ram = other }) ≡ fetch j i s
 unfolding fetch
 fetch_same j i s other g =
-    first_same (j s.protection Fetch s.core.pc) (fetch_at (place i s.core.pc) i other) (fetch_at (place i s.core.pc) i s.ram) (j s.protection Fetch (s.core.pc + 2)) (fetch_at (place i (s.core.pc + 2)) i other)
-    (λ may. half_agrees i s.ram other (place i s.core.pc) s.core.pc refl (g.first may))
-    ∙ halves_same (j s.protection Fetch s.core.pc) (fetch_at (place i s.core.pc) i s.ram) (j s.protection Fetch (s.core.pc + 2)) (fetch_at (place i (s.core.pc + 2)) i other) (fetch_at (place i (s.core.pc + 2)) i s.ram)
-    (λ h may is long second. half_agrees i s.ram other (place i (s.core.pc + 2)) (s.core.pc + 2) refl (g.second h (record { permitted = may; is_half = is }) long second))
+    first_same (j s.protection Fetch s.core.pc) (fetch_at (location i s.core.pc) i other) (fetch_at (location i s.core.pc) i s.ram) (j s.protection Fetch (s.core.pc + 2)) (fetch_at (location i (s.core.pc + 2)) i other)
+    (λ may. half_agrees i s.ram other (location i s.core.pc) s.core.pc refl (g.first may))
+    ∙ halves_same (j s.protection Fetch s.core.pc) (fetch_at (location i s.core.pc) i s.ram) (j s.protection Fetch (s.core.pc + 2)) (fetch_at (location i (s.core.pc + 2)) i other) (fetch_at (location i (s.core.pc + 2)) i s.ram)
+    (λ h may is long second. half_agrees i s.ram other (location i (s.core.pc + 2)) (s.core.pc + 2) refl (g.second h (record { permitted = may; is_half = is }) long second))
 
 -- ---- the step
 

@@ -6,7 +6,7 @@ use Rattle.std.proofs.Math.ListN.{get_or}
 use Rattle.base_words.specs.Bytes.{read, write}
 use Rattle.base_words.proofs.Bytes.{read_alike}
 use Rattle.machine_devices.specs.declared.image.Image.{Image}
-use Rattle.machine_bus.specs.Places.{Place, InRam, InFlash, InWindow, Nowhere, place}
+use Rattle.machine_bus.specs.Locations.{Location, InRam, InFlash, InWindow, Nowhere, location}
 use Rattle.machine_bus.specs.Bus.{word_at, put_at}
 use Rattle.machine_bus.proofs.Lengths.{length-put_at}
 use Rattle.machine_model.specs.Locality.{Agree}
@@ -48,26 +48,26 @@ write_hits (suc w) o v m n k l f h =
     (λ at. let other : k ≢ o = at.1 in write_hits w (o + 1) (v / 256) (slice_set m o b) (slice_set n o b) k p (omega (arith, f, other)) (omega (arith, h)))
     (eqb_tells k o)
 
-pub put_lengths : (p : Place) (w v : ℕ) (m n : List ℕ) → length n ≡ length m → length (put_at p w v n) ≡ length (put_at p w v m)
+pub put_lengths : (p : Location) (w v : ℕ) (m n : List ℕ) → length n ≡ length m → length (put_at p w v n) ≡ length (put_at p w v m)
 put_lengths p w v m n l = length-put_at p w v n ∙ l ∙ sym (length-put_at p w v m)
 
 -- a byte that is the same stays so, and a byte that is written becomes so
-pub put_keeps : (p : Place) (w v : ℕ) (m n : List ℕ) (k : ℕ) → length n ≡ length m → get_or n k 0 ≡ get_or m k 0 → get_or (put_at p w v n) k 0 ≡ get_or (put_at p w v m) k 0
+pub put_keeps : (p : Location) (w v : ℕ) (m n : List ℕ) (k : ℕ) → length n ≡ length m → get_or n k 0 ≡ get_or m k 0 → get_or (put_at p w v n) k 0 ≡ get_or (put_at p w v m) k 0
 put_keeps (InRam o) w v m n k l h = write_keeps w o v m n k l h
 put_keeps (InFlash o) w v m n k l h = h
 put_keeps (InWindow p o) w v m n k l h = h
 put_keeps Nowhere w v m n k l h = h
 
-pub put_hits : (p : Place) (w v o : ℕ) (m n : List ℕ) (k : ℕ) → length n ≡ length m → p ≡ InRam o → o ≤ k → k < o + w → get_or (put_at p w v n) k 0 ≡ get_or (put_at p w v m) k 0
+pub put_hits : (p : Location) (w v o : ℕ) (m n : List ℕ) (k : ℕ) → length n ≡ length m → p ≡ InRam o → o ≤ k → k < o + w → get_or (put_at p w v n) k 0 ≡ get_or (put_at p w v m) k 0
 put_hits p w v o m n k l e f h = rw e (write_hits w o v m n k l f h)
 
 -- ---- reads
 
 module _ (i : Image) (ram other : List ℕ) where
-  pub read_agrees : (w a o : ℕ) → Agree i ram other (record { width = w; address = a }) → place i a ≡ InRam o → read w o other ≡ read w o ram
+  pub read_agrees : (w a o : ℕ) → Agree i ram other (record { width = w; address = a }) → location i a ≡ InRam o → read w o other ≡ read w o ram
   read_agrees w a o h e = read_alike w o other ram (h o e)
 
-  pub word_agrees : (p : Place) (a : ℕ) → place i a ≡ p → Agree i ram other (record { width = 4; address = a }) → word_at p i other ≡ word_at p i ram
+  pub word_agrees : (p : Location) (a : ℕ) → location i a ≡ p → Agree i ram other (record { width = 4; address = a }) → word_at p i other ≡ word_at p i ram
   word_agrees (InRam o) a e h = read_agrees 4 a o h e
   word_agrees (InFlash o) a e h = refl
   word_agrees (InWindow k o) a e h = refl

@@ -8,7 +8,7 @@ use Rattle.machine_protection.specs.declared.region.Region.{Region}
 use Rattle.machine_protection.specs.Registers.{Registers, blank, selected, with_address, with_attributes, write_address, write_register, read_register, read_address, kept_address, kept_attributes}
 use Rattle.machine_protection.specs.declared.TheConstants.{MPU_TYPE, MPU_CTRL, MPU_RNR, MPU_RBAR, MPU_RASR}
 use Rattle.machine_devices.specs.declared.image.Image.{Image}
-use Rattle.machine_bus.specs.Places.{Place, InRam, InFlash, InWindow, Nowhere, choose}
+use Rattle.machine_bus.specs.Locations.{Location, InRam, InFlash, InWindow, Nowhere, choose}
 use Rattle.machine_bus.specs.Bus.{word_at}
 use Rattle.machine_model.specs.declared.TheConstants.{CCR, SHCSR, CFSR, MMFAR}
 use Rattle.machine_model.specs.declared.state.CoreRegisters.{CoreRegisters}
@@ -117,7 +117,7 @@ read_system_fits count a p t few u h = choose_below _ (read_register a p.mpu) (r
 
 -- ---- memory
 
-pub word_fits : (p : Place) (i : Image) (ram : List ℕ) → word_at p i ram < 2 ^ 32
+pub word_fits : (p : Location) (i : Image) (ram : List ℕ) → word_at p i ram < 2 ^ 32
 word_fits (InRam o) i ram = let h = read_fits 4 o ram in h
 word_fits (InFlash o) i ram = let h = read_fits 4 o i.flash in h
 word_fits (InWindow k o) i ram = omega arith

@@ -20,7 +20,7 @@ use Rattle.machine_bus.specs.declared.answer.Loaded.{Loaded}
 use Rattle.machine_bus.specs.declared.answer.Loaded.TheVariants.{Value, Device, NoInput, Unmapped}
 use Rattle.machine_bus.specs.declared.answer.Stored.{Stored}
 use Rattle.machine_bus.specs.declared.answer.Stored.TheVariants.{Done, Device as Taken, Unmapped as NotTaken}
-use Rattle.machine_bus.specs.Places.{is_memory, Place, InRam, InFlash, InWindow, Nowhere, place, choose}
+use Rattle.machine_bus.specs.Locations.{is_memory, Location, InRam, InFlash, InWindow, Nowhere, location, choose}
 use Rattle.machine_bus.specs.Bus.{load_at, store_at, put_at, input}
 use Rattle.machine_bus.proofs.Lengths.{length-put_at}
 use Rattle.machine_devices.specs.Input.{taken, queue}
@@ -78,7 +78,7 @@ input_fits : (us : List ℕ) (k o w : ℕ) → w ≤ 4 → LoadedFits (input us 
 input_fits [] k o w h = tt
 input_fits (u ∷ us) k o w h = cut_fits w u h
 
-load_at_fits : (p : Place) (i : Image) (ram : List ℕ) (queues : List (List ℕ)) (w : ℕ) → w ≤ 4 → LoadedFits (load_at p i ram queues w)
+load_at_fits : (p : Location) (i : Image) (ram : List ℕ) (queues : List (List ℕ)) (w : ℕ) → w ≤ 4 → LoadedFits (load_at p i ram queues w)
 load_at_fits (InRam o) i ram queues w h = value_fits w o ram h
 load_at_fits (InFlash o) i ram queues w h = value_fits w o i.flash h
 load_at_fits (InWindow k o) i ram queues w h = input_fits (queue queues k) k o w h
@@ -93,7 +93,7 @@ module _ (i : Image) where
   taken_fits : (s : State) (c : CoreRegisters) (k : ℕ) → StateFits i s → CoreFits c → StateFits i (record s { core = c; queues = taken s.queues k })
   taken_fits s c k h f = record { core = f; status = h.status; unit = h.unit; ram_count = h.ram_count; queue_count = length-set s.queues k _ ∙ h.queue_count }
 
-  stored_in_ram_fits : (s : State) (c : CoreRegisters) (p : Place) (w v : ℕ) → StateFits i s → CoreFits c → StateFits i (record s { core = c; ram = put_at p w v s.ram })
+  stored_in_ram_fits : (s : State) (c : CoreRegisters) (p : Location) (w v : ℕ) → StateFits i s → CoreFits c → StateFits i (record s { core = c; ram = put_at p w v s.ram })
   stored_in_ram_fits s c p w v h f = record { core = f; status = h.status; unit = h.unit; ram_count = length-put_at p w v s.ram ∙ h.ram_count; queue_count = h.queue_count }
 
   -- ---- exceptions
@@ -101,7 +101,7 @@ module _ (i : Image) where
   pub pushed_length : (vs : List ℕ) (a : ℕ) (ram : List ℕ) → length (push_words i a vs ram) ≡ length ram
   unfolding push_words
   pushed_length [] a ram = refl
-  pushed_length (v ∷ vs) a ram = pushed_length vs (word (a + 4)) (put_at (place i a) 4 v ram) ∙ length-put_at (place i a) 4 v ram
+  pushed_length (v ∷ vs) a ram = pushed_length vs (word (a + 4)) (put_at (location i a) 4 v ram) ∙ length-put_at (location i a) 4 v ram
 
   vector_fits : (n : ℕ) → vector i n < 2 ^ 32
   vector_fits n = let h = read_fits 4 (4 * n) i.flash in omega arith
@@ -160,7 +160,7 @@ module _ (i : Image) where
   stacked_fit : (n a : ℕ) (ram : List ℕ) → EachWord (stacked_words i a n ram)
   unfolding stacked_words
   stacked_fit zero a ram k = omega arith
-  stacked_fit (suc n) a ram zero = word_fits (place i a) i ram
+  stacked_fit (suc n) a ram zero = word_fits (location i a) i ram
   stacked_fit (suc n) a ram (suc k) = stacked_fit n (word (a + 4)) ram k
 
   pad_word : (b : Bool) (sp : ℕ) → sp < 2 ^ 32 → sp % 4 ≡ 0 → with_pad b sp < 2 ^ 32
@@ -208,18 +208,18 @@ module _ (i : Image) where
     loaded_fits Unmapped w a s go f h g = ended_fits _ s h
 
     after_load_fits : (v : Verdict) (j : PermissionTest) (w a : ℕ) (s : State) (go : ℕ → CoreRegisters) → StateFits i s → w ≤ 4 → a < 2 ^ 32 → ((v : ℕ) → v < 2 ^ 32 → CoreFits (go v)) → StateFits i (after_load v j i w a s go).to
-    after_load_fits ToBus j w a s go h l f g = loaded_fits (load_at (place i a) i s.ram s.queues w) w a s go (load_at_fits (place i a) i s.ram s.queues w l) h g
+    after_load_fits ToBus j w a s go h l f g = loaded_fits (load_at (location i a) i s.ram s.queues w) w a s go (load_at_fits (location i a) i s.ram s.queues w l) h g
     after_load_fits ToSystem j w a s go h l f g = with_core_fits i s (go (read_system a s.protection s.status)) h (g (read_system a s.protection s.status) (read_system_fits i.regions a s.protection s.status few h.unit h.status))
     after_load_fits Refused j w a s go h l f g = data_fault_fits j a s h f
     after_load_fits (Bad r) j w a s go h l f g = ended_fits _ s h
 
     stored_fits : (l : Stored) (w a v : ℕ) (s : State) (c : CoreRegisters) → StateFits i s → CoreFits c → StateFits i (stored l i w a v s c).to
-    stored_fits Done w a v s c h f = stored_in_ram_fits s c (place i a) w v h f
+    stored_fits Done w a v s c h f = stored_in_ram_fits s c (location i a) w v h f
     stored_fits (Taken k o) w a v s c h f = with_core_fits i s c h f
     stored_fits NotTaken w a v s c h f = ended_fits _ s h
 
     after_store_fits : (d : Verdict) (j : PermissionTest) (w a v : ℕ) (s : State) (c : CoreRegisters) → StateFits i s → a < 2 ^ 32 → v < 2 ^ 32 → CoreFits c → StateFits i (after_store d j i w a v s c).to
-    after_store_fits ToBus j w a v s c h f g k = stored_fits (store_at (place i a)) w a v s c h k
+    after_store_fits ToBus j w a v s c h f g k = stored_fits (store_at (location i a)) w a v s c h k
     after_store_fits ToSystem j w a v s c h f g k = write_system_fits i a v (with_core s c) (with_core_fits i s c h k) g
     after_store_fits Refused j w a v s c h f g k = data_fault_fits j a s h f
     after_store_fits (Bad r) j w a v s c h f g k = ended_fits _ s h
@@ -228,7 +228,7 @@ module _ (i : Image) where
 
     word_from_fits : (b : Bool) (a : ℕ) (s : State) → StateFits i s → word_from b i a s < 2 ^ 32
     word_from_fits true a s h = read_system_fits i.regions a s.protection s.status few h.unit h.status
-    word_from_fits false a s h = word_fits (place i a) i s.ram
+    word_from_fits false a s h = word_fits (location i a) i s.ram
 
     got_fit : (n a : ℕ) (s : State) → StateFits i s → AreWords (get_words i a n s)
     unfolding get_words
@@ -237,7 +237,7 @@ module _ (i : Image) where
 
     word_to_fits : (b : Bool) (a v : ℕ) (s : State) → StateFits i s → v < 2 ^ 32 → StateFits i (word_to b i a v s)
     word_to_fits true a v s h f = write_system_fits i a v s h f
-    word_to_fits false a v s h f = with_ram_fits i s (put_at (place i a) 4 v s.ram) h (length-put_at (place i a) 4 v s.ram)
+    word_to_fits false a v s h f = with_ram_fits i s (put_at (location i a) 4 v s.ram) h (length-put_at (location i a) 4 v s.ram)
 
     put_fit : (vs : List ℕ) (a : ℕ) (s : State) → StateFits i s → AreWords vs → StateFits i (put_words i a vs s)
     unfolding put_words
@@ -265,7 +265,7 @@ module _ (i : Image) where
     verdicts_fit : (j : PermissionTest) (p : ProtectionState) (kind : Access) (n a : ℕ) → a < 2 ^ 32 → VerdictsFit (verdicts j i p kind a n)
     unfolding verdicts
     verdicts_fit j p kind zero a h = tt
-    verdicts_fit j p kind (suc n) a h = and_then_fits (verdict j p kind 4 a) (is_memory kind (place i a)) a (verdicts j i p kind (word (a + 4)) n) h (verdicts_fit j p kind n (word (a + 4)) (omega arith))
+    verdicts_fit j p kind (suc n) a h = and_then_fits (verdict j p kind 4 a) (is_memory kind (location i a)) a (verdicts j i p kind (word (a + 4)) n) h (verdicts_fit j p kind n (word (a + 4)) (omega arith))
 
     after_loads_fits : (v : Verdicts) (j : PermissionTest) (a n : ℕ) (s : State) (go : List ℕ → Option CoreRegisters) → VerdictsFit v → StateFits i s → ((vs : List ℕ) → AreWords vs → MaybeFits (go vs)) → StateFits i (after_loads v j i a n s go).to
     after_loads_fits AllGood j a n s go f h g = or_usage_fits (go (get_words i a n s)) a n s h (g (get_words i a n s) (got_fit n a s h))

@@ -2,7 +2,7 @@ use Rattle.std.proofs.Common.{◌≡◌, ℕ, zero, suc, ◌+◌, ◌*◌, ◌<�
 use Rattle.base_words.specs.Arithmetic.{word}
 use Rattle.base_words.specs.Bytes.{read}
 use Rattle.machine_devices.specs.declared.image.Image.{Image}
-use Rattle.machine_bus.specs.Places.{InRam, place}
+use Rattle.machine_bus.specs.Locations.{InRam, location}
 use Rattle.machine_bus.proofs.Offsets.{in_ram}
 use Rattle.machine_model.specs.Exceptions.{stacked_words}
 use Rattle.machine_model.specs.Stack.{Words, words_at}
@@ -23,7 +23,7 @@ behind i a o n w =
     let e : word (a + 4) ≡ a + 4 = omega (arith, w.is_at, w.fits, w.low) in
     rw e (record { is_at = omega (arith, w.is_at); aligned = omega (arith, w.aligned); fits = omega (arith, w.fits); low = w.low })
 
-pub head_place : (i : Image) (a o n : ℕ) → Words i a o (suc n) → place i a ≡ InRam o
+pub head_place : (i : Image) (a o n : ℕ) → Words i a o (suc n) → location i a ≡ InRam o
 head_place i a o n w = in_ram i a o w.is_at (omega (arith, w.fits))
 
 pub stacked_are : (i : Image) (n a o : ℕ) (ram : List ℕ) → Words i a o n → stacked_words i a n ram ≡ words_at n o ram

@@ -8,7 +8,7 @@ use Rattle.machine_model.specs.Confinement.{Misses}
 use Rattle.base_laws.specs.Lists.{Each}
 use Rattle.machine_protection.specs.declared.region.Access.{Access}
 use Rattle.machine_devices.specs.declared.image.Image.{Image}
-use Rattle.machine_bus.specs.Places.{Place, InRam, InFlash, InWindow, Nowhere, place, is_memory, choose}
+use Rattle.machine_bus.specs.Locations.{Location, InRam, InFlash, InWindow, Nowhere, location, is_memory, choose}
 use Rattle.machine_bus.specs.Bus.{put_at}
 use Rattle.machine_model.specs.declared.state.ProtectionState.{ProtectionState}
 use Rattle.machine_model.specs.State.{PermissionTest, is_unprivileged}
@@ -90,7 +90,7 @@ module _ (j : PermissionTest) (i : Image) (p : ProtectionState) (kind : Access) 
   FirstOf a n y = IsFirstRefused j i p kind (words_from a n) y
 
   first_of_words : (a n y : ℕ) (rest : Verdicts) → (rest ≡ RefusedAt y → FirstOf (word (a + 4)) n y) →
-      (v : Verdict) (memory : Bool) → verdict j p kind 4 a ≡ v → is_memory kind (place i a) ≡ memory → and_then v memory a rest ≡ RefusedAt y → FirstOf a (suc n) y
+      (v : Verdict) (memory : Bool) → verdict j p kind 4 a ≡ v → is_memory kind (location i a) ≡ memory → and_then v memory a rest ≡ RefusedAt y → FirstOf a (suc n) y
   unfolding words_from
   first_of_words a n y rest ih ToBus true e m f =
       let b = verdict_to_bus j p kind 4 a e in
@@ -109,11 +109,11 @@ module _ (j : PermissionTest) (i : Image) (p : ProtectionState) (kind : Access) 
   first_refused_word zero a y e = cc
   first_refused_word (suc n) a y e =
       first_of_words a n y (verdicts j i p kind (word (a + 4)) n) (first_refused_word n (word (a + 4)) y)
-      (verdict j p kind 4 a) (is_memory kind (place i a)) refl refl e
+      (verdict j p kind 4 a) (is_memory kind (location i a)) refl refl e
 
 -- ---- bytes that lie outside stores
 
-pub put_kept : (l : Place) (w v : ℕ) (ram : List ℕ) (k : ℕ) → ((o : ℕ) → l ≡ InRam o → (k < o) ⊎ (o + w ≤ k)) → get_or (put_at l w v ram) k 0 ≡ get_or ram k 0
+pub put_kept : (l : Location) (w v : ℕ) (ram : List ℕ) (k : ℕ) → ((o : ℕ) → l ≡ InRam o → (k < o) ⊎ (o + w ≤ k)) → get_or (put_at l w v ram) k 0 ≡ get_or ram k 0
 put_kept (InRam o) w v ram k h = byte_apart w o v ram k (λ n lt e. ⊎_elim (λ x. omega arith) (λ x. omega arith) (h o refl))
 put_kept (InFlash o) w v ram k h = refl
 put_kept (InWindow p o) w v ram k h = refl
@@ -122,7 +122,7 @@ put_kept Nowhere w v ram k h = refl
 pub push_kept : (i : Image) (vs : List ℕ) (a : ℕ) (ram : List ℕ) (k : ℕ) → Each (Misses i k) (words_from a (length vs)) → get_or (push_words i a vs ram) k 0 ≡ get_or ram k 0
 unfolding push_words words_from
 push_kept i [] a ram k h = refl
-push_kept i (v ∷ vs) a ram k h = push_kept i vs (word (a + 4)) (put_at (place i a) 4 v ram) k h.1 ∙ put_kept (place i a) 4 v ram k h.0
+push_kept i (v ∷ vs) a ram k h = push_kept i vs (word (a + 4)) (put_at (location i a) 4 v ram) k h.1 ∙ put_kept (location i a) 4 v ram k h.0
 
 -- ---- frames
 

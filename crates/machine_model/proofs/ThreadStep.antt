@@ -15,7 +15,7 @@ use Rattle.machine_protection.specs.declared.region.Access.TheVariants.{Read, Wr
 use Rattle.machine_protection.specs.Protection.{IsAccessWidth, permits}
 use Rattle.machine_protection.proofs.Alike.{bytes_are_alike}
 use Rattle.machine_devices.specs.declared.image.Image.{Image}
-use Rattle.machine_bus.specs.Places.{Place, InRam, InFlash, InWindow, Nowhere, place, is_memory}
+use Rattle.machine_bus.specs.Locations.{Location, InRam, InFlash, InWindow, Nowhere, location, is_memory}
 use Rattle.machine_devices.specs.Input.{queue}
 use Rattle.machine_bus.specs.Bus.{input, load_at, store_at, put_at, fetch_at}
 use Rattle.machine_model.specs.declared.state.CoreRegisters.{CoreRegisters}
@@ -63,7 +63,7 @@ abbrev HalfFits : Option ℕ → Type 0
 HalfFits None = Unit {0}
 HalfFits (Some h) = h < 2 ^ 16
 
-half_fits : (l : Place) (i : Image) (ram : List ℕ) → HalfFits (fetch_at l i ram)
+half_fits : (l : Location) (i : Image) (ram : List ℕ) → HalfFits (fetch_at l i ram)
 half_fits (InRam o) i ram = read_fits 2 o ram
 half_fits (InFlash o) i ram = read_fits 2 o i.flash
 half_fits (InWindow k o) i ram = tt
@@ -104,7 +104,7 @@ module _ (i : Image) (s : State) (user : is_unprivileged s.protection ≡ true) 
   unfolding by_mpu
   may kind a e = subst (λ (u : Bool). permits s.protection.mpu u kind a ≡ true) user e
 
-  reached : (kind : Access) (w a : ℕ) → IsAccessWidth w → verdict by_mpu s.protection kind w a ≡ ToBus → place i a ≢ Nowhere → IsReached i s.protection.mpu kind (record { width = w; address = a })
+  reached : (kind : Access) (w a : ℕ) → IsAccessWidth w → verdict by_mpu s.protection kind w a ≡ ToBus → location i a ≢ Nowhere → IsReached i s.protection.mpu kind (record { width = w; address = a })
   reached kind w a ok e m =
       let t = verdict_to_bus by_mpu s.protection kind w a e in
       record {
@@ -114,10 +114,10 @@ module _ (i : Image) (s : State) (user : is_unprivileged s.protection ≡ true) 
         mapped = m;
       }
 
-  first_good : (v : Verdict) (kind : Access) (a : ℕ) (vs : Verdicts) → (v ≡ ToSystem → ⊥) → and_then v (is_memory kind (place i a)) a vs ≡ AllGood → (v ≡ ToBus) × (place i a ≢ Nowhere) × (vs ≡ AllGood)
-  first_good v kind a vs out e = by v (place i a) kind vs out refl e
+  first_good : (v : Verdict) (kind : Access) (a : ℕ) (vs : Verdicts) → (v ≡ ToSystem → ⊥) → and_then v (is_memory kind (location i a)) a vs ≡ AllGood → (v ≡ ToBus) × (location i a ≢ Nowhere) × (vs ≡ AllGood)
+  first_good v kind a vs out e = by v (location i a) kind vs out refl e
     where
-      by : (v : Verdict) (l : Place) (kind : Access) (vs : Verdicts) → (v ≡ ToSystem → ⊥) → place i a ≡ l → and_then v (is_memory kind l) a vs ≡ AllGood → (v ≡ ToBus) × (place i a ≢ Nowhere) × (vs ≡ AllGood)
+      by : (v : Verdict) (l : Location) (kind : Access) (vs : Verdicts) → (v ≡ ToSystem → ⊥) → location i a ≡ l → and_then v (is_memory kind l) a vs ≡ AllGood → (v ≡ ToBus) × (location i a ≢ Nowhere) × (vs ≡ AllGood)
       by ToBus (InRam o) kind vs out q e = (refl, λ z. cc, e)
       by ToBus (InFlash o) Read vs out q e = (refl, λ z. cc, e)
       by ToBus (InFlash o) Write vs out q e = cc
@@ -142,7 +142,7 @@ module _ (i : Image) (s : State) (user : is_unprivileged s.protection ≡ true) 
   user_words (v ∷ vs) a t e =
       let g = first_good (verdict by_mpu s.protection Write 4 a) Write a (verdicts by_mpu i s.protection Write (word (a + 4)) (length vs)) (verdict_system by_mpu s.protection Write 4 a user) e in
       let outside : in_system a ≡ false = (verdict_to_bus by_mpu s.protection Write 4 a g.0).1 in
-      let r = user_words vs (word (a + 4)) (record t { ram = put_at (place i a) 4 v t.ram }) g.2 in
+      let r = user_words vs (word (a + 4)) (record t { ram = put_at (location i a) 4 v t.ram }) g.2 in
       rw outside r
 
   -- ---- the step
@@ -186,26 +186,26 @@ module _ (i : Image) (s : State) (user : is_unprivileged s.protection ≡ true) 
     input_goes [] k o w a go r h = Ends _ refl
     input_goes (x ∷ xs) k o w a go r h = goes _ (record { stores = tt; loads = (r, tt); stacks = h _; protection = refl; status = refl; ending = refl; ram = λ k m. refl })
 
-    loaded_goes : (l : Place) (w a : ℕ) (go : ℕ → CoreRegisters) → (l ≢ Nowhere → IsReached i s.protection.mpu Read (record { width = w; address = a })) → ((v : ℕ) → KeepsStacks s.core (go v)) → ThreadStep i s (loaded (load_at l i s.ram s.queues w) i w a s go)
+    loaded_goes : (l : Location) (w a : ℕ) (go : ℕ → CoreRegisters) → (l ≢ Nowhere → IsReached i s.protection.mpu Read (record { width = w; address = a })) → ((v : ℕ) → KeepsStacks s.core (go v)) → ThreadStep i s (loaded (load_at l i s.ram s.queues w) i w a s go)
     loaded_goes (InRam o) w a go r h = goes _ (record { stores = tt; loads = (r (λ z. cc), tt); stacks = h _; protection = refl; status = refl; ending = refl; ram = λ k m. refl })
     loaded_goes (InFlash o) w a go r h = goes _ (record { stores = tt; loads = (r (λ z. cc), tt); stacks = h _; protection = refl; status = refl; ending = refl; ram = λ k m. refl })
     loaded_goes (InWindow k o) w a go r h = input_goes (queue s.queues k) k o w a go (r (λ z. cc)) h
     loaded_goes Nowhere w a go r h = Ends _ refl
 
     load_goes : (v : Verdict) (w a : ℕ) (go : ℕ → CoreRegisters) → Refuses (Loads w a go) → IsAccessWidth w → ((v : ℕ) → KeepsStacks s.core (go v)) → verdict by_mpu s.protection Read w a ≡ v → ThreadStep i s (after_load v by_mpu i w a s go)
-    load_goes ToBus w a go f ok h e = loaded_goes (place i a) w a go (λ m. reached Read w a ok e m) h
+    load_goes ToBus w a go f ok h e = loaded_goes (location i a) w a go (λ m. reached Read w a ok e m) h
     load_goes ToSystem w a go f ok h e = absurd (verdict_system by_mpu s.protection Read w a user e)
     load_goes Refused w a go f ok h e = f a (inl (inl (refl, verdict_refused by_mpu s.protection Read w a e)))
     load_goes (Bad r) w a go f ok h e = Ends _ refl
 
-    stored_goes : (l : Place) (w a v : ℕ) (c : CoreRegisters) → place i a ≡ l → (l ≢ Nowhere → IsReached i s.protection.mpu Write (record { width = w; address = a })) → KeepsStacks s.core c → ThreadStep i s (stored (store_at l) i w a v s c)
-    stored_goes (InRam o) w a v c e r h = goes _ (record { stores = (r (λ z. cc), tt); loads = tt; stacks = h; protection = refl; status = refl; ending = refl; ram = λ k m. put_kept (place i a) w v s.ram k m.0 })
+    stored_goes : (l : Location) (w a v : ℕ) (c : CoreRegisters) → location i a ≡ l → (l ≢ Nowhere → IsReached i s.protection.mpu Write (record { width = w; address = a })) → KeepsStacks s.core c → ThreadStep i s (stored (store_at l) i w a v s c)
+    stored_goes (InRam o) w a v c e r h = goes _ (record { stores = (r (λ z. cc), tt); loads = tt; stacks = h; protection = refl; status = refl; ending = refl; ram = λ k m. put_kept (location i a) w v s.ram k m.0 })
     stored_goes (InFlash o) w a v c e r h = Ends _ refl
     stored_goes (InWindow p o) w a v c e r h = goes _ (record { stores = (r (λ z. cc), tt); loads = tt; stacks = h; protection = refl; status = refl; ending = refl; ram = λ k m. refl })
     stored_goes Nowhere w a v c e r h = Ends _ refl
 
     store_goes : (v : Verdict) (w a x : ℕ) (c : CoreRegisters) → Refuses (Stores w a x c) → IsAccessWidth w → KeepsStacks s.core c → verdict by_mpu s.protection Write w a ≡ v → ThreadStep i s (after_store v by_mpu i w a x s c)
-    store_goes ToBus w a x c f ok h e = stored_goes (place i a) w a x c refl (λ m. reached Write w a ok e m) h
+    store_goes ToBus w a x c f ok h e = stored_goes (location i a) w a x c refl (λ m. reached Write w a ok e m) h
     store_goes ToSystem w a x c f ok h e = absurd (verdict_system by_mpu s.protection Write w a user e)
     store_goes Refused w a x c f ok h e = f a (inr (inl (refl, verdict_refused by_mpu s.protection Write w a e)))
     store_goes (Bad r) w a x c f ok h e = Ends _ refl
@@ -296,19 +296,19 @@ module _ (i : Image) (s : State) (user : is_unprivileged s.protection ≡ true) 
   unfolding fetch
   fetch_refused e = record {
     refused = ⊎_elim (λ f. inl f) (λ f. inr (f.1.0, record { permitted = f.0; is_half = f.1.1 }, f.1.2, f.1.3))
-        (not_allowed (by_mpu s.protection Fetch s.core.pc) (fetch_at (place i s.core.pc) i s.ram) (by_mpu s.protection Fetch (s.core.pc + 2)) (fetch_at (place i (s.core.pc + 2)) i s.ram) e);
+        (not_allowed (by_mpu s.protection Fetch s.core.pc) (fetch_at (location i s.core.pc) i s.ram) (by_mpu s.protection Fetch (s.core.pc + 2)) (fetch_at (location i (s.core.pc + 2)) i s.ram) e);
     status = refl;
   }
 
-  took_halves : (h k n : ℕ) → fetch by_mpu i s ≡ Took h k n → (by_mpu s.protection Fetch s.core.pc ≡ true) × TookSo (fetch_at (place i s.core.pc) i s.ram) (by_mpu s.protection Fetch (s.core.pc + 2)) (fetch_at (place i (s.core.pc + 2)) i s.ram) h k n
+  took_halves : (h k n : ℕ) → fetch by_mpu i s ≡ Took h k n → (by_mpu s.protection Fetch s.core.pc ≡ true) × TookSo (fetch_at (location i s.core.pc) i s.ram) (by_mpu s.protection Fetch (s.core.pc + 2)) (fetch_at (location i (s.core.pc + 2)) i s.ram) h k n
   unfolding fetch
   took_halves h k n e =
-      first_took (by_mpu s.protection Fetch s.core.pc) (fetch_at (place i s.core.pc) i s.ram) (by_mpu s.protection Fetch (s.core.pc + 2)) (fetch_at (place i (s.core.pc + 2)) i s.ram) h k n (half_fits (place i (s.core.pc + 2)) i s.ram) e
+      first_took (by_mpu s.protection Fetch s.core.pc) (fetch_at (location i s.core.pc) i s.ram) (by_mpu s.protection Fetch (s.core.pc + 2)) (fetch_at (location i (s.core.pc + 2)) i s.ram) h k n (half_fits (location i (s.core.pc + 2)) i s.ram) e
 
   fetched_goes : (f : Fetched) → fetch by_mpu i s ≡ f → ThreadStep i s (fetched f by_mpu i s)
   fetched_goes (Took h k n) e =
       let t = took_halves h k n e in
-      let hh : h < 2 ^ 16 = some_fits (fetch_at (place i s.core.pc) i s.ram) h (half_fits (place i s.core.pc) i s.ram) t.1.0 in
+      let hh : h < 2 ^ 16 = some_fits (fetch_at (location i s.core.pc) i s.ram) h (half_fits (location i s.core.pc) i s.ram) t.1.0 in
       performed_goes (decoded h k) (s.core.pc + n) (λ x d. (
         record { first = h; second = k; count = n; begins = record { permitted = t.0; is_half = t.1.0 }; ends = t.1.3; took = e; decodes = d; is_next = refl },
         λ c. let g = call_half h k x hh t.1.1 d c in
@@ -327,7 +327,7 @@ module _ (i : Image) (s : State) (user : is_unprivileged s.protection ≡ true) 
 
 -- ---- the accesses of an unprivileged step
 
-memory_mapped : (kind : Access) (l : Place) → is_memory kind l ≡ true → l ≢ Nowhere
+memory_mapped : (kind : Access) (l : Location) → is_memory kind l ≡ true → l ≢ Nowhere
 memory_mapped kind (InRam o) e = λ z. cc
 memory_mapped kind (InFlash o) e = λ z. cc
 memory_mapped kind (InWindow k o) e = λ z. cc
@@ -342,12 +342,12 @@ module _ (i : Image) (s : State) (user : is_unprivileged s.protection ≡ true) 
   unfolding all_open words_from
   open_reached zero a al e = tt
   open_reached (suc n) a al e =
-      let t = open_tests (by_mpu s.protection Write a) (is_memory Write (place i a)) (all_open by_mpu i s.protection Write (word (a + 4)) n) e in
+      let t = open_tests (by_mpu s.protection Write a) (is_memory Write (location i a)) (all_open by_mpu i s.protection Write (word (a + 4)) n) e in
       let here : IsReached i s.protection.mpu Write (record { width = 4; address = a }) = record {
         width = inr (inr refl);
         aligned = al;
         permitted = λ k lt. bytes_are_alike s.protection.mpu true Write 4 a k (inr (inr refl)) al lt ∙ may i s user Write a t.0;
-        mapped = memory_mapped Write (place i a) t.1;
+        mapped = memory_mapped Write (location i a) t.1;
       } in
       let next : word (a + 4) % 4 ≡ 0 = omega arith in
       (here, open_reached n (word (a + 4)) next t.2)

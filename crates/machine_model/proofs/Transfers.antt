@@ -9,7 +9,7 @@ use Rattle.machine_thumb.specs.declared.table.Instr.TheVariants.{BranchExchange,
 use Rattle.machine_protection.specs.declared.region.Access.{Access}
 use Rattle.machine_protection.specs.declared.region.Access.TheVariants.{Read, Write}
 use Rattle.machine_devices.specs.declared.image.Image.{Image}
-use Rattle.machine_bus.specs.Places.{InRam, InFlash, InWindow, place}
+use Rattle.machine_bus.specs.Locations.{InRam, InFlash, InWindow, location}
 use Rattle.machine_model.specs.declared.state.CoreRegisters.{CoreRegisters}
 use Rattle.machine_model.specs.declared.state.ProtectionState.{ProtectionState}
 use Rattle.machine_model.specs.declared.state.End.TheVariants.{InputEnd}
@@ -39,7 +39,7 @@ pushed_words i sp o n k w h =
     let e = pushed_address i sp o n k w h in
     rw e (record { is_at = omega (arith, w.is_at); aligned = omega (arith, w.aligned); fits = omega (arith, w.fits); low = w.low })
 
-pushed_place : (i : Image) (sp o n k : ℕ) → Words i sp o n → k < n → place i (word (sp + 4 * k)) ≡ InRam (o + 4 * k)
+pushed_place : (i : Image) (sp o n k : ℕ) → Words i sp o n → k < n → location i (word (sp + 4 * k)) ≡ InRam (o + 4 * k)
 pushed_place i sp o n k w h = head_place i (word (sp + 4 * k)) (o + 4 * k) 0 (pushed_words i sp o n k w h)
 
 pushed_verdict : (j : PermissionTest) (i : Image) (p : ProtectionState) (kind : Access) (sp o n k : ℕ) → Words i sp o n → May j p kind sp n → k < n → verdict j p kind 4 (word (sp + 4 * k)) ≡ ToBus
@@ -139,14 +139,14 @@ module _ (j : PermissionTest) (i : Image) (x : Context) (low : List ℕ) (sp lr 
 
   -- ---- LDR, LDRH and LDRB t, [n, #w k]
 
-  pub load_ram : (op w k n t a o : ℕ) → IsLoad op w → word (get_or low n 0 + w * k) ≡ a → a % w ≡ 0 → a < 0xE0000000 → j x.protection Read a ≡ true → place i a ≡ InRam o → Stands j i x.protection pc (TransferImmediate op k n t) →
+  pub load_ram : (op w k n t a o : ℕ) → IsLoad op w → word (get_or low n 0 + w * k) ≡ a → a % w ≡ 0 → a < 0xE0000000 → j x.protection Read a ≡ true → location i a ≡ InRam o → Stands j i x.protection pc (TransferImmediate op k n t) →
       StepsQuietly j i (works x low sp lr pc f ram queues) (works x (set low t (read w o ram)) sp lr (pc + 2) f ram queues)
   unfolding act
   load_ram op w k n t a o is at aligned below may l st =
       let e = is k (get_or low n 0) t (pc + 2) (body x low sp lr pc f) in
       loads_ram j i (body x low sp lr pc f) x.protection x.status ram queues (TransferImmediate op k n t) w a o (λ u. body x (set low t u) sp lr (pc + 2) f) st (rw (e, at) refl) (to_bus j x.protection Read w a aligned below may) l
 
-  pub load_flash : (op w k n t a o : ℕ) → IsLoad op w → word (get_or low n 0 + w * k) ≡ a → a % w ≡ 0 → a < 0xE0000000 → j x.protection Read a ≡ true → place i a ≡ InFlash o → Stands j i x.protection pc (TransferImmediate op k n t) →
+  pub load_flash : (op w k n t a o : ℕ) → IsLoad op w → word (get_or low n 0 + w * k) ≡ a → a % w ≡ 0 → a < 0xE0000000 → j x.protection Read a ≡ true → location i a ≡ InFlash o → Stands j i x.protection pc (TransferImmediate op k n t) →
       StepsQuietly j i (works x low sp lr pc f ram queues) (works x (set low t (read w o i.flash)) sp lr (pc + 2) f ram queues)
   unfolding act
   load_flash op w k n t a o is at aligned below may l st =
@@ -154,14 +154,14 @@ module _ (j : PermissionTest) (i : Image) (x : Context) (low : List ℕ) (sp lr 
       loads_flash j i (body x low sp lr pc f) x.protection x.status ram queues (TransferImmediate op k n t) w a o (λ u. body x (set low t u) sp lr (pc + 2) f) st (rw (e, at) refl) (to_bus j x.protection Read w a aligned below may) l
 
   -- from a window, with its event; and where it has no word left
-  pub load_window : (op w k n t a q o u : ℕ) (us : List ℕ) → IsLoad op w → word (get_or low n 0 + w * k) ≡ a → a % w ≡ 0 → a < 0xE0000000 → j x.protection Read a ≡ true → place i a ≡ InWindow q o → get_or queues q [] ≡ u ∷ us → Stands j i x.protection pc (TransferImmediate op k n t) →
+  pub load_window : (op w k n t a q o u : ℕ) (us : List ℕ) → IsLoad op w → word (get_or low n 0 + w * k) ≡ a → a % w ≡ 0 → a < 0xE0000000 → j x.protection Read a ≡ true → location i a ≡ InWindow q o → get_or queues q [] ≡ u ∷ us → Stands j i x.protection pc (TransferImmediate op k n t) →
       StepsWith j i (works x low sp lr pc f ram queues) (works x (set low t (cut w u)) sp lr (pc + 2) f ram (set queues q us)) (input_event i ram q o w u)
   unfolding act
   load_window op w k n t a q o u us is at aligned below may l some st =
       let e = is k (get_or low n 0) t (pc + 2) (body x low sp lr pc f) in
       loads_window j i (body x low sp lr pc f) x.protection x.status ram queues (TransferImmediate op k n t) w a q o u us (λ u. body x (set low t u) sp lr (pc + 2) f) st (rw (e, at) refl) (to_bus j x.protection Read w a aligned below may) l some
 
-  pub load_nothing : (op w k n t a q o : ℕ) → IsLoad op w → word (get_or low n 0 + w * k) ≡ a → a % w ≡ 0 → a < 0xE0000000 → j x.protection Read a ≡ true → place i a ≡ InWindow q o → get_or queues q [] ≡ [] → Stands j i x.protection pc (TransferImmediate op k n t) →
+  pub load_nothing : (op w k n t a q o : ℕ) → IsLoad op w → word (get_or low n 0 + w * k) ≡ a → a % w ≡ 0 → a < 0xE0000000 → j x.protection Read a ≡ true → location i a ≡ InWindow q o → get_or queues q [] ≡ [] → Stands j i x.protection pc (TransferImmediate op k n t) →
       StepsQuietly j i (works x low sp lr pc f ram queues) (ended InputEnd (works x low sp lr pc f ram queues))
   unfolding act
   load_nothing op w k n t a q o is at aligned below may l none st =
@@ -169,7 +169,7 @@ module _ (j : PermissionTest) (i : Image) (x : Context) (low : List ℕ) (sp lr 
       loads_nothing j i (body x low sp lr pc f) x.protection x.status ram queues (TransferImmediate op k n t) w a q o (λ u. body x (set low t u) sp lr (pc + 2) f) st (rw (e, at) refl) (to_bus j x.protection Read w a aligned below may) l none
 
   -- LDR t, [pc, #4 k]
-  pub ldr_literal : (k t a o : ℕ) → word ((pc + 4) / 4 * 4 + 4 * k) ≡ a → a % 4 ≡ 0 → a < 0xE0000000 → j x.protection Read a ≡ true → place i a ≡ InFlash o → Stands j i x.protection pc (LoadLiteral t k) →
+  pub ldr_literal : (k t a o : ℕ) → word ((pc + 4) / 4 * 4 + 4 * k) ≡ a → a % 4 ≡ 0 → a < 0xE0000000 → j x.protection Read a ≡ true → location i a ≡ InFlash o → Stands j i x.protection pc (LoadLiteral t k) →
       StepsQuietly j i (works x low sp lr pc f ram queues) (works x (set low t (read 4 o i.flash)) sp lr (pc + 2) f ram queues)
   unfolding act
   ldr_literal k t a o at aligned below may l st =
@@ -178,14 +178,14 @@ module _ (j : PermissionTest) (i : Image) (x : Context) (low : List ℕ) (sp lr 
 
   -- ---- STR, STRH and STRB t, [n, #w k]
 
-  pub store_ram : (op w k n t a o : ℕ) → IsStore op w → word (get_or low n 0 + w * k) ≡ a → a % w ≡ 0 → a < 0xE0000000 → j x.protection Write a ≡ true → place i a ≡ InRam o → Stands j i x.protection pc (TransferImmediate op k n t) →
+  pub store_ram : (op w k n t a o : ℕ) → IsStore op w → word (get_or low n 0 + w * k) ≡ a → a % w ≡ 0 → a < 0xE0000000 → j x.protection Write a ≡ true → location i a ≡ InRam o → Stands j i x.protection pc (TransferImmediate op k n t) →
       StepsQuietly j i (works x low sp lr pc f ram queues) (works x low sp lr (pc + 2) f (write w o (get_or low t 0) ram) queues)
   unfolding act
   store_ram op w k n t a o is at aligned below may l st =
       let e = is k (get_or low n 0) t (pc + 2) (body x low sp lr pc f) in
       stores_ram j i (body x low sp lr pc f) x.protection x.status ram queues (TransferImmediate op k n t) w a o (get_or low t 0) (body x low sp lr (pc + 2) f) st (rw (e, at) refl) (to_bus j x.protection Write w a aligned below may) l
 
-  pub store_window : (op w k n t a q o : ℕ) → IsStore op w → word (get_or low n 0 + w * k) ≡ a → a % w ≡ 0 → a < 0xE0000000 → j x.protection Write a ≡ true → place i a ≡ InWindow q o → Stands j i x.protection pc (TransferImmediate op k n t) →
+  pub store_window : (op w k n t a q o : ℕ) → IsStore op w → word (get_or low n 0 + w * k) ≡ a → a % w ≡ 0 → a < 0xE0000000 → j x.protection Write a ≡ true → location i a ≡ InWindow q o → Stands j i x.protection pc (TransferImmediate op k n t) →
       StepsWith j i (works x low sp lr pc f ram queues) (works x low sp lr (pc + 2) f ram queues) (output_event i ram q o w (get_or low t 0))
   unfolding act
   store_window op w k n t a q o is at aligned below may l st =

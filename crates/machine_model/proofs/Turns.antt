@@ -4,7 +4,7 @@ use Rattle.base_words.specs.Bytes.{read, write, cut, write_all}
 use Rattle.machine_thumb.specs.declared.table.Instr.{Instr}
 use Rattle.machine_protection.specs.declared.region.Access.TheVariants.{Read, Write}
 use Rattle.machine_devices.specs.declared.image.Image.{Image}
-use Rattle.machine_bus.specs.Places.{InRam, InFlash, InWindow, place}
+use Rattle.machine_bus.specs.Locations.{InRam, InFlash, InWindow, location}
 use Rattle.machine_model.specs.declared.state.CoreRegisters.{CoreRegisters}
 use Rattle.machine_model.specs.declared.state.ProtectionState.{ProtectionState}
 use Rattle.machine_model.specs.declared.state.FaultStatus.{FaultStatus}
@@ -38,17 +38,17 @@ module _ (j : PermissionTest) (i : Image) (c : CoreRegisters) (p : ProtectionSta
   unfolding perform
   changes_turn d e = turns j i c p t ram queues x (Changes d) h e
 
-  pub load_ram_turn : (w a o : ℕ) (go : ℕ → CoreRegisters) → Asks (Loads w a go) → verdict j p Read w a ≡ ToBus → place i a ≡ InRam o →
+  pub load_ram_turn : (w a o : ℕ) (go : ℕ → CoreRegisters) → Asks (Loads w a go) → verdict j p Read w a ≡ ToBus → location i a ≡ InRam o →
       turn j i At ≡ did_load w a (live (go (read w o ram)) p t ram queues) None
   unfolding perform
   load_ram_turn w a o go e ok l = turns j i c p t ram queues x (Loads w a go) h e ∙ rw (ok, l) refl
 
-  pub load_flash_turn : (w a o : ℕ) (go : ℕ → CoreRegisters) → Asks (Loads w a go) → verdict j p Read w a ≡ ToBus → place i a ≡ InFlash o →
+  pub load_flash_turn : (w a o : ℕ) (go : ℕ → CoreRegisters) → Asks (Loads w a go) → verdict j p Read w a ≡ ToBus → location i a ≡ InFlash o →
       turn j i At ≡ did_load w a (live (go (read w o i.flash)) p t ram queues) None
   unfolding perform
   load_flash_turn w a o go e ok l = turns j i c p t ram queues x (Loads w a go) h e ∙ rw (ok, l) refl
 
-  pub load_window_turn : (w a k o u : ℕ) (us : List ℕ) (go : ℕ → CoreRegisters) → Asks (Loads w a go) → verdict j p Read w a ≡ ToBus → place i a ≡ InWindow k o →
+  pub load_window_turn : (w a k o u : ℕ) (us : List ℕ) (go : ℕ → CoreRegisters) → Asks (Loads w a go) → verdict j p Read w a ≡ ToBus → location i a ≡ InWindow k o →
       get_or queues k [] ≡ u ∷ us → turn j i At ≡ did_load w a (live (go (cut w u)) p t ram (set queues k us)) (Some (input_event i ram k o w u))
   unfolding perform
   load_window_turn w a k o u us go e ok l q = turns j i c p t ram queues x (Loads w a go) h e ∙ rw (ok, l, q, q) refl
@@ -58,12 +58,12 @@ module _ (j : PermissionTest) (i : Image) (c : CoreRegisters) (p : ProtectionSta
   unfolding perform
   load_system_turn w a go e ok = turns j i c p t ram queues x (Loads w a go) h e ∙ rw ok refl
 
-  pub store_ram_turn : (w a o u : ℕ) (d : CoreRegisters) → Asks (Stores w a u d) → verdict j p Write w a ≡ ToBus → place i a ≡ InRam o →
+  pub store_ram_turn : (w a o u : ℕ) (d : CoreRegisters) → Asks (Stores w a u d) → verdict j p Write w a ≡ ToBus → location i a ≡ InRam o →
       turn j i At ≡ did_store w a (live d p t (write w o u ram) queues) None
   unfolding perform
   store_ram_turn w a o u d e ok l = turns j i c p t ram queues x (Stores w a u d) h e ∙ rw (ok, l, l) refl
 
-  pub store_window_turn : (w a k o u : ℕ) (d : CoreRegisters) → Asks (Stores w a u d) → verdict j p Write w a ≡ ToBus → place i a ≡ InWindow k o →
+  pub store_window_turn : (w a k o u : ℕ) (d : CoreRegisters) → Asks (Stores w a u d) → verdict j p Write w a ≡ ToBus → location i a ≡ InWindow k o →
       turn j i At ≡ did_store w a (live d p t ram queues) (Some (output_event i ram k o w u))
   unfolding perform
   store_window_turn w a k o u d e ok l = turns j i c p t ram queues x (Stores w a u d) h e ∙ rw (ok, l) refl

@@ -7,7 +7,7 @@ use Rattle.machine_thumb.specs.Decoded.{decoded}
 use Rattle.machine_protection.specs.declared.region.Access.{Access}
 use Rattle.machine_protection.specs.declared.region.Access.TheVariants.{Read, Write, Fetch}
 use Rattle.machine_devices.specs.declared.image.Image.{Image}
-use Rattle.machine_bus.specs.Places.{place, choose}
+use Rattle.machine_bus.specs.Locations.{location, choose}
 use Rattle.machine_bus.specs.Bus.{fetch_at}
 use Rattle.machine_model.specs.declared.state.ProtectionState.{ProtectionState}
 use Rattle.machine_model.specs.State.{State, PermissionTest}
@@ -49,7 +49,7 @@ IsAllowed j s (Stops r) = Unit {0}
 -- every access of a step is permitted: its fetches, and those of the instruction that is fetched
 pub record IsStepAllowed (j : PermissionTest) (i : Image) (s : State) : Type 0 where
   pub first : j s.protection Fetch s.core.pc ≡ true
-  pub second : (h : ℕ) → fetch_at (place i s.core.pc) i s.ram ≡ Some h → nat_lt h 0xE800 ≡ false → j s.protection Fetch (s.core.pc + 2) ≡ true
+  pub second : (h : ℕ) → fetch_at (location i s.core.pc) i s.ram ≡ Some h → nat_lt h 0xE800 ≡ false → j s.protection Fetch (s.core.pc + 2) ≡ true
   pub data_accesses : (h k size : ℕ) (x : Instr) → fetch free i s ≡ Took h k size → decoded h k ≡ Some x → IsAllowed j s (act x (s.core.pc + size) s.core)
 
 abbrev pub AllowedStepsAreFree : Type 0

@@ -7,7 +7,7 @@ use Rattle.machine_thumb.specs.declared.table.Instr.TheVariants.{LoadLiteral, Tr
 use Rattle.machine_protection.specs.declared.region.Access.{Access}
 use Rattle.machine_protection.specs.declared.region.Access.TheVariants.{Read, Write, Fetch}
 use Rattle.machine_devices.specs.declared.image.Image.{Image}
-use Rattle.machine_bus.specs.Places.{Nowhere, place}
+use Rattle.machine_bus.specs.Locations.{Nowhere, location}
 use Rattle.machine_model.specs.declared.answers.Verdict.TheVariants.{ToBus, ToSystem}
 use Rattle.machine_model.specs.declared.state.CoreRegisters.{CoreRegisters}
 use Rattle.machine_model.specs.declared.state.ProtectionState.{ProtectionState}
@@ -21,7 +21,7 @@ use Rattle.machine_model.specs.Exceptions.{frame_at}
 use Rattle.machine_model.specs.Perform.{perform}
 use Rattle.machine_model.specs.Step.{turn}
 
--- an access that the tests let through to a place where nothing lies stops the machine: of one word, of the first of
+-- an access that the tests let through to a location where nothing lies stops the machine: of one word, of the first of
 -- several, and a fetch
 pub record StopsAtNothing (j : PermissionTest) (i : Image) (s : State) (a : ℕ) : Type 0 where
   pub loads : (w : ℕ) (go : ℕ → CoreRegisters) → verdict j s.protection Read w a ≡ ToBus → perform j i (Loads w a go) s ≡ stops Bus s
@@ -31,7 +31,7 @@ pub record StopsAtNothing (j : PermissionTest) (i : Image) (s : State) (a : ℕ)
   pub fetches : s.ending ≡ None → s.core.pc ≡ a → j s.protection Fetch a ≡ true → turn j i s ≡ stops Bus s
 
 abbrev pub NothingStops : Type 0
-NothingStops = (j : PermissionTest) (i : Image) (s : State) (a : ℕ) → place i a ≡ Nowhere → StopsAtNothing j i s a
+NothingStops = (j : PermissionTest) (i : Image) (s : State) (a : ℕ) → location i a ≡ Nowhere → StopsAtNothing j i s a
 
 -- a privileged access of a word of a system register reaches it, whatever the protection unit permits
 abbrev pub SystemRegistersAreReached : Type 0

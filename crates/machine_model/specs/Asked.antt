@@ -6,7 +6,7 @@ use Rattle.machine_thumb.specs.Decoded.{decoded}
 use Rattle.machine_protection.specs.declared.region.Access.{Access}
 use Rattle.machine_protection.specs.declared.region.Access.TheVariants.{Read, Write, Fetch}
 use Rattle.machine_devices.specs.declared.image.Image.{Image}
-use Rattle.machine_bus.specs.Places.{place, is_memory}
+use Rattle.machine_bus.specs.Locations.{location, is_memory}
 use Rattle.machine_bus.specs.Bus.{fetch_at}
 use Rattle.machine_model.specs.declared.state.CoreRegisters.{CoreRegisters}
 use Rattle.machine_model.specs.declared.state.ProtectionState.{ProtectionState}
@@ -50,7 +50,7 @@ pub record IsRefused (j : PermissionTest) (p : ProtectionState) (kind : Access) 
 pub record IsInMemory (j : PermissionTest) (i : Image) (p : ProtectionState) (kind : Access) (x : Touched) : Type 0 where
   pub outside : in_system x.address ≡ false
   pub permitted : j p kind x.address ≡ true
-  pub memory : is_memory kind (place i x.address) ≡ true
+  pub memory : is_memory kind (location i x.address) ≡ true
 
 -- a register of the private peripheral bus, which privileged code alone reaches
 pub record IsPrivilegedPlace (p : ProtectionState) (x : Touched) : Type 0 where
@@ -76,7 +76,7 @@ RefusesFirst j i s x y = IsFirstRefused j i s.protection Read (asked_loads s x) 
 -- this halfword was fetched from the program counter
 pub record IsFetched (j : PermissionTest) (i : Image) (s : State) (half : ℕ) : Type 0 where
   pub permitted : j s.protection Fetch s.core.pc ≡ true
-  pub is_half : fetch_at (place i s.core.pc) i s.ram ≡ Some half
+  pub is_half : fetch_at (location i s.core.pc) i s.ram ≡ Some half
 
 -- the halfwords of this instruction were fetched from the program counter; the next address is behind them
 pub record IsTaken (j : PermissionTest) (i : Image) (s : State) (x : Instr) (next : ℕ) : Type 0 where
@@ -85,7 +85,7 @@ pub record IsTaken (j : PermissionTest) (i : Image) (s : State) (x : Instr) (nex
   pub count : ℕ
   pub begins : IsFetched j i s first
   -- a first half that begins with 11101, 11110 or 11111 has a second
-  pub ends : nat_lt first 0xE800 ≡ false → (j s.protection Fetch (s.core.pc + 2) ≡ true) × (fetch_at (place i (s.core.pc + 2)) i s.ram ≡ Some second)
+  pub ends : nat_lt first 0xE800 ≡ false → (j s.protection Fetch (s.core.pc + 2) ≡ true) × (fetch_at (location i (s.core.pc + 2)) i s.ram ≡ Some second)
   pub took : fetch j i s ≡ Took first second count
   pub decodes : decoded first second ≡ Some x
   pub is_next : next ≡ s.core.pc + count

@@ -8,7 +8,7 @@ use Rattle.machine_thumb.specs.Table.{InTable, encode}
 use Rattle.machine_protection.specs.declared.region.Access.TheVariants.{Fetch}
 use Rattle.machine_devices.specs.declared.image.Image.{Image}
 use Rattle.base_events.specs.declared.event.Event.{Event}
-use Rattle.machine_bus.specs.Places.{place, InFlash}
+use Rattle.machine_bus.specs.Locations.{location, InFlash}
 use Rattle.base_words.specs.Bytes.{read}
 use Rattle.base_words.specs.Runs.{Goes}
 use Rattle.machine_model.specs.declared.state.CoreRegisters.{CoreRegisters}
@@ -31,7 +31,7 @@ size _ = 2
 -- flash holds this halfword at an address
 pub record HoldsHalf (i : Image) (address half : ℕ) : Type 0 where
   pub offset : ℕ
-  pub is_in_flash : place i address ≡ InFlash offset
+  pub is_in_flash : location i address ≡ InFlash offset
   pub is_half : read 2 offset i.flash ≡ half
 
 abbrev pub HoldsCode : Image → (address : ℕ) → Code → Type 0

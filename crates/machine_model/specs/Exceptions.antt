@@ -7,7 +7,7 @@ use Rattle.base_words.specs.Bytes.{read}
 use Rattle.base_words.specs.declared.conditions.Flags.{Flags}
 use Rattle.machine_protection.specs.declared.region.Access.TheVariants.{Read, Write}
 use Rattle.machine_devices.specs.declared.image.Image.{Image}
-use Rattle.machine_bus.specs.Places.{place, choose}
+use Rattle.machine_bus.specs.Locations.{location, choose}
 use Rattle.machine_bus.specs.Bus.{word_at, put_at}
 use Rattle.machine_model.specs.declared.state.CoreRegisters.{CoreRegisters}
 use Rattle.machine_model.specs.declared.state.FaultStatus.{FaultStatus}
@@ -18,11 +18,11 @@ use Rattle.machine_model.specs.Tests.{all_open}
 -- words one after another
 unfoldable pub stacked_words : Image → (address count : ℕ) → (ram : List ℕ) → List ℕ
 stacked_words i a zero ram = []
-stacked_words i a (suc n) ram = word_at (place i a) i ram ∷ stacked_words i (word (a + 4)) n ram
+stacked_words i a (suc n) ram = word_at (location i a) i ram ∷ stacked_words i (word (a + 4)) n ram
 
 unfoldable pub push_words : Image → (address : ℕ) → (values ram : List ℕ) → List ℕ
 push_words i a [] ram = ram
-push_words i a (v ∷ vs) ram = push_words i (word (a + 4)) vs (put_at (place i a) 4 v ram)
+push_words i a (v ∷ vs) ram = push_words i (word (a + 4)) vs (put_at (location i a) 4 v ram)
 
 unfoldable pub words_from : (address count : ℕ) → List Touched
 words_from a zero = []

@@ -12,7 +12,7 @@ use Rattle.machine_protection.specs.declared.region.Access.TheVariants.{Read, Wr
 use Rattle.machine_protection.specs.Registers.{write_register}
 use Rattle.machine_devices.specs.declared.image.Image.{Image}
 use Rattle.base_events.specs.declared.event.Event.{Event}
-use Rattle.machine_bus.specs.Places.{InRam, InFlash, InWindow, place}
+use Rattle.machine_bus.specs.Locations.{InRam, InFlash, InWindow, location}
 use Rattle.machine_model.specs.declared.state.End.TheVariants.{Halt, InputEnd}
 use Rattle.machine_model.specs.State.{State, PermissionTest, is_unprivileged, bit_of}
 use Rattle.machine_model.specs.Act.{Loads, Stores}
@@ -109,20 +109,20 @@ module _ (j : PermissionTest) (i : Image) (x : Context) (low : List ℕ) (sp lr 
     -- what they ask for
     pub load_act : (op w k n t : ℕ) → IsLoad op w → act (TransferImmediate op k n t) (pc + 2) (body x low sp lr pc f) ≡ Loads w (word (get_or low n 0 + w * k)) (λ u. body x (set low t u) sp lr (pc + 2) f)
     pub store_act : (op w k n t : ℕ) → IsStore op w → act (TransferImmediate op k n t) (pc + 2) (body x low sp lr pc f) ≡ Stores w (word (get_or low n 0 + w * k)) (get_or low t 0) (body x low sp lr (pc + 2) f)
-    pub load_ram : (op w k n t a o : ℕ) → IsLoad op w → word (get_or low n 0 + w * k) ≡ a → a % w ≡ 0 → a < 0xE0000000 → j x.protection Read a ≡ true → place i a ≡ InRam o →
+    pub load_ram : (op w k n t a o : ℕ) → IsLoad op w → word (get_or low n 0 + w * k) ≡ a → a % w ≡ 0 → a < 0xE0000000 → j x.protection Read a ≡ true → location i a ≡ InRam o →
         Makes (TransferImmediate op k n t) (works x (set low t (read w o ram)) sp lr (pc + 2) f ram queues)
-    pub load_flash : (op w k n t a o : ℕ) → IsLoad op w → word (get_or low n 0 + w * k) ≡ a → a % w ≡ 0 → a < 0xE0000000 → j x.protection Read a ≡ true → place i a ≡ InFlash o →
+    pub load_flash : (op w k n t a o : ℕ) → IsLoad op w → word (get_or low n 0 + w * k) ≡ a → a % w ≡ 0 → a < 0xE0000000 → j x.protection Read a ≡ true → location i a ≡ InFlash o →
         Makes (TransferImmediate op k n t) (works x (set low t (read w o i.flash)) sp lr (pc + 2) f ram queues)
-    pub load_window : (op w k n t a q o u : ℕ) (us : List ℕ) → IsLoad op w → word (get_or low n 0 + w * k) ≡ a → a % w ≡ 0 → a < 0xE0000000 → j x.protection Read a ≡ true → place i a ≡ InWindow q o →
+    pub load_window : (op w k n t a q o u : ℕ) (us : List ℕ) → IsLoad op w → word (get_or low n 0 + w * k) ≡ a → a % w ≡ 0 → a < 0xE0000000 → j x.protection Read a ≡ true → location i a ≡ InWindow q o →
         get_or queues q [] ≡ u ∷ us → Tells (TransferImmediate op k n t) (input_event i ram q o w u) (works x (set low t (cut w u)) sp lr (pc + 2) f ram (set queues q us))
-    pub load_nothing : (op w k n t a q o : ℕ) → IsLoad op w → word (get_or low n 0 + w * k) ≡ a → a % w ≡ 0 → a < 0xE0000000 → j x.protection Read a ≡ true → place i a ≡ InWindow q o →
+    pub load_nothing : (op w k n t a q o : ℕ) → IsLoad op w → word (get_or low n 0 + w * k) ≡ a → a % w ≡ 0 → a < 0xE0000000 → j x.protection Read a ≡ true → location i a ≡ InWindow q o →
         get_or queues q [] ≡ [] → Makes (TransferImmediate op k n t) (ended InputEnd (works x low sp lr pc f ram queues))
-    pub store_ram : (op w k n t a o : ℕ) → IsStore op w → word (get_or low n 0 + w * k) ≡ a → a % w ≡ 0 → a < 0xE0000000 → j x.protection Write a ≡ true → place i a ≡ InRam o →
+    pub store_ram : (op w k n t a o : ℕ) → IsStore op w → word (get_or low n 0 + w * k) ≡ a → a % w ≡ 0 → a < 0xE0000000 → j x.protection Write a ≡ true → location i a ≡ InRam o →
         Makes (TransferImmediate op k n t) (works x low sp lr (pc + 2) f (write w o (get_or low t 0) ram) queues)
-    pub store_window : (op w k n t a q o : ℕ) → IsStore op w → word (get_or low n 0 + w * k) ≡ a → a % w ≡ 0 → a < 0xE0000000 → j x.protection Write a ≡ true → place i a ≡ InWindow q o →
+    pub store_window : (op w k n t a q o : ℕ) → IsStore op w → word (get_or low n 0 + w * k) ≡ a → a % w ≡ 0 → a < 0xE0000000 → j x.protection Write a ≡ true → location i a ≡ InWindow q o →
         Tells (TransferImmediate op k n t) (output_event i ram q o w (get_or low t 0)) (works x low sp lr (pc + 2) f ram queues)
     -- LDR t, [pc, #4 k]
-    pub ldr_literal : (k t a o : ℕ) → word ((pc + 4) / 4 * 4 + 4 * k) ≡ a → a % 4 ≡ 0 → a < 0xE0000000 → j x.protection Read a ≡ true → place i a ≡ InFlash o →
+    pub ldr_literal : (k t a o : ℕ) → word ((pc + 4) / 4 * 4 + 4 * k) ≡ a → a % 4 ≡ 0 → a < 0xE0000000 → j x.protection Read a ≡ true → location i a ≡ InFlash o →
         Makes (LoadLiteral t k) (works x (set low t (read 4 o i.flash)) sp lr (pc + 2) f ram queues)
 
   pub record SpecialSteps : Type 0 where

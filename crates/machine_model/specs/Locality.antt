@@ -7,7 +7,7 @@ use Rattle.machine_protection.specs.declared.region.Access.TheVariants.{Fetch}
 use Rattle.machine_devices.specs.declared.image.Image.{Image}
 use Rattle.base_events.specs.declared.event.Event.{Event}
 use Rattle.machine_devices.specs.Rules.{ObeysRules}
-use Rattle.machine_bus.specs.Places.{InRam, place}
+use Rattle.machine_bus.specs.Locations.{InRam, location}
 use Rattle.machine_model.specs.declared.state.End.TheVariants.{Stop}
 use Rattle.machine_model.specs.declared.state.StopReason.TheVariants.{Usage}
 use Rattle.machine_model.specs.declared.answers.Fetched.TheVariants.{Took}
@@ -20,7 +20,7 @@ use Rattle.machine_model.specs.Asked.{asked_loads, IsFetched}
 
 -- two RAMs hold the same bytes at an access, where it leads to RAM
 abbrev pub Agree : Image → (ram other : List ℕ) → Touched → Type 0
-Agree i ram other x = (o : ℕ) → place i x.address ≡ InRam o → (k : ℕ) → k < x.width → get_or other (o + k) 0 ≡ get_or ram (o + k) 0
+Agree i ram other x = (o : ℕ) → location i x.address ≡ InRam o → (k : ℕ) → k < x.width → get_or other (o + k) 0 ≡ get_or ram (o + k) 0
 
 -- another RAM of the same size holds the same wherever a step reads
 pub record AgreeOnReads (j : PermissionTest) (i : Image) (s : State) (other : List ℕ) : Type 0 where
@@ -39,7 +39,7 @@ pub record AgreeOnReads (j : PermissionTest) (i : Image) (s : State) (other : Li
 -- byte k of RAM lies in an access
 pub record Hits (i : Image) (k : ℕ) (x : Touched) : Type 0 where
   pub offset : ℕ
-  pub is_at : place i x.address ≡ InRam offset
+  pub is_at : location i x.address ≡ InRam offset
   pub from : offset ≤ k
   pub before : k < offset + x.width
 

@@ -1,4 +1,4 @@
--- How what an instruction asks for is done: the one place where data is accessed.
+-- How what an instruction asks for is done: the one location where data is accessed.
 use Rattle.std.specs.Prelude.{ℕ, zero, suc, ◌+◌, ◌-◌, ◌%◌, List, [], ◌∷◌, length, Bool, true, false, ◌&&◌, Option, Some, None, nat_eq}
 use Rattle.base_words.specs.Arithmetic.{word}
 use Rattle.base_words.specs.Bytes.{cut}
@@ -9,7 +9,7 @@ use Rattle.machine_bus.specs.declared.answer.Loaded.{Loaded}
 use Rattle.machine_bus.specs.declared.answer.Loaded.TheVariants.{Value, Device, NoInput, Unmapped}
 use Rattle.machine_bus.specs.declared.answer.Stored.{Stored}
 use Rattle.machine_bus.specs.declared.answer.Stored.TheVariants.{Done, Device as Taken, Unmapped as NotTaken}
-use Rattle.machine_bus.specs.Places.{place}
+use Rattle.machine_bus.specs.Locations.{location}
 use Rattle.machine_bus.specs.Bus.{load_at, store_at, put_at, word_at}
 use Rattle.machine_bus.specs.Memory.{compartment_of}
 use Rattle.machine_devices.specs.Input.{taken}
@@ -42,21 +42,21 @@ loaded NoInput i w a s go = ends InputEnd s
 loaded Unmapped i w a s go = stops Bus s
 
 abbrev pub after_load : Verdict → PermissionTest → Image → (width address : ℕ) → State → (ℕ → CoreRegisters) → Turn
-after_load ToBus j i w a s go = loaded (load_at (place i a) i s.ram s.queues w) i w a s go
+after_load ToBus j i w a s go = loaded (load_at (location i a) i s.ram s.queues w) i w a s go
 after_load ToSystem j i w a s go = did_load w a (with_core s (go (read_system a s.protection s.status))) None
 after_load Refused j i w a s go = data_fault j i a s
 after_load (Bad r) j i w a s go = stops r s
 
 -- a store that reached the bus
 abbrev pub stored : Stored → Image → (width address value : ℕ) → State → CoreRegisters → Turn
-stored Done i w a v s c = did_store w a (record s { core = c; ram = put_at (place i a) w v s.ram }) None
+stored Done i w a v s c = did_store w a (record s { core = c; ram = put_at (location i a) w v s.ram }) None
 stored (Taken k o) i w a v s c =
     did_store w a (with_core s c)
     (Some (record { compartment = compartment_of i s.ram; periph = k; offset = o; width = w; write = true; value = cut w v }))
 stored NotTaken i w a v s c = stops Bus s
 
 abbrev pub after_store : Verdict → PermissionTest → Image → (width address value : ℕ) → State → CoreRegisters → Turn
-after_store ToBus j i w a v s c = stored (store_at (place i a)) i w a v s c
+after_store ToBus j i w a v s c = stored (store_at (location i a)) i w a v s c
 after_store ToSystem j i w a v s c = did_store w a (write_system a v (with_core s c)) None
 after_store Refused j i w a v s c = data_fault j i a s
 after_store (Bad r) j i w a v s c = stops r s
@@ -64,11 +64,11 @@ after_store (Bad r) j i w a v s c = stops r s
 -- several words, each from or to a system register or memory
 abbrev pub word_from : (system : Bool) → Image → (address : ℕ) → State → ℕ
 word_from true i a s = read_system a s.protection s.status
-word_from false i a s = word_at (place i a) i s.ram
+word_from false i a s = word_at (location i a) i s.ram
 
 abbrev pub word_to : (system : Bool) → Image → (address value : ℕ) → State → State
 word_to true i a v s = write_system a v s
-word_to false i a v s = record s { ram = put_at (place i a) 4 v s.ram }
+word_to false i a v s = record s { ram = put_at (location i a) 4 v s.ram }
 
 unfoldable pub get_words : Image → (address count : ℕ) → State → List ℕ
 get_words i a zero s = []

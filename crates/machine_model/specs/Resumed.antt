@@ -4,7 +4,7 @@ use Rattle.std.specs.Prelude.{List, [], ◌∷◌, ◌≡◌, ℕ, ◌/◌, ◌%
 use Rattle.base_words.specs.declared.conditions.Flags.{Flags}
 use Rattle.machine_model.specs.Exceptions.{stacked_status, flags_of, is_thread}
 use Rattle.std.proofs.Math.ListN.{get_or, set}
-use Rattle.machine_bus.specs.Places.{choose}
+use Rattle.machine_bus.specs.Locations.{choose}
 use Rattle.machine_model.specs.declared.state.CoreRegisters.{CoreRegisters}
 
 -- the thread's r0 to r3, r12, stack pointer, link and flags, at the return address; the handler's r4 to r11 and main stack

@@ -7,7 +7,7 @@ use Rattle.machine_thumb.specs.declared.table.Instr.{Instr}
 use Rattle.machine_protection.specs.declared.region.Access.TheVariants.{Read, Write, Fetch}
 use Rattle.machine_devices.specs.declared.image.Image.{Image}
 use Rattle.base_events.specs.declared.event.Event.{Event}
-use Rattle.machine_bus.specs.Places.{InRam, InFlash, InWindow, place}
+use Rattle.machine_bus.specs.Locations.{InRam, InFlash, InWindow, location}
 use Rattle.machine_model.specs.declared.state.CoreRegisters.{CoreRegisters}
 use Rattle.machine_model.specs.declared.state.ProtectionState.{ProtectionState}
 use Rattle.machine_model.specs.declared.state.FaultStatus.{FaultStatus}
@@ -76,17 +76,17 @@ module _ (j : PermissionTest) (i : Image) (c : CoreRegisters) (p : ProtectionSta
 
   pub record ActSteps : Type 0 where
     pub changes : (d : CoreRegisters) → act x (c.pc + size x) c ≡ Changes d → LeadsTo (live d p t ram queues)
-    pub loads_ram : (w a o : ℕ) (go : ℕ → CoreRegisters) → act x (c.pc + size x) c ≡ Loads w a go → verdict j p Read w a ≡ ToBus → place i a ≡ InRam o →
+    pub loads_ram : (w a o : ℕ) (go : ℕ → CoreRegisters) → act x (c.pc + size x) c ≡ Loads w a go → verdict j p Read w a ≡ ToBus → location i a ≡ InRam o →
         LeadsTo (live (go (read w o ram)) p t ram queues)
-    pub loads_flash : (w a o : ℕ) (go : ℕ → CoreRegisters) → act x (c.pc + size x) c ≡ Loads w a go → verdict j p Read w a ≡ ToBus → place i a ≡ InFlash o →
+    pub loads_flash : (w a o : ℕ) (go : ℕ → CoreRegisters) → act x (c.pc + size x) c ≡ Loads w a go → verdict j p Read w a ≡ ToBus → location i a ≡ InFlash o →
         LeadsTo (live (go (read w o i.flash)) p t ram queues)
-    pub loads_window : (w a k o u : ℕ) (us : List ℕ) (go : ℕ → CoreRegisters) → act x (c.pc + size x) c ≡ Loads w a go → verdict j p Read w a ≡ ToBus → place i a ≡ InWindow k o →
+    pub loads_window : (w a k o u : ℕ) (us : List ℕ) (go : ℕ → CoreRegisters) → act x (c.pc + size x) c ≡ Loads w a go → verdict j p Read w a ≡ ToBus → location i a ≡ InWindow k o →
         get_or queues k [] ≡ u ∷ us → LeadsWith (input_event i ram k o w u) (live (go (cut w u)) p t ram (set queues k us))
-    pub loads_nothing : (w a k o : ℕ) (go : ℕ → CoreRegisters) → act x (c.pc + size x) c ≡ Loads w a go → verdict j p Read w a ≡ ToBus → place i a ≡ InWindow k o →
+    pub loads_nothing : (w a k o : ℕ) (go : ℕ → CoreRegisters) → act x (c.pc + size x) c ≡ Loads w a go → verdict j p Read w a ≡ ToBus → location i a ≡ InWindow k o →
         get_or queues k [] ≡ [] → LeadsTo (ended InputEnd (live c p t ram queues))
-    pub stores_ram : (w a o u : ℕ) (d : CoreRegisters) → act x (c.pc + size x) c ≡ Stores w a u d → verdict j p Write w a ≡ ToBus → place i a ≡ InRam o →
+    pub stores_ram : (w a o u : ℕ) (d : CoreRegisters) → act x (c.pc + size x) c ≡ Stores w a u d → verdict j p Write w a ≡ ToBus → location i a ≡ InRam o →
         LeadsTo (live d p t (write w o u ram) queues)
-    pub stores_window : (w a k o u : ℕ) (d : CoreRegisters) → act x (c.pc + size x) c ≡ Stores w a u d → verdict j p Write w a ≡ ToBus → place i a ≡ InWindow k o →
+    pub stores_window : (w a k o u : ℕ) (d : CoreRegisters) → act x (c.pc + size x) c ≡ Stores w a u d → verdict j p Write w a ≡ ToBus → location i a ≡ InWindow k o →
         LeadsWith (output_event i ram k o w u) (live d p t ram queues)
     pub loads_many : (a o n : ℕ) (go : List ℕ → Option CoreRegisters) (d : CoreRegisters) → act x (c.pc + size x) c ≡ LoadsMany a n go → Words i a o n → May j p Read a n →
         go (words_at n o ram) ≡ Some d → LeadsTo (live d p t ram queues)

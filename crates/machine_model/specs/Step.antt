@@ -5,7 +5,7 @@ use Rattle.machine_thumb.specs.Decoded.{decoded}
 use Rattle.machine_protection.specs.declared.region.Access.TheVariants.{Fetch}
 use Rattle.machine_devices.specs.declared.image.Image.{Image}
 use Rattle.base_events.specs.declared.event.Event.{Event}
-use Rattle.machine_bus.specs.Places.{place}
+use Rattle.machine_bus.specs.Locations.{location}
 use Rattle.machine_bus.specs.Bus.{fetch_at}
 use Rattle.machine_model.specs.declared.state.End.{End}
 use Rattle.machine_model.specs.declared.state.StopReason.TheVariants.{Bus, Undefined}
@@ -33,7 +33,7 @@ first_half true (Some h) al k = by_size (nat_lt h 0xE800) al k h
 
 unfoldable pub fetch : PermissionTest → Image → State → Fetched
 fetch j i s =
-    first_half (j s.protection Fetch s.core.pc) (fetch_at (place i s.core.pc) i s.ram) (j s.protection Fetch (s.core.pc + 2)) (fetch_at (place i (s.core.pc + 2)) i s.ram)
+    first_half (j s.protection Fetch s.core.pc) (fetch_at (location i s.core.pc) i s.ram) (j s.protection Fetch (s.core.pc + 2)) (fetch_at (location i (s.core.pc + 2)) i s.ram)
 
 abbrev pub performed : Option Instr → PermissionTest → Image → (next : ℕ) → State → Turn
 performed None j i next s = stops Undefined s

@@ -2,7 +2,7 @@
 use Rattle.std.specs.Prelude.{ℕ, ◌+◌, ◌*◌, ◌/◌, ◌%◌, ◌^◌, Bool, true, false, ◌||◌, nat_eq, if◌then◌else◌}
 use Rattle.base_words.specs.Arithmetic.{bit_clear}
 use Rattle.machine_protection.specs.Registers.{is_register, read_register, write_register}
-use Rattle.machine_bus.specs.Places.{inside, choose}
+use Rattle.machine_bus.specs.Locations.{inside, choose}
 use Rattle.machine_model.specs.declared.TheConstants.{CCR, SHCSR, CFSR, MMFAR}
 use Rattle.machine_model.specs.declared.state.CoreRegisters.{CoreRegisters}
 use Rattle.machine_model.specs.declared.state.ProtectionState.{ProtectionState}

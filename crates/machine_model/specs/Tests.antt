@@ -4,7 +4,7 @@ use Rattle.std.specs.Prelude.{ℕ, zero, suc, ◌+◌, ◌%◌, Bool, true, fals
 use Rattle.base_words.specs.Arithmetic.{word}
 use Rattle.machine_protection.specs.declared.region.Access.{Access}
 use Rattle.machine_devices.specs.declared.image.Image.{Image}
-use Rattle.machine_bus.specs.Places.{place, is_memory, choose}
+use Rattle.machine_bus.specs.Locations.{location, is_memory, choose}
 use Rattle.machine_model.specs.declared.state.ProtectionState.{ProtectionState}
 use Rattle.machine_model.specs.declared.state.StopReason.TheVariants.{Unaligned, Bus}
 use Rattle.machine_model.specs.declared.answers.Verdict.{Verdict}
@@ -36,9 +36,9 @@ and_then (Bad r) m a v = BadOne r
 unfoldable pub verdicts : PermissionTest → Image → ProtectionState → Access → (address count : ℕ) → Verdicts
 verdicts j i p kind a zero = AllGood
 verdicts j i p kind a (suc n) =
-    and_then (verdict j p kind 4 a) (is_memory kind (place i a)) a (verdicts j i p kind (word (a + 4)) n)
+    and_then (verdict j p kind 4 a) (is_memory kind (location i a)) a (verdicts j i p kind (word (a + 4)) n)
 
 -- whether so many words of an exception's frame may be accessed: allowed, and in memory that takes such an access
 unfoldable pub all_open : PermissionTest → Image → ProtectionState → Access → (address count : ℕ) → Bool
 all_open j i p kind a zero = true
-all_open j i p kind a (suc n) = (j p kind a && is_memory kind (place i a)) && all_open j i p kind (word (a + 4)) n
+all_open j i p kind a (suc n) = (j p kind a && is_memory kind (location i a)) && all_open j i p kind (word (a + 4)) n

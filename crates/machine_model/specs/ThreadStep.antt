@@ -9,7 +9,7 @@ use Rattle.machine_protection.specs.Registers.{Registers}
 use Rattle.machine_protection.specs.Protection.{IsAccessWidth, permits}
 use Rattle.machine_devices.specs.declared.image.Image.{Image}
 use Rattle.machine_devices.specs.Rules.{ObeysRules}
-use Rattle.machine_bus.specs.Places.{Nowhere, place}
+use Rattle.machine_bus.specs.Locations.{Nowhere, location}
 use Rattle.machine_model.specs.declared.state.CoreRegisters.{CoreRegisters}
 use Rattle.machine_model.specs.declared.state.FaultStatus.{FaultStatus}
 use Rattle.machine_model.specs.declared.state.End.{End}
@@ -21,12 +21,12 @@ use Rattle.machine_model.specs.Confinement.{Misses, IsVectorRead}
 use Rattle.base_laws.specs.Lists.{Each}
 use Rattle.machine_model.specs.Asked.{RefusesFirst, IsFetched, IsTaken}
 
--- an access of which each byte is permitted to unprivileged code, at a place that is mapped
+-- an access of which each byte is permitted to unprivileged code, at a location that is mapped
 pub record IsReached (i : Image) (m : Registers) (kind : Access) (x : Touched) : Type 0 where
   pub width : IsAccessWidth x.width
   pub aligned : x.address % x.width ≡ 0
   pub permitted : (k : ℕ) → k < x.width → permits m true kind (x.address + k) ≡ true
-  pub mapped : place i x.address ≢ Nowhere
+  pub mapped : location i x.address ≢ Nowhere
 
 -- the same stack pointer is in use, and the other one stays as it is
 pub record KeepsStacks (c d : CoreRegisters) : Type 0 where

@@ -6,7 +6,7 @@ use Rattle.base_words.specs.Bytes.{read, write, cut, write_all}
 use Rattle.machine_thumb.specs.declared.table.Instr.{Instr}
 use Rattle.machine_protection.specs.declared.region.Access.TheVariants.{Read, Write}
 use Rattle.machine_devices.specs.declared.image.Image.{Image}
-use Rattle.machine_bus.specs.Places.{InRam, InFlash, InWindow, place}
+use Rattle.machine_bus.specs.Locations.{InRam, InFlash, InWindow, location}
 use Rattle.machine_model.specs.declared.state.CoreRegisters.{CoreRegisters}
 use Rattle.machine_model.specs.declared.state.ProtectionState.{ProtectionState}
 use Rattle.machine_model.specs.declared.state.FaultStatus.{FaultStatus}
@@ -30,17 +30,17 @@ module _ (j : PermissionTest) (i : Image) (c : CoreRegisters) (p : ProtectionSta
 
   pub record WholeTurns : Type 0 where
     pub changes : (d : CoreRegisters) → act x (c.pc + size x) c ≡ Changes d → TurnIs (calm (live d p t ram queues))
-    pub loads_ram : (w a o : ℕ) (go : ℕ → CoreRegisters) → act x (c.pc + size x) c ≡ Loads w a go → verdict j p Read w a ≡ ToBus → place i a ≡ InRam o →
+    pub loads_ram : (w a o : ℕ) (go : ℕ → CoreRegisters) → act x (c.pc + size x) c ≡ Loads w a go → verdict j p Read w a ≡ ToBus → location i a ≡ InRam o →
         TurnIs (did_load w a (live (go (read w o ram)) p t ram queues) None)
-    pub loads_flash : (w a o : ℕ) (go : ℕ → CoreRegisters) → act x (c.pc + size x) c ≡ Loads w a go → verdict j p Read w a ≡ ToBus → place i a ≡ InFlash o →
+    pub loads_flash : (w a o : ℕ) (go : ℕ → CoreRegisters) → act x (c.pc + size x) c ≡ Loads w a go → verdict j p Read w a ≡ ToBus → location i a ≡ InFlash o →
         TurnIs (did_load w a (live (go (read w o i.flash)) p t ram queues) None)
-    pub loads_window : (w a k o u : ℕ) (us : List ℕ) (go : ℕ → CoreRegisters) → act x (c.pc + size x) c ≡ Loads w a go → verdict j p Read w a ≡ ToBus → place i a ≡ InWindow k o →
+    pub loads_window : (w a k o u : ℕ) (us : List ℕ) (go : ℕ → CoreRegisters) → act x (c.pc + size x) c ≡ Loads w a go → verdict j p Read w a ≡ ToBus → location i a ≡ InWindow k o →
         get_or queues k [] ≡ u ∷ us → TurnIs (did_load w a (live (go (cut w u)) p t ram (set queues k us)) (Some (input_event i ram k o w u)))
     pub loads_system : (w a : ℕ) (go : ℕ → CoreRegisters) → act x (c.pc + size x) c ≡ Loads w a go → verdict j p Read w a ≡ ToSystem →
         TurnIs (did_load w a (live (go (read_system a p t)) p t ram queues) None)
-    pub stores_ram : (w a o u : ℕ) (d : CoreRegisters) → act x (c.pc + size x) c ≡ Stores w a u d → verdict j p Write w a ≡ ToBus → place i a ≡ InRam o →
+    pub stores_ram : (w a o u : ℕ) (d : CoreRegisters) → act x (c.pc + size x) c ≡ Stores w a u d → verdict j p Write w a ≡ ToBus → location i a ≡ InRam o →
         TurnIs (did_store w a (live d p t (write w o u ram) queues) None)
-    pub stores_window : (w a k o u : ℕ) (d : CoreRegisters) → act x (c.pc + size x) c ≡ Stores w a u d → verdict j p Write w a ≡ ToBus → place i a ≡ InWindow k o →
+    pub stores_window : (w a k o u : ℕ) (d : CoreRegisters) → act x (c.pc + size x) c ≡ Stores w a u d → verdict j p Write w a ≡ ToBus → location i a ≡ InWindow k o →
         TurnIs (did_store w a (live d p t ram queues) (Some (output_event i ram k o w u)))
     pub stores_system : (w a u : ℕ) (d : CoreRegisters) → act x (c.pc + size x) c ≡ Stores w a u d → verdict j p Write w a ≡ ToSystem →
         TurnIs (did_store w a (write_system a u (live d p t ram queues)) None)

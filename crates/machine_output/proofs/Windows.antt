@@ -4,7 +4,7 @@ use Rattle.base_names.proofs.Lengths.{name_lengths}
 use Rattle.machine_devices.specs.declared.image.Image.{Image}
 use Rattle.machine_devices.specs.declared.image.Window.{Window}
 use Rattle.base_events.specs.declared.event.Event.{Event}
-use Rattle.machine_bus.specs.Places.{Place, InRam, InFlash, InWindow, inside, choose, find_window, place}
+use Rattle.machine_bus.specs.Locations.{Location, InRam, InFlash, InWindow, inside, choose, find_window, location}
 use Rattle.machine_devices.specs.Rules.{ObeysRules, AreWindows}
 use Rattle.machine_model.specs.State.{State, Touched, by_mpu}
 use Rattle.machine_model.specs.Step.{turn, event}
@@ -16,7 +16,7 @@ some_of P [] h = absurd h
 some_of P (x ∷ xs) (inl h) = (x, h)
 some_of P (x ∷ xs) (inr h) = some_of P xs h
 
-chosen_window : (b : Bool) (q r : Place) (p o : ℕ) → choose b q r ≡ InWindow p o → (q ≡ InWindow p o) ⊎ (r ≡ InWindow p o)
+chosen_window : (b : Bool) (q r : Location) (p o : ℕ) → choose b q r ≡ InWindow p o → (q ≡ InWindow p o) ⊎ (r ≡ InWindow p o)
 chosen_window true q r p o h = inl h
 chosen_window false q r p o h = inr h
 
@@ -29,8 +29,8 @@ window_number (w ∷ ws) k a p o h =
       | inr e ↦ (let q : p < suc k + length ws = window_number ws (suc k) a p o e in omega arith)
     ]
 
-placed_window : (i : Image) (a p o : ℕ) → place i a ≡ InWindow p o → p < length i.windows
-unfolding place
+placed_window : (i : Image) (a p o : ℕ) → location i a ≡ InWindow p o → p < length i.windows
+unfolding location
 placed_window i a p o h =
     elim (chosen_window (inside i.ram_base i.ram_size a) (InRam (a - i.ram_base)) _ p o h) [
       | inl e ↦ (let f : ⊥ = cc in absurd f)
@@ -45,7 +45,7 @@ placed_window i a p o h =
 pub event_known : EventsAreListed → (i : Image) (s : State) (e : Event) → event i s ≡ Some e → e.periph < length i.windows
 event_known law i s e h =
     let t = turn by_mpu i s in
-    let x = some_of (λ (x : Touched). (x.width ≡ e.width) × (place i x.address ≡ InWindow e.periph e.offset)) (choose e.write t.stores t.loads) (law by_mpu i s e h) in
+    let x = some_of (λ (x : Touched). (x.width ≡ e.width) × (location i x.address ≡ InWindow e.periph e.offset)) (choose e.write t.stores t.loads) (law by_mpu i s e h) in
     placed_window i x.0.address e.periph e.offset x.1.1
 
 short_at : (ws : List Window) (k : ℕ) → AreWindows ws → length (name_of ws k) ≤ 64

@@ -3,7 +3,7 @@ use Rattle.std.specs.Prelude.{◌≡◌, ℕ, ◌+◌, ◌≤◌, List, ◌++◌
 use Rattle.machine_devices.specs.declared.image.Image.{Image}
 use Rattle.machine_devices.specs.declared.image.Window.{Window}
 use Rattle.base_events.specs.declared.event.Event.{Event}
-use Rattle.machine_bus.specs.Places.{inside}
+use Rattle.machine_bus.specs.Locations.{inside}
 use Rattle.machine_model.specs.State.{State}
 use Rattle.machine_watch.specs.Watched.{MissesAll, HitsLast}
 use Rattle.machine_lines.specs.Lines.{watch_line}

@@ -2,7 +2,7 @@
 
 ghost use Rattle.std.specs.Prelude.{◌≡◌, ◌≢◌, ◌+◌, ◌<◌, ◌^◌, Bool, None, IsTrue, IsFalse, IfSome, IfOk, OnErr};
 ghost use Rattle.std.specs.Fn.{FnReturnsAt};
-ghost use Rattle.machine_bus.specs.Places.{inside};
+ghost use Rattle.machine_bus.specs.Locations.{inside};
 ghost use Rattle.machine_devices.specs.Rules.{ObeysRules};
 ghost use Rattle.machine_model.specs.declared.state.End.TheVariants.{Limit};
 ghost use Rattle.machine_watch.specs.Answers.{AnswersEqually};

@@ -6,7 +6,7 @@ use Rattle.std.proofs.lemmas.Bool.Decides.{nat_tests}
 use Rattle.base_words.specs.Bytes.{read, write_all}
 use Rattle.base_words.proofs.Bytes.{cut_small, length-write}
 use Rattle.machine_devices.specs.declared.image.Image.{Image}
-use Rattle.machine_bus.specs.Places.{Place, InRam, InFlash, InWindow, Nowhere, place}
+use Rattle.machine_bus.specs.Locations.{Location, InRam, InFlash, InWindow, Nowhere, location}
 use Rattle.machine_model.specs.declared.state.CoreRegisters.{CoreRegisters}
 use Rattle.machine_model.specs.State.{State, by_mpu}
 use Rattle.base_laws.specs.Lists.{Each}
@@ -106,11 +106,11 @@ module _ (laws : FrameLaws) (i : Image) (t : Tables) (p : Placed i t) (stub : �
       let lo = inside.from_base in
       let hi = inside.below_top in
       let under = rounded_below t.stack.base (eighth t) psp lo in
-      let place = p.stack.place.1 in
+      let location = p.stack.place.1 in
       let base = p.stack_base in
       let size = p.stack_size in
       let least = p.rules.ram_least in
-      let top : new_top i t stub m psp memory ≤ i.ram_base + i.ram_size = omega (arith, under, hi, below, place, base, size) in
+      let top : new_top i t stub m psp memory ≤ i.ram_base + i.ram_size = omega (arith, under, hi, below, location, base, size) in
       let long : length (moved_on i psp memory) ≡ i.ram_size = length-write 4 (psp - i.ram_base + 4 * return_place) (word i t stub m psp memory return_place + 2) memory ∙ entered_length laws i p.rules s h.fits opened supervisor_call (s.core.pc + 2) s.status in
       let fit = frame_inside (new_top i t stub m psp memory) i.ram_base i.ram_size top (omega (arith, least)) in
       laws.pushed (callee_frame i t stub m psp memory g) (new_top i t stub m psp memory - 32 - i.ram_base) (moved_on i psp memory)
@@ -165,11 +165,11 @@ module _ (laws : FrameLaws) (i : Image) (t : Tables) (p : Placed i t) (stub : �
         let returns : (site_at t number).ret ≡ word i t stub m psp memory return_place = let z = b.1 in search (nat_tests, arith) in
         enter_to_change number half in_sites (returns ∙ return_word) (last_with_entry (word i t stub m psp memory r12_place) (targets_of t (site_at t number))) refl a.1
 
-    enter_at_change : (l : Place) → place i (s.core.pc + 2) ≡ l → enter_at i t stub m psp memory l ≡ Resumes n q after → Change i t s u m n
+    enter_at_change : (l : Location) → location i (s.core.pc + 2) ≡ l → enter_at i t stub m psp memory l ≡ Resumes n q after → Change i t s u m n
     enter_at_change (InRam o) here e = cc
     enter_at_change (InFlash o) here e = enter_by_change (read 2 o i.flash) (record { offset = o; is_in_flash = here; is_half = refl }) e
     enter_at_change (InWindow k o) here e = cc
     enter_at_change Nowhere here e = cc
 
-    pub enter_change : enter_at i t stub m psp memory (place i (word i t stub m psp memory return_place)) ≡ Resumes n q after → Change i t s u m n
-    enter_change e = enter_at_change (place i (word i t stub m psp memory return_place)) (ap (λ a. place i a) (sym return_word)) e
+    pub enter_change : enter_at i t stub m psp memory (location i (word i t stub m psp memory return_place)) ≡ Resumes n q after → Change i t s u m n
+    enter_change e = enter_at_change (location i (word i t stub m psp memory return_place)) (ap (λ a. location i a) (sym return_word)) e

@@ -4,7 +4,7 @@ use Rattle.base_words.specs.Bytes.{write_all}
 use Rattle.base_words.proofs.Bytes.{length-write_all}
 use Rattle.machine_devices.specs.declared.image.Image.{Image}
 use Rattle.machine_devices.specs.Rules.{ObeysRules}
-use Rattle.machine_bus.specs.Places.{place, InFlash}
+use Rattle.machine_bus.specs.Locations.{location, InFlash}
 use Rattle.machine_bus.proofs.Offsets.{flash_at}
 use Rattle.machine_model.specs.declared.state.FaultStatus.{FaultStatus}
 use Rattle.machine_model.specs.State.{State, by_mpu}
@@ -26,7 +26,7 @@ pub offset_is : (b o a : ℕ) → b + o ≡ a → a - b ≡ o
 offset_is b o a e = omega arith
 
 -- what lies in flash lies low
-pub flash_low : (i : Image) → ObeysRules i → (a o : ℕ) → place i a ≡ InFlash o → a < 2 ^ 30
+pub flash_low : (i : Image) → ObeysRules i → (a o : ℕ) → location i a ≡ InFlash o → a < 2 ^ 30
 flash_low i rules a o e =
     let f = flash_at i a o e in
     let at = f.0 in
@@ -39,7 +39,7 @@ module _ (laws : FrameLaws) (i : Image) (rules : ObeysRules i) (s : State) (fits
   pub frame : OpenFrame by_mpu i s.core s.protection s.status s.ram s.queues
   frame = laws.in_ram by_mpu i s.core s.protection s.status s.ram s.queues rules fits.core.sp_aligned opened
 
-  -- the frame's place in RAM
+  -- the frame's location in RAM
   pub frame_offset : frame_at s.core.sp - i.ram_base ≡ frame.offset
   frame_offset = offset_is i.ram_base frame.offset (frame_at s.core.sp) frame.frame.words.is_at
 

@@ -16,7 +16,7 @@ use Rattle.machine_protection.specs.RegionWords.{region_of, may}
 use Rattle.machine_protection.specs.Laws.{kept_region, RegionsHoldTheirBlocks, RegionsGiveTheirRights}
 use Rattle.machine_protection.specs.Configured.{IsLast, KeptListsPermit, closed_from, OpenEighthsAreHeld}
 use Rattle.machine_devices.specs.declared.image.Image.{Image}
-use Rattle.machine_bus.specs.Places.{choose}
+use Rattle.machine_bus.specs.Locations.{choose}
 use Rattle.machine_model.specs.State.{State}
 use Rattle.machine_model.specs.Confinement.{AnyOf}
 use Rattle.base_laws.specs.Lists.{Each}

@@ -4,7 +4,7 @@ use Rattle.std.proofs.Common.{◌≡◌, ℕ, suc, ◌+◌, ◌%◌, ◌<◌, �
 use Rattle.std.proofs.lemmas.Bool.Decides.{nat_tests}
 use Rattle.base_words.specs.Runs.{run}
 use Rattle.machine_devices.specs.declared.image.Image.{Image}
-use Rattle.machine_bus.specs.Places.{place}
+use Rattle.machine_bus.specs.Locations.{location}
 use Rattle.machine_model.specs.State.{State}
 use Rattle.machine_model.specs.Step.{step}
 use Rattle.machine_model.specs.Exceptions.{frame_at}
@@ -65,12 +65,12 @@ module _ (i : Image) (t : Tables) (stub : ℕ) (s u : State) (m : Block) (memory
   unlend_change (l ∷ ls) is e = unlend_by l ls is (subst (λ (k : List Loan). m.mark ≤ length k) is marks) (nat_eq (suc (length ls)) m.mark) refl e
 
   numbered : (k : ℕ) → IsSvc i t k s → FrameIsOpen i t m psp → by_number i t stub m psp memory k ≡ Resumes n q after →
-      (IsSvc i t 0 s → FrameIsOpen i t m psp → enter_at i t stub m psp memory (place i (word i t stub m psp memory return_place)) ≡ Resumes n q after → Change i t s u m n) →
+      (IsSvc i t 0 s → FrameIsOpen i t m psp → enter_at i t stub m psp memory (location i (word i t stub m psp memory return_place)) ≡ Resumes n q after → Change i t s u m n) →
       Change i t s u m n
   numbered k svc opened e enters = by (nat_eq k 0) (nat_eq k 1) (nat_eq k 2) (nat_eq k 3) refl refl e
     where
       by : (b0 b1 b2 b3 : Bool) → nat_eq k 0 ≡ b0 → nat_eq k 1 ≡ b1 →
-          (if b0 then enter_at i t stub m psp memory (place i (word i t stub m psp memory return_place)) else if b1 then leave_to i t stub m psp memory m.saved else if b2 then lend i t stub m psp memory else if b3 then unlend_to i t stub m psp memory m.loans else Halts 1) ≡ Resumes n q after →
+          (if b0 then enter_at i t stub m psp memory (location i (word i t stub m psp memory return_place)) else if b1 then leave_to i t stub m psp memory m.saved else if b2 then lend i t stub m psp memory else if b3 then unlend_to i t stub m psp memory m.loans else Halts 1) ≡ Resumes n q after →
           Change i t s u m n
       by true b1 b2 b3 z0 z1 e = let z : k ≡ 0 = search (nat_tests, arith) in enters (subst (λ (a : ℕ). IsSvc i t a s) z svc) opened e
       by false true b2 b3 z0 z1 e = let z : k ≡ 1 = search (nat_tests, arith) in leave_change m.saved refl (subst (λ (a : ℕ). IsSvc i t a s) z svc) e
@@ -80,7 +80,7 @@ module _ (i : Image) (t : Tables) (stub : ℕ) (s u : State) (m : Block) (memory
 
   -- with the answer of enter
   pub svc_change : (k : ℕ) → IsSvc i t k s → svc_outcome i t stub m psp memory k ≡ Resumes n q after →
-      (IsSvc i t 0 s → FrameIsOpen i t m psp → enter_at i t stub m psp memory (place i (word i t stub m psp memory return_place)) ≡ Resumes n q after → Change i t s u m n) →
+      (IsSvc i t 0 s → FrameIsOpen i t m psp → enter_at i t stub m psp memory (location i (word i t stub m psp memory return_place)) ≡ Resumes n q after → Change i t s u m n) →
       Change i t s u m n
   unfolding svc_outcome
   svc_change k svc e enters =

@@ -10,7 +10,7 @@ use Rattle.machine_protection.specs.Protection.{permits}
 use Rattle.machine_devices.specs.declared.image.Image.{Image}
 use Rattle.base_ranges.specs.Ranges.{AreApart}
 use Rattle.machine_devices.specs.Rules.{block_size}
-use Rattle.machine_bus.specs.Places.{Place, InRam, InFlash, InWindow, Nowhere, place}
+use Rattle.machine_bus.specs.Locations.{Location, InRam, InFlash, InWindow, Nowhere, location}
 use Rattle.machine_bus.specs.Access.{further}
 use Rattle.machine_bus.specs.Bus.{fetch_at}
 use Rattle.machine_bus.proofs.Placed.{place_further}
@@ -39,7 +39,7 @@ use Rattle.monitor_confined.specs.ThreadSteps.{ThreadStepsAreConfined, ThreadSte
 use Rattle.monitor_confined.proofs.Reaches.{current_word, regions_word, open_inside}
 use Rattle.base_laws.proofs.Lists.{each_to, each_at}
 
-further_mapped : (l : Place) (k : ℕ) → l ≢ Nowhere → further k l ≢ Nowhere
+further_mapped : (l : Location) (k : ℕ) → l ≢ Nowhere → further k l ≢ Nowhere
 further_mapped (InRam o) k h e = cc
 further_mapped (InFlash o) k h e = cc
 further_mapped (InWindow q o) k h e = cc
@@ -107,7 +107,7 @@ module _ (i : Image) (t : Tables) (m : Block) (s : State) (p : Placed i t) (h : 
   stores_kind : (x : Touched) → IsReached i s.protection.mpu Write x → AllBytes (StoreKind i t s) x
   stores_kind x y k lt = store_kind (x.address + k) (y.permitted k lt)
 
-  load_kind : i.closed ≡ true → (a : ℕ) → place i a ≢ Nowhere → permits s.protection.mpu true Read a ≡ true → LoadKind i t s a
+  load_kind : i.closed ≡ true → (a : ℕ) → location i a ≢ Nowhere → permits s.protection.mpu true Read a ≡ true → LoadKind i t s a
   load_kind closed a mapped e = elim (r.loads closed a e) [
     | inl f ↦ OfSlot f
     | inr (inl f) ↦ OfStack f
@@ -123,7 +123,7 @@ module _ (i : Image) (t : Tables) (m : Block) (s : State) (p : Placed i t) (h : 
 
   loads_kind : i.closed ≡ true → (x : Touched) → IsReached i s.protection.mpu Read x ⊎ IsVectorRead i x → AllBytes (LoadKind i t s) x
   loads_kind closed x (inl y) k lt =
-      load_kind closed (x.address + k) (λ none. further_mapped (place i x.address) k y.mapped (sym (place_further i x.address x.width k p.rules y.width y.aligned lt) ∙ none)) (y.permitted k lt)
+      load_kind closed (x.address + k) (λ none. further_mapped (location i x.address) k y.mapped (sym (place_further i x.address x.width k p.rules y.width y.aligned lt) ∙ none)) (y.permitted k lt)
   loads_kind closed x (inr (inl e)) k lt = vector_kind mem_manage (omega arith) x e k lt
   loads_kind closed x (inr (inr e)) k lt = vector_kind supervisor_call (omega arith) x e k lt
 
@@ -190,7 +190,7 @@ module _ (i : Image) (t : Tables) (m : Block) (s : State) (p : Placed i t) (h : 
       let lo = z.0 in
       let hi = z.1 in
       let o : ℕ = s.core.pc - i.flash_base in
-      let l : place i s.core.pc ≡ InFlash o = in_flash i s.core.pc o p.rules (omega (arith, lo)) (omega (arith, lo, hi)) in
+      let l : location i s.core.pc ≡ InFlash o = in_flash i s.core.pc o p.rules (omega (arith, lo)) (omega (arith, lo, hi)) in
       let e : Some (read 2 o i.flash) ≡ Some half = sym (ap (λ q. fetch_at q i s.ram) l) ∙ f.is_half in
       record { offset = o; is_in_flash = l; is_half = (let z : read 2 o i.flash ≡ half = cc in z) }
 

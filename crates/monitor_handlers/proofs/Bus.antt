@@ -13,7 +13,7 @@ use Rattle.machine_protection.specs.declared.region.Access.TheVariants.{Read}
 use Rattle.machine_protection.specs.declared.TheConstants.{MPU_CTRL}
 use Rattle.machine_devices.specs.declared.image.Image.{Image}
 use Rattle.machine_devices.specs.Rules.{block_size}
-use Rattle.machine_bus.specs.Places.{Nowhere, place}
+use Rattle.machine_bus.specs.Locations.{Nowhere, location}
 use Rattle.machine_model.specs.declared.state.ProtectionState.{ProtectionState}
 use Rattle.machine_model.specs.declared.state.StopReason.TheVariants.{Bus}
 use Rattle.machine_model.specs.declared.answers.Verdict.TheVariants.{ToBus}
@@ -81,7 +81,7 @@ calm_handles i t s v w h e = record {
   loads_for = λ closed. subst (λ l. Rattle.base_laws.specs.Lists.Each (Rattle.monitor_model.specs.Reach.AllBytes (Rattle.monitor_model.specs.Handlers.LoadFor i t s)) l) (sym (ap (λ (u : Turn). u.loads) e)) tt;
 }
 
-module _ (nothing : NothingStops) (equal : holds 0 (compare_flags 0 0) ≡ true) (i : Image) (t : Tables) (stub : ℕ) (s : State) (m : Block) (psp o : ℕ) (memory : List ℕ) (c : Calling i t s m psp o memory) (ret : ℕ) (return_is : read 4 (o + 24) memory ≡ ret) (called : Called i ret 0) (even : ret % 2 ≡ 0) (low_ret : ret < 0x20000000) (none : place i ret ≡ Nowhere) where
+module _ (nothing : NothingStops) (equal : holds 0 (compare_flags 0 0) ≡ true) (i : Image) (t : Tables) (stub : ℕ) (s : State) (m : Block) (psp o : ℕ) (memory : List ℕ) (c : Calling i t s m psp o memory) (ret : ℕ) (return_is : read 4 (o + 24) memory ≡ ret) (called : Called i ret 0) (even : ret % 2 ≡ 0) (low_ret : ret < 0x20000000) (none : location i ret ≡ Nowhere) where
   abbrev k : Constants
   k = constants_with stub t
 

@@ -9,7 +9,7 @@ use Rattle.machine_protection.specs.Laws.{kept_region}
 use Rattle.machine_protection.specs.Registers.{Registers}
 use Rattle.machine_devices.specs.declared.image.Image.{Image}
 use Rattle.machine_devices.specs.Rules.{block_size}
-use Rattle.machine_bus.specs.Places.{InFlash, place}
+use Rattle.machine_bus.specs.Locations.{InFlash, location}
 use Rattle.machine_model.specs.declared.state.ProtectionState.{ProtectionState}
 use Rattle.machine_model.specs.State.{State}
 use Rattle.monitor_steps.specs.Core.{Core}
@@ -220,15 +220,15 @@ module _ (i : Image) (t : Tables) (stub : ℕ) (s : State) (m : Block) (psp o : 
 
   -- ---- enter, whose return address is that of flash offset ro
 
-  module _ (ret ro : ℕ) (return_is : read 4 (o + 24) memory ≡ ret) (at_flash : place i ret ≡ InFlash ro) where
+  module _ (ret ro : ℕ) (return_is : read 4 (o + 24) memory ≡ ret) (at_flash : location i ret ≡ InFlash ro) where
     ret_word : word i t stub m psp memory return_place ≡ ret
     ret_word = stacked_is i psp o 6 memory c.at (omega arith) ∙ return_is
 
     wanted_word : word i t stub m psp memory r12_place ≡ read 4 (o + 16) memory
     wanted_word = stacked_is i psp o 4 memory c.at (omega arith)
 
-    enter_is : enter_at i t stub m psp memory (place i (word i t stub m psp memory return_place)) ≡ enter_by i t stub m psp memory (read 2 ro i.flash)
-    enter_is = ap (λ r. enter_at i t stub m psp memory (place i r)) ret_word ∙ ap (λ p. enter_at i t stub m psp memory p) at_flash
+    enter_is : enter_at i t stub m psp memory (location i (word i t stub m psp memory return_place)) ≡ enter_by i t stub m psp memory (read 2 ro i.flash)
+    enter_is = ap (λ r. enter_at i t stub m psp memory (location i r)) ret_word ∙ ap (λ p. enter_at i t stub m psp memory p) at_flash
 
     abbrev last : Option TargetRecord
     last = last_with_entry (read 4 (o + 16) memory) (targets_of t (site_at t (read 2 ro i.flash)))
@@ -239,7 +239,7 @@ module _ (i : Image) (t : Tables) (stub : ℕ) (s : State) (m : Block) (psp o : 
         (and_from (nat_lt (read 2 ro i.flash) (length t.sites)) (nat_eq (site_at t (read 2 ro i.flash)).ret (word i t stub m psp memory return_place)) (lt-ltb (read 2 ro i.flash) (length t.sites) lt) (eq-eqb (site_at t (read 2 ro i.flash)).ret (word i t stub m psp memory return_place) (re ∙ sym ret_word)))
         ∙ ap (λ w. enter_to i t stub m psp memory (last_with_entry w (targets_of t (site_at t (read 2 ro i.flash))))) wanted_word
 
-    pub no_site_halts : (d : Core) → d.ram ≡ memory → (read 2 ro i.flash < length t.sites → (site_at t (read 2 ro i.flash)).ret ≡ ret → ⊥) → Q (enter_at i t stub m psp memory (place i (word i t stub m psp memory return_place))) (Halted 2 d)
+    pub no_site_halts : (d : Core) → d.ram ≡ memory → (read 2 ro i.flash < length t.sites → (site_at t (read 2 ro i.flash)).ret ≡ ret → ⊥) → Q (enter_at i t stub m psp memory (location i (word i t stub m psp memory return_place))) (Halted 2 d)
     no_site_halts d r refused = subst (λ h. Q h (Halted 2 d)) (sym enter_is) (by (nat_lt (read 2 ro i.flash) (length t.sites) && nat_eq (site_at t (read 2 ro i.flash)).ret (word i t stub m psp memory return_place)) refl)
       where
         by : (x : Bool) → (nat_lt (read 2 ro i.flash) (length t.sites) && nat_eq (site_at t (read 2 ro i.flash)).ret (word i t stub m psp memory return_place)) ≡ x → Q (enter_by i t stub m psp memory (read 2 ro i.flash)) (Halted 2 d)
@@ -249,11 +249,11 @@ module _ (i : Image) (t : Tables) (stub : ℕ) (s : State) (m : Block) (psp o : 
         by false e =
             subst (λ b. Q (if b then enter_to i t stub m psp memory (last_with_entry (word i t stub m psp memory r12_place) (targets_of t (site_at t (read 2 ro i.flash)))) else Halts 2) (Halted 2 d)) (sym e) (halted i t stub s m psp o memory c 2 d r)
 
-    pub no_target_halts : (d : Core) → d.ram ≡ memory → read 2 ro i.flash < length t.sites → (site_at t (read 2 ro i.flash)).ret ≡ ret → last ≡ None → Q (enter_at i t stub m psp memory (place i (word i t stub m psp memory return_place))) (Halted 3 d)
+    pub no_target_halts : (d : Core) → d.ram ≡ memory → read 2 ro i.flash < length t.sites → (site_at t (read 2 ro i.flash)).ret ≡ ret → last ≡ None → Q (enter_at i t stub m psp memory (location i (word i t stub m psp memory return_place))) (Halted 3 d)
     no_target_halts d r lt re e = subst (λ h. Q h (Halted 3 d)) (sym (enter_is ∙ found_is lt re ∙ ap (λ l. enter_to i t stub m psp memory l) e)) (halted i t stub s m psp o memory c 3 d r)
 
     -- the stack's base is the new TOP, or not
-    pub no_stack_halts : (d : Core) (g : TargetRecord) → d.ram ≡ memory → read 2 ro i.flash < length t.sites → (site_at t (read 2 ro i.flash)).ret ≡ ret → last ≡ Some g → rounded t psp ≡ t.stack.base → Q (enter_at i t stub m psp memory (place i (word i t stub m psp memory return_place))) (Halted 5 d)
+    pub no_stack_halts : (d : Core) (g : TargetRecord) → d.ram ≡ memory → read 2 ro i.flash < length t.sites → (site_at t (read 2 ro i.flash)).ret ≡ ret → last ≡ Some g → rounded t psp ≡ t.stack.base → Q (enter_at i t stub m psp memory (location i (word i t stub m psp memory return_place))) (Halted 5 d)
     no_stack_halts d g r lt re e z =
         subst (λ h. Q h (Halted 5 d))
         (sym (enter_is ∙ found_is lt re ∙ ap (λ l. enter_to i t stub m psp memory l) e
@@ -269,7 +269,7 @@ module _ (i : Image) (t : Tables) (stub : ℕ) (s : State) (m : Block) (psp o : 
       abbrev after_enter : List ℕ
       after_enter = write_all 4 (rounded t psp - 32 - i.ram_base) (callee_frame i t stub m psp memory g) (moved_on i psp memory)
 
-      outcome : enter_at i t stub m psp memory (place i (word i t stub m psp memory return_place)) ≡ Resumes (entered m g.compartment (rounded t psp) psp) (rounded t psp - 32) after_enter
+      outcome : enter_at i t stub m psp memory (location i (word i t stub m psp memory return_place)) ≡ Resumes (entered m g.compartment (rounded t psp) psp) (rounded t psp - 32) after_enter
       outcome =
           enter_is ∙ found_is lt re ∙ ap (λ l. enter_to i t stub m psp memory l) e
           ∙ ap (λ b. if b then Resumes (entered m g.compartment (rounded t psp) psp) (rounded t psp - 32) after_enter else Halts 5) (lt-ltb t.stack.base (rounded t psp) (let x = z.above in omega (arith, x)))
@@ -393,7 +393,7 @@ module _ (i : Image) (t : Tables) (stub : ℕ) (s : State) (m : Block) (psp o : 
 
       pub enter_goes : (x : Core) (raised : List ℕ) → x.sp ≡ t.monitor + block_size → x.other_sp ≡ rounded t psp - 32 → x.protection.unprivileged ≡ true → x.protection.mpu.control ≡ 5 → x.protection.mpu.regions ≡ regions_for i t g.compartment (rounded t psp) → x.status ≡ s.status →
           raised ≡ write 4 (o + 24) (ret + 2) memory → HasEntered i t k.stub_entry psp o (rounded t psp - i.ram_base - 32) (length m.saved) g.compartment (rounded t psp) (g.entry - 1) raised x.ram →
-          Q (enter_at i t stub m psp memory (place i (word i t stub m psp memory return_place))) (AtReturn x)
+          Q (enter_at i t stub m psp memory (location i (word i t stub m psp memory return_place))) (AtReturn x)
       enter_goes x raised e1 e2 e3 e4 e5 e6 w h =
           subst (λ y. Q y (AtReturn x)) (sym outcome) (
             x,

@@ -7,7 +7,7 @@ use Rattle.machine_protection.specs.Protection.{permits}
 use Rattle.machine_devices.specs.declared.image.Image.{Image}
 use Rattle.base_ranges.specs.Ranges.{AreApart}
 use Rattle.machine_devices.specs.Rules.{block_size}
-use Rattle.machine_bus.specs.Places.{choose}
+use Rattle.machine_bus.specs.Locations.{choose}
 use Rattle.machine_model.specs.declared.state.ProtectionState.{ProtectionState}
 use Rattle.machine_model.specs.declared.state.FaultStatus.{FaultStatus}
 use Rattle.machine_model.specs.State.{State, by_mpu, is_unprivileged}

@@ -6,7 +6,7 @@ use Rattle.base_words.specs.Flags.{holds, compare_flags}
 use Rattle.base_words.specs.Bytes.{read}
 use Rattle.machine_devices.specs.declared.image.Image.{Image}
 use Rattle.machine_devices.specs.Rules.{ObeysRules}
-use Rattle.machine_bus.specs.Places.{Nowhere, place}
+use Rattle.machine_bus.specs.Locations.{Nowhere, location}
 use Rattle.machine_bus.proofs.Offsets.{flash_at, in_flash, no_window as none_holds}
 use Rattle.machine_bus.proofs.Placed.{holds_nowhere}
 use Rattle.machine_model.specs.State.{State, by_mpu}
@@ -101,7 +101,7 @@ sound_is_fit i t rules s =
 
 -- ---- behind flash nothing lies
 
-behind_flash : (i : Image) (a : ℕ) → ObeysRules i → i.flash_base + length i.flash ≤ a → a < 0x20000000 → place i a ≡ Nowhere
+behind_flash : (i : Image) (a : ℕ) → ObeysRules i → i.flash_base + length i.flash ≤ a → a < 0x20000000 → location i a ≡ Nowhere
 behind_flash i a rules hi lt = holds_nowhere i a 1 rules (inl refl) (omega arith) (λ h. elim h [
   | inl x ↦ (let l = rules.ram_lowest in let y = x.0 in omega (arith, l, y, lt))
   | inr (inl x) ↦ (let y = x.1 in omega (arith, y, hi))
@@ -283,7 +283,7 @@ module _ (laws : CallLaws) (i : Image) (t : Tables) (fit : IsFit i t) (s : State
   equal_zero = laws.list.equal 0 0 (omega arith) (omega arith)
 
   module _ (zero_is : n ≡ 0) (last : length i.flash ≤ is_svc.offset + 2) where
-    nowhere : place i (s.core.pc + 2) ≡ Nowhere
+    nowhere : location i (s.core.pc + 2) ≡ Nowhere
     nowhere = behind_flash i (s.core.pc + 2) p.rules (let a = pc_at.0 in omega (arith, a, last)) ret_small
 
     called_zero : Called i (s.core.pc + 2) 0
@@ -320,7 +320,7 @@ module _ (laws : CallLaws) (i : Image) (t : Tables) (fit : IsFit i t) (s : State
     stops_outcome f =
         outcome_open i t stub s m psp o memory calling n f
         ∙ ap (λ x. by_number i t stub m psp memory x) zero_is
-        ∙ ap (λ r. enter_at i t stub m psp memory (place i r)) (Rattle.monitor_handlers.proofs.Frames.stacked_is i psp o 6 memory calling.at (omega arith) ∙ return_is)
+        ∙ ap (λ r. enter_at i t stub m psp memory (location i r)) (Rattle.monitor_handlers.proofs.Frames.stacked_is i psp o 6 memory calling.at (omega arith) ∙ return_is)
         ∙ ap (λ l. enter_at i t stub m psp memory l) nowhere
 
     abbrev at_test : Core

@@ -7,7 +7,7 @@ use Rattle.std.specs.Int.{bit_at}
 use Rattle.base_words.specs.Arithmetic.{subtract, shift_right}
 use Rattle.machine_protection.specs.declared.region.Access.TheVariants.{Read, Write}
 use Rattle.machine_devices.specs.declared.image.Image.{Image}
-use Rattle.machine_bus.specs.Places.{choose}
+use Rattle.machine_bus.specs.Locations.{choose}
 use Rattle.machine_model.specs.State.{State}
 use Rattle.base_laws.specs.Lists.{Each}
 use Rattle.monitor_steps.specs.Core.{Core}

@@ -3,7 +3,7 @@ use Rattle.std.proofs.Common.{◌≡◌, ℕ, zero, suc, ◌+◌, ◌<◌, ◌�
 use Rattle.machine_devices.specs.declared.image.Image.{Image}
 use Rattle.machine_devices.specs.Rules.{ObeysRules}
 use Rattle.machine_protection.specs.declared.region.Access.TheVariants.{Fetch}
-use Rattle.machine_bus.specs.Places.{Place, InRam, InFlash, InWindow, Nowhere}
+use Rattle.machine_bus.specs.Locations.{Location, InRam, InFlash, InWindow, Nowhere}
 use Rattle.machine_model.specs.declared.answers.Verdict.{Verdict}
 use Rattle.machine_model.specs.declared.answers.Verdict.TheVariants.{ToBus, ToSystem, Refused, Bad}
 use Rattle.machine_model.specs.declared.state.ProtectionState.{ProtectionState}
@@ -63,13 +63,13 @@ module _ (h : Bool) where
   IsStored (StoreStops r) = Unit {0}
   IsStored StoreUnclaimed = Unit {0}
 
-  at_keeps : (p : Place) (w v : ℕ) (c : Core) → Is c → IsStored (store_at p w v c)
+  at_keeps : (p : Location) (w v : ℕ) (c : Core) → Is c → IsStored (store_at p w v c)
   at_keeps (InRam o) w v c e = e
   at_keeps (InFlash o) w v c e = tt
   at_keeps (InWindow k o) w v c e = tt
   at_keeps Nowhere w v c e = tt
 
-  by_keeps : (x : Verdict) (p : Place) (w a v : ℕ) (c : Core) → Is c → IsStored (store_by x p w a v c)
+  by_keeps : (x : Verdict) (p : Location) (w a v : ℕ) (c : Core) → Is c → IsStored (store_by x p w a v c)
   by_keeps ToBus p w a v c e = at_keeps p w v c e
   by_keeps ToSystem p w a v c e = e
   by_keeps Refused p w a v c e = tt

@@ -4,7 +4,7 @@ use Rattle.base_words.specs.Bytes.{read}
 use Rattle.machine_protection.specs.declared.TheConstants.{MPU_CTRL}
 use Rattle.machine_devices.specs.declared.image.Image.{Image}
 use Rattle.machine_devices.specs.Rules.{block_size}
-use Rattle.machine_bus.specs.Places.{InFlash, place}
+use Rattle.machine_bus.specs.Locations.{InFlash, location}
 use Rattle.machine_model.specs.declared.state.ProtectionState.{ProtectionState}
 use Rattle.machine_model.specs.State.{State, by_mpu}
 use Rattle.monitor_steps.specs.Steps.{PrivilegedSteps}
@@ -114,7 +114,7 @@ module _ (i : Image) (t : Tables) (stub : ℕ) (s : State) (m : Block) (psp o : 
     shallow : length m.saved < 8
     shallow = let x = c.invariant.inv.orderly.is_top.3 in let y = c.invariant.inv.orderly.is_top.2 in omega (arith, x, y)
 
-    module _ (ret ro : ℕ) (return_is : read 4 (o + 24) memory ≡ ret) (return_at : ret ≡ i.flash_base + ro) (return_even : ro % 2 ≡ 0) (return_room : ro + 2 ≤ length i.flash) (at_flash : place i ret ≡ InFlash ro) where
+    module _ (ret ro : ℕ) (return_is : read 4 (o + 24) memory ≡ ret) (return_at : ret ≡ i.flash_base + ro) (return_even : ro % 2 ≡ 0) (return_room : ro + 2 ≤ length i.flash) (at_flash : location i ret ≡ InFlash ro) where
       asks : Asks i t c.placed c.tables stub (IsGood i) (HandlerRule i t s) reach (good_while_off i c.placed.rules) on msp psp s.status o ro m.top (length m.saved) ret here memory
       asks = record {
         at = c.at;
@@ -136,7 +136,7 @@ module _ (i : Image) (t : Tables) (stub : ℕ) (s : State) (m : Block) (psp o : 
       wanted_is : (g : TargetRecord) → last_with_entry (read 4 (o + 16) memory) (targets_of t (site_at t (read 2 ro i.flash))) ≡ Some g → g.entry ≡ read 4 (o + 16) memory
       wanted_is g e = (target_is t (site_at t (read 2 ro i.flash)) (read 4 (o + 16) memory) g c.placed.targets e).0
 
-      pub enters : W 1348 numbers [] (at_number ret 0) (Q (enter_at i t stub m psp memory (place i (word i t stub m psp memory return_place))))
+      pub enters : W 1348 numbers [] (at_number ret 0) (Q (enter_at i t stub m psp memory (location i (word i t stub m psp memory return_place))))
       enters =
           const_within (no_within refl (next_within (const_within (no_within refl (next_within (const_within (yes_within refl
           (enter_within i t c.placed c.tables stub (IsGood i) (HandlerRule i t s) reach (good_while_off i c.placed.rules) on msp psp s.status o ro m.top (length m.saved) ret here memory asks 0 0 0

@@ -4,7 +4,7 @@ use Rattle.std.specs.Prelude.{flat_map}
 use Rattle.std.proofs.lemmas.Bool.{leb-true, eqb-true, and_parts as both}
 use Rattle.base_words.specs.Bytes.{read}
 use Rattle.machine_devices.specs.declared.image.Image.{Image}
-use Rattle.machine_bus.specs.Places.{choose}
+use Rattle.machine_bus.specs.Locations.{choose}
 use Rattle.base_laws.specs.Lists.{Each}
 use Rattle.monitor_model.specs.declared.tables.SiteRecord.{SiteRecord}
 use Rattle.monitor_model.specs.declared.tables.TargetRecord.{TargetRecord}

@@ -8,7 +8,7 @@ use Rattle.machine_protection.specs.declared.region.Access.{Access}
 use Rattle.machine_protection.specs.declared.region.Access.TheVariants.{Read, Write}
 use Rattle.machine_devices.specs.declared.image.Image.{Image}
 use Rattle.machine_devices.specs.Rules.{ObeysRules}
-use Rattle.machine_bus.specs.Places.{InRam}
+use Rattle.machine_bus.specs.Locations.{InRam}
 use Rattle.machine_model.specs.declared.state.ProtectionState.{ProtectionState}
 use Rattle.machine_model.specs.declared.state.StopReason.{StopReason}
 use Rattle.machine_model.specs.declared.state.StopReason.TheVariants.{Unaligned}

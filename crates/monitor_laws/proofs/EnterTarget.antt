@@ -6,7 +6,7 @@ use Rattle.base_words.specs.Arithmetic.{add, subtract}
 use Rattle.base_words.specs.declared.memory.Width.TheVariants.{Word}
 use Rattle.base_words.specs.Bytes.{read}
 use Rattle.machine_devices.specs.declared.image.Image.{Image}
-use Rattle.machine_bus.specs.Places.{choose}
+use Rattle.machine_bus.specs.Locations.{choose}
 use Rattle.machine_model.specs.declared.state.ProtectionState.{ProtectionState}
 use Rattle.machine_model.specs.declared.state.FaultStatus.{FaultStatus}
 use Rattle.machine_model.specs.State.{by_mpu}

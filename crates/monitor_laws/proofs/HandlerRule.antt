@@ -5,7 +5,7 @@ use Rattle.base_words.specs.Bytes.{read}
 use Rattle.machine_protection.specs.declared.region.Access.{Access}
 use Rattle.machine_protection.specs.declared.region.Access.TheVariants.{Read, Write, Fetch}
 use Rattle.machine_devices.specs.declared.image.Image.{Image}
-use Rattle.machine_bus.specs.Places.{place, InFlash}
+use Rattle.machine_bus.specs.Locations.{location, InFlash}
 use Rattle.base_words.specs.Runs.{run}
 use Rattle.machine_model.specs.declared.state.ProtectionState.{ProtectionState}
 use Rattle.machine_model.specs.State.{State, Touched, by_mpu}
@@ -48,7 +48,7 @@ handlers_reach i t s p = record {
   stack_store = λ c o l h. λ u at k lt. ByStack (open_in c u o k at.ram l h lt);
 }
   where
-    is_flash : (w o k : ℕ) → o + w ≤ length i.flash → k < w → place i (i.flash_base + o + k) ≡ InFlash (o + k)
+    is_flash : (w o k : ℕ) → o + w ≤ length i.flash → k < w → location i (i.flash_base + o + k) ≡ InFlash (o + k)
     is_flash w o k h lt = in_flash i (i.flash_base + o + k) (o + k) p.rules (omega arith) (omega (arith, h, lt))
 
     block : (kind : Access) (c : Core) (o : ℕ) → c.protection.handler ≡ true → o + 4 ≤ 544 → HandlerRule i t s kind c 4 (i.ram_base + (t.monitor - i.ram_base + o))

@@ -3,7 +3,7 @@ use Rattle.std.specs.Prelude.{◌≡◌, ℕ, ◌+◌, ◌-◌, ◌%◌, ◌^◌
 use Rattle.base_words.specs.Runs.{run}
 use Rattle.machine_devices.specs.declared.image.Image.{Image}
 use Rattle.machine_devices.specs.Rules.{block_size}
-use Rattle.machine_bus.specs.Places.{place, InFlash}
+use Rattle.machine_bus.specs.Locations.{location, InFlash}
 use Rattle.machine_model.specs.System.{in_system}
 use Rattle.machine_model.specs.declared.state.FaultStatus.{FaultStatus}
 use Rattle.machine_model.specs.declared.state.End.{End}
@@ -51,7 +51,7 @@ module _ (i : Image) (t : Tables) where
   -- all that the monitor may load for the instruction that a thread comes to at s, where the board's reads are closed. CUR, TOP, DEPTH,
   -- the saved entries and the loans are those of that state
   pub data LoadFor (s : State) (a : ℕ) : Type 0 where
-    ForFlash : (o : ℕ) → place i a ≡ InFlash o → LoadFor s a
+    ForFlash : (o : ℕ) → location i a ≡ InFlash o → LoadFor s a
     ForBlock : InBlock t a → LoadFor s a
     ForSystem : in_system a ≡ true → LoadFor s a
     -- the stack below TOP

@@ -8,7 +8,7 @@ use Rattle.base_words.specs.Bytes.{read, write}
 use Rattle.machine_thumb.specs.declared.table.Instr.TheVariants.{TransferImmediate}
 use Rattle.machine_protection.specs.declared.region.Access.{Access}
 use Rattle.machine_protection.specs.declared.region.Access.TheVariants.{Read, Write, Fetch}
-use Rattle.machine_bus.specs.Places.{place, InRam}
+use Rattle.machine_bus.specs.Locations.{location, InRam}
 use Rattle.machine_bus.specs.Memory.{compartment_of}
 use Rattle.machine_model.specs.declared.state.End.TheVariants.{Halt}
 use Rattle.machine_model.specs.State.{State, by_mpu}
@@ -55,12 +55,12 @@ module _ (g : Setting) (Inv : Block → Context → List ℕ → Type 0) where
     -- STR, STRB and STRH r0,[r1,#0] have made their store, as without protection
     pub stores : (m : Block) (x : Context) (low : List ℕ) (o lr pc : ℕ) (f : Flags) (ram : List ℕ) (queues : List (List ℕ)) (op w a c : ℕ) →
         IsStore op w → AtInstr g Inv m x low o lr pc f ram queues (TransferImmediate op 0 1 0) →
-        get_or low 1 0 ≡ a → a % w ≡ 0 → place g.image a ≡ InRam c → OffFrame g o c w → IsLentTo g (g.has_loan m.current) m a w →
+        get_or low 1 0 ≡ a → a % w ≡ 0 → location g.image a ≡ InRam c → OffFrame g o c w → IsLentTo g (g.has_loan m.current) m a w →
         Resumes g Inv access_steps (works x low (base g + o) lr pc f ram queues) m (base g + o) (pc + 2) o (write w c (get_or low 0 0) ram) queues
     -- on a closed board LDR, LDRB and LDRH r0,[r1,#0] have loaded
     pub loads : (m : Block) (x : Context) (low : List ℕ) (o lr pc : ℕ) (f : Flags) (ram : List ℕ) (queues : List (List ℕ)) (op w a c : ℕ) →
         IsLoad op w → AtInstr g Inv m x low o lr pc f ram queues (TransferImmediate op 0 1 0) →
-        get_or low 1 0 ≡ a → a % w ≡ 0 → place g.image a ≡ InRam c → OffFrame g o c w → IsLentTo g (g.has_read_loan m.current) m a w →
+        get_or low 1 0 ≡ a → a % w ≡ 0 → location g.image a ≡ InRam c → OffFrame g o c w → IsLentTo g (g.has_read_loan m.current) m a w →
         (h : Resumes g Inv access_steps (works x low (base g + o) lr pc f ram queues) m (base g + o) (pc + 2) o ram queues)
         × (get_or h.low 0 0 ≡ read w c ram)
 
@@ -76,7 +76,7 @@ module _ (g : Setting) (Inv : Block → Context → List ℕ → Type 0) where
         AtInstr g Inv (lent m l) x low o lr pc f ram queues (svc 3) → m.mark ≤ length m.loans →
         Resumes g Inv lend_steps (works x low (base g + o) lr pc f ram queues) m (base g + o) (pc + 2) o ram queues
     -- r12 has the entry with bit 0 set; the entry itself is even, as the return to it drops bit 0. The call's frame is pushed below
-    -- `o`, and the callee's stack ends at the frame's place rounded down to an eighth
+    -- `o`, and the callee's stack ends at the frame's location rounded down to an eighth
     pub enter : (m : Block) (x : Context) (low : List ℕ) (o lr pc : ℕ) (f : Flags) (ram : List ℕ) (queues : List (List ℕ)) (site entry target top : ℕ) →
         AtInstr g Inv m x low o lr pc f ram queues (svc 0) → HoldsHalf g.image (pc + 2) site → g.has_target site (pc + 2) entry target ≡ true →
         get_or x.high 4 0 ≡ entry + 1 → entry % 2 ≡ 0 → g.stack < top → top ≡ g.stack + (o - 32 - g.stack) / g.eighth * g.eighth →

@@ -6,7 +6,7 @@ use Rattle.machine_protection.specs.declared.region.Region.{Region}
 use Rattle.machine_protection.specs.Regions.{holds, permission}
 use Rattle.machine_devices.specs.declared.image.Image.{Image}
 use Rattle.machine_devices.specs.Rules.{block_size}
-use Rattle.machine_bus.specs.Places.{place, InFlash}
+use Rattle.machine_bus.specs.Locations.{location, InFlash}
 use Rattle.machine_model.specs.State.{State, Touched}
 use Rattle.machine_model.specs.System.{in_system}
 use Rattle.machine_model.specs.Confinement.{AnyOf}
@@ -50,7 +50,7 @@ module _ (i : Image) (t : Tables) where
 
   -- where the board is closed
   pub data LoadKind (s : State) (a : ℕ) : Type 0 where
-    OfFlash : (o : ℕ) → place i a ≡ InFlash o → LoadKind s a
+    OfFlash : (o : ℕ) → location i a ≡ InFlash o → LoadKind s a
     OfSlot : AnyOf (λ (g : Region). holds g a ≡ true) (running s).slots → LoadKind s a
     OfStack : InOpenStack s a → LoadKind s a
     OfLoan : (k : ℕ) → IsInLoan s (running s).reads k a → LoadKind s a

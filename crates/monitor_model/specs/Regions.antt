@@ -7,7 +7,7 @@ use Rattle.machine_protection.specs.RegionWords.{region_of}
 use Rattle.machine_protection.specs.Laws.{kept_region}
 use Rattle.machine_protection.specs.Configured.{closed_from}
 use Rattle.machine_devices.specs.declared.image.Image.{Image}
-use Rattle.machine_bus.specs.Places.{choose}
+use Rattle.machine_bus.specs.Locations.{choose}
 use Rattle.monitor_model.specs.declared.tables.Tables.{Tables}
 use Rattle.monitor_model.specs.Records.{compartment_at, eighth}
 use Rattle.monitor_model.specs.Layout.{tables_size}

@@ -8,7 +8,7 @@ use Rattle.machine_protection.specs.declared.region.Access.TheVariants.{Write}
 use Rattle.machine_protection.specs.Regions.{holds, allows}
 use Rattle.machine_protection.specs.Protection.{deciding}
 use Rattle.machine_devices.specs.declared.image.Image.{Image}
-use Rattle.machine_bus.specs.Places.{inside}
+use Rattle.machine_bus.specs.Locations.{inside}
 use Rattle.monitor_model.specs.declared.tables.TargetRecord.{TargetRecord}
 use Rattle.monitor_model.specs.declared.tables.InitRecord.{InitRecord}
 use Rattle.monitor_model.specs.declared.tables.Tables.{Tables}

@@ -2,7 +2,7 @@
 use Rattle.std.specs.Prelude.{ℕ, ◌+◌, ◌-◌, ◌/◌, ◌%◌, ◌*◌, ◌^◌, Bool, ◌&&◌, List, [], ◌∷◌, length, Option, Some, None, nat_eq, nat_lt, nat_le, if◌then◌else◌}
 use Rattle.base_words.specs.Bytes.{read, write_all}
 use Rattle.machine_devices.specs.declared.image.Image.{Image}
-use Rattle.machine_bus.specs.Places.{Place, InRam, InFlash, InWindow, Nowhere, place}
+use Rattle.machine_bus.specs.Locations.{Location, InRam, InFlash, InWindow, Nowhere, location}
 use Rattle.monitor_model.specs.declared.tables.TargetRecord.{TargetRecord}
 use Rattle.monitor_model.specs.declared.tables.Tables.{Tables}
 use Rattle.monitor_model.specs.Records.{site_at, targets_of, last_with_entry, lend_size, rounded}
@@ -41,7 +41,7 @@ module _ (i : Image) (t : Tables) (stub : ℕ) (m : Block) (psp : ℕ) (memory :
       else Halts halt_site
 
   -- the site's number is the halfword at the return address
-  abbrev pub enter_at : Place → Outcome
+  abbrev pub enter_at : Location → Outcome
   enter_at (InRam o) = StopsAtBus
   enter_at (InFlash o) = enter_by (read 2 o i.flash)
   enter_at (InWindow k o) = StopsAtBus
@@ -80,7 +80,7 @@ module _ (i : Image) (t : Tables) (stub : ℕ) (m : Block) (psp : ℕ) (memory :
 
   abbrev pub by_number : ℕ → Outcome
   by_number n =
-      if nat_eq n 0 then enter_at (place i (word return_place))
+      if nat_eq n 0 then enter_at (location i (word return_place))
       else if nat_eq n 1 then leave_to m.saved
       else if nat_eq n 2 then lend
       else if nat_eq n 3 then unlend_to m.loans

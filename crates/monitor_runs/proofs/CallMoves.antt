@@ -10,7 +10,7 @@ use Rattle.base_ranges.specs.Ranges.{AreApart, IsPowerBetween}
 use Rattle.monitor_laws.proofs.Tables.{stack_size}
 use Rattle.machine_devices.specs.Rules.{block_size}
 use Rattle.machine_devices.specs.declared.image.Image.{Image}
-use Rattle.machine_bus.specs.Places.{Place, InRam, InFlash, InWindow, Nowhere, place, choose}
+use Rattle.machine_bus.specs.Locations.{Location, InRam, InFlash, InWindow, Nowhere, location, choose}
 use Rattle.machine_model.specs.declared.state.CoreRegisters.{CoreRegisters}
 use Rattle.machine_model.specs.State.{State, by_mpu}
 use Rattle.machine_model.specs.Exceptions.{frame_at, has_pad, stacked_status, unstacked, with_pad, is_frame_open, supervisor_call}
@@ -127,7 +127,7 @@ module _ (laws : FrameLaws) (i : Image) (t : Tables) (p : Placed i t) (stub : �
       let a = if_resumes (nat_lt number (length t.sites) && nat_eq (site_at t number).ret (word i t stub m psp memory return_place)) (enter_to i t stub m psp memory o) 2 n q after e in
       entered_to o a.1
 
-  entered_at : (l : Place) → enter_at i t stub m psp memory l ≡ Resumes n q after → IsEntered
+  entered_at : (l : Location) → enter_at i t stub m psp memory l ≡ Resumes n q after → IsEntered
   entered_at (InRam o) e = cc
   entered_at (InFlash o) e = entered_by (read 2 o i.flash) e
   entered_at (InWindow j o) e = cc
@@ -147,9 +147,9 @@ module _ (laws : FrameLaws) (i : Image) (t : Tables) (p : Placed i t) (stub : �
       let some = x.some in
       let base = p.stack_base in
       let size = p.stack_size in
-      let place = p.stack.place in
-      let from = place.0 in
-      let to = place.1 in
+      let location = p.stack.place in
+      let from = location.0 in
+      let to = location.1 in
       let low = p.rules.ram_lowest in
       let high = p.rules.ram_highest in
       let most = p.rules.ram_most in
@@ -229,10 +229,10 @@ module _ (laws : FrameLaws) (i : Image) (t : Tables) (p : Placed i t) (stub : �
   by_change _ (change.Lends x o room in_list al size from to) l sp w = absurd (omega (arith, l))
   by_change _ (change.Unlends x ls is marks) l sp w = absurd (omega (arith, l))
 
-  enter_move : IsSvc i t 0 s → FrameIsOpen i t m psp → enter_at i t stub m psp memory (place i (word i t stub m psp memory return_place)) ≡ Resumes n q after → Moves i t s u m n
+  enter_move : IsSvc i t 0 s → FrameIsOpen i t m psp → enter_at i t stub m psp memory (location i (word i t stub m psp memory return_place)) ≡ Resumes n q after → Moves i t s u m n
   enter_move none room e =
       let below : m.top ≤ t.stack.base + t.stack.size = top_below t (length m.saved) m.top h.inv.orderly.is_top in
-      let x = entered_at (place i (word i t stub m psp memory return_place)) e in
+      let x = entered_at (location i (word i t stub m psp memory return_place)) e in
       by_change n (enter_change laws i t p stub s u m h opened none room below n q after on e) (more_saved n x.target.compartment (new_top i t stub m psp memory) psp x.block) (entered_sp none room x) (entered_waits room x)
 
   -- ---- by the number of the SVC
@@ -244,7 +244,7 @@ module _ (laws : FrameLaws) (i : Image) (t : Tables) (p : Placed i t) (stub : �
       at a z = let y : k ≡ a = search (nat_tests, arith) in subst (λ (b : ℕ). IsSvc i t b s) y svc
 
       by : (b0 b1 b2 b3 : Bool) → nat_eq k 0 ≡ b0 → nat_eq k 1 ≡ b1 → nat_eq k 2 ≡ b2 → nat_eq k 3 ≡ b3 →
-          (if b0 then enter_at i t stub m psp memory (place i (word i t stub m psp memory return_place)) else if b1 then leave_to i t stub m psp memory m.saved else if b2 then lend i t stub m psp memory else if b3 then unlend_to i t stub m psp memory m.loans else Halts 1) ≡ Resumes n q after →
+          (if b0 then enter_at i t stub m psp memory (location i (word i t stub m psp memory return_place)) else if b1 then leave_to i t stub m psp memory m.saved else if b2 then lend i t stub m psp memory else if b3 then unlend_to i t stub m psp memory m.loans else Halts 1) ≡ Resumes n q after →
           Moves i t s u m n
       by true b1 b2 b3 z0 z1 z2 z3 e = enter_move (at 0 z0) room e
       by false true b2 b3 z0 z1 z2 z3 e = leave_move room (at 1 z1) m.saved refl e

@@ -13,7 +13,7 @@ use Rattle.machine_protection.specs.Laws.{RegionsHoldTheirBlocks}
 use Rattle.machine_protection.specs.Configured.{KeptListsPermit}
 use Rattle.machine_protection.specs.Protection.{permits, IsAccessWidth}
 use Rattle.machine_devices.specs.declared.image.Image.{Image}
-use Rattle.machine_bus.specs.Places.{InRam, InFlash, InWindow, place, choose}
+use Rattle.machine_bus.specs.Locations.{InRam, InFlash, InWindow, location, choose}
 use Rattle.machine_bus.proofs.Offsets.{in_ram, in_flash}
 use Rattle.base_events.specs.declared.event.Event.{Event}
 use Rattle.machine_model.specs.State.{State, Touched, Turn, by_mpu}
@@ -113,7 +113,7 @@ module _ (laws : ActLaws) (units : AccessLaws) (i : Image) (t : Tables) (p : Pla
     by_current = turn_tells by_mpu i (at n) e told ∙ named (nat_eq i.monitor 0) refl
 
     -- what lies in RAM or in flash is no window
-    not_stack : (a : ℕ) → place i a ≡ InWindow e.periph e.offset → InOpenStack i t (at n) a → ⊥
+    not_stack : (a : ℕ) → location i a ≡ InWindow e.periph e.offset → InOpenStack i t (at n) a → ⊥
     not_stack a w o =
         let x = (bounded i t p (at n) block inv).most_open in
         let lo = o.0 in
@@ -122,18 +122,18 @@ module _ (laws : ActLaws) (units : AccessLaws) (i : Image) (t : Tables) (p : Pla
         let c = p.stack_size in
         let y = p.stack.place.0 in
         let z = p.stack.place.1 in
-        let r : place i a ≡ InRam (a - i.ram_base) = in_ram i a (a - i.ram_base) (omega (arith, lo, b, y)) (omega (arith, lo, hi, x, b, c, y, z)) in
+        let r : location i a ≡ InRam (a - i.ram_base) = in_ram i a (a - i.ram_base) (omega (arith, lo, b, y)) (omega (arith, lo, hi, x, b, c, y, z)) in
         let wrong : InRam (a - i.ram_base) ≡ InWindow e.periph e.offset = sym r ∙ w in
         cc
 
-    not_vector : (x : Touched) → place i x.address ≡ InWindow e.periph e.offset → IsVectorRead i x → ⊥
+    not_vector : (x : Touched) → location i x.address ≡ InWindow e.periph e.offset → IsVectorRead i x → ⊥
     not_vector x w v = ⊎_elim (λ q. by mem_manage (omega arith) q) (λ q. by supervisor_call (omega arith) q) v
       where
         by : (k : ℕ) → k < 16 → x ≡ record { width = 4; address = i.flash_base + vector_offset k } → ⊥
         by k few q =
             let is : x.address ≡ i.flash_base + 4 * k = ap (λ (y : Touched). y.address) q in
             let least = p.rules.flash_least in
-            let r : place i x.address ≡ InFlash (4 * k) = in_flash i x.address (4 * k) p.rules (omega (arith, is)) (omega (arith, few, least)) in
+            let r : location i x.address ≡ InFlash (4 * k) = in_flash i x.address (4 * k) p.rules (omega (arith, is)) (omega (arith, few, least)) in
             let wrong : InFlash (4 * k) ≡ InWindow e.periph e.offset = sym r ∙ w in
             cc
 
@@ -151,7 +151,7 @@ module _ (laws : ActLaws) (units : AccessLaws) (i : Image) (t : Tables) (p : Pla
     any_slot (g ∷ gs) a (inr f) = inr (any_slot gs a f)
 
     abbrev There : Touched → Type 0
-    There x = (x.width ≡ e.width) × (place i x.address ≡ InWindow e.periph e.offset)
+    There x = (x.width ≡ e.width) × (location i x.address ≡ InWindow e.periph e.offset)
 
     stored : (x : Touched) → There x → IsReached i (at n).protection.mpu Write x → Own n e
     stored x w y =

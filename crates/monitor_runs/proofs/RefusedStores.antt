@@ -10,7 +10,7 @@ use Rattle.machine_protection.specs.declared.region.Access.TheVariants.{Write}
 use Rattle.machine_protection.specs.Protection.{IsAccessWidth}
 use Rattle.machine_protection.proofs.Alike.{permits_alike}
 use Rattle.machine_devices.specs.declared.image.Image.{Image}
-use Rattle.machine_bus.specs.Places.{place}
+use Rattle.machine_bus.specs.Locations.{location}
 use Rattle.machine_bus.specs.Bus.{fetch_at}
 use Rattle.machine_model.specs.declared.state.CoreRegisters.{CoreRegisters}
 use Rattle.machine_model.specs.declared.state.FaultStatus.{FaultStatus}
@@ -72,7 +72,7 @@ module _ (laws : FrameLaws) (i : Image) (t : Tables) (p : Placed i t) (s : State
   refused (Faults u f on o q) = its_fault u f (status_is u (ap (λ (x : Turn). x.to.status) q))
 
   -- by the instruction that stands there
-  same_half : (half first : ℕ) → HoldsHalf i s.core.pc half → fetch_at (place i s.core.pc) i s.ram ≡ Some first → first ≡ half
+  same_half : (half first : ℕ) → HoldsHalf i s.core.pc half → fetch_at (location i s.core.pc) i s.ram ≡ Some first → first ≡ half
   same_half half first x f =
       let e : Some (read 2 x.offset i.flash) ≡ Some first = sym (ap (λ q. fetch_at q i s.ram) x.is_in_flash) ∙ f in
       let y : read 2 x.offset i.flash ≡ first = cc in

@@ -6,7 +6,7 @@ use Rattle.std.proofs.lemmas.Bool.Decides.{nat_tests}
 use Rattle.base_words.specs.Bytes.{read, write_all}
 use Rattle.base_words.proofs.Bytes.{read_below, read_above}
 use Rattle.machine_devices.specs.declared.image.Image.{Image}
-use Rattle.machine_bus.specs.Places.{Place, InRam, InFlash, InWindow, Nowhere, place}
+use Rattle.machine_bus.specs.Locations.{Location, InRam, InFlash, InWindow, Nowhere, location}
 use Rattle.machine_model.specs.State.{State}
 use Rattle.monitor_model.specs.declared.tables.TargetRecord.{TargetRecord}
 use Rattle.monitor_model.specs.declared.tables.Tables.{Tables}
@@ -62,7 +62,7 @@ module _ (i : Image) (t : Tables) (p : Placed i t) (wide : 32 ≤ eighth t) (stu
         either_way Goal (nat_lt k (length t.sites) && nat_eq (site_at t k).ret (word i t stub m psp memory return_place)) _ _ (Resumes n q after)
         (λ z e. enter_to_writes (last_with_entry (word i t stub m psp memory r12_place) (targets_of t (site_at t k))) e) (λ z. halts 2) e
 
-    enter_writes : (l : Place) → enter_at i t stub m psp memory l ≡ Resumes n q after → Goal
+    enter_writes : (l : Location) → enter_at i t stub m psp memory l ≡ Resumes n q after → Goal
     enter_writes (InRam o) e = cc
     enter_writes (InFlash o) e = enter_by_writes (read 2 o i.flash) e
     enter_writes (InWindow k o) e = cc
@@ -106,7 +106,7 @@ module _ (i : Image) (t : Tables) (p : Placed i t) (wide : 32 ≤ eighth t) (stu
 
   svc_by_number : (k : ℕ) → IsSvc i t k s → FrameIsOpen i t m psp → by_number i t stub m psp memory k ≡ Resumes n q after → Goal
   svc_by_number k svc inside e =
-      either_way Goal (nat_eq k 0) _ _ (Resumes n q after) (λ z e. enter_writes inside (place i (word i t stub m psp memory return_place)) e)
+      either_way Goal (nat_eq k 0) _ _ (Resumes n q after) (λ z e. enter_writes inside (location i (word i t stub m psp memory return_place)) e)
       (λ z e. either_way Goal (nat_eq k 1) _ _ (Resumes n q after) (λ z e. let y : k ≡ 1 = search (nat_tests, arith) in leave_writes m.saved refl (subst (λ (x : ℕ). IsSvc i t x s) y svc) e)
       (λ z e. either_way Goal (nat_eq k 2) _ _ (Resumes n q after) (λ z e. lend_writes e)
       (λ z e. either_way Goal (nat_eq k 3) _ _ (Resumes n q after) (λ z e. unlend_writes m.loans e) (λ z. halts 1) e) e) e) e

@@ -7,7 +7,7 @@ use Rattle.machine_thumb.specs.Decoded.{decoded}
 use Rattle.machine_protection.specs.declared.region.Access.TheVariants.{Read, Write}
 use Rattle.base_events.specs.declared.event.Event.{Event}
 use Rattle.machine_devices.specs.declared.image.Image.{Image}
-use Rattle.machine_bus.specs.Places.{Place, InRam, InFlash, InWindow, Nowhere, choose, place}
+use Rattle.machine_bus.specs.Locations.{Location, InRam, InFlash, InWindow, Nowhere, choose, location}
 use Rattle.machine_bus.specs.Bus.{input, load_at, store_at}
 use Rattle.machine_devices.specs.Input.{queue}
 use Rattle.machine_model.specs.declared.state.CoreRegisters.{CoreRegisters}
@@ -46,30 +46,30 @@ module _ (j : PermissionTest) (i : Image) (s : State) where
   fault_tells false false t e h = cc
   fault_tells false true t e h = entered_tells (is_frame_open j i s) mem_manage s.core.pc t e h
 
-  input_tells : (q : List ℕ) (k o w a : ℕ) (go : ℕ → CoreRegisters) → place i a ≡ InWindow k o → Tells (loaded (input q k o w) i w a s go)
+  input_tells : (q : List ℕ) (k o w a : ℕ) (go : ℕ → CoreRegisters) → location i a ≡ InWindow k o → Tells (loaded (input q k o w) i w a s go)
   input_tells [] k o w a go is e h = cc
   input_tells (x ∷ xs) k o w a go is e h = ap (λ (v : Event). v.compartment) (sym (same_Some _ e h))
 
-  loaded_tells : (l : Place) (w a : ℕ) (go : ℕ → CoreRegisters) → place i a ≡ l → Tells (loaded (load_at l i s.ram s.queues w) i w a s go)
+  loaded_tells : (l : Location) (w a : ℕ) (go : ℕ → CoreRegisters) → location i a ≡ l → Tells (loaded (load_at l i s.ram s.queues w) i w a s go)
   loaded_tells (InRam o) w a go is e h = cc
   loaded_tells (InFlash o) w a go is e h = cc
   loaded_tells (InWindow k o) w a go is e h = input_tells (queue s.queues k) k o w a go is e h
   loaded_tells Nowhere w a go is e h = cc
 
   load_tells : (v : Verdict) (w a : ℕ) (go : ℕ → CoreRegisters) → Tells (after_load v j i w a s go)
-  load_tells ToBus w a go e h = loaded_tells (place i a) w a go refl e h
+  load_tells ToBus w a go e h = loaded_tells (location i a) w a go refl e h
   load_tells ToSystem w a go e h = cc
   load_tells Refused w a go e h = fault_tells s.protection.handler (is_fault_enabled s.status) _ e h
   load_tells (Bad r) w a go e h = cc
 
-  stored_tells : (l : Place) (w a v : ℕ) (c : CoreRegisters) → place i a ≡ l → Tells (stored (store_at l) i w a v s c)
+  stored_tells : (l : Location) (w a v : ℕ) (c : CoreRegisters) → location i a ≡ l → Tells (stored (store_at l) i w a v s c)
   stored_tells (InRam o) w a v c is e h = cc
   stored_tells (InFlash o) w a v c is e h = cc
   stored_tells (InWindow k o) w a v c is e h = ap (λ (v : Event). v.compartment) (sym (same_Some _ e h))
   stored_tells Nowhere w a v c is e h = cc
 
   store_tells : (v : Verdict) (w a x : ℕ) (c : CoreRegisters) → Tells (after_store v j i w a x s c)
-  store_tells ToBus w a x c e h = stored_tells (place i a) w a x c refl e h
+  store_tells ToBus w a x c e h = stored_tells (location i a) w a x c refl e h
   store_tells ToSystem w a x c e h = cc
   store_tells Refused w a x c e h = fault_tells s.protection.handler (is_fault_enabled s.status) _ e h
   store_tells (Bad r) w a x c e h = cc

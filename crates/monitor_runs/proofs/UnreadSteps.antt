@@ -11,7 +11,7 @@ use Rattle.machine_devices.specs.Rules.{ObeysRules}
 use Rattle.machine_bus.specs.declared.answer.Loaded.{Loaded}
 use Rattle.machine_bus.specs.declared.answer.Loaded.TheVariants.{Value, Device, NoInput, Unmapped}
 use Rattle.machine_bus.specs.Bus.{load_at}
-use Rattle.machine_bus.specs.Places.{InRam, place, is_memory}
+use Rattle.machine_bus.specs.Locations.{InRam, location, is_memory}
 use Rattle.machine_bus.proofs.Offsets.{ram_at}
 use Rattle.machine_model.specs.declared.state.CoreRegisters.{CoreRegisters}
 use Rattle.machine_model.specs.declared.state.End.{End}
@@ -78,7 +78,7 @@ module _ (i : Image) (t : Tables) (p : Placed i t) (m : Block) (s : State) (h : 
   rules = p.rules
 
   -- flash is not RAM
-  no_flash : (a o : ℕ) → i.flash_base ≤ a → a < i.flash_base + 0x100000 → place i a ≡ InRam o → ⊥
+  no_flash : (a o : ℕ) → i.flash_base ≤ a → a < i.flash_base + 0x100000 → location i a ≡ InRam o → ⊥
   no_flash a o lo hi e =
       let at = (ram_at i a o e).0 in
       let f = rules.flash_highest in
@@ -115,7 +115,7 @@ module _ (i : Image) (t : Tables) (p : Placed i t) (m : Block) (s : State) (h : 
   unfolding verdicts words_from
   words_agree zero a e = tt
   words_agree (suc n) a e =
-      let g = good_first (verdict by_mpu s.protection Read 4 a) (is_memory Read (place i a)) a (verdicts by_mpu i s.protection Read (word (a + 4)) n) (verdict_system by_mpu s.protection Read 4 a user) e in
+      let g = good_first (verdict by_mpu s.protection Read 4 a) (is_memory Read (location i a)) a (verdicts by_mpu i s.protection Read (word (a + 4)) n) (verdict_system by_mpu s.protection Read 4 a user) e in
       (word_agrees a g.0, words_agree n (word (a + 4)) g.1)
 
   -- ---- a machine that stops for what an instruction loaded
@@ -150,7 +150,7 @@ module _ (i : Image) (t : Tables) (p : Placed i t) (m : Block) (s : State) (h : 
   unfolding verdicts
   verdicts_no_usage zero a r e u = cc
   verdicts_no_usage (suc n) a r e u =
-      bad_first (verdict by_mpu s.protection Read 4 a) (is_memory Read (place i a)) a (verdicts by_mpu i s.protection Read (word (a + 4)) n) r (λ x. verdict_no_usage 4 a x) (λ q. verdicts_no_usage n (word (a + 4)) r q) e u
+      bad_first (verdict by_mpu s.protection Read 4 a) (is_memory Read (location i a)) a (verdicts by_mpu i s.protection Read (word (a + 4)) n) r (λ x. verdict_no_usage 4 a x) (λ q. verdicts_no_usage n (word (a + 4)) r q) e u
 
   bus_no_usage : (l : Loaded) (w a : ℕ) (go : ℕ → CoreRegisters) → IsUsage (loaded l i w a s go) → ⊥
   bus_no_usage (Value v) w a go u = goes_on u
@@ -159,7 +159,7 @@ module _ (i : Image) (t : Tables) (p : Placed i t) (m : Block) (s : State) (h : 
   bus_no_usage Unmapped w a go u = cc
 
   load_no_usage : (v : Verdict) (w a : ℕ) (go : ℕ → CoreRegisters) → verdict by_mpu s.protection Read w a ≡ v → IsUsage (after_load v by_mpu i w a s go) → ⊥
-  load_no_usage ToBus w a go e u = bus_no_usage (load_at (place i a) i s.ram s.queues w) w a go u
+  load_no_usage ToBus w a go e u = bus_no_usage (load_at (location i a) i s.ram s.queues w) w a go u
   load_no_usage ToSystem w a go e u = goes_on u
   load_no_usage Refused w a go e u = fault_no_usage s.protection.handler (is_fault_enabled s.status) a h.inv.thread u
   load_no_usage (Bad r) w a go e u = stop_no_usage r (verdict_no_usage w a r e) u

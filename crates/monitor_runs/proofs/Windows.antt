@@ -1,4 +1,4 @@
--- Where a window's place lies, and which regions unprivileged code reads there.
+-- Where a window's location lies, and which regions unprivileged code reads there.
 use Rattle.std.proofs.Common.{◌≡◌, ℕ, zero, suc, ◌+◌, ◌-◌, ◌/◌, ◌%◌, ◌^◌, ◌<◌, ◌≤◌, inl, inr, Bool, true, false, List, [], ◌∷◌, length, nat_eq, Some, slice_get, refl, ap, ap₂, ◌∙◌, subst, arith}
 use Rattle.std.specs.Int.{IsPowerOfTwo}
 use Rattle.machine_protection.specs.declared.region.Region.{Region}
@@ -13,7 +13,7 @@ use Rattle.machine_protection.proofs.Configured.{closed_byte}
 use Rattle.machine_devices.specs.declared.image.Image.{Image}
 use Rattle.machine_devices.specs.declared.image.Window.{Window}
 use Rattle.machine_devices.specs.Rules.{ObeysRules, AreWindows}
-use Rattle.machine_bus.specs.Places.{Place, InRam, InFlash, InWindow, inside, choose, find_window, place}
+use Rattle.machine_bus.specs.Locations.{Location, InRam, InFlash, InWindow, inside, choose, find_window, location}
 use Rattle.machine_bus.proofs.Ranges.{inside_true}
 use Rattle.machine_model.specs.State.{State}
 use Rattle.machine_model.specs.Confinement.{AnyOf}
@@ -60,13 +60,13 @@ window_of (w ∷ ws) k number offset a e = by (inside w.base w.size a) refl (λ 
         let n = z.1 in
         (suc z.0, omega (arith, n), record { window = z.2.window; is_window = z.2.is_window; is_at = z.2.is_at; inside = z.2.inside })
 
-outside_memory : (ram flash : Bool) (p q number offset : ℕ) (l : Place) → choose ram (InRam p) (choose flash (InFlash q) l) ≡ InWindow number offset → l ≡ InWindow number offset
+outside_memory : (ram flash : Bool) (p q number offset : ℕ) (l : Location) → choose ram (InRam p) (choose flash (InFlash q) l) ≡ InWindow number offset → l ≡ InWindow number offset
 outside_memory true f p q n o l e = cc
 outside_memory false true p q n o l e = cc
 outside_memory false false p q n o l e = e
 
-pub window_at : (i : Image) (a number offset : ℕ) → place i a ≡ InWindow number offset → IsInWindow i.windows number offset a
-unfolding place
+pub window_at : (i : Image) (a number offset : ℕ) → location i a ≡ InWindow number offset → IsInWindow i.windows number offset a
+unfolding location
 window_at i a number offset e =
     let z = window_of i.windows 0 number offset a (outside_memory (inside i.ram_base i.ram_size a) (inside i.flash_base (length i.flash) a) _ _ number offset _ e) in
     let n = z.1 in
@@ -79,7 +79,7 @@ window_high (x ∷ xs) h zero w e = let z : x ≡ w = cc in subst (λ (y : Windo
 window_high (x ∷ xs) h (suc k) w e = window_high xs h.2 k w e
 
 -- it lies in the peripherals' part of the memory map
-pub high : (i : Image) → ObeysRules i → (a number offset : ℕ) → place i a ≡ InWindow number offset → 0x40000000 ≤ a
+pub high : (i : Image) → ObeysRules i → (a number offset : ℕ) → location i a ≡ InWindow number offset → 0x40000000 ≤ a
 high i r a number offset e =
     let z = window_at i a number offset e in
     let h = window_high i.windows r.windows number z.window z.is_window in

@@ -4,7 +4,7 @@ use Rattle.std.specs.Prelude.{◌≡◌, ◌≢◌, ℕ, ◌+◌, ◌<◌, ◌�
 use Rattle.machine_protection.specs.declared.region.Region.{Region}
 use Rattle.machine_protection.specs.Regions.{holds}
 use Rattle.machine_devices.specs.declared.image.Image.{Image}
-use Rattle.machine_bus.specs.Places.{place, InWindow}
+use Rattle.machine_bus.specs.Locations.{location, InWindow}
 use Rattle.base_events.specs.declared.event.Event.{Event}
 use Rattle.machine_model.specs.Confinement.{AnyOf}
 use Rattle.machine_model.specs.State.{State, by_mpu}
@@ -122,7 +122,7 @@ module _ (i : Image) (t : Tables) (first : State) where
     pub acts : Acts i t first n
     pub compartment : e.compartment ≡ current i t (at n).ram
     pub address : ℕ
-    pub there : place i address ≡ InWindow e.periph e.offset
+    pub there : location i address ≡ InWindow e.periph e.offset
     pub in_slot : AnyOf (λ (g : Region). holds g address ≡ true) (running i t (at n)).slots
     pub may_store : e.write ≡ true → IsWritable t (current i t (at n).ram) address
 

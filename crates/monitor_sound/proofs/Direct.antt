@@ -13,7 +13,7 @@ use Rattle.machine_thumb.proofs.Relation.{round_trip}
 use Rattle.machine_protection.specs.declared.region.Access.{Access}
 use Rattle.machine_protection.specs.declared.region.Access.TheVariants.{Read, Write, Fetch}
 use Rattle.machine_devices.specs.declared.image.Image.{Image}
-use Rattle.machine_bus.specs.Places.{place}
+use Rattle.machine_bus.specs.Locations.{location}
 use Rattle.machine_bus.specs.Bus.{fetch_at}
 use Rattle.machine_model.specs.declared.state.FaultStatus.{FaultStatus}
 use Rattle.machine_model.specs.declared.state.ProtectionState.{ProtectionState}
@@ -73,11 +73,11 @@ first_byte s (Half h) n f m = let e = f.1 in m s.core.pc (omega arith) (omega (a
 first_byte s (Pair h k) n f m = let e = f.1 in m s.core.pc (omega arith) (omega (arith, e))
 
 second_half : (i : Image) (s : State) (c : Code) (n : ℕ) → HasForm c n → HoldsCode i s.core.pc c → Fetchable s n →
-    (h : ℕ) → fetch_at (place i s.core.pc) i s.ram ≡ Some h → nat_lt h 0xE800 ≡ false → by_mpu s.protection Fetch (s.core.pc + 2) ≡ true
+    (h : ℕ) → fetch_at (location i s.core.pc) i s.ram ≡ Some h → nat_lt h 0xE800 ≡ false → by_mpu s.protection Fetch (s.core.pc + 2) ≡ true
 second_half i s (Half g) n f c m h e long =
     let p = c.is_in_flash in
     let r = c.is_half in
-    let there : fetch_at (place i s.core.pc) i s.ram ≡ Some g = rw (p, r) refl in
+    let there : fetch_at (location i s.core.pc) i s.ram ≡ Some g = rw (p, r) refl in
     let same : Some g ≡ Some h = sym there ∙ e in
     let z : g ≡ h = cc in
     absurd (false≢true (sym long ∙ ap (λ a. nat_lt a 0xE800) (sym z) ∙ f.0))

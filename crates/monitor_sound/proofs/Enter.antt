@@ -9,7 +9,7 @@ use Rattle.base_words.proofs.Bytes.{cut_small}
 use Rattle.machine_protection.specs.declared.region.Access.TheVariants.{Fetch}
 use Rattle.machine_devices.specs.declared.image.Image.{Image}
 use Rattle.machine_devices.specs.Rules.{block_size}
-use Rattle.machine_bus.specs.Places.{InFlash, place}
+use Rattle.machine_bus.specs.Locations.{InFlash, location}
 use Rattle.machine_bus.proofs.Offsets.{flash_at}
 use Rattle.machine_model.specs.State.{State, by_mpu}
 use Rattle.machine_model.specs.Code.{HoldsHalf}
@@ -166,9 +166,9 @@ module _ (laws : ThreadLaws) (code : MonitorCode) (i : Image) (t : Tables) (p : 
         let last : q ≡ i.ram_base + o - 32 = (let k = e32 in omega (arith, k)) in
         ap (λ (c : ℕ). entered m c nt q) found.compartment ∙ ap (λ (k : ℕ). entered m target k q) top_is ∙ ap (λ (k : ℕ). entered m target (i.ram_base + top) k) last
 
-    reaches : enter_at i t (code.stub t) m q rm (place i (word i t (code.stub t) m q rm return_place)) ≡ OutcomeResumes b (nt - 32) after
+    reaches : enter_at i t (code.stub t) m q rm (location i (word i t (code.stub t) m q rm return_place)) ≡ OutcomeResumes b (nt - 32) after
     reaches =
-        let here : place i (word i t (code.stub t) m q rm return_place) ≡ InFlash half.offset = ap (λ (a : ℕ). place i a) ws.return_address ∙ half.is_in_flash in
+        let here : location i (word i t (code.stub t) m q rm return_place) ≡ InFlash half.offset = ap (λ (a : ℕ). location i a) ws.return_address ∙ half.is_in_flash in
         let listed : last_with_entry (word i t (code.stub t) m q rm r12_place) (targets_of t (site_at t site)) ≡ Some found.target =
         ap (λ (a : ℕ). last_with_entry a (targets_of t (site_at t site))) (ws.r12 ∙ r12) ∙ found.found in
         enters_at i t (code.stub t) m q rm lo hi (no_pad laws code i t p law m x low o lr pc f ram queues 0 z.invariant z.room z.fits z.lies may)

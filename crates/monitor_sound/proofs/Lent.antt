@@ -15,7 +15,7 @@ use Rattle.machine_protection.specs.Registers.{Registers}
 use Rattle.machine_protection.specs.declared.region.Access.TheVariants.{Read, Write}
 use Rattle.machine_devices.specs.declared.image.Image.{Image}
 use Rattle.machine_devices.specs.Rules.{block_size}
-use Rattle.machine_bus.specs.Places.{InRam, place}
+use Rattle.machine_bus.specs.Locations.{InRam, location}
 use Rattle.machine_bus.proofs.Offsets.{in_ram, flash_at}
 use Rattle.machine_model.specs.declared.state.CoreRegisters.{CoreRegisters}
 use Rattle.machine_model.specs.declared.state.ProtectionState.{ProtectionState}
@@ -199,7 +199,7 @@ module _ (laws : ThreadLaws) (i : Image) (t : Tables) (p : Placed i t) (m : Bloc
           let y = placed.below_end in
           (omega (arith, a, x, from), omega (arith, b, y, to), omega (arith, b, d, y, to, some), omega (arith, x, from), omega (arith, y, to))
 
-      is_there : place i at ≡ InRam c
+      is_there : location i at ≡ InRam c
       is_there =
           let z = in_stack in
           let lo = z.0 in

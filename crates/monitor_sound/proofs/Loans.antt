@@ -6,7 +6,7 @@ use Rattle.base_words.specs.Runs.{run}
 use Rattle.machine_thumb.specs.declared.table.Instr.TheVariants.{TransferImmediate}
 use Rattle.machine_devices.specs.declared.image.Image.{Image}
 use Rattle.machine_devices.specs.Rules.{block_size}
-use Rattle.machine_bus.specs.Places.{place, InRam}
+use Rattle.machine_bus.specs.Locations.{location, InRam}
 use Rattle.machine_bus.proofs.Offsets.{ram_at}
 use Rattle.machine_model.specs.declared.state.CoreRegisters.{CoreRegisters}
 use Rattle.machine_model.specs.State.{State}
@@ -105,7 +105,7 @@ module _ (laws : ThreadLaws) (code : MonitorCode) (i : Image) (t : Tables) (p : 
 
   module _ (m : Block) (x : Context) (low : List ℕ) (o lr pc : ℕ) (f : Flags) (ram : List ℕ) (queues : List (List ℕ)) (op w a c : ℕ)
       (z : AtInstr g (Invariant i t) m x low o lr pc f ram queues (TransferImmediate op 0 1 0))
-      (r1 : get_or low 1 0 ≡ a) (aligned : a % w ≡ 0) (there : place i a ≡ InRam c) (off : OffFrame g o c w) where
+      (r1 : get_or low 1 0 ≡ a) (aligned : a % w ≡ 0) (there : location i a ≡ InRam c) (off : OffFrame g o c w) where
     abbrev pub s : State
     s = works x low (i.ram_base + o) lr pc f ram queues
 

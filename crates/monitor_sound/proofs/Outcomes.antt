@@ -7,7 +7,7 @@ use Rattle.std.proofs.lemmas.Bool.{or_right}
 use Rattle.base_words.specs.Arithmetic.{word as word_of}
 use Rattle.base_words.specs.Bytes.{read, write, write_all}
 use Rattle.machine_devices.specs.declared.image.Image.{Image}
-use Rattle.machine_bus.specs.Places.{Place, InFlash, place}
+use Rattle.machine_bus.specs.Locations.{Location, InFlash, location}
 use Rattle.machine_model.specs.declared.state.CoreRegisters.{CoreRegisters}
 use Rattle.machine_model.specs.Act.{Stores, Loads}
 use Rattle.machine_model.specs.Instructions.{transfer_immediate, store_from, load_into}
@@ -168,10 +168,10 @@ module _ (i : Image) (t : Tables) (stub : ℕ) (m : Block) (psp : ℕ) (memory :
   pub ends : m.saved ≡ [] → svc_outcome i t stub m psp memory 1 ≡ Halts 0
   ends q = numbered 1 ∙ rw q refl
 
-  pub enters_at : (g : TargetRecord) (number offset : ℕ) → place i (word i t stub m psp memory return_place) ≡ InFlash offset → read 2 offset i.flash ≡ number → number < length t.sites →
+  pub enters_at : (g : TargetRecord) (number offset : ℕ) → location i (word i t stub m psp memory return_place) ≡ InFlash offset → read 2 offset i.flash ≡ number → number < length t.sites →
       (site_at t number).ret ≡ word i t stub m psp memory return_place → last_with_entry (word i t stub m psp memory r12_place) (targets_of t (site_at t number)) ≡ Some g →
       t.stack.base < new_top i t stub m psp memory →
-      enter_at i t stub m psp memory (place i (word i t stub m psp memory return_place))
+      enter_at i t stub m psp memory (location i (word i t stub m psp memory return_place))
       ≡ Resumes (entered m g.compartment (new_top i t stub m psp memory) psp) (new_top i t stub m psp memory - 32)
       (write_all 4 (new_top i t stub m psp memory - 32 - i.ram_base) (callee_frame i t stub m psp memory g) (moved_on i psp memory))
   enters_at g number offset here half known returns found some =
@@ -180,7 +180,7 @@ module _ (i : Image) (t : Tables) (stub : ℕ) (m : Block) (psp : ℕ) (memory :
       let f : nat_lt t.stack.base (new_top i t stub m psp memory) ≡ true = search (nat_tests, arith) in
       let both : (nat_lt number (length t.sites) && nat_eq (site_at t number).ret (word i t stub m psp memory return_place)) ≡ true = rw (d, e) refl in
       let o : Option TargetRecord = last_with_entry (word i t stub m psp memory r12_place) (targets_of t (site_at t number)) in
-      let second : enter_at i t stub m psp memory (place i (word i t stub m psp memory return_place)) ≡ enter_by i t stub m psp memory (read 2 offset i.flash) = ap (λ (l : Place). enter_at i t stub m psp memory l) here in
+      let second : enter_at i t stub m psp memory (location i (word i t stub m psp memory return_place)) ≡ enter_by i t stub m psp memory (read 2 offset i.flash) = ap (λ (l : Location). enter_at i t stub m psp memory l) here in
       let third : enter_by i t stub m psp memory (read 2 offset i.flash) ≡ enter_by i t stub m psp memory number = ap (λ (n : ℕ). enter_by i t stub m psp memory n) half in
       let fourth : enter_by i t stub m psp memory number ≡ enter_to i t stub m psp memory o = ap (λ (b : Bool). if b then enter_to i t stub m psp memory o else Halts 2) both in
       let fifth : enter_to i t stub m psp memory o ≡ enter_to i t stub m psp memory (Some g) = ap (λ (x : Option TargetRecord). enter_to i t stub m psp memory x) found in
@@ -189,7 +189,7 @@ module _ (i : Image) (t : Tables) (stub : ℕ) (m : Block) (psp : ℕ) (memory :
       second ∙ third ∙ fourth ∙ fifth ∙ sixth
 
   -- a callee that has no whole eighth
-  pub enter_refused : (g : TargetRecord) (number offset : ℕ) → place i (word i t stub m psp memory return_place) ≡ InFlash offset → read 2 offset i.flash ≡ number → number < length t.sites →
+  pub enter_refused : (g : TargetRecord) (number offset : ℕ) → location i (word i t stub m psp memory return_place) ≡ InFlash offset → read 2 offset i.flash ≡ number → number < length t.sites →
       (site_at t number).ret ≡ word i t stub m psp memory return_place → last_with_entry (word i t stub m psp memory r12_place) (targets_of t (site_at t number)) ≡ Some g →
       new_top i t stub m psp memory ≡ t.stack.base → svc_outcome i t stub m psp memory 0 ≡ Halts 5
   enter_refused g number offset here half known returns found lowest =
@@ -198,7 +198,7 @@ module _ (i : Image) (t : Tables) (stub : ℕ) (m : Block) (psp : ℕ) (memory :
       let f : nat_lt t.stack.base (new_top i t stub m psp memory) ≡ false = search (nat_tests, arith) in
       let both : (nat_lt number (length t.sites) && nat_eq (site_at t number).ret (word i t stub m psp memory return_place)) ≡ true = rw (d, e) refl in
       let o : Option TargetRecord = last_with_entry (word i t stub m psp memory r12_place) (targets_of t (site_at t number)) in
-      let second : enter_at i t stub m psp memory (place i (word i t stub m psp memory return_place)) ≡ enter_by i t stub m psp memory (read 2 offset i.flash) = ap (λ (l : Place). enter_at i t stub m psp memory l) here in
+      let second : enter_at i t stub m psp memory (location i (word i t stub m psp memory return_place)) ≡ enter_by i t stub m psp memory (read 2 offset i.flash) = ap (λ (l : Location). enter_at i t stub m psp memory l) here in
       let third : enter_by i t stub m psp memory (read 2 offset i.flash) ≡ enter_by i t stub m psp memory number = ap (λ (n : ℕ). enter_by i t stub m psp memory n) half in
       let fourth : enter_by i t stub m psp memory number ≡ enter_to i t stub m psp memory o = ap (λ (b : Bool). if b then enter_to i t stub m psp memory o else Halts 2) both in
       let fifth : enter_to i t stub m psp memory o ≡ enter_to i t stub m psp memory (Some g) = ap (λ (x : Option TargetRecord). enter_to i t stub m psp memory x) found in
@@ -212,7 +212,7 @@ module _ (i : Image) (t : Tables) (stub : ℕ) (m : Block) (psp : ℕ) (memory :
       let d : nat_lt (length m.loans) 32 ≡ false = search (nat_tests, arith) in
       numbered 2 ∙ rw d refl
 
-  pub enters : svc_outcome i t stub m psp memory 0 ≡ enter_at i t stub m psp memory (place i (word i t stub m psp memory return_place))
+  pub enters : svc_outcome i t stub m psp memory 0 ≡ enter_at i t stub m psp memory (location i (word i t stub m psp memory return_place))
   enters = numbered 0
 
   -- ---- MemManage, behind a refused access of data

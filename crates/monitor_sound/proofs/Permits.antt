@@ -13,7 +13,7 @@ use Rattle.machine_protection.specs.RegionWords.{region_of, may}
 use Rattle.machine_protection.specs.Protection.{permits, is_on, deciding, or_this}
 use Rattle.machine_protection.specs.Configured.{NoneOf, IsLast, closed_from}
 use Rattle.machine_devices.specs.declared.image.Image.{Image}
-use Rattle.machine_bus.specs.Places.{choose, inside}
+use Rattle.machine_bus.specs.Locations.{choose, inside}
 use Rattle.machine_model.specs.State.{by_mpu, is_unprivileged}
 use Rattle.base_laws.specs.Lists.{Each}
 use Rattle.machine_model.specs.RunningCode.{Context}

@@ -8,7 +8,7 @@ use Rattle.machine_thumb.specs.Table.{encode}
 use Rattle.machine_protection.specs.declared.region.Access.TheVariants.{Read, Write, Fetch}
 use Rattle.machine_protection.specs.declared.region.Access.{Access}
 use Rattle.machine_devices.specs.declared.image.Image.{Image}
-use Rattle.machine_bus.specs.Places.{InRam, place}
+use Rattle.machine_bus.specs.Locations.{InRam, location}
 use Rattle.machine_bus.proofs.Offsets.{in_ram}
 use Rattle.machine_model.specs.declared.state.CoreRegisters.{CoreRegisters}
 use Rattle.machine_model.specs.declared.state.FaultStatus.{FaultStatus}
@@ -43,7 +43,7 @@ all_are_open j i p zero a o at fits low may = refl
 all_are_open j i p (suc n) a o at fits low may =
     let z : a + 4 * 0 ≡ a = omega arith in
     let here : j p Write a ≡ true = subst (λ (x : ℕ). j p Write x ≡ true) z (may 0 (omega arith)) in
-    let l : place i a ≡ InRam o = in_ram i a o at (omega (arith, fits)) in
+    let l : location i a ≡ InRam o = in_ram i a o at (omega (arith, fits)) in
     let step : word (a + 4) ≡ a + 4 = omega (arith, at, fits, low) in
     let rest : all_open j i p Write (a + 4) n ≡ true =
     all_are_open j i p n (a + 4) (o + 4) (omega (arith, at)) (omega (arith, fits)) low

@@ -4,7 +4,7 @@ use Rattle.base_words.specs.declared.conditions.Flags.{Flags}
 use Rattle.base_words.specs.Runs.{run}
 use Rattle.machine_protection.specs.declared.region.Access.TheVariants.{Fetch}
 use Rattle.machine_devices.specs.declared.image.Image.{Image}
-use Rattle.machine_bus.specs.Places.{InFlash, place}
+use Rattle.machine_bus.specs.Locations.{InFlash, location}
 use Rattle.machine_model.specs.declared.state.End.TheVariants.{Halt}
 use Rattle.machine_model.specs.State.{State, Turn, by_mpu}
 use Rattle.machine_model.specs.Code.{HoldsHalf}
@@ -86,7 +86,7 @@ module _ (laws : ThreadLaws) (code : MonitorCode) (i : Image) (t : Tables) (p : 
       let d = same_offset i.ram_base t.stack.base r o (ram_low i t p) lo e32 in
       let zero_times : t.stack.base + 0 * eighth t ≡ t.stack.base = omega arith in
       let lowest_top : rounded t r ≡ t.stack.base = ap (λ (k : ℕ). t.stack.base + k / eighth t * eighth t) d ∙ ap (λ (k : ℕ). t.stack.base + k * eighth t) none ∙ zero_times in
-      let here : place i (word i t (code.stub t) m r after return_place) ≡ InFlash half.offset = ap (λ (a : ℕ). place i a) ws.return_address ∙ half.is_in_flash in
+      let here : location i (word i t (code.stub t) m r after return_place) ≡ InFlash half.offset = ap (λ (a : ℕ). location i a) ws.return_address ∙ half.is_in_flash in
       let listed : last_with_entry (word i t (code.stub t) m r after r12_place) (targets_of t (site_at t site)) ≡ Some found.target =
       ap (λ (a : ℕ). last_with_entry a (targets_of t (site_at t site))) (ws.r12 ∙ r12) ∙ found.found in
       halts m x low o lr pc f ram queues 0 z 5 call_steps (omega arith)

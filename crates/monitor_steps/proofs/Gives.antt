@@ -8,7 +8,7 @@ use Rattle.base_words.proofs.Bytes.{read_below, read_above, read_same, read_fits
 use Rattle.machine_protection.specs.declared.region.Access.TheVariants.{Read, Write}
 use Rattle.machine_devices.specs.declared.image.Image.{Image}
 use Rattle.machine_devices.specs.Rules.{ObeysRules}
-use Rattle.machine_bus.specs.Places.{Place, InRam, InFlash, place}
+use Rattle.machine_bus.specs.Locations.{Location, InRam, InFlash, location}
 use Rattle.machine_model.specs.declared.state.ProtectionState.{ProtectionState}
 use Rattle.machine_model.specs.declared.answers.Verdict.TheVariants.{ToBus}
 use Rattle.machine_model.specs.State.{PermissionTest}
@@ -32,16 +32,16 @@ word_apart b a v mem h = ⊎_elim (λ x. read_below 4 b 4 a v mem x) (λ x. read
 pub word_fits : (a : ℕ) (mem : List ℕ) → read 4 a mem < 2 ^ 32
 word_fits a mem = let e = read_fits 4 a mem in omega arith
 
-pub in_ram : (i : Image) (a o : ℕ) → a ≡ i.ram_base + o → o < i.ram_size → place i a ≡ InRam o
-unfolding place
+pub in_ram : (i : Image) (a o : ℕ) → a ≡ i.ram_base + o → o < i.ram_size → location i a ≡ InRam o
+unfolding location
 in_ram i a o e h =
     let l : nat_lt a i.ram_base ≡ false = search (nat_tests, arith) in
     let u : nat_lt a (i.ram_base + i.ram_size) ≡ true = search (nat_tests, arith) in
     let d : a - i.ram_base ≡ o = omega arith in
     rw (l, u, d) refl
 
-pub in_flash : (i : Image) (a o : ℕ) → ObeysRules i → a ≡ i.flash_base + o → o < length i.flash → place i a ≡ InFlash o
-unfolding place
+pub in_flash : (i : Image) (a o : ℕ) → ObeysRules i → a ≡ i.flash_base + o → o < length i.flash → location i a ≡ InFlash o
+unfolding location
 in_flash i a o r e h =
     let z : a < i.ram_base = omega (arith, r.flash_highest, r.flash_most, r.ram_lowest) in
     let l : nat_lt a i.ram_base ≡ true = search (nat_tests, arith) in
@@ -55,12 +55,12 @@ pub record Open (j : PermissionTest) (p : ProtectionState) : Type 0 where
   pub reads : (a : ℕ) → j p Read a ≡ true
   pub writes : (a : ℕ) → j p Write a ≡ true
 
-pub load_is_at : (j : PermissionTest) (i : Image) (c : Core) (z : Width) (base off a : ℕ) (q : Place) → Open j c.protection → address_of c (byte_count z) base off ≡ a → a % byte_count z ≡ 0 → a < 0xE0000000 → place i a ≡ q → load j i z base off c ≡ load_by ToBus q i (byte_count z) a c
+pub load_is_at : (j : PermissionTest) (i : Image) (c : Core) (z : Width) (base off a : ℕ) (q : Location) → Open j c.protection → address_of c (byte_count z) base off ≡ a → a % byte_count z ≡ 0 → a < 0xE0000000 → location i a ≡ q → load j i z base off c ≡ load_by ToBus q i (byte_count z) a c
 load_is_at j i c z base off a q f e al lt p =
     let v = to_bus j c.protection Read (byte_count z) a al lt (f.reads a) in
     rw (e, v, p) refl
 
-pub store_is_at : (j : PermissionTest) (i : Image) (c : Core) (z : Width) (from base off a : ℕ) (q : Place) → Open j c.protection → address_of c (byte_count z) base off ≡ a → a % byte_count z ≡ 0 → a < 0xE0000000 → place i a ≡ q → store j i z from base off c ≡ store_by ToBus q (byte_count z) a (low_register c from) c
+pub store_is_at : (j : PermissionTest) (i : Image) (c : Core) (z : Width) (from base off a : ℕ) (q : Location) → Open j c.protection → address_of c (byte_count z) base off ≡ a → a % byte_count z ≡ 0 → a < 0xE0000000 → location i a ≡ q → store j i z from base off c ≡ store_by ToBus q (byte_count z) a (low_register c from) c
 store_is_at j i c z from base off a q f e al lt p =
     let v = to_bus j c.protection Write (byte_count z) a al lt (f.writes a) in
     rw (e, v, p) refl

@@ -18,7 +18,7 @@ use Rattle.machine_thumb.specs.declared.table.Instr.TheVariants.{AddSubRegister,
 use Rattle.machine_protection.specs.declared.region.Access.TheVariants.{Read, Write}
 use Rattle.machine_devices.specs.declared.image.Image.{Image}
 use Rattle.machine_devices.specs.Rules.{ObeysRules}
-use Rattle.machine_bus.specs.Places.{Place, InRam, InFlash, InWindow, Nowhere, place}
+use Rattle.machine_bus.specs.Locations.{Location, InRam, InFlash, InWindow, Nowhere, location}
 use Rattle.machine_model.specs.declared.state.CoreRegisters.{CoreRegisters}
 use Rattle.machine_model.specs.declared.state.ProtectionState.{ProtectionState}
 use Rattle.machine_model.specs.declared.state.FaultStatus.{FaultStatus}
@@ -286,7 +286,7 @@ module _ (j : PermissionTest) (i : Image) (lr : ℕ) (queues : List (List ℕ)) 
         let a = next_by (at pc x c) (stops r (at pc x c)) e g f refl tt tt in
         more 1 (1 + n) (at pc x c) (Shows (Stopped r c) q) (omega arith) (single (at pc x c) (ended (Stop r pc) (at pc x c)) (Shows (Stopped r c) q) a.fine a.leads (pc, x, refl))
 
-    load_run : (v : Verdict) (p : Place) (f : Core → Outcome) (S : ℕ → Type 0) (n : ℕ → ℕ) (pc w a to q : ℕ) (x : Scratch) (c : Core) → place i a ≡ p → Good c.protection → Fits (at pc x c) → Allowed Read c w a →
+    load_run : (v : Verdict) (p : Location) (f : Core → Outcome) (S : ℕ → Type 0) (n : ℕ → ℕ) (pc w a to q : ℕ) (x : Scratch) (c : Core) → location i a ≡ p → Good c.protection → Fits (at pc x c) → Allowed Read c w a →
         turn j i (at pc x c) ≡ machine_load v j i w a (at pc x c) (λ v. registers (pc + 2) x (with_low c to v)) → OnValue (load_by v p i w a c) S →
         ((u : ℕ) → S u → Fits (at (pc + 2) x (with_low c to u)) → Has (n u) (pc + 2) x (with_low c to u) (f (with_low c to u)) q) → Has (1 + load_ticks (load_by v p i w a c) n) pc x c (after_load (load_by v p i w a c) c to f) q
     load_run ToBus (InRam o) f S n pc w a to q x c e g ft ok t s r =
@@ -309,7 +309,7 @@ module _ (j : PermissionTest) (i : Image) (lr : ℕ) (queues : List (List ℕ)) 
     load_run Refused p f S n pc w a to q x c e g ft ok t s r = stuck (1 + 0) (at pc x c) q
     load_run (Bad z) p f S n pc w a to q x c e g ft ok t s r = broken 0 pc q x c z g ft t
 
-    store_run : (v : Verdict) (p : Place) (f : Core → Outcome) (S : Core → Type 0) (n : Core → ℕ) (pc w a u q : ℕ) (x : Scratch) (c : Core) → place i a ≡ p → Good c.protection → Fits (at pc x c) → Allowed Write c w a →
+    store_run : (v : Verdict) (p : Location) (f : Core → Outcome) (S : Core → Type 0) (n : Core → ℕ) (pc w a u q : ℕ) (x : Scratch) (c : Core) → location i a ≡ p → Good c.protection → Fits (at pc x c) → Allowed Write c w a →
         turn j i (at pc x c) ≡ machine_store v j i w a u (at pc x c) (registers (pc + 2) x c) → OnWritten (store_by v p w a u c) (λ d. Good d.protection × S d) →
         ((d : Core) → S d → Good d.protection → Fits (at (pc + 2) x d) → Has (n d) (pc + 2) x d (f d) q) → Has (1 + store_ticks (store_by v p w a u c) n) pc x c (after_store (store_by v p w a u c) c f) q
     store_run ToBus (InRam o) f S n pc w a u q x c e g ft ok t s r =
@@ -629,13 +629,13 @@ module _ (j : PermissionTest) (i : Image) (lr : ℕ) (queues : List (List ℕ)) 
         let w = byte_count z in
         let a = address_of c w base off in
         ends_at (ticks j i (Load z to base off k) c) pc x c (effect j i (Load z to base off k) c) (pc + 2 + code_length k) (pc + (2 + code_length k)) (omega arith)
-        (load_run (verdict j c.protection Read w a) (place i a) (effect j i k) (λ v. IsSafe j i Good Allowed k (with_low c to v)) (λ v. ticks j i k (with_low c to v)) pc w a to (pc + 2 + code_length k) x c refl g f sf.0
+        (load_run (verdict j c.protection Read w a) (location i a) (effect j i k) (λ v. IsSafe j i Good Allowed k (with_low c to v)) (λ v. ticks j i k (with_low c to v)) pc w a to (pc + 2 + code_length k) x c refl g f sf.0
         (load_turn pc x c z to base off (h.0 c.protection g)) sf.1 (λ u s f1. code_has_effect k (pc + 2) x (with_low c to u) (both _ _ lo).1 (omega arith) h.1 g f1 s))
     code_has_effect (Store z from base off k) pc x c lo hi h g f sf =
         let w = byte_count z in
         let a = address_of c w base off in
         ends_at (ticks j i (Store z from base off k) c) pc x c (effect j i (Store z from base off k) c) (pc + 2 + code_length k) (pc + (2 + code_length k)) (omega arith)
-        (store_run (verdict j c.protection Write w a) (place i a) (effect j i k) (λ d. IsSafe j i Good Allowed k d) (λ d. ticks j i k d) pc w a (low_register c from) (pc + 2 + code_length k) x c refl g f sf.0
+        (store_run (verdict j c.protection Write w a) (location i a) (effect j i k) (λ d. IsSafe j i Good Allowed k d) (λ d. ticks j i k d) pc w a (low_register c from) (pc + 2 + code_length k) x c refl g f sf.0
         (store_turn pc x c z from base off (h.0 c.protection g)) sf.1 (λ d s g1 f1. code_has_effect k (pc + 2) x d (both _ _ lo).1 (omega arith) h.1 g1 f1 s))
     code_has_effect (Alu op to a b k) pc x c lo hi h g f sf =
         let p = both _ _ lo in

@@ -8,7 +8,7 @@ use Rattle.base_words.proofs.Bytes.{length-write}
 use Rattle.machine_protection.specs.declared.region.Access.TheVariants.{Read, Write}
 use Rattle.machine_devices.specs.declared.image.Image.{Image}
 use Rattle.machine_devices.specs.Rules.{ObeysRules}
-use Rattle.machine_bus.specs.Places.{InRam, InFlash}
+use Rattle.machine_bus.specs.Locations.{InRam, InFlash}
 use Rattle.machine_model.specs.declared.state.ProtectionState.{ProtectionState}
 use Rattle.machine_model.specs.State.{PermissionTest, is_unprivileged}
 use Rattle.machine_model.specs.System.{in_system, is_system_register}

@@ -7,7 +7,7 @@ use Rattle.base_words.specs.Arithmetic.{word}
 use Rattle.base_words.specs.Bytes.{read, write}
 use Rattle.machine_protection.specs.declared.region.Access.TheVariants.{Read, Write}
 use Rattle.machine_devices.specs.declared.image.Image.{Image}
-use Rattle.machine_bus.specs.Places.{Place, InRam, InFlash, InWindow, Nowhere, place}
+use Rattle.machine_bus.specs.Locations.{Location, InRam, InFlash, InWindow, Nowhere, location}
 use Rattle.machine_model.specs.declared.state.StopReason.{StopReason}
 use Rattle.machine_model.specs.declared.state.StopReason.TheVariants.{Bus}
 use Rattle.machine_model.specs.declared.answers.Verdict.{Verdict}
@@ -33,41 +33,41 @@ pub data StoreResult : Type 0 where
 abbrev pub address_of : Core → (width base offset : ℕ) → ℕ
 address_of c w base offset = word (low_register c base + w * offset)
 
--- at a place of the bus: flash and RAM give their bytes, nothing lies elsewhere but windows
-abbrev pub load_at : Place → Image → (width : ℕ) → (ram : List ℕ) → LoadResult
+-- at a location of the bus: flash and RAM give their bytes, nothing lies elsewhere but windows
+abbrev pub load_at : Location → Image → (width : ℕ) → (ram : List ℕ) → LoadResult
 load_at (InRam o) i w ram = Value (read w o ram)
 load_at (InFlash o) i w ram = Value (read w o i.flash)
 load_at (InWindow k o) i w ram = LoadUnclaimed
 load_at Nowhere i w ram = LoadStops Bus
 
 -- by what the tests of the access say
-abbrev pub load_by : Verdict → Place → Image → (width address : ℕ) → Core → LoadResult
+abbrev pub load_by : Verdict → Location → Image → (width address : ℕ) → Core → LoadResult
 load_by ToBus here i w a c = load_at here i w c.ram
 load_by ToSystem here i w a c = Value (read_system a c.protection c.status)
 load_by Refused here i w a c = LoadUnclaimed
 load_by (Bad reason) here i w a c = LoadStops reason
 
 -- flash takes no store
-abbrev pub store_at : Place → (width value : ℕ) → Core → StoreResult
+abbrev pub store_at : Location → (width value : ℕ) → Core → StoreResult
 store_at (InRam o) w v c = Written (with_ram c (write w o v c.ram))
 store_at (InFlash o) w v c = StoreStops Bus
 store_at (InWindow k o) w v c = StoreUnclaimed
 store_at Nowhere w v c = StoreStops Bus
 
 -- by what the tests of the access say
-abbrev pub store_by : Verdict → Place → (width address value : ℕ) → Core → StoreResult
+abbrev pub store_by : Verdict → Location → (width address value : ℕ) → Core → StoreResult
 store_by ToBus here w a v c = store_at here w v c
 store_by ToSystem here w a v c = Written (with_system c a v)
 store_by Refused here w a v c = StoreUnclaimed
 store_by (Bad reason) here w a v c = StoreStops reason
 
 module _ (j : PermissionTest) (i : Image) where
-  -- by the verdict of the tests on the address and by its place
+  -- by the verdict of the tests on the address and by its location
   abbrev pub load_from : (width address : ℕ) → Core → LoadResult
-  load_from w a c = load_by (verdict j c.protection Read w a) (place i a) i w a c
+  load_from w a c = load_by (verdict j c.protection Read w a) (location i a) i w a c
 
   abbrev pub store_to : (width address value : ℕ) → Core → StoreResult
-  store_to w a v c = store_by (verdict j c.protection Write w a) (place i a) w a v c
+  store_to w a v c = store_by (verdict j c.protection Write w a) (location i a) w a v c
 
   -- of the steps Load and Store
   abbrev pub load : Width → (base offset : ℕ) → Core → LoadResult

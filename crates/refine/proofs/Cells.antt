@@ -4,7 +4,7 @@ use Rattle.std.specs.List.{list_any}
 use Rattle.std.proofs.lemmas.Bool.Decides.{nat_tests}
 use Rattle.base_words.specs.Bytes.{cut}
 use Rattle.base_words.proofs.Bytes.{cut_small}
-use Rattle.machine_bus.specs.Places.{place, InRam}
+use Rattle.machine_bus.specs.Locations.{location, InRam}
 use Rattle.machine_bus.proofs.Offsets.{in_ram}
 use Rattle.machine_model.specs.declared.state.ProtectionState.{ProtectionState}
 use Rattle.machine_model.specs.State.{State}
@@ -58,7 +58,7 @@ cell_ends from to (c ∷ cs) (suc j) l h = cell_ends (c.at + width_of c.ty) to c
 -- a cell that is found at an offset
 pub record Found (cs : List CellPlace) (size c j : ℕ) (t : PlainType) : Type 0 where
   pub below : j < length cs
-  pub place : (cell_in cs j).at ≡ c
+  pub location : (cell_in cs j).at ≡ c
   pub width : width_of (cell_in cs j).ty ≡ width_of t
   pub ty : (cell_in cs j).ty ≡ t
   pub aligned : c % width_of t ≡ 0
@@ -71,7 +71,7 @@ found_cell cs size c j t f a l =
     let n = cell_ends 0 size cs j l f.below in
     record {
       below = f.below;
-      place = p;
+      location = p;
       width = e;
       ty = f.ty;
       aligned = subst (λ (y : ℕ). y % width_of t ≡ 0) p (subst (λ (y : ℕ). (cell_in cs j).at % y ≡ 0) e (a j).aligned);
@@ -173,7 +173,7 @@ module _ (k : Build) (Inv : Block → Context → List ℕ → Type 0) (sizes : 
     pub record Placed (c : Area) : Type 0 where
       pub off_frame : k.setting.stack + 32 ≤ places fr.number → OffFrame k.setting (places fr.number) c.at c.width
       pub safe_at : IsSafe k.setting (places fr.number) c
-      pub in_ram_at : place k.setting.image (base k.setting + c.at) ≡ InRam c.at
+      pub in_ram_at : location k.setting.image (base k.setting + c.at) ≡ InRam c.at
       pub inside : c.at + c.width ≤ k.setting.image.ram_size
       pub low : base k.setting + c.at < 2 ^ 30
 

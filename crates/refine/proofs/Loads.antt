@@ -13,7 +13,7 @@ use Rattle.machine_thumb.specs.Table.{encode}
 use Rattle.machine_protection.specs.declared.region.Access.TheVariants.{Read, Fetch}
 use Rattle.machine_devices.specs.declared.image.Image.{Image}
 use Rattle.base_events.specs.declared.event.Event.{Event}
-use Rattle.machine_bus.specs.Places.{InRam, InWindow}
+use Rattle.machine_bus.specs.Locations.{InRam, InWindow}
 use Rattle.machine_model.specs.declared.state.ProtectionState.{ProtectionState}
 use Rattle.machine_model.specs.State.{State, PermissionTest, by_mpu}
 use Rattle.machine_model.specs.Code.{MayFetch, Stands as CodeStands, Lies, Runs}

@@ -10,7 +10,7 @@ use Rattle.base_words.proofs.Bytes.{length-write, read_below, read_above}
 use Rattle.machine_thumb.specs.declared.table.Instr.{Instr}
 use Rattle.machine_protection.specs.declared.region.Access.TheVariants.{Write}
 use Rattle.base_events.specs.declared.event.Event.{Event}
-use Rattle.machine_bus.specs.Places.{InRam, InWindow}
+use Rattle.machine_bus.specs.Locations.{InRam, InWindow}
 use Rattle.machine_model.specs.State.{State, by_mpu}
 use Rattle.machine_model.specs.Code.{Lies, Stands, Runs}
 use Rattle.machine_model.specs.Events.{output_event}

@@ -3,7 +3,7 @@
 use Rattle.std.specs.Prelude.{◌≡◌, ℕ, ◌+◌, ◌-◌, ◌%◌, ◌^◌, ◌<◌, ◌≤◌, List, [], ◌∷◌, length, map, true, false, Some}
 use Rattle.std.proofs.Math.ListN.{get_or}
 use Rattle.base_words.specs.Bytes.{read, cut}
-use Rattle.machine_bus.specs.Places.{place, InWindow}
+use Rattle.machine_bus.specs.Locations.{location, InWindow}
 use Rattle.machine_model.specs.Confinement.{AnyOf}
 use Rattle.ir_model.specs.Layout.{rounded_up}
 use Rattle.ir_model.specs.Resolved.{NumberedGlobal, global_at, window_at, local_at}
@@ -28,7 +28,7 @@ module _ (k : Build) where
     -- each function stands in a compartment
     pub count : length k.groups.of ≡ length k.program.funcs
     pub each : (f : ℕ) → f < length k.program.funcs → compartment_of k f < k.groups.count
-    -- the code of each compartment stands at its place, which is a multiple of 4, and is its own
+    -- the code of each compartment stands at its location, which is a multiple of 4, and is its own
     pub lies : (c : ℕ) → c < k.groups.count →
         ItemsIn k.setting.image (compartment_labels k.program (groups_of k) k.places c) (get_or k.places.bases c 0) (compartment_items k.program (groups_of k) k.places c)
     pub inside : (c a : ℕ) → c < k.groups.count → get_or k.places.bases c 0 ≤ a → a < get_or k.places.bases c 0 + compartment_size k.program (groups_of k) c → k.setting.has_code c a ≡ true
@@ -75,7 +75,7 @@ module _ (k : Build) where
   pub record HasWindows : Type 0 where
     pub bases : (q : ℕ) → q < length k.program.periphs → get_or k.places.windows q 0 ≡ (window_at k.program q).base
     pub aligned : (q : ℕ) → q < length k.program.periphs → get_or k.places.windows q 0 % 4 ≡ 0
-    pub leads : (q at : ℕ) → q < length k.program.periphs → at < (window_at k.program q).size → place k.setting.image ((window_at k.program q).base + at) ≡ InWindow q at
+    pub leads : (q at : ℕ) → q < length k.program.periphs → at < (window_at k.program q).size → location k.setting.image ((window_at k.program q).base + at) ≡ InWindow q at
     pub loads : (f q j : ℕ) → f < length k.program.funcs → IsListed (need_of k.needs f).read (PeriphObject q) → q < length k.program.periphs →
         j < (window_at k.program q).size → k.setting.may_load (compartment_of k f) ((window_at k.program q).base + j) ≡ true
     pub stores : (f q j : ℕ) → f < length k.program.funcs → IsListed (need_of k.needs f).written (PeriphObject q) → q < length k.program.periphs →

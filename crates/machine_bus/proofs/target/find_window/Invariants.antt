@@ -1,5 +1,5 @@
 use Rattle.std.proofs.Common.{◌≡◌, drop}
-use Rattle.machine_bus.specs.Places.{find_window}
+use Rattle.machine_bus.specs.Locations.{find_window}
 use Rattle.machine_bus.proofs.target.find_window.Given as goal
 
 abbrev pub invariant-loop-k : goal.invariant-loop-k
