@@ -10,7 +10,7 @@ from .classes import Memory, NUMBER, PointerClass, Signature, View
 from .code import Block, End, FunctionCode, Instruction
 from .common import MASK32, Node, WORD, fresh
 from .layout import Field
-from .link import Function, Program, Unit, Variable
+from .program import Function, Program, Unit, Variable
 from .words import Words
 
 Registers = list[int]

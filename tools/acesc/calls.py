@@ -7,7 +7,7 @@ from .builder import AddressNumber, ObjectPlace, Registers, Result
 from .c_types import CType, Int, Pointer, RecordType
 from .classes import Memory, Signature
 from .common import Node
-from .link import Function
+from .program import Function
 from .memory_calls import MemoryCalls
 from .shape import undefined
 from .tree import MEMORY_FUNCTIONS, parts, type_of

@@ -11,7 +11,7 @@ from .c_types import Array, CType, Float, FunctionType, Int, Pointer, RecordType
 from .common import FLOATING, Refusal
 from .constants import Reading
 from .layout import Record
-from .link import Program
+from .program import Program
 
 # One word of a pointer: ('u', width), ('record', key), ('pointer',), ('function', number), or ('number',).
 View = tuple[Union[str, int], ...]

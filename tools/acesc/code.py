@@ -47,14 +47,14 @@ class FunctionCode:
 
     name: str
     place: Optional[Place]
-    function: Any = None                                                # the C function (link.Function), if it is of one
+    function: Any = None                                                # the C function (program.Function), if it is of one
     blocks: list[Block] = field(default_factory=list)
     types: list[str] = field(default_factory=list)                      # of each value
     parameters: list[int] = field(default_factory=list)
     nulls: dict[str, int] = field(default_factory=dict)                 # a value of each type that is never written
     locals: list[tuple[str, str]] = field(default_factory=list)
     result: Optional[str] = None
-    names: dict[int, Any] = field(default_factory=dict)                 # values that are variables of C (link.Variable)
+    names: dict[int, Any] = field(default_factory=dict)                 # values that are variables of C (program.Variable)
     # from here on: what allotment adds
     registers: dict[int, str] = field(default_factory=dict)             # of each value
     parameter_lines: list[tuple[str, str]] = field(default_factory=list)

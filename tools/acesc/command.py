@@ -10,7 +10,7 @@ from typing import Iterator, Optional
 from .common import Messages, UsageFault
 from .dump import ClangFault, declarations, run_clang
 from .emit import Emitter
-from .link import Function, Program, Unit
+from .program import Function, Program, Unit
 from .peripherals import Peripheral, read_table
 from .settle import settle
 from .shape import Analysis

@@ -7,7 +7,7 @@ from typing import Any, Callable, NamedTuple, Optional, Union
 from .c_types import Array, BYTE, CType, Int, Pointer, RecordType
 from .common import MASK32, Node, Refusal
 from .layout import Field, Record
-from .link import Entity, Function, Program, Unit, Variable
+from .program import Entity, Function, Program, Unit, Variable
 from .strings import literal_bytes
 from .tree import WRAPPERS, is_cast, parts, type_of
 

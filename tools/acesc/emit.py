@@ -10,7 +10,7 @@ from .code import FunctionCode, Instruction
 from .common import Place, Refusal, UNKNOWN_FORM, WORD, as_refusal, fresh
 from .first_values import CellValue, FirstValues, InCode, Scalar
 from .functions import INITIALISER
-from .link import Function, Program, Unit, Variable
+from .program import Function, Program, Unit, Variable
 from .peripherals import Peripheral
 from .regs import allot
 from .routines import routine_text

@@ -12,7 +12,7 @@ from .common import FLOATING, Node, Refusal
 from .constants import ConstantAddress
 from .functions import Functions
 from .layout import Field, Record
-from .link import Function, Unit, Variable
+from .program import Function, Unit, Variable
 from .objects import array_values, memory_place
 from .peripherals import find
 from .shape import undefined

@@ -6,7 +6,7 @@ from .c_types import RecordType
 from .classes import LoweredSignature, Signature
 from .code import FunctionCode
 from .common import fresh
-from .link import Function, Unit
+from .program import Function, Unit
 from .statements import Statements
 
 INITIALISER = 'first values'

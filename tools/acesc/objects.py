@@ -9,7 +9,7 @@ from .c_types import Array, BYTE, CType, Float, Int, Pointer, RecordType
 from .classes import NUMBER, PointerClass
 from .common import FLOATING, Node, Refusal
 from .layout import Field, Record
-from .link import Variable
+from .program import Variable
 from .tree import WRAPPERS, is_null, parts
 
 # Beyond so many units, or elements, a loop is shorter.

@@ -8,7 +8,7 @@ from .c_types import Array, CType, FunctionType, Pointer, RecordType, Void
 from .classes import Memory, NUMBER, PointerClass, Signature, View, element_type, parameter_count
 from .common import MASK32, Node, Refusal, RUNTIME_ADDRESS
 from .layout import Field, Record
-from .link import Function, Program, Variable
+from .program import Function, Program, Variable
 from .peripherals import Peripheral, find
 from .shape import container
 from .tree import WRAPPERS, is_cast, parts, peel, type_of

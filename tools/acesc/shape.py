@@ -7,7 +7,7 @@ from .c_types import Array, CType, Float, Int, Pointer, RecordType, VOID
 from .classes import Classes, Memory, PointerClass, Signature, parameter_count
 from .common import FLOATING, Node, Refusal, RUNTIME_ADDRESS, UNKNOWN_FORM, VARIADIC, as_refusal
 from .layout import Field
-from .link import Function, Program, Variable
+from .program import Function, Program, Variable
 from .tree import COMPARISONS, MEMORY_FUNCTIONS, WRAPPERS, is_cast, is_null, parts, peel, type_of
 from .unit import content
 

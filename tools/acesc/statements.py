@@ -10,7 +10,7 @@ from .builder import ObjectPlace
 from .calls import Calls
 from .code import Block, FunctionCode
 from .common import MASK32, Node, Refusal, UNKNOWN_FORM, WORD, as_refusal
-from .link import Function, Program, Unit, Variable
+from .program import Function, Program, Unit, Variable
 from .peripherals import Peripheral
 from .tree import parts, type_of
 from .unit import content

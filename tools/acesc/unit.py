@@ -9,7 +9,7 @@ from .attributes import check_attributes
 from .c_types import Array, BadType, CType, FunctionType, Int, RecordType, VOID, decayed
 from .common import Node, Place, Refusal
 from .layout import Field, Record
-from .link import Function, Program, Unit, Variable
+from .program import Function, Program, Unit, Variable
 
 BUILTIN_TYPES = ('__builtin_va_list', '__NSConstantString', '__int128_t', '__uint128_t')
 

@@ -8,7 +8,7 @@ from .c_types import CType, Float, FunctionType, INT, Int, LONG, Pointer, Record
 from .classes import NUMBER, PointerClass
 from .code import Block
 from .common import FLOATING, LEAK, Node, RUNTIME_ADDRESS, WORD
-from .link import Function
+from .program import Function
 from .arithmetic import Range
 from .ranges import Ranges
 from .shape import container, undefined

@@ -11,7 +11,7 @@ from .builder import Callee
 from .code import FunctionCode, Instruction
 from .common import Messages, Place
 from .first_values import AddressOf, CellValue
-from .link import Function, Variable
+from .program import Function, Variable
 
 SHOWN = 4
 Node = tuple[str, str, str]     # ('register', function, name), ('content', object, ''), ('result', function, '')

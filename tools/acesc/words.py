@@ -7,7 +7,7 @@ from .c_types import Array, CType, Float, Int, Pointer, RecordType, VaList, Void
 from .classes import Classes, LoweredSignature, Memory, NUMBER, PointerClass, Signature, View
 from .common import FLOATING, Refusal, VARIADIC, WORD, fresh
 from .layout import Field, Record
-from .link import Function, Program, Variable
+from .program import Function, Program, Variable
 
 Word = tuple[View, str]     # what a word of a pointer leads to, and its type in the language
 OBJECT_LIMIT = 65536

@@ -14,7 +14,7 @@ ghost use Rattle.aces_audit.specs.Answers.{AuditAnswer, AnswerToAudit};
 use crate::answer_text::answer_line;
 use crate::laws::sound_images_are_guarded;
 use aces_files::loading::{image_of, load};
-use aces_files::telling::{Told, print};
+use aces_files::telling::{CommandOutput, print};
 use aces_reports::{Done, Failure};
 use base_outside::{Files, Sink};
 use monitor_audit::{Audit, audit};
@@ -31,7 +31,7 @@ fn done_by(answer: &Audit) -> Done
 }
 
 /// The answer by the bytes of the image, which stand behind its name. No file is touched.
-fn answered<'a>(alloc: Global, image: &'a str, bytes: &[u8]) -> Result<Told, Failure<'a>>
+fn answered<'a>(alloc: Global, image: &'a str, bytes: &[u8]) -> Result<CommandOutput, Failure<'a>>
     ensures ok { IfOk result (λ told. AuditAnswer image.now bytes.now (told_outcome told)) }
     ensures err { IfErr result (λ e. IsContentFailure (IsNoImage bytes.now) image.now e) }
 {
@@ -39,7 +39,7 @@ fn answered<'a>(alloc: Global, image: &'a str, bytes: &[u8]) -> Result<Told, Fai
     sound_images_are_guarded();
     let answer = audit(alloc, &read)?;
     let lines = answer_line(alloc, &answer)?;
-    Ok(Told {
+    Ok(CommandOutput {
         lines,
         done: done_by(&answer),
     })

@@ -13,25 +13,25 @@ use crate::answer_text::answer_line;
 use crate::laws::sound_images_are_guarded;
 use crate::table_lines;
 use aces_files::loading::{image_of, load};
-use aces_files::telling::{Told, print};
+use aces_files::telling::{CommandOutput, print};
 use aces_reports::{Done, Failure};
 use base_outside::{Files, Sink};
 use monitor_audit::{Audit, Audited, audited};
 use std::alloc::Global;
 
 /// What is printed by the bytes of the image, which stand behind its name. No file is touched.
-fn told_of<'a>(alloc: Global, image: &'a str, bytes: &[u8]) -> Result<Told, Failure<'a>>
+fn told_of<'a>(alloc: Global, image: &'a str, bytes: &[u8]) -> Result<CommandOutput, Failure<'a>>
     ensures ok { IfOk result (λ told. TablesAnswer image.now bytes.now (told_outcome told)) }
     ensures err { IfErr result (λ e. IsContentFailure (IsNoImage bytes.now) image.now e) }
 {
     let read = image_of(alloc, image, bytes)?;
     sound_images_are_guarded();
     match audited(alloc, &read)? {
-        Audited::Sound(tables) => Ok(Told {
+        Audited::Sound(tables) => Ok(CommandOutput {
             lines: table_lines(alloc, &read, &tables)?,
             done: Done::Completed,
         }),
-        Audited::Unsound(failed) => Ok(Told {
+        Audited::Unsound(failed) => Ok(CommandOutput {
             lines: answer_line(
                 alloc,
                 &Audit::No {

@@ -5,7 +5,7 @@ use Rattle.ir_model.specs.Plain.{firmware_of}
 use Rattle.aces_files.specs.Outcomes.{done}
 use Rattle.aces_files.specs.Tellings.{told_outcome}
 use Rattle.aces_firmwares.specs.Firmwares.{IsFirmware}
-use Rattle.aces_files.specs.declared.telling.Told.{Told}
+use Rattle.aces_files.specs.declared.telling.CommandOutput.{CommandOutput}
 use Rattle.aces_explain.specs.declared.telling.Explained.{Explained}
 use Rattle.aces_explain.specs.declared.telling.Explained.TheVariants.{Faulty, Fine}
 use Rattle.aces_explain.specs.Answers.{ExplainAnswer}
@@ -16,5 +16,5 @@ IsExplained firmware bytes (Faulty lines) = ExplainAnswer firmware bytes (done 1
 IsExplained firmware bytes (Fine checked) = IsFirmware (firmware_of checked) bytes
 
 -- lines that are an answer, with how the command ends
-abbrev pub IsTold : (firmware bytes : List ℕ) → Told → Type 0
+abbrev pub IsTold : (firmware bytes : List ℕ) → CommandOutput → Type 0
 IsTold firmware bytes t = ExplainAnswer firmware bytes (told_outcome t)

@@ -6,8 +6,8 @@ use Rattle.ir_model.specs.declared.token.Excess.{Excess}
 use Rattle.ir_model.specs.declared.token.Excess.TheVariants.{TooWide, Passes}
 use Rattle.ir_model.specs.declared.check.CheckKind.{CheckKind}
 use Rattle.ir_model.specs.declared.check.CheckKind.TheVariants as kind
-use Rattle.ir_model.specs.declared.check.Place.{Place}
-use Rattle.ir_model.specs.declared.check.Place.TheVariants as place
+use Rattle.ir_model.specs.declared.check.CheckPlace.{CheckPlace}
+use Rattle.ir_model.specs.declared.check.CheckPlace.TheVariants as place
 
 abbrev pub utf8_rule : List ℕ
 utf8_rule = codes "a text is UTF-8, and letters beyond ASCII stand in comments alone"
@@ -42,7 +42,7 @@ excess_rule TooWide = number_rule
 excess_rule (Passes which) = limit_rule which
 
 -- of a name that is not there, by the place
-abbrev pub unknown_rule : Place → List ℕ
+abbrev pub unknown_rule : CheckPlace → List ℕ
 unknown_rule (place.Struct name) = codes "a struct in a type is declared, and earlier where it stands behind no * and in no fn"
 unknown_rule (place.Periph name) = codes "a name is declared"
 unknown_rule (place.Global name) = codes "a struct in a type is declared, addr has a global or a peripheral, and fn a function"
@@ -53,7 +53,7 @@ unknown_rule (place.Inst func block inst) =
 unknown_rule place.Whole = codes "a name is declared"
 
 -- of a name that is there already, by the place
-abbrev pub twice_rule : Place → List ℕ
+abbrev pub twice_rule : CheckPlace → List ℕ
 twice_rule (place.Struct name) = codes "the names of structs differ, and those of the fields of a struct"
 twice_rule (place.Periph name) = codes "the names of peripherals, globals and functions differ, all together"
 twice_rule (place.Global name) = codes "the names of peripherals, globals and functions differ, all together"
@@ -64,7 +64,7 @@ twice_rule (place.Inst func block inst) = codes "names differ"
 twice_rule place.Whole = codes "names differ"
 
 -- of types that do not fit, by the place
-abbrev pub type_rule : Place → List ℕ
+abbrev pub type_rule : CheckPlace → List ℕ
 type_rule (place.Struct name) = codes "types fit"
 type_rule (place.Periph name) = codes "types fit"
 type_rule (place.Global name) = codes "types fit"
@@ -74,7 +74,7 @@ type_rule (place.Inst func block inst) = codes "operands and results have the ty
 type_rule place.Whole = codes "types fit"
 
 -- of a check that fails there
-abbrev pub check_rule : CheckKind → Place → List ℕ
+abbrev pub check_rule : CheckKind → CheckPlace → List ℕ
 check_rule (kind.Unknown name) p = unknown_rule p
 check_rule (kind.Twice name) p = twice_rule p
 check_rule kind.IllTyped p = type_rule p

@@ -14,7 +14,7 @@ use crate::explanations::{check_told, passed_told, syntax_told, utf8_told};
 use ir_check::CheckFault;
 use ir_check_details::check_lines;
 use ir_expected_tokens::syntax_lines;
-use ir_model::check::{CheckKind, Place};
+use ir_model::check::{CheckKind, CheckPlace};
 use ir_model::firmware::Firmware;
 use ir_model::token::{Excess, Pos};
 use ir_reader::TextFault;
@@ -64,7 +64,7 @@ fn failing(
     bytes: &[u8],
     firmware: &Firmware,
     kind: &CheckKind,
-    place: &Place,
+    place: &CheckPlace,
 ) -> Result<Vec<u8>, AllocError>
     requires is_text { IsText (plain firmware.now) bytes.now }
     requires few { length bytes.now ≤ text_limit }

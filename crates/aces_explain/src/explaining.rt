@@ -10,13 +10,17 @@ ghost use Rattle.aces_explain.specs.Explained.{IsTold};
 
 use crate::telling::tell;
 use aces_files::loading::load_firmware;
-use aces_files::telling::{Told, print};
+use aces_files::telling::{CommandOutput, print};
 use aces_reports::{Done, Failure};
 use base_outside::{Files, Sink};
 use std::alloc::Global;
 
 /// The lines on the bytes of a firmware, and how the command ends.
-fn lines_on<'a>(alloc: Global, firmware: &'a str, bytes: &[u8]) -> Result<Told, Failure<'a>>
+fn lines_on<'a>(
+    alloc: Global,
+    firmware: &'a str,
+    bytes: &[u8],
+) -> Result<CommandOutput, Failure<'a>>
     requires { length bytes.now ≤ firmware_limit }
     ensures ok { IfOk result (IsTold firmware.now bytes.now) }
     ensures err { IfErr result (λ e. e ≡ WantOfMemory) }

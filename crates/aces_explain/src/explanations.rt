@@ -7,7 +7,7 @@ use crate::excerpt::put_excerpt;
 use crate::expected::put_expected;
 use crate::fault_rules::{check_rule, excess_rule, syntax_rule, utf8_rule};
 use crate::fault_texts::{put_kind, put_passed, put_place};
-use ir_model::check::{CheckKind, Place};
+use ir_model::check::{CheckKind, CheckPlace};
 use ir_model::token::{Excess, Pos};
 use plan_report::text::Text;
 use std::alloc::{AllocError, Global};
@@ -51,7 +51,7 @@ fn put_passed_line(text: &mut Text, name: &[u8], excess: Excess, pos: Pos) -> Re
 }
 
 /// Puts which check fails, and where.
-fn put_failing(text: &mut Text, kind: &CheckKind, place: &Place) -> Result<(), AllocError>
+fn put_failing(text: &mut Text, kind: &CheckKind, place: &CheckPlace) -> Result<(), AllocError>
     ensures { OnOk result (text.new ≡ text.old ++ lines.failing_text (record { kind = kind.now; place = place.now })) }
 {
     put_kind(text, kind)?;
@@ -64,7 +64,7 @@ fn put_check_line(
     text: &mut Text,
     name: &[u8],
     kind: &CheckKind,
-    place: &Place,
+    place: &CheckPlace,
     pos: Pos,
 ) -> Result<(), AllocError>
     ensures { OnOk result (text.new ≡ text.old ++ lines.check_line name.now (record { kind = kind.now; place = place.now }) pos) }
@@ -145,7 +145,7 @@ pub fn check_told(
     name: &[u8],
     bytes: &[u8],
     kind: &CheckKind,
-    place: &Place,
+    place: &CheckPlace,
     pos: Pos,
     details: &[u8],
 ) -> Result<Vec<u8>, AllocError>

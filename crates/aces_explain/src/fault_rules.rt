@@ -3,7 +3,7 @@
 ghost use Rattle.std.specs.Prelude.{◌≡◌};
 ghost use Rattle.aces_explain.specs.RuleTexts as rules;
 
-use ir_model::check::{CheckKind, Place};
+use ir_model::check::{CheckKind, CheckPlace};
 use ir_model::token::{Excess, TextLimit};
 
 /// That of bytes that are not UTF-8.
@@ -58,60 +58,63 @@ pub(crate) fn excess_rule(excess: Excess) -> &'static [u8]
 }
 
 /// That of a name that is not there, by the place.
-fn unknown_rule(place: &Place) -> &'static [u8]
+fn unknown_rule(place: &CheckPlace) -> &'static [u8]
     ensures { result.now ≡ rules.unknown_rule place.now }
 {
     match place {
-        Place::Struct(_) => {
+        CheckPlace::Struct(_) => {
             b"a struct in a type is declared, and earlier where it stands behind no * and in no fn"
         }
-        Place::Global(_) => {
+        CheckPlace::Global(_) => {
             b"a struct in a type is declared, addr has a global or a peripheral, and fn a function"
         }
-        Place::Func(_) => b"a struct in a type is declared",
-        Place::Inst { .. } => {
+        CheckPlace::Func(_) => b"a struct in a type is declared",
+        CheckPlace::Inst { .. } => {
             b"registers and labels are those of the function, addr has a local, a peripheral or a global, and call and faddr have a function"
         }
-        Place::Periph(_) | Place::File(_) | Place::Whole => b"a name is declared",
+        CheckPlace::Periph(_) | CheckPlace::File(_) | CheckPlace::Whole => b"a name is declared",
     }
 }
 
 /// That of a name that is there already, by the place.
-fn twice_rule(place: &Place) -> &'static [u8]
+fn twice_rule(place: &CheckPlace) -> &'static [u8]
     ensures { result.now ≡ rules.twice_rule place.now }
 {
     match place {
-        Place::Struct(_) => b"the names of structs differ, and those of the fields of a struct",
-        Place::Periph(_) | Place::Global(_) => {
+        CheckPlace::Struct(_) =>
+            b"the names of structs differ, and those of the fields of a struct",
+        CheckPlace::Periph(_) | CheckPlace::Global(_) => {
             b"the names of peripherals, globals and functions differ, all together"
         }
-        Place::File(_) => b"the names of files differ",
-        Place::Func(_) => {
+        CheckPlace::File(_) => b"the names of files differ",
+        CheckPlace::Func(_) => {
             b"the names of peripherals, globals and functions differ, all together; in a function those of parameters, locals and registers, all together, and those of labels"
         }
-        Place::Inst { .. } | Place::Whole => b"names differ",
+        CheckPlace::Inst { .. } | CheckPlace::Whole => b"names differ",
     }
 }
 
 /// That of types that do not fit, by the place.
-fn type_rule(place: &Place) -> &'static [u8]
+fn type_rule(place: &CheckPlace) -> &'static [u8]
     ensures { result.now ≡ rules.type_rule place.now }
 {
     match place {
-        Place::Func(_) => {
+        CheckPlace::Func(_) => {
             b"the type of a parameter, a result or a register is u32, a pointer or a function"
         }
-        Place::Inst { .. } => {
+        CheckPlace::Inst { .. } => {
             b"operands and results have the types that the instruction asks for"
         }
-        Place::Struct(_) | Place::Periph(_) | Place::Global(_) | Place::File(_) | Place::Whole => {
-            b"types fit"
-        }
+        CheckPlace::Struct(_)
+        | CheckPlace::Periph(_)
+        | CheckPlace::Global(_)
+        | CheckPlace::File(_)
+        | CheckPlace::Whole => { b"types fit" }
     }
 }
 
 /// That of a check that fails there.
-pub(crate) fn check_rule(kind: &CheckKind, place: &Place) -> &'static [u8]
+pub(crate) fn check_rule(kind: &CheckKind, place: &CheckPlace) -> &'static [u8]
     ensures { result.now ≡ rules.check_rule kind.now place.now }
 {
     match kind {

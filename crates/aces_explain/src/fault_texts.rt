@@ -4,7 +4,7 @@ ghost use Rattle.std.specs.Prelude.{◌≡◌, ◌++◌, OnOk};
 ghost use Rattle.aces_reports.specs.FaultLines as lines;
 ghost use Rattle.aces_explain.specs.Explanations as explanations;
 
-use ir_model::check::{CheckKind, Place};
+use ir_model::check::{CheckKind, CheckPlace};
 use ir_model::token::{Excess, TextLimit};
 use plan_report::text::Text;
 use std::alloc::AllocError;
@@ -78,7 +78,7 @@ pub(crate) fn put_kind(text: &mut Text, kind: &CheckKind) -> Result<(), AllocErr
 
 /// Puts the place of an instruction.
 fn put_instruction(text: &mut Text, func: &[u8], block: &[u8], inst: u32) -> Result<(), AllocError>
-    ensures { OnOk result (text.new ≡ text.old ++ lines.place_text (Place.Inst func.now block.now inst)) }
+    ensures { OnOk result (text.new ≡ text.old ++ lines.place_text (CheckPlace.Inst func.now block.now inst)) }
 {
     put_both(text, func, b" block ")?;
     put_both(text, block, b" instruction ")?;
@@ -86,18 +86,18 @@ fn put_instruction(text: &mut Text, func: &[u8], block: &[u8], inst: u32) -> Res
 }
 
 /// Puts where a check of a firmware fails.
-pub(crate) fn put_place(text: &mut Text, place: &Place) -> Result<(), AllocError>
+pub(crate) fn put_place(text: &mut Text, place: &CheckPlace) -> Result<(), AllocError>
     ensures { OnOk result (text.new ≡ text.old ++ lines.place_text place.now) }
 {
     match place {
-        Place::Struct(name) => put_both(text, b"struct ", name.as_slice()),
-        Place::Periph(name) => put_both(text, b"peripheral ", name.as_slice()),
-        Place::Global(name) => put_both(text, b"global ", name.as_slice()),
-        Place::File(name) => put_both(text, b"file ", name.as_slice()),
-        Place::Func(name) => put_both(text, b"function ", name.as_slice()),
-        Place::Inst { func, block, inst } => {
+        CheckPlace::Struct(name) => put_both(text, b"struct ", name.as_slice()),
+        CheckPlace::Periph(name) => put_both(text, b"peripheral ", name.as_slice()),
+        CheckPlace::Global(name) => put_both(text, b"global ", name.as_slice()),
+        CheckPlace::File(name) => put_both(text, b"file ", name.as_slice()),
+        CheckPlace::Func(name) => put_both(text, b"function ", name.as_slice()),
+        CheckPlace::Inst { func, block, inst } => {
             put_instruction(text, func.as_slice(), block.as_slice(), *inst)
         }
-        Place::Whole => text.put(b"firmware"),
+        CheckPlace::Whole => text.put(b"firmware"),
     }
 }

@@ -20,7 +20,7 @@ use crate::board_telling::board_told;
 use crate::plan_telling::refusal_told;
 use crate::telling::{Explained, counted, examine};
 use aces_files::loading::load_firmware_and;
-use aces_files::telling::{Told, print};
+use aces_files::telling::{CommandOutput, print};
 use aces_reports::{Done, Failure};
 use base_outside::{Files, Sink};
 use ir_model::checked::Checked;
@@ -51,7 +51,7 @@ fn unplanned(
     policy: Policy,
     board: &Board,
     refusal: PlanningRefusal,
-) -> Result<Told, AllocError>
+) -> Result<CommandOutput, AllocError>
     requires analysis { IsAnalysisOf policy (firmware_of firmware.now) board.now.closed analysis }
     requires board { IsBoard board.now }
     requires refused { IsRefusalOf analysis board.now refusal }
@@ -72,7 +72,7 @@ fn unplanned(
         board,
         refusal,
     )?;
-    Ok(Told { lines, done })
+    Ok(CommandOutput { lines, done })
 }
 
 /// The lines on a firmware and a board: why there is no plan by a policy, or the counts of the firmware.
@@ -81,14 +81,14 @@ fn on_board(
     firmware: &Checked,
     policy: Policy,
     board: &Board,
-) -> Result<Told, AllocError>
+) -> Result<CommandOutput, AllocError>
     requires { IsBoard board.now }
     ensures { IfOk result (λ t. IsPlanTold policy (firmware_of firmware.now) board.now (status_of (Ok t.done)) t.lines.items) }
 {
     firmware.firmware();
     let analysis = analyse(alloc, firmware, policy, board.closed)?;
     match planned_by(alloc, &analysis, board) {
-        Ok(_) => Ok(Told {
+        Ok(_) => Ok(CommandOutput {
             lines: counted(alloc, firmware)?,
             done: Done::Completed,
         }),
@@ -113,7 +113,7 @@ fn no_board(
     text: &[u8],
     policy: Policy,
     fault: &BoardFault,
-) -> Result<Told, AllocError>
+) -> Result<CommandOutput, AllocError>
     requires firmware { IsFirmware (firmware_of checked.now) bytes.now }
     requires fault { boards.IsFault text.now fault.now }
     ensures { IfOk result (λ t. ExplainPlanAnswer firmware.now board.now policy bytes.now text.now (told_outcome t)) }
@@ -121,7 +121,7 @@ fn no_board(
     if is_want_of_memory(fault) {
         return Err(AllocError);
     }
-    Ok(Told {
+    Ok(CommandOutput {
         lines: board_told(alloc, board.as_bytes(), text, fault)?,
         done: Done::FaultTold,
     })
@@ -136,7 +136,7 @@ fn on_text(
     board: &str,
     text: &[u8],
     policy: Policy,
-) -> Result<Told, AllocError>
+) -> Result<CommandOutput, AllocError>
     requires { IsFirmware (firmware_of checked.now) bytes.now }
     ensures { IfOk result (λ t. ExplainPlanAnswer firmware.now board.now policy bytes.now text.now (told_outcome t)) }
 {
@@ -157,12 +157,12 @@ fn on_both(
     board: &str,
     text: &[u8],
     policy: Policy,
-) -> Result<Told, AllocError>
+) -> Result<CommandOutput, AllocError>
     requires { length bytes.now ≤ firmware_limit }
     ensures { IfOk result (λ t. ExplainPlanAnswer firmware.now board.now policy bytes.now text.now (told_outcome t)) }
 {
     match examine(alloc, firmware, bytes)? {
-        Explained::Faulty(lines) => Ok(Told {
+        Explained::Faulty(lines) => Ok(CommandOutput {
             lines,
             done: Done::FaultTold,
         }),
@@ -178,7 +178,7 @@ fn lines_on<'a>(
     board: &'a str,
     text: &[u8],
     policy: Policy,
-) -> Result<Told, Failure<'a>>
+) -> Result<CommandOutput, Failure<'a>>
     requires { length bytes.now ≤ firmware_limit }
     ensures ok { IfOk result (λ t. ExplainPlanAnswer firmware.now board.now policy bytes.now text.now (told_outcome t)) }
     ensures err { IfErr result (λ e. e ≡ WantOfMemory) }

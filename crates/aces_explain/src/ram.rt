@@ -10,7 +10,7 @@ ghost use Rattle.aces_explain.specs.Blocks as told;
 
 use ir_model::firmware::Firmware;
 use ir_program::program::Program;
-use plan_layout::ram::{Block, Purpose, falling_blocks};
+use plan_layout::ram::{Purpose, UsedBlock, falling_blocks};
 use plan_model::graph::Final;
 use plan_report::naming::put_global;
 use plan_report::text::Text;
@@ -86,7 +86,7 @@ fn put_block(
     text: &mut Text,
     firmware: &Firmware,
     graph: &Final,
-    block: Block,
+    block: UsedBlock,
 ) -> Result<(), AllocError>
     ensures { OnOk result (text.new ≡ text.old ++ told.ram_line (firmware_of firmware.now) graph.now (block_seen block)) }
 {
@@ -102,7 +102,7 @@ fn put_blocks(
     text: &mut Text,
     firmware: &Firmware,
     graph: &Final,
-    blocks: &[Block],
+    blocks: &[UsedBlock],
 ) -> Result<(), AllocError>
     ensures { OnOk result (text.new ≡ text.old ++ flat_map (told.ram_line (firmware_of firmware.now) graph.now) (map block_seen blocks.now)) }
 {

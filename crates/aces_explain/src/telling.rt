@@ -7,7 +7,7 @@ ghost use Rattle.aces_firmwares.specs.Counts.{count_line};
 ghost use Rattle.aces_explain.specs.Explained.{IsExplained, IsTold};
 
 use crate::details::{check_fault, text_fault};
-use aces_files::telling::Told;
+use aces_files::telling::CommandOutput;
 use aces_firmwares::check::counts_of;
 use aces_reports::Done;
 use ir_check::check;
@@ -58,16 +58,16 @@ pub(crate) fn counted(alloc: Global, checked: &Checked) -> Result<Vec<u8>, Alloc
 /// # Errors
 ///
 /// There is no memory for them.
-pub fn tell(alloc: Global, name: &str, bytes: &[u8]) -> Result<Told, AllocError>
+pub fn tell(alloc: Global, name: &str, bytes: &[u8]) -> Result<CommandOutput, AllocError>
     requires { length bytes.now ≤ firmware_limit }
     ensures { IfOk result (IsTold name.now bytes.now) }
 {
     match examine(alloc, name, bytes)? {
-        Explained::Faulty(lines) => Ok(Told {
+        Explained::Faulty(lines) => Ok(CommandOutput {
             lines,
             done: Done::FaultTold,
         }),
-        Explained::Fine(checked) => Ok(Told {
+        Explained::Fine(checked) => Ok(CommandOutput {
             lines: counted(alloc, &checked)?,
             done: Done::Completed,
         }),

@@ -7,10 +7,10 @@ use Rattle.aces_reports.specs.declared.failure.Failure.{Failure}
 use Rattle.aces_reports.specs.declared.failure.Failure.TheVariants.{Refused, PastLimit, Denied, NoRoom, Unread, Unwritten, Unprinted, NoMemory}
 use Rattle.aces_reports.specs.Ends.{status_of}
 use Rattle.aces_files.specs.Outcomes.{Outcome, done}
-use Rattle.aces_files.specs.declared.telling.Told.{Told}
+use Rattle.aces_files.specs.declared.telling.CommandOutput.{CommandOutput}
 
 -- the outcome of a command that prints these lines, and ends so
-abbrev pub told_outcome : Told → Outcome
+abbrev pub told_outcome : CommandOutput → Outcome
 told_outcome t = done (status_of (Ok t.done)) t.lines.items None
 
 -- these bytes are printed, and the command ends so; or the output failed

@@ -8,7 +8,7 @@ use base_outside::Sink;
 
 /// Lines, and how the command ends that prints them.
 #[derive(Drop)]
-pub struct Told {
+pub struct CommandOutput {
     /// The lines.
     pub lines: Vec<u8>,
     /// The end.

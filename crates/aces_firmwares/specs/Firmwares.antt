@@ -3,7 +3,7 @@ use Rattle.std.specs.Prelude.{◌≡◌, ℕ, List, Some}
 use Rattle.aces_reports.specs.declared.failure.Fault.{Fault}
 use Rattle.aces_reports.specs.declared.failure.Fault.TheVariants.{Text, Check}
 use Rattle.ir_model.specs.declared.check.CheckKind.{CheckKind}
-use Rattle.ir_model.specs.declared.check.Place.{Place}
+use Rattle.ir_model.specs.declared.check.CheckPlace.{CheckPlace}
 use Rattle.ir_model.specs.Plain.{PlainFirmware}
 use Rattle.ir_model.specs.Texts as firmwares
 use Rattle.ir_model.specs.Typing.{IsTyped, fault_of}
@@ -19,7 +19,7 @@ pub record IsNoText (bytes : List ℕ) (f : Fault) : Type 0 where
   pub named : IsContentFault (Text first) f
 
 -- bytes are the text of a firmware that isn't typed, and this is the first check that fails
-pub record IsIllTyped (bytes : List ℕ) (kind : CheckKind) (place : Place) : Type 0 where
+pub record IsIllTyped (bytes : List ℕ) (kind : CheckKind) (place : CheckPlace) : Type 0 where
   pub firmware : PlainFirmware
   pub is_text : firmwares.IsText firmware bytes
   pub found : fault_of firmware ≡ Some (record { kind = kind; place = place })
@@ -27,7 +27,7 @@ pub record IsIllTyped (bytes : List ℕ) (kind : CheckKind) (place : Place) : Ty
 -- bytes are the text of no typed firmware, by this fault
 pub data IsNoFirmware (bytes : List ℕ) : Fault → Type 0 where
   no_text : (f : Fault) → IsNoText bytes f → IsNoFirmware bytes f
-  ill_typed : (kind : CheckKind) (place : Place) → IsIllTyped bytes kind place → IsNoFirmware bytes (Check (At kind place))
+  ill_typed : (kind : CheckKind) (place : CheckPlace) → IsIllTyped bytes kind place → IsNoFirmware bytes (Check (At kind place))
 
 -- bytes are the text of a typed firmware
 pub record IsFirmware (w : PlainFirmware) (bytes : List ℕ) : Type 0 where

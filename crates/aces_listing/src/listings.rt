@@ -20,7 +20,7 @@ use plan_report::subject::Subject;
 use std::alloc::{AllocError, Global};
 
 /// The listing of a firmware that is planned for a board.
-fn told(
+fn listing_of_plan(
     alloc: Global,
     firmware: &Checked,
     analysis: &Analysis,
@@ -64,6 +64,6 @@ pub fn listing_of(
     runs_stay_in_policy();
     let analysis = analyse(alloc, firmware, policy, board.closed)?;
     let made = planned_by(alloc, &analysis, board)?;
-    let lines = told(alloc, firmware, &analysis, &made, policy, board)?;
+    let lines = listing_of_plan(alloc, firmware, &analysis, &made, policy, board)?;
     Ok(lines)
 }

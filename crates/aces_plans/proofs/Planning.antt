@@ -20,9 +20,9 @@ use Rattle.aces_plans.specs.Answers as answers
 use Rattle.aces_files.specs.Loads.{IsRefusal, IsPlanningFailure, of_planning}
 
 -- the failure of a refusal, where memory does not run out for its line
-told : (A : Outcome → Type 0) (w : PlainFirmware) (b : Board) (r : PlanningRefusal) (e : Failure) → IsPlanningFailure w b r e → IsRefusal A (of_planning w b r) → IsRefusal A e
-told A w b r e (inl q) h = subst (IsRefusal A) (sym q) h
-told A w b r e (inr q) h = subst (IsRefusal A) (sym q) tt
+refused_so : (A : Outcome → Type 0) (w : PlainFirmware) (b : Board) (r : PlanningRefusal) (e : Failure) → IsPlanningFailure w b r e → IsRefusal A (of_planning w b r) → IsRefusal A e
+refused_so A w b r e (inl q) h = subst (IsRefusal A) (sym q) h
+refused_so A w b r e (inr q) h = subst (IsRefusal A) (sym q) tt
 
 -- a firmware that is not planned
 unplanned : (firmware board : List ℕ) (policy : Policy) (bytes text : List ℕ) (w : PlainFirmware) (b : Board) → IsFirmware w bytes → IsRead text b
@@ -35,7 +35,7 @@ unplanned firmware board policy bytes text w b f k (Room lack) h = lacks_room w 
 pub planning_refused : (firmware board : List ℕ) (policy : Policy) (bytes text : List ℕ) (w : PlainFirmware) (b : Board) → IsFirmware w bytes → IsRead text b
     → (r : PlanningRefusal) (e : Failure) → IsUnplanned policy w b r → IsPlanningFailure w b r e → IsRefusal (PlanAnswer firmware board policy bytes text) e
 planning_refused firmware board policy bytes text w b f k r e h q =
-    told (PlanAnswer firmware board policy bytes text) w b r e q (unplanned firmware board policy bytes text w b f k r h)
+    refused_so (PlanAnswer firmware board policy bytes text) w b r e q (unplanned firmware board policy bytes text w b f k r h)
 
 -- one of which a limit is passed
 limited : (firmware board : List ℕ) (policy : Policy) (bytes text : List ℕ) (w : PlainFirmware) (b : Board) → IsFirmware w bytes → IsRead text b
@@ -48,7 +48,7 @@ limited firmware board policy bytes text w b f k (Room lack) h = absurd h
 pub limits_refused : (firmware board : List ℕ) (policy : Policy) (bytes text : List ℕ) (w : PlainFirmware) (b : Board) → IsFirmware w bytes → IsRead text b
     → (r : PlanningRefusal) (e : Failure) → IsLimited policy w b r → IsPlanningFailure w b r e → IsRefusal (StackAnswers firmware board policy bytes text) e
 limits_refused firmware board policy bytes text w b f k r e h q =
-    told (StackAnswers firmware board policy bytes text) w b r e q (limited firmware board policy bytes text w b f k r h)
+    refused_so (StackAnswers firmware board policy bytes text) w b r e q (limited firmware board policy bytes text w b f k r h)
 
 -- what is told of an answer on a firmware's stack
 pub answer_told : (firmware board : List ℕ) (policy : Policy) (bytes text : List ℕ) (w : PlainFirmware) (b : Board) (a : StackAnswer) (status : ℕ) (lines : List ℕ) → IsFirmware w bytes

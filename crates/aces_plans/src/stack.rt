@@ -12,7 +12,7 @@ ghost use Rattle.base_outside.specs.Sinks.{sink};
 
 use aces_files::failure::planning_failure;
 use aces_files::loading::{board_of, load_firmware_and};
-use aces_files::telling::{Told, print};
+use aces_files::telling::{CommandOutput, print};
 use aces_firmwares::reading::firmware_of;
 use aces_reports::{Done, Failure};
 use aces_stack::stack_of;
@@ -54,7 +54,7 @@ fn bounded<'a>(
     board: &'a str,
     text: &[u8],
     policy: Policy,
-) -> Result<Told, Failure<'a>>
+) -> Result<CommandOutput, Failure<'a>>
     requires { length bytes.now ≤ firmware_limit }
     ensures ok { IfOk result (λ told. StackAnswers firmware.now board.now policy bytes.now text.now (told_outcome told)) }
     ensures err { IfErr result (IsRefusal (StackAnswers firmware.now board.now policy bytes.now text.now)) }
@@ -65,7 +65,7 @@ fn bounded<'a>(
         Ok(answer) => {
             let lines = stack_lines(alloc, checked.firmware(), read.stack, &answer)?;
             let done = done_by(read.stack, &answer);
-            Ok(Told { lines, done })
+            Ok(CommandOutput { lines, done })
         }
         Err(refusal) => Err(planning_failure(alloc, checked.firmware(), &read, refusal)),
     }

@@ -6,8 +6,8 @@ use Rattle.ir_model.specs.declared.token.TextLimit.{TextLimit}
 use Rattle.ir_model.specs.declared.token.TextLimit.TheVariants as limit
 use Rattle.ir_model.specs.declared.check.CheckKind.{CheckKind}
 use Rattle.ir_model.specs.declared.check.CheckKind.TheVariants as kind
-use Rattle.ir_model.specs.declared.check.Place.{Place}
-use Rattle.ir_model.specs.declared.check.Place.TheVariants as place
+use Rattle.ir_model.specs.declared.check.CheckPlace.{CheckPlace}
+use Rattle.ir_model.specs.declared.check.CheckPlace.TheVariants as place
 use Rattle.machine_image.specs.declared.fault.ImageFault.{ImageFault}
 use Rattle.machine_image.specs.declared.fault.ImageFault.TheVariants as image
 use Rattle.machine_devices.specs.declared.tape.TapeFault.{TapeFault}
@@ -78,7 +78,7 @@ kind_text kind.ObjectTooLarge = codes "object too large"
 kind_text (kind.FrameTooLarge bytes) = codes "frame of " ++ decimal bytes ++ codes " bytes"
 
 -- where it fails
-abbrev pub place_text : Place → List ℕ
+abbrev pub place_text : CheckPlace → List ℕ
 place_text (place.Struct name) = codes "struct " ++ name
 place_text (place.Periph name) = codes "peripheral " ++ name
 place_text (place.Global name) = codes "global " ++ name

@@ -10,7 +10,7 @@ ghost use Rattle.base_outside.specs.Sinks.{PutsLine, sink};
 use crate::failure::{Done, Failure, Fault};
 use base_outside::Sink;
 use ir_check_scopes::CheckFault;
-use ir_model::check::{CheckKind, Place};
+use ir_model::check::{CheckKind, CheckPlace};
 use ir_model::token::{Pos, TextLimit};
 use ir_reader::TextFault;
 use machine_devices::tape::TapeFault;
@@ -194,26 +194,26 @@ fn say_frame<E: Sink>(err: &mut E, bytes: u32)
 }
 
 /// Puts where a check of a firmware fails.
-fn say_place<E: Sink>(err: &mut E, place: &Place)
+fn say_place<E: Sink>(err: &mut E, place: &CheckPlace)
     ensures { PutsLine (sink E.Sink err.old) (sink E.Sink err.new) (lines.place_text place.now) }
 {
     match place {
-        Place::Struct(name) => say_both(err, b"struct ", name.as_slice()),
-        Place::Periph(name) => say_both(err, b"peripheral ", name.as_slice()),
-        Place::Global(name) => say_both(err, b"global ", name.as_slice()),
-        Place::File(name) => say_both(err, b"file ", name.as_slice()),
-        Place::Func(name) => say_both(err, b"function ", name.as_slice()),
-        Place::Inst { func, block, inst } => {
+        CheckPlace::Struct(name) => say_both(err, b"struct ", name.as_slice()),
+        CheckPlace::Periph(name) => say_both(err, b"peripheral ", name.as_slice()),
+        CheckPlace::Global(name) => say_both(err, b"global ", name.as_slice()),
+        CheckPlace::File(name) => say_both(err, b"file ", name.as_slice()),
+        CheckPlace::Func(name) => say_both(err, b"function ", name.as_slice()),
+        CheckPlace::Inst { func, block, inst } => {
             say_instruction(err, func.as_slice(), block.as_slice(), *inst)
         }
-        Place::Whole => say(err, b"firmware"),
+        CheckPlace::Whole => say(err, b"firmware"),
     }
 }
 
 /// Puts the place of an instruction.
 fn say_instruction<E: Sink>(err: &mut E, func: &[u8], block: &[u8], inst: u32)
     ensures { PutsLine (sink E.Sink err.old) (sink E.Sink err.new)
-        (lines.place_text (Place.Inst func.now block.now inst)) }
+        (lines.place_text (CheckPlace.Inst func.now block.now inst)) }
 {
     say_named(err, func, b" block ", block);
     say(err, b" instruction ");
@@ -221,7 +221,7 @@ fn say_instruction<E: Sink>(err: &mut E, func: &[u8], block: &[u8], inst: u32)
 }
 
 /// Puts the line on a check of a firmware that fails.
-fn say_failing<E: Sink>(err: &mut E, name: &[u8], kind: &CheckKind, place: &Place)
+fn say_failing<E: Sink>(err: &mut E, name: &[u8], kind: &CheckKind, place: &CheckPlace)
     ensures { PutsLine (sink E.Sink err.old) (sink E.Sink err.new)
         (lines.check_line name.now (CheckFault.At kind.now place.now)) }
 {

@@ -23,7 +23,7 @@ use Rattle.aces_selftest.specs.declared.machines.MachineCount.{MachineCount}
 use Rattle.aces_selftest.specs.Counts.{IsSourceCount, IsMachineCount}
 use Rattle.aces_selftest.specs.declared.runs.SourceTest.{SourceTest}
 use Rattle.aces_selftest.specs.declared.testing.Tested.{Tested}
-use Rattle.aces_files.specs.declared.telling.Told.{Told}
+use Rattle.aces_files.specs.declared.telling.CommandOutput.{CommandOutput}
 use Rattle.aces_selftest.specs.Lines.{Ran, AreAlike, firmware_line, division_line, verdict_status, test_lines}
 use Rattle.aces_selftest.specs.Answers.{source_limit, IsTestImage, groups_of, source_ran, image_ran, lines_of, SelftestAnswer, tested}
 use Rattle.aces_selftest.specs.Tested.{IsSourceTest, source_seen, image_seen, IsTested, IsTold}
@@ -46,7 +46,7 @@ module _ (seed size : ℕ) (i : Image) (by : IsTestImage seed size i) where
       ap₂ (λ (es : List Event) (e : Option End). record { steps = c.steps; events = es; end = machine_lines.end_line (unwrap_or e Limit) }) h.events h.end
 
 -- what is told of a self-test is its answer
-pub answered : (seed size : ℕ) (i : Image) (t : Tested) (told : Told) → IsTested seed size i t
+pub answered : (seed size : ℕ) (i : Image) (t : Tested) (told : CommandOutput) → IsTested seed size i t
     → IsTold (length (made seed size).globals) (length (made seed size).periphs) t told → SelftestAnswer seed size (done (status_of (Ok told.done)) told.lines.items None)
 answered seed size i t told h k =
     let by = h.by in

@@ -20,7 +20,7 @@ use Rattle.aces_selftest.specs.declared.machines.MachineCount.{MachineCount}
 use Rattle.aces_selftest.specs.Counts.{IsSourceCount}
 use Rattle.aces_selftest.specs.declared.runs.SourceTest.{SourceTest}
 use Rattle.aces_selftest.specs.declared.testing.Tested.{Tested}
-use Rattle.aces_files.specs.declared.telling.Told.{Told}
+use Rattle.aces_files.specs.declared.telling.CommandOutput.{CommandOutput}
 use Rattle.aces_selftest.specs.Lines.{Ran, AreAlike, firmware_line, division_line, test_lines, verdict_status}
 use Rattle.aces_selftest.specs.Answers.{source_limit, IsTestImage, groups_of, TakeSteps, source_ran, image_ran}
 
@@ -50,7 +50,7 @@ pub record IsTested (seed size : ℕ) (i : Image) (t : Tested) : Type 0 where
   pub image : image_seen t.image ≡ image_ran seed size i by t.image.steps
 
 -- what is told of a self-test, of a firmware with so many globals and peripherals
-pub record IsTold (globals periphs : ℕ) (t : Tested) (told : Told) : Type 0 where
+pub record IsTold (globals periphs : ℕ) (t : Tested) (told : CommandOutput) : Type 0 where
   pub alike : Bool
   pub decides : Decides alike (AreAlike (source_seen t.source) (image_seen t.image))
   pub lines : told.lines.items

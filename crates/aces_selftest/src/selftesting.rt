@@ -12,7 +12,7 @@ use crate::telling::tell;
 use crate::testing::test;
 use aces_compiler::compile_by;
 use aces_files::failure::planning_failure;
-use aces_files::telling::Told;
+use aces_files::telling::CommandOutput;
 use aces_reports::Failure;
 use ir_generator::checked;
 use ir_model::checked::Checked;
@@ -27,7 +27,7 @@ fn compared(
     size: u32,
     firmware: &Checked,
     image: &Image,
-) -> Result<Told, AllocError>
+) -> Result<CommandOutput, AllocError>
     requires most { size ≤ 200 }
     requires firmware { firmware_of firmware.now ≡ made seed size }
     requires image { IsTestImage seed size image.now }
@@ -44,7 +44,7 @@ fn compared(
 ///
 /// There is no memory for it, or the firmware is not compiled: a limit of what is compiled is passed, or the blocks have more bytes than
 /// a memory of the board.
-pub fn selftest<'a>(alloc: Global, seed: u32, size: u32) -> Result<Told, Failure<'a>>
+pub fn selftest<'a>(alloc: Global, seed: u32, size: u32) -> Result<CommandOutput, Failure<'a>>
     requires least { 1 ≤ size }
     requires most { size ≤ 200 }
     ensures ok { IfOk result (λ told. SelftestAnswer seed size (told_outcome told)) }

@@ -12,7 +12,7 @@ ghost use Rattle.aces_selftest.specs.Lines as lines;
 ghost use Rattle.aces_selftest.specs.Tested.{source_seen, image_seen, IsTold};
 
 use crate::testing::Tested;
-use aces_files::telling::Told;
+use aces_files::telling::CommandOutput;
 use aces_reports::Done;
 use base_events::event::Event;
 use ir_model::firmware::Firmware;
@@ -153,7 +153,11 @@ fn done_by(alike: bool) -> Done
 }
 
 /// What is told of a self-test of a firmware: its five lines, and that the command ends completed where both runs are alike, else failed.
-pub(crate) fn tell(alloc: Global, firmware: &Firmware, tested: &Tested) -> Result<Told, AllocError>
+pub(crate) fn tell(
+    alloc: Global,
+    firmware: &Firmware,
+    tested: &Tested,
+) -> Result<CommandOutput, AllocError>
     ensures { IfOk result (IsTold (length firmware.now.globals) (length firmware.now.periphs) tested.now) }
 {
     let source_end = source_end_line(tested.source.end);
@@ -174,7 +178,7 @@ pub(crate) fn tell(alloc: Global, firmware: &Firmware, tested: &Tested) -> Resul
     put_division(&mut text, tested.compartments, tested.sites)?;
     put_runs(&mut text, tested, source_end, image_end)?;
     text.put(verdict_line(alike))?;
-    Ok(Told {
+    Ok(CommandOutput {
         lines: text.into_bytes(),
         done: done_by(alike),
     })

@@ -18,7 +18,7 @@ use plan_report::subject::Subject;
 use std::alloc::{AllocError, Global};
 
 /// The symbols of a firmware that is planned for a board.
-fn told(
+fn symbols_of_plan(
     alloc: Global,
     firmware: &Checked,
     analysis: &Analysis,
@@ -57,6 +57,6 @@ pub fn symbols_of(
     firmware.firmware();
     let analysis = analyse(alloc, firmware, policy, board.closed)?;
     let made = planned_by(alloc, &analysis, board)?;
-    let lines = told(alloc, firmware, &analysis, &made, board)?;
+    let lines = symbols_of_plan(alloc, firmware, &analysis, &made, board)?;
     Ok(lines)
 }

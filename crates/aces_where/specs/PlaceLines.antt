@@ -8,7 +8,7 @@ use Rattle.ir_model.specs.Plain.{PlainFirmware}
 use Rattle.ir_model.specs.Resolved.{Program, Value, Number, At, OfPeriph}
 use Rattle.ir_model.specs.State.{Frame, SourceEnd, Returned, OutOfInput, Faulted}
 use Rattle.plan_report.specs.Names.{periph_name, register_name}
-use Rattle.ir_run.specs.declared.reads.Spot.{Spot}
+use Rattle.ir_run.specs.declared.reads.FramePlace.{FramePlace}
 use Rattle.ir_run.specs.Reads.{spot_of, registers_of}
 use Rattle.ir_output.specs.SourceRuns.{end_line}
 use Rattle.aces_where.specs.Values.{value_text}
@@ -21,10 +21,10 @@ run_lines n end = codes "steps " ++ decimal n ++ line_feed ++ end_line end
 module _ (w : PlainFirmware) where
   -- ---- frames
 
-  abbrev pub at_line : Program → Spot → List ℕ
+  abbrev pub at_line : Program → FramePlace → List ℕ
   at_line p s = spot_line w p (codes "at ") s
 
-  abbrev pub waits_line : Program → Spot → List ℕ
+  abbrev pub waits_line : Program → FramePlace → List ℕ
   waits_line p s = spot_line w p (codes "waits ") s
 
   abbrev pub register_line : (func register : ℕ) → Value → List ℕ
@@ -56,7 +56,7 @@ module _ (w : PlainFirmware) where
   -- ---- all of them
 
   -- the place of the innermost frame, and of those that wait, the last first; its registers; and what the last step met
-  abbrev pub spot_lines : Program → Option SourceEnd → List Spot → (regs : List Value) → List ℕ
+  abbrev pub spot_lines : Program → Option SourceEnd → List FramePlace → (regs : List Value) → List ℕ
   spot_lines p end [] vs = []
   spot_lines p end (s ∷ waiting) vs = at_line p s ++ flat_map (waits_line p) waiting ++ register_lines s.func vs ++ last_line end (met p s vs)
 

@@ -5,7 +5,7 @@ use Rattle.std.specs.Fmt.{decimal}
 use Rattle.machine_lines.specs.Lines.{line_feed}
 use Rattle.ir_model.specs.Plain.{PlainFirmware}
 use Rattle.ir_model.specs.Resolved.{Program, Value, Number, NumberedInst, Elem, Field, Load, Store, ICall, Here, Does, Ends, here}
-use Rattle.ir_run.specs.declared.reads.Spot.{Spot}
+use Rattle.ir_run.specs.declared.reads.FramePlace.{FramePlace}
 use Rattle.plan_report.specs.Names.{func_name, label_of}
 
 -- ---- places
@@ -18,10 +18,10 @@ stand_text (Does i) k = number_text k
 stand_text (Ends t) k = codes " end"
 
 -- what stands at a place
-abbrev pub here_at : Program → Spot → Here
+abbrev pub here_at : Program → FramePlace → Here
 here_at p s = here p s.func s.block s.place
 
-abbrev pub spot_line : PlainFirmware → Program → (word : List ℕ) → Spot → List ℕ
+abbrev pub spot_line : PlainFirmware → Program → (word : List ℕ) → FramePlace → List ℕ
 spot_line w p word s = word ++ func_name w s.func ++ codes " block " ++ label_of w s.func s.block ++ stand_text (here_at p s) s.place ++ line_feed
 
 -- ---- the value that an instruction meets
@@ -40,5 +40,5 @@ met_by (Does i) vs = option_map (λ r. get_or vs r (Number 0)) (reaching_registe
 met_by (Ends t) vs = None
 
 -- what the instruction at which a frame with these registers stands meets
-abbrev pub met : Program → Spot → (regs : List Value) → Option Value
+abbrev pub met : Program → FramePlace → (regs : List Value) → Option Value
 met p s vs = met_by (here_at p s) vs

@@ -16,7 +16,7 @@ use ir_output::ending::end_line;
 use ir_program::program::Program;
 use ir_program::value::Value;
 use ir_run::outcome::SourceEnd;
-use ir_run::reads::Spot;
+use ir_run::reads::FramePlace;
 use ir_run::run::SourceRun;
 use plan_report::naming::put_periph;
 use plan_report::text::Text;
@@ -98,7 +98,7 @@ fn put_spots(
     firmware: &Firmware,
     program: &Program<'_>,
     end: Option<SourceEnd>,
-    spots: &[Spot],
+    spots: &[FramePlace],
     registers: &[Value],
 ) -> Result<(), AllocError>
     ensures { OnOk result (text.new ≡ text.old ++ lines.spot_lines (firmware_of firmware.now) (program_of program.now) (seen_end end) spots.now (map value_of registers.now)) }

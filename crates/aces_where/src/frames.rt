@@ -14,7 +14,7 @@ use ir_program::program::Program;
 use ir_program::value::Value;
 use ir_run::place::Here;
 use ir_run::places::here;
-use ir_run::reads::Spot;
+use ir_run::reads::FramePlace;
 use plan_report::naming::{put_func, put_label, put_register};
 use plan_report::text::Text;
 use std::alloc::AllocError;
@@ -28,7 +28,7 @@ fn put_number(text: &mut Text, place: usize) -> Result<(), AllocError>
 }
 
 /// Puts the number of the instruction at which a frame stands, or that it stands at the block's end.
-fn put_stand(text: &mut Text, program: &Program<'_>, spot: Spot) -> Result<(), AllocError>
+fn put_stand(text: &mut Text, program: &Program<'_>, spot: FramePlace) -> Result<(), AllocError>
     ensures { OnOk result (text.new ≡ text.old ++ spots.stand_text (spots.here_at (program_of program.now) spot) spot.place) }
 {
     match here(program, spot.func, spot.block, spot.place) {
@@ -43,7 +43,7 @@ fn put_spot(
     firmware: &Firmware,
     program: &Program<'_>,
     word: &[u8],
-    spot: Spot,
+    spot: FramePlace,
 ) -> Result<(), AllocError>
     ensures { OnOk result (text.new ≡ text.old ++ spots.spot_line (firmware_of firmware.now) (program_of program.now) word.now spot) }
 {
@@ -60,7 +60,7 @@ pub(crate) fn put_at(
     text: &mut Text,
     firmware: &Firmware,
     program: &Program<'_>,
-    spot: Spot,
+    spot: FramePlace,
 ) -> Result<(), AllocError>
     ensures { OnOk result (text.new ≡ text.old ++ lines.at_line (firmware_of firmware.now) (program_of program.now) spot) }
 {
@@ -72,7 +72,7 @@ fn put_waits(
     text: &mut Text,
     firmware: &Firmware,
     program: &Program<'_>,
-    spot: Spot,
+    spot: FramePlace,
 ) -> Result<(), AllocError>
     ensures { OnOk result (text.new ≡ text.old ++ lines.waits_line (firmware_of firmware.now) (program_of program.now) spot) }
 {
@@ -84,7 +84,7 @@ pub(crate) fn put_waiting(
     text: &mut Text,
     firmware: &Firmware,
     program: &Program<'_>,
-    waiting: &[Spot],
+    waiting: &[FramePlace],
 ) -> Result<(), AllocError>
     ensures { OnOk result (text.new ≡ text.old ++ flat_map (lines.waits_line (firmware_of firmware.now) (program_of program.now)) waiting.now) }
 {

@@ -5,7 +5,7 @@ ghost use Rattle.base_outside.specs.Sinks.{sink};
 ghost use Rattle.aces_files.specs.CarriesOut.{CarriesOut};
 ghost use Rattle.aces_where.specs.Answers.{AnswerToWhere};
 
-use crate::telling::told;
+use crate::telling::where_by_bytes;
 use aces_files::loading::load_firmware_and;
 use aces_files::telling::print;
 use aces_reports::{Done, Failure};
@@ -28,7 +28,7 @@ pub fn locate<'a, F: Files, O: Sink>(
         (sink O.Sink out.old) (sink O.Sink out.new) result }
 {
     let both = load_firmware_and(alloc, files, firmware, tape)?;
-    let lines = told(
+    let lines = where_by_bytes(
         alloc,
         firmware,
         policy,

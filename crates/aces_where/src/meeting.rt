@@ -13,7 +13,7 @@ use ir_program::program::{Operation, Program};
 use ir_program::value::Value;
 use ir_run::place::Here;
 use ir_run::places::here;
-use ir_run::reads::Spot;
+use ir_run::reads::FramePlace;
 
 /// The register by which an instruction reaches an object or a function.
 fn reaching_register(operation: &Operation<'_>) -> Option<usize>
@@ -64,7 +64,7 @@ fn met_by(operation: &Operation<'_>, registers: &[Value]) -> Option<Value>
 }
 
 /// What the instruction at which a frame with these registers stands meets.
-pub(crate) fn met(program: &Program<'_>, spot: Spot, registers: &[Value]) -> Option<Value>
+pub(crate) fn met(program: &Program<'_>, spot: FramePlace, registers: &[Value]) -> Option<Value>
     ensures { option_map value_of result ≡ spots.met (program_of program.now) spot (map value_of registers.now) }
 {
     match here(program, spot.func, spot.block, spot.place) {

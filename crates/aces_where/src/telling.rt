@@ -86,7 +86,7 @@ fn lines_on(
 }
 
 /// The lines by the bytes of a firmware and of a tape, each behind its name. No file is touched.
-pub(crate) fn told<'a>(
+pub(crate) fn where_by_bytes<'a>(
     alloc: Global,
     firmware: &'a str,
     policy: Policy,

@@ -5,7 +5,7 @@ use Rattle.std.proofs.lemmas.Bool.{eqb-true}
 use Rattle.std.proofs.lemmas.List.Folds.{list_any-append}
 use Rattle.std.proofs.lemmas.List.Sums.{sum_by-append, sum_by-cons}
 use Rattle.std.proofs.lemmas.Map.Views.{any-filter_same}
-use Rattle.plan_model.specs.declared.graph.Region.{Region}
+use Rattle.plan_model.specs.declared.graph.DataRegion.{DataRegion}
 use Rattle.plan_model.specs.Lists.{has}
 use Rattle.plan_model.specs.Permission.{may_write, may_read}
 use Rattle.plan_model.specs.Regions.{global_size}
@@ -43,18 +43,18 @@ found false true true some h = h
 found false true false some h = h
 found false false rest some h = h
 
-in_regions : (s : Subject) (c : ℕ) (a : Access) (x : ℕ) (rs : List Region)
-    → has (flat_map (unneeded s c a) (filter (is_open c a) rs)) x ≡ (list_any (λ (r : Region). is_open c a r && has r.globals x) rs && not (is_needed s c a x))
+in_regions : (s : Subject) (c : ℕ) (a : Access) (x : ℕ) (rs : List DataRegion)
+    → has (flat_map (unneeded s c a) (filter (is_open c a) rs)) x ≡ (list_any (λ (r : DataRegion). is_open c a r && has r.globals x) rs && not (is_needed s c a x))
 in_regions s c a x [] = refl
 in_regions s c a x (r ∷ rs) = by (is_open c a r) (in_regions s c a x rs)
   where
-    by : (b : Bool) → has (flat_map (unneeded s c a) (filter (is_open c a) rs)) x ≡ (list_any (λ (q : Region). is_open c a q && has q.globals x) rs && not (is_needed s c a x))
+    by : (b : Bool) → has (flat_map (unneeded s c a) (filter (is_open c a) rs)) x ≡ (list_any (λ (q : DataRegion). is_open c a q && has q.globals x) rs && not (is_needed s c a x))
         → has (flat_map (unneeded s c a) (cond b (r ∷ filter (is_open c a) rs) (filter (is_open c a) rs))) x
-        ≡ (((b && has r.globals x) || list_any (λ (q : Region). is_open c a q && has q.globals x) rs) && not (is_needed s c a x))
+        ≡ (((b && has r.globals x) || list_any (λ (q : DataRegion). is_open c a q && has q.globals x) rs) && not (is_needed s c a x))
     by true rest =
         list_any-append (λ m. nat_eq m x) (unneeded s c a r) (flat_map (unneeded s c a) (filter (is_open c a) rs))
         ∙ (ap (λ b. b || has (flat_map (unneeded s c a) (filter (is_open c a) rs)) x) (has_filtered (λ m. not (is_needed s c a m)) r.globals x)
-        ∙ found (not (is_needed s c a x)) (has r.globals x) (list_any (λ (q : Region). is_open c a q && has q.globals x) rs) _ rest)
+        ∙ found (not (is_needed s c a x)) (has r.globals x) (list_any (λ (q : DataRegion). is_open c a q && has q.globals x) rs) _ rest)
     by false rest = rest
 
 pub are_unneeded : (s : Subject) (c x : ℕ) → ExposedAreUnneeded s c x

@@ -1,7 +1,7 @@
 -- What a compartment may reach though none of its functions needs it.
 use Rattle.std.specs.Prelude.{ℕ, Bool, not, ◌&&◌, ◌||◌, List, length, filter, flat_map}
 use Rattle.ir_model.specs.declared.object.ObjId.TheVariants.{Global}
-use Rattle.plan_model.specs.declared.graph.Region.{Region}
+use Rattle.plan_model.specs.declared.graph.DataRegion.{DataRegion}
 use Rattle.plan_model.specs.Lists.{numbers_below, has}
 use Rattle.plan_model.specs.Groups.{writes, reads, uses}
 use Rattle.plan_model.specs.Permission.{is_covered}
@@ -11,7 +11,7 @@ use Rattle.aces_who.specs.declared.ties.Access.{Access}
 use Rattle.aces_who.specs.declared.ties.Access.TheVariants.{Write, Read}
 
 -- whether a compartment may write a data region, or read it
-abbrev pub is_open : (compartment : ℕ) → Access → Region → Bool
+abbrev pub is_open : (compartment : ℕ) → Access → DataRegion → Bool
 is_open c Write r = has r.writers c
 is_open c Read r = is_user c r
 
@@ -23,7 +23,7 @@ module _ (s : Subject) (c : ℕ) where
   is_needed Read x = writes s.needs s.graph.groups c (Global x) || reads s.needs s.graph.groups c (Global x)
 
   -- the globals of a data region that none of them does
-  abbrev pub unneeded : Access → Region → List ℕ
+  abbrev pub unneeded : Access → DataRegion → List ℕ
   unneeded a r = filter (λ x. not (is_needed a x)) r.globals
 
   -- those of its data regions, in the order in which `list` has their slots

@@ -12,7 +12,7 @@ ghost use Rattle.aces_who.specs.WhoLines as lines;
 use crate::reach::{is_needed, is_open, may_use, window_of};
 use crate::ties::Access;
 use plan_graph::uses;
-use plan_model::graph::Region;
+use plan_model::graph::DataRegion;
 use plan_report::exposure::global_size;
 use plan_report::naming::{global_name, periph_name};
 use plan_report::subject::Subject;
@@ -55,7 +55,7 @@ fn put_unneeded(
     subject: &Subject<'_>,
     compartment: u32,
     access: Access,
-    region: &Region,
+    region: &DataRegion,
 ) -> Result<(), AllocError>
     requires { length subject.now.graph.now.groups.of ≡ length subject.now.needs.now.funcs }
     ensures { OnOk result (text.new ≡ text.old ++ flat_map (lines.exposed_global_line (subject_of subject.now) compartment access) (exposed.unneeded (subject_of subject.now) compartment access region.now)) }

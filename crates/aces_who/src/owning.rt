@@ -89,7 +89,7 @@ pub fn print_owners<'a, F: Files, O: Sink>(
     ensures { CarriesOut (AnswerToWho firmware.now board.now policy) F.Files files.old files.new (ToWho firmware.now board.now policy) (sink O.Sink out.old) (sink O.Sink out.new) result }
 {
     let both = load_firmware_and(alloc, files, firmware, board)?;
-    let lines = told(
+    let lines = owners_by_bytes(
         alloc,
         firmware,
         both.first.as_slice(),
@@ -101,7 +101,7 @@ pub fn print_owners<'a, F: Files, O: Sink>(
 }
 
 /// The lines by the bytes of both files, each behind its name. No file is touched.
-fn told<'a>(
+fn owners_by_bytes<'a>(
     alloc: Global,
     firmware: &'a str,
     bytes: &[u8],

@@ -5,7 +5,7 @@ ghost use Rattle.std.specs.List.{list_any};
 ghost use Rattle.ir_model.specs.declared.object.ObjId.TheVariants.{Global as TheGlobal};
 ghost use Rattle.ir_model.specs.Resolved.{window_at};
 ghost use Rattle.ir_program.specs.Seen.{program_of, span_of};
-ghost use Rattle.plan_model.specs.declared.graph.Region.{Region as TheRegion};
+ghost use Rattle.plan_model.specs.declared.graph.DataRegion.{DataRegion as TheRegion};
 ghost use Rattle.plan_model.specs.Lists.{has};
 ghost use Rattle.plan_model.specs.Permission as permission;
 ghost use Rattle.plan_model.specs.Regions.{is_user};
@@ -17,12 +17,12 @@ use crate::ties::{Access, Tie};
 use ir_model::object::ObjId;
 use ir_program::program::{Program, Span};
 use plan_graph::{reaches, uses, writes};
-use plan_model::graph::{Final, Region};
+use plan_model::graph::{DataRegion, Final};
 use plan_report::slots::{covers_of, is_covered, is_used, is_writer};
 use plan_report::subject::Subject;
 
 /// Whether a global lies in a data region.
-fn holds(region: &Region, global: u32) -> bool
+fn holds(region: &DataRegion, global: u32) -> bool
     ensures { result ≡ has region.now.globals global }
 {
     region.globals.as_slice().contains(&global)
@@ -93,7 +93,7 @@ pub fn is_needed(subject: &Subject<'_>, compartment: u32, access: Access, global
 }
 
 /// Whether a compartment may write a data region, or read it.
-pub(crate) fn is_open(region: &Region, compartment: u32, access: Access) -> bool
+pub(crate) fn is_open(region: &DataRegion, compartment: u32, access: Access) -> bool
     ensures { result ≡ exposed.is_open compartment access region.now }
 {
     match access {

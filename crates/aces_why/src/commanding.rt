@@ -18,7 +18,11 @@ use base_outside::{Files, Sink};
 use std::alloc::Global;
 
 /// The lines on the firmware of which these bytes of a file are the text.
-fn told<'a>(alloc: Global, firmware: &'a str, bytes: &[u8]) -> Result<Vec<u8>, Failure<'a>>
+fn reach_by_bytes<'a>(
+    alloc: Global,
+    firmware: &'a str,
+    bytes: &[u8],
+) -> Result<Vec<u8>, Failure<'a>>
     requires { length bytes.now ≤ firmware_limit }
     ensures ok { IfOk result (λ lines. WhyAnswer firmware.now bytes.now (done 0 lines.items None)) }
     ensures err { IfErr result (λ e. IsContentFailure (IsNoFirmware bytes.now) firmware.now e) }
@@ -39,6 +43,6 @@ pub fn why<'a, F: Files, O: Sink>(
     ensures { CarriesOut (AnswerToWhy firmware.now) F.Files files.old files.new (Why firmware.now) (sink O.Sink out.old) (sink O.Sink out.new) result }
 {
     let bytes = load_firmware(alloc, files, firmware)?;
-    let lines = told(alloc, firmware, bytes.as_slice())?;
+    let lines = reach_by_bytes(alloc, firmware, bytes.as_slice())?;
     print(lines.as_slice(), Done::Completed, out)
 }

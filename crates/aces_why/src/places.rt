@@ -12,7 +12,7 @@ use std::alloc::AllocError;
 
 /// Where an instruction stands.
 #[derive(Clone, Copy, PartialEq, Eq, Debug)]
-pub(crate) struct Place {
+pub(crate) struct InstPlace {
     /// The function.
     pub(crate) func: u32,
     /// The block of that function.
@@ -83,7 +83,7 @@ pub(crate) fn put_block(
 pub(crate) fn put_place(
     text: &mut Text,
     firmware: &Firmware,
-    place: Place,
+    place: InstPlace,
 ) -> Result<(), AllocError>
     ensures { OnOk result (text.new ≡ text.old ++ lines.place_text (firmware_of firmware.now) place.func place.block place.inst) }
 {

@@ -10,7 +10,7 @@ ghost use Rattle.aces_why.specs.Subjects as subjects;
 ghost use Rattle.aces_why.specs.Subjects.{subject_of};
 
 use crate::calls::put_targets;
-use crate::places::{Place, put_object, put_objects, put_place};
+use crate::places::{InstPlace, put_object, put_objects, put_place};
 use crate::rows::objects_of;
 use crate::subject::Subject;
 use ir_model::object::ObjId;
@@ -23,7 +23,7 @@ fn put_access(
     text: &mut Text,
     subject: &Subject<'_>,
     word: &[u8],
-    place: Place,
+    place: InstPlace,
     register: usize,
 ) -> Result<(), AllocError>
     ensures { OnOk result (text.new ≡ text.old ++ lines.use_line (subject_of subject.now) word.now place.func place.block place.inst (subjects.objects_of (subject_of subject.now) place.func register)) }
@@ -42,7 +42,7 @@ fn put_access(
 fn put_call(
     text: &mut Text,
     subject: &Subject<'_>,
-    place: Place,
+    place: InstPlace,
     callee: u32,
 ) -> Result<(), AllocError>
     ensures { OnOk result (text.new ≡ text.old ++ lines.call_line (subject_of subject.now) place.func place.block place.inst callee) }
@@ -57,7 +57,7 @@ fn put_call(
 fn put_icall(
     text: &mut Text,
     subject: &Subject<'_>,
-    place: Place,
+    place: InstPlace,
     register: usize,
 ) -> Result<(), AllocError>
     ensures { OnOk result (text.new ≡ text.old ++ lines.icall_line (subject_of subject.now) place.func place.block place.inst register) }
@@ -72,7 +72,7 @@ fn put_icall(
 fn put_use(
     text: &mut Text,
     subject: &Subject<'_>,
-    place: Place,
+    place: InstPlace,
     operation: &Operation<'_>,
 ) -> Result<(), AllocError>
     ensures { OnOk result ((ks : List Known) → text.new ≡ text.old ++ lines.inst_line (subject_of subject.now) place.func place.block place.inst (operation_of ks operation.now)) }
@@ -104,7 +104,7 @@ fn put_block_uses(
     ensures { OnOk result ((ks : List Known) → text.new ≡ text.old ++ numbered (lines.inst_line (subject_of subject.now) func block) 0 (map (operation_of ks) operations.now)) }
 {
     for inst in 0..operations.len() {
-        let place = Place { func, block, inst };
+        let place = InstPlace { func, block, inst };
         put_use(text, subject, place, &operations[inst])?;
     }
     Ok(())

@@ -7,7 +7,7 @@ ghost use Rattle.aces_why.specs.Warnings as lines;
 ghost use Rattle.aces_why.specs.Numbered.{numbered};
 ghost use Rattle.aces_why.specs.Subjects.{subject_of};
 
-use crate::places::{Place, put_block, put_place};
+use crate::places::{InstPlace, put_block, put_place};
 use crate::rows::{is_called, is_entered, objects_of};
 use crate::subject::Subject;
 use ir_model::object::ObjId;
@@ -88,7 +88,7 @@ fn are_constants(program: &Program<'_>, objects: &[ObjId]) -> bool
 fn put_constant_store(
     text: &mut Text,
     subject: &Subject<'_>,
-    place: Place,
+    place: InstPlace,
     register: usize,
 ) -> Result<(), AllocError>
     ensures { OnOk result (text.new ≡ text.old ++ lines.store_line (subject_of subject.now) place.func place.block place.inst register) }
@@ -105,7 +105,7 @@ fn put_constant_store(
 fn put_inst(
     text: &mut Text,
     subject: &Subject<'_>,
-    place: Place,
+    place: InstPlace,
     operation: &Operation<'_>,
 ) -> Result<(), AllocError>
     ensures { OnOk result ((ks : List Known) → text.new ≡ text.old ++ lines.const_line (subject_of subject.now) place.func place.block place.inst (operation_of ks operation.now)) }
@@ -137,7 +137,7 @@ fn put_insts(
     ensures { OnOk result ((ks : List Known) → text.new ≡ text.old ++ numbered (lines.const_line (subject_of subject.now) func block) 0 (map (operation_of ks) operations.now)) }
 {
     for inst in 0..operations.len() {
-        let place = Place { func, block, inst };
+        let place = InstPlace { func, block, inst };
         put_inst(text, subject, place, &operations[inst])?;
     }
     Ok(())

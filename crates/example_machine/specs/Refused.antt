@@ -3,8 +3,8 @@
 use Rattle.std.specs.Prelude.{◌≡◌, ℕ, List, [], ◌∷◌, Some, None, codes}
 use Rattle.ir_model.specs.declared.check.CheckKind.{CheckKind}
 use Rattle.ir_model.specs.declared.check.CheckKind.TheVariants.{Unknown, Twice, IllTyped, NoMain, BadWindow, WindowOverlap, BadInit, ObjectTooLarge, FrameTooLarge}
-use Rattle.ir_model.specs.declared.check.Place.{Place}
-use Rattle.ir_model.specs.declared.check.Place.TheVariants as place
+use Rattle.ir_model.specs.declared.check.CheckPlace.{CheckPlace}
+use Rattle.ir_model.specs.declared.check.CheckPlace.TheVariants as place
 use Rattle.ir_model.specs.declared.firmware.Inst.{Inst}
 use Rattle.ir_model.specs.declared.firmware.Inst.TheVariants as inst
 use Rattle.ir_model.specs.declared.firmware.Term.TheVariants.{Jump, Ret}
@@ -15,14 +15,14 @@ use Rattle.ir_model.specs.Plain.{PlainFirmware}
 use Rattle.ir_model.specs.Typing.{fault_of}
 use Rattle.example_machine.specs.Written.{slot, struct, periph, global, block, func, file, firmware, only_main}
 
-abbrev pub Fails : PlainFirmware → CheckKind → Place → Type 0
+abbrev pub Fails : PlainFirmware → CheckKind → CheckPlace → Type 0
 Fails w k p = fault_of w ≡ Some (record { kind = k; place = p })
 
 -- `main` with one register, a number, and these instructions
 abbrev pub with_code : List Inst → PlainFirmware
 with_code is = only_main [] [] [] (slot (codes "v") U32 ∷ []) is
 
-abbrev pub at : ℕ → Place
+abbrev pub at : ℕ → CheckPlace
 at k = place.Inst (codes "main") (codes "b0") k
 
 abbrev pub with_periphs : List Peripheral → PlainFirmware

@@ -2,14 +2,14 @@
 -- What the handler of SVC comes to, computed.
 use Rattle.std.specs.Prelude.{◌≡◌, ℕ, List, [], ◌∷◌, ◌++◌, replicate}
 use Rattle.std.proofs.Math.ListN.{set}
-use Rattle.monitor_model.specs.Block.{Block}
+use Rattle.monitor_model.specs.Block.{MonitorBlock}
 use Rattle.monitor_model.specs.Outcomes.{Outcome, Halts, StopsAtBus, Resumes}
 use Rattle.monitor_model.specs.SvcOutcome.{svc_outcome}
 use Rattle.example_monitor.specs.LentImage.{bytes_of, tables, image}
 use Rattle.example_monitor.specs.Stack.{stack_with, frame_of, main_runs, main_saved, loan, two_calls}
 
 -- SVC n of main, whose frame lies 1,984 bytes above the stack's base
-abbrev pub from_main : (number : ℕ) → Block → (frame : List ℕ) → Outcome
+abbrev pub from_main : (number : ℕ) → MonitorBlock → (frame : List ℕ) → Outcome
 from_main n m frame = svc_outcome image tables 0x08000FF0 m 0x200007C0 (stack_with 1984 frame) n
 
 -- main's call: r12 has the entry of compartment 1's function, and 0 stands at the return address in flash

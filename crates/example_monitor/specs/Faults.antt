@@ -2,7 +2,7 @@
 -- What the handler of MemManage comes to, computed.
 use Rattle.std.specs.Prelude.{◌≡◌, ℕ, List, [], ◌∷◌, ◌++◌, true, replicate}
 use Rattle.monitor_model.specs.declared.tables.Tables.{Tables}
-use Rattle.monitor_model.specs.Block.{Block}
+use Rattle.monitor_model.specs.Block.{MonitorBlock}
 use Rattle.monitor_model.specs.Outcomes.{Outcome, Halts, Resumes}
 use Rattle.monitor_model.specs.FaultOutcome.{fault_outcome}
 use Rattle.example_monitor.specs.LentImage.{bytes_of, tables, image}
@@ -13,10 +13,10 @@ abbrev pub accessing : (r0 r1 return_address word : ℕ) → List ℕ
 accessing r0 r1 ret w = bytes_of (replicate 368 0 ++ (frame_of r0 r1 0 ret ++ (replicate 130 0 ++ w ∷ replicate 5 0)))
 
 -- compartment 2 stores to main's word: STR r0,[r1,#0] is 0x6008
-abbrev pub fault_by : Tables → Block → (memory : List ℕ) → (cfsr half : ℕ) → Outcome
+abbrev pub fault_by : Tables → MonitorBlock → (memory : List ℕ) → (cfsr half : ℕ) → Outcome
 fault_by t m memory c h = fault_outcome image t m 0x200005C0 memory c h
 
-abbrev pub fault_of : Block → (address cfsr half : ℕ) → Outcome
+abbrev pub fault_of : MonitorBlock → (address cfsr half : ℕ) → Outcome
 fault_of m a c h = fault_by tables m (accessing 42 a 0x080020BA 9) c h
 
 -- a closed board, where compartment 2 may load the word too

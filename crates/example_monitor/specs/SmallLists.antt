@@ -7,8 +7,8 @@ use Rattle.machine_protection.specs.Registers.{at_reset}
 use Rattle.machine_model.specs.declared.state.StopReason.TheVariants.{Unaligned, Bus}
 use Rattle.machine_model.specs.declared.TheConstants.{CFSR}
 use Rattle.machine_model.specs.State.{by_mpu}
-use Rattle.monitor_steps.specs.declared.steps.GateOp.TheVariants.{Add, Sub, And, Or, Shl, Shr}
-use Rattle.monitor_steps.specs.declared.steps.GateCond.TheVariants.{Ult}
+use Rattle.monitor_steps.specs.declared.steps.PrivilegedOp.TheVariants.{Add, Sub, And, Or, Shl, Shr}
+use Rattle.monitor_steps.specs.declared.steps.PrivilegedCond.TheVariants.{Ult}
 use Rattle.monitor_steps.specs.Steps.{PrivilegedSteps, End, Const, Copy, Load, Store, Alu, ReadPsp, WritePsp, WriteControl, Test, Repeat, Halt, Return, Go, ◌▸◌}
 use Rattle.monitor_steps.specs.Core.{Core}
 use Rattle.monitor_steps.specs.Effect.{Outcome, Went, Halted, AtReturn, AtBranch, Stopped, Unclaimed, effect}

@@ -1,7 +1,7 @@
 -- Beyond the program's claim: only laws, proofs and functions inside the tool cite this file.
 -- A small stack for the handlers: the firmware's 2,048 bytes, as words. The frame of an exception lies at the stack pointer.
 use Rattle.std.specs.Prelude.{ℕ, ◌-◌, ◌/◌, List, [], ◌∷◌, ◌++◌, replicate}
-use Rattle.monitor_model.specs.Block.{Loan, Saved, Block}
+use Rattle.monitor_model.specs.Block.{Loan, Saved, MonitorBlock}
 use Rattle.example_monitor.specs.LentImage.{bytes_of}
 
 -- eight words at an offset of the stack, and zeros elsewhere
@@ -13,7 +13,7 @@ abbrev pub frame_of : (r0 r1 r12 return_address : ℕ) → List ℕ
 frame_of r0 r1 r12 ret = r0 ∷ r1 ∷ 3 ∷ 4 ∷ r12 ∷ 5 ∷ ret ∷ 0x01000000 ∷ []
 
 -- main runs, and nothing is saved or lent
-abbrev pub main_runs : Block
+abbrev pub main_runs : MonitorBlock
 main_runs = record { current = 0; top = 0x20000800; mark = 0; saved = []; loans = [] }
 
 -- main's word is lent
@@ -24,7 +24,7 @@ loan = record { address = 0x200007E8; end = 0x200007EC; number = 0 }
 abbrev pub main_saved : Saved
 main_saved = record { psp = 0x200007C0; current = 0; top = 0x20000800; mark = 0 }
 
-abbrev pub two_calls : Block
+abbrev pub two_calls : MonitorBlock
 two_calls = record {
   current = 2;
   top = 0x20000600;

@@ -7,7 +7,7 @@ use Rattle.ir_model.specs.declared.object.ObjId.TheVariants.{Global}
 use Rattle.ir_model.specs.Resolved.{Program}
 use Rattle.plan_model.specs.declared.needs.Needs.{Needs}
 use Rattle.plan_model.specs.declared.groups.Groups.{Groups}
-use Rattle.plan_model.specs.declared.graph.Region.{Region}
+use Rattle.plan_model.specs.declared.graph.DataRegion.{DataRegion}
 use Rattle.plan_model.specs.declared.graph.Graph.{Graph}
 use Rattle.plan_model.specs.declared.plan.Board.{Board}
 use Rattle.plan_model.specs.Choices.{Pair, pairs}
@@ -41,10 +41,10 @@ needs =
 abbrev pub groups : Groups
 groups = record { of = 0 ∷ 1 ∷ 2 ∷ 3 ∷ []; count = 4 }
 
-abbrev pub behind : List Region
+abbrev pub behind : List DataRegion
 behind = data_region (2 ∷ []) (0 ∷ 2 ∷ []) [] ∷ data_region (3 ∷ []) (0 ∷ 3 ∷ []) [] ∷ data_region (4 ∷ []) (0 ∷ 1 ∷ 2 ∷ []) [] ∷ []
 
-abbrev pub graph_of : List Region → Graph
+abbrev pub graph_of : List DataRegion → Graph
 graph_of rs =
     record {
       groups = groups;

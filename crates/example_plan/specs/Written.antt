@@ -6,7 +6,7 @@ use Rattle.ir_model.specs.Resolved.{NumberedGlobal, NumberedWindow, Program}
 use Rattle.machine_protection.specs.declared.region.Region.{Region}
 use Rattle.plan_model.specs.declared.needs.FuncNeed.{FuncNeed}
 use Rattle.plan_model.specs.declared.needs.SiteNeed.{SiteNeed}
-use Rattle.plan_model.specs.declared.graph.Region as regions
+use Rattle.plan_model.specs.declared.graph.DataRegion as regions
 use Rattle.plan_model.specs.declared.graph.Cover.{Cover}
 use Rattle.plan_model.specs.declared.plan.Board.{Board}
 use Rattle.plan_model.specs.declared.plan.Lowest.TheVariants.{Largest}
@@ -29,7 +29,7 @@ window b n = record { base = b; size = n }
 abbrev pub data_of : List NumberedGlobal → List NumberedWindow → Program
 data_of gs ws = record { globals = gs; periphs = ws; funcs = []; files = []; main = 0 }
 
-abbrev pub data_region : (globals writers readers : List ℕ) → regions.Region
+abbrev pub data_region : (globals writers readers : List ℕ) → regions.DataRegion
 data_region gs ws rs = record { globals = gs; writers = ws; readers = rs }
 
 abbrev pub cover : (base size : ℕ) → Cover

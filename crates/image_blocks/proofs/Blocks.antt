@@ -3,7 +3,7 @@ use Rattle.std.proofs.Common.{◌≡◌, ℕ, zero, suc, ◌+◌, ◌*◌, ◌-�
 use Rattle.std.proofs.Math.Pow.{pow_mono}
 use Rattle.std.proofs.lemmas.List.{get_or_default}
 use Rattle.base_words.specs.Bytes.{read}
-use Rattle.plan_model.specs.declared.graph.Region.{Region}
+use Rattle.plan_model.specs.declared.graph.DataRegion.{DataRegion}
 use Rattle.plan_model.specs.Regions.{no_region, region_at}
 use Rattle.machine_model.specs.Stack.{words_at}
 
@@ -24,5 +24,5 @@ pub no_eighth_out : (n : ℕ) → 8 ≤ n → 2 ^ 8 - 2 ^ n ≡ 0
 no_eighth_out n l = let m : 2 ^ 8 ≤ 2 ^ n = pow_mono l in omega (arith, m)
 
 -- a region that is there
-pub region_there : (rs : List Region) (k : ℕ) (d : Region) → k < length rs → get_or rs k d ≡ region_at rs k
+pub region_there : (rs : List DataRegion) (k : ℕ) (d : DataRegion) → k < length rs → get_or rs k d ≡ region_at rs k
 region_there rs k d l = get_or_default rs k d no_region l

@@ -18,7 +18,7 @@ use machine_protection::power::Pow2;
 use machine_protection::region::Region;
 use machine_protection::words::{Rights, region};
 use monitor_model::CompRecord;
-use plan_model::graph::{Cover, Final, Region as DataRegion};
+use plan_model::graph::{Cover, DataRegion, Final};
 use plan_model::plan::{Plan, Spot};
 use std::alloc::{AllocError, Global};
 

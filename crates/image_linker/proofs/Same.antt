@@ -6,7 +6,7 @@ use Rattle.base_words.specs.Bytes.{write_all}
 use Rattle.ir_model.specs.Resolved.{Program, func_at}
 use Rattle.plan_model.specs.declared.needs.SiteNeed.{SiteNeed}
 use Rattle.plan_model.specs.declared.needs.Needs.{Needs}
-use Rattle.plan_model.specs.declared.graph.Region.{Region}
+use Rattle.plan_model.specs.declared.graph.DataRegion.{DataRegion}
 use Rattle.plan_model.specs.declared.graph.Final.{Final}
 use Rattle.plan_model.specs.declared.plan.Spot.{Spot}
 use Rattle.plan_model.specs.declared.plan.Plan.{Plan}
@@ -62,7 +62,7 @@ any_counted (x ∷ xs) = refl
 
 filled_counted : (f : Final) → length (filled_blocks f) ≡ length f.regions + one_if_any f.unwritten
 filled_counted f =
-    omega (arith, length-append (map (λ (r : Region). r.globals) f.regions) (unless_empty f.unwritten), length-map f.regions (λ (r : Region). r.globals), any_counted f.unwritten)
+    omega (arith, length-append (map (λ (r : DataRegion). r.globals) f.regions) (unless_empty f.unwritten), length-map f.regions (λ (r : DataRegion). r.globals), any_counted f.unwritten)
 
 fold_same : {B A : Type 0} (F G : B → A → B) → ((b : B) (a : A) → F b a ≡ G b a) → (b : B) (xs : List A) → fold F b xs ≡ fold G b xs
 fold_same F G h b [] = refl

@@ -6,7 +6,7 @@ use Rattle.std.proofs.lemmas.List.Sums.{sum_by-cons}
 use Rattle.ir_model.specs.Resolved.{Program}
 use Rattle.plan_model.specs.declared.needs.SiteNeed.{SiteNeed}
 use Rattle.plan_model.specs.declared.needs.Needs.{Needs}
-use Rattle.plan_model.specs.declared.graph.Region.{Region}
+use Rattle.plan_model.specs.declared.graph.DataRegion.{DataRegion}
 use Rattle.plan_model.specs.declared.graph.Final.{Final}
 use Rattle.plan_model.specs.declared.plan.Plan.{Plan}
 use Rattle.plan_model.specs.Lists.{numbers_below}
@@ -41,7 +41,7 @@ unwritten_counted l (x ∷ xs) = refl
 pub blocks_counted : (f : Final) (l : Plan) → length (filled f l) ≡ length (filled_blocks f)
 blocks_counted f l =
     let g : ℕ → Filled = λ r. record { base = (region_spot l r).base; globals = (region_at f.regions r).globals } in
-    let h : Region → List ℕ = λ r. r.globals in
+    let h : DataRegion → List ℕ = λ r. r.globals in
     let a = length-append (map g (numbers_below (length f.regions))) (filled_unwritten l f.unwritten) in
     let b = length-append (map h f.regions) (unless_empty f.unwritten) in
     omega (arith, a, b, length-map-range_with_len g 0 (length f.regions), length-map f.regions h, unwritten_counted l f.unwritten)
@@ -62,7 +62,7 @@ unwritten_are l (x ∷ xs) = refl
 pub blocks_are : (f : Final) (l : Plan) → map (λ (b : Filled). b.globals) (filled f l) ≡ filled_blocks f
 blocks_are f l =
     let g : ℕ → Filled = λ r. record { base = (region_spot l r).base; globals = (region_at f.regions r).globals } in
-    let h : Region → List ℕ = λ r. r.globals in
+    let h : DataRegion → List ℕ = λ r. r.globals in
     let ns = numbers_below (length f.regions) in
     map-append (λ (b : Filled). b.globals) (map g ns) (filled_unwritten l f.unwritten)
     ∙ ap (λ ys. map (λ (b : Filled). b.globals) (map g ns) ++ ys) (unwritten_are l f.unwritten)

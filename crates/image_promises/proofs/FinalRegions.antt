@@ -7,7 +7,7 @@ use Rattle.plan_layout.proofs.Searches.{position_here}
 use Rattle.ir_model.specs.declared.object.ObjId.TheVariants.{Global}
 use Rattle.ir_model.specs.Resolved.{Program}
 use Rattle.plan_model.specs.declared.needs.Needs.{Needs}
-use Rattle.plan_model.specs.declared.graph.Region.{Region}
+use Rattle.plan_model.specs.declared.graph.DataRegion.{DataRegion}
 use Rattle.plan_model.specs.declared.graph.Final.{Final}
 use Rattle.plan_model.specs.Lists.{has, is_empty, union}
 use Rattle.plan_model.specs.Groups.{writes, reads}
@@ -78,11 +78,11 @@ module _ (p : Program) (n : Needs) (f : Final) (slots : ℕ) (final : IsFinal p 
   unfolding initial_graph
   unwritten_is = (kept_final p slots (initial_graph p n f.groups) f final).unwritten
 
-  each_final : (Q : Region → Type 0) → StaysOfBoth Q → EachRegion Q (data_regions p n f.groups) → EachRegion Q f.regions
+  each_final : (Q : DataRegion → Type 0) → StaysOfBoth Q → EachRegion Q (data_regions p n f.groups) → EachRegion Q f.regions
   unfolding initial_graph
   each_final Q s e = subst (EachRegion Q) (sym regions_are) (each_all Q s p slots (initial_graph p n f.groups) final.last final.reached e)
 
-  some_final : (Q : Region → Type 0) → StaysOfOne Q → SomeRegion Q (data_regions p n f.groups) → SomeRegion Q f.regions
+  some_final : (Q : DataRegion → Type 0) → StaysOfOne Q → SomeRegion Q (data_regions p n f.groups) → SomeRegion Q f.regions
   unfolding initial_graph
   some_final Q s e = subst (SomeRegion Q) (sym regions_are) (some_all Q s p slots (initial_graph p n f.groups) final.last final.reached e)
 
@@ -145,7 +145,7 @@ module _ (p : Program) (n : Needs) (f : Final) (slots : ℕ) (final : IsFinal p 
 
   -- it is found
   pub region_is : (r x : ℕ) → r < length f.regions → has (region_at f.regions r).globals x ≡ true → region_with f x ≡ Some r
-  region_is r x l h = sym (position_here (λ (q : Region). has q.globals x) f.regions r no_region l others h)
+  region_is r x l h = sym (position_here (λ (q : DataRegion). has q.globals x) f.regions r no_region l others h)
     where
       others : (k : ℕ) → k < r → has (region_at f.regions k).globals x ≡ false
       others k m = by (has (region_at f.regions k).globals x) refl
@@ -155,7 +155,7 @@ module _ (p : Program) (n : Needs) (f : Final) (slots : ℕ) (final : IsFinal p 
           by true e = absurd (let same = apart k r x (omega (arith, m, l)) l e h in omega (arith, same, m))
 
   pub region_has : (r x : ℕ) → region_with f x ≡ Some r → (r < length f.regions) × (has (region_at f.regions r).globals x ≡ true)
-  region_has r x e = let h = position-Some (λ (q : Region). has q.globals x) f.regions r no_region e in (h.0, h.1)
+  region_has r x e = let h = position-Some (λ (q : DataRegion). has q.globals x) f.regions r no_region e in (h.0, h.1)
 
   -- or there is none
   pub no_region_is : (x : ℕ) → x < count → region_with f x ≡ None → has f.unwritten x ≡ true

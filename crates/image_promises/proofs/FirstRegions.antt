@@ -10,7 +10,7 @@ use Rattle.base_laws.specs.Lists.{Each}
 use Rattle.ir_model.specs.Resolved.{Program}
 use Rattle.plan_model.specs.declared.needs.Needs.{Needs}
 use Rattle.plan_model.specs.declared.groups.Groups.{Groups}
-use Rattle.plan_model.specs.declared.graph.Region.{Region}
+use Rattle.plan_model.specs.declared.graph.DataRegion.{DataRegion}
 use Rattle.plan_model.specs.Lists.{has, numbers_below, same_numbers, distinct}
 use Rattle.plan_model.specs.Regions.{region_at, no_region}
 use Rattle.plan_model.specs.InitialGraph.{Users, users_of, has_users, same_users, kinds_of_users, region_for, data_regions, unwritten}
@@ -90,7 +90,7 @@ module _ (p : Program) (n : Needs) (g : Groups) where
   abbrev kind_at : ℕ → Users
   kind_at r = get_or kinds r nobody
 
-  abbrev first : List Region
+  abbrev first : List DataRegion
   first = data_regions p n g
 
   -- a kind is the users of a global, and some
@@ -131,14 +131,14 @@ module _ (p : Program) (n : Needs) (g : Groups) where
 
   is_of : (r x : ℕ) → r < length first → has (region_at first r).globals x ≡ true → IsOf r x
   is_of r x l h =
-      let m = among_passing (λ y. same_users (users y) (kind_at r)) x 0 count (subst (λ (q : Region). has q.globals x ≡ true) (region_is r l) h) in
+      let m = among_passing (λ y. same_users (users y) (kind_at r)) x 0 count (subst (λ (q : DataRegion). has q.globals x ≡ true) (region_is r l) h) in
       let high = m.1 in
       let agree = users_agree (users x) (kind_at r) m.2 in
       record { below = omega (arith, high); writers = agree.0; readers = agree.1 }
 
   of_it : (r x : ℕ) → r < length first → IsOf r x → has (region_at first r).globals x ≡ true
   of_it r x l i =
-      subst (λ (q : Region). has q.globals x ≡ true) (sym (region_is r l))
+      subst (λ (q : DataRegion). has q.globals x ≡ true) (sym (region_is r l))
       (passing_among (λ y. same_users (users y) (kind_at r)) x count i.below (agree_users (users x) (kind_at r) i.writers i.readers))
 
   pub first_some : (x : ℕ) → x < count → has_users (users x) ≡ true → SomeRegion (λ q. has q.globals x ≡ true) first
@@ -177,10 +177,10 @@ module _ (p : Program) (n : Needs) (g : Groups) where
   first_below r l x h = (is_of r x l h).below
 
   pub first_writers : (x c : ℕ) → has (users x).writers c ≡ true → EachRegion (λ q. has q.globals x ≡ true → has q.writers c ≡ true) first
-  first_writers x c t r l h = let i = is_of r x l h in subst (λ (q : Region). has q.writers c ≡ true) (sym (region_is r l)) (subst (λ ws. has ws c ≡ true) i.writers t)
+  first_writers x c t r l h = let i = is_of r x l h in subst (λ (q : DataRegion). has q.writers c ≡ true) (sym (region_is r l)) (subst (λ ws. has ws c ≡ true) i.writers t)
 
   pub first_readers : (x c : ℕ) → has (users x).readers c ≡ true → EachRegion (λ q. has q.globals x ≡ true → has q.readers c ≡ true) first
-  first_readers x c t r l h = let i = is_of r x l h in subst (λ (q : Region). has q.readers c ≡ true) (sym (region_is r l)) (subst (λ ws. has ws c ≡ true) i.readers t)
+  first_readers x c t r l h = let i = is_of r x l h in subst (λ (q : DataRegion). has q.readers c ≡ true) (sym (region_is r l)) (subst (λ ws. has ws c ≡ true) i.readers t)
 
   -- the globals of no region
   pub free_are : (x : ℕ) → has (unwritten p n g) x ≡ true → (x < count) × (has_users (users x) ≡ false)

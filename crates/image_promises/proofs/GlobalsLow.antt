@@ -4,7 +4,7 @@ use Rattle.std.specs.Prelude.{unwrap_or}
 use Rattle.ir_model.specs.Plain.{PlainFirmware}
 use Rattle.ir_model.specs.Resolved.{Program}
 use Rattle.ir_model.specs.Resolve.{resolve}
-use Rattle.plan_model.specs.declared.graph.Region.{Region}
+use Rattle.plan_model.specs.declared.graph.DataRegion.{DataRegion}
 use Rattle.plan_model.specs.declared.needs.Needs.{Needs}
 use Rattle.plan_model.specs.declared.graph.Final.{Final}
 use Rattle.plan_model.specs.declared.plan.Board.{Board}
@@ -68,7 +68,7 @@ module _ (law : PlanLaws) (w : PlainFirmware) (n : Needs) (f : Final) (b : Board
   in_none (y ∷ ys) x e = let m : length f.unwritten ≡ length (y ∷ ys) = ap length e in in_block ForUnwritten x (record { of_globals = tt; there = omega (arith, m) })
 
   by_region : (x : ℕ) (o : Option ℕ) → region_with f x ≡ o → address_in p f l x o < 2 ^ 32
-  by_region x (Some r) e = in_block (ForRegion r) x (record { of_globals = tt; there = (position_is (λ (z : Region). has z.globals x) f.regions r no_region (sym e)).0 })
+  by_region x (Some r) e = in_block (ForRegion r) x (record { of_globals = tt; there = (position_is (λ (z : DataRegion). has z.globals x) f.regions r no_region (sym e)).0 })
   by_region x None e = in_none f.unwritten x refl
 
   pub global_below : (x : ℕ) → global_address p f l x < 2 ^ 32

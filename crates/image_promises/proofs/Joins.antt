@@ -7,7 +7,7 @@ use Rattle.std.proofs.lemmas.List.Edits.{length-remove, get_or-remove_below, get
 use mathlib.Core.Logic.{⊎_elim}
 use Rattle.base_laws.specs.Lists.{Each}
 use Rattle.ir_model.specs.Resolved.{Program}
-use Rattle.plan_model.specs.declared.graph.Region.{Region}
+use Rattle.plan_model.specs.declared.graph.DataRegion.{DataRegion}
 use Rattle.plan_model.specs.declared.graph.Graph.{Graph}
 use Rattle.plan_model.specs.Lists.{has}
 use Rattle.plan_model.specs.Choices.{Pair, pairs}
@@ -52,7 +52,7 @@ all_rising test a (suc n) high h = by (test a) (all_rising test (a + 1) n high (
     by true ih = each_both (IsRising high) (map (λ (m : ℕ). record { first = a; second = m }) rest) (pairs rest) (paired a high rest (stronger rest (kept_between test (a + 1) high (a + 1) n (omega arith) (omega arith)))) ih
     by false ih = ih
 
-pub pair_rising : (p : Program) (rs : List Region) (c : ℕ) (q : Pair) → region_pair p rs c ≡ Some q → IsRising (length rs) q
+pub pair_rising : (p : Program) (rs : List DataRegion) (c : ℕ) (q : Pair) → region_pair p rs c ≡ Some q → IsRising (length rs) q
 pair_rising p rs c q e =
     cheapest_is (IsRising (length rs)) (region_cost p rs) (pairs (regions_used rs c)) q
     (all_rising (λ r. is_user c (region_at rs r)) 0 (length rs) (length rs) (omega arith)) e
@@ -60,7 +60,7 @@ pair_rising p rs c q e =
 -- ---- where each region stands then
 
 -- a region that stays: where it stood
-pub record Stood (rs : List Region) (q : Pair) (k : ℕ) : Type 0 where
+pub record Stood (rs : List DataRegion) (q : Pair) (k : ℕ) : Type 0 where
   pub place : ℕ
   pub below : place < length rs
   pub not_first : place ≡ q.first → ⊥
@@ -69,16 +69,16 @@ pub record Stood (rs : List Region) (q : Pair) (k : ℕ) : Type 0 where
   pub is : region_at (with_joined_region rs q) k ≡ region_at rs place
 
 -- and where it stands then
-pub record Stands (rs : List Region) (q : Pair) (j : ℕ) : Type 0 where
+pub record Stands (rs : List DataRegion) (q : Pair) (j : ℕ) : Type 0 where
   pub place : ℕ
   pub below : place < length (with_joined_region rs q)
   pub is : region_at (with_joined_region rs q) place ≡ region_at rs j
 
-module _ (rs : List Region) (q : Pair) (rising : IsRising (length rs) q) where
-  abbrev both : Region
+module _ (rs : List DataRegion) (q : Pair) (rising : IsRising (length rs) q) where
+  abbrev both : DataRegion
   both = joined_region (region_at rs q.first) (region_at rs q.second)
 
-  abbrev then_are : List Region
+  abbrev then_are : List DataRegion
   then_are = with_joined_region rs q
 
   as_many : length (set rs q.first both) ≡ length rs
@@ -169,25 +169,25 @@ module _ (rs : List Region) (q : Pair) (rising : IsRising (length rs) q) where
 
 -- ---- what holds of regions
 
-abbrev pub EachRegion : (Region → Type 0) → List Region → Type 0
+abbrev pub EachRegion : (DataRegion → Type 0) → List DataRegion → Type 0
 EachRegion Q rs = (r : ℕ) → r < length rs → Q (region_at rs r)
 
-abbrev pub SomeRegion : (Region → Type 0) → List Region → Type 0
+abbrev pub SomeRegion : (DataRegion → Type 0) → List DataRegion → Type 0
 SomeRegion Q rs = (r : ℕ) × (r < length rs) × Q (region_at rs r)
 
 -- no global is in two of them
-abbrev pub AreApart : List Region → Type 0
+abbrev pub AreApart : List DataRegion → Type 0
 AreApart rs = (r s x : ℕ) → r < length rs → s < length rs → has (region_at rs r).globals x ≡ true → has (region_at rs s).globals x ≡ true → r ≡ s
 
 -- what holds of both holds of the joined one; or what holds of one of them
-abbrev pub StaysOfBoth : (Region → Type 0) → Type 0
-StaysOfBoth Q = (a b : Region) → Q a → Q b → Q (joined_region a b)
+abbrev pub StaysOfBoth : (DataRegion → Type 0) → Type 0
+StaysOfBoth Q = (a b : DataRegion) → Q a → Q b → Q (joined_region a b)
 
-abbrev pub StaysOfOne : (Region → Type 0) → Type 0
-StaysOfOne Q = (a b : Region) → (Q a ⊎ Q b) → Q (joined_region a b)
+abbrev pub StaysOfOne : (DataRegion → Type 0) → Type 0
+StaysOfOne Q = (a b : DataRegion) → (Q a ⊎ Q b) → Q (joined_region a b)
 
-module _ (rs : List Region) (q : Pair) (rising : IsRising (length rs) q) where
-  each_joined : (Q : Region → Type 0) → StaysOfBoth Q → EachRegion Q rs → EachRegion Q (with_joined_region rs q)
+module _ (rs : List DataRegion) (q : Pair) (rising : IsRising (length rs) q) where
+  each_joined : (Q : DataRegion → Type 0) → StaysOfBoth Q → EachRegion Q rs → EachRegion Q (with_joined_region rs q)
   each_joined Q s e k l = ⊎_elim joint (λ o. subst Q (sym o.is) (e o.place o.below)) (from rs q rising k l)
     where
       joint : k ≡ q.first → Q (region_at (with_joined_region rs q) k)
@@ -197,7 +197,7 @@ module _ (rs : List Region) (q : Pair) (rising : IsRising (length rs) q) where
           subst Q (sym (ap (λ j. region_at (with_joined_region rs q) j) i ∙ join_is rs q rising))
           (s (region_at rs q.first) (region_at rs q.second) (e q.first (omega (arith, low, high))) (e q.second high))
 
-  some_joined : (Q : Region → Type 0) → StaysOfOne Q → SomeRegion Q rs → SomeRegion Q (with_joined_region rs q)
+  some_joined : (Q : DataRegion → Type 0) → StaysOfOne Q → SomeRegion Q rs → SomeRegion Q (with_joined_region rs q)
   some_joined Q s e = ⊎_elim one (λ d. ⊎_elim two (other d) (cases_eq e.0 q.second)) (cases_eq e.0 q.first)
     where
       joint : Q (region_at rs q.first) ⊎ Q (region_at rs q.second) → SomeRegion Q (with_joined_region rs q)
@@ -224,8 +224,8 @@ module _ (rs : List Region) (q : Pair) (rising : IsRising (length rs) q) where
       never i s t j o u =
           let low = rising.0 in
           let high = rising.1 in
-          let mine : has (region_at rs o.place).globals x ≡ true = subst (λ (r : Region). has r.globals x ≡ true) o.is u in
-          let his : has (both rs q rising).globals x ≡ true = subst (λ (r : Region). has r.globals x ≡ true) (ap (λ z. region_at (with_joined_region rs q) z) s ∙ join_is rs q rising) t in
+          let mine : has (region_at rs o.place).globals x ≡ true = subst (λ (r : DataRegion). has r.globals x ≡ true) o.is u in
+          let his : has (both rs q rising).globals x ≡ true = subst (λ (r : DataRegion). has r.globals x ≡ true) (ap (λ z. region_at (with_joined_region rs q) z) s ∙ join_is rs q rising) t in
           ⊎_elim (λ y. o.not_first (a o.place q.first x o.below (omega (arith, low, high)) mine y)) (λ y. o.not_second (a o.place q.second x o.below high mine y)) (joint_has x his)
 
       left : k ≡ q.first → k ≡ m
@@ -236,7 +236,7 @@ module _ (rs : List Region) (q : Pair) (rising : IsRising (length rs) q) where
 
       both_stay : Stood rs q k → Stood rs q m → k ≡ m
       both_stay o u =
-          let same = a o.place u.place x o.below u.below (subst (λ (r : Region). has r.globals x ≡ true) o.is e) (subst (λ (r : Region). has r.globals x ≡ true) u.is f) in
+          let same = a o.place u.place x o.below u.below (subst (λ (r : DataRegion). has r.globals x ≡ true) o.is e) (subst (λ (r : DataRegion). has r.globals x ≡ true) u.is f) in
           places o.place u.place o.moved u.moved same
         where
           places : (i j : ℕ) → ((i < q.second) × (k ≡ i)) ⊎ ((q.second < i) × (k + 1 ≡ i)) → ((j < q.second) × (m ≡ j)) ⊎ ((q.second < j) × (m + 1 ≡ j)) → i ≡ j → k ≡ m
@@ -247,19 +247,19 @@ module _ (rs : List Region) (q : Pair) (rising : IsRising (length rs) q) where
 
 -- ---- joins of a graph
 
-each_next : (Q : Region → Type 0) → StaysOfBoth Q → (p : Program) (slots : ℕ) (g h : Graph) → next p slots g ≡ Some h → EachRegion Q g.regions → EachRegion Q h.regions
+each_next : (Q : DataRegion → Type 0) → StaysOfBoth Q → (p : Program) (slots : ℕ) (g h : Graph) → next p slots g ≡ Some h → EachRegion Q g.regions → EachRegion Q h.regions
 each_next Q s p slots g h e =
     by_next p (λ a b. EachRegion Q a.regions → EachRegion Q b.regions) (λ a q c f. each_joined a.regions q (pair_rising p a.regions c q f) Q s) (λ a q c f x. x) slots g h e
 
-pub each_all : (Q : Region → Type 0) → StaysOfBoth Q → (p : Program) (slots : ℕ) (g h : Graph) → Merges p slots g h → EachRegion Q g.regions → EachRegion Q h.regions
+pub each_all : (Q : DataRegion → Type 0) → StaysOfBoth Q → (p : Program) (slots : ℕ) (g h : Graph) → Merges p slots g h → EachRegion Q g.regions → EachRegion Q h.regions
 each_all Q s p slots g h stays x = x
 each_all Q s p slots g k (joins {h = h} e m) x = each_all Q s p slots h k m (each_next Q s p slots g h e x)
 
-some_next : (Q : Region → Type 0) → StaysOfOne Q → (p : Program) (slots : ℕ) (g h : Graph) → next p slots g ≡ Some h → SomeRegion Q g.regions → SomeRegion Q h.regions
+some_next : (Q : DataRegion → Type 0) → StaysOfOne Q → (p : Program) (slots : ℕ) (g h : Graph) → next p slots g ≡ Some h → SomeRegion Q g.regions → SomeRegion Q h.regions
 some_next Q s p slots g h e =
     by_next p (λ a b. SomeRegion Q a.regions → SomeRegion Q b.regions) (λ a q c f. some_joined a.regions q (pair_rising p a.regions c q f) Q s) (λ a q c f x. x) slots g h e
 
-pub some_all : (Q : Region → Type 0) → StaysOfOne Q → (p : Program) (slots : ℕ) (g h : Graph) → Merges p slots g h → SomeRegion Q g.regions → SomeRegion Q h.regions
+pub some_all : (Q : DataRegion → Type 0) → StaysOfOne Q → (p : Program) (slots : ℕ) (g h : Graph) → Merges p slots g h → SomeRegion Q g.regions → SomeRegion Q h.regions
 some_all Q s p slots g h stays x = x
 some_all Q s p slots g k (joins {h = h} e m) x = some_all Q s p slots h k m (some_next Q s p slots g h e x)
 

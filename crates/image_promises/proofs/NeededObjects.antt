@@ -17,7 +17,7 @@ use Rattle.ir_laws.specs.Limits.{WindowsLieApart, HasWindows}
 use Rattle.plan_model.specs.declared.needs.Needs.{Needs}
 use Rattle.plan_model.specs.declared.graph.Cover.{Cover}
 use Rattle.plan_model.specs.declared.graph.Graph.{Graph}
-use Rattle.plan_model.specs.declared.graph.Region.{Region}
+use Rattle.plan_model.specs.declared.graph.DataRegion.{DataRegion}
 use Rattle.plan_model.specs.declared.graph.Final.{Final}
 use Rattle.plan_model.specs.declared.plan.Board.{Board}
 use Rattle.plan_model.specs.Boards.{slots_of}
@@ -77,7 +77,7 @@ module _ (w : PlainFirmware) (n : Needs) (f : Final) (b : Board) (ok : IsPlanned
   globals : (c x : ℕ) → may_write p n f c (Global x) ≡ true → (writes n f.groups c (Global x) ≡ true) ⊎ IsExposed w n f b c x
   unfolding may_write
   globals c x e =
-      let r = any_index (λ (q : Region). has q.writers c && has q.globals x) no_region f.regions e in
+      let r = any_index (λ (q : DataRegion). has q.writers c && has q.globals x) no_region f.regions e in
       let z = and_parts (has (region_at f.regions r.0).writers c) (has (region_at f.regions r.0).globals x) r.2 in
       by r.0 r.1 z.0 z.1 (writes n f.groups c (Global x)) refl
     where
@@ -96,7 +96,7 @@ module _ (w : PlainFirmware) (n : Needs) (f : Final) (b : Board) (ok : IsPlanned
     where
       exposed : IsExposed w n f b c x → ⊥
       exposed q =
-          let of_region = one_of_kept (λ (r : Region). size_of p (never_written n f.groups c r)) (λ (r : Region). has r.writers c) f.regions no_region q.region q.there q.writer in
+          let of_region = one_of_kept (λ (r : DataRegion). size_of p (never_written n f.groups c r)) (λ (r : DataRegion). has r.writers c) f.regions no_region q.region q.there q.writer in
           let r = any_index (λ m. nat_eq m x) 0 (never_written n f.groups c (region_at f.regions q.region)) q.unneeded in
           let same = eqb-true (get_or (never_written n f.groups c (region_at f.regions q.region)) r.0 0) x r.2 in
           let of_global = one_of_sum (global_size p) (never_written n f.groups c (region_at f.regions q.region)) 0 r.0 r.1 in

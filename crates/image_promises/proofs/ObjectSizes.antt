@@ -2,8 +2,8 @@
 use Rattle.std.proofs.Common.{◌≡◌, ℕ, zero, suc, ◌<◌, Bool, true, false, List, [], ◌∷◌, ◌++◌, length, map, get_or, refl, sym, ap, ◌∙◌, subst, bytes_eq, if◌then◌else◌, append_assoc, append-nil, nat_le, arith}
 use Rattle.std.proofs.lemmas.List.{map-append, length-map}
 use Rattle.ir_model.specs.declared.check.CheckKind.TheVariants.{Unknown, ObjectTooLarge, BadInit}
-use Rattle.ir_model.specs.declared.check.Place.{Place}
-use Rattle.ir_model.specs.declared.check.Place.TheVariants as place
+use Rattle.ir_model.specs.declared.check.CheckPlace.{CheckPlace}
+use Rattle.ir_model.specs.declared.check.CheckPlace.TheVariants as place
 use Rattle.ir_model.specs.Types.{PlainType, U8, U16, U32, Pointer, Array, Named, Callee}
 use Rattle.ir_model.specs.Plain.{PlainBinding, PlainStruct, PlainGlobal, PlainFunc, PlainFirmware, funcs_of, names_of}
 use Rattle.ir_model.specs.Layout.{Shape, Known, empty, shape_named, shape, with_field, laid_out, field_places, with_struct, known_behind, known}
@@ -38,7 +38,7 @@ named_large [] n a h = absurd (let e : false ≡ true = h in cc)
 named_large (k ∷ ks) n a h = by_name (bytes_eq k.name n) (has (names_in ks) n) k.shape (shape_named ks n) h a.0 (named_large ks n a.1)
 
 -- a type whose structs are known and whose arrays have elements has a byte at least
-type_large : (ds : List (List ℕ)) (p : Place) (ks : List Known) (t : PlainType) → AreLarge ks → Pass (type_checks ds (names_in ks) p t) → HasElements t → 0 < (shape ks t).size
+type_large : (ds : List (List ℕ)) (p : CheckPlace) (ks : List Known) (t : PlainType) → AreLarge ks → Pass (type_checks ds (names_in ks) p t) → HasElements t → 0 < (shape ks t).size
 type_large ds p ks U8 a h e = omega arith
 type_large ds p ks U16 a h e = omega arith
 type_large ds p ks U32 a h e = omega arith
@@ -50,7 +50,7 @@ type_large ds p ks (Callee b r) a h e = omega arith
 -- ---- structs
 
 -- fields behind what has a byte already
-behind_large : (ds : List (List ℕ)) (p : Place) (seen : List (List ℕ)) (ks : List Known) (s : Shape) (fs : List PlainBinding) → AreLarge ks → 0 < s.size → 0 < s.align
+behind_large : (ds : List (List ℕ)) (p : CheckPlace) (seen : List (List ℕ)) (ks : List Known) (s : Shape) (fs : List PlainBinding) → AreLarge ks → 0 < s.size → 0 < s.align
     → Pass (field_checks ds (names_in ks) p seen fs) → EachHasElements fs → 0 < (laid_out ks s fs).size
 behind_large ds p seen ks s [] a some align h e = let r = rounded_at_least s.size s.align align in omega (arith, r, some)
 behind_large ds p seen ks s (f ∷ fs) a some align h e =
@@ -59,7 +59,7 @@ behind_large ds p seen ks s (f ∷ fs) a some align h e =
     let own = type_large ds p ks f.ty a (right (is_new seen f.name p ∷ []) (type_checks ds (names_in ks) p f.ty) (left front rest h)) e.0 in
     behind_large ds p (seen ++ f.name ∷ []) ks (with_field ks s f.ty) fs a (omega (arith, own)) (omega (arith, align)) (right front rest h) e.1
 
-fields_large : (ds : List (List ℕ)) (p : Place) (ks : List Known) (fs : List PlainBinding) → AreLarge ks → 0 < length fs
+fields_large : (ds : List (List ℕ)) (p : CheckPlace) (ks : List Known) (fs : List PlainBinding) → AreLarge ks → 0 < length fs
     → Pass (field_checks ds (names_in ks) p [] fs) → EachHasElements fs → 0 < (laid_out ks empty fs).size
 fields_large ds p ks [] a some h e = absurd (omega (arith, some))
 fields_large ds p ks (f ∷ fs) a some h e =
@@ -80,7 +80,7 @@ structs_large : (ds : List (List ℕ)) (es : List PlainStruct) (ks : List Known)
     → Pass (structs_checks ds es ss) → AllHaveElements ss → Each (λ (s : PlainStruct). 0 < length s.fields) ss → AreLarge (known_behind ks ss)
 structs_large ds es ks [] n a h e some = a
 structs_large ds es ks (s ∷ ss) n a h e some =
-    let p : Place = place.Struct s.name in
+    let p : CheckPlace = place.Struct s.name in
     let before : List (List ℕ) = map (λ (d : PlainStruct). d.name) es in
     let k : Known = record { name = s.name; shape = laid_out ks empty s.fields; fields = field_places ks empty s.fields } in
     let own = left (struct_checks ds es s) (structs_checks ds (es ++ s ∷ []) ss) h in
@@ -105,7 +105,7 @@ module _ (w : PlainFirmware) (typed : IsTyped w) (within : IsWithinLimits w) whe
   known_names = names_behind [] w.structs
 
   -- a type that passes the checks behind all structs
-  pub declared_large : (p : Place) (t : PlainType) → Pass (type_checks (structs_named w) (structs_named w) p t) → HasElements t → 0 < (shape (known w.structs) t).size
+  pub declared_large : (p : CheckPlace) (t : PlainType) → Pass (type_checks (structs_named w) (structs_named w) p t) → HasElements t → 0 < (shape (known w.structs) t).size
   declared_large p t h e =
       type_large (structs_named w) p (known w.structs) t known_large (subst (λ (z : List (List ℕ)). Pass (type_checks (structs_named w) z p t)) (sym known_names) h) e
 
@@ -115,7 +115,7 @@ module _ (w : PlainFirmware) (typed : IsTyped w) (within : IsWithinLimits w) whe
       → (x : ℕ) → x < length gs → 0 < (get_or (map (resolved_global (scope_of w)) gs) x no_global).shape.size
   globals_large seen [] h e x lt = absurd (omega (arith, lt))
   globals_large seen (g ∷ gs) h e zero lt =
-      let p : Place = place.Global g.name in
+      let p : CheckPlace = place.Global g.name in
       let names : Checks = type_checks (structs_named w) (structs_named w) p g.ty in
       let sizes : Checks = check (nat_le (shape (known w.structs) g.ty).size object_limit) ObjectTooLarge p ∷ check (nat_le (length g.init) (length (shape (known w.structs) g.ty).cells)) BadInit p ∷ [] in
       let inits : Checks = init_checks w p g.init (shape (known w.structs) g.ty).cells in
@@ -133,7 +133,7 @@ module _ (w : PlainFirmware) (typed : IsTyped w) (within : IsWithinLimits w) whe
 
   -- ---- locals
 
-  locals_large : (p : Place) (seen : List (List ℕ)) (ls : List PlainBinding) → Pass (local_checks w (structs_named w) p seen ls) → Each HasParts ls
+  locals_large : (p : CheckPlace) (seen : List (List ℕ)) (ls : List PlainBinding) → Pass (local_checks w (structs_named w) p seen ls) → Each HasParts ls
       → (l : ℕ) → l < length ls → 0 < (get_or (map (λ (s : PlainBinding). shape (known w.structs) s.ty) ls) l empty).size
   locals_large p seen [] h e l lt = absurd (omega (arith, lt))
   locals_large p seen (s ∷ ls) h e zero lt =

@@ -19,7 +19,7 @@ use Rattle.ir_model.specs.Step.{source_turn}
 use Rattle.ir_model.specs.Runs.{source_after}
 use Rattle.ir_laws.specs.Sets.{ObjectSets, Node, ReadsAt, WritesAt, IsRead, IsWritten}
 use Rattle.plan_model.specs.declared.needs.Needs.{Needs}
-use Rattle.plan_model.specs.declared.graph.Region.{Region}
+use Rattle.plan_model.specs.declared.graph.DataRegion.{DataRegion}
 use Rattle.plan_model.specs.declared.graph.Final.{Final}
 use Rattle.plan_model.specs.declared.plan.Board.{Board}
 use Rattle.plan_model.specs.Boards.{slots_of}
@@ -151,7 +151,7 @@ module _ (w : PlainFirmware) (n : Needs) (f : Final) (b : Board) (ok : IsPlanned
       let lt : x < length p.globals = there (GlobalObject x) (written (GlobalObject x) i) in
       let writer : writes n f.groups c (Global x) ≡ true = one_of f.groups (λ y. has_object (need_of n y).written (Global x)) g listed (has_listed (need_of n g).written (GlobalObject x) i) in
       let some = regions.in_region p n f (slots_of b) ok.final x lt (regions.written_used p n f (slots_of b) ok.final x c c_below writer) in
-      list_any_at (λ (r : Region). has r.writers c && has r.globals x) f.regions some.0 no_region some.1
+      list_any_at (λ (r : DataRegion). has r.writers c && has r.globals x) f.regions some.0 no_region some.1
       (both (has (region_at f.regions some.0).writers c) (has (region_at f.regions some.0).globals x) (regions.writers p n f (slots_of b) ok.final x c c_below writer some.0 some.1 some.2) some.2)
   stores (PeriphObject q) i h = reached q (there (PeriphObject q) (written (PeriphObject q) i)) (used q h)
   stores (LocalObject h l) i q = ⊎_elim (λ e. inl e) (λ d. inr (lent_bit d)) (cases_eq h g)
@@ -178,7 +178,7 @@ module _ (w : PlainFirmware) (n : Needs) (f : Final) (b : Board) (ok : IsPlanned
       let lt : x < length p.globals = read_there (GlobalObject x) (read (GlobalObject x) i) in
       let reader : reads n f.groups c (Global x) ≡ true = one_of f.groups (λ y. has_object (need_of n y).read (Global x)) g listed (has_listed (need_of n g).read (GlobalObject x) i) in
       let some = regions.in_region p n f (slots_of b) ok.final x lt (regions.read_used p n f (slots_of b) ok.final x c closed c_below reader) in
-      list_any_at (λ (r : Region). is_user c r && has r.globals x) f.regions some.0 no_region some.1
+      list_any_at (λ (r : DataRegion). is_user c r && has r.globals x) f.regions some.0 no_region some.1
       (both (is_user c (region_at f.regions some.0)) (has (region_at f.regions some.0).globals x)
       (or_right (has (region_at f.regions some.0).writers c) (has (region_at f.regions some.0).readers c) (regions.readers p n f (slots_of b) ok.final x c closed c_below reader some.0 some.1 some.2)) some.2)
   loads closed (PeriphObject q) i h = reached q (read_there (PeriphObject q) (read (PeriphObject q) i)) (used q h)

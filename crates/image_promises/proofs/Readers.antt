@@ -4,7 +4,7 @@ use Rattle.ir_model.specs.Resolved.{Program}
 use Rattle.base_laws.specs.Lists.{Each}
 use Rattle.plan_model.specs.declared.needs.Needs.{Needs}
 use Rattle.plan_model.specs.declared.groups.Groups.{Groups}
-use Rattle.plan_model.specs.declared.graph.Region.{Region}
+use Rattle.plan_model.specs.declared.graph.DataRegion.{DataRegion}
 use Rattle.plan_model.specs.declared.graph.Graph.{Graph}
 use Rattle.plan_model.specs.declared.graph.Final.{Final}
 use Rattle.plan_model.specs.Lists.{numbers_below, union, has}
@@ -22,7 +22,7 @@ use Rattle.base_laws.proofs.Lists.{each_of as each_anyway}
 
 -- ---- no readers
 
-abbrev IsUnread : Region → Type 0
+abbrev IsUnread : DataRegion → Type 0
 IsUnread r = r.readers ≡ []
 
 first_unread : (p : Program) (n : Needs) (g : Groups) → n.closed ≡ false → Each IsUnread (data_regions p n g)
@@ -34,14 +34,14 @@ first_unread p n g open_board =
     (each_filter Q has_users (map (users_of n g) (numbers_below (length p.globals)))
     (each_map Q (users_of n g) (λ x. Unit {0}) (numbers_below (length p.globals)) (λ x t. none x) (each_anyway (λ x. Unit {0}) (λ x. tt) (numbers_below (length p.globals))))))
 
-join_unread : (a b : Region) → IsUnread a → IsUnread b → IsUnread (joined_region a b)
+join_unread : (a b : DataRegion) → IsUnread a → IsUnread b → IsUnread (joined_region a b)
 join_unread a b e g = ap₂ union e g
 
-unread_joined : (rs : List Region) (q : Pair) → Each IsUnread rs → Each IsUnread (with_joined_region rs q)
+unread_joined : (rs : List DataRegion) (q : Pair) → Each IsUnread rs → Each IsUnread (with_joined_region rs q)
 unread_joined rs q e =
     let a = each_or IsUnread rs q.first no_region refl e in
     let b = each_or IsUnread rs q.second no_region refl e in
-    let v : Region = joined_region (region_at rs q.first) (region_at rs q.second) in
+    let v : DataRegion = joined_region (region_at rs q.first) (region_at rs q.second) in
     each_remove IsUnread (set rs q.first v) q.second (each_set IsUnread rs q.first v (join_unread (region_at rs q.first) (region_at rs q.second) a b) e)
 
 unread_next : (p : Program) (slots : ℕ) (g h : Graph) → next p slots g ≡ Some h → Each IsUnread g.regions → Each IsUnread h.regions

@@ -23,7 +23,7 @@ use Rattle.ir_laws.specs.Limits.{WindowsLieApart, HasWindows}
 use Rattle.plan_model.specs.declared.needs.Needs.{Needs}
 use Rattle.plan_model.specs.declared.graph.Cover.{Cover}
 use Rattle.plan_model.specs.declared.graph.Final.{Final}
-use Rattle.plan_model.specs.declared.graph.Region as data_region
+use Rattle.plan_model.specs.declared.graph.DataRegion as data_region
 use Rattle.plan_model.specs.declared.plan.Board.{Board}
 use Rattle.plan_model.specs.declared.plan.Plan.{Plan}
 use Rattle.plan_model.specs.declared.plan.Sizes.{Sizes}
@@ -227,12 +227,12 @@ module _ (law : SlotLaws) (windows : WindowsLieApart) (w : PlainFirmware) (n : N
   write_global : (c r x : ℕ) → r < length f.regions → has (region_at f.regions r).writers c ≡ true → has (region_at f.regions r).globals x ≡ true → may_write p n f c (Global x) ≡ true
   unfolding may_write
   write_global c r x lt writer it =
-      list_any_at (λ (q : data_region.Region). has q.writers c && has q.globals x) f.regions r no_region lt (both (has (region_at f.regions r).writers c) (has (region_at f.regions r).globals x) writer it)
+      list_any_at (λ (q : data_region.DataRegion). has q.writers c && has q.globals x) f.regions r no_region lt (both (has (region_at f.regions r).writers c) (has (region_at f.regions r).globals x) writer it)
 
   read_global : (c r x : ℕ) → r < length f.regions → is_user c (region_at f.regions r) ≡ true → has (region_at f.regions r).globals x ≡ true → may_read p n f c (Global x) ≡ true
   unfolding may_read
   read_global c r x lt user it =
-      list_any_at (λ (q : data_region.Region). is_user c q && has q.globals x) f.regions r no_region lt (both (is_user c (region_at f.regions r)) (has (region_at f.regions r).globals x) user it)
+      list_any_at (λ (q : data_region.DataRegion). is_user c q && has q.globals x) f.regions r no_region lt (both (is_user c (region_at f.regions r)) (has (region_at f.regions r).globals x) user it)
 
   write_periph : (c q : ℕ) → list_any (is_inside (cover_of p q)) (get_or f.covers c []) ≡ true → may_write p n f c (Periph q) ≡ true
   unfolding may_write

@@ -11,7 +11,7 @@ use Rattle.base_ranges.specs.Ranges.{are_apart, IsWindowRange}
 use Rattle.base_ranges.proofs.Decisions.{decides_apart}
 use Rattle.machine_devices.specs.Rules.{IsWindow, IsApart, AreWindows}
 use Rattle.ir_model.specs.declared.check.CheckKind.TheVariants.{Twice, BadWindow, WindowOverlap}
-use Rattle.ir_model.specs.declared.check.Place.TheVariants as place
+use Rattle.ir_model.specs.declared.check.CheckPlace.TheVariants as place
 use Rattle.ir_model.specs.declared.firmware.Peripheral.{Peripheral}
 use Rattle.ir_model.specs.Plain.{PlainFirmware}
 use Rattle.ir_model.specs.Resolved.{NumberedWindow, no_window}

@@ -16,7 +16,7 @@ use Rattle.base_laws.specs.Lists.{Each}
 use Rattle.base_laws.proofs.Lists.{each_to}
 use Rattle.monitor_model.specs.declared.tables.Tables.{Tables}
 use Rattle.monitor_model.specs.Placed.{Placed}
-use Rattle.monitor_model.specs.Block.{Block}
+use Rattle.monitor_model.specs.Block.{MonitorBlock}
 use Rattle.monitor_model.specs.Invariant.{InvariantHolds}
 use Rattle.monitor_model.specs.Reach.{AllBytes, running}
 use Rattle.monitor_model.specs.Confined.{later}
@@ -38,7 +38,7 @@ module _ (laws : DeviceLaws) (i : Image) (t : Tables) (p : Placed i t) (first : 
   abbrev InSlots : State → ℕ → Type 0
   InSlots s a = 0x40000000 ≤ a → AnyOf (λ (g : Region). holds g a ≡ true) (running i t s).slots
 
-  module _ (m : Block) (s : State) (h : InvariantHolds i t m s) where
+  module _ (m : MonitorBlock) (s : State) (h : InvariantHolds i t m s) where
     user : is_unprivileged s.protection ≡ true
     user = ap₂ (λ (a b : Bool). not a && b) h.inv.thread h.inv.unprivileged
 

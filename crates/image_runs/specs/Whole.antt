@@ -7,7 +7,7 @@ use Rattle.monitor_model.specs.declared.tables.Tables.{Tables}
 use Rattle.monitor_program.specs.Page.{stub_address}
 use Rattle.monitor_model.specs.MonitorLaw.{MonitorLaw}
 use Rattle.monitor_model.specs.Starts.{Starts}
-use Rattle.monitor_model.specs.Block.{Block}
+use Rattle.monitor_model.specs.Block.{MonitorBlock}
 use Rattle.monitor_model.specs.Confined.{later}
 use Rattle.monitor_model.specs.Invariant.{InvariantHolds}
 use Rattle.image_promises.specs.Laws.{OfPlanned}
@@ -23,7 +23,7 @@ PlannedImagesStart = OfPlanned (λ i t. Starts i t (stub_address t))
 -- in each run, whenever a compartment's instruction comes next, the monitor's block has some lists, which are orderly, and the unit's
 -- registers are those of CUR and TOP
 abbrev pub KeepsTheInvariant : Image → Tables → Type 0
-KeepsTheInvariant i t = EachRun i (λ (first : State). (n : ℕ) → Acts i t first n → (m : Block) × InvariantHolds i t m (later i t first n))
+KeepsTheInvariant i t = EachRun i (λ (first : State). (n : ℕ) → Acts i t first n → (m : MonitorBlock) × InvariantHolds i t m (later i t first n))
 
 abbrev pub PlannedImagesKeepTheInvariant : Type 0
 PlannedImagesKeepTheInvariant = OfPlanned KeepsTheInvariant

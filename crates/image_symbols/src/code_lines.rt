@@ -22,7 +22,7 @@ use std::alloc::AllocError;
 
 /// A place of a function's block.
 #[derive(Clone, Copy)]
-struct Place {
+struct InstPlace {
     /// The number of the block.
     block: usize,
     /// The number of the instruction, or how many there are for the block's end.
@@ -35,7 +35,7 @@ fn reached(
     parts: &LinkParts,
     of: Lying,
     last: Option<Reached>,
-    at: Place,
+    at: InstPlace,
 ) -> Result<Reached, AllocError>
     requires made { AreMade subject.now parts.now }
     requires last { IfSome last (IsReachedIn (program_of subject.now.program.now) parts.now.numbers of.number) }
@@ -84,7 +84,7 @@ fn put_inst(
     parts: &LinkParts,
     of: Lying,
     last: Option<Reached>,
-    at: Place,
+    at: InstPlace,
 ) -> Result<Reached, AllocError>
     requires made { AreMade subject.now parts.now }
     requires last { IfSome last (IsReachedIn (program_of subject.now.program.now) parts.now.numbers of.number) }
@@ -104,7 +104,7 @@ fn put_end(
     parts: &LinkParts,
     of: Lying,
     last: Option<Reached>,
-    at: Place,
+    at: InstPlace,
 ) -> Result<Reached, AllocError>
     requires made { AreMade subject.now parts.now }
     requires end { at.number ≡ lines.inst_count (subject_of subject.now) of.number at.block }
@@ -125,7 +125,7 @@ fn put_insts(
     parts: &LinkParts,
     of: Lying,
     last: Option<Reached>,
-    end: Place,
+    end: InstPlace,
 ) -> Result<Option<Reached>, AllocError>
     requires made { AreMade subject.now parts.now }
     requires end { end.number ≡ lines.inst_count (subject_of subject.now) of.number end.block }
@@ -136,7 +136,7 @@ fn put_insts(
     let block = end.block;
     let mut at = last;
     for number in 0..end.number {
-        at = Some(put_inst(text, subject, parts, of, at, Place { block, number })?);
+        at = Some(put_inst(text, subject, parts, of, at, InstPlace { block, number })?);
     }
     Ok(at)
 }
@@ -169,7 +169,7 @@ fn put_block(
     ensures text { OnOk result (text.new ≡ text.old ++ lines.places_of_block (subject_of subject.now) of block) }
 {
     let number = inst_count(subject.program, of.number, block)?;
-    let end = Place { block, number };
+    let end = InstPlace { block, number };
     let at = put_insts(text, subject, parts, of, last, end)?;
     put_end(text, subject, parts, of, at, end)
 }

@@ -1,7 +1,7 @@
 -- All checks in two parts.
 use Rattle.std.proofs.Common.{◌≡◌, ◌∙◌, ap, sym, subst, [], ◌∷◌, map, ◌++◌, None, Result, Ok, Err, append_assoc}
 use Rattle.ir_model.specs.declared.check.CheckKind.TheVariants.{NoMain}
-use Rattle.ir_model.specs.declared.check.Place.TheVariants as place
+use Rattle.ir_model.specs.declared.check.CheckPlace.TheVariants as place
 use Rattle.ir_model.specs.declared.firmware.Peripheral.{Peripheral}
 use Rattle.ir_model.specs.Plain.{PlainGlobal, PlainFirmware, funcs_of}
 use Rattle.ir_model.specs.Typing.{Checks, check, checks, first_failing, globals_checks, file_checks, funcs_checks, has_main}

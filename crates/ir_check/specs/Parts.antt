@@ -2,7 +2,7 @@
 -- The checks of a firmware behind those of its structs and peripherals.
 use Rattle.std.specs.Prelude.{[], ◌∷◌, ◌++◌, map}
 use Rattle.ir_model.specs.declared.check.CheckKind.TheVariants.{NoMain}
-use Rattle.ir_model.specs.declared.check.Place.TheVariants as place
+use Rattle.ir_model.specs.declared.check.CheckPlace.TheVariants as place
 use Rattle.ir_model.specs.declared.firmware.Peripheral.{Peripheral}
 use Rattle.ir_model.specs.Plain.{PlainGlobal, PlainFirmware, funcs_of}
 use Rattle.ir_model.specs.Typing.{globals_checks, file_checks, funcs_checks, has_main, Checks, check}

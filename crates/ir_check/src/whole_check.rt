@@ -14,7 +14,7 @@ use ir_check_functions::funcs::funcs;
 use ir_check_functions::main_function::main_there;
 use ir_check_globals::globals::globals;
 use ir_check_scopes::found::require;
-use ir_check_scopes::{CheckFault, Scope, Spot};
+use ir_check_scopes::{CheckFault, CheckPlaceRef, Scope};
 use ir_model::check::CheckKind;
 use ir_model::checked::Checked;
 use ir_model::firmware::Firmware;
@@ -28,7 +28,7 @@ fn code(alloc: Global, scope: &Scope) -> Result<(), CheckFault>
     globals(alloc, scope)?;
     files(alloc, scope.firmware)?;
     funcs(alloc, scope)?;
-    require(main_there(scope), CheckKind::NoMain, Spot::Whole)?;
+    require(main_there(scope), CheckKind::NoMain, CheckPlaceRef::Whole)?;
     Ok(())
 }
 

@@ -3,8 +3,8 @@ use Rattle.std.proofs.Common.{◌≡◌, ℕ, ◌+◌, ◌<◌, ◌≤◌, ◌++
 use Rattle.std.proofs.lemmas.List.{map-append}
 use Rattle.std.proofs.lemmas.Bool.Decides.{nat_tests}
 use Rattle.ir_model.specs.declared.check.CheckKind.TheVariants.{ObjectTooLarge}
-use Rattle.ir_model.specs.declared.check.Place.{Place}
-use Rattle.ir_model.specs.declared.check.Place.TheVariants as place
+use Rattle.ir_model.specs.declared.check.CheckPlace.{CheckPlace}
+use Rattle.ir_model.specs.declared.check.CheckPlace.TheVariants as place
 use Rattle.ir_model.specs.declared.firmware.StructDecl.{StructDecl}
 use Rattle.ir_model.specs.Plain.{PlainStruct, struct_of}
 use Rattle.ir_model.specs.Typing.{Checks, check, first_failing, struct_checks}
@@ -45,7 +45,7 @@ pub step_passes : (ds : List (List ℕ)) (ss : List StructDecl) (s : PlainStruct
 step_passes ds ss s h l =
     ap first_failing (split ds ss s) ∙ (first_append (fields_part ds (named_in ss) s) (size_part (map struct_of ss) s) h ∙ small_size (map struct_of ss) s l)
 
-large_pick : (p : Place) (b : Bool) (e : CheckFault) → b ≡ false → IsFault e ObjectTooLarge p → Refused (check b ObjectTooLarge p ∷ []) e
+large_pick : (p : CheckPlace) (b : Bool) (e : CheckFault) → b ≡ false → IsFault e ObjectTooLarge p → Refused (check b ObjectTooLarge p ∷ []) e
 large_pick p b NoMemory h f = tt
 large_pick p true (At k q) h f = cc
 large_pick p false (At k q) h f = let a = f.0 in let b = f.1 in cc

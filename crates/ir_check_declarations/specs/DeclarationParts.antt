@@ -1,7 +1,7 @@
 -- Beyond the program's claim: only laws, proofs and functions inside the tool cite this file.
 -- The checks of a file, and of all structs and peripherals.
 use Rattle.std.specs.Prelude.{ℕ, List, [], ◌∷◌, ◌++◌, map}
-use Rattle.ir_model.specs.declared.check.Place.TheVariants as place
+use Rattle.ir_model.specs.declared.check.CheckPlace.TheVariants as place
 use Rattle.ir_model.specs.Plain.{PlainStruct, PlainFile, PlainFirmware}
 use Rattle.ir_model.specs.Typing.{structs_checks, periph_checks, func_name_checks, Checks, is_new}
 

@@ -2,8 +2,8 @@
 -- The checks of a peripheral and of a struct, one part among others.
 use Rattle.std.specs.Prelude.{ℕ, List, [], ◌∷◌, map}
 use Rattle.ir_model.specs.declared.check.CheckKind.TheVariants.{BadWindow, WindowOverlap}
-use Rattle.ir_model.specs.declared.check.Place.{Place}
-use Rattle.ir_model.specs.declared.check.Place.TheVariants as place
+use Rattle.ir_model.specs.declared.check.CheckPlace.{CheckPlace}
+use Rattle.ir_model.specs.declared.check.CheckPlace.TheVariants as place
 use Rattle.ir_model.specs.declared.firmware.Peripheral.{Peripheral}
 use Rattle.ir_model.specs.Plain.{PlainBinding, PlainStruct}
 use Rattle.ir_model.specs.Typing.{field_checks, Checks, check, is_new, type_checks, is_window, is_apart}
@@ -17,7 +17,7 @@ periph_check es q =
     ∷ []
 
 -- a field; a struct's name and fields
-abbrev pub field_check : (declared earlier : List (List ℕ)) → Place → (seen : List (List ℕ)) → PlainBinding → Checks
+abbrev pub field_check : (declared earlier : List (List ℕ)) → CheckPlace → (seen : List (List ℕ)) → PlainBinding → Checks
 field_check ds es p seen s = is_new seen s.name p ∷ type_checks ds es p s.ty
 
 abbrev pub fields_part : (declared earlier : List (List ℕ)) → PlainStruct → Checks

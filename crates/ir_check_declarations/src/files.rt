@@ -7,7 +7,7 @@ ghost use Rattle.ir_check_scopes.specs.Found.{Finds};
 ghost use Rattle.ir_check_declarations.specs.DeclarationParts.{file_part};
 
 use ir_check_scopes::new_names::add_new;
-use ir_check_scopes::{CheckFault, Spot};
+use ir_check_scopes::{CheckFault, CheckPlaceRef};
 use ir_firmware_names::{add_globals, periph_names};
 use ir_model::firmware::{FileDecl, Firmware, Func};
 use ir_names::Names;
@@ -18,7 +18,7 @@ fn func_names<'a>(seen: &mut Names<'a>, funcs: &'a [Func]) -> Result<(), CheckFa
     ensures grows { OnOk result (seen.new ≡ seen.old ++ map (λ (f : PlainFunc). f.name) (map func_of funcs.now)) }
 {
     for func in funcs {
-        add_new(seen, &func.name, Spot::Func(&func.name))?;
+        add_new(seen, &func.name, CheckPlaceRef::Func(&func.name))?;
     }
     Ok(())
 }
@@ -33,7 +33,7 @@ fn file<'a>(
     ensures files { OnOk result (files.new ≡ files.old ++ file.now.name ∷ []) }
     ensures funcs { OnOk result (seen.new ≡ seen.old ++ map (λ (f : PlainFunc). f.name) (map func_of file.now.funcs)) }
 {
-    add_new(files, &file.name, Spot::File(&file.name))?;
+    add_new(files, &file.name, CheckPlaceRef::File(&file.name))?;
     func_names(seen, file.funcs.as_slice())?;
     Ok(())
 }

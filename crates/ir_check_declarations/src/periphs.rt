@@ -9,7 +9,7 @@ ghost use Rattle.ir_check_declarations.specs.StructParts.{periph_check};
 use base_ranges::{are_apart, is_window_place, is_window_size};
 use ir_check_scopes::found::require;
 use ir_check_scopes::new_names::add_new;
-use ir_check_scopes::{CheckFault, Spot};
+use ir_check_scopes::{CheckFault, CheckPlaceRef};
 use ir_model::check::CheckKind;
 use ir_model::firmware::Peripheral;
 use ir_names::Names;
@@ -38,7 +38,7 @@ fn periph<'a>(
     ensures finds { Finds (periph_check earlier.now periph.now) result }
     ensures grows { OnOk result (seen.new ≡ seen.old ++ periph.now.name ∷ []) }
 {
-    let spot = Spot::Periph(&periph.name);
+    let spot = CheckPlaceRef::Periph(&periph.name);
     add_new(seen, &periph.name, spot)?;
     require(is_window(periph), CheckKind::BadWindow, spot)?;
     require(is_apart(earlier, periph), CheckKind::WindowOverlap, spot)?;

@@ -10,7 +10,7 @@ ghost use Rattle.ir_check_declarations.specs.StructParts.{field_check, fields_pa
 use ir_check_scopes::found::fault;
 use ir_check_scopes::new_names::{add_new, require_new};
 use ir_check_scopes::type_names::type_names;
-use ir_check_scopes::{CheckFault, Spot};
+use ir_check_scopes::{CheckFault, CheckPlaceRef};
 use ir_layouts::fault::LayoutFault;
 use ir_layouts::table::Layouts;
 use ir_model::check::CheckKind;
@@ -22,7 +22,7 @@ use std::alloc::Global;
 fn field<'a, 'n>(
     declared: &Names<'n>,
     earlier: &Names<'n>,
-    spot: Spot,
+    spot: CheckPlaceRef,
     seen: &mut Names<'a>,
     binding: &'a Binding,
 ) -> Result<(), CheckFault>
@@ -38,7 +38,7 @@ fn fields<'n>(
     alloc: Global,
     declared: &Names<'n>,
     earlier: &Names<'n>,
-    spot: Spot,
+    spot: CheckPlaceRef,
     bindings: &[Binding],
 ) -> Result<(), CheckFault>
     ensures { Finds (field_checks declared.now earlier.now (place_of spot.entry) [] (map binding_of bindings.now)) result }
@@ -59,7 +59,7 @@ fn named_fields<'n>(
 ) -> Result<(), CheckFault>
     ensures { Finds (fields_part declared.now earlier.now (struct_of of.now)) result }
 {
-    let spot = Spot::Struct(&of.name);
+    let spot = CheckPlaceRef::Struct(&of.name);
     require_new(earlier, &of.name, spot)?;
     fields(alloc, declared, earlier, spot, of.fields.as_slice())?;
     Ok(())
@@ -77,7 +77,10 @@ fn structure<'n>(
     named_fields(alloc, declared, layouts.names(), of)?;
     match layouts.push(of) {
         Ok(()) => Ok(()),
-        Err(LayoutFault::TooLarge) => Err(fault(CheckKind::ObjectTooLarge, Spot::Struct(&of.name))),
+        Err(LayoutFault::TooLarge) => Err(fault(
+            CheckKind::ObjectTooLarge,
+            CheckPlaceRef::Struct(&of.name),
+        )),
         Err(LayoutFault::NoMemory) => Err(CheckFault::NoMemory),
     }
 }

@@ -9,8 +9,8 @@ use Rattle.ir_model.specs.declared.check.CheckKind.{CheckKind}
 use Rattle.ir_model.specs.declared.check.CheckKind.TheVariants.{Unknown, BadInit}
 use Rattle.ir_model.specs.declared.firmware.Cell.TheVariants.{Function, Address}
 use Rattle.ir_model.specs.declared.firmware.Peripheral.{Peripheral}
-use Rattle.ir_model.specs.declared.check.Place.{Place}
-use Rattle.ir_model.specs.declared.check.Place.TheVariants as place
+use Rattle.ir_model.specs.declared.check.CheckPlace.{CheckPlace}
+use Rattle.ir_model.specs.declared.check.CheckPlace.TheVariants as place
 use Rattle.ir_model.specs.Types.{PlainType, type_of}
 use Rattle.ir_model.specs.Plain.{PlainFunc, PlainGlobal, PlainFirmware, funcs_of}
 use Rattle.ir_model.specs.Rules.{is_type, func_type}
@@ -22,17 +22,17 @@ use Rattle.ir_check_details.specs.FirstValues.{fits, values_lines, value_lines, 
 
 -- ---- checks that pass
 
-two_checks : (a b : Bool) (k l : CheckKind) (p : Place) → (a && b) ≡ not (is_some (first_failing (check a k p ∷ check b l p ∷ [])))
+two_checks : (a b : Bool) (k l : CheckKind) (p : CheckPlace) → (a && b) ≡ not (is_some (first_failing (check a k p ∷ check b l p ∷ [])))
 two_checks true true k l p = refl
 two_checks true false k l p = refl
 two_checks false b k l p = refl
 
-pub of_function : (w : PlainFirmware) (p : Place) (c : Cell) (f : List ℕ) (t : PlainType) (b : Bool)
+pub of_function : (w : PlainFirmware) (p : CheckPlace) (c : Cell) (f : List ℕ) (t : PlainType) (b : Bool)
     → b ≡ (has (map (λ (g : PlainFunc). g.name) (funcs_of w)) f && is_type (func_type (funcs_of w) f) t) → c ≡ Function f → b ≡ fits w p c t
 of_function w p c f t b e i =
     subst (λ d. b ≡ fits w p d t) (sym i) (e ∙ two_checks (has (map (λ (g : PlainFunc). g.name) (funcs_of w)) f) (is_type (func_type (funcs_of w) f) t) (Unknown f) BadInit p)
 
-pub of_address : (w : PlainFirmware) (p : Place) (c : Cell) (x : List ℕ) (t : PlainType) (b : Bool)
+pub of_address : (w : PlainFirmware) (p : CheckPlace) (c : Cell) (x : List ℕ) (t : PlainType) (b : Bool)
     → b ≡ ((has (map (λ (q : Peripheral). q.name) w.periphs) x || has (map (λ (g : PlainGlobal). g.name) w.globals) x) && address_fits w x t) → c ≡ Address x → b ≡ fits w p c t
 of_address w p c x t b e i =
     subst (λ d. b ≡ fits w p d t) (sym i)
@@ -56,10 +56,10 @@ append_none (x ∷ xs) = ap (λ ys. x ∷ ys) (append_none xs)
 
 -- ---- along a loop
 
-abbrev pub lines_from : PlainFirmware → Place → (number : ℕ) → List Cell → List (Bor Ty) → List ℕ
+abbrev pub lines_from : PlainFirmware → CheckPlace → (number : ℕ) → List Cell → List (Bor Ty) → List ℕ
 lines_from w p k cs ts = values_lines w p k cs (lent_types ts)
 
-pub values_next : (w : PlainFirmware) (p : Place) (k : ℕ) (cs : List Cell) (ts : List (Bor Ty)) (i : ℕ) (x : Cell) (y : Bor Ty) → i < length cs → i < length ts → x ≡ get_or cs i x → y ≡ get_or ts i y
+pub values_next : (w : PlainFirmware) (p : CheckPlace) (k : ℕ) (cs : List Cell) (ts : List (Bor Ty)) (i : ℕ) (x : Cell) (y : Bor Ty) → i < length cs → i < length ts → x ≡ get_or cs i x → y ≡ get_or ts i y
     → lines_from w p k (drop i cs) (drop i ts) ≡ (if fits w p x (type_of y.now) then lines_from w p (suc k) (drop (i + 1) cs) (drop (i + 1) ts) else value_lines k x (type_of y.now))
 values_next w p k [] ts i x y l m e f = absurd (omega arith)
 values_next w p k (c ∷ cs) [] i x y l m e f = absurd (omega arith)
@@ -71,25 +71,25 @@ values_next w p k (c ∷ cs) (t ∷ ts) (suc i) x y l m e f =
     values_next w p k cs ts i x y (omega arith) (omega arith) e f
     ∙ ap (λ n. if fits w p x (type_of y.now) then lines_from w p (suc k) (drop n (c ∷ cs)) (drop n (t ∷ ts)) else value_lines k x (type_of y.now)) (sym q)
 
-pub one_misfits : (w : PlainFirmware) (p : Place) (cs : List Cell) (ts : List (Bor Ty)) (i : ℕ) (x : Cell) (y : Bor Ty) → i < length cs → i < length ts → x ≡ get_or cs i x → y ≡ get_or ts i y
+pub one_misfits : (w : PlainFirmware) (p : CheckPlace) (cs : List Cell) (ts : List (Bor Ty)) (i : ℕ) (x : Cell) (y : Bor Ty) → i < length cs → i < length ts → x ≡ get_or cs i x → y ≡ get_or ts i y
     → lines_from w p 1 cs ts ≡ lines_from w p (i + 1) (drop i cs) (drop i ts) → false ≡ fits w p x (type_of y.now) → lines_from w p 1 cs ts ≡ value_lines (i + 1) x (type_of y.now)
 one_misfits w p cs ts i x y l m e f h b =
     h ∙ (values_next w p (i + 1) cs ts i x y l m e f
     ∙ ap (λ a. if a then lines_from w p (suc (i + 1)) (drop (i + 1) cs) (drop (i + 1) ts) else value_lines (i + 1) x (type_of y.now)) (sym b))
 
-none_left : (w : PlainFirmware) (p : Place) (k i : ℕ) (cs : List Cell) (us : List PlainType) → length cs ≤ i → values_lines w p k (drop i cs) us ≡ []
+none_left : (w : PlainFirmware) (p : CheckPlace) (k i : ℕ) (cs : List Cell) (us : List PlainType) → length cs ≤ i → values_lines w p k (drop i cs) us ≡ []
 none_left w p k zero [] us l = refl
 none_left w p k (suc i) [] us l = refl
 none_left w p k zero (c ∷ cs) us l = absurd (omega arith)
 none_left w p k (suc i) (c ∷ cs) us l = none_left w p k i cs us (omega arith)
 
-pub all_fit : (w : PlainFirmware) (p : Place) (cs : List Cell) (ts : List (Bor Ty)) (i : ℕ) (o s : List ℕ) → length cs ≤ i → o ≡ s → lines_from w p 1 cs ts ≡ lines_from w p (i + 1) (drop i cs) (drop i ts)
+pub all_fit : (w : PlainFirmware) (p : CheckPlace) (cs : List Cell) (ts : List (Bor Ty)) (i : ℕ) (o s : List ℕ) → length cs ≤ i → o ≡ s → lines_from w p 1 cs ts ≡ lines_from w p (i + 1) (drop i cs) (drop i ts)
     → o ≡ s ++ lines_from w p 1 cs ts
 all_fit w p cs ts i o s l e h = e ∙ (append_none s ∙ ap (λ ls. s ++ ls) (sym (h ∙ none_left w p (i + 1) i cs (lent_types (drop i ts)) l)))
 
 -- ---- as many types as there are values are enough
 
-values_taken : (w : PlainFirmware) (p : Place) (k : ℕ) (cs : List Cell) (ts : List PlainType) → values_lines w p k cs (take (length cs) ts) ≡ values_lines w p k cs ts
+values_taken : (w : PlainFirmware) (p : CheckPlace) (k : ℕ) (cs : List Cell) (ts : List PlainType) → values_lines w p k cs (take (length cs) ts) ≡ values_lines w p k cs ts
 values_taken w p k [] ts = refl
 values_taken w p k (c ∷ cs) [] = refl
 values_taken w p k (c ∷ cs) (t ∷ ts) = ap (λ ls. if fits w p c t then ls else value_lines k c t) (values_taken w p (suc k) cs ts)

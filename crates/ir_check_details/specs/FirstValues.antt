@@ -2,8 +2,8 @@
 use Rattle.std.specs.Prelude.{ℕ, suc, List, [], ◌∷◌, ◌++◌, map, length, codes, nat_le, Bool, not, Option, Some, None, is_some, if◌then◌else◌, bytes_eq}
 use Rattle.std.specs.Fmt.{decimal}
 use Rattle.machine_lines.specs.Lines.{line_feed}
-use Rattle.ir_model.specs.declared.check.Place.{Place}
-use Rattle.ir_model.specs.declared.check.Place.TheVariants as place
+use Rattle.ir_model.specs.declared.check.CheckPlace.{CheckPlace}
+use Rattle.ir_model.specs.declared.check.CheckPlace.TheVariants as place
 use Rattle.ir_model.specs.declared.firmware.Cell.{Cell}
 use Rattle.ir_model.specs.declared.firmware.Cell.TheVariants.{Word, Function, Address}
 use Rattle.ir_model.specs.Types.{PlainType}
@@ -38,11 +38,11 @@ abbrev pub value_lines : (number : ℕ) → Cell → PlainType → List ℕ
 value_lines k c t = found_value k c ++ expected_type t
 
 -- a value fits a cell of this type where none of its checks fails
-abbrev pub fits : PlainFirmware → Place → Cell → PlainType → Bool
+abbrev pub fits : PlainFirmware → CheckPlace → Cell → PlainType → Bool
 fits w p c t = not (is_some (first_failing (cell_checks w p c t)))
 
 -- the first that does not fit of values beside the types of their cells, the first value of this number
-abbrev pub values_lines : PlainFirmware → Place → (number : ℕ) → List Cell → List PlainType → List ℕ
+abbrev pub values_lines : PlainFirmware → CheckPlace → (number : ℕ) → List Cell → List PlainType → List ℕ
 values_lines w p k [] ts = []
 values_lines w p k (c ∷ cs) [] = []
 values_lines w p k (c ∷ cs) (t ∷ ts) = if fits w p c t then values_lines w p (suc k) cs ts else value_lines k c t

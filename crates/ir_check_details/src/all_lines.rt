@@ -8,64 +8,79 @@ use crate::first_values::put_bad_init;
 use crate::functions::{put_func, put_main, put_place};
 use crate::peripherals::{put_overlap, put_window};
 use crate::wording::{put_expected, put_found, put_found_bytes};
-use ir_model::check::{CheckKind, Place};
+use ir_model::check::{CheckKind, CheckPlace};
 use ir_model::firmware::Firmware;
 use std::alloc::{AllocError, Global};
 
 /// Puts the lines of types that do not fit.
-fn put_types(out: &mut Vec<u8>, firmware: &Firmware, place: &Place) -> Result<(), AllocError>
+fn put_types(out: &mut Vec<u8>, firmware: &Firmware, place: &CheckPlace) -> Result<(), AllocError>
     ensures { OnOk result (out.new.items ≡ out.old.items ++ lines.type_lines (firmware_of firmware.now) place.now) }
 {
     match place {
-        Place::Inst { func, block, inst } => put_place(out, firmware, func, block, *inst),
-        Place::Func(func) => put_func(out, firmware, func),
-        Place::Struct(_) | Place::Periph(_) | Place::Global(_) | Place::File(_) | Place::Whole =>
-            Ok(()),
+        CheckPlace::Inst { func, block, inst } => put_place(out, firmware, func, block, *inst),
+        CheckPlace::Func(func) => put_func(out, firmware, func),
+        CheckPlace::Struct(_)
+        | CheckPlace::Periph(_)
+        | CheckPlace::Global(_)
+        | CheckPlace::File(_)
+        | CheckPlace::Whole => Ok(()),
     }
 }
 
 /// Puts the lines of a window that is none.
-fn put_bad_window(out: &mut Vec<u8>, firmware: &Firmware, place: &Place) -> Result<(), AllocError>
+fn put_bad_window(
+    out: &mut Vec<u8>,
+    firmware: &Firmware,
+    place: &CheckPlace,
+) -> Result<(), AllocError>
     ensures { OnOk result (out.new.items ≡ out.old.items ++ lines.bad_window_lines (firmware_of firmware.now) place.now) }
 {
     match place {
-        Place::Periph(name) => put_window(out, firmware.periphs.as_slice(), name),
-        Place::Inst { .. }
-        | Place::Func(_)
-        | Place::Struct(_)
-        | Place::Global(_)
-        | Place::File(_)
-        | Place::Whole => Ok(()),
+        CheckPlace::Periph(name) => put_window(out, firmware.periphs.as_slice(), name),
+        CheckPlace::Inst { .. }
+        | CheckPlace::Func(_)
+        | CheckPlace::Struct(_)
+        | CheckPlace::Global(_)
+        | CheckPlace::File(_)
+        | CheckPlace::Whole => Ok(()),
     }
 }
 
 /// Puts the lines of a window that lies over an earlier one.
-fn put_overlap_at(out: &mut Vec<u8>, firmware: &Firmware, place: &Place) -> Result<(), AllocError>
+fn put_overlap_at(
+    out: &mut Vec<u8>,
+    firmware: &Firmware,
+    place: &CheckPlace,
+) -> Result<(), AllocError>
     ensures { OnOk result (out.new.items ≡ out.old.items ++ lines.overlap_at (firmware_of firmware.now) place.now) }
 {
     match place {
-        Place::Periph(name) => put_overlap(out, firmware.periphs.as_slice(), name),
-        Place::Inst { .. }
-        | Place::Func(_)
-        | Place::Struct(_)
-        | Place::Global(_)
-        | Place::File(_)
-        | Place::Whole => Ok(()),
+        CheckPlace::Periph(name) => put_overlap(out, firmware.periphs.as_slice(), name),
+        CheckPlace::Inst { .. }
+        | CheckPlace::Func(_)
+        | CheckPlace::Struct(_)
+        | CheckPlace::Global(_)
+        | CheckPlace::File(_)
+        | CheckPlace::Whole => Ok(()),
     }
 }
 
 /// Puts the lines of first values that do not fit.
-fn put_bad_init_at(out: &mut Vec<u8>, firmware: &Firmware, place: &Place) -> Result<(), AllocError>
+fn put_bad_init_at(
+    out: &mut Vec<u8>,
+    firmware: &Firmware,
+    place: &CheckPlace,
+) -> Result<(), AllocError>
     ensures { OnOk result (out.new.items ≡ out.old.items ++ lines.bad_init_lines (firmware_of firmware.now) place.now) }
 {
     match place {
-        Place::Global(name) => put_bad_init(out, firmware, name),
-        Place::Inst { .. }
-        | Place::Func(_)
-        | Place::Struct(_)
-        | Place::Periph(_)
-        | Place::File(_)
-        | Place::Whole => Ok(()),
+        CheckPlace::Global(name) => put_bad_init(out, firmware, name),
+        CheckPlace::Inst { .. }
+        | CheckPlace::Func(_)
+        | CheckPlace::Struct(_)
+        | CheckPlace::Periph(_)
+        | CheckPlace::File(_)
+        | CheckPlace::Whole => Ok(()),
     }
 }
 
@@ -82,7 +97,7 @@ fn put_all(
     out: &mut Vec<u8>,
     firmware: &Firmware,
     kind: &CheckKind,
-    place: &Place,
+    place: &CheckPlace,
 ) -> Result<(), AllocError>
     ensures { OnOk result (out.new.items ≡ out.old.items ++ lines.kind_lines (firmware_of firmware.now) kind.now place.now) }
 {
@@ -109,7 +124,7 @@ pub fn check_lines(
     alloc: Global,
     firmware: &Firmware,
     kind: &CheckKind,
-    place: &Place,
+    place: &CheckPlace,
 ) -> Result<Vec<u8>, AllocError>
     ensures { IfOk result (λ v. v.items ≡ lines.check_lines (firmware_of firmware.now) (record { kind = kind.now; place = place.now })) }
 {

@@ -1,7 +1,7 @@
 //! The lines of first values.
 
 ghost use Rattle.std.specs.Prelude.{◌≡◌, ◌&&◌, ◌||◌, ◌++◌, ◌≤◌, length, map, OnOk};
-ghost use Rattle.ir_model.specs.declared.check.Place.TheVariants as place;
+ghost use Rattle.ir_model.specs.declared.check.CheckPlace.TheVariants as place;
 ghost use Rattle.ir_model.specs.Types.{type_of};
 ghost use Rattle.ir_model.specs.declared.firmware.Peripheral.{Peripheral as PlainPeripheral};
 ghost use Rattle.ir_model.specs.Plain.{PlainFunc, PlainGlobal, global_of, firmware_of, funcs_of};

@@ -1,7 +1,7 @@
 -- A function's checks in parts.
 use Rattle.std.proofs.Common.{◌≡◌, ℕ, List, [], map, sym, ap, ◌∙◌}
 use Rattle.ir_model.specs.declared.check.CheckKind.TheVariants.{FrameTooLarge}
-use Rattle.ir_model.specs.declared.check.Place.TheVariants as place
+use Rattle.ir_model.specs.declared.check.CheckPlace.TheVariants as place
 use Rattle.std.specs.Prelude.{nat_le}
 use Rattle.ir_model.specs.Plain.{PlainStruct, PlainFunc, PlainFirmware}
 use Rattle.ir_model.specs.Layout.{known}

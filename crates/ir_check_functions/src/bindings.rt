@@ -12,7 +12,7 @@ ghost use Rattle.ir_check_functions.specs.BindingParts.{bindings_part};
 
 use crate::locals::locals;
 use crate::registers::{outcome, registers};
-use ir_check_scopes::{CheckFault, Scope, Spot};
+use ir_check_scopes::{CheckFault, CheckPlaceRef, Scope};
 use ir_model::firmware::Func;
 use ir_names::Names;
 use std::alloc::Global;
@@ -30,7 +30,7 @@ fn bindings_behind<'a>(
     ensures size { IfOk result (λ n. n ≡ locals_size (known (firmware_of scope.now.firmware.now).structs) (func_of func.now).locals) }
     ensures most { IfOk result (λ n. n ≤ local_limit * object_limit) }
 {
-    let spot = Spot::Func(&func.name);
+    let spot = CheckPlaceRef::Func(&func.name);
     registers(&scope.structs, spot, seen, func.params.as_slice())?;
     outcome(&scope.structs, spot, &func.result)?;
     let size = locals(scope, spot, seen, func.locals.as_slice())?;

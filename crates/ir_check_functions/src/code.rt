@@ -13,12 +13,12 @@ ghost use Rattle.ir_check_scopes.specs.Spots.{place_of};
 use crate::register_names::{inst_names, term_names};
 use crate::{inst_fits, term_fits};
 use ir_check_scopes::found::require;
-use ir_check_scopes::{CheckFault, FuncScope, Scope, Spot};
+use ir_check_scopes::{CheckFault, CheckPlaceRef, FuncScope, Scope};
 use ir_model::check::CheckKind;
 use ir_model::firmware::{Block, Inst, Term};
 
 #[tactic(auto, using(ir_check_scopes::proofs::Order::checks_in_order))]
-fn inst(scope: &Scope, func: &FuncScope, spot: Spot, inst: &Inst) -> Result<(), CheckFault>
+fn inst(scope: &Scope, func: &FuncScope, spot: CheckPlaceRef, inst: &Inst) -> Result<(), CheckFault>
     ensures { Finds (inst_check (firmware_of scope.now.firmware.now) (func_of func.now.func.now) (place_of spot.entry) inst.now) result }
 {
     inst_names(scope, func, spot, inst)?;
@@ -27,7 +27,7 @@ fn inst(scope: &Scope, func: &FuncScope, spot: Spot, inst: &Inst) -> Result<(), 
 }
 
 #[tactic(auto, using(ir_check_scopes::proofs::Order::checks_in_order))]
-fn term(func: &FuncScope, spot: Spot, term: &Term) -> Result<(), CheckFault>
+fn term(func: &FuncScope, spot: CheckPlaceRef, term: &Term) -> Result<(), CheckFault>
     ensures { Finds (term_check (func_of func.now.func.now) (place_of spot.entry) term.now) result }
 {
     term_names(func, spot, term)?;
@@ -41,10 +41,10 @@ fn block(scope: &Scope, func: &FuncScope, block: &Block) -> Result<(), CheckFaul
 {
     let insts = block.insts.as_slice();
     for i in 0..insts.len() {
-        let spot = Spot::Inst(&func.func.name, &block.label, i as u32);
+        let spot = CheckPlaceRef::Inst(&func.func.name, &block.label, i as u32);
         inst(scope, func, spot, &insts[i])?;
     }
-    let spot = Spot::Inst(&func.func.name, &block.label, insts.len() as u32);
+    let spot = CheckPlaceRef::Inst(&func.func.name, &block.label, insts.len() as u32);
     term(func, spot, &block.term)?;
     Ok(())
 }

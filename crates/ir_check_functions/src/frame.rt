@@ -10,7 +10,7 @@ ghost use Rattle.ir_check_scopes.specs.Found.{Finds};
 ghost use Rattle.ir_check_functions.specs.BindingParts.{frame_part};
 
 use ir_check_scopes::found::require;
-use ir_check_scopes::{CheckFault, Scope, Spot};
+use ir_check_scopes::{CheckFault, CheckPlaceRef, Scope};
 use ir_model::check::CheckKind;
 use ir_model::firmware::Func;
 use ir_rounding::rounded_up;
@@ -41,6 +41,6 @@ pub fn frame(scope: &Scope, func: &Func, locals: u64) -> Result<(), CheckFault>
     require(
         bytes <= FRAME_LIMIT,
         CheckKind::FrameTooLarge { bytes },
-        Spot::Func(&func.name),
+        CheckPlaceRef::Func(&func.name),
     )
 }

@@ -16,7 +16,7 @@ use crate::code::blocks;
 use crate::frame::frame;
 use crate::func_tables::func_scope;
 use crate::labels::labels;
-use ir_check_scopes::{CheckFault, Scope, Spot};
+use ir_check_scopes::{CheckFault, CheckPlaceRef, Scope};
 use ir_model::firmware::Func;
 use std::alloc::Global;
 
@@ -25,7 +25,11 @@ fn body(alloc: Global, scope: &Scope, func: &Func) -> Result<(), CheckFault>
     requires { All (λ (b : Block). length b.insts ≤ instruction_limit) func.now.blocks }
     ensures { Finds (body_part (firmware_of scope.now.firmware.now) (func_of func.now)) result }
 {
-    let labels = labels(alloc, Spot::Func(&func.name), func.blocks.as_slice())?;
+    let labels = labels(
+        alloc,
+        CheckPlaceRef::Func(&func.name),
+        func.blocks.as_slice(),
+    )?;
     let inner = func_scope(alloc, func, labels)?;
     blocks(scope, &inner, func.blocks.as_slice())?;
     Ok(())

@@ -14,7 +14,7 @@ ghost use Rattle.ir_check_functions.specs.BindingParts.{local_check, binding_che
 use ir_check_scopes::new_names::add_new;
 use ir_check_scopes::sizes::object_size;
 use ir_check_scopes::type_names::type_names;
-use ir_check_scopes::{CheckFault, Scope, Spot};
+use ir_check_scopes::{CheckFault, CheckPlaceRef, Scope};
 use ir_model::firmware::Binding;
 use ir_names::Names;
 use ir_rounding::rounded_up;
@@ -22,7 +22,7 @@ use ir_rounding::rounded_up;
 #[tactic(auto, using(ir_check_scopes::proofs::Order::checks_in_order, ir_check_scopes::proofs::Order::checks_behind_one))]
 fn named_binding<'a>(
     scope: &Scope,
-    spot: Spot,
+    spot: CheckPlaceRef,
     seen: &mut Names<'a>,
     binding: &'a Binding,
 ) -> Result<(), CheckFault>
@@ -37,7 +37,7 @@ fn named_binding<'a>(
 #[tactic(auto, using(ir_check_scopes::proofs::Order::checks_in_order))]
 fn local<'a>(
     scope: &Scope,
-    spot: Spot,
+    spot: CheckPlaceRef,
     seen: &mut Names<'a>,
     binding: &'a Binding,
 ) -> Result<u32, CheckFault>
@@ -66,7 +66,7 @@ fn with_local(total: u64, size: u32) -> u64
 /// Whether locals are new, of declared structs, and not too large; and how many bytes they take.
 pub fn locals<'a>(
     scope: &Scope,
-    spot: Spot,
+    spot: CheckPlaceRef,
     seen: &mut Names<'a>,
     bindings: &'a [Binding],
 ) -> Result<u64, CheckFault>

@@ -8,17 +8,17 @@ ghost use Rattle.ir_check_scopes.specs.Spots.{place_of};
 
 use base_names::Name;
 use ir_check_scopes::found::require_known;
-use ir_check_scopes::{CheckFault, FuncScope, Scope, Spot};
+use ir_check_scopes::{CheckFault, CheckPlaceRef, FuncScope, Scope};
 use ir_model::firmware::{Inst, Term};
 
-fn one_known(func: &FuncScope, spot: Spot, name: &Name) -> Result<(), CheckFault>
+fn one_known(func: &FuncScope, spot: CheckPlaceRef, name: &Name) -> Result<(), CheckFault>
     ensures { Finds (registers_known (func_of func.now.func.now) (place_of spot.entry) (name.now ∷ [])) result }
 {
     require_known(func.registers.has(name), name, spot)
 }
 
 #[tactic(auto, using(ir_check_scopes::proofs::Order::checks_in_order, ir_check_scopes::proofs::Order::checks_behind_one))]
-fn two_known(func: &FuncScope, spot: Spot, a: &Name, b: &Name) -> Result<(), CheckFault>
+fn two_known(func: &FuncScope, spot: CheckPlaceRef, a: &Name, b: &Name) -> Result<(), CheckFault>
     ensures { Finds (registers_known (func_of func.now.func.now) (place_of spot.entry) (a.now ∷ b.now ∷ [])) result }
 {
     one_known(func, spot, a)?;
@@ -27,7 +27,13 @@ fn two_known(func: &FuncScope, spot: Spot, a: &Name, b: &Name) -> Result<(), Che
 }
 
 #[tactic(auto, using(ir_check_scopes::proofs::Order::checks_in_order, ir_check_scopes::proofs::Order::checks_behind_one))]
-fn three_known(func: &FuncScope, spot: Spot, a: &Name, b: &Name, c: &Name) -> Result<(), CheckFault>
+fn three_known(
+    func: &FuncScope,
+    spot: CheckPlaceRef,
+    a: &Name,
+    b: &Name,
+    c: &Name,
+) -> Result<(), CheckFault>
     ensures { Finds (registers_known (func_of func.now.func.now) (place_of spot.entry) (a.now ∷ b.now ∷ c.now ∷ [])) result }
 {
     one_known(func, spot, a)?;
@@ -35,7 +41,7 @@ fn three_known(func: &FuncScope, spot: Spot, a: &Name, b: &Name, c: &Name) -> Re
     Ok(())
 }
 
-fn all_known(func: &FuncScope, spot: Spot, names: &[Name]) -> Result<(), CheckFault>
+fn all_known(func: &FuncScope, spot: CheckPlaceRef, names: &[Name]) -> Result<(), CheckFault>
     ensures { Finds (registers_known (func_of func.now.func.now) (place_of spot.entry) names.now) result }
 {
     for name in names {
@@ -44,7 +50,7 @@ fn all_known(func: &FuncScope, spot: Spot, names: &[Name]) -> Result<(), CheckFa
     Ok(())
 }
 
-fn kept_known(func: &FuncScope, spot: Spot, name: &Option<Name>) -> Result<(), CheckFault>
+fn kept_known(func: &FuncScope, spot: CheckPlaceRef, name: &Option<Name>) -> Result<(), CheckFault>
     ensures { Finds (registers_known (func_of func.now.func.now) (place_of spot.entry) (optional_name name.now)) result }
 {
     match name {
@@ -53,13 +59,18 @@ fn kept_known(func: &FuncScope, spot: Spot, name: &Option<Name>) -> Result<(), C
     }
 }
 
-fn label_known(func: &FuncScope, spot: Spot, label: &Name) -> Result<(), CheckFault>
+fn label_known(func: &FuncScope, spot: CheckPlaceRef, label: &Name) -> Result<(), CheckFault>
     ensures { Finds (label_known (func_of func.now.func.now) (place_of spot.entry) label.now ∷ []) result }
 {
     require_known(func.labels.has(label), label, spot)
 }
 
-fn address_known(scope: &Scope, func: &FuncScope, spot: Spot, name: &Name) -> Result<(), CheckFault>
+fn address_known(
+    scope: &Scope,
+    func: &FuncScope,
+    spot: CheckPlaceRef,
+    name: &Name,
+) -> Result<(), CheckFault>
     ensures { Finds (is_known (has_address (firmware_of scope.now.firmware.now) (func_of func.now.func.now) name.now) name.now (place_of spot.entry) ∷ []) result }
 {
     let known = func.locals.has(name) || scope.periphs.has(name) || scope.globals.has(name);
@@ -68,7 +79,7 @@ fn address_known(scope: &Scope, func: &FuncScope, spot: Spot, name: &Name) -> Re
 
 /// Whether each name of a block's end is there.
 #[tactic(auto, using(ir_check_scopes::proofs::Order::checks_in_order, ir_check_scopes::proofs::Order::checks_behind_one))]
-pub fn term_names(func: &FuncScope, spot: Spot, term: &Term) -> Result<(), CheckFault>
+pub fn term_names(func: &FuncScope, spot: CheckPlaceRef, term: &Term) -> Result<(), CheckFault>
     ensures { Finds (term_names (func_of func.now.func.now) (place_of spot.entry) term.now) result }
 {
     match term {
@@ -88,7 +99,7 @@ pub fn term_names(func: &FuncScope, spot: Spot, term: &Term) -> Result<(), Check
 pub fn inst_names(
     scope: &Scope,
     func: &FuncScope,
-    spot: Spot,
+    spot: CheckPlaceRef,
     inst: &Inst,
 ) -> Result<(), CheckFault>
     ensures { Finds (inst_names (firmware_of scope.now.firmware.now) (func_of func.now.func.now) (place_of spot.entry) inst.now) result }

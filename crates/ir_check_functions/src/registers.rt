@@ -12,7 +12,7 @@ use ir_check_scopes::found::require;
 use ir_check_scopes::kinds::is_register_type;
 use ir_check_scopes::new_names::add_new;
 use ir_check_scopes::type_names::type_names;
-use ir_check_scopes::{CheckFault, Spot};
+use ir_check_scopes::{CheckFault, CheckPlaceRef};
 use ir_model::check::CheckKind;
 use ir_model::firmware::Binding;
 use ir_model::types::Ty;
@@ -21,7 +21,7 @@ use ir_names::Names;
 #[tactic(auto, using(ir_check_scopes::proofs::Order::checks_in_order, ir_check_scopes::proofs::Order::checks_behind_one))]
 fn register<'a>(
     declared: &Names,
-    spot: Spot,
+    spot: CheckPlaceRef,
     seen: &mut Names<'a>,
     binding: &'a Binding,
 ) -> Result<(), CheckFault>
@@ -37,7 +37,7 @@ fn register<'a>(
 /// Whether parameters or registers are new, of declared structs, and of types that a register has.
 pub fn registers<'a>(
     declared: &Names,
-    spot: Spot,
+    spot: CheckPlaceRef,
     seen: &mut Names<'a>,
     bindings: &'a [Binding],
 ) -> Result<(), CheckFault>
@@ -52,7 +52,11 @@ pub fn registers<'a>(
 
 /// Whether a result's type is of declared structs, and one that a register has.
 #[tactic(auto, using(ir_check_scopes::proofs::Order::checks_in_order))]
-pub fn outcome(declared: &Names, spot: Spot, outcome: &Option<Ty>) -> Result<(), CheckFault>
+pub fn outcome(
+    declared: &Names,
+    spot: CheckPlaceRef,
+    outcome: &Option<Ty>,
+) -> Result<(), CheckFault>
     ensures { Finds (outcome_checks declared.now (place_of spot.entry) (result_of outcome.now)) result }
 {
     let Some(ty) = outcome else {

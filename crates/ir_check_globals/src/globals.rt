@@ -17,7 +17,7 @@ use ir_check_scopes::new_names::add_new;
 use ir_check_scopes::sizes::object_size;
 use ir_check_scopes::type_names::type_names;
 use ir_check_scopes::values::{holds_address, holds_number};
-use ir_check_scopes::{CheckFault, Scope, Spot};
+use ir_check_scopes::{CheckFault, CheckPlaceRef, Scope};
 use ir_firmware_names::periph_names;
 use ir_model::check::CheckKind;
 use ir_model::firmware::{Cell, Global as GlobalDecl};
@@ -26,7 +26,7 @@ use ir_names::Names;
 use std::alloc::Global;
 
 #[tactic(auto, using(ir_check_scopes::proofs::Order::checks_behind_one))]
-fn function_cell(scope: &Scope, spot: Spot, name: &Name, ty: &Ty) -> Result<(), CheckFault>
+fn function_cell(scope: &Scope, spot: CheckPlaceRef, name: &Name, ty: &Ty) -> Result<(), CheckFault>
     ensures { Finds (cell_checks (firmware_of scope.now.firmware.now) (place_of spot.entry) (Cell.Function name.now) (type_of ty.now)) result }
 {
     require_known(scope.funcs.has(name), name, spot)?;
@@ -35,7 +35,7 @@ fn function_cell(scope: &Scope, spot: Spot, name: &Name, ty: &Ty) -> Result<(), 
 }
 
 #[tactic(auto, using(ir_check_scopes::proofs::Order::checks_behind_one))]
-fn address_cell(scope: &Scope, spot: Spot, name: &Name, ty: &Ty) -> Result<(), CheckFault>
+fn address_cell(scope: &Scope, spot: CheckPlaceRef, name: &Name, ty: &Ty) -> Result<(), CheckFault>
     ensures { Finds (cell_checks (firmware_of scope.now.firmware.now) (place_of spot.entry) (Cell.Address name.now) (type_of ty.now)) result }
 {
     let known = scope.periphs.has(name) || scope.globals.has(name);
@@ -44,7 +44,7 @@ fn address_cell(scope: &Scope, spot: Spot, name: &Name, ty: &Ty) -> Result<(), C
     Ok(())
 }
 
-fn value(scope: &Scope, spot: Spot, cell: &Cell, ty: &Ty) -> Result<(), CheckFault>
+fn value(scope: &Scope, spot: CheckPlaceRef, cell: &Cell, ty: &Ty) -> Result<(), CheckFault>
     ensures { Finds (cell_checks (firmware_of scope.now.firmware.now) (place_of spot.entry) cell.now (type_of ty.now)) result }
 {
     match cell {
@@ -54,7 +54,12 @@ fn value(scope: &Scope, spot: Spot, cell: &Cell, ty: &Ty) -> Result<(), CheckFau
     }
 }
 
-fn values(scope: &Scope, spot: Spot, cells: &[Cell], types: &[&Ty]) -> Result<(), CheckFault>
+fn values(
+    scope: &Scope,
+    spot: CheckPlaceRef,
+    cells: &[Cell],
+    types: &[&Ty],
+) -> Result<(), CheckFault>
     requires { length cells.now ≤ length types.now }
     ensures { Finds (values_checks (firmware_of scope.now.firmware.now) (place_of spot.entry) cells.now (lent_types types.now)) result }
 {
@@ -64,7 +69,12 @@ fn values(scope: &Scope, spot: Spot, cells: &[Cell], types: &[&Ty]) -> Result<()
     Ok(())
 }
 
-fn typed_values(scope: &Scope, spot: Spot, cells: &[Cell], types: &[&Ty]) -> Result<(), CheckFault>
+fn typed_values(
+    scope: &Scope,
+    spot: CheckPlaceRef,
+    cells: &[Cell],
+    types: &[&Ty],
+) -> Result<(), CheckFault>
     ensures { Finds (values_part (firmware_of scope.now.firmware.now) (place_of spot.entry) cells.now (lent_types types.now)) result }
 {
     if cells.len() > types.len() {
@@ -77,7 +87,7 @@ fn typed_values(scope: &Scope, spot: Spot, cells: &[Cell], types: &[&Ty]) -> Res
 fn first_values<'a>(
     alloc: Global,
     scope: &Scope<'a>,
-    spot: Spot,
+    spot: CheckPlaceRef,
     global: &'a GlobalDecl,
 ) -> Result<(), CheckFault>
     ensures { Finds (cells_part (firmware_of scope.now.firmware.now) (place_of spot.entry) global.now.init (type_of global.now.ty)) result }
@@ -97,7 +107,7 @@ fn named<'a>(scope: &Scope, seen: &mut Names<'a>, global: &'a GlobalDecl) -> Res
     ensures finds { Finds (named_check scope.now.structs seen.old (global_of global.now)) result }
     ensures grows { OnOk result (seen.new ≡ seen.old ++ global.now.name ∷ []) }
 {
-    let spot = Spot::Global(&global.name);
+    let spot = CheckPlaceRef::Global(&global.name);
     add_new(seen, &global.name, spot)?;
     type_names(&scope.structs, &scope.structs, spot, &global.ty)?;
     Ok(())
@@ -113,7 +123,7 @@ fn global<'a>(
     ensures finds { Finds (global_part scope.now.structs (firmware_of scope.now.firmware.now) seen.old (global_of global.now)) result }
     ensures grows { OnOk result (seen.new ≡ seen.old ++ global.now.name ∷ []) }
 {
-    let spot = Spot::Global(&global.name);
+    let spot = CheckPlaceRef::Global(&global.name);
     named(scope, seen, global)?;
     object_size(scope, spot, &global.ty)?;
     first_values(alloc, scope, spot, global)?;

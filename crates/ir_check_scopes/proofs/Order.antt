@@ -66,9 +66,9 @@ stop_at before behind all xs i x one f l e s h r =
     ∙ (ap (λ y. first_failing (before (y ∷ drop (i + 1) xs))) (sym e) ∙ ap first_failing (s (drop (i + 1) xs))))) r
 
 -- what an early return tells
-pub told : {T : Type 0} (cs : Checks) (r : Result T CheckFault) (e : CheckFault) → IsErrAnd r (λ y. y ≡ e) → Refused cs e → Finds cs r
-told cs (Ok x) e h k = absurd h
-told cs (Err f) e h k = subst (λ y. Refused cs y) (sym h) k
+pub first_told : {T : Type 0} (cs : Checks) (r : Result T CheckFault) (e : CheckFault) → IsErrAnd r (λ y. y ≡ e) → Refused cs e → Finds cs r
+first_told cs (Ok x) e h k = absurd h
+first_told cs (Err f) e h k = subst (λ y. Refused cs y) (sym h) k
 
 -- what is left is all that can fail
 pub refused_as : (all one : Checks) (e : CheckFault) → first_failing all ≡ first_failing one → Refused one e → Refused all e

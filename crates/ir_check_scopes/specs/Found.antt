@@ -2,7 +2,7 @@
 -- What a checker tells of checks in order.
 use Rattle.std.specs.Prelude.{◌≡◌, Some, None, Result, Ok, Err}
 use Rattle.ir_model.specs.declared.check.CheckKind.{CheckKind}
-use Rattle.ir_model.specs.declared.check.Place.{Place}
+use Rattle.ir_model.specs.declared.check.CheckPlace.{CheckPlace}
 use Rattle.ir_model.specs.Plain.{PlainFirmware}
 use Rattle.ir_model.specs.Typing.{Checks, first_failing, fault_of}
 use Rattle.ir_check_scopes.specs.declared.fault.CheckFault.{CheckFault}
@@ -19,7 +19,7 @@ Finds cs (Ok x) = first_failing cs ≡ None
 Finds cs (Err e) = Refused cs e
 
 -- this fault, or want of memory
-abbrev pub IsFault : CheckFault → CheckKind → Place → Type 0
+abbrev pub IsFault : CheckFault → CheckKind → CheckPlace → Type 0
 IsFault (At l q) k p = (l ≡ k) × (q ≡ p)
 IsFault NoMemory k p = Unit {0}
 

@@ -2,7 +2,7 @@
 -- The check of an object's size, and whether an address is of a type.
 use Rattle.std.specs.Prelude.{ℕ, List, [], ◌∷◌, map, nat_le, Bool, if◌then◌else◌}
 use Rattle.ir_model.specs.declared.check.CheckKind.TheVariants.{ObjectTooLarge}
-use Rattle.ir_model.specs.declared.check.Place.{Place}
+use Rattle.ir_model.specs.declared.check.CheckPlace.{CheckPlace}
 use Rattle.ir_model.specs.declared.firmware.Peripheral.{Peripheral}
 use Rattle.ir_model.specs.Types.{PlainType}
 use Rattle.ir_model.specs.Plain.{PlainFirmware}
@@ -11,7 +11,7 @@ use Rattle.base_names.specs.Numbers.{has}
 use Rattle.ir_model.specs.Rules.{is_port, is_address, global_type}
 use Rattle.ir_model.specs.Typing.{Checks, check, object_limit}
 
-abbrev pub size_check : PlainFirmware → Place → PlainType → Checks
+abbrev pub size_check : PlainFirmware → CheckPlace → PlainType → Checks
 size_check w p t = check (nat_le (shape (known w.structs) t).size object_limit) ObjectTooLarge p ∷ []
 
 -- the address of a peripheral, or else of a global, is of a type

@@ -1,6 +1,6 @@
 //! What a firmware is refused for.
 
-use ir_model::check::{CheckKind, Place};
+use ir_model::check::{CheckKind, CheckPlace};
 use std::alloc::{AllocError, AllocFailed};
 
 /// Why a firmware is not checked.
@@ -12,7 +12,7 @@ pub enum CheckFault {
         /// What is wrong.
         kind: CheckKind,
         /// Where it is.
-        place: Place,
+        place: CheckPlace,
     },
     /// Memory ran out.
     #[error("out of memory")]

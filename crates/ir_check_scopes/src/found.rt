@@ -5,32 +5,32 @@ ghost use Rattle.ir_model.specs.Typing.{check, is_known};
 ghost use Rattle.ir_check_scopes.specs.Found.{Finds, IsFault};
 ghost use Rattle.ir_check_scopes.specs.Spots.{place_of};
 
+use crate::check_place_ref::CheckPlaceRef;
 use crate::fault::CheckFault;
-use crate::spot::Spot;
 use base_names::Name;
-use ir_model::check::{CheckKind, Place};
+use ir_model::check::{CheckKind, CheckPlace};
 use std::alloc::AllocError;
 
-fn place_at(spot: Spot) -> Result<Place, AllocError>
+fn place_at(spot: CheckPlaceRef) -> Result<CheckPlace, AllocError>
     ensures { IfOk result (λ p. p ≡ place_of spot.entry) }
 {
     match spot {
-        Spot::Struct(name) => Ok(Place::Struct(name.clone()?)),
-        Spot::Periph(name) => Ok(Place::Periph(name.clone()?)),
-        Spot::Global(name) => Ok(Place::Global(name.clone()?)),
-        Spot::File(name) => Ok(Place::File(name.clone()?)),
-        Spot::Func(name) => Ok(Place::Func(name.clone()?)),
-        Spot::Inst(func, block, inst) => Ok(Place::Inst {
+        CheckPlaceRef::Struct(name) => Ok(CheckPlace::Struct(name.clone()?)),
+        CheckPlaceRef::Periph(name) => Ok(CheckPlace::Periph(name.clone()?)),
+        CheckPlaceRef::Global(name) => Ok(CheckPlace::Global(name.clone()?)),
+        CheckPlaceRef::File(name) => Ok(CheckPlace::File(name.clone()?)),
+        CheckPlaceRef::Func(name) => Ok(CheckPlace::Func(name.clone()?)),
+        CheckPlaceRef::Inst(func, block, inst) => Ok(CheckPlace::Inst {
             func: func.clone()?,
             block: block.clone()?,
             inst,
         }),
-        Spot::Whole => Ok(Place::Whole),
+        CheckPlaceRef::Whole => Ok(CheckPlace::Whole),
     }
 }
 
 /// That something is wrong there.
-pub fn fault(kind: CheckKind, spot: Spot) -> CheckFault
+pub fn fault(kind: CheckKind, spot: CheckPlaceRef) -> CheckFault
     ensures { IsFault result kind (place_of spot.entry) }
 {
     match place_at(spot) {
@@ -40,7 +40,7 @@ pub fn fault(kind: CheckKind, spot: Spot) -> CheckFault
 }
 
 /// That a name is not there.
-pub fn unknown(name: &Name, spot: Spot) -> CheckFault
+pub fn unknown(name: &Name, spot: CheckPlaceRef) -> CheckFault
     ensures { IsFault result (CheckKind.Unknown name.now) (place_of spot.entry) }
 {
     match name.clone() {
@@ -50,7 +50,7 @@ pub fn unknown(name: &Name, spot: Spot) -> CheckFault
 }
 
 /// That a name is there already.
-pub fn twice(name: &Name, spot: Spot) -> CheckFault
+pub fn twice(name: &Name, spot: CheckPlaceRef) -> CheckFault
     ensures { IsFault result (CheckKind.Twice name.now) (place_of spot.entry) }
 {
     match name.clone() {
@@ -60,7 +60,7 @@ pub fn twice(name: &Name, spot: Spot) -> CheckFault
 }
 
 /// Whether something holds.
-pub fn require(holds: bool, kind: CheckKind, spot: Spot) -> Result<(), CheckFault>
+pub fn require(holds: bool, kind: CheckKind, spot: CheckPlaceRef) -> Result<(), CheckFault>
     ensures { Finds (check holds kind (place_of spot.entry) ∷ []) result }
 {
     if holds {
@@ -70,7 +70,7 @@ pub fn require(holds: bool, kind: CheckKind, spot: Spot) -> Result<(), CheckFaul
 }
 
 /// Whether a name is there.
-pub fn require_known(known: bool, name: &Name, spot: Spot) -> Result<(), CheckFault>
+pub fn require_known(known: bool, name: &Name, spot: CheckPlaceRef) -> Result<(), CheckFault>
     ensures { Finds (is_known known name.now (place_of spot.entry) ∷ []) result }
 {
     if known {

@@ -1,6 +1,7 @@
 //! What the checks of a firmware share: faults, the tables that names are looked up in, and what names and types stand for.
 #![tactic(auto)]
 
+mod check_place_ref;
 mod fault;
 pub mod found;
 pub mod kinds;
@@ -8,10 +9,9 @@ pub mod lookup;
 pub mod new_names;
 mod scope;
 pub mod sizes;
-mod spot;
 pub mod type_names;
 pub mod values;
 
+pub use check_place_ref::CheckPlaceRef;
 pub use fault::CheckFault;
 pub use scope::{FuncScope, Scope};
-pub use spot::Spot;

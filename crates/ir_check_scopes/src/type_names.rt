@@ -6,9 +6,9 @@ ghost use Rattle.ir_model.specs.Typing.{type_checks, row_checks, result_checks};
 ghost use Rattle.ir_check_scopes.specs.Found.{Finds};
 ghost use Rattle.ir_check_scopes.specs.Spots.{place_of};
 
+use crate::check_place_ref::CheckPlaceRef;
 use crate::fault::CheckFault;
 use crate::found::require_known;
-use crate::spot::Spot;
 use ir_model::types::Ty;
 use ir_names::Names;
 
@@ -18,7 +18,7 @@ use ir_names::Names;
 pub fn type_names<'n>(
     declared: &Names<'n>,
     earlier: &Names<'n>,
-    spot: Spot,
+    spot: CheckPlaceRef,
     ty: &Ty,
 ) -> Result<(), CheckFault>
     ensures { Finds (type_checks declared.now earlier.now (place_of spot.entry) (type_of ty.now)) result }
@@ -39,7 +39,7 @@ pub fn type_names<'n>(
 }
 
 #[cycle(type_names)]
-fn row_names(declared: &Names, spot: Spot, types: &[Ty]) -> Result<(), CheckFault>
+fn row_names(declared: &Names, spot: CheckPlaceRef, types: &[Ty]) -> Result<(), CheckFault>
     ensures { Finds (row_checks declared.now (place_of spot.entry) (types_from (map type_of types.now))) result }
 {
     for ty in types {
@@ -49,7 +49,11 @@ fn row_names(declared: &Names, spot: Spot, types: &[Ty]) -> Result<(), CheckFaul
 }
 
 #[cycle(type_names)]
-fn result_names(declared: &Names, spot: Spot, outcome: &Option<Box<Ty>>) -> Result<(), CheckFault>
+fn result_names(
+    declared: &Names,
+    spot: CheckPlaceRef,
+    outcome: &Option<Box<Ty>>,
+) -> Result<(), CheckFault>
     ensures { Finds (result_checks declared.now (place_of spot.entry) (boxed_result_of outcome.now)) result }
 {
     match outcome {

@@ -7,7 +7,7 @@ use Rattle.base_names.specs.Numbers.{has}
 use Rattle.ir_check_scopes.proofs.Order.{first_append}
 use Rattle.ir_model.specs.declared.firmware.Peripheral.{Peripheral}
 use Rattle.ir_model.specs.declared.check.CheckKind.TheVariants.{NoMain}
-use Rattle.ir_model.specs.declared.check.Place.TheVariants as place
+use Rattle.ir_model.specs.declared.check.CheckPlace.TheVariants as place
 use Rattle.ir_model.specs.Plain.{PlainFile, PlainGlobal, PlainFirmware}
 use Rattle.ir_model.specs.Typing.{first_failing, Checks, check, checks, periph_checks, globals_checks, file_checks, funcs_checks, has_main, fault_of, IsTyped}
 use Rattle.ir_generator.specs.declared.choices.Choice.{Choice}

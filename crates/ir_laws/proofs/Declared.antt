@@ -5,8 +5,8 @@ use Rattle.std.specs.Cmp.Derive.{both_true}
 use Rattle.std.proofs.lemmas.Bool.{leb-true}
 use Rattle.std.proofs.lemmas.List.{map-append}
 use Rattle.ir_model.specs.declared.check.CheckKind.TheVariants.{Unknown, ObjectTooLarge, BadInit}
-use Rattle.ir_model.specs.declared.check.Place.{Place}
-use Rattle.ir_model.specs.declared.check.Place.TheVariants as place
+use Rattle.ir_model.specs.declared.check.CheckPlace.{CheckPlace}
+use Rattle.ir_model.specs.declared.check.CheckPlace.TheVariants as place
 use Rattle.ir_model.specs.declared.firmware.Peripheral.{Peripheral}
 use Rattle.ir_model.specs.declared.extent.Extent.{Extent}
 use Rattle.ir_model.specs.Types.{PlainType, U8, U16, U32, Pointer, Array, Named, Callee}
@@ -39,7 +39,7 @@ named_counts : (ks : List Counted) (n : List ℕ) → Each Counts ks → has (na
 named_counts [] n c h = cc
 named_counts (k ∷ ks) n c h = named_by (bytes_eq k.name n) k.counts (counted_named ks n) (has (names_in ks) n) c.0 h (named_counts ks n c.1)
 
-type_counts : (ds : List (List ℕ)) (p : Place) (ks : List Counted) (t : PlainType) → Each Counts ks → Pass (type_checks ds (names_in ks) p t) → is_counted ks t ≡ true
+type_counts : (ds : List (List ℕ)) (p : CheckPlace) (ks : List Counted) (t : PlainType) → Each Counts ks → Pass (type_checks ds (names_in ks) p t) → is_counted ks t ≡ true
 type_counts ds p ks U8 c h = refl
 type_counts ds p ks U16 c h = refl
 type_counts ds p ks U32 c h = refl
@@ -48,7 +48,7 @@ type_counts ds p ks (Array n t) c h = type_counts ds p ks t c h
 type_counts ds p ks (Named n) c h = named_counts ks n c (holds (has (names_in ks) n) (Unknown n) p [] h)
 type_counts ds p ks (Callee a r) c h = refl
 
-fields_count : (ds : List (List ℕ)) (p : Place) (seen : List (List ℕ)) (ks : List Counted) (fs : List PlainBinding) → Each Counts ks
+fields_count : (ds : List (List ℕ)) (p : CheckPlace) (seen : List (List ℕ)) (ks : List Counted) (fs : List PlainBinding) → Each Counts ks
     → Pass (field_checks ds (names_in ks) p seen fs) → are_counted ks fs ≡ true
 fields_count ds p seen ks [] c h = refl
 fields_count ds p seen ks (f ∷ fs) c h =
@@ -66,11 +66,11 @@ the_names ss = map (λ (s : PlainStruct). s.name) ss
 names_more : (ks : List Counted) (k : Counted) → names_in (ks ++ k ∷ []) ≡ names_in ks ++ k.name ∷ []
 names_more ks k = map-append (λ (j : Counted). j.name) ks (k ∷ [])
 
-record Table (ks : List Counted) (es : List PlainStruct) : Type 0 where
+record AreCounted (ks : List Counted) (es : List PlainStruct) : Type 0 where
   each : Each Counts ks
   names : names_in ks ≡ the_names es
 
-table_more : (ks : List Counted) (es : List PlainStruct) (s : PlainStruct) (b : Bool) → b ≡ true → Table ks es → Table (ks ++ record { name = s.name; counts = b } ∷ []) (es ++ s ∷ [])
+table_more : (ks : List Counted) (es : List PlainStruct) (s : PlainStruct) (b : Bool) → b ≡ true → AreCounted ks es → AreCounted (ks ++ record { name = s.name; counts = b } ∷ []) (es ++ s ∷ [])
 table_more ks es s b e t =
     let k : Counted = record { name = s.name; counts = b } in
     record {
@@ -78,16 +78,16 @@ table_more ks es s b e t =
       names = names_more ks k ∙ (ap (λ (x : List (List ℕ)). x ++ s.name ∷ []) t.names ∙ sym (map-append (λ (d : PlainStruct). d.name) es (s ∷ [])));
     }
 
-tables : (ds : List (List ℕ)) (ks : List Counted) (es ss : List PlainStruct) → Table ks es → Pass (structs_checks ds es ss) → Table (counted_behind ks ss) (es ++ ss)
-tables ds ks es [] t h = subst (λ (x : List PlainStruct). Table ks x) (sym (append-nil es)) t
+tables : (ds : List (List ℕ)) (ks : List Counted) (es ss : List PlainStruct) → AreCounted ks es → Pass (structs_checks ds es ss) → AreCounted (counted_behind ks ss) (es ++ ss)
+tables ds ks es [] t h = subst (λ (x : List PlainStruct). AreCounted ks x) (sym (append-nil es)) t
 tables ds ks es (s ∷ ss) t h =
-    let p : Place = place.Struct s.name in
+    let p : CheckPlace = place.Struct s.name in
     let own : Checks = is_new (the_names es) s.name p ∷ field_checks ds (the_names es) p [] s.fields in
     let size : Checks = check (nat_le (laid_out (known es) empty s.fields).size object_limit) ObjectTooLarge p ∷ [] in
     let mine = left (struct_checks ds es s) (structs_checks ds (es ++ s ∷ []) ss) h in
     let fields = right (is_new (the_names es) s.name p ∷ []) (field_checks ds (the_names es) p [] s.fields) (left own size mine) in
     let passes = subst (λ (x : List (List ℕ)). Pass (field_checks ds x p [] s.fields)) (sym t.names) fields in
-    subst (λ (x : List PlainStruct). Table (counted_behind ks (s ∷ ss)) x) (append_assoc es (s ∷ []) ss)
+    subst (λ (x : List PlainStruct). AreCounted (counted_behind ks (s ∷ ss)) x) (append_assoc es (s ∷ []) ss)
     (tables ds (ks ++ record { name = s.name; counts = are_counted ks s.fields } ∷ []) (es ++ s ∷ []) ss
     (table_more ks es s (are_counted ks s.fields) (fields_count ds p [] ks s.fields t.each passes) t)
     (right (struct_checks ds es s) (structs_checks ds (es ++ s ∷ []) ss) h))
@@ -102,18 +102,18 @@ module _ (w : PlainFirmware) (typed : IsTyped w) (limits : IsWithinLimits w) whe
   abbrev declared : List (List ℕ)
   declared = structs_named w
 
-  declared_counts : (p : Place) (t : PlainType) → Pass (type_checks declared declared p t) → is_counted (counted w.structs) t ≡ true
+  declared_counts : (p : CheckPlace) (t : PlainType) → Pass (type_checks declared declared p t) → is_counted (counted w.structs) t ≡ true
   unfolding counted
   declared_counts p t h =
       let table = tables declared [] [] w.structs (record { each = tt; names = refl }) (parts_pass w typed).structs in
       type_counts declared p (counted w.structs) t table.each (subst (λ (x : List (List ℕ)). Pass (type_checks declared x p t)) (sym table.names) h)
 
-  laid : (p : Place) (t : PlainType) → Pass (type_checks declared declared p t) → HasElements t → (shape (known w.structs) t).size ≤ object_limit → HasLayout w t
+  laid : (p : CheckPlace) (t : PlainType) → Pass (type_checks declared declared p t) → HasElements t → (shape (known w.structs) t).size ≤ object_limit → HasLayout w t
   laid p t h e s =
       tied_pair (extent (sized w.structs) t) (shape (known w.structs) t) (is_counted (counted w.structs) t) (declared_counts p t h)
       (extent_tied w.structs t (firmware_elements w limits) e) s
 
-  laid_locals : (p : Place) (seen : List (List ℕ)) (ss : List PlainBinding) → Each HasParts ss → Pass (local_checks w declared p seen ss) → Each (λ (s : PlainBinding). HasLayout w s.ty) ss
+  laid_locals : (p : CheckPlace) (seen : List (List ℕ)) (ss : List PlainBinding) → Each HasParts ss → Pass (local_checks w declared p seen ss) → Each (λ (s : PlainBinding). HasLayout w s.ty) ss
   laid_locals p seen [] e h = tt
   laid_locals p seen (s ∷ ss) e h =
       let front : Checks = is_new seen s.name p ∷ type_checks declared declared p s.ty in
@@ -136,7 +136,7 @@ module _ (w : PlainFirmware) (typed : IsTyped w) (limits : IsWithinLimits w) whe
       → Each (λ (g : PlainGlobal). HasLayout w g.ty) gs
   laid_globals seen [] e h = tt
   laid_globals seen (g ∷ gs) e h =
-      let p : Place = place.Global g.name in
+      let p : CheckPlace = place.Global g.name in
       let it : Shape = shape (known w.structs) g.ty in
       let front : Checks = is_new seen g.name p ∷ type_checks declared declared p g.ty in
       let init : Checks = check (nat_le (length g.init) (length it.cells)) BadInit p ∷ [] in

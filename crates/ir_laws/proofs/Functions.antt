@@ -4,8 +4,8 @@ use Rattle.std.specs.Prelude.{IsTrue}
 use Rattle.std.proofs.lemmas.List.{length-map}
 use Rattle.std.proofs.lemmas.Bool.{leb-true}
 use Rattle.ir_model.specs.declared.check.CheckKind.TheVariants.{IllTyped, ObjectTooLarge}
-use Rattle.ir_model.specs.declared.check.Place.{Place}
-use Rattle.ir_model.specs.declared.check.Place.TheVariants as place
+use Rattle.ir_model.specs.declared.check.CheckPlace.{CheckPlace}
+use Rattle.ir_model.specs.declared.check.CheckPlace.TheVariants as place
 use Rattle.ir_model.specs.Types.{U32, is_register_type}
 use Rattle.ir_model.specs.Plain.{PlainBinding, PlainFunc, PlainFirmware, names_of, types_of, regs_of}
 use Rattle.ir_model.specs.Layout.{known, shape}
@@ -22,7 +22,7 @@ use Rattle.ir_laws.proofs.Names.{EachBinding}
 use Rattle.ir_laws.proofs.Places.{sizes, IsSmall, AreSmall, blocks_typed}
 use Rattle.base_laws.proofs.Lists.{each_both}
 
-pub register_types : (ds : List (List ℕ)) (p : Place) (seen : List (List ℕ)) (ss : List PlainBinding) → Pass (register_checks ds p seen ss) → Each (λ (s : PlainBinding). IsTrue (is_register_type s.ty)) ss
+pub register_types : (ds : List (List ℕ)) (p : CheckPlace) (seen : List (List ℕ)) (ss : List PlainBinding) → Pass (register_checks ds p seen ss) → Each (λ (s : PlainBinding). IsTrue (is_register_type s.ty)) ss
 register_types ds p seen [] h = tt
 register_types ds p seen (s ∷ ss) h =
     let front : Checks = is_new seen s.name p ∷ type_checks ds ds p s.ty in
@@ -32,7 +32,7 @@ register_types ds p seen (s ∷ ss) h =
       register_types ds p (seen ++ s.name ∷ []) ss (right (front ++ c) rest h),
     )
 
-pub small_locals : (w : PlainFirmware) (ds : List (List ℕ)) (p : Place) (seen : List (List ℕ)) (ss : List PlainBinding) → Pass (local_checks w ds p seen ss) → EachBinding (IsSmall w) ss
+pub small_locals : (w : PlainFirmware) (ds : List (List ℕ)) (p : CheckPlace) (seen : List (List ℕ)) (ss : List PlainBinding) → Pass (local_checks w ds p seen ss) → EachBinding (IsSmall w) ss
 small_locals w ds p seen [] h = tt
 small_locals w ds p seen (s ∷ ss) h =
     let front : Checks = is_new seen s.name p ∷ type_checks ds ds p s.ty in
@@ -61,7 +61,7 @@ module _ (w : PlainFirmware) where
   func_typed : AreSmall w → (f : PlainFunc) → Limited f → Pass (func_checks w f) → FuncTyped (resolve w) (sizes w) (resolved_func scope f)
   func_typed small f l h =
       let q = by_parts w f h in
-      let p : Place = place.Func f.name in
+      let p : CheckPlace = place.Func f.name in
       let ds : List (List ℕ) = structs_named w in
       let types = each_both (λ (s : PlainBinding). IsTrue (is_register_type s.ty)) f.params f.regs
       (register_types ds p [] f.params q.params)

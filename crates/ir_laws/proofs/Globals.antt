@@ -8,8 +8,8 @@ use Rattle.ir_model.specs.declared.firmware.Cell.{Cell}
 use Rattle.ir_model.specs.declared.firmware.Cell.TheVariants.{Word, Function, Address}
 use Rattle.ir_model.specs.declared.firmware.Peripheral.{Peripheral}
 use Rattle.ir_model.specs.declared.check.CheckKind.TheVariants.{Unknown, ObjectTooLarge, BadInit}
-use Rattle.ir_model.specs.declared.check.Place.{Place}
-use Rattle.ir_model.specs.declared.check.Place.TheVariants as place
+use Rattle.ir_model.specs.declared.check.CheckPlace.{CheckPlace}
+use Rattle.ir_model.specs.declared.check.CheckPlace.TheVariants as place
 use Rattle.ir_model.specs.Types.{PlainType, target_of, is_integer, width_of}
 use Rattle.ir_model.specs.Plain.{PlainFunc, PlainGlobal, PlainFirmware, funcs_of}
 use Rattle.ir_model.specs.Layout.{CellPlace, known, shape}
@@ -34,7 +34,7 @@ module _ (w : PlainFirmware) where
   pub small_globals : (seen : List (List ℕ)) (gs : List PlainGlobal) → Pass (globals_checks w seen gs) → EachGlobal (IsSmall w) gs
   small_globals seen [] h = tt
   small_globals seen (g ∷ gs) h =
-      let p : Place = place.Global g.name in
+      let p : CheckPlace = place.Global g.name in
       let ds : List (List ℕ) = structs_named w in
       let own = left (global_checks w seen g) (globals_checks w (seen ++ g.name ∷ []) gs) h in
       let front : Checks = is_new seen g.name p ∷ type_checks ds ds p g.ty in
@@ -69,7 +69,7 @@ module _ (w : PlainFirmware) where
         subst (λ (u : PlainType). FitsHere u v) (sym a.2)
         (at (OfGlobal (number_of (map (λ (g : PlainGlobal). g.name) w.globals) x)) 0 refl (omega arith) (omega arith) b.1)
 
-    cell_fits : (p : Place) (c : Cell) (t : PlainType) → Pass (cell_checks w p c t) → FitsHere t (value_of scope c)
+    cell_fits : (p : CheckPlace) (c : Cell) (t : PlainType) → Pass (cell_checks w p c t) → FitsHere t (value_of scope c)
     unfolding resolve
     cell_fits p (Word n) t h =
         let e = and_parts (is_integer t) (nat_lt n (2 ^ (8 * width_of t))) (holds (is_integer t && nat_lt n (2 ^ (8 * width_of t))) BadInit p [] h) in
@@ -88,7 +88,7 @@ module _ (w : PlainFirmware) where
         let test : Bool = if is_periph then is_port t else is_address (global_type w.globals x) t in
         outer_fits (has (map (λ (q : Peripheral). q.name) w.periphs) x) x t refl (holds test BadInit p [] (behind (is_periph || is_global) (Unknown x) p (check test BadInit p ∷ []) h))
 
-    init_fits : (p : Place) (cs : List Cell) (ts : List CellPlace) → Pass (init_checks w p cs ts) → (k : ℕ) → FitsHere ((cell_in ts k).ty) (get_or (filled ts (map (value_of scope) cs)) k (Number 0))
+    init_fits : (p : CheckPlace) (cs : List Cell) (ts : List CellPlace) → Pass (init_checks w p cs ts) → (k : ℕ) → FitsHere ((cell_in ts k).ty) (get_or (filled ts (map (value_of scope) cs)) k (Number 0))
     init_fits p cs [] h k = number 0 refl (omega arith)
     init_fits p [] (t ∷ ts) h zero = zero_fits (resolve w) (sizes w) (λ _. true) t.ty
     init_fits p [] (t ∷ ts) h (suc k) = init_fits p [] ts h k
@@ -99,7 +99,7 @@ module _ (w : PlainFirmware) where
         → FitsHere (cell_in (get_or (map (resolved_global scope) gs) g no_global).shape.cells k).ty (get_or (get_or (map (resolved_global scope) gs) g no_global).init k (Number 0))
     globals_fit seen [] h g k = number 0 refl (omega arith)
     globals_fit seen (x ∷ gs) h zero k =
-        let p : Place = place.Global x.name in
+        let p : CheckPlace = place.Global x.name in
         let ds : List (List ℕ) = structs_named w in
         let own = left (global_checks w seen x) (globals_checks w (seen ++ x.name ∷ []) gs) h in
         let front : Checks = (is_new seen x.name p ∷ type_checks ds ds p x.ty) ++ (check (nat_le (shape (known w.structs) x.ty).size object_limit) ObjectTooLarge p ∷ check (nat_le (length x.init) (length (shape (known w.structs) x.ty).cells)) BadInit p ∷ []) in

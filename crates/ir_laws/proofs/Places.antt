@@ -10,8 +10,8 @@ use Rattle.ir_model.specs.declared.firmware.Term.TheVariants as term
 use Rattle.ir_model.specs.declared.firmware.Block.{Block}
 use Rattle.ir_model.specs.declared.firmware.Peripheral.{Peripheral}
 use Rattle.ir_model.specs.declared.check.CheckKind.TheVariants.{Unknown, IllTyped}
-use Rattle.ir_model.specs.declared.check.Place.{Place}
-use Rattle.ir_model.specs.declared.check.Place.TheVariants as place
+use Rattle.ir_model.specs.declared.check.CheckPlace.{CheckPlace}
+use Rattle.ir_model.specs.declared.check.CheckPlace.TheVariants as place
 use Rattle.ir_model.specs.Types.{PlainType, U8, U16, U32, Pointer, Array, Named, Callee, PlainTypes, PlainResult, nothing, gives, target_of, element_of}
 use Rattle.ir_model.specs.Plain.{PlainBinding, PlainFunc, PlainGlobal, PlainFirmware, names_of, types_of, funcs_of, regs_of}
 use Rattle.ir_model.specs.Layout.{known, shape, fields_named}
@@ -62,7 +62,7 @@ module _ (w : PlainFirmware) where
         let c = length-map (regs_of f) (λ (s : PlainBinding). s.ty) in
         omega arith
 
-    all_known : (p : Place) (rs : List (List ℕ)) → Pass (registers_known f p rs) → Each IsKnown rs
+    all_known : (p : CheckPlace) (rs : List (List ℕ)) → Pass (registers_known f p rs) → Each IsKnown rs
     all_known p [] h = tt
     all_known p (r ∷ rs) h = (
       known_here r (holds (has (names_of (regs_of f)) r) (Unknown r) p (registers_known f p rs) h),
@@ -228,7 +228,7 @@ module _ (w : PlainFirmware) where
 
       -- ---- the instructions
 
-      inst_typed : (p : Place) (i : Inst) → HasWord i → HasFewArguments i → Pass (inst_names w f p i) → inst_fits w f i ≡ true → Here (resolved_inst (scope_of w) f i)
+      inst_typed : (p : CheckPlace) (i : Inst) → HasWord i → HasFewArguments i → Pass (inst_names w f p i) → inst_fits w f i ≡ true → Here (resolved_inst (scope_of w) f i)
       unfolding inst_fits resolve
       inst_typed p (inst.Const to v) n u h e = let k = all_known p (to ∷ []) h in (number_type to k.0 e, n)
       inst_typed p (inst.Move to from) n v h e =
@@ -289,10 +289,10 @@ module _ (w : PlainFirmware) where
           let n = length-map f.blocks (resolved_block (scope_of w) f) in
           omega arith
 
-      label_holds : (p : Place) (l : List ℕ) (cs : Checks) → Pass (label_known f p l ∷ cs) → number_of (labels_of f) l < length g.blocks
+      label_holds : (p : CheckPlace) (l : List ℕ) (cs : Checks) → Pass (label_known f p l ∷ cs) → number_of (labels_of f) l < length g.blocks
       label_holds p l cs h = label_there l (holds (has (labels_of f) l) (Unknown l) p cs h)
 
-      end_typed : (p : Place) (t : Term) → Pass (term_names f p t) → term_fits f t ≡ true → EndTyped (resolve w) sizes g (resolved_term f t)
+      end_typed : (p : CheckPlace) (t : Term) → Pass (term_names f p t) → term_fits f t ≡ true → EndTyped (resolve w) sizes g (resolved_term f t)
       unfolding term_fits
       end_typed p (term.Jump b) h e = λ z. label_holds p b [] h
       end_typed p (term.Branch on a b) h e =
@@ -309,16 +309,16 @@ module _ (w : PlainFirmware) where
       code_typed : (l : List ℕ) (n : ℕ) (is : List Inst) (t : Term) → Each HasWord is → Each HasFewArguments is → Pass (code_checks w f l n is t)
           → (k : ℕ) → HereTyped (resolve w) sizes g (here_in (map (resolved_inst (scope_of w) f) is) (resolved_term f t) k)
       code_typed l n [] t v u h k =
-          let p : Place = place.Inst f.name l n in
+          let p : CheckPlace = place.Inst f.name l n in
           end_typed p t (left (term_names f p t) (check (term_fits f t) IllTyped p ∷ []) h)
           (holds (term_fits f t) IllTyped p [] (right (term_names f p t) (check (term_fits f t) IllTyped p ∷ []) h))
       code_typed l n (i ∷ is) t v u h zero =
-          let p : Place = place.Inst f.name l n in
+          let p : CheckPlace = place.Inst f.name l n in
           let own = left (inst_names w f p i ++ check (inst_fits w f i) IllTyped p ∷ []) (code_checks w f l (suc n) is t) h in
           inst_typed p i v.0 u.0 (left (inst_names w f p i) (check (inst_fits w f i) IllTyped p ∷ []) own)
           (holds (inst_fits w f i) IllTyped p [] (right (inst_names w f p i) (check (inst_fits w f i) IllTyped p ∷ []) own))
       code_typed l n (i ∷ is) t v u h (suc k) =
-          let p : Place = place.Inst f.name l n in
+          let p : CheckPlace = place.Inst f.name l n in
           code_typed l (suc n) is t v.1 u.1 (right (inst_names w f p i ++ check (inst_fits w f i) IllTyped p ∷ []) (code_checks w f l (suc n) is t) h) k
 
       pub blocks_typed : (bs : List Block) → Each (λ (b : Block). Each HasWord b.insts) bs → Each (λ (b : Block). Each HasFewArguments b.insts) bs → Pass (blocks_checks w f bs)

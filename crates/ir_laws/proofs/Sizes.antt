@@ -1,7 +1,7 @@
 -- The globals and locals of a firmware that passes the checks have at most 65,536 bytes each.
 use Rattle.std.proofs.Common.{◌≤◌, ℕ, zero, suc, List, [], ◌∷◌, get_or, map, arith}
-use Rattle.ir_model.specs.declared.check.Place.{Place}
-use Rattle.ir_model.specs.declared.check.Place.TheVariants as place
+use Rattle.ir_model.specs.declared.check.CheckPlace.{CheckPlace}
+use Rattle.ir_model.specs.declared.check.CheckPlace.TheVariants as place
 use Rattle.ir_model.specs.declared.firmware.Peripheral.{Peripheral}
 use Rattle.ir_model.specs.Plain.{PlainBinding, PlainFunc, PlainGlobal, PlainFirmware, names_of, funcs_of}
 use Rattle.ir_model.specs.Layout.{shape, empty}
@@ -34,7 +34,7 @@ module _ (w : PlainFirmware) where
   small_in [] f l h = omega arith
   small_in (x ∷ fs) zero l h =
       let q = by_parts w x (left (func_checks w x) (funcs_checks w fs) h) in
-      let p : Place = place.Func x.name in
+      let p : CheckPlace = place.Func x.name in
       small_local x.locals l (small_locals w (structs_named w) p (names_of x.params) x.locals q.locals)
   small_in (x ∷ fs) (suc f) l h = small_in fs f l (right (func_checks w x) (funcs_checks w fs) h)
 

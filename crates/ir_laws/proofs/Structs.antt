@@ -4,8 +4,8 @@ use Rattle.std.specs.Prelude.{bytes_eq, if◌then◌else◌}
 use Rattle.std.proofs.lemmas.Bool.{leb-true}
 use Rattle.std.proofs.lemmas.List.{map-append}
 use Rattle.ir_model.specs.declared.check.CheckKind.TheVariants.{Unknown, ObjectTooLarge}
-use Rattle.ir_model.specs.declared.check.Place.{Place}
-use Rattle.ir_model.specs.declared.check.Place.TheVariants as place
+use Rattle.ir_model.specs.declared.check.CheckPlace.{CheckPlace}
+use Rattle.ir_model.specs.declared.check.CheckPlace.TheVariants as place
 use Rattle.ir_model.specs.Types.{PlainType, U8, U16, U32, Pointer, Array, Named, Callee}
 use Rattle.ir_model.specs.Plain.{PlainBinding, PlainStruct}
 use Rattle.ir_model.specs.Layout.{Shape, Known, FieldPlace, empty, shape_named, fields_named, array_of, shape, rounded_up, with_field, laid_out, field_places, with_struct, known_behind, known}
@@ -74,7 +74,7 @@ named_stays : (ks more : List Known) (n : List ℕ) → has (names_in ks) n ≡ 
 named_stays [] more n h = cc
 named_stays (k ∷ ks) more n h = stays_by (bytes_eq k.name n) k.shape (shape_named (ks ++ more) n) (shape_named ks n) (has (names_in ks) n) h (named_stays ks more n)
 
-shape_stays : (ds : List (List ℕ)) (p : Place) (ks more : List Known) (t : PlainType) → Pass (type_checks ds (names_in ks) p t) → shape (ks ++ more) t ≡ shape ks t
+shape_stays : (ds : List (List ℕ)) (p : CheckPlace) (ks more : List Known) (t : PlainType) → Pass (type_checks ds (names_in ks) p t) → shape (ks ++ more) t ≡ shape ks t
 shape_stays ds p ks more U8 h = refl
 shape_stays ds p ks more U16 h = refl
 shape_stays ds p ks more U32 h = refl
@@ -84,12 +84,12 @@ shape_stays ds p ks more (Named n) h = named_stays ks more n (holds (has (names_
 shape_stays ds p ks more (Callee a r) h = refl
 
 -- the type of a field passes
-field_by : (ds es : List (List ℕ)) (p : Place) (b : Bool) (t : PlainType) (o : Option PlainType) → Pass (type_checks ds es p t) → ((u : PlainType) → o ≡ Some u → Pass (type_checks ds es p u))
+field_by : (ds es : List (List ℕ)) (p : CheckPlace) (b : Bool) (t : PlainType) (o : Option PlainType) → Pass (type_checks ds es p t) → ((u : PlainType) → o ≡ Some u → Pass (type_checks ds es p u))
     → (u : PlainType) → (if b then Some t else o) ≡ Some u → Pass (type_checks ds es p u)
 field_by ds es p true t o h r u e = let q : t ≡ u = cc in subst (λ (v : PlainType). Pass (type_checks ds es p v)) q h
 field_by ds es p false t o h r u e = r u e
 
-field_passes : (ds es : List (List ℕ)) (p : Place) (seen : List (List ℕ)) (ks : List Known) (s : Shape) (fs : List PlainBinding) (n : List ℕ) → Pass (field_checks ds es p seen fs)
+field_passes : (ds es : List (List ℕ)) (p : CheckPlace) (seen : List (List ℕ)) (ks : List Known) (s : Shape) (fs : List PlainBinding) (n : List ℕ) → Pass (field_checks ds es p seen fs)
     → (u : PlainType) → field_type (field_places ks s fs) n ≡ Some u → Pass (type_checks ds es p u)
 field_passes ds es p seen ks s [] n h u e = cc
 field_passes ds es p seen ks s (f ∷ fs) n h u e =
@@ -134,7 +134,7 @@ goods : (all : List Known) (ds : List (List ℕ)) (es : List PlainStruct) (ks : 
 unfolding known
 goods all ds es ks [] b n a e h g = subst (λ (x : List Known). Each (GoodIn all) x) e g
 goods all ds es ks (s ∷ ss) b n a e h g =
-    let p : Place = place.Struct s.name in
+    let p : CheckPlace = place.Struct s.name in
     let before : List (List ℕ) = map (λ (d : PlainStruct). d.name) es in
     let k : Known = record { name = s.name; shape = laid_out ks empty s.fields; fields = field_places ks empty s.fields } in
     let own = left (struct_checks ds es s) (structs_checks ds (es ++ s ∷ []) ss) h in

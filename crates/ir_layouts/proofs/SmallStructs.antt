@@ -2,8 +2,8 @@
 use Rattle.std.proofs.Common.{ℕ, List, [], ◌∷◌, ◌++◌, map, inl, inr, nat_le, arith}
 use Rattle.std.proofs.lemmas.Bool.{leb-true}
 use Rattle.ir_model.specs.declared.check.CheckKind.TheVariants.{ObjectTooLarge}
-use Rattle.ir_model.specs.declared.check.Place.{Place}
-use Rattle.ir_model.specs.declared.check.Place.TheVariants as place
+use Rattle.ir_model.specs.declared.check.CheckPlace.{CheckPlace}
+use Rattle.ir_model.specs.declared.check.CheckPlace.TheVariants as place
 use Rattle.ir_model.specs.Plain.{PlainStruct, PlainFirmware}
 use Rattle.ir_model.specs.Typing.{Checks, check, is_new, object_limit, field_checks, struct_checks, structs_checks, IsTyped}
 use Rattle.ir_model.proofs.Passing.{Pass, left, right, holds}
@@ -14,7 +14,7 @@ use Rattle.ir_layouts.specs.Tables.{HasTooLarge}
 -- a struct that passes its checks
 small : (ds : List (List ℕ)) (es : List PlainStruct) (s : PlainStruct) → Pass (struct_checks ds es s) → IsTooLarge es s → ⊥
 small ds es s h t =
-    let p : Place = place.Struct s.name in
+    let p : CheckPlace = place.Struct s.name in
     let before : List (List ℕ) = map (λ (e : PlainStruct). e.name) es in
     let size : ℕ = (struct_shape es s).size in
     let front : Checks = is_new before s.name p ∷ field_checks ds before p [] s.fields in

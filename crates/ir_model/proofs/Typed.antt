@@ -2,8 +2,8 @@
 use Rattle.std.proofs.Common.{◌≡◌, ℕ, zero, suc, ◌<◌, true, List, [], ◌∷◌, ◌++◌, map, length, slice_index_or, subst, arith, nat_le}
 use Rattle.std.specs.List.{Contains}
 use Rattle.ir_model.specs.declared.check.CheckKind.TheVariants.{FrameTooLarge, NoMain}
-use Rattle.ir_model.specs.declared.check.Place.{Place}
-use Rattle.ir_model.specs.declared.check.Place.TheVariants as place
+use Rattle.ir_model.specs.declared.check.CheckPlace.{CheckPlace}
+use Rattle.ir_model.specs.declared.check.CheckPlace.TheVariants as place
 use Rattle.ir_model.specs.declared.firmware.Peripheral.{Peripheral}
 use Rattle.ir_model.specs.Plain.{PlainStruct, PlainGlobal, PlainFunc, PlainFirmware, funcs_of, names_of}
 use Rattle.ir_model.specs.Layout.{known}
@@ -62,7 +62,7 @@ pub record FuncPasses (w : PlainFirmware) (f : PlainFunc) : Type 0 where
 -- a function by itself
 pub by_parts : (w : PlainFirmware) (f : PlainFunc) → Pass (func_checks w f) → FuncPasses w f
 by_parts w f h =
-    let spot : Place = place.Func f.name in
+    let spot : CheckPlace = place.Func f.name in
     let n : ℕ = frame_size (known w.structs) f in
     let p : Checks = register_checks (structs_named w) spot [] f.params in
     let o : Checks = outcome_checks (structs_named w) spot f.outcome in

@@ -5,8 +5,8 @@ use Rattle.std.specs.List.{list_all}
 use Rattle.base_ranges.specs.Ranges.{are_apart, is_window_size, is_window_place}
 use Rattle.ir_model.specs.declared.check.CheckKind.{CheckKind}
 use Rattle.ir_model.specs.declared.check.CheckKind.TheVariants.{Unknown, Twice, IllTyped, NoMain, BadWindow, WindowOverlap, BadInit, ObjectTooLarge, FrameTooLarge}
-use Rattle.ir_model.specs.declared.check.Place.{Place}
-use Rattle.ir_model.specs.declared.check.Place.TheVariants as place
+use Rattle.ir_model.specs.declared.check.CheckPlace.{CheckPlace}
+use Rattle.ir_model.specs.declared.check.CheckPlace.TheVariants as place
 use Rattle.ir_model.specs.declared.firmware.Inst.{Inst}
 use Rattle.ir_model.specs.declared.firmware.Inst.TheVariants as inst
 use Rattle.ir_model.specs.declared.firmware.Term.{Term}
@@ -25,12 +25,12 @@ use Rattle.ir_model.specs.Rules.{global_type, func_type, is_type, is_address, is
 
 pub record Failing : Type 0 where
   pub kind : CheckKind
-  pub place : Place
+  pub place : CheckPlace
 
 abbrev pub Checks : Type 0
 Checks = List (Option Failing)
 
-abbrev pub check : (holds : Bool) → CheckKind → Place → Option Failing
+abbrev pub check : (holds : Bool) → CheckKind → CheckPlace → Option Failing
 check true k p = None
 check false k p = Some (record { kind = k; place = p })
 
@@ -40,16 +40,16 @@ first_failing (None ∷ cs) = first_failing cs
 first_failing (Some e ∷ cs) = Some e
 
 -- a name that is new among others
-abbrev pub is_new : List (List ℕ) → List ℕ → Place → Option Failing
+abbrev pub is_new : List (List ℕ) → List ℕ → CheckPlace → Option Failing
 is_new seen n p = check (not (has seen n)) (Twice n) p
 
 -- a name that is there
-abbrev pub is_known : (there : Bool) → List ℕ → Place → Option Failing
+abbrev pub is_known : (there : Bool) → List ℕ → CheckPlace → Option Failing
 is_known there n p = check there (Unknown n) p
 
 -- the struct names of a type from left to right: each declared, and one behind no pointer and no `fn` declared earlier
 abbrev mutual
-  pub type_checks : (declared earlier : List (List ℕ)) → Place → PlainType → Checks
+  pub type_checks : (declared earlier : List (List ℕ)) → CheckPlace → PlainType → Checks
   type_checks ds es p U8 = []
   type_checks ds es p U16 = []
   type_checks ds es p U32 = []
@@ -58,11 +58,11 @@ abbrev mutual
   type_checks ds es p (Named n) = is_known (has es n) n p ∷ []
   type_checks ds es p (Callee a r) = row_checks ds p a ++ result_checks ds p r
 
-  pub row_checks : (declared : List (List ℕ)) → Place → PlainTypes → Checks
+  pub row_checks : (declared : List (List ℕ)) → CheckPlace → PlainTypes → Checks
   row_checks ds p none = []
   row_checks ds p (more t ts) = type_checks ds ds p t ++ row_checks ds p ts
 
-  pub result_checks : (declared : List (List ℕ)) → Place → PlainResult → Checks
+  pub result_checks : (declared : List (List ℕ)) → CheckPlace → PlainResult → Checks
   result_checks ds p nothing = []
   result_checks ds p (gives t) = type_checks ds ds p t
 
@@ -70,14 +70,14 @@ abbrev pub object_limit : ℕ
 object_limit = 65536
 
 -- structs: the name, the fields, and after the last field the size
-abbrev pub field_checks : (declared earlier : List (List ℕ)) → Place → (seen : List (List ℕ)) → List PlainBinding → Checks
+abbrev pub field_checks : (declared earlier : List (List ℕ)) → CheckPlace → (seen : List (List ℕ)) → List PlainBinding → Checks
 field_checks ds es p seen [] = []
 field_checks ds es p seen (s ∷ ss) =
     (is_new seen s.name p ∷ type_checks ds es p s.ty) ++ field_checks ds es p (seen ++ s.name ∷ []) ss
 
 abbrev pub struct_checks : (declared : List (List ℕ)) → (earlier : List PlainStruct) → PlainStruct → Checks
 struct_checks ds es s =
-    let p : Place = place.Struct s.name in
+    let p : CheckPlace = place.Struct s.name in
     let before : List (List ℕ) = map (λ (e : PlainStruct). e.name) es in
     (is_new before s.name p ∷ field_checks ds before p [] s.fields) ++ check (nat_le (laid_out (known es) empty s.fields).size object_limit) ObjectTooLarge p ∷ []
 
@@ -101,7 +101,7 @@ periph_checks es (q ∷ qs) =
     ∷ []) ++ periph_checks (es ++ q ∷ []) qs
 
 -- globals: the name, the type, the size, and the cells
-abbrev pub cell_checks : PlainFirmware → Place → Cell → PlainType → Checks
+abbrev pub cell_checks : PlainFirmware → CheckPlace → Cell → PlainType → Checks
 cell_checks w p (Word n) t = check (is_integer t && nat_lt n (2 ^ (8 * width_of t))) BadInit p ∷ []
 cell_checks w p (Function f) t =
     is_known (has (map (λ (g : PlainFunc). g.name) (funcs_of w)) f) f p ∷ check (is_type (func_type (funcs_of w) f) t) BadInit p ∷ []
@@ -110,14 +110,14 @@ cell_checks w p (Address x) t =
     let is_global : Bool = has (map (λ (g : PlainGlobal). g.name) w.globals) x in
     is_known (is_periph || is_global) x p ∷ check (if is_periph then is_port t else is_address (global_type w.globals x) t) BadInit p ∷ []
 
-abbrev pub init_checks : PlainFirmware → Place → List Cell → List CellPlace → Checks
+abbrev pub init_checks : PlainFirmware → CheckPlace → List Cell → List CellPlace → Checks
 init_checks w p [] ts = []
 init_checks w p (c ∷ cs) [] = []
 init_checks w p (c ∷ cs) (t ∷ ts) = cell_checks w p c t.ty ++ init_checks w p cs ts
 
 abbrev pub global_checks : PlainFirmware → (seen : List (List ℕ)) → PlainGlobal → Checks
 global_checks w seen g =
-    let p : Place = place.Global g.name in
+    let p : CheckPlace = place.Global g.name in
     let ks : List Known = known w.structs in
     let ds : List (List ℕ) = map (λ (s : PlainStruct). s.name) w.structs in
     (is_new seen g.name p ∷ type_checks ds ds p g.ty)
@@ -140,26 +140,26 @@ file_checks es seen (f ∷ fs) =
     ++ file_checks (es ++ f.name ∷ []) (seen ++ map (λ (g : PlainFunc). g.name) f.funcs) fs
 
 -- parameters and registers: the name, the type's names, a register's type
-abbrev pub register_checks : (declared : List (List ℕ)) → Place → (seen : List (List ℕ)) → List PlainBinding → Checks
+abbrev pub register_checks : (declared : List (List ℕ)) → CheckPlace → (seen : List (List ℕ)) → List PlainBinding → Checks
 register_checks ds p seen [] = []
 register_checks ds p seen (s ∷ ss) =
     (is_new seen s.name p ∷ type_checks ds ds p s.ty) ++ check (is_register_type s.ty) IllTyped p ∷ [] ++ register_checks ds p (seen ++ s.name ∷ []) ss
 
-abbrev pub outcome_checks : (declared : List (List ℕ)) → Place → PlainResult → Checks
+abbrev pub outcome_checks : (declared : List (List ℕ)) → CheckPlace → PlainResult → Checks
 outcome_checks ds p nothing = []
 outcome_checks ds p (gives t) = type_checks ds ds p t ++ check (is_register_type t) IllTyped p ∷ []
 
-abbrev pub local_checks : PlainFirmware → (declared : List (List ℕ)) → Place → (seen : List (List ℕ)) → List PlainBinding → Checks
+abbrev pub local_checks : PlainFirmware → (declared : List (List ℕ)) → CheckPlace → (seen : List (List ℕ)) → List PlainBinding → Checks
 local_checks w ds p seen [] = []
 local_checks w ds p seen (s ∷ ss) =
     (is_new seen s.name p ∷ type_checks ds ds p s.ty) ++ check (nat_le (shape (known w.structs) s.ty).size object_limit) ObjectTooLarge p ∷ [] ++ local_checks w ds p (seen ++ s.name ∷ []) ss
 
-abbrev pub label_checks : Place → (seen : List (List ℕ)) → List Block → Checks
+abbrev pub label_checks : CheckPlace → (seen : List (List ℕ)) → List Block → Checks
 label_checks p seen [] = []
 label_checks p seen (b ∷ bs) = is_new seen b.label p ∷ label_checks p (seen ++ b.label ∷ []) bs
 
 -- the names of an instruction from left to right
-abbrev pub registers_known : PlainFunc → Place → List (List ℕ) → Checks
+abbrev pub registers_known : PlainFunc → CheckPlace → List (List ℕ) → Checks
 registers_known f p [] = []
 registers_known f p (r ∷ rs) = is_known (has (names_of (regs_of f)) r) r p ∷ registers_known f p rs
 
@@ -173,7 +173,7 @@ has_address w f x = has (names_of f.locals) x || (has (map (λ (q : Peripheral).
 abbrev pub has_func : PlainFirmware → List ℕ → Bool
 has_func w g = has (map (λ (f : PlainFunc). f.name) (funcs_of w)) g
 
-abbrev pub inst_names : PlainFirmware → PlainFunc → Place → Inst → Checks
+abbrev pub inst_names : PlainFirmware → PlainFunc → CheckPlace → Inst → Checks
 inst_names w f p (inst.Const to v) = registers_known f p (to ∷ [])
 inst_names w f p (inst.Move to from) = registers_known f p (to ∷ from ∷ [])
 inst_names w f p (inst.Bin op to a b) = registers_known f p (to ∷ a ∷ b ∷ [])
@@ -187,10 +187,10 @@ inst_names w f p (inst.Store to from) = registers_known f p (to ∷ from ∷ [])
 inst_names w f p (inst.Call to g args) = registers_known f p (optional_name to) ++ is_known (has_func w g) g p ∷ [] ++ registers_known f p args
 inst_names w f p (inst.ICall to g args) = registers_known f p (optional_name to) ++ registers_known f p (g ∷ args)
 
-abbrev pub label_known : PlainFunc → Place → List ℕ → Option Failing
+abbrev pub label_known : PlainFunc → CheckPlace → List ℕ → Option Failing
 label_known f p l = is_known (has (labels_of f) l) l p
 
-abbrev pub term_names : PlainFunc → Place → Term → Checks
+abbrev pub term_names : PlainFunc → CheckPlace → Term → Checks
 term_names f p (term.Jump b) = label_known f p b ∷ []
 term_names f p (term.Branch on a b) = registers_known f p (on ∷ []) ++ label_known f p a ∷ label_known f p b ∷ []
 term_names f p (term.Ret v) = registers_known f p (optional_name v)
@@ -198,10 +198,10 @@ term_names f p (term.Ret v) = registers_known f p (optional_name v)
 -- a block, from the instruction of this number on
 abbrev pub code_checks : PlainFirmware → PlainFunc → (label : List ℕ) → (number : ℕ) → List Inst → Term → Checks
 code_checks w f l k [] t =
-    let p : Place = place.Inst f.name l k in
+    let p : CheckPlace = place.Inst f.name l k in
     term_names f p t ++ check (term_fits f t) IllTyped p ∷ []
 code_checks w f l k (i ∷ is) t =
-    let p : Place = place.Inst f.name l k in
+    let p : CheckPlace = place.Inst f.name l k in
     inst_names w f p i ++ check (inst_fits w f i) IllTyped p ∷ [] ++ code_checks w f l (suc k) is t
 
 abbrev pub blocks_checks : PlainFirmware → PlainFunc → List Block → Checks
@@ -214,7 +214,7 @@ frame_limit = 992
 -- a function: its bindings in order, its frame, its labels, and its code
 abbrev pub func_checks : PlainFirmware → PlainFunc → Checks
 func_checks w f =
-    let p : Place = place.Func f.name in
+    let p : CheckPlace = place.Func f.name in
     let ds : List (List ℕ) = map (λ (s : PlainStruct). s.name) w.structs in
     let n : ℕ = frame_size (known w.structs) f in
     register_checks ds p [] f.params

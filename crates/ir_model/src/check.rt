@@ -31,7 +31,7 @@ pub enum CheckKind {
 
 /// Where a check fails.
 #[derive(Drop, Debug)]
-pub enum Place {
+pub enum CheckPlace {
     /// In a struct.
     Struct(Name),
     /// In a peripheral.
@@ -71,19 +71,19 @@ impl fmt::Display for CheckKind {
     }
 }
 
-impl fmt::Display for Place {
+impl fmt::Display for CheckPlace {
     fn fmt<W: fmt::Write>(&self, f: &mut fmt::Formatter<W>) -> fmt::Result {
         match self {
-            Place::Struct(name) => write!(f, "struct {name}"),
-            Place::Periph(name) => write!(f, "peripheral {name}"),
-            Place::Global(name) => write!(f, "global {name}"),
-            Place::File(name) => write!(f, "file {name}"),
-            Place::Func(name) => write!(f, "function {name}"),
-            Place::Inst { func, block, inst } => write!(
+            CheckPlace::Struct(name) => write!(f, "struct {name}"),
+            CheckPlace::Periph(name) => write!(f, "peripheral {name}"),
+            CheckPlace::Global(name) => write!(f, "global {name}"),
+            CheckPlace::File(name) => write!(f, "file {name}"),
+            CheckPlace::Func(name) => write!(f, "function {name}"),
+            CheckPlace::Inst { func, block, inst } => write!(
                 f,
                 "{func} block {block} instruction {inst}"
             ),
-            Place::Whole => f.write_str("firmware"),
+            CheckPlace::Whole => f.write_str("firmware"),
         }
     }
 }

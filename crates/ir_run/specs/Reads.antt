@@ -2,9 +2,9 @@
 use Rattle.std.specs.Prelude.{List, [], ◌∷◌}
 use Rattle.ir_model.specs.Resolved.{Value}
 use Rattle.ir_model.specs.State.{Frame, SourceState, Running, Ended}
-use Rattle.ir_run.specs.declared.reads.Spot.{Spot}
+use Rattle.ir_run.specs.declared.reads.FramePlace.{FramePlace}
 
-abbrev pub spot_of : Frame → Spot
+abbrev pub spot_of : Frame → FramePlace
 spot_of fr = record { func = fr.func; block = fr.block; place = fr.place }
 
 -- the running frame first; a run that has ended has none

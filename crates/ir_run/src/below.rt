@@ -13,7 +13,7 @@ ghost use Rattle.ir_run.specs.Places.{HasNext};
 ghost use Rattle.ir_run.specs.Reads.{spot_of};
 
 use crate::frame::Frame;
-use crate::reads::{Spot, standing};
+use crate::reads::{FramePlace, standing};
 use crate::search::place_of;
 use ir_program::value::Value;
 use std::alloc::{AllocError, Global};
@@ -91,7 +91,7 @@ impl Below {
     }
 
     /// Puts where each frame stands, in their order.
-    pub fn put_spots(&self, spots: &mut Vec<Spot>) -> Result<(), AllocError>
+    pub fn put_spots(&self, spots: &mut Vec<FramePlace>) -> Result<(), AllocError>
         ensures { OnOk result (spots.new.items ≡ spots.old.items ++ map spot_of (map frame_of self.now)) }
     {
         let frames = self.frames.as_slice();

@@ -11,7 +11,7 @@ use std::alloc::{AllocError, Global};
 
 /// Where a frame stands.
 #[derive(Clone, Copy, PartialEq, Eq, Debug)]
-pub struct Spot {
+pub struct FramePlace {
     /// The function.
     pub func: u16,
     /// The block of that function.
@@ -21,10 +21,10 @@ pub struct Spot {
 }
 
 /// Where a frame stands.
-pub(crate) fn standing(frame: &Frame) -> Spot
+pub(crate) fn standing(frame: &Frame) -> FramePlace
     ensures { result ≡ spot_of (frame_of frame.now) }
 {
-    Spot {
+    FramePlace {
         func: frame.func,
         block: frame.block,
         place: frame.place,
@@ -36,7 +36,7 @@ pub(crate) fn standing(frame: &Frame) -> Spot
 /// # Errors
 ///
 /// There is no memory for it.
-pub(crate) fn spots(alloc: Global, parts: &Parts) -> Result<Vec<Spot>, AllocError>
+pub(crate) fn spots(alloc: Global, parts: &Parts) -> Result<Vec<FramePlace>, AllocError>
     ensures { IfOk result (λ spots. spots.items ≡ map spot_of (frames_of (running_of parts.now))) }
 {
     let mut spots = Vec::new(alloc);

@@ -11,7 +11,7 @@ ghost use Rattle.ir_run.specs.Phases.{state_of};
 
 use crate::outcome::{SourceEnd, SourceStep};
 use crate::parts::Parts;
-use crate::reads::{Spot, spots};
+use crate::reads::{FramePlace, spots};
 use crate::starting::started;
 use crate::turn::turn;
 use base_lists::ListVec;
@@ -177,7 +177,7 @@ impl<'a> SourceRun<'a> {
     /// # Errors
     ///
     /// There is no memory for it.
-    pub fn spots(&self) -> Result<Vec<Spot>, AllocError>
+    pub fn spots(&self) -> Result<Vec<FramePlace>, AllocError>
         ensures { IfOk result (λ spots. spots.items ≡ map spot_of (frames_of self.now.state)) }
     {
         match &self.phase {

@@ -6,8 +6,8 @@ use Rattle.base_laws.proofs.Lists.{each_both, each_to, each_left, each_right}
 use Rattle.base_names.specs.Numbers.{has}
 use Rattle.ir_model.specs.declared.check.CheckKind.{CheckKind}
 use Rattle.ir_model.specs.declared.check.CheckKind.TheVariants.{NoMain}
-use Rattle.ir_model.specs.declared.check.Place.{Place}
-use Rattle.ir_model.specs.declared.check.Place.TheVariants as place
+use Rattle.ir_model.specs.declared.check.CheckPlace.{CheckPlace}
+use Rattle.ir_model.specs.declared.check.CheckPlace.TheVariants as place
 use Rattle.ir_model.specs.declared.firmware.Block.{Block}
 use Rattle.ir_model.specs.declared.firmware.Peripheral.{Peripheral}
 use Rattle.ir_model.specs.Plain.{PlainStruct, PlainGlobal, PlainFunc, PlainFile, PlainFirmware, funcs_of}
@@ -35,7 +35,7 @@ pub record FoundCode (fs : List PlainFunc) (f l : List ℕ) (i : ℕ) : Type 0 w
   pub label : block.label ≡ l
   pub in_block : i ≤ length block.insts
 
-abbrev pub Found : PlainFirmware → Place → Type 0
+abbrev pub Found : PlainFirmware → CheckPlace → Type 0
 Found w place.Whole = Unit {0}
 Found w (place.Struct n) = has (struct_row w) n ≡ true
 Found w (place.Periph n) = has (periph_row w) n ≡ true
@@ -71,7 +71,7 @@ abbrev New : (seen ns : Names) → Type 0
 New seen [] = Unit {0}
 New seen (n ∷ ns) = (has seen n ≡ false) × New (seen ++ n ∷ []) ns
 
-new_by : (b : Bool) (k : CheckKind) (p : Place) (cs : Checks) → first_failing (check (not b) k p ∷ cs) ≡ None → (b ≡ false) × (first_failing cs ≡ None)
+new_by : (b : Bool) (k : CheckKind) (p : CheckPlace) (cs : Checks) → first_failing (check (not b) k p ∷ cs) ≡ None → (b ≡ false) × (first_failing cs ≡ None)
 new_by true k p cs h = cc
 new_by false k p cs h = (refl, h)
 
@@ -98,7 +98,7 @@ file_names_new es seen (f ∷ fs) h =
     subst (λ (ns : Names). New seen ns) (sym (both_names f.funcs (flat_map (λ (f : PlainFile). f.funcs) fs)))
     (new_both seen (func_names f.funcs) _ (func_names_new seen f.funcs r.1) (file_names_new (es ++ f.name ∷ []) (seen ++ func_names f.funcs) fs (right own more (record { none = h })).none))
 
-labels_new : (p : Place) (seen : Names) (bs : List Block) → first_failing (label_checks p seen bs) ≡ None → New seen (labels bs)
+labels_new : (p : CheckPlace) (seen : Names) (bs : List Block) → first_failing (label_checks p seen bs) ≡ None → New seen (labels bs)
 labels_new p seen [] h = tt
 labels_new p seen (b ∷ bs) h =
     let r = new_by (has seen b.label) _ _ (label_checks p (seen ++ b.label ∷ []) bs) h in

@@ -4,8 +4,8 @@ use Rattle.base_laws.specs.Lists.{Each}
 use Rattle.base_laws.proofs.Lists.{each_both}
 use Rattle.ir_model.specs.declared.check.CheckKind.{CheckKind}
 use Rattle.ir_model.specs.declared.check.CheckKind.TheVariants.{IllTyped, BadInit, ObjectTooLarge, FrameTooLarge}
-use Rattle.ir_model.specs.declared.check.Place.{Place}
-use Rattle.ir_model.specs.declared.check.Place.TheVariants as place
+use Rattle.ir_model.specs.declared.check.CheckPlace.{CheckPlace}
+use Rattle.ir_model.specs.declared.check.CheckPlace.TheVariants as place
 use Rattle.ir_model.specs.declared.firmware.Inst.{Inst}
 use Rattle.ir_model.specs.declared.firmware.Inst.TheVariants as inst
 use Rattle.ir_model.specs.declared.firmware.Term.{Term}
@@ -32,7 +32,7 @@ either [] ys e h = inr (refl, h)
 either (None ∷ xs) ys e h = either xs ys e h
 either (Some x ∷ xs) ys e h = inl h
 
-module _ (Q : Place → Type 0) where
+module _ (Q : CheckPlace → Type 0) where
   abbrev pub Keeps : Option Failing → Type 0
   Keeps None = Unit {0}
   Keeps (Some e) = Q e.place
@@ -45,11 +45,11 @@ module _ (Q : Place → Type 0) where
   keeps_first (None ∷ cs) e k h = keeps_first cs e k.1 h
   keeps_first (Some x ∷ cs) e k h = same_place x e h k.0
 
-  pub one : (b : Bool) (k : CheckKind) (p : Place) → Q p → Keeps (check b k p)
+  pub one : (b : Bool) (k : CheckKind) (p : CheckPlace) → Q p → Keeps (check b k p)
   one true k p q = tt
   one false k p q = q
 
-  module _ (p : Place) (q : Q p) where
+  module _ (p : CheckPlace) (q : Q p) where
     mutual
       types : (ds es : List (List ℕ)) (t : PlainType) → Each Keeps (type_checks ds es p t)
       types ds es U8 = tt
@@ -143,7 +143,7 @@ module _ (Q : Place → Type 0) where
   structs_keep ds es [] h = tt
   structs_keep ds es (s ∷ ss) h =
       let before : List (List ℕ) = map (λ (e : PlainStruct). e.name) es in
-      let p : Place = place.Struct s.name in
+      let p : CheckPlace = place.Struct s.name in
       each_both Keeps (struct_checks ds es s) (structs_checks ds (es ++ s ∷ []) ss)
       (each_both Keeps (is_new before s.name p ∷ field_checks ds before p [] s.fields) _ (one _ _ p h.0, fields p h.0 ds before [] s.fields) (one _ _ p h.0, tt))
       (structs_keep ds (es ++ s ∷ []) ss h.1)
@@ -151,13 +151,13 @@ module _ (Q : Place → Type 0) where
   pub periphs_keep : (es qs : List Peripheral) → Each (λ (q : Peripheral). Q (place.Periph q.name)) qs → Each Keeps (periph_checks es qs)
   periphs_keep es [] h = tt
   periphs_keep es (q ∷ qs) h =
-      let p : Place = place.Periph q.name in
+      let p : CheckPlace = place.Periph q.name in
       (one _ _ p h.0, (one _ _ p h.0, (one _ _ p h.0, periphs_keep (es ++ q ∷ []) qs h.1)))
 
   pub globals_keep : (w : PlainFirmware) (seen : List (List ℕ)) (gs : List PlainGlobal) → Each (λ (g : PlainGlobal). Q (place.Global g.name)) gs → Each Keeps (globals_checks w seen gs)
   globals_keep w seen [] h = tt
   globals_keep w seen (g ∷ gs) h =
-      let p : Place = place.Global g.name in
+      let p : CheckPlace = place.Global g.name in
       let ds : List (List ℕ) = map (λ (s : PlainStruct). s.name) w.structs in
       let first : Checks = is_new seen g.name p ∷ type_checks ds ds p g.ty in
       let sizes : Checks =
@@ -208,7 +208,7 @@ module _ (Q : Place → Type 0) where
   pub func_keeps : (w : PlainFirmware) (f : PlainFunc) (e : Failing) → Q (place.Func f.name) → (first_failing (label_checks (place.Func f.name) [] f.blocks) ≡ None → Each (HasPlaces f) f.blocks)
       → first_failing (func_checks w f) ≡ Some e → Q e.place
   func_keeps w f e q h x =
-      let p : Place = place.Func f.name in
+      let p : CheckPlace = place.Func f.name in
       let ds : List (List ℕ) = map (λ (s : PlainStruct). s.name) w.structs in
       let n : ℕ = frame_size (known w.structs) f in
       let bindings : Checks =
@@ -227,7 +227,7 @@ module _ (Q : Place → Type 0) where
       (λ i. labels_pass (nat_le n frame_limit) (FrameTooLarge n) p (label_checks p [] f.blocks) i)
       x
     where
-      labels_pass : (b : Bool) (k : CheckKind) (p : Place) (cs : Checks) → first_failing (check b k p ∷ cs) ≡ None → first_failing cs ≡ None
+      labels_pass : (b : Bool) (k : CheckKind) (p : CheckPlace) (cs : Checks) → first_failing (check b k p ∷ cs) ≡ None → first_failing cs ≡ None
       labels_pass true k p cs i = i
       labels_pass false k p cs i = cc
 

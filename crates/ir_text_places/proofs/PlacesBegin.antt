@@ -5,8 +5,8 @@ use Rattle.std.proofs.lemmas.Slice.Eq.{bytes_eq-Decides}
 use Rattle.std.proofs.Math.Seq.{drop-append_seam}
 use Rattle.base_names.specs.Numbers.{has, number_of}
 use Rattle.ir_model.specs.declared.check.CheckKind.{CheckKind}
-use Rattle.ir_model.specs.declared.check.Place.{Place}
-use Rattle.ir_model.specs.declared.check.Place.TheVariants as place
+use Rattle.ir_model.specs.declared.check.CheckPlace.{CheckPlace}
+use Rattle.ir_model.specs.declared.check.CheckPlace.TheVariants as place
 use Rattle.ir_model.specs.declared.firmware.Block.{Block}
 use Rattle.ir_model.specs.declared.firmware.Peripheral.{Peripheral}
 use Rattle.ir_model.specs.declared.token.Keyword.TheVariants as key
@@ -234,7 +234,7 @@ module _ (w : PlainFirmware) where
         begin = code_begins w k c.func c.funcs_behind d j c.block c.blocks_behind e i c.in_block;
       }
 
-  place_begins : (k : CheckKind) (p : Place) → Found w p → BeginAs w p (drop (tokens_before w (item_at w k p)) (tokens_of w))
+  place_begins : (k : CheckKind) (p : CheckPlace) → Found w p → BeginAs w p (drop (tokens_before w (item_at w k p)) (tokens_of w))
   place_begins k place.Whole h = tt
   place_begins k (place.Struct n) h = struct_begins w _ n (in_row_at (λ (s : PlainStruct). s.name) w.structs [] (is_again k n && not (is_of_field w n)) n h)
   place_begins k (place.Periph n) h = periph_begins w _ n (in_row_at (λ (q : Peripheral). q.name) w.periphs [] (is_again k n) n h)

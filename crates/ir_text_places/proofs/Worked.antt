@@ -19,8 +19,8 @@ use Rattle.ir_model.specs.declared.firmware.Term.TheVariants.{Ret}
 use Rattle.ir_model.specs.declared.firmware.Cell.TheVariants.{Word}
 use Rattle.ir_model.specs.declared.check.CheckKind.{CheckKind}
 use Rattle.ir_model.specs.declared.check.CheckKind.TheVariants.{IllTyped, Twice}
-use Rattle.ir_model.specs.declared.check.Place.{Place}
-use Rattle.ir_model.specs.declared.check.Place.TheVariants as place
+use Rattle.ir_model.specs.declared.check.CheckPlace.{CheckPlace}
+use Rattle.ir_model.specs.declared.check.CheckPlace.TheVariants as place
 use Rattle.ir_model.specs.Types.{U32, Pointer, Named, nothing}
 use Rattle.ir_model.specs.Plain.{PlainFirmware}
 use Rattle.ir_text_places.specs.declared.item.Item.{Item}
@@ -96,7 +96,7 @@ unfolding tokens_before
 end_of_block = refl
 
 -- which items faults name
-abbrev Means : CheckKind → Place → Item → Type 0
+abbrev Means : CheckKind → CheckPlace → Item → Type 0
 Means k p i = item_of small (record { kind = k; place = p }) ≡ i
 
 struct_named : Means IllTyped (place.Struct (codes "B")) (item.Struct 1)

@@ -3,8 +3,8 @@ use Rattle.std.specs.Prelude.{ℕ, suc, ◌+◌, List, [], ◌∷◌, ◌++◌, 
 use Rattle.base_names.specs.Numbers.{has, number_of}
 use Rattle.ir_model.specs.declared.check.CheckKind.{CheckKind}
 use Rattle.ir_model.specs.declared.check.CheckKind.TheVariants.{Twice}
-use Rattle.ir_model.specs.declared.check.Place.{Place}
-use Rattle.ir_model.specs.declared.check.Place.TheVariants as place
+use Rattle.ir_model.specs.declared.check.CheckPlace.{CheckPlace}
+use Rattle.ir_model.specs.declared.check.CheckPlace.TheVariants as place
 use Rattle.ir_model.specs.declared.firmware.Peripheral.{Peripheral}
 use Rattle.ir_model.specs.Plain.{PlainStruct, PlainGlobal, PlainFunc, PlainFile, PlainFirmware, names_of, funcs_of}
 use Rattle.ir_model.specs.Resolve.{labels_of}
@@ -70,7 +70,7 @@ code_at fs f b i =
     let k : ℕ = number_of (func_names fs) f in
     item.Code k (number_of (first_labels (drop k fs)) b) i
 
-abbrev pub item_at : PlainFirmware → CheckKind → Place → Item
+abbrev pub item_at : PlainFirmware → CheckKind → CheckPlace → Item
 item_at w k place.Whole = item.Whole
 item_at w k (place.Struct n) = item.Struct (number_in [] (struct_row w) (is_again k n && not (is_of_field w n)) n)
 item_at w k (place.Periph n) = item.Periph (number_in [] (periph_row w) (is_again k n) n)

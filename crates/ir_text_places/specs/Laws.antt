@@ -2,8 +2,8 @@
 -- The law that the tokens before which the place of a fault stands begin as the item does that the fault names.
 use Rattle.std.specs.Prelude.{◌≡◌, ◌≤◌, ◌⊎◌, ℕ, zero, suc, List, [], ◌∷◌, ◌++◌, length, drop, Some, None}
 use Rattle.std.specs.List.{Contains}
-use Rattle.ir_model.specs.declared.check.Place.{Place}
-use Rattle.ir_model.specs.declared.check.Place.TheVariants as place
+use Rattle.ir_model.specs.declared.check.CheckPlace.{CheckPlace}
+use Rattle.ir_model.specs.declared.check.CheckPlace.TheVariants as place
 use Rattle.ir_model.specs.declared.firmware.Inst.{Inst}
 use Rattle.ir_model.specs.declared.firmware.Term.{Term}
 use Rattle.ir_model.specs.declared.firmware.Block.{Block}
@@ -39,7 +39,7 @@ pub record BeginInCode (w : PlainFirmware) (f l : List ℕ) (i : ℕ) (ts : List
   pub begin : BeginWith (tokens (line_at i block.insts block.term)) ts
 
 -- tokens begin as what stands at the place of a fault
-abbrev pub BeginAs : PlainFirmware → Place → List Token → Type 0
+abbrev pub BeginAs : PlainFirmware → CheckPlace → List Token → Type 0
 BeginAs w place.Whole ts = Unit {0}
 BeginAs w (place.Struct n) ts = BeginWith (Key key.Struct ∷ Name n ∷ []) ts
 BeginAs w (place.Periph n) ts = BeginWith (Key key.Periph ∷ Name n ∷ []) ts

@@ -14,7 +14,7 @@ use crate::rows::{
     put_labels, put_periphs, put_structs,
 };
 use base_names::Name;
-use ir_model::check::{CheckKind, Place};
+use ir_model::check::{CheckKind, CheckPlace};
 use ir_model::firmware::{FileDecl, Firmware, Func, StructDecl};
 use std::alloc::{AllocError, Global};
 
@@ -226,21 +226,21 @@ pub fn item(
     firmware: &Firmware,
     bodies: &[&Func],
     kind: &CheckKind,
-    place: &Place,
+    place: &CheckPlace,
 ) -> Result<Item, AllocError>
     requires { lent_funcs bodies.now ≡ funcs_of (firmware_of firmware.now) }
     ensures { IfOk result (λ i. i ≡ item_at (firmware_of firmware.now) kind.now place.now) }
 {
     match place {
-        Place::Whole => Ok(Item::Whole),
-        Place::Struct(name) => Ok(Item::Struct(struct_number(alloc, firmware, kind, name)?)),
-        Place::Periph(name) => Ok(Item::Periph(periph_number(alloc, firmware, kind, name)?)),
-        Place::Global(name) => Ok(Item::Global(global_number(alloc, firmware, kind, name)?)),
-        Place::File(name) => Ok(Item::File(file_number(alloc, firmware, kind, name)?)),
-        Place::Func(name) => {
+        CheckPlace::Whole => Ok(Item::Whole),
+        CheckPlace::Struct(name) => Ok(Item::Struct(struct_number(alloc, firmware, kind, name)?)),
+        CheckPlace::Periph(name) => Ok(Item::Periph(periph_number(alloc, firmware, kind, name)?)),
+        CheckPlace::Global(name) => Ok(Item::Global(global_number(alloc, firmware, kind, name)?)),
+        CheckPlace::File(name) => Ok(Item::File(file_number(alloc, firmware, kind, name)?)),
+        CheckPlace::Func(name) => {
             let number = func_number(alloc, firmware, bodies, kind, name)?;
             Ok(Item::Func(number))
         }
-        Place::Inst { func, block, inst } => code_item(alloc, bodies, func, block, *inst),
+        CheckPlace::Inst { func, block, inst } => code_item(alloc, bodies, func, block, *inst),
     }
 }

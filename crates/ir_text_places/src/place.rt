@@ -11,13 +11,13 @@ ghost use Rattle.ir_text_places.specs.Stands.{Stands};
 use crate::before::tokens_before;
 use crate::naming::{all_funcs, item};
 use crate::tokens::token_place;
-use ir_model::check::{CheckKind, Place};
+use ir_model::check::{CheckKind, CheckPlace};
 use ir_model::firmware::Firmware;
 use ir_model::token::Pos;
 use std::alloc::AllocError;
 
 // How many tokens stand before the item of a fault.
-fn tokens_to(firmware: &Firmware, kind: &CheckKind, place: &Place) -> Result<u64, AllocError>
+fn tokens_to(firmware: &Firmware, kind: &CheckKind, place: &CheckPlace) -> Result<u64, AllocError>
     ensures { IfOk result (λ k. k ≡ tokens_before (firmware_of firmware.now) (item_at (firmware_of firmware.now) kind.now place.now)) }
 {
     let alloc = firmware.files.allocator();
@@ -35,7 +35,7 @@ pub fn item_place(
     text: &[u8],
     firmware: &Firmware,
     kind: &CheckKind,
-    place: &Place,
+    place: &CheckPlace,
 ) -> Result<Pos, AllocError>
     requires text { IsText (firmware_of firmware.now) text.now }
     requires short { length text.now ≤ text_limit }

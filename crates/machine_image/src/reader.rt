@@ -29,7 +29,7 @@ struct Memories {
 
 /// The places in RAM that an image names.
 #[derive(Clone, Copy)]
-struct Places {
+struct RamAddresses {
     monitor: u32,
     stack_base: u32,
     stack_size: u32,
@@ -84,7 +84,7 @@ fn read_memories(bytes: &[u8]) -> Result<Memories, ImageFault>
 }
 
 #[tactic(auto, using(crate::proofs::Steps::steps), unfolding(crate::specs::Faults::place_checks))]
-fn read_places(bytes: &[u8], memories: &Memories) -> Result<Places, ImageFault>
+fn read_places(bytes: &[u8], memories: &Memories) -> Result<RamAddresses, ImageFault>
     requires base { memories.now.ram_base ≡ number bytes.now 16 }
     requires size { memories.now.ram_size ≡ number bytes.now 20 }
     ensures faults { result_err result ≡ faults.first_of (faults.place_checks bytes.now) }
@@ -101,7 +101,7 @@ fn read_places(bytes: &[u8], memories: &Memories) -> Result<Places, ImageFault>
         rules::is_stack_base(stack_base, stack_size, ram_base, ram_size),
         28,
     )?;
-    Ok(Places {
+    Ok(RamAddresses {
         monitor,
         stack_base,
         stack_size,

@@ -19,13 +19,13 @@ use Rattle.machine_model.specs.Perform.{perform, after_load, after_store, after_
 use Rattle.machine_model.specs.declared.answers.Fetched.TheVariants.{NotAllowed}
 use Rattle.machine_model.specs.Step.{turn, fetch, fetched}
 use Rattle.machine_model.specs.Code.{size, Stands, live, StepsQuietly}
-use Rattle.machine_model.specs.Stack.{Words, words_at, May, Frame}
+use Rattle.machine_model.specs.Stack.{Words, words_at, May, ExceptionFrame}
 use Rattle.machine_model.proofs.Exec.{steps_from}
 use Rattle.machine_model.proofs.Acts.{turns}
 use Rattle.machine_model.proofs.Stack.{open_in_ram, pushed_are}
 use Rattle.machine_model.proofs.StackWords.{stacked_are}
 
-frame_open : (j : PermissionTest) (i : Image) (p : ProtectionState) (sp o : ℕ) → Frame j i p sp o → all_open j i p Write (frame_at sp) 8 ≡ true
+frame_open : (j : PermissionTest) (i : Image) (p : ProtectionState) (sp o : ℕ) → ExceptionFrame j i p sp o → all_open j i p Write (frame_at sp) 8 ≡ true
 frame_open j i p sp o r = open_in_ram j i p Write 8 (frame_at sp) o r.words r.writes
 
 module _ (j : PermissionTest) (i : Image) (c : CoreRegisters) (p : ProtectionState) (t : FaultStatus) (ram : List ℕ) (queues : List (List ℕ)) where
@@ -38,14 +38,14 @@ module _ (j : PermissionTest) (i : Image) (c : CoreRegisters) (p : ProtectionSta
     event = None;
   }
 
-  enters : (o n ret : ℕ) (u : FaultStatus) → Frame j i p c.sp o → entered (is_frame_open j i (live c p t ram queues)) i n ret u (live c p t ram queues) ≡ entry o n ret u
+  enters : (o n ret : ℕ) (u : FaultStatus) → ExceptionFrame j i p c.sp o → entered (is_frame_open j i (live c p t ram queues)) i n ret u (live c p t ram queues) ≡ entry o n ret u
   enters o n ret u r =
       let v = frame_open j i p c.sp o r in
       let g = pushed_are i (frame_of c ret) (frame_at c.sp) o ram r.words in
       rw (v, g)
 
   -- SVC
-  pub calls : (x : Instr) (o next : ℕ) → act x (c.pc + size x) c ≡ Calls next → p.handler ≡ false → Frame j i p c.sp o → Stands j i p c.pc x →
+  pub calls : (x : Instr) (o next : ℕ) → act x (c.pc + size x) c ≡ Calls next → p.handler ≡ false → ExceptionFrame j i p c.sp o → Stands j i p c.pc x →
       StepsQuietly j i (live c p t ram queues) (live (entry_core i supervisor_call c) (record p { handler = true }) t (write_all 4 o (frame_of c next) ram) queues)
   unfolding perform
   calls x o next is h r st =
@@ -58,7 +58,7 @@ module _ (j : PermissionTest) (i : Image) (c : CoreRegisters) (p : ProtectionSta
 
   -- a store, and a load, that protection refuses
   pub faults_store : (x : Instr) (w a v o : ℕ) (d : CoreRegisters) → act x (c.pc + size x) c ≡ Stores w a v d → verdict j p Write w a ≡ Refused →
-      p.handler ≡ false → is_fault_enabled t ≡ true → Frame j i p c.sp o → Stands j i p c.pc x →
+      p.handler ≡ false → is_fault_enabled t ≡ true → ExceptionFrame j i p c.sp o → Stands j i p c.pc x →
       StepsQuietly j i (live c p t ram queues)
       (live (entry_core i mem_manage c) (record p { handler = true }) (record t { cfsr = bit_or t.cfsr 0x82; mmfar = a }) (write_all 4 o (frame_of c c.pc) ram) queues)
   unfolding perform
@@ -68,7 +68,7 @@ module _ (j : PermissionTest) (i : Image) (c : CoreRegisters) (p : ProtectionSta
       steps_from {u = entry o mem_manage c.pc u} (turns j i c p t ram queues x (Stores w a v d) st is ∙ ap (λ y. after_store y j i w a v (live c p t ram queues) d) denied ∙ faults u h en ∙ e) refl refl
 
   pub faults_load : (x : Instr) (w a o : ℕ) (go : ℕ → CoreRegisters) → act x (c.pc + size x) c ≡ Loads w a go → verdict j p Read w a ≡ Refused →
-      p.handler ≡ false → is_fault_enabled t ≡ true → Frame j i p c.sp o → Stands j i p c.pc x →
+      p.handler ≡ false → is_fault_enabled t ≡ true → ExceptionFrame j i p c.sp o → Stands j i p c.pc x →
       StepsQuietly j i (live c p t ram queues)
       (live (entry_core i mem_manage c) (record p { handler = true }) (record t { cfsr = bit_or t.cfsr 0x82; mmfar = a }) (write_all 4 o (frame_of c c.pc) ram) queues)
   unfolding perform
@@ -79,7 +79,7 @@ module _ (j : PermissionTest) (i : Image) (c : CoreRegisters) (p : ProtectionSta
 
   -- several words, of which protection refuses one
   pub faults_stores : (x : Instr) (a y o : ℕ) (vs : List ℕ) (d : CoreRegisters) → act x (c.pc + size x) c ≡ StoresMany a vs d → verdicts j i p Write a (length vs) ≡ RefusedAt y →
-      p.handler ≡ false → is_fault_enabled t ≡ true → Frame j i p c.sp o → Stands j i p c.pc x →
+      p.handler ≡ false → is_fault_enabled t ≡ true → ExceptionFrame j i p c.sp o → Stands j i p c.pc x →
       StepsQuietly j i (live c p t ram queues)
       (live (entry_core i mem_manage c) (record p { handler = true }) (record t { cfsr = bit_or t.cfsr 0x82; mmfar = y }) (write_all 4 o (frame_of c c.pc) ram) queues)
   unfolding perform
@@ -89,7 +89,7 @@ module _ (j : PermissionTest) (i : Image) (c : CoreRegisters) (p : ProtectionSta
       steps_from {u = entry o mem_manage c.pc u} (turns j i c p t ram queues x (StoresMany a vs d) st is ∙ ap (λ z. after_stores z j i a vs (live c p t ram queues) d) denied ∙ faults u h en ∙ e) refl refl
 
   pub faults_loads : (x : Instr) (a n y o : ℕ) (go : List ℕ → Option CoreRegisters) → act x (c.pc + size x) c ≡ LoadsMany a n go → verdicts j i p Read a n ≡ RefusedAt y →
-      p.handler ≡ false → is_fault_enabled t ≡ true → Frame j i p c.sp o → Stands j i p c.pc x →
+      p.handler ≡ false → is_fault_enabled t ≡ true → ExceptionFrame j i p c.sp o → Stands j i p c.pc x →
       StepsQuietly j i (live c p t ram queues)
       (live (entry_core i mem_manage c) (record p { handler = true }) (record t { cfsr = bit_or t.cfsr 0x82; mmfar = y }) (write_all 4 o (frame_of c c.pc) ram) queues)
   unfolding perform
@@ -99,7 +99,7 @@ module _ (j : PermissionTest) (i : Image) (c : CoreRegisters) (p : ProtectionSta
       steps_from {u = entry o mem_manage c.pc u} (turns j i c p t ram queues x (LoadsMany a n go) st is ∙ ap (λ z. after_loads z j i a n (live c p t ram queues) go) denied ∙ faults u h en ∙ e) refl refl
 
   -- a fetch that is refused
-  pub faults_fetch : (o : ℕ) → j p Fetch c.pc ≡ false → p.handler ≡ false → is_fault_enabled t ≡ true → Frame j i p c.sp o →
+  pub faults_fetch : (o : ℕ) → j p Fetch c.pc ≡ false → p.handler ≡ false → is_fault_enabled t ≡ true → ExceptionFrame j i p c.sp o →
       StepsQuietly j i (live c p t ram queues)
       (live (entry_core i mem_manage c) (record p { handler = true }) (record t { cfsr = bit_or t.cfsr 1 }) (write_all 4 o (frame_of c c.pc) ram) queues)
   unfolding turn fetch

@@ -11,7 +11,7 @@ use Rattle.machine_model.specs.Act.{Exchanges}
 use Rattle.machine_model.specs.Instructions.{act}
 use Rattle.machine_model.specs.Exceptions.{frame_at, frame_of, entry_core, vector, supervisor_call, return_on_psp, return_on_msp, is_thread, flags_of, with_pad, unstacked}
 use Rattle.machine_model.specs.Code.{Stands, live, StepsQuietly}
-use Rattle.machine_model.specs.Stack.{Words, words_at, May, Frame}
+use Rattle.machine_model.specs.Stack.{Words, words_at, May, ExceptionFrame}
 use Rattle.machine_model.specs.RunningCode.{Context, body, works}
 use Rattle.machine_model.proofs.Entries.{calls, returns_to_psp, returns_to_msp}
 
@@ -28,7 +28,7 @@ module _ (j : PermissionTest) (i : Image) (x : Context) (low : List ℕ) (sp lr 
   entry_from_msp n h = rw h refl
 
   -- SVC of a thread on PSP, and on MSP
-  pub svc_from_psp : (n o : ℕ) → x.on_psp ≡ true → x.protection.handler ≡ false → Frame j i x.protection sp o → Stands j i x.protection pc (CallBranch 0 n (pos 0)) →
+  pub svc_from_psp : (n o : ℕ) → x.on_psp ≡ true → x.protection.handler ≡ false → ExceptionFrame j i x.protection sp o → Stands j i x.protection pc (CallBranch 0 n (pos 0)) →
       StepsQuietly j i (works x low sp lr pc f ram queues)
       (works (record x { other_sp = frame_at sp; on_psp = false; protection = record x.protection { handler = true } }) low x.other_sp return_on_psp (vector i supervisor_call) f
       (write_all 4 o (frame_of (body x low sp lr pc f) (pc + 2)) ram) queues)
@@ -37,7 +37,7 @@ module _ (j : PermissionTest) (i : Image) (x : Context) (low : List ℕ) (sp lr 
       steps_to (calls j i (body x low sp lr pc f) x.protection x.status ram queues (CallBranch 0 n (pos 0)) o (pc + 2) refl h r st)
       (ap (λ c. live c (record x.protection { handler = true }) x.status (write_all 4 o (frame_of (body x low sp lr pc f) (pc + 2)) ram) queues) (entry_from_psp supervisor_call m))
 
-  pub svc_from_msp : (n o : ℕ) → x.on_psp ≡ false → x.protection.handler ≡ false → Frame j i x.protection sp o → Stands j i x.protection pc (CallBranch 0 n (pos 0)) →
+  pub svc_from_msp : (n o : ℕ) → x.on_psp ≡ false → x.protection.handler ≡ false → ExceptionFrame j i x.protection sp o → Stands j i x.protection pc (CallBranch 0 n (pos 0)) →
       StepsQuietly j i (works x low sp lr pc f ram queues)
       (works (record x { on_psp = false; protection = record x.protection { handler = true } }) low (frame_at sp) return_on_msp (vector i supervisor_call) f
       (write_all 4 o (frame_of (body x low sp lr pc f) (pc + 2)) ram) queues)

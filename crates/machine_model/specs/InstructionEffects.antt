@@ -24,7 +24,7 @@ use Rattle.machine_model.specs.declared.answers.Verdict.TheVariants.{ToSystem}
 use Rattle.machine_model.specs.Tests.{verdict}
 use Rattle.machine_model.specs.Exceptions.{frame_at, frame_of, vector, supervisor_call, return_on_psp, return_on_msp, is_thread, flags_of, with_pad}
 use Rattle.machine_model.specs.Code.{Stands, StepsQuietly, Runs}
-use Rattle.machine_model.specs.Stack.{Words, words_at, May, Room, Frame}
+use Rattle.machine_model.specs.Stack.{Words, words_at, May, Room, ExceptionFrame}
 use Rattle.machine_model.specs.Events.{StepsWith, input_event, output_event, ended}
 use Rattle.machine_model.specs.RunningCode.{Context, body, works, IsLoad, IsStore}
 
@@ -145,11 +145,11 @@ module _ (j : PermissionTest) (i : Image) (x : Context) (low : List ℕ) (sp lr 
 
   -- SVC of a thread, and BX lr of a handler, on either stack
   pub record ThreadSteps : Type 0 where
-    pub svc_from_psp : (n o : ℕ) → x.on_psp ≡ true → x.protection.handler ≡ false → Frame j i x.protection sp o →
+    pub svc_from_psp : (n o : ℕ) → x.on_psp ≡ true → x.protection.handler ≡ false → ExceptionFrame j i x.protection sp o →
         Makes (CallBranch 0 n (pos 0))
         (works (record x { other_sp = frame_at sp; on_psp = false; protection = record x.protection { handler = true } }) low x.other_sp return_on_psp (vector i supervisor_call) f
         (write_all 4 o (frame_of (body x low sp lr pc f) (pc + 2)) ram) queues)
-    pub svc_from_msp : (n o : ℕ) → x.on_psp ≡ false → x.protection.handler ≡ false → Frame j i x.protection sp o →
+    pub svc_from_msp : (n o : ℕ) → x.on_psp ≡ false → x.protection.handler ≡ false → ExceptionFrame j i x.protection sp o →
         Makes (CallBranch 0 n (pos 0))
         (works (record x { on_psp = false; protection = record x.protection { handler = true } }) low (frame_at sp) return_on_msp (vector i supervisor_call) f
         (write_all 4 o (frame_of (body x low sp lr pc f) (pc + 2)) ram) queues)

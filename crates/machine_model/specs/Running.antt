@@ -22,7 +22,7 @@ use Rattle.machine_model.specs.Exceptions.{frame_of, entry_core, is_fault_enable
 use Rattle.machine_model.specs.Perform.{perform}
 use Rattle.machine_model.specs.Step.{turn}
 use Rattle.machine_model.specs.Code.{size, Stands, CodeIn, CodeAt, live, StepsQuietly, Runs}
-use Rattle.machine_model.specs.Stack.{Words, words_at, May, Frame}
+use Rattle.machine_model.specs.Stack.{Words, words_at, May, ExceptionFrame}
 use Rattle.machine_model.specs.Events.{StepsWith, input_event, output_event, ended}
 
 -- the step of an instruction that stands at the program counter is what the instruction asks for, performed
@@ -96,23 +96,23 @@ module _ (j : PermissionTest) (i : Image) (c : CoreRegisters) (p : ProtectionSta
 
   -- entries and returns; the return address of a call is behind it, that of a fault is its own
   pub record ExceptionSteps : Type 0 where
-    pub calls : (o next : ℕ) → act x (c.pc + size x) c ≡ Calls next → p.handler ≡ false → Frame j i p c.sp o →
+    pub calls : (o next : ℕ) → act x (c.pc + size x) c ≡ Calls next → p.handler ≡ false → ExceptionFrame j i p c.sp o →
         LeadsTo (live (entry_core i supervisor_call c) (record p { handler = true }) t (write_all 4 o (frame_of c next) ram) queues)
     pub faults_load : (w a o : ℕ) (go : ℕ → CoreRegisters) → act x (c.pc + size x) c ≡ Loads w a go → verdict j p Read w a ≡ Refused →
-        p.handler ≡ false → is_fault_enabled t ≡ true → Frame j i p c.sp o →
+        p.handler ≡ false → is_fault_enabled t ≡ true → ExceptionFrame j i p c.sp o →
         LeadsTo (live (entry_core i mem_manage c) (record p { handler = true }) (data_status a t) (write_all 4 o (frame_of c c.pc) ram) queues)
     pub faults_store : (w a v o : ℕ) (d : CoreRegisters) → act x (c.pc + size x) c ≡ Stores w a v d → verdict j p Write w a ≡ Refused →
-        p.handler ≡ false → is_fault_enabled t ≡ true → Frame j i p c.sp o →
+        p.handler ≡ false → is_fault_enabled t ≡ true → ExceptionFrame j i p c.sp o →
         LeadsTo (live (entry_core i mem_manage c) (record p { handler = true }) (data_status a t) (write_all 4 o (frame_of c c.pc) ram) queues)
     -- of several words, the first that is refused
     pub faults_loads : (a n y o : ℕ) (go : List ℕ → Option CoreRegisters) → act x (c.pc + size x) c ≡ LoadsMany a n go → verdicts j i p Read a n ≡ RefusedAt y →
-        p.handler ≡ false → is_fault_enabled t ≡ true → Frame j i p c.sp o →
+        p.handler ≡ false → is_fault_enabled t ≡ true → ExceptionFrame j i p c.sp o →
         LeadsTo (live (entry_core i mem_manage c) (record p { handler = true }) (data_status y t) (write_all 4 o (frame_of c c.pc) ram) queues)
     pub faults_stores : (a y o : ℕ) (vs : List ℕ) (d : CoreRegisters) → act x (c.pc + size x) c ≡ StoresMany a vs d → verdicts j i p Write a (length vs) ≡ RefusedAt y →
-        p.handler ≡ false → is_fault_enabled t ≡ true → Frame j i p c.sp o →
+        p.handler ≡ false → is_fault_enabled t ≡ true → ExceptionFrame j i p c.sp o →
         LeadsTo (live (entry_core i mem_manage c) (record p { handler = true }) (data_status y t) (write_all 4 o (frame_of c c.pc) ram) queues)
     -- a fetch that is refused, whatever stands there
-    pub faults_fetch : (o : ℕ) → j p Fetch c.pc ≡ false → p.handler ≡ false → is_fault_enabled t ≡ true → Frame j i p c.sp o →
+    pub faults_fetch : (o : ℕ) → j p Fetch c.pc ≡ false → p.handler ≡ false → is_fault_enabled t ≡ true → ExceptionFrame j i p c.sp o →
         StepsQuietly j i (live c p t ram queues)
         (live (entry_core i mem_manage c) (record p { handler = true }) (fetch_status t) (write_all 4 o (frame_of c c.pc) ram) queues)
     pub returns_to_psp : (o : ℕ) → act x (c.pc + size x) c ≡ Exchanges return_on_psp → p.handler ≡ true → Words i c.other_sp o 8 → May j (record p { handler = false }) Read c.other_sp 8 →

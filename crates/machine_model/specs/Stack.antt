@@ -40,6 +40,6 @@ pub record Room (j : PermissionTest) (i : Image) (p : ProtectionState) (address 
   pub writes : May j p Write address count
 
 -- the eight words that an exception entry pushes below a stack pointer may be written
-pub record Frame (j : PermissionTest) (i : Image) (p : ProtectionState) (sp offset : ℕ) : Type 0 where
+pub record ExceptionFrame (j : PermissionTest) (i : Image) (p : ProtectionState) (sp offset : ℕ) : Type 0 where
   pub words : Words i (frame_at sp) offset 8
   pub writes : May j p Write (frame_at sp) 8

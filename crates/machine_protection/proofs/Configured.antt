@@ -38,7 +38,7 @@ kept_decides (g ∷ gs) a =
     ∙ ap (λ o. or_this (holds g a) (kept_region g) o) (kept_decides gs a)
     ∙ kept_or (holds g a) g (deciding gs a)
 
--- what the scan scan_is of the regions that were written
+-- what the scan says of the regions that were written
 abbrev IsScan : List Region → ℕ → Option Region → Type 0
 IsScan gs a None = NoneOf gs a
 IsScan gs a (Some g) = IsLast gs a g

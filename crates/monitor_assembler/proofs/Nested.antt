@@ -2,8 +2,8 @@
 use Rattle.std.proofs.Common.{◌≡◌, ℕ, pos, ◌+◌, ◌<◌, true, ◌&&◌, List, [], ◌∷◌, ◌++◌, length, get_or, take, subst, ap, sym, arith, append_assoc, append-nil}
 use Rattle.machine_thumb.specs.declared.table.Instr.TheVariants.{BranchWide}
 use Rattle.machine_thumb_asm.specs.Assembly.{Assembly, here}
-use Rattle.monitor_steps.specs.declared.steps.GateCond.{GateCond}
-use Rattle.monitor_steps.specs.declared.steps.GateStep.{GateStep}
+use Rattle.monitor_steps.specs.declared.steps.PrivilegedCond.{PrivilegedCond}
+use Rattle.monitor_steps.specs.declared.steps.PrivilegedStep.{PrivilegedStep}
 use Rattle.monitor_steps.specs.Steps.{PrivilegedSteps, End, Test, Repeat, names_low, is_low}
 use Rattle.monitor_steps.specs.Lists.{before, steps_of}
 use Rattle.monitor_steps.specs.Code.{code, code_length}
@@ -15,7 +15,7 @@ use Rattle.std.proofs.lemmas.Bool.{and_parts as both_are}
 
 -- ---- a step of a vector
 
-pub may_put_step : (a b : Assembly) (ss : List GateStep) (i : ℕ) (d s : GateStep) → i < length ss → s ≡ get_or ss i d
+pub may_put_step : (a b : Assembly) (ss : List PrivilegedStep) (i : ℕ) (d s : PrivilegedStep) → i < length ss → s ≡ get_or ss i d
     → MayPut a (steps_of ss) → HasPut a b (code (steps_of (take i ss))) → MayPut b (before s End)
 may_put_step a b ss i d s lt is m p =
     let l = length-take_more ss i d lt in
@@ -29,7 +29,7 @@ may_put_step a b ss i d s lt is m p =
       room = omega (arith, l, w, e, c, m.room, p.next);
     }
 
-pub step_is_put : (a b c : Assembly) (ss : List GateStep) (i : ℕ) (d s : GateStep) → i < length ss → s ≡ get_or ss i d
+pub step_is_put : (a b c : Assembly) (ss : List PrivilegedStep) (i : ℕ) (d s : PrivilegedStep) → i < length ss → s ≡ get_or ss i d
     → HasPut a b (code (steps_of (take i ss))) → HasPut b c (code (before s End)) → HasPut a c (code (steps_of (take (i + 1) ss)))
 step_is_put a b c ss i d s lt is p q =
     let q' = subst (λ x. HasPut b c (code (before x End))) is q in
@@ -38,7 +38,7 @@ step_is_put a b c ss i d s lt is p q =
 
 -- ---- a test
 
-pub may_put_first : (a b : Assembly) (cond : GateCond) (x y : ℕ) (ys ns : PrivilegedSteps) → MayPut a (Test cond x y ys ns End) → here b ≡ here a + 8 → MayPut b ys
+pub may_put_first : (a b : Assembly) (cond : PrivilegedCond) (x y : ℕ) (ys ns : PrivilegedSteps) → MayPut a (Test cond x y ys ns End) → here b ≡ here a + 8 → MayPut b ys
 may_put_first a b cond x y ys ns m h =
     let r = both_are (names_low ys && names_low ns) true (both_are (is_low x && is_low y) ((names_low ys && names_low ns) && true) m.registers).1 in
     let o = both_are (has_near_offsets ys && has_near_offsets ns) true m.offsets in
@@ -49,7 +49,7 @@ may_put_first a b cond x y ys ns m h =
       room = omega (arith, m.room);
     }
 
-pub may_put_second : (a b : Assembly) (cond : GateCond) (x y : ℕ) (ys ns : PrivilegedSteps) → MayPut a (Test cond x y ys ns End) → here b ≡ here a + 12 + code_length ys → MayPut b ns
+pub may_put_second : (a b : Assembly) (cond : PrivilegedCond) (x y : ℕ) (ys ns : PrivilegedSteps) → MayPut a (Test cond x y ys ns End) → here b ≡ here a + 12 + code_length ys → MayPut b ns
 may_put_second a b cond x y ys ns m h =
     let r = both_are (names_low ys && names_low ns) true (both_are (is_low x && is_low y) ((names_low ys && names_low ns) && true) m.registers).1 in
     let o = both_are (has_near_offsets ys && has_near_offsets ns) true m.offsets in
@@ -60,7 +60,7 @@ may_put_second a b cond x y ys ns m h =
       room = omega (arith, m.room);
     }
 
-pub test_is_put : (a b c d e : Assembly) (cond : GateCond) (x y : ℕ) (ys ns : PrivilegedSteps) → HasPut a b (choice_code cond x y (code_length ys)) → HasPut b c (code ys)
+pub test_is_put : (a b c d e : Assembly) (cond : PrivilegedCond) (x y : ℕ) (ys ns : PrivilegedSteps) → HasPut a b (choice_code cond x y (code_length ys)) → HasPut b c (code ys)
     → HasPut c d (BranchWide (pos (code_length ns)) ∷ []) → HasPut d e (code ns) → HasPut a e (code (Test cond x y ys ns End))
 test_is_put a b c d e cond x y ys ns p q r s =
     let skip = BranchWide (pos (code_length ns)) ∷ [] in

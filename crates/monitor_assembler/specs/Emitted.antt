@@ -7,7 +7,7 @@ use Rattle.machine_thumb_asm.specs.declared.item.Item.TheVariants.{Plain}
 use Rattle.machine_thumb_asm.specs.Assembly.{Assembly, here}
 use Rattle.machine_model.specs.Running.{code_size}
 use Rattle.monitor_steps.specs.Steps.{PrivilegedSteps, End, Const, Copy, Load, Store, Alu, ReadPsp, WritePsp, WriteControl, Test, Repeat, Halt, Return, Go, names_low}
-use Rattle.monitor_steps.specs.declared.steps.GateCond.{GateCond}
+use Rattle.monitor_steps.specs.declared.steps.PrivilegedCond.{PrivilegedCond}
 use Rattle.monitor_steps.specs.Code.{code_length, condition_number}
 
 -- each load and store is at most 31 widths from its base
@@ -48,7 +48,7 @@ pub record HasPut (old new : Assembly) (is : List Instr) : Type 0 where
 -- ---- the parts of a test and of a loop, between whose lists they stand
 
 -- of a test whose first list has so many bytes
-abbrev pub choice_code : GateCond → (a b length : ℕ) → List Instr
+abbrev pub choice_code : PrivilegedCond → (a b length : ℕ) → List Instr
 choice_code cond a b n =
     DataRegister 10 b a ∷ BranchConditional (condition_number cond) (pos 2) ∷ BranchWide (pos (n + 4)) ∷ []
 

@@ -12,12 +12,12 @@ use crate::pieces::{
     put_operation, put_read_psp, put_return, put_skip, put_store, put_write_control, put_write_psp,
 };
 use machine_thumb_asm::Asm;
-use monitor_steps::GateStep;
+use monitor_steps::PrivilegedStep;
 use std::alloc::AllocError;
 
 /// Puts the code of a list behind all that the assembler holds. After an error it may hold a part of the code.
 #[cycle(assembling)]
-pub fn assemble(steps: &[GateStep], asm: &mut Asm) -> Result<(), AllocError>
+pub fn assemble(steps: &[PrivilegedStep], asm: &mut Asm) -> Result<(), AllocError>
     requires { MayPut asm.old (steps_of steps.now) }
     ensures { OnOk result (HasPut asm.old asm.new (code (steps_of steps.now))) }
 {
@@ -29,30 +29,30 @@ pub fn assemble(steps: &[GateStep], asm: &mut Asm) -> Result<(), AllocError>
 
 /// Puts the code of a step.
 #[cycle(assembling)]
-fn put_step(step: &GateStep, asm: &mut Asm) -> Result<(), AllocError>
+fn put_step(step: &PrivilegedStep, asm: &mut Asm) -> Result<(), AllocError>
     requires { MayPut asm.old (before step.now End) }
     ensures { OnOk result (HasPut asm.old asm.new (code (before step.now End))) }
 {
     match step {
-        GateStep::Const { to, value } => put_const(*to, *value, asm),
-        GateStep::Copy { to, from } => put_copy(*to, *from, asm),
-        GateStep::Load {
+        PrivilegedStep::Const { to, value } => put_const(*to, *value, asm),
+        PrivilegedStep::Copy { to, from } => put_copy(*to, *from, asm),
+        PrivilegedStep::Load {
             to,
             base,
             offset,
             width,
         } => put_load(*width, *to, *base, *offset, asm),
-        GateStep::Store {
+        PrivilegedStep::Store {
             from,
             base,
             offset,
             width,
         } => put_store(*width, *from, *base, *offset, asm),
-        GateStep::Alu { op, to, a, b } => put_operation(*op, *to, *a, *b, asm),
-        GateStep::ReadPsp { to } => put_read_psp(*to, asm),
-        GateStep::WritePsp { from } => put_write_psp(*from, asm),
-        GateStep::WriteControl { from } => put_write_control(*from, asm),
-        GateStep::Test {
+        PrivilegedStep::Alu { op, to, a, b } => put_operation(*op, *to, *a, *b, asm),
+        PrivilegedStep::ReadPsp { to } => put_read_psp(*to, asm),
+        PrivilegedStep::WritePsp { from } => put_write_psp(*from, asm),
+        PrivilegedStep::WriteControl { from } => put_write_control(*from, asm),
+        PrivilegedStep::Test {
             cond,
             a,
             b,
@@ -66,14 +66,14 @@ fn put_step(step: &GateStep, asm: &mut Asm) -> Result<(), AllocError>
             put_skip(second, asm)?;
             assemble(no, asm)
         }
-        GateStep::Repeat { left, body, .. } => {
+        PrivilegedStep::Repeat { left, body, .. } => {
             let length = length_of(body);
             put_loop_head(*left, length, asm)?;
             assemble(body, asm)?;
             put_loop_end(*left, length, asm)
         }
-        GateStep::Halt { code } => put_halt(*code, asm),
-        GateStep::Return => put_return(asm),
-        GateStep::Go { to, link } => put_go(*to, *link, asm),
+        PrivilegedStep::Halt { code } => put_halt(*code, asm),
+        PrivilegedStep::Return => put_return(asm),
+        PrivilegedStep::Go { to, link } => put_go(*to, *link, asm),
     }
 }

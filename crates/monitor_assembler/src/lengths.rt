@@ -5,23 +5,25 @@ ghost use Rattle.monitor_steps.specs.Steps.{End};
 ghost use Rattle.monitor_steps.specs.Lists.{before, steps_of};
 ghost use Rattle.monitor_steps.specs.Code.{operation_length, code_length};
 
-use monitor_steps::{GateOp, GateStep};
+use monitor_steps::{PrivilegedOp, PrivilegedStep};
 
 /// The bytes of an operation.
-fn operation_length(op: GateOp, to: u8, a: u8, b: u8) -> u32
+fn operation_length(op: PrivilegedOp, to: u8, a: u8, b: u8) -> u32
     ensures { result ≡ operation_length op (nat_eq to a) (nat_eq to b) }
 {
     match op {
-        GateOp::Add | GateOp::Sub => 2,
-        GateOp::And | GateOp::Or | GateOp::Shl | GateOp::Shr if to == a => 2,
-        GateOp::And | GateOp::Or | GateOp::Shl | GateOp::Shr if to == b => 8,
-        GateOp::And | GateOp::Or | GateOp::Shl | GateOp::Shr => 4,
+        PrivilegedOp::Add | PrivilegedOp::Sub => 2,
+        PrivilegedOp::And | PrivilegedOp::Or | PrivilegedOp::Shl | PrivilegedOp::Shr if to == a =>
+            2,
+        PrivilegedOp::And | PrivilegedOp::Or | PrivilegedOp::Shl | PrivilegedOp::Shr if to == b =>
+            8,
+        PrivilegedOp::And | PrivilegedOp::Or | PrivilegedOp::Shl | PrivilegedOp::Shr => 4,
     }
 }
 
 /// The bytes of a list's code.
 #[cycle(lengths)]
-pub fn length_of(steps: &[GateStep]) -> u32
+pub fn length_of(steps: &[PrivilegedStep]) -> u32
     requires { code_length (steps_of steps.now) < 2 ^ 24 }
     ensures { result ≡ code_length (steps_of steps.now) }
 {
@@ -34,20 +36,22 @@ pub fn length_of(steps: &[GateStep]) -> u32
 
 /// The bytes of a step's code.
 #[cycle(lengths)]
-fn step_length(step: &GateStep) -> u32
+fn step_length(step: &PrivilegedStep) -> u32
     requires { code_length (before step.now End) < 2 ^ 24 }
     ensures { result ≡ code_length (before step.now End) }
 {
     match step {
-        GateStep::Copy { .. }
-        | GateStep::Load { .. }
-        | GateStep::Store { .. }
-        | GateStep::Halt { .. } => 2,
-        GateStep::ReadPsp { .. } | GateStep::WritePsp { .. } | GateStep::Go { .. } => 4,
-        GateStep::Const { .. } | GateStep::WriteControl { .. } => 8,
-        GateStep::Return => 10,
-        GateStep::Alu { op, to, a, b } => operation_length(*op, *to, *a, *b),
-        GateStep::Test { yes, no, .. } => 12 + length_of(yes) + length_of(no),
-        GateStep::Repeat { body, .. } => 14 + length_of(body),
+        PrivilegedStep::Copy { .. }
+        | PrivilegedStep::Load { .. }
+        | PrivilegedStep::Store { .. }
+        | PrivilegedStep::Halt { .. } => 2,
+        PrivilegedStep::ReadPsp { .. }
+        | PrivilegedStep::WritePsp { .. }
+        | PrivilegedStep::Go { .. } => 4,
+        PrivilegedStep::Const { .. } | PrivilegedStep::WriteControl { .. } => 8,
+        PrivilegedStep::Return => 10,
+        PrivilegedStep::Alu { op, to, a, b } => operation_length(*op, *to, *a, *b),
+        PrivilegedStep::Test { yes, no, .. } => 12 + length_of(yes) + length_of(no),
+        PrivilegedStep::Repeat { body, .. } => 14 + length_of(body),
     }
 }

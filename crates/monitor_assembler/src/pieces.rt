@@ -14,7 +14,7 @@ ghost use Rattle.monitor_assembler.specs.Emitted.{MayPut, HasPut, choice_code, l
 use base_words::memory::Width;
 use machine_thumb::Instr;
 use machine_thumb_asm::Asm;
-use monitor_steps::{GateCond, GateOp};
+use monitor_steps::{PrivilegedCond, PrivilegedOp};
 use std::alloc::AllocError;
 
 /// Puts instructions in order.
@@ -148,7 +148,7 @@ fn put_two_address(op: u8, to: u8, a: u8, b: u8, asm: &mut Asm) -> Result<(), Al
 
 /// Puts an operation on the registers `a` and `b`.
 pub(crate) fn put_operation(
-    op: GateOp,
+    op: PrivilegedOp,
     to: u8,
     a: u8,
     b: u8,
@@ -158,7 +158,7 @@ pub(crate) fn put_operation(
     ensures { OnOk result (HasPut asm.old asm.new (operation_code op to a b)) }
 {
     match op {
-        GateOp::Add => put_all(
+        PrivilegedOp::Add => put_all(
             &[Instr::AddSubRegister {
                 op: 0,
                 m: b,
@@ -167,7 +167,7 @@ pub(crate) fn put_operation(
             }],
             asm,
         ),
-        GateOp::Sub => put_all(
+        PrivilegedOp::Sub => put_all(
             &[Instr::AddSubRegister {
                 op: 1,
                 m: b,
@@ -176,10 +176,10 @@ pub(crate) fn put_operation(
             }],
             asm,
         ),
-        GateOp::And => put_two_address(0, to, a, b, asm),
-        GateOp::Or => put_two_address(12, to, a, b, asm),
-        GateOp::Shl => put_two_address(2, to, a, b, asm),
-        GateOp::Shr => put_two_address(3, to, a, b, asm),
+        PrivilegedOp::And => put_two_address(0, to, a, b, asm),
+        PrivilegedOp::Or => put_two_address(12, to, a, b, asm),
+        PrivilegedOp::Shl => put_two_address(2, to, a, b, asm),
+        PrivilegedOp::Shr => put_two_address(3, to, a, b, asm),
     }
 }
 
@@ -282,19 +282,19 @@ pub(crate) fn put_go(to: u8, link: u8, asm: &mut Asm) -> Result<(), AllocError>
 }
 
 /// The number of the condition that holds after CMP.
-fn condition_number(cond: GateCond) -> u8
+fn condition_number(cond: PrivilegedCond) -> u8
     ensures { result ≡ list_code.condition_number cond }
 {
     match cond {
-        GateCond::Eq => 0,
-        GateCond::Ult => 3,
-        GateCond::Ule => 9,
+        PrivilegedCond::Eq => 0,
+        PrivilegedCond::Ult => 3,
+        PrivilegedCond::Ule => 9,
     }
 }
 
 /// Puts CMP, and the branches to one of two lists, the first of which has so many bytes.
 pub(crate) fn put_choice(
-    cond: GateCond,
+    cond: PrivilegedCond,
     a: u8,
     b: u8,
     length: u32,

@@ -13,12 +13,12 @@ use Rattle.monitor_audit.specs.Laws.{AnswersAreUnique, SoundImagesAreAnsweredYes
 not_none : (f : Failure) → Some f ≡ None → ⊥
 not_none f e = cc
 
-abbrev told : Option Failure → Audit
-told None = Yes 0 0
-told (Some f) = No f.check f.at
+abbrev audit_of : Option Failure → Audit
+audit_of None = Yes 0 0
+audit_of (Some f) = No f.check f.at
 
 same_failure : (o : Option Failure) (c d : AuditCheck) (a b : ℕ) → o ≡ Some (record { check = c; at = a }) → o ≡ Some (record { check = d; at = b }) → No c a ≡ No d b
-same_failure o c d a b e f = sym (ap told e) ∙ ap told f
+same_failure o c d a b e f = sym (ap audit_of e) ∙ ap audit_of f
 
 pub answers_are_unique : AnswersAreUnique
 answers_are_unique i (Yes c s) (Yes d u) p q = ap₂ Yes (p.1 ∙ sym q.1) (p.2 ∙ sym q.2)

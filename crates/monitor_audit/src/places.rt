@@ -9,7 +9,7 @@ use monitor_model::Tables;
 
 /// The addresses of the first record of each kind, and of the first initial word.
 #[derive(Clone, Copy)]
-pub(crate) struct Places {
+pub(crate) struct RecordStarts {
     pub(crate) sites: u32,
     pub(crate) targets: u32,
     pub(crate) lends: u32,
@@ -18,7 +18,7 @@ pub(crate) struct Places {
 }
 
 /// The addresses of these tables.
-pub(crate) fn places_of(tables: &Tables) -> Places
+pub(crate) fn places_of(tables: &Tables) -> RecordStarts
     requires { IsInReach tables.now }
     ensures sites { result.sites ≡ layout.sites_at tables.now }
     ensures targets { result.targets ≡ layout.targets_at tables.now }
@@ -32,7 +32,7 @@ pub(crate) fn places_of(tables: &Tables) -> Places
     let lends = targets + 8 * tables.targets.len() as u32;
     let inits = lends + 4 * tables.lends.len() as u32;
     let words = inits + 12 * tables.inits.len() as u32;
-    Places {
+    RecordStarts {
         sites,
         targets,
         lends,

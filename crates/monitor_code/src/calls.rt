@@ -15,18 +15,18 @@ use monitor_lists::Numbers;
 use monitor_lists::reset::start_up;
 use monitor_model::Tables;
 use monitor_program::code_size::page_is_full;
-use monitor_steps::GateStep;
+use monitor_steps::PrivilegedStep;
 use std::alloc::{AllocError, Global};
 
 /// The three lists.
 #[derive(Drop)]
 pub(crate) struct Lists {
     /// Start-up.
-    pub(crate) start: Vec<GateStep>,
+    pub(crate) start: Vec<PrivilegedStep>,
     /// The handler of SVC.
-    pub(crate) svc: Vec<GateStep>,
+    pub(crate) svc: Vec<PrivilegedStep>,
     /// The handler of MemManage.
-    pub(crate) memfault: Vec<GateStep>,
+    pub(crate) memfault: Vec<PrivilegedStep>,
 }
 
 /// The three lists by what they take of the tables.
@@ -66,7 +66,7 @@ pub(crate) fn numbers(alloc: Global, t: &Tables) -> Result<Numbers, AllocError>
 }
 
 /// Start-up for these tables.
-pub fn reset(alloc: Global, t: &Tables) -> Result<Vec<GateStep>, AllocError>
+pub fn reset(alloc: Global, t: &Tables) -> Result<Vec<PrivilegedStep>, AllocError>
     ensures { IfOk result (λ steps. steps_of steps.items ≡ start.reset (flash.constants t.now)) }
 {
     let numbers = numbers(alloc, t)?;
@@ -74,7 +74,7 @@ pub fn reset(alloc: Global, t: &Tables) -> Result<Vec<GateStep>, AllocError>
 }
 
 /// The handler of SVC for these tables.
-pub fn svc(alloc: Global, t: &Tables) -> Result<Vec<GateStep>, AllocError>
+pub fn svc(alloc: Global, t: &Tables) -> Result<Vec<PrivilegedStep>, AllocError>
     ensures { IfOk result (λ steps. steps_of steps.items ≡ svc_handler.svc (flash.constants t.now)) }
 {
     let numbers = numbers(alloc, t)?;
@@ -82,7 +82,7 @@ pub fn svc(alloc: Global, t: &Tables) -> Result<Vec<GateStep>, AllocError>
 }
 
 /// The handler of MemManage for these tables.
-pub fn memfault(alloc: Global, t: &Tables) -> Result<Vec<GateStep>, AllocError>
+pub fn memfault(alloc: Global, t: &Tables) -> Result<Vec<PrivilegedStep>, AllocError>
     ensures { IfOk result (λ steps. steps_of steps.items ≡ fault_handler.memfault (flash.constants t.now)) }
 {
     let numbers = numbers(alloc, t)?;

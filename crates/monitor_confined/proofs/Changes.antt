@@ -8,7 +8,7 @@ use Rattle.machine_model.proofs.Tested.{frame_aligned}
 use Rattle.monitor_model.specs.declared.tables.Tables.{Tables}
 use Rattle.monitor_model.specs.Records.{eighth, rounded}
 use Rattle.monitor_model.specs.Placed.{Placed}
-use Rattle.monitor_model.specs.Block.{Loan, Saved, Block, entered, left}
+use Rattle.monitor_model.specs.Block.{Loan, Saved, MonitorBlock, entered, left}
 use Rattle.monitor_model.specs.Invariant.{IsTop, AreSaved, IsLoan, IsOrderly}
 use Rattle.monitor_model.specs.Handlers.{FrameIsOpen, Change, Emulates, Enters, Leaves, Lends, Unlends}
 use Rattle.monitor_confined.specs.WholeRuns.{ChangesKeepOrder}
@@ -26,7 +26,7 @@ top_below t n a h =
     let at = h.1 in
     omega (arith, at, most)
 
-module _ (i : Image) (t : Tables) (p : Placed i t) (s u : State) (m : Block) (x : IsOrderly t m) (aligned : s.core.sp % 4 ≡ 0) where
+module _ (i : Image) (t : Tables) (p : Placed i t) (s u : State) (m : MonitorBlock) (x : IsOrderly t m) (aligned : s.core.sp % 4 ≡ 0) where
   entered_orderly : (c : ℕ) → FrameIsOpen i t m (frame_at s.core.sp) → t.stack.base < rounded t (frame_at s.core.sp) → c < length t.comps →
       IsOrderly t (entered m c (rounded t (frame_at s.core.sp)) (frame_at s.core.sp))
   entered_orderly c o some inside =
@@ -70,7 +70,7 @@ module _ (i : Image) (t : Tables) (p : Placed i t) (s u : State) (m : Block) (x 
         loans = dropped t (length m.loans - m.mark) m.loans x.loans;
       }
 
-  pub change_orderly : (n : Block) → Change i t s u m n → IsOrderly t n
+  pub change_orderly : (n : MonitorBlock) → Change i t s u m n → IsOrderly t n
   change_orderly _ Emulates = x
   change_orderly _ (Enters c o some inside crosses) = entered_orderly c o some inside
   change_orderly _ (Leaves e es q v) = left_orderly e es q

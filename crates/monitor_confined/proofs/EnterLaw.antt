@@ -18,7 +18,7 @@ use Rattle.monitor_model.specs.declared.tables.SiteRecord.{SiteRecord}
 use Rattle.monitor_model.specs.declared.tables.Tables.{Tables}
 use Rattle.monitor_model.specs.Records.{nobody, no_site, site_at, targets_of, or_this, last_with_entry, rounded, eighth}
 use Rattle.monitor_model.specs.Placed.{Placed, IsCompartment, IsEntry}
-use Rattle.monitor_model.specs.Block.{Block, entered}
+use Rattle.monitor_model.specs.Block.{MonitorBlock, entered}
 use Rattle.monitor_model.specs.BlockWords.{current}
 use Rattle.monitor_model.specs.Invariant.{InvariantHolds}
 use Rattle.monitor_model.specs.Confined.{IsSvc}
@@ -29,7 +29,7 @@ use Rattle.monitor_model.specs.MonitorLaw.{GoesOn}
 use Rattle.monitor_confined.proofs.EntryWords.{FrameLaws, flash_low, entered_length, frame_word}
 use Rattle.base_laws.proofs.Lists.{each_at, each_drop, each_take}
 
-pub if_resumes : (b : Bool) (x : Outcome) (k : ℕ) (n : Block) (q : ℕ) (fr : List ℕ) → (if b then x else Halts k) ≡ Resumes n q fr → (b ≡ true) × (x ≡ Resumes n q fr)
+pub if_resumes : (b : Bool) (x : Outcome) (k : ℕ) (n : MonitorBlock) (q : ℕ) (fr : List ℕ) → (if b then x else Halts k) ≡ Resumes n q fr → (b ≡ true) × (x ≡ Resumes n q fr)
 if_resumes true x k n q fr e = (refl, e)
 if_resumes false x k n q fr e = cc
 
@@ -38,7 +38,7 @@ both true y e = (refl, e)
 both false y e = cc
 
 -- its parts are told
-pub same_parts : (a b : Block) (p q : ℕ) (x y : List ℕ) → Resumes a p x ≡ Resumes b q y → (a ≡ b) × (p ≡ q) × (x ≡ y)
+pub same_parts : (a b : MonitorBlock) (p q : ℕ) (x y : List ℕ) → Resumes a p x ≡ Resumes b q y → (a ≡ b) × (p ≡ q) × (x ≡ y)
 same_parts a b p q x y e =
     let f : a ≡ b = cc in
     let g : p ≡ q = cc in
@@ -78,7 +78,7 @@ rounded_below b e p le = let z : (p - b) / e * e ≤ p - b = div-mul-le_self (p 
 frame_inside : (top base size : ℕ) → top ≤ base + size → 32 ≤ size → top - 32 - base + 32 ≤ size
 frame_inside top base size h some = omega arith
 
-module _ (laws : FrameLaws) (i : Image) (t : Tables) (p : Placed i t) (stub : ℕ) (s u : State) (m : Block) (h : InvariantHolds i t m s) (opened : is_frame_open by_mpu i s ≡ true) (svc : IsSvc i t 0 s) (inside : FrameIsOpen i t m (frame_at s.core.sp)) (below : m.top ≤ t.stack.base + t.stack.size) where
+module _ (laws : FrameLaws) (i : Image) (t : Tables) (p : Placed i t) (stub : ℕ) (s u : State) (m : MonitorBlock) (h : InvariantHolds i t m s) (opened : is_frame_open by_mpu i s ≡ true) (svc : IsSvc i t 0 s) (inside : FrameIsOpen i t m (frame_at s.core.sp)) (below : m.top ≤ t.stack.base + t.stack.size) where
   abbrev psp : ℕ
   psp = frame_at s.core.sp
 
@@ -116,7 +116,7 @@ module _ (laws : FrameLaws) (i : Image) (t : Tables) (p : Placed i t) (stub : �
       laws.pushed (callee_frame i t stub m psp memory g) (new_top i t stub m psp memory - 32 - i.ram_base) (moved_on i psp memory)
       (subst (λ (l : ℕ). new_top i t stub m psp memory - 32 - i.ram_base + 32 ≤ l) (sym long) fit)
 
-  module _ (n : Block) (q : ℕ) (after : List ℕ) (on : GoesOn i t s u m n q after) where
+  module _ (n : MonitorBlock) (q : ℕ) (after : List ℕ) (on : GoesOn i t s u m n q after) where
     -- where the callee begins
     begins : (g : TargetRecord) → IsEntry t g.entry g.compartment →
         new_top i t stub m psp memory - 32 ≡ q → write_all 4 (new_top i t stub m psp memory - 32 - i.ram_base) (callee_frame i t stub m psp memory g) (moved_on i psp memory) ≡ after →
@@ -141,8 +141,8 @@ module _ (laws : FrameLaws) (i : Image) (t : Tables) (p : Placed i t) (stub : �
         let w = same_parts (entered m g.compartment (new_top i t stub m psp memory) psp) n (new_top i t stub m psp memory - 32) q (write_all 4 (new_top i t stub m psp memory - 32 - i.ram_base) (callee_frame i t stub m psp memory g) (moved_on i psp memory)) after a.1 in
         let f = found_in (λ (x : TargetRecord). IsEntry t x.entry x.compartment) (targets_of t site) (word i t stub m psp memory r12_place) g
         (each_take (λ (x : TargetRecord). IsEntry t x.entry x.compartment) site.count (drop site.first t.targets) (each_drop (λ (x : TargetRecord). IsEntry t x.entry x.compartment) site.first t.targets p.targets)) found in
-        let to : current i t u.ram ≡ g.compartment = on.is_left.is_block.current_is ∙ ap (λ (b : Block). b.current) (sym w.0) in
-        subst (λ (b : Block). Change i t s u m b) w.0 (Enters g.compartment inside some f.fact.compartment_in (record {
+        let to : current i t u.ram ≡ g.compartment = on.is_left.is_block.current_is ∙ ap (λ (b : MonitorBlock). b.current) (sym w.0) in
+        subst (λ (b : MonitorBlock). Change i t s u m b) w.0 (Enters g.compartment inside some f.fact.compartment_in (record {
           is_svc = svc;
           number = number;
           site = site;

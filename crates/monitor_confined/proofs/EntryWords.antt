@@ -39,7 +39,7 @@ module _ (laws : FrameLaws) (i : Image) (rules : ObeysRules i) (s : State) (fits
   pub frame : OpenFrame by_mpu i s.core s.protection s.status s.ram s.queues
   frame = laws.in_ram by_mpu i s.core s.protection s.status s.ram s.queues rules fits.core.sp_aligned opened
 
-  -- the frame's location in RAM
+  -- the frame's place in RAM
   pub frame_offset : frame_at s.core.sp - i.ram_base ≡ frame.offset
   frame_offset = offset_is i.ram_base frame.offset (frame_at s.core.sp) frame.frame.words.is_at
 

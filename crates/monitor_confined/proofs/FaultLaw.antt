@@ -15,22 +15,22 @@ use Rattle.machine_model.specs.Exceptions.{frame_at, is_thread}
 use Rattle.monitor_model.specs.declared.tables.Tables.{Tables}
 use Rattle.monitor_model.specs.Records.{compartment_at}
 use Rattle.monitor_model.specs.Regions.{regions_for}
-use Rattle.monitor_model.specs.Block.{Block}
+use Rattle.monitor_model.specs.Block.{MonitorBlock}
 use Rattle.monitor_model.specs.Handlers.{IsFault, Change, Emulates, HasReturned, HasEndedInHandler, at_memfault}
 use Rattle.monitor_model.specs.Outcomes.{Outcome, Halts, StopsAtBus, StopsUnaligned, Resumes, is_open, stacked, status_place}
 use Rattle.monitor_model.specs.FaultOutcome.{address, is_lent, if_aligned, emulated_store, emulated_load, is_data_fault, fault_outcome}
 use Rattle.monitor_model.specs.MonitorLaw.{GoesOn, ReturnsBy, Shows}
 use Rattle.monitor_confined.specs.FromLaw.{FaultsAreHandled}
 
-if_block : (b : Bool) (x y : Outcome) (m n : Block) (q : ℕ) (fr : List ℕ) → (x ≡ Resumes n q fr → m ≡ n) → (y ≡ Resumes n q fr → m ≡ n) → (if b then x else y) ≡ Resumes n q fr → m ≡ n
+if_block : (b : Bool) (x y : Outcome) (m n : MonitorBlock) (q : ℕ) (fr : List ℕ) → (x ≡ Resumes n q fr → m ≡ n) → (y ≡ Resumes n q fr → m ≡ n) → (if b then x else y) ≡ Resumes n q fr → m ≡ n
 if_block true x y m n q fr f g e = f e
 if_block false x y m n q fr f g e = g e
 
-pub same_block : (a b : Block) (p q : ℕ) (x y : List ℕ) → Resumes a p x ≡ Resumes b q y → a ≡ b
+pub same_block : (a b : MonitorBlock) (p q : ℕ) (x y : List ℕ) → Resumes a p x ≡ Resumes b q y → a ≡ b
 same_block a b p q x y e = cc
 
 -- where the thread goes on, the block is the same
-fault_block : (i : Image) (t : Tables) (m : Block) (psp : ℕ) (memory : List ℕ) (cfsr half : ℕ) (n : Block) (q : ℕ) (fr : List ℕ) →
+fault_block : (i : Image) (t : Tables) (m : MonitorBlock) (psp : ℕ) (memory : List ℕ) (cfsr half : ℕ) (n : MonitorBlock) (q : ℕ) (fr : List ℕ) →
     fault_outcome i t m psp memory cfsr half ≡ Resumes n q fr → m ≡ n
 unfolding fault_outcome
 fault_block i t m psp memory c h n q fr e =
@@ -61,7 +61,7 @@ fault_block i t m psp memory c h n q fr e =
     load w e = if_block (is_lent (compartment_at t m.current).reads (address i t m psp memory) w m.loans) _ _ m n q fr (aligned w _ (λ x. same_block m n psp q _ fr x)) (halts 9) e
 
 module _ (i : Image) (t : Tables) where
-  returned : (s u : State) (m b : Block) (psp : ℕ) (memory : List ℕ) → GoesOn i t s u m b psp memory → Change i t s u m b → HasReturned i t s u m
+  returned : (s u : State) (m b : MonitorBlock) (psp : ℕ) (memory : List ℕ) → GoesOn i t s u m b psp memory → Change i t s u m b → HasReturned i t s u m
   returned s u m b psp memory g c = record {
     block = b;
     change = c;
@@ -79,14 +79,14 @@ module _ (i : Image) (t : Tables) where
   }
 
   -- by the tested status of the frame
-  by_status : (b : Bool) (s u : State) (m n : Block) (psp : ℕ) (memory : List ℕ) → (GoesOn i t s u m n psp memory → Change i t s u m n) →
+  by_status : (b : Bool) (s u : State) (m n : MonitorBlock) (psp : ℕ) (memory : List ℕ) → (GoesOn i t s u m n psp memory → Change i t s u m n) →
       ReturnsBy b i t s u m n psp memory → ((e : End) × HasEndedInHandler u e) ⊎ HasReturned i t s u m
   by_status true s u m n psp memory c g = inr (returned s u m n psp memory g (c g))
   by_status false s u m n psp memory c g = inl (Stop Usage g.0, g.1.ended)
 
   -- a change follows from the outcome and from where the thread goes on
-  pub by_outcome : (s u : State) (m : Block) (o : Outcome) (memory : List ℕ) →
-      ((n : Block) (psp : ℕ) (after : List ℕ) → o ≡ Resumes n psp after → GoesOn i t s u m n psp after → Change i t s u m n) →
+  pub by_outcome : (s u : State) (m : MonitorBlock) (o : Outcome) (memory : List ℕ) →
+      ((n : MonitorBlock) (psp : ℕ) (after : List ℕ) → o ≡ Resumes n psp after → GoesOn i t s u m n psp after → Change i t s u m n) →
       Shows i t o s m memory u → ((e : End) × HasEndedInHandler u e) ⊎ HasReturned i t s u m
   by_outcome s u m (Halts k) memory c x = inl (Halt k, x.ended)
   by_outcome s u m StopsAtBus memory c x = inl (Stop Bus x.0, x.1.ended)
@@ -110,5 +110,5 @@ faults_are_handled i t stub law s m u h live x frame =
       within = omega (arith, le);
       each = l.each;
       holds = by_outcome i t s end m (fault_outcome i t m (frame_at s.core.sp) from.ram u.cfsr g.0) from.ram
-          (λ n psp after e on. subst (λ (b : Block). Change i t s end m b) (fault_block i t m (frame_at s.core.sp) from.ram u.cfsr g.0 n psp after e) Emulates) l.holds;
+          (λ n psp after e on. subst (λ (b : MonitorBlock). Change i t s end m b) (fault_block i t m (frame_at s.core.sp) from.ram u.cfsr g.0 n psp after e) Emulates) l.holds;
     }

@@ -13,7 +13,7 @@ use Rattle.machine_model.proofs.Runs.{turn_ended}
 use Rattle.monitor_model.specs.declared.tables.Tables.{Tables}
 use Rattle.monitor_model.specs.Placed.{Placed}
 use Rattle.monitor_model.specs.Regions.{regions_for}
-use Rattle.monitor_model.specs.Block.{Saved, Block, first_block}
+use Rattle.monitor_model.specs.Block.{Saved, MonitorBlock, first_block}
 use Rattle.monitor_model.specs.BlockWords.{depth, saved_current, saved_top, HasSaved, IsBlock}
 use Rattle.monitor_model.specs.Invariant.{InvariantHolds}
 use Rattle.monitor_model.specs.Reach.{AllBytes, StoreKind, LoadKind}
@@ -32,8 +32,8 @@ pub record RunLaws : Type 0 where
 module _ (laws : RunLaws) (i : Image) (t : Tables) (p : Placed i t) (contract : HandlersAreConfined i t) where
   -- a state of a run behind start-up
   data Phase (u : State) : Type 0 where
-    InThread : (m : Block) → InvariantHolds i t m u → Phase u
-    InHandler : (s from : State) (m : Block) (h : Handled i t s from m) → InvariantHolds i t m s → StateFits i from → (k : ℕ) → k < h.count → u ≡ run (step i) k from → Phase u
+    InThread : (m : MonitorBlock) → InvariantHolds i t m u → Phase u
+    InHandler : (s from : State) (m : MonitorBlock) (h : Handled i t s from m) → InvariantHolds i t m s → StateFits i from → (k : ℕ) → k < h.count → u ≡ run (step i) k from → Phase u
     Over : (e : End) → HasEndedInHandler u e → Phase u
 
   step_ended : (u : State) (e : End) → u.ending ≡ Some e → step i u ≡ u
@@ -48,7 +48,7 @@ module _ (laws : RunLaws) (i : Image) (t : Tables) (p : Placed i t) (contract : 
   run_fits zero s h = h
   run_fits (suc k) s h = run_fits k (step i s) (laws.shape by_mpu i s p.rules h)
 
-  returned_holds : (s u : State) (m : Block) → InvariantHolds i t m s → StateFits i u → (r : HasReturned i t s u m) → InvariantHolds i t r.block u
+  returned_holds : (s u : State) (m : MonitorBlock) → InvariantHolds i t m s → StateFits i u → (r : HasReturned i t s u m) → InvariantHolds i t r.block u
   returned_holds s u m h fits r = record {
     inv = record {
       is_block = r.is_block;
@@ -68,24 +68,24 @@ module _ (laws : RunLaws) (i : Image) (t : Tables) (p : Placed i t) (contract : 
   }
 
   -- a handler's state, or what comes behind it
-  behind : (s from : State) (m : Block) (h : Handled i t s from m) → InvariantHolds i t m s → StateFits i from → (k : ℕ) → k ≤ h.count → Phase (run (step i) k from)
+  behind : (s from : State) (m : MonitorBlock) (h : Handled i t s from m) → InvariantHolds i t m s → StateFits i from → (k : ℕ) → k ≤ h.count → Phase (run (step i) k from)
   behind s from m h x fits k le = ⊎_elim (λ lt. InHandler s from m h x fits k lt refl) (λ ge. last (let e : h.count ≡ k = omega (arith, le, ge) in e)) (cases_lt k h.count)
     where
       last : h.count ≡ k → Phase (run (step i) k from)
       last e = subst (λ (n : ℕ). Phase (run (step i) n from)) e
           (⊎_elim (λ o. Over o.0 o.1) (λ r. InThread r.block (returned_holds s (run (step i) h.count from) m x (run_fits h.count from fits) r)) h.holds)
 
-  entering : (s from : State) (m : Block) (d : Handled i t s from m) → InvariantHolds i t m s → StateFits i from → Phase from
+  entering : (s from : State) (m : MonitorBlock) (d : Handled i t s from m) → InvariantHolds i t m s → StateFits i from → Phase from
   unfolding run
   entering s from m d x f = behind s from m d x f 0 (omega arith)
 
-  ended_holds : (m : Block) (s : State) (e : End) → InvariantHolds i t m s → StateFits i (ends e s).to → InvariantHolds i t m (ends e s).to
+  ended_holds : (m : MonitorBlock) (s : State) (e : End) → InvariantHolds i t m s → StateFits i (ends e s).to → InvariantHolds i t m (ends e s).to
   ended_holds m s e h fits = record { inv = h.inv; fits = fits }
 
-  next_fits : (m : Block) (s : State) → InvariantHolds i t m s → StateFits i (step i s)
+  next_fits : (m : MonitorBlock) (s : State) → InvariantHolds i t m s → StateFits i (step i s)
   next_fits m s h = laws.shape by_mpu i s p.rules h.fits
 
-  thread_next : (m : Block) (s : State) → InvariantHolds i t m s → s.ending ≡ None → LeadsOn i t m s → Phase (step i s)
+  thread_next : (m : MonitorBlock) (s : State) → InvariantHolds i t m s → s.ending ≡ None → LeadsOn i t m s → Phase (step i s)
   thread_next m s h live (Ends e q) =
       let f = subst (λ (x : Turn). StateFits i x.to) q (next_fits m s h) in
       subst (λ (x : Turn). Phase x.to) (sym q) (InThread m (ended_holds m s e h f))
@@ -95,7 +95,7 @@ module _ (laws : RunLaws) (i : Image) (t : Tables) (p : Placed i t) (contract : 
   thread_next m s h live (Faults u f frame q) =
       subst Phase (sym q) (entering s (at_memfault i u s) m (contract.memfault s m u h live f frame) h (subst (λ (x : State). StateFits i x) q (next_fits m s h)))
 
-  thread_on : (m : Block) (s : State) → InvariantHolds i t m s → (o : Option End) → s.ending ≡ o → Phase (step i s)
+  thread_on : (m : MonitorBlock) (s : State) → InvariantHolds i t m s → (o : Option End) → s.ending ≡ o → Phase (step i s)
   thread_on m s h (Some e) q = subst Phase (sym (step_ended s e q)) (InThread m h)
   thread_on m s h None q = thread_next m s h q (laws.lead i t m s p h q)
 
@@ -127,7 +127,7 @@ module _ (laws : RunLaws) (i : Image) (t : Tables) (p : Placed i t) (contract : 
         protection = λ f. absurd (false≢true (sym f ∙ q.handler));
       }
 
-  thread_fine : (m : Block) (s : State) → InvariantHolds i t m s → IsFine s
+  thread_fine : (m : MonitorBlock) (s : State) → InvariantHolds i t m s → IsFine s
   thread_fine m s h = let c = laws.confined i t m s p h in record { stores = c.stores; loads = c.loads; protection = λ f. c.protection }
 
   handler_fine : (s u : State) → Handles i t s u → IsFine u
@@ -143,10 +143,10 @@ module _ (laws : RunLaws) (i : Image) (t : Tables) (p : Placed i t) (contract : 
   abbrev Switches : State → State → Type 0
   Switches s u = Stays i t s u ⊎ (Crosses i t s u ⊎ ComesBack i t s u)
 
-  same_block : (s u : State) (m n : Block) → IsBlock i t s.ram m → IsBlock i t u.ram n → n.current ≡ m.current → n.top ≡ m.top → Stays i t s u
+  same_block : (s u : State) (m n : MonitorBlock) → IsBlock i t s.ram m → IsBlock i t u.ram n → n.current ≡ m.current → n.top ≡ m.top → Stays i t s u
   same_block s u m n a b c d = (b.current_is ∙ c ∙ sym a.current_is, b.top_is ∙ d ∙ sym a.top_is)
 
-  change_switches : (s u : State) (m n : Block) → IsBlock i t s.ram m → IsBlock i t u.ram n → Change i t s u m n → Switches s u
+  change_switches : (s u : State) (m n : MonitorBlock) → IsBlock i t s.ram m → IsBlock i t u.ram n → Change i t s u m n → Switches s u
   change_switches s u m _ a b Emulates = inl (same_block s u m _ a b refl refl)
   change_switches s u m _ a b (Enters c o some inside crosses) = inr (inl crosses)
   change_switches s u m _ a b (Leaves e es q v) =
@@ -163,7 +163,7 @@ module _ (laws : RunLaws) (i : Image) (t : Tables) (p : Placed i t) (contract : 
   change_switches s u m _ a b (Unlends l ls q marks) = inl (same_block s u m _ a b refl refl)
 
   -- the next thread state behind a handler is where it returns
-  module _ (s from : State) (m : Block) (h : InvariantHolds i t m s) (d : Handled i t s from m) (n : ℕ) (thread : (run (step i) n from).protection.handler ≡ false)
+  module _ (s from : State) (m : MonitorBlock) (h : InvariantHolds i t m s) (d : Handled i t s from m) (n : ℕ) (thread : (run (step i) n from).protection.handler ≡ false)
       (between : (k : ℕ) → k < n → (run (step i) k from).protection.handler ≡ true) where
     not_over : (e : End) → HasEndedInHandler (run (step i) d.count from) e → d.count ≤ n → ⊥
     not_over e q le =
@@ -181,7 +181,7 @@ module _ (laws : RunLaws) (i : Image) (t : Tables) (p : Placed i t) (contract : 
     handler_switches : Switches s (run (step i) n from)
     handler_switches = ⊎_elim (λ lt. absurd (false≢true (sym thread ∙ (d.each n lt).handler))) (λ ge. past ge) (cases_lt n d.count)
 
-  module _ (m : Block) (s : State) (h : InvariantHolds i t m s) (n : ℕ) (thread : (run (step i) (suc n) s).protection.handler ≡ false)
+  module _ (m : MonitorBlock) (s : State) (h : InvariantHolds i t m s) (n : ℕ) (thread : (run (step i) (suc n) s).protection.handler ≡ false)
       (between : (k : ℕ) → 0 < k → k < suc n → (run (step i) k s).protection.handler ≡ true) where
     -- where the next state is a thread's, it is the one
     at_once : (step i s).protection.handler ≡ false → Stays i t s (step i s) → Switches s (run (step i) (suc n) s)
@@ -210,14 +210,14 @@ module _ (laws : RunLaws) (i : Image) (t : Tables) (p : Placed i t) (contract : 
     by_ending None q = by_step q (laws.lead i t m s p h q)
 
   -- a thread's state of a run is one of the invariant
-  in_thread : (u : State) → u.protection.handler ≡ false → Phase u → (m : Block) × InvariantHolds i t m u
+  in_thread : (u : State) → u.protection.handler ≡ false → Phase u → (m : MonitorBlock) × InvariantHolds i t m u
   in_thread u th (InThread m h) = (m, h)
   in_thread u th (InHandler s from m h x fits k lt e) = absurd (false≢true (sym th ∙ ap (λ (v : State). v.protection.handler) e ∙ (h.each k lt).handler))
   in_thread u th (Over e q) = absurd (false≢true (sym th ∙ q.handler))
 
   -- ---- the run
 
-  module _ (first : State) (begins : StartUp i t first) (m : Block) (holds : InvariantHolds i t m (later i t first begins.count)) where
+  module _ (first : State) (begins : StartUp i t first) (m : MonitorBlock) (holds : InvariantHolds i t m (later i t first begins.count)) where
     reached : (n : ℕ) → HasStarted i t first n → begins.count ≤ n
     reached n h = ⊎_elim (λ lt. absurd (false≢true (sym (begins.privileged h.0 lt) ∙ h.2))) (λ le. let k = h.1 in omega (arith, k, le)) (cases_lt h.0 begins.count)
 

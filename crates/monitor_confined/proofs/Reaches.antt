@@ -26,7 +26,7 @@ use Rattle.monitor_model.specs.Records.{compartment_at, nobody, eighth}
 use Rattle.monitor_model.specs.Layout.{tables_size}
 use Rattle.monitor_model.specs.Regions.{background, tables_region, stack_region, regions_for}
 use Rattle.monitor_model.specs.Placed.{Placed, IsCompartment, IsSlot, InFlashOf}
-use Rattle.monitor_model.specs.Block.{Block}
+use Rattle.monitor_model.specs.Block.{MonitorBlock}
 use Rattle.monitor_model.specs.BlockWords.{current, top}
 use Rattle.monitor_model.specs.Invariant.{IsTop, InvariantHolds}
 use Rattle.monitor_confined.specs.Reaches.{ThreadsReach}
@@ -183,7 +183,7 @@ module _ (laws : UnitLaws) (i : Image) (t : Tables) (p : Placed i t) where
 
 -- ---- of the invariant
 
-module _ (i : Image) (t : Tables) (m : Block) (s : State) (h : InvariantHolds i t m s) where
+module _ (i : Image) (t : Tables) (m : MonitorBlock) (s : State) (h : InvariantHolds i t m s) where
   pub top_word : IsTop t (length m.saved) (top i t s.ram)
   top_word = subst (λ (a : ℕ). IsTop t (length m.saved) a) (sym h.inv.is_block.top_is) h.inv.orderly.is_top
 

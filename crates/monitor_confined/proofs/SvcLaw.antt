@@ -9,7 +9,7 @@ use Rattle.machine_model.specs.State.{State}
 use Rattle.machine_model.specs.Step.{step}
 use Rattle.machine_model.specs.Exceptions.{frame_at}
 use Rattle.monitor_model.specs.declared.tables.Tables.{Tables}
-use Rattle.monitor_model.specs.Block.{Loan, Saved, Block, lent}
+use Rattle.monitor_model.specs.Block.{Loan, Saved, MonitorBlock, lent}
 use Rattle.monitor_model.specs.Confined.{IsSvc}
 use Rattle.monitor_model.specs.Handlers.{FrameIsOpen, Change, Leaves, Lends, Unlends, at_svc}
 use Rattle.monitor_model.specs.Outcomes.{Halts, Resumes, stacked, status_place, return_place}
@@ -25,13 +25,13 @@ pub few_steps : (b : Bool) (k : ℕ) → k ≤ (if b then 4000 else 250) → k �
 few_steps true k h = omega (arith, h)
 few_steps false k h = omega (arith, h)
 
-module _ (i : Image) (t : Tables) (stub : ℕ) (s u : State) (m : Block) (memory : List ℕ) (n : Block) (q : ℕ) (after : List ℕ) (marks : m.mark ≤ length m.loans) where
+module _ (i : Image) (t : Tables) (stub : ℕ) (s u : State) (m : MonitorBlock) (memory : List ℕ) (n : MonitorBlock) (q : ℕ) (after : List ℕ) (marks : m.mark ≤ length m.loans) where
   abbrev psp : ℕ
   psp = frame_at s.core.sp
 
   leave_change : (es : List Saved) → m.saved ≡ es → IsSvc i t 1 s → leave_to i t stub m psp memory es ≡ Resumes n q after → Change i t s u m n
   leave_change [] is svc e = cc
-  leave_change (x ∷ es) is svc e = subst (λ (b : Block). Change i t s u m b) (same_block _ n _ q _ after e) (Leaves x es is svc)
+  leave_change (x ∷ es) is svc e = subst (λ (b : MonitorBlock). Change i t s u m b) (same_block _ n _ q _ after e) (Leaves x es is svc)
 
   lend_change : FrameIsOpen i t m psp → lend i t stub m psp memory ≡ Resumes n q after → Change i t s u m n
   lend_change opened e =
@@ -51,14 +51,14 @@ module _ (i : Image) (t : Tables) (stub : ℕ) (s u : State) (m : Block) (memory
       let x3 : l.address % 4 ≡ 0 = let z = d.0 in search (nat_tests, arith) in
       let x4 : psp + 32 ≤ l.address = let z = f.0 in search (nat_tests, arith) in
       let x5 : l.end ≤ m.top = let z = f.1 in search (nat_tests, arith) in
-      subst (λ (b : Block). Change i t s u m b) (same_block (lent m l) n psp q memory after a.1) (Lends l opened x1 x2 x3 refl x4 x5)
+      subst (λ (b : MonitorBlock). Change i t s u m b) (same_block (lent m l) n psp q memory after a.1) (Lends l opened x1 x2 x3 refl x4 x5)
 
   unlend_by : (l : Loan) (ls : List Loan) → m.loans ≡ l ∷ ls → m.mark ≤ suc (length ls) → (b : Bool) → nat_eq (suc (length ls)) m.mark ≡ b →
       (if b then Halts 6 else Resumes (record m { loans = ls }) psp memory) ≡ Resumes n q after → Change i t s u m n
   unlend_by l ls is le true z e = cc
   unlend_by l ls is le false z e =
       let x : m.mark ≤ length ls = search (nat_tests, arith) in
-      subst (λ (b : Block). Change i t s u m b) (same_block _ n _ q _ after e) (Unlends l ls is x)
+      subst (λ (b : MonitorBlock). Change i t s u m b) (same_block _ n _ q _ after e) (Unlends l ls is x)
 
   unlend_change : (ls : List Loan) → m.loans ≡ ls → unlend_to i t stub m psp memory ls ≡ Resumes n q after → Change i t s u m n
   unlend_change [] is e = cc

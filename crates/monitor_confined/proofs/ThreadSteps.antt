@@ -28,7 +28,7 @@ use Rattle.machine_model.specs.ThreadStep.{IsReached, Plain, IsFetchFault, IsDat
 use Rattle.monitor_model.specs.declared.tables.Tables.{Tables}
 use Rattle.monitor_model.specs.Records.{nobody}
 use Rattle.monitor_model.specs.Placed.{Placed, IsCompartment, IsSlot}
-use Rattle.monitor_model.specs.Block.{Loan, Saved, Block}
+use Rattle.monitor_model.specs.Block.{Loan, Saved, MonitorBlock}
 use Rattle.monitor_model.specs.BlockWords.{block_word, current, top, words_end, HasSaved, HasLoans, IsBlock}
 use Rattle.monitor_model.specs.Invariant.{InvariantHolds}
 use Rattle.monitor_model.specs.Reach.{AllBytes, running, StoreKind, BySlot, ByStack, LoadKind, OfFlash, OfSlot, OfStack}
@@ -79,7 +79,7 @@ module _ (i : Image) (t : Tables) (old new : List ℕ) (same : (o : ℕ) → o +
         loans_stay ls (omega arith) h.1,
       )
 
-  pub block_stays : (m : Block) → length m.saved ≤ 8 → length m.loans ≤ 32 → IsBlock i t old m → IsBlock i t new m
+  pub block_stays : (m : MonitorBlock) → length m.saved ≤ 8 → length m.loans ≤ 32 → IsBlock i t old m → IsBlock i t new m
   block_stays m few_saved few_loans h = record {
     current_is = same 0 (omega arith) ∙ h.current_is;
     top_is = same 4 (omega arith) ∙ h.top_is;
@@ -92,7 +92,7 @@ module _ (i : Image) (t : Tables) (old new : List ℕ) (same : (o : ℕ) → o +
 
 -- ---- a state of the invariant
 
-module _ (i : Image) (t : Tables) (m : Block) (s : State) (p : Placed i t) (h : InvariantHolds i t m s) (r : Reaches i t s) where
+module _ (i : Image) (t : Tables) (m : MonitorBlock) (s : State) (p : Placed i t) (h : InvariantHolds i t m s) (r : Reaches i t s) where
   protected : IsProtected i t s
   protected = record { thread = h.inv.thread; unprivileged = h.inv.unprivileged; on_psp = h.inv.on_psp; control = h.inv.control; regions = regions_word i t m s h }
 

@@ -10,7 +10,7 @@ use Rattle.machine_model.specs.State.{State}
 use Rattle.machine_model.specs.Confinement.{AnyOf}
 use Rattle.monitor_model.specs.declared.tables.Tables.{Tables}
 use Rattle.monitor_model.specs.Placed.{Placed, InFlashOf}
-use Rattle.monitor_model.specs.Block.{Block}
+use Rattle.monitor_model.specs.Block.{MonitorBlock}
 use Rattle.monitor_model.specs.Invariant.{InvariantHolds}
 use Rattle.monitor_model.specs.Reach.{running, InOpenStack}
 
@@ -31,4 +31,4 @@ module _ (i : Image) (t : Tables) (s : State) where
     pub fetches : (a : ℕ) → permits s.protection.mpu true Fetch a ≡ true → InFlashOf i a
 
 abbrev pub ThreadsReach : Type 0
-ThreadsReach = (i : Image) (t : Tables) (m : Block) (s : State) → Placed i t → InvariantHolds i t m s → Reaches i t s
+ThreadsReach = (i : Image) (t : Tables) (m : MonitorBlock) (s : State) → Placed i t → InvariantHolds i t m s → Reaches i t s

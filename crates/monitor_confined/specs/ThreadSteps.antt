@@ -10,7 +10,7 @@ use Rattle.machine_model.specs.Step.{turn}
 use Rattle.base_laws.specs.Lists.{Each}
 use Rattle.monitor_model.specs.declared.tables.Tables.{Tables}
 use Rattle.monitor_model.specs.Placed.{Placed}
-use Rattle.monitor_model.specs.Block.{Block}
+use Rattle.monitor_model.specs.Block.{MonitorBlock}
 use Rattle.monitor_model.specs.Invariant.{InvariantHolds}
 use Rattle.monitor_model.specs.Reach.{AllBytes, StoreKind, LoadKind}
 use Rattle.monitor_model.specs.Confined.{IsProtected, IsSvc}
@@ -23,7 +23,7 @@ pub record IsStepConfined (i : Image) (t : Tables) (s : State) : Type 0 where
   pub loads : i.closed ≡ true → Each (AllBytes (LoadKind i t s)) (turn by_mpu i s).loads
 
 -- where a thread's step leads
-pub data LeadsOn (i : Image) (t : Tables) (m : Block) (s : State) : Type 0 where
+pub data LeadsOn (i : Image) (t : Tables) (m : MonitorBlock) (s : State) : Type 0 where
   -- the machine ends, and nothing else changes
   Ends : (e : End) → turn by_mpu i s ≡ ends e s → LeadsOn i t m s
   -- the thread goes on, and the block's lists are the same
@@ -33,8 +33,8 @@ pub data LeadsOn (i : Image) (t : Tables) (m : Block) (s : State) : Type 0 where
   Faults : (u : FaultStatus) → IsFault i s u → is_frame_open by_mpu i s ≡ true → (turn by_mpu i s).to ≡ at_memfault i u s → LeadsOn i t m s
 
 abbrev pub ThreadStepsAreConfined : Type 0
-ThreadStepsAreConfined = (i : Image) (t : Tables) (m : Block) (s : State) → Placed i t → InvariantHolds i t m s → IsStepConfined i t s
+ThreadStepsAreConfined = (i : Image) (t : Tables) (m : MonitorBlock) (s : State) → Placed i t → InvariantHolds i t m s → IsStepConfined i t s
 
 abbrev pub ThreadStepsLead : Type 0
 ThreadStepsLead =
-    (i : Image) (t : Tables) (m : Block) (s : State) → Placed i t → InvariantHolds i t m s → s.ending ≡ None → LeadsOn i t m s
+    (i : Image) (t : Tables) (m : MonitorBlock) (s : State) → Placed i t → InvariantHolds i t m s → s.ending ≡ None → LeadsOn i t m s

@@ -2,7 +2,7 @@
 use Rattle.std.proofs.Common.{◌≡◌, ℕ, zero, suc, ◌+◌, ◌*◌, ◌≤◌, List, [], ◌∷◌, length, drop, ◌∙◌, arith}
 use Rattle.machine_devices.specs.declared.image.Image.{Image}
 use Rattle.monitor_model.specs.declared.tables.Tables.{Tables}
-use Rattle.monitor_model.specs.Block.{Loan, Saved, Block}
+use Rattle.monitor_model.specs.Block.{Loan, Saved, MonitorBlock}
 use Rattle.monitor_model.specs.BlockWords.{block_word, HasSaved, HasLoans, IsBlock}
 
 module _ (i : Image) (t : Tables) (old new : List ℕ) where
@@ -35,7 +35,7 @@ module _ (i : Image) (t : Tables) (old new : List ℕ) where
       )
 
   -- all stays
-  pub block_stays : (m : Block) → length m.saved ≤ 8 → length m.loans ≤ 32 → ((o : ℕ) → o + 4 ≤ 544 → Same o) → IsBlock i t old m → IsBlock i t new m
+  pub block_stays : (m : MonitorBlock) → length m.saved ≤ 8 → length m.loans ≤ 32 → ((o : ℕ) → o + 4 ≤ 544 → Same o) → IsBlock i t old m → IsBlock i t new m
   block_stays m few_saved few_loans same h = record {
     current_is = same 0 (omega arith) ∙ h.current_is;
     top_is = same 4 (omega arith) ∙ h.top_is;

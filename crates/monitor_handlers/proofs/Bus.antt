@@ -30,14 +30,14 @@ use Rattle.machine_model.proofs.Exec.{code_may_run, stepped}
 use Rattle.machine_model.proofs.Transfers.{loads_halves}
 use Rattle.machine_model.proofs.Turns.{changes_turn}
 use Rattle.monitor_steps.specs.Steps.{PrivilegedSteps, End, Const, Test}
-use Rattle.monitor_steps.specs.declared.steps.GateCond.TheVariants.{Eq}
+use Rattle.monitor_steps.specs.declared.steps.PrivilegedCond.TheVariants.{Eq}
 use Rattle.monitor_steps.specs.Core.{Core}
-use Rattle.monitor_steps.specs.Effect.{Outcome as GateOutcome, Went}
+use Rattle.monitor_steps.specs.Effect.{Outcome as PrivilegedOutcome, Went}
 use Rattle.monitor_steps.specs.Code.{code}
 use Rattle.monitor_steps.specs.Runs.{Scratch, registers, at}
 use Rattle.monitor_steps.proofs.Within.{const_within, at_within, no_within, next_within, end_within}
 use Rattle.monitor_model.specs.declared.tables.Tables.{Tables}
-use Rattle.monitor_model.specs.Block.{Block}
+use Rattle.monitor_model.specs.Block.{MonitorBlock}
 use Rattle.monitor_model.specs.Handlers.{Handles, Leads}
 use Rattle.monitor_model.specs.Outcomes.{Halts, StopsAtBus}
 use Rattle.monitor_model.specs.MonitorLaw.{Shows}
@@ -81,7 +81,7 @@ calm_handles i t s v w h e = record {
   loads_for = λ closed. subst (λ l. Rattle.base_laws.specs.Lists.Each (Rattle.monitor_model.specs.Reach.AllBytes (Rattle.monitor_model.specs.Handlers.LoadFor i t s)) l) (sym (ap (λ (u : Turn). u.loads) e)) tt;
 }
 
-module _ (nothing : NothingStops) (equal : holds 0 (compare_flags 0 0) ≡ true) (i : Image) (t : Tables) (stub : ℕ) (s : State) (m : Block) (psp o : ℕ) (memory : List ℕ) (c : Calling i t s m psp o memory) (ret : ℕ) (return_is : read 4 (o + 24) memory ≡ ret) (called : Called i ret 0) (even : ret % 2 ≡ 0) (low_ret : ret < 0x20000000) (none : location i ret ≡ Nowhere) where
+module _ (nothing : NothingStops) (equal : holds 0 (compare_flags 0 0) ≡ true) (i : Image) (t : Tables) (stub : ℕ) (s : State) (m : MonitorBlock) (psp o : ℕ) (memory : List ℕ) (c : Calling i t s m psp o memory) (ret : ℕ) (return_is : read 4 (o + 24) memory ≡ ret) (called : Called i ret 0) (even : ret % 2 ≡ 0) (low_ret : ret < 0x20000000) (none : location i ret ≡ Nowhere) where
   abbrev k : Constants
   k = constants_with stub t
 
@@ -116,7 +116,7 @@ module _ (nothing : NothingStops) (equal : holds 0 (compare_flags 0 0) ≡ true)
   abbrev pub at_test : Core
   at_test = core msp psp here s.status memory psp k.block k.stack m.top ret 0 0 0
 
-  abbrev pub Ends : GateOutcome → Type 0
+  abbrev pub Ends : PrivilegedOutcome → Type 0
   Ends z = ((Q i t stub s m psp o memory c (Halts 4) z) × (FrameIsOpen i t o memory → ⊥)) ⊎ ((z ≡ Went at_test) × FrameIsOpen i t o memory)
 
   small : o < 2 ^ 31

@@ -10,7 +10,7 @@ use Rattle.machine_devices.specs.Rules.{block_size}
 use Rattle.machine_model.specs.declared.state.ProtectionState.{ProtectionState}
 use Rattle.machine_model.specs.State.{State}
 use Rattle.monitor_steps.specs.Core.{Core}
-use Rattle.monitor_steps.specs.Effect.{Outcome as GateOutcome, Halted, AtReturn}
+use Rattle.monitor_steps.specs.Effect.{Outcome as PrivilegedOutcome, Halted, AtReturn}
 use Rattle.monitor_steps.proofs.Gives.{word_same, word_fits}
 use Rattle.monitor_model.specs.declared.tables.Tables.{Tables}
 use Rattle.monitor_model.specs.Records.{site_at, stack_end, eighth, lend_size}
@@ -18,7 +18,7 @@ use Rattle.monitor_model.specs.Layout.{tables_size}
 use Rattle.monitor_model.specs.Area.{HasTables}
 use Rattle.monitor_model.specs.Regions.{regions_for}
 use Rattle.monitor_model.specs.Placed.{Placed}
-use Rattle.monitor_model.specs.Block.{Loan, Block, lent, unlent}
+use Rattle.monitor_model.specs.Block.{Loan, MonitorBlock, lent, unlent}
 use Rattle.monitor_model.specs.BlockWords.{block_word, top as top_of, IsBlock}
 use Rattle.monitor_model.specs.Invariant.{IsTop, InvariantHolds}
 use Rattle.monitor_model.specs.Handlers.{LoadFor, ForStack}
@@ -37,7 +37,7 @@ use Rattle.monitor_handlers.proofs.Mode.{IsGood}
 use Rattle.monitor_handlers.proofs.Targets.{SiteFits}
 
 -- what is known behind the entry, from a thread's state s with block m: the frame at psp, and RAM
-pub record Calling (i : Image) (t : Tables) (s : State) (m : Block) (psp o : ℕ) (memory : List ℕ) : Type 0 where
+pub record Calling (i : Image) (t : Tables) (s : State) (m : MonitorBlock) (psp o : ℕ) (memory : List ℕ) : Type 0 where
   pub placed : Placed i t
   pub tables : HasTables i t
   pub room : 4096 ≤ tables_size t
@@ -49,7 +49,7 @@ pub record Calling (i : Image) (t : Tables) (s : State) (m : Block) (psp o : ℕ
   pub is_block : IsBlock i t memory m
   pub as_long : length memory ≡ i.ram_size
 
-module _ (i : Image) (t : Tables) (stub : ℕ) (s : State) (m : Block) (psp o : ℕ) (memory : List ℕ) (c : Calling i t s m psp o memory) where
+module _ (i : Image) (t : Tables) (stub : ℕ) (s : State) (m : MonitorBlock) (psp o : ℕ) (memory : List ℕ) (c : Calling i t s m psp o memory) where
   abbrev b : ℕ
   b = t.monitor - i.ram_base
 
@@ -63,7 +63,7 @@ module _ (i : Image) (t : Tables) (stub : ℕ) (s : State) (m : Block) (psp o : 
   pub is_off : IsOff true off
   is_off = record { mode = refl; privileged = refl; control = refl }
 
-  abbrev pub A : Outcome → GateOutcome → Type 0
+  abbrev pub A : Outcome → PrivilegedOutcome → Type 0
   A h z = Answers i t s m memory h z
 
   -- ---- which code may be fetched
@@ -157,7 +157,7 @@ module _ (i : Image) (t : Tables) (stub : ℕ) (s : State) (m : Block) (psp o : 
 
   -- ---- the thread goes on as it was, with another list of loans
 
-  resuming : (x : Block) → x.current ≡ m.current → x.top ≡ m.top → FrameIsOpen i t o memory → (q : ProtectionState) → q ≡ with_unit off (record off.mpu { control = 5 }) → (new : List ℕ) → LeavesRam i t m x memory new → (a0 a1 a2 a3 a4 a5 a6 a7 : ℕ) →
+  resuming : (x : MonitorBlock) → x.current ≡ m.current → x.top ≡ m.top → FrameIsOpen i t o memory → (q : ProtectionState) → q ≡ with_unit off (record off.mpu { control = 5 }) → (new : List ℕ) → LeavesRam i t m x memory new → (a0 a1 a2 a3 a4 a5 a6 a7 : ℕ) →
       Resuming i t s m x psp memory (core (t.monitor + block_size) psp q s.status new a0 a1 a2 a3 a4 a5 a6 a7)
   resuming x ec et f q e new left a0 a1 a2 a3 a4 a5 a6 a7 = record {
     msp = refl;
@@ -201,7 +201,7 @@ module _ (i : Image) (t : Tables) (stub : ℕ) (s : State) (m : Block) (psp o : 
       has_loans = loans_stay i t memory new ls (λ x lo hi. at x (inr (omega (arith, lo)))) (subst (λ z. Rattle.monitor_model.specs.BlockWords.HasLoans i t memory z) e c.is_block.has_loans).1;
     };
     is_memory = record { reads = λ w a h. ch.reads w a (⊎_elim (λ x. inl (omega (arith, x))) (λ x. inr (omega (arith, x))) h); as_long = ch.as_long };
-    words_stay = λ z. absurd (let y : ls ≡ l ∷ ls = ap (λ (z : Block). z.loans) z ∙ e in let n : length ls ≡ suc (length ls) = ap (λ l. length l) y in omega (arith, n));
+    words_stay = λ z. absurd (let y : ls ≡ l ∷ ls = ap (λ (z : MonitorBlock). z.loans) z ∙ e in let n : length ls ≡ suc (length ls) = ap (λ l. length l) y in omega (arith, n));
   }
     where
       ch : Changed (t.monitor - i.ram_base + 12) (t.monitor - i.ram_base + 12 + 4) memory new
@@ -300,7 +300,7 @@ module _ (i : Image) (t : Tables) (stub : ℕ) (s : State) (m : Block) (psp o : 
           ∙ ch1.reads u y (⊎_elim (λ e. inl (omega (arith, e))) (λ e. inr (omega (arith, e, few))) h);
       as_long = ch4.as_long ∙ long3;
     };
-    words_stay = λ e. absurd (let n : suc (length m.loans) ≡ length m.loans = ap (λ (z : Block). length z.loans) e in omega (arith, n));
+    words_stay = λ e. absurd (let n : suc (length m.loans) ≡ length m.loans = ap (λ (z : MonitorBlock). length z.loans) e in omega (arith, n));
   }
     where
       ch1 : Changed (t.monitor - i.ram_base + (160 + 12 * live)) (t.monitor - i.ram_base + (160 + 12 * live) + 4) memory m1

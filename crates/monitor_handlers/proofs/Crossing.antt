@@ -13,14 +13,14 @@ use Rattle.machine_bus.specs.Locations.{InFlash, location}
 use Rattle.machine_model.specs.declared.state.ProtectionState.{ProtectionState}
 use Rattle.machine_model.specs.State.{State}
 use Rattle.monitor_steps.specs.Core.{Core}
-use Rattle.monitor_steps.specs.Effect.{Outcome as GateOutcome, Halted, AtReturn}
+use Rattle.monitor_steps.specs.Effect.{Outcome as PrivilegedOutcome, Halted, AtReturn}
 use Rattle.monitor_steps.proofs.Gives.{word_same, word_fits}
 use Rattle.monitor_model.specs.declared.tables.TargetRecord.{TargetRecord}
 use Rattle.monitor_model.specs.declared.tables.Tables.{Tables}
 use Rattle.monitor_model.specs.Records.{compartment_at, nobody, number_of_slots, site_at, targets_of, last_with_entry, stack_end, rounded}
 use Rattle.monitor_model.specs.Regions.{stack_region, regions_for}
 use Rattle.monitor_model.specs.Placed.{IsCompartment, IsEntry}
-use Rattle.monitor_model.specs.Block.{Saved, Block, entered, left}
+use Rattle.monitor_model.specs.Block.{Saved, MonitorBlock, entered, left}
 use Rattle.monitor_model.specs.BlockWords.{block_word, depth, saved_psp, HasSaved}
 use Rattle.monitor_model.specs.Confined.{IsSvc}
 use Rattle.monitor_model.specs.Invariant.{IsSaved, AreSaved}
@@ -41,14 +41,14 @@ use Rattle.monitor_handlers.proofs.Enter.{HasEntered, NewTop}
 use Rattle.monitor_handlers.proofs.Calling.{Calling, off, halted, frame, top_before}
 use Rattle.base_laws.proofs.Lists.{each_at}
 
-module _ (i : Image) (t : Tables) (stub : ℕ) (s : State) (m : Block) (psp o : ℕ) (memory : List ℕ) (c : Calling i t s m psp o memory) where
+module _ (i : Image) (t : Tables) (stub : ℕ) (s : State) (m : MonitorBlock) (psp o : ℕ) (memory : List ℕ) (c : Calling i t s m psp o memory) where
   abbrev k : Constants
   k = constants_with stub t
 
   abbrev b : ℕ
   b = t.monitor - i.ram_base
 
-  abbrev Q : Outcome → GateOutcome → Type 0
+  abbrev Q : Outcome → PrivilegedOutcome → Type 0
   Q h z = Answers i t s m memory h z
 
   -- ---- the unit
@@ -149,7 +149,7 @@ module _ (i : Image) (t : Tables) (stub : ℕ) (s : State) (m : Block) (psp o : 
         has_loans = loans_dropped i t new (length m.loans - m.mark) m.loans (loans_stay i t memory new m.loans (λ x lo hi. at x (omega (arith, lo)) (let f = c.invariant.inv.orderly.few in omega (arith, hi, f))) c.is_block.has_loans);
       };
       is_memory = memory_by i t back 1 new after (h.as_long ∙ sym long) words others;
-      words_stay = λ z. absurd (let y : es ≡ e ∷ es = ap (λ (z : Block). z.saved) z ∙ is in let n : length es ≡ suc (length es) = ap (λ l. length l) y in omega (arith, n));
+      words_stay = λ z. absurd (let y : es ≡ e ∷ es = ap (λ (z : MonitorBlock). z.saved) z ∙ is in let n : length es ≡ suc (length es) = ap (λ l. length l) y in omega (arith, n));
     }
       where
         kept : m.mark ≡ length (drop (length m.loans - m.mark) m.loans)
@@ -388,7 +388,7 @@ module _ (i : Image) (t : Tables) (stub : ℕ) (s : State) (m : Block) (psp o : 
             has_loans = loans_stay i t memory new m.loans (λ x lo hi. older x (omega (arith, lo)) (let w = c.invariant.inv.orderly.few in omega (arith, hi, w)) (inr (let w = shallow in omega (arith, lo, w)))) c.is_block.has_loans;
           };
           is_memory = memory_by i t (rounded t psp - i.ram_base - 32) 8 new after_enter (h.as_long ∙ ap (λ n. length n) (raised_is ∙ sym moved_is) ∙ sym (length-write_all 4 (rounded t psp - 32 - i.ram_base) (callee_frame i t stub m psp memory g) (moved_on i psp memory))) words other_bytes;
-          words_stay = λ x. absurd (let n : suc (length m.saved) ≡ length m.saved = ap (λ (z : Block). length z.saved) x in omega (arith, n));
+          words_stay = λ x. absurd (let n : suc (length m.saved) ≡ length m.saved = ap (λ (z : MonitorBlock). length z.saved) x in omega (arith, n));
         }
 
       pub enter_goes : (x : Core) (raised : List ℕ) → x.sp ≡ t.monitor + block_size → x.other_sp ≡ rounded t psp - 32 → x.protection.unprivileged ≡ true → x.protection.mpu.control ≡ 5 → x.protection.mpu.regions ≡ regions_for i t g.compartment (rounded t psp) → x.status ≡ s.status →

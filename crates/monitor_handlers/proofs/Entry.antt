@@ -19,7 +19,7 @@ use Rattle.monitor_steps.specs.Runs.{Scratch, at}
 use Rattle.monitor_model.specs.declared.tables.Tables.{Tables}
 use Rattle.monitor_model.specs.Records.{nobody}
 use Rattle.monitor_model.specs.Placed.{Placed, IsCompartment}
-use Rattle.monitor_model.specs.Block.{Block}
+use Rattle.monitor_model.specs.Block.{MonitorBlock}
 use Rattle.monitor_model.specs.BlockWords.{block_word, IsBlock, current}
 use Rattle.monitor_model.specs.Invariant.{InvariantHolds}
 use Rattle.monitor_model.specs.Reach.{running}
@@ -36,7 +36,7 @@ pub record EntryLaws : Type 0 where
   pub frames : OpenFramesAreWords
   pub reach : ThreadsReach
 
-module _ (laws : EntryLaws) (i : Image) (t : Tables) (p : Placed i t) (s : State) (m : Block) (inv : InvariantHolds i t m s) (alive : s.ending ≡ None) (opened : is_frame_open by_mpu i s ≡ true) where
+module _ (laws : EntryLaws) (i : Image) (t : Tables) (p : Placed i t) (s : State) (m : MonitorBlock) (inv : InvariantHolds i t m s) (alive : s.ending ≡ None) (opened : is_frame_open by_mpu i s ≡ true) where
   s_is : s ≡ live s.core s.protection s.status s.ram s.queues
   s_is = ap (λ e. record s { ending = e }) alive
 

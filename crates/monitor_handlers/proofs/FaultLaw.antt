@@ -15,7 +15,7 @@ use Rattle.monitor_steps.specs.Core.{Core}
 use Rattle.monitor_steps.specs.Effect.{Outcome, effect}
 use Rattle.monitor_steps.specs.Code.{code, code_length}
 use Rattle.monitor_steps.specs.Ticks.{ticks}
-use Rattle.monitor_steps.specs.Runs.{at, MayStart, Shows as GateShows, Leads as GateLeads}
+use Rattle.monitor_steps.specs.Runs.{at, MayStart, Shows as PrivilegedShows, Leads as PrivilegedLeads}
 use Rattle.monitor_steps.proofs.Runs.{Laws, effect_of_code}
 use Rattle.monitor_steps.proofs.Gives.{gives_effect}
 use Rattle.monitor_steps.proofs.CodeParts.{flash_has_code, code_has_its_length}
@@ -27,7 +27,7 @@ use Rattle.monitor_program.specs.Page.{stub_address, constants, memfault_offset}
 use Rattle.monitor_program.specs.CodeSize.{CodeFits}
 use Rattle.monitor_program.specs.Constants.{Constants}
 use Rattle.monitor_program.specs.MemFault.{memfault}
-use Rattle.monitor_model.specs.Block.{Block}
+use Rattle.monitor_model.specs.Block.{MonitorBlock}
 use Rattle.monitor_model.specs.Invariant.{InvariantHolds}
 use Rattle.monitor_model.specs.Regions.{regions_for}
 use Rattle.monitor_model.specs.Handlers.{LoadFor, ForStack, at_memfault, IsFault, Leads}
@@ -86,7 +86,7 @@ module _ (laws : FaultLaws) (i : Image) (t : Tables) (ready : IsReady i t) where
   code_in : CodeIn i (i.flash_base + memfault_offset (constants t)) (code (memfault (constants t)))
   code_in = there.has_memfault i t rules ready.behind_page ready.has_page ready.placed.tables_first laws.code_fits slots_most
 
-  module _ (s : State) (b : Block) (u : FaultStatus) (half : ℕ) (inv : InvariantHolds i t b s) (alive : s.ending ≡ None) (fault : IsFault i s u) (holds : u.cfsr ≡ 0x82 → HoldsHalf i s.core.pc half) (opened : is_frame_open by_mpu i s ≡ true) where
+  module _ (s : State) (b : MonitorBlock) (u : FaultStatus) (half : ℕ) (inv : InvariantHolds i t b s) (alive : s.ending ≡ None) (fault : IsFault i s u) (holds : u.cfsr ≡ 0x82 → HoldsHalf i s.core.pc half) (opened : is_frame_open by_mpu i s ≡ true) where
     abbrev o : ℕ
     o = entry.o laws.entry i t ready.placed s b inv alive opened
 
@@ -207,11 +207,11 @@ module _ (laws : FaultLaws) (i : Image) (t : Tables) (ready : IsReady i t) where
     abbrev behind : ℕ
     behind = i.flash_base + memfault_offset (constants t) + code_length (memfault (constants t))
 
-    led : GateLeads by_mpu i (IsGood i) (HandlerRule i t s) (ticks by_mpu i (memfault (constants t)) c0) st0 (GateShows by_mpu i (IsGood i) return_on_psp s.queues effect0 behind)
+    led : PrivilegedLeads by_mpu i (IsGood i) (HandlerRule i t s) (ticks by_mpu i (memfault (constants t)) c0) st0 (PrivilegedShows by_mpu i (IsGood i) return_on_psp s.queues effect0 behind)
     led = effect_of_code by_mpu i (IsGood i) (HandlerRule i t s) laws.list return_on_psp s.queues (memfault (constants t)) (i.flash_base + memfault_offset (constants t)) (entry.scratch laws.entry i t ready.placed s b inv alive opened) c0 rules may_start
 
-    handled : Leads i t s (ticks by_mpu i (memfault (constants t)) c0) st0 (GateShows by_mpu i (IsGood i) return_on_psp s.queues effect0 behind)
-    handled = runs_handle i t s (IsGood i) (λ q g. g.mode) (ticks by_mpu i (memfault (constants t)) c0) st0 (GateShows by_mpu i (IsGood i) return_on_psp s.queues effect0 behind) led
+    handled : Leads i t s (ticks by_mpu i (memfault (constants t)) c0) st0 (PrivilegedShows by_mpu i (IsGood i) return_on_psp s.queues effect0 behind)
+    handled = runs_handle i t s (IsGood i) (λ q g. g.mode) (ticks by_mpu i (memfault (constants t)) c0) st0 (PrivilegedShows by_mpu i (IsGood i) return_on_psp s.queues effect0 behind) led
 
     -- ---- its end
 
@@ -266,7 +266,7 @@ module _ (laws : FaultLaws) (i : Image) (t : Tables) (ready : IsReady i t) where
     answered (Resumes c q after) x e = (
       e.0,
       e.1,
-      subst (λ (c : Block). Resuming i t s b c q after e.0) (sym e.3) (subst (λ (q : ℕ). Resuming i t s b b q after e.0) (sym e.4) (resuming e.0 after e.2 e.5 e.6)),
+      subst (λ (c : MonitorBlock). Resuming i t s b c q after e.0) (sym e.3) (subst (λ (q : ℕ). Resuming i t s b b q after e.0) (sym e.4) (resuming e.0 after e.2 e.5 e.6)),
     )
 
     ended_there : Leads i t s (ticks by_mpu i (memfault (constants t)) c0 + 1) st0 (Shows i t outcome s b memory)

@@ -26,7 +26,7 @@ use Rattle.monitor_model.specs.Records.{compartment_at, number_of_slots, stack_e
 use Rattle.monitor_model.specs.Offsets.{record_mask, record_reads}
 use Rattle.monitor_model.specs.Area.{HasTables}
 use Rattle.monitor_model.specs.Placed.{Placed}
-use Rattle.monitor_model.specs.Block.{Block}
+use Rattle.monitor_model.specs.Block.{MonitorBlock}
 use Rattle.monitor_model.specs.BlockWords.{IsBlock, current, loan_count, top as top_of}
 use Rattle.monitor_model.specs.Reach.{running}
 use Rattle.monitor_model.specs.Invariant.{IsOrderly}
@@ -47,7 +47,7 @@ use Rattle.monitor_handlers.proofs.Scan.{HasMasks, has_masks, scan_within}
 use Rattle.monitor_handlers.proofs.Emulated.{IsDone, cfsr_within, store_by_width, store_by_width_stops, load_by_width, load_by_width_stops, finished_within}
 
 -- the monitor's block, at the thread's state s too, and RAM behind the entry
-pub record AtFault (i : Image) (t : Tables) (s : State) (b : Block) (o : ℕ) (m : List ℕ) : Type 0 where
+pub record AtFault (i : Image) (t : Tables) (s : State) (b : MonitorBlock) (o : ℕ) (m : List ℕ) : Type 0 where
   pub before : IsBlock i t s.ram b
   pub is_block : IsBlock i t m b
   pub orderly : IsOrderly t b
@@ -74,7 +74,7 @@ module _ (i : Image) (t : Tables) (p : Placed i t) (has : HasTables i t) (stub :
   handles : Handles i t (top_of i t thread.ram) (HandlerRule i t thread)
   handles = handlers_reach i t thread p
 
-  module _ (msp psp : ℕ) (u : FaultStatus) (r : ProtectionState) (good_on : Good r) (b : Block) (o : ℕ) (m : List ℕ) (ep : psp ≡ i.ram_base + o) (h : AtFault i t thread b o m) where
+  module _ (msp psp : ℕ) (u : FaultStatus) (r : ProtectionState) (good_on : Good r) (b : MonitorBlock) (o : ℕ) (m : List ℕ) (ep : psp ≡ i.ram_base + o) (h : AtFault i t thread b o m) where
     -- the words of the monitor's block are as before
     abbrev pub BlockStays : List ℕ → Type 0
     BlockStays after = (x : ℕ) → x + 4 ≤ 544 → read 4 (block + x) after ≡ read 4 (block + x) m
@@ -405,7 +405,7 @@ module _ (i : Image) (t : Tables) (p : Placed i t) (has : HasTables i t) (stub :
         const_within (cfsr_within i t p has stub thread Good good off refl (const_within (alu_within (λ x5 e5. tested q1 v4 x5 (ap (λ v. with_unit v (record v.mpu { control = 5 })) eq ∙ on) off f e5 cause)))))) (omega arith)
       where
         tested : (q1 : ProtectionState) (v4 x5 : ℕ) → with_unit q1 (record q1.mpu { control = 5 }) ≡ r → IsOff true q1 → FrameIsOpen i t o m → x5 ≡ bit_and u.cfsr 0x82 → (u.cfsr ≡ 1) ⊎ ((u.cfsr ≡ 0x82) × HalfThere i o m half) →
-            W 1667 (Rattle.monitor_program.specs.Opening.must Rattle.monitor_steps.specs.declared.steps.GateCond.TheVariants.Eq 5 6 8 (Load Word 4 0 6 (Load Half 4 4 0 (widths 0x6008 0x7008 0x8008 (loads k t.closed) (stores k))))) [] (core msp psp q1 u m psp k.block k.stack top CFSR x5 0x82 0) (Ends (fault_outcome i t b psp m u.cfsr half))
+            W 1667 (Rattle.monitor_program.specs.Opening.must Rattle.monitor_steps.specs.declared.steps.PrivilegedCond.TheVariants.Eq 5 6 8 (Load Word 4 0 6 (Load Half 4 4 0 (widths 0x6008 0x7008 0x8008 (loads k t.closed) (stores k))))) [] (core msp psp q1 u m psp k.block k.stack top CFSR x5 0x82 0) (Ends (fault_outcome i t b psp m u.cfsr half))
         tested q1 v4 x5 on1 off f e5 (inl c) =
             must_within {m = 1662}
             (λ e. subst (λ y. Ends y (Halted 8 (core msp psp q1 u m psp k.block k.stack top CFSR x5 0x82 0))) (sym (fetch_outcome half (open_is f) c)) (core msp psp q1 u m psp k.block k.stack top CFSR x5 0x82 0, refl, refl))

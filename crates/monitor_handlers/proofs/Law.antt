@@ -18,10 +18,10 @@ use Rattle.machine_model.proofs.Exec.{code_parts}
 use Rattle.machine_model.proofs.CodeParts.{code_size-append}
 use Rattle.monitor_steps.specs.Core.{Core}
 use Rattle.monitor_steps.specs.Steps.{PrivilegedSteps, names_low}
-use Rattle.monitor_steps.specs.Effect.{Outcome as GateOutcome, Went, effect}
+use Rattle.monitor_steps.specs.Effect.{Outcome as PrivilegedOutcome, Went, effect}
 use Rattle.monitor_steps.specs.Code.{code, code_length}
 use Rattle.monitor_steps.specs.Ticks.{ticks}
-use Rattle.monitor_steps.specs.Runs.{Scratch, at, MayStart, Shows as GateShows}
+use Rattle.monitor_steps.specs.Runs.{Scratch, at, MayStart, Shows as PrivilegedShows}
 use Rattle.monitor_steps.proofs.Runs.{Laws, effect_of_code}
 use Rattle.monitor_steps.proofs.Gives.{gives_effect}
 use Rattle.monitor_steps.proofs.CodeParts.{flash_has_code, code_has_its_length}
@@ -36,7 +36,7 @@ use Rattle.monitor_program.specs.CodeSize.{CodeFits}
 use Rattle.monitor_program.specs.Constants.{Constants}
 use Rattle.monitor_program.specs.TheCode.{monitor_code}
 use Rattle.monitor_model.specs.Promises.{OfSoundImages}
-use Rattle.monitor_model.specs.Block.{Block}
+use Rattle.monitor_model.specs.Block.{MonitorBlock}
 use Rattle.monitor_model.specs.Confined.{IsSvc}
 use Rattle.monitor_model.specs.Invariant.{InvariantHolds}
 use Rattle.monitor_model.specs.Handlers.{at_svc, Leads}
@@ -108,7 +108,7 @@ behind_flash i a rules hi lt = holds_nowhere i a 1 rules (inl refl) (omega arith
   | inr (inr x) ↦ none_holds i.windows a rules.windows (omega (arith, lt)) x
 ])
 
-module _ (laws : CallLaws) (i : Image) (t : Tables) (fit : IsFit i t) (s : State) (m : Block) (n : ℕ) (inv : InvariantHolds i t m s) (alive : s.ending ≡ None) (few : n < 256) (is_svc : IsSvc i t n s) (opened : is_frame_open by_mpu i s ≡ true) where
+module _ (laws : CallLaws) (i : Image) (t : Tables) (fit : IsFit i t) (s : State) (m : MonitorBlock) (n : ℕ) (inv : InvariantHolds i t m s) (alive : s.ending ≡ None) (few : n < 256) (is_svc : IsSvc i t n s) (opened : is_frame_open by_mpu i s ≡ true) where
   abbrev p : Placed i t
   p = fit.placed
 
@@ -191,8 +191,8 @@ module _ (laws : CallLaws) (i : Image) (t : Tables) (fit : IsFit i t) (s : State
   from_is = entry.entered laws.entry i t p s m inv alive opened supervisor_call (s.core.pc + 2) s.status pc0 (vector_is i t p.rules fit.behind fit.has_page p.tables_first laws.code_fits)
 
   -- a list whose code stands there leads as a handler to its outcome
-  led : (b : ℕ) (l : PrivilegedSteps) (R : GateOutcome → Type 0) → names_low l ≡ true → code_length l ≤ code_length (svc k) → CodeIn i pc0 (code l) → by.W i t stub s m psp o memory calling b l [] first R →
-      Leads i t s b from (GateShows by_mpu i (IsGood i) return_on_psp s.queues (effect by_mpu i l first) (pc0 + code_length l)) × R (effect by_mpu i l first)
+  led : (b : ℕ) (l : PrivilegedSteps) (R : PrivilegedOutcome → Type 0) → names_low l ≡ true → code_length l ≤ code_length (svc k) → CodeIn i pc0 (code l) → by.W i t stub s m psp o memory calling b l [] first R →
+      Leads i t s b from (PrivilegedShows by_mpu i (IsGood i) return_on_psp s.queues (effect by_mpu i l first) (pc0 + code_length l)) × R (effect by_mpu i l first)
   led b l R names short stands w = (
     record { count = run.count; within = (let a = run.within in let t = ticks_of i (IsGood i) (HandlerRule i t s) b l first R w in omega (arith, a, t)); each = run.each; holds = run.holds },
     (gives_effect w.gives).0,
@@ -211,7 +211,7 @@ module _ (laws : CallLaws) (i : Image) (t : Tables) (fit : IsFit i t) (s : State
         safe = (gives_effect w.gives).1;
       }
 
-      run : Leads i t s (ticks by_mpu i l first) from (GateShows by_mpu i (IsGood i) return_on_psp s.queues (effect by_mpu i l first) (pc0 + code_length l))
+      run : Leads i t s (ticks by_mpu i l first) from (PrivilegedShows by_mpu i (IsGood i) return_on_psp s.queues (effect by_mpu i l first) (pc0 + code_length l))
       run = runs_handle i t s (IsGood i) (λ q g. g.mode) (ticks by_mpu i l first) from _ (effect_of_code by_mpu i (IsGood i) (HandlerRule i t s) laws.list return_on_psp s.queues l pc0 scratch first p.rules start)
 
   -- ---- each number
@@ -312,7 +312,7 @@ module _ (laws : CallLaws) (i : Image) (t : Tables) (fit : IsFit i t) (s : State
     test_there : CodeIn i (pc0 + code_length before) (code the_test)
     test_there = subst (λ x. CodeIn i (pc0 + x) (code the_test)) (code_has_its_length before) both_there.1
 
-    before_led : Leads i t s 68 from (GateShows by_mpu i (IsGood i) return_on_psp s.queues (effect by_mpu i before first) (pc0 + code_length before)) × bus.Ends laws.nothing equal_zero i t stub s m psp o memory calling (s.core.pc + 2) return_is called_zero ret_even ret_small nowhere (effect by_mpu i before first)
+    before_led : Leads i t s 68 from (PrivilegedShows by_mpu i (IsGood i) return_on_psp s.queues (effect by_mpu i before first) (pc0 + code_length before)) × bus.Ends laws.nothing equal_zero i t stub s m psp o memory calling (s.core.pc + 2) return_is called_zero ret_even ret_small nowhere (effect by_mpu i before first)
     before_led = led 68 before (bus.Ends laws.nothing equal_zero i t stub s m psp o memory calling (s.core.pc + 2) return_is called_zero ret_even ret_small nowhere) refl (let l = lengths in omega (arith, l)) both_there.0
         (bus.before_within laws.nothing equal_zero i t stub s m psp o memory calling (s.core.pc + 2) return_is called_zero ret_even ret_small nowhere (low 0) (low 1) (low 2) (low 3) (low 4) (low 5) (low 6) (low 7))
 
@@ -340,7 +340,7 @@ module _ (laws : CallLaws) (i : Image) (t : Tables) (fit : IsFit i t) (s : State
 
         opens : (effect by_mpu i before first ≡ Went at_test) × FrameIsOpen i t o memory → Goal
         opens x =
-            let l : Leads i t s 68 from (GateShows by_mpu i (IsGood i) return_on_psp s.queues (Went at_test) (pc0 + code_length before)) = subst (λ z. Leads i t s 68 from (GateShows by_mpu i (IsGood i) return_on_psp s.queues z (pc0 + code_length before))) x.0 before_led.0 in
+            let l : Leads i t s 68 from (PrivilegedShows by_mpu i (IsGood i) return_on_psp s.queues (Went at_test) (pc0 + code_length before)) = subst (λ z. Leads i t s 68 from (PrivilegedShows by_mpu i (IsGood i) return_on_psp s.queues z (pc0 + code_length before))) x.0 before_led.0 in
             let h = l.holds in
             within_steps 71 (let e = steps in omega (arith, e))
             (subst (λ y. Leads i t s 71 from (Shows i t y s m memory)) (sym (stops_outcome x.1))

@@ -9,13 +9,13 @@ use Rattle.machine_model.specs.declared.state.ProtectionState.{ProtectionState}
 use Rattle.machine_model.specs.State.{State, by_mpu}
 use Rattle.monitor_steps.specs.Steps.{PrivilegedSteps}
 use Rattle.monitor_steps.specs.Core.{Core}
-use Rattle.monitor_steps.specs.Effect.{Outcome as GateOutcome, Halted}
+use Rattle.monitor_steps.specs.Effect.{Outcome as PrivilegedOutcome, Halted}
 use Rattle.monitor_steps.proofs.Within.{GivesWithin, const_within, at_within, more_within, yes_within, no_within, next_within}
 use Rattle.monitor_model.specs.declared.tables.TargetRecord.{TargetRecord}
 use Rattle.monitor_model.specs.declared.tables.Tables.{Tables}
 use Rattle.monitor_model.specs.Records.{site_at, targets_of, last_with_entry, lend_size}
 use Rattle.monitor_model.specs.Regions.{regions_for}
-use Rattle.monitor_model.specs.Block.{Saved, Block}
+use Rattle.monitor_model.specs.Block.{Saved, MonitorBlock}
 use Rattle.monitor_model.specs.BlockWords.{top}
 use Rattle.monitor_model.specs.Confined.{IsSvc}
 use Rattle.monitor_model.specs.Outcomes.{Outcome, Halts, return_place}
@@ -35,17 +35,17 @@ use Rattle.monitor_handlers.proofs.Calling.{Calling, A, off, is_off, good_on, go
 use Rattle.monitor_handlers.proofs.Crossing.{first_regions, saved_is, back_frame, here_frame, leaving, leave_goes, no_site_halts, no_target_halts, no_stack_halts, enter_goes}
 use Rattle.monitor_handlers.proofs.Mode.{IsGood, good_while_off}
 
-module _ (i : Image) (t : Tables) (stub : ℕ) (s : State) (m : Block) (psp o : ℕ) (memory : List ℕ) (c : Calling i t s m psp o memory) where
+module _ (i : Image) (t : Tables) (stub : ℕ) (s : State) (m : MonitorBlock) (psp o : ℕ) (memory : List ℕ) (c : Calling i t s m psp o memory) where
   abbrev k : Constants
   k = constants_with stub t
 
   pub reach : Handles i t (top i t s.ram) (HandlerRule i t s)
   reach = handlers_reach i t s c.placed
 
-  abbrev pub W : ℕ → PrivilegedSteps → List PrivilegedSteps → Core → (GateOutcome → Type 0) → Type 0
+  abbrev pub W : ℕ → PrivilegedSteps → List PrivilegedSteps → Core → (PrivilegedOutcome → Type 0) → Type 0
   W n l ks d Q = GivesWithin by_mpu i (IsGood i) (HandlerRule i t s) n l ks d Q
 
-  abbrev pub Q : Outcome → GateOutcome → Type 0
+  abbrev pub Q : Outcome → PrivilegedOutcome → Type 0
   Q h z = A i t stub s m psp o memory c h z
 
   abbrev here : ProtectionState

@@ -23,12 +23,12 @@ use Rattle.machine_model.specs.Running.{StepsAreActs}
 use Rattle.base_laws.specs.Lists.{Each}
 use Rattle.machine_model.specs.Events.{ended}
 use Rattle.monitor_steps.specs.Core.{Core}
-use Rattle.monitor_steps.specs.Effect.{Outcome as GateOutcome, Halted, AtReturn, Stopped}
-use Rattle.monitor_steps.specs.Runs.{Scratch, registers, at, Shows as GateShows}
+use Rattle.monitor_steps.specs.Effect.{Outcome as PrivilegedOutcome, Halted, AtReturn, Stopped}
+use Rattle.monitor_steps.specs.Runs.{Scratch, registers, at, Shows as PrivilegedShows}
 use Rattle.monitor_model.specs.declared.tables.Tables.{Tables}
 use Rattle.monitor_model.specs.Regions.{regions_for}
 use Rattle.monitor_model.specs.Placed.{Placed}
-use Rattle.monitor_model.specs.Block.{Block}
+use Rattle.monitor_model.specs.Block.{MonitorBlock}
 use Rattle.monitor_model.specs.BlockWords.{IsBlock, top}
 use Rattle.monitor_model.specs.Invariant.{IsTop}
 use Rattle.monitor_model.specs.Reach.{AllBytes, LoadKind, OfStack}
@@ -40,13 +40,13 @@ use Rattle.monitor_handlers.specs.Modes.{InMode}
 use Rattle.monitor_handlers.proofs.Frames.{StackLaws, words_same, returns_turn, stack_may_read}
 
 -- what is left of RAM, where the block was m and is b
-pub record LeavesRam (i : Image) (t : Tables) (m b : Block) (memory ram : List ℕ) : Type 0 where
+pub record LeavesRam (i : Image) (t : Tables) (m b : MonitorBlock) (memory ram : List ℕ) : Type 0 where
   pub is_block : IsBlock i t ram b
   pub is_memory : IsMemory i t 0 memory ram
   pub words_stay : b ≡ m → IsMemory i t Rattle.monitor_model.specs.BlockWords.words_end memory ram
 
 -- a core before the exception return to a thread, of a thread's state before
-pub record Resuming (i : Image) (t : Tables) (s : State) (m b : Block) (psp : ℕ) (after : List ℕ) (d : Core) : Type 0 where
+pub record Resuming (i : Image) (t : Tables) (s : State) (m b : MonitorBlock) (psp : ℕ) (after : List ℕ) (d : Core) : Type 0 where
   pub msp : d.sp ≡ t.monitor + block_size
   pub psp_is : d.other_sp ≡ psp
   pub unprivileged : d.protection.unprivileged ≡ true
@@ -66,7 +66,7 @@ pub record Resuming (i : Image) (t : Tables) (s : State) (m b : Block) (psp : �
   pub is_top : IsTop t saved b.top
 
 -- how a list's outcome answers to the handler's, of RAM before it
-abbrev pub Answers : Image → Tables → (s : State) → Block → (memory : List ℕ) → Outcome → GateOutcome → Type 0
+abbrev pub Answers : Image → Tables → (s : State) → MonitorBlock → (memory : List ℕ) → Outcome → PrivilegedOutcome → Type 0
 Answers i t s m memory (Halts n) o = (d : Core) × (o ≡ Halted n d) × LeavesRam i t m m memory d.ram
 Answers i t s m memory StopsAtBus o = (d : Core) × (o ≡ Stopped Bus d) × LeavesRam i t m m memory d.ram
 Answers i t s m memory StopsUnaligned o = (d : Core) × (o ≡ Stopped Unaligned d) × LeavesRam i t m m memory d.ram
@@ -76,16 +76,16 @@ pub record ReturnLaws : Type 0 where
   pub stack : StackLaws
   pub steps : StepsAreActs
 
-pub left_of : (i : Image) (t : Tables) (m b : Block) (memory : List ℕ) (u : State) → LeavesRam i t m b memory u.ram → IsLeft i t m b memory u
+pub left_of : (i : Image) (t : Tables) (m b : MonitorBlock) (memory : List ℕ) (u : State) → LeavesRam i t m b memory u.ram → IsLeft i t m b memory u
 left_of i t m b memory u l = record { is_block = l.is_block; is_memory = l.is_memory; words_stay = l.words_stay }
 
 pub is_before : (a n : ℕ) → a < n + 1 → (a < n) ⊎ (a ≡ n)
 is_before a n h = grind (arith, h)
 
-module _ (laws : ReturnLaws) (i : Image) (t : Tables) (p : Placed i t) (s : State) (m : Block) (queues : List (List ℕ)) (same_queues : queues ≡ s.queues) where
+module _ (laws : ReturnLaws) (i : Image) (t : Tables) (p : Placed i t) (s : State) (m : MonitorBlock) (queues : List (List ℕ)) (same_queues : queues ≡ s.queues) where
   -- ---- the return
 
-  module _ (b : Block) (psp : ℕ) (after : List ℕ) (d : Core) (r : Resuming i t s m b psp after d) (mode : d.protection.handler ≡ true) (pc : ℕ) (x : Scratch) (stands : Stands by_mpu i d.protection pc (BranchExchange 0 14)) where
+  module _ (b : MonitorBlock) (psp : ℕ) (after : List ℕ) (d : Core) (r : Resuming i t s m b psp after d) (mode : d.protection.handler ≡ true) (pc : ℕ) (x : Scratch) (stands : Stands by_mpu i d.protection pc (BranchExchange 0 14)) where
     abbrev v : State
     v = at return_on_psp queues pc x d
 
@@ -213,9 +213,9 @@ module _ (laws : ReturnLaws) (i : Image) (t : Tables) (p : Placed i t) (s : Stat
 
   module _ (Good : ProtectionState → Type 0) (memory : List ℕ) (from : State) (behind : ℕ) where
     -- to an end, or with one step more to the thread
-    pub concluded : (most : ℕ) (h : Outcome) (o : GateOutcome) → Answers i t s m memory h o → InMode true o → Leads i t s most from (GateShows by_mpu i Good return_on_psp queues o behind) → Leads i t s (most + 1) from (Shows i t h s m memory)
+    pub concluded : (most : ℕ) (h : Outcome) (o : PrivilegedOutcome) → Answers i t s m memory h o → InMode true o → Leads i t s most from (PrivilegedShows by_mpu i Good return_on_psp queues o behind) → Leads i t s (most + 1) from (Shows i t h s m memory)
     concluded most (Halts n) o a mode l =
-        let e : GateShows by_mpu i Good return_on_psp queues (Halted n a.0) behind (run (step i) l.count from) = subst (λ o. GateShows by_mpu i Good return_on_psp queues o behind (run (step i) l.count from)) a.1 l.holds in
+        let e : PrivilegedShows by_mpu i Good return_on_psp queues (Halted n a.0) behind (run (step i) l.count from) = subst (λ o. PrivilegedShows by_mpu i Good return_on_psp queues o behind (run (step i) l.count from)) a.1 l.holds in
         let is_mode : a.0.protection.handler ≡ true = subst (InMode true) a.1 mode in
         record {
           count = l.count;
@@ -224,7 +224,7 @@ module _ (laws : ReturnLaws) (i : Image) (t : Tables) (p : Placed i t) (s : Stat
           holds = subst (λ u. EndsThere i t m m memory u (HaltEnd n)) (sym e.2) (record { ended = record { ending = refl; handler = is_mode }; is_left = left_of i t m m memory (ended (HaltEnd n) (at return_on_psp queues e.0 e.1 a.0)) a.2 });
         }
     concluded most StopsAtBus o a mode l =
-        let e : GateShows by_mpu i Good return_on_psp queues (Stopped Bus a.0) behind (run (step i) l.count from) = subst (λ o. GateShows by_mpu i Good return_on_psp queues o behind (run (step i) l.count from)) a.1 l.holds in
+        let e : PrivilegedShows by_mpu i Good return_on_psp queues (Stopped Bus a.0) behind (run (step i) l.count from) = subst (λ o. PrivilegedShows by_mpu i Good return_on_psp queues o behind (run (step i) l.count from)) a.1 l.holds in
         let is_mode : a.0.protection.handler ≡ true = subst (InMode true) a.1 mode in
         record {
           count = l.count;
@@ -236,7 +236,7 @@ module _ (laws : ReturnLaws) (i : Image) (t : Tables) (p : Placed i t) (s : Stat
           );
         }
     concluded most StopsUnaligned o a mode l =
-        let e : GateShows by_mpu i Good return_on_psp queues (Stopped Unaligned a.0) behind (run (step i) l.count from) = subst (λ o. GateShows by_mpu i Good return_on_psp queues o behind (run (step i) l.count from)) a.1 l.holds in
+        let e : PrivilegedShows by_mpu i Good return_on_psp queues (Stopped Unaligned a.0) behind (run (step i) l.count from) = subst (λ o. PrivilegedShows by_mpu i Good return_on_psp queues o behind (run (step i) l.count from)) a.1 l.holds in
         let is_mode : a.0.protection.handler ≡ true = subst (InMode true) a.1 mode in
         record {
           count = l.count;
@@ -248,7 +248,7 @@ module _ (laws : ReturnLaws) (i : Image) (t : Tables) (p : Placed i t) (s : Stat
           );
         }
     concluded most (Resumes b psp after) o a mode l =
-        let e : GateShows by_mpu i Good return_on_psp queues (AtReturn a.0) behind (run (step i) l.count from) = subst (λ o. GateShows by_mpu i Good return_on_psp queues o behind (run (step i) l.count from)) a.1 l.holds in
+        let e : PrivilegedShows by_mpu i Good return_on_psp queues (AtReturn a.0) behind (run (step i) l.count from) = subst (λ o. PrivilegedShows by_mpu i Good return_on_psp queues o behind (run (step i) l.count from)) a.1 l.holds in
         let is_mode : a.0.protection.handler ≡ true = subst (InMode true) a.1 mode in
         let next : run (step i) (l.count + 1) from ≡ step i (at return_on_psp queues e.0 e.1 a.0) = run-add (step i) l.count 1 from ∙ (once {step = step i} {event = event i} (run (step i) l.count from)).leads ∙ ap (λ u. step i u) e.2 in
         record {

@@ -10,7 +10,7 @@ use Rattle.machine_devices.specs.declared.image.Image.{Image}
 use Rattle.machine_model.specs.declared.state.ProtectionState.{ProtectionState}
 use Rattle.machine_model.specs.declared.state.FaultStatus.{FaultStatus}
 use Rattle.machine_model.specs.State.{State, by_mpu}
-use Rattle.monitor_steps.specs.declared.steps.GateOp.TheVariants.{Add}
+use Rattle.monitor_steps.specs.declared.steps.PrivilegedOp.TheVariants.{Add}
 use Rattle.monitor_steps.specs.Steps.{PrivilegedSteps, End, Const, Load, Alu, Repeat}
 use Rattle.monitor_steps.specs.Core.{Core, low_register, with_low}
 use Rattle.monitor_steps.specs.Effect.{Outcome, Went, Halted, with_one_less}

@@ -15,7 +15,7 @@ use Rattle.machine_model.specs.declared.state.StopReason.TheVariants.{Unaligned}
 use Rattle.machine_model.specs.declared.answers.Verdict.TheVariants.{Bad}
 use Rattle.machine_model.specs.State.{PermissionTest}
 use Rattle.machine_model.specs.Tests.{verdict}
-use Rattle.monitor_steps.specs.declared.steps.GateCond.{GateCond}
+use Rattle.monitor_steps.specs.declared.steps.PrivilegedCond.{PrivilegedCond}
 use Rattle.monitor_steps.specs.Steps.{PrivilegedSteps, Load, Store, Test}
 use Rattle.monitor_steps.specs.Core.{Core, low_register, with_low, with_ram}
 use Rattle.monitor_steps.specs.Accesses.{LoadStops, StoreStops, address_of, load, store}
@@ -31,7 +31,7 @@ bad_verdict j p kind w a e = rw e refl
 
 module _ {j : PermissionTest} {i : Image} {Good : ProtectionState → Type 0} {Allowed : Rule} where
   -- both answers
-  pub test_within : {m : ℕ} {t : GateCond} {a b : ℕ} {ys ns k : PrivilegedSteps} {ks : List PrivilegedSteps} {c : Core} {Q : Outcome → Type 0} → (compared t (low_register c a) (low_register c b) ≡ true → GivesWithin j i Good Allowed m ys (k ∷ ks) c Q) →
+  pub test_within : {m : ℕ} {t : PrivilegedCond} {a b : ℕ} {ys ns k : PrivilegedSteps} {ks : List PrivilegedSteps} {c : Core} {Q : Outcome → Type 0} → (compared t (low_register c a) (low_register c b) ≡ true → GivesWithin j i Good Allowed m ys (k ∷ ks) c Q) →
       (compared t (low_register c a) (low_register c b) ≡ false → GivesWithin j i Good Allowed m ns (k ∷ ks) c Q) → GivesWithin j i Good Allowed (4 + m) (Test t a b ys ns k) ks c Q
   test_within {m} {t} {a} {b} {ys} {ns} {k} {ks} {c} {Q} y n = pick (compared t (low_register c a) (low_register c b)) refl
     where

@@ -8,10 +8,10 @@ use Rattle.machine_thumb.specs.Table.{IsGeneral, IsOffset}
 use Rattle.machine_thumb.specs.Bytes.{EachInTable}
 use Rattle.base_words.specs.declared.memory.Width.{Width}
 use Rattle.base_words.specs.declared.memory.Width.TheVariants.{Byte, Half, Word}
-use Rattle.monitor_steps.specs.declared.steps.GateOp.{GateOp}
-use Rattle.monitor_steps.specs.declared.steps.GateOp.TheVariants.{Add, Sub, And, Or, Shl, Shr}
-use Rattle.monitor_steps.specs.declared.steps.GateCond.{GateCond}
-use Rattle.monitor_steps.specs.declared.steps.GateCond.TheVariants.{Eq, Ult, Ule}
+use Rattle.monitor_steps.specs.declared.steps.PrivilegedOp.{PrivilegedOp}
+use Rattle.monitor_steps.specs.declared.steps.PrivilegedOp.TheVariants.{Add, Sub, And, Or, Shl, Shr}
+use Rattle.monitor_steps.specs.declared.steps.PrivilegedCond.{PrivilegedCond}
+use Rattle.monitor_steps.specs.declared.steps.PrivilegedCond.TheVariants.{Eq, Ult, Ule}
 use Rattle.monitor_steps.specs.Steps.{PrivilegedSteps, End, Const, Copy, Load, Store, Alu, ReadPsp, WritePsp, WriteControl, Test, Repeat, Halt, Return, Go, is_low}
 use Rattle.monitor_steps.specs.Code.{load_op, store_op, condition_number, by_moves, operation_code, code_length, code}
 use Rattle.monitor_model.specs.declared.tables.Tables.{Tables}
@@ -66,7 +66,7 @@ moves_in true t op to a b o x y z = ((o, z, x), tt)
 moves_in false true op to a b o x y z = ((omega arith, omega (arith, y), omega arith, λ e. absurd (omega (arith, e))), ((o, z, y), ((omega arith, omega (arith, y), omega (arith, x), λ e. absurd (omega (arith, e))), ((omega arith, omega arith, omega (arith, y), λ e. absurd (omega (arith, e))), tt))))
 moves_in false false op to a b o x y z = ((omega arith, omega (arith, y), omega (arith, x), λ e. absurd (omega (arith, e))), ((o, z, x), tt))
 
-operation_in : (op : GateOp) (to a b : ℕ) → to < 8 → a < 8 → b < 8 → EachInTable (operation_code op to a b)
+operation_in : (op : PrivilegedOp) (to a b : ℕ) → to < 8 → a < 8 → b < 8 → EachInTable (operation_code op to a b)
 operation_in Add to a b x y z = ((omega arith, z, y, x), tt)
 operation_in Sub to a b x y z = ((omega arith, z, y, x), tt)
 operation_in And to a b x y z = moves_in (nat_eq to a) (nat_eq to b) 0 to a b (omega arith) x y z
@@ -84,7 +84,7 @@ store_small Byte = omega arith
 store_small Half = omega arith
 store_small Word = omega arith
 
-condition_small : (c : GateCond) → condition_number c < 14
+condition_small : (c : PrivilegedCond) → condition_number c < 14
 condition_small Eq = omega arith
 condition_small Ult = omega arith
 condition_small Ule = omega arith

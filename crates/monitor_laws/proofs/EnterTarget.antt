@@ -10,8 +10,8 @@ use Rattle.machine_bus.specs.Locations.{choose}
 use Rattle.machine_model.specs.declared.state.ProtectionState.{ProtectionState}
 use Rattle.machine_model.specs.declared.state.FaultStatus.{FaultStatus}
 use Rattle.machine_model.specs.State.{by_mpu}
-use Rattle.monitor_steps.specs.declared.steps.GateOp.TheVariants.{Add}
-use Rattle.monitor_steps.specs.declared.steps.GateCond.TheVariants.{Eq}
+use Rattle.monitor_steps.specs.declared.steps.PrivilegedOp.TheVariants.{Add}
+use Rattle.monitor_steps.specs.declared.steps.PrivilegedCond.TheVariants.{Eq}
 use Rattle.monitor_steps.specs.Steps.{PrivilegedSteps, End, Const, Load, Alu, Test}
 use Rattle.monitor_steps.specs.Core.{Core, low_register}
 use Rattle.monitor_steps.specs.Effect.{Outcome, Went, Halted, with_one_less}

@@ -3,15 +3,15 @@ use Rattle.std.proofs.Common.{◌≡◌, ℕ, suc, ◌+◌, ◌*◌, ◌/◌, Li
 use Rattle.base_words.specs.declared.memory.Width.{Width}
 use Rattle.base_words.specs.declared.memory.Width.TheVariants.{Byte, Half, Word}
 use Rattle.base_words.specs.Width.{byte_count}
-use Rattle.monitor_steps.specs.declared.steps.GateStep.{GateStep}
-use Rattle.monitor_steps.specs.declared.steps.GateStep.TheBlock.{Load, Store}
+use Rattle.monitor_steps.specs.declared.steps.PrivilegedStep.{PrivilegedStep}
+use Rattle.monitor_steps.specs.declared.steps.PrivilegedStep.TheBlock.{Load, Store}
 use Rattle.monitor_steps.specs.Steps as list
 use Rattle.monitor_steps.specs.Steps.{PrivilegedSteps}
 use Rattle.monitor_steps.specs.Lists.{before, all_before}
 use Rattle.monitor_program.specs.Opening.{region, regions}
 use Rattle.monitor_steps.proofs.Views.{all_before-append, before-Load, before-Store}
 
-pub one_more : (old new : List GateStep) (s : GateStep) (f : PrivilegedSteps → PrivilegedSteps) → new ≡ old ++ s ∷ [] → ((rest : PrivilegedSteps) → before s rest ≡ f rest) → (rest : PrivilegedSteps) → all_before new rest ≡ all_before old (f rest)
+pub one_more : (old new : List PrivilegedStep) (s : PrivilegedStep) (f : PrivilegedSteps → PrivilegedSteps) → new ≡ old ++ s ∷ [] → ((rest : PrivilegedSteps) → before s rest ≡ f rest) → (rest : PrivilegedSteps) → all_before new rest ≡ all_before old (f rest)
 one_more old new s f e g rest = ap (λ x. all_before x rest) e ∙ all_before-append old (s ∷ []) rest ∙ ap (all_before old) (g rest)
 
 -- at the address itself
@@ -37,6 +37,6 @@ pub store_words : (from base words : ℕ) (rest : PrivilegedSteps) → before (S
 store_words from base words rest = before-Store from base (4 * words) Word rest ∙ ap (λ n. list.Store Word from base n rest) (of_words words)
 
 -- regions are put one after the other
-pub one_region_more : (new old : List GateStep) (n from : ℕ) → ((rest : PrivilegedSteps) → all_before new rest ≡ all_before old (region from rest))
+pub one_region_more : (new old : List PrivilegedStep) (n from : ℕ) → ((rest : PrivilegedSteps) → all_before new rest ≡ all_before old (region from rest))
     → (rest : PrivilegedSteps) → all_before new (regions n (from + 2) rest) ≡ all_before old (regions (suc n) from rest)
 one_region_more new old n from e rest = e (regions n (from + 2) rest)

@@ -8,7 +8,7 @@ ghost use Rattle.monitor_program.specs.Opening as opening;
 ghost use Rattle.monitor_lists.specs.Made.{Appends};
 
 use base_words::memory::Width;
-use monitor_steps::{GateCond, GateOp, GateStep};
+use monitor_steps::{PrivilegedCond, PrivilegedOp, PrivilegedStep};
 use std::alloc::{AllocError, Global};
 
 /// Steps, one behind the other.
@@ -16,7 +16,7 @@ use std::alloc::{AllocError, Global};
 pub struct StepList {
     alloc: Global,
     /// The steps.
-    pub steps: Vec<GateStep>,
+    pub steps: Vec<PrivilegedStep>,
 }
 
 impl StepList {
@@ -43,14 +43,14 @@ impl StepList {
     }
 
     /// The steps. Takes no memory.
-    pub fn into_vec(self) -> Vec<GateStep>
+    pub fn into_vec(self) -> Vec<PrivilegedStep>
         ensures { result.items ≡ self.steps.items }
     {
         let StepList { steps, .. } = self;
         steps
     }
 
-    fn put(&mut self, step: GateStep) -> Result<(), AllocError>
+    fn put(&mut self, step: PrivilegedStep) -> Result<(), AllocError>
         ensures { OnOk result (self.new.steps.items ≡ self.old.steps.items ++ step ∷ []) }
     {
         self.steps.push(step)?;
@@ -61,21 +61,21 @@ impl StepList {
     pub fn constant(&mut self, to: u8, value: u32) -> Result<(), AllocError>
         ensures { OnOk result (Appends self.old self.new (steps.Const to value)) }
     {
-        self.put(GateStep::Const { to, value })
+        self.put(PrivilegedStep::Const { to, value })
     }
 
     /// Another register's value into a register.
     pub fn copy(&mut self, to: u8, from: u8) -> Result<(), AllocError>
         ensures { OnOk result (Appends self.old self.new (steps.Copy to from)) }
     {
-        self.put(GateStep::Copy { to, from })
+        self.put(PrivilegedStep::Copy { to, from })
     }
 
     /// The value at the address in a register, with zeros before it.
     pub fn load(&mut self, width: Width, to: u8, base: u8) -> Result<(), AllocError>
         ensures { OnOk result (Appends self.old self.new (steps.Load width to base 0)) }
     {
-        self.put(GateStep::Load {
+        self.put(PrivilegedStep::Load {
             to,
             base,
             offset: 0,
@@ -87,7 +87,7 @@ impl StepList {
     pub fn store(&mut self, width: Width, from: u8, base: u8) -> Result<(), AllocError>
         ensures { OnOk result (Appends self.old self.new (steps.Store width from base 0)) }
     {
-        self.put(GateStep::Store {
+        self.put(PrivilegedStep::Store {
             from,
             base,
             offset: 0,
@@ -100,7 +100,7 @@ impl StepList {
         requires { words < 32 }
         ensures { OnOk result (Appends self.old self.new (steps.Load Word to base words)) }
     {
-        self.put(GateStep::Load {
+        self.put(PrivilegedStep::Load {
             to,
             base,
             offset: 4 * words,
@@ -113,7 +113,7 @@ impl StepList {
         requires { words < 32 }
         ensures { OnOk result (Appends self.old self.new (steps.Store Word from base words)) }
     {
-        self.put(GateStep::Store {
+        self.put(PrivilegedStep::Store {
             from,
             base,
             offset: 4 * words,
@@ -122,37 +122,37 @@ impl StepList {
     }
 
     /// What an operation on two registers gives.
-    pub fn alu(&mut self, op: GateOp, to: u8, a: u8, b: u8) -> Result<(), AllocError>
+    pub fn alu(&mut self, op: PrivilegedOp, to: u8, a: u8, b: u8) -> Result<(), AllocError>
         ensures { OnOk result (Appends self.old self.new (steps.Alu op to a b)) }
     {
-        self.put(GateStep::Alu { op, to, a, b })
+        self.put(PrivilegedStep::Alu { op, to, a, b })
     }
 
     /// The process stack pointer into a register.
     pub fn read_psp(&mut self, to: u8) -> Result<(), AllocError>
         ensures { OnOk result (Appends self.old self.new (steps.ReadPsp to)) }
     {
-        self.put(GateStep::ReadPsp { to })
+        self.put(PrivilegedStep::ReadPsp { to })
     }
 
     /// A register's value into the process stack pointer.
     pub fn write_psp(&mut self, from: u8) -> Result<(), AllocError>
         ensures { OnOk result (Appends self.old self.new (steps.WritePsp from)) }
     {
-        self.put(GateStep::WritePsp { from })
+        self.put(PrivilegedStep::WritePsp { from })
     }
 
     /// A register's value into CONTROL.
     pub fn write_control(&mut self, from: u8) -> Result<(), AllocError>
         ensures { OnOk result (Appends self.old self.new (steps.WriteControl from)) }
     {
-        self.put(GateStep::WriteControl { from })
+        self.put(PrivilegedStep::WriteControl { from })
     }
 
     /// One of two lists, by a comparison of two registers.
     pub fn test(
         &mut self,
-        cond: GateCond,
+        cond: PrivilegedCond,
         a: u8,
         b: u8,
         yes: StepList,
@@ -162,7 +162,7 @@ impl StepList {
     {
         let yes = yes.into_vec();
         let no = no.into_vec();
-        self.put(GateStep::Test {
+        self.put(PrivilegedStep::Test {
             cond,
             a,
             b,
@@ -176,32 +176,32 @@ impl StepList {
         ensures { OnOk result (Appends self.old self.new (steps.Repeat left most (steps_of body.steps.items))) }
     {
         let body = body.into_vec();
-        self.put(GateStep::Repeat { left, most, body })
+        self.put(PrivilegedStep::Repeat { left, most, body })
     }
 
     /// The end of the machine, with a number.
     pub fn halt(&mut self, code: u8) -> Result<(), AllocError>
         ensures { OnOk result (Appends self.old self.new (steps.Halt code)) }
     {
-        self.put(GateStep::Halt { code })
+        self.put(PrivilegedStep::Halt { code })
     }
 
     /// The exception return.
     pub fn exception_return(&mut self) -> Result<(), AllocError>
         ensures { OnOk result (Appends self.old self.new steps.Return) }
     {
-        self.put(GateStep::Return)
+        self.put(PrivilegedStep::Return)
     }
 
     /// A branch to the address in a register, the link register taken from another.
     pub fn go(&mut self, to: u8, link: u8) -> Result<(), AllocError>
         ensures { OnOk result (Appends self.old self.new (steps.Go to link)) }
     {
-        self.put(GateStep::Go { to, link })
+        self.put(PrivilegedStep::Go { to, link })
     }
 
     /// A comparison that has to hold; else the machine halts with a number.
-    pub fn must(&mut self, cond: GateCond, a: u8, b: u8, code: u8) -> Result<(), AllocError>
+    pub fn must(&mut self, cond: PrivilegedCond, a: u8, b: u8, code: u8) -> Result<(), AllocError>
         ensures { OnOk result (Appends self.old self.new (opening.must cond a b code)) }
     {
         let mut halt = self.other();
@@ -210,7 +210,13 @@ impl StepList {
     }
 
     /// A comparison that must not hold; else the machine halts with a number.
-    pub fn must_not(&mut self, cond: GateCond, a: u8, b: u8, code: u8) -> Result<(), AllocError>
+    pub fn must_not(
+        &mut self,
+        cond: PrivilegedCond,
+        a: u8,
+        b: u8,
+        code: u8,
+    ) -> Result<(), AllocError>
         ensures { OnOk result (Appends self.old self.new (opening.must_not cond a b code)) }
     {
         let mut halt = self.other();

@@ -14,7 +14,7 @@ use crate::values::{LOAN_SIZE, MOST_LOANS, REFUSED_ACCESS};
 use crate::{Numbers, StepList};
 use base_words::memory::Width;
 use machine_model::CFSR;
-use monitor_steps::{GateCond, GateOp};
+use monitor_steps::{PrivilegedCond, PrivilegedOp};
 use std::alloc::{AllocError, Global};
 
 /// Where the halfword in r4 is this one, a width into r6, by r5; else another list.
@@ -24,7 +24,7 @@ fn on_half(list: &mut StepList, half: u32, width: u32, other: StepList) -> Resul
     let mut found = list.other();
     found.constant(6, width)?;
     list.constant(5, half)?;
-    list.test(GateCond::Eq, 4, 5, found, other)?;
+    list.test(PrivilegedCond::Eq, 4, 5, found, other)?;
     Ok(())
 }
 
@@ -55,10 +55,10 @@ fn has_bit(alloc: Global) -> Result<StepList, AllocError>
     let mut list = StepList::new(alloc);
     list.load_word(0, 2, LOAN_NUMBER)?;
     list.copy(1, 5)?;
-    list.alu(GateOp::Shr, 1, 1, 0)?;
+    list.alu(PrivilegedOp::Shr, 1, 1, 0)?;
     list.constant(0, 1)?;
-    list.alu(GateOp::And, 1, 1, 0)?;
-    list.test(GateCond::Eq, 1, 0, found, StepList::new(alloc))?;
+    list.alu(PrivilegedOp::And, 1, 1, 0)?;
+    list.test(PrivilegedCond::Eq, 1, 0, found, StepList::new(alloc))?;
     Ok(list)
 }
 
@@ -68,8 +68,8 @@ fn has_width(alloc: Global) -> Result<StepList, AllocError>
 {
     let bit = has_bit(alloc)?;
     let mut list = StepList::new(alloc);
-    list.alu(GateOp::Sub, 0, 0, 4)?;
-    list.test(GateCond::Ule, 6, 0, bit, StepList::new(alloc))?;
+    list.alu(PrivilegedOp::Sub, 0, 0, 4)?;
+    list.test(PrivilegedCond::Ule, 6, 0, bit, StepList::new(alloc))?;
     Ok(list)
 }
 
@@ -80,7 +80,7 @@ fn has_end(alloc: Global) -> Result<StepList, AllocError>
     let width = has_width(alloc)?;
     let mut list = StepList::new(alloc);
     list.load_word(0, 2, LOAN_END)?;
-    list.test(GateCond::Ule, 4, 0, width, StepList::new(alloc))?;
+    list.test(PrivilegedCond::Ule, 4, 0, width, StepList::new(alloc))?;
     Ok(list)
 }
 
@@ -91,9 +91,9 @@ fn loan_turn(alloc: Global) -> Result<StepList, AllocError>
     let end = has_end(alloc)?;
     let mut list = StepList::new(alloc);
     list.load_word(0, 2, LOAN_FROM)?;
-    list.test(GateCond::Ule, 0, 4, end, StepList::new(alloc))?;
+    list.test(PrivilegedCond::Ule, 0, 4, end, StepList::new(alloc))?;
     list.constant(0, LOAN_SIZE)?;
-    list.alu(GateOp::Add, 2, 2, 0)?;
+    list.alu(PrivilegedOp::Add, 2, 2, 0)?;
     Ok(list)
 }
 
@@ -125,7 +125,7 @@ fn scan(list: &mut StepList, c: &Numbers, mask_at: u8, code: u8) -> Result<(), A
     scan_begun(list, c, mask_at)?;
     list.repeat(3, MOST_LOANS, turn)?;
     list.constant(0, 1)?;
-    list.must(GateCond::Eq, 7, 0, code)?;
+    list.must(PrivilegedCond::Eq, 7, 0, code)?;
     list.read_psp(0)?;
     Ok(())
 }
@@ -141,9 +141,9 @@ fn by_width(
 {
     let mut narrow = list.other();
     narrow.constant(7, 1)?;
-    narrow.test(GateCond::Eq, 6, 7, byte, half)?;
+    narrow.test(PrivilegedCond::Eq, 6, 7, byte, half)?;
     list.constant(7, 4)?;
-    list.test(GateCond::Eq, 6, 7, word, narrow)?;
+    list.test(PrivilegedCond::Eq, 6, 7, word, narrow)?;
     Ok(())
 }
 
@@ -193,7 +193,7 @@ fn finished(list: &mut StepList) -> Result<(), AllocError>
 {
     list.load_word(4, 0, FRAME_RETURN)?;
     list.constant(5, 2)?;
-    list.alu(GateOp::Add, 4, 4, 5)?;
+    list.alu(PrivilegedOp::Add, 4, 4, 5)?;
     list.store_word(4, 0, FRAME_RETURN)?;
     list.constant(4, CFSR)?;
     list.load_word(5, 4, 0)?;
@@ -259,8 +259,8 @@ fn fault_asked(list: &mut StepList) -> Result<(), AllocError>
     list.constant(4, CFSR)?;
     list.load_word(5, 4, 0)?;
     list.constant(6, REFUSED_ACCESS)?;
-    list.alu(GateOp::And, 5, 5, 6)?;
-    list.must(GateCond::Eq, 5, 6, HALT_FAULT)?;
+    list.alu(PrivilegedOp::And, 5, 5, 6)?;
+    list.must(PrivilegedCond::Eq, 5, 6, HALT_FAULT)?;
     list.load_word(4, 0, FRAME_RETURN)?;
     list.load(Width::Half, 4, 4)?;
     Ok(())

@@ -11,7 +11,7 @@ use crate::numbers::Numbers;
 use crate::places::{FRAME_XPSR, RECORD_CODE, RECORD_SLOTS, REGION_RASR, REGION_RBAR, TOP};
 use crate::values::{ALL_EIGHTHS, FRAME_SIZE, PADDED, SRD_SHIFT, UNIT_OFF, UNIT_ON};
 use machine_protection::{MPU_CTRL, MPU_RBAR};
-use monitor_steps::{GateCond, GateOp};
+use monitor_steps::{PrivilegedCond, PrivilegedOp};
 use std::alloc::AllocError;
 
 /// A value to MPU_CTRL, by two registers.
@@ -36,12 +36,12 @@ fn stack_tests(list: &mut StepList, c: &Numbers) -> Result<(), AllocError>
     list.read_psp(0)?;
     list.constant(1, c.block)?;
     list.constant(2, c.stack)?;
-    list.must(GateCond::Ule, 2, 0, HALT_STACK)?;
+    list.must(PrivilegedCond::Ule, 2, 0, HALT_STACK)?;
     list.load_word(3, 1, TOP)?;
-    list.must(GateCond::Ule, 0, 3, HALT_STACK)?;
-    list.alu(GateOp::Sub, 4, 3, 0)?;
+    list.must(PrivilegedCond::Ule, 0, 3, HALT_STACK)?;
+    list.alu(PrivilegedOp::Sub, 4, 3, 0)?;
     list.constant(5, FRAME_SIZE)?;
-    list.must(GateCond::Ule, 5, 4, HALT_STACK)?;
+    list.must(PrivilegedCond::Ule, 5, 4, HALT_STACK)?;
     Ok(())
 }
 
@@ -51,9 +51,9 @@ fn status_test(list: &mut StepList) -> Result<(), AllocError>
 {
     list.load_word(4, 0, FRAME_XPSR)?;
     list.constant(5, PADDED)?;
-    list.alu(GateOp::And, 4, 4, 5)?;
+    list.alu(PrivilegedOp::And, 4, 4, 5)?;
     list.constant(5, 0)?;
-    list.must(GateCond::Eq, 4, 5, HALT_STACK)?;
+    list.must(PrivilegedCond::Eq, 4, 5, HALT_STACK)?;
     Ok(())
 }
 
@@ -80,9 +80,9 @@ pub fn closed_up(list: &mut StepList) -> Result<(), AllocError>
 fn doubled(list: &mut StepList, to: u8, from: u8, bit: bool) -> Result<(), AllocError>
     ensures { OnOk result (Appends list.old list.new (opening.times to from (bit ∷ []))) }
 {
-    list.alu(GateOp::Add, to, to, to)?;
+    list.alu(PrivilegedOp::Add, to, to, to)?;
     if bit {
-        list.alu(GateOp::Add, to, to, from)?;
+        list.alu(PrivilegedOp::Add, to, to, from)?;
     }
     Ok(())
 }
@@ -106,9 +106,9 @@ pub fn record_of(list: &mut StepList, c: &Numbers) -> Result<(), AllocError>
     list.constant(6, 0)?;
     times(list, 6, 5, c.slots + 2)?;
     list.constant(7, 3)?;
-    list.alu(GateOp::Shl, 6, 6, 7)?;
+    list.alu(PrivilegedOp::Shl, 6, 6, 7)?;
     list.constant(7, c.compartments_at)?;
-    list.alu(GateOp::Add, 6, 6, 7)?;
+    list.alu(PrivilegedOp::Add, 6, 6, 7)?;
     Ok(())
 }
 
@@ -140,13 +140,13 @@ fn closed_eighths(list: &mut StepList, c: &Numbers) -> Result<(), AllocError>
     ensures { OnOk result (Appends list.old list.new (opening.closed_eighths (constants_of c.now))) }
 {
     list.constant(2, c.stack)?;
-    list.alu(GateOp::Sub, 7, 3, 2)?;
+    list.alu(PrivilegedOp::Sub, 7, 3, 2)?;
     list.constant(2, c.eighth)?;
-    list.alu(GateOp::Shr, 7, 7, 2)?;
+    list.alu(PrivilegedOp::Shr, 7, 7, 2)?;
     list.constant(2, ALL_EIGHTHS)?;
-    list.alu(GateOp::Shl, 2, 2, 7)?;
+    list.alu(PrivilegedOp::Shl, 2, 2, 7)?;
     list.constant(7, ALL_EIGHTHS)?;
-    list.alu(GateOp::And, 2, 2, 7)?;
+    list.alu(PrivilegedOp::And, 2, 2, 7)?;
     Ok(())
 }
 
@@ -156,9 +156,9 @@ fn stack_region(list: &mut StepList, c: &Numbers) -> Result<(), AllocError>
 {
     closed_eighths(list, c)?;
     list.constant(7, SRD_SHIFT)?;
-    list.alu(GateOp::Shl, 2, 2, 7)?;
+    list.alu(PrivilegedOp::Shl, 2, 2, 7)?;
     list.constant(7, c.stack_region.rasr)?;
-    list.alu(GateOp::Add, 2, 2, 7)?;
+    list.alu(PrivilegedOp::Add, 2, 2, 7)?;
     list.constant(7, c.stack_region.rbar)?;
     list.store_word(7, 0, REGION_RBAR)?;
     list.store_word(2, 0, REGION_RASR)?;

@@ -15,7 +15,7 @@ use crate::values::{FAULTS_ON, INIT_SIZE, TRAPS_ON, UNIT_ON, UNPRIVILEGED};
 use crate::{Numbers, StepList};
 use machine_model::{CCR, SHCSR};
 use machine_protection::{MPU_RBAR, MPU_TYPE};
-use monitor_steps::{GateCond, GateOp};
+use monitor_steps::{PrivilegedCond, PrivilegedOp};
 use std::alloc::{AllocError, Global};
 
 /// One word from flash, at r3, to RAM, at r2.
@@ -26,8 +26,8 @@ fn word_turn(alloc: Global) -> Result<StepList, AllocError>
     list.load_word(6, 3, 0)?;
     list.store_word(6, 2, 0)?;
     list.constant(6, 4)?;
-    list.alu(GateOp::Add, 2, 2, 6)?;
-    list.alu(GateOp::Add, 3, 3, 6)?;
+    list.alu(PrivilegedOp::Add, 2, 2, 6)?;
+    list.alu(PrivilegedOp::Add, 3, 3, 6)?;
     Ok(list)
 }
 
@@ -40,12 +40,12 @@ fn init_turn(alloc: Global, c: &Numbers) -> Result<StepList, AllocError>
     list.load_word(2, 0, INIT_AT)?;
     list.load_word(4, 0, INIT_END)?;
     list.load_word(3, 0, INIT_FROM)?;
-    list.alu(GateOp::Sub, 4, 4, 2)?;
+    list.alu(PrivilegedOp::Sub, 4, 4, 2)?;
     list.constant(6, 2)?;
-    list.alu(GateOp::Shr, 4, 4, 6)?;
+    list.alu(PrivilegedOp::Shr, 4, 4, 6)?;
     list.repeat(4, c.words, turn)?;
     list.constant(6, INIT_SIZE)?;
-    list.alu(GateOp::Add, 0, 0, 6)?;
+    list.alu(PrivilegedOp::Add, 0, 0, 6)?;
     Ok(list)
 }
 
@@ -65,7 +65,7 @@ fn unit_is_there(list: &mut StepList, c: &Numbers) -> Result<(), AllocError>
     list.constant(0, MPU_TYPE)?;
     list.load_word(6, 0, 0)?;
     list.constant(1, 256 * (c.slots as u32 + 4))?;
-    list.must(GateCond::Eq, 6, 1, HALT_UNIT)?;
+    list.must(PrivilegedCond::Eq, 6, 1, HALT_UNIT)?;
     Ok(())
 }
 

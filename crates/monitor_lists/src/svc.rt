@@ -17,7 +17,7 @@ use crate::values::{
 };
 use crate::{Numbers, StepList};
 use base_words::memory::Width;
-use monitor_steps::{GateCond, GateOp};
+use monitor_steps::{PrivilegedCond, PrivilegedOp};
 use std::alloc::{AllocError, Global};
 
 /// The number at the return address is that of a site; the record of it into r6, by r7. Else the machine halts with 2.
@@ -26,14 +26,14 @@ fn site_record(list: &mut StepList, c: &Numbers) -> Result<(), AllocError>
 {
     list.load(Width::Half, 5, 4)?;
     list.constant(6, c.sites)?;
-    list.must(GateCond::Ult, 5, 6, HALT_SITE)?;
+    list.must(PrivilegedCond::Ult, 5, 6, HALT_SITE)?;
     list.constant(6, 2)?;
     list.copy(7, 5)?;
-    list.alu(GateOp::Shl, 7, 7, 6)?;
-    list.alu(GateOp::Add, 6, 7, 7)?;
-    list.alu(GateOp::Add, 6, 6, 7)?;
+    list.alu(PrivilegedOp::Shl, 7, 7, 6)?;
+    list.alu(PrivilegedOp::Add, 6, 7, 7)?;
+    list.alu(PrivilegedOp::Add, 6, 6, 7)?;
     list.constant(7, c.sites_at)?;
-    list.alu(GateOp::Add, 6, 6, 7)?;
+    list.alu(PrivilegedOp::Add, 6, 6, 7)?;
     Ok(())
 }
 
@@ -43,7 +43,7 @@ fn site(list: &mut StepList, c: &Numbers) -> Result<(), AllocError>
 {
     site_record(list, c)?;
     list.load_word(7, 6, SITE_RETURN)?;
-    list.must(GateCond::Eq, 7, 4, HALT_SITE)?;
+    list.must(PrivilegedCond::Eq, 7, 4, HALT_SITE)?;
     list.load_word(5, 6, SITE_FIRST)?;
     list.load_word(6, 6, SITE_COUNT)?;
     Ok(())
@@ -57,9 +57,9 @@ fn target_turn(alloc: Global) -> Result<StepList, AllocError>
     found.load_word(5, 7, TARGET_COMPARTMENT)?;
     let mut list = StepList::new(alloc);
     list.load_word(3, 7, TARGET_ENTRY)?;
-    list.test(GateCond::Eq, 3, 4, found, StepList::new(alloc))?;
+    list.test(PrivilegedCond::Eq, 3, 4, found, StepList::new(alloc))?;
     list.constant(3, TARGET_SIZE)?;
-    list.alu(GateOp::Add, 7, 7, 3)?;
+    list.alu(PrivilegedOp::Add, 7, 7, 3)?;
     Ok(list)
 }
 
@@ -70,9 +70,9 @@ fn target_asked(list: &mut StepList, c: &Numbers) -> Result<(), AllocError>
 {
     list.load_word(4, 0, FRAME_R12)?;
     list.constant(7, 3)?;
-    list.alu(GateOp::Shl, 5, 5, 7)?;
+    list.alu(PrivilegedOp::Shl, 5, 5, 7)?;
     list.constant(7, c.targets_at)?;
-    list.alu(GateOp::Add, 7, 7, 5)?;
+    list.alu(PrivilegedOp::Add, 7, 7, 5)?;
     list.constant(5, NO_COMPARTMENT)?;
     Ok(())
 }
@@ -85,7 +85,7 @@ fn target(list: &mut StepList, c: &Numbers) -> Result<(), AllocError>
     target_asked(list, c)?;
     list.repeat(6, MOST_TARGETS, turn)?;
     list.constant(3, NO_COMPARTMENT)?;
-    list.must_not(GateCond::Eq, 5, 3, HALT_TARGET)?;
+    list.must_not(PrivilegedCond::Eq, 5, 3, HALT_TARGET)?;
     Ok(())
 }
 
@@ -93,13 +93,13 @@ fn target(list: &mut StepList, c: &Numbers) -> Result<(), AllocError>
 fn rounded(list: &mut StepList, c: &Numbers) -> Result<(), AllocError>
     ensures { OnOk result (Appends list.old list.new (handler.rounded (constants_of c.now))) }
 {
-    list.alu(GateOp::Sub, 3, 0, 2)?;
+    list.alu(PrivilegedOp::Sub, 3, 0, 2)?;
     list.constant(6, c.eighth)?;
-    list.alu(GateOp::Shr, 3, 3, 6)?;
-    list.alu(GateOp::Shl, 3, 3, 6)?;
+    list.alu(PrivilegedOp::Shr, 3, 3, 6)?;
+    list.alu(PrivilegedOp::Shl, 3, 3, 6)?;
     list.constant(6, 0)?;
-    list.must_not(GateCond::Eq, 3, 6, HALT_LIMIT)?;
-    list.alu(GateOp::Add, 3, 3, 2)?;
+    list.must_not(PrivilegedCond::Eq, 3, 6, HALT_LIMIT)?;
+    list.alu(PrivilegedOp::Add, 3, 3, 2)?;
     Ok(())
 }
 
@@ -109,7 +109,7 @@ fn raise(list: &mut StepList) -> Result<(), AllocError>
 {
     list.load_word(4, 0, FRAME_RETURN)?;
     list.constant(6, 2)?;
-    list.alu(GateOp::Add, 4, 4, 6)?;
+    list.alu(PrivilegedOp::Add, 4, 4, 6)?;
     list.store_word(4, 0, FRAME_RETURN)?;
     Ok(())
 }
@@ -121,8 +121,8 @@ fn save(list: &mut StepList) -> Result<(), AllocError>
     list.load_word(4, 1, DEPTH)?;
     list.constant(6, 4)?;
     list.copy(7, 4)?;
-    list.alu(GateOp::Shl, 7, 7, 6)?;
-    list.alu(GateOp::Add, 6, 7, 1)?;
+    list.alu(PrivilegedOp::Shl, 7, 7, 6)?;
+    list.alu(PrivilegedOp::Add, 6, 7, 1)?;
     list.store_word(0, 6, SAVED_PSP)?;
     list.load_word(7, 1, CUR)?;
     list.store_word(7, 6, SAVED_CUR)?;
@@ -138,7 +138,7 @@ fn frame_arguments(list: &mut StepList) -> Result<(), AllocError>
     ensures { OnOk result (Appends list.old list.new handler.frame_arguments) }
 {
     list.constant(6, FRAME_SIZE)?;
-    list.alu(GateOp::Sub, 6, 3, 6)?;
+    list.alu(PrivilegedOp::Sub, 6, 3, 6)?;
     list.load_word(7, 0, FRAME_R0)?;
     list.store_word(7, 6, FRAME_R0)?;
     list.load_word(7, 0, FRAME_R1)?;
@@ -161,7 +161,7 @@ fn frame(list: &mut StepList, c: &Numbers) -> Result<(), AllocError>
     list.store_word(7, 6, FRAME_LR)?;
     list.load_word(7, 0, FRAME_R12)?;
     list.constant(2, 1)?;
-    list.alu(GateOp::Sub, 7, 7, 2)?;
+    list.alu(PrivilegedOp::Sub, 7, 7, 2)?;
     list.store_word(7, 6, FRAME_RETURN)?;
     list.constant(7, THREAD_XPSR)?;
     list.store_word(7, 6, FRAME_XPSR)?;
@@ -173,7 +173,7 @@ fn entered(list: &mut StepList) -> Result<(), AllocError>
     ensures { OnOk result (Appends list.old list.new handler.entered) }
 {
     list.constant(7, 1)?;
-    list.alu(GateOp::Add, 4, 4, 7)?;
+    list.alu(PrivilegedOp::Add, 4, 4, 7)?;
     list.store_word(4, 1, DEPTH)?;
     list.store_word(5, 1, CUR)?;
     list.store_word(3, 1, TOP)?;
@@ -208,15 +208,15 @@ fn left(list: &mut StepList) -> Result<(), AllocError>
 {
     list.load_word(4, 1, DEPTH)?;
     list.constant(6, 0)?;
-    list.must_not(GateCond::Eq, 4, 6, HALT_END)?;
+    list.must_not(PrivilegedCond::Eq, 4, 6, HALT_END)?;
     list.constant(6, 1)?;
-    list.alu(GateOp::Sub, 4, 4, 6)?;
+    list.alu(PrivilegedOp::Sub, 4, 4, 6)?;
     list.store_word(4, 1, DEPTH)?;
     list.load_word(7, 1, MARK)?;
     list.store_word(7, 1, LOANS)?;
     list.constant(6, 4)?;
-    list.alu(GateOp::Shl, 4, 4, 6)?;
-    list.alu(GateOp::Add, 6, 4, 1)?;
+    list.alu(PrivilegedOp::Shl, 4, 4, 6)?;
+    list.alu(PrivilegedOp::Add, 6, 4, 1)?;
     Ok(())
 }
 
@@ -258,13 +258,13 @@ fn lend_number(list: &mut StepList, c: &Numbers) -> Result<(), AllocError>
     list.load_word(5, 0, FRAME_R1)?;
     list.load_word(6, 1, LOANS)?;
     list.constant(7, MOST_LOANS)?;
-    list.must_not(GateCond::Eq, 6, 7, HALT_LOAN)?;
+    list.must_not(PrivilegedCond::Eq, 6, 7, HALT_LOAN)?;
     list.constant(7, c.lends)?;
-    list.must(GateCond::Ult, 5, 7, HALT_LOAN)?;
+    list.must(PrivilegedCond::Ult, 5, 7, HALT_LOAN)?;
     list.constant(7, 3)?;
-    list.alu(GateOp::And, 7, 7, 4)?;
+    list.alu(PrivilegedOp::And, 7, 7, 4)?;
     list.constant(2, 0)?;
-    list.must(GateCond::Eq, 7, 2, HALT_LOAN)?;
+    list.must(PrivilegedCond::Eq, 7, 2, HALT_LOAN)?;
     Ok(())
 }
 
@@ -272,17 +272,17 @@ fn lend_number(list: &mut StepList, c: &Numbers) -> Result<(), AllocError>
 fn lend_place(list: &mut StepList, c: &Numbers) -> Result<(), AllocError>
     ensures { OnOk result (Appends list.old list.new (handler.lend_place (constants_of c.now))) }
 {
-    list.alu(GateOp::Add, 2, 5, 5)?;
-    list.alu(GateOp::Add, 2, 2, 2)?;
+    list.alu(PrivilegedOp::Add, 2, 5, 5)?;
+    list.alu(PrivilegedOp::Add, 2, 2, 2)?;
     list.constant(7, c.lends_at)?;
-    list.alu(GateOp::Add, 2, 2, 7)?;
+    list.alu(PrivilegedOp::Add, 2, 2, 7)?;
     list.load_word(2, 2, 0)?;
     list.constant(7, FRAME_SIZE)?;
-    list.alu(GateOp::Add, 7, 0, 7)?;
-    list.must(GateCond::Ule, 7, 4, HALT_LOAN)?;
-    list.must(GateCond::Ule, 4, 3, HALT_LOAN)?;
-    list.alu(GateOp::Sub, 7, 3, 4)?;
-    list.must(GateCond::Ule, 2, 7, HALT_LOAN)?;
+    list.alu(PrivilegedOp::Add, 7, 0, 7)?;
+    list.must(PrivilegedCond::Ule, 7, 4, HALT_LOAN)?;
+    list.must(PrivilegedCond::Ule, 4, 3, HALT_LOAN)?;
+    list.alu(PrivilegedOp::Sub, 7, 3, 4)?;
+    list.must(PrivilegedCond::Ule, 2, 7, HALT_LOAN)?;
     Ok(())
 }
 
@@ -290,18 +290,18 @@ fn lend_place(list: &mut StepList, c: &Numbers) -> Result<(), AllocError>
 fn lend_entry(list: &mut StepList, c: &Numbers) -> Result<(), AllocError>
     ensures { OnOk result (Appends list.old list.new (handler.lend_entry (constants_of c.now))) }
 {
-    list.alu(GateOp::Add, 7, 6, 6)?;
-    list.alu(GateOp::Add, 7, 7, 6)?;
-    list.alu(GateOp::Add, 7, 7, 7)?;
-    list.alu(GateOp::Add, 7, 7, 7)?;
+    list.alu(PrivilegedOp::Add, 7, 6, 6)?;
+    list.alu(PrivilegedOp::Add, 7, 7, 6)?;
+    list.alu(PrivilegedOp::Add, 7, 7, 7)?;
+    list.alu(PrivilegedOp::Add, 7, 7, 7)?;
     list.constant(3, c.loans_at)?;
-    list.alu(GateOp::Add, 7, 7, 3)?;
+    list.alu(PrivilegedOp::Add, 7, 7, 3)?;
     list.store_word(4, 7, LOAN_FROM)?;
-    list.alu(GateOp::Add, 2, 4, 2)?;
+    list.alu(PrivilegedOp::Add, 2, 4, 2)?;
     list.store_word(2, 7, LOAN_END)?;
     list.store_word(5, 7, LOAN_NUMBER)?;
     list.constant(3, 1)?;
-    list.alu(GateOp::Add, 6, 6, 3)?;
+    list.alu(PrivilegedOp::Add, 6, 6, 3)?;
     list.store_word(6, 1, LOANS)?;
     Ok(())
 }
@@ -325,9 +325,9 @@ fn unlend(alloc: Global) -> Result<StepList, AllocError>
     let mut list = StepList::new(alloc);
     list.load_word(4, 1, LOANS)?;
     list.load_word(5, 1, MARK)?;
-    list.must_not(GateCond::Eq, 4, 5, HALT_LOAN)?;
+    list.must_not(PrivilegedCond::Eq, 4, 5, HALT_LOAN)?;
     list.constant(5, 1)?;
-    list.alu(GateOp::Sub, 4, 4, 5)?;
+    list.alu(PrivilegedOp::Sub, 4, 4, 5)?;
     list.store_word(4, 1, LOANS)?;
     closed_up(&mut list)?;
     Ok(list)
@@ -339,7 +339,7 @@ fn svc_number(list: &mut StepList) -> Result<(), AllocError>
 {
     list.load_word(4, 0, FRAME_RETURN)?;
     list.constant(5, 2)?;
-    list.alu(GateOp::Sub, 5, 4, 5)?;
+    list.alu(PrivilegedOp::Sub, 5, 4, 5)?;
     list.load(Width::Byte, 5, 5)?;
     Ok(())
 }
@@ -350,7 +350,7 @@ fn on_number(list: &mut StepList, number: u32, chosen: StepList) -> Result<(), A
 {
     let rest = list.other();
     list.constant(6, number)?;
-    list.test(GateCond::Eq, 5, 6, chosen, rest)?;
+    list.test(PrivilegedCond::Eq, 5, 6, chosen, rest)?;
     Ok(())
 }
 

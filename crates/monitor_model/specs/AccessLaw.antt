@@ -25,7 +25,7 @@ use Rattle.machine_model.specs.Exceptions.{is_frame_open}
 use Rattle.machine_model.specs.Step.{turn, step, event}
 use Rattle.machine_model.specs.RunningCode.{IsStore, IsLoad}
 use Rattle.monitor_model.specs.declared.tables.Tables.{Tables}
-use Rattle.monitor_model.specs.Block.{Block, Loan}
+use Rattle.monitor_model.specs.Block.{MonitorBlock, Loan}
 use Rattle.monitor_model.specs.BlockWords.{words_end}
 use Rattle.monitor_model.specs.Confined.{IsSvc}
 use Rattle.monitor_model.specs.Invariant.{InvariantHolds}
@@ -35,7 +35,7 @@ use Rattle.monitor_model.specs.Threads.{svc, access_steps}
 
 -- ---- reach without a loan
 
-module _ (i : Image) (t : Tables) (m : Block) where
+module _ (i : Image) (t : Tables) (m : MonitorBlock) where
   -- the stack below TOP
   abbrev pub InStack : (address : ℕ) → Type 0
   InStack a = (t.stack.base ≤ a) × (a < m.top)
@@ -105,7 +105,7 @@ pub record IsAlike (i : Image) (t : Tables) (v u : State) : Type 0 where
   pub ending : u.ending ≡ v.ending
 
 -- so many steps at most, without an event, lead to the instruction's effect and to the invariant again
-pub record HasEffect (i : Image) (t : Tables) (m : Block) (s : State) : Type 0 where
+pub record HasEffect (i : Image) (t : Tables) (m : MonitorBlock) (s : State) : Type 0 where
   pub count : ℕ
   pub within : count ≤ access_steps
   pub quiet : (k : ℕ) → k < count → event i (run (step i) k s) ≡ None
@@ -119,24 +119,24 @@ IsBehindHandler u =
 
 pub record AccessLaw (i : Image) (t : Tables) (stub : ℕ) : Type 0 where
   -- in one step, with its event, or the end that it has without protection
-  pub direct : (m : Block) (s : State) (x : Instr) → InvariantHolds i t m s → s.ending ≡ None → Lies i s.core.pc x →
+  pub direct : (m : MonitorBlock) (s : State) (x : Instr) → InvariantHolds i t m s → s.ending ≡ None → Lies i s.core.pc x →
       ((a : ℕ) → s.core.pc ≤ a → a < s.core.pc + size x → has_code t m.current a ≡ true) → IsInReach i t m (act x (s.core.pc + size x) s.core) →
       (turn by_mpu i s ≡ turn free i s) × ((turn by_mpu i s).to.ending ≡ None → InvariantHolds i t m (turn by_mpu i s).to)
   -- STR, STRB, STRH r0,[r1,#0], and on a closed board LDR, LDRB, LDRH r0,[r1,#0]
-  pub lent_stores : (m : Block) (s : State) (op w : ℕ) → InvariantHolds i t m s → s.ending ≡ None →
+  pub lent_stores : (m : MonitorBlock) (s : State) (op w : ℕ) → InvariantHolds i t m s → s.ending ≡ None →
       IsStore op w → Lies i s.core.pc (TransferImmediate op 0 1 0) →
       has_code t m.current s.core.pc ≡ true → IsLentWhole i t m (has_loan t m.current) w s → HasEffect i t m s
-  pub lent_loads : (m : Block) (s : State) (op w : ℕ) → InvariantHolds i t m s → s.ending ≡ None →
+  pub lent_loads : (m : MonitorBlock) (s : State) (op w : ℕ) → InvariantHolds i t m s → s.ending ≡ None →
       IsLoad op w → Lies i s.core.pc (TransferImmediate op 0 1 0) →
       has_code t m.current s.core.pc ≡ true → IsLentWhole i t m (has_read_loan i t m.current) w s → HasEffect i t m s
   -- an SVC of the code, or of the stub, enters the handler with its eight words pushed
-  pub enters : (m : Block) (s : State) (n : ℕ) → InvariantHolds i t m s → s.ending ≡ None → Lies i s.core.pc (svc n) →
+  pub enters : (m : MonitorBlock) (s : State) (n : ℕ) → InvariantHolds i t m s → s.ending ≡ None → Lies i s.core.pc (svc n) →
       (has_code t m.current s.core.pc ≡ true) ⊎ (s.core.pc ≡ stub) → StackHasRoom i t m s →
       (is_frame_open by_mpu i s ≡ true) × ((turn by_mpu i s).to ≡ at_svc i s)
   -- and no handler's return stops because its frame may not be read
-  pub svc_returns : (m : Block) (s : State) (n : ℕ) → InvariantHolds i t m s → s.ending ≡ None →
+  pub svc_returns : (m : MonitorBlock) (s : State) (n : ℕ) → InvariantHolds i t m s → s.ending ≡ None →
       n < 256 → IsSvc i t n s → is_frame_open by_mpu i s ≡ true →
       Leads i t s access_steps (at_svc i s) IsBehindHandler
-  pub memfault_returns : (m : Block) (s : State) (u : FaultStatus) → InvariantHolds i t m s → s.ending ≡ None →
+  pub memfault_returns : (m : MonitorBlock) (s : State) (u : FaultStatus) → InvariantHolds i t m s → s.ending ≡ None →
       IsFault i s u → is_frame_open by_mpu i s ≡ true →
       Leads i t s access_steps (at_memfault i u s) IsBehindHandler

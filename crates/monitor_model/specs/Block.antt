@@ -17,7 +17,7 @@ pub record Saved : Type 0 where
   pub top : ℕ
   pub mark : ℕ
 
-pub record Block : Type 0 where
+pub record MonitorBlock : Type 0 where
   -- CUR, the running compartment
   pub current : ℕ
   -- TOP, the address behind the open stack
@@ -29,11 +29,11 @@ pub record Block : Type 0 where
   pub loans : List Loan
 
 -- before `main`
-abbrev pub first_block : Tables → Block
+abbrev pub first_block : Tables → MonitorBlock
 first_block t = record { current = t.main_comp; top = stack_end t; mark = 0; saved = []; loans = [] }
 
 -- after enter, leave, lend and unlend
-abbrev pub entered : Block → (compartment top psp : ℕ) → Block
+abbrev pub entered : MonitorBlock → (compartment top psp : ℕ) → MonitorBlock
 entered m c t p = record {
   current = c;
   top = t;
@@ -43,11 +43,11 @@ entered m c t p = record {
 }
 
 -- the loans from MARK on are gone
-abbrev pub left : Block → (last : Saved) → (older : List Saved) → Block
+abbrev pub left : MonitorBlock → (last : Saved) → (older : List Saved) → MonitorBlock
 left m e es = record { current = e.current; top = e.top; mark = e.mark; saved = es; loans = drop (length m.loans - m.mark) m.loans }
 
-abbrev pub lent : Block → Loan → Block
+abbrev pub lent : MonitorBlock → Loan → MonitorBlock
 lent m l = record m { loans = l ∷ m.loans }
 
-abbrev pub unlent : Block → (older : List Loan) → Block
+abbrev pub unlent : MonitorBlock → (older : List Loan) → MonitorBlock
 unlent m ls = record m { loans = ls }

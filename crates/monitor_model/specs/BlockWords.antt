@@ -3,7 +3,7 @@ use Rattle.std.specs.Prelude.{◌≡◌, ℕ, ◌+◌, ◌-◌, ◌*◌, List, [
 use Rattle.base_words.specs.Bytes.{read}
 use Rattle.machine_devices.specs.declared.image.Image.{Image}
 use Rattle.monitor_model.specs.declared.tables.Tables.{Tables}
-use Rattle.monitor_model.specs.Block.{Loan, Saved, Block}
+use Rattle.monitor_model.specs.Block.{Loan, Saved, MonitorBlock}
 
 -- CUR, TOP, DEPTH, LOANS and MARK, one behind the other
 abbrev pub current_offset : ℕ
@@ -89,7 +89,7 @@ module _ (i : Image) (t : Tables) (ram : List ℕ) where
   HasLoans [] = Unit {0}
   HasLoans (l ∷ ls) = IsLoanAt (loan_offset (length ls)) l × HasLoans ls
 
-  pub record IsBlock (m : Block) : Type 0 where
+  pub record IsBlock (m : MonitorBlock) : Type 0 where
     pub current_is : block_word current_offset ≡ m.current
     pub top_is : block_word top_offset ≡ m.top
     pub depth_is : block_word depth_offset ≡ length m.saved

@@ -7,7 +7,7 @@ use Rattle.base_words.specs.Bytes.{read, write}
 use Rattle.machine_devices.specs.declared.image.Image.{Image}
 use Rattle.monitor_model.specs.declared.tables.Tables.{Tables}
 use Rattle.monitor_model.specs.Records.{compartment_at}
-use Rattle.monitor_model.specs.Block.{Loan, Block}
+use Rattle.monitor_model.specs.Block.{Loan, MonitorBlock}
 use Rattle.monitor_model.specs.Halts.{halt_stack, halt_store, halt_fault, halt_load}
 use Rattle.monitor_model.specs.Outcomes.{Outcome, Halts, StopsUnaligned, Resumes, stacked, with_stacked, moved_on, is_open}
 
@@ -19,7 +19,7 @@ abbrev pub is_lent : (mask address width : ℕ) → List Loan → Bool
 is_lent mask a w ls = list_any (covers mask a w) ls
 
 -- of the block, the stack pointer behind the entry, and RAM behind it
-module _ (i : Image) (t : Tables) (m : Block) (psp : ℕ) (memory : List ℕ) where
+module _ (i : Image) (t : Tables) (m : MonitorBlock) (psp : ℕ) (memory : List ℕ) where
   -- r0 is the value, r1 the address
   abbrev pub value : ℕ
   value = stacked i psp memory 0

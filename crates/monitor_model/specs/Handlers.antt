@@ -14,7 +14,7 @@ use Rattle.base_laws.specs.Lists.{Each}
 use Rattle.machine_model.specs.Code.{HoldsHalf}
 use Rattle.monitor_model.specs.declared.tables.Tables.{Tables}
 use Rattle.monitor_model.specs.Records.{rounded, lend_size}
-use Rattle.monitor_model.specs.Block.{Block, Saved, Loan, entered, left, lent, unlent}
+use Rattle.monitor_model.specs.Block.{MonitorBlock, Saved, Loan, entered, left, lent, unlent}
 use Rattle.monitor_model.specs.BlockWords.{depth, saved_psp, IsBlock}
 use Rattle.monitor_model.specs.Reach.{AllBytes, running, InOpenStack, IsInLoan, InBlock, StoreKind, LoadKind}
 use Rattle.monitor_model.specs.Confined.{IsProtected, IsSvc, Crosses}
@@ -77,12 +77,12 @@ module _ (i : Image) (t : Tables) where
     pub holds : P (run (step i) count from)
 
   -- the frame at a stack pointer lies in the open stack
-  pub record FrameIsOpen (m : Block) (psp : ℕ) : Type 0 where
+  pub record FrameIsOpen (m : MonitorBlock) (psp : ℕ) : Type 0 where
     pub from_base : t.stack.base ≤ psp
     pub below_top : psp + 32 ≤ m.top
 
   -- what has become of the block when the thread goes on; the stack pointer is the one behind the entry
-  pub data Change (s u : State) (m : Block) : Block → Type 0 where
+  pub data Change (s u : State) (m : MonitorBlock) : MonitorBlock → Type 0 where
     -- an emulated access
     Emulates : Change s u m m
     Enters : (c : ℕ) → FrameIsOpen m (frame_at s.core.sp) → t.stack.base < rounded t (frame_at s.core.sp) → c < length t.comps → Crosses i t s u →
@@ -93,8 +93,8 @@ module _ (i : Image) (t : Tables) where
     Unlends : (l : Loan) (ls : List Loan) → m.loans ≡ l ∷ ls → m.mark ≤ length ls → Change s u m (unlent m ls)
 
   -- behind the return
-  pub record HasReturned (s u : State) (m : Block) : Type 0 where
-    pub block : Block
+  pub record HasReturned (s u : State) (m : MonitorBlock) : Type 0 where
+    pub block : MonitorBlock
     pub change : Change s u m block
     pub is_block : IsBlock i t u.ram block
     pub protected : IsProtected i t u
@@ -102,12 +102,12 @@ module _ (i : Image) (t : Tables) where
     pub enabled : u.status.shcsr ≡ s.status.shcsr
     pub msp : u.core.other_sp ≡ t.monitor + block_size
 
-  abbrev pub Handled : (s from : State) → Block → Type 0
+  abbrev pub Handled : (s from : State) → MonitorBlock → Type 0
   Handled s from m = Leads s 16000 from (λ u. ((e : End) × HasEndedInHandler u e) ⊎ HasReturned s u m)
 
   -- the contract of both handlers, from any thread state of the invariant whose frame was pushed
   pub record HandlersAreConfined : Type 0 where
-    pub svc : (s : State) (m : Block) (n : ℕ) → InvariantHolds i t m s → s.ending ≡ None → n < 256 → IsSvc i t n s → is_frame_open by_mpu i s ≡ true →
+    pub svc : (s : State) (m : MonitorBlock) (n : ℕ) → InvariantHolds i t m s → s.ending ≡ None → n < 256 → IsSvc i t n s → is_frame_open by_mpu i s ≡ true →
         Handled s (at_svc i s) m
-    pub memfault : (s : State) (m : Block) (u : FaultStatus) → InvariantHolds i t m s → s.ending ≡ None → IsFault i s u → is_frame_open by_mpu i s ≡ true →
+    pub memfault : (s : State) (m : MonitorBlock) (u : FaultStatus) → InvariantHolds i t m s → s.ending ≡ None → IsFault i s u → is_frame_open by_mpu i s ≡ true →
         Handled s (at_memfault i u s) m

@@ -10,7 +10,7 @@ use Rattle.base_laws.specs.Lists.{Each}
 use Rattle.monitor_model.specs.declared.tables.Tables.{Tables}
 use Rattle.monitor_model.specs.Records.{eighth, stack_end, lend_size}
 use Rattle.monitor_model.specs.Regions.{regions_for}
-use Rattle.monitor_model.specs.Block.{Loan, Saved, Block}
+use Rattle.monitor_model.specs.Block.{Loan, Saved, MonitorBlock}
 use Rattle.monitor_model.specs.BlockWords.{IsBlock}
 
 -- ---- of the block
@@ -42,7 +42,7 @@ pub record IsLoan (t : Tables) (l : Loan) : Type 0 where
   pub number_in : l.number < length t.lends
   pub size : l.end ≡ l.address + lend_size t l.number
 
-pub record IsOrderly (t : Tables) (m : Block) : Type 0 where
+pub record IsOrderly (t : Tables) (m : MonitorBlock) : Type 0 where
   pub current_in : m.current < length t.comps
   pub is_top : IsTop t (length m.saved) m.top
   pub saved : AreSaved t m.top m.mark m.saved
@@ -53,7 +53,7 @@ pub record IsOrderly (t : Tables) (m : Block) : Type 0 where
 -- ---- of a thread's state
 
 -- of what an instruction seldom changes, and of RAM; no other register matters
-pub record Invariant (i : Image) (t : Tables) (m : Block) (x : Context) (ram : List ℕ) : Type 0 where
+pub record Invariant (i : Image) (t : Tables) (m : MonitorBlock) (x : Context) (ram : List ℕ) : Type 0 where
   pub is_block : IsBlock i t ram m
   pub orderly : IsOrderly t m
   pub thread : x.protection.handler ≡ false
@@ -75,6 +75,6 @@ context_of s =
 
 -- of a whole state: its registers are words too, without which nothing can be said of the code that saves and restores them,
 -- and its stack pointer is a multiple of 4, so that protection decides alike about the bytes of a pushed word
-pub record InvariantHolds (i : Image) (t : Tables) (m : Block) (s : State) : Type 0 where
+pub record InvariantHolds (i : Image) (t : Tables) (m : MonitorBlock) (s : State) : Type 0 where
   pub inv : Invariant i t m (context_of s) s.ram
   pub fits : StateFits i s

@@ -17,24 +17,24 @@ use Rattle.machine_model.specs.Code.{HoldsHalf, Runs}
 use Rattle.machine_model.specs.Shape.{StateFits}
 use Rattle.machine_model.specs.Reset.{IsReset}
 use Rattle.machine_model.specs.RunningCode.{Context, works, IsStore, IsLoad}
-use Rattle.monitor_model.specs.Block.{Block, Loan, entered, lent}
+use Rattle.monitor_model.specs.Block.{MonitorBlock, Loan, entered, lent}
 use Rattle.monitor_model.specs.BlockWords.{words_end}
 use Rattle.monitor_model.specs.Setting.{Setting}
 use Rattle.monitor_model.specs.Threads.{svc, call_steps, lend_steps, access_steps, base, stack_end, first_block, HasRoom, OffFrame, IsLentTo, AtInstr, Resumes, Enters, Leaves, Begins}
 
-module _ (g : Setting) (Inv : Block → Context → List ℕ → Type 0) where
+module _ (g : Setting) (Inv : MonitorBlock → Context → List ℕ → Type 0) where
   -- ---- the invariant itself
 
   pub record InvariantKeeps : Type 0 where
     -- it speaks of no byte of RAM but those of the block's words, and of no register but the main stack pointer
-    pub off_words : (m : Block) (x : Context) (old new : List ℕ) → Inv m x old →
+    pub off_words : (m : MonitorBlock) (x : Context) (old new : List ℕ) → Inv m x old →
         ((w a : ℕ) → g.block ≤ a → a + w ≤ g.block + words_end → read w a new ≡ read w a old) → length new ≡ length old → Inv m x new
-    pub any_high : (m : Block) (x : Context) (h : List ℕ) (ram : List ℕ) → Inv m x ram → length h ≡ 5 → Inv m (record x { high = h }) ram
-    pub high_five : (m : Block) (x : Context) (ram : List ℕ) → Inv m x ram → length x.high ≡ 5
-    pub as_long : (m : Block) (x : Context) (ram : List ℕ) → Inv m x ram → length ram ≡ g.image.ram_size
-    pub top_inside : (m : Block) (x : Context) (ram : List ℕ) → Inv m x ram → m.top ≤ base g + stack_end g
+    pub any_high : (m : MonitorBlock) (x : Context) (h : List ℕ) (ram : List ℕ) → Inv m x ram → length h ≡ 5 → Inv m (record x { high = h }) ram
+    pub high_five : (m : MonitorBlock) (x : Context) (ram : List ℕ) → Inv m x ram → length x.high ≡ 5
+    pub as_long : (m : MonitorBlock) (x : Context) (ram : List ℕ) → Inv m x ram → length ram ≡ g.image.ram_size
+    pub top_inside : (m : MonitorBlock) (x : Context) (ram : List ℕ) → Inv m x ram → m.top ≤ base g + stack_end g
     -- events tell the running compartment
-    pub current : (m : Block) (x : Context) (ram : List ℕ) → Inv m x ram → compartment_of g.image ram ≡ m.current
+    pub current : (m : MonitorBlock) (x : Context) (ram : List ℕ) → Inv m x ram → compartment_of g.image ram ≡ m.current
 
   -- ---- accesses that need no loan: the unit permits them
 
@@ -42,23 +42,23 @@ module _ (g : Setting) (Inv : Block → Context → List ℕ → Type 0) where
   Permits x kind a = by_mpu x.protection kind a ≡ true
 
   pub record UnitPermits : Type 0 where
-    pub fetches : (m : Block) (x : Context) (ram : List ℕ) (a : ℕ) → Inv m x ram → g.has_code m.current a ≡ true → Permits x Fetch a
-    pub fetches_stub : (m : Block) (x : Context) (ram : List ℕ) (a : ℕ) → Inv m x ram → g.stub ≤ a → a < g.stub + 2 → Permits x Fetch a
-    pub reads_stack : (m : Block) (x : Context) (ram : List ℕ) (o : ℕ) → Inv m x ram → g.stack ≤ o → base g + o < m.top → Permits x Read (base g + o)
-    pub writes_stack : (m : Block) (x : Context) (ram : List ℕ) (o : ℕ) → Inv m x ram → g.stack ≤ o → base g + o < m.top → Permits x Write (base g + o)
-    pub loads : (m : Block) (x : Context) (ram : List ℕ) (a : ℕ) → Inv m x ram → g.may_load m.current a ≡ true → Permits x Read a
-    pub stores : (m : Block) (x : Context) (ram : List ℕ) (a : ℕ) → Inv m x ram → g.may_store m.current a ≡ true → Permits x Write a
+    pub fetches : (m : MonitorBlock) (x : Context) (ram : List ℕ) (a : ℕ) → Inv m x ram → g.has_code m.current a ≡ true → Permits x Fetch a
+    pub fetches_stub : (m : MonitorBlock) (x : Context) (ram : List ℕ) (a : ℕ) → Inv m x ram → g.stub ≤ a → a < g.stub + 2 → Permits x Fetch a
+    pub reads_stack : (m : MonitorBlock) (x : Context) (ram : List ℕ) (o : ℕ) → Inv m x ram → g.stack ≤ o → base g + o < m.top → Permits x Read (base g + o)
+    pub writes_stack : (m : MonitorBlock) (x : Context) (ram : List ℕ) (o : ℕ) → Inv m x ram → g.stack ≤ o → base g + o < m.top → Permits x Write (base g + o)
+    pub loads : (m : MonitorBlock) (x : Context) (ram : List ℕ) (a : ℕ) → Inv m x ram → g.may_load m.current a ≡ true → Permits x Read a
+    pub stores : (m : MonitorBlock) (x : Context) (ram : List ℕ) (a : ℕ) → Inv m x ram → g.may_store m.current a ≡ true → Permits x Write a
 
   -- ---- accesses by a loan: of r0 at r1
 
   pub record LoansReach : Type 0 where
     -- STR, STRB and STRH r0,[r1,#0] have made their store, as without protection
-    pub stores : (m : Block) (x : Context) (low : List ℕ) (o lr pc : ℕ) (f : Flags) (ram : List ℕ) (queues : List (List ℕ)) (op w a c : ℕ) →
+    pub stores : (m : MonitorBlock) (x : Context) (low : List ℕ) (o lr pc : ℕ) (f : Flags) (ram : List ℕ) (queues : List (List ℕ)) (op w a c : ℕ) →
         IsStore op w → AtInstr g Inv m x low o lr pc f ram queues (TransferImmediate op 0 1 0) →
         get_or low 1 0 ≡ a → a % w ≡ 0 → location g.image a ≡ InRam c → OffFrame g o c w → IsLentTo g (g.has_loan m.current) m a w →
         Resumes g Inv access_steps (works x low (base g + o) lr pc f ram queues) m (base g + o) (pc + 2) o (write w c (get_or low 0 0) ram) queues
     -- on a closed board LDR, LDRB and LDRH r0,[r1,#0] have loaded
-    pub loads : (m : Block) (x : Context) (low : List ℕ) (o lr pc : ℕ) (f : Flags) (ram : List ℕ) (queues : List (List ℕ)) (op w a c : ℕ) →
+    pub loads : (m : MonitorBlock) (x : Context) (low : List ℕ) (o lr pc : ℕ) (f : Flags) (ram : List ℕ) (queues : List (List ℕ)) (op w a c : ℕ) →
         IsLoad op w → AtInstr g Inv m x low o lr pc f ram queues (TransferImmediate op 0 1 0) →
         get_or low 1 0 ≡ a → a % w ≡ 0 → location g.image a ≡ InRam c → OffFrame g o c w → IsLentTo g (g.has_read_loan m.current) m a w →
         (h : Resumes g Inv access_steps (works x low (base g + o) lr pc f ram queues) m (base g + o) (pc + 2) o ram queues)
@@ -67,23 +67,23 @@ module _ (g : Setting) (Inv : Block → Context → List ℕ → Type 0) where
   -- ---- calls of the monitor, from the SVC to the thread's next instruction
 
   pub record Calls : Type 0 where
-    pub lend : (m : Block) (x : Context) (low : List ℕ) (o lr pc : ℕ) (f : Flags) (ram : List ℕ) (queues : List (List ℕ)) (l : Loan) →
+    pub lend : (m : MonitorBlock) (x : Context) (low : List ℕ) (o lr pc : ℕ) (f : Flags) (ram : List ℕ) (queues : List (List ℕ)) (l : Loan) →
         AtInstr g Inv m x low o lr pc f ram queues (svc 2) → get_or low 0 0 ≡ l.address → get_or low 1 0 ≡ l.number →
         length m.loans < 32 → l.number < length g.sizes → l.address % 4 ≡ 0 → l.end ≡ l.address + get_or g.sizes l.number 0 →
         base g + o ≤ l.address → l.end ≤ m.top →
         Resumes g Inv lend_steps (works x low (base g + o) lr pc f ram queues) (lent m l) (base g + o) (pc + 2) o ram queues
-    pub unlend : (m : Block) (l : Loan) (x : Context) (low : List ℕ) (o lr pc : ℕ) (f : Flags) (ram : List ℕ) (queues : List (List ℕ)) →
+    pub unlend : (m : MonitorBlock) (l : Loan) (x : Context) (low : List ℕ) (o lr pc : ℕ) (f : Flags) (ram : List ℕ) (queues : List (List ℕ)) →
         AtInstr g Inv (lent m l) x low o lr pc f ram queues (svc 3) → m.mark ≤ length m.loans →
         Resumes g Inv lend_steps (works x low (base g + o) lr pc f ram queues) m (base g + o) (pc + 2) o ram queues
     -- r12 has the entry with bit 0 set; the entry itself is even, as the return to it drops bit 0. The call's frame is pushed below
-    -- `o`, and the callee's stack ends at the frame's location rounded down to an eighth
-    pub enter : (m : Block) (x : Context) (low : List ℕ) (o lr pc : ℕ) (f : Flags) (ram : List ℕ) (queues : List (List ℕ)) (site entry target top : ℕ) →
+    -- `o`, and the callee's stack ends at the frame's place rounded down to an eighth
+    pub enter : (m : MonitorBlock) (x : Context) (low : List ℕ) (o lr pc : ℕ) (f : Flags) (ram : List ℕ) (queues : List (List ℕ)) (site entry target top : ℕ) →
         AtInstr g Inv m x low o lr pc f ram queues (svc 0) → HoldsHalf g.image (pc + 2) site → g.has_target site (pc + 2) entry target ≡ true →
         get_or x.high 4 0 ≡ entry + 1 → entry % 2 ≡ 0 → g.stack < top → top ≡ g.stack + (o - 32 - g.stack) / g.eighth * g.eighth →
         Enters g Inv (works x low (base g + o) lr pc f ram queues) (entered m target (base g + top) (base g + o - 32)) low o top entry (pc + 4) ram queues
     -- leave undoes enter, from the stub. The frame that waits lies at or above the thread's stack pointer, so that the frame of this
     -- SVC does not lie on it; its return address is even, and its xPSR is a thread's: else the return would not go there
-    pub leave : (m : Block) (c top o : ℕ) (x : Context) (low : List ℕ) (lr : ℕ) (f : Flags) (ram : List ℕ) (queues : List (List ℕ)) (ret status : ℕ) →
+    pub leave : (m : MonitorBlock) (c top o : ℕ) (x : Context) (low : List ℕ) (lr : ℕ) (f : Flags) (ram : List ℕ) (queues : List (List ℕ)) (ret status : ℕ) →
         Inv (entered m c (base g + top) (base g + o - 32)) x ram → HasRoom g (entered m c (base g + top) (base g + o - 32)) top →
         StateFits g.image (works x low (base g + top) lr g.stub f ram queues) → top + 32 ≤ o →
         read 4 (o - 8) ram ≡ ret → read 4 (o - 4) ram ≡ status →

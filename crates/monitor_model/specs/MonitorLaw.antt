@@ -14,7 +14,7 @@ use Rattle.machine_model.specs.Exceptions.{is_thread, unstacked, is_frame_open, 
 use Rattle.machine_model.specs.Code.{HoldsHalf}
 use Rattle.monitor_model.specs.declared.tables.Tables.{Tables}
 use Rattle.monitor_model.specs.Regions.{regions_for}
-use Rattle.monitor_model.specs.Block.{Block}
+use Rattle.monitor_model.specs.Block.{MonitorBlock}
 use Rattle.monitor_model.specs.BlockWords.{IsBlock, words_end}
 use Rattle.monitor_model.specs.Confined.{IsSvc}
 use Rattle.monitor_model.specs.Invariant.{InvariantHolds}
@@ -29,14 +29,14 @@ pub record IsMemory (i : Image) (t : Tables) (from : ℕ) (memory ram : List ℕ
   pub as_long : length ram ≡ length memory
 
 -- what is left of RAM, where the block was m and is b
-pub record IsLeft (i : Image) (t : Tables) (m b : Block) (memory : List ℕ) (u : State) : Type 0 where
+pub record IsLeft (i : Image) (t : Tables) (m b : MonitorBlock) (memory : List ℕ) (u : State) : Type 0 where
   pub is_block : IsBlock i t u.ram b
   pub is_memory : IsMemory i t 0 memory u.ram
   -- where the block stays, so do all its words, those too that no entry and no loan has; behind them the monitor has its stack
   pub words_stay : b ≡ m → IsMemory i t words_end memory u.ram
 
 -- the thread behind the return
-pub record GoesOn (i : Image) (t : Tables) (s u : State) (m b : Block) (psp : ℕ) (memory : List ℕ) : Type 0 where
+pub record GoesOn (i : Image) (t : Tables) (s u : State) (m b : MonitorBlock) (psp : ℕ) (memory : List ℕ) : Type 0 where
   pub is_left : IsLeft i t m b memory u
   -- its registers are those of the frame, the others the handler's; that one's stack is empty
   pub handler : CoreRegisters
@@ -55,17 +55,17 @@ pub record GoesOn (i : Image) (t : Tables) (s u : State) (m b : Block) (psp : �
   pub ending : u.ending ≡ None
 
 -- the machine has ended in the handler, RAM being left so
-pub record EndsThere (i : Image) (t : Tables) (m b : Block) (memory : List ℕ) (u : State) (e : End) : Type 0 where
+pub record EndsThere (i : Image) (t : Tables) (m b : MonitorBlock) (memory : List ℕ) (u : State) (e : End) : Type 0 where
   pub ended : HasEndedInHandler u e
   pub is_left : IsLeft i t m b memory u
 
 -- a frame that waits may have been overwritten, through a loan that its own compartment made of it: the return then stops
-abbrev pub ReturnsBy : (thread : Bool) → Image → Tables → (s u : State) → (m b : Block) → (psp : ℕ) → (memory : List ℕ) → Type 0
+abbrev pub ReturnsBy : (thread : Bool) → Image → Tables → (s u : State) → (m b : MonitorBlock) → (psp : ℕ) → (memory : List ℕ) → Type 0
 ReturnsBy true i t s u m b psp memory = GoesOn i t s u m b psp memory
 ReturnsBy false i t s u m b psp memory = (pc : ℕ) × EndsThere i t m b memory u (Stop Usage pc)
 
 -- from a thread's state, over its block and RAM behind the entry
-abbrev pub Shows : Image → Tables → Outcome → (s : State) → Block → (memory : List ℕ) → (u : State) → Type 0
+abbrev pub Shows : Image → Tables → Outcome → (s : State) → MonitorBlock → (memory : List ℕ) → (u : State) → Type 0
 Shows i t (Halts n) s m memory u = EndsThere i t m m memory u (Halt n)
 Shows i t StopsAtBus s m memory u = (pc : ℕ) × EndsThere i t m m memory u (Stop Bus pc)
 Shows i t StopsUnaligned s m memory u = (pc : ℕ) × EndsThere i t m m memory u (Stop Unaligned pc)
@@ -80,11 +80,11 @@ memfault_steps = 15000
 
 -- from any thread state of the invariant whose frame was pushed; `stub` is the address of the leave stub
 pub record MonitorLaw (i : Image) (t : Tables) (stub : ℕ) : Type 0 where
-  pub svc : (s : State) (m : Block) (n : ℕ) → InvariantHolds i t m s → s.ending ≡ None → n < 256 → IsSvc i t n s → is_frame_open by_mpu i s ≡ true →
+  pub svc : (s : State) (m : MonitorBlock) (n : ℕ) → InvariantHolds i t m s → s.ending ≡ None → n < 256 → IsSvc i t n s → is_frame_open by_mpu i s ≡ true →
       let from : State = at_svc i s in
       Leads i t s (svc_steps n) from (Shows i t (svc_outcome i t stub m (frame_at s.core.sp) from.ram n) s m from.ram)
   -- of a refused fetch the halfword does not matter
-  pub memfault : (s : State) (m : Block) (u : FaultStatus) (half : ℕ) → InvariantHolds i t m s → s.ending ≡ None → IsFault i s u →
+  pub memfault : (s : State) (m : MonitorBlock) (u : FaultStatus) (half : ℕ) → InvariantHolds i t m s → s.ending ≡ None → IsFault i s u →
       (u.cfsr ≡ 0x82 → HoldsHalf i s.core.pc half) → is_frame_open by_mpu i s ≡ true →
       let from : State = at_memfault i u s in
       Leads i t s memfault_steps from (Shows i t (fault_outcome i t m (frame_at s.core.sp) from.ram u.cfsr half) s m from.ram)

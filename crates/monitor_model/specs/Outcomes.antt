@@ -6,7 +6,7 @@ use Rattle.base_words.specs.Bytes.{write}
 use Rattle.machine_devices.specs.declared.image.Image.{Image}
 use Rattle.machine_model.specs.Stack.{words_at}
 use Rattle.monitor_model.specs.declared.tables.Tables.{Tables}
-use Rattle.monitor_model.specs.Block.{Block}
+use Rattle.monitor_model.specs.Block.{MonitorBlock}
 use Rattle.monitor_model.specs.Offsets.{frame_r12, frame_return, frame_xpsr}
 use Rattle.monitor_model.specs.Values.{frame_size}
 
@@ -18,7 +18,7 @@ pub data Outcome : Type 0 where
   -- so does an access whose address is no multiple of its width. No instruction is refused there, since it would have stopped
   StopsUnaligned : Outcome
   -- the thread goes on: the block, the stack pointer at whose frame it does, and RAM but for the monitor's block
-  Resumes : (block : Block) → (psp : ℕ) → (memory : List ℕ) → Outcome
+  Resumes : (block : MonitorBlock) → (psp : ℕ) → (memory : List ℕ) → Outcome
 
 -- words of an exception's frame, by their numbers
 abbrev pub r12_place : ℕ
@@ -46,6 +46,6 @@ abbrev pub moved_on : Image → (psp : ℕ) → (memory : List ℕ) → List ℕ
 moved_on i psp memory = with_stacked i psp return_place (stacked i psp memory return_place + 2) memory
 
 -- what both handlers test first: the frame lies in the open stack, and it has no pad
-abbrev pub is_open : Image → Tables → Block → (psp : ℕ) → (memory : List ℕ) → Bool
+abbrev pub is_open : Image → Tables → MonitorBlock → (psp : ℕ) → (memory : List ℕ) → Bool
 is_open i t m psp memory =
     nat_le t.stack.base psp && (nat_le (psp + frame_size) m.top && nat_eq (bit_at (stacked i psp memory status_place) 9) 0)

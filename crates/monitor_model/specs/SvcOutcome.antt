@@ -6,13 +6,13 @@ use Rattle.machine_bus.specs.Locations.{Location, InRam, InFlash, InWindow, Nowh
 use Rattle.monitor_model.specs.declared.tables.TargetRecord.{TargetRecord}
 use Rattle.monitor_model.specs.declared.tables.Tables.{Tables}
 use Rattle.monitor_model.specs.Records.{site_at, targets_of, last_with_entry, lend_size, rounded}
-use Rattle.monitor_model.specs.Block.{Loan, Saved, Block, entered, left, lent, unlent}
+use Rattle.monitor_model.specs.Block.{Loan, Saved, MonitorBlock, entered, left, lent, unlent}
 use Rattle.monitor_model.specs.Halts.{halt_end, halt_number, halt_site, halt_target, halt_stack, halt_limit, halt_loan}
 use Rattle.monitor_model.specs.Values.{frame_size, most_loans}
 use Rattle.monitor_model.specs.Outcomes.{Outcome, Halts, StopsAtBus, Resumes, r12_place, return_place, stacked, with_stacked, moved_on, is_open}
 
 -- of the leave stub's address, the block, the stack pointer behind the entry, and RAM behind it
-module _ (i : Image) (t : Tables) (stub : ℕ) (m : Block) (psp : ℕ) (memory : List ℕ) where
+module _ (i : Image) (t : Tables) (stub : ℕ) (m : MonitorBlock) (psp : ℕ) (memory : List ℕ) where
   -- the word of the thread's frame with this number
   abbrev pub word : ℕ → ℕ
   word k = stacked i psp memory k

@@ -16,7 +16,7 @@ use Rattle.base_laws.specs.Lists.{Each}
 use Rattle.machine_model.specs.Shape.{StateFits}
 use Rattle.machine_model.specs.RunningCode.{Context, works}
 use Rattle.monitor_model.specs.declared.tables.InitRecord.{InitRecord}
-use Rattle.monitor_model.specs.Block.{Block, Loan}
+use Rattle.monitor_model.specs.Block.{MonitorBlock, Loan}
 use Rattle.monitor_model.specs.Setting.{Setting}
 
 -- SVC #n
@@ -45,7 +45,7 @@ module _ (g : Setting) where
   stack_end = g.stack + 8 * g.eighth
 
   -- before `main`
-  abbrev pub first_block : Block
+  abbrev pub first_block : MonitorBlock
   first_block = record { current = g.main_compartment; top = base + stack_end; mark = 0; saved = []; loans = [] }
 
   -- an access keeps off what a handler may change: the stack below an offset, and the monitor's block
@@ -64,7 +64,7 @@ module _ (g : Setting) where
       read w a ram ≡ read w (n.from - g.image.flash_base + (base + a - n.at)) g.image.flash) ns
 
   -- a thread's stack pointer that leaves room for an exception
-  pub record HasRoom (m : Block) (o : ℕ) : Type 0 where
+  pub record HasRoom (m : MonitorBlock) (o : ℕ) : Type 0 where
     pub aligned : o % 8 ≡ 0
     pub low : g.stack + 32 ≤ o
     pub high : base + o ≤ m.top
@@ -75,13 +75,13 @@ module _ (g : Setting) where
   OffFrame o a w = (a + w + 32 ≤ o) ⊎ (o ≤ a)
 
   -- a live loan that a mask has holds so many bytes from an address on
-  abbrev pub IsLentTo : (has : ℕ → Bool) → Block → (address width : ℕ) → Type 0
+  abbrev pub IsLentTo : (has : ℕ → Bool) → MonitorBlock → (address width : ℕ) → Type 0
   IsLentTo has m a w = AnyOf (λ (l : Loan). (has l.number ≡ true) × (l.address ≤ a) × (a + w ≤ l.end)) m.loans
 
-module _ (g : Setting) (Inv : Block → Context → List ℕ → Type 0) where
+module _ (g : Setting) (Inv : MonitorBlock → Context → List ℕ → Type 0) where
   -- a thread of the invariant, with room for an exception, at an instruction. Its registers are words, else nothing can be said
   -- of code that saves and restores them; and its pc is even, as an exception's return drops bit 0
-  pub record AtInstr (m : Block) (x : Context) (low : List ℕ) (o lr pc : ℕ) (f : Flags) (ram : List ℕ) (queues : List (List ℕ)) (y : Instr) : Type 0 where
+  pub record AtInstr (m : MonitorBlock) (x : Context) (low : List ℕ) (o lr pc : ℕ) (f : Flags) (ram : List ℕ) (queues : List (List ℕ)) (y : Instr) : Type 0 where
     pub invariant : Inv m x ram
     pub room : HasRoom g m o
     pub fits : StateFits g.image (works x low (base g + o) lr pc f ram queues)
@@ -91,7 +91,7 @@ module _ (g : Setting) (Inv : Block → Context → List ℕ → Type 0) where
 
   -- the thread goes on there after at most so many steps without an event; RAM stays but for the monitor's block and the
   -- stack below an offset
-  pub record Resumes (most : ℕ) (from : State) (m : Block) (sp pc : ℕ) (below : ℕ) (ram : List ℕ) (queues : List (List ℕ)) : Type 0 where
+  pub record Resumes (most : ℕ) (from : State) (m : MonitorBlock) (sp pc : ℕ) (below : ℕ) (ram : List ℕ) (queues : List (List ℕ)) : Type 0 where
     pub count : ℕ
     pub least : 1 ≤ count
     pub within : count ≤ most
@@ -106,7 +106,7 @@ module _ (g : Setting) (Inv : Block → Context → List ℕ → Type 0) where
     pub stays : Stays g below ram memory
 
   -- at a callee's entry: the arguments are there, it returns to the stub, and the call's frame waits
-  pub record Enters (from : State) (m : Block) (low : List ℕ) (o top entry ret : ℕ) (ram : List ℕ) (queues : List (List ℕ)) : Type 0 where
+  pub record Enters (from : State) (m : MonitorBlock) (low : List ℕ) (o top entry ret : ℕ) (ram : List ℕ) (queues : List (List ℕ)) : Type 0 where
     pub resumes : Resumes call_steps from m (base g + top) entry o ram queues
     pub arguments : (k : ℕ) → k < 4 → get_or resumes.low k 0 ≡ cut 4 (get_or low k 0)
     pub link : resumes.lr ≡ g.stub + 1
@@ -117,7 +117,7 @@ module _ (g : Setting) (Inv : Block → Context → List ℕ → Type 0) where
     pub saved_status : read 4 (o - 4) resumes.memory ≡ status
 
   -- behind a crossing call: the result is there
-  pub record Leaves (from : State) (m : Block) (low : List ℕ) (o ret : ℕ) (ram : List ℕ) (queues : List (List ℕ)) : Type 0 where
+  pub record Leaves (from : State) (m : MonitorBlock) (low : List ℕ) (o ret : ℕ) (ram : List ℕ) (queues : List (List ℕ)) : Type 0 where
     pub resumes : Resumes call_steps from m (base g + o) ret o ram queues
     pub result : get_or resumes.low 0 0 ≡ cut 4 (get_or low 0 0)
 

@@ -3,8 +3,8 @@ use Rattle.std.specs.Prelude.{ℕ, Bool, true, false}
 use Rattle.base_words.specs.declared.memory.Width.{Width}
 use Rattle.base_words.specs.declared.memory.Width.TheVariants.{Byte, Half, Word}
 use Rattle.machine_model.specs.declared.TheConstants.{CFSR}
-use Rattle.monitor_steps.specs.declared.steps.GateOp.TheVariants.{Add, Sub, And, Shr}
-use Rattle.monitor_steps.specs.declared.steps.GateCond.TheVariants.{Eq, Ule}
+use Rattle.monitor_steps.specs.declared.steps.PrivilegedOp.TheVariants.{Add, Sub, And, Shr}
+use Rattle.monitor_steps.specs.declared.steps.PrivilegedCond.TheVariants.{Eq, Ule}
 use Rattle.monitor_steps.specs.Steps.{PrivilegedSteps, End, Const, Copy, Load, Store, Alu, ReadPsp, Test, Repeat, Halt, ◌▸◌}
 use Rattle.monitor_model.specs.Offsets.{cur, loans, loan_from, loan_end, loan_number, frame_r0, frame_r1, frame_return, record_mask, record_reads}
 use Rattle.monitor_model.specs.Halts.{halt_store, halt_fault, halt_load}

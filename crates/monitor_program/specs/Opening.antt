@@ -2,9 +2,9 @@
 use Rattle.std.specs.Prelude.{ℕ, zero, suc, ◌+◌, ◌/◌, ◌%◌, ◌^◌, Bool, true, false, List, [], ◌∷◌, nat_eq}
 use Rattle.base_words.specs.declared.memory.Width.TheVariants.{Word}
 use Rattle.machine_protection.specs.declared.TheConstants.{MPU_CTRL, MPU_RBAR}
-use Rattle.monitor_steps.specs.declared.steps.GateOp.TheVariants.{Add, Sub, And, Shl, Shr}
-use Rattle.monitor_steps.specs.declared.steps.GateCond.{GateCond}
-use Rattle.monitor_steps.specs.declared.steps.GateCond.TheVariants.{Eq, Ule}
+use Rattle.monitor_steps.specs.declared.steps.PrivilegedOp.TheVariants.{Add, Sub, And, Shl, Shr}
+use Rattle.monitor_steps.specs.declared.steps.PrivilegedCond.{PrivilegedCond}
+use Rattle.monitor_steps.specs.declared.steps.PrivilegedCond.TheVariants.{Eq, Ule}
 use Rattle.monitor_steps.specs.Steps.{PrivilegedSteps, End, Const, Load, Store, Alu, ReadPsp, Test, Halt, Return, ◌▸◌}
 use Rattle.monitor_model.specs.Offsets.{top, frame_xpsr, record_code, record_slots, region_rbar, region_rasr}
 use Rattle.monitor_model.specs.Halts.{halt_stack}
@@ -14,10 +14,10 @@ use Rattle.monitor_program.specs.Constants.{Constants}
 -- ---- words of the lists
 
 -- a comparison that has to hold, and one that must not; else the machine halts with a number
-abbrev pub must : GateCond → (a b code : ℕ) → PrivilegedSteps → PrivilegedSteps
+abbrev pub must : PrivilegedCond → (a b code : ℕ) → PrivilegedSteps → PrivilegedSteps
 must cond a b code rest = Test cond a b End (Halt code End) rest
 
-abbrev pub must_not : GateCond → (a b code : ℕ) → PrivilegedSteps → PrivilegedSteps
+abbrev pub must_not : PrivilegedCond → (a b code : ℕ) → PrivilegedSteps → PrivilegedSteps
 must_not cond a b code rest = Test cond a b (Halt code End) End rest
 
 -- a value to MPU_CTRL, by two registers

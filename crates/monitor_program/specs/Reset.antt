@@ -4,8 +4,8 @@ use Rattle.std.specs.Prelude.{◌+◌, ◌*◌}
 use Rattle.base_words.specs.declared.memory.Width.TheVariants.{Word}
 use Rattle.machine_protection.specs.declared.TheConstants.{MPU_TYPE, MPU_RBAR}
 use Rattle.machine_model.specs.declared.TheConstants.{CCR, SHCSR}
-use Rattle.monitor_steps.specs.declared.steps.GateOp.TheVariants.{Add, Sub, Shr}
-use Rattle.monitor_steps.specs.declared.steps.GateCond.TheVariants.{Eq}
+use Rattle.monitor_steps.specs.declared.steps.PrivilegedOp.TheVariants.{Add, Sub, Shr}
+use Rattle.monitor_steps.specs.declared.steps.PrivilegedCond.TheVariants.{Eq}
 use Rattle.monitor_steps.specs.Steps.{PrivilegedSteps, End, Const, Copy, Load, Store, Alu, WritePsp, WriteControl, Repeat, Go, ◌▸◌}
 use Rattle.monitor_model.specs.Offsets.{cur, top, depth, loans, mark, init_at, init_end, init_from, region_rbar, region_rasr}
 use Rattle.monitor_model.specs.Halts.{halt_unit}

@@ -1,8 +1,8 @@
 -- The handler of SVC: enter, leave, lend and unlend.
 use Rattle.std.specs.Prelude.{ℕ}
 use Rattle.base_words.specs.declared.memory.Width.TheVariants.{Byte, Half, Word}
-use Rattle.monitor_steps.specs.declared.steps.GateOp.TheVariants.{Add, Sub, And, Shl, Shr}
-use Rattle.monitor_steps.specs.declared.steps.GateCond.TheVariants.{Eq, Ult, Ule}
+use Rattle.monitor_steps.specs.declared.steps.PrivilegedOp.TheVariants.{Add, Sub, And, Shl, Shr}
+use Rattle.monitor_steps.specs.declared.steps.PrivilegedCond.TheVariants.{Eq, Ult, Ule}
 use Rattle.monitor_steps.specs.Steps.{PrivilegedSteps, End, Const, Copy, Load, Store, Alu, WritePsp, Test, Repeat, Halt, ◌▸◌}
 use Rattle.monitor_model.specs.Offsets.{cur, top, depth, loans, mark, saved_psp, saved_cur, saved_top, saved_mark, loan_from, loan_end, loan_number, frame_r0, frame_r1, frame_r2, frame_r3, frame_r12, frame_lr, frame_return, frame_xpsr, site_return, site_first, site_count, target_entry, target_compartment}
 use Rattle.monitor_model.specs.Halts.{halt_end, halt_number, halt_site, halt_target, halt_limit, halt_loan}

@@ -17,7 +17,7 @@ use Rattle.base_laws.proofs.Lists.{each_to}
 use Rattle.monitor_model.specs.declared.tables.Tables.{Tables}
 use Rattle.monitor_model.specs.Records.{eighth, stack_end}
 use Rattle.monitor_model.specs.Placed.{Placed}
-use Rattle.monitor_model.specs.Block.{Block}
+use Rattle.monitor_model.specs.Block.{MonitorBlock}
 use Rattle.monitor_model.specs.BlockWords.{current}
 use Rattle.monitor_model.specs.Invariant.{InvariantHolds}
 use Rattle.monitor_model.specs.Outcomes.{Outcome, Halts, StopsAtBus, StopsUnaligned, Resumes, stacked, status_place}
@@ -50,7 +50,7 @@ module _ (laws : ActLaws) (i : Image) (t : Tables) (p : Placed i t) (stub : ℕ)
 
   -- ---- the instruction's own step
 
-  step_written : (m : Block) (s : State) → InvariantHolds i t m s → (a : ℕ) → i.ram_base ≤ a → (byte_at i (step i s) a ≡ byte_at i s a) ⊎ IsWritten i t s a
+  step_written : (m : MonitorBlock) (s : State) → InvariantHolds i t m s → (a : ℕ) → i.ram_base ≤ a → (byte_at i (step i s) a ≡ byte_at i s a) ⊎ IsWritten i t s a
   step_written m s h a low =
       let r = laws.reach i t m s p h in
       let x = laws.accesses i s (user laws.runs i t p stub law m s h) h.fits.core.sp_aligned in
@@ -63,11 +63,11 @@ module _ (laws : ActLaws) (i : Image) (t : Tables) (p : Placed i t) (stub : ℕ)
   written_may s a (inl f) = InSlot f
   written_may s a (inr f) = BelowTop f
 
-  step_changes : (m : Block) (s : State) → InvariantHolds i t m s → (a : ℕ) → i.ram_base ≤ a → (byte_at i (step i s) a ≡ byte_at i s a) ⊎ MayChange i t s a
+  step_changes : (m : MonitorBlock) (s : State) → InvariantHolds i t m s → (a : ℕ) → i.ram_base ≤ a → (byte_at i (step i s) a ≡ byte_at i s a) ⊎ MayChange i t s a
   step_changes m s h a low = ⊎_elim (λ e. inl e) (λ f. inr (written_may s a f)) (step_written m s h a low)
 
   -- the frame that an entry pushes, where it lies in the open stack
-  pushed_apart : (m : Block) (s : State) (h : InvariantHolds i t m s) (opened : is_frame_open by_mpu i s ≡ true) (number ret : ℕ) (u : FaultStatus) (a : ℕ) → IsOutside i t a → (OnStack t a → ⊥) →
+  pushed_apart : (m : MonitorBlock) (s : State) (h : InvariantHolds i t m s) (opened : is_frame_open by_mpu i s ≡ true) (number ret : ℕ) (u : FaultStatus) (a : ℕ) → IsOutside i t a → (OnStack t a → ⊥) →
       FrameIsOpen i t m (frame_at s.core.sp) → byte_at i (entered true i number ret u s).to a ≡ byte_at i s a
   pushed_apart m s h opened number ret u a out off inside =
       let f = frame laws.runs.frames i p.rules s h.fits opened in
@@ -85,13 +85,13 @@ module _ (laws : ActLaws) (i : Image) (t : Tables) (p : Placed i t) (stub : ℕ)
   -- ---- what a handler leaves of memory
 
   abbrev Leaves : State → Outcome → (memory : List ℕ) → Type 0
-  Leaves u o memory = (r : List ℕ) × IsMemory i t 0 r u.ram × ((r ≡ memory) ⊎ ((n : Block) × (q : ℕ) × (o ≡ Resumes n q r)))
+  Leaves u o memory = (r : List ℕ) × IsMemory i t 0 r u.ram × ((r ≡ memory) ⊎ ((n : MonitorBlock) × (q : ℕ) × (o ≡ Resumes n q r)))
 
-  resumed_memory : (b : Bool) (s u : State) (m n : Block) (q : ℕ) (r : List ℕ) → ReturnsBy b i t s u m n q r → IsMemory i t 0 r u.ram
+  resumed_memory : (b : Bool) (s u : State) (m n : MonitorBlock) (q : ℕ) (r : List ℕ) → ReturnsBy b i t s u m n q r → IsMemory i t 0 r u.ram
   resumed_memory true s u m n q r g = g.is_left.is_memory
   resumed_memory false s u m n q r g = g.1.is_left.is_memory
 
-  left_memory : (s u : State) (m : Block) (o : Outcome) (memory : List ℕ) → Shows i t o s m memory u → Leaves u o memory
+  left_memory : (s u : State) (m : MonitorBlock) (o : Outcome) (memory : List ℕ) → Shows i t o s m memory u → Leaves u o memory
   left_memory s u m (Halts k) memory x = (memory, x.is_left.is_memory, inl refl)
   left_memory s u m StopsAtBus memory x = (memory, x.1.is_left.is_memory, inl refl)
   left_memory s u m StopsUnaligned memory x = (memory, x.1.is_left.is_memory, inl refl)
@@ -104,8 +104,8 @@ module _ (laws : ActLaws) (i : Image) (t : Tables) (p : Placed i t) (stub : ℕ)
       ⊎_elim (λ lt. inl (omega (arith, lt, b, n))) (λ ge. ⊎_elim (λ lt. absurd (out.off_block (ge, lt))) (λ le. inr (omega (arith, le, b, n))) (cases_lt a (t.monitor + block_size))) (cases_lt a t.monitor)
 
   -- by what the outcome writes
-  handler_changes : (m : Block) (s from u : State) (h : InvariantHolds i t m s) → step i s ≡ from → (o : Outcome) → Shows i t o s m from.ram u →
-      ((a : ℕ) (above : i.ram_base ≤ a) (n : Block) (q : ℕ) (r : List ℕ) → o ≡ Resumes n q r → Kept i t p s m h from.ram (frame_at s.core.sp) a above r) →
+  handler_changes : (m : MonitorBlock) (s from u : State) (h : InvariantHolds i t m s) → step i s ≡ from → (o : Outcome) → Shows i t o s m from.ram u →
+      ((a : ℕ) (above : i.ram_base ≤ a) (n : MonitorBlock) (q : ℕ) (r : List ℕ) → o ≡ Resumes n q r → Kept i t p s m h from.ram (frame_at s.core.sp) a above r) →
       (a : ℕ) → IsOutside i t a → (byte_at i u a ≡ byte_at i s a) ⊎ MayChange i t s a
   handler_changes m s from u h to o x writes a out =
       let l = left_memory s u m o from.ram x in
@@ -116,9 +116,9 @@ module _ (laws : ActLaws) (i : Image) (t : Tables) (p : Placed i t) (stub : ℕ)
       (λ y. ⊎_elim (λ f. inr f) (λ f. inl f.0) (writes a out.from_base y.0 y.1 l.0 y.2)) l.2)
 
   -- the frame of the entry lies in the stack, where the outcome is that the thread goes on
-  resumed_data : (m : Block) (s from u : State) (h : InvariantHolds i t m s) → ((a : ℕ) → IsOutside i t a → (OnStack t a → ⊥) → FrameIsOpen i t m (frame_at s.core.sp) → byte_at i from a ≡ byte_at i s a) →
+  resumed_data : (m : MonitorBlock) (s from u : State) (h : InvariantHolds i t m s) → ((a : ℕ) → IsOutside i t a → (OnStack t a → ⊥) → FrameIsOpen i t m (frame_at s.core.sp) → byte_at i from a ≡ byte_at i s a) →
       (o : Outcome) → Shows i t o s m from.ram u →
-      ((a : ℕ) (above : i.ram_base ≤ a) (n : Block) (q : ℕ) (r : List ℕ) → o ≡ Resumes n q r → FrameIsOpen i t m (frame_at s.core.sp) × Kept i t p s m h from.ram (frame_at s.core.sp) a above r) →
+      ((a : ℕ) (above : i.ram_base ≤ a) (n : MonitorBlock) (q : ℕ) (r : List ℕ) → o ≡ Resumes n q r → FrameIsOpen i t m (frame_at s.core.sp) × Kept i t p s m h from.ram (frame_at s.core.sp) a above r) →
       u.protection.handler ≡ false → (a : ℕ) → IsOutside i t a → (OnStack t a → ⊥) → byte_at i u a ≡ byte_at i s a
   resumed_data m s from u h pushed (Halts k) x writes th a out off = absurd (false≢true (sym th ∙ x.ended.handler))
   resumed_data m s from u h pushed StopsAtBus x writes th a out off = absurd (false≢true (sym th ∙ x.1.ended.handler))
@@ -130,11 +130,11 @@ module _ (laws : ActLaws) (i : Image) (t : Tables) (p : Placed i t) (stub : ℕ)
 
   -- ---- of a whole act
 
-  abbrev Piece : Block → State → Type 0
+  abbrev Piece : MonitorBlock → State → Type 0
   Piece m s = Segment laws.runs i t p stub law m s
 
   -- what has changed it may change
-  pub act_changes : (m : Block) (s : State) (h : InvariantHolds i t m s) (g : Piece m s) (a : ℕ) → IsOutside i t a → (byte_at i (run (step i) g.count s) a ≡ byte_at i s a) ⊎ MayChange i t s a
+  pub act_changes : (m : MonitorBlock) (s : State) (h : InvariantHolds i t m s) (g : Piece m s) (a : ℕ) → IsOutside i t a → (byte_at i (run (step i) g.count s) a ≡ byte_at i s a) ⊎ MayChange i t s a
   unfolding run
   act_changes m s h g a out = by g.work
     where
@@ -148,7 +148,7 @@ module _ (laws : ActLaws) (i : Image) (t : Tables) (p : Placed i t) (stub : ℕ)
           (λ a above n psp r e. (fault_writes i t p s m h (at_memfault i z s).ram (frame_at s.core.sp) a above z.cfsr half n psp r e).1) a out
 
   -- a handler that the thread goes on behind has changed nothing off the stack
-  pub act_keeps : (m : Block) (s : State) (h : InvariantHolds i t m s) (g : Piece m s) → (run (step i) g.count s).protection.handler ≡ false
+  pub act_keeps : (m : MonitorBlock) (s : State) (h : InvariantHolds i t m s) (g : Piece m s) → (run (step i) g.count s).protection.handler ≡ false
       → (a : ℕ) → IsOutside i t a → (OnStack t a → ⊥) → (g.count ≡ 1) ⊎ (byte_at i (run (step i) g.count s) a ≡ byte_at i s a)
   act_keeps m s h g th a out off = by g.work
     where
@@ -165,7 +165,7 @@ module _ (laws : ActLaws) (i : Image) (t : Tables) (p : Placed i t) (stub : ℕ)
 
   -- ---- of two acts that follow each other
 
-  module _ (first : State) (a n : ℕ) (m : Block) (h : InvariantHolds i t m (later i t first a)) (next : AreNext i t first a n) (g : Piece m (later i t first a)) where
+  module _ (first : State) (a n : ℕ) (m : MonitorBlock) (h : InvariantHolds i t m (later i t first a)) (next : AreNext i t first a n) (g : Piece m (later i t first a)) where
     abbrev at : ℕ → State
     at k = later i t first k
 

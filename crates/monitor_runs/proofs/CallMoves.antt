@@ -20,7 +20,7 @@ use Rattle.monitor_model.specs.declared.tables.TargetRecord.{TargetRecord}
 use Rattle.monitor_model.specs.declared.tables.Tables.{Tables}
 use Rattle.monitor_model.specs.Records.{rounded, site_at, targets_of, last_with_entry, eighth}
 use Rattle.monitor_model.specs.Placed.{Placed}
-use Rattle.monitor_model.specs.Block.{Block, Loan, Saved, entered, left, lent, unlent}
+use Rattle.monitor_model.specs.Block.{MonitorBlock, Loan, Saved, entered, left, lent, unlent}
 use Rattle.monitor_model.specs.Invariant.{AreSaved, InvariantHolds}
 use Rattle.monitor_model.specs.Confined.{IsSvc}
 use Rattle.monitor_model.specs.Handlers as change
@@ -40,7 +40,7 @@ whole_eighths : (k e : ℕ) → 0 < k * e → 64 ≤ e → 64 ≤ k * e
 whole_eighths zero e h l = absurd (omega (arith, h))
 whole_eighths (suc k) e h l = omega (arith, l)
 
-module _ (laws : FrameLaws) (i : Image) (t : Tables) (p : Placed i t) (stub : ℕ) (s u : State) (m : Block) (h : InvariantHolds i t m s) (opened : is_frame_open by_mpu i s ≡ true) (k : ℕ) (svc : IsSvc i t k s) (n : Block) (q : ℕ) (after : List ℕ) (on : GoesOn i t s u m n q after) where
+module _ (laws : FrameLaws) (i : Image) (t : Tables) (p : Placed i t) (stub : ℕ) (s u : State) (m : MonitorBlock) (h : InvariantHolds i t m s) (opened : is_frame_open by_mpu i s ≡ true) (k : ℕ) (svc : IsSvc i t k s) (n : MonitorBlock) (q : ℕ) (after : List ℕ) (on : GoesOn i t s u m n q after) where
   abbrev psp : ℕ
   psp = frame_at s.core.sp
 
@@ -66,7 +66,7 @@ module _ (laws : FrameLaws) (i : Image) (t : Tables) (p : Placed i t) (stub : �
       let a = subst (λ (l : List Saved). AreSaved t m.top m.mark l) is h.inv.orderly.saved in
       let above = a.0.above in
       let below = room.below_top in
-      subst (λ (b : Block). Moves i t s u m b) w.0 (Leaves x es is one
+      subst (λ (b : MonitorBlock). Moves i t s u m b) w.0 (Leaves x es is one
       (above_goes_on laws i t p s u m h opened supervisor_call (s.core.pc + 2) s.status pc_low on.handler x.psp (word i t stub m psp memory 0) (omega (arith, above, below)) (core_by x.psp (with_stacked i x.psp 0 (word i t stub m psp memory 0) memory) w.1 w.2)))
 
   lend_move : FrameIsOpen i t m psp → IsSvc i t 2 s → lend i t stub m psp memory ≡ Resumes n q after → Moves i t s u m n
@@ -87,7 +87,7 @@ module _ (laws : FrameLaws) (i : Image) (t : Tables) (p : Placed i t) (stub : �
       let x4 : psp + 32 ≤ l.address = let z = f.0 in search (nat_tests, arith) in
       let x5 : l.end ≤ m.top = let z = f.1 in search (nat_tests, arith) in
       let w = same_parts (lent m l) n psp q memory after a.1 in
-      subst (λ (b : Block). Moves i t s u m b) w.0 (Lends l two room x1 x2 refl x4 x5 (goes_behind w.1 w.2))
+      subst (λ (b : MonitorBlock). Moves i t s u m b) w.0 (Lends l two room x1 x2 refl x4 x5 (goes_behind w.1 w.2))
 
   unlend_by : IsSvc i t 3 s → (l : Loan) (ls : List Loan) → m.loans ≡ l ∷ ls → m.mark ≤ suc (length ls) → (b : Bool) → nat_eq (suc (length ls)) m.mark ≡ b →
       (if b then Halts 6 else Resumes (record m { loans = ls }) psp memory) ≡ Resumes n q after → Moves i t s u m n
@@ -95,7 +95,7 @@ module _ (laws : FrameLaws) (i : Image) (t : Tables) (p : Placed i t) (stub : �
   unlend_by three l ls is le false z e =
       let x : m.mark ≤ length ls = search (nat_tests, arith) in
       let w = same_parts (unlent m ls) n psp q memory after e in
-      subst (λ (b : Block). Moves i t s u m b) w.0 (Unlends l ls is x three (goes_behind w.1 w.2))
+      subst (λ (b : MonitorBlock). Moves i t s u m b) w.0 (Unlends l ls is x three (goes_behind w.1 w.2))
 
   unlend_move : IsSvc i t 3 s → (ls : List Loan) → m.loans ≡ ls → unlend_to i t stub m psp memory ls ≡ Resumes n q after → Moves i t s u m n
   unlend_move three [] is e = cc
@@ -218,11 +218,11 @@ module _ (laws : FrameLaws) (i : Image) (t : Tables) (p : Placed i t) (stub : �
       off_block d few lo hi below base size from mon (inl z) = inr (omega (arith, few, lo, z, base, from, mon))
       off_block d few lo hi below base size from mon (inr z) = inl (omega (arith, few, lo, hi, below, z, base, from, mon))
 
-  more_saved : (b : Block) (c top f : ℕ) → entered m c top f ≡ b → length b.saved ≡ suc (length m.saved)
-  more_saved b c top f e = ap (λ (x : Block). length x.saved) (sym e)
+  more_saved : (b : MonitorBlock) (c top f : ℕ) → entered m c top f ≡ b → length b.saved ≡ suc (length m.saved)
+  more_saved b c top f e = ap (λ (x : MonitorBlock). length x.saved) (sym e)
 
   -- enter is what the law of changes says, and no other change
-  by_change : (b : Block) → Change i t s u m b → length b.saved ≡ suc (length m.saved) → u.core.sp ≡ rounded t psp → Waits i u.ram psp s → Moves i t s u m b
+  by_change : (b : MonitorBlock) → Change i t s u m b → length b.saved ≡ suc (length m.saved) → u.core.sp ≡ rounded t psp → Waits i u.ram psp s → Moves i t s u m b
   by_change _ change.Emulates l sp w = absurd (omega (arith, l))
   by_change _ (change.Enters c o some inside crosses) l sp w = Enters c crosses o some sp w
   by_change _ (change.Leaves e es is v) l sp w = absurd (let z : length m.saved ≡ suc (length es) = ap (λ (x : List Saved). length x) is in omega (arith, l, z))

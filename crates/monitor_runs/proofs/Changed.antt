@@ -13,7 +13,7 @@ use Rattle.base_laws.proofs.Lists.{each_at}
 use Rattle.monitor_model.specs.declared.tables.Tables.{Tables}
 use Rattle.monitor_model.specs.Records.{compartment_at, nobody, eighth, stack_end}
 use Rattle.monitor_model.specs.Placed.{Placed, IsCompartment, IsSlot}
-use Rattle.monitor_model.specs.Block.{Loan, Saved, Block}
+use Rattle.monitor_model.specs.Block.{Loan, Saved, MonitorBlock}
 use Rattle.monitor_model.specs.BlockWords.{current, top, depth, saved_psp, loan_count, loan_address, loan_end, HasSaved, HasLoans}
 use Rattle.monitor_model.specs.Invariant.{AreSaved, IsLoan, InvariantHolds}
 use Rattle.monitor_model.specs.Handlers.{InWaitingFrame}
@@ -42,7 +42,7 @@ some_open : (base e top k : ℕ) → top ≡ base + k * e → 0 < k → 0 < e �
 some_open base e top zero at some wide = absurd (omega (arith, some))
 some_open base e top (suc k) at some wide = let x : e ≤ suc k * e = omega arith in omega (arith, at, x, wide)
 
-module _ (i : Image) (t : Tables) (p : Placed i t) (s : State) (m : Block) (h : InvariantHolds i t m s) where
+module _ (i : Image) (t : Tables) (p : Placed i t) (s : State) (m : MonitorBlock) (h : InvariantHolds i t m s) where
   -- a loan by its words is one of the list
   lent_at : (ls : List Loan) → HasLoans i t s.ram ls → Each (IsLoan t) ls → (k a : ℕ) → k < length ls → loan_address i t s.ram k ≤ a → a < loan_end i t s.ram k → OnStack t a
   lent_at [] w e k a lt from to = absurd (omega (arith, lt))

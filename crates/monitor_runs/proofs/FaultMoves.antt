@@ -14,7 +14,7 @@ use Rattle.machine_model.specs.ThreadStep.{ThreadStep}
 use Rattle.monitor_model.specs.declared.tables.Tables.{Tables}
 use Rattle.monitor_model.specs.Records.{compartment_at}
 use Rattle.monitor_model.specs.Placed.{Placed}
-use Rattle.monitor_model.specs.Block.{Block}
+use Rattle.monitor_model.specs.Block.{MonitorBlock}
 use Rattle.monitor_model.specs.Invariant.{InvariantHolds}
 use Rattle.monitor_model.specs.Handlers.{Change, Emulates, IsFault, at_memfault}
 use Rattle.monitor_model.specs.Outcomes.{Outcome, Halts, StopsUnaligned, Resumes, frame_in, with_stacked, moved_on, is_open}
@@ -27,8 +27,8 @@ use Rattle.monitor_runs.proofs.Tests.{either_way, lent_found, lent_from_base}
 use Rattle.monitor_runs.proofs.RefusedStores.{IsStore, OfWord, OfByte, OfHalf, refused_off}
 use Rattle.monitor_runs.proofs.Waiting.{IsOff, even_back, moved_pc, second_pushed, store_keeps}
 
-module _ (laws : FrameLaws) (i : Image) (t : Tables) (p : Placed i t) (s u : State) (m : Block) (h : InvariantHolds i t m s) (z : FaultStatus) (fault : IsFault i s z) (opened : is_frame_open by_mpu i s ≡ true)
-    (leads : ThreadStep i s (turn by_mpu i s)) (enters : step i s ≡ at_memfault i z s) (n : Block) (q : ℕ) (after : List ℕ) (on : GoesOn i t s u m n q after) where
+module _ (laws : FrameLaws) (i : Image) (t : Tables) (p : Placed i t) (s u : State) (m : MonitorBlock) (h : InvariantHolds i t m s) (z : FaultStatus) (fault : IsFault i s z) (opened : is_frame_open by_mpu i s ≡ true)
+    (leads : ThreadStep i s (turn by_mpu i s)) (enters : step i s ≡ at_memfault i z s) (n : MonitorBlock) (q : ℕ) (after : List ℕ) (on : GoesOn i t s u m n q after) where
   abbrev psp : ℕ
   psp = frame_at s.core.sp
 
@@ -77,7 +77,7 @@ module _ (laws : FrameLaws) (i : Image) (t : Tables) (p : Placed i t) (s u : Sta
       either_way (Moves i t s u m n) (nat_eq (a % w) 0) r StopsUnaligned done
       (λ al y.
       let o = same_parts m n psp q (moved_on i psp changed) after y in
-      subst (λ (b : Block). Moves i t s u m b) o.0 (Stores w wide l
+      subst (λ (b : MonitorBlock). Moves i t s u m b) o.0 (Stores w wide l
       (goes_behind few changed (length-write w (a - i.ram_base) v memory) (store_keeps laws i t p s u m h opened mem_manage s.core.pc z pc_word w a v (in_ram base) (subst (λ (x : ℕ). IsOff psp x w) (sym at_r1) off)) o.1 o.2)))
       (λ al y. stops y) x)
       (λ is x. halts 7 x) e
@@ -95,7 +95,7 @@ module _ (laws : FrameLaws) (i : Image) (t : Tables) (p : Placed i t) (s u : Sta
       (λ is x. either_way (Moves i t s u m n) (nat_eq (a % w) 0) r StopsUnaligned done
       (λ al y.
       let o = same_parts m n psp q (moved_on i psp changed) after y in
-      subst (λ (b : Block). Moves i t s u m b) o.0 (Loads w wide closed (found (compartment_at t m.current).reads w is)
+      subst (λ (b : MonitorBlock). Moves i t s u m b) o.0 (Loads w wide closed (found (compartment_at t m.current).reads w is)
       (goes_behind few changed (length-write 4 (psp - i.ram_base + 4 * 0) v memory) (read_above 4 (psp - i.ram_base + 24) 4 (psp - i.ram_base + 4 * 0) v memory (omega arith)) o.1 o.2)))
       (λ al y. stops y) x)
       (λ is x. halts 9 x) e
@@ -133,10 +133,10 @@ module _ (laws : FrameLaws) (i : Image) (t : Tables) (p : Placed i t) (s u : Sta
       (λ o. halts 4) e
 
 -- where the thread goes on, the block is the same: by the move, whichever it is
-same_block : (i : Image) (t : Tables) (s u : State) (m n : Block) → m ≡ n → Change i t s u m n
-same_block i t s u m n e = subst (λ (b : Block). Change i t s u m b) e Emulates
+same_block : (i : Image) (t : Tables) (s u : State) (m n : MonitorBlock) → m ≡ n → Change i t s u m n
+same_block i t s u m n e = subst (λ (b : MonitorBlock). Change i t s u m b) e Emulates
 
-pub fault_change : (i : Image) (t : Tables) (s u : State) (m : Block) (memory : List ℕ) (cfsr half : ℕ) (n : Block) (q : ℕ) (after : List ℕ) → fault_outcome i t m (frame_at s.core.sp) memory cfsr half ≡ Resumes n q after → Change i t s u m n
+pub fault_change : (i : Image) (t : Tables) (s u : State) (m : MonitorBlock) (memory : List ℕ) (cfsr half : ℕ) (n : MonitorBlock) (q : ℕ) (after : List ℕ) → fault_outcome i t m (frame_at s.core.sp) memory cfsr half ≡ Resumes n q after → Change i t s u m n
 unfolding fault_outcome
 fault_change i t s u m memory c h n q after e = same_block i t s u m n
     (either_way (m ≡ n) (is_open i t m (frame_at s.core.sp) memory) _ _ (Resumes n q after)

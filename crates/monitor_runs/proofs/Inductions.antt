@@ -11,7 +11,7 @@ use Rattle.machine_model.specs.Step.{step, event}
 use Rattle.machine_model.proofs.Runs.{turn_ended}
 use Rattle.monitor_model.specs.declared.tables.Tables.{Tables}
 use Rattle.monitor_model.specs.Placed.{Placed}
-use Rattle.monitor_model.specs.Block.{Block}
+use Rattle.monitor_model.specs.Block.{MonitorBlock}
 use Rattle.monitor_model.specs.Invariant.{InvariantHolds}
 use Rattle.monitor_model.specs.MonitorLaw.{MonitorLaw}
 use Rattle.monitor_model.specs.Handlers.{HasEndedInHandler, Handles}
@@ -23,7 +23,7 @@ module _ (laws : RunLaws) (i : Image) (t : Tables) (p : Placed i t) (stub : ℕ)
   abbrev at : ℕ → State
   at n = later i t first n
 
-  abbrev pub Piece : Block → State → Type 0
+  abbrev pub Piece : MonitorBlock → State → Type 0
   Piece m s = Segment laws i t p stub law m s
 
   pub at_add : (a k : ℕ) → at (a + k) ≡ run (step i) k (at a)
@@ -34,7 +34,7 @@ module _ (laws : RunLaws) (i : Image) (t : Tables) (p : Placed i t) (stub : ℕ)
       let z : n ≡ a + (n - a) = omega (arith, le) in
       ap at z ∙ at_add a (n - a) ∙ run_still (step i) (n - a) (at a) (step_ended laws i t p stub law (at a) e q)
 
-  pub works_in : (a n : ℕ) (m : Block) (g : Piece m (at a)) → a < n → n < a + g.count → Handles i t (at a) (at n)
+  pub works_in : (a n : ℕ) (m : MonitorBlock) (g : Piece m (at a)) → a < n → n < a + g.count → Handles i t (at a) (at n)
   works_in a n m g lt l =
       let z : a + (n - a) ≡ n = omega (arith, lt) in
       let w = g.works (n - a) (omega (arith, lt)) (omega (arith, l, lt)) in
@@ -42,7 +42,7 @@ module _ (laws : RunLaws) (i : Image) (t : Tables) (p : Placed i t) (stub : ℕ)
 
   -- ---- the next step of the thread is where the work for this one ends
 
-  module _ (a n : ℕ) (m : Block) (next : AreNext i t first a n) (g : Piece m (at a)) where
+  module _ (a n : ℕ) (m : MonitorBlock) (next : AreNext i t first a n) (g : Piece m (at a)) where
     there : at (a + g.count) ≡ run (step i) g.count (at a)
     there = at_add a g.count
 
@@ -65,21 +65,21 @@ module _ (laws : RunLaws) (i : Image) (t : Tables) (p : Placed i t) (stub : ℕ)
   -- ---- what each of them keeps, also to a number at which the state is the same
 
   module _ (F : ℕ → Type 0)
-      (through : (a n : ℕ) (m : Block) → InvariantHolds i t m (at a) → (g : Piece m (at a)) → a < n → at n ≡ run (step i) g.count (at a) → F a → F n) where
+      (through : (a n : ℕ) (m : MonitorBlock) → InvariantHolds i t m (at a) → (g : Piece m (at a)) → a < n → at n ≡ run (step i) g.count (at a) → F a → F n) where
     -- a step of the run: a thread's; a handler's, that works for an earlier one; or the machine has ended in a handler
     pub data Track (n : ℕ) : Type 0 where
-      Thread : (m : Block) → InvariantHolds i t m (at n) → F n → Track n
-      Inside : (a : ℕ) (m : Block) → InvariantHolds i t m (at a) → (g : Piece m (at a)) → a < n → n < a + g.count → F a → Track n
-      Ended : (a : ℕ) (m : Block) → InvariantHolds i t m (at a) → (g : Piece m (at a)) → a < n → at n ≡ run (step i) g.count (at a) → (e : End) → HasEndedInHandler (at n) e → F a → Track n
+      Thread : (m : MonitorBlock) → InvariantHolds i t m (at n) → F n → Track n
+      Inside : (a : ℕ) (m : MonitorBlock) → InvariantHolds i t m (at a) → (g : Piece m (at a)) → a < n → n < a + g.count → F a → Track n
+      Ended : (a : ℕ) (m : MonitorBlock) → InvariantHolds i t m (at a) → (g : Piece m (at a)) → a < n → at n ≡ run (step i) g.count (at a) → (e : End) → HasEndedInHandler (at n) e → F a → Track n
 
-    arrives : (a n : ℕ) (m : Block) → InvariantHolds i t m (at a) → (g : Piece m (at a)) → a < n → at n ≡ run (step i) g.count (at a) → F a → Track n
+    arrives : (a n : ℕ) (m : MonitorBlock) → InvariantHolds i t m (at a) → (g : Piece m (at a)) → a < n → at n ≡ run (step i) g.count (at a) → F a → Track n
     arrives a n m h g lt e f = by g.rest
       where
         by : Rest laws i t p stub law m (at a) (run (step i) g.count (at a)) → Track n
         by (InThread b k move) = Thread b (subst (λ (x : State). InvariantHolds i t b x) (sym e) k) (through a n m h g lt e f)
         by (Over x k) = Ended a m h g lt e x (subst (λ (y : State). HasEndedInHandler y x) (sym e) k) f
 
-    onward : (a n : ℕ) (m : Block) → InvariantHolds i t m (at a) → (g : Piece m (at a)) → a < n → n ≤ a + g.count → F a → Track n
+    onward : (a n : ℕ) (m : MonitorBlock) → InvariantHolds i t m (at a) → (g : Piece m (at a)) → a < n → n ≤ a + g.count → F a → Track n
     onward a n m h g lt le f =
         ⊎_elim (λ l. Inside a m h g lt l f)
         (λ ge. arrives a n m h g lt (let z : n ≡ a + g.count = omega (arith, le, ge) in ap at z ∙ at_add a g.count) f) (cases_lt n (a + g.count))
@@ -102,7 +102,7 @@ module _ (laws : RunLaws) (i : Image) (t : Tables) (p : Placed i t) (stub : ℕ)
     track from n le x = let z : from + (n - from) ≡ n = omega (arith, le) in subst Track z (tracks from (n - from) x)
 
     -- a thread's steps are of the invariant
-    pub in_thread : (n : ℕ) → Track n → (at n).protection.handler ≡ false → (m : Block) × InvariantHolds i t m (at n) × F n
+    pub in_thread : (n : ℕ) → Track n → (at n).protection.handler ≡ false → (m : MonitorBlock) × InvariantHolds i t m (at n) × F n
     in_thread n (Thread m h f) th = (m, h, f)
     in_thread n (Inside a m h g lt l f) th = absurd (false≢true (sym th ∙ (works_in a n m g lt l).handler))
     in_thread n (Ended a m h g lt q e ended f) th = absurd (false≢true (sym th ∙ ended.handler))
@@ -117,7 +117,7 @@ module _ (laws : RunLaws) (i : Image) (t : Tables) (p : Placed i t) (stub : ℕ)
 
   -- ---- from start-up on
 
-  module _ (begins : StartUp i t first) (m : Block) (holds : InvariantHolds i t m (at begins.count)) where
+  module _ (begins : StartUp i t first) (m : MonitorBlock) (holds : InvariantHolds i t m (at begins.count)) where
     pub reached : (n : ℕ) → HasStarted i t first n → begins.count ≤ n
     reached n h = ⊎_elim (λ lt. absurd (false≢true (sym (begins.privileged h.0 lt) ∙ h.2))) (λ le. let k = h.1 in omega (arith, k, le)) (cases_lt h.0 begins.count)
 
@@ -131,7 +131,7 @@ module _ (laws : RunLaws) (i : Image) (t : Tables) (p : Placed i t) (stub : ℕ)
     plain_at n h = track Nothing (λ a n m h g lt e f. tt) begins.count n (reached n h) (Thread m holds tt)
 
     -- at a thread's step the invariant holds
-    pub holds_at : (n : ℕ) → HasStarted i t first n → (at n).protection.handler ≡ false → (b : Block) × InvariantHolds i t b (at n)
+    pub holds_at : (n : ℕ) → HasStarted i t first n → (at n).protection.handler ≡ false → (b : MonitorBlock) × InvariantHolds i t b (at n)
     holds_at n started th = let z = in_thread Nothing (λ a n m h g lt e f. tt) n (plain_at n started) th in (z.0, z.1)
 
     -- a handler makes no access of a peripheral
@@ -150,7 +150,7 @@ module _ (laws : RunLaws) (i : Image) (t : Tables) (p : Placed i t) (stub : ℕ)
         here : n ≡ n + 0
         here = omega arith
 
-        rested : (a : ℕ) (b : Block) (g : Piece b (at a)) → Rest laws i t p stub law b (at a) (run (step i) g.count (at a)) → IsBack (run (step i) g.count (at a))
+        rested : (a : ℕ) (b : MonitorBlock) (g : Piece b (at a)) → Rest laws i t p stub law b (at a) (run (step i) g.count (at a)) → IsBack (run (step i) g.count (at a))
         rested a b g (InThread c k move) = inl k.inv.thread
         rested a b g (Over e k) = inr (e, k.ending)
 
@@ -164,7 +164,7 @@ module _ (laws : RunLaws) (i : Image) (t : Tables) (p : Placed i t) (stub : ℕ)
 
     -- from where no handler is at work to where none is
     module _ (F : ℕ → Type 0)
-        (through : (a n : ℕ) (m : Block) → InvariantHolds i t m (at a) → (g : Piece m (at a)) → a < n → at n ≡ run (step i) g.count (at a) → F a → F n)
+        (through : (a n : ℕ) (m : MonitorBlock) → InvariantHolds i t m (at a) → (g : Piece m (at a)) → a < n → at n ≡ run (step i) g.count (at a) → F a → F n)
         (same : (a n : ℕ) → a ≤ n → at n ≡ at a → F a → F n) where
       pub from_rest : (from to : ℕ) → HasStarted i t first from → IsBack (at from) → IsBack (at to) → from ≤ to → F from → F to
       from_rest from to started (inl th) rests le f =

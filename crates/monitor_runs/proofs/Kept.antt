@@ -27,7 +27,7 @@ use Rattle.base_laws.specs.Lists.{Each}
 use Rattle.base_laws.proofs.Lists.{each_to}
 use Rattle.monitor_model.specs.declared.tables.Tables.{Tables}
 use Rattle.monitor_model.specs.Placed.{Placed}
-use Rattle.monitor_model.specs.Block.{Block, first_block}
+use Rattle.monitor_model.specs.Block.{MonitorBlock, first_block}
 use Rattle.monitor_model.specs.BlockWords.{current}
 use Rattle.monitor_model.specs.Invariant.{InvariantHolds}
 use Rattle.monitor_model.specs.Reach.{AllBytes, running, InOpenStack}
@@ -58,11 +58,11 @@ not_both : (P : Type 0) (o : Option Event) (e : Event) → o ≡ None → o ≡ 
 not_both P o e n s = absurd (let z : None ≡ Some e = sym n ∙ s in cc)
 
 module _ (laws : ActLaws) (units : AccessLaws) (i : Image) (t : Tables) (p : Placed i t) (stub : ℕ) (law : MonitorLaw i t stub) (first : State)
-    (begins : StartUp i t first) (m : Block) (begun : InvariantHolds i t m (later i t first begins.count)) (who : WhoRuns i t first) where
+    (begins : StartUp i t first) (m : MonitorBlock) (begun : InvariantHolds i t m (later i t first begins.count)) (who : WhoRuns i t first) where
   abbrev at : ℕ → State
   at n = later i t first n
 
-  holds_at : (n : ℕ) → Acts i t first n → (b : Block) × InvariantHolds i t b (at n)
+  holds_at : (n : ℕ) → Acts i t first n → (b : MonitorBlock) × InvariantHolds i t b (at n)
   holds_at n x = run_holds laws.runs i t p stub law first begins m begun n x.started x.thread
 
   all_stays : MemoryStays i t first
@@ -96,7 +96,7 @@ module _ (laws : ActLaws) (units : AccessLaws) (i : Image) (t : Tables) (p : Pla
   abbrev Own : ℕ → Event → Type 0
   Own n e = IsOwnAccess i t first n e
 
-  module _ (n : ℕ) (e : Event) (acts : Acts i t first n) (told : event i (at n) ≡ Some e) (block : Block) (inv : InvariantHolds i t block (at n)) where
+  module _ (n : ℕ) (e : Event) (acts : Acts i t first n) (told : event i (at n) ≡ Some e) (block : MonitorBlock) (inv : InvariantHolds i t block (at n)) where
     reach : Reaches i t (at n)
     reach = laws.reach i t block (at n) p inv
 
@@ -214,7 +214,7 @@ module _ (laws : ActLaws) (units : AccessLaws) (i : Image) (t : Tables) (p : Pla
       (laws.accesses i (at n) (user laws.runs i t p stub law h.0 (at n) h.1) h.1.fits.core.sp_aligned).loads
 
   -- the monitor's step is one of its work for the act, or the machine has ended in a handler
-  monitor_reads_in : i.closed ≡ true → (n k : ℕ) (b : Block) (g : Segment laws.runs i t p stub law b (at n)) → n < k → ((j : ℕ) → n < j → j ≤ k → (at j).protection.handler ≡ true)
+  monitor_reads_in : i.closed ≡ true → (n k : ℕ) (b : MonitorBlock) (g : Segment laws.runs i t p stub law b (at n)) → n < k → ((j : ℕ) → n < j → j ≤ k → (at j).protection.handler ≡ true)
       → Each (AllBytes (LoadFor i t (at n))) (turn by_mpu i (at k)).loads
   monitor_reads_in closed n k b g lt in_handler =
       ⊎_elim (λ l. (works_in laws.runs i t p stub law first n k b g lt l).loads_for closed) (λ le. behind le g.rest) (cases_lt k (n + g.count))

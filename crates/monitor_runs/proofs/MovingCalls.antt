@@ -6,7 +6,7 @@ use Rattle.machine_model.specs.State.{State}
 use Rattle.base_words.specs.Arithmetic.{word}
 use Rattle.machine_model.specs.Exceptions.{frame_at, with_pad}
 use Rattle.monitor_model.specs.declared.tables.Tables.{Tables}
-use Rattle.monitor_model.specs.Block.{Block, Loan, Saved, left}
+use Rattle.monitor_model.specs.Block.{MonitorBlock, Loan, Saved, left}
 use Rattle.monitor_model.specs.BlockWords.{depth}
 use Rattle.monitor_model.specs.Confined.{HasStarted, AreNext, later}
 use Rattle.monitor_runs.specs.BlockInRam.{saved_entries, live_loans}
@@ -37,7 +37,7 @@ count_loans i t ram (suc k) = ap suc (count_loans i t ram k)
 -- ---- a block above another
 
 -- what a call leaves behind
-abbrev pub entry_of : Block → (psp : ℕ) → Saved
+abbrev pub entry_of : MonitorBlock → (psp : ℕ) → Saved
 entry_of m f = record { psp = f; current = m.current; top = m.top; mark = m.mark }
 
 -- the marks of what was called since: none is below so many, and the first of them, which is the last of the list, is exactly that
@@ -50,25 +50,25 @@ marks_from n k [] h = omega (arith, h)
 marks_from n k (x ∷ xs) h = h.0
 
 -- calls wait that were made since, and loans are live that were made since
-pub record IsAbove (m : Block) (f : ℕ) (b : Block) : Type 0 where
+pub record IsAbove (m : MonitorBlock) (f : ℕ) (b : MonitorBlock) : Type 0 where
   pub calls : List Saved
   pub saved : b.saved ≡ calls ++ (entry_of m f ∷ m.saved)
   lent : List Loan
   loans : b.loans ≡ lent ++ m.loans
   marks : Marks (length m.loans) b.mark calls
 
-above_deep : (m b : Block) (f : ℕ) → IsAbove m f b → length m.saved < length b.saved
+above_deep : (m b : MonitorBlock) (f : ℕ) → IsAbove m f b → length m.saved < length b.saved
 above_deep m b f x =
     let l : length b.saved ≡ length x.calls + suc (length m.saved) = ap (λ (es : List Saved). length es) x.saved ∙ length-append x.calls (entry_of m f ∷ m.saved) in
     omega (arith, l)
 
-module _ (i : Image) (t : Tables) (s u : State) (m : Block) (f : ℕ) where
+module _ (i : Image) (t : Tables) (s u : State) (m : MonitorBlock) (f : ℕ) where
   -- the return to the call itself
-  record IsReturn (n : Block) : Type 0 where
+  record IsReturn (n : MonitorBlock) : Type 0 where
     same : n ≡ m
     goes : GoesOnAt i s.ram f u
 
-  leave : (b : Block) (e : Saved) (es : List Saved) → b.saved ≡ e ∷ es → GoesOnAt i s.ram e.psp u → (calls : List Saved) → b.saved ≡ calls ++ (entry_of m f ∷ m.saved) →
+  leave : (b : MonitorBlock) (e : Saved) (es : List Saved) → b.saved ≡ e ∷ es → GoesOnAt i s.ram e.psp u → (calls : List Saved) → b.saved ≡ calls ++ (entry_of m f ∷ m.saved) →
       (lent : List Loan) → b.loans ≡ lent ++ m.loans → Marks (length m.loans) b.mark calls → IsAbove m f (left b e es) ⊎ IsReturn (left b e es)
   leave b e es is goes [] saved lent loans marks =
       let z : e ∷ es ≡ entry_of m f ∷ m.saved = sym is ∙ saved in
@@ -96,7 +96,7 @@ module _ (i : Image) (t : Tables) (s u : State) (m : Block) (f : ℕ) where
         marks = subst (λ (y : Saved). Marks (length m.loans) y.mark calls) (sym first) marks.1;
       })
 
-  unlend : (b : Block) (l : Loan) (ls : List Loan) → b.loans ≡ l ∷ ls → b.mark ≤ length ls → (calls : List Saved) → b.saved ≡ calls ++ (entry_of m f ∷ m.saved) →
+  unlend : (b : MonitorBlock) (l : Loan) (ls : List Loan) → b.loans ≡ l ∷ ls → b.mark ≤ length ls → (calls : List Saved) → b.saved ≡ calls ++ (entry_of m f ∷ m.saved) →
       (lent : List Loan) → b.loans ≡ lent ++ m.loans → Marks (length m.loans) b.mark calls → IsAbove m f (record b { loans = ls })
   unlend b l ls is le calls saved [] loans marks =
       let n : length m.loans ≡ suc (length ls) = ap (λ (xs : List Loan). length xs) (sym loans ∙ is) in
@@ -107,7 +107,7 @@ module _ (i : Image) (t : Tables) (s u : State) (m : Block) (f : ℕ) where
       record { calls = calls; saved = saved; lent = lent; loans = cc; marks = marks }
 
   -- each move leaves a block above, or is the return
-  moved : (b n : Block) → IsAbove m f b → Moves i t s u b n → IsAbove m f n ⊎ IsReturn n
+  moved : (b n : MonitorBlock) → IsAbove m f b → Moves i t s u b n → IsAbove m f n ⊎ IsReturn n
   moved b _ x (Steps e) = inl x
   moved b _ x (Stores w wide l g) = inl x
   moved b _ x (Loads w wide c l g) = inl x
@@ -119,7 +119,7 @@ module _ (i : Image) (t : Tables) (s u : State) (m : Block) (f : ℕ) where
   moved b _ x (Unlends l ls is marks three pc) = inl (unlend b l ls is marks x.calls x.saved x.lent x.loans x.marks)
 
   -- the call
-  called : (n : Block) → Moves i t s u m n → length m.saved < length n.saved → IsAbove m (frame_at s.core.sp) n × Waits i u.ram (frame_at s.core.sp) s
+  called : (n : MonitorBlock) → Moves i t s u m n → length m.saved < length n.saved → IsAbove m (frame_at s.core.sp) n × Waits i u.ram (frame_at s.core.sp) s
   called _ (Steps e) lt = absurd (omega (arith, lt))
   called _ (Stores w wide l g) lt = absurd (omega (arith, lt))
   called _ (Loads w wide c l g) lt = absurd (omega (arith, lt))
@@ -134,7 +134,7 @@ module _ (i : Image) (t : Tables) (first : State) (who : WhoRuns i t first) (a b
   abbrev at : ℕ → State
   at n = later i t first n
 
-  abbrev base : Block
+  abbrev base : MonitorBlock
   base = block_at i t first a
 
   abbrev f : ℕ
@@ -185,7 +185,7 @@ module _ (i : Image) (t : Tables) (first : State) (who : WhoRuns i t first) (a b
   stays_above n lt s u (inr r) =
       let x = depth_is a in
       let y = depth_is n in
-      let z : length (block_at i t first n).saved ≡ length base.saved = ap (λ (m : Block). length m.saved) r.same in
+      let z : length (block_at i t first n).saved ≡ length base.saved = ap (λ (m : MonitorBlock). length m.saved) r.same in
       absurd (omega (arith, lt, x, y, z))
 
   -- the steps behind the call, by how many they are

@@ -2,7 +2,7 @@
 use Rattle.std.proofs.Common.{◌≡◌, ℕ, List, [], ◌∷◌, length, refl, sym, ap, ap₂, ◌∙◌}
 use Rattle.machine_devices.specs.declared.image.Image.{Image}
 use Rattle.monitor_model.specs.declared.tables.Tables.{Tables}
-use Rattle.monitor_model.specs.Block.{Loan, Saved, Block}
+use Rattle.monitor_model.specs.Block.{Loan, Saved, MonitorBlock}
 use Rattle.monitor_model.specs.BlockWords.{current, top, depth, loan_count, mark_offset, HasSaved, HasLoans}
 use Rattle.monitor_runs.specs.BlockInRam.{word, saved_entries, live_loans}
 use Rattle.monitor_runs.specs.WhoRuns.{BlocksAreOne}
@@ -13,7 +13,7 @@ one_saved a b c d e p q r s = rw (p, q, r, s) refl
 one_loan : (a b c : ℕ) (l : Loan) → a ≡ l.address → b ≡ l.end → c ≡ l.number → (let x : Loan = record { address = a; end = b; number = c } in x) ≡ l
 one_loan a b c l p q r = rw (p, q, r) refl
 
-pub one_block : (a b c : ℕ) (es : List Saved) (ls : List Loan) (m : Block) → a ≡ m.current → b ≡ m.top → c ≡ m.mark → es ≡ m.saved → ls ≡ m.loans → (let x : Block = record { current = a; top = b; mark = c; saved = es; loans = ls } in x) ≡ m
+pub one_block : (a b c : ℕ) (es : List Saved) (ls : List Loan) (m : MonitorBlock) → a ≡ m.current → b ≡ m.top → c ≡ m.mark → es ≡ m.saved → ls ≡ m.loans → (let x : MonitorBlock = record { current = a; top = b; mark = c; saved = es; loans = ls } in x) ≡ m
 one_block a b c es ls m p q r s u = rw (p, q, r, s, u) refl
 
 module _ (i : Image) (t : Tables) (ram : List ℕ) where

@@ -24,7 +24,7 @@ use Rattle.machine_model.specs.Step.{step, turn}
 use Rattle.machine_model.specs.ThreadStep.{IsFetchFault, IsDataFault, ThreadStep, Ends, Goes, Calls, Faults}
 use Rattle.monitor_model.specs.declared.tables.Tables.{Tables}
 use Rattle.monitor_model.specs.Placed.{Placed}
-use Rattle.monitor_model.specs.Block.{Block}
+use Rattle.monitor_model.specs.Block.{MonitorBlock}
 use Rattle.monitor_model.specs.Invariant.{InvariantHolds}
 use Rattle.monitor_model.specs.Handlers.{at_memfault}
 use Rattle.monitor_confined.proofs.EntryWords.{FrameLaws, frame}
@@ -48,7 +48,7 @@ half_code : (b : ℕ) → decoded 0x8008 b ≡ Some (TransferImmediate 4 0 1 0)
 unfolding decoded narrow_of transfer_of
 half_code b = refl
 
-module _ (laws : FrameLaws) (i : Image) (t : Tables) (p : Placed i t) (s : State) (m : Block) (h : InvariantHolds i t m s) (opened : is_frame_open by_mpu i s ≡ true)
+module _ (laws : FrameLaws) (i : Image) (t : Tables) (p : Placed i t) (s : State) (m : MonitorBlock) (h : InvariantHolds i t m s) (opened : is_frame_open by_mpu i s ≡ true)
     (z : FaultStatus) (leads : ThreadStep i s (turn by_mpu i s)) (enters : step i s ≡ at_memfault i z s) (data_fault : z.cfsr ≡ 0x82) where
   abbrev r1 : ℕ
   r1 = low_register s.core 1

@@ -6,7 +6,7 @@ use Rattle.machine_model.specs.State.{State}
 use Rattle.machine_model.specs.Step.{step}
 use Rattle.monitor_model.specs.declared.tables.Tables.{Tables}
 use Rattle.monitor_model.specs.Placed.{Placed}
-use Rattle.monitor_model.specs.Block.{Block}
+use Rattle.monitor_model.specs.Block.{MonitorBlock}
 use Rattle.monitor_model.specs.Invariant.{InvariantHolds}
 use Rattle.monitor_model.specs.MonitorLaw.{MonitorLaw}
 use Rattle.monitor_model.specs.Confined.{StartUp, later}
@@ -17,11 +17,11 @@ use Rattle.monitor_runs.specs.Stays.{MemoryStays}
 use Rattle.monitor_runs.proofs.ActChanges.{ActLaws, act_changes}
 
 module _ (laws : ActLaws) (i : Image) (t : Tables) (p : Placed i t) (stub : ℕ) (law : MonitorLaw i t stub) (first : State)
-    (begins : StartUp i t first) (m : Block) (begun : InvariantHolds i t m (later i t first begins.count)) where
+    (begins : StartUp i t first) (m : MonitorBlock) (begun : InvariantHolds i t m (later i t first begins.count)) where
   abbrev at : ℕ → State
   at n = later i t first n
 
-  abbrev Piece : Block → State → Type 0
+  abbrev Piece : MonitorBlock → State → Type 0
   Piece m s = Segment laws.runs i t p stub law m s
 
   abbrev pub MayDiffer : (from to a : ℕ) → Type 0
@@ -41,7 +41,7 @@ module _ (laws : ActLaws) (i : Image) (t : Tables) (p : Placed i t) (stub : ℕ)
       begun_later : (b : ℕ) → from ≤ b → (at b).protection.handler ≡ false → Acts i t first b
       begun_later b le th = record { started = (r.started.0, (let k = r.started.1 in omega (arith, le, k)), r.started.2); thread = th }
 
-      through : (b n : ℕ) (c : Block) → InvariantHolds i t c (at b) → (g : Piece c (at b)) → b < n → at n ≡ run (step i) g.count (at b) → (from ≤ b) × MayDiffer from b a → (from ≤ n) × MayDiffer from n a
+      through : (b n : ℕ) (c : MonitorBlock) → InvariantHolds i t c (at b) → (g : Piece c (at b)) → b < n → at n ≡ run (step i) g.count (at b) → (from ≤ b) × MayDiffer from b a → (from ≤ n) × MayDiffer from n a
       through b n c h g lt e x = ((let lo = x.0 in omega (arith, lo, lt)), by (act_changes laws i t p stub law c (at b) h g a out))
         where
           by : (byte_at i (run (step i) g.count (at b)) a ≡ byte_at i (at b) a) ⊎ MayChange i t (at b) a → MayDiffer from n a

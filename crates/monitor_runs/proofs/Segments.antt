@@ -15,7 +15,7 @@ use Rattle.machine_model.specs.ThreadStep.{UnprivilegedStepsAreThreadSteps}
 use Rattle.machine_model.proofs.Runs.{turn_ended}
 use Rattle.monitor_model.specs.declared.tables.Tables.{Tables}
 use Rattle.monitor_model.specs.Placed.{Placed}
-use Rattle.monitor_model.specs.Block.{Block}
+use Rattle.monitor_model.specs.Block.{MonitorBlock}
 use Rattle.monitor_model.specs.Invariant.{InvariantHolds}
 use Rattle.monitor_model.specs.Confined.{IsSvc}
 use Rattle.monitor_model.specs.Outcomes.{Outcome, Halts, StopsAtBus, StopsUnaligned, Resumes, stacked, status_place}
@@ -42,7 +42,7 @@ pub record RunLaws : Type 0 where
 
 module _ (laws : RunLaws) (i : Image) (t : Tables) (p : Placed i t) (stub : ℕ) (law : MonitorLaw i t stub) where
   -- what so many steps come to
-  pub data Work (m : Block) (s : State) (count : ℕ) : Type 0 where
+  pub data Work (m : MonitorBlock) (s : State) (count : ℕ) : Type 0 where
     -- the instruction's own step, behind which the block is the same
     Alone : count ≡ 1 → InvariantHolds i t m (step i s) → Work m s count
     -- an SVC, and a refused access, with all that its handler does
@@ -52,11 +52,11 @@ module _ (laws : RunLaws) (i : Image) (t : Tables) (p : Placed i t) (stub : ℕ)
         → Shows i t (fault_outcome i t m (frame_at s.core.sp) (at_memfault i z s).ram z.cfsr half) s m (at_memfault i z s).ram (run (step i) count s) → Work m s count
 
   -- where no handler is at work
-  pub data Rest (m : Block) (s u : State) : Type 0 where
-    InThread : (b : Block) → InvariantHolds i t b u → Moves i t s u m b → Rest m s u
+  pub data Rest (m : MonitorBlock) (s u : State) : Type 0 where
+    InThread : (b : MonitorBlock) → InvariantHolds i t b u → Moves i t s u m b → Rest m s u
     Over : (e : End) → HasEndedInHandler u e → Rest m s u
 
-  pub record Segment (m : Block) (s : State) : Type 0 where
+  pub record Segment (m : MonitorBlock) (s : State) : Type 0 where
     pub count : ℕ
     pub some : 0 < count
     pub few : count ≤ 16001
@@ -66,7 +66,7 @@ module _ (laws : RunLaws) (i : Image) (t : Tables) (p : Placed i t) (stub : ℕ)
 
   -- ---- the invariant behind a handler
 
-  resumed_holds : (m : Block) (s u : State) (n : Block) (q : ℕ) (r : List ℕ) → InvariantHolds i t m s → StateFits i u → GoesOn i t s u m n q r → Change i t s u m n → InvariantHolds i t n u
+  resumed_holds : (m : MonitorBlock) (s u : State) (n : MonitorBlock) (q : ℕ) (r : List ℕ) → InvariantHolds i t m s → StateFits i u → GoesOn i t s u m n q r → Change i t s u m n → InvariantHolds i t n u
   resumed_holds m s u n q r h fits g c = record {
     inv = record {
       is_block = g.is_left.is_block;
@@ -86,14 +86,14 @@ module _ (laws : RunLaws) (i : Image) (t : Tables) (p : Placed i t) (stub : ℕ)
   }
 
   -- where the outcome leads
-  abbrev Turns : State → State → Block → Outcome → Type 0
-  Turns s u m o = (n : Block) (q : ℕ) (r : List ℕ) → o ≡ Resumes n q r → GoesOn i t s u m n q r → Change i t s u m n × Moves i t s u m n
+  abbrev Turns : State → State → MonitorBlock → Outcome → Type 0
+  Turns s u m o = (n : MonitorBlock) (q : ℕ) (r : List ℕ) → o ≡ Resumes n q r → GoesOn i t s u m n q r → Change i t s u m n × Moves i t s u m n
 
-  by_status : (b : Bool) (m : Block) (s u : State) (n : Block) (q : ℕ) (r : List ℕ) → InvariantHolds i t m s → StateFits i u → (GoesOn i t s u m n q r → Change i t s u m n × Moves i t s u m n) → ReturnsBy b i t s u m n q r → Rest m s u
+  by_status : (b : Bool) (m : MonitorBlock) (s u : State) (n : MonitorBlock) (q : ℕ) (r : List ℕ) → InvariantHolds i t m s → StateFits i u → (GoesOn i t s u m n q r → Change i t s u m n × Moves i t s u m n) → ReturnsBy b i t s u m n q r → Rest m s u
   by_status true m s u n q r h fits f g = let z = f g in InThread n (resumed_holds m s u n q r h fits g z.0) z.1
   by_status false m s u n q r h fits f g = Over (Stop Usage g.0) g.1.ended
 
-  rest_by : (m : Block) (s u : State) (o : Outcome) (memory : List ℕ) → InvariantHolds i t m s → StateFits i u → Turns s u m o → Shows i t o s m memory u → Rest m s u
+  rest_by : (m : MonitorBlock) (s u : State) (o : Outcome) (memory : List ℕ) → InvariantHolds i t m s → StateFits i u → Turns s u m o → Shows i t o s m memory u → Rest m s u
   rest_by m s u (Halts k) memory h fits f x = Over (Halt k) x.ended
   rest_by m s u StopsAtBus memory h fits f x = Over (Stop Bus x.0) x.1.ended
   rest_by m s u StopsUnaligned memory h fits f x = Over (Stop Unaligned x.0) x.1.ended
@@ -104,7 +104,7 @@ module _ (laws : RunLaws) (i : Image) (t : Tables) (p : Placed i t) (stub : ℕ)
   run_fits zero s h = h
   run_fits (suc k) s h = run_fits k (step i s) (laws.shape by_mpu i s p.rules h)
 
-  handled : (m : Block) (s from : State) (h : InvariantHolds i t m s) → step i s ≡ from → (most : ℕ) → ((c : ℕ) → c ≤ most → c ≤ 16000) → (o : Outcome) → (l : Leads i t s most from (Shows i t o s m from.ram)) →
+  handled : (m : MonitorBlock) (s from : State) (h : InvariantHolds i t m s) → step i s ≡ from → (most : ℕ) → ((c : ℕ) → c ≤ most → c ≤ 16000) → (o : Outcome) → (l : Leads i t s most from (Shows i t o s m from.ram)) →
       Turns s (run (step i) l.count from) m o → (Shows i t o s m from.ram (run (step i) (suc l.count) s) → Work m s (suc l.count)) → Segment m s
   unfolding run
   handled m s from h to most limit o l turns work =
@@ -126,16 +126,16 @@ module _ (laws : RunLaws) (i : Image) (t : Tables) (p : Placed i t) (stub : ℕ)
 
   -- ---- one step
 
-  pub user : (m : Block) (s : State) → InvariantHolds i t m s → is_unprivileged s.protection ≡ true
+  pub user : (m : MonitorBlock) (s : State) → InvariantHolds i t m s → is_unprivileged s.protection ≡ true
   user m s h = ap₂ (λ (a b : Bool). not a && b) h.inv.thread h.inv.unprivileged
 
-  one : (m : Block) (s : State) → InvariantHolds i t m (step i s) → Segment m s
+  one : (m : MonitorBlock) (s : State) → InvariantHolds i t m (step i s) → Segment m s
   unfolding run
   one m s k = record { count = 1; some = omega arith; few = omega arith; works = λ k some lt. absurd (omega (arith, some, lt)); work = Alone refl k; rest = InThread m k (Steps refl) }
 
   -- ---- all cases
 
-  live_segment : (m : Block) (s : State) (h : InvariantHolds i t m s) → s.ending ≡ None → LeadsOn i t m s → Segment m s
+  live_segment : (m : MonitorBlock) (s : State) (h : InvariantHolds i t m s) → s.ending ≡ None → LeadsOn i t m s → Segment m s
   live_segment m s h live (Ends e q) =
       let f = subst (λ (x : Turn). StateFits i x.to) q (laws.shape by_mpu i s p.rules h.fits) in
       one m s (subst (λ (x : Turn). InvariantHolds i t m x.to) (sym q) (record { inv = h.inv; fits = f }))
@@ -159,9 +159,9 @@ module _ (laws : RunLaws) (i : Image) (t : Tables) (p : Placed i t) (stub : ℕ)
   pub step_ended : (u : State) (e : End) → u.ending ≡ Some e → step i u ≡ u
   step_ended u e q = ap (λ (x : Turn). x.to) (turn_ended by_mpu i u e q)
 
-  by_ending : (m : Block) (s : State) (h : InvariantHolds i t m s) → (o : Option End) → s.ending ≡ o → Segment m s
+  by_ending : (m : MonitorBlock) (s : State) (h : InvariantHolds i t m s) → (o : Option End) → s.ending ≡ o → Segment m s
   by_ending m s h (Some e) q = one m s (subst (λ (x : State). InvariantHolds i t m x) (sym (step_ended s e q)) h)
   by_ending m s h None q = live_segment m s h q (laws.lead i t m s p h q)
 
-  pub segment : (m : Block) (s : State) (h : InvariantHolds i t m s) → Segment m s
+  pub segment : (m : MonitorBlock) (s : State) (h : InvariantHolds i t m s) → Segment m s
   segment m s h = by_ending m s h s.ending refl

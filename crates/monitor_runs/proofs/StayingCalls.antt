@@ -12,7 +12,7 @@ use Rattle.monitor_model.specs.declared.tables.TargetRecord.{TargetRecord}
 use Rattle.monitor_model.specs.declared.tables.Tables.{Tables}
 use Rattle.monitor_model.specs.Records.{eighth, site_at, targets_of, last_with_entry}
 use Rattle.monitor_model.specs.Placed.{Placed}
-use Rattle.monitor_model.specs.Block.{Loan, Saved, Block, unlent}
+use Rattle.monitor_model.specs.Block.{Loan, Saved, MonitorBlock, unlent}
 use Rattle.monitor_model.specs.BlockWords.{depth, block_word, saved_offset, HasSaved}
 use Rattle.monitor_model.specs.Invariant.{AreSaved, InvariantHolds}
 use Rattle.monitor_model.specs.Confined.{IsSvc}
@@ -25,11 +25,11 @@ use Rattle.monitor_runs.proofs.Tests.{either_way}
 use Rattle.monitor_runs.specs.Acts.{InResult}
 use Rattle.monitor_runs.proofs.Writes.{Kept, moved_apart, entered_apart, by_closed, opened, low, frame_from_base}
 
-module _ (i : Image) (t : Tables) (p : Placed i t) (wide : 32 ≤ eighth t) (stub : ℕ) (s : State) (m : Block) (h : InvariantHolds i t m s) (memory : List ℕ) (psp : ℕ) (a : ℕ) (above : i.ram_base ≤ a) (n : Block) (q : ℕ) (after : List ℕ) where
+module _ (i : Image) (t : Tables) (p : Placed i t) (wide : 32 ≤ eighth t) (stub : ℕ) (s : State) (m : MonitorBlock) (h : InvariantHolds i t m s) (memory : List ℕ) (psp : ℕ) (a : ℕ) (above : i.ram_base ≤ a) (n : MonitorBlock) (q : ℕ) (after : List ℕ) where
   abbrev Goal : Type 0
   Goal = Kept i t p s m h memory psp a above after
 
-  same : (b : Block) (o : ℕ) (r : List ℕ) → Kept i t p s m h memory psp a above r → Resumes b o r ≡ Resumes n q after → Goal
+  same : (b : MonitorBlock) (o : ℕ) (r : List ℕ) → Kept i t p s m h memory psp a above r → Resumes b o r ≡ Resumes n q after → Goal
   same b o r f e = subst (λ (x : List ℕ). Kept i t p s m h memory psp a above x) (same_parts b n o q r after e).2 f
 
   halts : (k : ℕ) → Halts k ≡ Resumes n q after → Goal

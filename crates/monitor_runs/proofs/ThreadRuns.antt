@@ -8,7 +8,7 @@ use Rattle.machine_model.specs.Step.{step}
 use Rattle.monitor_model.specs.declared.tables.Tables.{Tables}
 use Rattle.monitor_model.specs.Placed.{Placed}
 use Rattle.monitor_model.specs.Records.{stack_end}
-use Rattle.monitor_model.specs.Block.{Block, first_block}
+use Rattle.monitor_model.specs.Block.{MonitorBlock, first_block}
 use Rattle.monitor_model.specs.BlockWords.{IsBlock}
 use Rattle.monitor_model.specs.Invariant.{IsOrderly, InvariantHolds}
 use Rattle.monitor_model.specs.MonitorLaw.{MonitorLaw}
@@ -25,16 +25,16 @@ module _ (laws : RunLaws) (i : Image) (t : Tables) (p : Placed i t) (stub : ℕ)
   abbrev at : ℕ → State
   at n = later i t first n
 
-  moved_by : (s u : State) (m n : Block) → IsBlock i t s.ram m → IsBlock i t u.ram n → Moves i t s u m n → Moves i t s u (block_of i t s.ram) (block_of i t u.ram)
-  moved_by s u m n a b x = subst (λ (y : Block). Moves i t s u y (block_of i t u.ram)) (blocks_are_one i t s.ram m a) (subst (λ (y : Block). Moves i t s u m y) (blocks_are_one i t u.ram n b) x)
+  moved_by : (s u : State) (m n : MonitorBlock) → IsBlock i t s.ram m → IsBlock i t u.ram n → Moves i t s u m n → Moves i t s u (block_of i t s.ram) (block_of i t u.ram)
+  moved_by s u m n a b x = subst (λ (y : MonitorBlock). Moves i t s u y (block_of i t u.ram)) (blocks_are_one i t s.ram m a) (subst (λ (y : MonitorBlock). Moves i t s u m y) (blocks_are_one i t u.ram n b) x)
 
-  held : (n : ℕ) → HasStarted i t first n → (at n).protection.handler ≡ false → (b : Block) × InvariantHolds i t b (at n)
+  held : (n : ℕ) → HasStarted i t first n → (at n).protection.handler ≡ false → (b : MonitorBlock) × InvariantHolds i t b (at n)
   held n started th = holds_at laws i t p stub law first begins (first_block t) begun n started th
 
   moved_at : (a n : ℕ) → HasStarted i t first a → AreNext i t first a n → Moves i t (at a) (at n) (block_at i t first a) (block_at i t first n)
   moved_at a n started next = by (held a started next.from_thread)
     where
-      by : (b : Block) × InvariantHolds i t b (at a) → Moves i t (at a) (at n) (block_at i t first a) (block_at i t first n)
+      by : (b : MonitorBlock) × InvariantHolds i t b (at a) → Moves i t (at a) (at n) (block_at i t first a) (block_at i t first n)
       by h = arrived (segment laws i t p stub law h.0 (at a) h.1)
         where
           arrived : (g : Piece laws i t p stub law first h.0 (at a)) → Moves i t (at a) (at n) (block_at i t first a) (block_at i t first n)

@@ -39,7 +39,7 @@ use Rattle.base_laws.specs.Lists.{Each}
 use Rattle.base_laws.proofs.Lists.{each_to}
 use Rattle.monitor_model.specs.declared.tables.Tables.{Tables}
 use Rattle.monitor_model.specs.Placed.{Placed}
-use Rattle.monitor_model.specs.Block.{Block}
+use Rattle.monitor_model.specs.Block.{MonitorBlock}
 use Rattle.monitor_model.specs.Invariant.{InvariantHolds}
 use Rattle.monitor_model.specs.Reach.{AllBytes, LoadKind, OfSlot, OfStack}
 use Rattle.monitor_confined.specs.Reaches.{IsRead, Reaches, ThreadsReach}
@@ -70,7 +70,7 @@ bad_first ToSystem m a vs r one more e u = more e u
 bad_first Refused m a vs r one more e u = cc
 bad_first (Bad x) m a vs r one more e u = let z : x ≡ r = cc in one x refl (z ∙ u)
 
-module _ (i : Image) (t : Tables) (p : Placed i t) (m : Block) (s : State) (h : InvariantHolds i t m s) (reach : Reaches i t s) (closed : i.closed ≡ true) (live : s.ending ≡ None) (other : List ℕ) (alike : LooksAlike i t s other) where
+module _ (i : Image) (t : Tables) (p : Placed i t) (m : MonitorBlock) (s : State) (h : InvariantHolds i t m s) (reach : Reaches i t s) (closed : i.closed ≡ true) (live : s.ending ≡ None) (other : List ℕ) (alike : LooksAlike i t s other) where
   user : is_unprivileged s.protection ≡ true
   user = ap₂ (λ (a b : Bool). not a && b) h.inv.thread h.inv.unprivileged
 
@@ -216,7 +216,7 @@ module _ (i : Image) (t : Tables) (p : Placed i t) (m : Block) (s : State) (h : 
     stopped = λ ended a b count x f d. act_agrees (act x (s.core.pc + count) s.core) (ap (λ (u : Turn). u.to.ending) (sym (turn_is a b count x f d)) ∙ ended);
   }
 
-pub step_ignores : StepsReadWhatTheyList → ThreadsReach → ThreadStepsAreConfined → (i : Image) (t : Tables) (p : Placed i t) (m : Block) (s : State) → InvariantHolds i t m s → i.closed ≡ true → s.ending ≡ None →
+pub step_ignores : StepsReadWhatTheyList → ThreadsReach → ThreadStepsAreConfined → (i : Image) (t : Tables) (p : Placed i t) (m : MonitorBlock) (s : State) → InvariantHolds i t m s → i.closed ≡ true → s.ending ≡ None →
     (other : List ℕ) → LooksAlike i t s other → IsSameTurn i other (turn by_mpu i s) (turn by_mpu i (record s { ram = other }))
 step_ignores law reach confined i t p m s h closed live other alike =
     law by_mpu i s other p.rules (agrees i t p m s h (reach i t m s p h) closed live other alike ((confined i t m s p h).loads closed))

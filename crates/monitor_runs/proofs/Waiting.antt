@@ -11,7 +11,7 @@ use Rattle.machine_model.specs.Exceptions.{frame_at, frame_of, unstacked, with_p
 use Rattle.machine_model.proofs.StackWords.{get_or-words_at}
 use Rattle.monitor_model.specs.declared.tables.Tables.{Tables}
 use Rattle.monitor_model.specs.Placed.{Placed}
-use Rattle.monitor_model.specs.Block.{Block}
+use Rattle.monitor_model.specs.Block.{MonitorBlock}
 use Rattle.monitor_model.specs.Invariant.{InvariantHolds}
 use Rattle.monitor_model.specs.Outcomes.{frame_in, stacked, with_stacked, moved_on}
 use Rattle.monitor_confined.proofs.EntryWords.{FrameLaws, frame, frame_offset, entered_ram, entered_length, frame_word}
@@ -24,7 +24,7 @@ IsOff f a w = (a + w ≤ f) ⊎ (f + 32 ≤ a)
 pub even_back : (n : ℕ) → n % 2 ≡ 0 → (n + 2) / 2 * 2 ≡ n + 2
 even_back n e = omega (arith, e)
 
-module _ (laws : FrameLaws) (i : Image) (t : Tables) (p : Placed i t) (s u : State) (m : Block) (h : InvariantHolds i t m s) (opened : is_frame_open by_mpu i s ≡ true) (n ret : ℕ) (z : FaultStatus) (small : ret < 2 ^ 32) where
+module _ (laws : FrameLaws) (i : Image) (t : Tables) (p : Placed i t) (s u : State) (m : MonitorBlock) (h : InvariantHolds i t m s) (opened : is_frame_open by_mpu i s ≡ true) (n ret : ℕ) (z : FaultStatus) (small : ret < 2 ^ 32) where
   abbrev psp : ℕ
   psp = frame_at s.core.sp
 

@@ -24,7 +24,7 @@ use Rattle.monitor_model.specs.Records.{compartment_at, nobody, eighth}
 use Rattle.monitor_model.specs.Layout.{tables_size}
 use Rattle.monitor_model.specs.Regions.{background, tables_region, stack_region}
 use Rattle.monitor_model.specs.Placed.{Placed, IsCompartment, InFlashOf}
-use Rattle.monitor_model.specs.Block.{Block}
+use Rattle.monitor_model.specs.Block.{MonitorBlock}
 use Rattle.monitor_model.specs.BlockWords.{current, top}
 use Rattle.monitor_model.specs.Reach.{running}
 use Rattle.monitor_model.specs.Invariant.{InvariantHolds}
@@ -136,7 +136,7 @@ module _ (permit : KeptListsPermit) (held : RegionsHoldTheirBlocks) (i : Image) 
       let v = p.rules.ram_most in
       omega (arith, x, y, b, c, u, v, is_high)
 
-  module _ (m : Block) (s : State) (h : InvariantHolds i t m s) where
+  module _ (m : MonitorBlock) (s : State) (h : InvariantHolds i t m s) where
     abbrev here : CompRecord
     here = compartment_at t (current i t s.ram)
 

@@ -12,7 +12,7 @@ use Rattle.machine_model.specs.State.{State}
 use Rattle.monitor_model.specs.declared.tables.Tables.{Tables}
 use Rattle.monitor_model.specs.Records.{compartment_at, stack_end}
 use Rattle.monitor_model.specs.Placed.{Placed}
-use Rattle.monitor_model.specs.Block.{Loan, Block}
+use Rattle.monitor_model.specs.Block.{Loan, MonitorBlock}
 use Rattle.monitor_model.specs.BlockWords.{loan_address, loan_end, loan_number, HasLoans}
 use Rattle.monitor_model.specs.Invariant.{IsLoan, InvariantHolds}
 use Rattle.base_laws.specs.Lists.{Each}
@@ -25,10 +25,10 @@ use Rattle.monitor_runs.proofs.Tests.{either_way}
 use Rattle.monitor_runs.specs.Acts.{OnStack, MayChange, BelowTop, InLoan}
 
 -- an address that is not in the open stack
-abbrev pub IsClosed : Tables → Block → (address : ℕ) → Type 0
+abbrev pub IsClosed : Tables → MonitorBlock → (address : ℕ) → Type 0
 IsClosed t m a = (a < t.stack.base) ⊎ (m.top ≤ a)
 
-pub open_or_closed : (t : Tables) (m : Block) (a : ℕ) → ((t.stack.base ≤ a) × (a < m.top)) ⊎ IsClosed t m a
+pub open_or_closed : (t : Tables) (m : MonitorBlock) (a : ℕ) → ((t.stack.base ≤ a) × (a < m.top)) ⊎ IsClosed t m a
 open_or_closed t m a = ⊎_elim (λ lt. inr (inl lt)) (λ ge. ⊎_elim (λ lt. inl (ge, lt)) (λ le. inr (inr le)) (cases_lt a m.top)) (cases_lt a t.stack.base)
 
 -- an eighth of the stack is a frame at least, so the callee's frame does not begin below the stack
@@ -42,7 +42,7 @@ frame_from_base base size e p le lt = least ((p - base) / e) (let z = lt in omeg
         by zero h = absurd (omega (arith, h))
         by (suc k) h = let x : e ≤ suc k * e = omega arith in omega (arith, x, le)
 
-module _ (i : Image) (t : Tables) (low : i.ram_base ≤ t.stack.base) (m : Block) (psp : ℕ) (inside : FrameIsOpen i t m psp) (memory : List ℕ) (a : ℕ) (above : i.ram_base ≤ a) where
+module _ (i : Image) (t : Tables) (low : i.ram_base ≤ t.stack.base) (m : MonitorBlock) (psp : ℕ) (inside : FrameIsOpen i t m psp) (memory : List ℕ) (a : ℕ) (above : i.ram_base ≤ a) where
   -- the bytes of the memory and of another are the same there
   abbrev Same : List ℕ → List ℕ → Type 0
   Same new old = read 1 (a - i.ram_base) new ≡ read 1 (a - i.ram_base) old
@@ -103,7 +103,7 @@ lent_by i t ram mask a w (l ∷ ls) h e x = pick (covers mask a w l) refl (lent_
 -- ---- outcomes
 
 -- from a thread's state of the invariant, over RAM behind the entry
-module _ (i : Image) (t : Tables) (p : Placed i t) (s : State) (m : Block) (h : InvariantHolds i t m s) (memory : List ℕ) (psp : ℕ) (a : ℕ) (above : i.ram_base ≤ a) where
+module _ (i : Image) (t : Tables) (p : Placed i t) (s : State) (m : MonitorBlock) (h : InvariantHolds i t m s) (memory : List ℕ) (psp : ℕ) (a : ℕ) (above : i.ram_base ≤ a) where
   pub low : i.ram_base ≤ t.stack.base
   low = let x = p.stack.place.0 in let e = p.stack_base in omega (arith, x, e)
 
@@ -161,7 +161,7 @@ module _ (i : Image) (t : Tables) (p : Placed i t) (s : State) (m : Block) (h : 
         ⊎_elim (λ lt. inr (in_loan w d x ge lt)) (λ le. inl (moved c ∙ read_above 1 (a - i.ram_base) w (d - i.ram_base) v memory (omega (arith, le, b, n, above))))
         (cases_lt a (d + w))) (cases_lt a d)) (open_or_closed t m a)
 
-    module _ (n : Block) (q : ℕ) (after : List ℕ) where
+    module _ (n : MonitorBlock) (q : ℕ) (after : List ℕ) where
       abbrev Goal : Type 0
       Goal = Kept after
 
@@ -207,7 +207,7 @@ module _ (i : Image) (t : Tables) (p : Placed i t) (s : State) (m : Block) (h : 
       let x2 : psp + 32 ≤ m.top = let z = c.0 in search (nat_tests, arith) in
       record { from_base = x1; below_top = x2 }
 
-  pub fault_writes : (cfsr half : ℕ) (n : Block) (q : ℕ) (after : List ℕ) → fault_outcome i t m psp memory cfsr half ≡ Resumes n q after → FrameIsOpen i t m psp × Kept after
+  pub fault_writes : (cfsr half : ℕ) (n : MonitorBlock) (q : ℕ) (after : List ℕ) → fault_outcome i t m psp memory cfsr half ≡ Resumes n q after → FrameIsOpen i t m psp × Kept after
   unfolding fault_outcome
   fault_writes cfsr half n q after e =
       either_way (FrameIsOpen i t m psp × Kept after) (is_open i t m psp memory) _ _ (Resumes n q after)

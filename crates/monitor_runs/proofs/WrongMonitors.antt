@@ -11,7 +11,7 @@ use Rattle.machine_model.specs.Exceptions.{frame_at}
 use Rattle.machine_model.specs.Step.{step}
 use Rattle.monitor_model.specs.declared.tables.Tables.{Tables}
 use Rattle.monitor_model.specs.Records.{compartment_at, eighth, stack_end}
-use Rattle.monitor_model.specs.Block.{Block, Loan, Saved}
+use Rattle.monitor_model.specs.Block.{MonitorBlock, Loan, Saved}
 use Rattle.monitor_model.specs.BlockWords.{loan_count, loan_address, loan_end, depth, saved_current, saved_top}
 use Rattle.monitor_model.specs.Reach.{running, IsInLoan}
 use Rattle.monitor_model.specs.Confined.{later}
@@ -28,11 +28,11 @@ not_for_anybody i t first w keeps = w.not_its_own (keeps.own_steps w.two.before 
 -- ---- of two steps of a thread that follow each other
 
 module _ (i : Image) (t : Tables) (s u : State) where
-  same_depth : (m b : Block) → b.saved ≡ m.saved → length b.saved ≡ suc (length m.saved) → ⊥
+  same_depth : (m b : MonitorBlock) → b.saved ≡ m.saved → length b.saved ≡ suc (length m.saved) → ⊥
   same_depth m b e lt = let n = ap (λ (es : List Saved). length es) e in omega (arith, n, lt)
 
   -- a call lowers TOP
-  lowers : (m b : Block) → Moves i t s u m b → length b.saved ≡ suc (length m.saved) → b.top < m.top
+  lowers : (m b : MonitorBlock) → Moves i t s u m b → length b.saved ≡ suc (length m.saved) → b.top < m.top
   lowers m _ (Steps e) deep = absurd (omega (arith, deep))
   lowers m _ (Stores w wide l pc) deep = absurd (omega (arith, deep))
   lowers m _ (Loads w wide c l pc) deep = absurd (omega (arith, deep))
@@ -49,7 +49,7 @@ module _ (i : Image) (t : Tables) (s u : State) where
   IsThere top [] = ⊥
   IsThere top (l ∷ ls) = (frame_at s.core.sp + 32 ≤ l.address) × (l.end ≤ top)
 
-  lends : (m b : Block) → Moves i t s u m b → length b.loans ≡ suc (length m.loans) → IsThere m.top b.loans
+  lends : (m b : MonitorBlock) → Moves i t s u m b → length b.loans ≡ suc (length m.loans) → IsThere m.top b.loans
   lends m _ (Steps e) more = absurd (omega (arith, more))
   lends m _ (Stores w wide l pc) more = absurd (omega (arith, more))
   lends m _ (Loads w wide c l pc) more = absurd (omega (arith, more))
@@ -59,7 +59,7 @@ module _ (i : Image) (t : Tables) (s u : State) where
   lends m _ (Unlends l ls is marks three pc) more = absurd (let z = ap (λ (x : List Loan). length x) is in omega (arith, more, z))
 
   -- where as many calls wait, they are the same
-  same_calls : (m b : Block) → Moves i t s u m b → length b.saved ≡ length m.saved → b.saved ≡ m.saved
+  same_calls : (m b : MonitorBlock) → Moves i t s u m b → length b.saved ≡ length m.saved → b.saved ≡ m.saved
   same_calls m _ (Steps e) deep = refl
   same_calls m _ (Stores w wide l pc) deep = refl
   same_calls m _ (Loads w wide c l pc) deep = refl
@@ -136,7 +136,7 @@ not_beyond_the_stack i t first w who =
     let is : s.count ≡ w.count =
     ⊎_elim (λ lt. absurd (false≢true (sym (w.privileged s.count lt) ∙ s.over)))
     (λ le. ⊎_elim (λ lt. absurd (false≢true (sym (s.privileged w.count lt) ∙ w.over))) (λ ge. omega (arith, le, ge)) (cases_lt w.count s.count)) (cases_lt s.count w.count) in
-    let top_is : (block_at i t first s.count).top ≡ stack_end t = ap (λ (b : Block). b.top) who.begins in
+    let top_is : (block_at i t first s.count).top ≡ stack_end t = ap (λ (b : MonitorBlock). b.top) who.begins in
     let at : (block_at i t first w.count).top ≡ stack_end t = subst (λ (n : ℕ). (block_at i t first n).top ≡ stack_end t) is top_is in
     let far = w.beyond in
     omega (arith, at, far)
@@ -169,12 +169,12 @@ module _ (i : Image) (t : Tables) (first : State) (w : SkipsRefusedAccess i t fi
   lent : (mask : ℕ) → ((k : ℕ) → IsInLoan i t s mask k (low_register s.core 1) → ⊥) → (width : ℕ) → IsAccessWidth width → IsLent mask (low_register s.core 1) width (block_at i t first w.two.before).loans → ⊥
   lent mask none width wide l = let x = lent_live i t s mask (low_register s.core 1) width (loan_count i t s.ram) (some_width width wide) (omega arith) l in none x.0 x.1
 
-  skipped : (m b : Block) → block_at i t first w.two.before ≡ m → Moves i t s u m b → ⊥
+  skipped : (m b : MonitorBlock) → block_at i t first w.two.before ≡ m → Moves i t s u m b → ⊥
   skipped m _ is (Steps e) = own_step e
   skipped m _ is (Stores width wide l pc) =
-      lent (running i t s).mask w.not_written width wide (subst (λ (c : Block). IsLent (compartment_at t c.current).mask (low_register s.core 1) width c.loans) (sym is) l)
+      lent (running i t s).mask w.not_written width wide (subst (λ (c : MonitorBlock). IsLent (compartment_at t c.current).mask (low_register s.core 1) width c.loans) (sym is) l)
   skipped m _ is (Loads width wide closed l pc) =
-      lent (running i t s).reads w.not_read width wide (subst (λ (c : Block). IsLent (compartment_at t c.current).reads (low_register s.core 1) width c.loans) (sym is) l)
+      lent (running i t s).reads w.not_read width wide (subst (λ (c : MonitorBlock). IsLent (compartment_at t c.current).reads (low_register s.core 1) width c.loans) (sym is) l)
   skipped m _ is (Enters c crosses o some sp waits) = w.no_call 0 crosses.is_svc
   skipped m _ is (Leaves e es entry one goes) = w.no_call 1 one
   skipped m _ is (Lends l two o few number size from to pc) = w.no_call 2 two

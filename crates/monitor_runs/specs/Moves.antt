@@ -11,7 +11,7 @@ use Rattle.machine_model.specs.Step.{step}
 use Rattle.machine_model.specs.Confinement.{AnyOf}
 use Rattle.monitor_model.specs.declared.tables.Tables.{Tables}
 use Rattle.monitor_model.specs.Records.{compartment_at, lend_size, rounded}
-use Rattle.monitor_model.specs.Block.{Block, Loan, Saved, entered, left, lent, unlent}
+use Rattle.monitor_model.specs.Block.{MonitorBlock, Loan, Saved, entered, left, lent, unlent}
 use Rattle.monitor_model.specs.Confined.{Crosses, IsSvc}
 use Rattle.monitor_model.specs.Handlers.{FrameIsOpen}
 
@@ -29,7 +29,7 @@ pub record Waits (i : Image) (ram : List ℕ) (frame : ℕ) (s : State) : Type 0
   pub pc : read 4 (frame - i.ram_base + 24) ram ≡ s.core.pc + 4
   pub sp : with_pad (nat_eq (read 4 (frame - i.ram_base + 28) ram / 2 ^ 9 % 2) 1) (word (frame + 32)) ≡ s.core.sp
 
-module _ (i : Image) (t : Tables) (s u : State) (m : Block) where
+module _ (i : Image) (t : Tables) (s u : State) (m : MonitorBlock) where
   -- the frame that an exception pushes, and where a callee's stack ends: there, rounded down to whole eighths
   abbrev pub frame : ℕ
   frame = frame_at s.core.sp
@@ -37,7 +37,7 @@ module _ (i : Image) (t : Tables) (s u : State) (m : Block) where
   abbrev pub callee_end : ℕ
   callee_end = rounded t frame
 
-  pub data Moves : Block → Type 0 where
+  pub data Moves : MonitorBlock → Type 0 where
     -- the compartment's own instruction
     Steps : u ≡ step i s → Moves m
     -- an access of r0 at r1 that the unit refused and that a loan allows. It goes on behind the instruction

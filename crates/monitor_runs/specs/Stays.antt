@@ -13,7 +13,7 @@ use Rattle.machine_model.specs.Step.{turn, event}
 use Rattle.base_laws.specs.Lists.{Each}
 use Rattle.monitor_model.specs.declared.tables.Tables.{Tables}
 use Rattle.monitor_model.specs.Records.{stack_end}
-use Rattle.monitor_model.specs.Block.{Block}
+use Rattle.monitor_model.specs.Block.{MonitorBlock}
 use Rattle.monitor_model.specs.BlockWords.{current, top, depth, loan_count, loan_address, loan_end}
 use Rattle.monitor_model.specs.Reach.{AllBytes, running, IsInLoan}
 use Rattle.monitor_model.specs.Confined.{IsSvc, HasStarted, AreNext, later}
@@ -141,5 +141,5 @@ module _ (i : Image) (t : Tables) (first : State) where
     pub reads : ActsReadTheirOwn
     pub monitor_reads : MonitorReadsForActs
     pub bounded : (n : ℕ) → Acts i t first n → IsBounded i t (at n)
-    pub invariant : (n : ℕ) → Acts i t first n → (m : Block) × InvariantHolds i t m (at n)
+    pub invariant : (n : ℕ) → Acts i t first n → (m : MonitorBlock) × InvariantHolds i t m (at n)
     pub accesses : AccessesAreOwn

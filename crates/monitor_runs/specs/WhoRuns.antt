@@ -9,7 +9,7 @@ use Rattle.machine_model.specs.Step.{event}
 use Rattle.machine_model.specs.Reset.{IsReset}
 use Rattle.monitor_model.specs.declared.tables.Tables.{Tables}
 use Rattle.monitor_model.specs.Records.{stack_end}
-use Rattle.monitor_model.specs.Block.{Block, first_block}
+use Rattle.monitor_model.specs.Block.{MonitorBlock, first_block}
 use Rattle.monitor_model.specs.BlockWords.{depth, IsBlock}
 use Rattle.monitor_model.specs.Invariant.{IsOrderly}
 use Rattle.monitor_model.specs.Confined.{StartUp, HasStarted, AreNext, later}
@@ -20,7 +20,7 @@ use Rattle.monitor_runs.specs.Moves.{Moves, GoesOnAt}
 
 -- the lists of a block are those that its words say: there is one block
 abbrev pub BlocksAreOne : Type 0
-BlocksAreOne = (i : Image) (t : Tables) (ram : List ℕ) (m : Block) → IsBlock i t ram m → m ≡ block_of i t ram
+BlocksAreOne = (i : Image) (t : Tables) (ram : List ℕ) (m : MonitorBlock) → IsBlock i t ram m → m ≡ block_of i t ram
 
 -- a thread goes on, or the machine has ended
 abbrev pub IsBack : State → Type 0
@@ -28,7 +28,7 @@ IsBack u = (u.protection.handler ≡ false) ⊎ ((e : End) × (u.ending ≡ Some
 
 module _ (i : Image) (t : Tables) (first : State) where
   -- at a step of the run
-  abbrev pub block_at : ℕ → Block
+  abbrev pub block_at : ℕ → MonitorBlock
   block_at n = block_of i t (later i t first n).ram
 
   pub record WhoRuns : Type 0 where

@@ -11,7 +11,7 @@ use Rattle.machine_model.specs.Shape.{StateFits}
 use Rattle.machine_model.specs.Step.{turn, step, event}
 use Rattle.monitor_model.specs.declared.tables.Tables.{Tables}
 use Rattle.monitor_model.specs.Placed.{Placed}
-use Rattle.monitor_model.specs.Block.{Block}
+use Rattle.monitor_model.specs.Block.{MonitorBlock}
 use Rattle.monitor_model.specs.Handlers.{Leads}
 use Rattle.monitor_model.specs.Invariant.{IsOrderly, InvariantHolds}
 use Rattle.monitor_model.specs.MonitorLaw.{GoesOn, ReturnsBy, Shows}
@@ -19,7 +19,7 @@ use Rattle.monitor_model.specs.Outcomes.{Resumes, stacked, status_place}
 use Rattle.monitor_sound.proofs.ThreadLaws.{ThreadLaws, run_fits}
 
 -- so many steps without an event lead from the thread to where it goes on
-pub record Behind (i : Image) (t : Tables) (s : State) (m : Block) (most : ℕ) (b : Block) (psp : ℕ) (memory : List ℕ) : Type 0 where
+pub record Behind (i : Image) (t : Tables) (s : State) (m : MonitorBlock) (most : ℕ) (b : MonitorBlock) (psp : ℕ) (memory : List ℕ) : Type 0 where
   pub count : ℕ
   pub least : 1 ≤ count
   pub within : count ≤ suc most
@@ -50,13 +50,13 @@ even_back n h = omega arith
 word_small : (n : ℕ) → n < 2 ^ 32 → word n ≡ n
 word_small n h = omega arith
 
-module _ (laws : ThreadLaws) (i : Image) (t : Tables) (p : Placed i t) (s : State) (m : Block) (h : InvariantHolds i t m s) where
+module _ (laws : ThreadLaws) (i : Image) (t : Tables) (p : Placed i t) (s : State) (m : MonitorBlock) (h : InvariantHolds i t m s) where
   silent : (from : State) → step i s ≡ from → event i s ≡ None → (c : ℕ) → ((k : ℕ) → k < c → event i (run (step i) k from) ≡ None) → (k : ℕ) → k < suc c → event i (run (step i) k s) ≡ None
   unfolding run
   silent from to q c f zero lt = q
   silent from to q c f (suc k) lt = subst (λ (x : State). event i (run (step i) k x) ≡ None) (sym to) (f k (omega (arith, lt)))
 
-  pub behind : (n ret most : ℕ) (u : FaultStatus) (b : Block) (psp : ℕ) (memory old : List ℕ) → turn by_mpu i s ≡ entered true i n ret u s →
+  pub behind : (n ret most : ℕ) (u : FaultStatus) (b : MonitorBlock) (psp : ℕ) (memory old : List ℕ) → turn by_mpu i s ≡ entered true i n ret u s →
       Leads i t s most (entered true i n ret u s).to (Shows i t (Resumes b psp memory) s m old) → is_thread (stacked i psp memory status_place) ≡ true →
       Behind i t s m most b psp memory
   unfolding run
@@ -74,7 +74,7 @@ module _ (laws : ThreadLaws) (i : Image) (t : Tables) (p : Placed i t) (s : Stat
         fits = run_fits laws.shape i p.rules (suc l.count) s h.fits;
       }
 
-  module _ (most : ℕ) (b : Block) (psp : ℕ) (memory : List ℕ) (x : Behind i t s m most b psp memory) where
+  module _ (most : ℕ) (b : MonitorBlock) (psp : ℕ) (memory : List ℕ) (x : Behind i t s m most b psp memory) where
     abbrev pub thread_then : State
     thread_then = run (step i) x.count s
 

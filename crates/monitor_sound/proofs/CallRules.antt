@@ -13,7 +13,7 @@ use Rattle.machine_model.specs.RunningCode.{Context, works}
 use Rattle.monitor_model.specs.declared.tables.Tables.{Tables}
 use Rattle.monitor_model.specs.Records.{lend_size}
 use Rattle.monitor_model.specs.Placed.{Placed}
-use Rattle.monitor_model.specs.Block.{Block, Loan, lent}
+use Rattle.monitor_model.specs.Block.{MonitorBlock, Loan, lent}
 use Rattle.monitor_model.specs.Handlers.{at_svc, Leads, Lends, Unlends}
 use Rattle.monitor_model.specs.Invariant.{Invariant, InvariantHolds, IsOrderly}
 use Rattle.monitor_model.specs.MonitorCode.{MonitorCode}
@@ -43,7 +43,7 @@ module _ (laws : ThreadLaws) (code : MonitorCode) (i : Image) (t : Tables) (p : 
   g = setting_of code i t
 
   -- a thread of the invariant with room for a frame, at an SVC that may be fetched
-  module _ (m : Block) (x : Context) (low : List ℕ) (o lr pc : ℕ) (f : Flags) (ram : List ℕ) (queues : List (List ℕ)) (n : ℕ)
+  module _ (m : MonitorBlock) (x : Context) (low : List ℕ) (o lr pc : ℕ) (f : Flags) (ram : List ℕ) (queues : List (List ℕ)) (n : ℕ)
       (v : Invariant i t m x ram) (r : HasRoom g m o) (fits : StateFits i (works x low (i.ram_base + o) lr pc f ram queues)) (lies : Lies i pc (svc n)) (may : by_mpu x.protection Fetch pc ≡ true) where
     abbrev pub at : State
     at = works x low (i.ram_base + o) lr pc f ram queues
@@ -100,7 +100,7 @@ module _ (laws : ThreadLaws) (code : MonitorCode) (i : Image) (t : Tables) (p : 
         ap (λ (q : List ℕ). read w a q) is ∙ read_off_all w a (psp - i.ram_base) (frame_of at.core (pc + 2)) ram (frame_off i.ram_base (t.stack.base - i.ram_base) o psp a w up (omega (arith, b, rl)) r.low k)
 
     -- behind the handler, by its outcome
-    pub called : (b : Block) (q : ℕ) (after : List ℕ) → svc_outcome i t (code.stub t) m psp memory n ≡ OutcomeResumes b q after → is_thread (stacked i q after status_place) ≡ true →
+    pub called : (b : MonitorBlock) (q : ℕ) (after : List ℕ) → svc_outcome i t (code.stub t) m psp memory n ≡ OutcomeResumes b q after → is_thread (stacked i q after status_place) ≡ true →
         Behind i t at m (svc_steps n) b q after
     called b q after e th =
         let is = is_svc laws i t p m at held room refl n lies in
@@ -109,7 +109,7 @@ module _ (laws : ThreadLaws) (code : MonitorCode) (i : Image) (t : Tables) (p : 
         (subst (λ (y : Outcome). Leads i t at (svc_steps n) (at_svc i at) (Shows i t y at m memory)) e l) th
 
     -- where the block changes and the thread goes on behind the SVC
-    pub goes_on : (b : Block) (bound : ℕ) → suc (svc_steps n) ≤ bound → IsOrderly t b → svc_outcome i t (code.stub t) m psp memory n ≡ OutcomeResumes b psp memory →
+    pub goes_on : (b : MonitorBlock) (bound : ℕ) → suc (svc_steps n) ≤ bound → IsOrderly t b → svc_outcome i t (code.stub t) m psp memory n ≡ OutcomeResumes b psp memory →
         Resumes g (Invariant i t) bound at b (i.ram_base + o) (pc + 2) o ram queues
     goes_on b bound le ordered e =
         let k = tells laws i t p m at held room psp memory words.status in
@@ -124,7 +124,7 @@ module _ (laws : ThreadLaws) (code : MonitorCode) (i : Image) (t : Tables) (p : 
   loan_is : (a n e : ℕ) (l : Loan) → a ≡ l.address → n ≡ l.number → e ≡ l.end → let y : Loan = record { address = a; end = e; number = n } in y ≡ l
   loan_is a n e l x y z = ap (λ (q : ℕ). record { address = q; end = e; number = n }) x ∙ ap (λ (q : ℕ). record { address = l.address; end = q; number = n }) z ∙ ap (λ (q : ℕ). record { address = l.address; end = l.end; number = q }) y
 
-  pub lend : (m : Block) (x : Context) (low : List ℕ) (o lr pc : ℕ) (f : Flags) (ram : List ℕ) (queues : List (List ℕ)) (l : Loan) →
+  pub lend : (m : MonitorBlock) (x : Context) (low : List ℕ) (o lr pc : ℕ) (f : Flags) (ram : List ℕ) (queues : List (List ℕ)) (l : Loan) →
       AtInstr g (Invariant i t) m x low o lr pc f ram queues (svc 2) → get_or low 0 0 ≡ l.address → get_or low 1 0 ≡ l.number →
       length m.loans < 32 → l.number < length t.lends → l.address % 4 ≡ 0 → l.end ≡ l.address + get_or t.lends l.number 0 →
       i.ram_base + o ≤ l.address → l.end ≤ m.top →
@@ -149,11 +149,11 @@ module _ (laws : ThreadLaws) (code : MonitorCode) (i : Image) (t : Tables) (p : 
       let ordered = laws.order i t s s m (lent m l) p z.fits.core.sp_aligned z.invariant.orderly (Lends l (record { from_base = lo; below_top = hi }) few known al size above to) in
       goes_on m x low o lr pc f ram queues 2 z.invariant z.room z.fits z.lies may (lent m l) lend_steps (omega arith) ordered (e ∙ ap (λ (y : Loan). OutcomeResumes (lent m y) q rm) is)
 
-  pub unlend : (m : Block) (l : Loan) (x : Context) (low : List ℕ) (o lr pc : ℕ) (f : Flags) (ram : List ℕ) (queues : List (List ℕ)) →
+  pub unlend : (m : MonitorBlock) (l : Loan) (x : Context) (low : List ℕ) (o lr pc : ℕ) (f : Flags) (ram : List ℕ) (queues : List (List ℕ)) →
       AtInstr g (Invariant i t) (lent m l) x low o lr pc f ram queues (svc 3) → m.mark ≤ length m.loans →
       Resumes g (Invariant i t) lend_steps (works x low (i.ram_base + o) lr pc f ram queues) m (i.ram_base + o) (pc + 2) o ram queues
   unlend m l x low o lr pc f ram queues z marks =
-      let n : Block = lent m l in
+      let n : MonitorBlock = lent m l in
       let may = fetches laws.unit i t p n x ram z.invariant pc z.owned in
       let q : ℕ = frame_at (i.ram_base + o) in
       let rm : List ℕ = memory n x low o lr pc f ram queues 3 z.invariant z.room z.fits z.lies may in

@@ -31,7 +31,7 @@ use Rattle.machine_model.specs.ThreadStep.{ThreadStep, Ends as StepEnds, Goes as
 use Rattle.machine_model.proofs.Exec.{HasForm, encode_form, taken_of, fetches as fetches_halves}
 use Rattle.monitor_model.specs.declared.tables.Tables.{Tables}
 use Rattle.monitor_model.specs.Placed.{Placed}
-use Rattle.monitor_model.specs.Block.{Block}
+use Rattle.monitor_model.specs.Block.{MonitorBlock}
 use Rattle.monitor_model.specs.Invariant.{InvariantHolds, context_of}
 use Rattle.monitor_model.specs.Setting.{has_code}
 use Rattle.monitor_model.specs.AccessLaw.{InStack, StoresTo, LoadsFrom, InReach, WordsInReach, IsInReach}
@@ -147,14 +147,14 @@ never_refused i p kind [] y h = h
 never_refused i p kind (x ∷ xs) y (inl h) = false≢true (sym h.1.refused)
 never_refused i p kind (x ∷ xs) y (inr h) = never_refused i p kind xs y h.1
 
-module _ (i : Image) (t : Tables) (m : Block) (s : State) where
+module _ (i : Image) (t : Tables) (m : MonitorBlock) (s : State) where
   no_entry : (y : Act) (tn : Turn) → DoesAct free i s y tn → IsInReach i t m y → (n ret : ℕ) (u : FaultStatus) → tn ≡ entered true i n ret u s → ⊥
   no_entry y tn (Stopped e q) r n ret u z = let w : [] ≡ (entered true i n ret u s).loads = ap (λ (x : Turn). x.loads) (sym q ∙ z) in cc
   no_entry y tn (Completed a b c) r n ret u z = not_entry y s _ _ (sym a ∙ ap (λ (x : Turn). x.stores) z) (sym b ∙ ap (λ (x : Turn). x.loads) z)
   no_entry y tn (Called next e a b c) r n ret u z = subst (IsInReach i t m) e r
   no_entry y tn (Faulted a f b c d e) r n ret u z = ⊎_elim (λ x. never_refused i s.protection Read (asked_loads s y) a x) (λ x. never_refused i s.protection Write (asked_stores y) a x) f
 
-module _ (laws : ThreadLaws) (i : Image) (t : Tables) (p : Placed i t) (m : Block) (s : State) (h : InvariantHolds i t m s) (live : s.ending ≡ None) where
+module _ (laws : ThreadLaws) (i : Image) (t : Tables) (p : Placed i t) (m : MonitorBlock) (s : State) (h : InvariantHolds i t m s) (live : s.ending ≡ None) where
   -- ---- what is in reach is permitted
 
   stack_reads : (a : ℕ) → InStack i t m a → by_mpu s.protection Read a ≡ true

@@ -21,7 +21,7 @@ use Rattle.monitor_model.specs.declared.tables.TargetRecord.{TargetRecord}
 use Rattle.monitor_model.specs.declared.tables.Tables.{Tables}
 use Rattle.monitor_model.specs.Records.{site_at, targets_of, last_with_entry, rounded, eighth}
 use Rattle.monitor_model.specs.Placed.{Placed, IsEntry}
-use Rattle.monitor_model.specs.Block.{Block, entered}
+use Rattle.monitor_model.specs.Block.{MonitorBlock, entered}
 use Rattle.monitor_model.specs.Invariant.{Invariant, InvariantHolds, IsOrderly}
 use Rattle.monitor_model.specs.MonitorCode.{MonitorCode}
 use Rattle.monitor_model.specs.MonitorLaw.{MonitorLaw, svc_steps}
@@ -100,7 +100,7 @@ module _ (laws : ThreadLaws) (code : MonitorCode) (i : Image) (t : Tables) (p : 
   abbrev g : Setting
   g = setting_of code i t
 
-  module _ (m : Block) (x : Context) (low : List ℕ) (o lr pc : ℕ) (f : Flags) (ram : List ℕ) (queues : List (List ℕ)) (site entry target top : ℕ)
+  module _ (m : MonitorBlock) (x : Context) (low : List ℕ) (o lr pc : ℕ) (f : Flags) (ram : List ℕ) (queues : List (List ℕ)) (site entry target top : ℕ)
       (z : AtInstr g (Invariant i t) m x low o lr pc f ram queues (svc 0)) (half : HoldsHalf i (pc + 2) site) (hit : has_target t site (pc + 2) entry target ≡ true)
       (r12 : get_or x.high 4 0 ≡ entry + 1) (even : entry % 2 ≡ 0) (some : t.stack.base - i.ram_base < top)
       (tops : top ≡ t.stack.base - i.ram_base + (o - 32 - (t.stack.base - i.ram_base)) / eighth t * eighth t) where
@@ -158,7 +158,7 @@ module _ (laws : ThreadLaws) (code : MonitorCode) (i : Image) (t : Tables) (p : 
     abbrev pub after : List ℕ
     after = write_all 4 (nt - 32 - i.ram_base) cf (moved_on i q rm)
 
-    abbrev pub b : Block
+    abbrev pub b : MonitorBlock
     b = entered m target (i.ram_base + top) (i.ram_base + o - 32)
 
     block_is : entered m found.target.compartment nt q ≡ b
@@ -173,7 +173,7 @@ module _ (laws : ThreadLaws) (code : MonitorCode) (i : Image) (t : Tables) (p : 
         ap (λ (a : ℕ). last_with_entry a (targets_of t (site_at t site))) (ws.r12 ∙ r12) ∙ found.found in
         enters_at i t (code.stub t) m q rm lo hi (no_pad laws code i t p law m x low o lr pc f ram queues 0 z.invariant z.room z.fits z.lies may)
         found.target site half.offset here half.is_half found.known (found.returns ∙ sym ws.return_address) listed opens
-        ∙ ap (λ (y : Block). OutcomeResumes y (nt - 32) after) block_is
+        ∙ ap (λ (y : MonitorBlock). OutcomeResumes y (nt - 32) after) block_is
 
     comes : svc_outcome i t (code.stub t) m q rm 0 ≡ OutcomeResumes b (nt - 32) after
     comes = enters i t (code.stub t) m q rm lo hi (no_pad laws code i t p law m x low o lr pc f ram queues 0 z.invariant z.room z.fits z.lies may) ∙ reaches

@@ -16,7 +16,7 @@ use Rattle.machine_model.specs.Step.{step, event}
 use Rattle.machine_model.specs.RunningCode.{Context, works}
 use Rattle.monitor_model.specs.declared.tables.Tables.{Tables}
 use Rattle.monitor_model.specs.Placed.{Placed}
-use Rattle.monitor_model.specs.Block.{Block, Saved, left, entered}
+use Rattle.monitor_model.specs.Block.{MonitorBlock, Saved, left, entered}
 use Rattle.monitor_model.specs.Handlers.{at_svc, Leads, Leaves}
 use Rattle.monitor_model.specs.Invariant.{Invariant, InvariantHolds, IsOrderly}
 use Rattle.monitor_model.specs.MonitorCode.{MonitorCode}
@@ -51,20 +51,20 @@ module _ (laws : ThreadLaws) (code : MonitorCode) (i : Image) (t : Tables) (p : 
   abbrev pub g : Setting
   g = setting_of code i t
 
-  pub stub_runs : (m : Block) (x : Context) (ram : List ℕ) → Invariant i t m x ram → by_mpu x.protection Fetch (code.stub t) ≡ true
+  pub stub_runs : (m : MonitorBlock) (x : Context) (ram : List ℕ) → Invariant i t m x ram → by_mpu x.protection Fetch (code.stub t) ≡ true
   stub_runs m x ram v = let a = stands.from_base in let b = stands.inside in fetches_tables laws.unit i t p m x ram v (code.stub t) a (omega (arith, b))
 
   -- the block that enter made, left again
-  block_back : (m : Block) (c top psp : ℕ) → let n : Block = entered m c top psp in let e : Saved = record { psp = psp; current = m.current; top = m.top; mark = m.mark } in left n e m.saved ≡ m
+  block_back : (m : MonitorBlock) (c top psp : ℕ) → let n : MonitorBlock = entered m c top psp in let e : Saved = record { psp = psp; current = m.current; top = m.top; mark = m.mark } in left n e m.saved ≡ m
   block_back m c top psp =
       let z : length m.loans - length m.loans ≡ 0 = omega arith in
       ap (λ (k : ℕ). record { current = m.current; top = m.top; mark = m.mark; saved = m.saved; loans = drop k m.loans }) z
 
-  module _ (m : Block) (c top o : ℕ) (x : Context) (low : List ℕ) (lr : ℕ) (f : Flags) (ram : List ℕ) (queues : List (List ℕ)) (ret status : ℕ)
+  module _ (m : MonitorBlock) (c top o : ℕ) (x : Context) (low : List ℕ) (lr : ℕ) (f : Flags) (ram : List ℕ) (queues : List (List ℕ)) (ret status : ℕ)
       (v : Invariant i t (entered m c (i.ram_base + top) (i.ram_base + o - 32)) x ram) (r : HasRoom g (entered m c (i.ram_base + top) (i.ram_base + o - 32)) top)
       (fits : StateFits i (works x low (i.ram_base + top) lr (code.stub t) f ram queues)) (above : top + 32 ≤ o)
       (is_ret : read 4 (o - 8) ram ≡ ret) (is_status : read 4 (o - 4) ram ≡ status) (even : ret % 2 ≡ 0) (thread : is_thread status ≡ true) (no_pad_there : nat_eq (status / 2 ^ 9 % 2) 1 ≡ false) where
-    abbrev pub n : Block
+    abbrev pub n : MonitorBlock
     n = entered m c (i.ram_base + top) (i.ram_base + o - 32)
 
     abbrev pub e : Saved
@@ -100,7 +100,7 @@ module _ (laws : ThreadLaws) (code : MonitorCode) (i : Image) (t : Tables) (p : 
     comes : svc_outcome i t (code.stub t) n q rm 1 ≡ OutcomeResumes m e.psp after
     comes =
         leaves i t (code.stub t) n q rm lo hi (no_pad laws code i t p law n x low top lr (code.stub t) f ram queues 1 v r fits stands.lies may) e m.saved refl
-        ∙ ap (λ (y : Block). OutcomeResumes y e.psp after) (block_back m c (i.ram_base + top) (i.ram_base + o - 32))
+        ∙ ap (λ (y : MonitorBlock). OutcomeResumes y e.psp after) (block_back m c (i.ram_base + top) (i.ram_base + o - 32))
 
     -- ---- the waiting frame, with the result
 
@@ -160,7 +160,7 @@ module _ (laws : ThreadLaws) (code : MonitorCode) (i : Image) (t : Tables) (p : 
     ordered =
         let svc = (is_svc laws i t p n s held_x (room laws code i t p law n x low top lr (code.stub t) f ram queues 1 v r fits stands.lies may) refl 1 stands.lies).1 in
         let is = laws.order i t s s n (left n e m.saved) p fits.core.sp_aligned v.orderly (Leaves e m.saved refl svc) in
-        subst (λ (b : Block). IsOrderly t b) (block_back m c (i.ram_base + top) (i.ram_base + o - 32)) is
+        subst (λ (b : MonitorBlock). IsOrderly t b) (block_back m c (i.ram_base + top) (i.ram_base + o - 32)) is
 
     keeps : (w a : ℕ) → KeepsOff g o a w → read w a after ≡ read w a ram
     keeps w a k =
@@ -211,7 +211,7 @@ module _ (laws : ThreadLaws) (code : MonitorCode) (i : Image) (t : Tables) (p : 
       (k : ℕ) × (1 ≤ k) × (k ≤ call_steps)
       × (u : State) × (u.ending ≡ Some (Halt 0)) × Runs by_mpu i k (works x low (i.ram_base + threads.stack_end g) lr (code.stub t) f ram queues) u []
   end_of_main x low lr f ram queues v fits =
-      let m : Block = threads.first_block g in
+      let m : MonitorBlock = threads.first_block g in
       let o : ℕ = threads.stack_end g in
       let base = base_aligned i t p in
       let ra = p.rules.ram_aligned in

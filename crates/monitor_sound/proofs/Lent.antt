@@ -32,7 +32,7 @@ use Rattle.machine_model.specs.RunningCode.{works, IsStore, IsLoad}
 use Rattle.monitor_model.specs.declared.tables.Tables.{Tables}
 use Rattle.monitor_model.specs.Records.{compartment_at}
 use Rattle.monitor_model.specs.Placed.{Placed}
-use Rattle.monitor_model.specs.Block.{Block, Loan}
+use Rattle.monitor_model.specs.Block.{MonitorBlock, Loan}
 use Rattle.monitor_model.specs.BlockWords.{words_end}
 use Rattle.monitor_model.specs.Invariant.{IsLoan, InvariantHolds, context_of}
 use Rattle.monitor_model.specs.Handlers.{at_memfault, IsFault, Leads}
@@ -97,7 +97,7 @@ off_frame_at rb psp sp a w z lo lp (inr h) = inr (omega (arith, z, lo, lp, h))
 abbrev reached : State → (low ram : List ℕ) → State
 reached s low ram = record s { core = record s.core { low = low; pc = s.core.pc + 2 }; ram = ram }
 
-module _ (laws : ThreadLaws) (i : Image) (t : Tables) (p : Placed i t) (m : Block) (s : State) (h : InvariantHolds i t m s) (live : s.ending ≡ None) where
+module _ (laws : ThreadLaws) (i : Image) (t : Tables) (p : Placed i t) (m : MonitorBlock) (s : State) (h : InvariantHolds i t m s) (live : s.ending ≡ None) where
   -- ---- behind the handler, the block being the same
 
   module _ (has : ℕ → Bool) (w : ℕ) (lent : IsLentWhole i t m has w s) where
@@ -274,7 +274,7 @@ module _ (laws : ThreadLaws) (i : Image) (t : Tables) (p : Placed i t) (m : Bloc
           (subst (λ (x : Outcome). Leads i t s memfault_steps (at_memfault i status s) (Shows i t x s m from_ram)) o l)
           (tells laws i t p m s h lent.room (psp has w lent) memory st).0
 
-module _ (laws : ThreadLaws) (i : Image) (t : Tables) (p : Placed i t) (stub : ℕ) (law : MonitorLaw i t stub) (m : Block) (s : State) (h : InvariantHolds i t m s) (live : s.ending ≡ None) where
+module _ (laws : ThreadLaws) (i : Image) (t : Tables) (p : Placed i t) (stub : ℕ) (law : MonitorLaw i t stub) (m : MonitorBlock) (s : State) (h : InvariantHolds i t m s) (live : s.ending ≡ None) where
   abbrev pub working : State
   working = works (context_of s) s.core.low s.core.sp s.core.lr s.core.pc s.core.flags s.ram s.queues
 

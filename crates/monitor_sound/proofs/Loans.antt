@@ -17,7 +17,7 @@ use Rattle.machine_model.specs.Step.{turn, step}
 use Rattle.machine_model.specs.RunningCode.{Context, works, IsStore, IsLoad}
 use Rattle.monitor_model.specs.declared.tables.Tables.{Tables}
 use Rattle.monitor_model.specs.Placed.{Placed}
-use Rattle.monitor_model.specs.Block.{Block, Loan}
+use Rattle.monitor_model.specs.Block.{MonitorBlock, Loan}
 use Rattle.monitor_model.specs.BlockWords.{words_end}
 use Rattle.monitor_model.specs.Invariant.{Invariant, InvariantHolds, context_of}
 use Rattle.monitor_model.specs.MonitorCode.{MonitorCode}
@@ -62,7 +62,7 @@ module _ (laws : ThreadLaws) (code : MonitorCode) (i : Image) (t : Tables) (p : 
   pub none_run : (s : State) (k : ℕ) → k ≡ 0 → (run (step i) k s).core.pc ≡ s.core.pc
   none_run s k e = ap (λ (n : ℕ). (run (step i) n s).core.pc) e ∙ nothing_run s
 
-  unfoldable pub effected : (s : State) (m : Block) (h : InvariantHolds i t m s) (v : State) (x : HasEffect i t m s) → (turn free i s).to ≡ v → v.core.pc ≡ s.core.pc + 2 → v.core.sp ≡ s.core.sp → v.queues ≡ s.queues → v.ending ≡ None →
+  unfoldable pub effected : (s : State) (m : MonitorBlock) (h : InvariantHolds i t m s) (v : State) (x : HasEffect i t m s) → (turn free i s).to ≡ v → v.core.pc ≡ s.core.pc + 2 → v.core.sp ≡ s.core.sp → v.queues ≡ s.queues → v.ending ≡ None →
       (sp pc below : ℕ) → s.core.sp ≡ sp → s.core.pc ≡ pc → i.ram_base + below ≡ sp → Resumes g (Invariant i t) access_steps s m sp (pc + 2) below v.ram s.queues
   effected s m h v x leads next same_sp same_queues on sp pc below is_sp is_pc is_below =
       let u : State = run (step i) x.count s in
@@ -103,7 +103,7 @@ module _ (laws : ThreadLaws) (code : MonitorCode) (i : Image) (t : Tables) (p : 
           subst (λ (n : ℕ). read w n (run (step i) x.count s).ram ≡ read w n v.ram) here
           (al.ram w (i.ram_base + a) (omega arith) stack_at (to_block i.ram_base (t.monitor - i.ram_base) t.monitor a w block k.1))
 
-  module _ (m : Block) (x : Context) (low : List ℕ) (o lr pc : ℕ) (f : Flags) (ram : List ℕ) (queues : List (List ℕ)) (op w a c : ℕ)
+  module _ (m : MonitorBlock) (x : Context) (low : List ℕ) (o lr pc : ℕ) (f : Flags) (ram : List ℕ) (queues : List (List ℕ)) (op w a c : ℕ)
       (z : AtInstr g (Invariant i t) m x low o lr pc f ram queues (TransferImmediate op 0 1 0))
       (r1 : get_or low 1 0 ≡ a) (aligned : a % w ≡ 0) (there : location i a ≡ InRam c) (off : OffFrame g o c w) where
     abbrev pub s : State

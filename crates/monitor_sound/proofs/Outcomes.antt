@@ -17,7 +17,7 @@ use Rattle.machine_model.specs.RunningCode.{IsStore, IsLoad}
 use Rattle.monitor_model.specs.declared.tables.TargetRecord.{TargetRecord}
 use Rattle.monitor_model.specs.declared.tables.Tables.{Tables}
 use Rattle.monitor_model.specs.Records.{compartment_at, site_at, targets_of, last_with_entry}
-use Rattle.monitor_model.specs.Block.{Loan, Saved, Block, entered, left, lent, unlent}
+use Rattle.monitor_model.specs.Block.{Loan, Saved, MonitorBlock, entered, left, lent, unlent}
 use Rattle.monitor_model.specs.Invariant.{IsLoan}
 use Rattle.monitor_model.specs.Outcomes.{Outcome, Halts, Resumes, r12_place, return_place, status_place, stacked, with_stacked, moved_on, is_open}
 use Rattle.monitor_model.specs.SvcOutcome.{word, callee_frame, new_top, enter_to, enter_by, enter_at, new_loan, by_number, svc_outcome}
@@ -130,7 +130,7 @@ covered t has mask a w (l ∷ ls) in_mask width al h (inl f) =
     let z : nat_le (a + w) l.end ≡ true = search (nat_tests, arith) in
     record { loan = l; placed = h.0; mine = f.0; from = from; to = to; is_lent = rw (x, y, z) refl }
 
-module _ (i : Image) (t : Tables) (stub : ℕ) (m : Block) (psp : ℕ) (memory : List ℕ) (lo : t.stack.base ≤ psp) (hi : psp + 32 ≤ m.top) (no_pad : stacked i psp memory status_place / 2 ^ 9 % 2 ≡ 0) where
+module _ (i : Image) (t : Tables) (stub : ℕ) (m : MonitorBlock) (psp : ℕ) (memory : List ℕ) (lo : t.stack.base ≤ psp) (hi : psp + 32 ≤ m.top) (no_pad : stacked i psp memory status_place / 2 ^ 9 % 2 ≡ 0) where
   opened : is_open i t m psp memory ≡ true
   opened =
       let a : nat_le t.stack.base psp ≡ true = search (nat_tests, arith) in

@@ -23,7 +23,7 @@ use Rattle.monitor_model.specs.Records.{compartment_at, nobody, eighth}
 use Rattle.monitor_model.specs.Layout.{tables_size}
 use Rattle.monitor_model.specs.Regions.{background, tables_region, stack_region}
 use Rattle.monitor_model.specs.Placed.{Placed, IsCompartment, IsSlot, InFlashOf}
-use Rattle.monitor_model.specs.Block.{Block}
+use Rattle.monitor_model.specs.Block.{MonitorBlock}
 use Rattle.monitor_model.specs.Invariant.{IsTop, Invariant}
 use Rattle.monitor_model.specs.Setting.{has_code, allows_stores, may_store, may_load}
 use Rattle.monitor_confined.proofs.Reaches.{UnitLaws, stack_some}
@@ -168,7 +168,7 @@ module _ (laws : UnitLaws) (i : Image) (t : Tables) (p : Placed i t) where
 
   -- ---- under the invariant
 
-  module _ (m : Block) (x : Context) (ram : List ℕ) (v : Invariant i t m x ram) where
+  module _ (m : MonitorBlock) (x : Context) (ram : List ℕ) (v : Invariant i t m x ram) where
     abbrev here : CompRecord
     here = compartment_at t m.current
 

@@ -13,7 +13,7 @@ use Rattle.base_words.specs.declared.conditions.Flags.{Flags}
 use Rattle.monitor_model.specs.declared.tables.Tables.{Tables}
 use Rattle.monitor_model.specs.Records.{eighth, stack_end}
 use Rattle.monitor_model.specs.Placed.{Placed}
-use Rattle.monitor_model.specs.Block.{Block}
+use Rattle.monitor_model.specs.Block.{MonitorBlock}
 use Rattle.monitor_model.specs.BlockWords.{words_end}
 use Rattle.monitor_model.specs.Invariant.{Invariant}
 use Rattle.monitor_model.specs.MonitorCode.{MonitorCode}
@@ -84,7 +84,7 @@ module _ (i : Image) (t : Tables) (p : Placed i t) where
           omega (arith, y, w, big)
 
   -- the compartment of an event
-  pub is_current : (m : Block) (x : Context) (ram : List ℕ) → Invariant i t m x ram → compartment_of i ram ≡ m.current
+  pub is_current : (m : MonitorBlock) (x : Context) (ram : List ℕ) → Invariant i t m x ram → compartment_of i ram ≡ m.current
   is_current m x ram v =
       let lo = p.block_inside.0 in
       let low = p.rules.ram_lowest in
@@ -93,7 +93,7 @@ module _ (i : Image) (t : Tables) (p : Placed i t) where
       let z : i.monitor - i.ram_base ≡ t.monitor - i.ram_base + 0 = omega (arith, q) in
       ap (λ (b : Bool). if b then 0 else read 4 (i.monitor - i.ram_base) ram) some ∙ ap (λ (o : ℕ). read 4 o ram) z ∙ v.is_block.current_is
 
-  pub off_words : (m : Block) (x : Context) (old new : List ℕ) → Invariant i t m x old →
+  pub off_words : (m : MonitorBlock) (x : Context) (old new : List ℕ) → Invariant i t m x old →
       ((w a : ℕ) → t.monitor - i.ram_base ≤ a → a + w ≤ t.monitor - i.ram_base + words_end → read w a new ≡ read w a old) → length new ≡ length old → Invariant i t m x new
   off_words m x old new v same long =
       let is = v.orderly.is_top.3 in
@@ -112,7 +112,7 @@ module _ (i : Image) (t : Tables) (p : Placed i t) where
         as_long = long ∙ v.as_long;
       }
 
-  pub any_high : (m : Block) (x : Context) (high : List ℕ) (ram : List ℕ) → Invariant i t m x ram → length high ≡ 5 → Invariant i t m (record x { high = high }) ram
+  pub any_high : (m : MonitorBlock) (x : Context) (high : List ℕ) (ram : List ℕ) → Invariant i t m x ram → length high ≡ 5 → Invariant i t m (record x { high = high }) ram
   any_high m x high ram v five = record {
     is_block = v.is_block;
     orderly = v.orderly;
@@ -132,7 +132,7 @@ module _ (laws : ThreadLaws) (code : MonitorCode) (i : Image) (t : Tables) (p : 
   abbrev pub g : Setting
   g = setting_of code i t
 
-  top_low : (m : Block) (x : Context) (ram : List ℕ) → Invariant i t m x ram → m.top ≤ i.ram_base + threads.stack_end g
+  top_low : (m : MonitorBlock) (x : Context) (ram : List ℕ) → Invariant i t m x ram → m.top ≤ i.ram_base + threads.stack_end g
   top_low m x ram v = let a = top_inside laws.unit i t p m x ram v in let b = end_is i t p in omega (arith, a, b)
 
   pub keeps : InvariantKeeps g (Invariant i t)
@@ -160,7 +160,7 @@ module _ (laws : ThreadLaws) (code : MonitorCode) (i : Image) (t : Tables) (p : 
 
   -- ---- a thread of the simulation
 
-  pub room_of : (m : Block) (x : Context) (low : List ℕ) (o lr pc : ℕ) (f : Flags) (ram : List ℕ) (queues : List (List ℕ)) → HasRoom g m o →
+  pub room_of : (m : MonitorBlock) (x : Context) (low : List ℕ) (o lr pc : ℕ) (f : Flags) (ram : List ℕ) (queues : List (List ℕ)) → HasRoom g m o →
       StackHasRoom i t m (works x low (i.ram_base + o) lr pc f ram queues)
   room_of m x low o lr pc f ram queues r =
       let al = r.aligned in

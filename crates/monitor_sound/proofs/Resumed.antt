@@ -12,7 +12,7 @@ use Rattle.machine_model.specs.Step.{step, event}
 use Rattle.machine_model.specs.RunningCode.{works}
 use Rattle.monitor_model.specs.declared.tables.Tables.{Tables}
 use Rattle.monitor_model.specs.Placed.{Placed}
-use Rattle.monitor_model.specs.Block.{Block}
+use Rattle.monitor_model.specs.Block.{MonitorBlock}
 use Rattle.monitor_model.specs.Invariant.{Invariant, InvariantHolds, IsOrderly, context_of}
 use Rattle.monitor_model.specs.MonitorCode.{MonitorCode}
 use Rattle.monitor_model.specs.Setting.{Setting, setting_of}
@@ -47,7 +47,7 @@ module _ (laws : ThreadLaws) (code : MonitorCode) (i : Image) (t : Tables) (p : 
   g = setting_of code i t
 
   -- behind a handler
-  unfoldable pub resumed : (s : State) (m : Block) (h : InvariantHolds i t m s) (most bound : ℕ) (b : Block) (psp : ℕ) (memory : List ℕ) (x : Behind i t s m most b psp memory) → suc most ≤ bound → IsOrderly t b →
+  unfoldable pub resumed : (s : State) (m : MonitorBlock) (h : InvariantHolds i t m s) (most bound : ℕ) (b : MonitorBlock) (psp : ℕ) (memory : List ℕ) (x : Behind i t s m most b psp memory) → suc most ≤ bound → IsOrderly t b →
       (sp pc below : ℕ) (ram : List ℕ) → (run (step i) x.count s).core.sp ≡ sp → (run (step i) x.count s).core.pc ≡ pc →
       ((w a : ℕ) → KeepsOff g below a w → read w a memory ≡ read w a ram) → length ram ≡ i.ram_size → Resumes g (Invariant i t) bound s b sp pc below ram s.queues
   resumed s m h most bound b psp memory x le o sp pc below ram at_sp at_pc same long =

@@ -9,7 +9,7 @@ use Rattle.machine_model.specs.State.{State, by_mpu}
 use Rattle.machine_model.specs.Step.{step}
 use Rattle.machine_model.specs.Exceptions.{is_frame_open, is_thread, frame_at}
 use Rattle.monitor_model.specs.declared.tables.Tables.{Tables}
-use Rattle.monitor_model.specs.Block.{Block}
+use Rattle.monitor_model.specs.Block.{MonitorBlock}
 use Rattle.monitor_model.specs.Confined.{IsSvc}
 use Rattle.monitor_model.specs.Invariant.{InvariantHolds}
 use Rattle.monitor_model.specs.Handlers.{at_svc, at_memfault, IsFault, Leads}
@@ -35,17 +35,17 @@ halt_stop : (n b : ℕ) → Halt n ≢ Stop Unstacking b
 halt_stop n b e = cc
 
 module _ (i : Image) (t : Tables) where
-  by_status : (b : Bool) (s u : State) (m n : Block) (psp : ℕ) (memory : List ℕ) → ReturnsBy b i t s u m n psp memory → IsBehindHandler u
+  by_status : (b : Bool) (s u : State) (m n : MonitorBlock) (psp : ℕ) (memory : List ℕ) → ReturnsBy b i t s u m n psp memory → IsBehindHandler u
   by_status true s u m n psp memory g = inl (g.thread, g.ending)
   by_status false s u m n psp memory g = inr (Stop Usage g.0, g.1.ended.ending, usage_stop g.0)
 
-  by_outcome : (o : Outcome) (s u : State) (m : Block) (memory : List ℕ) → Shows i t o s m memory u → IsBehindHandler u
+  by_outcome : (o : Outcome) (s u : State) (m : MonitorBlock) (memory : List ℕ) → Shows i t o s m memory u → IsBehindHandler u
   by_outcome (Halts k) s u m memory x = inr (Halt k, x.ended.ending, halt_stop k)
   by_outcome StopsAtBus s u m memory x = inr (Stop Bus x.0, x.1.ended.ending, bus_stop x.0)
   by_outcome StopsUnaligned s u m memory x = inr (Stop Unaligned x.0, x.1.ended.ending, unaligned_stop x.0)
   by_outcome (Resumes n psp after) s u m memory x = by_status (is_thread (stacked i psp after status_place)) s u m n psp after x
 
-  module _ (stub : ℕ) (law : MonitorLaw i t stub) (m : Block) (s : State) (h : InvariantHolds i t m s) (live : s.ending ≡ None) (frame : is_frame_open by_mpu i s ≡ true) where
+  module _ (stub : ℕ) (law : MonitorLaw i t stub) (m : MonitorBlock) (s : State) (h : InvariantHolds i t m s) (live : s.ending ≡ None) (frame : is_frame_open by_mpu i s ≡ true) where
     pub svc_returns : (n : ℕ) → n < 256 → IsSvc i t n s → Leads i t s access_steps (at_svc i s) IsBehindHandler
     svc_returns n few is =
         let from : State = at_svc i s in

@@ -26,7 +26,7 @@ use Rattle.machine_model.specs.Code.{Lies, Stands}
 use Rattle.machine_model.specs.Step.{turn}
 use Rattle.monitor_model.specs.declared.tables.Tables.{Tables}
 use Rattle.monitor_model.specs.Placed.{Placed}
-use Rattle.monitor_model.specs.Block.{Block}
+use Rattle.monitor_model.specs.Block.{MonitorBlock}
 use Rattle.monitor_model.specs.Confined.{IsSvc}
 use Rattle.monitor_model.specs.Invariant.{InvariantHolds, context_of}
 use Rattle.monitor_model.specs.AccessLaw.{StackHasRoom}
@@ -79,7 +79,7 @@ pub record Pushed (i : Image) (c : CoreRegisters) (ret psp : ℕ) (memory : List
   pub return_address : stacked i psp memory 6 ≡ ret
   pub status : stacked i psp memory 7 ≡ stacked_status c.flags false
 
-module _ (laws : ThreadLaws) (i : Image) (t : Tables) (p : Placed i t) (m : Block) (s : State) (h : InvariantHolds i t m s) (room : StackHasRoom i t m s) where
+module _ (laws : ThreadLaws) (i : Image) (t : Tables) (p : Placed i t) (m : MonitorBlock) (s : State) (h : InvariantHolds i t m s) (room : StackHasRoom i t m s) where
   -- the stack lies low, in RAM
   pub stack_places : (i.ram_base ≤ t.stack.base) × (t.stack.base + t.stack.size ≤ i.ram_base + i.ram_size) × (i.ram_base + i.ram_size ≤ 0x40000000)
   stack_places =

@@ -14,7 +14,7 @@ use Rattle.machine_model.specs.RunningCode.{Context, works}
 use Rattle.monitor_model.specs.declared.tables.Tables.{Tables}
 use Rattle.monitor_model.specs.Records.{site_at, targets_of, last_with_entry, rounded, eighth}
 use Rattle.monitor_model.specs.Placed.{Placed}
-use Rattle.monitor_model.specs.Block.{Block}
+use Rattle.monitor_model.specs.Block.{MonitorBlock}
 use Rattle.monitor_model.specs.Handlers.{at_svc, Leads}
 use Rattle.monitor_model.specs.Invariant.{Invariant}
 use Rattle.monitor_model.specs.MonitorCode.{MonitorCode}
@@ -39,7 +39,7 @@ module _ (laws : ThreadLaws) (code : MonitorCode) (i : Image) (t : Tables) (p : 
   abbrev g : Setting
   g = setting_of code i t
 
-  module _ (m : Block) (x : Context) (low : List ℕ) (o lr pc : ℕ) (f : Flags) (ram : List ℕ) (queues : List (List ℕ)) (n : ℕ) (z : AtInstr g (Invariant i t) m x low o lr pc f ram queues (svc n)) where
+  module _ (m : MonitorBlock) (x : Context) (low : List ℕ) (o lr pc : ℕ) (f : Flags) (ram : List ℕ) (queues : List (List ℕ)) (n : ℕ) (z : AtInstr g (Invariant i t) m x low o lr pc f ram queues (svc n)) where
     may : by_mpu x.protection Fetch pc ≡ true
     may = fetches laws.unit i t p m x ram z.invariant pc z.owned
 
@@ -62,7 +62,7 @@ module _ (laws : ThreadLaws) (code : MonitorCode) (i : Image) (t : Tables) (p : 
         let w = first_step laws code i t p law stands s (at_svc i s) (Halt number) b.count (ap (λ (y : Turn). y.to) turned) (ap (λ (y : Turn). y.event) turned) (λ k lt. (b.each k lt).quiet) b.holds.ended.ending in
         record { count = suc b.count; least = omega arith; within = omega (arith, few, le); last = run (step i) (suc b.count) s; over = w.1; runs = quiet_there i (suc b.count) s w.0 }
 
-  pub no_loan : (m : Block) (x : Context) (low : List ℕ) (o lr pc : ℕ) (f : Flags) (ram : List ℕ) (queues : List (List ℕ)) →
+  pub no_loan : (m : MonitorBlock) (x : Context) (low : List ℕ) (o lr pc : ℕ) (f : Flags) (ram : List ℕ) (queues : List (List ℕ)) →
       AtInstr g (Invariant i t) m x low o lr pc f ram queues (svc 2) → length m.loans ≡ 32 → HaltsBy g 6 lend_steps (works x low (i.ram_base + o) lr pc f ram queues)
   no_loan m x low o lr pc f ram queues z full =
       let can = may m x low o lr pc f ram queues 2 z in
@@ -71,7 +71,7 @@ module _ (laws : ThreadLaws) (code : MonitorCode) (i : Image) (t : Tables) (p : 
       (lowest laws code i t p law m x low o lr pc f ram queues 2 z.invariant z.room z.fits z.lies can) (highest laws code i t p law m x low o lr pc f ram queues 2 z.invariant z.room z.fits z.lies can)
       (no_pad laws code i t p law m x low o lr pc f ram queues 2 z.invariant z.room z.fits z.lies can) full)
 
-  pub no_eighth : (m : Block) (x : Context) (low : List ℕ) (o lr pc : ℕ) (f : Flags) (ram : List ℕ) (queues : List (List ℕ)) (site entry target : ℕ) →
+  pub no_eighth : (m : MonitorBlock) (x : Context) (low : List ℕ) (o lr pc : ℕ) (f : Flags) (ram : List ℕ) (queues : List (List ℕ)) (site entry target : ℕ) →
       AtInstr g (Invariant i t) m x low o lr pc f ram queues (svc 0) → HoldsHalf i (pc + 2) site → g.has_target site (pc + 2) entry target ≡ true →
       get_or x.high 4 0 ≡ entry + 1 → (o - 32 - (t.stack.base - i.ram_base)) / eighth t ≡ 0 → HaltsBy g 5 call_steps (works x low (i.ram_base + o) lr pc f ram queues)
   no_eighth m x low o lr pc f ram queues site entry target z half hit r12 none =

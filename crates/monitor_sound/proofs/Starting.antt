@@ -14,7 +14,7 @@ use Rattle.machine_model.specs.RunningCode.{works}
 use Rattle.monitor_model.specs.declared.tables.InitRecord.{InitRecord}
 use Rattle.monitor_model.specs.declared.tables.Tables.{Tables}
 use Rattle.monitor_model.specs.Placed.{Placed}
-use Rattle.monitor_model.specs.Block.{Block, first_block}
+use Rattle.monitor_model.specs.Block.{MonitorBlock, first_block}
 use Rattle.monitor_model.specs.Invariant.{Invariant, context_of}
 use Rattle.monitor_model.specs.MonitorCode.{MonitorCode}
 use Rattle.monitor_model.specs.Promises.{RangesAreApart}
@@ -53,7 +53,7 @@ module _ (laws : ThreadLaws) (code : MonitorCode) (i : Image) (t : Tables) (p : 
     silent k lt = ⊎_elim (λ x. from.start_up.quiet k x) (λ x. from.quiet k x lt) (cases_lt k from.start_up.count)
 
     block_is : first_block t ≡ threads.first_block g
-    block_is = ap (λ (a : ℕ). let b : Block = record { current = t.main_comp; top = a; mark = 0; saved = []; loans = [] } in b) (sym (end_is i t p))
+    block_is = ap (λ (a : ℕ). let b : MonitorBlock = record { current = t.main_comp; top = a; mark = 0; saved = []; loans = [] } in b) (sym (end_is i t p))
 
     is_there : u ≡ works (context_of u) u.core.low (i.ram_base + threads.stack_end g) (code.stub t + 1) (t.main - 1) u.core.flags u.ram queues
     is_there = works_of u (i.ram_base + threads.stack_end g) (code.stub t + 1) (t.main - 1) queues (from.at_main.sp ∙ sym (end_is i t p)) from.at_main.lr (before t.main u.core.pc from.at_main.pc)
@@ -75,7 +75,7 @@ module _ (laws : ThreadLaws) (code : MonitorCode) (i : Image) (t : Tables) (p : 
       memory = u.ram;
       fits = subst (λ (z : State). StateFits i z) is_there from.still_begun.holds.fits;
       runs = quiet_runs i count first (works (context_of u) u.core.low (i.ram_base + threads.stack_end g) (code.stub t + 1) (t.main - 1) u.core.flags u.ram queues) silent is_there;
-      invariant = subst (λ (b : Block). Invariant i t b (context_of u) u.ram) block_is from.still_begun.holds.inv;
+      invariant = subst (λ (b : MonitorBlock). Invariant i t b (context_of u) u.ram) block_is from.still_begun.holds.inv;
       copied = each_kept i t
           (λ (n : InitRecord). (w a : ℕ) → n.at ≤ i.ram_base + a → i.ram_base + a + w ≤ n.end → read w a (with_all_words i t.inits first.ram) ≡ read w (n.from - i.flash_base + (i.ram_base + a - n.at)) i.flash)
           (λ (n : InitRecord). (w a : ℕ) → n.at ≤ i.ram_base + a → i.ram_base + a + w ≤ n.end → read w a u.ram ≡ read w (n.from - i.flash_base + (i.ram_base + a - n.at)) i.flash)

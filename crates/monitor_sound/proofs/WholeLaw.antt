@@ -5,7 +5,7 @@ use Rattle.machine_devices.specs.declared.image.Image.{Image}
 use Rattle.machine_model.specs.State.{State, Turn, by_mpu}
 use Rattle.monitor_model.specs.declared.tables.Tables.{Tables}
 use Rattle.monitor_model.specs.Placed.{Placed}
-use Rattle.monitor_model.specs.Block.{Block}
+use Rattle.monitor_model.specs.Block.{MonitorBlock}
 use Rattle.monitor_model.specs.Invariant.{InvariantHolds, context_of}
 use Rattle.monitor_model.specs.Setting.{has_code}
 use Rattle.monitor_sound.specs.Accesses.{StubStands, PlacedAccessesHaveTheirEffect}
@@ -17,7 +17,7 @@ use Rattle.monitor_sound.proofs.Lent.{lent_store, lent_load}
 use Rattle.monitor_sound.proofs.Returns.{svc_returns, memfault_returns}
 
 -- an SVC of the compartment's code, or of the stub, may be fetched
-may_call : (laws : ThreadLaws) (i : Image) (t : Tables) (p : Placed i t) (stub : ℕ) → StubStands i t stub → (m : Block) (s : State) → InvariantHolds i t m s →
+may_call : (laws : ThreadLaws) (i : Image) (t : Tables) (p : Placed i t) (stub : ℕ) → StubStands i t stub → (m : MonitorBlock) (s : State) → InvariantHolds i t m s →
     (has_code t m.current s.core.pc ≡ true) ⊎ (s.core.pc ≡ stub) → by_mpu s.protection Fetch s.core.pc ≡ true
 may_call laws i t p stub stands m s h (inl code) = fetches laws.unit i t p m (context_of s) s.ram h.inv s.core.pc code
 may_call laws i t p stub stands m s h (inr at) =

@@ -10,7 +10,7 @@ use Rattle.machine_model.specs.Code.{HoldsHalf, Runs}
 use Rattle.machine_model.specs.RunningCode.{Context, works}
 use Rattle.monitor_model.specs.declared.tables.Tables.{Tables}
 use Rattle.monitor_model.specs.Placed.{Placed}
-use Rattle.monitor_model.specs.Block.{Block}
+use Rattle.monitor_model.specs.Block.{MonitorBlock}
 use Rattle.monitor_model.specs.Invariant.{Invariant}
 use Rattle.monitor_model.specs.MonitorCode.{MonitorCode}
 use Rattle.monitor_model.specs.MonitorLaw.{MonitorLaw}
@@ -27,12 +27,12 @@ pub record HaltsBy (g : Setting) (number most : ℕ) (from : State) : Type 0 whe
   pub over : last.ending ≡ Some (Halt number)
   pub runs : Runs by_mpu g.image count from last []
 
-pub record ShortCalls (g : Setting) (Inv : Block → Context → List ℕ → Type 0) : Type 0 where
+pub record ShortCalls (g : Setting) (Inv : MonitorBlock → Context → List ℕ → Type 0) : Type 0 where
   -- a lend while as many loans live as the monitor keeps
-  pub no_loan : (m : Block) (x : Context) (low : List ℕ) (o lr pc : ℕ) (f : Flags) (ram : List ℕ) (queues : List (List ℕ)) →
+  pub no_loan : (m : MonitorBlock) (x : Context) (low : List ℕ) (o lr pc : ℕ) (f : Flags) (ram : List ℕ) (queues : List (List ℕ)) →
       AtInstr g Inv m x low o lr pc f ram queues (svc 2) → length m.loans ≡ 32 → HaltsBy g 6 lend_steps (works x low (base g + o) lr pc f ram queues)
   -- a call across below which no whole eighth of the stack is left
-  pub no_eighth : (m : Block) (x : Context) (low : List ℕ) (o lr pc : ℕ) (f : Flags) (ram : List ℕ) (queues : List (List ℕ)) (site entry target : ℕ) →
+  pub no_eighth : (m : MonitorBlock) (x : Context) (low : List ℕ) (o lr pc : ℕ) (f : Flags) (ram : List ℕ) (queues : List (List ℕ)) (site entry target : ℕ) →
       AtInstr g Inv m x low o lr pc f ram queues (svc 0) → HoldsHalf g.image (pc + 2) site → g.has_target site (pc + 2) entry target ≡ true →
       get_or x.high 4 0 ≡ entry + 1 → (o - 32 - g.stack) / g.eighth ≡ 0 → HaltsBy g 5 call_steps (works x low (base g + o) lr pc f ram queues)
 

@@ -10,8 +10,8 @@ use Rattle.machine_model.specs.Code.{size, CodeIn}
 use Rattle.machine_model.specs.Running.{code_size}
 use Rattle.machine_model.proofs.Exec.{code_may_run}
 use Rattle.machine_model.proofs.CodeParts.{code_size-append}
-use Rattle.monitor_steps.specs.declared.steps.GateOp.{GateOp}
-use Rattle.monitor_steps.specs.declared.steps.GateOp.TheVariants.{Add, Sub, And, Or, Shl, Shr}
+use Rattle.monitor_steps.specs.declared.steps.PrivilegedOp.{PrivilegedOp}
+use Rattle.monitor_steps.specs.declared.steps.PrivilegedOp.TheVariants.{Add, Sub, And, Or, Shl, Shr}
 use Rattle.monitor_steps.specs.Steps.{PrivilegedSteps, End, Const, Copy, Load, Store, Alu, ReadPsp, WritePsp, WriteControl, Test, Repeat, Halt, Return, Go}
 use Rattle.monitor_steps.specs.Code.{by_moves, operation_code, two_address_length, operation_length, code_length, code}
 use Rattle.monitor_steps.specs.Runs.{HasCode}
@@ -21,7 +21,7 @@ by_moves_has_its_length true t op to a b = refl
 by_moves_has_its_length false true op to a b = refl
 by_moves_has_its_length false false op to a b = refl
 
-pub operation_has_its_length : (op : GateOp) (to a b : ℕ) → code_size (operation_code op to a b) ≡ operation_length op (nat_eq to a) (nat_eq to b)
+pub operation_has_its_length : (op : PrivilegedOp) (to a b : ℕ) → code_size (operation_code op to a b) ≡ operation_length op (nat_eq to a) (nat_eq to b)
 operation_has_its_length Add to a b = refl
 operation_has_its_length Sub to a b = refl
 operation_has_its_length And to a b = by_moves_has_its_length (nat_eq to a) (nat_eq to b) 0 to a b
@@ -79,7 +79,7 @@ two_even true b = refl
 two_even false true = refl
 two_even false false = refl
 
-operation_even : (op : GateOp) (a b : Bool) → operation_length op a b % 2 ≡ 0
+operation_even : (op : PrivilegedOp) (a b : Bool) → operation_length op a b % 2 ≡ 0
 operation_even Add a b = refl
 operation_even Sub a b = refl
 operation_even And a b = two_even a b

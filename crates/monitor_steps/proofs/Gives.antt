@@ -12,8 +12,8 @@ use Rattle.machine_bus.specs.Locations.{Location, InRam, InFlash, location}
 use Rattle.machine_model.specs.declared.state.ProtectionState.{ProtectionState}
 use Rattle.machine_model.specs.declared.answers.Verdict.TheVariants.{ToBus}
 use Rattle.machine_model.specs.State.{PermissionTest}
-use Rattle.monitor_steps.specs.declared.steps.GateOp.{GateOp}
-use Rattle.monitor_steps.specs.declared.steps.GateCond.{GateCond}
+use Rattle.monitor_steps.specs.declared.steps.PrivilegedOp.{PrivilegedOp}
+use Rattle.monitor_steps.specs.declared.steps.PrivilegedCond.{PrivilegedCond}
 use Rattle.monitor_steps.specs.Steps.{PrivilegedSteps, End, Const, Copy, Load, Store, Alu, ReadPsp, WritePsp, Test, Repeat, Halt, Return}
 use Rattle.monitor_steps.specs.Core.{Core, low_register, with_low, with_psp, is_privileged_on_msp}
 use Rattle.monitor_steps.specs.Accesses.{Value, Written, address_of, load_by, store_by, load, store}
@@ -127,7 +127,7 @@ module _ {j : PermissionTest} {i : Image} {Good : ProtectionState → Type 0} {A
   copy_gives {to} {from} {k} {ks} {c} {Q} w = goes_gives {s = Copy to from k} refl (λ s. s) w
 
   -- the value gets a name
-  pub alu_gives : {op : GateOp} {to a b : ℕ} {k : PrivilegedSteps} {ks : List PrivilegedSteps} {c : Core} {Q : Outcome → Type 0} → ((v : ℕ) → v ≡ operation op (low_register c a) (low_register c b) → Gives j i Good Allowed k ks (with_low c to v) Q) → Gives j i Good Allowed (Alu op to a b k) ks c Q
+  pub alu_gives : {op : PrivilegedOp} {to a b : ℕ} {k : PrivilegedSteps} {ks : List PrivilegedSteps} {c : Core} {Q : Outcome → Type 0} → ((v : ℕ) → v ≡ operation op (low_register c a) (low_register c b) → Gives j i Good Allowed k ks (with_low c to v) Q) → Gives j i Good Allowed (Alu op to a b k) ks c Q
   alu_gives {op} {to} {a} {b} {k} {ks} {c} {Q} w = goes_gives {s = Alu op to a b k} refl (λ s. s) (w _ refl)
 
   pub psp_gives : {to : ℕ} {k : PrivilegedSteps} {ks : List PrivilegedSteps} {c : Core} {Q : Outcome → Type 0} → is_privileged_on_msp c ≡ true → Gives j i Good Allowed k ks (with_low c to c.other_sp) Q → Gives j i Good Allowed (ReadPsp to k) ks c Q
@@ -158,7 +158,7 @@ module _ {j : PermissionTest} {i : Image} {Good : ProtectionState → Type 0} {A
         sound = (h (a, t.0), subst (λ o. OnWent o (λ d. safe_all j i Good Allowed l ks d)) (sym e) t.1);
       }
 
-  pub test_gives : {t : GateCond} {a b : ℕ} {ys ns k : PrivilegedSteps} {ks : List PrivilegedSteps} {c : Core} {Q : Outcome → Type 0} → (compared t (low_register c a) (low_register c b) ≡ true → Gives j i Good Allowed ys (k ∷ ks) c Q) → (compared t (low_register c a) (low_register c b) ≡ false → Gives j i Good Allowed ns (k ∷ ks) c Q) → Gives j i Good Allowed (Test t a b ys ns k) ks c Q
+  pub test_gives : {t : PrivilegedCond} {a b : ℕ} {ys ns k : PrivilegedSteps} {ks : List PrivilegedSteps} {c : Core} {Q : Outcome → Type 0} → (compared t (low_register c a) (low_register c b) ≡ true → Gives j i Good Allowed ys (k ∷ ks) c Q) → (compared t (low_register c a) (low_register c b) ≡ false → Gives j i Good Allowed ns (k ∷ ks) c Q) → Gives j i Good Allowed (Test t a b ys ns k) ks c Q
   unfolding all safe_all
   test_gives {t} {a} {b} {ys} {ns} {k} {ks} {c} {Q} y n =
       let w = go (compared t (low_register c a) (low_register c b)) y n in
@@ -174,21 +174,21 @@ module _ {j : PermissionTest} {i : Image} {Good : ProtectionState → Type 0} {A
   halt_gives {ks = k ∷ ks} q = record { holds = q; sound = (tt, tt) }
 
   -- a test that halts
-  pub must_gives : {t : GateCond} {a b n : ℕ} {k : PrivilegedSteps} {ks : List PrivilegedSteps} {c : Core} {Q : Outcome → Type 0} → (compared t (low_register c a) (low_register c b) ≡ false → Q (Halted n c)) → (compared t (low_register c a) (low_register c b) ≡ true → Gives j i Good Allowed k ks c Q) → Gives j i Good Allowed (Test t a b End (Halt n End) k) ks c Q
+  pub must_gives : {t : PrivilegedCond} {a b n : ℕ} {k : PrivilegedSteps} {ks : List PrivilegedSteps} {c : Core} {Q : Outcome → Type 0} → (compared t (low_register c a) (low_register c b) ≡ false → Q (Halted n c)) → (compared t (low_register c a) (low_register c b) ≡ true → Gives j i Good Allowed k ks c Q) → Gives j i Good Allowed (Test t a b End (Halt n End) k) ks c Q
   must_gives h w = test_gives (λ e. next_gives (w e)) (λ e. halt_gives (h e))
 
-  pub must_not_gives : {t : GateCond} {a b n : ℕ} {k : PrivilegedSteps} {ks : List PrivilegedSteps} {c : Core} {Q : Outcome → Type 0} → (compared t (low_register c a) (low_register c b) ≡ true → Q (Halted n c)) → (compared t (low_register c a) (low_register c b) ≡ false → Gives j i Good Allowed k ks c Q) → Gives j i Good Allowed (Test t a b (Halt n End) End k) ks c Q
+  pub must_not_gives : {t : PrivilegedCond} {a b n : ℕ} {k : PrivilegedSteps} {ks : List PrivilegedSteps} {c : Core} {Q : Outcome → Type 0} → (compared t (low_register c a) (low_register c b) ≡ true → Q (Halted n c)) → (compared t (low_register c a) (low_register c b) ≡ false → Gives j i Good Allowed k ks c Q) → Gives j i Good Allowed (Test t a b (Halt n End) End k) ks c Q
   must_not_gives h w = test_gives (λ e. halt_gives (h e)) (λ e. next_gives (w e))
 
   -- where the answer is known
-  pub yes_gives : {t : GateCond} {a b : ℕ} {ys ns k : PrivilegedSteps} {ks : List PrivilegedSteps} {c : Core} {Q : Outcome → Type 0} → compared t (low_register c a) (low_register c b) ≡ true → Gives j i Good Allowed ys (k ∷ ks) c Q → Gives j i Good Allowed (Test t a b ys ns k) ks c Q
+  pub yes_gives : {t : PrivilegedCond} {a b : ℕ} {ys ns k : PrivilegedSteps} {ks : List PrivilegedSteps} {c : Core} {Q : Outcome → Type 0} → compared t (low_register c a) (low_register c b) ≡ true → Gives j i Good Allowed ys (k ∷ ks) c Q → Gives j i Good Allowed (Test t a b ys ns k) ks c Q
   yes_gives {t} {a} {b} {ys} {ns} {k} {ks} {c} {Q} e w = test_gives (λ h. w) (λ h. absurd (differ _ e h))
     where
       differ : (v : Bool) → v ≡ true → v ≡ false → ⊥
       differ true a b = cc
       differ false a b = cc
 
-  pub no_gives : {t : GateCond} {a b : ℕ} {ys ns k : PrivilegedSteps} {ks : List PrivilegedSteps} {c : Core} {Q : Outcome → Type 0} → compared t (low_register c a) (low_register c b) ≡ false → Gives j i Good Allowed ns (k ∷ ks) c Q → Gives j i Good Allowed (Test t a b ys ns k) ks c Q
+  pub no_gives : {t : PrivilegedCond} {a b : ℕ} {ys ns k : PrivilegedSteps} {ks : List PrivilegedSteps} {c : Core} {Q : Outcome → Type 0} → compared t (low_register c a) (low_register c b) ≡ false → Gives j i Good Allowed ns (k ∷ ks) c Q → Gives j i Good Allowed (Test t a b ys ns k) ks c Q
   no_gives {t} {a} {b} {ys} {ns} {k} {ks} {c} {Q} e w = test_gives (λ h. absurd (differ _ h e)) (λ h. w)
     where
       differ : (v : Bool) → v ≡ true → v ≡ false → ⊥

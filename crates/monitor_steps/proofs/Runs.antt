@@ -42,10 +42,10 @@ use Rattle.machine_model.specs.RunningCode.{IsLoad, IsStore}
 use Rattle.machine_model.proofs.Exec.{stepped}
 use Rattle.machine_model.proofs.InstructionEffects.{register_low, with_register_low}
 use Rattle.machine_model.proofs.Transfers.{loads_words, loads_halves, loads_bytes, stores_words, stores_halves, stores_bytes}
-use Rattle.monitor_steps.specs.declared.steps.GateOp.{GateOp}
-use Rattle.monitor_steps.specs.declared.steps.GateOp.TheVariants.{Add, Sub, And, Or, Shl, Shr}
-use Rattle.monitor_steps.specs.declared.steps.GateCond.{GateCond}
-use Rattle.monitor_steps.specs.declared.steps.GateCond.TheVariants.{Eq, Ult, Ule}
+use Rattle.monitor_steps.specs.declared.steps.PrivilegedOp.{PrivilegedOp}
+use Rattle.monitor_steps.specs.declared.steps.PrivilegedOp.TheVariants.{Add, Sub, And, Or, Shl, Shr}
+use Rattle.monitor_steps.specs.declared.steps.PrivilegedCond.{PrivilegedCond}
+use Rattle.monitor_steps.specs.declared.steps.PrivilegedCond.TheVariants.{Eq, Ult, Ule}
 use Rattle.monitor_steps.specs.Steps.{PrivilegedSteps, End, Const, Copy, Load, Store, Alu, ReadPsp, WritePsp, WriteControl, Test, Repeat, Halt, Return, Go, names_low, is_low}
 use Rattle.monitor_steps.specs.Core.{Core, core_of, low_register, with_low, with_ram, with_system, is_privileged_on_msp}
 use Rattle.monitor_steps.specs.Accesses.{address_of, load_by, store_by}
@@ -382,7 +382,7 @@ module _ (j : PermissionTest) (i : Image) (lr : ℕ) (queues : List (List ℕ)) 
         let m3 : Next (at (pc + 2 + 2 + 2) x2 c2) (at (pc + 2 + 2 + 2 + 2) x2 (with_low c to v)) = changes (pc + 2 + 2 + 2) x2 c2 (HighRegister 2 12 a) (registers (pc + 2 + 2 + 2 + 2) x2 (with_low c to v)) has.1.1.1.0 g3 f3 (rw (e2, w, low_is) refl) in
         ends_at 1 (pc + 2 + 2 + 2) x2 c2 (Went (with_low c to v)) (pc + 2 + 2 + 2 + 2) (pc + 8) (omega arith) (went (pc + 2 + 2 + 2) (pc + 2 + 2 + 2 + 2) x2 x2 c2 (with_low c to v) g3 m3))))
 
-    alu_run : (op : GateOp) (pc : ℕ) (x : Scratch) (c : Core) (to a b : ℕ) → to < 8 → a < 8 → b < 8 → HasCode pc (operation_code op to a b) → Good c.protection → Fits (at pc x c) →
+    alu_run : (op : PrivilegedOp) (pc : ℕ) (x : Scratch) (c : Core) (to a b : ℕ) → to < 8 → a < 8 → b < 8 → HasCode pc (operation_code op to a b) → Good c.protection → Fits (at pc x c) →
         Has 4 pc x c (Went (with_low c to (operation op (low_register c a) (low_register c b)))) (pc + operation_length op (nat_eq to a) (nat_eq to b))
     unfolding act
     alu_run Add pc x c to a b t8 a8 b8 has g f =
@@ -492,7 +492,7 @@ module _ (j : PermissionTest) (i : Image) (lr : ℕ) (queues : List (List ℕ)) 
     unfolding act
     branch pc to x c o e st g f = changes pc x c (BranchWide o) (registers to x c) st g f (rw e refl)
 
-    condition_holds : (t : GateCond) (u v : ℕ) → u < 2 ^ 32 → v < 2 ^ 32 → holds (condition_number t) (compare_flags u v) ≡ compared t u v
+    condition_holds : (t : PrivilegedCond) (u v : ℕ) → u < 2 ^ 32 → v < 2 ^ 32 → holds (condition_number t) (compare_flags u v) ≡ compared t u v
     condition_holds Eq u v a b = laws.equal u v a b
     condition_holds Ult u v a b = laws.below u v a b
     condition_holds Ule u v a b = laws.at_most u v a b

@@ -12,8 +12,8 @@ use Rattle.machine_bus.specs.Locations.{InRam, InFlash}
 use Rattle.machine_model.specs.declared.state.ProtectionState.{ProtectionState}
 use Rattle.machine_model.specs.State.{PermissionTest, is_unprivileged}
 use Rattle.machine_model.specs.System.{in_system, is_system_register}
-use Rattle.monitor_steps.specs.declared.steps.GateOp.{GateOp}
-use Rattle.monitor_steps.specs.declared.steps.GateCond.{GateCond}
+use Rattle.monitor_steps.specs.declared.steps.PrivilegedOp.{PrivilegedOp}
+use Rattle.monitor_steps.specs.declared.steps.PrivilegedCond.{PrivilegedCond}
 use Rattle.monitor_steps.specs.Steps.{PrivilegedSteps, End, Const, Copy, Load, Store, Alu, ReadPsp, Test, Repeat, Halt, Return}
 use Rattle.monitor_steps.specs.Core.{Core, low_register, with_low, with_ram, with_system, is_privileged_on_msp}
 use Rattle.monitor_steps.specs.Accesses.{Value, Written, address_of, load, store}
@@ -56,7 +56,7 @@ module _ (j : PermissionTest) (i : Image) (Good : ProtectionState → Type 0) (A
       let g = then_both o (effect j i k) (λ d. ticks j i k d) (λ d. ticks_all l ks d) in
       omega (arith, t, h, f, g)
 
-  yes_spent : (t : GateCond) (a b : ℕ) (ys ns k : PrivilegedSteps) (ks : List PrivilegedSteps) (c : Core) (n : ℕ) (v : Bool) → compared t (low_register c a) (low_register c b) ≡ v → (v ≡ true → ticks_all ys (k ∷ ks) c ≤ n) → (v ≡ false → ticks_all ns (k ∷ ks) c ≤ n) → ticks_all (Test t a b ys ns k) ks c ≤ 4 + n
+  yes_spent : (t : PrivilegedCond) (a b : ℕ) (ys ns k : PrivilegedSteps) (ks : List PrivilegedSteps) (c : Core) (n : ℕ) (v : Bool) → compared t (low_register c a) (low_register c b) ≡ v → (v ≡ true → ticks_all ys (k ∷ ks) c ≤ n) → (v ≡ false → ticks_all ns (k ∷ ks) c ≤ n) → ticks_all (Test t a b ys ns k) ks c ≤ 4 + n
   unfolding ticks_all
   yes_spent t a b ys ns k ks c n v e y f =
       let z = sides v y f in
@@ -112,30 +112,30 @@ module _ {j : PermissionTest} {i : Image} {Good : ProtectionState → Type 0} {A
   pub copy_within : {m to from : ℕ} {k : PrivilegedSteps} {ks : List PrivilegedSteps} {c : Core} {Q : Outcome → Type 0} → GivesWithin j i Good Allowed m k ks (with_low c to (low_register c from)) Q → GivesWithin j i Good Allowed (1 + m) (Copy to from k) ks c Q
   copy_within {m} {to} {from} {k} {ks} {c} w = record { gives = copy_gives w.gives; spent = goes_spent j i Good Allowed (Copy to from k) k ks c (with_low c to (low_register c from)) 1 m refl refl w.spent }
 
-  pub alu_within : {m : ℕ} {op : GateOp} {to a b : ℕ} {k : PrivilegedSteps} {ks : List PrivilegedSteps} {c : Core} {Q : Outcome → Type 0} → ((v : ℕ) → v ≡ operation op (low_register c a) (low_register c b) → GivesWithin j i Good Allowed m k ks (with_low c to v) Q) → GivesWithin j i Good Allowed (4 + m) (Alu op to a b k) ks c Q
+  pub alu_within : {m : ℕ} {op : PrivilegedOp} {to a b : ℕ} {k : PrivilegedSteps} {ks : List PrivilegedSteps} {c : Core} {Q : Outcome → Type 0} → ((v : ℕ) → v ≡ operation op (low_register c a) (low_register c b) → GivesWithin j i Good Allowed m k ks (with_low c to v) Q) → GivesWithin j i Good Allowed (4 + m) (Alu op to a b k) ks c Q
   alu_within {m} {op} {to} {a} {b} {k} {ks} {c} w = record { gives = alu_gives (λ v e. (w v e).gives); spent = goes_spent j i Good Allowed (Alu op to a b k) k ks c (with_low c to (operation op (low_register c a) (low_register c b))) 4 m refl refl (w _ refl).spent }
 
   pub at_within : {m : ℕ} {s : PrivilegedSteps} {ks : List PrivilegedSteps} {c d : Core} {Q : Outcome → Type 0} → c ≡ d → GivesWithin j i Good Allowed m s ks d Q → GivesWithin j i Good Allowed m s ks c Q
   at_within {m} {s} {ks} {c} {d} {Q} e w = subst (λ c. GivesWithin j i Good Allowed m s ks c Q) (sym e) w
 
-  pub must_within : {m : ℕ} {t : GateCond} {a b n : ℕ} {k : PrivilegedSteps} {ks : List PrivilegedSteps} {c : Core} {Q : Outcome → Type 0} → (compared t (low_register c a) (low_register c b) ≡ false → Q (Halted n c)) → (compared t (low_register c a) (low_register c b) ≡ true → GivesWithin j i Good Allowed m k ks c Q) → GivesWithin j i Good Allowed (4 + (1 + m)) (Test t a b End (Halt n End) k) ks c Q
+  pub must_within : {m : ℕ} {t : PrivilegedCond} {a b n : ℕ} {k : PrivilegedSteps} {ks : List PrivilegedSteps} {c : Core} {Q : Outcome → Type 0} → (compared t (low_register c a) (low_register c b) ≡ false → Q (Halted n c)) → (compared t (low_register c a) (low_register c b) ≡ true → GivesWithin j i Good Allowed m k ks c Q) → GivesWithin j i Good Allowed (4 + (1 + m)) (Test t a b End (Halt n End) k) ks c Q
   unfolding ticks_all
   must_within {m} {t} {a} {b} {n} {k} {ks} {c} {Q} h w = record {
     gives = must_gives h (λ e. (w e).gives);
     spent = yes_spent j i Good Allowed t a b End (Halt n End) k ks c (1 + m) (compared t (low_register c a) (low_register c b)) refl (λ e. let s = (w e).spent in omega (arith, s)) (λ e. omega arith);
   }
 
-  pub must_not_within : {m : ℕ} {t : GateCond} {a b n : ℕ} {k : PrivilegedSteps} {ks : List PrivilegedSteps} {c : Core} {Q : Outcome → Type 0} → (compared t (low_register c a) (low_register c b) ≡ true → Q (Halted n c)) → (compared t (low_register c a) (low_register c b) ≡ false → GivesWithin j i Good Allowed m k ks c Q) → GivesWithin j i Good Allowed (4 + (1 + m)) (Test t a b (Halt n End) End k) ks c Q
+  pub must_not_within : {m : ℕ} {t : PrivilegedCond} {a b n : ℕ} {k : PrivilegedSteps} {ks : List PrivilegedSteps} {c : Core} {Q : Outcome → Type 0} → (compared t (low_register c a) (low_register c b) ≡ true → Q (Halted n c)) → (compared t (low_register c a) (low_register c b) ≡ false → GivesWithin j i Good Allowed m k ks c Q) → GivesWithin j i Good Allowed (4 + (1 + m)) (Test t a b (Halt n End) End k) ks c Q
   unfolding ticks_all
   must_not_within {m} {t} {a} {b} {n} {k} {ks} {c} {Q} h w = record {
     gives = must_not_gives h (λ e. (w e).gives);
     spent = yes_spent j i Good Allowed t a b (Halt n End) End k ks c (1 + m) (compared t (low_register c a) (low_register c b)) refl (λ e. omega arith) (λ e. let s = (w e).spent in omega (arith, s));
   }
 
-  pub yes_within : {m : ℕ} {t : GateCond} {a b : ℕ} {ys ns k : PrivilegedSteps} {ks : List PrivilegedSteps} {c : Core} {Q : Outcome → Type 0} → compared t (low_register c a) (low_register c b) ≡ true → GivesWithin j i Good Allowed m ys (k ∷ ks) c Q → GivesWithin j i Good Allowed (4 + m) (Test t a b ys ns k) ks c Q
+  pub yes_within : {m : ℕ} {t : PrivilegedCond} {a b : ℕ} {ys ns k : PrivilegedSteps} {ks : List PrivilegedSteps} {c : Core} {Q : Outcome → Type 0} → compared t (low_register c a) (low_register c b) ≡ true → GivesWithin j i Good Allowed m ys (k ∷ ks) c Q → GivesWithin j i Good Allowed (4 + m) (Test t a b ys ns k) ks c Q
   yes_within {m} {t} {a} {b} {ys} {ns} {k} {ks} {c} e w = record { gives = yes_gives e w.gives; spent = yes_spent j i Good Allowed t a b ys ns k ks c m true e (λ h. w.spent) (λ h. absurd (let z : ⊥ = cc in z)) }
 
-  pub no_within : {m : ℕ} {t : GateCond} {a b : ℕ} {ys ns k : PrivilegedSteps} {ks : List PrivilegedSteps} {c : Core} {Q : Outcome → Type 0} → compared t (low_register c a) (low_register c b) ≡ false → GivesWithin j i Good Allowed m ns (k ∷ ks) c Q → GivesWithin j i Good Allowed (4 + m) (Test t a b ys ns k) ks c Q
+  pub no_within : {m : ℕ} {t : PrivilegedCond} {a b : ℕ} {ys ns k : PrivilegedSteps} {ks : List PrivilegedSteps} {c : Core} {Q : Outcome → Type 0} → compared t (low_register c a) (low_register c b) ≡ false → GivesWithin j i Good Allowed m ns (k ∷ ks) c Q → GivesWithin j i Good Allowed (4 + m) (Test t a b ys ns k) ks c Q
   no_within {m} {t} {a} {b} {ys} {ns} {k} {ks} {c} e w = record { gives = no_gives e w.gives; spent = yes_spent j i Good Allowed t a b ys ns k ks c m false e (λ h. absurd (let z : ⊥ = cc in z)) (λ h. w.spent) }
 
   -- a loop: b n steps for the turn that leaves n, B n for n turns and the end

@@ -4,10 +4,10 @@ use Rattle.base_words.specs.declared.memory.Width.{Width}
 use Rattle.base_words.specs.declared.memory.Width.TheVariants.{Byte, Half, Word}
 use Rattle.machine_thumb.specs.declared.table.Instr.{Instr}
 use Rattle.machine_thumb.specs.declared.table.Instr.TheVariants.{AddSubRegister, DataImmediate, DataRegister, HighRegister, BranchExchange, TransferImmediate, BreakpointNop, BranchConditional, BranchWide, MoveWide, MoveTop, SpecialRegister, Barrier}
-use Rattle.monitor_steps.specs.declared.steps.GateOp.{GateOp}
-use Rattle.monitor_steps.specs.declared.steps.GateOp.TheVariants.{Add, Sub, And, Or, Shl, Shr}
-use Rattle.monitor_steps.specs.declared.steps.GateCond.{GateCond}
-use Rattle.monitor_steps.specs.declared.steps.GateCond.TheVariants.{Eq, Ult, Ule}
+use Rattle.monitor_steps.specs.declared.steps.PrivilegedOp.{PrivilegedOp}
+use Rattle.monitor_steps.specs.declared.steps.PrivilegedOp.TheVariants.{Add, Sub, And, Or, Shl, Shr}
+use Rattle.monitor_steps.specs.declared.steps.PrivilegedCond.{PrivilegedCond}
+use Rattle.monitor_steps.specs.declared.steps.PrivilegedCond.TheVariants.{Eq, Ult, Ule}
 use Rattle.monitor_steps.specs.Steps.{PrivilegedSteps, End, Const, Copy, Load, Store, Alu, ReadPsp, WritePsp, WriteControl, Test, Repeat, Halt, Return, Go}
 
 -- LDRB, LDRH, LDR and STRB, STRH, STR, as the form of encoding counts them
@@ -22,7 +22,7 @@ store_op Half = 4
 store_op Word = 0
 
 -- EQ, LO and LS, which hold after CMP a, b where a is b, is below b, and is at most b (A7.3)
-abbrev pub condition_number : GateCond → ℕ
+abbrev pub condition_number : PrivilegedCond → ℕ
 condition_number Eq = 0
 condition_number Ult = 3
 condition_number Ule = 9
@@ -39,7 +39,7 @@ abbrev pub two_address : (op to a b : ℕ) → List Instr
 two_address op to a b = by_moves op to a b (nat_eq to a) (nat_eq to b)
 
 -- ADDS and SUBS have three registers; ANDS, ORRS, LSLS and LSRS have two
-abbrev pub operation_code : GateOp → (to a b : ℕ) → List Instr
+abbrev pub operation_code : PrivilegedOp → (to a b : ℕ) → List Instr
 operation_code Add to a b = AddSubRegister 0 b a to ∷ []
 operation_code Sub to a b = AddSubRegister 1 b a to ∷ []
 operation_code And to a b = two_address 0 to a b
@@ -53,7 +53,7 @@ two_address_length true t = 2
 two_address_length false true = 8
 two_address_length false false = 4
 
-abbrev pub operation_length : GateOp → (to_is_a to_is_b : Bool) → ℕ
+abbrev pub operation_length : PrivilegedOp → (to_is_a to_is_b : Bool) → ℕ
 operation_length Add a b = 2
 operation_length Sub a b = 2
 operation_length And a b = two_address_length a b
@@ -80,7 +80,7 @@ code_length (Go to link rest) = 4 + code_length rest
 
 -- CMP; a branch past a wide branch to the second list where the condition holds; the first list; a wide branch past the
 -- second; the second. So each list may have any length
-abbrev pub test_code : GateCond → (a b : ℕ) → (true_length false_length : ℕ) → (if_true if_false rest : List Instr) → List Instr
+abbrev pub test_code : PrivilegedCond → (a b : ℕ) → (true_length false_length : ℕ) → (if_true if_false rest : List Instr) → List Instr
 test_code cond a b m n if_true if_false rest =
     DataRegister 10 b a
     ∷ BranchConditional (condition_number cond) (pos 2)

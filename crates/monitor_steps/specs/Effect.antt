@@ -5,10 +5,10 @@ use Rattle.base_words.specs.Arithmetic.{add, subtract, shift_left, shift_right}
 use Rattle.machine_devices.specs.declared.image.Image.{Image}
 use Rattle.machine_model.specs.declared.state.StopReason.{StopReason}
 use Rattle.machine_model.specs.State.{PermissionTest}
-use Rattle.monitor_steps.specs.declared.steps.GateOp.{GateOp}
-use Rattle.monitor_steps.specs.declared.steps.GateOp.TheVariants.{Add, Sub, And, Or, Shl, Shr}
-use Rattle.monitor_steps.specs.declared.steps.GateCond.{GateCond}
-use Rattle.monitor_steps.specs.declared.steps.GateCond.TheVariants.{Eq, Ult, Ule}
+use Rattle.monitor_steps.specs.declared.steps.PrivilegedOp.{PrivilegedOp}
+use Rattle.monitor_steps.specs.declared.steps.PrivilegedOp.TheVariants.{Add, Sub, And, Or, Shl, Shr}
+use Rattle.monitor_steps.specs.declared.steps.PrivilegedCond.{PrivilegedCond}
+use Rattle.monitor_steps.specs.declared.steps.PrivilegedCond.TheVariants.{Eq, Ult, Ule}
 use Rattle.monitor_steps.specs.Steps.{PrivilegedSteps, End, Const, Copy, Load, Store, Alu, ReadPsp, WritePsp, WriteControl, Test, Repeat, Halt, Return, Go}
 use Rattle.monitor_steps.specs.Core.{Core, low_register, with_low, with_psp, with_privilege, on_process_stack, is_privileged_on_msp}
 use Rattle.monitor_steps.specs.Accesses.{LoadResult, Value, LoadStops, LoadUnclaimed, StoreResult, Written, StoreStops, StoreUnclaimed, load, store}
@@ -38,7 +38,7 @@ then_do (Stopped r c) f = Stopped r c
 then_do Unclaimed f = Unclaimed
 
 -- on words: sums and differences modulo 2 ^ 32, shifts by the low byte of the second
-abbrev pub operation : GateOp → ℕ → ℕ → ℕ
+abbrev pub operation : PrivilegedOp → ℕ → ℕ → ℕ
 operation Add x y = add x y
 operation Sub x y = subtract x y
 operation And x y = bit_and x y
@@ -47,7 +47,7 @@ operation Shl x y = shift_left x y
 operation Shr x y = shift_right x y
 
 -- as unsigned numbers
-abbrev pub compared : GateCond → ℕ → ℕ → Bool
+abbrev pub compared : PrivilegedCond → ℕ → ℕ → Bool
 compared Eq x y = nat_eq x y
 compared Ult x y = nat_lt x y
 compared Ule x y = nat_le x y

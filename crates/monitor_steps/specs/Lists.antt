@@ -2,9 +2,9 @@
 -- Vectors of steps, as the program has them, as lists of the language.
 use Rattle.std.specs.Prelude.{◌/◌, List, [], ◌∷◌}
 use Rattle.base_words.specs.Width.{byte_count}
-use Rattle.monitor_steps.specs.declared.steps.GateStep.{GateStep}
-use Rattle.monitor_steps.specs.declared.steps.GateStep.TheOpen.{GateStep-F, Const as Number, Copy as Copied, Load as Loaded, Store as Stored, Alu as Operation, ReadPsp as PspRead, WritePsp as PspWritten, WriteControl as ControlWritten, Test as Tested, Repeat as Repeated, Halt as Halted, Return as Returned, Go as Gone}
-use Rattle.monitor_steps.specs.declared.steps.GateStep.TheFolds.{fold-GateStep}
+use Rattle.monitor_steps.specs.declared.steps.PrivilegedStep.{PrivilegedStep}
+use Rattle.monitor_steps.specs.declared.steps.PrivilegedStep.TheOpen.{PrivilegedStep-F, Const as Number, Copy as Copied, Load as Loaded, Store as Stored, Alu as Operation, ReadPsp as PspRead, WritePsp as PspWritten, WriteControl as ControlWritten, Test as Tested, Repeat as Repeated, Halt as Halted, Return as Returned, Go as Gone}
+use Rattle.monitor_steps.specs.declared.steps.PrivilegedStep.TheFolds.{fold-PrivilegedStep}
 use Rattle.monitor_steps.specs.Steps.{PrivilegedSteps, End, Const, Copy, Load, Store, Alu, ReadPsp, WritePsp, WriteControl, Test, Repeat, Halt, Return, Go}
 
 -- lists one in front of the other, each given as what it makes of the rest behind it
@@ -13,7 +13,7 @@ chain [] rest = rest
 chain (f ∷ fs) rest = f (chain fs rest)
 
 -- one step in front of the rest; the lists within it are given so, too. An offset in bytes becomes one in widths
-abbrev pub step_before : GateStep-F (PrivilegedSteps → PrivilegedSteps) → PrivilegedSteps → PrivilegedSteps
+abbrev pub step_before : PrivilegedStep-F (PrivilegedSteps → PrivilegedSteps) → PrivilegedSteps → PrivilegedSteps
 step_before (Number to value) rest = Const to value rest
 step_before (Copied to from) rest = Copy to from rest
 step_before (Loaded to base offset width) rest = Load width to base (offset / byte_count width) rest
@@ -28,13 +28,13 @@ step_before (Halted code) rest = Halt code rest
 step_before Returned rest = Return rest
 step_before (Gone to link) rest = Go to link rest
 
-abbrev pub before : GateStep → PrivilegedSteps → PrivilegedSteps
-before = fold-GateStep (PrivilegedSteps → PrivilegedSteps) step_before
+abbrev pub before : PrivilegedStep → PrivilegedSteps → PrivilegedSteps
+before = fold-PrivilegedStep (PrivilegedSteps → PrivilegedSteps) step_before
 
 -- the steps of a vector in front of the rest
-abbrev pub all_before : List GateStep → PrivilegedSteps → PrivilegedSteps
+abbrev pub all_before : List PrivilegedStep → PrivilegedSteps → PrivilegedSteps
 all_before [] rest = rest
 all_before (s ∷ ss) rest = before s (all_before ss rest)
 
-abbrev pub steps_of : List GateStep → PrivilegedSteps
+abbrev pub steps_of : List PrivilegedStep → PrivilegedSteps
 steps_of ss = all_before ss End

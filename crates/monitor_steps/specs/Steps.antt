@@ -1,8 +1,8 @@
 -- The language of privileged steps. Lists work on r0 to r7, which are named by their numbers, and on what these point to.
 use Rattle.std.specs.Prelude.{ℕ, Bool, true, ◌&&◌, nat_lt}
 use Rattle.base_words.specs.declared.memory.Width.{Width}
-use Rattle.monitor_steps.specs.declared.steps.GateOp.{GateOp}
-use Rattle.monitor_steps.specs.declared.steps.GateCond.{GateCond}
+use Rattle.monitor_steps.specs.declared.steps.PrivilegedOp.{PrivilegedOp}
+use Rattle.monitor_steps.specs.declared.steps.PrivilegedCond.{PrivilegedCond}
 
 -- a list of steps: its first step, with the rest of the list behind it. What stands behind a halt, a return or a branch is
 -- code too, which is never run
@@ -15,13 +15,13 @@ pub data PrivilegedSteps : Type 0 where
   Load : (width : Width) (to base offset : ℕ) (rest : PrivilegedSteps) → PrivilegedSteps
   Store : (width : Width) (from base offset : ℕ) (rest : PrivilegedSteps) → PrivilegedSteps
   -- an operation on the registers a and b
-  Alu : (op : GateOp) (to a b : ℕ) (rest : PrivilegedSteps) → PrivilegedSteps
+  Alu : (op : PrivilegedOp) (to a b : ℕ) (rest : PrivilegedSteps) → PrivilegedSteps
   -- the process stack pointer, and CONTROL
   ReadPsp : (to : ℕ) (rest : PrivilegedSteps) → PrivilegedSteps
   WritePsp : (from : ℕ) (rest : PrivilegedSteps) → PrivilegedSteps
   WriteControl : (from : ℕ) (rest : PrivilegedSteps) → PrivilegedSteps
   -- one of two lists, by a comparison of the registers a and b; then the rest
-  Test : (cond : GateCond) (a b : ℕ) (if_true if_false rest : PrivilegedSteps) → PrivilegedSteps
+  Test : (cond : PrivilegedCond) (a b : ℕ) (if_true if_false rest : PrivilegedSteps) → PrivilegedSteps
   -- the body while the register `left` is not 0, one being taken off it behind each turn; at most `most` turns
   Repeat : (left most : ℕ) (body rest : PrivilegedSteps) → PrivilegedSteps
   -- BKPT; the exception return; a branch to the address in a register, with the link register from another

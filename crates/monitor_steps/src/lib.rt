@@ -4,4 +4,4 @@
 pub mod laws;
 pub mod steps;
 
-pub use steps::{GateCond, GateOp, GateStep};
+pub use steps::{PrivilegedCond, PrivilegedOp, PrivilegedStep};

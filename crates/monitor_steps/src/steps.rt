@@ -4,7 +4,7 @@ use base_words::memory::Width;
 
 /// An operation on two registers.
 #[derive(Clone, Copy, PartialEq, Eq, Debug)]
-pub enum GateOp {
+pub enum PrivilegedOp {
     /// The sum modulo 2^32.
     Add,
     /// The difference modulo 2^32.
@@ -21,7 +21,7 @@ pub enum GateOp {
 
 /// A comparison of two registers as unsigned numbers.
 #[derive(Clone, Copy, PartialEq, Eq, Debug)]
-pub enum GateCond {
+pub enum PrivilegedCond {
     /// Equal.
     Eq,
     /// Below.
@@ -32,7 +32,7 @@ pub enum GateCond {
 
 /// One step of privileged code (A7.7). It works on r0 to r7, which are named by their numbers.
 #[derive(Drop)]
-pub enum GateStep {
+pub enum PrivilegedStep {
     /// A number into a register (MOVW and MOVT).
     Const {
         to: u8,
@@ -60,7 +60,7 @@ pub enum GateStep {
     },
     /// What an operation on the registers `a` and `b` gives into a register.
     Alu {
-        op: GateOp,
+        op: PrivilegedOp,
         to: u8,
         a: u8,
         b: u8,
@@ -79,18 +79,18 @@ pub enum GateStep {
     },
     /// One of two lists, by a comparison of the registers `a` and `b`.
     Test {
-        cond: GateCond,
+        cond: PrivilegedCond,
         a: u8,
         b: u8,
-        yes: Vec<GateStep>,
-        no: Vec<GateStep>,
+        yes: Vec<PrivilegedStep>,
+        no: Vec<PrivilegedStep>,
     },
     /// A list while the register `left` isn't 0; one is taken off `left` behind each turn, of which there are at most
     /// `most`.
     Repeat {
         left: u8,
         most: u32,
-        body: Vec<GateStep>,
+        body: Vec<PrivilegedStep>,
     },
     /// The end of the machine, with a number (BKPT).
     Halt {

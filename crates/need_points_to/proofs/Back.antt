@@ -17,11 +17,11 @@ use Rattle.base_laws.proofs.Options.{guarded}
 use Rattle.base_laws.proofs.Lists.{sum_below as sum_more}
 
 -- a group, and a place in it
-pub record Spot : Type 0 where
+pub record GroupPlace : Type 0 where
   pub group : ℕ
   pub item : ℕ
 
-abbrev pub spot_at : List ℕ → ℕ → Spot
+abbrev pub spot_at : List ℕ → ℕ → GroupPlace
 spot_at [] k = record { group = 0; item = k }
 spot_at (c ∷ cs) k = if nat_lt k c then record { group = 0; item = k } else record { group = suc (spot_at cs (k - c)).group; item = (spot_at cs (k - c)).item }
 
@@ -42,7 +42,7 @@ spot_sum (c ∷ cs) (suc g) i k l e =
     let s = sum_by-cons (λ x. x) c (take g cs) in
     let q : sum (take g cs) + i ≡ k - c = omega arith in
     test_false (nat_lt k c) (record { group = 0; item = k }) (record { group = suc (spot_at cs (k - c)).group; item = (spot_at cs (k - c)).item }) (le-ltb k c (omega arith))
-    ∙ ap (λ (x : Spot). record { group = suc x.group; item = x.item }) (spot_sum cs g i (k - c) l q)
+    ∙ ap (λ (x : GroupPlace). record { group = suc x.group; item = x.item }) (spot_sum cs g i (k - c) l q)
 
 pub spot_is : (cs : List ℕ) (g i k : ℕ) → place_of cs g i ≡ Some k → spot_at cs k ≡ record { group = g; item = i }
 spot_is cs g i k e = let h = place_at cs g i k e in spot_sum cs g i k h.0 h.1
@@ -62,10 +62,10 @@ abbrev pub node_from : Numbering → ℕ → Node
 node_from c k = node_in c (spot_at c.nodes k).group (spot_at c.nodes k).item
 
 object_spot : (c : Numbering) (g i k : ℕ) → place_of c.objects g i ≡ Some k → object_from c k ≡ object_in c.funcs g i
-object_spot c g i k e = ap (λ (x : Spot). object_in c.funcs x.group x.item) (spot_is c.objects g i k e)
+object_spot c g i k e = ap (λ (x : GroupPlace). object_in c.funcs x.group x.item) (spot_is c.objects g i k e)
 
 node_spot : (c : Numbering) (g i k : ℕ) → place_of c.nodes g i ≡ Some k → node_from c k ≡ node_in c g i
-node_spot c g i k e = ap (λ (x : Spot). node_in c x.group x.item) (spot_is c.nodes g i k e)
+node_spot c g i k e = ap (λ (x : GroupPlace). node_in c x.group x.item) (spot_is c.nodes g i k e)
 
 pub object_back : (c : Numbering) (o : Object) (k : ℕ) → object_number c o ≡ Some k → object_from c k ≡ o
 object_back c (GlobalObject g) k e = object_spot c 0 g k e

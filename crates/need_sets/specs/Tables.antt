@@ -9,7 +9,7 @@ use Rattle.need_sets.specs.Numbers.{node_number, object_number}
 use Rattle.need_numbers.specs.Rows.{Lists, row, has}
 
 -- how many objects there are, and those of each node
-pub record Table : Type 0 where
+pub record ObjectRows : Type 0 where
   pub objects : ℕ
   pub rows : Lists
 

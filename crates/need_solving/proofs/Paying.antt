@@ -3,7 +3,7 @@ use Rattle.std.proofs.Common.{◌≡◌, ℕ, zero, suc, ◌+◌, ◌-◌, ◌*�
 use Rattle.std.proofs.Math.Nat.{mul-le-mul_left}
 use Rattle.std.proofs.lemmas.Bool.{cases_lt}
 use Rattle.need_numbers.specs.Rows.{Lists, row, added}
-use Rattle.need_sets.specs.Tables.{Table}
+use Rattle.need_sets.specs.Tables.{ObjectRows}
 use Rattle.need_sets.specs.declared.rules.Pair.{Pair}
 use Rattle.need_sets.specs.declared.rules.Edge.{Edge}
 use Rattle.need_solving.specs.declared.state.State.{State}
@@ -59,7 +59,7 @@ pub paid_link : (w : System) (s t u : State) (e : Edge) (m n : ℕ) → IsSoundS
     → n ≤ m + 1 + 2 * length (row s.pairs.rows e.from) → IsPaid s u m n
 unfolding cost
 paid_link w s t u e m n h c p l q z new b steps =
-    let k : length u.pairs.rows ≡ length s.pairs.rows = ap (λ (x : Table). length x.rows) p ∙ c.grown.count in
+    let k : length u.pairs.rows ≡ length s.pairs.rows = ap (λ (x : ObjectRows). length x.rows) p ∙ c.grown.count in
     let r = subst (λ y. total (charge s) (length s.pairs.rows) + (1 + 2 * length (row s.pairs.rows e.from)) ≤ total (charge u) y) (sym k)
     (total_one (charge s) (charge u) (length s.pairs.rows) e.from (1 + 2 * length (row s.pairs.rows e.from)) b (λ a. charge_grows s u a (edges a) (rows a) (ends a)) one) in
     record { paid = omega arith }
@@ -68,7 +68,7 @@ paid_link w s t u e m n h c p l q z new b steps =
     edges a = subst (λ (y : Lists). length (row s.edges a) ≤ length (row y a)) (sym q) (subst (λ (y : Lists). length (row y a) ≤ length (row (added t.edges e.from e.to) a)) c.edges (added_longer t.edges e.from e.to a))
 
     rows : (a : ℕ) → length (row s.pairs.rows a) ≤ length (row u.pairs.rows a)
-    rows a = subst (λ (y : Table). length (row s.pairs.rows a) ≤ length (row y.rows a)) (sym p) (c.grown.lengths a)
+    rows a = subst (λ (y : ObjectRows). length (row s.pairs.rows a) ≤ length (row y.rows a)) (sym p) (c.grown.lengths a)
 
     handled_is : (a : ℕ) → handled a s.next s.log ≡ handled a u.next u.log
     handled_is a = same_handled s t a c.grown h.next_in c.next ∙ sym (ap (λ k. handled a k u.log) z ∙ ap (λ (y : List Pair). handled a t.next y) l)
@@ -94,7 +94,7 @@ pub paid_pass : (s t u : State) (x : Pair) (m n : ℕ) → Grown s t → t.edges
     → n ≤ m + length (row s.edges x.node) → IsPaid s u m n
 unfolding cost
 paid_pass s t u x m n g ed nx l is p lo q z b steps =
-    let k : length u.pairs.rows ≡ length s.pairs.rows = ap (λ (y : Table). length y.rows) p ∙ g.count in
+    let k : length u.pairs.rows ≡ length s.pairs.rows = ap (λ (y : ObjectRows). length y.rows) p ∙ g.count in
     let r = subst (λ y. total (charge s) (length s.pairs.rows) + length (row s.edges x.node) ≤ total (charge u) y) (sym k)
     (total_one (charge s) (charge u) (length s.pairs.rows) x.node (length (row s.edges x.node)) b (λ a. charge_grows s u a (let w = edges_are a in omega arith) (rows a) (ends a)) one) in
     record { paid = omega arith }
@@ -103,7 +103,7 @@ paid_pass s t u x m n g ed nx l is p lo q z b steps =
     edges_are a = ap (λ (y : Lists). length (row y a)) (q ∙ ed)
 
     rows : (a : ℕ) → length (row s.pairs.rows a) ≤ length (row u.pairs.rows a)
-    rows a = subst (λ (y : Table). length (row s.pairs.rows a) ≤ length (row y.rows a)) (sym p) (g.lengths a)
+    rows a = subst (λ (y : ObjectRows). length (row s.pairs.rows a) ≤ length (row y.rows a)) (sym p) (g.lengths a)
 
     before : (a : ℕ) → handled a s.next s.log ≡ handled a t.next u.log
     before a = same_handled s t a g (omega arith) nx ∙ sym (ap (λ (y : List Pair). handled a t.next y) lo)

@@ -98,7 +98,7 @@ fn copy<L: Ledger>(
 }
 
 /// Passes a node on to another from now on.
-fn link<L: Ledger>(
+fn put_edge<L: Ledger>(
     system: &System,
     state: &mut State,
     edge: Edge,
@@ -171,7 +171,7 @@ fn pull<L: Ledger>(
     let Some(edge) = asked_edge(system, trigger, object) else {
         return Ok(());
     };
-    link(system, state, edge, steps)
+    put_edge(system, state, edge, steps)
 }
 
 /// Does what is asked for a pair.
@@ -251,7 +251,7 @@ fn put_copies<L: Ledger>(
 {
     for place in 0..system.rules.copies.len() {
         let edge = copy_at(system, place);
-        link(system, state, edge, steps)?;
+        put_edge(system, state, edge, steps)?;
     }
     Ok(())
 }

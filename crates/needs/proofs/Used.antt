@@ -35,14 +35,14 @@ inst_place (i ∷ is) t u h = by (Contains-append_cases (used i) (flat_map used 
     by (inl x) ih = (zero, x)
     by (inr x) ih = let y = ih x in (suc y.0, y.1)
 
-abbrev Place : List NumberedBlock → Use → Type 0
-Place bs u = (b : ℕ) × (k : ℕ) × UsedAt (here_in (get_or bs b no_block).insts (get_or bs b no_block).term k) u
+abbrev IsUsedIn : List NumberedBlock → Use → Type 0
+IsUsedIn bs u = (b : ℕ) × (k : ℕ) × UsedAt (here_in (get_or bs b no_block).insts (get_or bs b no_block).term k) u
 
-pub block_place : (bs : List NumberedBlock) (u : Use) → Contains (uses_in bs) u → Place bs u
+pub block_place : (bs : List NumberedBlock) (u : Use) → Contains (uses_in bs) u → IsUsedIn bs u
 block_place [] u h = absurd (in_none u h)
 block_place (x ∷ bs) u h = by (Contains-append_cases (flat_map used x.insts) (uses_in bs) u h) (λ r. block_place bs u r)
   where
-    by : Contains (flat_map used x.insts) u ⊎ Contains (uses_in bs) u → (Contains (uses_in bs) u → Place bs u) → Place (x ∷ bs) u
+    by : Contains (flat_map used x.insts) u ⊎ Contains (uses_in bs) u → (Contains (uses_in bs) u → IsUsedIn bs u) → IsUsedIn (x ∷ bs) u
     by (inl y) ih = let z = inst_place x.insts x.term u y in (zero, z.0, z.1)
     by (inr y) ih = let z = ih y in (suc z.0, z.1, z.2)
 

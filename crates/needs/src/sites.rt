@@ -18,7 +18,7 @@ use std::alloc::{AllocError, Global};
 
 /// Where an instruction stands.
 #[derive(Clone, Copy, PartialEq, Eq, Debug)]
-struct Place {
+struct InstPlace {
     /// The function.
     func: u32,
     /// The block of that function.
@@ -28,7 +28,7 @@ struct Place {
 }
 
 // A call of these functions.
-fn push(place: Place, targets: Vec<u32>, sites: &mut Vec<SiteNeed>) -> Result<(), AllocError>
+fn push(place: InstPlace, targets: Vec<u32>, sites: &mut Vec<SiteNeed>) -> Result<(), AllocError>
     ensures { OnOk result (sites.new.items ≡ sites.old.items ++ record { func = place.func; block = place.block; inst = place.inst; targets = targets.items } ∷ []) }
 {
     sites.push(SiteNeed {
@@ -42,7 +42,7 @@ fn push(place: Place, targets: Vec<u32>, sites: &mut Vec<SiteNeed>) -> Result<()
 
 fn push_site(
     alloc: Global,
-    place: Place,
+    place: InstPlace,
     operation: &Operation,
     targets: &[ListVec<u32>],
     sites: &mut Vec<SiteNeed>,
@@ -92,7 +92,7 @@ fn push_block_sites(
     let blocks = program.funcs.as_slice()[func].blocks.as_slice();
     let operations = blocks[block].operations.as_slice();
     for i in 0..operations.len() {
-        let place = Place {
+        let place = InstPlace {
             func: func as u32,
             block: block as u32,
             inst: i as u32,

@@ -18,7 +18,7 @@ use Rattle.plan_model.specs.FlashPlacement.{flash_needed}
 use Rattle.plan_model.specs.InitialGraph.{initial_graph}
 use Rattle.plan_model.specs.RamPlacement.{ram_needed}
 use Rattle.plan_model.specs.Placement.{Fits, plan_of}
-use Rattle.plan_limits.specs.Told.{told}
+use Rattle.plan_limits.specs.Told.{in_32_bits}
 use Rattle.code_model.specs.Planned.{sizes_of}
 use Rattle.plan_layout.specs.declared.refusal.PlaceRefusal.{PlaceRefusal}
 use Rattle.plan_layout.specs.declared.refusal.PlaceRefusal.TheVariants as place
@@ -55,7 +55,7 @@ unrefused p f s b r k h =
 abbrev GraphsAreOne : Type 0
 GraphsAreOne = (p : Program) (slots : ℕ) (g : Graph) (f h : Final) → IsMerged p slots g f → IsMerged p slots g h → f ≡ h
 
-no_limit : (o : Option (LimitKind × ℕ)) (x : LimitKind × ℕ) → o ≡ None → option_map told o ≡ Some x → ⊥
+no_limit : (o : Option (LimitKind × ℕ)) (x : LimitKind × ℕ) → o ≡ None → option_map in_32_bits o ≡ Some x → ⊥
 no_limit None x e h = cc
 no_limit (Some y) x e h = cc
 
@@ -102,7 +102,7 @@ one_error r e f a b = cc
 
 module _ (one : GraphsAreOne) (p : Program) (n : Needs) (g : Groups) (b : Board) where
   same_limit : (w v : LimitKind) (c d : ℕ) → IsPlanningRefusal p n g b (Limit w c) → IsPlanningRefusal p n g b (Limit v d) → Limit w c ≡ Limit v d
-  same_limit w v c d h k = ap (λ (x : LimitKind × ℕ). Limit x.0 x.1) (one_passed (option_map told (first_passed n g)) (w, c) (v, d) h k)
+  same_limit w v c d h k = ap (λ (x : LimitKind × ℕ). Limit x.0 x.1) (one_passed (option_map in_32_bits (first_passed n g)) (w, c) (v, d) h k)
 
   limit_or_room : (w : LimitKind) (c : ℕ) (r : PlaceRefusal) → IsPlanningRefusal p n g b (Limit w c) → HasNoRoom p n g b r → ⊥
   limit_or_room w c r h k = no_limit (first_passed n g) (w, c) k.limits h

@@ -14,7 +14,7 @@ use Rattle.plan_model.specs.FinalGraph.{IsFinal}
 use Rattle.plan_model.specs.FlashPlacement.{flash_needed}
 use Rattle.plan_model.specs.RamPlacement.{ram_needed}
 use Rattle.plan_model.specs.Placement.{Fits, plan_of}
-use Rattle.plan_limits.specs.Told.{told}
+use Rattle.plan_limits.specs.Told.{in_32_bits}
 use Rattle.code_model.specs.Planned.{sizes_of}
 use Rattle.plan_layout.specs.declared.refusal.PlaceRefusal.{PlaceRefusal}
 use Rattle.plan_layout.specs.Placing.{flash_refusal, ram_refusal}
@@ -65,7 +65,7 @@ planning_refused p n g b f (Room lack) l k d h = record { limits = l; graph = f;
 
 -- ---- where no limit is passed
 
-pub none_told : (o : Option (LimitKind × ℕ)) → None ≡ option_map told o → o ≡ None
+pub none_told : (o : Option (LimitKind × ℕ)) → None ≡ option_map in_32_bits o → o ≡ None
 none_told None e = refl
 none_told (Some x) e = cc
 

@@ -8,7 +8,7 @@ use Rattle.plan_model.specs.declared.plan.Board.{Board}
 use Rattle.plan_model.specs.Boards.{slots_of}
 use Rattle.plan_model.specs.CompileLimits.{KeepsLimits, first_passed}
 use Rattle.plan_model.specs.FinalGraph.{IsFinal}
-use Rattle.plan_limits.specs.Told.{told}
+use Rattle.plan_limits.specs.Told.{in_32_bits}
 use Rattle.code_model.specs.Planned.{sizes_of}
 use Rattle.plan_layout.specs.declared.refusal.PlaceRefusal.{PlaceRefusal}
 use Rattle.plan_layout.specs.declared.refusal.PlaceRefusal.TheVariants as place
@@ -45,7 +45,7 @@ pub record HasNoRoom (p : Program) (n : Needs) (g : Groups) (b : Board) (r : Pla
 -- a refusal for want of memory says nothing else
 abbrev pub IsPlanningRefusal : Program → Needs → Groups → Board → PlanningRefusal → Type 0
 IsPlanningRefusal p n g b NoMemory = Unit {0}
-IsPlanningRefusal p n g b (Limit k c) = option_map told (first_passed n g) ≡ Some (k, c)
+IsPlanningRefusal p n g b (Limit k c) = option_map in_32_bits (first_passed n g) ≡ Some (k, c)
 IsPlanningRefusal p n g b (Denied m) = AsksForDenied p n g b m
 IsPlanningRefusal p n g b (Room lack) = HasNoRoom p n g b (place.Room lack)
 

@@ -15,9 +15,9 @@ use Rattle.plan_board.specs.Keys.{word_of}
 use Rattle.plan_board.specs.Denied.{range_at, range_by, range_of, two_of, spot_of, with_range, ranges_of, named, ranges_in, table_ranges, ranges_by, denied_of}
 use Rattle.plan_board.specs.Fields.{board_of}
 use Rattle.plan_board.specs.Extra.{extra_of}
-use Rattle.plan_board.specs.Reading.{told, reading, reading_by, with_denied, IsFurther, IsFaultIn, IsFault, IsDocument}
+use Rattle.plan_board.specs.Reading.{board_fault, reading, reading_by, with_denied, IsFurther, IsFaultIn, IsFault, IsDocument}
 
-pub key_refused : (ms : Members) (f : KeyFault) → Err f ≡ board_of ms → IsFaultIn ms (told f)
+pub key_refused : (ms : Members) (f : KeyFault) → Err f ≡ board_of ms → IsFaultIn ms (board_fault f)
 unfolding reading
 key_refused ms (Missing k) e = ap (λ r. reading_by (with_denied r (denied_of ms)) (extra_of ms)) (sym e)
 key_refused ms (Kind k) e = ap (λ r. reading_by (with_denied r (denied_of ms)) (extra_of ms)) (sym e)

@@ -13,14 +13,14 @@ use Rattle.plan_board.specs.Denied.{denied_of}
 use Rattle.plan_board.specs.Extra.{extra_of}
 
 -- the fault of a key
-abbrev pub told : KeyFault → BoardFault
-told (at_key.Missing k) = Missing k
-told (at_key.Kind k) = Kind k
-told (at_key.Range k) = Range k
+abbrev pub board_fault : KeyFault → BoardFault
+board_fault (at_key.Missing k) = Missing k
+board_fault (at_key.Kind k) = Kind k
+board_fault (at_key.Range k) = Range k
 
 -- what is denied is tested behind the other fields
 abbrev pub with_denied : Result Board KeyFault → Result (List Denied) BoardFault → Result Board BoardFault
-with_denied (Err e) denied = Err (told e)
+with_denied (Err e) denied = Err (board_fault e)
 with_denied (Ok b) (Err e) = Err e
 with_denied (Ok b) (Ok ds) = Ok (record b { denied = ds })
 

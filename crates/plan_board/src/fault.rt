@@ -28,9 +28,9 @@ pub enum BoardFault {
 
 impl From<KeyFault> for BoardFault {
     ghost use Rattle.std.specs.Prelude.{◌≡◌};
-    ghost use Rattle.plan_board.specs.Reading.{told};
+    ghost use Rattle.plan_board.specs.Reading.{board_fault};
 
-    ghost from_gives = { λ fault e. e ≡ told fault };
+    ghost from_gives = { λ fault e. e ≡ board_fault fault };
 
     fn from(fault: KeyFault) -> Self {
         match fault {

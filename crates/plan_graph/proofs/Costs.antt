@@ -7,7 +7,7 @@ use Rattle.std.proofs.lemmas.Grind.{common_steps}
 use Rattle.std.proofs.lemmas.Bool.{cases_lt}
 use mathlib.Core.Logic.{⊎_elim}
 use Rattle.ir_model.specs.Resolved.{Program}
-use Rattle.plan_model.specs.declared.graph.Region.{Region}
+use Rattle.plan_model.specs.declared.graph.DataRegion.{DataRegion}
 use Rattle.plan_model.specs.Exposure.{added_exposure}
 use Rattle.plan_model.specs.Lists.{numbers_below}
 use Rattle.plan_graph.specs.declared.known.Known.{Known}
@@ -75,7 +75,7 @@ module _ (ks : List Known) (costs : List (List ℕ)) (one other high low : ℕ) 
       let long = ap length (row_at ks costs high row h there e) ∙ row_length ks high there in
       omega arith
 
-  pub cost_read : (p : Program) (a b : Region) (cost : ℕ) → IsLearned p ks a one → IsLearned p ks b other → cost ≡ get_or row low 0 → cost ≡ added_exposure p a b
+  pub cost_read : (p : Program) (a b : DataRegion) (cost : ℕ) → IsLearned p ks a one → IsLearned p ks b other → cost ≡ get_or row low 0 → cost ≡ added_exposure p a b
   cost_read p a b cost m n c =
       let u = m.below in
       let v = n.below in

@@ -2,7 +2,7 @@
 use Rattle.std.proofs.Common.{◌≡◌, ℕ, ◌+◌, ◌*◌, Bool, not, List, length, get_or, false, ap, ◌∙◌, arith}
 use Rattle.std.proofs.lemmas.List.Elements.{filter_agree}
 use Rattle.ir_model.specs.Resolved.{Program}
-use Rattle.plan_model.specs.declared.graph.Region.{Region}
+use Rattle.plan_model.specs.declared.graph.DataRegion.{DataRegion}
 use Rattle.plan_model.specs.Lists.{has, without}
 use Rattle.plan_model.specs.Regions.{users, size_of}
 use Rattle.plan_model.specs.Exposure.{added_exposure, exposure_to_writers}
@@ -18,7 +18,7 @@ alone ms ns xs flags size bytes h e s =
     ap (λ k. k * length (unflagged xs flags)) s
     ∙ (ap (λ ys. bytes * length (unflagged ys flags)) e ∙ ap (λ ys. bytes * length ys) (unflagged_are ns ms flags h))
 
-pub exposure_is : (p : Program) (a b : Region) (x y : Known) → IsKnown p a x → IsKnown p b y → exposure_of x y ≡ added_exposure p a b
+pub exposure_is : (p : Program) (a b : DataRegion) (x y : Known) → IsKnown p a x → IsKnown p b y → exposure_of x y ≡ added_exposure p a b
 unfolding exposure_of added_exposure
 exposure_is p a b x y h k =
     let one = alone a.writers b.writers y.writers x.writes x.size (size_of p a.globals) h.writes k.writers h.size in

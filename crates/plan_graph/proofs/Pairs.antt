@@ -4,7 +4,7 @@ use Rattle.std.specs.List.{All, best_of, range_with_len}
 use Rattle.std.proofs.lemmas.List.Elements.{All-nil, All-head, All-tail, All-append, All-map, All-weaker, All-filter, All-from_get_or}
 use Rattle.std.proofs.lemmas.List.FromFn.{length-range_with_len, get_or-range_with_len}
 use Rattle.ir_model.specs.Resolved.{Program}
-use Rattle.plan_model.specs.declared.graph.Region.{Region}
+use Rattle.plan_model.specs.declared.graph.DataRegion.{DataRegion}
 use Rattle.plan_model.specs.declared.graph.Cover.{Cover}
 use Rattle.plan_model.specs.Choices.{Pair, pairs, cheapest}
 use Rattle.plan_model.specs.Lists.{numbers_below}
@@ -41,14 +41,14 @@ module _ (Q : ℕ → Type 0) where
 
 -- ---- two data regions
 
-pub record AreRegions (rs : List Region) (q : Pair) : Type 0 where
+pub record AreRegions (rs : List DataRegion) (q : Pair) : Type 0 where
   pub first : q.first < length rs
   pub second : q.second < length rs
 
-pub used_below : (rs : List Region) (c : ℕ) → All (λ r. r < length rs) (regions_used rs c)
+pub used_below : (rs : List DataRegion) (c : ℕ) → All (λ r. r < length rs) (regions_used rs c)
 used_below rs c = All-filter (λ r. is_user c (region_at rs r)) (λ r. r < length rs) (numbers_below (length rs)) (all_below (length rs))
 
-pub region_pair_among : (p : Program) (rs : List Region) (c : ℕ) → IfSome (region_pair p rs c) (AreRegions rs)
+pub region_pair_among : (p : Program) (rs : List DataRegion) (c : ℕ) → IfSome (region_pair p rs c) (AreRegions rs)
 region_pair_among p rs c =
     cheapest_among (AreRegions rs) (region_cost p rs) (pairs (regions_used rs c))
     (All-weaker (Both (λ r. r < length rs)) (AreRegions rs) (λ q h. record { first = h.0; second = h.1 }) (pairs (regions_used rs c)) (pairs_among (λ r. r < length rs) (regions_used rs c) (used_below rs c)))
@@ -79,7 +79,7 @@ cover_pair_among cs =
 
 -- ---- by what the code has chosen
 
-pub regions_chosen : (p : Program) (rs : List Region) (c : ℕ) (choice : Choice) → option_map pair_of (Some choice) ≡ region_pair p rs c → AreRegions rs (pair_of choice)
+pub regions_chosen : (p : Program) (rs : List DataRegion) (c : ℕ) (choice : Choice) → option_map pair_of (Some choice) ≡ region_pair p rs c → AreRegions rs (pair_of choice)
 regions_chosen p rs c choice e = subst (λ o. IfSome o (AreRegions rs)) (sym e) (region_pair_among p rs c)
 
 pub covers_chosen : (cs : List Cover) (choice : Choice) → option_map pair_of (Some choice) ≡ cover_pair cs → AreCovers 0 (length cs) (pair_of choice)

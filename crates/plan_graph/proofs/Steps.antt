@@ -8,7 +8,7 @@ use Rattle.std.proofs.lemmas.List.Edits.{length-remove}
 use Rattle.std.proofs.lemmas.List.Sums.{sum_by-set}
 use Rattle.ir_model.specs.Resolved.{Program}
 use Rattle.plan_model.specs.declared.graph.Graph.{Graph}
-use Rattle.plan_model.specs.declared.graph.Region.{Region}
+use Rattle.plan_model.specs.declared.graph.DataRegion.{DataRegion}
 use Rattle.plan_model.specs.declared.graph.Cover.{Cover}
 use Rattle.plan_model.specs.Choices.{Pair}
 use Rattle.plan_model.specs.Merging.{first_too_rich, relieved_if, relieved, region_pair, cover_pair, covers_at, joined_region, with_joined_regions, with_joined_cover, with_joined_covers, next}
@@ -38,7 +38,7 @@ covers_next p slots g c e f = ap (relieved_if p g) e ∙ ap (relieved p g c) f
 
 pub fewer_regions : (g : Graph) (q : Pair) → AreRegions g.regions q → parts_of (with_joined_regions g q) < parts_of g
 fewer_regions g q h =
-    let joined : Region = joined_region (region_at g.regions q.first) (region_at g.regions q.second) in
+    let joined : DataRegion = joined_region (region_at g.regions q.first) (region_at g.regions q.second) in
     let same = length-set g.regions q.first joined in
     let there : q.second < length (set g.regions q.first joined) = let l = h.second in omega arith in
     let less = length-remove (set g.regions q.first joined) q.second there in

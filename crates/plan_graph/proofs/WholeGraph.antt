@@ -7,7 +7,7 @@ use Rattle.std.proofs.lemmas.List.FromFn.{length-range_with_len, get_or-range_wi
 use Rattle.ir_model.specs.Resolved.{Program}
 use Rattle.plan_model.specs.declared.needs.Needs.{Needs}
 use Rattle.plan_model.specs.declared.groups.Groups.{Groups}
-use Rattle.plan_model.specs.declared.graph.Region.{Region}
+use Rattle.plan_model.specs.declared.graph.DataRegion.{DataRegion}
 use Rattle.plan_model.specs.declared.graph.Cover.{Cover}
 use Rattle.plan_model.specs.declared.graph.Graph.{Graph}
 use Rattle.plan_model.specs.InitialGraph.{Users, users_of, has_users, same_users, region_for, data_regions, unwritten, covers_of, mask_of, read_mask_of, initial_graph}
@@ -56,10 +56,10 @@ regions_are : (p : Program) (n : Needs) (g : Groups) (all : List UserLists) → 
 regions_are p n g all known =
     ap (λ us. map (region_seen all) (distinct same_users (filter has_users us))) known
     ∙ map_alike (region_seen all) (region_for p n g) (distinct same_users (filter has_users (map (users_of n g) (numbers_below (length p.globals)))))
-    (λ u. ap (λ (xs : List ℕ). let r : Region = record { globals = xs; writers = u.writers; readers = u.readers } in r) (members_are all (users_of n g) (length p.globals) known u))
+    (λ u. ap (λ (xs : List ℕ). let r : DataRegion = record { globals = xs; writers = u.writers; readers = u.readers } in r) (members_are all (users_of n g) (length p.globals) known u))
 
 -- all of it
-pub graph_is : (p : Program) (n : Needs) (g : Groups) (all : List UserLists) (count : ℕ) (rs : List Region) (un : List ℕ) (cs : List (List Cover)) (ms reads : List ℕ)
+pub graph_is : (p : Program) (n : Needs) (g : Groups) (all : List UserLists) (count : ℕ) (rs : List DataRegion) (un : List ℕ) (cs : List (List Cover)) (ms reads : List ℕ)
     → map users_seen all ≡ map (users_of n g) (numbers_below count) → count ≡ length p.globals
     → rs ≡ map (region_seen all) (distinct same_users (filter has_users (map users_seen all))) → un ≡ without_users all
     → cs ≡ map (covers_of p n g) (numbers_below g.count) → ms ≡ map (mask_of n g) (numbers_below g.count) → reads ≡ map (read_mask_of n g) (numbers_below g.count)
@@ -69,7 +69,7 @@ graph_is p n g all count rs un cs ms reads known size r u c m e =
     let all_known : map users_seen all ≡ map (users_of n g) (numbers_below (length p.globals)) = known ∙ ap (λ k. map (users_of n g) (numbers_below k)) size in
     let regions : rs ≡ data_regions p n g = r ∙ regions_are p n g all all_known in
     let rest : un ≡ unwritten p n g = u ∙ without_are all (users_of n g) (length p.globals) all_known in
-    ap (λ (x : List Region). let h : Graph = record { groups = g; regions = x; unwritten = un; covers = cs; masks = ms; reads = reads } in h) regions
+    ap (λ (x : List DataRegion). let h : Graph = record { groups = g; regions = x; unwritten = un; covers = cs; masks = ms; reads = reads } in h) regions
     ∙ (ap (λ (x : List ℕ). let h : Graph = record { groups = g; regions = data_regions p n g; unwritten = x; covers = cs; masks = ms; reads = reads } in h) rest
     ∙ (ap (λ (x : List (List Cover)). let h : Graph = record { groups = g; regions = data_regions p n g; unwritten = unwritten p n g; covers = x; masks = ms; reads = reads } in h) c
     ∙ (ap (λ (x : List ℕ). let h : Graph = record { groups = g; regions = data_regions p n g; unwritten = unwritten p n g; covers = map (covers_of p n g) (numbers_below g.count); masks = x; reads = reads } in h) m

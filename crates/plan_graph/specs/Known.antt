@@ -3,7 +3,7 @@
 use Rattle.std.specs.Prelude.{◌≡◌, ℕ, ◌<◌, ◌+◌, ◌*◌, Bool, false, not, List, [], length, map, filter, get_or, take}
 use Rattle.std.specs.List.{AllZip}
 use Rattle.ir_model.specs.Resolved.{Program}
-use Rattle.plan_model.specs.declared.graph.Region.{Region}
+use Rattle.plan_model.specs.declared.graph.DataRegion.{DataRegion}
 use Rattle.plan_model.specs.Lists.{numbers_below, has}
 use Rattle.plan_model.specs.Regions as regions
 use Rattle.plan_graph.specs.declared.known.Known.{Known}
@@ -17,7 +17,7 @@ abbrev pub unflagged : (numbers : List ℕ) → (flags : List Bool) → List ℕ
 unflagged ns flags = filter (λ n. not (get_or flags n false)) ns
 
 -- the size, the writers and the users of a region
-pub record IsKnown (p : Program) (r : Region) (k : Known) : Type 0 where
+pub record IsKnown (p : Program) (r : DataRegion) (k : Known) : Type 0 where
   pub size : k.size ≡ regions.size_of p r.globals
   pub writers : k.writers ≡ r.writers
   pub users : k.users ≡ regions.users r
@@ -46,10 +46,10 @@ abbrev pub AreCosts : List Known → (costs : List (List ℕ)) → Type 0
 AreCosts ks costs = costs ≡ map (row_of ks) (numbers_below (length ks))
 
 -- a region is known under a number
-pub record IsLearned (p : Program) (ks : List Known) (r : Region) (n : ℕ) : Type 0 where
+pub record IsLearned (p : Program) (ks : List Known) (r : DataRegion) (n : ℕ) : Type 0 where
   pub below : n < length ks
   pub known : IsKnown p r (known_at ks n)
 
 -- each of these regions under its number
-abbrev pub AreLearned : Program → List Known → List Region → (numbers : List ℕ) → Type 0
+abbrev pub AreLearned : Program → List Known → List DataRegion → (numbers : List ℕ) → Type 0
 AreLearned p ks rs ns = AllZip (IsLearned p ks) rs ns

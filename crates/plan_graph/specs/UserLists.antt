@@ -1,7 +1,7 @@
 -- Beyond the program's claim: only laws, proofs and functions inside the tool cite this file.
 -- The users of globals as the definition's.
 use Rattle.std.specs.Prelude.{ℕ, not, List, [], length, map, filter, get_or}
-use Rattle.plan_model.specs.declared.graph.Region.{Region}
+use Rattle.plan_model.specs.declared.graph.DataRegion.{DataRegion}
 use Rattle.plan_model.specs.InitialGraph.{Users, has_users, same_users}
 use Rattle.plan_model.specs.Lists.{numbers_below}
 use Rattle.plan_graph.specs.declared.users.UserLists.{UserLists}
@@ -26,5 +26,5 @@ abbrev pub without_users : List UserLists → List ℕ
 without_users all = filter (λ x. not (has_users (users_at all x))) (numbers_below (length all))
 
 -- the region of the globals that have these users
-abbrev pub region_seen : List UserLists → Users → Region
+abbrev pub region_seen : List UserLists → Users → DataRegion
 region_seen all u = record { globals = members all u; writers = u.writers; readers = u.readers }

@@ -8,7 +8,7 @@ ghost use Rattle.plan_graph.specs.Known.{IsKnown, exposure_of};
 use crate::flags::{count_unflagged, flags, united};
 use base_lists::ListVec;
 use ir_program::program::Program;
-use plan_model::graph::Region;
+use plan_model::graph::DataRegion;
 use std::alloc::{AllocError, Global};
 
 /// What the cost of a region's joins depends on.
@@ -58,7 +58,7 @@ fn size(program: &Program, globals: &[u32]) -> Option<u64>
 pub(crate) fn known_of(
     alloc: Global,
     program: &Program,
-    region: &Region,
+    region: &DataRegion,
 ) -> Result<Known, AllocError>
     ensures { IfOk result (λ known. IsKnown (program_of program.now) region.now known) }
 {

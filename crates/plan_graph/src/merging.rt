@@ -16,7 +16,7 @@ use crate::joined::{cover_pair, joined, with_cover};
 use crate::known::{Known, exposure, known_of};
 use base_lists::ListVec;
 use ir_program::program::Program;
-use plan_model::graph::{Cover, Graph, Region};
+use plan_model::graph::{Cover, DataRegion, Graph};
 use std::alloc::{AllocError, Global};
 use std::mem::replace;
 
@@ -56,7 +56,7 @@ fn learn(
     program: &Program,
     known: &mut Vec<Known>,
     costs: &mut Vec<ListVec<u64>>,
-    region: &Region,
+    region: &DataRegion,
 ) -> Result<usize, AllocError>
     requires { AreCosts known.old.items costs.old.items }
     ensures costs { OnOk result (AreCosts known.new.items costs.new.items) }
@@ -71,13 +71,17 @@ fn learn(
 }
 
 /// The region of two: the globals, the writers and the readers of both.
-fn joined_region(alloc: Global, one: &Region, other: &Region) -> Result<Region, AllocError>
+fn joined_region(
+    alloc: Global,
+    one: &DataRegion,
+    other: &DataRegion,
+) -> Result<DataRegion, AllocError>
     ensures { IfOk result (λ region. region ≡ merging.joined_region one.now other.now) }
 {
     let globals = united(alloc, one.globals.as_slice(), other.globals.as_slice())?;
     let writers = united(alloc, one.writers.as_slice(), other.writers.as_slice())?;
     let readers = united(alloc, one.readers.as_slice(), other.readers.as_slice())?;
-    Ok(Region {
+    Ok(DataRegion {
         globals: ListVec::new(globals),
         writers: ListVec::new(writers),
         readers: ListVec::new(readers),

@@ -8,7 +8,7 @@ ghost use Rattle.plan_graph.specs.UserLists.{users_seen, members, without_users,
 
 use crate::users::UserLists;
 use base_lists::ListVec;
-use plan_model::graph::Region;
+use plan_model::graph::DataRegion;
 use std::alloc::{AllocError, Global};
 
 /// Whether a compartment reaches the globals of these users.
@@ -96,13 +96,13 @@ pub(crate) fn unwritten(alloc: Global, all: &[UserLists]) -> Result<Vec<u32>, Al
     Ok(globals)
 }
 
-fn region(alloc: Global, all: &[UserLists], kind: &UserLists) -> Result<Region, AllocError>
+fn region(alloc: Global, all: &[UserLists], kind: &UserLists) -> Result<DataRegion, AllocError>
     ensures { IfOk result (λ region. region ≡ region_seen all.now (users_seen kind.now)) }
 {
     let globals = globals_of(alloc, all, kind)?;
     let writers = Vec::from_slice(alloc, kind.writers.as_slice())?;
     let readers = Vec::from_slice(alloc, kind.readers.as_slice())?;
-    Ok(Region {
+    Ok(DataRegion {
         globals: ListVec::new(globals),
         writers: ListVec::new(writers),
         readers: ListVec::new(readers),
@@ -114,7 +114,7 @@ fn region(alloc: Global, all: &[UserLists], kind: &UserLists) -> Result<Region, 
 /// # Errors
 ///
 /// There is no memory for them.
-pub(crate) fn regions(alloc: Global, all: &[UserLists]) -> Result<Vec<Region>, AllocError>
+pub(crate) fn regions(alloc: Global, all: &[UserLists]) -> Result<Vec<DataRegion>, AllocError>
     ensures { IfOk result (λ regions. regions.items ≡ map (region_seen all.now) (distinct same_users (filter has_users (map users_seen all.now)))) }
 {
     let kinds = different(alloc, all)?;

@@ -2,7 +2,7 @@
 use Rattle.std.proofs.Common.{◌≡◌, ℕ, Bool, true, false, not, cond, ◌||◌, List, [], ◌∷◌, ◌++◌, Option, Some, None, min, nat_lt, nat_eq, refl, sym, ap, ◌∙◌, ltb-true, ltb-false, eqb-true, arith}
 use Rattle.std.specs.List.{fold}
 use Rattle.std.proofs.lemmas.List.Sums.{fold-append}
-use Rattle.plan_model.specs.declared.graph.Region.{Region}
+use Rattle.plan_model.specs.declared.graph.DataRegion.{DataRegion}
 use Rattle.plan_model.specs.Choices.{first_of}
 use Rattle.plan_model.specs.Lists.{placed, in_order, has, without}
 use Rattle.plan_model.specs.Regions.{users}
@@ -86,6 +86,6 @@ least_without ns (m ∷ ms) = by (has ns m) refl (least_without ns ms)
     by false e ih = joined (without ms ns) ∙ (front (without ms ns) ∙ (ap (lesser (Some m)) ih ∙ sym (joined ms ∙ front ms)))
 
 -- the lowest user of a region
-pub lowest_is : (r : Region) → lesser (least r.writers) (least r.readers) ≡ first_of (users r)
+pub lowest_is : (r : DataRegion) → lesser (least r.writers) (least r.readers) ≡ first_of (users r)
 lowest_is r =
     sym (first_in_order (r.writers ++ without r.readers r.writers) ∙ (least_append r.writers (without r.readers r.writers) ∙ least_without r.writers r.readers))

@@ -2,7 +2,7 @@
 use Rattle.std.proofs.Common.{◌≡◌, Bool, true, false, cond, List, [], ◌∷◌, map, nat_lt, refl, ap, ◌∙◌}
 use Rattle.plan_model.specs.Lists.{placed, in_order}
 use Rattle.plan_model.specs.RamBlocks.{RamBlock, falling}
-use Rattle.plan_layout.specs.declared.ram.Block.{Block}
+use Rattle.plan_layout.specs.declared.ram.UsedBlock.{UsedBlock}
 use Rattle.plan_layout.specs.Filling.{block_seen}
 
 module _ {X Y : Type 0} (f : X → Y) (p : X → X → Bool) (q : Y → Y → Bool) (same : (a b : X) → p a b ≡ q (f a) (f b)) where
@@ -18,5 +18,5 @@ module _ {X Y : Type 0} (f : X → Y) (p : X → X → Bool) (q : Y → Y → Bo
   in_order_mapped [] = refl
   in_order_mapped (x ∷ xs) = placed_mapped x (in_order p xs) ∙ ap (placed q (f x)) (in_order_mapped xs)
 
-pub falling_seen : (bs : List Block) → map block_seen (in_order (λ (a b : Block). nat_lt b.size a.size) bs) ≡ falling (map block_seen bs)
-falling_seen bs = in_order_mapped block_seen (λ (a b : Block). nat_lt b.size a.size) (λ (a b : RamBlock). nat_lt b.size a.size) (λ a b. refl) bs
+pub falling_seen : (bs : List UsedBlock) → map block_seen (in_order (λ (a b : UsedBlock). nat_lt b.size a.size) bs) ≡ falling (map block_seen bs)
+falling_seen bs = in_order_mapped block_seen (λ (a b : UsedBlock). nat_lt b.size a.size) (λ (a b : RamBlock). nat_lt b.size a.size) (λ a b. refl) bs

@@ -7,12 +7,12 @@ use Rattle.ir_model.specs.Layout.{rounded_up}
 use Rattle.plan_model.specs.Lists.{numbers_below}
 use Rattle.plan_model.specs.Blocks.{has_eighths, open_eighths}
 use Rattle.ir_model.specs.Resolved.{Program}
-use Rattle.plan_model.specs.declared.graph.Region.{Region}
+use Rattle.plan_model.specs.declared.graph.DataRegion.{DataRegion}
 use Rattle.plan_model.specs.declared.graph.Final.{Final}
 use Rattle.plan_model.specs.RamBlocks.{RamBlock, ForStack, ForMonitor, holds_globals, full_block, region_block, unwritten_block, other_blocks, ram_blocks}
 use Rattle.plan_model.specs.RamPlacement as definition
 use Rattle.plan_model.specs.RamPlacement.{Ram, PlacedBlock, no_tail, tail_of, fits, tail_for, spot_at, with_block_in}
-use Rattle.plan_layout.specs.declared.ram.Block.{Block}
+use Rattle.plan_layout.specs.declared.ram.UsedBlock.{UsedBlock}
 use Rattle.plan_layout.specs.declared.ram.Tail.{Tail}
 use Rattle.plan_layout.specs.Filling.{block_seen, tail_seen}
 use Rattle.plan_layout.proofs.Searches.{position_is}
@@ -91,19 +91,19 @@ in_tail used k base ts us t b ls seen r w =
 -- ---- all blocks
 
 -- the monitor's block, and what is put behind it
-pub other_blocks_are : (p : Program) (f : Final) (m : Block) (first regions all : List Block) (rs : List Region) (un : List ℕ) → first ≡ m ∷ []
+pub other_blocks_are : (p : Program) (f : Final) (m : UsedBlock) (first regions all : List UsedBlock) (rs : List DataRegion) (un : List ℕ) → first ≡ m ∷ []
     → block_seen m ≡ full_block ForMonitor 1024 → rs ≡ f.regions → un ≡ f.unwritten → map block_seen regions ≡ map block_seen first ++ map (region_block p rs) (numbers_below (length rs))
     → map block_seen all ≡ map block_seen regions ++ unwritten_block p un → map block_seen all ≡ other_blocks p f
 other_blocks_are p f m first regions all rs un v b e g r w =
     w
     ∙ (ap (λ (xs : List RamBlock). xs ++ unwritten_block p un) r
-    ∙ (ap (λ (xs : List Block). (map block_seen xs ++ map (region_block p rs) (numbers_below (length rs))) ++ unwritten_block p un) v
+    ∙ (ap (λ (xs : List UsedBlock). (map block_seen xs ++ map (region_block p rs) (numbers_below (length rs))) ++ unwritten_block p un) v
     ∙ (ap (λ (x : RamBlock). x ∷ (map (region_block p rs) (numbers_below (length rs)) ++ unwritten_block p un)) b
-    ∙ (ap (λ (xs : List Region). full_block ForMonitor 1024 ∷ (map (region_block p xs) (numbers_below (length xs)) ++ unwritten_block p un)) e
+    ∙ (ap (λ (xs : List DataRegion). full_block ForMonitor 1024 ∷ (map (region_block p xs) (numbers_below (length xs)) ++ unwritten_block p un)) e
     ∙ ap (λ (xs : List ℕ). full_block ForMonitor 1024 ∷ (map (region_block p f.regions) (numbers_below (length f.regions)) ++ unwritten_block p xs)) g))))
 
 -- the stack before them
-pub ram_blocks_are : (p : Program) (f : Final) (stack : ℕ) (s : Block) (others all : List Block) → all ≡ s ∷ others → block_seen s ≡ full_block ForStack stack → map block_seen others ≡ other_blocks p f
+pub ram_blocks_are : (p : Program) (f : Final) (stack : ℕ) (s : UsedBlock) (others all : List UsedBlock) → all ≡ s ∷ others → block_seen s ≡ full_block ForStack stack → map block_seen others ≡ other_blocks p f
     → map block_seen all ≡ ram_blocks p f stack
 unfolding ram_blocks
 ram_blocks_are p f stack s others all v a e =

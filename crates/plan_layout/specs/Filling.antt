@@ -6,7 +6,7 @@ use Rattle.plan_model.specs.RamBlocks.{RamUse, RamBlock, ForStack, ForMonitor, F
 use Rattle.plan_model.specs.RamPlacement as definition
 use Rattle.plan_layout.specs.declared.ram.Purpose.{Purpose}
 use Rattle.plan_layout.specs.declared.ram.Purpose.TheVariants.{Stack, Monitor, Region, Unwritten}
-use Rattle.plan_layout.specs.declared.ram.Block.{Block}
+use Rattle.plan_layout.specs.declared.ram.UsedBlock.{UsedBlock}
 use Rattle.plan_layout.specs.declared.ram.Tail.{Tail}
 use Rattle.plan_layout.specs.declared.filled.Located.{Located}
 use Rattle.plan_layout.specs.declared.filled.Filled.{Filled}
@@ -17,7 +17,7 @@ use_seen Monitor = ForMonitor
 use_seen (Region r) = ForRegion r
 use_seen Unwritten = ForUnwritten
 
-abbrev pub block_seen : Block → RamBlock
+abbrev pub block_seen : UsedBlock → RamBlock
 block_seen b = record { use_of = use_seen b.purpose; bytes = b.bytes; size = b.size }
 
 abbrev pub tail_seen : Tail → definition.Tail

@@ -4,7 +4,7 @@ ghost use Rattle.std.specs.Prelude.{◌≡◌, ◌+◌, ◌<◌, ◌^◌, ◌++�
 ghost use Rattle.plan_model.specs.RamPlacement as placement;
 ghost use Rattle.plan_layout.specs.Filling.{use_seen, block_seen, tail_seen, ram_seen, filled_by};
 
-use crate::ram::{Block, Purpose, Tail};
+use crate::ram::{Purpose, Tail, UsedBlock};
 use ir_rounding::rounded_up;
 use plan_model::Spot;
 use std::alloc::{AllocError, Global};
@@ -60,7 +60,7 @@ fn put_tail(tails: &mut Vec<Tail>, number: usize, tail: Tail)
 
 impl Filled {
     /// A block at its base, and its own tail behind the others.
-    fn add(&mut self, base: u32, block: Block) -> Result<(), AllocError>
+    fn add(&mut self, base: u32, block: UsedBlock) -> Result<(), AllocError>
         requires { base + block.size < 2 ^ 32 }
         ensures { IfOk result (λ _. ram_seen self.new ≡ record (ram_seen self.old) { tails = map tail_seen self.old.tails.items ++ placement.tail_of base (block_seen block); blocks = (ram_seen self.old).blocks ++ placement.spot_at base (block_seen block) ∷ [] }) }
     {
@@ -77,7 +77,7 @@ impl Filled {
     }
 
     /// A block behind those outside tails; RAM begins at an address.
-    fn add_behind(&mut self, ram: u32, block: Block) -> Result<(), AllocError>
+    fn add_behind(&mut self, ram: u32, block: UsedBlock) -> Result<(), AllocError>
         ensures { IfOk result (λ _. ram_seen self.new ≡ placement.with_block_behind ram (ram_seen self.old) (block_seen block)) }
     {
         let end = u64::from(ram) + u64::from(self.used) + u64::from(block.size);
@@ -90,7 +90,7 @@ impl Filled {
     }
 
     /// A block in the tail of a number.
-    fn add_in(&mut self, number: usize, block: Block) -> Result<(), AllocError>
+    fn add_in(&mut self, number: usize, block: UsedBlock) -> Result<(), AllocError>
         requires there { number < length self.old.tails.items }
         requires fits { placement.fits block.size (get_or (map tail_seen self.old.tails.items) number placement.no_tail) ≡ true }
         ensures { IfOk result (λ _. ram_seen self.new ≡ placement.with_block_in (ram_seen self.old) number (get_or (map tail_seen self.old.tails.items) number placement.no_tail) (block_seen block)) }
@@ -108,7 +108,7 @@ impl Filled {
     }
 
     /// One block more; RAM begins at an address.
-    fn add_block(&mut self, ram: u32, block: Block) -> Result<(), AllocError>
+    fn add_block(&mut self, ram: u32, block: UsedBlock) -> Result<(), AllocError>
         ensures { IfOk result (λ _. ram_seen self.new ≡ placement.with_block ram (ram_seen self.old) (block_seen block)) }
     {
         match block.tail_in(&self.tails) {
@@ -142,7 +142,7 @@ fn empty(alloc: Global) -> Filled
 }
 
 /// The greatest of a size and the sizes of blocks.
-fn largest_with(size: u32, blocks: &[Block]) -> u32
+fn largest_with(size: u32, blocks: &[UsedBlock]) -> u32
     ensures { result ≡ placement.largest_with size (map block_seen blocks.now) }
 {
     let mut most = size;
@@ -154,7 +154,12 @@ fn largest_with(size: u32, blocks: &[Block]) -> u32
 
 /// RAM with the stack alone, which stands where RAM begins, with room for these blocks behind it: they stand from a multiple of
 /// the largest block on.
-fn stack_first(alloc: Global, ram: u32, stack: u32, blocks: &[Block]) -> Result<Filled, AllocError>
+fn stack_first(
+    alloc: Global,
+    ram: u32,
+    stack: u32,
+    blocks: &[UsedBlock],
+) -> Result<Filled, AllocError>
     ensures { IfOk result (λ m. ram_seen m ≡ placement.stack_first ram stack (map block_seen blocks.now)) }
 {
     let used = largest_with(stack, blocks);
@@ -178,7 +183,7 @@ fn stack_first(alloc: Global, ram: u32, stack: u32, blocks: &[Block]) -> Result<
 }
 
 /// RAM with these blocks behind those that it has; it begins at an address.
-fn with_blocks(begun: Filled, ram: u32, blocks: &[Block]) -> Result<Filled, AllocError>
+fn with_blocks(begun: Filled, ram: u32, blocks: &[UsedBlock]) -> Result<Filled, AllocError>
     ensures { IfOk result (λ m. ram_seen m ≡ filled_by ram (ram_seen begun) (map block_seen blocks.now)) }
 {
     let mut memory = begun;
@@ -193,7 +198,7 @@ fn with_blocks(begun: Filled, ram: u32, blocks: &[Block]) -> Result<Filled, Allo
 /// # Errors
 ///
 /// There is no memory, or an address passes 32 bits.
-pub(crate) fn fill(alloc: Global, ram: u32, blocks: &[Block]) -> Result<Filled, AllocError>
+pub(crate) fn fill(alloc: Global, ram: u32, blocks: &[UsedBlock]) -> Result<Filled, AllocError>
     ensures { IfOk result (λ m. ram_seen m ≡ filled_by ram placement.empty_ram (map block_seen blocks.now)) }
 {
     with_blocks(empty(alloc), ram, blocks)
@@ -208,7 +213,7 @@ pub(crate) fn fill_behind_stack(
     alloc: Global,
     ram: u32,
     stack: u32,
-    blocks: &[Block],
+    blocks: &[UsedBlock],
 ) -> Result<Filled, AllocError>
     ensures { IfOk result (λ m. ram_seen m ≡ filled_by ram (placement.stack_first ram stack (map block_seen blocks.now)) (map block_seen blocks.now)) }
 {

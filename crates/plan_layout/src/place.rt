@@ -23,7 +23,7 @@ use base_lists::ListVec;
 use code_regions::region_bytes;
 use ir_program::program::Program;
 use plan_model::Spot;
-use plan_model::graph::{Final, Region};
+use plan_model::graph::{DataRegion, Final};
 use plan_model::plan::{Board, Lowest, Plan, Sizes};
 use std::alloc::{AllocError, Global};
 
@@ -64,7 +64,7 @@ fn region_spots(alloc: Global, memory: &Filled, count: usize) -> Result<Vec<Spot
 fn region_sizes(
     alloc: Global,
     program: &Program,
-    regions: &[Region],
+    regions: &[DataRegion],
 ) -> Result<Vec<u64>, AllocError>
     ensures { IfOk result (λ sizes. sizes.items ≡ placement.region_sizes (program_of program.now) regions.now) }
 {
@@ -79,7 +79,7 @@ fn region_sizes(
 }
 
 /// The lowest compartment that writes or reads a region, if there is one.
-fn lowest_user(region: &Region) -> Option<u32>
+fn lowest_user(region: &DataRegion) -> Option<u32>
     ensures { result ≡ first_of (users region.now) }
 {
     lesser(

@@ -11,7 +11,7 @@ use crate::blocks::block_size;
 use code_regions::region_bytes;
 use ir_program::program::Program;
 use ir_rounding::rounded_up;
-use plan_model::graph::{Final, Region as DataRegion};
+use plan_model::graph::{DataRegion, Final};
 use std::alloc::{AllocError, Global};
 
 /// The bytes of the monitor's block.
@@ -57,7 +57,7 @@ impl Purpose {
 
 /// A block of RAM.
 #[derive(Clone, Copy)]
-pub struct Block {
+pub struct UsedBlock {
     /// What it is for.
     pub purpose: Purpose,
     /// How many of its bytes are used.
@@ -75,12 +75,12 @@ pub(crate) struct Tail {
     pub(crate) to: u32,
 }
 
-impl Block {
+impl UsedBlock {
     /// A block that is used whole.
-    fn full(purpose: Purpose, size: u32) -> Block
+    fn full(purpose: Purpose, size: u32) -> UsedBlock
         ensures { block_seen result ≡ parts.full_block (use_seen purpose) size }
     {
-        Block {
+        UsedBlock {
             purpose,
             bytes: size,
             size,
@@ -134,7 +134,11 @@ impl Block {
 }
 
 /// The block of some globals.
-fn globals_block(program: &Program, purpose: Purpose, globals: &[u32]) -> Result<Block, AllocError>
+fn globals_block(
+    program: &Program,
+    purpose: Purpose,
+    globals: &[u32],
+) -> Result<UsedBlock, AllocError>
     ensures { IfOk result (λ b. block_seen b ≡ parts.globals_block (program_of program.now) (use_seen purpose) globals.now) }
 {
     let Some(bytes) = region_bytes(program, globals) else {
@@ -143,7 +147,7 @@ fn globals_block(program: &Program, purpose: Purpose, globals: &[u32]) -> Result
     let Ok(size) = u32::try_from(block_size(bytes)) else {
         return Err(AllocError);
     };
-    Ok(Block {
+    Ok(UsedBlock {
         purpose,
         bytes,
         size,
@@ -151,7 +155,11 @@ fn globals_block(program: &Program, purpose: Purpose, globals: &[u32]) -> Result
 }
 
 /// The block of a data region.
-fn region_block(program: &Program, regions: &[DataRegion], number: u32) -> Result<Block, AllocError>
+fn region_block(
+    program: &Program,
+    regions: &[DataRegion],
+    number: u32,
+) -> Result<UsedBlock, AllocError>
     requires { number < length regions.now }
     ensures { IfOk result (λ b. block_seen b ≡ parts.region_block (program_of program.now) regions.now number) }
 {
@@ -163,7 +171,7 @@ fn region_block(program: &Program, regions: &[DataRegion], number: u32) -> Resul
 fn add_regions(
     program: &Program,
     regions: &[DataRegion],
-    blocks: &mut Vec<Block>,
+    blocks: &mut Vec<UsedBlock>,
 ) -> Result<(), AllocError>
     ensures { IfOk result (λ _. map block_seen blocks.new.items ≡ map block_seen blocks.old.items ++ map (parts.region_block (program_of program.now) regions.now) (numbers_below (length regions.now))) }
 {
@@ -181,7 +189,7 @@ fn add_regions(
 fn add_unwritten(
     program: &Program,
     globals: &[u32],
-    blocks: &mut Vec<Block>,
+    blocks: &mut Vec<UsedBlock>,
 ) -> Result<(), AllocError>
     ensures { IfOk result (λ _. map block_seen blocks.new.items ≡ map block_seen blocks.old.items ++ parts.unwritten_block (program_of program.now) globals.now) }
 {
@@ -192,11 +200,11 @@ fn add_unwritten(
 }
 
 /// The blocks of RAM but the stack's: the monitor's block, the data regions, and the globals of none.
-fn other_blocks(alloc: Global, program: &Program, fin: &Final) -> Result<Vec<Block>, AllocError>
+fn other_blocks(alloc: Global, program: &Program, fin: &Final) -> Result<Vec<UsedBlock>, AllocError>
     ensures { IfOk result (λ bs. map block_seen bs.items ≡ parts.other_blocks (program_of program.now) fin.now) }
 {
     let mut blocks = Vec::new(alloc);
-    blocks.push(Block::full(Purpose::Monitor, MONITOR))?;
+    blocks.push(UsedBlock::full(Purpose::Monitor, MONITOR))?;
     add_regions(program, fin.regions.as_slice(), &mut blocks)?;
     add_unwritten(program, fin.unwritten.as_slice(), &mut blocks)?;
     Ok(blocks)
@@ -208,16 +216,16 @@ fn ram_blocks(
     program: &Program,
     fin: &Final,
     stack: u32,
-) -> Result<Vec<Block>, AllocError>
+) -> Result<Vec<UsedBlock>, AllocError>
     ensures { IfOk result (λ bs. map block_seen bs.items ≡ parts.ram_blocks (program_of program.now) fin.now stack) }
 {
     let mut blocks = other_blocks(alloc, program, fin)?;
-    blocks.insert(0, Block::full(Purpose::Stack, stack))?;
+    blocks.insert(0, UsedBlock::full(Purpose::Stack, stack))?;
     Ok(blocks)
 }
 
 /// Blocks in falling order of size.
-fn falling(mut blocks: Vec<Block>) -> Result<Vec<Block>, AllocError>
+fn falling(mut blocks: Vec<UsedBlock>) -> Result<Vec<UsedBlock>, AllocError>
     ensures { IfOk result (λ bs. map block_seen bs.items ≡ parts.falling (map block_seen blocks.items)) }
 {
     blocks.sort_by(|a, b| b.size.cmp(&a.size))?;
@@ -234,7 +242,7 @@ pub fn falling_blocks(
     program: &Program,
     fin: &Final,
     stack: u32,
-) -> Result<Vec<Block>, AllocError>
+) -> Result<Vec<UsedBlock>, AllocError>
     ensures { IfOk result (λ bs. map block_seen bs.items ≡ parts.falling (parts.ram_blocks (program_of program.now) fin.now stack)) }
 {
     falling(ram_blocks(alloc, program, fin, stack)?)
@@ -249,7 +257,7 @@ pub(crate) fn falling_others(
     alloc: Global,
     program: &Program,
     fin: &Final,
-) -> Result<Vec<Block>, AllocError>
+) -> Result<Vec<UsedBlock>, AllocError>
     ensures { IfOk result (λ bs. map block_seen bs.items ≡ parts.falling (parts.other_blocks (program_of program.now) fin.now)) }
 {
     falling(other_blocks(alloc, program, fin)?)

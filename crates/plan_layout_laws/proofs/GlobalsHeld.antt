@@ -4,7 +4,7 @@ use Rattle.std.specs.Prelude.{find, unwrap_or}
 use Rattle.std.specs.List.{range_with_len}
 use Rattle.std.proofs.lemmas.Bool.{and_parts}
 use Rattle.ir_model.specs.Resolved.{Program}
-use Rattle.plan_model.specs.declared.graph.Region.{Region}
+use Rattle.plan_model.specs.declared.graph.DataRegion.{DataRegion}
 use Rattle.plan_model.specs.declared.graph.Final.{Final}
 use Rattle.plan_model.specs.declared.plan.Board.{Board}
 use Rattle.plan_model.specs.declared.plan.Sizes.{Sizes}
@@ -78,7 +78,7 @@ module _ (p : Program) (f : Final) (s : Sizes) (b : Board) (ok : IsBoard b) (fit
   in_region : (x byte r : ℕ) → byte < global_size p x → region_with f x ≡ Some r → HoldsAddress p f plan (ForRegion r) (global_address p f plan x + byte)
   unfolding global_address
   in_region x byte r l e =
-      let found = position_is (λ (q : Region). has q.globals x) f.regions r no_region (sym e) in
+      let found = position_is (λ (q : DataRegion). has q.globals x) f.regions r no_region (sym e) in
       subst (λ (o : Option ℕ). HoldsAddress p f plan (ForRegion r) (address_in p f plan x o + byte)) (sym e)
       (byte_held (ForRegion r) (region_at f.regions r).globals x byte (ram_is_there p f s b (ForRegion r) found.0) found.1 l)
 

@@ -10,7 +10,7 @@ use Rattle.plan_model.specs.Choices.{first_some}
 use Rattle.plan_model.specs.CompileLimits.{first_passed, wide_site}
 use Rattle.plan_model.specs.Crossing.{crossing_sites}
 use Rattle.plan_model.specs.Lending.{lent}
-use Rattle.plan_limits.specs.Told.{told}
+use Rattle.plan_limits.specs.Told.{in_32_bits}
 
 taken : {X : Type 0} (b : Bool) (x : X) (os : List (Option X)) → b ≡ true → first_some (then_some b x ∷ os) ≡ Some x
 taken true x os e = refl
@@ -78,5 +78,5 @@ module _ (n : Needs) (g : Groups) where
   targets_last k m t c e l f h w = few_sites k m c e l f h ∙ last (wide_site n g) t w
 
 -- as it is told
-pub told_is : (k : LimitKind) (n m : ℕ) (o : Option (LimitKind × ℕ)) → n ≡ min m (2 ^ 32 - 1) → o ≡ Some (k, m) → Some (k, n) ≡ option_map told o
-told_is k n m o e f = ap (λ (i : ℕ). let r : Option (LimitKind × ℕ) = Some (k, i) in r) e ∙ sym (ap (option_map told) f)
+pub told_is : (k : LimitKind) (n m : ℕ) (o : Option (LimitKind × ℕ)) → n ≡ min m (2 ^ 32 - 1) → o ≡ Some (k, m) → Some (k, n) ≡ option_map in_32_bits o
+told_is k n m o e f = ap (λ (i : ℕ). let r : Option (LimitKind × ℕ) = Some (k, i) in r) e ∙ sym (ap (option_map in_32_bits) f)

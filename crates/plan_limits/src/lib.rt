@@ -5,7 +5,7 @@ ghost use Rattle.std.specs.Prelude.{◌≡◌, ◌-◌, ◌^◌, length, min, fi
 ghost use Rattle.plan_model.specs.Choices.{first_some};
 ghost use Rattle.plan_model.specs.CompileLimits.{first_passed, wide_site};
 ghost use Rattle.plan_model.specs.Crossing as crossing;
-ghost use Rattle.plan_limits.specs.Told.{told};
+ghost use Rattle.plan_limits.specs.Told.{in_32_bits};
 
 use plan_crossings::{crosses, lent};
 use plan_model::groups::Groups;
@@ -48,7 +48,7 @@ fn counted(count: usize) -> u32
 ///
 /// A count that passes 32 bits, as that of no checked firmware does, is told as the greatest number of 32 bits.
 pub fn passed(needs: &Needs, groups: &Groups) -> Option<(LimitKind, u32)>
-    ensures { result ≡ option_map told (first_passed needs.now groups.now) }
+    ensures { result ≡ option_map in_32_bits (first_passed needs.now groups.now) }
 {
     if groups.count > COMPARTMENT_LIMIT {
         return Some((LimitKind::Compartments, groups.count));

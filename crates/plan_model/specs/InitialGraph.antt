@@ -4,7 +4,7 @@ use Rattle.ir_model.specs.declared.object.ObjId.TheVariants.{Global, Local}
 use Rattle.ir_model.specs.Resolved.{Program, window_at}
 use Rattle.plan_model.specs.declared.needs.Needs.{Needs}
 use Rattle.plan_model.specs.declared.groups.Groups.{Groups}
-use Rattle.plan_model.specs.declared.graph.Region.{Region}
+use Rattle.plan_model.specs.declared.graph.DataRegion.{DataRegion}
 use Rattle.plan_model.specs.declared.graph.Cover.{Cover}
 use Rattle.plan_model.specs.declared.graph.Graph.{Graph}
 use Rattle.plan_model.specs.Lists.{numbers_below, is_empty, same_numbers, in_order, distinct}
@@ -43,7 +43,7 @@ abbrev pub kinds_of_users : Program → Needs → Groups → List Users
 kinds_of_users p n g = distinct same_users (filter has_users (map (users_of n g) (numbers_below (length p.globals))))
 
 -- the globals that have these users
-abbrev pub region_for : Program → Needs → Groups → Users → Region
+abbrev pub region_for : Program → Needs → Groups → Users → DataRegion
 region_for p n g u =
     record {
       globals = filter (λ x. same_users (users_of n g x) u) (numbers_below (length p.globals));
@@ -52,7 +52,7 @@ region_for p n g u =
     }
 
 -- globals of equal users are a region; regions are numbered by their first global
-abbrev pub data_regions : Program → Needs → Groups → List Region
+abbrev pub data_regions : Program → Needs → Groups → List DataRegion
 data_regions p n g = map (region_for p n g) (kinds_of_users p n g)
 
 -- the globals without users

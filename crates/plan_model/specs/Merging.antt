@@ -1,7 +1,7 @@
 -- One join in the graph: of two data regions or of two covers, for the first compartment that has more of both than slots.
 use Rattle.std.specs.Prelude.{ℕ, ◌+◌, Bool, List, [], length, get_or, set, remove, Option, Some, None, find, option_map, nat_lt}
 use Rattle.ir_model.specs.Resolved.{Program}
-use Rattle.plan_model.specs.declared.graph.Region.{Region}
+use Rattle.plan_model.specs.declared.graph.DataRegion.{DataRegion}
 use Rattle.plan_model.specs.declared.graph.Cover.{Cover}
 use Rattle.plan_model.specs.declared.graph.Graph.{Graph}
 use Rattle.plan_model.specs.Lists.{numbers_below, union}
@@ -25,20 +25,20 @@ first_too_rich slots g = find (is_too_rich slots g) (numbers_below g.groups.coun
 -- ---- two data regions
 
 -- the globals, the writers and the readers of both
-abbrev pub joined_region : Region → Region → Region
+abbrev pub joined_region : DataRegion → DataRegion → DataRegion
 joined_region a b =
     record { globals = union a.globals b.globals; writers = union a.writers b.writers; readers = union a.readers b.readers }
 
 -- the joined region has the lower place
-abbrev pub with_joined_region : List Region → Pair → List Region
+abbrev pub with_joined_region : List DataRegion → Pair → List DataRegion
 with_joined_region rs q = remove (set rs q.first (joined_region (region_at rs q.first) (region_at rs q.second))) q.second
 
 -- what the join of two regions costs
-abbrev pub region_cost : Program → List Region → Pair → ℕ
+abbrev pub region_cost : Program → List DataRegion → Pair → ℕ
 region_cost p rs q = added_exposure p (region_at rs q.first) (region_at rs q.second)
 
 -- the two of the compartment's data regions whose join adds least exposure, if it has two
-abbrev pub region_pair : Program → List Region → (compartment : ℕ) → Option Pair
+abbrev pub region_pair : Program → List DataRegion → (compartment : ℕ) → Option Pair
 region_pair p rs c = cheapest (region_cost p rs) (pairs (regions_used rs c))
 
 -- the graph with these two joined

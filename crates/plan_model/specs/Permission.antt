@@ -6,7 +6,7 @@ use Rattle.ir_model.specs.declared.object.ObjId.{ObjId}
 use Rattle.ir_model.specs.declared.object.ObjId.TheVariants.{Global, Periph, Local, Func}
 use Rattle.ir_model.specs.Resolved.{Program}
 use Rattle.plan_model.specs.declared.needs.Needs.{Needs}
-use Rattle.plan_model.specs.declared.graph.Region.{Region}
+use Rattle.plan_model.specs.declared.graph.DataRegion.{DataRegion}
 use Rattle.plan_model.specs.declared.graph.Final.{Final}
 use Rattle.plan_model.specs.Lists.{has}
 use Rattle.plan_model.specs.Lending.{is_local}
@@ -30,7 +30,7 @@ is_covered p f c q = list_any (is_inside (cover_of p q)) (get_or f.covers c [])
 -- the globals of the data regions among whose writers the compartment stands, the peripherals inside its covers, and the
 -- lendable locals in its mask
 unfoldable pub may_write : Program → Needs → Final → (compartment : ℕ) → ObjId → Bool
-may_write p n f c (Global x) = list_any (λ (r : Region). has r.writers c && has r.globals x) f.regions
+may_write p n f c (Global x) = list_any (λ (r : DataRegion). has r.writers c && has r.globals x) f.regions
 may_write p n f c (Periph q) = is_covered p f c q
 may_write p n f c (Local g l) = is_in_mask n (get_or f.masks c 0) g l
 may_write p n f c (Func g) = false
@@ -38,7 +38,7 @@ may_write p n f c (Func g) = false
 -- on a closed board the globals of all its data regions, the same peripherals, and the lendable locals in its read mask; beside
 -- these objects it may read all of flash
 unfoldable pub may_read : Program → Needs → Final → (compartment : ℕ) → ObjId → Bool
-may_read p n f c (Global x) = list_any (λ (r : Region). is_user c r && has r.globals x) f.regions
+may_read p n f c (Global x) = list_any (λ (r : DataRegion). is_user c r && has r.globals x) f.regions
 may_read p n f c (Periph q) = is_covered p f c q
 may_read p n f c (Local g l) = is_in_mask n (get_or f.reads c 0) g l
 may_read p n f c (Func g) = false

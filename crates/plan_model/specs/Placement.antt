@@ -1,7 +1,7 @@
 -- Where all blocks of an image lie on a board, and where the globals lie in them.
 use Rattle.std.specs.Prelude.{ℕ, ◌+◌, ◌≤◌, length, map, get_or, Option, Some, None, position, unwrap_or}
 use Rattle.ir_model.specs.Resolved.{Program}
-use Rattle.plan_model.specs.declared.graph.Region.{Region}
+use Rattle.plan_model.specs.declared.graph.DataRegion.{DataRegion}
 use Rattle.plan_model.specs.declared.graph.Final.{Final}
 use Rattle.plan_model.specs.declared.plan.Board.{Board}
 use Rattle.plan_model.specs.declared.plan.Sizes.{Sizes}
@@ -52,7 +52,7 @@ compartment_spot l c = get_or l.code c no_spot
 
 -- the data region of a global, if it is in one
 abbrev pub region_with : Final → (global : ℕ) → Option ℕ
-region_with f x = position (λ (r : Region). has r.globals x) f.regions
+region_with f x = position (λ (r : DataRegion). has r.globals x) f.regions
 
 -- the address of a global of a data region, or of none
 abbrev pub address_in : Program → Final → Plan → (global : ℕ) → Option ℕ → ℕ

@@ -2,7 +2,7 @@
 use Rattle.std.specs.Prelude.{ℕ, Bool, true, false, List, [], ◌∷◌, ◌++◌, length, map, nat_eq, nat_lt}
 use Rattle.machine_devices.specs.Rules.{block_size}
 use Rattle.ir_model.specs.Resolved.{Program}
-use Rattle.plan_model.specs.declared.graph.Region.{Region}
+use Rattle.plan_model.specs.declared.graph.DataRegion.{DataRegion}
 use Rattle.plan_model.specs.declared.graph.Final.{Final}
 use Rattle.plan_model.specs.Lists.{numbers_below, in_order}
 use Rattle.plan_model.specs.Regions.{region_at}
@@ -44,7 +44,7 @@ abbrev pub globals_block : Program → RamUse → (globals : List ℕ) → RamBl
 globals_block p u xs = record { use_of = u; bytes = region_bytes p xs; size = block (region_bytes p xs) }
 
 -- that of a data region
-abbrev pub region_block : Program → List Region → (region : ℕ) → RamBlock
+abbrev pub region_block : Program → List DataRegion → (region : ℕ) → RamBlock
 region_block p rs r = globals_block p (ForRegion r) (region_at rs r).globals
 
 -- that of the globals of none, where there are any

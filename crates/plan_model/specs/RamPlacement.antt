@@ -4,7 +4,7 @@ use Rattle.std.specs.Prelude.{ℕ, ◌+◌, ◌*◌, ◌/◌, Bool, ◌&&◌, Li
 use Rattle.std.specs.List.{fold}
 use Rattle.ir_model.specs.Layout.{rounded_up}
 use Rattle.ir_model.specs.Resolved.{Program}
-use Rattle.plan_model.specs.declared.graph.Region.{Region}
+use Rattle.plan_model.specs.declared.graph.DataRegion.{DataRegion}
 use Rattle.plan_model.specs.declared.graph.Final.{Final}
 use Rattle.plan_model.specs.declared.plan.Board.{Board}
 use Rattle.plan_model.specs.declared.plan.Lowest.{Lowest}
@@ -128,8 +128,8 @@ abbrev pub ram_needed : Program → Final → Board → ℕ
 ram_needed p f b = (ram_of p f b).used
 
 -- the sizes of the data regions' blocks
-abbrev pub region_sizes : Program → List Region → List ℕ
-region_sizes p rs = map (λ (r : Region). block (region_bytes p r.globals)) rs
+abbrev pub region_sizes : Program → List DataRegion → List ℕ
+region_sizes p rs = map (λ (r : DataRegion). block (region_bytes p r.globals)) rs
 
 -- the compartment that a refusal names: the lowest user of the first of the data regions with the largest block, if there is one
 abbrev pub ram_named : Program → Final → Option ℕ

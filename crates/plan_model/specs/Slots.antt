@@ -7,7 +7,7 @@ use Rattle.machine_protection.specs.RegionWords.{region_of}
 use Rattle.ir_model.specs.Resolved.{Program}
 use Rattle.plan_model.specs.declared.graph.Cover.{Cover}
 use Rattle.plan_model.specs.declared.graph.Final.{Final}
-use Rattle.plan_model.specs.declared.graph.Region as data_region
+use Rattle.plan_model.specs.declared.graph.DataRegion as data_region
 use Rattle.plan_model.specs.declared.plan.Spot.{Spot}
 use Rattle.plan_model.specs.declared.plan.Plan.{Plan}
 use Rattle.plan_model.specs.Lists.{has}
@@ -25,7 +25,7 @@ pub record SlotUse : Type 0 where
   pub rights : Rights
 
 -- a region is read-only for a user that is no writer
-abbrev pub data_rights : data_region.Region → (compartment : ℕ) → Rights
+abbrev pub data_rights : data_region.DataRegion → (compartment : ℕ) → Rights
 data_rights r c = if has r.writers c then Ram else Background
 
 -- the slot of a data region

@@ -3,7 +3,7 @@ use Rattle.std.specs.Prelude.{ℕ, ◌+◌, ◌*◌, ◌/◌, List, [], ◌∷�
 use Rattle.ir_model.specs.Layout.{rounded_up}
 use Rattle.ir_model.specs.Resolved.{Program}
 use Rattle.plan_model.specs.declared.needs.Needs.{Needs}
-use Rattle.plan_model.specs.declared.graph.Region.{Region}
+use Rattle.plan_model.specs.declared.graph.DataRegion.{DataRegion}
 use Rattle.plan_model.specs.declared.graph.Final.{Final}
 use Rattle.plan_model.specs.Crossing.{crossing_sites, target_count}
 use Rattle.plan_model.specs.Lending.{lent}
@@ -16,7 +16,7 @@ unless_empty (n ∷ ns) = (n ∷ ns) ∷ []
 
 -- the globals of each block that start-up fills: those of the data regions in order, then those of none where there are any
 abbrev pub filled_blocks : Final → List (List ℕ)
-filled_blocks f = map (λ (r : Region). r.globals) f.regions ++ unless_empty f.unwritten
+filled_blocks f = map (λ (r : DataRegion). r.globals) f.regions ++ unless_empty f.unwritten
 
 -- the words that fill a block of these globals
 abbrev pub words_in : Program → (globals : List ℕ) → ℕ

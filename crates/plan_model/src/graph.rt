@@ -5,7 +5,7 @@ use base_lists::ListVec;
 
 /// Globals that lie together in one block, because the same compartments reach them. Each list is in rising order.
 #[derive(Drop)]
-pub struct Region {
+pub struct DataRegion {
     /// The numbers of the globals.
     pub globals: ListVec<u32>,
     /// The compartments that may write them.
@@ -29,7 +29,7 @@ pub struct Graph {
     /// The compartments.
     pub groups: Groups,
     /// The data regions.
-    pub regions: ListVec<Region>,
+    pub regions: ListVec<DataRegion>,
     /// The globals of no data region, in rising order.
     pub unwritten: ListVec<u32>,
     /// The covers of each compartment, in order of their bases.
@@ -46,7 +46,7 @@ pub struct Final {
     /// The compartments.
     pub groups: Groups,
     /// The data regions.
-    pub regions: ListVec<Region>,
+    pub regions: ListVec<DataRegion>,
     /// The globals of no data region, in rising order.
     pub unwritten: ListVec<u32>,
     /// The covers of each compartment, in order of their bases.

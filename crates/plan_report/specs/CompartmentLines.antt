@@ -6,7 +6,7 @@ use Rattle.std.specs.Fmt.{decimal}
 use Rattle.machine_lines.specs.Lines.{line_feed}
 use Rattle.ir_model.specs.declared.object.ObjId.TheVariants.{Local}
 use Rattle.plan_model.specs.declared.graph.Cover.{Cover}
-use Rattle.plan_model.specs.declared.graph.Region.{Region}
+use Rattle.plan_model.specs.declared.graph.DataRegion.{DataRegion}
 use Rattle.plan_model.specs.declared.plan.Spot.{Spot}
 use Rattle.plan_model.specs.Lists.{numbers_below, has}
 use Rattle.plan_model.specs.Groups.{functions_of, writes}
@@ -20,7 +20,7 @@ use Rattle.plan_report.specs.Names.{global_name, periph_name, func_name, local_n
 use Rattle.plan_report.specs.Undeclared.{Range, undeclared_ranges}
 
 -- whether a compartment may write a region, or only read it
-abbrev pub word_of : Region → (compartment : ℕ) → List ℕ
+abbrev pub word_of : DataRegion → (compartment : ℕ) → List ℕ
 word_of r c = if has r.writers c then codes " data" else codes " read"
 
 -- ---- functions and locals

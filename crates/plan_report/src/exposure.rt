@@ -13,7 +13,7 @@ use crate::text::Text;
 use ir_model::object::ObjId;
 use ir_program::program::Program;
 use plan_graph::{reaches, writes};
-use plan_model::graph::Region;
+use plan_model::graph::DataRegion;
 use std::alloc::AllocError;
 
 /// The bytes of a global; of one that is not there, 0.
@@ -44,7 +44,7 @@ pub(crate) fn sum(a: u64, b: u64) -> Result<u64, AllocError>
 fn unwritten_bytes(
     subject: &Subject<'_>,
     compartment: u32,
-    region: &Region,
+    region: &DataRegion,
 ) -> Result<u64, AllocError>
     requires { length subject.now.graph.now.groups.of ≡ length subject.now.needs.now.funcs }
     ensures { IfOk result (λ n. n ≡ regions.size_of (program_of subject.now.program.now) (exposure.never_written subject.now.needs.now subject.now.graph.now.groups compartment region.now)) }
@@ -65,7 +65,7 @@ fn unwritten_bytes(
 fn unreached_bytes(
     subject: &Subject<'_>,
     compartment: u32,
-    region: &Region,
+    region: &DataRegion,
 ) -> Result<u64, AllocError>
     requires { length subject.now.graph.now.groups.of ≡ length subject.now.needs.now.funcs }
     ensures { IfOk result (λ n. n ≡ regions.size_of (program_of subject.now.program.now) (exposure.never_reached subject.now.needs.now subject.now.graph.now.groups compartment region.now)) }

@@ -17,7 +17,7 @@ use crate::naming::{put_globals, put_periph};
 use crate::subject::Subject;
 use crate::text::Text;
 use ir_program::program::{Program, Span};
-use plan_model::graph::{Cover, Final, Region};
+use plan_model::graph::{Cover, DataRegion, Final};
 use plan_model::plan::{Plan, Spot};
 use std::alloc::{AllocError, Global};
 
@@ -35,21 +35,21 @@ fn region_spot(plan: &Plan, region: u32) -> Spot
 }
 
 /// Whether a compartment may write a region.
-pub fn is_writer(region: &Region, compartment: u32) -> bool
+pub fn is_writer(region: &DataRegion, compartment: u32) -> bool
     ensures { result ≡ has region.now.writers compartment }
 {
     region.writers.as_slice().contains(&compartment)
 }
 
 /// Whether a compartment uses a region.
-pub fn is_used(region: &Region, compartment: u32) -> bool
+pub fn is_used(region: &DataRegion, compartment: u32) -> bool
     ensures { result ≡ is_user compartment region.now }
 {
     is_writer(region, compartment) || region.readers.as_slice().contains(&compartment)
 }
 
 /// Whether a compartment uses the region of a number.
-fn is_used_at(regions: &[Region], region: u32, compartment: u32) -> bool
+fn is_used_at(regions: &[DataRegion], region: u32, compartment: u32) -> bool
     requires { region < length regions.now }
     ensures { result ≡ is_user compartment (region_at regions.now region) }
 {
@@ -57,7 +57,11 @@ fn is_used_at(regions: &[Region], region: u32, compartment: u32) -> bool
 }
 
 /// The data regions of a compartment, by their numbers.
-fn used_regions(alloc: Global, regions: &[Region], compartment: u32) -> Result<Vec<u32>, AllocError>
+fn used_regions(
+    alloc: Global,
+    regions: &[DataRegion],
+    compartment: u32,
+) -> Result<Vec<u32>, AllocError>
     ensures { IfOk result (λ used. used.items ≡ regions_used regions.now compartment) }
 {
     let Ok(count) = u32::try_from(regions.len()) else {
@@ -73,7 +77,7 @@ fn used_regions(alloc: Global, regions: &[Region], compartment: u32) -> Result<V
 }
 
 /// What a slot is to a compartment that may write the region, or may only read it.
-fn region_word(region: &Region, compartment: u32) -> &'static [u8]
+fn region_word(region: &DataRegion, compartment: u32) -> &'static [u8]
     ensures { result.now ≡ lines.word_of region.now compartment }
 {
     if is_writer(region, compartment) {

@@ -8,7 +8,7 @@ use Rattle.std.proofs.lemmas.List.Sums.{sum_by-cons}
 use Rattle.ir_model.specs.Resolved.{Program, func_at}
 use Rattle.plan_model.specs.declared.needs.Needs.{Needs}
 use Rattle.plan_model.specs.declared.groups.Groups.{Groups}
-use Rattle.plan_model.specs.declared.graph.Region.{Region}
+use Rattle.plan_model.specs.declared.graph.DataRegion.{DataRegion}
 use Rattle.plan_model.specs.declared.graph.Final.{Final}
 use Rattle.plan_model.specs.Lists.{numbers_below}
 use Rattle.plan_model.specs.Blocks.{region_bytes}
@@ -73,12 +73,12 @@ unfolding region_bytes
 nothing_filled p = refl
 
 -- the words of all blocks: those of the data regions, and of the globals of none
-words_of : (p : Program) (rs : List Region) (xs : List ℕ) → sum_by (words_in p) (map (λ (r : Region). r.globals) rs ++ unless_empty xs) ≡ region_words p rs + words_in p xs
+words_of : (p : Program) (rs : List DataRegion) (xs : List ℕ) → sum_by (words_in p) (map (λ (r : DataRegion). r.globals) rs ++ unless_empty xs) ≡ region_words p rs + words_in p xs
 words_of p [] [] = let z = nothing_filled p in omega (arith, z)
 words_of p [] (x ∷ xs) = let a = sum_by-cons (words_in p) (x ∷ xs) [] in omega (arith, a)
 words_of p (r ∷ rs) xs =
-    let a = sum_by-cons (words_in p) r.globals (map (λ (s : Region). s.globals) rs ++ unless_empty xs) in
-    let b = sum_by-cons (λ (s : Region). words_in p s.globals) r rs in
+    let a = sum_by-cons (words_in p) r.globals (map (λ (s : DataRegion). s.globals) rs ++ unless_empty xs) in
+    let b = sum_by-cons (λ (s : DataRegion). words_in p s.globals) r rs in
     let h = words_of p rs xs in
     omega (arith, a, b, h)
 
@@ -87,7 +87,7 @@ words_are p f = words_of p f.regions f.unwritten
 
 blocks_are : (f : Final) → block_count f ≡ length (filled_blocks f)
 blocks_are f =
-    let globals : Region → List ℕ = λ r. r.globals in
+    let globals : DataRegion → List ℕ = λ r. r.globals in
     sym (length-append (map globals f.regions) (unless_empty f.unwritten) ∙ ap (λ k. k + length (unless_empty f.unwritten)) (length-map f.regions globals))
 
 pub tables_are : (p : Program) (n : Needs) (f : Final) (slots : ℕ) →

@@ -6,7 +6,7 @@ use Rattle.std.proofs.Math.ListN.{get_or}
 use Rattle.ir_model.specs.Resolved.{Program, func_at}
 use Rattle.plan_model.specs.declared.needs.SiteNeed.{SiteNeed}
 use Rattle.plan_model.specs.declared.groups.Groups.{Groups}
-use Rattle.plan_model.specs.declared.graph.Region.{Region}
+use Rattle.plan_model.specs.declared.graph.DataRegion.{DataRegion}
 use Rattle.plan_model.specs.declared.graph.Final.{Final}
 use Rattle.plan_model.specs.Lists.{numbers_below}
 use Rattle.plan_model.specs.Crossing.{target_count}
@@ -35,8 +35,8 @@ code_with p g ss lent =
 
 -- ---- tables
 
-abbrev pub region_words : Program → List Region → ℕ
-region_words p rs = sum_by (λ (r : Region). words_in p r.globals) rs
+abbrev pub region_words : Program → List DataRegion → ℕ
+region_words p rs = sum_by (λ (r : DataRegion). words_in p r.globals) rs
 
 abbrev pub block_count : Final → ℕ
 block_count f = length f.regions + length (unless_empty f.unwritten)

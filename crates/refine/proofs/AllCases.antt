@@ -8,7 +8,7 @@ use Rattle.ir_model.specs.State.{Frame, Memory, Running}
 use Rattle.ir_laws.specs.Sets.{ObjectSets}
 use Rattle.ir_laws.specs.Typed.{HereTyped}
 use Rattle.ir_laws.specs.States.{StateFits}
-use Rattle.monitor_model.specs.Block.{Block}
+use Rattle.monitor_model.specs.Block.{MonitorBlock}
 use Rattle.refine.specs.Builds.{Build, func}
 use Rattle.refine.specs.Serving.{CaseServes, CasesServe}
 use Rattle.refine.proofs.Premises.{Premises}
@@ -20,7 +20,7 @@ use Rattle.refine.proofs.Returns.{return_case}
 use Rattle.refine.proofs.Loads.{load_case}
 use Rattle.refine.proofs.Stores.{store_case}
 
-module _ (k : Build) (Inv : Block → Context → List ℕ → Type 0) (sizes : PlainType → ℕ) (S : ObjectSets) (w : Premises k Inv sizes S) (places : ℕ → ℕ) where
+module _ (k : Build) (Inv : MonitorBlock → Context → List ℕ → Type 0) (sizes : PlainType → ℕ) (S : ObjectSets) (w : Premises k Inv sizes S) (places : ℕ → ℕ) where
   by_here : (fr : Frame) (rest : List Frame) (m : Memory) (t : State) → HereStands k Inv sizes S w places fr rest m t → StateFits k.program sizes S (Running (fr ∷ rest) m) → (h : Here) → here k.program fr.func fr.block fr.place ≡ h → HereTyped k.program sizes (func k fr.func) h → CaseServes k Inv places fr rest m t h
   by_here fr rest m t st sf (Does (Const to v)) e ty = λ nf lies. inl (const_case k Inv sizes S w places fr rest m t st sf.0.0 to v ty e nf)
   by_here fr rest m t st sf (Does (Move to from)) e ty = λ nf lies. inl (move_case k Inv sizes S w places fr rest m t st sf.0.0 to from ty e nf)

@@ -2,7 +2,7 @@
 use Rattle.std.proofs.Common.{◌≡◌, ℕ, zero, suc, ◌+◌, ◌<◌, ◌≤◌, List, [], ◌∷◌, ◌++◌, length, get_or, set, refl, ap, ◌∙◌, subst, arith, inl, inr, ⊎_elim}
 use Rattle.base_words.specs.Bytes.{read, write, cut}
 use Rattle.base_words.proofs.Bytes.{length-write, read_below, read_above, read_same}
-use Rattle.refine.specs.Areas.{Area, Beside, Laid, Has, IsAt, Inside, Off, Spot}
+use Rattle.refine.specs.Areas.{Area, Beside, Laid, Has, IsAt, Inside, Off, IsWordIn}
 use Rattle.base_laws.specs.Lists.{Each}
 use Rattle.base_laws.proofs.Lists.{each_both, each_to}
 use Rattle.refine.proofs.Joined.{get_front as get_join}
@@ -55,10 +55,10 @@ loaded (d ∷ ds) [] k c ram h i = absurd h
 loaded (d ∷ ds) (x ∷ xs) zero c ram h i = subst (λ y. read y.width y.at ram ≡ cut y.width x) i h.0
 loaded (d ∷ ds) (x ∷ xs) (suc k) c ram h i = loaded ds xs k c ram h.2 i
 
-pub stored_spot : (cs : List Area) (vs us : List ℕ) (c : Area) (old new : ℕ) (ram : List ℕ) → Laid cs → Has ram cs vs → Spot cs vs c old new us → Has (write c.width c.at new ram) cs us
+pub stored_spot : (cs : List Area) (vs us : List ℕ) (c : Area) (old new : ℕ) (ram : List ℕ) → Laid cs → Has ram cs vs → IsWordIn cs vs c old new us → Has (write c.width c.at new ram) cs us
 stored_spot cs vs us c old new ram l h s = subst (λ (x : List ℕ). Has (write c.width c.at new ram) cs x) s.sets (stored cs vs s.index c new ram l h s.is_at)
 
-pub loaded_spot : (cs : List Area) (vs us : List ℕ) (c : Area) (old new : ℕ) (ram : List ℕ) → Has ram cs vs → Spot cs vs c old new us → read c.width c.at ram ≡ cut c.width old
+pub loaded_spot : (cs : List Area) (vs us : List ℕ) (c : Area) (old new : ℕ) (ram : List ℕ) → Has ram cs vs → IsWordIn cs vs c old new us → read c.width c.at ram ≡ cut c.width old
 loaded_spot cs vs us c old new ram h s = loaded cs vs s.index c ram h s.is_at ∙ ap (λ (x : ℕ). cut c.width x) s.holds
 
 -- ---- lists behind lists
@@ -112,7 +112,7 @@ get_skip : (xs ys : List ℕ) (i : ℕ) → get_or (xs ++ ys) (length xs + i) 0 
 get_skip [] ys i = let e : 0 + i ≡ i = omega arith in ap (λ (n : ℕ). get_or ys n 0) e
 get_skip (x ∷ xs) ys i = let e : suc (length xs) + i ≡ suc (length xs + i) = omega arith in ap (λ (n : ℕ). get_or (x ∷ xs ++ ys) n 0) e ∙ get_skip xs ys i
 
-pub spot_front : (cs ds : List Area) (vs xs us : List ℕ) (c : Area) (old new : ℕ) → length cs ≡ length vs → Spot cs vs c old new us → Spot (cs ++ ds) (vs ++ xs) c old new (us ++ xs)
+pub spot_front : (cs ds : List Area) (vs xs us : List ℕ) (c : Area) (old new : ℕ) → length cs ≡ length vs → IsWordIn cs vs c old new us → IsWordIn (cs ++ ds) (vs ++ xs) c old new (us ++ xs)
 spot_front cs ds vs xs us c old new l s =
     let b = at_least cs s.index c s.is_at in
     record {
@@ -122,7 +122,7 @@ spot_front cs ds vs xs us c old new l s =
       sets = set_join vs xs s.index new (omega arith) ∙ ap (λ (z : List ℕ). z ++ xs) s.sets;
     }
 
-pub spot_back : (cs ds : List Area) (vs xs us : List ℕ) (c : Area) (old new : ℕ) → length cs ≡ length vs → Spot ds xs c old new us → Spot (cs ++ ds) (vs ++ xs) c old new (vs ++ us)
+pub spot_back : (cs ds : List Area) (vs xs us : List ℕ) (c : Area) (old new : ℕ) → length cs ≡ length vs → IsWordIn ds xs c old new us → IsWordIn (cs ++ ds) (vs ++ xs) c old new (vs ++ us)
 spot_back cs ds vs xs us c old new l s =
     record {
       index = length cs + s.index;

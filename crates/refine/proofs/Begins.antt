@@ -15,7 +15,7 @@ use Rattle.ir_laws.specs.Sets.{ObjectSets}
 use Rattle.code_model.specs.Sizes.{entry_size}
 use Rattle.code_model.specs.Templates.{entry_items}
 use Rattle.monitor_model.specs.declared.tables.InitRecord.{InitRecord}
-use Rattle.monitor_model.specs.Block.{Block}
+use Rattle.monitor_model.specs.Block.{MonitorBlock}
 use Rattle.monitor_model.specs.Setting.{Setting}
 use Rattle.monitor_model.specs.Threads.{base, stack_end, first_block, Copied, Begins}
 use Rattle.refine_model.specs.Refines.{step_limit, word_limit}
@@ -57,11 +57,11 @@ module _ (k : Build) where
   has_copied (c ∷ cs) (v ∷ vs) ram h l i f = (one_copied c v k.setting.inits ram h f.0, omega (arith, i.0), has_copied cs vs ram h l i.1 f.1)
 
 -- how many steps a call takes does not change where its frame is written in another way
-counted : (g : Setting) {Inv : Block → Context → List ℕ → Type 0} (from : State) (v pc : ℕ) (ram : List ℕ) (queues : List (List ℕ)) (ds : List Lend) (x o : ℕ) (e : x ≡ o) (c : Called g Inv from (all_lent g x (first_block g) ds) x v pc (stack_end g) [] (g.stub + 1) ram queues) → c.goes.count ≤ 8520 →
+counted : (g : Setting) {Inv : MonitorBlock → Context → List ℕ → Type 0} (from : State) (v pc : ℕ) (ram : List ℕ) (queues : List (List ℕ)) (ds : List Lend) (x o : ℕ) (e : x ≡ o) (c : Called g Inv from (all_lent g x (first_block g) ds) x v pc (stack_end g) [] (g.stub + 1) ram queues) → c.goes.count ≤ 8520 →
     (subst (λ (y : ℕ). Called g Inv from (all_lent g y (first_block g) ds) y v pc (stack_end g) [] (g.stub + 1) ram queues) e c).goes.count ≤ 8520
 counted g from v pc ram queues ds x o e c h = h
 
-module _ (k : Build) (Inv : Block → Context → List ℕ → Type 0) (sizes : PlainType → ℕ) (S : ObjectSets) (w : Premises k Inv sizes S) (places : ℕ → ℕ) where
+module _ (k : Build) (Inv : MonitorBlock → Context → List ℕ → Type 0) (sizes : PlainType → ℕ) (S : ObjectSets) (w : Premises k Inv sizes S) (places : ℕ → ℕ) where
   no_params : row_length (func k k.program.main).params ≡ 0
   no_params = let h = w.typed.takes_nothing in let e : (func k k.program.main).params ≡ none = cc in ap row_length e
 

@@ -7,7 +7,7 @@ use Rattle.ir_model.specs.State.{Frame}
 use Rattle.ir_model.specs.Step.{register}
 use Rattle.ir_laws.specs.Moves.{Where, wheres}
 use Rattle.code_model.specs.Places.{Lend}
-use Rattle.monitor_model.specs.Block.{Block, lent}
+use Rattle.monitor_model.specs.Block.{MonitorBlock, lent}
 use Rattle.monitor_model.specs.Setting.{Setting}
 use Rattle.monitor_model.specs.Threads.{base, HasRoom}
 use Rattle.code_effects.specs.Calls.{AllBelow}
@@ -21,13 +21,13 @@ use Rattle.refine.proofs.Frames.{register_spot}
 
 -- ---- what loans leave of the block
 
-pub record SameBut (m n : Block) (count : ℕ) : Type 0 where
+pub record SameBut (m n : MonitorBlock) (count : ℕ) : Type 0 where
   pub current : n.current ≡ m.current
   pub top : n.top ≡ m.top
   pub mark : n.mark ≡ m.mark
   pub loans : length n.loans ≡ length m.loans + count
 
-pub all_lent_is : (g : Setting) (o : ℕ) (m : Block) (ds : List Lend) → SameBut m (all_lent g o m ds) (length ds)
+pub all_lent_is : (g : Setting) (o : ℕ) (m : MonitorBlock) (ds : List Lend) → SameBut m (all_lent g o m ds) (length ds)
 all_lent_is g o m [] = record { current = refl; top = refl; mark = refl; loans = omega arith }
 all_lent_is g o m (d ∷ ds) =
     let r = all_lent_is g o (lent m (loan_of g o d)) ds in
@@ -60,7 +60,7 @@ module _ (k : Build) (places : ℕ → ℕ) where
       let e = a.0.ends in
       record { aligned = a.0.aligned; low = r; high = omega arith }
 
-  marks_by : (x : Option ℕ) (f : ℕ) (rest : List Where) (b : Block) → b.mark ≤ length b.loans → (beneath k places x f rest b).mark ≤ length (beneath k places x f rest b).loans
+  marks_by : (x : Option ℕ) (f : ℕ) (rest : List Where) (b : MonitorBlock) → b.mark ≤ length b.loans → (beneath k places x f rest b).mark ≤ length (beneath k places x f rest b).loans
   marks_by None f rest b h = h
   marks_by (Some s) f [] b h = h
   marks_by (Some s) f (c ∷ rest) b h = omega arith

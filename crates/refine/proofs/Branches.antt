@@ -12,7 +12,7 @@ use Rattle.ir_laws.specs.Sets.{ObjectSets}
 use Rattle.ir_laws.specs.Typed.{EndTyped}
 use Rattle.ir_laws.specs.States.{FrameFits}
 use Rattle.code_model.specs.Templates.{term_items}
-use Rattle.monitor_model.specs.Block.{Block}
+use Rattle.monitor_model.specs.Block.{MonitorBlock}
 use Rattle.code_effects.specs.Points.{Point, Leads}
 use Rattle.code_effects.specs.Frames.{home}
 use Rattle.code_effects.specs.Items.{ItemsAt}
@@ -28,7 +28,7 @@ use Rattle.refine.proofs.Standing.{IsPlace, owned_term, place_low, label_is}
 use Rattle.refine.proofs.Steps.{frame_room, goes_on, Here as HereStands, point_of, place_of_frame}
 use Rattle.refine.proofs.Registers.{register_word}
 
-module _ (k : Build) (Inv : Block → Context → List ℕ → Type 0) (sizes : PlainType → ℕ) (S : ObjectSets) (w : Premises k Inv sizes S) (places : ℕ → ℕ) where
+module _ (k : Build) (Inv : MonitorBlock → Context → List ℕ → Type 0) (sizes : PlainType → ℕ) (S : ObjectSets) (w : Premises k Inv sizes S) (places : ℕ → ℕ) where
   pub owned_end : (c : Frame) (rest : List Frame) → HasPlace k places (where_of c) (wheres rest) → (y : NumberedTerm) → FrameFits k.program sizes S c → here k.program c.func c.block c.place ≡ Ends y →
       Owns k.setting (block_of k places (wheres (c ∷ rest))).current (labels_at k c.func) (code_at k c.func c.block c.place) (term_items (func k c.func) (places_at k c.func) (first_at k c.func) y)
   owned_end c rest fit y ff e =

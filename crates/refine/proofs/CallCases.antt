@@ -16,7 +16,7 @@ use Rattle.ir_laws.specs.States.{FrameFits}
 use Rattle.code_model.specs.Places.{entry_address}
 use Rattle.code_model.specs.Sizes.{call_size, icall_size}
 use Rattle.code_model.specs.Templates.{inst_items}
-use Rattle.monitor_model.specs.Block.{Block}
+use Rattle.monitor_model.specs.Block.{MonitorBlock}
 use Rattle.code_effects.specs.Calls.{AllBelow}
 use Rattle.refine_model.specs.Refines.{HasFault}
 use Rattle.refine.specs.Owned.{Owns}
@@ -32,7 +32,7 @@ use Rattle.refine.proofs.Steps.{Here as HereStands}
 use Rattle.refine.proofs.Registers.{register_word, owned_by}
 use Rattle.refine.proofs.Calls.{params_there, all_below, callee_frame, callee_stands, LiesBelow, called_there, crossed_there, short_here, here_pc, call_inside}
 
-module _ (k : Build) (Inv : Block → Context → List ℕ → Type 0) (sizes : PlainType → ℕ) (S : ObjectSets) (w : Premises k Inv sizes S) (places : ℕ → ℕ) where
+module _ (k : Build) (Inv : MonitorBlock → Context → List ℕ → Type 0) (sizes : PlainType → ℕ) (S : ObjectSets) (w : Premises k Inv sizes S) (places : ℕ → ℕ) where
   module _ (fr : Frame) (rest : List Frame) (m : Memory) (t : State) (st : HereStands k Inv sizes S w places fr rest m t) (ff : FrameFits k.program sizes S fr) where
     abbrev new_frame : (h : ℕ) (args : List ℕ) → Frame
     new_frame h args = callee_frame k Inv sizes S w places fr rest m t st ff h args
@@ -54,7 +54,7 @@ module _ (k : Build) (Inv : Block → Context → List ℕ → Type 0) (sizes : 
     call_across to h number args e there ty site lies =
         let f : ℕ = fr.func in
         let oc : ℕ = places fr.number in
-        let bl : Block = block_of k places (wheres (fr ∷ rest)) in
+        let bl : MonitorBlock = block_of k places (wheres (fr ∷ rest)) in
         let f0 = st.fits.0 in
         let tl = top_least k places (where_of fr) (wheres rest) st.fits in
         let en = f0.ends in
@@ -108,7 +108,7 @@ module _ (k : Build) (Inv : Block → Context → List ℕ → Type 0) (sizes : 
     icall_inside to r h args e ty is site lies =
         let f : ℕ = fr.func in
         let oc : ℕ = places fr.number in
-        let bl : Block = block_of k places (wheres (fr ∷ rest)) in
+        let bl : MonitorBlock = block_of k places (wheres (fr ∷ rest)) in
         let f0 = st.fits.0 in
         let tl = top_least k places (where_of fr) (wheres rest) st.fits in
         let en = f0.ends in
@@ -138,7 +138,7 @@ module _ (k : Build) (Inv : Block → Context → List ℕ → Type 0) (sizes : 
     icall_across to r h number args e ty is site lies =
         let f : ℕ = fr.func in
         let oc : ℕ = places fr.number in
-        let bl : Block = block_of k places (wheres (fr ∷ rest)) in
+        let bl : MonitorBlock = block_of k places (wheres (fr ∷ rest)) in
         let f0 = st.fits.0 in
         let tl = top_least k places (where_of fr) (wheres rest) st.fits in
         let en = f0.ends in

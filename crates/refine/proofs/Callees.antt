@@ -15,7 +15,7 @@ use Rattle.code_model.specs.declared.places.Places.{Places}
 use Rattle.code_model.specs.Sizes.{call_size, icall_size}
 use Rattle.code_model.specs.Templates.{lends_of, inst_items}
 use Rattle.code_model.specs.Places.{entry_address}
-use Rattle.monitor_model.specs.Block.{Block, entered}
+use Rattle.monitor_model.specs.Block.{MonitorBlock, entered}
 use Rattle.monitor_model.specs.Setting.{Setting}
 use Rattle.monitor_model.specs.Threads.{svc, base, lend_steps, HasRoom, AtInstr, Enters}
 use Rattle.monitor_model.specs.Law.{Law}
@@ -42,16 +42,16 @@ one_part : (k e : ℕ) → 1 ≤ k → e ≤ k * e
 one_part zero e h = absurd (omega (arith, h))
 one_part (suc k) e h = let m = suc-mul k e in omega (arith, m)
 
-module _ (g : Setting) (Inv : Block → Context → List ℕ → Type 0) (law : Law g Inv) (rules : MemoryRules g) (laws : CodeLaws) where
+module _ (g : Setting) (Inv : MonitorBlock → Context → List ℕ → Type 0) (law : Law g Inv) (rules : MemoryRules g) (laws : CodeLaws) where
   module _ (fn : NumberedFunc) (q : Places) (labels : List (Option ℕ)) (w : ℕ) where
     -- from the callee's first instruction, which `k` steps have led to
-    record Begun (s : State) (k : ℕ) (m : Block) (oc at : ℕ) (arguments : List ℕ) (lr : ℕ) (x : Context) (low : List ℕ) (f : Flags) (ram : List ℕ) (queues : List (List ℕ)) : Type 0 where
+    record Begun (s : State) (k : ℕ) (m : MonitorBlock) (oc at : ℕ) (arguments : List ℕ) (lr : ℕ) (x : Context) (low : List ℕ) (f : Flags) (ram : List ℕ) (queues : List (List ℕ)) : Type 0 where
       frame : ℕ
       frame_ends : frame + 4 * w + 4 ≡ oc
       on_stack : g.stack ≤ frame
       is : IsEntered g Inv fn q (works x low (base g + oc) lr at f ram queues) m frame w at arguments lr ram queues
 
-    begun : (s : State) (k : ℕ) (m : Block) (oc at : ℕ) (arguments : List ℕ) (lr : ℕ) (x : Context) (low : List ℕ) (f : Flags) (ram : List ℕ) (queues : List (List ℕ)) → k ≤ 6000 → Inv m x ram →
+    begun : (s : State) (k : ℕ) (m : MonitorBlock) (oc at : ℕ) (arguments : List ℕ) (lr : ℕ) (x : Context) (low : List ℕ) (f : Flags) (ram : List ℕ) (queues : List (List ℕ)) → k ≤ 6000 → Inv m x ram →
         StateFits g.image (works x low (base g + oc) lr at f ram queues) → Runs by_mpu g.image k s (works x low (base g + oc) lr at f ram queues) [] →
         oc % 8 ≡ 0 → g.stack ≤ oc → base g + oc ≤ m.top → ((n : ℕ) → n < length arguments → get_or low n 0 ≡ get_or arguments n 0) →
         CalleeStands g fn q labels m.current w at (length arguments) → length m.loans ≤ 32 → Begun s k m oc at arguments lr x low f ram queues ⊎ RunsShort g Inv (LacksRoom g w oc (length m.loans + length (lends_of fn q))) 16384 s
@@ -87,7 +87,7 @@ module _ (g : Setting) (Inv : Block → Context → List ℕ → Type 0) (law : 
                 RunsShort g Inv (LacksRoom g w (o + 4 * w + 4) (length m.loans + length (lends_of fn q))) (4 + w + (2 + lend_steps) * 33) (works x low (base g + oc) lr at f ram queues)
             back_end o z e = subst (λ (a : ℕ). RunsShort g Inv (LacksRoom g w (o + 4 * w + 4) (length m.loans + length (lends_of fn q))) (4 + w + (2 + lend_steps) * 33) (works x low a lr at f ram queues)) (sym z) e
 
-    pub inside : (m : Block) (n : ℕ) (s : State) (x : Context) (oc lr at : ℕ) (arguments ram : List ℕ) (queues : List (List ℕ)) → n ≤ 8 → Inv m x ram → StateFits g.image s →
+    pub inside : (m : MonitorBlock) (n : ℕ) (s : State) (x : Context) (oc lr at : ℕ) (arguments ram : List ℕ) (queues : List (List ℕ)) → n ≤ 8 → Inv m x ram → StateFits g.image s →
         Arrives by_mpu g.image n s (record { context = x; registers = known arguments; sp = base g + oc; lr = lr; pc = at; ram = ram; queues = queues }) [] →
         oc % 8 ≡ 0 → g.stack ≤ oc → base g + oc ≤ m.top → CalleeStands g fn q labels m.current w at (length arguments) → length m.loans ≤ 32 →
         IsCalled g Inv fn q s m oc w at arguments lr ram queues ⊎ RunsShort g Inv (LacksRoom g w oc (length m.loans + length (lends_of fn q))) 16384 s
@@ -129,7 +129,7 @@ module _ (g : Setting) (Inv : Block → Context → List ℕ → Type 0) (law : 
             }
 
     -- at the SVC
-    pub across : (m : Block) (n : ℕ) (s : State) (x : Context) (oc lr pc entry site target : ℕ) (arguments ram : List ℕ) (queues : List (List ℕ)) → n ≤ 8 → Inv m x ram → StateFits g.image s →
+    pub across : (m : MonitorBlock) (n : ℕ) (s : State) (x : Context) (oc lr pc entry site target : ℕ) (arguments ram : List ℕ) (queues : List (List ℕ)) → n ≤ 8 → Inv m x ram → StateFits g.image s →
         Arrives by_mpu g.image n s (record { context = x; registers = known arguments; sp = base g + oc; lr = lr; pc = pc; ram = ram; queues = queues }) [] →
         oc % 8 ≡ 0 → g.stack ≤ oc → base g + oc ≤ m.top → Stands by_mpu g.image x.protection pc (svc 0) → g.has_code m.current pc ≡ true →
         HoldsHalf g.image (pc + 2) site → g.has_target site (pc + 2) entry target ≡ true → get_or x.high 4 0 ≡ entry + 1 → entry % 2 ≡ 0 →
@@ -189,7 +189,7 @@ module _ (g : Setting) (Inv : Block → Context → List ℕ → Type 0) (law : 
                 let v = ent.resumes in
                 let vw = v.within in
                 let vl = v.least in
-                let m1 : Block = entered m target (base g + top) (base g + oc - 32) in
+                let m1 : MonitorBlock = entered m target (base g + top) (base g + oc - 32) in
                 let sa = rules.stack_aligned in
                 let te = times_eight k g.eighth rules.eighth_aligned in
                 let cf = c.few in
@@ -255,7 +255,7 @@ module _ (g : Setting) (Inv : Block → Context → List ℕ → Type 0) (law : 
   -- ---- the four kinds of calls: `fc`, `qc` and `labels_c` are the caller's, whose frame is at oc
 
   module _ (fc : NumberedFunc) (qc : Places) (labels_c : List (Option ℕ)) (fn : NumberedFunc) (q : Places) (labels : List (Option ℕ)) where
-    pub calls : (m : Block) (x : Context) (low : List ℕ) (oc wc w lr pc : ℕ) (f : Flags) (to : Option ℕ) (h : ℕ) (args ram : List ℕ) (queues : List (List ℕ)) → Inv m x ram →
+    pub calls : (m : MonitorBlock) (x : Context) (low : List ℕ) (oc wc w lr pc : ℕ) (f : Flags) (to : Option ℕ) (h : ℕ) (args ram : List ℕ) (queues : List (List ℕ)) → Inv m x ram →
         StateFits g.image (works x low (base g + oc) lr pc f ram queues) → oc % 8 ≡ 0 → g.stack ≤ oc → base g + oc + 4 * wc ≤ m.top → base g + oc ≤ m.top → AllBelow wc args → pc < 2 ^ 30 → entry_address qc h < 2 ^ 30 →
         Owns g m.current labels_c pc (inst_items fc qc pc None (Call to h args)) → CalleeStands g fn q labels m.current w (entry_address qc h) (length (frame_words oc ram args)) → length m.loans ≤ 32 →
         IsCalled g Inv fn q (works x low (base g + oc) lr pc f ram queues) m oc w (entry_address qc h) (frame_words oc ram args) (pc + call_size false args + 1) ram queues
@@ -270,7 +270,7 @@ module _ (g : Setting) (Inv : Block → Context → List ℕ → Type 0) (law : 
         let a = ((laws.within by_mpu g.image fc qc labels_c p oc wc).call to h args rm below few near near2 has).arrives low f (holds_nothing low ft.core.low_count) in
         inside fn q labels w m (length args + 1) _ x oc _ _ (frame_words oc ram args) ram queues (omega arith) i ft a al lo hi2 c loans
 
-    pub icalls : (m : Block) (x : Context) (low : List ℕ) (oc wc w lr pc callee : ℕ) (f : Flags) (to : Option ℕ) (h : ℕ) (args ram : List ℕ) (queues : List (List ℕ)) → Inv m x ram →
+    pub icalls : (m : MonitorBlock) (x : Context) (low : List ℕ) (oc wc w lr pc callee : ℕ) (f : Flags) (to : Option ℕ) (h : ℕ) (args ram : List ℕ) (queues : List (List ℕ)) → Inv m x ram →
         StateFits g.image (works x low (base g + oc) lr pc f ram queues) → oc % 8 ≡ 0 → g.stack ≤ oc → base g + oc + 4 * wc ≤ m.top → base g + oc ≤ m.top → h < wc → AllBelow wc args → read 4 (oc + 4 * h) ram ≡ callee + 1 → callee % 2 ≡ 0 →
         Owns g m.current labels_c pc (inst_items fc qc pc None (ICall to h args)) → CalleeStands g fn q labels m.current w callee (length (frame_words oc ram args)) → length m.loans ≤ 32 →
         IsCalled g Inv fn q (works x low (base g + oc) lr pc f ram queues) m oc w callee (frame_words oc ram args) (pc + icall_size false args + 1) ram queues
@@ -287,7 +287,7 @@ module _ (g : Setting) (Inv : Block → Context → List ℕ → Type 0) (law : 
         let i1 : Inv m (with_r12 x (callee + 1)) ram = law.keeps.any_high m x (set x.high 4 (callee + 1)) ram i (length-set x.high 4 (callee + 1) ∙ five) in
         inside fn q labels w m (length args + 3) _ (with_r12 x (callee + 1)) oc _ _ (frame_words oc ram args) ram queues (omega arith) i1 ft a al lo hi2 c loans
 
-    pub crosses : (m : Block) (x : Context) (low : List ℕ) (oc wc w lr pc site target : ℕ) (f : Flags) (to : Option ℕ) (h : ℕ) (args ram : List ℕ) (queues : List (List ℕ)) → Inv m x ram →
+    pub crosses : (m : MonitorBlock) (x : Context) (low : List ℕ) (oc wc w lr pc site target : ℕ) (f : Flags) (to : Option ℕ) (h : ℕ) (args ram : List ℕ) (queues : List (List ℕ)) → Inv m x ram →
         StateFits g.image (works x low (base g + oc) lr pc f ram queues) → oc % 8 ≡ 0 → g.stack ≤ oc → base g + oc + 4 * wc ≤ m.top → base g + oc ≤ m.top → AllBelow wc args → entry_address qc h + 1 < 2 ^ 32 → entry_address qc h % 2 ≡ 0 →
         Owns g m.current labels_c pc (inst_items fc qc pc (Some site) (Call to h args)) → g.has_target site (pc + (8 + 2 * length args) + 2) (entry_address qc h) target ≡ true →
         CalleeStands g fn q labels target w (entry_address qc h) (length (frame_words oc ram args)) → length m.loans ≤ 32 →
@@ -311,7 +311,7 @@ module _ (g : Setting) (Inv : Block → Context → List ℕ → Type 0) (law : 
         across fn q labels w m (length args + 2) _ (with_r12 x v) oc _ (pc + (8 + 2 * length args)) (entry_address qc h) site target (frame_words oc ram args) ram queues (omega arith) i1 ft a al lo hi2
         st2.0 (call_owned g m.current x.protection (pc + (8 + 2 * length args)) 0 st.0) st.1 hit r12 even (frame_words_fit oc ram args) c loans
 
-    pub icrosses : (m : Block) (x : Context) (low : List ℕ) (oc wc w lr pc entry site target : ℕ) (f : Flags) (to : Option ℕ) (h : ℕ) (args ram : List ℕ) (queues : List (List ℕ)) → Inv m x ram →
+    pub icrosses : (m : MonitorBlock) (x : Context) (low : List ℕ) (oc wc w lr pc entry site target : ℕ) (f : Flags) (to : Option ℕ) (h : ℕ) (args ram : List ℕ) (queues : List (List ℕ)) → Inv m x ram →
         StateFits g.image (works x low (base g + oc) lr pc f ram queues) → oc % 8 ≡ 0 → g.stack ≤ oc → base g + oc + 4 * wc ≤ m.top → base g + oc ≤ m.top → h < wc → AllBelow wc args → read 4 (oc + 4 * h) ram ≡ entry + 1 → entry % 2 ≡ 0 →
         Owns g m.current labels_c pc (inst_items fc qc pc (Some site) (ICall to h args)) → g.has_target site (pc + (4 + 2 * length args) + 2) entry target ≡ true →
         CalleeStands g fn q labels target w entry (length (frame_words oc ram args)) → length m.loans ≤ 32 →

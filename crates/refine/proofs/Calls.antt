@@ -18,7 +18,7 @@ use Rattle.ir_laws.specs.States.{FrameFits}
 use Rattle.code_model.specs.Places.{entry_address}
 use Rattle.code_model.specs.Sizes.{entry_size, call_size}
 use Rattle.code_model.specs.Templates.{inst_items, entry_items}
-use Rattle.monitor_model.specs.Block.{Block, entered}
+use Rattle.monitor_model.specs.Block.{MonitorBlock, entered}
 use Rattle.monitor_model.specs.Setting.{Setting}
 use Rattle.monitor_model.specs.Threads.{base}
 use Rattle.code_effects.specs.Calls.{AllBelow}
@@ -56,7 +56,7 @@ pub all_below : (g : NumberedFunc) (ts : PlainTypes) (args : List ℕ) (k : ℕ)
 all_below g ts [] k each = tt
 all_below g ts (a ∷ more) k each = ((each 0 (omega arith)).there, all_below g ts more (suc k) (λ j l. let z : k + suc j ≡ suc k + j = omega arith in subst (λ (n : ℕ). Has g (get_or more j 0) (in_row ts n)) z (each (suc j) (omega arith))))
 
-module _ (k : Build) (Inv : Block → Context → List ℕ → Type 0) (sizes : PlainType → ℕ) (S : ObjectSets) (w : Premises k Inv sizes S) (places : ℕ → ℕ) where
+module _ (k : Build) (Inv : MonitorBlock → Context → List ℕ → Type 0) (sizes : PlainType → ℕ) (S : ObjectSets) (w : Premises k Inv sizes S) (places : ℕ → ℕ) where
   abbrev pub gs : Setting
   gs = k.setting
 
@@ -86,7 +86,7 @@ module _ (k : Build) (Inv : Block → Context → List ℕ → Type 0) (sizes : 
     called_step h args link pc site eb ep b few fit c =
         let oc : ℕ = places fr.number in
         let o : ℕ = places m.made in
-        let bl : Block = block_of k places (wheres (fr ∷ rest)) in
+        let bl : MonitorBlock = block_of k places (wheres (fr ∷ rest)) in
         let nf : Frame = callee_frame h args in
         let e = c.goes in
         let ends : o + 4 * words_at k h + 4 ≡ oc = subst (λ (x : Option ℕ). o + 4 * words_at k h + 4 ≡ ceiling_by k places x (wheres (fr ∷ rest))) site fit.ends in
@@ -133,7 +133,7 @@ module _ (k : Build) (Inv : Block → Context → List ℕ → Type 0) (sizes : 
     crossed_step h args number ret pc top site eb ep b few tops fit c =
         let oc : ℕ = places fr.number in
         let o : ℕ = places m.made in
-        let bl : Block = block_of k places (wheres (fr ∷ rest)) in
+        let bl : MonitorBlock = block_of k places (wheres (fr ∷ rest)) in
         let nf : Frame = callee_frame h args in
         let d = c.called in
         let e = d.goes in
@@ -201,7 +201,7 @@ module _ (k : Build) (Inv : Block → Context → List ℕ → Type 0) (sizes : 
     abbrev pub LiesBelow : (h : ℕ) → Type 0
     LiesBelow h = (o : ℕ) → o + 4 * words_at k h + 4 ≡ ceiling_by k places (site_at k fr.func fr.block fr.place) (wheres (fr ∷ rest)) → gs.stack ≤ o → places m.made ≡ o
 
-    abbrev below_by : Option ℕ → (h : ℕ) → Block
+    abbrev below_by : Option ℕ → (h : ℕ) → MonitorBlock
     below_by x h = beneath k places x h (wheres (fr ∷ rest)) (block_of k places (wheres (fr ∷ rest)))
 
     below_loans : (x : Option ℕ) (h : ℕ) → length (below_by x h).loans ≡ length (block_of k places (wheres (fr ∷ rest))).loans
@@ -293,7 +293,7 @@ module _ (k : Build) (Inv : Block → Context → List ℕ → Type 0) (sizes : 
     call_inside to h args e there ty site lies =
         let f : ℕ = fr.func in
         let oc : ℕ = places fr.number in
-        let bl : Block = block_of k places (wheres (fr ∷ rest)) in
+        let bl : MonitorBlock = block_of k places (wheres (fr ∷ rest)) in
         let f0 = st.fits.0 in
         let tl = top_least k places (where_of fr) (wheres rest) st.fits in
         let en = f0.ends in

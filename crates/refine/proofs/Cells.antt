@@ -23,7 +23,7 @@ use Rattle.ir_laws.specs.Sets.{ObjectSets}
 use Rattle.ir_laws.specs.Typed.{Fits, number, null, at, code}
 use Rattle.plan_model.specs.declared.needs.SiteNeed.{SiteNeed}
 use Rattle.plan_model.specs.Crossing.{crosses, stands_at, site_number}
-use Rattle.monitor_model.specs.Block.{Block}
+use Rattle.monitor_model.specs.Block.{MonitorBlock}
 use Rattle.monitor_model.specs.Threads.{base, stack_end, OffFrame}
 use Rattle.refine.specs.Areas.{Area, IsAt}
 use Rattle.base_laws.specs.Lists.{Each}
@@ -94,7 +94,7 @@ each_at P [] n c e i = absurd i
 each_at P (d ∷ cs) zero c e i = subst P i e.0
 each_at P (d ∷ cs) (suc n) c e i = each_at P cs n c e.1 i
 
-module _ (k : Build) (Inv : Block → Context → List ℕ → Type 0) (sizes : PlainType → ℕ) (S : ObjectSets) (w : Premises k Inv sizes S) (places : ℕ → ℕ) where
+module _ (k : Build) (Inv : MonitorBlock → Context → List ℕ → Type 0) (sizes : PlainType → ℕ) (S : ObjectSets) (w : Premises k Inv sizes S) (places : ℕ → ℕ) where
   pub cell_word : (X : Object → Bool) (t : PlainType) (v : Value) (p : ProtectionState) → Fits k.program sizes X t v → cut (width_of t) (word_of k places v) ≡ word_of k places v
   cell_word X t _ p (number n i h) = small_cell t n i h
   cell_word X t _ p (null h) = cut_zero (width_of t)
@@ -132,7 +132,7 @@ module _ (k : Build) (Inv : Block → Context → List ℕ → Type 0) (sizes : 
   unfolding site_number
   no_site h f b p = ap (λ (ss : List SiteNeed). Rattle.std.specs.Prelude.position (stands_at f b p) ss) (no_sites h k.needs.sites)
 
-  open_by : (x : Option ℕ) (f : ℕ) (ws : List Where) (b : Block) → x ≡ None → (beneath k places x f ws b).top ≡ b.top
+  open_by : (x : Option ℕ) (f : ℕ) (ws : List Where) (b : MonitorBlock) → x ≡ None → (beneath k places x f ws b).top ≡ b.top
   open_by None f ws b e = refl
   open_by (Some s) f ws b e = cc
 

@@ -13,7 +13,7 @@ use Rattle.code_model.specs.declared.places.Places.{Places}
 use Rattle.code_model.specs.FrameShape.{frame_shape}
 use Rattle.code_model.specs.Sizes.{entry_size}
 use Rattle.code_model.specs.Templates.{entry_items}
-use Rattle.monitor_model.specs.Block.{Block}
+use Rattle.monitor_model.specs.Block.{MonitorBlock}
 use Rattle.monitor_model.specs.Setting.{Setting}
 use Rattle.monitor_model.specs.Threads.{base, Stays}
 use Rattle.monitor_model.specs.Law.{Law}
@@ -40,7 +40,7 @@ some_steps w = by (nat_le w 127)
     by true = omega arith
     by false = omega arith
 
-module _ (g : Setting) (Inv : Block → Context → List ℕ → Type 0) (law : Law g Inv) (rules : MemoryRules g) (laws : CodeLaws) (fn : NumberedFunc) (q : Places) (labels : List (Option ℕ)) where
+module _ (g : Setting) (Inv : MonitorBlock → Context → List ℕ → Type 0) (law : Law g Inv) (rules : MemoryRules g) (laws : CodeLaws) (fn : NumberedFunc) (q : Places) (labels : List (Option ℕ)) where
   -- the frame, right below the caller's stack pointer
   pub record Framed (x : Context) (low : List ℕ) (o w lr at : ℕ) (f : Flags) (arguments : List ℕ) (ram : List ℕ) (queues : List (List ℕ)) : Type 0 where
     pub count : ℕ
@@ -53,7 +53,7 @@ module _ (g : Setting) (Inv : Block → Context → List ℕ → Type 0) (law : 
     pub filled : Filled o w lr arguments memory
     pub kept : Kept o (o + 4 * w + 4) ram memory
 
-  pub frames : (w : ℕ) → (frame_shape fn).words ≡ w → (m : Block) (x : Context) (low : List ℕ) (o lr at : ℕ) (f : Flags) (arguments : List ℕ) (ram : List ℕ) (queues : List (List ℕ)) → Inv m x ram →
+  pub frames : (w : ℕ) → (frame_shape fn).words ≡ w → (m : MonitorBlock) (x : Context) (low : List ℕ) (o lr at : ℕ) (f : Flags) (arguments : List ℕ) (ram : List ℕ) (queues : List (List ℕ)) → Inv m x ram →
       StateFits g.image (works x low (base g + o + 4 * w + 4) lr at f ram queues) → o % 4 ≡ 0 → g.stack ≤ o → base g + o + 4 * w + 4 ≤ m.top → length arguments ≡ row_length fn.params → length arguments ≤ w →
       ((k : ℕ) → k < length arguments → get_or low k 0 ≡ get_or arguments k 0) → Owns g m.current labels at (entry_items fn q) → Framed x low o w lr at f arguments ram queues
   frames w is m x low o lr at f arguments ram queues i ft al lo hi counts few agree code =

@@ -16,7 +16,7 @@ use Rattle.ir_laws.specs.States.{Alike}
 use Rattle.ir_laws.proofs.Values.{entered_length}
 use Rattle.monitor_model.specs.Setting.{Setting}
 use Rattle.monitor_model.specs.Threads.{stack_end}
-use Rattle.refine.specs.Areas.{Area, Laid, Has, IsAt, Inside, Off, Spot}
+use Rattle.refine.specs.Areas.{Area, Laid, Has, IsAt, Inside, Off, IsWordIn}
 use Rattle.base_laws.specs.Lists.{Each}
 use Rattle.base_laws.proofs.Lists.{each_both, each_to, each_left, each_right}
 use Rattle.refine.proofs.Areas.{laid_join, has_join, read_zero, cut_zero, spot_front, spot_back}
@@ -213,7 +213,7 @@ module _ (k : Build) (places : ℕ → ℕ) where
 
 -- ---- one register
 
-home_spot : (n o r v : ℕ) (ws : List ℕ) → length ws ≡ n → r < n → Spot (homes o n) ws (record { at = o + 4 * r; width = 4 }) (get_or ws r 0) v (set ws r v)
+home_spot : (n o r v : ℕ) (ws : List ℕ) → length ws ≡ n → r < n → IsWordIn (homes o n) ws (record { at = o + 4 * r; width = 4 }) (get_or ws r 0) v (set ws r v)
 home_spot zero o r v ws l h = absurd (omega arith)
 home_spot (suc n) o r v [] l h = absurd (omega arith)
 home_spot (suc n) o zero v (w ∷ ws) l h = record { index = 0; is_at = let z : o ≡ o + 4 * 0 = omega arith in ap (λ (a : ℕ). record { at = a; width = 4 }) z; holds = refl; sets = refl }
@@ -273,21 +273,21 @@ module _ (k : Build) (places : ℕ → ℕ) where
 
   -- register r of the running function
   pub register_spot : (fr : Frame) (rest : List Frame) (ss : List ℕ) (gs : List (List Value)) (r : ℕ) (v : Value) → GoodShape k fr.func → IsWhole k fr → r < length fr.regs →
-      Spot (areas k places (wheres (fr ∷ rest))) (held k places ss (fr ∷ rest) gs) (record { at = places fr.number + 4 * r; width = 4 }) (word_of k places (get_or fr.regs r (Number 0))) (word_of k places v)
+      IsWordIn (areas k places (wheres (fr ∷ rest))) (held k places ss (fr ∷ rest) gs) (record { at = places fr.number + 4 * r; width = 4 }) (word_of k places (get_or fr.regs r (Number 0))) (word_of k places v)
       (held k places ss (with_register fr r v ∷ rest) gs)
   register_spot fr rest ss gs r v sh wh h =
       let n : ℕ = length (func k fr.func).regs in
       let o : ℕ = places fr.number in
       let lw : length (words_of k places fr.regs) ≡ n = length-map fr.regs (word_of k places) ∙ wh.regs in
       let s = home_spot n o r (word_of k places v) (words_of k places fr.regs) lw (omega arith) in
-      let s2 : Spot (homes o n) (words_of k places fr.regs) (record { at = o + 4 * r; width = 4 }) (word_of k places (get_or fr.regs r (Number 0))) (word_of k places v) (words_of k places (set fr.regs r v)) =
+      let s2 : IsWordIn (homes o n) (words_of k places fr.regs) (record { at = o + 4 * r; width = 4 }) (word_of k places (get_or fr.regs r (Number 0))) (word_of k places v) (words_of k places (set fr.regs r v)) =
       record { index = s.index; is_at = s.is_at; holds = s.holds ∙ get_or-map (word_of k places) fr.regs r (Number 0) 0 h; sets = s.sets ∙ sym (map_set (word_of k places) fr.regs r v) } in
       spot_front (own k fr.func o) (waiting_by k places (site_of k (wheres rest)) (wheres rest) ++ areas k places (wheres rest)) (own_words k places fr (link k places (wheres rest))) _ _ _ _ _ (own_length fr o (link k places (wheres rest)) sh wh)
       (spot_front (homes o n) _ (words_of k places fr.regs) _ _ _ _ _ (length_homes n o ∙ sym lw) s2)
 
 -- ---- cells of locals
 
-cell_spot : (o n : ℕ) (v : ℕ) (cs : List CellPlace) (ws : List ℕ) → length cs ≡ length ws → n < length cs → (c : CellPlace) → cell_in cs n ≡ c → Spot (cells_at o cs) ws (record { at = o + c.at; width = width_of c.ty }) (get_or ws n 0) v (set ws n v)
+cell_spot : (o n : ℕ) (v : ℕ) (cs : List CellPlace) (ws : List ℕ) → length cs ≡ length ws → n < length cs → (c : CellPlace) → cell_in cs n ≡ c → IsWordIn (cells_at o cs) ws (record { at = o + c.at; width = width_of c.ty }) (get_or ws n 0) v (set ws n v)
 cell_spot o n v [] ws l h c e = absurd (omega arith)
 cell_spot o n v (d ∷ cs) [] l h c e = absurd (omega arith)
 cell_spot o zero v (d ∷ cs) (w ∷ ws) l h c e = record { index = 0; is_at = ap (λ (x : CellPlace). record { at = o + x.at; width = width_of x.ty }) e; holds = refl; sets = refl }
@@ -298,7 +298,7 @@ cell_spot o (suc n) v (d ∷ cs) (w ∷ ws) l h c e =
 module _ (k : Build) (places : ℕ → ℕ) where
   -- cell n of object i of a row of objects
   pub object_spot : (o i n : ℕ) (v : Value) (ss : List ℕ) (css : List Shape) (vss : List (List Value)) (c : CellPlace) → length ss ≡ length css → Alike vss css → i < length css → n < length (get_or css i empty).cells → cell_in (get_or css i empty).cells n ≡ c →
-      Spot (objects_at o ss css) (object_words k places vss) (record { at = o + get_or ss i 0 + c.at; width = width_of c.ty }) (word_of k places (get_or (get_or vss i []) n (Number 0))) (word_of k places v)
+      IsWordIn (objects_at o ss css) (object_words k places vss) (record { at = o + get_or ss i 0 + c.at; width = width_of c.ty }) (word_of k places (get_or (get_or vss i []) n (Number 0))) (word_of k places v)
       (object_words k places (set vss i (set (get_or vss i []) n v)))
   object_spot o i n v ss [] vss c l a h m e = absurd (omega arith)
   object_spot o i n v [] (cs ∷ css) vss c l a h m e = absurd (omega arith)
@@ -306,7 +306,7 @@ module _ (k : Build) (places : ℕ → ℕ) where
   object_spot o zero n v (s ∷ ss) (cs ∷ css) (vs ∷ vss) c l a h m e =
       let lm = length-map vs (word_of k places) in
       let s0 = cell_spot (o + s) n (word_of k places v) cs.cells (words_of k places vs) (omega (arith, a.0)) m c e in
-      let s1 : Spot (cells_at (o + s) cs.cells) (words_of k places vs) (record { at = o + s + c.at; width = width_of c.ty }) (word_of k places (get_or vs n (Number 0))) (word_of k places v) (words_of k places (set vs n v)) =
+      let s1 : IsWordIn (cells_at (o + s) cs.cells) (words_of k places vs) (record { at = o + s + c.at; width = width_of c.ty }) (word_of k places (get_or vs n (Number 0))) (word_of k places v) (words_of k places (set vs n v)) =
       record { index = s0.index; is_at = s0.is_at; holds = s0.holds ∙ get_or-map (word_of k places) vs n (Number 0) 0 (omega (arith, a.0)); sets = s0.sets ∙ sym (map_set (word_of k places) vs n v) } in
       spot_front (cells_at (o + s) cs.cells) (objects_at o ss css) (words_of k places vs) (object_words k places vss) _ _ _ _ (length_cells (o + s) cs.cells ∙ sym a.0 ∙ sym lm) s1
   object_spot o (suc i) n v (s ∷ ss) (cs ∷ css) (vs ∷ vss) c l a h m e =

@@ -4,7 +4,7 @@ use Rattle.machine_protection.specs.declared.region.Access.TheVariants.{Write}
 use Rattle.machine_protection.specs.Protection.{permits}
 use Rattle.machine_model.specs.State.{by_mpu, is_unprivileged}
 use Rattle.machine_model.specs.RunningCode.{Context}
-use Rattle.monitor_model.specs.Block.{Block}
+use Rattle.monitor_model.specs.Block.{MonitorBlock}
 use Rattle.monitor_model.specs.Invariant.{Invariant}
 use Rattle.monitor_confined.specs.Reaches.{ThreadsReach}
 use Rattle.monitor_confined.proofs.Reaches.{UnitLaws, stack_some, current_word, writes}
@@ -39,12 +39,12 @@ guards_serve unit short code i t p stands law guarded = record {
     base_is : i.ram_base + (t.stack.base - i.ram_base) ≡ t.stack.base
     base_is = let e = p.stack_base in let x = p.stack.place.0 in omega (arith, e, x)
 
-    none : (m : Block) (x : Context) (ram : List ℕ) (a : ℕ) → Invariant i t m x ram → a < t.stack.base → t.stack.base ≤ a + guard_bytes → permits x.protection.mpu true Write a ≡ true → ⊥
+    none : (m : MonitorBlock) (x : Context) (ram : List ℕ) (a : ℕ) → Invariant i t m x ram → a < t.stack.base → t.stack.base ≤ a + guard_bytes → permits x.protection.mpu true Write a ≡ true → ⊥
     none m x ram a h below near e =
         ⊎_elim (λ slot. guarded m.current a h.orderly.current_in below near slot) (λ o. let lo = o.0 in absurd (omega (arith, lo, below)))
         (writes unit i t p m.current m.top (length m.saved) h.orderly.is_top h.orderly.current_in x.protection.mpu h.control h.regions a e)
 
-    refuse : (m : Block) (x : Context) (ram : List ℕ) (a : ℕ) → Invariant i t m x ram → a < t.stack.base → t.stack.base ≤ a + guard_bytes → by_mpu x.protection Write a ≡ false
+    refuse : (m : MonitorBlock) (x : Context) (ram : List ℕ) (a : ℕ) → Invariant i t m x ram → a < t.stack.base → t.stack.base ≤ a + guard_bytes → by_mpu x.protection Write a ≡ false
     refuse m x ram a h below near = by (permits x.protection.mpu true Write a) refl
       where
         user : is_unprivileged x.protection ≡ true

@@ -12,7 +12,7 @@ use Rattle.plan_model.specs.declared.groups.Groups.{Groups}
 use Rattle.plan_model.specs.PointsTo.{IsLeast}
 use Rattle.plan_model.specs.Needs.{AreNeeds}
 use Rattle.code_model.specs.CompartmentCode.{CodePlaces}
-use Rattle.monitor_model.specs.Block.{Block}
+use Rattle.monitor_model.specs.Block.{MonitorBlock}
 use Rattle.monitor_model.specs.Setting.{Setting, setting_of}
 use Rattle.monitor_model.specs.Invariant.{Invariant}
 use Rattle.monitor_model.specs.Law.{Law}
@@ -28,7 +28,7 @@ use Rattle.refine.proofs.Given.{laid_globals, laid_locals, frame_limited, facts_
 use Rattle.refine.proofs.WholeRuns.{refined, refined_or_stopped}
 
 module _ (laws : CodeLaws) (source : SourceLaws) where
-  premises : (w : PlainFirmware) (S : ObjectSets) (g : Setting) (n : Needs) (groups : Groups) (places : CodePlaces) (Inv : Block → Context → List ℕ → Type 0) → IsTyped w → IsWithinLimits w → AreNeeds (resolve w) S n.closed n → Law g Inv →
+  premises : (w : PlainFirmware) (S : ObjectSets) (g : Setting) (n : Needs) (groups : Groups) (places : CodePlaces) (Inv : MonitorBlock → Context → List ℕ → Type 0) → IsTyped w → IsWithinLimits w → AreNeeds (resolve w) S n.closed n → Law g Inv →
       Linked (build_of w g n groups places) → Premises (build_of w g n groups places) Inv (sizes_of w) S
   premises w S g n groups places Inv t l needs law linked = record {
     law = law;
@@ -55,7 +55,7 @@ module _ (laws : CodeLaws) (source : SourceLaws) where
   }
 
   -- whatever invariant the monitor's law speaks of
-  pub image_refines : (w : PlainFirmware) (S : ObjectSets) (g : Setting) (n : Needs) (groups : Groups) (places : CodePlaces) (Inv : Block → Context → List ℕ → Type 0) → IsTyped w → IsWithinLimits w → IsLeast (resolve w) S → AreNeeds (resolve w) S n.closed n → Law g Inv →
+  pub image_refines : (w : PlainFirmware) (S : ObjectSets) (g : Setting) (n : Needs) (groups : Groups) (places : CodePlaces) (Inv : MonitorBlock → Context → List ℕ → Type 0) → IsTyped w → IsWithinLimits w → IsLeast (resolve w) S → AreNeeds (resolve w) S n.closed n → Law g Inv →
       Linked (build_of w g n groups places) → Refines w n groups (8 * g.eighth) g.words g.image
   image_refines w S g n groups places Inv t l least needs law linked = record {
     matched = λ queues first count reset good.
@@ -64,7 +64,7 @@ module _ (laws : CodeLaws) (source : SourceLaws) where
   }
 
   -- or stops for want of stack, whatever room its frames take, where the law of the stack holds
-  pub image_refines_or_stops : (w : PlainFirmware) (S : ObjectSets) (g : Setting) (n : Needs) (groups : Groups) (places : CodePlaces) (Inv : Block → Context → List ℕ → Type 0) → IsTyped w → IsWithinLimits w → IsLeast (resolve w) S → AreNeeds (resolve w) S n.closed n → Law g Inv →
+  pub image_refines_or_stops : (w : PlainFirmware) (S : ObjectSets) (g : Setting) (n : Needs) (groups : Groups) (places : CodePlaces) (Inv : MonitorBlock → Context → List ℕ → Type 0) → IsTyped w → IsWithinLimits w → IsLeast (resolve w) S → AreNeeds (resolve w) S n.closed n → Law g Inv →
       Linked (build_of w g n groups places) → StackLaw g Inv → RefinesOrStops w groups g.words g.image
   image_refines_or_stops w S g n groups places Inv t l least needs law linked stack = record {
     served = λ queues first count reset no_fault.

@@ -15,7 +15,7 @@ use Rattle.code_model.specs.FrameShape.{frame_shape}
 use Rattle.code_model.specs.Places.{Lend}
 use Rattle.code_model.specs.Sizes.{entry_size}
 use Rattle.code_model.specs.Templates.{lends_of, entry_items}
-use Rattle.monitor_model.specs.Block.{Block, lent}
+use Rattle.monitor_model.specs.Block.{MonitorBlock, lent}
 use Rattle.monitor_model.specs.Setting.{Setting}
 use Rattle.monitor_model.specs.Threads.{svc, lend_steps, base, Stays, AtInstr}
 use Rattle.monitor_model.specs.Law.{Law}
@@ -41,25 +41,25 @@ pub sooner : (g : Setting) (most more : ℕ) (s : State) → most ≤ more → E
 sooner g most more s h e = let b = e.within in record { count = e.count; least = e.least; within = omega arith; last = e.last; end = e.end; over = e.over; names = e.names; runs = e.runs }
 
 -- the same, with its reason
-pub behind : (g : Setting) (Inv : Block → Context → List ℕ → Type 0) (Why Reason : Type 0) (k most more : ℕ) (s t : State) → (Why → Reason) → k + most ≤ more → Runs by_mpu g.image k s t [] → RunsShort g Inv Why most t → RunsShort g Inv Reason more s
+pub behind : (g : Setting) (Inv : MonitorBlock → Context → List ℕ → Type 0) (Why Reason : Type 0) (k most more : ℕ) (s t : State) → (Why → Reason) → k + most ≤ more → Runs by_mpu g.image k s t [] → RunsShort g Inv Why most t → RunsShort g Inv Reason more s
 behind g Inv Why Reason k most more s t why h r e = record { reason = why e.reason; ends = λ stack. sooner g (k + most) more s h (later g k most s t r (e.ends stack)) }
 
 pub halted : (g : Setting) (number most : ℕ) (s : State) → NamesStack (Halt number) → HaltsBy g number most s → EndsShort g most s
 halted g number most s n h = record { count = h.count; least = h.least; within = h.within; last = h.last; end = Halt number; over = h.over; names = n; runs = h.runs }
 
-module _ (g : Setting) (Inv : Block → Context → List ℕ → Type 0) (law : Law g Inv) (rules : MemoryRules g) (laws : CodeLaws) (fn : NumberedFunc) (q : Places) (labels : List (Option ℕ)) where
+module _ (g : Setting) (Inv : MonitorBlock → Context → List ℕ → Type 0) (law : Law g Inv) (rules : MemoryRules g) (laws : CodeLaws) (fn : NumberedFunc) (q : Places) (labels : List (Option ℕ)) where
   -- the loans of a function's locals, from number k on
-  record Lent (at k : ℕ) (m : Block) (o : ℕ) (from : State) (ds : List Lend) (ram : List ℕ) (queues : List (List ℕ)) : Type 0 where
+  record Lent (at k : ℕ) (m : MonitorBlock) (o : ℕ) (from : State) (ds : List Lend) (ram : List ℕ) (queues : List (List ℕ)) : Type 0 where
     few : length m.loans + length ds ≤ 32
     room : 1 ≤ length ds → g.stack + 32 ≤ o
     goes : Goes g Inv ((2 + lend_steps) * length ds) from (all_lent g o m ds) (base g + o) (at + entry_size fn (k + length ds)) o ram queues
 
   -- or one of them lacks room
-  abbrev Lacks : Block → (o : ℕ) → List Lend → Type 0
+  abbrev Lacks : MonitorBlock → (o : ℕ) → List Lend → Type 0
   Lacks m o ds = (o < g.stack + 32) ⊎ (32 < length m.loans + length ds)
 
   -- at the SVC of one of them
-  record AtLend (at k : ℕ) (m : Block) (x : Context) (o lr : ℕ) (d : Lend) (from : State) (ram : List ℕ) (queues : List (List ℕ)) : Type 0 where
+  record AtLend (at k : ℕ) (m : MonitorBlock) (x : Context) (o lr : ℕ) (d : Lend) (from : State) (ram : List ℕ) (queues : List (List ℕ)) : Type 0 where
     low : List ℕ
     flags : Flags
     runs : Runs by_mpu g.image 2 from (works x low (base g + o) lr (at + entry_size fn k + 4) flags ram queues) []
@@ -71,7 +71,7 @@ module _ (g : Setting) (Inv : Block → Context → List ℕ → Type 0) (law : 
     stands : Stands by_mpu g.image x.protection (at + entry_size fn k + 4) (svc 2)
     next : at + entry_size fn k + 4 + 2 ≡ at + entry_size fn (suc k)
 
-  at_lend : (w at k : ℕ) (m : Block) (x : Context) (low : List ℕ) (o lr : ℕ) (f : Flags) (d : Lend) (ds : List Lend) (ram : List ℕ) (queues : List (List ℕ)) → Inv m x ram → base g + o ≤ m.top →
+  at_lend : (w at k : ℕ) (m : MonitorBlock) (x : Context) (low : List ℕ) (o lr : ℕ) (f : Flags) (d : Lend) (ds : List Lend) (ram : List ℕ) (queues : List (List ℕ)) → Inv m x ram → base g + o ≤ m.top →
       StateFits g.image (works x low (base g + o) lr (at + entry_size fn k) f ram queues) → Owns g m.current labels at (entry_items fn q) → k + length (d ∷ ds) ≡ length (lends_of fn q) →
       get_or (lends_of fn q) k no_lend ≡ d → Lendable g w (d ∷ ds) → base g + o + 4 * w ≤ m.top → AtLend at k m x o lr d (works x low (base g + o) lr (at + entry_size fn k) f ram queues) ram queues
   at_lend w at k m x low o lr f d ds ram queues i hi ft code count is ok t =
@@ -102,7 +102,7 @@ module _ (g : Setting) (Inv : Block → Context → List ℕ → Type 0) (law : 
         next = effects.next_lend at k;
       }
 
-  lends : (w at k : ℕ) (m : Block) (x : Context) (low : List ℕ) (o lr : ℕ) (f : Flags) (ds : List Lend) (ram : List ℕ) (queues : List (List ℕ)) → Inv m x ram → o % 8 ≡ 0 → g.stack ≤ o → base g + o ≤ m.top →
+  lends : (w at k : ℕ) (m : MonitorBlock) (x : Context) (low : List ℕ) (o lr : ℕ) (f : Flags) (ds : List Lend) (ram : List ℕ) (queues : List (List ℕ)) → Inv m x ram → o % 8 ≡ 0 → g.stack ≤ o → base g + o ≤ m.top →
       StateFits g.image (works x low (base g + o) lr (at + entry_size fn k) f ram queues) → Owns g m.current labels at (entry_items fn q) → k + length ds ≡ length (lends_of fn q) →
       ((j : ℕ) → j < length ds → get_or (lends_of fn q) (k + j) no_lend ≡ get_or ds j no_lend) → Lendable g w ds → base g + o + 4 * w ≤ m.top → length m.loans ≤ 32 →
       Lent at k m o (works x low (base g + o) lr (at + entry_size fn k) f ram queues) ds ram queues
@@ -207,7 +207,7 @@ module _ (g : Setting) (Inv : Block → Context → List ℕ → Type 0) (law : 
                 };
               }
 
-  pub entered : (w : ℕ) → (frame_shape fn).words ≡ w → (m : Block) (x : Context) (low : List ℕ) (o lr at : ℕ) (f : Flags) (arguments : List ℕ) (ram : List ℕ) (queues : List (List ℕ)) → Inv m x ram →
+  pub entered : (w : ℕ) → (frame_shape fn).words ≡ w → (m : MonitorBlock) (x : Context) (low : List ℕ) (o lr at : ℕ) (f : Flags) (arguments : List ℕ) (ram : List ℕ) (queues : List (List ℕ)) → Inv m x ram →
       StateFits g.image (works x low (base g + o + 4 * w + 4) lr at f ram queues) → o % 8 ≡ 0 → g.stack ≤ o → base g + o + 4 * w + 4 ≤ m.top → length arguments ≡ row_length fn.params → length arguments ≤ w →
       ((k : ℕ) → k < length arguments → get_or low k 0 ≡ get_or arguments k 0) → Owns g m.current labels at (entry_items fn q) → Lendable g w (lends_of fn q) → length m.loans ≤ 32 →
       IsEntered g Inv fn q (works x low (base g + o + 4 * w + 4) lr at f ram queues) m o w at arguments lr ram queues

@@ -3,7 +3,7 @@ use Rattle.std.proofs.Common.{◌≡◌, ℕ, zero, suc, ◌+◌, ◌-◌, ◌*�
 use Rattle.std.proofs.Math.Nat.{suc-mul}
 use Rattle.ir_laws.specs.Moves.{Where}
 use Rattle.code_model.specs.FrameShape.{frame_size, frame_shape}
-use Rattle.monitor_model.specs.Block.{Block}
+use Rattle.monitor_model.specs.Block.{MonitorBlock}
 use Rattle.refine_model.specs.StackLimit as limit
 use Rattle.refine.specs.Builds.{Build, func, words_at, lends_at}
 use Rattle.refine.specs.Relation.{site_of, ceiling_by, beneath, block_of, AllAmple}
@@ -46,7 +46,7 @@ module _ (k : Build) where
   Placed places (w ∷ ws) = (places w.number ≡ k.setting.stack + position (w ∷ ws)) × Placed places ws
 
 module _ (k : Build) (places : ℕ → ℕ) (facts : Facts k) where
-  beneath_loans : (x : Option ℕ) (f : ℕ) (ws : List Where) (b : Block) → length (beneath k places x f ws b).loans ≡ length b.loans
+  beneath_loans : (x : Option ℕ) (f : ℕ) (ws : List Where) (b : MonitorBlock) → length (beneath k places x f ws b).loans ≡ length b.loans
   beneath_loans None f ws b = refl
   beneath_loans (Some s) f [] b = refl
   beneath_loans (Some s) f (c ∷ ws) b = refl

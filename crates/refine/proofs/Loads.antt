@@ -36,7 +36,7 @@ use Rattle.need_laws.specs.Reached.{IsListed, ListsPeriph}
 use Rattle.code_model.specs.Addresses.{load_at}
 use Rattle.code_model.specs.Sizes.{inst_size}
 use Rattle.code_model.specs.Templates.{inst_items}
-use Rattle.monitor_model.specs.Block.{Block}
+use Rattle.monitor_model.specs.Block.{MonitorBlock}
 use Rattle.monitor_model.specs.Threads.{base, OffFrame, IsLentTo}
 use Rattle.code_effects.specs.Points.{Point}
 use Rattle.code_effects.specs.Frames.{home}
@@ -44,7 +44,7 @@ use Rattle.code_effects.specs.Items.{ItemsAt}
 use Rattle.code_effects.specs.Accesses.{Reach}
 use Rattle.code_effects.proofs.Registers.{holds_nothing, holds_known}
 use Rattle.refine_model.specs.Refines.{HasFault}
-use Rattle.refine.specs.Areas.{Area, Spot}
+use Rattle.refine.specs.Areas.{Area, IsWordIn}
 use Rattle.refine.specs.Owned.{owner}
 use Rattle.refine.proofs.Areas.{loaded_spot}
 use Rattle.refine.proofs.Thread.{started, fits_after, at_pc, fits_pc, has_stays}
@@ -84,17 +84,17 @@ found_fits k sizes S (fr ∷ rest) f n h fs e = by (is_frame fr f n) refl e (λ 
     by true q e ih = let y : fr ≡ h = cc in let t = is_it fr f n q in subst (λ (z : Frame). FrameFits k.program sizes S z × (z.func ≡ f)) y (fs.0, t.1)
     by false q e ih = ih e
 
-pub all_whole : (k : Build) (Inv : Block → Context → List ℕ → Type 0) (sizes : PlainType → ℕ) (S : ObjectSets) (w : Premises k Inv sizes S) (places : ℕ → ℕ) (fs : List Frame) → FramesFit k.program sizes S fs → AllWhole k fs
+pub all_whole : (k : Build) (Inv : MonitorBlock → Context → List ℕ → Type 0) (sizes : PlainType → ℕ) (S : ObjectSets) (w : Premises k Inv sizes S) (places : ℕ → ℕ) (fs : List Frame) → FramesFit k.program sizes S fs → AllWhole k fs
 all_whole k Inv sizes S w places [] h = tt
 all_whole k Inv sizes S w places (fr ∷ rest) h = (whole k Inv sizes S w places fr h.0, all_whole k Inv sizes S w places rest h.2)
 
-module _ (k : Build) (Inv : Block → Context → List ℕ → Type 0) (sizes : PlainType → ℕ) (S : ObjectSets) (w : Premises k Inv sizes S) (places : ℕ → ℕ) where
+module _ (k : Build) (Inv : MonitorBlock → Context → List ℕ → Type 0) (sizes : PlainType → ℕ) (S : ObjectSets) (w : Premises k Inv sizes S) (places : ℕ → ℕ) where
   module _ (fr : Frame) (rest : List Frame) (m : Memory) (t : State) (st : HereStands k Inv sizes S w places fr rest m t) (sf : StateFits k.program sizes S (Running (fr ∷ rest) m)) where
     -- what one turn of the source comes to
     abbrev pub TurnFollows : SourceTurn → Type 0
     TurnFollows u = (HasFault u.to → ⊥) → Serves k Inv places (wheres (fr ∷ rest)) t u.to (option_to_list u.event)
 
-    abbrev pub block : Block
+    abbrev pub block : MonitorBlock
     block = block_of k places (wheres (fr ∷ rest))
 
     module _ (to from : ℕ) (ty : PlainType) (typed : CellTyped (func k fr.func) from to ty) (e : here k.program fr.func fr.block fr.place ≡ Does (Load to from ty)) where
@@ -119,7 +119,7 @@ module _ (k : Build) (Inv : Block → Context → List ℕ → Type 0) (sizes : 
           register_word k Inv sizes S w places fr rest m t st sf.0.0 from typed.from.there ∙ ap (λ (v : Value). word_of k places v) points ∙ ap word addr ∙ (let z : word a ≡ a = omega arith in z)
 
       -- what the cell holds
-      cell_read : (c : Area) (v : Value) (us : List ℕ) (new : Value) (X : Object → Bool) (ct : PlainType) → c.width ≡ width_of ty → width_of ct ≡ width_of ty → Fits k.program sizes X ct v → Spot (areas k places (wheres (fr ∷ rest))) (held k places st.statuses (fr ∷ rest) m.globals) c (word_of k places v) (word_of k places new) us →
+      cell_read : (c : Area) (v : Value) (us : List ℕ) (new : Value) (X : Object → Bool) (ct : PlainType) → c.width ≡ width_of ty → width_of ct ≡ width_of ty → Fits k.program sizes X ct v → IsWordIn (areas k places (wheres (fr ∷ rest))) (held k places st.statuses (fr ∷ rest) m.globals) c (word_of k places v) (word_of k places new) us →
           read (width_of ty) c.at st.ram ≡ word_of k places v
       cell_read c v us new X ct wid wt fits sp =
           ap (λ (z : ℕ). read z c.at st.ram) (sym wid) ∙ loaded_spot (areas k places (wheres (fr ∷ rest))) (held k places st.statuses (fr ∷ rest) m.globals) us c (word_of k places v) (word_of k places new) st.ram st.has sp
@@ -127,7 +127,7 @@ module _ (k : Build) (Inv : Block → Context → List ℕ → Type 0) (sizes : 
 
       -- where the protection unit permits it
       direct : (o : Instance) (c : ℕ) (a : Area) (v new : Value) (us : List ℕ) (X : Object → Bool) (ct : PlainType) → register fr from ≡ At o c → address_of k places o + c ≡ base k.setting + a.at → a.width ≡ width_of ty → width_of ct ≡ width_of ty → (base k.setting + a.at) % width_of ty ≡ 0 →
-          by_mpu st.context.protection Read (base k.setting + a.at) ≡ true → Fits k.program sizes X ct v → Spot (areas k places (wheres (fr ∷ rest))) (held k places st.statuses (fr ∷ rest) m.globals) a (word_of k places v) (word_of k places new) us →
+          by_mpu st.context.protection Read (base k.setting + a.at) ≡ true → Fits k.program sizes X ct v → IsWordIn (areas k places (wheres (fr ∷ rest))) (held k places st.statuses (fr ∷ rest) m.globals) a (word_of k places v) (word_of k places new) us →
           Follows k Inv places t (Running (onward (with_register fr to v) ∷ rest) m) []
       direct o c a v new us X ct points addr wid wt al ok fits sp =
           let ws = positive_width ty in
@@ -147,7 +147,7 @@ module _ (k : Build) (Inv : Block → Context → List ℕ → Type 0) (sizes : 
 
       -- on a closed board, by a loan
       by_loan : k.setting.stack + 32 ≤ places fr.number → (o : Instance) (c : ℕ) (a : Area) (v new : Value) (us : List ℕ) (X : Object → Bool) (ct : PlainType) → register fr from ≡ At o c → address_of k places o + c ≡ base k.setting + a.at → a.width ≡ width_of ty → width_of ct ≡ width_of ty → (base k.setting + a.at) % width_of ty ≡ 0 →
-          IsLentTo k.setting (k.setting.has_read_loan block.current) block (base k.setting + a.at) (width_of ty) → Fits k.program sizes X ct v → Spot (areas k places (wheres (fr ∷ rest))) (held k places st.statuses (fr ∷ rest) m.globals) a (word_of k places v) (word_of k places new) us →
+          IsLentTo k.setting (k.setting.has_read_loan block.current) block (base k.setting + a.at) (width_of ty) → Fits k.program sizes X ct v → IsWordIn (areas k places (wheres (fr ∷ rest))) (held k places st.statuses (fr ∷ rest) m.globals) a (word_of k places v) (word_of k places new) us →
           Follows k Inv places t (Running (onward (with_register fr to v) ∷ rest) m) []
       by_loan room o c a v new us X ct points addr wid wt al lent fits sp =
           let ws = positive_width ty in
@@ -189,7 +189,7 @@ module _ (k : Build) (Inv : Block → Context → List ℕ → Type 0) (sizes : 
 
       -- with less room than an exception needs, where the stack is guarded, a load that is refused ends the machine
       refused : StackLaw k.setting Inv → places fr.number < k.setting.stack + 32 → (o : Instance) (c : ℕ) (a : Area) (v new : Value) (us : List ℕ) (X : Object → Bool) (ct : PlainType) → register fr from ≡ At o c → address_of k places o + c ≡ base k.setting + a.at → a.width ≡ width_of ty → width_of ct ≡ width_of ty → (base k.setting + a.at) % width_of ty ≡ 0 →
-          by_mpu st.context.protection Read (base k.setting + a.at) ≡ false → Spot (areas k places (wheres (fr ∷ rest))) (held k places st.statuses (fr ∷ rest) m.globals) a (word_of k places v) (word_of k places new) us → EndsShort k.setting 16384 t
+          by_mpu st.context.protection Read (base k.setting + a.at) ≡ false → IsWordIn (areas k places (wheres (fr ∷ rest))) (held k places st.statuses (fr ∷ rest) m.globals) a (word_of k places v) (word_of k places new) us → EndsShort k.setting 16384 t
       refused stack less o c a v new us X ct points addr wid wt al nope sp =
           let ws = positive_width ty in
           let oc : ℕ = places fr.number in
@@ -212,7 +212,7 @@ module _ (k : Build) (Inv : Block → Context → List ℕ → Type 0) (sizes : 
           sooner k.setting (1 + 1) 16384 t (omega arith) (later k.setting 1 1 t _ r0 q)
 
       loan_or_end : (o : Instance) (c : ℕ) (a : Area) (v new : Value) (us : List ℕ) (X : Object → Bool) (ct : PlainType) → register fr from ≡ At o c → address_of k places o + c ≡ base k.setting + a.at → a.width ≡ width_of ty → width_of ct ≡ width_of ty → (base k.setting + a.at) % width_of ty ≡ 0 →
-          IsLentTo k.setting (k.setting.has_read_loan block.current) block (base k.setting + a.at) (width_of ty) → Fits k.program sizes X ct v → Spot (areas k places (wheres (fr ∷ rest))) (held k places st.statuses (fr ∷ rest) m.globals) a (word_of k places v) (word_of k places new) us →
+          IsLentTo k.setting (k.setting.has_read_loan block.current) block (base k.setting + a.at) (width_of ty) → Fits k.program sizes X ct v → IsWordIn (areas k places (wheres (fr ∷ rest))) (held k places st.statuses (fr ∷ rest) m.globals) a (word_of k places v) (word_of k places new) us →
           Serves k Inv places (wheres (fr ∷ rest)) t (Running (onward (with_register fr to v) ∷ rest) m) []
       loan_or_end o c a v new us X ct points addr wid wt al lent fits sp =
           ⊎_elim (λ less. by less (by_mpu st.context.protection Read (base k.setting + a.at)) refl) (λ room. inl (by_loan room o c a v new us X ct points addr wid wt al lent fits sp)) (cases_lt (places fr.number) (k.setting.stack + 32))
@@ -334,7 +334,7 @@ module _ (k : Build) (Inv : Block → Context → List ℕ → Type 0) (sizes : 
               lies : LiesAt k Inv sizes S w places fr rest m t st f n l c ty a
               lies = cell_lies k Inv sizes S w places fr rest m t st f n l c j ty h live hl fo
 
-              sp : Spot (areas k places (wheres (fr ∷ rest))) (held k places st.statuses (fr ∷ rest) m.globals) a (word_of k places v) (word_of k places (Number 0)) (held k places st.statuses (Rattle.ir_model.specs.Step.with_local (fr ∷ rest) f n l (set (get_or h.locals l []) j (Number 0))) m.globals)
+              sp : IsWordIn (areas k places (wheres (fr ∷ rest))) (held k places st.statuses (fr ∷ rest) m.globals) a (word_of k places v) (word_of k places (Number 0)) (held k places st.statuses (Rattle.ir_model.specs.Step.with_local (fr ∷ rest) f n l (set (get_or h.locals l []) j (Number 0))) m.globals)
               sp = local_spot k places w.facts (fr ∷ rest) st.statuses m.globals f n l j (Number 0) h (cell_in (cells_of_local k.program f l) j) live (all_whole k Inv sizes S w places (fr ∷ rest) sf.0) hl fo.below refl
 
               listed : IsListed (need_of k.needs fr.func).read (LocalObject f l) × ListsPeriph k.needs fr.func (LocalObject f l)

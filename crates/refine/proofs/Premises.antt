@@ -11,14 +11,14 @@ use Rattle.ir_laws.specs.Typed.{Typed}
 use Rattle.ir_laws.specs.Runs.{NumbersAreWords, PointersAreOfObjects, ElementsAreSmall, ContentsAreWhole, ReturnsAgreeWithCalls, AccessesAreInSets}
 use Rattle.plan_model.specs.Needs.{AreNeeds}
 use Rattle.need_laws.specs.Laws.{RunningFrameStaysInNeeds, OtherLocalsAreLendable, LendableLocalsHaveNumbers, CallsStayInside}
-use Rattle.monitor_model.specs.Block.{Block}
+use Rattle.monitor_model.specs.Block.{MonitorBlock}
 use Rattle.monitor_model.specs.Law.{Law}
 use Rattle.refine.specs.CodeLaws.{CodeLaws}
 use Rattle.refine.specs.Builds.{Build}
 use Rattle.refine.specs.Linked.{Linked}
 use Rattle.refine.proofs.Facts.{Facts}
 
-pub record Premises (k : Build) (Inv : Block → Context → List ℕ → Type 0) (sizes : PlainType → ℕ) (S : ObjectSets) : Type 0 where
+pub record Premises (k : Build) (Inv : MonitorBlock → Context → List ℕ → Type 0) (sizes : PlainType → ℕ) (S : ObjectSets) : Type 0 where
   pub law : Law k.setting Inv
   pub facts : Facts k
   pub linked : Linked k

@@ -14,7 +14,7 @@ use Rattle.ir_laws.specs.Sets.{ObjectSets}
 use Rattle.need_laws.specs.Laws.{IsOwn}
 use Rattle.plan_model.specs.Lending.{lend_number, lend_numbers_in}
 use Rattle.code_model.specs.Places.{Lend, lends_among}
-use Rattle.monitor_model.specs.Block.{Block, Loan}
+use Rattle.monitor_model.specs.Block.{MonitorBlock, Loan}
 use Rattle.monitor_model.specs.Threads.{base, stack_end, IsLentTo}
 use Rattle.refine.specs.Areas.{Area}
 use Rattle.refine.specs.Builds.{Build, func, words_at, lends_at, starts_at, places_at}
@@ -34,7 +34,7 @@ lend_among (s ∷ ss) (None ∷ ns) (suc l) n h e = lend_among ss ns l n (omega 
 lend_among (s ∷ ss) (Some x ∷ ns) zero n h e = let y : x ≡ n = cc in inl (ap (λ (z : ℕ). record { home = s / 4; number = z }) y)
 lend_among (s ∷ ss) (Some x ∷ ns) (suc l) n h e = inr (lend_among ss ns l n (omega arith) e)
 
-module _ (k : Build) (Inv : Block → Context → List ℕ → Type 0) (sizes : PlainType → ℕ) (S : ObjectSets) (w : Premises k Inv sizes S) (places : ℕ → ℕ) where
+module _ (k : Build) (Inv : MonitorBlock → Context → List ℕ → Type 0) (sizes : PlainType → ℕ) (S : ObjectSets) (w : Premises k Inv sizes S) (places : ℕ → ℕ) where
   lend_there : (f l n : ℕ) → f < length k.program.funcs → l < length (func k f).locals → lend_number k.needs k.groups f l ≡ Some n → IsLend (record { home = get_or (starts_at k f) l 0 / 4; number = n }) (lends_at k f)
   unfolding places_at
   lend_there f l n hf hl e =

@@ -21,7 +21,7 @@ use Rattle.ir_laws.specs.Typed.{Has, InstTyped, Fits, number, null, at, code}
 use Rattle.ir_laws.specs.States.{FrameFits}
 use Rattle.code_model.specs.Places.{global_address, window_address}
 use Rattle.code_model.specs.Templates.{inst_items}
-use Rattle.monitor_model.specs.Block.{Block}
+use Rattle.monitor_model.specs.Block.{MonitorBlock}
 use Rattle.monitor_model.specs.Threads.{base}
 use Rattle.code_effects.specs.Points.{Point}
 use Rattle.code_effects.specs.Items.{ItemsAt}
@@ -49,7 +49,7 @@ small_number (Array k t) n e h = cc
 small_number (types.Named s) n e h = cc
 small_number (Callee a r) n e h = cc
 
-module _ (k : Build) (Inv : Block → Context → List ℕ → Type 0) (sizes : PlainType → ℕ) (S : ObjectSets) (w : Premises k Inv sizes S) (places : ℕ → ℕ) where
+module _ (k : Build) (Inv : MonitorBlock → Context → List ℕ → Type 0) (sizes : PlainType → ℕ) (S : ObjectSets) (w : Premises k Inv sizes S) (places : ℕ → ℕ) where
   -- a function that a value names is there
   abbrev pub NamesFunction : Value → Type 0
   NamesFunction (Code f) = f < length k.program.funcs

@@ -21,7 +21,7 @@ use Rattle.ir_laws.specs.Typed.{EndTyped}
 use Rattle.ir_laws.specs.States.{FrameFits, FramesFit, Agrees}
 use Rattle.code_model.specs.Sizes.{call_size, icall_size, inst_size}
 use Rattle.code_model.specs.Templates.{term_items}
-use Rattle.monitor_model.specs.Block.{Block, entered}
+use Rattle.monitor_model.specs.Block.{MonitorBlock, entered}
 use Rattle.monitor_model.specs.Setting.{Setting}
 use Rattle.monitor_model.specs.Threads.{base, stack_end, first_block}
 use Rattle.code_effects.specs.Points.{Point, Leads, known}
@@ -75,7 +75,7 @@ whole_part : (n e s : ℕ) → s < s + n * e → 1 ≤ n
 whole_part zero e s h = let z : 0 * e ≡ 0 = omega arith in absurd (omega (arith, h, z))
 whole_part (suc n) e s h = omega arith
 
-module _ (k : Build) (Inv : Block → Context → List ℕ → Type 0) (sizes : PlainType → ℕ) (S : ObjectSets) (w : Premises k Inv sizes S) (places : ℕ → ℕ) where
+module _ (k : Build) (Inv : MonitorBlock → Context → List ℕ → Type 0) (sizes : PlainType → ℕ) (S : ObjectSets) (w : Premises k Inv sizes S) (places : ℕ → ℕ) where
   -- what r0 has to hold for a result that is kept
   abbrev Keeps : (c : Frame) → Option ℕ → (low : List ℕ) → Value → Type 0
   Keeps c None low v = Unit {0}
@@ -199,7 +199,7 @@ module _ (k : Build) (Inv : Block → Context → List ℕ → Type 0) (sizes : 
         let o : ℕ = places fr.number in
         let oc : ℕ = places c.number in
         let v : ℕ = words_at k fr.func in
-        let bl : Block = block_of k places (wheres (c ∷ rest)) in
+        let bl : MonitorBlock = block_of k places (wheres (c ∷ rest)) in
         let f0 = st.fits.0 in
         let f1 = st.fits.1.0 in
         let sh = w.facts.shapes fr.func in
@@ -240,7 +240,7 @@ module _ (k : Build) (Inv : Block → Context → List ℕ → Type 0) (sizes : 
         let o : ℕ = places fr.number in
         let oc : ℕ = places c.number in
         let v : ℕ = words_at k fr.func in
-        let bl : Block = block_of k places (wheres (c ∷ rest)) in
+        let bl : MonitorBlock = block_of k places (wheres (c ∷ rest)) in
         let top : ℕ = gs.stack + (oc - 32 - gs.stack) / gs.eighth * gs.eighth in
         let dm = div-mul-le_self (oc - 32 - gs.stack) gs.eighth in
         let f0 = st.fits.0 in
@@ -249,7 +249,7 @@ module _ (k : Build) (Inv : Block → Context → List ℕ → Type 0) (sizes : 
         let rm = crossing_room k places w.facts oc (subst (λ (x : Option ℕ). gs.stack < ceiling_by k places x (wheres (c ∷ rest))) site f0.some) in
         let sh = w.facts.shapes fr.func in
         let wh = whole k Inv sizes S w places fr ff in
-        let m1 : Block = entered bl (compartment_of k fr.func) (base gs + top) (base gs + oc - 32) in
+        let m1 : MonitorBlock = entered bl (compartment_of k fr.func) (base gs + top) (base gs + oc - 32) in
         let ends : o + 4 * v + 4 ≡ top = subst (λ (x : Option ℕ). o + 4 * v + 4 ≡ ceiling_by k places x (wheres (c ∷ rest))) site f0.ends in
         let code = subst (λ (z : ℕ). Owns gs z (labels_at k fr.func) (code_at k fr.func fr.block fr.place) (term_items (func k fr.func) (places_at k fr.func) (first_at k fr.func) (Ret r))) f0.current (owned_end k Inv sizes S w places fr (c ∷ rest) f0 (Ret r) ff e) in
         let inv = subst (λ (x : Option ℕ). Inv (all_lent gs o (beneath k places x fr.func (wheres (c ∷ rest)) bl) (lends_at k fr.func)) st.context st.ram) site st.invariant in

@@ -16,7 +16,7 @@ use Rattle.ir_model.specs.Step.{register, with_register}
 use Rattle.ir_laws.specs.Moves.{Where, where_of, wheres}
 use Rattle.ir_laws.specs.Sets.{ObjectSets}
 use Rattle.ir_laws.specs.States.{FrameFits}
-use Rattle.monitor_model.specs.Block.{Block}
+use Rattle.monitor_model.specs.Block.{MonitorBlock}
 use Rattle.monitor_model.specs.Threads.{base}
 use Rattle.code_effects.specs.Points.{Point}
 use Rattle.refine.specs.Areas.{Has}
@@ -31,7 +31,7 @@ use Rattle.refine.proofs.Blocks.{top_least}
 use Rattle.refine.proofs.Premises.{Premises}
 use Rattle.refine.proofs.Standing.{IsPlace}
 
-module _ (k : Build) (Inv : Block → Context → List ℕ → Type 0) (sizes : PlainType → ℕ) (S : ObjectSets) (w : Premises k Inv sizes S) (places : ℕ → ℕ) where
+module _ (k : Build) (Inv : MonitorBlock → Context → List ℕ → Type 0) (sizes : PlainType → ℕ) (S : ObjectSets) (w : Premises k Inv sizes S) (places : ℕ → ℕ) where
   -- frames by where they stand
   pub related_by : (fs : List Frame) (v : Where) (vs : List Where) (m : Memory) (t : State) → wheres fs ≡ v ∷ vs → Stands k places Inv v vs fs m t → Related k places Inv (Running fs m) t
   related_by [] v vs m t e s = cc

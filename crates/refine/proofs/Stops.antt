@@ -30,7 +30,7 @@ use Rattle.code_model.specs.Words.{byte_into}
 use Rattle.code_model.specs.Entry.{sub_by, stores_code, frame_code, lend_code, enter_code}
 use Rattle.code_model.specs.Templates.{lends_of, entry_items}
 use Rattle.code_effects.proofs.Items.{plain_code}
-use Rattle.monitor_model.specs.Block.{Block}
+use Rattle.monitor_model.specs.Block.{MonitorBlock}
 use Rattle.monitor_model.specs.Setting.{Setting}
 use Rattle.monitor_model.specs.Threads.{svc, base}
 use Rattle.monitor_model.specs.Law.{Law}
@@ -82,9 +82,9 @@ module _ (j : PermissionTest) (i : Image) (x : Context) (low : List ℕ) (lr : �
       let s1 = str_stops j i x low sp lr pc f ram queues (shut low pc f) 0 0 sp is al below nope code.0 in
       (1, omega arith, omega arith, record { at = works x low sp lr pc f ram queues; runs = next_step s1 (stay j i) })
 
-module _ (g : Setting) (Inv : Block → Context → List ℕ → Type 0) (law : Law g Inv) (rules : MemoryRules g) (stack : StackLaw g Inv) where
+module _ (g : Setting) (Inv : MonitorBlock → Context → List ℕ → Type 0) (law : Law g Inv) (rules : MemoryRules g) (stack : StackLaw g Inv) where
   -- with a stack pointer that has less than an exception's frame below it, and lies at most 992 bytes below the stack
-  shut_at : (m : Block) (x : Context) (held : List ℕ) → Inv m x held → (low : List ℕ) (sp lr pc : ℕ) (f : Flags) (ram : List ℕ) (queues : List (List ℕ)) →
+  shut_at : (m : MonitorBlock) (x : Context) (held : List ℕ) → Inv m x held → (low : List ℕ) (sp lr pc : ℕ) (f : Flags) (ram : List ℕ) (queues : List (List ℕ)) →
       sp % 8 ≡ 0 → sp < base g + g.stack + 32 → base g + g.stack ≤ sp + 992 → IsShut by_mpu g.image (works x low sp lr pc f ram queues)
   shut_at m x held i low sp lr pc f ram queues al lo hi =
       let rl = rules.image.ram_lowest in
@@ -99,7 +99,7 @@ module _ (g : Setting) (Inv : Block → Context → List ℕ → Type 0) (law : 
         shut = closed_frame by_mpu g.image (works x low sp lr pc f ram queues) (subst (λ (a : ℕ). by_mpu x.protection Write a ≡ false) (sym e) no);
       }
 
-  pub call_stops : (m : Block) (x : Context) (low : List ℕ) (o lr pc n : ℕ) (f : Flags) (ram : List ℕ) (queues : List (List ℕ)) → Inv m x ram →
+  pub call_stops : (m : MonitorBlock) (x : Context) (low : List ℕ) (o lr pc n : ℕ) (f : Flags) (ram : List ℕ) (queues : List (List ℕ)) → Inv m x ram →
       StateFits g.image (works x low (base g + o) lr pc f ram queues) → o % 8 ≡ 0 → g.stack ≤ o → base g + o ≤ m.top → o < g.stack + 32 →
       Stands by_mpu g.image x.protection pc (svc n) → EndsShort g 1 (works x low (base g + o) lr pc f ram queues)
   call_stops m x low o lr pc n f ram queues i ft al lo hi less st =
@@ -118,7 +118,7 @@ module _ (g : Setting) (Inv : Block → Context → List ℕ → Type 0) (law : 
       }
 
   -- an access that is refused, with less than an exception's frame left
-  pub store_ends : (m : Block) (x : Context) (low : List ℕ) (o lr pc op w a : ℕ) (f : Flags) (ram : List ℕ) (queues : List (List ℕ)) → Inv m x ram → o % 8 ≡ 0 → g.stack ≤ o → o < g.stack + 32 →
+  pub store_ends : (m : MonitorBlock) (x : Context) (low : List ℕ) (o lr pc op w a : ℕ) (f : Flags) (ram : List ℕ) (queues : List (List ℕ)) → Inv m x ram → o % 8 ≡ 0 → g.stack ≤ o → o < g.stack + 32 →
       IsStore op w → get_or low 1 0 ≡ a → a % w ≡ 0 → a < 0xE0000000 → by_mpu x.protection Write a ≡ false → Stands by_mpu g.image x.protection pc (TransferImmediate op 0 1 0) → EndsShort g 1 (works x low (base g + o) lr pc f ram queues)
   store_ends m x low o lr pc op w a f ram queues i al lo less is at aligned below nope st =
       let ra = rules.image.ram_aligned in
@@ -126,7 +126,7 @@ module _ (g : Setting) (Inv : Block → Context → List ℕ → Type 0) (law : 
       let s = transfer_store_stops by_mpu g.image x low (base g + o) lr pc f ram queues h op w 1 0 a is at aligned below nope st in
       record { count = 1; least = omega arith; within = omega arith; last = stopped (works x low (base g + o) lr pc f ram queues); end = Stop Stacking pc; over = refl; names = NoFrame pc; runs = next_step s (stay by_mpu g.image) }
 
-  pub load_ends : (m : Block) (x : Context) (low : List ℕ) (o lr pc op w a : ℕ) (f : Flags) (ram : List ℕ) (queues : List (List ℕ)) → Inv m x ram → o % 8 ≡ 0 → g.stack ≤ o → o < g.stack + 32 →
+  pub load_ends : (m : MonitorBlock) (x : Context) (low : List ℕ) (o lr pc op w a : ℕ) (f : Flags) (ram : List ℕ) (queues : List (List ℕ)) → Inv m x ram → o % 8 ≡ 0 → g.stack ≤ o → o < g.stack + 32 →
       IsLoad op w → get_or low 1 0 ≡ a → a % w ≡ 0 → a < 0xE0000000 → by_mpu x.protection Read a ≡ false → Stands by_mpu g.image x.protection pc (TransferImmediate op 0 1 0) → EndsShort g 1 (works x low (base g + o) lr pc f ram queues)
   load_ends m x low o lr pc op w a f ram queues i al lo less is at aligned below nope st =
       let ra = rules.image.ram_aligned in
@@ -138,7 +138,7 @@ module _ (g : Setting) (Inv : Block → Context → List ℕ → Type 0) (law : 
   ended most count from at l u r = record { count = count; least = l; within = u; last = stopped at; end = Stop Stacking at.core.pc; over = refl; names = NoFrame at.core.pc; runs = r }
 
   module _ (laws : CodeLaws) (fn : NumberedFunc) (q : Places) (labels : List (Option ℕ)) where
-    entry_code : (m : Block) (x : Context) (ram : List ℕ) (at w : ℕ) → (frame_shape fn).words ≡ w → Inv m x ram → Owns g m.current labels at (entry_items fn q) →
+    entry_code : (m : MonitorBlock) (x : Context) (ram : List ℕ) (at w : ℕ) → (frame_shape fn).words ≡ w → Inv m x ram → Owns g m.current labels at (entry_items fn q) →
         CodeAt by_mpu g.image x.protection at (frame_by (nat_le w 127) (row_length fn.params) w)
     unfolding frame_by frame_code
     entry_code m x ram at w is i own =
@@ -149,7 +149,7 @@ module _ (g : Setting) (Inv : Block → Context → List ℕ → Type 0) (law : 
         subst (λ (v : ℕ). CodeAt by_mpu g.image x.protection at (frame_code n v)) is part
 
     by_form : (b : Bool) (w : ℕ) → nat_le w 127 ≡ b → 1 ≤ w → w ≤ most_words → (4 * w + 4) % 8 ≡ 0 → row_length fn.params ≤ w →
-        (m : Block) (x : Context) (low : List ℕ) (o lr at : ℕ) (f : Flags) (ram : List ℕ) (queues : List (List ℕ)) → Inv m x ram →
+        (m : MonitorBlock) (x : Context) (low : List ℕ) (o lr at : ℕ) (f : Flags) (ram : List ℕ) (queues : List (List ℕ)) → Inv m x ram →
         StateFits g.image (works x low (base g + o) lr at f ram queues) → o % 8 ≡ 0 → g.stack ≤ o → base g + o ≤ m.top → o < g.stack + (4 * w + 4) →
         CodeAt by_mpu g.image x.protection at (frame_by b (row_length fn.params) w) → EndsShort g 5 (works x low (base g + o) lr at f ram queues)
     unfolding frame_by
@@ -206,14 +206,14 @@ module _ (g : Setting) (Inv : Block → Context → List ℕ → Type 0) (law : 
             two false = omega arith
 
     pub entry_by : (w : ℕ) → (frame_shape fn).words ≡ w → 1 ≤ w → w ≤ most_words → (4 * w + 4) % 8 ≡ 0 → row_length fn.params ≤ w →
-        (m : Block) (x : Context) (low : List ℕ) (o lr at : ℕ) (f : Flags) (ram : List ℕ) (queues : List (List ℕ)) → Inv m x ram →
+        (m : MonitorBlock) (x : Context) (low : List ℕ) (o lr at : ℕ) (f : Flags) (ram : List ℕ) (queues : List (List ℕ)) → Inv m x ram →
         StateFits g.image (works x low (base g + o) lr at f ram queues) → o % 8 ≡ 0 → g.stack ≤ o → base g + o ≤ m.top → o < g.stack + (4 * w + 4) →
         Owns g m.current labels at (entry_items fn q) → EndsShort g 5 (works x low (base g + o) lr at f ram queues)
     entry_by w is some most even few m x low o lr at f ram queues i ft al lo hi less own =
         by_form (nat_le w 127) w refl some most even few m x low o lr at f ram queues i ft al lo hi less (entry_code m x ram at w is i own)
 
   pub entry_stops : (laws : CodeLaws) (fn : NumberedFunc) (q : Places) (labels : List (Option ℕ)) (w : ℕ) → (frame_shape fn).words ≡ w → 1 ≤ w → w ≤ most_words → (4 * w + 4) % 8 ≡ 0 → row_length fn.params ≤ w →
-      (m : Block) (x : Context) (low : List ℕ) (o lr at : ℕ) (f : Flags) (ram : List ℕ) (queues : List (List ℕ)) → Inv m x ram →
+      (m : MonitorBlock) (x : Context) (low : List ℕ) (o lr at : ℕ) (f : Flags) (ram : List ℕ) (queues : List (List ℕ)) → Inv m x ram →
       StateFits g.image (works x low (base g + o) lr at f ram queues) → o % 8 ≡ 0 → g.stack ≤ o → base g + o ≤ m.top → o < g.stack + (4 * w + 4) →
       Owns g m.current labels at (entry_items fn q) → EndsShort g 5 (works x low (base g + o) lr at f ram queues)
   entry_stops laws fn q labels = entry_by laws fn q labels

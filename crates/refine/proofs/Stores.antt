@@ -32,7 +32,7 @@ use Rattle.need_laws.specs.Reached.{IsListed, ListsPeriph}
 use Rattle.code_model.specs.Addresses.{store_at}
 use Rattle.code_model.specs.Sizes.{inst_size}
 use Rattle.code_model.specs.Templates.{inst_items}
-use Rattle.monitor_model.specs.Block.{Block}
+use Rattle.monitor_model.specs.Block.{MonitorBlock}
 use Rattle.monitor_model.specs.Threads.{base, OffFrame, IsLentTo}
 use Rattle.code_effects.specs.Points.{Point}
 use Rattle.code_effects.specs.Frames.{home}
@@ -40,7 +40,7 @@ use Rattle.code_effects.specs.Items.{ItemsAt}
 use Rattle.code_effects.specs.Accesses.{Reach}
 use Rattle.code_effects.proofs.Registers.{holds_nothing, known_holds}
 use Rattle.refine_model.specs.Refines.{HasFault}
-use Rattle.refine.specs.Areas.{Area, Spot, Has as MemoryHas}
+use Rattle.refine.specs.Areas.{Area, IsWordIn, Has as MemoryHas}
 use Rattle.refine.specs.Owned.{owner}
 use Rattle.refine.proofs.Areas.{stored_spot}
 use Rattle.refine.proofs.Thread.{started, fits_after, at_pc, fits_pc, has_stays}
@@ -77,12 +77,12 @@ store_size : (b : Bool) (to from : ℕ) (ty : PlainType) → inst_size b (Store 
 unfolding inst_size
 store_size b to from ty = refl
 
-module _ (k : Build) (Inv : Block → Context → List ℕ → Type 0) (sizes : PlainType → ℕ) (S : ObjectSets) (w : Premises k Inv sizes S) (places : ℕ → ℕ) where
+module _ (k : Build) (Inv : MonitorBlock → Context → List ℕ → Type 0) (sizes : PlainType → ℕ) (S : ObjectSets) (w : Premises k Inv sizes S) (places : ℕ → ℕ) where
   module _ (fr : Frame) (rest : List Frame) (m : Memory) (t : State) (st : HereStands k Inv sizes S w places fr rest m t) (sf : StateFits k.program sizes S (Running (fr ∷ rest) m)) where
     abbrev TurnFollows : SourceTurn → Type 0
     TurnFollows u = (HasFault u.to → ⊥) → Serves k Inv places (wheres (fr ∷ rest)) t u.to (option_to_list u.event)
 
-    abbrev block : Block
+    abbrev block : MonitorBlock
     block = block_of k places (wheres (fr ∷ rest))
 
     module _ (to from : ℕ) (ty : PlainType) (typed : CellTyped (func k fr.func) to from ty) (e : here k.program fr.func fr.block fr.place ≡ Does (Store to from ty)) where
@@ -112,7 +112,7 @@ module _ (k : Build) (Inv : Block → Context → List ℕ → Type 0) (sizes : 
       held_word = register_word k Inv sizes S w places fr rest m t st sf.0.0 from typed.held.there
 
       -- memory has the new word
-      has_stored : (a : Area) (fs : List Frame) (gl : List (List Value)) (old : ℕ) → a.width ≡ width_of ty → Spot (areas k places (wheres (fr ∷ rest))) (held k places st.statuses (fr ∷ rest) m.globals) a old (word_of k places value) (held k places st.statuses fs gl) →
+      has_stored : (a : Area) (fs : List Frame) (gl : List (List Value)) (old : ℕ) → a.width ≡ width_of ty → IsWordIn (areas k places (wheres (fr ∷ rest))) (held k places st.statuses (fr ∷ rest) m.globals) a old (word_of k places value) (held k places st.statuses fs gl) →
           MemoryHas (write (width_of ty) a.at (home (places fr.number) p from) st.ram) (areas k places (wheres (fr ∷ rest))) (held k places st.statuses fs gl)
       has_stored a fs gl old wid sp =
           let h0 = stored_spot (areas k places (wheres (fr ∷ rest))) (held k places st.statuses (fr ∷ rest) m.globals) (held k places st.statuses fs gl) a old (word_of k places value) st.ram (all_laid k places w.facts (wheres (fr ∷ rest)) st.fits) st.has sp in
@@ -123,7 +123,7 @@ module _ (k : Build) (Inv : Block → Context → List ℕ → Type 0) (sizes : 
       -- where the protection unit permits it
       direct : (o : Instance) (c : ℕ) (a : Area) (n : Memory) (fs : List Frame) (old : ℕ) → register fr to ≡ At o c → address_of k places o + c ≡ base k.setting + a.at → a.width ≡ width_of ty → (base k.setting + a.at) % width_of ty ≡ 0 →
           by_mpu st.context.protection Write (base k.setting + a.at) ≡ true → n.queues ≡ m.queues → wheres fs ≡ where_of (onward fr) ∷ wheres rest →
-          Spot (areas k places (wheres (fr ∷ rest))) (held k places st.statuses (fr ∷ rest) m.globals) a old (word_of k places value) (held k places st.statuses fs n.globals) → Follows k Inv places t (Running fs n) []
+          IsWordIn (areas k places (wheres (fr ∷ rest))) (held k places st.statuses (fr ∷ rest) m.globals) a old (word_of k places value) (held k places st.statuses fs n.globals) → Follows k Inv places t (Running fs n) []
       direct o c a n fs old points addr wid al ok qs stand sp =
           let ws = positive_width ty in
           let pl = placed_area k Inv sizes S w places fr rest m t st a sp.index (omega arith) sp.is_at in
@@ -150,7 +150,7 @@ module _ (k : Build) (Inv : Block → Context → List ℕ → Type 0) (sizes : 
       -- by a loan
       by_loan : k.setting.stack + 32 ≤ places fr.number → (o : Instance) (c : ℕ) (a : Area) (fs : List Frame) (old : ℕ) → register fr to ≡ At o c → address_of k places o + c ≡ base k.setting + a.at → a.width ≡ width_of ty → (base k.setting + a.at) % width_of ty ≡ 0 →
           IsLentTo k.setting (k.setting.has_loan block.current) block (base k.setting + a.at) (width_of ty) → wheres fs ≡ where_of (onward fr) ∷ wheres rest →
-          Spot (areas k places (wheres (fr ∷ rest))) (held k places st.statuses (fr ∷ rest) m.globals) a old (word_of k places value) (held k places st.statuses fs m.globals) → Follows k Inv places t (Running fs m) []
+          IsWordIn (areas k places (wheres (fr ∷ rest))) (held k places st.statuses (fr ∷ rest) m.globals) a old (word_of k places value) (held k places st.statuses fs m.globals) → Follows k Inv places t (Running fs m) []
       by_loan room o c a fs old points addr wid al lent stand sp =
           let ws = positive_width ty in
           let oc : ℕ = places fr.number in
@@ -189,7 +189,7 @@ module _ (k : Build) (Inv : Block → Context → List ℕ → Type 0) (sizes : 
       -- with less room than an exception needs, where the stack is guarded, a store that is refused ends the machine
       refused : StackLaw k.setting Inv → (o : Instance) (c : ℕ) (a : Area) (fs : List Frame) (old : ℕ) → places fr.number < k.setting.stack + 32 → register fr to ≡ At o c → address_of k places o + c ≡ base k.setting + a.at → (base k.setting + a.at) % width_of ty ≡ 0 →
           by_mpu st.context.protection Write (base k.setting + a.at) ≡ false →
-          Spot (areas k places (wheres (fr ∷ rest))) (held k places st.statuses (fr ∷ rest) m.globals) a old (word_of k places value) (held k places st.statuses fs m.globals) → a.width ≡ width_of ty → EndsShort k.setting 16384 t
+          IsWordIn (areas k places (wheres (fr ∷ rest))) (held k places st.statuses (fr ∷ rest) m.globals) a old (word_of k places value) (held k places st.statuses fs m.globals) → a.width ≡ width_of ty → EndsShort k.setting 16384 t
       refused stack o c a fs old less points addr al nope sp wid =
           let ws = positive_width ty in
           let oc : ℕ = places fr.number in
@@ -215,7 +215,7 @@ module _ (k : Build) (Inv : Block → Context → List ℕ → Type 0) (sizes : 
 
       loan_or_end : (o : Instance) (c : ℕ) (a : Area) (fs : List Frame) (old : ℕ) → register fr to ≡ At o c → address_of k places o + c ≡ base k.setting + a.at → a.width ≡ width_of ty → (base k.setting + a.at) % width_of ty ≡ 0 →
           IsLentTo k.setting (k.setting.has_loan block.current) block (base k.setting + a.at) (width_of ty) → wheres fs ≡ where_of (onward fr) ∷ wheres rest →
-          Spot (areas k places (wheres (fr ∷ rest))) (held k places st.statuses (fr ∷ rest) m.globals) a old (word_of k places value) (held k places st.statuses fs m.globals) → Serves k Inv places (wheres (fr ∷ rest)) t (Running fs m) []
+          IsWordIn (areas k places (wheres (fr ∷ rest))) (held k places st.statuses (fr ∷ rest) m.globals) a old (word_of k places value) (held k places st.statuses fs m.globals) → Serves k Inv places (wheres (fr ∷ rest)) t (Running fs m) []
       loan_or_end o c a fs old points addr wid al lent stand sp =
           ⊎_elim (λ less. by less (by_mpu st.context.protection Write (base k.setting + a.at)) refl) (λ room. inl (by_loan room o c a fs old points addr wid al lent stand sp)) (cases_lt (places fr.number) (k.setting.stack + 32))
         where
@@ -336,11 +336,11 @@ module _ (k : Build) (Inv : Block → Context → List ℕ → Type 0) (sizes : 
               whole_frames : AllWhole k (onward fr ∷ rest)
               whole_frames = let a = all_whole k Inv sizes S w places (fr ∷ rest) sf.0 in (record { regs = a.0.regs; locals = a.0.locals }, a.1)
 
-              sp0 : Spot (areas k places (wheres (fr ∷ rest))) (held k places st.statuses (fr ∷ rest) m.globals) a (word_of k places (get_or (get_or g.0.locals l []) j (Number 0))) (word_of k places value) (held k places st.statuses (with_local (onward fr ∷ rest) f n l (set (get_or g.0.locals l []) j value)) m.globals)
+              sp0 : IsWordIn (areas k places (wheres (fr ∷ rest))) (held k places st.statuses (fr ∷ rest) m.globals) a (word_of k places (get_or (get_or g.0.locals l []) j (Number 0))) (word_of k places value) (held k places st.statuses (with_local (onward fr ∷ rest) f n l (set (get_or g.0.locals l []) j value)) m.globals)
               sp0 = local_spot k places w.facts (onward fr ∷ rest) st.statuses m.globals f n l j value g.0 (cell_in (cells_of_local k.program f l) j) g.1 whole_frames hl fo.below refl
 
-              sp : Spot (areas k places (wheres (fr ∷ rest))) (held k places st.statuses (fr ∷ rest) m.globals) a (word_of k places (get_or (get_or h.locals l []) j (Number 0))) (word_of k places value) (held k places st.statuses fs m.globals)
-              sp = subst (λ (ls : List (List Value)). Spot (areas k places (wheres (fr ∷ rest))) (held k places st.statuses (fr ∷ rest) m.globals) a (word_of k places (get_or (get_or ls l []) j (Number 0))) (word_of k places value) (held k places st.statuses (with_local (onward fr ∷ rest) f n l (set (get_or ls l []) j value)) m.globals)) g.2 sp0
+              sp : IsWordIn (areas k places (wheres (fr ∷ rest))) (held k places st.statuses (fr ∷ rest) m.globals) a (word_of k places (get_or (get_or h.locals l []) j (Number 0))) (word_of k places value) (held k places st.statuses fs m.globals)
+              sp = subst (λ (ls : List (List Value)). IsWordIn (areas k places (wheres (fr ∷ rest))) (held k places st.statuses (fr ∷ rest) m.globals) a (word_of k places (get_or (get_or ls l []) j (Number 0))) (word_of k places value) (held k places st.statuses (with_local (onward fr ∷ rest) f n l (set (get_or ls l []) j value)) m.globals)) g.2 sp0
 
               listed : IsListed (need_of k.needs fr.func).written (LocalObject f l) × ListsPeriph k.needs fr.func (LocalObject f l)
               listed = (w.listed k.program sizes S k.needs.closed k.needs w.needs).stores fr to from ty (OfLocal f n l) c sf.0.0 typed e points tt

@@ -19,7 +19,7 @@ use Rattle.machine_model.specs.Code.{size, MayFetch, Stands, Runs}
 use Rattle.machine_model.specs.Shape.{StateFits}
 use Rattle.machine_model.specs.Stack.{Room}
 use Rattle.machine_model.specs.RunningCode.{Context, works}
-use Rattle.monitor_model.specs.Block.{Block}
+use Rattle.monitor_model.specs.Block.{MonitorBlock}
 use Rattle.monitor_model.specs.Setting.{Setting}
 use Rattle.monitor_model.specs.Threads.{svc, Stays, KeepsOff, base, stack_end}
 use Rattle.monitor_model.specs.Law.{Law}
@@ -71,15 +71,15 @@ pub call_owned : (g : Setting) (c : ℕ) (p : ProtectionState) (pc n : ℕ) → 
 unfolding encode
 call_owned g c p pc n s = s.may_fetch
 
-module _ (g : Setting) (Inv : Block → Context → List ℕ → Type 0) (law : Law g Inv) (rules : MemoryRules g) (laws : CodeLaws) where
+module _ (g : Setting) (Inv : MonitorBlock → Context → List ℕ → Type 0) (law : Law g Inv) (rules : MemoryRules g) (laws : CodeLaws) where
   pub fits_after : (k : ℕ) (s t : State) (es : List Event) → StateFits g.image s → Runs by_mpu g.image k s t es → StateFits g.image t
   fits_after k s t es f r = laws.fit by_mpu g.image k s t es rules.image f r
 
-  pub runs_here : (m : Block) (x : Context) (ram : List ℕ) (labels : List (Option ℕ)) (at : ℕ) (items : List Item) → Inv m x ram → Owns g m.current labels at items → ItemsAt by_mpu g.image x.protection labels at items
+  pub runs_here : (m : MonitorBlock) (x : Context) (ram : List ℕ) (labels : List (Option ℕ)) (at : ℕ) (items : List Item) → Inv m x ram → Owns g m.current labels at items → ItemsAt by_mpu g.image x.protection labels at items
   runs_here m x ram labels at items i o = judged (owner g m.current) by_mpu g.image x.protection x.protection labels items at (λ a h. law.permits.fetches m x ram a i h) (o.stands x.protection)
 
   -- words of the open stack
-  pub room : (m : Block) (x : Context) (ram : List ℕ) (o n : ℕ) → Inv m x ram → o % 4 ≡ 0 → g.stack ≤ o → base g + o + 4 * n ≤ m.top → Room by_mpu g.image x.protection (base g + o) o n
+  pub room : (m : MonitorBlock) (x : Context) (ram : List ℕ) (o n : ℕ) → Inv m x ram → o % 4 ≡ 0 → g.stack ≤ o → base g + o + 4 * n ≤ m.top → Room by_mpu g.image x.protection (base g + o) o n
   room m x ram o n i al l h =
       let t = law.keeps.top_inside m x ram i in
       let ra = rules.image.ram_aligned in
@@ -93,7 +93,7 @@ module _ (g : Setting) (Inv : Block → Context → List ℕ → Type 0) (law : 
       }
 
   -- the invariant stays where the stack alone changes
-  pub inv_kept : (m : Block) (x : Context) (old new : List ℕ) (lo hi : ℕ) → Inv m x old → Kept lo hi old new → g.stack ≤ lo → hi ≤ stack_end g → Inv m x new
+  pub inv_kept : (m : MonitorBlock) (x : Context) (old new : List ℕ) (lo hi : ℕ) → Inv m x old → Kept lo hi old new → g.stack ≤ lo → hi ≤ stack_end g → Inv m x new
   inv_kept m x old new lo hi i k l h =
       law.keeps.off_words m x old new i (λ w a u v. k.reads w a (⊎_elim (λ y. inl (omega arith)) (λ y. inr (omega arith)) rules.apart)) k.as_long
 

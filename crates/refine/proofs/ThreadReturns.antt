@@ -14,7 +14,7 @@ use Rattle.code_model.specs.declared.places.Places.{Places}
 use Rattle.code_model.specs.FrameShape.{frame_shape}
 use Rattle.code_model.specs.Places.{Lend}
 use Rattle.code_model.specs.Templates.{lends_of, term_items}
-use Rattle.monitor_model.specs.Block.{Block, lent, entered}
+use Rattle.monitor_model.specs.Block.{MonitorBlock, lent, entered}
 use Rattle.monitor_model.specs.Setting.{Setting}
 use Rattle.monitor_model.specs.Threads.{lend_steps, base, stack_end, HasRoom}
 use Rattle.monitor_model.specs.Law.{Law}
@@ -57,15 +57,15 @@ pub result_below_more : (m n : ℕ) (r : Option ℕ) → m ≤ n → IsBelow m r
 result_below_more m n None l b = tt
 result_below_more m n (Some k) l b = omega arith
 
-module _ (g : Setting) (Inv : Block → Context → List ℕ → Type 0) where
+module _ (g : Setting) (Inv : MonitorBlock → Context → List ℕ → Type 0) where
   -- behind the return
-  pub record Left (most : ℕ) (from : State) (m : Block) (o sp pc below : ℕ) (r : Option ℕ) (ram : List ℕ) (queues : List (List ℕ)) : Type 0 where
+  pub record Left (most : ℕ) (from : State) (m : MonitorBlock) (o sp pc below : ℕ) (r : Option ℕ) (ram : List ℕ) (queues : List (List ℕ)) : Type 0 where
     pub goes : Goes g Inv most from m sp pc below ram queues
     pub least : 1 ≤ goes.count
     pub result : IsResult r o ram goes.low
 
-module _ (g : Setting) (Inv : Block → Context → List ℕ → Type 0) (law : Law g Inv) (rules : MemoryRules g) (laws : CodeLaws) (fn : NumberedFunc) (q : Places) (labels : List (Option ℕ)) (first : ℕ) where
-  pub unlends : (m : Block) (x : Context) (low : List ℕ) (o lr at : ℕ) (f : Flags) (ds : List Lend) (r : Option ℕ) (ram : List ℕ) (queues : List (List ℕ)) → Inv (all_lent g o m ds) x ram → o % 8 ≡ 0 → g.stack ≤ o → base g + o ≤ m.top → (1 ≤ length ds → g.stack + 32 ≤ o) →
+module _ (g : Setting) (Inv : MonitorBlock → Context → List ℕ → Type 0) (law : Law g Inv) (rules : MemoryRules g) (laws : CodeLaws) (fn : NumberedFunc) (q : Places) (labels : List (Option ℕ)) (first : ℕ) where
+  pub unlends : (m : MonitorBlock) (x : Context) (low : List ℕ) (o lr at : ℕ) (f : Flags) (ds : List Lend) (r : Option ℕ) (ram : List ℕ) (queues : List (List ℕ)) → Inv (all_lent g o m ds) x ram → o % 8 ≡ 0 → g.stack ≤ o → base g + o ≤ m.top → (1 ≤ length ds → g.stack + 32 ≤ o) →
       StateFits g.image (works x low (base g + o) lr at f ram queues) → length ds ≤ length (lends_of fn q) → Owns g m.current labels at (term_items fn q first (Ret r)) → m.mark ≤ length m.loans →
       Goes g Inv (lend_steps * length ds) (works x low (base g + o) lr at f ram queues) m (base g + o) (at + 2 * length ds) o ram queues
   unlends m x low o lr at f [] r ram queues i al lo hi more ft few code mark =
@@ -107,7 +107,7 @@ module _ (g : Setting) (Inv : Block → Context → List ℕ → Type 0) (law : 
       }
 
   -- to the word above the frame
-  pub returns : (w : ℕ) → (frame_shape fn).words ≡ w → (m : Block) (x : Context) (low : List ℕ) (o lr at to : ℕ) (f : Flags) (r : Option ℕ) (ram : List ℕ) (queues : List (List ℕ)) → Inv (all_lent g o m (lends_of fn q)) x ram → o % 8 ≡ 0 → g.stack ≤ o → base g + o ≤ m.top → (1 ≤ length (lends_of fn q) → g.stack + 32 ≤ o) →
+  pub returns : (w : ℕ) → (frame_shape fn).words ≡ w → (m : MonitorBlock) (x : Context) (low : List ℕ) (o lr at to : ℕ) (f : Flags) (r : Option ℕ) (ram : List ℕ) (queues : List (List ℕ)) → Inv (all_lent g o m (lends_of fn q)) x ram → o % 8 ≡ 0 → g.stack ≤ o → base g + o ≤ m.top → (1 ≤ length (lends_of fn q) → g.stack + 32 ≤ o) →
       StateFits g.image (works x low (base g + o) lr at f ram queues) → base g + o + 4 * w + 4 ≤ m.top → m.mark ≤ length m.loans → IsBelow w r → Owns g m.current labels at (term_items fn q first (Ret r)) → read 4 (o + 4 * w) ram ≡ to + 1 → to % 2 ≡ 0 →
       Left g Inv (4 + lend_steps * length (lends_of fn q)) (works x low (base g + o) lr at f ram queues) m o (base g + o + 4 * w + 4) to o r ram queues
   returns w is m x low o lr at to f r ram queues i oa ol oh more ft hi mark below code back even =
@@ -143,14 +143,14 @@ module _ (g : Setting) (Inv : Block → Context → List ℕ → Type 0) (law : 
       }
 
   -- back to another compartment's function, through the stub
-  pub leaves : (w : ℕ) → (frame_shape fn).words ≡ w → (m : Block) (x : Context) (low : List ℕ) (c top oc o lr at ret status : ℕ) (f : Flags) (r : Option ℕ) (ram : List ℕ) (queues : List (List ℕ)) →
-      let m1 : Block = entered m c (base g + top) (base g + oc - 32) in
+  pub leaves : (w : ℕ) → (frame_shape fn).words ≡ w → (m : MonitorBlock) (x : Context) (low : List ℕ) (c top oc o lr at ret status : ℕ) (f : Flags) (r : Option ℕ) (ram : List ℕ) (queues : List (List ℕ)) →
+      let m1 : MonitorBlock = entered m c (base g + top) (base g + oc - 32) in
       Inv (all_lent g o m1 (lends_of fn q)) x ram → StateFits g.image (works x low (base g + o) lr at f ram queues) → o % 8 ≡ 0 → g.stack ≤ o → (1 ≤ length (lends_of fn q) → g.stack + 32 ≤ o) → g.stack + 32 ≤ top → o + 4 * w + 4 ≡ top → top % 8 ≡ 0 → top ≤ oc - 32 → 32 ≤ oc → oc ≤ stack_end g → length (lends_of fn q) ≤ 32 →
       IsBelow w r → Owns g c labels at (term_items fn q first (Ret r)) → read 4 (o + 4 * w) ram ≡ g.stub + 1 → g.stub % 2 ≡ 0 →
       read 4 (oc - 8) ram ≡ ret → read 4 (oc - 4) ram ≡ status → ret % 2 ≡ 0 → is_thread status ≡ true → nat_eq (status / 2 ^ 9 % 2) 1 ≡ false →
       Left g Inv 16000 (works x low (base g + o) lr at f ram queues) m o (base g + oc) ret oc r ram queues
   leaves w is m x low c top oc o lr at ret status f r ram queues i ft ao lo more deep ends at8 under big inside few below code back even sret sstat reven thread no_pad =
-      let m1 : Block = entered m c (base g + top) (base g + oc - 32) in
+      let m1 : MonitorBlock = entered m c (base g + top) (base g + oc - 32) in
       let a = returns w is m1 x low o lr at g.stub f r ram queues i ao lo (omega arith) more ft (omega arith) (omega arith) below code back even in
       let ag = a.goes in
       let z : base g + o + 4 * w + 4 ≡ base g + top = omega arith in

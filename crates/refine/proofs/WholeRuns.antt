@@ -17,7 +17,7 @@ use Rattle.ir_model.specs.Runs.{source_after}
 use Rattle.ir_laws.specs.Moves.{Where, where_of, wheres, Moves, MovesTo, FramesMove}
 use Rattle.ir_laws.specs.Sets.{ObjectSets}
 use Rattle.ir_laws.specs.States.{StateFits}
-use Rattle.monitor_model.specs.Block.{Block}
+use Rattle.monitor_model.specs.Block.{MonitorBlock}
 use Rattle.refine_model.specs.Refines.{HasFault, EndsAlike, Matched, step_limit, word_limit}
 use Rattle.refine_model.specs.StackLimit as limit
 use Rattle.refine.specs.Guard.{StackLaw}
@@ -43,7 +43,7 @@ abbrev made_of : SourceState → ℕ
 made_of (Running fs m) = m.made
 made_of (Ended e) = 0
 
-module _ (k : Build) (Inv : Block → Context → List ℕ → Type 0) (sizes : PlainType → ℕ) (S : ObjectSets) (w : Premises k Inv sizes S) where
+module _ (k : Build) (Inv : MonitorBlock → Context → List ℕ → Type 0) (sizes : PlainType → ℕ) (S : ObjectSets) (w : Premises k Inv sizes S) where
   -- an ended run stays
   ended_case : (places : ℕ → ℕ) (e : SourceEnd) (x : End) (t : State) → EndsAlike (Ended e) t.ending → t.ending ≡ Some x → Follows k Inv places t (Ended e) []
   ended_case places e x t a q = record {

@@ -38,7 +38,7 @@ abbrev pub Off : (lo hi : ℕ) → Area → Type 0
 Off lo hi c = (c.at + c.width ≤ lo) ⊎ (hi ≤ c.at)
 
 -- one of the words is in this area; another word in its place gives these words
-pub record Spot (cs : List Area) (vs : List ℕ) (c : Area) (old new : ℕ) (us : List ℕ) : Type 0 where
+pub record IsWordIn (cs : List Area) (vs : List ℕ) (c : Area) (old new : ℕ) (us : List ℕ) : Type 0 where
   pub index : ℕ
   pub is_at : IsAt cs index c
   pub holds : get_or vs index 0 ≡ old

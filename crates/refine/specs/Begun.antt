@@ -8,7 +8,7 @@ use Rattle.machine_model.specs.Code.{Runs}
 use Rattle.machine_model.specs.Exceptions.{is_thread}
 use Rattle.machine_model.specs.Shape.{StateFits}
 use Rattle.machine_model.specs.RunningCode.{Context, works}
-use Rattle.monitor_model.specs.Block.{Block}
+use Rattle.monitor_model.specs.Block.{MonitorBlock}
 use Rattle.monitor_model.specs.Setting.{Setting}
 use Rattle.monitor_model.specs.Threads.{base, Stays}
 
@@ -18,9 +18,9 @@ pub record Filled (o w link : ℕ) (arguments : List ℕ) (ram : List ℕ) : Typ
   pub cleared : (k : ℕ) → length arguments ≤ k → k < w → read 4 (o + 4 * k) ram ≡ 0
   pub return_address : read 4 (o + 4 * w) ram ≡ cut 4 link
 
-module _ (g : Setting) (Inv : Block → Context → List ℕ → Type 0) where
+module _ (g : Setting) (Inv : MonitorBlock → Context → List ℕ → Type 0) where
   -- from a state, in so many steps at most, on there
-  pub record Goes (most : ℕ) (from : State) (m : Block) (sp pc below : ℕ) (ram : List ℕ) (queues : List (List ℕ)) : Type 0 where
+  pub record Goes (most : ℕ) (from : State) (m : MonitorBlock) (sp pc below : ℕ) (ram : List ℕ) (queues : List (List ℕ)) : Type 0 where
     pub count : ℕ
     pub within : count ≤ most
     pub context : Context
@@ -33,15 +33,15 @@ module _ (g : Setting) (Inv : Block → Context → List ℕ → Type 0) where
     pub invariant : Inv m context memory
     pub stays : Stays g below ram memory
 
-module _ (g : Setting) (Inv : Block → Context → List ℕ → Type 0) where
+module _ (g : Setting) (Inv : MonitorBlock → Context → List ℕ → Type 0) where
   -- behind the callee's entry
-  pub record Called (from : State) (m : Block) (o w pc below : ℕ) (arguments : List ℕ) (link : ℕ) (ram : List ℕ) (queues : List (List ℕ)) : Type 0 where
+  pub record Called (from : State) (m : MonitorBlock) (o w pc below : ℕ) (arguments : List ℕ) (link : ℕ) (ram : List ℕ) (queues : List (List ℕ)) : Type 0 where
     pub goes : Goes g Inv 16384 from m (base g + o) pc below ram queues
     pub least : 1 ≤ goes.count
     pub filled : Filled o w link arguments goes.memory
 
   -- and of another compartment's function: what waits for its return lies below the caller's stack pointer
-  pub record Crossed (from : State) (m : Block) (o w pc below : ℕ) (arguments : List ℕ) (ret : ℕ) (ram : List ℕ) (queues : List (List ℕ)) : Type 0 where
+  pub record Crossed (from : State) (m : MonitorBlock) (o w pc below : ℕ) (arguments : List ℕ) (ret : ℕ) (ram : List ℕ) (queues : List (List ℕ)) : Type 0 where
     pub called : Called from m o w pc below arguments (g.stub + 1) ram queues
     pub status : ℕ
     pub thread : is_thread status ≡ true

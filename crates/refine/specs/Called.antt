@@ -17,7 +17,7 @@ use Rattle.code_model.specs.Sizes.{entry_size}
 use Rattle.code_model.specs.Templates.{lends_of, entry_items}
 use Rattle.code_effects.specs.Points.{known, Arrives}
 use Rattle.monitor_model.specs.declared.tables.Tables.{Tables}
-use Rattle.monitor_model.specs.Block.{Block, entered}
+use Rattle.monitor_model.specs.Block.{MonitorBlock, entered}
 use Rattle.monitor_model.specs.Invariant.{Invariant}
 use Rattle.monitor_model.specs.MonitorCode.{MonitorCode}
 use Rattle.monitor_model.specs.Setting.{Setting, setting_of}
@@ -44,9 +44,9 @@ pub record CalleeStands (g : Setting) (fn : NumberedFunc) (q : Places) (labels :
   pub code : Owns g compartment labels entry (entry_items fn q)
   pub lendable : Lendable g w (lends_of fn q)
 
-module _ (g : Setting) (Inv : Block → Context → List ℕ → Type 0) (fn : NumberedFunc) (q : Places) where
+module _ (g : Setting) (Inv : MonitorBlock → Context → List ℕ → Type 0) (fn : NumberedFunc) (q : Places) where
   -- the callee's frame fits below its caller's, the monitor can keep its loans, and it is entered
-  pub record IsCalled (from : State) (m : Block) (oc w entry : ℕ) (arguments : List ℕ) (link : ℕ) (ram : List ℕ) (queues : List (List ℕ)) : Type 0 where
+  pub record IsCalled (from : State) (m : MonitorBlock) (oc w entry : ℕ) (arguments : List ℕ) (link : ℕ) (ram : List ℕ) (queues : List (List ℕ)) : Type 0 where
     pub frame : ℕ
     pub frame_ends : frame + 4 * w + 4 ≡ oc
     pub on_stack : g.stack ≤ frame
@@ -56,7 +56,7 @@ module _ (g : Setting) (Inv : Block → Context → List ℕ → Type 0) (fn : N
     pub short : called.goes.count ≤ 8520
 
   -- so is one of another compartment, whose part of the stack ends at a whole number of eighths
-  pub record IsCrossed (from : State) (m : Block) (oc w entry target : ℕ) (arguments : List ℕ) (ret : ℕ) (ram : List ℕ) (queues : List (List ℕ)) : Type 0 where
+  pub record IsCrossed (from : State) (m : MonitorBlock) (oc w entry target : ℕ) (arguments : List ℕ) (ret : ℕ) (ram : List ℕ) (queues : List (List ℕ)) : Type 0 where
     pub room : g.stack + 32 ≤ oc
     pub top : ℕ
     pub top_is : top ≡ part_end g oc
@@ -69,15 +69,15 @@ module _ (g : Setting) (Inv : Block → Context → List ℕ → Type 0) (fn : N
     pub crossed : Crossed g Inv from (all_lent g frame (entered m target (base g + top) (base g + oc - 32)) (lends_of fn q)) frame w (entry + entry_size fn (length (lends_of fn q))) oc arguments ret ram queues
 
 -- from where the arguments of a call stand in r0 to r3
-pub record CallsEnterOrEnd (g : Setting) (Inv : Block → Context → List ℕ → Type 0) : Type 0 where
+pub record CallsEnterOrEnd (g : Setting) (Inv : MonitorBlock → Context → List ℕ → Type 0) : Type 0 where
   -- at the callee's first instruction
-  pub inside : (fn : NumberedFunc) (q : Places) (labels : List (Option ℕ)) (w : ℕ) (m : Block) (n : ℕ) (s : State) (x : Context) (oc lr at : ℕ) (arguments ram : List ℕ) (queues : List (List ℕ)) →
+  pub inside : (fn : NumberedFunc) (q : Places) (labels : List (Option ℕ)) (w : ℕ) (m : MonitorBlock) (n : ℕ) (s : State) (x : Context) (oc lr at : ℕ) (arguments ram : List ℕ) (queues : List (List ℕ)) →
       n ≤ 8 → Inv m x ram → StateFits g.image s →
       Arrives by_mpu g.image n s (record { context = x; registers = known arguments; sp = base g + oc; lr = lr; pc = at; ram = ram; queues = queues }) [] →
       oc % 8 ≡ 0 → g.stack ≤ oc → base g + oc ≤ m.top → CalleeStands g fn q labels m.current w at (length arguments) → length m.loans ≤ 32 →
       IsCalled g Inv fn q s m oc w at arguments lr ram queues ⊎ RunsShort g Inv (LacksRoom g w oc (length m.loans + length (lends_of fn q))) 16384 s
   -- at the SVC of a crossing call
-  pub across : (fn : NumberedFunc) (q : Places) (labels : List (Option ℕ)) (w : ℕ) (m : Block) (n : ℕ) (s : State) (x : Context) (oc lr pc entry site target : ℕ) (arguments ram : List ℕ) (queues : List (List ℕ)) →
+  pub across : (fn : NumberedFunc) (q : Places) (labels : List (Option ℕ)) (w : ℕ) (m : MonitorBlock) (n : ℕ) (s : State) (x : Context) (oc lr pc entry site target : ℕ) (arguments ram : List ℕ) (queues : List (List ℕ)) →
       n ≤ 8 → Inv m x ram → StateFits g.image s →
       Arrives by_mpu g.image n s (record { context = x; registers = known arguments; sp = base g + oc; lr = lr; pc = pc; ram = ram; queues = queues }) [] →
       oc % 8 ≡ 0 → g.stack ≤ oc → base g + oc ≤ m.top → Stands by_mpu g.image x.protection pc (svc 0) → g.has_code m.current pc ≡ true →

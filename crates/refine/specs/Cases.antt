@@ -10,7 +10,7 @@ use Rattle.ir_model.specs.Resolved.{Here}
 use Rattle.ir_model.specs.State.{Frame, Memory, SourceState, Running, Ended}
 use Rattle.ir_model.specs.Step.{turn_here}
 use Rattle.ir_laws.specs.Moves.{Where, wheres}
-use Rattle.monitor_model.specs.Block.{Block}
+use Rattle.monitor_model.specs.Block.{MonitorBlock}
 use Rattle.refine_model.specs.Refines.{HasFault, step_limit}
 use Rattle.refine.specs.Builds.{Build, words_at}
 use Rattle.refine.specs.Relation.{site_of, ceiling_by, AllAmple, Related}
@@ -24,7 +24,7 @@ pub record FollowsBy (R : SourceState → State → Type 0) (i : Image) (most : 
   pub runs : Runs by_mpu i steps from to es
   pub related : R s to
 
-module _ (k : Build) (Inv : Block → Context → List ℕ → Type 0) (places : ℕ → ℕ) where
+module _ (k : Build) (Inv : MonitorBlock → Context → List ℕ → Type 0) (places : ℕ → ℕ) where
   abbrev pub Follows : (from : State) (s : SourceState) (es : List Event) → Type 0
   Follows t s es = FollowsBy (Related k places Inv) k.setting.image step_limit t s es
 

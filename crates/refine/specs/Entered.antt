@@ -16,7 +16,7 @@ use Rattle.code_model.specs.FrameShape.{frame_shape}
 use Rattle.code_model.specs.Sizes.{entry_size}
 use Rattle.code_model.specs.Templates.{lends_of, entry_items}
 use Rattle.monitor_model.specs.declared.tables.Tables.{Tables}
-use Rattle.monitor_model.specs.Block.{Block}
+use Rattle.monitor_model.specs.Block.{MonitorBlock}
 use Rattle.monitor_model.specs.Invariant.{Invariant}
 use Rattle.monitor_model.specs.MonitorCode.{MonitorCode}
 use Rattle.monitor_model.specs.Setting.{Setting, setting_of}
@@ -26,9 +26,9 @@ use Rattle.refine.specs.CodeLaws.{CodeLaws}
 use Rattle.refine.specs.Owned.{Owns, MemoryRules, Lendable, all_lent}
 use Rattle.refine.specs.Entries.{RunsShort, LacksRoom}
 
-module _ (g : Setting) (Inv : Block → Context → List ℕ → Type 0) (fn : NumberedFunc) (q : Places) where
+module _ (g : Setting) (Inv : MonitorBlock → Context → List ℕ → Type 0) (fn : NumberedFunc) (q : Places) where
   -- at the first block: the frame holds the arguments and is clear behind them, and its locals are lent, which the monitor can keep
-  pub record IsEntered (from : State) (m : Block) (o w at : ℕ) (arguments : List ℕ) (link : ℕ) (ram : List ℕ) (queues : List (List ℕ)) : Type 0 where
+  pub record IsEntered (from : State) (m : MonitorBlock) (o w at : ℕ) (arguments : List ℕ) (link : ℕ) (ram : List ℕ) (queues : List (List ℕ)) : Type 0 where
     pub few : length m.loans + length (lends_of fn q) ≤ 32
     pub room : 1 ≤ length (lends_of fn q) → g.stack + 32 ≤ o
     pub count : ℕ
@@ -53,7 +53,7 @@ EntriesEnterOrEnd =
     (code : MonitorCode) (i : Image) (t : Tables) → let g : Setting = setting_of code i t in let Inv = Invariant i t in
     Law g Inv → MemoryRules g → CodeLaws →
     (fn : NumberedFunc) (q : Places) (labels : List (Option ℕ)) (w : ℕ) → (frame_shape fn).words ≡ w →
-    (m : Block) (x : Context) (low : List ℕ) (o lr at : ℕ) (f : Flags) (arguments : List ℕ) (ram : List ℕ) (queues : List (List ℕ)) → Inv m x ram →
+    (m : MonitorBlock) (x : Context) (low : List ℕ) (o lr at : ℕ) (f : Flags) (arguments : List ℕ) (ram : List ℕ) (queues : List (List ℕ)) → Inv m x ram →
     StateFits g.image (works x low (base g + o + 4 * w + 4) lr at f ram queues) → o % 8 ≡ 0 → g.stack ≤ o → base g + o + 4 * w + 4 ≤ m.top → length arguments ≡ row_length fn.params → length arguments ≤ w →
     ((k : ℕ) → k < length arguments → get_or low k 0 ≡ get_or arguments k 0) → Owns g m.current labels at (entry_items fn q) → Lendable g w (lends_of fn q) → length m.loans ≤ 32 →
     IsEntered g Inv fn q (works x low (base g + o + 4 * w + 4) lr at f ram queues) m o w at arguments lr ram queues

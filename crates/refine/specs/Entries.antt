@@ -12,7 +12,7 @@ use Rattle.ir_model.specs.Signatures.{row_length}
 use Rattle.code_model.specs.declared.places.Places.{Places}
 use Rattle.code_model.specs.FrameShape.{frame_shape}
 use Rattle.code_model.specs.Templates.{entry_items}
-use Rattle.monitor_model.specs.Block.{Block}
+use Rattle.monitor_model.specs.Block.{MonitorBlock}
 use Rattle.machine_devices.specs.declared.image.Image.{Image}
 use Rattle.monitor_model.specs.declared.tables.Tables.{Tables}
 use Rattle.monitor_model.specs.Invariant.{Invariant}
@@ -37,7 +37,7 @@ pub record EndsShort (g : Setting) (most : ℕ) (from : State) : Type 0 where
   pub runs : Runs by_mpu g.image count from last []
 
 -- the machine goes on otherwise than the source for this reason, and where the law of the stack holds, it ends so
-pub record RunsShort (g : Setting) (Inv : Block → Context → List ℕ → Type 0) (Reason : Type 0) (most : ℕ) (from : State) : Type 0 where
+pub record RunsShort (g : Setting) (Inv : MonitorBlock → Context → List ℕ → Type 0) (Reason : Type 0) (most : ℕ) (from : State) : Type 0 where
   pub reason : Reason
   pub ends : StackLaw g Inv → EndsShort g most from
 
@@ -56,7 +56,7 @@ EntriesWithoutRoomStop =
     (code : MonitorCode) (i : Image) (t : Tables) → let g : Setting = setting_of code i t in let Inv = Invariant i t in
     Law g Inv → MemoryRules g → CodeLaws → StackLaw g Inv →
     (fn : NumberedFunc) (q : Places) (labels : List (Option ℕ)) (w : ℕ) → (frame_shape fn).words ≡ w → 1 ≤ w → w ≤ most_words → (4 * w + 4) % 8 ≡ 0 → row_length fn.params ≤ w →
-    (m : Block) (x : Context) (low : List ℕ) (o lr at : ℕ) (f : Flags) (ram : List ℕ) (queues : List (List ℕ)) → Inv m x ram →
+    (m : MonitorBlock) (x : Context) (low : List ℕ) (o lr at : ℕ) (f : Flags) (ram : List ℕ) (queues : List (List ℕ)) → Inv m x ram →
     StateFits g.image (works x low (base g + o) lr at f ram queues) → o % 8 ≡ 0 → g.stack ≤ o → base g + o ≤ m.top → o < g.stack + (4 * w + 4) →
     Owns g m.current labels at (entry_items fn q) → EndsShort g 5 (works x low (base g + o) lr at f ram queues)
 
@@ -65,6 +65,6 @@ abbrev pub CallsWithoutRoomStop : Type 0
 CallsWithoutRoomStop =
     (code : MonitorCode) (i : Image) (t : Tables) → let g : Setting = setting_of code i t in let Inv = Invariant i t in
     Law g Inv → MemoryRules g → StackLaw g Inv →
-    (m : Block) (x : Context) (low : List ℕ) (o lr pc n : ℕ) (f : Flags) (ram : List ℕ) (queues : List (List ℕ)) → Inv m x ram →
+    (m : MonitorBlock) (x : Context) (low : List ℕ) (o lr pc n : ℕ) (f : Flags) (ram : List ℕ) (queues : List (List ℕ)) → Inv m x ram →
     StateFits g.image (works x low (base g + o) lr pc f ram queues) → o % 8 ≡ 0 → g.stack ≤ o → base g + o ≤ m.top → o < g.stack + 32 →
     Stands by_mpu g.image x.protection pc (svc n) → EndsShort g 1 (works x low (base g + o) lr pc f ram queues)

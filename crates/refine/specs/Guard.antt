@@ -12,7 +12,7 @@ use Rattle.machine_model.specs.RunningCode.{Context}
 use Rattle.monitor_model.specs.declared.tables.Tables.{Tables}
 use Rattle.monitor_model.specs.Records.{compartment_at}
 use Rattle.monitor_model.specs.Placed.{Placed}
-use Rattle.monitor_model.specs.Block.{Block}
+use Rattle.monitor_model.specs.Block.{MonitorBlock}
 use Rattle.monitor_model.specs.Invariant.{Invariant, InvariantHolds}
 use Rattle.monitor_model.specs.MonitorCode.{MonitorCode}
 use Rattle.monitor_model.specs.MonitorLaw.{MonitorLaw}
@@ -30,14 +30,14 @@ IsGuarded i t =
 
 abbrev pub GuardsRefuse : Type 0
 GuardsRefuse =
-    (i : Image) (t : Tables) (m : Block) (s : State) (a : ℕ) → Placed i t → IsGuarded i t → InvariantHolds i t m s →
+    (i : Image) (t : Tables) (m : MonitorBlock) (s : State) (a : ℕ) → Placed i t → IsGuarded i t → InvariantHolds i t m s →
     a < t.stack.base → t.stack.base ≤ a + guard_bytes → by_mpu s.protection Write a ≡ false
 
 -- what a simulation takes of the stack's end, beside the monitor's law
-pub record StackLaw (g : Setting) (Inv : Block → Context → List ℕ → Type 0) : Type 0 where
-  pub refuses : (m : Block) (x : Context) (ram : List ℕ) (a : ℕ) → Inv m x ram → a < base g + g.stack → base g + g.stack ≤ a + guard_bytes → by_mpu x.protection Write a ≡ false
-  pub thread : (m : Block) (x : Context) (ram : List ℕ) → Inv m x ram → x.protection.handler ≡ false
-  pub enabled : (m : Block) (x : Context) (ram : List ℕ) → Inv m x ram → is_fault_enabled x.status ≡ true
+pub record StackLaw (g : Setting) (Inv : MonitorBlock → Context → List ℕ → Type 0) : Type 0 where
+  pub refuses : (m : MonitorBlock) (x : Context) (ram : List ℕ) (a : ℕ) → Inv m x ram → a < base g + g.stack → base g + g.stack ≤ a + guard_bytes → by_mpu x.protection Write a ≡ false
+  pub thread : (m : MonitorBlock) (x : Context) (ram : List ℕ) → Inv m x ram → x.protection.handler ≡ false
+  pub enabled : (m : MonitorBlock) (x : Context) (ram : List ℕ) → Inv m x ram → is_fault_enabled x.status ≡ true
   pub calls : ShortCalls g Inv
   -- an eighth has room for an exception's frame
   pub deep : 32 ≤ g.eighth

@@ -28,7 +28,7 @@ module _ (k : Build) where
     -- each function stands in a compartment
     pub count : length k.groups.of ≡ length k.program.funcs
     pub each : (f : ℕ) → f < length k.program.funcs → compartment_of k f < k.groups.count
-    -- the code of each compartment stands at its location, which is a multiple of 4, and is its own
+    -- the code of each compartment stands at its place, which is a multiple of 4, and is its own
     pub lies : (c : ℕ) → c < k.groups.count →
         ItemsIn k.setting.image (compartment_labels k.program (groups_of k) k.places c) (get_or k.places.bases c 0) (compartment_items k.program (groups_of k) k.places c)
     pub inside : (c a : ℕ) → c < k.groups.count → get_or k.places.bases c 0 ≤ a → a < get_or k.places.bases c 0 + compartment_size k.program (groups_of k) c → k.setting.has_code c a ≡ true

@@ -7,7 +7,7 @@ use Rattle.machine_devices.specs.Rules.{ObeysRules, block_size}
 use Rattle.machine_model.specs.declared.state.ProtectionState.{ProtectionState}
 use Rattle.machine_model.specs.State.{PermissionTest}
 use Rattle.code_model.specs.Places.{Lend}
-use Rattle.monitor_model.specs.Block.{Block, Loan, lent}
+use Rattle.monitor_model.specs.Block.{MonitorBlock, Loan, lent}
 use Rattle.monitor_model.specs.Setting.{Setting}
 use Rattle.monitor_model.specs.Threads.{base, stack_end}
 use Rattle.code_effects.specs.Items.{ItemsAt}
@@ -36,7 +36,7 @@ module _ (g : Setting) where
     abbrev pub loan_of : Lend → Loan
     loan_of d = record { address = base g + o + 4 * d.home; end = base g + o + 4 * d.home + get_or g.sizes d.number 0; number = d.number }
 
-    abbrev pub all_lent : Block → List Lend → Block
+    abbrev pub all_lent : MonitorBlock → List Lend → MonitorBlock
     all_lent m [] = m
     all_lent m (d ∷ ds) = all_lent (lent m (loan_of d)) ds
 

@@ -15,7 +15,7 @@ use Rattle.ir_model.specs.Resolved.{Instance, OfGlobal, OfPeriph, OfLocal, Value
 use Rattle.ir_model.specs.State.{Frame, Memory, SourceState, Running, Ended}
 use Rattle.ir_laws.specs.Moves.{Where, where_of, wheres}
 use Rattle.ir_laws.specs.States.{Alike, global_shapes}
-use Rattle.monitor_model.specs.Block.{Block, entered}
+use Rattle.monitor_model.specs.Block.{MonitorBlock, entered}
 use Rattle.monitor_model.specs.Threads.{base, stack_end, first_block}
 use Rattle.refine_model.specs.Refines.{EndsAlike}
 use Rattle.refine.specs.Areas.{Area, Has}
@@ -148,13 +148,13 @@ module _ (k : Build) where
     ceiling fs = ceiling_by (site_of fs) fs
 
     -- what the monitor's block says at the entry of a function above these frames, and while the first of them runs
-    abbrev pub beneath : Option ℕ → (func : ℕ) → List Where → Block → Block
+    abbrev pub beneath : Option ℕ → (func : ℕ) → List Where → MonitorBlock → MonitorBlock
     beneath None f fs b = b
     beneath (Some s) f [] b = b
     beneath (Some s) f (c ∷ rest) b =
         entered b (compartment_of k f) (base k.setting + ceiling_by (Some s) (c ∷ rest)) (base k.setting + places c.number - 32)
 
-    abbrev pub block_of : List Where → Block
+    abbrev pub block_of : List Where → MonitorBlock
     block_of [] = first_block k.setting
     block_of (w ∷ ws) = all_lent k.setting (places w.number) (beneath (site_of ws) w.func ws (block_of ws)) (lends_at k w.func)
 
@@ -183,7 +183,7 @@ module _ (k : Build) where
     AllAmple [] = Unit {0}
     AllAmple (w ∷ ws) = IsAmple w ws × AllAmple ws
 
-    module _ (Inv : Block → Context → List ℕ → Type 0) where
+    module _ (Inv : MonitorBlock → Context → List ℕ → Type 0) where
       -- `frames` stand at w and ws, the first running
       pub record Stands (w : Where) (ws : List Where) (frames : List Frame) (m : Memory) (t : State) : Type 0 where
         pub context : Context

@@ -11,14 +11,14 @@ use Rattle.ir_model.specs.Step.{turn_here}
 use Rattle.ir_laws.specs.Moves.{Where, where_of, wheres}
 use Rattle.ir_laws.specs.Sets.{ObjectSets}
 use Rattle.ir_laws.specs.States.{StateFits}
-use Rattle.monitor_model.specs.Block.{Block}
+use Rattle.monitor_model.specs.Block.{MonitorBlock}
 use Rattle.refine_model.specs.Refines.{HasFault, step_limit}
 use Rattle.refine.specs.Entries.{RunsShort}
 use Rattle.refine.specs.Builds.{Build}
 use Rattle.refine.specs.Relation.{Stands}
 use Rattle.refine.specs.Cases.{Follows, standing, LiesFirst, IsBeyond}
 
-module _ (k : Build) (Inv : Block → Context → List ℕ → Type 0) (places : ℕ → ℕ) where
+module _ (k : Build) (Inv : MonitorBlock → Context → List ℕ → Type 0) (places : ℕ → ℕ) where
   -- a step is followed; or it leads beyond the stack limit, and where the law of the stack holds the machine ends
   abbrev pub Serves : (now : List Where) (from : State) (s : SourceState) (es : List Event) → Type 0
   Serves now t s es = Follows k Inv places t s es ⊎ RunsShort k.setting Inv (IsBeyond k Inv places now (standing k Inv places s)) step_limit t

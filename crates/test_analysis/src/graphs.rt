@@ -2,13 +2,13 @@
 
 use crate::function_needs::put_numbers;
 use anyhow::Result;
-use plan_model::graph::{Cover, Graph, Region};
+use plan_model::graph::{Cover, DataRegion, Graph};
 use plan_model::groups::Groups;
 use plan_model::limits::LimitKind;
 use plan_model::needs::Needs;
 use std::alloc::Global;
 
-fn put_region(alloc: Global, text: &mut String, region: &Region) -> Result<()> {
+fn put_region(alloc: Global, text: &mut String, region: &DataRegion) -> Result<()> {
     put_numbers(alloc, text, "region", region.globals.as_slice())?;
     put_numbers(alloc, text, "writers", region.writers.as_slice())?;
     put_numbers(alloc, text, "readers", region.readers.as_slice())

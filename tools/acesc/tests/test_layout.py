@@ -13,7 +13,7 @@ sys.path.insert(0, str(TOOLS))
 from acesc.common import Messages  # noqa: E402
 from acesc.c_types import RecordType  # noqa: E402
 from acesc.dump import declarations, run_clang  # noqa: E402
-from acesc.link import Program, Unit  # noqa: E402
+from acesc.program import Program, Unit  # noqa: E402
 from acesc.unit import UnitReader  # noqa: E402
 
 KINDS = ('char', 'short', 'int', 'unsigned', 'long long', 'void *', 'short', 'unsigned char')

@@ -1,7 +1,7 @@
 use Rattle.std.proofs.Common.{Some, None, length, option_map, sym, ap, arith}
 use Rattle.plan_model.specs.declared.limits.LimitKind.TheVariants.{Compartments, Lent, Sites, Targets}
 use Rattle.plan_model.specs.CompileLimits.{first_passed}
-use Rattle.plan_limits.specs.Told.{told}
+use Rattle.plan_limits.specs.Told.{in_32_bits}
 use Rattle.plan_limits.proofs.Limits.{compartments_first, lent_first, sites_first, targets_last, told_is}
 use Rattle.plan_limits.proofs.passed.Goals as goal
 
@@ -31,7 +31,7 @@ pub returns-in-None : goal.returns-in-None
 returns-in-None c =
     let n = c.args.needs.now in
     let g = c.args.groups.now in
-    sym (ap (option_map told)
+    sym (ap (option_map in_32_bits)
     (targets_last n g (length c.lent-lent.result.now) c.site_count-sites.result None c.if-groups-gt-COMPARTMENT_LIMIT.false (ap length c.lent-lent.ensures) c.if-lent-gt-LENT_LIMIT.false c.site_count-sites.ensures c.if-sites-gt-SITE_LIMIT.false c.in-None.ensures))
 
 pub returns-in-Some : goal.returns-in-Some

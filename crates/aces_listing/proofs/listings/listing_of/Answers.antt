@@ -14,8 +14,8 @@ returns-in_err-made-clause-refused c =
     let x = err_from_is_err_and c.from_residual-in_err-made.result c.from_residual-in_err-made.ensures.1 in
     rw x.1 (unplanned c.args.policy (firmware_of c.args.firmware.now) b a c.in_ok-analysis.ensures.exact x.0 (subst (IsRefusalOf a b) (sym x.2) c.in_err-made.ensures.refused))
 
-pub told-requires-clause-program : goal.told-requires-clause-program
-told-requires-clause-program c = c.in_ok-analysis.ensures.exact.program
+pub listing_of_plan-requires-clause-program : goal.listing_of_plan-requires-clause-program
+listing_of_plan-requires-clause-program c = c.in_ok-analysis.ensures.exact.program
 
 pub returns-clause-ok : goal.returns-clause-ok
 returns-clause-ok c =

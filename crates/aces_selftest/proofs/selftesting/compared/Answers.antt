@@ -4,7 +4,7 @@ use Rattle.std.proofs.lemmas.Result.{IfOk-weaker}
 use Rattle.ir_model.specs.Plain.{PlainFirmware, firmware_of, global_of}
 use Rattle.ir_generator.specs.Made.{made}
 use Rattle.aces_files.specs.Tellings.{told_outcome}
-use Rattle.aces_files.specs.declared.telling.Told.{Told}
+use Rattle.aces_files.specs.declared.telling.CommandOutput.{CommandOutput}
 use Rattle.aces_selftest.specs.Answers.{SelftestAnswer}
 use Rattle.aces_selftest.specs.Tested.{IsTold}
 use Rattle.aces_selftest.proofs.Ran.{answered}
@@ -20,7 +20,7 @@ returns c =
     let globals : length w.globals ≡ length (made seed size).globals = sym (length-map w.globals global_of) ∙ ap (λ (p : PlainFirmware). length p.globals) same in
     let periphs : length w.periphs ≡ length (made seed size).periphs = ap (λ (p : PlainFirmware). length p.periphs) same in
     IfOk-weaker c.tell.result (IsTold (length w.globals) (length w.periphs) t)
-    (λ (told : Told). SelftestAnswer seed size (told_outcome told))
+    (λ (told : CommandOutput). SelftestAnswer seed size (told_outcome told))
     (λ told h. answered seed size c.args.image.now t told c.in_ok-tested.ensures
     (subst (λ p. IsTold (length (made seed size).globals) p t told) periphs (subst (λ g. IsTold g (length w.periphs) t told) globals h)))
     c.tell.ensures

@@ -12,8 +12,8 @@ returns-in_err-made-clause-refused c =
     let x = err_from_is_err_and c.from_residual-in_err-made.result c.from_residual-in_err-made.ensures.1 in
     rw x.1 (unplanned c.args.policy (firmware_of c.args.firmware.now) b a c.in_ok-analysis.ensures.exact x.0 (subst (IsRefusalOf a b) (sym x.2) c.in_err-made.ensures.refused))
 
-pub told-requires : goal.told-requires
-told-requires c = c.in_ok-analysis.ensures.exact.program
+pub symbols_of_plan-requires : goal.symbols_of_plan-requires
+symbols_of_plan-requires c = c.in_ok-analysis.ensures.exact.program
 
 pub returns-clause-ok : goal.returns-clause-ok
 returns-clause-ok c =

@@ -4,12 +4,12 @@ use Rattle.ir_model.specs.declared.firmware.Peripheral.{Peripheral}
 use Rattle.ir_model.specs.Plain.{PlainFunc, PlainGlobal, global_of, func_of, file_of}
 use Rattle.ir_model.specs.Typing.{file_checks, first_failing}
 use Rattle.ir_check_declarations.specs.DeclarationParts.{file_part}
-use Rattle.ir_check_scopes.proofs.Order.{told, stop_at, go_on}
+use Rattle.ir_check_scopes.proofs.Order.{first_told, stop_at, go_on}
 use Rattle.ir_check_declarations.proofs.files.files.Goals as goal
 
 pub returns-in_err-file : goal.returns-in_err-file
 returns-in_err-file c =
-    told (file_checks [] (map (λ (q : Peripheral). q.name) c.args.firmware.now.periphs ++ map (λ (g : PlainGlobal). g.name) (map global_of c.args.firmware.now.globals)) (map file_of c.args.firmware.now.files)) c.from_residual-in_err-file.result c.in_err-file.field-0.0 c.from_residual-in_err-file.ensures.1
+    first_told (file_checks [] (map (λ (q : Peripheral). q.name) c.args.firmware.now.periphs ++ map (λ (g : PlainGlobal). g.name) (map global_of c.args.firmware.now.globals)) (map file_of c.args.firmware.now.files)) c.from_residual-in_err-file.result c.in_err-file.field-0.0 c.from_residual-in_err-file.ensures.1
     (stop_at (λ (fs : List FileDecl). file_checks c.loop-declaration.names c.loop-declaration.seen (map file_of fs))
     (λ (fs : List FileDecl). file_checks (c.loop-declaration.names ++ c.declaration-item.result.name ∷ []) (c.loop-declaration.seen ++ map (λ (f : PlainFunc). f.name) (map func_of c.declaration-item.result.funcs)) (map file_of fs))
     (file_checks [] (map (λ (q : Peripheral). q.name) c.args.firmware.now.periphs ++ map (λ (g : PlainGlobal). g.name) (map global_of c.args.firmware.now.globals)) (map file_of c.args.firmware.now.files)) (c.args.firmware.now.files) c.loop-declaration.declaration-index c.declaration-item.result (file_part c.loop-declaration.names c.loop-declaration.seen (file_of c.declaration-item.result)) c.in_err-file.field-0.0

@@ -3,7 +3,7 @@ use Rattle.ir_model.specs.declared.firmware.StructDecl.{StructDecl}
 use Rattle.ir_model.specs.Plain.{struct_of}
 use Rattle.ir_model.specs.Typing.{struct_checks, structs_checks, first_failing}
 use Rattle.ir_check_scopes.specs.Found.{Refused}
-use Rattle.ir_check_scopes.proofs.Order.{told, stop_at, go_on}
+use Rattle.ir_check_scopes.proofs.Order.{first_told, stop_at, go_on}
 use Rattle.ir_check_declarations.proofs.StructSteps.{more_structs}
 use Rattle.ir_check_declarations.proofs.structs.structs.Goals as goal
 use Rattle.base_laws.proofs.Lists.{take_next}
@@ -12,7 +12,7 @@ pub returns-in_err-structure-clause-finds : goal.returns-in_err-structure-clause
 returns-in_err-structure-clause-finds c =
     let finds : Refused (struct_checks c.args.declared.now (map struct_of (take c.loop-declaration.declaration-index c.args.structs.now)) (struct_of c.declaration-item.result)) c.in_err-structure.field-0.0 =
     subst (λ (ss : List StructDecl). Refused (struct_checks c.args.declared.now (map struct_of ss) (struct_of c.declaration-item.result)) c.in_err-structure.field-0.0) c.loop-declaration.invariant.all c.in_err-structure.ensures.finds in
-    told (structs_checks c.args.declared.now [] (map struct_of c.args.structs.now)) c.from_residual.result c.in_err-structure.field-0.0 c.from_residual.ensures.1
+    first_told (structs_checks c.args.declared.now [] (map struct_of c.args.structs.now)) c.from_residual.result c.in_err-structure.field-0.0 c.from_residual.ensures.1
     (stop_at (λ (ss : List StructDecl). structs_checks c.args.declared.now (map struct_of (take c.loop-declaration.declaration-index c.args.structs.now)) (map struct_of ss))
     (λ (ss : List StructDecl). structs_checks c.args.declared.now ((map struct_of (take c.loop-declaration.declaration-index c.args.structs.now)) ++ struct_of c.declaration-item.result ∷ []) (map struct_of ss))
     (structs_checks c.args.declared.now [] (map struct_of c.args.structs.now)) (c.args.structs.now) c.loop-declaration.declaration-index c.declaration-item.result

@@ -1,4 +1,4 @@
-use Rattle.ir_model.specs.declared.check.Place.TheVariants as place
+use Rattle.ir_model.specs.declared.check.CheckPlace.TheVariants as place
 use Rattle.ir_model.specs.Types.{type_of}
 use Rattle.ir_model.specs.Plain.{firmware_of}
 use Rattle.ir_check_details.proofs.Misfits.{of_function, of_address}

@@ -1,6 +1,6 @@
 use Rattle.std.proofs.Common.{◌+◌, ◌++◌, ◌∙◌, List, ℕ, ap, sym, arith}
 use Rattle.std.proofs.lemmas.Result.{on_ok_weaker}
-use Rattle.ir_model.specs.declared.check.Place.TheVariants as place
+use Rattle.ir_model.specs.declared.check.CheckPlace.TheVariants as place
 use Rattle.ir_model.specs.Types.{type_of}
 use Rattle.ir_model.specs.Plain.{firmware_of}
 use Rattle.ir_check_details.specs.FirstValues.{value_lines}

@@ -1,6 +1,6 @@
 use Rattle.std.proofs.Common.{◌≡◌, ◌+◌, drop}
 use Rattle.ir_model.specs.Plain.{firmware_of}
-use Rattle.ir_model.specs.declared.check.Place.TheVariants as place
+use Rattle.ir_model.specs.declared.check.CheckPlace.TheVariants as place
 use Rattle.ir_check_details.proofs.Misfits.{lines_from}
 use Rattle.ir_check_details.proofs.first_values.put_values.Given as goal
 

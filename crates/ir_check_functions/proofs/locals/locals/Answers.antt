@@ -5,14 +5,14 @@ use Rattle.ir_model.specs.Layout.{known}
 use Rattle.ir_model.specs.Typing.{local_checks, first_failing}
 use Rattle.ir_check_scopes.specs.Spots.{place_of}
 use Rattle.ir_check_functions.specs.BindingParts.{local_check}
-use Rattle.ir_check_scopes.proofs.Order.{told, stop_at, go_on}
+use Rattle.ir_check_scopes.proofs.Order.{first_told, stop_at, go_on}
 use Rattle.ir_check_functions.proofs.BindingNames.{more_names}
 use Rattle.ir_check_functions.proofs.LocalSizes.{more_size}
 use Rattle.ir_check_functions.proofs.locals.locals.Goals as goal
 
 pub returns-in_err-size-clause-finds : goal.returns-in_err-size-clause-finds
 returns-in_err-size-clause-finds c =
-    told (local_checks (firmware_of c.args.scope.now.firmware.now) c.args.scope.now.structs (place_of c.args.spot) c.args.seen.now (map binding_of c.args.bindings.now)) c.from_residual.result c.in_err-size.field-0.0 c.from_residual.ensures.1
+    first_told (local_checks (firmware_of c.args.scope.now.firmware.now) c.args.scope.now.structs (place_of c.args.spot) c.args.seen.now (map binding_of c.args.bindings.now)) c.from_residual.result c.in_err-size.field-0.0 c.from_residual.ensures.1
     (stop_at (λ (ss : List Binding). local_checks (firmware_of c.args.scope.now.firmware.now) c.args.scope.now.structs (place_of c.args.spot) c.loop-binding.seen (map binding_of ss))
     (λ (ss : List Binding). local_checks (firmware_of c.args.scope.now.firmware.now) c.args.scope.now.structs (place_of c.args.spot) (c.loop-binding.seen ++ c.binding-item.result.name ∷ []) (map binding_of ss))
     (local_checks (firmware_of c.args.scope.now.firmware.now) c.args.scope.now.structs (place_of c.args.spot) c.args.seen.now (map binding_of c.args.bindings.now)) (c.args.bindings.now) c.loop-binding.binding-index c.binding-item.result (local_check (firmware_of c.args.scope.now.firmware.now) c.args.scope.now.structs (place_of c.args.spot) c.loop-binding.seen (binding_of c.binding-item.result)) c.in_err-size.field-0.0

@@ -4,13 +4,13 @@ use Rattle.ir_model.specs.Plain.{binding_of}
 use Rattle.ir_model.specs.Typing.{register_checks, first_failing}
 use Rattle.ir_check_scopes.specs.Spots.{place_of}
 use Rattle.ir_check_functions.specs.BindingParts.{register_check}
-use Rattle.ir_check_scopes.proofs.Order.{told, stop_at, go_on}
+use Rattle.ir_check_scopes.proofs.Order.{first_told, stop_at, go_on}
 use Rattle.ir_check_functions.proofs.BindingNames.{more_names}
 use Rattle.ir_check_functions.proofs.registers.registers.Goals as goal
 
 pub returns-in_err-register-clause-finds : goal.returns-in_err-register-clause-finds
 returns-in_err-register-clause-finds c =
-    told (register_checks c.args.declared.now (place_of c.args.spot) c.args.seen.now (map binding_of c.args.bindings.now)) c.from_residual.result c.in_err-register.field-0.0 c.from_residual.ensures.1
+    first_told (register_checks c.args.declared.now (place_of c.args.spot) c.args.seen.now (map binding_of c.args.bindings.now)) c.from_residual.result c.in_err-register.field-0.0 c.from_residual.ensures.1
     (stop_at (λ (ss : List Binding). register_checks c.args.declared.now (place_of c.args.spot) c.loop-binding.seen (map binding_of ss))
     (λ (ss : List Binding). register_checks c.args.declared.now (place_of c.args.spot) (c.loop-binding.seen ++ c.binding-item.result.name ∷ []) (map binding_of ss))
     (register_checks c.args.declared.now (place_of c.args.spot) c.args.seen.now (map binding_of c.args.bindings.now)) (c.args.bindings.now) c.loop-binding.binding-index c.binding-item.result (register_check c.args.declared.now (place_of c.args.spot) c.loop-binding.seen (binding_of c.binding-item.result)) c.in_err-register.field-0.0

@@ -4,13 +4,13 @@ use Rattle.ir_model.specs.declared.firmware.Peripheral.{Peripheral}
 use Rattle.ir_model.specs.Plain.{global_of, firmware_of}
 use Rattle.ir_model.specs.Typing.{globals_checks, first_failing}
 use Rattle.ir_check_globals.specs.Parts.{global_part}
-use Rattle.ir_check_scopes.proofs.Order.{told, stop_at, go_on}
+use Rattle.ir_check_scopes.proofs.Order.{first_told, stop_at, go_on}
 use Rattle.ir_check_globals.proofs.GlobalParts.{global_parts}
 use Rattle.ir_check_globals.proofs.globals.globals.Goals as goal
 
 pub returns-in_err-global : goal.returns-in_err-global
 returns-in_err-global c =
-    told (globals_checks (firmware_of c.args.scope.now.firmware.now) (map (λ (q : Peripheral). q.name) c.args.scope.now.firmware.now.periphs) (map global_of c.args.scope.now.firmware.now.globals)) c.from_residual-in_err-global.result c.in_err-global.field-0.0 c.from_residual-in_err-global.ensures.1
+    first_told (globals_checks (firmware_of c.args.scope.now.firmware.now) (map (λ (q : Peripheral). q.name) c.args.scope.now.firmware.now.periphs) (map global_of c.args.scope.now.firmware.now.globals)) c.from_residual-in_err-global.result c.in_err-global.field-0.0 c.from_residual-in_err-global.ensures.1
     (stop_at (λ (gs : List Global). globals_checks (firmware_of c.args.scope.now.firmware.now) c.loop-declaration.seen (map global_of gs))
     (λ (gs : List Global). globals_checks (firmware_of c.args.scope.now.firmware.now) (c.loop-declaration.seen ++ c.declaration-item.result.name ∷ []) (map global_of gs))
     (globals_checks (firmware_of c.args.scope.now.firmware.now) (map (λ (q : Peripheral). q.name) c.args.scope.now.firmware.now.periphs) (map global_of c.args.scope.now.firmware.now.globals)) (c.args.scope.now.firmware.now.globals) c.loop-declaration.declaration-index c.declaration-item.result (global_part c.args.scope.now.structs (firmware_of c.args.scope.now.firmware.now) c.loop-declaration.seen (global_of c.declaration-item.result)) c.in_err-global.field-0.0

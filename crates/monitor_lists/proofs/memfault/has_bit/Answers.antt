@@ -1,5 +1,5 @@
 use Rattle.std.proofs.Common.{◌∙◌, ap₂}
-use Rattle.monitor_steps.specs.declared.steps.GateCond.TheVariants.{Eq}
+use Rattle.monitor_steps.specs.declared.steps.PrivilegedCond.TheVariants.{Eq}
 use Rattle.monitor_steps.specs.Steps.{End, Test}
 use Rattle.monitor_steps.specs.Lists.{all_before}
 use Rattle.monitor_lists.proofs.Begun.{begins}

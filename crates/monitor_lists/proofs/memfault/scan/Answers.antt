@@ -1,5 +1,5 @@
 use Rattle.std.proofs.Common.{◌∙◌, ap}
-use Rattle.monitor_steps.specs.declared.steps.GateCond.TheVariants.{Eq}
+use Rattle.monitor_steps.specs.declared.steps.PrivilegedCond.TheVariants.{Eq}
 use Rattle.monitor_steps.specs.Steps.{Const, ReadPsp, Repeat, ◌▸◌}
 use Rattle.monitor_steps.specs.Lists.{all_before}
 use Rattle.monitor_model.specs.Values.{most_loans}

@@ -1,5 +1,5 @@
 use Rattle.std.proofs.Common.{◌∙◌, ap}
-use Rattle.monitor_steps.specs.declared.steps.GateOp.TheVariants.{Add}
+use Rattle.monitor_steps.specs.declared.steps.PrivilegedOp.TheVariants.{Add}
 use Rattle.monitor_steps.specs.Steps.{End, Const, Alu, Repeat}
 use Rattle.monitor_steps.specs.Lists.{all_before}
 use Rattle.monitor_lists.proofs.Begun.{begins}

@@ -12,11 +12,11 @@ loop-place-init g c = record { linking = link_none c.args.system.now c.args.stat
 pub loop-place-preserved : goal.loop-place-preserved
 loop-place-preserved g c =
     record {
-      linking = link_next c.args.system.now c.args.state.now c.loop-place.state c.link.new.state c.copy_at-edge.result c.loop-place.place c.loop-place.invariant.linking c.copy_at-edge.ensures c.in_ok-link.ensures.holds c.in_ok-link.ensures.grown c.in_ok-link.ensures.next c.in_ok-link.ensures.found;
-      paid = paid_both c.args.state.now c.loop-place.state c.link.new.state _ c.loop-place.steps _ c.loop-place.invariant.paid c.in_ok-link.ensures.paid;
+      linking = link_next c.args.system.now c.args.state.now c.loop-place.state c.put_edge.new.state c.copy_at-edge.result c.loop-place.place c.loop-place.invariant.linking c.copy_at-edge.ensures c.in_ok-put_edge.ensures.holds c.in_ok-put_edge.ensures.grown c.in_ok-put_edge.ensures.next c.in_ok-put_edge.ensures.found;
+      paid = paid_both c.args.state.now c.loop-place.state c.put_edge.new.state _ c.loop-place.steps _ c.loop-place.invariant.paid c.in_ok-put_edge.ensures.paid;
     }
 
-pub link-requires-clause-asked : goal.link-requires-clause-asked
-link-requires-clause-asked g c =
+pub put_edge-requires-clause-asked : goal.put_edge-requires-clause-asked
+put_edge-requires-clause-asked g c =
     let l : c.loop-place.place < length c.args.system.now.rules.copies.items = omega arith in
     inl (subst (λ e. Contains c.args.system.now.rules.copies.items e) (sym c.copy_at-edge.ensures) (Contains-get_or c.args.system.now.rules.copies.items c.loop-place.place no_edge l))

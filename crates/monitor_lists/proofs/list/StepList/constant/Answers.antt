@@ -1,5 +1,5 @@
 use Rattle.std.proofs.Common.{◌≡◌, [], ◌∷◌, ◌++◌}
-use Rattle.monitor_steps.specs.declared.steps.GateStep.TheBlock.{Const}
+use Rattle.monitor_steps.specs.declared.steps.PrivilegedStep.TheBlock.{Const}
 use Rattle.monitor_steps.specs.Steps as list
 use Rattle.monitor_steps.proofs.Views.{before-Const}
 use Rattle.monitor_lists.proofs.Listed.{one_more}

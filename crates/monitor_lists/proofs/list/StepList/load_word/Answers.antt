@@ -1,6 +1,6 @@
 use Rattle.std.proofs.Common.{◌≡◌, ◌*◌, [], ◌∷◌, ◌++◌}
 use Rattle.base_words.specs.declared.memory.Width.TheVariants.{Word}
-use Rattle.monitor_steps.specs.declared.steps.GateStep.TheBlock.{Load}
+use Rattle.monitor_steps.specs.declared.steps.PrivilegedStep.TheBlock.{Load}
 use Rattle.monitor_steps.specs.Steps as list
 use Rattle.monitor_lists.proofs.Listed.{one_more, load_words}
 use Rattle.monitor_lists.proofs.list.StepList.load_word.Goals as goal

@@ -1,5 +1,5 @@
 use Rattle.std.proofs.Common.{◌≡◌, [], ◌∷◌, ◌++◌, ap, ◌∙◌}
-use Rattle.monitor_steps.specs.declared.steps.GateStep.TheViews.{Repeat}
+use Rattle.monitor_steps.specs.declared.steps.PrivilegedStep.TheViews.{Repeat}
 use Rattle.monitor_steps.specs.Steps as list
 use Rattle.monitor_steps.specs.Lists.{steps_of}
 use Rattle.monitor_steps.proofs.Views.{before-Repeat}

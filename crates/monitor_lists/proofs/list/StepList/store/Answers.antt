@@ -1,5 +1,5 @@
 use Rattle.std.proofs.Common.{◌≡◌, [], ◌∷◌, ◌++◌}
-use Rattle.monitor_steps.specs.declared.steps.GateStep.TheBlock.{Store}
+use Rattle.monitor_steps.specs.declared.steps.PrivilegedStep.TheBlock.{Store}
 use Rattle.monitor_steps.specs.Steps as list
 use Rattle.monitor_lists.proofs.Listed.{one_more, store_at_once}
 use Rattle.monitor_lists.proofs.list.StepList.store.Goals as goal

@@ -1,6 +1,6 @@
 use Rattle.std.proofs.Common.{◌≡◌, ◌*◌, [], ◌∷◌, ◌++◌}
 use Rattle.base_words.specs.declared.memory.Width.TheVariants.{Word}
-use Rattle.monitor_steps.specs.declared.steps.GateStep.TheBlock.{Store}
+use Rattle.monitor_steps.specs.declared.steps.PrivilegedStep.TheBlock.{Store}
 use Rattle.monitor_steps.specs.Steps as list
 use Rattle.monitor_lists.proofs.Listed.{one_more, store_words}
 use Rattle.monitor_lists.proofs.list.StepList.store_word.Goals as goal

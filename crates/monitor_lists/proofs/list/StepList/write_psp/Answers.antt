@@ -1,5 +1,5 @@
 use Rattle.std.proofs.Common.{◌≡◌, [], ◌∷◌, ◌++◌}
-use Rattle.monitor_steps.specs.declared.steps.GateStep.TheBlock.{WritePsp}
+use Rattle.monitor_steps.specs.declared.steps.PrivilegedStep.TheBlock.{WritePsp}
 use Rattle.monitor_steps.specs.Steps as list
 use Rattle.monitor_steps.proofs.Views.{before-WritePsp}
 use Rattle.monitor_lists.proofs.Listed.{one_more}

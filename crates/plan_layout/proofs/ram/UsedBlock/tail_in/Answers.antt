@@ -5,7 +5,7 @@ use Rattle.plan_layout.specs.declared.ram.Tail.{Tail}
 use Rattle.plan_layout.specs.Filling.{block_seen, use_seen, tail_seen}
 use Rattle.plan_layout.proofs.Searches.{position_mapped_here, position_mapped_none}
 use Rattle.plan_layout.proofs.Steps.{tail_for_is}
-use Rattle.plan_layout.proofs.ram.Block.tail_in.Goals as goal
+use Rattle.plan_layout.proofs.ram.UsedBlock.tail_in.Goals as goal
 
 abbrev nowhere : Tail
 nowhere = record { from = 0; to = 0 }

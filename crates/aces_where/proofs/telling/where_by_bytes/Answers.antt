@@ -9,7 +9,7 @@ use Rattle.aces_firmwares.specs.Firmwares.{IsNoFirmware}
 use Rattle.aces_firmwares.proofs.Sourcing.{windows_made}
 use Rattle.aces_where.specs.Answers.{WhereAnswer, no_firmware, no_tape, stands}
 use Rattle.aces_where.specs.Runs.{AreLines}
-use Rattle.aces_where.proofs.telling.told.Goals as goal
+use Rattle.aces_where.proofs.telling.where_by_bytes.Goals as goal
 
 pub returns-in_err-checked-clause-err : goal.returns-in_err-checked-clause-err
 returns-in_err-checked-clause-err c =

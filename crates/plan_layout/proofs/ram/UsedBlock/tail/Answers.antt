@@ -2,7 +2,7 @@ use Rattle.std.proofs.Common.{◌≡◌, ◌+◌, ◌-◌, ◌/◌, true, rules,
 use Rattle.plan_model.specs.RamBlocks.{holds_globals}
 use Rattle.plan_layout.specs.Filling.{block_seen, use_seen}
 use Rattle.plan_layout.proofs.Steps.{tail_there, tail_not_there, open_is}
-use Rattle.plan_layout.proofs.ram.Block.tail.Goals as goal
+use Rattle.plan_layout.proofs.ram.UsedBlock.tail.Goals as goal
 
 pub returns-then-open-lt8 : goal.returns-then-open-lt8
 returns-then-open-lt8 c =

@@ -4,7 +4,7 @@ use Rattle.need_sets.specs.Solutions.{is_in}
 use Rattle.need_solving.proofs.Putting.{still_asked}
 use Rattle.need_solving.proofs.Copying.{holds_edge}
 use Rattle.need_solving.proofs.Paying.{paid_link}
-use Rattle.need_solving.proofs.search.link.Goals as goal
+use Rattle.need_solving.proofs.search.put_edge.Goals as goal
 
 pub returns-clause-holds : goal.returns-clause-holds
 returns-clause-holds g c =

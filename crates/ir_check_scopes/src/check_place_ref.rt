@@ -4,7 +4,7 @@ use base_names::Name;
 
 /// Where a check is made.
 #[derive(Clone, Copy)]
-pub enum Spot<'a> {
+pub enum CheckPlaceRef<'a> {
     /// In a struct.
     Struct(&'a Name),
     /// In a peripheral.
