@@ -1,7 +1,8 @@
 -- The reserved words, and the others.
-use Rattle.std.proofs.Common.{◌≡◌, ℕ, [], ◌∷◌, ◌++◌, List, Bool, true, false, ◌||◌, cond, refl, sym, ap, ◌∙◌, Option, Some, None, map}
+use Rattle.std.proofs.Common.{◌≡◌, ℕ, ◌<◌, [], ◌∷◌, ◌++◌, List, Bool, true, false, ◌||◌, cond, refl, sym, ap, ◌∙◌, Option, Some, None, arith, length, map, nat_le}
 use Rattle.std.specs.List.{list_any}
 use Rattle.std.specs.Str.{bytes_eq}
+use Rattle.std.proofs.lemmas.Bool.{leb-true}
 use Rattle.std.proofs.lemmas.List.Folds.{list_any-append}
 use Rattle.std.proofs.lemmas.Slice.Eq.{bytes_eq-Decides}
 use Rattle.base_names.specs.Names.{is_reserved, reserved, declaration_words, instruction_words, type_words, operation_words, comparison_words}
@@ -13,6 +14,7 @@ use Rattle.ir_model.specs.declared.token.Keyword.TheVariants as key
 use Rattle.ir_model.specs.declared.firmware.BinOp.TheVariants as op
 use Rattle.ir_model.specs.declared.firmware.CmpOp.TheVariants as cmp
 use Rattle.ir_model.specs.Tokens.{Token, Name, Number, Key, Operation, Comparison, Sign, keyword_bytes, operation_bytes, comparison_bytes}
+use Rattle.ir_reader.specs.Found.{Is}
 use Rattle.ir_reader.specs.Words.{spelled_so, keyword_of, operation_of, comparison_of, word_token}
 
 abbrev found : {A : Type 0} → Option A → Bool
@@ -104,6 +106,30 @@ pub word_is_spelled : (w : List ℕ) → IsSpelled w (word_token w)
 word_is_spelled w =
     word_spelled w (keyword_of w) (operation_of w) (comparison_of w)
     (λ k e. of_table keyword_bytes KEYWORDS w k e) (λ k e. of_table operation_bytes OPERATIONS w k e) (λ k e. of_table comparison_bytes COMPARISONS w k e)
+
+-- no reserved word has more than six bytes
+short_keyword : (k : Keyword) → nat_le (length (keyword_bytes k)) 6 ≡ true
+short_keyword key.Struct = refl
+short_keyword _ = refl
+
+short_operation : (k : BinOp) → nat_le (length (operation_bytes k)) 6 ≡ true
+short_operation op.Add = refl
+short_operation _ = refl
+
+short_comparison : (k : CmpOp) → nat_le (length (comparison_bytes k)) 6 ≡ true
+short_comparison cmp.Eq = refl
+short_comparison _ = refl
+
+long_is : (w : List ℕ) → 6 < length w → (t : Token) → IsSpelled w t → t ≡ Name w
+long_is w l (Name v) e = ap Name e
+long_is w l (Number n) e = absurd e
+long_is w l (Key k) e = let q = ap length e in let s = leb-true (length (keyword_bytes k)) 6 (short_keyword k) in absurd (omega (arith, l, q, s))
+long_is w l (Operation o) e = let q = ap length e in let s = leb-true (length (operation_bytes o)) 6 (short_operation o) in absurd (omega (arith, l, q, s))
+long_is w l (Comparison c) e = let q = ap length e in let s = leb-true (length (comparison_bytes c)) 6 (short_comparison c) in absurd (omega (arith, l, q, s))
+long_is w l (Sign m) e = absurd e
+
+pub long_word : (w : List ℕ) → 6 < length w → Is (Name w) ≡ Is (word_token w)
+long_word w l = ap Is (sym (long_is w l (word_token w) (word_is_spelled w)))
 
 pub keyword_token : (k : Keyword) → word_token (keyword_bytes k) ≡ Key k
 keyword_token key.Struct = refl

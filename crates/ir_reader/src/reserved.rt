@@ -40,10 +40,14 @@ fn comparison_of(word: &[u8]) -> Option<CmpOp>
         .find(|comparison| word == comparison_text(*comparison))
 }
 
-/// The token that a word is.
+/// The token that a word is. No reserved word has more than six bytes.
+#[tactic(auto, using(crate::proofs::Tables::long_word))]
 pub fn word_token(word: &[u8]) -> Token<'_>
     ensures { found_of result ≡ Is (word_token word.now) }
 {
+    if word.len() > 6 {
+        return Token::Name(word);
+    }
     if let Some(keyword) = keyword_of(word) {
         return Token::Key(keyword);
     }
