@@ -5,6 +5,8 @@ ghost use Rattle.ir_model.specs.Plain.{firmware_of, funcs_of};
 ghost use Rattle.ir_model.specs.Resolve as definition;
 ghost use Rattle.ir_program.specs.Seen.{program_of, HasCounts};
 ghost use Rattle.plan_model.specs.Boards.{IsBoard};
+ghost use Rattle.plan.specs.Planned.{IsPlannedFor};
+ghost use Rattle.plan.specs.Refusals.{IsPlanningRefusal};
 ghost use Rattle.plan_compartments.specs.Analyses.{AreNeedsOf};
 ghost use Rattle.plan_firmwares.specs.Analysed.{IsAnalysisOf, IsPlanOf, IsRefusalOf};
 
@@ -88,8 +90,10 @@ pub fn planned_by(
 ) -> Result<PlannedFirmware, PlanningRefusal>
     requires { IsBoard board.now }
     ensures ok { IfOk result (IsPlanOf analysis.now board.now) }
+    ensures planned { IfOk result (IsPlannedFor (program_of analysis.now.program) analysis.now.needs analysis.now.groups board.now) }
     ensures each { IfOk result (λ made. length made.graph.groups.of ≡ length analysis.now.needs.funcs) }
     ensures refused { IfErr result (IsRefusalOf analysis.now board.now) }
+    ensures why { IfErr result (IsPlanningRefusal (program_of analysis.now.program) analysis.now.needs analysis.now.groups board.now) }
 {
     let groups = copied(alloc, &analysis.groups)?;
     let made = planned(alloc, &analysis.program, &analysis.needs, groups, board)?;
