@@ -2,6 +2,8 @@
 
 ghost use Rattle.std.specs.Prelude.{◌≡◌, ◌≤◌, ℕ, Bool, Ok, IfOk, length};
 ghost use Rattle.ir_model.specs.Plain as plain;
+ghost use Rattle.ir_model.specs.Resolve.{resolve};
+ghost use Rattle.ir_program.specs.Seen.{program_of, HasCounts};
 ghost use Rattle.plan_compartments.specs.Analyses.{AreCompartmentsBy};
 ghost use Rattle.ir_output.specs.Ends.{seen_end};
 ghost use Rattle.ir_output.specs.SourceRuns.{end_status};
@@ -20,6 +22,7 @@ use base_outside::{Files, Sink};
 use ir_model::checked::Checked;
 use ir_output::{Broken, print_source};
 use ir_program::peripherals::windows;
+use ir_program::program::Program;
 use ir_run::outcome::SourceEnd;
 use plan_firmwares::{Analysis, analyse};
 use plan_model::Policy;
@@ -51,25 +54,41 @@ pub fn source<'a, F: Files, O: Sink>(
     )
 }
 
-/// The compartment of each function of a firmware by a policy, by what its functions need on an open board.
+/// A firmware as its source is run.
+#[derive(Drop)]
+pub struct DividedProgram<'a> {
+    /// The firmware with numbers for its names.
+    pub program: Program<'a>,
+    /// The compartment of each of its functions.
+    pub compartments: Vec<u32>,
+}
+
+/// A firmware with numbers for its names, and the compartment of each of its functions by a policy, by what its functions need on an open
+/// board.
 ///
 /// # Errors
 ///
 /// There is no memory for it.
-pub fn compartments_of(
+pub fn divided(
     alloc: Global,
     firmware: &Checked,
     policy: Policy,
-) -> Result<Vec<u32>, AllocError>
-    ensures { IfOk result (λ of. AreCompartmentsBy policy (plain.firmware_of firmware.now) of.items) }
+) -> Result<DividedProgram<'_>, AllocError>
+    ensures program { IfOk result (λ made. program_of made.program ≡ resolve (plain.firmware_of firmware.now)) }
+    ensures counts { IfOk result (λ made. HasCounts made.program) }
+    ensures compartments { IfOk result (λ made. AreCompartmentsBy policy (plain.firmware_of firmware.now) made.compartments.items) }
 {
     let analysis = analyse(alloc, firmware, policy, false)?;
     let Analysis {
-        program: _program,
+        program,
         needs: _needs,
         groups,
     } = analysis;
-    Ok(groups.of.into_vec())
+    let compartments = groups.of.into_vec();
+    Ok(DividedProgram {
+        program,
+        compartments,
+    })
 }
 
 /// The same on the bytes of both files, each behind its name. No file is touched.
@@ -92,12 +111,17 @@ fn source_texts<'a, O: Sink>(
         result }
 {
     let checked = firmware_of(alloc, firmware, bytes)?;
-    let compartments = compartments_of(alloc, &checked, policy)?;
+    let divided = divided(alloc, &checked, policy)?;
+    let DividedProgram {
+        program,
+        compartments,
+    } = divided;
     let windows = windows(alloc, checked.firmware().periphs.as_slice())?;
     let tape_read = tape_of(alloc, tape, text, windows.as_slice())?;
     match print_source(
         alloc,
         &checked,
+        &program,
         windows.as_slice(),
         compartments,
         tape_read,

@@ -46,7 +46,7 @@ pub(crate) fn run_source(
         groups,
     } = analysis;
     let functions = program.funcs.len();
-    let mut run = SourceRun::start(alloc, program, groups.of.into_vec(), tape)?;
+    let mut run = SourceRun::start(alloc, &program, groups.of.into_vec(), tape)?;
     let count = count_source(alloc, &mut run, SOURCE_LIMIT)?;
     Ok(SourceTest { functions, count })
 }

@@ -4,6 +4,7 @@ ghost use Rattle.std.specs.Prelude.{◌≡◌, ◌≤◌, None, length, IfOk, If
 ghost use Rattle.ir_model.specs.Plain.{firmware_of};
 ghost use Rattle.ir_model.specs.Resolve.{resolve};
 ghost use Rattle.ir_model.specs.State.{start};
+ghost use Rattle.ir_program.specs.Seen.{program_of, HasCounts};
 ghost use Rattle.aces_words.specs.Requests.{file_limit, firmware_limit};
 ghost use Rattle.aces_files.specs.Loads.{IsRefusal};
 ghost use Rattle.aces_files.specs.Outcomes.{done};
@@ -15,11 +16,12 @@ use crate::place_lines;
 use crate::running::{Halt, go, run_out};
 use aces_files::loading::tape_of;
 use aces_firmwares::reading::firmware_of;
-use aces_firmwares::source::compartments_of;
+use aces_firmwares::source::{DividedProgram, divided};
 use aces_reports::Failure;
 use ir_model::checked::Checked;
 use ir_output::begun;
 use ir_program::peripherals::windows;
+use ir_program::program::Program;
 use machine_devices::tape::Tape;
 use plan_model::Policy;
 use std::alloc::{AllocError, Global};
@@ -32,14 +34,17 @@ use std::alloc::{AllocError, Global};
 fn halted(
     alloc: Global,
     firmware: &Checked,
+    program: &Program<'_>,
     compartments: &[u32],
     tape: Tape,
     steps: u32,
 ) -> Result<Halt, AllocError>
+    requires program { program_of program.now ≡ resolve (firmware_of firmware.now) }
+    requires counts { HasCounts program.now }
     ensures { IfOk result (IsHalt (resolve (firmware_of firmware.now)) compartments.now steps (start (resolve (firmware_of firmware.now)) tape)) }
 {
     let standing = Vec::from_slice(alloc, compartments)?;
-    let mut run = begun(alloc, firmware, standing, tape)?;
+    let mut run = begun(alloc, firmware, program, standing, tape)?;
     run_out(&mut run, steps)
 }
 
@@ -51,14 +56,17 @@ fn halted(
 fn lines_of(
     alloc: Global,
     firmware: &Checked,
+    program: &Program<'_>,
     compartments: &[u32],
     tape: Tape,
     halt: Halt,
 ) -> Result<Vec<u8>, AllocError>
+    requires program { program_of program.now ≡ resolve (firmware_of firmware.now) }
+    requires counts { HasCounts program.now }
     ensures { IfOk result (λ lines. lines.items ≡ halt_lines (firmware_of firmware.now) compartments.now tape halt) }
 {
     let standing = Vec::from_slice(alloc, compartments)?;
-    let mut run = begun(alloc, firmware, standing, tape)?;
+    let mut run = begun(alloc, firmware, program, standing, tape)?;
     go(&mut run, halt.going)?;
     place_lines(alloc, firmware.firmware(), &run, halt.made, halt.end)
 }
@@ -72,16 +80,19 @@ fn lines_of(
 fn lines_on(
     alloc: Global,
     firmware: &Checked,
+    program: &Program<'_>,
     compartments: &[u32],
     tape: Tape,
     again: Tape,
     steps: u32,
 ) -> Result<Vec<u8>, AllocError>
-    requires { again ≡ tape }
+    requires program { program_of program.now ≡ resolve (firmware_of firmware.now) }
+    requires counts { HasCounts program.now }
+    requires again { again ≡ tape }
     ensures { IfOk result (λ lines. AreLines (firmware_of firmware.now) compartments.now tape steps lines.items) }
 {
-    let halt = halted(alloc, firmware, compartments, tape, steps)?;
-    let lines = lines_of(alloc, firmware, compartments, again, halt)?;
+    let halt = halted(alloc, firmware, program, compartments, tape, steps)?;
+    let lines = lines_of(alloc, firmware, program, compartments, again, halt)?;
     Ok(lines)
 }
 
@@ -101,13 +112,18 @@ pub(crate) fn where_by_bytes<'a>(
     ensures err { IfErr result (IsRefusal (WhereAnswer firmware.now policy tape.now steps bytes.now text.now)) }
 {
     let checked = firmware_of(alloc, firmware, bytes)?;
-    let compartments = compartments_of(alloc, &checked, policy)?;
+    let divided = divided(alloc, &checked, policy)?;
+    let DividedProgram {
+        program,
+        compartments,
+    } = divided;
     let windows = windows(alloc, checked.firmware().periphs.as_slice())?;
     let first = tape_of(alloc, tape, text, windows.as_slice())?;
     let second = tape_of(alloc, tape, text, windows.as_slice())?;
     let lines = lines_on(
         alloc,
         &checked,
+        &program,
         compartments.as_slice(),
         first,
         second,

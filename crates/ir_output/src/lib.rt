@@ -5,6 +5,8 @@ ghost use Rattle.std.specs.Prelude.{◌≡◌, ◌++◌, IsTrue, IfOk, IfErr, On
 ghost use Rattle.base_outside.specs.Contents.{AddsPrefix};
 ghost use Rattle.ir_model.specs.Canonical.{IsWithinLimits};
 ghost use Rattle.ir_model.specs.Plain.{firmware_of};
+ghost use Rattle.ir_model.specs.Resolve.{resolve};
+ghost use Rattle.ir_program.specs.Seen.{program_of, HasCounts};
 ghost use Rattle.ir_program.specs.Windows.{windows_of};
 ghost use Rattle.ir_output.specs.SourceRuns.{source_run, source_end, source_event_lines, source_lines};
 ghost use Rattle.ir_output.specs.Ends.{seen_end, IsCause};
@@ -15,7 +17,7 @@ mod stepping;
 use base_outside::{Failed, Sink};
 use ending::end_line;
 use ir_model::checked::Checked;
-use ir_resolve::resolving::resolve;
+use ir_program::program::Program;
 use ir_run::outcome::SourceEnd;
 use ir_run::run::SourceRun;
 use machine_devices::image::Window;
@@ -55,37 +57,42 @@ impl From<Failed> for Broken {
     }
 }
 
-/// The run of a firmware on a tape, its functions standing in these compartments, before its first step.
+/// The run of a firmware on a tape before its first step, by its program of numbers, its functions standing in these compartments.
 ///
 /// # Errors
 ///
 /// There is no memory for it.
-pub fn begun(
+pub fn begun<'a>(
     alloc: Global,
     firmware: &Checked,
+    program: &'a Program<'a>,
     compartments: Vec<u32>,
     tape: Tape,
-) -> Result<SourceRun<'_>, AllocError>
+) -> Result<SourceRun<'a>, AllocError>
+    requires program { program_of program.now ≡ resolve (firmware_of firmware.now) }
+    requires counts { HasCounts program.now }
     ensures run { IfOk result (λ run. run ≡ source_run (firmware_of firmware.now) compartments.items tape) }
     ensures within { OnOk result (IsWithinLimits (firmware_of firmware.now)) }
 {
     firmware.firmware();
-    let program = resolve(alloc, firmware)?;
     let run = SourceRun::start(alloc, program, compartments, tape)?;
     Ok(run)
 }
 
-/// Runs a firmware and puts the lines of its events. Answers how the run ended.
+/// Runs a firmware by its program of numbers and puts the lines of its events. Answers how the run ended.
 fn print_run<O: Sink>(
     alloc: Global,
     firmware: &Checked,
+    program: &Program<'_>,
     windows: &[Window],
     compartments: Vec<u32>,
     tape: Tape,
     steps: u32,
     out: &mut O,
 ) -> Result<Option<SourceEnd>, Broken>
-    requires { windows.now ≡ windows_of (firmware_of firmware.now) }
+    requires windows { windows.now ≡ windows_of (firmware_of firmware.now) }
+    requires program { program_of program.now ≡ resolve (firmware_of firmware.now) }
+    requires counts { HasCounts program.now }
     ensures end { IfOk result (λ end. seen_end end ≡ source_end (firmware_of firmware.now) compartments.items tape steps) }
     ensures lines { IsTrue O.told → OnOk result
         (O.written out.new ≡ O.written out.old ++ source_event_lines (firmware_of firmware.now) compartments.items tape steps) }
@@ -94,13 +101,13 @@ fn print_run<O: Sink>(
     ensures part { IsTrue O.told → OnErr result
         (AddsPrefix (O.written out.old) (O.written out.new) (source_event_lines (firmware_of firmware.now) compartments.items tape steps)) }
 {
-    let mut run = begun(alloc, firmware, compartments, tape)?;
+    let mut run = begun(alloc, firmware, program, compartments, tape)?;
     print_events(&mut run, windows, steps, out)
 }
 
-/// Runs the source of a firmware on a tape for at most so many steps, its functions standing in these compartments. Puts the
-/// line of each event, and then that of the end, by one put each. Answers how it ended; none where it ran all the steps
-/// without an end.
+/// Runs the source of a firmware on a tape for at most so many steps, by its program of numbers, its functions standing in these
+/// compartments. Puts the line of each event, and then that of the end, by one put each. Answers how it ended; none where it ran
+/// all the steps without an end.
 ///
 /// # Errors
 ///
@@ -108,13 +115,16 @@ fn print_run<O: Sink>(
 pub fn print_source<O: Sink>(
     alloc: Global,
     firmware: &Checked,
+    program: &Program<'_>,
     windows: &[Window],
     compartments: Vec<u32>,
     tape: Tape,
     steps: u32,
     out: &mut O,
 ) -> Result<Option<SourceEnd>, Broken>
-    requires { windows.now ≡ windows_of (firmware_of firmware.now) }
+    requires windows { windows.now ≡ windows_of (firmware_of firmware.now) }
+    requires program { program_of program.now ≡ resolve (firmware_of firmware.now) }
+    requires counts { HasCounts program.now }
     ensures end { IfOk result (λ end. seen_end end ≡ source_end (firmware_of firmware.now) compartments.items tape steps) }
     ensures lines { IsTrue O.told → OnOk result
         (O.written out.new ≡ O.written out.old ++ source_lines (firmware_of firmware.now) compartments.items tape steps) }
@@ -123,7 +133,16 @@ pub fn print_source<O: Sink>(
     ensures part { IsTrue O.told → OnErr result
         (AddsPrefix (O.written out.old) (O.written out.new) (source_lines (firmware_of firmware.now) compartments.items tape steps)) }
 {
-    let end = print_run(alloc, firmware, windows, compartments, tape, steps, out)?;
+    let end = print_run(
+        alloc,
+        firmware,
+        program,
+        windows,
+        compartments,
+        tape,
+        steps,
+        out,
+    )?;
     out.put(end_line(end))?;
     Ok(end)
 }

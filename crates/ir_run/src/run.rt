@@ -64,7 +64,7 @@ fn go_on(
 #[derive(Drop)]
 pub struct SourceRun<'a> {
     alloc: Global,
-    program: Program<'a>,
+    program: &'a Program<'a>,
     compartments: ListVec<u32>,
     phase: Phase,
     taken: u64,
@@ -82,9 +82,9 @@ impl<'a> Model for SourceRun<'a> {
 
     ghost coded = { Prim.hlevel (coded_type, coded_row, coded_outcome, codes) };
 
-    ghost view = { λ r. record { program = program_of r.program; compartments = r.compartments; state = state_of r.phase; taken = r.taken } };
+    ghost view = { λ r. record { program = program_of r.program.now; compartments = r.compartments; state = state_of r.phase; taken = r.taken } };
 
-    ghost invariant = { λ r. HasCounts r.program × IsRun (record { program = program_of r.program; compartments = r.compartments; state = state_of r.phase; taken = r.taken }) };
+    ghost invariant = { λ r. HasCounts r.program.now × IsRun (record { program = program_of r.program.now; compartments = r.compartments; state = state_of r.phase; taken = r.taken }) };
 }
 
 impl<'a> SourceRun<'a> {
@@ -105,20 +105,20 @@ impl<'a> SourceRun<'a> {
     /// There is no memory for it.
     pub fn start(
         alloc: Global,
-        program: Program<'a>,
+        program: &'a Program<'a>,
         compartments: Vec<u32>,
         tape: Tape,
     ) -> Result<SourceRun<'a>, AllocError>
-        requires checked { IsChecked (program_of program) }
-        requires counts { HasCounts program }
+        requires checked { IsChecked (program_of program.now) }
+        requires counts { HasCounts program.now }
         ensures { IfOk result (λ run. run ≡ record {
-          program = program_of program.entry;
+          program = program_of program.now;
           compartments = compartments.items;
-          state = state.start (program_of program.entry) tape;
+          state = state.start (program_of program.now) tape;
           taken = 0;
         }) }
     {
-        let parts = started(alloc, &program, tape)?;
+        let parts = started(alloc, program, tape)?;
         frames();
         Ok(SourceRun {
             alloc,
@@ -150,7 +150,7 @@ impl<'a> SourceRun<'a> {
         moves();
         let answer = go_on(
             self.alloc,
-            &self.program,
+            self.program,
             self.compartments.as_slice(),
             &mut self.phase,
         )?;
@@ -169,7 +169,7 @@ impl<'a> SourceRun<'a> {
     pub fn program(&self) -> &Program<'a>
         ensures { program_of result.now ≡ self.now.program }
     {
-        &self.program
+        self.program
     }
 
     /// Where each frame stands, the running one first; of a run that has ended, none.

@@ -5,8 +5,8 @@ use Rattle.ir_output.proofs.begun.Goals as goal
 
 pub returns-clause-run : goal.returns-clause-run
 returns-clause-run c =
-    begins.begun (firmware_of c.args.firmware.now) c.args.tape (program_of c.in_ok-program.program) c.args.compartments.items c.in_ok-run.run'
-    c.in_ok-run.ensures c.in_ok-program.ensures.exact
+    begins.begun (firmware_of c.args.firmware.now) c.args.tape (program_of c.args.program.now) c.args.compartments.items c.in_ok-run.run'
+    c.in_ok-run.ensures c.requires.program
 
 pub start-requires-clause-checked : goal.start-requires-clause-checked
 start-requires-clause-checked c =
@@ -14,5 +14,5 @@ start-requires-clause-checked c =
       firmware = firmware_of c.args.firmware.now;
       typed = c.firmware.ensures.typed;
       within = c.firmware.ensures.within;
-      is = c.in_ok-program.ensures.exact;
+      is = c.requires.program;
     }

@@ -15,11 +15,11 @@ print_events-requires-clause-begins g c =
 
 pub print_events-requires-clause-windows : goal.print_events-requires-clause-windows
 print_events-requires-clause-windows g c =
-    ap length c.requires ∙ as_many (firmware_of c.args.firmware.now) ∙ sym (ap (λ (r : RunState). length r.program.periphs) c.in_ok-run.ensures.run)
+    ap length c.requires.windows ∙ as_many (firmware_of c.args.firmware.now) ∙ sym (ap (λ (r : RunState). length r.program.periphs) c.in_ok-run.ensures.run)
 
 pub print_events-requires-clause-short : goal.print_events-requires-clause-short
 print_events-requires-clause-short g c k =
-    subst (λ ws. length (name_of ws k) ≤ 64) (sym c.requires) (names_are_short (firmware_of c.args.firmware.now) c.in_ok-run.ensures.within k)
+    subst (λ ws. length (name_of ws k) ≤ 64) (sym c.requires.windows) (names_are_short (firmware_of c.args.firmware.now) c.in_ok-run.ensures.within k)
 
 pub returns-clause-end : goal.returns-clause-end
 returns-clause-end g c =
@@ -29,9 +29,9 @@ returns-clause-end g c =
 pub returns-clause-lines : goal.returns-clause-lines
 returns-clause-lines g c t =
     subst (λ l. OnOk c.print_events.result (g.O.Sink.written c.print_events.new.out ≡ g.O.Sink.written c.args.out.now ++ l))
-    (lines_of_run (firmware_of c.args.firmware.now) c.args.compartments.items c.args.tape c.args.steps c.in_ok-run.run' c.in_ok-run.ensures.run c.args.windows.now c.requires) (c.print_events.ensures.lines t)
+    (lines_of_run (firmware_of c.args.firmware.now) c.args.compartments.items c.args.tape c.args.steps c.in_ok-run.run' c.in_ok-run.ensures.run c.args.windows.now c.requires.windows) (c.print_events.ensures.lines t)
 
 pub returns-clause-part : goal.returns-clause-part
 returns-clause-part g c t =
     subst (λ l. OnErr c.print_events.result (AddsPrefix (g.O.Sink.written c.args.out.now) (g.O.Sink.written c.print_events.new.out) l))
-    (lines_of_run (firmware_of c.args.firmware.now) c.args.compartments.items c.args.tape c.args.steps c.in_ok-run.run' c.in_ok-run.ensures.run c.args.windows.now c.requires) (c.print_events.ensures.part t)
+    (lines_of_run (firmware_of c.args.firmware.now) c.args.compartments.items c.args.tape c.args.steps c.in_ok-run.run' c.in_ok-run.ensures.run c.args.windows.now c.requires.windows) (c.print_events.ensures.part t)

@@ -50,11 +50,11 @@ returns-in-Ok g c told held reads writes =
     let queues = c.in_ok-tape_read.ensures.ok ∙ ap (queues_of text) windows in
     let w : World = record { told = told; held = held; read_faults = reads; write_faults = writes; out = sink g.O.Sink c.args.out.now } in
     did_end (SourceAnswer c.args.firmware.now c.args.policy c.args.tape.now steps c.args.bytes.now text) (Source c.args.firmware.now c.args.policy c.args.tape.now steps)
-    w (record w { out = sink g.O.Sink c.print_source.new.out }) (source_outcome (firmware_of v) c.in_ok-compartments.compartments.items text steps) c.done.result
-    (has_run c.args.firmware.now c.args.policy c.args.tape.now steps c.args.bytes.now text v c.in_ok-compartments.compartments.items c.as_slice-2.result.now c.in_ok-compartments.ensures c.in_ok-checked.ensures.ok windows c.in_ok-tape_read.ensures.faultless)
-    (sym (c.done.ensures ∙ ap end_status (c.in-Ok.ensures.end ∙ ap (λ q. source_end (firmware_of v) c.in_ok-compartments.compartments.items q steps) queues))) refl
+    w (record w { out = sink g.O.Sink c.print_source.new.out }) (source_outcome (firmware_of v) c.in_ok-divided.divided.compartments.items text steps) c.done.result
+    (has_run c.args.firmware.now c.args.policy c.args.tape.now steps c.args.bytes.now text v c.in_ok-divided.divided.compartments.items c.as_slice-2.result.now c.in_ok-divided.ensures.compartments c.in_ok-checked.ensures.ok windows c.in_ok-tape_read.ensures.faultless)
+    (sym (c.done.ensures ∙ ap end_status (c.in-Ok.ensures.end ∙ ap (λ q. source_end (firmware_of v) c.in_ok-divided.divided.compartments.items q steps) queues))) refl
     (record {
-      printed = λ t. c.in-Ok.ensures.lines t ∙ ap (λ q. g.O.Sink.written c.args.out.now ++ source_lines (firmware_of v) c.in_ok-compartments.compartments.items q steps) queues;
+      printed = λ t. c.in-Ok.ensures.lines t ∙ ap (λ q. g.O.Sink.written c.args.out.now ++ source_lines (firmware_of v) c.in_ok-divided.divided.compartments.items q steps) queues;
       held = refl;
       read_faults = refl;
       write_faults = refl;
@@ -71,8 +71,8 @@ returns-in-Err-Unprinted g c told held reads writes =
     let queues = c.in_ok-tape_read.ensures.ok ∙ ap (queues_of text) windows in (
       record { rose = rw c.in-Err-Unprinted.field-0-is at c.in-Err-Unprinted.ensures.cause; held = refl; read_faults = refl; write_faults = refl },
       record {
-        outcome = source_outcome (firmware_of v) c.in_ok-compartments.compartments.items text steps;
-        answer = has_run c.args.firmware.now c.args.policy c.args.tape.now steps c.args.bytes.now text v c.in_ok-compartments.compartments.items c.as_slice-2.result.now c.in_ok-compartments.ensures c.in_ok-checked.ensures.ok windows c.in_ok-tape_read.ensures.faultless;
+        outcome = source_outcome (firmware_of v) c.in_ok-divided.divided.compartments.items text steps;
+        answer = has_run c.args.firmware.now c.args.policy c.args.tape.now steps c.args.bytes.now text v c.in_ok-divided.divided.compartments.items c.as_slice-2.result.now c.in_ok-divided.ensures.compartments c.in_ok-checked.ensures.ok windows c.in_ok-tape_read.ensures.faultless;
         part = record { printed = λ t. rw queues at (c.in-Err-Unprinted.ensures.part t); held = refl };
       },
     )
@@ -87,8 +87,8 @@ returns g c told held reads writes =
     let queues = c.in_ok-tape_read.ensures.ok ∙ ap (queues_of text) windows in (
       record { held = refl; read_faults = refl; write_faults = refl; faults = rw c.in-Err-NoMemory.field-0-is at c.in-Err-NoMemory.ensures.cause },
       inr (record {
-        outcome = source_outcome (firmware_of v) c.in_ok-compartments.compartments.items text steps;
-        answer = has_run c.args.firmware.now c.args.policy c.args.tape.now steps c.args.bytes.now text v c.in_ok-compartments.compartments.items c.as_slice-2.result.now c.in_ok-compartments.ensures c.in_ok-checked.ensures.ok windows c.in_ok-tape_read.ensures.faultless;
+        outcome = source_outcome (firmware_of v) c.in_ok-divided.divided.compartments.items text steps;
+        answer = has_run c.args.firmware.now c.args.policy c.args.tape.now steps c.args.bytes.now text v c.in_ok-divided.divided.compartments.items c.as_slice-2.result.now c.in_ok-divided.ensures.compartments c.in_ok-checked.ensures.ok windows c.in_ok-tape_read.ensures.faultless;
         part = record { printed = λ t. rw queues at (c.in-Err-NoMemory.ensures.part t); held = refl };
       }),
     )

@@ -54,8 +54,8 @@ returns-clause-ok c =
     let windows = windows_made v c.firmware.result.now c.as_slice.result.now c.in_ok-windows.windows.items c.as_slice-2.result.now
     c.in_ok-windows.ensures c.as_slice.ensures c.firmware.ensures.same c.as_slice-2.ensures.value in
     let queues = c.in_ok-first.ensures.ok ∙ ap (queues_of text) windows in
-    stands w c.in_ok-compartments.compartments.items c.in_ok-lines.lines.items c.in_ok-checked.ensures.ok
+    stands w c.in_ok-divided.divided.compartments.items c.in_ok-lines.lines.items c.in_ok-checked.ensures.ok
     (ap (first_fault text) (sym windows) ∙ c.in_ok-first.ensures.faultless)
-    c.in_ok-compartments.ensures
-    (subst (λ q. AreLines w c.in_ok-compartments.compartments.items q c.args.steps c.in_ok-lines.lines.items) queues
+    c.in_ok-divided.ensures.compartments
+    (subst (λ q. AreLines w c.in_ok-divided.divided.compartments.items q c.args.steps c.in_ok-lines.lines.items) queues
     (rw (c.as_slice-4.ensures.value) at c.in_ok-lines.ensures))

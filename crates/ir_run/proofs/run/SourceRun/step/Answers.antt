@@ -10,11 +10,11 @@ pub go_on-requires-clause-small : goal.go_on-requires-clause-small
 go_on-requires-clause-small c =
     let run = c.self.invariant.1 in
     all_small c.places.ensures c.values.ensures.types c.registers.ensures.elements
-    (program_of c.self.inside.program) c.self.inside.compartments run.queues c.self.inside.taken (state_of c.self.inside.phase) run.checked run.reached
+    (program_of c.self.inside.program.now) c.self.inside.compartments run.queues c.self.inside.taken (state_of c.self.inside.phase) run.checked run.reached
 
 pub invariant_of-self-2 : goal.invariant_of-self-2
 invariant_of-self-2 c =
-    let r : RunState = record { program = program_of c.self.inside.program; compartments = c.self.inside.compartments; state = state_of c.self.inside.phase; taken = c.self.inside.taken } in
+    let r : RunState = record { program = program_of c.self.inside.program.now; compartments = c.self.inside.compartments; state = state_of c.self.inside.phase; taken = c.self.inside.taken } in
     let taken : c.self.inside.taken ≡ c.args.self.now.taken = ap (λ (x : RunState). x.taken) c.self.view_is in (
       c.self.invariant.0,
       next_run c.frames.ensures c.moves.ensures r (state_of c.go_on.new.phase) (c.self.inside.taken + 1) c.self.invariant.1

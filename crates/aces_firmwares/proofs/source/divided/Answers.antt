@@ -1,0 +1,16 @@
+use Rattle.std.proofs.Common.{ap, ◌∙◌}
+use Rattle.plan_model.specs.declared.groups.Groups.{Groups}
+use Rattle.aces_firmwares.proofs.source.divided.Goals as goal
+
+pub returns-clause-program : goal.returns-clause-program
+returns-clause-program c = c.in_ok-analysis.ensures.exact.program
+
+pub returns-clause-counts : goal.returns-clause-counts
+returns-clause-counts c = c.in_ok-analysis.ensures.exact.counts
+
+pub returns-clause-compartments : goal.returns-clause-compartments
+returns-clause-compartments c = record {
+  needs = c.in_ok-analysis.analysis.needs;
+  are_needs = c.in_ok-analysis.ensures.exact.needs;
+  same = c.into_vec-compartments.ensures ∙ ap (λ (g : Groups). g.of) c.in_ok-analysis.ensures.exact.groups;
+}
