@@ -14,7 +14,7 @@ use crate::room_lines::{put_room, put_rule};
 use ir_model::firmware::Firmware;
 use ir_program::program::Program;
 use plan::PlanningRefusal;
-use plan::planner::{final_graph, slots};
+use plan::planner::final_graph;
 use plan_denials::Meeting;
 use plan_layout::refusal::{Lack, Memory};
 use plan_model::graph::Final;
@@ -104,7 +104,7 @@ fn flash_of_final(
     requires each { length groups.of ≡ length program.now.funcs }
     ensures { IfOk result (λ text. told.IsToldOfFinal (program_of program.now) needs.now groups board.now (λ f. told.flash_told (sizes_of (program_of program.now) needs.now f (slots_of board.now)) lack) text.items) }
 {
-    let count = slots(board);
+    let count = board.slots();
     let graph = final_graph(alloc, program, needs, groups, count)?;
     let sizes = sizes(alloc, program, needs, &graph, count)?;
     flash_told(alloc, &sizes, lack)
@@ -124,7 +124,7 @@ fn ram_of_final(
     requires needs { length groups.of ≡ length needs.now.funcs }
     ensures { IfOk result (λ text. told.IsToldOfFinal (program_of program.now) needs.now groups board.now (λ f. told.ram_told (firmware_of firmware.now) (program_of program.now) f board.now lack) text.items) }
 {
-    let graph = final_graph(alloc, program, needs, groups, slots(board))?;
+    let graph = final_graph(alloc, program, needs, groups, board.slots())?;
     ram_told(alloc, firmware, program, &graph, board, lack)
 }
 

@@ -55,6 +55,3 @@ both_sides e q t pos whole fits =
     let de : q / e ≡ m = ap (λ (x : ℕ). x / e) qe ∙ div-mul-add m e b be in
     let pe : q / e * e ≡ m * e = ap (λ (x : ℕ). x * e) de in
     omega arith
-
-pub rounded_more : (t e : ℕ) → 0 < e → t ≤ rounded_up t e
-rounded_more t e pos = let r = rounded_parts t e pos in let a = r.1 in let b = r.2 in omega arith

@@ -19,7 +19,8 @@ use Rattle.refine_model.specs.StackLimit.{limit_by, site_of, position, lent_loca
 use Rattle.refine_stack.specs.Paths.{IsPath}
 use Rattle.refine_stack.specs.Bounds.{FitsStack}
 use Rattle.aces_stack_laws.specs.StackLaws.{BoundedRunsStayWithin, BoundedFirmwaresAreRefined}
-use Rattle.aces_stack_laws.proofs.Eighths.{HasEighths, has_eighths, both_sides, rounded_more}
+use Rattle.ir_model.proofs.Counting.{rounded_at_least}
+use Rattle.aces_stack_laws.proofs.Eighths.{HasEighths, has_eighths, both_sides}
 use Rattle.aces_stack_laws.proofs.Loans.{Differ, counted, counted_at_most}
 use Rattle.aces_stack_laws.proofs.Frames.{taken_by, taken, funcs, frames_are_path, frames_differ}
 use Rattle.plan_model.proofs.KeptLimits.{few}
@@ -38,7 +39,7 @@ module _ (p : Program) (z : PlainType → ℕ) (S : ObjectSets) (closed : Bool) 
       let d : stack / 8 ≡ eighths.eighth = let w = eighths.whole in omega arith in
       let w = eighths.whole in
       let l2 : rounded_up (t + 32) eighths.eighth ≤ stack = subst (λ (y : ℕ). rounded_up (t + 32) y ≤ stack) d l in
-      let more = rounded_more (t + 32) eighths.eighth eighths.some_ in
+      let more = rounded_at_least (t + 32) eighths.eighth eighths.some_ in
       let b : (q - 32) / eighths.eighth * eighths.eighth + rounded_up (t + 32) eighths.eighth ≡ 8 * eighths.eighth =
       both_sides eighths.eighth (q - 32) (t + 32) eighths.some_ (omega arith) (omega arith) in
       subst (λ (y : ℕ). (q - 32) / y * y + rounded_up (t + 32) y ≡ stack) (sym d) (b ∙ sym w)

@@ -1,4 +1,5 @@
 pub mod Tests
 pub mod Options
 pub mod Lists
+pub mod Multiples
 pub mod Powers

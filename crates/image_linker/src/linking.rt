@@ -3,7 +3,6 @@
 ghost use Rattle.std.specs.Prelude.{◌≡◌, ◌+◌, ◌*◌, ◌≤◌, map, IfOk, IfSome};
 ghost use Rattle.ir_program.specs.Seen.{program_of};
 ghost use Rattle.ir_program.specs.Windows.{window_of};
-ghost use Rattle.plan_model.specs.Boards.{slots_of};
 ghost use Rattle.image_entries.specs.Grouped.{IsProgram, HasEachLend};
 ghost use Rattle.image_model.specs.LinkedImage.{flash_of, linked};
 ghost use Rattle.plan_crossings.specs.Seen.{seen_sites};
@@ -124,17 +123,6 @@ fn words_begin(base: u32, slots: u8, graph: &Final, x: &Crossings) -> Option<u32
     behind(regions, 12, usize::from(!graph.unwritten.is_empty()))
 }
 
-/// The number of slots of a board.
-fn slots(board: &Board) -> Option<u8>
-    ensures { IfSome result (λ n. (n ≡ slots_of board.now) × (n ≤ 12)) }
-{
-    match board.regions {
-        8 => Some(4),
-        16 => Some(12),
-        _ => None,
-    }
-}
-
 /// The entry of `main`, with bit 0 set.
 fn main_entry(making: &Making) -> Option<u32>
     requires { IsReady making.now }
@@ -156,9 +144,11 @@ fn tables(
     requires { IsReady making.now }
     ensures { IfOk result (λ t. t ≡ tables_in making.now graph.now board.now (seen_sites sites.now) lent.now) }
 {
-    let Some(slots) = slots(board) else {
+    let slots = board.slots();
+    if slots > 12 {
         return Err(AllocError);
-    };
+    }
+    let slots = slots as u8;
     let program = making.program;
     let plan = making.plan;
     let x = make_crossings(alloc, making, sites, lent)?;

@@ -33,7 +33,8 @@ use Rattle.image_promises.proofs.FlashParts.{code_count, code_size_is}
 use Rattle.image_promises.specs.Parts.{CodeIsPlaced}
 use Rattle.image_promises.proofs.Compartments.{in_compartment}
 use Rattle.image_promises.proofs.Loans.{record_of}
-use Rattle.image_promises.proofs.Windows.{multiple_of, power_split}
+use Rattle.base_laws.proofs.Multiples.{multiple_of}
+use Rattle.base_laws.proofs.Powers.{power_split}
 use Rattle.plan_model.proofs.Compartments.{each_compartment as all_placed}
 
 module _ (law : PlanLaws) (held : RegionsHoldTheirBlocks) (w : PlainFirmware) (n : Needs) (f : Final) (b : Board) (is : IsPlanned w n f b) where
@@ -65,7 +66,7 @@ module _ (law : PlanLaws) (held : RegionsHoldTheirBlocks) (w : PlainFirmware) (n
           let size : (compartment_spot l c).size ≡ 2 ^ power.0 = code_size_is p f s b c (omega (arith, m, count)) ∙ power.3 in
           let five = power.1 in
           ap (λ x. x % 4) (base_is c m)
-          ∙ multiple_of (compartment_spot l c).base 4 (2 ^ (power.0 - 2)) (2 ^ power.0) (power_split power.0 2 (omega (arith, five)))
+          ∙ multiple_of (compartment_spot l c).base 4 (2 ^ (power.0 - 2)) (2 ^ power.0) (power_split 2 power.0 (omega (arith, five)))
           (subst (λ z. (compartment_spot l c).base % z ≡ 0) size ((laid law w n f b is).aligned c m))
 
       outer : length l.code ≤ c → base_of c % 4 ≡ 0

@@ -12,9 +12,8 @@ use Rattle.plan_model.specs.declared.graph.Final.{Final}
 use Rattle.plan_model.specs.Covers.{end_of, is_inside, joined}
 use Rattle.plan_model.specs.InitialGraph.{cover_of}
 use Rattle.plan_model.specs.FinalGraph.{IsFinal}
-use Rattle.image_promises.proofs.OpenBytes.{multiple}
+use Rattle.base_laws.proofs.Powers.{power_split, multiple_of_power}
 use Rattle.image_promises.specs.Permissions.{IsOf}
-use Rattle.image_promises.proofs.Forms.{in_whole}
 use Rattle.image_promises.proofs.Covers.{inside_through}
 use Rattle.image_promises.proofs.CoverParts.{IsPart, joined_part, joined_holds}
 use Rattle.image_promises.proofs.CoverSlots.{window_part, final_covers}
@@ -46,10 +45,10 @@ nested x d one two le z here there =
     let i = div-add-mod' x.base u in
     let j = div-add-mod' d.base u in
     let aligned = one.aligned in
-    let whole = in_whole d.base one.power two.power le two.aligned in
+    let whole = multiple_of_power d.base one.power two.power le two.aligned in
     let x_is : x.base ≡ a * u = omega (arith, i, aligned) in
     let d_is : d.base ≡ b * u = omega (arith, j, whole) in
-    let split = multiple one.power two.power le in
+    let split = power_split one.power two.power le in
     let s = one_more a u in
     let t = widen b m u in
     let end : d.base + d.size ≡ (b + m) * u = omega (arith, d_is, large, split, t) in

@@ -23,7 +23,7 @@ use Rattle.image_model.specs.LinkedTables.{tables_of}
 use Rattle.image_promises.specs.Planned.{planned_tables, planned_image}
 use Rattle.plan.specs.PlannedFirmwares.{IsPlanned, planned_sizes, plan}
 use Rattle.image_promises.proofs.Facts.{PlanLaws, stack_least, stack_size_is, monitor_size_is}
-use Rattle.image_promises.proofs.Powers.{block_is}
+use Rattle.plan_model.proofs.Powers.{small_block}
 use Rattle.image_promises.proofs.OpenBytes.{words_held}
 use Rattle.image_promises.proofs.Passing.{apart_from, data_yes}
 use Rattle.image_promises.proofs.Ranges.{IsUse, block_size_is, block_in, small}
@@ -67,7 +67,7 @@ module _ (law : PlanLaws) (w : PlainFirmware) (n : Needs) (f : Final) (b : Board
   block_small = small law w n f b is (ForRegion r) of_region
 
   pub power : IsPowerBetween 5 31 spot.size
-  power = subst (IsPowerBetween 5 31) (sym size_is) (below_top (block bytes) (block_is bytes block_small).0 block_small)
+  power = subst (IsPowerBetween 5 31) (sym size_is) (below_top (block bytes) (small_block bytes block_small).0 block_small)
 
   pub aligned : spot.base % spot.size ≡ 0
   aligned = subst (λ z. spot.base % z ≡ 0) (sym size_is) (block_in law w n f b is (ForRegion r) of_region).1

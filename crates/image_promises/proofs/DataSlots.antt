@@ -33,12 +33,11 @@ use Rattle.plan_model.specs.Placement.{region_spot}
 use Rattle.plan_model.specs.Slots.{SlotUse, data_rights, data_slot, cover_slot}
 use Rattle.plan_layout_laws.specs.RamLaws.{HoldsAddress, open_bytes}
 use Rattle.plan.specs.PlannedFirmwares.{IsPlanned, plan, planned_sizes}
-use Rattle.image_promises.proofs.Powers.{block_is}
-use Rattle.image_promises.proofs.OpenBytes.{multiple}
+use Rattle.plan_model.proofs.Powers.{small_block}
 use Rattle.image_promises.proofs.Ranges.{IsUse, block_size_is, block_in, small}
 use Rattle.image_promises.proofs.Bearing.{use_region, Bears, Lets, Harmless, Borne, here, there, Written, this, behind, covers_harmless}
 use Rattle.image_promises.proofs.GlobalPlaces.{GlobalLaws}
-use Rattle.base_laws.proofs.Powers.{smaller_exponent}
+use Rattle.base_laws.proofs.Powers.{smaller_exponent, power_split}
 
 -- ---- the open eighths of a block
 
@@ -47,7 +46,7 @@ few_open : (size bytes k : ℕ) → size ≡ 2 ^ k → 256 ≤ size → bytes �
 unfolding open_eighths
 few_open size bytes k e large room =
     let eight = smaller_exponent 8 k (omega (arith, e, large)) in
-    let m = multiple 8 k eight in
+    let m = power_split 8 k eight in
     let q = pow_pos (k - 8) in
     let whole : size ≡ 8 * (size / 8) = omega (arith, e, m) in
     let some : 0 < size / 8 = omega (arith, large) in
@@ -73,7 +72,7 @@ module _ (held : RegionsHoldTheirBlocks) (opened : OpenEighthsAreHeld) (rights :
       let least = ltb-false count 8 e in
       let eight : count ≡ 8 = omega (arith, at_most, least) in
       let exact = power.1 in
-      let split = multiple 8 power.0 (smaller_exponent 8 power.0 (omega (arith, large, exact))) in
+      let split = power_split 8 power.0 (smaller_exponent 8 power.0 (omega (arith, large, exact))) in
       let same : count * (size / 8) ≡ size = ap (λ x. x * (size / 8)) eight ∙ (let s : 8 * (size / 8) ≡ size = omega (arith, exact, split) in s) in
       (λ t. let i = h.0 t in let high = i.1 in (i.0, omega (arith, high, same)), λ i. let high = i.1 in h.1 (i.0, omega (arith, high, same)))
 
@@ -119,7 +118,7 @@ module _ (law : GlobalLaws) (held : RegionsHoldTheirBlocks) (opened : OpenEighth
       let u = is_use r h in
       let size : (region_spot l r).size ≡ block (bytes_of r) = block_size_is law.plans w n f b ok (ForRegion r) u in
       let most = small law.plans w n f b ok (ForRegion r) u in
-      let is = block_is (bytes_of r) most in
+      let is = small_block (bytes_of r) most in
       let exact : (region_spot l r).size ≡ 2 ^ is.0.0 = size ∙ is.0.3 in
       let least = pow_mono {i = 5} {j = is.0.0} is.0.1 in
       let room = is.1 in

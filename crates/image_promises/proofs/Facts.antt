@@ -31,7 +31,7 @@ use Rattle.image_model.specs.LinkedTables.{tables_of}
 use Rattle.image_promises.specs.Planned.{planned_image}
 use Rattle.plan.specs.PlannedFirmwares.{IsPlanned, planned_sizes, plan}
 use Rattle.image_promises.proofs.FlashBack.{length-puts}
-use Rattle.image_promises.proofs.Powers.{block_is}
+use Rattle.plan_model.proofs.Powers.{small_block}
 use Rattle.image_promises.proofs.FlashParts.{size_is, one_of_sum}
 use Rattle.image_promises.proofs.Passing.{apart_from}
 use Rattle.base_laws.proofs.Lists.{sum_first as sum_cons}
@@ -80,7 +80,7 @@ module _ (law : PlanLaws) (w : PlainFirmware) (n : Needs) (f : Final) (b : Board
 
   -- the tables have room in their block
   pub tables_block_is : IsPowerBetween 5 32 (block s.tables) × (s.tables ≤ block s.tables)
-  tables_block_is = let h = tables_at_most in let m = needed_most in block_is s.tables (omega (arith, h, m))
+  tables_block_is = let h = tables_at_most in let m = needed_most in small_block s.tables (omega (arith, h, m))
 
   pub tables_least : 4128 ≤ s.tables
   unfolding table_bytes
@@ -98,7 +98,7 @@ module _ (law : PlanLaws) (w : PlainFirmware) (n : Needs) (f : Final) (b : Board
       omega (arith, e, h)
 
   pub code_block_is : (c : ℕ) → c < length s.code → IsPowerBetween 5 32 (block (get_or s.code c 0)) × (get_or s.code c 0 ≤ block (get_or s.code c 0))
-  code_block_is c lt = let h = code_at_most c lt in let m = needed_most in block_is (get_or s.code c 0) (omega (arith, h, m))
+  code_block_is c lt = let h = code_at_most c lt in let m = needed_most in small_block (get_or s.code c 0) (omega (arith, h, m))
 
   -- ---- RAM
 

@@ -7,7 +7,7 @@ use Rattle.plan_model.specs.Choices.{greatest}
 use Rattle.plan_model.specs.Covers.{least_power}
 use Rattle.plan_model.specs.Blocks.{block}
 use Rattle.plan_model.specs.FlashPlacement.{flash_blocks, code_blocks, tables_block, flash_needed}
-use Rattle.image_promises.proofs.OpenBytes.{multiple}
+use Rattle.base_laws.proofs.Powers.{power_split}
 use Rattle.base_laws.proofs.Lists.{sum_first as sum_cons}
 
 found_fours : (test : ℕ → Bool) (a n : ℕ) → 2 ≤ a → unwrap_or (find test (map (λ k. 2 ^ k) (range_with_len a n))) (2 ^ 32) % 4 ≡ 0
@@ -16,7 +16,7 @@ found_fours test a (suc n) h = by (test (2 ^ a)) (found_fours test (a + 1) n (om
   where
     by : (b : Bool) → unwrap_or (find test (map (λ k. 2 ^ k) (range_with_len (a + 1) n))) (2 ^ 32) % 4 ≡ 0
         → unwrap_or (cond b (Some (2 ^ a)) (find test (map (λ k. 2 ^ k) (range_with_len (a + 1) n)))) (2 ^ 32) % 4 ≡ 0
-    by true ih = let m = multiple 2 a h in omega (arith, m)
+    by true ih = let m = power_split 2 a h in omega (arith, m)
     by false ih = ih
 
 block_fours : (n : ℕ) → block n % 4 ≡ 0

@@ -1,7 +1,5 @@
 -- The words of the region that is made for a block, read back as the check of regions reads them.
 use Rattle.std.proofs.Common.{◌≡◌, ℕ, ◌+◌, ◌-◌, ◌*◌, ◌/◌, ◌%◌, ◌^◌, ◌<◌, ◌≤◌, true, refl, ap, ap₂, sym, ◌∙◌, subst, arith}
-use Rattle.std.proofs.lemmas.Nat.{div-add-mod'}
-use Rattle.std.proofs.Math.Nat.{mul-mod_left}
 use Rattle.base_ranges.specs.Ranges.{IsPowerBetween}
 use Rattle.machine_protection.specs.declared.region.Region.{Region}
 use Rattle.machine_protection.specs.declared.words.Rights.{Rights}
@@ -10,8 +8,7 @@ use Rattle.machine_protection.specs.Regions.{size_log, is_of_legal_size}
 use Rattle.machine_protection.specs.RegionWords.{rights_word, size_field, region_of}
 use Rattle.monitor_model.specs.RegionChecks.{base_of, size_of, taken_out, has_form}
 use Rattle.image_promises.proofs.Passing.{and_yes, lt_yes, eq_yes}
-use Rattle.image_promises.proofs.OpenBytes.{multiple}
-use Rattle.image_promises.proofs.Products.{regrouped}
+use Rattle.base_laws.proofs.Powers.{multiple_of_power}
 use Rattle.machine_protection.proofs.Powers.{trailing_zeros-pow as zeros}
 
 -- the fields of the word of attributes
@@ -25,14 +22,6 @@ fields Code srd s h k = record { size = omega (arith, h, k); eighths = omega (ar
 fields Stack srd s h k = record { size = omega (arith, h, k); eighths = omega (arith, h, k) }
 fields Ram srd s h k = record { size = omega (arith, h, k); eighths = omega (arith, h, k) }
 fields Device srd s h k = record { size = omega (arith, h, k); eighths = omega (arith, h, k) }
-
--- a multiple of a power of two is one of each smaller power
-pub in_whole : (x a k : ℕ) → a ≤ k → x % 2 ^ k ≡ 0 → x % 2 ^ a ≡ 0
-in_whole x a k le e =
-    let d = div-add-mod' x (2 ^ k) in
-    let q : ℕ = x / 2 ^ k in
-    let whole : x ≡ q * 2 ^ k = omega (arith, d, e) in
-    ap (λ y. y % 2 ^ a) (whole ∙ (ap (λ z. q * z) (multiple a k le) ∙ regrouped q (2 ^ a) (2 ^ (k - a)))) ∙ mul-mod_left (q * 2 ^ (k - a)) (2 ^ a)
 
 -- what is read is what was put
 pub record IsMade (number base size srd : ℕ) (rights : Rights) : Type 0 where
@@ -61,7 +50,7 @@ module _ (number base k srd : ℕ) (rights : Rights) (few : number < 16) (least 
 
   based : base_of g ≡ base
   unfolding region_of
-  based = let e = in_whole base 5 k least aligned in omega (arith, e, few)
+  based = let e = multiple_of_power base 5 k least aligned in omega (arith, e, few)
 
   sized : size_of g ≡ 2 ^ k
   sized = ap (λ n. 2 ^ n) log

@@ -22,18 +22,19 @@ use Rattle.refine.specs.Relation.{cells_at, objects_at}
 use Rattle.plan.specs.PlannedFirmwares.{IsPlanned, plan}
 use Rattle.image_promises.proofs.Facts.{stack_in, stack_size_is, stack_least, monitor_in, monitor_size_is}
 use Rattle.image_promises.proofs.Passing.{apart_from}
-use Rattle.ir_laws.proofs.Aligned.{Divides, Aligned, none, more, through, plus, multiple}
+use Rattle.base_laws.proofs.Multiples.{IsMultiple, through, both, no_rest}
+use Rattle.ir_laws.proofs.Aligned.{Aligned, none, more}
 use Rattle.ir_laws.proofs.GlobalShapes.{global_shaped}
 use Rattle.image_promises.proofs.GlobalPlaces.{GlobalLaws, address, in_ram, aligned_at, apart, off_stack, off_monitor}
 use Rattle.base_laws.proofs.Lists.{each_to}
 use Rattle.image_promises.proofs.Objects.{IsIn, cells_inside, cells_laid, each_object, objects_laid}
 
 -- cells whose widths divide the address of their object stand at multiples of them
-cells_aligned : (base o a : ℕ) (cs : List CellPlace) → Divides a (base + o) → Aligned a cs → Each (λ (c : Area). (base + c.at) % c.width ≡ 0) (cells_at o cs)
+cells_aligned : (base o a : ℕ) (cs : List CellPlace) → IsMultiple a (base + o) → Aligned a cs → Each (λ (c : Area). (base + c.at) % c.width ≡ 0) (cells_at o cs)
 cells_aligned base o a cs d none = tt
 cells_aligned base o a cs d (more {c = c} {cs = ds} i e g h) = (
   ap (λ z. z % width_of c.ty) (let s : base + (o + c.at) ≡ base + o + c.at = omega arith in s)
-      ∙ multiple (width_of c.ty) (base + o + c.at) (plus (width_of c.ty) (base + o) c.at (through (width_of c.ty) a (base + o) e d) g),
+      ∙ no_rest (width_of c.ty) (base + o + c.at) (both (width_of c.ty) (base + o) c.at (through (width_of c.ty) a (base + o) e d) g),
   cells_aligned base o a ds d h,
 )
 
@@ -116,7 +117,7 @@ module _ (law : GlobalLaws) (w : PlainFirmware) (n : Needs) (f : Final) (b : Boa
       let ram = (in_ram law w n f b ok x m).0 in
       let there : b.ram_base + (place x - b.ram_base) ≡ place x = omega (arith, ram) in
       cells_aligned b.ram_base (place x - b.ram_base) (global_at p x).shape.align (global_at p x).shape.cells
-      (subst (Divides (global_at p x).shape.align) (sym there) (aligned_at law w n f b ok x m)) (global_shaped w x).fair.cells)
+      (subst (IsMultiple (global_at p x).shape.align) (sym there) (aligned_at law w n f b ok x m)) (global_shaped w x).fair.cells)
 
   beside : (x y : ℕ) → x < count → y < count → x ≢ y → (c d : Area) → IsCell x c → IsCell y d → Beside c d
   beside x y h k ne c d i j =

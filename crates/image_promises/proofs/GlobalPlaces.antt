@@ -1,7 +1,6 @@
 -- Where the globals of a planned firmware lie: in the block of their region, or of the globals of none.
-use Rattle.std.proofs.Common.{◌≡◌, ◌≢◌, ℕ, ◌<◌, ◌≤◌, ◌+◌, ◌-◌, ◌/◌, ◌%◌, ◌^◌, ◌⊎◌, inl, inr, true, length, Option, Some, None, refl, ap, sym, subst, arith}
+use Rattle.std.proofs.Common.{◌≡◌, ◌≢◌, ℕ, ◌<◌, ◌≤◌, ◌+◌, ◌-◌, ◌^◌, ◌⊎◌, inl, inr, true, length, Option, Some, None, refl, ap, sym, subst, arith}
 use Rattle.std.proofs.lemmas.Bool.{cases_eq}
-use Rattle.std.proofs.lemmas.Nat.{div-add-mod'}
 use mathlib.Core.Logic.{⊎_elim}
 use Rattle.ir_model.specs.Plain.{PlainFirmware}
 use Rattle.ir_model.specs.Resolve.{resolve}
@@ -23,11 +22,12 @@ use Rattle.plan_layout_laws.specs.RamPlaces.{block_for}
 use Rattle.plan_layout_laws.proofs.Offsets.{some_global}
 use Rattle.plan.specs.PlannedFirmwares.{IsPlanned, plan, planned_sizes}
 use Rattle.image_promises.proofs.Facts.{PlanLaws}
-use Rattle.image_promises.proofs.Powers.{block_is}
-use Rattle.image_promises.proofs.OpenBytes.{multiple}
+use Rattle.plan_model.proofs.Powers.{small_block}
+use Rattle.base_laws.proofs.Powers.{power_split}
 use Rattle.image_promises.proofs.Ranges.{IsUse, IsOfGlobals, globals_for, block_in, small}
-use Rattle.ir_laws.proofs.Aligned as widths
-use Rattle.ir_laws.proofs.Aligned.{Divides, Small, one_byte, two_bytes, four_bytes}
+use Rattle.base_laws.proofs.Multiples as multiples
+use Rattle.base_laws.proofs.Multiples.{IsMultiple, from_no_rest}
+use Rattle.ir_laws.proofs.Aligned.{Small, one_byte, two_bytes, four_bytes}
 use Rattle.ir_laws.proofs.GlobalShapes.{global_shaped}
 use Rattle.image_promises.proofs.FinalRegions.{region_has, no_region_is}
 
@@ -39,16 +39,13 @@ pub record GlobalLaws : Type 0 where
 
 -- ---- multiples
 
-divides_by : (a n : ℕ) → n % a ≡ 0 → Divides a n
-divides_by a n e = record { times = n / a; is = let d = div-add-mod' n a in omega (arith, d, e) }
-
-in_fours : (a : ℕ) → Small a → Divides a 4
+in_fours : (a : ℕ) → Small a → IsMultiple a 4
 in_fours a one_byte = record { times = 4; is = refl }
 in_fours a two_bytes = record { times = 2; is = refl }
 in_fours a four_bytes = record { times = 1; is = refl }
 
-fours : (k : ℕ) → 2 ≤ k → Divides 4 (2 ^ k)
-fours k l = record { times = 2 ^ (k - 2); is = let m = multiple 2 k l in omega (arith, m) }
+fours : (k : ℕ) → 2 ≤ k → IsMultiple 4 (2 ^ k)
+fours k l = record { times = 2 ^ (k - 2); is = let m = power_split 2 k l in omega (arith, m) }
 
 -- ---- uses
 
@@ -135,25 +132,25 @@ module _ (law : GlobalLaws) (w : PlainFirmware) (n : Needs) (f : Final) (b : Boa
       let i = placed x m in
       let e = i.address_is in
       let among = (law.laid p (globals_for f i.use_of) aligns).among x i.has_it in
-      let room = (block_is (region_bytes p (globals_for f i.use_of)) (small law.plans w n f b ok i.use_of i.is_use)).1 in
+      let room = (small_block (region_bytes p (globals_for f i.use_of)) (small law.plans w n f b ok i.use_of i.is_use)).1 in
       let inside = (block_in law.plans w n f b ok i.use_of i.is_use).0 in
       let low = inside.0 in
       let high = inside.1 in
       (omega (arith, e, low), omega (arith, e, among, room, high))
 
   -- at a multiple of its alignment
-  pub aligned_at : (x : ℕ) → x < count → Divides (global_at p x).shape.align (address x)
+  pub aligned_at : (x : ℕ) → x < count → IsMultiple (global_at p x).shape.align (address x)
   aligned_at x m =
       let a : ℕ = (global_at p x).shape.align in
       let i = placed x m in
       let bytes : ℕ = region_bytes p (globals_for f i.use_of) in
-      let power = (block_is bytes (small law.plans w n f b ok i.use_of i.is_use)).0 in
+      let power = (small_block bytes (small law.plans w n f b ok i.use_of i.is_use)).0 in
       let five = power.1 in
-      let by_block : Divides (2 ^ power.0) (block_for l i.use_of).base = subst (λ z. Divides z (block_for l i.use_of).base) power.3 (divides_by (block bytes) (block_for l i.use_of).base (block_in law.plans w n f b ok i.use_of i.is_use).1) in
-      let by_four : Divides 4 (block_for l i.use_of).base = widths.through 4 (2 ^ power.0) (block_for l i.use_of).base (fours power.0 (omega (arith, five))) by_block in
-      let by_it : Divides a (block_for l i.use_of).base = widths.through a 4 (block_for l i.use_of).base (in_fours a (global_shaped w x).fair.small) by_four in
-      let offset : Divides a (offset_in_region p (globals_for f i.use_of) x) = divides_by a (offset_in_region p (globals_for f i.use_of) x) ((law.laid p (globals_for f i.use_of) aligns).aligned x i.has_it) in
-      subst (Divides a) (sym i.address_is) (widths.plus a (block_for l i.use_of).base (offset_in_region p (globals_for f i.use_of) x) by_it offset)
+      let by_block : IsMultiple (2 ^ power.0) (block_for l i.use_of).base = subst (λ z. IsMultiple z (block_for l i.use_of).base) power.3 (from_no_rest (block bytes) (block_for l i.use_of).base (block_in law.plans w n f b ok i.use_of i.is_use).1) in
+      let by_four : IsMultiple 4 (block_for l i.use_of).base = multiples.through 4 (2 ^ power.0) (block_for l i.use_of).base (fours power.0 (omega (arith, five))) by_block in
+      let by_it : IsMultiple a (block_for l i.use_of).base = multiples.through a 4 (block_for l i.use_of).base (in_fours a (global_shaped w x).fair.small) by_four in
+      let offset : IsMultiple a (offset_in_region p (globals_for f i.use_of) x) = from_no_rest a (offset_in_region p (globals_for f i.use_of) x) ((law.laid p (globals_for f i.use_of) aligns).aligned x i.has_it) in
+      subst (IsMultiple a) (sym i.address_is) (multiples.both a (block_for l i.use_of).base (offset_in_region p (globals_for f i.use_of) x) by_it offset)
 
   -- an address among a global's bytes
   pub record IsByte (x z : ℕ) : Type 0 where

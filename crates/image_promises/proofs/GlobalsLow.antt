@@ -21,7 +21,7 @@ use Rattle.plan_layout_laws.specs.RamPlaces.{block_for}
 use Rattle.plan_layout_laws.proofs.Offsets.{grows}
 use Rattle.plan.specs.PlannedFirmwares.{IsPlanned, plan, planned_sizes}
 use Rattle.image_promises.proofs.Facts.{PlanLaws}
-use Rattle.image_promises.proofs.Powers.{block_is}
+use Rattle.plan_model.proofs.Powers.{small_block}
 use Rattle.image_promises.proofs.Ranges.{globals_for, IsUse, block_in, small}
 use Rattle.image_promises.proofs.Alignments.{has_alignments}
 use Rattle.image_promises.proofs.NoUnwritten.{none_for_unwritten}
@@ -54,7 +54,7 @@ module _ (law : PlanLaws) (w : PlainFirmware) (n : Needs) (f : Final) (b : Board
   in_block : (u : RamUse) (x : ℕ) → IsUse f u → (block_for l u).base + offset_in_region p (globals_for f u) x < 2 ^ 32
   in_block u x h =
       let end = (block_in law w n f b ok u h).0.1 in
-      let room = (block_is (region_bytes p (globals_for f u)) (small law w n f b ok u h)).1 in
+      let room = (small_block (region_bytes p (globals_for f u)) (small law w n f b ok u h)).1 in
       let o = offset_below p (has_alignments w) (globals_for f u) x in
       let high = ok.board.ram_highest in
       let most = ok.board.ram_size.most in

@@ -33,8 +33,8 @@ use Rattle.image_model.specs.LinkedImage.{linked}
 use Rattle.image_promises.specs.Planned.{planned_tables, planned_image}
 use Rattle.plan.specs.PlannedFirmwares.{IsPlanned, planned_sizes, plan}
 use Rattle.image_promises.proofs.Facts.{stack_size_is, stack_least, monitor_size_is}
-use Rattle.image_promises.proofs.Powers.{block_is}
-use Rattle.image_promises.proofs.OpenBytes.{multiple, words_held}
+use Rattle.plan_model.proofs.Powers.{small_block}
+use Rattle.image_promises.proofs.OpenBytes.{words_held}
 use Rattle.image_promises.proofs.Passing.{and_yes, eq_yes, lt_yes, data_yes, must_yes, then_yes, apart_from}
 use Rattle.image_promises.proofs.Ranges.{IsUse, globals_for, filled_for, filled_is, uses_are, block_size_is, block_in, small}
 use Rattle.image_promises.proofs.AreaEnd.{initial_words_are, end_is}
@@ -43,7 +43,8 @@ use Rattle.image_promises.proofs.TablesPass.{some}
 use Rattle.image_promises.proofs.ObjectSizes.{global_is_large}
 use Rattle.ir_laws.proofs.GlobalShapes.{global_shaped}
 use Rattle.image_promises.proofs.FinalRegions as regions
-use Rattle.machine_bus.proofs.Placed.{multiple_aligned as by_four}
+use Rattle.base_laws.proofs.Multiples.{multiple_of}
+use Rattle.base_laws.proofs.Powers.{power_split}
 
 shrink : (a n m c k : ℕ) → n ≤ m → AreApart a m c k → AreApart a n c k
 shrink a n m c k h (inl e) = inl (omega (arith, h, e))
@@ -131,9 +132,9 @@ module _ (law : ReadLaws) (typing : TypedOverNumbers) (laid : GlobalsAreLaid) (w
 
   even : (u : RamUse) → IsUse f u → base u % 4 ≡ 0
   even u h =
-      let power = (block_is (bytes u) (small law.plans w n f b ok u h)).0 in
+      let power = (small_block (bytes u) (small law.plans w n f b ok u h)).0 in
       let five = power.1 in
-      by_four (base u) (block (bytes u)) (2 ^ (power.0 - 2)) (power.3 ∙ multiple 2 power.0 (omega (arith, five))) (block_in law.plans w n f b ok u h).1
+      multiple_of (base u) 4 (2 ^ (power.0 - 2)) (block (bytes u)) (power.3 ∙ power_split 2 power.0 (omega (arith, five))) (block_in law.plans w n f b ok u h).1
 
   words_fit : (bytes size : ℕ) → bytes ≤ size → size % 4 ≡ 0 → 4 * ((bytes + 3) / 4 * 4 / 4) ≤ size
   words_fit n z le m = omega (arith, le, m)
@@ -141,10 +142,10 @@ module _ (law : ReadLaws) (typing : TypedOverNumbers) (laid : GlobalsAreLaid) (w
   inside : (u : RamUse) → IsUse f u → IsInside (base u) (4 * words u) b.ram_base b.ram_size
   inside u h =
       let ins = (block_in law.plans w n f b ok u h).0 in
-      let is = block_is (bytes u) (small law.plans w n f b ok u h) in
+      let is = small_block (bytes u) (small law.plans w n f b ok u h) in
       let power = is.0 in
       let five = power.1 in
-      let exact = power.3 ∙ multiple 2 power.0 (omega (arith, five)) in
+      let exact = power.3 ∙ power_split 2 power.0 (omega (arith, five)) in
       let fits = words_fit (bytes u) (block (bytes u)) is.1 (omega (arith, exact)) in
       let low = ins.0 in
       let high = ins.1 in

@@ -24,7 +24,7 @@ use Rattle.image_model.specs.LinkedTables.{Filled, object_places, init_records, 
 use Rattle.image_promises.specs.Planned.{planned_tables}
 use Rattle.plan.specs.PlannedFirmwares.{IsPlanned, plan}
 use Rattle.image_promises.proofs.Facts.{laid, needed_most, tables_at_most, tables_block_is}
-use Rattle.image_promises.proofs.Powers.{block_is}
+use Rattle.plan_model.proofs.Powers.{small_block}
 use Rattle.image_promises.proofs.Ranges.{IsUse, uses, uses_are, filled_for, filled_is, globals_for, block_in, small}
 use Rattle.image_promises.proofs.ReadBack.{ReadLaws}
 use Rattle.image_promises.proofs.AreaEnd.{initial_words_are}
@@ -66,7 +66,7 @@ module _ (law : ReadLaws) (sizes : SizesAreLimited) (w : PlainFirmware) (n : Nee
   use_low : (u : RamUse) → IsUse f u → EndsLow p (filled_for f l u)
   use_low u h =
       let ends = (block_in law.plans w n f b ok u h).0.1 in
-      let room = (block_is (region_bytes p (globals_for f u)) (small law.plans w n f b ok u h)).1 in
+      let room = (small_block (region_bytes p (globals_for f u)) (small law.plans w n f b ok u h)).1 in
       let top = ok.board.ram_highest in
       let size = ok.board.ram_size.most in
       omega (arith, ends, room, top, size)

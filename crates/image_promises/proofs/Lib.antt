@@ -1,5 +1,4 @@
 pub mod FlashBack
-pub mod Powers
 pub mod FlashParts
 pub mod Passing
 pub mod Facts

@@ -7,12 +7,8 @@ use Rattle.image_model.specs.LinkedImage.{linked}
 use Rattle.image_model.specs.LinkedTables.{tables_of}
 use Rattle.plan.specs.PlannedFirmwares.{plan}
 use Rattle.image_promises.proofs.Facts.{PlanLaws, stack_in, stack_size_is, stack_least, monitor_in, monitor_size_is, stack_apart}
-use Rattle.image_promises.proofs.Windows.{multiple_of, power_split}
+use Rattle.base_laws.proofs.Powers.{multiple_of_power}
 use Rattle.image_promises.specs.Parts.{MemoryIsLaid}
-
--- multiples of a power of two are multiples of 8
-eights : (x k : ℕ) → 3 ≤ k → x % 2 ^ k ≡ 0 → x % 8 ≡ 0
-eights x k l e = multiple_of x 8 (2 ^ (k - 3)) (2 ^ k) (power_split k 3 l) e
 
 apart_eights : (x y : ℕ) → x % 8 ≡ 0 → y % 8 ≡ 0 → (x - y) % 8 ≡ 0
 apart_eights x y e g =
@@ -46,8 +42,8 @@ memory_is_laid law code w n f b is =
     let six = power.1 in
     let eight = an_eighth l.stack.size power.0 (omega (arith, six)) (size ∙ power.3) in
     let whole = eight.0 in
-    let ram : b.ram_base % 8 ≡ 0 = eights b.ram_base 20 (omega arith) is.board.ram_aligned in
-    let base : l.stack.base % 8 ≡ 0 = eights l.stack.base power.0 (omega (arith, six)) (subst (λ s. l.stack.base % s ≡ 0) (size ∙ power.3) stack.1) in
+    let ram : b.ram_base % 8 ≡ 0 = multiple_of_power b.ram_base 3 20 (omega arith) is.board.ram_aligned in
+    let base : l.stack.base % 8 ≡ 0 = multiple_of_power l.stack.base 3 power.0 (omega (arith, six)) (subst (λ s. l.stack.base % s ≡ 0) (size ∙ power.3) stack.1) in
     record {
       stack_aligned = apart_eights l.stack.base b.ram_base base ram;
       eighth_aligned = eight.1;

@@ -1,28 +1,20 @@
 -- The words that start-up fills a block with stand in its open eighths.
 use Rattle.std.proofs.Common.{◌≡◌, ℕ, zero, suc, ◌+◌, ◌-◌, ◌*◌, ◌/◌, ◌^◌, ◌<◌, ◌≤◌, Bool, true, false, ◌&&◌, cond, nat_lt, refl, sym, ap, ◌∙◌, subst, pow_pos, arith}
-use Rattle.std.proofs.lemmas.Nat.{div-add-mod', mod_below, pow-add}
 use Rattle.std.proofs.lemmas.Bool.{leb-true, and_parts as both}
 use Rattle.ir_model.specs.Layout.{rounded_up}
+use Rattle.ir_model.proofs.Counting.{rounded_at_least}
 use Rattle.plan_model.specs.Covers.{least_power}
 use Rattle.plan_model.specs.Blocks.{block, has_eighths, open_eighths}
 use Rattle.plan_layout_laws.specs.RamLaws.{open_bytes}
-use Rattle.image_promises.proofs.Powers.{block_is}
-use Rattle.base_laws.proofs.Powers.{smaller_exponent}
-
--- so many eighths hold the bytes
-enough : (bytes d : ℕ) → 0 < d → bytes ≤ (bytes + (d - 1)) / d * d
-enough n d h = let e = div-add-mod' (n + (d - 1)) d in let l = mod_below (n + (d - 1)) d h in omega (arith, e, l, h)
-
--- a power of two from 2 ^ a on is a multiple of that
-pub multiple : (a k : ℕ) → a ≤ k → 2 ^ k ≡ 2 ^ a * 2 ^ (k - a)
-multiple a k le = let e : k ≡ a + (k - a) = omega (arith, le) in ap (λ n. 2 ^ n) e ∙ pow-add 2 a (k - a)
+use Rattle.plan_model.proofs.Powers.{small_block}
+use Rattle.base_laws.proofs.Powers.{smaller_exponent, power_split}
 
 rounded : (n m : ℕ) → n ≤ 4 * m → 4 * (rounded_up n 4 / 4) ≤ 4 * m
 rounded n m h = omega (arith, h)
 
 all_in : (n d z : ℕ) → d ≡ z / 8 → 0 < d → n ≤ z / 8 * open_eighths z n
 unfolding open_eighths
-all_in n d z e pos = subst (λ x. n ≤ x * ((n + (x - 1)) / x)) e (let h = enough n d pos in grind (arith, h))
+all_in n d z e pos = subst (λ x. n ≤ x * ((n + (x - 1)) / x)) e (let h : n ≤ (n + (d - 1)) / d * d = rounded_at_least n d pos in grind (arith, h))
 
 positive : (n : ℕ) → 256 ≤ block n → 0 < n
 unfolding block least_power
@@ -40,20 +32,20 @@ words_held n small = by (has_eighths (block n) && nat_lt (open_eighths (block n)
 
     by : (c : Bool) → (has_eighths (block n) && nat_lt (open_eighths (block n) n) 8) ≡ c → (4 * (rounded_up n 4 / 4) ≤ cond c (block n / 8 * open_eighths (block n) n) (block n)) × (0 < cond c (block n / 8 * open_eighths (block n) n) (block n))
     by false h =
-        let is = block_is n small in
+        let is = small_block n small in
         let k = is.0.0 in
         let e = is.0.3 in
-        let m = multiple 2 k (omega (arith, is.0.1)) in
+        let m = power_split 2 k (omega (arith, is.0.1)) in
         let q = pow_pos (k - 2) in
         let r = is.1 in
         (subst (λ x. 4 * (rounded_up n 4 / 4) ≤ x) (sym (e ∙ m)) (rounded n (2 ^ (k - 2)) (omega (arith, r, e, m))), omega (arith, e, m, q))
     by true h =
-        let is = block_is n small in
+        let is = small_block n small in
         let k = is.0.0 in
         let e = is.0.3 in
         let large = leb-true 256 (block n) (both (has_eighths (block n)) (nat_lt (open_eighths (block n) n) 8) h).0 in
         let le = smaller_exponent 8 k (omega (arith, large, e)) in
-        let m = multiple 8 k le in
+        let m = power_split 8 k le in
         let q = pow_pos (k - 8) in
         let o = open_eighths (block n) n in
         let d : block n / 8 ≡ 32 * 2 ^ (k - 8) = omega (arith, e, m) in

@@ -5,9 +5,6 @@ use Rattle.ir_model.specs.Layout.{rounded_up}
 pub times : (a b n : ℕ) → a ≤ b → a * n ≤ b * n
 times a b n l = grind (arith, l)
 
-pub regrouped : (a b c : ℕ) → a * (b * c) ≡ a * c * b
-regrouped a b c = grind arith
-
 pub one_more : (a n : ℕ) → (a + 1) * n ≡ a * n + n
 one_more a n = grind arith
 

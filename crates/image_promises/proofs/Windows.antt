@@ -1,7 +1,5 @@
 -- Where addresses of the windows of peripherals lead in the linked image.
-use Rattle.std.proofs.Common.{◌≡◌, ℕ, zero, suc, ◌<◌, ◌≤◌, ◌+◌, ◌-◌, ◌*◌, ◌/◌, ◌%◌, ◌^◌, inl, true, false, List, [], ◌∷◌, length, map, get_or, refl, ap, sym, ◌∙◌, subst, arith}
-use Rattle.std.proofs.Math.Nat.{mul-mod_left, mul_assoc}
-use Rattle.std.proofs.lemmas.Nat.{div-add-mod', pow-add}
+use Rattle.std.proofs.Common.{◌≡◌, ℕ, zero, suc, ◌<◌, ◌≤◌, ◌+◌, ◌-◌, ◌%◌, ◌^◌, inl, true, false, List, [], ◌∷◌, length, map, get_or, refl, ap, sym, ◌∙◌, subst, arith}
 use Rattle.std.proofs.lemmas.List.{get_or-map, length-map}
 use mathlib.Core.Logic.{⊎_elim}
 use Rattle.machine_bus.specs.Locations.{InRam, InFlash, InWindow, inside, choose, find_window, location}
@@ -22,6 +20,8 @@ use Rattle.plan.specs.PlannedFirmwares.{IsPlanned}
 use Rattle.image_promises.proofs.Facts.{PlanLaws, length_is, needed_most}
 use Rattle.image_promises.specs.Parts.{WindowsArePromised}
 use Rattle.image_promises.proofs.WindowsOpen.{FitsSlots, windows_are_open}
+use Rattle.base_laws.proofs.Multiples.{multiple_of}
+use Rattle.base_laws.proofs.Powers.{power_split}
 use Rattle.machine_bus.proofs.Ranges.{outside_behind as behind_it, inside_yes as in_it, inside_no}
 
 -- ---- among windows
@@ -39,19 +39,6 @@ found_in (x ∷ xs) k (suc q) a l before e =
     ap (λ b. choose b (InWindow k (a - x.base)) (find_window (map window_of xs) (suc k) a)) (before 0 (omega arith))
     ∙ (found_in xs (suc k) q a (omega arith) (λ r h. before (suc r) (omega arith)) e
     ∙ ap (λ j. InWindow j (a - (numbered xs q).base)) (let s : suc k + q ≡ k + suc q = omega arith in s))
-
--- multiples of a multiple
-pub multiple_of : (x c m n : ℕ) → m * c ≡ n → x % n ≡ 0 → x % c ≡ 0
-multiple_of x c m n split e =
-    let d = div-add-mod' x n in
-    let whole : x ≡ x / n * n = omega (arith, d, e) in
-    ap (λ y. y % c) (whole ∙ (ap (λ z. x / n * z) (sym split) ∙ sym (mul_assoc (x / n) m c))) ∙ mul-mod_left (x / n * m) c
-
-pub power_split : (k j : ℕ) → j ≤ k → 2 ^ (k - j) * 2 ^ j ≡ 2 ^ k
-power_split k j l = sym (pow-add 2 (k - j) j) ∙ ap (λ i. 2 ^ i) (let s : k - j + j ≡ k = omega (arith, l) in s)
-
-multiple_of_four : (x k : ℕ) → 5 ≤ k → x % 2 ^ k ≡ 0 → x % 4 ≡ 0
-multiple_of_four x k l e = multiple_of x 4 (2 ^ (k - 2)) (2 ^ k) (power_split k 2 (omega (arith, l))) e
 
 module _ (law : PlanLaws) (apart : WindowsLieApart) (w : PlainFirmware) (n : Needs) (f : Final) (b : Board) (is : IsPlanned w n f b) where
   windows : HasWindows (resolve w)
@@ -101,7 +88,7 @@ module _ (law : PlanLaws) (apart : WindowsLieApart) (w : PlainFirmware) (n : Nee
   aligned : (q : ℕ) → q < length (resolve w).periphs → get_or (map (λ (x : NumberedWindow). x.base) (resolve w).periphs) q 0 % 4 ≡ 0
   aligned q l =
       let i = windows.each q l in
-      ap (λ x. x % 4) (bases q l) ∙ multiple_of_four (window_at (resolve w) q).base i.power.0 i.power.1 (subst (λ s. (window_at (resolve w) q).base % s ≡ 0) i.power.3 i.aligned)
+      ap (λ x. x % 4) (bases q l) ∙ multiple_of (window_at (resolve w) q).base 4 (2 ^ (i.power.0 - 2)) (2 ^ i.power.0) (power_split 2 i.power.0 (let five : 5 ≤ i.power.0 = i.power.1 in omega (arith, five))) (subst (λ s. (window_at (resolve w) q).base % s ≡ 0) i.power.3 i.aligned)
 
 pub windows_are_promised : PlanLaws → RegionsHoldTheirBlocks → RegionsGiveTheirRights → WindowsLieApart → FitsSlots → WindowsArePromised
 unfolding linked

@@ -1,7 +1,6 @@
 -- Each cell lies at a multiple of its width, and is of an integer, a pointer or a function.
-use Rattle.std.proofs.Common.{◌≡◌, ℕ, zero, suc, ◌+◌, ◌-◌, ◌*◌, ◌/◌, ◌%◌, Bool, true, false, ◌&&◌, List, [], ◌∷◌, ◌++◌, Option, Some, None, nat_eq, refl, sym, ap, ◌∙◌, subst, get_or, map, arith, max, mul_assoc}
+use Rattle.std.proofs.Common.{◌≡◌, ℕ, zero, suc, ◌+◌, ◌-◌, ◌*◌, ◌/◌, Bool, true, false, ◌&&◌, List, [], ◌∷◌, ◌++◌, Option, Some, None, nat_eq, refl, sym, subst, get_or, map, arith, max}
 use Rattle.std.specs.Prelude.{bytes_eq, if◌then◌else◌}
-use Rattle.std.proofs.Math.Nat.{add-mul, mul-mod_left}
 use Rattle.std.proofs.lemmas.Bool.{eqb-true, and_parts}
 use Rattle.ir_model.specs.Types.{PlainType, U8, U16, U32, Pointer, Array, Named, Callee, same, width_of}
 use Rattle.ir_model.specs.Plain.{PlainBinding, PlainStruct, PlainGlobal, PlainFunc, PlainFirmware, funcs_of}
@@ -9,20 +8,10 @@ use Rattle.ir_model.specs.Layout.{CellPlace, Shape, Known, shape, shape_named, e
 use Rattle.ir_model.specs.Resolved.{no_func, no_global}
 use Rattle.ir_model.specs.Resolve.{scope_of, resolved_func, resolved_global, resolve}
 use Rattle.ir_model.proofs.SameTypes.{same_sound}
+use Rattle.base_laws.proofs.Multiples.{IsMultiple, none as nothing_at, through, both, no_rest}
 use Rattle.ir_model.specs.Signatures.{cell_in}
 use Rattle.ir_laws.specs.Typed.{IsCellType}
 use Rattle.ir_laws.specs.Cells.{IsCell, AreCells, HasCells, IsFound}
-
--- n is a multiple of w
-pub record Divides (w n : ℕ) : Type 0 where
-  pub times : ℕ
-  pub is : n ≡ times * w
-
-pub through : (w a n : ℕ) → Divides w a → Divides a n → Divides w n
-through w a n d e = record { times = e.times * d.times; is = e.is ∙ (ap (λ x. e.times * x) d.is ∙ sym (mul_assoc e.times d.times w)) }
-
-pub plus : (w m n : ℕ) → Divides w m → Divides w n → Divides w (m + n)
-plus w m n d e = record { times = d.times + e.times; is = ap (λ x. x + n) d.is ∙ (ap (λ x. d.times * w + x) e.is ∙ sym (add-mul d.times e.times w)) }
 
 -- the widths of cells, which are the alignments of types
 pub data Small : ℕ → Type 0 where
@@ -30,7 +19,7 @@ pub data Small : ℕ → Type 0 where
   two_bytes : Small 2
   four_bytes : Small 4
 
-divides_max_left : (a b : ℕ) → Small a → Small b → Divides a (max a b)
+divides_max_left : (a b : ℕ) → Small a → Small b → IsMultiple a (max a b)
 divides_max_left a b one_byte one_byte = record { times = 1; is = refl }
 divides_max_left a b one_byte two_bytes = record { times = 2; is = refl }
 divides_max_left a b one_byte four_bytes = record { times = 4; is = refl }
@@ -41,7 +30,7 @@ divides_max_left a b four_bytes one_byte = record { times = 1; is = refl }
 divides_max_left a b four_bytes two_bytes = record { times = 1; is = refl }
 divides_max_left a b four_bytes four_bytes = record { times = 1; is = refl }
 
-divides_max_right : (a b : ℕ) → Small a → Small b → Divides b (max a b)
+divides_max_right : (a b : ℕ) → Small a → Small b → IsMultiple b (max a b)
 divides_max_right a b one_byte one_byte = record { times = 1; is = refl }
 divides_max_right a b one_byte two_bytes = record { times = 1; is = refl }
 divides_max_right a b one_byte four_bytes = record { times = 1; is = refl }
@@ -66,23 +55,23 @@ max_small a b four_bytes four_bytes = four_bytes
 -- cells whose widths divide an alignment and their offsets
 pub data Aligned (a : ℕ) : List CellPlace → Type 0 where
   none : Aligned a []
-  more : {c : CellPlace} {cs : List CellPlace} → IsCellType c.ty → Divides (width_of c.ty) a → Divides (width_of c.ty) c.at → Aligned a cs → Aligned a (c ∷ cs)
+  more : {c : CellPlace} {cs : List CellPlace} → IsCellType c.ty → IsMultiple (width_of c.ty) a → IsMultiple (width_of c.ty) c.at → Aligned a cs → Aligned a (c ∷ cs)
 
-wider : (a b : ℕ) (cs : List CellPlace) → Divides a b → Aligned a cs → Aligned b cs
+wider : (a b : ℕ) (cs : List CellPlace) → IsMultiple a b → Aligned a cs → Aligned b cs
 wider a b cs d none = none
 wider a b cs d (more {c = c} i e f h) = more i (through (width_of c.ty) a b e d) f (wider a b _ d h)
 
-moved : (a d : ℕ) (cs : List CellPlace) → Divides a d → Aligned a cs → Aligned a (shifted d cs)
+moved : (a d : ℕ) (cs : List CellPlace) → IsMultiple a d → Aligned a cs → Aligned a (shifted d cs)
 moved a d cs e none = none
-moved a d cs e (more {c = c} i f g h) = more i f (plus (width_of c.ty) d c.at (through (width_of c.ty) a d f e) g) (moved a d _ e h)
+moved a d cs e (more {c = c} i f g h) = more i f (both (width_of c.ty) d c.at (through (width_of c.ty) a d f e) g) (moved a d _ e h)
 
 joined : (a : ℕ) (cs ds : List CellPlace) → Aligned a cs → Aligned a ds → Aligned a (cs ++ ds)
 joined a cs ds none k = k
 joined a cs ds (more i f g h) k = more i f g (joined a _ ds h k)
 
-copied : (a n at step : ℕ) (cs : List CellPlace) → Divides a at → Divides a step → Aligned a cs → Aligned a (copies n at step cs)
+copied : (a n at step : ℕ) (cs : List CellPlace) → IsMultiple a at → IsMultiple a step → Aligned a cs → Aligned a (copies n at step cs)
 copied a zero at step cs d e h = none
-copied a (suc n) at step cs d e h = joined a (shifted at cs) (copies n (at + step) step cs) (moved a at cs d h) (copied a n (at + step) step cs (plus a at step d e) e h)
+copied a (suc n) at step cs d e h = joined a (shifted at cs) (copies n (at + step) step cs) (moved a at cs d h) (copied a n (at + step) step cs (both a at step d e) e h)
 
 -- a shape whose cells are aligned, and one that is a multiple of its alignment too
 pub record Fair (s : Shape) : Type 0 where
@@ -91,15 +80,12 @@ pub record Fair (s : Shape) : Type 0 where
 
 pub record Whole (s : Shape) : Type 0 where
   pub fair : Fair s
-  pub size : Divides s.align s.size
+  pub size : IsMultiple s.align s.size
 
-itself : (a : ℕ) → Divides a a
+itself : (a : ℕ) → IsMultiple a a
 itself a = record { times = 1; is = omega arith }
 
-nothing_at : (a : ℕ) → Divides a 0
-nothing_at a = record { times = 0; is = omega arith }
-
-up_divides : (n a : ℕ) → Divides a (rounded_up n a)
+up_divides : (n a : ℕ) → IsMultiple a (rounded_up n a)
 up_divides n a = record { times = (n + (a - 1)) / a; is = refl }
 
 abbrev AllWhole : List Known → Type 0
@@ -115,7 +101,7 @@ named_whole (k ∷ ks) n h = pick (bytes_eq k.name n) (named_whole ks n h.1)
     pick false g = g
 
 one_whole : (w : ℕ) (t : PlainType) → IsCellType t → Small w → width_of t ≡ w → Whole (one_cell w t)
-one_whole w t i s e = record { fair = record { small = s; cells = more i (subst (λ x. Divides x w) (sym e) (itself w)) (nothing_at (width_of t)) none }; size = itself w }
+one_whole w t i s e = record { fair = record { small = s; cells = more i (subst (λ x. IsMultiple x w) (sym e) (itself w)) (nothing_at (width_of t)) none }; size = itself w }
 
 shape_whole : (ks : List Known) (t : PlainType) → AllWhole ks → Whole (shape ks t)
 shape_whole ks U8 h = one_whole 1 U8 refl one_byte refl
@@ -154,12 +140,9 @@ whole_type ss t = shape_whole (known_behind [] ss) t (whole_structs [] ss tt)
 
 -- ---- the cells of a program
 
-pub multiple : (w n : ℕ) → Divides w n → n % w ≡ 0
-multiple w n d = ap (λ x. x % w) d.is ∙ mul-mod_left d.times w
-
 aligned_in : (a : ℕ) (cs : List CellPlace) (k : ℕ) → Aligned a cs → IsCell (cell_in cs k)
 aligned_in a [] k h = record { aligned = refl; kind = refl }
-aligned_in a (c ∷ cs) zero (more i d e h) = record { aligned = multiple (width_of c.ty) c.at e; kind = i }
+aligned_in a (c ∷ cs) zero (more i d e h) = record { aligned = no_rest (width_of c.ty) c.at e; kind = i }
 aligned_in a (c ∷ cs) (suc k) (more i d e h) = aligned_in a cs k h
 
 type_cells : (ss : List PlainStruct) (t : PlainType) → AreCells (shape (known ss) t).cells

@@ -1,8 +1,7 @@
 -- The location of an aligned access.
-use Rattle.std.proofs.Common.{◌≡◌, ◌<◌, ◌≤◌, inl, inr, ℕ, ◌+◌, ◌-◌, ◌*◌, ◌/◌, ◌%◌, ◌^◌, List, [], ◌∷◌, refl, ap, ◌∙◌, Bool, true, false, length, suc, arith}
+use Rattle.std.proofs.Common.{◌≡◌, ◌<◌, ◌≤◌, inl, inr, ℕ, ◌+◌, ◌-◌, ◌*◌, ◌%◌, ◌^◌, List, [], ◌∷◌, refl, ap, ◌∙◌, Bool, true, false, length, suc, arith}
 use Rattle.std.specs.Prelude.{◌↔◌}
-use Rattle.std.proofs.lemmas.Nat.{pow-add}
-use Rattle.std.proofs.Math.Nat.{mul-mod_right, mul_assoc, div-add-mod}
+use Rattle.std.proofs.Math.Nat.{mul-mod_right}
 use Rattle.machine_protection.specs.Protection.{IsAccessWidth}
 use Rattle.machine_devices.specs.declared.image.Image.{Image}
 use Rattle.machine_devices.specs.declared.image.Window.{Window}
@@ -11,6 +10,8 @@ use Rattle.machine_devices.specs.Rules.{ObeysRules, IsWindow, AreWindows}
 use Rattle.machine_bus.proofs.Ranges.{inside_true, inside_yes}
 use Rattle.machine_bus.specs.Access.{further, HasBytes, Fits, AnyWindowHolds, HoldsBytes}
 use Rattle.base_laws.proofs.Tests.{same_tests}
+use Rattle.base_laws.proofs.Multiples.{multiple_of}
+use Rattle.base_laws.proofs.Powers.{power_split}
 
 -- a range that begins and ends at multiples of 4
 record IsAligned (b n : ℕ) : Type 0 where
@@ -36,22 +37,11 @@ inside_further b s a w j r v m l =
     (λ h. (let t = inside_true b s (a + j) h in inside_yes b s a (inside_begins b s a w j r v m l t.0) (omega arith)))
     (λ h. (let t = inside_true b s a h in inside_yes b s (a + j) (omega arith) (omega (arith, inside_ends b s a w r v m t.1))))
 
--- a power of two from 32 on is a multiple of 4
-power_aligned : (n k : ℕ) → n ≡ 2 ^ k → 5 ≤ k → n ≡ 4 * 2 ^ (k - 2)
-power_aligned n k e l =
-    let split : k ≡ 2 + (k - 2) = omega arith in
-    e ∙ (ap (λ x. 2 ^ x) split ∙ pow-add 2 2 (k - 2))
-
-pub multiple_aligned : (b n m : ℕ) → n ≡ 4 * m → b % n ≡ 0 → b % 4 ≡ 0
-multiple_aligned b n m e h =
-    let f : n * (b / n) ≡ 4 * (m * (b / n)) = ap (λ x. x * (b / n)) e ∙ mul_assoc 4 m (b / n) in
-    omega (arith, div-add-mod b n, f)
-
 window_aligned : (w : Window) → IsWindow w → IsAligned w.base w.size
 window_aligned w h =
-    let size = power_aligned w.size h.range.power.0 h.range.power.3 h.range.power.1 in
+    let size : w.size ≡ 4 * 2 ^ (h.range.power.0 - 2) = h.range.power.3 ∙ power_split 2 h.range.power.0 (let five : 5 ≤ h.range.power.0 = h.range.power.1 in omega (arith, five)) in
     record {
-      base = multiple_aligned w.base w.size (2 ^ (h.range.power.0 - 2)) size h.range.aligned;
+      base = multiple_of w.base 4 (2 ^ (h.range.power.0 - 2)) w.size size h.range.aligned;
       size = rw size (mul-mod_right 4 (2 ^ (h.range.power.0 - 2)));
     }
 

@@ -3,7 +3,6 @@ use Rattle.std.proofs.Common.{◌≡◌, ℕ, ◌+◌, ◌-◌, ◌*◌, ◌/◌
 use Rattle.std.proofs.Math.ListN.{set}
 use Rattle.std.proofs.lemmas.Bool.{false≢true, cases_lt}
 use Rattle.std.proofs.lemmas.Bool.Decides.{nat_tests}
-use Rattle.std.proofs.lemmas.Nat.{pow-add, pow_below}
 use Rattle.std.proofs.lemmas.Nat.Bits.{bit_at_mask_inside, bit_at_mask_below}
 use Rattle.std.proofs.lemmas.List.{length_push}
 use Rattle.machine_protection.specs.declared.region.Region.{Region}
@@ -17,6 +16,7 @@ use Rattle.machine_protection.specs.Laws.{kept_region}
 use Rattle.machine_protection.specs.Configured.{NoneOf, IsLast, KeptListsDecide, KeptListsPermit, KeptUnitsPermitTheSame, closed_from, EighthsAreClosed, OpenEighthsAreHeld, EachWriteIs, written, AreNumbered, ListsAreWritten}
 use Rattle.machine_protection.proofs.Writes.{regions_are_kept, regions_are_written}
 use Rattle.machine_protection.proofs.RegionWords.{held}
+use Rattle.base_laws.proofs.Powers.{smaller_exponent, eight_eighths}
 
 -- ---- which region decides
 
@@ -133,16 +133,6 @@ eighths_are_closed n i lt = (
   λ from. bit_at_mask_inside n 8 i from lt,
 )
 
--- a power of two from 256 on is eight eighths
-pub eighths : (k : ℕ) → 2 ^ 8 ≤ 2 ^ k → 2 ^ k ≡ 8 * (2 ^ k / 8)
-eighths k h = ⊎_elim (λ lt. absurd (let below = pow_below k 3 lt in omega arith)) (λ le. whole le) (cases_lt k 3)
-  where
-    whole : 3 ≤ k → 2 ^ k ≡ 8 * (2 ^ k / 8)
-    whole le =
-        let split : k ≡ (k - 3) + 3 = omega arith in
-        let e : 2 ^ k ≡ 2 ^ (k - 3) * 8 = ap (λ n. 2 ^ n) split ∙ pow-add 2 (k - 3) 3 in
-        omega arith
-
 pub open_eighths_are_held : OpenEighthsAreHeld
 open_eighths_are_held number base size n rights few power big high multiple n8 a = (λ h. forth (r.0 h), λ h. r.1 (back h))
   where
@@ -156,7 +146,9 @@ open_eighths_are_held number base size n rights few power big high multiple n8 a
     r = held rights number base size (closed_from n) few power (omega arith) high multiple srd_byte a
 
     whole : size ≡ 8 * (size / 8)
-    whole = subst (λ (s : ℕ). s ≡ 8 * (s / 8)) (sym power.1) (eighths power.0 (subst (λ (s : ℕ). 2 ^ 8 ≤ s) power.1 big))
+    whole =
+        let eight = smaller_exponent 8 power.0 (subst (λ (s : ℕ). 2 ^ 8 ≤ s) power.1 big) in
+        subst (λ (s : ℕ). s ≡ 8 * (s / 8)) (sym power.1) (sym (eight_eighths power.0 (omega (arith, eight))))
 
     some : 0 < size / 8
     some = omega arith

@@ -15,6 +15,7 @@ use Rattle.machine_protection.specs.Regions.{ap_reads, ap_writes, holds, allows,
 use Rattle.machine_protection.specs.Laws.{RegionsHoldTheirBlocks, RegionsGiveTheirRights}
 use Rattle.machine_protection.specs.RegionWords.{rights_word, size_field, region_of, IsHeld, may}
 use Rattle.machine_protection.proofs.Powers.{trailing_zeros-pow}
+use Rattle.base_laws.proofs.Powers.{smaller_exponent}
 
 -- the parts of MPU_RASR
 pub record Parts (rights : Rights) (srd s r : ℕ) : Type 0 where
@@ -60,10 +61,6 @@ same_eighth q k a three low high =
     let part : 2 ^ k / 8 ≡ e = ap (λ n. n / 8) whole ∙ mul-div_cancel e (lit< tt) in
     ap₂ (λ m n. (a - q * m) / n) whole part ∙ sym (eighth e q a pe low' high')
 
--- a block of 256 bytes or more has an exponent of 8 or more
-large : (k : ℕ) → 2 ^ 8 ≤ 2 ^ k → 8 ≤ k
-large k le = ⊎_elim (λ lt. absurd (let below = pow_below k 8 lt in omega arith)) (λ ge. ge) (cases_lt k 8)
-
 -- a region whose parts are these holds what its block leaves
 is_held : (g : Region) (q k srd a : ℕ) → 5 ≤ k → g.rasr % 2 ≡ 1 → size_log g ≡ k → g.rasr / 2 ^ 8 % 2 ^ 8 ≡ srd → g.rbar / 2 ^ k ≡ q → (holds g a ≡ true) ↔ IsHeld (q * 2 ^ k) (2 ^ k) srd a
 is_held g q k srd a five on size eighths base = (λ h. forth ((holds_says g a).0 h), λ h. (holds_says g a).1 (back h))
@@ -82,7 +79,7 @@ is_held g q k srd a five on size eighths base = (λ h. forth ((holds_says g a).0
           from_base = b.0;
           below_end = b.1;
           not_taken_out = λ big. (
-              let eight = large k big in
+              let eight = smaller_exponent 8 k big in
               let is_not = t.3 (omega arith) in
               let same = bit b.0 b.1 in
               let two = bit_at-lt srd ((a - q * 2 ^ k) / (2 ^ k / 8)) in

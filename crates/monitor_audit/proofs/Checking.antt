@@ -1,10 +1,9 @@
 -- The check of the tables, in two parts: the rules of the eight words, and that the tables' block lies in flash.
-use Rattle.std.proofs.Common.{◌≡◌, ℕ, suc, ◌+◌, ◌-◌, ◌*◌, ◌^◌, ◌<◌, ◌≤◌, Bool, true, false, ◌&&◌, List, [], ◌∷◌, length, drop, max, nat_eq, nat_le, Option, Some, None, refl, sym, ap, ap₂, ◌∙◌, subst, arith}
-use Rattle.std.specs.Prelude.{sum_by, find, unwrap_or}
+use Rattle.std.proofs.Common.{◌≡◌, ℕ, ◌+◌, ◌-◌, ◌*◌, ◌^◌, ◌<◌, ◌≤◌, Bool, true, false, ◌&&◌, List, length, drop, max, nat_eq, nat_le, Option, Some, None, refl, sym, ap, ap₂, ◌∙◌, arith}
+use Rattle.std.specs.Prelude.{sum_by}
 use Rattle.std.proofs.lemmas.Bool.{leb-true, le-leb, and_parts as both}
 use Rattle.base_ranges.specs.Ranges.{is_inside}
 use Rattle.machine_devices.specs.declared.image.Image.{Image}
-use Rattle.plan_model.specs.Covers.{powers_of_two, least_power}
 use Rattle.plan_model.specs.Blocks.{block}
 use Rattle.monitor_model.specs.declared.tables.Tables.{Tables}
 use Rattle.monitor_model.specs.Records.{words_in}
@@ -16,6 +15,7 @@ use Rattle.monitor_laws.proofs.ReadTables.{length-records, slot_count}
 use Rattle.monitor_audit.specs.declared.head.Head.{Head}
 use Rattle.monitor_audit.specs.Heads.{IsHead, KeepsLimits, head_fails, words_offset}
 use Rattle.base_laws.proofs.Tests.{is_false}
+use Rattle.plan_model.proofs.Powers.{block_holds}
 
 -- ---- tests
 
@@ -181,19 +181,6 @@ module _ (code : MonitorCode) (i : Image) (h : Head) (is : IsHead (drop page_siz
       (le-leb (area_end t) (t.base + tables_size t) y)
 
 -- ---- blocks
-
--- a block holds what it is the block of
-holds : (n : ℕ) (xs : List ℕ) (d : ℕ) → n ≤ d → n ≤ unwrap_or (find (nat_le n) xs) d
-holds n [] d h = h
-holds n (x ∷ xs) d h = by_test (nat_le n x) refl (holds n xs d h)
-  where
-    by_test : (b : Bool) → nat_le n x ≡ b → n ≤ unwrap_or (find (nat_le n) xs) d → n ≤ unwrap_or (Rattle.std.proofs.Common.cond b (Some x) (find (nat_le n) xs)) d
-    by_test true e l = leb-true n x e
-    by_test false e l = l
-
-pub block_holds : (n : ℕ) → n ≤ 2 ^ 32 → n ≤ block n
-unfolding block least_power
-block_holds n h = holds n powers_of_two (2 ^ 32) h
 
 -- the size of the tables' block
 pub size_is : (t : Tables) (n : ℕ) → area_end t ≡ t.base + n → tables_size t ≡ max (block n) (greatest_code t.comps)

@@ -33,7 +33,8 @@ use Rattle.monitor_confined.proofs.EnterLaw.{if_resumes, both, same_parts, round
 use Rattle.monitor_confined.proofs.Changes.{top_below}
 use Rattle.monitor_confined.proofs.SvcLaw.{svc_change}
 use Rattle.monitor_runs.specs.Moves.{Moves, Enters, Leaves, Lends, Unlends, Waits}
-use Rattle.monitor_runs.proofs.Waiting.{even_back, own_pc, above_goes_on, return_pushed}
+use Rattle.base_laws.proofs.Multiples.{even_back}
+use Rattle.monitor_runs.proofs.Waiting.{own_pc, above_goes_on, return_pushed}
 
 -- a number of eighths that is not 0 has at least 64 bytes
 whole_eighths : (k e : ℕ) → 0 < k * e → 64 ≤ e → 64 ≤ k * e

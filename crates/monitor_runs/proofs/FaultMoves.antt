@@ -25,7 +25,8 @@ use Rattle.monitor_confined.proofs.EnterLaw.{same_parts}
 use Rattle.monitor_runs.specs.Moves.{Moves, Stores, Loads, IsLent}
 use Rattle.monitor_runs.proofs.Tests.{either_way, lent_found, lent_from_base}
 use Rattle.monitor_runs.proofs.RefusedStores.{IsStore, OfWord, OfByte, OfHalf, refused_off}
-use Rattle.monitor_runs.proofs.Waiting.{IsOff, even_back, moved_pc, second_pushed, store_keeps}
+use Rattle.base_laws.proofs.Multiples.{even_back}
+use Rattle.monitor_runs.proofs.Waiting.{IsOff, moved_pc, second_pushed, store_keeps}
 
 module _ (laws : FrameLaws) (i : Image) (t : Tables) (p : Placed i t) (s u : State) (m : MonitorBlock) (h : InvariantHolds i t m s) (z : FaultStatus) (fault : IsFault i s z) (opened : is_frame_open by_mpu i s ≡ true)
     (leads : ThreadStep i s (turn by_mpu i s)) (enters : step i s ≡ at_memfault i z s) (n : MonitorBlock) (q : ℕ) (after : List ℕ) (on : GoesOn i t s u m n q after) where

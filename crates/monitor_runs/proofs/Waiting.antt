@@ -21,9 +21,6 @@ use Rattle.monitor_runs.specs.Moves.{GoesOnAt}
 abbrev pub IsOff : (frame address width : ℕ) → Type 0
 IsOff f a w = (a + w ≤ f) ⊎ (f + 32 ≤ a)
 
-pub even_back : (n : ℕ) → n % 2 ≡ 0 → (n + 2) / 2 * 2 ≡ n + 2
-even_back n e = omega (arith, e)
-
 module _ (laws : FrameLaws) (i : Image) (t : Tables) (p : Placed i t) (s u : State) (m : MonitorBlock) (h : InvariantHolds i t m s) (opened : is_frame_open by_mpu i s ≡ true) (n ret : ℕ) (z : FaultStatus) (small : ret < 2 ^ 32) where
   abbrev psp : ℕ
   psp = frame_at s.core.sp

@@ -43,10 +43,6 @@ last_set (p ∷ q ∷ r ∷ []) a h = absurd (omega (arith, h))
 last_set (p ∷ q ∷ r ∷ s ∷ []) a h = absurd (omega (arith, h))
 last_set (p ∷ q ∷ r ∷ s ∷ u ∷ high) a h = refl
 
--- the address behind an instruction, as a return takes it
-pub even_back : (n : ℕ) → n % 2 ≡ 0 → (n + 2) / 2 * 2 ≡ n + 2
-even_back n h = omega arith
-
 word_small : (n : ℕ) → n < 2 ^ 32 → word n ≡ n
 word_small n h = omega arith
 

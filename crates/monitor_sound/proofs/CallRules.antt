@@ -28,7 +28,8 @@ use Rattle.monitor_sound.proofs.ThreadLaws.{ThreadLaws}
 use Rattle.monitor_sound.proofs.Permits.{fetches}
 use Rattle.monitor_sound.proofs.Memory.{Off, read_off_all}
 use Rattle.monitor_sound.proofs.Outcomes.{lends, unlends}
-use Rattle.monitor_sound.proofs.Behind.{even_back, Behind, behind, pc_is, sp_is}
+use Rattle.base_laws.proofs.Multiples.{even_back}
+use Rattle.monitor_sound.proofs.Behind.{Behind, behind, pc_is, sp_is}
 use Rattle.monitor_sound.proofs.Room.{Pushed, from_base, below_top, back_up, sp_low, open_frame, pushed, svc_turn, is_svc, tells}
 use Rattle.monitor_sound.proofs.Places.{room_of, ram_low}
 use Rattle.monitor_sound.proofs.Resumed.{resumed}

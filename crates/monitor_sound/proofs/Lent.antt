@@ -47,7 +47,8 @@ use Rattle.monitor_sound.proofs.Direct.{free_fetch, by_lead}
 use Rattle.monitor_sound.proofs.Permits.{fetches}
 use Rattle.monitor_sound.proofs.Memory.{Off, read_off, read_off_all, write_past}
 use Rattle.monitor_sound.proofs.Outcomes.{IsStoreForm, IsLoadForm, IsWidth, IsCovered, store_form, load_form, covered, half_of, stores, loads}
-use Rattle.monitor_sound.proofs.Behind.{even_back, Behind, behind, pc_is, sp_is, lr_is, flags_are, on_psp, other_is, low_at, r12_is, holds_again}
+use Rattle.base_laws.proofs.Multiples.{even_back}
+use Rattle.monitor_sound.proofs.Behind.{Behind, behind, pc_is, sp_is, lr_is, flags_are, on_psp, other_is, low_at, r12_is, holds_again}
 use Rattle.monitor_sound.proofs.Room.{Pushed, stack_places, sp_low, from_base, below_top, back_up, open_frame, pushed, store_refused, load_refused, tells}
 use Rattle.monitor_sound.proofs.Frames.{off_frame, moved, with_first}
 use Rattle.machine_model.proofs.Frames.{core_of}

@@ -1,9 +1,8 @@
 -- Places of the stack in the words of a simulation: offsets from RAM's base, and eighths.
 use Rattle.std.specs.Prelude.{if◌then◌else◌}
 use Rattle.std.proofs.Common.{◌≡◌, ℕ, zero, suc, ◌+◌, ◌-◌, ◌*◌, ◌/◌, ◌%◌, ◌^◌, ◌<◌, ◌≤◌, Bool, false, List, length, nat_eq, refl, sym, ap, ap₂, ◌∙◌, arith}
-use Rattle.std.proofs.Math.Pow.{mod-mod-pow}
-use Rattle.std.proofs.Math.Nat.{zero-mod}
 use Rattle.std.proofs.lemmas.Nat.{pow_below}
+use Rattle.base_laws.proofs.Powers.{multiple_of_power, eight_eighths}
 use Rattle.std.proofs.lemmas.Bool.Decides.{nat_tests}
 use Rattle.base_words.specs.Bytes.{read}
 use Rattle.machine_devices.specs.declared.image.Image.{Image}
@@ -27,33 +26,17 @@ use Rattle.monitor_sound.specs.Accesses.{StubStands}
 use Rattle.monitor_sound.proofs.ThreadLaws.{ThreadLaws}
 use Rattle.monitor_sound.proofs.Permits.{reads_stack, writes_stack, fetches, fetches_tables, loads, stores, top_inside}
 
--- a power of two from 8 on
-eight_times : (n : ℕ) → 8 * 2 ^ n ≡ 2 ^ (3 + n)
-eight_times zero = refl
-eight_times (suc n) = let ih = eight_times n in let e : 3 + suc n ≡ suc (3 + n) = omega arith in rw e (omega (arith, ih))
-
-eighths_of : (k : ℕ) → 9 ≤ k → 8 * (2 ^ k / 8) ≡ 2 ^ k
-eighths_of k lo =
-    let z : k ≡ 3 + (k - 3) = omega (arith, lo) in
-    let e : 2 ^ k ≡ 8 * 2 ^ (k - 3) = ap (λ (n : ℕ). 2 ^ n) z ∙ sym (eight_times (k - 3)) in
-    omega (arith, e)
-
-aligned_of : (b k : ℕ) → 9 ≤ k → b % 2 ^ k ≡ 0 → b % 8 ≡ 0
-aligned_of b k lo h =
-    let z : k - 3 + 3 ≡ k = omega (arith, lo) in
-    sym (mod-mod-pow b (k - 3) 3) ∙ ap (λ (n : ℕ). b % 2 ^ n % 2 ^ 3) z ∙ ap (λ (n : ℕ). n % 2 ^ 3) h ∙ zero-mod (2 ^ 3)
-
 module _ (i : Image) (t : Tables) (p : Placed i t) where
   pub whole : 8 * eighth t ≡ t.stack.size
   whole =
       let k = p.stack.size in
       let e : t.stack.size ≡ 2 ^ k.0 = p.stack_size ∙ k.3 in
-      ap (λ (n : ℕ). 8 * (n / 8)) e ∙ eighths_of k.0 k.1 ∙ sym e
+      ap (λ (n : ℕ). 8 * (n / 8)) e ∙ eight_eighths k.0 (let lo = k.1 in omega (arith, lo)) ∙ sym e
 
   pub base_aligned : t.stack.base % 8 ≡ 0
   base_aligned =
       let k = p.stack.size in
-      aligned_of t.stack.base k.0 k.1 (ap₂ (λ (b z : ℕ). b % z) p.stack_base (sym k.3) ∙ p.stack.aligned)
+      multiple_of_power t.stack.base 3 k.0 (let lo = k.1 in omega (arith, lo)) (ap₂ (λ (b z : ℕ). b % z) p.stack_base (sym k.3) ∙ p.stack.aligned)
 
   pub least : 256 < t.stack.size
   least =

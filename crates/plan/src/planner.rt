@@ -2,7 +2,7 @@
 
 ghost use Rattle.std.specs.Prelude.{◌≡◌, ◌≤◌, length, IfOk, IfErr};
 ghost use Rattle.ir_program.specs.Seen.{program_of};
-ghost use Rattle.plan_model.specs.Boards.{IsBoard, slots_of};
+ghost use Rattle.plan_model.specs.Boards.{IsBoard};
 ghost use Rattle.plan_model.specs.CompileLimits.{KeepsLimits};
 ghost use Rattle.plan_model.specs.FinalGraph.{IsFinal};
 ghost use Rattle.plan.specs.Planned.{IsPlaced, IsPlannedFor};
@@ -31,16 +31,6 @@ pub struct PlannedFirmware {
     pub sizes: Sizes,
     /// Where the blocks of its image lie.
     pub plan: Plan,
-}
-
-/// The number of slots of a board.
-pub fn slots(board: &Board) -> u32
-    requires { IsBoard board.now }
-    ensures slots { result ≡ slots_of board.now }
-    ensures two { 2 ≤ result }
-    ensures few { result ≤ 12 }
-{
-    board.regions - 4
 }
 
 /// The final graph of the compartments of a firmware.
@@ -77,7 +67,7 @@ fn placed(
     ensures placed { IfOk result (λ made. IsPlaced (program_of program.now) needs.now board.now made) }
     ensures refused { IfErr result (λ refusal. IsRoomRefusal (program_of program.now) needs.now graph board.now refusal) }
 {
-    let sizes = sizes(alloc, program, needs, &graph, slots(board))?;
+    let sizes = sizes(alloc, program, needs, &graph, board.slots())?;
     match place(alloc, program, &graph, &sizes, board) {
         Ok(plan) => Ok(PlannedFirmware { graph, sizes, plan }),
         Err(refusal) => Err(unplaced(refusal)),
@@ -99,7 +89,7 @@ fn planned_within_limits(
     ensures ok { IfOk result (IsPlannedFor (program_of program.now) needs.now groups board.now) }
     ensures refused { IfErr result (IsPlanningRefusal (program_of program.now) needs.now groups board.now) }
 {
-    let graph = final_graph(alloc, program, needs, groups, slots(board))?;
+    let graph = final_graph(alloc, program, needs, groups, board.slots())?;
     if let Some(meeting) = first_meeting(board.denied.as_slice(), program, &graph) {
         return Err(PlanningRefusal::Denied(meeting));
     }

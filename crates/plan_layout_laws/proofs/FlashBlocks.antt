@@ -1,5 +1,5 @@
 -- The blocks of flash lie in it, at multiples of their sizes, and apart.
-use Rattle.std.proofs.Common.{◌≡◌, ◌≢◌, ℕ, suc, ◌+◌, ◌<◌, ◌≤◌, inl, inr, List, [], ◌∷◌, length, get_or, take, sum, nat_lt, nat_eq, refl, sym, ap, subst, ◌∙◌, ltb-true, eqb-true, le-ltb, cond, max, lit<, arith}
+use Rattle.std.proofs.Common.{◌≡◌, ◌≢◌, ℕ, suc, ◌+◌, ◌<◌, ◌≤◌, inl, inr, List, [], ◌∷◌, length, get_or, take, sum, nat_lt, nat_eq, refl, sym, ap, subst, ◌∙◌, ltb-true, eqb-true, le-ltb, cond, max, arith}
 use Rattle.std.specs.List.{fold}
 use Rattle.std.specs.Prelude.{filter}
 use Rattle.std.proofs.lemmas.List.{length-map}
@@ -18,7 +18,7 @@ use Rattle.plan_model.specs.FlashPlacement.{bytes_before, flash_blocks, code_blo
 use Rattle.plan_model.specs.Placement.{plan_of, compartment_spot, no_spot}
 use Rattle.plan_layout.proofs.Before.{before_fits}
 use Rattle.plan_layout_laws.specs.FlashLaws.{IsIn, IsAligned, ShareNothing, IsFlashLaid, FlashIsLaid}
-use Rattle.plan_layout_laws.proofs.Multiples.{IsMultiple, both, through, no_rest, from_no_rest, sum_of_some}
+use Rattle.base_laws.proofs.Multiples.{IsMultiple, both, through, no_rest, from_no_rest, sum_of_some}
 use Rattle.plan_layout_laws.proofs.Order.{one_first}
 use Rattle.plan_layout_laws.proofs.PowersOfTwo.{IsPower, flash_powers, quotient, mebibyte}
 use Rattle.base_laws.specs.Lists.{Each}
@@ -50,7 +50,7 @@ module _ (s : Sizes) (b : Board) (ok : IsBoard b) (room : flash_needed s ≤ b.f
       let fits = before_fits sizes k l in
       let most = ok.flash_size.most in
       let small : v ≤ 0x100000 = omega arith in
-      let base = through v 0x100000 b.flash_base (multiple v 0x100000 p mebibyte small) (from_no_rest 0x100000 b.flash_base (lit< tt) ok.flash_aligned) in
+      let base = through v 0x100000 b.flash_base (multiple v 0x100000 p mebibyte small) (from_no_rest 0x100000 b.flash_base ok.flash_aligned) in
       no_rest v (b.flash_base + bytes_before sizes k) (both v b.flash_base (bytes_before sizes k) base (before_is_multiple k p))
 
   apart_at : (j k : ℕ) → j < length sizes → k < length sizes → j ≢ k → ShareNothing (flash_spot b.flash_base sizes j) (flash_spot b.flash_base sizes k)

@@ -1,7 +1,5 @@
 -- Each byte of a global stands at an address that its block holds.
-use Rattle.std.proofs.Common.{◌≡◌, ℕ, zero, suc, ◌+◌, ◌*◌, ◌/◌, ◌^◌, ◌<◌, ◌≤◌, Bool, true, false, ◌&&◌, cond, List, map, Option, Some, None, nat_le, nat_lt, refl, sym, subst, leb-true, arith}
-use Rattle.std.specs.Prelude.{find, unwrap_or}
-use Rattle.std.specs.List.{range_with_len}
+use Rattle.std.proofs.Common.{◌≡◌, ℕ, ◌+◌, ◌*◌, ◌/◌, ◌^◌, ◌<◌, ◌≤◌, Bool, true, false, ◌&&◌, cond, List, Option, Some, None, nat_lt, refl, sym, subst, leb-true, arith}
 use Rattle.std.proofs.lemmas.Bool.{and_parts}
 use Rattle.ir_model.specs.Resolved.{Program}
 use Rattle.plan_model.specs.declared.graph.DataRegion.{DataRegion}
@@ -10,12 +8,12 @@ use Rattle.plan_model.specs.declared.plan.Board.{Board}
 use Rattle.plan_model.specs.declared.plan.Sizes.{Sizes}
 use Rattle.plan_model.specs.declared.plan.Plan.{Plan}
 use Rattle.plan_model.specs.Boards.{IsBoard}
-use Rattle.plan_model.specs.Covers.{least_power}
 use Rattle.plan_model.specs.Lists.{has}
 use Rattle.plan_model.specs.Regions.{region_at, no_region, global_size}
 use Rattle.plan_model.specs.Blocks.{block, has_eighths, open_eighths, region_bytes, offset_in_region}
 use Rattle.plan_model.specs.RamBlocks.{RamUse, ForRegion, ForUnwritten}
 use Rattle.plan_model.specs.Placement.{Fits, plan_of, region_with, global_address, address_in}
+use Rattle.plan_model.proofs.Powers.{small_block}
 use Rattle.plan_layout.proofs.Searches.{position_is}
 use Rattle.plan_layout_laws.specs.GlobalLaws.{HasAlignments, GlobalsAreHeld}
 use Rattle.plan_layout_laws.specs.RamLaws.{open_bytes, IsAmong, HoldsAddress}
@@ -37,20 +35,6 @@ open_enough size bytes l = by (has_eighths size && nat_lt (open_eighths size byt
         omega arith
     by false e = l
 
--- a block that 32 bits tell holds its bytes
-passes : (test : ℕ → Bool) (a n v : ℕ) → unwrap_or (find test (map (λ k. 2 ^ k) (range_with_len a n))) (2 ^ 32) ≡ v → v < 2 ^ 32 → test v ≡ true
-passes test a zero v e l = absurd (omega arith)
-passes test a (suc n) v e l = by (test (2 ^ a)) refl e (λ h. passes test (a + 1) n v h l)
-  where
-    by : (c : Bool) → test (2 ^ a) ≡ c → unwrap_or (cond c (Some (2 ^ a)) (find test (map (λ k. 2 ^ k) (range_with_len (a + 1) n)))) (2 ^ 32) ≡ v
-        → (unwrap_or (find test (map (λ k. 2 ^ k) (range_with_len (a + 1) n))) (2 ^ 32) ≡ v → test v ≡ true) → test v ≡ true
-    by true t h ih = subst (λ w. test w ≡ true) h t
-    by false t h ih = ih h
-
-block_holds : (n : ℕ) → block n < 2 ^ 32 → n ≤ block n
-unfolding block least_power
-block_holds n l = leb-true n (block n) (passes (nat_le n) 5 28 (block n) refl l)
-
 module _ (p : Program) (f : Final) (s : Sizes) (b : Board) (ok : IsBoard b) (fits : Fits p f s b) (aligns : HasAlignments p) where
   abbrev plan : Plan
   plan = plan_of p f s b
@@ -64,7 +48,7 @@ module _ (p : Program) (f : Final) (s : Sizes) (b : Board) (ok : IsBoard b) (fit
       let low = (ram_is_inside p f s b u ok fits there).0.0 in
       let most = ok.ram_size.most in
       let small : block n < 2 ^ 32 = omega arith in
-      let holds = block_holds n small in
+      let holds = (small_block n small).1 in
       open_enough (block_for plan u).size n (omega arith)
 
   -- a byte of a global of a block

@@ -2,7 +2,6 @@ mod Filling
 mod FlashBlocks
 mod GlobalsHeld
 mod Hits
-mod Multiples
 pub mod Offsets
 mod Order
 pub mod PowersOfTwo

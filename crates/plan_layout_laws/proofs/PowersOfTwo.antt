@@ -1,17 +1,17 @@
 -- Sizes of blocks are powers of two.
-use Rattle.std.proofs.Common.{◌≡◌, ℕ, zero, suc, ◌+◌, ◌-◌, ◌*◌, ◌^◌, ◌<◌, ◌≤◌, ◌⊎◌, inl, inr, Bool, true, false, cond, List, [], ◌∷◌, map, max, Some, nat_le, refl, sym, ap, subst, ◌∙◌, arith}
-use Rattle.std.specs.List.{fold, range_with_len}
-use Rattle.std.specs.Prelude.{find, unwrap_or}
+use Rattle.std.proofs.Common.{◌≡◌, ℕ, ◌+◌, ◌-◌, ◌*◌, ◌^◌, ◌<◌, ◌≤◌, ◌⊎◌, inl, inr, List, [], ◌∷◌, map, max, refl, sym, ap, subst, ◌∙◌, arith}
+use Rattle.std.specs.List.{fold}
 use Rattle.std.proofs.lemmas.Nat.{pow-add, pow_pos}
 use Rattle.std.proofs.lemmas.Bool.{cases_lt}
 use mathlib.Core.Logic.{⊎_elim}
 use Rattle.plan_model.specs.declared.plan.Sizes.{Sizes}
 use Rattle.plan_model.specs.Choices.{greatest}
-use Rattle.plan_model.specs.Covers.{least_power}
 use Rattle.plan_model.specs.Blocks.{block}
 use Rattle.plan_model.specs.FlashPlacement.{flash_blocks, code_blocks, tables_block}
+use Rattle.base_ranges.specs.Ranges.{IsPowerBetween}
 use Rattle.base_laws.specs.Lists.{Each}
 use Rattle.base_laws.proofs.Powers.{smaller_exponent}
+use Rattle.plan_model.proofs.Powers.{block_found}
 
 pub record IsPower (x : ℕ) : Type 0 where
   pub exponent : ℕ
@@ -22,18 +22,12 @@ mebibyte = record { exponent = 20; is = refl }
 
 -- ---- blocks
 
-found_power : (test : ℕ → Bool) (a n : ℕ) → IsPower (unwrap_or (find test (map (λ k. 2 ^ k) (range_with_len a n))) (2 ^ 32))
-found_power test a zero = record { exponent = 32; is = refl }
-found_power test a (suc n) = by (test (2 ^ a)) (found_power test (a + 1) n)
-  where
-    by : (b : Bool) → IsPower (unwrap_or (find test (map (λ k. 2 ^ k) (range_with_len (a + 1) n))) (2 ^ 32))
-        → IsPower (unwrap_or (cond b (Some (2 ^ a)) (find test (map (λ k. 2 ^ k) (range_with_len (a + 1) n)))) (2 ^ 32))
-    by true ih = record { exponent = a; is = refl }
-    by false ih = ih
-
 pub block_is_power : (n : ℕ) → IsPower (block n)
-unfolding block least_power
-block_is_power n = found_power (nat_le n) 5 28
+block_is_power n = by (block_found n)
+  where
+    by : (IsPowerBetween 5 32 (block n) × (n ≤ block n)) ⊎ (block n ≡ 2 ^ 32) → IsPower (block n)
+    by (inl h) = record { exponent = h.0.0; is = h.0.3 }
+    by (inr e) = record { exponent = 32; is = e }
 
 -- no block is empty
 pub block_positive : (n : ℕ) → 0 < block n

@@ -1,5 +1,5 @@
 -- In a plan the blocks of RAM lie in it, at multiples of their sizes.
-use Rattle.std.proofs.Common.{◌≡◌, ℕ, ◌+◌, ◌<◌, ◌≤◌, List, [], ◌∷◌, length, nat_lt, refl, sym, ap, subst, ◌∙◌, lit<, arith}
+use Rattle.std.proofs.Common.{◌≡◌, ℕ, ◌+◌, ◌<◌, ◌≤◌, List, [], ◌∷◌, length, nat_lt, refl, sym, ap, subst, ◌∙◌, arith}
 use Rattle.std.proofs.lemmas.Bool.{cases_lt}
 use mathlib.Core.Logic.{⊎_elim}
 use Rattle.ir_model.specs.Resolved.{Program}
@@ -17,7 +17,7 @@ use Rattle.plan_model.specs.RamPlacement.{Ram, PlacedBlock, empty_ram, stack_fir
 use Rattle.plan_model.specs.Placement.{plan_of, placed_for, region_spot}
 use Rattle.plan_layout_laws.specs.FlashLaws.{IsIn, IsAligned}
 use Rattle.plan_layout_laws.specs.RamPlaces.{block_for, RamIsInside}
-use Rattle.plan_layout_laws.proofs.Multiples.{through, no_rest, from_no_rest}
+use Rattle.base_laws.proofs.Multiples.{through, no_rest, from_no_rest}
 use Rattle.plan_layout_laws.proofs.PowersOfTwo.{IsPower, quotient, block_is_power, mebibyte}
 use Rattle.plan_layout_laws.proofs.Uses.{use_block, AreOwn, all_own, ordered_own, positive}
 use Rattle.plan_layout_laws.proofs.Within.{Within, found_in, IsBlockIn, filled_within, empty_within, none_used, stack_within, gap_divides, falls_ordered}
@@ -70,7 +70,7 @@ module _ (p : Program) (f : Final) (s : Sizes) (b : Board) (ok : IsBoard b) (roo
       let most = ok.ram_size.most in
       let small : t.spot.size ≤ 0x100000 = omega arith in
       let d = quotient t.spot.size 0x100000 h.power mebibyte small in
-      let base = through t.spot.size 0x100000 b.ram_base (record { times = d.0; is = d.1 }) (from_no_rest 0x100000 b.ram_base (lit< tt) ok.ram_aligned) in
+      let base = through t.spot.size 0x100000 b.ram_base (record { times = d.0; is = d.1 }) (from_no_rest 0x100000 b.ram_base ok.ram_aligned) in
       ((low, omega arith), no_rest t.spot.size t.spot.base (h.aligned base))
 
   spot_in_ram : (u : RamUse) (t : Spot) → t ≡ placed_for ram u → 0 < t.size → IsIn t b.ram_base b.ram_size × IsAligned t

@@ -10,7 +10,7 @@ use Rattle.plan_model.specs.RamPlacement.{Tail, Ram, PlacedBlock, no_tail, tail_
 use Rattle.plan_model.specs.Placement.{no_spot}
 use Rattle.plan_layout_laws.proofs.Filling.{ArePositive, tail_found, largest_at_least}
 use Rattle.plan_layout_laws.proofs.Hits.{has_tail}
-use Rattle.plan_layout_laws.proofs.Multiples.{IsMultiple, both, none}
+use Rattle.base_laws.proofs.Multiples.{IsMultiple, both, none}
 use Rattle.plan_layout_laws.proofs.PowersOfTwo.{IsPower, quotient, greater}
 use Rattle.ir_model.proofs.Counting.{rounded_at_least}
 use Rattle.base_laws.specs.Lists.{Each}

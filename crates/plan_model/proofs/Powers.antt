@@ -1,5 +1,5 @@
 -- The least power of two that passes a test, and the block that holds so many bytes.
-use Rattle.std.proofs.Common.{◌≡◌, ℕ, zero, suc, ◌+◌, ◌/◌, ◌^◌, ◌≤◌, ◌<◌, Bool, true, false, cond, List, Some, max, nat_le, refl, sym, ap, subst, ◌∙◌, arith}
+use Rattle.std.proofs.Common.{◌≡◌, ℕ, zero, suc, ◌+◌, ◌/◌, ◌^◌, ◌≤◌, ◌<◌, ◌⊎◌, inl, inr, Bool, true, false, cond, List, Some, max, nat_le, refl, lit<, sym, ap, subst, ◌∙◌, arith}
 use Rattle.std.specs.Prelude.{find, map, unwrap_or}
 use Rattle.std.specs.List.{range_with_len}
 use Rattle.std.specs.Int.{IsPowerOfTwo}
@@ -7,7 +7,8 @@ use Rattle.std.proofs.Math.Pow.{pow_mono}
 use Rattle.std.proofs.Math.Nat.{pow-suc}
 use Rattle.std.proofs.lemmas.Bool.{cases_lt, leb-true, le-leb}
 use mathlib.Core.Logic.{⊎_elim}
-use Rattle.plan_model.specs.Covers.{least_power}
+use Rattle.base_ranges.specs.Ranges.{IsPowerBetween}
+use Rattle.plan_model.specs.Covers.{powers_of_two, least_power}
 use Rattle.plan_model.specs.Blocks.{block}
 
 -- the powers from 2 ^ a on, n of them
@@ -54,3 +55,48 @@ next_power_is_block n p small (k, is) least most =
 
     below : (i : ℕ) → 5 ≤ i → i < k → 2 ^ i < n
     below i u v = let twice = pow-suc 2 i in let le = pow_mono {i = suc i} {j = k} v in let from = pow_mono {i = 5} {j = i} u in omega arith
+
+-- ---- a block of any number of bytes
+
+-- a power that passes the test, or the last of all
+abbrev Found : (test : ℕ → Bool) → (low size : ℕ) → Type 0
+Found test a n = (IsPowerBetween a 32 n × (test n ≡ true)) ⊎ (n ≡ 2 ^ 32)
+
+lower : (test : ℕ → Bool) (a n : ℕ) → Found test (a + 1) n → Found test a n
+lower test a n (inl h) = inl ((h.0.0, omega (arith, h.0.1), h.0.2, h.0.3), h.1)
+lower test a n (inr e) = inr e
+
+found : (test : ℕ → Bool) (a n : ℕ) → a + n ≤ 33 → Found test a (unwrap_or (find test (map (λ k. 2 ^ k) (range_with_len a n))) (2 ^ 32))
+found test a zero h = inr refl
+found test a (suc n) h = by (test (2 ^ a)) refl (found test (a + 1) n (omega (arith, h)))
+  where
+    by : (b : Bool) → test (2 ^ a) ≡ b → Found test (a + 1) (unwrap_or (find test (map (λ k. 2 ^ k) (range_with_len (a + 1) n))) (2 ^ 32))
+        → Found test a (unwrap_or (cond b (Some (2 ^ a)) (find test (map (λ k. 2 ^ k) (range_with_len (a + 1) n)))) (2 ^ 32))
+    by true e ih = inl ((a, omega arith, omega (arith, h), refl), e)
+    by false e ih = lower test a _ ih
+
+-- it is a power of two from 32 on, and all that is to lie there has room; or it is 2 ^ 32
+pub block_found : (n : ℕ) → (IsPowerBetween 5 32 (block n) × (n ≤ block n)) ⊎ (block n ≡ 2 ^ 32)
+unfolding block least_power
+block_found n = go (found (nat_le n) 5 28 (lit< tt))
+  where
+    go : Found (nat_le n) 5 (unwrap_or (find (nat_le n) powers_of_two) (2 ^ 32))
+        → (IsPowerBetween 5 32 (unwrap_or (find (nat_le n) powers_of_two) (2 ^ 32)) × (n ≤ unwrap_or (find (nat_le n) powers_of_two) (2 ^ 32))) ⊎ (unwrap_or (find (nat_le n) powers_of_two) (2 ^ 32) ≡ 2 ^ 32)
+    go (inl h) = inl (h.0, leb-true n (unwrap_or (find (nat_le n) powers_of_two) (2 ^ 32)) h.1)
+    go (inr e) = inr e
+
+-- where it is below 2 ^ 32
+pub small_block : (n : ℕ) → block n < 2 ^ 32 → IsPowerBetween 5 32 (block n) × (n ≤ block n)
+small_block n small = by (block_found n)
+  where
+    by : (IsPowerBetween 5 32 (block n) × (n ≤ block n)) ⊎ (block n ≡ 2 ^ 32) → IsPowerBetween 5 32 (block n) × (n ≤ block n)
+    by (inl h) = h
+    by (inr e) = absurd (omega (arith, small, e))
+
+-- and of so few bytes
+pub block_holds : (n : ℕ) → n ≤ 2 ^ 32 → n ≤ block n
+block_holds n few = by (block_found n)
+  where
+    by : (IsPowerBetween 5 32 (block n) × (n ≤ block n)) ⊎ (block n ≡ 2 ^ 32) → n ≤ block n
+    by (inl h) = h.1
+    by (inr e) = omega (arith, few, e)

@@ -1,5 +1,8 @@
 //! A board, and where the blocks of an image lie on it.
 
+ghost use Rattle.std.specs.Prelude.{◌≡◌, ◌≤◌};
+ghost use Rattle.plan_model.specs.Boards.{IsBoard, slots_of};
+
 use crate::Denied;
 use base_lists::ListVec;
 
@@ -42,6 +45,17 @@ pub struct Board {
     pub closed: bool,
     /// The ranges of devices that no compartment may ever reach, in order of their names.
     pub denied: ListVec<Denied>,
+}
+
+impl Board {
+    /// How many slots its protection unit has: the regions beyond the first four.
+    pub fn slots(&self) -> u32
+        ensures slots { result ≡ slots_of self.now }
+        ensures two { IsBoard self.now → 2 ≤ result }
+        ensures few { IsBoard self.now → result ≤ 12 }
+    {
+        self.regions.saturating_sub(4)
+    }
 }
 
 /// How much is to be placed in flash, in bytes.

@@ -9,6 +9,12 @@ use Rattle.aces_explain.specs.PlanTold.{flash_told}
 use Rattle.plan.proofs.Kept.{final_groups}
 use Rattle.aces_explain.proofs.plan_telling.flash_of_final.Goals as goal
 
+pub final_graph-requires-clause-two : goal.final_graph-requires-clause-two
+final_graph-requires-clause-two c = c.slots-count.ensures.two c.requires.board
+
+pub sizes-requires-clause-few : goal.sizes-requires-clause-few
+sizes-requires-clause-few c = c.slots-count.ensures.few c.requires.board
+
 pub sizes-requires-clause-each : goal.sizes-requires-clause-each
 sizes-requires-clause-each c =
     ap (λ (g : Groups). length g.of) (final_groups (program_of c.args.program.now) c.args.needs.now c.args.groups c.slots-count.result c.in_ok-graph.graph c.in_ok-graph.ensures)

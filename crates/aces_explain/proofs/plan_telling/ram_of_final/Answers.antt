@@ -4,6 +4,9 @@ use Rattle.ir_program.specs.Seen.{program_of}
 use Rattle.plan_model.specs.FinalGraph.{IsFinal}
 use Rattle.aces_explain.proofs.plan_telling.ram_of_final.Goals as goal
 
+pub final_graph-requires-clause-two : goal.final_graph-requires-clause-two
+final_graph-requires-clause-two c = c.slots.ensures.two c.requires.board
+
 pub returns : goal.returns
 returns c =
     let p = program_of c.args.program.now in

@@ -4,6 +4,9 @@ use Rattle.code_model.specs.Planned.{sizes_of}
 use Rattle.plan.proofs.Refusing.{placed_is}
 use Rattle.plan.proofs.planner.placed.Goals as goal
 
+pub sizes-requires-clause-few : goal.sizes-requires-clause-few
+sizes-requires-clause-few c = c.slots.ensures.few c.requires.board
+
 pub returns-in-Ok-clause-placed : goal.returns-in-Ok-clause-placed
 returns-in-Ok-clause-placed c =
     let p = program_of c.args.program.now in

@@ -7,6 +7,9 @@ use Rattle.plan.proofs.Kept.{final_groups}
 use Rattle.plan.proofs.Refusing.{planned_is, refused_is}
 use Rattle.plan.proofs.planner.planned_within_limits.Goals as goal
 
+pub final_graph-requires-clause-two : goal.final_graph-requires-clause-two
+final_graph-requires-clause-two c = c.slots.ensures.two c.requires.board
+
 pub placed-requires-clause-each : goal.placed-requires-clause-each
 placed-requires-clause-each c =
     ap (λ (g : Groups). length g.of) (final_groups (program_of c.args.program.now) c.args.needs.now c.args.groups c.slots.result c.in_ok-graph.graph c.in_ok-graph.ensures)
