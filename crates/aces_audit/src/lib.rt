@@ -3,6 +3,7 @@
 
 mod all_lines;
 pub mod answer_text;
+mod asking;
 pub mod auditing;
 mod compartments;
 pub mod laws;

@@ -23,7 +23,8 @@ use Rattle.aces_files.specs.Answers.{RunAnswer, BinAnswer}
 use Rattle.aces_files.proofs.Answering.{by_file_ends, by_files_end}
 use Rattle.aces_files.specs.Outcomes.{Outcome}
 use Rattle.aces_files.specs.Contents.{IsContentFault}
-use Rattle.aces_audit.specs.Answers.{AuditAnswer, TablesAnswer}
+use Rattle.aces_audit.specs.Answers.{AuditAnswer, TablesAnswer, audit_text, tables_text}
+use Rattle.aces_audit.proofs.Answering.{image_done}
 use Rattle.aces_firmwares.specs.Answers.{CheckAnswer, SourceAnswer}
 use Rattle.aces_firmwares.specs.Firmwares.{IsFirmware}
 use Rattle.aces_files.specs.Known.{Held, HoldsWithin, Exceeds}
@@ -46,8 +47,7 @@ use Rattle.aces_explain.proofs.Explainable.{explain_done}
 use Rattle.aces_explain.proofs.PlanAnswering.{explain_plan_done}
 use Rattle.aces_cli.specs.Answer.{CompileAnswer, unplanned, compiled, Answer}
 use Rattle.aces_cli.specs.Complete.{IsCompilable, IsBoundable, IsGood, run, bin, compile, check, source, list, stack, audit, tables, where_it_is, who, symbols, help, selftest, watch, state, why, explain, explain_plan, IsDoneBy, GoodRequestsAreDone}
-use Rattle.aces_cli.proofs.Runnable.{Laws, run_done, bin_done}
-use Rattle.aces_cli.proofs.Auditable.{audit_done, tables_done}
+use Rattle.aces_cli.proofs.Runnable.{Laws, is_image, run_done, bin_done}
 use Rattle.aces_cli.proofs.SourceRunnable.{is_firmware, firmwares_are_one, check_done, source_done, is_faultless}
 
 -- boards of texts
@@ -130,9 +130,9 @@ module _ (laws : Laws) where
     good_is_done r o (stack firmware board policy bytes t h k g) a =
         by_files_end Has Exceeds one fits (λ n. (n ≡ 0) ⊎ (n ≡ 8)) (firmware_origin firmware) (file_origin board) (StackAnswers firmware board policy) bytes t o h k (stack_done firmware board policy bytes t o g) a
     good_is_done r o (audit image bytes i h g) a =
-        by_file_ends Has Exceeds one fits (λ n. (n ≡ 0) ⊎ (n ≡ 8)) (file_origin image) (AuditAnswer image) bytes o h (audit_done laws image bytes o i g) a
+        by_file_ends Has Exceeds one fits (λ n. (n ≡ 0) ⊎ (n ≡ 8)) (file_origin image) (AuditAnswer image) bytes o h (image_done audit_text image bytes o (λ f k. is_image laws i bytes f g k)) a
     good_is_done r o (tables image bytes i h g) a =
-        by_file_ends Has Exceeds one fits (λ n. (n ≡ 0) ⊎ (n ≡ 8)) (file_origin image) (TablesAnswer image) bytes o h (tables_done laws image bytes o i g) a
+        by_file_ends Has Exceeds one fits (λ n. (n ≡ 0) ⊎ (n ≡ 8)) (file_origin image) (TablesAnswer image) bytes o h (image_done tables_text image bytes o (λ f k. is_image laws i bytes f g k)) a
     good_is_done r o (who firmware board policy bytes t h k g) a =
         by_files_end Has Exceeds one fits (λ n. n ≡ 0) (firmware_origin firmware) (file_origin board) (WhoAnswer firmware board policy) bytes t o h k (who_done firmware board policy bytes t o (λ p. plan_none firmware board policy bytes t p g)) a
     good_is_done r o (symbols firmware board policy bytes t h k g) a =

@@ -5,8 +5,8 @@ use Rattle.aces_words.specs.Requests.{Request, Run, Bin, Compile, Check, Source,
 use Rattle.aces_files.specs.Outcomes.{Outcome}
 use Rattle.aces_files.specs.Answers.{RunAnswer, BinAnswer}
 use Rattle.aces_files.proofs.Answering.{by_file_keeps, by_files_keep, run_writes_nothing, bin_writes_nothing}
-use Rattle.aces_audit.specs.Answers.{AuditAnswer, TablesAnswer}
-use Rattle.aces_audit.proofs.Answering.{audit_writes_nothing, tables_write_nothing}
+use Rattle.aces_audit.specs.Answers.{AuditAnswer, TablesAnswer, audit_text, tables_text}
+use Rattle.aces_audit.proofs.Answering.{image_writes_nothing}
 use Rattle.aces_firmwares.specs.Answers.{CheckAnswer, SourceAnswer}
 use Rattle.aces_firmwares.proofs.Answering.{check_writes_nothing, source_writes_nothing}
 use Rattle.aces_plans.specs.Answers.{ListAnswer, StackAnswers, SymbolsAnswer}
@@ -47,8 +47,8 @@ module _ (Has : Origin → List ℕ → Type 0) (Exceeds : Origin → Type 0) wh
       by_files_keep Has Exceeds (firmware_origin firmware) (file_origin board) (ListAnswer firmware board policy) (λ bytes text p b m. list_writes_nothing firmware board policy bytes text p b) o a n
   writes_nothing (Stack firmware board policy) o a n =
       by_files_keep Has Exceeds (firmware_origin firmware) (file_origin board) (StackAnswers firmware board policy) (λ bytes text p b m. stack_writes_nothing firmware board policy bytes text p b) o a n
-  writes_nothing (Audit image) o a n = by_file_keeps Has Exceeds (file_origin image) (AuditAnswer image) (λ bytes p b m. audit_writes_nothing image bytes p b) o a n
-  writes_nothing (Tables image) o a n = by_file_keeps Has Exceeds (file_origin image) (TablesAnswer image) (λ bytes p b m. tables_write_nothing image bytes p b) o a n
+  writes_nothing (Audit image) o a n = by_file_keeps Has Exceeds (file_origin image) (AuditAnswer image) (λ bytes p b m. image_writes_nothing audit_text image bytes p b) o a n
+  writes_nothing (Tables image) o a n = by_file_keeps Has Exceeds (file_origin image) (TablesAnswer image) (λ bytes p b m. image_writes_nothing tables_text image bytes p b) o a n
   writes_nothing (Who firmware board policy) o a n =
       by_files_keep Has Exceeds (firmware_origin firmware) (file_origin board) (WhoAnswer firmware board policy) (λ bytes text p b m. who_writes_nothing firmware board policy bytes text p b) o a n
   writes_nothing (Symbols firmware board policy) o a n =

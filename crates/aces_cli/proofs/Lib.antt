@@ -1,7 +1,6 @@
 mod Answered
 mod Kept
 mod Runnable
-mod Auditable
 mod Inspectable
 mod SourceRunnable
 mod Good

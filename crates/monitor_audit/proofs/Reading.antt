@@ -1,6 +1,15 @@
 -- Records that are read one by one: what was made and what is left are the whole.
 use Rattle.std.proofs.Common.{◌≡◌, ℕ, suc, ◌+◌, ◌-◌, ◌*◌, ◌<◌, ◌≤◌, List, [], ◌∷◌, ◌++◌, sym, ap, ap₂, ◌∙◌, append-nil, append_assoc, arith}
+use Rattle.std.proofs.lemmas.Nat.{mul-le}
 use Rattle.monitor_model.specs.FromFlash.{records}
+
+-- a record lies in front of what is behind the last
+pub fits : (z n k s m l : ℕ) → k < n → m ≡ z → s + z * n ≤ l → s + m * k + z ≤ l
+fits z n k s m l lt e room =
+    let below : z * (k + 1) ≤ z * n = mul-le z (k + 1) z n (omega arith) (omega (arith, lt)) in
+    let next : s + z * (k + 1) ≡ s + z * k + z = grind arith in
+    let same : s + m * k + z ≡ s + z * k + z = ap (λ a. s + a * k + z) e in
+    omega (arith, below, next, same, room)
 
 -- one record more
 pub one_more : {A : Type 0} (f : ℕ → A) (z n k s : ℕ) (xs : List A) (x : A) → k < n → x ≡ f (s + z * k)

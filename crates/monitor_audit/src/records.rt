@@ -1,6 +1,6 @@
 //! The records of the tables, read one behind the other.
 
-ghost use Rattle.std.specs.Prelude.{◌≡◌, ◌+◌, ◌*◌, ◌≤◌, length, IfOk};
+ghost use Rattle.std.specs.Prelude.{◌≡◌, ℕ, ◌+◌, ◌*◌, ◌≤◌, List, length, IfOk};
 ghost use Rattle.monitor_model.specs.FromFlash as flash;
 
 use crate::numbers::word;
@@ -9,30 +9,128 @@ use machine_protection::region::Region;
 use monitor_model::{CompRecord, InitRecord, SiteRecord, TargetRecord};
 use std::alloc::{AllocError, Global};
 
-/// Both words of a region.
-fn region(bytes: &[u8], at: usize) -> Region
-    requires { at + 8 ≤ length bytes.now }
-    ensures { result ≡ flash.region_at bytes.now at }
-{
-    Region {
-        rbar: word(bytes, at),
-        rasr: word(bytes, at + 4),
+/// What stands in flash in a number of bytes that its type tells.
+pub(crate) trait Stored: Copy {
+    /// Its number of bytes.
+    ghost width: { ℕ };
+
+    /// What stands at an offset of these bytes.
+    ghost stands_at: { List ℕ → ℕ → Self };
+
+    /// How many bytes it takes.
+    fn width() -> usize
+        ensures { result ≡ width };
+
+    /// What stands at an offset.
+    fn read(bytes: &[u8], at: usize) -> Self
+        requires { at + width ≤ length bytes.now }
+        ensures { result ≡ stands_at bytes.now at };
+}
+
+/// A word.
+impl Stored for u32 {
+    ghost width = { 4 };
+
+    ghost stands_at = { flash.word_at };
+
+    fn width() -> usize {
+        4
+    }
+
+    fn read(bytes: &[u8], at: usize) -> u32 {
+        word(bytes, at)
     }
 }
 
-/// So many regions.
-fn regions(
+/// Both words of a region.
+impl Stored for Region {
+    ghost width = { 8 };
+
+    ghost stands_at = { flash.region_at };
+
+    fn width() -> usize {
+        8
+    }
+
+    fn read(bytes: &[u8], at: usize) -> Region {
+        Region {
+            rbar: word(bytes, at),
+            rasr: word(bytes, at + 4),
+        }
+    }
+}
+
+/// The record of a site.
+impl Stored for SiteRecord {
+    ghost width = { 12 };
+
+    ghost stands_at = { flash.site_record_at };
+
+    fn width() -> usize {
+        12
+    }
+
+    fn read(bytes: &[u8], at: usize) -> SiteRecord {
+        SiteRecord {
+            ret: word(bytes, at),
+            first: word(bytes, at + 4),
+            count: word(bytes, at + 8),
+        }
+    }
+}
+
+/// The record of a target.
+impl Stored for TargetRecord {
+    ghost width = { 8 };
+
+    ghost stands_at = { flash.target_record_at };
+
+    fn width() -> usize {
+        8
+    }
+
+    fn read(bytes: &[u8], at: usize) -> TargetRecord {
+        TargetRecord {
+            entry: word(bytes, at),
+            compartment: word(bytes, at + 4),
+        }
+    }
+}
+
+/// The record of a range with initial words.
+impl Stored for InitRecord {
+    ghost width = { 12 };
+
+    ghost stands_at = { flash.init_record_at };
+
+    fn width() -> usize {
+        12
+    }
+
+    fn read(bytes: &[u8], at: usize) -> InitRecord {
+        InitRecord {
+            at: word(bytes, at),
+            end: word(bytes, at + 4),
+            from: word(bytes, at + 8),
+        }
+    }
+}
+
+/// So many of a type, one behind the other.
+pub(crate) fn all_read<T: Stored>(
     alloc: Global,
     bytes: &[u8],
     start: usize,
     count: usize,
-) -> Result<Vec<Region>, AllocError>
-    requires { start + 8 * count ≤ length bytes.now }
-    ensures { IfOk result (λ all. all.items ≡ flash.records (flash.region_at bytes.now) 8 count start) }
+) -> Result<Vec<T>, AllocError>
+    requires { start + T.width * count ≤ length bytes.now }
+    ensures { IfOk result (λ all. all.items ≡ flash.records (T.stands_at bytes.now) T.width count start) }
 {
+    let size = T::width();
     let mut all = Vec::new(alloc);
     for number in 0..count {
-        all.push(region(bytes, start + 8 * number))?;
+        let at = start + size * number;
+        all.push(T::read(bytes, at))?;
     }
     Ok(all)
 }
@@ -47,8 +145,8 @@ fn compartment(
     requires { at + (8 * slots + 16) ≤ length bytes.now }
     ensures { IfOk result (λ made. made ≡ flash.comp_record_at bytes.now slots at) }
 {
-    let code = region(bytes, at);
-    let all = regions(alloc, bytes, at + 8, slots)?;
+    let code = Region::read(bytes, at);
+    let all = all_read::<Region>(alloc, bytes, at + 8, slots)?;
     Ok(CompRecord {
         code,
         slots: ListVec::new(all),
@@ -74,109 +172,6 @@ pub(crate) fn compartments(
     let mut all = Vec::new(alloc);
     for number in 0..count {
         all.push(compartment(alloc, bytes, start + size * number, slots)?)?;
-    }
-    Ok(all)
-}
-
-/// The record of a site.
-fn site(bytes: &[u8], at: usize) -> SiteRecord
-    requires { at + 12 ≤ length bytes.now }
-    ensures { result ≡ flash.site_record_at bytes.now at }
-{
-    SiteRecord {
-        ret: word(bytes, at),
-        first: word(bytes, at + 4),
-        count: word(bytes, at + 8),
-    }
-}
-
-/// The records of so many sites.
-pub(crate) fn sites(
-    alloc: Global,
-    bytes: &[u8],
-    start: usize,
-    count: usize,
-) -> Result<Vec<SiteRecord>, AllocError>
-    requires { start + 12 * count ≤ length bytes.now }
-    ensures { IfOk result (λ all. all.items ≡ flash.records (flash.site_record_at bytes.now) 12 count start) }
-{
-    let mut all = Vec::new(alloc);
-    for number in 0..count {
-        all.push(site(bytes, start + 12 * number))?;
-    }
-    Ok(all)
-}
-
-/// The record of a target.
-fn target(bytes: &[u8], at: usize) -> TargetRecord
-    requires { at + 8 ≤ length bytes.now }
-    ensures { result ≡ flash.target_record_at bytes.now at }
-{
-    TargetRecord {
-        entry: word(bytes, at),
-        compartment: word(bytes, at + 4),
-    }
-}
-
-/// The records of so many targets.
-pub(crate) fn targets(
-    alloc: Global,
-    bytes: &[u8],
-    start: usize,
-    count: usize,
-) -> Result<Vec<TargetRecord>, AllocError>
-    requires { start + 8 * count ≤ length bytes.now }
-    ensures { IfOk result (λ all. all.items ≡ flash.records (flash.target_record_at bytes.now) 8 count start) }
-{
-    let mut all = Vec::new(alloc);
-    for number in 0..count {
-        all.push(target(bytes, start + 8 * number))?;
-    }
-    Ok(all)
-}
-
-/// So many words.
-pub(crate) fn all_words(
-    alloc: Global,
-    bytes: &[u8],
-    start: usize,
-    count: usize,
-) -> Result<Vec<u32>, AllocError>
-    requires { start + 4 * count ≤ length bytes.now }
-    ensures { IfOk result (λ all. all.items ≡ flash.records (flash.word_at bytes.now) 4 count start) }
-{
-    let mut all = Vec::new(alloc);
-    for number in 0..count {
-        all.push(word(bytes, start + 4 * number))?;
-    }
-    Ok(all)
-}
-
-/// The record of a range with initial words.
-fn init(bytes: &[u8], at: usize) -> InitRecord
-    requires { at + 12 ≤ length bytes.now }
-    ensures { result ≡ flash.init_record_at bytes.now at }
-{
-    InitRecord {
-        at: word(bytes, at),
-        end: word(bytes, at + 4),
-        from: word(bytes, at + 8),
-    }
-}
-
-/// The records of so many ranges.
-pub(crate) fn inits(
-    alloc: Global,
-    bytes: &[u8],
-    start: usize,
-    count: usize,
-) -> Result<Vec<InitRecord>, AllocError>
-    requires { start + 12 * count ≤ length bytes.now }
-    ensures { IfOk result (λ all. all.items ≡ flash.records (flash.init_record_at bytes.now) 12 count start) }
-{
-    let mut all = Vec::new(alloc);
-    for number in 0..count {
-        all.push(init(bytes, start + 12 * number))?;
     }
     Ok(all)
 }

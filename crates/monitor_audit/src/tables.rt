@@ -12,11 +12,11 @@ ghost use Rattle.monitor_audit.specs.Findings.{IsFound};
 
 use crate::head::{Head, head_fault, read_head};
 use crate::moved::moved_word;
-use crate::records;
+use crate::records::{all_read, compartments};
 use base_lists::ListVec;
 use machine_devices::image::Image;
 use monitor_constants::{block_of, greatest_code, word_count};
-use monitor_model::{InitRecord, Tables};
+use monitor_model::{InitRecord, SiteRecord, Tables, TargetRecord};
 use std::alloc::{AllocError, Global};
 
 /// What is found in the flash of an image.
@@ -89,11 +89,11 @@ fn read_tables(
     let bytes = behind_page(image);
     let slots = image.regions as usize - 4;
     let places = offsets_of(head, slots);
-    let comps = records::compartments(alloc, bytes, 32, head.comps as usize, slots)?;
-    let sites = records::sites(alloc, bytes, places.sites, head.sites as usize)?;
-    let targets = records::targets(alloc, bytes, places.targets, head.targets as usize)?;
-    let lends = records::all_words(alloc, bytes, places.lends, head.lends as usize)?;
-    let words = records::all_words(alloc, bytes, places.words, count)?;
+    let comps = compartments(alloc, bytes, 32, head.comps as usize, slots)?;
+    let sites = all_read::<SiteRecord>(alloc, bytes, places.sites, head.sites as usize)?;
+    let targets = all_read::<TargetRecord>(alloc, bytes, places.targets, head.targets as usize)?;
+    let lends = all_read::<u32>(alloc, bytes, places.lends, head.lends as usize)?;
+    let words = all_read::<u32>(alloc, bytes, places.words, count)?;
     Ok(Tables {
         base: image.flash_base,
         comps: ListVec::new(comps),
@@ -126,7 +126,7 @@ pub fn find_tables(alloc: Global, image: &Image) -> Result<Found, AllocError>
     if places.words > bytes.len() {
         return Ok(Found::Fault(first));
     }
-    let inits = records::inits(alloc, bytes, places.inits, head.inits as usize)?;
+    let inits = all_read::<InitRecord>(alloc, bytes, places.inits, head.inits as usize)?;
     let count = word_count(&inits);
     let end = places.words as u64 + 4 * count;
     if end > bytes.len() as u64 {

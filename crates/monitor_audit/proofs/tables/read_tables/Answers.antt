@@ -11,26 +11,26 @@ compartments-requires-clause-room c =
     let d = length-drop 4096 c.args.image.now.flash in
     omega (arith, l, d, c.requires.room)
 
-pub sites-requires : goal.sites-requires
-sites-requires c =
+pub all_read-requires : goal.all_read-requires
+all_read-requires c =
     let l = ap length c.behind_page-bytes.ensures in
     let d = length-drop 4096 c.args.image.now.flash in
     omega (arith, l, d, c.requires.room, c.offsets_of-places.ensures.sites)
 
-pub targets-requires : goal.targets-requires
-targets-requires c =
+pub all_read-requires-2 : goal.all_read-requires-2
+all_read-requires-2 c =
     let l = ap length c.behind_page-bytes.ensures in
     let d = length-drop 4096 c.args.image.now.flash in
     omega (arith, l, d, c.requires.room, c.offsets_of-places.ensures.sites, c.offsets_of-places.ensures.targets)
 
-pub all_words-requires : goal.all_words-requires
-all_words-requires c =
+pub all_read-requires-3 : goal.all_read-requires-3
+all_read-requires-3 c =
     let l = ap length c.behind_page-bytes.ensures in
     let d = length-drop 4096 c.args.image.now.flash in
     omega (arith, l, d, c.requires.room, c.offsets_of-places.ensures.sites, c.offsets_of-places.ensures.targets, c.offsets_of-places.ensures.lends)
 
-pub all_words-requires-2 : goal.all_words-requires-2
-all_words-requires-2 c =
+pub all_read-requires-4 : goal.all_read-requires-4
+all_read-requires-4 c =
     let l = ap length c.behind_page-bytes.ensures in
     let d = length-drop 4096 c.args.image.now.flash in
     let o = c.offsets_of-places.ensures in
