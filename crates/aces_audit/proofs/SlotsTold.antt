@@ -1,16 +1,14 @@
 -- The word in the line of a slot, by the form of the slot.
-use Rattle.std.proofs.Common.{◌≡◌, ℕ, ◌+◌, ◌-◌, ◌*◌, ◌/◌, ◌%◌, ◌^◌, ◌<◌, ◌⊎◌, inl, inr, Bool, true, false, ◌&&◌, ◌||◌, List, [], codes, nat_eq, refl, ap, ◌∙◌, arith}
+use Rattle.std.proofs.Common.{◌≡◌, ℕ, ◌+◌, ◌-◌, ◌*◌, ◌/◌, ◌%◌, ◌^◌, ◌<◌, ◌⊎◌, inl, inr, true, ◌||◌, List, [], codes, nat_eq, ap, ◌∙◌, arith}
 use Rattle.std.specs.Prelude.{if◌then◌else◌}
 use Rattle.std.proofs.lemmas.Bool.{eqb-true, eq-eqb, ne_eqb, or_cases, and_parts as both}
-use Rattle.machine_devices.specs.declared.image.Image.{Image}
 use Rattle.machine_devices.specs.declared.image.Window.{Window}
 use Rattle.machine_protection.specs.declared.region.Region.{Region}
 use Rattle.machine_protection.specs.declared.words.Rights.{Rights}
 use Rattle.machine_protection.specs.declared.words.Rights.TheVariants.{Background, Ram, Device}
 use Rattle.machine_protection.specs.Regions.{size_log, is_of_legal_size}
 use Rattle.machine_protection.specs.RegionWords.{rights_word}
-use Rattle.monitor_model.specs.declared.tables.Tables.{Tables}
-use Rattle.monitor_model.specs.RegionChecks.{base_of, size_of, taken_out, has_form, holds_data, is_slot, is_free, is_data, is_read_only, is_cover}
+use Rattle.monitor_model.specs.RegionChecks.{base_of, size_of, taken_out, has_form, holds_data, is_free, is_data, is_read_only, is_cover}
 use Rattle.aces_audit.specs.SlotLines.{has_rights, slot_word, slot_line, used_line}
 use Rattle.aces_audit.specs.Laws.{IsUsed, SlotsAreTold}
 

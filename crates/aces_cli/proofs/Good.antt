@@ -1,5 +1,5 @@
 -- A good request has no outcome but the one that says that all was done.
-use Rattle.std.proofs.Common.{◌≡◌, ℕ, ◌⊎◌, inl, inr, Bool, true, false, cond, nat_le, length, ◌<◌, ◌≤◌, IsSomeAnd, List, Option, Some, None, refl, sym, ◌∙◌, subst, arith}
+use Rattle.std.proofs.Common.{◌≡◌, ℕ, ◌⊎◌, inl, inr, Bool, true, false, cond, nat_le, length, ◌<◌, ◌≤◌, IsSomeAnd, List, Option, Some, refl, sym, ◌∙◌, subst, arith}
 use Rattle.ir_model.specs.Plain.{PlainFirmware}
 use Rattle.plan_model.specs.declared.plan.Board.{Board}
 use Rattle.plan_board.specs.declared.fault.BoardFault.{BoardFault}
@@ -30,7 +30,7 @@ use Rattle.aces_firmwares.specs.Firmwares.{IsFirmware}
 use Rattle.aces_files.specs.Known.{Held, HoldsWithin, Exceeds}
 use Rattle.aces_plans.specs.PlanAnswer as plans
 use Rattle.aces_plans.specs.PlanAnswer.{PlanAnswer}
-use Rattle.aces_plans.specs.Answers.{ListAnswer, StackAnswers, SymbolsAnswer, AnswerToList, AnswerToStack, no_firmware, no_board, too_many, bounded}
+use Rattle.aces_plans.specs.Answers.{ListAnswer, StackAnswers, SymbolsAnswer, no_firmware, no_board, too_many, bounded}
 use Rattle.aces_plans.specs.Answers as answers
 use Rattle.aces_who.proofs.Answering.{who_done, good_help}
 use Rattle.aces_who.specs.Answers.{WhoAnswer}

@@ -1,5 +1,5 @@
 -- What reading one file, and then another, did.
-use Rattle.std.proofs.Common.{◌≡◌, ◌∙◌, ℕ, List, ◌++◌, inl, inr, subst}
+use Rattle.std.proofs.Common.{◌∙◌, ℕ, List, ◌++◌, inl, inr, subst}
 use Rattle.std.proofs.lemmas.List.Elements.{All-append, All-weaker}
 use Rattle.base_outside.specs.declared.files.Files as files
 use Rattle.base_outside.specs.Reading.{Reads}

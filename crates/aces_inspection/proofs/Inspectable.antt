@@ -1,8 +1,6 @@
 -- A good request to look into a run has no outcome but the ones that say that all was done.
-use Rattle.std.proofs.Common.{◌≡◌, ℕ, zero, suc, ◌⊎◌, inl, inr, List, None, Some, refl, sym, ◌∙◌, subst}
+use Rattle.std.proofs.Common.{◌≡◌, ℕ, zero, suc, ◌⊎◌, inl, inr, List, refl}
 use Rattle.machine_devices.specs.declared.image.Image.{Image}
-use Rattle.machine_devices.specs.declared.image.Window.{Window}
-use Rattle.machine_devices.specs.Tape as tapes
 use Rattle.machine_image.specs.Text.{IsText}
 use Rattle.machine_model.specs.declared.state.End.{End}
 use Rattle.machine_model.specs.declared.state.End.TheVariants.{Halt, InputEnd, Limit, Stop, Refused}

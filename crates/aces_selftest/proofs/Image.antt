@@ -3,10 +3,9 @@ use Rattle.std.proofs.Common.{◌≡◌, ℕ, ◌≤◌, List, length, map, refl
 use Rattle.std.proofs.lemmas.List.{length-map}
 use Rattle.machine_devices.specs.declared.image.Image.{Image}
 use Rattle.machine_devices.specs.declared.image.Window.{Window}
-use Rattle.ir_program.specs.Windows.{window_of, windows_of}
+use Rattle.ir_program.specs.Windows.{window_of}
 use Rattle.ir_generator.specs.Made.{made}
 use Rattle.ir_generator.specs.Taped.{taped}
-use Rattle.ir_model.specs.declared.firmware.Peripheral.{Peripheral}
 use Rattle.plan_model.specs.declared.groups.Groups.{Groups}
 use Rattle.plan_model.specs.Crossing.{crossing_sites}
 use Rattle.monitor_model.specs.declared.tables.Tables.{Tables}
@@ -17,7 +16,6 @@ use Rattle.monitor_program.specs.TheCode.{monitor_code}
 use Rattle.image_promises.specs.Planned.{planned_tables}
 use Rattle.image_promises.specs.Whole.{PlannedImagesAreSound}
 use Rattle.image_promises.specs.PlannedAudits.{PlannedImagesAreAnsweredYes}
-use Rattle.monitor_audit.specs.declared.answer.Audit.{Audit}
 use Rattle.monitor_audit.specs.declared.answer.Audit.TheVariants.{Yes}
 use Rattle.monitor_audit.specs.Answers.{own_tables, IsAudit}
 use Rattle.aces_selftest.specs.TestBoard.{test_board}

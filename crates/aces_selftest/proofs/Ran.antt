@@ -1,5 +1,5 @@
 -- Runs that were counted are those of the definition.
-use Rattle.std.proofs.Common.{◌≡◌, ℕ, List, length, Option, Bool, Ok, sym, ap, ap₂, ◌∙◌, subst}
+use Rattle.std.proofs.Common.{◌≡◌, ℕ, List, length, Option, Ok, sym, ap, ap₂, ◌∙◌, subst}
 use Rattle.std.specs.Bool.{Decides}
 use Rattle.std.specs.Prelude.{None, unwrap_or}
 use Rattle.machine_devices.specs.declared.image.Image.{Image}
@@ -8,17 +8,15 @@ use Rattle.machine_model.specs.declared.state.End.{End}
 use Rattle.machine_model.specs.declared.state.End.TheVariants.{Limit}
 use Rattle.machine_lines.specs.Lines as machine_lines
 use Rattle.aces_reports.specs.Ends.{status_of}
-use Rattle.aces_files.specs.Outcomes.{Outcome, done}
-use Rattle.ir_model.specs.Plain.{PlainFirmware, funcs_of}
+use Rattle.aces_files.specs.Outcomes.{done}
+use Rattle.ir_model.specs.Plain.{funcs_of}
 use Rattle.ir_model.specs.Resolve.{resolve}
-use Rattle.ir_model.specs.Resolved.{Program}
 use Rattle.ir_model.specs.State.{SourceEnd, start}
-use Rattle.ir_model.specs.Step.{source_step}
 use Rattle.ir_generator.specs.Made.{made}
 use Rattle.ir_generator.specs.Taped.{taped}
 use Rattle.plan_model.specs.Crossing.{crossing_sites}
 use Rattle.aces_printed_runs.specs.PrintedRuns.{begin}
-use Rattle.ir_output.specs.SourceRuns.{ending_of, end_line}
+use Rattle.ir_output.specs.SourceRuns.{end_line}
 use Rattle.aces_selftest.specs.declared.machines.MachineCount.{MachineCount}
 use Rattle.aces_selftest.specs.Counts.{IsSourceCount, IsMachineCount}
 use Rattle.aces_selftest.specs.declared.runs.SourceTest.{SourceTest}

@@ -1,10 +1,9 @@
 -- Where the source ends well, both runs are alike.
 use Rattle.std.specs.Prelude.{codes, unwrap_or}
 use Rattle.std.specs.Bool.{Decides}
-use Rattle.std.proofs.Common.{◌≡◌, ◌≢◌, ℕ, ◌+◌, ◌*◌, ◌≤◌, ◌++◌, List, length, Bool, true, false, Option, Some, None, refl, sym, ap, ◌∙◌, subst, arith}
+use Rattle.std.proofs.Common.{◌≡◌, ◌≢◌, ℕ, ◌+◌, ◌*◌, ◌++◌, List, Bool, true, false, Option, Some, None, refl, sym, ap, ◌∙◌, subst, arith}
 use Rattle.std.proofs.lemmas.Fmt.{decimal_digit}
 use Rattle.machine_devices.specs.declared.image.Image.{Image}
-use Rattle.base_events.specs.declared.event.Event.{Event}
 use Rattle.base_words.specs.Runs.{run, events}
 use Rattle.machine_model.specs.declared.state.End.{End}
 use Rattle.machine_model.specs.declared.state.End.TheVariants.{Limit}
@@ -18,7 +17,7 @@ use Rattle.ir_model.specs.Resolve.{resolve}
 use Rattle.ir_model.specs.Resolved.{Program}
 use Rattle.ir_model.specs.State.{SourceEnd, SourceState, Running, Ended, Returned, OutOfInput, Faulted, start}
 use Rattle.ir_model.specs.Step.{source_turn, source_step, source_event}
-use Rattle.ir_model.specs.Runs.{source_after, source_events}
+use Rattle.ir_model.specs.Runs.{source_after}
 use Rattle.ir_generator.specs.Made.{made}
 use Rattle.ir_generator.specs.Taped.{taped}
 use Rattle.machine_model.specs.Reset.{StartsAreResets}
@@ -28,15 +27,14 @@ use Rattle.plan.specs.declared.refusal.PlanningRefusal.TheVariants as planning
 use Rattle.plan_firmwares.specs.Plannable.{IsPlannable}
 use Rattle.plan_firmwares.specs.Unplanned.{IsRefusedBy}
 use Rattle.plan_firmwares.specs.Laws.{RefusalsAndPlansExclude}
-use Rattle.ir_output.specs.SourceRuns.{ending_of, end_line, source_end}
+use Rattle.ir_output.specs.SourceRuns.{ending_of, end_line}
 use Rattle.machine_output.specs.Runs.{fill}
 use Rattle.aces_printed_runs.specs.PrintedRuns.{begin}
-use Rattle.aces_selftest.specs.TakesSteps.{TakesSteps, machine_ending_of}
+use Rattle.aces_selftest.specs.TakesSteps.{machine_ending_of}
 use Rattle.aces_selftest.proofs.Lengths.{Settled, settled}
-use Rattle.aces_files.specs.Outcomes.{Outcome}
 use Rattle.aces_selftest.specs.TestBoard.{test_board}
 use Rattle.aces_selftest.specs.Lines.{AreAlike, verdict_status}
-use Rattle.aces_selftest.specs.Answers.{source_limit, IsTestImage, groups_of, words_of, TakeSteps, source_ran, image_ran, SelftestAnswer, too_many, lacks_room, tested}
+use Rattle.aces_selftest.specs.Answers.{source_limit, IsTestImage, groups_of, words_of, TakeSteps, source_ran, image_ran, too_many, lacks_room, tested}
 use Rattle.aces_selftest.specs.Laws.{EndsWell, GoodSelftestsAreSame}
 use Rattle.aces_selftest.proofs.Image.{queues}
 

@@ -1,9 +1,8 @@
 -- The initial words of an image are few.
-use Rattle.std.proofs.Common.{◌≡◌, ℕ, ◌+◌, ◌*◌, ◌≤◌, List, ◌++◌, length, flat_map, arith, length-append}
+use Rattle.std.proofs.Common.{ℕ, ◌+◌, ◌≤◌, List, ◌++◌, length, flat_map, arith, length-append}
 use Rattle.machine_devices.specs.declared.image.Image.{Image}
 use Rattle.machine_devices.specs.Rules.{ObeysRules}
 use Rattle.monitor_model.specs.declared.tables.Tables.{Tables}
-use Rattle.monitor_model.specs.Layout.{head_at}
 use Rattle.monitor_model.specs.Area.{HasTables, area, head, compartment_words, site_words, target_words, init_words}
 
 behind : (xs ys : List ℕ) (n : ℕ) → n ≤ length ys → n ≤ length (xs ++ ys)

@@ -1,8 +1,7 @@
 -- A firmware within the limits is not refused for a limit.
-use Rattle.std.proofs.Common.{◌≡◌, ℕ, None, Some, option_map, sym, ap, subst, ◌∙◌}
+use Rattle.std.proofs.Common.{◌≡◌, Some, option_map, sym, ap, subst, ◌∙◌}
 use Rattle.std.proofs.lemmas.Option.{none-some}
 use Rattle.plan_model.specs.declared.needs.Needs.{Needs}
-use Rattle.plan_model.specs.declared.limits.LimitKind.{LimitKind}
 use Rattle.plan_model.specs.CompileLimits.{first_passed}
 use Rattle.plan_limits.specs.Told.{in_32_bits}
 use Rattle.plan_compartments.specs.Divisions.{division}

@@ -1,6 +1,6 @@
 -- The frames of a state are a call path, and where no function that is reached reaches itself they are of functions that differ.
 use Rattle.std.proofs.Common.{◌≡◌, ℕ, ◌+◌, Bool, true, false, ◌&&◌, List, [], ◌∷◌, ◌++◌, Option, Some, None, nat_eq, refl, sym, subst, ◌∙◌, inl, inr, zero-add}
-use Rattle.std.specs.Prelude.{◌⊎◌, Contains, get_or}
+use Rattle.std.specs.Prelude.{Contains, get_or}
 use Rattle.std.proofs.lemmas.Bool.{eqb-true, and_parts}
 use Rattle.std.proofs.lemmas.List.{get_or_default}
 use Rattle.std.proofs.lemmas.List.Quantifiers.{position-Some}

@@ -41,7 +41,7 @@ use Rattle.need_lists.proofs.Parts.{in_none}
 
 window_name : IsWindow (record { name = 84 ∷ 73 ∷ 77 ∷ []; base = 0x40010000; size = 128 })
 unfolding is_name is_reserved reserved declaration_words instruction_words type_words operation_words comparison_words
-window_name = record { named = refl; range = record { power = (7, omega arith, omega arith, refl); aligned = refl; location = (omega arith, omega arith) } }
+window_name = record { named = refl; range = record { power = (7, omega arith, omega arith, refl); aligned = refl; place = (omega arith, omega arith) } }
 
 flash_length : length flash ≡ 1148
 unfolding encode frame_code inst_items term_items inst_size term_size entry_size site_number lend_number
@@ -64,7 +64,7 @@ obeys =
       ram_blocks = refl;
       monitor = inr (refl, (omega arith, omega arith));
       regions = inl refl;
-      stack = inr (record { size = (11, omega arith, omega arith, refl); aligned = refl; location = (omega arith, omega arith) });
+      stack = inr (record { size = (11, omega arith, omega arith, refl); aligned = refl; place = (omega arith, omega arith) });
       count = omega arith;
       windows = (window_name, tt, tt);
     }

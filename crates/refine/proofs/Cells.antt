@@ -58,7 +58,7 @@ cell_ends from to (c ∷ cs) (suc j) l h = cell_ends (c.at + width_of c.ty) to c
 -- a cell that is found at an offset
 pub record Found (cs : List CellPlace) (size c j : ℕ) (t : PlainType) : Type 0 where
   pub below : j < length cs
-  pub location : (cell_in cs j).at ≡ c
+  pub place : (cell_in cs j).at ≡ c
   pub width : width_of (cell_in cs j).ty ≡ width_of t
   pub ty : (cell_in cs j).ty ≡ t
   pub aligned : c % width_of t ≡ 0
@@ -71,7 +71,7 @@ found_cell cs size c j t f a l =
     let n = cell_ends 0 size cs j l f.below in
     record {
       below = f.below;
-      location = p;
+      place = p;
       width = e;
       ty = f.ty;
       aligned = subst (λ (y : ℕ). y % width_of t ≡ 0) p (subst (λ (y : ℕ). (cell_in cs j).at % y ≡ 0) e (a j).aligned);

@@ -22,11 +22,11 @@ use Rattle.monitor_sound.specs.Accesses.{StubStands}
 use Rattle.monitor_sound.specs.HaltingCalls.{ShortCalls}
 use Rattle.refine.specs.Ends.{guard_bytes}
 
--- no home that all may write holds one of these bytes, of whatever compartment
+-- no slot that all may write holds one of these bytes, of whatever compartment
 abbrev pub IsGuarded : Image → Tables → Type 0
 IsGuarded i t =
     (c a : ℕ) → c < length t.comps → a < t.stack.base → t.stack.base ≤ a + guard_bytes →
-    AnyOf (λ (g : Region). (holds g a ≡ true) × (permission g ≡ 3)) (compartment_at t c).homes → ⊥
+    AnyOf (λ (g : Region). (holds g a ≡ true) × (permission g ≡ 3)) (compartment_at t c).slots → ⊥
 
 abbrev pub GuardsRefuse : Type 0
 GuardsRefuse =

@@ -1,4 +1,4 @@
-use Rattle.std.proofs.Common.{◌∙◌, sym, subst}
+use Rattle.std.proofs.Common.{sym, subst}
 use Rattle.ir_model.specs.Plain.{firmware_of}
 use Rattle.aces_explain.specs.Plans.{IsPlanTold, unplanned}
 use Rattle.aces_explain.proofs.planned.unplanned.Goals as goal

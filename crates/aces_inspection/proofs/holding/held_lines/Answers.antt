@@ -2,16 +2,14 @@ use Rattle.std.proofs.Common.{◌≡◌, ◌∙◌, length, ap, sym, subst}
 use Rattle.std.proofs.lemmas.Result.{err_from_is_err_and}
 use Rattle.base_words.specs.Runs.{run}
 use Rattle.machine_devices.specs.Tape.{queues_of}
-use Rattle.machine_model.specs.State.{State}
 use Rattle.machine_model.specs.Step.{step}
-use Rattle.machine_model.specs.Run.{start, after}
+use Rattle.machine_model.specs.Run.{start}
 use Rattle.machine_emulator.specs.Machine.{MachineState}
 use Rattle.machine_output.specs.Runs.{fill}
 use Rattle.aces_files.specs.Contents.{IsNoImage, IsNoTape}
 use Rattle.aces_files.specs.Loads.{IsContentFailure}
 use Rattle.aces_files.proofs.Ends.{content_refused}
 use Rattle.aces_files.proofs.Starting.{queue_count}
-use Rattle.aces_inspection.specs.StateLines.{state_lines}
 use Rattle.aces_inspection.specs.Answers.{StateAnswer, IsRunOut, no_image, no_tape, holds}
 use Rattle.aces_inspection.proofs.holding.held_lines.Goals as goal
 

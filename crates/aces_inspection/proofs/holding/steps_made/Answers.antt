@@ -1,5 +1,5 @@
 use Rattle.std.proofs.Math.Nat.{eq-or-lt_of_le}
-use Rattle.std.proofs.Common.{◌≡◌, ℕ, ◌+◌, ◌<◌, ◌≤◌, inl, inr, None, Some, refl, ap, sym, subst, ◌∙◌, arith}
+use Rattle.std.proofs.Common.{◌≡◌, ℕ, ◌≤◌, inl, inr, None, Some, refl, ap, sym, subst, ◌∙◌, arith}
 use Rattle.base_words.specs.Runs.{run}
 use Rattle.base_words.proofs.Runs.{run_none}
 use Rattle.base_words.proofs.EventLines.{run_behind}

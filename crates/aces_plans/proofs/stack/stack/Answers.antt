@@ -1,6 +1,5 @@
 use Rattle.std.proofs.Common.{refl, sym, subst}
 use Rattle.std.proofs.lemmas.Result.{err_from_is_err_and}
-use Rattle.aces_reports.specs.declared.failure.Done.TheVariants.{Completed}
 use Rattle.base_outside.specs.Sinks.{sink}
 use Rattle.aces_words.specs.Requests.{Stack, file_origin, firmware_origin}
 use Rattle.aces_files.specs.Loads.{IsRefusal, AreNotRead}

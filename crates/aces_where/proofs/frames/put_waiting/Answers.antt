@@ -1,7 +1,6 @@
 use Rattle.std.proofs.Common.{take, get_or, refl, arith}
 use Rattle.ir_model.specs.Plain.{firmware_of}
 use Rattle.ir_program.specs.Seen.{program_of}
-use Rattle.ir_run.specs.declared.reads.FramePlace.{FramePlace}
 use Rattle.plan_report.proofs.Growing.{item_more, put_each}
 use Rattle.aces_where.specs.PlaceLines.{waits_line}
 use Rattle.aces_where.proofs.frames.put_waiting.Goals as goal

@@ -1,9 +1,7 @@
-use Rattle.std.proofs.Common.{◌≡◌, ℕ, ◌+◌, refl, ap, sym, ◌∙◌, arith}
+use Rattle.std.proofs.Common.{◌≡◌, refl, ap, sym, ◌∙◌, arith}
 use Rattle.base_words.specs.Runs.{run}
 use Rattle.base_words.proofs.Runs.{run_none}
 use Rattle.base_words.proofs.EventLines.{run_behind}
-use Rattle.ir_model.specs.Resolved.{Program}
-use Rattle.ir_model.specs.State.{SourceState}
 use Rattle.ir_model.specs.Step.{source_step}
 use Rattle.ir_run.specs.Runs.{RunState}
 use Rattle.aces_where.proofs.running.go.Goals as goal

@@ -1,8 +1,7 @@
-use Rattle.std.proofs.Common.{◌≡◌, ℕ, ◌+◌, ◌≤◌, None, refl, ap, sym, subst, ◌∙◌, arith}
+use Rattle.std.proofs.Common.{◌≡◌, ◌+◌, None, refl, ap, sym, ◌∙◌, arith}
 use Rattle.base_words.specs.Runs.{run}
 use Rattle.base_words.proofs.Runs.{run_none}
 use Rattle.base_words.proofs.EventLines.{run_behind}
-use Rattle.ir_model.specs.State.{SourceState}
 use Rattle.ir_model.specs.Step.{source_step}
 use Rattle.ir_output.specs.SourceRuns.{ending_of}
 use Rattle.ir_output.proofs.Sources.{HasRun, not_begun, ran, told, ends}

@@ -1,10 +1,9 @@
-use Rattle.std.proofs.Common.{◌∙◌, ap, subst}
+use Rattle.std.proofs.Common.{◌∙◌, ap}
 use Rattle.ir_model.specs.Plain.{firmware_of}
 use Rattle.ir_model.specs.Resolve.{resolve}
 use Rattle.ir_run.specs.Runs.{RunState}
 use Rattle.ir_output.specs.SourceRuns.{ending_of}
 use Rattle.ir_output.proofs.Begins.{goes_at_first}
-use Rattle.aces_where.specs.Halts.{IsHalt}
 use Rattle.aces_where.proofs.telling.halted.Goals as goal
 
 pub run_out-requires-clause-first : goal.run_out-requires-clause-first
