@@ -3,8 +3,12 @@
 ghost use Rattle.std.specs.Prelude.{◌≡◌, ◌+◌, ◌*◌, ◌≤◌, length, IfOk};
 ghost use Rattle.machine_devices.specs.Rules.{ObeysRules};
 ghost use Rattle.ir_model.specs.Plain.{firmware_of};
+ghost use Rattle.ir_model.specs.State.{start};
+ghost use Rattle.ir_program.specs.Seen.{program_of, HasCounts};
+ghost use Rattle.ir_run.specs.Runs.{IsChecked};
 ghost use Rattle.aces_printed_runs.specs.PrintedRuns.{begin};
-ghost use Rattle.aces_selftest.specs.Counts.{IsMachineCount};
+ghost use Rattle.aces_selftest.specs.Answers.{source_limit};
+ghost use Rattle.aces_selftest.specs.Counts.{IsSourceCount, IsMachineCount};
 ghost use Rattle.refine_model.specs.Refines as refines;
 ghost use Rattle.aces_selftest.specs.Tested.{IsSourceTest};
 
@@ -12,6 +16,7 @@ use crate::machines::{MachineCount, count_machine};
 use crate::sources::{SourceCount, count_source};
 use aces_files::run::FILL;
 use ir_model::checked::Checked;
+use ir_program::program::Program;
 use ir_run::run::SourceRun;
 use machine_devices::image::Image;
 use machine_devices::tape::Tape;
@@ -30,6 +35,22 @@ pub(crate) struct SourceTest {
     pub(crate) count: SourceCount,
 }
 
+/// Runs a numbered source in these compartments, and counts its steps.
+fn counted(
+    alloc: Global,
+    program: &Program<'_>,
+    compartments: Vec<u32>,
+    tape: Tape,
+) -> Result<SourceCount, AllocError>
+    requires checked { IsChecked (program_of program.now) }
+    requires counts { HasCounts program.now }
+    ensures { IfOk result (IsSourceCount (program_of program.now) compartments.items source_limit (start (program_of program.now) tape)) }
+{
+    let mut run = SourceRun::start(alloc, program, compartments, tape)?;
+    let count = count_source(alloc, &mut run, SOURCE_LIMIT)?;
+    Ok(count)
+}
+
 /// Runs the source of a firmware in the compartments of its files.
 pub(crate) fn run_source(
     alloc: Global,
@@ -46,8 +67,7 @@ pub(crate) fn run_source(
         groups,
     } = analysis;
     let functions = program.funcs.len();
-    let mut run = SourceRun::start(alloc, &program, groups.of.into_vec(), tape)?;
-    let count = count_source(alloc, &mut run, SOURCE_LIMIT)?;
+    let count = counted(alloc, &program, groups.of.into_vec(), tape)?;
     Ok(SourceTest { functions, count })
 }
 

@@ -2,20 +2,14 @@ use Rattle.std.proofs.Common.{ap, ◌∙◌, subst}
 use Rattle.ir_model.specs.Plain.{firmware_of}
 use Rattle.ir_model.specs.Resolved.{Program}
 use Rattle.ir_model.specs.State.{start}
-use Rattle.ir_run.specs.Runs.{RunState}
 use Rattle.plan_model.specs.declared.groups.Groups.{Groups}
 use Rattle.plan_firmwares.proofs.Counting.{each_resolved}
-use Rattle.ir_output.specs.SourceRuns.{ending_of}
 use Rattle.aces_selftest.specs.Counts.{IsSourceCount}
 use Rattle.aces_selftest.specs.Answers.{source_limit}
-use Rattle.aces_selftest.proofs.Starts.{source_goes}
 use Rattle.aces_selftest.proofs.runs.run_source.Goals as goal
 
-pub count_source-requires-clause-begins : goal.count_source-requires-clause-begins
-count_source-requires-clause-begins c = ap (λ (r : RunState). ending_of r.state) c.in_ok-run.ensures ∙ source_goes _ c.args.tape
-
-pub start-requires-clause-checked : goal.start-requires-clause-checked
-start-requires-clause-checked c =
+pub counted-requires-clause-checked : goal.counted-requires-clause-checked
+counted-requires-clause-checked c =
     record {
       firmware = firmware_of c.args.firmware.now;
       typed = c.firmware.ensures.typed;
@@ -23,8 +17,8 @@ start-requires-clause-checked c =
       is = c.in_ok-analysis.ensures.exact.program;
     }
 
-pub start-requires-clause-counts : goal.start-requires-clause-counts
-start-requires-clause-counts c = c.in_ok-analysis.ensures.exact.counts
+pub counted-requires-clause-counts : goal.counted-requires-clause-counts
+counted-requires-clause-counts c = c.in_ok-analysis.ensures.exact.counts
 
 pub returns : goal.returns
 returns c =
@@ -32,10 +26,9 @@ returns c =
     let h = c.in_ok-analysis.ensures.exact in
     let of = c.into_vec.result.items in
     let t = c.in_ok-count.count in
-    let run = subst (λ (r : RunState). IsSourceCount r.program r.compartments source_limit r.state t) c.in_ok-run.ensures c.in_ok-count.ensures in
     record {
       functions = c.len-functions.ensures ∙ each_resolved a.program (firmware_of c.args.firmware.now) h.program;
       compartments = of;
       are = record { needs = a.needs; are_needs = h.needs; same = c.into_vec.ensures ∙ ap (λ (g : Groups). g.of) h.groups };
-      count = subst (λ (p : Program). IsSourceCount p of source_limit (start p c.args.tape) t) h.program run;
+      count = subst (λ (p : Program). IsSourceCount p of source_limit (start p c.args.tape) t) h.program c.in_ok-count.ensures;
     }
