@@ -1,10 +1,8 @@
 -- How groups, needs and plan of a firmware hang together.
-use Rattle.std.proofs.Common.{◌≡◌, ℕ, List, length, refl, ap, sym, subst, ◌∙◌}
+use Rattle.std.proofs.Common.{◌≡◌, ℕ, List, length, ap, sym, subst, ◌∙◌}
 use Rattle.std.proofs.lemmas.List.{length-map}
 use Rattle.std.proofs.lemmas.Slice.Zip.{AllZip-long}
 use Rattle.ir_model.specs.Plain.{PlainFirmware, funcs_of}
-use Rattle.ir_model.specs.Canonical.{IsWithinLimits}
-use Rattle.ir_model.specs.Typing.{IsTyped}
 use Rattle.ir_model.specs.Resolved.{Program}
 use Rattle.ir_model.specs.Resolve.{resolve}
 use Rattle.ir_program.specs.declared.program.Program as programs
@@ -14,11 +12,8 @@ use Rattle.plan_model.specs.declared.groups.Groups.{Groups}
 use Rattle.plan_model.specs.declared.needs.Needs.{Needs}
 use Rattle.plan_model.specs.declared.plan.Board.{Board}
 use Rattle.plan_model.specs.declared.plan.Sizes.{Sizes}
-use Rattle.plan_model.specs.Boards.{IsBoard, slots_of}
 use Rattle.plan_model.specs.Compartments.{AreCompartments, compartments}
-use Rattle.plan_model.specs.CompileLimits.{KeepsLimits}
-use Rattle.plan_model.specs.FinalGraph.{IsFinal}
-use Rattle.plan_model.specs.Placement.{Fits, plan_of}
+use Rattle.plan_model.specs.Placement.{plan_of}
 use Rattle.plan_compartments.specs.Analyses.{AreNeedsOf}
 use Rattle.plan_policies.specs.Callbacks.{AreAnswers}
 use Rattle.machine_devices.specs.declared.image.Image.{Image}

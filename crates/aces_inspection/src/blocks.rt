@@ -1,6 +1,6 @@
 //! The lines of the monitor's block: who runs, which calls wait, and what is lent.
 
-ghost use Rattle.std.specs.Prelude.{◌≡◌, ◌+◌, ◌%◌, ◌<◌, ◌≤◌, ◌^◌, ◌++◌, OnOk};
+ghost use Rattle.std.specs.Prelude.{◌≡◌, ◌+◌, ◌%◌, ◌<◌, ◌++◌, OnOk};
 ghost use Rattle.aces_inspection.specs.MemoryLines as lines;
 
 use crate::words_put::{put_number, put_word};

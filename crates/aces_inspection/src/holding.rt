@@ -1,6 +1,6 @@
 //! `state`: what a machine holds after a run.
 
-ghost use Rattle.std.specs.Prelude.{◌≡◌, ◌≤◌, ℕ, List, None, length, IfOk, IfErr};
+ghost use Rattle.std.specs.Prelude.{◌≡◌, ◌≤◌, None, length, IfOk, IfErr};
 ghost use Rattle.aces_words.specs.Requests.{State as ToState, file_limit};
 ghost use Rattle.base_words.specs.Runs.{run};
 ghost use Rattle.machine_model.specs.Step.{step};

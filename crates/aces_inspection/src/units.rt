@@ -1,6 +1,6 @@
 //! The lines of the protection unit.
 
-ghost use Rattle.std.specs.Prelude.{◌≡◌, ◌≤◌, ◌++◌, OnOk};
+ghost use Rattle.std.specs.Prelude.{◌≡◌, ◌++◌, OnOk};
 ghost use Rattle.aces_inspection.specs.StateLines as lines;
 
 use crate::words_put::{put_number, put_word};

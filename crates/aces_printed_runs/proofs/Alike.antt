@@ -1,5 +1,5 @@
 -- The lines of an image and of the source that it refines are the same.
-use Rattle.std.proofs.Common.{◌≡◌, ℕ, ◌<◌, List, length, Option, ◌++◌, ap, sym, ◌∙◌, arith}
+use Rattle.std.proofs.Common.{◌≡◌, ℕ, List, length, Option, ◌++◌, ap, sym, ◌∙◌, arith}
 use Rattle.std.specs.Prelude.{codes, flat_map, unwrap_or}
 use Rattle.std.proofs.lemmas.Fmt.{decimal_digit}
 use Rattle.machine_devices.specs.declared.image.Image.{Image}

@@ -3,7 +3,7 @@ use Rattle.std.specs.Prelude.{ℕ, ◌+◌, ◌*◌, List, length, None, Bool}
 use Rattle.std.specs.Bool.{Decides}
 use Rattle.machine_devices.specs.declared.image.Image.{Image}
 use Rattle.machine_model.specs.Step.{step, event}
-use Rattle.base_words.specs.Runs.{run, events}
+use Rattle.base_words.specs.Runs.{events}
 use Rattle.machine_lines.specs.Lines as machine_lines
 use Rattle.plan_layout.specs.declared.refusal.Lack.{Lack}
 use Rattle.plan_model.specs.declared.policy.Policy.TheVariants.{Filename}

@@ -1,6 +1,6 @@
 //! `selftest`: what a self-test tells is printed.
 
-ghost use Rattle.std.specs.Prelude.{◌≡◌, ◌≤◌};
+ghost use Rattle.std.specs.Prelude.{◌≤◌};
 ghost use Rattle.base_outside.specs.Sinks.{sink};
 ghost use Rattle.aces_words.specs.Requests.{Selftest as ToSelftest};
 ghost use Rattle.aces_files.specs.CarriesOut.{CarriesOut};

@@ -1,8 +1,7 @@
 //! How a compartment stands to an object.
 
-ghost use Rattle.std.specs.Prelude.{◌≡◌, ◌&&◌, ◌||◌, length};
+ghost use Rattle.std.specs.Prelude.{◌≡◌, ◌&&◌, length};
 ghost use Rattle.std.specs.List.{list_any};
-ghost use Rattle.ir_model.specs.declared.object.ObjId.TheVariants.{Global as TheGlobal};
 ghost use Rattle.ir_model.specs.Resolved.{window_at};
 ghost use Rattle.ir_program.specs.Seen.{program_of, span_of};
 ghost use Rattle.plan_model.specs.declared.graph.DataRegion.{DataRegion as TheRegion};

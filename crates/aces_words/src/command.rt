@@ -1,6 +1,6 @@
 //! What the words behind the program's name ask for.
 
-ghost use Rattle.std.specs.Prelude.{◌≡◌, ℕ, map, string_bytes, IfSome, IfNone};
+ghost use Rattle.std.specs.Prelude.{ℕ, map, string_bytes, IfSome, IfNone};
 ghost use Rattle.aces_words.specs.Requests.{Help, Selftest, Asks, IsUsage};
 ghost use Rattle.aces_words.specs.Commands.{request_of};
 

@@ -1,7 +1,7 @@
 //! Ranges of addresses, and where the window of a peripheral may lie.
 #![tactic(auto)]
 
-ghost use Rattle.std.specs.Prelude.{◌≡◌, ◌<◌, ◌≤◌};
+ghost use Rattle.std.specs.Prelude.{◌≡◌, ◌<◌};
 ghost use Rattle.base_ranges.specs.Ranges as ranges;
 
 /// The first address of the peripherals' part of the memory map.

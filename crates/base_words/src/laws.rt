@@ -2,7 +2,7 @@
 
 ghost use Rattle.std.specs.Prelude.{ℕ, suc, ◌≡◌, ◌≢◌, ◌+◌, ◌-◌, ◌*◌, ◌/◌, ◌%◌, ◌^◌, ◌<◌, ◌≤◌, List, [], ◌∷◌, ◌++◌, length, slice_index, nat_eq, nat_lt, nat_le, not, if◌then◌else◌, option_to_list, ℤ, pos, ◌+ℤ◌, FitsSigned, int_rem, Option, Bool, false};
 ghost use Rattle.std.specs.Int.{w32};
-ghost use Rattle.std.proofs.Common.{to_z, of_z};
+ghost use Rattle.std.proofs.Common.{to_z};
 ghost use Rattle.base_words.specs.Arithmetic.{word, moved, unsigned_quotient, signed_quotient, unsigned_remainder, signed_remainder, bit_clear, shift_amount, shift_left, shift_right, shift_right_signed, rotate_right, is_bit_set, shifted_left_carry, shifted_right_carry, signed_less, signed_at_most};
 ghost use Rattle.base_words.specs.Bytes.{read, write, cut, write_all, AreBytes};
 ghost use Rattle.base_words.specs.declared.conditions.Flags.{Flags};

@@ -1,6 +1,6 @@
 //! The parts of a frame are apart. Each function is a law and does nothing.
 
-ghost use Rattle.std.specs.Prelude.{ℕ, ◌≡◌, ◌+◌, ◌<◌, ◌≤◌, ◌%◌, List, length, Option, Some};
+ghost use Rattle.std.specs.Prelude.{ℕ, ◌≡◌, ◌+◌, ◌<◌, ◌≤◌, ◌%◌, List, length, Some};
 ghost use Rattle.std.specs.List.{slice_get, Contains};
 ghost use Rattle.ir_model.specs.Plain.{PlainBinding, PlainFunc, PlainFirmware, regs_of, funcs_of};
 ghost use Rattle.ir_model.specs.Layout.{Known, known, shape};

@@ -1,9 +1,8 @@
 //! Where the code of places stands in a function, found by a walk from one place to the next. None where a number takes more than
 //! 32 bits, or where no instruction stands at a place.
 
-ghost use Rattle.std.specs.Prelude.{◌≡◌, ℕ, List, [], IfSome};
+ghost use Rattle.std.specs.Prelude.{◌≡◌, List, [], IfSome};
 ghost use Rattle.ir_program.specs.Seen.{routine_of};
-ghost use Rattle.code_model.specs.declared.places.CallSite as call_site;
 ghost use Rattle.code_model.specs.Sizes as sizes;
 ghost use Rattle.code_offsets.specs.Walks.{IsReached};
 

@@ -2,7 +2,6 @@
 //! 32 bits.
 
 ghost use Rattle.std.specs.Prelude.{◌≡◌, ◌<◌, length, map, unwrap_or, IfOk, IfSome};
-ghost use Rattle.std.specs.List.{All};
 ghost use Rattle.ir_model.specs.Resolved.{NumberedWindow};
 ghost use Rattle.ir_program.specs.Seen.{program_of};
 ghost use Rattle.plan_model.specs.Lists.{numbers_below};

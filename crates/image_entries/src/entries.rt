@@ -1,11 +1,9 @@
 //! Where functions begin: each compartment's stand one behind the other in its block. None where a number takes more than 32 bits.
 
-ghost use Rattle.std.specs.Prelude.{◌≡◌, ◌<◌, ◌≤◌, ℕ, List, length, map, count_by, is_some, IfOk, IfSome};
-ghost use Rattle.std.proofs.Math.ListN.{take};
+ghost use Rattle.std.specs.Prelude.{◌≡◌, ◌<◌, ℕ, List, length, map, count_by, is_some, IfOk, IfSome};
 ghost use Rattle.ir_program.specs.Seen.{program_of};
 ghost use Rattle.plan_model.specs.Lists.{numbers_below};
 ghost use Rattle.code_model.specs.CompartmentCode as compartments;
-ghost use Rattle.code_model.specs.CompartmentCode.{members_from};
 ghost use Rattle.image_entries.specs.Bases.{base_in, entry_in, entries_in};
 ghost use Rattle.image_entries.specs.Grouped.{groups_in, HasEachLend};
 

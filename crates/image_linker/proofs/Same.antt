@@ -1,5 +1,5 @@
 -- The tables and the flash that the code makes are those of the definitions.
-use Rattle.std.proofs.Common.{◌≡◌, ℕ, suc, ◌+◌, ◌-◌, List, [], ◌∷◌, length, map, flat_map, fold, get_or, Option, refl, ap, sym, ◌∙◌, subst, length-append, arith}
+use Rattle.std.proofs.Common.{◌≡◌, ℕ, suc, ◌+◌, ◌-◌, List, [], ◌∷◌, length, map, flat_map, fold, get_or, refl, ap, sym, ◌∙◌, subst, length-append, arith}
 use Rattle.std.proofs.lemmas.List.{length-map}
 use Rattle.std.proofs.lemmas.List.Sums.{sum_by-cons}
 use Rattle.base_words.specs.Bytes.{write_all}
@@ -13,17 +13,16 @@ use Rattle.plan_model.specs.declared.plan.Plan.{Plan}
 use Rattle.plan_model.specs.declared.plan.Board.{Board}
 use Rattle.plan_model.specs.Lists.{numbers_below}
 use Rattle.plan_model.specs.Crossing.{crossing_sites, target_count}
-use Rattle.plan_model.specs.Lending.{lent, lend_number}
+use Rattle.plan_model.specs.Lending.{lent}
 use Rattle.plan_model.specs.Boards.{slots_of}
 use Rattle.plan_model.specs.Placement.{no_spot, compartment_spot}
 use Rattle.plan_model.specs.TableSize.{unless_empty, filled_blocks, table_bytes}
-use Rattle.code_model.specs.declared.places.CallSite.{CallSite}
 use Rattle.code_model.specs.declared.places.Places.{Places}
 use Rattle.code_model.specs.FrameShape.{local_starts}
 use Rattle.code_model.specs.Places.{lends_among}
 use Rattle.code_model.specs.Sizes.{site_offset}
 use Rattle.code_model.specs.CompartmentCode.{CodeGroups, CodePlaces, entry_of, compartment_bytes}
-use Rattle.code_model.specs.Planned.{code_groups, code_places, call_sites}
+use Rattle.code_model.specs.Planned.{code_groups, code_places}
 use Rattle.monitor_model.specs.declared.tables.SiteRecord.{SiteRecord}
 use Rattle.monitor_model.specs.declared.tables.TargetRecord.{TargetRecord}
 use Rattle.monitor_model.specs.declared.tables.Tables.{Tables}

@@ -1,5 +1,5 @@
 -- Entries by the sizes of all functions are those of the definitions.
-use Rattle.std.proofs.Common.{◌≡◌, ℕ, suc, ◌+◌, ◌<◌, ◌≤◌, Bool, true, false, List, [], ◌∷◌, cond, length, map, take, get_or, nat_eq, refl, ap, sym, ◌∙◌, arith}
+use Rattle.std.proofs.Common.{◌≡◌, ℕ, ◌<◌, List, length, map, take, get_or, refl, ap, sym, ◌∙◌, arith}
 use Rattle.std.proofs.lemmas.List.FromFn.{get_or-map-range_with_len, length-map-range_with_len, fill_by_all}
 use Rattle.std.proofs.lemmas.List.{length-map, length-take-le}
 use Rattle.ir_model.specs.Resolved.{Program}
@@ -9,12 +9,11 @@ use Rattle.plan_model.specs.declared.graph.Final.{Final}
 use Rattle.plan_model.specs.declared.plan.Plan.{Plan}
 use Rattle.plan_model.specs.declared.plan.Spot.{Spot}
 use Rattle.plan_model.specs.Lists.{numbers_below}
-use Rattle.code_model.specs.CompartmentCode.{CodeGroups, CodePlaces, members_from, filled_size, total_size, size_of, entry_of}
+use Rattle.code_model.specs.CompartmentCode.{CodeGroups, CodePlaces, size_of, entry_of}
 use Rattle.image_entries.specs.declared.numbers.Numbers.{Numbers}
 use Rattle.image_entries.specs.Grouped.{groups_in}
 use Rattle.image_linker.specs.Parts.{planned_places}
 use Rattle.image_entries.specs.Bases.{entry_in, entries_in}
-use Rattle.plan_crossings.specs.Filled.{filled_total}
 use Rattle.plan_crossings.proofs.Totals.{totals}
 
 module _ (p : Program) (groups : CodeGroups) (zs : List ℕ) (n : ℕ) (are : zs ≡ map (size_of p groups) (numbers_below n)) where

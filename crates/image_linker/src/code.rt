@@ -1,6 +1,6 @@
 //! The code of compartments.
 
-ghost use Rattle.std.specs.Prelude.{◌≡◌, ◌+◌, ◌<◌, ◌^◌, [], length, true, IfOk, IfSome, OnOk};
+ghost use Rattle.std.specs.Prelude.{◌≡◌, ◌+◌, ◌<◌, ◌^◌, [], length, true, IfOk, OnOk};
 ghost use Rattle.machine_thumb_asm.specs.Assembly.{here, ArePut};
 ghost use Rattle.machine_thumb_asm.specs.Finished.{assembled};
 ghost use Rattle.ir_model.specs.Resolved.{func_at};

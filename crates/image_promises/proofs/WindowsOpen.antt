@@ -12,7 +12,6 @@ use Rattle.machine_protection.specs.declared.region.Region.{Region}
 use Rattle.machine_protection.specs.declared.words.Rights.TheVariants.{Device}
 use Rattle.machine_protection.specs.Regions.{holds}
 use Rattle.machine_protection.specs.Laws.{RegionsHoldTheirBlocks, RegionsGiveTheirRights}
-use Rattle.refine.specs.Areas as areas
 use Rattle.ir_model.specs.declared.object.ObjId.{ObjId}
 use Rattle.ir_model.specs.Plain.{PlainFirmware}
 use Rattle.ir_model.specs.Resolve.{resolve}

@@ -12,7 +12,7 @@ use Rattle.monitor_model.specs.Sound.{Sound}
 use Rattle.monitor_model.specs.Promises.{OfSoundImages}
 use Rattle.monitor_laws.proofs.Checked.{NoneFails, none_fails, header_is, head_is}
 use Rattle.image_runs.specs.OtherCode.{with_flash, KeepsTables, WithOtherCode}
-use Rattle.image_runs.specs.Laws.{HasPages, RulesStay, SoundnessStays, IsSound, SoundImagesStaySound}
+use Rattle.image_runs.specs.Laws.{HasPages, RulesStay, SoundnessStays, SoundImagesStaySound}
 use Rattle.image_runs.proofs.Alike.{Alike}
 use Rattle.image_runs.proofs.ReadAlike.{area_behind, tables_alike, area_is}
 use Rattle.image_runs.proofs.ChecksAlike.{failures_same}

@@ -1,5 +1,5 @@
 -- Each byte of devices that a compartment's instruction loads or stores lies in one of its slots.
-use Rattle.std.proofs.Common.{◌≡◌, ℕ, ◌+◌, ◌*◌, ◌<◌, ◌≤◌, ◌⊎◌, ⊎_elim, Bool, true, false, not, ◌&&◌, List, ap, ap₂, arith}
+use Rattle.std.proofs.Common.{◌≡◌, ℕ, ◌+◌, ◌*◌, ◌<◌, ◌≤◌, ◌⊎◌, ⊎_elim, Bool, true, not, ◌&&◌, ap, ap₂, arith}
 use Rattle.machine_protection.specs.declared.region.Region.{Region}
 use Rattle.machine_protection.specs.declared.region.Access.{Access}
 use Rattle.machine_protection.specs.declared.region.Access.TheVariants.{Read, Write}
@@ -20,7 +20,6 @@ use Rattle.monitor_model.specs.Block.{MonitorBlock}
 use Rattle.monitor_model.specs.Invariant.{InvariantHolds}
 use Rattle.monitor_model.specs.Reach.{AllBytes, running}
 use Rattle.monitor_model.specs.Confined.{later}
-use Rattle.monitor_runs.specs.Acts.{Acts}
 use Rattle.monitor_runs.specs.Stays.{KeepsMemory}
 use Rattle.monitor_runs.proofs.Windows.{read_by_slot}
 use Rattle.image_runs.specs.Denied.{DevicesAreInSlots}

@@ -1,5 +1,4 @@
 -- A run of an image that keeps its memory is isolated, whatever code the image has behind the planned tables.
-use Rattle.std.proofs.Common.{ℕ}
 use Rattle.machine_devices.specs.declared.image.Image.{Image}
 use Rattle.machine_devices.specs.Rules.{ObeysRules}
 use Rattle.machine_model.specs.State.{State}

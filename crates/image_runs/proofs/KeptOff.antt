@@ -1,12 +1,11 @@
 -- No byte that a compartment's instruction loads or stores is denied.
 use Rattle.std.proofs.Common.{◌≡◌, ℕ, ◌+◌, ◌<◌, ◌≤◌, ⊎_elim, true, List, [], ◌∷◌, arith}
 use Rattle.std.proofs.lemmas.Bool.{cases_lt}
-use Rattle.base_ranges.specs.Ranges.{peripherals_base}
 use Rattle.machine_protection.specs.declared.region.Region.{Region}
 use Rattle.machine_protection.specs.Regions.{holds}
 use Rattle.machine_devices.specs.declared.image.Image.{Image}
 use Rattle.machine_devices.specs.Rules.{ObeysRules}
-use Rattle.machine_model.specs.State.{State, Touched, by_mpu}
+use Rattle.machine_model.specs.State.{State, by_mpu}
 use Rattle.machine_model.specs.Step.{turn}
 use Rattle.machine_model.specs.Confinement.{AnyOf}
 use Rattle.base_laws.specs.Lists.{Each}

@@ -4,7 +4,7 @@ use Rattle.machine_protection.specs.declared.region.Region.{Region}
 use Rattle.machine_protection.specs.Regions.{holds}
 use Rattle.machine_devices.specs.declared.image.Image.{Image}
 use Rattle.machine_devices.specs.Rules.{ObeysRules}
-use Rattle.machine_bus.specs.Locations.{Location, InRam, InFlash, location}
+use Rattle.machine_bus.specs.Locations.{InRam, InFlash, location}
 use Rattle.machine_bus.proofs.Offsets.{in_ram as ram_place}
 use Rattle.machine_bus.proofs.Ranges.{inside_true}
 use Rattle.machine_model.specs.State.{State, Touched, by_mpu}

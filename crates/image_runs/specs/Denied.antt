@@ -3,7 +3,7 @@ use Rattle.std.specs.Prelude.{◌≡◌, ℕ, ◌≤◌, List, true}
 use Rattle.machine_protection.specs.declared.region.Region.{Region}
 use Rattle.machine_protection.specs.Regions.{holds}
 use Rattle.machine_devices.specs.declared.image.Image.{Image}
-use Rattle.machine_model.specs.State.{State, Touched, by_mpu}
+use Rattle.machine_model.specs.State.{State, by_mpu}
 use Rattle.machine_model.specs.Confinement.{AnyOf}
 use Rattle.machine_model.specs.Step.{turn}
 use Rattle.base_laws.specs.Lists.{Each}

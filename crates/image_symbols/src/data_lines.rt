@@ -1,6 +1,6 @@
 //! The lines of data: the stack, the monitor's block, globals, and windows of peripherals.
 
-ghost use Rattle.std.specs.Prelude.{◌≡◌, ◌++◌, length, map, IfOk, OnOk};
+ghost use Rattle.std.specs.Prelude.{◌≡◌, ◌++◌, OnOk};
 ghost use Rattle.plan_report.specs.Subjects.{subject_of};
 ghost use Rattle.image_symbols.specs.DataLines as lines;
 ghost use Rattle.image_symbols.specs.Made.{AreMade};

@@ -1,6 +1,6 @@
 //! The lines of functions.
 
-ghost use Rattle.std.specs.Prelude.{◌≡◌, ◌++◌, length, IfOk, OnOk};
+ghost use Rattle.std.specs.Prelude.{◌≡◌, ◌++◌, IfOk, OnOk};
 ghost use Rattle.ir_model.specs.Resolved.{func_at};
 ghost use Rattle.ir_program.specs.Seen.{program_of};
 ghost use Rattle.code_model.specs.FrameShape as frames;

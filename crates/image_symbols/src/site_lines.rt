@@ -1,6 +1,6 @@
 //! The lines of the calls that may go to another compartment.
 
-ghost use Rattle.std.specs.Prelude.{◌≡◌, ◌++◌, length, map, IfOk, OnOk};
+ghost use Rattle.std.specs.Prelude.{◌≡◌, ◌++◌, map, IfOk, OnOk};
 ghost use Rattle.monitor_model.specs.declared.tables.SiteRecord as site_record;
 ghost use Rattle.plan_crossings.specs.Seen.{seen_sites};
 ghost use Rattle.plan_report.specs.Subjects.{subject_of};

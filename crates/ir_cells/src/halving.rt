@@ -1,6 +1,6 @@
 //! Searches by halving among the fields of a struct.
 
-ghost use Rattle.std.specs.Prelude.{◌≡◌, MatchOption};
+ghost use Rattle.std.specs.Prelude.{MatchOption};
 ghost use Rattle.std.specs.List.Sorted.{IsNonDecreasingBy};
 ghost use Rattle.ir_cells.specs.Halving.{IsFirstAbove, IsLastWithin};
 

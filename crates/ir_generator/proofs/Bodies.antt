@@ -1,11 +1,10 @@
 -- That what is drawn names what is there.
-use Rattle.std.proofs.Common.{ℕ, zero, suc, ◌<◌, ◌≤◌, ◌+◌, ◌*◌, ◌≡◌, List, [], ◌∷◌, ◌++◌, refl, arith, length, Bool, true, false, cond, length-append}
-use Rattle.std.specs.Prelude.{All, nat_eq}
+use Rattle.std.proofs.Common.{ℕ, zero, suc, ◌<◌, ◌+◌, ◌*◌, ◌≡◌, List, [], ◌∷◌, refl, arith, length, Bool, true, false, cond, length-append}
+use Rattle.std.specs.Prelude.{nat_eq}
 use Rattle.std.proofs.lemmas.List.Elements.{All-nil, All-cons, All-append}
 use Rattle.ir_generator.specs.declared.choices.Choice.{Choice}
-use Rattle.ir_generator.specs.declared.choices.Body.TheVariants.{Adds, Stores, Calls, Lends}
 use Rattle.ir_generator.specs.Draws.{draw}
-use Rattle.ir_generator.specs.Choices.{chosen, calls, choices, adds, may_call, may_lend, depth_at, IsWithin, AreWithin}
+use Rattle.ir_generator.specs.Choices.{chosen, choices, may_call, may_lend, IsWithin, AreWithin}
 
 either : {A : Type 0} (P : A → Type 0) (b : Bool) (x y : A) → P x → P y → P (cond b x y)
 either P true x y p q = p

@@ -1,5 +1,5 @@
 -- One draw more, one choice more, one word more.
-use Rattle.std.proofs.Common.{ℕ, zero, suc, ◌+◌, ◌*◌, ◌≡◌, List, [], ◌∷◌, ◌++◌, map, refl, arith}
+use Rattle.std.proofs.Common.{ℕ, suc, ◌+◌, ◌*◌, ◌≡◌, [], ◌∷◌, ◌++◌, map, refl, arith}
 use Rattle.std.specs.List.{range_with_len}
 use Rattle.machine_devices.specs.Queues.{pushed}
 use Rattle.ir_generator.specs.Draws.{stirred, state_after, given, draw}

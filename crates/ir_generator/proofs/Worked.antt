@@ -1,5 +1,5 @@
 -- A worked row: the first draws of the seed 0, and the words of the recorded input for one function.
-use Rattle.std.proofs.Common.{ℕ, ◌≡◌, List, [], ◌∷◌, refl}
+use Rattle.std.proofs.Common.{◌≡◌, [], ◌∷◌, refl}
 use Rattle.ir_generator.specs.Draws.{draw}
 use Rattle.ir_generator.specs.Taped.{taped}
 use Rattle.ir_generator.specs.Choices.{choices}

@@ -1,9 +1,7 @@
 //! The generated firmwares are typed and within the limits of a text.
 
-ghost use Rattle.std.specs.Prelude.{◌≡◌, ◌≤◌, ℕ, IfOk};
+ghost use Rattle.std.specs.Prelude.{◌≡◌, ◌≤◌, IfOk};
 ghost use Rattle.ir_model.specs.Plain.{firmware_of};
-ghost use Rattle.ir_model.specs.Canonical.{IsWithinLimits};
-ghost use Rattle.ir_model.specs.Typing.{IsTyped};
 ghost use Rattle.ir_generator.specs.Made.{made};
 
 use crate::make::make;

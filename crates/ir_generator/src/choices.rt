@@ -1,7 +1,6 @@
 //! What the functions of a generated firmware do.
 
-ghost use Rattle.std.specs.Prelude.{◌≡◌, ◌≤◌, ◌<◌, ◌+◌, ◌*◌, ◌^◌, ◌%◌, ◌∷◌, [], ◌++◌, length, IsTrue, IfOk};
-ghost use Rattle.std.specs.List.{count_by};
+ghost use Rattle.std.specs.Prelude.{◌≡◌, ◌<◌, ◌+◌, ◌%◌, length, IsTrue, IfOk};
 ghost use Rattle.ir_generator.specs.Draws as draws;
 ghost use Rattle.ir_generator.specs.Choices as spec;
 

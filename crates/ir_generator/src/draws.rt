@@ -1,6 +1,6 @@
 //! Numbers that a seed gives, one after another.
 
-ghost use Rattle.std.specs.Prelude.{◌≡◌, ◌<◌, ◌+◌, ℕ};
+ghost use Rattle.std.specs.Prelude.{◌≡◌, ◌<◌, ℕ};
 ghost use Rattle.ir_generator.specs.Draws.{stirred, given};
 
 use std::marker::Model;

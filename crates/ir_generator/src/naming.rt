@@ -1,7 +1,6 @@
 //! The names in a generated firmware.
 
 ghost use Rattle.std.specs.Prelude.{◌≡◌, ◌<◌, IfOk};
-ghost use Rattle.base_names.specs.Names.{IsName};
 ghost use Rattle.ir_generator.specs.Names as spec;
 
 use base_names::Name;

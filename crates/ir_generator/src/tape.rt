@@ -1,6 +1,6 @@
 //! The recorded input of a generated firmware.
 
-ghost use Rattle.std.specs.Prelude.{◌≡◌, ◌<◌, ◌≤◌, ◌*◌, ◌^◌, IfOk};
+ghost use Rattle.std.specs.Prelude.{◌≡◌, ◌<◌, ◌≤◌, ◌*◌, IfOk};
 ghost use Rattle.ir_generator.specs.Draws.{state_after};
 ghost use Rattle.ir_generator.specs.Taped.{taped};
 

@@ -1,6 +1,6 @@
 //! Clones of types, which are equal types.
 
-ghost use Rattle.std.specs.Prelude.{◌≡◌, length, map, IfOk};
+ghost use Rattle.std.specs.Prelude.{◌≡◌, map, IfOk};
 ghost use Rattle.ir_model.specs.Types.{Callee, types_from, type_of, boxed_result_of};
 
 use crate::types::{Signature, Ty};

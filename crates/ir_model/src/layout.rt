@@ -1,6 +1,6 @@
 //! Sizes and alignments of types.
 
-ghost use Rattle.std.specs.Prelude.{◌≡◌, ◌↔◌, ◌+◌, ◌<◌, ◌≤◌, List, length, map, max, take, Option, IsSome, IfSome, slice_index, bytes_eq, position};
+ghost use Rattle.std.specs.Prelude.{◌≡◌, ◌↔◌, ◌+◌, ◌<◌, ◌≤◌, length, map, max, take, Option, IsSome, IfSome, bytes_eq, position};
 ghost use Rattle.ir_model.specs.Types.{type_of};
 ghost use Rattle.ir_model.specs.Plain.{binding_of, struct_of, firmware_of};
 ghost use Rattle.ir_model.specs.Lines.{type_tokens};

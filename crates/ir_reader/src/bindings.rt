@@ -1,7 +1,7 @@
 //! Names with types, and lists with commas.
 
-ghost use Rattle.std.specs.Prelude.{◌≡◌, ◌<◌, ◌≤◌, [], ◌∷◌, ◌++◌, map, length, OnOk, IfOk, None};
-ghost use Rattle.ir_model.specs.Types.{type_of, result_of};
+ghost use Rattle.std.specs.Prelude.{◌≡◌, ◌<◌, ◌≤◌, [], ◌∷◌, map, length, OnOk, IfOk, None};
+ghost use Rattle.ir_model.specs.Types.{result_of};
 ghost use Rattle.ir_model.specs.Plain.{binding_of};
 ghost use Rattle.ir_model.specs.TextLimits.{parameter_limit};
 ghost use Rattle.ir_model.specs.declared.token.Mark.TheVariants as mark;

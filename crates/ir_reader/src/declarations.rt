@@ -1,7 +1,6 @@
 //! Structs, peripherals and globals at the front of a text.
 
-ghost use Rattle.std.specs.Prelude.{◌≡◌, ◌<◌, ◌≤◌, ◌+◌, [], ◌∷◌, ◌++◌, map, flat_map, length, OnOk, IfOk, None};
-ghost use Rattle.base_laws.specs.Lists.{Each};
+ghost use Rattle.std.specs.Prelude.{◌<◌, ◌+◌, [], ◌∷◌, map, length, OnOk, IfOk, None};
 ghost use Rattle.ir_model.specs.Plain.{struct_of, global_of};
 ghost use Rattle.ir_model.specs.TextLimits.{global_limit, cell_limit};
 ghost use Rattle.ir_model.specs.declared.token.Keyword.TheVariants as key;

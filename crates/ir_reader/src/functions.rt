@@ -1,13 +1,13 @@
 //! Functions and files at the front of a text.
 
-ghost use Rattle.std.specs.Prelude.{◌≡◌, ◌<◌, ◌≤◌, ◌+◌, [], ◌∷◌, ◌++◌, map, flat_map, length, OnOk, IfOk, None, ℕ};
+ghost use Rattle.std.specs.Prelude.{◌<◌, ◌≤◌, ◌+◌, [], ◌∷◌, map, length, OnOk, IfOk, None};
 ghost use Rattle.ir_model.specs.Types.{result_of};
 ghost use Rattle.ir_model.specs.Plain.{binding_of, func_of, file_of};
 ghost use Rattle.ir_model.specs.TextLimits.{function_limit, parameter_limit, block_limit, instruction_limit};
 ghost use Rattle.ir_model.specs.declared.token.Keyword.TheVariants as key;
 ghost use Rattle.ir_reader.specs.Machine as Expected;
 ghost use Rattle.ir_reader.specs.Reading.{Reads, ReadsBehind, ReadsTo};
-ghost use Rattle.ir_reader.specs.Parts.{ReadsLines, ReadsFuncs, ReadsFile, NextFile, HasBlocks, AllHaveBlocks, spell_lines};
+ghost use Rattle.ir_reader.specs.Parts.{ReadsLines, ReadsFuncs, ReadsFile, NextFile, HasBlocks, AllHaveBlocks};
 ghost use Rattle.ir_reader.specs.Scan.{placed};
 ghost use Rattle.ir_grammar.specs.Spelling as grammar;
 ghost use Rattle.ir_reader.specs.Spelling as spelling;

@@ -1,6 +1,6 @@
 //! Instructions and the ends of blocks at the front of a text.
 
-ghost use Rattle.std.specs.Prelude.{◌≡◌, ◌<◌, ◌≤◌, ◌+◌, [], ◌∷◌, ◌++◌, length, OnOk, IfOk, None, ℕ};
+ghost use Rattle.std.specs.Prelude.{◌≡◌, ◌<◌, [], ◌∷◌, IfOk, None};
 ghost use Rattle.ir_reader.specs.Machine as Expected;
 ghost use Rattle.ir_reader.specs.Reading.{Reads, ReadsBehind, ReadsAt, BehindRet};
 ghost use Rattle.ir_reader.specs.Lines.{ReadsLine, ReadsValue, IsBelow};

@@ -1,6 +1,6 @@
 //! Single tokens at the front of a text.
 
-ghost use Rattle.std.specs.Prelude.{◌≡◌, [], ◌∷◌, IfOk, OnOk, None};
+ghost use Rattle.std.specs.Prelude.{◌≡◌, [], ◌∷◌, OnOk, None};
 ghost use Rattle.ir_model.specs.declared.token.Keyword.TheVariants as key;
 ghost use Rattle.ir_reader.specs.Machine as Expected;
 ghost use Rattle.ir_reader.specs.Reading.{Reads, BehindMark, BehindKey, unit};

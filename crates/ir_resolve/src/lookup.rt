@@ -2,7 +2,6 @@
 
 ghost use Rattle.std.specs.Prelude.{◌≡◌};
 ghost use Rattle.ir_model.specs.Types as types;
-ghost use Rattle.ir_model.specs.Types.{type_of};
 ghost use Rattle.ir_program.specs.Storages.{pointee_of};
 
 use ir_model::types::Ty;

@@ -1,9 +1,9 @@
 //! Functions with numbers.
 
-ghost use Rattle.std.specs.Prelude.{◌≡◌, ◌≤◌, ◌++◌, length, map, flat_map, replicate, IfOk, OnOk};
+ghost use Rattle.std.specs.Prelude.{◌≡◌, ◌≤◌, ◌++◌, length, map, replicate, IfOk, OnOk};
 ghost use Rattle.ir_model.specs.Types.{type_of};
 ghost use Rattle.ir_model.specs.Layout.{known, shape, Shape};
-ghost use Rattle.ir_model.specs.Plain.{PlainFunc, PlainFile, struct_of, binding_of, func_of, file_of, firmware_of, types_of, regs_of, funcs_of};
+ghost use Rattle.ir_model.specs.Plain.{struct_of, binding_of, func_of, firmware_of, types_of, regs_of, funcs_of};
 ghost use Rattle.ir_model.specs.TextLimits.{file_limit};
 ghost use Rattle.ir_model.specs.Resolve as resolving;
 ghost use Rattle.ir_program.specs.Seen.{routine_of, local_counts, cell_counts};

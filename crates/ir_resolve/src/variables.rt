@@ -1,7 +1,6 @@
 //! Globals with numbers.
 
 ghost use Rattle.std.specs.Prelude.{◌≡◌, map, IfOk};
-ghost use Rattle.ir_model.specs.Types.{type_of};
 ghost use Rattle.ir_model.specs.Plain.{global_of, firmware_of, struct_of};
 ghost use Rattle.ir_model.specs.Layout.{known};
 ghost use Rattle.ir_model.specs.Resolve as resolving;
@@ -15,7 +14,6 @@ use crate::storage::storage;
 use crate::tables::Scope;
 use base_lists::ListVec;
 use ir_model::firmware::{Cell, Firmware, Global as GlobalDecl};
-use ir_model::types::Ty;
 use ir_program::program::Variable;
 use ir_program::value::Value;
 use std::alloc::{AllocError, Global};

@@ -1,7 +1,6 @@
 //! Calls, returns and block ends.
 
 ghost use Rattle.std.specs.Prelude.{◌≡◌, ◌∷◌, ◌-◌, ◌<◌, ◌^◌, suc, map, OnOk, OnErr};
-ghost use Rattle.std.proofs.Math.ListN.{get_or};
 ghost use Rattle.ir_model.specs.Resolved as plain;
 ghost use Rattle.ir_model.specs.State as state;
 ghost use Rattle.ir_model.specs.Step as step;

@@ -1,6 +1,6 @@
 //! What registers and cells hold.
 
-ghost use Rattle.std.specs.Prelude.{◌≡◌, [], map};
+ghost use Rattle.std.specs.Prelude.{◌≡◌, []};
 ghost use Rattle.std.proofs.Math.ListN.{get_or, set};
 ghost use Rattle.ir_program.specs.declared.value.Value.TheVariants.{Number};
 

@@ -1,6 +1,6 @@
 //! Frames of functions that are entered.
 
-ghost use Rattle.std.specs.Prelude.{◌≡◌, length, map, IfOk};
+ghost use Rattle.std.specs.Prelude.{◌≡◌, map, IfOk};
 ghost use Rattle.std.proofs.Math.ListN.{get_or};
 ghost use Rattle.ir_model.specs.Types.{type_of};
 ghost use Rattle.ir_model.specs.Resolve.{zero_of};
@@ -8,7 +8,7 @@ ghost use Rattle.ir_model.specs.State as state;
 ghost use Rattle.ir_program.specs.Values.{value_of};
 ghost use Rattle.ir_program.specs.Storages.{shape_of};
 ghost use Rattle.ir_model.specs.Plain.{struct_of};
-ghost use Rattle.ir_model.specs.Layout.{known, shape};
+ghost use Rattle.ir_model.specs.Layout.{known};
 ghost use Rattle.ir_cells.specs.Cells.{lent_types, types_of};
 ghost use Rattle.ir_program.specs.Seen.{routine_of, program_of, local_counts, cell_counts, HasCounts};
 ghost use Rattle.ir_run.specs.Acts.{frame_of};

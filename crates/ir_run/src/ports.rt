@@ -1,6 +1,6 @@
 //! Accesses of peripherals.
 
-ghost use Rattle.std.specs.Prelude.{◌≡◌, ◌∷◌, [], map, true};
+ghost use Rattle.std.specs.Prelude.{◌≡◌, [], map, true};
 ghost use Rattle.std.proofs.Math.ListN.{get_or};
 ghost use Rattle.ir_model.specs.Step as step;
 ghost use Rattle.ir_program.specs.Values.{value_of};
@@ -8,7 +8,7 @@ ghost use Rattle.ir_program.specs.Storages.{pointee_of};
 ghost use Rattle.ir_program.specs.Seen.{program_of};
 ghost use Rattle.ir_run.specs.Acts.{frame_of};
 ghost use Rattle.ir_run.specs.Places.{HasNext};
-ghost use Rattle.ir_run.specs.States.{running_of, memory_of, Answers};
+ghost use Rattle.ir_run.specs.States.{memory_of, Answers};
 
 use crate::arithmetic::number_in;
 use crate::outcome::{SourceEnd, SourceStep};

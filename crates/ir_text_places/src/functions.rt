@@ -1,7 +1,7 @@
 //! How many tokens functions and files have.
 
 ghost use Rattle.std.specs.Prelude.{◌≡◌, ◌*◌, map, length, IfOk, sum_by};
-ghost use Rattle.ir_model.specs.Plain.{binding_of, func_of, file_of};
+ghost use Rattle.ir_model.specs.Plain.{func_of, file_of};
 ghost use Rattle.ir_text_places.specs.Sizes as sizes;
 
 use crate::declarations::bindings_size;

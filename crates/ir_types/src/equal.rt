@@ -1,6 +1,6 @@
 //! Equal types.
 
-ghost use Rattle.std.specs.Prelude.{◌≡◌, ◌↔◌, ◌<◌, length, map, IsTrue};
+ghost use Rattle.std.specs.Prelude.{◌≡◌, ◌↔◌, ◌<◌, map, IsTrue};
 ghost use Rattle.ir_model.specs.Types.{same, same_result, same_row, types_from, type_of, boxed_result_of};
 
 use ir_model::types::Ty;

@@ -1,6 +1,6 @@
 -- Beyond the program's claim: only laws, proofs and functions inside the tool cite this file.
 -- A machine as callers see it, what a step answers, and what a run of steps does and answers.
-use Rattle.std.specs.Prelude.{◌≡◌, ℕ, suc, ◌≤◌, ◌⊎◌, Bool, true, false, List, Option, Some, None}
+use Rattle.std.specs.Prelude.{◌≡◌, ℕ, suc, ◌≤◌, Bool, true, false, List, Option, Some, None}
 use Rattle.std.specs.List.{FoldsTo}
 use Rattle.base_words.specs.Runs.{run, events}
 use Rattle.machine_devices.specs.declared.image.Image.{Image}

@@ -1,6 +1,6 @@
 //! Single loads and stores, with their tests (Armv7-M ARM, B2.3 MemA and ValidateAddress), and the system's registers.
 
-ghost use Rattle.std.specs.Prelude.{◌≡◌, ◌≢◌, ◌<◌, ◌%◌, ◌^◌, true, IsTrue};
+ghost use Rattle.std.specs.Prelude.{◌≡◌, ◌<◌, ◌%◌, ◌^◌, true};
 ghost use Rattle.machine_protection.specs.Protection.{IsAccessWidth};
 ghost use Rattle.machine_emulator.specs.Accesses.{IsFit, extended, load_extended, loaded_extended, stored_at};
 ghost use Rattle.machine_model.specs.Instructions.{store_from};

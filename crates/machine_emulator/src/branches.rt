@@ -1,6 +1,6 @@
 //! Branches to an address in a register (Armv7-M ARM, BXWritePC and BLXWritePC).
 
-ghost use Rattle.std.specs.Prelude.{◌≡◌, ◌%◌, ◌+◌, ◌^◌, ◌<◌};
+ghost use Rattle.std.specs.Prelude.{◌≡◌, ◌%◌, ◌<◌};
 ghost use Rattle.machine_model.specs.Act.{Exchanges, Changes, Halts};
 ghost use Rattle.machine_model.specs.Instructions as instructions;
 ghost use Rattle.machine_emulator.specs.Parts.{left, does};

@@ -6,7 +6,7 @@ ghost use Rattle.machine_devices.specs.Rules.{ObeysRules};
 ghost use Rattle.machine_model.specs.Exceptions as exceptions;
 ghost use Rattle.machine_model.specs.Act.{Calls};
 ghost use Rattle.machine_emulator.specs.Parts.{state_of, left, left_by, does};
-ghost use Rattle.machine_model.specs.State.{by_mpu, bit_of};
+ghost use Rattle.machine_model.specs.State.{by_mpu};
 ghost use Rattle.machine_model.specs.Tests.{all_open};
 
 use crate::Guard;

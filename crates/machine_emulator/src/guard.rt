@@ -1,10 +1,10 @@
 //! What decides which accesses are allowed, with blocks of 32 bytes that it was asked for before.
 
-ghost use Rattle.std.specs.Prelude.{◌≡◌, ◌<◌, ◌+◌, ◌*◌, ◌^◌, true, false, IsTrue, IsFalse};
+ghost use Rattle.std.specs.Prelude.{◌≡◌, ◌<◌, ◌+◌, ◌^◌, true, false, IsTrue, IsFalse};
 ghost use Rattle.machine_protection.specs.declared.region.Access.TheVariants.{Fetch};
 ghost use Rattle.machine_protection.specs.Protection as protection;
 ghost use Rattle.machine_emulator.specs.Known.{IsPermitted};
-ghost use Rattle.machine_protection.specs.Registers.{read_register, write_register, is_register};
+ghost use Rattle.machine_protection.specs.Registers.{read_register, write_register};
 ghost use Rattle.machine_model.specs.State as state;
 
 use crate::blocks::Blocks;

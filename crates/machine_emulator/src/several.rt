@@ -1,6 +1,6 @@
 //! PUSH, POP, STMIA and LDMIA: several words, which are all tested first.
 
-ghost use Rattle.std.specs.Prelude.{◌≡◌, ◌<◌, ◌≤◌, ◌%◌, ◌+◌, ◌++◌, ◌^◌, List, ℕ, Option, None, length, MatchOption};
+ghost use Rattle.std.specs.Prelude.{◌≡◌, ◌<◌, ◌≤◌, ◌%◌, ◌+◌, ◌++◌, List, ℕ, Option, None, length, MatchOption};
 ghost use Rattle.arrayvec.specs.ArrayVec.{array_vec_len};
 ghost use Rattle.machine_model.specs.declared.state.CoreRegisters.{CoreRegisters as Core};
 ghost use Rattle.machine_model.specs.Act.{LoadsMany, StoresMany};

@@ -1,11 +1,11 @@
 -- The machine's start is a reset.
-use Rattle.std.proofs.Common.{◌≡◌, ℕ, List, length, None, refl, subst}
+use Rattle.std.proofs.Common.{◌≡◌, ℕ, List, length, refl}
 use Rattle.base_words.specs.Runs.{run}
 use Rattle.machine_devices.specs.declared.image.Image.{Image}
 use Rattle.machine_devices.specs.Rules.{ObeysRules}
-use Rattle.machine_model.specs.Run.{start, after}
+use Rattle.machine_model.specs.Run.{start}
 use Rattle.machine_model.specs.Shape.{StateFits, RunsKeepShape}
-use Rattle.machine_model.specs.Reset.{IsReset, StartsAreResets}
+use Rattle.machine_model.specs.Reset.{StartsAreResets}
 
 first_fits : RunsKeepShape → (i : Image) (queues : List (List ℕ)) (fill : ℕ) → ObeysRules i → length queues ≡ length i.windows → StateFits i (start i queues fill)
 unfolding run

@@ -3,7 +3,7 @@
 
 pub mod watching;
 
-ghost use Rattle.std.specs.Prelude.{◌≡◌, ◌≤◌, ◌++◌, IsTrue, IfOk, OnErr, OnOk, None};
+ghost use Rattle.std.specs.Prelude.{◌≡◌, ◌++◌, IsTrue, IfOk, OnErr, OnOk, None};
 ghost use Rattle.base_outside.specs.Counts.{Rose};
 ghost use Rattle.base_outside.specs.Contents.{AddsPrefix};
 ghost use Rattle.machine_devices.specs.Rules.{ObeysRules};

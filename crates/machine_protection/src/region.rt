@@ -1,6 +1,6 @@
 //! A region: its two registers, the addresses that it holds, and the accesses that it allows.
 
-ghost use Rattle.std.specs.Prelude.{◌≡◌, ◌+◌, ◌<◌, ◌≤◌};
+ghost use Rattle.std.specs.Prelude.{◌≡◌, ◌+◌, ◌<◌};
 ghost use Rattle.machine_protection.specs.Regions as regions;
 
 /// A region as its two registers hold it (Armv7-M Architecture Reference Manual, B3.5.8 and B3.5.9).

@@ -1,6 +1,6 @@
 //! The unit as software sees it: its registers, and the test of an access.
 
-ghost use Rattle.std.specs.Prelude.{◌≡◌, ◌+◌, ◌<◌, ◌≤◌, ◌%◌, ◌/◌, ◌*◌, ◌^◌, ◌↔◌, ◌⊎◌, ℕ, not, IsTrue, Some, None, take, length, nat_eq, if◌then◌else◌};
+ghost use Rattle.std.specs.Prelude.{◌≡◌, ◌+◌, ◌<◌, ◌≤◌, ◌%◌, ◌/◌, ◌*◌, ◌^◌, ◌↔◌, ℕ, not, IsTrue, Some, None, take, length, nat_eq, if◌then◌else◌};
 ghost use Rattle.machine_protection.specs.Protection as protection;
 ghost use Rattle.machine_protection.specs.Registers as registers;
 

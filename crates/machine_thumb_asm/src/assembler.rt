@@ -1,6 +1,6 @@
 //! An assembler: pieces of code put one behind the other, with labels.
 
-ghost use Rattle.std.specs.Prelude.{◌≡◌, ◌≢◌, ◌+◌, ◌<◌, ◌^◌, ◌∷◌, ◌++◌, [], length, Some, None, OnOk, OnErr, IfOk};
+ghost use Rattle.std.specs.Prelude.{◌≡◌, ◌+◌, ◌<◌, ◌^◌, ◌∷◌, ◌++◌, [], length, Some, None, OnOk, OnErr, IfOk};
 ghost use Rattle.std.proofs.Math.ListN.{get_or, set};
 ghost use Rattle.machine_thumb.specs.Table.{InTable, encode, width_of};
 ghost use Rattle.machine_thumb_asm.specs.declared.item.Item.TheVariants as items;

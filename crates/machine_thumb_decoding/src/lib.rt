@@ -1,10 +1,10 @@
 //! From halfwords to an instruction, group by group as the manual has its encodings (A5.2, A5.3).
 #![tactic(auto)]
 
-ghost use Rattle.std.specs.Prelude.{◌≡◌, ◌+◌, ◌*◌, ◌/◌, ◌%◌, ◌^◌, ◌<◌, ◌≤◌, IsTrue, ◌↔◌, IfSome, IfNone, MatchOption, Some, None};
+ghost use Rattle.std.specs.Prelude.{◌≡◌, ◌+◌, ◌*◌, ◌/◌, ◌%◌, ◌^◌, ◌<◌, ◌≤◌, IfSome, IfNone, MatchOption, Some, None};
 ghost use Rattle.machine_thumb.specs.Table.{Encodes, read_code, width_of};
 ghost use Rattle.machine_thumb.specs.Laws.{IsUndefined};
-ghost use Rattle.machine_thumb.specs.Decoded.{decoded, arithmetic_of, special_of, transfer_of, stack_of, multiple_of, upper_of, narrow_of, is_general, branch_bits, move_value, move_of, special_register_of, divide_of, wide_of, extended};
+ghost use Rattle.machine_thumb.specs.Decoded.{decoded, arithmetic_of, special_of, transfer_of, stack_of, multiple_of, upper_of, narrow_of, is_general, branch_bits, move_of, special_register_of, divide_of, wide_of, extended};
 
 use machine_thumb::Instr;
 

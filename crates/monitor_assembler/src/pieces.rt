@@ -1,6 +1,6 @@
 //! The code of one step, for each of its forms.
 
-ghost use Rattle.std.specs.Prelude.{◌≡◌, ◌+◌, ◌/◌, ◌%◌, ◌<◌, ◌^◌, [], ◌∷◌, OnOk, pos, negsuc};
+ghost use Rattle.std.specs.Prelude.{◌≡◌, ◌+◌, ◌/◌, ◌%◌, ◌<◌, ◌^◌, [], ◌∷◌, OnOk, pos};
 ghost use Rattle.machine_thumb.specs.Bytes.{EachInTable};
 ghost use Rattle.machine_thumb.specs.declared.table.Instr.TheVariants as instr;
 ghost use Rattle.machine_thumb_asm.specs.Assembly as assembly;

@@ -1,6 +1,6 @@
 //! The forms of a compartment's regions.
 
-ghost use Rattle.std.specs.Prelude.{◌≡◌, ◌+◌, ◌-◌, ◌*◌, ◌/◌, ◌<◌, ◌≤◌, ◌^◌, ◌||◌, length, nat_eq};
+ghost use Rattle.std.specs.Prelude.{◌≡◌, ◌+◌, ◌-◌, ◌*◌, ◌/◌, ◌<◌, ◌^◌, ◌||◌, length, nat_eq};
 ghost use Rattle.std.specs.Int.{bit_at};
 ghost use Rattle.monitor_model.specs.RegionChecks as checks;
 

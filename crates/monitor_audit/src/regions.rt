@@ -1,7 +1,6 @@
 //! The check of regions.
 
-ghost use Rattle.std.specs.Prelude.{◌≡◌, ◌<◌, ◌≤◌, ◌^◌, length};
-ghost use Rattle.machine_devices.specs.Rules.{ObeysRules};
+ghost use Rattle.std.specs.Prelude.{◌≡◌, ◌<◌, ◌^◌, length};
 ghost use Rattle.monitor_model.specs.Records.{number_of_slots};
 ghost use Rattle.monitor_model.specs.RegionChecks as checks;
 ghost use Rattle.monitor_model.specs.Checks.{regions_fail};

@@ -1,9 +1,8 @@
 //! The check of the tables, and the tables of the images that pass it.
 
-ghost use Rattle.std.specs.Prelude.{◌≡◌, ◌+◌, ◌-◌, ◌*◌, ◌≤◌, ◌<◌, ◌^◌, drop, length, max, sum_by, IfOk};
+ghost use Rattle.std.specs.Prelude.{◌≡◌, ◌+◌, ◌-◌, ◌*◌, ◌≤◌, ◌<◌, drop, length, max, sum_by, IfOk};
 ghost use Rattle.machine_devices.specs.Rules.{ObeysRules};
 ghost use Rattle.monitor_model.specs.Records.{words_in};
-ghost use Rattle.monitor_model.specs.Layout as layout;
 ghost use Rattle.monitor_model.specs.Layout.{page_size, head_size};
 ghost use Rattle.monitor_model.specs.FromFlash as flash;
 ghost use Rattle.monitor_program.specs.TheCode.{monitor_code};

@@ -1,6 +1,6 @@
 //! What the lists take of the tables, counted and added up.
 
-ghost use Rattle.std.specs.Prelude.{◌≡◌, ℕ, ◌+◌, ◌-◌, ◌*◌, ◌<◌, ◌≤◌, ◌^◌, min};
+ghost use Rattle.std.specs.Prelude.{◌≡◌, ◌+◌, ◌-◌, ◌*◌, ◌<◌, ◌≤◌, ◌^◌, min};
 ghost use Rattle.base_words.specs.Arithmetic.{word};
 ghost use Rattle.machine_protection.specs.declared.words.Rights.TheVariants.{Code, Stack};
 ghost use Rattle.machine_protection.specs.RegionWords as words;

@@ -2,7 +2,7 @@
 use Rattle.std.proofs.Common.{◌≡◌, ℕ, zero, suc, ◌+◌, ◌-◌, ◌*◌, ◌%◌, ◌^◌, ◌<◌, ◌≤◌, List, [], ◌∷◌, length, get_or, refl, sym, ap, ◌∙◌, subst, arith}
 use Rattle.std.specs.Prelude.{flat_map, sum_by}
 use Rattle.std.proofs.lemmas.List.Sums.{sum_by-cons}
-use Rattle.base_words.specs.Arithmetic.{word, add, subtract, shift_right}
+use Rattle.base_words.specs.Arithmetic.{add, subtract, shift_right}
 use Rattle.base_words.specs.Bytes.{read, write, write_all}
 use Rattle.base_words.specs.declared.memory.Width.TheVariants.{Word}
 use Rattle.machine_protection.specs.declared.region.Access.TheVariants.{Read, Write}

@@ -1,6 +1,6 @@
 //! Lists of steps in the making, and the words of which they are made.
 
-ghost use Rattle.std.specs.Prelude.{◌≡◌, ◌<◌, [], ◌∷◌, ◌++◌, OnOk, IfOk};
+ghost use Rattle.std.specs.Prelude.{◌≡◌, ◌<◌, [], ◌∷◌, ◌++◌, OnOk};
 ghost use Rattle.base_words.specs.declared.memory.Width.TheVariants.{Word};
 ghost use Rattle.monitor_steps.specs.Steps as steps;
 ghost use Rattle.monitor_steps.specs.Lists.{steps_of};

@@ -1,7 +1,6 @@
 //! What both handlers begin and end with, and the writing of a compartment's regions.
 
-ghost use Rattle.std.specs.Prelude.{◌≡◌, ◌+◌, ◌*◌, ◌≤◌, ◌<◌, [], ◌∷◌, OnOk};
-ghost use Rattle.monitor_steps.specs.Steps as steps;
+ghost use Rattle.std.specs.Prelude.{◌+◌, ◌*◌, ◌≤◌, ◌<◌, [], ◌∷◌, OnOk};
 ghost use Rattle.monitor_program.specs.Opening as opening;
 ghost use Rattle.monitor_lists.specs.Made.{Appends, Ends, constants_of};
 

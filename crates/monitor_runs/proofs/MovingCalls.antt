@@ -10,7 +10,7 @@ use Rattle.monitor_model.specs.Block.{MonitorBlock, Loan, Saved, left}
 use Rattle.monitor_model.specs.BlockWords.{depth}
 use Rattle.monitor_model.specs.Confined.{HasStarted, AreNext, later}
 use Rattle.monitor_runs.specs.BlockInRam.{saved_entries, live_loans}
-use Rattle.monitor_runs.specs.Moves.{Moves, Steps, Stores, Loads, Enters, Leaves, Lends, Unlends, GoesOnAt, Waits, frame}
+use Rattle.monitor_runs.specs.Moves.{Moves, Executes, Stores, Loads, Enters, Leaves, Lends, Unlends, GoesOnAt, Waits, frame}
 use Rattle.monitor_runs.specs.WhoRuns.{WhoRuns, WhoRunsComesBack, block_at, depth_at, HasKeptFrame, IsBehindCall}
 use Rattle.monitor_runs.proofs.OneBlock.{one_block}
 
@@ -108,7 +108,7 @@ module _ (i : Image) (t : Tables) (s u : State) (m : MonitorBlock) (f : ℕ) whe
 
   -- each move leaves a block above, or is the return
   moved : (b n : MonitorBlock) → IsAbove m f b → Moves i t s u b n → IsAbove m f n ⊎ IsReturn n
-  moved b _ x (Steps e) = inl x
+  moved b _ x (Executes e) = inl x
   moved b _ x (Stores w wide l g) = inl x
   moved b _ x (Loads w wide c l g) = inl x
   moved b _ x (Enters c crosses o some sp waits) =
@@ -120,7 +120,7 @@ module _ (i : Image) (t : Tables) (s u : State) (m : MonitorBlock) (f : ℕ) whe
 
   -- the call
   called : (n : MonitorBlock) → Moves i t s u m n → length m.saved < length n.saved → IsAbove m (frame_at s.core.sp) n × Waits i u.ram (frame_at s.core.sp) s
-  called _ (Steps e) lt = absurd (omega (arith, lt))
+  called _ (Executes e) lt = absurd (omega (arith, lt))
   called _ (Stores w wide l g) lt = absurd (omega (arith, lt))
   called _ (Loads w wide c l g) lt = absurd (omega (arith, lt))
   called _ (Enters c crosses o some sp waits) lt = (record { calls = []; saved = refl; lent = []; loans = refl; marks = refl }, waits)

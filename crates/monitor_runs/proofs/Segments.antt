@@ -28,7 +28,7 @@ use Rattle.monitor_confined.specs.WholeRuns.{ChangesKeepOrder}
 use Rattle.monitor_confined.proofs.EntryWords.{FrameLaws}
 use Rattle.monitor_confined.proofs.FaultLaw.{half_of}
 use Rattle.monitor_confined.proofs.SvcLaw.{few_steps}
-use Rattle.monitor_runs.specs.Moves.{Moves, Steps}
+use Rattle.monitor_runs.specs.Moves.{Moves, Executes}
 use Rattle.monitor_runs.proofs.CallMoves.{call_move, call_change}
 use Rattle.monitor_runs.proofs.FaultMoves.{fault_move, fault_change}
 
@@ -131,7 +131,7 @@ module _ (laws : RunLaws) (i : Image) (t : Tables) (p : Placed i t) (stub : ℕ)
 
   one : (m : MonitorBlock) (s : State) → InvariantHolds i t m (step i s) → Segment m s
   unfolding run
-  one m s k = record { count = 1; some = omega arith; few = omega arith; works = λ k some lt. absurd (omega (arith, some, lt)); work = Alone refl k; rest = InThread m k (Steps refl) }
+  one m s k = record { count = 1; some = omega arith; few = omega arith; works = λ k some lt. absurd (omega (arith, some, lt)); work = Alone refl k; rest = InThread m k (Executes refl) }
 
   -- ---- all cases
 

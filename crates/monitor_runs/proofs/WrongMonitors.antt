@@ -17,7 +17,7 @@ use Rattle.monitor_model.specs.Reach.{running, IsInLoan}
 use Rattle.monitor_model.specs.Confined.{later}
 use Rattle.monitor_confined.proofs.EnterLaw.{rounded_below}
 use Rattle.monitor_runs.specs.BlockInRam.{saved_entries, live_loans}
-use Rattle.monitor_runs.specs.Moves.{Moves, Steps, Stores, Loads, Enters, Leaves, Lends, Unlends, IsLent}
+use Rattle.monitor_runs.specs.Moves.{Moves, Executes, Stores, Loads, Enters, Leaves, Lends, Unlends, IsLent}
 use Rattle.monitor_runs.specs.WhoRuns.{IsBack, WhoRuns, block_at}
 use Rattle.monitor_runs.proofs.MovingCalls.{count_saved, count_loans}
 use Rattle.monitor_runs.specs.Refused.{StoresForAnybody, CallsAtFullStack, LendsAnything, StartsBeyondTheStack, RewritesCalls, SkipsRefusedAccess, LoopsInHandler, TellsOfNone, KeepsFromNone}
@@ -33,7 +33,7 @@ module _ (i : Image) (t : Tables) (s u : State) where
 
   -- a call lowers TOP
   lowers : (m b : MonitorBlock) → Moves i t s u m b → length b.saved ≡ suc (length m.saved) → b.top < m.top
-  lowers m _ (Steps e) deep = absurd (omega (arith, deep))
+  lowers m _ (Executes e) deep = absurd (omega (arith, deep))
   lowers m _ (Stores w wide l pc) deep = absurd (omega (arith, deep))
   lowers m _ (Loads w wide c l pc) deep = absurd (omega (arith, deep))
   lowers m _ (Enters c crosses o some sp waits) deep =
@@ -50,7 +50,7 @@ module _ (i : Image) (t : Tables) (s u : State) where
   IsThere top (l ∷ ls) = (frame_at s.core.sp + 32 ≤ l.address) × (l.end ≤ top)
 
   lends : (m b : MonitorBlock) → Moves i t s u m b → length b.loans ≡ suc (length m.loans) → IsThere m.top b.loans
-  lends m _ (Steps e) more = absurd (omega (arith, more))
+  lends m _ (Executes e) more = absurd (omega (arith, more))
   lends m _ (Stores w wide l pc) more = absurd (omega (arith, more))
   lends m _ (Loads w wide c l pc) more = absurd (omega (arith, more))
   lends m _ (Enters c crosses o some sp waits) more = absurd (omega (arith, more))
@@ -60,7 +60,7 @@ module _ (i : Image) (t : Tables) (s u : State) where
 
   -- where as many calls wait, they are the same
   same_calls : (m b : MonitorBlock) → Moves i t s u m b → length b.saved ≡ length m.saved → b.saved ≡ m.saved
-  same_calls m _ (Steps e) deep = refl
+  same_calls m _ (Executes e) deep = refl
   same_calls m _ (Stores w wide l pc) deep = refl
   same_calls m _ (Loads w wide c l pc) deep = refl
   same_calls m _ (Enters c crosses o some sp waits) deep = absurd (omega (arith, deep))
@@ -170,7 +170,7 @@ module _ (i : Image) (t : Tables) (first : State) (w : SkipsRefusedAccess i t fi
   lent mask none width wide l = let x = lent_live i t s mask (low_register s.core 1) width (loan_count i t s.ram) (some_width width wide) (omega arith) l in none x.0 x.1
 
   skipped : (m b : MonitorBlock) → block_at i t first w.two.before ≡ m → Moves i t s u m b → ⊥
-  skipped m _ is (Steps e) = own_step e
+  skipped m _ is (Executes e) = own_step e
   skipped m _ is (Stores width wide l pc) =
       lent (running i t s).mask w.not_written width wide (subst (λ (c : MonitorBlock). IsLent (compartment_at t c.current).mask (low_register s.core 1) width c.loans) (sym is) l)
   skipped m _ is (Loads width wide closed l pc) =

@@ -39,7 +39,7 @@ module _ (i : Image) (t : Tables) (s u : State) (m : MonitorBlock) where
 
   pub data Moves : MonitorBlock → Type 0 where
     -- the compartment's own instruction
-    Steps : u ≡ step i s → Moves m
+    Executes : u ≡ step i s → Moves m
     -- an access of r0 at r1 that the unit refused and that a loan allows. It goes on behind the instruction
     Stores : (width : ℕ) → IsAccessWidth width → IsLent (compartment_at t m.current).mask (low_register s.core 1) width m.loans → u.core.pc ≡ s.core.pc + 2 → Moves m
     Loads : (width : ℕ) → IsAccessWidth width → t.closed ≡ true → IsLent (compartment_at t m.current).reads (low_register s.core 1) width m.loans → u.core.pc ≡ s.core.pc + 2 → Moves m

@@ -1,6 +1,5 @@
 //! What stays in memory, and who accesses peripherals, in each run of a sound image. Each function is a law and does nothing.
 
-ghost use Rattle.monitor_model.specs.Placed.{Placed};
 ghost use Rattle.monitor_model.specs.Promises.{OfSoundImages};
 ghost use Rattle.monitor_program.specs.TheCode.{monitor_code};
 ghost use Rattle.monitor_runs.specs.Stays.{KeepsMemory};

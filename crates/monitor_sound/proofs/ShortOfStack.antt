@@ -1,5 +1,5 @@
 -- Calls that end the machine for want of stack.
-use Rattle.std.proofs.Common.{◌≡◌, ℕ, suc, ◌+◌, ◌-◌, ◌*◌, ◌/◌, ◌^◌, ◌<◌, ◌≤◌, true, List, [], length, get_or, Some, refl, sym, ap, ◌∙◌, subst, arith}
+use Rattle.std.proofs.Common.{◌≡◌, ℕ, suc, ◌+◌, ◌-◌, ◌*◌, ◌/◌, ◌≤◌, true, List, length, get_or, Some, refl, sym, ap, ◌∙◌, subst, arith}
 use Rattle.base_words.specs.declared.conditions.Flags.{Flags}
 use Rattle.base_words.specs.Runs.{run}
 use Rattle.machine_protection.specs.declared.region.Access.TheVariants.{Fetch}
@@ -20,7 +20,7 @@ use Rattle.monitor_model.specs.Invariant.{Invariant}
 use Rattle.monitor_model.specs.MonitorCode.{MonitorCode}
 use Rattle.monitor_model.specs.MonitorLaw.{Shows, MonitorLaw, svc_steps}
 use Rattle.monitor_model.specs.Outcomes.{Outcome, Halts, r12_place, return_place}
-use Rattle.monitor_model.specs.SvcOutcome.{word, new_top, svc_outcome}
+use Rattle.monitor_model.specs.SvcOutcome.{word, svc_outcome}
 use Rattle.monitor_model.specs.Setting.{Setting, setting_of}
 use Rattle.monitor_model.specs.Threads.{svc, call_steps, lend_steps, AtInstr}
 use Rattle.monitor_sound.specs.Accesses.{StubStands}

@@ -1,6 +1,6 @@
 //! Lists without repeats, of which each says at once whether it has an item.
 
-ghost use Rattle.std.specs.Prelude.{◌≡◌, ◌<◌, ◌≤◌, [], length, not, replicate, slice_get, IfOk, OnOk, OnErr};
+ghost use Rattle.std.specs.Prelude.{◌≡◌, ◌<◌, [], length, not, replicate, slice_get, IfOk, OnOk, OnErr};
 ghost use Rattle.need_numbers.specs.Rows.{has, row, added};
 
 use crate::bits::after;

@@ -1,6 +1,6 @@
 //! Lists of objects, of which equal ones share their memory.
 
-ghost use Rattle.std.specs.Prelude.{◌≡◌, ◌≤◌, ◌<◌, ◌++◌, ◌∷◌, [], true, length, get_or, IfOk, OnOk, OnErr};
+ghost use Rattle.std.specs.Prelude.{◌≡◌, ◌<◌, ◌++◌, ◌∷◌, [], true, length, get_or, IfOk, OnOk, OnErr};
 ghost use Rattle.need_sets.specs.Sets.{IsLonger};
 
 use base_lists::ListVec;

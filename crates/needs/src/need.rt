@@ -8,7 +8,6 @@ ghost use Rattle.ir_program.specs.Seen.{program_of};
 ghost use Rattle.need_sets.specs.Sets.{sets_of};
 ghost use Rattle.plan_model.specs.Lists.{ListsExactly};
 ghost use Rattle.plan_model.specs.Needs.{IsNeedOf};
-ghost use Rattle.need_lists.specs.AnyOf.{AnyOf};
 ghost use Rattle.needs.specs.Accesses.{HasTargets};
 ghost use Rattle.needs.specs.Bounds.{HasSmallNumbers, RegistersAreThere};
 

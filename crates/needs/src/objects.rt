@@ -1,6 +1,6 @@
 //! The objects that a function reads and writes.
 
-ghost use Rattle.std.specs.Prelude.{◌≡◌, ◌↔◌, ◌<◌, ◌^◌, ◌⊎◌, true, filter, IfOk, OnOk, Contains};
+ghost use Rattle.std.specs.Prelude.{◌≡◌, ◌↔◌, ◌<◌, ◌^◌, ◌⊎◌, true, IfOk, OnOk, Contains};
 ghost use Rattle.std.specs.List.{All};
 ghost use Rattle.ir_model.specs.declared.object.ObjId as ids;
 ghost use Rattle.ir_model.specs.Objects.{object_by, compare_objects};

@@ -1,6 +1,6 @@
 //! The calls of a function in the order of its text.
 
-ghost use Rattle.std.specs.Prelude.{◌≡◌, ◌<◌, ◌++◌, ◌∷◌, [], ℕ, List, OnOk, length};
+ghost use Rattle.std.specs.Prelude.{◌≡◌, ◌<◌, ◌++◌, ◌∷◌, [], List, OnOk, length};
 ghost use Rattle.ir_model.specs.Layout.{Known};
 ghost use Rattle.ir_model.specs.Resolved as plain;
 ghost use Rattle.ir_model.specs.Resolved.{Does, func_at, block_at, here};

@@ -7,7 +7,6 @@ ghost use Rattle.ir_model.specs.Objects.{object_by};
 ghost use Rattle.ir_model.specs.Resolved.{func_at};
 ghost use Rattle.ir_model.specs.State.{FunctionObject};
 ghost use Rattle.ir_model.specs.Types.{type_of};
-ghost use Rattle.ir_model.specs.Signatures.{signature};
 ghost use Rattle.ir_program.specs.Seen.{program_of};
 ghost use Rattle.need_sets.specs.Sets.{sets_of};
 ghost use Rattle.plan_model.specs.Lists.{ListsExactly};

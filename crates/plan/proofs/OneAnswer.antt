@@ -29,7 +29,7 @@ use Rattle.plan.specs.declared.refusal.PlanningRefusal.{PlanningRefusal}
 use Rattle.plan.specs.declared.refusal.PlanningRefusal.TheVariants.{NoMemory, Limit, Denied, Room}
 use Rattle.plan.specs.Planned.{IsPlannedFor}
 use Rattle.plan_denials.specs.declared.Meeting.{Meeting}
-use Rattle.plan_denials.specs.Meetings.{first_meeting, KeepsOff}
+use Rattle.plan_denials.specs.Meetings.{first_meeting}
 use Rattle.plan.specs.Refusals.{AreRefused, AsksForDenied, HasNoRoom, IsPlanningRefusal, of_place}
 use Rattle.plan.specs.Laws.{PlansAreOne, PlansAreNotRefused, PlanningRefusalsAreOne}
 use Rattle.base_laws.proofs.Options.{one_some as one_passed}

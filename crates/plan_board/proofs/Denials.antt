@@ -1,7 +1,7 @@
 -- The ranges of a table, one behind the other, and that each obeys the rules.
-use Rattle.std.proofs.Common.{◌≡◌, ℕ, ◌+◌, ◌<◌, ◌≤◌, ℤ, pos, negsuc, Bool, true, false, cond, List, [], ◌∷◌, ◌++◌, length, map, nat_lt, String, Global, string_bytes, Option, Some, None, Result, Ok, Err, refl, sym, ap, subst, ◌∙◌, ltb-false, arith}
+use Rattle.std.proofs.Common.{◌≡◌, ℕ, ◌+◌, ◌<◌, ◌≤◌, ℤ, pos, negsuc, Bool, true, false, cond, List, [], ◌∷◌, ◌++◌, length, nat_lt, String, Global, string_bytes, Option, Some, None, Result, Ok, Err, refl, sym, ap, subst, ◌∙◌, ltb-false, arith}
 use Rattle.std.proofs.lemmas.Bool.{and_parts, leb-true}
-use Rattle.std.proofs.lemmas.List.{append-nil, append_assoc}
+use Rattle.std.proofs.lemmas.List.{append_assoc}
 use Rattle.base_laws.specs.Lists.{Each}
 use Rattle.base_names.specs.Names.{is_name}
 use Rattle.plan_model.specs.declared.denied_ranges.Denied.{Denied}
@@ -14,7 +14,7 @@ use Rattle.plan_board.specs.declared.key.Key.TheVariants.{Deny}
 use Rattle.plan_board.specs.declared.fault.BoardFault.{BoardFault}
 use Rattle.plan_board.specs.declared.fault.BoardFault.TheVariants.{Range}
 use Rattle.plan_board.specs.Keys.{word_of}
-use Rattle.plan_board.specs.Denied.{is_deniable, spot_of, range_at, range_by, range_of, two_of, two_in, with_range, ranges_of, named, ranges_in, table_ranges, ranges_by, denied_of}
+use Rattle.plan_board.specs.Denied.{is_deniable, spot_of, range_at, range_by, range_of, two_of, two_in, with_range, ranges_of, named, table_ranges, ranges_by, denied_of}
 
 -- ---- the members of a map
 

@@ -1,5 +1,5 @@
 -- What comes of a document, by its fields and its further keys.
-use Rattle.std.proofs.Common.{◌≡◌, ℕ, ℤ, List, [], ◌∷◌, length, Bool, true, false, nat_lt, Option, Some, None, Result, Ok, Err, sym, ap, subst, ◌∙◌, refl, cond}
+use Rattle.std.proofs.Common.{◌≡◌, ℕ, ℤ, List, [], ◌∷◌, length, Bool, true, false, nat_lt, Option, Some, None, Result, Ok, Err, sym, ap, subst, ◌∙◌, cond}
 use Rattle.std.specs.Prelude.{◌≢◌}
 use Rattle.plan_model.specs.declared.plan.Board.{Board}
 use Rattle.toml.specs.Data.{Members}
@@ -12,7 +12,7 @@ use Rattle.plan_model.specs.declared.plan.Spot.{Spot}
 use Rattle.toml.specs.Data.{Data, get_member, as_table}
 use Rattle.plan_board.specs.declared.key.Key.TheVariants.{Deny}
 use Rattle.plan_board.specs.Keys.{word_of}
-use Rattle.plan_board.specs.Denied.{range_at, range_by, range_of, two_of, spot_of, with_range, ranges_of, named, ranges_in, table_ranges, ranges_by, denied_of}
+use Rattle.plan_board.specs.Denied.{range_at, range_by, range_of, two_of, spot_of, with_range, ranges_of, named, table_ranges, ranges_by, denied_of}
 use Rattle.plan_board.specs.Fields.{board_of}
 use Rattle.plan_board.specs.Extra.{extra_of}
 use Rattle.plan_board.specs.Reading.{board_fault, reading, reading_by, with_denied, IsFurther, IsFaultIn, IsFault, IsDocument}

@@ -1,6 +1,6 @@
 //! Lists of numbers as sets: flags, and the numbers of two lists.
 
-ghost use Rattle.std.specs.Prelude.{◌≡◌, ◌<◌, ◌^◌, ◌||◌, ℕ, nat_eq, false, length, get_or, IfOk, OnOk};
+ghost use Rattle.std.specs.Prelude.{◌≡◌, ◌<◌, ◌||◌, ℕ, nat_eq, false, length, get_or, IfOk, OnOk};
 ghost use Rattle.plan_model.specs.Lists.{union};
 ghost use Rattle.plan_graph.specs.Known.{AreFlags, unflagged};
 

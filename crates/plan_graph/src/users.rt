@@ -1,6 +1,6 @@
 //! Which compartments write and read each global.
 
-ghost use Rattle.std.specs.Prelude.{◌≡◌, ◌<◌, List, [], length, map, filter, if◌then◌else◌, IfOk};
+ghost use Rattle.std.specs.Prelude.{◌≡◌, ◌<◌, length, map, IfOk};
 ghost use Rattle.ir_model.specs.declared.object.ObjId.TheVariants.{Global as TheGlobal};
 ghost use Rattle.plan_model.specs.Groups as sets;
 ghost use Rattle.plan_model.specs.InitialGraph.{compartments_that, users_of};

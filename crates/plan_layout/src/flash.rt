@@ -1,6 +1,6 @@
 //! Flash: where the blocks of the tables and of code lie.
 
-ghost use Rattle.std.specs.Prelude.{◌≡◌, ◌+◌, ◌<◌, ◌^◌, ◌∷◌, length, map, sum, IfOk, IfErr};
+ghost use Rattle.std.specs.Prelude.{◌≡◌, ◌+◌, ◌<◌, ◌^◌, length, map, sum, IfOk, IfErr};
 ghost use Rattle.plan_model.specs.Boards.{IsBoard};
 ghost use Rattle.plan_model.specs.FlashPlacement as flash;
 ghost use Rattle.plan_model.specs.Lists.{numbers_below};

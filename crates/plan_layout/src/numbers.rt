@@ -1,6 +1,6 @@
 //! Sums of numbers, the greatest and the least of them.
 
-ghost use Rattle.std.specs.Prelude.{◌≡◌, ◌<◌, ◌^◌, ◌≤◌, IfSome, sum, filter, nat_lt, nat_eq};
+ghost use Rattle.std.specs.Prelude.{◌≡◌, ◌<◌, ◌^◌, IfSome, sum, filter, nat_lt, nat_eq};
 ghost use Rattle.plan_model.specs.Choices as choices;
 ghost use Rattle.plan_layout.specs.Lowest as lowest;
 

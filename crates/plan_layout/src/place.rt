@@ -6,7 +6,7 @@ ghost use Rattle.plan_model.specs.declared.plan.Lowest.TheVariants as lowest;
 ghost use Rattle.plan_model.specs.Boards.{IsBoard};
 ghost use Rattle.plan_model.specs.Lists.{numbers_below};
 ghost use Rattle.plan_model.specs.Placement.{placed_for};
-ghost use Rattle.plan_model.specs.RamBlocks.{RamUse, ForRegion};
+ghost use Rattle.plan_model.specs.RamBlocks.{ForRegion};
 ghost use Rattle.plan_model.specs.RamPlacement as placement;
 ghost use Rattle.plan_model.specs.Choices.{first_of};
 ghost use Rattle.plan_model.specs.Regions.{users};

@@ -1,8 +1,7 @@
 //! The limits of what is compiled, tested.
 #![tactic(auto)]
 
-ghost use Rattle.std.specs.Prelude.{◌≡◌, ◌-◌, ◌^◌, length, min, find, filter, option_map};
-ghost use Rattle.plan_model.specs.Choices.{first_some};
+ghost use Rattle.std.specs.Prelude.{◌≡◌, ◌-◌, ◌^◌, length, min, option_map};
 ghost use Rattle.plan_model.specs.CompileLimits.{first_passed, wide_site};
 ghost use Rattle.plan_model.specs.Crossing as crossing;
 ghost use Rattle.plan_limits.specs.Told.{in_32_bits};

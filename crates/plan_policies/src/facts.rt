@@ -1,6 +1,6 @@
 //! What a policy knows of each function.
 
-ghost use Rattle.std.specs.Prelude.{◌≡◌, ◌<◌, length, get_or, IfOk};
+ghost use Rattle.std.specs.Prelude.{◌≡◌, ◌<◌, length, IfOk};
 ghost use Rattle.std.specs.List.{All};
 ghost use Rattle.ir_model.specs.Plain.{firmware_of, funcs_of};
 ghost use Rattle.plan_model.specs.Facts as definition;

@@ -1,11 +1,11 @@
 //! Where functions come from: their names and their files.
 
 ghost use Rattle.std.specs.Prelude.{◌≡◌, ◌++◌, length, map, replicate, OnOk, IfOk};
-ghost use Rattle.ir_model.specs.Plain.{PlainFunc, file_of, firmware_of, funcs_of};
+ghost use Rattle.ir_model.specs.Plain.{PlainFunc, firmware_of, funcs_of};
 ghost use Rattle.ir_model.specs.Resolve as resolving;
 
 use base_names::Name;
-use ir_model::firmware::{FileDecl, Firmware, Func};
+use ir_model::firmware::{Firmware, Func};
 use std::alloc::{AllocError, Global};
 
 /// Where a function comes from.

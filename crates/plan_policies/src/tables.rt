@@ -4,7 +4,7 @@ ghost use Rattle.std.specs.Prelude.{◌≡◌, ◌<◌, ℕ, length, map, IfOk};
 ghost use Rattle.std.specs.List.{All, position_or_len};
 ghost use Rattle.plan_model.specs.Lists.{same_numbers};
 ghost use Rattle.plan_model.specs.Policies.{filename_groups, optimized_groups, peripheral_groups, by_name, common_group, move as moved, periph_lists};
-ghost use Rattle.plan_policies.specs.Functions.{AreFunctions, HasCallersBelow, IsAmong};
+ghost use Rattle.plan_policies.specs.Functions.{AreFunctions, IsAmong};
 
 use plan_model::groups::FuncFacts;
 use std::alloc::{AllocError, Global};

@@ -1,6 +1,6 @@
 //! How many bytes a compartment may reach by its regions though none of its functions does.
 
-ghost use Rattle.std.specs.Prelude.{◌≡◌, ◌++◌, ◌+◌, ◌<◌, ◌^◌, OnOk, IfOk, length, if◌then◌else◌, [], codes};
+ghost use Rattle.std.specs.Prelude.{◌≡◌, ◌++◌, ◌+◌, ◌<◌, OnOk, IfOk, length};
 ghost use Rattle.plan_model.specs.Exposure as exposure;
 ghost use Rattle.plan_model.specs.Regions as regions;
 ghost use Rattle.ir_program.specs.Seen.{program_of};

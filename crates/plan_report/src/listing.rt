@@ -1,7 +1,6 @@
 //! The listing.
 
-ghost use Rattle.std.specs.Prelude.{◌≡◌, ◌++◌, OnOk, IfOk, length, flat_map};
-ghost use Rattle.plan_model.specs.Lists.{numbers_below};
+ghost use Rattle.std.specs.Prelude.{◌≡◌, ◌++◌, OnOk, IfOk, length};
 ghost use Rattle.plan_report.specs.Listing as listing;
 ghost use Rattle.plan_report.specs.Subjects.{subject_of};
 

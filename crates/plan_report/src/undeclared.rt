@@ -1,6 +1,6 @@
 //! The addresses in a compartment's ranges of peripherals that no peripheral declares.
 
-ghost use Rattle.std.specs.Prelude.{◌≡◌, ◌++◌, ◌+◌, ◌-◌, ◌≤◌, ◌<◌, ℕ, OnOk, flat_map, map, true, false, ◌∷◌, []};
+ghost use Rattle.std.specs.Prelude.{◌≡◌, ◌++◌, ◌+◌, ◌-◌, ◌≤◌, ◌<◌, ℕ, OnOk, flat_map, map, true, ◌∷◌, []};
 ghost use Rattle.ir_program.specs.Seen.{span_of};
 ghost use Rattle.plan_report.specs.CompartmentLines as lines;
 ghost use Rattle.plan_report.specs.Subjects.{subject_of};

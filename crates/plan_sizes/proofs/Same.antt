@@ -1,5 +1,5 @@
 -- The sizes that the code makes are those of the definitions.
-use Rattle.std.proofs.Common.{◌≡◌, ℕ, suc, ◌+◌, ◌*◌, ◌<◌, ◌≤◌, Bool, true, false, List, [], ◌∷◌, ◌++◌, cond, length, map, sum_by, get_or, nat_eq, take, Option, None, Some, refl, ap, sym, ◌∙◌, length-append, arith}
+use Rattle.std.proofs.Common.{◌≡◌, ℕ, ◌+◌, ◌*◌, ◌<◌, List, [], ◌∷◌, ◌++◌, length, map, sum_by, get_or, take, Option, None, Some, refl, ap, sym, ◌∙◌, length-append, arith}
 use Rattle.std.specs.List.{list_any}
 use Rattle.std.specs.Prelude.{IfSome}
 use Rattle.std.proofs.lemmas.List.{length-map, take_all}
@@ -18,7 +18,7 @@ use Rattle.plan_model.specs.TableSize.{unless_empty, filled_blocks, words_in, in
 use Rattle.code_model.specs.FrameShape.{local_starts}
 use Rattle.code_model.specs.Places.{lends_among}
 use Rattle.code_model.specs.Sizes.{function_size}
-use Rattle.code_model.specs.CompartmentCode.{members_from, filled_size, total_size, size_of, lends_of, code_sizes}
+use Rattle.code_model.specs.CompartmentCode.{members_from, total_size, size_of, lends_of, code_sizes}
 use Rattle.code_model.specs.Planned.{call_sites, code_groups}
 use Rattle.plan_sizes.specs.Parts.{function_bytes, code_with, region_words, block_count, record_bytes}
 use Rattle.plan_crossings.specs.Filled.{filled_total}

@@ -1,8 +1,7 @@
 -- Beyond the program's claim: only laws, proofs and functions inside the tool cite this file.
 -- Sizes by the crossing sites and the locals that are lent.
-use Rattle.std.specs.Prelude.{ℕ, ◌+◌, ◌*◌, List, [], ◌∷◌, length, map, count_by, sum_by}
+use Rattle.std.specs.Prelude.{ℕ, ◌+◌, ◌*◌, List, length, map, count_by, sum_by}
 use Rattle.std.specs.List.{list_any}
-use Rattle.std.proofs.Math.ListN.{get_or}
 use Rattle.ir_model.specs.Resolved.{Program, func_at}
 use Rattle.plan_model.specs.declared.needs.SiteNeed.{SiteNeed}
 use Rattle.plan_model.specs.declared.groups.Groups.{Groups}

@@ -7,7 +7,6 @@ ghost use Rattle.ir_program.specs.Seen.{known_of, program_of, routine_of};
 ghost use Rattle.plan_model.specs.Lists.{numbers_below};
 ghost use Rattle.plan_model.specs.Lending.{is_local};
 ghost use Rattle.code_model.specs.CompartmentCode.{members_from};
-ghost use Rattle.code_model.specs.Planned.{call_sites_among};
 ghost use Rattle.plan_crossings.specs.Filled.{filled_total};
 ghost use Rattle.plan_crossings.specs.Seen.{seen_sites};
 ghost use Rattle.plan_sizes.specs.Parts.{size_with, function_bytes};

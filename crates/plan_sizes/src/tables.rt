@@ -1,6 +1,6 @@
 //! The bytes of the vectors, the monitor and its tables. None where a number takes more than 32 bits.
 
-ghost use Rattle.std.specs.Prelude.{◌≡◌, ◌+◌, ◌*◌, ◌≤◌, length, sum_by, IfSome};
+ghost use Rattle.std.specs.Prelude.{◌≡◌, ◌+◌, ◌*◌, ◌≤◌, length, IfSome};
 ghost use Rattle.ir_program.specs.Seen.{program_of};
 ghost use Rattle.plan_model.specs.TableSize as table_size;
 ghost use Rattle.plan_crossings.specs.Seen.{seen_sites};

@@ -1,8 +1,7 @@
 -- The entry of a function: its frame, and the loans of its locals.
 use Rattle.std.proofs.Common.{◌≡◌, ℕ, ◌+◌, ◌*◌, ◌%◌, ◌<◌, ◌≤◌, Bool, true, false, if◌then◌else◌, nat_le, List, [], length, get_or, Option, sym, ap, ◌∙◌, subst, arith, inl, inr, ⊎_elim}
-use Rattle.base_words.specs.Bytes.{read, cut}
 use Rattle.base_words.specs.declared.conditions.Flags.{Flags}
-use Rattle.machine_model.specs.State.{State, by_mpu}
+use Rattle.machine_model.specs.State.{by_mpu}
 use Rattle.machine_model.specs.Code.{Runs}
 use Rattle.machine_model.specs.Shape.{StateFits}
 use Rattle.machine_model.specs.Stack.{Room}
@@ -15,14 +14,14 @@ use Rattle.code_model.specs.Sizes.{entry_size}
 use Rattle.code_model.specs.Templates.{entry_items}
 use Rattle.monitor_model.specs.Block.{MonitorBlock}
 use Rattle.monitor_model.specs.Setting.{Setting}
-use Rattle.monitor_model.specs.Threads.{base, Stays}
+use Rattle.monitor_model.specs.Threads.{base}
 use Rattle.monitor_model.specs.Law.{Law}
 use Rattle.code_effects.specs.Points.{Point}
 use Rattle.code_effects.specs.Entry.{Entered, entry_steps}
 use Rattle.code_effects.proofs.Registers.{holds_known}
 use Rattle.refine.specs.CodeLaws.{CodeLaws}
 use Rattle.refine.specs.Owned.{Owns, MemoryRules}
-use Rattle.refine.specs.Begun.{Filled, Goes}
+use Rattle.refine.specs.Begun.{Filled}
 use Rattle.code_effects.proofs.Kept.{Kept}
 use Rattle.refine.proofs.Thread.{runs_here, room}
 

@@ -12,7 +12,7 @@ use Rattle.machine_model.specs.RunningCode.{Context, works}
 use Rattle.ir_model.specs.Types.{PlainType}
 use Rattle.ir_model.specs.Resolved.{Value, Number}
 use Rattle.ir_model.specs.State.{Frame, Memory, Running}
-use Rattle.ir_model.specs.Step.{register, with_register}
+use Rattle.ir_model.specs.Step.{with_register}
 use Rattle.ir_laws.specs.Moves.{Where, where_of, wheres}
 use Rattle.ir_laws.specs.Sets.{ObjectSets}
 use Rattle.ir_laws.specs.States.{FrameFits}

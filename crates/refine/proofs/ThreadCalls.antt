@@ -1,5 +1,5 @@
 -- Calls, direct and by a register, within a compartment and across: up to behind the callee's entry.
-use Rattle.std.proofs.Common.{◌≡◌, ℕ, zero, suc, ◌+◌, ◌-◌, ◌*◌, ◌/◌, ◌%◌, ◌^◌, ◌<◌, ◌≤◌, true, false, nat_eq, List, [], ◌∷◌, length, map, get_or, arith}
+use Rattle.std.proofs.Common.{◌≡◌, ℕ, zero, suc, ◌+◌, ◌*◌, ◌<◌, List, [], ◌∷◌, length, map, get_or, arith}
 use Rattle.base_words.specs.Bytes.{read, cut}
 use Rattle.base_words.proofs.Bytes.{read_fits, cut_small}
 

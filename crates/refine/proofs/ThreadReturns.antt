@@ -16,7 +16,7 @@ use Rattle.code_model.specs.Places.{Lend}
 use Rattle.code_model.specs.Templates.{lends_of, term_items}
 use Rattle.monitor_model.specs.Block.{MonitorBlock, lent, entered}
 use Rattle.monitor_model.specs.Setting.{Setting}
-use Rattle.monitor_model.specs.Threads.{lend_steps, base, stack_end, HasRoom}
+use Rattle.monitor_model.specs.Threads.{lend_steps, base, stack_end}
 use Rattle.monitor_model.specs.Law.{Law}
 use Rattle.code_effects.specs.Points.{Point, AreAsKnown}
 use Rattle.code_effects.specs.Calls.{IsBelow, keep_steps}

@@ -1,7 +1,7 @@
 -- An image refines a firmware: whatever the device input, as long as the source run meets no fault and stays within its
 -- stack limit, the machine makes the same accesses of peripherals, by the same compartments and in the same order, and ends
 -- exactly when the source does.
-use Rattle.std.specs.Prelude.{◌≡◌, ℕ, ◌+◌, ◌*◌, ◌<◌, ◌≤◌, List, length, Option, Some, None}
+use Rattle.std.specs.Prelude.{◌≡◌, ℕ, ◌+◌, ◌*◌, ◌≤◌, List, Option, Some, None}
 use Rattle.machine_devices.specs.declared.image.Image.{Image}
 use Rattle.machine_model.specs.declared.state.End.{End}
 use Rattle.machine_model.specs.declared.state.End.TheVariants.{Halt, InputEnd}

@@ -1,6 +1,6 @@
 //! The calls of a firmware, each with one of its targets.
 
-ghost use Rattle.std.specs.Prelude.{◌≡◌, ◌↔◌, IfOk, Contains};
+ghost use Rattle.std.specs.Prelude.{◌↔◌, IfOk, Contains};
 ghost use Rattle.need_lists.specs.AnyOf.{AnyOf};
 ghost use Rattle.refine_stack.specs.declared.calls.Call as seen;
 ghost use Rattle.refine_stack.specs.Listed.{IsCallTo, IsCallAt};

@@ -1,6 +1,6 @@
 //! The first cycle of calls.
 
-ghost use Rattle.std.specs.Prelude.{◌≡◌, ◌↔◌, true, ◌≤◌, ◌<◌, ◌+◌, ◌^◌, length, get_or, IfOk, MatchOption};
+ghost use Rattle.std.specs.Prelude.{◌≡◌, ◌↔◌, true, ◌<◌, ◌+◌, ◌^◌, length, get_or, IfOk, MatchOption};
 ghost use Rattle.refine_stack.specs.Cycles.{HasNoCycle, IsCycle};
 ghost use Rattle.refine_stack.specs.Listed.{IsThere, AreThere, Calls};
 ghost use Rattle.refine_stack.specs.Far.{near, IsMarked, IsLevel, AreFar, IsLowered, IsNext, IsAround, IsOnCycle};

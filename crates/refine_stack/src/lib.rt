@@ -1,7 +1,7 @@
 //! The bound on the stack of a firmware: what it is, and the search for it.
 #![tactic(auto)]
 
-ghost use Rattle.std.specs.Prelude.{◌≡◌, ◌≤◌, ◌<◌, ◌^◌, length, IfOk};
+ghost use Rattle.std.specs.Prelude.{◌≤◌, ◌<◌, ◌^◌, length, IfOk};
 ghost use Rattle.base_ranges.specs.Ranges.{IsPowerBetween};
 ghost use Rattle.ir_program.specs.Seen.{program_of};
 ghost use Rattle.refine_stack.specs.Answers.{IsAnswer};

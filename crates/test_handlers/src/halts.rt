@@ -1,7 +1,5 @@
 //! Each halt of the handlers, once. Blocks and frames were worked out by hand.
 
-ghost use Rattle.std.specs.Prelude.{◌≤◌, length};
-
 use crate::board::{MONITOR, start, word};
 use base_events::event::Event;
 use machine_emulator::Machine;

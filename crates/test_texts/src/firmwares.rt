@@ -1,7 +1,5 @@
 //! Firmwares of texts: their canonical texts, their clones, their types, and sizes of types.
 
-ghost use Rattle.std.specs.Prelude.{◌≤◌, length};
-
 use base_names::{Name, NameRefusal};
 use ir_model::clones::callee_type;
 use ir_model::firmware::Firmware;

@@ -1,4 +1,4 @@
-use Rattle.std.proofs.Common.{ℕ, ◌<◌, length, arith}
+use Rattle.std.proofs.Common.{length, arith}
 use Rattle.std.proofs.lemmas.List.{length-map}
 use Rattle.ir_program.specs.Seen.{program_of, span_of}
 use Rattle.plan_denials.specs.Meetings.{window_meeting, windows_meeting}

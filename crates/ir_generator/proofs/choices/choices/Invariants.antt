@@ -1,4 +1,4 @@
-use Rattle.std.proofs.Common.{ℕ, ◌≡◌, ◌*◌}
+use Rattle.std.proofs.Common.{◌≡◌, ◌*◌}
 use Rattle.ir_generator.specs.Draws.{state_after}
 use Rattle.ir_generator.specs.Choices as spec
 use Rattle.ir_generator.proofs.choices.choices.Given as goal

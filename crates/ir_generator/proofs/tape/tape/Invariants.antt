@@ -1,4 +1,4 @@
-use Rattle.std.proofs.Common.{ℕ, ◌≡◌, ◌+◌, ◌*◌, map, [], ◌∷◌}
+use Rattle.std.proofs.Common.{◌≡◌, ◌+◌, ◌*◌, map, [], ◌∷◌}
 use Rattle.std.specs.List.{range_with_len}
 use Rattle.ir_generator.specs.Draws.{state_after, draw}
 use Rattle.ir_generator.proofs.tape.tape.Given as goal

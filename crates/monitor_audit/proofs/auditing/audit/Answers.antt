@@ -1,5 +1,5 @@
 use Rattle.std.proofs.Common.{subst}
-use Rattle.monitor_audit.specs.Answers.{IsAudit, IsAudited, IsConfinedWhereYes}
+use Rattle.monitor_audit.specs.Answers.{IsAudited}
 use Rattle.monitor_audit.proofs.Counted.{few_compartments, few_sites, yes_is, yes_confined}
 use Rattle.monitor_audit.proofs.auditing.audit.Goals as goal
 

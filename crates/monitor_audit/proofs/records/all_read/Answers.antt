@@ -1,4 +1,4 @@
-use Rattle.std.proofs.Common.{◌≡◌, ℕ, ◌+◌, ◌-◌, ◌*◌, ◌++◌, ◌≤◌, length, ap, sym, ◌∙◌, arith}
+use Rattle.std.proofs.Common.{◌+◌, ◌-◌, ◌*◌, ◌++◌, ◌≤◌, length, ap, sym, ◌∙◌, arith}
 use Rattle.monitor_model.specs.FromFlash.{records}
 use Rattle.monitor_audit.proofs.Reading.{one_more, none_left, none_made, fits}
 use Rattle.monitor_audit.proofs.records.all_read.Goals as goal

@@ -1,4 +1,4 @@
-use Rattle.std.proofs.Common.{◌≡◌, ◌*◌, ◌^◌, ◌≤◌, length, min, ap, ◌∙◌, arith}
+use Rattle.std.proofs.Common.{◌*◌, ◌^◌, ◌≤◌, length, min, ap, ◌∙◌, arith}
 use Rattle.std.specs.Prelude.{sum_by}
 use Rattle.std.proofs.lemmas.List.{take_all}
 use Rattle.monitor_model.specs.Records.{words_in}

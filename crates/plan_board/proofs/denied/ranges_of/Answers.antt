@@ -1,5 +1,5 @@
 use Rattle.std.proofs.Common.{◌≡◌, List, true, string_bytes, sym, ap, ◌∙◌}
-use Rattle.std.specs.Prelude.{ℕ, Ok}
+use Rattle.std.specs.Prelude.{ℕ}
 use Rattle.base_names.specs.Names.{is_name}
 use Rattle.plan_model.specs.declared.denied_ranges.Denied.{Denied}
 use Rattle.toml.specs.View.{view, members_view}
