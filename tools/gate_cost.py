@@ -2,10 +2,13 @@
 """What each crate costs the merge gate, in processor time.
 
     tools/gate_cost.py record FILE &    # samples the prover's processes once a second, until it is ended
-    rt ci --anew
+    rt ci
     kill %1
     tools/gate_cost.py table FILE       # a table: each crate's own proof, and its must-fail edits
     tools/gate_cost.py chain FILE       # the chain of crates, each standing on the one before it, whose proofs take longest
+
+It counts the processes that run in this checkout, and those that try edits, whose folders do not tell of which checkout they are. A kit that
+keeps what it proved has to be told to begin from nothing.
 """
 
 import collections
@@ -32,14 +35,14 @@ def prover(pid):
 
 def record(path):
     """Writes what was seen of each process of the prover, again and again."""
-    seen = {}
+    seen, here = {}, os.path.realpath(os.path.join(os.path.dirname(os.path.abspath(__file__)), ".."))
     while True:
         for pid in filter(str.isdigit, os.listdir("/proc")):
             try:
                 found = prover(pid)
             except OSError:
                 continue
-            if found:
+            if found and (found[1][1].startswith(here + "/") or "/rt-edit-" in found[1][1]):
                 seen[found[0]] = found[1]
         with open(path + ".new", "w", encoding="utf-8") as file:
             json.dump(list(seen.values()), file)

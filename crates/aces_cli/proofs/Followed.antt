@@ -18,8 +18,8 @@ use Rattle.refine_stack.specs.declared.answer.StackAnswer.{StackAnswer}
 use Rattle.refine_stack.specs.declared.answer.StackAnswer.TheVariants.{Cycle, Bound}
 use Rattle.aces_stack_laws.specs.Bounded.{Fits, ImagesRefineWhole}
 use Rattle.aces_stack.specs.Lines.{stack_status}
-use Rattle.aces_plans.specs.PlanAnswer as plans
-use Rattle.aces_plans.specs.PlanAnswer.{PlanAnswer}
+use Rattle.aces_firmwares.specs.PlanAnswer as plans
+use Rattle.aces_firmwares.specs.PlanAnswer.{PlanAnswer}
 use Rattle.aces_plans.specs.Answers as stacks
 use Rattle.aces_plans.specs.Answers.{StackAnswers, AnswerToStack}
 use Rattle.aces_cli.specs.Answer as answers

@@ -28,8 +28,8 @@ use Rattle.aces_audit.proofs.Answering.{image_done}
 use Rattle.aces_firmwares.specs.Answers.{CheckAnswer, SourceAnswer}
 use Rattle.aces_firmwares.specs.Firmwares.{IsFirmware}
 use Rattle.aces_files.specs.Known.{Held, HoldsWithin, Exceeds}
-use Rattle.aces_plans.specs.PlanAnswer as plans
-use Rattle.aces_plans.specs.PlanAnswer.{PlanAnswer}
+use Rattle.aces_firmwares.specs.PlanAnswer as plans
+use Rattle.aces_firmwares.specs.PlanAnswer.{PlanAnswer}
 use Rattle.aces_plans.specs.Answers.{ListAnswer, StackAnswers, SymbolsAnswer, no_firmware, no_board, too_many, bounded}
 use Rattle.aces_plans.specs.Answers as answers
 use Rattle.aces_who.proofs.Answering.{who_done, good_help}

@@ -10,7 +10,8 @@ use Rattle.aces_audit.proofs.Answering.{image_writes_nothing}
 use Rattle.aces_firmwares.specs.Answers.{CheckAnswer, SourceAnswer}
 use Rattle.aces_firmwares.proofs.Answering.{check_writes_nothing, source_writes_nothing}
 use Rattle.aces_plans.specs.Answers.{ListAnswer, StackAnswers, SymbolsAnswer}
-use Rattle.aces_plans.proofs.Answering.{plan_writes_nothing, list_writes_nothing, stack_writes_nothing, symbols_write_nothing}
+use Rattle.aces_firmwares.proofs.Unplanned.{plan_writes_nothing}
+use Rattle.aces_plans.proofs.Answering.{list_writes_nothing, stack_writes_nothing, symbols_write_nothing}
 use Rattle.aces_who.proofs.Answering.{who_writes_nothing, help_writes_nothing}
 use Rattle.aces_who.specs.Answers.{WhoAnswer}
 use Rattle.aces_selftest.proofs.Answering.{selftest_writes_nothing}

@@ -19,7 +19,7 @@ use Rattle.aces_where.specs.Answers.{AnswerToWhere}
 use Rattle.aces_selftest.specs.Answers.{AnswerToSelftest}
 use Rattle.aces_explain.specs.Answers.{AnswerToExplain}
 use Rattle.aces_explain.specs.Plans.{AnswerToExplainPlan}
-use Rattle.aces_plans.specs.PlanAnswer.{PlanAnswer}
+use Rattle.aces_firmwares.specs.PlanAnswer.{PlanAnswer}
 use Rattle.aces_plans.specs.Answers.{AnswerToList, AnswerToStack, AnswerToSymbols}
 
 -- the answer to `compile` on the bytes of both files

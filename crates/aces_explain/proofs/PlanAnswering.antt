@@ -10,8 +10,8 @@ use Rattle.aces_reports.specs.declared.failure.Fault.TheVariants as faults
 use Rattle.aces_reports.specs.Faults.{is_want_of_memory}
 use Rattle.aces_files.specs.Outcomes.{Outcome, done}
 use Rattle.aces_firmwares.specs.Firmwares.{IsFirmware}
-use Rattle.aces_plans.specs.PlanAnswer as plans
-use Rattle.aces_plans.specs.PlanAnswer.{PlanAnswer}
+use Rattle.aces_firmwares.specs.PlanAnswer as plans
+use Rattle.aces_firmwares.specs.PlanAnswer.{PlanAnswer}
 use Rattle.aces_explain.specs.Plans.{IsPlanTold, unplanned, planned, ExplainPlanAnswer, no_firmware, no_board, told}
 use Rattle.aces_explain.proofs.Explainable.{explain_done}
 

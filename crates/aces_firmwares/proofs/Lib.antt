@@ -1,3 +1,4 @@
 mod Firmwares
 pub mod Sourcing
 pub mod Answering
+pub mod Unplanned

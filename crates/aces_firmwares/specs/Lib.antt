@@ -1,3 +1,4 @@
 pub mod Firmwares
 pub mod Counts
 pub mod Answers
+pub mod PlanAnswer

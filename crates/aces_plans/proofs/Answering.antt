@@ -2,17 +2,9 @@
 use Rattle.std.proofs.Common.{◌≡◌, ℕ, List, None, refl}
 use Rattle.plan_model.specs.declared.policy.Policy.{Policy}
 use Rattle.aces_files.specs.Outcomes.{Outcome}
-use Rattle.aces_plans.specs.PlanAnswer.{PlanAnswer, no_firmware, no_board, too_many, meets_denied, lacks_room}
+use Rattle.aces_firmwares.proofs.Unplanned.{plan_writes_nothing}
 use Rattle.aces_plans.specs.Answers.{ListAnswer, SymbolsAnswer, StackAnswers}
 use Rattle.aces_plans.specs.Answers as answers
-
--- a refusal of a plan writes nothing
-pub plan_writes_nothing : (firmware board : List ℕ) (policy : Policy) (bytes text : List ℕ) (o : Outcome) → PlanAnswer firmware board policy bytes text o → o.written ≡ None
-plan_writes_nothing firmware board policy bytes text o (no_firmware f h) = refl
-plan_writes_nothing firmware board policy bytes text o (no_board w f h k) = refl
-plan_writes_nothing firmware board policy bytes text o (too_many w b which count h k r) = refl
-plan_writes_nothing firmware board policy bytes text o (meets_denied w b m h k r) = refl
-plan_writes_nothing firmware board policy bytes text o (lacks_room w b lack h k r) = refl
 
 pub list_writes_nothing : (firmware board : List ℕ) (policy : Policy) (bytes text : List ℕ) (o : Outcome) → ListAnswer firmware board policy bytes text o → o.written ≡ None
 list_writes_nothing firmware board policy bytes text o (answers.unplanned p h) = plan_writes_nothing firmware board policy bytes text o h

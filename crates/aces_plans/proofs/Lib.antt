@@ -1,2 +1,2 @@
-pub mod Planning
+mod Planning
 pub mod Answering

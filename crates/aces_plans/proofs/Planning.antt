@@ -1,41 +1,22 @@
--- Firmwares that are not planned.
-use Rattle.std.proofs.Common.{◌≡◌, inl, inr, ℕ, List, None, sym, subst}
+-- What `stack` answers, by what is found.
+use Rattle.std.proofs.Common.{◌≡◌, ℕ, List, None, sym, subst}
 use Rattle.plan_model.specs.declared.policy.Policy.{Policy}
 use Rattle.ir_model.specs.Plain.{PlainFirmware}
 use Rattle.plan_model.specs.declared.plan.Board.{Board}
 use Rattle.plan_board.specs.Reading.{IsRead}
 use Rattle.plan.specs.declared.refusal.PlanningRefusal.{PlanningRefusal}
 use Rattle.plan.specs.declared.refusal.PlanningRefusal.TheVariants.{NoMemory, Limit, Denied, Room}
-use Rattle.plan_firmwares.specs.Unplanned.{IsUnplanned}
 use Rattle.aces_reports.specs.declared.failure.Failure.{Failure}
 use Rattle.aces_firmwares.specs.Firmwares.{IsFirmware}
+use Rattle.aces_firmwares.proofs.Unplanned.{refused_so}
 use Rattle.aces_stack.specs.Limited.{IsLimited}
 use Rattle.aces_stack.specs.Lines.{stack_lines, stack_status}
 use Rattle.refine_stack.specs.declared.answer.StackAnswer.{StackAnswer}
 use Rattle.aces_stack_laws.specs.Bounded.{IsStackBy}
-use Rattle.aces_files.specs.Outcomes.{Outcome, done}
-use Rattle.aces_plans.specs.PlanAnswer.{PlanAnswer, too_many, meets_denied, lacks_room}
+use Rattle.aces_files.specs.Outcomes.{done}
 use Rattle.aces_plans.specs.Answers.{StackAnswers, bounded}
 use Rattle.aces_plans.specs.Answers as answers
 use Rattle.aces_files.specs.Loads.{IsRefusal, IsPlanningFailure, of_planning}
-
--- the failure of a refusal, where memory does not run out for its line
-refused_so : (A : Outcome → Type 0) (w : PlainFirmware) (b : Board) (r : PlanningRefusal) (e : Failure) → IsPlanningFailure w b r e → IsRefusal A (of_planning w b r) → IsRefusal A e
-refused_so A w b r e (inl q) h = subst (IsRefusal A) (sym q) h
-refused_so A w b r e (inr q) h = subst (IsRefusal A) (sym q) tt
-
--- a firmware that is not planned
-unplanned : (firmware board : List ℕ) (policy : Policy) (bytes text : List ℕ) (w : PlainFirmware) (b : Board) → IsFirmware w bytes → IsRead text b
-    → (r : PlanningRefusal) → IsUnplanned policy w b r → IsRefusal (PlanAnswer firmware board policy bytes text) (of_planning w b r)
-unplanned firmware board policy bytes text w b f k NoMemory h = tt
-unplanned firmware board policy bytes text w b f k (Limit which count) h = too_many w b which count f k h
-unplanned firmware board policy bytes text w b f k (Denied m) h = meets_denied w b m f k h
-unplanned firmware board policy bytes text w b f k (Room lack) h = lacks_room w b lack f k h
-
-pub planning_refused : (firmware board : List ℕ) (policy : Policy) (bytes text : List ℕ) (w : PlainFirmware) (b : Board) → IsFirmware w bytes → IsRead text b
-    → (r : PlanningRefusal) (e : Failure) → IsUnplanned policy w b r → IsPlanningFailure w b r e → IsRefusal (PlanAnswer firmware board policy bytes text) e
-planning_refused firmware board policy bytes text w b f k r e h q =
-    refused_so (PlanAnswer firmware board policy bytes text) w b r e q (unplanned firmware board policy bytes text w b f k r h)
 
 -- one of which a limit is passed
 limited : (firmware board : List ℕ) (policy : Policy) (bytes text : List ℕ) (w : PlainFirmware) (b : Board) → IsFirmware w bytes → IsRead text b

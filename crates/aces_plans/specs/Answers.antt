@@ -18,7 +18,7 @@ use Rattle.aces_files.specs.Answers.{AnswerByFiles}
 use Rattle.aces_files.specs.Contents.{IsNoBoard}
 use Rattle.aces_files.specs.Outcomes.{Outcome, done, refused, past_limit}
 use Rattle.aces_firmwares.specs.Firmwares.{IsNoFirmware, IsFirmware}
-use Rattle.aces_plans.specs.PlanAnswer.{PlanAnswer}
+use Rattle.aces_firmwares.specs.PlanAnswer.{PlanAnswer}
 
 -- the answer to `list` on the bytes of both files
 pub data ListAnswer (firmware board : List ℕ) (policy : Policy) (bytes text : List ℕ) : Outcome → Type 0 where

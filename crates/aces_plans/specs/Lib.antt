@@ -1,2 +1,1 @@
-pub mod PlanAnswer
 pub mod Answers

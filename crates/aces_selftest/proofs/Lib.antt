@@ -1,4 +1,4 @@
-pub mod Lengths
+mod Lengths
 mod Going
 mod SourceTurns
 mod MachineTurns

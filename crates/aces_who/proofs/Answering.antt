@@ -3,8 +3,8 @@ use Rattle.std.proofs.Common.{◌≡◌, ℕ, List, None, refl}
 use Rattle.plan_model.specs.declared.policy.Policy.{Policy}
 use Rattle.aces_words.specs.Requests.{Origin}
 use Rattle.aces_files.specs.Outcomes.{Outcome}
-use Rattle.aces_plans.specs.PlanAnswer.{PlanAnswer}
-use Rattle.aces_plans.proofs.Answering.{plan_writes_nothing}
+use Rattle.aces_firmwares.specs.PlanAnswer.{PlanAnswer}
+use Rattle.aces_firmwares.proofs.Unplanned.{plan_writes_nothing}
 use Rattle.aces_who.specs.Answers.{WhoAnswer, unplanned, told, AnswerToHelp, helped}
 
 -- ---- who, on the bytes of both files

@@ -8,7 +8,7 @@ use Rattle.plan_board.specs.Reading as boards
 use Rattle.aces_files.specs.Answers.{AnswerByFiles}
 use Rattle.aces_files.specs.Outcomes.{Outcome, done}
 use Rattle.aces_firmwares.specs.Firmwares.{IsFirmware}
-use Rattle.aces_plans.specs.PlanAnswer.{PlanAnswer}
+use Rattle.aces_firmwares.specs.PlanAnswer.{PlanAnswer}
 use Rattle.aces_who.specs.HelpText.{help_text}
 use Rattle.aces_who.specs.Owners.{AreOwners}
 

@@ -1,24 +1,24 @@
 pub mod FlashBack
 pub mod FlashParts
-pub mod Passing
+mod Passing
 pub mod Facts
 mod Header
-pub mod OpenBytes
+mod OpenBytes
 pub mod Ranges
-pub mod AreaSize
+mod AreaSize
 pub mod ReadBack
 pub mod AreaEnd
 mod CodeRegions
-pub mod TablesPass
-pub mod Bits
-pub mod Kept
-pub mod Reach
-pub mod Compartments
+mod TablesPass
+mod Bits
+mod Kept
+mod Reach
+mod Compartments
 mod Covers
 pub mod CoverParts
 pub mod Bearing
 mod Loans
-pub mod WindowsOpen
+mod WindowsOpen
 mod Windows
 mod Memory
 mod CodeBlocks
@@ -26,7 +26,7 @@ pub mod Lists
 mod Products
 mod Joins
 mod FirstRegions
-pub mod FinalRegions
+mod FinalRegions
 mod Objects
 pub mod GlobalPlaces
 mod GlobalAreas
@@ -38,7 +38,7 @@ mod Forms
 mod FlashWords
 mod WindowRules
 mod Rules
-pub mod Masks
+mod Masks
 mod Readers
 pub mod CoverSlots
 mod CoverWindows

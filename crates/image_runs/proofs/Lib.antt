@@ -11,6 +11,6 @@ mod Composed
 mod Alike
 mod ReadAlike
 mod ChecksAlike
-pub mod CodeStays
+mod CodeStays
 mod Behind
 pub mod Kept

@@ -5,8 +5,8 @@ mod CheckedFunctions
 mod Offers
 mod Typed
 mod Within
-pub mod Proper
-pub mod Bodies
+mod Proper
+mod Bodies
 mod Growing
 mod Stepping
 mod Worked

@@ -1,9 +1,9 @@
-pub mod Mode
+mod Mode
 pub mod Encodable
-pub mod Blocks
-pub mod Frames
-pub mod Entry
-pub mod Returned
+mod Blocks
+mod Frames
+mod Entry
+mod Returned
 mod Wide
 mod Lent
 mod Scan

@@ -1,2 +1,2 @@
 mod Listed
-pub mod Begun
+mod Begun

@@ -11,14 +11,14 @@ mod Kept
 mod WrongMonitors
 mod OneBlock
 mod Waiting
-pub mod Tests
+mod Tests
 mod RefusedStores
 mod CallMoves
 mod FaultMoves
-pub mod Segments
-pub mod Inductions
+mod Segments
+mod Inductions
 mod ThreadRuns
 mod UnreadSteps
 mod Composed
-pub mod MovingCalls
+mod MovingCalls
 mod Together

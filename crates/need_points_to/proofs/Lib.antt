@@ -3,6 +3,6 @@ mod Back
 mod Bridge
 mod Edges
 mod Summing
-pub mod Least
-pub mod Bound
+mod Least
+mod Bound
 mod Results

@@ -2,9 +2,9 @@ mod Closing
 mod Joined
 pub mod Funcs
 mod Used
-pub mod Matched
+mod Matched
 mod Walked
 pub mod Bounded
 mod FunctionTargets
 mod Gathered
-pub mod Lendables
+mod Lendables

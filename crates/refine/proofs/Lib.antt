@@ -1,23 +1,23 @@
 mod NeverWrong
 mod Refusals
 mod Guarding
-pub mod Stops
-pub mod Lends
-pub mod Callees
+mod Stops
+mod Lends
+mod Callees
 mod Counts
 mod Given
 mod Runs
 mod WholeRuns
 mod Images
-pub mod Facts
-pub mod Frames
-pub mod Shapes
-pub mod Blocks
-pub mod Locals
-pub mod Limits
-pub mod Places
+mod Facts
+mod Frames
+mod Shapes
+mod Blocks
+mod Locals
+mod Limits
+mod Places
 mod Standing
-pub mod Premises
+mod Premises
 mod Steps
 mod Registers
 mod Branches
@@ -28,11 +28,11 @@ mod Cells
 mod Reaching
 mod Loads
 mod Stores
-pub mod Begins
-pub mod AllCases
-pub mod Areas
-pub mod Thread
-pub mod Entry
-pub mod ThreadCalls
-pub mod ThreadReturns
-pub mod Joined
+mod Begins
+mod AllCases
+mod Areas
+mod Thread
+mod Entry
+mod ThreadCalls
+mod ThreadReturns
+mod Joined

@@ -1,13 +1,13 @@
 use Rattle.std.proofs.Common.{sym, subst}
 use Rattle.std.proofs.lemmas.Result.{err_from_is_err_and}
 use Rattle.ir_model.specs.Plain.{firmware_of}
-use Rattle.aces_plans.specs.PlanAnswer.{PlanAnswer, no_firmware, no_board}
+use Rattle.aces_firmwares.specs.PlanAnswer.{PlanAnswer, no_firmware, no_board}
 use Rattle.aces_plans.specs.Answers.{ListAnswer, listed, unplanned}
 use Rattle.aces_files.specs.Contents.{IsNoBoard}
 use Rattle.aces_firmwares.specs.Firmwares.{IsNoFirmware}
 use Rattle.aces_files.specs.Loads.{IsContentFailure, IsPlanningFailure}
 use Rattle.aces_files.proofs.Ends.{content_refused, refusal_also}
-use Rattle.aces_plans.proofs.Planning.{planning_refused}
+use Rattle.aces_firmwares.proofs.Unplanned.{planning_refused}
 use Rattle.aces_plans.proofs.list.listed.Goals as goal
 
 pub returns-in_err-checked-clause-err : goal.returns-in_err-checked-clause-err

@@ -1,8 +1,8 @@
 use Rattle.std.proofs.Common.{sym, subst}
 use Rattle.std.proofs.lemmas.Result.{err_from_is_err_and}
 use Rattle.ir_model.specs.Plain.{firmware_of}
-use Rattle.aces_plans.specs.PlanAnswer.{PlanAnswer, no_firmware, no_board}
-use Rattle.aces_plans.proofs.Planning.{planning_refused}
+use Rattle.aces_firmwares.specs.PlanAnswer.{PlanAnswer, no_firmware, no_board}
+use Rattle.aces_firmwares.proofs.Unplanned.{planning_refused}
 use Rattle.aces_who.specs.Answers.{WhoAnswer, unplanned, told}
 use Rattle.aces_files.specs.Contents.{IsNoBoard}
 use Rattle.aces_firmwares.specs.Firmwares.{IsNoFirmware}
