@@ -6,12 +6,14 @@
     kill %1
     tools/gate_cost.py table FILE       # a table: each crate's own proof, and its must-fail edits
     tools/gate_cost.py chain FILE       # the chain of crates, each standing on the one before it, whose proofs take longest
+    tools/gate_cost.py paths            # the ways from each crate down to all below it, which some kits go one by one
 
 It counts the processes that run in this checkout, and those that try edits, whose folders do not tell of which checkout they are. A kit that
 keeps what it proved has to be told to begin from nothing.
 """
 
 import collections
+import collections.abc
 import json
 import os
 import sys
@@ -69,13 +71,30 @@ def table(path):
     print(f"| all | {total[0]:.1f} | {total[1]:.1f} |")
 
 
-def chain(path):
-    """Prints the longest chain of crates and its processor minutes, by crates.txt in the folder above this one."""
-    minutes = minutes_by_crate(path)
+def uses_by_crate():
+    """The crates that each crate uses, by crates.txt in the folder above this one."""
     with open(os.path.join(os.path.dirname(__file__), "..", "crates.txt"), encoding="utf-8") as file:
         rows = [line.split(":") for line in file if line.strip() and not line.startswith("#")]
-    below = {name.strip(): uses.split() for name, uses in rows}
-    longest = {}
+    return {name.strip(): uses.split() for name, uses in rows}
+
+
+def paths():
+    """Prints for each crate how many ways lead from it down to a crate, itself among them, most first."""
+    below, ways = uses_by_crate(), {}
+
+    def from_crate(crate):
+        if crate not in ways:
+            ways[crate] = 1 + sum(from_crate(use) for use in below[crate] if use in below)
+        return ways[crate]
+
+    for crate in sorted(below, key=from_crate, reverse=True):
+        print(f"{ways[crate]:9} {crate}")
+    print(f"{sum(ways.values()):9} all")
+
+
+def chain(path):
+    """Prints the longest chain of crates and its processor minutes, by crates.txt in the folder above this one."""
+    minutes, below, longest = minutes_by_crate(path), uses_by_crate(), {}
 
     def ending_at(crate):
         if crate not in longest:
@@ -87,5 +106,7 @@ def chain(path):
     print(f"{total:.1f}: {' '.join(crates)}")
 
 
+COMMANDS: dict[str, collections.abc.Callable[..., None]] = {"record": record, "table": table, "chain": chain, "paths": paths}
+
 if __name__ == "__main__":
-    {"record": record, "table": table, "chain": chain}[sys.argv[1]](sys.argv[2])
+    COMMANDS[sys.argv[1]](*sys.argv[2:])
