@@ -133,7 +133,7 @@ seconds() {
 
 # The most memory that a call takes, in MB; a dash where it refuses, and where nothing measures it.
 megabytes() {
-    { command time -f %M "$program" "$@" > printed; } 2> measured && awk 'END { printf "%.1f\n", $1 / 1024 }' measured || echo -
+    { command time -f %M "$program" "$@" > printed; } 2> measured && awk 'END { printf "%.1f\n", $1 * 1024 / 1000000 }' measured || echo -
 }
 
 # The figures at three sizes, and by what they grew.

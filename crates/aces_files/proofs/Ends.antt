@@ -99,17 +99,6 @@ content_failed A IsFault r name old new quiet reads answer (Unwritten n) h = abs
 content_failed A IsFault r name old new quiet reads answer Unprinted h = absurd h
 content_failed A IsFault r name old new quiet reads answer NoMemory h = no_memory A r old new quiet reads
 
--- it names no file as unread
-pub content_names : (calls : List Call) (IsFault : Fault → Type 0) (name : List ℕ) (e : Failure) → IsContentFailure IsFault name e → NamesLast calls e
-content_names calls IsFault name (Refused n f) h = tt
-content_names calls IsFault name (PastLimit which count) h = absurd h
-content_names calls IsFault name (Denied said) h = absurd h
-content_names calls IsFault name (NoRoom lack) h = absurd h
-content_names calls IsFault name (Unread n) h = absurd h
-content_names calls IsFault name (Unwritten n) h = absurd h
-content_names calls IsFault name Unprinted h = absurd h
-content_names calls IsFault name NoMemory h = tt
-
 -- what is refused by some faults is refused by others
 pub content_also : (P Q : Fault → Type 0) → ((f : Fault) → P f → Q f) → (name : List ℕ) (e : Failure) → IsContentFailure P name e → IsContentFailure Q name e
 content_also P Q m name (Refused n f) h = (h.0, m f h.1)
@@ -133,7 +122,7 @@ refusal_did A r old new quiet reads (Unwritten n) h = absurd h
 refusal_did A r old new quiet reads Unprinted h = absurd h
 refusal_did A r old new quiet reads NoMemory h = no_memory A r old new quiet reads
 
--- nor does that
+-- a refusal names no file as unread
 pub refusal_names : (calls : List Call) (A : Outcome → Type 0) (e : Failure) → IsRefusal A e → NamesLast calls e
 refusal_names calls A (Refused n f) h = tt
 refusal_names calls A (PastLimit which count) h = tt

@@ -1,5 +1,5 @@
 -- Lines that are put piece by piece.
-use Rattle.std.proofs.Common.{◌≡◌, ℕ, ◌+◌, ◌/◌, ◌%◌, ◌<◌, ◌≤◌, ◌^◌, List, [], ◌∷◌, ◌++◌, ap, sym, ◌∙◌, subst, arith, append_assoc, append-nil, IsTrue}
+use Rattle.std.proofs.Common.{◌≡◌, ℕ, ◌+◌, ◌/◌, ◌%◌, ◌<◌, ◌≤◌, ◌^◌, List, [], ◌∷◌, ◌++◌, ap, sym, ◌∙◌, subst, arith, append_assoc, IsTrue}
 use Rattle.std.specs.Fmt.{decimal}
 use Rattle.std.proofs.lemmas.Fmt.{decimal_digit, decimal_step}
 use Rattle.base_outside.specs.Counts.{Stayed}
@@ -23,9 +23,6 @@ says_both a b c x y t p q =
           ∙ ap (λ l. l ++ y) (p.said told (stayed_first a.faults b.faults c.faults h k s))
           ∙ append_assoc a.written x y;
     }
-
-pub says_nothing : (a : SinkState) → PutsLine a a []
-says_nothing a = record { never_falls = omega arith; said = λ t s. sym (append-nil a.written) }
 
 pub says_digit : (a c : SinkState) (n : ℕ) → n < 10 → PutsLine a c ((48 + n % 10) ∷ []) → PutsLine a c (decimal n)
 says_digit a c n h p =

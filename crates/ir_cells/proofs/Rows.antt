@@ -7,7 +7,7 @@ use Rattle.ir_model.specs.declared.types.Ty.{Ty}
 use Rattle.ir_model.specs.declared.firmware.StructDecl.{StructDecl}
 use Rattle.ir_model.specs.Types.{PlainType, Array, Named, type_of}
 use Rattle.ir_model.specs.Plain.{PlainStruct, struct_of}
-use Rattle.ir_model.specs.Layout.{CellPlace, Shape, empty, shape, shape_named, shifted, copies, known}
+use Rattle.ir_model.specs.Layout.{CellPlace, Shape, shape, shifted, copies, known}
 use Rattle.ir_layouts.specs.declared.measure.Measure.{Measure}
 use Rattle.ir_layouts.specs.declared.table.Field.{Field}
 use Rattle.ir_layouts.specs.declared.table.StructLayout.{StructLayout}
@@ -136,9 +136,6 @@ pub row_struct : (ss : List StructDecl) (b : ℕ) (u : PlainType) (n : List ℕ)
 row_struct ss b u n k l e p g h =
     ap (λ (s : Shape). types_of s.cells) (named_shape ss b u n k l e p g)
     ∙ (ap types_of (struct_cells (map struct_of (take k ss)) l h) ∙ fields_types (map struct_of (take k ss)) l.fields.items)
-
-pub row_missing : (ss : List PlainStruct) (u : PlainType) (n : List ℕ) → u ≡ Named n → shape_named (known ss) n ≡ empty → row_of ss u ≡ []
-row_missing ss u n e h = ap (row_of ss) e ∙ ap (λ (s : Shape). types_of s.cells) h
 
 take_next : (fs : List Field) (k : ℕ) (f : Field) → k < length fs → f ≡ get_or fs k f → take (suc k) fs ≡ take k fs ++ f ∷ []
 take_next [] k f l e = absurd (omega arith)
