@@ -2,7 +2,12 @@
 //! and of firmwares in which one compartment has other code.
 #![tactic(auto)]
 
-ghost use Rattle.std.specs.Prelude.{◌≡◌, ◌<◌, ◌%◌, IfOk};
+ghost use Rattle.std.specs.Prelude.{◌≡◌, ◌<◌, ◌%◌, IfOk, length};
+ghost use Rattle.ir_model.specs.Plain.{firmware_of, funcs_of};
+ghost use Rattle.ir_model.specs.Resolve.{resolve};
+ghost use Rattle.ir_program.specs.Seen.{program_of};
+ghost use Rattle.machine_devices.specs.Rules.{ObeysRules};
+ghost use Rattle.plan_compartments.specs.Analyses.{AreNeedsOf};
 ghost use Rattle.plan_model.specs.Boards.{IsBoard};
 
 use aces_compiler::{CodeRefusal, compile, compile_with_code};
@@ -12,7 +17,8 @@ use anyhow::{Result, bail};
 use base_outside::MemFiles;
 use ir_model::checked::Checked;
 use ir_model::text_limits::FUNCTION_LIMIT;
-use plan_firmwares::analyse;
+use machine_devices::image::Image;
+use plan_firmwares::{Analysis, analyse};
 use plan_model::Policy;
 use plan_model::groups::FuncFacts;
 use plan_model::plan::Board;
@@ -39,9 +45,10 @@ pub fn divide(
     image: &str,
 ) -> Result<()> {
     let count: u32 = count.parse()?;
-    let (firmware, board) = loaded(alloc, files, firmware, board)?;
-    let made = divided(alloc, &firmware, &board, count)?;
-    put(files, image, &made)
+    let board = board_at(alloc, files, board)?;
+    let firmware = firmware_at(alloc, files, firmware)?;
+    let made = divided(alloc, &firmware, &board, count);
+    put_made(files, image, made)
 }
 
 /// Writes the text of the image of a firmware for a board to a file, where the block of a compartment has the code of a file. Each file of the
@@ -61,33 +68,47 @@ pub fn replace(
 ) -> Result<()> {
     let compartment: u32 = compartment.parse()?;
     let code = bytes_of(alloc, files, code)?;
-    let (firmware, board) = loaded(alloc, files, firmware, board)?;
-    let made = replaced(alloc, &firmware, &board, compartment, &code)?;
-    put(files, image, &made)
+    let board = board_at(alloc, files, board)?;
+    let firmware = firmware_at(alloc, files, firmware)?;
+    let made = replaced(alloc, &firmware, &board, compartment, &code);
+    put_made(files, image, made)
 }
 
-/// A checked firmware and a board, from their files.
-fn loaded(
-    alloc: Global,
-    files: &mut MemFiles,
-    firmware: &str,
-    board: &str,
-) -> Result<(Checked, Board)>
-    ensures { IfOk result (λ p. IsBoard p.1) }
-{
+/// The checked firmware of a file.
+fn firmware_at(alloc: Global, files: &mut MemFiles, firmware: &str) -> Result<Checked> {
     let Ok(bytes) = load_firmware(alloc, files, firmware) else {
         bail!("the firmware is not read");
     };
-    let Ok(checked) = firmware_of(alloc, firmware, &bytes) else {
-        bail!("no firmware");
-    };
+    match firmware_of(alloc, firmware, &bytes) {
+        Ok(checked) => Ok(checked),
+        Err(_) => bail!("no firmware"),
+    }
+}
+
+/// The board of a file.
+fn board_at(alloc: Global, files: &mut MemFiles, board: &str) -> Result<Board>
+    ensures { IfOk result IsBoard }
+{
     let Ok(text) = load(alloc, files, board) else {
         bail!("the board is not read");
     };
-    let Ok(board) = board_of(alloc, board, &text) else {
-        bail!("no board");
-    };
-    Ok((checked, board))
+    match board_of(alloc, board, &text) {
+        Ok(board) => Ok(board),
+        Err(_) => bail!("no board"),
+    }
+}
+
+/// Writes an image's text to a file, if it was made.
+fn put_made(files: &mut MemFiles, name: &str, made: Result<Vec<u8>>) -> Result<()> {
+    let text = made?;
+    put(files, name, &text)
+}
+
+/// The text of an image.
+fn text_of(alloc: Global, image: &Image) -> Result<Vec<u8>>
+    requires { ObeysRules image.now }
+{
+    Ok(machine_image::write(alloc, image)?)
 }
 
 /// The text of the image of a checked firmware.
@@ -95,6 +116,22 @@ fn divided(alloc: Global, firmware: &Checked, board: &Board, count: u32) -> Resu
     requires { IsBoard board.now }
 {
     let analysis = analyse(alloc, firmware, Policy::Filename, board.closed)?;
+    divided_by(alloc, firmware, &analysis, board, count)
+}
+
+/// The same, of a firmware that was analysed.
+fn divided_by(
+    alloc: Global,
+    firmware: &Checked,
+    analysis: &Analysis,
+    board: &Board,
+    count: u32,
+) -> Result<Vec<u8>>
+    requires program { program_of analysis.now.program ≡ resolve (firmware_of firmware.now) }
+    requires needs { AreNeedsOf (firmware_of firmware.now) board.now.closed analysis.now.needs }
+    requires each { length analysis.now.needs.funcs ≡ length (funcs_of (firmware_of firmware.now)) }
+    requires board { IsBoard board.now }
+{
     let functions = analysis.needs.funcs.len();
     if functions == 0 || functions > MOST as usize || count == 0 || count > MOST {
         bail!("no grouping");
@@ -118,7 +155,7 @@ fn divided(alloc: Global, firmware: &Checked, board: &Board, count: u32) -> Resu
         count: _count,
     } = grouping;
     match made {
-        Ok(image) => Ok(machine_image::write(alloc, &image)?),
+        Ok(image) => text_of(alloc, &image),
         Err(_) => bail!("refused"),
     }
 }
@@ -134,6 +171,23 @@ fn replaced(
     requires { IsBoard board.now }
 {
     let analysis = analyse(alloc, firmware, Policy::Filename, board.closed)?;
+    replaced_by(alloc, firmware, &analysis, board, compartment, code)
+}
+
+/// The same, of a firmware that was analysed.
+fn replaced_by(
+    alloc: Global,
+    firmware: &Checked,
+    analysis: &Analysis,
+    board: &Board,
+    compartment: u32,
+    code: &[u8],
+) -> Result<Vec<u8>>
+    requires program { program_of analysis.now.program ≡ resolve (firmware_of firmware.now) }
+    requires needs { AreNeedsOf (firmware_of firmware.now) board.now.closed analysis.now.needs }
+    requires each { length analysis.now.needs.funcs ≡ length (funcs_of (firmware_of firmware.now)) }
+    requires board { IsBoard board.now }
+{
     let functions = analysis.needs.funcs.len();
     if functions == 0 || functions > MOST as usize {
         bail!("no grouping");
@@ -158,7 +212,7 @@ fn replaced(
         count: _count,
     } = grouping;
     match made {
-        Ok(image) => Ok(machine_image::write(alloc, &image)?),
+        Ok(image) => text_of(alloc, &image),
         Err(CodeRefusal::NoMemory) => bail!("no memory"),
         Err(CodeRefusal::Refused(_)) => bail!("refused"),
         Err(CodeRefusal::Compartment) => bail!("no such compartment"),

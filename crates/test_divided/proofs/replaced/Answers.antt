@@ -1,7 +1,7 @@
 use Rattle.test_divided.proofs.replaced.Goals as goal
 
-pub compile_with_code-made-requires-clause-program : goal.compile_with_code-made-requires-clause-program
-compile_with_code-made-requires-clause-program c = c.in_ok-analysis.ensures.exact.program
+pub replaced_by-requires-clause-program : goal.replaced_by-requires-clause-program
+replaced_by-requires-clause-program c = c.in_ok-analysis.ensures.exact.program
 
-pub compile_with_code-made-requires-clause-needs : goal.compile_with_code-made-requires-clause-needs
-compile_with_code-made-requires-clause-needs c = c.in_ok-analysis.ensures.exact.needs
+pub replaced_by-requires-clause-needs : goal.replaced_by-requires-clause-needs
+replaced_by-requires-clause-needs c = c.in_ok-analysis.ensures.exact.needs
