@@ -1,6 +1,7 @@
 //! The program that the cases call: the first word says which analysis, the second of which file.
 
 ghost use Rattle.std.specs.Prelude.{◌≡◌, length};
+ghost use Rattle.ir_program.specs.Seen.{HasCounts};
 
 use crate::boards::board_line;
 use crate::function_needs::put_needs;
@@ -11,8 +12,10 @@ use base_outside::{MemFiles, MemSink, Sink, read_whole};
 use ir_check::check;
 use ir_model::checked::Checked;
 use ir_model::text_limits::TEXT_LIMIT;
+use ir_program::program::Program;
 use ir_resolve::resolving::resolve;
 use need_points_to::solve;
+use need_sets::PointsTo;
 use plan_firmwares::{Analysis as Analysed, analyse};
 use plan_graph::initial::initial;
 use plan_graph::merge::merge;
@@ -83,18 +86,47 @@ fn analysed(alloc: Global, firmware: &Checked, words: &[String]) -> Result<Strin
     }
     let closed = words[3].as_str() == "closed";
     let made = analyse(alloc, firmware, policy_of(words[2].as_str()), closed)?;
+    let Analysed {
+        program,
+        needs,
+        groups,
+    } = made;
+    by_parts(alloc, &program, &needs, groups, words)
+}
+
+/// The same of what a firmware was analysed to.
+fn by_parts(
+    alloc: Global,
+    program: &Program,
+    needs: &Needs,
+    groups: Groups,
+    words: &[String],
+) -> Result<String>
+    requires words { length words.now ≡ 5 }
+    requires each { length groups.of ≡ length needs.now.funcs }
+{
     match words[0].as_str() {
-        "needs" => needs_text(alloc, &made.needs),
-        "limit" => limit_text(alloc, &made.needs, &made.groups),
-        _ => by_graph(alloc, made, words[4].parse()?),
+        "needs" => needs_text(alloc, needs),
+        "limit" => limit_text(alloc, needs, &groups),
+        _ => by_graph(alloc, program, needs, groups, words[4].parse()?),
     }
 }
 
 fn sets_text(alloc: Global, firmware: &Checked) -> Result<String> {
     let program = resolve(alloc, firmware)?;
-    let sets = solve(alloc, &program)?;
+    solved_text(alloc, &program)
+}
+
+fn solved_text(alloc: Global, program: &Program) -> Result<String>
+    requires { HasCounts program.now }
+{
+    let sets = solve(alloc, program)?;
+    text_of_sets(alloc, program, &sets)
+}
+
+fn text_of_sets(alloc: Global, program: &Program, sets: &PointsTo) -> Result<String> {
     let mut text = String::new(alloc);
-    put_sets(alloc, &mut text, &program, &sets)?;
+    put_sets(alloc, &mut text, program, sets)?;
     Ok(text)
 }
 
@@ -117,17 +149,20 @@ fn graph_text(alloc: Global, graph: &Graph) -> Result<String> {
 }
 
 /// The text of the graph before any join, or where there are slots to fit, of the merged one.
-fn by_graph(alloc: Global, made: Analysed<'_>, slots: u32) -> Result<String> {
-    let Analysed {
-        program,
-        needs,
-        groups,
-    } = made;
-    let graph = initial(alloc, &program, &needs, groups)?;
+fn by_graph(
+    alloc: Global,
+    program: &Program,
+    needs: &Needs,
+    groups: Groups,
+    slots: u32,
+) -> Result<String>
+    requires { length groups.of ≡ length needs.now.funcs }
+{
+    let graph = initial(alloc, program, needs, groups)?;
     if slots < 2 {
         return graph_text(alloc, &graph);
     }
-    let last = merge(alloc, &program, graph, slots)?;
+    let last = merge(alloc, program, graph, slots)?;
     merged_text(alloc, last)
 }
 
