@@ -32,7 +32,7 @@ use plan_policies::grouping::Grouping;
 use std::alloc::{AllocError, Global};
 
 /// Why there is no image with other code.
-#[derive(Clone, Copy, PartialEq, Eq, Debug)]
+#[derive(Clone, Copy)]
 pub enum CodeRefusal {
     /// Memory ran out.
     NoMemory,

@@ -8,7 +8,7 @@ use crate::telling::say;
 use base_outside::Sink;
 
 /// Why the words behind the program's name are not there.
-#[derive(Clone, Copy, PartialEq, Eq, Debug)]
+#[derive(Clone, Copy)]
 pub enum WordsRefusal {
     /// One of them is no text.
     NotText,

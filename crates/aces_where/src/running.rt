@@ -11,7 +11,7 @@ use ir_run::run::SourceRun;
 use std::alloc::AllocError;
 
 /// How far a run came.
-#[derive(Clone, Copy, PartialEq, Eq, Debug)]
+#[derive(Clone, Copy)]
 pub(crate) struct Halt {
     /// How many steps it goes on behind.
     pub(crate) going: u32,

@@ -1,7 +1,7 @@
 //! How compartments stand to globals and peripherals.
 
 /// How a compartment may stand to a global or a peripheral, by its number.
-#[derive(Clone, Copy, PartialEq, Eq, Debug)]
+#[derive(Clone, Copy)]
 pub enum Tie {
     /// It may write the global: it stands in one of its data regions that it may write.
     MayWrite(u32),
@@ -16,7 +16,7 @@ pub enum Tie {
 }
 
 /// How a compartment reaches a global by its data regions.
-#[derive(Clone, Copy, PartialEq, Eq, Debug)]
+#[derive(Clone, Copy)]
 pub enum Access {
     /// By stores.
     Write,

@@ -11,7 +11,7 @@ use plan_report::text::Text;
 use std::alloc::AllocError;
 
 /// Where an instruction stands.
-#[derive(Clone, Copy, PartialEq, Eq, Debug)]
+#[derive(Clone, Copy)]
 pub(crate) struct InstPlace {
     /// The function.
     pub(crate) func: u32,

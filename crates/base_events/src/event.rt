@@ -1,7 +1,7 @@
 //! Accesses of peripherals.
 
 /// An access of a peripheral.
-#[derive(Clone, Copy, PartialEq, Eq, Debug)]
+#[derive(Clone, Copy, PartialEq, Eq)]
 pub struct Event {
     /// The number of the compartment that made it.
     pub compartment: u32,

@@ -10,17 +10,17 @@ use std::marker::Model;
 ///
 /// A `Vec` in a field would be compared with its capacity; a field of this type is the list alone.
 #[derive(Drop)]
-pub struct ListVec<T: Drop> {
+pub struct ListVec<T> {
     items: Vec<T>,
 }
 
-impl<T: Drop> Model for ListVec<T> {
+impl<T> Model for ListVec<T> {
     ghost Value = { List T };
 
     ghost view = { λ s. s.items.items };
 }
 
-impl<T: Drop> ListVec<T> {
+impl<T> ListVec<T> {
     /// The list of a vector's items. Takes no memory.
     pub fn new(items: Vec<T>) -> Self
         ensures { result ≡ items.items }

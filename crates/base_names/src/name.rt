@@ -28,7 +28,7 @@ impl Model for Name {
 }
 
 /// Why there is no name of some bytes.
-#[derive(Clone, Copy, PartialEq, Eq, Debug, Error)]
+#[derive(Clone, Copy, Debug, Error)]
 pub enum NameRefusal {
     /// The bytes are no name.
     #[error("not a name")]

@@ -6,7 +6,7 @@ ghost use Rattle.base_numerals.specs.Capped.{capped};
 ghost use Rattle.base_numerals.specs.Numerals as numerals;
 
 /// What a run of bytes is as a number.
-#[derive(Clone, Copy, PartialEq, Eq, Debug)]
+#[derive(Clone, Copy, PartialEq, Eq)]
 pub enum Numeral {
     /// No number.
     Malformed,

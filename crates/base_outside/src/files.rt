@@ -7,7 +7,7 @@ ghost use Rattle.base_outside.specs.Contents.{HoldsPrefix, ReadsFrom};
 ghost use Rattle.base_outside.specs.Calls.{Call, Size, Read, Create, Append};
 
 /// A call on the outside did not do what was asked. The counts of the object say whether it was a fault.
-#[derive(Clone, Copy, Debug, PartialEq, Eq)]
+#[derive(Clone, Copy, PartialEq, Eq)]
 pub struct Failed;
 
 /// Files by name. Every call may fail. Two counts, of read faults and of write faults, tell a fault

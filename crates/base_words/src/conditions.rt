@@ -5,7 +5,7 @@ ghost use Rattle.std.specs.Int.{from_bool};
 ghost use Rattle.base_words.specs.Flags.{add_with_carry, add_flags, compare_flags, result_flags, holds};
 
 /// The condition flags of the Application Program Status Register (B1.4.2).
-#[derive(Clone, Copy, PartialEq, Eq, Debug, Default)]
+#[derive(Clone, Copy, Default, PartialEq, Eq)]
 pub struct Flags {
     /// N: bit 31 of the result.
     pub negative: bool,

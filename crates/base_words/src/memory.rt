@@ -5,7 +5,7 @@ ghost use Rattle.base_words.specs.Bytes.{read, write, write_all};
 ghost use Rattle.base_words.specs.Width.{byte_count};
 
 /// The width of an access to memory.
-#[derive(Clone, Copy, PartialEq, Eq, Debug)]
+#[derive(Clone, Copy)]
 pub enum Width {
     /// 8 bits.
     Byte,

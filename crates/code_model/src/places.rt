@@ -3,7 +3,7 @@
 use base_lists::ListVec;
 
 /// A call of a function that may go to another compartment.
-#[derive(Clone, Copy, PartialEq, Eq, Debug)]
+#[derive(Clone, Copy)]
 pub struct CallSite {
     /// The number of its block in the function.
     pub block: u32,

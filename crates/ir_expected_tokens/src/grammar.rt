@@ -7,7 +7,7 @@ use ir_grammar::vocabulary::{keyword_text, mark_text};
 use ir_model::token::{Keyword, Mark};
 
 /// Tokens that the grammar does not tell apart, or the end of the text.
-#[derive(Clone, Copy, Debug)]
+#[derive(Clone, Copy)]
 pub enum Class {
     /// A word that is not reserved.
     Name,
@@ -26,7 +26,7 @@ pub enum Class {
 }
 
 /// A part of the grammar.
-#[derive(Clone, Copy, Debug)]
+#[derive(Clone, Copy)]
 pub enum Part {
     /// Structs.
     Structs,
@@ -81,7 +81,7 @@ pub enum Part {
 }
 
 /// What may be expected: a token, or a part of the grammar.
-#[derive(Clone, Copy, Debug)]
+#[derive(Clone, Copy)]
 pub enum Symbol {
     /// A token of this class.
     Token(Class),

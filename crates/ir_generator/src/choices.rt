@@ -8,7 +8,7 @@ use crate::draws::Draws;
 use std::alloc::{AllocError, Global};
 
 /// The body of a function of one parameter, a word, which gives a word.
-#[derive(Clone, Copy, PartialEq, Eq, Debug)]
+#[derive(Clone, Copy)]
 pub enum Body {
     /// Adds the word to the global of this number, and gives the sum.
     Adds(u32),
@@ -21,7 +21,7 @@ pub enum Body {
 }
 
 /// What was chosen for a function.
-#[derive(Clone, Copy, PartialEq, Eq, Debug)]
+#[derive(Clone, Copy)]
 pub struct Choice {
     /// Its body.
     pub body: Body,

@@ -7,7 +7,7 @@ ghost use Rattle.ir_layouts.specs.Measures.{capped};
 const CAP: u64 = 1 << 32;
 
 /// Size, alignment and number of cells of a type. A size or a number of cells above 2^32 counts as 2^32.
-#[derive(Clone, Copy, PartialEq, Eq, Debug)]
+#[derive(Clone, Copy)]
 pub struct Measure {
     /// The size in bytes.
     pub size: u64,

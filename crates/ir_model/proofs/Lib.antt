@@ -1,7 +1,4 @@
 pub mod SameTypes
-mod CloneLists
-mod Layouts
-mod Shapes
 pub mod Counting
 pub mod Elements
 pub mod Passing

@@ -71,14 +71,6 @@ pair_of (Some e) = Some (e.size, e.align)
 abbrev pub layout_of : List PlainStruct → PlainType → Option (ℕ × ℕ)
 layout_of ss t = pair_of (extent (sized ss) t)
 
--- an extent that is within the limit, as code needs it for its sums
-abbrev pub IsSmall : Extent → Type 0
-IsSmall e = (e.size ≤ SIZE_LIMIT) × ((0 < e.align) × (e.align ≤ 4))
-
--- these are the size and the alignment of a shape
-abbrev pub IsOf : Shape → ℕ × ℕ → Type 0
-IsOf s p = (p.0 ≡ s.size) × (p.1 ≡ s.align)
-
 -- whether every struct in a type that is behind no pointer and no `fn` counts as declared
 pub record Counted : Type 0 where
   pub name : List ℕ

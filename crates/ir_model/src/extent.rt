@@ -4,7 +4,7 @@
 pub const SIZE_LIMIT: u32 = 65_536;
 
 /// How many bytes a type has, and of how many its address is a multiple.
-#[derive(Clone, Copy, PartialEq, Eq, Debug)]
+#[derive(Clone, Copy)]
 pub struct Extent {
     /// The size in bytes.
     pub size: u32,

@@ -58,7 +58,7 @@ pub struct Global {
 }
 
 /// An operation on two numbers.
-#[derive(Clone, Copy, PartialEq, Eq, Debug)]
+#[derive(Clone, Copy)]
 pub enum BinOp {
     /// The sum, modulo 2^32.
     Add,
@@ -91,7 +91,7 @@ pub enum BinOp {
 }
 
 /// A comparison of two numbers.
-#[derive(Clone, Copy, PartialEq, Eq, Debug)]
+#[derive(Clone, Copy)]
 pub enum CmpOp {
     /// Equal.
     Eq,

@@ -3,11 +3,8 @@
 
 pub mod check;
 pub mod checked;
-pub mod clones;
-pub mod copies;
 pub mod extent;
 pub mod firmware;
-pub mod layout;
 pub mod object;
 pub mod text_limits;
 pub mod token;

@@ -7,7 +7,7 @@ use std::cmp::Ordering;
 
 /// An object of a firmware, by its number in order of declaration. Objects are in the order of these kinds, and those of
 /// one kind in the order of their numbers.
-#[derive(Clone, Copy, PartialEq, Eq, PartialOrd, Ord, Debug)]
+#[derive(Clone, Copy, PartialEq, Eq, PartialOrd, Ord)]
 pub enum ObjId {
     /// A global.
     Global(u32),

@@ -1,7 +1,7 @@
 //! The words and marks of a firmware text that are no names, and the limits that a text keeps.
 
 /// A reserved word that is neither an operation nor a comparison.
-#[derive(Clone, Copy, PartialEq, Eq, Debug)]
+#[derive(Clone, Copy)]
 pub enum Keyword {
     /// `struct`
     Struct,
@@ -52,7 +52,7 @@ pub enum Keyword {
 }
 
 /// A mark.
-#[derive(Clone, Copy, PartialEq, Eq, Debug)]
+#[derive(Clone, Copy)]
 pub enum Mark {
     /// `{`
     OpenBrace,
@@ -79,7 +79,7 @@ pub enum Mark {
 }
 
 /// A place in a text.
-#[derive(Clone, Copy, PartialEq, Eq, Debug)]
+#[derive(Clone, Copy, Debug)]
 pub struct Pos {
     /// The line, from 1.
     pub line: u32,
@@ -88,7 +88,7 @@ pub struct Pos {
 }
 
 /// What a firmware text may not have too much of.
-#[derive(Clone, Copy, PartialEq, Eq, Debug)]
+#[derive(Clone, Copy, Debug)]
 pub enum TextLimit {
     /// More than 64 bytes of a word.
     Name,
@@ -123,7 +123,7 @@ pub enum TextLimit {
 }
 
 /// Why a text is refused at a token that may stand in its place.
-#[derive(Clone, Copy, PartialEq, Eq, Debug)]
+#[derive(Clone, Copy)]
 pub enum Excess {
     /// A number above 2^32 - 1 or below -2^31.
     TooWide,

@@ -27,7 +27,7 @@ use stepping::print_events;
 use thiserror::Error;
 
 /// Why a run was broken off.
-#[derive(Clone, Copy, PartialEq, Eq, Debug, Error)]
+#[derive(Clone, Copy, Debug, Error)]
 pub enum Broken {
     /// A line was not put.
     #[error("a line was not put")]

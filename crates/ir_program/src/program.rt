@@ -20,7 +20,7 @@ pub struct Storage<'a> {
 }
 
 /// What `addr` names.
-#[derive(Clone, Copy, PartialEq, Eq, Debug)]
+#[derive(Clone, Copy)]
 pub enum Target {
     /// A global, by its number.
     Global(u32),
@@ -143,7 +143,7 @@ pub enum Operation<'a> {
 }
 
 /// The end of a block. Blocks have their numbers in the function.
-#[derive(Clone, Copy, PartialEq, Eq, Debug)]
+#[derive(Clone, Copy)]
 pub enum Exit {
     /// `jump block`
     Jump(usize),
@@ -181,7 +181,7 @@ pub struct Variable<'a> {
 }
 
 /// A peripheral's window.
-#[derive(Clone, Copy, PartialEq, Eq, Debug)]
+#[derive(Clone, Copy)]
 pub struct Span {
     /// The address of its first byte.
     pub base: u32,

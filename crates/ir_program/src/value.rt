@@ -7,7 +7,7 @@ ghost use Rattle.ir_model.specs.Step as step;
 ghost use Rattle.ir_program.specs.Values.{instance_of, value_of};
 
 /// An object that can be pointed into.
-#[derive(Clone, Copy, PartialEq, Eq, Debug)]
+#[derive(Clone, Copy)]
 pub enum Instance {
     /// A global, by its number.
     Global(u32),
@@ -25,7 +25,7 @@ pub enum Instance {
 }
 
 /// What a register or a cell holds, in 16 bytes.
-#[derive(Clone, Copy, PartialEq, Eq, Debug)]
+#[derive(Clone, Copy)]
 pub enum Value {
     /// A number.
     Number(u32),
@@ -61,7 +61,7 @@ pub enum Value {
 }
 
 /// An address: an object, and how many bytes behind its first.
-#[derive(Clone, Copy, PartialEq, Eq, Debug)]
+#[derive(Clone, Copy)]
 pub struct Address {
     /// The object.
     pub instance: Instance,

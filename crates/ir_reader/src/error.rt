@@ -7,7 +7,7 @@ use ir_model::token::Excess;
 use std::alloc::{AllocError, AllocFailed};
 
 /// What is wrong at a place.
-#[derive(Clone, Copy, Debug, PartialEq, Eq)]
+#[derive(Clone, Copy)]
 pub enum FaultKind {
     /// What stands there may not stand there.
     Syntax,
@@ -16,7 +16,7 @@ pub enum FaultKind {
 }
 
 /// A fault, and how many bytes of the text begin with the token where it stands.
-#[derive(Clone, Copy, Debug, PartialEq, Eq)]
+#[derive(Clone, Copy)]
 pub struct Fault {
     /// What is wrong.
     pub kind: FaultKind,
@@ -25,7 +25,7 @@ pub struct Fault {
 }
 
 /// Why a text is not read, with places as bytes that are left.
-#[derive(Debug, Drop)]
+#[derive(Drop)]
 pub enum ReadError {
     /// Memory ran out.
     Memory,

@@ -4,7 +4,7 @@ use ir_model::firmware::{BinOp, CmpOp};
 use ir_model::token::{Keyword, Mark};
 
 /// A token, or what stands where none begins.
-#[derive(Clone, Copy, Debug)]
+#[derive(Clone, Copy)]
 pub enum Token<'a> {
     /// A word that is not reserved, of any length.
     Name(&'a [u8]),

@@ -4,7 +4,7 @@ use base_events::event::Event;
 use thiserror::Error;
 
 /// A fault of the source.
-#[derive(Clone, Copy, PartialEq, Eq, Debug, Error)]
+#[derive(Clone, Copy, Debug, Error)]
 pub enum FaultKind {
     /// A pointer or a function was null.
     #[error("null")]
@@ -21,7 +21,7 @@ pub enum FaultKind {
 }
 
 /// How a run ended.
-#[derive(Clone, Copy, PartialEq, Eq, Debug)]
+#[derive(Clone, Copy)]
 pub enum SourceEnd {
     /// `main` returned.
     Returned,
@@ -32,7 +32,7 @@ pub enum SourceEnd {
 }
 
 /// What a step answers.
-#[derive(Clone, Copy, PartialEq, Eq, Debug)]
+#[derive(Clone, Copy)]
 pub enum SourceStep {
     /// It ran, and told nothing.
     Ran,

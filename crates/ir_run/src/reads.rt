@@ -10,7 +10,7 @@ use crate::parts::Parts;
 use std::alloc::{AllocError, Global};
 
 /// Where a frame stands.
-#[derive(Clone, Copy, PartialEq, Eq, Debug)]
+#[derive(Clone, Copy)]
 pub struct FramePlace {
     /// The function.
     pub func: u16,

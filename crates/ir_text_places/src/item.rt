@@ -1,7 +1,7 @@
 //! The items of a firmware, by their numbers.
 
 /// A part of a firmware that a fault can name. Numbers count from 0.
-#[derive(Clone, Copy, PartialEq, Eq, Debug)]
+#[derive(Clone, Copy)]
 pub enum Item {
     /// The whole firmware.
     Whole,

@@ -1,7 +1,7 @@
 //! The bus's answers.
 
 /// What a load from the bus gives.
-#[derive(Clone, Copy, PartialEq, Eq, Debug)]
+#[derive(Clone, Copy, PartialEq, Eq)]
 pub enum Loaded {
     /// The value in flash or RAM.
     Value(u32),
@@ -21,7 +21,7 @@ pub enum Loaded {
 }
 
 /// What a store to the bus gives.
-#[derive(Clone, Copy, PartialEq, Eq, Debug)]
+#[derive(Clone, Copy, PartialEq, Eq)]
 pub enum Stored {
     /// RAM holds the value.
     Done,

@@ -15,7 +15,7 @@ use std::marker::Model;
 use thiserror::Error;
 
 /// The first line of a tape that fails. Lines count from 1.
-#[derive(Debug, PartialEq, Eq, Drop, Error)]
+#[derive(Debug, Drop, Error, PartialEq, Eq)]
 pub enum TapeFault {
     /// Memory ran out.
     #[error("out of memory")]

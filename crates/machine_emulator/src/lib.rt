@@ -39,7 +39,7 @@ use std::alloc::{AllocError, Global};
 use std::marker::Model;
 
 /// What a step answers.
-#[derive(Clone, Copy, PartialEq, Eq, Debug)]
+#[derive(Clone, Copy, PartialEq, Eq)]
 pub enum Step {
     /// It ran, and told nothing.
     Ran,

@@ -7,7 +7,7 @@ use std::alloc::{AllocError, AllocFailed};
 use thiserror::Error;
 
 /// The first fault of an image file, in order of its bytes. Places are offsets in bytes from the file's start.
-#[derive(Clone, Copy, PartialEq, Eq, Debug, Error)]
+#[derive(Clone, Copy, Debug, Error)]
 pub enum ImageFault {
     /// Memory ran out.
     #[error("out of memory")]

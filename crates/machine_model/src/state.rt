@@ -48,7 +48,7 @@ pub struct FaultStatus {
 }
 
 /// Why a machine stopped.
-#[derive(Clone, Copy, PartialEq, Eq, Debug)]
+#[derive(Clone, Copy, PartialEq, Eq)]
 pub enum StopReason {
     /// An access at no multiple of its width.
     Unaligned,
@@ -69,7 +69,7 @@ pub enum StopReason {
 }
 
 /// How a run ends.
-#[derive(Clone, Copy, PartialEq, Eq, Debug)]
+#[derive(Clone, Copy, PartialEq, Eq)]
 pub enum End {
     /// BKPT, with its number.
     Halt(u8),

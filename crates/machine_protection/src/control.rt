@@ -6,7 +6,7 @@ ghost use Rattle.machine_protection.specs.Registers.{kept_control};
 use bitflags::{Flag, Flags, bitflag_items};
 
 /// What MPU_CTRL keeps (Armv7-M Architecture Reference Manual, B3.5.6).
-#[derive(Clone, Copy, PartialEq, Eq, Debug)]
+#[derive(Clone, Copy)]
 pub(crate) struct Control(pub(crate) u32);
 
 bitflag_items! {

@@ -14,7 +14,7 @@ pub struct Region {
 }
 
 /// What an access wants of an address.
-#[derive(Clone, Copy, PartialEq, Eq, Debug)]
+#[derive(Clone, Copy)]
 pub enum Access {
     /// A load.
     Read,

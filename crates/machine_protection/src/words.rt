@@ -8,7 +8,7 @@ use crate::power::Pow2;
 use crate::region::{Access, Region};
 
 /// What a region is for, which decides who may do what there.
-#[derive(Clone, Copy, PartialEq, Eq, Debug)]
+#[derive(Clone, Copy)]
 pub enum Rights {
     /// All of memory: privileged code writes, all code reads, none is fetched.
     Background,

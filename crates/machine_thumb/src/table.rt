@@ -5,7 +5,7 @@
 /// and the like the bits of a number as they stand in the halfword. Where a form has several
 /// instructions, `op` says which; a field that the instruction's own bits don't hold is 0. The
 /// offset of a branch is in bytes, counted from the address of the branch plus 4.
-#[derive(Clone, Copy, PartialEq, Eq, Debug)]
+#[derive(Clone, Copy)]
 pub enum Instr {
     /// LSL (immediate) T1 with `op` 0, LSR (immediate) T1 with 1, ASR (immediate) T1 with 2. `imm5`
     /// 0 is a move (MOV (register) T2) in the first, and a shift by 32 in the others.
@@ -71,7 +71,7 @@ pub enum Instr {
 }
 
 /// The halfwords of an instruction: one, or two with the first in front (A5.1).
-#[derive(Clone, Copy, PartialEq, Eq, Debug)]
+#[derive(Clone, Copy)]
 pub enum Code {
     /// An instruction of one halfword.
     Half(u16),

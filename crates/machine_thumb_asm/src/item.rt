@@ -3,7 +3,7 @@
 use machine_thumb::Instr;
 
 /// How a branch to a label is encoded.
-#[derive(Clone, Copy, PartialEq, Eq, Debug)]
+#[derive(Clone, Copy)]
 pub enum BranchKind {
     /// B T1, with a condition from 0 to 13: 254 bytes forward, 256 back.
     Cond(u8),
@@ -16,7 +16,7 @@ pub enum BranchKind {
 }
 
 /// A place in code, to which branches go.
-#[derive(Clone, Copy, PartialEq, Eq, Debug)]
+#[derive(Clone, Copy)]
 pub struct Label {
     /// Its number, in the order in which labels were made.
     pub(crate) number: usize,

@@ -98,73 +98,24 @@ struct Text<'a>(&'a Instr);
 impl<'a> fmt::Display for Text<'a> {
     fn fmt<W: fmt::Write>(&self, f: &mut fmt::Formatter<W>) -> fmt::Result {
         match *self.0 {
-            Instr::ShiftImmediate { op, imm5, m, d } => write_shift(
-                f,
-                op,
-                imm5,
-                Register(m),
-                Register(d),
-            ),
-            Instr::AddSubRegister { op, m, n, d } => {
-                write!(
-                    f,
-                    "{} {}, {}, {}",
-                    name(&SUMS, op),
-                    Register(d),
-                    Register(n),
-                    Register(m)
-                )
+            Instr::ShiftImmediate { op, imm5, m, d } => write_shift(f, op, imm5, m, d),
+            Instr::AddSubRegister { op, m, n, d } => write_three(f, name(&SUMS, op), d, n, m),
+            Instr::AddSubImmediate { op, imm3, n, d } => write_sum(f, name(&SUMS, op), d, n, imm3),
+            Instr::DataImmediate { op, d, imm8 } => {
+                write_number(f, name(&NUMBERS, op), d, imm8.into())
             }
-            Instr::AddSubImmediate { op, imm3, n, d } => {
-                write!(
-                    f,
-                    "{} {}, {}, #{imm3}",
-                    name(&SUMS, op),
-                    Register(d),
-                    Register(n)
-                )
-            }
-            Instr::DataImmediate { op, d, imm8 } => write!(
+            Instr::DataRegister { op, m, d } => write_two(f, name(&DATA, op), d, m),
+            Instr::HighRegister { op, m, d } => write_two(f, name(&HIGH, op), d, m),
+            Instr::BranchExchange { op, m } => write_one(f, name(&EXCHANGES, op), m),
+            Instr::AdjustStack { op, imm7 } => write_number(
                 f,
-                "{} {}, #{imm8}",
-                name(&NUMBERS, op),
-                Register(d)
+                name(&ADJUSTS, op),
+                13,
+                u16::from(imm7) * 4,
             ),
-            Instr::DataRegister { op, m, d } => write!(
-                f,
-                "{} {}, {}",
-                name(&DATA, op),
-                Register(d),
-                Register(m)
-            ),
-            Instr::HighRegister { op, m, d } => write!(
-                f,
-                "{} {}, {}",
-                name(&HIGH, op),
-                Register(d),
-                Register(m)
-            ),
-            Instr::BranchExchange { op, m } => write!(
-                f,
-                "{} {}",
-                name(&EXCHANGES, op),
-                Register(m)
-            ),
-            Instr::AdjustStack { op, imm7 } => {
-                write!(f, "{} sp, #{}", name(&ADJUSTS, op), u16::from(imm7) * 4)
-            }
-            Instr::MoveWide { d, value } => write!(f, "movw {}, #{value}", Register(d)),
-            Instr::MoveTop { d, value } => write!(f, "movt {}, #{value}", Register(d)),
-            Instr::Divide { op, n, d, m } => {
-                write!(
-                    f,
-                    "{} {}, {}, {}",
-                    name(&DIVISIONS, op),
-                    Register(d),
-                    Register(n),
-                    Register(m)
-                )
-            }
+            Instr::MoveWide { d, value } => write_number(f, "movw", d, value),
+            Instr::MoveTop { d, value } => write_number(f, "movt", d, value),
+            Instr::Divide { op, n, d, m } => write_three(f, name(&DIVISIONS, op), d, n, m),
             Instr::LoadLiteral { .. }
             | Instr::TransferRegister { .. }
             | Instr::TransferImmediate { .. } => { write_transfer(f, self.0) }
@@ -175,39 +126,71 @@ impl<'a> fmt::Display for Text<'a> {
     }
 }
 
+// A word with one register.
+fn write_one<W: fmt::Write>(f: &mut fmt::Formatter<W>, word: &str, a: u8) -> fmt::Result {
+    write!(f, "{word} {}", Register(a))
+}
+
+// A word with two registers.
+fn write_two<W: fmt::Write>(f: &mut fmt::Formatter<W>, word: &str, a: u8, b: u8) -> fmt::Result {
+    write!(f, "{word} {}, {}", Register(a), Register(b))
+}
+
+// A word with three registers.
+fn write_three<W: fmt::Write>(
+    f: &mut fmt::Formatter<W>,
+    word: &str,
+    a: u8,
+    b: u8,
+    c: u8,
+) -> fmt::Result {
+    write_two(f, word, a, b)?;
+    write!(f, ", {}", Register(c))
+}
+
+// A word with a register and a number.
+fn write_number<W: fmt::Write>(
+    f: &mut fmt::Formatter<W>,
+    word: &str,
+    a: u8,
+    number: u16,
+) -> fmt::Result {
+    write!(f, "{word} {}, #{number}", Register(a))
+}
+
+// A word with two registers and a number.
+fn write_sum<W: fmt::Write>(
+    f: &mut fmt::Formatter<W>,
+    word: &str,
+    a: u8,
+    b: u8,
+    number: u8,
+) -> fmt::Result {
+    write_two(f, word, a, b)?;
+    write!(f, ", #{number}")
+}
+
 // LSL by 0 is a move, and LSR and ASR by 0 are by 32.
 fn write_shift<W: fmt::Write>(
     f: &mut fmt::Formatter<W>,
     op: u8,
     imm5: u8,
-    m: Register,
-    d: Register,
+    m: u8,
+    d: u8,
 ) -> fmt::Result {
     match (op, imm5) {
-        (0, 0) => write!(f, "movs {d}, {m}"),
-        (_, 0) => write!(f, "{} {d}, {m}, #32", name(&SHIFTS, op)),
-        (_, number) => write!(f, "{} {d}, {m}, #{number}", name(&SHIFTS, op)),
+        (0, 0) => write_two(f, "movs", d, m),
+        (_, 0) => write_sum(f, name(&SHIFTS, op), d, m, 32),
+        (_, number) => write_sum(f, name(&SHIFTS, op), d, m, number),
     }
 }
 
 // Loads and stores of one register.
 fn write_transfer<W: fmt::Write>(f: &mut fmt::Formatter<W>, i: &Instr) -> fmt::Result {
     match *i {
-        Instr::LoadLiteral { t, imm8 } => write!(
-            f,
-            "ldr {}, [pc, #{}]",
-            Register(t),
-            u16::from(imm8) * 4
-        ),
+        Instr::LoadLiteral { t, imm8 } => write_near(f, "ldr", t, 15, u16::from(imm8) * 4),
         Instr::TransferRegister { op, m, n, t } => {
-            write!(
-                f,
-                "{} {}, [{}, {}]",
-                name(&BY_REGISTER, op),
-                Register(t),
-                Register(n),
-                Register(m)
-            )
+            write_indexed(f, name(&BY_REGISTER, op), t, n, m)
         }
         Instr::TransferImmediate { op, imm5, n, t } => {
             let unit = match op {
@@ -216,57 +199,76 @@ fn write_transfer<W: fmt::Write>(f: &mut fmt::Formatter<W>, i: &Instr) -> fmt::R
                 _ => 2,
             };
             let offset = u16::from(imm5) * unit;
-            write!(
-                f,
-                "{} {}, [{}, #{offset}]",
-                name(&BY_NUMBER, op),
-                Register(t),
-                Register(n)
-            )
+            write_near(f, name(&BY_NUMBER, op), t, n, offset)
         }
         _ => f.write_str("?"),
     }
 }
 
+// A word with a register, and the address so many bytes behind another.
+fn write_near<W: fmt::Write>(
+    f: &mut fmt::Formatter<W>,
+    word: &str,
+    a: u8,
+    base: u8,
+    offset: u16,
+) -> fmt::Result {
+    write_one(f, word, a)?;
+    write!(f, ", [{}, #{offset}]", Register(base))
+}
+
+// A word with a register, and the address that two others give.
+fn write_indexed<W: fmt::Write>(
+    f: &mut fmt::Formatter<W>,
+    word: &str,
+    a: u8,
+    base: u8,
+    index: u8,
+) -> fmt::Result {
+    write_one(f, word, a)?;
+    write!(f, ", [{}, {}]", Register(base), Register(index))
+}
+
 // What is relative to the stack pointer, and loads and stores of many registers.
 fn write_stack<W: fmt::Write>(f: &mut fmt::Formatter<W>, i: &Instr) -> fmt::Result {
     match *i {
-        Instr::StackRelative { op: 2, d, imm8, .. } => write!(
-            f,
-            "add {}, sp, #{}",
-            Register(d),
-            u16::from(imm8) * 4
-        ),
+        Instr::StackRelative { op: 2, d, imm8, .. } => {
+            write_one(f, "add", d)?;
+            write!(f, ", sp, #{}", u16::from(imm8) * 4)
+        }
         Instr::StackRelative { op, t, imm8, .. } => {
-            write!(
-                f,
-                "{} {}, [sp, #{}]",
-                name(&BY_NUMBER, op),
-                Register(t),
-                u16::from(imm8) * 4
-            )
+            write_near(f, name(&BY_NUMBER, op), t, 13, u16::from(imm8) * 4)
         }
-        Instr::PushPop { op: 0, m, list, .. } => {
-            let further = if m == 0 { "" } else { "lr" };
-            write!(f, "push {}", Registers { list, further })
-        }
-        Instr::PushPop { p, list, .. } => {
-            let further = if p == 0 { "" } else { "pc" };
-            write!(f, "pop {}", Registers { list, further })
-        }
-        Instr::TransferMultiple { op, n, list } => {
-            let keeps_base = op == 1 && n < 8 && list >> n & 1 == 1;
-            let mark = if keeps_base { "" } else { "!" };
-            write!(
-                f,
-                "{} {}{mark}, {}",
-                name(&MULTIPLES, op),
-                Register(n),
-                Registers { list, further: "" }
-            )
-        }
+        Instr::PushPop { op: 0, m, list, .. } => write_list(f, "push", list, m, "lr"),
+        Instr::PushPop { p, list, .. } => write_list(f, "pop", list, p, "pc"),
+        Instr::TransferMultiple { op, n, list } => write_multiple(f, op, n, list),
         _ => f.write_str("?"),
     }
+}
+
+// A word with a list of registers, and one more behind them where a bit says so.
+fn write_list<W: fmt::Write>(
+    f: &mut fmt::Formatter<W>,
+    word: &str,
+    list: u8,
+    bit: u8,
+    named: &'static str,
+) -> fmt::Result {
+    let further = if bit == 0 { "" } else { named };
+    write!(f, "{word} {}", Registers { list, further })
+}
+
+// Loads and stores of many registers.
+fn write_multiple<W: fmt::Write>(
+    f: &mut fmt::Formatter<W>,
+    op: u8,
+    n: u8,
+    list: u8,
+) -> fmt::Result {
+    let keeps_base = op == 1 && n < 8 && list >> n & 1 == 1;
+    let mark = if keeps_base { "" } else { "!" };
+    write_one(f, name(&MULTIPLES, op), n)?;
+    write!(f, "{mark}, {}", Registers { list, further: "" })
 }
 
 // Branches, calls, and what concerns the processor.

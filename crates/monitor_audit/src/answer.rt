@@ -3,7 +3,7 @@
 use monitor_model::{AuditCheck, Tables};
 
 /// The answer to an image.
-#[derive(Clone, Copy, PartialEq, Eq, Debug)]
+#[derive(Clone, Copy)]
 pub enum Audit {
     /// No check fails.
     Yes {
@@ -22,7 +22,7 @@ pub enum Audit {
 }
 
 /// A check that fails.
-#[derive(Clone, Copy, PartialEq, Eq, Debug)]
+#[derive(Clone, Copy)]
 pub struct FailedCheck {
     /// Which one.
     pub check: AuditCheck,

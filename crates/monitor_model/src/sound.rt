@@ -1,7 +1,7 @@
 //! The checks of an image from anyone.
 
 /// A check of an image whose monitor and tables are not trusted, in the order in which they are made.
-#[derive(Clone, Copy, PartialEq, Eq, Debug)]
+#[derive(Clone, Copy)]
 pub enum AuditCheck {
     /// The image has a monitor's block and a stack, apart from each other, and flash for the tables.
     Header,

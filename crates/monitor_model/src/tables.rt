@@ -18,7 +18,7 @@ pub struct CompRecord {
 }
 
 /// A place of a call that may go to another compartment.
-#[derive(Clone, Copy, PartialEq, Eq, Debug)]
+#[derive(Clone, Copy)]
 pub struct SiteRecord {
     /// The return address of the site's SVC.
     pub ret: u32,
@@ -29,7 +29,7 @@ pub struct SiteRecord {
 }
 
 /// A function that a site may call.
-#[derive(Clone, Copy, PartialEq, Eq, Debug)]
+#[derive(Clone, Copy)]
 pub struct TargetRecord {
     /// Its entry, with bit 0 set.
     pub entry: u32,
@@ -38,7 +38,7 @@ pub struct TargetRecord {
 }
 
 /// Words that start-up copies into RAM.
-#[derive(Clone, Copy, PartialEq, Eq, Debug)]
+#[derive(Clone, Copy)]
 pub struct InitRecord {
     /// The first address in RAM.
     pub at: u32,

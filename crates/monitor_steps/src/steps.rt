@@ -3,7 +3,7 @@
 use base_words::memory::Width;
 
 /// An operation on two registers.
-#[derive(Clone, Copy, PartialEq, Eq, Debug)]
+#[derive(Clone, Copy)]
 pub enum PrivilegedOp {
     /// The sum modulo 2^32.
     Add,
@@ -20,7 +20,7 @@ pub enum PrivilegedOp {
 }
 
 /// A comparison of two registers as unsigned numbers.
-#[derive(Clone, Copy, PartialEq, Eq, Debug)]
+#[derive(Clone, Copy)]
 pub enum PrivilegedCond {
     /// Equal.
     Eq,

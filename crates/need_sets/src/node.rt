@@ -3,7 +3,7 @@
 use ir_model::object::ObjId;
 
 /// What holds values: a register, the contents of an object, what a function gives.
-#[derive(Clone, Copy, PartialEq, Eq, Debug)]
+#[derive(Clone, Copy)]
 pub enum Node {
     /// A register of a function, in any of its frames. Parameters come first.
     Reg {

@@ -3,7 +3,7 @@
 use ir_model::types::Ty;
 
 /// A node and an object that it has, by their numbers.
-#[derive(Clone, Copy, Debug)]
+#[derive(Clone, Copy)]
 pub struct Pair {
     /// The node.
     pub node: u32,
@@ -12,7 +12,7 @@ pub struct Pair {
 }
 
 /// Two nodes, by their numbers: what the first has, the second has.
-#[derive(Clone, Copy, Debug)]
+#[derive(Clone, Copy)]
 pub struct Edge {
     /// The node whose objects are passed on.
     pub from: u32,

@@ -11,7 +11,7 @@ use need_lists::each_once;
 use std::alloc::{AllocError, Global};
 
 /// What an instruction reaches objects or functions by.
-#[derive(Clone, Copy, PartialEq, Eq, PartialOrd, Ord, Debug)]
+#[derive(Clone, Copy, PartialEq, Eq, PartialOrd, Ord)]
 pub enum Use {
     /// A load by this register.
     Load(usize),
@@ -24,7 +24,7 @@ pub enum Use {
 }
 
 /// Whether objects are read or written.
-#[derive(Clone, Copy, PartialEq, Eq, Debug)]
+#[derive(Clone, Copy)]
 pub enum Access {
     /// They are read.
     Read,

@@ -17,7 +17,7 @@ use plan_model::needs::SiteNeed;
 use std::alloc::{AllocError, Global};
 
 /// Where an instruction stands.
-#[derive(Clone, Copy, PartialEq, Eq, Debug)]
+#[derive(Clone, Copy)]
 struct InstPlace {
     /// The function.
     func: u32,

@@ -9,7 +9,7 @@ use plan_model::limits::LimitKind;
 use std::alloc::AllocError;
 
 /// Why a firmware is not planned for a board: limits are tested first, then what the board denies, then flash, then RAM.
-#[derive(Clone, Copy, PartialEq, Eq, Debug)]
+#[derive(Clone, Copy)]
 pub enum PlanningRefusal {
     /// Memory ran out, or a number passes 32 bits, as none of a checked firmware does.
     NoMemory,

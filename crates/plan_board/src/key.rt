@@ -10,7 +10,7 @@ use machine_devices::limits::{
 use std::fmt;
 
 /// A table of a board's document, or a key of one of its tables.
-#[derive(Clone, Copy, PartialEq, Eq, Debug)]
+#[derive(Clone, Copy)]
 pub enum Key {
     /// The table `flash`.
     Flash,

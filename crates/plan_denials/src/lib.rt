@@ -11,7 +11,7 @@ use plan_model::graph::{Cover, Final};
 use plan_model::{Denied, first_met};
 
 /// A range of addresses that a firmware asks for.
-#[derive(Clone, Copy, PartialEq, Eq, Debug)]
+#[derive(Clone, Copy)]
 pub enum Asked {
     /// The window of the declared peripheral of this number.
     Window(usize),
@@ -25,7 +25,7 @@ pub enum Asked {
 }
 
 /// A range that a firmware asks for has an address in common with one that its board denies.
-#[derive(Clone, Copy, PartialEq, Eq, Debug)]
+#[derive(Clone, Copy)]
 pub struct Meeting {
     /// What is asked for.
     pub asked: Asked,

@@ -3,14 +3,14 @@
 use std::alloc::AllocError;
 
 /// A memory of a board.
-#[derive(Clone, Copy, PartialEq, Eq, Debug)]
+#[derive(Clone, Copy)]
 pub enum Memory {
     Flash,
     Ram,
 }
 
 /// Want of room: a memory of the board has fewer bytes than the blocks ask for.
-#[derive(Clone, Copy, PartialEq, Eq, Debug)]
+#[derive(Clone, Copy)]
 pub struct Lack {
     /// The memory.
     pub memory: Memory,
@@ -24,7 +24,7 @@ pub struct Lack {
 }
 
 /// Why blocks are not placed: those of flash are tested first.
-#[derive(Clone, Copy, PartialEq, Eq, Debug)]
+#[derive(Clone, Copy)]
 pub enum PlaceRefusal {
     /// Memory ran out, or a region has more bytes than 32 bits tell, which no checked firmware has.
     NoMemory,

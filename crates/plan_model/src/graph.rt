@@ -15,7 +15,7 @@ pub struct DataRegion {
 }
 
 /// A range of addresses that holds windows of peripherals: a power of two of bytes, from a multiple of that on.
-#[derive(Clone, Copy, PartialEq, Eq, Debug)]
+#[derive(Clone, Copy)]
 pub struct Cover {
     /// The first address.
     pub base: u32,

@@ -13,7 +13,7 @@ pub const SITE_LIMIT: usize = 4096;
 pub const TARGET_LIMIT: usize = 64;
 
 /// What there may be only so many of.
-#[derive(Clone, Copy, PartialEq, Eq, Debug)]
+#[derive(Clone, Copy)]
 pub enum LimitKind {
     /// Compartments.
     Compartments,

@@ -7,7 +7,7 @@ use crate::Denied;
 use base_lists::ListVec;
 
 /// A block of memory.
-#[derive(Clone, Copy, PartialEq, Eq, Debug)]
+#[derive(Clone, Copy)]
 pub struct Spot {
     /// The first address.
     pub base: u32,
@@ -16,7 +16,7 @@ pub struct Spot {
 }
 
 /// Which block of RAM stands at its base.
-#[derive(Clone, Copy, PartialEq, Eq, Debug)]
+#[derive(Clone, Copy)]
 pub enum Lowest {
     /// The largest, and the stack where none is larger.
     Largest,

@@ -5,7 +5,7 @@ ghost use Rattle.plan_model.specs.declared.policy.Policy.{Policy as ThePolicy};
 ghost use Rattle.plan_model.specs.PolicyWords.{policy_word};
 
 /// By what the functions of a firmware are put into compartments.
-#[derive(Clone, Copy, PartialEq, Eq, Debug)]
+#[derive(Clone, Copy)]
 pub enum Policy {
     /// Each file with functions is a compartment.
     Filename,

@@ -11,7 +11,7 @@ use plan_model::needs::Needs;
 use std::alloc::{AllocError, Global};
 
 /// A call and one of its targets.
-#[derive(Clone, Copy, PartialEq, Eq, Debug)]
+#[derive(Clone, Copy)]
 pub(crate) struct Call {
     /// The function in which it stands.
     pub(crate) from: u32,

@@ -114,10 +114,10 @@ fn word(rt: &impl Abort, bus: &Bus, addr: u32) -> u32 {
 fn check_call(rt: &impl Abort, bus: &mut Bus, call: &Call) {
     match call {
         Call::Load(addr, width, wanted) => {
-            assert_eq!(rt; load(rt, bus, *addr, *width), *wanted, "at {addr:x}");
+            assert!(rt; load(rt, bus, *addr, *width) == *wanted, "at {addr:x}");
         }
         Call::Store(addr, width, wanted) => {
-            assert_eq!(rt; store(rt, bus, *addr, *width), *wanted, "at {addr:x}");
+            assert!(rt; store(rt, bus, *addr, *width) == *wanted, "at {addr:x}");
         }
         Call::Fetch(addr, wanted) => assert_eq!(rt; fetch(rt, bus, *addr), *wanted, "at {addr:x}"),
         Call::Word(addr, wanted) => assert_eq!(rt; word(rt, bus, *addr), *wanted, "at {addr:x}"),

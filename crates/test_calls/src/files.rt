@@ -41,7 +41,7 @@ fn check_step<F: Files>(
     call: Call,
     want: Result<u64, Failed>,
 ) {
-    assert_eq!(rt; answer(files, name, call), want, "{name}");
+    assert!(rt; answer(files, name, call) == want, "{name}");
 }
 
 /// A name "a" that holds "old" and has room for 8 bytes, and a name "b" that isn't there and has room for 4.
@@ -132,8 +132,8 @@ fn files_are_read_whole(rt: HostRuntime) -> Result<(), Fail> {
     let mut files = two_files(&rt, alloc, &[5], 0)?;
     for (name, limit, want) in WHOLE {
         match read_whole(alloc, &mut files, name, *limit) {
-            Ok(bytes) => assert_eq!(rt; Ok(bytes.as_slice()), *want, "{name} {limit}"),
-            Err(refusal) => assert_eq!(rt; Err(refusal), *want, "{name} {limit}"),
+            Ok(bytes) => assert!(rt; Ok(bytes.as_slice()) == *want, "{name} {limit}"),
+            Err(refusal) => assert!(rt; Err(refusal) == *want, "{name} {limit}"),
         }
     }
     Ok(())
@@ -153,7 +153,7 @@ fn sinks_take_what_has_room(rt: HostRuntime) -> Result<(), Fail> {
     let alloc = rt.alloc();
     let mut sink = MemSink::new(alloc, 5, [1, 2].to_vec(alloc)?)?;
     for (piece, want) in PIECES {
-        assert_eq!(rt; sink.put(piece), *want);
+        assert!(rt; sink.put(piece) == *want);
     }
     assert_eq!(rt; sink.bytes(), b"abcde".as_slice());
     assert_eq!(rt; sink.faults(), 2);
@@ -220,12 +220,12 @@ fn a_file_of_the_system(rt: HostRuntime) -> Result<(), Fail> {
 #[test]
 fn writers_of_the_system(rt: HostRuntime) -> Result<(), Fail> {
     let mut out = HostSink::new(rt.stdout());
-    assert_eq!(rt; out.put(b"to standard output\n"), Ok(()));
+    assert!(rt; out.put(b"to standard output\n") == Ok(()));
     let mut err = HostSink::new(rt.stderr());
-    assert_eq!(rt; err.put(b"to standard error\n"), Ok(()));
+    assert!(rt; err.put(b"to standard error\n") == Ok(()));
     // A file that is open for reading takes no byte.
     let mut shut = HostSink::new(File::open(&rt, "/dev/null")?);
-    assert_eq!(rt; shut.put(b""), Ok(()));
-    assert_eq!(rt; shut.put(b"x"), Err(Failed));
+    assert!(rt; shut.put(b"") == Ok(()));
+    assert!(rt; shut.put(b"x") == Err(Failed));
     Ok(())
 }

@@ -187,6 +187,8 @@ const UNDEFINED: &[(u16, u16)] = &[
     (0xfb9f, 0xf9f8),
 ];
 
+/// The halfwords of a code, 0 where it has no second, and how many bytes they are. Two instructions with the same code are one
+/// (`machine_thumb_encoding`), so codes are compared in place of instructions.
 fn halfwords(code: Code) -> (u16, u16, u8) {
     match code {
         Code::Half(h) => (h, 0, 2),
@@ -202,7 +204,7 @@ fn check_text(rt: &impl Abort, alloc: Global, h1: u16, h2: u16, text: &str) -> R
     } else {
         Code::Pair(h1, h2)
     };
-    assert_eq!(rt; encode(&found), code, "{text}");
+    assert_eq!(rt; halfwords(encode(&found)), halfwords(code), "{text}");
     let shown = show(alloc, &found)?;
     assert_eq!(rt; shown.as_str(), text);
     Ok(())
@@ -212,7 +214,7 @@ fn check_text(rt: &impl Abort, alloc: Global, h1: u16, h2: u16, text: &str) -> R
 fn forms_are_decoded_and_shown(rt: HostRuntime) -> Result<(), Fail> {
     for (h1, h2, instr, text) in FORMS {
         let (found, _) = decode(*h1, *h2).ok_or("not decoded")?;
-        assert_eq!(rt; found, *instr);
+        assert_eq!(rt; halfwords(encode(&found)), halfwords(encode(instr)));
         check_text(&rt, rt.alloc(), *h1, *h2, text)?;
     }
     for (h1, h2, text) in TEXTS {
@@ -226,12 +228,11 @@ fn operations_are_encoded(rt: HostRuntime) -> Result<(), Fail> {
     for (instr, code) in ENCODED {
         let (h1, h2, width) = halfwords(*code);
         let (found, length) = decode(h1, h2).ok_or("not decoded")?;
-        assert_eq!(rt; found, *instr, "{code:?}");
-        assert_eq!(rt; length, width);
-        assert_eq!(rt; encode(&found), *code);
+        assert_eq!(rt; halfwords(encode(instr)), (h1, h2, width));
+        assert_eq!(rt; halfwords(encode(&found)), (h1, h2, length));
     }
     for (h1, h2) in UNDEFINED {
-        assert_eq!(rt; decode(*h1, *h2), None, "{h1:x} {h2:x}");
+        assert!(rt; decode(*h1, *h2).is_none(), "{h1:x} {h2:x}");
     }
     Ok(())
 }

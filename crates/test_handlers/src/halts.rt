@@ -79,7 +79,7 @@ fn check_case(rt: &impl Abort, alloc: Global, case: &Case) -> Result<(), Fail> {
     assert!(rt; case.code.len() <= 16);
     let mut machine = start(alloc, case.closed, case.code, &[])?;
     let end = machine.run(2000, &mut |_: &Event| true);
-    assert_eq!(rt; end, End::Halt(case.halt));
+    assert!(rt; end == End::Halt(case.halt));
     assert!(rt; machine.privileged());
     check_words(rt, &machine, MONITOR, &case.block, case.halt);
     check_words(rt, &machine, case.psp, &case.frame, case.halt);

@@ -95,7 +95,7 @@ fn check_access(rt: &impl Abort, alloc: Global, access: &Access) -> Result<(), F
     assert!(rt; access.main.len() <= 16);
     let mut machine = start(alloc, access.closed, access.main, &[access.second])?;
     assert!(rt; reach(&mut machine));
-    assert_eq!(rt; machine.step(), Step::Ran);
+    assert!(rt; machine.step() == Step::Ran);
     assert_eq!(rt;
         handle(&mut machine),
         access.steps,
@@ -107,7 +107,7 @@ fn check_access(rt: &impl Abort, alloc: Global, access: &Access) -> Result<(), F
     assert_eq!(rt; machine.reg(0), access.result);
     assert_eq!(rt; machine.reg(15), 0x0800_2082);
     let end = machine.run(200, &mut |_| true);
-    assert_eq!(rt; end, End::Halt(1));
+    assert!(rt; end == End::Halt(1));
     let block = [1, 0x2000_0700, 1, 32, 32];
     let mut address = MONITOR;
     for expected in block {

@@ -46,7 +46,7 @@ fn check_steps(rt: &impl Abort, alloc: Global, closed: bool) -> Result<(), Fail>
         assert_eq!(rt; handle(&mut machine), steps);
     }
     let end = machine.run(200, &mut |_| true);
-    assert_eq!(rt; end, End::Halt(0));
+    assert!(rt; end == End::Halt(0));
     Ok(())
 }
 

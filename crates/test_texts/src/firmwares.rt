@@ -1,11 +1,9 @@
-//! Firmwares of texts: their canonical texts, their clones, their types, and sizes of types.
+//! Firmwares of texts: their canonical texts and their types.
 
 use base_names::{Name, NameRefusal};
-use ir_model::clones::callee_type;
 use ir_model::firmware::Firmware;
 use ir_model::object::ObjId;
 use ir_model::text_limits::TEXT_LIMIT;
-use ir_model::types::Ty;
 use ir_printer::print::print;
 use ir_reader::read;
 use ir_types::equal::same_type;
@@ -94,14 +92,11 @@ fn check_text(rt: &impl Abort, alloc: Global, text: &[u8], canonical: &[u8]) -> 
     let firmware = firmware(rt, alloc, text)?;
     let printed = print(alloc, &firmware)?;
     assert_eq!(rt; printed.as_slice(), canonical, "{text:?}");
-    let cloned = firmware.clone(alloc)?;
-    let again = print(alloc, &cloned)?;
-    assert_eq!(rt; again.as_slice(), canonical, "the clone of {text:?}");
     Ok(())
 }
 
 #[test]
-fn texts_and_clones_are_printed(rt: HostRuntime) -> Result<(), Fail> {
+fn texts_are_printed(rt: HostRuntime) -> Result<(), Fail> {
     for (text, canonical) in PRINTED {
         check_text(&rt, rt.alloc(), text, canonical)?;
     }
@@ -135,7 +130,7 @@ fn check_types(rt: &impl Abort, alloc: Global, text: &[u8], same: bool) -> Resul
     let a = globals.get(0).ok_or("no first global")?;
     let b = globals.get(1).ok_or("no second global")?;
     assert_eq!(rt; same_type(&a.ty, &b.ty), same, "{text:?}");
-    assert!(rt; same_type(&a.ty, &a.ty.clone()?), "{text:?}");
+    assert!(rt; same_type(&a.ty, &a.ty), "{text:?}");
     Ok(())
 }
 
@@ -143,58 +138,6 @@ fn check_types(rt: &impl Abort, alloc: Global, text: &[u8], same: bool) -> Resul
 fn types_are_equal_part_by_part(rt: HostRuntime) -> Result<(), Fail> {
     for (text, same) in TYPES {
         check_types(&rt, rt.alloc(), text, *same)?;
-    }
-    let alloc = rt.alloc();
-    let pointer = Ty::Ptr(Box::new(alloc, Ty::U8)?);
-    let callee = callee_type(vec![in alloc; pointer, Ty::U8]?, None);
-    assert!(rt; same_type(&callee, &callee.clone()?));
-    Ok(())
-}
-
-/// Texts with structs and a global, how many of the structs count as declared, and the size and the alignment of the
-/// global's type.
-const LAYOUTS: &[(&[u8], u32, Option<(u32, u32)>)] = &[
-    (
-        b"struct S { a: u8, b: u32, c: u16 } global g: S",
-        1,
-        Some((12, 4)),
-    ),
-    (b"struct S { a: u8, b: u32, c: u16 } global g: S", 0, None),
-    (
-        b"struct S { a: u8, b: u32, c: u16 } global g: *S",
-        0,
-        Some((4, 4)),
-    ),
-    (
-        b"struct S { a: u8, b: u16 } struct T { a: [3]S, b: u8 } global g: T",
-        2,
-        Some((14, 2)),
-    ),
-    (b"struct S { a: T } struct T { a: u8 } global g: S", 2, None),
-    (b"global g: [32768]u16", 0, Some((65_536, 2))),
-    (b"global g: [32769]u16", 0, None),
-    (b"global g: [3]fn()", 0, Some((12, 4))),
-    (b"global g: u8", 0, Some((1, 1))),
-];
-
-fn check_layout(
-    rt: &impl Abort,
-    alloc: Global,
-    text: &[u8],
-    structs: u32,
-    layout: Option<(u32, u32)>,
-) -> Result<(), Fail> {
-    let firmware = firmware(rt, alloc, text)?;
-    assert!(rt; structs as usize <= firmware.structs.len());
-    let global = firmware.globals.as_slice().first().ok_or("no global")?;
-    assert_eq!(rt; firmware.layout_of(&global.ty, structs), layout, "{text:?}");
-    Ok(())
-}
-
-#[test]
-fn types_are_laid_out(rt: HostRuntime) -> Result<(), Fail> {
-    for (text, structs, layout) in LAYOUTS {
-        check_layout(&rt, rt.alloc(), text, *structs, *layout)?;
     }
     Ok(())
 }

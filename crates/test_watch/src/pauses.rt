@@ -113,8 +113,8 @@ fn goes<F: Fn(&Event) -> bool + Drop>(
             }
         },
     );
-    assert_eq!(rt; answer, pause);
-    assert_eq!(rt; [first, second], given);
+    assert!(rt; answer == pause);
+    assert!(rt; [first, second] == given);
     assert_eq!(rt; watched.taken(), taken);
 }
 
