@@ -10,6 +10,7 @@ ghost use Rattle.plan_compartments.specs.Analyses.{AreNeedsOf};
 ghost use Rattle.plan.specs.Planned.{IsPlannedFor};
 ghost use Rattle.plan.specs.PlannedFirmwares.{plan};
 ghost use Rattle.plan.specs.Refusals.{IsPlanningRefusal};
+ghost use Rattle.plan_firmwares.specs.Analysed.{IsAnalysisOf};
 ghost use Rattle.plan_firmwares.specs.Unplanned.{IsUnplanned};
 ghost use Rattle.image_promises.specs.Planned.{planned_image};
 ghost use Rattle.aces_compiler.specs.ByPolicy.{IsImageBy};
@@ -22,7 +23,7 @@ use ir_program::program::Program;
 use machine_devices::image::Image;
 use plan::{PlannedFirmware, PlanningRefusal, planned};
 use plan_compartments::laws::divisions_are_one;
-use plan_firmwares::{analyse, planned_by};
+use plan_firmwares::{Analysis, analyse, planned_by};
 use plan_model::Policy;
 use plan_model::groups::Groups;
 use plan_model::needs::Needs;
@@ -45,9 +46,25 @@ pub fn compile_by(
     ensures ok { IfOk result (IsImageBy policy (firmware_of firmware.now) board.now) }
     ensures refused { IfErr result (IsUnplanned policy (firmware_of firmware.now) board.now) }
 {
-    divisions_are_one();
     let analysis = analyse(alloc, firmware, policy, board.closed)?;
-    let made = planned_by(alloc, &analysis, board)?;
+    image_by(alloc, firmware, &analysis, board, policy)
+}
+
+/// The same of a firmware that is analysed.
+fn image_by(
+    alloc: Global,
+    firmware: &Checked,
+    analysis: &Analysis,
+    board: &Board,
+    policy: Policy,
+) -> Result<Image, PlanningRefusal>
+    requires board { IsBoard board.now }
+    requires analysis { IsAnalysisOf policy (firmware_of firmware.now) board.now.closed analysis.now }
+    ensures ok { IfOk result (IsImageBy policy (firmware_of firmware.now) board.now) }
+    ensures refused { IfErr result (IsUnplanned policy (firmware_of firmware.now) board.now) }
+{
+    divisions_are_one();
+    let made = planned_by(alloc, analysis, board)?;
     let image = linked(
         alloc,
         firmware,

@@ -117,13 +117,13 @@ fn groups_with_code(
         Err(PlanningRefusal::NoMemory) => return Err(CodeRefusal::NoMemory),
         Err(refusal) => return Err(CodeRefusal::Refused(refusal)),
     };
-    let image = written(alloc, firmware, program, needs, &made, board)?;
     let Some(spot) = made.plan.code.as_slice().get(compartment as usize) else {
         return Err(CodeRefusal::Compartment);
     };
     if code.len() > spot.size as usize {
         return Err(CodeRefusal::Length);
     }
+    let image = written(alloc, firmware, program, needs, &made, board)?;
     Ok(with_block(alloc, image, *spot, code)?)
 }
 

@@ -1,6 +1,6 @@
 //! `source`: the source of a firmware, run on recorded device input.
 
-ghost use Rattle.std.specs.Prelude.{◌≡◌, ◌≤◌, ℕ, Bool, Ok, IfOk, length};
+ghost use Rattle.std.specs.Prelude.{◌≡◌, ◌≤◌, ℕ, Bool, List, Ok, IfOk, length};
 ghost use Rattle.ir_model.specs.Plain as plain;
 ghost use Rattle.ir_model.specs.Resolve.{resolve};
 ghost use Rattle.ir_program.specs.Seen.{program_of, HasCounts};
@@ -10,6 +10,7 @@ ghost use Rattle.ir_output.specs.SourceRuns.{end_status};
 ghost use Rattle.aces_words.specs.Requests.{Source, file_limit, firmware_limit};
 ghost use Rattle.aces_files.specs.Known.{Held};
 ghost use Rattle.aces_firmwares.specs.Answers.{SourceAnswer, AnswerToSource};
+ghost use Rattle.aces_firmwares.specs.Firmwares.{IsFirmware};
 ghost use Rattle.base_outside.specs.Sinks.{sink};
 ghost use Rattle.aces_reports.specs.Ends.{status_of};
 ghost use Rattle.aces_files.specs.CarriesOut.{CarriesOut};
@@ -111,16 +112,36 @@ fn source_texts<'a, O: Sink>(
         result }
 {
     let checked = firmware_of(alloc, firmware, bytes)?;
-    let divided = divided(alloc, &checked, policy)?;
+    source_checked(alloc, &checked, policy, tape, text, steps, out)
+}
+
+/// The same of a checked firmware, whatever file it was read from.
+fn source_checked<'a, O: Sink>(
+    alloc: Global,
+    checked: &Checked,
+    policy: Policy,
+    tape: &'a str,
+    text: &[u8],
+    steps: u32,
+    out: &mut O,
+) -> Result<Done, Failure<'a>>
+    requires { length text.now ≤ file_limit }
+    ensures { (firmware bytes : List ℕ) → IsFirmware (plain.firmware_of checked.now) bytes → (told : Bool) (held : Held) (reads writes : ℕ) → Does
+        (SourceAnswer firmware policy tape.now steps bytes text.now) (Source firmware policy tape.now steps)
+        (record { told = told; held = held; read_faults = reads; write_faults = writes; out = sink O.Sink out.old })
+        (record { told = told; held = held; read_faults = reads; write_faults = writes; out = sink O.Sink out.new })
+        result }
+{
+    let windows = windows(alloc, checked.firmware().periphs.as_slice())?;
+    let tape_read = tape_of(alloc, tape, text, windows.as_slice())?;
+    let divided = divided(alloc, checked, policy)?;
     let DividedProgram {
         program,
         compartments,
     } = divided;
-    let windows = windows(alloc, checked.firmware().periphs.as_slice())?;
-    let tape_read = tape_of(alloc, tape, text, windows.as_slice())?;
     match print_source(
         alloc,
-        &checked,
+        checked,
         &program,
         windows.as_slice(),
         compartments,

@@ -5,6 +5,7 @@ ghost use Rattle.ir_model.specs.Plain.{firmware_of};
 ghost use Rattle.ir_model.specs.Resolve.{resolve};
 ghost use Rattle.ir_program.specs.Seen.{program_of};
 ghost use Rattle.plan_model.specs.Boards.{IsBoard};
+ghost use Rattle.plan_firmwares.specs.Analysed.{IsAnalysisOf};
 ghost use Rattle.plan_firmwares.specs.Unplanned.{IsUnplanned};
 ghost use Rattle.aces_listing.specs.Listings.{IsListing, listing_for};
 
@@ -58,12 +59,28 @@ pub fn listing_of(
     ensures ok { IfOk result (λ lines. IsListing policy (firmware_of firmware.now) board.now lines.items) }
     ensures refused { IfErr result (IsUnplanned policy (firmware_of firmware.now) board.now) }
 {
+    let analysis = analyse(alloc, firmware, policy, board.closed)?;
+    listing_by(alloc, firmware, &analysis, board, policy)
+}
+
+/// The same of a firmware that is analysed.
+fn listing_by(
+    alloc: Global,
+    firmware: &Checked,
+    analysis: &Analysis,
+    board: &Board,
+    policy: Policy,
+) -> Result<Vec<u8>, PlanningRefusal>
+    requires board { IsBoard board.now }
+    requires analysis { IsAnalysisOf policy (firmware_of firmware.now) board.now.closed analysis.now }
+    ensures ok { IfOk result (λ lines. IsListing policy (firmware_of firmware.now) board.now lines.items) }
+    ensures refused { IfErr result (IsUnplanned policy (firmware_of firmware.now) board.now) }
+{
     firmware.firmware();
     least_sets();
     permissions_are_bounded();
     runs_stay_in_policy();
-    let analysis = analyse(alloc, firmware, policy, board.closed)?;
-    let made = planned_by(alloc, &analysis, board)?;
-    let lines = listing_of_plan(alloc, firmware, &analysis, &made, policy, board)?;
+    let made = planned_by(alloc, analysis, board)?;
+    let lines = listing_of_plan(alloc, firmware, analysis, &made, policy, board)?;
     Ok(lines)
 }

@@ -5,6 +5,7 @@ ghost use Rattle.ir_model.specs.Plain.{firmware_of};
 ghost use Rattle.ir_model.specs.Resolve.{resolve};
 ghost use Rattle.ir_program.specs.Seen.{program_of};
 ghost use Rattle.plan_model.specs.Boards.{IsBoard};
+ghost use Rattle.plan_firmwares.specs.Analysed.{IsAnalysisOf};
 ghost use Rattle.plan_firmwares.specs.Unplanned.{IsUnplanned};
 ghost use Rattle.aces_symbols.specs.FirmwareSymbols.{AreSymbols, symbols_for};
 
@@ -54,9 +55,25 @@ pub fn symbols_of(
     ensures ok { IfOk result (λ lines. AreSymbols policy (firmware_of firmware.now) board.now lines.items) }
     ensures refused { IfErr result (IsUnplanned policy (firmware_of firmware.now) board.now) }
 {
-    firmware.firmware();
     let analysis = analyse(alloc, firmware, policy, board.closed)?;
-    let made = planned_by(alloc, &analysis, board)?;
-    let lines = symbols_of_plan(alloc, firmware, &analysis, &made, board)?;
+    symbols_by(alloc, firmware, &analysis, board, policy)
+}
+
+/// The same of a firmware that is analysed.
+fn symbols_by(
+    alloc: Global,
+    firmware: &Checked,
+    analysis: &Analysis,
+    board: &Board,
+    policy: Policy,
+) -> Result<Vec<u8>, PlanningRefusal>
+    requires board { IsBoard board.now }
+    requires analysis { IsAnalysisOf policy (firmware_of firmware.now) board.now.closed analysis.now }
+    ensures ok { IfOk result (λ lines. AreSymbols policy (firmware_of firmware.now) board.now lines.items) }
+    ensures refused { IfErr result (IsUnplanned policy (firmware_of firmware.now) board.now) }
+{
+    firmware.firmware();
+    let made = planned_by(alloc, analysis, board)?;
+    let lines = symbols_of_plan(alloc, firmware, analysis, &made, board)?;
     Ok(lines)
 }

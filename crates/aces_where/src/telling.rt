@@ -1,6 +1,6 @@
 //! The lines by the bytes of both files.
 
-ghost use Rattle.std.specs.Prelude.{◌≡◌, ◌≤◌, None, length, IfOk, IfErr};
+ghost use Rattle.std.specs.Prelude.{◌≡◌, ◌≤◌, ℕ, List, None, length, IfOk, IfErr};
 ghost use Rattle.ir_model.specs.Plain.{firmware_of};
 ghost use Rattle.ir_model.specs.Resolve.{resolve};
 ghost use Rattle.ir_model.specs.State.{start};
@@ -8,6 +8,8 @@ ghost use Rattle.ir_program.specs.Seen.{program_of, HasCounts};
 ghost use Rattle.aces_words.specs.Requests.{file_limit, firmware_limit};
 ghost use Rattle.aces_files.specs.Loads.{IsRefusal};
 ghost use Rattle.aces_files.specs.Outcomes.{done};
+ghost use Rattle.plan_compartments.specs.Analyses.{AreCompartmentsBy};
+ghost use Rattle.aces_firmwares.specs.Firmwares.{IsFirmware};
 ghost use Rattle.aces_where.specs.Answers.{WhereAnswer};
 ghost use Rattle.aces_where.specs.Halts.{IsHalt, halt_lines};
 ghost use Rattle.aces_where.specs.Runs.{AreLines};
@@ -16,7 +18,7 @@ use crate::place_lines;
 use crate::running::{Halt, go, run_out};
 use aces_files::loading::tape_of;
 use aces_firmwares::reading::firmware_of;
-use aces_firmwares::source::{DividedProgram, divided};
+use aces_firmwares::source::divided;
 use aces_reports::Failure;
 use ir_model::checked::Checked;
 use ir_output::begun;
@@ -112,22 +114,56 @@ pub(crate) fn where_by_bytes<'a>(
     ensures err { IfErr result (IsRefusal (WhereAnswer firmware.now policy tape.now steps bytes.now text.now)) }
 {
     let checked = firmware_of(alloc, firmware, bytes)?;
-    let divided = divided(alloc, &checked, policy)?;
-    let DividedProgram {
-        program,
-        compartments,
-    } = divided;
+    where_checked(alloc, &checked, policy, tape, text, steps)
+}
+
+/// The same of a checked firmware, whatever file it was read from.
+fn where_checked<'a>(
+    alloc: Global,
+    checked: &Checked,
+    policy: Policy,
+    tape: &'a str,
+    text: &[u8],
+    steps: u32,
+) -> Result<Vec<u8>, Failure<'a>>
+    requires { length text.now ≤ file_limit }
+    ensures ok { (firmware bytes : List ℕ) → IsFirmware (firmware_of checked.now) bytes →
+        IfOk result (λ lines. WhereAnswer firmware policy tape.now steps bytes text.now (done 0 lines.items None)) }
+    ensures err { (firmware bytes : List ℕ) → IsFirmware (firmware_of checked.now) bytes →
+        IfErr result (IsRefusal (WhereAnswer firmware policy tape.now steps bytes text.now)) }
+{
     let windows = windows(alloc, checked.firmware().periphs.as_slice())?;
     let first = tape_of(alloc, tape, text, windows.as_slice())?;
     let second = tape_of(alloc, tape, text, windows.as_slice())?;
-    let lines = lines_on(
-        alloc,
-        &checked,
-        &program,
-        compartments.as_slice(),
-        first,
-        second,
-        steps,
-    )?;
+    let lines = lines_by(alloc, checked, policy, first, second, steps)?;
     Ok(lines)
+}
+
+/// The lines on a run of at most so many steps on a tape, in the compartments of a policy.
+///
+/// # Errors
+///
+/// There is no memory for it.
+fn lines_by(
+    alloc: Global,
+    firmware: &Checked,
+    policy: Policy,
+    tape: Tape,
+    again: Tape,
+    steps: u32,
+) -> Result<Vec<u8>, AllocError>
+    requires { again ≡ tape }
+    ensures { IfOk result (λ lines. (compartments : List ℕ) × AreCompartmentsBy policy (firmware_of firmware.now) compartments
+        × AreLines (firmware_of firmware.now) compartments tape steps lines.items) }
+{
+    let divided = divided(alloc, firmware, policy)?;
+    lines_on(
+        alloc,
+        firmware,
+        &divided.program,
+        divided.compartments.as_slice(),
+        tape,
+        again,
+        steps,
+    )
 }

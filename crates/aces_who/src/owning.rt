@@ -6,6 +6,7 @@ ghost use Rattle.base_outside.specs.Sinks.{sink};
 ghost use Rattle.aces_files.specs.CarriesOut.{CarriesOut};
 ghost use Rattle.aces_files.specs.Loads.{IsRefusal};
 ghost use Rattle.aces_files.specs.Outcomes.{done};
+ghost use Rattle.plan_firmwares.specs.Analysed.{IsAnalysisOf};
 ghost use Rattle.plan_firmwares.specs.Unplanned.{IsUnplanned};
 ghost use Rattle.ir_model.specs.Plain.{firmware_of as plain_of};
 ghost use Rattle.ir_model.specs.Resolve.{resolve};
@@ -69,11 +70,27 @@ pub fn owners_of(
     ensures ok { IfOk result (λ lines. AreOwners policy (plain_of firmware.now) board.now lines.items) }
     ensures refused { IfErr result (IsUnplanned policy (plain_of firmware.now) board.now) }
 {
+    let analysis = analyse(alloc, firmware, policy, board.closed)?;
+    owners_by(alloc, firmware, &analysis, board, policy)
+}
+
+/// The same of a firmware that is analysed.
+fn owners_by(
+    alloc: Global,
+    firmware: &Checked,
+    analysis: &Analysis,
+    board: &Board,
+    policy: Policy,
+) -> Result<Vec<u8>, PlanningRefusal>
+    requires board { IsBoard board.now }
+    requires analysis { IsAnalysisOf policy (plain_of firmware.now) board.now.closed analysis.now }
+    ensures ok { IfOk result (λ lines. AreOwners policy (plain_of firmware.now) board.now lines.items) }
+    ensures refused { IfErr result (IsUnplanned policy (plain_of firmware.now) board.now) }
+{
     firmware.firmware();
     exposures_are_exact();
-    let analysis = analyse(alloc, firmware, policy, board.closed)?;
-    let made = planned_by(alloc, &analysis, board)?;
-    let lines = lines_of(alloc, firmware, &analysis, &made, policy, board)?;
+    let made = planned_by(alloc, analysis, board)?;
+    let lines = lines_of(alloc, firmware, analysis, &made, policy, board)?;
     Ok(lines)
 }
 

@@ -8,36 +8,36 @@ use Rattle.plan_firmwares.specs.Analysed.{IsRefusalOf}
 use Rattle.plan_firmwares.proofs.Analysing.{unplanned}
 use Rattle.aces_compiler.specs.Compiled.{IsImageFor}
 use Rattle.aces_compiler.proofs.Parts.{in_own_groups}
-use Rattle.aces_compiler.proofs.pipeline.compile_by.Goals as goal
+use Rattle.aces_compiler.proofs.pipeline.image_by.Goals as goal
 
 pub returns-in_err-made-clause-refused : goal.returns-in_err-made-clause-refused
 returns-in_err-made-clause-refused c =
     let b = c.args.board.now in
-    let a = c.in_ok-analysis.analysis in
+    let a = c.args.analysis.now in
     let x = err_from_is_err_and c.from_residual-in_err-made.result c.from_residual-in_err-made.ensures.1 in
-    rw x.1 (unplanned c.args.policy (firmware_of c.args.firmware.now) b a c.in_ok-analysis.ensures.exact x.0 (subst (IsRefusalOf a b) (sym x.2) c.in_err-made.ensures.refused))
+    rw x.1 (unplanned c.args.policy (firmware_of c.args.firmware.now) b a c.requires.analysis x.0 (subst (IsRefusalOf a b) (sym x.2) c.in_err-made.ensures.refused))
 
 pub linked-requires-clause-program : goal.linked-requires-clause-program
-linked-requires-clause-program c = c.in_ok-analysis.ensures.exact.program
+linked-requires-clause-program c = c.requires.analysis.program
 
 pub linked-requires-clause-needs : goal.linked-requires-clause-needs
-linked-requires-clause-needs c = c.in_ok-analysis.ensures.exact.needs
+linked-requires-clause-needs c = c.requires.analysis.needs
 
 pub linked-requires-clause-groups : goal.linked-requires-clause-groups
-linked-requires-clause-groups c = (c.in_ok-made.ensures.ok c.args.policy (firmware_of c.args.firmware.now) c.in_ok-analysis.ensures.exact).compartments
+linked-requires-clause-groups c = (c.in_ok-made.ensures.ok c.args.policy (firmware_of c.args.firmware.now) c.requires.analysis).compartments
 
 pub linked-requires-clause-planned : goal.linked-requires-clause-planned
 linked-requires-clause-planned c =
     let w = firmware_of c.args.firmware.now in
-    let n = c.in_ok-analysis.analysis.needs in
-    in_own_groups (resolve w) n c.args.board.now (division c.args.policy w n) c.in_ok-made.made (c.in_ok-made.ensures.ok c.args.policy w c.in_ok-analysis.ensures.exact).planned
+    let n = c.args.analysis.now.needs in
+    in_own_groups (resolve w) n c.args.board.now (division c.args.policy w n) c.in_ok-made.made (c.in_ok-made.ensures.ok c.args.policy w c.requires.analysis).planned
 
 pub returns-clause-ok : goal.returns-clause-ok
 returns-clause-ok c =
     let w = firmware_of c.args.firmware.now in
     let b = c.args.board.now in
-    let a = c.in_ok-analysis.ensures.exact in
-    let n = c.in_ok-analysis.analysis.needs in
+    let a = c.requires.analysis in
+    let n = c.args.analysis.now.needs in
     record {
       needs = n;
       are_needs = a.needs;
