@@ -276,30 +276,44 @@ fn write_control<W: fmt::Write>(f: &mut fmt::Formatter<W>, i: &Instr) -> fmt::Re
     match *i {
         Instr::BreakpointNop { op: 0, imm8 } => write!(f, "bkpt {imm8:#06x}"),
         Instr::BreakpointNop { .. } => f.write_str("nop"),
-        Instr::BranchConditional { cond, offset } => write!(
-            f,
-            "b{}.n #{offset:+}",
-            name(&CONDITIONS, cond)
-        ),
+        Instr::BranchConditional { cond, offset } => write_conditional(f, cond, offset.into()),
         Instr::CallBranch { op: 0, imm8, .. } => write!(f, "svc {imm8}"),
-        Instr::CallBranch { offset, .. } => write!(f, "b.n #{offset:+}"),
-        Instr::BranchLink { offset } => write!(f, "bl #{offset:+}"),
-        Instr::BranchWide { offset } => write!(f, "b.w #{offset:+}"),
-        Instr::SpecialRegister { op: 0, n, s, .. } => write!(
-            f,
-            "msr {}, {}",
-            special_name(s),
-            Register(n)
-        ),
-        Instr::SpecialRegister { d, s, .. } => write!(
-            f,
-            "mrs {}, {}",
-            Register(d),
-            special_name(s)
-        ),
+        Instr::CallBranch { offset, .. } => write_distance(f, "b.n", offset.into()),
+        Instr::BranchLink { offset } => write_distance(f, "bl", offset),
+        Instr::BranchWide { offset } => write_distance(f, "b.w", offset),
+        Instr::SpecialRegister { op: 0, n, s, .. } => write_special(f, s, n),
+        Instr::SpecialRegister { d, s, .. } => read_special(f, d, s),
         Instr::Barrier { op } => write!(f, "{} sy", name(&BARRIERS, op)),
         _ => f.write_str("?"),
     }
+}
+
+// A word with a distance.
+fn write_distance<W: fmt::Write>(
+    f: &mut fmt::Formatter<W>,
+    word: &str,
+    offset: i32,
+) -> fmt::Result {
+    write!(f, "{word} #{offset:+}")
+}
+
+// A branch on a condition.
+fn write_conditional<W: fmt::Write>(
+    f: &mut fmt::Formatter<W>,
+    cond: u8,
+    offset: i32,
+) -> fmt::Result {
+    write!(f, "b{}.n #{offset:+}", name(&CONDITIONS, cond))
+}
+
+// MSR: a special register, and the register that is moved to it.
+fn write_special<W: fmt::Write>(f: &mut fmt::Formatter<W>, s: u8, n: u8) -> fmt::Result {
+    write!(f, "msr {}, {}", special_name(s), Register(n))
+}
+
+// MRS: a register, and the special register that is moved to it.
+fn read_special<W: fmt::Write>(f: &mut fmt::Formatter<W>, d: u8, s: u8) -> fmt::Result {
+    write!(f, "mrs {}, {}", Register(d), special_name(s))
 }
 
 // A special register by its number in MSR and MRS.
