@@ -218,8 +218,7 @@ impl Files for MemFiles {
             return Err(Failed);
         };
         if fails || left < piece.len() {
-            let kept = self.keep.min(left).min(piece.len());
-            add(&mut self.files, name, &piece[..kept]);
+            add_kept(&mut self.files, self.keep, left, name, piece);
             self.write_faults = self.write_faults.saturating_add(1);
             return Err(Failed);
         }
@@ -300,4 +299,14 @@ fn add(files: &mut [MemFile], name: &[u8], piece: &[u8])
     if let Some(place) = place_of(files, name) {
         files[place].add(piece);
     }
+}
+
+// Adds the first `keep` bytes of a piece, or fewer where the piece or the room ends, to a name that has so much room left.
+fn add_kept(files: &mut [MemFile], keep: usize, left: usize, name: &[u8], piece: &[u8])
+    requires { room_left_in files.old name.now ≡ Some left }
+    ensures { IfSome (held_in files.old name.now) (λ bytes.
+        Rewrites files.old files.new name.now (bytes ++ take (min keep left) piece.now)) }
+{
+    let kept = keep.min(left).min(piece.len());
+    add(files, name, &piece[..kept]);
 }
