@@ -1,5 +1,5 @@
 // Files in memory, for tests.
-ghost use Rattle.std.specs.Prelude.{◌≡◌, ◌↔◌, ◌⊎◌, ◌+◌, ◌-◌, ◌<◌, ◌≤◌, ◌++◌, [], length, take, drop, min, Some, position, IfOk, IfSome, OnOk, OnErr, IsTrue, IsErr, IsNone, IsSome, IsSomeAnd, Contains};
+ghost use Rattle.std.specs.Prelude.{◌≡◌, ◌↔◌, ◌⊎◌, ◌+◌, ◌-◌, ◌<◌, ◌≤◌, ◌++◌, [], length, take, drop, min, Some, position, IfOk, IfSome, OnOk, OnErr, IsTrue, IsFalse, IsErr, IsNone, IsSome, IsSomeAnd, Contains};
 ghost use Rattle.std.specs.Bool.{OnTrue, OnFalse};
 ghost use Rattle.std.specs.Option.{option_map, option_copied};
 ghost use Rattle.std.specs.Str.{bytes_eq};
@@ -186,7 +186,7 @@ impl Files for MemFiles {
         ensures writes { Counts self.old.write_faults self.new.write_faults result }
     {
         let fails = self.count_call();
-        if fails || !clear(&mut self.files, name.as_bytes()) {
+        if !clear_unless(&mut self.files, fails, name.as_bytes()) {
             self.write_faults = self.write_faults.saturating_add(1);
             return Err(Failed);
         }
@@ -289,6 +289,15 @@ fn clear(files: &mut [MemFile], name: &[u8]) -> bool
     };
     files[place].clear();
     true
+}
+
+// Makes a name hold no bytes, if it is an entry and the call doesn't fail.
+fn clear_unless(files: &mut [MemFile], fails: bool, name: &[u8]) -> bool
+    ensures refused { IsFalse result ↔ (IsTrue fails ⊎ IsNone (room_in files.old name.now)) }
+    ensures cleared { OnTrue result (Rewrites files.old files.new name.now []) }
+    ensures same { OnFalse result (files.new ≡ files.old) }
+{
+    !fails && clear(files, name)
 }
 
 // Adds a piece to a name that is there and has room for it.
