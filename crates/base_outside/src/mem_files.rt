@@ -217,12 +217,10 @@ impl Files for MemFiles {
         let Some(left) = room_left(&self.files, name) else {
             return Err(Failed);
         };
-        if fails || left < piece.len() {
-            add_kept(&mut self.files, self.keep, left, name, piece);
+        if !add_unless(&mut self.files, fails, self.keep, left, name, piece) {
             self.write_faults = self.write_faults.saturating_add(1);
             return Err(Failed);
         }
-        add(&mut self.files, name, piece);
         Ok(())
     }
 }
@@ -318,4 +316,28 @@ fn add_kept(files: &mut [MemFile], keep: usize, left: usize, name: &[u8], piece:
 {
     let kept = keep.min(left).min(piece.len());
     add(files, name, &piece[..kept]);
+}
+
+// Adds a piece to a name that has so much room left, if it fits and the call doesn't fail, and else what is kept of it.
+fn add_unless(
+    files: &mut [MemFile],
+    fails: bool,
+    keep: usize,
+    left: usize,
+    name: &[u8],
+    piece: &[u8],
+) -> bool
+    requires { room_left_in files.old name.now ≡ Some left }
+    ensures refused { IsFalse result ↔ (IsTrue fails ⊎ (left < length piece.now)) }
+    ensures whole { OnTrue result (IfSome (held_in files.old name.now) (λ bytes.
+        Rewrites files.old files.new name.now (bytes ++ piece.now))) }
+    ensures part { OnFalse result (IfSome (held_in files.old name.now) (λ bytes.
+        Rewrites files.old files.new name.now (bytes ++ take (min keep left) piece.now))) }
+{
+    if fails || left < piece.len() {
+        add_kept(files, keep, left, name, piece);
+        return false;
+    }
+    add(files, name, piece);
+    true
 }
